@@ -1,0 +1,100 @@
+//! The numbers of WebAssembly's integer instructions and the names of its integer operations.
+#![tactic(auto)]
+
+mod narrow;
+mod operations;
+#[cfg(test)]
+mod tests;
+mod wide;
+
+pub use operations::{apply1, apply2};
+
+/// A value of an integer type, as its bits (WebAssembly Core 2.0, section 4.2.1).
+#[derive(Clone, Copy, Debug, PartialEq, Eq)]
+pub enum Num {
+    I32(u32),
+    I64(u64),
+}
+
+/// What an operation answers where it has no result (WebAssembly Core 2.0, section 4.3.2: division by
+/// zero, and a signed quotient that the type can't hold).
+#[derive(Clone, Copy, Debug, PartialEq, Eq)]
+pub struct Trap;
+
+/// The operations of one operand, tests and conversions among them, one for each opcode (WebAssembly Core 2.0,
+/// sections 2.4.1 and 5.4.7).
+#[derive(Clone, Copy, Debug, PartialEq, Eq)]
+pub enum UnOp {
+    I32Eqz,
+    I64Eqz,
+    I32Clz,
+    I32Ctz,
+    I32Popcnt,
+    I64Clz,
+    I64Ctz,
+    I64Popcnt,
+    I32Extend8S,
+    I32Extend16S,
+    I64Extend8S,
+    I64Extend16S,
+    I64Extend32S,
+    I32WrapI64,
+    I64ExtendI32S,
+    I64ExtendI32U,
+}
+
+/// The operations of two operands, comparisons among them, one for each opcode (WebAssembly Core 2.0, sections 2.4.1
+/// and 5.4.7).
+#[derive(Clone, Copy, Debug, PartialEq, Eq)]
+pub enum BinOp {
+    I32Eq,
+    I32Ne,
+    I32LtS,
+    I32LtU,
+    I32GtS,
+    I32GtU,
+    I32LeS,
+    I32LeU,
+    I32GeS,
+    I32GeU,
+    I32Add,
+    I32Sub,
+    I32Mul,
+    I32DivS,
+    I32DivU,
+    I32RemS,
+    I32RemU,
+    I32And,
+    I32Or,
+    I32Xor,
+    I32Shl,
+    I32ShrS,
+    I32ShrU,
+    I32Rotl,
+    I32Rotr,
+    I64Eq,
+    I64Ne,
+    I64LtS,
+    I64LtU,
+    I64GtS,
+    I64GtU,
+    I64LeS,
+    I64LeU,
+    I64GeS,
+    I64GeU,
+    I64Add,
+    I64Sub,
+    I64Mul,
+    I64DivS,
+    I64DivU,
+    I64RemS,
+    I64RemU,
+    I64And,
+    I64Or,
+    I64Xor,
+    I64Shl,
+    I64ShrS,
+    I64ShrU,
+    I64Rotl,
+    I64Rotr,
+}

@@ -1,0 +1,66 @@
+-- What is found at a place of a list, and how many a filter leaves.
+use Rattle.std.proofs.Common.{◌≡◌, ℕ, zero, suc, ◌+◌, ◌≤◌, ◌↔◌, arith, List, [], ◌∷◌, ◌++◌, length, Option, Some, None, IsNone, is_some, true, false, slice_get, drop, map, refl, sym, ap, subst, inl, inr, ◌⊎◌, ◌∙◌}
+use Rattle.std.specs.Prelude.{option_and_then, option_map}
+use Rattle.std.specs.Option.{option_copied}
+use Rattle.std.specs.Borrow.{Bor}
+use Rattle.std.specs.List.{filter_map, cons_option}
+
+is_some_copied : {T : Type 0} (r : Option (Bor T)) → is_some (option_copied r) ≡ is_some r
+is_some_copied None = refl
+is_some_copied (Some x) = refl
+
+nothing : {T : Type 0} (xs : List T) (i : ℕ) → (is_some (slice_get xs i) ≡ false) ↔ (length xs ≤ i)
+nothing [] i = (λ e. omega arith, λ l. refl)
+nothing (x ∷ xs) zero = (λ e. cc, λ l. absurd (omega arith))
+nothing (x ∷ xs) (suc i) = (λ e. omega (arith, (nothing xs i).0 e), λ l. (nothing xs i).1 (omega arith))
+
+-- nothing is found exactly from the length on
+pub absent : {T : Type 0} (r : Option (Bor T)) (xs : List T) (i : ℕ) → option_copied r ≡ slice_get xs i → IsNone r ↔ (length xs ≤ i)
+absent r xs i e =
+    let same : is_some r ≡ is_some (slice_get xs i) = sym (is_some_copied r) ∙ ap is_some e in
+    (λ h. (nothing xs i).0 (sym same ∙ h), λ l. same ∙ (nothing xs i).1 l)
+
+pub present : {T : Type 0} (x : T) (xs : List T) (i : ℕ) → Some x ≡ slice_get xs i → (true ≡ false) ↔ (length xs ≤ i)
+present x xs i e = (λ h. (nothing xs i).0 (sym (ap is_some e) ∙ h), λ l. ap is_some e ∙ (nothing xs i).1 l)
+
+no_type_at : {T : Type 0} (ts : List T) (is : List ℕ) (i : ℕ) (m : Option ℕ) → slice_get is i ≡ m →
+    (is_some (option_and_then (slice_get ts) m) ≡ false) ↔ ((length is ≤ i) ⊎ ((x : ℕ) × (slice_get is i ≡ Some x) × (length ts ≤ x)))
+no_type_at ts is i None e =
+    (λ h. inl ((nothing is i).0 (ap is_some e)), λ h. refl)
+no_type_at ts is i (Some x) e = (
+  λ h. inr (x, e, (nothing ts x).0 h),
+  λ h. elim h [ inl past ↦ (let no : is_some (slice_get is i) ≡ false = (nothing is i).1 past in cc (ap is_some e)) | inr w ↦ (let same : x ≡ w.0 = cc in (nothing ts x).1 (subst (λ z. length ts ≤ z) (sym same) w.2)) ],
+)
+
+-- no type is found exactly where the place is past the list, or what stands there is past the types
+pub no_type : {T : Type 0} (r : Option (Bor T)) (ts : List T) (is : List ℕ) (i : ℕ) → option_copied r ≡ option_and_then (slice_get ts) (slice_get is i) →
+    IsNone r ↔ ((length is ≤ i) ⊎ ((x : ℕ) × (slice_get is i ≡ Some x) × (length ts ≤ x)))
+no_type r ts is i e =
+    let same : is_some r ≡ is_some (option_and_then (slice_get ts) (slice_get is i)) = sym (is_some_copied r) ∙ ap is_some e in
+    let at = no_type_at ts is i (slice_get is i) refl in
+    (λ h. at.0 (sym same ∙ h), λ l. same ∙ at.1 l)
+
+pub slice_get_map : {A B : Type 0} (f : A → B) (xs : List A) (i : ℕ) → slice_get (map f xs) i ≡ option_map f (slice_get xs i)
+slice_get_map f [] i = refl
+slice_get_map f (x ∷ xs) zero = refl
+slice_get_map f (x ∷ xs) (suc i) = slice_get_map f xs i
+
+drop_past : {A : Type 0} (xs : List A) (n : ℕ) → length xs ≤ n → drop n xs ≡ []
+drop_past [] zero h = refl
+drop_past [] (suc n) h = refl
+drop_past (x ∷ xs) zero h = absurd (omega arith)
+drop_past (x ∷ xs) (suc n) h = drop_past xs n (omega arith)
+
+-- once what was filtered has been passed, what is found is what is found behind it
+pub found_behind : {X Y A : Type 0} (h : X → Option Y) (xs : List X) (n : ℕ) (f : A → Y) (ys : List A) (i : ℕ) (m : Option Y) (r : Option (Bor A)) →
+    m ≡ slice_get (filter_map h (drop n xs) ++ map f ys) i → length xs ≤ n → option_copied r ≡ slice_get ys i → option_map f (option_copied r) ≡ m
+found_behind h xs n f ys i m r at past e =
+    sym (at ∙ ap (λ zs. slice_get (filter_map h zs ++ map f ys) i) (drop_past xs n past) ∙ slice_get_map f ys i ∙ ap (option_map f) (sym e))
+
+length_option : {B : Type 0} (y : Option B) (ys : List B) → length (cons_option y ys) ≤ length ys + 1
+length_option None ys = omega arith
+length_option (Some y) ys = omega arith
+
+pub filter_map_most : {A B : Type 0} (h : A → Option B) (xs : List A) → length (filter_map h xs) ≤ length xs
+filter_map_most h [] = omega arith
+filter_map_most h (x ∷ xs) = omega (arith, length_option (h x) (filter_map h xs), filter_map_most h xs)

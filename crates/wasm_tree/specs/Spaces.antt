@@ -1,0 +1,66 @@
+-- The index spaces of a module: what is imported, in order, and then what is defined (WebAssembly Core 2.0, section 2.5.1).
+use Rattle.std.specs.Prelude.{ℕ, List, ◌++◌, map, Option, Some, None, slice_get, option_and_then}
+use Rattle.std.specs.List.{filter_map}
+use Rattle.wasm_tree.specs.declared.types.FuncType.{FuncType}
+use Rattle.wasm_tree.specs.declared.types.Limits.{Limits}
+use Rattle.wasm_tree.specs.declared.types.TableType.{TableType}
+use Rattle.wasm_tree.specs.declared.types.GlobalType.{GlobalType}
+use Rattle.wasm_tree.specs.declared.module.ImportDesc.{ImportDesc}
+use Rattle.wasm_tree.specs.declared.module.ImportDesc.TheVariants.{Func, Table, Memory, Global}
+use Rattle.wasm_tree.specs.declared.module.Import.{Import}
+use Rattle.wasm_tree.specs.declared.module.Module.{Module}
+
+-- what an import adds to each of the four spaces: a function its place in the types, the others their type
+abbrev pub func_of : ImportDesc → Option ℕ
+func_of (Func ty) = Some ty
+func_of (Table ty) = None
+func_of (Memory limits) = None
+func_of (Global ty) = None
+
+abbrev pub table_of : ImportDesc → Option TableType
+table_of (Func ty) = None
+table_of (Table ty) = Some ty
+table_of (Memory limits) = None
+table_of (Global ty) = None
+
+abbrev pub memory_of : ImportDesc → Option Limits
+memory_of (Func ty) = None
+memory_of (Table ty) = None
+memory_of (Memory limits) = Some limits
+memory_of (Global ty) = None
+
+abbrev pub global_of : ImportDesc → Option GlobalType
+global_of (Func ty) = None
+global_of (Table ty) = None
+global_of (Memory limits) = None
+global_of (Global ty) = Some ty
+
+-- what the imports add, in order
+abbrev pub imported_funcs : List Import → List ℕ
+imported_funcs = filter_map (λ i. func_of i.desc)
+
+abbrev pub imported_tables : List Import → List TableType
+imported_tables = filter_map (λ i. table_of i.desc)
+
+abbrev pub imported_memories : List Import → List Limits
+imported_memories = filter_map (λ i. memory_of i.desc)
+
+abbrev pub imported_globals : List Import → List GlobalType
+imported_globals = filter_map (λ i. global_of i.desc)
+
+-- the function space: for each function its place in the types
+abbrev pub funcs_of : Module → List ℕ
+funcs_of m = imported_funcs m.imports ++ map (λ f. f.ty) m.funcs
+
+abbrev pub tables_of : Module → List TableType
+tables_of m = imported_tables m.imports ++ m.tables
+
+abbrev pub memories_of : Module → List Limits
+memories_of m = imported_memories m.imports ++ m.mems
+
+abbrev pub globals_of : Module → List GlobalType
+globals_of m = imported_globals m.imports ++ map (λ g. g.ty) m.globals
+
+-- the type of a function, where the function and its type are there
+abbrev pub type_of_func : Module → ℕ → Option FuncType
+type_of_func m func = option_and_then (slice_get m.types) (slice_get (funcs_of m) func)

@@ -1,0 +1,24 @@
+//! A WebAssembly module as a tree, with the calls that read its index spaces.
+//!
+//! The types mirror the structure of WebAssembly Core 2.0, chapter 2, for the integer profile: the value types are i32, i64,
+//! funcref and externref. Contracts see a tree as plain data, so two trees with equal parts are equal.
+#![tactic(auto)]
+
+mod body;
+mod copy;
+mod instr;
+mod module;
+mod spaces;
+#[cfg(test)]
+mod tests;
+mod types;
+mod which;
+
+pub use body::copy_body;
+pub use instr::{Instr, LoadOp, MemArg, StoreOp};
+pub use module::{
+    ConstExpr, DataMode, DataSeg, ElemMode, ElemSeg, Export, ExportDesc, Func, GlobalDef, Import,
+    ImportDesc, LocalGroup, Module,
+};
+pub use types::{BlockType, FuncType, GlobalType, Limits, RefType, TableType, ValType};
+pub use which::Which;

@@ -1,0 +1,221 @@
+// The index spaces of a module: what is imported, in order, and then what is defined (WebAssembly Core 2.0, section 2.5.1).
+
+ghost use Rattle.std.specs.Prelude.{◌≡◌, ◌<◌, ◌≤◌, ◌^◌, ◌↔◌, ◌⊎◌, ℕ, Some, length, IsNone, option_copied, slice_get};
+ghost use Rattle.wasm_tree.specs.Spaces.{
+  func_of,
+  table_of,
+  memory_of,
+  global_of,
+  imported_funcs,
+  imported_tables,
+  imported_memories,
+  imported_globals,
+  funcs_of,
+  tables_of,
+  memories_of,
+  globals_of,
+  type_of_func,
+};
+
+use crate::module::{ImportDesc, Module};
+use crate::types::{FuncType, GlobalType, Limits, TableType};
+
+impl ImportDesc {
+    /// A function's place in the types; None for another kind.
+    pub fn func(&self) -> Option<u32>
+        ensures { result ≡ func_of self.now }
+    {
+        match self {
+            ImportDesc::Func(ty) => Some(*ty),
+            _ => None,
+        }
+    }
+
+    /// A table's type; None for another kind.
+    pub fn table(&self) -> Option<TableType>
+        ensures { result ≡ table_of self.now }
+    {
+        match self {
+            ImportDesc::Table(ty) => Some(*ty),
+            _ => None,
+        }
+    }
+
+    /// A memory's limits; None for another kind.
+    pub fn memory(&self) -> Option<Limits>
+        ensures { result ≡ memory_of self.now }
+    {
+        match self {
+            ImportDesc::Memory(limits) => Some(*limits),
+            _ => None,
+        }
+    }
+
+    /// A global's type; None for another kind.
+    pub fn global(&self) -> Option<GlobalType>
+        ensures { result ≡ global_of self.now }
+    {
+        match self {
+            ImportDesc::Global(ty) => Some(*ty),
+            _ => None,
+        }
+    }
+}
+
+impl Module {
+    /// How many functions the module imports.
+    #[tactic(auto, using(crate::proofs::Places::filter_map_most))]
+    pub fn imported_funcs(&self) -> usize
+        ensures value { result ≡ length (imported_funcs self.now.imports) }
+        // so that it can be added to the number of those defined
+        ensures few { result < 2 ^ 63 }
+    {
+        let imports = self.imports.as_slice().iter();
+        imports.filter_map(|import| import.desc.func()).count()
+    }
+
+    /// How many tables the module imports.
+    #[tactic(auto, using(crate::proofs::Places::filter_map_most))]
+    pub fn imported_tables(&self) -> usize
+        ensures value { result ≡ length (imported_tables self.now.imports) }
+        // so that it can be added to the number of those defined
+        ensures few { result < 2 ^ 63 }
+    {
+        let imports = self.imports.as_slice().iter();
+        imports.filter_map(|import| import.desc.table()).count()
+    }
+
+    /// How many memories the module imports.
+    #[tactic(auto, using(crate::proofs::Places::filter_map_most))]
+    pub fn imported_memories(&self) -> usize
+        ensures value { result ≡ length (imported_memories self.now.imports) }
+        // so that it can be added to the number of those defined
+        ensures few { result < 2 ^ 63 }
+    {
+        let imports = self.imports.as_slice().iter();
+        imports.filter_map(|import| import.desc.memory()).count()
+    }
+
+    /// How many globals the module imports.
+    #[tactic(auto, using(crate::proofs::Places::filter_map_most))]
+    pub fn imported_globals(&self) -> usize
+        ensures value { result ≡ length (imported_globals self.now.imports) }
+        // so that it can be added to the number of those defined
+        ensures few { result < 2 ^ 63 }
+    {
+        let imports = self.imports.as_slice().iter();
+        imports.filter_map(|import| import.desc.global()).count()
+    }
+
+    /// How many functions there are, imported and defined (WebAssembly Core 2.0, section 2.5.1).
+    pub fn func_space(&self) -> usize
+        ensures { result ≡ length (funcs_of self.now) }
+    {
+        self.imported_funcs() + self.funcs.as_slice().len()
+    }
+
+    /// How many tables there are, imported and defined.
+    pub fn table_space(&self) -> usize
+        ensures { result ≡ length (tables_of self.now) }
+    {
+        self.imported_tables() + self.tables.as_slice().len()
+    }
+
+    /// How many memories there are, imported and defined.
+    pub fn memory_space(&self) -> usize
+        ensures { result ≡ length (memories_of self.now) }
+    {
+        self.imported_memories() + self.mems.as_slice().len()
+    }
+
+    /// How many globals there are, imported and defined.
+    pub fn global_space(&self) -> usize
+        ensures { result ≡ length (globals_of self.now) }
+    {
+        self.imported_globals() + self.globals.as_slice().len()
+    }
+
+    /// A function's place in the types. None exactly where the function is past its space.
+    pub fn type_index(&self, func: u32) -> Option<u32>
+        ensures value { result ≡ slice_get (funcs_of self.now) func }
+    {
+        let mut left = func as usize;
+        for import in self.imports.as_slice() {
+            if let ImportDesc::Func(ty) = &import.desc {
+                if left == 0 {
+                    return Some(*ty);
+                }
+                left -= 1;
+            }
+        }
+        match self.funcs.get(left) {
+            Some(func) => Some(func.ty),
+            None => None,
+        }
+    }
+
+    /// The type of a function. None exactly where the function is past its space, or its type is past the types.
+    pub fn type_of_func(&self, func: u32) -> Option<&FuncType>
+        ensures value { option_copied result ≡ type_of_func self.now func }
+        ensures none { IsNone result ↔ ((length (funcs_of self.now) ≤ func) ⊎ (ty : ℕ) × (slice_get (funcs_of self.now) func ≡ Some ty) × (length self.now.types ≤ ty)) }
+    {
+        match self.type_index(func) {
+            Some(ty) => self.types.get(ty as usize),
+            None => None,
+        }
+    }
+
+    /// The type of a table. None exactly where it is past its space.
+    pub fn table_type(&self, table: u32) -> Option<&TableType>
+        ensures value { option_copied result ≡ slice_get (tables_of self.now) table }
+        ensures none { IsNone result ↔ (length (tables_of self.now) ≤ table) }
+    {
+        let mut left = table as usize;
+        for import in self.imports.as_slice() {
+            if let ImportDesc::Table(ty) = &import.desc {
+                if left == 0 {
+                    return Some(ty);
+                }
+                left -= 1;
+            }
+        }
+        self.tables.get(left)
+    }
+
+    /// The limits of a memory. None exactly where it is past its space.
+    pub fn memory_limits(&self, memory: u32) -> Option<&Limits>
+        ensures value { option_copied result ≡ slice_get (memories_of self.now) memory }
+        ensures none { IsNone result ↔ (length (memories_of self.now) ≤ memory) }
+    {
+        let mut left = memory as usize;
+        for import in self.imports.as_slice() {
+            if let ImportDesc::Memory(limits) = &import.desc {
+                if left == 0 {
+                    return Some(limits);
+                }
+                left -= 1;
+            }
+        }
+        self.mems.get(left)
+    }
+
+    /// The type of a global. None exactly where it is past its space.
+    pub fn global_type(&self, global: u32) -> Option<&GlobalType>
+        ensures value { option_copied result ≡ slice_get (globals_of self.now) global }
+        ensures none { IsNone result ↔ (length (globals_of self.now) ≤ global) }
+    {
+        let mut left = global as usize;
+        for import in self.imports.as_slice() {
+            if let ImportDesc::Global(ty) = &import.desc {
+                if left == 0 {
+                    return Some(ty);
+                }
+                left -= 1;
+            }
+        }
+        match self.globals.get(left) {
+            Some(global) => Some(&global.ty),
+            None => None,
+        }
+    }
+}
