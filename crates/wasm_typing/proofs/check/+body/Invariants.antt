@@ -1,0 +1,12 @@
+use Rattle.std.proofs.Common.{◌≡◌, ◌∷◌, drop}
+use Rattle.wasm_typing.specs.Kept.{stack_of}
+use Rattle.wasm_typing.specs.Labels.{label_list}
+use Rattle.wasm_typing.specs.ScopeWords.{context_of}
+use Rattle.wasm_typing.proofs.Runs.{Rest}
+use Rattle.wasm_typing.proofs.check.+body.Given as goal
+
+abbrev pub invariant-is_well_typed-loop-instr : goal.invariant-is_well_typed-loop-instr
+invariant-is_well_typed-loop-instr l = record {
+  rest : Rest (context_of l.scope (l.label ∷ label_list l.fn.labels)) l.body l.fn.shape.params.now (stack_of l.kept) l.kept.any_below (drop l.instr-index l.body);
+  labels : label_list l.labels ≡ l.label ∷ label_list l.fn.labels;
+}

@@ -1,0 +1,8 @@
+pub mod Ops
+pub mod Typing
+pub mod Tracking
+pub mod Kept
+pub mod Labels
+pub mod Groups
+pub mod LocalTypes
+pub mod ScopeWords

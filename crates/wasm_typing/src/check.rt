@@ -1,0 +1,105 @@
+// The checker of bodies.
+
+ghost use Rattle.std.specs.Prelude.{◌≡◌, ◌↔◌, ◌∷◌, [], IfOk, IsTrue};
+ghost use Rattle.std.specs.Bool.{OnTrue};
+ghost use Rattle.wasm_typing.specs.Typing.{Fits, WellTyped};
+ghost use Rattle.wasm_typing.specs.Tracking.{Follows};
+ghost use Rattle.wasm_typing.specs.Kept.{stack_of};
+ghost use Rattle.wasm_typing.specs.Labels.{label_list};
+ghost use Rattle.wasm_typing.specs.ScopeWords.{context_of};
+
+use crate::labels::Labels;
+use crate::operands::Kept;
+use crate::plain::plain;
+use crate::scope::{Scope, Shape, shape_of};
+use std::alloc::{AllocError, Global};
+use wasm_tree::{Instr, ValType};
+
+// Whether an instruction can follow. Where it can, the operands become those after it.
+#[cycle(body)]
+fn step<'a>(
+    alloc: Global,
+    scope: &Scope<'a>,
+    labels: &mut Labels<'a>,
+    kept: &mut Kept,
+    instr: &'a Instr,
+) -> Result<bool, AllocError>
+    ensures typed { IfOk result (λ ok. Follows (Fits (context_of scope.now (label_list labels.old)) instr.now) (stack_of kept.old) kept.old.any_below (stack_of kept.new) kept.new.any_below ok) }
+    ensures labels { IfOk result (λ ok. OnTrue ok (label_list labels.new ≡ label_list labels.old)) }
+{
+    match instr {
+        Instr::Block(block, body) => {
+            let Some(shape) = shape_of(scope.types, block) else {
+                return Ok(false);
+            };
+            if !is_well_typed(alloc, scope, labels, shape.results, shape, body.as_slice())? {
+                return Ok(false);
+            }
+            kept.gives(&[], shape.params, shape.results)
+        }
+        Instr::Loop(block, body) => {
+            let Some(shape) = shape_of(scope.types, block) else {
+                return Ok(false);
+            };
+            if !is_well_typed(alloc, scope, labels, shape.params, shape, body.as_slice())? {
+                return Ok(false);
+            }
+            kept.gives(&[], shape.params, shape.results)
+        }
+        Instr::If(block, body, other) => {
+            let Some(shape) = shape_of(scope.types, block) else {
+                return Ok(false);
+            };
+            if !is_well_typed(alloc, scope, labels, shape.results, shape, body.as_slice())? {
+                return Ok(false);
+            }
+            if !is_well_typed(alloc, scope, labels, shape.results, shape, other.as_slice())? {
+                return Ok(false);
+            }
+            kept.gives(shape.params, &[ValType::I32], shape.results)
+        }
+        _ => plain(alloc, scope, labels, kept, instr),
+    }
+}
+
+// Whether a body under one more label takes the parameters of the shape and leaves its results.
+#[cycle(body)]
+fn is_well_typed<'a>(
+    alloc: Global,
+    scope: &Scope<'a>,
+    labels: &mut Labels<'a>,
+    label: &'a [ValType],
+    shape: Shape<'a>,
+    body: &'a [Instr],
+) -> Result<bool, AllocError>
+    ensures typed { IfOk result (λ ok. IsTrue ok ↔ WellTyped (context_of scope.now (label.now ∷ label_list labels.old)) body.now shape.entry.params.now shape.entry.results.now) }
+    ensures labels { IfOk result (λ ok. OnTrue ok (label_list labels.new ≡ label_list labels.old)) }
+{
+    labels.open(label)?;
+    let mut kept = Kept::new(alloc);
+    kept.push_all(shape.params)?;
+    for instr in body {
+        if !step(alloc, scope, labels, &mut kept, instr)? {
+            return Ok(false);
+        }
+    }
+    labels.close();
+    Ok(kept.ends(shape.results))
+}
+
+/// Whether the body of a function leaves exactly the function's results (WebAssembly Core 2.0, sections 3.3.9 and 3.4.1). The recursion is as
+/// deep as the blocks are nested. Its only error is want of memory.
+pub fn is_well_typed_body<'a>(
+    alloc: Global,
+    scope: &Scope<'a>,
+    body: &'a [Instr],
+) -> Result<bool, AllocError>
+    ensures { IfOk result (λ ok. IsTrue ok ↔ WellTyped (context_of scope.now (scope.now.results.now ∷ [])) body.now [] scope.now.results.now) }
+{
+    let mut labels = Labels::new(alloc);
+    let shape = Shape {
+        params: &[],
+        results: scope.results,
+    };
+    is_well_typed(alloc, scope, &mut labels, scope.results, shape, body)
+}

@@ -1,0 +1,20 @@
+//! When a function's body is well typed (WebAssembly Core 2.0, sections 3.3 and 3.4), as definitions apart from any algorithm, and a
+//! checker that is exact for them.
+#![tactic(auto)]
+
+mod branch;
+mod check;
+mod control;
+mod labels;
+mod locals;
+mod memories;
+mod operands;
+mod plain;
+mod scope;
+mod tables;
+mod types;
+mod variables;
+
+pub use check::is_well_typed_body;
+pub use locals::Locals;
+pub use scope::Scope;
