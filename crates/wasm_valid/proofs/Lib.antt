@@ -1,0 +1,4 @@
+pub mod Order
+pub mod Marked
+pub mod Repeats
+pub mod OneMemory

@@ -1,0 +1,7 @@
+use Rattle.std.proofs.Common.{take}
+use Rattle.std.specs.List.{flat_map}
+use Rattle.wasm_valid.specs.Validity.{EachHolds, span, count_of, order}
+use Rattle.wasm_valid.proofs.first.first_invalid.Given as goal
+
+abbrev pub invariant-loop-kind : goal.invariant-loop-kind
+invariant-loop-kind l = EachHolds l.module (flat_map (λ k. span k 0 (count_of l.module l.many k)) (take l.kind-index order))

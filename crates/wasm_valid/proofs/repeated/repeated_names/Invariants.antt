@@ -1,0 +1,14 @@
+use Rattle.std.proofs.Common.{◌≡◌, ℕ, List, [], ◌++◌, map, take, drop, is_some}
+use Rattle.std.specs.BTreeMap.{get_by}
+use Rattle.std.specs.Cmp.Lexicographic.{slice_cmp}
+use Rattle.std.specs.Ordering.{nat_cmp}
+use Rattle.std.specs.List.{list_any}
+use Rattle.std.specs.Str.{bytes_eq}
+use Rattle.wasm_valid.specs.Names.{repeats_after}
+use Rattle.wasm_valid.proofs.repeated.repeated_names.Given as goal
+
+abbrev pub invariant-loop-export : goal.invariant-loop-export
+invariant-loop-export l = record {
+  known : (text : List ℕ) → is_some (get_by (λ k. slice_cmp nat_cmp text k.now) l.names) ≡ list_any (bytes_eq text) (map (λ e. e.name) (take l.export-index l.exports));
+  joined : l.all.items ++ repeats_after (map (λ e. e.name) (take l.export-index l.exports)) (map (λ e. e.name) (drop l.export-index l.exports)) ≡ repeats_after [] (map (λ e. e.name) l.exports);
+}

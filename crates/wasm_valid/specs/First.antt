@@ -1,0 +1,36 @@
+-- The first item that does not hold.
+use Rattle.std.specs.Prelude.{◌≡◌, ℕ, ◌+◌, Bool, List, ◌∷◌, ◌++◌, length, Option, Some, None}
+use Rattle.wasm_tree.specs.declared.module.Module.{Module}
+use Rattle.wasm_tree.specs.Spaces.{imported_funcs, imported_tables, imported_memories, imported_globals, memories_of}
+use Rattle.wasm_valid.specs.declared.kinds.ItemKind.{ItemKind}
+use Rattle.wasm_valid.specs.declared.kinds.ItemKind.TheVariants as kind
+use Rattle.wasm_valid.specs.declared.kinds.Invalid.{Invalid}
+use Rattle.wasm_valid.specs.Validity.{Item, HoldsAt, EachHolds, items}
+
+-- the number of an item: in its index space, where its kind has one, else its place; for the number of memories, this number
+abbrev pub index_of : Module → ItemKind → ℕ → ℕ
+index_of m kind.Import place = place
+index_of m kind.Memories place = length (memories_of m)
+index_of m kind.Func place = length (imported_funcs m.imports) + place
+index_of m kind.Table place = length (imported_tables m.imports) + place
+index_of m kind.Memory place = length (imported_memories m.imports) + place
+index_of m kind.Global place = length (imported_globals m.imports) + place
+index_of m kind.Export place = place
+index_of m kind.Start place = place
+index_of m kind.Elem place = place
+index_of m kind.Segment place = place
+index_of m kind.Body place = length (imported_funcs m.imports) + place
+
+-- the items before it hold, and it does not
+abbrev pub IsFirstOf : Module → List Item → Invalid → Type 0
+IsFirstOf m xs e =
+    (x : Item) × (before after : List Item) × (xs ≡ before ++ x ∷ after) × EachHolds m before × (HoldsAt m x.kind x.place → ⊥) × (e.kind ≡ x.kind) × (e.index ≡ index_of m x.kind x.place)
+
+-- the first item that does not hold, where it is tested that there is at most one memory exactly where many is false
+abbrev pub IsFirstInvalid : Module → Bool → Invalid → Type 0
+IsFirstInvalid m many e = IsFirstOf m (items m many) e
+
+-- which of these items is the first that does not hold, if one does not
+abbrev pub IsAnswer : Module → List Item → Option Invalid → Type 0
+IsAnswer m xs None = EachHolds m xs
+IsAnswer m xs (Some e) = IsFirstOf m xs e

@@ -1,0 +1,53 @@
+-- The functions that `ref.func` may name in a body: those that the module names outside its bodies and its start
+-- (WebAssembly Core 2.0, section 3.4.10, the context's refs).
+use Rattle.std.specs.Prelude.{ℕ, zero, suc, Bool, true, slice_set, List, [], ◌∷◌, ◌++◌, length, nat_eq, Option, Some, None}
+use Rattle.std.specs.List.{filter_map, flat_map, list_any}
+use Rattle.wasm_tree.specs.declared.module.ConstExpr.{ConstExpr}
+use Rattle.wasm_tree.specs.declared.module.ConstExpr.TheVariants as expr
+use Rattle.wasm_tree.specs.declared.module.ExportDesc.{ExportDesc}
+use Rattle.wasm_tree.specs.declared.module.ExportDesc.TheVariants as exported
+use Rattle.wasm_tree.specs.declared.module.ElemSeg.{ElemSeg}
+use Rattle.wasm_tree.specs.declared.module.GlobalDef.{GlobalDef}
+use Rattle.wasm_tree.specs.declared.module.Export.{Export}
+use Rattle.wasm_tree.specs.declared.module.Module.{Module}
+use Rattle.wasm_tree.specs.Spaces.{funcs_of}
+
+abbrev pub const_func : ConstExpr → Option ℕ
+const_func (expr.Func func) = Some func
+const_func _ = None
+
+abbrev pub export_func : ExportDesc → Option ℕ
+export_func (exported.Func func) = Some func
+export_func _ = None
+
+abbrev pub elem_refs : List ElemSeg → List ℕ
+elem_refs = flat_map (λ s. filter_map const_func s.items)
+
+abbrev pub global_refs : List GlobalDef → List ℕ
+global_refs = filter_map (λ g. const_func g.init)
+
+abbrev pub export_refs : List Export → List ℕ
+export_refs = filter_map (λ e. export_func e.desc)
+
+-- the functions that element segments, initialisers of globals and exports name
+abbrev pub refs_of : Module → List ℕ
+refs_of m = elem_refs m.elems ++ (global_refs m.globals ++ export_refs m.exports)
+
+-- for each of n functions from one on, whether it is among these
+abbrev pub named_from : List ℕ → ℕ → ℕ → List Bool
+named_from refs first zero = []
+named_from refs first (suc n) = list_any (nat_eq first) refs ∷ named_from refs (suc first) n
+
+-- for each function of the module, whether `ref.func` may name it in a body
+abbrev pub named_of : Module → List Bool
+named_of m = named_from (refs_of m) 0 (length (funcs_of m))
+
+-- the marks with one more at this place, if there is one
+abbrev pub marked_at : List Bool → Option ℕ → List Bool
+marked_at marks None = marks
+marked_at marks (Some r) = slice_set marks r true
+
+-- the marks with one more at each of these places
+abbrev pub marked_all : List Bool → List ℕ → List Bool
+marked_all marks [] = marks
+marked_all marks (r ∷ rs) = marked_all (slice_set marks r true) rs

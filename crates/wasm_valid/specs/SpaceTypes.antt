@@ -1,0 +1,13 @@
+-- The reference types of tables and element segments.
+use Rattle.std.specs.Prelude.{List, map}
+use Rattle.wasm_tree.specs.declared.types.RefType.{RefType}
+use Rattle.wasm_tree.specs.declared.module.ElemSeg.{ElemSeg}
+use Rattle.wasm_tree.specs.declared.module.Module.{Module}
+use Rattle.wasm_tree.specs.Spaces.{tables_of}
+
+-- the reference type of each table, and of each element segment
+abbrev pub table_types : Module → List RefType
+table_types m = map (λ t. t.ty) (tables_of m)
+
+abbrev pub elem_types : List ElemSeg → List RefType
+elem_types = map (λ s. s.ty)

@@ -1,0 +1,18 @@
+//! Validation of modules (WebAssembly Core 2.0, chapter 3, for the integer profile): a module is valid, or its first item that does not
+//! hold is named.
+#![tactic(auto)]
+
+mod constants;
+mod first;
+mod holds;
+mod items;
+mod kinds;
+mod laws;
+mod named;
+mod repeated;
+mod spaces;
+mod validation;
+
+pub use kinds::{Invalid, ItemKind};
+pub use laws::{valid_code_names_memory_zero, valid_where_items_hold};
+pub use validation::{Rejected, Valid, validate};

@@ -1,0 +1,86 @@
+// Modules that are known to be valid.
+
+ghost use Rattle.std.specs.Prelude.{◌≡◌, IfOk, IfErr};
+ghost use Rattle.wasm_tree.specs.Bounds.{IsBounded};
+ghost use Rattle.wasm_valid.specs.Validity.{IsValid, IsSingle};
+ghost use Rattle.wasm_valid.specs.Rejection.{IsRejected};
+
+use crate::first::first_invalid;
+use crate::kinds::Invalid;
+use std::alloc::Global;
+use std::marker::Model;
+use wasm_tree::Module;
+
+/// A valid module whose lists, index spaces and locals a u32 can count. Contracts see the module.
+#[derive(Drop)]
+pub struct Valid {
+    module: Module,
+}
+
+impl Model for Valid {
+    ghost use Rattle.wasm_tree.specs.declared.module.Module.{Module};
+    ghost use Rattle.wasm_tree.specs.contracts.module.Module as tree;
+    ghost use Rattle.wasm_tree.specs.Bounds.{IsBounded};
+    ghost use Rattle.wasm_valid.specs.Validity.{IsValid};
+    ghost use Rattle.std.specs.Coded.{codes};
+
+    ghost Value = { Module };
+
+    ghost coded = { Prim.hlevel (codes, tree.the_row.coded) };
+
+    ghost view = { λ v. v.module };
+
+    ghost invariant = { λ v. IsValid v.module × IsBounded v.module };
+}
+
+/// Why a module was handed back: its first item that does not hold, or want of memory. Both hand the same module back.
+#[derive(Drop)]
+pub enum Rejected {
+    Invalid(Module, Invalid),
+    NoMemory(Module),
+}
+
+/// Validates a module (WebAssembly Core 2.0, section 3.4). It is accepted exactly where it is valid and has at most one memory; otherwise the
+/// first item that does not hold is named, and the same module handed back.
+pub fn validate(alloc: Global, module: Module) -> Result<Valid, Rejected>
+    requires { IsBounded «module» }
+    ensures same { IfOk result (λ valid. valid ≡ «module») }
+    ensures valid { IfOk result (λ valid. IsValid «module») }
+    ensures single { IfOk result (λ valid. IsSingle «module») }
+    ensures rejected { IfErr result (IsRejected «module») }
+{
+    match first_invalid(alloc, &module, false) {
+        Err(_) => Err(Rejected::NoMemory(module)),
+        Ok(Some(invalid)) => Err(Rejected::Invalid(module, invalid)),
+        Ok(None) => Ok(Valid { module }),
+    }
+}
+
+impl Valid {
+    /// Keeps a module that is valid already. It tests nothing.
+    pub fn known(module: Module) -> Valid
+        requires valid { IsValid «module» }
+        requires bounded { IsBounded «module» }
+        ensures { result ≡ «module» }
+    {
+        Valid { module }
+    }
+
+    /// The module.
+    pub fn module(&self) -> &Module
+        ensures value { result.now ≡ self.now }
+        ensures valid { IsValid result.now }
+        ensures bounded { IsBounded result.now }
+    {
+        &self.module
+    }
+
+    /// The module, which is no longer known to be valid by its type.
+    pub fn into_module(self) -> Module
+        ensures value { result ≡ self }
+        ensures valid { IsValid result }
+        ensures bounded { IsBounded result }
+    {
+        self.module
+    }
+}
