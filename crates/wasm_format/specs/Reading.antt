@@ -1,5 +1,6 @@
 -- Reading from the left, with the first fault that is met: functions on lists of bytes, by which the first fault of a file is told.
 use Rattle.std.specs.Prelude.{◌≡◌, ℕ, zero, suc, ◌+◌, ◌-◌, List, [], ◌∷◌, ◌++◌, length, Bool, true, false, Result, Ok, Err, Option, Some, None, nat_lt, nat_le, ◌==◌, ◌&&◌, if◌then◌else◌, ℤ, pos, negsuc}
+use Rattle.std.specs.Borrow.{Bor}
 use Rattle.wasm_bytes.specs.declared.cursor.Wrong.{Wrong}
 use Rattle.wasm_bytes.specs.Reading.{◌>>=◌, unsigned_at, signed_at, name_at as text_at, sized_at as content_at, byte_at as first_at}
 use Rattle.wasm_tree.specs.declared.which.Which.{Which}
@@ -45,6 +46,11 @@ Fails (Limit which) read = read ≡ Err (Limit which)
 abbrev pub Gives : {A : Type 0} → Result A Fault → List ℕ → Result (A × List ℕ) Fault → Type 0
 Gives (Ok x) rest read = read ≡ Ok (x, rest)
 Gives (Err e) rest read = Fails e read
+
+-- the same of a slice
+abbrev pub GivesSlice : Result (Bor (List ℕ)) Fault → List ℕ → Result (List ℕ × List ℕ) Fault → Type 0
+GivesSlice (Ok s) rest read = read ≡ Ok (s.now, rest)
+GivesSlice (Err e) rest read = Fails e read
 
 -- where all of the bytes are read
 abbrev pub GivesAll : {A : Type 0} → Result A Fault → Result A Fault → Type 0
@@ -239,8 +245,11 @@ export_of p = record { name = p.0; desc = p.1 }
 unfoldable pub export_at : Reader Export
 export_at = mapped_at export_of (pair_at name_at export_desc_at)
 
+abbrev pub func_item_at : Reader ConstExpr
+func_item_at = mapped_at const.Func u32_at
+
 unfoldable pub func_items_at : Reader (List ConstExpr)
-func_items_at = list_at (mapped_at const.Func u32_at)
+func_items_at = list_at func_item_at
 
 abbrev pub const_items_at : Reader (List ConstExpr)
 const_items_at = list_at const_at

@@ -1,6 +1,6 @@
 use Rattle.std.proofs.Common.{◌≡◌, Err, arith, [], ◌∷◌, length-append}
 use Rattle.wasm_format.proofs.Loops.{each_more, each_stop}
-use Rattle.wasm_code.proofs.vectors.read_each.Goals as goal
+use Rattle.wasm_items.proofs.vectors.read_each.Goals as goal
 
 pub returns-in_err-read-clause-gives : goal.returns-in_err-read-clause-gives
 returns-in_err-read-clause-gives g c =

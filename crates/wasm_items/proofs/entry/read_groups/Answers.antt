@@ -1,7 +1,7 @@
 use Rattle.std.proofs.Common.{◌≡◌, Err, arith}
 use Rattle.wasm_format.specs.Reading.{local_at, with_group}
 use Rattle.wasm_format.proofs.Loops.{each_more, each_stop}
-use Rattle.wasm_code.proofs.entry.read_groups.Goals as goal
+use Rattle.wasm_items.proofs.entry.read_groups.Goals as goal
 
 pub returns-in_err-group-clause-gives : goal.returns-in_err-group-clause-gives
 returns-in_err-group-clause-gives c =

@@ -1,6 +1,6 @@
 use Rattle.std.proofs.Common.{◌≡◌, ◌-◌, ◌≤◌, length}
 use Rattle.wasm_format.specs.Reading.{each_at, with_front}
-use Rattle.wasm_code.proofs.vectors.read_each.Given as goal
+use Rattle.wasm_items.proofs.vectors.read_each.Given as goal
 
 abbrev pub invariant-loop-i : goal.invariant-loop-i
 invariant-loop-i g l = record {

@@ -1,6 +1,6 @@
 use Rattle.std.proofs.Common.{◌≡◌, ℕ, ◌+◌, ◌*◌, ◌≤◌, length}
 use Rattle.wasm_format.specs.BodyReading.{sequence_at, behind}
-use Rattle.wasm_code.proofs.body.+read.Given as goal
+use Rattle.wasm_items.proofs.body.+read.Given as goal
 
 abbrev pub decreases-read_block : goal.decreases-read_block
 decreases-read_block l = 2 * l.deeper

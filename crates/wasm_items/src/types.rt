@@ -1,11 +1,11 @@
 ghost use Rattle.std.specs.Prelude.{◌≡◌, ◌<◌, length, OnOk};
-ghost use Rattle.wasm_format.specs.Reading.{Gives, u32_at, tag_at, val_at, ref_at, block_type_at};
+ghost use Rattle.wasm_format.specs.Reading.{Gives, u32_at, tag_at, val_at, ref_at, block_type_at, func_type_at, limits_at, table_at, mut_at, global_at};
 
-use crate::vectors::Spelled;
+use crate::vectors::{Spelled, read_vector};
 use std::alloc::Global;
 use wasm_bytes::Cursor;
 use wasm_format::Fault;
-use wasm_tree::{BlockType, RefType, ValType};
+use wasm_tree::{BlockType, FuncType, GlobalType, Limits, RefType, TableType, ValType, Which};
 
 impl Spelled for u32 {
     ghost reading = { u32_at };
@@ -78,5 +78,72 @@ pub fn read_block_type(alloc: Global, cursor: &mut Cursor<'_>) -> Result<BlockTy
                 Ok(BlockType::Index(index as u32))
             }
         }
+    }
+}
+
+impl Spelled for FuncType {
+    ghost reading = { func_type_at };
+
+    #[tactic(auto, unfolding(wasm_format::specs::Reading::func_type_at))]
+    fn read(alloc: Global, cursor: &mut Cursor<'_>) -> Result<FuncType, Fault> {
+        read_tag(cursor, 0x60)?;
+        let params = read_vector(alloc, cursor, Which::Parameters, 1000)?;
+        let results = read_vector(alloc, cursor, Which::Results, 1000)?;
+        Ok(FuncType { params, results })
+    }
+}
+
+impl Spelled for Limits {
+    ghost reading = { limits_at };
+
+    #[tactic(auto, unfolding(wasm_format::specs::Reading::limits_at))]
+    fn read(_alloc: Global, cursor: &mut Cursor<'_>) -> Result<Limits, Fault> {
+        match cursor.byte()? {
+            0x00 => {
+                let min = cursor.u32()?;
+                Ok(Limits { min, max: None })
+            }
+            0x01 => {
+                let min = cursor.u32()?;
+                let max = Some(cursor.u32()?);
+                Ok(Limits { min, max })
+            }
+            _ => Err(Fault::Malformed),
+        }
+    }
+}
+
+impl Spelled for TableType {
+    ghost reading = { table_at };
+
+    #[tactic(auto, unfolding(wasm_format::specs::Reading::table_at))]
+    fn read(alloc: Global, cursor: &mut Cursor<'_>) -> Result<TableType, Fault> {
+        let ty = RefType::read(alloc, cursor)?;
+        let limits = Limits::read(alloc, cursor)?;
+        Ok(TableType { ty, limits })
+    }
+}
+
+/// A global's mutability (WebAssembly Core 2.0, section 5.3.10).
+#[tactic(auto, unfolding(wasm_format::specs::Reading::mut_at, wasm_format::specs::Values::mut_code))]
+fn read_mutable(cursor: &mut Cursor<'_>) -> Result<bool, Fault>
+    ensures gives { Gives result cursor.new (mut_at cursor.old) }
+    ensures shorter { OnOk result (length cursor.new < length cursor.old) }
+{
+    match cursor.byte()? {
+        0x00 => Ok(false),
+        0x01 => Ok(true),
+        _ => Err(Fault::Malformed),
+    }
+}
+
+impl Spelled for GlobalType {
+    ghost reading = { global_at };
+
+    #[tactic(auto, unfolding(wasm_format::specs::Reading::global_at))]
+    fn read(alloc: Global, cursor: &mut Cursor<'_>) -> Result<GlobalType, Fault> {
+        let ty = ValType::read(alloc, cursor)?;
+        let mutable = read_mutable(cursor)?;
+        Ok(GlobalType { ty, mutable })
     }
 }

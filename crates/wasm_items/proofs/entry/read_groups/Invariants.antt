@@ -1,6 +1,6 @@
 use Rattle.std.proofs.Common.{◌≡◌, ◌-◌, ◌≤◌, length}
 use Rattle.wasm_format.specs.Reading.{each_from, local_at, with_group, with_front}
-use Rattle.wasm_code.proofs.entry.read_groups.Given as goal
+use Rattle.wasm_items.proofs.entry.read_groups.Given as goal
 
 abbrev pub invariant-loop-i : goal.invariant-loop-i
 invariant-loop-i l = record {

@@ -5,7 +5,7 @@ use Rattle.wasm_format.specs.declared.fault.Fault.{Fault}
 use Rattle.wasm_format.specs.BodyReading.{sequence_at, block_at, behind}
 use Rattle.wasm_format.proofs.Loops.{fails_through}
 use Rattle.wasm_format.proofs.Blocks.{behind_none, behind_behind, behind_fails, block_none, block_some, seq_err, seq_end, seq_else, seq_plain, seq_open, seq_open_err}
-use Rattle.wasm_code.proofs.body.+read.Goals as goal
+use Rattle.wasm_items.proofs.body.+read.Goals as goal
 
 pub read_block-returns-then-deeper-eq0-clause-reads : goal.read_block-returns-then-deeper-eq0-clause-reads
 read_block-returns-then-deeper-eq0-clause-reads t c = λ fuel enough. block_none (sequence_at c.args.many fuel) c.args.deeper c.args.opener c.args.ty c.args.cursor.now (omega arith)
