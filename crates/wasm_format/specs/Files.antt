@@ -105,20 +105,23 @@ Spells bytes tree many = (ss : List Section) × (p : Parts) × Framed bytes ss �
 
 -- ---- what is within the limits
 
--- each written count, the nesting and the sum of the locals in the content of a section with this id
+-- each written count, the nesting and the sum of the locals in the content of a section with this id; no limit is on the others
 unfoldable pub small_form : Bool → ℕ → List ℕ → Type 0
 small_form many id =
-    WhenSmall (id == 1) (Limited (Vector SpellsFuncType) (Few 1000000 SmallFuncType))
+    WhenSmall (id == 0) Any
+    (WhenSmall (id == 1) (Limited (Vector SpellsFuncType) (Few 1000000 SmallFuncType))
     (WhenSmall (id == 2) (Limited (Vector SpellsImport) (Few 1000000 Any))
     (WhenSmall (id == 3) (Limited (Vector U32) (Few 1000000 Any))
     (WhenSmall (id == 4) (Limited (Vector SpellsTable) (Few 10000 Any))
     (WhenSmall (id == 5) (Limited (Vector SpellsLimits) (Few 10000 Any))
     (WhenSmall (id == 6) (Limited (Vector SpellsGlobalDef) (Few 1000000 Any))
     (WhenSmall (id == 7) (Limited (Vector SpellsExport) (Few 1000000 Any))
+    (WhenSmall (id == 8) Any
     (WhenSmall (id == 9) (Limited (Vector SpellsElem) (Few 300000 Any))
     (WhenSmall (id == 10) (Limited (Vector (SpellsEntry many)) (Few 1000000 SmallCode))
     (WhenSmall (id == 11) (Limited (Vector SpellsData) (Few 300000 Any))
-    Any)))))))))
+    (WhenSmall (id == 12) Any
+    Any))))))))))))
 
 abbrev pub SmallSection : Bool → Section → Type 0
 SmallSection many s = small_form many s.0 s.1
