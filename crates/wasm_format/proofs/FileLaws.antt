@@ -1,7 +1,7 @@
 -- A file is read exactly where it spells a tree, within the limits.
 use Rattle.std.proofs.Common.{◌≡◌, ℕ, zero, suc, ◌+◌, ◌<◌, ◌≤◌, List, [], ◌∷◌, ◌++◌, length, Result, Ok, Err, Bool, true, false, cond, Option, Some, None, ◌⊎◌, inl, inr, ⊎_elim, refl, sym, ap, ◌∙◌, subst, arith, append_assoc, true≢false}
 use Rattle.std.proofs.lemmas.Bool.{eqb-true}
-use Rattle.std.specs.Prelude.{◌==◌, ◌&&◌, IfOk, IfErr}
+use Rattle.std.specs.Prelude.{◌==◌, ◌&&◌, ◌↔◌, IfOk, IfErr}
 use Rattle.wasm_bytes.specs.Joins.{U32}
 use Rattle.wasm_bytes.specs.Reading.{◌>>=◌, IsBytes}
 use Rattle.wasm_bytes.specs.Frames.{Section, after, Frames, Framed, HasHeader, FirstBad}
@@ -171,3 +171,15 @@ module _ (many : Bool) (bytes : List ℕ) (small : IsBytes bytes) where
   pub call_first : (r : Result Module ReadFault) → GivesAll r (read_at many bytes) → (e : ReadFault) → read_fault bytes many ≡ Some e → (r ≡ Err e) ⊎ (r ≡ Err NoMemory)
   call_first (Ok q) g e h = absurd (let t = sym g ∙ told (read_at many bytes) e h in cc)
   call_first (Err w) g e h = ⊎_elim (λ n. inr (ap Err n)) (λ n. inl (sym n ∙ told (read_at many bytes) e h)) (fault_is w (read_at many bytes) g)
+
+-- ---- no fault
+
+none_is : {A : Type 0} (r : Result A ReadFault) → fault_of r ≡ None → (x : A) × (r ≡ Ok x)
+none_is (Ok x) h = (x, refl)
+none_is (Err e) h = cc
+
+pub no_fault : (many : Bool) (bytes : List ℕ) → IsBytes bytes → (read_fault bytes many ≡ None) ↔ ((m : Module) × Spells bytes m many × Within bytes many)
+no_fault many bytes small = (
+    λ h. let r = none_is (read_at many bytes) h in let t = tree_found many bytes small r.0 r.1 in (r.0, t.0, t.1),
+    λ t. ap fault_of (tree_read many bytes t.0 t.1 t.2),
+  )

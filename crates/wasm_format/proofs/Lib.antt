@@ -10,3 +10,5 @@ pub mod NestLaws
 pub mod EntryLaws
 pub mod SectionLaws
 pub mod FileLaws
+pub mod BoundLaws
+pub mod CauseLaws

@@ -73,6 +73,9 @@ module _ (many : Bool) where
       let p = ok_pair {E = Fault} (record { items = is; by_else = false }) (record { items = js; by_else = false }) rest more (sym a ∙ ap (λ z. sequence_at many (length z) d z) e ∙ b) in
       (ap (λ (s : Sequence). s.items) p.0, p.1)
 
+pub body_ends : (many : Bool) (text more : List ℕ) (is js : List Instr) → SpellsBody many text is → SpellsBody many (text ++ more) js → (more ≡ []) × (is ≡ js)
+body_ends many text more is js h k = let c = body_clear many text (text ++ more) more [] is js (sym (append-nil (text ++ more))) h k in (c.1, c.0)
+
 -- ---- memory 0
 
 module _ (Q : Instr → Type 0) where

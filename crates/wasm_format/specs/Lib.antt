@@ -8,3 +8,4 @@ pub mod Files
 pub mod Reading
 pub mod BodyReading
 pub mod Contents
+pub mod Causes

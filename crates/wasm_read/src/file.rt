@@ -1,8 +1,12 @@
-ghost use Rattle.std.specs.Prelude.{◌≡◌, ◌<◌, ◌≤◌, ◌+◌, ◌^◌, length, IfOk, false};
+ghost use Rattle.std.specs.Prelude.{◌≡◌, ◌<◌, ◌≤◌, ◌+◌, ◌^◌, ◌⊎◌, length, IfOk, IfErr, IsTrue, Ok, Err, Some, false};
 ghost use Rattle.wasm_bytes.specs.Reading.{IsBytes};
 ghost use Rattle.wasm_bytes.specs.FrameViews.{Inside, framed, framed_all};
-ghost use Rattle.wasm_format.specs.Files.{nothing, tree_of};
-ghost use Rattle.wasm_format.specs.Contents.{GivesAll, contents_at, read_at};
+ghost use Rattle.wasm_tree.specs.declared.module.Module.{Module as ModuleTree};
+ghost use Rattle.wasm_tree.specs.Bounds.{IsBounded};
+ghost use Rattle.wasm_tree.specs.MemoryZero.{memory_zero_funcs};
+ghost use Rattle.wasm_format.specs.declared.fault.ReadFault.{ReadFault as SomeFault};
+ghost use Rattle.wasm_format.specs.Files.{nothing, tree_of, Spells, Within};
+ghost use Rattle.wasm_format.specs.Contents.{GivesAll, contents_at, read_at, read_fault};
 ghost use Rattle.wasm_read.specs.Views.{GivesFramed};
 
 use crate::rules::{agree, set_types};
@@ -106,10 +110,20 @@ fn read_file(alloc: Global, bytes: &[u8], many: bool) -> Result<Module, ReadFaul
     Ok(tree(parts))
 }
 
-/// The tree that a module file spells (WebAssembly Core 2.0, chapter 5), or the first fault of the file.
+/// The tree that a module file spells (WebAssembly Core 2.0, chapter 5), within the limits on counts, nesting and locals.
+///
+/// Unless memory runs out it is answered exactly where the bytes spell a tree within the limits, and otherwise the first fault
+/// of the file: `NotModule`, then the first bad frame, then the first fault in the sections' contents, in the order of the
+/// file, and last the rules on the whole file. A tree that is answered is bounded, so that a u32 names each thing in it, and
+/// its bodies name no memory but memory 0.
 pub fn read(alloc: Global, bytes: &[u8]) -> Result<Module, ReadFault>
     requires { length bytes.now < 2 ^ 32 }
-    ensures { GivesAll result (read_at false bytes.now) }
+    ensures found { IfOk result (λ m. Spells bytes.now m false × Within bytes.now false) }
+    ensures only { (m : ModuleTree) → Spells bytes.now m false → Within bytes.now false → (result ≡ Ok m) ⊎ (result ≡ Err ReadFault.NoMemory) }
+    ensures fault { IfErr result (λ e. (e ≡ ReadFault.NoMemory) ⊎ (read_fault bytes.now false ≡ Some e)) }
+    ensures first { (e : SomeFault) → read_fault bytes.now false ≡ Some e → (result ≡ Err e) ⊎ (result ≡ Err ReadFault.NoMemory) }
+    ensures bounded { IfOk result (λ m. IsBounded m) }
+    ensures memory { IfOk result (λ m. IsTrue (memory_zero_funcs m.funcs)) }
 {
     read_file(alloc, bytes, false)
 }
