@@ -28,6 +28,7 @@ use Rattle.wasm_format.proofs.Exact.{err_ok, u32_exact, sized_exact}
 use Rattle.wasm_format.proofs.Framing.{framed_sound, framed_fault}
 use Rattle.wasm_format.proofs.EntryLaws.{code_complete, entry_exact, in_ok}
 use Rattle.wasm_format.proofs.SectionLaws.{Right, section_right}
+use Rattle.wasm_format.proofs.Spoken.{never_no_memory}
 use Rattle.wasm_format.proofs.FileLaws.{AreBytes, framed_bytes, contents_sound, rules_of, of_rules, tree_found, tree_read}
 
 bind_err : {A B E : Type 0} (r : Result A E) (f : A → Result B E) (e : E) → (r >>= f) ≡ Err e → (r ≡ Err e) ⊎ ((x : A) × (r ≡ Ok x) × (f x ≡ Err e))
@@ -245,14 +246,14 @@ module _ (bytes : List ℕ) (many : Bool) (ss : List Section) (framed : Framed b
     content = h.entry.content; sized = h.entry.sized; number = h.entry.number; faulty = h.entry.faulty;
   }
 
-  cause_of : (g : ReadFault) → Naming (0 + length w.front) (InCode many (0 + length w.front) w.parts w.here w.bytes) g → Cause bytes many g
+  cause_of : (g : ReadFault) → (g ≡ NoMemory → ⊥) → Naming (0 + length w.front) (InCode many (0 + length w.front) w.parts w.here w.bytes) g → Cause bytes many g
   unfolding InCode
-  cause_of _ nowhere = tt
-  cause_of _ malformed = inr (inl section_cause)
-  cause_of _ unsupported = section_cause
-  cause_of _ (limit x) = (0 + length w.front, section_cause)
-  cause_of _ (malformed_in f h) = (0 + length w.front, func_cause f h)
-  cause_of _ (unsupported_in f h) = func_cause f h
+  cause_of _ some nowhere = absurd (some refl)
+  cause_of _ some malformed = inr (inl section_cause)
+  cause_of _ some unsupported = section_cause
+  cause_of _ some (limit x) = (0 + length w.front, section_cause)
+  cause_of _ some (malformed_in f h) = (0 + length w.front, func_cause f h)
+  cause_of _ some (unsupported_in f h) = func_cause f h
 
 told : {A : Type 0} (r : Result A ReadFault) (e : ReadFault) → fault_of r ≡ Some e → r ≡ Err e
 told (Ok x) e h = cc
@@ -271,7 +272,7 @@ cause bytes many e small h = ⊎_elim
         let are = framed_bytes bytes good.0 small framed in
         ⊎_elim
           (λ bad. let w = stopped many 0 nothing good.0 e are bad in
-            cause_of bytes many good.0 framed e w e (section_naming many (0 + length w.front) w.parts w.here w.bytes e w.stops))
+            cause_of bytes many good.0 framed e w e (λ k. never_no_memory bytes many (h ∙ ap Some k)) (section_naming many (0 + length w.front) w.parts w.here w.bytes e w.stops))
           (λ all.
             let c = contents_sound many 0 nothing good.0 all.0 are all.1 in
             ⊎_elim

@@ -11,4 +11,5 @@ pub mod EntryLaws
 pub mod SectionLaws
 pub mod FileLaws
 pub mod BoundLaws
+pub mod Spoken
 pub mod CauseLaws

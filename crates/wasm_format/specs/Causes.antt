@@ -58,9 +58,9 @@ pub record FaultyWhole (bytes : List ℕ) (many : Bool) (n : ℕ) : Type 0 where
   pub within : Every (SmallSection many) sections
   pub faulty : Rules parts → ⊥
 
--- want of memory says nothing of the bytes
+-- want of memory is none
 abbrev pub Cause : List ℕ → Bool → ReadFault → Type 0
-Cause bytes many NoMemory = Unit {0}
+Cause bytes many NoMemory = ⊥
 Cause bytes many NotModule = HasHeader bytes → ⊥
 Cause bytes many (Malformed n) = FirstBad bytes n ⊎ (FaultySection bytes many n ⊎ FaultyWhole bytes many n)
 Cause bytes many (MalformedBody f) = (n : ℕ) × FaultyFunc bytes many n f
