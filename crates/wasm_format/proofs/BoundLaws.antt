@@ -57,18 +57,18 @@ small_kept : (many : Bool) (p : Parts) (id : ℕ) → Small p → Keeps Small (s
 unfolding section_form small_form
 small_kept many p id s =
     keep_when (id == 0) (keep_same p s)
-    (keep_when (id == 1) (keep_put (with_types p) (λ c x h k. record { types = k; imports = s.imports; func_types = s.func_types; tables = s.tables; mems = s.mems; globals = s.globals; exports = s.exports; elems = s.elems; codes = s.codes; datas = s.datas; }))
-    (keep_when (id == 2) (keep_put (with_imports p) (λ c x h k. record { types = s.types; imports = k.0; func_types = s.func_types; tables = s.tables; mems = s.mems; globals = s.globals; exports = s.exports; elems = s.elems; codes = s.codes; datas = s.datas; }))
-    (keep_when (id == 3) (keep_put (with_func_types p) (λ c x h k. record { types = s.types; imports = s.imports; func_types = k.0; tables = s.tables; mems = s.mems; globals = s.globals; exports = s.exports; elems = s.elems; codes = s.codes; datas = s.datas; }))
-    (keep_when (id == 4) (keep_put (with_tables p) (λ c x h k. record { types = s.types; imports = s.imports; func_types = s.func_types; tables = k.0; mems = s.mems; globals = s.globals; exports = s.exports; elems = s.elems; codes = s.codes; datas = s.datas; }))
-    (keep_when (id == 5) (keep_put (with_mems p) (λ c x h k. record { types = s.types; imports = s.imports; func_types = s.func_types; tables = s.tables; mems = k.0; globals = s.globals; exports = s.exports; elems = s.elems; codes = s.codes; datas = s.datas; }))
-    (keep_when (id == 6) (keep_put (with_globals p) (λ c x h k. record { types = s.types; imports = s.imports; func_types = s.func_types; tables = s.tables; mems = s.mems; globals = k.0; exports = s.exports; elems = s.elems; codes = s.codes; datas = s.datas; }))
-    (keep_when (id == 7) (keep_put (with_exports p) (λ c x h k. record { types = s.types; imports = s.imports; func_types = s.func_types; tables = s.tables; mems = s.mems; globals = s.globals; exports = k.0; elems = s.elems; codes = s.codes; datas = s.datas; }))
-    (keep_when (id == 8) (keep_free (with_start p) (λ x. record { types = s.types; imports = s.imports; func_types = s.func_types; tables = s.tables; mems = s.mems; globals = s.globals; exports = s.exports; elems = s.elems; codes = s.codes; datas = s.datas; }))
-    (keep_when (id == 9) (keep_put (with_elems p) (λ c x h k. record { types = s.types; imports = s.imports; func_types = s.func_types; tables = s.tables; mems = s.mems; globals = s.globals; exports = s.exports; elems = k.0; codes = s.codes; datas = s.datas; }))
-    (keep_when (id == 10) (keep_put (with_codes p) (λ c x h k. record { types = s.types; imports = s.imports; func_types = s.func_types; tables = s.tables; mems = s.mems; globals = s.globals; exports = s.exports; elems = s.elems; codes = k; datas = s.datas; }))
-    (keep_when (id == 11) (keep_put (with_datas p) (λ c x h k. record { types = s.types; imports = s.imports; func_types = s.func_types; tables = s.tables; mems = s.mems; globals = s.globals; exports = s.exports; elems = s.elems; codes = s.codes; datas = k.0; }))
-    (keep_when (id == 12) (keep_free (with_count p) (λ x. record { types = s.types; imports = s.imports; func_types = s.func_types; tables = s.tables; mems = s.mems; globals = s.globals; exports = s.exports; elems = s.elems; codes = s.codes; datas = s.datas; }))
+    (keep_when (id == 1) (keep_put (with_types p) (λ c x h k. record { types = k; imports = s.imports; func_types = s.func_types; tables = s.tables; mems = s.mems; globals = s.globals; exports = s.exports; elems = s.elems; codes = s.codes; datas = s.datas }))
+    (keep_when (id == 2) (keep_put (with_imports p) (λ c x h k. record { types = s.types; imports = k.0; func_types = s.func_types; tables = s.tables; mems = s.mems; globals = s.globals; exports = s.exports; elems = s.elems; codes = s.codes; datas = s.datas }))
+    (keep_when (id == 3) (keep_put (with_func_types p) (λ c x h k. record { types = s.types; imports = s.imports; func_types = k.0; tables = s.tables; mems = s.mems; globals = s.globals; exports = s.exports; elems = s.elems; codes = s.codes; datas = s.datas }))
+    (keep_when (id == 4) (keep_put (with_tables p) (λ c x h k. record { types = s.types; imports = s.imports; func_types = s.func_types; tables = k.0; mems = s.mems; globals = s.globals; exports = s.exports; elems = s.elems; codes = s.codes; datas = s.datas }))
+    (keep_when (id == 5) (keep_put (with_mems p) (λ c x h k. record { types = s.types; imports = s.imports; func_types = s.func_types; tables = s.tables; mems = k.0; globals = s.globals; exports = s.exports; elems = s.elems; codes = s.codes; datas = s.datas }))
+    (keep_when (id == 6) (keep_put (with_globals p) (λ c x h k. record { types = s.types; imports = s.imports; func_types = s.func_types; tables = s.tables; mems = s.mems; globals = k.0; exports = s.exports; elems = s.elems; codes = s.codes; datas = s.datas }))
+    (keep_when (id == 7) (keep_put (with_exports p) (λ c x h k. record { types = s.types; imports = s.imports; func_types = s.func_types; tables = s.tables; mems = s.mems; globals = s.globals; exports = k.0; elems = s.elems; codes = s.codes; datas = s.datas }))
+    (keep_when (id == 8) (keep_free (with_start p) (λ x. record { types = s.types; imports = s.imports; func_types = s.func_types; tables = s.tables; mems = s.mems; globals = s.globals; exports = s.exports; elems = s.elems; codes = s.codes; datas = s.datas }))
+    (keep_when (id == 9) (keep_put (with_elems p) (λ c x h k. record { types = s.types; imports = s.imports; func_types = s.func_types; tables = s.tables; mems = s.mems; globals = s.globals; exports = s.exports; elems = k.0; codes = s.codes; datas = s.datas }))
+    (keep_when (id == 10) (keep_put (with_codes p) (λ c x h k. record { types = s.types; imports = s.imports; func_types = s.func_types; tables = s.tables; mems = s.mems; globals = s.globals; exports = s.exports; elems = s.elems; codes = k; datas = s.datas }))
+    (keep_when (id == 11) (keep_put (with_datas p) (λ c x h k. record { types = s.types; imports = s.imports; func_types = s.func_types; tables = s.tables; mems = s.mems; globals = s.globals; exports = s.exports; elems = s.elems; codes = s.codes; datas = k.0 }))
+    (keep_when (id == 12) (keep_free (with_count p) (λ x. record { types = s.types; imports = s.imports; func_types = s.func_types; tables = s.tables; mems = s.mems; globals = s.globals; exports = s.exports; elems = s.elems; codes = s.codes; datas = s.datas }))
     keep_never))))))))))))
 
 small_contents : (many : Bool) (p : Parts) (ss : List Section) (q : Parts) → Small p → Contents many p ss q → Every (SmallSection many) ss → Small q
@@ -76,7 +76,7 @@ small_contents many p [] q s h k = subst Small h s
 small_contents many p (t ∷ ss) q s h k = small_contents many h.0 ss q ((small_kept many p t.0 s).keep t.1 h.0 h.1 k.0) h.2 k.1
 
 small_nothing : Small nothing
-small_nothing = record { types = (omega arith, tt); imports = omega arith; func_types = omega arith; tables = omega arith; mems = omega arith; globals = omega arith; exports = omega arith; elems = omega arith; codes = (omega arith, tt); datas = omega arith; }
+small_nothing = record { types = (omega arith, tt); imports = omega arith; func_types = omega arith; tables = omega arith; mems = omega arith; globals = omega arith; exports = omega arith; elems = omega arith; codes = (omega arith, tt); datas = omega arith }
 
 -- ---- the tree
 
@@ -129,8 +129,8 @@ module _ (p : Parts) (s : Small p) where
     elems = omega (arith, s.elems);
     datas = omega (arith, s.datas);
     locals = λ i f e.
-      let few = every_at (λ (g : Func). declared g.locals ≤ 50000) (typed p.func_types p.codes) i f (typed_few p.func_types p.codes s.codes.1) e in
-      omega (arith, few, declared_same f.locals, few_params p.types f.ty (slice_get p.types f.ty) s.types.1 refl);
+        let few = every_at (λ (g : Func). declared g.locals ≤ 50000) (typed p.func_types p.codes) i f (typed_few p.func_types p.codes s.codes.1) e in
+        omega (arith, few, declared_same f.locals, few_params p.types f.ty (slice_get p.types f.ty) s.types.1 refl);
   }
 
 pub tree_bounded : (many : Bool) (bytes : List ℕ) (m : Module) → Spells bytes m many → Within bytes many → IsBounded m

@@ -105,26 +105,42 @@ module _ (many : Bool) (n : ℕ) where
   entry_naming func bytes e small h = ⊎_elim
       (λ bad. let w = place_err n None (sized_at bytes) e bad in subst (Naming n _) w.2 (naming_placed n _ w.0))
       (λ good.
-        let s = good.0 in
-        let one = (sized_exact.sound bytes s.0 s.1 small (in_ok many n None _ s good.1)).0 in
-        ⊎_elim
-          (λ bad.
-            let w = place_err n (Some func) (code_at many s.0) e bad in
-            let here : FaultyEntry many func bytes func = record {
-              front = []; entry = one.0; back = s.1; text = one.2; codes = []; spelled = refl; within = tt; content = s.0; sized = one.1; number = omega arith;
-              faulty = λ g h k. err_ok w.0 g (sym w.1 ∙ code_complete many s.0 g h k);
-            } in
-            subst (Naming n _) w.2 (naming_inside n func _ w.0 here))
-          (λ ok. absurd (ok_err _ e ok.2))
-          (bind_err (in_place n (Some func) (code_at many s.0)) _ e good.2))
+      let s = good.0 in
+      let one = (sized_exact.sound bytes s.0 s.1 small (in_ok many n None _ s good.1)).0 in
+      ⊎_elim
+      (λ bad.
+      let w = place_err n (Some func) (code_at many s.0) e bad in
+      let here : FaultyEntry many func bytes func = record {
+        front = [];
+        entry = one.0;
+        back = s.1;
+        text = one.2;
+        codes = [];
+        spelled = refl;
+        within = tt;
+        content = s.0;
+        sized = one.1;
+        number = omega arith;
+        faulty = λ g h k. err_ok w.0 g (sym w.1 ∙ code_complete many s.0 g h k);
+      } in
+      subst (Naming n _) w.2 (naming_inside n func _ w.0 here))
+      (λ ok. absurd (ok_err _ e ok.2))
+      (bind_err (in_place n (Some func) (code_at many s.0)) _ e good.2))
       (bind_err (in_place n None (sized_at bytes)) _ e h)
 
   later : (func : ℕ) (bytes text rest : List ℕ) (x : Func) (f : ℕ) → SpellsEntry many text x → SmallCode x → bytes ≡ text ++ rest → FaultyEntry many (func + 1) rest f → FaultyEntry many func bytes f
   later func bytes text rest x f spelled small is h = record {
-    front = text ++ h.front; entry = h.entry; back = h.back;
+    front = text ++ h.front;
+    entry = h.entry;
+    back = h.back;
     text = is ∙ ap (λ z. text ++ z) h.text ∙ sym (append_assoc text h.front (h.entry ++ h.back));
-    codes = x ∷ h.codes; spelled = (text, h.front, spelled, h.spelled, refl); within = (small, h.within); content = h.content; sized = h.sized;
-    number = omega (arith, h.number); faulty = h.faulty;
+    codes = x ∷ h.codes;
+    spelled = (text, h.front, spelled, h.spelled, refl);
+    within = (small, h.within);
+    content = h.content;
+    sized = h.sized;
+    number = omega (arith, h.number);
+    faulty = h.faulty;
   }
 
   entries_naming : (k func : ℕ) (bytes : List ℕ) (e : ReadFault) → IsBytes bytes → each_from (entry_at many n) next_func k func bytes ≡ Err e → Naming n (FaultyEntry many func bytes) e
@@ -133,12 +149,12 @@ module _ (many : Bool) (n : ℕ) where
   entries_naming (suc k) func bytes e small h = ⊎_elim
       (λ bad. entry_naming func bytes e small bad)
       (λ good.
-        let x = good.0 in
-        let t = (entry_exact many n func).sound bytes x.0 x.1 small good.1 in
-        ⊎_elim
-          (λ bad. naming_map (λ f w. later func bytes t.0.0 x.1 x.0 f t.0.1 t.1 t.0.2 w) (entries_naming k (func + 1) x.1 e (small_rest _ bytes x.1 small t.0) bad))
-          (λ ok. absurd (ok_err _ e ok.2))
-          (bind_err (each_from (entry_at many n) next_func k (func + 1) x.1) _ e good.2))
+      let x = good.0 in
+      let t = (entry_exact many n func).sound bytes x.0 x.1 small good.1 in
+      ⊎_elim
+      (λ bad. naming_map (λ f w. later func bytes t.0.0 x.1 x.0 f t.0.1 t.1 t.0.2 w) (entries_naming k (func + 1) x.1 e (small_rest _ bytes x.1 small t.0) bad))
+      (λ ok. absurd (ok_err _ e ok.2))
+      (bind_err (each_from (entry_at many n) next_func k (func + 1) x.1) _ e good.2))
       (bind_err (entry_at many n func bytes) _ e h)
 
   -- in the content of the code section
@@ -155,18 +171,18 @@ module _ (many : Bool) (n : ℕ) where
   codes_naming func c e small h = ⊎_elim
       (λ bad. let w = place_err n None (u32_at c) e bad in subst (Naming n _) w.2 (naming_placed n _ w.0))
       (λ good.
-        let k = good.0 in
-        let count = (u32_exact.sound c k.0 k.1 small (in_ok many n None _ k good.1)).0 in
-        ⊎_elim
-          (λ over. let same : Limit Functions ≡ e = (let q = over.1 in cc) in subst (Naming n _) same (limit Functions))
-          (λ few. ⊎_elim
-            (λ bad. naming_map (λ f w. record { count = count.0; total = k.0; rest = k.1; text = count.2; counted = count.1; entry = w; }) (entries_naming k.0 func k.1 e (small_rest _ c k.1 small count) bad))
-            (λ ok. ⊎_elim
-              (λ done. absurd (ok_err _ e done.1))
-              (λ left. let same : Malformed n ≡ e = (let q = left.1 in cc) in subst (Naming n _) same malformed)
-              (chosen (length ok.0.1 == 0) _ _ _ ok.2))
-            (bind_err (each_from (entry_at many n) next_func k.0 func k.1) _ e few.1))
-          (chosen (nat_lt 1000000 k.0) _ _ _ good.2))
+      let k = good.0 in
+      let count = (u32_exact.sound c k.0 k.1 small (in_ok many n None _ k good.1)).0 in
+      ⊎_elim
+      (λ over. let same : Limit Functions ≡ e = (let q = over.1 in cc) in subst (Naming n _) same (limit Functions))
+      (λ few. ⊎_elim
+      (λ bad. naming_map (λ f w. record { count = count.0; total = k.0; rest = k.1; text = count.2; counted = count.1; entry = w }) (entries_naming k.0 func k.1 e (small_rest _ c k.1 small count) bad))
+      (λ ok. ⊎_elim
+      (λ done. absurd (ok_err _ e done.1))
+      (λ left. let same : Malformed n ≡ e = (let q = left.1 in cc) in subst (Naming n _) same malformed)
+      (chosen (length ok.0.1 == 0) _ _ _ ok.2))
+      (bind_err (each_from (entry_at many n) next_func k.0 func k.1) _ e few.1))
+      (chosen (nat_lt 1000000 k.0) _ _ _ good.2))
       (bind_err (in_place n None (u32_at c)) _ e h)
 
 -- ---- sections
@@ -196,9 +212,9 @@ module _ (many : Bool) (n : ℕ) (p : Parts) (s : Section) (small : IsBytes s.1)
       (either (s.0 == 8) (λ t r. put (with_start p) (whole_at u32_at s.1) e r)
       (either (s.0 == 9) (λ t r. put (with_elems p) (whole_at (vector_at ElementSegments 300000 elem_at) s.1) e r)
       (either (s.0 == 10) (λ t r. ⊎_elim
-          (λ bad. naming_map (λ f w. (eqb-true s.0 10 t, w)) (codes_naming many n (length (imported_funcs p.imports)) s.1 e small bad))
-          (λ ok. absurd (ok_err _ e ok.2))
-          (bind_err (codes_at many n (length (imported_funcs p.imports)) s.1) _ e r))
+      (λ bad. naming_map (λ f w. (eqb-true s.0 10 t, w)) (codes_naming many n (length (imported_funcs p.imports)) s.1 e small bad))
+      (λ ok. absurd (ok_err _ e ok.2))
+      (bind_err (codes_at many n (length (imported_funcs p.imports)) s.1) _ e r))
       (either (s.0 == 11) (λ t r. put (with_datas p) (whole_at (vector_at DataSegments 300000 data_at) s.1) e r)
       (either (s.0 == 12) (λ t r. put (with_count p) (whole_at u32_at s.1) e r)
       (λ r. let same : Malformed n ≡ e = cc in subst (Naming n InCode) same malformed))))))))))))) h
@@ -219,31 +235,48 @@ stopped : (many : Bool) (n : ℕ) (p : Parts) (ss : List Section) (e : ReadFault
 unfolding contents_at
 stopped many n p [] e small h = absurd (ok_err p e h)
 stopped many n p (s ∷ ss) e small h = ⊎_elim
-    (λ bad. record { front = []; here = s; back = ss; parts = p; all = refl; spelled = refl; within = tt; bytes = small.0; stops = (let k : n + 0 ≡ n = omega arith in rw k bad); })
+    (λ bad. record { front = []; here = s; back = ss; parts = p; all = refl; spelled = refl; within = tt; bytes = small.0; stops = (let k : n + 0 ≡ n = omega arith in rw k bad) })
     (λ good.
-      let one = (section_right many n p s.0).sound s.1 good.0 small.0 good.1 in
-      let w = stopped many (n + 1) good.0 ss e small.1 good.2 in
-      let k : n + suc (length w.front) ≡ (n + 1) + length w.front = omega arith in
-      record { front = s ∷ w.front; here = w.here; back = w.back; parts = w.parts; all = ap (λ t. s ∷ t) w.all; spelled = (good.0, one.0, w.spelled); within = (one.1, w.within); bytes = w.bytes; stops = rw k w.stops; })
+    let one = (section_right many n p s.0).sound s.1 good.0 small.0 good.1 in
+    let w = stopped many (n + 1) good.0 ss e small.1 good.2 in
+    let k : n + suc (length w.front) ≡ (n + 1) + length w.front = omega arith in
+    record { front = s ∷ w.front; here = w.here; back = w.back; parts = w.parts; all = ap (λ t. s ∷ t) w.all; spelled = (good.0, one.0, w.spelled); within = (one.1, w.within); bytes = w.bytes; stops = rw k w.stops })
     (bind_err (section_at many n p s) _ e h)
 
 -- ---- files
 
 module _ (bytes : List ℕ) (many : Bool) (ss : List Section) (framed : Framed bytes ss) (e : ReadFault) (w : Stopped many 0 nothing ss e) where
   up_to : UpTo bytes many (0 + length w.front) w.here w.parts
-  up_to = record { front = w.front; back = w.back; framed = subst (Framed bytes) w.all framed; number = omega arith; spelled = w.spelled; within = w.within; }
+  up_to = record { front = w.front; back = w.back; framed = subst (Framed bytes) w.all framed; number = omega arith; spelled = w.spelled; within = w.within }
 
   section_cause : FaultySection bytes many (0 + length w.front)
   section_cause = record {
-    here = w.here; parts = w.parts; before = up_to;
+    here = w.here;
+    parts = w.parts;
+    before = up_to;
     faulty = λ q h k. err_ok e q (sym w.stops ∙ (section_right many (0 + length w.front) w.parts w.here.0).complete w.here.1 q h k);
   }
 
   func_cause : (f : ℕ) → (w.here.0 ≡ 10) × FaultyCode many (0 + length w.front) (length (imported_funcs w.parts.imports)) w.here.1 f → FaultyFunc bytes many (0 + length w.front) f
   func_cause f (ten, h) = record {
-    here = w.here; parts = w.parts; before = up_to; code = ten; count = h.count; front = h.entry.front; entry = h.entry.entry; back = h.entry.back; total = h.total;
-    text = h.text ∙ ap (λ z. h.count ++ z) h.entry.text; counted = h.counted; codes = h.entry.codes; spelled = h.entry.spelled; within = h.entry.within;
-    content = h.entry.content; sized = h.entry.sized; number = h.entry.number; faulty = h.entry.faulty;
+    here = w.here;
+    parts = w.parts;
+    before = up_to;
+    code = ten;
+    count = h.count;
+    front = h.entry.front;
+    entry = h.entry.entry;
+    back = h.entry.back;
+    total = h.total;
+    text = h.text ∙ ap (λ z. h.count ++ z) h.entry.text;
+    counted = h.counted;
+    codes = h.entry.codes;
+    spelled = h.entry.spelled;
+    within = h.entry.within;
+    content = h.entry.content;
+    sized = h.entry.sized;
+    number = h.entry.number;
+    faulty = h.entry.faulty;
   }
 
   cause_of : (g : ReadFault) → (g ≡ NoMemory → ⊥) → Naming (0 + length w.front) (InCode many (0 + length w.front) w.parts w.here w.bytes) g → Cause bytes many g
@@ -263,27 +296,32 @@ pub cause : (bytes : List ℕ) (many : Bool) (e : ReadFault) → IsBytes bytes �
 unfolding read_at parts_at
 cause bytes many e small h = ⊎_elim
     (λ parts. ⊎_elim
-      (λ bad. ⊎_elim
-        (λ none. subst (Cause bytes many) (sym none.0) none.1)
-        (λ frame. subst (Cause bytes many) (sym frame.1) (inl frame.2))
-        (framed_fault bytes e small bad))
-      (λ good.
-        let framed = framed_sound bytes good.0 small good.1 in
-        let are = framed_bytes bytes good.0 small framed in
-        ⊎_elim
-          (λ bad. let w = stopped many 0 nothing good.0 e are bad in
-            cause_of bytes many good.0 framed e w e (λ k. never_no_memory bytes many (h ∙ ap Some k)) (section_naming many (0 + length w.front) w.parts w.here w.bytes e w.stops))
-          (λ all.
-            let c = contents_sound many 0 nothing good.0 all.0 are all.1 in
-            ⊎_elim
-              (λ agree. absurd (ok_err _ e agree.1))
-              (λ not. let same : Malformed (length good.0) ≡ e = (let q = not.1 in cc) in
-                subst (Cause bytes many) same (inr (inr (record {
-                  sections = good.0; parts = all.0; framed = framed; number = refl; spelled = c.0; within = c.1;
-                  faulty = λ r. (let t = sym not.0 ∙ of_rules all.0 r in cc);
-                }))))
-              (chosen (agrees all.0) _ _ _ all.2))
-          (bind_err (contents_at many 0 nothing good.0) _ e good.2))
-      (bind_err (framed_at bytes) _ e parts))
+    (λ bad. ⊎_elim
+    (λ none. subst (Cause bytes many) (sym none.0) none.1)
+    (λ frame. subst (Cause bytes many) (sym frame.1) (inl frame.2))
+    (framed_fault bytes e small bad))
+    (λ good.
+    let framed = framed_sound bytes good.0 small good.1 in
+    let are = framed_bytes bytes good.0 small framed in
+    ⊎_elim
+    (λ bad. let w = stopped many 0 nothing good.0 e are bad in
+    cause_of bytes many good.0 framed e w e (λ k. never_no_memory bytes many (h ∙ ap Some k)) (section_naming many (0 + length w.front) w.parts w.here w.bytes e w.stops))
+    (λ all.
+    let c = contents_sound many 0 nothing good.0 all.0 are all.1 in
+    ⊎_elim
+    (λ agree. absurd (ok_err _ e agree.1))
+    (λ not. let same : Malformed (length good.0) ≡ e = (let q = not.1 in cc) in
+    subst (Cause bytes many) same (inr (inr (record {
+      sections = good.0;
+      parts = all.0;
+      framed = framed;
+      number = refl;
+      spelled = c.0;
+      within = c.1;
+      faulty = λ r. (let t = sym not.0 ∙ of_rules all.0 r in cc);
+    }))))
+    (chosen (agrees all.0) _ _ _ all.2))
+    (bind_err (contents_at many 0 nothing good.0) _ e good.2))
+    (bind_err (framed_at bytes) _ e parts))
     (λ ok. absurd (ok_err _ e ok.2))
     (bind_err (parts_at many bytes) _ e (told (read_at many bytes) e h))

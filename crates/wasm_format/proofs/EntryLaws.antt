@@ -104,12 +104,12 @@ module _ (many : Bool) where
   unfolding entry_at
   entry_exact section func = record {
     sound = λ bytes f rest small e.
-      let s = bind_ok (in_place section None (sized_at bytes)) _ _ e in
-      let one = (sized_exact.sound bytes s.0.0 s.0.1 small (in_ok section None _ s.0 s.1)).0 in
-      let c = bind_ok (in_place section (Some func) (code_at many s.0.0)) _ _ s.2 in
-      let two = code_sound s.0.0 c.0 (content_bytes bytes s.0.0 s.0.1 small one) (in_ok section (Some func) _ c.0 c.1) in
-      let p = ok_pair {E = ReadFault} c.0 f s.0.1 rest c.2 in
-      ((one.0, (s.0.0, one.1, subst (SpellsCode many s.0.0) p.0 two.0), one.2 ∙ ap (λ z. one.0 ++ z) p.1), subst SmallCode p.0 two.1);
+        let s = bind_ok (in_place section None (sized_at bytes)) _ _ e in
+        let one = (sized_exact.sound bytes s.0.0 s.0.1 small (in_ok section None _ s.0 s.1)).0 in
+        let c = bind_ok (in_place section (Some func) (code_at many s.0.0)) _ _ s.2 in
+        let two = code_sound s.0.0 c.0 (content_bytes bytes s.0.0 s.0.1 small one) (in_ok section (Some func) _ c.0 c.1) in
+        let p = ok_pair {E = ReadFault} c.0 f s.0.1 rest c.2 in
+        ((one.0, (s.0.0, one.1, subst (SpellsCode many s.0.0) p.0 two.0), one.2 ∙ ap (λ z. one.0 ++ z) p.1), subst SmallCode p.0 two.1);
     complete = λ text rest f h k. rw (sized_exact.complete text rest h.0 h.1 tt, code_complete h.0 f h.2 k);
   }
 
@@ -145,11 +145,11 @@ module _ (many : Bool) where
       let all = took_then (λ b. U32 b (length r.0.0)) (λ b. Each (SpellsEntry many) b r.0.0) c k.0.1 r.0.1 (subst (λ z. Took (λ b. U32 b z) c k.0.1) later.1 count) later.0 in
       let whole : c ≡ all.0 = all.2 ∙ ap (λ z. all.0 ++ z) done.0 ∙ append-nil all.0 in
       subst (λ z. Vector (SpellsEntry many) c z × Few 1000000 SmallCode z) done.1
-        (subst (λ b. Vector (SpellsEntry many) b r.0.0) (sym whole) all.1, (subst (λ z. z ≤ 1000000) later.1 few.0, along_every func r.0.0 later.2))
+      (subst (λ b. Vector (SpellsEntry many) b r.0.0) (sym whole) all.1, (subst (λ z. z ≤ 1000000) later.1 few.0, along_every func r.0.0 later.2))
 
   pub codes_complete : (n func : ℕ) (c : List ℕ) (fs : List Func) → Vector (SpellsEntry many) c fs → Few 1000000 SmallCode fs → codes_at many n func c ≡ Ok fs
   unfolding codes_at
   codes_complete n func c fs h k =
       let items : each_from (entry_at many n) next_func (length fs) func h.1 ≡ Ok (fs, []) =
-        subst (λ z. each_from (entry_at many n) next_func (length fs) func z ≡ Ok (fs, [])) (append-nil h.1) (each_complete (SpellsEntry many) (λ s. SmallCode) (entry_at many n) next_func (entry_exact n) fs func h.1 [] h.3 (every_along func fs k.1)) in
+      subst (λ z. each_from (entry_at many n) next_func (length fs) func z ≡ Ok (fs, [])) (append-nil h.1) (each_complete (SpellsEntry many) (λ s. SmallCode) (entry_at many n) next_func (entry_exact n) fs func h.1 [] h.3 (every_along func fs k.1)) in
       rw (h.4, u32_exact.complete h.0 h.1 (length fs) h.2 tt, le-ltb 1000000 (length fs) k.0, items)

@@ -128,14 +128,15 @@ pub pair_exact : {A B : Type 0} {P : List ℕ → A → Type 0} {Q : List ℕ �
     Exact {A = A × B} (Both P Q) (λ p. S p.0 × T p.1) (pair_at r q)
 pair_exact {A} {B} {P = P} {Q = Q} {S = S} {T = T} {r = r} {q = q} a b = record {
   sound = λ bytes p rest small e.
-    let x = bind_ok (r bytes) _ _ e in
-    let y = bind_ok (q x.0.1) _ _ x.2 in
-    let one = a.sound bytes x.0.0 x.0.1 small x.1 in
-    let two = b.sound x.0.1 y.0.0 y.0.1 (small_rest _ bytes x.0.1 small one.0) y.1 in
-    let same = ok_pair {E = Fault} (x.0.0, y.0.0) p y.0.1 rest y.2 in
-    (subst (Took (λ t. Both P Q t p) bytes) same.1
-      (subst (λ z. Took (λ t. Both P Q t z) bytes y.0.1) same.0 (took_then _ _ bytes x.0.1 y.0.1 one.0 two.0)),
-     subst (λ (z : A × B). S z.0 × T z.1) same.0 (one.1, two.1));
+      let x = bind_ok (r bytes) _ _ e in
+      let y = bind_ok (q x.0.1) _ _ x.2 in
+      let one = a.sound bytes x.0.0 x.0.1 small x.1 in
+      let two = b.sound x.0.1 y.0.0 y.0.1 (small_rest _ bytes x.0.1 small one.0) y.1 in
+      let same = ok_pair {E = Fault} (x.0.0, y.0.0) p y.0.1 rest y.2 in (
+        subst (Took (λ t. Both P Q t p) bytes) same.1
+            (subst (λ z. Took (λ t. Both P Q t z) bytes y.0.1) same.0 (took_then _ _ bytes x.0.1 y.0.1 one.0 two.0)),
+        subst (λ (z : A × B). S z.0 × T z.1) same.0 (one.1, two.1),
+      );
   complete = λ text rest p h k. rw (split _ _ text rest h, a.complete h.0 (h.1 ++ rest) p.0 h.2 k.0, b.complete h.1 rest p.1 h.3 k.1);
 }
 
@@ -148,38 +149,38 @@ pub mapped_exact : {A B : Type 0} {P : List ℕ → A → Type 0} {S : A → Typ
     Exact {A = B} (λ b y. P b (back y)) (λ y. S (back y)) (mapped_at make r)
 mapped_exact {A} {B} {P} {S} {r} make back one two exact = record {
   sound = λ bytes y rest small e.
-    let x = bind_ok (r bytes) _ _ e in
-    let t = exact.sound bytes x.0.0 x.0.1 small x.1 in
-    let p = ok_pair {E = Fault} (make x.0.0) y x.0.1 rest x.2 in
-    let same : x.0.0 ≡ back y = sym (one x.0.0) ∙ ap back p.0 in
-    (subst (λ z. Took (λ b. P b z) bytes rest) same (subst (Took (λ b. P b x.0.0) bytes) p.1 t.0), subst S same t.1);
+      let x = bind_ok (r bytes) _ _ e in
+      let t = exact.sound bytes x.0.0 x.0.1 small x.1 in
+      let p = ok_pair {E = Fault} (make x.0.0) y x.0.1 rest x.2 in
+      let same : x.0.0 ≡ back y = sym (one x.0.0) ∙ ap back p.0 in
+      (subst (λ z. Took (λ b. P b z) bytes rest) same (subst (Took (λ b. P b x.0.0) bytes) p.1 t.0), subst S same t.1);
   complete = λ text rest y h k. rw (exact.complete text rest (back y) h k) (ap (λ z. Ok (z, rest)) (two y));
 }
 
 pub made_exact : {A B : Type 0} {P : List ℕ → A → Type 0} {r : Reader A} (make : A → B) → Exact P Any r → Exact (Made make P) Any (mapped_at make r)
 made_exact {A} {B} {P} {r} make exact = record {
   sound = λ bytes y rest small e.
-    let x = bind_ok (r bytes) _ _ e in
-    let t = (exact.sound bytes x.0.0 x.0.1 small x.1).0 in
-    let p = ok_pair {E = Fault} (make x.0.0) y x.0.1 rest x.2 in
-    ((t.0, (x.0.0, t.1, sym p.0), t.2 ∙ ap (λ z. t.0 ++ z) p.1), tt);
+      let x = bind_ok (r bytes) _ _ e in
+      let t = (exact.sound bytes x.0.0 x.0.1 small x.1).0 in
+      let p = ok_pair {E = Fault} (make x.0.0) y x.0.1 rest x.2 in
+      ((t.0, (x.0.0, t.1, sym p.0), t.2 ∙ ap (λ z. t.0 ++ z) p.1), tt);
   complete = λ text rest y h k. rw (exact.complete text rest h.0 h.1 tt, h.2);
 }
 
 pub chosen_exact : {K A : Type 0} {P : List ℕ → K → Type 0} {Q : K → List ℕ → A → Type 0} {first : Reader K} {next : K → Reader A} → Exact P Any first → ((k : K) → Exact (Q k) Any (next k)) → Exact (Chosen P Q) Any (chosen_at first next)
 chosen_exact {K} {A} {P} {Q} {first} {next} a b = record {
   sound = λ bytes y rest small e.
-    let x = bind_ok (first bytes) _ _ e in
-    let one = (a.sound bytes x.0.0 x.0.1 small x.1).0 in
-    let two = ((b x.0.0).sound x.0.1 y rest (small_rest _ bytes x.0.1 small one) x.2).0 in
-    let both = took_then (λ t. P t x.0.0) (λ t. Q x.0.0 t y) bytes x.0.1 rest one two in
-    ((both.0, (x.0.0, both.1), both.2), tt);
+      let x = bind_ok (first bytes) _ _ e in
+      let one = (a.sound bytes x.0.0 x.0.1 small x.1).0 in
+      let two = ((b x.0.0).sound x.0.1 y rest (small_rest _ bytes x.0.1 small one) x.2).0 in
+      let both = took_then (λ t. P t x.0.0) (λ t. Q x.0.0 t y) bytes x.0.1 rest one two in
+      ((both.0, (x.0.0, both.1), both.2), tt);
   complete = λ text rest y h k. rw (split _ _ text rest h.1, a.complete h.1.0 (h.1.1 ++ rest) h.0 h.1.2 tt) ((b h.0).complete h.1.1 rest y h.1.3 tt);
 }
 
 pub when_exact : {A : Type 0} {P Q : List ℕ → A → Type 0} {S : A → Type 0} {r q : Reader A} (test : Bool) → Exact P S r → Exact Q S q → Exact (When test P Q) S (when_at test r q)
-when_exact true a b = record { sound = a.sound; complete = a.complete; }
-when_exact false a b = record { sound = b.sound; complete = b.complete; }
+when_exact true a b = record { sound = a.sound; complete = a.complete }
+when_exact false a b = record { sound = b.sound; complete = b.complete }
 
 coded_sound : {A : Type 0} (code : ℕ → Result A Fault) (bytes : List ℕ) (x : A) (rest : List ℕ) → coded_at code bytes ≡ Ok (x, rest) → Took (λ t. Coded code t x) bytes rest
 coded_sound code [] x rest e = cc
@@ -211,21 +212,21 @@ tag_self tag r bs = let same : tag == tag ≡ true = grind arith in rw same
 pub tagged_exact : {A : Type 0} {P : List ℕ → A → Type 0} {S : A → Type 0} {r : Reader A} (tag : ℕ) → Exact P S r → Exact {A = A} (After tag P) S (tagged_at tag r)
 tagged_exact {A} {P} {S} {r} tag exact = record {
   sound = λ bytes x rest small e.
-    let t = tag_then tag r bytes (x, rest) e in
-    let u = exact.sound t.0 x rest (λ i. subst IsBytes t.1 small (suc i)) t.2 in
-    ((tag ∷ u.0.0, (u.0.0, u.0.1, refl), t.1 ∙ ap (λ b. tag ∷ b) u.0.2), u.1);
+      let t = tag_then tag r bytes (x, rest) e in
+      let u = exact.sound t.0 x rest (λ i. subst IsBytes t.1 small (suc i)) t.2 in
+      ((tag ∷ u.0.0, (u.0.0, u.0.1, refl), t.1 ∙ ap (λ b. tag ∷ b) u.0.2), u.1);
   complete = λ text rest x h k. rw h.2 (tag_self tag r (h.0 ++ rest) ∙ exact.complete h.0 rest x h.1 k);
 }
 
 pub closed_exact : {A : Type 0} {P : List ℕ → A → Type 0} {r : Reader A} (tag : ℕ) → Exact P Any r → Exact {A = A} (Closed tag P) Any (closed_at tag r)
 closed_exact {A} {P} {r} tag exact = record {
   sound = λ bytes x rest small e.
-    let y = bind_ok (r bytes) _ _ e in
-    let one = (exact.sound bytes y.0.0 y.0.1 small y.1).0 in
-    let t = tag_then tag (λ bs. Ok (y.0.0, bs)) y.0.1 (x, rest) y.2 in
-    let p = ok_pair {E = Fault} y.0.0 x t.0 rest t.2 in
-    let two : Took (λ b. b ≡ tag ∷ []) y.0.1 rest = (tag ∷ [], refl, t.1 ∙ ap (λ b. tag ∷ b) p.1) in
-    (took_then (λ b. P b x) (λ b. b ≡ tag ∷ []) bytes y.0.1 rest (subst (λ z. Took (λ b. P b z) bytes y.0.1) p.0 one) two, tt);
+      let y = bind_ok (r bytes) _ _ e in
+      let one = (exact.sound bytes y.0.0 y.0.1 small y.1).0 in
+      let t = tag_then tag (λ bs. Ok (y.0.0, bs)) y.0.1 (x, rest) y.2 in
+      let p = ok_pair {E = Fault} y.0.0 x t.0 rest t.2 in
+      let two : Took (λ b. b ≡ tag ∷ []) y.0.1 rest = (tag ∷ [], refl, t.1 ∙ ap (λ b. tag ∷ b) p.1) in
+      (took_then (λ b. P b x) (λ b. b ≡ tag ∷ []) bytes y.0.1 rest (subst (λ z. Took (λ b. P b z) bytes y.0.1) p.0 one) two, tt);
   complete = λ text rest x h k. rw (split _ _ text rest h, exact.complete h.0 (h.1 ++ rest) x h.2 tt, h.3) (tag_self tag (λ bs. Ok (x, bs)) rest);
 }
 
@@ -288,10 +289,10 @@ module _ {A : Type 0} (P : List ℕ → A → Type 0) (S : A → Type 0) (item :
   unfolding list_at
   list_exact_at = record {
     sound = λ bytes xs rest small e.
-      let n = bind_ok (u32_at bytes) _ _ e in
-      let count = (u32_exact.sound bytes n.0.0 n.0.1 small n.1).0 in
-      let later = same_sound n.0.0 n.0.1 xs rest (small_rest _ bytes n.0.1 small count) n.2 in
-      (took_then (λ b. U32 b (length xs)) (λ b. Each P b xs) bytes n.0.1 rest (subst (λ k. Took (λ b. U32 b k) bytes n.0.1) later.1 count) later.0, later.2);
+        let n = bind_ok (u32_at bytes) _ _ e in
+        let count = (u32_exact.sound bytes n.0.0 n.0.1 small n.1).0 in
+        let later = same_sound n.0.0 n.0.1 xs rest (small_rest _ bytes n.0.1 small count) n.2 in
+        (took_then (λ b. U32 b (length xs)) (λ b. Each P b xs) bytes n.0.1 rest (subst (λ k. Took (λ b. U32 b k) bytes n.0.1) later.1 count) later.0, later.2);
     complete = λ text rest xs h k. rw (split _ _ text rest h, u32_exact.complete h.0 (h.1 ++ rest) (length xs) h.2 tt, same_complete xs h.1 rest h.3 k);
   }
 
@@ -300,14 +301,15 @@ module _ {A : Type 0} (P : List ℕ → A → Type 0) (S : A → Type 0) (item :
   unfolding vector_at
   vector_exact_at which most = record {
     sound = λ bytes xs rest small e.
-      let n = bind_ok (u32_at bytes) _ _ e in
-      let count = (u32_exact.sound bytes n.0.0 n.0.1 small n.1).0 in
-      let few = within_most which most n.0.0 _ _ n.2 in
-      let later = same_sound n.0.0 n.0.1 xs rest (small_rest _ bytes n.0.1 small count) few.1 in
-      (took_then (λ b. U32 b (length xs)) (λ b. Each P b xs) bytes n.0.1 rest (subst (λ k. Took (λ b. U32 b k) bytes n.0.1) later.1 count) later.0,
-       (subst (λ k. k ≤ most) later.1 few.0, later.2));
+        let n = bind_ok (u32_at bytes) _ _ e in
+        let count = (u32_exact.sound bytes n.0.0 n.0.1 small n.1).0 in
+        let few = within_most which most n.0.0 _ _ n.2 in
+        let later = same_sound n.0.0 n.0.1 xs rest (small_rest _ bytes n.0.1 small count) few.1 in (
+          took_then (λ b. U32 b (length xs)) (λ b. Each P b xs) bytes n.0.1 rest (subst (λ k. Took (λ b. U32 b k) bytes n.0.1) later.1 count) later.0,
+          (subst (λ k. k ≤ most) later.1 few.0, later.2),
+        );
     complete = λ text rest xs h k.
-      rw (split _ _ text rest h, u32_exact.complete h.0 (h.1 ++ rest) (length xs) h.2 tt, le-ltb most (length xs) k.0, same_complete xs h.1 rest h.3 k.1);
+        rw (split _ _ text rest h, u32_exact.complete h.0 (h.1 ++ rest) (length xs) h.2 tt, le-ltb most (length xs) k.0, same_complete xs h.1 rest h.3 k.1);
   }
 
 pub list_exact : {A : Type 0} {P : List ℕ → A → Type 0} {item : Reader A} → Exact P Any item → Exact (Vector P) Any (list_at item)

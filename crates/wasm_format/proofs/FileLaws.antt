@@ -95,7 +95,7 @@ pub rules_of : (p : Parts) → agrees p ≡ true → Rules p
 unfolding agrees
 rules_of p h =
     let b = both_true (length p.func_types == length p.codes) (counted p p.data_count) h in
-    record { functions = eqb-true (length p.func_types) (length p.codes) b.0; counted = counted_of p p.data_count b.1; }
+    record { functions = eqb-true (length p.func_types) (length p.codes) b.0; counted = counted_of p p.data_count b.1 }
 
 pub of_rules : (p : Parts) → Rules p → agrees p ≡ true
 unfolding agrees
@@ -180,6 +180,6 @@ none_is (Err e) h = cc
 
 pub no_fault : (many : Bool) (bytes : List ℕ) → IsBytes bytes → (read_fault bytes many ≡ None) ↔ ((m : Module) × Spells bytes m many × Within bytes many)
 no_fault many bytes small = (
-    λ h. let r = none_is (read_at many bytes) h in let t = tree_found many bytes small r.0 r.1 in (r.0, t.0, t.1),
-    λ t. ap fault_of (tree_read many bytes t.0 t.1 t.2),
-  )
+  λ h. let r = none_is (read_at many bytes) h in let t = tree_found many bytes small r.0 r.1 in (r.0, t.0, t.1),
+  λ t. ap fault_of (tree_read many bytes t.0 t.1 t.2),
+)

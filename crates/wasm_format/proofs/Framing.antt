@@ -84,9 +84,9 @@ pub framed_sound : (bytes : List ℕ) (ss : List Section) → IsBytes bytes → 
 unfolding framed_at
 framed_sound bytes ss small e = ⊎_elim
     (λ h.
-      let head = same_is _ _ h in
-      let r = numbered_ok _ ss (sym (with_header bytes head) ∙ e) in
-      (header, drop 8 bytes, refl, frames_sound (length bytes) 0 0 (drop 8 bytes) ss (bytes_drop 8 bytes small) r, header_split bytes head))
+    let head = same_is _ _ h in
+    let r = numbered_ok _ ss (sym (with_header bytes head) ∙ e) in
+    (header, drop 8 bytes, refl, frames_sound (length bytes) 0 0 (drop 8 bytes) ss (bytes_drop 8 bytes small) r, header_split bytes head))
     (λ h. absurd (let bad = sym (pick_other (same_list (take 8 bytes) header) (numbered (frames_at (length bytes) 0 0 (drop 8 bytes))) (Err NotModule) h) ∙ e in cc))
     (two (same_list (take 8 bytes) header))
 
@@ -94,13 +94,13 @@ pub framed_fault : (bytes : List ℕ) (e : ReadFault) → IsBytes bytes → fram
 unfolding framed_at
 framed_fault bytes e small k = ⊎_elim
     (λ h.
-      let head = same_is _ _ h in
-      let r = numbered_err _ e (sym (with_header bytes head) ∙ k) in
-      let b = bad_sound (length bytes) 0 0 r.0 (drop 8 bytes) (shorter 8 bytes) (bytes_drop 8 bytes small) r.1 in
-      let same : b.0 ≡ r.0 = omega (arith, b.1) in
-      inr (r.0, r.2, subst (FirstBad bytes) same (header, drop 8 bytes, refl, b.2, header_split bytes head)))
+    let head = same_is _ _ h in
+    let r = numbered_err _ e (sym (with_header bytes head) ∙ k) in
+    let b = bad_sound (length bytes) 0 0 r.0 (drop 8 bytes) (shorter 8 bytes) (bytes_drop 8 bytes small) r.1 in
+    let same : b.0 ≡ r.0 = omega (arith, b.1) in
+    inr (r.0, r.2, subst (FirstBad bytes) same (header, drop 8 bytes, refl, b.2, header_split bytes head)))
     (λ h.
-      let bad : ◌≡◌ {A = Result (List Section) ReadFault} (Err NotModule) (Err e) = sym (pick_other (same_list (take 8 bytes) header) (numbered (frames_at (length bytes) 0 0 (drop 8 bytes))) (Err NotModule) h) ∙ k in
-      let same : NotModule ≡ e = cc in
-      inl (sym same, λ head. let t = ap (λ z. same_list z header) head ∙ is_same header in absurd (let no_way = sym h ∙ t in cc)))
+    let bad : ◌≡◌ {A = Result (List Section) ReadFault} (Err NotModule) (Err e) = sym (pick_other (same_list (take 8 bytes) header) (numbered (frames_at (length bytes) 0 0 (drop 8 bytes))) (Err NotModule) h) ∙ k in
+    let same : NotModule ≡ e = cc in
+    inl (sym same, λ head. let t = ap (λ z. same_list z header) head ∙ is_same header in absurd (let no_way = sym h ∙ t in cc)))
     (two (same_list (take 8 bytes) header))

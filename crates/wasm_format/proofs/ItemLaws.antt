@@ -142,14 +142,14 @@ group_exact : (sum : ℕ) → Exact SpellsGroup (small_group sum) (local_at sum)
 unfolding local_at
 group_exact sum = record {
   sound = λ bytes g rest small e.
-    let n = bind_ok (u32_at bytes) _ _ e in
-    let one = (u32_exact.sound bytes n.0.0 n.0.1 small n.1).0 in
-    let few = few_locals (50000 - sum) n.0.0 _ _ n.2 in
-    let t = bind_ok (val_at n.0.1) _ _ few.1 in
-    let two = (val_exact.sound n.0.1 t.0.0 t.0.1 (small_rest _ bytes n.0.1 small one) t.1).0 in
-    let p = ok_pair {E = Fault} (record { count = n.0.0; ty = t.0.0 }) g t.0.1 rest t.2 in
-    let both = took_then (λ b. U32 b n.0.0) (λ b. SpellsVal b t.0.0) bytes n.0.1 t.0.1 one two in
-    (subst (Took (λ b. SpellsGroup b g) bytes) p.1 (subst (λ (z : LocalGroup). Took (λ b. SpellsGroup b z) bytes t.0.1) p.0 both), subst (small_group sum) p.0 few.0);
+      let n = bind_ok (u32_at bytes) _ _ e in
+      let one = (u32_exact.sound bytes n.0.0 n.0.1 small n.1).0 in
+      let few = few_locals (50000 - sum) n.0.0 _ _ n.2 in
+      let t = bind_ok (val_at n.0.1) _ _ few.1 in
+      let two = (val_exact.sound n.0.1 t.0.0 t.0.1 (small_rest _ bytes n.0.1 small one) t.1).0 in
+      let p = ok_pair {E = Fault} (record { count = n.0.0; ty = t.0.0 }) g t.0.1 rest t.2 in
+      let both = took_then (λ b. U32 b n.0.0) (λ b. SpellsVal b t.0.0) bytes n.0.1 t.0.1 one two in
+      (subst (Took (λ b. SpellsGroup b g) bytes) p.1 (subst (λ (z : LocalGroup). Took (λ b. SpellsGroup b z) bytes t.0.1) p.0 both), subst (small_group sum) p.0 few.0);
   complete = λ text rest g h k. rw (split _ _ text rest h, u32_exact.complete h.0 (h.1 ++ rest) g.count h.2 tt, le-ltb (50000 - sum) g.count k, val_exact.complete h.1 rest g.ty h.3 tt);
 }
 
@@ -168,11 +168,11 @@ pub locals_exact : Exact (Vector SpellsGroup) SmallLocals locals_at
 unfolding locals_at
 locals_exact = record {
   sound = λ bytes gs rest small e.
-    let n = bind_ok (u32_at bytes) _ _ e in
-    let count = (u32_exact.sound bytes n.0.0 n.0.1 small n.1).0 in
-    let later = each_sound SpellsGroup small_group local_at with_group group_exact n.0.0 0 n.0.1 gs rest (small_rest _ bytes n.0.1 small count) n.2 in
-    let few = along_sum 0 gs (omega arith) later.2 in
-    (took_then (λ b. U32 b (length gs)) _ bytes n.0.1 rest (subst (λ k. Took (λ b. U32 b k) bytes n.0.1) later.1 count) later.0, omega (arith, few));
+      let n = bind_ok (u32_at bytes) _ _ e in
+      let count = (u32_exact.sound bytes n.0.0 n.0.1 small n.1).0 in
+      let later = each_sound SpellsGroup small_group local_at with_group group_exact n.0.0 0 n.0.1 gs rest (small_rest _ bytes n.0.1 small count) n.2 in
+      let few = along_sum 0 gs (omega arith) later.2 in
+      (took_then (λ b. U32 b (length gs)) _ bytes n.0.1 rest (subst (λ k. Took (λ b. U32 b k) bytes n.0.1) later.1 count) later.0, omega (arith, few));
   complete = λ text rest gs h k.
-    rw (split _ _ text rest h, u32_exact.complete h.0 (h.1 ++ rest) (length gs) h.2 tt, each_complete SpellsGroup small_group local_at with_group group_exact gs 0 h.1 rest h.3 (sum_along 0 gs (omega (arith, k))));
+      rw (split _ _ text rest h, u32_exact.complete h.0 (h.1 ++ rest) (length gs) h.2 tt, each_complete SpellsGroup small_group local_at with_group group_exact gs 0 h.1 rest h.3 (sum_along 0 gs (omega (arith, k))));
 }

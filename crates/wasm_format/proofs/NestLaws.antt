@@ -139,8 +139,8 @@ zero_nests (one_if {inner = inner} {ts = ts} {body = body} {is = is} ty a r) h =
 zero_nests (one_if_else {inner = inner} {other = other} {ts = ts} {body = body} {otherwise = otherwise} {is = is} ty a b r) h =
     let rest = plains_right Zero inner (Else ∷ (other ++ End ∷ ts)) h in
     both (memory_zero (If ty body otherwise)) (memory_zero_all is)
-      (zero_if ty body otherwise ∙ both (memory_zero_all body) (memory_zero_all otherwise) (zero_nests a (plains_left Zero inner (Else ∷ (other ++ End ∷ ts)) h)) (zero_nests b (plains_left Zero other (End ∷ ts) rest)))
-      (zero_nests r (plains_right Zero other (End ∷ ts) rest))
+    (zero_if ty body otherwise ∙ both (memory_zero_all body) (memory_zero_all otherwise) (zero_nests a (plains_left Zero inner (Else ∷ (other ++ End ∷ ts)) h)) (zero_nests b (plains_left Zero other (End ∷ ts) rest)))
+    (zero_nests r (plains_right Zero other (End ∷ ts) rest))
 
 pub body_zero : (bytes : List ℕ) (is : List Instr) → SpellsBody false bytes is → memory_zero_all is ≡ true
 unfolding Zero

@@ -41,13 +41,13 @@ module _ {A : Type 0} (P : List ℕ → A → Type 0) (S : A → Type 0) (r : Re
       let w = bind_ok (r bs) _ _ e in
       let t = exact.sound bs w.0.0 w.0.1 small w.1 in
       ⊎_elim
-        (λ h.
-          let none = none_left w.0.1 h.0 in
-          let all : bs ≡ t.0.0 = t.0.2 ∙ ap (λ z. t.0.0 ++ z) none ∙ append-nil t.0.0 in
-          let same : w.0.0 ≡ x = (let k = h.1 in cc) in
-          (subst (P bs) same (subst (λ z. P z w.0.0) (sym all) t.0.1), subst S same t.1))
-        (λ h. absurd (err_ok fault.Malformed _ h.1))
-        (chosen _ _ _ _ w.2)
+      (λ h.
+      let none = none_left w.0.1 h.0 in
+      let all : bs ≡ t.0.0 = t.0.2 ∙ ap (λ z. t.0.0 ++ z) none ∙ append-nil t.0.0 in
+      let same : w.0.0 ≡ x = (let k = h.1 in cc) in
+      (subst (P bs) same (subst (λ z. P z w.0.0) (sym all) t.0.1), subst S same t.1))
+      (λ h. absurd (err_ok fault.Malformed _ h.1))
+      (chosen _ _ _ _ w.2)
 
   whole_complete : (bs : List ℕ) (x : A) → P bs x → S x → whole_at r bs ≡ Ok x
   unfolding whole_at
@@ -67,8 +67,8 @@ pub record Right (spells : List ℕ → Parts → Type 0) (small : List ℕ → 
 
 right_when : {P Q : List ℕ → Parts → Type 0} {S T : List ℕ → Type 0} {r q : List ℕ → Result Parts ReadFault} (test : Bool) → Right P S r → Right Q T q →
     Right (When test P Q) (WhenSmall test S T) (λ c. if test then r c else q c)
-right_when true a b = record { sound = a.sound; complete = a.complete; one = a.one; }
-right_when false a b = record { sound = b.sound; complete = b.complete; one = b.one; }
+right_when true a b = record { sound = a.sound; complete = a.complete; one = a.one }
+right_when false a b = record { sound = b.sound; complete = b.complete; one = b.one }
 
 right_never : (n : ℕ) → Right Never Any (λ c. Err (Malformed n))
 right_never n = record {
@@ -85,9 +85,9 @@ put_ok n make r q e =
 right_put : {A : Type 0} {P : List ℕ → A → Type 0} {S : A → Type 0} {r : Reader A} (n : ℕ) (make : A → Parts) → Exact P S r → Clear P → Right (Made make P) (Limited P S) (λ c. put_at n make (whole_at r c))
 right_put {A} {P} {S} {r} n make exact clear = record {
   sound = λ c q small e.
-    let p = put_ok n make (whole_at r c) q e in
-    let w = whole_sound P S r exact c p.0 small p.1 in
-    ((p.0, w.0, p.2), λ x h. subst S (one_whole P clear c p.0 x w.0 h) w.1);
+      let p = put_ok n make (whole_at r c) q e in
+      let w = whole_sound P S r exact c p.0 small p.1 in
+      ((p.0, w.0, p.2), λ x h. subst S (one_whole P clear c p.0 x w.0 h) w.1);
   complete = λ c q h k. rw (whole_complete P S r exact c h.0 h.1 (k h.0 h.1), h.2);
   one = λ c q t h k. h.2 ∙ ap make (one_whole P clear c h.0 k.0 h.1 k.1) ∙ sym k.2;
 }
@@ -117,10 +117,10 @@ right_custom n p = record {
 right_codes : (many : Bool) (n func : ℕ) (p : Parts) → Right (Made (with_codes p) (Vector (SpellsEntry many))) (Limited (Vector (SpellsEntry many)) (Few 1000000 SmallCode)) (λ c. codes_at many n func c >>= (λ xs. Ok (with_codes p xs)))
 right_codes many n func p = record {
   sound = λ c q small e.
-    let w = bind_ok (codes_at many n func c) _ _ e in
-    let s = codes_sound many n func c w.0 small w.1 in
-    let same : with_codes p w.0 ≡ q = (let k = w.2 in cc) in
-    ((w.0, s.0, sym same), λ x h. subst (Few 1000000 SmallCode) (one_whole _ (vector_clear (entry_clear many)) c w.0 x s.0 h) s.1);
+      let w = bind_ok (codes_at many n func c) _ _ e in
+      let s = codes_sound many n func c w.0 small w.1 in
+      let same : with_codes p w.0 ≡ q = (let k = w.2 in cc) in
+      ((w.0, s.0, sym same), λ x h. subst (Few 1000000 SmallCode) (one_whole _ (vector_clear (entry_clear many)) c w.0 x s.0 h) s.1);
   complete = λ c q h k. rw (codes_complete many n func c h.0 h.1 (k h.0 h.1), h.2);
   one = λ c q t h k. h.2 ∙ ap (with_codes p) (one_whole _ (vector_clear (entry_clear many)) c h.0 k.0 h.1 k.1) ∙ sym k.2;
 }

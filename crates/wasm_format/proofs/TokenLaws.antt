@@ -99,7 +99,6 @@ not_at b k first low high = ne_eqb b k (λ e. ⊎_elim (λ h. omega arith) (λ h
 not_between : (low high b : ℕ) → 64 ≤ low → high < 128 → (b < 64) ⊎ (128 ≤ b) → leb low b && leb b high ≡ false
 not_between low high b le lt first = ⊎_elim (λ h. rw (leb_no low b (omega arith))) (λ h. rw (leb_no b high (omega arith)) (and_no (leb low b))) first
 
-
 -- a byte that is a value type's is none of an index, and is read as one
 val_bytes : (b : ℕ) (t : ValType) → val_code b ≡ Ok t → (b ≡ 0x7F) ⊎ ((b ≡ 0x7E) ⊎ ((b ≡ 0x70) ⊎ (b ≡ 0x6F)))
 unfolding val_code

@@ -26,26 +26,37 @@ nothing = record { types = []; imports = []; func_types = []; tables = []; mems 
 -- the parts p with what a section holds
 abbrev pub with_types : Parts → List FuncType → Parts
 with_types p xs = record p { types = xs }
+
 abbrev pub with_imports : Parts → List Import → Parts
 with_imports p xs = record p { imports = xs }
+
 abbrev pub with_func_types : Parts → List ℕ → Parts
 with_func_types p xs = record p { func_types = xs }
+
 abbrev pub with_tables : Parts → List TableType → Parts
 with_tables p xs = record p { tables = xs }
+
 abbrev pub with_mems : Parts → List Limits → Parts
 with_mems p xs = record p { mems = xs }
+
 abbrev pub with_globals : Parts → List GlobalDef → Parts
 with_globals p xs = record p { globals = xs }
+
 abbrev pub with_exports : Parts → List Export → Parts
 with_exports p xs = record p { exports = xs }
+
 abbrev pub with_start : Parts → ℕ → Parts
 with_start p x = record p { start = Some x }
+
 abbrev pub with_elems : Parts → List ElemSeg → Parts
 with_elems p xs = record p { elems = xs }
+
 abbrev pub with_codes : Parts → List Func → Parts
 with_codes p xs = record p { codes = xs }
+
 abbrev pub with_datas : Parts → List DataSeg → Parts
 with_datas p xs = record p { datas = xs }
+
 abbrev pub with_count : Parts → ℕ → Parts
 with_count p n = record p { data_count = Some n }
 

@@ -8,8 +8,8 @@ mod token;
 
 pub use fault::{Fault, ReadFault};
 pub use laws::{
-    bodies_end_themselves, faults_have_causes, no_fault_where_spelled, one_tree, spelled_bodies_name_memory_zero,
-    spelled_trees_are_bounded,
+    bodies_end_themselves, faults_have_causes, no_fault_where_spelled, one_tree,
+    spelled_bodies_name_memory_zero, spelled_trees_are_bounded,
 };
 pub use parts::Parts;
 pub use token::{Opener, Sequence, Token};

@@ -43,7 +43,11 @@ fn read_func_item(cursor: &mut Cursor<'_>) -> Result<ConstExpr, Fault>
 
 /// So many function indices.
 #[tactic(auto, unfolding(wasm_format::specs::Reading::each_from))]
-fn read_each_func(alloc: Global, cursor: &mut Cursor<'_>, count: u32) -> Result<Items<ConstExpr>, Fault>
+fn read_each_func(
+    alloc: Global,
+    cursor: &mut Cursor<'_>,
+    count: u32,
+) -> Result<Items<ConstExpr>, Fault>
     ensures gives { Gives result cursor.new (each_at func_item_at count cursor.old) }
     ensures shorter { OnOk result (length cursor.new ≤ length cursor.old) }
 {
@@ -82,43 +86,75 @@ impl Spelled for ElemSeg {
             0 => {
                 let offset = ConstExpr::read(alloc, cursor)?;
                 let items = read_funcs(alloc, cursor)?;
-                Ok(ElemSeg { mode: ElemMode::Active { table: 0, offset }, ty: RefType::Func, items })
+                Ok(ElemSeg {
+                    mode: ElemMode::Active { table: 0, offset },
+                    ty: RefType::Func,
+                    items,
+                })
             }
             1 => {
                 let items = read_kind_funcs(alloc, cursor)?;
-                Ok(ElemSeg { mode: ElemMode::Passive, ty: RefType::Func, items })
+                Ok(ElemSeg {
+                    mode: ElemMode::Passive,
+                    ty: RefType::Func,
+                    items,
+                })
             }
             2 => {
                 let table = cursor.u32()?;
                 let offset = ConstExpr::read(alloc, cursor)?;
                 let items = read_kind_funcs(alloc, cursor)?;
-                Ok(ElemSeg { mode: ElemMode::Active { table, offset }, ty: RefType::Func, items })
+                Ok(ElemSeg {
+                    mode: ElemMode::Active { table, offset },
+                    ty: RefType::Func,
+                    items,
+                })
             }
             3 => {
                 let items = read_kind_funcs(alloc, cursor)?;
-                Ok(ElemSeg { mode: ElemMode::Declarative, ty: RefType::Func, items })
+                Ok(ElemSeg {
+                    mode: ElemMode::Declarative,
+                    ty: RefType::Func,
+                    items,
+                })
             }
             4 => {
                 let offset = ConstExpr::read(alloc, cursor)?;
                 let items = read_list(alloc, cursor)?;
-                Ok(ElemSeg { mode: ElemMode::Active { table: 0, offset }, ty: RefType::Func, items })
+                Ok(ElemSeg {
+                    mode: ElemMode::Active { table: 0, offset },
+                    ty: RefType::Func,
+                    items,
+                })
             }
             5 => {
                 let ty = RefType::read(alloc, cursor)?;
                 let items = read_list(alloc, cursor)?;
-                Ok(ElemSeg { mode: ElemMode::Passive, ty, items })
+                Ok(ElemSeg {
+                    mode: ElemMode::Passive,
+                    ty,
+                    items,
+                })
             }
             6 => {
                 let table = cursor.u32()?;
                 let offset = ConstExpr::read(alloc, cursor)?;
                 let ty = RefType::read(alloc, cursor)?;
                 let items = read_list(alloc, cursor)?;
-                Ok(ElemSeg { mode: ElemMode::Active { table, offset }, ty, items })
+                Ok(ElemSeg {
+                    mode: ElemMode::Active { table, offset },
+                    ty,
+                    items,
+                })
             }
             7 => {
                 let ty = RefType::read(alloc, cursor)?;
                 let items = read_list(alloc, cursor)?;
-                Ok(ElemSeg { mode: ElemMode::Declarative, ty, items })
+                Ok(ElemSeg {
+                    mode: ElemMode::Declarative,
+                    ty,
+                    items,
+                })
             }
             _ => Err(Fault::Malformed),
         }
@@ -134,17 +170,26 @@ impl Spelled for DataSeg {
             0 => {
                 let offset = ConstExpr::read(alloc, cursor)?;
                 let bytes = read_bytes(alloc, cursor)?;
-                Ok(DataSeg { mode: DataMode::Active { memory: 0, offset }, bytes })
+                Ok(DataSeg {
+                    mode: DataMode::Active { memory: 0, offset },
+                    bytes,
+                })
             }
             1 => {
                 let bytes = read_bytes(alloc, cursor)?;
-                Ok(DataSeg { mode: DataMode::Passive, bytes })
+                Ok(DataSeg {
+                    mode: DataMode::Passive,
+                    bytes,
+                })
             }
             2 => {
                 let memory = cursor.u32()?;
                 let offset = ConstExpr::read(alloc, cursor)?;
                 let bytes = read_bytes(alloc, cursor)?;
-                Ok(DataSeg { mode: DataMode::Active { memory, offset }, bytes })
+                Ok(DataSeg {
+                    mode: DataMode::Active { memory, offset },
+                    bytes,
+                })
             }
             _ => Err(Fault::Malformed),
         }

@@ -20,16 +20,28 @@ fn read_arg(cursor: &mut Cursor<'_>, many: bool) -> Result<MemArg, Fault>
     let first = cursor.u32()?;
     if !many {
         let offset = cursor.u32()?;
-        return Ok(MemArg { align: first, offset, memory: 0 });
+        return Ok(MemArg {
+            align: first,
+            offset,
+            memory: 0,
+        });
     }
     if first < 64 {
         let offset = cursor.u32()?;
-        return Ok(MemArg { align: first, offset, memory: 0 });
+        return Ok(MemArg {
+            align: first,
+            offset,
+            memory: 0,
+        });
     }
     if first < 128 {
         let memory = cursor.u32()?;
         let offset = cursor.u32()?;
-        return Ok(MemArg { align: first - 64, offset, memory });
+        return Ok(MemArg {
+            align: first - 64,
+            offset,
+            memory,
+        });
     }
     Err(Fault::Malformed)
 }

@@ -69,7 +69,9 @@ pub fn read_block_type(alloc: Global, cursor: &mut Cursor<'_>) -> Result<BlockTy
             let _same = cursor.byte()?;
             Ok(BlockType::Empty)
         }
-        Some(0x7B..=0x7F) | Some(0x6F..=0x70) => Ok(BlockType::Value(ValType::read(alloc, cursor)?)),
+        Some(0x7B..=0x7F) | Some(0x6F..=0x70) => Ok(BlockType::Value(ValType::read(
+            alloc, cursor,
+        )?)),
         Some(_) => {
             let index = cursor.s33()?;
             if index < 0 {

@@ -9,3 +9,5 @@ mod sections;
 pub use file::read;
 pub use wasm_format::ReadFault;
 
+#[cfg(test)]
+mod tests;

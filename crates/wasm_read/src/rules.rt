@@ -22,7 +22,10 @@ fn instr_uses_data(instr: &Instr) -> bool
                 body_uses_data(other.as_slice())
             }
         }
-        Instr::MemoryInit { segment: _, memory: _ } => true,
+        Instr::MemoryInit {
+            segment: _,
+            memory: _,
+        } => true,
         Instr::DataDrop(_) => true,
         _ => false,
     }

@@ -41,7 +41,10 @@ fn imported_funcs(imports: &[Import]) -> u32
     ensures value { result ≡ length (imported_funcs imports.now) }
     ensures few { result ≤ 1000000 }
 {
-    let count = imports.iter().filter_map(|import| import.desc.func()).count();
+    let count = imports
+        .iter()
+        .filter_map(|import| import.desc.func())
+        .count();
     count as u32
 }
 

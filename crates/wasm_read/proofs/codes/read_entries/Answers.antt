@@ -7,7 +7,7 @@ pub returns-in_err-code : goal.returns-in_err-code
 returns-in_err-code c =
     let gone : c.from_residual.result ≡ Err c.in_err-code.field-0.0 = grind arith in
     let l = c.loop-i in
-    record { gives = rw gone (each_stop_in (entry_at c.args.many c.args.section) next_func _ c.args.count l._i l.func l.codes l.cursor _ c.loop-i-test.true c.in_err-code.ensures.gives l.invariant.reads); }
+    record { gives = rw gone (each_stop_in (entry_at c.args.many c.args.section) next_func _ c.args.count l._i l.func l.codes l.cursor _ c.loop-i-test.true c.in_err-code.ensures.gives l.invariant.reads) }
 
 pub loop-i-preserved : goal.loop-i-preserved
 loop-i-preserved c =
