@@ -1,0 +1,15 @@
+pub mod Loops
+pub mod Blocks
+pub mod Exact
+pub mod Framing
+pub mod ItemLaws
+pub mod TokenLaws
+pub mod Leaves
+pub mod BodyLaws
+pub mod NestLaws
+pub mod EntryLaws
+pub mod SectionLaws
+pub mod FileLaws
+pub mod BoundLaws
+pub mod Spoken
+pub mod CauseLaws

@@ -1,0 +1,6 @@
+use Rattle.std.proofs.Common.{◌≡◌}
+use Rattle.wasm_format.proofs.CauseLaws.{cause}
+use Rattle.wasm_format.proofs.laws.faults_have_causes.Goals as goal
+
+pub returns : goal.returns
+returns c = λ bytes many e small h. cause bytes many e small h

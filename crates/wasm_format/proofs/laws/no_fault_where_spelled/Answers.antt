@@ -1,0 +1,6 @@
+use Rattle.std.proofs.Common.{◌≡◌}
+use Rattle.wasm_format.proofs.FileLaws.{no_fault}
+use Rattle.wasm_format.proofs.laws.no_fault_where_spelled.Goals as goal
+
+pub returns : goal.returns
+returns c = λ many bytes small. no_fault many bytes small

@@ -1,0 +1,11 @@
+pub mod Words
+pub mod Values
+pub mod Sections
+pub mod Operations
+pub mod Tokens
+pub mod Bodies
+pub mod Files
+pub mod Reading
+pub mod BodyReading
+pub mod Contents
+pub mod Causes

@@ -1,0 +1,45 @@
+//! What the definitions mean, as contracts of calls that do nothing.
+
+ghost use Rattle.std.specs.Prelude.{◌≡◌, ◌↔◌, ◌++◌, ℕ, List, [], Bool, true, false, None, Some};
+ghost use Rattle.wasm_bytes.specs.Reading.{IsBytes};
+ghost use Rattle.wasm_tree.specs.declared.instr.Instr.{Instr as Tree};
+ghost use Rattle.wasm_tree.specs.declared.module.Module.{Module as ModuleTree};
+ghost use Rattle.wasm_tree.specs.Bounds.{IsBounded};
+ghost use Rattle.wasm_tree.specs.MemoryZero.{memory_zero_funcs};
+ghost use Rattle.wasm_format.specs.declared.fault.ReadFault.{ReadFault as SomeFault};
+ghost use Rattle.wasm_format.specs.Bodies.{SpellsBody};
+ghost use Rattle.wasm_format.specs.Files.{Spells, Within};
+ghost use Rattle.wasm_format.specs.Contents.{read_fault};
+ghost use Rattle.wasm_format.specs.Causes.{Cause};
+
+/// Some bytes spell at most one tree.
+pub fn one_tree()
+    ensures { (many : Bool) (bytes : List ℕ) (m n : ModuleTree) → Spells bytes m many → Spells bytes n many → m ≡ n }
+{}
+
+/// No spelling of a body is a proper prefix of another, and some bytes spell at most one body. (For numbers see
+/// `wasm_bytes::spellings_end_themselves`; of files it is false, since the header alone spells the empty module.)
+pub fn bodies_end_themselves()
+    ensures { (many : Bool) (text more : List ℕ) (is js : List Tree) → SpellsBody many text is → SpellsBody many (text ++ more) js → (more ≡ []) × (is ≡ js) }
+{}
+
+/// A file has no fault exactly where it spells a tree and is within the limits.
+pub fn no_fault_where_spelled()
+    ensures { (many : Bool) (bytes : List ℕ) → IsBytes bytes → (read_fault bytes many ≡ None) ↔ ((m : ModuleTree) × Spells bytes m many × Within bytes many) }
+{}
+
+/// Where the first fault of a file names a section or a function, everything before that place is spelled and within the
+/// limits, and that place is not; a fault of the whole file comes only where all contents are spelled and within them.
+pub fn faults_have_causes()
+    ensures { (bytes : List ℕ) (many : Bool) (e : SomeFault) → IsBytes bytes → read_fault bytes many ≡ Some e → Cause bytes many e }
+{}
+
+/// A tree that is spelled within the limits has so few things of each kind that a u32 names each.
+pub fn spelled_trees_are_bounded()
+    ensures { (many : Bool) (bytes : List ℕ) (m : ModuleTree) → Spells bytes m many → Within bytes many → IsBounded m }
+{}
+
+/// Where memories have no indices, a body names no memory but memory 0.
+pub fn spelled_bodies_name_memory_zero()
+    ensures { (bytes : List ℕ) (m : ModuleTree) → Spells bytes m false → memory_zero_funcs m.funcs ≡ true }
+{}

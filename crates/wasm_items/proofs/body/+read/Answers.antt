@@ -1,0 +1,96 @@
+use Rattle.std.proofs.Common.{◌≡◌, ℕ, ◌<◌, ◌≤◌, ◌-◌, ◌+◌, [], ◌∷◌, ◌++◌, length, Ok, Err, sym, ap, ◌∙◌, arith, append-nil}
+use Rattle.std.proofs.lemmas.Result.{err_from_is_err_and}
+use Rattle.wasm_tree.specs.declared.instr.Instr.{Instr}
+use Rattle.wasm_format.specs.declared.fault.Fault.{Fault}
+use Rattle.wasm_format.specs.BodyReading.{sequence_at, block_at, behind}
+use Rattle.wasm_format.proofs.Loops.{fails_through}
+use Rattle.wasm_format.proofs.Blocks.{behind_none, behind_behind, behind_fails, block_none, block_some, seq_err, seq_end, seq_else, seq_plain, seq_open, seq_open_err}
+use Rattle.wasm_items.proofs.body.+read.Goals as goal
+
+pub read_block-returns-then-deeper-eq0-clause-reads : goal.read_block-returns-then-deeper-eq0-clause-reads
+read_block-returns-then-deeper-eq0-clause-reads t c = λ fuel enough. block_none (sequence_at c.args.many fuel) c.args.deeper c.args.opener c.args.ty c.args.cursor.now (omega arith)
+
+pub read_block-returns-in_err-first-clause-reads : goal.read_block-returns-in_err-first-clause-reads
+read_block-returns-in_err-first-clause-reads t c = λ fuel enough.
+    let gone : c.from_residual.result ≡ Err c.in_err-first.field-0.0 = grind arith in
+    rw (gone, block_some (sequence_at c.args.many fuel) c.args.deeper c.args.opener c.args.ty c.args.cursor.now (omega arith))
+    (fails_through c.in_err-first.field-0.0 _ _ (c.in_err-first.ensures.reads fuel enough))
+
+pub read_block-returns-in_err-other-in-If-clause-reads : goal.read_block-returns-in_err-other-in-If-clause-reads
+read_block-returns-in_err-other-in-If-clause-reads t c = λ fuel enough.
+    let gone : c.from_residual-in_err-other-in-If.result ≡ Err c.in_err-other-in-If.field-0.0 = grind arith in
+    rw (gone, block_some (sequence_at c.args.many fuel) c.args.deeper c.args.opener c.args.ty c.args.cursor.now (omega arith), c.in_ok-first.ensures.reads fuel enough, c.in-If.is, c.if-first.true)
+    (fails_through c.in_err-other-in-If.field-0.0 _ _ (c.in_err-other-in-If.ensures.reads fuel (omega (arith, c.in_ok-first.ensures.shorter))))
+
+pub read_block-returns-then-other-clause-reads : goal.read_block-returns-then-other-clause-reads
+read_block-returns-then-other-clause-reads t c = λ fuel enough.
+    rw (block_some (sequence_at c.args.many fuel) c.args.deeper c.args.opener c.args.ty c.args.cursor.now (omega arith), c.in_ok-first.ensures.reads fuel enough, c.in-If.is, c.if-first.true, c.in_ok-other-in-If.ensures.reads fuel (omega (arith, c.in_ok-first.ensures.shorter)), c.if-other.true)
+
+pub read_block-returns-then-first-clause-reads : goal.read_block-returns-then-first-clause-reads
+read_block-returns-then-first-clause-reads t c = λ fuel enough.
+    rw (block_some (sequence_at c.args.many fuel) c.args.deeper c.args.opener c.args.ty c.args.cursor.now (omega arith), c.in_ok-first.ensures.reads fuel enough, c.in-If.is, c.if-first.true, c.in_ok-other-in-If.ensures.reads fuel (omega (arith, c.in_ok-first.ensures.shorter)), c.if-other.false)
+
+pub read_block-returns-then-first-2-clause-reads : goal.read_block-returns-then-first-2-clause-reads
+read_block-returns-then-first-2-clause-reads t c = λ fuel enough.
+    rw (block_some (sequence_at c.args.many fuel) c.args.deeper c.args.opener c.args.ty c.args.cursor.now (omega arith), c.in_ok-first.ensures.reads fuel enough, c.in-Block.is, c.if-first-2.true)
+
+pub read_block-returns-then-first-3-clause-reads : goal.read_block-returns-then-first-3-clause-reads
+read_block-returns-then-first-3-clause-reads t c = λ fuel enough.
+    rw (block_some (sequence_at c.args.many fuel) c.args.deeper c.args.opener c.args.ty c.args.cursor.now (omega arith), c.in_ok-first.ensures.reads fuel enough, c.in-Loop.is, c.if-first-3.true)
+
+pub read_block-returns-else-first-clause-reads : goal.read_block-returns-else-first-clause-reads
+read_block-returns-else-first-clause-reads t c = λ fuel enough.
+    rw (block_some (sequence_at c.args.many fuel) c.args.deeper c.args.opener c.args.ty c.args.cursor.now (omega arith), c.in_ok-first.ensures.reads fuel enough, c.in-If.is, c.if-first.false, c.new.ensures)
+
+pub read_block-returns-else-first-2-clause-reads : goal.read_block-returns-else-first-2-clause-reads
+read_block-returns-else-first-2-clause-reads t c = λ fuel enough.
+    rw (block_some (sequence_at c.args.many fuel) c.args.deeper c.args.opener c.args.ty c.args.cursor.now (omega arith), c.in_ok-first.ensures.reads fuel enough, c.in-Block.is, c.if-first-2.false)
+
+pub read_block-returns-else-first-3-clause-reads : goal.read_block-returns-else-first-3-clause-reads
+read_block-returns-else-first-3-clause-reads t c = λ fuel enough.
+    rw (block_some (sequence_at c.args.many fuel) c.args.deeper c.args.opener c.args.ty c.args.cursor.now (omega arith), c.in_ok-first.ensures.reads fuel enough, c.in-Loop.is, c.if-first-3.false)
+
+pub read_sequence-tokens-init : goal.read_sequence-tokens-init
+read_sequence-tokens-init t c = (λ n enough. (n, enough, rw c.new-items.ensures (sym (behind_none _))), omega arith)
+
+pub read_sequence-returns-in_err-read_token-clause-reads : goal.read_sequence-returns-in_err-read_token-clause-reads
+read_sequence-returns-in_err-read_token-clause-reads t c = λ fuel enough.
+    let gone : c.from_residual.result ≡ Err c.in_err-read_token.field-0.0 = grind arith in
+    let so = c.tokens.invariant.0 fuel enough in
+    rw (gone, so.2) (behind_fails c.in_err-read_token.field-0.0 c.tokens.items _ (seq_err c.args.many c.args.deeper so.0 c.tokens.cursor c.in_err-read_token.field-0.0 so.1 c.in_err-read_token.ensures.gives))
+
+pub read_sequence-returns-in-End-clause-reads : goal.read_sequence-returns-in-End-clause-reads
+read_sequence-returns-in-End-clause-reads t c = λ fuel enough.
+    let so = c.tokens.invariant.0 fuel enough in
+    so.2 ∙ ap (behind c.tokens.items) (seq_end c.args.many c.args.deeper so.0 c.tokens.cursor _ so.1 (rw c.in-End.is at c.in_ok-read_token.ensures.gives)) ∙ rw append-nil
+
+pub read_sequence-returns-in-Else-clause-reads : goal.read_sequence-returns-in-Else-clause-reads
+read_sequence-returns-in-Else-clause-reads t c = λ fuel enough.
+    let so = c.tokens.invariant.0 fuel enough in
+    so.2 ∙ ap (behind c.tokens.items) (seq_else c.args.many c.args.deeper so.0 c.tokens.cursor _ so.1 (rw c.in-Else.is at c.in_ok-read_token.ensures.gives)) ∙ rw append-nil
+
+pub read_sequence-tokens-preserved-in_ok-keep-in-Plain : goal.read_sequence-tokens-preserved-in_ok-keep-in-Plain
+read_sequence-tokens-preserved-in_ok-keep-in-Plain t c = (
+  λ n enough.
+      let so = c.tokens.invariant.0 n enough in
+      let step = seq_plain c.args.many c.args.deeper so.0 c.tokens.cursor _ c.in-Plain.instr so.1 (rw c.in-Plain.is at c.in_ok-read_token.ensures.gives) c.in_ok-read_token.ensures.shorter in
+      (step.0, step.1, so.2 ∙ ap (behind c.tokens.items) step.2 ∙ behind_behind c.tokens.items (c.in-Plain.instr ∷ []) _ ∙ ap (λ xs. behind xs (sequence_at c.args.many step.0 c.args.deeper c.read_token.new.cursor)) (sym c.in_ok-keep-in-Plain.ensures.ok)),
+  omega (arith, c.in_ok-read_token.ensures.shorter),
+)
+
+pub read_sequence-returns-in_err-read_block-in-Open-clause-reads : goal.read_sequence-returns-in_err-read_block-in-Open-clause-reads
+read_sequence-returns-in_err-read_block-in-Open-clause-reads t c = λ fuel enough.
+    let e = c.in_err-read_block-in-Open.field-0.0 in
+    let gone : c.from_residual-in_err-read_block-in-Open.result ≡ Err c.in_err-read_block-in-Open.field-0.0 = grind arith in
+    let so = c.tokens.invariant.0 fuel enough in
+    rw (gone, so.2) (behind_fails e c.tokens.items _ (seq_open_err c.args.many c.args.deeper so.0 c.tokens.cursor _ c.in-Open.opener c.in-Open.ty e so.1 (rw c.in-Open.is at c.in_ok-read_token.ensures.gives) c.in_ok-read_token.ensures.shorter c.in_err-read_block-in-Open.ensures.reads))
+
+pub read_sequence-tokens-preserved : goal.read_sequence-tokens-preserved
+read_sequence-tokens-preserved t c = (
+  λ n enough.
+      let so = c.tokens.invariant.0 n enough in
+      let i = c.in_ok-read_block-in-Open.field-0 in
+      let step = seq_open c.args.many c.args.deeper so.0 c.tokens.cursor _ _ c.in-Open.opener c.in-Open.ty i so.1 (rw c.in-Open.is at c.in_ok-read_token.ensures.gives) c.in_ok-read_token.ensures.shorter c.in_ok-read_block-in-Open.ensures.reads (omega (arith, c.in_ok-read_block-in-Open.ensures.shorter)) in
+      (step.0, step.1, so.2 ∙ ap (behind c.tokens.items) step.2 ∙ behind_behind c.tokens.items (i ∷ []) _ ∙ ap (λ xs. behind xs (sequence_at c.args.many step.0 c.args.deeper c.read_block.new.cursor)) (sym c.in_ok-keep-in-Open.ensures.ok)),
+  omega (arith, c.in_ok-read_token.ensures.shorter, c.in_ok-read_block-in-Open.ensures.shorter),
+)

@@ -1,0 +1,178 @@
+ghost use Rattle.std.specs.Prelude.{◌≡◌, ◌<◌, ◌≤◌, length, OnOk};
+ghost use Rattle.wasm_format.specs.Reading.{Gives};
+ghost use Rattle.wasm_format.specs.Tokens.{rest_form};
+ghost use Rattle.wasm_format.specs.BodyReading.{arg_at, memory_at, prefixed_at, token_of, token_at};
+
+use crate::operations::{bin_of, load_of, store_of, un_of};
+use crate::types::{read_block_type, read_tag};
+use crate::vectors::{Spelled, read_list};
+use std::alloc::Global;
+use wasm_bytes::Cursor;
+use wasm_format::{Fault, Opener, Token};
+use wasm_tree::{Instr, MemArg, RefType};
+
+/// The rest of a memory argument whose first number is read (WebAssembly Core 2.0, section 5.4.6).
+#[tactic(auto, unfolding(wasm_format::specs::BodyReading::arg_at))]
+fn read_arg(cursor: &mut Cursor<'_>, many: bool) -> Result<MemArg, Fault>
+    ensures gives { Gives result cursor.new (arg_at many cursor.old) }
+    ensures shorter { OnOk result (length cursor.new < length cursor.old) }
+{
+    let first = cursor.u32()?;
+    if !many {
+        let offset = cursor.u32()?;
+        return Ok(MemArg {
+            align: first,
+            offset,
+            memory: 0,
+        });
+    }
+    if first < 64 {
+        let offset = cursor.u32()?;
+        return Ok(MemArg {
+            align: first,
+            offset,
+            memory: 0,
+        });
+    }
+    if first < 128 {
+        let memory = cursor.u32()?;
+        let offset = cursor.u32()?;
+        return Ok(MemArg {
+            align: first - 64,
+            offset,
+            memory,
+        });
+    }
+    Err(Fault::Malformed)
+}
+
+/// A memory: the byte 0, or with several memories an index.
+#[tactic(auto, unfolding(wasm_format::specs::BodyReading::memory_at))]
+fn read_memory(cursor: &mut Cursor<'_>, many: bool) -> Result<u32, Fault>
+    ensures gives { Gives result cursor.new (memory_at many cursor.old) }
+    ensures shorter { OnOk result (length cursor.new < length cursor.old) }
+{
+    if many {
+        Ok(cursor.u32()?)
+    } else {
+        read_tag(cursor, 0)?;
+        Ok(0)
+    }
+}
+
+/// The rest of a token that begins with `FC` (WebAssembly Core 2.0, sections 5.4.5 and 5.4.6).
+#[tactic(auto, unfolding(wasm_format::specs::BodyReading::prefixed_at, wasm_format::specs::BodyReading::simple_of, wasm_format::specs::Tokens::sub_form))]
+fn read_prefixed(cursor: &mut Cursor<'_>, many: bool) -> Result<Token, Fault>
+    ensures gives { Gives result cursor.new (prefixed_at many cursor.old) }
+    ensures shorter { OnOk result (length cursor.new < length cursor.old) }
+{
+    match cursor.u32()? {
+        8 => {
+            let segment = cursor.u32()?;
+            let memory = read_memory(cursor, many)?;
+            Ok(Token::Plain(Instr::MemoryInit { segment, memory }))
+        }
+        9 => Ok(Token::Plain(Instr::DataDrop(cursor.u32()?))),
+        10 => {
+            let to = read_memory(cursor, many)?;
+            let from = read_memory(cursor, many)?;
+            Ok(Token::Plain(Instr::MemoryCopy { to, from }))
+        }
+        11 => Ok(Token::Plain(Instr::MemoryFill(read_memory(cursor, many)?))),
+        12 => {
+            let segment = cursor.u32()?;
+            let table = cursor.u32()?;
+            Ok(Token::Plain(Instr::TableInit { segment, table }))
+        }
+        13 => Ok(Token::Plain(Instr::ElemDrop(cursor.u32()?))),
+        14 => {
+            let to = cursor.u32()?;
+            let from = cursor.u32()?;
+            Ok(Token::Plain(Instr::TableCopy { to, from }))
+        }
+        15 => Ok(Token::Plain(Instr::TableGrow(cursor.u32()?))),
+        16 => Ok(Token::Plain(Instr::TableSize(cursor.u32()?))),
+        17 => Ok(Token::Plain(Instr::TableFill(cursor.u32()?))),
+        0..=7 => Err(Fault::Unsupported),
+        _ => Err(Fault::Malformed),
+    }
+}
+
+/// The rest of a token whose opcode is no operation, load or store (WebAssembly Core 2.0, section 5.4).
+#[tactic(auto, unfolding(wasm_format::specs::BodyReading::simple_of, wasm_format::specs::Tokens::rest_form))]
+fn read_rest(alloc: Global, cursor: &mut Cursor<'_>, many: bool, opcode: u8) -> Result<Token, Fault>
+    ensures gives { Gives result cursor.new (token_of many (rest_form opcode) cursor.old) }
+    ensures shorter { OnOk result (length cursor.new ≤ length cursor.old) }
+{
+    match opcode {
+        0x00 => Ok(Token::Plain(Instr::Unreachable)),
+        0x01 => Ok(Token::Plain(Instr::Nop)),
+        0x02 => Ok(Token::Open(Opener::Block, read_block_type(alloc, cursor)?)),
+        0x03 => Ok(Token::Open(Opener::Loop, read_block_type(alloc, cursor)?)),
+        0x04 => Ok(Token::Open(Opener::If, read_block_type(alloc, cursor)?)),
+        0x05 => Ok(Token::Else),
+        0x0B => Ok(Token::End),
+        0x0C => Ok(Token::Plain(Instr::Br(cursor.u32()?))),
+        0x0D => Ok(Token::Plain(Instr::BrIf(cursor.u32()?))),
+        0x0E => {
+            let labels = read_list(alloc, cursor)?;
+            Ok(Token::Plain(Instr::BrTable(labels, cursor.u32()?)))
+        }
+        0x0F => Ok(Token::Plain(Instr::Return)),
+        0x10 => Ok(Token::Plain(Instr::Call(cursor.u32()?))),
+        0x11 => {
+            let ty = cursor.u32()?;
+            let table = cursor.u32()?;
+            Ok(Token::Plain(Instr::CallIndirect { ty, table }))
+        }
+        0x1A => Ok(Token::Plain(Instr::Drop)),
+        0x1B => Ok(Token::Plain(Instr::Select)),
+        0x1C => Ok(Token::Plain(Instr::SelectTyped(read_list(alloc, cursor)?))),
+        0x20 => Ok(Token::Plain(Instr::LocalGet(cursor.u32()?))),
+        0x21 => Ok(Token::Plain(Instr::LocalSet(cursor.u32()?))),
+        0x22 => Ok(Token::Plain(Instr::LocalTee(cursor.u32()?))),
+        0x23 => Ok(Token::Plain(Instr::GlobalGet(cursor.u32()?))),
+        0x24 => Ok(Token::Plain(Instr::GlobalSet(cursor.u32()?))),
+        0x25 => Ok(Token::Plain(Instr::TableGet(cursor.u32()?))),
+        0x26 => Ok(Token::Plain(Instr::TableSet(cursor.u32()?))),
+        0x3F => Ok(Token::Plain(Instr::MemorySize(read_memory(cursor, many)?))),
+        0x40 => Ok(Token::Plain(Instr::MemoryGrow(read_memory(cursor, many)?))),
+        0x41 => Ok(Token::Plain(Instr::I32Const(cursor.s32()?))),
+        0x42 => Ok(Token::Plain(Instr::I64Const(cursor.s64()?))),
+        0xD0 => Ok(Token::Plain(Instr::RefNull(RefType::read(alloc, cursor)?))),
+        0xD1 => Ok(Token::Plain(Instr::RefIsNull)),
+        0xD2 => Ok(Token::Plain(Instr::RefFunc(cursor.u32()?))),
+        0xFC => read_prefixed(cursor, many),
+        0x2A..=0x2B
+        | 0x38..=0x39
+        | 0x43..=0x44
+        | 0x5B..=0x66
+        | 0x8B..=0xA6
+        | 0xA8..=0xAB
+        | 0xAE..=0xBF
+        | 0xFD => Err(Fault::Unsupported),
+        _ => Err(Fault::Malformed),
+    }
+}
+
+/// An opcode with its immediates (WebAssembly Core 2.0, section 5.4). `many` says that memories have indices.
+#[tactic(auto, unfolding(wasm_format::specs::BodyReading::simple_of, wasm_format::specs::BodyReading::token_at, wasm_format::specs::Tokens::the_form))]
+pub fn read_token(alloc: Global, cursor: &mut Cursor<'_>, many: bool) -> Result<Token, Fault>
+    ensures gives { Gives result cursor.new (token_at many cursor.old) }
+    ensures shorter { OnOk result (length cursor.new < length cursor.old) }
+{
+    let opcode = cursor.byte()?;
+    if let Some(op) = un_of(opcode) {
+        return Ok(Token::Plain(Instr::Un(op)));
+    }
+    if let Some(op) = bin_of(opcode) {
+        return Ok(Token::Plain(Instr::Bin(op)));
+    }
+    if let Some(op) = load_of(opcode) {
+        return Ok(Token::Plain(Instr::Load(op, read_arg(cursor, many)?)));
+    }
+    if let Some(op) = store_of(opcode) {
+        return Ok(Token::Plain(Instr::Store(op, read_arg(cursor, many)?)));
+    }
+    read_rest(alloc, cursor, many, opcode)
+}

@@ -1,0 +1,151 @@
+ghost use Rattle.std.specs.Prelude.{◌≡◌, ◌<◌, length, OnOk};
+ghost use Rattle.wasm_format.specs.Reading.{Gives, u32_at, tag_at, val_at, ref_at, block_type_at, func_type_at, limits_at, table_at, mut_at, global_at};
+
+use crate::vectors::{Spelled, read_vector};
+use std::alloc::Global;
+use wasm_bytes::Cursor;
+use wasm_format::Fault;
+use wasm_tree::{BlockType, FuncType, GlobalType, Limits, RefType, TableType, ValType, Which};
+
+impl Spelled for u32 {
+    ghost reading = { u32_at };
+
+    fn read(_alloc: Global, cursor: &mut Cursor<'_>) -> Result<u32, Fault> {
+        Ok(cursor.u32()?)
+    }
+}
+
+/// The byte must be this one.
+#[tactic(auto, unfolding(wasm_format::specs::Reading::tag_at))]
+pub fn read_tag(cursor: &mut Cursor<'_>, tag: u8) -> Result<(), Fault>
+    ensures gives { Gives result cursor.new (tag_at tag cursor.old) }
+    ensures shorter { OnOk result (length cursor.new < length cursor.old) }
+{
+    if cursor.byte()? == tag {
+        Ok(())
+    } else {
+        Err(Fault::Malformed)
+    }
+}
+
+impl Spelled for ValType {
+    ghost reading = { val_at };
+
+    #[tactic(auto, unfolding(wasm_format::specs::Reading::val_at, wasm_format::specs::Values::val_code))]
+    fn read(_alloc: Global, cursor: &mut Cursor<'_>) -> Result<ValType, Fault> {
+        match cursor.byte()? {
+            0x7F => Ok(ValType::I32),
+            0x7E => Ok(ValType::I64),
+            0x70 => Ok(ValType::Ref(RefType::Func)),
+            0x6F => Ok(ValType::Ref(RefType::Extern)),
+            0x7B..=0x7D => Err(Fault::Unsupported),
+            _ => Err(Fault::Malformed),
+        }
+    }
+}
+
+impl Spelled for RefType {
+    ghost reading = { ref_at };
+
+    #[tactic(auto, unfolding(wasm_format::specs::Reading::ref_at, wasm_format::specs::Values::ref_code))]
+    fn read(_alloc: Global, cursor: &mut Cursor<'_>) -> Result<RefType, Fault> {
+        match cursor.byte()? {
+            0x70 => Ok(RefType::Func),
+            0x6F => Ok(RefType::Extern),
+            _ => Err(Fault::Malformed),
+        }
+    }
+}
+
+/// A block type (WebAssembly Core 2.0, section 5.4.1).
+#[tactic(auto, unfolding(wasm_format::specs::Reading::block_type_at))]
+pub fn read_block_type(alloc: Global, cursor: &mut Cursor<'_>) -> Result<BlockType, Fault>
+    ensures gives { Gives result cursor.new (block_type_at cursor.old) }
+    ensures shorter { OnOk result (length cursor.new < length cursor.old) }
+{
+    match cursor.peek() {
+        None => Err(Fault::Malformed),
+        Some(0x40) => {
+            let _same = cursor.byte()?;
+            Ok(BlockType::Empty)
+        }
+        Some(0x7B..=0x7F) | Some(0x6F..=0x70) => Ok(BlockType::Value(ValType::read(
+            alloc, cursor,
+        )?)),
+        Some(_) => {
+            let index = cursor.s33()?;
+            if index < 0 {
+                Err(Fault::Malformed)
+            } else {
+                Ok(BlockType::Index(index as u32))
+            }
+        }
+    }
+}
+
+impl Spelled for FuncType {
+    ghost reading = { func_type_at };
+
+    #[tactic(auto, unfolding(wasm_format::specs::Reading::func_type_at))]
+    fn read(alloc: Global, cursor: &mut Cursor<'_>) -> Result<FuncType, Fault> {
+        read_tag(cursor, 0x60)?;
+        let params = read_vector(alloc, cursor, Which::Parameters, 1000)?;
+        let results = read_vector(alloc, cursor, Which::Results, 1000)?;
+        Ok(FuncType { params, results })
+    }
+}
+
+impl Spelled for Limits {
+    ghost reading = { limits_at };
+
+    #[tactic(auto, unfolding(wasm_format::specs::Reading::limits_at))]
+    fn read(_alloc: Global, cursor: &mut Cursor<'_>) -> Result<Limits, Fault> {
+        match cursor.byte()? {
+            0x00 => {
+                let min = cursor.u32()?;
+                Ok(Limits { min, max: None })
+            }
+            0x01 => {
+                let min = cursor.u32()?;
+                let max = Some(cursor.u32()?);
+                Ok(Limits { min, max })
+            }
+            _ => Err(Fault::Malformed),
+        }
+    }
+}
+
+impl Spelled for TableType {
+    ghost reading = { table_at };
+
+    #[tactic(auto, unfolding(wasm_format::specs::Reading::table_at))]
+    fn read(alloc: Global, cursor: &mut Cursor<'_>) -> Result<TableType, Fault> {
+        let ty = RefType::read(alloc, cursor)?;
+        let limits = Limits::read(alloc, cursor)?;
+        Ok(TableType { ty, limits })
+    }
+}
+
+/// A global's mutability (WebAssembly Core 2.0, section 5.3.10).
+#[tactic(auto, unfolding(wasm_format::specs::Reading::mut_at, wasm_format::specs::Values::mut_code))]
+fn read_mutable(cursor: &mut Cursor<'_>) -> Result<bool, Fault>
+    ensures gives { Gives result cursor.new (mut_at cursor.old) }
+    ensures shorter { OnOk result (length cursor.new < length cursor.old) }
+{
+    match cursor.byte()? {
+        0x00 => Ok(false),
+        0x01 => Ok(true),
+        _ => Err(Fault::Malformed),
+    }
+}
+
+impl Spelled for GlobalType {
+    ghost reading = { global_at };
+
+    #[tactic(auto, unfolding(wasm_format::specs::Reading::global_at))]
+    fn read(alloc: Global, cursor: &mut Cursor<'_>) -> Result<GlobalType, Fault> {
+        let ty = ValType::read(alloc, cursor)?;
+        let mutable = read_mutable(cursor)?;
+        Ok(GlobalType { ty, mutable })
+    }
+}

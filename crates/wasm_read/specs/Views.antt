@@ -1,0 +1,10 @@
+-- What the frames of a file are to the reader.
+use Rattle.std.specs.Prelude.{◌≡◌, ℕ, List, Result, Ok, Err}
+use Rattle.wasm_bytes.specs.declared.framing.Frame.{Frame as Place}
+use Rattle.wasm_bytes.specs.FrameViews.{framed_all}
+use Rattle.wasm_format.specs.declared.fault.ReadFault.{ReadFault}
+use Rattle.wasm_format.specs.Contents.{Fails, framed_at}
+
+abbrev pub GivesFramed : List ℕ → Result (List Place) ReadFault → Type 0
+GivesFramed bytes (Ok fs) = framed_at bytes ≡ Ok (framed_all bytes fs)
+GivesFramed bytes (Err e) = Fails e (framed_at bytes)

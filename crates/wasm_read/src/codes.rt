@@ -1,0 +1,100 @@
+ghost use Rattle.std.specs.Prelude.{◌≡◌, ◌<◌, ◌≤◌, ◌+◌, ◌^◌, length, OnOk, IfOk};
+ghost use Rattle.wasm_format.specs.Reading.{each_from};
+ghost use Rattle.wasm_format.specs.Contents.{placed, Gives, GivesAll, entry_at, next_func, codes_at};
+
+use std::alloc::Global;
+use wasm_bytes::{Cursor, Items};
+use wasm_format::{Fault, ReadFault};
+use wasm_items::{read_code, read_sized};
+use wasm_tree::{Func, Which};
+
+/// The fault of a section, or of a function's entry in it.
+pub fn place(section: u32, func: Option<u32>, fault: Fault) -> ReadFault
+    ensures { result ≡ placed section func fault }
+{
+    match fault {
+        Fault::NoMemory => ReadFault::NoMemory,
+        Fault::Malformed => match func {
+            None => ReadFault::Malformed { section },
+            Some(func) => ReadFault::MalformedBody { func },
+        },
+        Fault::Unsupported => ReadFault::Unsupported { section, func },
+        Fault::Limit { which } => ReadFault::Limit { which },
+    }
+}
+
+/// A code entry, with its size (WebAssembly Core 2.0, section 5.5.13).
+#[tactic(auto, unfolding(wasm_format::specs::Contents::entry_at))]
+fn read_entry(
+    alloc: Global,
+    cursor: &mut Cursor<'_>,
+    many: bool,
+    section: u32,
+    func: u32,
+) -> Result<Func, ReadFault>
+    ensures gives { Gives result cursor.new (entry_at many section func cursor.old) }
+{
+    let content = match read_sized(cursor) {
+        Ok(content) => content,
+        Err(fault) => return Err(place(section, None, fault)),
+    };
+    match read_code(alloc, content, many) {
+        Ok(code) => Ok(code),
+        Err(fault) => Err(place(section, Some(func), fault)),
+    }
+}
+
+/// So many code entries, the first of which is that function.
+#[tactic(auto, unfolding(wasm_format::specs::Reading::each_from))]
+fn read_entries(
+    alloc: Global,
+    cursor: &mut Cursor<'_>,
+    many: bool,
+    section: u32,
+    count: u32,
+    first: u32,
+) -> Result<Items<Func>, ReadFault>
+    requires { first + count < 2 ^ 32 }
+    ensures gives { Gives result cursor.new (each_from (entry_at many section) next_func count first cursor.old) }
+{
+    let mut codes = Items::new(alloc);
+    let mut func = first;
+    for _i in 0..count {
+        let code = read_entry(alloc, cursor, many, section, func)?;
+        match codes.keep(code) {
+            Ok(()) => (),
+            Err(_) => return Err(ReadFault::NoMemory),
+        }
+        func += 1;
+    }
+    Ok(codes)
+}
+
+/// The code section (WebAssembly Core 2.0, section 5.5.13), whose first entry is that function.
+#[tactic(auto, unfolding(wasm_format::specs::Contents::codes_at))]
+pub fn read_codes(
+    alloc: Global,
+    content: &[u8],
+    many: bool,
+    section: u32,
+    first: u32,
+) -> Result<Items<Func>, ReadFault>
+    requires { first ≤ 1000000 }
+    ensures { GivesAll result (codes_at many section first content.now) }
+{
+    let mut cursor = Cursor::new(content);
+    let count = match cursor.u32() {
+        Ok(count) => count,
+        Err(_) => return Err(ReadFault::Malformed { section }),
+    };
+    if count > 1_000_000 {
+        return Err(ReadFault::Limit {
+            which: Which::Functions,
+        });
+    }
+    let codes = read_entries(alloc, &mut cursor, many, section, count, first)?;
+    if cursor.left() != 0 {
+        return Err(ReadFault::Malformed { section });
+    }
+    Ok(codes)
+}

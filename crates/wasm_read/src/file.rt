@@ -1,0 +1,129 @@
+ghost use Rattle.std.specs.Prelude.{◌≡◌, ◌<◌, ◌≤◌, ◌+◌, ◌^◌, ◌⊎◌, length, IfOk, IfErr, IsTrue, Ok, Err, Some, false};
+ghost use Rattle.wasm_bytes.specs.Reading.{IsBytes};
+ghost use Rattle.wasm_bytes.specs.FrameViews.{Inside, framed, framed_all};
+ghost use Rattle.wasm_tree.specs.declared.module.Module.{Module as ModuleTree};
+ghost use Rattle.wasm_tree.specs.Bounds.{IsBounded};
+ghost use Rattle.wasm_tree.specs.MemoryZero.{memory_zero_funcs};
+ghost use Rattle.wasm_format.specs.declared.fault.ReadFault.{ReadFault as SomeFault};
+ghost use Rattle.wasm_format.specs.Files.{nothing, tree_of, Spells, Within};
+ghost use Rattle.wasm_format.specs.Contents.{GivesAll, contents_at, read_at, read_fault};
+ghost use Rattle.wasm_read.specs.Views.{GivesFramed};
+
+use crate::rules::{agree, set_types};
+use crate::sections::read_section;
+use std::alloc::Global;
+use wasm_bytes::{Frame, FrameFault, Items, frames};
+use wasm_format::{Parts, ReadFault};
+use wasm_tree::Module;
+
+/// The frames of the file, or the fault where they have one.
+fn frame_list(alloc: Global, bytes: &[u8]) -> Result<Items<Frame>, ReadFault>
+    requires { length bytes.now < 2 ^ 32 }
+    ensures gives { GivesFramed bytes.now result }
+    ensures inside { IfOk result (λ fs. Inside bytes.now fs) }
+    ensures bytes { IsBytes bytes.now }
+{
+    match frames(alloc, bytes) {
+        Ok(all) => Ok(all),
+        Err(FrameFault::NotModule) => Err(ReadFault::NotModule),
+        Err(FrameFault::BadFrame { section }) => Err(ReadFault::Malformed { section }),
+        Err(FrameFault::NoMemory) => Err(ReadFault::NoMemory),
+    }
+}
+
+fn content_of(bytes: &[u8], frame: Frame) -> &[u8]
+    requires { frame.start + frame.len ≤ length bytes.now }
+    ensures { (frame.id, result.now) ≡ framed bytes.now frame }
+{
+    &bytes[frame.start..frame.start + frame.len]
+}
+
+fn no_parts(alloc: Global) -> Parts
+    ensures { result ≡ nothing }
+{
+    Parts {
+        types: Items::new(alloc),
+        imports: Items::new(alloc),
+        func_types: Items::new(alloc),
+        tables: Items::new(alloc),
+        mems: Items::new(alloc),
+        globals: Items::new(alloc),
+        exports: Items::new(alloc),
+        start: None,
+        elems: Items::new(alloc),
+        codes: Items::new(alloc),
+        datas: Items::new(alloc),
+        data_count: None,
+    }
+}
+
+/// What the frames hold, or the first fault inside one.
+fn read_contents(alloc: Global, bytes: &[u8], many: bool, all: &[Frame]) -> Result<Parts, ReadFault>
+    requires inside { Inside bytes.now all.now }
+    requires small { length bytes.now < 2 ^ 32 }
+    ensures { GivesAll result (contents_at many 0 nothing (framed_all bytes.now all.now)) }
+{
+    let mut parts = no_parts(alloc);
+    let mut section = 0u32;
+    for frame in all {
+        let content = content_of(bytes, *frame);
+        read_section(alloc, many, section, &mut parts, frame.id, content)?;
+        section += 1;
+    }
+    Ok(parts)
+}
+
+/// The tree of parts that agree.
+fn tree(parts: Parts) -> Module
+    requires { length parts.func_types ≡ length parts.codes }
+    ensures { result ≡ tree_of parts }
+{
+    let mut funcs = parts.codes;
+    set_types(&mut funcs, parts.func_types.as_slice());
+    Module {
+        types: parts.types,
+        imports: parts.imports,
+        funcs,
+        tables: parts.tables,
+        mems: parts.mems,
+        globals: parts.globals,
+        exports: parts.exports,
+        start: parts.start,
+        elems: parts.elems,
+        datas: parts.datas,
+    }
+}
+
+/// The tree of the file, or its first fault. `many` says that memories have indices in bodies.
+#[tactic(auto, unfolding(wasm_format::specs::Contents::parts_at, wasm_format::specs::Contents::read_at))]
+fn read_file(alloc: Global, bytes: &[u8], many: bool) -> Result<Module, ReadFault>
+    requires { length bytes.now < 2 ^ 32 }
+    ensures gives { GivesAll result (read_at many bytes.now) }
+    ensures bytes { IsBytes bytes.now }
+{
+    let all = frame_list(alloc, bytes)?;
+    let count = all.len() as u32;
+    let parts = read_contents(alloc, bytes, many, all.as_slice())?;
+    if !agree(&parts) {
+        return Err(ReadFault::Malformed { section: count });
+    }
+    Ok(tree(parts))
+}
+
+/// The tree that a module file spells (WebAssembly Core 2.0, chapter 5), within the limits on counts, nesting and locals.
+///
+/// Unless memory runs out it is answered exactly where the bytes spell a tree within the limits, and otherwise the first fault
+/// of the file: `NotModule`, then the first bad frame, then the first fault in the sections' contents, in the order of the
+/// file, and last the rules on the whole file. A tree that is answered is bounded, so that a u32 names each thing in it, and
+/// its bodies name no memory but memory 0.
+pub fn read(alloc: Global, bytes: &[u8]) -> Result<Module, ReadFault>
+    requires { length bytes.now < 2 ^ 32 }
+    ensures found { IfOk result (λ m. Spells bytes.now m false × Within bytes.now false) }
+    ensures only { (m : ModuleTree) → Spells bytes.now m false → Within bytes.now false → (result ≡ Ok m) ⊎ (result ≡ Err ReadFault.NoMemory) }
+    ensures fault { IfErr result (λ e. (e ≡ ReadFault.NoMemory) ⊎ (read_fault bytes.now false ≡ Some e)) }
+    ensures first { (e : SomeFault) → read_fault bytes.now false ≡ Some e → (result ≡ Err e) ⊎ (result ≡ Err ReadFault.NoMemory) }
+    ensures bounded { IfOk result (λ m. IsBounded m) }
+    ensures memory { IfOk result (λ m. IsTrue (memory_zero_funcs m.funcs)) }
+{
+    read_file(alloc, bytes, false)
+}
