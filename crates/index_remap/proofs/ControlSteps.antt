@@ -47,13 +47,15 @@ module _ (R : Pairing) (ev ew : Env) (st : StoreRel R ev.store ew.store) where
   resume_rel : {h k : Body} {vs ws : List Val} {c d : List Instr} {ls ms : List Level} → BodyRel R ev.inst ew.inst h k → ListRel (ValRel R) vs ws → CodeRel R ev.inst ew.inst c d → ListRel (LevelRel R ev.inst ew.inst) ls ms → ResRel (ActRel R ev.inst ew.inst) (resume h vs c ls) (resume k ws d ms)
   resume_rel r v c nil = finish_rel r v
   resume_rel r v c (cons l ls) =
-      go_rel R ev ew st (record { locals = r.locals; values = append_rel v l.values; rest = followed_rel c l.code; takes = l.takes; back = l.back; outer = ls })
+      go_rel R ev ew st (record { locals = r.locals; values = append_rel v l.values; rest = followed_rel c l.code; gives = l.gives; takes = l.takes; back = l.back; outer = ls })
 
   pub end_level_rel : {h k : Body} → BodyRel R ev.inst ew.inst h k → ResRel (ActRel R ev.inst ew.inst) (end_level h) (end_level k)
-  end_level_rel r = resume_rel r r.values end r.outer
+  end_level_rel {h} {k} r =
+      subst (λ n. ResRel (ActRel R ev.inst ew.inst) (end_level h) (bind (split_at n k.values) (λ p. resume k p.0 [] k.outer))) r.gives
+        (bind_rel (split_rel h.gives r.values) (λ _ _ p. resume_rel r p.first end r.outer))
 
   level_rel : {h k : Body} → BodyRel R ev.inst ew.inst h k → LevelRel R ev.inst ew.inst (level_here h) (level_here k)
-  level_rel r = record { values = r.values; code = r.rest; takes = r.takes; back = r.back }
+  level_rel r = record { values = r.values; code = r.rest; gives = r.gives; takes = r.takes; back = r.back }
 
   pub branch_rel : {h k : Body} (n : ℕ) → BodyRel R ev.inst ew.inst h k → ResRel (ActRel R ev.inst ew.inst) (branch h n) (branch k n)
   branch_rel n r =
@@ -72,12 +74,12 @@ module _ (R : Pairing) (ev ew : Env) (st : StoreRel R ev.store ew.store) where
   shape_rel value = refl
   shape_rel (indexed e) = e
 
-  open_level_rel : {h k : Body} {vs ws : List Val} {c d back again : List Instr} (params takes : ℕ) → BodyRel R ev.inst ew.inst h k → ListRel (ValRel R) vs ws → CodeRel R ev.inst ew.inst c d → CodeRel R ev.inst ew.inst back again → ResRel (ActRel R ev.inst ew.inst) (open_level h vs params takes c back) (open_level k ws params takes d again)
-  open_level_rel params takes r v c b =
-      bind_rel (split_rel params v) (λ _ _ p. go_rel R ev ew st (record { locals = r.locals; values = p.first; rest = c; takes = refl; back = b; outer = cons (level_rel (values_rel R ev ew st r p.second)) r.outer }))
+  open_level_rel : {h k : Body} {vs ws : List Val} {c d back again : List Instr} (params gives takes : ℕ) → BodyRel R ev.inst ew.inst h k → ListRel (ValRel R) vs ws → CodeRel R ev.inst ew.inst c d → CodeRel R ev.inst ew.inst back again → ResRel (ActRel R ev.inst ew.inst) (open_level h vs params gives takes c back) (open_level k ws params gives takes d again)
+  open_level_rel params gives takes r v c b =
+      bind_rel (split_rel params v) (λ _ _ p. go_rel R ev ew st (record { locals = r.locals; values = p.first; rest = c; gives = refl; takes = refl; back = b; outer = cons (level_rel (values_rel R ev ew st r p.second)) r.outer }))
 
   open_block_rel : {h k : Body} {vs ws : List Val} (b e : BlockType) {c d : List Instr} → BodyRel R ev.inst ew.inst h k → ListRel (ValRel R) vs ws → BlockRel ev.inst ew.inst b e → CodeRel R ev.inst ew.inst c d → ResRel (ActRel R ev.inst ew.inst) (open_block ev h vs b c) (open_block ew k ws e d)
-  open_block_rel b e r v p c = bind_eq (shape_rel p) (λ t. open_level_rel (length t.params) (length t.results) r v c end)
+  open_block_rel b e r v p c = bind_eq (shape_rel p) (λ t. open_level_rel (length t.params) (length t.results) (length t.results) r v c end)
 
   pub open_here_rel : {h k : Body} (b e : BlockType) {c d : List Instr} → BodyRel R ev.inst ew.inst h k → BlockRel ev.inst ew.inst b e → CodeRel R ev.inst ew.inst c d → ResRel (ActRel R ev.inst ew.inst) (open_block ev h h.values b c) (open_block ew k k.values e d)
   open_here_rel b e r p c = open_block_rel b e r r.values p c
@@ -87,7 +89,7 @@ module _ (R : Pairing) (ev ew : Env) (st : StoreRel R ev.store ew.store) where
   again_rel b e c d p q = then (rw (outs-Loop b c, outs-Loop e d) (Related.loop p q)) end
 
   pub open_loop_rel : {h k : Body} (b e : BlockType) (c d : List Instr) → BodyRel R ev.inst ew.inst h k → BlockRel ev.inst ew.inst b e → CodeRel R ev.inst ew.inst c d → ResRel (ActRel R ev.inst ew.inst) (open_loop ev h b c) (open_loop ew k e d)
-  open_loop_rel b e c d r p q = bind_eq (shape_rel p) (λ t. open_level_rel (length t.params) (length t.params) r r.values q (again_rel b e c d p q))
+  open_loop_rel b e c d r p q = bind_eq (shape_rel p) (λ t. open_level_rel (length t.params) (length t.results) (length t.params) r r.values q (again_rel b e c d p q))
 
   pub open_if_rel : {h k : Body} (b e : BlockType) (c d f g : List Instr) → BodyRel R ev.inst ew.inst h k → BlockRel ev.inst ew.inst b e → CodeRel R ev.inst ew.inst c d → CodeRel R ev.inst ew.inst f g → ResRel (ActRel R ev.inst ew.inst) (open_if ev h b c f) (open_if ew k e d g)
   open_if_rel {h} {k} b e c d f g r p q s = bind_num R W32 _ _ r.values (λ n _ _ v. open_block_rel b e r v p (cond_two (CodeRel R ev.inst ew.inst) (nat_eq n 0) s q))

@@ -144,7 +144,7 @@ module _ (R : Pairing) (apart : OneToOne R) (B C : Store → Store → List Entr
   after_rel h (done (asked {p = p} {u = u} v s e)) = showing_rel (Asked p u) h s e v
   after_rel h (done (asked_grow (memory_grows p) s e)) = record { event = refl; run = state_rel h s e }
   after_rel h (done (asked_grow (table_grows p v) s e)) = record { event = refl; run = state_rel h s e }
-  after_rel h (done (loads v s e)) = trapped_rel h (stacks.marks h.entries)
+  after_rel h (done (loads v s e)) = trapped_rel (state_rel h s e) (stacks.marks e)
   after_rel h (done (returned v s e)) = showing_rel Returned h s e v
 
   -- ---- moves ----

@@ -65,12 +65,12 @@ module _ (R : Pairing) (ev ew : Env) (st : StoreRel R ev.store ew.store) where
 
   step_code_rel : {h k : Body} {c d : List Instr} → BodyRel R ev.inst ew.inst h k → CodeRel R ev.inst ew.inst c d → ((a : ℕ) → named_call ev.inst c ≡ Gives a → ¬ R.replaced a) → NextKnown R ev.inst ew.inst c d → ResRel (ActRel R ev.inst ew.inst) (step_code ev h c) (step_code ew k d)
   step_code_rel r end f u = end_level_rel R ev ew st r
-  step_code_rel r (then o c) f u = exec_rel (record { locals = r.locals; values = r.values; rest = c; takes = r.takes; back = r.back; outer = r.outer }) (u o)
+  step_code_rel r (then o c) f u = exec_rel (record { locals = r.locals; values = r.values; rest = c; gives = r.gives; takes = r.takes; back = r.back; outer = r.outer }) (u o)
   step_code_rel r (instead {a = a} x p e l c) f u = absurd (f a (ap (call_of ev.inst) p ∙ e) l)
 
   pub step_levels_rel : {vs ws : List Val} {ls ms : List Level} → ListRel (ValRel R) vs ws → ListRel (LevelRel R ev.inst ew.inst) ls ms → ((a : ℕ) → top_call ev.inst ls ≡ Gives a → ¬ R.replaced a) → TopKnown R ev.inst ew.inst ls ms → ResRel (ActRel R ev.inst ew.inst) (step_levels ev vs ls) (step_levels ew ws ms)
   step_levels_rel v nil free u = wrong
-  step_levels_rel v (cons l ls) free u = step_code_rel (record { locals = v; values = l.values; rest = end; takes = l.takes; back = l.back; outer = ls }) l.code free u
+  step_levels_rel v (cons l ls) free u = step_code_rel (record { locals = v; values = l.values; rest = end; gives = l.gives; takes = l.takes; back = l.back; outer = ls }) l.code free u
 
 module _ (R : Pairing) (apart : OneToOne R) where
   pub act_rel : {s t : Store} {f g : Frame} → StoreRel R s t → FrameRel R f g → ((a : ℕ) → top_call f.inst f.levels ≡ Gives a → ¬ R.replaced a) → TopKnown R f.inst g.inst f.levels g.levels → ResRel (ActRel R f.inst g.inst) (act s f) (act t g)
@@ -130,13 +130,13 @@ module _ (R : Pairing) (apart : OneToOne R) where
   }
 
   pub frame_rel : {f g : Frame} {h k : Body} → FrameRel R f g → BodyRel R f.inst g.inst h k → FrameRel R (frame_of f h) (frame_of g k)
-  frame_rel f r = record { locals = r.locals; results = f.results; levels = cons (record { values = r.values; code = r.rest; takes = r.takes; back = r.back }) r.outer }
+  frame_rel f r = record { locals = r.locals; results = f.results; levels = cons (record { values = r.values; code = r.rest; gives = r.gives; takes = r.takes; back = r.back }) r.outer }
 
   pub left_rel : {i j : _} {h k : Body} {vs ws : List Val} → BodyRel R i j h k → ListRel (ValRel R) vs ws → BodyRel R i j (with_values h vs) (with_values k ws)
-  left_rel r v = record { locals = r.locals; values = v; rest = r.rest; takes = r.takes; back = r.back; outer = r.outer }
+  left_rel r v = record { locals = r.locals; values = v; rest = r.rest; gives = r.gives; takes = r.takes; back = r.back; outer = r.outer }
 
   pub frame_given : {f g : Frame} {l m : Level} {ls ms : List Level} {vs ws : List Val} → FrameRel R f g → LevelRel R f.inst g.inst l m → ListRel (LevelRel R f.inst g.inst) ls ms → ListRel (ValRel R) vs ws → FrameRel R (record f { levels = record l { values = onto vs l.values } ∷ ls }) (record g { levels = record m { values = onto ws m.values } ∷ ms })
-  frame_given f l ls v = record { locals = f.locals; results = f.results; levels = cons (record { values = onto_rel v l.values; code = l.code; takes = l.takes; back = l.back }) ls }
+  frame_given f l ls v = record { locals = f.locals; results = f.results; levels = cons (record { values = onto_rel v l.values; code = l.code; gives = l.gives; takes = l.takes; back = l.back }) ls }
 
   -- what is known of the entry on top, where C relates what stands below
   pub data TopView (C : Store → Store → List Entry → List Entry → Type 0) (s t : Store) : List Entry → List Entry → Type 0 where
@@ -163,7 +163,7 @@ module _ (R : Pairing) (apart : OneToOne R) where
   module _ (B C : Store → Store → List Entry → List Entry → Type 0) (steady : (s t : Store) (es fs : List Entry) → C s t es fs → B s t es fs) (push : (s t : Store) (e f : Entry) (es fs : List Entry) → EntryRel R e f → C s t es fs → B s t (e ∷ es) (f ∷ fs)) where
     pub enter_rel : {s t : Store} {f g : Func} {vs ws : List Val} {es fs : List Entry} → StoreRel R s t → FuncRel R f g → ListRel (ValRel R) vs ws → C s t es fs → NextRel R B (enter s f vs es) (enter t g ws fs)
     enter_rel s (defined {ls = ls} c) v e =
-        ran s (push _ _ _ _ _ _ (Related.running (record { locals = append_rel v (zeros_rel R ls); results = refl; levels = cons (record { values = nil; code = c; takes = refl; back = end }) nil })) e)
+        ran s (push _ _ _ _ _ _ (Related.running (record { locals = append_rel v (zeros_rel R ls); results = refl; levels = cons (record { values = nil; code = c; gives = refl; takes = refl; back = end }) nil })) e)
     enter_rel s own v e = asked v s (push _ _ _ _ _ _ waiting e)
     enter_rel s slot v e = loads v s (steady _ _ _ _ e)
 

@@ -125,7 +125,7 @@ module _ (R : Pairing) (ev ew : Env) (st : StoreRel R ev.store ew.store) where
   go_rel r = done (goes keep r)
 
   pub values_rel : {h k : Body} {vs ws : List Val} → BodyRel R ev.inst ew.inst h k → ListRel (ValRel R) vs ws → BodyRel R ev.inst ew.inst (with_values h vs) (with_values k ws)
-  values_rel r v = record { locals = r.locals; values = v; rest = r.rest; takes = r.takes; back = r.back; outer = r.outer }
+  values_rel r v = record { locals = r.locals; values = v; rest = r.rest; gives = r.gives; takes = r.takes; back = r.back; outer = r.outer }
 
   pub on_values_rel : {h k : Body} (f : List Val → Outcome (List Val)) → BodyRel R ev.inst ew.inst h k → ResRel (ListRel (ValRel R)) (f h.values) (f k.values) → ResRel (ActRel R ev.inst ew.inst) (on_values h f) (on_values k f)
   on_values_rel f r v = bind_rel v (λ _ _ v. go_rel (values_rel r v))
@@ -141,7 +141,7 @@ module _ (R : Pairing) (ev ew : Env) (st : StoreRel R ev.store ew.store) where
   local_put_rel : {h k : Body} {v w : Val} (i : ℕ) → BodyRel R ev.inst ew.inst h k → ValRel R v w → ResRel (ActRel R ev.inst ew.inst) (local_put h i v) (local_put k i w)
   local_put_rel i r q =
       bind_rel (at_rel r.locals i) (λ a b old. rw (type_rel R old) (bind_rel (typed_rel R (type_of b) q) (λ _ _ new.
-      go_rel (record { locals = put_rel r.locals i new; values = r.values; rest = r.rest; takes = r.takes; back = r.back; outer = r.outer }))))
+      go_rel (record { locals = put_rel r.locals i new; values = r.values; rest = r.rest; gives = r.gives; takes = r.takes; back = r.back; outer = r.outer }))))
 
   pub local_set_rel : {h k : Body} (i : ℕ) → BodyRel R ev.inst ew.inst h k → ResRel (ActRel R ev.inst ew.inst) (local_set h i) (local_set k i)
   local_set_rel i r = bind_rel (pop_rel R r.values) (λ _ _ p. local_put_rel i (values_rel r p.second) p.first)

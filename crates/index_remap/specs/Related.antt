@@ -173,6 +173,7 @@ pub record StoreRel (R : Pairing) (s t : Store) : Type 0 where
 pub record LevelRel (R : Pairing) (i j : Inst) (l m : Level) : Type 0 where
   pub values : ListRel (ValRel R) l.values m.values
   pub code : CodeRel R i j l.code m.code
+  pub gives : l.gives ≡ m.gives
   pub takes : l.takes ≡ m.takes
   pub back : CodeRel R i j l.back m.back
 
@@ -197,6 +198,7 @@ pub record BodyRel (R : Pairing) (i j : Inst) (h k : Body) : Type 0 where
   pub locals : ListRel (ValRel R) h.locals k.locals
   pub values : ListRel (ValRel R) h.values k.values
   pub rest : CodeRel R i j h.rest k.rest
+  pub gives : h.gives ≡ k.gives
   pub takes : h.takes ≡ k.takes
   pub back : CodeRel R i j h.back k.back
   pub outer : ListRel (LevelRel R i j) h.outer k.outer

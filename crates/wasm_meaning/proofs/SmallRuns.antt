@@ -454,6 +454,10 @@ imports_without_an_end : events (record { parts = record { name = Some a; «modu
 unfolding out-Instr denote.Hole.Carrier.out wrapped un_from un_to un_value bin_from bin_to bin_value load_to load_width loaded store_from stored
 imports_without_an_end = refl
 
+own_entities_stay_after_a_link_fault : events calling (record { pair = (e, m); funcs = []; table = None; memory = None; global = Some (record { ty = record { ty = i32; mutable = true }; value = Number 3 }) } ∷ []) (Get (GlobalOf (e, m)) 0 ∷ (Set (GlobalOf (e, m)) 0 (Number 4) ∷ (Get (GlobalOf (e, m)) 0 ∷ []))) 25 ≡ LinkFault ∷ (Got (Number 3) ∷ (Done ∷ (Got (Number 4) ∷ [])))
+unfolding out-Instr denote.Hole.Carrier.out wrapped un_from un_to un_value bin_from bin_to bin_value load_to load_width loaded store_from stored
+own_entities_stay_after_a_link_fault = refl
+
 a_memory_of_the_right_size : events (plain (record (gives (num 1 ∷ [])) { imports = record { «module» = e; field = m; desc = im.Memory (record { min = 0; max = Some 3 }) } ∷ [] })) (record { pair = (e, m); funcs = []; table = None; memory = Some (record { limits = record { min = 0; max = Some 3 }; pages = 0; bytes = [] }); global = None } ∷ []) (Call f [] ∷ (Size (MemoryOf (e, m)) ∷ (Get (MemoryOf (e, m)) 0 ∷ []))) 25 ≡ Linked ∷ (Returned (Number 1 ∷ []) ∷ (Got (Number 0) ∷ (BadMove ∷ [])))
 unfolding out-Instr denote.Hole.Carrier.out wrapped un_from un_to un_value bin_from bin_to bin_value load_to load_width loaded store_from stored
 a_memory_of_the_right_size = refl

@@ -54,16 +54,17 @@ call_indirect env h ty table = with_table env table (λ a t. call_slot env h ty 
 abbrev pub finish : Body → List Val → Outcome Act
 finish h vs = Gives (Ends vs)
 
--- these values and this code go on in the level outside
+-- these values and this code go on in the level outside, or the frame ends with them
 abbrev pub resume : Body → List Val → List Instr → List Level → Outcome Act
 resume h vs c [] = finish h vs
-resume h vs c (l ∷ ls) = Gives (go (record h { values = vs ++ l.values; rest = c ++ l.code; takes = l.takes; back = l.back; outer = ls }))
+resume h vs c (l ∷ ls) = Gives (go (record h { values = vs ++ l.values; rest = c ++ l.code; gives = l.gives; takes = l.takes; back = l.back; outer = ls }))
 
+-- a level ends with as many values as it gives, which are on top
 abbrev pub end_level : Body → Outcome Act
-end_level h = resume h h.values [] h.outer
+end_level h = bind (split_at h.gives h.values) (λ p. resume h p.0 [] h.outer)
 
 abbrev pub level_here : Body → Level
-level_here h = record { values = h.values; code = h.rest; takes = h.takes; back = h.back }
+level_here h = record { values = h.values; code = h.rest; gives = h.gives; takes = h.takes; back = h.back }
 
 abbrev pub branch : Body → ℕ → Outcome Act
 branch h n = bind (at (level_here h ∷ h.outer) n) (λ t. bind (split_at t.takes h.values) (λ p. resume h p.0 t.back (past h.outer n)))
@@ -81,15 +82,16 @@ shape_of i bt.Empty = Gives (record { params = []; results = [] })
 shape_of i (bt.Value t) = Gives (record { params = []; results = t ∷ [] })
 shape_of i (bt.Index n) = at i.types n
 
-abbrev pub open_level : Body → List Val → (params takes : ℕ) → (body back : List Instr) → Outcome Act
-open_level h vs params takes body back =
-    bind (split_at params vs) (λ p. Gives (go (record h { values = p.0; rest = body; takes = takes; back = back; outer = level_here (with_values h p.1) ∷ h.outer })))
+-- a level is opened with so many of the values; it gives so many at its end, and a branch to it takes so many and begins this code
+abbrev pub open_level : Body → List Val → (params gives takes : ℕ) → (body back : List Instr) → Outcome Act
+open_level h vs params gives takes body back =
+    bind (split_at params vs) (λ p. Gives (go (record h { values = p.0; rest = body; gives = gives; takes = takes; back = back; outer = level_here (with_values h p.1) ∷ h.outer })))
 
 abbrev pub open_block : Env → Body → List Val → BlockType → List Instr → Outcome Act
-open_block env h vs b body = bind (shape_of env.inst b) (λ t. open_level h vs (length t.params) (length t.results) body [])
+open_block env h vs b body = bind (shape_of env.inst b) (λ t. open_level h vs (length t.params) (length t.results) (length t.results) body [])
 
 abbrev pub open_loop : Env → Body → BlockType → List Instr → Outcome Act
-open_loop env h b body = bind (shape_of env.inst b) (λ t. open_level h h.values (length t.params) (length t.params) body (i.Loop b body ∷ []))
+open_loop env h b body = bind (shape_of env.inst b) (λ t. open_level h h.values (length t.params) (length t.results) (length t.params) body (i.Loop b body ∷ []))
 
 abbrev pub open_if : Env → Body → BlockType → (body other : List Instr) → Outcome Act
 open_if env h b body other = bind (pop_num W32 h.values) (λ p. open_block env h p.1 b (cond (nat_eq p.0 0) other body))

@@ -13,7 +13,7 @@ bind Traps f = Traps
 bind IllTyped f = IllTyped
 bind (Gives a) f = f a
 
--- what is missing there is a trap of the rules
+-- what is missing there is a trap of the rules: a place past the end, say
 abbrev pub trapping : {A : Type 0} → Outcome A → Outcome A
 trapping (Gives a) = Gives a
 trapping Traps = Traps
@@ -52,17 +52,17 @@ past xs zero = xs
 past [] (suc n) = []
 past (x ∷ xs) (suc n) = past xs n
 
--- the first n, and what comes after them; none where there are fewer
+-- the first n, and what comes after them; ill typed where there are fewer
 abbrev pub split_at : {A : Type 0} → ℕ → List A → Outcome (List A × List A)
 split_at zero xs = Gives ([], xs)
 split_at (suc n) [] = IllTyped
 split_at (suc n) (x ∷ xs) = bind (split_at n xs) (λ p. Gives (x ∷ p.0, p.1))
 
--- n elements from a place on; none where the range passes the end
+-- n elements from a place on; ill typed where the range passes the end
 abbrev pub slice : {A : Type 0} → List A → (place n : ℕ) → Outcome (List A)
 slice xs place n = bind (split_at place xs) (λ p. bind (split_at n p.1) (λ q. Gives q.0))
 
--- the list with others from a place on; none where the range passes the end
+-- the list with others from a place on; ill typed where the range passes the end
 abbrev pub overwrite : {A : Type 0} → List A → (place : ℕ) → List A → Outcome (List A)
 overwrite xs place ys = bind (split_at place xs) (λ p. bind (split_at (length ys) p.1) (λ q. Gives (p.0 ++ (ys ++ q.1))))
 

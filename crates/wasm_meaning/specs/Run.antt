@@ -12,8 +12,8 @@ use Rattle.wasm_meaning.specs.Tables.{table_may_grow}
 use Rattle.wasm_meaning.specs.Control.{type_at, own_at}
 use Rattle.wasm_meaning.specs.Step.{give, enter_at, step, to_mark, changed}
 use Rattle.wasm_meaning.specs.Linking.{same_text, Kind, Tables, Memories}
-use Rattle.wasm_meaning.specs.Environment.{Environment, is_environment, Shown, Number, Null, OwnFunc, ExternNumber, Function, Thing, FuncAt, TableAt, MemoryAt, GlobalAt, OwnKey, TableKey, MemoryKey, GlobalKey, Owned, owned_at, look_up, func_of, received, received_ref, received_all}
-use Rattle.wasm_meaning.specs.World.{World, Begun, instantiate}
+use Rattle.wasm_meaning.specs.Environment.{Environment, is_environment, owned_of, Shown, Number, Null, OwnFunc, ExternNumber, Function, Thing, FuncAt, TableAt, MemoryAt, GlobalAt, OwnKey, TableKey, MemoryKey, GlobalKey, Owned, owned_at, look_up, func_of, received, received_ref, received_all}
+use Rattle.wasm_meaning.specs.World.{World, Begun, own_store, instantiate}
 
 -- ---- what is seen and done ----
 
@@ -137,7 +137,7 @@ abbrev pub after : Run → Outcome Next → Out
 after r (Gives (Ran s es)) = (record r { store = s; entries = es }, None)
 after r (Gives (CallsOwn pair ty vs s es)) = showing r s es vs (Asked pair ty)
 after r (Gives (WaitsGrowth g size count s es)) = (record r { store = s; entries = es }, Some (GrowAsked (kind_of_growth g) size count))
-after r (Gives (CallsPlaceholder slot vs s es)) = trapped_to r (to_mark r.entries)
+after r (Gives (CallsPlaceholder slot vs s es)) = trapped_to (record r { store = s; entries = es }) (to_mark es)
 after r (Gives (EndsCall vs s es)) = showing r s es vs Returned
 after r Traps = trapped_to r (to_mark r.entries)
 after r IllTyped = trapped_to r (to_mark r.entries)
@@ -335,22 +335,22 @@ state_after t s (suc n) = state_after t (t s).0 n
 abbrev pub IsPrefix : {E : Type 0} → List E → List E → Type 0
 IsPrefix {E} xs ys = (rest : List E) × (xs ++ rest ≡ ys)
 
--- a run that is about to enter what was instantiated
-abbrev pub fresh_run : Option Begun → List Move → Run
-fresh_run b moves =
+-- a run that is about to enter what was instantiated; the environment's own entities are there also where nothing is
+abbrev pub fresh_run : Environment → Option Begun → List Move → Run
+fresh_run env b moves =
     record {
-      store = record { funcs = []; tables = []; mems = []; globals = []; elems = []; datas = [] };
+      store = own_store env;
       entries = [];
       phase = Fresh b;
       shown = [];
       view = [];
-      owned = [];
+      owned = owned_of env;
       moves = moves;
     }
 
 -- the events of the first n steps of a world in an environment, whose embedder makes these moves
 abbrev pub events : World → Environment → List Move → ℕ → List Event
-events w env moves n = events_of tick (fresh_run (instantiate env w) moves) n
+events w env moves n = events_of tick (fresh_run env (instantiate env w) moves) n
 
 -- In each environment of those named, by each list of moves, whatever is seen of the one in n steps is seen of the other in f n, and the other way round in g n.
 abbrev pub Same : (Environment → Type 0) → World → World → (ℕ → ℕ) → (ℕ → ℕ) → Type 0

@@ -78,13 +78,14 @@ pub record Store : Type 0 where
   pub elems : List Elem
   pub datas : List Data
 
--- ---- the configuration (sections 4.2.12 and 4.2.13) ----
+-- ---- the configuration (sections 4.2.14 and 4.2.15) ----
 
--- a body, block, loop or if that was entered: the values on its stack, the last first; what is left of its code; how many values a branch to it takes;
--- and the code that such a branch begins again, which is the loop itself or nothing
+-- a body, block, loop or if that was entered: the values on its stack, the last first; what is left of its code; how many values it gives at its end;
+-- how many a branch to it takes; and the code that such a branch begins again, which is the loop itself or nothing
 pub record Level : Type 0 where
   pub values : List Val
   pub code : List Instr
+  pub gives : ℕ
   pub takes : ℕ
   pub back : List Instr
 
@@ -132,6 +133,7 @@ pub record Body : Type 0 where
   pub locals : List Val
   pub values : List Val
   pub rest : List Instr
+  pub gives : ℕ
   pub takes : ℕ
   pub back : List Instr
   pub outer : List Level

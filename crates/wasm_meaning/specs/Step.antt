@@ -10,7 +10,7 @@ use Rattle.wasm_meaning.specs.Memory.{load, store, memory_size, memory_grow, mem
 use Rattle.wasm_meaning.specs.Tables.{table_get, table_set, table_size, table_grow, table_fill, table_copy, table_init, elem_drop}
 use Rattle.wasm_meaning.specs.Control.{type_at, call, call_indirect, finish, end_level, branch, branch_if, branch_table, open_block, open_loop, open_if}
 
--- what an instruction does; none is a trap
+-- what an instruction does
 abbrev pub exec : Instr-F Instr → Env → Body → Outcome Act
 exec Instr-F.Unreachable env h = Traps
 exec Instr-F.Nop env h = Gives (go h)
@@ -62,15 +62,15 @@ step_code env h (i ∷ is) = exec (out-Instr i) env (record h { rest = is })
 abbrev pub step_levels : Env → List Val → List Level → Outcome Act
 step_levels env locals [] = IllTyped
 step_levels env locals (l ∷ ls) =
-    step_code env (record { locals = locals; values = l.values; rest = []; takes = l.takes; back = l.back; outer = ls }) l.code
+    step_code env (record { locals = locals; values = l.values; rest = []; gives = l.gives; takes = l.takes; back = l.back; outer = ls }) l.code
 
--- what the top frame does; none is a trap
+-- what the top frame does: its next instruction, or the end of its innermost level
 abbrev pub act : Store → Frame → Outcome Act
 act s f = step_levels (record { store = s; inst = f.inst }) f.locals f.levels
 
 -- the frame put together again
 abbrev pub frame_of : Frame → Body → Frame
-frame_of f h = record f { locals = h.locals; levels = record { values = h.values; code = h.rest; takes = h.takes; back = h.back } ∷ h.outer }
+frame_of f h = record f { locals = h.locals; levels = record { values = h.values; code = h.rest; gives = h.gives; takes = h.takes; back = h.back } ∷ h.outer }
 
 -- values go to a frame that waits for them
 abbrev pub give_levels : Store → List Val → Frame → List Level → List Entry → Outcome Next
@@ -87,7 +87,7 @@ give s vs _ = IllTyped
 -- a function begins, over what waits for it
 abbrev pub enter : Store → Func → List Val → List Entry → Next
 enter s (Code t i ls c) args es =
-    Ran s (Running (record { inst = i; locals = args ++ zeros ls; results = t.results; levels = record { values = []; code = c; takes = length t.results; back = [] } ∷ [] }) ∷ es)
+    Ran s (Running (record { inst = i; locals = args ++ zeros ls; results = t.results; levels = record { values = []; code = c; gives = length t.results; takes = length t.results; back = [] } ∷ [] }) ∷ es)
 enter s (Own p t) args es = CallsOwn p t args s (Waiting t.results ∷ es)
 enter s (Placeholder n t) args es = CallsPlaceholder n args s es
 
@@ -116,7 +116,7 @@ perform s f es (Calls a vs h) = bind (type_at s a) (λ t. bind (pop_typed t.para
 perform s f es (AsksGrow g m n h) = Gives (WaitsGrowth g m n s (Growing g ∷ Running (frame_of f h) ∷ es))
 perform s f es (Ends vs) = bind (pop_typed f.results vs) (λ p. give s p.0 es)
 
--- one small step of the frame on top; none is a trap
+-- one small step of the frame on top
 abbrev pub step : Store → List Entry → Outcome Next
 step s (Running f ∷ es) = bind (act s f) (perform s f es)
 step s _ = IllTyped

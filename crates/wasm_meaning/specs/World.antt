@@ -165,7 +165,7 @@ ref_value env parts insts p expr = then_some (value_of env parts insts p expr) (
 abbrev pub number_value : Environment → List Part → List Inst → ℕ → ConstExpr → Option ℕ
 number_value env parts insts p expr = then_some (value_of env parts insts p expr) (λ v. given (num_of W32 v))
 
--- ---- allocation ----
+-- ---- allocation (section 4.5.3) ----
 
 abbrev pub new_func : Inst → tree.Func → Option Func
 new_func i f = then_some (place i.types f.ty) (λ t. Some (Code t i (declared f.locals) f.body))
@@ -210,7 +210,7 @@ stores_from env all insts s p (part ∷ parts) (i ∷ is) =
     then_some (part_store env all insts p part.«module» i) (λ t. stores_from env all insts (joined_stores s t) (suc p) parts is)
 stores_from env all insts s p _ _ = Some s
 
--- ---- matching (section 4.5.3) ----
+-- ---- matching (sections 4.5.1 and 4.5.4) ----
 
 abbrev pub same_bool : Bool → Bool → Bool
 same_bool true b = b
@@ -352,7 +352,8 @@ seen_as insts v = then_some (place insts v.1.part) (λ i. then_some (address_in 
 abbrev pub begun : Environment → World → List Inst → List (Text × Thing) → Filled → Begun
 begun env w insts view filled = record { store = filled.store; trapped = filled.trapped; starts = starts_of w.parts insts; view = view; owned = owned_of env }
 
--- none where an import does not match or a constant read has no end
+-- None where an import does not match or a constant read has no end, also one of a segment's offset or items. (It is none as well where an index names nothing or an
+-- item is no reference, which no valid module has.)
 abbrev pub instantiate : Environment → World → Option Begun
 instantiate env w =
     then_some (insts_from env w.parts 0 w.parts) (λ insts. then_some (stores_from env w.parts insts (own_store env) 0 w.parts insts) (λ s. then_some (all_there (seen_as insts) w.view) (λ view.
