@@ -1,15 +1,12 @@
 -- A step leaves alone what it does not touch.
-use Rattle.std.proofs.Common.{◌≡◌, ℕ, zero, suc, List, [], ◌∷◌, ◌++◌, refl, sym, ap, subst, ◌∙◌}
-use Rattle.wasm_tree.specs.declared.types.FuncType.{FuncType}
-use Rattle.wasm_meaning.specs.Outcomes.{Outcome, Gives, Traps, IllTyped, bind}
-use Rattle.wasm_meaning.specs.State.{Val, Func, Store, Frame, Entry, Running, Caller, Host, Starter, Mark, Opening, Waiting, Ended, Growing, Body, Act, Ends, Next}
+use Rattle.std.proofs.Common.{◌≡◌, ℕ, List, ◌∷◌, ◌++◌, refl, sym, ap, subst}
+use Rattle.wasm_meaning.specs.Outcomes.{Outcome, bind}
+use Rattle.wasm_meaning.specs.State.{Val, Store, Frame, Entry, Act, Ends}
 use Rattle.wasm_meaning.specs.Values.{pop_typed}
-use Rattle.wasm_meaning.specs.Control.{type_at}
 use Rattle.wasm_meaning.specs.Step.{enter_at, give, act, perform, step, to_mark}
-use Rattle.index_remap.specs.Related
-use Rattle.index_remap.specs.Related.{Kind, Funcs, Pairing, OneToOne, ResRel, done, trap, wrong, ListRel, nil, cons, ValRel, StoreRel, FrameRel, EntryRel, running, mark, opening, waiting, ended, growing, ActRel, goes, calls, asks_grow, ends, NextRel, ran, asked_grow, returned, NotListed, Skips, TopSkips, TopKnown}
-use Rattle.index_remap.specs.Laws.{Above, NeedsBelow, Touches, EntriesKnown, HasMark, here, at_start, below, MarksAgree}
-use Rattle.index_remap.proofs.Rel.{there, same_there, bind_rel, bind_eq, PairRel}
+use Rattle.index_remap.specs.Related.{Funcs, Pairing, OneToOne, ResRel, done, trap, wrong, ListRel, nil, cons, ValRel, StoreRel, FrameRel, EntryRel, running, mark, opening, waiting, ended, growing, ActRel, goes, calls, asks_grow, ends, NextRel, ran, asked_grow, returned, NotListed, TopSkips}
+use Rattle.index_remap.specs.Laws.{Above, NeedsBelow, Touches, EntriesKnown, HasMark, below, MarksAgree}
+use Rattle.index_remap.proofs.Rel.{there, same_there, bind_rel, bind_eq}
 use Rattle.index_remap.proofs.ValueSteps.{pop_typed_rel}
 use Rattle.index_remap.proofs.StepsAgree.{frame_rel, left_rel, enter_rel, give_levels_rel, changed_rel, act_rel}
 
@@ -50,7 +47,7 @@ module _ (R : Pairing) (apart : OneToOne R) (cs ds : List Entry) where
   ends_rel s p v nil needs = absurd needs
   ends_rel {s = s1} {t = t1} {f = f} {vs = vs} {ws = ws} s p v (cons {a = x} {b = y} {xs = es} {ys = fs} e r) needs =
       subst (λ ts. ResRel (NextRel R Both) (bind (pop_typed f.results vs) (λ q. give s1 q.0 (x ∷ (es ++ cs)))) (bind (pop_typed ts ws) (λ q. give t1 q.0 (y ∷ (fs ++ ds))))) p.results
-        (bind_rel (pop_typed_rel R f.results v) (λ _ _ q. give_rel s q.first e r))
+      (bind_rel (pop_typed_rel R f.results v) (λ _ _ q. give_rel s q.first e r))
 
   perform_free : {s t : Store} {f g : Frame} {x y : Act} {es fs : List Entry} → StoreRel R s t → FrameRel R f g → ActRel R f.inst g.inst x y → ListRel (EntryRel R) es fs → NotListed R x → NeedsBelow es x →
       ResRel (NextRel R Both) (perform s f (es ++ cs) x) (perform t g (fs ++ ds) y)

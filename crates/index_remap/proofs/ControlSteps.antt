@@ -1,22 +1,19 @@
 -- Calls, ends, branches and blocks agree.
-use Rattle.std.proofs.Common.{◌≡◌, ℕ, List, [], ◌∷◌, ◌++◌, length, Option, Some, None, Bool, true, false, cond, refl, sym, ap, subst, ◌∙◌, append_assoc}
+use Rattle.std.proofs.Common.{◌≡◌, ℕ, List, [], ◌∷◌, ◌++◌, length, refl, sym, subst, append_assoc}
 use Rattle.std.specs.Prelude.{nat_eq}
 use Rattle.wasm_tree.specs.declared.types.BlockType.{BlockType}
-use Rattle.wasm_tree.specs.declared.instr.Instr.{Instr, out-Instr}
-use Rattle.wasm_tree.specs.declared.instr.Instr.TheOpen.{Instr-F}
+use Rattle.wasm_tree.specs.declared.instr.Instr.{Instr}
 use Rattle.wasm_tree.specs.declared.instr.Instr.TheVariants as i
 use Rattle.wasm_tree.specs.declared.instr.Instr.TheVariants.{outs-Loop}
-use Rattle.wasm_meaning.specs.Outcomes.{Outcome, Gives, Traps, IllTyped, trapping, or_trap, or_other, bind, at, past, split_at}
+use Rattle.wasm_meaning.specs.Outcomes.{or_other, bind, at, split_at}
 use Rattle.wasm_num.specs.Operations.{W32}
-use Rattle.wasm_tree.specs.declared.types.FuncType.{FuncType}
-use Rattle.wasm_meaning.specs.State.{RefVal, FuncRef, ExternRef, Val, Inst, Func, Table, Store, Level, Frame, Env, Body, Act, Calls, Ends}
-use Rattle.wasm_meaning.specs.Values.{same_func_type, pop_num, pop_typed, go, with_values}
-use Rattle.wasm_meaning.specs.Tables.{with_table}
-use Rattle.wasm_meaning.specs.Control.{type_at, call_address, call, func_ref, call_checked, call_slot, call_indirect, finish, resume, end_level, level_here, branch, branch_if, branch_table, shape_of, open_level, open_block, open_loop, open_if}
+use Rattle.wasm_meaning.specs.State.{RefVal, Val, Inst, Level, Env, Body}
+use Rattle.wasm_meaning.specs.Values.{same_func_type}
+use Rattle.wasm_meaning.specs.Control.{call, func_ref, call_indirect, finish, resume, end_level, level_here, branch, branch_if, branch_table, shape_of, open_level, open_block, open_loop, open_if}
 use Rattle.index_remap.specs.Related
 use Rattle.index_remap.specs.Related.{Kind, Funcs, Tables, Pairing, OptRel, none, some, ResRel, done, trap, wrong, ListRel, nil, cons, RefRel, func, extern, ValRel, Names, StoreRel, SameType, BlockRel, empty, value, indexed, OpRel, CodeRel, end, then, instead, TableRel, LevelRel, BodyRel, ActRel, goes, calls, ends}
-use Rattle.index_remap.proofs.Rel.{there, same_there, bind_rel, bind_same, bind_eq, cond_rel, cond_two, PairRel, at_rel, append_rel, past_rel, split_rel, trapping_rel, or_trap_rel}
-use Rattle.index_remap.proofs.ValueSteps.{bind_num, pop_typed_rel, go_rel, values_rel}
+use Rattle.index_remap.proofs.Rel.{same_there, bind_rel, bind_eq, cond_rel, cond_two, at_rel, append_rel, past_rel, split_rel, trapping_rel, or_trap_rel}
+use Rattle.index_remap.proofs.ValueSteps.{bind_num, go_rel, values_rel}
 use Rattle.index_remap.proofs.TableSteps.{bind_table}
 
 pub followed_rel : {R : Pairing} {i j : Inst} {c d e f : List Instr} → CodeRel R i j c d → CodeRel R i j e f → CodeRel R i j (c ++ e) (d ++ f)
@@ -52,7 +49,7 @@ module _ (R : Pairing) (ev ew : Env) (st : StoreRel R ev.store ew.store) where
   pub end_level_rel : {h k : Body} → BodyRel R ev.inst ew.inst h k → ResRel (ActRel R ev.inst ew.inst) (end_level h) (end_level k)
   end_level_rel {h} {k} r =
       subst (λ n. ResRel (ActRel R ev.inst ew.inst) (end_level h) (bind (split_at n k.values) (λ p. resume k p.0 [] k.outer))) r.gives
-        (bind_rel (split_rel h.gives r.values) (λ _ _ p. resume_rel r p.first end r.outer))
+      (bind_rel (split_rel h.gives r.values) (λ _ _ p. resume_rel r p.first end r.outer))
 
   level_rel : {h k : Body} → BodyRel R ev.inst ew.inst h k → LevelRel R ev.inst ew.inst (level_here h) (level_here k)
   level_rel r = record { values = r.values; code = r.rest; gives = r.gives; takes = r.takes; back = r.back }

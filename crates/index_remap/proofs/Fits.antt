@@ -1,5 +1,5 @@
 -- What holds of a whole list holds of each item.
-use Rattle.std.proofs.Common.{◌≡◌, ℕ, zero, suc, ◌+◌, ◌<◌, ◌≤◌, List, [], ◌∷◌, ◌++◌, map, take, length, get_or, Bool, true, false, ◌&&◌, IsTrue, Some, slice_get, true≢false, refl, sym, ap, ◌∙◌, arith}
+use Rattle.std.proofs.Common.{◌≡◌, ℕ, zero, suc, ◌<◌, List, [], ◌∷◌, map, length, get_or, Bool, true, false, ◌&&◌, IsTrue, Some, slice_get, true≢false, refl, sym}
 use Rattle.std.proofs.lemmas.Option.{slice_get_read}
 use Rattle.wasm_tree.specs.declared.instr.Instr.{Instr}
 use Rattle.wasm_tree.specs.declared.types.FuncType.{FuncType}

@@ -1,6 +1,6 @@
 -- Where whatever code may name as one is related, the next instruction names related addresses.
-use Rattle.std.proofs.Common.{◌≡◌, ℕ, List, [], ◌∷◌, true, false}
-use Rattle.wasm_tree.specs.declared.instr.Instr.{Instr, out-Instr}
+use Rattle.std.proofs.Common.{ℕ, List, [], ◌∷◌, true, false}
+use Rattle.wasm_tree.specs.declared.instr.Instr.{Instr}
 use Rattle.wasm_tree.specs.declared.instr.Instr.TheOpen.{Instr-F}
 use Rattle.wasm_meaning.specs.Outcomes.{Outcome}
 use Rattle.wasm_meaning.specs.State.{Inst, Level}

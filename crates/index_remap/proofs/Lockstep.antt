@@ -1,15 +1,13 @@
 -- Configurations that are related entry by entry.
-use Rattle.std.proofs.Common.{◌≡◌, ℕ, zero, suc, List, [], ◌∷◌, Option, Some, None, refl, sym, ap, ap₂, subst, ◌∙◌}
-use Rattle.wasm_meaning.specs.Outcomes.{Outcome, Gives, Traps, IllTyped, trapping, or_trap, or_other, bind, at}
-use Rattle.wasm_meaning.specs.State.{Val, Func, Store, Frame, Entry, Running, Caller, Mark, Opening, Waiting, Ended, Growing, Body, Act, Next}
+use Rattle.std.proofs.Common.{◌≡◌, ℕ, List, ◌∷◌, refl, sym, subst}
+use Rattle.wasm_meaning.specs.Outcomes.{Outcome, bind}
+use Rattle.wasm_meaning.specs.State.{Val, Store, Frame, Entry, Caller, Act}
 use Rattle.wasm_meaning.specs.Values.{pop_typed}
-use Rattle.wasm_meaning.specs.Control.{type_at}
 use Rattle.wasm_meaning.specs.Step.{enter_at, give, act, perform, step, to_mark}
 use Rattle.wasm_meaning.specs.Run.{is_mark}
-use Rattle.index_remap.specs.Related
-use Rattle.index_remap.specs.Related.{Kind, Funcs, Pairing, OneToOne, OptRel, none, some, ResRel, done, trap, wrong, ListRel, nil, cons, ValRel, StoreRel, FrameRel, EntryRel, running, mark, opening, waiting, ended, growing, ActRel, goes, calls, asks_grow, ends, NextRel, ran, asked_grow, returned, NotListed, Skips, TopSkips}
+use Rattle.index_remap.specs.Related.{Kind, Funcs, Pairing, OneToOne, ResRel, done, trap, wrong, ListRel, nil, cons, ValRel, StoreRel, FrameRel, EntryRel, running, mark, opening, waiting, ended, growing, ActRel, goes, calls, asks_grow, ends, NextRel, ran, asked_grow, returned, NotListed, TopSkips}
 use Rattle.index_remap.proofs.Rel.{there, same_there, bind_rel, bind_eq, PairRel}
-use Rattle.index_remap.proofs.ValueSteps.{Fits, pop_typed_rel}
+use Rattle.index_remap.proofs.ValueSteps.{pop_typed_rel}
 use Rattle.index_remap.proofs.Known.{top_known}
 use Rattle.index_remap.proofs.StepsAgree.{Stacks, TopView, top_none, top_mark, top_opening, top_waiting, top_ended, top_growing, top_running, frame_rel, left_rel, enter_rel, give_levels_rel, changed_rel, act_rel}
 

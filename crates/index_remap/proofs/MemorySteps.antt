@@ -1,17 +1,16 @@
 -- Steps on memories and data segments agree.
-use Rattle.std.proofs.Common.{◌≡◌, ℕ, ◌+◌, ◌%◌, List, [], ◌∷◌, ◌++◌, Option, Some, None, Bool, true, false, cond, refl, sym, ap, subst, ◌∙◌}
+use Rattle.std.proofs.Common.{◌≡◌, ℕ, ◌+◌, ◌%◌, List, refl, subst}
 use Rattle.wasm_tree.specs.declared.instr.LoadOp.{LoadOp}
 use Rattle.wasm_tree.specs.declared.instr.StoreOp.{StoreOp}
 use Rattle.wasm_tree.specs.declared.instr.MemArg.{MemArg}
-use Rattle.wasm_meaning.specs.Outcomes.{Outcome, Gives, Traps, IllTyped, trapping, or_trap, or_other, bind, at, slice, overwrite, copies}
+use Rattle.wasm_meaning.specs.Outcomes.{Outcome, trapping, bind, slice, copies}
 use Rattle.wasm_num.specs.Operations.{W32}
-use Rattle.wasm_meaning.specs.Access.{load_to, load_width, loaded, store_from, stored}
-use Rattle.wasm_meaning.specs.State.{Val, Num, Memory, Data, Env, Body, GrowMemory, SetMemory, DropData, Act, Goes, AsksGrow}
-use Rattle.wasm_meaning.specs.Values.{pop_num, go, with_values, on_values, pushes}
-use Rattle.wasm_meaning.specs.Memory.{written, load_from, with_memory, load, writes, store_into, store, memory_size, memory_may_grow, grow_memory, memory_grow, pop_three, init_memory, memory_init, data_drop, memory_copy, fill_memory, memory_fill}
-use Rattle.index_remap.specs.Related.{Kind, Mems, Datas, Pairing, OptRel, none, some, ResRel, done, trap, wrong, ListRel, nil, cons, ValRel, number, Names, StoreRel, ArgRel, BodyRel, memory_grows, set_memory, drop_data, ActRel, goes, asks_grow}
-use Rattle.index_remap.proofs.Rel.{there, same_there, bind_rel, bind_same, bind_eq, cond_rel, PairRel}
-use Rattle.index_remap.proofs.ValueSteps.{bind_num, go_rel, values_rel, on_values_rel, pushes_rel}
+use Rattle.wasm_meaning.specs.Access.{load_width, store_from, stored}
+use Rattle.wasm_meaning.specs.State.{Val, Memory, Env, Body}
+use Rattle.wasm_meaning.specs.Memory.{written, load_from, with_memory, load, writes, store_into, store, memory_size, memory_may_grow, memory_grow, pop_three, init_memory, memory_init, data_drop, memory_copy, memory_fill}
+use Rattle.index_remap.specs.Related.{Mems, Datas, Pairing, ResRel, done, ListRel, cons, ValRel, number, Names, StoreRel, ArgRel, BodyRel, memory_grows, set_memory, drop_data, ActRel, goes, asks_grow}
+use Rattle.index_remap.proofs.Rel.{there, bind_rel, bind_same, cond_rel, PairRel}
+use Rattle.index_remap.proofs.ValueSteps.{bind_num, values_rel, on_values_rel, pushes_rel}
 
 module _ (R : Pairing) (ev ew : Env) (st : StoreRel R ev.store ew.store) where
   -- equal memories at related addresses

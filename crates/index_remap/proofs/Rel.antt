@@ -1,7 +1,7 @@
 -- Options, lists and stores that correspond.
-use Rattle.std.proofs.Common.{◌≡◌, ℕ, zero, suc, List, [], ◌∷◌, ◌++◌, length, Option, Some, None, Bool, true, false, cond, refl, sym, ap, subst, ◌∙◌}
+use Rattle.std.proofs.Common.{◌≡◌, ℕ, zero, suc, List, [], ◌∷◌, ◌++◌, length, Option, Bool, true, false, cond, refl, sym, ap, subst}
 use native.Mathlib.Decide.{ℕ_discrete}
-use Rattle.wasm_meaning.specs.Outcomes.{Outcome, Gives, Traps, IllTyped, trapping, or_trap, or_other, bind, at, put, onto, past, split_at, slice, overwrite, copies}
+use Rattle.wasm_meaning.specs.Outcomes.{Outcome, Gives, Traps, IllTyped, trapping, or_trap, bind, at, put, onto, past, split_at, slice, overwrite, copies}
 use Rattle.index_remap.specs.Related.{Kind, Pairing, OneToOne, OptRel, none, some, BothRel, both, ResRel, done, trap, wrong, ListRel, nil, cons}
 
 -- ---- options ----
@@ -147,6 +147,7 @@ module _ (R : Pairing) (apart : OneToOne R) (k : Kind) {A B : Type 0} (P : A →
     where
       written : {o : Outcome A} {p' : Outcome B} → BothRel P o p' → BothRel P (bind o (λ old. Gives v)) (bind p' (λ old. Gives w))
       written (both q) = both p
+
       go : Dec (a ≡ c) → Dec (b ≡ d) → BothRel P (at (put xs a v) c) (at (put ys b w) d)
       go (yes e) (yes f) = rw (← e, ← f, at_put_here xs a v, at_put_here ys b w) (written (all a b r))
       go (yes e) (no f) = absurd (f (apart.right a b d r (subst (λ x. R.of k x d) (sym e) q)))

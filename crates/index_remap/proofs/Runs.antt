@@ -1,5 +1,5 @@
 -- Related runs show the same events.
-use Rattle.std.proofs.Common.{◌≡◌, ℕ, zero, suc, ◌+◌, ◌*◌, ◌^◌, List, [], ◌∷◌, ◌++◌, length, Option, Some, None, Bool, true, false, cond, ◌⊎◌, inl, inr, refl, sym, ap, ap₂, subst, ◌∙◌}
+use Rattle.std.proofs.Common.{◌≡◌, ℕ, ◌^◌, List, [], ◌∷◌, ◌++◌, Option, Some, None, Bool, true, false, cond, ◌⊎◌, inl, inr, refl, sym, ap, subst, ◌∙◌}
 use Rattle.std.proofs.lemmas.Bool.Decides.{eqb_tells}
 use Rattle.std.specs.Prelude.{nat_eq, nat_lt}
 use Rattle.wasm_tree.specs.declared.types.RefType.{RefType}
@@ -7,23 +7,22 @@ use Rattle.wasm_tree.specs.declared.types.RefType.TheVariants as reft
 use Rattle.wasm_tree.specs.declared.types.ValType.{ValType}
 use Rattle.wasm_tree.specs.declared.types.ValType.TheVariants as valt
 use Rattle.wasm_tree.specs.declared.types.FuncType.{FuncType}
-use Rattle.wasm_num.specs.Operations.{W32, W64}
-use Rattle.wasm_meaning.specs.Outcomes.{Outcome, Gives, Traps, IllTyped, bind, at, put, overwrite, copies}
-use Rattle.wasm_meaning.specs.State.{Text, Pair, RefVal, FuncRef, ExternRef, Val, Num, Ref, Func, Table, Memory, Global, Store, Change, SetGlobal, SetMemory, SetTable, Growth, GrowMemory, GrowTable, Frame, Entry, Running, Caller, Host, Starter, Mark, Opening, Waiting, Ended, Growing, Next}
+use Rattle.wasm_num.specs.Operations.{W32}
+use Rattle.wasm_meaning.specs.Outcomes.{Outcome, Gives, Traps, IllTyped, bind, at, overwrite}
+use Rattle.wasm_meaning.specs.State.{Pair, RefVal, Val, Num, Table, Memory, Store, Change, SetTable, Growth, Entry, Caller, Host, Starter, Opening, Ended, Next}
 use Rattle.wasm_meaning.specs.Values.{typed, null_of, ref_of}
 use Rattle.wasm_meaning.specs.Memory.{memory_may_grow}
 use Rattle.wasm_meaning.specs.Tables.{table_may_grow}
-use Rattle.wasm_meaning.specs.Control.{type_at, own_at}
-use Rattle.wasm_meaning.specs.Step.{give, enter_at, step, to_mark, changed}
+use Rattle.wasm_meaning.specs.Control.{own_at}
+use Rattle.wasm_meaning.specs.Step.{give, step}
 use Rattle.wasm_meaning.specs.Linking.{same_text}
-use Rattle.wasm_meaning.specs.Environment.{Shown, Number, Null, OwnFunc, ExternNumber, Function, Thing, FuncAt, TableAt, MemoryAt, GlobalAt, OwnKey, FuncKey, TableKey, MemoryKey, GlobalKey, Owned, same_key, look_up, owned_at, func_of, func_value, received, received_ref, received_all}
+use Rattle.wasm_meaning.specs.Environment.{Shown, Number, Null, OwnFunc, ExternNumber, Function, Thing, FuncKey, TableKey, MemoryKey, GlobalKey, Owned, same_key, look_up, owned_at, func_of, func_value, received, received_ref, received_all}
 use Rattle.wasm_meaning.specs.World.{Begun}
-use Rattle.wasm_meaning.specs.Run.{Event, Linked, LinkFault, InstanceTrapped, Trapped, BadMove, Done, Returned, Asked, GrowAsked, Got, Place, TableOf, MemoryOf, GlobalOf, Named, Move, Call, Invoke, Take, Answer, Refuse, Grant, Deny, Get, Size, Set, Extend, Phase, Fresh, Pending, Opened, Closed, Run, Out, viewed_at, place_at, place_of, numbered, show_func, show, show_all, kind_of_growth, trapped_at, trapped_to, showing, after, called, is_mark, delivered, grown_memory, grown_table, answered, refused, with_change, granted, decided, shows, got, size_of, does, byte_of, set, extended, moved, at_entries, or_bad, or_closed, next_move, began, view_of, nothing_in, started, open_next, is_taken_closed, closed_move, in_phase, tick_at, tick, noted, events_of}
-use Rattle.index_remap.specs.Related
-use Rattle.index_remap.specs.Related.{Kind, Funcs, Tables, Mems, Globals, Pairing, OneToOne, OptRel, none, some, ResRel, done, trap, wrong, ListRel, nil, cons, RefRel, func, extern, ValRel, number, reference, TableRel, GlobalRel, StoreRel, EntryRel, mark, opening, waiting, ended, growing, ChangeRel, set_global, set_memory, set_table, GrowthRel, memory_grows, table_grows, NextRel, ran, asked, asked_grow, loads, returned}
+use Rattle.wasm_meaning.specs.Run.{Event, InstanceTrapped, Returned, Asked, Got, Place, TableOf, MemoryOf, GlobalOf, Named, Move, Call, Invoke, Take, Answer, Refuse, Grant, Deny, Get, Size, Set, Extend, Phase, Pending, Closed, Run, Out, place_at, place_of, numbered, show_func, show, show_all, trapped_at, trapped_to, showing, after, called, is_mark, delivered, grown_table, answered, refused, with_change, granted, decided, shows, got, size_of, does, byte_of, set, extended, moved, at_entries, or_bad, or_closed, next_move, began, view_of, nothing_in, started, open_next, is_taken_closed, closed_move, in_phase, tick_at}
+use Rattle.index_remap.specs.Related.{Funcs, Mems, Pairing, OneToOne, OptRel, none, some, ResRel, done, trap, wrong, ListRel, nil, cons, RefRel, func, extern, ValRel, number, reference, TableRel, StoreRel, mark, opening, waiting, ended, growing, ChangeRel, set_global, set_memory, set_table, GrowthRel, memory_grows, table_grows, NextRel, ran, asked, asked_grow, loads, returned}
 use Rattle.index_remap.specs.RelatedRuns.{ThingRel, a_func, a_table, a_memory, a_global, KeyRel, BegunRel, PhaseRel, fresh, pending, opened, closed, RunRel, OutRel}
-use Rattle.index_remap.proofs.Rel.{there, same_there, bind_rel, bind_rel_is, bind_is, bind_same, bind_eq, cond_rel, PairRel, OptAll, nothing, stopped, just, bind_all, all_at, any, at_rel, append_rel, length_rel, copies_rel, overwrite_rel}
-use Rattle.index_remap.proofs.ValueSteps.{Fits, typed_is, typed_rel}
+use Rattle.index_remap.proofs.Rel.{there, same_there, bind_rel, bind_rel_is, bind_is, bind_same, bind_eq, cond_rel, PairRel, OptAll, nothing, just, bind_all, all_at, any, at_rel, append_rel, length_rel, copies_rel, overwrite_rel}
+use Rattle.index_remap.proofs.ValueSteps.{Fits}
 use Rattle.index_remap.proofs.TableSteps.{may_rel}
 use Rattle.index_remap.proofs.StepsAgree.{Stacks, TopView, top_none, top_mark, top_opening, top_waiting, top_ended, top_growing, top_running, changed_rel}
 

@@ -1,6 +1,6 @@
 -- Runs from related states, where the list is empty, show the same events.
-use Rattle.std.proofs.Common.{◌≡◌, ℕ, zero, suc, List, [], ◌∷◌, Option, Some, None, refl, ap₂}
-use Rattle.wasm_meaning.specs.State.{Store, Frame, Entry, Running, Mark, Opening, Waiting, Ended, Growing, Act}
+use Rattle.std.proofs.Common.{◌≡◌, ℕ, zero, suc, List, [], ◌∷◌, refl, ap₂}
+use Rattle.wasm_meaning.specs.State.{Store, Entry, Running, Mark, Opening, Waiting, Ended, Growing, Act}
 use Rattle.index_remap.specs.Related.{Kind, Pairing, OneToOne, NotListed, TopSkips}
 use Rattle.wasm_meaning.specs.Run.{Run, tick, noted, events_of}
 use Rattle.index_remap.proofs.StepsAgree.{Stacks}

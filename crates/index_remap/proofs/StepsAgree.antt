@@ -1,18 +1,18 @@
 -- One step of each agrees.
-use Rattle.std.proofs.Common.{◌≡◌, ℕ, List, [], ◌∷◌, ◌++◌, length, Option, Some, None, refl, sym, ap, subst, ◌∙◌, true, false}
+use Rattle.std.proofs.Common.{◌≡◌, ℕ, List, [], ◌∷◌, refl, ap, subst, ◌∙◌, true}
 use Rattle.wasm_tree.specs.declared.types.ValType.{ValType}
-use Rattle.wasm_tree.specs.declared.instr.Instr.{Instr, out-Instr}
+use Rattle.wasm_tree.specs.declared.instr.Instr.{Instr}
 use Rattle.wasm_tree.specs.declared.instr.Instr.TheOpen.{Instr-F}
-use Rattle.wasm_meaning.specs.Outcomes.{Outcome, Gives, Traps, IllTyped, trapping, or_trap, or_other, bind, at, put, onto}
+use Rattle.wasm_meaning.specs.Outcomes.{Gives, bind, onto}
 use Rattle.wasm_tree.specs.declared.types.FuncType.{FuncType}
-use Rattle.wasm_meaning.specs.State.{Val, Num, Ref, Inst, Func, Store, Change, Level, Frame, Entry, Running, Caller, Host, Starter, Mark, Opening, Waiting, Ended, Growing, Growth, Env, Body, Act, Next}
+use Rattle.wasm_meaning.specs.State.{Val, Func, Store, Change, Level, Frame, Entry, Running, Caller, Mark, Opening, Waiting, Ended, Growing, Growth, Env, Body, Act}
 use Rattle.wasm_meaning.specs.Control.{type_at}
 use Rattle.wasm_meaning.specs.Values.{pop_typed, with_values, unary, binary, ref_is_null, select_any, select_typed}
 use Rattle.wasm_meaning.specs.Step.{exec, step_code, step_levels, act, frame_of, give_levels, give, enter, enter_at, to_mark, no_items, no_bytes, changed, perform, step, call_of, named_call, top_call}
 use Rattle.wasm_meaning.specs.Run.{is_mark}
 use Rattle.index_remap.specs.Related
 use Rattle.index_remap.specs.Related.{Funcs, Tables, Mems, Globals, Elems, Datas, Pairing, OneToOne, OptRel, none, some, ResRel, done, trap, wrong, ListRel, nil, cons, ValRel, number, reference, OpRel, CodeRel, end, then, instead, FuncRel, defined, own, slot, TableRel, GlobalRel, ElemRel, StoreRel, LevelRel, FrameRel, EntryRel, mark, opening, waiting, growing, BodyRel, GrowthRel, ChangeRel, keep, set_global, set_memory, set_table, drop_elem, drop_data, ActRel, goes, calls, asks_grow, ends, NextRel, ran, asked, asked_grow, loads, returned, NotListed, Skips, TopSkips, NextKnown, TopKnown}
-use Rattle.index_remap.proofs.Rel.{there, same_there, bind_rel, bind_is, bind_rel_is, all_at, PairRel, onto_rel, append_rel, write_rel}
+use Rattle.index_remap.proofs.Rel.{same_there, bind_rel, bind_is, bind_rel_is, all_at, PairRel, onto_rel, append_rel, write_rel}
 use Rattle.index_remap.proofs.ValueSteps.{Fits, pop_typed_all, pop_typed_rel, pop_rel, null_rel, zeros_rel, unary_rel, binary_rel, ref_is_null_rel, select_any_rel, select_typed_rel, go_rel, values_rel, on_values_rel, pushes_rel, local_get_rel, local_set_rel, local_tee_rel, global_get_rel, global_set_rel, ref_func_rel}
 use Rattle.index_remap.proofs.MemorySteps.{load_rel, store_rel, memory_size_rel, memory_grow_rel, memory_init_rel, data_drop_rel, memory_copy_rel, memory_fill_rel}
 use Rattle.index_remap.proofs.TableSteps.{table_get_rel, table_set_rel, table_size_rel, table_grow_rel, table_fill_rel, table_copy_rel, table_init_rel, elem_drop_rel}

@@ -1,13 +1,12 @@
 -- Steps on tables and element segments agree.
-use Rattle.std.proofs.Common.{◌≡◌, ℕ, ◌+◌, List, [], ◌∷◌, ◌++◌, length, Option, Some, None, Bool, true, false, cond, refl, sym, ap, subst, ◌∙◌}
-use Rattle.wasm_meaning.specs.Outcomes.{Outcome, Gives, Traps, IllTyped, trapping, or_trap, or_other, bind, at, slice, overwrite, copies}
+use Rattle.std.proofs.Common.{◌≡◌, ℕ, List, subst}
+use Rattle.wasm_meaning.specs.Outcomes.{Outcome}
 use Rattle.wasm_num.specs.Operations.{W32}
-use Rattle.wasm_meaning.specs.State.{Val, Num, Ref, RefVal, Table, Elem, Env, Body, GrowTable, SetTable, DropElem, Act, Goes, AsksGrow}
-use Rattle.wasm_meaning.specs.Values.{pop_num, pop_ref, type_of_ref, same_ref, go, with_values, pushes}
-use Rattle.wasm_meaning.specs.Memory.{pop_three}
-use Rattle.wasm_meaning.specs.Tables.{with_table, fits, writes_table, get_slot, table_get, set_slot, table_set, table_size, table_may_grow, grow_table, table_grow, fill_table, table_fill, init_table, table_copy, table_init, elem_drop}
-use Rattle.index_remap.specs.Related.{Kind, Tables, Elems, Pairing, OptRel, none, some, ResRel, done, trap, wrong, ListRel, nil, cons, RefRel, ValRel, number, reference, Names, StoreRel, TableRel, BodyRel, table_grows, set_table, drop_elem, ActRel, goes, asks_grow}
-use Rattle.index_remap.proofs.Rel.{there, same_there, bind_rel, cond_rel, at_rel, length_rel, copies_rel, slice_rel, overwrite_rel, trapping_rel}
+use Rattle.wasm_meaning.specs.State.{Val, RefVal, Table, Env, Body, GrowTable, AsksGrow}
+use Rattle.wasm_meaning.specs.Values.{type_of_ref, same_ref}
+use Rattle.wasm_meaning.specs.Tables.{with_table, fits, writes_table, table_get, table_set, table_size, table_may_grow, table_grow, table_fill, init_table, table_copy, table_init, elem_drop}
+use Rattle.index_remap.specs.Related.{Tables, Elems, Pairing, ResRel, done, wrong, ListRel, nil, cons, RefRel, ValRel, number, reference, Names, StoreRel, TableRel, BodyRel, table_grows, set_table, drop_elem, ActRel, goes, asks_grow}
+use Rattle.index_remap.proofs.Rel.{there, bind_rel, cond_rel, at_rel, length_rel, copies_rel, slice_rel, overwrite_rel, trapping_rel}
 use Rattle.index_remap.proofs.ValueSteps.{bind_num, pop_ref_rel, ref_type_rel, values_rel, pushes_rel}
 use Rattle.index_remap.proofs.MemorySteps.{bind_three}
 

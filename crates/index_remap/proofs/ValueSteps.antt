@@ -1,18 +1,17 @@
 -- Steps that keep to values, locals and globals agree.
-use Rattle.std.proofs.Common.{◌≡◌, ℕ, zero, suc, List, [], ◌∷◌, ◌++◌, Option, Some, None, Bool, true, false, cond, refl, sym, ap, subst, ◌∙◌}
+use Rattle.std.proofs.Common.{◌≡◌, ℕ, List, [], ◌∷◌, Bool, true, false, cond, refl, ap, subst}
 use Rattle.std.specs.Prelude.{nat_eq}
 use Rattle.wasm_tree.specs.declared.types.RefType.TheVariants as reft
 use Rattle.wasm_tree.specs.declared.types.ValType.{ValType}
 use Rattle.wasm_tree.specs.declared.types.ValType.TheVariants as valt
 use Rattle.wasm_num.specs.declared.UnOp.{UnOp}
 use Rattle.wasm_num.specs.declared.BinOp.{BinOp}
-use Rattle.wasm_meaning.specs.Outcomes.{Outcome, Gives, Traps, IllTyped, trapping, or_trap, or_other, bind, at, put}
-use Rattle.wasm_num.specs.Operations.{Width, W32, W64, un_from, un_to, un_value, bin_from, bin_to, bin_value}
-use Rattle.wasm_tree.specs.declared.types.FuncType.{FuncType}
-use Rattle.wasm_meaning.specs.State.{RefVal, FuncRef, ExternRef, Val, Num, Ref, Global, Frame, Env, Body, Act, Keep, SetGlobal, Goes}
-use Rattle.wasm_meaning.specs.Values.{type_of_ref, type_of, same_type, pop, num_of, ref_of, pop_num, pop_ref, typed, pop_typed, null_of, zero_of, zeros, unary, binary, is_null, ref_is_null, is_number, select_of, second_type, select_any, select_typed, go, with_values, on_values, pushes, local_get, local_put, local_set, local_tee, global_get, global_put, global_set, ref_func}
-use Rattle.index_remap.specs.Related.{Kind, Funcs, Globals, Pairing, OptRel, none, some, ResRel, done, trap, wrong, ListRel, nil, cons, RefRel, func, extern, ValRel, number, reference, Names, GlobalRel, StoreRel, LevelRel, FrameRel, BodyRel, ChangeRel, keep, set_global, ActRel, goes}
-use Rattle.index_remap.proofs.Rel.{there, same_there, bind_rel, bind_same, bind_eq, cond_rel, cond_two, PairRel, at_rel, put_rel, OptAll, nothing, just, bind_all, any}
+use Rattle.wasm_meaning.specs.Outcomes.{Outcome, Gives, IllTyped, or_trap, bind}
+use Rattle.wasm_num.specs.Operations.{Width, W32, W64, un_from, bin_from, bin_value}
+use Rattle.wasm_meaning.specs.State.{RefVal, Val, Num, Global, Env, Body}
+use Rattle.wasm_meaning.specs.Values.{type_of_ref, type_of, same_type, pop, pop_num, pop_ref, typed, pop_typed, null_of, zero_of, zeros, unary, binary, is_null, ref_is_null, is_number, select_of, second_type, select_any, select_typed, go, with_values, on_values, pushes, local_get, local_put, local_set, local_tee, global_get, global_put, global_set, ref_func}
+use Rattle.index_remap.specs.Related.{Funcs, Globals, Pairing, none, some, ResRel, done, wrong, ListRel, nil, cons, RefRel, func, extern, ValRel, number, reference, Names, GlobalRel, StoreRel, BodyRel, keep, set_global, ActRel, goes}
+use Rattle.index_remap.proofs.Rel.{there, bind_rel, bind_same, bind_eq, cond_rel, cond_two, PairRel, at_rel, put_rel, OptAll, just, bind_all, any}
 
 -- each value has its type
 abbrev pub Fits : List ValType → List Val → Type 0

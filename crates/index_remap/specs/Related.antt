@@ -15,7 +15,7 @@ use Rattle.wasm_tree.specs.declared.instr.Instr.{Instr, out-Instr}
 use Rattle.wasm_tree.specs.declared.instr.Instr.TheOpen.{Instr-F}
 use Rattle.wasm_meaning.specs.Outcomes.{Outcome, Gives, Traps, IllTyped, at}
 use Rattle.wasm_num.specs.Operations.{Width}
-use Rattle.wasm_meaning.specs.State.{Pair, RefVal, FuncRef, ExternRef, Val, Num, Ref, Inst, Func, Code, Own, Placeholder, Table, Memory, Global, Elem, Data, Store, Level, Frame, Growth, GrowMemory, GrowTable, Entry, Running, Mark, Opening, Waiting, Ended, Growing, Body, Change, Keep, SetGlobal, SetMemory, SetTable, DropElem, DropData, Act, Goes, Calls, AsksGrow, Ends, Next, Ran, CallsOwn, WaitsGrowth, CallsPlaceholder, EndsCall}
+use Rattle.wasm_meaning.specs.State.{Pair, RefVal, FuncRef, ExternRef, Val, Num, Ref, Inst, Func, Code, Own, Placeholder, Table, Memory, Global, Elem, Store, Level, Frame, Growth, GrowMemory, GrowTable, Entry, Running, Mark, Opening, Waiting, Ended, Growing, Body, Change, Keep, SetGlobal, SetMemory, SetTable, DropElem, DropData, Act, Goes, Calls, AsksGrow, Ends, Next, Ran, CallsOwn, WaitsGrowth, CallsPlaceholder, EndsCall}
 use Rattle.wasm_meaning.specs.Control.{type_at, own_at}
 use Rattle.wasm_meaning.specs.Step.{act, top_call}
 

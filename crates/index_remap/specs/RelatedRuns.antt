@@ -1,10 +1,10 @@
 -- Runs that are related: their states by a relation of addresses, their stacks by relations that are given.
-use Rattle.std.proofs.Common.{◌≡◌, ℕ, List, [], ◌∷◌, Option, Some, None, Bool}
+use Rattle.std.proofs.Common.{◌≡◌, ℕ, List, [], ◌∷◌, Option}
 use Rattle.wasm_meaning.specs.State.{Text, Store, Entry, Opening}
 use Rattle.wasm_meaning.specs.Environment.{Thing, FuncAt, TableAt, MemoryAt, GlobalAt}
 use Rattle.wasm_meaning.specs.World.{Begun}
 use Rattle.wasm_meaning.specs.Run.{Phase, Fresh, Pending, Opened, Closed, Run, Out}
-use Rattle.index_remap.specs.Related.{Kind, Funcs, Tables, Mems, Globals, Pairing, OptRel, ListRel, StoreRel}
+use Rattle.index_remap.specs.Related.{Funcs, Tables, Mems, Globals, Pairing, OptRel, ListRel, StoreRel}
 
 pub data ThingRel (R : Pairing) : Thing → Thing → Type 0 where
   a_func : {a b : ℕ} → R.of Funcs a b → ThingRel R (FuncAt a) (FuncAt b)

@@ -1,6 +1,6 @@
 -- A tree in which each index is replaced by its entry in the map of its index space (WebAssembly Core 2.0, section 2.5.1). Labels and locals are no such
 -- indices and stay, as do the order and the length of every list.
-use Rattle.std.specs.Prelude.{ℕ, ◌<◌, List, [], ◌∷◌, map, length, slice_index, Option, Some, None, Bool, true, false, ◌&&◌, nat_lt}
+use Rattle.std.specs.Prelude.{ℕ, List, [], ◌∷◌, map, length, slice_index, Option, Some, None, Bool, true, ◌&&◌, nat_lt}
 use Rattle.wasm_tree.specs.declared.types.BlockType.{BlockType}
 use Rattle.wasm_tree.specs.declared.types.BlockType.TheVariants as bt
 use Rattle.wasm_tree.specs.declared.types.FuncType.{FuncType}
@@ -280,4 +280,4 @@ any_type m t = true
 abbrev pub fits_tree : Remap → Module → Bool
 fits_tree m t =
     all_true (map (fits_import m) t.imports) && (all_true (map (fits_func m) t.funcs) && (all_true (map (fits_global m) t.globals) && (all_true (map (fits_export m) t.exports)
-      && (fits_start m t.start && (all_true (map (fits_elem m) t.elems) && all_true (map (fits_data m) t.datas))))))
+    && (fits_start m t.start && (all_true (map (fits_elem m) t.elems) && all_true (map (fits_data m) t.datas))))))

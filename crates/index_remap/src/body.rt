@@ -85,7 +85,11 @@ fn renumber_instr(alloc: Global, instr: &Instr, map: &Remap) -> Result<Instr, No
 }
 
 #[cycle(renumber)]
-pub(crate) fn renumber_all(alloc: Global, body: &[Instr], map: &Remap) -> Result<Items<Instr>, NoMemory>
+pub(crate) fn renumber_all(
+    alloc: Global,
+    body: &[Instr],
+    map: &Remap,
+) -> Result<Items<Instr>, NoMemory>
     requires fits { IsTrue (fits_all map.now body.now) }
     ensures { IfOk result (λ new. new ≡ renumbered_all map.now body.now) }
 {

@@ -5,7 +5,10 @@ ghost use Rattle.index_remap.specs.declared.remap.Remap.{Remap as Maps};
 ghost use Rattle.index_remap.specs.Renumbered.{all_true, new_const, new_import, new_func, new_global, new_export, new_elem, new_data, any_type, fits_const, fits_import, fits_func, fits_global, fits_export, fits_elem, fits_data};
 
 use crate::body::renumber_all;
-use crate::remap::{Remap, entry, renumber_const, renumber_data_mode, renumber_elem_mode, renumber_export_desc, renumber_import_desc};
+use crate::remap::{
+    Remap, entry, renumber_const, renumber_data_mode, renumber_elem_mode, renumber_export_desc,
+    renumber_import_desc,
+};
 use std::alloc::Global;
 use wasm_bytes::{Items, NoMemory};
 use wasm_tree::{ConstExpr, DataSeg, ElemSeg, Export, Func, FuncType, GlobalDef, Import};
@@ -24,7 +27,11 @@ pub(crate) trait Renumber: Drop {
 }
 
 /// All of them, in order.
-pub(crate) fn renumber_each<T: Renumber>(alloc: Global, items: &[T], entries: &Remap) -> Result<Items<T>, NoMemory>
+pub(crate) fn renumber_each<T: Renumber>(
+    alloc: Global,
+    items: &[T],
+    entries: &Remap,
+) -> Result<Items<T>, NoMemory>
     requires fits { IsTrue (all_true (map (T.has_entries entries.now) items.now)) }
     ensures { IfOk result (λ new. new ≡ map (T.renewed entries.now) items.now) }
 {
@@ -37,6 +44,7 @@ pub(crate) fn renumber_each<T: Renumber>(alloc: Global, items: &[T], entries: &R
 
 impl Renumber for FuncType {
     ghost renewed = { λ m t. t };
+
     ghost has_entries = { any_type };
 
     fn renumber(&self, alloc: Global, _map: &Remap) -> Result<FuncType, NoMemory> {
@@ -46,6 +54,7 @@ impl Renumber for FuncType {
 
 impl Renumber for ConstExpr {
     ghost renewed = { new_const };
+
     ghost has_entries = { fits_const };
 
     fn renumber(&self, _alloc: Global, map: &Remap) -> Result<ConstExpr, NoMemory> {
@@ -55,6 +64,7 @@ impl Renumber for ConstExpr {
 
 impl Renumber for Import {
     ghost renewed = { new_import };
+
     ghost has_entries = { fits_import };
 
     fn renumber(&self, alloc: Global, map: &Remap) -> Result<Import, NoMemory> {
@@ -68,6 +78,7 @@ impl Renumber for Import {
 
 impl Renumber for Func {
     ghost renewed = { new_func };
+
     ghost has_entries = { fits_func };
 
     fn renumber(&self, alloc: Global, map: &Remap) -> Result<Func, NoMemory> {
@@ -81,6 +92,7 @@ impl Renumber for Func {
 
 impl Renumber for GlobalDef {
     ghost renewed = { new_global };
+
     ghost has_entries = { fits_global };
 
     fn renumber(&self, _alloc: Global, map: &Remap) -> Result<GlobalDef, NoMemory> {
@@ -93,6 +105,7 @@ impl Renumber for GlobalDef {
 
 impl Renumber for Export {
     ghost renewed = { new_export };
+
     ghost has_entries = { fits_export };
 
     fn renumber(&self, alloc: Global, map: &Remap) -> Result<Export, NoMemory> {
@@ -105,6 +118,7 @@ impl Renumber for Export {
 
 impl Renumber for ElemSeg {
     ghost renewed = { new_elem };
+
     ghost has_entries = { fits_elem };
 
     fn renumber(&self, alloc: Global, map: &Remap) -> Result<ElemSeg, NoMemory> {
@@ -118,6 +132,7 @@ impl Renumber for ElemSeg {
 
 impl Renumber for DataSeg {
     ghost renewed = { new_data };
+
     ghost has_entries = { fits_data };
 
     fn renumber(&self, alloc: Global, map: &Remap) -> Result<DataSeg, NoMemory> {

@@ -6,14 +6,13 @@ mod each;
 mod remap;
 mod renumbering;
 
+ghost use Rattle.index_remap.specs.Laws.{StepsAgree, TrapsAgree};
+
 pub use remap::Remap;
 pub use renumbering::renumber;
-
-ghost use Rattle.index_remap.specs.Laws.{StepsAgree, TrapsAgree};
 
 /// From stores that correspond and configurations that are related one step of each agrees.
 pub fn steps_agree()
     ensures steps { StepsAgree }
     ensures traps { TrapsAgree }
-{
-}
+{}

@@ -1,7 +1,7 @@
 -- Two machines that show the same events, one of them in more steps.
-use Rattle.std.proofs.Common.{◌≡◌, ℕ, zero, suc, ◌+◌, ◌*◌, ◌-◌, ◌<◌, ◌≤◌, List, [], ◌∷◌, ◌++◌, Option, Some, None, ◌⊎◌, inl, inr, refl, sym, ap, ap₂, subst, ◌∙◌, arith, append_assoc}
+use Rattle.std.proofs.Common.{◌≡◌, ℕ, zero, suc, ◌+◌, ◌*◌, ◌-◌, ◌<◌, ◌≤◌, List, [], ◌++◌, Option, Some, None, ◌⊎◌, inl, inr, refl, sym, ap, subst, ◌∙◌, arith, append_assoc}
 use Rattle.std.proofs.lemmas.Bool.{cases_lt}
-use Rattle.wasm_meaning.specs.Run.{noted, events_of, state_after, IsPrefix}
+use Rattle.wasm_meaning.specs.Run.{noted, events_of, state_after}
 
 -- ---- prefixes ----
 

@@ -1,5 +1,5 @@
 -- Small runs, computed: the definitions give the events that the standard asks for.
-use Rattle.std.proofs.Common.{◌≡◌, refl, ℕ, zero, suc, List, [], ◌∷◌, ◌++◌, Option, Some, None, Bool, true, false}
+use Rattle.std.proofs.Common.{◌≡◌, refl, ℕ, List, [], ◌∷◌, Some, None, true, false}
 use Rattle.std.specs.Prelude.{pos, negsuc}
 use Rattle.wasm_num.specs.declared.BinOp.TheVariants as bin
 use Rattle.wasm_num.specs.declared.UnOp.TheVariants as un
@@ -8,27 +8,24 @@ use Rattle.wasm_tree.specs.declared.types.ValType.{ValType}
 use Rattle.wasm_tree.specs.declared.types.ValType.TheVariants as valt
 use Rattle.wasm_tree.specs.declared.types.FuncType.{FuncType}
 use Rattle.wasm_tree.specs.declared.types.BlockType.TheVariants as bt
-use Rattle.wasm_tree.specs.declared.instr.Instr.{Instr, out-Instr, the_lemmas}
+use Rattle.wasm_tree.specs.declared.instr.Instr.{Instr, out-Instr}
 use Rattle.wasm_tree.specs.declared.instr.Instr.TheVariants as i
 use Rattle.wasm_tree.specs.declared.instr.LoadOp.TheVariants as load
 use Rattle.wasm_tree.specs.declared.instr.StoreOp.TheVariants as store
-use Rattle.wasm_tree.specs.declared.module.LocalGroup.{LocalGroup}
 use Rattle.wasm_tree.specs.declared.module.Func.{Func}
-use Rattle.wasm_tree.specs.declared.module.Import.{Import}
 use Rattle.wasm_tree.specs.declared.module.ImportDesc.TheVariants as im
-use Rattle.wasm_tree.specs.declared.module.ExportDesc.{ExportDesc}
 use Rattle.wasm_tree.specs.declared.module.ExportDesc.TheVariants as ex
 use Rattle.wasm_tree.specs.declared.module.ConstExpr.TheVariants as const
 use Rattle.wasm_tree.specs.declared.module.ElemMode.TheVariants as elem
 use Rattle.wasm_tree.specs.declared.module.DataMode.TheVariants as data'
 use Rattle.wasm_tree.specs.declared.module.Module.{Module}
 use Rattle.wasm_num.specs.Operations.{wrapped, un_from, un_to, un_value, bin_from, bin_to, bin_value}
-use Rattle.wasm_meaning.specs.State.{Text, Pair}
+use Rattle.wasm_meaning.specs.State.{Text}
 use Rattle.wasm_meaning.specs.Access.{load_to, load_width, loaded, store_from, stored}
-use Rattle.wasm_meaning.specs.Linking.{Part, Tables, Memories}
-use Rattle.wasm_meaning.specs.Environment.{Environment, Shown, Number, Null, OwnFunc, ExternNumber, Function}
+use Rattle.wasm_meaning.specs.Linking.{Tables, Memories}
+use Rattle.wasm_meaning.specs.Environment.{Environment, Shown, Number, Null, Function}
 use Rattle.wasm_meaning.specs.World.{World}
-use Rattle.wasm_meaning.specs.Run.{Event, Linked, LinkFault, InstanceTrapped, Returned, Trapped, Asked, GrowAsked, Got, Done, BadMove, Move, Call, Invoke, Take, Answer, Refuse, Grant, Deny, Get, Size, Set, Extend, Place, TableOf, MemoryOf, GlobalOf, Named, events}
+use Rattle.wasm_meaning.specs.Run.{Event, Linked, LinkFault, InstanceTrapped, Returned, Trapped, Asked, GrowAsked, Got, Done, BadMove, Call, Invoke, Take, Answer, Refuse, Grant, Deny, Get, Size, Set, MemoryOf, GlobalOf, Named, events}
 
 -- ---- modules ----
 
@@ -119,7 +116,8 @@ abbrev pub taker : Module
 taker = record empty {
   imports = record { «module» = a; field = f; desc = im.Func 0 } ∷ (record { «module» = a; field = g; desc = im.Global (record { ty = i32; mutable = false }) } ∷ []);
   funcs = code 0 (i.Call 0 ∷ (i.GlobalGet 1 ∷ (i.Bin bin.I32Add ∷ []))) ∷ [];
-  globals = record { ty = record { ty = i32; mutable = true }; init = const.Global 0 } ∷ [] }
+  globals = record { ty = record { ty = i32; mutable = true }; init = const.Global 0 } ∷ [];
+}
 
 abbrev pub two : Module → World
 two x = record { parts = record { name = Some b; «module» = taker } ∷ (record { name = Some a; «module» = x } ∷ []); view = (f, record { part = 0; what = ex.Func 1 }) ∷ [] }
@@ -139,13 +137,15 @@ linked_by_hand = record {
   types = nothing ∷ (from_i32 ∷ (to_nothing ∷ []));
   imports = record { «module» = env; field = log; desc = im.Func 2 } ∷ [];
   funcs = code 0 (i.Call 2 ∷ []) ∷ (code 0 (num 0 ∷ (num 42 ∷ (i.Store store.I32Store (record { align = 2; offset = 1028; memory = 0 }) ∷ [])))
-    ∷ (code 1 (i.LocalGet 0 ∷ (num 1 ∷ (i.Bin bin.I32Shl ∷ []))) ∷ (code 1 (i.LocalGet 0 ∷ (i.Call 0 ∷ (i.LocalGet 0 ∷ (num 1 ∷ (i.CallIndirect 1 0 ∷ []))))) ∷ [])));
+      ∷ (code 1 (i.LocalGet 0 ∷ (num 1 ∷ (i.Bin bin.I32Shl ∷ []))) ∷ (code 1 (i.LocalGet 0 ∷ (i.Call 0 ∷ (i.LocalGet 0 ∷ (num 1 ∷ (i.CallIndirect 1 0 ∷ []))))) ∷ [])));
   tables = record { ty = reft.Func; limits = record { min = 5; max = Some 5 } } ∷ [];
   mems = record { min = 2; max = None } ∷ [];
   globals = record { ty = record { ty = i32; mutable = true }; init = const.I32 (pos 66576) } ∷ [];
-  exports = []; start = None;
+  exports = [];
+  start = None;
   elems = record { mode = elem.Active 0 (const.I32 (pos 1)); ty = reft.Func; items = const.Func 3 ∷ [] } ∷ [];
-  datas = record { mode = data'.Active 0 (const.I32 (pos 1024)); bytes = 104 ∷ (105 ∷ []) } ∷ [] }
+  datas = record { mode = data'.Active 0 (const.I32 (pos 1024)); bytes = 104 ∷ (105 ∷ []) } ∷ [];
+}
 
 abbrev pub logging : Environment
 logging = record { pair = (env, log); funcs = to_nothing ∷ []; table = None; memory = None; global = None } ∷ []

@@ -1,5 +1,5 @@
 -- What an embedder offers to a world, and the values that it sees and passes.
-use Rattle.std.proofs.Common.{ℕ, zero, suc, ◌+◌, ◌*◌, ◌^◌, List, [], ◌∷◌, ◌++◌, map, length, Option, Some, None, Bool, true, false, cond}
+use Rattle.std.proofs.Common.{ℕ, suc, ◌*◌, ◌^◌, List, [], ◌∷◌, ◌++◌, map, length, Option, Some, None, Bool, true, false, cond}
 use Rattle.std.specs.Prelude.{nat_eq, nat_lt, nat_le}
 use Rattle.wasm_tree.specs.declared.types.RefType.{RefType}
 use Rattle.wasm_tree.specs.declared.types.RefType.TheVariants as reft
@@ -9,7 +9,7 @@ use Rattle.wasm_tree.specs.declared.types.FuncType.{FuncType}
 use Rattle.wasm_tree.specs.declared.types.Limits.{Limits}
 use Rattle.wasm_tree.specs.declared.types.GlobalType.{GlobalType}
 use Rattle.wasm_num.specs.Operations.{W32, W64}
-use Rattle.wasm_meaning.specs.Outcomes.{Outcome, Gives, Traps, IllTyped, bind, at}
+use Rattle.wasm_meaning.specs.Outcomes.{Outcome, Gives, IllTyped, bind, at}
 use Rattle.wasm_meaning.specs.State.{Pair, RefVal, FuncRef, ExternRef, Val, Num, Ref, Func, Own, Table, Memory, Global}
 use Rattle.wasm_meaning.specs.Values.{same_func_type, ref_of}
 use Rattle.wasm_meaning.specs.Linking.{same_pair}
@@ -91,8 +91,8 @@ is_table env t = cond (is_within (length t.entries) t.limits) (cond (nat_lt (len
 abbrev pub is_memory : OwnMemory → Bool
 is_memory m =
     cond (is_within m.pages m.limits)
-      (cond (where_there (λ most. nat_le most 65536) m.limits.max) (cond (nat_le m.pages 65536) (cond (nat_eq (length m.bytes) (65536 * m.pages)) (all_of (λ b. nat_lt b 256) m.bytes) false) false) false)
-      false
+    (cond (where_there (λ most. nat_le most 65536) m.limits.max) (cond (nat_le m.pages 65536) (cond (nat_eq (length m.bytes) (65536 * m.pages)) (all_of (λ b. nat_lt b 256) m.bytes) false) false) false)
+    false
 
 abbrev pub is_global : Environment → OwnGlobal → Bool
 is_global env g = is_value env g.ty.ty g.value
@@ -159,7 +159,7 @@ flat f (x ∷ xs) = f x ++ flat f xs
 abbrev pub owned_of : Environment → Owned
 owned_of env =
     addressed FuncAt 0 (flat (λ o. map (FuncKey o.pair) o.funcs) env) ++ (addressed TableAt 0 (flat (λ o. one_if (λ t. TableKey o.pair) o.table) env)
-      ++ (addressed MemoryAt 0 (flat (λ o. one_if (λ m. MemoryKey o.pair) o.memory) env) ++ addressed GlobalAt 0 (flat (λ o. one_if (λ g. GlobalKey o.pair) o.global) env)))
+    ++ (addressed MemoryAt 0 (flat (λ o. one_if (λ m. MemoryKey o.pair) o.memory) env) ++ addressed GlobalAt 0 (flat (λ o. one_if (λ g. GlobalKey o.pair) o.global) env)))
 
 -- ---- values that the embedder passes ----
 

@@ -156,7 +156,7 @@ pub data Leads (parts : List Part) : Site → End → Type 0 where
   stays : {s : Site} {i : Import} → import_at parts s ≡ Some i → joined parts i ≡ None → Leads parts s (Outside s)
   arrives : {s : Site} {i : Import} {e : Entity} → import_at parts s ≡ Some i → joined parts i ≡ Some e → imported_as parts e ≡ None → Leads parts s (Defined e)
   passes : {s t : Site} {i : Import} {e : Entity} {end : End} →
-    import_at parts s ≡ Some i → joined parts i ≡ Some e → imported_as parts e ≡ Some t → Leads parts t end → Leads parts s end
+      import_at parts s ≡ Some i → joined parts i ≡ Some e → imported_as parts e ≡ Some t → Leads parts t end → Leads parts s end
 
 -- one import further
 abbrev pub end_of_entity : (Site → Option End) → Entity → Option Site → Option End
@@ -289,10 +289,10 @@ pub data Reads (parts : List Part) : Read → Read → Type 0 where
   null : {p : ℕ} {t : RefType} → Reads parts (record { part = p; expr = const.Null t }) (record { part = p; expr = const.Null t })
   func : {p f : ℕ} → Reads parts (record { part = p; expr = const.Func f }) (record { part = p; expr = const.Func f })
   stays : {p x : ℕ} {s t : Site} {r : Read} → global_import parts p x ≡ Some s → Leads parts s (Outside t) → outside_read parts t ≡ Some r →
-    Reads parts (record { part = p; expr = const.Global x }) r
+      Reads parts (record { part = p; expr = const.Global x }) r
   follows : {p x : ℕ} {s : Site} {e : Entity} {expr : ConstExpr} {r : Read} →
-    global_import parts p x ≡ Some s → Leads parts s (Defined e) → initial parts e ≡ Some expr → Reads parts (record { part = e.part; expr = expr }) r →
-    Reads parts (record { part = p; expr = const.Global x }) r
+      global_import parts p x ≡ Some s → Leads parts s (Defined e) → initial parts e ≡ Some expr → Reads parts (record { part = e.part; expr = expr }) r →
+      Reads parts (record { part = p; expr = const.Global x }) r
 
 -- one global further
 abbrev pub read_end : (ℕ → ConstExpr → Option Read) → List Part → Option End → Option Read

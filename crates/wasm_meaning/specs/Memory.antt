@@ -1,14 +1,14 @@
 -- Instructions on memories and data segments (WebAssembly Core 2.0, section 4.4.7).
-use Rattle.std.proofs.Common.{ℕ, suc, ◌+◌, ◌*◌, ◌%◌, List, [], ◌∷◌, ◌++◌, length, Option, Some, None, Bool, true, false, cond}
+use Rattle.std.proofs.Common.{ℕ, suc, ◌+◌, ◌%◌, List, ◌∷◌, Option, Some, None, Bool, true, false, cond}
 use Rattle.std.specs.Prelude.{nat_lt}
 use Rattle.wasm_tree.specs.declared.instr.LoadOp.{LoadOp}
 use Rattle.wasm_tree.specs.declared.instr.StoreOp.{StoreOp}
 use Rattle.wasm_tree.specs.declared.instr.MemArg.{MemArg}
-use Rattle.wasm_meaning.specs.Outcomes.{Outcome, Gives, Traps, IllTyped, trapping, or_trap, or_other, bind, at, put, slice, overwrite, copies}
+use Rattle.wasm_meaning.specs.Outcomes.{Outcome, Gives, trapping, bind, at, slice, overwrite, copies}
 use Rattle.wasm_num.specs.Operations.{W32}
 use Rattle.wasm_meaning.specs.Access.{load_to, load_width, loaded, store_from, stored}
-use Rattle.wasm_meaning.specs.State.{Val, Num, Memory, Data, Env, Body, GrowMemory, SetMemory, DropData, Act, Goes, AsksGrow}
-use Rattle.wasm_meaning.specs.Values.{pop_num, go, with_values, on_values, pushes}
+use Rattle.wasm_meaning.specs.State.{Val, Num, Memory, Env, Body, GrowMemory, SetMemory, DropData, Act, Goes, AsksGrow}
+use Rattle.wasm_meaning.specs.Values.{pop_num, with_values, on_values, pushes}
 
 -- the memory with other bytes from a place on; a trap where they pass its end
 abbrev pub written : Memory → ℕ → List ℕ → Outcome Memory

@@ -5,14 +5,14 @@ use Rattle.wasm_tree.specs.declared.types.ValType.{ValType}
 use Rattle.wasm_tree.specs.declared.types.FuncType.{FuncType}
 use Rattle.wasm_num.specs.Operations.{W32}
 use Rattle.wasm_meaning.specs.Outcomes.{Outcome, Gives, Traps, IllTyped, bind, at, overwrite, copies}
-use Rattle.wasm_meaning.specs.State.{Text, Pair, RefVal, FuncRef, ExternRef, Val, Num, Ref, Func, Table, Memory, Global, Store, Change, SetGlobal, SetMemory, SetTable, Growth, GrowMemory, GrowTable, Entry, Running, Caller, Host, Starter, Mark, Opening, Waiting, Ended, Growing, Next, Ran, CallsOwn, WaitsGrowth, CallsPlaceholder, EndsCall}
-use Rattle.wasm_meaning.specs.Values.{null_of, ref_of}
+use Rattle.wasm_meaning.specs.State.{Text, Pair, RefVal, FuncRef, ExternRef, Val, Num, Ref, Table, Memory, Store, Change, SetGlobal, SetMemory, SetTable, Growth, GrowMemory, GrowTable, Entry, Running, Caller, Host, Starter, Mark, Opening, Waiting, Ended, Growing, Next, Ran, CallsOwn, WaitsGrowth, CallsPlaceholder, EndsCall}
+use Rattle.wasm_meaning.specs.Values.{null_of}
 use Rattle.wasm_meaning.specs.Memory.{memory_may_grow}
 use Rattle.wasm_meaning.specs.Tables.{table_may_grow}
 use Rattle.wasm_meaning.specs.Control.{type_at, own_at}
 use Rattle.wasm_meaning.specs.Step.{give, enter_at, step, to_mark, changed}
 use Rattle.wasm_meaning.specs.Linking.{same_text, Kind, Tables, Memories}
-use Rattle.wasm_meaning.specs.Environment.{Environment, is_environment, owned_of, Shown, Number, Null, OwnFunc, ExternNumber, Function, Thing, FuncAt, TableAt, MemoryAt, GlobalAt, OwnKey, TableKey, MemoryKey, GlobalKey, Owned, owned_at, look_up, func_of, received, received_ref, received_all}
+use Rattle.wasm_meaning.specs.Environment.{Environment, is_environment, owned_of, Shown, Number, Null, OwnFunc, ExternNumber, Function, Thing, FuncAt, TableAt, MemoryAt, GlobalAt, TableKey, MemoryKey, GlobalKey, Owned, owned_at, look_up, func_of, received, received_ref, received_all}
 use Rattle.wasm_meaning.specs.World.{World, Begun, own_store, instantiate}
 
 -- ---- what is seen and done ----

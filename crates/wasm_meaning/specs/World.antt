@@ -1,12 +1,9 @@
 -- Worlds, and their instantiation at once (WebAssembly Core 2.0, section 4.5.4, for several modules together).
 -- Every import is matched and everything allocated; then all active element segments are copied by part, then all active data segments by part.
 use Rattle.std.proofs.Common.{ℕ, zero, suc, ◌+◌, ◌-◌, ◌*◌, List, [], ◌∷◌, ◌++◌, map, length, Option, Some, None, Bool, true, false, cond}
-use Rattle.std.specs.Prelude.{nat_eq, nat_le}
+use Rattle.std.specs.Prelude.{nat_le}
 use Rattle.wasm_tree.specs.declared.types.FuncType.{FuncType}
 use Rattle.wasm_tree.specs.declared.types.Limits.{Limits}
-use Rattle.wasm_tree.specs.declared.types.GlobalType.{GlobalType}
-use Rattle.wasm_tree.specs.declared.types.ValType.TheVariants as valt
-use Rattle.wasm_tree.specs.declared.types.RefType.{RefType}
 use Rattle.wasm_tree.specs.declared.module.Import.{Import}
 use Rattle.wasm_tree.specs.declared.module.ImportDesc.{ImportDesc}
 use Rattle.wasm_tree.specs.declared.module.ImportDesc.TheVariants as im
@@ -24,8 +21,8 @@ use Rattle.wasm_tree.specs.declared.module.DataMode.TheVariants as data'
 use Rattle.wasm_tree.specs.declared.module.Func as tree
 use Rattle.wasm_tree.specs.declared.module.Module.{Module}
 use Rattle.wasm_num.specs.Operations.{W32, W64, wrapped}
-use Rattle.wasm_meaning.specs.Outcomes.{Outcome, Gives, Traps, IllTyped, bind, at, overwrite, copies}
-use Rattle.wasm_meaning.specs.State.{Text, Pair, RefVal, FuncRef, Val, Num, Ref, Inst, Func, Code, Table, Memory, Global, Elem, Data, Store, DropElem, DropData, SetTable, SetMemory, Change}
+use Rattle.wasm_meaning.specs.Outcomes.{Outcome, Gives, overwrite, copies}
+use Rattle.wasm_meaning.specs.State.{Text, Pair, RefVal, FuncRef, Val, Num, Ref, Inst, Func, Code, Table, Memory, Global, Elem, Store, DropElem, DropData, SetTable, SetMemory}
 use Rattle.wasm_meaning.specs.Values.{same_ref, same_type, same_func_type, null_of, declared, ref_of, num_of}
 use Rattle.wasm_meaning.specs.Control.{type_at}
 use Rattle.wasm_meaning.specs.Step.{changed, no_items}
@@ -99,7 +96,7 @@ outside_thing owned parts s = then_some (module_at parts s.part) (λ m. then_som
 abbrev pub defined_thing : Environment → List Part → Entity → Option Thing
 defined_thing env parts e =
     then_some (module_at parts e.part)
-      (λ m. let k = kind_of_export e.what in Some (thing_at k (base env parts k e.part + (index_of_export e.what - length (imports_of k m)))))
+    (λ m. let k = kind_of_export e.what in Some (thing_at k (base env parts k e.part + (index_of_export e.what - length (imports_of k m)))))
 
 abbrev pub thing_of : Environment → List Part → End → Option Thing
 thing_of env parts (Defined e) = defined_thing env parts e
@@ -121,7 +118,7 @@ numbers n (suc count) = n ∷ numbers (suc n) count
 abbrev pub space : Environment → List Part → Kind → ℕ → Module → Option (List ℕ)
 space env parts k p m =
     then_some (all_there (λ n. then_some (imported_thing env parts (record { part = p; import = n })) (address_of k)) (imports_of k m))
-      (λ imported. Some (imported ++ numbers (base env parts k p) (defined_count k m)))
+    (λ imported. Some (imported ++ numbers (base env parts k p) (defined_count k m)))
 
 -- element and data segments have addresses by part
 abbrev pub elems_before : List Part → ℕ → ℕ
@@ -137,10 +134,15 @@ datas_before (part ∷ parts) (suc p) = length part.«module».datas + datas_bef
 abbrev pub inst_of : Environment → List Part → ℕ → Module → Option Inst
 inst_of env parts p m =
     then_some (space env parts Functions p m) (λ funcs. then_some (space env parts Tables p m) (λ tables. then_some (space env parts Memories p m) (λ mems. then_some (space env parts Globals p m) (λ globals.
-      Some (record {
-        types = m.types; funcs = funcs; tables = tables; mems = mems; globals = globals;
-        elems = numbers (elems_before parts p) (length m.elems); datas = numbers (datas_before parts p) (length m.datas);
-      })))))
+    Some (record {
+      types = m.types;
+      funcs = funcs;
+      tables = tables;
+      mems = mems;
+      globals = globals;
+      elems = numbers (elems_before parts p) (length m.elems);
+      datas = numbers (datas_before parts p) (length m.datas);
+    })))))
 
 -- ---- constant expressions ----
 
@@ -185,12 +187,14 @@ elem_of env parts insts p e = then_some (all_there (ref_value env parts insts p)
 abbrev pub part_store : Environment → List Part → List Inst → ℕ → Module → Inst → Option Store
 part_store env parts insts p m i =
     then_some (all_there (new_func i) m.funcs) (λ funcs. then_some (all_there (new_global env parts insts p) m.globals) (λ globals. then_some (all_there (elem_of env parts insts p) m.elems) (λ elems.
-      Some (record {
-        funcs = funcs; globals = globals; elems = elems;
-        tables = map (λ t. record { ty = t.ty; most = t.limits.max; slots = copies t.limits.min (null_of t.ty) }) m.tables;
-        mems = map (λ l. record { most = l.max; pages = l.min; bytes = copies (65536 * l.min) 0 }) m.mems;
-        datas = map (λ d. record { bytes = d.bytes; dropped = false }) m.datas;
-      }))))
+    Some (record {
+      funcs = funcs;
+      globals = globals;
+      elems = elems;
+      tables = map (λ t. record { ty = t.ty; most = t.limits.max; slots = copies t.limits.min (null_of t.ty) }) m.tables;
+      mems = map (λ l. record { most = l.max; pages = l.min; bytes = copies (65536 * l.min) 0 }) m.mems;
+      datas = map (λ d. record { bytes = d.bytes; dropped = false }) m.datas;
+    }))))
 
 abbrev pub joined_stores : Store → Store → Store
 joined_stores s t =
@@ -357,7 +361,7 @@ begun env w insts view filled = record { store = filled.store; trapped = filled.
 abbrev pub instantiate : Environment → World → Option Begun
 instantiate env w =
     then_some (insts_from env w.parts 0 w.parts) (λ insts. then_some (stores_from env w.parts insts (own_store env) 0 w.parts insts) (λ s. then_some (all_there (seen_as insts) w.view) (λ view.
-      cond (all_of (is_matched env w.parts s) (sites w.parts)) (Some (begun env w insts view (segments env w.parts insts s))) None)))
+    cond (all_of (is_matched env w.parts s) (sites w.parts)) (Some (begun env w insts view (segments env w.parts insts s))) None)))
 
 abbrev pub is_there : {A : Type 0} → Option A → Bool
 is_there None = false

@@ -8,11 +8,9 @@ ghost use Rattle.wasm_meaning.specs.Laws.{RunsAreDetermined, ShorterRunsArePrefi
 /// A run is determined by its world, its environment, the embedder's moves and the number of steps.
 pub fn runs_are_determined()
     ensures determined { RunsAreDetermined }
-{
-}
+{}
 
 /// What is seen in fewer steps of a run comes first in what is seen in more.
 pub fn shorter_runs_are_prefixes()
     ensures prefixes { ShorterRunsArePrefixes }
-{
-}
+{}

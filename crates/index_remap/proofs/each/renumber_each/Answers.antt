@@ -1,4 +1,3 @@
-use Rattle.std.proofs.Common.{rules}
 use Rattle.index_remap.proofs.Fits.{each_at}
 use Rattle.index_remap.proofs.each.renumber_each.Goals as goal
 
