@@ -1,0 +1,72 @@
+-- A step leaves alone what it does not touch.
+use Rattle.std.proofs.Common.{◌≡◌, ℕ, List, ◌∷◌, ◌++◌, refl, sym, ap, subst}
+use Rattle.wasm_meaning.specs.Outcomes.{Outcome, bind}
+use Rattle.wasm_meaning.specs.State.{Val, Store, Frame, Entry, Act, Ends}
+use Rattle.wasm_meaning.specs.Values.{pop_typed}
+use Rattle.wasm_meaning.specs.Step.{enter_at, give, act, perform, step, to_mark}
+use Rattle.index_remap.specs.Related.{Funcs, Pairing, OneToOne, ResRel, done, trap, wrong, ListRel, nil, cons, ValRel, StoreRel, FrameRel, EntryRel, running, mark, opening, waiting, ended, growing, ActRel, goes, calls, asks_grow, ends, NextRel, ran, asked_grow, returned, NotListed, TopSkips}
+use Rattle.index_remap.specs.Laws.{Above, NeedsBelow, Touches, EntriesKnown, HasMark, below, MarksAgree}
+use Rattle.index_remap.proofs.Rel.{there, same_there, bind_rel, bind_eq}
+use Rattle.index_remap.proofs.ValueSteps.{pop_typed_rel}
+use Rattle.index_remap.proofs.StepsAgree.{frame_rel, left_rel, enter_rel, give_levels_rel, changed_rel, act_rel}
+
+module _ (R : Pairing) (cs ds : List Entry) where
+  pub marks_agree : {s t : Store} {es fs : List Entry} → ListRel (EntryRel R) es fs → HasMark es → ResRel (MarksAgree R cs ds s t) (to_mark (es ++ cs)) (to_mark (fs ++ ds))
+  marks_agree nil h = elim h [ ]
+  marks_agree (cons mark e) h = done (record { caller = refl; rest = record { first = _; second = _; related = e; left = refl; right = refl } })
+  marks_agree (cons (opening x) e) h = done (record { caller = refl; rest = record { first = _; second = _; related = e; left = refl; right = refl } })
+  marks_agree (cons (running f) e) (below h) = marks_agree e h
+  marks_agree (cons waiting e) (below h) = marks_agree e h
+  marks_agree (cons (ended v) e) (below h) = marks_agree e h
+  marks_agree (cons (growing n) e) (below h) = marks_agree e h
+
+module _ (R : Pairing) (apart : OneToOne R) (cs ds : List Entry) where
+  abbrev pub Both : Store → Store → List Entry → List Entry → Type 0
+  Both = Above R cs ds
+
+  push : (s t : Store) (e f : Entry) (es fs : List Entry) → EntryRel R e f → Both s t es fs → Both s t (e ∷ es) (f ∷ fs)
+  push s t e f es fs p r = record { first = e ∷ r.first; second = f ∷ r.second; related = cons p r.related; left = ap (λ l. e ∷ l) r.left; right = ap (λ l. f ∷ l) r.right }
+
+  above : {s t : Store} {es fs : List Entry} → ListRel (EntryRel R) es fs → Both s t (es ++ cs) (fs ++ ds)
+  above e = record { first = _; second = _; related = e; left = refl; right = refl }
+
+  give_rel : {s t : Store} {vs ws : List Val} {e f : Entry} {es fs : List Entry} → StoreRel R s t → ListRel (ValRel R) vs ws → EntryRel R e f → ListRel (EntryRel R) es fs →
+      ResRel (NextRel R Both) (give s vs (e ∷ (es ++ cs))) (give t ws (f ∷ (fs ++ ds)))
+  give_rel s v (running f) e = give_levels_rel R apart Both Both (λ s t es fs e. e) push s f f.levels v (above e)
+  give_rel s v mark e = done (returned v s (above e))
+  give_rel s v (opening x) e = done (ran s (push _ _ _ _ _ _ (opening x) (above e)))
+  give_rel s v waiting e = wrong
+  give_rel s v (ended w) e = wrong
+  give_rel s v (growing n) e = wrong
+
+  enter_at_rel : {s t : Store} {a b : ℕ} {vs ws : List Val} {es fs : List Entry} → StoreRel R s t → R.of Funcs a b → ¬ R.listed a → ListRel (ValRel R) vs ws → Both s t es fs → ResRel (NextRel R Both) (enter_at s a vs es) (enter_at t b ws fs)
+  enter_at_rel s n free v e = bind_rel (there (s.funcs n free)) (λ _ _ f. done (enter_rel R apart Both Both (λ s t es fs e. e) push s f v e))
+
+  ends_rel : {s t : Store} {f g : Frame} {vs ws : List Val} {es fs : List Entry} → StoreRel R s t → FrameRel R f g → ListRel (ValRel R) vs ws → ListRel (EntryRel R) es fs → NeedsBelow es (Ends vs) →
+      ResRel (NextRel R Both) (perform s f (es ++ cs) (Ends vs)) (perform t g (fs ++ ds) (Ends ws))
+  ends_rel s p v nil needs = absurd needs
+  ends_rel {s = s1} {t = t1} {f = f} {vs = vs} {ws = ws} s p v (cons {a = x} {b = y} {xs = es} {ys = fs} e r) needs =
+      subst (λ ts. ResRel (NextRel R Both) (bind (pop_typed f.results vs) (λ q. give s1 q.0 (x ∷ (es ++ cs)))) (bind (pop_typed ts ws) (λ q. give t1 q.0 (y ∷ (fs ++ ds))))) p.results
+      (bind_rel (pop_typed_rel R f.results v) (λ _ _ q. give_rel s q.first e r))
+
+  perform_free : {s t : Store} {f g : Frame} {x y : Act} {es fs : List Entry} → StoreRel R s t → FrameRel R f g → ActRel R f.inst g.inst x y → ListRel (EntryRel R) es fs → NotListed R x → NeedsBelow es x →
+      ResRel (NextRel R Both) (perform s f (es ++ cs) x) (perform t g (fs ++ ds) y)
+  perform_free s f (goes c r) e free needs = done (ran (changed_rel R apart s c) (push _ _ _ _ _ _ (running (frame_rel R apart f r)) (above e)))
+  perform_free s f (calls n v r) e free needs =
+      bind_eq (same_there (s.types n)) (λ u. bind_rel (pop_typed_rel R u.params v) (λ _ _ p. enter_at_rel s n free p.first (push _ _ _ _ _ _ (running (frame_rel R apart f (left_rel R apart r p.second))) (above e))))
+  perform_free s f (asks_grow n r) e free needs = done (asked_grow n s (push _ _ _ _ _ _ (growing n) (push _ _ _ _ _ _ (running (frame_rel R apart f r)) (above e))))
+  perform_free s f (ends v) e free needs = ends_rel s f v e needs
+
+  pub step_above : {s t : Store} {es fs : List Entry} → StoreRel R s t → ListRel (EntryRel R) es fs → Touches s es → TopSkips R s es → EntriesKnown R es fs → ResRel (NextRel R Both) (step s (es ++ cs)) (step t (fs ++ ds))
+  step_above s nil touches free known = absurd touches
+  step_above s (cons mark e) touches free known = absurd touches
+  step_above s (cons (opening x) e) touches free known = absurd touches
+  step_above s (cons waiting e) touches free known = absurd touches
+  step_above s (cons (ended v) e) touches free known = absurd touches
+  step_above s (cons (growing n) e) touches free known = absurd touches
+  step_above {s} {t} p (cons {xs = es} {ys = fs} (running {f = f} {g = g} q) e) touches free known = go (act s f) (act t g) refl (act_rel R apart p q free.direct known)
+    where
+      go : (x y : Outcome Act) → x ≡ act s f → ResRel (ActRel R f.inst g.inst) x y → ResRel (NextRel R Both) (bind x (perform s f (es ++ cs))) (bind y (perform t g (fs ++ ds)))
+      go _ _ i trap = trap
+      go _ _ i wrong = wrong
+      go _ _ i (done a) = perform_free p q a e (free.made _ (sym i)) (touches _ (sym i))

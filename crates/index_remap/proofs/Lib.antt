@@ -1,0 +1,12 @@
+pub mod Fits
+pub mod Rel
+pub mod ValueSteps
+pub mod MemorySteps
+pub mod TableSteps
+pub mod ControlSteps
+pub mod StepsAgree
+pub mod Known
+pub mod Lockstep
+pub mod Runs
+pub mod SameRuns
+pub mod AboveSteps

@@ -1,0 +1,164 @@
+-- Options, lists and stores that correspond.
+use Rattle.std.proofs.Common.{◌≡◌, ℕ, zero, suc, List, [], ◌∷◌, ◌++◌, length, Option, Bool, true, false, cond, refl, sym, ap, subst}
+use native.Mathlib.Decide.{ℕ_discrete}
+use Rattle.wasm_meaning.specs.Outcomes.{Outcome, Gives, Traps, IllTyped, trapping, or_trap, bind, at, put, onto, past, split_at, slice, overwrite, copies}
+use Rattle.index_remap.specs.Related.{Kind, Pairing, OneToOne, OptRel, none, some, BothRel, both, ResRel, done, trap, wrong, ListRel, nil, cons}
+
+-- ---- options ----
+
+pub bind_rel : {A B C D : Type 0} {P : A → B → Type 0} {Q : C → D → Type 0} {o : Outcome A} {p : Outcome B} {f : A → Outcome C} {g : B → Outcome D} → ResRel P o p → ((a : A) (b : B) → P a b → ResRel Q (f a) (g b)) → ResRel Q (bind o f) (bind p g)
+bind_rel trap h = trap
+bind_rel wrong h = wrong
+bind_rel (done q) h = h _ _ q
+
+-- the same on both sides
+pub bind_same : {A C D : Type 0} {Q : C → D → Type 0} {f : A → Outcome C} {g : A → Outcome D} (o : Outcome A) → ((a : A) → ResRel Q (f a) (g a)) → ResRel Q (bind o f) (bind o g)
+bind_same Traps h = trap
+bind_same IllTyped h = wrong
+bind_same (Gives a) h = h a
+
+pub bind_eq : {A C D : Type 0} {Q : C → D → Type 0} {f : A → Outcome C} {g : A → Outcome D} {o p : Outcome A} → o ≡ p → ((a : A) → ResRel Q (f a) (g a)) → ResRel Q (bind o f) (bind p g)
+bind_eq {Q = Q} {f = f} {g = g} {o = o} e h = subst (λ x. ResRel Q (bind o f) (bind x g)) e (bind_same o h)
+
+-- with what the first came to
+pub bind_rel_is : {A B C D : Type 0} {P : A → B → Type 0} {Q : C → D → Type 0} {o : Outcome A} {p : Outcome B} {f : A → Outcome C} {g : B → Outcome D} → ResRel P o p → ((a : A) (b : B) → o ≡ Gives a → P a b → ResRel Q (f a) (g b)) → ResRel Q (bind o f) (bind p g)
+bind_rel_is trap h = trap
+bind_rel_is wrong h = wrong
+bind_rel_is (done q) h = h _ _ refl q
+
+pub bind_is : {A C D : Type 0} {Q : C → D → Type 0} {f : A → Outcome C} {g : A → Outcome D} {o p : Outcome A} → o ≡ p → ((a : A) → o ≡ Gives a → ResRel Q (f a) (g a)) → ResRel Q (bind o f) (bind p g)
+bind_is {Q = Q} {f = f} {g = g} {o = o} e h = subst (λ x. ResRel Q (bind o f) (bind x g)) e (go o h)
+  where
+    go : (x : Outcome _) → ((a : _) → x ≡ Gives a → ResRel Q (f a) (g a)) → ResRel Q (bind x f) (bind x g)
+    go Traps h = trap
+    go IllTyped h = wrong
+    go (Gives a) h = h a refl
+
+-- P of what is there
+pub data OptAll {A : Type 0} (P : A → Type 0) : Outcome A → Type 0 where
+  nothing : OptAll P IllTyped
+  stopped : OptAll P Traps
+  just : {a : A} → P a → OptAll P (Gives a)
+
+pub bind_all : {A C : Type 0} {P : A → Type 0} {Q : C → Type 0} {o : Outcome A} {f : A → Outcome C} → OptAll P o → ((a : A) → o ≡ Gives a → P a → OptAll Q (f a)) → OptAll Q (bind o f)
+bind_all nothing h = nothing
+bind_all stopped h = stopped
+bind_all (just p) h = h _ refl p
+
+pub any : {A : Type 0} (o : Outcome A) → OptAll (λ a. Unit {0}) o
+any IllTyped = nothing
+any Traps = stopped
+any (Gives a) = just tt
+
+pub all_at : {A : Type 0} {P : A → Type 0} {o : Outcome A} {a : A} → OptAll P o → o ≡ Gives a → P a
+all_at {P = P} h e = go (subst (OptAll P) e h)
+  where
+    go : {b : _} → OptAll P (Gives b) → P b
+    go (just p) = p
+
+pub same_rel : {A : Type 0} {P : A → A → Type 0} (o : Outcome A) → ((a : A) → P a a) → ResRel P o o
+same_rel Traps h = trap
+same_rel IllTyped h = wrong
+same_rel (Gives a) h = done (h a)
+
+pub cond_rel : {A B : Type 0} {P : A → B → Type 0} (b : Bool) {x y : Outcome A} {u v : Outcome B} → ResRel P x u → ResRel P y v → ResRel P (cond b x y) (cond b u v)
+cond_rel true p q = p
+cond_rel false p q = q
+
+pub cond_two : {A B : Type 0} (P : A → B → Type 0) (b : Bool) {x y : A} {u v : B} → P x u → P y v → P (cond b x y) (cond b u v)
+cond_two P true p q = p
+cond_two P false p q = q
+
+-- a pair of what is taken and what is left
+pub record PairRel {A B C D : Type 0} (P : A → B → Type 0) (Q : C → D → Type 0) (a : A × C) (b : B × D) : Type 0 where
+  pub first : P a.0 b.0
+  pub second : Q a.1 b.1
+
+-- ---- lists ----
+
+pub at_rel : {A B : Type 0} {P : A → B → Type 0} {xs : List A} {ys : List B} → ListRel P xs ys → (n : ℕ) → ResRel P (at xs n) (at ys n)
+at_rel nil n = wrong
+at_rel (cons p r) zero = done p
+at_rel (cons p r) (suc n) = at_rel r n
+
+pub put_rel : {A B : Type 0} {P : A → B → Type 0} {xs : List A} {ys : List B} {v : A} {w : B} → ListRel P xs ys → (n : ℕ) → P v w → ListRel P (put xs n v) (put ys n w)
+put_rel nil n q = nil
+put_rel (cons p r) zero q = cons q r
+put_rel (cons p r) (suc n) q = cons p (put_rel r n q)
+
+pub onto_rel : {A B : Type 0} {P : A → B → Type 0} {xs vs : List A} {ys ws : List B} → ListRel P xs ys → ListRel P vs ws → ListRel P (onto xs vs) (onto ys ws)
+onto_rel nil s = s
+onto_rel (cons p r) s = onto_rel r (cons p s)
+
+pub append_rel : {A B : Type 0} {P : A → B → Type 0} {xs vs : List A} {ys ws : List B} → ListRel P xs ys → ListRel P vs ws → ListRel P (xs ++ vs) (ys ++ ws)
+append_rel nil s = s
+append_rel (cons p r) s = cons p (append_rel r s)
+
+pub past_rel : {A B : Type 0} {P : A → B → Type 0} {xs : List A} {ys : List B} → ListRel P xs ys → (n : ℕ) → ListRel P (past xs n) (past ys n)
+past_rel r zero = r
+past_rel nil (suc n) = nil
+past_rel (cons p r) (suc n) = past_rel r n
+
+pub length_rel : {A B : Type 0} {P : A → B → Type 0} {xs : List A} {ys : List B} → ListRel P xs ys → length xs ≡ length ys
+length_rel nil = refl
+length_rel (cons p r) = ap suc (length_rel r)
+
+pub copies_rel : {A B : Type 0} {P : A → B → Type 0} (v : A) (w : B) (n : ℕ) → P v w → ListRel P (copies n v) (copies n w)
+copies_rel v w zero p = nil
+copies_rel v w (suc n) p = cons p (copies_rel v w n p)
+
+pub split_rel : {A B : Type 0} {P : A → B → Type 0} {xs : List A} {ys : List B} (n : ℕ) → ListRel P xs ys → ResRel (PairRel (ListRel P) (ListRel P)) (split_at n xs) (split_at n ys)
+split_rel zero r = done (record { first = nil; second = r })
+split_rel (suc n) nil = wrong
+split_rel (suc n) (cons p r) = bind_rel (split_rel n r) (λ _ _ q. done (record { first = cons p q.first; second = q.second }))
+
+pub slice_rel : {A B : Type 0} {P : A → B → Type 0} {xs : List A} {ys : List B} (place n : ℕ) → ListRel P xs ys → ResRel (ListRel P) (slice xs place n) (slice ys place n)
+slice_rel place n r = bind_rel (split_rel place r) (λ _ _ p. bind_rel (split_rel n p.second) (λ _ _ q. done q.first))
+
+pub overwrite_rel : {A B : Type 0} {P : A → B → Type 0} {xs vs : List A} {ys ws : List B} (place : ℕ) → ListRel P xs ys → ListRel P vs ws → ResRel (ListRel P) (overwrite xs place vs) (overwrite ys place ws)
+overwrite_rel {P = P} {vs = vs} {ws = ws} place r s =
+    bind_rel (split_rel place r) (λ a b p.
+    let part = subst (λ n. ResRel (PairRel (ListRel P) (ListRel P)) (split_at (length vs) a.1) (split_at n b.1)) (length_rel s) (split_rel (length vs) p.second) in
+    bind_rel part (λ _ _ q. done (append_rel p.first (append_rel s q.second))))
+
+pub there : {A B : Type 0} {P : A → B → Type 0} {o : Outcome A} {p : Outcome B} → BothRel P o p → ResRel P o p
+there (both r) = done r
+
+pub same_there : {A : Type 0} {o p : Outcome A} → BothRel (◌≡◌ {A = A}) o p → o ≡ p
+same_there (both e) = ap Gives e
+
+-- ---- a write at related addresses ----
+
+at_put_here : {A : Type 0} (xs : List A) (n : ℕ) (v : A) → at (put xs n v) n ≡ bind (at xs n) (λ old. Gives v)
+at_put_here [] n v = refl
+at_put_here (x ∷ xs) zero v = refl
+at_put_here (x ∷ xs) (suc n) v = at_put_here xs n v
+
+at_put_there : {A : Type 0} (xs : List A) (n m : ℕ) (v : A) → (n ≡ m → ⊥) → at (put xs n v) m ≡ at xs m
+at_put_there [] n m v h = refl
+at_put_there (x ∷ xs) zero zero v h = absurd (h refl)
+at_put_there (x ∷ xs) zero (suc m) v h = refl
+at_put_there (x ∷ xs) (suc n) zero v h = refl
+at_put_there (x ∷ xs) (suc n) (suc m) v h = at_put_there xs n m v (λ e. h (ap suc e))
+
+module _ (R : Pairing) (apart : OneToOne R) (k : Kind) {A B : Type 0} (P : A → B → Type 0) (xs : List A) (ys : List B) (v : A) (w : B) where
+  pub write_rel : {a b : ℕ} → R.of k a b → ((c d : ℕ) → R.of k c d → BothRel P (at xs c) (at ys d)) → P v w → (c d : ℕ) → R.of k c d → BothRel P (at (put xs a v) c) (at (put ys b w) d)
+  write_rel {a} {b} r all p c d q = go (ℕ_discrete a c) (ℕ_discrete b d)
+    where
+      written : {o : Outcome A} {p' : Outcome B} → BothRel P o p' → BothRel P (bind o (λ old. Gives v)) (bind p' (λ old. Gives w))
+      written (both q) = both p
+
+      go : Dec (a ≡ c) → Dec (b ≡ d) → BothRel P (at (put xs a v) c) (at (put ys b w) d)
+      go (yes e) (yes f) = rw (← e, ← f, at_put_here xs a v, at_put_here ys b w) (written (all a b r))
+      go (yes e) (no f) = absurd (f (apart.right a b d r (subst (λ x. R.of k x d) (sym e) q)))
+      go (no e) (yes f) = absurd (e (apart.left a c b r (subst (λ x. R.of k c x) (sym f) q)))
+      go (no e) (no f) = rw (at_put_there xs a c v e, at_put_there ys b d w f) (all c d q)
+
+pub trapping_rel : {A B : Type 0} {P : A → B → Type 0} {o : Outcome A} {p : Outcome B} → ResRel P o p → ResRel P (trapping o) (trapping p)
+trapping_rel (done q) = done q
+trapping_rel trap = trap
+trapping_rel wrong = trap
+
+pub or_trap_rel : {A B : Type 0} {P : A → B → Type 0} {o : Option A} {p : Option B} → OptRel P o p → ResRel P (or_trap o) (or_trap p)
+or_trap_rel none = trap
+or_trap_rel (some q) = done q

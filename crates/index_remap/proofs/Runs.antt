@@ -1,0 +1,355 @@
+-- Related runs show the same events.
+use Rattle.std.proofs.Common.{◌≡◌, ℕ, ◌^◌, List, [], ◌∷◌, ◌++◌, Option, Some, None, Bool, true, false, cond, ◌⊎◌, inl, inr, refl, sym, ap, subst, ◌∙◌}
+use Rattle.std.proofs.lemmas.Bool.Decides.{eqb_tells}
+use Rattle.std.specs.Prelude.{nat_eq, nat_lt}
+use Rattle.wasm_tree.specs.declared.types.RefType.{RefType}
+use Rattle.wasm_tree.specs.declared.types.RefType.TheVariants as reft
+use Rattle.wasm_tree.specs.declared.types.ValType.{ValType}
+use Rattle.wasm_tree.specs.declared.types.ValType.TheVariants as valt
+use Rattle.wasm_tree.specs.declared.types.FuncType.{FuncType}
+use Rattle.wasm_num.specs.Operations.{W32}
+use Rattle.wasm_meaning.specs.Outcomes.{Outcome, Gives, Traps, IllTyped, bind, at, overwrite}
+use Rattle.wasm_meaning.specs.State.{Pair, RefVal, Val, Num, Table, Memory, Store, Change, SetTable, Growth, Entry, Caller, Host, Starter, Opening, Ended, Next}
+use Rattle.wasm_meaning.specs.Values.{typed, null_of, ref_of}
+use Rattle.wasm_meaning.specs.Memory.{memory_may_grow}
+use Rattle.wasm_meaning.specs.Tables.{table_may_grow}
+use Rattle.wasm_meaning.specs.Control.{own_at}
+use Rattle.wasm_meaning.specs.Step.{give, step}
+use Rattle.wasm_meaning.specs.Linking.{same_text}
+use Rattle.wasm_meaning.specs.Environment.{Shown, Number, Null, OwnFunc, ExternNumber, Function, Thing, FuncKey, TableKey, MemoryKey, GlobalKey, Owned, same_key, look_up, owned_at, func_of, func_value, received, received_ref, received_all}
+use Rattle.wasm_meaning.specs.World.{Begun}
+use Rattle.wasm_meaning.specs.Run.{Event, InstanceTrapped, Returned, Asked, Got, Place, TableOf, MemoryOf, GlobalOf, Named, Move, Call, Invoke, Take, Answer, Refuse, Grant, Deny, Get, Size, Set, Extend, Phase, Pending, Closed, Run, Out, place_at, place_of, numbered, show_func, show, show_all, trapped_at, trapped_to, showing, after, called, is_mark, delivered, grown_table, answered, refused, with_change, granted, decided, shows, got, size_of, does, byte_of, set, extended, moved, at_entries, or_bad, or_closed, next_move, began, view_of, nothing_in, started, open_next, is_taken_closed, closed_move, in_phase, tick_at}
+use Rattle.index_remap.specs.Related.{Funcs, Mems, Pairing, OneToOne, OptRel, none, some, ResRel, done, trap, wrong, ListRel, nil, cons, RefRel, func, extern, ValRel, number, reference, TableRel, StoreRel, mark, opening, waiting, ended, growing, ChangeRel, set_global, set_memory, set_table, GrowthRel, memory_grows, table_grows, NextRel, ran, asked, asked_grow, loads, returned}
+use Rattle.index_remap.specs.RelatedRuns.{ThingRel, a_func, a_table, a_memory, a_global, KeyRel, BegunRel, PhaseRel, fresh, pending, opened, closed, RunRel, OutRel}
+use Rattle.index_remap.proofs.Rel.{there, same_there, bind_rel, bind_rel_is, bind_is, bind_same, bind_eq, cond_rel, PairRel, OptAll, nothing, just, bind_all, all_at, any, at_rel, append_rel, length_rel, copies_rel, overwrite_rel}
+use Rattle.index_remap.proofs.ValueSteps.{Fits}
+use Rattle.index_remap.proofs.TableSteps.{may_rel}
+use Rattle.index_remap.proofs.StepsAgree.{Stacks, TopView, top_none, top_mark, top_opening, top_waiting, top_ended, top_growing, top_running, changed_rel}
+
+module _ (R : Pairing) (apart : OneToOne R) (B C : Store → Store → List Entry → List Entry → Type 0) (stacks : Stacks R apart B C) (F : Store → Store → List Entry → List Entry → Type 0) (begins : (s t : Store) (es fs : List Entry) → F s t es fs → B s t es fs) where
+  -- ---- the run with a part changed ----
+
+  state_rel : {r q : Run} {s t : Store} {es fs : List Entry} → RunRel R B F r q → StoreRel R s t → B s t es fs → RunRel R B F (record r { store = s; entries = es }) (record q { store = t; entries = fs })
+  state_rel h s e = record { store = s; entries = e; phase = h.phase; shown = h.shown; view = h.view; owned = h.owned; moves = h.moves }
+
+  shown_rel : {r q : Run} {xs ys : List ℕ} → RunRel R B F r q → ListRel (R.of Funcs) xs ys → RunRel R B F (record r { shown = xs }) (record q { shown = ys })
+  shown_rel h x = record { store = h.store; entries = h.entries; phase = h.phase; shown = x; view = h.view; owned = h.owned; moves = h.moves }
+
+  phase_rel : {r q : Run} {p o : Phase} → RunRel R B F r q → PhaseRel R F p o → RunRel R B F (record r { phase = p }) (record q { phase = o })
+  phase_rel h x = record { store = h.store; entries = h.entries; phase = x; shown = h.shown; view = h.view; owned = h.owned; moves = h.moves }
+
+  -- ---- values shown ----
+
+  eq_rel : {a b c d : ℕ} → R.of Funcs a b → R.of Funcs c d → nat_eq a c ≡ nat_eq b d
+  eq_rel {a} {b} {c} {d} p q = go (eqb_tells a c) (eqb_tells b d)
+    where
+      go : ((nat_eq a c ≡ true) × (a ≡ c)) ⊎ ((nat_eq a c ≡ false) × (a ≡ c → ⊥)) → ((nat_eq b d ≡ true) × (b ≡ d)) ⊎ ((nat_eq b d ≡ false) × (b ≡ d → ⊥)) → nat_eq a c ≡ nat_eq b d
+      go (inl e) (inl f) = e.0 ∙ sym f.0
+      go (inl e) (inr f) = absurd (f.1 (apart.right a b d p (subst (λ x. R.of Funcs x d) (sym e.1) q)))
+      go (inr e) (inl f) = absurd (e.1 (apart.left a c b p (subst (λ x. R.of Funcs c x) (sym f.1) q)))
+      go (inr e) (inr f) = e.0 ∙ sym f.0
+
+  place_rel : {xs ys : List ℕ} {a b : ℕ} → ListRel (R.of Funcs) xs ys → R.of Funcs a b → place_of xs a ≡ place_of ys b
+  place_rel nil p = refl
+  place_rel {a = a} {b = b} (cons {a = x} {b = y} {xs = xs} {ys = ys} q r) p = rw (eq_rel q p, place_rel r p)
+
+  snoc_rel : {xs ys : List ℕ} {a b : ℕ} → ListRel (R.of Funcs) xs ys → R.of Funcs a b → ListRel (R.of Funcs) (xs ++ a ∷ []) (ys ++ b ∷ [])
+  snoc_rel nil p = cons p nil
+  snoc_rel (cons q r) p = cons q (snoc_rel r p)
+
+  pub record ShowRel {A : Type 0} (x y : A × List ℕ) : Type 0 where
+    pub same : x.0 ≡ y.0
+    pub shown : ListRel (R.of Funcs) x.1 y.1
+
+  numbered_rel : {xs ys : List ℕ} {a b : ℕ} (o : Outcome ℕ) → ListRel (R.of Funcs) xs ys → R.of Funcs a b → ShowRel (numbered xs a o) (numbered ys b o)
+  numbered_rel (Gives k) r p = record { same = refl; shown = r }
+  numbered_rel IllTyped r p = record { same = ap Function (length_rel r); shown = snoc_rel r p }
+  numbered_rel Traps r p = record { same = ap Function (length_rel r); shown = snoc_rel r p }
+
+  show_func_rel : {xs ys : List ℕ} {a b : ℕ} (o : Outcome (Pair × FuncType)) → ListRel (R.of Funcs) xs ys → R.of Funcs a b → ShowRel (show_func xs a o) (show_func ys b o)
+  show_func_rel (Gives p) r q = record { same = refl; shown = r }
+  show_func_rel {xs} {a = a} IllTyped r q = rw (← (place_rel r q)) (numbered_rel (place_of xs a) r q)
+  show_func_rel {xs} {a = a} Traps r q = rw (← (place_rel r q)) (numbered_rel (place_of xs a) r q)
+
+  show_rel : {s t : Store} {xs ys : List ℕ} {v w : Val} → StoreRel R s t → ListRel (R.of Funcs) xs ys → ValRel R v w → ShowRel (show s xs v) (show t ys w)
+  show_rel s r number = record { same = refl; shown = r }
+  show_rel s r (reference (func none)) = record { same = refl; shown = r }
+  show_rel {s = s} h r (reference (func (some {a = a} q))) = rw (← (h.owns q)) (show_func_rel (own_at s a) r q)
+  show_rel s r (reference (extern {n = None})) = record { same = refl; shown = r }
+  show_rel s r (reference (extern {n = Some n})) = record { same = refl; shown = r }
+
+  show_all_rel : {s t : Store} {vs ws : List Val} → StoreRel R s t → ListRel (ValRel R) vs ws → (xs ys : List ℕ) → ListRel (R.of Funcs) xs ys → ShowRel (show_all s xs vs) (show_all t ys ws)
+  show_all_rel s nil xs ys r = record { same = refl; shown = r }
+  show_all_rel s (cons v vs) xs ys r =
+      let one = show_rel s r v in let rest = show_all_rel s vs _ _ one.shown in record { same = rw (one.same, rest.same); shown = rest.shown }
+
+  -- ---- values received ----
+
+  look_rel : {K : Type 0} (is : K → Bool) {xs ys : List (K × Thing)} → ListRel (KeyRel R) xs ys → ResRel (ThingRel R) (look_up is xs) (look_up is ys)
+  look_rel is nil = wrong
+  look_rel is (cons {b = b} o os) = rw o.key (cond_rel (is b.0) (done o.thing) (look_rel is os))
+
+  func_of_rel : {x y : Thing} → ThingRel R x y → ResRel (R.of Funcs) (func_of x) (func_of y)
+  func_of_rel (a_func n) = done n
+  func_of_rel (a_table n) = wrong
+  func_of_rel (a_memory n) = wrong
+  func_of_rel (a_global n) = wrong
+
+  value_rel : {o p : Outcome ℕ} → ResRel (R.of Funcs) o p → ResRel (ValRel R) (func_value o) (func_value p)
+  value_rel o = bind_rel o (λ _ _ p. done (reference (func (some p))))
+
+  received_rel : {o p : Owned} {xs ys : List ℕ} (t : ValType) (x : Shown) → ListRel (KeyRel R) o p → ListRel (R.of Funcs) xs ys → ResRel (ValRel R) (received o xs t x) (received p ys t x)
+  received_rel valt.I32 (Number n) o s = cond_rel (nat_lt n (2 ^ 32)) (done number) wrong
+  received_rel valt.I64 (Number n) o s = cond_rel (nat_lt n (2 ^ 64)) (done number) wrong
+  received_rel (valt.Ref reft.Func) Null o s = done (reference (func none))
+  received_rel (valt.Ref reft.Func) (OwnFunc p t) o s = bind_rel (look_rel (same_key (FuncKey p t)) o) (λ _ _ x. value_rel (func_of_rel x))
+  received_rel (valt.Ref reft.Func) (Function k) o s = value_rel (at_rel s k)
+  received_rel (valt.Ref reft.Extern) Null o s = done (reference extern)
+  received_rel (valt.Ref reft.Extern) (ExternNumber n) o s = done (reference extern)
+  received_rel _ _ o s = wrong
+
+  ref_of_rel : {v w : Val} → ValRel R v w → ResRel (RefRel R) (ref_of v) (ref_of w)
+  ref_of_rel number = wrong
+  ref_of_rel (reference p) = done p
+
+  received_ref_rel : {o p : Owned} {xs ys : List ℕ} (t : RefType) (x : Shown) → ListRel (KeyRel R) o p → ListRel (R.of Funcs) xs ys → ResRel (RefRel R) (received_ref o xs t x) (received_ref p ys t x)
+  received_ref_rel t x o s = bind_rel (received_rel (valt.Ref t) x o s) (λ _ _ v. ref_of_rel v)
+
+  received_all_rel : {o p : Owned} {ms ns : List ℕ} (ts : List ValType) (xs : List Shown) → ListRel (KeyRel R) o p → ListRel (R.of Funcs) ms ns → ResRel (ListRel (ValRel R)) (received_all o ms ts xs) (received_all p ns ts xs)
+  received_all_rel [] [] o s = done nil
+  received_all_rel (t ∷ ts) (x ∷ xs) o s = bind_rel (received_rel t x o s) (λ _ _ v. bind_rel (received_all_rel ts xs o s) (λ _ _ vs. done (cons v vs)))
+  received_all_rel [] (x ∷ xs) o s = wrong
+  received_all_rel (t ∷ ts) [] o s = wrong
+
+  -- ---- what follows a step ----
+
+  trapped_at_rel : {r q : Run} {es fs : List Entry} (c : Caller) → RunRel R B F r q → C r.store q.store es fs → OutRel R B F (trapped_at r c es) (trapped_at q c fs)
+  trapped_at_rel Host h e = record { event = refl; run = state_rel h h.store (stacks.steady e) }
+  trapped_at_rel Starter h e = record { event = refl; run = phase_rel (state_rel h h.store (stacks.steady (stacks.cleared h.entries))) closed }
+
+  trapped_rel : {r q : Run} {o p : Outcome (Caller × List Entry)} → RunRel R B F r q → ResRel (PairRel (◌≡◌ {A = Caller}) (C r.store q.store)) o p → OutRel R B F (trapped_to r o) (trapped_to q p)
+  trapped_rel h wrong = record { event = refl; run = state_rel h h.store (stacks.steady (stacks.cleared h.entries)) }
+  trapped_rel h trap = record { event = refl; run = state_rel h h.store (stacks.steady (stacks.cleared h.entries)) }
+  trapped_rel h (done {b = b} w) = rw w.first (trapped_at_rel b.0 h w.second)
+
+  showing_rel : {r q : Run} {s t : Store} {es fs : List Entry} {vs ws : List Val} (event : List Shown → Event) → RunRel R B F r q → StoreRel R s t → B s t es fs → ListRel (ValRel R) vs ws → OutRel R B F (showing r s es vs event) (showing q t fs ws event)
+  showing_rel event h s e v =
+      let x = show_all_rel s v _ _ h.shown in record { event = ap (λ l. Some (event l)) x.same; run = shown_rel (state_rel h s e) x.shown }
+
+  pub after_rel : {r q : Run} {o p : Outcome Next} → RunRel R B F r q → ResRel (NextRel R B) o p → OutRel R B F (after r o) (after q p)
+  after_rel h wrong = trapped_rel h (stacks.marks h.entries)
+  after_rel h trap = trapped_rel h (stacks.marks h.entries)
+  after_rel h (done (ran s e)) = record { event = refl; run = state_rel h s e }
+  after_rel h (done (asked {p = p} {u = u} v s e)) = showing_rel (Asked p u) h s e v
+  after_rel h (done (asked_grow (memory_grows p) s e)) = record { event = refl; run = state_rel h s e }
+  after_rel h (done (asked_grow (table_grows p v) s e)) = record { event = refl; run = state_rel h s e }
+  after_rel h (done (loads v s e)) = trapped_rel (state_rel h s e) (stacks.marks e)
+  after_rel h (done (returned v s e)) = showing_rel Returned h s e v
+
+  -- ---- moves ----
+
+  all_cond : {A : Type 0} {P : A → Type 0} (a : A) (b : Bool) → P a → OptAll P (cond b (Gives a) IllTyped)
+  all_cond a true p = just p
+  all_cond a false p = nothing
+
+  -- what is received has the type
+  received_type : (o : Owned) (ms : List ℕ) (t : ValType) (x : Shown) → OptAll (λ v. typed t v ≡ Gives v) (received o ms t x)
+  received_type o ms valt.I32 (Number n) = all_cond _ (nat_lt n (2 ^ 32)) refl
+  received_type o ms valt.I64 (Number n) = all_cond _ (nat_lt n (2 ^ 64)) refl
+  received_type o ms (valt.Ref reft.Func) Null = just refl
+  received_type o ms (valt.Ref reft.Func) (OwnFunc p t) = bind_all (any (owned_at o (FuncKey p t))) (λ thing _ _. bind_all (any (func_of thing)) (λ a _ _. just refl))
+  received_type o ms (valt.Ref reft.Func) (Function k) = bind_all (any (at ms k)) (λ a _ _. just refl)
+  received_type o ms (valt.Ref reft.Extern) Null = just refl
+  received_type o ms (valt.Ref reft.Extern) (ExternNumber n) = just refl
+  received_type o ms _ _ = nothing
+
+  fits_received : (o : Owned) (ms : List ℕ) (ts : List ValType) (xs : List Shown) → OptAll (Fits ts) (received_all o ms ts xs)
+  fits_received o ms [] [] = just nil
+  fits_received o ms (t ∷ ts) (x ∷ xs) = bind_all (received_type o ms t x) (λ v _ e. bind_all (fits_received o ms ts xs) (λ vs _ f. just (cons e f)))
+  fits_received o ms [] (x ∷ xs) = nothing
+  fits_received o ms (t ∷ ts) [] = nothing
+
+  called_rel : {r q : Run} {es fs : List Entry} {a b : ℕ} (xs : List Shown) → RunRel R B F r q → C r.store q.store es fs → R.of Funcs a b → ResRel (OutRel R B F) (called r es xs a) (called q fs xs b)
+  called_rel {r} xs h e n =
+      bind_is (same_there (h.store.types n)) (λ t is. bind_rel_is (received_all_rel t.params xs h.owned h.shown) (λ vs _ got v. done (after_rel h (stacks.enters h.store n is (all_at (fits_received r.owned r.shown t.params xs) got) v e))))
+
+  delivered_rel : {r q : Run} {vs ws : List Val} {es fs : List Entry} → RunRel R B F r q → ListRel (ValRel R) vs ws → C r.store q.store es fs → OutRel R B F (delivered r vs es) (delivered q ws fs)
+  delivered_rel {r} {q} {vs} {ws} {es} {fs} h v e = rw (stacks.marked e) (either (is_mark fs))
+    where
+      either : (b : Bool) → OutRel R B F (cond b (record r { entries = Ended vs ∷ es }, None) (after r (give r.store vs es))) (cond b (record q { entries = Ended ws ∷ fs }, None) (after q (give q.store ws fs)))
+      either true = record { event = refl; run = state_rel h h.store (stacks.steady (stacks.push (ended v) e)) }
+      either false = after_rel h (stacks.gives h.store v e)
+
+  answered_rel : {r q : Run} {es fs : List Entry} (xs : List Shown) → RunRel R B F r q → TopView R apart C r.store q.store es fs → ResRel (OutRel R B F) (answered r xs es) (answered q xs fs)
+  answered_rel xs h (top_waiting {ts = ts} e) = bind_rel (received_all_rel ts xs h.owned h.shown) (λ _ _ v. done (delivered_rel h v e))
+  answered_rel xs h (top_none e) = wrong
+  answered_rel xs h (top_mark e) = wrong
+  answered_rel xs h (top_opening x e) = wrong
+  answered_rel xs h top_running = wrong
+  answered_rel xs h (top_growing n e) = wrong
+  answered_rel xs h (top_ended v e) = wrong
+
+  refused_rel : {r q : Run} {es fs : List Entry} → RunRel R B F r q → TopView R apart C r.store q.store es fs → ResRel (OutRel R B F) (refused r es) (refused q fs)
+  refused_rel h (top_waiting e) = done (after_rel h trap)
+  refused_rel h (top_none e) = wrong
+  refused_rel h (top_mark e) = wrong
+  refused_rel h (top_opening x e) = wrong
+  refused_rel h top_running = wrong
+  refused_rel h (top_growing n e) = wrong
+  refused_rel h (top_ended v e) = wrong
+
+  change_rel : {r q : Run} {c d : Change} → RunRel R B F r q → ChangeRel R c d → RunRel R B F (with_change r c) (with_change q d)
+  change_rel h c = state_rel h (changed_rel R apart h.store c) (stacks.changes_all c h.entries)
+
+  num_eq : {n m : ℕ} → n ≡ m → ValRel R (Num W32 n) (Num W32 m)
+  num_eq {n} e = subst (λ x. ValRel R (Num W32 n) (Num W32 x)) e number
+
+  table_grown : {t u : Table} {v w : RefVal} (n : ℕ) → TableRel R t u → RefRel R v w → TableRel R (grown_table t n v) (grown_table u n w)
+  table_grown {v = v} {w = w} n t x = record { type = t.type; most = t.most; slots = append_rel t.slots (copies_rel v w n x) }
+
+  bind_memory_at : {A C : Type 0} {Q : A → C → Type 0} {r q : Run} {a b : ℕ} {f : Memory → Outcome A} {g : Memory → Outcome C} → RunRel R B F r q → R.of Mems a b → ((m : Memory) → ResRel Q (f m) (g m)) → ResRel Q (bind (at r.store.mems a) f) (bind (at q.store.mems b) g)
+  bind_memory_at {Q = Q} {f = f} {g = g} h p k = bind_rel (there (h.store.mems p)) (λ x y e. subst (λ z. ResRel Q (f x) (g z)) e (k x))
+
+  granted_rel : {r q : Run} {x y : Growth} {es fs : List Entry} → RunRel R B F r q → GrowthRel R x y → C r.store q.store es fs → ResRel (OutRel R B F) (granted r x es) (granted q y fs)
+  granted_rel h (memory_grows {n = n} p) e = bind_memory_at h p (λ m. done (delivered_rel (change_rel h (set_memory p)) (cons number nil) (stacks.changes (set_memory p) e)))
+  granted_rel h (table_grows {n = n} p v) e = bind_rel (there (h.store.tables p)) (λ _ _ t. let c = set_table p (table_grown n t v) in done (delivered_rel (change_rel h c) (cons (num_eq (length_rel t.slots)) nil) (stacks.changes c e)))
+
+  decided_rel : {r q : Run} {x y : Growth} {es fs : List Entry} (m : Move) → RunRel R B F r q → GrowthRel R x y → C r.store q.store es fs → ResRel (OutRel R B F) (decided r m x es) (decided q m y fs)
+  decided_rel Grant h p e = granted_rel h p e
+  decided_rel Deny h p e = done (delivered_rel h (cons number nil) e)
+  decided_rel (Call i xs) h p e = wrong
+  decided_rel _ h p e = wrong
+
+  shows_rel : {r q : Run} {v w : Val} → RunRel R B F r q → ValRel R v w → ResRel (OutRel R B F) (shows r v) (shows q w)
+  shows_rel h v = let x = show_rel h.store h.shown v in done (record { event = ap (λ s. Some (Got s)) x.same; run = shown_rel h x.shown })
+
+  got_rel : {r q : Run} {x y : Thing} (n : ℕ) → RunRel R B F r q → ThingRel R x y → ResRel (OutRel R B F) (got r x n) (got q y n)
+  got_rel n h (a_func p) = wrong
+  got_rel n h (a_table p) = bind_rel (there (h.store.tables p)) (λ _ _ t. bind_rel (at_rel t.slots n) (λ _ _ v. shows_rel h (reference v)))
+  got_rel n h (a_memory p) = bind_memory_at h p (λ m. bind_same (at m.bytes n) (λ b. shows_rel h (number {w = W32})))
+  got_rel n h (a_global p) = bind_rel (there (h.store.globals p)) (λ _ _ g. cond_rel (nat_eq n 0) (shows_rel h g.value) wrong)
+
+  size_rel : {r q : Run} {x y : Thing} → RunRel R B F r q → ThingRel R x y → ResRel (OutRel R B F) (size_of r x) (size_of q y)
+  size_rel h (a_func p) = wrong
+  size_rel h (a_table p) = bind_rel (there (h.store.tables p)) (λ _ _ t. shows_rel h (num_eq (length_rel t.slots)))
+  size_rel h (a_memory p) = bind_memory_at h p (λ m. shows_rel h (number {w = W32}))
+  size_rel h (a_global p) = bind_rel (there (h.store.globals p)) (λ _ _ g. shows_rel h (number {w = W32}))
+
+  does_rel : {r q : Run} {c d : Change} → RunRel R B F r q → ChangeRel R c d → ResRel (OutRel R B F) (does r c) (does q d)
+  does_rel h c = done (record { event = refl; run = change_rel h c })
+
+  set_rel : {r q : Run} {x y : Thing} (n : ℕ) (v : Shown) → RunRel R B F r q → ThingRel R x y → ResRel (OutRel R B F) (set r x n v) (set q y n v)
+  set_rel n v h (a_func p) = wrong
+  set_rel {r} {q} n v h (a_table p) =
+      bind_rel (there (h.store.tables p)) (λ t u x. bind_rel (at_type x.type (received_ref_rel u.ty v h.owned h.shown)) (λ _ _ v. bind_rel (overwrite_rel n x.slots (cons v nil)) (λ _ _ s.
+      does_rel h (set_table p (record { type = x.type; most = x.most; slots = s })))))
+    where
+      at_type : {s t : RefType} → s ≡ t → ResRel (RefRel R) (received_ref r.owned r.shown t v) (received_ref q.owned q.shown t v) → ResRel (RefRel R) (received_ref r.owned r.shown s v) (received_ref q.owned q.shown t v)
+      at_type {t = t} e o = rw e o
+  set_rel n v h (a_memory p) = bind_memory_at h p (λ m. bind_same (byte_of v) (λ b. bind_same (overwrite m.bytes n (b ∷ [])) (λ bytes. does_rel h (set_memory p))))
+  set_rel n v h (a_global p) =
+      bind_rel (there (h.store.globals p)) (λ _ e g. rw g.type (cond_rel (nat_eq n 0) (cond_rel e.ty.mutable (bind_rel (received_rel e.ty.ty v h.owned h.shown) (λ _ _ w. does_rel h (set_global p (record { type = refl; value = w })))) wrong) wrong))
+
+  null_rel : (t : RefType) → RefRel R (null_of t) (null_of t)
+  null_rel reft.Func = func none
+  null_rel reft.Extern = extern
+
+  extended_rel : {r q : Run} {x y : Thing} (n : ℕ) → RunRel R B F r q → ThingRel R x y → ResRel (OutRel R B F) (extended r x n) (extended q y n)
+  extended_rel n h (a_func p) = wrong
+  extended_rel {r} {q} n h (a_table {a = a1} {b = b1} p) = bind_rel (there (h.store.tables p)) (λ t u x. subst (λ b. ResRel (OutRel R B F) (cond (table_may_grow t n) (does r (SetTable a1 (grown_table t n (null_of t.ty)))) IllTyped) (cond b (does q (SetTable b1 (grown_table u n (null_of u.ty)))) IllTyped)) (may_rel R n x) (cond_rel (table_may_grow t n) (does_rel h (set_table p (table_grown n x (subst (λ z. RefRel R (null_of t.ty) (null_of z)) x.type (null_rel t.ty))))) wrong))
+  extended_rel n h (a_memory p) = bind_memory_at h p (λ m. cond_rel (memory_may_grow m n) (does_rel h (set_memory p)) wrong)
+  extended_rel n h (a_global p) = wrong
+
+  place_at_rel : {r q : Run} (p : Place) → RunRel R B F r q → ResRel (ThingRel R) (place_at r p) (place_at q p)
+  place_at_rel (TableOf p) h = look_rel (same_key (TableKey p)) h.owned
+  place_at_rel (MemoryOf p) h = look_rel (same_key (MemoryKey p)) h.owned
+  place_at_rel (GlobalOf p) h = look_rel (same_key (GlobalKey p)) h.owned
+  place_at_rel (Named n) h = look_rel (same_text n) h.view
+
+  moved_rel : {r q : Run} (m : Move) → RunRel R B F r q → C r.store q.store r.entries q.entries → TopView R apart C r.store q.store r.entries q.entries → ResRel (OutRel R B F) (moved r m) (moved q m)
+  moved_rel (Call i xs) h c w = bind_rel (look_rel (same_text i) h.view) (λ _ _ x. bind_rel (func_of_rel x) (λ _ _ n. called_rel xs h (stacks.push mark c) n))
+  moved_rel (Invoke k xs) h c w = bind_rel (at_rel h.shown k) (λ _ _ n. called_rel xs h (stacks.push mark c) n)
+  moved_rel (Take i) h c w = bind_rel (look_rel (same_text i) h.view) (λ _ _ x. bind_rel (func_of_rel x) (λ _ _ n. shows_rel h (reference (func (some n)))))
+  moved_rel (Answer xs) h c w = answered_rel xs h w
+  moved_rel Refuse h c w = refused_rel h w
+  moved_rel Grant h c w = wrong
+  moved_rel Deny h c w = wrong
+  moved_rel (Get p n) h c w = bind_rel (place_at_rel p h) (λ _ _ x. got_rel n h x)
+  moved_rel (Size p) h c w = bind_rel (place_at_rel p h) (λ _ _ x. size_rel h x)
+  moved_rel (Set p n v) h c w = bind_rel (place_at_rel p h) (λ _ _ x. set_rel n v h x)
+  moved_rel (Extend p n) h c w = bind_rel (place_at_rel p h) (λ _ _ x. extended_rel n h x)
+
+  at_entries_rel : {r q : Run} {es fs : List Entry} (m : Move) → RunRel R B F r q → C r.store q.store r.entries q.entries → TopView R apart C r.store q.store r.entries q.entries → TopView R apart C r.store q.store es fs → ResRel (OutRel R B F) (at_entries r m es) (at_entries q m fs)
+  at_entries_rel m h c w (top_growing p e) = decided_rel m h p e
+  at_entries_rel m h c w (top_none e) = moved_rel m h c w
+  at_entries_rel m h c w (top_mark e) = moved_rel m h c w
+  at_entries_rel m h c w (top_opening x e) = moved_rel m h c w
+  at_entries_rel m h c w top_running = moved_rel m h c w
+  at_entries_rel m h c w (top_waiting e) = moved_rel m h c w
+  at_entries_rel m h c w (top_ended v e) = moved_rel m h c w
+
+  or_bad_rel : {r q : Run} {o p : Outcome Out} → RunRel R B F r q → ResRel (OutRel R B F) o p → OutRel R B F (or_bad r o) (or_bad q p)
+  or_bad_rel h wrong = record { event = refl; run = h }
+  or_bad_rel h trap = record { event = refl; run = h }
+  or_bad_rel h (done o) = o
+
+  moves_rel : {r q : Run} (ms : List Move) → RunRel R B F r q → RunRel R B F (record r { moves = ms }) (record q { moves = ms })
+  moves_rel ms h = record { store = h.store; entries = h.entries; phase = h.phase; shown = h.shown; view = h.view; owned = h.owned; moves = refl }
+
+  next_move_rel : {r q : Run} (ms : List Move) → RunRel R B F r q → C r.store q.store r.entries q.entries → TopView R apart C r.store q.store r.entries q.entries → OutRel R B F (next_move r ms) (next_move q ms)
+  next_move_rel [] h c w = record { event = refl; run = h }
+  next_move_rel (m ∷ ms) h c w = let k = moves_rel ms h in or_bad_rel k (at_entries_rel m k c w w)
+
+  due_move_rel : {r q : Run} {ms ns : List Move} → ms ≡ ns → RunRel R B F r q → C r.store q.store r.entries q.entries → TopView R apart C r.store q.store r.entries q.entries → OutRel R B F (next_move r ms) (next_move q ns)
+  due_move_rel {r} {q} {ms} e h c w = subst (λ x. OutRel R B F (next_move r ms) (next_move q x)) e (next_move_rel ms h c w)
+
+  closed_move_rel : {r q : Run} {ms ns : List Move} → ms ≡ ns → RunRel R B F r q → C r.store q.store r.entries q.entries → TopView R apart C r.store q.store r.entries q.entries → OutRel R B F (closed_move r ms) (closed_move q ns)
+  closed_move_rel {r} {q} {ms} e h c w = subst (λ x. OutRel R B F (closed_move r ms) (closed_move q x)) e (go ms)
+    where
+      go : (ms : List Move) → OutRel R B F (closed_move r ms) (closed_move q ms)
+      go [] = record { event = refl; run = h }
+      go (m ∷ ms) = let k = moves_rel ms h in or_bad_rel k (cond_rel (is_taken_closed m) (moved_rel m k c w) wrong)
+
+  -- ---- one step of a run ----
+
+  began_rel : {r q : Run} {b c : Option Begun} → RunRel R B F r q → OptRel (BegunRel R F) b c → OutRel R B F (began r b) (began q c)
+  began_rel h none = record { event = refl; run = phase_rel (state_rel h h.store (stacks.steady (stacks.cleared h.entries))) closed }
+  began_rel {r} {q} h (some {a = b} {b = c} g) = rw g.trapped (either c.trapped)
+    where
+      either : (x : Bool) → OutRel R B F (cond x (record r { store = b.store; entries = []; phase = Closed; owned = b.owned }, Some InstanceTrapped) (record r { store = b.store; entries = Opening b.starts ∷ []; phase = Pending b.view; owned = b.owned }, None)) (cond x (record q { store = c.store; entries = []; phase = Closed; owned = c.owned }, Some InstanceTrapped) (record q { store = c.store; entries = Opening c.starts ∷ []; phase = Pending c.view; owned = c.owned }, None))
+      either true = record { event = refl; run = record { store = g.store; entries = begins _ _ _ _ g.closed; phase = closed; shown = h.shown; view = h.view; owned = g.owned; moves = h.moves } }
+      either false = record { event = refl; run = record { store = g.store; entries = begins _ _ _ _ g.entries; phase = pending g.view; shown = h.shown; view = h.view; owned = g.owned; moves = h.moves } }
+
+  pub or_closed_rel : {r q : Run} {o p : Outcome Out} → RunRel R B F r q → ResRel (OutRel R B F) o p → OutRel R B F (or_closed r o) (or_closed q p)
+  or_closed_rel h wrong = record { event = refl; run = phase_rel (state_rel h h.store (stacks.steady (stacks.cleared h.entries))) closed }
+  or_closed_rel h trap = record { event = refl; run = phase_rel (state_rel h h.store (stacks.steady (stacks.cleared h.entries))) closed }
+  or_closed_rel h (done o) = o
+
+  in_phase_rel : {r q : Run} {p o : Phase} → RunRel R B F r q → C r.store q.store r.entries q.entries → TopView R apart C r.store q.store r.entries q.entries → PhaseRel R F p o → OutRel R B F (in_phase r p) (in_phase q o)
+  in_phase_rel h c w (fresh b) = began_rel h b
+  in_phase_rel h c w (pending v) = record { event = refl; run = h }
+  in_phase_rel h c w opened = due_move_rel h.moves h c w
+  in_phase_rel h c w closed = closed_move_rel h.moves h c w
+
+  view_of_rel : {r q : Run} {p o : Phase} → RunRel R B F r q → PhaseRel R F p o → ListRel (KeyRel R) (view_of r p) (view_of q o)
+  view_of_rel h (fresh b) = h.view
+  view_of_rel h (pending v) = v
+  view_of_rel h opened = h.view
+  view_of_rel h closed = h.view
+
+  started_rel : {r q : Run} {xs ys : List ℕ} {es fs : List Entry} {a b : ℕ} → RunRel R B F r q → ListRel (R.of Funcs) xs ys → C r.store q.store es fs → R.of Funcs a b → ResRel (OutRel R B F) (started r xs es a) (started q ys fs b)
+  started_rel h x e n = bind_eq (same_there (h.store.types n)) (λ t. bind_same (nothing_in t.results) (λ u. called_rel [] h (stacks.push (opening x) e) n))
+
+  pub open_next_rel : {r q : Run} {xs ys : List ℕ} {es fs : List Entry} → RunRel R B F r q → ListRel (R.of Funcs) xs ys → C r.store q.store es fs → OutRel R B F (open_next r xs es) (open_next q ys fs)
+  open_next_rel h nil e = record { event = refl; run = record { store = h.store; entries = stacks.steady e; phase = opened; shown = h.shown; view = view_of_rel h h.phase; owned = h.owned; moves = h.moves } }
+  open_next_rel h (cons n x) e = or_closed_rel h (started_rel h x e n)
+
+  -- a step of each, given what a step of the top frames comes to
+  pub still_rel : {r q : Run} {es fs : List Entry} → RunRel R B F r q → (C r.store q.store es fs → C r.store q.store r.entries q.entries) → (TopView R apart C r.store q.store es fs → TopView R apart C r.store q.store r.entries q.entries) → TopView R apart C r.store q.store es fs → ResRel (NextRel R B) (step r.store r.entries) (step q.store q.entries) → OutRel R B F (tick_at r es) (tick_at q fs)
+  still_rel h whole views (top_none e) s = in_phase_rel h (whole e) (views (top_none e)) h.phase
+  still_rel h whole views (top_mark e) s = record { event = refl; run = h }
+  still_rel h whole views (top_opening x e) s = open_next_rel h x e
+  still_rel h whole views (top_waiting e) s = due_move_rel h.moves h (whole (stacks.push waiting e)) (views (top_waiting e))
+  still_rel h whole views (top_ended v e) s = after_rel h (stacks.gives h.store v e)
+  still_rel h whole views (top_growing n e) s = due_move_rel h.moves h (whole (stacks.push (growing n) e)) (views (top_growing n e))
+  still_rel h whole views top_running s = after_rel h s

@@ -1,0 +1,184 @@
+-- One step of each agrees.
+use Rattle.std.proofs.Common.{◌≡◌, ℕ, List, [], ◌∷◌, refl, ap, subst, ◌∙◌, true}
+use Rattle.wasm_tree.specs.declared.types.ValType.{ValType}
+use Rattle.wasm_tree.specs.declared.instr.Instr.{Instr}
+use Rattle.wasm_tree.specs.declared.instr.Instr.TheOpen.{Instr-F}
+use Rattle.wasm_meaning.specs.Outcomes.{Gives, bind, onto}
+use Rattle.wasm_tree.specs.declared.types.FuncType.{FuncType}
+use Rattle.wasm_meaning.specs.State.{Val, Func, Store, Change, Level, Frame, Entry, Running, Caller, Mark, Opening, Waiting, Ended, Growing, Growth, Env, Body, Act}
+use Rattle.wasm_meaning.specs.Control.{type_at}
+use Rattle.wasm_meaning.specs.Values.{pop_typed, with_values, unary, binary, ref_is_null, select_any, select_typed}
+use Rattle.wasm_meaning.specs.Step.{exec, step_code, step_levels, act, frame_of, give_levels, give, enter, enter_at, to_mark, no_items, no_bytes, changed, perform, step, call_of, named_call, top_call}
+use Rattle.wasm_meaning.specs.Run.{is_mark}
+use Rattle.index_remap.specs.Related
+use Rattle.index_remap.specs.Related.{Funcs, Tables, Mems, Globals, Elems, Datas, Pairing, OneToOne, OptRel, none, some, ResRel, done, trap, wrong, ListRel, nil, cons, ValRel, number, reference, OpRel, CodeRel, end, then, instead, FuncRel, defined, own, slot, TableRel, GlobalRel, ElemRel, StoreRel, LevelRel, FrameRel, EntryRel, mark, opening, waiting, growing, BodyRel, GrowthRel, ChangeRel, keep, set_global, set_memory, set_table, drop_elem, drop_data, ActRel, goes, calls, asks_grow, ends, NextRel, ran, asked, asked_grow, loads, returned, NotListed, Skips, TopSkips, NextKnown, TopKnown}
+use Rattle.index_remap.proofs.Rel.{same_there, bind_rel, bind_is, bind_rel_is, all_at, PairRel, onto_rel, append_rel, write_rel}
+use Rattle.index_remap.proofs.ValueSteps.{Fits, pop_typed_all, pop_typed_rel, pop_rel, null_rel, zeros_rel, unary_rel, binary_rel, ref_is_null_rel, select_any_rel, select_typed_rel, go_rel, values_rel, on_values_rel, pushes_rel, local_get_rel, local_set_rel, local_tee_rel, global_get_rel, global_set_rel, ref_func_rel}
+use Rattle.index_remap.proofs.MemorySteps.{load_rel, store_rel, memory_size_rel, memory_grow_rel, memory_init_rel, data_drop_rel, memory_copy_rel, memory_fill_rel}
+use Rattle.index_remap.proofs.TableSteps.{table_get_rel, table_set_rel, table_size_rel, table_grow_rel, table_fill_rel, table_copy_rel, table_init_rel, elem_drop_rel}
+use Rattle.index_remap.proofs.ControlSteps.{call_rel, call_indirect_rel, finish_rel, end_level_rel, branch_rel, branch_if_rel, branch_table_rel, open_here_rel, open_loop_rel, open_if_rel}
+
+module _ (R : Pairing) (ev ew : Env) (st : StoreRel R ev.store ew.store) where
+  exec_rel : {h k : Body} {o p : Instr-F Instr} → BodyRel R ev.inst ew.inst h k → OpRel R ev.inst ew.inst true o p → ResRel (ActRel R ev.inst ew.inst) (exec o ev h) (exec p ew k)
+  exec_rel r Related.unreachable = trap
+  exec_rel r Related.nop = go_rel R ev ew st r
+  exec_rel r (Related.block {b = b} {d = d} p c) = open_here_rel R ev ew st b d r p c
+  exec_rel r (Related.loop {b = b} {d = d} {c = c} {e = e} p q) = open_loop_rel R ev ew st b d c e r p q
+  exec_rel r (Related.if_else {b = b} {d = d} {c = c} {e = e} {p = f} {q = g} p q s) = open_if_rel R ev ew st b d c e f g r p q s
+  exec_rel r (Related.br {n = n}) = branch_rel R ev ew st n r
+  exec_rel r (Related.br_if {n = n}) = branch_if_rel R ev ew st n r
+  exec_rel r (Related.br_table {ns = ns} {n = n}) = branch_table_rel R ev ew st ns n r
+  exec_rel r Related.return = finish_rel R ev ew st r r.values
+  exec_rel r (Related.call {n = n} {m = m} p) = call_rel R ev ew st n m r p
+  exec_rel r (Related.call_indirect {s = s} {t = t} {n = n} {m = m} e p) = call_indirect_rel R ev ew st s t n m r e p
+  exec_rel r Related.drop = bind_rel (pop_rel R r.values) (λ _ _ p. go_rel R ev ew st (values_rel R ev ew st r p.second))
+  exec_rel r Related.select = on_values_rel R ev ew st select_any r (select_any_rel R r.values)
+  exec_rel r (Related.select_typed {ts = ts}) = on_values_rel R ev ew st (select_typed ts) r (select_typed_rel R ts r.values)
+  exec_rel r (Related.local_get {n = n}) = local_get_rel R ev ew st n r
+  exec_rel r (Related.local_set {n = n}) = local_set_rel R ev ew st n r
+  exec_rel r (Related.local_tee {n = n}) = local_tee_rel R ev ew st n r
+  exec_rel r (Related.global_get {n = n} {m = m} p) = global_get_rel R ev ew st n m r p
+  exec_rel r (Related.global_set {n = n} {m = m} p) = global_set_rel R ev ew st n m r p
+  exec_rel r (Related.table_get {n = n} {m = m} p) = table_get_rel R ev ew st n m r p
+  exec_rel r (Related.table_set {n = n} {m = m} p) = table_set_rel R ev ew st n m r p
+  exec_rel r (Related.load {o = o} p) = load_rel R ev ew st o r p
+  exec_rel r (Related.store {o = o} p) = store_rel R ev ew st o r p
+  exec_rel r (Related.memory_size {n = n} {m = m} p) = memory_size_rel R ev ew st n m r p
+  exec_rel r (Related.memory_grow {n = n} {m = m} p) = memory_grow_rel R ev ew st n m r p
+  exec_rel r Related.i32_const = pushes_rel R ev ew st r number
+  exec_rel r Related.i64_const = pushes_rel R ev ew st r number
+  exec_rel r (Related.un {o = o}) = on_values_rel R ev ew st (unary o) r (unary_rel R o r.values)
+  exec_rel r (Related.bin {o = o}) = on_values_rel R ev ew st (binary o) r (binary_rel R o r.values)
+  exec_rel r (Related.ref_null {t = t}) = pushes_rel R ev ew st r (reference (null_rel R t))
+  exec_rel r Related.ref_is_null = on_values_rel R ev ew st ref_is_null r (ref_is_null_rel R r.values)
+  exec_rel r (Related.ref_func {n = n} {m = m} p) = ref_func_rel R ev ew st n m r p
+  exec_rel r (Related.memory_init {s = s} {t = t} {n = n} {m = m} p q) = memory_init_rel R ev ew st s t n m r p q
+  exec_rel r (Related.data_drop {s = s} {t = t} p) = data_drop_rel R ev ew st s t r p
+  exec_rel r (Related.memory_copy {s = s} {t = t} {n = n} {m = m} p q) = memory_copy_rel R ev ew st s t n m r p q
+  exec_rel r (Related.memory_fill {n = n} {m = m} p) = memory_fill_rel R ev ew st n m r p
+  exec_rel r (Related.table_init {s = s} {t = t} {n = n} {m = m} p q) = table_init_rel R ev ew st s t n m r p q
+  exec_rel r (Related.elem_drop {s = s} {t = t} p) = elem_drop_rel R ev ew st s t r p
+  exec_rel r (Related.table_copy {s = s} {t = t} {n = n} {m = m} p q) = table_copy_rel R ev ew st s t n m r p q
+  exec_rel r (Related.table_grow {n = n} {m = m} p) = table_grow_rel R ev ew st n m r p
+  exec_rel r (Related.table_size {n = n} {m = m} p) = table_size_rel R ev ew st n m r p
+  exec_rel r (Related.table_fill {n = n} {m = m} p) = table_fill_rel R ev ew st n m r p
+
+  step_code_rel : {h k : Body} {c d : List Instr} → BodyRel R ev.inst ew.inst h k → CodeRel R ev.inst ew.inst c d → ((a : ℕ) → named_call ev.inst c ≡ Gives a → ¬ R.replaced a) → NextKnown R ev.inst ew.inst c d → ResRel (ActRel R ev.inst ew.inst) (step_code ev h c) (step_code ew k d)
+  step_code_rel r end f u = end_level_rel R ev ew st r
+  step_code_rel r (then o c) f u = exec_rel (record { locals = r.locals; values = r.values; rest = c; gives = r.gives; takes = r.takes; back = r.back; outer = r.outer }) (u o)
+  step_code_rel r (instead {a = a} x p e l c) f u = absurd (f a (ap (call_of ev.inst) p ∙ e) l)
+
+  pub step_levels_rel : {vs ws : List Val} {ls ms : List Level} → ListRel (ValRel R) vs ws → ListRel (LevelRel R ev.inst ew.inst) ls ms → ((a : ℕ) → top_call ev.inst ls ≡ Gives a → ¬ R.replaced a) → TopKnown R ev.inst ew.inst ls ms → ResRel (ActRel R ev.inst ew.inst) (step_levels ev vs ls) (step_levels ew ws ms)
+  step_levels_rel v nil free u = wrong
+  step_levels_rel v (cons l ls) free u = step_code_rel (record { locals = v; values = l.values; rest = end; gives = l.gives; takes = l.takes; back = l.back; outer = ls }) l.code free u
+
+module _ (R : Pairing) (apart : OneToOne R) where
+  pub act_rel : {s t : Store} {f g : Frame} → StoreRel R s t → FrameRel R f g → ((a : ℕ) → top_call f.inst f.levels ≡ Gives a → ¬ R.replaced a) → TopKnown R f.inst g.inst f.levels g.levels → ResRel (ActRel R f.inst g.inst) (act s f) (act t g)
+  act_rel {s} {t} {f} {g} p q free u = step_levels_rel R (record { store = s; inst = f.inst }) (record { store = t; inst = g.inst }) p q.locals q.levels free u
+
+  pub changed_rel : {s t : Store} {c d : Change} → StoreRel R s t → ChangeRel R c d → StoreRel R (changed s c) (changed t d)
+  changed_rel r keep = r
+  changed_rel {s} {t} r (set_global {g = g} {h = h} n q) = record {
+    types = r.types;
+    owns = r.owns;
+    funcs = r.funcs;
+    tables = r.tables;
+    mems = r.mems;
+    elems = r.elems;
+    datas = r.datas;
+    globals = write_rel R apart Globals (GlobalRel R) s.globals t.globals g h n (λ c d m. r.globals m) q _ _;
+  }
+  changed_rel {s} {t} r (set_memory {m = m} n) = record {
+    types = r.types;
+    owns = r.owns;
+    funcs = r.funcs;
+    tables = r.tables;
+    globals = r.globals;
+    elems = r.elems;
+    datas = r.datas;
+    mems = write_rel R apart Mems (λ m n. m ≡ n) s.mems t.mems m m n (λ c d q. r.mems q) refl _ _;
+  }
+  changed_rel {s} {t} r (set_table {t = x} {u = y} n q) = record {
+    types = r.types;
+    owns = r.owns;
+    funcs = r.funcs;
+    mems = r.mems;
+    globals = r.globals;
+    elems = r.elems;
+    datas = r.datas;
+    tables = write_rel R apart Tables (TableRel R) s.tables t.tables x y n (λ c d q. r.tables q) q _ _;
+  }
+  changed_rel {s} {t} r (drop_elem n) = record {
+    types = r.types;
+    owns = r.owns;
+    funcs = r.funcs;
+    mems = r.mems;
+    globals = r.globals;
+    tables = r.tables;
+    datas = r.datas;
+    elems = write_rel R apart Elems (ElemRel R) s.elems t.elems no_items no_items n (λ c d q. r.elems q) (record { items = nil }) _ _;
+  }
+  changed_rel {s} {t} r (drop_data n) = record {
+    types = r.types;
+    owns = r.owns;
+    funcs = r.funcs;
+    mems = r.mems;
+    globals = r.globals;
+    tables = r.tables;
+    elems = r.elems;
+    datas = write_rel R apart Datas (λ d e. d.bytes ≡ e.bytes) s.datas t.datas no_bytes no_bytes n (λ c d q. r.datas q) refl _ _;
+  }
+
+  pub frame_rel : {f g : Frame} {h k : Body} → FrameRel R f g → BodyRel R f.inst g.inst h k → FrameRel R (frame_of f h) (frame_of g k)
+  frame_rel f r = record { locals = r.locals; results = f.results; levels = cons (record { values = r.values; code = r.rest; gives = r.gives; takes = r.takes; back = r.back }) r.outer }
+
+  pub left_rel : {i j : _} {h k : Body} {vs ws : List Val} → BodyRel R i j h k → ListRel (ValRel R) vs ws → BodyRel R i j (with_values h vs) (with_values k ws)
+  left_rel r v = record { locals = r.locals; values = v; rest = r.rest; gives = r.gives; takes = r.takes; back = r.back; outer = r.outer }
+
+  pub frame_given : {f g : Frame} {l m : Level} {ls ms : List Level} {vs ws : List Val} → FrameRel R f g → LevelRel R f.inst g.inst l m → ListRel (LevelRel R f.inst g.inst) ls ms → ListRel (ValRel R) vs ws → FrameRel R (record f { levels = record l { values = onto vs l.values } ∷ ls }) (record g { levels = record m { values = onto ws m.values } ∷ ms })
+  frame_given f l ls v = record { locals = f.locals; results = f.results; levels = cons (record { values = onto_rel v l.values; code = l.code; gives = l.gives; takes = l.takes; back = l.back }) ls }
+
+  -- what is known of the entry on top, where C relates what stands below
+  pub data TopView (C : Store → Store → List Entry → List Entry → Type 0) (s t : Store) : List Entry → List Entry → Type 0 where
+    top_none : C s t [] [] → TopView C s t [] []
+    top_mark : {es fs : List Entry} → C s t es fs → TopView C s t (Mark ∷ es) (Mark ∷ fs)
+    top_opening : {xs ys : List ℕ} {es fs : List Entry} → ListRel (R.of Funcs) xs ys → C s t es fs → TopView C s t (Opening xs ∷ es) (Opening ys ∷ fs)
+    top_waiting : {ts : List ValType} {es fs : List Entry} → C s t es fs → TopView C s t (Waiting ts ∷ es) (Waiting ts ∷ fs)
+    top_ended : {vs ws : List Val} {es fs : List Entry} → ListRel (ValRel R) vs ws → C s t es fs → TopView C s t (Ended vs ∷ es) (Ended ws ∷ fs)
+    top_growing : {g h : Growth} {es fs : List Entry} → GrowthRel R g h → C s t es fs → TopView C s t (Growing g ∷ es) (Growing h ∷ fs)
+    top_running : {f g : Frame} {es fs : List Entry} → TopView C s t (Running f ∷ es) (Running g ∷ fs)
+
+  -- relations of whole configurations (B) and of what stands below (C), which calls and ends keep
+  pub record Stacks (B C : Store → Store → List Entry → List Entry → Type 0) : Type 0 where
+    pub steady : {s t : Store} {es fs : List Entry} → C s t es fs → B s t es fs
+    pub cleared : {s t : Store} {es fs : List Entry} → B s t es fs → C s t [] []
+    pub changes : {s t : Store} {c d : Change} {es fs : List Entry} → ChangeRel R c d → C s t es fs → C (changed s c) (changed t d) es fs
+    pub changes_all : {s t : Store} {c d : Change} {es fs : List Entry} → ChangeRel R c d → B s t es fs → B (changed s c) (changed t d) es fs
+    pub push : {s t : Store} {e f : Entry} {es fs : List Entry} → EntryRel R e f → C s t es fs → C s t (e ∷ es) (f ∷ fs)
+    pub marks : {s t : Store} {es fs : List Entry} → B s t es fs → ResRel (PairRel (◌≡◌ {A = Caller}) (C s t)) (to_mark es) (to_mark fs)
+    pub marked : {s t : Store} {es fs : List Entry} → C s t es fs → is_mark es ≡ is_mark fs
+    pub gives : {s t : Store} {vs ws : List Val} {es fs : List Entry} → StoreRel R s t → ListRel (ValRel R) vs ws → C s t es fs → ResRel (NextRel R B) (give s vs es) (give t ws fs)
+    pub enters : {s t : Store} {a b : ℕ} {u : FuncType} {vs ws : List Val} {es fs : List Entry} → StoreRel R s t → R.of Funcs a b → type_at s a ≡ Gives u → Fits u.params vs → ListRel (ValRel R) vs ws → C s t es fs → ResRel (NextRel R B) (enter_at s a vs es) (enter_at t b ws fs)
+
+  module _ (B C : Store → Store → List Entry → List Entry → Type 0) (steady : (s t : Store) (es fs : List Entry) → C s t es fs → B s t es fs) (push : (s t : Store) (e f : Entry) (es fs : List Entry) → EntryRel R e f → C s t es fs → B s t (e ∷ es) (f ∷ fs)) where
+    pub enter_rel : {s t : Store} {f g : Func} {vs ws : List Val} {es fs : List Entry} → StoreRel R s t → FuncRel R f g → ListRel (ValRel R) vs ws → C s t es fs → NextRel R B (enter s f vs es) (enter t g ws fs)
+    enter_rel s (defined {ls = ls} c) v e =
+        ran s (push _ _ _ _ _ _ (Related.running (record { locals = append_rel v (zeros_rel R ls); results = refl; levels = cons (record { values = nil; code = c; gives = refl; takes = refl; back = end }) nil })) e)
+    enter_rel s own v e = asked v s (push _ _ _ _ _ _ waiting e)
+    enter_rel s slot v e = loads v s (steady _ _ _ _ e)
+
+    pub give_levels_rel : {s t : Store} {f g : Frame} {ls ms : List Level} {vs ws : List Val} {es fs : List Entry} → StoreRel R s t → FrameRel R f g → ListRel (LevelRel R f.inst g.inst) ls ms → ListRel (ValRel R) vs ws → C s t es fs → ResRel (NextRel R B) (give_levels s vs f ls es) (give_levels t ws g ms fs)
+    give_levels_rel s f nil v e = wrong
+    give_levels_rel s f (cons l ls) v e = done (ran s (push _ _ _ _ _ _ (Related.running (frame_given f l ls v)) e))
+
+  module _ (B C : Store → Store → List Entry → List Entry → Type 0) (stacks : Stacks B C) where
+    pub perform_rel : {s t : Store} {f g : Frame} {x y : Act} {es fs : List Entry} → StoreRel R s t → FrameRel R f g → ActRel R f.inst g.inst x y → C s t es fs → ResRel (NextRel R B) (perform s f es x) (perform t g fs y)
+    perform_rel s f (goes c r) e = done (ran (changed_rel s c) (stacks.steady (stacks.push (Related.running (frame_rel f r)) (stacks.changes c e))))
+    perform_rel s f (calls {vs = vs} n v r) e =
+        bind_is (same_there (s.types n)) (λ u is. bind_rel_is (pop_typed_rel R u.params v) (λ p q pops z. stacks.enters s n is (all_at (pop_typed_all u.params vs) pops) z.first (stacks.push (Related.running (frame_rel f (left_rel r z.second))) e)))
+    perform_rel s f (asks_grow n r) e = done (asked_grow n s (stacks.steady (stacks.push (growing n) (stacks.push (Related.running (frame_rel f r)) e))))
+    perform_rel {s = s1} {t = t1} {f = f} {es = es} {fs = fs} s p (ends {vs = vs} {ws = ws} v) e = subst (λ ts. ResRel (NextRel R B) (bind (pop_typed f.results vs) (λ q. give s1 q.0 es)) (bind (pop_typed ts ws) (λ q. give t1 q.0 fs))) p.results (bind_rel (pop_typed_rel R f.results v) (λ _ _ q. stacks.gives s q.first e))
+
+    -- one step of frames on top
+    pub top_rel : {s t : Store} {f g : Frame} {es fs : List Entry} → StoreRel R s t → FrameRel R f g → C s t es fs → ((a : ℕ) → top_call f.inst f.levels ≡ Gives a → ¬ R.replaced a) → TopKnown R f.inst g.inst f.levels g.levels → ResRel (NextRel R B) (step s (Running f ∷ es)) (step t (Running g ∷ fs))
+    top_rel s f e free u = bind_rel (act_rel s f free u) (λ _ _ a. perform_rel s f a e)

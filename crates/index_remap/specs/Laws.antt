@@ -1,0 +1,61 @@
+-- The law of steps: from corresponding stores and related configurations one step of each agrees.
+use Rattle.std.proofs.Common.{◌≡◌, ℕ, List, [], ◌∷◌, ◌++◌, Bool}
+use Rattle.std.specs.Prelude.{IsTrue, nat_eq}
+use Rattle.std.specs.List.{list_any}
+use Rattle.wasm_meaning.specs.Outcomes.{Gives}
+use Rattle.wasm_meaning.specs.State.{Store, Entry, Running, Mark, Opening, Caller, Act, Ends}
+use Rattle.wasm_meaning.specs.Step.{act, step, to_mark}
+use Rattle.index_remap.specs.Related.{Kind, Pairing, OneToOne, ResRel, ListRel, StoreRel, EntryRel, NextRel, TopSkips, TopKnown}
+
+-- the addresses that pass the first test are related, and code may name as one those that pass the second; of the functions of a list only the types are known,
+-- and other code may stand for calls of them
+abbrev pub passed : (of named : Kind → ℕ → ℕ → Bool) → List ℕ → Pairing
+passed of named l = record { of = λ k a b. IsTrue (of k a b); named = λ k a b. IsTrue (named k a b); listed = λ a. IsTrue (list_any (nat_eq a) l); replaced = λ a. IsTrue (list_any (nat_eq a) l) }
+
+-- related entry by entry above what need not be related
+pub record Above (R : Pairing) (cs ds : List Entry) (s t : Store) (es fs : List Entry) : Type 0 where
+  pub first : List Entry
+  pub second : List Entry
+  pub related : ListRel (EntryRel R) first second
+  pub left : es ≡ first ++ cs
+  pub right : fs ≡ second ++ ds
+
+-- a step that ends a frame touches what stands below it as well
+abbrev pub NeedsBelow : List Entry → Act → Type 0
+NeedsBelow (e ∷ es) (Ends vs) = Unit {0}
+NeedsBelow [] (Ends vs) = ⊥
+NeedsBelow es _ = Unit {0}
+
+-- the entries that the step touches are among these
+abbrev pub Touches : Store → List Entry → Type 0
+Touches s (Running f ∷ es) = (x : Act) → act s f ≡ Gives x → NeedsBelow es x
+Touches s _ = ⊥
+
+-- the next instructions of the top frames name related addresses
+abbrev pub EntriesKnown : Pairing → List Entry → List Entry → Type 0
+EntriesKnown R (Running f ∷ es) (Running g ∷ fs) = TopKnown R f.inst g.inst f.levels g.levels
+EntriesKnown R _ _ = Unit {0}
+
+-- One step of each shows the same, or traps on both sides, or is ill typed on both, and leaves stores that correspond and configurations that are related. Of the
+-- configurations only the first entries need to be related, among which are those that the step touches.
+abbrev pub StepsAgree : Type 0
+StepsAgree =
+    (of named : Kind → ℕ → ℕ → Bool) (l : List ℕ) → OneToOne (passed of named l) → (s t : Store) (es fs cs ds : List Entry) →
+    StoreRel (passed of named l) s t → ListRel (EntryRel (passed of named l)) es fs → Touches s es → TopSkips (passed of named l) s es → EntriesKnown (passed of named l) es fs →
+    ResRel (NextRel (passed of named l) (Above (passed of named l) cs ds)) (step s (es ++ cs)) (step t (fs ++ ds))
+
+pub data HasMark : List Entry → Type 0 where
+  here : {es : List Entry} → HasMark (Mark ∷ es)
+  at_start : {xs : List ℕ} {es : List Entry} → HasMark (Opening xs ∷ es)
+  below : {e : Entry} {es : List Entry} → HasMark es → HasMark (e ∷ es)
+
+-- who waits, and what stands below
+pub record MarksAgree (R : Pairing) (cs ds : List Entry) (s t : Store) (p q : Caller × List Entry) : Type 0 where
+  pub caller : p.0 ≡ q.0
+  pub rest : Above R cs ds s t p.1 q.1
+
+-- A trap removes everything down to the nearest mark, which is the same on both sides; only what stands above it and the mark need to be related.
+abbrev pub TrapsAgree : Type 0
+TrapsAgree =
+    (of named : Kind → ℕ → ℕ → Bool) (l : List ℕ) (s t : Store) (es fs cs ds : List Entry) → ListRel (EntryRel (passed of named l)) es fs → HasMark es →
+    ResRel (MarksAgree (passed of named l) cs ds s t) (to_mark (es ++ cs)) (to_mark (fs ++ ds))

@@ -1,0 +1,4 @@
+pub mod Renumbered
+pub mod Related
+pub mod RelatedRuns
+pub mod Laws

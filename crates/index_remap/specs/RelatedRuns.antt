@@ -1,0 +1,45 @@
+-- Runs that are related: their states by a relation of addresses, their stacks by relations that are given.
+use Rattle.std.proofs.Common.{◌≡◌, ℕ, List, [], ◌∷◌, Option}
+use Rattle.wasm_meaning.specs.State.{Text, Store, Entry, Opening}
+use Rattle.wasm_meaning.specs.Environment.{Thing, FuncAt, TableAt, MemoryAt, GlobalAt}
+use Rattle.wasm_meaning.specs.World.{Begun}
+use Rattle.wasm_meaning.specs.Run.{Phase, Fresh, Pending, Opened, Closed, Run, Out}
+use Rattle.index_remap.specs.Related.{Funcs, Tables, Mems, Globals, Pairing, OptRel, ListRel, StoreRel}
+
+pub data ThingRel (R : Pairing) : Thing → Thing → Type 0 where
+  a_func : {a b : ℕ} → R.of Funcs a b → ThingRel R (FuncAt a) (FuncAt b)
+  a_table : {a b : ℕ} → R.of Tables a b → ThingRel R (TableAt a) (TableAt b)
+  a_memory : {a b : ℕ} → R.of Mems a b → ThingRel R (MemoryAt a) (MemoryAt b)
+  a_global : {a b : ℕ} → R.of Globals a b → ThingRel R (GlobalAt a) (GlobalAt b)
+
+pub record KeyRel (R : Pairing) {K : Type 0} (x y : K × Thing) : Type 0 where
+  pub key : x.0 ≡ y.0
+  pub thing : ThingRel R x.1 y.1
+
+-- but for the starts, which the entries hold
+pub record BegunRel (R : Pairing) (B : Store → Store → List Entry → List Entry → Type 0) (b c : Begun) : Type 0 where
+  pub store : StoreRel R b.store c.store
+  pub entries : B b.store c.store (Opening b.starts ∷ []) (Opening c.starts ∷ [])
+  pub closed : B b.store c.store [] []
+  pub trapped : b.trapped ≡ c.trapped
+  pub view : ListRel (KeyRel R) b.view c.view
+  pub owned : ListRel (KeyRel R) b.owned c.owned
+
+pub data PhaseRel (R : Pairing) (B : Store → Store → List Entry → List Entry → Type 0) : Phase → Phase → Type 0 where
+  fresh : {b c : Option Begun} → OptRel (BegunRel R B) b c → PhaseRel R B (Fresh b) (Fresh c)
+  pending : {vs ws : List (Text × Thing)} → ListRel (KeyRel R) vs ws → PhaseRel R B (Pending vs) (Pending ws)
+  opened : PhaseRel R B Opened Opened
+  closed : PhaseRel R B Closed Closed
+
+pub record RunRel (R : Pairing) (B F : Store → Store → List Entry → List Entry → Type 0) (r q : Run) : Type 0 where
+  pub store : StoreRel R r.store q.store
+  pub entries : B r.store q.store r.entries q.entries
+  pub phase : PhaseRel R F r.phase q.phase
+  pub shown : ListRel (R.of Funcs) r.shown q.shown
+  pub view : ListRel (KeyRel R) r.view q.view
+  pub owned : ListRel (KeyRel R) r.owned q.owned
+  pub moves : r.moves ≡ q.moves
+
+pub record OutRel (R : Pairing) (B F : Store → Store → List Entry → List Entry → Type 0) (o p : Out) : Type 0 where
+  pub event : o.1 ≡ p.1
+  pub run : RunRel R B F o.0 p.0

@@ -1,0 +1,2 @@
+pub mod Simulation
+mod SmallRuns

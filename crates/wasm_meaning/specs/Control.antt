@@ -1,0 +1,97 @@
+-- Calls, ends, branches and blocks (WebAssembly Core 2.0, sections 4.4.8 to 4.4.10).
+use Rattle.std.proofs.Common.{ℕ, List, [], ◌∷◌, ◌++◌, length, cond}
+use Rattle.std.specs.Prelude.{nat_eq}
+use Rattle.wasm_tree.specs.declared.types.FuncType.{FuncType}
+use Rattle.wasm_tree.specs.declared.types.BlockType.{BlockType}
+use Rattle.wasm_tree.specs.declared.types.BlockType.TheVariants as bt
+use Rattle.wasm_tree.specs.declared.instr.Instr.{Instr}
+use Rattle.wasm_tree.specs.declared.instr.Instr.TheVariants as i
+use Rattle.wasm_meaning.specs.Outcomes.{Outcome, Gives, Traps, IllTyped, trapping, or_trap, or_other, bind, at, past, split_at}
+use Rattle.wasm_num.specs.Operations.{W32}
+use Rattle.wasm_meaning.specs.State.{Pair, RefVal, FuncRef, ExternRef, Val, Inst, Func, Code, Own, Placeholder, Table, Store, Level, Env, Body, Act, Calls, Ends}
+use Rattle.wasm_meaning.specs.Values.{same_func_type, pop_num, go, with_values}
+use Rattle.wasm_meaning.specs.Tables.{with_table}
+
+abbrev pub type_of_func : Func → FuncType
+type_of_func (Code t i ls c) = t
+type_of_func (Own p t) = t
+type_of_func (Placeholder n t) = t
+
+-- the environment's own function that stands there
+abbrev pub own_of : Func → Outcome (Pair × FuncType)
+own_of (Own p t) = Gives (p, t)
+own_of _ = IllTyped
+
+abbrev pub own_at : Store → ℕ → Outcome (Pair × FuncType)
+own_at s a = bind (at s.funcs a) own_of
+
+abbrev pub type_at : Store → ℕ → Outcome FuncType
+type_at s a = bind (at s.funcs a) (λ f. Gives (type_of_func f))
+
+abbrev pub call_address : Body → ℕ → Outcome Act
+call_address h a = Gives (Calls a h.values h)
+
+abbrev pub call : Env → Body → ℕ → Outcome Act
+call env h i = bind (at env.inst.funcs i) (call_address h)
+
+abbrev pub func_ref : RefVal → Outcome ℕ
+func_ref (FuncRef r) = or_trap r
+func_ref (ExternRef r) = IllTyped
+
+abbrev pub call_checked : Body → List Val → ℕ → FuncType → FuncType → Outcome Act
+call_checked h vs a f t = cond (same_func_type t f) (Gives (Calls a vs h)) Traps
+
+abbrev pub call_slot : Env → Body → ℕ → Table → Outcome Act
+call_slot env h ty t =
+    bind (pop_num W32 h.values) (λ i. bind (trapping (at t.slots i.0)) (λ r. bind (func_ref r) (λ a. bind (type_at env.store a) (λ f. bind (at env.inst.types ty) (call_checked h i.1 a f)))))
+
+abbrev pub call_indirect : Env → Body → (ty table : ℕ) → Outcome Act
+call_indirect env h ty table = with_table env table (λ a t. call_slot env h ty t)
+
+-- ---- ends and branches ----
+
+-- the frame ends with these values
+abbrev pub finish : Body → List Val → Outcome Act
+finish h vs = Gives (Ends vs)
+
+-- these values and this code go on in the level outside, or the frame ends with them
+abbrev pub resume : Body → List Val → List Instr → List Level → Outcome Act
+resume h vs c [] = finish h vs
+resume h vs c (l ∷ ls) = Gives (go (record h { values = vs ++ l.values; rest = c ++ l.code; gives = l.gives; takes = l.takes; back = l.back; outer = ls }))
+
+-- a level ends with as many values as it gives, which are on top
+abbrev pub end_level : Body → Outcome Act
+end_level h = bind (split_at h.gives h.values) (λ p. resume h p.0 [] h.outer)
+
+abbrev pub level_here : Body → Level
+level_here h = record { values = h.values; code = h.rest; gives = h.gives; takes = h.takes; back = h.back }
+
+abbrev pub branch : Body → ℕ → Outcome Act
+branch h n = bind (at (level_here h ∷ h.outer) n) (λ t. bind (split_at t.takes h.values) (λ p. resume h p.0 t.back (past h.outer n)))
+
+abbrev pub branch_if : Body → ℕ → Outcome Act
+branch_if h n = bind (pop_num W32 h.values) (λ p. cond (nat_eq p.0 0) (Gives (go (with_values h p.1))) (branch (with_values h p.1) n))
+
+abbrev pub branch_table : Body → List ℕ → ℕ → Outcome Act
+branch_table h ns n = bind (pop_num W32 h.values) (λ p. branch (with_values h p.1) (or_other (at ns p.0) n))
+
+-- ---- blocks ----
+
+abbrev pub shape_of : Inst → BlockType → Outcome FuncType
+shape_of i bt.Empty = Gives (record { params = []; results = [] })
+shape_of i (bt.Value t) = Gives (record { params = []; results = t ∷ [] })
+shape_of i (bt.Index n) = at i.types n
+
+-- a level is opened with so many of the values; it gives so many at its end, and a branch to it takes so many and begins this code
+abbrev pub open_level : Body → List Val → (params gives takes : ℕ) → (body back : List Instr) → Outcome Act
+open_level h vs params gives takes body back =
+    bind (split_at params vs) (λ p. Gives (go (record h { values = p.0; rest = body; gives = gives; takes = takes; back = back; outer = level_here (with_values h p.1) ∷ h.outer })))
+
+abbrev pub open_block : Env → Body → List Val → BlockType → List Instr → Outcome Act
+open_block env h vs b body = bind (shape_of env.inst b) (λ t. open_level h vs (length t.params) (length t.results) (length t.results) body [])
+
+abbrev pub open_loop : Env → Body → BlockType → List Instr → Outcome Act
+open_loop env h b body = bind (shape_of env.inst b) (λ t. open_level h h.values (length t.params) (length t.results) (length t.params) body (i.Loop b body ∷ []))
+
+abbrev pub open_if : Env → Body → BlockType → (body other : List Instr) → Outcome Act
+open_if env h b body other = bind (pop_num W32 h.values) (λ p. open_block env h p.1 b (cond (nat_eq p.0 0) other body))

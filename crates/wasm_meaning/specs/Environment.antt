@@ -1,0 +1,212 @@
+-- What an embedder offers to a world, and the values that it sees and passes.
+use Rattle.std.proofs.Common.{ℕ, suc, ◌*◌, ◌^◌, List, [], ◌∷◌, ◌++◌, map, length, Option, Some, None, Bool, true, false, cond}
+use Rattle.std.specs.Prelude.{nat_eq, nat_lt, nat_le}
+use Rattle.wasm_tree.specs.declared.types.RefType.{RefType}
+use Rattle.wasm_tree.specs.declared.types.RefType.TheVariants as reft
+use Rattle.wasm_tree.specs.declared.types.ValType.{ValType}
+use Rattle.wasm_tree.specs.declared.types.ValType.TheVariants as valt
+use Rattle.wasm_tree.specs.declared.types.FuncType.{FuncType}
+use Rattle.wasm_tree.specs.declared.types.Limits.{Limits}
+use Rattle.wasm_tree.specs.declared.types.GlobalType.{GlobalType}
+use Rattle.wasm_num.specs.Operations.{W32, W64}
+use Rattle.wasm_meaning.specs.Outcomes.{Outcome, Gives, IllTyped, bind, at}
+use Rattle.wasm_meaning.specs.State.{Pair, RefVal, FuncRef, ExternRef, Val, Num, Ref, Func, Own, Table, Memory, Global}
+use Rattle.wasm_meaning.specs.Values.{same_func_type, ref_of}
+use Rattle.wasm_meaning.specs.Linking.{same_pair}
+
+-- a value as the embedder sees it: a number, null, a function of its own, a number of its own, or a function that was shown to it, by its number in the order
+-- of first showing
+pub data Shown : Type 0 where
+  Number : ℕ → Shown
+  Null : Shown
+  OwnFunc : Pair → FuncType → Shown
+  ExternNumber : ℕ → Shown
+  Function : (number : ℕ) → Shown
+
+pub record OwnTable : Type 0 where
+  pub ty : RefType
+  pub limits : Limits
+  pub entries : List Shown
+
+pub record OwnMemory : Type 0 where
+  pub limits : Limits
+  pub pages : ℕ
+  pub bytes : List ℕ
+
+pub record OwnGlobal : Type 0 where
+  pub ty : GlobalType
+  pub value : Shown
+
+-- what is offered under one module and field name: functions of these types, and at most one of each other kind
+pub record Offer : Type 0 where
+  pub pair : Pair
+  pub funcs : List FuncType
+  pub table : Option OwnTable
+  pub memory : Option OwnMemory
+  pub global : Option OwnGlobal
+
+abbrev pub Environment : Type 0
+Environment = List Offer
+
+-- ---- what is asked of an environment ----
+
+abbrev pub all_of : {A : Type 0} → (A → Bool) → List A → Bool
+all_of is [] = true
+all_of is (x ∷ xs) = cond (is x) (all_of is xs) false
+
+abbrev pub any_of : {A : Type 0} → (A → Bool) → List A → Bool
+any_of is [] = false
+any_of is (x ∷ xs) = cond (is x) true (any_of is xs)
+
+-- no two are the same
+abbrev pub distinct : {A : Type 0} → (A → A → Bool) → List A → Bool
+distinct same [] = true
+distinct same (x ∷ xs) = cond (any_of (same x) xs) false (distinct same xs)
+
+abbrev pub where_there : {A : Type 0} → (A → Bool) → Option A → Bool
+where_there is None = true
+where_there is (Some x) = is x
+
+abbrev pub offers_func : Pair → FuncType → Offer → Bool
+offers_func pair ty offer = cond (same_pair pair offer.pair) (any_of (same_func_type ty) offer.funcs) false
+
+-- the value is of the type, and a function of the environment's own is one that it offers
+abbrev pub is_value : Environment → ValType → Shown → Bool
+is_value env valt.I32 (Number n) = nat_lt n (2 ^ 32)
+is_value env valt.I64 (Number n) = nat_lt n (2 ^ 64)
+is_value env (valt.Ref reft.Func) Null = true
+is_value env (valt.Ref reft.Func) (OwnFunc pair ty) = any_of (offers_func pair ty) env
+is_value env (valt.Ref reft.Extern) Null = true
+is_value env (valt.Ref reft.Extern) (ExternNumber n) = true
+is_value env _ _ = false
+
+-- the minimum is at most the maximum, and the size is between them
+abbrev pub is_within : ℕ → Limits → Bool
+is_within size l = cond (nat_le l.min size) (where_there (λ most. cond (nat_le l.min most) (nat_le size most) false) l.max) false
+
+abbrev pub is_table : Environment → OwnTable → Bool
+is_table env t = cond (is_within (length t.entries) t.limits) (cond (nat_lt (length t.entries) (2 ^ 32)) (all_of (is_value env (valt.Ref t.ty)) t.entries) false) false
+
+-- for a memory both limits are at most 65,536 pages
+abbrev pub is_memory : OwnMemory → Bool
+is_memory m =
+    cond (is_within m.pages m.limits)
+    (cond (where_there (λ most. nat_le most 65536) m.limits.max) (cond (nat_le m.pages 65536) (cond (nat_eq (length m.bytes) (65536 * m.pages)) (all_of (λ b. nat_lt b 256) m.bytes) false) false) false)
+    false
+
+abbrev pub is_global : Environment → OwnGlobal → Bool
+is_global env g = is_value env g.ty.ty g.value
+
+abbrev pub is_offer : Environment → Offer → Bool
+is_offer env o =
+    cond (distinct same_func_type o.funcs) (cond (where_there (is_table env) o.table) (cond (where_there is_memory o.memory) (where_there (is_global env) o.global) false) false) false
+
+-- one offer for each pair, with contents of their types and limits that are right
+abbrev pub is_environment : Environment → Bool
+is_environment env = cond (distinct same_pair (map (λ o. o.pair) env)) (all_of (is_offer env) env) false
+
+-- ---- its entities in the store ----
+
+-- an entity of the environment's own
+pub data OwnKey : Type 0 where
+  FuncKey : Pair → FuncType → OwnKey
+  TableKey : Pair → OwnKey
+  MemoryKey : Pair → OwnKey
+  GlobalKey : Pair → OwnKey
+
+-- an entity in the store, by address
+pub data Thing : Type 0 where
+  FuncAt : ℕ → Thing
+  TableAt : ℕ → Thing
+  MemoryAt : ℕ → Thing
+  GlobalAt : ℕ → Thing
+
+abbrev pub Owned : Type 0
+Owned = List (OwnKey × Thing)
+
+abbrev pub same_key : OwnKey → OwnKey → Bool
+same_key (FuncKey p t) (FuncKey q u) = cond (same_pair p q) (same_func_type t u) false
+same_key (TableKey p) (TableKey q) = same_pair p q
+same_key (MemoryKey p) (MemoryKey q) = same_pair p q
+same_key (GlobalKey p) (GlobalKey q) = same_pair p q
+same_key _ _ = false
+
+abbrev pub look_up : {K : Type 0} → (K → Bool) → List (K × Thing) → Outcome Thing
+look_up is [] = IllTyped
+look_up is (x ∷ xs) = cond (is x.0) (Gives x.1) (look_up is xs)
+
+abbrev pub owned_at : Owned → OwnKey → Outcome Thing
+owned_at owned key = look_up (same_key key) owned
+
+abbrev pub func_of : Thing → Outcome ℕ
+func_of (FuncAt a) = Gives a
+func_of _ = IllTyped
+
+-- keys with addresses, counted from n
+abbrev pub addressed : (ℕ → Thing) → ℕ → List OwnKey → Owned
+addressed thing n [] = []
+addressed thing n (key ∷ keys) = (key, thing n) ∷ addressed thing (suc n) keys
+
+abbrev pub one_if : {A B : Type 0} → (A → B) → Option A → List B
+one_if f None = []
+one_if f (Some a) = f a ∷ []
+
+abbrev pub flat : {A B : Type 0} → (A → List B) → List A → List B
+flat f [] = []
+flat f (x ∷ xs) = f x ++ flat f xs
+
+-- the environment's entities have the first addresses of each kind, in the order of its offers
+abbrev pub owned_of : Environment → Owned
+owned_of env =
+    addressed FuncAt 0 (flat (λ o. map (FuncKey o.pair) o.funcs) env) ++ (addressed TableAt 0 (flat (λ o. one_if (λ t. TableKey o.pair) o.table) env)
+    ++ (addressed MemoryAt 0 (flat (λ o. one_if (λ m. MemoryKey o.pair) o.memory) env) ++ addressed GlobalAt 0 (flat (λ o. one_if (λ g. GlobalKey o.pair) o.global) env)))
+
+-- ---- values that the embedder passes ----
+
+abbrev pub func_value : Outcome ℕ → Outcome Val
+func_value address = bind address (λ a. Gives (Ref (FuncRef (Some a))))
+
+-- the value that is meant, where it is one of this type: own functions are those that are offered, and a function's number is its place among those shown
+abbrev pub received : Owned → (shown : List ℕ) → ValType → Shown → Outcome Val
+received owned shown valt.I32 (Number n) = cond (nat_lt n (2 ^ 32)) (Gives (Num W32 n)) IllTyped
+received owned shown valt.I64 (Number n) = cond (nat_lt n (2 ^ 64)) (Gives (Num W64 n)) IllTyped
+received owned shown (valt.Ref reft.Func) Null = Gives (Ref (FuncRef None))
+received owned shown (valt.Ref reft.Func) (OwnFunc pair ty) = bind (owned_at owned (FuncKey pair ty)) (λ thing. func_value (func_of thing))
+received owned shown (valt.Ref reft.Func) (Function number) = func_value (at shown number)
+received owned shown (valt.Ref reft.Extern) Null = Gives (Ref (ExternRef None))
+received owned shown (valt.Ref reft.Extern) (ExternNumber n) = Gives (Ref (ExternRef (Some n)))
+received owned shown _ _ = IllTyped
+
+abbrev pub received_ref : Owned → (shown : List ℕ) → RefType → Shown → Outcome RefVal
+received_ref owned shown ty x = bind (received owned shown (valt.Ref ty) x) ref_of
+
+-- one value for each type
+abbrev pub received_all : Owned → (shown : List ℕ) → List ValType → List Shown → Outcome (List Val)
+received_all owned shown [] [] = Gives []
+received_all owned shown (t ∷ ts) (x ∷ xs) = bind (received owned shown t x) (λ v. bind (received_all owned shown ts xs) (λ vs. Gives (v ∷ vs)))
+received_all owned shown _ _ = IllTyped
+
+-- ---- what is allocated for it ----
+
+abbrev pub or_null : RefType → Outcome RefVal → RefVal
+or_null ty (Gives r) = r
+or_null reft.Func _ = FuncRef None
+or_null reft.Extern _ = ExternRef None
+
+abbrev pub or_zero : ValType → Outcome Val → Val
+or_zero t (Gives v) = v
+or_zero valt.I32 _ = Num W32 0
+or_zero valt.I64 _ = Num W64 0
+or_zero (valt.Ref ty) _ = Ref (or_null ty IllTyped)
+
+abbrev pub own_funcs : Environment → List Func
+own_funcs = flat (λ o. map (Own o.pair) o.funcs)
+
+abbrev pub own_tables : Environment → List Table
+own_tables env = flat (λ o. one_if (λ t. record { ty = t.ty; most = t.limits.max; slots = map (λ x. or_null t.ty (received_ref (owned_of env) [] t.ty x)) t.entries }) o.table) env
+
+abbrev pub own_memories : Environment → List Memory
+own_memories = flat (λ o. one_if (λ m. record { most = m.limits.max; pages = m.pages; bytes = m.bytes }) o.memory)
+
+abbrev pub own_globals : Environment → List Global
+own_globals env = flat (λ o. one_if (λ g. record { ty = g.ty; value = or_zero g.ty.ty (received (owned_of env) [] g.ty.ty g.value) }) o.global) env

@@ -1,0 +1,13 @@
+pub mod Outcomes
+pub mod State
+pub mod Values
+pub mod Access
+pub mod Memory
+pub mod Tables
+pub mod Control
+pub mod Step
+pub mod Linking
+pub mod Environment
+pub mod World
+pub mod Run
+pub mod Laws

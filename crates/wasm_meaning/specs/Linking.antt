@@ -1,0 +1,318 @@
+-- Imports that are joined by name: where they end, what is asked of what stays, and what constant expressions read through them.
+-- An import whose module is a part's name is joined with that part's export of the field's name, if there is one; otherwise it stays an import.
+use Rattle.std.proofs.Common.{◌≡◌, ℕ, zero, suc, ◌+◌, ◌-◌, List, [], ◌∷◌, ◌++◌, length, Option, Some, None, Bool, true, false, cond}
+use Rattle.std.specs.Prelude.{nat_eq, max, min, ℤ}
+use Rattle.wasm_tree.specs.declared.types.RefType.{RefType}
+use Rattle.wasm_tree.specs.declared.types.Limits.{Limits}
+use Rattle.wasm_tree.specs.declared.module.Import.{Import}
+use Rattle.wasm_tree.specs.declared.module.ImportDesc.{ImportDesc}
+use Rattle.wasm_tree.specs.declared.module.ImportDesc.TheVariants as im
+use Rattle.wasm_tree.specs.declared.module.Export.{Export}
+use Rattle.wasm_tree.specs.declared.module.ExportDesc.{ExportDesc}
+use Rattle.wasm_tree.specs.declared.module.ExportDesc.TheVariants as ex
+use Rattle.wasm_tree.specs.declared.module.ConstExpr.{ConstExpr}
+use Rattle.wasm_tree.specs.declared.module.ConstExpr.TheVariants as const
+use Rattle.wasm_tree.specs.declared.module.Module.{Module}
+use Rattle.wasm_meaning.specs.State.{Text, Pair}
+
+-- a module, and the name by which others may import from it
+pub record Part : Type 0 where
+  pub name : Option Text
+  pub «module» : Module
+
+-- an import's place: its part, and its place in the import section
+pub record Site : Type 0 where
+  pub part : ℕ
+  pub import : ℕ
+
+-- ---- look-ups, none where nothing is there ----
+
+abbrev pub place : {A : Type 0} → List A → ℕ → Option A
+place [] n = None
+place (x ∷ xs) zero = Some x
+place (x ∷ xs) (suc n) = place xs n
+
+abbrev pub then_some : {A B : Type 0} → Option A → (A → Option B) → Option B
+then_some None f = None
+then_some (Some a) f = f a
+
+abbrev pub same_text : Text → Text → Bool
+same_text [] [] = true
+same_text (x ∷ xs) (y ∷ ys) = cond (nat_eq x y) (same_text xs ys) false
+same_text _ _ = false
+
+abbrev pub same_pair : Pair → Pair → Bool
+same_pair p q = cond (same_text p.0 q.0) (same_text p.1 q.1) false
+
+-- the first place from n on whose element passes the test
+abbrev pub first_place : {A : Type 0} → (A → Bool) → List A → ℕ → Option ℕ
+first_place is [] n = None
+first_place is (x ∷ xs) n = cond (is x) (Some n) (first_place is xs (suc n))
+
+-- the places, counted from n, whose element passes the test
+abbrev pub places : {A : Type 0} → (A → Bool) → List A → ℕ → List ℕ
+places is [] n = []
+places is (x ∷ xs) n = cond (is x) (n ∷ places is xs (suc n)) (places is xs (suc n))
+
+abbrev pub count_of : {A : Type 0} → (A → Bool) → List A → ℕ
+count_of is [] = 0
+count_of is (x ∷ xs) = cond (is x) (suc (count_of is xs)) (count_of is xs)
+
+-- ---- kinds ----
+
+pub data Kind : Type 0 where
+  Functions : Kind
+  Tables : Kind
+  Memories : Kind
+  Globals : Kind
+
+abbrev pub kind_of_import : ImportDesc → Kind
+kind_of_import (im.Func t) = Functions
+kind_of_import (im.Table t) = Tables
+kind_of_import (im.Memory l) = Memories
+kind_of_import (im.Global t) = Globals
+
+abbrev pub kind_of_export : ExportDesc → Kind
+kind_of_export (ex.Func i) = Functions
+kind_of_export (ex.Table i) = Tables
+kind_of_export (ex.Memory i) = Memories
+kind_of_export (ex.Global i) = Globals
+
+abbrev pub index_of_export : ExportDesc → ℕ
+index_of_export (ex.Func i) = i
+index_of_export (ex.Table i) = i
+index_of_export (ex.Memory i) = i
+index_of_export (ex.Global i) = i
+
+abbrev pub same_kind : Kind → Kind → Bool
+same_kind Functions Functions = true
+same_kind Tables Tables = true
+same_kind Memories Memories = true
+same_kind Globals Globals = true
+same_kind _ _ = false
+
+abbrev pub has_kind : Kind → Import → Bool
+has_kind k i = same_kind k (kind_of_import i.desc)
+
+-- the places in the import section of the imports of one kind, which come first in that kind's index space
+abbrev pub imports_of : Kind → Module → List ℕ
+imports_of k m = places (has_kind k) m.imports 0
+
+-- the place in its index space of the import at a place: how many of its kind come before it
+abbrev pub space_index : List Import → (place : ℕ) → Kind → ℕ
+space_index [] n k = 0
+space_index (i ∷ is) zero k = 0
+space_index (i ∷ is) (suc n) k = cond (has_kind k i) (suc (space_index is n k)) (space_index is n k)
+
+-- ---- joining ----
+
+abbrev pub module_at : List Part → ℕ → Option Module
+module_at parts p = then_some (place parts p) (λ part. Some part.«module»)
+
+abbrev pub import_at : List Part → Site → Option Import
+import_at parts site = then_some (module_at parts site.part) (λ m. place m.imports site.import)
+
+abbrev pub is_text : Text → Option Text → Bool
+is_text text None = false
+is_text text (Some name) = same_text text name
+
+abbrev pub is_named : Text → Part → Bool
+is_named text part = is_text text part.name
+
+-- what a module exports under a name
+abbrev pub export_named : List Export → Text → Option ExportDesc
+export_named [] field = None
+export_named (e ∷ es) field = cond (same_text e.name field) (Some e.desc) (export_named es field)
+
+-- the part whose name an import's module is
+abbrev pub source_of : List Part → Import → Option ℕ
+source_of parts i = first_place (is_named i.«module») parts 0
+
+-- an entity of a part: its kind and its index in that kind's index space
+pub record Entity : Type 0 where
+  pub part : ℕ
+  pub what : ExportDesc
+
+-- what an import is joined with, or none where it stays an import
+abbrev pub joined : List Part → Import → Option Entity
+joined parts i =
+    then_some (source_of parts i) (λ p. then_some (module_at parts p) (λ m. then_some (export_named m.exports i.field) (λ d. Some (record { part = p; what = d }))))
+
+-- the import that an entity is, or none where its part defines it
+abbrev pub imported_as : List Part → Entity → Option Site
+imported_as parts e =
+    then_some (module_at parts e.part) (λ m. then_some (place (imports_of (kind_of_export e.what) m) (index_of_export e.what)) (λ n. Some (record { part = e.part; import = n })))
+
+-- ---- where an import ends ----
+
+pub data End : Type 0 where
+  -- an entity that its part defines
+  Defined : Entity → End
+  -- an import that stays; it may be the import itself
+  Outside : Site → End
+
+-- a path of imports and exports leads from an import to its end
+pub data Leads (parts : List Part) : Site → End → Type 0 where
+  stays : {s : Site} {i : Import} → import_at parts s ≡ Some i → joined parts i ≡ None → Leads parts s (Outside s)
+  arrives : {s : Site} {i : Import} {e : Entity} → import_at parts s ≡ Some i → joined parts i ≡ Some e → imported_as parts e ≡ None → Leads parts s (Defined e)
+  passes : {s t : Site} {i : Import} {e : Entity} {end : End} →
+      import_at parts s ≡ Some i → joined parts i ≡ Some e → imported_as parts e ≡ Some t → Leads parts t end → Leads parts s end
+
+-- one import further
+abbrev pub end_of_entity : (Site → Option End) → Entity → Option Site → Option End
+end_of_entity next e None = Some (Defined e)
+end_of_entity next e (Some t) = next t
+
+abbrev pub end_of_joined : (Site → Option End) → List Part → Site → Option Entity → Option End
+end_of_joined next parts s None = Some (Outside s)
+end_of_joined next parts s (Some e) = end_of_entity next e (imported_as parts e)
+
+-- the end to which a path of at most so many imports leads
+abbrev pub end_within : (fuel : ℕ) → List Part → Site → Option End
+end_within zero parts s = None
+end_within (suc fuel) parts s = then_some (import_at parts s) (λ i. end_of_joined (end_within fuel parts) parts s (joined parts i))
+
+abbrev pub all_imports : List Part → ℕ
+all_imports [] = 0
+all_imports (p ∷ ps) = length p.«module».imports + all_imports ps
+
+-- a path that ends meets no import twice
+abbrev pub end_of : List Part → Site → Option End
+end_of parts = end_within (all_imports parts) parts
+
+-- ---- limits of what stays ----
+
+-- so many places of one part's imports, from one on
+abbrev pub sites_in : (part count from : ℕ) → List Site
+sites_in p zero n = []
+sites_in p (suc count) n = record { part = p; import = n } ∷ sites_in p count (suc n)
+
+-- all imports, by part, then in order
+abbrev pub sites_from : ℕ → List Part → List Site
+sites_from p [] = []
+sites_from p (part ∷ parts) = sites_in p (length part.«module».imports) 0 ++ sites_from (suc p) parts
+
+abbrev pub sites : List Part → List Site
+sites = sites_from 0
+
+abbrev pub same_site : Site → Site → Bool
+same_site s t = cond (nat_eq s.part t.part) (nat_eq s.import t.import) false
+
+abbrev pub is_outside : Site → Option End → Bool
+is_outside s (Some (Outside t)) = same_site s t
+is_outside s _ = false
+
+abbrev pub pair_of : Import → Pair
+pair_of i = (i.«module», i.field)
+
+-- two memory imports of one module and field name
+abbrev pub same_memory : Import → Option Import → Bool
+same_memory i None = false
+same_memory i (Some j) = cond (has_kind Memories i) (cond (has_kind Memories j) (same_pair (pair_of i) (pair_of j)) false) false
+
+-- a staying import that is the same memory
+abbrev pub stays_as : List Part → Import → Site → Bool
+stays_as parts i t = cond (is_outside t (end_of parts t)) (same_memory i (import_at parts t)) false
+
+abbrev pub first_site : (Site → Bool) → List Site → Site → Site
+first_site is [] other = other
+first_site is (s ∷ ss) other = cond (is s) s (first_site is ss other)
+
+abbrev pub gathered_at : List Part → Site → Option Import → End
+gathered_at parts s None = Outside s
+gathered_at parts s (Some i) = Outside (first_site (stays_as parts i) (sites parts) s)
+
+-- staying memory imports of one module and field name end together, at the first of them
+abbrev pub gathered : List Part → End → End
+gathered parts (Defined e) = Defined e
+gathered parts (Outside s) = gathered_at parts s (import_at parts s)
+
+-- the end of an import, with such memories as one
+abbrev pub linked_end : List Part → Site → Option End
+linked_end parts s = then_some (end_of parts s) (λ end. Some (gathered parts end))
+
+abbrev pub limits_of : ImportDesc → Option Limits
+limits_of (im.Func t) = None
+limits_of (im.Table t) = Some t.limits
+limits_of (im.Memory l) = Some l
+limits_of (im.Global t) = None
+
+abbrev pub consed : {A : Type 0} → Option A → List A → List A
+consed None xs = xs
+consed (Some x) xs = x ∷ xs
+
+-- the limits that the imports ask for which end at a staying one
+abbrev pub demands : List Part → Site → List Site → List Limits
+demands parts s [] = []
+demands parts s (t ∷ ts) =
+    cond (is_outside s (linked_end parts t)) (consed (then_some (import_at parts t) (λ i. limits_of i.desc)) (demands parts s ts)) (demands parts s ts)
+
+abbrev pub least : Option ℕ → Option ℕ → Option ℕ
+least None b = b
+least (Some a) None = Some a
+least (Some a) (Some b) = Some (min a b)
+
+-- the greatest minimum, and the least maximum that is present
+abbrev pub met : List Limits → Limits
+met [] = record { min = 0; max = None }
+met (l ∷ ls) = record { min = max l.min (met ls).min; max = least l.max (met ls).max }
+
+abbrev pub met_limits : List Part → Site → Limits
+met_limits parts s = met (demands parts s (sites parts))
+
+-- ---- constant reads ----
+
+-- an expression, with the part in whose spaces its index stands
+pub record Read : Type 0 where
+  pub part : ℕ
+  pub expr : ConstExpr
+
+-- the import that a global of a part is
+abbrev pub global_import : List Part → ℕ → ℕ → Option Site
+global_import parts p x = imported_as parts (record { part = p; what = ex.Global x })
+
+-- the value expression of a global that a part defines
+abbrev pub initial : List Part → Entity → Option ConstExpr
+initial parts e =
+    then_some (module_at parts e.part) (λ m. then_some (place m.globals (index_of_export e.what - length (imports_of Globals m))) (λ g. Some g.init))
+
+-- the global.get of a staying import
+abbrev pub outside_read : List Part → Site → Option Read
+outside_read parts s =
+    then_some (module_at parts s.part) (λ m. Some (record { part = s.part; expr = const.Global (space_index m.imports s.import Globals) }))
+
+-- An expression that reads an import which ends in a defined global has that global's value expression, followed likewise;
+-- one that reads an import which stays is the global.get of that import's end.
+pub data Reads (parts : List Part) : Read → Read → Type 0 where
+  i32 : {p : ℕ} {v : ℤ} → Reads parts (record { part = p; expr = const.I32 v }) (record { part = p; expr = const.I32 v })
+  i64 : {p : ℕ} {v : ℤ} → Reads parts (record { part = p; expr = const.I64 v }) (record { part = p; expr = const.I64 v })
+  null : {p : ℕ} {t : RefType} → Reads parts (record { part = p; expr = const.Null t }) (record { part = p; expr = const.Null t })
+  func : {p f : ℕ} → Reads parts (record { part = p; expr = const.Func f }) (record { part = p; expr = const.Func f })
+  stays : {p x : ℕ} {s t : Site} {r : Read} → global_import parts p x ≡ Some s → Leads parts s (Outside t) → outside_read parts t ≡ Some r →
+      Reads parts (record { part = p; expr = const.Global x }) r
+  follows : {p x : ℕ} {s : Site} {e : Entity} {expr : ConstExpr} {r : Read} →
+      global_import parts p x ≡ Some s → Leads parts s (Defined e) → initial parts e ≡ Some expr → Reads parts (record { part = e.part; expr = expr }) r →
+      Reads parts (record { part = p; expr = const.Global x }) r
+
+-- one global further
+abbrev pub read_end : (ℕ → ConstExpr → Option Read) → List Part → Option End → Option Read
+read_end next parts None = None
+read_end next parts (Some (Outside s)) = outside_read parts s
+read_end next parts (Some (Defined e)) = then_some (initial parts e) (next e.part)
+
+abbrev pub read_by : (ℕ → ConstExpr → Option Read) → List Part → ℕ → ConstExpr → Option Read
+read_by next parts p (const.Global x) = read_end next parts (then_some (global_import parts p x) (end_of parts))
+read_by next parts p expr = Some (record { part = p; expr = expr })
+
+-- the read that is reached through at most so many globals
+abbrev pub read_within : (fuel : ℕ) → List Part → ℕ → ConstExpr → Option Read
+read_within zero parts p expr = read_by (λ q e. None) parts p expr
+read_within (suc fuel) parts p expr = read_by (read_within fuel parts) parts p expr
+
+abbrev pub all_globals : List Part → ℕ
+all_globals [] = 0
+all_globals (p ∷ ps) = length p.«module».globals + all_globals ps
+
+-- a read that ends meets no defined global twice
+abbrev pub read_of : List Part → ℕ → ConstExpr → Option Read
+read_of parts = read_within (all_globals parts) parts

@@ -1,0 +1,74 @@
+-- Instructions on memories and data segments (WebAssembly Core 2.0, section 4.4.7).
+use Rattle.std.proofs.Common.{ℕ, suc, ◌+◌, ◌%◌, List, ◌∷◌, Option, Some, None, Bool, true, false, cond}
+use Rattle.std.specs.Prelude.{nat_lt}
+use Rattle.wasm_tree.specs.declared.instr.LoadOp.{LoadOp}
+use Rattle.wasm_tree.specs.declared.instr.StoreOp.{StoreOp}
+use Rattle.wasm_tree.specs.declared.instr.MemArg.{MemArg}
+use Rattle.wasm_meaning.specs.Outcomes.{Outcome, Gives, trapping, bind, at, slice, overwrite, copies}
+use Rattle.wasm_num.specs.Operations.{W32}
+use Rattle.wasm_meaning.specs.Access.{load_to, load_width, loaded, store_from, stored}
+use Rattle.wasm_meaning.specs.State.{Val, Num, Memory, Env, Body, GrowMemory, SetMemory, DropData, Act, Goes, AsksGrow}
+use Rattle.wasm_meaning.specs.Values.{pop_num, with_values, on_values, pushes}
+
+-- the memory with other bytes from a place on; a trap where they pass its end
+abbrev pub written : Memory → ℕ → List ℕ → Outcome Memory
+written m place bytes = bind (trapping (overwrite m.bytes place bytes)) (λ b. Gives (record m { bytes = b }))
+
+abbrev pub load_from : Memory → LoadOp → ℕ → List Val → Outcome (List Val)
+load_from m o offset vs = bind (pop_num W32 vs) (λ a. bind (trapping (slice m.bytes (a.0 + offset) (load_width o))) (λ bytes. Gives (Num (load_to o) (loaded o bytes) ∷ a.1)))
+
+-- the memory of this index: its address and what it holds
+abbrev pub with_memory : {B : Type 0} → Env → ℕ → (ℕ → Memory → Outcome B) → Outcome B
+with_memory env i f = bind (at env.inst.mems i) (λ a. bind (at env.store.mems a) (f a))
+
+abbrev pub load : Env → Body → LoadOp → MemArg → Outcome Act
+load env h o arg = with_memory env arg.memory (λ a m. on_values h (load_from m o arg.offset))
+
+-- the memory written, and these values left
+abbrev pub writes : Body → ℕ → Outcome Memory → List Val → Outcome Act
+writes h a m vs = bind m (λ n. Gives (Goes (SetMemory a n) (with_values h vs)))
+
+abbrev pub store_into : Body → StoreOp → ℕ → ℕ → Memory → Outcome Act
+store_into h o offset a m = bind (pop_num (store_from o) h.values) (λ v. bind (pop_num W32 v.1) (λ p. writes h a (written m (p.0 + offset) (stored o v.0)) p.1))
+
+abbrev pub store : Env → Body → StoreOp → MemArg → Outcome Act
+store env h o arg = with_memory env arg.memory (store_into h o arg.offset)
+
+abbrev pub memory_size : Env → Body → ℕ → Outcome Act
+memory_size env h i = with_memory env i (λ a m. pushes h (Num W32 m.pages))
+
+abbrev pub below_most : Option ℕ → ℕ → Bool
+below_most None n = true
+below_most (Some most) n = nat_lt n (suc most)
+
+abbrev pub memory_may_grow : Memory → ℕ → Bool
+memory_may_grow m count = cond (nat_lt (m.pages + count) 65537) (below_most m.most (m.pages + count)) false
+
+abbrev pub grow_memory : Body → ℕ → Memory → Outcome Act
+grow_memory h a m =
+    bind (pop_num W32 h.values) (λ n. cond (memory_may_grow m n.0) (Gives (AsksGrow (GrowMemory a n.0) m.pages n.0 (with_values h n.1))) (pushes (with_values h n.1) (Num W32 4294967295)))
+
+abbrev pub memory_grow : Env → Body → ℕ → Outcome Act
+memory_grow env h i = with_memory env i (grow_memory h)
+
+-- three numbers: a place to write to, one to read from, and a length, which is on top
+abbrev pub pop_three : List Val → Outcome ((ℕ × ℕ × ℕ) × List Val)
+pop_three vs = bind (pop_num W32 vs) (λ n. bind (pop_num W32 n.1) (λ s. bind (pop_num W32 s.1) (λ d. Gives ((d.0, s.0, n.0), d.1))))
+
+abbrev pub init_memory : Body → List ℕ → ℕ → Memory → Outcome Act
+init_memory h bytes a m = bind (pop_three h.values) (λ p. bind (trapping (slice bytes p.0.1 p.0.2)) (λ b. writes h a (written m p.0.0 b) p.1))
+
+abbrev pub memory_init : Env → Body → (segment memory : ℕ) → Outcome Act
+memory_init env h s i = bind (at env.inst.datas s) (λ d. bind (at env.store.datas d) (λ d. with_memory env i (init_memory h d.bytes)))
+
+abbrev pub data_drop : Env → Body → ℕ → Outcome Act
+data_drop env h s = bind (at env.inst.datas s) (λ a. Gives (Goes (DropData a) h))
+
+abbrev pub memory_copy : Env → Body → (to source : ℕ) → Outcome Act
+memory_copy env h i j = with_memory env j (λ b source. with_memory env i (init_memory h source.bytes))
+
+abbrev pub fill_memory : Body → ℕ → Memory → Outcome Act
+fill_memory h a m = bind (pop_three h.values) (λ p. writes h a (written m p.0.0 (copies p.0.2 (p.0.1 % 256))) p.1)
+
+abbrev pub memory_fill : Env → Body → ℕ → Outcome Act
+memory_fill env h i = with_memory env i (fill_memory h)

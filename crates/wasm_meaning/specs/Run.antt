@@ -1,0 +1,359 @@
+-- The embedder's moves, and runs. A run instantiates its world, opens the starts and the view, and then makes steps and takes moves; what others see of it are its events.
+use Rattle.std.proofs.Common.{◌≡◌, ℕ, zero, suc, ◌+◌, ◌*◌, List, [], ◌∷◌, ◌++◌, length, Option, Some, None, Bool, true, false, cond}
+use Rattle.std.specs.Prelude.{nat_lt, nat_eq, IsTrue}
+use Rattle.wasm_tree.specs.declared.types.ValType.{ValType}
+use Rattle.wasm_tree.specs.declared.types.FuncType.{FuncType}
+use Rattle.wasm_num.specs.Operations.{W32}
+use Rattle.wasm_meaning.specs.Outcomes.{Outcome, Gives, Traps, IllTyped, bind, at, overwrite, copies}
+use Rattle.wasm_meaning.specs.State.{Text, Pair, RefVal, FuncRef, ExternRef, Val, Num, Ref, Table, Memory, Store, Change, SetGlobal, SetMemory, SetTable, Growth, GrowMemory, GrowTable, Entry, Running, Caller, Host, Starter, Mark, Opening, Waiting, Ended, Growing, Next, Ran, CallsOwn, WaitsGrowth, CallsPlaceholder, EndsCall}
+use Rattle.wasm_meaning.specs.Values.{null_of}
+use Rattle.wasm_meaning.specs.Memory.{memory_may_grow}
+use Rattle.wasm_meaning.specs.Tables.{table_may_grow}
+use Rattle.wasm_meaning.specs.Control.{type_at, own_at}
+use Rattle.wasm_meaning.specs.Step.{give, enter_at, step, to_mark, changed}
+use Rattle.wasm_meaning.specs.Linking.{same_text, Kind, Tables, Memories}
+use Rattle.wasm_meaning.specs.Environment.{Environment, is_environment, owned_of, Shown, Number, Null, OwnFunc, ExternNumber, Function, Thing, FuncAt, TableAt, MemoryAt, GlobalAt, TableKey, MemoryKey, GlobalKey, Owned, owned_at, look_up, func_of, received, received_ref, received_all}
+use Rattle.wasm_meaning.specs.World.{World, Begun, own_store, instantiate}
+
+-- ---- what is seen and done ----
+
+pub data Event : Type 0 where
+  -- instantiation: the view is open; an import did not match or a constant read has no end; a segment or a start trapped
+  Linked : Event
+  LinkFault : Event
+  InstanceTrapped : Event
+  -- the end of a call that the embedder made
+  Returned : List Shown → Event
+  Trapped : Event
+  -- a function of the embedder's own is called, or a memory or table is to grow from a size by a count
+  Asked : Pair → FuncType → List Shown → Event
+  GrowAsked : Kind → (size count : ℕ) → Event
+  -- the answers to moves
+  Got : Shown → Event
+  Done : Event
+  BadMove : Event
+
+-- a table, memory or global: the environment's own of a pair, or a name of the view
+pub data Place : Type 0 where
+  TableOf : Pair → Place
+  MemoryOf : Pair → Place
+  GlobalOf : Pair → Place
+  Named : Text → Place
+
+pub data Move : Type 0 where
+  Call : Text → List Shown → Move
+  Invoke : (number : ℕ) → List Shown → Move
+  Take : Text → Move
+  Answer : List Shown → Move
+  Refuse : Move
+  Grant : Move
+  Deny : Move
+  Get : Place → (index : ℕ) → Move
+  Size : Place → Move
+  Set : Place → (index : ℕ) → Shown → Move
+  Extend : Place → (count : ℕ) → Move
+
+-- ---- the state of a run ----
+
+pub data Phase : Type 0 where
+  -- about to be instantiated, to this or to none
+  Fresh : Option Begun → Phase
+  -- instantiated; the starts are being made, and then this view is opened
+  Pending : (view : List (Text × Thing)) → Phase
+  Opened : Phase
+  Closed : Phase
+
+pub record Run : Type 0 where
+  pub store : Store
+  pub entries : List Entry
+  pub phase : Phase
+  -- the functions that were shown, in the order of first showing
+  pub shown : List ℕ
+  pub view : List (Text × Thing)
+  pub owned : Owned
+  pub moves : List Move
+
+-- a state, and the event of the step that led to it, if it has one
+abbrev pub Out : Type 0
+Out = Run × Option Event
+
+-- ---- look-ups ----
+
+abbrev pub viewed_at : Run → Text → Outcome Thing
+viewed_at r name = look_up (same_text name) r.view
+
+abbrev pub place_at : Run → Place → Outcome Thing
+place_at r (TableOf pair) = owned_at r.owned (TableKey pair)
+place_at r (MemoryOf pair) = owned_at r.owned (MemoryKey pair)
+place_at r (GlobalOf pair) = owned_at r.owned (GlobalKey pair)
+place_at r (Named name) = viewed_at r name
+
+-- ---- values shown ----
+
+abbrev pub place_of : List ℕ → ℕ → Outcome ℕ
+place_of [] a = IllTyped
+place_of (x ∷ xs) a = cond (nat_eq x a) (Gives 0) (bind (place_of xs a) (λ k. Gives (suc k)))
+
+-- a function that was shown keeps its number; another gets the next one
+abbrev pub numbered : List ℕ → ℕ → Outcome ℕ → Shown × List ℕ
+numbered shown a (Gives k) = (Function k, shown)
+numbered shown a _ = (Function (length shown), shown ++ a ∷ [])
+
+abbrev pub show_func : List ℕ → ℕ → Outcome (Pair × FuncType) → Shown × List ℕ
+show_func shown a (Gives own) = (OwnFunc own.0 own.1, shown)
+show_func shown a _ = numbered shown a (place_of shown a)
+
+abbrev pub show : Store → List ℕ → Val → Shown × List ℕ
+show s shown (Num w n) = (Number n, shown)
+show s shown (Ref (FuncRef None)) = (Null, shown)
+show s shown (Ref (FuncRef (Some a))) = show_func shown a (own_at s a)
+show s shown (Ref (ExternRef None)) = (Null, shown)
+show s shown (Ref (ExternRef (Some n))) = (ExternNumber n, shown)
+
+abbrev pub show_all : Store → List ℕ → List Val → List Shown × List ℕ
+show_all s shown [] = ([], shown)
+show_all s shown (v ∷ vs) = let one = show s shown v in let rest = show_all s one.1 vs in (one.0 ∷ rest.0, rest.1)
+
+-- ---- what follows a step ----
+
+-- a trap removes everything down to the nearest mark
+abbrev pub trapped_at : Run → Caller → List Entry → Out
+trapped_at r Host es = (record r { entries = es }, Some Trapped)
+trapped_at r Starter es = (record r { entries = []; phase = Closed }, Some InstanceTrapped)
+
+abbrev pub trapped_to : Run → Outcome (Caller × List Entry) → Out
+trapped_to r (Gives w) = trapped_at r w.0 w.1
+trapped_to r _ = (record r { entries = [] }, Some Trapped)
+
+abbrev pub showing : Run → Store → List Entry → List Val → (List Shown → Event) → Out
+showing r s es vs event = let x = show_all s r.shown vs in (record r { store = s; entries = es; shown = x.1 }, Some (event x.0))
+
+abbrev pub kind_of_growth : Growth → Kind
+kind_of_growth (GrowMemory a n) = Memories
+kind_of_growth (GrowTable a n v) = Tables
+
+-- nothing supplies placeholders here: a call of one traps
+abbrev pub after : Run → Outcome Next → Out
+after r (Gives (Ran s es)) = (record r { store = s; entries = es }, None)
+after r (Gives (CallsOwn pair ty vs s es)) = showing r s es vs (Asked pair ty)
+after r (Gives (WaitsGrowth g size count s es)) = (record r { store = s; entries = es }, Some (GrowAsked (kind_of_growth g) size count))
+after r (Gives (CallsPlaceholder slot vs s es)) = trapped_to (record r { store = s; entries = es }) (to_mark es)
+after r (Gives (EndsCall vs s es)) = showing r s es vs Returned
+after r Traps = trapped_to r (to_mark r.entries)
+after r IllTyped = trapped_to r (to_mark r.entries)
+
+-- ---- moves ----
+
+-- a function is called over these entries, with values of its types
+abbrev pub called : Run → List Entry → List Shown → ℕ → Outcome Out
+called r es xs a = bind (type_at r.store a) (λ t. bind (received_all r.owned r.shown t.params xs) (λ vs. Gives (after r (enter_at r.store a vs es))))
+
+-- the answer goes to the frame that waits; where the embedder itself made the call, that call ends with it at the next step
+abbrev pub is_mark : List Entry → Bool
+is_mark (Mark ∷ es) = true
+is_mark _ = false
+
+abbrev pub delivered : Run → List Val → List Entry → Out
+delivered r vs es = cond (is_mark es) (record r { entries = Ended vs ∷ es }, None) (after r (give r.store vs es))
+
+abbrev pub answered : Run → List Shown → List Entry → Outcome Out
+answered r xs (Waiting ts ∷ es) = bind (received_all r.owned r.shown ts xs) (λ vs. Gives (delivered r vs es))
+answered r xs _ = IllTyped
+
+abbrev pub refused : Run → List Entry → Outcome Out
+refused r (Waiting ts ∷ es) = Gives (after r Traps)
+refused r _ = IllTyped
+
+abbrev pub grown_memory : Memory → ℕ → Memory
+grown_memory m n = record m { pages = m.pages + n; bytes = m.bytes ++ copies (65536 * n) 0 }
+
+abbrev pub grown_table : Table → ℕ → RefVal → Table
+grown_table t n v = record t { slots = t.slots ++ copies n v }
+
+abbrev pub with_change : Run → Change → Run
+with_change r c = record r { store = changed r.store c }
+
+-- the old size is the result
+abbrev pub granted : Run → Growth → List Entry → Outcome Out
+granted r (GrowMemory a n) es = bind (at r.store.mems a) (λ m. Gives (delivered (with_change r (SetMemory a (grown_memory m n))) (Num W32 m.pages ∷ []) es))
+granted r (GrowTable a n v) es = bind (at r.store.tables a) (λ t. Gives (delivered (with_change r (SetTable a (grown_table t n v))) (Num W32 (length t.slots) ∷ []) es))
+
+-- while a growth waits no other move is taken
+abbrev pub decided : Run → Move → Growth → List Entry → Outcome Out
+decided r Grant g es = granted r g es
+decided r Deny g es = Gives (delivered r (Num W32 4294967295 ∷ []) es)
+decided r _ g es = IllTyped
+
+abbrev pub shows : Run → Val → Outcome Out
+shows r v = let x = show r.store r.shown v in Gives (record r { shown = x.1 }, Some (Got x.0))
+
+-- a global has the one index 0
+abbrev pub got : Run → Thing → ℕ → Outcome Out
+got r (FuncAt a) n = IllTyped
+got r (TableAt a) n = bind (at r.store.tables a) (λ t. bind (at t.slots n) (λ v. shows r (Ref v)))
+got r (MemoryAt a) n = bind (at r.store.mems a) (λ m. bind (at m.bytes n) (λ b. shows r (Num W32 b)))
+got r (GlobalAt a) n = bind (at r.store.globals a) (λ g. cond (nat_eq n 0) (shows r g.value) IllTyped)
+
+-- in entries, in pages, or 1
+abbrev pub size_of : Run → Thing → Outcome Out
+size_of r (FuncAt a) = IllTyped
+size_of r (TableAt a) = bind (at r.store.tables a) (λ t. shows r (Num W32 (length t.slots)))
+size_of r (MemoryAt a) = bind (at r.store.mems a) (λ m. shows r (Num W32 m.pages))
+size_of r (GlobalAt a) = bind (at r.store.globals a) (λ g. shows r (Num W32 1))
+
+abbrev pub does : Run → Change → Outcome Out
+does r c = Gives (with_change r c, Some Done)
+
+abbrev pub byte_of : Shown → Outcome ℕ
+byte_of (Number n) = cond (nat_lt n 256) (Gives n) IllTyped
+byte_of _ = IllTyped
+
+abbrev pub set : Run → Thing → ℕ → Shown → Outcome Out
+set r (FuncAt a) n x = IllTyped
+set r (TableAt a) n x =
+    bind (at r.store.tables a) (λ t. bind (received_ref r.owned r.shown t.ty x) (λ v. bind (overwrite t.slots n (v ∷ [])) (λ slots. does r (SetTable a (record t { slots = slots })))))
+set r (MemoryAt a) n x =
+    bind (at r.store.mems a) (λ m. bind (byte_of x) (λ b. bind (overwrite m.bytes n (b ∷ [])) (λ bytes. does r (SetMemory a (record m { bytes = bytes })))))
+set r (GlobalAt a) n x =
+    bind (at r.store.globals a) (λ g. cond (nat_eq n 0) (cond g.ty.mutable (bind (received r.owned r.shown g.ty.ty x) (λ v. does r (SetGlobal a (record g { value = v })))) IllTyped) IllTyped)
+
+abbrev pub extended : Run → Thing → ℕ → Outcome Out
+extended r (FuncAt a) n = IllTyped
+extended r (TableAt a) n = bind (at r.store.tables a) (λ t. cond (table_may_grow t n) (does r (SetTable a (grown_table t n (null_of t.ty)))) IllTyped)
+extended r (MemoryAt a) n = bind (at r.store.mems a) (λ m. cond (memory_may_grow m n) (does r (SetMemory a (grown_memory m n))) IllTyped)
+extended r (GlobalAt a) n = IllTyped
+
+-- a move where no growth waits
+abbrev pub moved : Run → Move → Outcome Out
+moved r (Call name xs) = bind (viewed_at r name) (λ x. bind (func_of x) (called r (Mark ∷ r.entries) xs))
+moved r (Invoke number xs) = bind (at r.shown number) (called r (Mark ∷ r.entries) xs)
+moved r (Take name) = bind (viewed_at r name) (λ x. bind (func_of x) (λ a. shows r (Ref (FuncRef (Some a)))))
+moved r (Answer xs) = answered r xs r.entries
+moved r Refuse = refused r r.entries
+moved r Grant = IllTyped
+moved r Deny = IllTyped
+moved r (Get p n) = bind (place_at r p) (λ x. got r x n)
+moved r (Size p) = bind (place_at r p) (size_of r)
+moved r (Set p n v) = bind (place_at r p) (λ x. set r x n v)
+moved r (Extend p n) = bind (place_at r p) (λ x. extended r x n)
+
+abbrev pub at_entries : Run → Move → List Entry → Outcome Out
+at_entries r m (Growing g ∷ es) = decided r m g es
+at_entries r m _ = moved r m
+
+-- a move that is not taken changes nothing
+abbrev pub or_bad : Run → Outcome Out → Out
+or_bad r (Gives o) = o
+or_bad r _ = (r, Some BadMove)
+
+-- where a move is due and none is left, nothing happens
+abbrev pub next_move : Run → List Move → Out
+next_move r [] = (r, None)
+next_move r (m ∷ ms) = let q = record r { moves = ms } in or_bad q (at_entries q m q.entries)
+
+-- a closed world takes moves on the environment's own entities alone
+abbrev pub is_own_place : Place → Bool
+is_own_place (Named name) = false
+is_own_place _ = true
+
+abbrev pub is_taken_closed : Move → Bool
+is_taken_closed (Get p n) = is_own_place p
+is_taken_closed (Size p) = is_own_place p
+is_taken_closed (Set p n v) = is_own_place p
+is_taken_closed (Extend p n) = is_own_place p
+is_taken_closed _ = false
+
+abbrev pub closed_move : Run → List Move → Out
+closed_move r [] = (r, None)
+closed_move r (m ∷ ms) = let q = record r { moves = ms } in or_bad q (cond (is_taken_closed m) (moved q m) IllTyped)
+
+-- ---- one step of a run ----
+
+abbrev pub began : Run → Option Begun → Out
+began r None = (record r { entries = []; phase = Closed }, Some LinkFault)
+began r (Some b) = cond b.trapped
+    (record r { store = b.store; entries = []; phase = Closed; owned = b.owned }, Some InstanceTrapped)
+    (record r { store = b.store; entries = Opening b.starts ∷ []; phase = Pending b.view; owned = b.owned }, None)
+
+abbrev pub view_of : Run → Phase → List (Text × Thing)
+view_of r (Pending view) = view
+view_of r _ = r.view
+
+-- a start takes no arguments and gives no results; a function of another type is none
+abbrev pub nothing_in : List ValType → Outcome (List ValType)
+nothing_in [] = Gives []
+nothing_in (t ∷ ts) = IllTyped
+
+abbrev pub started : Run → (starts : List ℕ) → List Entry → ℕ → Outcome Out
+started r starts es a = bind (type_at r.store a) (λ t. bind (nothing_in t.results) (λ u. called r (Opening starts ∷ es) [] a))
+
+abbrev pub or_closed : Run → Outcome Out → Out
+or_closed r (Gives o) = o
+or_closed r _ = (record r { entries = []; phase = Closed }, Some InstanceTrapped)
+
+-- the next start is opened, or the view
+abbrev pub open_next : Run → (starts : List ℕ) → List Entry → Out
+open_next r [] es = (record r { entries = es; phase = Opened; view = view_of r r.phase }, Some Linked)
+open_next r (a ∷ starts) es = or_closed r (started r starts es a)
+
+-- where nothing is on the stack
+abbrev pub in_phase : Run → Phase → Out
+in_phase r (Fresh b) = began r b
+in_phase r (Pending view) = (r, None)
+in_phase r Opened = next_move r r.moves
+in_phase r Closed = closed_move r r.moves
+
+abbrev pub tick_at : Run → List Entry → Out
+tick_at r [] = in_phase r r.phase
+tick_at r (Running f ∷ es) = after r (step r.store r.entries)
+tick_at r (Mark ∷ es) = (r, None)
+tick_at r (Opening starts ∷ es) = open_next r starts es
+tick_at r (Waiting ts ∷ es) = next_move r r.moves
+tick_at r (Ended vs ∷ es) = after r (give r.store vs es)
+tick_at r (Growing g ∷ es) = next_move r r.moves
+
+-- one step of a run: the instantiation, the opening of a start or of the view, the taking of a move, or a step of the machine
+abbrev pub tick : Run → Out
+tick r = tick_at r r.entries
+
+-- ---- runs ----
+
+abbrev pub noted : {E : Type 0} → Option E → List E → List E
+noted None es = es
+noted (Some e) es = e ∷ es
+
+-- the events of the first n steps of a machine
+abbrev pub events_of : {S E : Type 0} → (S → S × Option E) → S → ℕ → List E
+events_of t s zero = []
+events_of t s (suc n) = let o = t s in noted o.1 (events_of t o.0 n)
+
+-- its state after n steps
+abbrev pub state_after : {S E : Type 0} → (S → S × Option E) → S → ℕ → S
+state_after t s zero = s
+state_after t s (suc n) = state_after t (t s).0 n
+
+abbrev pub IsPrefix : {E : Type 0} → List E → List E → Type 0
+IsPrefix {E} xs ys = (rest : List E) × (xs ++ rest ≡ ys)
+
+-- a run that is about to enter what was instantiated; the environment's own entities are there also where nothing is
+abbrev pub fresh_run : Environment → Option Begun → List Move → Run
+fresh_run env b moves =
+    record {
+      store = own_store env;
+      entries = [];
+      phase = Fresh b;
+      shown = [];
+      view = [];
+      owned = owned_of env;
+      moves = moves;
+    }
+
+-- the events of the first n steps of a world in an environment, whose embedder makes these moves
+abbrev pub events : World → Environment → List Move → ℕ → List Event
+events w env moves n = events_of tick (fresh_run env (instantiate env w) moves) n
+
+-- In each environment of those named, by each list of moves, whatever is seen of the one in n steps is seen of the other in f n, and the other way round in g n.
+abbrev pub Same : (Environment → Type 0) → World → World → (ℕ → ℕ) → (ℕ → ℕ) → Type 0
+Same named v w f g =
+    (env : Environment) → IsTrue (is_environment env) → named env → (moves : List Move) (n : ℕ) →
+    IsPrefix (events v env moves n) (events w env moves (f n)) × IsPrefix (events w env moves n) (events v env moves (g n))

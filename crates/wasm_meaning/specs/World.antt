@@ -1,0 +1,372 @@
+-- Worlds, and their instantiation at once (WebAssembly Core 2.0, section 4.5.4, for several modules together).
+-- Every import is matched and everything allocated; then all active element segments are copied by part, then all active data segments by part.
+use Rattle.std.proofs.Common.{ℕ, zero, suc, ◌+◌, ◌-◌, ◌*◌, List, [], ◌∷◌, ◌++◌, map, length, Option, Some, None, Bool, true, false, cond}
+use Rattle.std.specs.Prelude.{nat_le}
+use Rattle.wasm_tree.specs.declared.types.FuncType.{FuncType}
+use Rattle.wasm_tree.specs.declared.types.Limits.{Limits}
+use Rattle.wasm_tree.specs.declared.module.Import.{Import}
+use Rattle.wasm_tree.specs.declared.module.ImportDesc.{ImportDesc}
+use Rattle.wasm_tree.specs.declared.module.ImportDesc.TheVariants as im
+use Rattle.wasm_tree.specs.declared.module.ExportDesc.{ExportDesc}
+use Rattle.wasm_tree.specs.declared.module.ExportDesc.TheVariants as ex
+use Rattle.wasm_tree.specs.declared.module.ConstExpr.{ConstExpr}
+use Rattle.wasm_tree.specs.declared.module.ConstExpr.TheVariants as const
+use Rattle.wasm_tree.specs.declared.module.GlobalDef.{GlobalDef}
+use Rattle.wasm_tree.specs.declared.module.ElemSeg.{ElemSeg}
+use Rattle.wasm_tree.specs.declared.module.ElemMode.{ElemMode}
+use Rattle.wasm_tree.specs.declared.module.ElemMode.TheVariants as elem
+use Rattle.wasm_tree.specs.declared.module.DataSeg.{DataSeg}
+use Rattle.wasm_tree.specs.declared.module.DataMode.{DataMode}
+use Rattle.wasm_tree.specs.declared.module.DataMode.TheVariants as data'
+use Rattle.wasm_tree.specs.declared.module.Func as tree
+use Rattle.wasm_tree.specs.declared.module.Module.{Module}
+use Rattle.wasm_num.specs.Operations.{W32, W64, wrapped}
+use Rattle.wasm_meaning.specs.Outcomes.{Outcome, Gives, overwrite, copies}
+use Rattle.wasm_meaning.specs.State.{Text, Pair, RefVal, FuncRef, Val, Num, Ref, Inst, Func, Code, Table, Memory, Global, Elem, Store, DropElem, DropData, SetTable, SetMemory}
+use Rattle.wasm_meaning.specs.Values.{same_ref, same_type, same_func_type, null_of, declared, ref_of, num_of}
+use Rattle.wasm_meaning.specs.Control.{type_at}
+use Rattle.wasm_meaning.specs.Step.{changed, no_items}
+use Rattle.wasm_meaning.specs.Linking.{Part, Site, End, Defined, Outside, Entity, Kind, Functions, Tables, Memories, Globals, Read, place, then_some, module_at, import_at, imports_of, pair_of, kind_of_export, index_of_export, end_of, read_of, sites}
+use Rattle.wasm_meaning.specs.Environment.{Environment, Thing, FuncAt, TableAt, MemoryAt, GlobalAt, OwnKey, FuncKey, TableKey, MemoryKey, GlobalKey, Owned, owned_of, owned_at, own_funcs, own_tables, own_memories, own_globals, all_of}
+
+-- modules with names, whose imports are joined by name, and what the embedder may use: names, each with the entity for which it stands
+pub record World : Type 0 where
+  pub parts : List Part
+  pub view : List (Text × Entity)
+
+-- ---- addresses ----
+
+-- what a part defines of a kind
+abbrev pub defined_count : Kind → Module → ℕ
+defined_count Functions m = length m.funcs
+defined_count Tables m = length m.tables
+defined_count Memories m = length m.mems
+defined_count Globals m = length m.globals
+
+abbrev pub own_count : Kind → Environment → ℕ
+own_count Functions env = length (own_funcs env)
+own_count Tables env = length (own_tables env)
+own_count Memories env = length (own_memories env)
+own_count Globals env = length (own_globals env)
+
+-- how many the first parts define
+abbrev pub defined_before : Kind → List Part → ℕ → ℕ
+defined_before k [] p = 0
+defined_before k (part ∷ parts) zero = 0
+defined_before k (part ∷ parts) (suc p) = defined_count k part.«module» + defined_before k parts p
+
+-- the entities of the environment come first, then what the parts define, by part
+abbrev pub base : Environment → List Part → Kind → ℕ → ℕ
+base env parts k p = own_count k env + defined_before k parts p
+
+abbrev pub thing_at : Kind → ℕ → Thing
+thing_at Functions a = FuncAt a
+thing_at Tables a = TableAt a
+thing_at Memories a = MemoryAt a
+thing_at Globals a = GlobalAt a
+
+abbrev pub address_of : Kind → Thing → Option ℕ
+address_of Functions (FuncAt a) = Some a
+address_of Tables (TableAt a) = Some a
+address_of Memories (MemoryAt a) = Some a
+address_of Globals (GlobalAt a) = Some a
+address_of _ _ = None
+
+abbrev pub given : {A : Type 0} → Outcome A → Option A
+given (Gives a) = Some a
+given _ = None
+
+-- the function type that an import names
+abbrev pub import_type : Module → ℕ → Option FuncType
+import_type m ty = place m.types ty
+
+-- the environment's entity that a staying import names
+abbrev pub own_key_of : Module → Pair → ImportDesc → Option OwnKey
+own_key_of m pair (im.Func ty) = then_some (import_type m ty) (λ t. Some (FuncKey pair t))
+own_key_of m pair (im.Table t) = Some (TableKey pair)
+own_key_of m pair (im.Memory l) = Some (MemoryKey pair)
+own_key_of m pair (im.Global t) = Some (GlobalKey pair)
+
+abbrev pub own_key : Module → Import → Option OwnKey
+own_key m i = own_key_of m (pair_of i) i.desc
+
+abbrev pub outside_thing : Owned → List Part → Site → Option Thing
+outside_thing owned parts s = then_some (module_at parts s.part) (λ m. then_some (import_at parts s) (λ i. then_some (own_key m i) (λ key. given (owned_at owned key))))
+
+abbrev pub defined_thing : Environment → List Part → Entity → Option Thing
+defined_thing env parts e =
+    then_some (module_at parts e.part)
+    (λ m. let k = kind_of_export e.what in Some (thing_at k (base env parts k e.part + (index_of_export e.what - length (imports_of k m)))))
+
+abbrev pub thing_of : Environment → List Part → End → Option Thing
+thing_of env parts (Defined e) = defined_thing env parts e
+thing_of env parts (Outside s) = outside_thing (owned_of env) parts s
+
+-- what an import stands for
+abbrev pub imported_thing : Environment → List Part → Site → Option Thing
+imported_thing env parts s = then_some (end_of parts s) (thing_of env parts)
+
+abbrev pub all_there : {A B : Type 0} → (A → Option B) → List A → Option (List B)
+all_there f [] = Some []
+all_there f (x ∷ xs) = then_some (f x) (λ y. then_some (all_there f xs) (λ ys. Some (y ∷ ys)))
+
+abbrev pub numbers : (from count : ℕ) → List ℕ
+numbers n zero = []
+numbers n (suc count) = n ∷ numbers (suc n) count
+
+-- the addresses of an index space: of the imports, then of what is defined
+abbrev pub space : Environment → List Part → Kind → ℕ → Module → Option (List ℕ)
+space env parts k p m =
+    then_some (all_there (λ n. then_some (imported_thing env parts (record { part = p; import = n })) (address_of k)) (imports_of k m))
+    (λ imported. Some (imported ++ numbers (base env parts k p) (defined_count k m)))
+
+-- element and data segments have addresses by part
+abbrev pub elems_before : List Part → ℕ → ℕ
+elems_before [] p = 0
+elems_before (part ∷ parts) zero = 0
+elems_before (part ∷ parts) (suc p) = length part.«module».elems + elems_before parts p
+
+abbrev pub datas_before : List Part → ℕ → ℕ
+datas_before [] p = 0
+datas_before (part ∷ parts) zero = 0
+datas_before (part ∷ parts) (suc p) = length part.«module».datas + datas_before parts p
+
+abbrev pub inst_of : Environment → List Part → ℕ → Module → Option Inst
+inst_of env parts p m =
+    then_some (space env parts Functions p m) (λ funcs. then_some (space env parts Tables p m) (λ tables. then_some (space env parts Memories p m) (λ mems. then_some (space env parts Globals p m) (λ globals.
+    Some (record {
+      types = m.types;
+      funcs = funcs;
+      tables = tables;
+      mems = mems;
+      globals = globals;
+      elems = numbers (elems_before parts p) (length m.elems);
+      datas = numbers (datas_before parts p) (length m.datas);
+    })))))
+
+-- ---- constant expressions ----
+
+-- the value of an expression that reads no joined global; of globals it sees the environment's
+abbrev pub const_value : List Global → Inst → ConstExpr → Option Val
+const_value own i (const.I32 v) = Some (Num W32 (wrapped 32 v))
+const_value own i (const.I64 v) = Some (Num W64 (wrapped 64 v))
+const_value own i (const.Null t) = Some (Ref (null_of t))
+const_value own i (const.Func f) = then_some (place i.funcs f) (λ a. Some (Ref (FuncRef (Some a))))
+const_value own i (const.Global x) = then_some (place i.globals x) (λ a. then_some (place own a) (λ g. Some g.value))
+
+abbrev pub value_of_read : List Global → List Inst → Read → Option Val
+value_of_read own insts r = then_some (place insts r.part) (λ i. const_value own i r.expr)
+
+-- the value of an expression of a part, by the read that it leads to
+abbrev pub value_of : Environment → List Part → List Inst → ℕ → ConstExpr → Option Val
+value_of env parts insts p expr = then_some (read_of parts p expr) (value_of_read (own_globals env) insts)
+
+abbrev pub ref_value : Environment → List Part → List Inst → ℕ → ConstExpr → Option RefVal
+ref_value env parts insts p expr = then_some (value_of env parts insts p expr) (λ v. given (ref_of v))
+
+abbrev pub number_value : Environment → List Part → List Inst → ℕ → ConstExpr → Option ℕ
+number_value env parts insts p expr = then_some (value_of env parts insts p expr) (λ v. given (num_of W32 v))
+
+-- ---- allocation (section 4.5.3) ----
+
+abbrev pub new_func : Inst → tree.Func → Option Func
+new_func i f = then_some (place i.types f.ty) (λ t. Some (Code t i (declared f.locals) f.body))
+
+abbrev pub new_global : Environment → List Part → List Inst → ℕ → GlobalDef → Option Global
+new_global env parts insts p g = then_some (value_of env parts insts p g.init) (λ v. Some (record { ty = g.ty; value = v }))
+
+-- a declarative segment is dropped at once
+abbrev pub new_elem : ElemMode → List RefVal → Elem
+new_elem elem.Declarative items = no_items
+new_elem mode items = record { items = items; dropped = false }
+
+abbrev pub elem_of : Environment → List Part → List Inst → ℕ → ElemSeg → Option Elem
+elem_of env parts insts p e = then_some (all_there (ref_value env parts insts p) e.items) (λ items. Some (new_elem e.mode items))
+
+-- what one part adds to the store
+abbrev pub part_store : Environment → List Part → List Inst → ℕ → Module → Inst → Option Store
+part_store env parts insts p m i =
+    then_some (all_there (new_func i) m.funcs) (λ funcs. then_some (all_there (new_global env parts insts p) m.globals) (λ globals. then_some (all_there (elem_of env parts insts p) m.elems) (λ elems.
+    Some (record {
+      funcs = funcs;
+      globals = globals;
+      elems = elems;
+      tables = map (λ t. record { ty = t.ty; most = t.limits.max; slots = copies t.limits.min (null_of t.ty) }) m.tables;
+      mems = map (λ l. record { most = l.max; pages = l.min; bytes = copies (65536 * l.min) 0 }) m.mems;
+      datas = map (λ d. record { bytes = d.bytes; dropped = false }) m.datas;
+    }))))
+
+abbrev pub joined_stores : Store → Store → Store
+joined_stores s t =
+    record { funcs = s.funcs ++ t.funcs; tables = s.tables ++ t.tables; mems = s.mems ++ t.mems; globals = s.globals ++ t.globals; elems = s.elems ++ t.elems; datas = s.datas ++ t.datas }
+
+abbrev pub own_store : Environment → Store
+own_store env = record { funcs = own_funcs env; tables = own_tables env; mems = own_memories env; globals = own_globals env; elems = []; datas = [] }
+
+-- the instances of the parts from p on
+abbrev pub insts_from : Environment → List Part → ℕ → List Part → Option (List Inst)
+insts_from env all p [] = Some []
+insts_from env all p (part ∷ parts) = then_some (inst_of env all p part.«module») (λ i. then_some (insts_from env all (suc p) parts) (λ is. Some (i ∷ is)))
+
+-- the store with what the parts from p on add to it
+abbrev pub stores_from : Environment → List Part → List Inst → Store → ℕ → List Part → List Inst → Option Store
+stores_from env all insts s p (part ∷ parts) (i ∷ is) =
+    then_some (part_store env all insts p part.«module» i) (λ t. stores_from env all insts (joined_stores s t) (suc p) parts is)
+stores_from env all insts s p _ _ = Some s
+
+-- ---- matching (sections 4.5.1 and 4.5.4) ----
+
+abbrev pub same_bool : Bool → Bool → Bool
+same_bool true b = b
+same_bool false true = false
+same_bool false false = true
+
+-- a maximum that is asked for needs one that is there and no greater
+abbrev pub meets_most : (most demand : Option ℕ) → Bool
+meets_most most None = true
+meets_most None (Some d) = false
+meets_most (Some n) (Some d) = nat_le n d
+
+-- an actual size and a maximum meet a demand
+abbrev pub meets : (size : ℕ) → (most : Option ℕ) → Limits → Bool
+meets size most demand = cond (nat_le demand.min size) (meets_most most demand.max) false
+
+-- an entity of the store is what an import asks for
+abbrev pub is_match : Store → Module → ImportDesc → Thing → Option Bool
+is_match s m (im.Func ty) (FuncAt a) = then_some (import_type m ty) (λ t. then_some (given (type_at s a)) (λ u. Some (same_func_type t u)))
+is_match s m (im.Table t) (TableAt a) = then_some (place s.tables a) (λ u. Some (cond (same_ref t.ty u.ty) (meets (length u.slots) u.most t.limits) false))
+is_match s m (im.Memory l) (MemoryAt a) = then_some (place s.mems a) (λ u. Some (meets u.pages u.most l))
+is_match s m (im.Global t) (GlobalAt a) = then_some (place s.globals a) (λ u. Some (cond (same_type t.ty u.ty.ty) (same_bool t.mutable u.ty.mutable) false))
+is_match s m _ _ = None
+
+abbrev pub or_false : Option Bool → Bool
+or_false (Some b) = b
+or_false None = false
+
+abbrev pub is_matched : Environment → List Part → Store → Site → Bool
+is_matched env parts s site =
+    or_false (then_some (module_at parts site.part) (λ m. then_some (import_at parts site) (λ i. then_some (imported_thing env parts site) (is_match s m i.desc))))
+
+-- ---- active segments (section 4.5.4) ----
+
+-- the store so far, and whether a segment was out of bounds
+pub record Filled : Type 0 where
+  pub store : Store
+  pub trapped : Bool
+
+-- a segment with its address, its part's instance and its part
+pub record Task (A : Type 0) : Type 0 where
+  pub part : ℕ
+  pub inst : Inst
+  pub address : ℕ
+  pub segment : A
+
+abbrev pub tasks_in : {A : Type 0} → ℕ → Inst → List ℕ → List A → List (Task A)
+tasks_in p i (n ∷ ns) (x ∷ xs) = record { part = p; inst = i; address = n; segment = x } ∷ tasks_in p i ns xs
+tasks_in p i _ _ = []
+
+abbrev pub elem_tasks : ℕ → List Part → List Inst → List (Task ElemSeg)
+elem_tasks p (part ∷ parts) (i ∷ is) = tasks_in p i i.elems part.«module».elems ++ elem_tasks (suc p) parts is
+elem_tasks p _ _ = []
+
+abbrev pub data_tasks : ℕ → List Part → List Inst → List (Task DataSeg)
+data_tasks p (part ∷ parts) (i ∷ is) = tasks_in p i i.datas part.«module».datas ++ data_tasks (suc p) parts is
+data_tasks p _ _ = []
+
+abbrev pub or_trapped : Store → Option Filled → Filled
+or_trapped s (Some f) = f
+or_trapped s None = record { store = s; trapped = true }
+
+-- the references of a segment are copied into a table, and the segment is dropped
+abbrev pub fill_table : Store → (segment table : ℕ) → Table → Outcome (List RefVal) → Filled
+fill_table s segment a t (Gives slots) = record { store = changed (changed s (SetTable a (record t { slots = slots }))) (DropElem segment); trapped = false }
+fill_table s segment a t _ = record { store = s; trapped = true }
+
+abbrev pub copy_elem : Store → (segment : ℕ) → Inst → (table : ℕ) → (offset : Option ℕ) → Filled
+copy_elem s segment i x offset =
+    or_trapped s (then_some offset (λ n. then_some (place i.tables x) (λ a. then_some (place s.tables a) (λ t. then_some (place s.elems segment) (λ e. Some (fill_table s segment a t (overwrite t.slots n e.items)))))))
+
+abbrev pub run_elem_mode : Environment → List Part → List Inst → Store → Task ElemSeg → ElemMode → Filled
+run_elem_mode env parts insts s task (elem.Active x offset) = copy_elem s task.address task.inst x (number_value env parts insts task.part offset)
+run_elem_mode env parts insts s task _ = record { store = s; trapped = false }
+
+abbrev pub run_elem : Environment → List Part → List Inst → Store → Task ElemSeg → Filled
+run_elem env parts insts s task = run_elem_mode env parts insts s task task.segment.mode
+
+-- the bytes of a segment are copied into a memory, and the segment is dropped
+abbrev pub fill_memory : Store → (segment memory : ℕ) → Memory → Outcome (List ℕ) → Filled
+fill_memory s segment a m (Gives bytes) = record { store = changed (changed s (SetMemory a (record m { bytes = bytes }))) (DropData segment); trapped = false }
+fill_memory s segment a m _ = record { store = s; trapped = true }
+
+abbrev pub copy_data : Store → (segment : ℕ) → Inst → (memory : ℕ) → (offset : Option ℕ) → Filled
+copy_data s segment i x offset =
+    or_trapped s (then_some offset (λ n. then_some (place i.mems x) (λ a. then_some (place s.mems a) (λ m. then_some (place s.datas segment) (λ d. Some (fill_memory s segment a m (overwrite m.bytes n d.bytes)))))))
+
+abbrev pub run_data_mode : Environment → List Part → List Inst → Store → Task DataSeg → DataMode → Filled
+run_data_mode env parts insts s task (data'.Active x offset) = copy_data s task.address task.inst x (number_value env parts insts task.part offset)
+run_data_mode env parts insts s task data'.Passive = record { store = s; trapped = false }
+
+abbrev pub run_data : Environment → List Part → List Inst → Store → Task DataSeg → Filled
+run_data env parts insts s task = run_data_mode env parts insts s task task.segment.mode
+
+abbrev pub and_then : Filled → (Store → Filled) → Filled
+and_then filled f = cond filled.trapped filled (f filled.store)
+
+-- one after the other, until one is out of bounds
+abbrev pub in_turn : {A : Type 0} → (Store → A → Filled) → Store → List A → Filled
+in_turn f s [] = record { store = s; trapped = false }
+in_turn f s (x ∷ xs) = and_then (f s x) (λ s. in_turn f s xs)
+
+abbrev pub segments : Environment → List Part → List Inst → Store → Filled
+segments env parts insts s =
+    and_then (in_turn (run_elem env parts insts) s (elem_tasks 0 parts insts)) (λ s. in_turn (run_data env parts insts) s (data_tasks 0 parts insts))
+
+-- ---- instantiation at once ----
+
+-- what instantiation made: a store, whether a segment trapped, the functions to be started, the names that may be used, and the environment's own entities
+pub record Begun : Type 0 where
+  pub store : Store
+  pub trapped : Bool
+  pub starts : List ℕ
+  pub view : List (Text × Thing)
+  pub owned : Owned
+
+abbrev pub one_place : Option ℕ → List ℕ
+one_place None = []
+one_place (Some a) = a ∷ []
+
+abbrev pub start_in : Inst → Option ℕ → List ℕ
+start_in i None = []
+start_in i (Some f) = one_place (place i.funcs f)
+
+abbrev pub starts_of : List Part → List Inst → List ℕ
+starts_of (part ∷ parts) (i ∷ is) = start_in i part.«module».start ++ starts_of parts is
+starts_of _ _ = []
+
+-- an entity of a part, by the instance of its part
+abbrev pub address_in : Inst → ExportDesc → Option Thing
+address_in i (ex.Func x) = then_some (place i.funcs x) (λ a. Some (FuncAt a))
+address_in i (ex.Table x) = then_some (place i.tables x) (λ a. Some (TableAt a))
+address_in i (ex.Memory x) = then_some (place i.mems x) (λ a. Some (MemoryAt a))
+address_in i (ex.Global x) = then_some (place i.globals x) (λ a. Some (GlobalAt a))
+
+abbrev pub seen_as : List Inst → Text × Entity → Option (Text × Thing)
+seen_as insts v = then_some (place insts v.1.part) (λ i. then_some (address_in i v.1.what) (λ thing. Some (v.0, thing)))
+
+abbrev pub begun : Environment → World → List Inst → List (Text × Thing) → Filled → Begun
+begun env w insts view filled = record { store = filled.store; trapped = filled.trapped; starts = starts_of w.parts insts; view = view; owned = owned_of env }
+
+-- None where an import does not match or a constant read has no end, also one of a segment's offset or items. (It is none as well where an index names nothing or an
+-- item is no reference, which no valid module has.)
+abbrev pub instantiate : Environment → World → Option Begun
+instantiate env w =
+    then_some (insts_from env w.parts 0 w.parts) (λ insts. then_some (stores_from env w.parts insts (own_store env) 0 w.parts insts) (λ s. then_some (all_there (seen_as insts) w.view) (λ view.
+    cond (all_of (is_matched env w.parts s) (sites w.parts)) (Some (begun env w insts view (segments env w.parts insts s))) None)))
+
+abbrev pub is_there : {A : Type 0} → Option A → Bool
+is_there None = false
+is_there (Some a) = true
+
+-- an environment links a world where every import matches and every constant read has an end, whether or not a segment or a start traps then
+abbrev pub links : Environment → World → Bool
+links env w = is_there (instantiate env w)

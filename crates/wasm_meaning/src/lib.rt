@@ -1,0 +1,16 @@
+//! What WebAssembly modules do: the store, the configuration, one small step, the embedder, worlds and runs.
+//!
+//! The definitions stand in `specs/`; no command runs code of this crate. `docs/MEANING.md` walks through them.
+#![tactic(auto)]
+
+ghost use Rattle.wasm_meaning.specs.Laws.{RunsAreDetermined, ShorterRunsArePrefixes};
+
+/// A run is determined by its world, its environment, the embedder's moves and the number of steps.
+pub fn runs_are_determined()
+    ensures determined { RunsAreDetermined }
+{}
+
+/// What is seen in fewer steps of a run comes first in what is seen in more.
+pub fn shorter_runs_are_prefixes()
+    ensures prefixes { ShorterRunsArePrefixes }
+{}
