@@ -1,2 +1,5 @@
 pub mod Simulation
 mod SmallRuns
+pub mod Pigeons
+pub mod Walks
+pub mod Linked

@@ -1,5 +1,7 @@
--- The two laws of runs.
-use Rattle.std.proofs.Common.{◌≡◌, ℕ, ◌+◌, List}
+-- The laws of runs and of linking by name.
+use Rattle.std.proofs.Common.{◌≡◌, ℕ, ◌+◌, List, Some, ◌↔◌}
+use Rattle.wasm_tree.specs.declared.module.ConstExpr.{ConstExpr}
+use Rattle.wasm_meaning.specs.Linking.{Part, Site, End, Read, Leads, end_of, Reads, read_of}
 use Rattle.wasm_meaning.specs.Environment.{Environment}
 use Rattle.wasm_meaning.specs.World.{World}
 use Rattle.wasm_meaning.specs.Run.{Move, IsPrefix, events}
@@ -11,3 +13,11 @@ RunsAreDetermined = (v w : World) (d e : Environment) (ms ns : List Move) (m n :
 -- the events of fewer steps are a prefix of those of more
 abbrev pub ShorterRunsArePrefixes : Type 0
 ShorterRunsArePrefixes = (w : World) (env : Environment) (moves : List Move) (n k : ℕ) → IsPrefix (events w env moves n) (events w env moves (n + k))
+
+-- an import's end is that to which a path of imports and exports leads, and there is none where following never ends
+abbrev pub EndsArePaths : Type 0
+EndsArePaths = (parts : List Part) (s : Site) (e : End) → Leads parts s e ↔ (end_of parts s ≡ Some e)
+
+-- what a constant expression reads is where the path through joined globals ends
+abbrev pub ReadsArePaths : Type 0
+ReadsArePaths = (parts : List Part) (p : ℕ) (expr : ConstExpr) (r : Read) → Reads parts (record { part = p; expr = expr }) r ↔ (read_of parts p expr ≡ Some r)

@@ -1,8 +1,7 @@
 -- Imports that are joined by name: where they end, what is asked of what stays, and what constant expressions read through them.
 -- An import whose module is a part's name is joined with that part's export of the field's name, if there is one; otherwise it stays an import.
-use Rattle.std.proofs.Common.{◌≡◌, ℕ, zero, suc, ◌+◌, ◌-◌, List, [], ◌∷◌, ◌++◌, length, Option, Some, None, Bool, true, false, cond}
-use Rattle.std.specs.Prelude.{nat_eq, max, min, ℤ}
-use Rattle.wasm_tree.specs.declared.types.RefType.{RefType}
+use Rattle.std.proofs.Common.{ℕ, zero, suc, ◌-◌, List, [], ◌∷◌, ◌++◌, map, length, Option, Some, None, Bool, true, false, cond}
+use Rattle.std.specs.Prelude.{nat_eq, max, min}
 use Rattle.wasm_tree.specs.declared.types.Limits.{Limits}
 use Rattle.wasm_tree.specs.declared.module.Import.{Import}
 use Rattle.wasm_tree.specs.declared.module.ImportDesc.{ImportDesc}
@@ -14,6 +13,7 @@ use Rattle.wasm_tree.specs.declared.module.ConstExpr.{ConstExpr}
 use Rattle.wasm_tree.specs.declared.module.ConstExpr.TheVariants as const
 use Rattle.wasm_tree.specs.declared.module.Module.{Module}
 use Rattle.wasm_meaning.specs.State.{Text, Pair}
+use Rattle.wasm_meaning.specs.Paths.{Next, Ends, Goes, Path, walk}
 
 -- a module, and the name by which others may import from it
 pub record Part : Type 0 where
@@ -151,36 +151,22 @@ pub data End : Type 0 where
   -- an import that stays; it may be the import itself
   Outside : Site → End
 
+-- from an entity: its part defines it, or it is an import
+abbrev pub entity_step : Entity → Option Site → Next Site End
+entity_step e None = Ends (Defined e)
+entity_step e (Some t) = Goes t
+
+-- from an import: it stays, or is joined with an entity
+abbrev pub joined_step : List Part → Site → Option Entity → Next Site End
+joined_step parts s None = Ends (Outside s)
+joined_step parts s (Some e) = entity_step e (imported_as parts e)
+
+abbrev pub import_step : List Part → Site → Option (Next Site End)
+import_step parts s = then_some (import_at parts s) (λ i. Some (joined_step parts s (joined parts i)))
+
 -- a path of imports and exports leads from an import to its end
-pub data Leads (parts : List Part) : Site → End → Type 0 where
-  stays : {s : Site} {i : Import} → import_at parts s ≡ Some i → joined parts i ≡ None → Leads parts s (Outside s)
-  arrives : {s : Site} {i : Import} {e : Entity} → import_at parts s ≡ Some i → joined parts i ≡ Some e → imported_as parts e ≡ None → Leads parts s (Defined e)
-  passes : {s t : Site} {i : Import} {e : Entity} {end : End} →
-      import_at parts s ≡ Some i → joined parts i ≡ Some e → imported_as parts e ≡ Some t → Leads parts t end → Leads parts s end
-
--- one import further
-abbrev pub end_of_entity : (Site → Option End) → Entity → Option Site → Option End
-end_of_entity next e None = Some (Defined e)
-end_of_entity next e (Some t) = next t
-
-abbrev pub end_of_joined : (Site → Option End) → List Part → Site → Option Entity → Option End
-end_of_joined next parts s None = Some (Outside s)
-end_of_joined next parts s (Some e) = end_of_entity next e (imported_as parts e)
-
--- the end to which a path of at most so many imports leads
-abbrev pub end_within : (fuel : ℕ) → List Part → Site → Option End
-end_within zero parts s = None
-end_within (suc fuel) parts s = then_some (import_at parts s) (λ i. end_of_joined (end_within fuel parts) parts s (joined parts i))
-
-abbrev pub all_imports : List Part → ℕ
-all_imports [] = 0
-all_imports (p ∷ ps) = length p.«module».imports + all_imports ps
-
--- a path that ends meets no import twice
-abbrev pub end_of : List Part → Site → Option End
-end_of parts = end_within (all_imports parts) parts
-
--- ---- limits of what stays ----
+abbrev pub Leads : List Part → Site → End → Type 0
+Leads parts = Path (import_step parts)
 
 -- so many places of one part's imports, from one on
 abbrev pub sites_in : (part count from : ℕ) → List Site
@@ -194,6 +180,12 @@ sites_from p (part ∷ parts) = sites_in p (length part.«module».imports) 0 ++
 
 abbrev pub sites : List Part → List Site
 sites = sites_from 0
+
+-- the end, where there is one: a path that ends meets no import twice
+abbrev pub end_of : List Part → Site → Option End
+end_of parts = walk (import_step parts) (suc (length (sites parts)))
+
+-- ---- limits of what stays ----
 
 abbrev pub same_site : Site → Site → Bool
 same_site s t = cond (nat_eq s.part t.part) (nat_eq s.import t.import) false
@@ -281,38 +273,29 @@ abbrev pub outside_read : List Part → Site → Option Read
 outside_read parts s =
     then_some (module_at parts s.part) (λ m. Some (record { part = s.part; expr = const.Global (space_index m.imports s.import Globals) }))
 
--- An expression that reads an import which ends in a defined global has that global's value expression, followed likewise;
--- one that reads an import which stays is the global.get of that import's end.
-pub data Reads (parts : List Part) : Read → Read → Type 0 where
-  i32 : {p : ℕ} {v : ℤ} → Reads parts (record { part = p; expr = const.I32 v }) (record { part = p; expr = const.I32 v })
-  i64 : {p : ℕ} {v : ℤ} → Reads parts (record { part = p; expr = const.I64 v }) (record { part = p; expr = const.I64 v })
-  null : {p : ℕ} {t : RefType} → Reads parts (record { part = p; expr = const.Null t }) (record { part = p; expr = const.Null t })
-  func : {p f : ℕ} → Reads parts (record { part = p; expr = const.Func f }) (record { part = p; expr = const.Func f })
-  stays : {p x : ℕ} {s t : Site} {r : Read} → global_import parts p x ≡ Some s → Leads parts s (Outside t) → outside_read parts t ≡ Some r →
-      Reads parts (record { part = p; expr = const.Global x }) r
-  follows : {p x : ℕ} {s : Site} {e : Entity} {expr : ConstExpr} {r : Read} →
-      global_import parts p x ≡ Some s → Leads parts s (Defined e) → initial parts e ≡ Some expr → Reads parts (record { part = e.part; expr = expr }) r →
-      Reads parts (record { part = p; expr = const.Global x }) r
+-- from a read through an import: to the value expression of the defined global in which it ends, or to the global.get of what stays
+abbrev pub end_step : List Part → Option End → Option (Next Read Read)
+end_step parts None = None
+end_step parts (Some (Outside s)) = then_some (outside_read parts s) (λ r. Some (Ends r))
+end_step parts (Some (Defined e)) = then_some (initial parts e) (λ expr. Some (Goes (record { part = e.part; expr = expr })))
 
--- one global further
-abbrev pub read_end : (ℕ → ConstExpr → Option Read) → List Part → Option End → Option Read
-read_end next parts None = None
-read_end next parts (Some (Outside s)) = outside_read parts s
-read_end next parts (Some (Defined e)) = then_some (initial parts e) (next e.part)
+-- an expression that reads an import goes on through it, and any other is what is read
+abbrev pub expr_step : List Part → ℕ → ConstExpr → Option (Next Read Read)
+expr_step parts p (const.Global x) = end_step parts (then_some (global_import parts p x) (end_of parts))
+expr_step parts p expr = Some (Ends (record { part = p; expr = expr }))
 
-abbrev pub read_by : (ℕ → ConstExpr → Option Read) → List Part → ℕ → ConstExpr → Option Read
-read_by next parts p (const.Global x) = read_end next parts (then_some (global_import parts p x) (end_of parts))
-read_by next parts p expr = Some (record { part = p; expr = expr })
+abbrev pub read_step : List Part → Read → Option (Next Read Read)
+read_step parts r = expr_step parts r.part r.expr
 
--- the read that is reached through at most so many globals
-abbrev pub read_within : (fuel : ℕ) → List Part → ℕ → ConstExpr → Option Read
-read_within zero parts p expr = read_by (λ q e. None) parts p expr
-read_within (suc fuel) parts p expr = read_by (read_within fuel parts) parts p expr
+-- a path through joined globals leads from an expression to what is read
+abbrev pub Reads : List Part → Read → Read → Type 0
+Reads parts = Path (read_step parts)
 
-abbrev pub all_globals : List Part → ℕ
-all_globals [] = 0
-all_globals (p ∷ ps) = length p.«module».globals + all_globals ps
+-- the value expressions of all defined globals
+abbrev pub initials_from : ℕ → List Part → List Read
+initials_from p [] = []
+initials_from p (part ∷ parts) = map (λ g. record { part = p; expr = g.init }) part.«module».globals ++ initials_from (suc p) parts
 
--- a read that ends meets no defined global twice
+-- what is read, where the path ends: it meets no value expression twice
 abbrev pub read_of : List Part → ℕ → ConstExpr → Option Read
-read_of parts = read_within (all_globals parts) parts
+read_of parts p expr = walk (read_step parts) (suc (length (initials_from 0 parts))) (record { part = p; expr = expr })

@@ -3,7 +3,7 @@
 //! The definitions stand in `specs/`; no command runs code of this crate. `docs/MEANING.md` walks through them.
 #![tactic(auto)]
 
-ghost use Rattle.wasm_meaning.specs.Laws.{RunsAreDetermined, ShorterRunsArePrefixes};
+ghost use Rattle.wasm_meaning.specs.Laws.{EndsArePaths, ReadsArePaths, RunsAreDetermined, ShorterRunsArePrefixes};
 
 /// A run is determined by its world, its environment, the embedder's moves and the number of steps.
 pub fn runs_are_determined()
@@ -13,4 +13,10 @@ pub fn runs_are_determined()
 /// What is seen in fewer steps of a run comes first in what is seen in more.
 pub fn shorter_runs_are_prefixes()
     ensures prefixes { ShorterRunsArePrefixes }
+{}
+
+/// Where an import ends, and what a constant expression reads through joined globals, are said by paths; the definitions that worlds compute with are the same.
+pub fn ends_and_reads_are_paths()
+    ensures ends { EndsArePaths }
+    ensures reads { ReadsArePaths }
 {}
