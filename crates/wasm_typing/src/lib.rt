@@ -12,6 +12,8 @@ mod operands;
 mod plain;
 mod scope;
 mod tables;
+#[cfg(test)]
+mod tests;
 mod types;
 mod variables;
 

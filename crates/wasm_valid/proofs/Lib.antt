@@ -2,3 +2,4 @@ pub mod Order
 pub mod Marked
 pub mod Repeats
 pub mod OneMemory
+pub mod Empty

@@ -9,3 +9,8 @@ use Rattle.wasm_valid.specs.First.{IsFirstInvalid}
 abbrev pub IsRejected : Module → Rejected → Type 0
 IsRejected m (Invalid same e) = (same ≡ m) × IsFirstInvalid m false e
 IsRejected m (NoMemory same) = same ≡ m
+
+-- it was handed back for want of memory
+abbrev pub IsWantOfMemory : Rejected → Type 0
+IsWantOfMemory (Invalid same e) = ⊥
+IsWantOfMemory (NoMemory same) = Unit {0}

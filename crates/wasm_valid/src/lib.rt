@@ -11,6 +11,8 @@ mod laws;
 mod named;
 mod repeated;
 mod spaces;
+#[cfg(test)]
+mod tests;
 mod validation;
 
 pub use kinds::{Invalid, ItemKind};

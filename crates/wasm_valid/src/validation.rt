@@ -3,7 +3,7 @@
 ghost use Rattle.std.specs.Prelude.{◌≡◌, IfOk, IfErr};
 ghost use Rattle.wasm_tree.specs.Bounds.{IsBounded};
 ghost use Rattle.wasm_valid.specs.Validity.{IsValid, IsSingle};
-ghost use Rattle.wasm_valid.specs.Rejection.{IsRejected};
+ghost use Rattle.wasm_valid.specs.Rejection.{IsRejected, IsWantOfMemory};
 
 use crate::first::first_invalid;
 use crate::kinds::Invalid;
@@ -47,6 +47,7 @@ pub fn validate(alloc: Global, module: Module) -> Result<Valid, Rejected>
     ensures same { IfOk result (λ valid. valid ≡ «module») }
     ensures valid { IfOk result (λ valid. IsValid «module») }
     ensures single { IfOk result (λ valid. IsSingle «module») }
+    ensures accepted { IsValid «module» → IsSingle «module» → IfErr result IsWantOfMemory }
     ensures rejected { IfErr result (IsRejected «module») }
 {
     match first_invalid(alloc, &module, false) {
