@@ -56,10 +56,16 @@ fn body_refusal(alloc: Global, body: &[u8]) -> Result<Option<ReadFault>, Fail> {
     let mut entry = Out::new(alloc);
     entry.u32(0)?;
     entry.bytes(body)?;
+    if entry.len() >= 0x1_0000_0000 {
+        return Ok(Some(ReadFault::NoMemory));
+    }
     let mut codes = Out::new(alloc);
     codes.u32(1)?;
     codes.u32(entry.len() as u32)?;
     codes.bytes(entry.as_slice())?;
+    if codes.len() >= 0x1_0000_0000 {
+        return Ok(Some(ReadFault::NoMemory));
+    }
     let mut sections = Out::new(alloc);
     sections.bytes(b"\x01\x04\x01\x60\x00\x00\x03\x02\x01\x00\x0C\x01\x00")?;
     sections.framed(10, &codes)?;
