@@ -1,5 +1,5 @@
 -- Reading of blocks and sequences, step by step.
-use Rattle.std.proofs.Common.{◌≡◌, ℕ, zero, suc, ◌+◌, ◌-◌, ◌<◌, ◌≤◌, List, [], ◌∷◌, ◌++◌, length, Result, Ok, Err, true, false, Bool, refl, sym, ap, ◌∙◌, arith, append_assoc}
+use Rattle.std.proofs.Common.{◌≡◌, ℕ, zero, suc, ◌-◌, ◌<◌, ◌≤◌, List, [], ◌∷◌, ◌++◌, length, Ok, Err, true, false, Bool, refl, sym, ap, arith, append_assoc}
 use Rattle.wasm_bytes.specs.Reading.{◌>>=◌}
 use Rattle.wasm_tree.specs.declared.types.BlockType.{BlockType}
 use Rattle.wasm_tree.specs.declared.instr.Instr.{Instr}
@@ -7,7 +7,6 @@ use Rattle.wasm_tree.specs.declared.which.Which.TheVariants.{Nesting}
 use Rattle.wasm_format.specs.declared.fault.Fault.{Fault}
 use Rattle.wasm_format.specs.declared.fault.Fault.TheVariants.{NoMemory, Malformed, Unsupported, Limit}
 use Rattle.wasm_format.specs.declared.token.Opener.{Opener}
-use Rattle.wasm_format.specs.declared.token.Token.{Token}
 use Rattle.wasm_format.specs.declared.token.Token.TheVariants.{Open, Else, End, Plain}
 use Rattle.wasm_format.specs.declared.token.Sequence.{Sequence}
 use Rattle.wasm_format.specs.Reading.{Fails}

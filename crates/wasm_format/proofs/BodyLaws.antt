@@ -1,16 +1,16 @@
 -- Reading a sequence finds the tree that the tokens nest to, and nothing else.
-use Rattle.std.proofs.Common.{◌≡◌, ℕ, zero, suc, ◌+◌, ◌-◌, ◌<◌, ◌≤◌, List, [], ◌∷◌, ◌++◌, length, Result, Ok, Err, IfOk, Bool, true, false, cond, refl, sym, ap, ◌∙◌, subst, arith, append_assoc, append-nil, length-append, inl, inr, ⊎_elim, ◌⊎◌}
+use Rattle.std.proofs.Common.{◌≡◌, ℕ, zero, suc, ◌<◌, ◌≤◌, List, [], ◌∷◌, ◌++◌, length, Ok, Err, Bool, true, false, cond, refl, sym, ap, ◌∙◌, subst, arith, append_assoc, append-nil, length-append, inl, inr, ⊎_elim, ◌⊎◌}
 use Rattle.std.proofs.Math.Dec.{eqb-suc-zero}
 use Rattle.wasm_bytes.specs.Joins.{Then, Each}
-use Rattle.wasm_bytes.specs.Reading.{◌>>=◌, IsBytes}
-use Rattle.wasm_bytes.proofs.Lists.{Took, bytes_rest, small_rest}
+use Rattle.wasm_bytes.specs.Reading.{IsBytes}
+use Rattle.wasm_bytes.proofs.Lists.{Took, small_rest}
 use Rattle.wasm_bytes.proofs.Sized.{bind_ok, ok_pair}
 use Rattle.wasm_tree.specs.declared.types.BlockType.{BlockType}
 use Rattle.wasm_tree.specs.declared.instr.Instr.{Instr}
 use Rattle.wasm_tree.specs.declared.instr.Instr.TheVariants.{Block, Loop, If}
 use Rattle.wasm_tree.specs.declared.which.Which.TheVariants.{Nesting}
 use Rattle.wasm_format.specs.declared.fault.Fault.{Fault}
-use Rattle.wasm_format.specs.declared.fault.Fault.TheVariants.{NoMemory, Malformed, Unsupported, Limit}
+use Rattle.wasm_format.specs.declared.fault.Fault.TheVariants.{Malformed, Limit}
 use Rattle.wasm_format.specs.declared.token.Opener.{Opener}
 use Rattle.wasm_format.specs.declared.token.Opener.TheVariants as opener
 use Rattle.wasm_format.specs.declared.token.Token.{Token}
@@ -18,7 +18,7 @@ use Rattle.wasm_format.specs.declared.token.Token.TheVariants.{Open, Else, End, 
 use Rattle.wasm_format.specs.declared.token.Sequence.{Sequence}
 use Rattle.wasm_format.specs.Tokens.{SpellsToken}
 use Rattle.wasm_format.specs.Bodies.{depth_of}
-use Rattle.wasm_format.specs.BodyReading.{Read, behind, closed, two_armed, enclosed, token_at, block_at, after_token, sequence_at, whole, body_at}
+use Rattle.wasm_format.specs.BodyReading.{Read, behind, token_at, block_at, after_token, sequence_at, whole, body_at}
 use Rattle.wasm_format.proofs.Exact.{err_ok}
 use Rattle.wasm_format.proofs.TokenLaws.{token_sound, token_complete}
 use Rattle.wasm_format.proofs.Leaves.{of_token, flat}

@@ -1,22 +1,22 @@
 -- What is read is bounded, and names no memory but memory 0 where memories have no indices.
-use Rattle.std.proofs.Common.{◌≡◌, ℕ, zero, suc, ◌+◌, ◌^◌, ◌<◌, ◌≤◌, List, [], ◌∷◌, ◌++◌, length, map, sum, slice_get, Bool, true, false, Option, Some, None, IsTrue, refl, sym, ap, ◌∙◌, subst, arith, length-append}
+use Rattle.std.proofs.Common.{◌≡◌, ℕ, zero, suc, ◌+◌, ◌≤◌, List, [], ◌∷◌, length, map, sum, slice_get, Bool, true, false, Option, Some, None, refl, sym, ap, ◌∙◌, subst, arith, length-append}
 use Rattle.std.specs.Prelude.{◌==◌, ◌&&◌}
-use Rattle.std.specs.List.{filter_map, fold}
-use Rattle.wasm_bytes.specs.Joins.{U32, Each, Vector}
+use Rattle.std.specs.List.{fold}
+use Rattle.wasm_bytes.specs.Joins.{Each}
 use Rattle.wasm_bytes.specs.Frames.{Section}
 use Rattle.wasm_tree.specs.declared.types.FuncType.{FuncType}
 use Rattle.wasm_tree.specs.declared.module.LocalGroup.{LocalGroup}
 use Rattle.wasm_tree.specs.declared.module.Func.{Func}
 use Rattle.wasm_tree.specs.declared.module.Module.{Module}
 use Rattle.wasm_tree.specs.Spaces.{func_of, table_of, memory_of, global_of, imported_funcs, imported_tables, imported_memories, imported_globals}
-use Rattle.wasm_tree.specs.Bounds.{param_count, declared_count, local_count, IsBounded}
-use Rattle.wasm_tree.specs.MemoryZero.{all_true, memory_zero_all, memory_zero_funcs}
+use Rattle.wasm_tree.specs.Bounds.{param_count, declared_count, IsBounded}
+use Rattle.wasm_tree.specs.MemoryZero.{memory_zero_all, memory_zero_funcs}
 use Rattle.wasm_tree.proofs.Places.{filter_map_most}
 use Rattle.wasm_format.specs.declared.parts.Parts.{Parts}
 use Rattle.wasm_format.specs.Words.{Never, Made, When, Any, Every, Few, Limited, WhenSmall}
 use Rattle.wasm_format.specs.Values.{SmallFuncType}
 use Rattle.wasm_format.specs.Bodies.{SpellsEntry, SmallCode, declared}
-use Rattle.wasm_format.specs.Files.{nothing, with_types, with_imports, with_func_types, with_tables, with_mems, with_globals, with_exports, with_start, with_elems, with_codes, with_datas, with_count, SpellsCustom, section_form, small_form, SpellsSection, SmallSection, Contents, Rules, typed, tree_of, Spells, Within}
+use Rattle.wasm_format.specs.Files.{nothing, with_types, with_imports, with_func_types, with_tables, with_mems, with_globals, with_exports, with_start, with_elems, with_codes, with_datas, with_count, SpellsCustom, section_form, small_form, SmallSection, Contents, typed, tree_of, Spells, Within}
 use Rattle.wasm_format.proofs.NestLaws.{body_zero}
 
 -- each list of the parts is within its limit

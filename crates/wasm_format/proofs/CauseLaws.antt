@@ -1,35 +1,33 @@
 -- The first fault of a file has its cause.
-use Rattle.std.proofs.Common.{◌≡◌, ℕ, zero, suc, ◌+◌, ◌-◌, ◌<◌, ◌≤◌, List, [], ◌∷◌, ◌++◌, length, Result, Ok, Err, Bool, true, false, cond, Option, Some, None, ◌⊎◌, inl, inr, ⊎_elim, refl, sym, ap, ◌∙◌, subst, arith, append_assoc, append-nil}
+use Rattle.std.proofs.Common.{◌≡◌, ℕ, zero, suc, ◌+◌, List, [], ◌∷◌, ◌++◌, length, Result, Ok, Err, Bool, true, false, cond, Option, Some, None, ◌⊎◌, inl, inr, ⊎_elim, refl, sym, ap, ◌∙◌, subst, arith, append_assoc}
 use Rattle.std.proofs.lemmas.Bool.{eqb-true}
-use Rattle.std.specs.Prelude.{nat_lt, ◌==◌, ◌↔◌}
-use Rattle.wasm_bytes.specs.Joins.{U32, Each, Vector, Sized}
+use Rattle.std.specs.Prelude.{nat_lt, ◌==◌}
+use Rattle.wasm_bytes.specs.Joins.{U32, Each, Sized}
 use Rattle.wasm_bytes.specs.Reading.{◌>>=◌, IsBytes}
-use Rattle.wasm_bytes.specs.Frames.{Section, HasHeader, Framed, FirstBad}
-use Rattle.wasm_bytes.proofs.Lists.{Took, small_rest}
-use Rattle.wasm_bytes.proofs.Sized.{bind_ok}
+use Rattle.wasm_bytes.specs.Frames.{Section, Framed}
+use Rattle.wasm_bytes.proofs.Lists.{small_rest}
 use Rattle.wasm_tree.specs.declared.which.Which.{Which}
 use Rattle.wasm_tree.specs.declared.which.Which.TheVariants.{Types, Imports, Functions, Tables, Memories, Globals, Exports, ElementSegments, DataSegments}
 use Rattle.wasm_tree.specs.declared.module.Func.{Func}
-use Rattle.wasm_tree.specs.declared.module.Module.{Module}
 use Rattle.wasm_tree.specs.Spaces.{imported_funcs}
 use Rattle.wasm_format.specs.declared.fault.Fault.{Fault}
 use Rattle.wasm_format.specs.declared.fault.Fault.TheVariants as fault
 use Rattle.wasm_format.specs.declared.fault.ReadFault.{ReadFault}
-use Rattle.wasm_format.specs.declared.fault.ReadFault.TheVariants.{NoMemory, NotModule, Malformed, MalformedBody, Unsupported, Limit}
+use Rattle.wasm_format.specs.declared.fault.ReadFault.TheVariants.{NoMemory, Malformed, MalformedBody, Unsupported, Limit}
 use Rattle.wasm_format.specs.declared.parts.Parts.{Parts}
 use Rattle.wasm_format.specs.Words.{Every}
 use Rattle.wasm_format.specs.Bodies.{SpellsCode, SpellsEntry, SmallCode}
-use Rattle.wasm_format.specs.Files.{nothing, with_types, with_imports, with_func_types, with_tables, with_mems, with_globals, with_exports, with_start, with_elems, with_codes, with_datas, with_count, SpellsSection, SmallSection, Contents, Rules, tree_of, Spells, Within}
+use Rattle.wasm_format.specs.Files.{nothing, with_types, with_imports, with_func_types, with_tables, with_mems, with_globals, with_exports, with_start, with_elems, with_datas, with_count, SmallSection, Contents}
 use Rattle.wasm_format.specs.Reading.{u32_at, sized_at, each_from, vector_at, whole_at, func_type_at, import_at, table_at, limits_at, global_def_at, export_at, elem_at, data_at}
 use Rattle.wasm_format.specs.BodyReading.{code_at}
 use Rattle.wasm_format.specs.Contents.{placed, in_place, entry_at, next_func, codes_at, put_at, custom_at, section_at, contents_at, agrees, framed_at, parts_at, read_at, fault_of, read_fault}
-use Rattle.wasm_format.specs.Causes.{UpTo, FaultySection, FaultyFunc, FaultyWhole, Cause}
+use Rattle.wasm_format.specs.Causes.{UpTo, FaultySection, FaultyFunc, Cause}
 use Rattle.wasm_format.proofs.Exact.{err_ok, u32_exact, sized_exact}
 use Rattle.wasm_format.proofs.Framing.{framed_sound, framed_fault}
 use Rattle.wasm_format.proofs.EntryLaws.{code_complete, entry_exact, in_ok}
-use Rattle.wasm_format.proofs.SectionLaws.{Right, section_right}
+use Rattle.wasm_format.proofs.SectionLaws.{section_right}
 use Rattle.wasm_format.proofs.Spoken.{never_no_memory}
-use Rattle.wasm_format.proofs.FileLaws.{AreBytes, framed_bytes, contents_sound, rules_of, of_rules, tree_found, tree_read}
+use Rattle.wasm_format.proofs.FileLaws.{AreBytes, framed_bytes, contents_sound, of_rules}
 
 bind_err : {A B E : Type 0} (r : Result A E) (f : A → Result B E) (e : E) → (r >>= f) ≡ Err e → (r ≡ Err e) ⊎ ((x : A) × (r ≡ Ok x) × (f x ≡ Err e))
 bind_err (Ok x) f e h = inr (x, refl, h)

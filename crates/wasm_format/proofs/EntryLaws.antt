@@ -1,27 +1,25 @@
 -- Code entries: what is read is what is spelled and small.
-use Rattle.std.proofs.Common.{◌≡◌, ℕ, zero, suc, ◌+◌, ◌-◌, ◌<◌, ◌≤◌, List, [], ◌∷◌, ◌++◌, length, slice_index, Result, Ok, Err, Bool, true, false, cond, Option, Some, None, ◌⊎◌, inl, inr, ⊎_elim, refl, sym, ap, ◌∙◌, subst, arith, append_assoc, append-nil}
-use Rattle.std.proofs.lemmas.Bool.{cases_lt, lt-ltb, le-ltb, eqb-true}
+use Rattle.std.proofs.Common.{◌≡◌, ℕ, zero, suc, ◌+◌, ◌≤◌, List, [], ◌∷◌, ◌++◌, length, Result, Ok, Err, Bool, cond, Option, Some, None, ⊎_elim, refl, sym, ap, ◌∙◌, subst, arith, append-nil}
+use Rattle.std.proofs.lemmas.Bool.{cases_lt, lt-ltb, le-ltb}
 use Rattle.std.proofs.Math.Dec.{eqb-suc-zero}
 use Rattle.std.specs.Prelude.{nat_lt, ◌==◌}
-use Rattle.wasm_bytes.specs.Joins.{Then, U32, Each, Vector, Sized}
-use Rattle.wasm_bytes.specs.Reading.{◌>>=◌, IsBytes}
+use Rattle.wasm_bytes.specs.Joins.{U32, Each, Vector, Sized}
+use Rattle.wasm_bytes.specs.Reading.{IsBytes}
 use Rattle.wasm_bytes.proofs.Lists.{Took, small_rest}
 use Rattle.wasm_bytes.proofs.Sized.{bind_ok, ok_pair}
 use Rattle.wasm_tree.specs.declared.which.Which.{Which}
 use Rattle.wasm_tree.specs.declared.which.Which.TheVariants.{Functions}
-use Rattle.wasm_tree.specs.declared.instr.Instr.{Instr}
 use Rattle.wasm_tree.specs.declared.module.LocalGroup.{LocalGroup}
 use Rattle.wasm_tree.specs.declared.module.Func.{Func}
 use Rattle.wasm_format.specs.declared.fault.Fault.{Fault}
-use Rattle.wasm_format.specs.declared.fault.Fault.TheVariants as fault
 use Rattle.wasm_format.specs.declared.fault.ReadFault.{ReadFault}
 use Rattle.wasm_format.specs.declared.fault.ReadFault.TheVariants.{Malformed, Limit}
 use Rattle.wasm_format.specs.Words.{Any, Every, Few}
-use Rattle.wasm_format.specs.Bodies.{SpellsGroup, SpellsBody, SpellsCode, SpellsEntry, SmallCode}
-use Rattle.wasm_format.specs.Reading.{Reader, u32_at, sized_at, val_at, pair_at, mapped_at, locals_at, each_from, whole_at}
+use Rattle.wasm_format.specs.Bodies.{SpellsGroup, SpellsCode, SpellsEntry, SmallCode}
+use Rattle.wasm_format.specs.Reading.{u32_at, sized_at, locals_at, each_from}
 use Rattle.wasm_format.specs.BodyReading.{body_at, code_of, code_at}
-use Rattle.wasm_format.specs.Contents.{placed, in_place, entry_at, next_func, codes_at}
-use Rattle.wasm_format.proofs.Exact.{Exact, err_ok, took_then, split, u32_exact, sized_exact, both_exact, mapped_exact, list_exact, one_value, Along, each_sound, each_complete}
+use Rattle.wasm_format.specs.Contents.{in_place, entry_at, next_func, codes_at}
+use Rattle.wasm_format.proofs.Exact.{Exact, took_then, split, u32_exact, sized_exact, both_exact, mapped_exact, one_value, Along, each_sound, each_complete}
 use Rattle.wasm_format.proofs.ItemLaws.{val_exact, locals_exact}
 use Rattle.wasm_format.proofs.NestLaws.{body_found, body_read, body_clear}
 

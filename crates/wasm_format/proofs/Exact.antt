@@ -1,5 +1,5 @@
 -- A reader that finds what is spelled and small, and nothing else; and how such readers are put together.
-use Rattle.std.proofs.Common.{◌≡◌, ℕ, zero, suc, ◌+◌, ◌-◌, ◌<◌, ◌≤◌, List, [], ◌∷◌, ◌++◌, length, Result, Ok, Err, Bool, true, false, cond, ◌⊎◌, inl, inr, ⊎_elim, refl, sym, ap, ◌∙◌, subst, arith, append_assoc, append-nil, ℤ}
+use Rattle.std.proofs.Common.{◌≡◌, ℕ, zero, suc, ◌≤◌, List, [], ◌∷◌, ◌++◌, length, Result, Ok, Err, Bool, true, false, cond, ⊎_elim, refl, sym, ap, ◌∙◌, subst, arith, append_assoc}
 use Rattle.std.proofs.lemmas.Bool.{cases_lt, lt-ltb, le-ltb, eqb-true}
 use Rattle.std.proofs.lemmas.Str.{IsUtf8-from_is_utf8, is_utf8-from_IsUtf8}
 use Rattle.std.specs.Prelude.{nat_lt, ◌==◌, IsUtf8}
@@ -8,15 +8,15 @@ use Rattle.wasm_bytes.specs.declared.cursor.Wrong.{Wrong}
 use Rattle.wasm_bytes.specs.declared.cursor.Wrong.TheVariants.{Spelling}
 use Rattle.wasm_bytes.specs.Numbers.{Signed, last_signed, join_signed}
 use Rattle.wasm_bytes.specs.Joins.{Then, U32, Each, Vector, Sized, Named}
-use Rattle.wasm_bytes.specs.Reading.{◌>>=◌, IsBytes, signed_at, utf8_or_spelling, name_at as text_at, sized_at as content_at}
+use Rattle.wasm_bytes.specs.Reading.{◌>>=◌, IsBytes, signed_at, name_at as text_at, sized_at as content_at}
 use Rattle.wasm_bytes.proofs.NumberLaws.{reading_of_spelled, spelled_of_reading, signed_ends}
-use Rattle.wasm_bytes.proofs.Lists.{Took, bytes_rest, small_rest}
+use Rattle.wasm_bytes.proofs.Lists.{Took, small_rest}
 use Rattle.wasm_bytes.proofs.Sized.{bind_ok, ok_pair, u32_sound, u32_complete, sized_sound, sized_complete}
 use Rattle.wasm_tree.specs.declared.which.Which.{Which}
 use Rattle.wasm_format.specs.declared.fault.Fault.{Fault}
-use Rattle.wasm_format.specs.declared.fault.Fault.TheVariants.{NoMemory, Malformed, Unsupported, Limit}
+use Rattle.wasm_format.specs.declared.fault.Fault.TheVariants.{Malformed, Limit}
 use Rattle.wasm_format.specs.Words.{S32, S64, Byte, Coded, Just, Never, Both, Made, Chosen, When, After, Closed, Any, Every, Few}
-use Rattle.wasm_format.specs.Reading.{Reader, or_malformed, byte_at, u32_at, s32_at, s64_at, name_at, sized_at, just_at, fault_at, pair_at, mapped_at, chosen_at, when_at, coded_at, tag_at, tagged_at, closed_at, each_from, each_at, list_at, vector_at, whole_at}
+use Rattle.wasm_format.specs.Reading.{Reader, or_malformed, byte_at, u32_at, s32_at, s64_at, name_at, sized_at, just_at, fault_at, pair_at, mapped_at, chosen_at, when_at, coded_at, tag_at, tagged_at, closed_at, each_from, each_at, list_at, vector_at}
 
 -- ---- tools
 

@@ -1,25 +1,21 @@
 -- A file is read exactly where it spells a tree, within the limits.
-use Rattle.std.proofs.Common.{◌≡◌, ℕ, zero, suc, ◌+◌, ◌<◌, ◌≤◌, List, [], ◌∷◌, ◌++◌, length, Result, Ok, Err, Bool, true, false, cond, Option, Some, None, ◌⊎◌, inl, inr, ⊎_elim, refl, sym, ap, ◌∙◌, subst, arith, append_assoc, true≢false}
+use Rattle.std.proofs.Common.{◌≡◌, ℕ, zero, suc, ◌+◌, List, [], ◌∷◌, ◌++◌, length, Result, Ok, Err, Bool, true, false, cond, Option, Some, None, ◌⊎◌, inl, inr, ⊎_elim, refl, sym, ap, ◌∙◌, subst, arith}
 use Rattle.std.proofs.lemmas.Bool.{eqb-true}
 use Rattle.std.specs.Prelude.{◌==◌, ◌&&◌, ◌↔◌, IfOk, IfErr}
-use Rattle.wasm_bytes.specs.Joins.{U32}
-use Rattle.wasm_bytes.specs.Reading.{◌>>=◌, IsBytes}
-use Rattle.wasm_bytes.specs.Frames.{Section, after, Frames, Framed, HasHeader, FirstBad}
-use Rattle.wasm_bytes.proofs.Lists.{Took, small_rest, bytes_rest}
+use Rattle.wasm_bytes.specs.Reading.{IsBytes}
+use Rattle.wasm_bytes.specs.Frames.{Section, after, Frames, Framed}
+use Rattle.wasm_bytes.proofs.Lists.{bytes_rest}
 use Rattle.wasm_bytes.proofs.Sized.{bind_ok}
-use Rattle.wasm_tree.specs.declared.module.Func.{Func}
 use Rattle.wasm_tree.specs.declared.module.Module.{Module}
-use Rattle.wasm_format.specs.declared.fault.Fault.{Fault}
 use Rattle.wasm_format.specs.declared.fault.ReadFault.{ReadFault}
 use Rattle.wasm_format.specs.declared.fault.ReadFault.TheVariants.{NoMemory, NotModule, Malformed, MalformedBody, Unsupported, Limit}
 use Rattle.wasm_format.specs.declared.parts.Parts.{Parts}
 use Rattle.wasm_format.specs.Words.{Every}
 use Rattle.wasm_format.specs.Bodies.{any_uses_data}
-use Rattle.wasm_format.specs.Files.{nothing, SpellsSection, Contents, Counted, Rules, tree_of, Spells, SmallSection, Within}
+use Rattle.wasm_format.specs.Files.{nothing, Contents, Counted, Rules, tree_of, Spells, SmallSection, Within}
 use Rattle.wasm_format.specs.Contents.{Fails, GivesAll, section_at, contents_at, counted, agrees, framed_at, parts_at, read_at, fault_of, read_fault}
-use Rattle.wasm_format.proofs.Exact.{err_ok}
-use Rattle.wasm_format.proofs.Framing.{framed_reads, framed_sound, framed_fault, bad_reads, header_reads}
-use Rattle.wasm_format.proofs.SectionLaws.{Right, section_right}
+use Rattle.wasm_format.proofs.Framing.{framed_reads, framed_sound}
+use Rattle.wasm_format.proofs.SectionLaws.{section_right}
 
 -- ---- contents are bytes
 

@@ -7,7 +7,7 @@ use Rattle.wasm_bytes.specs.Frames.{Section, header, HasHeader, Framed, FirstBad
 use Rattle.wasm_bytes.proofs.Lists.{halves, bytes_drop}
 use Rattle.wasm_bytes.proofs.FrameLaws.{frames_sound, frames_complete, bad_sound, bad_complete}
 use Rattle.wasm_format.specs.declared.fault.ReadFault.{ReadFault}
-use Rattle.wasm_format.specs.declared.fault.ReadFault.TheVariants.{NoMemory, NotModule, Malformed, MalformedBody, Unsupported, Limit}
+use Rattle.wasm_format.specs.declared.fault.ReadFault.TheVariants.{NotModule, Malformed}
 use Rattle.wasm_format.specs.Contents.{same_list, numbered, framed_at}
 
 both_true : (a b : Bool) → a && b ≡ true → (a ≡ true) × (b ≡ true)

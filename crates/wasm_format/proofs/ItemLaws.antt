@@ -1,44 +1,23 @@
 -- The readers of types, constant expressions and what the sections hold find what is spelled and small, and nothing else.
-use Rattle.std.proofs.Common.{◌≡◌, ℕ, zero, suc, ◌+◌, ◌-◌, ◌<◌, ◌≤◌, List, [], ◌∷◌, ◌++◌, length, Result, Ok, Err, Bool, true, false, cond, Option, Some, None, ◌⊎◌, inl, inr, ⊎_elim, refl, sym, ap, ◌∙◌, subst, arith, lt-ltb, le-ltb, ltb, eqb, leb, ℤ, pos, negsuc, ◌-ℤ◌}
-use Rattle.std.proofs.lemmas.Bool.{cases_lt, eqb-true, ne_eqb}
-use Rattle.std.proofs.lemmas.Int.{ints}
-use Rattle.std.specs.Prelude.{◌==◌, ◌&&◌, nat_lt, nat_le}
-use Rattle.wasm_bytes.specs.Numbers.{Signed, last_signed}
-use Rattle.wasm_bytes.specs.Joins.{U32, Vector, Sized, Named}
-use Rattle.wasm_bytes.specs.Reading.{◌>>=◌, IsBytes, signed_at}
+use Rattle.std.proofs.Common.{◌≡◌, ℕ, ◌+◌, ◌-◌, ◌≤◌, List, [], ◌∷◌, ◌++◌, length, Result, Ok, Err, cond, ⊎_elim, refl, subst, arith, lt-ltb, le-ltb}
+use Rattle.std.proofs.lemmas.Bool.{cases_lt}
+use Rattle.std.specs.Prelude.{◌==◌, nat_lt}
+use Rattle.wasm_bytes.specs.Joins.{U32, Vector}
 use Rattle.wasm_bytes.proofs.Lists.{Took, small_rest}
 use Rattle.wasm_bytes.proofs.Sized.{bind_ok, ok_pair}
 use Rattle.wasm_tree.specs.declared.which.Which.TheVariants.{Parameters, Results, Locals}
-use Rattle.wasm_tree.specs.declared.types.RefType.{RefType}
-use Rattle.wasm_tree.specs.declared.types.RefType.TheVariants as ref
-use Rattle.wasm_tree.specs.declared.types.ValType.{ValType}
-use Rattle.wasm_tree.specs.declared.types.ValType.TheVariants.{I32, I64, Ref}
-use Rattle.wasm_tree.specs.declared.types.FuncType.{FuncType}
-use Rattle.wasm_tree.specs.declared.types.Limits.{Limits}
-use Rattle.wasm_tree.specs.declared.types.TableType.{TableType}
-use Rattle.wasm_tree.specs.declared.types.GlobalType.{GlobalType}
-use Rattle.wasm_tree.specs.declared.types.BlockType.{BlockType}
-use Rattle.wasm_tree.specs.declared.types.BlockType.TheVariants as bt
-use Rattle.wasm_tree.specs.declared.module.ConstExpr.{ConstExpr}
 use Rattle.wasm_tree.specs.declared.module.ConstExpr.TheVariants as const
-use Rattle.wasm_tree.specs.declared.module.ImportDesc.{ImportDesc}
 use Rattle.wasm_tree.specs.declared.module.ImportDesc.TheVariants as import
-use Rattle.wasm_tree.specs.declared.module.Import.{Import}
-use Rattle.wasm_tree.specs.declared.module.ExportDesc.{ExportDesc}
 use Rattle.wasm_tree.specs.declared.module.ExportDesc.TheVariants as export
-use Rattle.wasm_tree.specs.declared.module.Export.{Export}
-use Rattle.wasm_tree.specs.declared.module.GlobalDef.{GlobalDef}
-use Rattle.wasm_tree.specs.declared.module.ElemSeg.{ElemSeg}
-use Rattle.wasm_tree.specs.declared.module.DataSeg.{DataSeg}
 use Rattle.wasm_tree.specs.declared.module.LocalGroup.{LocalGroup}
 use Rattle.wasm_format.specs.declared.fault.Fault.{Fault}
-use Rattle.wasm_format.specs.declared.fault.Fault.TheVariants.{Malformed, Unsupported, Limit}
-use Rattle.wasm_format.specs.Words.{S32, S64, Byte, Coded, Both, Made, Chosen, When, After, Closed, Any, Few}
-use Rattle.wasm_format.specs.Values.{val_code, SpellsVal, ref_code, SpellsRef, SpellsFuncType, SmallFuncType, at_least, between, limits_form, SpellsLimits, SpellsTable, mut_code, SpellsGlobal, SpellsBlockType, const_form, SpellsConst}
+use Rattle.wasm_format.specs.declared.fault.Fault.TheVariants.{Malformed, Limit}
+use Rattle.wasm_format.specs.Words.{Any}
+use Rattle.wasm_format.specs.Values.{val_code, SpellsVal, ref_code, SpellsRef, SpellsFuncType, SmallFuncType, at_least, between, limits_form, SpellsLimits, SpellsTable, mut_code, SpellsGlobal, const_form, SpellsConst}
 use Rattle.wasm_format.specs.Sections.{import_form, SpellsImport, SpellsGlobalDef, export_form, SpellsExport, FuncItems, ConstItems, elem0, elem1, elem2, elem3, elem5, elem6, elem7, elem_form, SpellsElem, data0, data1, data2, data_form, SpellsData}
 use Rattle.wasm_format.specs.Bodies.{SpellsGroup, declared}
-use Rattle.wasm_format.specs.Reading.{Reader, or_malformed, byte_at, u32_at, coded_at, mapped_at, val_at, ref_at, func_type_of, func_type_at, list_at, limits_at, table_of, table_at, mut_at, global_of, global_at, index_of, block_type_at, const_fault, const_from, const_at, import_desc_at, import_of, import_at, global_def_of, global_def_at, export_desc_at, export_of, export_at, func_item_at, func_items_at, const_items_at, elem_from, elem_at, data_at, local_at, with_group, locals_at, each_from}
-use Rattle.wasm_format.proofs.Exact.{Exact, err_ok, took_then, split, byte_exact, u32_exact, s32_exact, s33_exact, s64_exact, sized_exact, name_exact, just_exact, never_exact, pair_exact, both_exact, mapped_exact, made_exact, chosen_exact, when_exact, coded_exact, tagged_exact, closed_exact, list_exact, vector_exact, other_small, Along, each_sound, each_complete}
+use Rattle.wasm_format.specs.Reading.{u32_at, val_at, ref_at, func_type_of, func_type_at, limits_at, table_of, table_at, mut_at, global_of, global_at, const_fault, const_at, import_desc_at, import_of, import_at, global_def_of, global_def_at, export_desc_at, export_of, export_at, func_items_at, const_items_at, elem_at, data_at, local_at, with_group, locals_at}
+use Rattle.wasm_format.proofs.Exact.{Exact, took_then, split, byte_exact, u32_exact, s32_exact, s64_exact, sized_exact, name_exact, never_exact, pair_exact, both_exact, mapped_exact, made_exact, chosen_exact, when_exact, coded_exact, tagged_exact, closed_exact, list_exact, vector_exact, Along, each_sound, each_complete}
 
 -- ---- types
 

@@ -1,23 +1,22 @@
 -- Tokens that nest, with their depth and with the memories that they name; and whole bodies.
-use Rattle.std.proofs.Common.{◌≡◌, ℕ, zero, suc, ◌+◌, ◌<◌, ◌≤◌, max, List, [], ◌∷◌, ◌++◌, map, length, Result, Ok, Err, Bool, true, false, refl, sym, ap, ◌∙◌, subst, arith, rules, append_assoc, append-nil}
+use Rattle.std.proofs.Common.{◌≡◌, ℕ, zero, suc, ◌+◌, ◌≤◌, max, List, [], ◌∷◌, ◌++◌, length, Ok, Bool, true, false, refl, sym, ap, ◌∙◌, arith, rules, append-nil}
 use Rattle.std.specs.Prelude.{◌&&◌}
-use Rattle.wasm_bytes.specs.Joins.{Then, Each}
+use Rattle.wasm_bytes.specs.Joins.{Each}
 use Rattle.wasm_bytes.specs.Reading.{IsBytes}
 use Rattle.wasm_bytes.proofs.Sized.{ok_pair}
 use Rattle.wasm_tree.specs.declared.types.BlockType.{BlockType}
 use Rattle.wasm_tree.specs.declared.instr.Instr.{Instr, the_lemmas}
 use Rattle.wasm_tree.specs.declared.instr.Instr.TheVariants.{Block, Loop, If}
-use Rattle.wasm_tree.specs.MemoryZero.{all_true, memory_zero, memory_zero_all}
+use Rattle.wasm_tree.specs.MemoryZero.{memory_zero, memory_zero_all}
 use Rattle.wasm_format.specs.declared.fault.Fault.{Fault}
-use Rattle.wasm_format.specs.declared.token.Opener.{Opener}
 use Rattle.wasm_format.specs.declared.token.Token.{Token}
 use Rattle.wasm_format.specs.declared.token.Token.TheVariants.{Open, Else, End, Plain}
 use Rattle.wasm_format.specs.declared.token.Sequence.{Sequence}
 use Rattle.wasm_format.specs.Tokens.{SpellsToken}
-use Rattle.wasm_format.specs.Bodies.{Nests, no_more, one_plain, one_block, one_loop, one_if, one_if_else, SpellsBody, deepest, depth_of, depth}
+use Rattle.wasm_format.specs.Bodies.{Nests, no_more, one_plain, one_block, one_loop, one_if, one_if_else, SpellsBody, depth_of, depth}
 use Rattle.wasm_format.specs.BodyReading.{body_at, sequence_at}
 use Rattle.wasm_format.proofs.Leaves.{of_token, zero_memory}
-use Rattle.wasm_format.proofs.BodyLaws.{NestsIn, no_more as none_in, one_plain as plain_in, one_block as block_in, one_loop as loop_in, one_if as if_in, one_if_else as if_else_in, BodyIn, body_sound, body_complete, body_reads}
+use Rattle.wasm_format.proofs.BodyLaws.{NestsIn, no_more as none_in, one_plain as plain_in, one_block as block_in, one_loop as loop_in, one_if as if_in, one_if_else as if_else_in, body_sound, body_complete, body_reads}
 
 -- ---- depth
 

@@ -1,10 +1,9 @@
 -- A section is read exactly where its content spells what it puts, within the limits.
-use Rattle.std.proofs.Common.{◌≡◌, ℕ, zero, suc, ◌+◌, ◌<◌, ◌≤◌, List, [], ◌∷◌, ◌++◌, length, Result, Ok, Err, Bool, true, false, cond, Option, Some, None, ◌⊎◌, inl, inr, ⊎_elim, refl, sym, ap, ◌∙◌, subst, arith, append_assoc, append-nil}
+use Rattle.std.proofs.Common.{◌≡◌, ℕ, List, [], ◌∷◌, ◌++◌, length, Result, Ok, Err, Bool, true, false, cond, None, ◌⊎◌, inl, inr, ⊎_elim, refl, sym, ap, ◌∙◌, subst, append-nil}
 use Rattle.std.proofs.Math.Dec.{eqb-suc-zero}
 use Rattle.std.specs.Prelude.{◌==◌, if◌then◌else◌}
-use Rattle.wasm_bytes.specs.Joins.{Then, U32, Vector, Named}
+use Rattle.wasm_bytes.specs.Joins.{Vector}
 use Rattle.wasm_bytes.specs.Reading.{◌>>=◌, IsBytes}
-use Rattle.wasm_bytes.proofs.Lists.{Took}
 use Rattle.wasm_bytes.proofs.Sized.{bind_ok}
 use Rattle.wasm_tree.specs.declared.which.Which.TheVariants.{Types, Imports, Functions, Tables, Memories, Globals, Exports, ElementSegments, DataSegments}
 use Rattle.wasm_tree.specs.declared.types.FuncType.{FuncType}
@@ -14,11 +13,11 @@ use Rattle.wasm_format.specs.declared.fault.Fault.TheVariants as fault
 use Rattle.wasm_format.specs.declared.fault.ReadFault.{ReadFault}
 use Rattle.wasm_format.specs.declared.fault.ReadFault.TheVariants.{Malformed}
 use Rattle.wasm_format.specs.declared.parts.Parts.{Parts}
-use Rattle.wasm_format.specs.Words.{Never, Made, When, Any, Every, Few, Limited, WhenSmall}
-use Rattle.wasm_format.specs.Values.{SpellsFuncType, SpellsLimits}
+use Rattle.wasm_format.specs.Words.{Never, Made, When, Any, Few, Limited, WhenSmall}
+use Rattle.wasm_format.specs.Values.{SpellsFuncType}
 use Rattle.wasm_format.specs.Bodies.{SpellsEntry, SmallCode}
 use Rattle.wasm_format.specs.Files.{with_types, with_imports, with_func_types, with_tables, with_mems, with_globals, with_exports, with_start, with_elems, with_codes, with_datas, with_count, SpellsCustom, section_form, small_form}
-use Rattle.wasm_format.specs.Reading.{Reader, or_malformed, u32_at, name_at, tagged_at, mapped_at, pair_at, list_at, val_at, func_type_of, vector_at, whole_at, func_type_at, import_at, table_at, limits_at, global_def_at, export_at, elem_at, data_at}
+use Rattle.wasm_format.specs.Reading.{Reader, name_at, func_type_of, whole_at}
 use Rattle.wasm_format.specs.Contents.{in_place, codes_at, custom_at, put_at, section_at}
 use Rattle.wasm_format.proofs.Exact.{Exact, err_ok, u32_exact, name_exact, both_exact, mapped_exact, tagged_exact, list_exact, vector_exact}
 use Rattle.wasm_format.proofs.ItemLaws.{val_exact, func_type_exact, import_exact, table_exact, limits_exact, global_def_exact, export_exact, elem_exact, data_exact}

@@ -1,12 +1,11 @@
 -- Reading answers no want of memory: that is an answer of calls alone.
-use Rattle.std.proofs.Common.{◌≡◌, ℕ, zero, suc, ◌+◌, ◌-◌, List, [], ◌∷◌, length, take, drop, Result, Ok, Err, Bool, true, false, cond, Option, Some, None, refl, sym, ap, ◌∙◌, ℤ, pos, negsuc}
-use Rattle.std.specs.Prelude.{nat_lt, nat_le, ◌==◌, ◌&&◌, if◌then◌else◌}
+use Rattle.std.proofs.Common.{◌≡◌, ℕ, zero, suc, ◌+◌, ◌-◌, List, [], ◌∷◌, length, take, drop, Result, Ok, Err, Bool, true, false, cond, Option, Some, None, refl, ap, ℤ, pos, negsuc}
+use Rattle.std.specs.Prelude.{nat_lt, nat_le, ◌==◌, ◌&&◌}
 use Rattle.wasm_bytes.specs.declared.cursor.Wrong.{Wrong}
 use Rattle.wasm_bytes.specs.Reading.{◌>>=◌, signed_at}
 use Rattle.wasm_bytes.specs.Frames.{Section, frames_at, header}
 use Rattle.wasm_tree.specs.declared.which.Which.{Which}
-use Rattle.wasm_tree.specs.declared.which.Which.TheVariants.{Types, Imports, Functions, Tables, Memories, Globals, Exports, ElementSegments, DataSegments, Parameters, Results, Locals, Nesting}
-use Rattle.wasm_tree.specs.declared.types.ValType.{ValType}
+use Rattle.wasm_tree.specs.declared.which.Which.TheVariants.{Types, Imports, Functions, Tables, Memories, Globals, Exports, ElementSegments, DataSegments, Parameters, Results}
 use Rattle.wasm_tree.specs.declared.types.BlockType.{BlockType}
 use Rattle.wasm_tree.specs.declared.types.BlockType.TheVariants as bt
 use Rattle.wasm_tree.specs.declared.instr.Instr.{Instr}
@@ -15,7 +14,7 @@ use Rattle.wasm_tree.specs.Spaces.{imported_funcs}
 use Rattle.wasm_format.specs.declared.fault.Fault.{Fault}
 use Rattle.wasm_format.specs.declared.fault.Fault.TheVariants as fault
 use Rattle.wasm_format.specs.declared.fault.ReadFault.{ReadFault}
-use Rattle.wasm_format.specs.declared.fault.ReadFault.TheVariants.{NoMemory, NotModule, Malformed, MalformedBody, Unsupported, Limit}
+use Rattle.wasm_format.specs.declared.fault.ReadFault.TheVariants.{NoMemory, NotModule}
 use Rattle.wasm_format.specs.declared.token.Opener.{Opener}
 use Rattle.wasm_format.specs.declared.token.Opener.TheVariants as opener
 use Rattle.wasm_format.specs.declared.token.Token.{Token}
@@ -24,10 +23,10 @@ use Rattle.wasm_format.specs.declared.token.Sequence.{Sequence}
 use Rattle.wasm_format.specs.declared.parts.Parts.{Parts}
 use Rattle.wasm_format.specs.Values.{val_code, ref_code, mut_code}
 use Rattle.wasm_format.specs.Tokens.{Form, plain, number, numbers, const32, const64, table, typed, access, memory, memories, with_memory, null, open', else', end', prefixed, unsupported, unknown, the_form, sub_form}
-use Rattle.wasm_format.specs.Reading.{Reader, or_malformed, byte_at, u32_at, s32_at, s64_at, name_at, sized_at, just_at, fault_at, pair_at, mapped_at, chosen_at, when_at, coded_at, tag_at, tagged_at, closed_at, each_from, each_at, list_at, vector_at, whole_at, val_at, ref_at, func_type_at, limits_at, table_at, mut_at, global_at, index_of, block_type_at, const_fault, const_from, const_at, import_desc_at, import_at, global_def_at, export_desc_at, export_at, func_items_at, const_items_at, elem_at, data_at, local_at, with_group, locals_at}
-use Rattle.wasm_format.specs.BodyReading.{arg_at, memory_at, simple_of, prefixed_at, token_of, token_at, Read, behind, closed, two_armed, enclosed, block_at, after_token, sequence_at, whole, body_at, code_at}
+use Rattle.wasm_format.specs.Reading.{Reader, or_malformed, byte_at, u32_at, s32_at, s64_at, name_at, sized_at, just_at, fault_at, pair_at, mapped_at, chosen_at, when_at, coded_at, tag_at, tagged_at, closed_at, each_from, list_at, vector_at, whole_at, val_at, ref_at, func_type_at, limits_at, table_at, mut_at, global_at, index_of, block_type_at, const_fault, const_at, import_desc_at, import_at, global_def_at, export_desc_at, export_at, func_items_at, const_items_at, elem_at, data_at, local_at, with_group, locals_at}
+use Rattle.wasm_format.specs.BodyReading.{arg_at, memory_at, simple_of, prefixed_at, token_of, token_at, Read, behind, closed, enclosed, block_at, after_token, sequence_at, whole, body_at, code_at}
 use Rattle.wasm_format.specs.Files.{nothing}
-use Rattle.wasm_format.specs.Contents.{placed, in_place, entry_at, next_func, codes_at, custom_at, put_at, section_at, contents_at, numbered, same_list, framed_at, agrees, parts_at, read_at, fault_of, read_fault}
+use Rattle.wasm_format.specs.Contents.{placed, in_place, entry_at, next_func, codes_at, put_at, section_at, contents_at, numbered, same_list, framed_at, agrees, parts_at, read_at, fault_of, read_fault}
 
 -- the answer is not that
 abbrev Not : {A E : Type 0} → E → Result A E → Type 0

@@ -1,26 +1,22 @@
 -- Tokens: what is read is what is spelled.
-use Rattle.std.proofs.Common.{◌≡◌, ℕ, zero, suc, ◌+◌, ◌-◌, ◌<◌, ◌≤◌, List, [], ◌∷◌, ◌++◌, length, Result, Ok, Err, Bool, true, false, cond, Option, Some, None, ◌⊎◌, inl, inr, ⊎_elim, refl, sym, ap, ◌∙◌, subst, arith, lt-ltb, le-ltb, ltb, eqb, leb, ℤ, pos, negsuc, ◌-ℤ◌}
+use Rattle.std.proofs.Common.{◌≡◌, ℕ, ◌<◌, ◌≤◌, List, [], ◌∷◌, ◌++◌, Result, Ok, Bool, true, false, cond, Option, Some, None, ◌⊎◌, inl, inr, ⊎_elim, refl, ap, ◌∙◌, subst, arith, le-ltb, eqb, leb, ℤ, pos, negsuc, ◌-ℤ◌}
 use Rattle.std.proofs.lemmas.Int.{ints}
 use Rattle.std.proofs.lemmas.Bool.{cases_lt, eqb-true, ne_eqb}
-use Rattle.std.specs.Prelude.{◌==◌, ◌&&◌, nat_lt, nat_le}
-use Rattle.wasm_bytes.specs.Numbers.{Signed, last_signed}
-use Rattle.wasm_bytes.specs.Joins.{U32}
+use Rattle.std.specs.Prelude.{◌&&◌, nat_lt}
+use Rattle.wasm_bytes.specs.Numbers.{Signed}
 use Rattle.wasm_bytes.specs.Reading.{◌>>=◌, IsBytes, signed_at}
-use Rattle.wasm_bytes.proofs.Lists.{Took, small_rest}
+use Rattle.wasm_bytes.proofs.Lists.{Took}
 use Rattle.wasm_bytes.proofs.Sized.{bind_ok, ok_pair}
-use Rattle.wasm_tree.specs.declared.types.RefType.TheVariants as ref
 use Rattle.wasm_tree.specs.declared.types.ValType.{ValType}
-use Rattle.wasm_tree.specs.declared.types.ValType.TheVariants.{I32, I64, Ref}
 use Rattle.wasm_tree.specs.declared.types.BlockType.{BlockType}
 use Rattle.wasm_tree.specs.declared.types.BlockType.TheVariants.{Empty, Value, Index}
-use Rattle.wasm_tree.specs.declared.instr.Instr.{Instr}
 use Rattle.wasm_tree.specs.declared.instr.Instr.TheVariants.{BrTable, SelectTyped, I32Const, I64Const, RefNull}
 use Rattle.wasm_format.specs.declared.fault.Fault.{Fault}
 use Rattle.wasm_format.specs.declared.fault.Fault.TheVariants.{Malformed, Unsupported}
 use Rattle.wasm_format.specs.declared.token.Token.{Token}
 use Rattle.wasm_format.specs.declared.token.Token.TheVariants.{Open, Else, End, Plain}
 use Rattle.wasm_format.specs.Words.{Any}
-use Rattle.wasm_format.specs.Values.{val_code, SpellsVal, SpellsBlockType}
+use Rattle.wasm_format.specs.Values.{val_code, SpellsBlockType}
 use Rattle.wasm_format.specs.Tokens.{Form, plain, number, numbers, const32, const64, table, typed, access, memory, memories, with_memory, null, open', else', end', prefixed, unsupported, unknown, the_form, sub_form, arg_of, arg_in, arg_form, SpellsMemArg, SpellsMemory, Simple, Follows, SpellsToken}
 use Rattle.wasm_format.specs.Reading.{or_malformed, mapped_at, val_at, index_of, block_type_at}
 use Rattle.wasm_format.specs.BodyReading.{arg_at, memory_at, simple_of, prefixed_at, token_of, token_at}

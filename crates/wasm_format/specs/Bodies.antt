@@ -1,5 +1,5 @@
 -- Tokens and trees, and code entries (Core 2.0, 5.4.1, 5.4.9 and 5.5.13).
-use Rattle.std.specs.Prelude.{◌≡◌, ℕ, zero, suc, ◌+◌, ◌≤◌, max, List, [], ◌∷◌, ◌++◌, map, Bool, true, false, ◌||◌, ◌&&◌, ◌==◌}
+use Rattle.std.specs.Prelude.{◌≡◌, ℕ, suc, ◌+◌, ◌≤◌, max, List, [], ◌∷◌, ◌++◌, map, Bool, true, false, ◌||◌}
 use Rattle.wasm_bytes.specs.Joins.{U32, Each, Vector, Sized}
 use Rattle.wasm_tree.specs.declared.types.BlockType.{BlockType}
 use Rattle.wasm_tree.specs.declared.instr.Instr.{Instr, fold-Instr}

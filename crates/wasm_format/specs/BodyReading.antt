@@ -1,5 +1,5 @@
 -- Reading tokens and nesting them, in the order of the bytes.
-use Rattle.std.specs.Prelude.{ℕ, zero, suc, ◌-◌, ◌+◌, length, List, [], ◌∷◌, ◌++◌, Bool, true, false, Option, Some, None, Result, Ok, Err, nat_lt, ◌==◌, if◌then◌else◌}
+use Rattle.std.specs.Prelude.{ℕ, zero, suc, length, List, [], ◌∷◌, ◌++◌, Bool, true, false, Result, Ok, Err, nat_lt, ◌==◌, if◌then◌else◌}
 use Rattle.wasm_bytes.specs.Reading.{◌>>=◌}
 use Rattle.wasm_tree.specs.declared.which.Which.TheVariants.{Nesting}
 use Rattle.wasm_tree.specs.declared.types.BlockType.{BlockType}

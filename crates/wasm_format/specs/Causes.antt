@@ -1,5 +1,5 @@
 -- What the first fault of a file means: everything before the place that it names is spelled and within the limits, and that place is not.
-use Rattle.std.specs.Prelude.{◌≡◌, ℕ, ◌+◌, ◌⊎◌, List, [], ◌∷◌, ◌++◌, length, Bool, Option, Some, None}
+use Rattle.std.specs.Prelude.{◌≡◌, ℕ, ◌+◌, ◌⊎◌, List, ◌∷◌, ◌++◌, length, Bool, Some, None}
 use Rattle.wasm_bytes.specs.Joins.{U32, Each, Sized}
 use Rattle.wasm_bytes.specs.Frames.{Section, HasHeader, Framed, FirstBad}
 use Rattle.wasm_tree.specs.declared.module.Func.{Func}

@@ -1,5 +1,5 @@
 -- The contents of the sections, in the order of the file, and the first fault of the file.
-use Rattle.std.specs.Prelude.{◌≡◌, ℕ, zero, suc, ◌+◌, List, [], ◌∷◌, length, take, drop, Bool, true, false, Result, Ok, Err, Option, Some, None, nat_lt, ◌==◌, ◌&&◌, if◌then◌else◌}
+use Rattle.std.specs.Prelude.{◌≡◌, ℕ, ◌+◌, List, [], ◌∷◌, length, take, drop, Bool, true, false, Result, Ok, Err, Option, Some, None, nat_lt, ◌==◌, ◌&&◌, if◌then◌else◌}
 use Rattle.wasm_bytes.specs.Reading.{◌>>=◌}
 use Rattle.wasm_bytes.specs.Frames.{Section, frames_at, header}
 use Rattle.wasm_tree.specs.declared.which.Which.TheVariants.{Types, Imports, Functions, Tables, Memories, Globals, Exports, ElementSegments, DataSegments}
@@ -13,7 +13,7 @@ use Rattle.wasm_format.specs.declared.fault.ReadFault.TheVariants.{NoMemory, Not
 use Rattle.wasm_format.specs.declared.parts.Parts.{Parts}
 use Rattle.wasm_format.specs.Bodies.{any_uses_data}
 use Rattle.wasm_format.specs.Files.{nothing, with_types, with_imports, with_func_types, with_tables, with_mems, with_globals, with_exports, with_start, with_elems, with_codes, with_datas, with_count, tree_of}
-use Rattle.wasm_format.specs.Reading.{Reader, u32_at, name_at, sized_at, each_from, vector_at, whole_at, func_type_at, import_at, table_at, limits_at, global_def_at, export_at, elem_at, data_at}
+use Rattle.wasm_format.specs.Reading.{u32_at, name_at, sized_at, each_from, vector_at, whole_at, func_type_at, import_at, table_at, limits_at, global_def_at, export_at, elem_at, data_at}
 use Rattle.wasm_format.specs.BodyReading.{code_at}
 
 -- the fault of a section, or of a function's entry in it

@@ -1,5 +1,5 @@
 -- Module files (Core 2.0, 5.5).
-use Rattle.std.specs.Prelude.{◌≡◌, ℕ, ◌+◌, ◌≤◌, List, [], ◌∷◌, length, Bool, true, false, Option, Some, None, ◌==◌}
+use Rattle.std.specs.Prelude.{◌≡◌, ℕ, List, [], ◌∷◌, length, Bool, false, Option, Some, None, ◌==◌}
 use Rattle.wasm_bytes.specs.Joins.{Then, U32, Vector, Named}
 use Rattle.wasm_bytes.specs.Frames.{Section, Framed}
 use Rattle.wasm_tree.specs.declared.types.Limits.{Limits}

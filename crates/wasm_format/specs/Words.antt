@@ -1,5 +1,5 @@
 -- Words for spellings that are made of others, besides those of wasm_bytes: relations between a whole list of bytes and a value.
-use Rattle.std.specs.Prelude.{◌≡◌, ℕ, ◌≤◌, List, [], ◌∷◌, ◌++◌, length, Bool, true, false, Result, Ok, Err, ℤ}
+use Rattle.std.specs.Prelude.{◌≡◌, ℕ, ◌≤◌, List, [], ◌∷◌, length, Bool, true, false, Result, Ok, ℤ}
 use Rattle.wasm_bytes.specs.Numbers.{Signed}
 use Rattle.wasm_bytes.specs.Joins.{Then}
 use Rattle.wasm_format.specs.declared.fault.Fault.{Fault}

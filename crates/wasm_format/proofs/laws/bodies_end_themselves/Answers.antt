@@ -1,4 +1,3 @@
-use Rattle.std.proofs.Common.{◌≡◌}
 use Rattle.wasm_format.proofs.NestLaws.{body_ends}
 use Rattle.wasm_format.proofs.laws.bodies_end_themselves.Goals as goal
 

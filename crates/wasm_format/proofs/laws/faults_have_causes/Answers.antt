@@ -1,4 +1,3 @@
-use Rattle.std.proofs.Common.{◌≡◌}
 use Rattle.wasm_format.proofs.CauseLaws.{cause}
 use Rattle.wasm_format.proofs.laws.faults_have_causes.Goals as goal
 

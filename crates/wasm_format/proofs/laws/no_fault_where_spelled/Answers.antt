@@ -1,4 +1,3 @@
-use Rattle.std.proofs.Common.{◌≡◌}
 use Rattle.wasm_format.proofs.FileLaws.{no_fault}
 use Rattle.wasm_format.proofs.laws.no_fault_where_spelled.Goals as goal
 

@@ -1,4 +1,3 @@
-use Rattle.std.proofs.Common.{◌≡◌}
 use Rattle.wasm_format.proofs.FileLaws.{one_tree}
 use Rattle.wasm_format.proofs.laws.one_tree.Goals as goal
 

@@ -1,4 +1,3 @@
-use Rattle.std.proofs.Common.{◌≡◌}
 use Rattle.wasm_format.proofs.BoundLaws.{tree_zero}
 use Rattle.wasm_format.proofs.laws.spelled_bodies_name_memory_zero.Goals as goal
 

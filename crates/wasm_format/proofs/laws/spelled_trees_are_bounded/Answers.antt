@@ -1,4 +1,3 @@
-use Rattle.std.proofs.Common.{◌≡◌}
 use Rattle.wasm_format.proofs.BoundLaws.{tree_bounded}
 use Rattle.wasm_format.proofs.laws.spelled_trees_are_bounded.Goals as goal
 
