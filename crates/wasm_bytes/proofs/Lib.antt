@@ -1,0 +1,11 @@
+pub mod FramedLaws
+pub mod FrameLaws
+pub mod Lists
+pub mod NameLaws
+pub mod NumberLaws
+pub mod Places
+pub mod Sized
+pub mod Shortest
+pub mod SignedShortest
+pub mod Sizes
+pub mod Walk

@@ -1,0 +1,52 @@
+-- What is read off the left is what is spelled there.
+use Rattle.std.proofs.Common.{◌≡◌, ℕ, ◌≤◌, List, ◌++◌, length, take, drop, Result, Ok, Err, cond, ⊎_elim, refl, sym, ap, ◌∙◌, subst, arith, append_assoc, length-append}
+use Rattle.std.proofs.lemmas.Bool.{cases_lt, lt-ltb, le-ltb}
+use Rattle.std.specs.Prelude.{nat_lt}
+use Rattle.wasm_bytes.specs.declared.cursor.Wrong.TheVariants.{Short}
+use Rattle.wasm_bytes.specs.Numbers.{Takes, last_unsigned, join_unsigned}
+use Rattle.wasm_bytes.specs.Reading.{◌>>=◌, IsBytes, take_at, unsigned_at, sized_at}
+use Rattle.wasm_bytes.specs.Joins.{U32, Sized}
+use Rattle.wasm_bytes.proofs.NumberLaws.{reading_of_spelled, spelled_of_reading, unsigned_ends}
+use Rattle.wasm_bytes.proofs.Lists.{take_all, drop_all, halves, taken, Took}
+
+pub bind_ok : {A B E : Type 0} (r : Result A E) (f : A → Result B E) (y : B) → (r >>= f) ≡ Ok y → (x : A) × (r ≡ Ok x) × (f x ≡ Ok y)
+bind_ok (Ok x) f y e = (x, refl, e)
+bind_ok (Err w) f y e = cc
+
+pub ok_pair : {A B E : Type 0} (a c : A) (b d : B) → ◌≡◌ {A = Result (A × B) E} (Ok (a, b)) (Ok (c, d)) → (a ≡ c) × (b ≡ d)
+ok_pair {A} {B} a c b d e = let same : (a, b) ≡ (c, d) = cc in (ap (λ (p : A × B). p.0) same, ap (λ (p : A × B). p.1) same)
+
+pub u32_sound : (bytes : List ℕ) (n : ℕ) (rest : List ℕ) → IsBytes bytes → unsigned_at 32 bytes ≡ Ok (n, rest) → Takes U32 bytes n rest
+unfolding unsigned_at
+u32_sound bytes n rest small e = spelled_of_reading last_unsigned join_unsigned unsigned_ends 32 bytes n rest small e
+
+pub u32_complete : (text rest : List ℕ) (n : ℕ) → U32 text n → unsigned_at 32 (text ++ rest) ≡ Ok (n, rest)
+unfolding unsigned_at
+u32_complete text rest n h = reading_of_spelled last_unsigned join_unsigned unsigned_ends 32 text rest n h
+
+enough : (a b : ℕ) (x y : List ℕ × List ℕ) → cond (nat_lt a b) (Err Short) (Ok x) ≡ Ok y → (b ≤ a) × (x ≡ y)
+enough a b x y e = ⊎_elim (λ lt. let bad = rw (lt-ltb a b lt) at e in cc) (λ le. let good = rw (le-ltb a b le) at e in (le, cc)) (cases_lt a b)
+
+pub take_sound : (count : ℕ) (bytes text rest : List ℕ) → take_at count bytes ≡ Ok (text, rest) → (bytes ≡ text ++ rest) × (length text ≡ count)
+take_sound count bytes text rest e =
+    let p = enough (length bytes) count (take count bytes, drop count bytes) (text, rest) e in
+    let one : take count bytes ≡ text = ap (λ (q : List ℕ × List ℕ). q.0) p.1 in
+    let two : drop count bytes ≡ rest = ap (λ (q : List ℕ × List ℕ). q.1) p.1 in
+    (halves count bytes ∙ ap (λ t. t ++ drop count bytes) one ∙ ap (λ t. text ++ t) two, ap length (sym one) ∙ taken count bytes p.0)
+
+pub take_complete : (text rest : List ℕ) → take_at (length text) (text ++ rest) ≡ Ok (text, rest)
+take_complete text rest =
+    let fits : length text ≤ length (text ++ rest) = omega (arith, length-append text rest) in
+    rw (le-ltb (length (text ++ rest)) (length text) fits, take_all text rest, drop_all text rest)
+
+pub sized_sound : (bytes content rest : List ℕ) → IsBytes bytes → sized_at bytes ≡ Ok (content, rest) → Took (λ t. Sized t content) bytes rest
+sized_sound bytes content rest small e =
+    let n = bind_ok (unsigned_at 32 bytes) _ _ e in
+    let size = u32_sound bytes n.0.0 n.0.1 small n.1 in
+    let t = take_sound n.0.0 n.0.1 content rest n.2 in
+    (size.0 ++ content, (size.0, subst (U32 size.0) (sym t.1) size.1, refl), size.2 ∙ ap (λ t. size.0 ++ t) t.0 ∙ sym (append_assoc size.0 content rest))
+
+pub sized_complete : (text rest content : List ℕ) → Sized text content → sized_at (text ++ rest) ≡ Ok (content, rest)
+sized_complete text rest content h =
+    let e : text ++ rest ≡ h.0 ++ (content ++ rest) = ap (λ t. t ++ rest) h.2 ∙ append_assoc h.0 content rest in
+    rw (e, u32_complete h.0 (content ++ rest) (length content) h.1) (take_complete content rest)

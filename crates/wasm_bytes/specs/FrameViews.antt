@@ -1,0 +1,39 @@
+-- Frames as parts of the bytes.
+use Rattle.std.specs.Prelude.{◌≡◌, ℕ, ◌+◌, ◌<◌, ◌≤◌, List, ◌++◌, length, take, drop, map, get_or, Result, Ok, Err, Option, Some, None}
+use Rattle.wasm_bytes.specs.declared.framing.Frame.{Frame as Place}
+use Rattle.wasm_bytes.specs.declared.framing.FrameFault.{FrameFault}
+use Rattle.wasm_bytes.specs.declared.framing.FrameFault.TheVariants.{NotModule, BadFrame, NoMemory}
+use Rattle.wasm_bytes.specs.Frames.{Section, frame_at, frames_at, or_number}
+
+abbrev pub framed : List ℕ → Place → Section
+framed bytes f = (f.id, take f.len (drop f.start bytes))
+
+abbrev pub framed_all : List ℕ → List Place → List Section
+framed_all bytes fs = map (framed bytes) fs
+
+abbrev pub GivesFrame : List ℕ → ℕ → ℕ → Option Place → Type 0
+GivesFrame bytes last at (Some f) = frame_at last (drop at bytes) ≡ Ok (framed bytes f, drop (f.start + f.len) bytes)
+GivesFrame bytes last at None = (n : ℕ) → or_number n (frame_at last (drop at bytes)) ≡ Err n
+
+-- what is read behind the header
+abbrev pub frames_behind : List ℕ → Result (List Section) ℕ
+frames_behind bytes = frames_at (length bytes) 0 0 (drop 8 bytes)
+
+abbrev pub GivesFrames : List ℕ → Result (List Place) FrameFault → Type 0
+GivesFrames bytes (Ok fs) = frames_behind bytes ≡ Ok (framed_all bytes fs)
+GivesFrames bytes (Err NotModule) = ⊥
+GivesFrames bytes (Err (BadFrame n)) = frames_behind bytes ≡ Err n
+GivesFrames bytes (Err NoMemory) = Unit {0}
+
+abbrev pub in_front : {A E : Type 0} → List A → Result (List A) E → Result (List A) E
+in_front front (Ok xs) = Ok (front ++ xs)
+in_front front (Err e) = Err e
+
+-- each of them is inside the bytes
+abbrev pub Whole : List ℕ → List Place → Type 0
+Whole bytes fs = (i : ℕ) → i < length fs → (f : Place) → f ≡ get_or fs i f → f.start + f.len ≤ length bytes
+
+-- and there are no more than bytes
+pub record Inside (bytes : List ℕ) (fs : List Place) : Type 0 where
+  pub few : length fs ≤ length bytes
+  pub each : Whole bytes fs

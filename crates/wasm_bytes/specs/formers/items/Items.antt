@@ -1,0 +1,52 @@
+-- How a list holds its items, so that a type may hold lists of itself.
+use mathlib.Core.Path.{◌≡◌, refl, sym}
+use mathlib.Core.List.{List, []}
+use mathlib.Core.Former.{Former, this, list, via, children}
+use base.Stored.{code_map}
+use denote.RattleType.{RattleType}
+use denote.HoleLaws.{Alike}
+use denote.HolePlaces.{Recodes, struct_places, laid}
+use denote.Hole.Carrier.{listed, list-listed}
+use denote.Hole.Fix.{over}
+use denote.Param.Weighed.{Weighed, w_list}
+use denote.Model.Placed.{view_places}
+use Rattle.std.specs.formers.vec.Vec as storage
+use Rattle.std.specs.declared.alloc.Global.{Global}
+use Rattle.std.specs.contracts.alloc.Global as global
+use Rattle.std.specs.contracts.impls.GlobalAllocator.TheImpl.{ghosts}
+use Rattle.wasm_bytes.specs.declared.items.Items.TheInside.{Inside}
+use Rattle.wasm_bytes.specs.declared.items.Items.TheView.{view, invariant}
+use Rattle.wasm_bytes.specs.contracts.items.Items as seen
+use Rattle.wasm_bytes.specs.contracts.items.Items.TheInside as inside
+
+-- contracts see the list of the items
+abbrev pub the_former : Former {0} → Former {0}
+the_former item = list item
+
+abbrev pub the_weighed : {item : Former {0}} → Weighed item → Weighed (the_former item)
+the_weighed weight = w_list weight
+
+abbrev pub the_empty : List ⊥
+the_empty = []
+
+abbrev pub the_items : (X : Type 0) → List X → List X
+the_items X items = items
+
+pub the_items_listed : (X : Type 0) (items : List X) → listed _ (children (the_former this) X items) ≡ the_items X items
+the_items_listed X items = list-listed X items
+
+-- the one field, a `Vec`
+abbrev stored : Former {0}
+stored = via (storage.the_former this Global) Inside (λ X it. it.items) (λ X v. record { items = v }) (λ X it. refl) (λ X v. refl)
+
+module _ (R S : RattleType) (h : R.Denot → S.Denot) where
+  pub the_places : Alike R S h → Alike (seen.the_row R) (seen.the_row S) ((the_former this).map R.Denot S.Denot h)
+  the_places alike =
+      let in_field = struct_places (inside.the_type R) (inside.the_type S) (storage.mapped h, tt) _ (λ d. refl) refl
+      (laid _ _ _ (storage.the_places global.the_row ghosts R S h alike), tt) in
+      view_places stored (list this) view (λ X Y k u. refl) (λ X u. refl) R.Denot S.Denot h (seen.the_row R).coded (seen.the_row S).coded
+      (invariant R.Denot) (invariant S.Denot) (λ u p q. refl) (λ u p q. refl) (λ u e. tt) (λ u e. tt)
+      (over (inside.the_row R)) (over (inside.the_row S)) in_field
+
+  pub the_codes_placed : Recodes R S h → Recodes (seen.the_row R) (seen.the_row S) ((the_former this).map R.Denot S.Denot h)
+  the_codes_placed same items = sym (code_map R.coded.code S.coded.code h (λ x. sym (same x)) items)

@@ -1,0 +1,18 @@
+//! Bytes of a module file: numbers, names and frames, and the lists that a tree is made of.
+#![tactic(auto)]
+
+mod cursor;
+mod framing;
+mod items;
+mod laws;
+mod name;
+mod numbers;
+mod out;
+mod spelled;
+
+pub use cursor::{Cursor, Wrong};
+pub use framing::{Frame, FrameFault, frames};
+pub use items::Items;
+pub use laws::{shortest_spellings, spellings_end_themselves};
+pub use name::{Name, NoMemory};
+pub use out::Out;
