@@ -4,7 +4,7 @@ use Rattle.wasm_bytes.specs.declared.cursor.Wrong.{Wrong}
 use Rattle.wasm_bytes.specs.declared.framing.Frame.{Frame as Place}
 use Rattle.wasm_bytes.specs.Reading.{IsBytes, byte_at, sized_at}
 use Rattle.wasm_bytes.specs.Frames.{Section, may_follow, after, frame_at, before, or_number, frames_at}
-use Rattle.wasm_bytes.specs.FrameViews.{framed, framed_all, in_front, frames_behind, Whole}
+use Rattle.wasm_bytes.specs.FrameViews.{framed, framed_all, in_front, frames_behind, Stand, StandsAt, Whole}
 use Rattle.wasm_bytes.proofs.Lists.{take_all, drop_all, halves, taken, bytes_drop}
 use Rattle.wasm_bytes.proofs.Sized.{sized_sound}
 
@@ -18,6 +18,7 @@ pub record IsPlace (bytes : List ℕ) (last at id start len : ℕ) : Type 0 wher
   pub gives : frame_at last (drop at bytes) ≡ Ok ((id, take len (drop start bytes)), drop (start + len) bytes)
   pub further : at < start + len
   pub inside : start + len ≤ length bytes
+  pub stands : StandsAt bytes at (record { id = id; start = start; len = len })
 
 pub good_frame : (bytes : List ℕ) (last at id : ℕ) (cs content rest : List ℕ) → IsBytes bytes → at ≤ length bytes → drop at bytes ≡ id ∷ cs → may_follow last id ≡ true → sized_at cs ≡ Ok (content, rest) →
     (length rest ≤ length bytes) × (length content ≤ length bytes - length rest) × IsPlace bytes last at id (length bytes - length rest - length content) (length content)
@@ -32,6 +33,7 @@ good_frame bytes last at id cs content rest small le e may reads =
     let long : length bytes ≡ length front + (length content + length rest) = ap length split ∙ length-append front (content ++ rest) ∙ ap (λ k. length front + k) (length-append content rest) in
     let ahead : length front ≡ at + suc (length size) = length-append (take at bytes) (id ∷ size) ∙ ap (λ k. k + suc (length size)) (taken at bytes le) in
     let start : length bytes - length rest - length content ≡ length front = omega arith in
+    let here : drop (length bytes - length rest - length content) bytes ≡ content ++ rest = ap (λ k. drop k bytes) start ∙ ap (drop (length front)) split ∙ drop_all front (content ++ rest) in
     let p = placed bytes front content rest (length bytes - length rest - length content) split start in (
       omega arith,
       omega arith,
@@ -39,6 +41,7 @@ good_frame bytes last at id cs content rest small le e may reads =
         gives = rw (e, may, reads) (ap (λ (q : List ℕ × List ℕ). Ok ((id, q.0), q.1)) (ap (λ x. (x, rest)) (sym p.0) ∙ ap (λ y. (take (length content) (drop (length bytes - length rest - length content) bytes), y)) (sym p.1)));
         further = omega arith;
         inside = omega arith;
+        stands = (size, t.1.1, e ∙ ap (λ x. id ∷ x) (t.2 ∙ ap (λ x. x ++ rest) t.1.2 ∙ append_assoc size content rest ∙ ap (λ x. size ++ x) (sym here)), omega (arith, start, ahead));
       },
     )
 
@@ -127,3 +130,8 @@ at_last P (y ∷ ys) f here h (suc i) lt g is = at_last P ys f here (λ j l k e.
 
 pub whole_more : (bytes : List ℕ) (fs : List Place) (f : Place) (new : List Place) → new ≡ fs ++ f ∷ [] → f.start + f.len ≤ length bytes → Whole bytes fs → Whole bytes new
 whole_more bytes fs f new e le h = rw e (at_last (λ g. g.start + g.len ≤ length bytes) fs f le h)
+
+-- one more frame behind the others
+pub stand_more : (bytes : List ℕ) (at : ℕ) (fs : List Place) (f : Place) (new : List Place) (end : ℕ) → new ≡ fs ++ f ∷ [] → StandsAt bytes end f → Stand bytes at fs end → Stand bytes at new (f.start + f.len)
+stand_more bytes at [] f new end e one h = rw (e, h) (one, refl)
+stand_more bytes at (g ∷ gs) f new end e one h = rw e (h.0, stand_more bytes (g.start + g.len) gs f (gs ++ f ∷ []) end refl one h.1)

@@ -1,8 +1,9 @@
 -- Frames as parts of the bytes.
-use Rattle.std.specs.Prelude.{◌≡◌, ℕ, ◌+◌, ◌<◌, ◌≤◌, List, ◌++◌, length, take, drop, map, get_or, Result, Ok, Err, Option, Some, None}
+use Rattle.std.specs.Prelude.{◌≡◌, ℕ, ◌+◌, ◌<◌, ◌≤◌, List, [], ◌∷◌, ◌++◌, length, take, drop, map, get_or, Result, Ok, Err, Option, Some, None}
 use Rattle.wasm_bytes.specs.declared.framing.Frame.{Frame as Place}
 use Rattle.wasm_bytes.specs.declared.framing.FrameFault.{FrameFault}
 use Rattle.wasm_bytes.specs.declared.framing.FrameFault.TheVariants.{NotModule, BadFrame, NoMemory}
+use Rattle.wasm_bytes.specs.Joins.{U32}
 use Rattle.wasm_bytes.specs.Frames.{Section, frame_at, frames_at, or_number}
 
 abbrev pub framed : List ℕ → Place → Section
@@ -14,6 +15,15 @@ framed_all bytes fs = map (framed bytes) fs
 abbrev pub GivesFrame : List ℕ → ℕ → ℕ → Option Place → Type 0
 GivesFrame bytes last at (Some f) = frame_at last (drop at bytes) ≡ Ok (framed bytes f, drop (f.start + f.len) bytes)
 GivesFrame bytes last at None = (n : ℕ) → or_number n (frame_at last (drop at bytes)) ≡ Err n
+
+-- the frame stands there: its id, its content's length, and then its content
+abbrev pub StandsAt : List ℕ → ℕ → Place → Type 0
+StandsAt bytes at f = (size : List ℕ) × U32 size f.len × (drop at bytes ≡ f.id ∷ (size ++ drop f.start bytes)) × (f.start ≡ at + 1 + length size)
+
+-- the frames stand there, one behind the other, up to the end
+abbrev pub Stand : List ℕ → ℕ → List Place → ℕ → Type 0
+Stand bytes at [] end = at ≡ end
+Stand bytes at (f ∷ fs) end = StandsAt bytes at f × Stand bytes (f.start + f.len) fs end
 
 -- what is read behind the header
 abbrev pub frames_behind : List ℕ → Result (List Section) ℕ

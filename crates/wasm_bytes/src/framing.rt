@@ -1,7 +1,7 @@
 ghost use Rattle.std.specs.Prelude.{◌≡◌, ◌<◌, ◌≤◌, ◌+◌, ◌^◌, ◌⊎◌, ℕ, List, length, OnOk, IfOk, IsOkAnd, IsTrue, IfSome, IfErr, OnErr, ◌↔◌, Err, drop};
 ghost use Rattle.wasm_bytes.specs.Reading.{IsBytes, sized_at, with_rest, lent};
 ghost use Rattle.wasm_bytes.specs.Frames.{Section, may_follow, place, after, Framed, FirstBad, HasHeader};
-ghost use Rattle.wasm_bytes.specs.FrameViews.{GivesFrame, GivesFrames, framed_all, Inside};
+ghost use Rattle.wasm_bytes.specs.FrameViews.{GivesFrame, GivesFrames, framed_all, Inside, Stand, StandsAt};
 
 use crate::cursor::{Cursor, Wrong};
 use crate::items::Items;
@@ -86,6 +86,7 @@ fn read_frame(bytes: &[u8], at: usize, last: u8) -> Option<Frame>
     requires { at ≤ length bytes.now }
     ensures gives { GivesFrame bytes.now last at result }
     ensures inside { IfSome result (λ f. (at < f.start + f.len) × (f.start + f.len ≤ length bytes.now) × (f.id ≤ 12)) }
+    ensures stands { IfSome result (λ f. StandsAt bytes.now at f) }
 {
     let mut cursor = Cursor::new(&bytes[at..]);
     let Ok(id) = cursor.byte() else {
@@ -112,6 +113,7 @@ fn frames_behind(alloc: Global, bytes: &[u8]) -> Result<Items<Frame>, FrameFault
     ensures gives { GivesFrames bytes.now result }
     ensures bytes { IsBytes bytes.now }
     ensures inside { IfOk result (λ fs. Inside bytes.now fs) }
+    ensures stand { IfOk result (λ fs. Stand bytes.now 8 fs (length bytes.now)) }
 {
     let mut frames = Items::new(alloc);
     let mut at = HEADER.len();
@@ -144,6 +146,7 @@ pub fn frames(alloc: Global, bytes: &[u8]) -> Result<Items<Frame>, FrameFault>
     ensures bad { (n : ℕ) → result ≡ Err (FrameFault.BadFrame n) → FirstBad bytes.now n }
     ensures only_bad { (n : ℕ) → FirstBad bytes.now n → (result ≡ Err FrameFault.NoMemory) ⊎ (result ≡ Err (FrameFault.BadFrame n)) }
     ensures inside { IfOk result (λ fs. Inside bytes.now fs) }
+    ensures stand { IfOk result (λ fs. Stand bytes.now 8 fs (length bytes.now)) }
 {
     if !has_header(bytes) {
         return Err(FrameFault::NotModule);

@@ -24,3 +24,6 @@ returns-clause-gives c = rw c.left.ensures (place c).2.gives
 
 pub returns-clause-inside : goal.returns-clause-inside
 returns-clause-inside c = let p = (place c).2 in rw c.left.ensures (p.further, p.inside, c.if-not-follows.ensures.known refl)
+
+pub returns-clause-stands : goal.returns-clause-stands
+returns-clause-stands c = rw c.left.ensures (place c).2.stands

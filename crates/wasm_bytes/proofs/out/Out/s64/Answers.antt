@@ -1,0 +1,7 @@
+use Rattle.std.proofs.Common.{arith}
+use Rattle.std.proofs.lemmas.Int.{ints}
+use Rattle.wasm_bytes.proofs.SignedShortest.{signed_shortest}
+use Rattle.wasm_bytes.proofs.out.Out.s64.Goals as goal
+
+pub returns-clause-shortest : goal.returns-clause-shortest
+returns-clause-shortest c = signed_shortest 10 64 c.args.value (omega arith) (omega arith) (omega (arith, ints), omega (arith, ints))

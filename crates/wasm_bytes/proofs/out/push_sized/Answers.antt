@@ -1,0 +1,13 @@
+use Rattle.std.proofs.Common.{Result, Ok, Err, OnErr, ◌≡◌, ◌++◌, List, ℕ, ◌∙◌, length, arith}
+use Rattle.wasm_bytes.specs.Writing.{u32_text}
+use Rattle.wasm_bytes.proofs.out.push_sized.Goals as goal
+
+on_err : {T E : Type 0} (r : Result T E) (P : Type 0) → P → OnErr r P
+on_err (Ok x) P p = tt
+on_err (Err e) P p = p
+
+pub returns-in_err-extend_from_slice-clause-err : goal.returns-in_err-extend_from_slice-clause-err
+returns-in_err-extend_from_slice-clause-err c =
+    let grown : (more : List ℕ) × (c.extend_from_slice.new.self.items ≡ c.args.bytes.now.items ++ more) =
+    (u32_text (length c.args.content.now), c.in_err-extend_from_slice.ensures.items ∙ c.in_ok-push_unsigned.ensures.ok 5 (omega arith) (omega arith)) in
+    on_err _ _ grown
