@@ -16,71 +16,80 @@ fn renumber_instr(alloc: Global, instr: &Instr, map: &Remap) -> Result<Instr, No
     match instr {
         Instr::Unreachable => Ok(Instr::Unreachable),
         Instr::Nop => Ok(Instr::Nop),
-        Instr::Block(x0, x1) => Ok(Instr::Block(
-            renumber_type(*x0, map),
-            renumber_all(alloc, x1.as_slice(), map)?,
+        Instr::Block(ty, body) => Ok(Instr::Block(
+            renumber_type(*ty, map),
+            renumber_all(alloc, body.as_slice(), map)?,
         )),
-        Instr::Loop(x0, x1) => Ok(Instr::Loop(
-            renumber_type(*x0, map),
-            renumber_all(alloc, x1.as_slice(), map)?,
+        Instr::Loop(ty, body) => Ok(Instr::Loop(
+            renumber_type(*ty, map),
+            renumber_all(alloc, body.as_slice(), map)?,
         )),
-        Instr::If(x0, x1, x2) => {
-            let x1_new = renumber_all(alloc, x1.as_slice(), map)?;
-            let x2_new = renumber_all(alloc, x2.as_slice(), map)?;
-            Ok(Instr::If(renumber_type(*x0, map), x1_new, x2_new))
+        Instr::If(ty, body, other) => {
+            let body = renumber_all(alloc, body.as_slice(), map)?;
+            let other = renumber_all(alloc, other.as_slice(), map)?;
+            Ok(Instr::If(renumber_type(*ty, map), body, other))
         }
-        Instr::Br(x0) => Ok(Instr::Br(*x0)),
-        Instr::BrIf(x0) => Ok(Instr::BrIf(*x0)),
-        Instr::BrTable(x0, x1) => Ok(Instr::BrTable(Items::from_slice(alloc, x0.as_slice())?, *x1)),
+        Instr::Br(label) => Ok(Instr::Br(*label)),
+        Instr::BrIf(label) => Ok(Instr::BrIf(*label)),
+        Instr::BrTable(labels, last) => Ok(Instr::BrTable(
+            Items::from_slice(alloc, labels.as_slice())?,
+            *last,
+        )),
         Instr::Return => Ok(Instr::Return),
-        Instr::Call(x0) => Ok(Instr::Call(entry(&map.funcs, *x0))),
+        Instr::Call(func) => Ok(Instr::Call(entry(&map.funcs, *func))),
         Instr::CallIndirect { ty, table } => Ok(Instr::CallIndirect {
             ty: entry(&map.types, *ty),
             table: entry(&map.tables, *table),
         }),
         Instr::Drop => Ok(Instr::Drop),
         Instr::Select => Ok(Instr::Select),
-        Instr::SelectTyped(x0) => Ok(Instr::SelectTyped(Items::from_slice(alloc, x0.as_slice())?)),
-        Instr::LocalGet(x0) => Ok(Instr::LocalGet(*x0)),
-        Instr::LocalSet(x0) => Ok(Instr::LocalSet(*x0)),
-        Instr::LocalTee(x0) => Ok(Instr::LocalTee(*x0)),
-        Instr::GlobalGet(x0) => Ok(Instr::GlobalGet(entry(&map.globals, *x0))),
-        Instr::GlobalSet(x0) => Ok(Instr::GlobalSet(entry(&map.globals, *x0))),
-        Instr::TableGet(x0) => Ok(Instr::TableGet(entry(&map.tables, *x0))),
-        Instr::TableSet(x0) => Ok(Instr::TableSet(entry(&map.tables, *x0))),
-        Instr::Load(x0, x1) => Ok(Instr::Load(*x0, renumber_memarg(*x1, map))),
-        Instr::Store(x0, x1) => Ok(Instr::Store(*x0, renumber_memarg(*x1, map))),
-        Instr::MemorySize(x0) => Ok(Instr::MemorySize(entry(&map.mems, *x0))),
-        Instr::MemoryGrow(x0) => Ok(Instr::MemoryGrow(entry(&map.mems, *x0))),
-        Instr::I32Const(x0) => Ok(Instr::I32Const(*x0)),
-        Instr::I64Const(x0) => Ok(Instr::I64Const(*x0)),
-        Instr::Un(x0) => Ok(Instr::Un(*x0)),
-        Instr::Bin(x0) => Ok(Instr::Bin(*x0)),
-        Instr::RefNull(x0) => Ok(Instr::RefNull(*x0)),
+        Instr::SelectTyped(types) => Ok(Instr::SelectTyped(Items::from_slice(
+            alloc,
+            types.as_slice(),
+        )?)),
+        Instr::LocalGet(local) => Ok(Instr::LocalGet(*local)),
+        Instr::LocalSet(local) => Ok(Instr::LocalSet(*local)),
+        Instr::LocalTee(local) => Ok(Instr::LocalTee(*local)),
+        Instr::GlobalGet(global) => Ok(Instr::GlobalGet(entry(&map.globals, *global))),
+        Instr::GlobalSet(global) => Ok(Instr::GlobalSet(entry(&map.globals, *global))),
+        Instr::TableGet(table) => Ok(Instr::TableGet(entry(&map.tables, *table))),
+        Instr::TableSet(table) => Ok(Instr::TableSet(entry(&map.tables, *table))),
+        Instr::Load(op, arg) => Ok(Instr::Load(*op, renumber_memarg(*arg, map))),
+        Instr::Store(op, arg) => Ok(Instr::Store(*op, renumber_memarg(*arg, map))),
+        Instr::MemorySize(memory) => Ok(Instr::MemorySize(entry(&map.mems, *memory))),
+        Instr::MemoryGrow(memory) => Ok(Instr::MemoryGrow(entry(&map.mems, *memory))),
+        Instr::I32Const(value) => Ok(Instr::I32Const(*value)),
+        Instr::I64Const(value) => Ok(Instr::I64Const(*value)),
+        Instr::Un(op) => Ok(Instr::Un(*op)),
+        Instr::Bin(op) => Ok(Instr::Bin(*op)),
+        Instr::RefNull(ty) => Ok(Instr::RefNull(*ty)),
         Instr::RefIsNull => Ok(Instr::RefIsNull),
-        Instr::RefFunc(x0) => Ok(Instr::RefFunc(entry(&map.funcs, *x0))),
+        Instr::RefFunc(func) => Ok(Instr::RefFunc(entry(&map.funcs, *func))),
         Instr::MemoryInit { segment, memory } => Ok(Instr::MemoryInit {
             segment: entry(&map.datas, *segment),
             memory: entry(&map.mems, *memory),
         }),
-        Instr::DataDrop(x0) => Ok(Instr::DataDrop(entry(&map.datas, *x0))),
+        Instr::DataDrop(segment) => Ok(Instr::DataDrop(entry(&map.datas, *segment))),
         Instr::MemoryCopy { to, from } => Ok(Instr::MemoryCopy {
             to: entry(&map.mems, *to),
             from: entry(&map.mems, *from),
         }),
-        Instr::MemoryFill(x0) => Ok(Instr::MemoryFill(entry(&map.mems, *x0))),
-        Instr::TableInit { segment, table } => Ok(Instr::TableInit {
+        Instr::MemoryFill(memory) => Ok(Instr::MemoryFill(entry(&map.mems, *memory))),
+        Instr::TableInit {
+            segment,
+            table: filled,
+        } => Ok(Instr::TableInit {
             segment: entry(&map.elems, *segment),
-            table: entry(&map.tables, *table),
+            table: entry(&map.tables, *filled),
         }),
-        Instr::ElemDrop(x0) => Ok(Instr::ElemDrop(entry(&map.elems, *x0))),
+        Instr::ElemDrop(segment) => Ok(Instr::ElemDrop(entry(&map.elems, *segment))),
         Instr::TableCopy { to, from } => Ok(Instr::TableCopy {
             to: entry(&map.tables, *to),
             from: entry(&map.tables, *from),
         }),
-        Instr::TableGrow(x0) => Ok(Instr::TableGrow(entry(&map.tables, *x0))),
-        Instr::TableSize(x0) => Ok(Instr::TableSize(entry(&map.tables, *x0))),
-        Instr::TableFill(x0) => Ok(Instr::TableFill(entry(&map.tables, *x0))),
+        Instr::TableGrow(table) => Ok(Instr::TableGrow(entry(&map.tables, *table))),
+        Instr::TableSize(table) => Ok(Instr::TableSize(entry(&map.tables, *table))),
+        Instr::TableFill(table) => Ok(Instr::TableFill(entry(&map.tables, *table))),
     }
 }
 

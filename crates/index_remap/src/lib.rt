@@ -8,6 +8,9 @@ mod renumbering;
 
 ghost use Rattle.index_remap.specs.Laws.{StepsAgree, TrapsAgree};
 
+#[cfg(test)]
+mod tests;
+
 pub use remap::Remap;
 pub use renumbering::renumber;
 
