@@ -1,0 +1,126 @@
+#!/usr/bin/env python3
+"""Measures reading, validating and writing one module, beside other tools, in one run.
+
+    bench/read_write.py [PROGRAM]
+
+Makes modules of 1, 4 and 16 MiB, and prints for each tool the time (the least of three runs), the greatest resident memory, and for the
+smallest module the machine instructions, as callgrind of valgrind counts them. `merge` reads, validates and writes; wasm-strip (wabt) reads and copies
+sections; wasm-opt (binaryen) without passes reads and writes; wasm-validate (wabt) reads and validates. A tool that is not installed is skipped.
+"""
+import os
+import random
+import re
+import shutil
+import subprocess
+import sys
+import tempfile
+import time
+
+TOP = os.path.dirname(os.path.dirname(os.path.abspath(__file__)))
+PROGRAM = os.path.abspath(sys.argv[1]) if len(sys.argv) > 1 else os.path.join(TOP, "crates/binkit/out/binkit")
+
+
+def leb(n):
+    out = bytearray()
+    while n >= 128:
+        out.append(n % 128 + 128)
+        n //= 128
+    out.append(n)
+    return bytes(out)
+
+
+def vector(items):
+    return leb(len(items)) + b"".join(items)
+
+
+def section(number, content):
+    return bytes([number]) + leb(len(content)) + content
+
+
+def body(choose, functions):
+    """A body of type [i32 i32] to [i32] as compilers write them: arithmetic, locals, loads and stores, blocks, branches and calls."""
+    out = bytearray(b"\x01\x02\x7f")
+    for _ in range(choose.randrange(4, 24)):
+        kind = choose.randrange(6)
+        if kind == 0:
+            out += b"\x20\x00\x41" + leb(choose.randrange(64)) + b"\x6a\x21\x02"
+        elif kind == 1:
+            out += b"\x20\x01\x28\x02" + leb(choose.randrange(4096)) + b"\x22\x03\x20\x02\x73\x21\x00"
+        elif kind == 2:
+            out += b"\x02\x40\x20\x00\x45\x0d\x00\x20\x01\x20\x02\x36\x02" + leb(choose.randrange(4096)) + b"\x0b"
+        elif kind == 3:
+            out += b"\x20\x00\x20\x01\x10" + leb(choose.randrange(functions)) + b"\x21\x03"
+        elif kind == 4:
+            out += b"\x03\x40\x20\x02\x41\x01\x6b\x22\x02\x0d\x00\x0b"
+        else:
+            out += b"\x20\x00\x04\x7f\x20\x01\x05\x41\x07\x0b\x21\x01"
+    return bytes(out + b"\x20\x03\x0b")
+
+
+def module(size):
+    choose = random.Random(size)
+    functions = size // 125
+    bodies, length = [], 0
+    while length < size - 8 * functions // 4 and len(bodies) < functions:
+        code = body(choose, functions)
+        bodies.append(leb(len(code)) + code)
+        length += len(bodies[-1]) + 1
+    while len(bodies) < functions:
+        bodies.append(leb(4) + b"\x00\x41\x00\x0b")
+    parts = [
+        section(1, vector([b"\x60\x02\x7f\x7f\x01\x7f"])),
+        section(3, vector([b"\x00"] * functions)),
+        section(5, b"\x01\x00\x01"),
+        section(7, vector([b"\x01f\x00\x00"])),
+        section(10, vector(bodies)),
+    ]
+    return b"\0asm\1\0\0\0" + b"".join(parts)
+
+
+def timed(command):
+    """Seconds and greatest resident MiB of one run."""
+    begun = time.monotonic()
+    child = subprocess.Popen(command, stdout=subprocess.DEVNULL, stderr=subprocess.DEVNULL)
+    _, status, usage = os.wait4(child.pid, 0)
+    return time.monotonic() - begun, usage.ru_maxrss / 1024, status
+
+
+def instructions(command, folder):
+    done = subprocess.run(
+        ["valgrind", "--tool=callgrind", f"--callgrind-out-file={folder}/callgrind", *command], capture_output=True, text=True
+    )
+    found = re.search(r"Collected : (\d+)", done.stderr)
+    return int(found.group(1)) if found else None
+
+
+def main():
+    with tempfile.TemporaryDirectory() as folder:
+        print("| MiB | tool | seconds | MiB of memory | instructions a byte |")
+        print("|---|---|---|---|---|")
+        for mib in 1, 4, 16:
+            name = os.path.join(folder, f"{mib}.wasm")
+            content = module(mib * (1 << 20) - 4096)
+            with open(name, "wb") as file:
+                file.write(content)
+            out = os.path.join(folder, "out.wasm")
+            tools = [
+                ("binkit merge", [PROGRAM, "merge", name, "m", "-o", out]),
+                ("wasm-strip", ["wasm-strip", name, "-o", out]),
+                ("wasm-opt", ["wasm-opt", name, "-o", out]),
+                ("wasm-validate", ["wasm-validate", name]),
+            ]
+            for tool, command in tools:
+                if not shutil.which(command[0]):
+                    print(f"| {mib} | {tool} | skipped: not installed | | |")
+                    continue
+                runs = [timed(command) for _ in range(3)]
+                if any(run[2] for run in runs):
+                    print(f"| {mib} | {tool} | failed | | |")
+                    continue
+                count = instructions(command, folder) if mib == 1 and shutil.which("valgrind") else None
+                a_byte = f"{count / len(content):.0f}" if count else ""
+                print(f"| {mib} | {tool} | {min(run[0] for run in runs):.2f} | {max(run[1] for run in runs):.0f} | {a_byte} |", flush=True)
+
+
+if __name__ == "__main__":
+    main()
