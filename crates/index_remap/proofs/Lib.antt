@@ -10,3 +10,4 @@ pub mod Lockstep
 pub mod Runs
 pub mod SameRuns
 pub mod AboveSteps
+pub mod RenumberedCode

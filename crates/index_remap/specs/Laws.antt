@@ -3,9 +3,15 @@ use Rattle.std.proofs.Common.{◌≡◌, ℕ, List, [], ◌∷◌, ◌++◌, Boo
 use Rattle.std.specs.Prelude.{IsTrue, nat_eq}
 use Rattle.std.specs.List.{list_any}
 use Rattle.wasm_meaning.specs.Outcomes.{Gives}
-use Rattle.wasm_meaning.specs.State.{Store, Entry, Running, Mark, Opening, Caller, Act, Ends}
+use Rattle.wasm_meaning.specs.State.{Inst, Store, Entry, Running, Mark, Opening, Caller, Act, Ends}
 use Rattle.wasm_meaning.specs.Step.{act, step, to_mark}
-use Rattle.index_remap.specs.Related.{Kind, Pairing, OneToOne, ResRel, ListRel, StoreRel, EntryRel, NextRel, TopSkips, TopKnown}
+use Rattle.wasm_meaning.specs.Run.{Run, tick, events_of}
+use Rattle.index_remap.specs.RelatedRuns.{RunRel}
+use Rattle.wasm_tree.specs.declared.instr.Instr.{Instr}
+use Rattle.index_remap.specs.declared.remap.Remap.{Remap}
+use Rattle.index_remap.specs.Renumbered.{renumbered_all}
+use Rattle.index_remap.specs.CodeNames.{LayerNames, ListLayers}
+use Rattle.index_remap.specs.Related.{CodeRel, Kind, Pairing, OneToOne, ResRel, ListRel, StoreRel, EntryRel, NextRel, TopSkips, TopKnown}
 
 -- the addresses that pass the first test are related, and code may name as one those that pass the second; of the functions of a list only the types are known,
 -- and other code may stand for calls of them
@@ -59,3 +65,17 @@ abbrev pub TrapsAgree : Type 0
 TrapsAgree =
     (of named : Kind → ℕ → ℕ → Bool) (l : List ℕ) (s t : Store) (es fs cs ds : List Entry) → ListRel (EntryRel (passed of named l)) es fs → HasMark es →
     ResRel (MarksAgree (passed of named l) cs ds s t) (to_mark (es ++ cs)) (to_mark (fs ++ ds))
+
+-- Code whose indices are replaced by their entries is related, where each index and its entry stand for addresses that code may name as one, and for equal types.
+abbrev pub RenumberedCodeIsRelated : Type 0
+RenumberedCodeIsRelated =
+    (of named : Kind → ℕ → ℕ → Bool) (l : List ℕ) (m : Remap) (i j : Inst) (code : List Instr) → ListLayers (LayerNames (passed of named l) m i j) code → CodeRel (passed of named l) i j code (renumbered_all m code)
+
+-- runs whose stacks are related entry by entry
+abbrev pub EntryByEntry : Pairing → Store → Store → List Entry → List Entry → Type 0
+EntryByEntry R s t = ListRel (EntryRel R)
+
+-- Where all that code names is related and no function is set apart, related runs show the same events.
+abbrev pub RelatedRunsShowTheSame : Type 0
+RelatedRunsShowTheSame =
+    (of : Kind → ℕ → ℕ → Bool) → OneToOne (passed of of []) → (r q : Run) → RunRel (passed of of []) (EntryByEntry (passed of of [])) (EntryByEntry (passed of of [])) r q → (n : ℕ) → events_of tick r n ≡ events_of tick q n

@@ -6,7 +6,7 @@ mod each;
 mod remap;
 mod renumbering;
 
-ghost use Rattle.index_remap.specs.Laws.{StepsAgree, TrapsAgree};
+ghost use Rattle.index_remap.specs.Laws.{RelatedRunsShowTheSame, RenumberedCodeIsRelated, StepsAgree, TrapsAgree};
 
 #[cfg(test)]
 mod tests;
@@ -19,3 +19,15 @@ pub fn steps_agree()
     ensures steps { StepsAgree }
     ensures traps { TrapsAgree }
 {}
+
+/// A body with other indices is related to what it was, where each index that it names and its entry stand for the same: the relation of which `steps_agree` speaks.
+pub fn renumbered_code_is_related()
+    ensures code { RenumberedCodeIsRelated }
+{
+}
+
+/// Two runs that are related show the same events, in however many steps.
+pub fn related_runs_show_the_same()
+    ensures events { RelatedRunsShowTheSame }
+{
+}

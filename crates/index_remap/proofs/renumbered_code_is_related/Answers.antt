@@ -1,0 +1,6 @@
+use Rattle.index_remap.specs.Laws.{passed}
+use Rattle.index_remap.proofs.RenumberedCode.{renumbered_rel}
+use Rattle.index_remap.proofs.renumbered_code_is_related.Goals as goal
+
+pub returns : goal.returns
+returns c = record { code = λ of named l m i j code h. renumbered_rel (passed of named l) m i j code h }
