@@ -1,5 +1,5 @@
 -- What is known besides of a tree that is found.
-use Rattle.std.proofs.Common.{◌≡◌, ℕ, List, Result, Ok, Err, false, IfOk, IsTrue}
+use Rattle.std.proofs.Common.{ℕ, List, Result, Ok, Err, false, IfOk, IsTrue}
 use Rattle.wasm_tree.specs.declared.module.Module.{Module}
 use Rattle.wasm_tree.specs.Bounds.{IsBounded}
 use Rattle.wasm_tree.specs.MemoryZero.{memory_zero_funcs}

@@ -1,9 +1,7 @@
 -- Steps of the loops over frames, instructions and functions.
-use Rattle.std.proofs.Common.{◌≡◌, ℕ, zero, suc, ◌+◌, ◌<◌, ◌≤◌, List, [], ◌∷◌, length, drop, map, set, get_or, slice_get, slice_index, Bool, true, false, Result, Ok, Err, Option, Some, None, refl, sym, ap, ◌∙◌, subst, arith, add-one}
+use Rattle.std.proofs.Common.{◌≡◌, ℕ, zero, suc, ◌+◌, ◌<◌, ◌≤◌, List, [], ◌∷◌, length, drop, set, get_or, slice_get, slice_index, Bool, true, false, Result, Ok, Some, refl, sym, ap, ◌∙◌, subst, arith, add-one}
 use Rattle.std.specs.Prelude.{◌||◌}
 use Rattle.wasm_bytes.specs.declared.framing.Frame.{Frame as Place}
-use Rattle.wasm_bytes.specs.Reading.{◌>>=◌}
-use Rattle.wasm_bytes.specs.Frames.{Section}
 use Rattle.wasm_bytes.specs.FrameViews.{framed, framed_all}
 use Rattle.wasm_tree.specs.declared.instr.Instr.{Instr}
 use Rattle.wasm_tree.specs.declared.module.Func.{Func}

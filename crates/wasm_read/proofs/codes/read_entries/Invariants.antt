@@ -1,4 +1,4 @@
-use Rattle.std.proofs.Common.{◌≡◌, ◌-◌, ◌+◌, length}
+use Rattle.std.proofs.Common.{◌≡◌, ◌-◌, ◌+◌}
 use Rattle.wasm_format.specs.Reading.{each_from, with_front}
 use Rattle.wasm_format.specs.Contents.{entry_at, next_func}
 use Rattle.wasm_read.proofs.codes.read_entries.Given as goal

@@ -1,4 +1,4 @@
-use Rattle.std.proofs.Common.{◌≡◌, ◌↔◌, Err, arith, ap, refl}
+use Rattle.std.proofs.Common.{Err, arith, ap}
 use Rattle.wasm_format.proofs.Framing.{framed_reads, bad_reads, header_reads}
 use Rattle.wasm_read.proofs.file.frame_list.Goals as goal
 

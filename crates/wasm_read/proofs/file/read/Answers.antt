@@ -1,4 +1,4 @@
-use Rattle.std.proofs.Common.{◌≡◌, false}
+use Rattle.std.proofs.Common.{false}
 use Rattle.wasm_read.proofs.Calls.{found_bounded, found_zero}
 use Rattle.wasm_format.proofs.FileLaws.{call_found, call_only, call_fault, call_first}
 use Rattle.wasm_read.proofs.file.read.Goals as goal

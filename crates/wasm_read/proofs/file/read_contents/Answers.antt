@@ -1,4 +1,4 @@
-use Rattle.std.proofs.Common.{◌≡◌, ◌+◌, ◌≤◌, length, Err, arith}
+use Rattle.std.proofs.Common.{◌≡◌, Err, arith}
 use Rattle.wasm_read.proofs.Steps.{contents_more, contents_stop, contents_end}
 use Rattle.wasm_read.proofs.file.read_contents.Goals as goal
 
