@@ -1,12 +1,10 @@
 -- The plain texts of code entries spell them, and data is used in them as in the functions.
-use Rattle.std.proofs.Common.{◌≡◌, ℕ, ◌+◌, ◌<◌, ◌≤◌, ◌^◌, List, [], ◌∷◌, ◌++◌, map, length, length-append, Bool, true, false, ◌||◌, IsTrue, refl, sym, ap, ap₂, ◌∙◌, subst, arith}
-use Rattle.wasm_bytes.specs.Writing.{u32_text, sized_text}
-use Rattle.wasm_bytes.specs.Joins.{Vector}
+use Rattle.std.proofs.Common.{◌≡◌, ◌<◌, ◌^◌, List, [], ◌∷◌, map, length, length-append, Bool, false, ◌||◌, refl, ap, ap₂, ◌∙◌, arith}
+use Rattle.wasm_bytes.specs.Writing.{u32_text}
 use Rattle.wasm_tree.specs.declared.instr.Instr.{Instr, fold-Instr}
 use Rattle.wasm_tree.specs.declared.instr.Instr.TheOpen.{Instr-F}
 use Rattle.wasm_tree.specs.declared.module.LocalGroup.{LocalGroup}
 use Rattle.wasm_tree.specs.declared.module.Func.{Func}
-use Rattle.wasm_format.specs.Words.{Every}
 use Rattle.wasm_format.specs.Bodies.{SpellsGroup, SpellsCode, SpellsEntry, any_true, data_step, uses_data_in, uses_data, any_uses_data}
 use Rattle.wasm_plain.specs.PlainValues.{vector_text, val_text}
 use Rattle.wasm_plain.specs.PlainCode.{group_text, body_text, code_text, entry_text}

@@ -1,10 +1,10 @@
 -- The plain text of a module spells it.
-use Rattle.std.proofs.Common.{◌≡◌, ℕ, zero, suc, ◌+◌, ◌/◌, ◌<◌, ◌≤◌, ◌^◌, List, [], ◌∷◌, ◌++◌, map, length, length-append, Bool, true, false, Option, Some, None, IsTrue, ltb, cond, refl, sym, ap, ap₂, ◌∙◌, subst, arith, append_assoc, append-nil, ⊎_elim}
+use Rattle.std.proofs.Common.{◌≡◌, ℕ, zero, suc, ◌/◌, ◌<◌, ◌≤◌, ◌^◌, List, [], ◌∷◌, ◌++◌, map, length, length-append, Bool, true, false, Option, Some, None, refl, sym, ap, ◌∙◌, subst, arith, append_assoc, append-nil, ⊎_elim}
 use Rattle.std.specs.Prelude.{if◌then◌else◌}
 use Rattle.std.proofs.lemmas.Bool.{lt-ltb, le-ltb, cases_lt}
 use Rattle.wasm_bytes.specs.Writing.{u32_text, unsigned_text, sized_text}
 use Rattle.wasm_bytes.specs.Joins.{U32, Vector}
-use Rattle.wasm_bytes.specs.Frames.{Section, header, may_follow, after, Frames, Framed}
+use Rattle.wasm_bytes.specs.Frames.{Section, header, may_follow, after, Frames}
 use Rattle.wasm_tree.specs.declared.types.FuncType.{FuncType}
 use Rattle.wasm_tree.specs.declared.types.Limits.{Limits}
 use Rattle.wasm_tree.specs.declared.types.TableType.{TableType}
@@ -20,13 +20,13 @@ use Rattle.wasm_format.specs.Words.{Every}
 use Rattle.wasm_format.specs.Values.{SpellsFuncType, SpellsTable, SpellsLimits}
 use Rattle.wasm_format.specs.Sections.{SpellsImport, SpellsGlobalDef, SpellsExport, SpellsElem, SpellsData}
 use Rattle.wasm_format.specs.Bodies.{SpellsEntry, any_uses_data}
-use Rattle.wasm_format.specs.Files.{nothing, with_types, with_imports, with_func_types, with_tables, with_mems, with_globals, with_exports, with_start, with_elems, with_codes, with_datas, with_count, section_form, Contents, Counted, Rules, typed, tree_of, Spells}
+use Rattle.wasm_format.specs.Files.{nothing, with_types, with_imports, with_func_types, with_tables, with_mems, with_globals, with_exports, with_elems, with_codes, with_datas, section_form, Contents, Counted, Rules, typed, tree_of, Spells}
 use Rattle.wasm_plain.specs.PlainValues.{each_text, vector_text, func_type_text, import_text, table_text, limits_text, global_text, export_text, elem_text, data_text}
 use Rattle.wasm_plain.specs.PlainCode.{entry_text}
 use Rattle.wasm_plain.specs.PlainCode.{any_uses_data as any_plain_uses}
 use Rattle.wasm_plain.specs.Plain.{section_text, list_section, start_section, count_section, plain}
 use Rattle.plain_law.specs.Ranges.{IsU32, MaxInRange, LimitsInRange, ConstInRange, ImportInRange, ExportInRange, ElemInRange, DataModeInRange, FuncInRange, InRange}
-use Rattle.plain_law.proofs.Parts.{u32_some, u32_spells, sized_spells, vector_spells, vector_mapped, length_map, every_with, every_of, every_short, count_below}
+use Rattle.plain_law.proofs.Parts.{u32_some, u32_spells, sized_spells, vector_mapped, length_map, every_with, every_of, every_short, count_below}
 use Rattle.plain_law.proofs.ItemTexts.{func_type_spells, func_type_some, table_spells, table_some, limits_spells, limits_some, import_spells, import_some, global_spells, global_some, export_spells, export_some}
 use Rattle.plain_law.proofs.SegmentTexts.{elem_spells, elem_some, data_spells, data_some}
 use Rattle.plain_law.proofs.EntryTexts.{untyped, entry_spells, entry_some, funcs_use_same}

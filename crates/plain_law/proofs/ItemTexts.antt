@@ -1,9 +1,8 @@
 -- The plain texts of types, constant expressions and what the sections hold spell them.
-use Rattle.std.proofs.Common.{◌≡◌, ℕ, zero, suc, ◌+◌, ◌<◌, ◌≤◌, ◌^◌, List, [], ◌∷◌, ◌++◌, map, length, length-append, Bool, true, false, ◌&&◌, Option, Some, None, pos, refl, sym, ap, ◌∙◌, subst, arith, append_assoc}
-use Rattle.std.specs.Prelude.{IsUtf8, ◌==◌, nat_eq}
-use Rattle.std.proofs.lemmas.Bool.{eqb-true}
+use Rattle.std.proofs.Common.{◌≡◌, ℕ, ◌<◌, ◌^◌, List, [], ◌∷◌, ◌++◌, length, length-append, Bool, true, false, Option, Some, None, refl, arith, append_assoc}
+use Rattle.std.specs.Prelude.{IsUtf8}
 use Rattle.wasm_bytes.specs.Writing.{u32_text, s32_text, s64_text, sized_text}
-use Rattle.wasm_bytes.specs.Joins.{Then, U32, Each, Vector, Sized, Named}
+use Rattle.wasm_bytes.specs.Joins.{Then, Vector, Named}
 use Rattle.wasm_tree.specs.declared.types.RefType.{RefType}
 use Rattle.wasm_tree.specs.declared.types.RefType.TheVariants as ref
 use Rattle.wasm_tree.specs.declared.types.ValType.{ValType}
@@ -23,11 +22,11 @@ use Rattle.wasm_tree.specs.declared.module.Export.{Export}
 use Rattle.wasm_tree.specs.declared.module.ConstExpr.{ConstExpr}
 use Rattle.wasm_tree.specs.declared.module.ConstExpr.TheVariants as const
 use Rattle.wasm_tree.specs.declared.module.GlobalDef.{GlobalDef}
-use Rattle.wasm_format.specs.Words.{Coded, Both, Every}
-use Rattle.wasm_format.specs.Values.{val_code as val_of, ref_code as ref_of, mut_code, SpellsVal, SpellsRef, SpellsFuncType, limits_form, at_least, between, SpellsLimits, SpellsTable, SpellsGlobal, SpellsBlockType, const_form, SpellsConst}
+use Rattle.wasm_format.specs.Words.{Coded}
+use Rattle.wasm_format.specs.Values.{val_code as val_of, ref_code as ref_of, mut_code, SpellsVal, SpellsRef, SpellsFuncType, limits_form, SpellsLimits, SpellsTable, SpellsGlobal, SpellsBlockType, const_form, SpellsConst}
 use Rattle.wasm_format.specs.Sections.{import_form, SpellsImport, SpellsGlobalDef, export_form, SpellsExport}
-use Rattle.wasm_plain.specs.PlainValues.{each_text, vector_text, ref_code, val_code, ref_text, val_text, func_type_text, max_text, limits_text, table_text, mutable_code, global_type_text, block_type_text, const_text, import_desc_text, import_text, global_text, export_desc_text, export_text}
-use Rattle.plain_law.specs.Ranges.{small, small_type, IsU32, MaxInRange, LimitsInRange, ConstInRange, ImportDescInRange, ImportInRange, ExportDescInRange, ExportInRange}
+use Rattle.wasm_plain.specs.PlainValues.{vector_text, ref_code, val_code, ref_text, val_text, func_type_text, max_text, limits_text, table_text, mutable_code, global_type_text, block_type_text, const_text, import_desc_text, import_text, global_text, export_desc_text, export_text}
+use Rattle.plain_law.specs.Ranges.{small_type, IsU32, MaxInRange, LimitsInRange, ConstInRange, ImportDescInRange, ImportInRange, ExportDescInRange, ExportInRange}
 use Rattle.plain_law.proofs.Parts.{below, u32_some, u32_spells, index_spells, s32_spells, s64_spells, sized_spells, vector_spells, every_of}
 
 -- ---- types

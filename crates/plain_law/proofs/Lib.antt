@@ -4,3 +4,6 @@ pub mod SegmentTexts
 pub mod BodyTexts
 pub mod EntryTexts
 pub mod FileTexts
+pub mod NumberRanges
+pub mod BodyRanges
+pub mod TreeRanges

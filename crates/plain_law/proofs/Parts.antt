@@ -1,13 +1,13 @@
 -- Spellings of numbers, vectors and sized contents by their plain texts.
-use Rattle.std.proofs.Common.{◌≡◌, ℕ, zero, suc, ◌+◌, ◌-◌, ◌<◌, ◌≤◌, ◌^◌, List, [], ◌∷◌, ◌++◌, map, length, length-append, Bool, true, false, true≢false, ◌&&◌, Some, ℤ, pos, negsuc, refl, sym, ap, ◌∙◌, subst, arith, append_assoc, ⊎_elim}
+use Rattle.std.proofs.Common.{◌≡◌, ℕ, suc, ◌<◌, ◌≤◌, ◌^◌, List, [], ◌∷◌, ◌++◌, map, length, length-append, Bool, true, false, true≢false, ◌&&◌, ℤ, pos, negsuc, refl, sym, ap, ◌∙◌, subst, arith, append_assoc, ⊎_elim}
 use Rattle.std.proofs.lemmas.Bool.{ltb-true, lt-ltb, le-ltb, cases_lt}
 use Rattle.std.proofs.lemmas.Int.{ints}
-use Rattle.wasm_bytes.specs.Numbers.{Unsigned, Signed, IsWithin}
+use Rattle.wasm_bytes.specs.Numbers.{Signed, IsWithin}
 use Rattle.wasm_bytes.specs.Writing.{u32_text, s32_text, s33_text, s64_text, sized_text, unsigned_text}
-use Rattle.wasm_bytes.specs.Joins.{Then, U32, Each, Vector, Sized}
+use Rattle.wasm_bytes.specs.Joins.{U32, Each, Vector, Sized}
 use Rattle.wasm_bytes.proofs.Shortest.{u32_shortest}
 use Rattle.wasm_bytes.proofs.SignedShortest.{signed_spells}
-use Rattle.wasm_plain.specs.PlainValues.{joined, each_text, vector_text}
+use Rattle.wasm_plain.specs.PlainValues.{each_text, vector_text}
 use Rattle.wasm_format.specs.Words.{Every}
 use Rattle.plain_law.specs.Ranges.{small, small_signed}
 

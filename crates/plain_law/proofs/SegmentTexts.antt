@@ -1,9 +1,9 @@
 -- The plain texts of element and data segments spell them.
-use Rattle.std.proofs.Common.{◌≡◌, ℕ, zero, suc, ◌+◌, ◌<◌, ◌≤◌, ◌^◌, List, [], ◌∷◌, ◌++◌, length, length-append, Bool, true, false, true≢false, ◌&&◌, ◌⊎◌, inl, inr, ⊎_elim, refl, sym, ap, ◌∙◌, subst, arith, append_assoc}
+use Rattle.std.proofs.Common.{◌≡◌, ℕ, ◌<◌, ◌≤◌, ◌^◌, List, [], ◌∷◌, ◌++◌, length, length-append, Bool, true, false, true≢false, ◌&&◌, ◌⊎◌, inl, inr, ⊎_elim, refl, sym, arith, append_assoc}
 use Rattle.std.specs.Prelude.{◌==◌}
 use Rattle.std.proofs.lemmas.Bool.{eqb-true}
 use Rattle.wasm_bytes.specs.Writing.{u32_text, sized_text}
-use Rattle.wasm_bytes.specs.Joins.{Then, U32, Each, Vector, Sized}
+use Rattle.wasm_bytes.specs.Joins.{U32, Sized}
 use Rattle.wasm_tree.specs.declared.types.RefType.{RefType}
 use Rattle.wasm_tree.specs.declared.types.RefType.TheVariants as ref
 use Rattle.wasm_tree.specs.declared.module.ConstExpr.{ConstExpr}
@@ -17,7 +17,7 @@ use Rattle.wasm_tree.specs.declared.module.DataSeg.{DataSeg}
 use Rattle.wasm_format.specs.Words.{Made, Every}
 use Rattle.wasm_format.specs.Values.{SpellsConst}
 use Rattle.wasm_format.specs.Sections.{FuncItems, ConstItems, elem_of, elem_form, SpellsElem, data_form, SpellsData}
-use Rattle.wasm_plain.specs.PlainValues.{each_text, vector_text, ref_code, ref_text, const_text, is_func, func_of, is_funcref, all_funcs, by_index, index_items, const_items, active_by_index, active_by_const, mode_by_index, mode_by_const, elem_text, data_mode_text, data_text}
+use Rattle.wasm_plain.specs.PlainValues.{ref_code, ref_text, const_text, is_func, func_of, is_funcref, all_funcs, by_index, index_items, const_items, active_by_index, active_by_const, mode_by_index, mode_by_const, elem_text, data_mode_text, data_text}
 use Rattle.plain_law.specs.Ranges.{IsU32, ConstInRange, ElemModeInRange, ElemInRange, DataModeInRange}
 use Rattle.plain_law.proofs.Parts.{u32_some, u32_spells, flag_spells, sized_spells, vector_spells, every_with, left, right}
 use Rattle.plain_law.proofs.ItemTexts.{ref_spells, const_spells, const_some}
