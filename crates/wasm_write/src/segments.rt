@@ -280,10 +280,8 @@ impl Plain for DataMode {
     fn fit(&self, room: &mut Room) -> Result<(), TooLong> {
         match self {
             DataMode::Active { memory, offset } => {
-                if *memory == 0 {
-                    room.take(1)?;
-                } else {
-                    room.take(1)?;
+                room.take(1)?;
+                if *memory != 0 {
                     room.u32(*memory)?;
                 }
                 offset.fit(room)

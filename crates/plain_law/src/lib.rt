@@ -1,0 +1,20 @@
+//! The plain spelling of a module spells it.
+#![tactic(auto)]
+
+ghost use Rattle.std.specs.Prelude.{ℕ, List, ◌<◌, ◌^◌, length, false};
+ghost use Rattle.wasm_tree.specs.declared.module.Module.{Module as Tree};
+ghost use Rattle.wasm_format.specs.Files.{Spells};
+ghost use Rattle.wasm_plain.specs.Plain.{plain};
+ghost use Rattle.plain_law.specs.Ranges.{InRange};
+
+/// The plain spelling of a tree, of fewer than 2^32 bytes, spells the tree. The premise holds of each tree that a program holds
+/// and whose bodies name no memory but memory 0.
+pub fn plain_spells()
+    ensures { (m : Tree) → InRange m → length (plain m) < 2 ^ 32 → Spells (plain m) m false }
+{}
+
+/// The tree that some bytes spell has each number in the range of its type and each name in UTF-8, and its bodies name no memory
+/// but memory 0: so its plain spelling spells it again.
+pub fn spelled_trees_are_in_range()
+    ensures { (bytes : List ℕ) (m : Tree) → Spells bytes m false → InRange m }
+{}
