@@ -1,4 +1,4 @@
--- The types of the operators.
+-- The types of the operators (WebAssembly Core 2.0, sections 3.3.1 and 3.3.7).
 use Rattle.std.specs.Prelude.{ℕ}
 use Rattle.wasm_tree.specs.declared.types.ValType.{ValType}
 use Rattle.wasm_tree.specs.declared.types.ValType.TheVariants.{I32, I64}

@@ -1,4 +1,5 @@
--- When a body is well typed: there is a list of stacks, one before, between and after its instructions.
+-- When a body is well typed: there is a list of stacks, one before, between and after its instructions (WebAssembly Core 2.0,
+-- sections 3.3.8 and 3.3.9).
 use Rattle.std.specs.Prelude.{◌≡◌, ℕ, ◌^◌, Bool, true, false, ◌&&◌, nat_lt, nat_le, List, [], ◌∷◌, ◌++◌, map, reverse, Option, Some, None, slice_get}
 use Rattle.wasm_tree.specs.declared.types.RefType.{RefType}
 use Rattle.wasm_tree.specs.declared.types.RefType.TheVariants.{Func, Extern}
@@ -13,7 +14,7 @@ use Rattle.wasm_tree.specs.declared.instr.Instr.{Instr, Row_of-Instr, end_of-Ins
 use Rattle.wasm_tree.specs.declared.instr.Instr.TheVariants.{Unreachable, Nop, Block', Loop', If', Br, BrIf, BrTable, Return, Call, CallIndirect, Drop, Select, SelectTyped, LocalGet, LocalSet, LocalTee, GlobalGet, GlobalSet, TableGet, TableSet, Load, Store, MemorySize, MemoryGrow, I32Const, I64Const, Un, Bin, RefNull, RefIsNull, RefFunc, MemoryInit, DataDrop, MemoryCopy, MemoryFill, TableInit, ElemDrop, TableCopy, TableGrow, TableSize, TableFill}
 use Rattle.wasm_typing.specs.Ops.{un_operand, un_result, bin_operand, bin_result, load_type, load_width, store_type, store_width}
 
--- the type of an operand; None is the bottom
+-- the type of an operand; None is the bottom (section 3.3, the operand types of instruction types)
 abbrev pub Operand : Type 0
 Operand = Option ValType
 
@@ -53,7 +54,7 @@ IsReference (Some I32) = ⊥
 IsReference (Some I64) = ⊥
 IsReference (Some (Ref r)) = Unit {0}
 
--- what an instruction does to the stack
+-- what an instruction does to the stack: its type (section 3.3)
 pub data Effect : Type 0 where
   -- [ps] to [rs]
   Gives : (ps rs : List ValType) → Effect
@@ -83,7 +84,7 @@ pub record Signature : Type 0 where
   pub params : List ValType
   pub results : List ValType
 
--- what an instruction can name; the innermost label is the first
+-- what an instruction can name; the innermost label is the first (section 3.1.1)
 pub record Context : Type 0 where
   pub types : List FuncType
   -- the type of each function, by its index
@@ -119,6 +120,7 @@ abbrev pub signature_in : Option FuncType → Option Signature
 signature_in None = None
 signature_in (Some f) = Some (record { params = f.params; results = f.results })
 
+-- the type of a block, where the type that it names is there (section 3.2.2)
 abbrev pub signature_of : List FuncType → BlockType → Option Signature
 signature_of types Empty = Some (record { params = []; results = [] })
 signature_of types (Value t) = Some (record { params = []; results = t ∷ [] })
@@ -167,14 +169,14 @@ both None b = false
 both (Some a) None = false
 both (Some a) (Some b) = same_ref a b
 
--- the memory is there, and the alignment is at most the width in bytes
+-- the memory is there, and the alignment is at most the width in bytes (section 3.3.7)
 abbrev pub fits_memory : Context → ℕ → MemArg → Bool
 fits_memory c width m = nat_lt m.memory c.memories && nat_le (2 ^ m.align) width
 
 abbrev pub three : Effect
 three = Gives (I32 ∷ I32 ∷ I32 ∷ []) []
 
--- the type of each instruction that has no body, where what it names is there
+-- the type of each instruction that has no body, where what it names is there (sections 3.3.1, 3.3.2 and 3.3.4 to 3.3.8)
 abbrev pub effect_of : Context → Instr → Option Effect
 effect_of c Unreachable = Some (Leaves [])
 effect_of c Nop = Some (Gives [] [])
@@ -223,7 +225,7 @@ abbrev pub Ends : (Stack → Stack → Type 0) → List ValType → List ValType
 Ends leads ps rs = (last : Stack) × leads (operands ps) last × AllMatch last (reverse rs)
 
 abbrev mutual
-  -- an instruction fits the stack before it and the stack after it
+  -- an instruction fits the stack before it and the stack after it; a block's body has one more label (section 3.3.8)
   pub Fits : Context → Instr → Stack → Stack → Type 0
   Fits c (Block' bt n body) s t =
       (f : Signature) × (signature_of c.types bt ≡ Some f) × Ends (Leads (under c f.results) body) f.params f.results × Acts (Gives f.params f.results) s t
@@ -243,6 +245,6 @@ abbrev pub LeadsAll : Context → List Instr → Stack → Stack → Type 0
 LeadsAll c [] s t = s ≡ t
 LeadsAll c (i ∷ is) s t = (u : Stack) × Fits c i s u × LeadsAll c is u t
 
--- a body that takes the operands ps leaves operands that match rs
+-- a body that takes the operands ps leaves operands that match rs (section 3.3.9)
 abbrev pub WellTyped : Context → List Instr → List ValType → List ValType → Type 0
 WellTyped c is ps rs = Ends (LeadsAll c is) ps rs
