@@ -1,0 +1,6 @@
+pub mod Pieces
+pub mod Gathering
+pub mod Performing
+pub mod Running
+pub mod Headers
+pub mod Deciding

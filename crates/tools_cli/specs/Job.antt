@@ -1,0 +1,63 @@
+-- What a command line comes to over the contents of the files.
+use Rattle.std.specs.Prelude.{◌≡◌, ℕ, ◌-◌, ltb, if◌then◌else◌, List, [], ◌∷◌, ◌++◌, length, Option, Some, None, codes}
+use Rattle.std.specs.FinMap.{get}
+use Rattle.tool_io.specs.Outside.{Contents}
+use Rattle.tools_cli.specs.Words.{Text, Task, Merge, task_of, inputs_of}
+use Rattle.tools_cli.specs.Effects.{Entry}
+use Rattle.tools_cli.specs.SmallFile.{header, IsSmall}
+
+-- The most bytes that all input files of a command have together.
+abbrev pub most_input : ℕ
+most_input = 16777216
+
+-- What a command line comes to: it asks for no task; a file is missing when its turn comes; it is refused with a text; or it is done, with
+-- these writes in order and then these lines on standard output.
+pub data Job : Type 0 where
+  Usage : Job
+  Missing : Job
+  Refused : Text → Job
+  Done : List Entry → Text → Job
+
+-- The text of a refusal, without what stands before and behind it.
+abbrev pub not_built : Text → Text
+not_built file = file ++ codes ": not built yet"
+
+-- What comes of reading files in order: the name and the contents of each, or a first one that is missing or too long.
+pub data Gathered : Type 0 where
+  Whole : List Entry → Gathered
+  Lacks : Text → Gathered
+  TooLong : Text → Gathered
+
+abbrev pub add_first : Entry → Gathered → Gathered
+add_first file (Whole rest) = Whole (file ∷ rest)
+add_first file other = other
+
+-- One file of this name, where `left` bytes may still be read, and then the rest.
+abbrev pub add_file : Text → ℕ → Option Text → (ℕ → Gathered) → Gathered
+add_file name left None rest = Lacks name
+add_file name left (Some bytes) rest = if ltb left (length bytes) then TooLong name else add_first (name, bytes) (rest (left - length bytes))
+
+-- The files of these names in order, with at most this many bytes together.
+abbrev pub gathered : List Text → Contents → ℕ → Gathered
+gathered [] files most = Whole []
+gathered (name ∷ names) files most = add_file name most (get files name) (gathered names files)
+
+-- What a merge of one file into this output comes to.
+pub data Merges (output : Text) : List Entry → Job → Type 0 where
+  not_small : (file bytes : Text) → (IsSmall bytes → ⊥) → Merges output ((file, bytes) ∷ []) (Refused (not_built file))
+  same_tree : (file bytes : Text) → IsSmall bytes → Merges output ((file, bytes) ∷ []) (Done ((output, header) ∷ []) [])
+
+-- What a task's work on its input files comes to.
+abbrev pub Decides : Task → List Entry → Job → Type 0
+Decides (Merge file name output) = Merges output
+
+-- What a task comes to: its files are read in order, and then it is decided over them.
+pub data TaskJob (task : Task) (files : Contents) : Job → Type 0 where
+  missing : (name : Text) → gathered (inputs_of task) files most_input ≡ Lacks name → TaskJob task files Missing
+  too_long : (name : Text) → gathered (inputs_of task) files most_input ≡ TooLong name → TaskJob task files (Refused (not_built name))
+  decided : (inputs : List Entry) (job : Job) → gathered (inputs_of task) files most_input ≡ Whole inputs → Decides task inputs job → TaskJob task files job
+
+-- The job of a command line.
+pub data HasJob (words : List Text) (files : Contents) : Job → Type 0 where
+  no_task : task_of words ≡ None → HasJob words files Usage
+  asked : (task : Task) (job : Job) → task_of words ≡ Some task → TaskJob task files job → HasJob words files job
