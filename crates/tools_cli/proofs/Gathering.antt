@@ -6,8 +6,10 @@ use Rattle.tools_cli.proofs.Pieces.{append-nil}
 use Rattle.std.proofs.Math.Seq.{drop-cons}
 use Rattle.tool_io.specs.Outside.{Contents, first_bytes}
 use Rattle.tools_cli.specs.Words.{Text}
-use Rattle.tools_cli.specs.Job.{Gathered, Whole, Lacks, TooLong, add_first, add_file, gathered, not_built}
-use Rattle.tools_cli.specs.Causes.{turns, turns_after}
+use Rattle.tools_cli.specs.Job.{Gathered, Whole, Lacks, TooLong, add_first, add_file, gathered}
+use Rattle.tools_cli.specs.Texts.{over_limit}
+use Rattle.wasm_tree.specs.declared.which.Which.TheVariants.{InputBytes}
+use Rattle.tools_cli.specs.Causes.{turns, turns_after, total}
 use Rattle.tools_cli.specs.Command.{names_of, input_entry, input_entries}
 use Rattle.tools_cli.specs.Effects.{Entry}
 use Rattle.tools_cli.specs.declared.gather.Input.{Input}
@@ -91,8 +93,8 @@ too_long (Some held) names i d most left read bytes h before got long =
 pub too_long_told : (o : Option Contents) (names : List (Bor Text)) (i : ℕ) (d : Bor Text) (most left : ℕ) (read : List Entry) (bytes text : Text) → i < length names
     → IfSome o (λ held. gathered (names_of names) held most ≡ add_all read (gathered (names_of (drop i names)) held left))
     → IfSome o (λ held. first_bytes held (get_or names i d).now (left + 1) ≡ Some bytes)
-    → left < length bytes → text ≡ not_built (get_or names i d).now
-    → IfSome o (λ held. (name : Text) × (gathered (names_of names) held most ≡ TooLong name) × (text ≡ not_built name))
+    → left < length bytes → text ≡ over_limit (get_or names i d).now InputBytes
+    → IfSome o (λ held. (name : Text) × (gathered (names_of names) held most ≡ TooLong name) × (text ≡ over_limit name InputBytes))
 too_long_told None names i d most left read bytes text h before got long is = tt
 too_long_told (Some held) names i d most left read bytes text h before got long is =
     ((get_or names i d).now, too_long (Some held) names i d most left read bytes h before got long, is)
@@ -186,3 +188,14 @@ pub all_names : (names : List (Bor Text)) (i : ℕ) (read : List Input) → leng
     → read_names (input_entries read) ≡ names_of names
 all_names names i read h before =
     sym (before ∙ ap (λ ns. read_names (input_entries read) ++ names_of ns) (drop_all i names h) ∙ append-nil _)
+
+-- one file more in the total
+total-append : (xs ys : List Entry) → total (xs ++ ys) ≡ total xs + total ys
+total-append [] ys = let same : total ys ≡ 0 + total ys = omega arith in same
+total-append (x ∷ xs) ys = let more : total (xs ++ ys) ≡ total xs + total ys = total-append xs ys in omega arith
+
+pub one_total_more : (read : List Input) (input : Input) (left most : ℕ) → total (input_entries read) + left ≡ most → length input.bytes.items ≤ left
+    → total (input_entries (read ++ input ∷ [])) + (left - length input.bytes.items) ≡ most
+one_total_more read input left most before fits =
+    let more : total (input_entries (read ++ input ∷ [])) ≡ total (input_entries read) + (length input.bytes.items + 0) = ap total (map-append input_entry read (input ∷ [])) ∙ total-append (input_entries read) (input_entry input ∷ []) in
+    omega arith

@@ -2,5 +2,4 @@ pub mod Pieces
 pub mod Gathering
 pub mod Performing
 pub mod Running
-pub mod Headers
 pub mod Deciding

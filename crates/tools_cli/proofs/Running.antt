@@ -5,15 +5,19 @@ use Rattle.tool_io.specs.Outside.{Contents, Becomes, AppendsPrefix}
 use Rattle.tool_io.proofs.Steps.{rose_earlier, becomes_itself, becomes_weaker, becomes_same}
 use Rattle.tools_cli.specs.Words.{Text, Task, task_of, inputs_of, outputs_of}
 use Rattle.tools_cli.specs.Effects.{Entry, made, IsCut, written_names}
-use Rattle.tools_cli.specs.Job.{Job, Usage, Refused, Done, Whole, TooLong, gathered, most_input, not_built, Decides, TaskJob, too_long, decided, HasJob, no_task, asked}
-use Rattle.tools_cli.specs.Stop.{IsLine, usage, not_built_line, cannot_read_line, cannot_write_line, cannot_print_line, no_memory_line, no_memory, stop_line, line_of, refusal_text, Says, Reports}
+use Rattle.tools_cli.specs.Job.{Job, Usage, Refused, Done, Whole, TooLong, gathered, most_input, Decides, TaskJob, too_long, decided, HasJob, no_task, asked}
+use Rattle.tools_cli.specs.Stop.{IsLine, usage, fault_line, output_line, cannot_read_line, cannot_write_line, cannot_print_line, no_memory_line, no_memory, stop_line, line_of, refusal_text, Says, Reports}
 use Rattle.tools_cli.specs.Causes.{FailsAtItsTurn, StopsGathering, StopsDeciding, StopsPreparing, StopsFinishing, AreOutputs, AllWritten, PrintsAfter}
 use Rattle.tools_cli.specs.Run.{Outside, StopsWork, ChangesByTheJob, PrintsForTheJob, EndsDone, Gains, IsSame, HasOutsideCause, HasStatus, SomeRose}
 use Rattle.tools_cli.specs.declared.stop.Status.{Status}
 use Rattle.tools_cli.specs.declared.stop.Status.TheVariants as status
 use Rattle.tools_cli.specs.declared.stop.Stop.{Stop}
 use Rattle.tools_cli.specs.declared.stop.Stop.TheVariants as stop
-use Rattle.tools_cli.specs.declared.stop.Refusal.TheVariants.{NotBuilt}
+use Rattle.tools_cli.specs.Texts.{over_limit}
+use Rattle.wasm_tree.specs.declared.which.Which.TheVariants.{InputBytes}
+use Rattle.tools_cli.specs.declared.refusal.Refusal.{Refusal}
+use Rattle.tools_cli.specs.declared.refusal.Refusal.TheVariants as refusal
+use Rattle.wasm_format.specs.declared.fault.ReadFault.TheVariants as fault
 use Rattle.tools_cli.proofs.Pieces.{prefix_none}
 
 -- a task's job from the contents of its inputs
@@ -22,7 +26,7 @@ decided_at None t inputs job g d = tt
 decided_at (Some a) t inputs job g d = decided inputs job g d
 
 -- and from a file that is too long
-too_long_at : (held : Option Contents) (t : Task) (text : Text) → IfSome held (λ a. (name : Text) × (gathered (inputs_of t) a most_input ≡ TooLong name) × (text ≡ not_built name)) → IfSome held (λ a. TaskJob t a (Refused text))
+too_long_at : (held : Option Contents) (t : Task) (text : Text) → IfSome held (λ a. (name : Text) × (gathered (inputs_of t) a most_input ≡ TooLong name) × (text ≡ over_limit name InputBytes)) → IfSome held (λ a. TaskJob t a (Refused text))
 too_long_at None t text h = tt
 too_long_at (Some a) t text (name, g, e) = let P : Text → Type 0 = λ x. TaskJob t a (Refused x) in subst P (sym e) (too_long name g)
 
@@ -136,10 +140,20 @@ prepare_stops words t old new (stop.Usage line) e files out h = absurd h
 prepare_stops words t old new (stop.CannotWrite name) e files out h = absurd h
 prepare_stops words t old new stop.CannotPrint e files out h = absurd h
 
+-- what is told of a refusal is one of the lines
+refusal_line : (refusal : Refusal) → IsLine (stop_line (refusal_text refusal))
+refusal_line (refusal.NotModule file) = fault_line file.now _ fault.NotModule refl
+refusal_line (refusal.MalformedSection file section) = fault_line file.now _ (fault.Malformed section.number) refl
+refusal_line (refusal.MalformedFunction file func) = fault_line file.now _ (fault.MalformedBody func.number) refl
+refusal_line (refusal.UnsupportedSection file section) = fault_line file.now _ (fault.Unsupported section.number None) refl
+refusal_line (refusal.UnsupportedFunction file func) = fault_line file.now _ (fault.Unsupported 0 (Some func.number)) refl
+refusal_line (refusal.Limit file which) = fault_line file.now _ (fault.Limit which) refl
+refusal_line (refusal.TooMany which) = output_line which
+
 -- what is told of a stop is one of the lines
 line_is : (words : List Text) (old new : Outside) (s : Stop) → StopsWork words old new s → IsLine (line_of s)
 line_is words old new (stop.Usage line) h = subst IsLine (sym h.1) (usage words)
-line_is words old new (stop.Refused (NotBuilt file)) h = not_built_line file.now
+line_is words old new (stop.Refused refusal) h = refusal_line refusal
 line_is words old new (stop.CannotRead file) h = cannot_read_line file.now
 line_is words old new (stop.CannotWrite file) h = cannot_write_line (string_bytes file)
 line_is words old new stop.CannotPrint h = cannot_print_line

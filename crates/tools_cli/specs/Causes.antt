@@ -1,9 +1,13 @@
 -- When each stop of a command comes.
-use Rattle.std.specs.Prelude.{◌≡◌, ◌⊎◌, ℕ, ◌-◌, ltb, if◌then◌else◌, List, [], ◌∷◌, length, map, Contains, Option, Some, None, IfSome, string_bytes}
+use Rattle.std.specs.Prelude.{◌≡◌, ◌⊎◌, ℕ, ◌+◌, ◌-◌, ◌<◌, ltb, if◌then◌else◌, List, [], ◌∷◌, length, map, Contains, Option, Some, None, Err, IfSome, string_bytes}
 use Rattle.std.specs.FinMap.{get}
 use Rattle.tool_io.specs.Outside.{Contents, Rose, Becomes, AppendsPrefix}
 use Rattle.tools_cli.specs.Words.{Text, Task, inputs_of, outputs_of}
-use Rattle.tools_cli.specs.Job.{TooLong, gathered, Job, Decides, TaskJob, most_input, not_built}
+use Rattle.tools_cli.specs.Job.{TooLong, gathered, Job, Decides, TaskJob, Loads, most_input, most_output}
+use Rattle.tools_cli.specs.Texts.{over_limit, output_over_limit}
+use Rattle.wasm_tree.specs.declared.module.Module.{Module}
+use Rattle.wasm_tree.specs.declared.which.Which.TheVariants.{InputBytes, OutputBytes}
+use Rattle.wasm_write.specs.Plain.{plain}
 use Rattle.tools_cli.specs.Job as job
 use Rattle.tools_cli.specs.Effects.{Entry, made, written_names}
 use Rattle.tools_cli.specs.Stop.{refusal_text}
@@ -28,7 +32,7 @@ FailsAtItsTurn held before now names most file =
 -- Why reading the files of these names in order stops.
 abbrev pub StopsGathering : Option Contents → (Text → ℕ) → (Text → ℕ) → List Text → ℕ → Stop → Type 0
 StopsGathering held before now names most (Refused refusal) =
-    IfSome held (λ files. (name : Text) × (gathered names files most ≡ TooLong name) × (refusal_text refusal ≡ not_built name))
+    IfSome held (λ files. (name : Text) × (gathered names files most ≡ TooLong name) × (refusal_text refusal ≡ over_limit name InputBytes))
 StopsGathering held before now names most (CannotRead file) = FailsAtItsTurn held before now names most file.now
 StopsGathering held before now names most NoMemory = Unit {0}
 StopsGathering held before now names most _ = ⊥
@@ -36,6 +40,23 @@ StopsGathering held before now names most _ = ⊥
 -- These are the inputs of the task, by their names.
 abbrev pub AreInputs : Task → List Entry → Type 0
 AreInputs task inputs = map (λ e. e.0) inputs ≡ inputs_of task
+
+-- How many bytes the inputs have together.
+abbrev pub total : List Entry → ℕ
+total [] = 0
+total (e ∷ es) = length e.1 + total es
+
+-- Why loading a module from a file's contents stops.
+abbrev pub StopsLoading : Text → Text → Stop → Type 0
+StopsLoading file bytes (Refused refusal) = Loads file bytes (Err (refusal_text refusal))
+StopsLoading file bytes NoMemory = Unit {0}
+StopsLoading file bytes _ = ⊥
+
+-- Why encoding a tree stops.
+abbrev pub StopsEncoding : Module → Stop → Type 0
+StopsEncoding tree (Refused refusal) = (most_output < length (plain tree)) × (refusal_text refusal ≡ output_over_limit OutputBytes)
+StopsEncoding tree NoMemory = Unit {0}
+StopsEncoding tree _ = ⊥
 
 -- Why deciding over the inputs stops.
 abbrev pub StopsDeciding : Task → List Entry → Stop → Type 0

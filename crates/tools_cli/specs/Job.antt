@@ -1,14 +1,24 @@
 -- What a command line comes to over the contents of the files.
-use Rattle.std.specs.Prelude.{◌≡◌, ℕ, ◌-◌, ltb, if◌then◌else◌, List, [], ◌∷◌, ◌++◌, length, Option, Some, None, codes}
+use Rattle.std.specs.Prelude.{◌≡◌, ℕ, ◌-◌, ◌<◌, ◌≤◌, ltb, if◌then◌else◌, false, List, [], ◌∷◌, length, Option, Some, None, Result, Ok, Err}
 use Rattle.std.specs.FinMap.{get}
 use Rattle.tool_io.specs.Outside.{Contents}
 use Rattle.tools_cli.specs.Words.{Text, Task, Merge, task_of, inputs_of}
 use Rattle.tools_cli.specs.Effects.{Entry}
-use Rattle.tools_cli.specs.SmallFile.{header, IsSmall}
+use Rattle.tools_cli.specs.Texts.{fault_text, over_limit, output_over_limit}
+use Rattle.wasm_tree.specs.declared.module.Module.{Module}
+use Rattle.wasm_tree.specs.declared.which.Which.TheVariants.{InputBytes, OutputBytes}
+use Rattle.wasm_format.specs.declared.fault.ReadFault.{ReadFault}
+use Rattle.wasm_format.specs.Files.{Spells, Within}
+use Rattle.wasm_format.specs.Contents.{read_fault}
+use Rattle.wasm_write.specs.Plain.{plain}
 
 -- The most bytes that all input files of a command have together.
 abbrev pub most_input : ℕ
 most_input = 16777216
+
+-- The most bytes of one output.
+abbrev pub most_output : ℕ
+most_output = 268435456
 
 -- What a command line comes to: it asks for no task; a file is missing when its turn comes; it is refused with a text; or it is done, with
 -- these writes in order and then these lines on standard output.
@@ -17,10 +27,6 @@ pub data Job : Type 0 where
   Missing : Job
   Refused : Text → Job
   Done : List Entry → Text → Job
-
--- The text of a refusal, without what stands before and behind it.
-abbrev pub not_built : Text → Text
-not_built file = file ++ codes ": not built yet"
 
 -- What comes of reading files in order: the name and the contents of each, or a first one that is missing or too long.
 pub data Gathered : Type 0 where
@@ -42,10 +48,16 @@ abbrev pub gathered : List Text → Contents → ℕ → Gathered
 gathered [] files most = Whole []
 gathered (name ∷ names) files most = add_file name most (get files name) (gathered names files)
 
+-- What a file's contents come to: the tree that they spell within the limits, or the text of their first fault.
+pub data Loads (file bytes : Text) : Result Module Text → Type 0 where
+  loaded : (tree : Module) → Spells bytes tree false → Within bytes false → Loads file bytes (Ok tree)
+  faulty : (fault : ReadFault) (text : Text) → read_fault bytes false ≡ Some fault → fault_text file fault ≡ Some text → Loads file bytes (Err text)
+
 -- What a merge of one file into this output comes to.
 pub data Merges (output : Text) : List Entry → Job → Type 0 where
-  not_small : (file bytes : Text) → (IsSmall bytes → ⊥) → Merges output ((file, bytes) ∷ []) (Refused (not_built file))
-  same_tree : (file bytes : Text) → IsSmall bytes → Merges output ((file, bytes) ∷ []) (Done ((output, header) ∷ []) [])
+  not_loaded : (file bytes text : Text) → Loads file bytes (Err text) → Merges output ((file, bytes) ∷ []) (Refused text)
+  too_large : (file bytes : Text) (tree : Module) → Loads file bytes (Ok tree) → most_output < length (plain tree) → Merges output ((file, bytes) ∷ []) (Refused (output_over_limit OutputBytes))
+  written : (file bytes : Text) (tree : Module) → Loads file bytes (Ok tree) → length (plain tree) ≤ most_output → Merges output ((file, bytes) ∷ []) (Done ((output, plain tree) ∷ []) [])
 
 -- What a task's work on its input files comes to.
 abbrev pub Decides : Task → List Entry → Job → Type 0
@@ -54,7 +66,7 @@ Decides (Merge file name output) = Merges output
 -- What a task comes to: its files are read in order, and then it is decided over them.
 pub data TaskJob (task : Task) (files : Contents) : Job → Type 0 where
   missing : (name : Text) → gathered (inputs_of task) files most_input ≡ Lacks name → TaskJob task files Missing
-  too_long : (name : Text) → gathered (inputs_of task) files most_input ≡ TooLong name → TaskJob task files (Refused (not_built name))
+  too_long : (name : Text) → gathered (inputs_of task) files most_input ≡ TooLong name → TaskJob task files (Refused (over_limit name InputBytes))
   decided : (inputs : List Entry) (job : Job) → gathered (inputs_of task) files most_input ≡ Whole inputs → Decides task inputs job → TaskJob task files job
 
 -- The job of a command line.

@@ -1,6 +1,6 @@
 pub mod Words
 pub mod Effects
-pub mod SmallFile
+pub mod Texts
 pub mod Job
 pub mod Command
 pub mod Stop

@@ -1,12 +1,14 @@
 -- How a command ends, and what is said of it.
-use Rattle.std.specs.Prelude.{◌≡◌, ◌⊎◌, ℕ, ◌++◌, List, Option, codes, string_bytes}
+use Rattle.std.specs.Prelude.{◌≡◌, ◌⊎◌, ℕ, ◌++◌, List, Option, Some, codes, string_bytes}
 use Rattle.tool_io.specs.Outside.{Becomes, Rose, AppendsPrefix}
 use Rattle.tools_cli.specs.Words.{Text, usage_line}
-use Rattle.tools_cli.specs.Job.{not_built}
+use Rattle.tools_cli.specs.Texts.{fault_text, not_module, malformed_section, malformed_function, unsupported_section, unsupported_function, over_limit, output_over_limit}
+use Rattle.wasm_tree.specs.declared.which.Which.{Which}
+use Rattle.wasm_format.specs.declared.fault.ReadFault.{ReadFault}
 use Rattle.tools_cli.specs.declared.stop.Status.{Status}
 use Rattle.tools_cli.specs.declared.stop.Status.TheVariants as status
-use Rattle.tools_cli.specs.declared.stop.Refusal.{Refusal}
-use Rattle.tools_cli.specs.declared.stop.Refusal.TheVariants.{NotBuilt}
+use Rattle.tools_cli.specs.declared.refusal.Refusal.{Refusal}
+use Rattle.tools_cli.specs.declared.refusal.Refusal.TheVariants.{NotModule, MalformedSection, MalformedFunction, UnsupportedSection, UnsupportedFunction, Limit, TooMany}
 use Rattle.tools_cli.specs.declared.stop.Stop.{Stop}
 use Rattle.tools_cli.specs.declared.stop.Stop.TheVariants.{Usage, Refused, CannotRead, CannotWrite, CannotPrint, NoMemory}
 
@@ -37,7 +39,8 @@ no_memory = codes "no memory"
 -- The lines that may be put on standard error.
 pub data IsLine : Text → Type 0 where
   usage : (words : List Text) → IsLine (usage_line words)
-  not_built_line : (file : Text) → IsLine (stop_line (not_built file))
+  fault_line : (file text : Text) (fault : ReadFault) → fault_text file fault ≡ Some text → IsLine (stop_line text)
+  output_line : (which : Which) → IsLine (stop_line (output_over_limit which))
   cannot_read_line : (file : Text) → IsLine (stop_line (cannot_read file))
   cannot_write_line : (file : Text) → IsLine (stop_line (cannot_write file))
   cannot_print_line : IsLine (stop_line cannot_print)
@@ -57,7 +60,13 @@ status_of NoMemory = status.NoMemory
 
 -- The text of a refusal.
 abbrev pub refusal_text : Refusal → Text
-refusal_text (NotBuilt file) = not_built file.now
+refusal_text (NotModule file) = not_module file.now
+refusal_text (MalformedSection file section) = malformed_section file.now section.number
+refusal_text (MalformedFunction file func) = malformed_function file.now func.number
+refusal_text (UnsupportedSection file section) = unsupported_section file.now section.number
+refusal_text (UnsupportedFunction file func) = unsupported_function file.now func.number
+refusal_text (Limit file which) = over_limit file.now which
+refusal_text (TooMany which) = output_over_limit which
 
 -- What is put on standard error.
 abbrev pub line_of : Stop → Text

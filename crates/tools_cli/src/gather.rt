@@ -1,13 +1,15 @@
 // The inputs of a command, read in order.
-ghost use Rattle.std.specs.Prelude.{◌≡◌, ◌<◌, ◌^◌, map, IfOk, IfErr, IfSome};
+ghost use Rattle.std.specs.Prelude.{◌≡◌, ◌<◌, ◌≤◌, ◌^◌, map, IfOk, IfErr, IfSome};
 ghost use Rattle.tool_io.specs.Outside.{NoneFell};
 ghost use Rattle.tools_cli.specs.Job.{gathered, Whole};
 ghost use Rattle.tools_cli.specs.Command.{names_of, input_entries};
-ghost use Rattle.tools_cli.specs.Causes.{StopsGathering};
+ghost use Rattle.tools_cli.specs.Causes.{StopsGathering, total};
 
-use crate::stop::{Refusal, Stop};
+use crate::refusal::Refusal;
+use crate::stop::Stop;
 use std::alloc::Global;
 use tool_io::{Files, IoFault};
+use wasm_tree::Which;
 
 /// The most bytes that all input files of a command have together.
 pub(crate) const MOST_INPUT: usize = 16_777_216;
@@ -32,6 +34,7 @@ pub(crate) fn gather<'a, F: Files>(
     ensures writes { NoneFell (F.write_faults files.old) (F.write_faults files.new) }
     ensures whole { IfOk result (λ inputs. IfSome (F.contents files.old) (λ held. gathered (names_of names.now) held most ≡ Whole (input_entries inputs.items))) }
     ensures names { IfOk result (λ inputs. map (λ e. e.0) (input_entries inputs.items) ≡ names_of names.now) }
+    ensures room { IfOk result (λ inputs. total (input_entries inputs.items) ≤ most) }
     ensures stops { IfErr result (StopsGathering (F.contents files.old) (F.read_faults files.old) (F.read_faults files.new) (names_of names.now) most) }
 {
     let mut inputs = Vec::new(alloc);
@@ -40,7 +43,10 @@ pub(crate) fn gather<'a, F: Files>(
         match files.read(alloc, name, left + 1) {
             Ok(bytes) => {
                 if bytes.len() > left {
-                    return Err(Stop::Refused(Refusal::NotBuilt { file: name }));
+                    return Err(Stop::Refused(Refusal::Limit {
+                        file: name,
+                        which: Which::InputBytes,
+                    }));
                 }
                 left -= bytes.len();
                 if inputs.push(Input { name, bytes }).is_err() {

@@ -1,17 +1,23 @@
 // What a command comes to over its inputs.
-ghost use Rattle.std.specs.Prelude.{◌≡◌, ◌∷◌, [], IfOk, IfErr};
+ghost use Rattle.std.specs.Prelude.{◌≡◌, ◌≤◌, ◌<◌, ◌^◌, ◌∷◌, [], length, Ok, IfOk, IfErr, IsTrue};
+ghost use Rattle.wasm_tree.specs.MemoryZero.{memory_zero_funcs};
+ghost use Rattle.wasm_write.specs.Plain.{plain};
 ghost use Rattle.tools_cli.specs.Command.{task, input_entries, output_entries};
-ghost use Rattle.tools_cli.specs.Job.{Decides, Done};
-ghost use Rattle.tools_cli.specs.SmallFile.{header};
-ghost use Rattle.tools_cli.specs.Causes.{AreInputs, StopsDeciding, AreOutputs};
+ghost use Rattle.tools_cli.specs.Job.{Decides, Done, Loads, most_input, most_output};
+ghost use Rattle.tools_cli.specs.Causes.{AreInputs, total, StopsLoading, StopsEncoding, StopsDeciding, AreOutputs};
 
 use crate::gather::Input;
 use crate::perform::Output;
-use crate::stop::{Refusal, Stop};
+use crate::refusal::Refusal;
+use crate::stop::Stop;
 use crate::words::Merge;
 use std::alloc::{AllocError, Global};
+use wasm_read::read;
+use wasm_tree::{Module, Which};
+use wasm_write::{fits, write};
 
-const HEADER: [u8; 8] = [0x00, 0x61, 0x73, 0x6D, 0x01, 0x00, 0x00, 0x00];
+/// The most bytes of one output.
+const MOST_OUTPUT: u32 = 268_435_456;
 
 /// What is to be written, and the lines for standard output.
 #[derive(Drop)]
@@ -20,19 +26,49 @@ pub(crate) struct Plan {
     pub(crate) lines: Vec<u8>,
 }
 
-// One file and no lines.
-fn header_to(alloc: Global, name: &str) -> Result<Plan, AllocError>
-    ensures { IfOk result (λ plan. (output_entries plan.outputs.items ≡ (name.now, header) ∷ []) × (plan.lines.items ≡ [])) }
+// The module that a file holds.
+fn load<'a>(alloc: Global, input: &Input<'a>) -> Result<Module, Stop<'a>>
+    requires { length input.now.bytes.items < 2 ^ 32 }
+    ensures loaded { IfOk result (λ tree. Loads input.now.name.now input.now.bytes.items (Ok tree)) }
+    ensures memory_zero { IfOk result (λ tree. IsTrue (memory_zero_funcs tree.funcs)) }
+    ensures stops { IfErr result (StopsLoading input.now.name.now input.now.bytes.items) }
 {
+    match read(alloc, input.bytes.as_slice()) {
+        Ok(tree) => Ok(tree),
+        Err(fault) => match Refusal::of_fault(alloc, input.name, fault) {
+            Ok(refusal) => Err(Stop::Refused(refusal)),
+            Err(_) => Err(Stop::NoMemory),
+        },
+    }
+}
+
+// One file and no lines.
+fn one_output(alloc: Global, name: &str, bytes: Vec<u8>) -> Result<Plan, AllocError>
+    ensures { IfOk result (λ plan. (output_entries plan.outputs.items ≡ (name.now, bytes.items) ∷ []) × (plan.lines.items ≡ [])) }
+{
+    let name = String::from_str(alloc, name)?;
     let mut outputs = Vec::new(alloc);
-    outputs.push(Output {
-        name: String::from_str(alloc, name)?,
-        bytes: HEADER.to_vec(alloc)?,
-    })?;
-    Ok(Plan {
-        outputs,
-        lines: Vec::new(alloc),
-    })
+    outputs.push(Output { name, bytes })?;
+    let lines = Vec::new(alloc);
+    Ok(Plan { outputs, lines })
+}
+
+// The tree encoded, as the one output.
+fn encode<'a>(alloc: Global, tree: &Module, output: &str) -> Result<Plan, Stop<'a>>
+    requires { IsTrue (memory_zero_funcs tree.now.funcs) }
+    ensures plan { IfOk result (λ plan. (length (plain tree.now) ≤ most_output) × (output_entries plan.outputs.items ≡ (output.now, plain tree.now) ∷ []) × (plan.lines.items ≡ [])) }
+    ensures stops { IfErr result (StopsEncoding tree.now) }
+{
+    if !fits(tree, MOST_OUTPUT) {
+        return Err(Stop::Refused(Refusal::TooMany { which: Which::OutputBytes }));
+    }
+    let Ok(bytes) = write(alloc, tree) else {
+        return Err(Stop::NoMemory);
+    };
+    match one_output(alloc, output, bytes) {
+        Ok(plan) => Ok(plan),
+        Err(_) => Err(Stop::NoMemory),
+    }
 }
 
 /// Decides over the inputs of a command.
@@ -41,17 +77,14 @@ pub(crate) fn decide<'a>(
     merge: &Merge<'a>,
     inputs: &[Input<'a>],
 ) -> Result<Plan, Stop<'a>>
-    requires { AreInputs (task merge.now) (input_entries inputs.now) }
+    requires named { AreInputs (task merge.now) (input_entries inputs.now) }
+    requires room { total (input_entries inputs.now) ≤ most_input }
     ensures plan { IfOk result (λ plan. Decides (task merge.now) (input_entries inputs.now) (Done (output_entries plan.outputs.items) plan.lines.items)) }
     ensures outputs { IfOk result (λ plan. AreOutputs (task merge.now) (output_entries plan.outputs.items)) }
     ensures stops { IfErr result (StopsDeciding (task merge.now) (input_entries inputs.now)) }
 {
-    let input = &inputs[0];
-    if input.bytes.as_slice() != HEADER.as_slice() {
-        return Err(Stop::Refused(Refusal::NotBuilt { file: input.name }));
-    }
-    match header_to(alloc, merge.output) {
-        Ok(plan) => Ok(plan),
-        Err(_) => Err(Stop::NoMemory),
+    match load(alloc, &inputs[0]) {
+        Ok(tree) => encode(alloc, &tree, merge.output),
+        Err(stop) => Err(stop),
     }
 }

@@ -4,6 +4,7 @@ ghost use Rattle.tool_io.specs.Outside.{Becomes, AppendsPrefix};
 ghost use Rattle.tools_cli.specs.Stop.{status_of, line_of, code_of, Reports};
 
 use crate::put::put_all;
+use crate::refusal::{Refusal, refusal_pieces};
 use tool_io::{IoFault, Sink};
 
 /// How a command ended.
@@ -36,12 +37,6 @@ impl Status {
     }
 }
 
-/// What is wrong with the input.
-#[derive(Drop)]
-pub(crate) enum Refusal<'a> {
-    NotBuilt { file: &'a str },
-}
-
 /// Why a command does not end as done.
 #[derive(Drop)]
 pub(crate) enum Stop<'a> {
@@ -68,16 +63,16 @@ impl Stop<'_> {
 }
 
 // The line of a stop, in pieces.
-fn pieces<'a>(stop: &'a Stop<'a>) -> [&'a str; 4]
+fn pieces<'a>(stop: &'a Stop<'a>) -> [&'a str; 5]
     ensures { flat_map (λ p. p.now) result ≡ line_of stop.now }
 {
     match stop {
-        Stop::Usage(line) => [line, "", "", ""],
-        Stop::Refused(Refusal::NotBuilt { file }) => ["binkit: ", file, ": not built yet", "\n"],
-        Stop::CannotRead(file) => ["binkit: ", "cannot read ", file, "\n"],
-        Stop::CannotWrite(file) => ["binkit: ", "cannot write ", file.as_str(), "\n"],
-        Stop::CannotPrint => ["binkit: ", "cannot write standard output", "", "\n"],
-        Stop::NoMemory => ["binkit: ", "no memory", "", "\n"],
+        Stop::Usage(line) => [line, "", "", "", ""],
+        Stop::Refused(refusal) => refusal_pieces(refusal),
+        Stop::CannotRead(file) => ["binkit: ", "cannot read ", file, "", "\n"],
+        Stop::CannotWrite(file) => ["binkit: ", "cannot write ", file.as_str(), "", "\n"],
+        Stop::CannotPrint => ["binkit: ", "cannot write standard output", "", "", "\n"],
+        Stop::NoMemory => ["binkit: ", "no memory", "", "", "\n"],
     }
 }
 

@@ -1,7 +1,7 @@
 use Rattle.std.proofs.Common.{◌≡◌, ◌∙◌, ℕ, ◌+◌, ◌-◌, ◌≤◌, ◌<◌, arith, rules, List, [], ◌∷◌, ◌++◌, length, get_or, Bor, IfSome, Some, refl}
 use Rattle.tool_io.specs.Outside.{first_bytes}
 use Rattle.tool_io.proofs.Steps.{rose_earlier}
-use Rattle.tools_cli.proofs.Gathering.{one_file_more, one_turn_more, too_long_told, this_turn, contains_name, same_read, one_name_more}
+use Rattle.tools_cli.proofs.Gathering.{one_file_more, one_turn_more, too_long_told, this_turn, contains_name, same_read, one_name_more, one_total_more}
 use Rattle.tools_cli.specs.Command.{input_entries}
 use Rattle.tools_cli.specs.declared.gather.Input.{Input}
 use Rattle.tools_cli.proofs.gather.gather.Goals as goal
@@ -36,6 +36,7 @@ loop-name-preserved g c =
       writes = λ name. let a = c.loop-name.invariant.writes name in let b = c.read.ensures.writes name in omega arith;
       read = rw (count, pushed) (same_read held c.args.names.now (i + 1) c.args.most (c.loop-name.left - length c.in-Ok.bytes.items) c.loop-name.inputs.items input
           (one_file_more held c.args.names.now i no_name c.args.most c.loop-name.left (input_entries c.loop-name.inputs.items) c.in-Ok.bytes.items c.loop-name-test.true c.loop-name.invariant.read got fits));
+      total = rw (count, pushed) (one_total_more c.loop-name.inputs.items input c.loop-name.left c.args.most c.loop-name.invariant.total fits);
       names = rw pushed (one_name_more c.args.names.now i no_name c.loop-name.inputs.items input c.loop-name-test.true refl c.loop-name.invariant.names);
       turns = rw count (one_turn_more held c.args.names.now i no_name c.args.most c.loop-name.left c.in-Ok.bytes.items c.loop-name-test.true c.loop-name.invariant.turns got fits);
     }

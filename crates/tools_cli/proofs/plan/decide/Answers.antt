@@ -1,21 +1,40 @@
-use Rattle.tools_cli.specs.SmallFile.{header}
-use Rattle.tools_cli.specs.Command.{task}
-use Rattle.tools_cli.specs.Job.{not_small, same_tree}
-use Rattle.tools_cli.proofs.Headers.{differ, agree}
-use Rattle.tools_cli.proofs.Deciding.{one_input, some_input}
+use Rattle.std.proofs.Common.{◌≡◌, ◌≤◌, ◌∷◌, [], length}
+use Rattle.std.proofs.lemmas.Result.{IfOk-weaker, IfErr-weaker}
+use Rattle.wasm_write.specs.Plain.{plain}
+use Rattle.tools_cli.specs.Words.{Merge}
+use Rattle.tools_cli.specs.Command.{task, input_entries, output_entries}
+use Rattle.tools_cli.specs.Job.{Decides, Done, most_output}
+use Rattle.tools_cli.specs.Causes.{StopsEncoding, StopsDeciding}
+use Rattle.tools_cli.proofs.Deciding.{one_input, some_input, short_input, merge_written, encoding_stops, loading_stops}
 use Rattle.tools_cli.proofs.plan.decide.Goals as goal
 
 pub bounds-inputs-0 : goal.bounds-inputs-0
-bounds-inputs-0 c = some_input (task c.args.merge.now) c.args.inputs.now c.requires
+bounds-inputs-0 c = some_input (task c.args.merge.now) c.args.inputs.now c.requires.named
 
-pub returns-then-ne-clause-stops : goal.returns-then-ne-clause-stops
-returns-then-ne-clause-stops c =
-    rw (one_input (task c.args.merge.now) c.args.inputs.now c.index-inputs-0.result c.requires c.index-inputs-0.is)
-    (not_small c.index-inputs-0.result.name.now c.index-inputs-0.result.bytes.items (differ _ header _ _ c.as_slice.ensures.value c.as_slice-2.ensures c.if-ne.ensures))
+pub load-requires : goal.load-requires
+load-requires c = short_input (task c.args.merge.now) c.args.inputs.now c.index-inputs-0.result c.requires.named c.index-inputs-0.is c.requires.room
 
 pub returns-in-Ok-clause-plan : goal.returns-in-Ok-clause-plan
 returns-in-Ok-clause-plan c =
-    let entries = c.in-Ok.ensures.0 in
-    let lines = c.in-Ok.ensures.1 in
-    rw (entries, lines, one_input (task c.args.merge.now) c.args.inputs.now c.index-inputs-0.result c.requires c.index-inputs-0.is)
-    (same_tree c.index-inputs-0.result.name.now c.index-inputs-0.result.bytes.items (agree _ header _ _ c.as_slice.ensures.value c.as_slice-2.ensures c.if-ne.ensures))
+    let m = c.args.merge.now in
+    let tree = c.in-Ok.tree in
+    let one = one_input (task m) c.args.inputs.now c.index-inputs-0.result c.requires.named c.index-inputs-0.is in
+    IfOk-weaker c.encode.result
+    (λ plan. (length (plain tree) ≤ most_output) × (output_entries plan.outputs.items ≡ (m.output.now, plain tree) ∷ []) × (plan.lines.items ≡ []))
+    (λ plan. Decides (task m) (input_entries c.args.inputs.now) (Done (output_entries plan.outputs.items) plan.lines.items))
+    (λ plan h. merge_written m.output.now _ _ plan.lines.items _ _ tree one c.in-Ok.ensures.loaded h.0 h.1 h.2)
+    c.encode.ensures.plan
+
+pub returns-in-Ok-clause-stops : goal.returns-in-Ok-clause-stops
+returns-in-Ok-clause-stops c =
+    let m = c.args.merge.now in
+    let one = one_input (task m) c.args.inputs.now c.index-inputs-0.result c.requires.named c.index-inputs-0.is in
+    IfErr-weaker c.encode.result (StopsEncoding c.in-Ok.tree) (StopsDeciding (task m) (input_entries c.args.inputs.now))
+    (λ s h. encoding_stops m.file.now m.name.now m.output.now _ _ _ c.in-Ok.tree s one c.in-Ok.ensures.loaded h)
+    c.encode.ensures.stops
+
+pub returns-in-Err-clause-stops : goal.returns-in-Err-clause-stops
+returns-in-Err-clause-stops c =
+    let m = c.args.merge.now in
+    let one = one_input (task m) c.args.inputs.now c.index-inputs-0.result c.requires.named c.index-inputs-0.is in
+    loading_stops m.file.now m.name.now m.output.now _ _ _ c.in-Err.stop one c.in-Err.ensures.stops
