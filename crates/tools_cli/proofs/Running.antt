@@ -1,14 +1,14 @@
 -- From the parts of a run to its whole.
 use Rattle.std.proofs.Common.{◌≡◌, ◌∙◌, sym, refl, ap, subst, ℕ, ◌≤◌, List, [], Option, Some, None, IfSome, Contains, OnOk, Result, Ok, Err, string_bytes, inl, inr, ◌⊎◌}
 use Rattle.std.specs.Option.{option_map_or}
-use Rattle.tool_io.specs.Outside.{Contents, Becomes, AppendsPrefix}
+use Rattle.tool_io.specs.Outside.{Contents, Becomes, AppendsPrefix, Rose}
 use Rattle.tool_io.proofs.Steps.{rose_earlier, becomes_itself, becomes_weaker, becomes_same}
 use Rattle.tools_cli.specs.Words.{Text, Task, task_of, inputs_of, outputs_of}
 use Rattle.tools_cli.specs.Effects.{Entry, made, IsCut, written_names}
 use Rattle.tools_cli.specs.Job.{Job, Usage, Refused, Done, Whole, TooLong, gathered, most_input, Decides, TaskJob, too_long, decided, HasJob, no_task, asked}
 use Rattle.tools_cli.specs.Stop.{IsLine, usage, fault_line, output_line, cannot_read_line, cannot_write_line, cannot_print_line, no_memory_line, no_memory, stop_line, line_of, refusal_text, Says, Reports}
 use Rattle.tools_cli.specs.Causes.{FailsAtItsTurn, StopsGathering, StopsDeciding, StopsPreparing, StopsFinishing, AreOutputs, AllWritten, PrintsAfter}
-use Rattle.tools_cli.specs.Run.{Outside, StopsWork, ChangesByTheJob, PrintsForTheJob, EndsDone, Gains, IsSame, HasOutsideCause, HasStatus, SomeRose}
+use Rattle.tools_cli.specs.Run.{IsUsage, Outside, StopsWork, ChangesByTheJob, PrintsForTheJob, EndsDone, Gains, IsSame, HasOutsideCause, HasStatus, SomeRose}
 use Rattle.tools_cli.specs.declared.stop.Status.{Status}
 use Rattle.tools_cli.specs.declared.stop.Status.TheVariants as status
 use Rattle.tools_cli.specs.declared.stop.Stop.{Stop}
@@ -197,3 +197,15 @@ complete_at_stop words old new stop.CannotPrint err err' before now result h (in
 complete_at_stop words old new (stop.Usage line) err err' before now result h (inl p) = inr (inr (usage_status words old.files result h.0 p.0))
 complete_at_stop words old new (stop.Refused refusal) err err' before now result h (inl p) = inr (inr (refused_status words old.files _ result h.0 p.0))
 complete_at_stop words old new stop.NoMemory err err' before now result h (inl p) = inr (inl p.0)
+
+-- a stop because of the words ends as usage, where no put fails
+pub usage_at_stop : (s : Stop) (err err' : Option Text) (before now : ℕ) (result : Status) → IsUsage (Err s) → Reports s err err' before now result
+    → Rose before now ⊎ ((result ≡ status.NoMemory) ⊎ (result ≡ status.Usage))
+usage_at_stop s err err' before now result h (inr (inl p)) = inl p.1
+usage_at_stop s err err' before now result h (inr (inr e)) = inr (inl e)
+usage_at_stop (stop.Usage line) err err' before now result h (inl p) = inr (inr p.0)
+usage_at_stop (stop.Refused refusal) err err' before now result h (inl p) = absurd h
+usage_at_stop (stop.CannotRead name) err err' before now result h (inl p) = absurd h
+usage_at_stop (stop.CannotWrite name) err err' before now result h (inl p) = absurd h
+usage_at_stop stop.CannotPrint err err' before now result h (inl p) = absurd h
+usage_at_stop stop.NoMemory err err' before now result h (inl p) = absurd h

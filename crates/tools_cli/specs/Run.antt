@@ -1,5 +1,5 @@
 -- What a run of the program does to the files and the two sinks.
-use Rattle.std.specs.Prelude.{◌≡◌, ◌⊎◌, ℕ, List, [], ◌++◌, Option, Some, None, IfSome, Contains, string_bytes}
+use Rattle.std.specs.Prelude.{◌≡◌, ◌⊎◌, ℕ, List, [], ◌++◌, Option, Some, None, Result, Err, IfSome, Contains, string_bytes}
 use Rattle.std.specs.Option.{option_map_or}
 use Rattle.tool_io.specs.Outside.{Contents, Rose, Becomes, AppendsPrefix}
 use Rattle.tools_cli.specs.Words.{Text, task_of, inputs_of, outputs_of, usage_line}
@@ -79,6 +79,11 @@ pub record Outside : Type 0 where
   pub writes : Text → ℕ
   pub out : Option Text
   pub out_faults : ℕ
+
+-- The work stops because the words ask for no task.
+abbrev pub IsUsage : Result (Unit {0}) Stop → Type 0
+IsUsage (Err (stop.Usage line)) = Unit {0}
+IsUsage _ = ⊥
 
 -- Why the work stops.
 abbrev pub StopsWork : List Text → Outside → Outside → Stop → Type 0

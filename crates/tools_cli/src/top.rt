@@ -1,6 +1,6 @@
 // The top call.
 ghost use Rattle.std.specs.Prelude.{◌≡◌, ◌≤◌, ◌⊎◌, map, string_bytes, IfSome, None};
-ghost use Rattle.tool_io.specs.Outside.{NoneFell, Becomes};
+ghost use Rattle.tool_io.specs.Outside.{NoneFell, Becomes, Rose};
 ghost use Rattle.tools_cli.specs.Words.{task_of, usage_line};
 ghost use Rattle.tools_cli.specs.Stop.{Says};
 ghost use Rattle.tools_cli.specs.Run.{ChangesByTheJob, PrintsForTheJob, EndsDone, EndsRefused, HasStatus, HasOutsideCause, SomeRose, IsSame, Gains, Outside};
@@ -46,6 +46,8 @@ pub fn run<F: Files, O: Sink, E: Sink>(
         (record { files = F.contents files.new; reads = F.read_faults files.new; writes = F.write_faults files.new; out = O.bytes out.new; out_faults = O.faults out.new })
         (E.faults err.old) (E.faults err.new)
         ⊎ ((result ≡ Status.NoMemory) ⊎ IfSome (F.contents files.old) (λ a. HasStatus (map string_bytes words.now) a result)) }
+    // Words that ask for no task are told so, whatever the files are.
+    ensures no_task { task_of (map string_bytes words.now) ≡ None → Rose (E.faults err.old) (E.faults err.new) ⊎ ((result ≡ Status.NoMemory) ⊎ (result ≡ Status.Usage)) }
 {
     match work(alloc, words, files, out) {
         Ok(()) => Status::Done,

@@ -1,11 +1,12 @@
 // The work of a command, up to what is said of a stop.
-ghost use Rattle.std.specs.Prelude.{◌≡◌, ◌≤◌, ◌++◌, map, string_bytes, OnOk, IfOk, IfErr, IfSome};
+ghost use Rattle.std.specs.Prelude.{◌≡◌, ◌≤◌, ◌++◌, map, string_bytes, OnOk, IfOk, IfErr, IfSome, None};
 ghost use Rattle.tool_io.specs.Outside.{NoneFell, Becomes};
 ghost use Rattle.tools_cli.specs.Effects.{IsCut};
 ghost use Rattle.tools_cli.specs.Job.{TaskJob, Done};
 ghost use Rattle.tools_cli.specs.Command.{task, output_entries};
 ghost use Rattle.tools_cli.specs.Causes.{AreOutputs, StopsPreparing, StopsFinishing, AllWritten, PrintsAfter};
-ghost use Rattle.tools_cli.specs.Run.{ChangesByTheJob, PrintsForTheJob, EndsDone, StopsWork};
+ghost use Rattle.tools_cli.specs.Run.{ChangesByTheJob, PrintsForTheJob, EndsDone, IsUsage, StopsWork};
+ghost use Rattle.tools_cli.specs.Words.{task_of};
 
 use crate::gather::{MOST_INPUT, gather};
 use crate::perform::perform;
@@ -72,6 +73,7 @@ pub(crate) fn work<'a, F: Files, O: Sink>(
     ensures files { Becomes (F.contents files.old) (F.contents files.new) (ChangesByTheJob (map string_bytes words.now)) }
     ensures prints { IfSome (F.contents files.old) (λ a. Becomes (O.bytes out.old) (O.bytes out.new) (PrintsForTheJob (map string_bytes words.now) a (F.contents files.new))) }
     ensures done { OnOk result (IfSome (F.contents files.old) (λ a. EndsDone (map string_bytes words.now) a (F.contents files.new) (O.bytes out.old) (O.bytes out.new))) }
+    ensures no_task { task_of (map string_bytes words.now) ≡ None → IsUsage result }
     ensures stops { IfErr result (StopsWork (map string_bytes words.now)
         (record { files = F.contents files.old; reads = F.read_faults files.old; writes = F.write_faults files.old; out = O.bytes out.old; out_faults = O.faults out.old })
         (record { files = F.contents files.new; reads = F.read_faults files.new; writes = F.write_faults files.new; out = O.bytes out.new; out_faults = O.faults out.new })) }
