@@ -1,18 +1,20 @@
 -- The inputs of a merge.
 use Rattle.std.proofs.Common.{◌≡◌, ◌∙◌, sym, refl, ap, subst, ℕ, ◌⊎◌, inl, inr, false, Option, Some, Result, Ok, Err, ◌+◌, ◌<◌, ◌≤◌, ◌^◌, List, [], ◌∷◌, length, get_or, arith}
 use Rattle.tools_cli.specs.Words.{Text, Task, Merge}
-use Rattle.tools_cli.specs.Job.{Loads, faulty, Merges, not_loaded, too_large, written, Refused, Done, most_input, most_output}
+use Rattle.tools_cli.specs.Job.{Loads, faulty, invalid, loaded, IsRead, IsAccepted, Merges, not_loaded, too_large, written, Refused, Done, most_input, most_output}
 use Rattle.tools_cli.specs.Effects.{Entry}
-use Rattle.tools_cli.specs.Texts.{fault_text, output_over_limit}
+use Rattle.tools_cli.specs.Texts.{fault_text, invalid_text, output_over_limit}
 use Rattle.wasm_tree.specs.declared.module.Module.{Module}
 use Rattle.wasm_tree.specs.declared.which.Which.TheVariants.{OutputBytes}
 use Rattle.wasm_format.specs.declared.fault.ReadFault.{ReadFault}
 use Rattle.wasm_format.specs.declared.fault.ReadFault.TheVariants.{NoMemory}
 use Rattle.wasm_format.specs.Contents.{read_fault}
-use Rattle.wasm_write.specs.Plain.{plain}
+use Rattle.wasm_plain.specs.Plain.{plain}
+use Rattle.wasm_valid.specs.declared.kinds.Invalid.{Invalid}
+use Rattle.wasm_valid.specs.First.{IsFirstInvalid}
 use Rattle.tools_cli.specs.declared.stop.Stop.{Stop}
 use Rattle.tools_cli.specs.declared.stop.Stop.TheVariants as stop
-use Rattle.tools_cli.specs.Causes.{StopsLoading, StopsEncoding, StopsDeciding}
+use Rattle.tools_cli.specs.Causes.{StopsLoading, StopsValidating, StopsEncoding, StopsDeciding}
 use Rattle.tools_cli.specs.Stop.{refusal_text}
 use Rattle.tools_cli.specs.Command.{input_entry, input_entries}
 use Rattle.tools_cli.specs.Causes.{AreInputs, total}
@@ -60,3 +62,15 @@ loading_stops file name output first bytes inputs (stop.Usage line) one h = absu
 loading_stops file name output first bytes inputs (stop.CannotRead r) one h = absurd h
 loading_stops file name output first bytes inputs (stop.CannotWrite r) one h = absurd h
 loading_stops file name output first bytes inputs stop.CannotPrint one h = absurd h
+
+-- a stop of the validating is one of the loading
+pub validating_stops : (file bytes : Text) (tree : Module) (s : Stop) → IsRead bytes tree → StopsValidating file tree s → StopsLoading file bytes s
+validating_stops file bytes tree (stop.Refused refusal) reads (item, first, told) = rw told (invalid tree item reads first)
+validating_stops file bytes tree stop.NoMemory reads h = tt
+validating_stops file bytes tree (stop.Usage line) reads h = absurd h
+validating_stops file bytes tree (stop.CannotRead r) reads h = absurd h
+validating_stops file bytes tree (stop.CannotWrite r) reads h = absurd h
+validating_stops file bytes tree stop.CannotPrint reads h = absurd h
+
+pub loaded_from : (file bytes : Text) (tree valid : Module) → IsRead bytes tree → (valid ≡ tree) × IsAccepted tree → Loads file bytes (Ok valid)
+loaded_from file bytes tree valid reads (same, accepted) = rw same (loaded tree reads accepted)

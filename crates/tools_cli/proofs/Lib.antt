@@ -3,4 +3,3 @@ pub mod Gathering
 pub mod Performing
 pub mod Running
 pub mod Deciding
-pub mod Determined

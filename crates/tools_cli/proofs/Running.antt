@@ -6,7 +6,7 @@ use Rattle.tool_io.proofs.Steps.{rose_earlier, becomes_itself, becomes_weaker, b
 use Rattle.tools_cli.specs.Words.{Text, Task, task_of, inputs_of, outputs_of}
 use Rattle.tools_cli.specs.Effects.{Entry, made, IsCut, written_names}
 use Rattle.tools_cli.specs.Job.{Job, Usage, Refused, Done, Whole, TooLong, gathered, most_input, Decides, TaskJob, too_long, decided, HasJob, no_task, asked}
-use Rattle.tools_cli.specs.Stop.{IsLine, usage, fault_line, output_line, cannot_read_line, cannot_write_line, cannot_print_line, no_memory_line, no_memory, stop_line, line_of, refusal_text, Says, Reports}
+use Rattle.tools_cli.specs.Stop.{IsLine, usage, fault_line, invalid_line, output_line, cannot_read_line, cannot_write_line, cannot_print_line, no_memory_line, no_memory, stop_line, line_of, refusal_text, Says, Reports}
 use Rattle.tools_cli.specs.Causes.{FailsAtItsTurn, StopsGathering, StopsDeciding, StopsPreparing, StopsFinishing, AreOutputs, AllWritten, PrintsAfter}
 use Rattle.tools_cli.specs.Run.{IsUsage, Outside, StopsWork, ChangesByTheJob, PrintsForTheJob, EndsDone, Gains, IsSame, HasOutsideCause, HasStatus, SomeRose}
 use Rattle.tools_cli.specs.declared.stop.Status.{Status}
@@ -148,6 +148,7 @@ refusal_line (refusal.MalformedFunction file func) = fault_line file.now _ (faul
 refusal_line (refusal.UnsupportedSection file section) = fault_line file.now _ (fault.Unsupported section.number None) refl
 refusal_line (refusal.UnsupportedFunction file func) = fault_line file.now _ (fault.Unsupported 0 (Some func.number)) refl
 refusal_line (refusal.Limit file which) = fault_line file.now _ (fault.Limit which) refl
+refusal_line (refusal.InvalidItem file kind index) = invalid_line file.now (record { kind = kind; index = index.number })
 refusal_line (refusal.TooMany which) = output_line which
 
 -- what is told of a stop is one of the lines

@@ -1,13 +1,15 @@
 -- When each stop of a command comes.
-use Rattle.std.specs.Prelude.{◌≡◌, ◌⊎◌, ℕ, ◌+◌, ◌-◌, ◌<◌, ltb, if◌then◌else◌, List, [], ◌∷◌, length, map, Contains, Option, Some, None, Err, IfSome, string_bytes}
+use Rattle.std.specs.Prelude.{◌≡◌, ◌⊎◌, ℕ, ◌+◌, ◌-◌, ◌<◌, ltb, false, if◌then◌else◌, List, [], ◌∷◌, length, map, Contains, Option, Some, None, Err, IfSome, string_bytes}
 use Rattle.std.specs.FinMap.{get}
 use Rattle.tool_io.specs.Outside.{Contents, Rose, Becomes, AppendsPrefix}
 use Rattle.tools_cli.specs.Words.{Text, Task, inputs_of, outputs_of}
 use Rattle.tools_cli.specs.Job.{TooLong, gathered, Job, Decides, TaskJob, Loads, most_input, most_output}
-use Rattle.tools_cli.specs.Texts.{over_limit, output_over_limit}
+use Rattle.tools_cli.specs.Texts.{invalid_text, over_limit, output_over_limit}
 use Rattle.wasm_tree.specs.declared.module.Module.{Module}
 use Rattle.wasm_tree.specs.declared.which.Which.TheVariants.{InputBytes, OutputBytes}
-use Rattle.wasm_write.specs.Plain.{plain}
+use Rattle.wasm_valid.specs.declared.kinds.Invalid.{Invalid}
+use Rattle.wasm_valid.specs.First.{IsFirstInvalid}
+use Rattle.wasm_plain.specs.Plain.{plain}
 use Rattle.tools_cli.specs.Job as job
 use Rattle.tools_cli.specs.Effects.{Entry, made, written_names}
 use Rattle.tools_cli.specs.Stop.{refusal_text}
@@ -51,6 +53,12 @@ abbrev pub StopsLoading : Text → Text → Stop → Type 0
 StopsLoading file bytes (Refused refusal) = Loads file bytes (Err (refusal_text refusal))
 StopsLoading file bytes NoMemory = Unit {0}
 StopsLoading file bytes _ = ⊥
+
+-- Why validating a tree stops.
+abbrev pub StopsValidating : Text → Module → Stop → Type 0
+StopsValidating file tree (Refused refusal) = (item : Invalid) × IsFirstInvalid tree false item × (refusal_text refusal ≡ invalid_text file item)
+StopsValidating file tree NoMemory = Unit {0}
+StopsValidating file tree _ = ⊥
 
 -- Why encoding a tree stops.
 abbrev pub StopsEncoding : Module → Stop → Type 0

@@ -4,13 +4,16 @@ use Rattle.std.specs.FinMap.{get}
 use Rattle.tool_io.specs.Outside.{Contents}
 use Rattle.tools_cli.specs.Words.{Text, Task, Merge, task_of, inputs_of}
 use Rattle.tools_cli.specs.Effects.{Entry}
-use Rattle.tools_cli.specs.Texts.{fault_text, over_limit, output_over_limit}
+use Rattle.tools_cli.specs.Texts.{fault_text, invalid_text, over_limit, output_over_limit}
 use Rattle.wasm_tree.specs.declared.module.Module.{Module}
 use Rattle.wasm_tree.specs.declared.which.Which.TheVariants.{InputBytes, OutputBytes}
 use Rattle.wasm_format.specs.declared.fault.ReadFault.{ReadFault}
 use Rattle.wasm_format.specs.Files.{Spells, Within}
 use Rattle.wasm_format.specs.Contents.{read_fault}
-use Rattle.wasm_write.specs.Plain.{plain}
+use Rattle.wasm_valid.specs.declared.kinds.Invalid.{Invalid}
+use Rattle.wasm_valid.specs.Validity.{IsValid, IsSingle}
+use Rattle.wasm_valid.specs.First.{IsFirstInvalid}
+use Rattle.wasm_plain.specs.Plain.{plain}
 
 -- The most bytes that all input files of a command have together.
 abbrev pub most_input : ℕ
@@ -48,10 +51,22 @@ abbrev pub gathered : List Text → Contents → ℕ → Gathered
 gathered [] files most = Whole []
 gathered (name ∷ names) files most = add_file name most (get files name) (gathered names files)
 
--- What a file's contents come to: the tree that they spell within the limits, or the text of their first fault.
+-- The bytes spell the tree, within the limits.
+pub record IsRead (bytes : Text) (tree : Module) : Type 0 where
+  pub spelled : Spells bytes tree false
+  pub within : Within bytes false
+
+-- The tree is valid and has at most one memory.
+pub record IsAccepted (tree : Module) : Type 0 where
+  pub valid : IsValid tree
+  pub single : IsSingle tree
+
+-- What a file's contents come to: the tree that they spell within the limits, where it is valid; or the text of their first fault, or of the
+-- tree's first item that does not hold.
 pub data Loads (file bytes : Text) : Result Module Text → Type 0 where
-  loaded : (tree : Module) → Spells bytes tree false → Within bytes false → Loads file bytes (Ok tree)
+  loaded : (tree : Module) → IsRead bytes tree → IsAccepted tree → Loads file bytes (Ok tree)
   faulty : (fault : ReadFault) (text : Text) → read_fault bytes false ≡ Some fault → fault_text file fault ≡ Some text → Loads file bytes (Err text)
+  invalid : (tree : Module) (item : Invalid) → IsRead bytes tree → IsFirstInvalid tree false item → Loads file bytes (Err (invalid_text file item))
 
 -- What a merge of one file into this output comes to.
 pub data Merges (output : Text) : List Entry → Job → Type 0 where

@@ -2,13 +2,14 @@
 use Rattle.std.specs.Prelude.{◌≡◌, ◌⊎◌, ℕ, ◌++◌, List, Option, Some, codes, string_bytes}
 use Rattle.tool_io.specs.Outside.{Becomes, Rose, AppendsPrefix}
 use Rattle.tools_cli.specs.Words.{Text, usage_line}
-use Rattle.tools_cli.specs.Texts.{fault_text, not_module, malformed_section, malformed_function, unsupported_section, unsupported_function, over_limit, output_over_limit}
+use Rattle.tools_cli.specs.Texts.{fault_text, invalid_text, not_module, malformed_section, malformed_function, unsupported_section, unsupported_function, over_limit, output_over_limit}
 use Rattle.wasm_tree.specs.declared.which.Which.{Which}
 use Rattle.wasm_format.specs.declared.fault.ReadFault.{ReadFault}
+use Rattle.wasm_valid.specs.declared.kinds.Invalid.{Invalid}
 use Rattle.tools_cli.specs.declared.stop.Status.{Status}
 use Rattle.tools_cli.specs.declared.stop.Status.TheVariants as status
 use Rattle.tools_cli.specs.declared.refusal.Refusal.{Refusal}
-use Rattle.tools_cli.specs.declared.refusal.Refusal.TheVariants.{NotModule, MalformedSection, MalformedFunction, UnsupportedSection, UnsupportedFunction, Limit, TooMany}
+use Rattle.tools_cli.specs.declared.refusal.Refusal.TheVariants.{NotModule, MalformedSection, MalformedFunction, UnsupportedSection, UnsupportedFunction, Limit, InvalidItem, TooMany}
 use Rattle.tools_cli.specs.declared.stop.Stop.{Stop}
 use Rattle.tools_cli.specs.declared.stop.Stop.TheVariants.{Usage, Refused, CannotRead, CannotWrite, CannotPrint, NoMemory}
 
@@ -40,6 +41,7 @@ no_memory = codes "no memory"
 pub data IsLine : Text → Type 0 where
   usage : (words : List Text) → IsLine (usage_line words)
   fault_line : (file text : Text) (fault : ReadFault) → fault_text file fault ≡ Some text → IsLine (stop_line text)
+  invalid_line : (file : Text) (item : Invalid) → IsLine (stop_line (invalid_text file item))
   output_line : (which : Which) → IsLine (stop_line (output_over_limit which))
   cannot_read_line : (file : Text) → IsLine (stop_line (cannot_read file))
   cannot_write_line : (file : Text) → IsLine (stop_line (cannot_write file))
@@ -66,6 +68,7 @@ refusal_text (MalformedFunction file func) = malformed_function file.now func.nu
 refusal_text (UnsupportedSection file section) = unsupported_section file.now section.number
 refusal_text (UnsupportedFunction file func) = unsupported_function file.now func.number
 refusal_text (Limit file which) = over_limit file.now which
+refusal_text (InvalidItem file kind index) = invalid_text file.now (record { kind = kind; index = index.number })
 refusal_text (TooMany which) = output_over_limit which
 
 -- What is put on standard error.

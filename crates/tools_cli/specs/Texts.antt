@@ -4,6 +4,9 @@ use Rattle.wasm_tree.specs.declared.which.Which.{Which}
 use Rattle.wasm_tree.specs.declared.which.Which.TheVariants as which
 use Rattle.wasm_format.specs.declared.fault.ReadFault.{ReadFault}
 use Rattle.wasm_format.specs.declared.fault.ReadFault.TheVariants.{NotModule, Malformed, MalformedBody, Unsupported, Limit, NoMemory}
+use Rattle.wasm_valid.specs.declared.kinds.ItemKind.{ItemKind}
+use Rattle.wasm_valid.specs.declared.kinds.ItemKind.TheVariants as kind
+use Rattle.wasm_valid.specs.declared.kinds.Invalid.{Invalid}
 use Rattle.tools_cli.specs.Words.{Text}
 
 -- The name of a limited quantity.
@@ -56,3 +59,21 @@ fault_text file (Unsupported section None) = Some (unsupported_section file sect
 fault_text file (Unsupported section (Some func)) = Some (unsupported_function file func)
 fault_text file (Limit which) = Some (over_limit file which)
 fault_text file NoMemory = None
+
+-- The name of a kind of items, and a space.
+abbrev pub kind_text : ItemKind → Text
+kind_text kind.Import = codes "import "
+kind_text kind.Memories = codes "memories "
+kind_text kind.Func = codes "func "
+kind_text kind.Table = codes "table "
+kind_text kind.Memory = codes "memory "
+kind_text kind.Global = codes "global "
+kind_text kind.Export = codes "export "
+kind_text kind.Start = codes "start "
+kind_text kind.Elem = codes "elem "
+kind_text kind.Segment = codes "data "
+kind_text kind.Body = codes "body "
+
+-- The text of the first item that does not hold.
+abbrev pub invalid_text : Text → Invalid → Text
+invalid_text file item = file ++ (codes ": invalid " ++ (kind_text item.kind ++ decimal item.index))

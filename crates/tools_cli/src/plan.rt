@@ -1,10 +1,10 @@
 // What a command comes to over its inputs.
-ghost use Rattle.std.specs.Prelude.{◌≡◌, ◌≤◌, ◌<◌, ◌^◌, ◌∷◌, [], length, Ok, IfOk, IfErr, IsTrue};
-ghost use Rattle.wasm_tree.specs.MemoryZero.{memory_zero_funcs};
-ghost use Rattle.wasm_write.specs.Plain.{plain};
+ghost use Rattle.std.specs.Prelude.{◌≡◌, ◌≤◌, ◌<◌, ◌^◌, ◌∷◌, [], length, Ok, IfOk, IfErr};
+ghost use Rattle.wasm_tree.specs.Bounds.{IsBounded};
+ghost use Rattle.wasm_plain.specs.Plain.{plain};
 ghost use Rattle.tools_cli.specs.Command.{task, input_entries, output_entries};
-ghost use Rattle.tools_cli.specs.Job.{Decides, Done, Loads, most_input, most_output};
-ghost use Rattle.tools_cli.specs.Causes.{AreInputs, total, StopsLoading, StopsEncoding, StopsDeciding, AreOutputs};
+ghost use Rattle.tools_cli.specs.Job.{Decides, Done, Loads, IsAccepted, most_input, most_output};
+ghost use Rattle.tools_cli.specs.Causes.{AreInputs, total, StopsLoading, StopsValidating, StopsEncoding, StopsDeciding, AreOutputs};
 
 use crate::gather::Input;
 use crate::perform::Output;
@@ -14,6 +14,7 @@ use crate::words::Merge;
 use std::alloc::{AllocError, Global};
 use wasm_read::read;
 use wasm_tree::{Module, Which};
+use wasm_valid::{Rejected, Valid, validate};
 use wasm_write::{fits, write};
 
 /// The most bytes of one output.
@@ -26,15 +27,30 @@ pub(crate) struct Plan {
     pub(crate) lines: Vec<u8>,
 }
 
+// The tree, known to be valid.
+fn accept<'a>(alloc: Global, file: &'a str, tree: Module) -> Result<Valid, Stop<'a>>
+    requires { IsBounded tree }
+    ensures accepted { IfOk result (λ valid. (valid ≡ tree) × IsAccepted tree) }
+    ensures stops { IfErr result (StopsValidating file.entry.now tree) }
+{
+    match validate(alloc, tree) {
+        Ok(valid) => Ok(valid),
+        Err(Rejected::Invalid(_, item)) => match Refusal::of_invalid(alloc, file, item) {
+            Ok(refusal) => Err(Stop::Refused(refusal)),
+            Err(_) => Err(Stop::NoMemory),
+        },
+        Err(Rejected::NoMemory(_)) => Err(Stop::NoMemory),
+    }
+}
+
 // The module that a file holds.
-fn load<'a>(alloc: Global, input: &Input<'a>) -> Result<Module, Stop<'a>>
+fn load<'a>(alloc: Global, input: &Input<'a>) -> Result<Valid, Stop<'a>>
     requires { length input.now.bytes.items < 2 ^ 32 }
     ensures loaded { IfOk result (λ tree. Loads input.now.name.now input.now.bytes.items (Ok tree)) }
-    ensures memory_zero { IfOk result (λ tree. IsTrue (memory_zero_funcs tree.funcs)) }
     ensures stops { IfErr result (StopsLoading input.now.name.now input.now.bytes.items) }
 {
     match read(alloc, input.bytes.as_slice()) {
-        Ok(tree) => Ok(tree),
+        Ok(tree) => accept(alloc, input.name, tree),
         Err(fault) => match Refusal::of_fault(alloc, input.name, fault) {
             Ok(refusal) => Err(Stop::Refused(refusal)),
             Err(_) => Err(Stop::NoMemory),
@@ -55,7 +71,6 @@ fn one_output(alloc: Global, name: &str, bytes: Vec<u8>) -> Result<Plan, AllocEr
 
 // The tree encoded, as the one output.
 fn encode<'a>(alloc: Global, tree: &Module, output: &str) -> Result<Plan, Stop<'a>>
-    requires { IsTrue (memory_zero_funcs tree.now.funcs) }
     ensures plan { IfOk result (λ plan. (length (plain tree.now) ≤ most_output) × (output_entries plan.outputs.items ≡ (output.now, plain tree.now) ∷ []) × (plan.lines.items ≡ [])) }
     ensures stops { IfErr result (StopsEncoding tree.now) }
 {
@@ -84,7 +99,7 @@ pub(crate) fn decide<'a>(
     ensures stops { IfErr result (StopsDeciding (task merge.now) (input_entries inputs.now)) }
 {
     match load(alloc, &inputs[0]) {
-        Ok(tree) => encode(alloc, &tree, merge.output),
+        Ok(tree) => encode(alloc, tree.module(), merge.output),
         Err(stop) => Err(stop),
     }
 }

@@ -1,12 +1,13 @@
 // What is wrong with the input, and the text of it.
-ghost use Rattle.std.specs.Prelude.{◌≡◌, Some, IfOk, flat_map};
-ghost use Rattle.tools_cli.specs.Texts.{which_text, fault_text};
+ghost use Rattle.std.specs.Prelude.{◌≡◌, ◌++◌, Some, IfOk, flat_map, codes};
+ghost use Rattle.tools_cli.specs.Texts.{which_text, fault_text, kind_text, invalid_text};
 ghost use Rattle.tools_cli.specs.Stop.{refusal_text, stop_line};
 
 use crate::digits::Digits;
 use std::alloc::{AllocError, Global};
 use wasm_read::ReadFault;
 use wasm_tree::Which;
+use wasm_valid::{Invalid, ItemKind};
 
 /// What is wrong with the input.
 #[derive(Drop)]
@@ -17,6 +18,7 @@ pub(crate) enum Refusal<'a> {
     UnsupportedSection { file: &'a str, section: Digits },
     UnsupportedFunction { file: &'a str, func: Digits },
     Limit { file: &'a str, which: Which },
+    InvalidItem { file: &'a str, kind: ItemKind, index: Digits },
     TooMany { which: Which },
 }
 
@@ -34,6 +36,14 @@ impl<'a> Refusal<'a> {
             ReadFault::Limit { which } => Ok(Refusal::Limit { file, which }),
             ReadFault::NoMemory => Err(AllocError),
         }
+    }
+
+    /// The refusal of a file for an item that does not hold. Its error is want of memory.
+    pub(crate) fn of_invalid(alloc: Global, file: &'a str, item: Invalid) -> Result<Refusal<'a>, AllocError>
+        ensures { IfOk result (λ refusal. refusal_text refusal ≡ invalid_text file.entry.now item) }
+    {
+        let index = Digits::new(alloc, item.index)?;
+        Ok(Refusal::InvalidItem { file, kind: item.kind, index })
     }
 }
 
@@ -62,6 +72,25 @@ fn which_name<'a>(which: Which) -> &'a str
     }
 }
 
+// What stands between a file and the number of an invalid item.
+fn invalid_kind<'a>(kind: ItemKind) -> &'a str
+    ensures { result.now ≡ codes ": invalid " ++ kind_text kind }
+{
+    match kind {
+        ItemKind::Import => ": invalid import ",
+        ItemKind::Memories => ": invalid memories ",
+        ItemKind::Func => ": invalid func ",
+        ItemKind::Table => ": invalid table ",
+        ItemKind::Memory => ": invalid memory ",
+        ItemKind::Global => ": invalid global ",
+        ItemKind::Export => ": invalid export ",
+        ItemKind::Start => ": invalid start ",
+        ItemKind::Elem => ": invalid elem ",
+        ItemKind::Segment => ": invalid data ",
+        ItemKind::Body => ": invalid body ",
+    }
+}
+
 /// The line of a refusal, in pieces.
 pub(crate) fn refusal_pieces<'a>(refusal: &'a Refusal<'a>) -> [&'a str; 5]
     ensures { flat_map (λ p. p.now) result ≡ stop_line (refusal_text refusal.now) }
@@ -73,6 +102,7 @@ pub(crate) fn refusal_pieces<'a>(refusal: &'a Refusal<'a>) -> [&'a str; 5]
         Refusal::UnsupportedSection { file, section } => ["binkit: ", file, ": unsupported in section ", section.as_str(), "\n"],
         Refusal::UnsupportedFunction { file, func } => ["binkit: ", file, ": unsupported in function ", func.as_str(), "\n"],
         Refusal::Limit { file, which } => ["binkit: ", file, ": limit on ", which_name(*which), "\n"],
+        Refusal::InvalidItem { file, kind, index } => ["binkit: ", file, invalid_kind(*kind), index.as_str(), "\n"],
         Refusal::TooMany { which } => ["binkit: ", "output exceeds the limit on ", which_name(*which), "", "\n"],
     }
 }

@@ -1,9 +1,23 @@
-use Rattle.tools_cli.specs.Job.{loaded}
-use Rattle.tools_cli.proofs.Deciding.{faulty_from}
+use Rattle.std.proofs.Common.{◌≡◌, Ok}
+use Rattle.std.proofs.lemmas.Result.{IfOk-weaker, IfErr-weaker}
+use Rattle.tools_cli.specs.Job.{Loads, IsRead, IsAccepted}
+use Rattle.tools_cli.specs.Causes.{StopsLoading, StopsValidating}
+use Rattle.tools_cli.proofs.Deciding.{faulty_from, loaded_from, validating_stops}
 use Rattle.tools_cli.proofs.plan.load.Goals as goal
 
 pub returns-in-Ok-clause-loaded : goal.returns-in-Ok-clause-loaded
-returns-in-Ok-clause-loaded c = loaded c.in-Ok.tree (rw c.as_slice.ensures.value at c.in-Ok.ensures.spelled) (rw c.as_slice.ensures.value at c.in-Ok.ensures.within)
+returns-in-Ok-clause-loaded c =
+    let input = c.args.input.now in
+    let reads : IsRead input.bytes.items c.in-Ok.tree = record { spelled = rw c.as_slice.ensures.value at c.in-Ok.ensures.spelled; within = rw c.as_slice.ensures.value at c.in-Ok.ensures.within } in
+    IfOk-weaker c.accept.result (λ valid. (valid ≡ c.in-Ok.tree) × IsAccepted c.in-Ok.tree) (λ valid. Loads input.name.now input.bytes.items (Ok valid))
+    (λ valid h. loaded_from input.name.now input.bytes.items c.in-Ok.tree valid reads h) c.accept.ensures.accepted
+
+pub returns-in-Ok-clause-stops : goal.returns-in-Ok-clause-stops
+returns-in-Ok-clause-stops c =
+    let input = c.args.input.now in
+    let reads : IsRead input.bytes.items c.in-Ok.tree = record { spelled = rw c.as_slice.ensures.value at c.in-Ok.ensures.spelled; within = rw c.as_slice.ensures.value at c.in-Ok.ensures.within } in
+    IfErr-weaker c.accept.result (StopsValidating input.name.now c.in-Ok.tree) (StopsLoading input.name.now input.bytes.items)
+    (λ s h. validating_stops input.name.now input.bytes.items c.in-Ok.tree s reads h) c.accept.ensures.stops
 
 pub returns-in-Ok-of_fault-clause-stops : goal.returns-in-Ok-of_fault-clause-stops
 returns-in-Ok-of_fault-clause-stops c =
