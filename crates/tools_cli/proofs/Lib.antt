@@ -3,3 +3,4 @@ pub mod Gathering
 pub mod Performing
 pub mod Running
 pub mod Deciding
+pub mod Determined
