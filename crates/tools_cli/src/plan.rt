@@ -75,7 +75,9 @@ fn encode<'a>(alloc: Global, tree: &Module, output: &str) -> Result<Plan, Stop<'
     ensures stops { IfErr result (StopsEncoding tree.now) }
 {
     if !fits(tree, MOST_OUTPUT) {
-        return Err(Stop::Refused(Refusal::TooMany { which: Which::OutputBytes }));
+        return Err(Stop::Refused(Refusal::TooMany {
+            which: Which::OutputBytes,
+        }));
     }
     let Ok(bytes) = write(alloc, tree) else {
         return Err(Stop::NoMemory);

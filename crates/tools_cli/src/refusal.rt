@@ -12,38 +12,91 @@ use wasm_valid::{Invalid, ItemKind};
 /// What is wrong with the input.
 #[derive(Drop)]
 pub(crate) enum Refusal<'a> {
-    NotModule { file: &'a str },
-    MalformedSection { file: &'a str, section: Digits },
-    MalformedFunction { file: &'a str, func: Digits },
-    UnsupportedSection { file: &'a str, section: Digits },
-    UnsupportedFunction { file: &'a str, func: Digits },
-    Limit { file: &'a str, which: Which },
-    InvalidItem { file: &'a str, kind: ItemKind, index: Digits },
-    TooMany { which: Which },
+    NotModule {
+        file: &'a str,
+    },
+    MalformedSection {
+        file: &'a str,
+        section: Digits,
+    },
+    MalformedFunction {
+        file: &'a str,
+        func: Digits,
+    },
+    UnsupportedSection {
+        file: &'a str,
+        section: Digits,
+    },
+    UnsupportedFunction {
+        file: &'a str,
+        func: Digits,
+    },
+    Limit {
+        file: &'a str,
+        which: Which,
+    },
+    InvalidItem {
+        file: &'a str,
+        kind: ItemKind,
+        index: Digits,
+    },
+    TooMany {
+        which: Which,
+    },
 }
 
 impl<'a> Refusal<'a> {
     /// The refusal of a file for its first fault. Want of memory is the error, also as a fault.
-    pub(crate) fn of_fault(alloc: Global, file: &'a str, fault: ReadFault) -> Result<Refusal<'a>, AllocError>
+    pub(crate) fn of_fault(
+        alloc: Global,
+        file: &'a str,
+        fault: ReadFault,
+    ) -> Result<Refusal<'a>, AllocError>
         ensures { IfOk result (λ refusal. fault_text file.entry.now fault ≡ Some (refusal_text refusal)) }
     {
         match fault {
             ReadFault::NotModule => Ok(Refusal::NotModule { file }),
-            ReadFault::Malformed { section } => Ok(Refusal::MalformedSection { file, section: Digits::new(alloc, section)? }),
-            ReadFault::MalformedBody { func } => Ok(Refusal::MalformedFunction { file, func: Digits::new(alloc, func)? }),
-            ReadFault::Unsupported { section, func: None } => Ok(Refusal::UnsupportedSection { file, section: Digits::new(alloc, section)? }),
-            ReadFault::Unsupported { func: Some(func), .. } => Ok(Refusal::UnsupportedFunction { file, func: Digits::new(alloc, func)? }),
+            ReadFault::Malformed { section } => Ok(Refusal::MalformedSection {
+                file,
+                section: Digits::new(alloc, section)?,
+            }),
+            ReadFault::MalformedBody { func } => Ok(Refusal::MalformedFunction {
+                file,
+                func: Digits::new(alloc, func)?,
+            }),
+            ReadFault::Unsupported {
+                section,
+                func: None,
+            } => Ok(Refusal::UnsupportedSection {
+                file,
+                section: Digits::new(alloc, section)?,
+            }),
+            ReadFault::Unsupported {
+                func: Some(func),
+                ..
+            } => Ok(Refusal::UnsupportedFunction {
+                file,
+                func: Digits::new(alloc, func)?,
+            }),
             ReadFault::Limit { which } => Ok(Refusal::Limit { file, which }),
             ReadFault::NoMemory => Err(AllocError),
         }
     }
 
     /// The refusal of a file for an item that does not hold. Its error is want of memory.
-    pub(crate) fn of_invalid(alloc: Global, file: &'a str, item: Invalid) -> Result<Refusal<'a>, AllocError>
+    pub(crate) fn of_invalid(
+        alloc: Global,
+        file: &'a str,
+        item: Invalid,
+    ) -> Result<Refusal<'a>, AllocError>
         ensures { IfOk result (λ refusal. refusal_text refusal ≡ invalid_text file.entry.now item) }
     {
         let index = Digits::new(alloc, item.index)?;
-        Ok(Refusal::InvalidItem { file, kind: item.kind, index })
+        Ok(Refusal::InvalidItem {
+            file,
+            kind: item.kind,
+            index,
+        })
     }
 }
 
@@ -97,12 +150,54 @@ pub(crate) fn refusal_pieces<'a>(refusal: &'a Refusal<'a>) -> [&'a str; 5]
 {
     match refusal {
         Refusal::NotModule { file } => ["binkit: ", file, ": not a WebAssembly module", "", "\n"],
-        Refusal::MalformedSection { file, section } => ["binkit: ", file, ": malformed section ", section.as_str(), "\n"],
-        Refusal::MalformedFunction { file, func } => ["binkit: ", file, ": malformed function ", func.as_str(), "\n"],
-        Refusal::UnsupportedSection { file, section } => ["binkit: ", file, ": unsupported in section ", section.as_str(), "\n"],
-        Refusal::UnsupportedFunction { file, func } => ["binkit: ", file, ": unsupported in function ", func.as_str(), "\n"],
-        Refusal::Limit { file, which } => ["binkit: ", file, ": limit on ", which_name(*which), "\n"],
-        Refusal::InvalidItem { file, kind, index } => ["binkit: ", file, invalid_kind(*kind), index.as_str(), "\n"],
-        Refusal::TooMany { which } => ["binkit: ", "output exceeds the limit on ", which_name(*which), "", "\n"],
+        Refusal::MalformedSection { file, section } => [
+            "binkit: ",
+            file,
+            ": malformed section ",
+            section.as_str(),
+            "\n",
+        ],
+        Refusal::MalformedFunction { file, func } => [
+            "binkit: ",
+            file,
+            ": malformed function ",
+            func.as_str(),
+            "\n",
+        ],
+        Refusal::UnsupportedSection { file, section } => [
+            "binkit: ",
+            file,
+            ": unsupported in section ",
+            section.as_str(),
+            "\n",
+        ],
+        Refusal::UnsupportedFunction { file, func } => [
+            "binkit: ",
+            file,
+            ": unsupported in function ",
+            func.as_str(),
+            "\n",
+        ],
+        Refusal::Limit { file, which } => [
+            "binkit: ",
+            file,
+            ": limit on ",
+            which_name(*which),
+            "\n",
+        ],
+        Refusal::InvalidItem { file, kind, index } => [
+            "binkit: ",
+            file,
+            invalid_kind(*kind),
+            index.as_str(),
+            "\n",
+        ],
+        Refusal::TooMany { which } => [
+            "binkit: ",
+            "output exceeds the limit on ",
+            which_name(*which),
+            "",
+            "\n",
+        ],
     }
 }

@@ -69,6 +69,7 @@ const MANY_PARAMETERS: [u8; 14] = [
 ];
 
 const ALL_USAGE: &str = "usage: binkit merge|split|metadce|ctor-eval|sample\n";
+
 const MERGE_USAGE: &str = "usage: binkit merge\n";
 
 // The words of a line. The word `''` is empty.
@@ -86,8 +87,16 @@ fn each_line_of_words_has_its_status_and_text(rt: HostRuntime) -> Result<(), Fai
     let alloc = rt.alloc();
     for (line, status, text) in [
         ("merge h.wasm m -o o.wasm", Status::Done, ""),
-        ("merge e.wasm m -o o.wasm", Status::Refused, "binkit: e.wasm: not a WebAssembly module\n"),
-        ("merge n.wasm m -o o.wasm", Status::Outside, "binkit: cannot read n.wasm\n"),
+        (
+            "merge e.wasm m -o o.wasm",
+            Status::Refused,
+            "binkit: e.wasm: not a WebAssembly module\n",
+        ),
+        (
+            "merge n.wasm m -o o.wasm",
+            Status::Outside,
+            "binkit: cannot read n.wasm\n",
+        ),
         ("merge", Status::Usage, MERGE_USAGE),
         ("merge a.wasm -o o", Status::Usage, MERGE_USAGE),
         ("merge a.wasm a", Status::Usage, MERGE_USAGE),
@@ -124,13 +133,37 @@ fn each_module_is_written_or_refused_with_its_text(rt: HostRuntime) -> Result<()
         (A.as_slice(), A.as_slice(), ""),
         (A_WITH_NAMES.as_slice(), A.as_slice(), ""),
         (A_PADDED.as_slice(), A.as_slice(), ""),
-        (A_OVERLONG.as_slice(), &[], "binkit: a.wasm: malformed section 3\n"),
+        (
+            A_OVERLONG.as_slice(),
+            &[],
+            "binkit: a.wasm: malformed section 3\n",
+        ),
         (CUT.as_slice(), &[], "binkit: a.wasm: malformed section 3\n"),
-        (FLOAT_BODY.as_slice(), &[], "binkit: a.wasm: unsupported in function 0\n"),
-        (FLOAT_PARAMETER.as_slice(), &[], "binkit: a.wasm: unsupported in section 0\n"),
-        (UNKNOWN_OPCODE.as_slice(), &[], "binkit: a.wasm: malformed function 0\n"),
-        (MANY_TYPES.as_slice(), &[], "binkit: a.wasm: limit on types\n"),
-        (MANY_PARAMETERS.as_slice(), &[], "binkit: a.wasm: limit on parameters\n"),
+        (
+            FLOAT_BODY.as_slice(),
+            &[],
+            "binkit: a.wasm: unsupported in function 0\n",
+        ),
+        (
+            FLOAT_PARAMETER.as_slice(),
+            &[],
+            "binkit: a.wasm: unsupported in section 0\n",
+        ),
+        (
+            UNKNOWN_OPCODE.as_slice(),
+            &[],
+            "binkit: a.wasm: malformed function 0\n",
+        ),
+        (
+            MANY_TYPES.as_slice(),
+            &[],
+            "binkit: a.wasm: limit on types\n",
+        ),
+        (
+            MANY_PARAMETERS.as_slice(),
+            &[],
+            "binkit: a.wasm: limit on parameters\n",
+        ),
         (&[], &[], "binkit: a.wasm: not a WebAssembly module\n"),
     ] {
         let words = words_of(alloc, "merge a.wasm a -o o.wasm")?;
@@ -142,7 +175,11 @@ fn each_module_is_written_or_refused_with_its_text(rt: HostRuntime) -> Result<()
         assert_eq!(rt; err.text(), text.as_bytes());
         assert_eq!(rt; ended.code(), u8::from(!text.is_empty()), "{text}");
         assert_eq!(rt; files.contents("o.wasm").unwrap_or(&[]), written, "{text}");
-        assert_eq!(rt; files.contents("o.wasm").is_some(), text.is_empty(), "{text}");
+        assert_eq!(rt;
+            files.contents("o.wasm").is_some(),
+            text.is_empty(),
+            "{text}"
+        );
     }
     Ok(())
 }
