@@ -2,6 +2,7 @@
 use Rattle.std.specs.Prelude.{◌≡◌, ℕ, ◌-◌, ◌<◌, ◌≤◌, ltb, if◌then◌else◌, false, List, [], ◌∷◌, length, Option, Some, None, Result, Ok, Err}
 use Rattle.std.specs.FinMap.{get}
 use Rattle.tool_io.specs.Outside.{Contents}
+use Rattle.wasm_bytes.specs.Reading.{IsBytes}
 use Rattle.tools_cli.specs.Words.{Text, Task, Merge, task_of, inputs_of}
 use Rattle.tools_cli.specs.Effects.{Entry}
 use Rattle.tools_cli.specs.Texts.{fault_text, invalid_text, over_limit, output_over_limit}
@@ -88,3 +89,7 @@ pub data TaskJob (task : Task) (files : Contents) : Job → Type 0 where
 pub data HasJob (words : List Text) (files : Contents) : Job → Type 0 where
   no_task : task_of words ≡ None → HasJob words files Usage
   asked : (task : Task) (job : Job) → task_of words ≡ Some task → TaskJob task files job → HasJob words files job
+
+-- What the files hold are bytes.
+abbrev pub HoldBytes : Contents → Type 0
+HoldBytes files = (name bytes : Text) → get files name ≡ Some bytes → IsBytes bytes

@@ -8,14 +8,14 @@ use Rattle.tools_cli.proofs.plan.load.Goals as goal
 pub returns-in-Ok-clause-loaded : goal.returns-in-Ok-clause-loaded
 returns-in-Ok-clause-loaded c =
     let input = c.args.input.now in
-    let reads : IsRead input.bytes.items c.in-Ok.tree = record { spelled = rw c.as_slice.ensures.value at c.in-Ok.ensures.spelled; within = rw c.as_slice.ensures.value at c.in-Ok.ensures.within } in
+    let reads : IsRead input.bytes.items c.in-Ok.tree = record { spelled = rw c.as_slice.ensures.value at c.in-Ok.ensures.found.0; within = rw c.as_slice.ensures.value at c.in-Ok.ensures.found.1 } in
     IfOk-weaker c.accept.result (λ valid. (valid ≡ c.in-Ok.tree) × IsAccepted c.in-Ok.tree) (λ valid. Loads input.name.now input.bytes.items (Ok valid))
     (λ valid h. loaded_from input.name.now input.bytes.items c.in-Ok.tree valid reads h) c.accept.ensures.accepted
 
 pub returns-in-Ok-clause-stops : goal.returns-in-Ok-clause-stops
 returns-in-Ok-clause-stops c =
     let input = c.args.input.now in
-    let reads : IsRead input.bytes.items c.in-Ok.tree = record { spelled = rw c.as_slice.ensures.value at c.in-Ok.ensures.spelled; within = rw c.as_slice.ensures.value at c.in-Ok.ensures.within } in
+    let reads : IsRead input.bytes.items c.in-Ok.tree = record { spelled = rw c.as_slice.ensures.value at c.in-Ok.ensures.found.0; within = rw c.as_slice.ensures.value at c.in-Ok.ensures.found.1 } in
     IfErr-weaker c.accept.result (StopsValidating input.name.now c.in-Ok.tree) (StopsLoading input.name.now input.bytes.items)
     (λ s h. validating_stops input.name.now input.bytes.items c.in-Ok.tree s reads h) c.accept.ensures.stops
 
