@@ -4,3 +4,4 @@ pub mod Performing
 pub mod Running
 pub mod Deciding
 pub mod Determined
+pub mod FirstItems
