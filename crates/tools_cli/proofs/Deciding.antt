@@ -1,17 +1,14 @@
 -- The inputs of a merge.
-use Rattle.std.proofs.Common.{◌≡◌, ◌∙◌, sym, refl, ap, subst, ℕ, ◌⊎◌, inl, inr, false, Option, Some, Result, Ok, Err, ◌+◌, ◌<◌, ◌≤◌, ◌^◌, List, [], ◌∷◌, length, get_or, arith}
+use Rattle.std.proofs.Common.{◌≡◌, ◌∙◌, sym, ap, ◌⊎◌, inl, inr, false, Some, Ok, Err, ◌+◌, ◌<◌, ◌≤◌, ◌^◌, List, [], ◌∷◌, length, get_or, arith}
 use Rattle.tools_cli.specs.Words.{Text, Task, Merge}
-use Rattle.tools_cli.specs.Job.{Loads, faulty, invalid, loaded, IsRead, IsAccepted, Merges, not_loaded, too_large, written, Refused, Done, most_input, most_output}
+use Rattle.tools_cli.specs.Job.{Loads, faulty, invalid, loaded, IsRead, IsAccepted, Merges, not_loaded, too_large, written, Done, most_input, most_output}
 use Rattle.tools_cli.specs.Effects.{Entry}
-use Rattle.tools_cli.specs.Texts.{fault_text, invalid_text, output_over_limit}
+use Rattle.tools_cli.specs.Texts.{fault_text}
 use Rattle.wasm_tree.specs.declared.module.Module.{Module}
-use Rattle.wasm_tree.specs.declared.which.Which.TheVariants.{OutputBytes}
 use Rattle.wasm_format.specs.declared.fault.ReadFault.{ReadFault}
 use Rattle.wasm_format.specs.declared.fault.ReadFault.TheVariants.{NoMemory}
 use Rattle.wasm_format.specs.Contents.{read_fault}
 use Rattle.wasm_plain.specs.Plain.{plain}
-use Rattle.wasm_valid.specs.declared.kinds.Invalid.{Invalid}
-use Rattle.wasm_valid.specs.First.{IsFirstInvalid}
 use Rattle.tools_cli.specs.declared.stop.Stop.{Stop}
 use Rattle.tools_cli.specs.declared.stop.Stop.TheVariants as stop
 use Rattle.tools_cli.specs.Causes.{StopsLoading, StopsValidating, StopsEncoding, StopsDeciding}

@@ -3,7 +3,7 @@ use Rattle.std.proofs.Common.{Bool, true, cond, ltb, ◌-◌, ◌↔◌, ◌≡�
 use Rattle.std.specs.FinMap.{get}
 use Rattle.wasm_bytes.specs.Reading.{IsBytes}
 use Rattle.tool_io.specs.Outside.{Contents}
-use Rattle.tools_cli.specs.Words.{Text, Task, Merge, task_of, inputs_of}
+use Rattle.tools_cli.specs.Words.{Text, Task, Merge, inputs_of}
 use Rattle.tools_cli.specs.Effects.{Entry}
 use Rattle.tools_cli.specs.Texts.{fault_text, invalid_text, over_limit}
 use Rattle.wasm_tree.specs.declared.which.Which.TheVariants.{InputBytes}

@@ -1,7 +1,6 @@
 use Rattle.std.proofs.Common.{◌≡◌, ◌≤◌, ◌∷◌, [], length}
 use Rattle.std.proofs.lemmas.Result.{IfOk-weaker, IfErr-weaker}
 use Rattle.wasm_plain.specs.Plain.{plain}
-use Rattle.tools_cli.specs.Words.{Merge}
 use Rattle.tools_cli.specs.Command.{task, input_entries, output_entries}
 use Rattle.tools_cli.specs.Job.{Decides, Done, most_output}
 use Rattle.tools_cli.specs.Causes.{StopsEncoding, StopsDeciding}
