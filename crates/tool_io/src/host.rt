@@ -1,0 +1,138 @@
+// The real files and standard streams. They tell no contents, and one count serves every name and both kinds.
+ghost use Rattle.std.specs.Prelude.{◌≡◌, ◌≤◌, None};
+
+use crate::{Files, IoFault, Sink};
+use std::alloc::Global;
+use std::fs;
+use std::io::{self, ErrorKind, Read, Write};
+use std::rt::Files as FileAccess;
+
+const PIECE: usize = 4096;
+
+/// Files of the system, reached through the runtime's file access. They tell no contents.
+#[derive(Drop)]
+pub struct HostFiles<R> {
+    access: R,
+    faults: u64,
+}
+
+impl<R: FileAccess> HostFiles<R> {
+    /// Files over what the runtime hands to `main`, with no fault so far.
+    pub fn new(access: R) -> HostFiles<R>
+        ensures { result.faults ≡ 0 }
+    {
+        HostFiles { access, faults: 0 }
+    }
+}
+
+// What an error of the system comes to.
+fn fault_of(error: &io::Error) -> IoFault {
+    match error.kind() {
+        ErrorKind::OutOfMemory => IoFault::NoMemory,
+        _ => IoFault::Failed,
+    }
+}
+
+// The first `most` bytes of a file. The loop ends once they came or the file ended.
+fn read_first<R: FileAccess>(
+    access: &R,
+    alloc: Global,
+    name: &str,
+    most: usize,
+) -> Result<Vec<u8>, IoFault> {
+    let mut file = match fs::open(access, name) {
+        Ok(file) => file,
+        Err(error) => return Err(fault_of(&error)),
+    };
+    let mut bytes = Vec::new(alloc);
+    let mut piece = [0u8; PIECE];
+    'pieces: while bytes.len() < most {
+        let wanted = PIECE.min(most - bytes.len());
+        let count = match file.read(&mut piece[..wanted]) {
+            Ok(count) => count,
+            Err(error) => return Err(fault_of(&error)),
+        };
+        if count == 0 {
+            break;
+        }
+        if bytes.extend_from_slice(&piece[..count]).is_err() {
+            return Err(IoFault::NoMemory);
+        }
+    }
+    Ok(bytes)
+}
+
+// Writes all of the bytes. A writer that takes nothing of what is left has failed.
+fn write_all<W: Write>(writer: &mut W, bytes: &[u8]) -> Result<(), IoFault> {
+    let mut done = 0;
+    'pieces: while done < bytes.len() {
+        match writer.write(&bytes[done..]) {
+            Ok(count) if count > 0 => done += count,
+            Ok(_) => return Err(IoFault::Failed),
+            Err(error) => return Err(fault_of(&error)),
+        }
+    }
+    Ok(())
+}
+
+// Puts all of the bytes into a new file of this name.
+fn write_file<R: FileAccess>(access: &R, name: &str, bytes: &[u8]) -> Result<(), IoFault> {
+    match fs::create(access, name) {
+        Ok(mut file) => write_all(&mut file, bytes),
+        Err(error) => Err(fault_of(&error)),
+    }
+}
+
+impl<R: FileAccess> Files for HostFiles<R> {
+    ghost contents = { λ f. None };
+
+    ghost read_faults = { λ f _. f.faults };
+
+    ghost write_faults = { λ f _. f.faults };
+
+    fn read(&mut self, alloc: Global, name: &str, most: usize) -> Result<Vec<u8>, IoFault> {
+        let read = read_first(&self.access, alloc, name, most);
+        if let Err(IoFault::Failed) = read {
+            self.faults = self.faults.saturating_add(1);
+        }
+        read
+    }
+
+    fn write(&mut self, name: &str, bytes: &[u8]) -> Result<(), IoFault> {
+        let written = write_file(&self.access, name, bytes);
+        if let Err(IoFault::Failed) = written {
+            self.faults = self.faults.saturating_add(1);
+        }
+        written
+    }
+}
+
+/// A standard stream, or any other writer of the system. It tells no bytes.
+#[derive(Drop)]
+pub struct HostSink<W> {
+    stream: W,
+    faults: u64,
+}
+
+impl<W: Write> HostSink<W> {
+    /// A sink over a stream that the runtime hands to `main`, with no fault so far.
+    pub fn new(stream: W) -> HostSink<W>
+        ensures { result.faults ≡ 0 }
+    {
+        HostSink { stream, faults: 0 }
+    }
+}
+
+impl<W: Write> Sink for HostSink<W> {
+    ghost bytes = { λ s. None };
+
+    ghost faults = { λ s. s.faults };
+
+    fn put(&mut self, piece: &[u8]) -> Result<(), IoFault> {
+        let put = write_all(&mut self.stream, piece);
+        if let Err(IoFault::Failed) = put {
+            self.faults = self.faults.saturating_add(1);
+        }
+        put
+    }
+}

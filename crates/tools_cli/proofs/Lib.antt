@@ -1,0 +1,7 @@
+pub mod Pieces
+pub mod Gathering
+pub mod Performing
+pub mod Running
+pub mod Deciding
+pub mod Determined
+pub mod FirstItems

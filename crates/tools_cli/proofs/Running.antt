@@ -1,0 +1,212 @@
+-- From the parts of a run to its whole.
+use Rattle.std.proofs.Common.{◌≡◌, ◌∙◌, sym, refl, ap, subst, ℕ, ◌≤◌, List, [], Option, Some, None, IfSome, Contains, OnOk, Result, Ok, Err, string_bytes, inl, inr, ◌⊎◌}
+use Rattle.std.specs.Option.{option_map_or}
+use Rattle.tool_io.specs.Outside.{Contents, Becomes, AppendsPrefix, Rose}
+use Rattle.tool_io.proofs.Steps.{rose_earlier, becomes_itself, becomes_weaker, becomes_same}
+use Rattle.tools_cli.specs.Words.{Text, Task, task_of, inputs_of, outputs_of}
+use Rattle.tools_cli.specs.Effects.{Entry, made, IsCut, written_names}
+use Rattle.tools_cli.specs.Job.{Job, Usage, Refused, Done, Whole, TooLong, gathered, most_input, Decides, TaskJob, too_long, decided, HasJob, no_task, asked}
+use Rattle.tools_cli.specs.Stop.{IsLine, usage, fault_line, invalid_line, output_line, cannot_read_line, cannot_write_line, cannot_print_line, no_memory_line, no_memory, stop_line, line_of, refusal_text, Says, Reports}
+use Rattle.tools_cli.specs.Causes.{FailsAtItsTurn, StopsGathering, StopsDeciding, StopsPreparing, StopsFinishing, AreOutputs, AllWritten, PrintsAfter}
+use Rattle.tools_cli.specs.Run.{IsUsage, Outside, StopsWork, ChangesByTheJob, PrintsForTheJob, EndsDone, Gains, IsSame, HasOutsideCause, HasStatus, SomeRose}
+use Rattle.tools_cli.specs.declared.stop.Status.{Status}
+use Rattle.tools_cli.specs.declared.stop.Status.TheVariants as status
+use Rattle.tools_cli.specs.declared.stop.Stop.{Stop}
+use Rattle.tools_cli.specs.declared.stop.Stop.TheVariants as stop
+use Rattle.tools_cli.specs.Texts.{over_limit}
+use Rattle.wasm_tree.specs.declared.which.Which.TheVariants.{InputBytes}
+use Rattle.tools_cli.specs.declared.refusal.Refusal.{Refusal}
+use Rattle.tools_cli.specs.declared.refusal.Refusal.TheVariants as refusal
+use Rattle.wasm_format.specs.declared.fault.ReadFault.TheVariants as fault
+use Rattle.tools_cli.proofs.Pieces.{prefix_none}
+
+-- a task's job from the contents of its inputs
+pub decided_at : (held : Option Contents) (t : Task) (inputs : List Entry) (job : Job) → IfSome held (λ a. gathered (inputs_of t) a most_input ≡ Whole inputs) → Decides t inputs job → IfSome held (λ a. TaskJob t a job)
+decided_at None t inputs job g d = tt
+decided_at (Some a) t inputs job g d = decided inputs job g d
+
+-- and from a file that is too long
+too_long_at : (held : Option Contents) (t : Task) (text : Text) → IfSome held (λ a. (name : Text) × (gathered (inputs_of t) a most_input ≡ TooLong name) × (text ≡ over_limit name InputBytes)) → IfSome held (λ a. TaskJob t a (Refused text))
+too_long_at None t text h = tt
+too_long_at (Some a) t text (name, g, e) = let P : Text → Type 0 = λ x. TaskJob t a (Refused x) in subst P (sym e) (too_long name g)
+
+pub preparing_from_deciding : (held : Option Contents) (before now : Text → ℕ) (t : Task) (inputs : List Entry) (s : Stop)
+    → IfSome held (λ a. gathered (inputs_of t) a most_input ≡ Whole inputs) → StopsDeciding t inputs s → StopsPreparing held before now t s
+preparing_from_deciding held before now t inputs (stop.Refused refusal) g d = decided_at held t inputs (Refused (refusal_text refusal)) g d
+preparing_from_deciding held before now t inputs stop.NoMemory g d = tt
+preparing_from_deciding held before now t inputs (stop.Usage line) g d = absurd d
+preparing_from_deciding held before now t inputs (stop.CannotRead name) g d = absurd d
+preparing_from_deciding held before now t inputs (stop.CannotWrite name) g d = absurd d
+preparing_from_deciding held before now t inputs stop.CannotPrint g d = absurd d
+
+pub preparing_from_gathering : (held : Option Contents) (before now : Text → ℕ) (t : Task) (s : Stop) → StopsGathering held before now (inputs_of t) most_input s → StopsPreparing held before now t s
+preparing_from_gathering held before now t (stop.Refused refusal) h = too_long_at held t (refusal_text refusal) h
+preparing_from_gathering held before now t (stop.CannotRead name) h = h
+preparing_from_gathering held before now t stop.NoMemory h = tt
+preparing_from_gathering held before now t (stop.Usage line) h = absurd h
+preparing_from_gathering held before now t (stop.CannotWrite name) h = absurd h
+preparing_from_gathering held before now t stop.CannotPrint h = absurd h
+
+-- the inputs of a task, by their names
+pub gathered_for : (held : Option Contents) (t : Task) (names : List Text) (found inputs : List Entry) → names ≡ inputs_of t → inputs ≡ found
+    → IfSome held (λ a. gathered names a most_input ≡ Whole found) → IfSome held (λ a. gathered (inputs_of t) a most_input ≡ Whole inputs)
+gathered_for None t names found inputs named same h = tt
+gathered_for (Some a) t names found inputs named same h = ap (λ ns. gathered ns a most_input) (sym named) ∙ h ∙ ap Whole (sym same)
+
+pub preparing_from_names : (held : Option Contents) (before now : Text → ℕ) (t : Task) (names : List Text) (s : Stop) → names ≡ inputs_of t
+    → StopsGathering held before now names most_input s → StopsPreparing held before now t s
+preparing_from_names held before now t names s named h =
+    preparing_from_gathering held before now t s (let P : List Text → Type 0 = λ ns. StopsGathering held before now ns most_input s in subst P named h)
+
+-- the job of the words from the job of their task
+job_at : (words : List Text) (t : Task) (held : Option Contents) (job : Job) → task_of words ≡ Some t → IfSome held (λ a. TaskJob t a job) → IfSome held (λ a. HasJob words a job)
+job_at words t None job e h = tt
+job_at words t (Some a) job e h = asked t job e h
+
+pub changes_from_cut : (words : List Text) (t : Task) (x y : Option Contents) (writes : List Entry) (lines : Text) → task_of words ≡ Some t
+    → IfSome x (λ a. TaskJob t a (Done writes lines)) → Becomes x y (IsCut writes) → Becomes x y (ChangesByTheJob words)
+changes_from_cut words t (Some a) (Some b) writes lines e job cut = inr (writes, lines, asked t (Done writes lines) e job, cut)
+changes_from_cut words t (Some a) None writes lines e job cut = absurd cut
+changes_from_cut words t None (Some b) writes lines e job cut = absurd cut
+changes_from_cut words t None None writes lines e job cut = tt
+
+all_is : (writes : List Entry) (a : Contents) (y : Option Contents) → AllWritten writes (Some a) y → y ≡ Some (made writes a)
+all_is writes a (Some b) h = ap Some h
+all_is writes a None h = absurd h
+
+prints_at : (words : List Text) (t : Task) (a : Contents) (y : Option Contents) (writes : List Entry) (lines before after : Text) → task_of words ≡ Some t → TaskJob t a (Done writes lines)
+    → PrintsAfter lines (AllWritten writes (Some a) y) before after → PrintsForTheJob words a y before after
+prints_at words t a y writes lines before after e job (inl same) = inl same
+prints_at words t a y writes lines before after e job (inr (prefix, all)) = inr (writes, lines, asked t (Done writes lines) e job, all_is writes a y all, prefix)
+
+pub prints_from_lines : (words : List Text) (t : Task) (x y : Option Contents) (o o' : Option Text) (writes : List Entry) (lines : Text) → task_of words ≡ Some t
+    → IfSome x (λ a. TaskJob t a (Done writes lines)) → Becomes o o' (PrintsAfter lines (AllWritten writes x y)) → IfSome x (λ a. Becomes o o' (PrintsForTheJob words a y))
+prints_from_lines words t None y o o' writes lines e job h = tt
+prints_from_lines words t (Some a) y o o' writes lines e job h =
+    becomes_weaker o o' (PrintsAfter lines (AllWritten writes (Some a) y)) (PrintsForTheJob words a y) h (λ before after p. prints_at words t a y writes lines before after e job p)
+
+pub ends_done : {T E : Type 0} (r : Result T E) (words : List Text) (t : Task) (x y : Option Contents) (o o' : Option Text) (writes : List Entry) (lines : Text) → task_of words ≡ Some t
+    → IfSome x (λ a. TaskJob t a (Done writes lines)) → OnOk r (AllWritten writes x y) → OnOk r (Gains lines o o') → OnOk r (IfSome x (λ a. EndsDone words a y o o'))
+ends_done (Err e) words t x y o o' writes lines asks job all gains = tt
+ends_done (Ok u) words t None y o o' writes lines asks job all gains = tt
+ends_done (Ok u) words t (Some a) y o o' writes lines asks job all gains = (writes, lines, asked t (Done writes lines) asks job, all_is writes a y all, gains)
+
+written_at : (words : List Text) (t : Task) (held : Option Contents) (writes : List Entry) (lines name : Text) → task_of words ≡ Some t
+    → IfSome held (λ a. TaskJob t a (Done writes lines)) → Contains (written_names writes) name
+    → IfSome held (λ a. (writes : List Entry) × (lines : Text) × HasJob words a (Done writes lines) × Contains (written_names writes) name)
+written_at words t None writes lines name e h c = tt
+written_at words t (Some a) writes lines name e h c = (writes, lines, asked t (Done writes lines) e h, c)
+
+done_at : (words : List Text) (t : Task) (held : Option Contents) (writes : List Entry) (lines : Text) → task_of words ≡ Some t
+    → IfSome held (λ a. TaskJob t a (Done writes lines)) → IfSome held (λ a. (writes : List Entry) × (lines : Text) × HasJob words a (Done writes lines))
+done_at words t None writes lines e h = tt
+done_at words t (Some a) writes lines e h = (writes, lines, asked t (Done writes lines) e h)
+
+output_at : (words : List Text) (t : Task) (name : Text) → task_of words ≡ Some t → Contains (outputs_of t) name → Contains (option_map_or outputs_of (task_of words) []) name
+output_at words t name e c = let P : Option Task → Type 0 = λ o. Contains (option_map_or outputs_of o []) name in subst P (sym e) c
+
+-- a stop of the writes or of the lines is one of the work
+pub finish_stops : (words : List Text) (t : Task) (old new : Outside) (mid : Text → ℕ) (writes : List Entry) (lines : Text) (s : Stop) → task_of words ≡ Some t
+    → ((name : Text) → old.writes name ≤ mid name)
+    → IfSome old.files (λ a. TaskJob t a (Done writes lines))
+    → AreOutputs t writes
+    → StopsFinishing mid new.writes old.out_faults new.out_faults writes s
+    → StopsWork words old new s
+finish_stops words t old new mid writes lines (stop.CannotWrite name) e later done outputs h = (
+  output_at words t (string_bytes name) e (outputs (string_bytes name) h.0),
+  rose_earlier _ _ _ (later (string_bytes name)) h.1,
+  written_at words t old.files writes lines (string_bytes name) e done h.0,
+)
+finish_stops words t old new mid writes lines stop.CannotPrint e later done outputs h = (h, done_at words t old.files writes lines e done)
+finish_stops words t old new mid writes lines stop.NoMemory e later done outputs h = tt
+finish_stops words t old new mid writes lines (stop.Usage line) e later done outputs h = absurd h
+finish_stops words t old new mid writes lines (stop.Refused refusal) e later done outputs h = absurd h
+finish_stops words t old new mid writes lines (stop.CannotRead name) e later done outputs h = absurd h
+
+same_at : {A : Type 0} (x y : Option A) → y ≡ x → IsSame x y
+same_at x y e = becomes_same x y (λ a b. b ≡ a) e (λ a. refl)
+
+turn_at : (words : List Text) (t : Task) (held : Option Contents) (before now : Text → ℕ) (name : Text) → task_of words ≡ Some t
+    → FailsAtItsTurn held before now (inputs_of t) most_input name → FailsAtItsTurn held before now (option_map_or inputs_of (task_of words) []) most_input name
+turn_at words t held before now name e h = let P : Option Task → Type 0 = λ o. FailsAtItsTurn held before now (option_map_or inputs_of o []) most_input name in subst P (sym e) h
+
+-- a stop before anything is written is one of the work
+pub prepare_stops : (words : List Text) (t : Task) (old new : Outside) (s : Stop) → task_of words ≡ Some t → new.files ≡ old.files → new.out ≡ old.out
+    → StopsPreparing old.files old.reads new.reads t s → StopsWork words old new s
+prepare_stops words t old new (stop.Refused refusal) e files out h = (job_at words t old.files (Refused (refusal_text refusal)) e h, same_at _ _ files, same_at _ _ out)
+prepare_stops words t old new (stop.CannotRead name) e files out h = (turn_at words t old.files old.reads new.reads name.now e h, same_at _ _ files, same_at _ _ out)
+prepare_stops words t old new stop.NoMemory e files out h = tt
+prepare_stops words t old new (stop.Usage line) e files out h = absurd h
+prepare_stops words t old new (stop.CannotWrite name) e files out h = absurd h
+prepare_stops words t old new stop.CannotPrint e files out h = absurd h
+
+-- what is told of a refusal is one of the lines
+refusal_line : (refusal : Refusal) → IsLine (stop_line (refusal_text refusal))
+refusal_line (refusal.NotModule file) = fault_line file.now _ fault.NotModule refl
+refusal_line (refusal.MalformedSection file section) = fault_line file.now _ (fault.Malformed section.number) refl
+refusal_line (refusal.MalformedFunction file func) = fault_line file.now _ (fault.MalformedBody func.number) refl
+refusal_line (refusal.UnsupportedSection file section) = fault_line file.now _ (fault.Unsupported section.number None) refl
+refusal_line (refusal.UnsupportedFunction file func) = fault_line file.now _ (fault.Unsupported 0 (Some func.number)) refl
+refusal_line (refusal.Limit file which) = fault_line file.now _ (fault.Limit which) refl
+refusal_line (refusal.InvalidItem file kind index) = invalid_line file.now (record { kind = kind; index = index.number })
+refusal_line (refusal.TooMany which) = output_line which
+
+-- what is told of a stop is one of the lines
+line_is : (words : List Text) (old new : Outside) (s : Stop) → StopsWork words old new s → IsLine (line_of s)
+line_is words old new (stop.Usage line) h = subst IsLine (sym h.1) (usage words)
+line_is words old new (stop.Refused refusal) h = refusal_line refusal
+line_is words old new (stop.CannotRead file) h = cannot_read_line file.now
+line_is words old new (stop.CannotWrite file) h = cannot_write_line (string_bytes file)
+line_is words old new stop.CannotPrint h = cannot_print_line
+line_is words old new stop.NoMemory h = no_memory_line
+
+pub says_nothing : (x : Option Text) → Becomes x x Says
+says_nothing x = becomes_itself x Says (λ a. (stop_line no_memory, no_memory_line, prefix_none _ a a refl))
+
+pub says_a_line : (words : List Text) (old new : Outside) (s : Stop) (x y : Option Text) → StopsWork words old new s → Becomes x y (AppendsPrefix (line_of s)) → Becomes x y Says
+says_a_line words old new s x y h p = becomes_weaker x y (AppendsPrefix (line_of s)) Says p (λ a b q. (line_of s, line_is words old new s h, q))
+
+-- what is told of a stop that is a fault of the outside has its cause
+pub outside_cause : (words : List Text) (old new : Outside) (s : Stop) (err err' : Option Text) (before now : ℕ) (result : Status)
+    → StopsWork words old new s → Reports s err err' before now result → result ≡ status.Outside → HasOutsideCause words old new err err' before now
+outside_cause words old new s err err' before now result h (inr (inl p)) is = inl p.1
+outside_cause words old new s err err' before now result h (inr (inr e)) is = cc
+outside_cause words old new (stop.CannotRead name) err err' before now result h (inl p) is = inr (inl (name.now, h.0, h.1, h.2, p.1))
+outside_cause words old new (stop.CannotWrite name) err err' before now result h (inl p) is = inr (inr (inl (string_bytes name, h, p.1)))
+outside_cause words old new stop.CannotPrint err err' before now result h (inl p) is = inr (inr (inr (h, p.1)))
+outside_cause words old new (stop.Usage line) err err' before now result h (inl p) is = let e = p.0 in cc
+outside_cause words old new (stop.Refused refusal) err err' before now result h (inl p) is = let e = p.0 in cc
+outside_cause words old new stop.NoMemory err err' before now result h (inl p) is = let e = p.0 in cc
+
+usage_status : (words : List Text) (held : Option Contents) (result : Status) → task_of words ≡ None → result ≡ status.Usage → IfSome held (λ a. HasStatus words a result)
+usage_status words None result e is = tt
+usage_status words (Some a) result e is = (Usage, no_task e, is)
+
+refused_status : (words : List Text) (held : Option Contents) (text : Text) (result : Status) → IfSome held (λ a. HasJob words a (Refused text)) → result ≡ status.Refused → IfSome held (λ a. HasStatus words a result)
+refused_status words None text result job is = tt
+refused_status words (Some a) text result job is = (Refused text, job, is)
+
+-- a stop comes with a count that rose, with want of memory, or with the job's status
+pub complete_at_stop : (words : List Text) (old new : Outside) (s : Stop) (err err' : Option Text) (before now : ℕ) (result : Status)
+    → StopsWork words old new s → Reports s err err' before now result
+    → SomeRose old new before now ⊎ ((result ≡ status.NoMemory) ⊎ IfSome old.files (λ a. HasStatus words a result))
+complete_at_stop words old new s err err' before now result h (inr (inl p)) = inl (inr (inr (inr p.1)))
+complete_at_stop words old new s err err' before now result h (inr (inr e)) = inr (inl e)
+complete_at_stop words old new (stop.CannotRead name) err err' before now result h (inl p) = inl (inl (name.now, h.0.1))
+complete_at_stop words old new (stop.CannotWrite name) err err' before now result h (inl p) = inl (inr (inl (string_bytes name, h.1)))
+complete_at_stop words old new stop.CannotPrint err err' before now result h (inl p) = inl (inr (inr (inl h.0)))
+complete_at_stop words old new (stop.Usage line) err err' before now result h (inl p) = inr (inr (usage_status words old.files result h.0 p.0))
+complete_at_stop words old new (stop.Refused refusal) err err' before now result h (inl p) = inr (inr (refused_status words old.files _ result h.0 p.0))
+complete_at_stop words old new stop.NoMemory err err' before now result h (inl p) = inr (inl p.0)
+
+-- a stop because of the words ends as usage, where no put fails
+pub usage_at_stop : (s : Stop) (err err' : Option Text) (before now : ℕ) (result : Status) → IsUsage (Err s) → Reports s err err' before now result
+    → Rose before now ⊎ ((result ≡ status.NoMemory) ⊎ (result ≡ status.Usage))
+usage_at_stop s err err' before now result h (inr (inl p)) = inl p.1
+usage_at_stop s err err' before now result h (inr (inr e)) = inr (inl e)
+usage_at_stop (stop.Usage line) err err' before now result h (inl p) = inr (inr p.0)
+usage_at_stop (stop.Refused refusal) err err' before now result h (inl p) = absurd h
+usage_at_stop (stop.CannotRead name) err err' before now result h (inl p) = absurd h
+usage_at_stop (stop.CannotWrite name) err err' before now result h (inl p) = absurd h
+usage_at_stop stop.CannotPrint err err' before now result h (inl p) = absurd h
+usage_at_stop stop.NoMemory err err' before now result h (inl p) = absurd h

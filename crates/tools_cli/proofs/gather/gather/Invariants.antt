@@ -1,0 +1,19 @@
+use Rattle.std.proofs.Common.{◌≡◌, ◌≤◌, ◌++◌, ◌+◌, IfSome, drop}
+use Rattle.tool_io.specs.Outside.{NoneFell}
+use Rattle.tools_cli.specs.Job.{gathered}
+use Rattle.tools_cli.specs.Command.{names_of, input_entries}
+use Rattle.tools_cli.proofs.Gathering.{add_all, AreTurns, read_names}
+use Rattle.tools_cli.specs.Causes.{total}
+use Rattle.tools_cli.proofs.gather.gather.Given as goal
+
+abbrev pub invariant-loop-name : goal.invariant-loop-name
+invariant-loop-name g l = record {
+  fits : l.left ≤ l.most;
+  stays : g.F.Files.contents l.files ≡ g.F.Files.contents l.initial.files;
+  reads : NoneFell (g.F.Files.read_faults l.initial.files) (g.F.Files.read_faults l.files);
+  writes : NoneFell (g.F.Files.write_faults l.initial.files) (g.F.Files.write_faults l.files);
+  read : IfSome (g.F.Files.contents l.initial.files) (λ held. gathered (names_of l.names) held l.most ≡ add_all (input_entries l.inputs.items) (gathered (names_of (drop l.name-index l.names)) held l.left));
+  total : total (input_entries l.inputs.items) + l.left ≡ l.most;
+  names : names_of l.names ≡ read_names (input_entries l.inputs.items) ++ names_of (drop l.name-index l.names);
+  turns : IfSome (g.F.Files.contents l.initial.files) (AreTurns l.names l.name-index l.most l.left);
+}

@@ -1,0 +1,11 @@
+use Rattle.std.proofs.Common.{append_assoc}
+use Rattle.tools_cli.proofs.refusal.refusal_pieces.Goals as goal
+
+pub returns-in-MalformedSection : goal.returns-in-MalformedSection
+returns-in-MalformedSection c = rw (c.in-MalformedSection.is, c.as_str.ensures) (simp append_assoc)
+
+pub returns-in-MalformedFunction : goal.returns-in-MalformedFunction
+returns-in-MalformedFunction c = rw (c.in-MalformedFunction.is, c.as_str-in-MalformedFunction.ensures) (simp append_assoc)
+
+pub returns-in-Limit : goal.returns-in-Limit
+returns-in-Limit c = rw (c.in-Limit.is, c.which_name.ensures) (simp append_assoc)

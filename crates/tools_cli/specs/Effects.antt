@@ -1,0 +1,23 @@
+-- Writes to files, all of them or cut short.
+use Rattle.std.specs.Prelude.{◌≡◌, ◌⊎◌, List, [], ◌∷◌, map}
+use Rattle.std.specs.FinMap.{insert}
+use Rattle.tool_io.specs.Outside.{Contents, IsUnchangedOrCut}
+use Rattle.tools_cli.specs.Words.{Text}
+
+-- A name and bytes: a file that was read, or one that is written.
+abbrev pub Entry : Type 0
+Entry = Text × Text
+
+-- The files after all writes, in order.
+abbrev pub made : List Entry → Contents → Contents
+made [] files = files
+made (w ∷ writes) files = made writes (insert files w.0 w.1)
+
+-- The files after some first writes, with at most the next name holding its old contents or a prefix of its bytes.
+abbrev pub IsCut : List Entry → Contents → Contents → Type 0
+IsCut [] old new = new ≡ old
+IsCut (w ∷ writes) old new = IsUnchangedOrCut w.0 w.1 old new ⊎ IsCut writes (insert old w.0 w.1) new
+
+-- The names that are written.
+abbrev pub written_names : List Entry → List Text
+written_names writes = map (λ w. w.0) writes

@@ -1,0 +1,95 @@
+-- What a command line comes to over the contents of the files.
+use Rattle.std.specs.Prelude.{◌≡◌, ℕ, ◌-◌, ◌<◌, ◌≤◌, ltb, if◌then◌else◌, false, List, [], ◌∷◌, length, Option, Some, None, Result, Ok, Err}
+use Rattle.std.specs.FinMap.{get}
+use Rattle.tool_io.specs.Outside.{Contents}
+use Rattle.wasm_bytes.specs.Reading.{IsBytes}
+use Rattle.tools_cli.specs.Words.{Text, Task, Merge, task_of, inputs_of}
+use Rattle.tools_cli.specs.Effects.{Entry}
+use Rattle.tools_cli.specs.Texts.{fault_text, invalid_text, over_limit, output_over_limit}
+use Rattle.wasm_tree.specs.declared.module.Module.{Module}
+use Rattle.wasm_tree.specs.declared.which.Which.TheVariants.{InputBytes, OutputBytes}
+use Rattle.wasm_format.specs.declared.fault.ReadFault.{ReadFault}
+use Rattle.wasm_format.specs.Files.{Spells, Within}
+use Rattle.wasm_format.specs.Contents.{read_fault}
+use Rattle.wasm_valid.specs.declared.kinds.Invalid.{Invalid}
+use Rattle.wasm_valid.specs.Validity.{IsValid, IsSingle}
+use Rattle.wasm_valid.specs.First.{IsFirstInvalid}
+use Rattle.wasm_plain.specs.Plain.{plain}
+
+-- The most bytes that all input files of a command have together.
+abbrev pub most_input : ℕ
+most_input = 16777216
+
+-- The most bytes of one output.
+abbrev pub most_output : ℕ
+most_output = 268435456
+
+-- What a command line comes to: it asks for no task; a file is missing when its turn comes; it is refused with a text; or it is done, with
+-- these writes in order and then these lines on standard output.
+pub data Job : Type 0 where
+  Usage : Job
+  Missing : Job
+  Refused : Text → Job
+  Done : List Entry → Text → Job
+
+-- What comes of reading files in order: the name and the contents of each, or a first one that is missing or too long.
+pub data Gathered : Type 0 where
+  Whole : List Entry → Gathered
+  Lacks : Text → Gathered
+  TooLong : Text → Gathered
+
+abbrev pub add_first : Entry → Gathered → Gathered
+add_first file (Whole rest) = Whole (file ∷ rest)
+add_first file other = other
+
+-- One file of this name, where `left` bytes may still be read, and then the rest.
+abbrev pub add_file : Text → ℕ → Option Text → (ℕ → Gathered) → Gathered
+add_file name left None rest = Lacks name
+add_file name left (Some bytes) rest = if ltb left (length bytes) then TooLong name else add_first (name, bytes) (rest (left - length bytes))
+
+-- The files of these names in order, with at most this many bytes together.
+abbrev pub gathered : List Text → Contents → ℕ → Gathered
+gathered [] files most = Whole []
+gathered (name ∷ names) files most = add_file name most (get files name) (gathered names files)
+
+-- The bytes spell the tree, within the limits.
+pub record IsRead (bytes : Text) (tree : Module) : Type 0 where
+  pub spelled : Spells bytes tree false
+  pub within : Within bytes false
+
+-- The tree is valid and has at most one memory.
+pub record IsAccepted (tree : Module) : Type 0 where
+  pub valid : IsValid tree
+  pub single : IsSingle tree
+
+-- What a file's contents come to: the tree that they spell within the limits, where it is valid; or the text of their first fault, or of the
+-- tree's first item that does not hold.
+pub data Loads (file bytes : Text) : Result Module Text → Type 0 where
+  loaded : (tree : Module) → IsRead bytes tree → IsAccepted tree → Loads file bytes (Ok tree)
+  faulty : (fault : ReadFault) (text : Text) → read_fault bytes false ≡ Some fault → fault_text file fault ≡ Some text → Loads file bytes (Err text)
+  invalid : (tree : Module) (item : Invalid) → IsRead bytes tree → IsFirstInvalid tree false item → Loads file bytes (Err (invalid_text file item))
+
+-- What a merge of one file into this output comes to.
+pub data Merges (output : Text) : List Entry → Job → Type 0 where
+  not_loaded : (file bytes text : Text) → Loads file bytes (Err text) → Merges output ((file, bytes) ∷ []) (Refused text)
+  too_large : (file bytes : Text) (tree : Module) → Loads file bytes (Ok tree) → most_output < length (plain tree) → Merges output ((file, bytes) ∷ []) (Refused (output_over_limit OutputBytes))
+  written : (file bytes : Text) (tree : Module) → Loads file bytes (Ok tree) → length (plain tree) ≤ most_output → Merges output ((file, bytes) ∷ []) (Done ((output, plain tree) ∷ []) [])
+
+-- What a task's work on its input files comes to.
+abbrev pub Decides : Task → List Entry → Job → Type 0
+Decides (Merge file name output) = Merges output
+
+-- What a task comes to: its files are read in order, and then it is decided over them.
+pub data TaskJob (task : Task) (files : Contents) : Job → Type 0 where
+  missing : (name : Text) → gathered (inputs_of task) files most_input ≡ Lacks name → TaskJob task files Missing
+  too_long : (name : Text) → gathered (inputs_of task) files most_input ≡ TooLong name → TaskJob task files (Refused (over_limit name InputBytes))
+  decided : (inputs : List Entry) (job : Job) → gathered (inputs_of task) files most_input ≡ Whole inputs → Decides task inputs job → TaskJob task files job
+
+-- The job of a command line.
+pub data HasJob (words : List Text) (files : Contents) : Job → Type 0 where
+  no_task : task_of words ≡ None → HasJob words files Usage
+  asked : (task : Task) (job : Job) → task_of words ≡ Some task → TaskJob task files job → HasJob words files job
+
+-- What the files hold are bytes.
+abbrev pub HoldBytes : Contents → Type 0
+HoldBytes files = (name bytes : Text) → get files name ≡ Some bytes → IsBytes bytes

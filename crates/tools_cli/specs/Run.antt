@@ -1,0 +1,110 @@
+-- What a run of the program does to the files and the two sinks.
+use Rattle.std.specs.Prelude.{◌≡◌, ◌⊎◌, ℕ, List, [], ◌++◌, Option, Some, None, Result, Err, IfSome, Contains, string_bytes}
+use Rattle.std.specs.Option.{option_map_or}
+use Rattle.tool_io.specs.Outside.{Contents, Rose, Becomes, AppendsPrefix}
+use Rattle.tools_cli.specs.Words.{Text, task_of, inputs_of, outputs_of, usage_line}
+use Rattle.tools_cli.specs.Effects.{Entry, made, IsCut, written_names}
+use Rattle.tools_cli.specs.Job.{Job, Usage, Missing, Refused, Done, HasJob, most_input}
+use Rattle.tools_cli.specs.Stop.{stop_line, refusal_text, cannot_read, cannot_write, cannot_print}
+use Rattle.tools_cli.specs.Causes.{FailsAtItsTurn}
+use Rattle.tools_cli.specs.declared.stop.Status.{Status}
+use Rattle.tools_cli.specs.declared.stop.Status.TheVariants as status
+use Rattle.tools_cli.specs.declared.stop.Stop.{Stop}
+use Rattle.tools_cli.specs.declared.stop.Stop.TheVariants as stop
+
+-- The files that a command line reads, and those that it may write.
+abbrev pub inputs_named : List Text → List Text
+inputs_named words = option_map_or inputs_of (task_of words) []
+
+abbrev pub outputs_named : List Text → List Text
+outputs_named words = option_map_or outputs_of (task_of words) []
+
+-- It is as it was, where this is told.
+abbrev pub IsSame : {A : Type 0} → Option A → Option A → Type 0
+IsSame old new = Becomes old new (λ a b. b ≡ a)
+
+-- This text was gained, where this is told.
+abbrev pub Gains : Text → Option Text → Option Text → Type 0
+Gains text old new = Becomes old new (λ a b. b ≡ a ++ text)
+
+-- The files are as they were; or the job is done and some first writes of it are made, with at most the next name holding its old contents or
+-- a prefix of its bytes.
+abbrev pub ChangesByTheJob : List Text → Contents → Contents → Type 0
+ChangesByTheJob words old new =
+    (new ≡ old) ⊎ ((writes : List Entry) × (lines : Text) × HasJob words old (Done writes lines) × IsCut writes old new)
+
+-- The output is as it was; or the job is done, all its writes are made, and a prefix of its lines was gained.
+abbrev pub PrintsForTheJob : List Text → Contents → Option Contents → Text → Text → Type 0
+PrintsForTheJob words old new before after =
+    (after ≡ before)
+    ⊎ ((writes : List Entry) × (lines : Text) × HasJob words old (Done writes lines) × (new ≡ Some (made writes old)) × AppendsPrefix lines before after)
+
+-- The job is done: all its writes are made, and its lines are gained.
+abbrev pub EndsDone : List Text → Contents → Option Contents → Option Text → Option Text → Type 0
+EndsDone words old new before after =
+    (writes : List Entry) × (lines : Text) × HasJob words old (Done writes lines) × (new ≡ Some (made writes old)) × Gains lines before after
+
+-- The job is refused, and the refusal's line is gained.
+abbrev pub EndsRefused : List Text → Contents → Option Text → Option Text → Type 0
+EndsRefused words old before after = (text : Text) × HasJob words old (Refused text) × Gains (stop_line text) before after
+
+-- A file that the command reads could not be read, and its turn had come.
+abbrev pub FailsToRead : List Text → Option Contents → (Text → ℕ) → (Text → ℕ) → Text → Type 0
+FailsToRead words held before now name = FailsAtItsTurn held before now (inputs_named words) most_input name
+
+-- A file that the command may write could not be written, and the job is done and writes it.
+abbrev pub FailsToWrite : List Text → Option Contents → (Text → ℕ) → (Text → ℕ) → Text → Type 0
+FailsToWrite words held before now name =
+    Contains (outputs_named words) name × Rose (before name) (now name)
+    × IfSome held (λ files. (writes : List Entry) × (lines : Text) × HasJob words files (Done writes lines) × Contains (written_names writes) name)
+
+-- Standard output could not be written, and the job is done.
+abbrev pub FailsToPrint : List Text → Option Contents → ℕ → ℕ → Type 0
+FailsToPrint words held before now = Rose before now × IfSome held (λ files. (writes : List Entry) × (lines : Text) × HasJob words files (Done writes lines))
+
+-- The status of a job that no fault of the outside meets.
+abbrev pub StatusOfJob : Job → Status → Type 0
+StatusOfJob Usage s = s ≡ status.Usage
+StatusOfJob Missing s = ⊥
+StatusOfJob (Refused text) s = s ≡ status.Refused
+StatusOfJob (Done writes lines) s = s ≡ status.Done
+
+abbrev pub HasStatus : List Text → Contents → Status → Type 0
+HasStatus words files s = (job : Job) × HasJob words files job × StatusOfJob job s
+
+-- The files and the standard output of a run, before or after it.
+pub record Outside : Type 0 where
+  pub files : Option Contents
+  pub reads : Text → ℕ
+  pub writes : Text → ℕ
+  pub out : Option Text
+  pub out_faults : ℕ
+
+-- The work stops because the words ask for no task.
+abbrev pub IsUsage : Result (Unit {0}) Stop → Type 0
+IsUsage (Err (stop.Usage line)) = Unit {0}
+IsUsage _ = ⊥
+
+-- Why the work stops.
+abbrev pub StopsWork : List Text → Outside → Outside → Stop → Type 0
+StopsWork words old new (stop.Usage line) = (task_of words ≡ None) × (line.now ≡ usage_line words) × IsSame old.files new.files × IsSame old.out new.out
+StopsWork words old new (stop.Refused refusal) =
+    IfSome old.files (λ files. HasJob words files (Refused (refusal_text refusal))) × IsSame old.files new.files × IsSame old.out new.out
+StopsWork words old new (stop.CannotRead name) = FailsToRead words old.files old.reads new.reads name.now × IsSame old.files new.files × IsSame old.out new.out
+StopsWork words old new (stop.CannotWrite name) = FailsToWrite words old.files old.writes new.writes (string_bytes name)
+StopsWork words old new stop.CannotPrint = FailsToPrint words old.files old.out_faults new.out_faults
+StopsWork words old new stop.NoMemory = Unit {0}
+
+-- One of the four causes of a fault of the outside, and what is said of it.
+abbrev pub HasOutsideCause : List Text → Outside → Outside → Option Text → Option Text → ℕ → ℕ → Type 0
+HasOutsideCause words old new err err' before now =
+    Rose before now
+    ⊎ (((name : Text) × FailsToRead words old.files old.reads new.reads name × IsSame old.files new.files × IsSame old.out new.out × Gains (stop_line (cannot_read name)) err err')
+    ⊎ (((name : Text) × FailsToWrite words old.files old.writes new.writes name × Gains (stop_line (cannot_write name)) err err')
+    ⊎ (FailsToPrint words old.files old.out_faults new.out_faults × Gains (stop_line cannot_print) err err')))
+
+-- A count has risen.
+abbrev pub SomeRose : Outside → Outside → ℕ → ℕ → Type 0
+SomeRose old new before now =
+    ((name : Text) × Rose (old.reads name) (new.reads name))
+    ⊎ (((name : Text) × Rose (old.writes name) (new.writes name)) ⊎ (Rose old.out_faults new.out_faults ⊎ Rose before now))

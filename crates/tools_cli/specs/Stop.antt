@@ -1,0 +1,87 @@
+-- How a command ends, and what is said of it.
+use Rattle.std.specs.Prelude.{◌≡◌, ◌⊎◌, ℕ, ◌++◌, List, Option, Some, codes, string_bytes}
+use Rattle.tool_io.specs.Outside.{Becomes, Rose, AppendsPrefix}
+use Rattle.tools_cli.specs.Words.{Text, usage_line}
+use Rattle.tools_cli.specs.Texts.{fault_text, invalid_text, not_module, malformed_section, malformed_function, unsupported_section, unsupported_function, over_limit, output_over_limit}
+use Rattle.wasm_tree.specs.declared.which.Which.{Which}
+use Rattle.wasm_format.specs.declared.fault.ReadFault.{ReadFault}
+use Rattle.wasm_valid.specs.declared.kinds.Invalid.{Invalid}
+use Rattle.tools_cli.specs.declared.stop.Status.{Status}
+use Rattle.tools_cli.specs.declared.stop.Status.TheVariants as status
+use Rattle.tools_cli.specs.declared.refusal.Refusal.{Refusal}
+use Rattle.tools_cli.specs.declared.refusal.Refusal.TheVariants.{NotModule, MalformedSection, MalformedFunction, UnsupportedSection, UnsupportedFunction, Limit, InvalidItem, TooMany}
+use Rattle.tools_cli.specs.declared.stop.Stop.{Stop}
+use Rattle.tools_cli.specs.declared.stop.Stop.TheVariants.{Usage, Refused, CannotRead, CannotWrite, CannotPrint, NoMemory}
+
+-- The exit code of a status.
+abbrev pub code_of : Status → ℕ
+code_of status.Done = 0
+code_of status.Refused = 1
+code_of status.Usage = 2
+code_of status.Outside = 3
+code_of status.NoMemory = 4
+
+-- The line of a text on standard error.
+abbrev pub stop_line : Text → Text
+stop_line text = codes "binkit: " ++ (text ++ codes "\n")
+
+abbrev pub cannot_read : Text → Text
+cannot_read file = codes "cannot read " ++ file
+
+abbrev pub cannot_write : Text → Text
+cannot_write file = codes "cannot write " ++ file
+
+abbrev pub cannot_print : Text
+cannot_print = codes "cannot write standard output"
+
+abbrev pub no_memory : Text
+no_memory = codes "no memory"
+
+-- The lines that may be put on standard error.
+pub data IsLine : Text → Type 0 where
+  usage : (words : List Text) → IsLine (usage_line words)
+  fault_line : (file text : Text) (fault : ReadFault) → fault_text file fault ≡ Some text → IsLine (stop_line text)
+  invalid_line : (file : Text) (item : Invalid) → IsLine (stop_line (invalid_text file item))
+  output_line : (which : Which) → IsLine (stop_line (output_over_limit which))
+  cannot_read_line : (file : Text) → IsLine (stop_line (cannot_read file))
+  cannot_write_line : (file : Text) → IsLine (stop_line (cannot_write file))
+  cannot_print_line : IsLine (stop_line cannot_print)
+  no_memory_line : IsLine (stop_line no_memory)
+
+-- A prefix of one of these lines was gained.
+abbrev pub Says : Text → Text → Type 0
+Says old new = (line : Text) × IsLine line × AppendsPrefix line old new
+
+abbrev pub status_of : Stop → Status
+status_of (Usage line) = status.Usage
+status_of (Refused refusal) = status.Refused
+status_of (CannotRead file) = status.Outside
+status_of (CannotWrite file) = status.Outside
+status_of CannotPrint = status.Outside
+status_of NoMemory = status.NoMemory
+
+-- The text of a refusal.
+abbrev pub refusal_text : Refusal → Text
+refusal_text (NotModule file) = not_module file.now
+refusal_text (MalformedSection file section) = malformed_section file.now section.number
+refusal_text (MalformedFunction file func) = malformed_function file.now func.number
+refusal_text (UnsupportedSection file section) = unsupported_section file.now section.number
+refusal_text (UnsupportedFunction file func) = unsupported_function file.now func.number
+refusal_text (Limit file which) = over_limit file.now which
+refusal_text (InvalidItem file kind index) = invalid_text file.now (record { kind = kind; index = index.number })
+refusal_text (TooMany which) = output_over_limit which
+
+-- What is put on standard error.
+abbrev pub line_of : Stop → Text
+line_of (Usage line) = line.now
+line_of (Refused refusal) = stop_line (refusal_text refusal)
+line_of (CannotRead file) = stop_line (cannot_read file.now)
+line_of (CannotWrite file) = stop_line (cannot_write (string_bytes file))
+line_of CannotPrint = stop_line cannot_print
+line_of NoMemory = stop_line no_memory
+
+-- A stop is told in full and gives its status; or a put has failed; or memory ran out.
+abbrev pub Reports : Stop → Option Text → Option Text → ℕ → ℕ → Status → Type 0
+Reports stop old new before now result =
+    ((result ≡ status_of stop) × Becomes old new (λ a b. b ≡ a ++ line_of stop))
+    ⊎ (((result ≡ status.Outside) × Rose before now) ⊎ (result ≡ status.NoMemory))

@@ -1,0 +1,79 @@
+-- The texts of refusals, without what stands before and behind them.
+use Rattle.std.specs.Prelude.{ℕ, ◌++◌, Option, Some, None, codes, decimal}
+use Rattle.wasm_tree.specs.declared.which.Which.{Which}
+use Rattle.wasm_tree.specs.declared.which.Which.TheVariants as which
+use Rattle.wasm_format.specs.declared.fault.ReadFault.{ReadFault}
+use Rattle.wasm_format.specs.declared.fault.ReadFault.TheVariants.{NotModule, Malformed, MalformedBody, Unsupported, Limit, NoMemory}
+use Rattle.wasm_valid.specs.declared.kinds.ItemKind.{ItemKind}
+use Rattle.wasm_valid.specs.declared.kinds.ItemKind.TheVariants as kind
+use Rattle.wasm_valid.specs.declared.kinds.Invalid.{Invalid}
+use Rattle.tools_cli.specs.Words.{Text}
+
+-- The name of a limited quantity.
+abbrev pub which_text : Which → Text
+which_text which.InputBytes = codes "input bytes"
+which_text which.Parts = codes "parts"
+which_text which.Types = codes "types"
+which_text which.Imports = codes "imports"
+which_text which.Functions = codes "functions"
+which_text which.Tables = codes "tables"
+which_text which.Memories = codes "memories"
+which_text which.Globals = codes "globals"
+which_text which.Exports = codes "exports"
+which_text which.ElementSegments = codes "element segments"
+which_text which.DataSegments = codes "data segments"
+which_text which.Nesting = codes "nesting"
+which_text which.Locals = codes "locals"
+which_text which.Parameters = codes "parameters"
+which_text which.Results = codes "results"
+which_text which.Trampolines = codes "trampolines"
+which_text which.OutputBytes = codes "output bytes"
+
+abbrev pub not_module : Text → Text
+not_module file = file ++ codes ": not a WebAssembly module"
+
+abbrev pub malformed_section : Text → ℕ → Text
+malformed_section file section = file ++ (codes ": malformed section " ++ decimal section)
+
+abbrev pub malformed_function : Text → ℕ → Text
+malformed_function file func = file ++ (codes ": malformed function " ++ decimal func)
+
+abbrev pub unsupported_section : Text → ℕ → Text
+unsupported_section file section = file ++ (codes ": unsupported in section " ++ decimal section)
+
+abbrev pub unsupported_function : Text → ℕ → Text
+unsupported_function file func = file ++ (codes ": unsupported in function " ++ decimal func)
+
+abbrev pub over_limit : Text → Which → Text
+over_limit file which = file ++ (codes ": limit on " ++ which_text which)
+
+abbrev pub output_over_limit : Which → Text
+output_over_limit which = codes "output exceeds the limit on " ++ which_text which
+
+-- The text of a fault of a file. Want of memory is no fault of it.
+abbrev pub fault_text : Text → ReadFault → Option Text
+fault_text file NotModule = Some (not_module file)
+fault_text file (Malformed section) = Some (malformed_section file section)
+fault_text file (MalformedBody func) = Some (malformed_function file func)
+fault_text file (Unsupported section None) = Some (unsupported_section file section)
+fault_text file (Unsupported section (Some func)) = Some (unsupported_function file func)
+fault_text file (Limit which) = Some (over_limit file which)
+fault_text file NoMemory = None
+
+-- The name of a kind of items, and a space.
+abbrev pub kind_text : ItemKind → Text
+kind_text kind.Import = codes "import "
+kind_text kind.Memories = codes "memories "
+kind_text kind.Func = codes "func "
+kind_text kind.Table = codes "table "
+kind_text kind.Memory = codes "memory "
+kind_text kind.Global = codes "global "
+kind_text kind.Export = codes "export "
+kind_text kind.Start = codes "start "
+kind_text kind.Elem = codes "elem "
+kind_text kind.Segment = codes "data "
+kind_text kind.Body = codes "body "
+
+-- The text of the first item that does not hold.
+abbrev pub invalid_text : Text → Invalid → Text
+invalid_text file item = file ++ (codes ": invalid " ++ (kind_text item.kind ++ decimal item.index))

@@ -1,0 +1,31 @@
+// A number as text.
+ghost use Rattle.std.specs.Prelude.{◌≡◌, IfOk, string_bytes, decimal};
+
+use itoa::Buffer;
+use std::alloc::{AllocError, Global};
+
+/// A number with its decimal digits.
+#[derive(Drop)]
+pub(crate) struct Digits {
+    number: u32,
+    text: String,
+    ghost decimal: { string_bytes text ≡ decimal number },
+}
+
+impl Digits {
+    /// The number with its digits. The error is want of memory.
+    pub(crate) fn new(alloc: Global, number: u32) -> Result<Digits, AllocError>
+        ensures { IfOk result (λ digits. digits.number ≡ number) }
+    {
+        let mut buffer = Buffer::new();
+        let text = String::from_str(alloc, buffer.format(number))?;
+        Ok(Digits { number, text })
+    }
+
+    /// The digits.
+    pub(crate) fn as_str(&self) -> &str
+        ensures { result.now ≡ decimal self.now.number }
+    {
+        self.text.as_str()
+    }
+}

@@ -1,0 +1,61 @@
+// The inputs of a command, read in order.
+ghost use Rattle.std.specs.Prelude.{◌≡◌, ◌<◌, ◌≤◌, ◌^◌, map, IfOk, IfErr, IfSome};
+ghost use Rattle.tool_io.specs.Outside.{NoneFell};
+ghost use Rattle.tools_cli.specs.Job.{gathered, Whole};
+ghost use Rattle.tools_cli.specs.Command.{names_of, input_entries};
+ghost use Rattle.tools_cli.specs.Causes.{StopsGathering, total};
+
+use crate::refusal::Refusal;
+use crate::stop::Stop;
+use std::alloc::Global;
+use tool_io::{Files, IoFault};
+use wasm_tree::Which;
+
+/// The most bytes that all input files of a command have together.
+pub(crate) const MOST_INPUT: usize = 16_777_216;
+
+/// A file that was read.
+#[derive(Drop)]
+pub(crate) struct Input<'a> {
+    pub(crate) name: &'a str,
+    pub(crate) bytes: Vec<u8>,
+}
+
+/// Reads the files of these names in order, up to `most` bytes together.
+pub(crate) fn gather<'a, F: Files>(
+    alloc: Global,
+    files: &mut F,
+    names: &[&'a str],
+    most: usize,
+) -> Result<Vec<Input<'a>>, Stop<'a>>
+    requires { most < 2 ^ 32 }
+    ensures stays { F.contents files.new ≡ F.contents files.old }
+    ensures reads { NoneFell (F.read_faults files.old) (F.read_faults files.new) }
+    ensures writes { NoneFell (F.write_faults files.old) (F.write_faults files.new) }
+    ensures whole { IfOk result (λ inputs. IfSome (F.contents files.old) (λ held. gathered (names_of names.now) held most ≡ Whole (input_entries inputs.items))) }
+    ensures names { IfOk result (λ inputs. map (λ e. e.0) (input_entries inputs.items) ≡ names_of names.now) }
+    ensures room { IfOk result (λ inputs. total (input_entries inputs.items) ≤ most) }
+    ensures stops { IfErr result (StopsGathering (F.contents files.old) (F.read_faults files.old) (F.read_faults files.new) (names_of names.now) most) }
+{
+    let mut inputs = Vec::new(alloc);
+    let mut left = most;
+    for name in names {
+        match files.read(alloc, name, left + 1) {
+            Ok(bytes) => {
+                if bytes.len() > left {
+                    return Err(Stop::Refused(Refusal::Limit {
+                        file: name,
+                        which: Which::InputBytes,
+                    }));
+                }
+                left -= bytes.len();
+                if inputs.push(Input { name, bytes }).is_err() {
+                    return Err(Stop::NoMemory);
+                }
+            }
+            Err(IoFault::Failed) => return Err(Stop::CannotRead(name)),
+            Err(IoFault::NoMemory) => return Err(Stop::NoMemory),
+        }
+    }
+    Ok(inputs)
+}

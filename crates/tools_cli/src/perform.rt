@@ -1,0 +1,35 @@
+// The writes of a command.
+ghost use Rattle.std.specs.Prelude.{◌≡◌, OnOk, IfErr};
+ghost use Rattle.tool_io.specs.Outside.{NoneFell, Becomes};
+ghost use Rattle.tools_cli.specs.Effects.{made, IsCut};
+ghost use Rattle.tools_cli.specs.Command.{output_entries};
+ghost use Rattle.tools_cli.specs.Causes.{StopsWriting};
+
+use crate::stop::Stop;
+use tool_io::{Files, IoFault};
+
+/// A file to be written.
+#[derive(Drop)]
+pub(crate) struct Output {
+    pub(crate) name: String,
+    pub(crate) bytes: Vec<u8>,
+}
+
+/// Writes files in order.
+pub(crate) fn perform<'a, F: Files>(files: &mut F, outputs: Vec<Output>) -> Result<(), Stop<'a>>
+    ensures made { OnOk result (Becomes (F.contents files.old) (F.contents files.new) (λ old new. new ≡ made (output_entries outputs.items) old)) }
+    ensures cut { Becomes (F.contents files.old) (F.contents files.new) (IsCut (output_entries outputs.items)) }
+    ensures reads { NoneFell (F.read_faults files.old) (F.read_faults files.new) }
+    ensures writes { NoneFell (F.write_faults files.old) (F.write_faults files.new) }
+    ensures stops { IfErr result (StopsWriting (F.write_faults files.old) (F.write_faults files.new) (output_entries outputs.items)) }
+{
+    for output in outputs {
+        let Output { name, bytes } = output;
+        match files.write(name.as_str(), bytes.as_slice()) {
+            Ok(()) => {}
+            Err(IoFault::Failed) => return Err(Stop::CannotWrite(name)),
+            Err(IoFault::NoMemory) => return Err(Stop::NoMemory),
+        }
+    }
+    Ok(())
+}

@@ -1,0 +1,90 @@
+// Why a command ends, and what is said of it.
+ghost use Rattle.std.specs.Prelude.{◌≡◌, ◌≤◌, flat_map};
+ghost use Rattle.tool_io.specs.Outside.{Becomes, AppendsPrefix};
+ghost use Rattle.tools_cli.specs.Stop.{status_of, line_of, code_of, Reports};
+
+use crate::put::put_all;
+use crate::refusal::{Refusal, refusal_pieces};
+use tool_io::{IoFault, Sink};
+
+/// How a command ended.
+#[derive(Clone, Copy, Debug, PartialEq, Eq)]
+pub enum Status {
+    /// All that was asked for is written and printed.
+    Done,
+    /// The input is refused, as the line on standard error says.
+    Refused,
+    /// The words ask for no command.
+    Usage,
+    /// A file or a standard stream failed.
+    Outside,
+    /// There was no memory for the work.
+    NoMemory,
+}
+
+impl Status {
+    /// The exit code of the program, 0 to 4.
+    pub fn code(self) -> u8
+        ensures { result ≡ code_of self }
+    {
+        match self {
+            Status::Done => 0,
+            Status::Refused => 1,
+            Status::Usage => 2,
+            Status::Outside => 3,
+            Status::NoMemory => 4,
+        }
+    }
+}
+
+/// Why a command does not end as done.
+#[derive(Drop)]
+pub(crate) enum Stop<'a> {
+    // with the usage line
+    Usage(&'a str),
+    Refused(Refusal<'a>),
+    CannotRead(&'a str),
+    CannotWrite(String),
+    CannotPrint,
+    NoMemory,
+}
+
+impl Stop<'_> {
+    fn status(&self) -> Status
+        ensures { result ≡ status_of self.now }
+    {
+        match self {
+            Stop::Usage(_) => Status::Usage,
+            Stop::Refused(_) => Status::Refused,
+            Stop::CannotRead(_) | Stop::CannotWrite(_) | Stop::CannotPrint => Status::Outside,
+            Stop::NoMemory => Status::NoMemory,
+        }
+    }
+}
+
+// The line of a stop, in pieces.
+fn pieces<'a>(stop: &'a Stop<'a>) -> [&'a str; 5]
+    ensures { flat_map (λ p. p.now) result ≡ line_of stop.now }
+{
+    match stop {
+        Stop::Usage(line) => [line, "", "", "", ""],
+        Stop::Refused(refusal) => refusal_pieces(refusal),
+        Stop::CannotRead(file) => ["binkit: ", "cannot read ", file, "", "\n"],
+        Stop::CannotWrite(file) => ["binkit: ", "cannot write ", file.as_str(), "", "\n"],
+        Stop::CannotPrint => ["binkit: ", "cannot write standard output", "", "", "\n"],
+        Stop::NoMemory => ["binkit: ", "no memory", "", "", "\n"],
+    }
+}
+
+/// Puts the line of a stop, and gives the status.
+pub(crate) fn report<'a, E: Sink>(err: &mut E, stop: &'a Stop<'a>) -> Status
+    ensures prefix { Becomes (E.bytes err.old) (E.bytes err.new) (AppendsPrefix (line_of stop.now)) }
+    ensures later { E.faults err.old ≤ E.faults err.new }
+    ensures reports { Reports stop.now (E.bytes err.old) (E.bytes err.new) (E.faults err.old) (E.faults err.new) result }
+{
+    match put_all(err, &pieces(stop)) {
+        Ok(()) => stop.status(),
+        Err(IoFault::Failed) => Status::Outside,
+        Err(IoFault::NoMemory) => Status::NoMemory,
+    }
+}

@@ -1,0 +1,56 @@
+// The top call.
+ghost use Rattle.std.specs.Prelude.{◌≡◌, ◌≤◌, ◌⊎◌, map, string_bytes, IfSome, None};
+ghost use Rattle.tool_io.specs.Outside.{NoneFell, Becomes, Rose};
+ghost use Rattle.tools_cli.specs.Words.{task_of, usage_line};
+ghost use Rattle.tools_cli.specs.Stop.{Says};
+ghost use Rattle.tools_cli.specs.Run.{ChangesByTheJob, PrintsForTheJob, EndsDone, EndsRefused, HasStatus, HasOutsideCause, SomeRose, IsSame, Gains, Outside};
+
+use crate::stop::{Status, report};
+use crate::work::work;
+use std::alloc::Global;
+use tool_io::{Files, Sink};
+
+/// Does what the words of a command line ask for: reads its files, writes its outputs, and then puts
+/// its lines on `out`. A refusal is told on `err`; no file changes then. After any other status than
+/// `Done` the files hold some first writes of the job, and at most the next name a prefix of its bytes.
+pub fn run<F: Files, O: Sink, E: Sink>(
+    alloc: Global,
+    words: &[String],
+    files: &mut F,
+    out: &mut O,
+    err: &mut E,
+) -> Status
+    // No count falls.
+    ensures reads { NoneFell (F.read_faults files.old) (F.read_faults files.new) }
+    ensures writes { NoneFell (F.write_faults files.old) (F.write_faults files.new) }
+    ensures out_later { O.faults out.old ≤ O.faults out.new }
+    ensures err_later { E.faults err.old ≤ E.faults err.new }
+
+    // At every exit: some first writes of the job, a prefix of its lines after all writes, a prefix of one line.
+    ensures files { Becomes (F.contents files.old) (F.contents files.new) (ChangesByTheJob (map string_bytes words.now)) }
+    ensures prints { IfSome (F.contents files.old) (λ a. Becomes (O.bytes out.old) (O.bytes out.new) (PrintsForTheJob (map string_bytes words.now) a (F.contents files.new))) }
+    ensures says { Becomes (E.bytes err.old) (E.bytes err.new) Says }
+
+    // Each status has its cause.
+    ensures done { result ≡ Status.Done → IfSome (F.contents files.old) (λ a. EndsDone (map string_bytes words.now) a (F.contents files.new) (O.bytes out.old) (O.bytes out.new)) × IsSame (E.bytes err.old) (E.bytes err.new) }
+    ensures refused { result ≡ Status.Refused → IfSome (F.contents files.old) (λ a. EndsRefused (map string_bytes words.now) a (E.bytes err.old) (E.bytes err.new)) × IsSame (F.contents files.old) (F.contents files.new) × IsSame (O.bytes out.old) (O.bytes out.new) }
+    ensures usage { result ≡ Status.Usage → (task_of (map string_bytes words.now) ≡ None) × Gains (usage_line (map string_bytes words.now)) (E.bytes err.old) (E.bytes err.new) × IsSame (F.contents files.old) (F.contents files.new) × IsSame (O.bytes out.old) (O.bytes out.new) }
+    ensures outside { result ≡ Status.Outside → HasOutsideCause (map string_bytes words.now)
+        (record { files = F.contents files.old; reads = F.read_faults files.old; writes = F.write_faults files.old; out = O.bytes out.old; out_faults = O.faults out.old })
+        (record { files = F.contents files.new; reads = F.read_faults files.new; writes = F.write_faults files.new; out = O.bytes out.new; out_faults = O.faults out.new })
+        (E.bytes err.old) (E.bytes err.new) (E.faults err.old) (E.faults err.new) }
+
+    // Where no count rises, the job's status comes, or want of memory.
+    ensures complete { SomeRose
+        (record { files = F.contents files.old; reads = F.read_faults files.old; writes = F.write_faults files.old; out = O.bytes out.old; out_faults = O.faults out.old })
+        (record { files = F.contents files.new; reads = F.read_faults files.new; writes = F.write_faults files.new; out = O.bytes out.new; out_faults = O.faults out.new })
+        (E.faults err.old) (E.faults err.new)
+        ⊎ ((result ≡ Status.NoMemory) ⊎ IfSome (F.contents files.old) (λ a. HasStatus (map string_bytes words.now) a result)) }
+    // Words that ask for no task are told so, whatever the files are.
+    ensures no_task { task_of (map string_bytes words.now) ≡ None → Rose (E.faults err.old) (E.faults err.new) ⊎ ((result ≡ Status.NoMemory) ⊎ (result ≡ Status.Usage)) }
+{
+    match work(alloc, words, files, out) {
+        Ok(()) => Status::Done,
+        Err(stop) => report(err, &stop),
+    }
+}
