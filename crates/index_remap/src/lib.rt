@@ -1,4 +1,4 @@
-//! Trees with other indices: the call that makes one, and the laws that it stays valid and that every step of it agrees.
+//! Trees with other indices: the call that makes one, and the laws that every step of it agrees and that its runs show the same.
 #![tactic(auto)]
 
 mod body;
