@@ -5,3 +5,4 @@ pub mod Running
 pub mod Deciding
 pub mod Determined
 pub mod FirstItems
+pub mod Kept

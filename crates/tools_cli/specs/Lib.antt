@@ -6,3 +6,4 @@ pub mod Command
 pub mod Stop
 pub mod Causes
 pub mod Run
+pub mod Kept

@@ -1,8 +1,11 @@
 // What the definitions mean that the top call's contract cites, as the contract of a call that does nothing.
 ghost use Rattle.std.specs.Prelude.{◌≡◌, List, ℕ};
 ghost use Rattle.tool_io.specs.Outside.{Contents};
-ghost use Rattle.tools_cli.specs.Job.{Job, HasJob, HoldBytes};
+ghost use Rattle.tools_cli.specs.Effects.{Entry, made};
+ghost use Rattle.tools_cli.specs.Job.{Done, Job, HasJob, HoldBytes};
+ghost use Rattle.tools_cli.specs.Kept.{Keeps};
 
+use plain_law::{plain_spells, spelled_trees_are_in_range};
 use wasm_format::{no_fault_where_spelled, one_tree};
 
 /// A command line has at most one job over some files.
@@ -11,4 +14,12 @@ pub fn jobs_are_determined()
 {
     one_tree();
     no_fault_where_spelled();
+}
+
+/// A job that is done keeps the module that it read: the output spells the same module, and it is valid.
+pub fn done_jobs_keep_the_module()
+    ensures { (words : List (List ℕ)) (before : Contents) (writes : List Entry) (lines : List ℕ) → HasJob words before (Done writes lines) → Keeps words before (made writes before) }
+{
+    plain_spells();
+    spelled_trees_are_in_range();
 }
