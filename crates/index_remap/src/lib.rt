@@ -23,11 +23,9 @@ pub fn steps_agree()
 /// A body with other indices is related to what it was, where each index that it names and its entry stand for the same: the relation of which `steps_agree` speaks.
 pub fn renumbered_code_is_related()
     ensures code { RenumberedCodeIsRelated }
-{
-}
+{}
 
 /// Two runs that are related show the same events, in however many steps.
 pub fn related_runs_show_the_same()
     ensures events { RelatedRunsShowTheSame }
-{
-}
+{}

@@ -59,8 +59,7 @@ merge_keeps : Respelled → (file name output : Text) (before : Contents) (input
 merge_keeps k file name output before inputs job e (not_loaded _ bytes text h) = tt
 merge_keeps k file name output before inputs job e (too_large _ bytes tree h large) = tt
 merge_keeps k file name output before inputs job e (written part bytes tree h fits) =
-    let is = loaded_is part bytes (Ok tree) h in
-    (
+    let is = loaded_is part bytes (Ok tree) h in (
       tree,
       (bytes, one_gathered (get before file) before file part bytes e, is.0.spelled),
       (plain tree, written_there before output (plain tree), holds_plain k bytes tree is.0.spelled fits),
