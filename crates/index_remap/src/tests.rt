@@ -1,35 +1,73 @@
+ghost use Rattle.std.specs.Prelude.{◌<◌, length, map as each, IfOk, IsTrue};
+ghost use Rattle.index_remap.specs.Renumbered.{all_true, fits_export, fits_func, fits_tree};
+ghost use Rattle.index_remap.specs.declared.remap.Remap.{Remap as Maps};
+
 use crate::{Remap, renumber};
 use std::alloc::Global;
 use std::test::Fail;
 use wasm_bytes::{Items, Name, NoMemory};
 use wasm_tree::{Export, ExportDesc, Func, FuncType, Instr, Module, ValType};
 
-// A function of type [] to [i32], exported as `f`, whose body is `i32.const 7`.
-fn seven(alloc: Global) -> Result<Module, NoMemory> {
-    let mut module = Module::empty(alloc);
-    module.types.keep(FuncType {
+fn types(alloc: Global) -> Result<Items<FuncType>, NoMemory> {
+    let results = Items::from_slice(alloc, &[ValType::I32])?;
+    let mut types = Items::new(alloc);
+    types.keep(FuncType {
         params: Items::new(alloc),
-        results: Items::from_slice(alloc, &[ValType::I32])?,
+        results,
     })?;
+    Ok(types)
+}
+
+fn funcs(alloc: Global) -> Result<Items<Func>, NoMemory>
+    ensures { IfOk result (λ fs. (map : Maps) → 0 < length map.types → IsTrue (all_true (each (fits_func map) fs))) }
+{
     let mut body = Items::new(alloc);
     body.keep(Instr::I32Const(7))?;
-    module.funcs.keep(Func {
+    let mut funcs = Items::new(alloc);
+    funcs.keep(Func {
         ty: 0,
         locals: Items::new(alloc),
         body,
     })?;
-    module.exports.keep(Export {
-        name: Name::from_text(alloc, "f")?,
+    Ok(funcs)
+}
+
+fn exports(alloc: Global) -> Result<Items<Export>, NoMemory>
+    ensures { IfOk result (λ es. (map : Maps) → 0 < length map.funcs → IsTrue (all_true (each (fits_export map) es))) }
+{
+    let name = Name::from_text(alloc, "f")?;
+    let mut exports = Items::new(alloc);
+    exports.keep(Export {
+        name,
         desc: ExportDesc::Func(0),
     })?;
+    Ok(exports)
+}
+
+// A function of type [] to [i32], exported as `f`, whose body is `i32.const 7`.
+fn seven(alloc: Global) -> Result<Module, NoMemory>
+    ensures { IfOk result (λ m. (map : Maps) → 0 < length map.types → 0 < length map.funcs → IsTrue (fits_tree map m)) }
+{
+    let types = types(alloc)?;
+    let funcs = funcs(alloc)?;
+    let exports = exports(alloc)?;
+    let mut module = Module::empty(alloc);
+    module.types = types;
+    module.funcs = funcs;
+    module.exports = exports;
     Ok(module)
 }
 
 // Function 0 becomes 1, and type 0 stays.
-fn moved(alloc: Global) -> Result<Remap, NoMemory> {
+fn moved(alloc: Global) -> Result<Remap, NoMemory>
+    ensures types { IfOk result (λ map. 0 < length map.types) }
+    ensures funcs { IfOk result (λ map. 0 < length map.funcs) }
+{
+    let types = Items::from_slice(alloc, &[0])?;
+    let funcs = Items::from_slice(alloc, &[1])?;
     Ok(Remap {
-        types: Items::from_slice(alloc, &[0])?,
-        funcs: Items::from_slice(alloc, &[1])?,
+        types,
+        funcs,
         tables: Items::new(alloc),
         mems: Items::new(alloc),
         globals: Items::new(alloc),
