@@ -18,7 +18,7 @@ group_spells : (g : LocalGroup) → IsU32 g.count → SpellsGroup (group_text g)
 unfolding group_text
 group_spells g h = (u32_text g.count, val_text g.ty, u32_spells g.count h, val_spells g.ty, refl)
 
-group_some : (g : LocalGroup) → 0 < length (group_text g)
+pub group_some : (g : LocalGroup) → 0 < length (group_text g)
 unfolding group_text
 group_some g = omega (arith, u32_some g.count, length-append (u32_text g.count) (val_text g.ty))
 

@@ -43,7 +43,7 @@ one_more bound next id p m q content bytes may behind few form rest = λ last le
     let r = rest (after last id) (behind last) in
     ((id, content) ∷ r.0, (section_text id content, bytes, (may last le, (sized_text content, sized_spells content few, refl)), r.1, refl), (m, form, r.2))
 
-section_short : (id : ℕ) (content : List ℕ) → length (section_text id content) < 2 ^ 32 → length content < 2 ^ 32
+pub section_short : (id : ℕ) (content : List ℕ) → length (section_text id content) < 2 ^ 32 → length content < 2 ^ 32
 section_short id content h = omega (arith, h, length-append (u32_text (length content)) content)
 
 -- a section of a list, if it has items
@@ -62,7 +62,7 @@ map_id : {A : Type 0} (xs : List A) → map (λ (x : A). x) xs ≡ xs
 map_id [] = refl
 map_id (x ∷ xs) = ap (λ t. x ∷ t) (map_id xs)
 
-each_short : {A : Type 0} (text : A → List ℕ) (xs : List A) → length (vector_text text xs) < 2 ^ 32 → length (each_text text xs) < 2 ^ 32
+pub each_short : {A : Type 0} (text : A → List ℕ) (xs : List A) → length (vector_text text xs) < 2 ^ 32 → length (each_text text xs) < 2 ^ 32
 each_short text xs h = omega (arith, h, length-append (u32_text (length xs)) (each_text text xs))
 
 -- items that are spelled as they are
@@ -338,6 +338,37 @@ all_sections m r few =
     let r3 = func_section_more m (p12 m) (t4 m) r s3.0 r4 in
     let r2 = imports_more m (p12 m) (t3 m) r s2.0 r3 in
     types_more m (p12 m) (t2 m) r s1.0 r2
+
+-- how long the sections are where the whole is short
+pub record SectionLengths (m : Module) : Type 0 where
+  pub types : length (list_section 1 func_type_text m.types) < 2 ^ 32
+  pub imports : length (list_section 2 import_text m.imports) < 2 ^ 32
+  pub func_types : length (list_section 3 (λ (f : Func). u32_text f.ty) m.funcs) < 2 ^ 32
+  pub tables : length (list_section 4 table_text m.tables) < 2 ^ 32
+  pub mems : length (list_section 5 limits_text m.mems) < 2 ^ 32
+  pub globals : length (list_section 6 global_text m.globals) < 2 ^ 32
+  pub exports : length (list_section 7 export_text m.exports) < 2 ^ 32
+  pub elems : length (list_section 9 elem_text m.elems) < 2 ^ 32
+  pub codes : length (list_section 10 entry_text m.funcs) < 2 ^ 32
+  pub datas : length (list_section 11 data_text m.datas) < 2 ^ 32
+
+pub section_lengths : (m : Module) → length (plain m) < 2 ^ 32 → SectionLengths m
+section_lengths m few =
+    let whole = plain_regrouped m in
+    let short : length (t1 m) < 2 ^ 32 = omega (arith, few, ap length whole, length-append header (t1 m)) in
+    let s1 = parted (list_section 1 func_type_text m.types) (t2 m) short in
+    let s2 = parted (list_section 2 import_text m.imports) (t3 m) s1.1 in
+    let s3 = parted (list_section 3 (λ (f : Func). u32_text f.ty) m.funcs) (t4 m) s2.1 in
+    let s4 = parted (list_section 4 table_text m.tables) (t5 m) s3.1 in
+    let s5 = parted (list_section 5 limits_text m.mems) (t6 m) s4.1 in
+    let s6 = parted (list_section 6 global_text m.globals) (t7 m) s5.1 in
+    let s7 = parted (list_section 7 export_text m.exports) (t8 m) s6.1 in
+    let s8 = parted (start_section m.start) (t9 m) s7.1 in
+    let s9 = parted (list_section 9 elem_text m.elems) (t10 m) s8.1 in
+    let s10 = parted (count_section m) (t11 m) s9.1 in
+    let s11 = parted (list_section 10 entry_text m.funcs) (t12 m) s10.1 in
+    let s12 = parted (list_section 11 data_text m.datas) [] s11.1 in
+    record { types = s1.0; imports = s2.0; func_types = s3.0; tables = s4.0; mems = s5.0; globals = s6.0; exports = s7.0; elems = s9.0; codes = s11.0; datas = s12.0 }
 
 -- ---- the whole file
 

@@ -7,3 +7,4 @@ pub mod FileTexts
 pub mod NumberRanges
 pub mod BodyRanges
 pub mod TreeRanges
+pub mod SizeLaws

@@ -72,7 +72,7 @@ pub count_below : {A : Type 0} (text : A → List ℕ) (xs : List A) → ((x : A
 count_below text [] some = omega arith
 count_below text (x ∷ xs) some = let h = count_below text xs some in let k = some x in omega (arith, h, k, length-append (text x) (each_text text xs))
 
-vector_count : {A : Type 0} (text : A → List ℕ) (xs : List A) → ((x : A) → 0 < length (text x)) → length (vector_text text xs) < 2 ^ 32 → length xs < 2 ^ 32
+pub vector_count : {A : Type 0} (text : A → List ℕ) (xs : List A) → ((x : A) → 0 < length (text x)) → length (vector_text text xs) < 2 ^ 32 → length xs < 2 ^ 32
 vector_count text xs some h = let k = count_below text xs some in omega (arith, h, k, length-append (u32_text (length xs)) (each_text text xs))
 
 pub vector_spells : {A : Type 0} (spells : List ℕ → A → Type 0) (text : A → List ℕ) (xs : List A) → ((x : A) → 0 < length (text x)) → length (vector_text text xs) < 2 ^ 32 →

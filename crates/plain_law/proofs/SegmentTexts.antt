@@ -22,7 +22,7 @@ use Rattle.plain_law.specs.Ranges.{IsU32, ConstInRange, ElemModeInRange, ElemInR
 use Rattle.plain_law.proofs.Parts.{u32_some, u32_spells, flag_spells, sized_spells, vector_spells, every_with, left, right}
 use Rattle.plain_law.proofs.ItemTexts.{ref_spells, const_spells, const_some}
 
-two_cases : (b : Bool) → (b ≡ true) ⊎ (b ≡ false)
+pub two_cases : (b : Bool) → (b ≡ true) ⊎ (b ≡ false)
 two_cases true = inl refl
 two_cases false = inr refl
 
@@ -132,7 +132,7 @@ const_mode elem.Declarative ty cs h items = (7, (0x07 ∷ [], ref_code ty ∷ co
 ends : (a b : List ℕ) (n : ℕ) → n ≤ length b → n ≤ length (a ++ b)
 ends a b n h = omega (arith, h, length-append a b)
 
-index_long : (m : ElemMode) (cs : List ConstExpr) → length (index_items cs) ≤ length (mode_by_index m cs)
+pub index_long : (m : ElemMode) (cs : List ConstExpr) → length (index_items cs) ≤ length (mode_by_index m cs)
 index_long (elem.Active table offset) cs = ⊎_elim
     (λ yes. rw yes (ends (0x00 ∷ const_text offset) (index_items cs) (length (index_items cs)) (omega arith)))
     (λ no. rw no (ends ((0x02 ∷ u32_text table) ++ const_text offset) (0x00 ∷ index_items cs) (length (index_items cs)) (omega arith)))
@@ -140,7 +140,7 @@ index_long (elem.Active table offset) cs = ⊎_elim
 index_long elem.Passive cs = omega arith
 index_long elem.Declarative cs = omega arith
 
-const_long : (m : ElemMode) (ty : RefType) (cs : List ConstExpr) → length (const_items cs) ≤ length (mode_by_const m ty cs)
+pub const_long : (m : ElemMode) (ty : RefType) (cs : List ConstExpr) → length (const_items cs) ≤ length (mode_by_const m ty cs)
 const_long (elem.Active table offset) ty cs = ⊎_elim
     (λ yes. rw yes (ends (0x04 ∷ const_text offset) (const_items cs) (length (const_items cs)) (omega arith)))
     (λ no. rw no (ends ((0x06 ∷ u32_text table) ++ const_text offset) (ref_code ty ∷ const_items cs) (length (const_items cs)) (omega arith)))

@@ -6,6 +6,7 @@ ghost use Rattle.wasm_tree.specs.declared.module.Module.{Module as Tree};
 ghost use Rattle.wasm_format.specs.Files.{Spells};
 ghost use Rattle.wasm_plain.specs.Plain.{plain};
 ghost use Rattle.plain_law.specs.Ranges.{InRange};
+ghost use Rattle.plain_law.specs.SmallSizes.{SmallSizes};
 
 /// The plain spelling of a tree, of fewer than 2^32 bytes, spells the tree. The premise holds of each tree that a program holds
 /// and whose bodies name no memory but memory 0.
@@ -17,4 +18,10 @@ pub fn plain_spells()
 /// but memory 0: so its plain spelling spells it again.
 pub fn spelled_trees_are_in_range()
     ensures { (bytes : List ℕ) (m : Tree) → Spells bytes m false → InRange m }
+{}
+
+/// Where the plain spelling of a tree has fewer than 2^32 bytes, as that of a tree that fits has, each vector of the tree and each
+/// size that is written is below 2^32.
+pub fn trees_that_fit_have_small_sizes()
+    ensures { (m : Tree) → length (plain m) < 2 ^ 32 → SmallSizes m }
 {}
