@@ -19,9 +19,9 @@ PROGRAM = os.path.abspath(sys.argv[1]) if len(sys.argv) > 1 else os.path.join(TO
 HEADER = bytes.fromhex("0061736d01000000")
 MODULE = HEADER + bytes.fromhex("0105016000017f03020100070501016600000a0601040041070b")
 REFUSAL = re.compile(
-    rb"binkit: in\.wasm: (not a WebAssembly module|not built yet|malformed (section|function) \d+"
-    rb"|unsupported in (section|function) \d+|limit on [a-z ]+|invalid [a-z]+ \d+|import \d+ .+|global \d+ .+)\n"
-    rb"|binkit: (more than one memory|export .+ stands twice|output exceeds the limit on [a-z ]+)\n"
+    rb"binkit: in\.wasm: (not a WebAssembly module|malformed (section|function) \d+"
+    rb"|unsupported in (section|function) \d+|limit on [a-z ]+|invalid [a-z]+ \d+)\n"
+    rb"|binkit: output exceeds the limit on [a-z ]+\n"
 )
 
 
