@@ -58,6 +58,12 @@ const UNKNOWN_OPCODE: [u8; 34] = [
     0x07, 0x0B,
 ];
 
+// A without the instruction that gives 7.
+const NOTHING_GIVEN: [u8; 32] = [
+    0x00, 0x61, 0x73, 0x6D, 0x01, 0x00, 0x00, 0x00, 0x01, 0x05, 0x01, 0x60, 0x00, 0x01, 0x7F, 0x03,
+    0x02, 0x01, 0x00, 0x07, 0x05, 0x01, 0x01, 0x66, 0x00, 0x00, 0x0A, 0x04, 0x01, 0x02, 0x00, 0x0B,
+];
+
 // A type section that begins with the count 1,000,001.
 const MANY_TYPES: [u8; 13] = [
     0x00, 0x61, 0x73, 0x6D, 0x01, 0x00, 0x00, 0x00, 0x01, 0x03, 0xC1, 0x84, 0x3D,
@@ -164,6 +170,11 @@ fn each_module_is_written_or_refused_with_its_text(rt: HostRuntime) -> Result<()
             &[],
             "binkit: a.wasm: limit on parameters\n",
         ),
+        (
+            NOTHING_GIVEN.as_slice(),
+            &[],
+            "binkit: a.wasm: invalid body 0\n",
+        ),
         (&[], &[], "binkit: a.wasm: not a WebAssembly module\n"),
     ] {
         let words = words_of(alloc, "merge a.wasm a -o o.wasm")?;
@@ -187,15 +198,38 @@ fn each_module_is_written_or_refused_with_its_text(rt: HostRuntime) -> Result<()
 #[test]
 fn faults_of_files_and_of_standard_error_are_told(rt: HostRuntime) -> Result<(), Fail> {
     let alloc = rt.alloc();
-    for (call, put, text) in [
-        (1, 0, "binkit: cannot read a.wasm\n"),
-        (2, 0, "binkit: cannot write o.wasm\n"),
-        (1, 1, "bink"),
-        (1, 2, "binkit: cannot"),
+    for (line, call, put, text, half) in [
+        (
+            "merge h.wasm m -o o.wasm",
+            1,
+            0,
+            "binkit: cannot read h.wasm\n",
+            None,
+        ),
+        (
+            "merge h.wasm m -o o.wasm",
+            2,
+            0,
+            "binkit: cannot write o.wasm\n",
+            Some(&HEADER[..4]),
+        ),
+        (
+            "merge a.wasm m -o o.wasm",
+            2,
+            0,
+            "binkit: cannot write o.wasm\n",
+            Some(&A[..17]),
+        ),
+        ("merge a.wasm m -o o.wasm", 1, 1, "bink", None),
+        ("merge a.wasm m -o o.wasm", 1, 2, "binkit: cannot", None),
+        ("merge c.wasm m -o o.wasm", 0, 1, "bink", None),
+        ("merge c.wasm m -o o.wasm", 0, 2, "binkit: c.w", None),
     ] {
-        let words = words_of(alloc, "merge a.wasm m -o o.wasm")?;
+        let words = words_of(alloc, line)?;
         let mut files = MemFiles::new(alloc);
+        files.add("h.wasm", &HEADER)?;
         files.add("a.wasm", &A)?;
+        files.add("c.wasm", &CUT)?;
         files.fail_at(call)?;
         let mut out = MemSink::new(alloc);
         let mut err = MemSink::new(alloc);
@@ -204,7 +238,6 @@ fn faults_of_files_and_of_standard_error_are_told(rt: HostRuntime) -> Result<(),
         assert_eq!(rt; ended, Status::Outside, "{text}");
         assert_eq!(rt; ended.code(), 3);
         assert_eq!(rt; err.text(), text.as_bytes(), "{text}");
-        let half = if call == 2 { Some(&A[..17]) } else { None };
         assert_eq!(rt; files.contents("o.wasm"), half, "{text}");
     }
     Ok(())
