@@ -18,7 +18,7 @@ const LOCALS: &[u8] = b"\x04\x01\x7F\x01\x7E\x01\x70\x01\x6F";
 const AFTER: &[u8] = b"\x0B\x04\x01\x01\x01\x78";
 
 // Control, parametric and variable instructions in a body without results, and whether it is well typed.
-const CONTROL: [(&[u8], bool); 40] = [
+const CONTROL: [(&[u8], bool); 44] = [
     // unreachable
     (b"\x00", true),
     // unreachable leaves an i32 for ref.is_null
@@ -27,6 +27,14 @@ const CONTROL: [(&[u8], bool); 40] = [
     (b"\x01", true),
     // nop leaves nothing to drop
     (b"\x01\x1A", false),
+    // i32.const
+    (b"\x41\x00\x21\x00", true),
+    // i32.const is no i64
+    (b"\x41\x00\x21\x01", false),
+    // i64.const
+    (b"\x42\x00\x21\x01", true),
+    // i64.const is no i32
+    (b"\x42\x00\x21\x00", false),
     // block
     (b"\x02\x7F\x20\x00\x0B\x1A", true),
     // block leaves too much
@@ -225,7 +233,7 @@ const UNREACHABLE: [(&[u8], bool); 18] = [
     (b"\x02\x7F\x00\x0D\x00\xD1\x0B\x1A", false),
     // several results
     (b"\x20\x01\x02\x03\x20\x00\x0B\x21\x00\x21\x01", true),
-    // a million labels are one
+    // labels that are named again
     (b"\x20\x00\x0E\x03\x00\x00\x00\x00", true),
 ];
 
