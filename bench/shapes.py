@@ -1,0 +1,51 @@
+#!/usr/bin/env python3
+"""Measures `merge` on modules of one large thing each, beside wasm-validate of wabt, where it is installed.
+
+    bench/shapes.py [PROGRAM]
+"""
+import os
+import shutil
+import sys
+import tempfile
+
+sys.path.insert(0, os.path.dirname(os.path.abspath(__file__)))
+from read_write import PROGRAM, leb, section, timed
+
+HEADER = b"\0asm\1\0\0\0"
+NOTHING_TO_NOTHING = section(1, b"\x01\x60\0\0")
+
+
+def of_bodies(bodies, exports=b""):
+    count = leb(len(bodies))
+    code = b"".join(leb(len(body)) + body for body in bodies)
+    return HEADER + NOTHING_TO_NOTHING + section(3, count + b"\0" * len(bodies)) + exports + section(10, count + code)
+
+
+def shapes():
+    yield "one `br_table` of a million labels", of_bodies([b"\x00\x02\x40\x41\x00\x0e" + leb(1000000) + b"\x00" * 1000001 + b"\x0b\x0b"])
+    many_locals = b"\x02" + leb(25000) + b"\x7f" + leb(25000) + b"\x7e\x20" + leb(49999) + b"\x1a\x0b"
+    yield "100,000 functions of 50,000 locals each", of_bodies([many_locals] * 100000)
+    names = [b"n%d" % number for number in range(500000)]
+    exports = section(7, leb(len(names)) + b"".join(leb(len(name)) + name + b"\0\0" for name in names))
+    yield "500,000 exports", of_bodies([b"\x00\x0b"], exports)
+    yield "a million empty functions", of_bodies([b"\x00\x0b"] * 1000000)
+
+
+def main():
+    print("| shape | MiB | tool | seconds | MiB of memory |\n|---|---|---|---|---|")
+    with tempfile.TemporaryDirectory() as folder:
+        name, out = os.path.join(folder, "in.wasm"), os.path.join(folder, "out.wasm")
+        for shape, content in shapes():
+            with open(name, "wb") as file:
+                file.write(content)
+            for tool, command in ("binkit merge", [PROGRAM, "merge", name, "m", "-o", out]), ("wasm-validate", ["wasm-validate", name]):
+                if not shutil.which(command[0]):
+                    print(f"| {shape} | | {tool} | skipped: not installed | |")
+                    continue
+                runs = [timed(command) for _ in range(3)]
+                ended = "failed" if any(run[2] for run in runs) else f"{min(run[0] for run in runs):.2f}"
+                print(f"| {shape} | {len(content) / (1 << 20):.1f} | {tool} | {ended} | {max(run[1] for run in runs):.0f} |", flush=True)
+
+
+if __name__ == "__main__":
+    main()
