@@ -209,7 +209,14 @@ pub const BODIES: [(&[u8], Option<ReadFault>); 44] = [
     ),
 ];
 
-pub const ORDER: [(&[u8], Option<ReadFault>); 41] = [
+pub const ORDER: [(&[u8], Option<ReadFault>); 42] = [
+    // a count past its limit, and then a first item that is none
+    (
+        b"\x01\x04\xC1\x84\x3D\x61",
+        Some(ReadFault::Limit {
+            which: Which::Types,
+        }),
+    ),
     (
         b"\x01\x03\xC1\x84\x3D\x0D\x00",
         Some(ReadFault::Malformed { section: 1 }),

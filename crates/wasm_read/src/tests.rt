@@ -19,12 +19,14 @@ fn refusal(alloc: Global, sections: &[u8]) -> Result<Option<ReadFault>, Fail> {
     Ok(read(alloc, &bytes).err())
 }
 
-const NO_MODULES: [&[u8]; 5] = [
+const NO_MODULES: [&[u8]; 6] = [
     b"",
     b"\x00\x61\x73\x6D\x01\x00\x00",
     b"\x00\x61\x73\x6D\x02\x00\x00\x00",
     b"\x7F\x45\x4C\x46\x01\x00\x00\x00",
     b"\x00\x61\x73\x6D\x0D\x00\x01\x00\x01\x03\xC1\x84\x3D",
+    // a bad header, and then a frame with a bad number
+    b"\x00\x61\x73\x6D\x02\x00\x00\x00\x0D\x01\x00",
 ];
 
 /// First and last opcodes of operations, and of opcodes that are known but outside the integer profile.
@@ -197,25 +199,43 @@ fn each_opcode_is_known_or_not(rt: HostRuntime) -> Result<(), Fail> {
     Ok(())
 }
 
+/// So many nested blocks and their ends, and then this byte.
+fn nested(alloc: Global, depth: u32, last: u8) -> Result<Out, Fail> {
+    let mut body = Out::new(alloc);
+    for _ in 0..depth {
+        body.bytes(b"\x02\x40")?;
+    }
+    for _ in 0..depth {
+        body.byte(0x0B)?;
+    }
+    body.byte(last)?;
+    Ok(body)
+}
+
+/// How many blocks, the byte after their ends, and the answer: the limit comes before a byte that is no opcode.
+const NESTED: [(u32, u8, Option<ReadFault>); 4] = [
+    (1000, 0x0B, None),
+    (
+        1001,
+        0x0B,
+        Some(ReadFault::Limit {
+            which: Which::Nesting,
+        }),
+    ),
+    (1000, 0xFF, Some(ReadFault::MalformedBody { func: 0 })),
+    (
+        1001,
+        0xFF,
+        Some(ReadFault::Limit {
+            which: Which::Nesting,
+        }),
+    ),
+];
+
 #[test]
 fn a_thousand_blocks_may_be_open_at_once(rt: HostRuntime) -> Result<(), Fail> {
-    for (depth, expected) in [
-        (1000, None),
-        (
-            1001,
-            Some(ReadFault::Limit {
-                which: Which::Nesting,
-            }),
-        ),
-    ] {
-        let mut body = Out::new(rt.alloc());
-        for _ in 0..depth {
-            body.bytes(b"\x02\x40")?;
-        }
-        for _ in 0..depth {
-            body.byte(0x0B)?;
-        }
-        body.byte(0x0B)?;
+    for (depth, last, expected) in NESTED {
+        let body = nested(rt.alloc(), depth, last)?;
         assert_eq!(rt; body_refusal(rt.alloc(), body.as_slice())?, expected);
     }
     Ok(())
