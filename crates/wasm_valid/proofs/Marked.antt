@@ -20,7 +20,7 @@ segment_step f xs i x marks new lt is e =
     ∙ ap (λ z. marked_all marks (f z ++ flat_map f (drop (i + 1) xs))) is
     ∙ sym (at_drop_more (λ zs. marked_all marks (flat_map f zs)) xs i x lt)
 
-no_marks : (a n : ℕ) → named_from [] a n ≡ replicate n false
+pub no_marks : (a n : ℕ) → named_from [] a n ≡ replicate n false
 no_marks a zero = refl
 no_marks a (suc n) = ap (λ z. false ∷ z) (no_marks (suc a) n)
 
@@ -57,7 +57,7 @@ one_mark refs a (suc n) (suc k) r e =
     let ne : a ≢ r = omega arith in
     ap (λ z. list_any (nat_eq a) refs ∷ z) (one_mark refs (suc a) n k r (omega arith)) ∙ ap (λ b. b ∷ named_from (refs ++ r ∷ []) (suc a) n) (sym (other refs a r ne))
 
-all_marks : (refs rs : List ℕ) (n : ℕ) → marked_all (named_from refs 0 n) rs ≡ named_from (refs ++ rs) 0 n
+pub all_marks : (refs rs : List ℕ) (n : ℕ) → marked_all (named_from refs 0 n) rs ≡ named_from (refs ++ rs) 0 n
 all_marks refs [] n = ap (λ z. named_from z 0 n) (sym (append-nil refs))
 all_marks refs (r ∷ rs) n =
     ap (λ z. marked_all z rs) (one_mark refs 0 n r r (sym (zero-add r))) ∙ all_marks (refs ++ r ∷ []) rs n ∙ ap (λ z. named_from z 0 n) (append_assoc refs (r ∷ []) rs)

@@ -14,7 +14,9 @@ mod spaces;
 #[cfg(test)]
 mod tests;
 mod validation;
+mod written;
 
 pub use kinds::{Invalid, ItemKind};
 pub use laws::{valid_code_names_memory_zero, valid_where_items_hold};
+pub use named::{mark, mark_const, named_funcs};
 pub use validation::{Rejected, Valid, validate};

@@ -8,7 +8,8 @@ ghost use Rattle.wasm_valid.specs.Named.{const_func, export_func, elem_refs, glo
 use std::alloc::{AllocError, Global};
 use wasm_tree::{ConstExpr, ElemSeg, Export, ExportDesc, GlobalDef, Module};
 
-fn mark(marks: &mut Vec<bool>, func: u32)
+/// Marks the function, if it is one of those that have a mark.
+pub fn mark(marks: &mut Vec<bool>, func: u32)
     ensures { marks.new.items ≡ slice_set marks.old.items func true }
 {
     if let Some(mark) = marks.get_mut(func as usize) {
@@ -16,8 +17,8 @@ fn mark(marks: &mut Vec<bool>, func: u32)
     }
 }
 
-// Marks the function that the expression names, if it names one.
-fn mark_const(marks: &mut Vec<bool>, expr: &ConstExpr)
+/// Marks the function that the expression names, if it names one.
+pub fn mark_const(marks: &mut Vec<bool>, expr: &ConstExpr)
     ensures { marks.new.items ≡ marked_at marks.old.items (const_func expr.now) }
 {
     if let ConstExpr::Func(func) = expr {

@@ -9,6 +9,7 @@ fn a_module_is_accepted_or_handed_back(rt: HostRuntime) -> Result<(), Fail> {
     let accepted = match validate(alloc, Module::empty(alloc)) {
         Ok(valid) => {
             let again = Valid::known(valid.into_module());
+            again.can_be_written();
             again.module().funcs.len() == 0
         }
         Err(_back) => false,
