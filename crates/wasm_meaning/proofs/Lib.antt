@@ -1,5 +1,6 @@
 pub mod Simulation
 mod SmallRuns
+mod MoreRuns
 pub mod Pigeons
 pub mod Walks
 pub mod Linked
