@@ -1,4 +1,5 @@
 pub mod Fits
+pub mod Marks
 pub mod Rel
 pub mod ValueSteps
 pub mod MemorySteps

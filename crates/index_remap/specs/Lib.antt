@@ -1,4 +1,5 @@
 pub mod Renumbered
+pub mod References
 pub mod Related
 pub mod CodeNames
 pub mod RelatedRuns

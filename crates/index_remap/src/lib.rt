@@ -2,6 +2,7 @@
 #![tactic(auto)]
 
 mod body;
+mod declaring;
 mod each;
 mod remap;
 mod renumbering;
@@ -9,9 +10,13 @@ mod renumbering;
 ghost use Rattle.index_remap.specs.Laws.{RelatedRunsShowTheSame, RenumberedCodeIsRelated, StepsAgree, TrapsAgree};
 
 #[cfg(test)]
+mod declaring_tests;
+#[cfg(test)]
 mod tests;
 
-pub use remap::Remap;
+pub use declaring::declare_refs;
+pub use each::renumber_func;
+pub use remap::{Remap, renumber_const, renumber_export_desc};
 pub use renumbering::renumber;
 
 /// From stores that correspond and configurations that are related one step of each agrees.

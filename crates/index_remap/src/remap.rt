@@ -47,7 +47,8 @@ pub(crate) fn renumber_memarg(arg: MemArg, map: &Remap) -> MemArg
     }
 }
 
-pub(crate) fn renumber_const(expr: ConstExpr, map: &Remap) -> ConstExpr
+/// A constant expression with other indices (WebAssembly Core 2.0, section 3.3.10). The map needs an entry for the index that it names.
+pub fn renumber_const(expr: ConstExpr, map: &Remap) -> ConstExpr
     requires { IsTrue (fits_const map.now expr) }
     ensures { result ≡ new_const map.now expr }
 {
@@ -72,7 +73,8 @@ pub(crate) fn renumber_import_desc(desc: ImportDesc, map: &Remap) -> ImportDesc
     }
 }
 
-pub(crate) fn renumber_export_desc(desc: ExportDesc, map: &Remap) -> ExportDesc
+/// What an export stands for, with another index (WebAssembly Core 2.0, section 2.5.10). The map needs an entry for it.
+pub fn renumber_export_desc(desc: ExportDesc, map: &Remap) -> ExportDesc
     requires { IsTrue (fits_export_desc map.now desc) }
     ensures { result ≡ new_export_desc map.now desc }
 {

@@ -1,0 +1,7 @@
+use Rattle.std.proofs.Common.{◌≡◌, drop}
+use Rattle.wasm_valid.specs.Named.{marked_all, named_from}
+use Rattle.index_remap.specs.References.{body_refs}
+use Rattle.index_remap.proofs.declaring.named_inside.Given as goal
+
+abbrev pub invariant-loop-func : goal.invariant-loop-func
+invariant-loop-func l = marked_all l.marks.items (body_refs (drop l.func-index l.funcs)) ≡ named_from (body_refs l.funcs) 0 l.count

@@ -1,0 +1,27 @@
+use Rattle.std.proofs.Common.{length, ap, sym, ◌∙◌, arith}
+use Rattle.std.proofs.lemmas.Result.{IfOk-weaker}
+use Rattle.wasm_valid.specs.Named.{named_from}
+use Rattle.index_remap.specs.References.{body_refs, outside_refs}
+use Rattle.index_remap.proofs.Marks.{marks_length, items_are}
+use Rattle.index_remap.proofs.declaring.undeclared.Goals as goal
+
+pub items_of-requires-clause-same : goal.items_of-requires-clause-same
+items_of-requires-clause-same c =
+    let m = c.args.module.now in
+    ap length (c.as_slice-in-Ok-named_outside-2.ensures.value ∙ c.in-Ok-named_outside.ensures) ∙ marks_length (outside_refs m) 0 c.func_space-count.result
+    ∙ sym (ap length (c.as_slice-in-Ok-named_outside.ensures.value ∙ c.in-Ok.ensures) ∙ marks_length (body_refs c.as_slice.result.now) 0 c.func_space-count.result)
+
+pub items_of-requires-clause-few : goal.items_of-requires-clause-few
+items_of-requires-clause-few c =
+    let size = ap length (c.as_slice-in-Ok-named_outside.ensures.value ∙ c.in-Ok.ensures) ∙ marks_length (body_refs c.as_slice.result.now) 0 c.func_space-count.result in
+    let few = c.requires in
+    omega (arith, size, c.func_space-count.ensures, few)
+
+pub returns-in-Ok-named_outside : goal.returns-in-Ok-named_outside
+returns-in-Ok-named_outside c =
+    let m = c.args.module.now in
+    IfOk-weaker c.items_of.result _ _
+    (λ items h. items_are c.func_space-count.result _ (body_refs m.funcs) (outside_refs m) c.as_slice-in-Ok-named_outside.result.now c.as_slice-in-Ok-named_outside-2.result.now items
+    (c.as_slice-in-Ok-named_outside.ensures.value ∙ c.in-Ok.ensures ∙ ap (λ fs. named_from (body_refs fs) 0 c.func_space-count.result) c.as_slice.ensures)
+    (c.as_slice-in-Ok-named_outside-2.ensures.value ∙ c.in-Ok-named_outside.ensures) c.func_space-count.ensures h)
+    c.items_of.ensures

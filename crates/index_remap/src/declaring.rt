@@ -1,0 +1,141 @@
+// The call that declares the functions that `ref.func` names in bodies.
+
+ghost use Rattle.std.specs.Prelude.{◌≡◌, ◌<◌, ◌^◌, length, map, replicate, false, IfOk, OnOk, OnErr};
+ghost use Rattle.std.specs.List.{filter, range_with_len};
+ghost use Rattle.wasm_tree.specs.declared.module.ConstExpr.TheVariants as const;
+ghost use Rattle.wasm_tree.specs.Spaces.{funcs_of};
+ghost use Rattle.wasm_valid.specs.Named.{marked_at, marked_all, named_from};
+ghost use Rattle.index_remap.specs.References.{refs, refs_all, body_refs, offset_func, offset_refs, outside_refs, marked_only, declared, declared_refs};
+
+use std::alloc::{AllocError, Global};
+use wasm_bytes::{Items, NoMemory};
+use wasm_tree::{ConstExpr, ElemMode, ElemSeg, Func, Instr, Module, RefType};
+use wasm_valid::{mark, mark_const, named_funcs};
+
+#[cycle(refs)]
+fn mark_instr(marks: &mut Vec<bool>, instr: &Instr)
+    ensures { marks.new.items ≡ marked_all marks.old.items (refs instr.now) }
+{
+    match instr {
+        Instr::Block(_, body) => mark_body(marks, body.as_slice()),
+        Instr::Loop(_, body) => mark_body(marks, body.as_slice()),
+        Instr::If(_, body, other) => {
+            mark_body(marks, body.as_slice());
+            mark_body(marks, other.as_slice());
+        }
+        Instr::RefFunc(func) => mark(marks, *func),
+        _ => (),
+    }
+}
+
+// Marks each function that `ref.func` names in the body.
+#[cycle(refs)]
+fn mark_body(marks: &mut Vec<bool>, body: &[Instr])
+    ensures { marks.new.items ≡ marked_all marks.old.items (refs_all body.now) }
+{
+    for instr in body {
+        mark_instr(marks, instr);
+    }
+}
+
+fn no_marks(alloc: Global, count: usize) -> Result<Vec<bool>, AllocError>
+    ensures { IfOk result (λ marks. marks.items ≡ replicate count false) }
+{
+    vec![in alloc; false; count]
+}
+
+// For each of the first functions, so many, whether `ref.func` names it in a body.
+fn named_inside(alloc: Global, funcs: &[Func], count: usize) -> Result<Vec<bool>, AllocError>
+    ensures { IfOk result (λ marks. marks.items ≡ named_from (body_refs funcs.now) 0 count) }
+{
+    let mut marks = no_marks(alloc, count)?;
+    for func in funcs {
+        mark_body(&mut marks, func.body.as_slice());
+    }
+    Ok(marks)
+}
+
+fn mark_offset(marks: &mut Vec<bool>, mode: &ElemMode)
+    ensures { marks.new.items ≡ marked_at marks.old.items (offset_func mode.now) }
+{
+    if let ElemMode::Active { offset, .. } = mode {
+        mark_const(marks, offset);
+    }
+}
+
+// Marks each function that the offset of a segment names.
+fn mark_offsets(marks: &mut Vec<bool>, elems: &[ElemSeg])
+    ensures { marks.new.items ≡ marked_all marks.old.items (offset_refs elems.now) }
+{
+    for segment in elems {
+        mark_offset(marks, &segment.mode);
+    }
+}
+
+// For each function whether it is named outside the bodies.
+fn named_outside(alloc: Global, module: &Module, count: usize) -> Result<Vec<bool>, AllocError>
+    requires { count ≡ length (funcs_of «module».now) }
+    ensures { IfOk result (λ marks. marks.items ≡ named_from (outside_refs «module».now) 0 count) }
+{
+    let mut marks = named_funcs(alloc, module, count)?;
+    mark_offsets(&mut marks, module.elems.as_slice());
+    Ok(marks)
+}
+
+fn is_only_inside(inside: &[bool], outside: &[bool], func: usize) -> bool
+    requires inside { func < length inside.now }
+    requires outside { func < length outside.now }
+    ensures { result ≡ marked_only inside.now outside.now func }
+{
+    inside[func] && !outside[func]
+}
+
+// An item for each function that is marked in the first and not in the second.
+fn items_of(alloc: Global, inside: &[bool], outside: &[bool]) -> Result<Items<ConstExpr>, NoMemory>
+    requires same { length outside.now ≡ length inside.now }
+    requires few { length inside.now < 2 ^ 32 }
+    ensures { IfOk result (λ items. items ≡ map const.Func (filter (marked_only inside.now outside.now) (range_with_len 0 (length inside.now)))) }
+{
+    let mut items = Items::new(alloc);
+    for func in 0..inside.len() {
+        if is_only_inside(inside, outside, func) {
+            items.keep(ConstExpr::Func(func as u32))?;
+        }
+    }
+    Ok(items)
+}
+
+// An item for each function that is to be declared.
+fn undeclared(alloc: Global, module: &Module) -> Result<Items<ConstExpr>, NoMemory>
+    requires { length (funcs_of «module».now) < 2 ^ 32 }
+    ensures { IfOk result (λ items. items ≡ map const.Func (declared_refs «module».now)) }
+{
+    let count = module.func_space();
+    let inside = match named_inside(alloc, module.funcs.as_slice(), count) {
+        Ok(marks) => marks,
+        Err(_) => return Err(NoMemory),
+    };
+    match named_outside(alloc, module, count) {
+        Ok(outside) => items_of(alloc, inside.as_slice(), outside.as_slice()),
+        Err(_) => Err(NoMemory),
+    }
+}
+
+/// Appends one declarative element segment with the functions that a `ref.func` in a body names and that no element segment, initialiser of a global or
+/// export names, in ascending order, and none where there are no such functions (WebAssembly Core 2.0, section 3.4.10). For want of memory the module
+/// stays as it was.
+pub fn declare_refs(alloc: Global, module: &mut Module) -> Result<(), NoMemory>
+    requires { length (funcs_of «module».old) < 2 ^ 32 }
+    ensures ok { OnOk result («module».new ≡ declared «module».old) }
+    ensures err { OnErr result («module».new ≡ «module».old) }
+{
+    let items = undeclared(alloc, module)?;
+    if items.len() == 0 {
+        return Ok(());
+    }
+    module.elems.keep(ElemSeg {
+        mode: ElemMode::Declarative,
+        ty: RefType::Func,
+        items,
+    })
+}
