@@ -1,0 +1,118 @@
+-- Bodies stay well typed where each index that they name agrees with its entry.
+use Rattle.std.proofs.Common.{◌≡◌, ℕ, ◌^◌, true, nat_lt, nat_le, List, [], ◌∷◌, Some, sym, ap, ◌∙◌, subst}
+use Rattle.std.specs.Prelude.{slice_get, slice_index}
+use Rattle.std.proofs.lemmas.Bool.{ltb-true, lt-ltb}
+use Rattle.wasm_tree.specs.declared.types.ValType.{ValType}
+use Rattle.wasm_tree.specs.declared.types.BlockType.{BlockType}
+use Rattle.wasm_tree.specs.declared.types.BlockType.TheVariants as bt
+use Rattle.wasm_tree.specs.declared.instr.MemArg.{MemArg}
+use Rattle.wasm_tree.specs.declared.instr.Instr.{Instr, fold_out-Instr, map-Instr, out-Instr, Row_of-Instr, items-the_row-Instr, end_of-Instr, more_of-Instr}
+use Rattle.wasm_tree.specs.declared.instr.Instr.TheViews.{outs-Block', outs-Loop', outs-If'}
+use Rattle.wasm_tree.specs.declared.instr.Instr.TheVariants.{Block', Loop', If', Return, Call, CallIndirect, LocalGet, LocalSet, LocalTee, GlobalGet, GlobalSet, TableGet, TableSet, Load, Store, MemorySize, MemoryGrow, RefFunc, MemoryInit, DataDrop, MemoryCopy, MemoryFill, TableInit, ElemDrop, TableCopy, TableGrow, TableSize, TableFill}
+use Rattle.wasm_typing.specs.Ops.{load_width, store_width}
+use Rattle.wasm_typing.specs.Typing.{Stack, operands, Effect, Gives, Leaves, Acts, Context, signature_of, map_option, then_option, fits_memory, effect_of, Ends, Fits, Leads, LeadsAll, WellTyped}
+use Rattle.index_remap.specs.declared.remap.Remap.{Remap}
+use Rattle.index_remap.specs.Renumbered.{new_type, new_memarg, renumber_step, renumbered, renumbered_all}
+use Rattle.index_remap.specs.CodeNames.{Layers, RowLayers, ListLayers}
+use Rattle.remap_typing.specs.Agreement.{Keeps, BlockAgrees, FuncAgrees, LayerAgrees, MemoryAgrees, DataAgrees, SameFrame}
+use Rattle.remap_typing.proofs.Keeping.{keeps_map, keeps_then, keeps_only, keeps_signature, and_keeps, both_keeps, named_keeps, then_is}
+use Rattle.remap_typing.proofs.Rows.{row_typed, block_renumbered, loop_renumbered, if_renumbered}
+
+-- an instruction without a body fits where its type acts
+fits_plain : (c : Context) (i : Instr) (s t : Stack) (e : Effect) → effect_of c i ≡ Some e → Acts e s t → Fits c i s t
+fits_plain c (Block' bt n body) s t e h a = absurd cc
+fits_plain c (Loop' bt n body) s t e h a = absurd cc
+fits_plain c (If' bt n body k other) s t e h a = absurd cc
+fits_plain c i s t e h a = (e, h, a)
+
+pub ends_map : (f g : Stack → Stack → Type 0) (ps rs : List ValType) → ((s t : Stack) → f s t → g s t) → Ends f ps rs → Ends g ps rs
+ends_map f g ps rs k (last, l, a) = (last, k _ last l, a)
+
+-- the context with these labels
+abbrev pub labelled : Context → List (List ValType) → Context
+labelled c ls = record c { labels = ls }
+
+module _ (m : Remap) (c d : Context) (locals : c.locals ≡ d.locals) (results : c.results ≡ d.results) where
+  memory_keeps : (x : ℕ) → MemoryAgrees m c d x → nat_lt x c.memories ≡ true → nat_lt (slice_index m.mems x) d.memories ≡ true
+  memory_keeps x k h = lt-ltb _ _ (k (ltb-true _ _ h))
+
+  data_keeps : (x : ℕ) → DataAgrees m c d x → nat_lt x c.datas ≡ true → nat_lt (slice_index m.datas x) d.datas ≡ true
+  data_keeps x k h = lt-ltb _ _ (k (ltb-true _ _ h))
+
+  aligned_keeps : (ls : List (List ValType)) (w : ℕ) (a : MemArg) → MemoryAgrees m c d a.memory → fits_memory (labelled c ls) w a ≡ true → fits_memory (labelled d ls) w (new_memarg m a) ≡ true
+  aligned_keeps ls w a k h =
+      and_keeps (nat_lt a.memory c.memories) (nat_lt (slice_index m.mems a.memory) d.memories) (nat_le (2 ^ a.align) w) (nat_le (2 ^ a.align) w) (memory_keeps a.memory k) (λ z. z) h
+
+  call_keeps : (x : ℕ) → FuncAgrees m c d x → Keeps (then_option (slice_get c.funcs x) (λ t. slice_get c.types t)) (then_option (slice_get d.funcs (slice_index m.funcs x)) (λ t. slice_get d.types t))
+  call_keeps x k y h = then_is (slice_get d.funcs (slice_index m.funcs x)) (slice_get d.types) ∙ k y (sym (then_is (slice_get c.funcs x) (slice_get c.types)) ∙ h)
+
+  effect_at : (ls : List (List ValType)) (i : Instr) → LayerAgrees m c d (out-Instr i) → (e : Effect) → effect_of (labelled c ls) i ≡ Some e →
+      effect_of (labelled d ls) (renumber_step m (map-Instr Instr Instr (renumbered m) (out-Instr i))) ≡ Some e
+  unfolding out-Instr denote.Hole.Carrier.out
+  effect_at ls (Block' bt n body) q e h = cc
+  effect_at ls (Loop' bt n body) q e h = cc
+  effect_at ls (If' bt n body k other) q e h = cc
+  effect_at ls Return q e h = subst (λ z. Some (Leaves z) ≡ Some e) results h
+  effect_at ls (Call x) q e h = keeps_map _ _ _ (keeps_signature _ _ (call_keeps x q)) e h
+  effect_at ls (CallIndirect ty table) q e h = keeps_then _ _ _ _ q.1 (λ r. keeps_only _ _ _ _ (λ b. b) (keeps_map _ _ _ (keeps_signature _ _ q.0))) e h
+  effect_at ls (LocalGet x) q e h = subst (λ z. map_option (λ t. Gives [] (t ∷ [])) (slice_get z x) ≡ Some e) locals h
+  effect_at ls (LocalSet x) q e h = subst (λ z. map_option (λ t. Gives (t ∷ []) []) (slice_get z x) ≡ Some e) locals h
+  effect_at ls (LocalTee x) q e h = subst (λ z. map_option (λ t. Gives (t ∷ []) (t ∷ [])) (slice_get z x) ≡ Some e) locals h
+  effect_at ls (GlobalGet x) q e h = keeps_map _ _ _ q e h
+  effect_at ls (GlobalSet x) q e h = keeps_then _ _ _ _ q (λ g z p. p) e h
+  effect_at ls (TableGet x) q e h = keeps_map _ _ _ q e h
+  effect_at ls (TableSet x) q e h = keeps_map _ _ _ q e h
+  effect_at ls (Load op a) q e h = keeps_only (fits_memory (labelled c ls) (load_width op) a) (fits_memory (labelled d ls) (load_width op) (new_memarg m a)) _ _ (aligned_keeps ls (load_width op) a q) (λ z p. p) e h
+  effect_at ls (Store op a) q e h = keeps_only (fits_memory (labelled c ls) (store_width op) a) (fits_memory (labelled d ls) (store_width op) (new_memarg m a)) _ _ (aligned_keeps ls (store_width op) a q) (λ z p. p) e h
+  effect_at ls (MemorySize x) q e h = keeps_only _ _ _ _ (memory_keeps x q) (λ z p. p) e h
+  effect_at ls (MemoryGrow x) q e h = keeps_only _ _ _ _ (memory_keeps x q) (λ z p. p) e h
+  effect_at ls (RefFunc x) q e h = named_keeps _ _ q e h
+  effect_at ls (MemoryInit x y) q e h = keeps_only _ _ _ _ (and_keeps _ _ _ _ (data_keeps x q.0) (memory_keeps y q.1)) (λ z p. p) e h
+  effect_at ls (DataDrop x) q e h = keeps_only _ _ _ _ (data_keeps x q) (λ z p. p) e h
+  effect_at ls (MemoryCopy x y) q e h = keeps_only _ _ _ _ (and_keeps _ _ _ _ (memory_keeps x q.0) (memory_keeps y q.1)) (λ z p. p) e h
+  effect_at ls (MemoryFill x) q e h = keeps_only _ _ _ _ (memory_keeps x q) (λ z p. p) e h
+  effect_at ls (TableInit x y) q e h = keeps_only _ _ _ _ (both_keeps _ _ _ _ q.0 q.1) (λ z p. p) e h
+  effect_at ls (ElemDrop x) q e h = keeps_map _ _ _ q e h
+  effect_at ls (TableCopy x y) q e h = keeps_only _ _ _ _ (both_keeps _ _ _ _ q.0 q.1) (λ z p. p) e h
+  effect_at ls (TableGrow x) q e h = keeps_map _ _ _ q e h
+  effect_at ls (TableSize x) q e h = keeps_map _ _ _ q e h
+  effect_at ls (TableFill x) q e h = keeps_map _ _ _ q e h
+  effect_at ls _ q e h = h
+
+  type_kept : (b : BlockType) → BlockAgrees m c d b → Keeps (signature_of c.types b) (signature_of d.types (new_type m b))
+  type_kept bt.Empty q f h = h
+  type_kept (bt.Value t) q f h = h
+  type_kept (bt.Index i) q f h = keeps_signature _ _ q f h
+
+  plain_kept : (ls : List (List ValType)) (i : Instr) (s t : Stack) → LayerAgrees m c d (out-Instr i) → (e : Effect) → effect_of (labelled c ls) i ≡ Some e → Acts e s t → Fits (labelled d ls) (renumbered m i) s t
+  plain_kept ls i s t q e h a =
+      fits_plain (labelled d ls) (renumbered m i) s t e (ap (effect_of (labelled d ls)) (fold_out-Instr Instr (renumber_step m) i) ∙ effect_at ls i q e h) a
+
+  mutual
+    fits_kept : (ls : List (List ValType)) (i : Instr) (s t : Stack) → Layers (LayerAgrees m c d) i → Fits (labelled c ls) i s t → Fits (labelled d ls) (renumbered m i) s t
+    fits_kept ls (Block' bt n body) s t q (f, e, l, a) =
+        let here : BlockAgrees m c d bt = subst (LayerAgrees m c d) (outs-Block' bt n body) q.0 in
+        let g = ends_map _ _ f.params f.results (leads_kept (f.results ∷ ls) body q.1) l in
+        subst (λ j. Fits (labelled d ls) j s t) (sym (block_renumbered m bt n body)) (f, type_kept bt here f e, row_typed (labelled d (f.results ∷ ls)) (renumbered_all m (items-the_row-Instr _ body)) f.params f.results g, a)
+    fits_kept ls (Loop' bt n body) s t q (f, e, l, a) =
+        let here : BlockAgrees m c d bt = subst (LayerAgrees m c d) (outs-Loop' bt n body) q.0 in
+        let g = ends_map _ _ f.params f.results (leads_kept (f.params ∷ ls) body q.1) l in
+        subst (λ j. Fits (labelled d ls) j s t) (sym (loop_renumbered m bt n body)) (f, type_kept bt here f e, row_typed (labelled d (f.params ∷ ls)) (renumbered_all m (items-the_row-Instr _ body)) f.params f.results g, a)
+    fits_kept ls (If' bt n body k other) s t q (f, e, l, o, a) =
+        let here : BlockAgrees m c d bt = subst (LayerAgrees m c d) (outs-If' bt n body k other) q.0 in
+        let g = ends_map _ _ f.params f.results (leads_kept (f.results ∷ ls) body q.1) l in
+        let p = ends_map _ _ f.params f.results (leads_kept (f.results ∷ ls) other q.2) o in
+        subst (λ j. Fits (labelled d ls) j s t) (sym (if_renumbered m bt n body k other)) (f, type_kept bt here f e, row_typed (labelled d (f.results ∷ ls)) (renumbered_all m (items-the_row-Instr _ body)) f.params f.results g, row_typed (labelled d (f.results ∷ ls)) (renumbered_all m (items-the_row-Instr _ other)) f.params f.results p, a)
+    fits_kept ls i s t q h = plain_kept ls i s t q h.0 h.1 h.2
+
+    leads_kept : {n : _} (ls : List (List ValType)) (is : Row_of-Instr n) → RowLayers (LayerAgrees m c d) is → (s t : Stack) → Leads (labelled c ls) is s t → LeadsAll (labelled d ls) (renumbered_all m (items-the_row-Instr n is)) s t
+    leads_kept ls end_of-Instr q s t h = h
+    leads_kept ls (more_of-Instr i is) q s t (u, f, l) = (u, fits_kept ls i s u q.0 f, leads_kept ls is q.1 u t l)
+
+  all_kept : (ls : List (List ValType)) (is : List Instr) → ListLayers (LayerAgrees m c d) is → (s t : Stack) → LeadsAll (labelled c ls) is s t → LeadsAll (labelled d ls) (renumbered_all m is) s t
+  all_kept ls [] q s t h = h
+  all_kept ls (i ∷ is) q s t (u, f, l) = (u, fits_kept ls i s u q.0 f, all_kept ls is q.1 u t l)
+
+pub typing_kept : (m : Remap) (c d : Context) (is : List Instr) (ps rs : List ValType) → SameFrame c d → ListLayers (LayerAgrees m c d) is → WellTyped c is ps rs → WellTyped d (renumbered_all m is) ps rs
+typing_kept m c d is ps rs k q (last, l, a) =
+    (last, subst (λ ls. LeadsAll (labelled d ls) (renumbered_all m is) (operands ps) last) k.labels (all_kept m c d k.locals k.results c.labels is q (operands ps) last l), a)

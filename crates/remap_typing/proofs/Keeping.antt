@@ -1,0 +1,43 @@
+-- What is there stays there, through the words of which the types of instructions are made.
+use Rattle.std.proofs.Common.{◌≡◌, Bool, true, false, ◌&&◌, [], ◌∷◌, Option, Some, None, refl, ap, ◌∙◌}
+use Rattle.std.specs.Prelude.{option_and_then}
+use Rattle.wasm_tree.specs.declared.types.RefType.{RefType}
+use Rattle.wasm_tree.specs.declared.types.RefType.TheVariants.{Func}
+use Rattle.wasm_tree.specs.declared.types.ValType.TheVariants.{Ref}
+use Rattle.wasm_tree.specs.declared.types.FuncType.{FuncType}
+use Rattle.wasm_typing.specs.Typing.{Gives, signature_in, map_option, then_option, only, both}
+use Rattle.remap_typing.specs.Agreement.{Keeps}
+
+pub keeps_map : {A B : Type 0} (f : A → B) (m n : Option A) → Keeps m n → Keeps (map_option f m) (map_option f n)
+keeps_map f None n k y h = cc
+keeps_map f (Some x) n k y h = ap (map_option f) (k x refl) ∙ h
+
+pub keeps_then : {A B : Type 0} (m n : Option A) (f g : A → Option B) → Keeps m n → ((x : A) → Keeps (f x) (g x)) → Keeps (then_option m f) (then_option n g)
+keeps_then None n f g k l y h = cc
+keeps_then (Some x) n f g k l y h = ap (λ z. then_option z g) (k x refl) ∙ l x y h
+
+pub keeps_only : {A : Type 0} (a b : Bool) (m n : Option A) → (a ≡ true → b ≡ true) → Keeps m n → Keeps (only a m) (only b n)
+keeps_only false b m n t k y h = cc
+keeps_only true b m n t k y h = ap (λ z. only z n) (t refl) ∙ k y h
+
+pub keeps_signature : (m n : Option FuncType) → Keeps m n → Keeps (signature_in m) (signature_in n)
+keeps_signature None n k y h = cc
+keeps_signature (Some x) n k y h = ap signature_in (k x refl) ∙ h
+
+pub and_keeps : (a a' b b' : Bool) → (a ≡ true → a' ≡ true) → (b ≡ true → b' ≡ true) → a && b ≡ true → a' && b' ≡ true
+and_keeps false a' b b' s t h = cc
+and_keeps true a' b b' s t h = ap (λ z. z && b') (s refl) ∙ t h
+
+pub both_keeps : (m m' n n' : Option RefType) → Keeps m m' → Keeps n n' → both m n ≡ true → both m' n' ≡ true
+both_keeps None m' n n' s t h = cc
+both_keeps (Some a) m' None n' s t h = cc
+both_keeps (Some a) m' (Some b) n' s t h = ap (λ z. both z n') (s a refl) ∙ ap (both (Some a)) (t b refl) ∙ h
+
+pub named_keeps : (m n : Option Bool) → (m ≡ Some true → n ≡ Some true) → Keeps (then_option m (λ b. only b (Some (Gives [] (Ref Func ∷ []))))) (then_option n (λ b. only b (Some (Gives [] (Ref Func ∷ [])))))
+named_keeps None n k y h = cc
+named_keeps (Some false) n k y h = cc
+named_keeps (Some true) n k y h = ap (λ z. then_option z (λ b. only b (Some (Gives [] (Ref Func ∷ []))))) (k refl) ∙ h
+
+pub then_is : {A B : Type 0} (x : Option A) (f : A → Option B) → then_option x f ≡ option_and_then f x
+then_is None f = refl
+then_is (Some x) f = refl

@@ -1,0 +1,11 @@
+pub mod Lists
+pub mod Keeping
+pub mod Rows
+pub mod Bodies
+pub mod Along
+pub mod Entries
+pub mod Items
+pub mod WholeTrees
+pub mod TreeEntries
+pub mod NamedFuncs
+pub mod DeclaredTrees

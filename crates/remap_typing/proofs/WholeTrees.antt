@@ -1,0 +1,193 @@
+-- A valid tree with other indices: each item stands for the one that it was. And the indices that a valid tree names.
+use Rattle.std.proofs.Common.{◌≡◌, ℕ, zero, suc, ◌<◌, ◌↔◌, Bool, true, ◌&&◌, List, [], ◌∷◌, ◌++◌, length, map, take, Option, Some, None, refl, sym, ap, ap₂, ◌∙◌, subst, arith}
+use Rattle.std.specs.Prelude.{slice_get, slice_index, Contains, option_map}
+use Rattle.std.specs.List.{flat_map, filter_map, cons_option}
+use Rattle.std.proofs.lemmas.Bool.{ltb-true}
+use Rattle.std.proofs.lemmas.List.{length-map, map-append}
+use Rattle.wasm_tree.specs.declared.types.ValType.{ValType}
+use Rattle.wasm_tree.specs.declared.module.Export.{Export}
+use Rattle.wasm_tree.specs.declared.module.ExportDesc.{ExportDesc}
+use Rattle.wasm_tree.specs.declared.module.ExportDesc.TheVariants as ex
+use Rattle.wasm_tree.specs.declared.module.ElemMode.{ElemMode}
+use Rattle.wasm_tree.specs.declared.module.ElemMode.TheVariants as elem
+use Rattle.wasm_tree.specs.declared.module.ElemSeg.{ElemSeg}
+use Rattle.wasm_tree.specs.declared.module.DataMode.{DataMode}
+use Rattle.wasm_tree.specs.declared.module.DataMode.TheVariants as «data»
+use Rattle.wasm_tree.specs.declared.module.ConstExpr.{ConstExpr}
+use Rattle.wasm_tree.specs.declared.module.ConstExpr.TheVariants as const
+use Rattle.wasm_tree.specs.declared.module.Module.{Module}
+use Rattle.wasm_tree.specs.Spaces.{funcs_of, globals_of}
+use Rattle.wasm_valid.specs.declared.kinds.ItemKind.{ItemKind}
+use Rattle.wasm_valid.specs.declared.kinds.ItemKind.TheVariants as kind
+use Rattle.wasm_valid.specs.Constants.{const_type}
+use Rattle.wasm_valid.specs.Named.{const_func, export_func, elem_refs, global_refs, export_refs, refs_of}
+use Rattle.wasm_valid.specs.Validity.{HoldsAt, IsValid, count_of, start_count}
+use Rattle.index_remap.specs.declared.remap.Remap.{Remap}
+use Rattle.index_remap.specs.Renumbered.{all_true, has, fits_const, fits_func, fits_import, fits_global, fits_export, fits_elem, fits_elem_mode, fits_data, fits_data_mode, fits_start, fits_tree, new_const, new_func, new_import, new_global, new_export, new_export_desc, new_elem, new_elem_mode, new_data, new_data_mode, new_start, renumbered_tree}
+use Rattle.index_remap.specs.References.{is_among}
+use Rattle.remap_typing.specs.Trees.{TreesAgree, RefsAgree, ImportsAgree, ReadsImport, ConstStands, ElemModeStands, DataModeStands, ItemsStand, ItemStands, active, passive, declarative}
+use Rattle.remap_typing.proofs.Lists.{left_true, right_true, found, get_map, all_get, among_map, marked, is_marked, named_within, then_there, only_true}
+use Rattle.remap_typing.proofs.Items.{const_kept, items_kept}
+
+-- a tree is valid exactly where each item holds
+abbrev pub ValidWhereItemsHold : Type 0
+ValidWhereItemsHold = (m : Module) → IsValid m ↔ ((k : ItemKind) (i : ℕ) → i < count_of m true k → HoldsAt m k i)
+
+-- ---- what other indices leave ----
+
+has_lt : (ys : List ℕ) (i : ℕ) → has ys i ≡ true → i < length ys
+has_lt ys i h = ltb-true _ _ h
+
+names_stay : (m : Remap) (n : ℕ) (xs : List Export) → map (λ x. x.name) (take n (map (new_export m) xs)) ≡ map (λ x. x.name) (take n xs)
+names_stay m zero xs = refl
+names_stay m (suc n) [] = refl
+names_stay m (suc n) (x ∷ xs) = ap (λ zs. x.name ∷ zs) (names_stay m n xs)
+
+-- a place of a list with other indices is a place of the list
+got : {A B : Type 0} (f : A → B) (xs : List A) (i : ℕ) → i < length (map f xs) → (x : A) × (slice_get xs i ≡ Some x)
+got f xs i lt = let e = length-map xs f in found xs i (omega (arith, e))
+
+pub got_back : {A B : Type 0} (f : A → B) (xs : List A) (i : ℕ) (y : B) → slice_get (map f xs) i ≡ Some y → (x : A) × (slice_get xs i ≡ Some x) × (f x ≡ y)
+got_back f [] i y e = absurd (let k = e in cc)
+got_back f (x ∷ xs) zero y e = (x, refl, (let same : f x ≡ y = cc in same))
+got_back f (x ∷ xs) (suc i) y e = got_back f xs i y e
+
+-- ---- what is named outside the bodies ----
+
+choose_map : {A : Type 0} (f : A → Option ℕ) (g : A → A) (h : ℕ → ℕ) → ((x : A) → f (g x) ≡ option_map h (f x)) → (xs : List A) → filter_map f (map g xs) ≡ map h (filter_map f xs)
+choose_map f g h e [] = refl
+choose_map f g h e (x ∷ xs) = ap₂ cons_option (e x) (choose_map f g h e xs) ∙ split (f x)
+  where
+    split : (o : Option ℕ) → cons_option (option_map h o) (map h (filter_map f xs)) ≡ map h (cons_option o (filter_map f xs))
+    split None = refl
+    split (Some y) = refl
+
+join_map : {A : Type 0} (f : A → List ℕ) (g : A → A) (h : ℕ → ℕ) → ((x : A) → f (g x) ≡ map h (f x)) → (xs : List A) → flat_map f (map g xs) ≡ map h (flat_map f xs)
+join_map f g h e [] = refl
+join_map f g h e (x ∷ xs) = ap₂ (λ a b. a ++ b) (e x) (join_map f g h e xs) ∙ sym (map-append h (f x) (flat_map f xs))
+
+module _ (m : Remap) where
+  const_func_new : (e : ConstExpr) → const_func (new_const m e) ≡ option_map (slice_index m.funcs) (const_func e)
+  const_func_new (const.I32 v) = refl
+  const_func_new (const.I64 v) = refl
+  const_func_new (const.Null q) = refl
+  const_func_new (const.Func f) = refl
+  const_func_new (const.Global g) = refl
+
+  export_func_new : (e : ExportDesc) → export_func (new_export_desc m e) ≡ option_map (slice_index m.funcs) (export_func e)
+  export_func_new (ex.Func i) = refl
+  export_func_new (ex.Table i) = refl
+  export_func_new (ex.Memory i) = refl
+  export_func_new (ex.Global i) = refl
+
+  refs_new : (t : Module) → refs_of (renumbered_tree m t) ≡ map (slice_index m.funcs) (refs_of t)
+  refs_new t =
+      let n = slice_index m.funcs in
+      let a : elem_refs (map (new_elem m) t.elems) ≡ map n (elem_refs t.elems) = join_map (λ s. filter_map const_func s.items) (new_elem m) n (λ s. choose_map const_func (new_const m) n const_func_new s.items) t.elems in
+      let b : global_refs (map (new_global m) t.globals) ≡ map n (global_refs t.globals) = choose_map (λ g. const_func g.init) (new_global m) n (λ g. const_func_new g.init) t.globals in
+      let c : export_refs (map (new_export m) t.exports) ≡ map n (export_refs t.exports) = choose_map (λ e. export_func e.desc) (new_export m) n (λ e. export_func_new e.desc) t.exports in
+      ap₂ (λ x y. x ++ y) a (ap₂ (λ x y. x ++ y) b c ∙ sym (map-append n (global_refs t.globals) (export_refs t.exports))) ∙ sym (map-append n (elem_refs t.elems) (global_refs t.globals ++ export_refs t.exports))
+
+  start_stays : (o : Option ℕ) → start_count (new_start m o) ≡ start_count o
+  start_stays None = refl
+  start_stays (Some x) = refl
+
+  count_stays : (t : Module) (k : ItemKind) → count_of (renumbered_tree m t) true k ≡ count_of t true k
+  count_stays t kind.Import = length-map t.imports (new_import m)
+  count_stays t kind.Memories = refl
+  count_stays t kind.Func = length-map t.funcs (new_func m)
+  count_stays t kind.Table = refl
+  count_stays t kind.Memory = refl
+  count_stays t kind.Global = length-map t.globals (new_global m)
+  count_stays t kind.Export = length-map t.exports (new_export m)
+  count_stays t kind.Start = start_stays t.start
+  count_stays t kind.Elem = length-map t.elems (new_elem m)
+  count_stays t kind.Segment = length-map t.datas (new_data m)
+  count_stays t kind.Body = length-map t.funcs (new_func m)
+
+-- ---- each item stands for the one that it was ----
+
+seven : (a b c d e f g : Bool) → a && (b && (c && (d && (e && (f && g))))) ≡ true → (a ≡ true) × (b ≡ true) × (c ≡ true) × (d ≡ true) × (e ≡ true) × (f ≡ true) × (g ≡ true)
+seven a b c d e f g h =
+    let h1 = right_true a (b && (c && (d && (e && (f && g))))) h in
+    let h2 = right_true b (c && (d && (e && (f && g)))) h1 in
+    let h3 = right_true c (d && (e && (f && g))) h2 in
+    let h4 = right_true d (e && (f && g)) h3 in
+    let h5 = right_true e (f && g) h4 in
+    (left_true a (b && (c && (d && (e && (f && g))))) h, left_true b (c && (d && (e && (f && g)))) h1, left_true c (d && (e && (f && g))) h2, left_true d (e && (f && g)) h3, left_true e (f && g) h4, left_true f g h5, right_true f g h5)
+
+module _ (m : Remap) (t : Module) (k : TreesAgree m t (renumbered_tree m t)) (imports : ImportsAgree m t (renumbered_tree m t)) (fit : fits_tree m t ≡ true) where
+  abbrev u : Module
+  u = renumbered_tree m t
+
+  parts : (all_true (map (fits_import m) t.imports) ≡ true) × (all_true (map (fits_func m) t.funcs) ≡ true) × (all_true (map (fits_global m) t.globals) ≡ true) × (all_true (map (fits_export m) t.exports) ≡ true) × (fits_start m t.start ≡ true) × (all_true (map (fits_elem m) t.elems) ≡ true) × (all_true (map (fits_data m) t.datas) ≡ true)
+  parts = seven (all_true (map (fits_import m) t.imports)) (all_true (map (fits_func m) t.funcs)) (all_true (map (fits_global m) t.globals)) (all_true (map (fits_export m) t.exports)) (fits_start m t.start) (all_true (map (fits_elem m) t.elems)) (all_true (map (fits_data m) t.datas)) fit
+
+  refs_agree : RefsAgree m t u
+  refs_agree i lt h =
+      let within = named_within (refs_of t) 0 (length (funcs_of t)) i true h in
+      let named = among_map (slice_index m.funcs) (refs_of t) i (is_marked (refs_of t) (length (funcs_of t)) i h) in
+      marked (refs_of u) (length (funcs_of u)) (slice_index m.funcs i) (k.func_space i lt within) (ap (λ z. is_among z (slice_index m.funcs i)) (refs_new m t) ∙ named)
+
+  reads : (e : ConstExpr) (ty : ValType) → fits_const m e ≡ true → const_type t e ≡ Some ty → ReadsImport m u e
+  reads (const.I32 v) ty h e = tt
+  reads (const.I64 v) ty h e = tt
+  reads (const.Null q) ty h e = tt
+  reads (const.Func f) ty h e = tt
+  reads (const.Global g) ty h e =
+      let z = then_there (slice_get (globals_of t) g) _ ty e in
+      imports g (has_lt m.globals g h) (ltb-true _ _ (left_true _ _ (only_true _ _ ty z.2)))
+
+  const_stands : (e : ConstExpr) → fits_const m e ≡ true → ConstStands t u e (new_const m e)
+  const_stands e h ty is = const_kept m t u k e h (reads e ty h is) ty is
+
+  elem_mode_stands : (mode : ElemMode) → fits_elem_mode m mode ≡ true → ElemModeStands m t u mode (new_elem_mode m mode)
+  elem_mode_stands (elem.Active table offset) h = active (has_lt m.tables table (left_true _ _ h)) (const_stands offset (right_true _ _ h))
+  elem_mode_stands elem.Passive h = passive
+  elem_mode_stands elem.Declarative h = declarative
+
+  data_mode_stands : (mode : DataMode) → fits_data_mode m mode ≡ true → DataModeStands m t u mode (new_data_mode m mode)
+  data_mode_stands («data».Active memory offset) h = active (has_lt m.mems memory (left_true _ _ h)) (const_stands offset (right_true _ _ h))
+  data_mode_stands «data».Passive h = passive
+
+  items_stand : (a : ElemSeg) → all_true (map (fits_const m) a.items) ≡ true → ItemsStand t u a (new_elem m a)
+  items_stand a h p d e =
+      let r = got_back (new_const m) a.items p d e in
+      (r.0, r.1, subst (ConstStands t u r.0) r.2 (const_stands r.0 (all_get (fits_const m) a.items p r.0 h r.1)))
+
+  stands : (n : ItemKind) (i : ℕ) → i < count_of u true n → HoldsAt t n i → ItemStands m t u n i i
+  stands kind.Import i lt p =
+      let x = got (new_import m) t.imports i lt in
+      (x.0, new_import m x.0, x.1, get_map (new_import m) t.imports i x.0 x.1, all_get (fits_import m) t.imports i x.0 parts.0 x.1, refl)
+  stands kind.Memories i lt p = absurd (omega arith)
+  stands kind.Func i lt p =
+      let f = got (new_func m) t.funcs i lt in
+      let h = all_get (fits_func m) t.funcs i f.0 parts.1 f.1 in
+      (f.0, new_func m f.0, f.1, get_map (new_func m) t.funcs i f.0 f.1, has_lt m.types f.0.ty (left_true _ _ h), refl)
+  stands kind.Table i lt p = refl
+  stands kind.Memory i lt p = refl
+  stands kind.Global i lt p =
+      let g = got (new_global m) t.globals i lt in
+      let h = all_get (fits_global m) t.globals i g.0 parts.2 g.1 in
+      (g.0, new_global m g.0, g.1, get_map (new_global m) t.globals i g.0 g.1, refl, const_stands g.0.init h)
+  stands kind.Export i lt (e, at, within, fresh) =
+      let h = all_get (fits_export m) t.exports i e parts.3 at in
+      (e, new_export m e, at, get_map (new_export m) t.exports i e at, h, refl, (λ c. fresh (subst (λ ns. Contains ns e.name) (names_stay m i t.exports) c)))
+  stands kind.Start i lt (x, ft, at, ty, ps, rs) =
+      let h = parts.4 in
+      (x, at, has_lt m.funcs x (subst (λ o. fits_start m o ≡ true) at h), ap (new_start m) at)
+  stands kind.Elem i lt p =
+      let a = got (new_elem m) t.elems i lt in
+      let h = all_get (fits_elem m) t.elems i a.0 parts.5 a.1 in
+      (a.0, new_elem m a.0, a.1, get_map (new_elem m) t.elems i a.0 a.1, refl, items_stand a.0 (right_true _ _ h), elem_mode_stands a.0.mode (left_true _ _ h))
+  stands kind.Segment i lt p =
+      let a = got (new_data m) t.datas i lt in
+      let h = all_get (fits_data m) t.datas i a.0 parts.6 a.1 in
+      (a.0, new_data m a.0, a.1, get_map (new_data m) t.datas i a.0 a.1, data_mode_stands a.0.mode h)
+  stands kind.Body i lt p =
+      let f = got (new_func m) t.funcs i lt in
+      (f.0, f.1, all_get (fits_func m) t.funcs i f.0 parts.1 f.1, get_map (new_func m) t.funcs i f.0 f.1)
+
+  pub tree_valid : ValidWhereItemsHold → IsValid t → IsValid u
+  tree_valid law valid =
+      (law u).1 (λ n i lt. let holds = (law t).0 valid n i (subst (λ z. i < z) (count_stays m t n) lt) in items_kept m t u k n i i refs_agree (stands n i lt holds) holds)
