@@ -1,0 +1,162 @@
+-- A module alone: its imports all stay, so what they stand for and what is read through them is a matter of its types and imports.
+use Rattle.std.proofs.Common.{◌≡◌, ℕ, suc, ◌+◌, List, [], ◌∷◌, ◌++◌, length, Option, Some, None, cond, refl, ap, ap₂, ◌∙◌, arith}
+use Rattle.wasm_tree.specs.declared.types.FuncType.{FuncType}
+use Rattle.wasm_tree.specs.declared.module.Import.{Import}
+use Rattle.wasm_tree.specs.declared.module.ImportDesc.{ImportDesc}
+use Rattle.wasm_tree.specs.declared.module.ImportDesc.TheVariants as im
+use Rattle.wasm_tree.specs.declared.module.ConstExpr.{ConstExpr}
+use Rattle.wasm_tree.specs.declared.module.ConstExpr.TheVariants as const
+use Rattle.wasm_tree.specs.declared.module.Module.{Module}
+use Rattle.std.specs.List.{cons_option}
+use Rattle.wasm_tree.specs.Spaces.{func_of, table_of, memory_of, global_of, imported_funcs, imported_tables, imported_memories, imported_globals}
+use Rattle.wasm_meaning.specs.State.{Pair}
+use Rattle.wasm_meaning.specs.Paths.{walk, walk_on}
+use Rattle.wasm_meaning.specs.Linking.{same_kind, kind_of_import, sites, joined, joined_step, import_step, read_step, initials_from, Part, Site, Outside, Kind, Functions, Tables, Memories, Globals, Read, place, then_some, places, has_kind, imports_of, pair_of, end_of, global_import, end_step, read_of, space_index}
+use Rattle.wasm_meaning.specs.Environment.{Environment, Thing, OwnKey, FuncKey, TableKey, MemoryKey, GlobalKey, owned_of, owned_at}
+use Rattle.wasm_meaning.specs.World.{given, own_key_of, outside_thing, imported_thing, thing_of, address_of, all_there, numbers, own_count, defined_count, space}
+use Rattle.permuted_worlds.proofs.Places.{all_same}
+
+abbrev pub one : Module → List Part
+one t = record { name = None; «module» = t } ∷ []
+
+abbrev pub site : ℕ → Site
+site n = record { part = 0; import = n }
+
+-- ---- what an import stands for ----
+
+-- the environment's entity that an import names
+abbrev pub key_in : List FuncType → Pair → ImportDesc → Option OwnKey
+key_in types pair (im.Func ty) = then_some (place types ty) (λ t. Some (FuncKey pair t))
+key_in types pair (im.Table t) = Some (TableKey pair)
+key_in types pair (im.Memory l) = Some (MemoryKey pair)
+key_in types pair (im.Global t) = Some (GlobalKey pair)
+
+key_is : (t : Module) (pair : Pair) (d : ImportDesc) → own_key_of t pair d ≡ key_in t.types pair d
+key_is t pair (im.Func ty) = refl
+key_is t pair (im.Table u) = refl
+key_is t pair (im.Memory l) = refl
+key_is t pair (im.Global u) = refl
+
+abbrev pub thing_in : Environment → List FuncType → Option Import → Option Thing
+thing_in env types o = then_some o (λ i. then_some (key_in types (pair_of i) i.desc) (λ key. given (owned_at (owned_of env) key)))
+
+ends_outside : (t : Module) (n : ℕ) → end_of (one t) (site n) ≡ then_some (place t.imports n) (λ i. Some (Outside (site n)))
+ends_outside t n = go (place t.imports n)
+  where
+    go : (o : Option Import) → walk_on (walk (import_step (one t)) (length (sites (one t)))) (then_some o (λ i. Some (joined_step (one t) (site n) (joined (one t) i)))) ≡ then_some o (λ i. Some (Outside (site n)))
+    go None = refl
+    go (Some i) = refl
+
+-- what comes after an import that is there
+pub twice : {A B : Type 0} (o : Option A) (f : A → Option B) → then_some o (λ a. then_some o f) ≡ then_some o f
+twice None f = refl
+twice (Some a) f = refl
+
+nested : {A B C : Type 0} (o : Option A) (b : B) (f : B → Option C) → then_some (then_some o (λ a. Some b)) f ≡ then_some o (λ a. f b)
+nested None b f = refl
+nested (Some a) b f = refl
+
+pub on_some : {A B : Type 0} (o : Option A) {f g : A → Option B} → ((a : A) → f a ≡ g a) → then_some o f ≡ then_some o g
+on_some None h = refl
+on_some (Some a) h = h a
+
+outside_is : (env : Environment) (t : Module) (n : ℕ) → outside_thing (owned_of env) (one t) (site n) ≡ thing_in env t.types (place t.imports n)
+outside_is env t n = on_some (place t.imports n) (λ i. ap (λ k. then_some k (λ key. given (owned_at (owned_of env) key))) (key_is t (pair_of i) i.desc))
+
+pub thing_is : (env : Environment) (t : Module) (n : ℕ) → imported_thing env (one t) (site n) ≡ thing_in env t.types (place t.imports n)
+thing_is env t n =
+    ap (λ e. then_some e (thing_of env (one t))) (ends_outside t n) ∙ nested (place t.imports n) (Outside (site n)) (thing_of env (one t))
+    ∙ on_some (place t.imports n) (λ i. outside_is env t n) ∙ twice (place t.imports n) (λ i. then_some (key_in t.types (pair_of i) i.desc) (λ key. given (owned_at (owned_of env) key)))
+
+-- ---- index spaces ----
+
+abbrev pub address_in : Environment → List FuncType → List Import → Kind → ℕ → Option ℕ
+address_in env types imports k n = then_some (thing_in env types (place imports n)) (address_of k)
+
+abbrev pub import_places : Kind → List Import → List ℕ
+import_places k imports = places (has_kind k) imports 0
+
+abbrev pub addresses : Environment → List FuncType → List Import → Kind → Option (List ℕ)
+addresses env types imports k = all_there (address_in env types imports k) (places (has_kind k) imports 0)
+
+pub space_is : (env : Environment) (t : Module) (k : Kind) → space env (one t) k 0 t ≡ then_some (addresses env t.types t.imports k) (λ l. Some (l ++ numbers (own_count k env) (defined_count k t)))
+space_is env t k =
+    let e : own_count k env + 0 ≡ own_count k env = omega arith in
+    ap₂ (λ o b. then_some o (λ l. Some (l ++ numbers b (defined_count k t)))) (all_same (λ n. ap (λ x. then_some x (address_of k)) (thing_is env t n)) (imports_of k t)) e
+
+-- ---- how many are imported ----
+
+pub funcs_counted : (is : List Import) (n : ℕ) → length (places (has_kind Functions) is n) ≡ length (imported_funcs is)
+funcs_counted [] n = refl
+funcs_counted (i ∷ is) n = go i.desc (funcs_counted is (suc n))
+  where
+    go : (d : ImportDesc) → length (places (has_kind Functions) is (suc n)) ≡ length (imported_funcs is) → length (cond (same_kind Functions (kind_of_import d)) (n ∷ places (has_kind Functions) is (suc n)) (places (has_kind Functions) is (suc n))) ≡ length (cons_option (func_of d) (imported_funcs is))
+    go (im.Func x) h = ap suc h
+    go (im.Table x) h = h
+    go (im.Memory x) h = h
+    go (im.Global x) h = h
+
+pub tables_counted : (is : List Import) (n : ℕ) → length (places (has_kind Tables) is n) ≡ length (imported_tables is)
+tables_counted [] n = refl
+tables_counted (i ∷ is) n = go i.desc (tables_counted is (suc n))
+  where
+    go : (d : ImportDesc) → length (places (has_kind Tables) is (suc n)) ≡ length (imported_tables is) → length (cond (same_kind Tables (kind_of_import d)) (n ∷ places (has_kind Tables) is (suc n)) (places (has_kind Tables) is (suc n))) ≡ length (cons_option (table_of d) (imported_tables is))
+    go (im.Func x) h = h
+    go (im.Table x) h = ap suc h
+    go (im.Memory x) h = h
+    go (im.Global x) h = h
+
+pub memories_counted : (is : List Import) (n : ℕ) → length (places (has_kind Memories) is n) ≡ length (imported_memories is)
+memories_counted [] n = refl
+memories_counted (i ∷ is) n = go i.desc (memories_counted is (suc n))
+  where
+    go : (d : ImportDesc) → length (places (has_kind Memories) is (suc n)) ≡ length (imported_memories is) → length (cond (same_kind Memories (kind_of_import d)) (n ∷ places (has_kind Memories) is (suc n)) (places (has_kind Memories) is (suc n))) ≡ length (cons_option (memory_of d) (imported_memories is))
+    go (im.Func x) h = h
+    go (im.Table x) h = h
+    go (im.Memory x) h = ap suc h
+    go (im.Global x) h = h
+
+pub globals_counted : (is : List Import) (n : ℕ) → length (places (has_kind Globals) is n) ≡ length (imported_globals is)
+globals_counted [] n = refl
+globals_counted (i ∷ is) n = go i.desc (globals_counted is (suc n))
+  where
+    go : (d : ImportDesc) → length (places (has_kind Globals) is (suc n)) ≡ length (imported_globals is) → length (cond (same_kind Globals (kind_of_import d)) (n ∷ places (has_kind Globals) is (suc n)) (places (has_kind Globals) is (suc n))) ≡ length (cons_option (global_of d) (imported_globals is))
+    go (im.Func x) h = h
+    go (im.Table x) h = h
+    go (im.Memory x) h = h
+    go (im.Global x) h = ap suc h
+
+-- ---- what is read ----
+
+abbrev pub read_place : List Import → ℕ → Option ℕ
+read_place imports x = then_some (place (places (has_kind Globals) imports 0) x) (λ n. then_some (place imports n) (λ i. Some (space_index imports n Globals)))
+
+abbrev pub read_in : List Import → ConstExpr → Option Read
+read_in imports (const.Global x) = then_some (read_place imports x) (λ y. Some (record { part = 0; expr = const.Global y }))
+read_in imports e = Some (record { part = 0; expr = e })
+
+import_of_global : (t : Module) (x : ℕ) → then_some (global_import (one t) 0 x) (end_of (one t)) ≡ then_some (place (imports_of Globals t) x) (λ n. then_some (place t.imports n) (λ i. Some (Outside (site n))))
+import_of_global t x = go (place (imports_of Globals t) x)
+  where
+    go : (o : Option ℕ) → then_some (then_some o (λ n. Some (site n))) (end_of (one t)) ≡ then_some o (λ n. then_some (place t.imports n) (λ i. Some (Outside (site n))))
+    go None = refl
+    go (Some n) = ends_outside t n
+
+pub read_is : (t : Module) (e : ConstExpr) → read_of (one t) 0 e ≡ read_in t.imports e
+read_is t (const.I32 v) = refl
+read_is t (const.I64 v) = refl
+read_is t (const.Null ty) = refl
+read_is t (const.Func f) = refl
+read_is t (const.Global x) = ap (λ o. walk_on more (end_step (one t) o)) (import_of_global t x) ∙ go (place (imports_of Globals t) x)
+  where
+    more : Read → Option Read
+    more = walk (read_step (one t)) (length (initials_from 0 (one t)))
+
+    go : (o : Option ℕ) → walk_on more (end_step (one t) (then_some o (λ n. then_some (place t.imports n) (λ i. Some (Outside (site n))))))
+        ≡ then_some (then_some o (λ n. then_some (place t.imports n) (λ i. Some (space_index t.imports n Globals)))) (λ y. Some (record { part = 0; expr = const.Global y }))
+    go None = refl
+    go (Some n) = at_site (place t.imports n)
+      where
+        at_site : (o : Option Import) → walk_on more (end_step (one t) (then_some o (λ i. Some (Outside (site n))))) ≡ then_some (then_some o (λ i. Some (space_index t.imports n Globals))) (λ y. Some (record { part = 0; expr = const.Global y }))
+        at_site None = refl
+        at_site (Some i) = refl

@@ -1,0 +1,13 @@
+pub mod Between
+pub mod Led
+pub mod FirstStep
+pub mod Places
+pub mod Named
+pub mod Alone
+pub mod Partners
+pub mod Instances
+pub mod Allocated
+pub mod Matched
+pub mod Segments
+pub mod Worlds
+mod Example

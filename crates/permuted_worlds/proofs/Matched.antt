@@ -1,0 +1,66 @@
+-- Every import of the module matches where every one of its reordering does.
+use Rattle.std.proofs.Common.{◌≡◌, ℕ, zero, suc, List, [], ◌++◌, length, Some, false, cond, refl, sym, ap, ap₂, ◌∙◌}
+use Rattle.wasm_tree.specs.declared.types.TableType.{TableType}
+use Rattle.wasm_tree.specs.declared.module.Func as tree
+use Rattle.wasm_tree.specs.declared.module.ImportDesc.{ImportDesc}
+use Rattle.wasm_tree.specs.declared.module.ImportDesc.TheVariants as im
+use Rattle.wasm_tree.specs.declared.module.Module.{Module}
+use Rattle.wasm_meaning.specs.Outcomes.{Outcome, Gives}
+use Rattle.wasm_meaning.specs.State.{Table, Store}
+use Rattle.wasm_meaning.specs.Values.{same_ref, same_type, same_func_type}
+use Rattle.wasm_meaning.specs.Linking.{place, then_some, sites_in, sites}
+use Rattle.wasm_meaning.specs.Environment.{Environment, Thing, all_of}
+use Rattle.wasm_meaning.specs.World.{given, meets, same_bool, is_match, or_false, is_matched}
+use Rattle.index_remap.specs.declared.remap.Remap.{Remap}
+use Rattle.index_remap.specs.Renumbered.{new_import}
+use Rattle.index_remap.specs.Related.{Tables, Mems, Globals, Pairing, BothRel, both, TableRel}
+use Rattle.index_remap.specs.RelatedRuns.{ThingRel, a_func, a_table, a_memory, a_global}
+use Rattle.permuted_worlds.specs.Permuted.{moving, permuted}
+use Rattle.index_remap.proofs.Rel.{length_rel}
+use Rattle.permuted_worlds.proofs.Places.{map_length, number_at, then_eq, place_rel}
+use Rattle.permuted_worlds.proofs.Alone.{one, site, thing_in, thing_is, on_some}
+use Rattle.permuted_worlds.proofs.Partners.{pairing, partner, thing_rel}
+use Rattle.permuted_worlds.proofs.Instances.{Fits, imports_stay}
+use Rattle.permuted_worlds.proofs.Allocated.{Alike, stores_rel}
+
+both_same : {A : Type 0} {o p : Outcome A} → BothRel (◌≡◌ {A = A}) o p → o ≡ p
+both_same (both e) = ap Gives e
+
+module _ (env : Environment) (places : List ℕ) (t : Module) (funcs : List tree.Func) (fit : Fits (moving places t) t) (s z : Store) (like : Alike env places t s z) where
+  abbrev m : Remap
+  m = moving places t
+
+  abbrev R : Pairing
+  R = pairing env places t
+
+  abbrev u : Module
+  u = permuted places funcs t
+
+  table_same : (l : TableType) {v w : Table} → TableRel R v w → cond (same_ref l.ty v.ty) (meets (length v.slots) v.most l.limits) false ≡ cond (same_ref l.ty w.ty) (meets (length w.slots) w.most l.limits) false
+  table_same l {v} {w} r =
+      ap (λ ty. cond (same_ref l.ty ty) (meets (length v.slots) v.most l.limits) false) r.type ∙ ap₂ (λ n most. cond (same_ref l.ty w.ty) (meets n most l.limits) false) (length_rel r.slots) r.most
+
+  match_same : (d : ImportDesc) {x y : Thing} → ThingRel R x y → is_match s t d x ≡ is_match z u d y
+  match_same (im.Func ty) (a_func p) = on_some (place t.types ty) (λ v. ap (λ o. then_some (given o) (λ w. Some (same_func_type v w))) (both_same ((stores_rel env places t like).types p)))
+  match_same (im.Table l) (a_table {a = a} {b = b} p) =
+      then_eq (place_rel like.tables a) (λ _ _ r. ap Some (table_same l r)) ∙ ap (λ c. then_some (place z.tables c) (λ w. Some (cond (same_ref l.ty w.ty) (meets (length w.slots) w.most l.limits) false))) (number_at _ a b (partner env places t Tables a b p)).1
+  match_same (im.Memory l) (a_memory {a = a} {b = b} p) =
+      then_eq (place_rel like.mems a) (λ _ _ r. ap (λ w. Some (meets w.pages w.most l)) r) ∙ ap (λ c. then_some (place z.mems c) (λ w. Some (meets w.pages w.most l))) (number_at _ a b (partner env places t Mems a b p)).1
+  match_same (im.Global l) (a_global {a = a} {b = b} p) =
+      then_eq (place_rel like.globals a) (λ _ _ r. ap (λ ty. Some (cond (same_type l.ty ty.ty) (same_bool l.mutable ty.mutable) false)) r.type)
+      ∙ ap (λ c. then_some (place z.globals c) (λ w. Some (cond (same_type l.ty w.ty.ty) (same_bool l.mutable w.ty.mutable) false))) (number_at _ a b (partner env places t Globals a b p)).1
+  match_same _ _ = refl
+
+  matched_same : (n : ℕ) → is_matched env (one t) s (site n) ≡ is_matched env (one u) z (site n)
+  matched_same n =
+      ap or_false (ap (λ x. then_some (place t.imports n) (λ i. then_some x (is_match s t i.desc))) (thing_is env t n)
+      ∙ on_some (place t.imports n) (λ i. then_eq (thing_rel env places t t.types (place t.imports n)) (λ _ _ r. match_same i.desc r))
+      ∙ ap (λ is. then_some (place is n) (λ i. then_some (thing_in env t.types (place is n)) (is_match z u i.desc))) (sym (imports_stay env places t fit))
+      ∙ ap (λ x. then_some (place u.imports n) (λ i. then_some x (is_match z u i.desc))) (sym (thing_is env u n)))
+
+  each_matched : (count n : ℕ) → all_of (is_matched env (one t) s) (sites_in 0 count n ++ []) ≡ all_of (is_matched env (one u) z) (sites_in 0 count n ++ [])
+  each_matched zero n = refl
+  each_matched (suc count) n = ap₂ (λ a b. cond a b false) (matched_same n) (each_matched count (suc n))
+
+  pub all_matched : all_of (is_matched env (one t) s) (sites (one t)) ≡ all_of (is_matched env (one u) z) (sites (one u))
+  all_matched = each_matched (length t.imports) 0 ∙ ap (λ n. all_of (is_matched env (one u) z) (sites_in 0 n 0 ++ [])) (sym (map_length (new_import m) t.imports))

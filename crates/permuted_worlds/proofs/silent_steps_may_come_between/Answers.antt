@@ -1,0 +1,5 @@
+use Rattle.permuted_worlds.proofs.Between.{budgeted, slowed}
+use Rattle.permuted_worlds.proofs.silent_steps_may_come_between.Goals as goal
+
+pub returns : goal.returns
+returns c = record { budget = budgeted; slower = slowed }

@@ -1,0 +1,15 @@
+-- Two worlds whose instances correspond.
+use Rattle.std.specs.Prelude.{◌≡◌, ℕ, Bool, List, []}
+use Rattle.wasm_meaning.specs.Environment.{Environment}
+use Rattle.wasm_meaning.specs.World.{World, instantiate}
+use Rattle.wasm_meaning.specs.Run.{Move, events}
+use Rattle.index_remap.specs.Related.{Kind, OneToOne, OptRel}
+use Rattle.index_remap.specs.RelatedRuns.{BegunRel}
+use Rattle.index_remap.specs.Laws.{passed, EntryByEntry}
+
+-- Where neither world can be instantiated, or both to what corresponds, their runs show the same events. Before the instantiation only what the environment
+-- offers is in the stores, so that they need not correspond.
+abbrev pub RelatedInstancesShowTheSame : Type 0
+RelatedInstancesShowTheSame =
+    (of : Kind → ℕ → ℕ → Bool) → OneToOne (passed of of []) → (v w : World) (env : Environment) →
+    OptRel (BegunRel (passed of of []) (EntryByEntry (passed of of []))) (instantiate env v) (instantiate env w) → (moves : List Move) (n : ℕ) → events v env moves n ≡ events w env moves n

@@ -1,0 +1,33 @@
+//! What the laws of steps give of whole worlds: the order of a module's functions is not seen, and machines that make silent steps of their own show the same.
+#![tactic(auto)]
+
+ghost use Rattle.permuted_worlds.specs.Instances.{RelatedInstancesShowTheSame};
+ghost use Rattle.permuted_worlds.specs.Permuted.{OrderIsNotSeen};
+ghost use Rattle.permuted_worlds.specs.Silent.{BudgetedRunsShowTheSame, SlowerRunsShowTheSame};
+
+use index_remap::{related_runs_show_the_same, renumbered_code_is_related};
+use remap_typing::renumbering_keeps_typing;
+
+/// Two worlds show the same events, step by step, where neither can be instantiated, or both to what corresponds (WebAssembly Core 2.0, section 4.5.4).
+pub fn related_instances_show_the_same()
+    ensures same { RelatedInstancesShowTheSame }
+{
+    related_runs_show_the_same();
+}
+
+/// The world of a valid module and the world of the same module with its functions in another order show the same events to each embedder, step by step
+/// (WebAssembly Core 2.0, section 2.5: an index space's order is a matter of its indices alone).
+pub fn permuted_worlds_show_the_same()
+    ensures same { OrderIsNotSeen }
+{
+    renumbered_code_is_related();
+    related_instances_show_the_same();
+    renumbering_keeps_typing();
+}
+
+/// Two machines show the same events, where each may make silent steps alone out of a number that is left to it (`budget`), or where the second answers each
+/// step of the first by at most so many of its own (`slower`).
+pub fn silent_steps_may_come_between()
+    ensures budget { BudgetedRunsShowTheSame }
+    ensures slower { SlowerRunsShowTheSame }
+{}
