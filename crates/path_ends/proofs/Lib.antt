@@ -1,0 +1,5 @@
+pub mod Leads
+pub mod Ended
+pub mod Lists
+pub mod Marks
+pub mod Pigeons

@@ -1,0 +1,10 @@
+//! Where going on from a place to the next ends, for all places of a list in one pass.
+#![tactic(auto)]
+
+mod follow;
+mod stops;
+#[cfg(test)]
+mod tests;
+
+pub use follow::{Step, endings};
+pub use stops::ends;
