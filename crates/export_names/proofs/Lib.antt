@@ -1,0 +1,9 @@
+pub mod Among
+pub mod Clauses
+pub mod Coming
+pub mod Distinct
+pub mod Few
+pub mod Loops
+pub mod Pigeons
+pub mod Renamed
+pub mod Rules
