@@ -1,0 +1,61 @@
+-- What joining parts gives: the merged module with its references declared, or why there is none.
+use Rattle.std.specs.Prelude.{◌≡◌, ℕ, ◌+◌, ◌<◌, ◌^◌, List, length, Option, Some, None, cond, nat_lt, Result, Ok, Err}
+use Rattle.std.specs.List.{flat_map}
+use Rattle.wasm_tree.specs.declared.which.Which.{Which}
+use Rattle.wasm_tree.specs.declared.which.Which.TheVariants as which
+use Rattle.wasm_tree.specs.declared.module.Module.{Module}
+use Rattle.wasm_meaning.specs.State.{Text}
+use Rattle.wasm_meaning.specs.World.{defined_before, elems_before, datas_before}
+use Rattle.wasm_meaning.specs.Linking.{Part, Kind, place, then_some, sites}
+use Rattle.index_remap.specs.References.{declared}
+use Rattle.export_names.specs.declared.mode.Mode.{Mode}
+use Rattle.export_names.specs.Names.{new_names, conflict}
+use Rattle.merge_terms.specs.Merged.{merged, export_names}
+use Rattle.merge_terms.specs.declared.faults.JoinFault.{JoinFault}
+use Rattle.merge_terms.specs.declared.faults.JoinFault.TheVariants.{ExportConflict, TooMany}
+
+-- a count above its limit, or what comes after it
+abbrev pub or_above : (count limit : ℕ) → Which → Option Which → Option Which
+or_above count limit which rest = cond (nat_lt limit count) (Some which) rest
+
+-- the first count above its limit
+unfoldable pub over_limit : Module → Option Which
+over_limit m =
+    or_above (length m.types) 1000000 which.Types
+    (or_above (length m.imports) 1000000 which.Imports
+    (or_above (length m.funcs) 1000000 which.Functions
+    (or_above (length m.tables) 10000 which.Tables
+    (or_above (length m.mems) 10000 which.Memories
+    (or_above (length m.globals) 1000000 which.Globals
+    (or_above (length m.exports) 1000000 which.Exports
+    (or_above (length m.elems) 300000 which.ElementSegments
+    (or_above (length m.datas) 300000 which.DataSegments
+    None))))))))
+
+-- the merged module, its references declared, with the names that the mode gives its exports
+unfoldable pub joined_module : List Part → Mode → Module
+joined_module parts mode = declared (merged parts (new_names mode (export_names parts)))
+
+-- where no name may stand twice, the first name that came before
+unfoldable pub repeated_name : List Part → Mode → Option Text
+repeated_name parts mode = then_some (conflict mode (export_names parts)) (place (export_names parts))
+
+abbrev pub outcome : Option Text → Option Which → Module → Result Module JoinFault
+outcome (Some name) which m = Err (ExportConflict name)
+outcome None (Some which) m = Err (TooMany which)
+outcome None None m = Ok m
+
+-- what joining gives, want of memory left aside: a conflict of names comes before a count that is too great
+abbrev pub join_of : List Part → Mode → Result Module JoinFault
+join_of parts mode = outcome (repeated_name parts mode) (over_limit (joined_module parts mode)) (joined_module parts mode)
+
+abbrev pub Joins : List Part → Mode → Result Module JoinFault → Type 0
+Joins parts mode result = join_of parts mode ≡ result
+
+-- A u32 can name all that stands in the parts together: all types, for each kind all imports and what is defined of it and one more, all segments.
+pub record FewInAll (parts : List Part) : Type 0 where
+  pub parts_few : length parts < 2 ^ 32
+  pub types : length (flat_map (λ p. p.«module».types) parts) < 2 ^ 32
+  pub entities : (k : Kind) → length (sites parts) + (defined_before k parts (length parts) + 1) < 2 ^ 32
+  pub elems : elems_before parts (length parts) < 2 ^ 32
+  pub datas : datas_before parts (length parts) < 2 ^ 32

@@ -1,0 +1,5 @@
+pub mod Parts
+pub mod Faults
+pub mod Linked
+pub mod Merged
+pub mod Joined

@@ -1,0 +1,28 @@
+// Where imports end, what is asked of those that stay, and what constant expressions read.
+
+use wasm_bytes::Items;
+use wasm_tree::{ConstExpr, Limits};
+
+/// Where following an import ends: an entity that a part defines, with its index in that part's index space, or an import that stays, which may be
+/// the import itself.
+#[derive(Clone, Copy, Drop)]
+pub enum End {
+    Defined { part: u32, index: u32 },
+    Outside { part: u32, import: u32 },
+}
+
+/// A constant expression, with the part in whose index spaces its index stands.
+#[derive(Clone, Copy, Drop)]
+pub struct Read {
+    pub part: u32,
+    pub expr: ConstExpr,
+}
+
+/// For each part a list with one entry for each of its imports: its end; the met limits, for a table or a memory that is its own end; and what is read
+/// through it, for an immutable global.
+#[derive(Drop)]
+pub struct Links {
+    pub ends: Items<Items<End>>,
+    pub limits: Items<Items<Option<Limits>>>,
+    pub reads: Items<Items<Option<Read>>>,
+}
