@@ -1,0 +1,17 @@
+pub mod Lists
+pub mod Same
+pub mod Entities
+pub mod ByPart
+pub mod TypePlaces
+pub mod MergedSpaces
+pub mod Linked
+pub mod Ends
+pub mod Entries
+pub mod Agree
+pub mod Constants
+pub mod Imports
+pub mod Starts
+pub mod Exports
+pub mod Bounds
+pub mod Items
+pub mod Whole

@@ -1,0 +1,2 @@
+pub mod Joinable
+pub mod Entries

@@ -1,0 +1,53 @@
+//! That what joining gives is a valid module, as a law.
+#![tactic(auto)]
+
+ghost use Rattle.std.specs.Prelude.{◌≡◌, ℕ, IsTrue, List, Some, None};
+ghost use Rattle.wasm_tree.specs.declared.types.ValType.{ValType};
+ghost use Rattle.wasm_tree.specs.declared.module.ConstExpr.{ConstExpr};
+ghost use Rattle.wasm_tree.specs.declared.module.Module.{Module};
+ghost use Rattle.wasm_tree.specs.Bounds.{IsBounded};
+ghost use Rattle.wasm_valid.specs.Constants.{const_type};
+ghost use Rattle.wasm_valid.specs.Validity.{IsSingle, IsValid};
+ghost use Rattle.wasm_meaning.specs.Linking.{Part, Read, module_at, read_of};
+ghost use Rattle.index_remap.specs.Renumbered.{fits_const, fits_tree};
+ghost use Rattle.export_names.specs.declared.mode.Mode.{Mode};
+ghost use Rattle.merge_terms.specs.Faults.{link_fault};
+ghost use Rattle.merge_terms.specs.Merged.{map_of};
+ghost use Rattle.merge_terms.specs.Joined.{joined_module};
+ghost use Rattle.merge_validity.specs.Entries.{HasEntry};
+ghost use Rattle.merge_validity.specs.Joinable.{CanBeJoined, EachPart};
+
+use export_names::{conflicts_are_first, given_names_differ};
+use remap_typing::{
+    declared_trees_are_valid, renumbered_trees_are_valid, renumbering_keeps_typing,
+};
+use wasm_meaning::ends_and_reads_are_paths;
+use wasm_valid::valid_where_items_hold;
+
+/// Where valid parts can be joined, the merged module is valid (`valid`, WebAssembly Core 2.0, section 3.4.10), a u32 can count its lists, its index spaces
+/// and the locals of each function (`bounded`), and it has at most one memory (`single`).
+pub fn merged_modules_are_valid()
+    ensures valid { (parts : List Part) (mode : Mode) → CanBeJoined parts mode → IsValid (joined_module parts mode) }
+    ensures bounded { (parts : List Part) (mode : Mode) → CanBeJoined parts mode → IsBounded (joined_module parts mode) }
+    ensures single { (parts : List Part) (mode : Mode) → CanBeJoined parts mode → IsSingle (joined_module parts mode) }
+{
+    valid_where_items_hold();
+    renumbering_keeps_typing();
+    renumbered_trees_are_valid();
+    declared_trees_are_valid();
+    ends_and_reads_are_paths();
+    given_names_differ();
+    conflicts_are_first();
+}
+
+/// The map of a part has an entry for each index that its valid module names (`entries`) and that a constant expression with a type names (`constants`).
+/// Where the parts are linked, what such an expression reads through joined globals stands in a part whose map has an entry for it (`reads`).
+pub fn maps_have_entries()
+    ensures entries { (parts : List Part) (p : ℕ) (m : Module) → IsValid m → IsTrue (fits_tree (map_of parts p m) m) }
+    ensures constants { (parts : List Part) (p : ℕ) (m : Module) (e : ConstExpr) (ty : ValType) → const_type m e ≡ Some ty → IsTrue (fits_const (map_of parts p m) e) }
+    ensures reads { (parts : List Part) (p : ℕ) (m : Module) (e : ConstExpr) (ty : ValType) (r : Read) → EachPart IsValid parts → link_fault parts ≡ None → module_at parts p ≡ Some m → const_type m e ≡ Some ty → read_of parts p e ≡ Some r → HasEntry parts r }
+{
+    valid_where_items_hold();
+    renumbering_keeps_typing();
+    ends_and_reads_are_paths();
+}
