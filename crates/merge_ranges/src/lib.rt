@@ -1,0 +1,23 @@
+//! The numbers of merged modules are in the ranges of their types, as those of the parts are.
+#![tactic(auto)]
+
+ghost use Rattle.std.specs.Prelude.{List};
+ghost use Rattle.wasm_tree.specs.Bounds.{IsBounded};
+ghost use Rattle.wasm_valid.specs.Validity.{IsSingle, IsValid};
+ghost use Rattle.wasm_format.specs.Words.{Every};
+ghost use Rattle.wasm_meaning.specs.Linking.{Part};
+ghost use Rattle.export_names.specs.declared.mode.Mode.{Mode};
+ghost use Rattle.merge_terms.specs.Joined.{joined_module};
+ghost use Rattle.plain_law.specs.Ranges.{InRange};
+
+use wasm_valid::valid_where_items_hold;
+
+/// Where the parts of a merge have their numbers in range and their names in UTF-8, so has the merged module, if it is valid and has at
+/// most one memory: what it names is there, and its other numbers stand in some part.
+pub fn merged_modules_are_in_range()
+    ensures { (parts : List Part) (mode : Mode) → Every (λ p. InRange p.«module») parts
+        → IsValid (joined_module parts mode) → IsSingle (joined_module parts mode) → IsBounded (joined_module parts mode)
+        → InRange (joined_module parts mode) }
+{
+    valid_where_items_hold();
+}
