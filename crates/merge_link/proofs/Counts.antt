@@ -1,0 +1,62 @@
+-- Counts of memories.
+use Rattle.std.proofs.Common.{◌≡◌, ◌∙◌, sym, ap, refl, ℕ, zero, suc, ◌+◌, ◌<◌, ◌≤◌, List, [], ◌∷◌, Option, Some, None, Bool, true, false, cond, map, length, drop, get_or, nat_lt, arith}
+use Rattle.std.proofs.lemmas.List.{drop_more}
+use Rattle.std.proofs.lemmas.Bool.Decides.{nat_tests}
+use Rattle.wasm_tree.specs.declared.module.Import.{Import}
+use Rattle.wasm_tree.specs.declared.module.Module.{Module}
+use Rattle.wasm_meaning.specs.Linking as linking
+use Rattle.wasm_meaning.specs.World.{defined_before, defined_count, or_false}
+use Rattle.merge_terms.specs.declared.parts.Part.{Part}
+use Rattle.merge_terms.specs.Faults as faults
+use Rattle.merge_terms.specs.Parts.{named_modules}
+use Rattle.merge_link.specs.declared.sites.Site.{Site}
+use Rattle.merge_link.specs.Sites.{AreSites, the_site}
+use Rattle.merge_link.specs.Gathering.{is_memory_at, linked_at}
+
+pub defined_none : (k : linking.Kind) (lp : List linking.Part) → defined_before k lp 0 ≡ 0
+defined_none k [] = refl
+defined_none k (x ∷ lp) = refl
+
+pub defined_more : (k : linking.Kind) (lp : List linking.Part) (p : ℕ) (m : Module) → linking.module_at lp p ≡ Some m → defined_before k lp (suc p) ≡ defined_before k lp p + defined_count k m
+defined_more k [] p m h = cc
+defined_more k (x ∷ lp) zero m h = let e : x.«module» ≡ m = cc in omega (arith, ap (defined_count k) e, defined_none k lp)
+defined_more k (x ∷ lp) (suc p) m h = omega (arith, defined_more k lp p m h)
+
+pub defined_most : (k : linking.Kind) (lp : List linking.Part) (p : ℕ) → defined_before k lp p ≤ defined_before k lp (length lp)
+defined_most k [] p = omega arith
+defined_most k (x ∷ lp) zero = omega arith
+defined_most k (x ∷ lp) (suc p) = omega (arith, defined_most k lp p)
+
+one_on : {A : Type 0} (test : A → Bool) (xs : List A) (i : ℕ) (x : A) → i < length xs → x ≡ get_or xs i x → linking.count_of test (drop i xs) ≡ cond (test x) (suc (linking.count_of test (drop (i + 1) xs))) (linking.count_of test (drop (i + 1) xs))
+one_on test xs i x h is = ap (linking.count_of test) (drop_more xs i x h) ∙ ap (λ y. cond (test y) (suc (linking.count_of test (drop (i + 1) xs))) (linking.count_of test (drop (i + 1) xs))) (sym is)
+
+pub count_yes : {A : Type 0} (test : A → Bool) (xs : List A) (i : ℕ) (x : A) → i < length xs → x ≡ get_or xs i x → test x ≡ true → linking.count_of test (drop i xs) ≡ suc (linking.count_of test (drop (i + 1) xs))
+count_yes test xs i x h is t = one_on test xs i x h is ∙ ap (λ b. cond b (suc (linking.count_of test (drop (i + 1) xs))) (linking.count_of test (drop (i + 1) xs))) t
+
+pub count_not : {A : Type 0} (test : A → Bool) (xs : List A) (i : ℕ) (x : A) → i < length xs → x ≡ get_or xs i x → test x ≡ false → linking.count_of test (drop i xs) ≡ linking.count_of test (drop (i + 1) xs)
+count_not test xs i x h is t = one_on test xs i x h is ∙ ap (λ b. cond b (suc (linking.count_of test (drop (i + 1) xs))) (linking.count_of test (drop (i + 1) xs))) t
+
+count_map : {A B : Type 0} (test : B → Bool) (g : A → B) (xs : List A) → linking.count_of test (map g xs) ≡ linking.count_of (λ x. test (g x)) xs
+count_map test g [] = refl
+count_map test g (x ∷ xs) = ap (λ n. cond (test (g x)) (suc n) n) (count_map test g xs)
+
+-- a staying memory, by its end
+pub staying_here : (ps : List Part) (s : Site) (e : linking.End) → linked_at ps s ≡ Some e
+    → cond (linking.is_outside (the_site s) (Some e)) (is_memory_at (linking.import_at (named_modules ps) (the_site s))) false ≡ faults.is_staying_memory (named_modules ps) (the_site s)
+unfolding linked_at faults.stays
+staying_here ps s e h =
+    ap (λ o. cond (linking.is_outside (the_site s) o) (is_memory_at (linking.import_at (named_modules ps) (the_site s))) false) (sym h)
+    ∙ ap (λ b. cond (linking.is_outside (the_site s) (linking.linked_end (named_modules ps) (the_site s))) b false) (by (linking.import_at (named_modules ps) (the_site s)))
+  where
+    by : (o : Option Import) → is_memory_at o ≡ or_false (linking.then_some o (λ i. Some (linking.has_kind linking.Memories i)))
+    by None = refl
+    by (Some i) = refl
+
+pub memories_counted : (ps : List Part) (sites : List Site) → AreSites ps sites
+    → linking.count_of (λ s. faults.is_staying_memory (named_modules ps) (the_site s)) sites + defined_before linking.Memories (named_modules ps) (length (named_modules ps)) ≡ faults.memory_count (named_modules ps)
+unfolding faults.memory_count
+memories_counted ps sites are =
+    ap (λ n. n + defined_before linking.Memories (named_modules ps) (length (named_modules ps))) (sym (count_map (faults.is_staying_memory (named_modules ps)) the_site sites) ∙ ap (linking.count_of (faults.is_staying_memory (named_modules ps))) are)
+
+pub above_one : (n : ℕ) → 1 < n → true ≡ nat_lt 1 n
+above_one n h = grind (arith, nat_tests)

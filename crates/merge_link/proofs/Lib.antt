@@ -1,0 +1,15 @@
+mod Firsts
+mod Found
+mod Gathers
+mod Joins
+mod Meets
+mod Counts
+mod Cuts
+mod Numbers
+mod Places
+mod Reading
+mod Steps
+mod TablesMore
+mod Through
+mod Types
+mod Whole

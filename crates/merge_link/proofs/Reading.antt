@@ -1,0 +1,168 @@
+-- Defined globals by their numbers, and one step of a read.
+use Rattle.std.proofs.Common.{◌≡◌, ◌∙◌, sym, ap, refl, ℕ, zero, suc, ◌+◌, ◌-◌, ◌^◌, ◌<◌, ◌≤◌, List, [], ◌∷◌, ◌++◌, Option, Some, None, map, length, drop, get_or, slice_get, arith}
+use Rattle.std.specs.Option.{option_map}
+use Rattle.std.proofs.lemmas.List.{length-append, length-map, drop_more}
+use Rattle.std.proofs.lemmas.Option.{slice_get-map, slice_get_within, slice_get_past}
+use Rattle.wasm_tree.specs.declared.module.ConstExpr.TheVariants as const
+use Rattle.wasm_tree.specs.declared.module.GlobalDef.{GlobalDef}
+use Rattle.wasm_tree.specs.declared.module.Import.{Import}
+use Rattle.wasm_tree.specs.declared.module.Module.{Module}
+use Rattle.wasm_meaning.specs.Paths as paths
+use Rattle.wasm_meaning.specs.Linking as linking
+use Rattle.wasm_meaning.specs.World.{defined_before}
+use Rattle.path_ends.specs.declared.follow.Step.{Step}
+use Rattle.path_ends.specs.declared.follow.Step.TheVariants.{Goes, Ends, Nowhere}
+use Rattle.merge_terms.specs.declared.parts.Part.{Part}
+use Rattle.merge_terms.specs.declared.links.Read.{Read}
+use Rattle.merge_terms.specs.Faults as faults
+use Rattle.merge_terms.specs.Parts.{named_modules}
+use Rattle.merge_link.specs.declared.globals.OwnGlobal.{OwnGlobal}
+use Rattle.merge_link.specs.declared.joining.Ending.{Ending}
+use Rattle.merge_link.specs.declared.sites.Site.{Site}
+use Rattle.merge_link.specs.declared.tables.Table.{Table}
+use Rattle.merge_link.specs.Sites.{AreSites, the_site}
+use Rattle.merge_link.specs.Tables.{AreTables, places_of}
+use Rattle.merge_link.specs.Joining.{AreKnown, IsStep, the_end}
+use Rattle.merge_link.specs.Globals.{IsEndStep, IsOwn, own_read, own_reads, the_own, the_read, value_at}
+use Rattle.merge_link.proofs.Found.{known_at, same_at}
+use Rattle.merge_link.proofs.Joins.{module_past}
+use Rattle.merge_link.proofs.Meets.{part_there}
+use Rattle.merge_link.proofs.Numbers.{got_behind, got_front, length-own_in}
+use Rattle.merge_link.proofs.Places.{place_is}
+use Rattle.merge_link.proofs.Steps.{entry}
+use Rattle.merge_link.proofs.Types.{count_globals}
+use Rattle.wasm_tree.specs.Spaces.{globals_of, imported_globals}
+
+own_in : (p n : ℕ) (gs : List GlobalDef) (i : ℕ) (g : GlobalDef) → slice_get gs i ≡ Some g → (k : ℕ) × (slice_get (faults.own_globals_in p n gs) i ≡ Some (record { part = p; index = k; init = g.init }))
+own_in p n [] i g h = cc
+own_in p n (x ∷ gs) zero g h = let e : x ≡ g = cc in (n, ap (λ (y : GlobalDef). let r : faults.OwnGlobal = record { part = p; index = n; init = y.init } in Some r) e)
+own_in p n (x ∷ gs) (suc i) g h = own_in p (suc n) gs i g h
+
+own_from : (lp : List linking.Part) (first p i : ℕ) (m : Module) (g : GlobalDef) → linking.module_at lp p ≡ Some m → slice_get m.globals i ≡ Some g
+    → (k : ℕ) × (slice_get (faults.own_globals_from first lp) (defined_before linking.Globals lp p + i) ≡ Some (record { part = first + p; index = k; init = g.init }))
+own_from [] first p i m g h l = cc
+own_from (x ∷ lp) first zero i m g h l =
+    let e : x.«module» ≡ m = cc in
+    let l : slice_get x.«module».globals i ≡ Some g = ap (λ (y : Module). slice_get y.globals i) e ∙ l in
+    let here = own_in first (length (linking.imports_of linking.Globals x.«module»)) x.«module».globals i g l in
+    let z : first + 0 ≡ first = omega arith in
+    let n : 0 + i ≡ i = omega arith in (
+      here.0,
+      ap (slice_get (faults.own_globals_from first (x ∷ lp))) n
+          ∙ got_front (faults.own_globals_in first (length (linking.imports_of linking.Globals x.«module»)) x.«module».globals) (faults.own_globals_from (suc first) lp) i _ here.1
+          ∙ ap (λ q. let r : faults.OwnGlobal = record { part = q; index = here.0; init = g.init } in Some r) (sym z),
+    )
+own_from (x ∷ lp) first (suc p) i m g h l =
+    let q : suc first + p ≡ first + suc p = omega arith in
+    let front = faults.own_globals_in first (length (linking.imports_of linking.Globals x.«module»)) x.«module».globals in
+    let j : length x.«module».globals + defined_before linking.Globals lp p + i ≡ length front + (defined_before linking.Globals lp p + i) =
+    omega (arith, length-own_in first (length (linking.imports_of linking.Globals x.«module»)) x.«module».globals) in
+    let rest = own_from lp (suc first) p i m g h l in (
+      rest.0,
+      ap (slice_get (faults.own_globals_from first (x ∷ lp))) j ∙ got_behind front (faults.own_globals_from (suc first) lp) (defined_before linking.Globals lp p + i) ∙ rest.1
+          ∙ ap (λ r. let s : faults.OwnGlobal = record { part = r; index = rest.0; init = g.init } in Some s) q,
+    )
+
+-- the place of a global among those that its part defines
+abbrev pub own_place : Table → linking.Entity → ℕ
+own_place t e = linking.index_of_export e.what - length (places_of t linking.Globals)
+
+pub own_some : (lp : List linking.Part) (ts : List Table) (e : linking.Entity) (t : Table) (m : Module) → AreTables lp ts → slice_get ts e.part ≡ Some t → linking.module_at lp e.part ≡ Some m
+    → own_place t e < length m.globals → IsOwn lp e (Some (t.first_global + own_place t e))
+unfolding faults.own_globals
+own_some lp ts e t m are at tree within =
+    let x = are.right e.part m t tree at in
+    let g = entry m.globals (own_place t e) within in
+    let own = own_from lp 0 e.part (own_place t e) m g.0 tree g.1 in
+    let z : 0 + e.part ≡ e.part = omega arith in
+    let r : faults.OwnGlobal = record { part = 0 + e.part; index = own.0; init = g.0.init } in
+    let count : linking.index_of_export e.what - length (linking.imports_of linking.Globals m) ≡ own_place t e = ap (λ (ns : List ℕ). linking.index_of_export e.what - length ns) (sym (x.places linking.Globals)) in
+    let init : linking.initial lp e ≡ Some g.0.init = rw (tree, count) (ap (λ o. linking.then_some o (λ d. Some d.init)) (place_is m.globals (own_place t e) ∙ g.1)) in
+    (r, ap (λ k. slice_get (faults.own_globals lp) (k + own_place t e)) x.first_global ∙ own.1, z, init)
+
+pub own_none : (lp : List linking.Part) (ts : List Table) (e : linking.Entity) (t : Table) (m : Module) → AreTables lp ts → slice_get ts e.part ≡ Some t → linking.module_at lp e.part ≡ Some m
+    → length m.globals ≤ own_place t e → linking.initial lp e ≡ None
+own_none lp ts e t m are at tree past =
+    let x = are.right e.part m t tree at in
+    let count : linking.index_of_export e.what - length (linking.imports_of linking.Globals m) ≡ own_place t e = ap (λ (ns : List ℕ). linking.index_of_export e.what - length ns) (sym (x.places linking.Globals)) in
+    rw (tree, count) (ap (λ o. linking.then_some o (λ d. Some d.init)) (place_is m.globals (own_place t e) ∙ slice_get_past m.globals (own_place t e) past))
+
+pub own_past : (lp : List linking.Part) (ts : List Table) (e : linking.Entity) → AreTables lp ts → length ts ≤ e.part → linking.initial lp e ≡ None
+own_past lp ts e are h = rw (module_past lp e.part (omega (arith, are.one_each))) refl
+
+-- ---- what stays ----
+
+pub index_there : (lp : List linking.Part) (ts : List Table) (s : linking.Site) (i : Import) (t : Table) → AreTables lp ts → linking.import_at lp s ≡ Some i → slice_get ts s.part ≡ Some t → s.import < length t.indices.items
+index_there lp ts s i t are there at =
+    let m = part_there lp s i there in
+    let x = are.right s.part m.0 t m.1 at in
+    omega (arith, m.2, x.indices.one_each)
+
+pub read_outside : (lp : List linking.Part) (ts : List Table) (s : linking.Site) (i : Import) (t : Table) (n : ℕ) → AreTables lp ts → linking.import_at lp s ≡ Some i → slice_get ts s.part ≡ Some t
+    → slice_get t.indices.items s.import ≡ Some n → linking.outside_read lp s ≡ Some (record { part = s.part; expr = const.Global n })
+read_outside lp ts s i t n are there at index =
+    let m = part_there lp s i there in
+    let x = are.right s.part m.0 t m.1 at in
+    let same : linking.space_index m.0.imports s.import linking.Globals ≡ n = let a = x.indices.right s.import m.2 in cc in
+    rw (m.1, same) refl
+
+-- ---- one step ----
+
+pub step_to : (ps : List Part) (e : linking.Entity) (n : ℕ) → IsOwn (named_modules ps) e (Some n) → IsEndStep ps (linking.Defined e) (Goes n)
+step_to ps e n (g, at, part, init) = (
+  own_read g,
+  slice_get-map own_read (faults.own_globals (named_modules ps)) n ∙ ap (option_map own_read) at,
+  ap (λ o. linking.then_some o (λ x. let r : linking.Read = record { part = e.part; expr = x } in Some (paths.Goes r))) init ∙ ap (λ p. let r : linking.Read = record { part = p; expr = g.init } in Some (paths.Goes r)) (sym part),
+)
+
+pub step_none : (ps : List Part) (e : linking.Entity) → linking.initial (named_modules ps) e ≡ None → IsEndStep ps (linking.Defined e) Nowhere
+step_none ps e h = ap (λ o. linking.then_some o (λ x. let r : linking.Read = record { part = e.part; expr = x } in Some (paths.Goes r))) h
+
+-- the end of an import that has a number
+pub end_numbered : (ps : List Part) (sites : List Site) (ends : List Ending) (n : ℕ) (s : linking.Site) (e : Ending) → AreSites ps sites → AreKnown ps sites ends → slice_get (linking.sites (named_modules ps)) n ≡ Some s → slice_get ends n ≡ Some e
+    → linking.end_of (named_modules ps) s ≡ Some (the_end e)
+end_numbered ps sites ends n s e are known h k =
+    let within : n < length sites = let w = slice_get_within (linking.sites (named_modules ps)) n s h in omega (arith, w, ap length are, length-map sites the_site) in
+    let x = entry sites n within in
+    let same : the_site x.0 ≡ s = let a : slice_get (linking.sites (named_modules ps)) n ≡ Some (the_site x.0) = ap (λ xs. slice_get xs n) (sym are) ∙ slice_get-map the_site sites n ∙ ap (option_map the_site) x.1 in cc in
+    ap (linking.end_of (named_modules ps)) (sym same) ∙ known_at ps sites ends n x.0 e known x.1 k
+
+-- from an expression that reads an import
+pub step_read : (ps : List Part) (p x : ℕ) (s : linking.Site) (e : linking.End) (step : Step Read) → linking.global_import (named_modules ps) p x ≡ Some s → linking.end_of (named_modules ps) s ≡ Some e → IsEndStep ps e step
+    → IsStep (linking.read_step (named_modules ps)) (own_reads (named_modules ps)) the_read (record { part = p; expr = const.Global x }) step
+step_read ps p x s e step at end is = by step is
+  where
+    same : linking.read_step (named_modules ps) (record { part = p; expr = const.Global x }) ≡ linking.end_step (named_modules ps) (Some e)
+    same = ap (λ o. linking.end_step (named_modules ps) (linking.then_some o (linking.end_of (named_modules ps)))) at ∙ ap (linking.end_step (named_modules ps)) end
+
+    by : (step : Step Read) → IsEndStep ps e step → IsStep (linking.read_step (named_modules ps)) (own_reads (named_modules ps)) the_read (record { part = p; expr = const.Global x }) step
+    by (Goes n) (r, a, b) = (r, a, same ∙ b)
+    by (Ends r) a = same ∙ a
+    by Nowhere a = same ∙ a
+
+pub step_unread : (ps : List Part) (p x : ℕ) → linking.global_import (named_modules ps) p x ≡ None → IsStep {F = Read} (linking.read_step (named_modules ps)) (own_reads (named_modules ps)) the_read (record { part = p; expr = const.Global x }) Nowhere
+step_unread ps p x at = ap (λ o. linking.end_step (named_modules ps) (linking.then_some o (linking.end_of (named_modules ps)))) at
+
+-- ---- faults ----
+
+-- the fault of a global, by what its value reads
+pub global_here : (ps : List Part) (globals : List OwnGlobal) (values : List (Option Read)) (i : ℕ) (g : OwnGlobal) (o : Option Read) → map (option_map the_read) values ≡ map (value_at ps) globals
+    → slice_get globals i ≡ Some g → slice_get values i ≡ Some o → faults.global_fault (named_modules ps) (the_own g) ≡ faults.value_fault (the_own g) (option_map the_read o)
+unfolding faults.global_fault value_at
+global_here ps globals values i g o e h k = ap (faults.value_fault (the_own g)) (sym (same_at (option_map the_read) (value_at ps) values globals i o g e k h))
+
+-- ---- the list of defined globals ----
+
+pub own_begin : (ps : List Part) (at : ℕ) (x : Part) (m : Module) (n : ℕ) → at < length ps → x ≡ get_or ps at x → m ≡ x.«module» → n ≡ length (linking.imports_of linking.Globals m)
+    → faults.own_globals_from at (named_modules (drop at ps)) ≡ faults.own_globals_in at (n + 0) (drop 0 m.globals) ++ faults.own_globals_from (at + 1) (named_modules (drop (at + 1) ps))
+own_begin ps at x m n h is tree count =
+    let rest = named_modules (drop (at + 1) ps) in
+    let next : suc at ≡ at + 1 = omega arith in
+    let z : length (linking.imports_of linking.Globals x.«module») ≡ n + 0 = omega (arith, count, ap (λ (t : Module). length (linking.imports_of linking.Globals t)) tree) in
+    ap (λ qs. faults.own_globals_from at (named_modules qs)) (drop_more ps at x h ∙ ap (λ (y : Part). y ∷ drop (at + 1) ps) (sym is))
+    ∙ ap (λ k. faults.own_globals_in at (length (linking.imports_of linking.Globals x.«module»)) x.«module».globals ++ faults.own_globals_from k rest) next
+    ∙ ap (λ k. faults.own_globals_in at k x.«module».globals ++ faults.own_globals_from (at + 1) rest) z
+    ∙ ap (λ (t : Module). faults.own_globals_in at (n + 0) t.globals ++ faults.own_globals_from (at + 1) rest) (sym tree)
+
+pub globals_fit : (m : Module) (i : ℕ) → length (globals_of m) < 2 ^ 32 → i < length m.globals → length (linking.imports_of linking.Globals m) + i < 2 ^ 32
+globals_fit m i few h = omega (arith, few, length-append (imported_globals m.imports) (map (λ (g : GlobalDef). g.ty) m.globals), length-map m.globals (λ (g : GlobalDef). g.ty), count_globals m.imports 0)

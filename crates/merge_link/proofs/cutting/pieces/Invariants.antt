@@ -1,0 +1,11 @@
+use Rattle.std.proofs.Common.{drop, ◌++◌, ◌≡◌}
+use Rattle.merge_terms.specs.Parts.{named_modules}
+use Rattle.merge_link.specs.Cutting.{cut_by, import_counts}
+use Rattle.merge_link.specs.Tables.{imports_before}
+use Rattle.merge_link.proofs.cutting.pieces.Given as goal
+
+abbrev pub invariant-loop-part : goal.invariant-loop-part
+invariant-loop-part g l = record {
+  from : l.from ≡ imports_before (named_modules l.parts) l.part-index;
+  lists : l.lists ++ cut_by (import_counts (drop l.part-index l.parts)) (drop l.from l.flat) ≡ cut_by (import_counts l.parts) l.flat;
+}

@@ -1,0 +1,58 @@
+-- Memories that stay, gathered by their module and field names.
+use Rattle.std.specs.Prelude.{◌≡◌, ℕ, List, [], ◌∷◌, Option, Some, None, Bool, true, false, cond, map, slice_get}
+use Rattle.std.specs.BTreeMap.{BTreeMap, get_by}
+use Rattle.std.specs.Ordering.{nat_cmp, ordering_then}
+use Rattle.std.specs.Cmp.Lexicographic.{slice_cmp}
+use denote.Ref.{Bor}
+use Rattle.wasm_tree.specs.declared.module.Import.{Import}
+use Rattle.wasm_meaning.specs.State.{Pair}
+use Rattle.wasm_meaning.specs.Linking as linking
+use Rattle.merge_terms.specs.declared.parts.Part.{Part}
+use Rattle.merge_terms.specs.Parts.{named_modules}
+use Rattle.merge_link.specs.declared.sites.Site.{Site}
+use Rattle.merge_link.specs.declared.joining.Ending.{Ending}
+use Rattle.merge_link.specs.declared.joining.Ending.TheVariants.{Defined, Outside}
+use Rattle.merge_link.specs.Sites.{IsThere, the_site}
+use Rattle.merge_link.specs.Joining.{the_end}
+
+-- an import that stays, and is a memory
+abbrev pub is_memory_at : Option Import → Bool
+is_memory_at None = false
+is_memory_at (Some i) = linking.has_kind linking.Memories i
+
+abbrev pub IsStayingMemory : List linking.Part → Site → Ending → Option (Bor Import) → Type 0
+IsStayingMemory lp s e None = cond (linking.is_outside (the_site s) (Some (the_end e))) (is_memory_at (linking.import_at lp (the_site s))) false ≡ false
+IsStayingMemory lp s e (Some i) =
+    (linking.is_outside (the_site s) (Some (the_end e)) ≡ true) × (linking.import_at lp (the_site s) ≡ Some i.now) × (linking.has_kind linking.Memories i.now ≡ true)
+
+-- an import of this module and field name
+abbrev pub is_of_pair : Pair → Option Import → Bool
+is_of_pair pair None = false
+is_of_pair pair (Some i) = cond (linking.has_kind linking.Memories i) (linking.same_pair pair (linking.pair_of i)) false
+
+-- a staying memory of this module and field name
+unfoldable pub is_memory_of : List Part → Pair → Site → Bool
+is_memory_of parts pair s =
+    cond (linking.is_outside (the_site s) (linking.end_of (named_modules parts) (the_site s))) (is_of_pair pair (linking.import_at (named_modules parts) (the_site s))) false
+
+-- the first of them
+abbrev pub first_memory : List Part → Pair → List Site → Option Site
+first_memory parts pair [] = None
+first_memory parts pair (s ∷ ss) = cond (is_memory_of parts pair s) (Some s) (first_memory parts pair ss)
+
+abbrev pub AreFirst : List Part → List Site → BTreeMap (Bor (List ℕ) × Bor (List ℕ)) Site → Type 0
+AreFirst parts sites firsts = (a b : List ℕ) → get_by (λ k. ordering_then (slice_cmp nat_cmp a k.0.now) (slice_cmp nat_cmp b k.1.now)) firsts ≡ first_memory parts (a, b) sites
+
+-- the end of an import, with such memories as one
+unfoldable pub linked_at : List Part → Site → Option linking.End
+linked_at parts s = linking.linked_end (named_modules parts) (the_site s)
+
+-- an end that is an import is there
+abbrev pub EndsThere : List Part → Ending → Type 0
+EndsThere parts (Defined e) = Unit {0}
+EndsThere parts (Outside s) = IsThere parts s
+
+-- these are the linked ends of the imports
+pub record AreLinked (parts : List Part) (sites : List Site) (linked : List Ending) : Type 0 where
+  pub same : map (λ e. Some (the_end e)) linked ≡ map (linked_at parts) sites
+  pub there : (n : ℕ) (e : Ending) → slice_get linked n ≡ Some e → EndsThere parts e

@@ -1,0 +1,62 @@
+-- Following imports, by the definitions of linking by name.
+use Rattle.std.specs.Prelude.{◌≡◌, ◌<◌, ◌^◌, ℕ, List, Option, Some, None, length, map, slice_get}
+use Rattle.wasm_meaning.specs.Paths as paths
+use Rattle.wasm_meaning.specs.Linking as linking
+use Rattle.path_ends.specs.declared.follow.Step.{Step}
+use Rattle.path_ends.specs.declared.follow.Step.TheVariants.{Goes, Ends, Nowhere}
+use Rattle.merge_terms.specs.declared.parts.Part.{Part}
+use Rattle.merge_terms.specs.Parts.{named_modules}
+use Rattle.merge_terms.specs.Faults.{own_globals}
+use Rattle.merge_link.specs.declared.sites.Site.{Site}
+use Rattle.merge_link.specs.declared.joining.Entity.{Entity}
+use Rattle.merge_link.specs.declared.joining.Ending.{Ending}
+use Rattle.merge_link.specs.declared.joining.Ending.TheVariants.{Defined, Outside}
+use Rattle.merge_link.specs.declared.joining.Joining.{Joining}
+use Rattle.merge_link.specs.Sites.{the_site}
+use Rattle.merge_link.specs.Tables.{AreNames, AreTables}
+
+abbrev pub the_entity : Entity → linking.Entity
+the_entity e = record { part = e.part; what = e.what }
+
+abbrev pub the_end : Ending → linking.End
+the_end (Defined e) = linking.Defined (the_entity e)
+the_end (Outside s) = linking.Outside (the_site s)
+
+-- what is looked up is that of the parts, and a u32 counts their imports and defined globals
+pub record IsJoining (j : Joining) : Type 0 where
+  pub names : AreNames (named_modules j.parts.now) j.names
+  pub tables : AreTables (named_modules j.parts.now) j.tables.items
+  pub imports : length (linking.sites (named_modules j.parts.now)) < 2 ^ 32
+  pub globals : length (own_globals (named_modules j.parts.now)) < 2 ^ 32
+
+-- the import that an entity is, by its number
+abbrev pub IsImportedAs : List linking.Part → linking.Entity → Option ℕ → Type 0
+IsImportedAs lp e None = linking.imported_as lp e ≡ None
+IsImportedAs lp e (Some n) = (s : linking.Site) × (slice_get (linking.sites lp) n ≡ Some s) × (linking.imported_as lp e ≡ Some s)
+
+-- from a point to another, which has a number among all points, or to what it ends with
+abbrev pub IsStep : {A E F : Type 0} → (A → Option (paths.Next A E)) → List A → (F → E) → A → Step F → Type 0
+IsStep {A = A} next points meaning a (Goes n) = (b : A) × (slice_get points n ≡ Some b) × (next a ≡ Some (paths.Goes b))
+IsStep next points meaning a (Ends e) = next a ≡ Some (paths.Ends (meaning e))
+IsStep next points meaning a Nowhere = next a ≡ None
+
+-- from each of these points
+pub record AreSteps {A E F : Type 0} (next : A → Option (paths.Next A E)) (points : List A) (meaning : F → E) (froms : List A) (steps : List (Step F)) : Type 0 where
+  pub one_each : length steps ≡ length froms
+  pub right : (n : ℕ) (a : A) (s : Step F) → slice_get froms n ≡ Some a → slice_get steps n ≡ Some s → IsStep next points meaning a s
+
+-- some import has this end at once
+abbrev pub IsStop : List linking.Part → linking.End → Type 0
+IsStop lp e = (s : linking.Site) × (linking.import_step lp s ≡ Some (paths.Ends e))
+
+abbrev pub AreStops : List Part → List (Option Ending) → Type 0
+AreStops parts ends = (n : ℕ) (e : Ending) → slice_get ends n ≡ Some (Some e) → IsStop (named_modules parts) (the_end e)
+
+-- the end of an import, or none where following it never ends
+unfoldable pub end_at : List Part → Site → Option linking.End
+end_at parts s = linking.end_of (named_modules parts) (the_site s)
+
+-- these are the ends of the imports, which all have one
+pub record AreKnown (parts : List Part) (sites : List Site) (ends : List Ending) : Type 0 where
+  pub same : map (λ e. Some (the_end e)) ends ≡ map (end_at parts) sites
+  pub stops : (n : ℕ) (e : Ending) → slice_get ends n ≡ Some e → IsStop (named_modules parts) (the_end e)

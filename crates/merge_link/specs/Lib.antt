@@ -1,0 +1,10 @@
+pub mod Cutting
+pub mod Externals
+pub mod Gathering
+pub mod Globals
+pub mod Joining
+pub mod Limits
+pub mod Reads
+pub mod Resolving
+pub mod Sites
+pub mod Tables

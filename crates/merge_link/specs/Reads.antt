@@ -1,0 +1,32 @@
+-- What is read through imports.
+use Rattle.std.specs.Prelude.{◌≡◌, List, Option, None, map, option_map}
+use Rattle.wasm_tree.specs.declared.module.ImportDesc.{ImportDesc}
+use Rattle.wasm_tree.specs.declared.module.ImportDesc.TheVariants as im
+use Rattle.wasm_meaning.specs.Linking as linking
+use Rattle.merge_terms.specs.declared.parts.Part.{Part}
+use Rattle.merge_terms.specs.declared.links.Read.{Read}
+use Rattle.merge_terms.specs.Faults as faults
+use Rattle.merge_terms.specs.Linked.{read_entry, when_fixed}
+use Rattle.merge_terms.specs.Parts.{named_modules}
+use Rattle.merge_link.specs.Globals.{the_read}
+
+-- what the value expression of a defined global reads
+unfoldable pub own_value : List Part → faults.OwnGlobal → Option linking.Read
+own_value parts g = linking.read_of (named_modules parts) g.part g.init
+
+-- these are the reads of all defined globals
+abbrev pub AreValues : List Part → List (Option Read) → Type 0
+AreValues parts values = map (option_map the_read) values ≡ map (own_value parts) (faults.own_globals (named_modules parts))
+
+-- what is read from the end of a global's import
+abbrev pub read_past : List linking.Part → linking.End → Option linking.Read
+read_past lp (linking.Outside s) = linking.outside_read lp s
+read_past lp (linking.Defined e) = linking.then_some (linking.initial lp e) (linking.read_of lp e.part)
+
+abbrev pub fixed_desc : List linking.Part → linking.End → ImportDesc → Option linking.Read
+fixed_desc lp e (im.Global t) = when_fixed t.mutable (read_past lp e)
+fixed_desc lp e _ = None
+
+-- what is read through the import at this place, which has this end
+abbrev pub fixed_read : List linking.Part → linking.Site → linking.End → Option Read
+fixed_read lp s e = option_map read_entry (linking.then_some (linking.import_at lp s) (λ i. fixed_desc lp e i.desc))

@@ -1,0 +1,57 @@
+-- What each stage of linking gives: what it finds where there is no fault of its kind, or the first such fault.
+use Rattle.std.specs.Prelude.{◌≡◌, List, Option, Some, None, map, Result, Ok, Err}
+use Rattle.wasm_tree.specs.declared.types.Limits.{Limits}
+use Rattle.wasm_meaning.specs.Linking as linking
+use Rattle.merge_terms.specs.declared.parts.Part.{Part}
+use Rattle.merge_terms.specs.declared.faults.LinkFault.{LinkFault}
+use Rattle.merge_terms.specs.declared.links.Links.{Links}
+use Rattle.merge_terms.specs.declared.links.Read.{Read}
+use Rattle.merge_terms.specs.Faults as faults
+use Rattle.merge_terms.specs.Linked.{AreLinks, read_at}
+use Rattle.merge_terms.specs.Parts.{named_modules}
+use Rattle.merge_link.specs.declared.joining.Ending.{Ending}
+use Rattle.merge_link.specs.declared.resolving.Kept.{Kept}
+use Rattle.merge_link.specs.declared.sites.Site.{Site}
+use Rattle.merge_link.specs.Gathering.{AreLinked}
+use Rattle.merge_link.specs.Joining.{AreKnown}
+use Rattle.merge_link.specs.Sites.{the_site}
+use Rattle.std.specs.declared.vec.Vec.{Vec}
+use Rattle.std.proofs.Common.{Global}
+
+-- the first fault of an import, of limits that clash, and of a global
+unfoldable pub import_faults : List linking.Part → Option LinkFault
+import_faults lp = faults.first_fault (faults.import_fault lp) (linking.sites lp)
+
+unfoldable pub clash_faults : List linking.Part → Option LinkFault
+clash_faults lp = faults.first_fault (faults.clash_fault lp) (linking.sites lp)
+
+unfoldable pub global_faults : List linking.Part → Option LinkFault
+global_faults lp = faults.first_fault (faults.global_fault lp) (faults.own_globals lp)
+
+unfoldable pub read_entry_at : List Part → Site → Option Read
+read_entry_at parts s = read_at (named_modules parts) (the_site s)
+
+unfoldable pub kept_entry_at : List Part → Site → Option Limits
+kept_entry_at parts s = faults.kept_limits (named_modules parts) (the_site s)
+
+-- these are the linked ends, and the limits that are kept
+pub record IsLinkedKept (parts : List Part) (sites : List Site) (kept : Kept) : Type 0 where
+  pub ends : AreLinked parts sites kept.linked.items
+  pub limits : kept.limits.items ≡ map (kept_entry_at parts) sites
+
+abbrev pub IsMatched : List Part → List Site → Result (Vec Ending Global) LinkFault → Type 0
+IsMatched parts sites (Ok ends) = AreKnown parts sites ends.items × (import_faults (named_modules parts) ≡ None)
+IsMatched parts sites (Err f) = import_faults (named_modules parts) ≡ Some f
+
+abbrev pub IsKept : List Part → List Site → Result Kept LinkFault → Type 0
+IsKept parts sites (Ok kept) = IsLinkedKept parts sites kept × (clash_faults (named_modules parts) ≡ None)
+IsKept parts sites (Err f) = clash_faults (named_modules parts) ≡ Some f
+
+abbrev pub IsValued : List Part → List Site → Result (Vec (Option Read) Global) LinkFault → Type 0
+IsValued parts sites (Ok reads) = (reads.items ≡ map (read_entry_at parts) sites) × (global_faults (named_modules parts) ≡ None)
+IsValued parts sites (Err f) = global_faults (named_modules parts) ≡ Some f
+
+-- the links of parts that have no fault, or their fault
+abbrev pub IsOutcome : List linking.Part → Result Links LinkFault → Type 0
+IsOutcome lp (Ok links) = AreLinks lp links × (faults.link_fault lp ≡ None)
+IsOutcome lp (Err f) = faults.link_fault lp ≡ Some f

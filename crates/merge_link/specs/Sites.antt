@@ -1,0 +1,18 @@
+-- The places of imports, as linking by name speaks of them.
+use Rattle.std.specs.Prelude.{◌≡◌, List, map, Some}
+use Rattle.wasm_tree.specs.declared.module.Import.{Import}
+use Rattle.wasm_meaning.specs.Linking as linking
+use Rattle.merge_terms.specs.declared.parts.Part.{Part}
+use Rattle.merge_terms.specs.Parts.{named_modules}
+use Rattle.merge_link.specs.declared.sites.Site.{Site}
+
+abbrev pub the_site : Site → linking.Site
+the_site s = record { part = s.part; import = s.import }
+
+-- these are the places of all imports
+abbrev pub AreSites : List Part → List Site → Type 0
+AreSites parts sites = map the_site sites ≡ linking.sites (named_modules parts)
+
+-- there is an import at the place
+abbrev pub IsThere : List Part → Site → Type 0
+IsThere parts site = (i : Import) × (linking.import_at (named_modules parts) (the_site site) ≡ Some i)

@@ -1,0 +1,58 @@
+-- What is looked up in parts, by the definitions of linking by name.
+use Rattle.std.specs.Prelude.{◌≡◌, ◌+◌, ◌<◌, ℕ, zero, suc, List, [], ◌∷◌, length, Some, slice_get}
+use Rattle.std.specs.BTreeMap.{BTreeMap, get_by}
+use Rattle.std.specs.Ordering.{nat_cmp}
+use Rattle.std.specs.Cmp.Lexicographic.{slice_cmp}
+use denote.Ref.{Bor}
+use Rattle.wasm_tree.specs.declared.module.Import.{Import}
+use Rattle.wasm_tree.specs.declared.module.Module.{Module}
+use Rattle.wasm_meaning.specs.Linking as linking
+use Rattle.wasm_meaning.specs.World.{defined_before}
+use Rattle.merge_link.specs.declared.tables.Kind.{Kind}
+use Rattle.merge_link.specs.declared.tables.Kind.TheVariants as kind
+use Rattle.merge_link.specs.declared.tables.Table.{Table}
+
+abbrev pub the_kind : Kind → linking.Kind
+the_kind kind.Functions = linking.Functions
+the_kind kind.Tables = linking.Tables
+the_kind kind.Memories = linking.Memories
+the_kind kind.Globals = linking.Globals
+
+-- how many imports the first parts have
+abbrev pub imports_before : List linking.Part → ℕ → ℕ
+imports_before [] p = 0
+imports_before (part ∷ parts) zero = 0
+imports_before (part ∷ parts) (suc p) = length part.«module».imports + imports_before parts p
+
+abbrev pub places_of : Table → linking.Kind → List ℕ
+places_of t linking.Functions = t.funcs.items
+places_of t linking.Tables = t.tables.items
+places_of t linking.Memories = t.memories.items
+places_of t linking.Globals = t.globals.items
+
+-- these are the places of the module's imports
+abbrev pub HasPlaces : Module → Table → Type 0
+HasPlaces m t = (k : linking.Kind) → places_of t k ≡ linking.imports_of k m
+
+-- for each import its index in the global space, if it is a global
+pub record AreIndices (imports : List Import) (indices : List ℕ) : Type 0 where
+  pub one_each : length indices ≡ length imports
+  pub right : (n : ℕ) → n < length imports → slice_get indices n ≡ Some (linking.space_index imports n linking.Globals)
+
+-- what is looked up in a part, before which so many imports and defined globals come
+pub record IsTableOf (imports globals : ℕ) (m : Module) (t : Table) : Type 0 where
+  pub exports : (name : List ℕ) → get_by (λ k. slice_cmp nat_cmp name k.now) t.exports ≡ linking.export_named m.exports name
+  pub places : HasPlaces m t
+  pub indices : AreIndices m.imports t.indices.items
+  pub first_import : t.first_import ≡ imports
+  pub first_global : t.first_global ≡ globals
+
+-- what is looked up in each part
+pub record AreTables (parts : List linking.Part) (tables : List Table) : Type 0 where
+  pub one_each : length tables ≡ length parts
+  pub right : (p : ℕ) (m : Module) (t : Table) → linking.module_at parts p ≡ Some m → slice_get tables p ≡ Some t
+      → IsTableOf (imports_before parts p) (defined_before linking.Globals parts p) m t
+
+-- the part that a name names
+abbrev pub AreNames : List linking.Part → BTreeMap (Bor (List ℕ)) ℕ → Type 0
+AreNames parts names = (name : List ℕ) → get_by (λ k. slice_cmp nat_cmp name k.now) names ≡ linking.first_place (linking.is_named name) parts 0

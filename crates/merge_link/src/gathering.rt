@@ -1,0 +1,108 @@
+// Staying memory imports of one module and field name end together, at the first of them.
+
+ghost use Rattle.std.specs.Prelude.{IfOk, List, None, Some, map, ℕ, ◌≡◌};
+ghost use Rattle.std.specs.BTreeMap.{get_by};
+ghost use Rattle.merge_terms.specs.Parts.{named_modules};
+ghost use Rattle.wasm_meaning.specs.Linking as linking;
+ghost use Rattle.merge_link.specs.Sites.{AreSites, IsThere};
+ghost use Rattle.merge_link.specs.Joining.{AreKnown, IsJoining, IsStop, the_end};
+ghost use Rattle.merge_link.specs.Gathering.{AreFirst, AreLinked, EndsThere, IsStayingMemory};
+
+use crate::joining::{Ending, Joining};
+use crate::sites::{Site, import_at};
+use crate::tables::{Kind, has_kind};
+use std::alloc::{AllocError, Global};
+use std::collections::BTreeMap;
+use wasm_tree::Import;
+
+impl<'a> Joining<'a> {
+    /// The import at a place, where it is a memory that stays.
+    pub fn staying_memory(&self, site: Site, end: Ending) -> Option<&'a Import>
+        requires there { IsThere self.now.parts.now site }
+        ensures { IsStayingMemory (named_modules self.now.parts.now) site end result }
+    {
+        match end {
+            Ending::Defined(_) => None,
+            Ending::Outside(at) => {
+                let import = import_at(self.parts, site);
+                if at == site && has_kind(Kind::Memories, import) {
+                    Some(import)
+                } else {
+                    None
+                }
+            }
+        }
+    }
+
+    // Of each module and field name the first memory that stays, from the last to the first.
+    fn first_memories(
+        &self,
+        alloc: Global,
+        sites: &[Site],
+        ends: &[Ending],
+    ) -> Result<BTreeMap<(&'a str, &'a str), Site>, AllocError>
+        requires sites { AreSites self.now.parts.now sites.now }
+        requires ends { AreKnown self.now.parts.now sites.now ends.now }
+        ensures { IfOk result (λ firsts. AreFirst self.now.parts.now sites.now firsts) }
+    {
+        let mut firsts = BTreeMap::new(alloc);
+        for at in (0..sites.len()).rev() {
+            match self.staying_memory(sites[at], ends[at]) {
+                None => {}
+                Some(import) => {
+                    let pair = (import.module.as_str(), import.field.as_str());
+                    firsts.insert(pair, sites[at])?;
+                }
+            }
+        }
+        Ok(firsts)
+    }
+
+    // The end, with such memories as one.
+    fn gathered(
+        &self,
+        firsts: &BTreeMap<(&'a str, &'a str), Site>,
+        sites: &[Site],
+        end: Ending,
+    ) -> Ending
+        requires sites { AreSites self.now.parts.now sites.now }
+        requires firsts { AreFirst self.now.parts.now sites.now firsts.now }
+        requires stop { IsStop (named_modules self.now.parts.now) (the_end end) }
+        ensures end { the_end result ≡ linking.gathered (named_modules self.now.parts.now) (the_end end) }
+        ensures there { EndsThere self.now.parts.now result }
+    {
+        match end {
+            Ending::Defined(_) => end,
+            Ending::Outside(site) => {
+                let import = import_at(self.parts, site);
+                if has_kind(Kind::Memories, import) {
+                    match firsts.get(&(import.module.as_str(), import.field.as_str())) {
+                        None => end,
+                        Some(first) => Ending::Outside(*first),
+                    }
+                } else {
+                    end
+                }
+            }
+        }
+    }
+
+    /// The ends of imports, with such memories as one.
+    pub fn linked(
+        &self,
+        alloc: Global,
+        sites: &[Site],
+        ends: &[Ending],
+    ) -> Result<Vec<Ending>, AllocError>
+        requires sites { AreSites self.now.parts.now sites.now }
+        requires ends { AreKnown self.now.parts.now sites.now ends.now }
+        ensures { IfOk result (λ linked. AreLinked self.now.parts.now sites.now linked.items) }
+    {
+        let firsts = self.first_memories(alloc, sites, ends)?;
+        let mut linked = Vec::new(alloc);
+        for end in ends {
+            linked.push(self.gathered(&firsts, sites, *end))?;
+        }
+        Ok(linked)
+    }
+}

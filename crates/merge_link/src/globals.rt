@@ -1,0 +1,188 @@
+// The globals that parts define, and what their value expressions read.
+
+ghost use Rattle.std.specs.Prelude.{IfOk, length, map, option_map, ◌<◌, ◌^◌, ◌≡◌};
+ghost use Rattle.merge_terms.specs.Faults as faults;
+ghost use Rattle.merge_terms.specs.Parts.{named_modules};
+ghost use Rattle.wasm_meaning.specs.Linking as linking;
+ghost use Rattle.merge_link.specs.Sites.{AreSites, IsThere, the_site};
+ghost use Rattle.merge_link.specs.Joining.{AreKnown, AreSteps, IsJoining, IsStep, IsStop, the_end, the_entity};
+ghost use Rattle.merge_link.specs.Globals.{AreOwn, IsEndStep, IsOwn, own_read, own_reads, the_own, the_read, value_at};
+
+use crate::joining::{Ending, Entity, Joining};
+use crate::sites::Site;
+use crate::tables::{Kind, index_of_export};
+use merge_terms::{LinkFault, Read};
+use path_ends::{Step, endings};
+use std::alloc::{AllocError, Global};
+use wasm_meaning::ends_and_reads_are_paths;
+use wasm_tree::{ConstExpr, ExportDesc};
+
+/// A global that a part defines: the part, its index in that part's global space, and its value expression.
+#[derive(Clone, Copy, Drop)]
+pub struct OwnGlobal {
+    pub part: u32,
+    pub index: u32,
+    pub init: ConstExpr,
+}
+
+impl<'a> Joining<'a> {
+    /// The globals that the parts define, by part, then by index.
+    pub fn own_globals(&self, alloc: Global) -> Result<Vec<OwnGlobal>, AllocError>
+        requires joining { IsJoining self.now }
+        requires parts { length self.now.parts.now < 2 ^ 32 }
+        ensures { IfOk result (λ globals. AreOwn self.now.parts.now globals.items) }
+    {
+        let mut all = Vec::new(alloc);
+        for (at, part) in self.parts.iter().enumerate() {
+            let globals = part.module.module().globals.as_slice();
+            let imported = self.tables[at].imported(Kind::Globals);
+            for place in 0..globals.len() {
+                all.push(OwnGlobal {
+                    part: at as u32,
+                    index: (imported + place) as u32,
+                    init: globals[place].init,
+                })?;
+            }
+        }
+        Ok(all)
+    }
+
+    /// The number of a defined global among those of all parts.
+    pub fn global_number(&self, entity: Entity) -> Option<u32>
+        requires { IsJoining self.now }
+        ensures { IsOwn (named_modules self.now.parts.now) (the_entity entity) result }
+    {
+        match self.tables.get(entity.part as usize) {
+            None => None,
+            Some(table) => {
+                let index = index_of_export(entity.what) as usize;
+                let place = index.saturating_sub(table.imported(Kind::Globals));
+                let globals = self.parts[entity.part as usize]
+                    .module
+                    .module()
+                    .globals
+                    .as_slice();
+                if place < globals.len() {
+                    Some(table.first_global() + place as u32)
+                } else {
+                    None
+                }
+            }
+        }
+    }
+
+    /// The `global.get` of an import that stays.
+    pub fn outside_read(&self, site: Site) -> Read
+        requires joining { IsJoining self.now }
+        requires there { IsThere self.now.parts.now site }
+        ensures { linking.outside_read (named_modules self.now.parts.now) (the_site site) ≡ Some (the_read result) }
+    {
+        let index = self.tables[site.part as usize].global_index(site.import);
+        Read {
+            part: site.part,
+            expr: ConstExpr::Global(index),
+        }
+    }
+
+    // From the end of a global's import: to a defined global's value expression, or to the `global.get` of what stays.
+    fn end_step(&self, end: Ending) -> Step<Read>
+        requires joining { IsJoining self.now }
+        requires stop { IsStop (named_modules self.now.parts.now) (the_end end) }
+        ensures { IsEndStep self.now.parts.now (the_end end) result }
+    {
+        match end {
+            Ending::Outside(site) => Step::Ends(self.outside_read(site)),
+            Ending::Defined(entity) => match self.global_number(entity) {
+                None => Step::Nowhere,
+                Some(number) => Step::Goes(number),
+            },
+        }
+    }
+
+    // From a global's value expression.
+    fn value_step(&self, sites: &[Site], ends: &[Ending], global: OwnGlobal) -> Step<Read>
+        requires joining { IsJoining self.now }
+        requires sites { AreSites self.now.parts.now sites.now }
+        requires ends { AreKnown self.now.parts.now sites.now ends.now }
+        ensures { IsStep (linking.read_step (named_modules self.now.parts.now)) (own_reads (named_modules self.now.parts.now)) the_read (own_read (the_own global)) result }
+    {
+        match global.init {
+            ConstExpr::Global(index) => {
+                let entity = Entity {
+                    part: global.part,
+                    what: ExportDesc::Global(index),
+                };
+                match self.imported_as(entity) {
+                    None => Step::Nowhere,
+                    Some(number) => self.end_step(ends[number as usize]),
+                }
+            }
+            expr => Step::Ends(Read {
+                part: global.part,
+                expr,
+            }),
+        }
+    }
+
+    fn value_steps(
+        &self,
+        alloc: Global,
+        sites: &[Site],
+        ends: &[Ending],
+        globals: &[OwnGlobal],
+    ) -> Result<Vec<Step<Read>>, AllocError>
+        requires joining { IsJoining self.now }
+        requires sites { AreSites self.now.parts.now sites.now }
+        requires ends { AreKnown self.now.parts.now sites.now ends.now }
+        ensures { IfOk result (λ steps. AreSteps (linking.read_step (named_modules self.now.parts.now)) (own_reads (named_modules self.now.parts.now)) the_read (map (λ g. own_read (the_own g)) globals.now) steps.items) }
+    {
+        let mut steps = Vec::new(alloc);
+        for global in globals {
+            steps.push(self.value_step(sites, ends, *global))?;
+        }
+        Ok(steps)
+    }
+
+    /// What the value expression of each defined global reads, or none where following it never ends.
+    pub fn values(
+        &self,
+        alloc: Global,
+        sites: &[Site],
+        ends: &[Ending],
+        globals: &[OwnGlobal],
+    ) -> Result<Vec<Option<Read>>, AllocError>
+        requires joining { IsJoining self.now }
+        requires sites { AreSites self.now.parts.now sites.now }
+        requires ends { AreKnown self.now.parts.now sites.now ends.now }
+        requires globals { AreOwn self.now.parts.now globals.now }
+        ensures { IfOk result (λ values. map (option_map the_read) values.items ≡ map (value_at self.now.parts.now) globals.now) }
+    {
+        ends_and_reads_are_paths();
+        let steps = self.value_steps(alloc, sites, ends, globals)?;
+        let values = endings(alloc, &steps)?;
+        Ok(values)
+    }
+
+    /// The fault of the first defined global whose value has no end.
+    pub fn first_global_fault(
+        &self,
+        globals: &[OwnGlobal],
+        values: &[Option<Read>],
+    ) -> Option<LinkFault>
+        requires { map (option_map the_read) values.now ≡ map (value_at self.now.parts.now) globals.now }
+        ensures { result ≡ faults.first_fault (λ g. faults.global_fault (named_modules self.now.parts.now) (the_own g)) globals.now }
+    {
+        for at in 0..globals.len() {
+            match values[at] {
+                Some(_) => {}
+                None => {
+                    return Some(LinkFault::GlobalCycle {
+                        part: globals[at].part,
+                        global: globals[at].index,
+                    });
+                }
+            }
+        }
+        None
+    }
+}

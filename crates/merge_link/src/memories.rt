@@ -1,0 +1,60 @@
+// How many memories there are: those that are defined, and those that stay imported.
+
+ghost use Rattle.std.specs.Prelude.{Some, cond, false, length, nat_lt, ◌+◌, ◌≡◌};
+ghost use Rattle.merge_terms.specs.Faults as faults;
+ghost use Rattle.merge_terms.specs.Parts.{named_modules};
+ghost use Rattle.wasm_meaning.specs.Linking as linking;
+ghost use Rattle.wasm_meaning.specs.World as world;
+ghost use Rattle.merge_link.specs.Sites.{AreSites, IsThere, the_site};
+ghost use Rattle.merge_link.specs.Joining.{the_end};
+ghost use Rattle.merge_link.specs.Gathering.{AreLinked, is_memory_at};
+
+use crate::joining::{Ending, Joining};
+use crate::sites::Site;
+
+impl<'a> Joining<'a> {
+    fn is_staying_memory(&self, site: Site, end: Ending) -> bool
+        requires { IsThere self.now.parts.now site }
+        ensures { result ≡ cond (linking.is_outside (the_site site) (Some (the_end end))) (is_memory_at (linking.import_at (named_modules self.now.parts.now) (the_site site))) false }
+    {
+        self.staying_memory(site, end).is_some()
+    }
+
+    // How many memories stay, those of one module and field name counted once.
+    fn staying_memories(&self, sites: &[Site], linked: &[Ending]) -> usize
+        requires sites { AreSites self.now.parts.now sites.now }
+        requires linked { AreLinked self.now.parts.now sites.now linked.now }
+        ensures { result ≡ linking.count_of (λ s. faults.is_staying_memory (named_modules self.now.parts.now) (the_site s)) sites.now }
+    {
+        let mut count = 0;
+        for at in 0..sites.len() {
+            if self.is_staying_memory(sites[at], linked[at]) {
+                count += 1;
+            }
+        }
+        count
+    }
+
+    // Whether these and the defined memories are more than one.
+    fn are_more_than_one(&self, staying: usize) -> bool
+        ensures { result ≡ nat_lt 1 (staying + world.defined_before linking.Memories (named_modules self.now.parts.now) (length (named_modules self.now.parts.now))) }
+    {
+        let mut count = staying;
+        for part in self.parts {
+            if count > 1 {
+                return true;
+            }
+            count += part.module.module().mems.len();
+        }
+        count > 1
+    }
+
+    /// Whether the memories that are defined and those that stay are more than one.
+    pub fn has_too_many_memories(&self, sites: &[Site], linked: &[Ending]) -> bool
+        requires sites { AreSites self.now.parts.now sites.now }
+        requires linked { AreLinked self.now.parts.now sites.now linked.now }
+        ensures { result ≡ nat_lt 1 (faults.memory_count (named_modules self.now.parts.now)) }
+    {
+        self.are_more_than_one(self.staying_memories(sites, linked))
+    }
+}

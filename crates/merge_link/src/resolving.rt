@@ -1,0 +1,170 @@
+// Linking as a whole: the links of parts, or the first fault.
+
+ghost use Rattle.std.specs.Prelude.{IfErr, IfOk, Some, None, length, map, ◌<◌, ◌^◌, ◌≡◌, ◌⊎◌};
+ghost use Rattle.merge_terms.specs.Faults as faults;
+ghost use Rattle.merge_terms.specs.Joined.{FewInAll};
+ghost use Rattle.merge_terms.specs.Linked.{AreLinks};
+ghost use Rattle.merge_terms.specs.Parts.{HaveDistinctNames, named_modules};
+ghost use Rattle.merge_terms.specs.declared.faults.LinkFault.{LinkFault};
+ghost use Rattle.merge_link.specs.Sites.{AreSites};
+ghost use Rattle.merge_link.specs.Joining.{AreKnown, IsJoining};
+ghost use Rattle.merge_link.specs.Resolving.{IsKept, IsLinkedKept, IsMatched, IsOutcome, IsValued, read_entry_at};
+
+use crate::cutting::{cut, end_entries};
+use crate::joining::{Ending, Joining};
+use crate::matching::known_ends;
+use crate::sites::{Site, all_sites};
+use crate::tables::{all_names, all_tables};
+use merge_terms::{LinkFault, Links, Part, Read};
+use std::alloc::{AllocError, Global};
+use wasm_bytes::Items;
+use wasm_tree::Limits;
+
+/// The linked ends of imports, and the limits that they keep.
+#[derive(Drop)]
+pub struct Kept {
+    pub linked: Vec<Ending>,
+    pub limits: Vec<Option<Limits>>,
+}
+
+impl<'a> Joining<'a> {
+    // The ends of all imports, or the fault of the first that has none or whose end is not what it asks for.
+    fn matched(
+        &self,
+        alloc: Global,
+        sites: &[Site],
+    ) -> Result<Result<Vec<Ending>, LinkFault>, AllocError>
+        requires joining { IsJoining self.now }
+        requires sites { AreSites self.now.parts.now sites.now }
+        ensures { IfOk result (IsMatched self.now.parts.now sites.now) }
+    {
+        let ends = self.ends(alloc, sites)?;
+        match self.first_import_fault(sites, &ends) {
+            Some(fault) => Ok(Err(fault)),
+            None => Ok(Ok(known_ends(alloc, &ends)?)),
+        }
+    }
+
+    // The linked ends with the limits that stay, or the fault of the first import whose limits clash.
+    fn kept_ends(
+        &self,
+        alloc: Global,
+        sites: &[Site],
+        ends: &[Ending],
+    ) -> Result<Result<Kept, LinkFault>, AllocError>
+        requires joining { IsJoining self.now }
+        requires sites { AreSites self.now.parts.now sites.now }
+        requires ends { AreKnown self.now.parts.now sites.now ends.now }
+        ensures { IfOk result (IsKept self.now.parts.now sites.now) }
+    {
+        let linked = self.linked(alloc, sites, ends)?;
+        let limits = self.kept_limits(alloc, sites, &linked)?;
+        match self.first_clash(sites, &limits) {
+            Some(fault) => Ok(Err(fault)),
+            None => Ok(Ok(Kept { linked, limits })),
+        }
+    }
+
+    // What is read through imports, or the fault of the first defined global whose value has no end.
+    fn read_values(
+        &self,
+        alloc: Global,
+        sites: &[Site],
+        ends: &[Ending],
+    ) -> Result<Result<Vec<Option<Read>>, LinkFault>, AllocError>
+        requires joining { IsJoining self.now }
+        requires parts { length self.now.parts.now < 2 ^ 32 }
+        requires sites { AreSites self.now.parts.now sites.now }
+        requires ends { AreKnown self.now.parts.now sites.now ends.now }
+        ensures { IfOk result (IsValued self.now.parts.now sites.now) }
+    {
+        let globals = self.own_globals(alloc)?;
+        let values = self.values(alloc, sites, ends, &globals)?;
+        match self.first_global_fault(&globals, &values) {
+            Some(fault) => Ok(Err(fault)),
+            None => Ok(Ok(self.reads(alloc, sites, ends, &values)?)),
+        }
+    }
+
+    // The links, written down by part.
+    fn written(
+        &self,
+        alloc: Global,
+        kept: &Kept,
+        reads: &[Option<Read>],
+        sites: &[Site],
+    ) -> Result<Links, AllocError>
+        requires sites { AreSites self.now.parts.now sites.now }
+        requires kept { IsLinkedKept self.now.parts.now sites.now kept.now }
+        requires reads { reads.now ≡ map (read_entry_at self.now.parts.now) sites.now }
+        ensures { IfOk result (AreLinks (named_modules self.now.parts.now)) }
+    {
+        let entries = end_entries(alloc, &kept.linked)?;
+        Ok(Links {
+            ends: cut(alloc, self.parts, &entries)?,
+            limits: cut(alloc, self.parts, &kept.limits)?,
+            reads: cut(alloc, self.parts, reads)?,
+        })
+    }
+
+    // From the sites on: whether more than one memory is a fault is for the caller to say.
+    fn linked_sites(
+        &self,
+        alloc: Global,
+        sites: &[Site],
+    ) -> Result<Result<Links, LinkFault>, AllocError>
+        requires joining { IsJoining self.now }
+        requires parts { length self.now.parts.now < 2 ^ 32 }
+        requires sites { AreSites self.now.parts.now sites.now }
+        ensures { IfOk result (IsOutcome (named_modules self.now.parts.now)) }
+    {
+        let ends = match self.matched(alloc, sites)? {
+            Err(fault) => return Ok(Err(fault)),
+            Ok(ends) => ends,
+        };
+        let kept = match self.kept_ends(alloc, sites, &ends)? {
+            Err(fault) => return Ok(Err(fault)),
+            Ok(kept) => kept,
+        };
+        if self.has_too_many_memories(sites, &kept.linked) {
+            return Ok(Err(LinkFault::TooManyMemories));
+        }
+        match self.read_values(alloc, sites, &ends)? {
+            Err(fault) => Ok(Err(fault)),
+            Ok(reads) => Ok(Ok(self.written(alloc, &kept, &reads, sites)?)),
+        }
+    }
+}
+
+fn link(alloc: Global, parts: &[Part]) -> Result<Result<Links, LinkFault>, AllocError>
+    requires { FewInAll (named_modules parts.now) }
+    ensures { IfOk result (IsOutcome (named_modules parts.now)) }
+{
+    let sites = all_sites(alloc, parts)?;
+    let names = all_names(alloc, parts)?;
+    let tables = all_tables(alloc, parts)?;
+    let joining = Joining {
+        parts,
+        names,
+        tables,
+    };
+    joining.linked_sites(alloc, &sites)
+}
+
+/// Links parts by name: where each import ends, which limits it keeps, and what is read through it.
+///
+/// An import whose module is a part's name is joined with that part's export of its field's name, and followed on where that export is an import. A
+/// refusal carries the first fault in this order: of imports, by part and then in order; of limits that clash; of more than one memory; of values of
+/// globals that have no end.
+pub fn resolve(alloc: Global, parts: &Items<Part>) -> Result<Links, LinkFault>
+    requires names { HaveDistinctNames parts.now }
+    requires few { FewInAll (named_modules parts.now) }
+    ensures links { IfOk result (AreLinks (named_modules parts.now)) }
+    ensures linked { IfOk result (λ links. faults.link_fault (named_modules parts.now) ≡ None) }
+    ensures fault { IfErr result (λ f. (f ≡ LinkFault.NoMemory) ⊎ (faults.link_fault (named_modules parts.now) ≡ Some f)) }
+{
+    match link(alloc, parts.as_slice()) {
+        Ok(outcome) => outcome,
+        Err(_) => Err(LinkFault::NoMemory),
+    }
+}

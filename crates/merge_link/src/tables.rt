@@ -1,0 +1,242 @@
+// What is looked up in each part: the places of its imports in its index spaces, what its exports stand for, and the numbers of its first import
+// and of its first defined global among those of all parts.
+
+ghost use Rattle.std.specs.Prelude.{IfOk, List, Some, length, slice_get, ℕ, ◌<◌, ◌^◌, ◌≡◌};
+ghost use Rattle.std.specs.Option.{option_copied};
+ghost use Rattle.std.specs.Ordering.{nat_cmp};
+ghost use Rattle.std.specs.BTreeMap.{get_by};
+ghost use Rattle.std.specs.Cmp.Lexicographic.{slice_cmp};
+ghost use Rattle.merge_terms.specs.Faults.{own_globals};
+ghost use Rattle.merge_terms.specs.Parts.{named_modules};
+ghost use Rattle.wasm_meaning.specs.Linking as linking;
+ghost use Rattle.merge_link.specs.Tables.{AreIndices, AreNames, AreTables, IsTableOf, imports_before, places_of, the_kind};
+
+use merge_terms::Part;
+use std::alloc::{AllocError, Global};
+use std::collections::BTreeMap;
+use wasm_tree::{Export, ExportDesc, Import, ImportDesc, Module};
+
+/// The kinds of what is imported and exported, one for each index space.
+#[derive(Clone, Copy, Debug, PartialEq, Eq)]
+pub enum Kind {
+    Functions,
+    Tables,
+    Memories,
+    Globals,
+}
+
+/// What is looked up in a part.
+#[derive(Drop)]
+pub struct Table<'a> {
+    exports: BTreeMap<&'a str, ExportDesc>,
+    funcs: Vec<u32>,
+    tables: Vec<u32>,
+    memories: Vec<u32>,
+    globals: Vec<u32>,
+    indices: Vec<u32>,
+    first_import: u32,
+    first_global: u32,
+}
+
+/// The kind of what is imported.
+pub fn kind_of_import(desc: ImportDesc) -> Kind
+    ensures { the_kind result ≡ linking.kind_of_import desc }
+{
+    match desc {
+        ImportDesc::Func(_) => Kind::Functions,
+        ImportDesc::Table(_) => Kind::Tables,
+        ImportDesc::Memory(_) => Kind::Memories,
+        ImportDesc::Global(_) => Kind::Globals,
+    }
+}
+
+/// The kind of what is exported.
+pub fn kind_of_export(desc: ExportDesc) -> Kind
+    ensures { the_kind result ≡ linking.kind_of_export desc }
+{
+    match desc {
+        ExportDesc::Func(_) => Kind::Functions,
+        ExportDesc::Table(_) => Kind::Tables,
+        ExportDesc::Memory(_) => Kind::Memories,
+        ExportDesc::Global(_) => Kind::Globals,
+    }
+}
+
+/// The index of what is exported in the index space of its kind.
+pub fn index_of_export(desc: ExportDesc) -> u32
+    ensures { result ≡ linking.index_of_export desc }
+{
+    match desc {
+        ExportDesc::Func(index) => index,
+        ExportDesc::Table(index) => index,
+        ExportDesc::Memory(index) => index,
+        ExportDesc::Global(index) => index,
+    }
+}
+
+/// Whether the import is of the kind.
+pub fn has_kind(kind: Kind, import: &Import) -> bool
+    ensures { result ≡ linking.has_kind (the_kind kind) import.now }
+{
+    match (kind, import.desc) {
+        (Kind::Functions, ImportDesc::Func(_)) => true,
+        (Kind::Tables, ImportDesc::Table(_)) => true,
+        (Kind::Memories, ImportDesc::Memory(_)) => true,
+        (Kind::Globals, ImportDesc::Global(_)) => true,
+        _ => false,
+    }
+}
+
+// What each name stands for, from the last export to the first, so that the first that bears a name counts.
+fn exported<'a>(
+    alloc: Global,
+    exports: &'a [Export],
+) -> Result<BTreeMap<&'a str, ExportDesc>, AllocError>
+    ensures { IfOk result (λ map. (name : List ℕ) → get_by (λ k. slice_cmp nat_cmp name k.now) map ≡ linking.export_named exports.now name) }
+{
+    let mut map = BTreeMap::new(alloc);
+    for at in (0..exports.len()).rev() {
+        let export = &exports[at];
+        map.insert(export.name.as_str(), export.desc)?;
+    }
+    Ok(map)
+}
+
+// The places of the imports of a kind.
+fn places(alloc: Global, imports: &[Import], kind: Kind) -> Result<Vec<u32>, AllocError>
+    requires { length imports.now < 2 ^ 32 }
+    ensures { IfOk result (λ places. places.items ≡ linking.places (linking.has_kind (the_kind kind)) imports.now 0) }
+{
+    let mut places = Vec::new(alloc);
+    for (at, import) in imports.iter().enumerate() {
+        if has_kind(kind, import) {
+            places.push(at as u32)?;
+        }
+    }
+    Ok(places)
+}
+
+// For each import how many globals are imported before it.
+fn global_indices(alloc: Global, imports: &[Import]) -> Result<Vec<u32>, AllocError>
+    requires { length imports.now < 2 ^ 32 }
+    ensures { IfOk result (λ indices. AreIndices imports.now indices.items) }
+{
+    let mut indices = Vec::new(alloc);
+    let mut count: u32 = 0;
+    for import in imports {
+        indices.push(count)?;
+        if has_kind(Kind::Globals, import) {
+            count += 1;
+        }
+    }
+    Ok(indices)
+}
+
+fn table_of<'a>(
+    alloc: Global,
+    module: &'a Module,
+    first_import: u32,
+    first_global: u32,
+) -> Result<Table<'a>, AllocError>
+    requires { length «module».now.imports < 2 ^ 32 }
+    ensures { IfOk result (IsTableOf first_import first_global «module».now) }
+{
+    let imports = module.imports.as_slice();
+    Ok(Table {
+        exports: exported(alloc, module.exports.as_slice())?,
+        funcs: places(alloc, imports, Kind::Functions)?,
+        tables: places(alloc, imports, Kind::Tables)?,
+        memories: places(alloc, imports, Kind::Memories)?,
+        globals: places(alloc, imports, Kind::Globals)?,
+        indices: global_indices(alloc, imports)?,
+        first_import,
+        first_global,
+    })
+}
+
+/// What is looked up in each part.
+pub fn all_tables<'a>(alloc: Global, parts: &'a [Part]) -> Result<Vec<Table<'a>>, AllocError>
+    requires imports { length (linking.sites (named_modules parts.now)) < 2 ^ 32 }
+    requires globals { length (own_globals (named_modules parts.now)) < 2 ^ 32 }
+    ensures { IfOk result (λ tables. AreTables (named_modules parts.now) tables.items) }
+{
+    let mut tables = Vec::new(alloc);
+    let mut first_import: u32 = 0;
+    let mut first_global: u32 = 0;
+    for part in parts {
+        let module = part.module.module();
+        let table = table_of(alloc, module, first_import, first_global)?;
+        tables.push(table)?;
+        first_import += module.imports.len() as u32;
+        first_global += module.globals.len() as u32;
+    }
+    Ok(tables)
+}
+
+/// The part of each name; where several bear one, the first.
+pub fn all_names<'a>(alloc: Global, parts: &'a [Part]) -> Result<BTreeMap<&'a str, u32>, AllocError>
+    requires { length parts.now < 2 ^ 32 }
+    ensures { IfOk result (λ names. AreNames (named_modules parts.now) names) }
+{
+    let mut map = BTreeMap::new(alloc);
+    for at in (0..parts.len()).rev() {
+        map.insert(parts[at].name.as_str(), at as u32)?;
+    }
+    Ok(map)
+}
+
+impl<'a> Table<'a> {
+    /// The export of a name.
+    pub fn export(&self, name: &str) -> Option<ExportDesc>
+        ensures { result ≡ get_by (λ k. slice_cmp nat_cmp name.now k.now) self.now.exports }
+    {
+        self.exports.get(name).copied()
+    }
+
+    /// The place in the import section of an entry of an index space, where it is imported.
+    pub fn place(&self, kind: Kind, index: u32) -> Option<u32>
+        ensures { result ≡ linking.place (places_of self.now (the_kind kind)) index }
+    {
+        let places = match kind {
+            Kind::Functions => &self.funcs,
+            Kind::Tables => &self.tables,
+            Kind::Memories => &self.memories,
+            Kind::Globals => &self.globals,
+        };
+        places.get(index as usize).copied()
+    }
+
+    /// How many entries of an index space are imported.
+    pub fn imported(&self, kind: Kind) -> usize
+        ensures { result ≡ length (places_of self.now (the_kind kind)) }
+    {
+        match kind {
+            Kind::Functions => self.funcs.len(),
+            Kind::Tables => self.tables.len(),
+            Kind::Memories => self.memories.len(),
+            Kind::Globals => self.globals.len(),
+        }
+    }
+
+    /// The index in the global space of a global import at a place.
+    pub fn global_index(&self, place: u32) -> u32
+        requires { place < length self.now.indices.items }
+        ensures { slice_get self.now.indices.items place ≡ Some result }
+    {
+        self.indices[place as usize]
+    }
+
+    /// The number of the part's first import among those of all parts.
+    pub fn first_import(&self) -> u32
+        ensures { result ≡ self.now.first_import }
+    {
+        self.first_import
+    }
+
+    /// The number of the part's first defined global among those of all parts.
+    pub fn first_global(&self) -> u32
+        ensures { result ≡ self.now.first_global }
+    {
+        self.first_global
+    }
+}
