@@ -1,0 +1,145 @@
+-- Lists that are joined by part, read at a place and made one part after the other.
+use Rattle.std.proofs.Common.{◌≡◌, ◌∙◌, sym, ap, refl, ℕ, zero, suc, ◌+◌, ◌<◌, ◌≤◌, List, [], ◌∷◌, ◌++◌, length, map, take, arith, slice_get, slice_index, Option, Some, None, append_assoc, append-nil, add-one}
+use Rattle.std.specs.Option.{option_map}
+use Rattle.std.proofs.lemmas.List.{length-map, length-append, take_all}
+use Rattle.std.specs.List.{flat_map}
+use Rattle.std.proofs.lemmas.Option.{slice_get-map, slice_get_within, get_or_from_slice_get}
+use Rattle.wasm_tree.specs.declared.module.Module.{Module}
+use Rattle.wasm_meaning.specs.Linking.{Part, Site, place, then_some, module_at, import_at, sites_in}
+use Rattle.merge_terms.specs.declared.parts.Part as declared
+use Rattle.merge_terms.specs.Parts.{named_module, named_modules}
+use Rattle.merge_terms.specs.Linked.{by_import_from, by_import}
+use Rattle.merge_terms.specs.Merged.{by_part_from, by_part}
+use Rattle.merge_join.specs.Words.{site, each_part}
+
+pub named_length : (parts : List declared.Part) → length (named_modules parts) ≡ length parts
+named_length parts = length-map parts named_module
+
+module_there : (ps : List Part) (p : ℕ) (m : Module) → module_at ps p ≡ Some m → p < length ps
+module_there [] p m h = cc
+module_there (part ∷ ps) zero m h = omega arith
+module_there (part ∷ ps) (suc p) m h = omega (arith, module_there ps p m h)
+
+pub part_there : (parts : List declared.Part) (p : ℕ) (m : Module) → module_at (named_modules parts) p ≡ Some m → p < length parts
+part_there parts p m h = omega (arith, module_there (named_modules parts) p m h, named_length parts)
+
+module_is : (ps : List Part) (p : ℕ) → p < length ps → (m : Module) × (module_at ps p ≡ Some m)
+module_is [] p h = absurd (omega arith)
+module_is (part ∷ ps) zero h = (part.«module», refl)
+module_is (part ∷ ps) (suc p) h = module_is ps p (omega arith)
+
+-- a part that is there has a module
+pub module_exists : (parts : List declared.Part) (p : ℕ) → p < length parts → (m : Module) × (module_at (named_modules parts) p ≡ Some m)
+module_exists parts p h = module_is (named_modules parts) p (omega (arith, h, named_length parts))
+
+-- ---- one thing for each part ----
+
+each_from : {A : Type 0} → (ℕ → Module → A) → ℕ → List Part → List A
+each_from f q ps = by_part_from (λ p m. f p m ∷ []) q ps
+
+each_from_at : {A : Type 0} (f : ℕ → Module → A) (q : ℕ) (ps : List Part) (p : ℕ) (m : Module) → module_at ps p ≡ Some m → slice_get (by_part_from (λ p m. f p m ∷ []) q ps) p ≡ Some (f (q + p) m)
+each_from_at f q [] p m h = cc
+each_from_at f q (part ∷ ps) zero m h = let same : part.«module» ≡ m = cc in let n : q ≡ q + 0 = omega arith in ap Some (ap (f q) same ∙ ap (λ k. f k m) n)
+each_from_at f q (part ∷ ps) (suc p) m h = let n : suc q + p ≡ q + suc p = omega arith in each_from_at f (suc q) ps p m h ∙ ap (λ k. Some (f k m)) n
+
+-- the thing of the part at a place
+pub each_at : {A : Type 0} (f : ℕ → Module → A) (ps : List Part) (p : ℕ) (m : Module) → module_at ps p ≡ Some m → slice_get (each_part f ps) p ≡ Some (f p m)
+each_at f ps p m h = each_from_at f 0 ps p m h ∙ ap (λ k. Some (f k m)) (omega arith)
+
+each_from_length : {A : Type 0} (f : ℕ → Module → A) (q : ℕ) (ps : List Part) → length (by_part_from (λ p m. f p m ∷ []) q ps) ≡ length ps
+each_from_length f q [] = refl
+each_from_length f q (part ∷ ps) = ap suc (each_from_length f (suc q) ps)
+
+pub each_length : {A : Type 0} (f : ℕ → Module → A) (ps : List Part) → length (each_part f ps) ≡ length ps
+each_length f ps = each_from_length f 0 ps
+
+-- ---- one thing for each import ----
+
+by_import_is_from : {A : Type 0} (f : Site → A) (q : ℕ) (ps : List Part) → by_import_from f q ps ≡ by_part_from (λ p m. map f (sites_in p (length m.imports) 0) ∷ []) q ps
+by_import_is_from f q [] = refl
+by_import_is_from f q (part ∷ ps) = ap (λ rest. map f (sites_in q (length part.«module».imports) 0) ∷ rest) (by_import_is_from f (suc q) ps)
+
+pub by_import_is : {A : Type 0} (f : Site → A) (ps : List Part) → by_import f ps ≡ each_part (λ p m. map f (sites_in p (length m.imports) 0)) ps
+by_import_is f ps = by_import_is_from f 0 ps
+
+pub site_in_at : (p count q n : ℕ) → n < count → slice_get (sites_in p count q) n ≡ Some (site p (q + n))
+site_in_at p zero q n h = absurd (omega arith)
+site_in_at p (suc count) q zero h = let e : q ≡ q + 0 = omega arith in ap (λ k. Some (site p k)) e
+site_in_at p (suc count) q (suc n) h = let e : suc q + n ≡ q + suc n = omega arith in site_in_at p count (suc q) n (omega arith) ∙ ap (λ k. Some (site p k)) e
+
+pub sites_in_length : (p count q : ℕ) → length (sites_in p count q) ≡ count
+sites_in_length p zero q = refl
+sites_in_length p (suc count) q = ap suc (sites_in_length p count (suc q))
+
+-- the row of a part
+pub row_at : {A : Type 0} (f : Site → A) (ps : List Part) (rows : List (List A)) (p : ℕ) (m : Module) → rows ≡ by_import f ps → module_at ps p ≡ Some m →
+    slice_get rows p ≡ Some (map f (sites_in p (length m.imports) 0))
+row_at f ps rows p m is at = ap (λ x. slice_get x p) (is ∙ by_import_is f ps) ∙ each_at (λ p m. map f (sites_in p (length m.imports) 0)) ps p m at
+
+-- and its entry
+pub entry_at : {A : Type 0} (f : Site → A) (p count n : ℕ) → n < count → slice_get (map f (sites_in p count 0)) n ≡ Some (f (site p n))
+entry_at f p count n h = slice_get-map f (sites_in p count 0) n ∙ ap (option_map f) (site_in_at p count 0 n h ∙ ap (λ k. Some (site p k)) (omega arith))
+
+-- ---- one part after the other ----
+
+pub part_push : {A : Type 0} (f : ℕ → Module → List A) (q : ℕ) (ps : List Part) (p : ℕ) (m : Module) → module_at ps p ≡ Some m →
+    by_part_from f q (take (suc p) ps) ≡ by_part_from f q (take p ps) ++ f (q + p) m
+part_push f q [] p m h = cc
+part_push f q (part ∷ ps) zero m h =
+    let same : part.«module» ≡ m = cc in
+    let n : q ≡ q + 0 = omega arith in
+    append-nil (f q part.«module») ∙ ap (f q) same ∙ ap (λ k. f k m) n
+part_push f q (part ∷ ps) (suc p) m h =
+    let n : suc q + p ≡ q + suc p = omega arith in
+    ap (λ rest. f q part.«module» ++ rest) (part_push f (suc q) ps p m h ∙ ap (λ k. by_part_from f (suc q) (take p ps) ++ f k m) n)
+    ∙ sym (append_assoc (f q part.«module») (by_part_from f (suc q) (take p ps)) (f (q + suc p) m))
+
+-- one part more
+pub part_more : {A : Type 0} (f : ℕ → Module → List A) (ps : List Part) (p : ℕ) (m : Module) (old new : List A) → module_at ps p ≡ Some m →
+    old ≡ by_part_from f 0 (take p ps) → new ≡ old ++ f p m → new ≡ by_part_from f 0 (take (p + 1) ps)
+part_more f ps p m old new at was is =
+    let next : p + 1 ≡ suc p = omega arith in
+    let here : 0 + p ≡ p = omega arith in
+    is ∙ ap (λ x. x ++ f p m) was ∙ sym (ap (λ k. by_part_from f 0 (take k ps)) next ∙ part_push f 0 ps p m at ∙ ap (λ k. by_part_from f 0 (take p ps) ++ f k m) here)
+
+-- all parts
+pub part_all : {A : Type 0} (f : ℕ → Module → List A) (parts : List declared.Part) (p : ℕ) (all : List A) → length parts ≤ p →
+    all ≡ by_part_from f 0 (take p (named_modules parts)) → all ≡ by_part f (named_modules parts)
+part_all f parts p all end is = is ∙ ap (by_part_from f 0) (take_all p (named_modules parts) (omega (arith, named_length parts)))
+
+-- ---- lists of the first parts ----
+
+part_short : {A : Type 0} (f : ℕ → Module → List A) (q : ℕ) (ps : List Part) (k : ℕ) → length (by_part_from f q (take k ps)) ≤ length (by_part_from f q ps)
+part_short f q ps zero = omega arith
+part_short f q [] (suc k) = omega arith
+part_short f q (part ∷ ps) (suc k) = omega (arith, part_short f (suc q) ps k, length-append (f q part.«module») (by_part_from f (suc q) (take k ps)), length-append (f q part.«module») (by_part_from f (suc q) ps))
+
+-- so many come before a part, and it has room
+pub part_room : {A : Type 0} (f : ℕ → Module → List A) (ps : List Part) (p : ℕ) (m : Module) → module_at ps p ≡ Some m → length (by_part_from f 0 (take p ps)) + length (f p m) ≤ length (by_part f ps)
+part_room f ps p m at =
+    let next : p + 1 ≡ suc p = omega arith in
+    let here : 0 + p ≡ p = omega arith in
+    let e : length (by_part_from f 0 (take (suc p) ps)) ≡ length (by_part_from f 0 (take p ps)) + length (f p m) =
+    ap length (part_push f 0 ps p m at ∙ ap (λ k. by_part_from f 0 (take p ps) ++ f k m) here) ∙ length-append (by_part_from f 0 (take p ps)) (f p m) in
+    omega (arith, e, part_short f 0 ps (suc p))
+
+flat_from : {A : Type 0} (f : Module → List A) (q : ℕ) (ps : List Part) → flat_map (λ p. f p.«module») ps ≡ by_part_from (λ p m. f m) q ps
+flat_from f q [] = refl
+flat_from f q (part ∷ ps) = ap (λ rest. f part.«module» ++ rest) (flat_from f (suc q) ps)
+
+pub flat_is : {A : Type 0} (f : Module → List A) (ps : List Part) → flat_map (λ p. f p.«module») ps ≡ by_part (λ p m. f m) ps
+flat_is f ps = flat_from f 0 ps
+
+-- ---- one number for each part ----
+
+pub each_within : {A : Type 0} (f : ℕ → Module → A) (ps : List Part) (all : List A) (p : ℕ) (m : Module) → all ≡ each_part f ps → module_at ps p ≡ Some m → p < length all
+each_within f ps all p m is at = slice_get_within all p (f p m) (ap (λ x. slice_get x p) is ∙ each_at f ps p m at)
+
+pub each_index : (f : ℕ → Module → ℕ) (ps : List Part) (all : List ℕ) (p : ℕ) (m : Module) → all ≡ each_part f ps → module_at ps p ≡ Some m → slice_index all p ≡ f p m
+each_index f ps all p m is at = get_or_from_slice_get all p (f p m) 0 (ap (λ x. slice_get x p) is ∙ each_at f ps p m at)
+
+pub place_is_get : {A : Type 0} (xs : List A) (n : ℕ) → place xs n ≡ slice_get xs n
+place_is_get [] zero = refl
+place_is_get [] (suc n) = refl
+place_is_get (x ∷ xs) zero = refl
+place_is_get (x ∷ xs) (suc n) = place_is_get xs n

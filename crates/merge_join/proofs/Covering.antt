@@ -1,0 +1,65 @@
+-- The map of a part has an entry for each index of the part's index spaces.
+use Rattle.std.proofs.Common.{◌≡◌, ◌∙◌, sym, ap, refl, subst, ℕ, zero, suc, ◌+◌, ◌<◌, ◌≤◌, List, [], ◌∷◌, length, map, arith, slice_get, Some, Bool, true, false, ◌&&◌, true≢false}
+use Rattle.std.specs.Prelude.{slice_index, IsTrue, nat_lt}
+use Rattle.std.proofs.lemmas.Bool.Decides.{nat_tests}
+use Rattle.std.proofs.lemmas.List.{length-map}
+use Rattle.wasm_tree.specs.declared.module.Module.{Module}
+use Rattle.wasm_tree.specs.Spaces.{funcs_of, tables_of, memories_of, globals_of}
+use Rattle.wasm_meaning.specs.World.{numbers, elems_before, datas_before}
+use Rattle.wasm_meaning.specs.Linking.{Part, Functions, module_at}
+use Rattle.index_remap.specs.declared.remap.Remap.{Remap}
+use Rattle.index_remap.specs.Renumbered.{all_true, fits_import, fits_func, fits_global, fits_export, fits_start, fits_elem, fits_data, fits_tree}
+use Rattle.remap_typing.specs.Trees.{Covers}
+use Rattle.merge_terms.specs.Merged.{map_of, new_index, place_of_type, start_of}
+use Rattle.merge_join.specs.Words.{AreMaps}
+use Rattle.merge_join.proofs.ByPart.{each_at}
+
+numbers_length : (from count : ℕ) → length (numbers from count) ≡ count
+numbers_length from zero = refl
+numbers_length from (suc count) = ap suc (numbers_length (suc from) count)
+
+mapped_at : (f : ℕ → ℕ) (from count i : ℕ) → i < count → slice_index (map f (numbers from count)) i ≡ f (from + i)
+mapped_at f from zero i h = absurd (omega arith)
+mapped_at f from (suc count) zero h = ap f (omega arith)
+mapped_at f from (suc count) (suc i) h = mapped_at f (suc from) count i (omega arith) ∙ ap f (omega arith)
+
+-- the new index of a function of the part
+pub func_entry : (ps : List Part) (p : ℕ) (m : Module) (f : ℕ) → f < length (funcs_of m) → slice_index (map_of ps p m).funcs f ≡ new_index ps p Functions f
+unfolding map_of
+func_entry ps p m f h = mapped_at (new_index ps p Functions) 0 (length (funcs_of m)) f h ∙ ap (new_index ps p Functions) (omega arith)
+
+-- ---- what a map that fits has an entry for ----
+
+left : (a b : Bool) → IsTrue (a && b) → IsTrue a
+left true b h = refl
+left false b h = h
+
+right : (a b : Bool) → IsTrue (a && b) → IsTrue b
+right true b h = h
+right false b h = absurd (true≢false (sym h))
+
+below : (i n : ℕ) → IsTrue (nat_lt i n) → i < n
+below i n h = grind (arith, nat_tests, h)
+
+-- the exports, the start, and what comes after
+abbrev exports_on : Remap → Module → Bool
+exports_on r m = all_true (map (fits_export r) m.exports) && (fits_start r m.start && (all_true (map (fits_elem r) m.elems) && all_true (map (fits_data r) m.datas)))
+
+from_exports : (r : Remap) (m : Module) → IsTrue (fits_tree r m) → IsTrue (exports_on r m)
+from_exports r m h = right (all_true (map (fits_global r) m.globals)) (exports_on r m) (right (all_true (map (fits_func r) m.funcs)) _ (right (all_true (map (fits_import r) m.imports)) _ h))
+
+pub exports_fit : (r : Remap) (m : Module) → IsTrue (fits_tree r m) → IsTrue (all_true (map (fits_export r) m.exports))
+exports_fit r m h = left (all_true (map (fits_export r) m.exports)) _ (from_exports r m h)
+
+pub start_fits : (r : Remap) (m : Module) (f : ℕ) → IsTrue (fits_tree r m) → m.start ≡ Some f → f < length r.funcs
+start_fits r m f h is = below f (length r.funcs) (subst (λ s. IsTrue (fits_start r s)) is (left (fits_start r m.start) _ (right (all_true (map (fits_export r) m.exports)) _ (from_exports r m h))))
+
+funcs_many : (ps : List Part) (p : ℕ) (m : Module) → length (map_of ps p m).funcs ≡ length (funcs_of m)
+unfolding map_of
+funcs_many ps p m = length-map (numbers 0 (length (funcs_of m))) (new_index ps p Functions) ∙ numbers_length 0 (length (funcs_of m))
+
+-- the new index of the start
+pub start_entry : (ps : List Part) (p : ℕ) (m : Module) (r : Remap) (f : ℕ) → r ≡ map_of ps p m → f < length r.funcs → m.start ≡ Some f → slice_index r.funcs f ∷ [] ≡ start_of ps p m.start
+start_entry ps p m r f are within is =
+    let inside : f < length (funcs_of m) = omega (arith, within, ap (λ x. length x.funcs) are, funcs_many ps p m) in
+    ap (λ x. slice_index x.funcs f ∷ []) are ∙ ap (λ k. k ∷ []) (func_entry ps p m f inside) ∙ sym (ap (start_of ps p) is)

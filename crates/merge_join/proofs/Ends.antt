@@ -1,0 +1,43 @@
+-- Ends as they are written down.
+use Rattle.std.proofs.Common.{◌≡◌, ◌∙◌, sym, ap, refl, ℕ, List, Bool, true, false, cond, Option, Some, None, eqb, arith}
+use Rattle.std.specs.Prelude.{nat_eq}
+use Rattle.std.specs.Option.{option_map, unwrap_or}
+use Rattle.std.proofs.lemmas.Bool.Decides.{nat_tests}
+use Rattle.wasm_meaning.specs.Linking as linking
+use Rattle.wasm_meaning.specs.Linking.{Part, Site, Entity, Kind, linked_end, is_outside, same_site, index_of_export}
+use Rattle.merge_terms.specs.declared.links.End.{End}
+use Rattle.merge_terms.specs.declared.links.End.TheVariants.{Defined, Outside}
+use Rattle.merge_terms.specs.Faults.{stays}
+use Rattle.merge_terms.specs.Linked.{end_entry}
+use Rattle.merge_terms.specs.Merged.{or_this, place_of_end}
+use Rattle.merge_join.specs.Words.{site, place_at}
+
+-- whether an import is this end
+abbrev pub is_self : Site → End → Bool
+is_self s (Outside p n) = same_site s (site p n)
+is_self s (Defined p i) = false
+
+outside_is : (s : Site) (o : Option linking.End) (e : End) → option_map end_entry o ≡ Some e → is_outside s o ≡ is_self s e
+outside_is s None e h = cc
+outside_is s (Some (linking.Defined x)) e h = let is : Defined x.part (index_of_export x.what) ≡ e = cc in ap (is_self s) is
+outside_is s (Some (linking.Outside t)) e h = let is : Outside t.part t.import ≡ e = cc in ap (is_self s) is
+
+pub stays_is : (ps : List Part) (s : Site) (e : End) → option_map end_entry (linked_end ps s) ≡ Some e → stays ps s ≡ is_self s e
+unfolding stays
+stays_is ps s e h = outside_is s (linked_end ps s) e h
+
+pub same_part : (p n q k : ℕ) → q ≡ p → eqb k n ≡ same_site (site p n) (site q k)
+same_part p n q k e = grind (arith, nat_tests)
+
+pub other_part : (p n q k : ℕ) → (q ≡ p → ⊥) → eqb q p ≡ same_site (site p n) (site q k)
+other_part p n q k ne = grind (arith, nat_tests)
+
+-- the place of an end goes by what is written down of it
+pub place_is : (ps : List Part) (k : Kind) (end : linking.End) → place_of_end ps k end ≡ place_at ps k (end_entry end)
+unfolding place_of_end place_at
+place_is ps k (linking.Defined e) = refl
+place_is ps k (linking.Outside s) = refl
+
+pub or_zero : (o : Option ℕ) → unwrap_or o 0 ≡ or_this 0 o
+or_zero None = refl
+or_zero (Some a) = refl

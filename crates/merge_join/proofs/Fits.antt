@@ -1,0 +1,250 @@
+-- Where linking finds no fault, each import's end is there, and of the import's kind.
+use Rattle.std.proofs.Common.{◌≡◌, ◌∙◌, sym, ap, refl, subst, inl, inr, ◌⊎◌, ℕ, zero, suc, ◌+◌, ◌<◌, List, [], ◌∷◌, ◌++◌, length, arith, slice_get, Bool, true, false, cond, Option, Some, None}
+use Rattle.std.specs.Prelude.{option_and_then}
+use Rattle.std.specs.Option.{option_map}
+use Rattle.std.proofs.lemmas.Option.{slice_get_within}
+use Rattle.wasm_tree.specs.declared.module.Import.{Import}
+use Rattle.wasm_tree.specs.declared.module.ImportDesc.{ImportDesc}
+use Rattle.wasm_tree.specs.declared.module.ImportDesc.TheVariants as im
+use Rattle.wasm_tree.specs.declared.module.ExportDesc.{ExportDesc}
+use Rattle.wasm_tree.specs.declared.module.ExportDesc.TheVariants as ex
+use Rattle.wasm_tree.specs.declared.module.Module.{Module}
+use Rattle.wasm_tree.specs.Spaces.{funcs_of, tables_of, memories_of, globals_of, type_of_func}
+use Rattle.wasm_meaning.specs.Linking as linking
+use Rattle.wasm_meaning.specs.Linking.{Part, Site, Entity, Kind, Functions, Tables, Memories, Globals, place, then_some, module_at, import_at, kind_of_import, kind_of_export, index_of_export, same_kind, has_kind, sites, end_of, linked_end, gathered, gathered_at, first_site, stays_as, same_memory, same_pair, pair_of, is_outside}
+use Rattle.merge_terms.specs.declared.links.End.{End}
+use Rattle.merge_terms.specs.declared.links.End.TheVariants.{Defined, Outside}
+use Rattle.merge_terms.specs.declared.faults.LinkFault.{LinkFault}
+use Rattle.merge_terms.specs.declared.faults.LinkFault.TheVariants.{ImportMismatch, ImportCycle}
+use Rattle.wasm_meaning.specs.World.{or_false}
+use Rattle.merge_terms.specs.Faults.{External, FuncOf, TableOf, MemoryOf, GlobalOf, asked, asked_at, external_of, found, same_but_limits, meets_limits, suits, is_suited, or_else, first_fault, end_fault, import_fault, link_fault}
+use Rattle.merge_terms.specs.Linked.{end_entry}
+use Rattle.merge_join.specs.Words.{site, space_size, IsSite, IsEnd}
+use Rattle.merge_join.specs.Spaces.{sites_before}
+use Rattle.merge_join.proofs.Sites.{sites_split}
+use Rattle.merge_join.proofs.SpaceSizes.{funcs_size, tables_size, memories_size, globals_size}
+
+-- ---- external types have kinds ----
+
+abbrev kind_of_external : External → Kind
+kind_of_external (FuncOf t) = Functions
+kind_of_external (TableOf t) = Tables
+kind_of_external (MemoryOf l) = Memories
+kind_of_external (GlobalOf t) = Globals
+
+some_of : {A B : Type 0} (o : Option A) (f : A → Option B) (b : B) → then_some o f ≡ Some b → (a : A) × (o ≡ Some a) × (f a ≡ Some b)
+some_of None f b h = cc
+some_of (Some a) f b h = (a, refl, h)
+
+true_of : (o : Option Bool) → or_false o ≡ true → o ≡ Some true
+true_of None h = cc
+true_of (Some b) h = ap Some h
+
+asked_kind : (m : Module) (d : ImportDesc) (x : External) → asked m d ≡ Some x → kind_of_external x ≡ kind_of_import d
+asked_kind m (im.Func ty) x h = let (t, a, b) = some_of (place m.types ty) (λ t. Some (FuncOf t)) x h in let e : FuncOf t ≡ x = cc in sym (ap kind_of_external e)
+asked_kind m (im.Table t) x h = let e : TableOf t ≡ x = cc in sym (ap kind_of_external e)
+asked_kind m (im.Memory l) x h = let e : MemoryOf l ≡ x = cc in sym (ap kind_of_external e)
+asked_kind m (im.Global t) x h = let e : GlobalOf t ≡ x = cc in sym (ap kind_of_external e)
+
+same_kinds : (d x : External) → same_but_limits d x ≡ true → kind_of_external d ≡ kind_of_external x
+same_kinds (FuncOf t) (FuncOf u) h = refl
+same_kinds (FuncOf t) (TableOf u) h = cc
+same_kinds (FuncOf t) (MemoryOf u) h = cc
+same_kinds (FuncOf t) (GlobalOf u) h = cc
+same_kinds (TableOf t) (FuncOf u) h = cc
+same_kinds (TableOf t) (TableOf u) h = refl
+same_kinds (TableOf t) (MemoryOf u) h = cc
+same_kinds (TableOf t) (GlobalOf u) h = cc
+same_kinds (MemoryOf t) (FuncOf u) h = cc
+same_kinds (MemoryOf t) (TableOf u) h = cc
+same_kinds (MemoryOf t) (MemoryOf u) h = refl
+same_kinds (MemoryOf t) (GlobalOf u) h = cc
+same_kinds (GlobalOf t) (FuncOf u) h = cc
+same_kinds (GlobalOf t) (TableOf u) h = cc
+same_kinds (GlobalOf t) (MemoryOf u) h = cc
+same_kinds (GlobalOf t) (GlobalOf u) h = refl
+
+then_within : {A B : Type 0} (o : Option A) (f : A → Option B) (b : B) → option_and_then f o ≡ Some b → (a : A) × (o ≡ Some a)
+then_within None f b h = cc
+then_within (Some a) f b h = (a, refl)
+
+-- an entry that is there has its kind and is in its space
+external_there : (m : Module) (d : ExportDesc) (x : External) → external_of m d ≡ Some x → (kind_of_external x ≡ kind_of_export d) × (index_of_export d < space_size (kind_of_export d) m)
+external_there m (ex.Func i) x h =
+    let (t, a, b) = some_of (type_of_func m i) (λ t. Some (FuncOf t)) x h in
+    let e : FuncOf t ≡ x = cc in
+    let (ty, got) = then_within (slice_get (funcs_of m) i) (slice_get m.types) t a in
+    (sym (ap kind_of_external e), omega (arith, slice_get_within (funcs_of m) i ty got, funcs_size m))
+external_there m (ex.Table i) x h =
+    let (t, got, b) = some_of (slice_get (tables_of m) i) (λ t. Some (TableOf t)) x h in
+    let e : TableOf t ≡ x = cc in
+    (sym (ap kind_of_external e), omega (arith, slice_get_within (tables_of m) i t got, tables_size m))
+external_there m (ex.Memory i) x h =
+    let (l, got, b) = some_of (slice_get (memories_of m) i) (λ l. Some (MemoryOf l)) x h in
+    let e : MemoryOf l ≡ x = cc in
+    (sym (ap kind_of_external e), omega (arith, slice_get_within (memories_of m) i l got, memories_size m))
+external_there m (ex.Global i) x h =
+    let (t, got, b) = some_of (slice_get (globals_of m) i) (λ t. Some (GlobalOf t)) x h in
+    let e : GlobalOf t ≡ x = cc in
+    (sym (ap kind_of_external e), omega (arith, slice_get_within (globals_of m) i t got, globals_size m))
+
+-- ---- faults ----
+
+none_first : (a b : Option LinkFault) → or_else a b ≡ None → a ≡ None
+none_first None b h = refl
+none_first (Some f) b h = cc
+
+none_next : (a b : Option LinkFault) → or_else a b ≡ None → b ≡ None
+none_next None b h = h
+none_next (Some f) b h = cc
+
+none_at : {A : Type 0} (f : A → Option LinkFault) (xs : List A) (y : A) (ys : List A) → first_fault f (xs ++ y ∷ ys) ≡ None → f y ≡ None
+none_at f [] y ys h = none_first (f y) (first_fault f ys) h
+none_at f (x ∷ xs) y ys h = none_at f xs y ys (none_next (f x) (first_fault f (xs ++ y ∷ ys)) h)
+
+pub suited : (ps : List Part) (s : Site) (o : Option linking.End) (end : linking.End) → end_fault ps s o ≡ None → o ≡ Some end → is_suited ps s end ≡ true
+suited ps s None end h e = cc
+suited ps s (Some x) end h e = let same : x ≡ end = cc in ap (is_suited ps s) (sym same) ∙ case (is_suited ps s x) h
+  where
+    case : (b : Bool) → cond b None (Some (ImportMismatch s.part s.import)) ≡ None → b ≡ true
+    case true h = refl
+    case false h = cc
+
+pub place_within : {A : Type 0} (xs : List A) (n : ℕ) (x : A) → place xs n ≡ Some x → n < length xs
+place_within [] n x h = cc
+place_within (y ∷ ys) zero x h = omega arith
+place_within (y ∷ ys) (suc n) x h = omega (arith, place_within ys n x h)
+
+-- ---- ends ----
+
+-- the end is there, and of this kind
+abbrev pub EndThere : List Part → Kind → linking.End → Type 0
+EndThere ps k (linking.Defined e) = (m : Module) × (module_at ps e.part ≡ Some m) × (kind_of_export e.what ≡ k) × (index_of_export e.what < space_size k m)
+EndThere ps k (linking.Outside t) = (j : Import) × (import_at ps t ≡ Some j) × (kind_of_import j.desc ≡ k)
+
+suits_same : (d : External) (end : linking.End) (x : External) → suits d end x ≡ true → same_but_limits d x ≡ true
+suits_same d (linking.Defined e) x h = case (same_but_limits d x) (meets_limits d x) h
+  where
+    case : (a b : Bool) → cond a b false ≡ true → a ≡ true
+    case true b h = refl
+    case false b h = cc
+suits_same d (linking.Outside s) x h = h
+
+found_there : (ps : List Part) (end : linking.End) (x : External) → found ps end ≡ Some x → EndThere ps (kind_of_external x) end
+found_there ps (linking.Defined e) x h =
+    let (m, at, ext) = some_of (module_at ps e.part) (λ m. external_of m e.what) x h in
+    let (k, within) = external_there m e.what x ext in
+    (m, at, sym k, subst (λ z. index_of_export e.what < space_size z m) (sym k) within)
+found_there ps (linking.Outside s) x h =
+    let (m, at, rest) = some_of (module_at ps s.part) (λ m. then_some (place m.imports s.import) (λ i. asked m i.desc)) x h in
+    let (j, here, ext) = some_of (place m.imports s.import) (λ i. asked m i.desc) x rest in
+    (j, ap (λ o. then_some o (λ m. place m.imports s.import)) at ∙ here, sym (asked_kind m j.desc x ext))
+
+import_of : (ps : List Part) (s : Site) (d : External) (i : Import) → asked_at ps s ≡ Some d → import_at ps s ≡ Some i → kind_of_external d ≡ kind_of_import i.desc
+import_of ps s d i h here =
+    let (m, at, rest) = some_of (module_at ps s.part) (λ m. then_some (place m.imports s.import) (λ i. asked m i.desc)) d h in
+    let (j, there, ext) = some_of (place m.imports s.import) (λ i. asked m i.desc) d rest in
+    let e : Some i ≡ Some j = sym here ∙ ap (λ o. then_some o (λ m. place m.imports s.import)) at ∙ there in
+    let same : i ≡ j = cc in
+    asked_kind m j.desc d ext ∙ ap (λ (x : Import). kind_of_import x.desc) (sym same)
+
+suited_there : (ps : List Part) (s : Site) (end : linking.End) (i : Import) → import_at ps s ≡ Some i → is_suited ps s end ≡ true → EndThere ps (kind_of_import i.desc) end
+suited_there ps s end i here h =
+    let (d, asks, rest) = some_of (asked_at ps s) (λ d. then_some (found ps end) (λ x. Some (suits d end x))) true (true_of (then_some (asked_at ps s) (λ d. then_some (found ps end) (λ x. Some (suits d end x)))) h) in
+    let (x, finds, last) = some_of (found ps end) (λ x. Some (suits d end x)) true rest in
+    let fits : suits d end x ≡ true = cc in
+    let k : kind_of_external x ≡ kind_of_import i.desc = sym (same_kinds d x (suits_same d end x fits)) ∙ import_of ps s d i asks here in
+    subst (λ z. EndThere ps z end) k (found_there ps end x finds)
+
+-- where linking finds no fault
+pub end_there : (ps : List Part) (p n : ℕ) (m : Module) (i : Import) (end : linking.End) → link_fault ps ≡ None → module_at ps p ≡ Some m → place m.imports n ≡ Some i → end_of ps (site p n) ≡ Some end → EndThere ps (kind_of_import i.desc) end
+unfolding link_fault import_fault
+end_there ps p n m i end none at here ends =
+    let s = site p n in
+    let (rest, is) = sites_split ps p n m at (place_within m.imports n i here) in
+    let first : first_fault (import_fault ps) (sites ps) ≡ None = none_first (first_fault (import_fault ps) (sites ps)) _ none in
+    let mine : import_fault ps s ≡ None = none_at (import_fault ps) (sites_before ps p n) s rest (ap (first_fault (import_fault ps)) (sym is) ∙ first) in
+    suited_there ps s end i (ap (λ o. then_some o (λ m. place m.imports n)) at ∙ here) (suited ps s (end_of ps s) end mine ends)
+
+-- ---- memories that are one ----
+
+first_is : (is : Site → Bool) (ss : List Site) (other : Site) → (first_site is ss other ≡ other) ⊎ (is (first_site is ss other) ≡ true)
+first_is is [] other = inl refl
+first_is is (s ∷ ss) other = case (is s) refl (first_is is ss other)
+  where
+    case : (b : Bool) → is s ≡ b → (first_site is ss other ≡ other) ⊎ (is (first_site is ss other) ≡ true) → (cond b s (first_site is ss other) ≡ other) ⊎ (is (cond b s (first_site is ss other)) ≡ true)
+    case true e rest = inr e
+    case false e rest = rest
+
+same_memory_kind : (j : Import) (o : Option Import) → same_memory j o ≡ true → (l : Import) × (o ≡ Some l) × (kind_of_import l.desc ≡ kind_of_import j.desc)
+same_memory_kind j None h = cc
+same_memory_kind j (Some l) h = (l, refl, case (kind_of_import j.desc) (kind_of_import l.desc) h)
+  where
+    case : (a b : Kind) → cond (same_kind Memories a) (cond (same_kind Memories b) (same_pair (pair_of j) (pair_of l)) false) false ≡ true → b ≡ a
+    case Memories Memories h = refl
+    case Memories Functions h = cc
+    case Memories Tables h = cc
+    case Memories Globals h = cc
+    case Functions b h = cc
+    case Tables b h = cc
+    case Globals b h = cc
+
+stays_same : (ps : List Part) (j : Import) (t : Site) → stays_as ps j t ≡ true → same_memory j (import_at ps t) ≡ true
+stays_same ps j t h = case (is_outside t (end_of ps t)) (same_memory j (import_at ps t)) h
+  where
+    case : (a b : Bool) → cond a b false ≡ true → b ≡ true
+    case true b h = h
+    case false b h = cc
+
+gathered_there : (ps : List Part) (k : Kind) (t : Site) (o : Option Import) (j : Import) → o ≡ Some j → import_at ps t ≡ Some j → kind_of_import j.desc ≡ k → EndThere ps k (gathered_at ps t o)
+gathered_there ps k t None j e at is = cc
+gathered_there ps k t (Some l) j e at is =
+    let same : l ≡ j = cc in
+    let u = first_site (stays_as ps l) (sites ps) t in
+    elim (first_is (stays_as ps l) (sites ps) t) [
+      | inl here ↦ (j, ap (import_at ps) here ∙ at, is)
+      | inr stays ↦
+          let (i, there, kind) = same_memory_kind l (import_at ps u) (stays_same ps l u stays) in
+          (i, there, kind ∙ ap (λ (x : Import). kind_of_import x.desc) same ∙ is)
+    ]
+
+gather_there : (ps : List Part) (k : Kind) (end : linking.End) → EndThere ps k end → EndThere ps k (gathered ps end)
+gather_there ps k (linking.Defined e) h = h
+gather_there ps k (linking.Outside t) (j, at, is) = gathered_there ps k t (import_at ps t) j at at is
+
+-- an end that is there can be written down
+written : (ps : List Part) (k : Kind) (end : linking.End) → EndThere ps k end → IsEnd ps k (end_entry end)
+written ps k (linking.Defined e) (m, at, kind, within) = (m, at, within)
+written ps k (linking.Outside t) (j, at, kind) =
+    let (m, there, here) = some_of (module_at ps t.part) (λ m. place m.imports t.import) j at in
+    (m, there, place_within m.imports t.import j here)
+
+entry_from : (o : Option linking.End) (e : End) → option_map end_entry o ≡ Some e → (end : linking.End) × (o ≡ Some end) × (end_entry end ≡ e)
+entry_from None e h = cc
+entry_from (Some end) e h = let same : end_entry end ≡ e = cc in (end, refl, same)
+
+-- the end of an import, as it is written down, is there
+pub entry_there : (ps : List Part) (p n : ℕ) (m : Module) (i : Import) (e : End) → link_fault ps ≡ None → module_at ps p ≡ Some m → place m.imports n ≡ Some i → option_map end_entry (linked_end ps (site p n)) ≡ Some e → IsEnd ps (kind_of_import i.desc) e
+entry_there ps p n m i e none at here ends =
+    let (linked, is, entry) = entry_from (linked_end ps (site p n)) e ends in
+    let (end, first, last) = some_of (end_of ps (site p n)) (λ end. Some (gathered ps end)) linked is in
+    let gathers : gathered ps end ≡ linked = cc in
+    subst (IsEnd ps (kind_of_import i.desc)) (ap end_entry gathers ∙ entry) (written ps (kind_of_import i.desc) (gathered ps end) (gather_there ps (kind_of_import i.desc) end (end_there ps p n m i end none at here first)))
+
+pub kind_from : (a b : Kind) → same_kind a b ≡ true → a ≡ b
+kind_from Functions Functions h = refl
+kind_from Functions Tables h = cc
+kind_from Functions Memories h = cc
+kind_from Functions Globals h = cc
+kind_from Tables Functions h = cc
+kind_from Tables Tables h = refl
+kind_from Tables Memories h = cc
+kind_from Tables Globals h = cc
+kind_from Memories Functions h = cc
+kind_from Memories Tables h = cc
+kind_from Memories Memories h = refl
+kind_from Memories Globals h = cc
+kind_from Globals Functions h = cc
+kind_from Globals Tables h = cc
+kind_from Globals Memories h = cc
+kind_from Globals Globals h = refl

@@ -1,0 +1,53 @@
+-- The map of a part, from its lists.
+use Rattle.std.proofs.Common.{◌≡◌, ◌∙◌, sym, ap, refl, subst, ℕ, List, length, map, Some}
+use Rattle.wasm_tree.specs.declared.types.FuncType.{FuncType}
+use Rattle.wasm_tree.specs.declared.module.Module.{Module}
+use Rattle.wasm_tree.specs.Spaces.{funcs_of, tables_of, memories_of, globals_of}
+use Rattle.wasm_meaning.specs.World.{numbers, elems_before, datas_before}
+use Rattle.wasm_meaning.specs.Linking.{Part, Kind, Functions, Tables, Memories, Globals, module_at, first_place}
+use Rattle.wasm_meaning.specs.Values.{same_func_type}
+use Rattle.index_remap.specs.declared.remap.Remap.{Remap}
+use Rattle.merge_terms.specs.declared.parts.Part as declared
+use Rattle.merge_terms.specs.Parts.{named_modules}
+use Rattle.merge_terms.specs.Merged.{or_this, new_index, merged_types, place_of_type, map_of}
+use Rattle.merge_join.specs.declared.kinds.Kind as kinds
+use Rattle.merge_join.specs.Words.{the_kind, space_size}
+use Rattle.merge_join.proofs.SpaceSizes.{funcs_size, tables_size, memories_size, globals_size}
+
+-- the new indices of a space, where its parts and its kind are these
+pub space_is : (qs parts : List declared.Part) (kind k : kinds.Kind) (p : ℕ) (new : List ℕ) → qs ≡ parts → kind ≡ k
+    → ((m : Module) → module_at (named_modules qs) p ≡ Some m → new ≡ map (new_index (named_modules qs) p (the_kind kind)) (numbers 0 (space_size (the_kind kind) m)))
+    → (m : Module) → module_at (named_modules parts) p ≡ Some m → new ≡ map (new_index (named_modules parts) p (the_kind k)) (numbers 0 (space_size (the_kind k) m))
+space_is qs parts kind k p new same is h =
+    subst (λ (xs : List declared.Part). (m : Module) → module_at (named_modules xs) p ≡ Some m → new ≡ map (new_index (named_modules xs) p (the_kind k)) (numbers 0 (space_size (the_kind k) m))) same
+    (subst (λ (x : kinds.Kind). (m : Module) → module_at (named_modules qs) p ≡ Some m → new ≡ map (new_index (named_modules qs) p (the_kind x)) (numbers 0 (space_size (the_kind x) m))) is h)
+
+abbrev pub built : (types funcs tables mems globals elems datas : List ℕ) → Remap
+built types funcs tables mems globals elems datas = record { types = types; funcs = funcs; tables = tables; mems = mems; globals = globals; elems = elems; datas = datas }
+
+-- the lists that make the map of a part
+pub record AreLists (ps : List Part) (p : ℕ) (m : Module) (types funcs tables mems globals elems datas : List ℕ) : Type 0 where
+  pub types_are : types ≡ map (λ t. or_this 0 (first_place (same_func_type t) (merged_types ps) 0)) m.types
+  pub funcs_are : funcs ≡ map (new_index ps p Functions) (numbers 0 (space_size Functions m))
+  pub tables_are : tables ≡ map (new_index ps p Tables) (numbers 0 (space_size Tables m))
+  pub mems_are : mems ≡ map (new_index ps p Memories) (numbers 0 (space_size Memories m))
+  pub globals_are : globals ≡ map (new_index ps p Globals) (numbers 0 (space_size Globals m))
+  pub elems_are : elems ≡ numbers (elems_before ps p) (length m.elems)
+  pub datas_are : datas ≡ numbers (datas_before ps p) (length m.datas)
+
+pub map_built : (ps : List Part) (p : ℕ) (m : Module) (types funcs tables mems globals elems datas : List ℕ) → AreLists ps p m types funcs tables mems globals elems datas → built types funcs tables mems globals elems datas ≡ map_of ps p m
+unfolding map_of place_of_type
+map_built ps p m types funcs tables mems globals elems datas a =
+    let ts = map (λ t. or_this 0 (first_place (same_func_type t) (merged_types ps) 0)) m.types in
+    let fs = map (new_index ps p Functions) (numbers 0 (length (funcs_of m))) in
+    let tabs = map (new_index ps p Tables) (numbers 0 (length (tables_of m))) in
+    let ms = map (new_index ps p Memories) (numbers 0 (length (memories_of m))) in
+    let gs = map (new_index ps p Globals) (numbers 0 (length (globals_of m))) in
+    let es = numbers (elems_before ps p) (length m.elems) in
+    ap (λ x. built x funcs tables mems globals elems datas) a.types_are
+    ∙ ap (λ x. built ts x tables mems globals elems datas) (a.funcs_are ∙ ap (λ n. map (new_index ps p Functions) (numbers 0 n)) (sym (funcs_size m)))
+    ∙ ap (λ x. built ts fs x mems globals elems datas) (a.tables_are ∙ ap (λ n. map (new_index ps p Tables) (numbers 0 n)) (sym (tables_size m)))
+    ∙ ap (λ x. built ts fs tabs x globals elems datas) (a.mems_are ∙ ap (λ n. map (new_index ps p Memories) (numbers 0 n)) (sym (memories_size m)))
+    ∙ ap (λ x. built ts fs tabs ms x elems datas) (a.globals_are ∙ ap (λ n. map (new_index ps p Globals) (numbers 0 n)) (sym (globals_size m)))
+    ∙ ap (λ x. built ts fs tabs ms gs x datas) a.elems_are
+    ∙ ap (built ts fs tabs ms gs es) a.datas_are

@@ -1,0 +1,106 @@
+-- The merged module, from its lists.
+use Rattle.std.proofs.Common.{◌≡◌, ◌∙◌, sym, ap, refl, ℕ, zero, suc, ◌+◌, ◌<◌, ◌≤◌, ◌^◌, List, [], ◌∷◌, ◌++◌, length, map, arith, Option, Some, None}
+use Rattle.std.specs.List.{flat_map, filter_map, cons_option}
+use Rattle.std.proofs.lemmas.List.{length-append, length-map}
+use Rattle.wasm_tree.specs.declared.types.FuncType.{FuncType}
+use Rattle.wasm_tree.specs.declared.types.TableType.{TableType}
+use Rattle.wasm_tree.specs.declared.types.Limits.{Limits}
+use Rattle.wasm_tree.specs.declared.module.Import.{Import}
+use Rattle.wasm_tree.specs.declared.module.Func.{Func}
+use Rattle.wasm_tree.specs.declared.module.GlobalDef.{GlobalDef}
+use Rattle.wasm_tree.specs.declared.module.Export.{Export}
+use Rattle.wasm_tree.specs.declared.module.ElemSeg.{ElemSeg}
+use Rattle.wasm_tree.specs.declared.module.DataSeg.{DataSeg}
+use Rattle.wasm_tree.specs.declared.module.Module.{Module}
+use Rattle.wasm_tree.specs.Spaces.{func_of, imported_funcs, funcs_of}
+use Rattle.wasm_meaning.specs.State.{Text}
+use Rattle.wasm_meaning.specs.World.{defined_before}
+use Rattle.wasm_meaning.specs.Linking.{Part, Site, Functions, sites}
+use Rattle.index_remap.specs.Renumbered.{new_func}
+use Rattle.merge_terms.specs.Merged.{staying, staying_of, merged_types, merged_import, by_part_from, by_part, defined_funcs, map_of, merged_global, merged_elem, merged_data, starts, start_calls, start_among, all_exports, named_exports, merged}
+use Rattle.merge_terms.specs.Faults.{stays}
+use Rattle.merge_terms.specs.Joined.{FewInAll}
+use Rattle.merge_join.specs.Words.{funcs_before_calls}
+use Rattle.merge_join.proofs.Counts.{filter_short}
+
+abbrev pub built : List FuncType → List Import → List Func → List TableType → List Limits → List GlobalDef → List Export → Option ℕ → List ElemSeg → List DataSeg → Module
+built types imports funcs tables mems globals exports start elems datas = record {
+  types = types;
+  imports = imports;
+  funcs = funcs;
+  tables = tables;
+  mems = mems;
+  globals = globals;
+  exports = exports;
+  start = start;
+  elems = elems;
+  datas = datas;
+}
+
+-- the lists of the merged module
+pub record AreLists (ps : List Part) (names : List (Option Text)) (m : Module) : Type 0 where
+  pub types_are : m.types ≡ merged_types ps
+  pub imports_are : m.imports ≡ filter_map (merged_import ps) (staying ps)
+  pub funcs_are : m.funcs ≡ defined_funcs ps ++ start_calls ps (starts ps)
+  pub tables_are : m.tables ≡ flat_map (λ p. p.«module».tables) ps
+  pub mems_are : m.mems ≡ flat_map (λ p. p.«module».mems) ps
+  pub globals_are : m.globals ≡ by_part (λ p m. map (merged_global ps p) m.globals) ps
+  pub exports_are : m.exports ≡ named_exports (all_exports ps) names
+  pub start_is : m.start ≡ start_among (funcs_before_calls ps) (starts ps)
+  pub elems_are : m.elems ≡ by_part (λ p m. map (merged_elem ps p (map_of ps p m)) m.elems) ps
+  pub datas_are : m.datas ≡ by_part (λ p m. map (merged_data ps p (map_of ps p m)) m.datas) ps
+
+pub merged_is : (ps : List Part) (names : List (Option Text)) (m : Module) → AreLists ps names m → m ≡ merged ps names
+unfolding merged
+merged_is ps names m a =
+    let t = merged ps names in
+    ap (λ x. built x m.imports m.funcs m.tables m.mems m.globals m.exports m.start m.elems m.datas) a.types_are
+    ∙ ap (λ x. built t.types x m.funcs m.tables m.mems m.globals m.exports m.start m.elems m.datas) a.imports_are
+    ∙ ap (λ x. built t.types t.imports x m.tables m.mems m.globals m.exports m.start m.elems m.datas) a.funcs_are
+    ∙ ap (λ x. built t.types t.imports t.funcs x m.mems m.globals m.exports m.start m.elems m.datas) a.tables_are
+    ∙ ap (λ x. built t.types t.imports t.funcs t.tables x m.globals m.exports m.start m.elems m.datas) a.mems_are
+    ∙ ap (λ x. built t.types t.imports t.funcs t.tables t.mems x m.exports m.start m.elems m.datas) a.globals_are
+    ∙ ap (λ x. built t.types t.imports t.funcs t.tables t.mems t.globals x m.start m.elems m.datas) a.exports_are
+    ∙ ap (λ x. built t.types t.imports t.funcs t.tables t.mems t.globals t.exports x m.elems m.datas) a.start_is
+    ∙ ap (λ x. built t.types t.imports t.funcs t.tables t.mems t.globals t.exports t.start x m.datas) a.elems_are
+    ∙ ap (λ x. built t.types t.imports t.funcs t.tables t.mems t.globals t.exports t.start t.elems x) a.datas_are
+
+-- ---- its functions are few ----
+
+kept_short : {A B : Type 0} (f : A → Option B) (xs : List A) → length (filter_map f xs) ≤ length xs
+kept_short f [] = omega arith
+kept_short {A} {B} f (x ∷ xs) = case (f x) (kept_short f xs)
+  where
+    case : (o : Option B) → length (filter_map f xs) ≤ length xs → length (cons_option o (filter_map f xs)) ≤ suc (length xs)
+    case None h = omega arith
+    case (Some b) h = omega arith
+
+defined_from : (g : ℕ → Module → Func → Func) (q : ℕ) (ps : List Part) → length (by_part_from (λ p m. map (g p m) m.funcs) q ps) ≡ defined_before Functions ps (length ps)
+defined_from g q [] = refl
+defined_from g q (part ∷ ps) =
+    length-append (map (g q part.«module») part.«module».funcs) (by_part_from (λ p m. map (g p m) m.funcs) (suc q) ps)
+    ∙ ap (λ n. n + length (by_part_from (λ p m. map (g p m) m.funcs) (suc q) ps)) (length-map part.«module».funcs (g q part.«module»))
+    ∙ ap (λ n. length part.«module».funcs + n) (defined_from g (suc q) ps)
+
+calls_few : (ps : List Part) (fs : List ℕ) → length (start_calls ps fs) ≤ 1
+calls_few ps [] = omega arith
+calls_few ps (f ∷ []) = omega arith
+calls_few ps (f ∷ g ∷ fs) = omega arith
+
+pub funcs_few : (ps : List Part) (names : List (Option Text)) → FewInAll ps → length (funcs_of (merged ps names)) < 2 ^ 32
+unfolding merged staying defined_funcs
+funcs_few ps names few =
+    let imports = filter_map (merged_import ps) (staying ps) in
+    let funcs = defined_funcs ps ++ start_calls ps (starts ps) in
+    omega (
+      arith,
+      length-append (imported_funcs imports) (map (λ f. f.ty) funcs),
+      length-map funcs (λ f. f.ty),
+      length-append (defined_funcs ps) (start_calls ps (starts ps)),
+      defined_from (λ p m. new_func (map_of ps p m)) 0 ps,
+      calls_few ps (starts ps),
+      kept_short (λ (i : Import). func_of i.desc) imports,
+      kept_short (merged_import ps) (staying ps),
+      filter_short (stays ps) (sites ps),
+      few.entities Functions,
+    )

@@ -1,0 +1,28 @@
+-- What the outcome of joining says.
+use Rattle.std.proofs.Common.{◌≡◌, ◌∙◌, sym, ap, refl, Option, Some, None, Result, Ok, Err}
+use Rattle.wasm_tree.specs.declared.which.Which.{Which}
+use Rattle.wasm_tree.specs.declared.module.Module.{Module}
+use Rattle.wasm_meaning.specs.State.{Text}
+use Rattle.merge_terms.specs.declared.faults.JoinFault.{JoinFault}
+use Rattle.merge_terms.specs.declared.faults.JoinFault.TheVariants.{ExportConflict, TooMany}
+use Rattle.merge_terms.specs.Joined.{outcome}
+
+-- a module comes only where there is no conflict and no count too many
+pub record IsJoined (name : Option Text) (which : Option Which) (m t : Module) : Type 0 where
+  pub no_name : name ≡ None
+  pub no_count : which ≡ None
+  pub same : m ≡ t
+
+pub joined_from : (name : Option Text) (which : Option Which) (m t : Module) → outcome name which m ≡ Ok t → IsJoined name which m t
+joined_from (Some name) which m t h = cc
+joined_from None (Some which) m t h = cc
+joined_from None None m t h = record { no_name = refl; no_count = refl; same = cc }
+
+pub conflict_is : (name : Text) (o : Option Text) (which : Option Which) (m : Module) → o ≡ Some name → outcome o which m ≡ Err (ExportConflict name)
+conflict_is name o which m e = ap (λ x. outcome x which m) e
+
+pub many_is : (o : Option Text) (w : Option Which) (which : Which) (m : Module) → o ≡ None → w ≡ Some which → outcome o w m ≡ Err (TooMany which)
+many_is o w which m e f = ap (λ x. outcome x w m) e ∙ ap (λ x. outcome None x m) f
+
+pub module_is : (o : Option Text) (w : Option Which) (m t : Module) → o ≡ None → w ≡ None → m ≡ t → outcome o w m ≡ Ok t
+module_is o w m t e f same = ap (λ x. outcome x w m) e ∙ ap (λ x. outcome None x m) f ∙ ap Ok same

@@ -1,0 +1,29 @@
+-- The parts of what is joined and their maps, at a place.
+use Rattle.std.proofs.Common.{◌≡◌, ◌∙◌, sym, ap, refl, ℕ, zero, suc, ◌<◌, List, [], ◌∷◌, length, arith, slice_get, get_or, Some}
+use Rattle.std.proofs.lemmas.Option.{get_or_from_slice_get}
+use Rattle.wasm_tree.specs.declared.module.Module.{Module}
+use Rattle.wasm_meaning.specs.Linking.{Part, module_at}
+use Rattle.index_remap.specs.declared.remap.Remap.{Remap}
+use Rattle.merge_terms.specs.declared.parts.Part as declared
+use Rattle.merge_terms.specs.Parts.{named_modules}
+use Rattle.merge_terms.specs.Merged.{map_of}
+use Rattle.merge_join.specs.declared.joining.Joining.{Joining}
+use Rattle.merge_join.specs.Words.{AreJoined}
+use Rattle.merge_join.proofs.ByPart.{named_length, each_at, each_length}
+
+-- the module of a part
+pub module_here : (parts : List declared.Part) (p : ℕ) → p < length parts → (m : Module) × (module_at (named_modules parts) p ≡ Some m)
+module_here [] p lt = absurd (omega (arith, lt))
+module_here (part ∷ parts) zero lt = (part.«module», refl)
+module_here (part ∷ parts) (suc p) lt = module_here parts p (omega (arith, lt))
+
+pub maps_length : (j : Joining) → AreJoined j → length j.maps.now ≡ length j.parts.now
+maps_length j is = ap length is.maps ∙ each_length (map_of (named_modules j.parts.now)) (named_modules j.parts.now) ∙ named_length j.parts.now
+
+pub map_at : (j : Joining) (p : ℕ) (m : Module) (d : Remap) → AreJoined j → module_at (named_modules j.parts.now) p ≡ Some m → get_or j.maps.now p d ≡ map_of (named_modules j.parts.now) p m
+map_at j p m d is at =
+    let ps = named_modules j.parts.now in
+    get_or_from_slice_get j.maps.now p (map_of ps p m) d (ap (λ maps. slice_get maps p) is.maps ∙ each_at (map_of ps) ps p m at)
+
+pub same_module : (ps : List Part) (p : ℕ) (m n : Module) → module_at ps p ≡ Some m → module_at ps p ≡ Some n → m ≡ n
+same_module ps p m n h k = let both : Some m ≡ Some n = sym h ∙ k in cc

@@ -1,0 +1,93 @@
+-- The imports that stay, one after the other.
+use Rattle.std.proofs.Common.{◌≡◌, ◌∙◌, sym, ap, refl, ℕ, zero, suc, ◌+◌, ◌<◌, List, [], ◌∷◌, ◌++◌, length, Option, Some, None, Bool, true, false, cond, arith, slice_get, get_or, append_assoc, append-nil}
+use Rattle.std.specs.List.{filter, filter_map, cons_option}
+use Rattle.std.proofs.lemmas.List.Elements.{filter-append, filter_map-append}
+use Rattle.wasm_tree.specs.declared.types.Limits.{Limits}
+use Rattle.wasm_tree.specs.declared.module.Import.{Import}
+use Rattle.wasm_tree.specs.declared.module.ImportDesc.{ImportDesc}
+use Rattle.wasm_tree.specs.declared.module.ImportDesc.TheVariants as im
+use Rattle.wasm_tree.specs.declared.module.Module.{Module}
+use Rattle.wasm_meaning.specs.State.{Text}
+use Rattle.wasm_meaning.specs.Linking.{Part, Site, place, then_some, module_at, import_at, limits_of, met_limits, sites_in, sites_from, sites}
+use Rattle.index_remap.specs.declared.remap.Remap.{Remap}
+use Rattle.merge_terms.specs.Faults.{stays, kept_limits}
+use Rattle.merge_terms.specs.Merged.{by_part_from, by_part, map_of, merged_desc, merged_import, staying}
+use Rattle.merge_validity.proofs.Lists.{place_get}
+use Rattle.merge_join.specs.Kept.{kept_desc}
+use Rattle.merge_join.specs.Words.{site}
+use Rattle.merge_join.proofs.Holding.{read_there}
+
+-- ---- one import ----
+
+desc_is : (ps : List Part) (s : Site) (m : Module) (d : ImportDesc) → kept_desc (map_of ps s.part m) (then_some (limits_of d) (λ l. Some (met_limits ps s))) d ≡ merged_desc ps s m d
+desc_is ps s m (im.Func ty) = refl
+desc_is ps s m (im.Table t) = refl
+desc_is ps s m (im.Memory l) = refl
+desc_is ps s m (im.Global t) = refl
+
+kept_is : (ps : List Part) (s : Site) (i : Import) → stays ps s ≡ true → import_at ps s ≡ Some i → kept_limits ps s ≡ then_some (limits_of i.desc) (λ l. Some (met_limits ps s))
+unfolding kept_limits
+kept_is ps s i yes-stays at =
+    ap (λ b. cond b (then_some (import_at ps s) (λ i. then_some {A = Limits} {B = Limits} (limits_of i.desc) (λ l. Some (met_limits ps s)))) None) yes-stays
+    ∙ ap (λ o. then_some {A = Import} {B = Limits} o (λ i. then_some (limits_of i.desc) (λ l. Some (met_limits ps s)))) at
+
+import_is : (ps : List Part) (s : Site) (m : Module) (i : Import) → module_at ps s.part ≡ Some m → import_at ps s ≡ Some i → merged_import ps s ≡ Some (record i { desc = merged_desc ps s m i.desc })
+unfolding merged_import
+import_is ps s m i at there =
+    ap (λ o. then_some {A = Module} {B = Import} o (λ m. then_some (import_at ps s) (λ i. Some (record i { desc = merged_desc ps s m i.desc })))) at
+    ∙ ap (λ o. then_some {A = Import} {B = Import} o (λ i. Some (record i { desc = merged_desc ps s m i.desc }))) there
+
+abbrev import_of : Text → Text → ImportDesc → Import
+import_of a b d = record { «module» = a; field = b; desc = d }
+
+made : (i : Import) (a b : Text) (d e : ImportDesc) → a ≡ i.«module» → b ≡ i.field → d ≡ e → Some (record i { desc = e }) ≡ Some (import_of a b d)
+made i a b d e p q r = sym (ap (λ a. Some (import_of a b d)) p ∙ ap (λ b. Some (import_of i.«module» b d)) q ∙ ap (λ d. Some (import_of i.«module» i.field d)) r)
+
+pub import_made : (ps : List Part) (s : Site) (m : Module) (r : Remap) (kept : Option Limits) (is : List Import) (i : Import) (a b : Text) (d : ImportDesc) → stays ps s ≡ true → module_at ps s.part ≡ Some m → is ≡ m.imports → s.import < length is → i ≡ get_or is s.import i →
+    r ≡ map_of ps s.part m → kept ≡ kept_limits ps s → a ≡ i.«module» → b ≡ i.field → d ≡ kept_desc r kept i.desc → merged_import ps s ≡ Some (record { «module» = a; field = b; desc = d })
+import_made ps s m r kept is i a b d stay at same lt here map limits p q e =
+    let there : import_at ps s ≡ Some i = ap (λ o. then_some o (λ m. place m.imports s.import)) at ∙ place_get m.imports s.import ∙ ap (λ l. slice_get l s.import) (sym same) ∙ read_there is s.import i lt ∙ ap Some (sym here) in
+    let desc : d ≡ merged_desc ps s m i.desc =
+    e ∙ ap (λ r. kept_desc r kept i.desc) map ∙ ap (λ k. kept_desc (map_of ps s.part m) k i.desc) (limits ∙ kept_is ps s i stay there) ∙ desc_is ps s m i.desc in
+    import_is ps s m i at there ∙ made i a b d (merged_desc ps s m i.desc) p q desc
+
+-- ---- the imports of one part ----
+
+sites_push : (p n q : ℕ) → sites_in p (suc n) q ≡ sites_in p n q ++ site p (q + n) ∷ []
+sites_push p zero q = let z : q ≡ q + 0 = omega arith in ap (λ k. site p k ∷ []) z
+sites_push p (suc n) q = let z : suc q + n ≡ q + suc n = omega arith in ap (λ rest. site p q ∷ rest) (sites_push p n (suc q) ∙ ap (λ k. sites_in p n (suc q) ++ site p k ∷ []) z)
+
+sites_next : (p n : ℕ) → sites_in p (n + 1) 0 ≡ sites_in p n 0 ++ site p n ∷ []
+sites_next p n =
+    let next : n + 1 ≡ suc n = omega arith in
+    let z : 0 + n ≡ n = omega arith in
+    ap (λ k. sites_in p k 0) next ∙ sites_push p n 0 ∙ ap (λ k. sites_in p n 0 ++ site p k ∷ []) z
+
+module _ {A : Type 0} (test : Site → Bool) (f : Site → Option A) where
+  kept_next : (p n : ℕ) → filter_map f (filter test (sites_in p (n + 1) 0)) ≡ filter_map f (filter test (sites_in p n 0)) ++ filter_map f (cond (test (site p n)) (site p n ∷ []) [])
+  kept_next p n = ap (λ l. filter_map f (filter test l)) (sites_next p n) ∙ ap (filter_map f) (filter-append test (sites_in p n 0) (site p n ∷ [])) ∙ filter_map-append f (filter test (sites_in p n 0)) (cond (test (site p n)) (site p n ∷ []) [])
+
+  -- one import more that stays
+  pub import_more : (p n : ℕ) (first old new : List A) (x : A) → test (site p n) ≡ true → f (site p n) ≡ Some x → old ≡ first ++ filter_map f (filter test (sites_in p n 0)) → new ≡ old ++ x ∷ [] → new ≡ first ++ filter_map f (filter test (sites_in p (n + 1) 0))
+  import_more p n first old new x stay is was now =
+      let more : filter_map f (cond (test (site p n)) (site p n ∷ []) []) ≡ x ∷ [] = ap (λ b. filter_map f (cond b (site p n ∷ []) [])) stay ∙ ap (λ o. cons_option o []) is in
+      now ∙ ap (λ l. l ++ x ∷ []) was ∙ append_assoc first (filter_map f (filter test (sites_in p n 0))) (x ∷ [])
+      ∙ ap (λ l. first ++ l) (sym (kept_next p n ∙ ap (λ l. filter_map f (filter test (sites_in p n 0)) ++ l) more))
+
+  -- and one that does not
+  pub import_less : (p n : ℕ) (first old : List A) → test (site p n) ≡ false → old ≡ first ++ filter_map f (filter test (sites_in p n 0)) → old ≡ first ++ filter_map f (filter test (sites_in p (n + 1) 0))
+  import_less p n first old goes was =
+      was ∙ ap (λ l. first ++ l) (sym (kept_next p n ∙ ap (λ b. filter_map f (filter test (sites_in p n 0)) ++ filter_map f (cond b (site p n ∷ []) [])) goes ∙ append-nil (filter_map f (filter test (sites_in p n 0)))))
+
+  -- ---- those of all parts ----
+
+  kept_from : (q : ℕ) (ps : List Part) → by_part_from (λ p m. filter_map f (filter test (sites_in p (length m.imports) 0))) q ps ≡ filter_map f (filter test (sites_from q ps))
+  kept_from q [] = refl
+  kept_from q (part ∷ ps) =
+      let here = sites_in q (length part.«module».imports) 0 in
+      ap (λ rest. filter_map f (filter test here) ++ rest) (kept_from (suc q) ps)
+      ∙ sym (ap (filter_map f) (filter-append test here (sites_from (suc q) ps)) ∙ filter_map-append f (filter test here) (filter test (sites_from (suc q) ps)))
+
+pub kept_imports : {A : Type 0} (ps : List Part) (f : Site → Option A) → by_part (λ p m. filter_map f (filter (stays ps) (sites_in p (length m.imports) 0))) ps ≡ filter_map f (staying ps)
+unfolding staying
+kept_imports ps f = kept_from (stays ps) f 0 ps

@@ -1,0 +1,125 @@
+-- Two function types are equal exactly where their texts are.
+use Rattle.std.proofs.Common.{◌≡◌, ◌∙◌, sym, ap, refl, ℕ, List, [], ◌∷◌, ◌++◌, map, Bool, true, false, cond, arith}
+use Rattle.std.specs.Str.{bytes_eq}
+use Rattle.std.proofs.lemmas.Slice.Eq.{bytes_eq-Decides}
+use Rattle.wasm_tree.specs.declared.types.RefType.TheVariants as reft
+use Rattle.wasm_tree.specs.declared.types.ValType.{ValType}
+use Rattle.wasm_tree.specs.declared.types.ValType.TheVariants as valt
+use Rattle.wasm_tree.specs.declared.types.FuncType.{FuncType}
+use Rattle.wasm_meaning.specs.Values.{same_type, same_types, same_func_type}
+use Rattle.merge_join.specs.Texts.{letter_of, text_of_type}
+
+letters_differ : (s t : ValType) → letter_of s ≡ letter_of t → s ≡ t
+letters_differ valt.I32 valt.I32 e = refl
+letters_differ valt.I32 valt.I64 e = absurd (omega arith)
+letters_differ valt.I32 (valt.Ref reft.Func) e = absurd (omega arith)
+letters_differ valt.I32 (valt.Ref reft.Extern) e = absurd (omega arith)
+letters_differ valt.I64 valt.I32 e = absurd (omega arith)
+letters_differ valt.I64 valt.I64 e = refl
+letters_differ valt.I64 (valt.Ref reft.Func) e = absurd (omega arith)
+letters_differ valt.I64 (valt.Ref reft.Extern) e = absurd (omega arith)
+letters_differ (valt.Ref reft.Func) valt.I32 e = absurd (omega arith)
+letters_differ (valt.Ref reft.Func) valt.I64 e = absurd (omega arith)
+letters_differ (valt.Ref reft.Func) (valt.Ref reft.Func) e = refl
+letters_differ (valt.Ref reft.Func) (valt.Ref reft.Extern) e = absurd (omega arith)
+letters_differ (valt.Ref reft.Extern) valt.I32 e = absurd (omega arith)
+letters_differ (valt.Ref reft.Extern) valt.I64 e = absurd (omega arith)
+letters_differ (valt.Ref reft.Extern) (valt.Ref reft.Func) e = absurd (omega arith)
+letters_differ (valt.Ref reft.Extern) (valt.Ref reft.Extern) e = refl
+
+not_bracket : (s : ValType) → letter_of s ≡ 62 → ⊥
+not_bracket valt.I32 e = absurd (omega arith)
+not_bracket valt.I64 e = absurd (omega arith)
+not_bracket (valt.Ref reft.Func) e = absurd (omega arith)
+not_bracket (valt.Ref reft.Extern) e = absurd (omega arith)
+
+lists_differ : (ss ts : List ValType) → map letter_of ss ≡ map letter_of ts → ss ≡ ts
+lists_differ [] [] e = refl
+lists_differ [] (t ∷ ts) e = cc
+lists_differ (s ∷ ss) [] e = cc
+lists_differ (s ∷ ss) (t ∷ ts) e =
+    let head : letter_of s ≡ letter_of t = cc in
+    let tail : map letter_of ss ≡ map letter_of ts = cc in
+    let a = letters_differ s t head in
+    let b = lists_differ ss ts tail in cc
+
+-- both lists are told apart
+record SameLists (ss ts us vs : List ValType) : Type 0 where
+  params : ss ≡ ts
+  results : us ≡ vs
+
+split : (ss ts us vs : List ValType) → map letter_of ss ++ 62 ∷ map letter_of us ≡ map letter_of ts ++ 62 ∷ map letter_of vs → SameLists ss ts us vs
+split [] [] us vs e = let tail : map letter_of us ≡ map letter_of vs = cc in record { params = refl; results = lists_differ us vs tail }
+split [] (t ∷ ts) us vs e = let head : letter_of t ≡ 62 = cc in absurd (not_bracket t head)
+split (s ∷ ss) [] us vs e = let head : letter_of s ≡ 62 = cc in absurd (not_bracket s head)
+split (s ∷ ss) (t ∷ ts) us vs e =
+    let head : letter_of s ≡ letter_of t = cc in
+    let tail : map letter_of ss ++ 62 ∷ map letter_of us ≡ map letter_of ts ++ 62 ∷ map letter_of vs = cc in
+    let more = split ss ts us vs tail in
+    let a = letters_differ s t head in
+    record { params = let b = more.params in cc; results = more.results }
+
+abbrev typed : List ValType → List ValType → FuncType
+typed ps rs = record { params = ps; results = rs }
+
+texts_differ : (t u : FuncType) → text_of_type t ≡ text_of_type u → t ≡ u
+unfolding text_of_type
+texts_differ t u e = let s = split t.params u.params t.results u.results e in ap (λ ps. typed ps t.results) s.params ∙ ap (typed u.params) s.results
+
+refs_same : (s t : ValType) → same_type s t ≡ true → s ≡ t
+refs_same valt.I32 valt.I32 e = refl
+refs_same valt.I32 valt.I64 e = cc
+refs_same valt.I32 (valt.Ref r) e = cc
+refs_same valt.I64 valt.I32 e = cc
+refs_same valt.I64 valt.I64 e = refl
+refs_same valt.I64 (valt.Ref r) e = cc
+refs_same (valt.Ref r) valt.I32 e = cc
+refs_same (valt.Ref r) valt.I64 e = cc
+refs_same (valt.Ref reft.Func) (valt.Ref reft.Func) e = refl
+refs_same (valt.Ref reft.Func) (valt.Ref reft.Extern) e = cc
+refs_same (valt.Ref reft.Extern) (valt.Ref reft.Func) e = cc
+refs_same (valt.Ref reft.Extern) (valt.Ref reft.Extern) e = refl
+
+type_self : (s : ValType) → same_type s s ≡ true
+type_self valt.I32 = refl
+type_self valt.I64 = refl
+type_self (valt.Ref reft.Func) = refl
+type_self (valt.Ref reft.Extern) = refl
+
+both_true : (a b : Bool) → cond a b false ≡ true → (a ≡ true) × (b ≡ true)
+both_true true true e = (refl, refl)
+both_true true false e = cc
+both_true false b e = cc
+
+types_same : (ss ts : List ValType) → same_types ss ts ≡ true → ss ≡ ts
+types_same [] [] e = refl
+types_same [] (t ∷ ts) e = cc
+types_same (s ∷ ss) [] e = cc
+types_same (s ∷ ss) (t ∷ ts) e =
+    let both = both_true (same_type s t) (same_types ss ts) e in
+    let a = refs_same s t both.0 in
+    let b = types_same ss ts both.1 in cc
+
+types_self : (ss : List ValType) → same_types ss ss ≡ true
+types_self [] = refl
+types_self (s ∷ ss) = ap (λ (b : Bool). cond b (same_types ss ss) false) (type_self s) ∙ types_self ss
+
+pub funcs_same : (t u : FuncType) → same_func_type t u ≡ true → t ≡ u
+funcs_same t u e =
+    let both = both_true (same_types t.params u.params) (same_types t.results u.results) e in
+    ap (λ ps. typed ps t.results) (types_same t.params u.params both.0) ∙ ap (typed u.params) (types_same t.results u.results both.1)
+
+pub func_self : (t : FuncType) → same_func_type t t ≡ true
+func_self t = ap (λ (b : Bool). cond b (same_types t.results t.results) false) (types_self t.params) ∙ types_self t.results
+
+equal_tests : (a b : Bool) → (a ≡ true → b ≡ true) → (b ≡ true → a ≡ true) → a ≡ b
+equal_tests false false f g = refl
+equal_tests false true f g = g refl
+equal_tests true false f g = sym (f refl)
+equal_tests true true f g = refl
+
+-- types are the same exactly where their texts are
+pub same_by_text : (t u : FuncType) → same_func_type t u ≡ bytes_eq (text_of_type t) (text_of_type u)
+same_by_text t u = equal_tests (same_func_type t u) (bytes_eq (text_of_type t) (text_of_type u))
+    (λ e. (bytes_eq-Decides (text_of_type t) (text_of_type u)).1 (ap text_of_type (funcs_same t u e)))
+    (λ e. ap (same_func_type t) (sym (texts_differ t u ((bytes_eq-Decides (text_of_type t) (text_of_type u)).0 e))) ∙ func_self t)

@@ -1,0 +1,9 @@
+use Rattle.std.proofs.Common.{◌≡◌, map, take}
+use Rattle.wasm_meaning.specs.Linking.{Globals, has_kind, places}
+use Rattle.merge_terms.specs.Parts.{named_modules}
+use Rattle.merge_terms.specs.Linked.{read_at}
+use Rattle.merge_join.specs.Words.{site}
+use Rattle.merge_join.proofs.consts.reads_of.Given as goal
+
+abbrev pub invariant-loop-place : goal.invariant-loop-place
+invariant-loop-place l = l.reads ≡ map (λ n. read_at (named_modules l.joining.parts.now) (site l.part n)) (places (has_kind Globals) (take l.place l.imports) 0)

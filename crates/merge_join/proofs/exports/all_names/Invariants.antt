@@ -1,0 +1,8 @@
+use Rattle.std.proofs.Common.{◌≡◌, map, take}
+use Rattle.export_names.specs.Given.{texts}
+use Rattle.merge_terms.specs.Parts.{named_modules}
+use Rattle.merge_terms.specs.Merged.{by_part_from}
+use Rattle.merge_join.proofs.exports.all_names.Given as goal
+
+abbrev pub invariant-loop-part : goal.invariant-loop-part
+invariant-loop-part l = texts l.names.items ≡ by_part_from (λ p m. map (λ e. e.name) m.exports) 0 (take l.part (named_modules l.parts))

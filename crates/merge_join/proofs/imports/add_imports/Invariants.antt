@@ -1,0 +1,11 @@
+use Rattle.std.proofs.Common.{◌≡◌, ◌++◌}
+use Rattle.std.specs.List.{filter, filter_map}
+use Rattle.wasm_meaning.specs.Linking.{sites_in}
+use Rattle.merge_terms.specs.Parts.{named_modules}
+use Rattle.merge_terms.specs.Faults.{stays}
+use Rattle.merge_terms.specs.Merged.{merged_import}
+use Rattle.merge_join.proofs.imports.add_imports.Given as goal
+
+abbrev pub invariant-loop-place : goal.invariant-loop-place
+invariant-loop-place l =
+    l.all ≡ l.initial.all ++ filter_map (merged_import (named_modules l.joining.parts.now)) (filter (stays (named_modules l.joining.parts.now)) (sites_in l.part l.place 0))

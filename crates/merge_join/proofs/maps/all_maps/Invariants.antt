@@ -1,0 +1,12 @@
+use Rattle.std.proofs.Common.{◌≡◌, ◌∷◌, [], take}
+use Rattle.wasm_meaning.specs.World.{elems_before, datas_before}
+use Rattle.merge_terms.specs.Parts.{named_modules}
+use Rattle.merge_terms.specs.Merged.{by_part_from, map_of}
+use Rattle.merge_join.proofs.maps.all_maps.Given as goal
+
+abbrev pub invariant-loop-part : goal.invariant-loop-part
+invariant-loop-part l = record {
+  maps_are : l.maps ≡ by_part_from (λ p m. map_of (named_modules l.parts) p m ∷ []) 0 (take l.part (named_modules l.parts));
+  elem_is : l.first.elem ≡ elems_before (named_modules l.parts) l.part;
+  data_is : l.first.data ≡ datas_before (named_modules l.parts) l.part;
+}

@@ -1,0 +1,11 @@
+use Rattle.std.proofs.Common.{◌≡◌, ◌∙◌, sym, ap, ◌+◌, ◌++◌, ◌∷◌, [], append_assoc, append-nil}
+use Rattle.wasm_meaning.specs.World.{numbers}
+use Rattle.merge_join.proofs.NumberLists.{numbers_more}
+use Rattle.merge_join.proofs.numbers.add_numbers.Goals as goal
+
+pub loop-at-preserved : goal.loop-at-preserved
+loop-at-preserved c =
+    let old = c.args.all.now in
+    let first = c.args.first in
+    let i = c.loop-at.at in
+    c.in_ok-keep.ensures.ok ∙ ap (λ xs. xs ++ (first + i) ∷ []) c.loop-at.invariant ∙ append_assoc old (numbers first i) ((first + i) ∷ []) ∙ ap (λ xs. old ++ xs) (sym (numbers_more first i))

@@ -1,0 +1,50 @@
+use Rattle.std.proofs.Common.{◌≡◌, ◌∙◌, sym, ap, subst, ℕ, ◌+◌, ◌<◌, ◌++◌, ◌∷◌, [], length, map, cond, Some, None, Bool, arith}
+use Rattle.std.proofs.lemmas.List.{map_push}
+use Rattle.wasm_tree.specs.declared.module.Module.{Module}
+use Rattle.wasm_meaning.specs.Linking.{sites_in, sites}
+use Rattle.merge_terms.specs.Parts.{named_modules}
+use Rattle.merge_join.specs.Words.{the_kind, site}
+use Rattle.merge_join.specs.Spaces.{staying_place, picked, count_before}
+use Rattle.merge_join.proofs.Counts.{count_more, count_part, count_few}
+use Rattle.merge_join.proofs.Sites.{sites_in_more, staying_place_is}
+use Rattle.merge_join.proofs.spaces.staying_in.Goals as goal
+
+pub next_place-requires : goal.next_place-requires
+next_place-requires c =
+    let ps = named_modules c.args.parts.now in
+    let k = the_kind c.args.kind in
+    let m = c.module_of.result.now in
+    omega (arith, c.len-import-end.ensures, c.loop-import.invariant.count_is, c.requires.linked.few.entities k, count_few ps k c.args.part c.loop-import.import m c.module_of.ensures.at (omega (arith, c.len-import-end.ensures)))
+
+pub loop-import-preserved : goal.loop-import-preserved
+loop-import-preserved c =
+    let ps = named_modules c.args.parts.now in
+    let k = the_kind c.args.kind in
+    let p = c.args.part in
+    let n = c.loop-import.import in
+    let m = c.module_of.result.now in
+    let i = c.loop-import.invariant in
+    let within : n < length m.imports = omega (arith, c.len-import-end.ensures) in
+    record {
+      row_is = c.in_ok-keep.ensures.ok ∙ ap (λ r. r ++ c.next_place.result ∷ []) i.row_is
+          ∙ ap (λ e. map (staying_place ps k) (sites_in p n 0) ++ e ∷ []) (c.next_place.ensures.place ∙ ap (λ (b : Bool). cond b (Some c.loop-import.count) None) c.is_picked-taken.ensures ∙ ap (λ x. cond (picked ps k (site p n)) (Some x) None) i.count_is ∙ sym (staying_place_is ps k p n m c.module_of.ensures.at within))
+          ∙ sym (ap (map (staying_place ps k)) (sites_in_more p n) ∙ map_push (staying_place ps k) (sites_in p n 0) (site p n));
+      count_is = c.next_place.ensures.count ∙ ap (λ (b : Bool). c.loop-import.count + cond b 1 0) c.is_picked-taken.ensures ∙ ap (λ x. x + cond (picked ps k (site p n)) 1 0) i.count_is ∙ sym (count_more ps k p n);
+    }
+
+pub returns-clause-count : goal.returns-clause-count
+returns-clause-count c =
+    let ps = named_modules c.args.parts.now in
+    let k = the_kind c.args.kind in
+    let m = c.module_of.result.now in
+    let end : c.loop-import.import ≡ length m.imports = omega (arith, c.len-import-end.ensures) in
+    c.loop-import.invariant.count_is ∙ ap (count_before ps k c.args.part) end ∙ count_part ps k c.args.part m c.module_of.ensures.at
+
+pub returns-clause-row : goal.returns-clause-row
+returns-clause-row c = λ m at.
+    let ps = named_modules c.args.parts.now in
+    let k = the_kind c.args.kind in
+    let there : Some c.module_of.result.now ≡ Some m = sym c.module_of.ensures.at ∙ at in
+    let same : c.module_of.result.now ≡ m = cc in
+    let end : c.loop-import.import ≡ length m.imports = omega (arith, c.len-import-end.ensures, ap (λ (x : Module). length x.imports) same) in
+    c.loop-import.invariant.row_is ∙ ap (λ n. map (staying_place ps k) (sites_in c.args.part n 0)) end

@@ -1,0 +1,7 @@
+use Rattle.std.proofs.Common.{◌≡◌, take}
+use Rattle.merge_terms.specs.Parts.{named_modules}
+use Rattle.merge_terms.specs.Merged.{by_part_from, start_of}
+use Rattle.merge_join.proofs.starts.all_starts.Given as goal
+
+abbrev pub invariant-loop-part : goal.invariant-loop-part
+invariant-loop-part l = l.starts ≡ by_part_from (λ p m. start_of (named_modules l.joining.parts.now) p m.start) 0 (take l.part (named_modules l.joining.parts.now))

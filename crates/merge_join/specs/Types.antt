@@ -1,0 +1,11 @@
+-- Types with their places, looked up by text.
+use Rattle.std.specs.Prelude.{◌≡◌, ℕ, List, String}
+use Rattle.std.specs.BTreeMap.{BTreeMap, get_by_text}
+use Rattle.std.specs.Str.{bytes_eq}
+use Rattle.wasm_tree.specs.declared.types.FuncType.{FuncType}
+use Rattle.wasm_meaning.specs.Linking.{first_place}
+use Rattle.merge_join.specs.Texts.{text_of_type}
+
+-- the map has the place of each text in the list of types
+abbrev pub ArePlaces : {Y : Type 0} → List FuncType → BTreeMap (String Y) ℕ → Type 0
+ArePlaces types places = (q : List ℕ) → get_by_text places q ≡ first_place (λ t. bytes_eq q (text_of_type t)) types 0

@@ -1,0 +1,133 @@
+// The exports of all parts, under the names that the mode gives them.
+
+ghost use Rattle.std.specs.Prelude.{◌≡◌, ◌<◌, ◌≤◌, ◌+◌, ◌++◌, ◌∷◌, [], List, map, length, slice_get, None, IfOk, IfErr, OnOk, IsOk, IsTrue};
+ghost use Rattle.wasm_tree.specs.declared.module.Export as tree;
+ghost use Rattle.index_remap.specs.Renumbered.{all_true, fits_export, new_export};
+ghost use Rattle.export_names.specs.Given.{texts};
+ghost use Rattle.export_names.specs.Names as chosen;
+ghost use Rattle.merge_terms.specs.Parts.{named_modules};
+ghost use Rattle.merge_terms.specs.Merged.{all_exports, export_names, named_exports};
+ghost use Rattle.merge_terms.specs.Joined.{repeated_name};
+ghost use Rattle.merge_join.specs.Repeats.{IsRepeatOf};
+ghost use Rattle.merge_join.specs.Words.{AreJoined};
+
+use crate::joining::Joining;
+use crate::linked::module_of;
+use export_names::{Mode, NameFault, choose_names};
+use index_remap::{Remap, renumber_export_desc};
+use merge_terms::{JoinFault, Part};
+use std::alloc::{AllocError, Global};
+use wasm_bytes::{Items, Name, NoMemory};
+use wasm_tree::Export;
+
+fn add_names<'a>(names: &mut Vec<&'a str>, exports: &'a [Export]) -> Result<(), AllocError>
+    ensures { OnOk result (texts names.new.items ≡ texts names.old.items ++ map (λ e. e.name) exports.now) }
+{
+    for export in exports {
+        names.push(export.name.as_str())?;
+    }
+    Ok(())
+}
+
+// The names of all exports, by part, then in order.
+fn all_names<'a>(alloc: Global, parts: &'a [Part]) -> Result<Vec<&'a str>, AllocError>
+    ensures { IfOk result (λ names. texts names.items ≡ export_names (named_modules parts.now)) }
+{
+    let mut names = Vec::new(alloc);
+    for part in 0..parts.len() {
+        add_names(&mut names, module_of(parts, part).exports.as_slice())?;
+    }
+    Ok(names)
+}
+
+// The conflict at a place.
+fn conflict_at(alloc: Global, names: &[&str], place: usize) -> JoinFault
+    requires { place < length names.now }
+    ensures { IsRepeatOf result (slice_get (texts names.now) place) }
+{
+    match Name::from_text(alloc, names[place]) {
+        Ok(name) => JoinFault::ExportConflict { name },
+        Err(_) => JoinFault::NoMemory,
+    }
+}
+
+/// What each export is called, and nothing where it is dropped, or the name that stands twice.
+pub(crate) fn new_names(
+    alloc: Global,
+    parts: &[Part],
+    mode: Mode,
+) -> Result<Items<Option<Name>>, JoinFault>
+    ensures names { IfOk result (λ names. names ≡ chosen.new_names mode (export_names (named_modules parts.now))) }
+    ensures many { IfOk result (λ names. length names ≡ length (all_exports (named_modules parts.now))) }
+    ensures none { IsOk result → repeated_name (named_modules parts.now) mode ≡ None }
+    ensures repeated { IfErr result (λ e. IsRepeatOf e (repeated_name (named_modules parts.now) mode)) }
+{
+    let names = match all_names(alloc, parts) {
+        Ok(names) => names,
+        Err(_) => return Err(JoinFault::NoMemory),
+    };
+    match choose_names(alloc, names.as_slice(), mode) {
+        Ok(news) => Ok(news),
+        Err(NameFault::Conflict { place }) => Err(conflict_at(alloc, names.as_slice(), place)),
+        Err(NameFault::NoMemory) => Err(JoinFault::NoMemory),
+    }
+}
+
+// Appends an export, if it has a name.
+fn add_export(
+    alloc: Global,
+    all: &mut Items<Export>,
+    export: &Export,
+    name: &Option<Name>,
+    map: &Remap,
+) -> Result<(), NoMemory>
+    requires { IsTrue (fits_export map.now export.now) }
+    ensures { OnOk result (all.new ≡ all.old ++ named_exports (new_export map.now export.now ∷ []) (name.now ∷ [])) }
+{
+    match name {
+        Some(name) => all.keep(Export {
+            name: name.copy(alloc)?,
+            desc: renumber_export_desc(export.desc, map),
+        }),
+        None => Ok(()),
+    }
+}
+
+// Appends the exports of one part that have a name. So many exports come before them, whose names come first.
+fn add_exports(
+    alloc: Global,
+    all: &mut Items<Export>,
+    exports: &[Export],
+    names: &[Option<Name>],
+    first: usize,
+    entries: &Remap,
+) -> Result<(), NoMemory>
+    requires named { first + length exports.now ≤ length names.now }
+    requires fits { IsTrue (all_true (map (fits_export entries.now) exports.now)) }
+    ensures { OnOk result ((before : List tree.Export) → length before ≡ first → all.old ≡ named_exports before names.now → all.new ≡ named_exports (before ++ map (new_export entries.now) exports.now) names.now) }
+{
+    for at in 0..exports.len() {
+        add_export(alloc, all, &exports[at], &names[first + at], entries)?;
+    }
+    Ok(())
+}
+
+/// The exports that have a name, by part, then in order.
+pub(crate) fn merged_exports(
+    alloc: Global,
+    joining: &Joining<'_>,
+    names: &[Option<Name>],
+) -> Result<Items<Export>, NoMemory>
+    requires joined { AreJoined joining.now }
+    requires named { length names.now ≡ length (all_exports (named_modules joining.now.parts.now)) }
+    ensures { IfOk result (λ exports. exports ≡ named_exports (all_exports (named_modules joining.now.parts.now)) names.now) }
+{
+    let mut all = Items::new(alloc);
+    let mut first = 0;
+    for part in 0..joining.parts.len() {
+        let exports = module_of(joining.parts, part).exports.as_slice();
+        add_exports(alloc, &mut all, exports, names, first, joining.map(part))?;
+        first += exports.len();
+    }
+    Ok(all)
+}

@@ -1,0 +1,25 @@
+//! Joining parts whose imports are linked: the one module that behaves as they do together.
+#![tactic(auto)]
+
+mod all_spaces;
+mod consts;
+mod exports;
+mod imports;
+mod joining;
+mod kinds;
+mod limits;
+mod linked;
+mod lists;
+mod maps;
+mod merging;
+mod numbers;
+mod segments;
+mod spaces;
+mod starts;
+mod texts;
+mod tree;
+mod types;
+
+pub use export_names::Mode;
+pub use merge_terms::JoinFault;
+pub use merging::join;

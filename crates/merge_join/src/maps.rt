@@ -1,0 +1,146 @@
+// The maps from the indices of each part to those of the merged module.
+
+ghost use Rattle.std.specs.Prelude.{◌≡◌, ◌+◌, ◌<◌, ◌≤◌, ◌^◌, length, map as each, Some, IfOk};
+ghost use Rattle.wasm_tree.specs.declared.module.Module.{Module as Tree};
+ghost use Rattle.wasm_meaning.specs.Linking.{module_at, imports_of, first_place};
+ghost use Rattle.wasm_meaning.specs.Values.{same_func_type};
+ghost use Rattle.wasm_meaning.specs.World as world;
+ghost use Rattle.merge_terms.specs.Parts.{named_modules};
+ghost use Rattle.merge_terms.specs.Merged as merged;
+ghost use Rattle.merge_terms.specs.Merged.{or_this, new_index, merged_types};
+ghost use Rattle.merge_join.specs.Words.{the_kind, space_size, AreLinked, AreMaps};
+ghost use Rattle.merge_join.specs.AllSpaces.{AreSpaces};
+
+use crate::all_spaces::Spaces;
+use crate::kinds::{defined_count, is_of};
+use crate::linked::{end_of, module_of};
+use crate::numbers::{add_numbers, number_at};
+use crate::spaces::Space;
+use crate::types::Types;
+use index_remap::Remap;
+use merge_terms::{Links, Part};
+use std::alloc::Global;
+use wasm_bytes::{Items, NoMemory};
+use wasm_tree::FuncType;
+
+// So many numbers from one on.
+fn numbers(alloc: Global, first: u32, count: usize) -> Result<Items<u32>, NoMemory>
+    requires { first + count ≤ 2 ^ 32 }
+    ensures { IfOk result (λ all. all ≡ world.numbers first count) }
+{
+    let mut all = Items::new(alloc);
+    add_numbers(&mut all, first, count)?;
+    Ok(all)
+}
+
+// The new places of a part's types.
+fn type_map(alloc: Global, types: &[FuncType], all: &Types) -> Result<Items<u32>, NoMemory>
+    ensures { IfOk result (λ places. places ≡ each (λ t. or_this 0 (first_place (same_func_type t) all.now.list 0)) types.now) }
+{
+    let mut map = Items::new(alloc);
+    for ty in types {
+        map.keep(all.place(alloc, ty)?)?;
+    }
+    Ok(map)
+}
+
+// The new indices of what a part imports of a kind, by its ends.
+fn imported_map(
+    alloc: Global,
+    links: &Links,
+    part: usize,
+    space: &Space<'_>,
+) -> Result<Items<u32>, NoMemory>
+    requires linked { AreLinked space.now.parts.now links.now }
+    requires there { part < length space.now.parts.now }
+    ensures { IfOk result (λ new. (m : Tree) → module_at (named_modules space.now.parts.now) part ≡ Some m → new ≡ each (new_index (named_modules space.now.parts.now) part (the_kind space.now.kind)) (world.numbers 0 (length (imports_of (the_kind space.now.kind) m)))) }
+{
+    let mut map = Items::new(alloc);
+    let imports = module_of(space.parts, part).imports.as_slice();
+    for place in 0..imports.len() {
+        if !is_of(&imports[place].desc, space.kind) {
+            continue;
+        }
+        map.keep(space.place(end_of(space.parts, links, part, place)))?;
+    }
+    Ok(map)
+}
+
+// The new indices of a part's index space of a kind.
+fn space_map(
+    alloc: Global,
+    links: &Links,
+    part: usize,
+    space: &Space<'_>,
+) -> Result<Items<u32>, NoMemory>
+    requires linked { AreLinked space.now.parts.now links.now }
+    requires there { part < length space.now.parts.now }
+    ensures { IfOk result (λ new. (m : Tree) → module_at (named_modules space.now.parts.now) part ≡ Some m → new ≡ each (new_index (named_modules space.now.parts.now) part (the_kind space.now.kind)) (world.numbers 0 (space_size (the_kind space.now.kind) m))) }
+{
+    let mut map = imported_map(alloc, links, part, space)?;
+    let first = number_at(&space.firsts, part);
+    let defined = defined_count(space.kind, module_of(space.parts, part));
+    add_numbers(&mut map, first, defined)?;
+    Ok(map)
+}
+
+// The places of the first element segment and the first data segment of a part.
+#[derive(Clone, Copy)]
+struct Segments {
+    elem: u32,
+    data: u32,
+}
+
+// The map of a part's indices.
+fn map_of(
+    alloc: Global,
+    parts: &[Part],
+    links: &Links,
+    part: usize,
+    spaces: &Spaces<'_>,
+    types: &Types,
+    first: Segments,
+) -> Result<Remap, NoMemory>
+    requires linked { AreLinked parts.now links.now }
+    requires there { part < length parts.now }
+    requires spaces { AreSpaces parts.now spaces.now }
+    requires types { types.now.list ≡ merged_types (named_modules parts.now) }
+    requires elem { first.elem ≡ world.elems_before (named_modules parts.now) part }
+    requires data { first.data ≡ world.datas_before (named_modules parts.now) part }
+    ensures { IfOk result (λ map. (m : Tree) → module_at (named_modules parts.now) part ≡ Some m → map ≡ merged.map_of (named_modules parts.now) part m) }
+{
+    let module = module_of(parts, part);
+    Ok(Remap {
+        types: type_map(alloc, module.types.as_slice(), types)?,
+        funcs: space_map(alloc, links, part, &spaces.funcs)?,
+        tables: space_map(alloc, links, part, &spaces.tables)?,
+        mems: space_map(alloc, links, part, &spaces.mems)?,
+        globals: space_map(alloc, links, part, &spaces.globals)?,
+        elems: numbers(alloc, first.elem, module.elems.len())?,
+        datas: numbers(alloc, first.data, module.datas.len())?,
+    })
+}
+
+/// For each part the map of its indices.
+pub(crate) fn all_maps(
+    alloc: Global,
+    parts: &[Part],
+    links: &Links,
+    spaces: &Spaces<'_>,
+    types: &Types,
+) -> Result<Items<Remap>, NoMemory>
+    requires linked { AreLinked parts.now links.now }
+    requires spaces { AreSpaces parts.now spaces.now }
+    requires types { types.now.list ≡ merged_types (named_modules parts.now) }
+    ensures { IfOk result (λ maps. AreMaps (named_modules parts.now) maps) }
+{
+    let mut maps = Items::new(alloc);
+    let mut first = Segments { elem: 0, data: 0 };
+    for part in 0..parts.len() {
+        let module = module_of(parts, part);
+        maps.keep(map_of(alloc, parts, links, part, spaces, types, first)?)?;
+        first.elem += module.elems.len() as u32;
+        first.data += module.datas.len() as u32;
+    }
+    Ok(maps)
+}

@@ -1,0 +1,56 @@
+// Joining parts.
+
+ghost use Rattle.std.specs.Prelude.{◌≡◌, ◌⊎◌, Ok, Err, None, IfOk, IfErr};
+ghost use Rattle.merge_terms.specs.declared.faults.JoinFault.TheVariants.{NoMemory as OutOfMemory};
+ghost use Rattle.merge_terms.specs.Faults.{link_fault};
+ghost use Rattle.merge_terms.specs.Joined.{FewInAll, Joins};
+ghost use Rattle.merge_terms.specs.Linked.{AreLinks};
+ghost use Rattle.merge_terms.specs.Parts.{named_modules};
+
+use crate::linked::parts_hold;
+use crate::tree::joined_tree;
+use export_names::Mode;
+use merge_terms::{JoinFault, Links, Part};
+use merge_validity::merged_modules_are_valid;
+use std::alloc::Global;
+use wasm_bytes::Items;
+use wasm_valid::Valid;
+
+// Joins parts in a slice.
+fn join_parts(alloc: Global, parts: &[Part], links: &Links, mode: Mode) -> Result<Valid, JoinFault>
+    requires links { AreLinks (named_modules parts.now) links.now }
+    requires linked { link_fault (named_modules parts.now) ≡ None }
+    requires few { FewInAll (named_modules parts.now) }
+    ensures joined { IfOk result (λ valid. Joins (named_modules parts.now) mode (Ok valid)) }
+    ensures fault { IfErr result (λ f. (f ≡ OutOfMemory) ⊎ Joins (named_modules parts.now) mode (Err f)) }
+{
+    merged_modules_are_valid();
+    parts_hold(parts);
+    let tree = joined_tree(alloc, parts, links, mode)?;
+    Ok(Valid::known(tree))
+}
+
+/// The one module that parts whose imports are linked make together.
+///
+/// Its types are the distinct ones of the parts, its imports those that stay, and its functions, tables, memories, globals and segments what the parts
+/// define, by part. Each index is the one in the merged index spaces, and a constant expression that reads a joined global becomes what it reads. Where
+/// several parts have a start, one more function calls each, by part. Exports have the names that the mode gives them, and functions that `ref.func` names
+/// are declared (WebAssembly Core 2.0, sections 2.5 and 3.4.10). The module is valid.
+///
+/// `ExportConflict` comes exactly where the mode is `Refuse` and a name came before, with the first such name; else `TooMany` exactly where a count of
+/// the merged module is above its limit, with the first such count in the order types, imports, functions, tables, memories, globals, exports, element
+/// segments and data segments. `NoMemory` is want of memory, and says nothing of the parts. The parts are given up in each case.
+pub fn join(
+    alloc: Global,
+    parts: Items<Part>,
+    links: &Links,
+    mode: Mode,
+) -> Result<Valid, JoinFault>
+    requires links { AreLinks (named_modules parts) links.now }
+    requires linked { link_fault (named_modules parts) ≡ None }
+    requires few { FewInAll (named_modules parts) }
+    ensures joined { IfOk result (λ valid. Joins (named_modules parts) mode (Ok valid)) }
+    ensures fault { IfErr result (λ f. (f ≡ OutOfMemory) ⊎ Joins (named_modules parts) mode (Err f)) }
+{
+    join_parts(alloc, parts.as_slice(), links, mode)
+}

@@ -1,0 +1,203 @@
+// The merged index space of a kind: first the imports that stay, then what the parts define, by part.
+
+ghost use Rattle.std.specs.Prelude.{◌≡◌, ◌+◌, ◌<◌, ◌^◌, ℕ, cond, length, map, Some, None, IfOk, OnOk};
+ghost use Rattle.wasm_tree.specs.declared.module.Module.{Module as Tree};
+ghost use Rattle.wasm_meaning.specs.Linking.{module_at, sites_in, places, has_kind};
+ghost use Rattle.wasm_meaning.specs.World.{defined_before};
+ghost use Rattle.merge_terms.specs.Parts.{named_modules};
+ghost use Rattle.merge_terms.specs.declared.links.End.TheVariants.{Defined};
+ghost use Rattle.merge_terms.specs.Linked.{AreLinks, by_import};
+ghost use Rattle.merge_terms.specs.Merged as merged;
+ghost use Rattle.merge_join.specs.Words.{the_kind, site, place_at, each_part, IsSite, IsEnd, AreLinked};
+ghost use Rattle.merge_join.specs.Spaces.{IsSpace, staying_place, imported_in, picked, count_before};
+
+use crate::kinds::{Kind, defined_count, is_of};
+use crate::linked::{module_of, stays};
+use crate::numbers::number_at;
+use merge_terms::{End, Links, Part};
+use std::alloc::Global;
+use wasm_bytes::{Items, NoMemory};
+use wasm_tree::Import;
+
+/// Where things of a kind stand in the merged index space of these parts.
+#[derive(Drop)]
+pub(crate) struct Space<'a> {
+    pub parts: &'a [Part],
+    pub kind: Kind,
+    /// For each import of each part its place, where it stays and is of this kind.
+    pub staying: Items<Items<Option<u32>>>,
+    /// For each part the place of the first that it defines.
+    pub firsts: Items<u32>,
+    /// For each part how many it imports.
+    pub imported: Items<u32>,
+    /// How many there are.
+    pub count: u32,
+    ghost few: { count < 2 ^ 32 },
+    pub ghost is: { IsSpace (named_modules parts.now) (the_kind kind) staying firsts imported count },
+}
+
+impl<'a> Space<'a> {
+    // The place of an import, where it stays and is of this kind.
+    fn staying_at(&self, part: usize, import: usize) -> Option<u32>
+        requires { IsSite (named_modules self.now.parts.now) part import }
+        ensures { result ≡ staying_place (named_modules self.now.parts.now) (the_kind self.now.kind) (site part import) }
+    {
+        self.staying.as_slice()[part].as_slice()[import]
+    }
+
+    // The place of what a part defines, by its index in that part's index space.
+    fn defined_at(&self, part: usize, index: u32) -> u32
+        requires { IsEnd (named_modules self.now.parts.now) (the_kind self.now.kind) (Defined part index) }
+        ensures { result ≡ place_at (named_modules self.now.parts.now) (the_kind self.now.kind) (Defined part index) }
+    {
+        let imported = number_at(&self.imported, part);
+        number_at(&self.firsts, part) + index.saturating_sub(imported)
+    }
+
+    /// The place of an end.
+    pub(crate) fn place(&self, end: End) -> u32
+        requires { IsEnd (named_modules self.now.parts.now) (the_kind self.now.kind) end }
+        ensures { result ≡ place_at (named_modules self.now.parts.now) (the_kind self.now.kind) end }
+    {
+        match end {
+            End::Outside { part, import } => self
+                .staying_at(part as usize, import as usize)
+                .unwrap_or(0),
+            End::Defined { part, index } => self.defined_at(part as usize, index),
+        }
+    }
+}
+
+// Whether an import stays and is of a kind.
+fn is_picked(parts: &[Part], links: &Links, part: usize, import: usize, kind: Kind) -> bool
+    requires links { AreLinks (named_modules parts.now) links.now }
+    requires there { IsSite (named_modules parts.now) part import }
+    ensures { result ≡ picked (named_modules parts.now) (the_kind kind) (site part import) }
+{
+    let imports = module_of(parts, part).imports.as_slice();
+    stays(parts, links, part, import) && is_of(&imports[import].desc, kind)
+}
+
+// The next place, where one is taken.
+fn next_place(count: &mut u32, taken: bool) -> Option<u32>
+    requires { count.old + 1 < 2 ^ 32 }
+    ensures place { result ≡ cond taken (Some count.old) None }
+    ensures count { count.new ≡ count.old + cond taken 1 0 }
+{
+    if !taken {
+        return None;
+    }
+    let place = *count;
+    *count += 1;
+    Some(place)
+}
+
+// The places of the imports of one part that stay and are of a kind, where so many come before them.
+fn staying_in(
+    alloc: Global,
+    parts: &[Part],
+    links: &Links,
+    part: usize,
+    kind: Kind,
+    count: &mut u32,
+) -> Result<Items<Option<u32>>, NoMemory>
+    requires linked { AreLinked parts.now links.now }
+    requires there { part < length parts.now }
+    requires count { count.old ≡ count_before (named_modules parts.now) (the_kind kind) part 0 }
+    ensures row { IfOk result (λ row. (m : Tree) → module_at (named_modules parts.now) part ≡ Some m → row ≡ map (staying_place (named_modules parts.now) (the_kind kind)) (sites_in part (length m.imports) 0)) }
+    ensures count { OnOk result (count.new ≡ count_before (named_modules parts.now) (the_kind kind) (part + 1) 0) }
+{
+    let mut row = Items::new(alloc);
+    for import in 0..module_of(parts, part).imports.len() {
+        let taken = is_picked(parts, links, part, import, kind);
+        row.keep(next_place(count, taken))?;
+    }
+    Ok(row)
+}
+
+fn imported_count(imports: &[Import], kind: Kind) -> u32
+    requires { length imports.now < 2 ^ 32 }
+    ensures { result ≡ length (places (has_kind (the_kind kind)) imports.now 0) }
+{
+    let mut count = 0;
+    for import in imports {
+        if is_of(&import.desc, kind) {
+            count += 1;
+        }
+    }
+    count
+}
+
+/// The merged index space of a kind.
+pub(crate) fn space_of<'a>(
+    alloc: Global,
+    parts: &'a [Part],
+    links: &Links,
+    kind: Kind,
+) -> Result<Space<'a>, NoMemory>
+    requires { AreLinked parts.now links.now }
+    ensures parts { IfOk result (λ space. space.parts.now ≡ parts.now) }
+    ensures kind { IfOk result (λ space. space.kind ≡ kind) }
+{
+    let (staying, count) = all_staying(alloc, parts, links, kind)?;
+    let (firsts, count) = firsts_of(alloc, parts, kind, count)?;
+    let imported = imported_of(alloc, parts, kind)?;
+    Ok(Space {
+        parts,
+        kind,
+        staying,
+        firsts,
+        imported,
+        count,
+    })
+}
+
+// For each import of each part its place, where it stays and is of a kind, and how many these are.
+fn all_staying(
+    alloc: Global,
+    parts: &[Part],
+    links: &Links,
+    kind: Kind,
+) -> Result<(Items<Items<Option<u32>>>, u32), NoMemory>
+    requires { AreLinked parts.now links.now }
+    ensures staying { IfOk result (λ r. r.0 ≡ by_import (staying_place (named_modules parts.now) (the_kind kind)) (named_modules parts.now)) }
+    ensures count { IfOk result (λ r. r.1 ≡ length (merged.staying_of (named_modules parts.now) (the_kind kind))) }
+{
+    let mut staying = Items::new(alloc);
+    let mut count = 0;
+    for part in 0..parts.len() {
+        staying.keep(staying_in(alloc, parts, links, part, kind, &mut count)?)?;
+    }
+    Ok((staying, count))
+}
+
+// For each part the place of the first of a kind that it defines, where so many stay, and the place after all of them.
+fn firsts_of(
+    alloc: Global,
+    parts: &[Part],
+    kind: Kind,
+    staying: u32,
+) -> Result<(Items<u32>, u32), NoMemory>
+    requires few { staying + defined_before (the_kind kind) (named_modules parts.now) (length parts.now) < 2 ^ 32 }
+    ensures firsts { IfOk result (λ r. r.0 ≡ each_part (λ p m. staying + defined_before (the_kind kind) (named_modules parts.now) p) (named_modules parts.now)) }
+    ensures count { IfOk result (λ r. r.1 ≡ staying + defined_before (the_kind kind) (named_modules parts.now) (length parts.now)) }
+{
+    let mut firsts = Items::new(alloc);
+    let mut first = staying;
+    for part in 0..parts.len() {
+        firsts.keep(first)?;
+        first += defined_count(kind, module_of(parts, part)) as u32;
+    }
+    Ok((firsts, first))
+}
+
+fn imported_of(alloc: Global, parts: &[Part], kind: Kind) -> Result<Items<u32>, NoMemory>
+    ensures { IfOk result (λ all. all ≡ each_part (imported_in (named_modules parts.now) (the_kind kind)) (named_modules parts.now)) }
+{
+    let mut imported = Items::new(alloc);
+    for part in 0..parts.len() {
+        let imports = module_of(parts, part).imports.as_slice();
+        imported.keep(imported_count(imports, kind))?;
+    }
+    Ok(imported)
+}
