@@ -1,13 +1,13 @@
 -- A command line has one job.
-use Rattle.std.proofs.Common.{Bool, true, cond, ltb, ◌-◌, ◌↔◌, ◌≡◌, ◌∙◌, sym, refl, ap, subst, ℕ, List, [], ◌∷◌, Option, Some, None, Result, Ok, Err, false, ◌≤◌, ◌<◌, length, arith}
+use Rattle.std.proofs.Common.{Bool, true, cond, ltb, ◌-◌, ◌↔◌, ◌≡◌, ◌∙◌, sym, refl, ap, ap₂, subst, map, ◌⊎◌, inl, inr, ℕ, List, [], ◌∷◌, Option, Some, None, Result, Ok, Err, false, ◌≤◌, ◌<◌, length, arith}
 use Rattle.std.specs.FinMap.{get}
 use Rattle.wasm_bytes.specs.Reading.{IsBytes}
 use Rattle.tool_io.specs.Outside.{Contents}
-use Rattle.tools_cli.specs.Words.{Text, Task, Merge, inputs_of}
+use Rattle.tools_cli.specs.Words.{Text, Source, Task, Merge, inputs_of}
 use Rattle.tools_cli.specs.Effects.{Entry}
-use Rattle.tools_cli.specs.Texts.{fault_text, invalid_text, over_limit}
+use Rattle.tools_cli.specs.Texts.{fault_text, invalid_text, link_text, join_text, over_limit}
 use Rattle.wasm_tree.specs.declared.which.Which.TheVariants.{InputBytes}
-use Rattle.tools_cli.specs.Job.{IsRead, IsAccepted, invalid, Job, Refused, Done, Gathered, add_first, add_file, HoldBytes, Whole, Lacks, TooLong, gathered, most_input, most_output, Loads, loaded, faulty, Merges, not_loaded, too_large, written, Decides, TaskJob, missing, too_long, decided, HasJob, no_task, asked}
+use Rattle.tools_cli.specs.Job.{IsRead, IsAccepted, invalid, Job, Refused, Done, Gathered, add_first, add_file, HoldBytes, Whole, Lacks, TooLong, gathered, most_input, most_output, Loads, loaded, faulty, AllLoad, OneFails, Writes, too_large, written, Merges, not_loaded, not_linked, not_joined, merged, parts_of, Decides, TaskJob, not_begun, missing, too_long, decided, HasJob, no_task, asked}
 use Rattle.wasm_tree.specs.declared.module.Module.{Module}
 use Rattle.wasm_format.specs.declared.fault.ReadFault.{ReadFault}
 use Rattle.wasm_valid.specs.declared.kinds.Invalid.{Invalid}
@@ -15,6 +15,12 @@ use Rattle.wasm_valid.specs.Validity.{IsValid, IsSingle}
 use Rattle.wasm_valid.specs.First.{IsFirstInvalid}
 use Rattle.wasm_format.specs.Files.{Spells, Within}
 use Rattle.wasm_format.specs.Contents.{read_fault}
+use Rattle.wasm_meaning.specs.Linking.{Part}
+use Rattle.export_names.specs.declared.mode.Mode.{Mode}
+use Rattle.merge_terms.specs.Faults.{link_fault}
+use Rattle.merge_terms.specs.Joined.{join_of}
+use Rattle.merge_terms.specs.declared.faults.LinkFault.{LinkFault}
+use Rattle.merge_terms.specs.declared.faults.JoinFault.{JoinFault}
 use Rattle.wasm_plain.specs.Plain.{plain}
 
 -- bytes spell one tree, and what is spelled within the limits has no fault
@@ -101,39 +107,106 @@ one_tree reads file bytes are tree tree' h k = let same : ◌≡◌ {A = Result 
 two_ways : Known → (file bytes : Text) → IsBytes bytes → (tree : Module) (text : Text) → Loads file bytes (Ok tree) → Loads file bytes (Err text) → ⊥
 two_ways reads file bytes are tree text h k = let same : Ok tree ≡ Err text = loads_once reads file bytes are (Ok tree) (Err text) h k in cc
 
-both_sizes : Known → (file bytes : Text) → IsBytes bytes → (tree tree' : Module) → Loads file bytes (Ok tree) → Loads file bytes (Ok tree') → most_output < length (plain tree) → length (plain tree') ≤ most_output → ⊥
-both_sizes reads file bytes are tree tree' h k large fits = let sizes : length (plain tree) ≡ length (plain tree') = ap (λ t. length (plain t)) (one_tree reads file bytes are tree tree' h k) in omega arith
+-- all files load as the same trees, or the same one fails
+trees_once : Known → (files : List Entry) (trees trees' : List Module) → AllLoad files trees → AllLoad files trees' → AreBytes files → trees ≡ trees'
+trees_once k [] [] [] h h' are = refl
+trees_once k (file ∷ files) (tree ∷ trees) (tree' ∷ trees') h h' are = ap₂ (λ (t : Module) (ts : List Module). t ∷ ts) (one_tree k file.0 file.1 are.0 tree tree' h.0 h'.0) (trees_once k files trees trees' h.1 h'.1 are.1)
+trees_once k [] [] (tree' ∷ trees') h h' are = absurd h'
+trees_once k [] (tree ∷ trees) trees' h h' are = absurd h
+trees_once k (file ∷ files) [] trees' h h' are = absurd h
+trees_once k (file ∷ files) (tree ∷ trees) [] h h' are = absurd h'
 
-merges_once : Known → (output : Text) (inputs : List Entry) (one other : Job) → Merges output inputs one → Merges output inputs other → AreBytes inputs → one ≡ other
-merges_once reads output inputs one other (not_loaded file bytes text h) (not_loaded _ _ text' k) (are, rest) =
-    let same : ◌≡◌ {A = Result Module Text} (Err text) (Err text') = loads_once reads file bytes are (Err text) (Err text') h k in
-    let text_is : text ≡ text' = cc in
-    ap Refused text_is
-merges_once reads output inputs one other (not_loaded file bytes text h) (too_large _ _ tree k large) (are, rest) = absurd (two_ways reads file bytes are tree text k h)
-merges_once reads output inputs one other (not_loaded file bytes text h) (written _ _ tree k fits) (are, rest) = absurd (two_ways reads file bytes are tree text k h)
-merges_once reads output inputs one other (too_large file bytes tree k large) (not_loaded _ _ text h) (are, rest) = absurd (two_ways reads file bytes are tree text k h)
-merges_once reads output inputs one other (too_large file bytes tree k large) (too_large _ _ tree' k' large') (are, rest) = refl
-merges_once reads output inputs one other (too_large file bytes tree k large) (written _ _ tree' k' fits) (are, rest) = absurd (both_sizes reads file bytes are tree tree' k k' large fits)
-merges_once reads output inputs one other (written file bytes tree k fits) (not_loaded _ _ text h) (are, rest) = absurd (two_ways reads file bytes are tree text k h)
-merges_once reads output inputs one other (written file bytes tree k fits) (too_large _ _ tree' k' large) (are, rest) = absurd (both_sizes reads file bytes are tree' tree k' k large fits)
-merges_once reads output inputs one other (written file bytes tree k fits) (written _ _ tree' k' fits') (are, rest) = ap (λ t. Done ((output, plain t) ∷ []) []) (one_tree reads file bytes are tree tree' k k')
+fails_once : Known → (files : List Entry) (text text' : Text) → OneFails files text → OneFails files text' → AreBytes files → text ≡ text'
+fails_once k [] text text' h h' are = absurd h
+fails_once k (file ∷ files) text text' (inl h) (inl h') are =
+    let same : ◌≡◌ {A = Result Module Text} (Err text) (Err text') = loads_once k file.0 file.1 are.0 (Err text) (Err text') h h' in cc
+fails_once k (file ∷ files) text text' (inl h) (inr (tree, loads, later)) are = absurd (two_ways k file.0 file.1 are.0 tree text loads h)
+fails_once k (file ∷ files) text text' (inr (tree, loads, later)) (inl h') are = absurd (two_ways k file.0 file.1 are.0 tree text' loads h')
+fails_once k (file ∷ files) text text' (inr (tree, loads, later)) (inr (tree', loads', later')) are = fails_once k files text text' later later' are.1
+
+load_or_fail : Known → (files : List Entry) (trees : List Module) (text : Text) → AllLoad files trees → OneFails files text → AreBytes files → ⊥
+load_or_fail k [] trees text h f are = f
+load_or_fail k (file ∷ files) [] text h f are = h
+load_or_fail k (file ∷ files) (tree ∷ trees) text h (inl f) are = two_ways k file.0 file.1 are.0 tree text h.0 f
+load_or_fail k (file ∷ files) (tree ∷ trees) text h (inr (tree', loads, later)) are = load_or_fail k files trees text h.1 later are.1
+
+-- a tree is written or too large
+writes_once : (output : Text) (tree : Module) (one other : Job) → Writes output tree one → Writes output tree other → one ≡ other
+writes_once output tree one other (too_large large) (too_large large') = refl
+writes_once output tree one other (too_large large) (written fits) = absurd (omega arith)
+writes_once output tree one other (written fits) (too_large large) = absurd (omega arith)
+writes_once output tree one other (written fits) (written fits') = refl
+
+text_once : (one other : Text) → Some one ≡ Some other → one ≡ other
+text_once one other e = cc
+
+-- what merging parts comes to
+link_text_once : (files : List Text) (parts : List Part) (fault fault' : LinkFault) (text text' : Text) → link_fault parts ≡ Some fault → link_fault parts ≡ Some fault' → link_text files fault ≡ Some text → link_text files fault' ≡ Some text' → text ≡ text'
+link_text_once files parts fault fault' text text' h h' e e' =
+    let both : Some fault ≡ Some fault' = sym h ∙ h' in
+    let same : fault ≡ fault' = cc in
+    text_once text text' (sym e ∙ ap (link_text files) same ∙ e')
+
+join_text_once : (fault fault' : JoinFault) (text text' : Text) → ◌≡◌ {A = Result Module JoinFault} (Err fault) (Err fault') → join_text fault ≡ Some text → join_text fault' ≡ Some text' → text ≡ text'
+join_text_once fault fault' text text' h e e' = let same : fault ≡ fault' = cc in text_once text text' (sym e ∙ ap join_text same ∙ e')
+
+merges_once : Known → (sources : List Source) (output : Text) (mode : Mode) (files : List Entry) (one other : Job) → Merges sources output mode files one → Merges sources output mode files other → AreBytes files → one ≡ other
+merges_once k sources output mode files one other (not_loaded text h) (not_loaded text' h') are = ap Refused (fails_once k files text text' h h' are)
+merges_once k sources output mode files one other (not_loaded text h) (not_linked trees fault text' loads found says) are = absurd (load_or_fail k files trees text loads h are)
+merges_once k sources output mode files one other (not_loaded text h) (not_joined trees fault text' loads linked found says) are = absurd (load_or_fail k files trees text loads h are)
+merges_once k sources output mode files one other (not_loaded text h) (merged trees tree job loads is writes) are = absurd (load_or_fail k files trees text loads h are)
+merges_once k sources output mode files one other (not_linked trees fault text loads found says) (not_loaded text' h) are = absurd (load_or_fail k files trees text' loads h are)
+merges_once k sources output mode files one other (not_linked trees fault text loads found says) (not_linked trees' fault' text' loads' found' says') are =
+    let same : link_fault (parts_of sources trees') ≡ Some fault = sym (ap (λ ts. link_fault (parts_of sources ts)) (trees_once k files trees trees' loads loads' are)) ∙ found in
+    ap Refused (link_text_once (map (λ s. s.file) sources) (parts_of sources trees') fault fault' text text' same found' says says')
+merges_once k sources output mode files one other (not_linked trees fault text loads found says) (not_joined trees' fault' text' loads' linked found' says') are =
+    absurd (let both : None ≡ Some fault = sym linked ∙ sym (ap (λ ts. link_fault (parts_of sources ts)) (trees_once k files trees trees' loads loads' are)) ∙ found in cc)
+merges_once k sources output mode files one other (not_linked trees fault text loads found says) (merged trees' tree job loads' is writes) are =
+    absurd (let both : None ≡ Some fault = sym is.0 ∙ sym (ap (λ ts. link_fault (parts_of sources ts)) (trees_once k files trees trees' loads loads' are)) ∙ found in cc)
+merges_once k sources output mode files one other (not_joined trees fault text loads linked found says) (not_loaded text' h) are = absurd (load_or_fail k files trees text' loads h are)
+merges_once k sources output mode files one other (not_joined trees fault text loads linked found says) (not_linked trees' fault' text' loads' found' says') are =
+    absurd (let both : None ≡ Some fault' = sym linked ∙ ap (λ ts. link_fault (parts_of sources ts)) (trees_once k files trees trees' loads loads' are) ∙ found' in cc)
+merges_once k sources output mode files one other (not_joined trees fault text loads linked found says) (not_joined trees' fault' text' loads' linked' found' says') are =
+    ap Refused (join_text_once fault fault' text text' (sym found ∙ ap (λ ts. join_of (parts_of sources ts) mode) (trees_once k files trees trees' loads loads' are) ∙ found') says says')
+merges_once k sources output mode files one other (not_joined trees fault text loads linked found says) (merged trees' tree job loads' is writes) are =
+    absurd (let both : ◌≡◌ {A = Result Module JoinFault} (Err fault) (Ok tree) = sym found ∙ ap (λ ts. join_of (parts_of sources ts) mode) (trees_once k files trees trees' loads loads' are) ∙ is.1 in cc)
+merges_once k sources output mode files one other (merged trees tree job loads is writes) (not_loaded text' h) are = absurd (load_or_fail k files trees text' loads h are)
+merges_once k sources output mode files one other (merged trees tree job loads is writes) (not_linked trees' fault' text' loads' found' says') are =
+    absurd (let both : None ≡ Some fault' = sym is.0 ∙ ap (λ ts. link_fault (parts_of sources ts)) (trees_once k files trees trees' loads loads' are) ∙ found' in cc)
+merges_once k sources output mode files one other (merged trees tree job loads is writes) (not_joined trees' fault' text' loads' linked' found' says') are =
+    absurd (let both : ◌≡◌ {A = Result Module JoinFault} (Ok tree) (Err fault') = sym is.1 ∙ ap (λ ts. join_of (parts_of sources ts) mode) (trees_once k files trees trees' loads loads' are) ∙ found' in cc)
+merges_once k sources output mode files one other (merged trees tree job loads is writes) (merged trees' tree' job' loads' is' writes') are =
+    let both : ◌≡◌ {A = Result Module JoinFault} (Ok tree) (Ok tree') = sym is.1 ∙ ap (λ ts. join_of (parts_of sources ts) mode) (trees_once k files trees trees' loads loads' are) ∙ is'.1 in
+    let same : tree ≡ tree' = cc in
+    let P : Module → Type 0 = λ t. Writes output t job in
+    writes_once output tree' job job' (subst P same writes) writes'
 
 decides_once : Known → (t : Task) (inputs : List Entry) → AreBytes inputs → (one other : Job) → Decides t inputs one → Decides t inputs other → one ≡ other
-decides_once reads (Merge file name output) inputs are one other h k = merges_once reads output inputs one other h k are
+decides_once reads (Merge sources output mode) inputs are one other h k = merges_once reads sources output mode inputs one other h k are
 
 task_jobs_once : Known → (t : Task) (files : Contents) → HoldBytes files → (one other : Job) → TaskJob t files one → TaskJob t files other → one ≡ other
-task_jobs_once reads t files hold one other (missing name e) (missing name' e') = refl
-task_jobs_once reads t files hold one other (missing name e) (too_long name' e') = absurd (let u = sym e ∙ e' in cc)
-task_jobs_once reads t files hold one other (missing name e) (decided inputs job e' d) = absurd (let u = sym e ∙ e' in cc)
-task_jobs_once reads t files hold one other (too_long name e) (missing name' e') = absurd (let u = sym e ∙ e' in cc)
-task_jobs_once reads t files hold one other (too_long name e) (too_long name' e') =
+task_jobs_once reads t files hold one other (not_begun text e) (not_begun text' e') =
+    let u = sym e ∙ e' in
+    let same : text ≡ text' = cc in
+    ap Refused same
+task_jobs_once reads t files hold one other (not_begun text e) (missing name' b' e') = absurd (let u = sym e ∙ b' in cc)
+task_jobs_once reads t files hold one other (not_begun text e) (too_long name' b' e') = absurd (let u = sym e ∙ b' in cc)
+task_jobs_once reads t files hold one other (not_begun text e) (decided inputs' job' b' e' d') = absurd (let u = sym e ∙ b' in cc)
+task_jobs_once reads t files hold one other (missing name b e) (not_begun text' e') = absurd (let u = sym b ∙ e' in cc)
+task_jobs_once reads t files hold one other (missing name b e) (missing name' b' e') = refl
+task_jobs_once reads t files hold one other (missing name b e) (too_long name' b' e') = absurd (let u = sym e ∙ e' in cc)
+task_jobs_once reads t files hold one other (missing name b e) (decided inputs' job' b' e' d') = absurd (let u = sym e ∙ e' in cc)
+task_jobs_once reads t files hold one other (too_long name b e) (not_begun text' e') = absurd (let u = sym b ∙ e' in cc)
+task_jobs_once reads t files hold one other (too_long name b e) (missing name' b' e') = absurd (let u = sym e ∙ e' in cc)
+task_jobs_once reads t files hold one other (too_long name b e) (too_long name' b' e') =
     let u = sym e ∙ e' in
     let same : name ≡ name' = cc in
     ap (λ n. Refused (over_limit n InputBytes)) same
-task_jobs_once reads t files hold one other (too_long name e) (decided inputs job e' d) = absurd (let u = sym e ∙ e' in cc)
-task_jobs_once reads t files hold one other (decided inputs job e d) (missing name' e') = absurd (let u = sym e ∙ e' in cc)
-task_jobs_once reads t files hold one other (decided inputs job e d) (too_long name' e') = absurd (let u = sym e ∙ e' in cc)
-task_jobs_once reads t files hold one other (decided inputs job e d) (decided inputs' job' e' d') =
+task_jobs_once reads t files hold one other (too_long name b e) (decided inputs' job' b' e' d') = absurd (let u = sym e ∙ e' in cc)
+task_jobs_once reads t files hold one other (decided inputs job b e d) (not_begun text' e') = absurd (let u = sym b ∙ e' in cc)
+task_jobs_once reads t files hold one other (decided inputs job b e d) (missing name' b' e') = absurd (let u = sym e ∙ e' in cc)
+task_jobs_once reads t files hold one other (decided inputs job b e d) (too_long name' b' e') = absurd (let u = sym e ∙ e' in cc)
+task_jobs_once reads t files hold one other (decided inputs job b e d) (decided inputs' job' b' e' d') =
     let u = sym e ∙ e' in
     let same : inputs ≡ inputs' = cc in
     decides_once reads t inputs' (gathered_bytes files hold (inputs_of t) most_input inputs' e') job job' (let P : List Entry → Type 0 = λ l. Decides t l job in subst P same d) d'

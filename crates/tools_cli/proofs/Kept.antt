@@ -1,23 +1,67 @@
 -- A job that is done keeps the module that it read.
-use Rattle.std.proofs.Common.{Bool, true, false, cond, ltb, ◌≡◌, ◌∙◌, refl, ap, ℕ, List, [], ◌∷◌, length, Option, Some, None, IfSome, IfOk, Result, Ok, Err, ◌<◌, ◌≤◌, ◌^◌, arith}
+use Rattle.std.proofs.Common.{Bool, true, false, cond, ltb, ◌≡◌, ◌∙◌, refl, sym, ap, subst, map, ℕ, zero, suc, ◌-◌, List, [], ◌∷◌, length, Option, Some, None, IfSome, IfOk, Result, Ok, Err, ◌<◌, ◌≤◌, ◌^◌, arith}
 use Rattle.std.specs.FinMap.{get, insert, get-insert}
 use Rattle.std.specs.Cmp.{eq_by_cmp_equiv}
 use Rattle.std.proofs.lemmas.Cmp.{nat_list_cmp_total}
 use Rattle.tool_io.specs.Outside.{Contents}
-use Rattle.tools_cli.specs.Words.{Text, Task, Merge, task_of, inputs_of}
+use Rattle.tools_cli.specs.Words.{Text, Source, Task, Merge, task_of, inputs_of}
+use Rattle.export_names.specs.declared.mode.Mode.{Mode}
 use Rattle.tools_cli.specs.Effects.{Entry, made}
-use Rattle.tools_cli.specs.Job.{IsRead, IsAccepted, Job, Usage, Missing, Refused, Done, Gathered, Whole, Lacks, TooLong, add_file, gathered, most_input, most_output, Loads, loaded, faulty, invalid, Merges, not_loaded, too_large, written, Decides, TaskJob, missing, too_long, decided, HasJob, no_task, asked}
+use Rattle.tools_cli.specs.Job.{IsRead, IsAccepted, Job, Usage, Missing, Refused, Done, Gathered, Whole, Lacks, TooLong, add_first, add_file, gathered, most_input, most_output, Loads, loaded, faulty, invalid, AllLoad, Writes, too_large, written, Merges, not_loaded, not_linked, not_joined, merged, parts_of, AreMerged, TaskJob, not_begun, missing, too_long, decided, HasJob, no_task, asked}
 use Rattle.tools_cli.specs.Run.{EndsDone}
-use Rattle.tools_cli.specs.Kept.{HoldsModule, TaskKeeps, Keeps, EndsKept}
+use Rattle.tools_cli.specs.Kept.{HoldModules, TaskKeeps, Keeps, EndsKept}
 use Rattle.wasm_tree.specs.declared.module.Module.{Module}
-use Rattle.wasm_format.specs.Files.{Spells}
+use Rattle.wasm_tree.specs.Bounds.{IsBounded}
+use Rattle.wasm_valid.specs.Validity.{IsValid, IsSingle}
+use Rattle.wasm_format.specs.Words.{Every}
+use Rattle.wasm_format.specs.Files.{Spells, Within}
+use Rattle.wasm_meaning.specs.Linking.{Part, module_at}
+use Rattle.merge_validity.specs.Joinable.{CanBeJoined}
+use Rattle.wasm_tree.specs.declared.which.Which.{Which}
+use Rattle.merge_terms.specs.Joined.{over_limit, joined_module, repeated_name, outcome}
 use Rattle.wasm_plain.specs.Plain.{plain}
 use Rattle.plain_law.specs.Ranges.{InRange}
 
--- what is known of the plain spelling
+-- a part is valid, and a u32 counts what it has
+abbrev pub IsSound : Part → Type 0
+IsSound p = IsValid p.«module» × IsBounded p.«module»
+
+-- what is known of the plain spelling, and of merged modules
 pub record Respelled : Type 0 where
   pub plainly : (tree : Module) → InRange tree → length (plain tree) < 2 ^ 32 → Spells (plain tree) tree false
   pub ranges : (bytes : List ℕ) (tree : Module) → Spells bytes tree false → InRange tree
+  pub bounded : (bytes : List ℕ) (tree : Module) → Spells bytes tree false → Within bytes false → IsBounded tree
+  pub valid : (parts : List Part) (mode : Mode) → CanBeJoined parts mode → IsValid (joined_module parts mode)
+  pub single : (parts : List Part) (mode : Mode) → CanBeJoined parts mode → IsSingle (joined_module parts mode)
+  pub sizes : (parts : List Part) (mode : Mode) → CanBeJoined parts mode → IsBounded (joined_module parts mode)
+  pub in_range : (parts : List Part) (mode : Mode) → Every (λ (p : Part). InRange p.«module») parts → IsValid (joined_module parts mode) → IsSingle (joined_module parts mode) → IsBounded (joined_module parts mode)
+      → InRange (joined_module parts mode)
+
+sound_at : (P : Module → Type 0) → ((p : Part) → IsSound p → P p.«module») → (parts : List Part) → Every IsSound parts → (n : ℕ) (m : Module) → module_at parts n ≡ Some m → P m
+sound_at P f [] h n m e = absurd (cc)
+sound_at P f (p ∷ parts) h zero m e = let same : p.«module» ≡ m = cc in subst P same (f p h.0)
+sound_at P f (p ∷ parts) h (suc n) m e = sound_at P f parts h.1 n m e
+
+-- parts that are joined have no fault, and this is the joined module
+joins_to : (name : Option Text) (which : Option Which) (m tree : Module) → outcome name which m ≡ Ok tree → (name ≡ None) × (which ≡ None) × (m ≡ tree)
+joins_to (Some name) which m tree e = absurd (cc)
+joins_to None (Some which) m tree e = absurd (cc)
+joins_to None None m tree e = let same : m ≡ tree = cc in (refl, refl, same)
+
+merged_is_sound : Respelled → (parts : List Part) (mode : Mode) (tree : Module) → Every IsSound parts → Every (λ (p : Part). InRange p.«module») parts → AreMerged parts mode tree → IsAccepted tree × InRange tree
+merged_is_sound k parts mode tree sound ranged is =
+    let joins = joins_to (repeated_name parts mode) (over_limit (joined_module parts mode)) (joined_module parts mode) tree is.1 in
+    let can : CanBeJoined parts mode = record {
+      valid = sound_at IsValid (λ p h. h.0) parts sound;
+      bounded = sound_at IsBounded (λ p h. h.1) parts sound;
+      linked = is.0;
+      names = joins.0;
+      sizes = joins.1;
+    } in
+    let valid = k.valid parts mode can in
+    let single = k.single parts mode can in
+    let P : Module → Type 0 = λ m. IsAccepted m × InRange m in
+    subst P joins.2 (record { valid = valid; single = single }, k.in_range parts mode ranged valid single (k.sizes parts mode can))
 
 -- what a job that is done keeps
 abbrev pub JobKeeps : List Text → Contents → Job → Type 0
@@ -36,14 +80,26 @@ DecisionKeeps task before (Refused text) = Unit {0}
 written_there : (files : Contents) (name bytes : Text) → get (insert files name bytes) name ≡ Some bytes
 written_there files name bytes = get-insert nat_list_cmp_total files name bytes name ∙ ap (λ b. cond b (Some bytes) (get files name)) ((eq_by_cmp_equiv nat_list_cmp_total).refl name)
 
--- the bytes of the one file that was gathered
-bytes_of_one : (b : Bool) (name all file bytes : Text) → cond b (TooLong name) (Whole ((name, all) ∷ [])) ≡ Whole ((file, bytes) ∷ []) → all ≡ bytes
-bytes_of_one true name all file bytes e = absurd (cc)
-bytes_of_one false name all file bytes e = let pair : ◌≡◌ {A = Entry} (name, all) (file, bytes) = cc in ap (λ p. p.1) pair
+-- what was gathered of a first name, and the rest
+abbrev pub IsFirstFile : Text → Option Text → (ℕ → Gathered) → List Entry → Type 0
+IsFirstFile name held rest files = (bytes : Text) × (n : ℕ) × (more : List Entry) × (held ≡ Some bytes) × (rest n ≡ Whole more) × (files ≡ (name, bytes) ∷ more)
 
-one_gathered : (held : Option Text) (before : Contents) (name file bytes : Text) → add_file name most_input held (gathered [] before) ≡ Whole ((file, bytes) ∷ []) → held ≡ Some bytes
-one_gathered None before name file bytes e = absurd (cc)
-one_gathered (Some all) before name file bytes e = ap Some (bytes_of_one (ltb most_input (length all)) name all file bytes e)
+whole_is : (xs ys : List Entry) → Whole xs ≡ Whole ys → xs ≡ ys
+whole_is xs ys e = cc
+
+first_of_whole : (name bytes : Text) (n : ℕ) (rest : ℕ → Gathered) (g : Gathered) (files : List Entry) → g ≡ rest n → add_first (name, bytes) g ≡ Whole files → IsFirstFile name (Some bytes) rest files
+first_of_whole name bytes n rest (Whole more) files is e = (bytes, n, more, refl, sym is, sym (whole_is ((name, bytes) ∷ more) files e))
+first_of_whole name bytes n rest (Lacks lacking) files is e = absurd (cc)
+first_of_whole name bytes n rest (TooLong long) files is e = absurd (cc)
+
+short_enough : (b : Bool) (name : Text) (g : Gathered) (files : List Entry) → cond b (TooLong name) g ≡ Whole files → g ≡ Whole files
+short_enough true name g files e = absurd (cc)
+short_enough false name g files e = e
+
+first_file : (name : Text) (left : ℕ) (held : Option Text) (rest : ℕ → Gathered) (files : List Entry) → add_file name left held rest ≡ Whole files → IsFirstFile name held rest files
+first_file name left None rest files e = absurd (cc)
+first_file name left (Some bytes) rest files e =
+    first_of_whole name bytes (left - length bytes) rest (rest (left - length bytes)) files refl (short_enough (ltb left (length bytes)) name (add_first (name, bytes) (rest (left - length bytes))) files e)
 
 -- what is loaded is read and accepted
 loaded_is : (file bytes : Text) (r : Result Module Text) → Loads file bytes r → IfOk r (λ tree. IsRead bytes tree × IsAccepted tree)
@@ -51,25 +107,67 @@ loaded_is file bytes r (loaded tree h accepted) = (h, accepted)
 loaded_is file bytes r (faulty fault text e told) = tt
 loaded_is file bytes r (invalid tree item h first) = tt
 
-holds_plain : Respelled → (bytes : Text) (tree : Module) → Spells bytes tree false → length (plain tree) ≤ most_output → Spells (plain tree) tree false
-holds_plain k bytes tree h fits = k.plainly tree (k.ranges bytes tree h) (let short : length (plain tree) < 2 ^ 32 = omega arith in short)
+-- files that load hold the modules
+nothing_held : (before : Contents) (files : List Entry) (trees : List Module) → files ≡ [] → AllLoad files trees → HoldModules before [] trees
+nothing_held before [] [] e h = tt
+nothing_held before [] (tree ∷ trees) e h = absurd h
+nothing_held before (file ∷ files) trees e h = absurd (cc)
 
-merge_keeps : Respelled → (file name output : Text) (before : Contents) (inputs : List Entry) (job : Job) → gathered (file ∷ []) before most_input ≡ Whole inputs → Merges output inputs job
-    → DecisionKeeps (Merge file name output) before job
-merge_keeps k file name output before inputs job e (not_loaded _ bytes text h) = tt
-merge_keeps k file name output before inputs job e (too_large _ bytes tree h large) = tt
-merge_keeps k file name output before inputs job e (written part bytes tree h fits) =
-    let is = loaded_is part bytes (Ok tree) h in (
+hold_first : (before : Contents) (name : Text) (names : List Text) (files : List Entry) (trees : List Module) → IsFirstFile name (get before name) (gathered names before) files → AllLoad files trees
+    → ((n : ℕ) (more : List Entry) (trees : List Module) → gathered names before n ≡ Whole more → AllLoad more trees → HoldModules before names trees) → HoldModules before (name ∷ names) trees
+hold_first before name names files [] (bytes, n, more, held, rest, is) h later = let P : List Entry → Type 0 = λ l. AllLoad l [] in absurd (subst P is h)
+hold_first before name names files (tree ∷ trees) (bytes, n, more, held, rest, is) h later =
+    let P : List Entry → Type 0 = λ l. AllLoad l (tree ∷ trees) in
+    let loads : Loads name bytes (Ok tree) × AllLoad more trees = subst P is h in
+    ((bytes, held, (loaded_is name bytes (Ok tree) loads.0).0.spelled), later n more trees rest loads.1)
+
+pub files_hold : (before : Contents) (names : List Text) (most : ℕ) (files : List Entry) (trees : List Module) → gathered names before most ≡ Whole files → AllLoad files trees → HoldModules before names trees
+files_hold before [] most files trees e h = nothing_held before files trees (sym (whole_is [] files e)) h
+files_hold before (name ∷ names) most files trees e h =
+    hold_first before name names files trees (first_file name most (get before name) (gathered names before) files e) h (λ n more trees e h. files_hold before names n more trees e h)
+
+-- the parts of a merge are sound and in range
+loaded_sound : Respelled → (file bytes : Text) (tree : Module) (name : Option Text) → Loads file bytes (Ok tree) → IsSound (record { name = name; «module» = tree }) × InRange tree
+loaded_sound k file bytes tree name h =
+    let is = loaded_is file bytes (Ok tree) h in
+    ((is.1.valid, k.bounded bytes tree is.0.spelled is.0.within), k.ranges bytes tree is.0.spelled)
+
+parts_sound : Respelled → (sources : List Source) (files : List Entry) (trees : List Module) → AllLoad files trees → Every IsSound (parts_of sources trees)
+parts_sound k [] files trees h = tt
+parts_sound k (s ∷ sources) files [] h = tt
+parts_sound k (s ∷ sources) [] (tree ∷ trees) h = absurd h
+parts_sound k (s ∷ sources) (file ∷ files) (tree ∷ trees) h = ((loaded_sound k file.0 file.1 tree (Some s.name) h.0).0, parts_sound k sources files trees h.1)
+
+parts_in_range : Respelled → (sources : List Source) (files : List Entry) (trees : List Module) → AllLoad files trees → Every (λ (p : Part). InRange p.«module») (parts_of sources trees)
+parts_in_range k [] files trees h = tt
+parts_in_range k (s ∷ sources) files [] h = tt
+parts_in_range k (s ∷ sources) [] (tree ∷ trees) h = absurd h
+parts_in_range k (s ∷ sources) (file ∷ files) (tree ∷ trees) h = ((loaded_sound k file.0 file.1 tree (Some s.name) h.0).1, parts_in_range k sources files trees h.1)
+
+written_keeps : Respelled → (sources : List Source) (output : Text) (mode : Mode) (before : Contents) (files : List Entry) (trees : List Module) (tree : Module) (job : Job) → gathered (map (λ s. s.file) sources) before most_input ≡ Whole files → AllLoad files trees → AreMerged (parts_of sources trees) mode tree → Writes output tree job → DecisionKeeps (Merge sources output mode) before job
+written_keeps k sources output mode before files trees tree job e loads is (too_large large) = tt
+written_keeps k sources output mode before files trees tree job e loads is (written fits) =
+    let sound = merged_is_sound k (parts_of sources trees) mode tree (parts_sound k sources files trees loads) (parts_in_range k sources files trees loads) is in
+    let short : length (plain tree) < 2 ^ 32 = omega arith in (
+      trees,
       tree,
-      (bytes, one_gathered (get before file) before file part bytes e, is.0.spelled),
-      (plain tree, written_there before output (plain tree), holds_plain k bytes tree is.0.spelled fits),
-      is.1,
+      files_hold before (map (λ s. s.file) sources) most_input files trees e loads,
+      is,
+      (plain tree, written_there before output (plain tree), k.plainly tree sound.1 short),
+      sound.0,
     )
 
+merge_keeps : Respelled → (sources : List Source) (output : Text) (mode : Mode) (before : Contents) (files : List Entry) (job : Job) → gathered (map (λ s. s.file) sources) before most_input ≡ Whole files → Merges sources output mode files job → DecisionKeeps (Merge sources output mode) before job
+merge_keeps k sources output mode before files job e (not_loaded text h) = tt
+merge_keeps k sources output mode before files job e (not_linked trees fault text loads found says) = tt
+merge_keeps k sources output mode before files job e (not_joined trees fault text loads linked found says) = tt
+merge_keeps k sources output mode before files job e (merged trees tree _ loads is writes) = written_keeps k sources output mode before files trees tree job e loads is writes
+
 task_keeps : Respelled → (task : Task) (before : Contents) (job : Job) → TaskJob task before job → DecisionKeeps task before job
-task_keeps k task before job (missing name e) = tt
-task_keeps k task before job (too_long name e) = tt
-task_keeps k (Merge file name output) before job (decided inputs _ e d) = merge_keeps k file name output before inputs job e d
+task_keeps k task before job (not_begun text e) = tt
+task_keeps k task before job (missing name begun e) = tt
+task_keeps k task before job (too_long name begun e) = tt
+task_keeps k (Merge sources output mode) before job (decided files _ begun e d) = merge_keeps k sources output mode before files job e d
 
 words_keep : (words : List Text) (task : Task) (before : Contents) (job : Job) → task_of words ≡ Some task → DecisionKeeps task before job → JobKeeps words before job
 words_keep words task before (Done writes lines) e h = (task, e, h)

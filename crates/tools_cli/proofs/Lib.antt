@@ -6,3 +6,7 @@ pub mod Deciding
 pub mod Determined
 pub mod FirstItems
 pub mod Kept
+pub mod Lines
+pub mod Apart
+pub mod Limits
+pub mod FewInAll

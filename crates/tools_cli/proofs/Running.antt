@@ -1,12 +1,12 @@
 -- From the parts of a run to its whole.
-use Rattle.std.proofs.Common.{◌≡◌, ◌∙◌, sym, refl, ap, subst, ℕ, ◌≤◌, List, [], Option, Some, None, IfSome, Contains, OnOk, Result, Ok, Err, string_bytes, inl, inr, ◌⊎◌}
+use Rattle.std.proofs.Common.{◌≡◌, ◌∙◌, sym, refl, ap, subst, ℕ, ◌≤◌, List, [], ◌∷◌, Option, Some, None, IfSome, Contains, OnOk, Result, Ok, Err, string_bytes, inl, inr, ◌⊎◌}
 use Rattle.std.specs.Option.{option_map_or}
 use Rattle.tool_io.specs.Outside.{Contents, Becomes, AppendsPrefix, Rose}
 use Rattle.tool_io.proofs.Steps.{rose_earlier, becomes_itself, becomes_weaker, becomes_same}
 use Rattle.tools_cli.specs.Words.{Text, Task, task_of, inputs_of, outputs_of}
 use Rattle.tools_cli.specs.Effects.{Entry, made, IsCut, written_names}
-use Rattle.tools_cli.specs.Job.{Job, Usage, Refused, Done, Whole, TooLong, gathered, most_input, Decides, TaskJob, too_long, decided, HasJob, no_task, asked}
-use Rattle.tools_cli.specs.Stop.{IsLine, usage, fault_line, invalid_line, output_line, cannot_read_line, cannot_write_line, cannot_print_line, no_memory_line, no_memory, stop_line, line_of, refusal_text, Says, Reports}
+use Rattle.tools_cli.specs.Job.{Job, Usage, Refused, Done, Whole, TooLong, gathered, most_input, Decides, TaskJob, refused_before, not_begun, too_long, decided, HasJob, no_task, asked}
+use Rattle.tools_cli.specs.Stop.{IsLine, usage, fault_line, invalid_line, parts_line, link_line, join_line, output_line, unlinked_text, cannot_read_line, cannot_write_line, cannot_print_line, no_memory_line, no_memory, stop_line, line_of, refusal_text, Says, Reports}
 use Rattle.tools_cli.specs.Causes.{FailsAtItsTurn, StopsGathering, StopsDeciding, StopsPreparing, StopsFinishing, AreOutputs, AllWritten, PrintsAfter}
 use Rattle.tools_cli.specs.Run.{IsUsage, Outside, StopsWork, ChangesByTheJob, PrintsForTheJob, EndsDone, Gains, IsSame, HasOutsideCause, HasStatus, SomeRose}
 use Rattle.tools_cli.specs.declared.stop.Status.{Status}
@@ -17,35 +17,44 @@ use Rattle.tools_cli.specs.Texts.{over_limit}
 use Rattle.wasm_tree.specs.declared.which.Which.TheVariants.{InputBytes}
 use Rattle.tools_cli.specs.declared.refusal.Refusal.{Refusal}
 use Rattle.tools_cli.specs.declared.refusal.Refusal.TheVariants as refusal
+use Rattle.tools_cli.specs.declared.refusal.Unlinked.{Unlinked}
+use Rattle.tools_cli.specs.declared.refusal.Unlinked.TheVariants as unlinked
+use Rattle.merge_terms.specs.declared.faults.LinkFault.TheVariants as link
+use Rattle.merge_terms.specs.declared.faults.JoinFault.TheVariants as join
 use Rattle.wasm_format.specs.declared.fault.ReadFault.TheVariants as fault
 use Rattle.tools_cli.proofs.Pieces.{prefix_none}
 
 -- a task's job from the contents of its inputs
-pub decided_at : (held : Option Contents) (t : Task) (inputs : List Entry) (job : Job) → IfSome held (λ a. gathered (inputs_of t) a most_input ≡ Whole inputs) → Decides t inputs job → IfSome held (λ a. TaskJob t a job)
-decided_at None t inputs job g d = tt
-decided_at (Some a) t inputs job g d = decided inputs job g d
+pub decided_at : (held : Option Contents) (t : Task) (inputs : List Entry) (job : Job) → refused_before t ≡ None → IfSome held (λ a. gathered (inputs_of t) a most_input ≡ Whole inputs) → Decides t inputs job → IfSome held (λ a. TaskJob t a job)
+decided_at None t inputs job begun g d = tt
+decided_at (Some a) t inputs job begun g d = decided inputs job begun g d
 
 -- and from a file that is too long
-too_long_at : (held : Option Contents) (t : Task) (text : Text) → IfSome held (λ a. (name : Text) × (gathered (inputs_of t) a most_input ≡ TooLong name) × (text ≡ over_limit name InputBytes)) → IfSome held (λ a. TaskJob t a (Refused text))
-too_long_at None t text h = tt
-too_long_at (Some a) t text (name, g, e) = let P : Text → Type 0 = λ x. TaskJob t a (Refused x) in subst P (sym e) (too_long name g)
+too_long_at : (held : Option Contents) (t : Task) (text : Text) → refused_before t ≡ None → IfSome held (λ a. (name : Text) × (gathered (inputs_of t) a most_input ≡ TooLong name) × (text ≡ over_limit name InputBytes)) → IfSome held (λ a. TaskJob t a (Refused text))
+too_long_at None t text begun h = tt
+too_long_at (Some a) t text begun (name, g, e) = let P : Text → Type 0 = λ x. TaskJob t a (Refused x) in subst P (sym e) (too_long name begun g)
 
-pub preparing_from_deciding : (held : Option Contents) (before now : Text → ℕ) (t : Task) (inputs : List Entry) (s : Stop)
+-- and from a task that is refused at once
+pub not_begun_at : (held : Option Contents) (t : Task) (text : Text) → refused_before t ≡ Some text → IfSome held (λ a. TaskJob t a (Refused text))
+not_begun_at None t text e = tt
+not_begun_at (Some a) t text e = not_begun text e
+
+pub preparing_from_deciding : (held : Option Contents) (before now : Text → ℕ) (t : Task) (inputs : List Entry) (s : Stop) → refused_before t ≡ None
     → IfSome held (λ a. gathered (inputs_of t) a most_input ≡ Whole inputs) → StopsDeciding t inputs s → StopsPreparing held before now t s
-preparing_from_deciding held before now t inputs (stop.Refused refusal) g d = decided_at held t inputs (Refused (refusal_text refusal)) g d
-preparing_from_deciding held before now t inputs stop.NoMemory g d = tt
-preparing_from_deciding held before now t inputs (stop.Usage line) g d = absurd d
-preparing_from_deciding held before now t inputs (stop.CannotRead name) g d = absurd d
-preparing_from_deciding held before now t inputs (stop.CannotWrite name) g d = absurd d
-preparing_from_deciding held before now t inputs stop.CannotPrint g d = absurd d
+preparing_from_deciding held before now t inputs (stop.Refused refusal) begun g d = decided_at held t inputs (Refused (refusal_text refusal)) begun g d
+preparing_from_deciding held before now t inputs stop.NoMemory begun g d = tt
+preparing_from_deciding held before now t inputs (stop.Usage line) begun g d = absurd d
+preparing_from_deciding held before now t inputs (stop.CannotRead name) begun g d = absurd d
+preparing_from_deciding held before now t inputs (stop.CannotWrite name) begun g d = absurd d
+preparing_from_deciding held before now t inputs stop.CannotPrint begun g d = absurd d
 
-pub preparing_from_gathering : (held : Option Contents) (before now : Text → ℕ) (t : Task) (s : Stop) → StopsGathering held before now (inputs_of t) most_input s → StopsPreparing held before now t s
-preparing_from_gathering held before now t (stop.Refused refusal) h = too_long_at held t (refusal_text refusal) h
-preparing_from_gathering held before now t (stop.CannotRead name) h = h
-preparing_from_gathering held before now t stop.NoMemory h = tt
-preparing_from_gathering held before now t (stop.Usage line) h = absurd h
-preparing_from_gathering held before now t (stop.CannotWrite name) h = absurd h
-preparing_from_gathering held before now t stop.CannotPrint h = absurd h
+pub preparing_from_gathering : (held : Option Contents) (before now : Text → ℕ) (t : Task) (s : Stop) → refused_before t ≡ None → StopsGathering held before now (inputs_of t) most_input s → StopsPreparing held before now t s
+preparing_from_gathering held before now t (stop.Refused refusal) begun h = too_long_at held t (refusal_text refusal) begun h
+preparing_from_gathering held before now t (stop.CannotRead name) begun h = (begun, h)
+preparing_from_gathering held before now t stop.NoMemory begun h = tt
+preparing_from_gathering held before now t (stop.Usage line) begun h = absurd h
+preparing_from_gathering held before now t (stop.CannotWrite name) begun h = absurd h
+preparing_from_gathering held before now t stop.CannotPrint begun h = absurd h
 
 -- the inputs of a task, by their names
 pub gathered_for : (held : Option Contents) (t : Task) (names : List Text) (found inputs : List Entry) → names ≡ inputs_of t → inputs ≡ found
@@ -53,10 +62,10 @@ pub gathered_for : (held : Option Contents) (t : Task) (names : List Text) (foun
 gathered_for None t names found inputs named same h = tt
 gathered_for (Some a) t names found inputs named same h = ap (λ ns. gathered ns a most_input) (sym named) ∙ h ∙ ap Whole (sym same)
 
-pub preparing_from_names : (held : Option Contents) (before now : Text → ℕ) (t : Task) (names : List Text) (s : Stop) → names ≡ inputs_of t
+pub preparing_from_names : (held : Option Contents) (before now : Text → ℕ) (t : Task) (names : List Text) (s : Stop) → refused_before t ≡ None → names ≡ inputs_of t
     → StopsGathering held before now names most_input s → StopsPreparing held before now t s
-preparing_from_names held before now t names s named h =
-    preparing_from_gathering held before now t s (let P : List Text → Type 0 = λ ns. StopsGathering held before now ns most_input s in subst P named h)
+preparing_from_names held before now t names s begun named h =
+    preparing_from_gathering held before now t s begun (let P : List Text → Type 0 = λ ns. StopsGathering held before now ns most_input s in subst P named h)
 
 -- the job of the words from the job of their task
 job_at : (words : List Text) (t : Task) (held : Option Contents) (job : Job) → task_of words ≡ Some t → IfSome held (λ a. TaskJob t a job) → IfSome held (λ a. HasJob words a job)
@@ -126,19 +135,22 @@ finish_stops words t old new mid writes lines (stop.CannotRead name) e later don
 same_at : {A : Type 0} (x y : Option A) → y ≡ x → IsSame x y
 same_at x y e = becomes_same x y (λ a b. b ≡ a) e (λ a. refl)
 
-turn_at : (words : List Text) (t : Task) (held : Option Contents) (before now : Text → ℕ) (name : Text) → task_of words ≡ Some t
-    → FailsAtItsTurn held before now (inputs_of t) most_input name → FailsAtItsTurn held before now (option_map_or inputs_of (task_of words) []) most_input name
-turn_at words t held before now name e h = let P : Option Task → Type 0 = λ o. FailsAtItsTurn held before now (option_map_or inputs_of o []) most_input name in subst P (sym e) h
-
 -- a stop before anything is written is one of the work
 pub prepare_stops : (words : List Text) (t : Task) (old new : Outside) (s : Stop) → task_of words ≡ Some t → new.files ≡ old.files → new.out ≡ old.out
     → StopsPreparing old.files old.reads new.reads t s → StopsWork words old new s
 prepare_stops words t old new (stop.Refused refusal) e files out h = (job_at words t old.files (Refused (refusal_text refusal)) e h, same_at _ _ files, same_at _ _ out)
-prepare_stops words t old new (stop.CannotRead name) e files out h = (turn_at words t old.files old.reads new.reads name.now e h, same_at _ _ files, same_at _ _ out)
+prepare_stops words t old new (stop.CannotRead name) e files out h = ((t, e, h.0, h.1), same_at _ _ files, same_at _ _ out)
 prepare_stops words t old new stop.NoMemory e files out h = tt
 prepare_stops words t old new (stop.Usage line) e files out h = absurd h
 prepare_stops words t old new (stop.CannotWrite name) e files out h = absurd h
 prepare_stops words t old new stop.CannotPrint e files out h = absurd h
+
+-- an import or a global that is not linked
+unlinked_line : (file : Text) (cause : Unlinked) (index : ℕ) → IsLine (stop_line (unlinked_text file cause index))
+unlinked_line file unlinked.Differs index = link_line (file ∷ []) _ (link.ImportMismatch 0 index) refl
+unlinked_line file unlinked.EndsNowhere index = link_line (file ∷ []) _ (link.ImportCycle 0 index) refl
+unlinked_line file unlinked.Clashes index = link_line (file ∷ []) _ (link.LimitsClash 0 index) refl
+unlinked_line file unlinked.HasNoValue index = link_line (file ∷ []) _ (link.GlobalCycle 0 index) refl
 
 -- what is told of a refusal is one of the lines
 refusal_line : (refusal : Refusal) → IsLine (stop_line (refusal_text refusal))
@@ -149,6 +161,10 @@ refusal_line (refusal.UnsupportedSection file section) = fault_line file.now _ (
 refusal_line (refusal.UnsupportedFunction file func) = fault_line file.now _ (fault.Unsupported 0 (Some func.number)) refl
 refusal_line (refusal.Limit file which) = fault_line file.now _ (fault.Limit which) refl
 refusal_line (refusal.InvalidItem file kind index) = invalid_line file.now (record { kind = kind; index = index.number })
+refusal_line refusal.TooManyParts = parts_line
+refusal_line (refusal.NotLinked file cause index) = unlinked_line file.now cause index.number
+refusal_line refusal.MoreMemories = link_line [] _ link.TooManyMemories refl
+refusal_line (refusal.ExportTwice name) = join_line _ (join.ExportConflict name) refl
 refusal_line (refusal.TooMany which) = output_line which
 
 -- what is told of a stop is one of the lines
@@ -192,7 +208,7 @@ pub complete_at_stop : (words : List Text) (old new : Outside) (s : Stop) (err e
     → SomeRose old new before now ⊎ ((result ≡ status.NoMemory) ⊎ IfSome old.files (λ a. HasStatus words a result))
 complete_at_stop words old new s err err' before now result h (inr (inl p)) = inl (inr (inr (inr p.1)))
 complete_at_stop words old new s err err' before now result h (inr (inr e)) = inr (inl e)
-complete_at_stop words old new (stop.CannotRead name) err err' before now result h (inl p) = inl (inl (name.now, h.0.1))
+complete_at_stop words old new (stop.CannotRead name) err err' before now result h (inl p) = inl (inl (name.now, h.0.3.1))
 complete_at_stop words old new (stop.CannotWrite name) err err' before now result h (inl p) = inl (inr (inl (string_bytes name, h.1)))
 complete_at_stop words old new stop.CannotPrint err err' before now result h (inl p) = inl (inr (inr (inl h.0)))
 complete_at_stop words old new (stop.Usage line) err err' before now result h (inl p) = inr (inr (usage_status words old.files result h.0 p.0))
@@ -209,4 +225,4 @@ usage_at_stop (stop.Refused refusal) err err' before now result h (inl p) = absu
 usage_at_stop (stop.CannotRead name) err err' before now result h (inl p) = absurd h
 usage_at_stop (stop.CannotWrite name) err err' before now result h (inl p) = absurd h
 usage_at_stop stop.CannotPrint err err' before now result h (inl p) = absurd h
-usage_at_stop stop.NoMemory err err' before now result h (inl p) = absurd h
+usage_at_stop stop.NoMemory err err' before now result h (inl p) = inr (inl p.0)

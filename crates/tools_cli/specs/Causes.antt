@@ -1,18 +1,25 @@
 -- When each stop of a command comes.
-use Rattle.std.specs.Prelude.{◌≡◌, ◌⊎◌, ℕ, ◌+◌, ◌-◌, ◌<◌, ltb, false, if◌then◌else◌, List, [], ◌∷◌, length, map, Contains, Option, Some, None, Err, IfSome, string_bytes}
+use Rattle.std.specs.Prelude.{◌≡◌, ◌⊎◌, ℕ, ◌+◌, ◌-◌, ◌<◌, ltb, false, if◌then◌else◌, List, [], ◌∷◌, length, map, Contains, Option, Some, None, Result, Ok, Err, IfSome, string_bytes}
 use Rattle.std.specs.FinMap.{get}
 use Rattle.tool_io.specs.Outside.{Contents, Rose, Becomes, AppendsPrefix}
-use Rattle.tools_cli.specs.Words.{Text, Task, inputs_of, outputs_of}
-use Rattle.tools_cli.specs.Job.{TooLong, gathered, Job, Decides, TaskJob, Loads, most_input, most_output}
-use Rattle.tools_cli.specs.Texts.{invalid_text, over_limit, output_over_limit}
+use Rattle.tools_cli.specs.Words.{Text, Source, Task, Merge, inputs_of, outputs_of}
+use Rattle.tools_cli.specs.Job.{TooLong, gathered, Job, Decides, TaskJob, Loads, AllLoad, OneFails, AreMerged, parts_of, Writes, refused_before, most_input}
+use Rattle.tools_cli.specs.Texts.{invalid_text, link_text, join_text, over_limit}
 use Rattle.wasm_tree.specs.declared.module.Module.{Module}
-use Rattle.wasm_tree.specs.declared.which.Which.TheVariants.{InputBytes, OutputBytes}
+use Rattle.wasm_tree.specs.declared.which.Which.TheVariants.{InputBytes}
 use Rattle.wasm_valid.specs.declared.kinds.Invalid.{Invalid}
 use Rattle.wasm_valid.specs.First.{IsFirstInvalid}
-use Rattle.wasm_plain.specs.Plain.{plain}
+use Rattle.wasm_meaning.specs.Linking.{Part}
+use Rattle.export_names.specs.declared.mode.Mode.{Mode}
+use Rattle.merge_terms.specs.declared.faults.LinkFault.{LinkFault}
+use Rattle.merge_terms.specs.declared.faults.JoinFault.{JoinFault}
+use Rattle.merge_terms.specs.Faults.{link_fault}
+use Rattle.merge_terms.specs.Joined.{Joins}
 use Rattle.tools_cli.specs.Job as job
 use Rattle.tools_cli.specs.Effects.{Entry, made, written_names}
 use Rattle.tools_cli.specs.Stop.{refusal_text}
+use Rattle.std.specs.declared.alloc.AllocError.{AllocError}
+use Rattle.tools_cli.specs.declared.refusal.Refusal.{Refusal}
 use Rattle.tools_cli.specs.declared.stop.Stop.{Stop}
 use Rattle.tools_cli.specs.declared.stop.Stop.TheVariants.{Refused, CannotRead, CannotWrite, CannotPrint, NoMemory}
 
@@ -39,10 +46,6 @@ StopsGathering held before now names most (CannotRead file) = FailsAtItsTurn hel
 StopsGathering held before now names most NoMemory = Unit {0}
 StopsGathering held before now names most _ = ⊥
 
--- These are the inputs of the task, by their names.
-abbrev pub AreInputs : Task → List Entry → Type 0
-AreInputs task inputs = map (λ e. e.0) inputs ≡ inputs_of task
-
 -- How many bytes the inputs have together.
 abbrev pub total : List Entry → ℕ
 total [] = 0
@@ -54,17 +57,41 @@ StopsLoading file bytes (Refused refusal) = Loads file bytes (Err (refusal_text 
 StopsLoading file bytes NoMemory = Unit {0}
 StopsLoading file bytes _ = ⊥
 
+-- Why loading modules from files in order stops.
+abbrev pub StopsLoadingAll : List Entry → Stop → Type 0
+StopsLoadingAll files (Refused refusal) = OneFails files (refusal_text refusal)
+StopsLoadingAll files NoMemory = Unit {0}
+StopsLoadingAll files _ = ⊥
+
+-- Why merging the parts of these sources stops.
+abbrev pub StopsMerging : List Source → Mode → List Part → Stop → Type 0
+StopsMerging sources mode parts (Refused refusal) =
+    ((fault : LinkFault) × (link_fault parts ≡ Some fault) × (link_text (map (λ s. s.file) sources) fault ≡ Some (refusal_text refusal)))
+    ⊎ ((fault : JoinFault) × (link_fault parts ≡ None) × Joins parts mode (Err fault) × (join_text fault ≡ Some (refusal_text refusal)))
+StopsMerging sources mode parts NoMemory = Unit {0}
+StopsMerging sources mode parts _ = ⊥
+
 -- Why validating a tree stops.
 abbrev pub StopsValidating : Text → Module → Stop → Type 0
 StopsValidating file tree (Refused refusal) = (item : Invalid) × IsFirstInvalid tree false item × (refusal_text refusal ≡ invalid_text file item)
 StopsValidating file tree NoMemory = Unit {0}
 StopsValidating file tree _ = ⊥
 
--- Why encoding a tree stops.
-abbrev pub StopsEncoding : Module → Stop → Type 0
-StopsEncoding tree (Refused refusal) = (most_output < length (plain tree)) × (refusal_text refusal ≡ output_over_limit OutputBytes)
-StopsEncoding tree NoMemory = Unit {0}
-StopsEncoding tree _ = ⊥
+-- Why encoding a tree as the one output stops.
+abbrev pub StopsEncoding : Text → Module → Stop → Type 0
+StopsEncoding output tree (Refused refusal) = Writes output tree (job.Refused (refusal_text refusal))
+StopsEncoding output tree NoMemory = Unit {0}
+StopsEncoding output tree _ = ⊥
+
+-- A refusal as a stop, or want of memory for its text.
+abbrev pub IsRefusal : Result Refusal AllocError → Stop → Type 0
+IsRefusal (Ok refusal) (Refused told) = told ≡ refusal
+IsRefusal (Err e) NoMemory = Unit {0}
+IsRefusal _ _ = ⊥
+
+-- The files of a merge load, and this is the module that their parts are merged into.
+abbrev pub LoadAndMerge : Task → List Entry → Module → Type 0
+LoadAndMerge (Merge sources output mode) files tree = (trees : List Module) × AllLoad files trees × AreMerged (parts_of sources trees) mode tree
 
 -- Why deciding over the inputs stops.
 abbrev pub StopsDeciding : Task → List Entry → Stop → Type 0
@@ -75,7 +102,7 @@ StopsDeciding task inputs _ = ⊥
 -- Why reading the inputs of a task and deciding over them stops.
 abbrev pub StopsPreparing : Option Contents → (Text → ℕ) → (Text → ℕ) → Task → Stop → Type 0
 StopsPreparing held before now task (Refused refusal) = IfSome held (λ files. TaskJob task files (job.Refused (refusal_text refusal)))
-StopsPreparing held before now task (CannotRead file) = FailsAtItsTurn held before now (inputs_of task) most_input file.now
+StopsPreparing held before now task (CannotRead file) = (refused_before task ≡ None) × FailsAtItsTurn held before now (inputs_of task) most_input file.now
 StopsPreparing held before now task NoMemory = Unit {0}
 StopsPreparing held before now task _ = ⊥
 

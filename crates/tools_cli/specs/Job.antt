@@ -1,11 +1,17 @@
 -- What a command line comes to over the contents of the files.
-use Rattle.std.specs.Prelude.{◌≡◌, ℕ, ◌-◌, ◌<◌, ◌≤◌, ltb, if◌then◌else◌, false, List, [], ◌∷◌, length, Option, Some, None, Result, Ok, Err}
+use Rattle.std.specs.Prelude.{◌≡◌, ◌⊎◌, ℕ, ◌-◌, ◌<◌, ◌≤◌, ltb, if◌then◌else◌, false, List, [], ◌∷◌, length, map, Option, Some, None, Result, Ok, Err}
 use Rattle.std.specs.FinMap.{get}
 use Rattle.tool_io.specs.Outside.{Contents}
 use Rattle.wasm_bytes.specs.Reading.{IsBytes}
-use Rattle.tools_cli.specs.Words.{Text, Task, Merge, task_of, inputs_of}
+use Rattle.tools_cli.specs.Words.{Text, Source, Task, Merge, task_of, inputs_of}
+use Rattle.wasm_meaning.specs.Linking.{Part}
+use Rattle.export_names.specs.declared.mode.Mode.{Mode}
+use Rattle.merge_terms.specs.declared.faults.LinkFault.{LinkFault}
+use Rattle.merge_terms.specs.declared.faults.JoinFault.{JoinFault}
+use Rattle.merge_terms.specs.Faults.{link_fault}
+use Rattle.merge_terms.specs.Joined.{Joins}
 use Rattle.tools_cli.specs.Effects.{Entry}
-use Rattle.tools_cli.specs.Texts.{fault_text, invalid_text, over_limit, output_over_limit}
+use Rattle.tools_cli.specs.Texts.{fault_text, invalid_text, link_text, join_text, over_limit, parts_over_limit, output_over_limit}
 use Rattle.wasm_tree.specs.declared.module.Module.{Module}
 use Rattle.wasm_tree.specs.declared.which.Which.TheVariants.{InputBytes, OutputBytes}
 use Rattle.wasm_format.specs.declared.fault.ReadFault.{ReadFault}
@@ -15,6 +21,10 @@ use Rattle.wasm_valid.specs.declared.kinds.Invalid.{Invalid}
 use Rattle.wasm_valid.specs.Validity.{IsValid, IsSingle}
 use Rattle.wasm_valid.specs.First.{IsFirstInvalid}
 use Rattle.wasm_plain.specs.Plain.{plain}
+
+-- The most parts of a merge.
+abbrev pub most_parts : ℕ
+most_parts = 1000
 
 -- The most bytes that all input files of a command have together.
 abbrev pub most_input : ℕ
@@ -69,21 +79,54 @@ pub data Loads (file bytes : Text) : Result Module Text → Type 0 where
   faulty : (fault : ReadFault) (text : Text) → read_fault bytes false ≡ Some fault → fault_text file fault ≡ Some text → Loads file bytes (Err text)
   invalid : (tree : Module) (item : Invalid) → IsRead bytes tree → IsFirstInvalid tree false item → Loads file bytes (Err (invalid_text file item))
 
--- What a merge of one file into this output comes to.
-pub data Merges (output : Text) : List Entry → Job → Type 0 where
-  not_loaded : (file bytes text : Text) → Loads file bytes (Err text) → Merges output ((file, bytes) ∷ []) (Refused text)
-  too_large : (file bytes : Text) (tree : Module) → Loads file bytes (Ok tree) → most_output < length (plain tree) → Merges output ((file, bytes) ∷ []) (Refused (output_over_limit OutputBytes))
-  written : (file bytes : Text) (tree : Module) → Loads file bytes (Ok tree) → length (plain tree) ≤ most_output → Merges output ((file, bytes) ∷ []) (Done ((output, plain tree) ∷ []) [])
+-- All of the files load, as these trees in order.
+abbrev pub AllLoad : List Entry → List Module → Type 0
+AllLoad [] [] = Unit {0}
+AllLoad (file ∷ files) (tree ∷ trees) = Loads file.0 file.1 (Ok tree) × AllLoad files trees
+AllLoad _ _ = ⊥
+
+-- The first of the files that does not load is refused with this text.
+abbrev pub OneFails : List Entry → Text → Type 0
+OneFails [] text = ⊥
+OneFails (file ∷ files) text = Loads file.0 file.1 (Err text) ⊎ ((tree : Module) × Loads file.0 file.1 (Ok tree) × OneFails files text)
+
+-- What writing a tree as the one output comes to.
+pub data Writes (output : Text) (tree : Module) : Job → Type 0 where
+  too_large : most_output < length (plain tree) → Writes output tree (Refused (output_over_limit OutputBytes))
+  written : length (plain tree) ≤ most_output → Writes output tree (Done ((output, plain tree) ∷ []) [])
+
+-- The parts of a merge: these modules, under the names of the sources.
+abbrev pub parts_of : List Source → List Module → List Part
+parts_of (source ∷ sources) (tree ∷ trees) = record { name = Some source.name; «module» = tree } ∷ parts_of sources trees
+parts_of _ _ = []
+
+-- The parts link, and this module is what joining them gives.
+abbrev pub AreMerged : List Part → Mode → Module → Type 0
+AreMerged parts mode tree = (link_fault parts ≡ None) × Joins parts mode (Ok tree)
+
+-- What a merge of the files of these sources comes to.
+pub data Merges (sources : List Source) (output : Text) (mode : Mode) (files : List Entry) : Job → Type 0 where
+  not_loaded : (text : Text) → OneFails files text → Merges sources output mode files (Refused text)
+  not_linked : (trees : List Module) (fault : LinkFault) (text : Text) → AllLoad files trees → link_fault (parts_of sources trees) ≡ Some fault → link_text (map (λ s. s.file) sources) fault ≡ Some text
+      → Merges sources output mode files (Refused text)
+  not_joined : (trees : List Module) (fault : JoinFault) (text : Text) → AllLoad files trees → link_fault (parts_of sources trees) ≡ None → Joins (parts_of sources trees) mode (Err fault) → join_text fault ≡ Some text
+      → Merges sources output mode files (Refused text)
+  merged : (trees : List Module) (tree : Module) (job : Job) → AllLoad files trees → AreMerged (parts_of sources trees) mode tree → Writes output tree job → Merges sources output mode files job
 
 -- What a task's work on its input files comes to.
 abbrev pub Decides : Task → List Entry → Job → Type 0
-Decides (Merge file name output) = Merges output
+Decides (Merge sources output mode) = Merges sources output mode
 
--- What a task comes to: its files are read in order, and then it is decided over them.
+-- The text of a task that is refused before a file is read.
+abbrev pub refused_before : Task → Option Text
+refused_before (Merge sources output mode) = if ltb most_parts (length sources) then Some parts_over_limit else None
+
+-- What a task comes to: it may be refused at once; its files are read in order, and then it is decided over them.
 pub data TaskJob (task : Task) (files : Contents) : Job → Type 0 where
-  missing : (name : Text) → gathered (inputs_of task) files most_input ≡ Lacks name → TaskJob task files Missing
-  too_long : (name : Text) → gathered (inputs_of task) files most_input ≡ TooLong name → TaskJob task files (Refused (over_limit name InputBytes))
-  decided : (inputs : List Entry) (job : Job) → gathered (inputs_of task) files most_input ≡ Whole inputs → Decides task inputs job → TaskJob task files job
+  not_begun : (text : Text) → refused_before task ≡ Some text → TaskJob task files (Refused text)
+  missing : (name : Text) → refused_before task ≡ None → gathered (inputs_of task) files most_input ≡ Lacks name → TaskJob task files Missing
+  too_long : (name : Text) → refused_before task ≡ None → gathered (inputs_of task) files most_input ≡ TooLong name → TaskJob task files (Refused (over_limit name InputBytes))
+  decided : (inputs : List Entry) (job : Job) → refused_before task ≡ None → gathered (inputs_of task) files most_input ≡ Whole inputs → Decides task inputs job → TaskJob task files job
 
 -- The job of a command line.
 pub data HasJob (words : List Text) (files : Contents) : Job → Type 0 where

@@ -1,9 +1,9 @@
 -- What a command that is done has kept of the modules that it read.
-use Rattle.std.specs.Prelude.{◌≡◌, false, List, Option, Some}
+use Rattle.std.specs.Prelude.{◌≡◌, false, List, [], ◌∷◌, map, Option, Some}
 use Rattle.std.specs.FinMap.{get}
 use Rattle.tool_io.specs.Outside.{Contents}
 use Rattle.tools_cli.specs.Words.{Text, Task, Merge, task_of}
-use Rattle.tools_cli.specs.Job.{IsAccepted}
+use Rattle.tools_cli.specs.Job.{IsAccepted, parts_of, AreMerged}
 use Rattle.wasm_tree.specs.declared.module.Module.{Module}
 use Rattle.wasm_format.specs.Files.{Spells}
 
@@ -11,9 +11,16 @@ use Rattle.wasm_format.specs.Files.{Spells}
 abbrev pub HoldsModule : Contents → Text → Module → Type 0
 HoldsModule files name tree = (bytes : Text) × (get files name ≡ Some bytes) × Spells bytes tree false
 
--- A merge of one file: its output spells the very module that the file spelled before, and that module is valid.
+-- The files of these names spell these modules, in order.
+abbrev pub HoldModules : Contents → List Text → List Module → Type 0
+HoldModules files [] [] = Unit {0}
+HoldModules files (name ∷ names) (tree ∷ trees) = HoldsModule files name tree × HoldModules files names trees
+HoldModules files _ _ = ⊥
+
+-- A merge: its files spelled modules before, and its output spells the module that these parts are merged into, which is valid.
 abbrev pub TaskKeeps : Task → Contents → Contents → Type 0
-TaskKeeps (Merge file name output) before after = (tree : Module) × HoldsModule before file tree × HoldsModule after output tree × IsAccepted tree
+TaskKeeps (Merge sources output mode) before after =
+    (trees : List Module) × (tree : Module) × HoldModules before (map (λ s. s.file) sources) trees × AreMerged (parts_of sources trees) mode tree × HoldsModule after output tree × IsAccepted tree
 
 -- The words ask for a task, and it keeps what it read.
 abbrev pub Keeps : List Text → Contents → Contents → Type 0

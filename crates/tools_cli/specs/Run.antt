@@ -2,9 +2,9 @@
 use Rattle.std.specs.Prelude.{◌≡◌, ◌⊎◌, ℕ, List, [], ◌++◌, Option, Some, None, Result, Err, IfSome, Contains, string_bytes}
 use Rattle.std.specs.Option.{option_map_or}
 use Rattle.tool_io.specs.Outside.{Contents, Rose, Becomes, AppendsPrefix}
-use Rattle.tools_cli.specs.Words.{Text, task_of, inputs_of, outputs_of, usage_line}
+use Rattle.tools_cli.specs.Words.{Text, Task, task_of, inputs_of, outputs_of, usage_line}
 use Rattle.tools_cli.specs.Effects.{Entry, made, IsCut, written_names}
-use Rattle.tools_cli.specs.Job.{Job, Usage, Missing, Refused, Done, HasJob, most_input}
+use Rattle.tools_cli.specs.Job.{Job, Usage, Missing, Refused, Done, HasJob, refused_before, most_input}
 use Rattle.tools_cli.specs.Stop.{stop_line, refusal_text, cannot_read, cannot_write, cannot_print}
 use Rattle.tools_cli.specs.Causes.{FailsAtItsTurn}
 use Rattle.tools_cli.specs.declared.stop.Status.{Status}
@@ -12,10 +12,7 @@ use Rattle.tools_cli.specs.declared.stop.Status.TheVariants as status
 use Rattle.tools_cli.specs.declared.stop.Stop.{Stop}
 use Rattle.tools_cli.specs.declared.stop.Stop.TheVariants as stop
 
--- The files that a command line reads, and those that it may write.
-abbrev pub inputs_named : List Text → List Text
-inputs_named words = option_map_or inputs_of (task_of words) []
-
+-- The files that a command line may write.
 abbrev pub outputs_named : List Text → List Text
 outputs_named words = option_map_or outputs_of (task_of words) []
 
@@ -48,9 +45,10 @@ EndsDone words old new before after =
 abbrev pub EndsRefused : List Text → Contents → Option Text → Option Text → Type 0
 EndsRefused words old before after = (text : Text) × HasJob words old (Refused text) × Gains (stop_line text) before after
 
--- A file that the command reads could not be read, and its turn had come.
+-- A file that the command reads could not be read, and its turn had come; the task is not refused before any file is read.
 abbrev pub FailsToRead : List Text → Option Contents → (Text → ℕ) → (Text → ℕ) → Text → Type 0
-FailsToRead words held before now name = FailsAtItsTurn held before now (inputs_named words) most_input name
+FailsToRead words held before now name =
+    (task : Task) × (task_of words ≡ Some task) × (refused_before task ≡ None) × FailsAtItsTurn held before now (inputs_of task) most_input name
 
 -- A file that the command may write could not be written, and the job is done and writes it.
 abbrev pub FailsToWrite : List Text → Option Contents → (Text → ℕ) → (Text → ℕ) → Text → Type 0
@@ -80,9 +78,10 @@ pub record Outside : Type 0 where
   pub out : Option Text
   pub out_faults : ℕ
 
--- The work stops because the words ask for no task.
+-- The work stops because the words ask for no task, or for want of memory.
 abbrev pub IsUsage : Result (Unit {0}) Stop → Type 0
 IsUsage (Err (stop.Usage line)) = Unit {0}
+IsUsage (Err stop.NoMemory) = Unit {0}
 IsUsage _ = ⊥
 
 -- Why the work stops.

@@ -1,5 +1,5 @@
 -- The texts of refusals, without what stands before and behind them.
-use Rattle.std.specs.Prelude.{ℕ, ◌++◌, Option, Some, None, codes, decimal}
+use Rattle.std.specs.Prelude.{ℕ, ◌++◌, List, Option, Some, None, option_map, slice_get, codes, decimal}
 use Rattle.wasm_tree.specs.declared.which.Which.{Which}
 use Rattle.wasm_tree.specs.declared.which.Which.TheVariants as which
 use Rattle.wasm_format.specs.declared.fault.ReadFault.{ReadFault}
@@ -7,6 +7,12 @@ use Rattle.wasm_format.specs.declared.fault.ReadFault.TheVariants.{NotModule, Ma
 use Rattle.wasm_valid.specs.declared.kinds.ItemKind.{ItemKind}
 use Rattle.wasm_valid.specs.declared.kinds.ItemKind.TheVariants as kind
 use Rattle.wasm_valid.specs.declared.kinds.Invalid.{Invalid}
+use Rattle.merge_terms.specs.declared.faults.LinkFault.{LinkFault}
+use Rattle.merge_terms.specs.declared.faults.LinkFault.TheVariants.{ImportMismatch, ImportCycle, LimitsClash, TooManyMemories, GlobalCycle}
+use Rattle.merge_terms.specs.declared.faults.LinkFault.TheVariants as link
+use Rattle.merge_terms.specs.declared.faults.JoinFault.{JoinFault}
+use Rattle.merge_terms.specs.declared.faults.JoinFault.TheVariants.{ExportConflict, TooMany}
+use Rattle.merge_terms.specs.declared.faults.JoinFault.TheVariants as join
 use Rattle.tools_cli.specs.Words.{Text}
 
 -- The name of a limited quantity.
@@ -47,8 +53,29 @@ unsupported_function file func = file ++ (codes ": unsupported in function " ++ 
 abbrev pub over_limit : Text → Which → Text
 over_limit file which = file ++ (codes ": limit on " ++ which_text which)
 
+abbrev pub parts_over_limit : Text
+parts_over_limit = codes "limit on parts"
+
 abbrev pub output_over_limit : Which → Text
 output_over_limit which = codes "output exceeds the limit on " ++ which_text which
+
+abbrev pub import_differs : Text → ℕ → Text
+import_differs file import = file ++ (codes ": import " ++ (decimal import ++ codes " does not match"))
+
+abbrev pub import_ends_nowhere : Text → ℕ → Text
+import_ends_nowhere file import = file ++ (codes ": import " ++ (decimal import ++ codes " has no end"))
+
+abbrev pub import_limits_clash : Text → ℕ → Text
+import_limits_clash file import = file ++ (codes ": import " ++ (decimal import ++ codes " has limits that clash"))
+
+abbrev pub global_has_no_value : Text → ℕ → Text
+global_has_no_value file global = file ++ (codes ": global " ++ (decimal global ++ codes " has no value"))
+
+abbrev pub too_many_memories : Text
+too_many_memories = codes "more than one memory"
+
+abbrev pub export_twice : Text → Text
+export_twice name = codes "export " ++ (name ++ codes " stands twice")
 
 -- The text of a fault of a file. Want of memory is no fault of it.
 abbrev pub fault_text : Text → ReadFault → Option Text
@@ -77,3 +104,18 @@ kind_text kind.Body = codes "body "
 -- The text of the first item that does not hold.
 abbrev pub invalid_text : Text → Invalid → Text
 invalid_text file item = file ++ (codes ": invalid " ++ (kind_text item.kind ++ decimal item.index))
+
+-- The text of a fault of linking parts that come from these files. Want of memory is no fault of them.
+abbrev pub link_text : List Text → LinkFault → Option Text
+link_text files (ImportMismatch part import) = option_map (λ file. import_differs file import) (slice_get files part)
+link_text files (ImportCycle part import) = option_map (λ file. import_ends_nowhere file import) (slice_get files part)
+link_text files (LimitsClash part import) = option_map (λ file. import_limits_clash file import) (slice_get files part)
+link_text files TooManyMemories = Some too_many_memories
+link_text files (GlobalCycle part global) = option_map (λ file. global_has_no_value file global) (slice_get files part)
+link_text files link.NoMemory = None
+
+-- The text of a fault of joining parts.
+abbrev pub join_text : JoinFault → Option Text
+join_text (ExportConflict name) = Some (export_twice name)
+join_text (TooMany which) = Some (output_over_limit which)
+join_text join.NoMemory = None

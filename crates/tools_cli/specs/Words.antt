@@ -1,25 +1,127 @@
 -- The words of a command line, and the task that they ask for.
-use Rattle.std.specs.Prelude.{ℕ, Bool, false, not, ◌&&◌, ◌==◌, if◌then◌else◌, List, [], ◌∷◌, Option, Some, None, bytes_eq, codes}
+use Rattle.std.specs.Prelude.{ℕ, Bool, true, false, not, ◌&&◌, ◌||◌, ◌==◌, if◌then◌else◌, List, [], ◌∷◌, map, Option, Some, None, option_map, option_and_then, bytes_eq, codes}
+use Rattle.std.specs.List.{list_any}
+use Rattle.export_names.specs.declared.mode.Mode.{Mode}
+use Rattle.export_names.specs.declared.mode.Mode.TheVariants as mode
 
 -- A text or a file's content, as its bytes.
 abbrev pub Text : Type 0
 Text = List ℕ
 
+-- Where a part of a merge comes from: its file, and its name.
+pub record Source : Type 0 where
+  pub file : Text
+  pub name : Text
+
 -- What a command is to do.
 pub data Task : Type 0 where
-  -- merge the part of this file and name, and write the output
-  Merge : Text → Text → Text → Task
+  -- merge the parts of these sources, in order, and write the output; the mode says what becomes of an export whose name came before
+  Merge : List Source → Text → Mode → Task
+
+-- ---- one word ----
 
 -- A word that may stand for a value: not empty, and it does not begin with `-`.
 abbrev pub is_plain : Text → Bool
 is_plain [] = false
 is_plain (c ∷ _) = not (c == 45)
 
--- The words `FILE NAME -o OUT` of a merge.
+-- What stands behind a beginning, where a text begins so.
+abbrev pub behind : Text → Text → Option Text
+behind [] text = Some text
+behind (c ∷ beginning) [] = None
+behind (c ∷ beginning) (d ∷ text) = if c == d then behind beginning text else None
+
+-- What the words of a merge say, one after another: the output, the mode, or a plain word.
+pub data Said : Type 0 where
+  Output : Text → Said
+  Conflicts : Mode → Said
+  Plain : Text → Said
+
+-- An option whose value is the next word.
+abbrev pub takes_value : Text → Bool
+takes_value word = bytes_eq word (codes "-o") || bytes_eq word (codes "--output")
+
+-- The value of an option in the word of the option itself. It may begin with `-`.
+abbrev pub joined_value : Text → Option Said
+joined_value [] = None
+joined_value (c ∷ value) = Some (Output (c ∷ value))
+
+-- The value of an option as a word of its own.
+abbrev pub own_value : Text → Option Said
+own_value word = if is_plain word then Some (Output word) else None
+
+-- What any other word says.
+abbrev pub other_said : Text → Option Said
+other_said word =
+    if is_plain word then Some (Plain word)
+    else (if bytes_eq word (codes "--rename-export-conflicts") then Some (Conflicts mode.Rename)
+    else (if bytes_eq word (codes "--skip-export-conflicts") then Some (Conflicts mode.Skip)
+    else option_and_then joined_value (behind (codes "--output=") word)))
+
+-- ---- all words ----
+
+abbrev pub add_said : Option Said → Option (List Said) → Option (List Said)
+add_said (Some first) (Some rest) = Some (first ∷ rest)
+add_said _ _ = None
+
+-- What words say, in order; none where one of them says nothing.
+abbrev pub all_said : List Text → Option (List Said)
+all_said [] = Some []
+all_said (word ∷ []) = if takes_value word then None else add_said (other_said word) (Some [])
+all_said (word ∷ next ∷ rest) = if takes_value word then add_said (own_value next) (all_said rest) else add_said (other_said word) (all_said (next ∷ rest))
+
+-- What is said, sorted: the outputs, the modes and the plain words, each in order.
+pub record Line : Type 0 where
+  pub outputs : List Text
+  pub modes : List Mode
+  pub plain : List Text
+
+abbrev pub add_to_line : Said → Line → Line
+add_to_line (Output output) line = record line { outputs = output ∷ line.outputs }
+add_to_line (Conflicts mode) line = record line { modes = mode ∷ line.modes }
+add_to_line (Plain word) line = record line { plain = word ∷ line.plain }
+
+abbrev pub line_of : List Said → Line
+line_of [] = record { outputs = []; modes = []; plain = [] }
+line_of (said ∷ rest) = add_to_line said (line_of rest)
+
+-- Plain words as pairs FILE NAME; none where a file has no name.
+abbrev pub sources_of : List Text → Option (List Source)
+sources_of [] = Some []
+sources_of (file ∷ []) = None
+sources_of (file ∷ name ∷ rest) = option_map (λ sources. record { file = file; name = name } ∷ sources) (sources_of rest)
+
+-- No two of the names are equal.
+abbrev pub are_apart : List Text → Bool
+are_apart [] = true
+are_apart (name ∷ names) = not (list_any (bytes_eq name) names) && are_apart names
+
+-- At least one source, with names apart.
+abbrev pub some_apart : List Source → Option (List Source)
+some_apart [] = None
+some_apart (source ∷ sources) = if are_apart (map (λ s. s.name) (source ∷ sources)) then Some (source ∷ sources) else None
+
+-- Exactly one output.
+abbrev pub one_output : List Text → Option Text
+one_output (output ∷ []) = Some output
+one_output _ = None
+
+-- At most one mode.
+abbrev pub one_mode : List Mode → Option Mode
+one_mode [] = Some mode.Refuse
+one_mode (mode ∷ []) = Some mode
+one_mode _ = None
+
+abbrev pub make_merge : Option (List Source) → Option Text → Option Mode → Option Task
+make_merge (Some sources) (Some output) (Some mode) = Some (Merge sources output mode)
+make_merge _ _ _ = None
+
+abbrev pub task_of_line : Line → Option Task
+task_of_line line = make_merge (option_and_then some_apart (sources_of line.plain)) (one_output line.outputs) (one_mode line.modes)
+
+-- The task of the words after `merge`.
 abbrev pub merge_of : List Text → Option Task
-merge_of (file ∷ name ∷ option ∷ output ∷ []) =
-    if is_plain file && (is_plain name && (bytes_eq option (codes "-o") && is_plain output)) then Some (Merge file name output) else None
-merge_of _ = None
+merge_of words = option_and_then (λ said. task_of_line (line_of said)) (all_said words)
 
 -- The task of a command line, or none.
 unfoldable pub task_of : List Text → Option Task
@@ -28,11 +130,11 @@ task_of (word ∷ rest) = if bytes_eq word (codes "merge") then merge_of rest el
 
 -- The files that a task reads, in order.
 abbrev pub inputs_of : Task → List Text
-inputs_of (Merge file name output) = file ∷ []
+inputs_of (Merge sources output mode) = map (λ s. s.file) sources
 
 -- The files that a task may write.
 abbrev pub outputs_of : Task → List Text
-outputs_of (Merge file name output) = output ∷ []
+outputs_of (Merge sources output mode) = output ∷ []
 
 -- The line that is put where a command line asks for no task.
 abbrev pub all_usage : Text

@@ -5,8 +5,10 @@ ghost use Rattle.tools_cli.specs.Effects.{Entry, made};
 ghost use Rattle.tools_cli.specs.Job.{Done, Job, HasJob, HoldBytes};
 ghost use Rattle.tools_cli.specs.Kept.{Keeps};
 
+use merge_ranges::merged_modules_are_in_range;
+use merge_validity::merged_modules_are_valid;
 use plain_law::{plain_spells, spelled_trees_are_in_range};
-use wasm_format::{no_fault_where_spelled, one_tree};
+use wasm_format::{no_fault_where_spelled, one_tree, spelled_trees_are_bounded};
 
 /// A command line has at most one job over some files.
 pub fn jobs_are_determined()
@@ -16,10 +18,13 @@ pub fn jobs_are_determined()
     no_fault_where_spelled();
 }
 
-/// A job that is done keeps the module that it read: the output spells the same module, and it is valid.
-pub fn done_jobs_keep_the_module()
+/// A job that is done keeps the modules that it read: the output spells the module that they are merged into, and it is valid.
+pub fn done_jobs_keep_the_modules()
     ensures { (words : List (List ℕ)) (before : Contents) (writes : List Entry) (lines : List ℕ) → HasJob words before (Done writes lines) → Keeps words before (made writes before) }
 {
     plain_spells();
     spelled_trees_are_in_range();
+    spelled_trees_are_bounded();
+    merged_modules_are_valid();
+    merged_modules_are_in_range();
 }

@@ -1,13 +1,30 @@
 // What is wrong with the input, and the text of it.
-ghost use Rattle.std.specs.Prelude.{◌≡◌, ◌++◌, Some, IfOk, flat_map, codes};
-ghost use Rattle.tools_cli.specs.Texts.{which_text, fault_text, kind_text, invalid_text};
-ghost use Rattle.tools_cli.specs.Stop.{refusal_text, stop_line};
+ghost use Rattle.std.specs.Prelude.{◌≡◌, ◌++◌, Some, IfOk, flat_map, option_map, slice_get, codes};
+ghost use Rattle.tools_cli.specs.Texts.{which_text, fault_text, kind_text, invalid_text, link_text, join_text};
+ghost use Rattle.tools_cli.specs.Stop.{unlinked_text, before_unlinked, behind_unlinked, refusal_text, stop_line};
+ghost use Rattle.tools_cli.specs.Command.{source_files};
 
 use crate::digits::Digits;
+use crate::merge::Source;
+use merge_terms::{JoinFault, LinkFault};
 use std::alloc::{AllocError, Global};
+use wasm_bytes::Name;
 use wasm_read::ReadFault;
 use wasm_tree::Which;
 use wasm_valid::{Invalid, ItemKind};
+
+/// Why an import or a global is not linked.
+#[derive(Clone, Copy, Debug)]
+pub(crate) enum Unlinked {
+    /// The import does not match its end.
+    Differs,
+    /// Following the import never ends.
+    EndsNowhere,
+    /// The imports that end there ask for limits that no table or memory has.
+    Clashes,
+    /// Following the value of the global never ends.
+    HasNoValue,
+}
 
 /// What is wrong with the input.
 #[derive(Drop)]
@@ -39,6 +56,16 @@ pub(crate) enum Refusal<'a> {
         file: &'a str,
         kind: ItemKind,
         index: Digits,
+    },
+    TooManyParts,
+    NotLinked {
+        file: &'a str,
+        cause: Unlinked,
+        index: Digits,
+    },
+    MoreMemories,
+    ExportTwice {
+        name: Name,
     },
     TooMany {
         which: Which,
@@ -100,6 +127,63 @@ impl<'a> Refusal<'a> {
     }
 }
 
+// The refusal of one import or global of a part.
+fn not_linked<'a>(
+    alloc: Global,
+    sources: &[Source<'a>],
+    part: u32,
+    cause: Unlinked,
+    index: u32,
+) -> Result<Refusal<'a>, AllocError>
+    ensures { IfOk result (λ refusal. option_map (λ file. unlinked_text file cause index) (slice_get (source_files sources.now) part) ≡ Some (refusal_text refusal)) }
+{
+    let Some(source) = sources.get(part as usize) else {
+        return Err(AllocError);
+    };
+    Ok(Refusal::NotLinked {
+        file: source.file,
+        cause,
+        index: Digits::new(alloc, index)?,
+    })
+}
+
+/// The refusal of parts that do not link. Want of memory is the error, also as a fault.
+pub(crate) fn refuse_link<'a>(
+    alloc: Global,
+    sources: &[Source<'a>],
+    fault: LinkFault,
+) -> Result<Refusal<'a>, AllocError>
+    ensures { IfOk result (λ refusal. link_text (source_files sources.now) fault ≡ Some (refusal_text refusal)) }
+{
+    match fault {
+        LinkFault::ImportMismatch { part, import } => {
+            not_linked(alloc, sources, part, Unlinked::Differs, import)
+        }
+        LinkFault::ImportCycle { part, import } => {
+            not_linked(alloc, sources, part, Unlinked::EndsNowhere, import)
+        }
+        LinkFault::LimitsClash { part, import } => {
+            not_linked(alloc, sources, part, Unlinked::Clashes, import)
+        }
+        LinkFault::TooManyMemories => Ok(Refusal::MoreMemories),
+        LinkFault::GlobalCycle { part, global } => {
+            not_linked(alloc, sources, part, Unlinked::HasNoValue, global)
+        }
+        LinkFault::NoMemory => Err(AllocError),
+    }
+}
+
+/// The refusal of parts that are not joined. Want of memory is the error, as a fault.
+pub(crate) fn refuse_join<'a>(fault: JoinFault) -> Result<Refusal<'a>, AllocError>
+    ensures { IfOk result (λ refusal. join_text fault ≡ Some (refusal_text refusal)) }
+{
+    match fault {
+        JoinFault::ExportConflict { name } => Ok(Refusal::ExportTwice { name }),
+        JoinFault::TooMany { which } => Ok(Refusal::TooMany { which }),
+        JoinFault::NoMemory => Err(AllocError),
+    }
+}
+
 // The name of a limited quantity.
 fn which_name<'a>(which: Which) -> &'a str
     ensures { result.now ≡ which_text which }
@@ -141,6 +225,28 @@ fn invalid_kind<'a>(kind: ItemKind) -> &'a str
         ItemKind::Elem => ": invalid elem ",
         ItemKind::Segment => ": invalid data ",
         ItemKind::Body => ": invalid body ",
+    }
+}
+
+// What stands before the number of an import or a global that is not linked.
+fn before_unlinked<'a>(cause: Unlinked) -> &'a str
+    ensures { result.now ≡ before_unlinked cause }
+{
+    match cause {
+        Unlinked::Differs | Unlinked::EndsNowhere | Unlinked::Clashes => ": import ",
+        Unlinked::HasNoValue => ": global ",
+    }
+}
+
+// And what stands behind it, to the end of the line.
+fn behind_unlinked<'a>(cause: Unlinked) -> &'a str
+    ensures { result.now ≡ behind_unlinked cause ++ codes "\n" }
+{
+    match cause {
+        Unlinked::Differs => " does not match\n",
+        Unlinked::EndsNowhere => " has no end\n",
+        Unlinked::Clashes => " has limits that clash\n",
+        Unlinked::HasNoValue => " has no value\n",
     }
 }
 
@@ -192,6 +298,18 @@ pub(crate) fn refusal_pieces<'a>(refusal: &'a Refusal<'a>) -> [&'a str; 5]
             index.as_str(),
             "\n",
         ],
+        Refusal::TooManyParts => ["binkit: ", "limit on parts", "", "", "\n"],
+        Refusal::NotLinked { file, cause, index } => [
+            "binkit: ",
+            file,
+            before_unlinked(*cause),
+            index.as_str(),
+            behind_unlinked(*cause),
+        ],
+        Refusal::MoreMemories => ["binkit: ", "more than one memory", "", "", "\n"],
+        Refusal::ExportTwice { name } => {
+            ["binkit: ", "export ", name.as_str(), " stands twice", "\n"]
+        }
         Refusal::TooMany { which } => [
             "binkit: ",
             "output exceeds the limit on ",

@@ -88,46 +88,127 @@ fn words_of(alloc: Global, line: &str) -> Result<Vec<String>, Fail> {
     Ok(words)
 }
 
+// What a line comes to over the files, and what is put on standard error.
+fn run_line(alloc: Global, files: &mut MemFiles, line: &str) -> Result<(Status, MemSink), Fail> {
+    let words = words_of(alloc, line)?;
+    let mut out = MemSink::new(alloc);
+    let mut err = MemSink::new(alloc);
+    let ended = run(alloc, words.as_slice(), files, &mut out, &mut err);
+    Ok((ended, err))
+}
+
 #[test]
-fn each_line_of_words_has_its_status_and_text(rt: HostRuntime) -> Result<(), Fail> {
+fn options_stand_anywhere_in_a_line(rt: HostRuntime) -> Result<(), Fail> {
     let alloc = rt.alloc();
-    for (line, status, text) in [
-        ("merge h.wasm m -o o.wasm", Status::Done, ""),
-        (
-            "merge e.wasm m -o o.wasm",
-            Status::Refused,
-            "binkit: e.wasm: not a WebAssembly module\n",
-        ),
-        (
-            "merge n.wasm m -o o.wasm",
-            Status::Outside,
-            "binkit: cannot read n.wasm\n",
-        ),
-        ("merge", Status::Usage, MERGE_USAGE),
-        ("merge a.wasm -o o", Status::Usage, MERGE_USAGE),
-        ("merge a.wasm a", Status::Usage, MERGE_USAGE),
-        ("merge -h.wasm m -o o.wasm", Status::Usage, MERGE_USAGE),
-        ("merge h.wasm '' -o o.wasm", Status::Usage, MERGE_USAGE),
-        ("merge h.wasm m -o -o.wasm", Status::Usage, MERGE_USAGE),
-        ("merge h.wasm m -p o.wasm", Status::Usage, MERGE_USAGE),
-        ("merge h.wasm m -o o.wasm b", Status::Usage, MERGE_USAGE),
-        ("", Status::Usage, ALL_USAGE),
-        ("split", Status::Usage, ALL_USAGE),
-        ("--help", Status::Usage, ALL_USAGE),
+    for (line, output) in [
+        ("merge h.wasm m -o o.wasm", "o.wasm"),
+        ("merge -o o.wasm h.wasm m", "o.wasm"),
+        ("merge h.wasm --output o.wasm m", "o.wasm"),
+        ("merge h.wasm m --output=-x", "-x"),
+        ("merge --output=a=b h.wasm m", "a=b"),
+        ("merge --skip-export-conflicts h.wasm -o o m", "o"),
+        ("merge h.wasm m -o o --rename-export-conflicts", "o"),
     ] {
-        let words = words_of(alloc, line)?;
         let mut files = MemFiles::new(alloc);
         files.add("h.wasm", &HEADER)?;
-        files.add("e.wasm", b"")?;
-        let mut out = MemSink::new(alloc);
-        let mut err = MemSink::new(alloc);
-        let ended = run(alloc, words.as_slice(), &mut files, &mut out, &mut err);
-        assert_eq!(rt; ended, status, "{line}");
-        assert_eq!(rt; err.text(), text.as_bytes(), "{line}");
-        assert_eq!(rt; out.text(), b"".as_slice(), "{line}");
-        let written = files.contents("o.wasm").is_some();
-        assert_eq!(rt; written, status == Status::Done, "{line}");
+        let (ended, err) = run_line(alloc, &mut files, line)?;
+        assert_eq!(rt; ended, Status::Done, "{line}");
+        assert_eq!(rt; err.text(), b"".as_slice(), "{line}");
+        assert_eq!(rt; files.contents(output), Some(HEADER.as_slice()), "{line}");
     }
+    Ok(())
+}
+
+#[test]
+fn lines_that_ask_for_no_merge_are_told_so(rt: HostRuntime) -> Result<(), Fail> {
+    let alloc = rt.alloc();
+    for line in [
+        "merge",
+        "merge a.wasm -o o",
+        "merge a.wasm a",
+        "merge -o o",
+        "merge -h.wasm m -o o",
+        "merge h.wasm - -o o",
+        "merge h.wasm '' -o o",
+        "merge h.wasm m -o -o",
+        "merge h.wasm m -o ''",
+        "merge h.wasm m -o",
+        "merge h.wasm m --output",
+        "merge h.wasm m --output=",
+        "merge h.wasm m --output -x",
+        "merge h.wasm m -p o",
+        "merge h.wasm m -o=o",
+        "merge h.wasm m -oo",
+        "merge h.wasm m -o o b",
+        "merge h.wasm m -o o -o o",
+        "merge h.wasm m -o o --output=o",
+        "merge h.wasm m h.wasm m -o o",
+    ] {
+        let mut files = MemFiles::new(alloc);
+        files.add("h.wasm", &HEADER)?;
+        let (ended, err) = run_line(alloc, &mut files, line)?;
+        assert_eq!(rt; ended, Status::Usage, "{line}");
+        assert_eq!(rt; err.text(), MERGE_USAGE.as_bytes(), "{line}");
+    }
+    Ok(())
+}
+
+#[test]
+fn no_other_options_are_known(rt: HostRuntime) -> Result<(), Fail> {
+    let alloc = rt.alloc();
+    for option in [
+        "--",
+        "--help",
+        "-g",
+        "--enable-multimemory",
+        "--skip-export-conflicts=1",
+        "--skip-export",
+        "--out=o",
+        "--skip-export-conflicts --skip-export-conflicts",
+        "--skip-export-conflicts --rename-export-conflicts",
+    ] {
+        let line = format!(in alloc; "merge h.wasm m -o o {option}")?;
+        let mut files = MemFiles::new(alloc);
+        files.add("h.wasm", &HEADER)?;
+        let (ended, err) = run_line(alloc, &mut files, line.as_str())?;
+        assert_eq!(rt; ended, Status::Usage, "{option}");
+        assert_eq!(rt; err.text(), MERGE_USAGE.as_bytes(), "{option}");
+    }
+    Ok(())
+}
+
+#[test]
+fn other_first_words_are_told_what_there_is(rt: HostRuntime) -> Result<(), Fail> {
+    let alloc = rt.alloc();
+    for line in ["", "split", "--help", "merges h.wasm m -o o"] {
+        let mut files = MemFiles::new(alloc);
+        let (ended, err) = run_line(alloc, &mut files, line)?;
+        assert_eq!(rt; ended, Status::Usage, "{line}");
+        assert_eq!(rt; err.text(), ALL_USAGE.as_bytes(), "{line}");
+    }
+    Ok(())
+}
+
+// The words of a merge of so many parts.
+fn words_of_parts(alloc: Global, count: usize) -> Result<Vec<String>, Fail> {
+    let mut words = words_of(alloc, "merge -o o")?;
+    for part in 0..count {
+        words.push(String::from_str(alloc, "h.wasm")?)?;
+        words.push(format!(in alloc; "{part}")?)?;
+    }
+    Ok(words)
+}
+
+#[test]
+fn a_thousand_and_one_parts_are_refused_before_a_file_is_read(rt: HostRuntime) -> Result<(), Fail> {
+    let alloc = rt.alloc();
+    let words = words_of_parts(alloc, 1001)?;
+    let mut files = MemFiles::new(alloc);
+    let mut out = MemSink::new(alloc);
+    let mut err = MemSink::new(alloc);
+    let ended = run(alloc, words.as_slice(), &mut files, &mut out, &mut err);
+    assert_eq!(rt; ended, Status::Refused);
+    assert_eq!(rt; err.text(), b"binkit: limit on parts\n".as_slice());
     Ok(())
 }
 
@@ -220,6 +301,13 @@ fn faults_of_files_and_of_standard_error_are_told(rt: HostRuntime) -> Result<(),
             "binkit: cannot write o.wasm\n",
             Some(&A[..17]),
         ),
+        (
+            "merge n.wasm m -o o.wasm",
+            0,
+            0,
+            "binkit: cannot read n.wasm\n",
+            None,
+        ),
         ("merge a.wasm m -o o.wasm", 1, 1, "bink", None),
         ("merge a.wasm m -o o.wasm", 1, 2, "binkit: cannot", None),
         ("merge c.wasm m -o o.wasm", 0, 1, "bink", None),
@@ -240,5 +328,176 @@ fn faults_of_files_and_of_standard_error_are_told(rt: HostRuntime) -> Result<(),
         assert_eq!(rt; err.text(), text.as_bytes(), "{text}");
         assert_eq!(rt; files.contents("o.wasm"), half, "{text}");
     }
+    Ok(())
+}
+
+// A module by its sections, as hexadecimal bytes.
+fn module_of(alloc: Global, sections: &str) -> Result<Vec<u8>, Fail> {
+    let mut bytes = Vec::from_slice(alloc, &HEADER)?;
+    for byte in sections.split_whitespace() {
+        bytes.push(u8::from_str_radix(byte, 16)?)?;
+    }
+    Ok(bytes)
+}
+
+// Two files, for the parts `a` and `b`.
+fn two_files(alloc: Global, a: &str, b: &str) -> Result<MemFiles, Fail> {
+    let a = module_of(alloc, a)?;
+    let b = module_of(alloc, b)?;
+    let mut files = MemFiles::new(alloc);
+    files.add("a.wasm", a.as_slice())?;
+    files.add("b.wasm", b.as_slice())?;
+    Ok(files)
+}
+
+// One function, exported as f, that gives 7.
+const GIVES: &str = "01 05 01 60 00 01 7F 03 02 01 00 07 05 01 01 66 00 00 0A 06 01 04 00 41 07 0B";
+
+// The same, exported as f and as f_1.
+const GIVES_TWICE: &str =
+    "01 05 01 60 00 01 7F 03 02 01 00 07 0B 02 01 66 00 00 03 66 5F 31 00 00 0A 06 01 04 00 41 07 0B";
+
+// A function, exported as g, that calls a.f.
+const CALLS: &str =
+    "01 05 01 60 00 01 7F 02 07 01 01 61 01 66 00 00 03 02 01 00 07 05 01 01 67 00 01 0A 06 01 04 00 10 00 0B";
+
+// A start that does nothing.
+const STARTS: &str = "01 04 01 60 00 00 03 02 01 00 08 01 00 0A 04 01 02 00 0B";
+
+#[test]
+fn two_parts_are_merged_into_one_module(rt: HostRuntime) -> Result<(), Fail> {
+    let alloc = rt.alloc();
+    for (a, b, flag, merged) in [
+        (
+            GIVES,
+            CALLS,
+            "",
+            "01 05 01 60 00 01 7F 03 03 02 00 00 07 09 02 01 66 00 00 01 67 00 01 0A 0B 02 04 00 41 07 0B 04 00 10 00 0B",
+        ),
+        (
+            GIVES,
+            GIVES,
+            "--rename-export-conflicts",
+            "01 05 01 60 00 01 7F 03 03 02 00 00 07 0B 02 01 66 00 00 03 66 5F 31 00 01 0A 0B 02 04 00 41 07 0B 04 00 41 07 0B",
+        ),
+        (
+            GIVES,
+            GIVES,
+            "--skip-export-conflicts",
+            "01 05 01 60 00 01 7F 03 03 02 00 00 07 05 01 01 66 00 00 0A 0B 02 04 00 41 07 0B 04 00 41 07 0B",
+        ),
+        (
+            GIVES,
+            GIVES_TWICE,
+            "--rename-export-conflicts",
+            "01 05 01 60 00 01 7F 03 03 02 00 00 07 11 03 01 66 00 00 03 66 5F 32 00 01 03 66 5F 31 00 01 0A 0B 02 04 00 41 07 0B 04 00 41 07 0B",
+        ),
+        (
+            STARTS,
+            STARTS,
+            "",
+            "01 04 01 60 00 00 03 04 03 00 00 00 08 01 02 0A 0E 03 02 00 0B 02 00 0B 06 00 10 00 10 01 0B",
+        ),
+    ] {
+        let mut files = two_files(alloc, a, b)?;
+        let line = format!(in alloc; "merge a.wasm a b.wasm b -o o.wasm {flag}")?;
+        let (ended, err) = run_line(alloc, &mut files, line.as_str())?;
+        let merged = module_of(alloc, merged)?;
+        assert_eq!(rt; err.text(), b"".as_slice());
+        assert_eq!(rt; ended, Status::Done);
+        assert_eq!(rt; files.contents("o.wasm"), Some(merged.as_slice()));
+    }
+    Ok(())
+}
+
+// The memory env.memory, with a minimum of 1 or 6, and with 3 or 1 to 5.
+const FROM_1: &str = "02 0F 01 03 65 6E 76 06 6D 65 6D 6F 72 79 02 00 01";
+
+const FROM_6: &str = "02 0F 01 03 65 6E 76 06 6D 65 6D 6F 72 79 02 00 06";
+
+const FROM_3_TO_5: &str = "02 10 01 03 65 6E 76 06 6D 65 6D 6F 72 79 02 01 03 05";
+
+const FROM_1_TO_5: &str = "02 10 01 03 65 6E 76 06 6D 65 6D 6F 72 79 02 01 01 05";
+
+// A global of 5, exported as x, and one that reads a.x.
+const FIVE: &str = "06 06 01 7F 00 41 05 0B 07 05 01 01 78 03 00";
+
+const READS: &str = "02 08 01 01 61 01 78 03 7F 00 06 06 01 7F 00 23 00 0B";
+
+#[test]
+fn memories_and_globals_are_joined(rt: HostRuntime) -> Result<(), Fail> {
+    let alloc = rt.alloc();
+    for (a, b, merged) in [
+        (FROM_1, FROM_3_TO_5, FROM_3_TO_5),
+        (FROM_3_TO_5, FROM_1, FROM_3_TO_5),
+        (
+            FIVE,
+            READS,
+            "06 0B 02 7F 00 41 05 0B 7F 00 41 05 0B 07 05 01 01 78 03 00",
+        ),
+    ] {
+        let mut files = two_files(alloc, a, b)?;
+        let line = "merge a.wasm a b.wasm b -o o.wasm";
+        let (ended, err) = run_line(alloc, &mut files, line)?;
+        let merged = module_of(alloc, merged)?;
+        assert_eq!(rt; err.text(), b"".as_slice());
+        assert_eq!(rt; ended, Status::Done);
+        assert_eq!(rt; files.contents("o.wasm"), Some(merged.as_slice()));
+    }
+    Ok(())
+}
+
+// A function that the other part is to give, exported as x.
+const FROM_B: &str = "01 04 01 60 00 00 02 07 01 01 62 01 78 00 00 07 05 01 01 78 00 00";
+
+const FROM_A: &str = "01 04 01 60 00 00 02 07 01 01 61 01 78 00 00 07 05 01 01 78 00 00";
+
+// A global that reads one which the other part is to give, exported as x.
+const READS_B: &str = "02 08 01 01 62 01 78 03 7F 00 06 06 01 7F 00 23 00 0B 07 05 01 01 78 03 01";
+
+const READS_A: &str = "02 08 01 01 61 01 78 03 7F 00 06 06 01 7F 00 23 00 0B 07 05 01 01 78 03 01";
+
+#[test]
+fn parts_that_do_not_fit_are_refused_with_their_text(rt: HostRuntime) -> Result<(), Fail> {
+    let alloc = rt.alloc();
+    for (a, b, text) in [
+        (GIVES, GIVES, "binkit: export f stands twice\n"),
+        (FROM_B, FROM_A, "binkit: a.wasm: import 0 has no end\n"),
+        (
+            FROM_6,
+            FROM_1_TO_5,
+            "binkit: a.wasm: import 0 has limits that clash\n",
+        ),
+        (
+            "05 03 01 00 01",
+            "05 03 01 00 01",
+            "binkit: more than one memory\n",
+        ),
+        (
+            GIVES,
+            "01 04 01 60 00 00 02 07 01 01 61 01 66 00 00",
+            "binkit: b.wasm: import 0 does not match\n",
+        ),
+        (READS_B, READS_A, "binkit: a.wasm: global 1 has no value\n"),
+    ] {
+        let mut files = two_files(alloc, a, b)?;
+        let line = "merge a.wasm a b.wasm b -o o.wasm";
+        let (ended, err) = run_line(alloc, &mut files, line)?;
+        assert_eq!(rt; err.text(), text.as_bytes(), "{text}");
+        assert_eq!(rt; ended, Status::Refused, "{text}");
+        assert_eq!(rt; files.contents("o.wasm"), None, "{text}");
+    }
+    Ok(())
+}
+
+#[test]
+fn all_files_are_read_before_the_first_is_decoded(rt: HostRuntime) -> Result<(), Fail> {
+    let alloc = rt.alloc();
+    let mut files = MemFiles::new(alloc);
+    files.add("c.wasm", &CUT)?;
+    let line = "merge c.wasm c n.wasm n -o o.wasm";
+    let (ended, err) = run_line(alloc, &mut files, line)?;
+    assert_eq!(rt; ended, Status::Outside);
+    assert_eq!(rt; err.text(), b"binkit: cannot read n.wasm\n".as_slice());
     Ok(())
 }

@@ -6,7 +6,7 @@ ghost use Rattle.tools_cli.specs.Stop.{Says};
 ghost use Rattle.tools_cli.specs.Kept.{EndsKept};
 ghost use Rattle.tools_cli.specs.Run.{ChangesByTheJob, PrintsForTheJob, EndsDone, EndsRefused, HasStatus, HasOutsideCause, SomeRose, IsSame, Gains, Outside};
 
-use crate::laws::done_jobs_keep_the_module;
+use crate::laws::done_jobs_keep_the_modules;
 use crate::stop::{Status, report};
 use crate::work::work;
 use std::alloc::Global;
@@ -35,7 +35,7 @@ pub fn run<F: Files, O: Sink, E: Sink>(
 
     // Each status has its cause.
     ensures done { result ≡ Status.Done → IfSome (F.contents files.old) (λ a. EndsDone (map string_bytes words.now) a (F.contents files.new) (O.bytes out.old) (O.bytes out.new)) × IsSame (E.bytes err.old) (E.bytes err.new) }
-    // Where it is done, the output is a valid module, and the very one that the file held.
+    // Where it is done, the output is a valid module, the one that the modules are merged into which the files held.
     ensures kept { result ≡ Status.Done → IfSome (F.contents files.old) (λ a. EndsKept (map string_bytes words.now) a (F.contents files.new)) }
     ensures refused { result ≡ Status.Refused → IfSome (F.contents files.old) (λ a. EndsRefused (map string_bytes words.now) a (E.bytes err.old) (E.bytes err.new)) × IsSame (F.contents files.old) (F.contents files.new) × IsSame (O.bytes out.old) (O.bytes out.new) }
     ensures usage { result ≡ Status.Usage → (task_of (map string_bytes words.now) ≡ None) × Gains (usage_line (map string_bytes words.now)) (E.bytes err.old) (E.bytes err.new) × IsSame (F.contents files.old) (F.contents files.new) × IsSame (O.bytes out.old) (O.bytes out.new) }
@@ -53,7 +53,7 @@ pub fn run<F: Files, O: Sink, E: Sink>(
     // Words that ask for no task are told so, whatever the files are.
     ensures no_task { task_of (map string_bytes words.now) ≡ None → Rose (E.faults err.old) (E.faults err.new) ⊎ ((result ≡ Status.NoMemory) ⊎ (result ≡ Status.Usage)) }
 {
-    done_jobs_keep_the_module();
+    done_jobs_keep_the_modules();
     match work(alloc, words, files, out) {
         Ok(()) => Status::Done,
         Err(stop) => report(err, &stop),

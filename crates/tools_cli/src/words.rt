@@ -1,70 +1,123 @@
-// The words of a command line.
-ghost use Rattle.std.specs.Prelude.{◌≡◌, map, option_map, string_bytes, codes, IfOk};
-ghost use Rattle.tools_cli.specs.Words.{task_of, merge_of, usage_line, is_plain, inputs_of};
-ghost use Rattle.tools_cli.specs.Command.{task};
+// The task that the words of a command line ask for.
+ghost use Rattle.std.specs.Prelude.{◌≡◌, true, map, option_map, option_and_then, string_bytes, IfOk, IfSome};
+ghost use Rattle.tools_cli.specs.Words.{task_of, merge_of, task_of_line, sources_of, some_apart, are_apart, one_output, one_mode, usage_line};
+ghost use Rattle.tools_cli.specs.Command.{task, line_value, source_values, source_names, names_of};
 
+use crate::line::{Line, read_line};
+use crate::merge::{Merge, Source};
+use export_names::Mode;
 use std::alloc::{AllocError, Global};
+use std::collections::BTreeMap;
 
-/// A merge that a command line asks for.
-#[derive(Drop)]
-pub(crate) struct Merge<'a> {
-    pub(crate) file: &'a str,
-    pub(crate) name: &'a str,
-    pub(crate) output: &'a str,
+// Plain words as pairs of a file and a name; none where a file has no name.
+fn pair<'a>(alloc: Global, plain: &[&'a str]) -> Result<Option<Vec<Source<'a>>>, AllocError>
+    ensures { IfOk result (λ sources. option_map (λ s. source_values s.items) sources ≡ sources_of (names_of plain.now)) }
+{
+    let mut sources = Vec::new(alloc);
+    for words in plain.chunks(2) {
+        let [file, name] = words else {
+            return Ok(None);
+        };
+        sources.push(Source { file, name })?;
+    }
+    Ok(Some(sources))
 }
 
-impl<'a> Merge<'a> {
-    ghost use Rattle.tools_cli.specs.Command.{names_of};
+// No two of the names are equal.
+fn are_apart(alloc: Global, sources: &[Source<'_>]) -> Result<bool, AllocError>
+    ensures { IfOk result (λ apart. apart ≡ are_apart (source_names sources.now)) }
+{
+    let mut names: BTreeMap<&str, ()> = BTreeMap::new(alloc);
+    for source in sources {
+        if names.contains_key(source.name) {
+            return Ok(false);
+        }
+        names.insert(source.name, ())?;
+    }
+    Ok(true)
+}
 
-    /// The files that are read, in order.
-    pub(crate) fn inputs(&self, alloc: Global) -> Result<Vec<&'a str>, AllocError>
-        ensures { IfOk result (λ names. names_of names.items ≡ inputs_of (task self.now)) }
-    {
-        let mut names = Vec::new(alloc);
-        names.push(self.file)?;
-        Ok(names)
+// The sources that plain words name, if they are at least one and have names apart.
+fn some_apart<'a>(alloc: Global, plain: &[&'a str]) -> Result<Option<Vec<Source<'a>>>, AllocError>
+    ensures sources { IfOk result (λ sources. option_map (λ s. source_values s.items) sources ≡ option_and_then some_apart (sources_of (names_of plain.now))) }
+    ensures apart { IfOk result (λ sources. IfSome sources (λ s. are_apart (source_names s.items) ≡ true)) }
+{
+    let Some(sources) = pair(alloc, plain)? else {
+        return Ok(None);
+    };
+    if sources.is_empty() {
+        return Ok(None);
+    }
+    if are_apart(alloc, sources.as_slice())? {
+        Ok(Some(sources))
+    } else {
+        Ok(None)
     }
 }
 
-// A word that may stand for a value.
-fn is_plain(word: &str) -> bool
-    ensures { result ≡ is_plain word.now }
+// The output, if exactly one is named.
+fn one_output<'a>(outputs: &[&'a str]) -> Option<&'a str>
+    ensures { option_map (λ o. o.now) result ≡ one_output (names_of outputs.now) }
 {
-    !word.is_empty() && !word.starts_with('-')
+    match outputs {
+        [output] => Some(*output),
+        _ => None,
+    }
 }
 
-// The command of the words after `merge`.
-fn parse_merge(words: &[String]) -> Option<Merge<'_>>
-    ensures { option_map task result ≡ merge_of (map string_bytes words.now) }
+// The mode, if at most one is named.
+fn one_mode(modes: &[Mode]) -> Option<Mode>
+    ensures { result ≡ one_mode modes.now }
 {
-    match words {
-        [file, name, option, output]
-            if is_plain(file.as_str())
-                && is_plain(name.as_str())
-                && option.as_str() == "-o"
-                && is_plain(output.as_str()) => {
-            Some(Merge {
-                file: file.as_str(),
-                name: name.as_str(),
-                output: output.as_str(),
-            })
-        }
+    match modes {
+        [] => Some(Mode::Refuse),
+        [mode] => Some(*mode),
         _ => None,
+    }
+}
+
+// The merge of what is said, or none.
+fn merge_of_line<'a>(alloc: Global, line: &Line<'a>) -> Result<Option<Merge<'a>>, AllocError>
+    ensures { IfOk result (λ merge. option_map task merge ≡ task_of_line (line_value line.now)) }
+{
+    let Some(sources) = some_apart(alloc, line.plain.as_slice())? else {
+        return Ok(None);
+    };
+    let Some(output) = one_output(line.outputs.as_slice()) else {
+        return Ok(None);
+    };
+    let Some(mode) = one_mode(line.modes.as_slice()) else {
+        return Ok(None);
+    };
+    Ok(Some(Merge {
+        sources,
+        output,
+        mode,
+    }))
+}
+
+// The merge that the words after `merge` ask for, or none.
+fn parse_merge<'a>(alloc: Global, words: &'a [String]) -> Result<Option<Merge<'a>>, AllocError>
+    ensures { IfOk result (λ merge. option_map task merge ≡ merge_of (map string_bytes words.now)) }
+{
+    match read_line(alloc, words)? {
+        Some(line) => merge_of_line(alloc, &line),
+        None => Ok(None),
     }
 }
 
 /// The command of these words, or none.
 #[tactic(auto, unfolding(crate::specs::Words::task_of))]
-pub(crate) fn parse(words: &[String]) -> Option<Merge<'_>>
-    ensures { option_map task result ≡ task_of (map string_bytes words.now) }
+pub(crate) fn parse<'a>(alloc: Global, words: &'a [String]) -> Result<Option<Merge<'a>>, AllocError>
+    ensures { IfOk result (λ merge. option_map task merge ≡ task_of (map string_bytes words.now)) }
 {
     let Some((word, rest)) = words.split_first() else {
-        return None;
+        return Ok(None);
     };
     if word.as_str() == "merge" {
-        return parse_merge(rest);
+        return parse_merge(alloc, rest);
     }
-    None
+    Ok(None)
 }
 
 /// The usage line of these words.

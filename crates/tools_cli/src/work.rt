@@ -9,12 +9,17 @@ ghost use Rattle.tools_cli.specs.Run.{ChangesByTheJob, PrintsForTheJob, EndsDone
 ghost use Rattle.tools_cli.specs.Words.{task_of};
 
 use crate::gather::{MOST_INPUT, gather};
+use crate::merge::Merge;
 use crate::perform::perform;
 use crate::plan::{Plan, decide};
+use crate::refusal::Refusal;
 use crate::stop::Stop;
-use crate::words::{Merge, parse, usage};
+use crate::words::{parse, usage};
 use std::alloc::Global;
 use tool_io::{Files, IoFault, Sink};
+
+/// The most parts of a merge.
+const MOST_PARTS: usize = 1000;
 
 // Reads the inputs, and decides over them.
 fn prepare<'a, F: Files>(alloc: Global, merge: &Merge<'a>, files: &mut F) -> Result<Plan, Stop<'a>>
@@ -25,6 +30,9 @@ fn prepare<'a, F: Files>(alloc: Global, merge: &Merge<'a>, files: &mut F) -> Res
     ensures outputs { IfOk result (λ plan. AreOutputs (task merge.now) (output_entries plan.outputs.items)) }
     ensures stops { IfErr result (StopsPreparing (F.contents files.old) (F.read_faults files.old) (F.read_faults files.new) (task merge.now)) }
 {
+    if merge.sources.len() > MOST_PARTS {
+        return Err(Stop::Refused(Refusal::TooManyParts));
+    }
     let Ok(names) = merge.inputs(alloc) else {
         return Err(Stop::NoMemory);
     };
@@ -78,8 +86,10 @@ pub(crate) fn work<'a, F: Files, O: Sink>(
         (record { files = F.contents files.old; reads = F.read_faults files.old; writes = F.write_faults files.old; out = O.bytes out.old; out_faults = O.faults out.old })
         (record { files = F.contents files.new; reads = F.read_faults files.new; writes = F.write_faults files.new; out = O.bytes out.new; out_faults = O.faults out.new })) }
 {
-    let Some(merge) = parse(words) else {
-        return Err(Stop::Usage(usage(words)));
+    let merge = match parse(alloc, words) {
+        Ok(Some(merge)) => merge,
+        Ok(None) => return Err(Stop::Usage(usage(words))),
+        Err(_) => return Err(Stop::NoMemory),
     };
     match prepare(alloc, &merge, files) {
         Ok(plan) => finish(files, out, plan),

@@ -9,3 +9,9 @@ returns-in-MalformedFunction c = rw (c.in-MalformedFunction.is, c.as_str-in-Malf
 
 pub returns-in-Limit : goal.returns-in-Limit
 returns-in-Limit c = rw (c.in-Limit.is, c.which_name.ensures) (simp append_assoc)
+
+pub returns-in-NotModule : goal.returns-in-NotModule
+returns-in-NotModule c = rw c.in-NotModule.is (simp append_assoc)
+
+pub returns-in-ExportTwice : goal.returns-in-ExportTwice
+returns-in-ExportTwice c = rw (c.in-ExportTwice.is, c.as_str-in-ExportTwice.ensures.text) (simp append_assoc)

@@ -1,4 +1,4 @@
-use Rattle.std.proofs.Common.{◌≡◌, refl, rules, map, string_bytes, Some}
+use Rattle.std.proofs.Common.{◌≡◌, refl, sym, map, string_bytes, Some}
 use Rattle.std.proofs.lemmas.Result.{IfErr-weaker}
 use Rattle.tools_cli.specs.Command.{task, output_entries}
 use Rattle.tools_cli.specs.Words.{task_of}
@@ -9,25 +9,25 @@ use Rattle.tools_cli.proofs.work.work.Goals as goal
 
 pub returns-in-Ok-clause-files : goal.returns-in-Ok-clause-files
 returns-in-Ok-clause-files g c =
-    let asked : task_of (map string_bytes c.args.words.now) ≡ Some (task c.in-Some.merge) = search rules in
+    let asked : task_of (map string_bytes c.args.words.now) ≡ Some (task c.in-Ok-Some.merge) = sym (rw c.in-Ok-Some.field-0-is at c.in-Ok-Some.ensures) in
     changes_from_cut _ _ _ _ _ _ asked c.in-Ok.ensures.plan (rw c.prepare.ensures.stays at c.finish.ensures.cut)
 
 pub returns-in-Ok-clause-prints : goal.returns-in-Ok-clause-prints
 returns-in-Ok-clause-prints g c =
-    let asked : task_of (map string_bytes c.args.words.now) ≡ Some (task c.in-Some.merge) = search rules in
+    let asked : task_of (map string_bytes c.args.words.now) ≡ Some (task c.in-Ok-Some.merge) = sym (rw c.in-Ok-Some.field-0-is at c.in-Ok-Some.ensures) in
     prints_from_lines _ _ _ _ _ _ _ _ asked c.in-Ok.ensures.plan (rw c.prepare.ensures.stays at c.finish.ensures.prints)
 
 pub returns-in-Ok-clause-done : goal.returns-in-Ok-clause-done
 returns-in-Ok-clause-done g c =
-    let asked : task_of (map string_bytes c.args.words.now) ≡ Some (task c.in-Some.merge) = search rules in
+    let asked : task_of (map string_bytes c.args.words.now) ≡ Some (task c.in-Ok-Some.merge) = sym (rw c.in-Ok-Some.field-0-is at c.in-Ok-Some.ensures) in
     ends_done c.finish.result _ _ _ _ _ _ _ _ asked c.in-Ok.ensures.plan (rw c.prepare.ensures.stays at c.finish.ensures.done) c.finish.ensures.printed
 
 pub returns-in-Ok-clause-stops : goal.returns-in-Ok-clause-stops
 returns-in-Ok-clause-stops g c =
     let words = map string_bytes c.args.words.now in
-    let t = task c.in-Some.merge in
+    let t = task c.in-Ok-Some.merge in
     let entries = output_entries c.in-Ok.plan.outputs.items in
-    let asked : task_of words ≡ Some t = search rules in
+    let asked : task_of words ≡ Some t = sym (rw c.in-Ok-Some.field-0-is at c.in-Ok-Some.ensures) in
     let old : Outside = record { files = g.F.Files.contents c.args.files.now; reads = g.F.Files.read_faults c.args.files.now; writes = g.F.Files.write_faults c.args.files.now; out = g.O.Sink.bytes c.args.out.now; out_faults = g.O.Sink.faults c.args.out.now } in
     let new : Outside = record { files = g.F.Files.contents c.finish.new.files; reads = g.F.Files.read_faults c.finish.new.files; writes = g.F.Files.write_faults c.finish.new.files; out = g.O.Sink.bytes c.finish.new.out; out_faults = g.O.Sink.faults c.finish.new.out } in
     IfErr-weaker c.finish.result
@@ -36,11 +36,11 @@ returns-in-Ok-clause-stops g c =
     (λ s. finish_stops words t old new (g.F.Files.write_faults c.prepare.new.files) entries c.in-Ok.plan.lines.items s asked c.prepare.ensures.writes c.in-Ok.ensures.plan c.in-Ok.ensures.outputs)
     c.finish.ensures.stops
 
-pub returns-in-Err-clause-stops : goal.returns-in-Err-clause-stops
-returns-in-Err-clause-stops g c =
+pub returns-clause-stops : goal.returns-clause-stops
+returns-clause-stops g c =
     let words = map string_bytes c.args.words.now in
-    let t = task c.in-Some.merge in
-    let asked : task_of words ≡ Some t = search rules in
+    let t = task c.in-Ok-Some.merge in
+    let asked : task_of words ≡ Some t = sym (rw c.in-Ok-Some.field-0-is at c.in-Ok-Some.ensures) in
     let old : Outside = record { files = g.F.Files.contents c.args.files.now; reads = g.F.Files.read_faults c.args.files.now; writes = g.F.Files.write_faults c.args.files.now; out = g.O.Sink.bytes c.args.out.now; out_faults = g.O.Sink.faults c.args.out.now } in
     let new : Outside = record { files = g.F.Files.contents c.prepare.new.files; reads = g.F.Files.read_faults c.prepare.new.files; writes = g.F.Files.write_faults c.prepare.new.files; out = g.O.Sink.bytes c.args.out.now; out_faults = g.O.Sink.faults c.args.out.now } in
-    prepare_stops words t old new c.in-Err.stop asked c.in-Err.ensures.stays refl c.in-Err.ensures.stops
+    prepare_stops words t old new c.in-Err-prepare.stop asked c.in-Err-prepare.ensures.stays refl c.in-Err-prepare.ensures.stops

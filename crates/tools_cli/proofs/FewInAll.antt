@@ -1,0 +1,97 @@
+-- What stands in the parts of a merge together.
+use Rattle.std.proofs.Common.{◌≡◌, ◌∙◌, refl, sym, ap, subst, ℕ, zero, suc, ◌+◌, ◌*◌, ◌≤◌, ◌<◌, ◌^◌, List, [], ◌∷◌, ◌++◌, map, length, length-append, Option, Some, None, Ok, Result, Err, cond, ltb, true, false, Bool, arith}
+use Rattle.std.specs.List.{flat_map}
+use Rattle.std.proofs.lemmas.Bool.Decides.{nat_tests}
+use Rattle.wasm_tree.specs.declared.types.FuncType.{FuncType}
+use Rattle.wasm_tree.specs.declared.module.Module.{Module}
+use Rattle.wasm_format.specs.Words.{Every}
+use Rattle.wasm_meaning.specs.World.{defined_count, defined_before, elems_before, datas_before}
+use Rattle.wasm_meaning.specs.Linking.{Part, Site, Kind, Functions, Tables, Memories, Globals, sites_in, sites_from, sites}
+use Rattle.merge_terms.specs.Joined as joined
+use Rattle.tools_cli.specs.Words.{Text, Source, Task, Merge}
+use Rattle.tools_cli.specs.Effects.{Entry}
+use Rattle.export_names.specs.declared.mode.Mode.{Mode}
+use Rattle.tools_cli.specs.Texts.{parts_over_limit}
+use Rattle.tools_cli.specs.Job.{IsRead, IsAccepted, Loads, loaded, faulty, invalid, AllLoad, parts_of, refused_before, most_parts}
+use Rattle.tools_cli.proofs.Limits.{IsWithinLimits, read_within}
+
+abbrev pub EachWithin : List Part → Type 0
+EachWithin = Every (λ (p : Part). IsWithinLimits p.«module»)
+
+types_few : (ps : List Part) → EachWithin ps → length (flat_map (λ (p : Part). p.«module».types) ps) ≤ 1000000 * length ps
+types_few [] h = omega arith
+types_few (p ∷ ps) h = let whole = length-append p.«module».types (flat_map (λ (p : Part). p.«module».types) ps) in omega (arith, whole, h.0.types, types_few ps h.1)
+
+length_sites_in : (p n k : ℕ) → length (sites_in p n k) ≡ n
+length_sites_in p zero k = refl
+length_sites_in p (suc n) k = ap suc (length_sites_in p n (suc k))
+
+sites_few : (n : ℕ) (ps : List Part) → EachWithin ps → length (sites_from n ps) ≤ 1000000 * length ps
+sites_few n [] h = omega arith
+sites_few n (p ∷ ps) h =
+    let whole = length-append (sites_in n (length p.«module».imports) 0) (sites_from (suc n) ps) in
+    omega (arith, whole, length_sites_in n (length p.«module».imports) 0, h.0.imports, sites_few (suc n) ps h.1)
+
+count_few : (k : Kind) (m : Module) → IsWithinLimits m → defined_count k m ≤ 1000000
+count_few Functions m h = h.funcs
+count_few Tables m h = h.tables
+count_few Memories m h = h.mems
+count_few Globals m h = h.globals
+
+defined_few : (k : Kind) (ps : List Part) (n : ℕ) → EachWithin ps → defined_before k ps n ≤ 1000000 * length ps
+defined_few k [] n h = omega arith
+defined_few k (p ∷ ps) zero h = omega arith
+defined_few k (p ∷ ps) (suc n) h = omega (arith, count_few k p.«module» h.0, defined_few k ps n h.1)
+
+elems_few : (ps : List Part) (n : ℕ) → EachWithin ps → elems_before ps n ≤ 1000000 * length ps
+elems_few [] n h = omega arith
+elems_few (p ∷ ps) zero h = omega arith
+elems_few (p ∷ ps) (suc n) h = omega (arith, h.0.elems, elems_few ps n h.1)
+
+datas_few : (ps : List Part) (n : ℕ) → EachWithin ps → datas_before ps n ≤ 1000000 * length ps
+datas_few [] n h = omega arith
+datas_few (p ∷ ps) zero h = omega arith
+datas_few (p ∷ ps) (suc n) h = omega (arith, h.0.datas, datas_few ps n h.1)
+
+few_in_all : (ps : List Part) → length ps ≤ 1000 → EachWithin ps → joined.FewInAll ps
+few_in_all ps few h = record {
+  parts_few = omega arith;
+  types = omega (arith, types_few ps h);
+  entities = λ k. omega (arith, sites_few 0 ps h, defined_few k ps (length ps) h);
+  elems = omega (arith, elems_few ps (length ps) h);
+  datas = omega (arith, datas_few ps (length ps) h);
+}
+
+-- ---- the parts of a merge
+
+loaded_within : (file bytes : Text) (r : Result Module Text) (tree : Module) → r ≡ Ok tree → Loads file bytes r → IsWithinLimits tree
+loaded_within file bytes r tree e (loaded other h accepted) = let same : other ≡ tree = cc in subst IsWithinLimits same (read_within bytes other h)
+loaded_within file bytes r tree e (faulty fault text found told) = absurd (cc)
+loaded_within file bytes r tree e (invalid other item h first) = absurd (cc)
+
+parts_within : (sources : List Source) (files : List Entry) (trees : List Module) → AllLoad files trees → EachWithin (parts_of sources trees)
+parts_within [] files trees h = tt
+parts_within (s ∷ sources) files [] h = tt
+parts_within (s ∷ sources) [] (tree ∷ trees) h = absurd h
+parts_within (s ∷ sources) (file ∷ files) (tree ∷ trees) h = (loaded_within file.0 file.1 (Ok tree) tree refl h.0, parts_within sources files trees h.1)
+
+parts_count : (sources : List Source) (trees : List Module) → length (parts_of sources trees) ≤ length sources
+parts_count [] trees = omega arith
+parts_count (s ∷ sources) [] = omega arith
+parts_count (s ∷ sources) (tree ∷ trees) = omega (arith, parts_count sources trees)
+
+pub parts_few : (sources : List Source) (files : List Entry) (trees : List Module) → length sources ≤ most_parts → AllLoad files trees → joined.FewInAll (parts_of sources trees)
+parts_few sources files trees few h = few_in_all (parts_of sources trees) (omega (arith, parts_count sources trees)) (parts_within sources files trees h)
+
+pub as_many : (files : List Entry) (trees : List Module) → AllLoad files trees → length trees ≡ length files
+as_many [] [] h = refl
+as_many [] (tree ∷ trees) h = absurd h
+as_many (file ∷ files) [] h = absurd h
+as_many (file ∷ files) (tree ∷ trees) h = ap suc (as_many files trees h.1)
+
+over_or_not : (b : Bool) → cond b (Some parts_over_limit) None ≡ None → b ≡ false
+over_or_not true e = absurd (cc)
+over_or_not false e = refl
+
+pub begun_few : (sources : List Source) (output : Text) (mode : Mode) → refused_before (Merge sources output mode) ≡ None → length sources ≤ most_parts
+begun_few sources output mode e = let test = over_or_not (ltb most_parts (length sources)) e in grind (arith, nat_tests)

@@ -1,0 +1,98 @@
+-- A tree that is read has no list above its limit.
+use Rattle.std.proofs.Common.{◌≡◌, ℕ, ◌≤◌, List, [], ◌∷◌, length, Bool, true, false, sym, subst, arith}
+use Rattle.std.specs.Prelude.{◌==◌}
+use Rattle.wasm_bytes.specs.Frames.{Section}
+use Rattle.wasm_tree.specs.declared.module.Func.{Func}
+use Rattle.wasm_tree.specs.declared.module.Module.{Module}
+use Rattle.wasm_format.specs.declared.parts.Parts.{Parts}
+use Rattle.wasm_format.specs.Words.{Never, Made, When, Any, Every, Limited, WhenSmall}
+use Rattle.wasm_format.specs.Files.{nothing, with_types, with_imports, with_func_types, with_tables, with_mems, with_globals, with_exports, with_start, with_elems, with_codes, with_datas, with_count, SpellsCustom, section_form, small_form, SmallSection, Contents, typed, tree_of, Spells, Within}
+use Rattle.tools_cli.specs.Words.{Text}
+use Rattle.tools_cli.specs.Job.{IsRead}
+
+-- the lists of the sections
+record FewParts (p : Parts) : Type 0 where
+  pub types : length p.types ≤ 1000000
+  pub imports : length p.imports ≤ 1000000
+  pub func_types : length p.func_types ≤ 1000000
+  pub tables : length p.tables ≤ 1000000
+  pub mems : length p.mems ≤ 1000000
+  pub globals : length p.globals ≤ 1000000
+  pub elems : length p.elems ≤ 1000000
+  pub datas : length p.datas ≤ 1000000
+
+-- no list of the tree has more than a million entries
+pub record IsWithinLimits (m : Module) : Type 0 where
+  pub types : length m.types ≤ 1000000
+  pub imports : length m.imports ≤ 1000000
+  pub funcs : length m.funcs ≤ 1000000
+  pub tables : length m.tables ≤ 1000000
+  pub mems : length m.mems ≤ 1000000
+  pub globals : length m.globals ≤ 1000000
+  pub elems : length m.elems ≤ 1000000
+  pub datas : length m.datas ≤ 1000000
+
+-- a section keeps them so
+record Keeps (P : List ℕ → Parts → Type 0) (S : List ℕ → Type 0) : Type 0 where
+  keep : (c : List ℕ) (q : Parts) → P c q → S c → FewParts q
+
+keep_when : {P Q : List ℕ → Parts → Type 0} {S T : List ℕ → Type 0} (test : Bool) → Keeps P S → Keeps Q T → Keeps (When test P Q) (WhenSmall test S T)
+keep_when true a b = record { keep = a.keep }
+keep_when false a b = record { keep = b.keep }
+
+keep_put : {A : Type 0} {P : List ℕ → A → Type 0} {S : A → Type 0} (make : A → Parts) → ((x : A) → S x → FewParts (make x)) → Keeps (Made make P) (Limited P S)
+keep_put {A} {P} {S} make keep = record { keep = λ c q h s. subst FewParts (sym h.2) (keep h.0 (s h.0 h.1)) }
+
+keep_free : {A : Type 0} {P : List ℕ → A → Type 0} (make : A → Parts) → ((x : A) → FewParts (make x)) → Keeps (Made make P) Any
+keep_free {A} {P} make keep = record { keep = λ c q h s. subst FewParts (sym h.2) (keep h.0) }
+
+keep_same : (p : Parts) → FewParts p → Keeps (SpellsCustom p) Any
+keep_same p k = record { keep = λ c q h s. subst FewParts (sym h.1) k }
+
+keep_never : Keeps Never Any
+keep_never = record { keep = λ c q h s. absurd h }
+
+section_keeps : (p : Parts) (id : ℕ) → FewParts p → Keeps (section_form false p id) (small_form false id)
+unfolding section_form small_form
+section_keeps p id s =
+    keep_when (id == 0) (keep_same p s)
+    (keep_when (id == 1) (keep_put (with_types p) (λ x k. record { types = k.0; imports = s.imports; func_types = s.func_types; tables = s.tables; mems = s.mems; globals = s.globals; elems = s.elems; datas = s.datas }))
+    (keep_when (id == 2) (keep_put (with_imports p) (λ x k. record { types = s.types; imports = k.0; func_types = s.func_types; tables = s.tables; mems = s.mems; globals = s.globals; elems = s.elems; datas = s.datas }))
+    (keep_when (id == 3) (keep_put (with_func_types p) (λ x k. record { types = s.types; imports = s.imports; func_types = k.0; tables = s.tables; mems = s.mems; globals = s.globals; elems = s.elems; datas = s.datas }))
+    (keep_when (id == 4) (keep_put (with_tables p) (λ x k. record { types = s.types; imports = s.imports; func_types = s.func_types; tables = omega (arith, k.0); mems = s.mems; globals = s.globals; elems = s.elems; datas = s.datas }))
+    (keep_when (id == 5) (keep_put (with_mems p) (λ x k. record { types = s.types; imports = s.imports; func_types = s.func_types; tables = s.tables; mems = omega (arith, k.0); globals = s.globals; elems = s.elems; datas = s.datas }))
+    (keep_when (id == 6) (keep_put (with_globals p) (λ x k. record { types = s.types; imports = s.imports; func_types = s.func_types; tables = s.tables; mems = s.mems; globals = k.0; elems = s.elems; datas = s.datas }))
+    (keep_when (id == 7) (keep_put (with_exports p) (λ x k. record { types = s.types; imports = s.imports; func_types = s.func_types; tables = s.tables; mems = s.mems; globals = s.globals; elems = s.elems; datas = s.datas }))
+    (keep_when (id == 8) (keep_free (with_start p) (λ x. record { types = s.types; imports = s.imports; func_types = s.func_types; tables = s.tables; mems = s.mems; globals = s.globals; elems = s.elems; datas = s.datas }))
+    (keep_when (id == 9) (keep_put (with_elems p) (λ x k. record { types = s.types; imports = s.imports; func_types = s.func_types; tables = s.tables; mems = s.mems; globals = s.globals; elems = omega (arith, k.0); datas = s.datas }))
+    (keep_when (id == 10) (keep_put (with_codes p) (λ x k. record { types = s.types; imports = s.imports; func_types = s.func_types; tables = s.tables; mems = s.mems; globals = s.globals; elems = s.elems; datas = s.datas }))
+    (keep_when (id == 11) (keep_put (with_datas p) (λ x k. record { types = s.types; imports = s.imports; func_types = s.func_types; tables = s.tables; mems = s.mems; globals = s.globals; elems = s.elems; datas = omega (arith, k.0) }))
+    (keep_when (id == 12) (keep_free (with_count p) (λ x. record { types = s.types; imports = s.imports; func_types = s.func_types; tables = s.tables; mems = s.mems; globals = s.globals; elems = s.elems; datas = s.datas }))
+    keep_never))))))))))))
+
+contents_keep : (p : Parts) (ss : List Section) (q : Parts) → FewParts p → Contents false p ss q → Every (SmallSection false) ss → FewParts q
+contents_keep p [] q s h k = subst FewParts h s
+contents_keep p (t ∷ ss) q s h k = contents_keep h.0 ss q ((section_keeps p t.0 s).keep t.1 h.0 h.1 k.0) h.2 k.1
+
+none_yet : FewParts nothing
+none_yet = record { types = omega arith; imports = omega arith; func_types = omega arith; tables = omega arith; mems = omega arith; globals = omega arith; elems = omega arith; datas = omega arith }
+
+length_typed : (ts : List ℕ) (fs : List Func) → length (typed ts fs) ≤ length ts
+length_typed [] fs = omega arith
+length_typed (t ∷ ts) [] = omega arith
+length_typed (t ∷ ts) (f ∷ fs) = let k = length_typed ts fs in omega (arith, k)
+
+tree_few : (p : Parts) → FewParts p → IsWithinLimits (tree_of p)
+tree_few p s = record {
+  types = s.types;
+  imports = s.imports;
+  funcs = omega (arith, s.func_types, length_typed p.func_types p.codes);
+  tables = s.tables;
+  mems = s.mems;
+  globals = s.globals;
+  elems = s.elems;
+  datas = s.datas;
+}
+
+pub read_within : (bytes : Text) (tree : Module) → IsRead bytes tree → IsWithinLimits tree
+read_within bytes tree r = let h = r.spelled in subst IsWithinLimits (sym h.5) (tree_few h.1 (contents_keep nothing h.0 h.1 none_yet h.3 (r.within h.0 h.2)))

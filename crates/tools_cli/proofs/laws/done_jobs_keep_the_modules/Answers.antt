@@ -1,0 +1,15 @@
+use Rattle.std.proofs.Common.{false}
+use Rattle.tools_cli.proofs.Kept.{done_keeps}
+use Rattle.tools_cli.proofs.laws.done_jobs_keep_the_modules.Goals as goal
+
+pub returns : goal.returns
+returns c words before writes lines h =
+    done_keeps (record {
+      plainly = c.plain_spells.ensures;
+      ranges = c.spelled_trees_are_in_range.ensures;
+      bounded = λ bytes tree s w. c.spelled_trees_are_bounded.ensures false bytes tree s w;
+      valid = c.merged_modules_are_valid.ensures.valid;
+      single = c.merged_modules_are_valid.ensures.single;
+      sizes = c.merged_modules_are_valid.ensures.bounded;
+      in_range = c.merged_modules_are_in_range.ensures;
+    }) words before writes lines h
