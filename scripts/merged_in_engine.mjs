@@ -1,0 +1,114 @@
+#!/usr/bin/env node
+// Runs merged modules in this engine.
+//
+//     scripts/merged_in_engine.mjs SAMPLES PROGRAM
+//
+// SAMPLES has two folders of parts. Those of `m2` import from the ones before them, so that this engine can also link them one after the
+// other: the merged module must give what they give, for the same calls. Those of `mstart` import from one another in a circle, which no
+// engine links part by part: what their starts log, and what their exports then give, is written out here by the rule that all is
+// allocated first, then all segments are copied by part, and then all starts run by part.
+import { execFileSync } from "node:child_process";
+import { mkdtempSync, readFileSync, rmSync } from "node:fs";
+import { tmpdir } from "node:os";
+import { join, resolve } from "node:path";
+
+const [samples, program] = process.argv.slice(2);
+let wrong = 0;
+
+function check(what, got, expected) {
+  const [a, b] = [JSON.stringify(got), JSON.stringify(expected)];
+  if (a !== b) {
+    console.log(`${what}: gives ${a}, expected ${b}`);
+    wrong += 1;
+  }
+}
+
+// The merged module of the parts in a folder, each named like its file.
+function merged(folder, names) {
+  const work = mkdtempSync(join(tmpdir(), "merged-"));
+  try {
+    const output = join(work, "o.wasm");
+    const words = names.flatMap((name) => [`${name}.wasm`, name]);
+    execFileSync(resolve(program), ["merge", ...words, "-o", output], { cwd: join(samples, folder) });
+    return new WebAssembly.Module(readFileSync(output));
+  } finally {
+    rmSync(work, { recursive: true });
+  }
+}
+
+function part(folder, name) {
+  return new WebAssembly.Module(readFileSync(join(samples, folder, `${name}.wasm`)));
+}
+
+// What a call comes to: its result, or that it traps.
+function outcome(run) {
+  try {
+    return String(run());
+  } catch (fault) {
+    if (fault instanceof WebAssembly.RuntimeError) {
+      return "traps";
+    }
+    throw fault;
+  }
+}
+
+// What the embedder is shown by two parts that are linked one after the other, or by the merged module.
+function library(instantiate) {
+  const log = [];
+  const outside = {
+    host: { out: (a, b) => log.push(`out ${a} ${b}`) },
+    env: { no_such: (a) => (log.push(`no_such ${a}`), a + 1) },
+  };
+  const { env, app } = instantiate(outside);
+  const bytes = (from, length) => Array.from(new Uint8Array(env.memory.buffer, from, length));
+  const calls = [
+    ["add", () => app.add(255n)], ["add again", () => app.add(-1n)], ["add a third", () => app.add(4096n)],
+    ["fixed", () => app.fixed()], ["sort", () => app.sortnames()], ["probe", () => app.probe(7)], ["probe far", () => app.probe(-1)],
+    ["live", () => env.live()], ["test", () => env.test(5)], ["round trip", () => env.roundtrip(123456789n)],
+    ["clear", () => app.clear()], ["live after", () => env.live()], ["copy out of bounds", () => env.memcpy(-8, 0, 64)],
+  ];
+  for (const [name, call] of calls) {
+    log.push(`${name}: ${outcome(call)}`);
+  }
+  log.push(bytes(1048576, 4096).join(" "), env.memory.buffer.byteLength);
+  return log;
+}
+
+function checkLibrary() {
+  const apart = library((outside) => {
+    const env = new WebAssembly.Instance(part("m2", "env"), outside).exports;
+    const app = new WebAssembly.Instance(part("m2", "app"), { ...outside, env: { ...env, ...outside.env } }).exports;
+    return { env, app };
+  });
+  const together = library((outside) => {
+    const all = new WebAssembly.Instance(merged("m2", ["env", "app"]), outside).exports;
+    return { env: all, app: all };
+  });
+  check("m2", together, apart);
+  if (apart.length < 15 || apart.filter((line) => String(line).endsWith("traps")).length === 0) {
+    console.log("m2: the calls show too little");
+    wrong += 1;
+  }
+}
+
+function checkStarts() {
+  const log = [];
+  const all = new WebAssembly.Instance(merged("mstart", ["a", "b", "c"]), { host: { log: (n) => log.push(n) } }).exports;
+  // a logs its copy of b's base, b logs 1000 and its copy of c's root, c logs 3
+  check("mstart: what the starts log", log, [256, 1007, 3]);
+  // a adds 1 and b adds 10
+  check("mstart: what the starts leave in memory", all.peek(16), 11);
+  // "from", "from", and a's segment at b's base
+  check("mstart: segments", [all.peek(32), all.peek(64), all.peek(256) & 0xffff], [0x6d6f7266, 0x6d6f7266, 0x2141]);
+  // b's function in slot 1 adds 7, c's in slot 2 multiplies by 11
+  check("mstart: the shared table", [all.call(1, 5), all.call(2, 5), outcome(() => all.call(3, 5))], [12, 55, "traps"]);
+  check("mstart: globals", [all.base.value, all.base2.value, all.root.value, all.acount.value], [256, 256, 7, 0]);
+  check("mstart: references", [all.fref(), all.isn(0), (all.seten(0, {}), all.isn(0))], [0, 1, 0]);
+  all.relog(9);
+  check("mstart: an import that is exported", log, [256, 1007, 3, 9]);
+}
+
+checkLibrary();
+checkStarts();
+console.log(`merged in an engine: ${wrong} wrong`);
+process.exit(wrong === 0 ? 0 : 1);
