@@ -78,21 +78,34 @@ def chain(parts, width):
     yield f"p{parts - 1}", module([], [adds(i) for i in range(width)], [(str(i), i) for i in range(width)])
 
 
+def circle(parts, width):
+    """Names passed on round a circle of parts: refused, since no import has an end."""
+    for p in range(parts):
+        yield f"p{p}", module([(f"p{(p + 1) % parts}", str(i)) for i in range(width)], [], [(str(i), i) for i in range(width)])
+
+
+def diamonds(parts, width):
+    """Each part imports each of its names from one of the two parts before it: many paths, one end."""
+    for p in range(parts):
+        imports = [(f"p{max(0, p - 1 - i % 2)}", str(i)) for i in range(width)] if p else []
+        yield f"p{p}", module(imports, [] if p else [adds(i) for i in range(width)], [(str(i), i) for i in range(width)])
+
+
 def same_name(parts):
     for p in range(parts):
         yield f"p{p}", module([], [adds(p)], [("f", 0)])
 
 
-def timed(program, words, folder):
+def timed(program, words, folder, status=0):
     begin = time.perf_counter()
     done = subprocess.run([program, *words], cwd=folder, capture_output=True)
     took = time.perf_counter() - begin
-    if done.returncode:
+    if done.returncode != status:
         sys.exit(f"status {done.returncode}: {done.stderr.decode()}")
     return took
 
 
-def measure(program, title, parts, flags=()):
+def measure(program, title, parts, flags=(), status=0):
     with tempfile.TemporaryDirectory() as folder:
         words, size = ["merge"], 0
         for part, content in parts:
@@ -100,7 +113,10 @@ def measure(program, title, parts, flags=()):
                 file.write(content)
             words += [part + ".wasm", part]
             size += len(content)
-        took = timed(program, [*words, "-o", "o.wasm", *flags], folder)
+        took = timed(program, [*words, "-o", "o.wasm", *flags], folder, status)
+        if status:
+            print(f"{title}: {size} bytes in, refused after {took:.2f} s")
+            return
         alone = timed(program, ["merge", "o.wasm", "m", "-o", "again.wasm"], folder)
         written = os.path.getsize(os.path.join(folder, "o.wasm"))
         print(f"{title}: {size} bytes in, {written} out, {took:.2f} s; the output alone {alone:.2f} s; {took / alone:.1f} times")
@@ -111,6 +127,8 @@ def main():
     measure(program, "a pair of 100,000 functions each", pair(100_000))
     measure(program, "1,000 parts of 1,000 functions", many(1_000, 1_000), ["--skip-export-conflicts"])
     measure(program, "100 names passed on through 1,000 parts", chain(1_000, 100), ["--skip-export-conflicts"])
+    measure(program, "100 names over diamonds of 1,000 parts", diamonds(1_000, 100), ["--skip-export-conflicts"])
+    measure(program, "100 names round a circle of 1,000 parts", circle(1_000, 100), ["--skip-export-conflicts"], status=1)
     measure(program, "1,000 parts that export one name", same_name(1_000), ["--rename-export-conflicts"])
 
 
