@@ -3,3 +3,4 @@ pub mod Faults
 pub mod Linked
 pub mod Merged
 pub mod Joined
+pub mod View

@@ -10,7 +10,7 @@ use Rattle.wasm_tree.specs.Spaces.{imported_funcs}
 use Rattle.wasm_meaning.specs.State.{Text, Inst, Store}
 use Rattle.wasm_meaning.specs.Linking.{then_some, sites}
 use Rattle.wasm_meaning.specs.Environment.{Environment, Thing, all_of}
-use Rattle.wasm_meaning.specs.World.{Begun, numbers, insts_from, own_store, stores_from, all_there, is_matched, segments, one_place, start_in, address_in, seen_as, begun, instantiate}
+use Rattle.wasm_meaning.specs.World.{Begun, alone, numbers, insts_from, own_store, stores_from, all_there, is_matched, segments, one_place, start_in, address_in, seen_as, begun, instantiate}
 use Rattle.wasm_meaning.specs.Run.{IsPrefix}
 use Rattle.index_remap.specs.declared.remap.Remap.{Remap}
 use Rattle.index_remap.specs.Renumbered.{new_start, new_export, new_export_desc, fits_start, fits_export, fits_export_desc}
@@ -19,7 +19,7 @@ use Rattle.index_remap.specs.RelatedRuns.{ThingRel, a_func, a_table, a_memory, a
 use Rattle.index_remap.specs.Laws.{RenumberedCodeIsRelated, EntryByEntry}
 use Rattle.index_remap.proofs.Rel.{append_rel}
 use Rattle.remap_typing.specs.Trees.{Covers}
-use Rattle.permuted_worlds.specs.Permuted.{moving, IsOrder, permuted, alone}
+use Rattle.permuted_worlds.specs.Permuted.{moving, IsOrder, permuted}
 use Rattle.permuted_worlds.proofs.Places.{map_length, append_length, numbers_length, moved_length, then_rel, tested_rel, maps_rel, all_rel}
 use Rattle.permuted_worlds.proofs.Alone.{one}
 use Rattle.permuted_worlds.proofs.Partners.{pairing, owned_rel}

@@ -5,7 +5,7 @@ use Rattle.wasm_tree.specs.declared.module.Module.{Module}
 use Rattle.wasm_tree.specs.Spaces.{imported_funcs, tables_of, memories_of, globals_of}
 use Rattle.wasm_valid.specs.Validity.{IsValid}
 use Rattle.wasm_meaning.specs.Linking.{place, then_some}
-use Rattle.wasm_meaning.specs.World.{World, numbers}
+use Rattle.wasm_meaning.specs.World.{alone, numbers}
 use Rattle.wasm_meaning.specs.Run.{Same}
 use Rattle.index_remap.specs.declared.remap.Remap.{Remap}
 use Rattle.index_remap.specs.Renumbered.{new_func, renumbered_tree}
@@ -37,13 +37,6 @@ pub record IsOrder (places : List ℕ) (funcs : List Func) (t : Module) : Type 0
 -- the module with these in place of its functions, and the new indices in all else
 abbrev pub permuted : (places : List ℕ) → (funcs : List Func) → Module → Module
 permuted places funcs t = record (renumbered_tree (moving places t) t) { funcs = funcs }
-
--- a module alone: no other imports from it, and its exports are what the embedder may use
-abbrev pub alone : Module → World
-alone t = record {
-  parts = record { name = None; «module» = t } ∷ [];
-  view = map (λ e. (e.name, record { part = 0; what = e.desc })) t.exports;
-}
 
 -- in every environment, by all moves, each shows in n steps what the other shows in n
 abbrev pub OrderIsNotSeen : Type 0

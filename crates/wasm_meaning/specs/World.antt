@@ -34,6 +34,13 @@ pub record World : Type 0 where
   pub parts : List Part
   pub view : List (Text × Entity)
 
+-- a module alone: no other imports from it, and its exports are what the embedder may use
+abbrev pub alone : Module → World
+alone t = record {
+  parts = record { name = None; «module» = t } ∷ [];
+  view = map (λ e. (e.name, record { part = 0; what = e.desc })) t.exports;
+}
+
 -- ---- addresses ----
 
 -- what a part defines of a kind

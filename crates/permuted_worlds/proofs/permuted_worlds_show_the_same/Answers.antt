@@ -1,5 +1,6 @@
 use Rattle.std.proofs.Common.{sym}
-use Rattle.permuted_worlds.specs.Permuted.{moving, permuted, alone}
+use Rattle.wasm_meaning.specs.World.{alone}
+use Rattle.permuted_worlds.specs.Permuted.{moving, permuted}
 use Rattle.permuted_worlds.proofs.Instances.{fits_parts}
 use Rattle.permuted_worlds.proofs.Partners.{related, one_to_one}
 use Rattle.permuted_worlds.proofs.Worlds.{covers, instances_rel, whole}

@@ -1,0 +1,15 @@
+-- That a merged module behaves as its parts linked by name.
+use Rattle.std.specs.Prelude.{ℕ, ◌+◌, List}
+use Rattle.wasm_meaning.specs.Linking.{Part}
+use Rattle.wasm_meaning.specs.World.{alone}
+use Rattle.wasm_meaning.specs.Run.{Same}
+use Rattle.export_names.specs.declared.mode.Mode.{Mode}
+use Rattle.merge_terms.specs.Joined.{joined_module}
+use Rattle.merge_terms.specs.View.{linked_world}
+use Rattle.merge_validity.specs.Joinable.{CanBeJoined}
+
+-- In every environment, whatever is seen of the parts in n steps is seen of the merged module in n + 4, and the other way round. The 4 covers the function that
+-- calls the starts of several parts.
+abbrev pub MergedModulesShowTheSame : Type 0
+MergedModulesShowTheSame =
+    (parts : List Part) (mode : Mode) → CanBeJoined parts mode → Same (λ env. Unit {0}) (linked_world parts mode) (alone (joined_module parts mode)) (λ n. n + 4) (λ n. n + 4)

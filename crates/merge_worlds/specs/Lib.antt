@@ -1,0 +1,4 @@
+pub mod Shared
+pub mod Instances
+pub mod Stores
+pub mod Laws
