@@ -179,21 +179,27 @@ number_value env parts insts p expr = then_some (value_of env parts insts p expr
 abbrev pub new_func : Inst → tree.Func → Option Func
 new_func i f = then_some (place i.types f.ty) (λ t. Some (Code t i (declared f.locals) f.body))
 
+-- a global, an element segment and all else that a module of this instance adds to the store, where constant expressions have these values
+abbrev pub global_with : (ConstExpr → Option Val) → GlobalDef → Option Global
+global_with value g = then_some (value g.init) (λ v. Some (record { ty = g.ty; value = v }))
+
 abbrev pub new_global : Environment → List Part → List Inst → ℕ → GlobalDef → Option Global
-new_global env parts insts p g = then_some (value_of env parts insts p g.init) (λ v. Some (record { ty = g.ty; value = v }))
+new_global env parts insts p = global_with (value_of env parts insts p)
 
 -- a declarative segment is dropped at once
 abbrev pub new_elem : ElemMode → List RefVal → Elem
 new_elem elem.Declarative items = no_items
 new_elem mode items = record { items = items; dropped = false }
 
-abbrev pub elem_of : Environment → List Part → List Inst → ℕ → ElemSeg → Option Elem
-elem_of env parts insts p e = then_some (all_there (ref_value env parts insts p) e.items) (λ items. Some (new_elem e.mode items))
+abbrev pub elem_with : (ConstExpr → Option Val) → ElemSeg → Option Elem
+elem_with value e = then_some (all_there (λ x. then_some (value x) (λ v. given (ref_of v))) e.items) (λ items. Some (new_elem e.mode items))
 
--- what one part adds to the store
-abbrev pub part_store : Environment → List Part → List Inst → ℕ → Module → Inst → Option Store
-part_store env parts insts p m i =
-    then_some (all_there (new_func i) m.funcs) (λ funcs. then_some (all_there (new_global env parts insts p) m.globals) (λ globals. then_some (all_there (elem_of env parts insts p) m.elems) (λ elems.
+abbrev pub elem_of : Environment → List Part → List Inst → ℕ → ElemSeg → Option Elem
+elem_of env parts insts p = elem_with (value_of env parts insts p)
+
+abbrev pub store_with : (ConstExpr → Option Val) → Module → Inst → Option Store
+store_with value m i =
+    then_some (all_there (new_func i) m.funcs) (λ funcs. then_some (all_there (global_with value) m.globals) (λ globals. then_some (all_there (elem_with value) m.elems) (λ elems.
     Some (record {
       funcs = funcs;
       globals = globals;
@@ -202,6 +208,10 @@ part_store env parts insts p m i =
       mems = map (λ l. record { most = l.max; pages = l.min; bytes = copies (65536 * l.min) 0 }) m.mems;
       datas = map (λ d. record { bytes = d.bytes; dropped = false }) m.datas;
     }))))
+
+-- what one part adds to the store
+abbrev pub part_store : Environment → List Part → List Inst → ℕ → Module → Inst → Option Store
+part_store env parts insts p m i = store_with (value_of env parts insts p) m i
 
 abbrev pub joined_stores : Store → Store → Store
 joined_stores s t =
@@ -293,9 +303,13 @@ abbrev pub copy_elem : Store → (segment : ℕ) → Inst → (table : ℕ) → 
 copy_elem s segment i x offset =
     or_trapped s (then_some offset (λ n. then_some (place i.tables x) (λ a. then_some (place s.tables a) (λ t. then_some (place s.elems segment) (λ e. Some (fill_table s segment a t (overwrite t.slots n e.items)))))))
 
+-- where constant expressions have these values
+abbrev pub run_elem_with : (ConstExpr → Option Val) → Store → Task ElemSeg → ElemMode → Filled
+run_elem_with value s task (elem.Active x offset) = copy_elem s task.address task.inst x (then_some (value offset) (λ v. given (num_of W32 v)))
+run_elem_with value s task _ = record { store = s; trapped = false }
+
 abbrev pub run_elem_mode : Environment → List Part → List Inst → Store → Task ElemSeg → ElemMode → Filled
-run_elem_mode env parts insts s task (elem.Active x offset) = copy_elem s task.address task.inst x (number_value env parts insts task.part offset)
-run_elem_mode env parts insts s task _ = record { store = s; trapped = false }
+run_elem_mode env parts insts s task = run_elem_with (value_of env parts insts task.part) s task
 
 abbrev pub run_elem : Environment → List Part → List Inst → Store → Task ElemSeg → Filled
 run_elem env parts insts s task = run_elem_mode env parts insts s task task.segment.mode
@@ -309,9 +323,12 @@ abbrev pub copy_data : Store → (segment : ℕ) → Inst → (memory : ℕ) →
 copy_data s segment i x offset =
     or_trapped s (then_some offset (λ n. then_some (place i.mems x) (λ a. then_some (place s.mems a) (λ m. then_some (place s.datas segment) (λ d. Some (fill_memory s segment a m (overwrite m.bytes n d.bytes)))))))
 
+abbrev pub run_data_with : (ConstExpr → Option Val) → Store → Task DataSeg → DataMode → Filled
+run_data_with value s task (data'.Active x offset) = copy_data s task.address task.inst x (then_some (value offset) (λ v. given (num_of W32 v)))
+run_data_with value s task data'.Passive = record { store = s; trapped = false }
+
 abbrev pub run_data_mode : Environment → List Part → List Inst → Store → Task DataSeg → DataMode → Filled
-run_data_mode env parts insts s task (data'.Active x offset) = copy_data s task.address task.inst x (number_value env parts insts task.part offset)
-run_data_mode env parts insts s task data'.Passive = record { store = s; trapped = false }
+run_data_mode env parts insts s task = run_data_with (value_of env parts insts task.part) s task
 
 abbrev pub run_data : Environment → List Part → List Inst → Store → Task DataSeg → Filled
 run_data env parts insts s task = run_data_mode env parts insts s task task.segment.mode
