@@ -12,3 +12,5 @@ pub mod Runs
 pub mod SameRuns
 pub mod AboveSteps
 pub mod RenumberedCode
+pub mod Others
+pub mod ItselfCode

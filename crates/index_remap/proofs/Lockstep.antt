@@ -52,7 +52,7 @@ module _ (R : Pairing) (apart : OneToOne R) (known : (k : Kind) (a b : ℕ) → 
       go _ _ i wrong = wrong
       go _ _ i (done a) = perform_free p q a e (free.made _ (sym i))
 
-  marks : {es fs : List Entry} → ListRel (EntryRel R) es fs → ResRel (PairRel (◌≡◌ {A = Caller}) (ListRel (EntryRel R))) (to_mark es) (to_mark fs)
+  pub marks : {es fs : List Entry} → ListRel (EntryRel R) es fs → ResRel (PairRel (◌≡◌ {A = Caller}) (ListRel (EntryRel R))) (to_mark es) (to_mark fs)
   marks nil = wrong
   marks (cons mark e) = done (record { first = refl; second = e })
   marks (cons (opening x) e) = done (record { first = refl; second = e })
@@ -61,7 +61,7 @@ module _ (R : Pairing) (apart : OneToOne R) (known : (k : Kind) (a b : ℕ) → 
   marks (cons (ended v) e) = marks e
   marks (cons (growing n) e) = marks e
 
-  marked : {es fs : List Entry} → ListRel (EntryRel R) es fs → is_mark es ≡ is_mark fs
+  pub marked : {es fs : List Entry} → ListRel (EntryRel R) es fs → is_mark es ≡ is_mark fs
   marked nil = refl
   marked (cons mark e) = refl
   marked (cons (opening x) e) = refl

@@ -134,7 +134,7 @@ at_put_here [] n v = refl
 at_put_here (x ∷ xs) zero v = refl
 at_put_here (x ∷ xs) (suc n) v = at_put_here xs n v
 
-at_put_there : {A : Type 0} (xs : List A) (n m : ℕ) (v : A) → (n ≡ m → ⊥) → at (put xs n v) m ≡ at xs m
+pub at_put_there : {A : Type 0} (xs : List A) (n m : ℕ) (v : A) → (n ≡ m → ⊥) → at (put xs n v) m ≡ at xs m
 at_put_there [] n m v h = refl
 at_put_there (x ∷ xs) zero zero v h = absurd (h refl)
 at_put_there (x ∷ xs) zero (suc m) v h = refl

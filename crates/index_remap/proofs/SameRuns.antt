@@ -5,7 +5,7 @@ use Rattle.index_remap.specs.Related.{Kind, Pairing, OneToOne, NotListed, TopSki
 use Rattle.wasm_meaning.specs.Run.{Run, tick, noted, events_of}
 use Rattle.index_remap.proofs.StepsAgree.{Stacks}
 use Rattle.index_remap.proofs.Lockstep.{Entries, stacks, view, step_rel}
-use Rattle.index_remap.specs.RelatedRuns.{RunRel}
+use Rattle.index_remap.specs.RelatedRuns.{RunRel, OutRel}
 use Rattle.index_remap.proofs.Runs.{still_rel}
 
 module _ (R : Pairing) (apart : OneToOne R) (known : (k : Kind) (a b : ℕ) → R.named k a b → R.of k a b) (plain : (a : ℕ) → ¬ R.listed a) (kept : (a : ℕ) → ¬ R.replaced a) where
@@ -27,7 +27,10 @@ module _ (R : Pairing) (apart : OneToOne R) (known : (k : Kind) (a b : ℕ) → 
   the_stacks : Stacks R apart (Entries R apart known) (Entries R apart known)
   the_stacks = stacks R apart known plain kept
 
+  pub ticks_agree : (r q : Run) → RunRel R (Entries R apart known) (Entries R apart known) r q → OutRel R (Entries R apart known) (Entries R apart known) (tick r) (tick q)
+  ticks_agree r q h =
+      still_rel R apart (Entries R apart known) (Entries R apart known) the_stacks (Entries R apart known) (λ s t es fs e. e) h (λ e. e) (λ e. e) (view R apart known h.entries) (step_rel R apart known h.store h.entries (skips r.store r.entries))
+
   pub same_events : (n : ℕ) (r q : Run) → RunRel R (Entries R apart known) (Entries R apart known) r q → events_of tick r n ≡ events_of tick q n
   same_events zero r q h = refl
-  same_events (suc n) r q h =
-      let o = still_rel R apart (Entries R apart known) (Entries R apart known) the_stacks (Entries R apart known) (λ s t es fs e. e) h (λ e. e) (λ e. e) (view R apart known h.entries) (step_rel R apart known h.store h.entries (skips r.store r.entries)) in ap₂ noted o.event (same_events n _ _ o.run)
+  same_events (suc n) r q h = let o = ticks_agree r q h in ap₂ noted o.event (same_events n _ _ o.run)

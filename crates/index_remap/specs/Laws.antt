@@ -2,16 +2,16 @@
 use Rattle.std.proofs.Common.{◌≡◌, ℕ, List, [], ◌∷◌, ◌++◌, Bool}
 use Rattle.std.specs.Prelude.{IsTrue, nat_eq}
 use Rattle.std.specs.List.{list_any}
-use Rattle.wasm_meaning.specs.Outcomes.{Gives}
+use Rattle.wasm_meaning.specs.Outcomes.{Gives, at}
 use Rattle.wasm_meaning.specs.State.{Inst, Store, Entry, Running, Mark, Opening, Caller, Act, Ends}
 use Rattle.wasm_meaning.specs.Step.{act, step, to_mark}
 use Rattle.wasm_meaning.specs.Run.{Run, tick, events_of}
-use Rattle.index_remap.specs.RelatedRuns.{RunRel}
+use Rattle.index_remap.specs.RelatedRuns.{RunRel, OutRel, KeepsOthers, IsBegun}
 use Rattle.wasm_tree.specs.declared.instr.Instr.{Instr}
 use Rattle.index_remap.specs.declared.remap.Remap.{Remap}
 use Rattle.index_remap.specs.Renumbered.{renumbered_all}
 use Rattle.index_remap.specs.CodeNames.{LayerNames, ListLayers}
-use Rattle.index_remap.specs.Related.{CodeRel, Kind, Pairing, OneToOne, ResRel, ListRel, StoreRel, EntryRel, NextRel, TopSkips, TopKnown}
+use Rattle.index_remap.specs.Related.{CodeRel, Kind, Funcs, Tables, Mems, Globals, Elems, Datas, Pairing, OneToOne, ResRel, ListRel, StoreRel, EntryRel, NextRel, TopSkips, TopKnown}
 
 -- the addresses that pass the first test are related, and code may name as one those that pass the second; of the functions of a list only the types are known,
 -- and other code may stand for calls of them
@@ -79,3 +79,28 @@ EntryByEntry R s t = ListRel (EntryRel R)
 abbrev pub RelatedRunsShowTheSame : Type 0
 RelatedRunsShowTheSame =
     (of : Kind → ℕ → ℕ → Bool) → OneToOne (passed of of []) → (r q : Run) → RunRel (passed of of []) (EntryByEntry (passed of of [])) (EntryByEntry (passed of of [])) r q → (n : ℕ) → events_of tick r n ≡ events_of tick q n
+
+-- One step of each of two such runs shows the same, and leaves them related.
+abbrev pub RelatedTicksAgree : Type 0
+RelatedTicksAgree =
+    (of : Kind → ℕ → ℕ → Bool) → OneToOne (passed of of []) → (r q : Run) → RunRel (passed of of []) (EntryByEntry (passed of of [])) (EntryByEntry (passed of of [])) r q →
+    OutRel (passed of of []) (EntryByEntry (passed of of [])) (EntryByEntry (passed of of [])) (tick r) (tick q)
+
+-- A step of a run that was instantiated leaves what nothing of the other run is related to.
+abbrev pub OthersStay : Type 0
+OthersStay =
+    (of : Kind → ℕ → ℕ → Bool) → OneToOne (passed of of []) → (r q : Run) → RunRel (passed of of []) (EntryByEntry (passed of of [])) (EntryByEntry (passed of of [])) r q → IsBegun r.phase →
+    KeepsOthers (passed of of []) q.store (tick q).0.store
+
+-- code may name each address of the instance as one with itself
+pub record NamesItself (R : Pairing) (i : Inst) : Type 0 where
+  pub funcs : (n a : ℕ) → at i.funcs n ≡ Gives a → R.named Funcs a a
+  pub tables : (n a : ℕ) → at i.tables n ≡ Gives a → R.named Tables a a
+  pub mems : (n a : ℕ) → at i.mems n ≡ Gives a → R.named Mems a a
+  pub globals : (n a : ℕ) → at i.globals n ≡ Gives a → R.named Globals a a
+  pub elems : (n a : ℕ) → at i.elems n ≡ Gives a → R.named Elems a a
+  pub datas : (n a : ℕ) → at i.datas n ≡ Gives a → R.named Datas a a
+
+-- Code is related to itself over an instance whose addresses are.
+abbrev pub CodeIsRelatedToItself : Type 0
+CodeIsRelatedToItself = (of named : Kind → ℕ → ℕ → Bool) (l : List ℕ) (i : Inst) (code : List Instr) → NamesItself (passed of named l) i → CodeRel (passed of named l) i i code code

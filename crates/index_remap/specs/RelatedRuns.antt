@@ -1,10 +1,11 @@
 -- Runs that are related: their states by a relation of addresses, their stacks by relations that are given.
 use Rattle.std.proofs.Common.{◌≡◌, ℕ, List, [], ◌∷◌, Option}
+use Rattle.wasm_meaning.specs.Outcomes.{at}
 use Rattle.wasm_meaning.specs.State.{Text, Store, Entry, Opening}
 use Rattle.wasm_meaning.specs.Environment.{Thing, FuncAt, TableAt, MemoryAt, GlobalAt}
 use Rattle.wasm_meaning.specs.World.{Begun}
 use Rattle.wasm_meaning.specs.Run.{Phase, Fresh, Pending, Opened, Closed, Run, Out}
-use Rattle.index_remap.specs.Related.{Funcs, Tables, Mems, Globals, Pairing, OptRel, ListRel, StoreRel}
+use Rattle.index_remap.specs.Related.{Kind, Funcs, Tables, Mems, Globals, Elems, Datas, Pairing, OptRel, ListRel, StoreRel}
 
 pub data ThingRel (R : Pairing) : Thing → Thing → Type 0 where
   a_func : {a b : ℕ} → R.of Funcs a b → ThingRel R (FuncAt a) (FuncAt b)
@@ -43,3 +44,21 @@ pub record RunRel (R : Pairing) (B F : Store → Store → List Entry → List E
 pub record OutRel (R : Pairing) (B F : Store → Store → List Entry → List Entry → Type 0) (o p : Out) : Type 0 where
   pub event : o.1 ≡ p.1
   pub run : RunRel R B F o.0 p.0
+
+-- nothing is related to this address of the second store
+abbrev pub HasNoPartner : Pairing → Kind → ℕ → Type 0
+HasNoPartner R k b = (a : ℕ) → R.of k a b → ⊥
+
+-- what stands at such addresses is as it was, and no function is another
+pub record KeepsOthers (R : Pairing) (before after : Store) : Type 0 where
+  pub funcs : after.funcs ≡ before.funcs
+  pub tables : (b : ℕ) → HasNoPartner R Tables b → at after.tables b ≡ at before.tables b
+  pub mems : (b : ℕ) → HasNoPartner R Mems b → at after.mems b ≡ at before.mems b
+  pub globals : (b : ℕ) → HasNoPartner R Globals b → at after.globals b ≡ at before.globals b
+  pub elems : (b : ℕ) → HasNoPartner R Elems b → at after.elems b ≡ at before.elems b
+  pub datas : (b : ℕ) → HasNoPartner R Datas b → at after.datas b ≡ at before.datas b
+
+-- it was instantiated
+abbrev pub IsBegun : Phase → Type 0
+IsBegun (Fresh b) = ⊥
+IsBegun _ = Unit {0}

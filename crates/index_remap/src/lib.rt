@@ -7,7 +7,7 @@ mod each;
 mod remap;
 mod renumbering;
 
-ghost use Rattle.index_remap.specs.Laws.{RelatedRunsShowTheSame, RenumberedCodeIsRelated, StepsAgree, TrapsAgree};
+ghost use Rattle.index_remap.specs.Laws.{CodeIsRelatedToItself, OthersStay, RelatedRunsShowTheSame, RelatedTicksAgree, RenumberedCodeIsRelated, StepsAgree, TrapsAgree};
 
 #[cfg(test)]
 mod declaring_tests;
@@ -25,12 +25,17 @@ pub fn steps_agree()
     ensures traps { TrapsAgree }
 {}
 
-/// A body with other indices is related to what it was, where each index that it names and its entry stand for the same: the relation of which `steps_agree` speaks.
+/// A body with other indices is related to what it was, where each index that it names and its entry stand for the same: the relation of which `steps_agree` speaks
+/// (`code`). Over one instance code is related to itself (`itself`).
 pub fn renumbered_code_is_related()
     ensures code { RenumberedCodeIsRelated }
+    ensures itself { CodeIsRelatedToItself }
 {}
 
-/// Two runs that are related show the same events, in however many steps.
+/// Two runs that are related show the same events, in however many steps (`events`): each step leaves them related (`ticks`), and what has no partner as it
+/// was (`others`).
 pub fn related_runs_show_the_same()
     ensures events { RelatedRunsShowTheSame }
+    ensures ticks { RelatedTicksAgree }
+    ensures others { OthersStay }
 {}

@@ -1,0 +1,165 @@
+-- A step only extends the store: functions stay, sizes do not shrink, types and maxima stay, and so do the values of globals that are not mutable.
+use Rattle.std.proofs.Common.{◌≡◌, ℕ, zero, suc, ◌+◌, ◌≤◌, List, [], ◌∷◌, ◌++◌, length, Option, Some, None, Bool, true, false, cond, refl, sym, ap, subst, ◌∙◌, arith}
+use native.Mathlib.Decide.{ℕ_discrete}
+use Rattle.wasm_meaning.specs.Outcomes.{Outcome, Gives, Traps, IllTyped, trapping, or_trap, bind, at, put, split_at, overwrite, copies}
+use Rattle.wasm_meaning.specs.State.{RefVal, Table, Memory, Global, Elem, Data, Store, Change, Keep, SetGlobal, SetMemory, SetTable, DropElem, DropData}
+use Rattle.wasm_meaning.specs.Step.{changed, no_items, no_bytes}
+
+pub record TableExtends (t u : Table) : Type 0 where
+  pub type : u.ty ≡ t.ty
+  pub most : u.most ≡ t.most
+  pub size : length t.slots ≤ length u.slots
+
+pub record MemoryExtends (m n : Memory) : Type 0 where
+  pub most : n.most ≡ m.most
+  pub size : m.pages ≤ n.pages
+
+pub record GlobalExtends (g h : Global) : Type 0 where
+  pub type : h.ty ≡ g.ty
+  pub fixed : g.ty.mutable ≡ false → h.value ≡ g.value
+
+-- what stands at a place of the first still stands there in the second, or what extends it
+abbrev pub EachExtends : {A : Type 0} → (A → A → Type 0) → List A → List A → Type 0
+EachExtends {A} P xs ys = (a : ℕ) (x : A) → at xs a ≡ Gives x → (y : A) × (at ys a ≡ Gives y) × P x y
+
+pub record Extends (s t : Store) : Type 0 where
+  pub funcs : t.funcs ≡ s.funcs
+  pub tables : EachExtends TableExtends s.tables t.tables
+  pub mems : EachExtends MemoryExtends s.mems t.mems
+  pub globals : EachExtends GlobalExtends s.globals t.globals
+  pub table_count : length t.tables ≡ length s.tables
+  pub memory_count : length t.mems ≡ length s.mems
+  pub global_count : length t.globals ≡ length s.globals
+  pub elem_count : length t.elems ≡ length s.elems
+  pub data_count : length t.datas ≡ length s.datas
+
+table_stays : (t : Table) → TableExtends t t
+table_stays t = record { type = refl; most = refl; size = omega arith }
+
+memory_stays : (m : Memory) → MemoryExtends m m
+memory_stays m = record { most = refl; size = omega arith }
+
+global_stays : (g : Global) → GlobalExtends g g
+global_stays g = record { type = refl; fixed = λ e. refl }
+
+each_stays : {A : Type 0} (P : A → A → Type 0) (xs : List A) → ((x : A) → P x x) → EachExtends P xs xs
+each_stays P xs h a x e = (x, e, h x)
+
+pub stays : (s : Store) → Extends s s
+stays s = record {
+  funcs = refl;
+  tables = each_stays TableExtends s.tables table_stays;
+  mems = each_stays MemoryExtends s.mems memory_stays;
+  globals = each_stays GlobalExtends s.globals global_stays;
+  table_count = refl; memory_count = refl; global_count = refl; elem_count = refl; data_count = refl;
+}
+
+each_then : {A : Type 0} (P : A → A → Type 0) (xs ys zs : List A) → ((x y z : A) → P x y → P y z → P x z) → EachExtends P xs ys → EachExtends P ys zs → EachExtends P xs zs
+each_then P xs ys zs trans h k a x e =
+    let y = h a x e in
+    let z = k a y.0 y.1 in
+    (z.0, z.1, trans x y.0 z.0 y.2 z.2)
+
+pub and_then : (s t u : Store) → Extends s t → Extends t u → Extends s u
+and_then s t u h k = record {
+  funcs = k.funcs ∙ h.funcs;
+  tables = each_then TableExtends s.tables t.tables u.tables (λ x y z p q. let l : length x.slots ≤ length z.slots = omega (arith, p.size, q.size) in record { type = q.type ∙ p.type; most = q.most ∙ p.most; size = l }) h.tables k.tables;
+  mems = each_then MemoryExtends s.mems t.mems u.mems (λ x y z p q. let l : x.pages ≤ z.pages = omega (arith, p.size, q.size) in record { most = q.most ∙ p.most; size = l }) h.mems k.mems;
+  globals = each_then GlobalExtends s.globals t.globals u.globals (λ x y z p q. record { type = q.type ∙ p.type; fixed = λ e. q.fixed (ap (λ t. t.mutable) p.type ∙ e) ∙ p.fixed e }) h.globals k.globals;
+  table_count = k.table_count ∙ h.table_count;
+  memory_count = k.memory_count ∙ h.memory_count;
+  global_count = k.global_count ∙ h.global_count;
+  elem_count = k.elem_count ∙ h.elem_count;
+  data_count = k.data_count ∙ h.data_count;
+}
+
+-- ---- a change ----
+
+put_length : {A : Type 0} (xs : List A) (n : ℕ) (v : A) → length (put xs n v) ≡ length xs
+put_length [] n v = refl
+put_length (x ∷ xs) zero v = refl
+put_length (x ∷ xs) (suc n) v = ap suc (put_length xs n v)
+
+put_here : {A : Type 0} (xs : List A) (n : ℕ) (v w : A) → at xs n ≡ Gives w → at (put xs n v) n ≡ Gives v
+put_here [] n v w e = cc
+put_here (x ∷ xs) zero v w e = refl
+put_here (x ∷ xs) (suc n) v w e = put_here xs n v w e
+
+put_there : {A : Type 0} (xs : List A) (n m : ℕ) (v : A) → (n ≡ m → ⊥) → at (put xs n v) m ≡ at xs m
+put_there [] n m v h = refl
+put_there (x ∷ xs) zero zero v h = absurd (h refl)
+put_there (x ∷ xs) zero (suc m) v h = refl
+put_there (x ∷ xs) (suc n) zero v h = refl
+put_there (x ∷ xs) (suc n) (suc m) v h = put_there xs n m v (λ e. h (ap suc e))
+
+-- one place is written with what extends the old
+each_put : {A : Type 0} (P : A → A → Type 0) (xs : List A) (n : ℕ) (old new : A) → ((x : A) → P x x) → at xs n ≡ Gives old → P old new → EachExtends P xs (put xs n new)
+each_put {A} P xs n old new same there p a x e = go (ℕ_discrete n a)
+  where
+    go : Dec (n ≡ a) → (y : A) × (at (put xs n new) a ≡ Gives y) × P x y
+    go (yes i) =
+        let o : old ≡ x = gives_same (sym there ∙ ap (at xs) i ∙ e) in
+        (new, ap (at (put xs n new)) (sym i) ∙ put_here xs n new old there, subst (λ z. P z new) o p)
+      where
+        gives_same : {u v : A} → Gives u ≡ Gives v → u ≡ v
+        gives_same e = cc
+    go (no i) = (x, put_there xs n a new i ∙ e, same x)
+
+-- what it writes extends what stood there
+pub data Extending (s : Store) : Change → Type 0 where
+  keeps : Extending s Keep
+  global : {a : ℕ} {g h : Global} → at s.globals a ≡ Gives g → GlobalExtends g h → Extending s (SetGlobal a h)
+  memory : {a : ℕ} {m n : Memory} → at s.mems a ≡ Gives m → MemoryExtends m n → Extending s (SetMemory a n)
+  table : {a : ℕ} {t u : Table} → at s.tables a ≡ Gives t → TableExtends t u → Extending s (SetTable a u)
+  elem_drops : {a : ℕ} → Extending s (DropElem a)
+  data_drops : {a : ℕ} → Extending s (DropData a)
+
+pub changed_extends : {s : Store} {c : Change} → Extending s c → Extends s (changed s c)
+changed_extends {s} keeps = stays s
+changed_extends {s} (global {a = a} {g = g} {h = h} e p) = let k = stays s in
+    record { funcs = refl; tables = k.tables; mems = k.mems; globals = each_put GlobalExtends s.globals a g h global_stays e p; table_count = refl; memory_count = refl; global_count = put_length s.globals a h; elem_count = refl; data_count = refl }
+changed_extends {s} (memory {a = a} {m = m} {n = n} e p) = let k = stays s in
+    record { funcs = refl; tables = k.tables; mems = each_put MemoryExtends s.mems a m n memory_stays e p; globals = k.globals; table_count = refl; memory_count = put_length s.mems a n; global_count = refl; elem_count = refl; data_count = refl }
+changed_extends {s} (table {a = a} {t = t} {u = u} e p) = let k = stays s in
+    record { funcs = refl; tables = each_put TableExtends s.tables a t u table_stays e p; mems = k.mems; globals = k.globals; table_count = put_length s.tables a u; memory_count = refl; global_count = refl; elem_count = refl; data_count = refl }
+changed_extends {s} (elem_drops {a = a}) = let k = stays s in
+    record { funcs = refl; tables = k.tables; mems = k.mems; globals = k.globals; table_count = refl; memory_count = refl; global_count = refl; elem_count = put_length s.elems a no_items; data_count = refl }
+changed_extends {s} (data_drops {a = a}) = let k = stays s in
+    record { funcs = refl; tables = k.tables; mems = k.mems; globals = k.globals; table_count = refl; memory_count = refl; global_count = refl; elem_count = refl; data_count = put_length s.datas a no_bytes }
+
+-- ---- lists that are written in part ----
+
+split_lengths : {A : Type 0} (n : ℕ) (xs : List A) (p : List A × List A) → split_at n xs ≡ Gives p → (length p.0 ≡ n) × (length p.0 + length p.1 ≡ length xs)
+split_lengths zero xs p e = let i : ([], xs) ≡ p = cc in rw (← i) (refl, omega arith)
+split_lengths (suc n) [] p e = cc
+split_lengths {A} (suc n) (x ∷ xs) p e = go (split_at n xs) (split_lengths n xs) e
+  where
+    go : (o : Outcome (List A × List A)) → ((q : List A × List A) → o ≡ Gives q → (length q.0 ≡ n) × (length q.0 + length q.1 ≡ length xs)) → bind o (λ q. Gives (x ∷ q.0, q.1)) ≡ Gives p → (length p.0 ≡ suc n) × (length p.0 + length p.1 ≡ suc (length xs))
+    go Traps h e = cc
+    go IllTyped h e = cc
+    go (Gives q) h e =
+        let i : (x ∷ q.0, q.1) ≡ p = cc in
+        let k = h q refl in
+        rw (← i) (ap suc k.0, omega (arith, k.1))
+
+pub append_length : {A : Type 0} (xs ys : List A) → length (xs ++ ys) ≡ length xs + length ys
+append_length [] ys = omega arith
+append_length (x ∷ xs) ys = let e = append_length xs ys in omega (arith, e)
+
+pub overwritten_length : {A : Type 0} (xs : List A) (n : ℕ) (ys zs : List A) → overwrite xs n ys ≡ Gives zs → length zs ≡ length xs
+overwritten_length {A} xs n ys zs e = go (split_at n xs) (split_lengths n xs) e
+  where
+    inner : (p : List A × List A) → (length p.0 + length p.1 ≡ length xs) → (o : Outcome (List A × List A)) → ((q : List A × List A) → o ≡ Gives q → (length q.0 ≡ length ys) × (length q.0 + length q.1 ≡ length p.1)) → bind o (λ q. Gives (p.0 ++ (ys ++ q.1))) ≡ Gives zs → length zs ≡ length xs
+    inner p k Traps h e = cc
+    inner p k IllTyped h e = cc
+    inner p k (Gives q) h e =
+        let i : p.0 ++ (ys ++ q.1) ≡ zs = cc in
+        let j = h q refl in
+        let a = append_length p.0 (ys ++ q.1) in
+        let b = append_length ys q.1 in
+        rw (← i) (omega (arith, j.0, j.1, a, b, k))
+
+    go : (o : Outcome (List A × List A)) → ((p : List A × List A) → o ≡ Gives p → (length p.0 ≡ n) × (length p.0 + length p.1 ≡ length xs)) → bind o (λ p. bind (split_at (length ys) p.1) (λ q. Gives (p.0 ++ (ys ++ q.1)))) ≡ Gives zs → length zs ≡ length xs
+    go Traps h e = cc
+    go IllTyped h e = cc
+    go (Gives p) h e = inner p ((h p refl).1) (split_at (length ys) p.1) (split_lengths (length ys) p.1) e

@@ -1,0 +1,4 @@
+mod TestRel
+mod Extends
+mod StepExtends
+mod TickExtends
