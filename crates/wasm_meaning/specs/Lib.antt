@@ -12,4 +12,5 @@ pub mod Environment
 pub mod World
 pub mod Run
 pub mod InTurn
+pub mod Below
 pub mod Laws

@@ -13,7 +13,7 @@ use Rattle.wasm_meaning.specs.Environment.{Shown, Thing, FuncAt, TableAt, Memory
 use Rattle.wasm_meaning.specs.Run
 use Rattle.wasm_meaning.specs.Run.{Event, Place, Move, Call, Invoke, Take, Answer, Refuse, Grant, Deny, Get, Size, Set, Extend, Phase, Fresh, Pending, Opened, Closed, Run, Out, viewed_at, place_at, trapped_at, trapped_to, showing, after, called, is_mark, delivered, answered, refused, grown_memory, grown_table, with_change, granted, decided, shows, got, size_of, does, byte_of, set, extended, moved, at_entries, or_bad, or_closed, next_move, nothing_in, started, open_next, is_taken_closed, closed_move, in_phase, tick_at, tick}
 use Rattle.worlds_in_turn.proofs.TestRel.{OptAll, nothing, stopped, just}
-use Rattle.worlds_in_turn.proofs.Extends.{TableExtends, MemoryExtends, GlobalExtends, Extends, stays, Extending, keeps, global, memory, table, elem_drops, data_drops, changed_extends, overwritten_length, append_length}
+use Rattle.worlds_in_turn.proofs.Extends.{TableExtends, MemoryExtends, GlobalExtends, Extends, stays, and_then, Extending, keeps, global, memory, table, elem_drops, data_drops, changed_extends, overwritten_length, append_length}
 use Rattle.worlds_in_turn.proofs.StepExtends.{Grows, act_all, with_is, cond_all}
 
 -- the store that is left
@@ -64,24 +64,32 @@ step_leaves s f es = go (act s f) (act_all s f)
 
 -- ---- runs ----
 
-abbrev pub Kept : Run → Out → Type 0
-Kept r o = Extends r.store o.0.store
+-- the store is extended, and the environment's own entities are found where they were
+pub record Kept (r : Run) (o : Out) : Type 0 where
+  pub store : Extends r.store o.0.store
+  pub owned : o.0.owned ≡ r.owned
 
 abbrev All : Run → Outcome Out → Type 0
 All r = OptAll (Kept r)
 
+abbrev All : Run → Outcome Out → Type 0
+All r = OptAll (Kept r)
+
+same : (r : Run) {e : Option Event} → Kept r (r, e)
+record { store = stays r.store; owned = refl } = record { store = stays r.store; owned = refl }
+
 trapped_kept : (r : Run) (s : Store) (es : List Entry) (o : Outcome (Caller × List Entry)) → Extends r.store s → Kept r (trapped_to (record r { store = s; entries = es }) o)
-trapped_kept r s es Traps h = h
-trapped_kept r s es IllTyped h = h
-trapped_kept r s es (Gives (Host, fs)) h = h
-trapped_kept r s es (Gives (Starter, fs)) h = h
+trapped_kept r s es Traps h = record { store = h; owned = refl }
+trapped_kept r s es IllTyped h = record { store = h; owned = refl }
+trapped_kept r s es (Gives (Host, fs)) h = record { store = h; owned = refl }
+trapped_kept r s es (Gives (Starter, fs)) h = record { store = h; owned = refl }
 
 after_kept : (r : Run) (o : Outcome Next) → Leaves r.store o → Kept r (after r o)
-after_kept r (Gives (Ran s es)) (just h) = h
-after_kept r (Gives (CallsOwn p t vs s es)) (just h) = h
-after_kept r (Gives (WaitsGrowth g m n s es)) (just h) = h
+after_kept r (Gives (Ran s es)) (just h) = record { store = h; owned = refl }
+after_kept r (Gives (CallsOwn p t vs s es)) (just h) = record { store = h; owned = refl }
+after_kept r (Gives (WaitsGrowth g m n s es)) (just h) = record { store = h; owned = refl }
 after_kept r (Gives (CallsPlaceholder n vs s es)) (just h) = trapped_kept r s es (to_mark es) h
-after_kept r (Gives (EndsCall vs s es)) (just h) = h
+after_kept r (Gives (EndsCall vs s es)) (just h) = record { store = h; owned = refl }
 after_kept r Traps h = trapped_kept r r.store r.entries (to_mark r.entries) (stays r.store)
 after_kept r IllTyped h = trapped_kept r r.store r.entries (to_mark r.entries) (stays r.store)
 
@@ -92,7 +100,7 @@ delivered_kept : (r : Run) (vs : List Val) (es : List Entry) → Kept r (deliver
 delivered_kept r vs es = go (is_mark es)
   where
     go : (b : Bool) → Kept r (cond b (record r { entries = Ended vs ∷ es }, None) (after r (give r.store vs es)))
-    go true = stays r.store
+    go true = record { store = stays r.store; owned = refl }
     go false = after_kept r _ (give_leaves r.store vs es)
 
 answered_all : (r : Run) (xs : List Shown) (es : List Entry) → All r (answered r xs es)
@@ -122,7 +130,7 @@ module _ (r : Run) where
 
   -- what is delivered after a change
   after_change : (c : Change) (vs : List Val) (es : List Entry) → Extending r.store c → Kept r (delivered (with_change r c) vs es)
-  after_change c vs es g = Rattle.worlds_in_turn.proofs.Extends.and_then r.store (changed r.store c) _ (changed_extends g) (delivered_kept (with_change r c) vs es)
+  after_change c vs es g = let d = delivered_kept (with_change r c) vs es in record { store = and_then r.store (changed r.store c) _ (changed_extends g) d.store; owned = d.owned }
 
   granted_all : (g : Growth) (es : List Entry) → All r (granted r g es)
   granted_all (GrowMemory a n) es = with_is (at r.store.mems a) _ (λ m e. just (after_change _ _ es (memory e (memory_grown m n))))
@@ -142,22 +150,22 @@ module _ (r : Run) where
   decided_all (Extend p n) g es = nothing
 
   shows_all : (v : Val) → All r (shows r v)
-  shows_all v = just (stays r.store)
+  shows_all v = just (record { store = stays r.store; owned = refl })
 
   got_all : (x : Thing) (n : ℕ) → All r (got r x n)
   got_all (FuncAt a) n = nothing
   got_all (TableAt a) n = with_is (at r.store.tables a) _ (λ t _. with_is (at t.slots n) _ (λ v _. shows_all (Ref v)))
-  got_all (MemoryAt a) n = with_is (at r.store.mems a) _ (λ m _. with_is (at m.bytes n) _ (λ b _. just (stays r.store)))
+  got_all (MemoryAt a) n = with_is (at r.store.mems a) _ (λ m _. with_is (at m.bytes n) _ (λ b _. just (record { store = stays r.store; owned = refl })))
   got_all (GlobalAt a) n = with_is (at r.store.globals a) _ (λ g _. cond_all (nat_eq n 0) (shows_all g.value) nothing)
 
   size_all : (x : Thing) → All r (size_of r x)
   size_all (FuncAt a) = nothing
-  size_all (TableAt a) = with_is (at r.store.tables a) _ (λ t _. just (stays r.store))
-  size_all (MemoryAt a) = with_is (at r.store.mems a) _ (λ m _. just (stays r.store))
-  size_all (GlobalAt a) = with_is (at r.store.globals a) _ (λ g _. just (stays r.store))
+  size_all (TableAt a) = with_is (at r.store.tables a) _ (λ t _. just (record { store = stays r.store; owned = refl }))
+  size_all (MemoryAt a) = with_is (at r.store.mems a) _ (λ m _. just (record { store = stays r.store; owned = refl }))
+  size_all (GlobalAt a) = with_is (at r.store.globals a) _ (λ g _. just (record { store = stays r.store; owned = refl }))
 
   does_all : (c : Change) → Extending r.store c → All r (does r c)
-  does_all c g = just (changed_extends g)
+  does_all c g = just (record { store = changed_extends g; owned = refl })
 
   set_all : (x : Thing) (n : ℕ) (v : Shown) → All r (set r x n v)
   set_all (FuncAt a) n v = nothing
@@ -183,7 +191,7 @@ module _ (r : Run) where
   moved_all : (m : Move) → All r (moved r m)
   moved_all (Call name xs) = with_is (viewed_at r name) _ (λ x _. with_is (func_of x) _ (λ a _. called_all r (Mark ∷ r.entries) xs a))
   moved_all (Invoke k xs) = with_is (at r.shown k) _ (λ a _. called_all r (Mark ∷ r.entries) xs a)
-  moved_all (Take name) = with_is (viewed_at r name) _ (λ x _. with_is (func_of x) _ (λ a _. just (stays r.store)))
+  moved_all (Take name) = with_is (viewed_at r name) _ (λ x _. with_is (func_of x) _ (λ a _. just (record { store = stays r.store; owned = refl })))
   moved_all (Answer xs) = answered_all r xs r.entries
   moved_all Refuse = refused_all r r.entries
   moved_all Grant = nothing
@@ -204,40 +212,43 @@ module _ (r : Run) where
 
   or_bad_kept : (o : Outcome Out) → All r o → Kept r (or_bad r o)
   or_bad_kept (Gives o) (just h) = h
-  or_bad_kept Traps h = stays r.store
-  or_bad_kept IllTyped h = stays r.store
+  or_bad_kept Traps h = record { store = stays r.store; owned = refl }
+  or_bad_kept IllTyped h = record { store = stays r.store; owned = refl }
 
   or_closed_kept : (o : Outcome Out) → All r o → Kept r (or_closed r o)
   or_closed_kept (Gives o) (just h) = h
-  or_closed_kept Traps h = stays r.store
-  or_closed_kept IllTyped h = stays r.store
+  or_closed_kept Traps h = record { store = stays r.store; owned = refl }
+  or_closed_kept IllTyped h = record { store = stays r.store; owned = refl }
+
+of_moves : (r : Run) (ms : List Move) (o : Out) → Kept (record r { moves = ms }) o → Kept r o
+of_moves r ms o h = record { store = h.store; owned = h.owned }
 
 next_kept : (r : Run) (ms : List Move) → Kept r (next_move r ms)
-next_kept r [] = stays r.store
-next_kept r (m ∷ ms) = or_bad_kept (record r { moves = ms }) _ (at_entries_all (record r { moves = ms }) m r.entries)
+next_kept r [] = record { store = stays r.store; owned = refl }
+next_kept r (m ∷ ms) = of_moves r ms _ (or_bad_kept (record r { moves = ms }) _ (at_entries_all (record r { moves = ms }) m r.entries))
 
 closed_kept : (r : Run) (ms : List Move) → Kept r (closed_move r ms)
-closed_kept r [] = stays r.store
-closed_kept r (m ∷ ms) = or_bad_kept (record r { moves = ms }) _ (cond_all (is_taken_closed m) (moved_all (record r { moves = ms }) m) nothing)
+closed_kept r [] = record { store = stays r.store; owned = refl }
+closed_kept r (m ∷ ms) = of_moves r ms _ (or_bad_kept (record r { moves = ms }) _ (cond_all (is_taken_closed m) (moved_all (record r { moves = ms }) m) nothing))
 
 open_kept : (r : Run) (starts : List ℕ) (es : List Entry) → Kept r (open_next r starts es)
-open_kept r [] es = stays r.store
+open_kept r [] es = record { store = stays r.store; owned = refl }
 open_kept r (a ∷ starts) es = or_closed_kept r _ (with_is (type_at r.store a) _ (λ t _. with_is (nothing_in t.results) _ (λ u _. called_all r (Opening starts ∷ es) [] a)))
 
 phase_kept : (r : Run) (p : Phase) → ((b : _) → p ≡ Fresh b → ⊥) → Kept r (in_phase r p)
 phase_kept r (Fresh b) h = absurd (h b refl)
-phase_kept r (Pending view) h = stays r.store
+phase_kept r (Pending view) h = record { store = stays r.store; owned = refl }
 phase_kept r Opened h = next_kept r r.moves
 phase_kept r Closed h = closed_kept r r.moves
 
 tick_at_kept : (r : Run) (es : List Entry) → es ≡ r.entries → ((b : _) → r.phase ≡ Fresh b → ⊥) → Kept r (tick_at r es)
 tick_at_kept r [] e h = phase_kept r r.phase h
 tick_at_kept r (Running f ∷ es) e h = after_kept r _ (subst (λ fs. Leaves r.store (step r.store fs)) e (step_leaves r.store f es))
-tick_at_kept r (Mark ∷ es) e h = stays r.store
+tick_at_kept r (Mark ∷ es) e h = record { store = stays r.store; owned = refl }
 tick_at_kept r (Opening starts ∷ es) e h = open_kept r starts es
 tick_at_kept r (Waiting ts ∷ es) e h = next_kept r r.moves
 tick_at_kept r (Ended vs ∷ es) e h = after_kept r _ (give_leaves r.store vs es)
 tick_at_kept r (Growing g ∷ es) e h = next_kept r r.moves
 
-pub tick_extends : (r : Run) → ((b : _) → r.phase ≡ Fresh b → ⊥) → Extends r.store (tick r).0.store
+pub tick_extends : (r : Run) → ((b : _) → r.phase ≡ Fresh b → ⊥) → Kept r (tick r)
 tick_extends r h = tick_at_kept r r.entries refl h
