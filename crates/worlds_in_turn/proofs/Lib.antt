@@ -2,3 +2,5 @@ mod TestRel
 mod Extends
 mod StepExtends
 mod TickExtends
+mod Things
+mod Joined

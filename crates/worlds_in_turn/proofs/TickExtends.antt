@@ -72,12 +72,6 @@ pub record Kept (r : Run) (o : Out) : Type 0 where
 abbrev All : Run → Outcome Out → Type 0
 All r = OptAll (Kept r)
 
-abbrev All : Run → Outcome Out → Type 0
-All r = OptAll (Kept r)
-
-same : (r : Run) {e : Option Event} → Kept r (r, e)
-record { store = stays r.store; owned = refl } = record { store = stays r.store; owned = refl }
-
 trapped_kept : (r : Run) (s : Store) (es : List Entry) (o : Outcome (Caller × List Entry)) → Extends r.store s → Kept r (trapped_to (record r { store = s; entries = es }) o)
 trapped_kept r s es Traps h = record { store = h; owned = refl }
 trapped_kept r s es IllTyped h = record { store = h; owned = refl }

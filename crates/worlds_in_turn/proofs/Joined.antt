@@ -1,0 +1,140 @@
+-- What an import of a part is joined with among the parts before it is what it is joined with among all, where each joined import leads to an earlier part.
+use Rattle.std.proofs.Common.{◌≡◌, ◌∙◌, refl, sym, ap, ap₂, subst, ℕ, zero, suc, ◌+◌, ◌-◌, ◌<◌, ◌≤◌, List, [], ◌∷◌, ◌++◌, length, Option, Some, None, Bool, true, false, cond, ◌⊎◌, inl, inr, arith}
+use Rattle.wasm_tree.specs.declared.module.Import.{Import}
+use Rattle.wasm_tree.specs.declared.module.ExportDesc.{ExportDesc}
+use Rattle.wasm_tree.specs.declared.module.Module.{Module}
+use Rattle.wasm_meaning.specs.State.{Text, Inst}
+use Rattle.wasm_meaning.specs.Paths.{Next, Ends, Goes}
+use Rattle.wasm_meaning.specs.Linking.{Part, Site, Entity, End, Defined, Outside, place, then_some, kind_of_export, index_of_export, imports_of, module_at, import_at, is_named, export_named, first_place, source_of, joined, imported_as, entity_step, joined_step, import_step, end_of}
+use Rattle.wasm_meaning.specs.Environment.{Environment, Thing, owned_of, owned_at}
+use Rattle.wasm_meaning.specs.World.{defined_count, given, own_key, outside_thing, thing_of, imported_thing, insts_from, inst_of, address_in}
+use Rattle.wasm_meaning.specs.InTurn.{Made, made_named, exported_by, thing_or_own, thing_for, JoinsEarlier}
+use Rattle.worlds_in_turn.proofs.Things.{then_is, some_is, inst_is, inst_at, each_from, goes_to, ends_at, defined_is, imported_is}
+
+-- the first parts, each with its instance
+abbrev pub made_upto : ℕ → List Part → List Inst → List Made
+made_upto (suc k) (p ∷ ps) (i ∷ is) = record { part = p; inst = i } ∷ made_upto k ps is
+made_upto _ _ _ = []
+
+-- the part of a name among the first k: it is there, or the first of that name comes later
+data Named (name : Text) (k off : ℕ) (ps : List Part) (is : List Inst) : Type 0 where
+  among : {j : ℕ} {part : Part} {inst : Inst} → j < k → first_place (is_named name) ps off ≡ Some (off + j) → place ps j ≡ Some part → place is j ≡ Some inst → made_named (made_upto k ps is) name ≡ Some (record { part = part; inst = inst }) → Named name k off ps is
+  later : ((q : ℕ) → first_place (is_named name) ps off ≡ Some q → off + k ≤ q) → made_named (made_upto k ps is) name ≡ None → Named name k off ps is
+
+first_high : {A : Type 0} (test : A → Bool) (xs : List A) (off q : ℕ) → first_place test xs off ≡ Some q → off ≤ q
+first_high test [] off q e = absurd (let k = e in cc)
+first_high test (x ∷ xs) off q e = go (test x) e (λ e. first_high test xs (suc off) q e)
+  where
+    go : (b : Bool) → cond b (Some off) (first_place test xs (suc off)) ≡ Some q → (first_place test xs (suc off) ≡ Some q → suc off ≤ q) → off ≤ q
+    go true e more = let same : off ≡ q = some_is e in omega (arith, same)
+    go false e more = let l = more e in omega (arith, l)
+
+named : (name : Text) (k off : ℕ) (ps : List Part) (is : List Inst) → length is ≡ length ps → Named name k off ps is
+named name zero off ps is e = later (λ q h. let l = first_high (is_named name) ps off q h in omega (arith, l)) refl
+named name (suc k) off [] [] e = later (λ q h. absurd (let k = h in cc)) refl
+named name (suc k) off [] (i ∷ is) e = absurd (omega arith)
+named name (suc k) off (p ∷ ps) [] e = absurd (omega arith)
+named name (suc k) off (p ∷ ps) (i ∷ is) e = go (is_named name p) refl (named name k (suc off) ps is (omega (arith, e)))
+  where
+    here : is_named name p ≡ true → Named name (suc k) off (p ∷ ps) (i ∷ is)
+    here t =
+        let z : off ≡ off + 0 = omega arith in
+        among {j = 0} (omega arith) (ap (λ b. cond b (Some off) (first_place (is_named name) ps (suc off))) t ∙ ap Some z) refl refl (ap (λ b. cond b (Some (record { part = p; inst = i })) (made_named (made_upto k ps is) name)) t)
+
+    there : is_named name p ≡ false → Named name k (suc off) ps is → Named name (suc k) off (p ∷ ps) (i ∷ is)
+    there t (among {j = j} l f a b m) =
+        let z : suc off + j ≡ off + suc j = omega arith in
+        among {j = suc j} (omega (arith, l)) (ap (λ c. cond c (Some off) (first_place (is_named name) ps (suc off))) t ∙ f ∙ ap Some z) a b (ap (λ c. cond c (Some (record { part = p; inst = i })) (made_named (made_upto k ps is) name)) t ∙ m)
+    there t (later f m) =
+        later (λ q h. let l = f q (sym (ap (λ c. cond c (Some off) (first_place (is_named name) ps (suc off))) t) ∙ h) in omega (arith, l)) (ap (λ c. cond c (Some (record { part = p; inst = i })) (made_named (made_upto k ps is) name)) t ∙ m)
+
+    go : (b : Bool) → is_named name p ≡ b → Named name k (suc off) ps is → Named name (suc k) off (p ∷ ps) (i ∷ is)
+    go true t h = here t
+    go false t h = there t h
+
+-- what parts export is there
+abbrev pub ExportsThere : List Part → Type 0
+ExportsThere parts = (p : ℕ) (m : Module) (field : Text) (d : ExportDesc) → module_at parts p ≡ Some m → export_named m.exports field ≡ Some d → index_of_export d < length (imports_of (kind_of_export d) m) + defined_count (kind_of_export d) m
+
+module_is : (parts : List Part) (p : ℕ) (part : Part) → place parts p ≡ Some part → module_at parts p ≡ Some part.«module»
+module_is parts p part e = ap (λ o. then_some o (λ part. Some part.«module»)) e
+
+module _ (env : Environment) (parts : List Part) (insts : List Inst) (are : insts_from env parts 0 parts ≡ Some insts) (size : length insts ≡ length parts) (there : ExportsThere parts) (earlier : JoinsEarlier parts) where
+  abbrev made : ℕ → List Made
+  made p = made_upto p parts insts
+
+  inst_of_part : (q : ℕ) (m : Module) (i : Inst) → module_at parts q ≡ Some m → place insts q ≡ Some i → inst_of env parts q m ≡ Some i
+  inst_of_part q m i e h =
+      let r = inst_at env parts 0 parts insts are q m e in
+      let n : 0 + q ≡ q = omega arith in
+      ap (λ n. inst_of env parts n m) (sym n) ∙ r.2 ∙ sym r.1 ∙ h
+
+  module _ (p n : ℕ) (m : Module) (i : Import) (is_part : module_at parts p ≡ Some m) (is_import : place m.imports n ≡ Some i) where
+    site : Site
+    site = record { part = p; import = n }
+
+    import_is : import_at parts (record { part = p; import = n }) ≡ Some i
+    import_is = ap (λ o. then_some o (λ m. place m.imports n)) is_part ∙ is_import
+
+    step_is : import_step parts (record { part = p; import = n }) ≡ Some (joined_step parts (record { part = p; import = n }) (joined parts i))
+    step_is = ap (λ o. then_some o (λ i. Some (joined_step parts (record { part = p; import = n }) (joined parts i)))) import_is
+
+    -- not joined: the environment's own
+    stays_own : (x : Thing) (o : Option (Made × ExportDesc)) → joined parts i ≡ None → o ≡ None → imported_thing env parts (record { part = p; import = n }) ≡ Some x → thing_or_own (owned_of env) m i o ≡ Some x
+    stays_own x o j none h =
+        let e = then_is (end_of parts (record { part = p; import = n })) (thing_of env parts) x h in
+        let s : record { part = p; import = n } ≡ record { part = p; import = n } = refl in
+        let end = ends_at parts (record { part = p; import = n }) e.0 (Outside (record { part = p; import = n })) (step_is ∙ ap (λ o. Some (joined_step parts (record { part = p; import = n }) o)) j) e.1 in
+        let thing = ap (thing_of env parts) end ∙ e.2 in
+        let own = ap₂ (λ o q. then_some o (λ m. then_some q (λ i. then_some (own_key m i) (λ key. given (owned_at (owned_of env) key))))) is_part import_is in
+        ap (thing_or_own (owned_of env) m i) none ∙ sym own ∙ thing
+
+    -- joined: what the other part's instance says
+    joins : (x : Thing) (q : ℕ) (part : Part) (inst : Inst) (d : ExportDesc) → joined parts i ≡ Some (record { part = q; what = d }) → place parts q ≡ Some part → place insts q ≡ Some inst → export_named part.«module».exports i.field ≡ Some d →
+        imported_thing env parts (record { part = p; import = n }) ≡ Some x → address_in inst d ≡ Some x
+    joins x q part inst d j at_part at_inst named h =
+        let e = then_is (end_of parts (record { part = p; import = n })) (thing_of env parts) x h in
+        let is_source = module_is parts q part at_part in
+        let is_inst = inst_is env parts q part.«module» inst (inst_of_part q part.«module» inst is_source at_inst) in
+        let low = there q part.«module» i.field d is_source named in
+        go e.0 e.1 e.2 (imported_as parts (record { part = q; what = d })) refl (defined_is env parts q part.«module» is_source inst is_inst d low) (imported_is env parts q part.«module» is_source inst is_inst d)
+      where
+        go : (end : End) → end_of parts (record { part = p; import = n }) ≡ Some end → thing_of env parts end ≡ Some x → (o : Option Site) → imported_as parts (record { part = q; what = d }) ≡ o →
+            (imported_as parts (record { part = q; what = d }) ≡ None → address_in inst d ≡ thing_of env parts (Defined (record { part = q; what = d }))) →
+            ((t : Site) (x : Thing) → imported_as parts (record { part = q; what = d }) ≡ Some t → imported_thing env parts t ≡ Some x → address_in inst d ≡ Some x) → address_in inst d ≡ Some x
+        go end ends thing None imp own far =
+            let last = ends_at parts (record { part = p; import = n }) end (Defined (record { part = q; what = d })) (step_is ∙ ap (λ o. Some (joined_step parts (record { part = p; import = n }) o)) j ∙ ap (λ o. Some (entity_step (record { part = q; what = d }) o)) imp) ends in
+            own imp ∙ ap (thing_of env parts) last ∙ thing
+        go end ends thing (Some t) imp own far =
+            let on = goes_to parts (record { part = p; import = n }) t end (step_is ∙ ap (λ o. Some (joined_step parts (record { part = p; import = n }) o)) j ∙ ap (λ o. Some (entity_step (record { part = q; what = d }) o)) imp) ends in
+            far t x imp (ap (λ o. then_some o (thing_of env parts)) on ∙ thing)
+
+    pub thing_same : (x : Thing) → imported_thing env parts (record { part = p; import = n }) ≡ Some x → thing_for (owned_of env) (made p) m i ≡ Some x
+    thing_same x h = by_source (named i.«module» p 0 parts insts size)
+      where
+        -- the part that is named was there
+        there_before : (q : ℕ) (part : Part) (inst : Inst) → source_of parts i ≡ Some q → place parts q ≡ Some part → place insts q ≡ Some inst → made_named (made p) i.«module» ≡ Some (record { part = part; inst = inst }) → (o : Option ExportDesc) → export_named part.«module».exports i.field ≡ o → thing_for (owned_of env) (made p) m i ≡ Some x
+        there_before q part inst s a b c None e =
+            let j : joined parts i ≡ None = ap (λ o. then_some o (λ p. then_some (module_at parts p) (λ m. then_some (export_named m.exports i.field) (λ d. Some (record { part = p; what = d }))))) s ∙ ap (λ o. then_some o (λ m. then_some (export_named m.exports i.field) (λ d. Some (record { part = q; what = d })))) (module_is parts q part a) ∙ ap (λ o. then_some o (λ d. Some (record { part = q; what = d }))) e in
+            let none : exported_by (made p) i ≡ None = ap (λ o. then_some o (λ x. then_some (export_named x.part.«module».exports i.field) (λ d. Some (x, d)))) c ∙ ap (λ o. then_some o (λ d. Some (record { part = part; inst = inst }, d))) e in
+            stays_own x (exported_by (made p) i) j none h
+        there_before q part inst s a b c (Some d) e =
+            let j : joined parts i ≡ Some (record { part = q; what = d }) = ap (λ o. then_some o (λ p. then_some (module_at parts p) (λ m. then_some (export_named m.exports i.field) (λ d. Some (record { part = p; what = d }))))) s ∙ ap (λ o. then_some o (λ m. then_some (export_named m.exports i.field) (λ d. Some (record { part = q; what = d })))) (module_is parts q part a) ∙ ap (λ o. then_some o (λ d. Some (record { part = q; what = d }))) e in
+            let some_by : exported_by (made p) i ≡ Some (record { part = part; inst = inst }, d) = ap (λ o. then_some o (λ x. then_some (export_named x.part.«module».exports i.field) (λ d. Some (x, d)))) c ∙ ap (λ o. then_some o (λ d. Some (record { part = part; inst = inst }, d))) e in
+            ap (thing_or_own (owned_of env) m i) some_by ∙ joins x q part inst d j a b e h
+
+        -- it comes later, or there is none
+        not_before : ((q : ℕ) → source_of parts i ≡ Some q → p ≤ q) → made_named (made p) i.«module» ≡ None → (o : Option Entity) → joined parts i ≡ o → thing_for (owned_of env) (made p) m i ≡ Some x
+        not_before l c None j = stays_own x (exported_by (made p) i) j (ap (λ o. then_some o (λ x. then_some (export_named x.part.«module».exports i.field) (λ d. Some (x, d)))) c) h
+        not_before l c (Some e) j =
+            let s = then_is (source_of parts i) _ e j in
+            let a = then_is (module_at parts s.0) _ e s.2 in
+            let b = then_is (export_named a.0.exports i.field) _ e a.2 in
+            let same : s.0 ≡ e.part = ap (λ z. z.part) (some_is b.2) in
+            let low = earlier p n m i e is_part is_import j in
+            let high = l s.0 s.1 in
+            absurd (omega (arith, low, high, same))
+
+        by_source : Named i.«module» p 0 parts insts → thing_for (owned_of env) (made p) m i ≡ Some x
+        by_source (among {j = q} {part = part} {inst = inst} l f a b c) = let z : 0 + q ≡ q = omega arith in there_before q part inst (f ∙ ap Some z) a b c (export_named part.«module».exports i.field) refl
+        by_source (later l c) = not_before (λ q e. let h = l q e in omega (arith, h)) c (joined parts i) refl
