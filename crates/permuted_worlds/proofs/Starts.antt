@@ -27,10 +27,10 @@ abbrev pub calls : Inst → List ℕ → List Entry
 calls j ns = Running (starter j ns) ∷ Opening [] ∷ []
 
 openings_low : (xs : List ℕ) → IsBottom (openings xs)
-openings_low xs = record { gives = λ s. refl; traps = refl; unmarked = refl }
+openings_low xs = record { gives = λ s. refl; traps = refl }
 
 calls_low : (j : Inst) (ns : List ℕ) → IsBottom (calls j ns)
-calls_low j ns = record { gives = λ s. refl; traps = refl; unmarked = refl }
+calls_low j ns = record { gives = λ s. refl; traps = refl }
 
 -- the same functions are named, whatever else is in the store
 still_named : {s t : Store} {j : Inst} {ns xs : List ℕ} → t.funcs ≡ s.funcs → ListRel (NamesStart s j) ns xs → ListRel (NamesStart t j) ns xs

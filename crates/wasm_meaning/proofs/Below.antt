@@ -1,5 +1,5 @@
 -- A start does not see what it stands on.
-use Rattle.std.proofs.Common.{◌≡◌, ℕ, List, [], ◌∷◌, ◌++◌, length, Some, Bool, true, false, cond, refl}
+use Rattle.std.proofs.Common.{◌≡◌, ℕ, List, [], ◌∷◌, ◌++◌, length, Some, Bool, true, false, cond, refl, ap}
 use Rattle.std.specs.Prelude.{nat_eq}
 use Rattle.wasm_tree.specs.declared.types.ValType.{ValType}
 use Rattle.wasm_tree.specs.declared.types.FuncType.{FuncType}
@@ -12,7 +12,7 @@ use Rattle.wasm_meaning.specs.Tables.{table_may_grow}
 use Rattle.wasm_meaning.specs.Control.{type_at}
 use Rattle.wasm_meaning.specs.Step.{act, frame_of, give_levels, give, enter, enter_at, changed, perform, to_mark}
 use Rattle.wasm_meaning.specs.Environment.{Shown, Thing, FuncAt, TableAt, MemoryAt, GlobalAt, func_of, received, received_ref, received_all}
-use Rattle.wasm_meaning.specs.Run.{Move, Call, Invoke, Take, Answer, Refuse, Grant, Deny, Get, Size, Set, Extend, Phase, Run, Out, viewed_at, place_at, show_all, show, trapped_to, after, called, delivered, answered, refused, grown_memory, grown_table, granted, decided, shows, got, size_of, does, byte_of, set, extended, moved, at_entries, or_bad, next_move, tick}
+use Rattle.wasm_meaning.specs.Run.{Move, Call, Invoke, Take, Answer, Refuse, Grant, Deny, Get, Size, Set, Extend, Phase, Run, Out, viewed_at, place_at, show_all, show, trapped_to, after, called, is_mark, delivered, answered, refused, grown_memory, grown_table, granted, decided, shows, got, size_of, does, byte_of, set, extended, moved, at_entries, or_bad, next_move, tick}
 use Rattle.wasm_meaning.specs.Below.{IsBottom, GivesNothing, a_frame, a_call, over, Unseen, goes_on, ended, trapped}
 
 -- ---- outcomes ----
@@ -44,6 +44,24 @@ funcs_stay s (SetMemory a m) = refl
 funcs_stay s (SetTable a t) = refl
 funcs_stay s (DropElem a) = refl
 funcs_stay s (DropData a) = refl
+
+abbrev by_host : Caller → Bool
+by_host Host = true
+by_host Starter = false
+
+abbrev waits_host : Outcome (Caller × List Entry) → Bool
+waits_host (Gives w) = by_host w.0
+waits_host _ = false
+
+-- where a start is waited for the embedder waits for no call of its own
+unmarked : (cs : List Entry) → to_mark cs ≡ Gives (Starter, []) → is_mark cs ≡ false
+unmarked [] e = refl
+unmarked (Running f ∷ es) e = refl
+unmarked (Mark ∷ es) e = ap waits_host e
+unmarked (Opening xs ∷ es) e = refl
+unmarked (Waiting ts ∷ es) e = refl
+unmarked (Ended vs ∷ es) e = refl
+unmarked (Growing g ∷ es) e = refl
 
 module _ (cs ds : List Entry) (low : IsBottom cs) (other : IsBottom ds) (p q : Phase) where
   -- the run with these entries over the one, and over the other
@@ -144,7 +162,7 @@ module _ (cs ds : List Entry) (low : IsBottom cs) (other : IsBottom ds) (p q : P
   called_below r es fs g h xs a = bind_same (type_at r.store a) (λ t. bind_same (received_all r.owned r.shown t.params xs) (λ vs. gives (after_below r es g (enter_at_below r.store a vs fs h))))
 
   delivered_low : (r : Run) (es : List Entry) → GivesNothing es → Alike r.store.funcs (delivered (first r es) [] cs) (delivered (second r es) [] ds)
-  delivered_low r es g = rw (low.unmarked, other.unmarked, low.gives r.store, other.gives r.store) (after_below r es g (gives (ran_out refl)))
+  delivered_low r es g = rw (unmarked cs low.traps, unmarked ds other.traps, low.gives r.store, other.gives r.store) (after_below r es g (gives (ran_out refl)))
 
   delivered_below : (r : Run) (es : List Entry) → GivesNothing es → (vs : List Val) {fs : List Entry} → GivesNothing fs → Alike r.store.funcs (delivered (first r es) vs (fs ++ cs)) (delivered (second r es) vs (fs ++ ds))
   delivered_below r es g vs (a_frame n) = after_below r es g (give_below r.store vs (a_frame n))

@@ -3,13 +3,12 @@ use Rattle.std.proofs.Common.{◌≡◌, List, [], ◌∷◌, ◌++◌, Option, 
 use Rattle.wasm_meaning.specs.Outcomes.{Gives}
 use Rattle.wasm_meaning.specs.State.{Func, Store, Frame, Entry, Running, Starter, Opening, Waiting, Ran}
 use Rattle.wasm_meaning.specs.Step.{give, to_mark}
-use Rattle.wasm_meaning.specs.Run.{Event, InstanceTrapped, Phase, Closed, Run, Out, is_mark, tick}
+use Rattle.wasm_meaning.specs.Run.{Event, InstanceTrapped, Phase, Closed, Run, Out, tick}
 
--- What a start stands on: given nothing it goes on as it is, a trap in the start is the start's own, and the embedder made no call there.
+-- What a start stands on: given nothing it goes on as it is, and whatever traps above it traps the start.
 pub record IsBottom (cs : List Entry) : Type 0 where
   pub gives : (s : Store) → give s [] cs ≡ Gives (Ran s cs)
   pub traps : to_mark cs ≡ Gives (Starter, [])
-  pub unmarked : is_mark cs ≡ false
 
 abbrev pub is_opening : Entry → Bool
 is_opening (Opening xs) = true
