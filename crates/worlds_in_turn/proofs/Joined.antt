@@ -83,7 +83,6 @@ module _ (env : Environment) (parts : List Part) (insts : List Inst) (are : inst
     stays_own : (x : Thing) (o : Option (Made × ExportDesc)) → joined parts i ≡ None → o ≡ None → imported_thing env parts (record { part = p; import = n }) ≡ Some x → thing_or_own (owned_of env) m i o ≡ Some x
     stays_own x o j none h =
         let e = then_is (end_of parts (record { part = p; import = n })) (thing_of env parts) x h in
-        let s : record { part = p; import = n } ≡ record { part = p; import = n } = refl in
         let end = ends_at parts (record { part = p; import = n }) e.0 (Outside (record { part = p; import = n })) (step_is ∙ ap (λ o. Some (joined_step parts (record { part = p; import = n }) o)) j) e.1 in
         let thing = ap (thing_of env parts) end ∙ e.2 in
         let own = ap₂ (λ o q. then_some o (λ m. then_some q (λ i. then_some (own_key m i) (λ key. given (owned_at (owned_of env) key))))) is_part import_is in
