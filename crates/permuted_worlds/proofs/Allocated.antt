@@ -26,7 +26,8 @@ use Rattle.index_remap.specs.Laws.{RenumberedCodeIsRelated}
 use Rattle.index_remap.proofs.Rel.{append_rel, copies_rel}
 use Rattle.permuted_worlds.specs.Permuted.{moving, IsOrder, permuted}
 use Rattle.permuted_worlds.proofs.Places.{left_true, right_true, found, within, place_left, place_right, map_length, append_length, number_at, Moves, stays, goes, moves_by, some_then, then_rel, then_rel_is, then_same, opt_self, opt_at, place_rel, self_rel, tested_rel, map_rel, maps_rel, all_rel, all_length, AllThere, each_there, tested_at, both_at, both_in}
-use Rattle.permuted_worlds.proofs.Alone.{one, read_in, read_place, read_is}
+use Rattle.permuted_worlds.specs.Alone.{one, read_in, read_place}
+use Rattle.permuted_worlds.proofs.Alone.{read_is}
 use Rattle.permuted_worlds.proofs.Partners.{related, pairing, partner, null_rel, flat_rel, own_tables_rel, own_globals_rel}
 use Rattle.permuted_worlds.proofs.Named.{all_named}
 use Rattle.permuted_worlds.proofs.Instances.{Fits, stays_at, below, imports_stay, InstRel, entries_name}

@@ -24,7 +24,7 @@ use Rattle.index_remap.specs.Laws.{passed}
 use Rattle.index_remap.proofs.Rel.{append_rel}
 use Rattle.permuted_worlds.specs.Permuted.{moved, IsOrder}
 use Rattle.permuted_worlds.proofs.Places.{append_length, map_length, place_numbers, number_at, moved_low, moved_high, Moves, stays, goes, moves_by, then_rel, then_same, opt_self, self_rel, maps_rel, all_rel}
-use Rattle.permuted_worlds.proofs.Alone.{key_in, thing_in, addresses}
+use Rattle.permuted_worlds.specs.Alone.{key_in, thing_in, addresses}
 
 -- for each address of a kind the one that stands for it
 abbrev pub partners : Environment → List ℕ → Module → Kind → List ℕ

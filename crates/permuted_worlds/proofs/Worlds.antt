@@ -21,7 +21,7 @@ use Rattle.index_remap.proofs.Rel.{append_rel}
 use Rattle.remap_typing.specs.Trees.{Covers}
 use Rattle.permuted_worlds.specs.Permuted.{moving, IsOrder, permuted}
 use Rattle.permuted_worlds.proofs.Places.{map_length, append_length, numbers_length, moved_length, then_rel, tested_rel, maps_rel, all_rel}
-use Rattle.permuted_worlds.proofs.Alone.{one}
+use Rattle.permuted_worlds.specs.Alone.{one}
 use Rattle.permuted_worlds.proofs.Partners.{pairing, owned_rel}
 use Rattle.permuted_worlds.proofs.Instances.{Fits, InstRel, row_names, insts_rel}
 use Rattle.permuted_worlds.proofs.Allocated.{Alike, stores_rel, stores_alike}

@@ -1,3 +1,4 @@
+pub mod Alone
 pub mod Instances
 pub mod Permuted
 pub mod Silent
