@@ -1,14 +1,13 @@
 -- The instances of the parts, and the instance of the merged module: all there or none, and each index of a part and its new one name one address.
-use Rattle.std.proofs.Common.{◌≡◌, ◌∙◌, ap, ap₂, sym, subst, refl, ℕ, zero, suc, ◌+◌, ◌-◌, ◌<◌, ◌≤◌, List, [], ◌∷◌, ◌++◌, map, length, Option, Some, None, arith, ◌⊎◌, inl, inr}
+use Rattle.std.proofs.Common.{◌≡◌, ◌∙◌, ap, ap₂, sym, subst, refl, ℕ, ◌+◌, ◌-◌, ◌<◌, ◌≤◌, List, [], ◌∷◌, ◌++◌, map, length, Option, Some, None, arith, ◌⊎◌, inl, inr}
 use Rattle.std.specs.Prelude.{slice_index}
 use Rattle.std.proofs.lemmas.Bool.{cases_lt}
-use Rattle.wasm_tree.specs.declared.types.FuncType.{FuncType}
 use Rattle.wasm_tree.specs.declared.module.Module.{Module}
 use Rattle.wasm_tree.specs.Spaces.{funcs_of, tables_of, memories_of, globals_of, imported_funcs, imported_tables, imported_memories, imported_globals}
 use Rattle.wasm_meaning.specs.State.{Inst}
 use Rattle.wasm_meaning.specs.Linking.{Part, Site, Outside, Kind, Functions, Tables, Memories, Globals, place, then_some, has_kind, module_at, imports_of, end_of}
 use Rattle.wasm_meaning.specs.Environment.{Environment}
-use Rattle.wasm_meaning.specs.World.{own_count, defined_count, defined_before, base, thing_of, address_of, all_there, numbers, space, elems_before, datas_before, inst_of, insts_from}
+use Rattle.wasm_meaning.specs.World.{own_count, defined_count, base, thing_of, address_of, all_there, numbers, space, elems_before, datas_before, inst_of, insts_from}
 use Rattle.index_remap.specs.Related.{OptRel, none, some}
 use Rattle.index_remap.specs.Related as to
 use Rattle.export_names.specs.declared.mode.Mode.{Mode}
@@ -26,9 +25,9 @@ use Rattle.merge_worlds.specs.Shared.{shared_count}
 use Rattle.merge_worlds.specs.Instances.{SameAddress, SpaceAgrees, PartAgrees, InstancesAgree}
 use Rattle.merge_worlds.proofs.SpaceLaws.{SpaceLaws}
 use Rattle.merge_worlds.proofs.Chosen.{all_at, place_there}
-use Rattle.merge_worlds.proofs.Instancing.{IsInst, inst_is, inst_there, EachInst, insts_are, insts_there}
+use Rattle.merge_worlds.proofs.Instancing.{IsInst, inst_is, inst_there, insts_are, insts_there}
 use Rattle.merge_worlds.proofs.Standing.{kind_in, before_low, shared_is, total, import_address, site_address, site_low, Stands, own, stays, import_stands, own_stands}
-use Rattle.merge_worlds.proofs.MergedAlone.{Keeps, joined_keeps, staying_kind, names_of, merged_types_are, merged_space, elems_many, datas_many}
+use Rattle.merge_worlds.proofs.MergedAlone.{joined_keeps, staying_kind, names_of, merged_types_are, merged_space, elems_many, datas_many}
 
 -- ---- the entries of a part's map ----
 

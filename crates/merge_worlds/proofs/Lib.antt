@@ -1,1 +1,6 @@
-
+pub mod SpaceLaws
+pub mod Chosen
+pub mod Instancing
+pub mod Standing
+pub mod MergedAlone
+pub mod Instances
