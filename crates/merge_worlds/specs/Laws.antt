@@ -1,5 +1,5 @@
 -- That a merged module behaves as its parts linked by name.
-use Rattle.std.specs.Prelude.{◌+◌, List}
+use Rattle.std.specs.Prelude.{ℕ, ◌+◌, List}
 use Rattle.wasm_meaning.specs.Linking.{Part}
 use Rattle.wasm_meaning.specs.World.{alone}
 use Rattle.wasm_meaning.specs.Run.{Same}
