@@ -4,3 +4,6 @@ pub mod Instancing
 pub mod Standing
 pub mod MergedAlone
 pub mod Instances
+pub mod Named
+pub mod View
+pub mod Starts
