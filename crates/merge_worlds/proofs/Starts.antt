@@ -1,19 +1,19 @@
 -- The functions that the parts start, and what the merged module starts: the same one, or none, or the one function that calls them.
-use Rattle.std.proofs.Common.{◌≡◌, ◌∙◌, ap, ap₂, sym, subst, refl, ℕ, zero, suc, ◌+◌, ◌<◌, List, [], ◌∷◌, ◌++◌, map, length, Option, Some, None, true, arith}
+use Rattle.std.proofs.Common.{◌≡◌, ◌∙◌, ap, ap₂, sym, subst, refl, ℕ, suc, ◌+◌, ◌<◌, List, [], ◌∷◌, ◌++◌, length, Option, Some, None, true, arith}
 use Rattle.std.specs.Prelude.{slice_index}
 use Rattle.std.proofs.lemmas.Bool.{ltb-true}
 use Rattle.wasm_tree.specs.declared.module.Module.{Module}
 use Rattle.wasm_tree.specs.Spaces.{funcs_of}
 use Rattle.wasm_meaning.specs.State.{Text, Inst}
-use Rattle.wasm_meaning.specs.Linking.{Part, Functions, place, then_some, module_at}
+use Rattle.wasm_meaning.specs.Linking.{Part, Functions, place, module_at}
 use Rattle.wasm_meaning.specs.Environment.{Environment}
-use Rattle.wasm_meaning.specs.World.{own_count, defined_before, one_place, start_in, starts_of, numbers, base, inst_of, insts_from}
+use Rattle.wasm_meaning.specs.World.{own_count, defined_before, one_place, start_in, starts_of, numbers, inst_of, insts_from}
 use Rattle.index_remap.specs.Renumbered.{fits_start}
 use Rattle.index_remap.specs.Related.{Funcs, ListRel, nil, cons}
 use Rattle.index_remap.proofs.Rel.{append_rel}
 use Rattle.export_names.specs.declared.mode.Mode.{Mode}
 use Rattle.merge_terms.specs.Faults.{link_fault}
-use Rattle.merge_terms.specs.Merged.{merged, map_of, new_index, start_of, starts, start_among, staying_of, by_part_from, defined_funcs, start_calls}
+use Rattle.merge_terms.specs.Merged.{merged, map_of, new_index, start_of, starts, start_among, staying_of, by_part_from, start_calls}
 use Rattle.merge_terms.specs.Joined.{joined_module}
 use Rattle.merge_validity.specs.Ended.{added_count}
 use Rattle.merge_validity.proofs.Lists.{then_is}

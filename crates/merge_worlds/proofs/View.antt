@@ -1,10 +1,10 @@
 -- The view of the linked parts, and that of the merged module: the same names, each for one entity.
-use Rattle.std.proofs.Common.{◌≡◌, ◌∙◌, ap, sym, subst, refl, ℕ, zero, suc, ◌+◌, List, [], ◌∷◌, map, length, Option, Some, None, true, arith}
+use Rattle.std.proofs.Common.{◌≡◌, ◌∙◌, ap, sym, subst, refl, ℕ, ◌+◌, List, [], ◌∷◌, map, Option, Some, None, true, arith}
 use Rattle.wasm_tree.specs.declared.module.Export.{Export}
 use Rattle.wasm_tree.specs.declared.module.Module.{Module}
 use Rattle.wasm_meaning.specs.State.{Text, Inst}
 use Rattle.wasm_meaning.specs.Linking.{Part, Entity, place, then_some, module_at}
-use Rattle.wasm_meaning.specs.Environment.{Environment, Thing}
+use Rattle.wasm_meaning.specs.Environment.{Environment}
 use Rattle.wasm_meaning.specs.World.{address_in, seen_as, all_there, alone}
 use Rattle.index_remap.specs.Renumbered.{fits_export, new_export}
 use Rattle.index_remap.specs.Related.{OptRel, some, ListRel, nil, cons}
