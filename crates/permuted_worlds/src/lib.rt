@@ -2,11 +2,8 @@
 //! one start may call several functions.
 #![tactic(auto)]
 
+ghost use Rattle.permuted_worlds.specs.Alone.{ImportsStandForTheEnvironments, ImportsStay, ReadsStay, SpacesAreImportsAndOwn};
 ghost use Rattle.permuted_worlds.specs.Instances.{RelatedBegunShowTheSame, RelatedInstancesShowTheSame};
-ghost use Rattle.permuted_worlds.specs.Alone.{
-    ImportsStandForTheEnvironments, ImportsStay, ReadsStay, SpacesAreImportsAndOwn,
-};
-ghost use Rattle.permuted_worlds.specs.Instances.{RelatedInstancesShowTheSame};
 ghost use Rattle.permuted_worlds.specs.Owned.{OwnEntitiesCorrespond};
 ghost use Rattle.permuted_worlds.specs.Permuted.{OrderIsNotSeen};
 ghost use Rattle.permuted_worlds.specs.Silent.{BudgetedRunsShowTheSame, SlowerRunsShowTheSame};
@@ -16,8 +13,6 @@ use index_remap::{related_runs_show_the_same, renumbered_code_is_related};
 use remap_typing::renumbering_keeps_typing;
 use wasm_meaning::what_stands_below_is_not_seen;
 
-/// Two worlds show the same events, step by step, where neither can be instantiated, or both to what corresponds (WebAssembly Core 2.0, section 4.5.4): of worlds
-/// (`same`), and of what they are instantiated to (`begun`).
 /// In the world of a module alone each import is its own end (`ends`) and stands for what the environment offers of its name, or for nothing (`things`); the
 /// index spaces are these, then what the module defines (`spaces`); and constant expressions read what stands in them (`reads`).
 pub fn imports_of_one_module_stay()
@@ -32,7 +27,8 @@ pub fn own_entities_correspond()
     ensures own { OwnEntitiesCorrespond }
 {}
 
-/// Two worlds show the same events, step by step, where neither can be instantiated, or both to what corresponds (WebAssembly Core 2.0, section 4.5.4).
+/// Two worlds show the same events, step by step, where neither can be instantiated, or both to what corresponds (WebAssembly Core 2.0, section 4.5.4): of worlds
+/// (`same`), and of what they are instantiated to (`begun`).
 pub fn related_instances_show_the_same()
     ensures same { RelatedInstancesShowTheSame }
     ensures begun { RelatedBegunShowTheSame }
