@@ -4,3 +4,5 @@ mod StepExtends
 mod TickExtends
 mod Things
 mod Joined
+mod Reached
+mod Low
