@@ -6,3 +6,4 @@ mod Things
 mod Joined
 mod Reached
 mod Low
+mod Turn
