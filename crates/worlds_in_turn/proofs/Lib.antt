@@ -7,3 +7,4 @@ mod Joined
 mod Reached
 mod Low
 mod Turn
+mod Closed
