@@ -8,3 +8,4 @@ mod Reached
 mod Low
 mod Turn
 mod Closed
+mod Beside

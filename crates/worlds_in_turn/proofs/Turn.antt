@@ -39,12 +39,12 @@ pub record Holds (env : Environment) (parts : List Part) (p : ℕ) (s t : Store)
 inst_eq : (i j : Inst) → i.types ≡ j.types → i.funcs ≡ j.funcs → i.tables ≡ j.tables → i.mems ≡ j.mems → i.globals ≡ j.globals → i.elems ≡ j.elems → i.datas ≡ j.datas → i ≡ j
 inst_eq i j a b c d e f g = rw (← a, ← b, ← c, ← d, ← e, ← f, ← g) refl
 
-place_at : {A : Type 0} (xs : List A) (n : ℕ) (x : A) → place xs n ≡ Some x → at xs n ≡ Gives x
+pub place_at : {A : Type 0} (xs : List A) (n : ℕ) (x : A) → place xs n ≡ Some x → at xs n ≡ Gives x
 place_at [] n x e = cc
 place_at (y ∷ ys) zero x e = ap Gives (some_is e)
 place_at (y ∷ ys) (suc n) x e = place_at ys n x e
 
-at_place : {A : Type 0} (xs : List A) (n : ℕ) (x : A) → at xs n ≡ Gives x → place xs n ≡ Some x
+pub at_place : {A : Type 0} (xs : List A) (n : ℕ) (x : A) → at xs n ≡ Gives x → place xs n ≡ Some x
 at_place [] n x e = cc
 at_place (y ∷ ys) zero x e = let s : y ≡ x = cc in ap Some s
 at_place (y ∷ ys) (suc n) x e = at_place ys n x e
