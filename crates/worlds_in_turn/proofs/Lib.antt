@@ -9,3 +9,4 @@ mod Low
 mod Turn
 mod Closed
 mod Beside
+mod Making
