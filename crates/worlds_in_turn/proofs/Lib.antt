@@ -10,3 +10,4 @@ mod Turn
 mod Closed
 mod Beside
 mod Making
+mod Filling
