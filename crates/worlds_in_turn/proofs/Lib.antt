@@ -11,3 +11,4 @@ mod Closed
 mod Beside
 mod Making
 mod Filling
+mod Given
