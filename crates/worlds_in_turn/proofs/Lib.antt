@@ -12,3 +12,4 @@ mod Beside
 mod Making
 mod Filling
 mod Given
+mod Waiting
