@@ -8,7 +8,7 @@ use Rattle.wasm_meaning.specs.State.{Inst, Func, Code, Own, Table, Memory, Globa
 use Rattle.wasm_meaning.specs.Control.{type_of_func, own_of, type_at, own_at}
 use Rattle.wasm_meaning.specs.Linking.{Part, Functions, Tables, Memories, Globals, place, module_at}
 use Rattle.wasm_meaning.specs.Environment.{Environment}
-use Rattle.wasm_meaning.specs.World.{base, elems_before, datas_before, store_with, const_value, joined_stores, part_store}
+use Rattle.wasm_meaning.specs.World.{own_store, base, elems_before, datas_before, store_with, const_value, joined_stores, part_store}
 use Rattle.index_remap.specs.Related.{Kind, Funcs, Mems, Elems, Datas, Pairing, BothRel, both, ResRel, done, ListRel, nil, cons, FuncRel, TableRel, GlobalRel, ElemRel, StoreRel}
 use Rattle.index_remap.specs.Related as to
 use Rattle.index_remap.specs.Laws.{CodeIsRelatedToItself}
@@ -66,6 +66,7 @@ pub record Laid (env : Environment) (parts : List Part) (insts : List Inst) (all
   pub first : ℕ → Store
   pub adds : ℕ → Store
   pub rest : ℕ → Store
+  pub first_none : first 0 ≡ own_store env
   pub first_sized : (k : ℕ) → k ≤ length parts → Sized env parts k (first k)
   pub parted : (k : ℕ) → k ≤ length parts → allocated ≡ joined_stores (first k) (rest k)
   pub first_next : (k : ℕ) (m : Module) → module_at parts k ≡ Some m → first (suc k) ≡ joined_stores (first k) (adds k)

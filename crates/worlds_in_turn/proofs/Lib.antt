@@ -1,4 +1,3 @@
-mod TestRel
 mod Extends
 mod StepExtends
 mod TickExtends
@@ -13,3 +12,4 @@ mod Making
 mod Filling
 mod Given
 mod Waiting
+mod Over
