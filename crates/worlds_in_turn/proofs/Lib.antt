@@ -13,3 +13,4 @@ mod Filling
 mod Given
 mod Waiting
 mod Over
+mod Stages
