@@ -14,3 +14,4 @@ mod Given
 mod Waiting
 mod Over
 mod Stages
+mod Begins
