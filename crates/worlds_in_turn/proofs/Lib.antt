@@ -15,3 +15,4 @@ mod Waiting
 mod Over
 mod Stages
 mod Begins
+mod Whole
