@@ -1,1 +1,10 @@
-
+pub mod ValueShared
+pub mod ValueAlone
+pub mod ValueGiven
+pub mod Values
+pub mod AllocatedLists
+pub mod AllocatedFuncs
+pub mod AllocatedParts
+pub mod AllocatedMerged
+pub mod Allocated
+pub mod AllocatedRelated
