@@ -1,5 +1,5 @@
 -- Where imports of linked parts end, with all that is asked and found there; and which sites are imports.
-use Rattle.std.proofs.Common.{◌≡◌, ◌∙◌, ap, ap₂, sym, subst, refl, ℕ, zero, suc, ◌+◌, ◌<◌, ◌≤◌, List, [], ◌∷◌, ◌++◌, length, Option, Some, None, Bool, true, false, cond, arith}
+use Rattle.std.proofs.Common.{◌≡◌, ◌∙◌, ap, ap₂, sym, subst, refl, ℕ, zero, suc, ◌+◌, ◌-◌, ◌<◌, ◌≤◌, List, [], ◌∷◌, ◌++◌, length, Option, Some, None, Bool, true, false, cond, arith}
 use Rattle.std.specs.Prelude.{slice_get}
 use Rattle.std.proofs.lemmas.List.{length-append, length-map}
 use Rattle.wasm_tree.specs.declared.types.GlobalType.{GlobalType}
@@ -11,11 +11,11 @@ use Rattle.wasm_meaning.specs.State.{Text, Pair}
 use Rattle.wasm_meaning.specs.Laws.{EndsArePaths}
 use Rattle.wasm_meaning.specs.Environment.{Owned, OwnKey, MemoryKey, owned_at}
 use Rattle.wasm_meaning.specs.Values.{same_ref, same_type, same_func_type}
-use Rattle.wasm_meaning.specs.World.{same_bool, given, defined_count, own_key, own_key_of, outside_thing}
-use Rattle.wasm_meaning.specs.Linking.{Part, Site, End, Defined, Outside, Entity, Kind, Functions, Tables, Memories, Globals, place, then_some, has_kind, module_at, import_at, imports_of, kind_of_import, index_of_export, pair_of, sites_in, sites, end_of, linked_end, is_outside, gathered}
+use Rattle.wasm_meaning.specs.World.{same_bool, given, defined_count, defined_before, own_key, own_key_of, outside_thing}
+use Rattle.wasm_meaning.specs.Linking.{Part, Site, End, Defined, Outside, Entity, Kind, Functions, Tables, Memories, Globals, place, then_some, has_kind, module_at, import_at, imports_of, imported_as, kind_of_import, index_of_export, pair_of, sites_in, sites, end_of, linked_end, is_outside, gathered}
 use Rattle.merge_terms.specs.Faults.{External, FuncOf, TableOf, MemoryOf, GlobalOf, asked_at, found, suits, external_of, same_but_limits, meets_limits, stays, link_fault}
-use Rattle.merge_terms.specs.Merged.{merged, start_calls, starts, by_part, staying_of, place_of_end}
-use Rattle.merge_validity.specs.Ended.{EndsInside, EndsOutside, Ended, inside, outside, added_count, LinkedImportsEnd, StayingImportsEndThere, SitesAreImports, StayingImportsHavePlaces, TypesHavePlaces, MergedModulesDefineAll}
+use Rattle.merge_terms.specs.Merged.{merged, start_calls, starts, by_part, staying_of, place_of_end, end_from}
+use Rattle.merge_validity.specs.Ended.{EndsInside, EndsOutside, Ended, inside, outside, added_count, LinkedImportsEnd, StayingImportsEndThere, SitesAreImports, StayingImportsHavePlaces, NewIndicesArePlaces, DefinedEntitiesHavePlaces, TypesHavePlaces, MergedModulesDefineAll}
 use Rattle.merge_validity.proofs.Lists.{then_is, place_get, there, within, past}
 use Rattle.merge_validity.proofs.Same.{both_are, cond_both, ref_same, type_same, func_type_same, kind_is}
 use Rattle.merge_validity.proofs.Entities.{own, imported, space, own_many, kind_of, bare, type_of}
@@ -24,7 +24,7 @@ use Rattle.merge_validity.proofs.TypePlaces.{type_stands}
 use Rattle.merge_validity.proofs.MergedSpaces.{extra, moved_own, own_is, all_own}
 use Rattle.merge_validity.proofs.Linked.{Suited, AreLinked, are_linked, sites_are, import_site, in_sites}
 use Rattle.merge_validity.proofs.Ends.{Gathers, gathers, end_outside, kind_asked, gathered_type, lands_inside, outside_is}
-use Rattle.merge_validity.proofs.Entries.{imports_many, inside_own, stays_is, staying_place, has_its_kind}
+use Rattle.merge_validity.proofs.Entries.{imports_many, inside_own, count_is, stays_is, staying_place, has_its_kind, entity_at, index_is, entry_import}
 
 -- ---- what is the same but for limits ----
 
@@ -213,6 +213,16 @@ sites_are_imports parts s = (λ n h. site_there parts n s h, λ i h. let r = in_
 
 pub have_places : StayingImportsHavePlaces
 have_places parts s i at remains k e = place_get (staying_of parts k) (place_of_end parts k (Outside s)) ∙ staying_place parts k s i at remains (has_its_kind k i e)
+
+pub indices_are_places : NewIndicesArePlaces
+indices_are_places parts p m k x is = (λ n e h linked. index_is parts p k x e (ap (end_from parts (entity_at p k x)) (imported_at h) ∙ linked), λ h. index_is parts p k x (Defined (entity_at p k x)) (ap (end_from parts (entity_at p k x)) (imported_at h)))
+  where
+    imported_at : {o : Option ℕ} → place (imports_of k m) x ≡ o → imported_as parts (entity_at p k x) ≡ then_some {A = ℕ} {B = Site} o (λ n. Some (record { part = p; import = n }))
+    imported_at h = entry_import parts p m k x is ∙ ap (λ o. then_some {A = ℕ} {B = Site} o (λ n. Some (record { part = p; import = n }))) h
+
+pub defined_have_places : DefinedEntitiesHavePlaces
+unfolding place_of_end
+defined_have_places parts e m k is = ap (λ n. length (staying_of parts k) + (defined_before k parts e.part + (index_of_export e.what - n))) (count_is parts k e.part m is)
 
 pub types_have_places : TypesHavePlaces
 types_have_places parts p m x t is h = place_get _ _ ∙ type_stands parts p m x t is (sym (place_get m.types x) ∙ h)

@@ -70,7 +70,7 @@ no_import parts p n (Some x) h = cc
 
 -- ---- places ----
 
-count_is : (parts : List Part) (k : Kind) (p : ℕ) (m : Module) → module_at parts p ≡ Some m → imported_count parts p k ≡ length (imports_of k m)
+pub count_is : (parts : List Part) (k : Kind) (p : ℕ) (m : Module) → module_at parts p ≡ Some m → imported_count parts p k ≡ length (imports_of k m)
 count_is parts k p m e = ap (λ o. or_this 0 (then_some o (λ m. Some (length (imports_of k m))))) e
 
 -- what a part defines

@@ -1,5 +1,5 @@
 -- Where the imports of linked parts end, and where the types and entities of the parts stand in the merged module.
-use Rattle.std.specs.Prelude.{◌≡◌, ℕ, ◌+◌, ◌<◌, ◌≤◌, List, length, Option, Some, None, true, slice_index}
+use Rattle.std.specs.Prelude.{◌≡◌, ℕ, ◌+◌, ◌-◌, ◌<◌, ◌≤◌, List, length, Option, Some, None, true, slice_index}
 use Rattle.wasm_tree.specs.declared.types.FuncType.{FuncType}
 use Rattle.wasm_tree.specs.declared.module.Import.{Import}
 use Rattle.wasm_tree.specs.declared.module.Module.{Module}
@@ -8,7 +8,7 @@ use Rattle.wasm_meaning.specs.Linking.{Part, Site, End, Defined, Outside, Entity
 use Rattle.wasm_meaning.specs.Environment.{Owned}
 use Rattle.wasm_meaning.specs.World.{defined_count, defined_before, outside_thing}
 use Rattle.merge_terms.specs.Faults.{External, asked_at, external_of, same_but_limits, meets_limits, link_fault, stays}
-use Rattle.merge_terms.specs.Merged.{merged, merged_types, map_of, staying_of, place_of_end, starts, start_calls}
+use Rattle.merge_terms.specs.Merged.{merged, merged_types, map_of, staying_of, place_of_end, entry_of, new_index, starts, start_calls}
 
 -- An import ends with an entity that a part defines, which is what it asks for.
 pub record EndsInside (parts : List Part) (s : Site) (i : Import) : Type 0 where
@@ -75,6 +75,19 @@ SitesAreImports =
 abbrev pub StayingImportsHavePlaces : Type 0
 StayingImportsHavePlaces =
     (parts : List Part) (s : Site) (i : Import) → import_at parts s ≡ Some i → stays parts s ≡ true → (k : Kind) → kind_of_import i.desc ≡ k → place (staying_of parts k) (place_of_end parts k (Outside s)) ≡ Some s
+
+-- an index of a part's space becomes the place of its import's end, or of what the part defines
+abbrev pub NewIndicesArePlaces : Type 0
+NewIndicesArePlaces =
+    (parts : List Part) (p : ℕ) (m : Module) (k : Kind) (x : ℕ) → module_at parts p ≡ Some m →
+    ((n : ℕ) (e : End) → place (imports_of k m) x ≡ Some n → linked_end parts (record { part = p; import = n }) ≡ Some e → new_index parts p k x ≡ place_of_end parts k e)
+    × (place (imports_of k m) x ≡ None → new_index parts p k x ≡ place_of_end parts k (Defined (record { part = p; what = entry_of k x })))
+
+-- what a part defines comes after what stays, by part
+abbrev pub DefinedEntitiesHavePlaces : Type 0
+DefinedEntitiesHavePlaces =
+    (parts : List Part) (e : Entity) (m : Module) (k : Kind) → module_at parts e.part ≡ Some m →
+    place_of_end parts k (Defined e) ≡ length (staying_of parts k) + (defined_before k parts e.part + (index_of_export e.what - length (imports_of k m)))
 
 -- each type of a part stands where the part's map says
 abbrev pub TypesHavePlaces : Type 0

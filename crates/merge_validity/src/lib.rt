@@ -15,8 +15,8 @@ ghost use Rattle.merge_terms.specs.Faults.{link_fault};
 ghost use Rattle.merge_terms.specs.Merged.{map_of};
 ghost use Rattle.merge_terms.specs.Joined.{joined_module};
 ghost use Rattle.merge_validity.specs.Ended.{
-    LinkedImportsEnd, MergedModulesDefineAll, SitesAreImports, StayingImportsEndThere,
-    StayingImportsHavePlaces, TypesHavePlaces,
+    DefinedEntitiesHavePlaces, LinkedImportsEnd, MergedModulesDefineAll, NewIndicesArePlaces,
+    SitesAreImports, StayingImportsEndThere, StayingImportsHavePlaces, TypesHavePlaces,
 };
 ghost use Rattle.merge_validity.specs.Entries.{HasEntry};
 ghost use Rattle.merge_validity.specs.Joinable.{CanBeJoined, EachPart};
@@ -58,13 +58,15 @@ pub fn maps_have_entries()
 }
 
 /// Where parts are linked, each import ends with what it asks for, inside or outside (`ends`), and what stays is its own end (`stays`); the sites are the
-/// imports that are there (`sites`). In the merged module each import that stays and each type has its place (`places`, `types`), and what is defined are
-/// the definitions of all parts (`counts`).
+/// imports that are there (`sites`). In the merged module each import that stays, each index, each definition and each type of a part has its place
+/// (`places`, `indices`, `defined`, `types`), and what is defined are the definitions of all parts (`counts`).
 pub fn linked_imports_have_ends()
     ensures ends { LinkedImportsEnd }
     ensures stays { StayingImportsEndThere }
     ensures sites { SitesAreImports }
     ensures places { StayingImportsHavePlaces }
+    ensures indices { NewIndicesArePlaces }
+    ensures defined { DefinedEntitiesHavePlaces }
     ensures types { TypesHavePlaces }
     ensures counts { MergedModulesDefineAll }
 {

@@ -1,4 +1,5 @@
 pub mod Alone
+pub mod Owned
 pub mod Instances
 pub mod Named
 pub mod Permuted

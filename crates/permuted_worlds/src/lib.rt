@@ -6,6 +6,7 @@ ghost use Rattle.permuted_worlds.specs.Alone.{
 };
 ghost use Rattle.permuted_worlds.specs.Instances.{RelatedInstancesShowTheSame};
 ghost use Rattle.permuted_worlds.specs.Named.{FittingCodeIsNamed};
+ghost use Rattle.permuted_worlds.specs.Owned.{OwnEntitiesCorrespond};
 ghost use Rattle.permuted_worlds.specs.Permuted.{OrderIsNotSeen};
 ghost use Rattle.permuted_worlds.specs.Silent.{BudgetedRunsShowTheSame, SlowerRunsShowTheSame};
 
@@ -19,6 +20,11 @@ pub fn imports_of_one_module_stay()
     ensures things { ImportsStandForTheEnvironments }
     ensures spaces { SpacesAreImportsAndOwn }
     ensures reads { ReadsStay }
+{}
+
+/// Where each address of the environment's own entities stands for itself, so do their keys, and what is allocated for them corresponds.
+pub fn own_entities_correspond()
+    ensures own { OwnEntitiesCorrespond }
 {}
 
 /// Two worlds show the same events, step by step, where neither can be instantiated, or both to what corresponds (WebAssembly Core 2.0, section 4.5.4).
