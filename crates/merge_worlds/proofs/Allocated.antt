@@ -17,7 +17,7 @@ use Rattle.merge_validity.specs.Joinable.{CanBeJoined}
 use Rattle.merge_worlds.specs.Instances.{InstancesAgree}
 use Rattle.merge_worlds.specs.Shared.{sharing}
 use Rattle.merge_worlds.specs.Stores.{StoresAlike}
-use Rattle.merge_worlds.proofs.ValueShared.{null_rel, own_funcs_rel, own_tables_rel, own_globals_rel}
+use Rattle.merge_worlds.proofs.ValueShared.{null_rel, own_funcs_rel, own_entities}
 use Rattle.merge_worlds.proofs.ValueAlone.{types_are, func_count}
 use Rattle.merge_worlds.proofs.ValueGiven.{Laws, EachAgrees}
 use Rattle.merge_worlds.proofs.Values.{are_one}
@@ -91,9 +91,9 @@ module _ (laws : Laws) (env : Environment) (parts : List Part) (mode : Mode) (ca
           all_funcs = sym (append_assoc (own_funcs env) a.funcs more_funcs);
           funcs = subst (λ xs. ListRel (FuncRel R) xs (own_funcs env ++ a.funcs)) (sym g.funcs_are) (append_rel (own_funcs_rel env parts) g.funcs);
           tables = subst (λ xs. ListRel (TableRel R) xs (own_tables env ++ map table_of u.tables)) (sym (g.tables ∙ ap (λ ts. own_tables env ++ map table_of ts) (sym lists.tables)))
-              (append_rel (own_tables_rel env parts) (maps_rel _ _ (self_rel u.tables (λ t. record { type = refl; most = refl; slots = copies_rel _ _ t.limits.min (null_rel env parts t.ty) }))));
+              (append_rel (own_entities env parts laws.own).tables (maps_rel _ _ (self_rel u.tables (λ t. record { type = refl; most = refl; slots = copies_rel _ _ t.limits.min (null_rel env parts t.ty) }))));
           mems = g.mems ∙ ap (λ ms. own_memories env ++ map memory_of ms) (sym lists.mems);
-          globals = subst (λ xs. ListRel (GlobalRel R) xs (own_globals env ++ a.globals)) (sym g.globals_are) (append_rel (own_globals_rel env parts) g.globals);
+          globals = subst (λ xs. ListRel (GlobalRel R) xs (own_globals env ++ a.globals)) (sym g.globals_are) (append_rel (own_entities env parts laws.own).globals g.globals);
           shared_elems = a.elems;
           more_elems = more_elems;
           all_elems = refl;

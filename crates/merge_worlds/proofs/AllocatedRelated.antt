@@ -5,11 +5,13 @@ use Rattle.wasm_meaning.specs.Outcomes.{Outcome, Gives, bind, at}
 use Rattle.wasm_meaning.specs.State.{Func, Memory, Data, Store}
 use Rattle.wasm_meaning.specs.Control.{type_of_func, own_of}
 use Rattle.wasm_meaning.specs.Linking.{Part}
-use Rattle.wasm_meaning.specs.Environment.{Environment}
+use Rattle.wasm_meaning.specs.Environment.{Environment, owned_of}
 use Rattle.index_remap.specs.Related.{Kind, Funcs, Tables, Mems, Globals, Elems, Datas, Pairing, BothRel, both, ListRel, nil, cons, FuncRel, defined, own, slot, StoreRel}
+use Rattle.index_remap.specs.RelatedRuns.{KeyRel}
+use Rattle.permuted_worlds.specs.Owned.{OwnEntitiesCorrespond}
 use Rattle.merge_worlds.specs.Shared.{shared_count, sharing}
 use Rattle.merge_worlds.specs.Stores.{StoresAlike}
-use Rattle.merge_worlds.proofs.ValueShared.{is_same}
+use Rattle.merge_worlds.proofs.ValueShared.{is_same, own_entities}
 
 -- related lists, of which more may follow the second
 both_in : {A B : Type 0} {P : A → B → Type 0} {xs : List A} {ys : List B} (more : List B) → ListRel P xs ys → (n : ℕ) → n < length xs → BothRel P (at xs n) (at (ys ++ more) n)
@@ -67,3 +69,7 @@ module _ (env : Environment) (parts : List Part) where
     where
       funcs : (a b : ℕ) → R.of Funcs a b → BothRel (FuncRel R) (at s.funcs a) (at z.funcs b)
       funcs a b h = in_lists Funcs s.funcs k.shared_funcs k.more_funcs z.funcs k.funcs k.all_funcs k.func_count a b h
+
+-- the environment's own entities by key
+pub owned_rel : OwnEntitiesCorrespond → (env : Environment) (parts : List Part) → ListRel (KeyRel (sharing env parts)) (owned_of env) (owned_of env)
+owned_rel law env parts = (own_entities env parts law).owned

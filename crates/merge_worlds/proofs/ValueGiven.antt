@@ -13,6 +13,7 @@ use Rattle.index_remap.specs.Renumbered.{fits_tree}
 use Rattle.index_remap.specs.Laws.{RenumberedCodeIsRelated}
 use Rattle.permuted_worlds.specs.Alone.{SpacesAreImportsAndOwn, ReadsStay}
 use Rattle.permuted_worlds.specs.Named.{FittingCodeIsNamed}
+use Rattle.permuted_worlds.specs.Owned.{OwnEntitiesCorrespond}
 use Rattle.export_names.specs.declared.mode.Mode.{Mode}
 use Rattle.merge_terms.specs.Faults.{link_fault}
 use Rattle.merge_terms.specs.Joined.{joined_module}
@@ -32,6 +33,7 @@ pub record Laws : Type 0 where
   -- of permuted_worlds
   pub alone_reads : ReadsStay
   pub alone_spaces : SpacesAreImportsAndOwn
+  pub own : OwnEntitiesCorrespond
   pub named : FittingCodeIsNamed
   -- of index_remap
   pub code : RenumberedCodeIsRelated

@@ -23,7 +23,7 @@ use Rattle.merge_terms.specs.Merged.{map_of, or_this, merged_read, merged_const}
 use Rattle.merge_validity.specs.Joinable.{CanBeJoined}
 use Rattle.merge_worlds.specs.Instances.{PartAgrees, InstancesAgree}
 use Rattle.merge_worlds.specs.Shared.{sharing}
-use Rattle.merge_worlds.proofs.ValueShared.{shares, null_rel, own_globals_rel}
+use Rattle.merge_worlds.proofs.ValueShared.{shares, null_rel, own_entities}
 use Rattle.merge_worlds.proofs.ValueAlone.{global_value}
 use Rattle.merge_worlds.proofs.ValueGiven.{Laws, EachAgrees}
 
@@ -61,7 +61,7 @@ module _ (laws : Laws) (env : Environment) (parts : List Part) (mode : Mode) whe
         let a = k.globals.each x (ltb-true _ _ h) in
         opt_at (ap (λ o. then_some o (λ a. then_some (place (own_globals env) a) (λ g. Some g.value))) a.first)
         (global_value laws.alone_reads laws.alone_spaces env (joined_module parts mode) j are (slice_index (map_of parts q m).globals x) a.address a.second)
-        (then_rel (place_rel (own_globals_rel env parts) a.address) (λ _ _ g. some g.value))
+        (then_rel (place_rel (own_entities env parts laws.own).globals a.address) (λ _ _ g. some g.value))
 
     pub const_rel : (p : ℕ) (m : Module) (e : ConstExpr) (ty : ValType) → module_at parts p ≡ Some m → const_type m e ≡ Some ty → OptRel (ValRel R) (value_of env parts insts p e) (value_of env M (j ∷ []) 0 (merged_const parts p e))
     const_rel p m e ty is t =
