@@ -1,20 +1,20 @@
 -- Where imports of linked parts end, with all that is asked and found there; and which sites are imports.
-use Rattle.std.proofs.Common.{◌≡◌, ◌∙◌, ap, ap₂, sym, subst, refl, ℕ, zero, suc, ◌+◌, ◌-◌, ◌<◌, ◌≤◌, List, [], ◌∷◌, ◌++◌, length, Option, Some, None, Bool, true, false, cond, arith}
-use Rattle.std.specs.Prelude.{slice_get}
+use Rattle.std.proofs.Common.{◌≡◌, ◌∙◌, ap, ap₂, sym, subst, refl, ℕ, zero, suc, ◌+◌, ◌-◌, ◌<◌, List, length, Option, Some, Bool, true, false, cond, arith}
+use Rattle.std.specs.Prelude.{slice_get, slice_index}
 use Rattle.std.proofs.lemmas.List.{length-append, length-map}
 use Rattle.wasm_tree.specs.declared.types.GlobalType.{GlobalType}
 use Rattle.wasm_tree.specs.declared.module.Import.{Import}
 use Rattle.wasm_tree.specs.declared.module.ImportDesc.{ImportDesc}
 use Rattle.wasm_tree.specs.declared.module.ImportDesc.TheVariants as im
 use Rattle.wasm_tree.specs.declared.module.Module.{Module}
-use Rattle.wasm_meaning.specs.State.{Text, Pair}
+use Rattle.wasm_meaning.specs.State.{Pair}
 use Rattle.wasm_meaning.specs.Laws.{EndsArePaths}
-use Rattle.wasm_meaning.specs.Environment.{Owned, OwnKey, MemoryKey, owned_at}
+use Rattle.wasm_meaning.specs.Environment.{Owned, MemoryKey, owned_at}
 use Rattle.wasm_meaning.specs.Values.{same_ref, same_type, same_func_type}
-use Rattle.wasm_meaning.specs.World.{same_bool, given, defined_count, defined_before, own_key, own_key_of, outside_thing}
-use Rattle.wasm_meaning.specs.Linking.{Part, Site, End, Defined, Outside, Entity, Kind, Functions, Tables, Memories, Globals, place, then_some, has_kind, module_at, import_at, imports_of, imported_as, kind_of_import, index_of_export, pair_of, sites_in, sites, end_of, linked_end, is_outside, gathered}
-use Rattle.merge_terms.specs.Faults.{External, FuncOf, TableOf, MemoryOf, GlobalOf, asked_at, found, suits, external_of, same_but_limits, meets_limits, stays, link_fault}
-use Rattle.merge_terms.specs.Merged.{merged, start_calls, starts, by_part, staying_of, place_of_end, end_from}
+use Rattle.wasm_meaning.specs.World.{same_bool, given, defined_before, own_key, own_key_of, outside_thing}
+use Rattle.wasm_meaning.specs.Linking.{Part, Site, End, Defined, Outside, Entity, Kind, Functions, Tables, Memories, Globals, place, then_some, has_kind, import_at, imports_of, imported_as, kind_of_import, index_of_export, pair_of, sites_in, sites, end_of, linked_end, gathered}
+use Rattle.merge_terms.specs.Faults.{External, FuncOf, TableOf, MemoryOf, GlobalOf, asked_at, found, suits, external_of, same_but_limits, meets_limits, stays}
+use Rattle.merge_terms.specs.Merged.{merged, merged_types, map_of, start_calls, starts, by_part, staying_of, place_of_end, end_from}
 use Rattle.merge_validity.specs.Ended.{EndsInside, EndsOutside, Ended, inside, outside, added_count, LinkedImportsEnd, StayingImportsEndThere, SitesAreImports, StayingImportsHavePlaces, NewIndicesArePlaces, DefinedEntitiesHavePlaces, TypesHavePlaces, MergedModulesDefineAll}
 use Rattle.merge_validity.proofs.Lists.{then_is, place_get, there, within, past}
 use Rattle.merge_validity.proofs.Same.{both_are, cond_both, ref_same, type_same, func_type_same, kind_is}
@@ -225,7 +225,7 @@ unfolding place_of_end
 defined_have_places parts e m k is = ap (λ n. length (staying_of parts k) + (defined_before k parts e.part + (index_of_export e.what - n))) (count_is parts k e.part m is)
 
 pub types_have_places : TypesHavePlaces
-types_have_places parts p m x t is h = place_get _ _ ∙ type_stands parts p m x t is (sym (place_get m.types x) ∙ h)
+types_have_places parts p m x t is h = place_get (merged_types parts) (slice_index (map_of parts p m).types x) ∙ type_stands parts p m x t is (sym (place_get m.types x) ∙ h)
 
 extra_many : (parts : List Part) (k : Kind) → length (extra parts k) ≡ added_count parts k
 extra_many parts Functions = length-map (start_calls parts (starts parts)) (λ f. f.ty)

@@ -20,7 +20,7 @@ use Rattle.merge_validity.proofs.MergedSpaces.{staying_type, own_type}
 
 -- ---- an entry of a part: an import, or what the part defines ----
 
-imports_many : (k : Kind) (m : Module) → length (imports_of k m) ≡ length (imported k m)
+pub imports_many : (k : Kind) (m : Module) → length (imports_of k m) ≡ length (imported k m)
 imports_many k m = places_many (has_kind k) (of_import k) m.imports (import_kind k) 0
 
 -- what follows the imports is what the part defines

@@ -15,12 +15,12 @@ use Rattle.wasm_meaning.specs.Values.{ref_of, num_of, declared}
 use Rattle.wasm_meaning.specs.Control.{type_of_func, own_of}
 use Rattle.wasm_meaning.specs.Linking.{Read, place, then_some}
 use Rattle.wasm_meaning.specs.Environment.{Environment, own_funcs, own_tables, own_memories, own_globals}
-use Rattle.wasm_meaning.specs.World.{given, all_there, numbers, const_value, value_of_read, value_of, ref_value, number_value, new_global, new_elem, elem_of, part_store, joined_stores, own_store, stores_from}
+use Rattle.wasm_meaning.specs.World.{given, all_there, numbers, value_of_read, value_of, ref_value, number_value, new_global, new_elem, elem_of, part_store, joined_stores, own_store, stores_from}
 use Rattle.wasm_meaning.specs.World as world
 use Rattle.index_remap.specs.declared.remap.Remap.{Remap}
-use Rattle.index_remap.specs.Renumbered.{has, all_true, new_const, new_elem_mode, renumbered_all, fits_all, fits_const, fits_func, fits_global, fits_elem, fits_elem_mode}
+use Rattle.index_remap.specs.Renumbered.{has, new_const, new_elem_mode, renumbered_all, fits_const, fits_func, fits_global, fits_elem, fits_elem_mode}
 use Rattle.index_remap.specs.Renumbered as renumbered
-use Rattle.index_remap.specs.Related.{Funcs, Pairing, OptRel, none, some, BothRel, both, ListRel, nil, cons, RefRel, func, ValRel, number, reference, FuncRel, defined, own, TableRel, GlobalRel, ElemRel, StoreRel, CodeRel}
+use Rattle.index_remap.specs.Related.{Funcs, Pairing, OptRel, none, some, BothRel, both, ListRel, nil, RefRel, func, ValRel, number, reference, FuncRel, defined, own, TableRel, GlobalRel, ElemRel, StoreRel, CodeRel}
 use Rattle.index_remap.specs.Related as to
 use Rattle.index_remap.specs.Laws.{RenumberedCodeIsRelated}
 use Rattle.index_remap.proofs.Rel.{append_rel, copies_rel}

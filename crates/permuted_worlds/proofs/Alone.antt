@@ -1,6 +1,5 @@
 -- A module alone: its imports all stay, so what they stand for and what is read through them is a matter of its types and imports.
 use Rattle.std.proofs.Common.{◌≡◌, ℕ, suc, ◌+◌, List, [], ◌∷◌, ◌++◌, length, Option, Some, None, cond, refl, ap, ap₂, ◌∙◌, arith}
-use Rattle.wasm_tree.specs.declared.types.FuncType.{FuncType}
 use Rattle.wasm_tree.specs.declared.module.Import.{Import}
 use Rattle.wasm_tree.specs.declared.module.ImportDesc.{ImportDesc}
 use Rattle.wasm_tree.specs.declared.module.ImportDesc.TheVariants as im
@@ -11,9 +10,9 @@ use Rattle.std.specs.List.{cons_option}
 use Rattle.wasm_tree.specs.Spaces.{func_of, table_of, memory_of, global_of, imported_funcs, imported_tables, imported_memories, imported_globals}
 use Rattle.wasm_meaning.specs.State.{Pair}
 use Rattle.wasm_meaning.specs.Paths.{walk, walk_on}
-use Rattle.wasm_meaning.specs.Linking.{same_kind, kind_of_import, sites, joined, joined_step, import_step, read_step, initials_from, Part, Site, Outside, Kind, Functions, Tables, Memories, Globals, Read, place, then_some, places, has_kind, imports_of, pair_of, end_of, global_import, end_step, read_of, space_index}
-use Rattle.wasm_meaning.specs.Environment.{Environment, Thing, OwnKey, FuncKey, TableKey, MemoryKey, GlobalKey, owned_of, owned_at}
-use Rattle.wasm_meaning.specs.World.{given, own_key_of, outside_thing, imported_thing, thing_of, address_of, all_there, numbers, own_count, defined_count, space}
+use Rattle.wasm_meaning.specs.Linking.{same_kind, kind_of_import, sites, joined, joined_step, import_step, read_step, initials_from, Outside, Kind, Functions, Tables, Memories, Globals, Read, place, then_some, places, has_kind, imports_of, pair_of, end_of, global_import, end_step, read_of, space_index}
+use Rattle.wasm_meaning.specs.Environment.{Environment, owned_of, owned_at}
+use Rattle.wasm_meaning.specs.World.{given, own_key_of, outside_thing, imported_thing, thing_of, address_of, numbers, own_count, defined_count, space}
 use Rattle.permuted_worlds.specs.Alone.{one, site, key_in, thing_in, addresses, read_in}
 use Rattle.permuted_worlds.proofs.Places.{all_same}
 

@@ -14,7 +14,7 @@ use Rattle.wasm_meaning.specs.Environment.{Environment, own_funcs}
 use Rattle.wasm_meaning.specs.World.{numbers, own_count, defined_count, space, inst_of}
 use Rattle.index_remap.specs.declared.remap.Remap.{Remap}
 use Rattle.index_remap.specs.Renumbered.{has, all_true, new_import, new_import_desc, new_func, fits_import, fits_import_desc, fits_func, fits_global, fits_export, fits_start, fits_elem, fits_data, fits_tree}
-use Rattle.index_remap.specs.Related.{Funcs, Mems, Elems, Datas, Pairing, OptRel, some, ListRel, nil, cons, Names}
+use Rattle.index_remap.specs.Related.{Funcs, Mems, Elems, Datas, Pairing, OptRel, some, ListRel}
 use Rattle.index_remap.specs.Related as to
 use Rattle.index_remap.proofs.Rel.{append_rel}
 use Rattle.permuted_worlds.specs.Named.{EntriesName}

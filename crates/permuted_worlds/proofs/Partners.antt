@@ -2,18 +2,15 @@
 use Rattle.std.proofs.Common.{◌≡◌, ℕ, ◌+◌, ◌<◌, List, [], length, Option, Some, None, Bool, true, false, sym, ap, subst, ◌∙◌, arith}
 use Rattle.std.specs.Prelude.{nat_eq}
 use Rattle.std.proofs.lemmas.Bool.{eqb-true, eq-eqb}
-use Rattle.wasm_tree.specs.declared.types.RefType.TheVariants as reft
-use Rattle.wasm_tree.specs.declared.types.ValType.TheVariants as valt
 use Rattle.wasm_tree.specs.declared.types.FuncType.{FuncType}
 use Rattle.wasm_tree.specs.declared.module.Func as tree
 use Rattle.wasm_tree.specs.declared.module.Import.{Import}
 use Rattle.wasm_tree.specs.declared.module.Module.{Module}
-use Rattle.wasm_meaning.specs.State.{Own}
 use Rattle.wasm_meaning.specs.Linking.{Functions, Memories, place, then_some, has_kind, pair_of, places}
 use Rattle.wasm_meaning.specs.Linking as linking
 use Rattle.wasm_meaning.specs.Environment.{Environment, Thing, same_key, own_funcs, own_tables, own_memories, own_globals}
-use Rattle.wasm_meaning.specs.World.{given, address_of, numbers}
-use Rattle.index_remap.specs.Related.{Kind, Funcs, Tables, Mems, Globals, Elems, Datas, Pairing, OneToOne, OptRel, none, some, ListRel, func, number}
+use Rattle.wasm_meaning.specs.World.{address_of, numbers}
+use Rattle.index_remap.specs.Related.{Kind, Funcs, Tables, Mems, Globals, Elems, Datas, Pairing, OneToOne, OptRel, none, some, ListRel}
 use Rattle.index_remap.specs.RelatedRuns.{ThingRel, a_func, a_table, a_memory, a_global}
 use Rattle.index_remap.specs.Laws.{passed}
 use Rattle.permuted_worlds.specs.Permuted.{moved, IsOrder}

@@ -1,5 +1,5 @@
 -- The environment's own entities in two worlds where each has its address: they correspond, and so do the tables and globals that are allocated for them.
-use Rattle.std.specs.Prelude.{ℕ, ◌<◌, List, length, Bool}
+use Rattle.std.specs.Prelude.{ℕ, ◌<◌, [], Bool}
 use Rattle.wasm_meaning.specs.Linking.{Functions, Tables, Memories, Globals}
 use Rattle.wasm_meaning.specs.Environment.{Environment, owned_of, own_tables, own_globals}
 use Rattle.wasm_meaning.specs.World.{own_count}
