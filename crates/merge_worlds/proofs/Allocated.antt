@@ -1,11 +1,10 @@
 -- The store of parts that are linked by name, and the store of their merged module, are alike.
-use Rattle.std.proofs.Common.{◌≡◌, ℕ, ◌+◌, List, [], ◌∷◌, ◌++◌, map, length, Option, Some, None, refl, sym, ap, ap₂, subst, ◌∙◌, append_assoc, arith}
-use Rattle.std.specs.List.{flat_map}
+use Rattle.std.proofs.Common.{◌≡◌, ◌+◌, List, [], ◌∷◌, ◌++◌, map, length, Option, Some, None, refl, sym, ap, ap₂, subst, ◌∙◌, append_assoc, arith}
 use Rattle.wasm_tree.specs.declared.module.Module.{Module}
-use Rattle.wasm_meaning.specs.State.{Inst, Func, Table, Memory, Global, Elem, Data, Store}
+use Rattle.wasm_meaning.specs.State.{Inst, Func, Global, Elem, Store}
 use Rattle.wasm_meaning.specs.Linking.{Part, place, then_some, module_at}
 use Rattle.wasm_meaning.specs.Environment.{Environment, own_funcs, own_tables, own_memories, own_globals}
-use Rattle.wasm_meaning.specs.World.{all_there, new_func, new_global, elem_of, insts_from, part_store, joined_stores, own_store, stores_from}
+use Rattle.wasm_meaning.specs.World.{all_there, new_func, new_global, elem_of, insts_from, joined_stores, own_store, stores_from}
 use Rattle.index_remap.specs.Related.{Pairing, OptRel, ListRel, FuncRel, TableRel, GlobalRel, ElemRel}
 use Rattle.index_remap.proofs.Rel.{append_rel, copies_rel}
 use Rattle.permuted_worlds.specs.Alone.{one}
@@ -22,7 +21,7 @@ use Rattle.merge_worlds.proofs.ValueAlone.{types_are, func_count}
 use Rattle.merge_worlds.proofs.ValueGiven.{Laws, EachAgrees}
 use Rattle.merge_worlds.proofs.Values.{are_one}
 use Rattle.merge_worlds.proofs.AllocatedLists.{some_rel, some_twice, both_lists, all_append, Added, adding, with_more, adding_more}
-use Rattle.merge_worlds.proofs.AllocatedParts.{table_of, memory_of, data_of, part_funcs, part_globals, part_elems, part_datas, added_by, Grown, rows, grown_rel}
+use Rattle.merge_worlds.proofs.AllocatedParts.{table_of, memory_of, data_of, part_funcs, part_elems, added_by, Grown, rows, grown_rel}
 use Rattle.merge_worlds.proofs.AllocatedMerged.{last_segments, declared_in, by_part_is, last_elems, last_funcs}
 
 module _ (laws : Laws) (env : Environment) (parts : List Part) (mode : Mode) (can : CanBeJoined parts mode) where

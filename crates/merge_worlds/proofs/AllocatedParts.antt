@@ -1,5 +1,6 @@
 -- What each part adds to the store, and what its definitions add where they stand in the merged module.
-use Rattle.std.proofs.Common.{◌≡◌, ℕ, suc, ◌+◌, ◌*◌, ◌<◌, List, [], ◌∷◌, ◌++◌, map, length, Option, Some, true, false, refl, sym, ap, ap₂, subst, ◌∙◌, append_assoc, arith}
+use Rattle.std.proofs.Common.{◌≡◌, ℕ, suc, ◌+◌, ◌*◌, List, [], ◌∷◌, ◌++◌, map, length, Option, Some, true, false, refl, sym, ap, ap₂, subst, ◌∙◌, append_assoc, arith}
+use Rattle.std.specs.Prelude.{slice_get}
 use Rattle.std.specs.List.{flat_map}
 use Rattle.std.proofs.lemmas.List.{map-append}
 use Rattle.wasm_tree.specs.declared.types.Limits.{Limits}
@@ -25,7 +26,7 @@ use Rattle.wasm_meaning.specs.World.{all_there, defined_before, elems_before, da
 use Rattle.index_remap.specs.declared.remap.Remap.{Remap}
 use Rattle.index_remap.specs.Renumbered.{all_true, fits_import, fits_func, fits_tree}
 use Rattle.index_remap.specs.Renumbered as renumbered
-use Rattle.index_remap.specs.Related.{Pairing, OptRel, some, ListRel, nil, cons, RefRel, FuncRel, GlobalRel, ElemRel}
+use Rattle.index_remap.specs.Related.{Pairing, OptRel, some, ListRel, nil, RefRel, FuncRel, GlobalRel, ElemRel}
 use Rattle.index_remap.proofs.Rel.{append_rel}
 use Rattle.permuted_worlds.specs.Alone.{one}
 use Rattle.permuted_worlds.proofs.Places.{left_true, right_true, within, append_length, map_length, then_rel, then_rel_is, opt_at, tested_rel, all_rel, all_length}
@@ -85,7 +86,7 @@ module _ (laws : Laws) (m : Module) (valid : IsValid m) where
       let z = (laws.items m).0 valid kind.Elem n (within m.elems n s h) in
       let both : Some z.0 ≡ Some s = sym z.1 ∙ sym (place_get m.elems n) ∙ h in
       let same : z.0 ≡ s = cc in
-      let typed = subst (λ (s : ElemSeg). (l : ℕ) (e : ConstExpr) → _ ≡ Some e → const_type m e ≡ Some (Ref s.ty)) same z.2 in
+      let typed = subst (λ (s : ElemSeg). (l : ℕ) (e : ConstExpr) → slice_get s.items l ≡ Some e → const_type m e ≡ Some (Ref s.ty)) same z.2 in
       typed l e (sym (place_get s.items l) ∙ at)
 
   funcs_fit : (parts : List Part) (p : ℕ) → all_true (map (fits_func (map_of parts p m)) m.funcs) ≡ true
@@ -212,8 +213,8 @@ module _ (laws : Laws) (env : Environment) (parts : List Part) (mode : Mode) (ca
   mapped_twice : {A B : Type 0} {zs : List B} (f : A → B) (xs ys : List B) (vs ws : List A) → ys ≡ map f vs → zs ≡ (xs ++ ys) ++ map f ws → zs ≡ xs ++ map f (vs ++ ws)
   mapped_twice f xs ys vs ws e h = twice xs ys (map f ws) h ∙ ap (λ l. xs ++ (l ++ map f ws)) e ∙ ap (λ l. xs ++ l) (sym (map-append f vs ws))
 
-  counted : {A : Type 0} (xs ys zs : List A) {k n : ℕ} → length zs ≡ length (xs ++ ys) + k → length ys ≡ n → length zs ≡ length xs + (n + k)
-  counted xs ys zs {k} {n} e h = let a = append_length xs ys in omega (arith, a, e, h)
+  counted : {A : Type 0} (xs ys zs : List A) (k n : ℕ) → length zs ≡ length (xs ++ ys) + k → length ys ≡ n → length zs ≡ length xs + (n + k)
+  counted xs ys zs k n e h = let a = append_length xs ys in omega (arith, a, e, h)
 
   grown_more : (s t u : Store) (p : ℕ) (part : Part) (ps : List Part) (a b : Added) → PartAdds part.«module» t a → Grown (joined_stores s t) (suc p) ps u b → Grown s p (part ∷ ps) u (and_added a b)
   grown_more s t u p part ps a b k r =
@@ -235,12 +236,12 @@ module _ (laws : Laws) (env : Environment) (parts : List Part) (mode : Mode) (ca
         tables = mapped_twice table_of s.tables t.tables m.tables (flat_map (λ p. p.«module».tables) ps) k.tables r.tables;
         mems = mapped_twice memory_of s.mems t.mems m.mems (flat_map (λ p. p.«module».mems) ps) k.mems r.mems;
         datas = mapped_twice data_of s.datas t.datas (part_datas parts p m) (by_part_from (part_datas parts) (suc p) ps) datas_are r.datas;
-        func_count = counted s.funcs t.funcs u.funcs r.func_count k.func_count;
-        table_count = counted s.tables t.tables u.tables r.table_count tables_many;
-        memory_count = counted s.mems t.mems u.mems r.memory_count mems_many;
-        global_count = counted s.globals t.globals u.globals r.global_count k.global_count;
-        elem_count = counted s.elems t.elems u.elems r.elem_count k.elem_count;
-        data_count = counted s.datas t.datas u.datas r.data_count datas_many;
+        func_count = counted s.funcs t.funcs u.funcs _ _ r.func_count k.func_count;
+        table_count = counted s.tables t.tables u.tables _ _ r.table_count tables_many;
+        memory_count = counted s.mems t.mems u.mems _ _ r.memory_count mems_many;
+        global_count = counted s.globals t.globals u.globals _ _ r.global_count k.global_count;
+        elem_count = counted s.elems t.elems u.elems _ _ r.elem_count k.elem_count;
+        data_count = counted s.datas t.datas u.datas _ _ r.data_count datas_many;
       }
 
   added_more : (p : ℕ) (part : Part) (ps : List Part) → added_by p (part ∷ ps) ≡ then_some (added_in p part.«module») (λ a. then_some (added_by (suc p) ps) (λ b. Some (and_added a b)))

@@ -1,20 +1,19 @@
 -- A module alone that is instantiated: its index spaces, and the values of its constant expressions.
-use Rattle.std.proofs.Common.{◌≡◌, ℕ, zero, suc, ◌+◌, ◌-◌, ◌<◌, ◌≤◌, List, [], ◌∷◌, ◌++◌, map, length, Option, Some, None, Bool, true, false, cond, ◌⊎◌, inl, inr, refl, sym, ap, ap₂, subst, ◌∙◌, arith}
+use Rattle.std.proofs.Common.{◌≡◌, ℕ, zero, suc, ◌+◌, ◌-◌, ◌<◌, ◌≤◌, List, [], ◌∷◌, ◌++◌, map, length, Option, Some, None, Bool, true, false, cond, ◌⊎◌, inl, inr, refl, sym, ap, ◌∙◌, arith}
 use Rattle.std.proofs.lemmas.Bool.{cases_lt}
 use Rattle.std.specs.List.{cons_option}
 use Rattle.wasm_tree.specs.declared.module.Import.{Import}
 use Rattle.wasm_tree.specs.declared.module.ImportDesc.{ImportDesc}
 use Rattle.wasm_tree.specs.declared.module.ImportDesc.TheVariants as im
-use Rattle.wasm_tree.specs.declared.module.ConstExpr.{ConstExpr}
 use Rattle.wasm_tree.specs.declared.module.ConstExpr.TheVariants as const
 use Rattle.wasm_tree.specs.declared.module.Module.{Module}
 use Rattle.wasm_tree.specs.Spaces.{func_of, imported_funcs, funcs_of}
-use Rattle.wasm_meaning.specs.State.{Val, Inst}
+use Rattle.wasm_meaning.specs.State.{Inst}
 use Rattle.wasm_meaning.specs.Linking.{Kind, Functions, Tables, Memories, Globals, Read, place, then_some, places, has_kind, same_kind, kind_of_import, imports_of, space_index}
 use Rattle.wasm_meaning.specs.Environment.{Environment, own_globals}
-use Rattle.wasm_meaning.specs.World.{numbers, own_count, defined_count, space, inst_of, insts_from, value_of_read, value_of, const_value}
+use Rattle.wasm_meaning.specs.World.{numbers, own_count, defined_count, space, inst_of, insts_from, value_of_read, value_of}
 use Rattle.permuted_worlds.specs.Alone.{one, address_in, import_places, addresses, read_in, SpacesAreImportsAndOwn, ReadsStay}
-use Rattle.permuted_worlds.proofs.Places.{found, place_left, place_right, place_numbers, append_length, map_length, numbers_length, all_length}
+use Rattle.permuted_worlds.proofs.Places.{found, place_right, append_length, map_length, numbers_length, all_length}
 use Rattle.merge_validity.proofs.Lists.{then_is}
 
 pub none_past : {A : Type 0} (xs : List A) (n : ℕ) → length xs ≤ n → place xs n ≡ None
@@ -30,12 +29,12 @@ number_past c (suc n) (suc z) a h = let l = number_past (suc c) n z a h in omega
 -- ---- imports of one kind ----
 
 -- the import that stands at a place among those of its kind
-record ImportAt (k : Kind) (is : List Import) (from y n : ℕ) : Type 0 where
+record ImportAt (k : Kind) (imports : List Import) (from y n : ℕ) : Type 0 where
   at : ℕ
   import : Import
   is : n ≡ from + at
-  got : place is at ≡ Some import
-  index : space_index is at k ≡ y
+  got : place imports at ≡ Some import
+  index : space_index imports at k ≡ y
 
 import_at : (k : Kind) (is : List Import) (from y n : ℕ) → place (places (has_kind k) is from) y ≡ Some n → ImportAt k is from y n
 import_at k [] from y n h = absurd (let e = h in cc)
