@@ -107,19 +107,27 @@ pub last_elems : (env : Environment) (parts : List Part) (mode : Mode) (j : Inst
     (es : List Elem) × (all_there (elem_of env (one (joined_module parts mode)) (j ∷ []) 0) (last_segments (declared_in parts mode)) ≡ Some es)
 last_elems env parts mode j e = segments_there env (joined_module parts mode) j (declared_in parts mode) (λ n f h. let l = declared_below parts mode n f h in omega (arith, l, e))
 
--- the function that calls starts is allocated
-pub last_funcs : (laws : Laws) (parts : List Part) (mode : Mode) (j : Inst) → IsValid (joined_module parts mode) → j.types ≡ (joined_module parts mode).types → AllThere (new_func j) (start_calls parts (starts parts))
-last_funcs laws parts mode j valid types = each_there (new_func j) calls (λ n f h.
-    let at : place (joined_module parts mode).funcs (length before + n) ≡ Some f = ap (λ fs. place fs (length before + n)) (by_part_is parts mode).funcs ∙ place_right before calls n ∙ h in
-    let z = (laws.items (joined_module parts mode)).0 valid kind.Func (length before + n) (within (joined_module parts mode).funcs (length before + n) f at) in
-    let both : Some z.0 ≡ Some f = sym z.1 ∙ sym (place_get (joined_module parts mode).funcs (length before + n)) ∙ at in
+-- ---- the function that calls starts ----
+
+abbrev before_calls : List Part → List tree.Func
+before_calls parts = by_part_from (part_funcs parts) 0 parts
+
+abbrev calls : List Part → List tree.Func
+calls parts = start_calls parts (starts parts)
+
+pub call_at : (parts : List Part) (mode : Mode) (n : ℕ) (f : tree.Func) → place (start_calls parts (starts parts)) n ≡ Some f → place (joined_module parts mode).funcs (length (by_part_from (part_funcs parts) 0 parts) + n) ≡ Some f
+call_at parts mode n f h = ap (λ fs. place fs (length (before_calls parts) + n)) (by_part_is parts mode).funcs ∙ place_right (before_calls parts) (calls parts) n ∙ h
+
+func_typed : (laws : Laws) (m : Module) → IsValid m → (n : ℕ) (f : tree.Func) → place m.funcs n ≡ Some f → f.ty < length m.types
+func_typed laws m valid n f h =
+    let z = (laws.items m).0 valid kind.Func n (within m.funcs n f h) in
+    let both : Some z.0 ≡ Some f = sym z.1 ∙ sym (place_get m.funcs n) ∙ h in
     let same : z.0 ≡ f = cc in
-    let lt : f.ty < length (joined_module parts mode).types = subst (λ (f : tree.Func). f.ty < length (joined_module parts mode).types) same z.2 in
+    subst (λ (f : tree.Func). f.ty < length m.types) same z.2
+
+-- it is allocated
+pub last_funcs : (laws : Laws) (parts : List Part) (mode : Mode) (j : Inst) → IsValid (joined_module parts mode) → j.types ≡ (joined_module parts mode).types → AllThere (new_func j) (start_calls parts (starts parts))
+last_funcs laws parts mode j valid types = each_there (new_func j) (calls parts) (λ n f h.
+    let lt = func_typed laws (joined_module parts mode) valid (length (before_calls parts) + n) f (call_at parts mode n f h) in
     let t = found j.types f.ty (subst (λ ts. f.ty < length ts) (sym types) lt) in
     (Code t.0 j (declared f.locals) f.body, ap (λ o. then_some o (λ t. Some (Code t j (declared f.locals) f.body))) t.1))
-  where
-    before : List tree.Func
-    before = by_part_from (part_funcs parts) 0 parts
-
-    calls : List tree.Func
-    calls = start_calls parts (starts parts)

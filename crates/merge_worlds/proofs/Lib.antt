@@ -8,3 +8,6 @@ pub mod AllocatedParts
 pub mod AllocatedMerged
 pub mod Allocated
 pub mod AllocatedRelated
+pub mod AllocatedAt
+pub mod AllocatedStarter
+pub mod AllocatedKept
