@@ -9,20 +9,11 @@ use Rattle.wasm_meaning.specs.Environment.{Environment}
 use Rattle.wasm_meaning.specs.World.{all_there, defined_before, new_func, new_global, elem_of, part_store, joined_stores, stores_from}
 use Rattle.permuted_worlds.proofs.Places.{within, place_left, place_right, append_length, all_length}
 use Rattle.merge_validity.proofs.Lists.{then_is}
+use Rattle.merge_worlds.proofs.Chosen.{all_at}
 
 -- what is there stands at its place
-pub all_place : {A B : Type 0} (f : A → Option B) (xs : List A) (ys : List B) (n : ℕ) (x : A) → all_there f xs ≡ Some ys → place xs n ≡ Some x → place ys n ≡ f x
-all_place f [] ys n x e h = cc
-all_place f (v ∷ xs) ys n x e h =
-    let y = then_is (f v) _ ys e in
-    let zs = then_is (all_there f xs) _ ys y.2 in
-    let k = zs.2 in
-    let same : y.0 ∷ zs.0 ≡ ys = cc in
-    ap (λ ys. place ys n) (sym same) ∙ by n h y.0 y.1 zs.0 (λ n h. all_place f xs zs.0 n x zs.1 h)
-  where
-    by : (n : ℕ) → place (v ∷ xs) n ≡ Some x → (y : _) → f v ≡ Some y → (zs : List _) → ((n : ℕ) → place xs n ≡ Some x → place zs n ≡ f x) → place (y ∷ zs) n ≡ f x
-    by zero h y is zs on = let same : v ≡ x = cc in sym is ∙ ap f same
-    by (suc n) h y is zs on = on n h
+all_place : {A B : Type 0} (f : A → Option B) (xs : List A) (ys : List B) (n : ℕ) (x : A) → all_there f xs ≡ Some ys → place xs n ≡ Some x → place ys n ≡ f x
+all_place f xs ys n x e h = let y = all_at f xs ys e n x h in y.2 ∙ sym y.1
 
 module _ (env : Environment) (all : List Part) (insts : List Inst) where
   part_funcs : (p : ℕ) (m : Module) (i : Inst) (t : Store) → part_store env all insts p m i ≡ Some t → all_there (new_func i) m.funcs ≡ Some t.funcs

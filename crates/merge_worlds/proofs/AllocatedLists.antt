@@ -23,12 +23,6 @@ pub some_rel : {A B C : Type 0} {P : A → B → Type 0} {Q : A → C → Type 0
 some_rel f none h = none
 some_rel f (some r) h = some (h _ _ r)
 
--- with what both came to
-pub then_rel_both : {A B C D : Type 0} {P : A → B → Type 0} {Q : C → D → Type 0} {o : Option A} {p : Option B} {f : A → Option C} {g : B → Option D} →
-    OptRel P o p → ((a : A) (b : B) → o ≡ Some a → p ≡ Some b → P a b → OptRel Q (f a) (g b)) → OptRel Q (then_some o f) (then_some p g)
-then_rel_both none h = none
-then_rel_both (some r) h = h _ _ refl refl r
-
 pub some_twice : {A B C : Type 0} (o : Option A) (f : A → B) (g : B → C) → then_some (then_some o (λ a. Some (f a))) (λ b. Some (g b)) ≡ then_some o (λ a. Some (g (f a)))
 some_twice None f g = refl
 some_twice (Some a) f g = refl

@@ -9,17 +9,14 @@ use Rattle.wasm_tree.specs.declared.module.ConstExpr.TheVariants as const
 use Rattle.wasm_tree.specs.declared.module.Module.{Module}
 use Rattle.wasm_tree.specs.Spaces.{func_of, imported_funcs, funcs_of}
 use Rattle.wasm_meaning.specs.State.{Inst}
-use Rattle.wasm_meaning.specs.Linking.{Kind, Functions, Tables, Memories, Globals, Read, place, then_some, places, has_kind, same_kind, kind_of_import, imports_of, space_index}
+use Rattle.wasm_meaning.specs.Linking.{Kind, Functions, Globals, Read, place, then_some, places, has_kind, same_kind, kind_of_import, imports_of, space_index}
 use Rattle.wasm_meaning.specs.Environment.{Environment, own_globals}
 use Rattle.wasm_meaning.specs.World.{numbers, own_count, defined_count, space, inst_of, insts_from, value_of_read, value_of}
 use Rattle.permuted_worlds.specs.Alone.{one, address_in, import_places, addresses, read_in, SpacesAreImportsAndOwn, ReadsStay}
 use Rattle.permuted_worlds.proofs.Places.{found, place_right, append_length, map_length, numbers_length, all_length}
 use Rattle.merge_validity.proofs.Lists.{then_is}
-
-pub none_past : {A : Type 0} (xs : List A) (n : ℕ) → length xs ≤ n → place xs n ≡ None
-none_past [] n h = refl
-none_past (x ∷ xs) zero h = absurd (omega arith)
-none_past (x ∷ xs) (suc n) h = none_past xs n (omega arith)
+use Rattle.merge_worlds.proofs.Chosen.{past_end}
+use Rattle.merge_worlds.proofs.Instancing.{IsInst, inst_is}
 
 number_past : (c n z a : ℕ) → place (numbers c n) z ≡ Some a → c ≤ a
 number_past c zero z a h = cc
@@ -78,32 +75,20 @@ read_here is y lt =
 
 -- and there is none where it is no import
 read_past : (is : List Import) (y : ℕ) → length (import_places Globals is) ≤ y → read_in is (const.Global y) ≡ None
-read_past is y h = ap (λ o. then_some {B = Read} (then_some o (λ n. then_some (place is n) (λ i. Some (space_index is n Globals)))) (λ y. Some (record { part = 0; expr = const.Global y }))) (none_past (import_places Globals is) y h)
+read_past is y h = ap (λ o. then_some {B = Read} (then_some o (λ n. then_some (place is n) (λ i. Some (space_index is n Globals)))) (λ y. Some (record { part = 0; expr = const.Global y }))) (past_end (import_places Globals is) y h)
 
 -- ---- its instance ----
 
 module _ (reads : ReadsStay) (spaces : SpacesAreImportsAndOwn) (env : Environment) (u : Module) (j : Inst) (are : insts_from env (one u) 0 (one u) ≡ Some (j ∷ [])) where
-  inst_is : inst_of env (one u) 0 u ≡ Some j
-  inst_is = by (inst_of env (one u) 0 u) are
+  there : inst_of env (one u) 0 u ≡ Some j
+  there = by (inst_of env (one u) 0 u) are
     where
       by : (o : Option Inst) → then_some o (λ i. Some (i ∷ [])) ≡ Some (j ∷ []) → o ≡ Some j
       by None h = cc
       by (Some i) h = let same : i ≡ j = cc in ap Some same
 
-  record OwnSpaces : Type 0 where
-    types : j.types ≡ u.types
-    funcs : space env (one u) Functions 0 u ≡ Some j.funcs
-    globals : space env (one u) Globals 0 u ≡ Some j.globals
-
-  own_spaces : OwnSpaces
-  own_spaces =
-      let f = then_is (space env (one u) Functions 0 u) _ j inst_is in
-      let t = then_is (space env (one u) Tables 0 u) _ j f.2 in
-      let m = then_is (space env (one u) Memories 0 u) _ j t.2 in
-      let g = then_is (space env (one u) Globals 0 u) _ j m.2 in
-      let h = g.2 in
-      let same : record { types = u.types; funcs = f.0; tables = t.0; mems = m.0; globals = g.0; elems = numbers 0 (length u.elems); datas = numbers 0 (length u.datas) } ≡ j = cc in
-      record { types = sym (ap {A = Inst} (λ i. i.types) same); funcs = f.1 ∙ ap {A = Inst} (λ i. Some i.funcs) same; globals = g.1 ∙ ap {A = Inst} (λ i. Some i.globals) same }
+  own_spaces : IsInst env (one u) 0 u j
+  own_spaces = inst_is env (one u) 0 u j there
 
   pub types_are : j.types ≡ u.types
   types_are = own_spaces.types
@@ -140,4 +125,4 @@ module _ (reads : ReadsStay) (spaces : SpacesAreImportsAndOwn) (env : Environmen
           let back : length l.0 + z ≡ y = omega (arith, n) in
           let at : place (numbers (own_count Globals env) (length u.globals)) z ≡ Some a = sym (ap (λ xs. place xs y) l.2 ∙ ap (place (l.0 ++ numbers (own_count Globals env) (length u.globals))) (sym back) ∙ place_right l.0 (numbers (own_count Globals env) (length u.globals)) z) ∙ h in
           ap (λ o. then_some o (value_of_read (own_globals env) (j ∷ []))) (read_past u.imports y past)
-          ∙ sym (ap (λ o. then_some o (λ g. Some g.value)) (none_past (own_globals env) a (number_past (length (own_globals env)) (length u.globals) z a at)))
+          ∙ sym (ap (λ o. then_some o (λ g. Some g.value)) (past_end (own_globals env) a (number_past (length (own_globals env)) (length u.globals) z a at)))
