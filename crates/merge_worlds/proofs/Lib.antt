@@ -7,3 +7,4 @@ pub mod Instances
 pub mod Named
 pub mod View
 pub mod Starts
+pub mod Called
