@@ -20,6 +20,7 @@ ghost use Rattle.merge_validity.specs.Ended.{
 };
 ghost use Rattle.merge_validity.specs.Entries.{HasEntry};
 ghost use Rattle.merge_validity.specs.Joinable.{CanBeJoined, EachPart};
+ghost use Rattle.merge_validity.specs.Started.{StartsTakeNothing};
 
 use export_names::{conflicts_are_first, given_names_differ};
 use remap_typing::{
@@ -70,5 +71,13 @@ pub fn linked_imports_have_ends()
     ensures types { TypesHavePlaces }
     ensures counts { MergedModulesDefineAll }
 {
+    ends_and_reads_are_paths();
+}
+
+/// The functions that valid parts start take and give nothing, also in the merged module, if the parts are linked.
+pub fn starts_take_nothing()
+    ensures starts { StartsTakeNothing }
+{
+    valid_where_items_hold();
     ends_and_reads_are_paths();
 }

@@ -20,3 +20,4 @@ pub mod AllocatedRelated
 pub mod AllocatedAt
 pub mod AllocatedStarter
 pub mod AllocatedKept
+pub mod Called
