@@ -1,5 +1,6 @@
 pub mod Between
 pub mod Led
+mod Starts
 pub mod FirstStep
 pub mod Places
 pub mod Named

@@ -4,3 +4,4 @@ pub mod Instances
 pub mod Named
 pub mod Permuted
 pub mod Silent
+pub mod Starts

@@ -1,17 +1,20 @@
-//! What the laws of steps give of whole worlds: the order of a module's functions is not seen, and machines that make silent steps of their own show the same.
+//! What the laws of steps give of whole worlds: the order of a module's functions is not seen, machines that make silent steps of their own show the same, and
+//! one start may call several functions.
 #![tactic(auto)]
 
 ghost use Rattle.permuted_worlds.specs.Alone.{
     ImportsStandForTheEnvironments, ImportsStay, ReadsStay, SpacesAreImportsAndOwn,
 };
-ghost use Rattle.permuted_worlds.specs.Instances.{RelatedInstancesShowTheSame};
+ghost use Rattle.permuted_worlds.specs.Instances.{RelatedBegunShowTheSame, RelatedInstancesShowTheSame};
 ghost use Rattle.permuted_worlds.specs.Named.{FittingCodeIsNamed};
 ghost use Rattle.permuted_worlds.specs.Owned.{OwnEntitiesCorrespond};
 ghost use Rattle.permuted_worlds.specs.Permuted.{OrderIsNotSeen};
 ghost use Rattle.permuted_worlds.specs.Silent.{BudgetedRunsShowTheSame, SlowerRunsShowTheSame};
+ghost use Rattle.permuted_worlds.specs.Starts.{OneStartMayCallSeveral};
 
 use index_remap::{related_runs_show_the_same, renumbered_code_is_related};
 use remap_typing::renumbering_keeps_typing;
+use wasm_meaning::what_stands_below_is_not_seen;
 
 /// In the world of a module alone each import is its own end (`ends`) and stands for what the environment offers of its name, or for nothing (`things`); the
 /// index spaces are these, then what the module defines (`spaces`); and constant expressions read what stands in them (`reads`).
@@ -27,9 +30,11 @@ pub fn own_entities_correspond()
     ensures own { OwnEntitiesCorrespond }
 {}
 
-/// Two worlds show the same events, step by step, where neither can be instantiated, or both to what corresponds (WebAssembly Core 2.0, section 4.5.4).
+/// Two worlds show the same events, step by step, where neither can be instantiated, or both to what corresponds (WebAssembly Core 2.0, section 4.5.4): of worlds
+/// (`same`), and of what they are instantiated to (`begun`).
 pub fn related_instances_show_the_same()
     ensures same { RelatedInstancesShowTheSame }
+    ensures begun { RelatedBegunShowTheSame }
 {
     related_runs_show_the_same();
 }
@@ -55,3 +60,11 @@ pub fn silent_steps_may_come_between()
     ensures budget { BudgetedRunsShowTheSame }
     ensures slower { SlowerRunsShowTheSame }
 {}
+
+/// One start that calls several functions shows the same as these as starts one after the other, in two silent steps more.
+pub fn one_start_may_call_several()
+    ensures calls { OneStartMayCallSeveral }
+{
+    what_stands_below_is_not_seen();
+    silent_steps_may_come_between();
+}

@@ -4,3 +4,4 @@ mod MoreRuns
 pub mod Pigeons
 pub mod Walks
 pub mod Linked
+mod Below

@@ -11,4 +11,5 @@ pub mod Linking
 pub mod Environment
 pub mod World
 pub mod Run
+pub mod Below
 pub mod Laws

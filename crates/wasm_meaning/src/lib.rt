@@ -3,6 +3,7 @@
 //! The definitions stand in `specs/`; no command runs code of this crate. `docs/MEANING.md` walks through them.
 #![tactic(auto)]
 
+ghost use Rattle.wasm_meaning.specs.Below.{BelowIsNotSeen};
 ghost use Rattle.wasm_meaning.specs.Laws.{EndsArePaths, ReadsArePaths, RunsAreDetermined, ShorterRunsArePrefixes};
 
 /// A run is determined by its world, its environment, the embedder's moves and the number of steps.
@@ -19,4 +20,9 @@ pub fn shorter_runs_are_prefixes()
 pub fn ends_and_reads_are_paths()
     ensures ends { EndsArePaths }
     ensures reads { ReadsArePaths }
+{}
+
+/// While a start is made, what stands below its entries is not seen, nor the phase of the run: one step over the one shows and leaves what it does over the other.
+pub fn what_stands_below_is_not_seen()
+    ensures below { BelowIsNotSeen }
 {}
