@@ -1,1 +1,15 @@
-
+pub mod SegmentLists
+pub mod SegmentStores
+pub mod SegmentTurns
+pub mod Segments
+pub mod MatchEnded
+pub mod MatchAlone
+pub mod MatchLists
+pub mod MatchTypes
+pub mod MatchLimits
+pub mod MatchFits
+pub mod MatchAlike
+pub mod MatchStores
+pub mod MatchDefined
+pub mod MatchMerged
+pub mod MatchAll
