@@ -1,5 +1,5 @@
 -- The environment's own entities fit what is asked for in both stores or in none.
-use Rattle.std.proofs.Common.{◌≡◌, ℕ, suc, ◌+◌, ◌<◌, List, [], ◌∷◌, ◌++◌, map, length, Option, Some, Bool, true, false, cond, refl, sym, ap, ap₂, subst, ◌∙◌, arith}
+use Rattle.std.proofs.Common.{◌≡◌, ℕ, zero, suc, ◌+◌, ◌<◌, List, [], ◌∷◌, ◌++◌, map, length, Option, Some, Bool, true, false, cond, refl, sym, ap, ap₂, subst, ◌∙◌, arith}
 use Rattle.wasm_tree.specs.declared.types.FuncType.{FuncType}
 use Rattle.wasm_tree.specs.declared.types.TableType.{TableType}
 use Rattle.wasm_meaning.specs.Outcomes.{Outcome, Gives, Traps, IllTyped, bind, at}
@@ -39,11 +39,11 @@ addressed_among n from thing (key ∷ keys) h = (h from (omega arith), addressed
 
 looked_up : (n : ℕ) (is : OwnKey → Bool) (xs : Owned) (th : Thing) → AllAmong n xs → given (look_up is xs) ≡ Some th → IsAmong n th
 looked_up n is [] th h e = absurd (let k = e in cc)
-looked_up n is (x ∷ xs) th h e = by (is x.0) e
+looked_up n is (x ∷ xs) th h e = by (is x.0) e (looked_up n is xs th h.1)
   where
-    by : (b : Bool) → given (cond b (Gives x.1) (look_up is xs)) ≡ Some th → IsAmong n th
-    by true e = let same : x.1 ≡ th = cc in subst (IsAmong n) same h.0
-    by false e = looked_up n is xs th h.1 e
+    by : (b : Bool) → given (cond b (Gives x.1) (look_up is xs)) ≡ Some th → (given (look_up is xs) ≡ Some th → IsAmong n th) → IsAmong n th
+    by true e on = let same : x.1 ≡ th = cc in subst (IsAmong n) same h.0
+    by false e on = on e
 
 funcs_many : (env : Environment) → length (flat (λ o. map (FuncKey o.pair) o.funcs) env) ≡ length (own_funcs env)
 funcs_many [] = refl

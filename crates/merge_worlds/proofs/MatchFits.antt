@@ -105,22 +105,24 @@ sized s _ = None
 pub fits_limits : (s : Store) (x : External) (th : Thing) (l : Limits) (size : ℕ) (most : Option ℕ) → fits s x th ≡ Some true → limits_in x ≡ Some l → sized s th ≡ Some (size, most) → meets size most l ≡ true
 fits_limits s (TableOf t) (TableAt a) l size most h e f = by (place s.tables a) h f
   where
-    by : (o : Option Table) → then_some o (λ u. Some (cond (same_ref t.ty u.ty) (meets (length u.slots) u.most t.limits) false)) ≡ Some true → then_some o (λ u. Some (length u.slots, u.most)) ≡ Some (size, most) → meets size most l ≡ true
+    by : (o : Option Table) → then_some o (λ u. Some (cond (same_ref t.ty u.ty) (meets (length u.slots) u.most t.limits) false)) ≡ Some true → then_some {A = Table} {B = ℕ × Option ℕ} o (λ u. Some (length u.slots, u.most)) ≡ Some (size, most) → meets size most l ≡ true
     by None h f = absurd (let k = h in cc)
     by (Some u) h f =
         let yes : cond (same_ref t.ty u.ty) (meets (length u.slots) u.most t.limits) false ≡ true = cc in
-        let n : length u.slots ≡ size = cc in
-        let k : u.most ≡ most = cc in
+        let pair : (length u.slots, u.most) ≡ (size, most) = cc in
+        let n : length u.slots ≡ size = ap (λ (p : ℕ × Option ℕ). p.0) pair in
+        let k : u.most ≡ most = ap (λ (p : ℕ × Option ℕ). p.1) pair in
         let same : t.limits ≡ l = cc in
         ap₂ (λ n k. meets n k l) (sym n) (sym k) ∙ ap (meets (length u.slots) u.most) (sym same) ∙ (both_true (same_ref t.ty u.ty) (meets (length u.slots) u.most t.limits) yes).1
 fits_limits s (MemoryOf k) (MemoryAt a) l size most h e f = by (place s.mems a) h f
   where
-    by : (o : Option Memory) → then_some o (λ u. Some (meets u.pages u.most k)) ≡ Some true → then_some o (λ u. Some (u.pages, u.most)) ≡ Some (size, most) → meets size most l ≡ true
+    by : (o : Option Memory) → then_some o (λ u. Some (meets u.pages u.most k)) ≡ Some true → then_some {A = Memory} {B = ℕ × Option ℕ} o (λ u. Some (u.pages, u.most)) ≡ Some (size, most) → meets size most l ≡ true
     by None h f = absurd (let k = h in cc)
     by (Some u) h f =
         let yes : meets u.pages u.most k ≡ true = cc in
-        let n : u.pages ≡ size = cc in
-        let b : u.most ≡ most = cc in
+        let pair : (u.pages, u.most) ≡ (size, most) = cc in
+        let n : u.pages ≡ size = ap (λ (p : ℕ × Option ℕ). p.0) pair in
+        let b : u.most ≡ most = ap (λ (p : ℕ × Option ℕ). p.1) pair in
         let same : k ≡ l = cc in
         ap₂ (λ n k. meets n k l) (sym n) (sym b) ∙ ap (meets u.pages u.most) (sym same) ∙ yes
 fits_limits s (FuncOf t) th l size most h e f = absurd (let k = e in cc)
@@ -139,14 +141,14 @@ kept_fits s (GlobalOf t) th l h met = h
 kept_fits s (TableOf t) (TableAt a) l h met = by (place s.tables a) h met
   where
     by : (o : Option Table) → then_some o (λ u. Some (cond (same_ref t.ty u.ty) (meets (length u.slots) u.most t.limits) false)) ≡ Some true →
-        ((size : ℕ) (most : Option ℕ) → then_some o (λ u. Some (length u.slots, u.most)) ≡ Some (size, most) → meets size most l ≡ true) → then_some o (λ u. Some (cond (same_ref t.ty u.ty) (meets (length u.slots) u.most l) false)) ≡ Some true
+        ((size : ℕ) (most : Option ℕ) → then_some {A = Table} {B = ℕ × Option ℕ} o (λ u. Some (length u.slots, u.most)) ≡ Some (size, most) → meets size most l ≡ true) → then_some o (λ u. Some (cond (same_ref t.ty u.ty) (meets (length u.slots) u.most l) false)) ≡ Some true
     by None h met = absurd (let k = h in cc)
     by (Some u) h met =
         let yes : cond (same_ref t.ty u.ty) (meets (length u.slots) u.most t.limits) false ≡ true = cc in
         ap Some (true_both (same_ref t.ty u.ty) (meets (length u.slots) u.most l) (both_true (same_ref t.ty u.ty) (meets (length u.slots) u.most t.limits) yes).0 (met (length u.slots) u.most refl))
 kept_fits s (MemoryOf k) (MemoryAt a) l h met = by (place s.mems a) h met
   where
-    by : (o : Option Memory) → then_some o (λ u. Some (meets u.pages u.most k)) ≡ Some true → ((size : ℕ) (most : Option ℕ) → then_some o (λ u. Some (u.pages, u.most)) ≡ Some (size, most) → meets size most l ≡ true) →
+    by : (o : Option Memory) → then_some o (λ u. Some (meets u.pages u.most k)) ≡ Some true → ((size : ℕ) (most : Option ℕ) → then_some {A = Memory} {B = ℕ × Option ℕ} o (λ u. Some (u.pages, u.most)) ≡ Some (size, most) → meets size most l ≡ true) →
         then_some o (λ u. Some (meets u.pages u.most l)) ≡ Some true
     by None h met = absurd (let k = h in cc)
     by (Some u) h met = ap Some (met u.pages u.most refl)

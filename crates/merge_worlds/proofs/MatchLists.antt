@@ -47,7 +47,7 @@ has_chosen {A} {B} f (z ∷ xs) n x y h e = by (f z) refl n h (λ n h. has_chose
 -- where all are there, each stands at its place
 pub all_places : {A B : Type 0} (f : A → Option B) (xs : List A) (ys : List B) → all_there f xs ≡ Some ys → (n : ℕ) (x : A) → place xs n ≡ Some x → (y : B) × (place ys n ≡ Some y) × (f x ≡ Some y)
 all_places f [] ys h n x e = absurd (let k = e in cc)
-all_places {A} {B} f (z ∷ xs) ys h n x e = by n e
+all_places {A} {B} f (z ∷ xs) ys h n x e = by (λ n. all_places f xs tail.0 tail.1 n x) n e
   where
     head : (y : B) × (f z ≡ Some y) × (then_some (all_there f xs) (λ ys. Some (y ∷ ys)) ≡ Some ys)
     head = then_is (f z) (λ y. then_some (all_there f xs) (λ ys. Some (y ∷ ys))) ys h
@@ -58,9 +58,9 @@ all_places {A} {B} f (z ∷ xs) ys h n x e = by n e
     are : head.0 ∷ tail.0 ≡ ys
     are = let k = tail.2 in cc
 
-    by : (n : ℕ) → place (z ∷ xs) n ≡ Some x → (y : B) × (place ys n ≡ Some y) × (f x ≡ Some y)
-    by zero e = let same : z ≡ x = cc in (head.0, ap (λ l. place l 0) (sym are), ap f (sym same) ∙ head.1)
-    by (suc n) e = let r = all_places f xs tail.0 tail.1 n x e in (r.0, ap (λ l. place l (suc n)) (sym are) ∙ r.1, r.2)
+    by : ((n : ℕ) → place xs n ≡ Some x → (y : B) × (place tail.0 n ≡ Some y) × (f x ≡ Some y)) → (n : ℕ) → place (z ∷ xs) n ≡ Some x → (y : B) × (place ys n ≡ Some y) × (f x ≡ Some y)
+    by on zero e = let same : z ≡ x = cc in (head.0, ap (λ l. place l 0) (sym are), ap f (sym same) ∙ head.1)
+    by on (suc n) e = let r = on n e in (r.0, ap (λ l. place l (suc n)) (sym are) ∙ r.1, r.2)
 
 pub copies_length : {A : Type 0} (n : ℕ) (v : A) → length (copies n v) ≡ n
 copies_length zero v = refl

@@ -1,5 +1,5 @@
 -- Lists by place, as segments need them: what is left of a list past a place, and what is written into the first of two lists.
-use Rattle.std.proofs.Common.{◌≡◌, ℕ, zero, suc, ◌+◌, ◌<◌, List, [], ◌∷◌, ◌++◌, length, Option, refl, ap, subst, ◌∙◌, arith}
+use Rattle.std.proofs.Common.{◌≡◌, ℕ, zero, suc, ◌+◌, ◌<◌, List, [], ◌∷◌, ◌++◌, length, Option, Some, None, refl, ap, subst, ◌∙◌, arith}
 use Rattle.wasm_meaning.specs.Outcomes.{put, past}
 use Rattle.wasm_meaning.specs.Linking.{place}
 use Rattle.index_remap.specs.Related.{OptRel, none, some}

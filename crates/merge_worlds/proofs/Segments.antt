@@ -1,5 +1,5 @@
 -- The active segments of the parts and those of the merged module are copied to the same places of both stores.
-use Rattle.std.proofs.Common.{◌≡◌, ℕ, ◌+◌, ◌<◌, List, [], ◌∷◌, ◌++◌, map, length, Option, Some, None, true, refl, sym, ap, subst, ◌∙◌, arith}
+use Rattle.std.proofs.Common.{◌≡◌, ℕ, ◌+◌, ◌<◌, List, [], ◌∷◌, ◌++◌, map, length, Option, Some, None, true, false, refl, sym, ap, subst, ◌∙◌, arith}
 use Rattle.std.specs.Prelude.{slice_get, slice_index}
 use Rattle.wasm_tree.specs.declared.types.ValType.{ValType}
 use Rattle.wasm_tree.specs.declared.types.ValType.TheVariants.{I32}
@@ -19,7 +19,7 @@ use Rattle.wasm_valid.specs.Constants.{const_type}
 use Rattle.wasm_valid.specs.SpaceTypes.{table_types}
 use Rattle.wasm_valid.specs.Validity.{IsValid, HoldsAt, ElemModeHolds, DataModeHolds, count_of}
 use Rattle.wasm_meaning.specs.Outcomes.{past, overwrite}
-use Rattle.wasm_meaning.specs.State.{Val, Inst, Data, Store}
+use Rattle.wasm_meaning.specs.State.{Val, Inst, Memory, Data, Store}
 use Rattle.wasm_meaning.specs.Values.{num_of}
 use Rattle.wasm_meaning.specs.Linking.{Part, place, then_some, module_at}
 use Rattle.wasm_meaning.specs.Environment.{Environment}
@@ -39,7 +39,7 @@ use Rattle.merge_worlds.specs.Instances.{SpaceAgrees, PartAgrees, InstancesAgree
 use Rattle.merge_worlds.specs.Stores.{StoresAlike, FilledAlike}
 use Rattle.merge_worlds.proofs.SegmentLists.{equal_rel}
 use Rattle.merge_worlds.proofs.SegmentStores.{goes_on, and_then_alike, or_trapped_alike, fill_table_alike, fill_memory_alike}
-use Rattle.merge_worlds.proofs.SegmentTurns.{elems_by, datas_by, elems_start, datas_start, elems_next, datas_next, task, PartDoes, by_parts}
+use Rattle.merge_worlds.proofs.SegmentTurns.{tasks_by, elems_by, datas_by, elems_start, datas_start, elems_next, datas_next, task, PartDoes, by_parts}
 
 abbrev pub alone_part : List Part → Mode → List Part
 alone_part parts mode = record { name = None; «module» = joined_module parts mode } ∷ []
@@ -58,7 +58,7 @@ ValidItemsHold = (m : Module) → IsValid m → (k : ItemKind) (i : ℕ) → i <
 
 data Declares : List ElemSeg → Type 0 where
   nothing_more : Declares []
-  one_more : {fs : List ℕ} → Declares (declaring fs ∷ [])
+  one_more : (fs : List ℕ) → Declares (declaring fs ∷ [])
 
 record JoinedElems (parts : List Part) (mode : Mode) : Type 0 where
   more : List ElemSeg
@@ -78,7 +78,7 @@ joined_elems parts mode = let r = go (declared_refs (merged parts (new_names mod
 
     go : (fs : List ℕ) → (more : List ElemSeg) × Declares more × ((with_declared (merged parts (new_names mode (export_names parts))) fs).elems ≡ all ++ more)
     go [] = ([], nothing_more, nothing_after all)
-    go (f ∷ fs) = (declaring (f ∷ fs) ∷ [], one_more, refl)
+    go (f ∷ fs) = (declaring (f ∷ fs) ∷ [], one_more (f ∷ fs), refl)
 
 joined_datas : (parts : List Part) (mode : Mode) → (joined_module parts mode).datas ≡ by_part (λ p m. map (merged_data parts p (map_of parts p m)) m.datas) parts
 unfolding joined_module merged
@@ -148,10 +148,10 @@ module _ (env : Environment) (parts : List Part) (mode : Mode) where
   copy_data_alike {s} {z} i j n x y a o first second like =
       or_trapped_alike env parts like (then_same o (λ q _. opt_at (ap (λ o. then_some o (memory_at s n q)) first) (ap (λ o. then_some o (memory_at z n q)) second) (here q)))
     where
-      same : (q : ℕ) (v w : _) (d e : Data) → v ≡ w → d ≡ e → FilledAlike env parts (fill_memory s n a v (overwrite v.bytes q d.bytes)) (fill_memory z n a w (overwrite w.bytes q e.bytes))
+      same : (q : ℕ) (v w : Memory) (d e : Data) → v ≡ w → d ≡ e → FilledAlike env parts (fill_memory s n a v (overwrite v.bytes q d.bytes)) (fill_memory z n a w (overwrite w.bytes q e.bytes))
       same q v w d e f g =
           subst (λ e. FilledAlike env parts (fill_memory s n a v (overwrite v.bytes q d.bytes)) (fill_memory z n a w (overwrite w.bytes q e.bytes))) g
-          (subst (λ w. FilledAlike env parts (fill_memory s n a v (overwrite v.bytes q d.bytes)) (fill_memory z n a w (overwrite w.bytes q d.bytes))) f (fill_memory_alike env parts n a (overwrite v.bytes q d.bytes) like refl))
+          (subst (λ w. FilledAlike env parts (fill_memory s n a v (overwrite v.bytes q d.bytes)) (fill_memory z n a w (overwrite w.bytes q d.bytes))) f (fill_memory_alike env parts {v = v} {w = v} n a (overwrite v.bytes q d.bytes) like refl))
 
       here : (q : ℕ) → OptRel (FilledAlike env parts) (memory_at s n q a) (memory_at z n q a)
       here q = then_rel (equal_rel (ap (λ ms. place ms a) like.mems)) (λ v w f. then_rel (equal_rel (ap (λ ds. place ds n) like.datas)) (λ d e g. some (same q v w d e f g)))
@@ -222,9 +222,9 @@ module _ (env : Environment) (parts : List Part) (mode : Mode) where
     declared_alike : {more : List ElemSeg} → Declares more → (ns : List ℕ) (s z : Store) → StoresAlike env parts s z → FilledAlike env parts (record { store = s; trapped = false }) (in_turn (run_elem env M js) z (tasks_in 0 j ns more))
     declared_alike nothing_more [] s z like = goes_on env parts like
     declared_alike nothing_more (n ∷ ns) s z like = goes_on env parts like
-    declared_alike one_more [] s z like = goes_on env parts like
-    declared_alike one_more (n ∷ []) s z like = goes_on env parts like
-    declared_alike one_more (n ∷ k ∷ ns) s z like = goes_on env parts like
+    declared_alike (one_more fs) [] s z like = goes_on env parts like
+    declared_alike (one_more fs) (n ∷ []) s z like = goes_on env parts like
+    declared_alike (one_more fs) (n ∷ k ∷ ns) s z like = goes_on env parts like
 
     elems_alike : (s z : Store) → StoresAlike env parts s z → FilledAlike env parts (in_turn (run_elem env parts insts) s (elem_tasks 0 parts insts)) (in_turn (run_elem env M js) z (elem_tasks 0 M js))
     elems_alike s z like =
@@ -236,7 +236,7 @@ module _ (env : Environment) (parts : List Part) (mode : Mode) where
             ap (λ n. tasks_in 0 j (past j.elems n) (by_part (λ p m. map (merged_elem parts p (map_of parts p m)) m.elems) parts ++ e.more)) (elems_start parts)
             ∙ ap (tasks_in 0 j j.elems) (sym e.are) ∙ nothing_after (tasks_in 0 j j.elems whole.elems) ∙ ap (elem_tasks 0 M) (sym agree.alone) in
         subst (λ ts. FilledAlike env parts (in_turn (run_elem env parts insts) s ts) (in_turn (run_elem env M js) z (elem_tasks 0 M js))) (sym (elems_by 0 parts insts))
-        (subst (λ ts. FilledAlike env parts (in_turn (run_elem env parts insts) s _) (in_turn (run_elem env M js) z ts)) first all)
+        (subst (λ ts. FilledAlike env parts (in_turn (run_elem env parts insts) s (tasks_by (λ m. m.elems) (λ i. i.elems) 0 parts insts)) (in_turn (run_elem env M js) z ts)) first all)
 
     -- ---- data segments ----
 
@@ -285,7 +285,7 @@ module _ (env : Environment) (parts : List Part) (mode : Mode) where
             ap (λ n. tasks_in 0 j (past j.datas n) (by_part (λ p m. map (merged_data parts p (map_of parts p m)) m.datas) parts ++ [])) (datas_start parts)
             ∙ ap (tasks_in 0 j j.datas) (sym (nothing_after _) ∙ sym (joined_datas parts mode)) ∙ nothing_after (tasks_in 0 j j.datas whole.datas) ∙ ap (data_tasks 0 M) (sym agree.alone) in
         subst (λ ts. FilledAlike env parts (in_turn (run_data env parts insts) s ts) (in_turn (run_data env M js) z (data_tasks 0 M js))) (sym (datas_by 0 parts insts))
-        (subst (λ ts. FilledAlike env parts (in_turn (run_data env parts insts) s _) (in_turn (run_data env M js) z ts)) first all)
+        (subst (λ ts. FilledAlike env parts (in_turn (run_data env parts insts) s (tasks_by (λ m. m.datas) (λ i. i.datas) 0 parts insts)) (in_turn (run_data env M js) z ts)) first all)
       where
         no_data : (ns : List ℕ) (s z : Store) → StoresAlike env parts s z → FilledAlike env parts (record { store = s; trapped = false }) (in_turn (run_data env M js) z (tasks_in 0 j ns []))
         no_data [] s z like = goes_on env parts like
