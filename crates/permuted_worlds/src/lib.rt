@@ -1,12 +1,30 @@
 //! What the laws of steps give of whole worlds: the order of a module's functions is not seen, and machines that make silent steps of their own show the same.
 #![tactic(auto)]
 
+ghost use Rattle.permuted_worlds.specs.Alone.{
+    ImportsStandForTheEnvironments, ImportsStay, ReadsStay, SpacesAreImportsAndOwn,
+};
 ghost use Rattle.permuted_worlds.specs.Instances.{RelatedInstancesShowTheSame};
+ghost use Rattle.permuted_worlds.specs.Owned.{OwnEntitiesCorrespond};
 ghost use Rattle.permuted_worlds.specs.Permuted.{OrderIsNotSeen};
 ghost use Rattle.permuted_worlds.specs.Silent.{BudgetedRunsShowTheSame, SlowerRunsShowTheSame};
 
 use index_remap::{related_runs_show_the_same, renumbered_code_is_related};
 use remap_typing::renumbering_keeps_typing;
+
+/// In the world of a module alone each import is its own end (`ends`) and stands for what the environment offers of its name, or for nothing (`things`); the
+/// index spaces are these, then what the module defines (`spaces`); and constant expressions read what stands in them (`reads`).
+pub fn imports_of_one_module_stay()
+    ensures ends { ImportsStay }
+    ensures things { ImportsStandForTheEnvironments }
+    ensures spaces { SpacesAreImportsAndOwn }
+    ensures reads { ReadsStay }
+{}
+
+/// Where each address of the environment's own entities stands for itself, so do their keys, and what is allocated for them corresponds.
+pub fn own_entities_correspond()
+    ensures own { OwnEntitiesCorrespond }
+{}
 
 /// Two worlds show the same events, step by step, where neither can be instantiated, or both to what corresponds (WebAssembly Core 2.0, section 4.5.4).
 pub fn related_instances_show_the_same()
