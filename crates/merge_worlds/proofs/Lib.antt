@@ -2,8 +2,6 @@ pub mod SegmentLists
 pub mod SegmentStores
 pub mod SegmentTurns
 pub mod Segments
-pub mod MatchEnded
-pub mod MatchAlone
 pub mod MatchLists
 pub mod MatchTypes
 pub mod MatchLimits

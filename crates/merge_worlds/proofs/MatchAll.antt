@@ -15,8 +15,8 @@ use Rattle.merge_terms.specs.Joined.{joined_module}
 use Rattle.merge_validity.specs.Joinable.{CanBeJoined}
 use Rattle.merge_worlds.specs.Instances.{InstancesAgree}
 use Rattle.merge_worlds.specs.Stores.{StoresAlike}
-use Rattle.merge_worlds.proofs.MatchAlone.{one, site, ImportsStandForTheEnvironments}
-use Rattle.merge_worlds.proofs.MatchEnded.{EndsInside, EndsOutside, Ended, inside, outside, LinkedImportsEnd, StayingImportsEndThere, SitesAreImports, TypesHavePlaces}
+use Rattle.permuted_worlds.specs.Alone.{one, site, ImportsStandForTheEnvironments}
+use Rattle.merge_validity.specs.Ended.{EndsInside, EndsOutside, Ended, inside, outside, LinkedImportsEnd, StayingImportsEndThere, SitesAreImports, TypesHavePlaces}
 use Rattle.merge_worlds.proofs.MatchLists.{bool_same, both_true, true_both, all_each, each_all}
 use Rattle.merge_worlds.proofs.MatchTypes.{alike_is}
 use Rattle.merge_worlds.proofs.MatchLimits.{each_met, met_each}

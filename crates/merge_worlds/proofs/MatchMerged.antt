@@ -19,8 +19,8 @@ use Rattle.merge_terms.specs.Merged.{merged, merged_types, map_of, merged_import
 use Rattle.merge_terms.specs.Joined.{joined_module}
 use Rattle.merge_validity.proofs.Lists.{Has, place_get, then_is, kept_is, is_kept, chosen_from}
 use Rattle.merge_worlds.specs.Stores.{StoresAlike}
-use Rattle.merge_worlds.proofs.MatchAlone.{one, site, key_in, thing_in, ImportsStandForTheEnvironments}
-use Rattle.merge_worlds.proofs.MatchEnded.{TypesHavePlaces}
+use Rattle.permuted_worlds.specs.Alone.{one, site, key_in, thing_in, ImportsStandForTheEnvironments}
+use Rattle.merge_validity.specs.Ended.{TypesHavePlaces}
 use Rattle.merge_worlds.proofs.MatchLists.{has_chosen}
 use Rattle.merge_worlds.proofs.MatchFits.{fits, fitting, match_fits, kept}
 use Rattle.merge_worlds.proofs.MatchAlike.{IsAmong, own_among, fits_same}
