@@ -1,5 +1,5 @@
 -- Lists whose elements all have a result, and what is chosen from lists.
-use Rattle.std.proofs.Common.{◌≡◌, ◌∙◌, ap, ap₂, sym, refl, ℕ, zero, suc, ◌+◌, ◌<◌, ◌≤◌, List, [], ◌∷◌, ◌++◌, length, Option, Some, None, Bool, true, false, cond, arith}
+use Rattle.std.proofs.Common.{◌≡◌, ◌∙◌, ap, ap₂, sym, refl, ℕ, zero, suc, ◌+◌, ◌≤◌, List, [], ◌∷◌, length, Option, Some, None, Bool, true, false, cond, arith}
 use Rattle.std.specs.List.{filter, filter_map, cons_option}
 use Rattle.wasm_meaning.specs.Linking.{place, then_some, places}
 use Rattle.wasm_meaning.specs.World.{all_there}

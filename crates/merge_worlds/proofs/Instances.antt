@@ -1,14 +1,13 @@
 -- The instances of the parts, and the instance of the merged module: all there or none, and each index of a part and its new one name one address.
-use Rattle.std.proofs.Common.{◌≡◌, ◌∙◌, ap, ap₂, sym, subst, refl, ℕ, zero, suc, ◌+◌, ◌-◌, ◌<◌, ◌≤◌, List, [], ◌∷◌, ◌++◌, map, length, Option, Some, None, arith, ◌⊎◌, inl, inr}
+use Rattle.std.proofs.Common.{◌≡◌, ◌∙◌, ap, ap₂, sym, subst, refl, ℕ, ◌+◌, ◌-◌, ◌<◌, ◌≤◌, List, [], ◌∷◌, ◌++◌, map, length, Option, Some, None, arith, ◌⊎◌, inl, inr}
 use Rattle.std.specs.Prelude.{slice_index}
 use Rattle.std.proofs.lemmas.Bool.{cases_lt}
-use Rattle.wasm_tree.specs.declared.types.FuncType.{FuncType}
 use Rattle.wasm_tree.specs.declared.module.Module.{Module}
 use Rattle.wasm_tree.specs.Spaces.{funcs_of, tables_of, memories_of, globals_of, imported_funcs, imported_tables, imported_memories, imported_globals}
 use Rattle.wasm_meaning.specs.State.{Inst}
 use Rattle.wasm_meaning.specs.Linking.{Part, Site, Outside, Kind, Functions, Tables, Memories, Globals, place, then_some, has_kind, module_at, imports_of, end_of}
 use Rattle.wasm_meaning.specs.Environment.{Environment}
-use Rattle.wasm_meaning.specs.World.{own_count, defined_count, defined_before, base, thing_of, address_of, all_there, numbers, space, elems_before, datas_before, inst_of, insts_from}
+use Rattle.wasm_meaning.specs.World.{own_count, defined_count, base, thing_of, address_of, all_there, numbers, space, elems_before, datas_before, inst_of, insts_from}
 use Rattle.index_remap.specs.Related.{OptRel, none, some}
 use Rattle.index_remap.specs.Related as to
 use Rattle.export_names.specs.declared.mode.Mode.{Mode}
@@ -26,13 +25,20 @@ use Rattle.merge_worlds.specs.Shared.{shared_count}
 use Rattle.merge_worlds.specs.Instances.{SameAddress, SpaceAgrees, PartAgrees, InstancesAgree}
 use Rattle.merge_worlds.proofs.SpaceLaws.{SpaceLaws}
 use Rattle.merge_worlds.proofs.Chosen.{all_at, place_there}
-use Rattle.merge_worlds.proofs.Instancing.{IsInst, inst_is, inst_there, EachInst, insts_are, insts_there}
+use Rattle.merge_worlds.proofs.Instancing.{IsInst, inst_is, inst_there, insts_are, insts_there}
 use Rattle.merge_worlds.proofs.Standing.{kind_in, before_low, shared_is, total, import_address, site_address, site_low, Stands, own, stays, import_stands, own_stands}
-use Rattle.merge_worlds.proofs.MergedAlone.{Keeps, joined_keeps, staying_kind, names_of, merged_types_are, merged_space, elems_many, datas_many}
+use Rattle.merge_worlds.proofs.MergedAlone.{joined_keeps, staying_kind, names_of, merged_types_are, merged_space, elems_many, datas_many}
 
 -- ---- the entries of a part's map ----
 
-map_funcs : (parts : List Part) (p : ℕ) (m : Module) → (map_of parts p m).funcs ≡ map (new_index parts p Functions) (numbers 0 (length (funcs_of m)))
+-- what a map has for an index
+pub map_entry : (parts : List Part) (p : ℕ) (k : Kind) (entries : List ℕ) (size : ℕ) → entries ≡ map (new_index parts p k) (numbers 0 size) → (x : ℕ) → x < size → slice_index entries x ≡ new_index parts p k x
+map_entry parts p k entries size e x l =
+    let from_0 : 0 + x ≡ x = omega arith in
+    index_at entries x (new_index parts p k x)
+    (ap (λ l. place l x) e ∙ place_map (new_index parts p k) (numbers 0 size) x ∙ ap (λ o. then_some o (λ x. Some (new_index parts p k x))) (place_numbers 0 size x l ∙ ap Some from_0))
+
+pub map_funcs : (parts : List Part) (p : ℕ) (m : Module) → (map_of parts p m).funcs ≡ map (new_index parts p Functions) (numbers 0 (length (funcs_of m)))
 unfolding map_of
 map_funcs parts p m = refl
 
@@ -89,12 +95,12 @@ module _ (laws : SpaceLaws) (env : Environment) (parts : List Part) (linked : li
       let same : r.0 ++ numbers (base env parts k p) (defined_count k m) ≡ xs = cc in
       record { imported = r.0; are = r.1; all = sym same }
 
-  record MergedSpace (k : Kind) (ys : List ℕ) : Type 0 where
-    imported : List ℕ
-    are : all_there (site_address env parts k) (staying_of parts k) ≡ Some imported
-    all : ys ≡ imported ++ numbers (own_count k env) (total env parts k + added_count parts k)
+  pub record MergedSpace (k : Kind) (ys : List ℕ) : Type 0 where
+    pub imported : List ℕ
+    pub are : all_there (site_address env parts k) (staying_of parts k) ≡ Some imported
+    pub all : ys ≡ imported ++ numbers (own_count k env) (total env parts k + added_count parts k)
 
-  merged_part : (k : Kind) (ys : List ℕ) → space env (one J) k 0 J ≡ Some ys → MergedSpace k ys
+  pub merged_part : (k : Kind) (ys : List ℕ) → space env (one J) k 0 J ≡ Some ys → MergedSpace k ys
   merged_part k ys h =
       let r = then_is (all_there (site_address env parts k) (staying_of parts k)) _ ys (sym (merged_space laws env parts linked mode k) ∙ h) in
       let q = r.2 in
@@ -142,9 +148,7 @@ module _ (laws : SpaceLaws) (env : Environment) (parts : List Part) (linked : li
       each x l =
           let r = stands_at k p m xs is s x (omega (arith, l, n)) in
           let q = names_same k ys t r.0 (new_index parts p k x) r.2 in
-          let from_0 : 0 + x ≡ x = omega arith in
-          let at : place entries x ≡ Some (new_index parts p k x) = ap (λ l. place l x) e ∙ place_map (new_index parts p k) (numbers 0 size) x ∙ ap (λ o. then_some o (λ x. Some (new_index parts p k x))) (place_numbers 0 size x l ∙ ap Some from_0) in
-          record { address = r.0; first = r.1; second = ap (place ys) (index_at entries x (new_index parts p k x) at) ∙ q.0; shared = q.1 }
+          record { address = r.0; first = r.1; second = ap (place ys) (map_entry parts p k entries size e x l) ∙ q.0; shared = q.1 }
 
   -- segments
   segments_agree : (k : to.Kind) (xs ys entries : List ℕ) (first count n : ℕ) → xs ≡ numbers first count → ys ≡ numbers 0 n → entries ≡ numbers first count → first + count ≤ shared_count env parts k → shared_count env parts k ≤ n → SpaceAgrees env parts k xs ys entries
@@ -300,6 +304,16 @@ module _ (laws : SpaceLaws) (env : Environment) (parts : List Part) (linked : li
       by (Some insts) h (Some js) g = some (both_there insts js h g)
       by (Some insts) h None g = absurd (let x = joined_there (parts_present insts h) in let z : Some x.0 ≡ None = sym x.1 ∙ g in cc)
       by None h (Some js) g = absurd (let x = all_parts_there (joined_present js g) in let z : Some x.0 ≡ None = sym x.1 ∙ h in cc)
+
+-- two that are there, with that from which they are
+pub record BothAre {A B : Type 0} (P : A → B → Type 0) (o : Option A) (r : Option B) (a : A) (b : B) : Type 0 where
+  pub first : o ≡ Some a
+  pub second : r ≡ Some b
+  pub related : P a b
+
+pub both_are : {A B : Type 0} {P : A → B → Type 0} {o : Option A} {r : Option B} → OptRel P o r → OptRel (BothAre P o r) o r
+both_are none = none
+both_are (some q) = some (record { first = refl; second = refl; related = q })
 
 -- the instances of parts that can be joined, and that of the merged module
 pub instances_agree : SpaceLaws → (env : Environment) (parts : List Part) (mode : Mode) → CanBeJoined parts mode → OptRel (InstancesAgree env parts) (insts_from env parts 0 parts) (insts_from env (one (joined_module parts mode)) 0 (one (joined_module parts mode)))

@@ -1,3 +1,12 @@
+pub mod SpaceLaws
+pub mod Chosen
+pub mod Instancing
+pub mod Standing
+pub mod MergedAlone
+pub mod Instances
+pub mod Named
+pub mod View
+pub mod Starts
 pub mod SegmentLists
 pub mod SegmentStores
 pub mod SegmentTurns

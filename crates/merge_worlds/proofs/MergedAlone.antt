@@ -1,7 +1,6 @@
 -- The merged module alone: its imports are those that stay, and stand for what these stand for in the parts' world; then comes what the parts define.
 use Rattle.std.proofs.Common.{◌≡◌, ◌∙◌, ap, ap₂, sym, refl, ℕ, ◌+◌, List, [], ◌∷◌, ◌++◌, map, length, Option, Some, None, true, arith}
-use Rattle.std.specs.Prelude.{slice_get, slice_index}
-use Rattle.std.specs.List.{filter, filter_map, flat_map}
+use Rattle.std.specs.List.{filter, filter_map}
 use Rattle.wasm_tree.specs.declared.types.FuncType.{FuncType}
 use Rattle.wasm_tree.specs.declared.module.Import.{Import}
 use Rattle.wasm_tree.specs.declared.module.ImportDesc.{ImportDesc}
@@ -9,18 +8,18 @@ use Rattle.wasm_tree.specs.declared.module.ImportDesc.TheVariants as im
 use Rattle.wasm_tree.specs.declared.module.ElemSeg.{ElemSeg}
 use Rattle.wasm_tree.specs.declared.module.Module.{Module}
 use Rattle.wasm_meaning.specs.State.{Text, Pair}
-use Rattle.wasm_meaning.specs.Linking.{Part, Site, Kind, Functions, Tables, Memories, Globals, place, then_some, places, has_kind, same_kind, kind_of_import, pair_of, module_at, import_at, sites}
-use Rattle.wasm_meaning.specs.Environment.{Environment, FuncKey, Owned, OwnKey, owned_of, owned_at}
+use Rattle.wasm_meaning.specs.Linking.{Part, Site, Kind, Functions, Tables, Memories, Globals, place, then_some, has_kind, same_kind, kind_of_import, pair_of, module_at, import_at, sites}
+use Rattle.wasm_meaning.specs.Environment.{Environment, FuncKey, OwnKey, owned_of, owned_at}
 use Rattle.wasm_meaning.specs.World.{given, own_count, defined_count, defined_before, address_of, own_key, own_key_of, outside_thing, all_there, numbers, space, or_false, elems_before, datas_before}
 use Rattle.index_remap.specs.References.{with_declared, declared_refs}
 use Rattle.export_names.specs.declared.mode.Mode.{Mode}
 use Rattle.export_names.specs.Names.{new_names}
 use Rattle.merge_terms.specs.Faults.{External, FuncOf, asked, asked_at, link_fault, stays}
-use Rattle.merge_terms.specs.Merged.{merged, merged_types, merged_import, merged_desc, merged_elem, merged_data, map_of, staying, staying_of, imports_kind, export_names, all_exports, named_exports, start_among, starts, by_part}
+use Rattle.merge_terms.specs.Merged.{merged, merged_types, merged_import, merged_desc, merged_elem, merged_data, map_of, staying, staying_of, imports_kind, export_names}
 use Rattle.merge_terms.specs.Joined.{joined_module}
 use Rattle.merge_validity.specs.Ended.{Ended, inside, outside, added_count}
 use Rattle.merge_validity.proofs.Lists.{then_is, place_get, kept_is}
-use Rattle.merge_validity.proofs.ByPart.{before, elems_is, datas_is, by_part_many}
+use Rattle.merge_validity.proofs.ByPart.{elems_is, datas_is, by_part_many}
 use Rattle.permuted_worlds.specs.Alone.{one, key_in, thing_in, address_in, addresses}
 use Rattle.permuted_worlds.proofs.Places.{map_length}
 use Rattle.merge_worlds.proofs.Chosen.{at_places, of_chosen}

@@ -1,5 +1,5 @@
 -- What is taken from the crates below.
-use Rattle.permuted_worlds.specs.Alone.{ImportsStandForTheEnvironments, SpacesAreImportsAndOwn, ReadsStay}
+use Rattle.permuted_worlds.specs.Alone.{ImportsStandForTheEnvironments, SpacesAreImportsAndOwn}
 use Rattle.permuted_worlds.specs.Owned.{OwnEntitiesCorrespond}
 use Rattle.merge_validity.specs.Ended.{LinkedImportsEnd, StayingImportsEndThere, SitesAreImports, StayingImportsHavePlaces, NewIndicesArePlaces, DefinedEntitiesHavePlaces, TypesHavePlaces, MergedModulesDefineAll}
 

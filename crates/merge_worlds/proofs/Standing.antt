@@ -1,13 +1,13 @@
 -- For what each entry of a part's index space stands, in the parts' world and in the merged module: for what a part defines, with its number among all
 -- definitions, or for an import that stays.
-use Rattle.std.proofs.Common.{◌≡◌, ◌∙◌, ap, ap₂, sym, subst, refl, ℕ, zero, suc, ◌+◌, ◌-◌, ◌<◌, ◌≤◌, List, [], ◌∷◌, ◌++◌, length, Option, Some, None, Bool, true, cond, false, arith}
+use Rattle.std.proofs.Common.{◌≡◌, ◌∙◌, ap, ap₂, subst, refl, ℕ, zero, suc, ◌+◌, ◌-◌, ◌<◌, ◌≤◌, List, [], ◌∷◌, length, Option, Some, None, Bool, true, cond, false, arith}
 use Rattle.std.specs.Prelude.{nat_eq, nat_lt}
 use Rattle.std.proofs.lemmas.Bool.{ltb-true, lt-ltb, eq-eqb}
 use Rattle.wasm_tree.specs.declared.module.Import.{Import}
 use Rattle.wasm_tree.specs.declared.module.Module.{Module}
 use Rattle.wasm_meaning.specs.Outcomes.{Gives}
-use Rattle.wasm_meaning.specs.Linking.{Part, Site, End, Defined, Outside, Kind, Functions, Tables, Memories, Globals, place, then_some, has_kind, same_kind, kind_of_import, kind_of_export, index_of_export, module_at, import_at, imports_of, end_of}
-use Rattle.wasm_meaning.specs.Environment.{Environment, OwnKey, Thing, Owned, owned_of, owned_at, look_up, same_key}
+use Rattle.wasm_meaning.specs.Linking.{Part, Site, Defined, Outside, Kind, Functions, Tables, Memories, Globals, place, then_some, has_kind, same_kind, kind_of_import, kind_of_export, index_of_export, module_at, import_at, imports_of}
+use Rattle.wasm_meaning.specs.Environment.{Environment, OwnKey, Thing, Owned, owned_of, look_up, same_key}
 use Rattle.wasm_meaning.specs.World.{given, own_count, defined_count, defined_before, base, thing_at, address_of, own_key, outside_thing, defined_thing, thing_of, imported_thing}
 use Rattle.index_remap.specs.Related.{Pairing, OptRel, none, some, ListRel}
 use Rattle.index_remap.specs.Related as to
