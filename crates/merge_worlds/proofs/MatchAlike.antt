@@ -1,22 +1,21 @@
 -- The environment's own entities fit what is asked for in both stores or in none.
-use Rattle.std.proofs.Common.{◌≡◌, ℕ, zero, suc, ◌+◌, ◌<◌, List, [], ◌∷◌, ◌++◌, map, length, Option, Some, Bool, true, false, cond, refl, sym, ap, ap₂, subst, ◌∙◌, arith}
-use Rattle.wasm_tree.specs.declared.types.FuncType.{FuncType}
+use Rattle.std.proofs.Common.{◌≡◌, ℕ, zero, suc, ◌+◌, ◌<◌, List, [], ◌∷◌, ◌++◌, map, length, Some, Bool, true, false, cond, refl, sym, ap, ap₂, subst, ◌∙◌, arith}
 use Rattle.wasm_tree.specs.declared.types.TableType.{TableType}
-use Rattle.wasm_meaning.specs.Outcomes.{Outcome, Gives, Traps, IllTyped, bind, at}
+use Rattle.wasm_meaning.specs.Outcomes.{Outcome, Gives, bind, at}
 use Rattle.wasm_meaning.specs.State.{Func, Own, Table, Store}
 use Rattle.wasm_meaning.specs.Values.{same_ref, same_type, same_func_type}
 use Rattle.wasm_meaning.specs.Control.{type_of_func, type_at}
-use Rattle.wasm_meaning.specs.Linking.{Part, Functions, place, then_some}
-use Rattle.wasm_meaning.specs.Environment.{Environment, OwnKey, FuncKey, TableKey, MemoryKey, GlobalKey, Thing, FuncAt, TableAt, MemoryAt, GlobalAt, Owned, look_up, addressed, flat, one_if, owned_of, owned_at, own_funcs}
-use Rattle.wasm_meaning.specs.World.{given, same_bool, meets, own_count, defined_before}
+use Rattle.wasm_meaning.specs.Linking.{Part, place, then_some}
+use Rattle.wasm_meaning.specs.Environment.{Environment, OwnKey, FuncKey, TableKey, MemoryKey, Thing, FuncAt, TableAt, MemoryAt, GlobalAt, Owned, look_up, addressed, flat, one_if, owned_of, owned_at, own_funcs}
+use Rattle.wasm_meaning.specs.World.{given, same_bool, meets}
 use Rattle.index_remap.specs.Related.{Pairing, ResRel, done, trap, wrong, FuncRel, defined, own, TableRel}
 use Rattle.index_remap.specs.Related as to
 use Rattle.index_remap.proofs.Rel.{at_rel, length_rel}
 use Rattle.permuted_worlds.proofs.Places.{append_length, map_length, then_eq, place_rel}
 use Rattle.merge_terms.specs.Faults.{External, FuncOf, TableOf, MemoryOf, GlobalOf}
-use Rattle.merge_worlds.specs.Shared.{shared_count, sharing}
+use Rattle.merge_worlds.specs.Shared.{sharing}
 use Rattle.merge_worlds.specs.Stores.{StoresAlike}
-use Rattle.merge_worlds.proofs.MatchFits.{fits, fitting}
+use Rattle.merge_worlds.proofs.MatchFits.{fits}
 
 -- ---- the addresses of the environment's own entities ----
 

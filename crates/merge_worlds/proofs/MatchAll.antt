@@ -1,16 +1,16 @@
 -- All imports of the parts match where all imports of the merged module do.
-use Rattle.std.proofs.Common.{◌≡◌, ℕ, zero, suc, ◌+◌, ◌-◌, ◌≤◌, List, [], ◌∷◌, length, Option, Some, None, Bool, true, false, cond, refl, sym, ap, ap₂, subst, ◌∙◌, arith}
+use Rattle.std.proofs.Common.{◌≡◌, ℕ, zero, suc, ◌+◌, ◌-◌, ◌≤◌, List, length, Option, Some, None, true, refl, sym, ap, ap₂, subst, ◌∙◌}
 use Rattle.std.specs.Prelude.{nat_eq}
 use Rattle.std.proofs.lemmas.Bool.{eqb-true, eq-eqb}
 use Rattle.wasm_tree.specs.declared.types.Limits.{Limits}
 use Rattle.wasm_tree.specs.declared.module.Import.{Import}
 use Rattle.wasm_tree.specs.declared.module.Module.{Module}
 use Rattle.wasm_meaning.specs.State.{Inst, Store}
-use Rattle.wasm_meaning.specs.Linking.{Part, Site, End, Defined, Outside, Kind, then_some, place, module_at, import_at, imports_of, kind_of_import, kind_of_export, index_of_export, same_site, is_outside, sites, end_of, linked_end, limits_of, met_limits}
+use Rattle.wasm_meaning.specs.Linking.{Part, Site, End, Defined, Outside, Kind, then_some, place, import_at, imports_of, kind_of_export, index_of_export, same_site, is_outside, sites, linked_end, limits_of, met_limits}
 use Rattle.wasm_meaning.specs.Environment.{Environment, Thing, owned_of, all_of}
-use Rattle.wasm_meaning.specs.World.{base, thing_at, outside_thing, thing_of, imported_thing, own_store, stores_from, meets, is_matched}
+use Rattle.wasm_meaning.specs.World.{base, thing_at, outside_thing, thing_of, imported_thing, own_store, stores_from, is_matched}
 use Rattle.export_names.specs.declared.mode.Mode.{Mode}
-use Rattle.merge_terms.specs.Faults.{External, asked, asked_at, stays}
+use Rattle.merge_terms.specs.Faults.{External, asked_at, stays}
 use Rattle.merge_terms.specs.Joined.{joined_module}
 use Rattle.merge_validity.specs.Joinable.{CanBeJoined}
 use Rattle.merge_worlds.specs.Instances.{InstancesAgree}
@@ -20,9 +20,9 @@ use Rattle.merge_validity.specs.Ended.{EndsInside, EndsOutside, Ended, inside, o
 use Rattle.merge_worlds.proofs.MatchLists.{bool_same, both_true, true_both, all_each, each_all}
 use Rattle.merge_worlds.proofs.MatchTypes.{alike_is}
 use Rattle.merge_worlds.proofs.MatchLimits.{each_met, met_each}
-use Rattle.merge_worlds.proofs.MatchFits.{fits, fitting, fitting_there, there_fitting, asked_limits, limits_in, kept, sized, fits_limits, kept_fits, fits_kept}
+use Rattle.merge_worlds.proofs.MatchFits.{fits, fitting_there, there_fitting, asked_limits, limits_in, kept, fits_limits, kept_fits, fits_kept}
 use Rattle.merge_worlds.proofs.MatchDefined.{defined_fits}
-use Rattle.merge_worlds.proofs.MatchMerged.{import_site, asks_by, matched_at, moved, IsStaying, is_staying, stays_in, moved_matched}
+use Rattle.merge_worlds.proofs.MatchMerged.{import_site, asks_by, matched_at, moved, is_staying, stays_in, moved_matched}
 
 -- ---- sites ----
 

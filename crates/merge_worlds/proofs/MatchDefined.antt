@@ -1,12 +1,10 @@
 -- An entity that a part defines fits what is asked for, where its type and its limits do: what is allocated for it has its type, its least size and its maximum.
-use Rattle.std.proofs.Common.{◌≡◌, ℕ, zero, suc, ◌+◌, ◌-◌, ◌≤◌, List, [], ◌∷◌, ◌++◌, map, length, Option, Some, None, Bool, true, false, cond, refl, sym, ap, ap₂, subst, ◌∙◌, arith}
+use Rattle.std.proofs.Common.{◌≡◌, ℕ, zero, suc, ◌+◌, ◌-◌, ◌≤◌, List, [], ◌∷◌, ◌++◌, map, length, Option, Some, None, true, false, cond, refl, sym, ap, ap₂, ◌∙◌, arith}
 use Rattle.std.specs.Prelude.{slice_get, option_and_then}
-use Rattle.std.specs.List.{filter_map}
 use Rattle.wasm_tree.specs.declared.types.FuncType.{FuncType}
 use Rattle.wasm_tree.specs.declared.types.Limits.{Limits}
 use Rattle.wasm_tree.specs.declared.types.TableType.{TableType}
 use Rattle.wasm_tree.specs.declared.types.GlobalType.{GlobalType}
-use Rattle.wasm_tree.specs.declared.module.Import.{Import}
 use Rattle.wasm_tree.specs.declared.module.ImportDesc.{ImportDesc}
 use Rattle.wasm_tree.specs.declared.module.ImportDesc.TheVariants as im
 use Rattle.wasm_tree.specs.declared.module.ExportDesc.{ExportDesc}
@@ -14,7 +12,7 @@ use Rattle.wasm_tree.specs.declared.module.ExportDesc.TheVariants as ex
 use Rattle.wasm_tree.specs.declared.module.Module.{Module}
 use Rattle.wasm_tree.specs.Spaces.{func_of, table_of, memory_of, global_of, imported_funcs, imported_tables, imported_memories, imported_globals, funcs_of, tables_of, memories_of, globals_of, type_of_func}
 use Rattle.wasm_meaning.specs.Outcomes.{Gives, bind, at}
-use Rattle.wasm_meaning.specs.State.{Inst, Func, Code, Table, Memory, Global, Store}
+use Rattle.wasm_meaning.specs.State.{Inst, Code, Global, Store}
 use Rattle.wasm_meaning.specs.Values.{same_ref, same_type, same_func_type, null_of, declared}
 use Rattle.wasm_meaning.specs.Control as control
 use Rattle.wasm_meaning.specs.Control.{type_at}
@@ -24,9 +22,9 @@ use Rattle.wasm_meaning.specs.World.{given, same_bool, meets, base, thing_at, ne
 use Rattle.permuted_worlds.proofs.Places.{place_map}
 use Rattle.merge_terms.specs.Faults.{External, FuncOf, TableOf, MemoryOf, GlobalOf, external_of, same_but_limits, meets_limits}
 use Rattle.merge_validity.proofs.Lists.{is_some, then_is, place_get, behind, map_back, places_many}
-use Rattle.merge_worlds.proofs.MatchLists.{both_true, true_both, all_places, copies_length}
+use Rattle.merge_worlds.proofs.MatchLists.{true_both, all_places, copies_length}
 use Rattle.merge_worlds.proofs.MatchFits.{fits}
-use Rattle.merge_worlds.proofs.MatchStores.{new_table, new_memory, Adds, adds, Stands, funcs_stand, tables_stand, mems_stand, globals_stand}
+use Rattle.merge_worlds.proofs.MatchStores.{new_table, new_memory, adds, funcs_stand, tables_stand, mems_stand, globals_stand}
 
 -- ---- how many are imported ----
 

@@ -1,6 +1,6 @@
 -- An import of the merged module, and the import of a part that stays as it: both stand for the same, and the merged one has the limits that are asked for together.
-use Rattle.std.proofs.Common.{◌≡◌, ℕ, zero, suc, List, [], ◌∷◌, length, Option, Some, None, Bool, true, false, refl, sym, ap, ap₂, subst, ◌∙◌}
-use Rattle.std.specs.Prelude.{slice_get, slice_index}
+use Rattle.std.proofs.Common.{◌≡◌, ℕ, List, [], ◌∷◌, length, Option, Some, None, true, refl, sym, ap, ◌∙◌}
+use Rattle.std.specs.Prelude.{slice_index}
 use Rattle.std.specs.List.{filter, filter_map}
 use Rattle.wasm_tree.specs.declared.types.FuncType.{FuncType}
 use Rattle.wasm_tree.specs.declared.module.Import.{Import}
@@ -9,7 +9,7 @@ use Rattle.wasm_tree.specs.declared.module.ImportDesc.TheVariants as im
 use Rattle.wasm_tree.specs.declared.module.Module.{Module}
 use Rattle.wasm_meaning.specs.State.{Pair, Store}
 use Rattle.wasm_meaning.specs.Linking.{Part, Site, place, then_some, module_at, import_at, pair_of, sites, met_limits}
-use Rattle.wasm_meaning.specs.Environment.{Environment, OwnKey, FuncKey, Thing, owned_of, owned_at, own_funcs}
+use Rattle.wasm_meaning.specs.Environment.{Environment, FuncKey, Thing, owned_of, owned_at, own_funcs}
 use Rattle.wasm_meaning.specs.World.{given, own_key, own_key_of, outside_thing, imported_thing, is_match, or_false, is_matched}
 use Rattle.index_remap.specs.References.{with_declared, declared_refs}
 use Rattle.export_names.specs.declared.mode.Mode.{Mode}
@@ -17,7 +17,7 @@ use Rattle.export_names.specs.Names.{new_names}
 use Rattle.merge_terms.specs.Faults.{External, FuncOf, TableOf, MemoryOf, GlobalOf, asked, asked_at, stays}
 use Rattle.merge_terms.specs.Merged.{merged, merged_types, map_of, merged_import, merged_desc, staying, export_names}
 use Rattle.merge_terms.specs.Joined.{joined_module}
-use Rattle.merge_validity.proofs.Lists.{Has, place_get, then_is, kept_is, is_kept, chosen_from}
+use Rattle.merge_validity.proofs.Lists.{place_get, then_is, kept_is, is_kept, chosen_from}
 use Rattle.merge_worlds.specs.Stores.{StoresAlike}
 use Rattle.permuted_worlds.specs.Alone.{one, site, key_in, thing_in, ImportsStandForTheEnvironments}
 use Rattle.merge_validity.specs.Ended.{TypesHavePlaces}

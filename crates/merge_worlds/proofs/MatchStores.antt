@@ -1,5 +1,5 @@
 -- What a part adds to the store stands there at the addresses of the part.
-use Rattle.std.proofs.Common.{◌≡◌, ℕ, zero, suc, ◌+◌, ◌*◌, false, List, [], ◌∷◌, ◌++◌, map, length, Option, Some, refl, sym, ap, ap₂, subst, ◌∙◌, arith}
+use Rattle.std.proofs.Common.{◌≡◌, ℕ, zero, suc, ◌+◌, ◌*◌, false, List, [], ◌∷◌, ◌++◌, map, length, Some, refl, sym, ap, ap₂, subst, ◌∙◌, arith}
 use Rattle.wasm_tree.specs.declared.types.Limits.{Limits}
 use Rattle.wasm_tree.specs.declared.types.TableType.{TableType}
 use Rattle.wasm_tree.specs.declared.module.Module.{Module}
@@ -8,7 +8,7 @@ use Rattle.wasm_meaning.specs.State.{Inst, Func, Table, Memory, Global, Elem, St
 use Rattle.wasm_meaning.specs.Values.{null_of}
 use Rattle.wasm_meaning.specs.Linking.{Part, Kind, Functions, Tables, Memories, Globals, place, then_some, module_at}
 use Rattle.wasm_meaning.specs.Environment.{Environment}
-use Rattle.wasm_meaning.specs.World.{defined_count, own_count, defined_before, base, all_there, new_func, new_global, elem_of, part_store, joined_stores, own_store, stores_from}
+use Rattle.wasm_meaning.specs.World.{defined_count, defined_before, base, all_there, new_func, new_global, elem_of, part_store, joined_stores, own_store, stores_from}
 use Rattle.permuted_worlds.proofs.Places.{within, place_left, place_right, append_length, map_length, all_length}
 use Rattle.merge_validity.proofs.Lists.{then_is}
 

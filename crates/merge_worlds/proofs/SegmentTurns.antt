@@ -1,7 +1,5 @@
 -- Segments by part, one after the other, and the same segments of one module.
-use Rattle.std.proofs.Common.{◌≡◌, ℕ, zero, suc, ◌+◌, ◌<◌, List, [], ◌∷◌, ◌++◌, map, length, Some, None, false, refl, sym, ap, subst, ◌∙◌, arith, append_assoc}
-use Rattle.wasm_tree.specs.declared.module.ElemSeg.{ElemSeg}
-use Rattle.wasm_tree.specs.declared.module.DataSeg.{DataSeg}
+use Rattle.std.proofs.Common.{◌≡◌, ℕ, zero, suc, ◌+◌, ◌<◌, List, [], ◌∷◌, ◌++◌, map, length, Some, false, refl, sym, ap, subst, ◌∙◌, arith, append_assoc}
 use Rattle.wasm_tree.specs.declared.module.Module.{Module}
 use Rattle.wasm_meaning.specs.Outcomes.{past}
 use Rattle.wasm_meaning.specs.State.{Inst, Store}

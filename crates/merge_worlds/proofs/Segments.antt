@@ -16,14 +16,13 @@ use Rattle.wasm_num.specs.Operations.{W32}
 use Rattle.wasm_valid.specs.declared.kinds.ItemKind.{ItemKind}
 use Rattle.wasm_valid.specs.declared.kinds.ItemKind.TheVariants as kind
 use Rattle.wasm_valid.specs.Constants.{const_type}
-use Rattle.wasm_valid.specs.SpaceTypes.{table_types}
 use Rattle.wasm_valid.specs.Validity.{IsValid, HoldsAt, ElemModeHolds, DataModeHolds, count_of}
 use Rattle.wasm_meaning.specs.Outcomes.{past, overwrite}
 use Rattle.wasm_meaning.specs.State.{Val, Inst, Memory, Data, Store}
 use Rattle.wasm_meaning.specs.Values.{num_of}
 use Rattle.wasm_meaning.specs.Linking.{Part, place, then_some, module_at}
 use Rattle.wasm_meaning.specs.Environment.{Environment}
-use Rattle.wasm_meaning.specs.World.{Filled, Task, given, numbers, value_of, number_value, tasks_in, elem_tasks, data_tasks, elems_before, datas_before, fill_table, fill_memory, copy_elem, copy_data, run_elem, run_elem_mode, run_data, run_data_mode, in_turn, segments}
+use Rattle.wasm_meaning.specs.World.{Filled, given, numbers, value_of, number_value, tasks_in, elem_tasks, data_tasks, elems_before, datas_before, fill_table, fill_memory, copy_elem, copy_data, run_elem, run_elem_mode, run_data, run_data_mode, in_turn, segments}
 use Rattle.index_remap.specs.Related.{Pairing, Elems, OptRel, none, some, ElemRel, ValRel, number, reference}
 use Rattle.index_remap.specs.References.{declaring, with_declared, declared_refs}
 use Rattle.index_remap.proofs.Rel.{length_rel, overwrite_rel}
@@ -35,7 +34,7 @@ use Rattle.merge_terms.specs.Joined.{joined_module}
 use Rattle.merge_validity.specs.Joinable.{CanBeJoined}
 use Rattle.merge_validity.proofs.Lists.{place_get, map_back, within}
 use Rattle.merge_worlds.specs.Shared.{shared_count, sharing}
-use Rattle.merge_worlds.specs.Instances.{SpaceAgrees, PartAgrees, InstancesAgree}
+use Rattle.merge_worlds.specs.Instances.{PartAgrees, InstancesAgree}
 use Rattle.merge_worlds.specs.Stores.{StoresAlike, FilledAlike}
 use Rattle.merge_worlds.proofs.SegmentLists.{equal_rel}
 use Rattle.merge_worlds.proofs.SegmentStores.{goes_on, and_then_alike, or_trapped_alike, fill_table_alike, fill_memory_alike}
