@@ -159,8 +159,8 @@ module _ (ends_law : LinkedImportsEnd) (stays_law : StayingImportsEndThere) (sit
           let k = kind_of_export e.what in
           let a = agree.each e.part w.of w.is_part in
           let thing : imported_thing env parts t ≡ Some (thing_at k (base env parts k e.part + (index_of_export e.what - length (imports_of k w.of)))) =
-              ap (λ o. then_some o (thing_of env parts)) w.end
-              ∙ ap (λ o. then_some {A = Module} {B = Thing} o (λ m. Some (thing_at (kind_of_export e.what) (base env parts (kind_of_export e.what) e.part + (index_of_export e.what - length (imports_of (kind_of_export e.what) m)))))) w.is_part in
+          ap (λ o. then_some o (thing_of env parts)) w.end
+          ∙ ap (λ o. then_some {A = Module} {B = Thing} o (λ m. Some (thing_at (kind_of_export e.what) (base env parts (kind_of_export e.what) e.part + (index_of_export e.what - length (imports_of (kind_of_export e.what) m)))))) w.is_part in
           let follows : length (imports_of k w.of) ≤ index_of_export e.what = subst (λ (k : Kind). length (imports_of k w.of) ≤ index_of_export e.what) (sym w.kind) w.follows in
           matched_at env parts s t i w.demand at w.asks
           ∙ there_fitting s w.demand (imported_thing env parts t) _ thing (defined_fits env parts insts s made e.part w.of a.0 w.is_part a.1 a.2.own_types e.what w.demand w.thing w.is follows w.same w.meets)

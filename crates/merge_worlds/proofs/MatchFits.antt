@@ -109,10 +109,10 @@ fits_limits s (TableOf t) (TableAt a) l size most h e f = by (place s.tables a) 
     by None h f = absurd (let k = h in cc)
     by (Some u) h f =
         let yes : cond (same_ref t.ty u.ty) (meets (length u.slots) u.most t.limits) false ≡ true = cc in
+        let same : t.limits ≡ l = cc in
         let pair : (length u.slots, u.most) ≡ (size, most) = cc in
         let n : length u.slots ≡ size = ap (λ (p : ℕ × Option ℕ). p.0) pair in
         let k : u.most ≡ most = ap (λ (p : ℕ × Option ℕ). p.1) pair in
-        let same : t.limits ≡ l = cc in
         ap₂ (λ n k. meets n k l) (sym n) (sym k) ∙ ap (meets (length u.slots) u.most) (sym same) ∙ (both_true (same_ref t.ty u.ty) (meets (length u.slots) u.most t.limits) yes).1
 fits_limits s (MemoryOf k) (MemoryAt a) l size most h e f = by (place s.mems a) h f
   where
@@ -120,10 +120,10 @@ fits_limits s (MemoryOf k) (MemoryAt a) l size most h e f = by (place s.mems a) 
     by None h f = absurd (let k = h in cc)
     by (Some u) h f =
         let yes : meets u.pages u.most k ≡ true = cc in
+        let same : k ≡ l = cc in
         let pair : (u.pages, u.most) ≡ (size, most) = cc in
         let n : u.pages ≡ size = ap (λ (p : ℕ × Option ℕ). p.0) pair in
         let b : u.most ≡ most = ap (λ (p : ℕ × Option ℕ). p.1) pair in
-        let same : k ≡ l = cc in
         ap₂ (λ n k. meets n k l) (sym n) (sym b) ∙ ap (meets u.pages u.most) (sym same) ∙ yes
 fits_limits s (FuncOf t) th l size most h e f = absurd (let k = e in cc)
 fits_limits s (GlobalOf t) th l size most h e f = absurd (let k = e in cc)

@@ -50,12 +50,7 @@ module _ (env : Environment) (all : List Part) (insts : List Inst) where
       let e = then_is (all_there (elem_of env all insts p) m.elems) (λ elems. Some (with_elems m f.0 g.0 elems)) t g.2 in
       let last = e.2 in
       let same : with_elems m f.0 g.0 e.0 ≡ t = cc in
-      record {
-        funcs = f.1 ∙ ap (λ (t : Store). Some t.funcs) same;
-        tables = sym (ap (λ (t : Store). t.tables) same);
-        mems = sym (ap (λ (t : Store). t.mems) same);
-        globals = g.1 ∙ ap (λ (t : Store). Some t.globals) same;
-      }
+      subst (Adds env all insts p m i) same (record { funcs = f.1; tables = refl; mems = refl; globals = g.1 })
 
   -- ---- what stands in the store ----
 

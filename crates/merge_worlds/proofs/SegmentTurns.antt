@@ -113,9 +113,9 @@ module _ (env : Environment) (parts : List Part) {A : Type 0} (f g : Store → T
         let h : Some i ≡ Some d.inst = places 0 ∙ ap (place insts) zero_more ∙ d.is in
         let same : d.inst ≡ i = cc in
         let later : (s z : Store) → StoresAlike env parts s z → FilledAlike env parts (in_turn f s (tasks_by segs adds (suc p) rest is)) (in_turn g z (tasks_in 0 j (past (past (adds j) (before p)) (length (segs m))) (by_part_from (λ p m. map (new p m) (segs m)) (suc p) rest ++ more))) = λ s z like.
-            subst (λ ns. FilledAlike env parts (in_turn f s (tasks_by segs adds (suc p) rest is)) (in_turn g z (tasks_in 0 j ns (by_part_from (λ p m. map (new p m) (segs m)) (suc p) rest ++ more))))
-            (sym (past_past (adds j) (before p) (length (segs m)) ∙ ap (past (adds j)) (sym (next p m at_p))))
-            (by_parts does (suc p) rest is (λ q. modules (suc q) ∙ (let e : p + suc q ≡ suc p + q = omega arith in ap (module_at parts) e)) (λ q. places (suc q) ∙ (let e : p + suc q ≡ suc p + q = omega arith in ap (place insts) e)) s z like) in
+        subst (λ ns. FilledAlike env parts (in_turn f s (tasks_by segs adds (suc p) rest is)) (in_turn g z (tasks_in 0 j ns (by_part_from (λ p m. map (new p m) (segs m)) (suc p) rest ++ more))))
+        (sym (past_past (adds j) (before p) (length (segs m)) ∙ ap (past (adds j)) (sym (next p m at_p))))
+        (by_parts does (suc p) rest is (λ q. modules (suc q) ∙ (let e : p + suc q ≡ suc p + q = omega arith in ap (module_at parts) e)) (λ q. places (suc q) ∙ (let e : p + suc q ≡ suc p + q = omega arith in ap (place insts) e)) s z like) in
         subst (λ xs. FilledAlike env parts (in_turn f s (tasks_in p i (adds i) (segs m) ++ tasks_by segs adds (suc p) rest is)) (in_turn g z (tasks_in 0 j (past (adds j) (before p)) xs)))
         (sym (append_assoc (map (new p m) (segs m)) (by_part_from (λ p m. map (new p m) (segs m)) (suc p) rest) more))
         (in_part p i (new p m) (adds i) (past (adds j) (before p)) (segs m) (tasks_by segs adds (suc p) rest is) (by_part_from (λ p m. map (new p m) (segs m)) (suc p) rest ++ more)

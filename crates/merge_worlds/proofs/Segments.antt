@@ -1,5 +1,5 @@
 -- The active segments of the parts and those of the merged module are copied to the same places of both stores.
-use Rattle.std.proofs.Common.{◌≡◌, ℕ, ◌+◌, ◌<◌, List, [], ◌∷◌, ◌++◌, map, length, Option, Some, None, true, false, refl, sym, ap, subst, ◌∙◌, arith}
+use Rattle.std.proofs.Common.{◌≡◌, ℕ, ◌+◌, ◌<◌, List, [], ◌∷◌, ◌++◌, map, length, Option, Some, true, false, refl, sym, ap, subst, ◌∙◌, arith}
 use Rattle.std.specs.Prelude.{slice_get, slice_index}
 use Rattle.wasm_tree.specs.declared.types.ValType.{ValType}
 use Rattle.wasm_tree.specs.declared.types.ValType.TheVariants.{I32}
@@ -26,6 +26,7 @@ use Rattle.wasm_meaning.specs.World.{Filled, given, numbers, value_of, number_va
 use Rattle.index_remap.specs.Related.{Pairing, Elems, OptRel, none, some, ElemRel, ValRel, number, reference}
 use Rattle.index_remap.specs.References.{declaring, with_declared, declared_refs}
 use Rattle.index_remap.proofs.Rel.{length_rel, overwrite_rel}
+use Rattle.permuted_worlds.specs.Alone.{one}
 use Rattle.permuted_worlds.proofs.Places.{index_at, place_left, place_numbers, map_length, numbers_length, then_rel, then_same, opt_at, place_rel}
 use Rattle.export_names.specs.declared.mode.Mode.{Mode}
 use Rattle.export_names.specs.Names.{new_names}
@@ -40,14 +41,11 @@ use Rattle.merge_worlds.proofs.SegmentLists.{equal_rel}
 use Rattle.merge_worlds.proofs.SegmentStores.{goes_on, and_then_alike, or_trapped_alike, fill_table_alike, fill_memory_alike}
 use Rattle.merge_worlds.proofs.SegmentTurns.{tasks_by, elems_by, datas_by, elems_start, datas_start, elems_next, datas_next, task, PartDoes, by_parts}
 
-abbrev pub alone_part : List Part → Mode → List Part
-alone_part parts mode = record { name = None; «module» = joined_module parts mode } ∷ []
-
 -- constant expressions of the parts and what they become have the same values
 abbrev pub ValuesAgree : Environment → List Part → Mode → List Inst → List Inst → Type 0
 ValuesAgree env parts mode insts js =
     (p : ℕ) (m : Module) (e : ConstExpr) (ty : ValType) → module_at parts p ≡ Some m → const_type m e ≡ Some ty →
-    OptRel (ValRel (sharing env parts)) (value_of env parts insts p e) (value_of env (alone_part parts mode) js 0 (merged_const parts p e))
+    OptRel (ValRel (sharing env parts)) (value_of env parts insts p e) (value_of env (one (joined_module parts mode)) js 0 (merged_const parts p e))
 
 -- each item of a valid module holds
 abbrev pub ValidItemsHold : Type 0
@@ -129,7 +127,7 @@ module _ (env : Environment) (parts : List Part) (mode : Mode) where
   whole = joined_module parts mode
 
   abbrev M : List Part
-  M = alone_part parts mode
+  M = one whole
 
   copy_elem_alike : {s z : Store} (i j : Inst) (n x y a : ℕ) (o : Option ℕ) → place i.tables x ≡ Some a → place j.tables y ≡ Some a → n < length s.elems → StoresAlike env parts s z → FilledAlike env parts (copy_elem s n i x o) (copy_elem z n j y o)
   copy_elem_alike {s} {z} i j n x y a o first second lt like =
@@ -230,10 +228,10 @@ module _ (env : Environment) (parts : List Part) (mode : Mode) where
         let e = joined_elems parts mode in
         let zero_more : (q : ℕ) → q ≡ 0 + q = λ q. omega arith in
         let all = by_parts env parts (run_elem env parts insts) (run_elem env M js) j insts (λ m. m.elems) (λ i. i.elems) (λ p m. merged_elem parts p (map_of parts p m)) (elems_before parts) (elems_next parts) e.more (declared_alike e.declares)
-            elems_do 0 parts insts (λ q. ap (module_at parts) (zero_more q)) (λ q. ap (place insts) (zero_more q)) s z like in
+        elems_do 0 parts insts (λ q. ap (module_at parts) (zero_more q)) (λ q. ap (place insts) (zero_more q)) s z like in
         let first : tasks_in 0 j (past j.elems (elems_before parts 0)) (by_part (λ p m. map (merged_elem parts p (map_of parts p m)) m.elems) parts ++ e.more) ≡ elem_tasks 0 M js =
-            ap (λ n. tasks_in 0 j (past j.elems n) (by_part (λ p m. map (merged_elem parts p (map_of parts p m)) m.elems) parts ++ e.more)) (elems_start parts)
-            ∙ ap (tasks_in 0 j j.elems) (sym e.are) ∙ nothing_after (tasks_in 0 j j.elems whole.elems) ∙ ap (elem_tasks 0 M) (sym agree.alone) in
+        ap (λ n. tasks_in 0 j (past j.elems n) (by_part (λ p m. map (merged_elem parts p (map_of parts p m)) m.elems) parts ++ e.more)) (elems_start parts)
+        ∙ ap (tasks_in 0 j j.elems) (sym e.are) ∙ nothing_after (tasks_in 0 j j.elems whole.elems) ∙ ap (elem_tasks 0 M) (sym agree.alone) in
         subst (λ ts. FilledAlike env parts (in_turn (run_elem env parts insts) s ts) (in_turn (run_elem env M js) z (elem_tasks 0 M js))) (sym (elems_by 0 parts insts))
         (subst (λ ts. FilledAlike env parts (in_turn (run_elem env parts insts) s (tasks_by (λ m. m.elems) (λ i. i.elems) 0 parts insts)) (in_turn (run_elem env M js) z ts)) first all)
 
@@ -279,10 +277,10 @@ module _ (env : Environment) (parts : List Part) (mode : Mode) where
     datas_alike s z like =
         let zero_more : (q : ℕ) → q ≡ 0 + q = λ q. omega arith in
         let all = by_parts env parts (run_data env parts insts) (run_data env M js) j insts (λ m. m.datas) (λ i. i.datas) (λ p m. merged_data parts p (map_of parts p m)) (datas_before parts) (datas_next parts) [] no_data
-            datas_do 0 parts insts (λ q. ap (module_at parts) (zero_more q)) (λ q. ap (place insts) (zero_more q)) s z like in
+        datas_do 0 parts insts (λ q. ap (module_at parts) (zero_more q)) (λ q. ap (place insts) (zero_more q)) s z like in
         let first : tasks_in 0 j (past j.datas (datas_before parts 0)) (by_part (λ p m. map (merged_data parts p (map_of parts p m)) m.datas) parts ++ []) ≡ data_tasks 0 M js =
-            ap (λ n. tasks_in 0 j (past j.datas n) (by_part (λ p m. map (merged_data parts p (map_of parts p m)) m.datas) parts ++ [])) (datas_start parts)
-            ∙ ap (tasks_in 0 j j.datas) (sym (nothing_after _) ∙ sym (joined_datas parts mode)) ∙ nothing_after (tasks_in 0 j j.datas whole.datas) ∙ ap (data_tasks 0 M) (sym agree.alone) in
+        ap (λ n. tasks_in 0 j (past j.datas n) (by_part (λ p m. map (merged_data parts p (map_of parts p m)) m.datas) parts ++ [])) (datas_start parts)
+        ∙ ap (tasks_in 0 j j.datas) (sym (nothing_after _) ∙ sym (joined_datas parts mode)) ∙ nothing_after (tasks_in 0 j j.datas whole.datas) ∙ ap (data_tasks 0 M) (sym agree.alone) in
         subst (λ ts. FilledAlike env parts (in_turn (run_data env parts insts) s ts) (in_turn (run_data env M js) z (data_tasks 0 M js))) (sym (datas_by 0 parts insts))
         (subst (λ ts. FilledAlike env parts (in_turn (run_data env parts insts) s (tasks_by (λ m. m.datas) (λ i. i.datas) 0 parts insts)) (in_turn (run_data env M js) z ts)) first all)
       where
