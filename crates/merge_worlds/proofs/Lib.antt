@@ -21,3 +21,16 @@ pub mod AllocatedAt
 pub mod AllocatedStarter
 pub mod AllocatedKept
 pub mod Called
+pub mod SegmentLists
+pub mod SegmentStores
+pub mod SegmentTurns
+pub mod Segments
+pub mod MatchLists
+pub mod MatchTypes
+pub mod MatchLimits
+pub mod MatchFits
+pub mod MatchAlike
+pub mod MatchStores
+pub mod MatchDefined
+pub mod MatchMerged
+pub mod MatchAll
