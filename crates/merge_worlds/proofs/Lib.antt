@@ -34,3 +34,4 @@ pub mod MatchStores
 pub mod MatchDefined
 pub mod MatchMerged
 pub mod MatchAll
+mod Worlds
