@@ -2,8 +2,8 @@
 use Rattle.std.proofs.Common.{◌≡◌, ◌∙◌, ap, sym, subst, refl, ℕ, ◌+◌, ◌≤◌, List, [], ◌∷◌, ◌++◌, length, Option, Some, None, Bool, true, false, cond, arith}
 use Rattle.wasm_tree.specs.declared.module.Module.{Module}
 use Rattle.wasm_meaning.specs.Outcomes.{Gives, bind, at}
-use Rattle.wasm_meaning.specs.State.{Text, Func, Inst, Store}
-use Rattle.wasm_meaning.specs.Control.{type_at, type_of_func}
+use Rattle.wasm_meaning.specs.State.{Text, Inst, Store}
+use Rattle.wasm_meaning.specs.Control.{type_of_func}
 use Rattle.wasm_meaning.specs.Linking.{Part, then_some, sites}
 use Rattle.wasm_meaning.specs.Environment.{Environment, Thing, all_of}
 use Rattle.wasm_meaning.specs.World.{Begun, alone, inst_of, insts_from, own_store, stores_from, all_there, is_matched, segments, seen_as, starts_of, begun, instantiate}
@@ -14,7 +14,7 @@ use Rattle.index_remap.specs.RelatedRuns.{KeyRel, BegunRel}
 use Rattle.index_remap.specs.Laws.{EntryByEntry}
 use Rattle.permuted_worlds.specs.Alone.{one}
 use Rattle.permuted_worlds.specs.Instances.{RelatedBegunShowTheSame}
-use Rattle.permuted_worlds.specs.Starts.{from_nothing_to_nothing, NamesStart, CallsEach, OneStartMayCallSeveral}
+use Rattle.permuted_worlds.specs.Starts.{NamesStart, CallsEach, OneStartMayCallSeveral}
 use Rattle.permuted_worlds.proofs.Places.{then_rel}
 use Rattle.export_names.specs.declared.mode.Mode.{Mode}
 use Rattle.merge_terms.specs.Merged.{starts}
