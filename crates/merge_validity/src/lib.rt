@@ -46,7 +46,7 @@ pub fn merged_modules_are_valid()
 }
 
 /// The map of a part has an entry for each index that its valid module names (`entries`) and that a constant expression with a type names (`constants`).
-/// Where the parts are linked, what such an expression reads through joined globals is there (`there`) and stands in a part whose map has an entry for it (`reads`).
+/// Where the parts are linked, what such an expression reads through joined globals is there (`there`), in a part whose map has an entry for it (`reads`).
 pub fn maps_have_entries()
     ensures entries { (parts : List Part) (p : ℕ) (m : Module) → IsValid m → IsTrue (fits_tree (map_of parts p m) m) }
     ensures constants { (parts : List Part) (p : ℕ) (m : Module) (e : ConstExpr) (ty : ValType) → const_type m e ≡ Some ty → IsTrue (fits_const (map_of parts p m) e) }
