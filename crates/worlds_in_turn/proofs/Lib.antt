@@ -4,3 +4,6 @@ mod StepExtends
 mod TickExtends
 mod Things
 mod Joined
+mod FillOwned
+mod FillPaths
+mod FillAddresses

@@ -195,7 +195,7 @@ address_is i (ex.Table x) = refl
 address_is i (ex.Memory x) = refl
 address_is i (ex.Global x) = refl
 
-in_space : (env : Environment) (parts : List Part) (p : ℕ) (m : Module) (i : Inst) → IsInst env parts p m i → (k : Kind) → space env parts k p m ≡ Some (space_in i k)
+pub in_space : (env : Environment) (parts : List Part) (p : ℕ) (m : Module) (i : Inst) → IsInst env parts p m i → (k : Kind) → space env parts k p m ≡ Some (space_in i k)
 in_space env parts p m i h Functions = h.funcs
 in_space env parts p m i h Tables = h.tables
 in_space env parts p m i h Memories = h.mems
