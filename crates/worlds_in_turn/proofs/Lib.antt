@@ -7,3 +7,4 @@ mod Joined
 mod FillOwned
 mod FillPaths
 mod FillAddresses
+mod FillStores
