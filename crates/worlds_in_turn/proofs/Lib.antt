@@ -8,3 +8,4 @@ mod FillOwned
 mod FillPaths
 mod FillAddresses
 mod FillStores
+mod FillValues
