@@ -9,3 +9,5 @@ mod FillPaths
 mod FillAddresses
 mod FillStores
 mod FillValues
+mod FillRuns
+mod FillTurns
