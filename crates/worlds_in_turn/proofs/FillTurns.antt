@@ -1,4 +1,4 @@
--- Active segments of elements are a matter of tables and of segments of elements alone, and those of data of memories and of segments of data.
+-- Active segments of elements are a matter of tables and of segments of elements alone.
 use Rattle.std.proofs.Common.{◌≡◌, ◌∙◌, refl, sym, ap, ap₂, subst, ℕ, zero, suc, ◌+◌, ◌<◌, List, [], ◌∷◌, ◌++◌, map, length, Option, Some, None, Bool, true, false, cond, arith}
 use Rattle.wasm_tree.specs.declared.module.ConstExpr.{ConstExpr}
 use Rattle.wasm_tree.specs.declared.module.ElemSeg.{ElemSeg}
@@ -32,7 +32,7 @@ pub turned_not : {X Y : Type 0} {set : List X × List Y → Store} {o : Option (
 turned_not (goes_on {c = c}) e = (c, refl)
 turned_not stops e = absurd (let k = e in cc)
 
-or_turned : {A X Y : Type 0} (set : List X × List Y → Store) (s : Store) (o : Option A) (g : A → Option (List X × List Y)) (f : A → Option Filled) → ((a : A) → Turned set (g a) (or_trapped s (f a))) → Turned set (then_some o g) (or_trapped s (then_some o f))
+pub or_turned : {A X Y : Type 0} (set : List X × List Y → Store) (s : Store) (o : Option A) (g : A → Option (List X × List Y)) (f : A → Option Filled) → ((a : A) → Turned set (g a) (or_trapped s (f a))) → Turned set (then_some o g) (or_trapped s (then_some o f))
 or_turned set s None g f h = stops
 or_turned set s (Some a) g f h = h a
 

@@ -11,3 +11,5 @@ mod FillStores
 mod FillValues
 mod FillRuns
 mod FillTurns
+mod FillData
+mod FillAdded
