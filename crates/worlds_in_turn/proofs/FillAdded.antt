@@ -70,7 +70,7 @@ module _ (v w : ConstExpr → Option Val) (m : Module) (i : Inst) where
       ap₂ (λ gs es. then_some (all_there (new_func i) m.funcs) (added_with gs es)) (gs ∙ sym g.1) (es ∙ sym s.1) ∙ e
 
 module _ (env : Environment) (parts : List Part) (insts : List Inst) (are : insts_from env parts 0 parts ≡ Some insts) (allocated : Store) (stores_are : stores_from env parts insts (own_store env) 0 parts insts ≡ Some allocated) (matched : all_of (is_matched env parts allocated) (sites parts) ≡ true) (size : length insts ≡ length parts) (there : ExportsThere parts) (earlier : JoinsEarlier parts) where
-  pub added_same : (k : ℕ) (m : Module) (i : Inst) → module_at parts k ≡ Some m → place insts k ≡ Some i → Constants m → (t : Store) → HoldsFixed env parts insts are allocated stores_are matched size there earlier k t → (a : Store) → part_store env parts insts k m i ≡ Some a → store_with (const_value t.globals i) m i ≡ Some a
+  pub added_same : (k : ℕ) (m : Module) (i : Inst) → module_at parts k ≡ Some m → place insts k ≡ Some i → Constants m → (t : Store) → HoldsFixed env parts allocated k t → (a : Store) → part_store env parts insts k m i ≡ Some a → store_with (const_value t.globals i) m i ≡ Some a
   added_same k m i is_part is_inst c t holds a h =
       store_given (value_of env parts insts k) (const_value t.globals i) m i
       (λ n g at u e. value_given env parts insts are allocated stores_are matched size there earlier k m i is_part is_inst t holds g.init (c.globals n g at) u e)

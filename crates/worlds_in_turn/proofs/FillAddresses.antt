@@ -85,7 +85,7 @@ key_kind m pair (im.Table ty) key e = ap kind_of_key (sym (some_is e))
 key_kind m pair (im.Memory l) key e = ap kind_of_key (sym (some_is e))
 key_kind m pair (im.Global ty) key e = ap kind_of_key (sym (some_is e))
 
-numbers_low : (from count n a : ℕ) → place (numbers from count) n ≡ Some a → a < from + count
+pub numbers_low : (from count n a : ℕ) → place (numbers from count) n ≡ Some a → a < from + count
 numbers_low from zero n a e = absurd (let f = e in cc)
 numbers_low from (suc count) zero a e = let same = some_is e in omega (arith, same)
 numbers_low from (suc count) (suc n) a e = let l = numbers_low (suc from) count n a e in omega (arith, l)

@@ -98,6 +98,10 @@ pub record ReadsImport (m : Module) (x : ℕ) : Type 0 where
 abbrev pub Constant : Module → ConstExpr → Type 0
 Constant m e = (x : ℕ) → e ≡ const.Global x → ReadsImport m x
 
+-- of the globals below those of part k, those that are not mutable have the values that were allocated
+abbrev pub HoldsFixed : Environment → List Part → (allocated : Store) → ℕ → Store → Type 0
+HoldsFixed env parts allocated k t = (a : ℕ) (g : Global) → a < base env parts Globals k → place allocated.globals a ≡ Some g → g.ty.mutable ≡ false → (h : Global) × (place t.globals a ≡ Some h) × (h.value ≡ g.value)
+
 module _ (env : Environment) (parts : List Part) (insts : List Inst) (are : insts_from env parts 0 parts ≡ Some insts) where
   pub part_inst : (k : ℕ) (m : Module) (i : Inst) → module_at parts k ≡ Some m → place insts k ≡ Some i → IsInst env parts k m i
   part_inst k m i is_part is_inst =
@@ -107,10 +111,6 @@ module _ (env : Environment) (parts : List Part) (insts : List Inst) (are : inst
       inst_is env parts k m i (ap (λ n. inst_of env parts n m) (sym z) ∙ r.2 ∙ same)
 
   module _ (allocated : Store) (stores_are : stores_from env parts insts (own_store env) 0 parts insts ≡ Some allocated) (matched : all_of (is_matched env parts allocated) (sites parts) ≡ true) (size : length insts ≡ length parts) (there : ExportsThere parts) (earlier : JoinsEarlier parts) where
-    -- of the globals below those of part k, those that are not mutable have the values that were allocated
-    abbrev pub HoldsFixed : ℕ → Store → Type 0
-    HoldsFixed k t = (a : ℕ) (g : Global) → a < base env parts Globals k → place allocated.globals a ≡ Some g → g.ty.mutable ≡ false → (h : Global) × (place t.globals a ≡ Some h) × (h.value ≡ g.value)
-
     -- a global that an import matches
     record Fixed (a : ℕ) : Type 0 where
       global : Global
@@ -155,7 +155,7 @@ module _ (env : Environment) (parts : List Part) (insts : List Inst) (are : inst
         let v = then_is (value_of env parts insts p back.0.init) _ g back.2 in
         (back.0.init, ap (λ o. then_some o (λ d. Some d.init)) back.1, v.1 ∙ ap (λ g. Some g.value) (some_is v.2))
 
-    module _ (k : ℕ) (m : Module) (i : Inst) (is_part : module_at parts k ≡ Some m) (is_inst : place insts k ≡ Some i) (t : Store) (holds : HoldsFixed k t) where
+    module _ (k : ℕ) (m : Module) (i : Inst) (is_part : module_at parts k ≡ Some m) (is_inst : place insts k ≡ Some i) (t : Store) (holds : HoldsFixed env parts allocated k t) where
       -- through an import
       read_same : (x : ℕ) → ReadsImport m x → (r : Read) → read_of parts k (const.Global x) ≡ Some r → const_value t.globals i (const.Global x) ≡ value_of env parts insts k (const.Global x)
       read_same x c r reads = by (imported_at env parts there earlier Globals s d.thing d.address d.is d.has)

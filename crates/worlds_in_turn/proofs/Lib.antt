@@ -13,3 +13,4 @@ mod FillRuns
 mod FillTurns
 mod FillData
 mod FillAdded
+mod FillSegments
