@@ -51,7 +51,7 @@ own_go value m i s c d g h =
 pub none_active : (value : ConstExpr → Option Val) (m : Module) (i : Inst) (s : Store) → HasNoActive m → own_segments value m i s ≡ record { store = s; trapped = false }
 none_active value m i s h = own_go value m i s (s.tables, s.elems) (s.mems, s.datas) (elems_skip value i i.elems m.elems h.elems (s.tables, s.elems)) (datas_skip value i i.datas m.datas h.datas (s.mems, s.datas))
 
-abbrev or_no_jobs : Option (List Job) → List Job
+abbrev pub or_no_jobs : Option (List Job) → List Job
 or_no_jobs None = []
 or_no_jobs (Some js) = js
 
@@ -69,17 +69,17 @@ module _ (env : Environment) (parts : List Part) (insts : List Inst) where
   abbrev pub first_datas : ℕ → List Job
   first_datas = first_jobs Memory Data memory_fill no_bytes data_jobs_of
 
-  abbrev rest_elems : (count k : ℕ) → List Job
+  abbrev pub rest_elems : (count k : ℕ) → List Job
   rest_elems = rest_jobs Table Elem table_fill no_items elem_jobs_of
 
-  abbrev rest_datas : (count k : ℕ) → List Job
+  abbrev pub rest_datas : (count k : ℕ) → List Job
   rest_datas = rest_jobs Memory Data memory_fill no_bytes data_jobs_of
 
   module _ (k : ℕ) (m : Module) (i : Inst) (is_part : module_at parts k ≡ Some m) (is_inst : place insts k ≡ Some i) where
-    elem_jobs_at : elem_jobs_of k ≡ elem_jobs (value_of env parts insts k) i i.elems m.elems
+    pub elem_jobs_at : elem_jobs_of k ≡ elem_jobs (value_of env parts insts k) i i.elems m.elems
     elem_jobs_at = ap₂ (λ o p. or_no_jobs (then_some o (λ m. then_some p (λ i. Some (elem_jobs (value_of env parts insts k) i i.elems m.elems))))) is_part is_inst
 
-    data_jobs_at : data_jobs_of k ≡ data_jobs (value_of env parts insts k) i i.datas m.datas
+    pub data_jobs_at : data_jobs_of k ≡ data_jobs (value_of env parts insts k) i i.datas m.datas
     data_jobs_at = ap₂ (λ o p. or_no_jobs (then_some o (λ m. then_some p (λ i. Some (data_jobs (value_of env parts insts k) i i.datas m.datas))))) is_part is_inst
 
   -- the tasks of all parts, by part
@@ -135,10 +135,10 @@ module _ (env : Environment) (parts : List Part) (insts : List Inst) where
           lengths = lengths_first env parts insts;
         }
 
-    all_elems : map (elem_task_job (value_of env parts insts)) (elem_tasks 0 parts insts) ≡ rest_elems (length parts) 0
+    pub all_elems : map (elem_task_job (value_of env parts insts)) (elem_tasks 0 parts insts) ≡ rest_elems (length parts) 0
     all_elems = elems_by_part 0 parts insts (λ q m h. ap (module_at parts) (let n : 0 + q ≡ q = omega arith in n) ∙ h) (λ q. ap (place insts) (let n : q ≡ 0 + q = omega arith in n)) size
 
-    all_datas : map (data_task_job (value_of env parts insts)) (data_tasks 0 parts insts) ≡ rest_datas (length parts) 0
+    pub all_datas : map (data_task_job (value_of env parts insts)) (data_tasks 0 parts insts) ≡ rest_datas (length parts) 0
     all_datas = datas_by_part 0 parts insts (λ q m h. ap (module_at parts) (let n : 0 + q ≡ q = omega arith in n) ∙ h) (λ q. ap (place insts) (let n : q ≡ 0 + q = omega arith in n)) size
 
     -- where no part from k on has an active segment, nothing more is copied

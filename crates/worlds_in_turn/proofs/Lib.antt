@@ -14,3 +14,4 @@ mod FillTurns
 mod FillData
 mod FillAdded
 mod FillSegments
+mod FillNext
