@@ -15,3 +15,4 @@ mod FillData
 mod FillAdded
 mod FillSegments
 mod FillNext
+mod FillHolds
