@@ -16,3 +16,4 @@ mod FillAdded
 mod FillSegments
 mod FillNext
 mod FillHolds
+mod FillValid
