@@ -112,7 +112,7 @@ pub record Stays (parts : List Part) (u : Site) : Type 0 where
   pub own_end : end_of parts u ≡ Some (Outside u)
   pub linked : linked_end parts u ≡ Some (Outside u)
 
-outside_is : (u : Site) (o : Option End) → is_outside u o ≡ true → o ≡ Some (Outside u)
+pub outside_is : (u : Site) (o : Option End) → is_outside u o ≡ true → o ≡ Some (Outside u)
 outside_is u None h = cc
 outside_is u (Some (Defined e)) h = cc
 outside_is u (Some (Outside t)) h = ap (λ z. Some (Outside z)) (sym (site_is u t h))
@@ -129,6 +129,7 @@ pub record Gathers (parts : List Part) (t : Site) (i : Import) : Type 0 where
   pub to : Site
   pub is : gathered parts (Outside t) ≡ Outside to
   pub stays : Stays parts to
+  pub pair : pair_of i ≡ pair_of stays.import
   pub memory : has_kind Memories i ≡ true → has_kind Memories stays.import ≡ true
   pub other : has_kind Memories i ≡ false → to ≡ t
 
@@ -144,7 +145,7 @@ gathers parts t i at own = by (has_kind Memories i) refl
     plain : has_kind Memories i ≡ false → Gathers parts t i
     plain e =
         let is : gathered parts (Outside t) ≡ Outside t = gathered_is t i at ∙ ap Outside (first_none (stays_as parts i) (none_as parts i e) (sites parts) t) in
-        record { to = t; is = is; stays = record { import = i; at = at; own_end = own; linked = linked_is t own ∙ ap Some is }; memory = λ q. q; other = λ q. refl }
+        record { to = t; is = is; stays = record { import = i; at = at; own_end = own; linked = linked_is t own ∙ ap Some is }; pair = refl; memory = λ q. q; other = λ q. refl }
 
     shared : has_kind Memories i ≡ true → Gathers parts t i
     shared e =
@@ -162,6 +163,7 @@ gathers parts t i at own = by (has_kind Memories i) refl
           to = u;
           is = gathered_is t i at;
           stays = record { import = j.0; at = j.1; own_end = own_u; linked = linked_is u own_u ∙ ap Some (gathered_is u j.0 j.1 ∙ ap Outside again) };
+          pair = j.3;
           memory = λ q. j.2;
           other = λ q. absurd (let z : true ≡ false = sym e ∙ q in cc);
         }
@@ -207,13 +209,13 @@ memory_type (TableTy t) h = cc
 memory_type MemoryTy h = refl
 memory_type (GlobalTy t) h = cc
 
-kind_asked : (parts : List Part) (u : Site) (j : Import) (x : External) → import_at parts u ≡ Some j → asked_at parts u ≡ Some x → kind_of (bare x) ≡ kind_of_import j.desc
+pub kind_asked : (parts : List Part) (u : Site) (j : Import) (x : External) → import_at parts u ≡ Some j → asked_at parts u ≡ Some x → kind_of (bare x) ≡ kind_of_import j.desc
 kind_asked parts u j x at h =
     let m = import_site parts u j at in
     let a : asked_at parts u ≡ asked m.0 j.desc = ap (λ o. then_some o (λ m. then_some (place m.imports u.import) (λ i. asked m i.desc))) m.1 ∙ ap (λ o. then_some o (λ i. asked m.0 i.desc)) m.2 in
     asked_kind m.0 j.desc x (sym a ∙ h)
 
-lands_inside : EndsArePaths → (parts : List Part) (s : Site) (w : Suited parts s) (d : Entity) → w.end ≡ Defined d → EndsInside parts s (bare w.demand)
+pub lands_inside : EndsArePaths → (parts : List Part) (s : Site) (w : Suited parts s) (d : Entity) → w.end ≡ Defined d → EndsInside parts s (bare w.demand)
 lands_inside law parts s w d e =
     let ended : end_of parts s ≡ Some (Defined d) = w.ends ∙ ap Some e in
     let finds : then_some (module_at parts d.part) (λ m. external_of m d.what) ≡ Some w.thing = ap (found parts) (sym e) ∙ w.finds in
@@ -231,7 +233,7 @@ lands_inside law parts s w d e =
     }
 
 -- where an import is a memory or not, the one to which it is gathered has its type
-gathered_type : (parts : List Part) (t : Site) (i : Import) (g : Gathers parts t i) (x z : External) → import_at parts t ≡ Some i → asked_at parts t ≡ Some x → asked_at parts g.to ≡ Some z → (b : Bool) → has_kind Memories i ≡ b → bare z ≡ bare x
+pub gathered_type : (parts : List Part) (t : Site) (i : Import) (g : Gathers parts t i) (x z : External) → import_at parts t ≡ Some i → asked_at parts t ≡ Some x → asked_at parts g.to ≡ Some z → (b : Bool) → has_kind Memories i ≡ b → bare z ≡ bare x
 gathered_type parts t i g x z at h k true e =
     let a : kind_of (bare x) ≡ Memories = kind_asked parts t i x at h ∙ sym (kind_is Memories (kind_of_import i.desc) e) in
     let b : kind_of (bare z) ≡ Memories = kind_asked parts g.to g.stays.import z g.stays.at k ∙ sym (kind_is Memories (kind_of_import g.stays.import.desc) (g.memory e)) in

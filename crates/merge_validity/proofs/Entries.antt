@@ -20,7 +20,7 @@ use Rattle.merge_validity.proofs.MergedSpaces.{staying_type, own_type}
 
 -- ---- an entry of a part: an import, or what the part defines ----
 
-imports_many : (k : Kind) (m : Module) → length (imports_of k m) ≡ length (imported k m)
+pub imports_many : (k : Kind) (m : Module) → length (imports_of k m) ≡ length (imported k m)
 imports_many k m = places_many (has_kind k) (of_import k) m.imports (import_kind k) 0
 
 -- what follows the imports is what the part defines
@@ -70,7 +70,7 @@ no_import parts p n (Some x) h = cc
 
 -- ---- places ----
 
-count_is : (parts : List Part) (k : Kind) (p : ℕ) (m : Module) → module_at parts p ≡ Some m → imported_count parts p k ≡ length (imports_of k m)
+pub count_is : (parts : List Part) (k : Kind) (p : ℕ) (m : Module) → module_at parts p ≡ Some m → imported_count parts p k ≡ length (imports_of k m)
 count_is parts k p m e = ap (λ o. or_this 0 (then_some o (λ m. Some (length (imports_of k m))))) e
 
 -- what a part defines
@@ -83,33 +83,36 @@ defined_place parts names k e m i y is at none t =
     ap (λ j. type_at (merged parts names) k (length (staying_of parts k) + (defined_before k parts e.part + j))) j
     ∙ own_type parts names k e.part m (i - length (imports_of k m)) c.0 y is (own_entry k m i c.0 none c.1) c.2
 
-stays_is : (parts : List Part) (u : Site) → Stays parts u → stays parts u ≡ true
+pub stays_is : (parts : List Part) (u : Site) → Stays parts u → stays parts u ≡ true
 unfolding stays
 stays_is parts u w = ap (is_outside u) w.linked ∙ site_same u
 
 -- an import that stays is among those of its kind
-staying_has : (parts : List Part) (k : Kind) (u : Site) (w : Stays parts u) → has_kind k w.import ≡ true → Has (staying_of parts k) u
+staying_has : (parts : List Part) (k : Kind) (u : Site) (i : Import) → import_at parts u ≡ Some i → stays parts u ≡ true → has_kind k i ≡ true → Has (staying_of parts k) u
 unfolding staying_of staying
-staying_has parts k u w e =
-    let n = in_sites parts u w.import w.at in
-    let a = is_kept (stays parts) (sites parts) n.0 u n.1 (stays_is parts u w) in
-    is_kept (imports_kind parts k) (filter (stays parts) (sites parts)) a.0 u a.1 (ap (λ o. or_false (then_some o (λ i. Some (has_kind k i)))) w.at ∙ e)
+staying_has parts k u i at remains e =
+    let n = in_sites parts u i at in
+    let a = is_kept (stays parts) (sites parts) n.0 u n.1 remains in
+    is_kept (imports_kind parts k) (filter (stays parts) (sites parts)) a.0 u a.1 (ap (λ o. or_false (then_some o (λ i. Some (has_kind k i)))) at ∙ e)
 
 -- and its place is there
-pub outside_place : (parts : List Part) (k : Kind) (u : Site) (w : Stays parts u) → has_kind k w.import ≡ true → slice_get (staying_of parts k) (place_of_end parts k (Outside u)) ≡ Some u
+pub staying_place : (parts : List Part) (k : Kind) (u : Site) (i : Import) → import_at parts u ≡ Some i → stays parts u ≡ true → has_kind k i ≡ true → slice_get (staying_of parts k) (place_of_end parts k (Outside u)) ≡ Some u
 unfolding place_of_end
-outside_place parts k u w e =
-    let n = staying_has parts k u w e in
+staying_place parts k u i at remains e =
+    let n = staying_has parts k u i at remains e in
     let f = first_at (same_site u) (staying_of parts k) 0 n.0 u n.1 (site_same u) in
     let from_0 : 0 + f.at ≡ f.at = omega arith in
     let is : first_place (same_site u) (staying_of parts k) 0 ≡ Some f.at = f.is ∙ ap Some from_0 in
     ap (λ o. slice_get (staying_of parts k) (or_this 0 o)) is ∙ f.got ∙ ap Some (sym (site_is u f.item f.yes))
 
+pub outside_place : (parts : List Part) (k : Kind) (u : Site) (w : Stays parts u) → has_kind k w.import ≡ true → slice_get (staying_of parts k) (place_of_end parts k (Outside u)) ≡ Some u
+outside_place parts k u w e = staying_place parts k u w.import w.at (stays_is parts u w) e
+
 -- the kind of an import is that of the type that it asks for
 pub kind_there : (parts : List Part) (u : Site) (i : Import) (x : External) (m : Module) → module_at parts u.part ≡ Some m → place m.imports u.import ≡ Some i → asked_at parts u ≡ Some x → asked m i.desc ≡ Some x
 kind_there parts u i x m is at h = sym (ap (λ o. then_some o (λ m. then_some (place m.imports u.import) (λ i. asked m i.desc))) is ∙ ap (λ o. then_some o (λ i. asked m i.desc)) at) ∙ h
 
-has_its_kind : (k : Kind) (i : Import) → kind_of_import i.desc ≡ k → has_kind k i ≡ true
+pub has_its_kind : (k : Kind) (i : Import) → kind_of_import i.desc ≡ k → has_kind k i ≡ true
 has_its_kind k i e = ap (same_kind k) e ∙ kind_same k
 
 pub some_there : {A : Type 0} (o : Option A) → is_some o ≡ true → (x : A) × (o ≡ Some x)

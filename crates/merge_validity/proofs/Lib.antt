@@ -7,6 +7,7 @@ pub mod MergedSpaces
 pub mod Linked
 pub mod Ends
 pub mod Entries
+pub mod Ended
 pub mod Agree
 pub mod Constants
 pub mod Imports

@@ -80,6 +80,7 @@ pub record Suited (parts : List Part) (s : Site) : Type 0 where
   pub thing : External
   pub finds : found parts end ≡ Some thing
   pub same : bare demand ≡ bare thing
+  pub yes : suits demand end thing ≡ true
 
 suits_same : (d : External) (e : End) (x : External) → suits d e x ≡ true → bare d ≡ bare x
 suits_same d (Defined e) x h = bare_is d x (both_are (same_but_limits d x) (meets_limits d x) h).0
@@ -98,7 +99,7 @@ suited parts s h = by (end_of parts s) refl h
         let d = then_is (asked_at parts s) (λ d. then_some (found parts e) (λ x. Some (suits d e x))) true (or_false_is _ h) in
         let x = then_is (found parts e) (λ x. Some (suits d.0 e x)) true d.2 in
         let yes : suits d.0 e x.0 ≡ true = (let k = x.2 in cc) in
-        record { end = e; ends = is; demand = d.0; asks = d.1; thing = x.0; finds = x.1; same = suits_same d.0 e x.0 yes }
+        record { end = e; ends = is; demand = d.0; asks = d.1; thing = x.0; finds = x.1; same = suits_same d.0 e x.0 yes; yes = yes }
 
     by : (o : Option End) → end_of parts s ≡ o → end_fault parts s o ≡ None → Suited parts s
     by None is h = absurd (let k = h in cc)

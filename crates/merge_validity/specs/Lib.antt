@@ -1,2 +1,3 @@
 pub mod Joinable
+pub mod Ended
 pub mod Entries

@@ -14,6 +14,10 @@ ghost use Rattle.export_names.specs.declared.mode.Mode.{Mode};
 ghost use Rattle.merge_terms.specs.Faults.{link_fault};
 ghost use Rattle.merge_terms.specs.Merged.{map_of};
 ghost use Rattle.merge_terms.specs.Joined.{joined_module};
+ghost use Rattle.merge_validity.specs.Ended.{
+    DefinedEntitiesHavePlaces, LinkedImportsEnd, MergedModulesDefineAll, NewIndicesArePlaces,
+    SitesAreImports, StayingImportsEndThere, StayingImportsHavePlaces, TypesHavePlaces,
+};
 ghost use Rattle.merge_validity.specs.Entries.{HasEntry};
 ghost use Rattle.merge_validity.specs.Joinable.{CanBeJoined, EachPart};
 
@@ -49,5 +53,21 @@ pub fn maps_have_entries()
 {
     valid_where_items_hold();
     renumbering_keeps_typing();
+    ends_and_reads_are_paths();
+}
+
+/// Where parts are linked, each import ends with what it asks for, inside or outside (`ends`), and what stays is its own end (`stays`); the sites are the
+/// imports that are there (`sites`). In the merged module each import that stays, each index, each definition and each type of a part has its place
+/// (`places`, `indices`, `defined`, `types`), and what is defined are the definitions of all parts (`counts`).
+pub fn linked_imports_have_ends()
+    ensures ends { LinkedImportsEnd }
+    ensures stays { StayingImportsEndThere }
+    ensures sites { SitesAreImports }
+    ensures places { StayingImportsHavePlaces }
+    ensures indices { NewIndicesArePlaces }
+    ensures defined { DefinedEntitiesHavePlaces }
+    ensures types { TypesHavePlaces }
+    ensures counts { MergedModulesDefineAll }
+{
     ends_and_reads_are_paths();
 }

@@ -1,1 +1,9 @@
-
+pub mod SpaceLaws
+pub mod Chosen
+pub mod Instancing
+pub mod Standing
+pub mod MergedAlone
+pub mod Instances
+pub mod Named
+pub mod View
+pub mod Starts

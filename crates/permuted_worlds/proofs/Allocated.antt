@@ -15,19 +15,21 @@ use Rattle.wasm_meaning.specs.Values.{ref_of, num_of, declared}
 use Rattle.wasm_meaning.specs.Control.{type_of_func, own_of}
 use Rattle.wasm_meaning.specs.Linking.{Read, place, then_some}
 use Rattle.wasm_meaning.specs.Environment.{Environment, own_funcs, own_tables, own_memories, own_globals}
-use Rattle.wasm_meaning.specs.World.{given, all_there, numbers, const_value, value_of_read, value_of, ref_value, number_value, new_global, new_elem, elem_of, part_store, joined_stores, own_store, stores_from}
+use Rattle.wasm_meaning.specs.World.{given, all_there, numbers, value_of_read, value_of, ref_value, number_value, new_global, new_elem, elem_of, part_store, joined_stores, own_store, stores_from}
 use Rattle.wasm_meaning.specs.World as world
 use Rattle.index_remap.specs.declared.remap.Remap.{Remap}
-use Rattle.index_remap.specs.Renumbered.{has, all_true, new_const, new_elem_mode, renumbered_all, fits_all, fits_const, fits_func, fits_global, fits_elem, fits_elem_mode}
+use Rattle.index_remap.specs.Renumbered.{has, new_const, new_elem_mode, renumbered_all, fits_const, fits_func, fits_global, fits_elem, fits_elem_mode}
 use Rattle.index_remap.specs.Renumbered as renumbered
-use Rattle.index_remap.specs.Related.{Funcs, Pairing, OptRel, none, some, BothRel, both, ListRel, nil, cons, RefRel, func, ValRel, number, reference, FuncRel, defined, own, TableRel, GlobalRel, ElemRel, StoreRel, CodeRel}
+use Rattle.index_remap.specs.Related.{Funcs, Pairing, OptRel, none, some, BothRel, both, ListRel, nil, RefRel, func, ValRel, number, reference, FuncRel, defined, own, TableRel, GlobalRel, ElemRel, StoreRel, CodeRel}
 use Rattle.index_remap.specs.Related as to
 use Rattle.index_remap.specs.Laws.{RenumberedCodeIsRelated}
 use Rattle.index_remap.proofs.Rel.{append_rel, copies_rel}
 use Rattle.permuted_worlds.specs.Permuted.{moving, IsOrder, permuted}
 use Rattle.permuted_worlds.proofs.Places.{left_true, right_true, found, within, place_left, place_right, map_length, append_length, number_at, Moves, stays, goes, moves_by, some_then, then_rel, then_rel_is, then_same, opt_self, opt_at, place_rel, self_rel, tested_rel, map_rel, maps_rel, all_rel, all_length, AllThere, each_there, tested_at, both_at, both_in}
-use Rattle.permuted_worlds.proofs.Alone.{one, read_in, read_place, read_is}
-use Rattle.permuted_worlds.proofs.Partners.{related, pairing, partner, null_rel, flat_rel, own_tables_rel, own_globals_rel}
+use Rattle.permuted_worlds.specs.Alone.{one, read_in, read_place}
+use Rattle.permuted_worlds.proofs.Alone.{read_is}
+use Rattle.permuted_worlds.proofs.Partners.{related, pairing, partner, shares_own}
+use Rattle.permuted_worlds.proofs.Owned.{null_rel, flat_rel, own_tables_rel, own_globals_rel}
 use Rattle.permuted_worlds.proofs.Named.{all_named}
 use Rattle.permuted_worlds.proofs.Instances.{Fits, stays_at, below, imports_stay, InstRel, entries_name}
 
@@ -90,12 +92,12 @@ module _ (env : Environment) (places : List ℕ) (t : Module) where
     global_value a b h =
         let same = (number_at (length (own_globals env) + length t.globals) a b (partner env places t to.Globals a b h)).1 in
         subst (λ c. OptRel (ValRel R) (then_some (place (own_globals env) a) (λ g. Some g.value)) (then_some (place (own_globals env) c) (λ g. Some g.value))) same
-        (then_rel (place_rel (own_globals_rel env places t) a) (λ _ _ g. some g.value))
+        (then_rel (place_rel (own_globals_rel (pairing env places t) env (shares_own env places t)) a) (λ _ _ g. some g.value))
 
     read_rel : (e : ConstExpr) → fits_const m e ≡ true → OptRel (ValRel R) (then_some (read_in t.imports e) (value_of_read (own_globals env) (i ∷ []))) (then_some (read_in t.imports (new_const m e)) (value_of_read (own_globals env) (j ∷ [])))
     read_rel (const.I32 v) h = some number
     read_rel (const.I64 v) h = some number
-    read_rel (const.Null ty) h = some (reference (null_rel env places t ty))
+    read_rel (const.Null ty) h = some (reference (null_rel (pairing env places t) ty))
     read_rel (const.Func f) h = then_rel (k.funcs f (ltb-true _ _ h)) (λ _ _ p. some (reference (func (some p))))
     read_rel (const.Global x) h =
         subst (λ y. OptRel (ValRel R) (then_some (read_in t.imports (const.Global x)) (value_of_read (own_globals env) (i ∷ []))) (then_some (read_in t.imports (const.Global y)) (value_of_read (own_globals env) (j ∷ [])))) (sym (stays_at _ x h))
@@ -161,7 +163,7 @@ module _ (env : Environment) (places : List ℕ) (t : Module) where
     body_rel f n h = code (related env places t) (related env places t) [] m i j f.body (all_named R m i j (entries_name env places t k) f.body (right_true (has m.types f.ty) _ (tested_at (fits_func m) t.funcs n f fit.funcs h)))
 
     own_rel : ListRel (FuncRel R) (own_funcs env) (own_funcs env)
-    own_rel = flat_rel env places t _ (λ o. maps_rel _ _ (self_rel o.funcs (λ ty. own))) env
+    own_rel = flat_rel _ (λ o. maps_rel _ _ (self_rel o.funcs (λ ty. own))) env
 
     stays_rel : (a b : ℕ) → a < length (own_funcs env) → a ≡ b → BothRel (FuncRel R) (at (own_funcs env ++ first_funcs.results) a) (at (own_funcs env ++ second_funcs.results) b)
     stays_rel a b l e =
@@ -220,9 +222,9 @@ module _ (env : Environment) (places : List ℕ) (t : Module) where
             then_rel {P = λ a b. (a ≡ first_funcs.results) × (b ≡ second_funcs.results)} (opt_at first_funcs.are second_funcs.are (some (refl, refl))) (λ a b e.
             then_rel_is globals_rel (λ gs _ gs_are g. then_rel_is elems_rel (λ es _ es_are x. some (record {
               funcs = λ c d h. rw (e.0, e.1) (funcs_rel c d h);
-              tables = append_rel (own_tables_rel env places t) (maps_rel _ _ (self_rel t.tables (λ z. record { type = refl; most = refl; slots = copies_rel _ _ z.limits.min (null_rel env places t z.ty) })));
+              tables = append_rel (own_tables_rel (pairing env places t) env (shares_own env places t)) (maps_rel _ _ (self_rel t.tables (λ z. record { type = refl; most = refl; slots = copies_rel _ _ z.limits.min (null_rel (pairing env places t) z.ty) })));
               mems = self_rel _ (λ z. refl);
-              globals = append_rel (own_globals_rel env places t) g;
+              globals = append_rel (own_globals_rel (pairing env places t) env (shares_own env places t)) g;
               elems = x;
               datas = maps_rel _ _ (map_rel _ t.datas (λ d. refl));
               table_count = append_length (own_tables env) _ ∙ ap (λ n. length (own_tables env) + n) (map_length _ t.tables);

@@ -1,6 +1,5 @@
 -- A module alone: its imports all stay, so what they stand for and what is read through them is a matter of its types and imports.
 use Rattle.std.proofs.Common.{◌≡◌, ℕ, suc, ◌+◌, List, [], ◌∷◌, ◌++◌, length, Option, Some, None, cond, refl, ap, ap₂, ◌∙◌, arith}
-use Rattle.wasm_tree.specs.declared.types.FuncType.{FuncType}
 use Rattle.wasm_tree.specs.declared.module.Import.{Import}
 use Rattle.wasm_tree.specs.declared.module.ImportDesc.{ImportDesc}
 use Rattle.wasm_tree.specs.declared.module.ImportDesc.TheVariants as im
@@ -11,25 +10,13 @@ use Rattle.std.specs.List.{cons_option}
 use Rattle.wasm_tree.specs.Spaces.{func_of, table_of, memory_of, global_of, imported_funcs, imported_tables, imported_memories, imported_globals}
 use Rattle.wasm_meaning.specs.State.{Pair}
 use Rattle.wasm_meaning.specs.Paths.{walk, walk_on}
-use Rattle.wasm_meaning.specs.Linking.{same_kind, kind_of_import, sites, joined, joined_step, import_step, read_step, initials_from, Part, Site, Outside, Kind, Functions, Tables, Memories, Globals, Read, place, then_some, places, has_kind, imports_of, pair_of, end_of, global_import, end_step, read_of, space_index}
-use Rattle.wasm_meaning.specs.Environment.{Environment, Thing, OwnKey, FuncKey, TableKey, MemoryKey, GlobalKey, owned_of, owned_at}
-use Rattle.wasm_meaning.specs.World.{given, own_key_of, outside_thing, imported_thing, thing_of, address_of, all_there, numbers, own_count, defined_count, space}
+use Rattle.wasm_meaning.specs.Linking.{same_kind, kind_of_import, sites, joined, joined_step, import_step, read_step, initials_from, Outside, Kind, Functions, Tables, Memories, Globals, Read, place, then_some, places, has_kind, imports_of, pair_of, end_of, global_import, end_step, read_of, space_index}
+use Rattle.wasm_meaning.specs.Environment.{Environment, owned_of, owned_at}
+use Rattle.wasm_meaning.specs.World.{given, own_key_of, outside_thing, imported_thing, thing_of, address_of, numbers, own_count, defined_count, space}
+use Rattle.permuted_worlds.specs.Alone.{one, site, key_in, thing_in, addresses, read_in}
 use Rattle.permuted_worlds.proofs.Places.{all_same}
 
-abbrev pub one : Module → List Part
-one t = record { name = None; «module» = t } ∷ []
-
-abbrev pub site : ℕ → Site
-site n = record { part = 0; import = n }
-
 -- ---- what an import stands for ----
-
--- the environment's entity that an import names
-abbrev pub key_in : List FuncType → Pair → ImportDesc → Option OwnKey
-key_in types pair (im.Func ty) = then_some (place types ty) (λ t. Some (FuncKey pair t))
-key_in types pair (im.Table t) = Some (TableKey pair)
-key_in types pair (im.Memory l) = Some (MemoryKey pair)
-key_in types pair (im.Global t) = Some (GlobalKey pair)
 
 key_is : (t : Module) (pair : Pair) (d : ImportDesc) → own_key_of t pair d ≡ key_in t.types pair d
 key_is t pair (im.Func ty) = refl
@@ -37,10 +24,7 @@ key_is t pair (im.Table u) = refl
 key_is t pair (im.Memory l) = refl
 key_is t pair (im.Global u) = refl
 
-abbrev pub thing_in : Environment → List FuncType → Option Import → Option Thing
-thing_in env types o = then_some o (λ i. then_some (key_in types (pair_of i) i.desc) (λ key. given (owned_at (owned_of env) key)))
-
-ends_outside : (t : Module) (n : ℕ) → end_of (one t) (site n) ≡ then_some (place t.imports n) (λ i. Some (Outside (site n)))
+pub ends_outside : (t : Module) (n : ℕ) → end_of (one t) (site n) ≡ then_some (place t.imports n) (λ i. Some (Outside (site n)))
 ends_outside t n = go (place t.imports n)
   where
     go : (o : Option Import) → walk_on (walk (import_step (one t)) (length (sites (one t)))) (then_some o (λ i. Some (joined_step (one t) (site n) (joined (one t) i)))) ≡ then_some o (λ i. Some (Outside (site n)))
@@ -69,15 +53,6 @@ thing_is env t n =
     ∙ on_some (place t.imports n) (λ i. outside_is env t n) ∙ twice (place t.imports n) (λ i. then_some (key_in t.types (pair_of i) i.desc) (λ key. given (owned_at (owned_of env) key)))
 
 -- ---- index spaces ----
-
-abbrev pub address_in : Environment → List FuncType → List Import → Kind → ℕ → Option ℕ
-address_in env types imports k n = then_some (thing_in env types (place imports n)) (address_of k)
-
-abbrev pub import_places : Kind → List Import → List ℕ
-import_places k imports = places (has_kind k) imports 0
-
-abbrev pub addresses : Environment → List FuncType → List Import → Kind → Option (List ℕ)
-addresses env types imports k = all_there (address_in env types imports k) (places (has_kind k) imports 0)
 
 pub space_is : (env : Environment) (t : Module) (k : Kind) → space env (one t) k 0 t ≡ then_some (addresses env t.types t.imports k) (λ l. Some (l ++ numbers (own_count k env) (defined_count k t)))
 space_is env t k =
@@ -127,13 +102,6 @@ globals_counted (i ∷ is) n = go i.desc (globals_counted is (suc n))
     go (im.Global x) h = ap suc h
 
 -- ---- what is read ----
-
-abbrev pub read_place : List Import → ℕ → Option ℕ
-read_place imports x = then_some (place (places (has_kind Globals) imports 0) x) (λ n. then_some (place imports n) (λ i. Some (space_index imports n Globals)))
-
-abbrev pub read_in : List Import → ConstExpr → Option Read
-read_in imports (const.Global x) = then_some (read_place imports x) (λ y. Some (record { part = 0; expr = const.Global y }))
-read_in imports e = Some (record { part = 0; expr = e })
 
 import_of_global : (t : Module) (x : ℕ) → then_some (global_import (one t) 0 x) (end_of (one t)) ≡ then_some (place (imports_of Globals t) x) (λ n. then_some (place t.imports n) (λ i. Some (Outside (site n))))
 import_of_global t x = go (place (imports_of Globals t) x)

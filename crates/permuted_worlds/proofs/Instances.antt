@@ -14,12 +14,13 @@ use Rattle.wasm_meaning.specs.Environment.{Environment, own_funcs}
 use Rattle.wasm_meaning.specs.World.{numbers, own_count, defined_count, space, inst_of}
 use Rattle.index_remap.specs.declared.remap.Remap.{Remap}
 use Rattle.index_remap.specs.Renumbered.{has, all_true, new_import, new_import_desc, new_func, fits_import, fits_import_desc, fits_func, fits_global, fits_export, fits_start, fits_elem, fits_data, fits_tree}
-use Rattle.index_remap.specs.Related.{Funcs, Mems, Elems, Datas, Pairing, OptRel, some, ListRel, nil, cons, Names}
+use Rattle.index_remap.specs.Related.{Funcs, Mems, Elems, Datas, Pairing, OptRel, some, ListRel}
 use Rattle.index_remap.specs.Related as to
 use Rattle.index_remap.proofs.Rel.{append_rel}
 use Rattle.permuted_worlds.specs.Permuted.{moving, IsOrder, permuted}
 use Rattle.permuted_worlds.proofs.Places.{left_true, right_true, index_at, found, within, place_left, place_right, map_length, numbers_length, place_numbers, index_numbers, moved_low, moved_high, moved_length, then_rel, then_same, opt_self, opt_at, place_rel, numbers_rel, all_length, names_of}
-use Rattle.permuted_worlds.proofs.Alone.{one, import_places, addresses, address_in, space_is, funcs_counted}
+use Rattle.permuted_worlds.specs.Alone.{one, import_places, addresses, address_in}
+use Rattle.permuted_worlds.proofs.Alone.{space_is, funcs_counted}
 use Rattle.permuted_worlds.proofs.Partners.{pairing, func_moves, same_table, same_memory, same_global, same_elem, same_data, kind_in, addresses_rel}
 use Rattle.permuted_worlds.proofs.Named.{EntriesName}
 

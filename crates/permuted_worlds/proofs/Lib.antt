@@ -5,6 +5,7 @@ pub mod FirstStep
 pub mod Places
 pub mod Named
 pub mod Alone
+pub mod Owned
 pub mod Partners
 pub mod Instances
 pub mod Allocated

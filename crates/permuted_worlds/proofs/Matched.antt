@@ -18,7 +18,8 @@ use Rattle.index_remap.specs.RelatedRuns.{ThingRel, a_func, a_table, a_memory, a
 use Rattle.permuted_worlds.specs.Permuted.{moving, permuted}
 use Rattle.index_remap.proofs.Rel.{length_rel}
 use Rattle.permuted_worlds.proofs.Places.{map_length, number_at, then_eq, place_rel}
-use Rattle.permuted_worlds.proofs.Alone.{one, site, thing_in, thing_is, on_some}
+use Rattle.permuted_worlds.specs.Alone.{one, site, thing_in}
+use Rattle.permuted_worlds.proofs.Alone.{thing_is, on_some}
 use Rattle.permuted_worlds.proofs.Partners.{pairing, partner, thing_rel}
 use Rattle.permuted_worlds.proofs.Instances.{Fits, imports_stay}
 use Rattle.permuted_worlds.proofs.Allocated.{Alike, stores_rel}

@@ -22,7 +22,7 @@ use Rattle.index_remap.specs.Laws.{RenumberedCodeIsRelated}
 use Rattle.index_remap.proofs.Rel.{put_rel, overwrite_rel}
 use Rattle.permuted_worlds.specs.Permuted.{moving, IsOrder, permuted}
 use Rattle.permuted_worlds.proofs.Places.{left_true, right_true, number_at, then_rel, then_same, place_rel, put_length}
-use Rattle.permuted_worlds.proofs.Alone.{one}
+use Rattle.permuted_worlds.specs.Alone.{one}
 use Rattle.permuted_worlds.proofs.Partners.{pairing, partner}
 use Rattle.permuted_worlds.proofs.Instances.{Fits, stays_at, InstRel}
 use Rattle.permuted_worlds.proofs.Allocated.{Alike, offset_same}

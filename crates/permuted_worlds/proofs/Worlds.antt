@@ -21,8 +21,9 @@ use Rattle.index_remap.proofs.Rel.{append_rel}
 use Rattle.remap_typing.specs.Trees.{Covers}
 use Rattle.permuted_worlds.specs.Permuted.{moving, IsOrder, permuted}
 use Rattle.permuted_worlds.proofs.Places.{map_length, append_length, numbers_length, moved_length, then_rel, tested_rel, maps_rel, all_rel}
-use Rattle.permuted_worlds.proofs.Alone.{one}
-use Rattle.permuted_worlds.proofs.Partners.{pairing, owned_rel}
+use Rattle.permuted_worlds.specs.Alone.{one}
+use Rattle.permuted_worlds.proofs.Partners.{pairing, shares_own}
+use Rattle.permuted_worlds.proofs.Owned.{owned_rel}
 use Rattle.permuted_worlds.proofs.Instances.{Fits, InstRel, row_names, insts_rel}
 use Rattle.permuted_worlds.proofs.Allocated.{Alike, stores_rel, stores_alike}
 use Rattle.permuted_worlds.proofs.Matched.{all_matched}
@@ -93,7 +94,7 @@ module _ (env : Environment) (places : List ℕ) (t : Module) (funcs : List tree
         closed = nil;
         trapped = filled.trapped;
         view = view;
-        owned = owned_rel env places t;
+        owned = owned_rel (pairing env places t) env (shares_own env places t);
       }
 
   linked : (b c : Bool) {x y : Begun} → b ≡ c → BegunRel R (EntryByEntry R) x y → OptRel (BegunRel R (EntryByEntry R)) (cond b (Some x) None) (cond c (Some y) None)

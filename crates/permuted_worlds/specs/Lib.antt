@@ -1,3 +1,5 @@
+pub mod Alone
+pub mod Owned
 pub mod Instances
 pub mod Permuted
 pub mod Silent

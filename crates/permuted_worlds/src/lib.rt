@@ -2,7 +2,9 @@
 //! one start may call several functions.
 #![tactic(auto)]
 
+ghost use Rattle.permuted_worlds.specs.Alone.{ImportsStandForTheEnvironments, ImportsStay, ReadsStay, SpacesAreImportsAndOwn};
 ghost use Rattle.permuted_worlds.specs.Instances.{RelatedBegunShowTheSame, RelatedInstancesShowTheSame};
+ghost use Rattle.permuted_worlds.specs.Owned.{OwnEntitiesCorrespond};
 ghost use Rattle.permuted_worlds.specs.Permuted.{OrderIsNotSeen};
 ghost use Rattle.permuted_worlds.specs.Silent.{BudgetedRunsShowTheSame, SlowerRunsShowTheSame};
 ghost use Rattle.permuted_worlds.specs.Starts.{OneStartMayCallSeveral};
@@ -10,6 +12,20 @@ ghost use Rattle.permuted_worlds.specs.Starts.{OneStartMayCallSeveral};
 use index_remap::{related_runs_show_the_same, renumbered_code_is_related};
 use remap_typing::renumbering_keeps_typing;
 use wasm_meaning::what_stands_below_is_not_seen;
+
+/// In the world of a module alone each import is its own end (`ends`) and stands for what the environment offers of its name, or for nothing (`things`); the
+/// index spaces are these, then what the module defines (`spaces`); and constant expressions read what stands in them (`reads`).
+pub fn imports_of_one_module_stay()
+    ensures ends { ImportsStay }
+    ensures things { ImportsStandForTheEnvironments }
+    ensures spaces { SpacesAreImportsAndOwn }
+    ensures reads { ReadsStay }
+{}
+
+/// Where each address of the environment's own entities stands for itself, so do their keys, and what is allocated for them corresponds.
+pub fn own_entities_correspond()
+    ensures own { OwnEntitiesCorrespond }
+{}
 
 /// Two worlds show the same events, step by step, where neither can be instantiated, or both to what corresponds (WebAssembly Core 2.0, section 4.5.4): of worlds
 /// (`same`), and of what they are instantiated to (`begun`).

@@ -56,14 +56,14 @@ named name (suc k) off (p ∷ ps) (i ∷ is) e = go (is_named name p) refl (name
 abbrev pub ExportsThere : List Part → Type 0
 ExportsThere parts = (p : ℕ) (m : Module) (field : Text) (d : ExportDesc) → module_at parts p ≡ Some m → export_named m.exports field ≡ Some d → index_of_export d < length (imports_of (kind_of_export d) m) + defined_count (kind_of_export d) m
 
-module_is : (parts : List Part) (p : ℕ) (part : Part) → place parts p ≡ Some part → module_at parts p ≡ Some part.«module»
+pub module_is : (parts : List Part) (p : ℕ) (part : Part) → place parts p ≡ Some part → module_at parts p ≡ Some part.«module»
 module_is parts p part e = ap (λ o. then_some o (λ part. Some part.«module»)) e
 
 module _ (env : Environment) (parts : List Part) (insts : List Inst) (are : insts_from env parts 0 parts ≡ Some insts) (size : length insts ≡ length parts) (there : ExportsThere parts) (earlier : JoinsEarlier parts) where
   abbrev made : ℕ → List Made
   made p = made_upto p parts insts
 
-  inst_of_part : (q : ℕ) (m : Module) (i : Inst) → module_at parts q ≡ Some m → place insts q ≡ Some i → inst_of env parts q m ≡ Some i
+  pub inst_of_part : (q : ℕ) (m : Module) (i : Inst) → module_at parts q ≡ Some m → place insts q ≡ Some i → inst_of env parts q m ≡ Some i
   inst_of_part q m i e h =
       let r = inst_at env parts 0 parts insts are q m e in
       let n : 0 + q ≡ q = omega arith in
@@ -80,7 +80,7 @@ module _ (env : Environment) (parts : List Part) (insts : List Inst) (are : inst
     step_is = ap (λ o. then_some o (λ i. Some (joined_step parts (record { part = p; import = n }) (joined parts i)))) import_is
 
     -- not joined: the environment's own
-    stays_own : (x : Thing) (o : Option (Made × ExportDesc)) → joined parts i ≡ None → o ≡ None → imported_thing env parts (record { part = p; import = n }) ≡ Some x → thing_or_own (owned_of env) m i o ≡ Some x
+    pub stays_own : (x : Thing) (o : Option (Made × ExportDesc)) → joined parts i ≡ None → o ≡ None → imported_thing env parts (record { part = p; import = n }) ≡ Some x → thing_or_own (owned_of env) m i o ≡ Some x
     stays_own x o j none h =
         let e = then_is (end_of parts (record { part = p; import = n })) (thing_of env parts) x h in
         let end = ends_at parts (record { part = p; import = n }) e.0 (Outside (record { part = p; import = n })) (step_is ∙ ap (λ o. Some (joined_step parts (record { part = p; import = n }) o)) j) e.1 in
@@ -89,7 +89,7 @@ module _ (env : Environment) (parts : List Part) (insts : List Inst) (are : inst
         ap (thing_or_own (owned_of env) m i) none ∙ sym own ∙ thing
 
     -- joined: what the other part's instance says
-    joins : (x : Thing) (q : ℕ) (part : Part) (inst : Inst) (d : ExportDesc) → joined parts i ≡ Some (record { part = q; what = d }) → place parts q ≡ Some part → place insts q ≡ Some inst → export_named part.«module».exports i.field ≡ Some d →
+    pub joins : (x : Thing) (q : ℕ) (part : Part) (inst : Inst) (d : ExportDesc) → joined parts i ≡ Some (record { part = q; what = d }) → place parts q ≡ Some part → place insts q ≡ Some inst → export_named part.«module».exports i.field ≡ Some d →
         imported_thing env parts (record { part = p; import = n }) ≡ Some x → address_in inst d ≡ Some x
     joins x q part inst d j at_part at_inst named h =
         let e = then_is (end_of parts (record { part = p; import = n })) (thing_of env parts) x h in

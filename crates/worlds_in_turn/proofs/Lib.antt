@@ -4,6 +4,15 @@ mod StepExtends
 mod TickExtends
 mod Things
 mod Joined
+mod Reached
+mod Low
+mod Turn
+mod Closed
+mod Beside
+mod Making
+mod Filling
+mod Given
+mod Waiting
 mod FillOwned
 mod FillPaths
 mod FillAddresses

@@ -1,0 +1,90 @@
+-- What an instance holds, and the instances of several parts one after the other.
+use Rattle.std.proofs.Common.{◌≡◌, ◌∙◌, ap, ap₂, sym, refl, ℕ, zero, suc, ◌+◌, List, [], ◌∷◌, length, Option, Some, arith}
+use Rattle.wasm_tree.specs.declared.types.FuncType.{FuncType}
+use Rattle.wasm_tree.specs.declared.module.Module.{Module}
+use Rattle.wasm_meaning.specs.State.{Inst}
+use Rattle.wasm_meaning.specs.Linking.{Part, Functions, Tables, Memories, Globals, place, then_some, module_at}
+use Rattle.wasm_meaning.specs.Environment.{Environment}
+use Rattle.wasm_meaning.specs.World.{space, numbers, elems_before, datas_before, inst_of, insts_from}
+use Rattle.merge_validity.proofs.Lists.{then_is}
+
+-- ---- one ----
+
+pub record IsInst (env : Environment) (parts : List Part) (p : ℕ) (m : Module) (i : Inst) : Type 0 where
+  pub types : i.types ≡ m.types
+  pub funcs : space env parts Functions p m ≡ Some i.funcs
+  pub tables : space env parts Tables p m ≡ Some i.tables
+  pub mems : space env parts Memories p m ≡ Some i.mems
+  pub globals : space env parts Globals p m ≡ Some i.globals
+  pub elems : i.elems ≡ numbers (elems_before parts p) (length m.elems)
+  pub datas : i.datas ≡ numbers (datas_before parts p) (length m.datas)
+
+abbrev made : List FuncType → (elems datas : List ℕ) → (funcs tables mems globals : Option (List ℕ)) → Option Inst
+made types elems datas f t m g =
+    then_some f (λ funcs. then_some t (λ tables. then_some m (λ mems. then_some g (λ globals. Some (record { types = types; funcs = funcs; tables = tables; mems = mems; globals = globals; elems = elems; datas = datas })))))
+
+pub inst_is : (env : Environment) (parts : List Part) (p : ℕ) (m : Module) (i : Inst) → inst_of env parts p m ≡ Some i → IsInst env parts p m i
+inst_is env parts p m i h =
+    let f = then_is (space env parts Functions p m) _ i h in
+    let t = then_is (space env parts Tables p m) _ i f.2 in
+    let s = then_is (space env parts Memories p m) _ i t.2 in
+    let g = then_is (space env parts Globals p m) _ i s.2 in
+    let q = g.2 in
+    let same : record { types = m.types; funcs = f.0; tables = t.0; mems = s.0; globals = g.0; elems = numbers (elems_before parts p) (length m.elems); datas = numbers (datas_before parts p) (length m.datas) } ≡ i = cc in
+    record {
+      types = ap (λ (i : Inst). i.types) (sym same);
+      funcs = f.1 ∙ ap (λ (i : Inst). Some i.funcs) same;
+      tables = t.1 ∙ ap (λ (i : Inst). Some i.tables) same;
+      mems = s.1 ∙ ap (λ (i : Inst). Some i.mems) same;
+      globals = g.1 ∙ ap (λ (i : Inst). Some i.globals) same;
+      elems = ap (λ (i : Inst). i.elems) (sym same);
+      datas = ap (λ (i : Inst). i.datas) (sym same);
+    }
+
+-- where its index spaces are there, so is the instance
+pub inst_there : (env : Environment) (parts : List Part) (p : ℕ) (m : Module) (fs ts ms gs : List ℕ) → space env parts Functions p m ≡ Some fs → space env parts Tables p m ≡ Some ts → space env parts Memories p m ≡ Some ms → space env parts Globals p m ≡ Some gs →
+    (i : Inst) × (inst_of env parts p m ≡ Some i)
+inst_there env parts p m fs ts ms gs f t s g =
+    let elems = numbers (elems_before parts p) (length m.elems) in
+    let datas = numbers (datas_before parts p) (length m.datas) in (
+      record { types = m.types; funcs = fs; tables = ts; mems = ms; globals = gs; elems = elems; datas = datas },
+      ap₂ (λ a b. made m.types elems datas a b (space env parts Memories p m) (space env parts Globals p m)) f t ∙ ap₂ (made m.types elems datas (Some fs) (Some ts)) s g,
+    )
+
+-- ---- several ----
+
+-- the instances of the parts from one on
+pub record EachInst (env : Environment) (all : List Part) (p : ℕ) (parts : List Part) (is : List Inst) : Type 0 where
+  pub size : length is ≡ length parts
+  pub each : (q : ℕ) (m : Module) → module_at parts q ≡ Some m → (i : Inst) × (place is q ≡ Some i) × (inst_of env all (p + q) m ≡ Some i)
+
+each_cons : (env : Environment) (all : List Part) (p : ℕ) (part : Part) (parts : List Part) (i : Inst) (is : List Inst) → inst_of env all p part.«module» ≡ Some i → EachInst env all (suc p) parts is → (q : ℕ) (m : Module) → module_at (part ∷ parts) q ≡ Some m →
+    (j : Inst) × (place (i ∷ is) q ≡ Some j) × (inst_of env all (p + q) m ≡ Some j)
+each_cons env all p part parts i is h later zero m e =
+    let same : m ≡ part.«module» = cc in
+    let here : p + 0 ≡ p = omega arith in
+    (i, refl, ap₂ (inst_of env all) here same ∙ h)
+each_cons env all p part parts i is h later (suc q) m e =
+    let r = later.each q m e in
+    let here : p + suc q ≡ suc p + q = omega arith in
+    (r.0, r.1, ap (λ n. inst_of env all n m) here ∙ r.2)
+
+pub insts_are : (env : Environment) (all : List Part) (p : ℕ) (parts : List Part) (is : List Inst) → insts_from env all p parts ≡ Some is → EachInst env all p parts is
+insts_are env all p [] is h = let same : [] ≡ is = cc in record { size = ap length (sym same); each = λ q m e. absurd (let k = e in cc) }
+insts_are env all p (part ∷ parts) is h =
+    let i = then_is (inst_of env all p part.«module») _ is h in
+    let r = then_is (insts_from env all (suc p) parts) _ is i.2 in
+    let q = r.2 in
+    let same : i.0 ∷ r.0 ≡ is = cc in
+    let later = insts_are env all (suc p) parts r.0 r.1 in
+    record { size = ap length (sym same) ∙ ap suc later.size; each = λ q m e. let c = each_cons env all p part parts i.0 r.0 i.1 later q m e in (c.0, ap (λ l. place l q) (sym same) ∙ c.1, c.2) }
+
+pub insts_there : (env : Environment) (all : List Part) (p : ℕ) (parts : List Part) → ((q : ℕ) (m : Module) → module_at parts q ≡ Some m → (i : Inst) × (inst_of env all (p + q) m ≡ Some i)) → (is : List Inst) × (insts_from env all p parts ≡ Some is)
+insts_there env all p [] h = ([], refl)
+insts_there env all p (part ∷ parts) h =
+    let first = h 0 part.«module» refl in
+    let here : p ≡ p + 0 = omega arith in
+    let r = insts_there env all (suc p) parts (λ q m e. let x = h (suc q) m e in let n : suc p + q ≡ p + suc q = omega arith in (x.0, ap (λ n. inst_of env all n m) n ∙ x.1)) in (
+      first.0 ∷ r.0,
+      ap₂ (λ o l. then_some o (λ i. then_some l (λ is. Some (i ∷ is)))) (ap (λ n. inst_of env all n part.«module») here ∙ first.1) r.1,
+    )

@@ -1,0 +1,17 @@
+-- What is taken from the crates below.
+use Rattle.permuted_worlds.specs.Alone.{ImportsStandForTheEnvironments, SpacesAreImportsAndOwn}
+use Rattle.permuted_worlds.specs.Owned.{OwnEntitiesCorrespond}
+use Rattle.merge_validity.specs.Ended.{LinkedImportsEnd, StayingImportsEndThere, SitesAreImports, StayingImportsHavePlaces, NewIndicesArePlaces, DefinedEntitiesHavePlaces, TypesHavePlaces, MergedModulesDefineAll}
+
+pub record SpaceLaws : Type 0 where
+  pub ends : LinkedImportsEnd
+  pub stays : StayingImportsEndThere
+  pub sites : SitesAreImports
+  pub places : StayingImportsHavePlaces
+  pub indices : NewIndicesArePlaces
+  pub defined : DefinedEntitiesHavePlaces
+  pub types : TypesHavePlaces
+  pub counts : MergedModulesDefineAll
+  pub things : ImportsStandForTheEnvironments
+  pub spaces : SpacesAreImportsAndOwn
+  pub own : OwnEntitiesCorrespond

@@ -1,0 +1,213 @@
+-- For what each entry of a part's index space stands, in the parts' world and in the merged module: for what a part defines, with its number among all
+-- definitions, or for an import that stays.
+use Rattle.std.proofs.Common.{◌≡◌, ◌∙◌, ap, ap₂, subst, refl, ℕ, zero, suc, ◌+◌, ◌-◌, ◌<◌, ◌≤◌, List, [], ◌∷◌, length, Option, Some, None, Bool, true, cond, false, arith}
+use Rattle.std.specs.Prelude.{nat_eq, nat_lt}
+use Rattle.std.proofs.lemmas.Bool.{ltb-true, lt-ltb, eq-eqb}
+use Rattle.wasm_tree.specs.declared.module.Import.{Import}
+use Rattle.wasm_tree.specs.declared.module.Module.{Module}
+use Rattle.wasm_meaning.specs.Outcomes.{Gives}
+use Rattle.wasm_meaning.specs.Linking.{Part, Site, Defined, Outside, Kind, Functions, Tables, Memories, Globals, place, then_some, has_kind, same_kind, kind_of_import, kind_of_export, index_of_export, module_at, import_at, imports_of}
+use Rattle.wasm_meaning.specs.Environment.{Environment, OwnKey, Thing, Owned, owned_of, look_up, same_key}
+use Rattle.wasm_meaning.specs.World.{given, own_count, defined_count, defined_before, base, thing_at, address_of, own_key, outside_thing, defined_thing, thing_of, imported_thing}
+use Rattle.index_remap.specs.Related.{Pairing, OptRel, none, some, ListRel}
+use Rattle.index_remap.specs.Related as to
+use Rattle.index_remap.specs.RelatedRuns.{ThingRel, a_func, a_table, a_memory, a_global, KeyRel}
+use Rattle.merge_terms.specs.Faults.{link_fault}
+use Rattle.merge_terms.specs.Merged.{staying_of, entry_of, new_index}
+use Rattle.merge_validity.specs.Ended.{EndsInside, EndsOutside, Ended, inside, outside}
+use Rattle.merge_validity.proofs.Lists.{then_is}
+use Rattle.merge_validity.proofs.ByPart.{before, defined_is}
+use Rattle.permuted_worlds.specs.Owned.{SharesOwn, OwnEntitiesCorrespond}
+use Rattle.permuted_worlds.proofs.Places.{place_rel, opt_self}
+use Rattle.merge_worlds.specs.Shared.{shared_count, is_shared, sharing}
+use Rattle.merge_worlds.proofs.Chosen.{place_back, past_end}
+use Rattle.merge_worlds.proofs.SpaceLaws.{SpaceLaws}
+
+-- ---- kinds ----
+
+kind_is : (k l : Kind) → same_kind k l ≡ true → l ≡ k
+kind_is Functions Functions h = refl
+kind_is Tables Tables h = refl
+kind_is Memories Memories h = refl
+kind_is Globals Globals h = refl
+kind_is Functions Tables h = cc
+kind_is Functions Memories h = cc
+kind_is Functions Globals h = cc
+kind_is Tables Functions h = cc
+kind_is Tables Memories h = cc
+kind_is Tables Globals h = cc
+kind_is Memories Functions h = cc
+kind_is Memories Tables h = cc
+kind_is Memories Globals h = cc
+kind_is Globals Functions h = cc
+kind_is Globals Tables h = cc
+kind_is Globals Memories h = cc
+
+abbrev pub kind_in : Kind → to.Kind
+kind_in Functions = to.Funcs
+kind_in Tables = to.Tables
+kind_in Memories = to.Mems
+kind_in Globals = to.Globals
+
+entry_index : (k : Kind) (x : ℕ) → index_of_export (entry_of k x) ≡ x
+entry_index Functions x = refl
+entry_index Tables x = refl
+entry_index Memories x = refl
+entry_index Globals x = refl
+
+address_at : (k : Kind) (a : ℕ) → address_of k (thing_at k a) ≡ Some a
+address_at Functions a = refl
+address_at Tables a = refl
+address_at Memories a = refl
+address_at Globals a = refl
+
+-- ---- counting by part ----
+
+-- what the first parts and one more have, all have
+pub before_low : (count : Module → ℕ) (parts : List Part) (p : ℕ) (m : Module) → module_at parts p ≡ Some m → before count parts p + count m ≤ before count parts (length parts)
+before_low count [] p m e = absurd (let k = e in cc)
+before_low count (part ∷ parts) zero m e = let same : part.«module» ≡ m = cc in let n = ap count same in omega (arith, n)
+before_low count (part ∷ parts) (suc p) m e = let l = before_low count parts p m e in omega (arith, l)
+
+pub defined_low : (k : Kind) (parts : List Part) (p : ℕ) (m : Module) → module_at parts p ≡ Some m → defined_before k parts p + defined_count k m ≤ defined_before k parts (length parts)
+defined_low k parts p m e =
+    let l = before_low (defined_count k) parts p m e in
+    let a = defined_is k parts p in
+    let b = defined_is k parts (length parts) in
+    omega (arith, l, a, b)
+
+-- ---- imports of a part ----
+
+pub record IsImport (k : Kind) (m : Module) (n : ℕ) : Type 0 where
+  pub import : Import
+  pub at : place m.imports n ≡ Some import
+  pub kind : kind_of_import import.desc ≡ k
+
+pub import_there : (k : Kind) (m : Module) (x n : ℕ) → place (imports_of k m) x ≡ Some n → IsImport k m n
+import_there k m x n h =
+    let r = place_back (has_kind k) m.imports 0 x n h in
+    let same : n ≡ r.0 = (let d = r.2 in omega (arith, d)) in
+    record { import = r.1; at = ap (place m.imports) same ∙ r.3; kind = kind_is k (kind_of_import r.1.desc) r.4 }
+
+-- ---- the environment's own ----
+
+found_at : (is : OwnKey → Bool) (xs : Owned) (x : Thing) → given (look_up is xs) ≡ Some x → (n : ℕ) × (key : OwnKey) × (place xs n ≡ Some (key, x))
+found_at is [] x h = absurd (let k = h in cc)
+found_at is (y ∷ xs) x h = by (is y.0) h (λ h. found_at is xs x h)
+  where
+    by : (b : Bool) → given (cond b (Gives y.1) (look_up is xs)) ≡ Some x → (given (look_up is xs) ≡ Some x → (n : ℕ) × (key : OwnKey) × (place xs n ≡ Some (key, x))) → (n : ℕ) × (key : OwnKey) × (place (y ∷ xs) n ≡ Some (key, x))
+    by true h on = let same : y.1 ≡ x = cc in (0, y.0, ap {A = Thing} {B = Option (OwnKey × Thing)} (λ z. Some (y.0, z)) same)
+    by false h on = let r = on h in (suc r.0, r.1, r.2)
+
+thing_self : (R : Pairing) (xs : Owned) → ListRel (KeyRel R) xs xs → (is : OwnKey → Bool) (x : Thing) → given (look_up is xs) ≡ Some x → ThingRel R x x
+thing_self R xs r is x h =
+    let f = found_at is xs x h in
+    let k : KeyRel R (f.1, x) (f.1, x) = opt_self (place_rel r f.0) f.2 in
+    k.thing
+
+address_rel : (R : Pairing) (k : Kind) {x y : Thing} → ThingRel R x y → OptRel (R.of (kind_in k)) (address_of k x) (address_of k y)
+address_rel R Functions (a_func p) = some p
+address_rel R Tables (a_table p) = some p
+address_rel R Memories (a_memory p) = some p
+address_rel R Globals (a_global p) = some p
+address_rel R k p = none
+
+module _ (env : Environment) (parts : List Part) where
+  -- all that parts define of a kind
+  abbrev pub total : Kind → ℕ
+  total k = defined_before k parts (length parts)
+
+  pub shared_is : (k : Kind) → shared_count env parts (kind_in k) ≡ own_count k env + total k
+  shared_is Functions = refl
+  shared_is Tables = refl
+  shared_is Memories = refl
+  shared_is Globals = refl
+
+  pub is_shared_at : (k : to.Kind) (a : ℕ) → a < shared_count env parts k → is_shared env parts k a a ≡ true
+  is_shared_at k a l = ap₂ (λ b c. cond b c false) (eq-eqb a a refl) (lt-ltb a (shared_count env parts k) l)
+
+  pub shared_low : (k : to.Kind) (a b : ℕ) → is_shared env parts k a b ≡ true → a < shared_count env parts k
+  shared_low k a b h = by (nat_eq a b) h
+    where
+      by : (c : Bool) → cond c (nat_lt a (shared_count env parts k)) false ≡ true → a < shared_count env parts k
+      by true h = ltb-true a (shared_count env parts k) h
+      by false h = cc
+
+  pub shares_own : SharesOwn (sharing env parts) env
+  shares_own = record {
+    funcs = λ a l. is_shared_at to.Funcs a (omega (arith, l));
+    tables = λ a l. is_shared_at to.Tables a (omega (arith, l));
+    mems = λ a l. is_shared_at to.Mems a (omega (arith, l));
+    globals = λ a l. is_shared_at to.Globals a (omega (arith, l));
+  }
+
+  -- ---- addresses ----
+
+  -- the address of an import of a part
+  abbrev pub import_address : Kind → ℕ → ℕ → Option ℕ
+  import_address k p n = then_some (imported_thing env parts (record { part = p; import = n })) (address_of k)
+
+  -- the address of the environment's entity for which an import stands that stays
+  abbrev pub site_address : Kind → Site → Option ℕ
+  site_address k s = then_some (outside_thing (owned_of env) parts s) (address_of k)
+
+  -- which is one of the first
+  pub site_low : OwnEntitiesCorrespond → (k : Kind) (s : Site) (a : ℕ) → site_address k s ≡ Some a → a < shared_count env parts (kind_in k)
+  site_low law k s a h =
+      let x = then_is (outside_thing (owned_of env) parts s) (address_of k) a h in
+      let m = then_is (module_at parts s.part) _ x.0 x.1 in
+      let i = then_is (import_at parts s) _ x.0 m.2 in
+      let key = then_is (own_key m.0 i.0) _ x.0 i.2 in
+      let r = thing_self (sharing env parts) (owned_of env) (law (is_shared env parts) env shares_own).owned (same_key key.0) x.0 key.2 in
+      let b : is_shared env parts (kind_in k) a a ≡ true = opt_self (address_rel (sharing env parts) k r) x.2 in
+      shared_low (kind_in k) a a b
+
+  -- an address in the parts' world, and an index of the merged module, of one entity
+  pub data Stands (k : Kind) (address : Option ℕ) (index : ℕ) : Type 0 where
+    own : (d : ℕ) → d < total k → address ≡ Some (own_count k env + d) → index ≡ length (staying_of parts k) + d → Stands k address index
+    stays : (u : Site) → place (staying_of parts k) index ≡ Some u → address ≡ site_address k u → Stands k address index
+
+  module _ (laws : SpaceLaws) (linked : link_fault parts ≡ None) where
+    inside_stands : (k : Kind) (p : ℕ) (m : Module) (x n : ℕ) (i : Import) → module_at parts p ≡ Some m → place (imports_of k m) x ≡ Some n → kind_of_import i.desc ≡ k → EndsInside parts (record { part = p; import = n }) i → Stands k (import_address k p n) (new_index parts p k x)
+    inside_stands k p m x n i is h kind w =
+        let e = w.entity in
+        let j = index_of_export e.what - length (imports_of k w.of) in
+        let d = defined_before k parts e.part + j in
+        let follows = subst (λ k. length (imports_of k w.of) ≤ index_of_export e.what) kind w.follows in
+        let within = subst (λ k. index_of_export e.what < length (imports_of k w.of) + defined_count k w.of) kind w.within in
+        let low = defined_low k parts e.part w.of w.is_part in
+        let same : kind_of_export e.what ≡ k = w.kind ∙ kind in
+        let thing : then_some (defined_thing env parts e) (address_of k) ≡ Some (base env parts k e.part + j) =
+        ap (λ o. then_some (then_some o (λ m. Some (thing_at (kind_of_export e.what) (base env parts (kind_of_export e.what) e.part + (index_of_export e.what - length (imports_of (kind_of_export e.what) m)))))) (address_of k)) w.is_part
+        ∙ ap (λ l. address_of k (thing_at l (base env parts l e.part + (index_of_export e.what - length (imports_of l w.of))))) same
+        ∙ address_at k (base env parts k e.part + j) in
+        let number : base env parts k e.part + j ≡ own_count k env + d = omega arith in
+        own d (omega (arith, follows, within, low))
+        (ap (λ o. then_some (then_some o (thing_of env parts)) (address_of k)) w.end ∙ thing ∙ ap Some number)
+        ((laws.indices parts p m k x is).0 n (Defined e) h w.linked ∙ laws.defined parts e w.of k w.is_part)
+
+    outside_stands : (k : Kind) (p : ℕ) (m : Module) (x n : ℕ) (i : Import) → module_at parts p ≡ Some m → place (imports_of k m) x ≡ Some n → kind_of_import i.desc ≡ k → EndsOutside parts (record { part = p; import = n }) i → Stands k (import_address k p n) (new_index parts p k x)
+    outside_stands k p m x n i is h kind w =
+        stays w.to (ap (place (staying_of parts k)) ((laws.indices parts p m k x is).0 n (Outside w.to) h w.linked) ∙ laws.places parts w.to w.import w.at w.remains k (w.kind ∙ kind))
+        (ap (λ o. then_some (then_some o (thing_of env parts)) (address_of k)) w.end ∙ ap (λ o. then_some o (address_of k)) (w.same_thing (owned_of env)))
+
+    -- an import of a part
+    pub import_stands : (k : Kind) (p : ℕ) (m : Module) (x n : ℕ) → module_at parts p ≡ Some m → place (imports_of k m) x ≡ Some n → Stands k (import_address k p n) (new_index parts p k x)
+    import_stands k p m x n is h =
+        let i = import_there k m x n h in
+        by i.import i.kind (laws.ends parts linked (record { part = p; import = n }) i.import (ap (λ o. then_some o (λ m. place m.imports n)) is ∙ i.at))
+      where
+        by : (i : Import) → kind_of_import i.desc ≡ k → Ended parts (record { part = p; import = n }) i → Stands k (import_address k p n) (new_index parts p k x)
+        by i kind (inside w) = inside_stands k p m x n i is h kind w
+        by i kind (outside w) = outside_stands k p m x n i is h kind w
+
+    -- what a part defines
+    pub own_stands : (k : Kind) (p : ℕ) (m : Module) (x j : ℕ) → module_at parts p ≡ Some m → x ≡ length (imports_of k m) + j → j < defined_count k m → Stands k (Some (base env parts k p + j)) (new_index parts p k x)
+    own_stands k p m x j is at l =
+        let low = defined_low k parts p m is in
+        let d = defined_before k parts p + j in
+        let number : base env parts k p + j ≡ own_count k env + d = omega arith in
+        let back : index_of_export (entry_of k x) - length (imports_of k m) ≡ j = (let e = entry_index k x in omega (arith, e, at)) in
+        own d (omega (arith, low, l)) (ap Some number)
+        ((laws.indices parts p m k x is).1 (past_end (imports_of k m) x (omega (arith, at))) ∙ laws.defined parts (record { part = p; what = entry_of k x }) m k is
+        ∙ ap (λ j. length (staying_of parts k) + (defined_before k parts p + j)) back)

@@ -1,0 +1,120 @@
+-- The functions that the parts start, and what the merged module starts: the same one, or none, or the one function that calls them.
+use Rattle.std.proofs.Common.{◌≡◌, ◌∙◌, ap, ap₂, sym, subst, refl, ℕ, suc, ◌+◌, ◌<◌, List, [], ◌∷◌, ◌++◌, length, Option, Some, None, true, arith}
+use Rattle.std.specs.Prelude.{slice_index}
+use Rattle.std.proofs.lemmas.Bool.{ltb-true}
+use Rattle.wasm_tree.specs.declared.module.Module.{Module}
+use Rattle.wasm_tree.specs.Spaces.{funcs_of}
+use Rattle.wasm_meaning.specs.State.{Text, Inst}
+use Rattle.wasm_meaning.specs.Linking.{Part, Functions, place, module_at}
+use Rattle.wasm_meaning.specs.Environment.{Environment}
+use Rattle.wasm_meaning.specs.World.{own_count, defined_before, one_place, start_in, starts_of, numbers, inst_of, insts_from}
+use Rattle.index_remap.specs.Renumbered.{fits_start}
+use Rattle.index_remap.specs.Related.{Funcs, ListRel, nil, cons}
+use Rattle.index_remap.proofs.Rel.{append_rel}
+use Rattle.export_names.specs.declared.mode.Mode.{Mode}
+use Rattle.merge_terms.specs.Faults.{link_fault}
+use Rattle.merge_terms.specs.Merged.{merged, map_of, new_index, start_of, starts, start_among, staying_of, by_part_from, start_calls}
+use Rattle.merge_terms.specs.Joined.{joined_module}
+use Rattle.merge_validity.specs.Ended.{added_count}
+use Rattle.merge_validity.proofs.Lists.{then_is}
+use Rattle.permuted_worlds.specs.Alone.{one}
+use Rattle.permuted_worlds.proofs.Places.{map_length, numbers_length, place_numbers, place_right, all_length}
+use Rattle.merge_worlds.specs.Shared.{shared_count, sharing}
+use Rattle.merge_worlds.specs.Instances.{PartAgrees, InstancesAgree}
+use Rattle.merge_worlds.proofs.SpaceLaws.{SpaceLaws}
+use Rattle.merge_worlds.proofs.Instancing.{inst_is}
+use Rattle.merge_worlds.proofs.Standing.{site_address, is_shared_at}
+use Rattle.merge_worlds.proofs.MergedAlone.{joined_keeps, names_of}
+use Rattle.merge_worlds.proofs.Instances.{map_entry, map_funcs, merged_part}
+use Rattle.merge_worlds.proofs.Named.{AllFit, start_fits}
+
+-- an address, and the index by which the merged module's instance names it
+pub record IsNamed (env : Environment) (parts : List Part) (j : Inst) (a f : ℕ) : Type 0 where
+  pub names : place j.funcs f ≡ Some a
+  pub shared : a < shared_count env parts Funcs
+
+-- what the parts start one after the other, what is started of the merged module, and the new indices of the parts' starts
+pub record StartsAgree (env : Environment) (parts : List Part) (j : Inst) (several joined : List ℕ) : Type 0 where
+  pub named : ListRel (IsNamed env parts j) several (starts parts)
+  pub shared : ListRel ((sharing env parts).of Funcs) several several
+  -- where at most one part has a start
+  pub few : length (starts parts) < 2 → joined ≡ several
+  -- where several have one, the function that calls them, which comes last
+  pub calls : (f g : ℕ) (fs : List ℕ) → starts parts ≡ f ∷ g ∷ fs → joined ≡ shared_count env parts Funcs ∷ []
+
+merged_start_is : (parts : List Part) (names : List (Option Text)) → (merged parts names).start ≡ start_among (length (staying_of parts Functions) + defined_before Functions parts (length parts)) (starts parts)
+unfolding merged
+merged_start_is parts names = refl
+
+-- ---- several starts ----
+
+starts_by : (P : ℕ → ℕ → Type 0) (parts : List Part) (first : ℕ) (rest : List Part) (is : List Inst) → ((q : ℕ) (m : Module) → module_at rest q ≡ Some m → (i : Inst) × (place is q ≡ Some i) × ListRel P (start_in i m.start) (start_of parts (first + q) m.start)) →
+    ListRel P (starts_of rest is) (by_part_from (λ p m. start_of parts p m.start) first rest)
+starts_by P parts first [] is h = nil
+starts_by P parts first (part ∷ rest) [] h = absurd (let x = h 0 part.«module» refl in let z = x.1 in cc)
+starts_by P parts first (part ∷ rest) (i ∷ is) h =
+    let x = h 0 part.«module» refl in
+    let same : i ≡ x.0 = (let z = x.1 in cc) in
+    let here : first + 0 ≡ first = omega arith in
+    append_rel (subst (λ i. ListRel P (start_in i part.«module».start) (start_of parts first part.«module».start)) (sym same) (subst (λ n. ListRel P (start_in x.0 part.«module».start) (start_of parts n part.«module».start)) here x.2))
+    (starts_by P parts (suc first) rest is (λ q m e.
+    let y = h (suc q) m e in
+    let n : first + suc q ≡ suc first + q = omega arith in
+    (y.0, y.1, subst (λ n. ListRel P (start_in y.0 m.start) (start_of parts n m.start)) n y.2)))
+
+shared_with_self : (env : Environment) (parts : List Part) (j : Inst) {several fs : List ℕ} → ListRel (IsNamed env parts j) several fs → ListRel ((sharing env parts).of Funcs) several several
+shared_with_self env parts j nil = nil
+shared_with_self env parts j (cons {a = a} w r) = cons (is_shared_at env parts Funcs a w.shared) (shared_with_self env parts j r)
+
+few_starts : (env : Environment) (parts : List Part) (j : Inst) (n : ℕ) {several fs : List ℕ} → ListRel (IsNamed env parts j) several fs → length fs < 2 → start_in j (start_among n fs) ++ [] ≡ several
+few_starts env parts j n nil l = refl
+few_starts env parts j n (cons w nil) l = ap (λ o. one_place o ++ []) w.names
+few_starts env parts j n (cons w (cons v r)) l = absurd (omega (arith, l))
+
+module _ (laws : SpaceLaws) (env : Environment) (parts : List Part) (linked : link_fault parts ≡ None) (mode : Mode) (fit : AllFit parts) (insts js : List Inst) (agree : InstancesAgree env parts insts js) where
+  abbrev J : Module
+  J = joined_module parts mode
+
+  one_named : (p : ℕ) (m : Module) (i : Inst) → PartAgrees env parts p m i agree.merged → (start : Option ℕ) → fits_start (map_of parts p m) start ≡ true → ListRel (IsNamed env parts agree.merged) (start_in i start) (start_of parts p start)
+  one_named p m i agrees None h = nil
+  one_named p m i agrees (Some f) h =
+      let low = ltb-true _ _ h in
+      let s = agrees.funcs.each f low in
+      let many : length (map_of parts p m).funcs ≡ length (funcs_of m) = ap length (map_funcs parts p m) ∙ map_length (new_index parts p Functions) (numbers 0 (length (funcs_of m))) ∙ numbers_length 0 (length (funcs_of m)) in
+      let entry : slice_index (map_of parts p m).funcs f ≡ new_index parts p Functions f = map_entry parts p Functions (map_of parts p m).funcs (length (funcs_of m)) (map_funcs parts p m) f (omega (arith, low, many)) in
+      subst (λ o. ListRel (IsNamed env parts agree.merged) (one_place o) (new_index parts p Functions f ∷ [])) (sym s.first)
+      (cons (record { names = ap (place agree.merged.funcs) (sym entry) ∙ s.second; shared = s.shared }) nil)
+
+  all_named : ListRel (IsNamed env parts agree.merged) (starts_of parts insts) (starts parts)
+  unfolding starts
+  all_named = starts_by (IsNamed env parts agree.merged) parts 0 parts insts (λ p m is.
+      let i = agree.each p m is in
+      let from_0 : 0 + p ≡ p = omega arith in
+      (i.0, i.1, subst (λ n. ListRel (IsNamed env parts agree.merged) (start_in i.0 m.start) (start_of parts n m.start)) (sym from_0) (one_named p m i.0 i.2 m.start (start_fits (map_of parts p m) m (fit p m is)))))
+
+  joined_starts : starts_of (one J) js ≡ start_in agree.merged (start_among (length (staying_of parts Functions) + defined_before Functions parts (length parts)) (starts parts)) ++ []
+  joined_starts = ap (starts_of (one J)) agree.alone ∙ ap (λ o. start_in agree.merged o ++ []) ((joined_keeps parts mode).start ∙ merged_start_is parts (names_of parts mode))
+
+  -- where the merged module has a function more, the instance names it by its last index
+  pub last_named : insts_from env (one J) 0 (one J) ≡ Some js → (f g : ℕ) (fs : List ℕ) → starts parts ≡ f ∷ g ∷ fs → place agree.merged.funcs (length (staying_of parts Functions) + defined_before Functions parts (length parts)) ≡ Some (shared_count env parts Funcs)
+  last_named there f g fs e =
+      let j = then_is (inst_of env (one J) 0 J) _ js there in
+      let q = j.2 in
+      let both : j.0 ∷ [] ≡ js = cc in
+      let lists : j.0 ∷ [] ≡ agree.merged ∷ [] = both ∙ agree.alone in
+      let same : j.0 ≡ agree.merged = cc in
+      let s = merged_part laws env parts linked mode Functions j.0.funcs (inst_is env (one J) 0 J j.0 j.1).funcs in
+      let many = all_length (site_address env parts Functions) (staying_of parts Functions) s.imported s.are in
+      let total = defined_before Functions parts (length parts) in
+      let more : added_count parts Functions ≡ 1 = ap (λ fs. length (start_calls parts fs)) e in
+      let at : length (staying_of parts Functions) + total ≡ length s.imported + total = omega (arith, many) in
+      ap (λ (i : Inst). place i.funcs (length (staying_of parts Functions) + total)) (sym same)
+      ∙ ap₂ (λ l n. place l n) s.all at ∙ place_right s.imported _ total ∙ place_numbers (own_count Functions env) (total + added_count parts Functions) total (omega (arith, more))
+
+  pub starts_agree : insts_from env (one J) 0 (one J) ≡ Some js → StartsAgree env parts agree.merged (starts_of parts insts) (starts_of (one J) js)
+  starts_agree there = record {
+    named = all_named;
+    shared = shared_with_self env parts agree.merged all_named;
+    few = λ l. joined_starts ∙ few_starts env parts agree.merged _ all_named l;
+    calls = λ f g fs e. joined_starts ∙ ap (λ fs. start_in agree.merged (start_among (length (staying_of parts Functions) + defined_before Functions parts (length parts)) fs) ++ []) e ∙ ap (λ o. one_place o ++ []) (last_named there f g fs e);
+  }

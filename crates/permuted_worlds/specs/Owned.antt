@@ -1,0 +1,24 @@
+-- The environment's own entities in two worlds where each has its address: they correspond, and so do the tables and globals that are allocated for them.
+use Rattle.std.specs.Prelude.{ℕ, ◌<◌, [], Bool}
+use Rattle.wasm_meaning.specs.Linking.{Functions, Tables, Memories, Globals}
+use Rattle.wasm_meaning.specs.Environment.{Environment, owned_of, own_tables, own_globals}
+use Rattle.wasm_meaning.specs.World.{own_count}
+use Rattle.index_remap.specs.Related.{Kind, Funcs, Mems, Pairing, ListRel, TableRel, GlobalRel}
+use Rattle.index_remap.specs.Related as to
+use Rattle.index_remap.specs.RelatedRuns.{KeyRel}
+use Rattle.index_remap.specs.Laws.{passed}
+
+-- each of the first addresses stands for itself
+pub record SharesOwn (R : Pairing) (env : Environment) : Type 0 where
+  pub funcs : (a : ℕ) → a < own_count Functions env → R.of Funcs a a
+  pub tables : (a : ℕ) → a < own_count Tables env → R.of to.Tables a a
+  pub mems : (a : ℕ) → a < own_count Memories env → R.of Mems a a
+  pub globals : (a : ℕ) → a < own_count Globals env → R.of to.Globals a a
+
+pub record OwnCorrespond (R : Pairing) (env : Environment) : Type 0 where
+  pub owned : ListRel (KeyRel R) (owned_of env) (owned_of env)
+  pub tables : ListRel (TableRel R) (own_tables env) (own_tables env)
+  pub globals : ListRel (GlobalRel R) (own_globals env) (own_globals env)
+
+abbrev pub OwnEntitiesCorrespond : Type 0
+OwnEntitiesCorrespond = (of : Kind → ℕ → ℕ → Bool) (env : Environment) → SharesOwn (passed of of []) env → OwnCorrespond (passed of of []) env

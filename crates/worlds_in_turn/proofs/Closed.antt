@@ -1,0 +1,184 @@
+-- A store that refers to nothing beyond what the environment and the first parts have, and what a part adds to it.
+use Rattle.std.proofs.Common.{◌≡◌, ◌∙◌, refl, sym, ap, ap₂, subst, ℕ, zero, suc, ◌+◌, ◌-◌, ◌*◌, ◌<◌, ◌≤◌, List, [], ◌∷◌, ◌++◌, map, length, Option, Some, None, Bool, true, false, cond, arith}
+use Rattle.wasm_tree.specs.declared.types.Limits.{Limits}
+use Rattle.wasm_tree.specs.declared.types.RefType.{RefType}
+use Rattle.wasm_tree.specs.declared.types.RefType.TheVariants as reft
+use Rattle.wasm_tree.specs.declared.types.TableType.{TableType}
+use Rattle.wasm_tree.specs.declared.types.FuncType.{FuncType}
+use Rattle.wasm_tree.specs.declared.instr.Instr.{Instr}
+use Rattle.wasm_tree.specs.declared.module.ConstExpr.{ConstExpr}
+use Rattle.wasm_tree.specs.declared.module.ConstExpr.TheVariants as const
+use Rattle.wasm_tree.specs.declared.module.Func as tree
+use Rattle.wasm_tree.specs.declared.module.GlobalDef.{GlobalDef}
+use Rattle.wasm_tree.specs.declared.module.ElemSeg.{ElemSeg}
+use Rattle.wasm_tree.specs.declared.module.ElemMode.{ElemMode}
+use Rattle.wasm_tree.specs.declared.module.ElemMode.TheVariants as elem
+use Rattle.wasm_tree.specs.declared.module.Module.{Module}
+use Rattle.wasm_num.specs.Operations.{W32, W64}
+use Rattle.wasm_meaning.specs.Outcomes.{Gives, at, copies}
+use Rattle.wasm_meaning.specs.State.{RefVal, FuncRef, Val, Num, Ref, Inst, Func, Code, Own, Table, Memory, Global, Elem, Data, Store}
+use Rattle.wasm_meaning.specs.Values.{null_of, declared, ref_of}
+use Rattle.wasm_meaning.specs.Linking.{Part, Functions, Tables, Memories, Globals, place, then_some}
+use Rattle.wasm_meaning.specs.Environment.{Environment, own_funcs, flat}
+use Rattle.wasm_meaning.specs.World.{given, all_there, new_func, global_with, new_elem, elem_with, store_with, const_value}
+use Rattle.index_remap.specs.Related.{Kind, Funcs, Mems, Elems, Datas, Pairing, OptRel, none, some, ListRel, nil, cons, RefRel, func, extern, ValRel, number, reference, CodeRel, FuncRel, defined, own, TableRel, GlobalRel, ElemRel}
+use Rattle.index_remap.specs.Related as to
+use Rattle.index_remap.specs.Laws.{NamesItself, CodeIsRelatedToItself}
+use Rattle.index_remap.proofs.Rel.{append_rel, copies_rel}
+use Rattle.worlds_in_turn.proofs.Things.{then_is, some_is, space_in}
+use Rattle.worlds_in_turn.proofs.Reached.{count_upto, is_reached, reaching, reached_at, reached_is}
+
+-- ---- more is reached later ----
+
+module _ (R Q : Pairing) (more : (k : Kind) (a b : ℕ) → R.of k a b → Q.of k a b) where
+  ref_more : {r s : RefVal} → RefRel R r s → RefRel Q r s
+  ref_more (func none) = func none
+  ref_more (func (some p)) = func (some (more Funcs _ _ p))
+  ref_more extern = extern
+
+  pub val_more : {v w : Val} → ValRel R v w → ValRel Q v w
+  val_more number = number
+  val_more (reference r) = reference (ref_more r)
+
+  pub list_more : {A B : Type 0} {P P' : A → B → Type 0} {xs : List A} {ys : List B} → ((a : A) (b : B) → P a b → P' a b) → ListRel P xs ys → ListRel P' xs ys
+  list_more h nil = nil
+  list_more h (cons p r) = cons (h _ _ p) (list_more h r)
+
+  pub table_more : (t u : Table) → TableRel R t u → TableRel Q t u
+  table_more t u r = record { type = r.type; most = r.most; slots = list_more (λ _ _ p. ref_more p) r.slots }
+
+  pub global_more : (g h : Global) → GlobalRel R g h → GlobalRel Q g h
+  global_more g h r = record { type = r.type; value = val_more r.value }
+
+  pub elem_more : (e f : Elem) → ElemRel R e f → ElemRel Q e f
+  elem_more e f r = record { items = list_more (λ _ _ p. ref_more p) r.items }
+
+-- what stands in such a store refers to itself
+pub record Closed (R : Pairing) (t : Store) : Type 0 where
+  pub funcs : ListRel (FuncRel R) t.funcs t.funcs
+  pub tables : ListRel (TableRel R) t.tables t.tables
+  pub globals : ListRel (GlobalRel R) t.globals t.globals
+  pub elems : ListRel (ElemRel R) t.elems t.elems
+
+-- ---- one part ----
+
+self_list : {A : Type 0} {P : A → A → Type 0} (xs : List A) → ((x : A) → P x x) → ListRel P xs xs
+self_list [] h = nil
+self_list (x ∷ xs) h = cons (h x) (self_list xs h)
+
+map_self : {A B : Type 0} {P : B → B → Type 0} (f : A → B) (xs : List A) → ((x : A) → P (f x) (f x)) → ListRel P (map f xs) (map f xs)
+map_self f [] h = nil
+map_self f (x ∷ xs) h = cons (h x) (map_self f xs h)
+
+-- each of what is all there
+all_self : {A B : Type 0} {P : B → B → Type 0} (f : A → Option B) (xs : List A) (ys : List B) → all_there f xs ≡ Some ys → ((x : A) (y : B) → f x ≡ Some y → P y y) → ListRel P ys ys
+all_self {P = P} f [] ys h g = subst (λ l. ListRel P l l) (some_is h) nil
+all_self {P = P} f (x ∷ xs) ys h g =
+    let a = then_is (f x) _ ys h in
+    let b = then_is (all_there f xs) _ ys a.2 in
+    subst (λ l. ListRel P l l) (some_is b.2) (cons (g x a.0 a.1) (all_self f xs b.0 b.1 g))
+
+pub null_self : (R : Pairing) (t : RefType) → RefRel R (null_of t) (null_of t)
+null_self R reft.Func = func none
+null_self R reft.Extern = extern
+
+-- addresses that an instance has are reached
+pub record Reaches (env : Environment) (parts : List Part) (p : ℕ) (i : Inst) : Type 0 where
+  pub spaces : (k : Rattle.wasm_meaning.specs.Linking.Kind) (n a : ℕ) → place (space_in i k) n ≡ Some a → a < Rattle.wasm_meaning.specs.World.base env parts k p
+  pub elems : (n a : ℕ) → place i.elems n ≡ Some a → a < count_upto env parts p Elems
+  pub datas : (n a : ℕ) → place i.datas n ≡ Some a → a < count_upto env parts p Datas
+
+at_is_place : {A : Type 0} (xs : List A) (n : ℕ) (x : A) → at xs n ≡ Gives x → place xs n ≡ Some x
+at_is_place [] n x e = cc
+at_is_place (y ∷ ys) zero x e = let s : y ≡ x = cc in ap Some s
+at_is_place (y ∷ ys) (suc n) x e = at_is_place ys n x e
+
+place_is_at : {A : Type 0} (xs : List A) (n : ℕ) (x : A) → place xs n ≡ Some x → at xs n ≡ Gives x
+place_is_at [] n x e = cc
+place_is_at (y ∷ ys) zero x e = ap Gives (some_is e)
+place_is_at (y ∷ ys) (suc n) x e = place_is_at ys n x e
+
+pub names_itself : (env : Environment) (parts : List Part) (p : ℕ) (i : Inst) → Reaches env parts p i → NamesItself (reaching env parts p) i
+names_itself env parts p i r = record {
+  funcs = λ n a e. reached_at env parts p Funcs a (r.spaces Functions n a (at_is_place i.funcs n a e));
+  tables = λ n a e. reached_at env parts p to.Tables a (r.spaces Tables n a (at_is_place i.tables n a e));
+  mems = λ n a e. reached_at env parts p Mems a (r.spaces Memories n a (at_is_place i.mems n a e));
+  globals = λ n a e. reached_at env parts p to.Globals a (r.spaces Globals n a (at_is_place i.globals n a e));
+  elems = λ n a e. reached_at env parts p Elems a (r.elems n a (at_is_place i.elems n a e));
+  datas = λ n a e. reached_at env parts p Datas a (r.datas n a (at_is_place i.datas n a e));
+}
+
+-- functions of the environment's own, and code over an instance that reaches no further
+pub data Sound (env : Environment) (parts : List Part) (p : ℕ) : Func → Type 0 where
+  own_func : {pair : _} {t : FuncType} → Sound env parts p (Own pair t)
+  code : {t : FuncType} {i : Inst} {ls : List _} {c : List Instr} → Reaches env parts p i → Sound env parts p (Code t i ls c)
+
+pub func_self : CodeIsRelatedToItself → (env : Environment) (parts : List Part) (p : ℕ) (f : Func) → Sound env parts p f → FuncRel (reaching env parts p) f f
+func_self law env parts p f own_func = own
+func_self law env parts p f (code {i = i} {c = c} r) = defined (law (is_reached env parts p) (is_reached env parts p) [] i c (names_itself env parts p i r))
+
+module _ (law : CodeIsRelatedToItself) (env : Environment) (parts : List Part) (p : ℕ) (m : Module) (i : Inst) (globals : List Global) (reaches : Reaches env parts p i) (values : (a : ℕ) (g : Global) → place globals a ≡ Some g → ValRel (reaching env parts p) g.value g.value) where
+  abbrev R : Pairing
+  R = reaching env parts p
+
+  value_self : (e : ConstExpr) (v : Val) → const_value globals i e ≡ Some v → ValRel (reaching env parts p) v v
+  value_self (const.I32 z) v h = subst (λ v. ValRel (reaching env parts p) v v) (some_is h) number
+  value_self (const.I64 z) v h = subst (λ v. ValRel (reaching env parts p) v v) (some_is h) number
+  value_self (const.Null t) v h = subst (λ v. ValRel (reaching env parts p) v v) (some_is h) (reference (null_self (reaching env parts p) t))
+  value_self (const.Func f) v h =
+      let a = then_is (place i.funcs f) _ v h in
+      subst (λ v. ValRel (reaching env parts p) v v) (some_is a.2) (reference (func (some (reached_at env parts p Funcs a.0 (reaches.spaces Functions f a.0 a.1)))))
+  value_self (const.Global x) v h =
+      let a = then_is (place i.globals x) _ v h in
+      let g = then_is (place globals a.0) _ v a.2 in
+      subst (λ v. ValRel (reaching env parts p) v v) (some_is g.2) (values a.0 g.0 g.1)
+
+  global_self : (g : GlobalDef) (h : Global) → global_with (const_value globals i) g ≡ Some h → GlobalRel (reaching env parts p) h h
+  global_self g h e =
+      let v = then_is (const_value globals i g.init) _ h e in
+      subst (λ h. GlobalRel (reaching env parts p) h h) (some_is v.2) (record { type = refl; value = value_self g.init v.0 v.1 })
+
+  item_self : (e : ConstExpr) (r : RefVal) → then_some (const_value globals i e) (λ v. given (ref_of v)) ≡ Some r → RefRel (reaching env parts p) r r
+  item_self e r h =
+      let v = then_is (const_value globals i e) _ r h in
+      go v.0 (value_self e v.0 v.1) v.2
+    where
+      go : (v : Val) → ValRel (reaching env parts p) v v → given (ref_of v) ≡ Some r → RefRel (reaching env parts p) r r
+      go (Num w n) k h = cc
+      go (Ref s) (reference k) h = subst (λ r. RefRel (reaching env parts p) r r) (some_is h) k
+
+  elem_self : (s : ElemSeg) (e : Elem) → elem_with (const_value globals i) s ≡ Some e → ElemRel (reaching env parts p) e e
+  elem_self s e h =
+      let a = then_is (all_there (λ x. then_some (const_value globals i x) (λ v. given (ref_of v))) s.items) _ e h in
+      subst (λ e. ElemRel (reaching env parts p) e e) (some_is a.2) (go s.mode (all_self (λ x. then_some (const_value globals i x) (λ v. given (ref_of v))) s.items a.0 a.1 item_self))
+    where
+      go : (mode : ElemMode) {items : List RefVal} → ListRel (RefRel (reaching env parts p)) items items → ElemRel (reaching env parts p) (new_elem mode items) (new_elem mode items)
+      go (elem.Active x y) k = record { items = k }
+      go elem.Passive k = record { items = k }
+      go elem.Declarative k = record { items = nil }
+
+  new_sound : (f : tree.Func) (g : Func) → new_func i f ≡ Some g → Sound env parts p g
+  new_sound f g h =
+      let t = then_is (place i.types f.ty) _ g h in
+      subst (λ g. Sound env parts p g) (some_is t.2) (code reaches)
+
+  -- what a part adds refers to nothing beyond
+  pub added_closed : (t : Store) → store_with (const_value globals i) m i ≡ Some t → Closed (reaching env parts p) t
+  added_closed t h =
+      let f = then_is (all_there (new_func i) m.funcs) _ t h in
+      let g = then_is (all_there (global_with (const_value globals i)) m.globals) _ t f.2 in
+      let e = then_is (all_there (elem_with (const_value globals i)) m.elems) _ t g.2 in
+      subst (Closed (reaching env parts p)) (some_is e.2) (record {
+        funcs = all_self (new_func i) m.funcs f.0 f.1 (λ x y k. func_self law env parts p y (new_sound x y k));
+        tables = map_self (λ t. record { ty = t.ty; most = t.limits.max; slots = copies t.limits.min (null_of t.ty) }) m.tables (λ t. record { type = refl; most = refl; slots = copies_rel _ _ t.limits.min (null_self (reaching env parts p) t.ty) });
+        globals = all_self (global_with (const_value globals i)) m.globals g.0 g.1 global_self;
+        elems = all_self (elem_with (const_value globals i)) m.elems e.0 e.1 elem_self;
+      })
+
+  pub added_sound : (t : Store) → store_with (const_value globals i) m i ≡ Some t → (n : ℕ) (f : Func) → place t.funcs n ≡ Some f → Sound env parts p f
+  added_sound t h n f e =
+      let fs = then_is (all_there (new_func i) m.funcs) _ t h in
+      let g = then_is (all_there (global_with (const_value globals i)) m.globals) _ t fs.2 in
+      let es = then_is (all_there (elem_with (const_value globals i)) m.elems) _ t g.2 in
+      let b = Rattle.worlds_in_turn.proofs.Low.all_back (new_func i) m.funcs fs.0 fs.1 n f (ap (λ t. place t.funcs n) (some_is es.2) ∙ e) in
+      new_sound b.0 f b.2
