@@ -26,3 +26,4 @@ mod FillSegments
 mod FillNext
 mod FillHolds
 mod FillValid
+mod FillGiven
