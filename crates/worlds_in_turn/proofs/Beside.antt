@@ -8,7 +8,7 @@ use Rattle.wasm_meaning.specs.State.{Inst, Func, Code, Own, Table, Memory, Globa
 use Rattle.wasm_meaning.specs.Control.{type_of_func, own_of, type_at, own_at}
 use Rattle.wasm_meaning.specs.Linking.{Part, Functions, Tables, Memories, Globals, place, module_at}
 use Rattle.wasm_meaning.specs.Environment.{Environment}
-use Rattle.wasm_meaning.specs.World.{base, elems_before, datas_before, store_with, const_value, joined_stores, part_store}
+use Rattle.wasm_meaning.specs.World.{own_store, base, elems_before, datas_before, store_with, const_value, joined_stores, part_store}
 use Rattle.index_remap.specs.Related.{Kind, Funcs, Mems, Elems, Datas, Pairing, BothRel, both, ResRel, done, ListRel, nil, cons, FuncRel, TableRel, GlobalRel, ElemRel, StoreRel}
 use Rattle.index_remap.specs.Related as to
 use Rattle.index_remap.specs.Laws.{CodeIsRelatedToItself}
@@ -28,7 +28,7 @@ pub at_high : {A : Type 0} (xs ys : List A) (j : ℕ) → at (xs ++ ys) (length 
 at_high [] ys j = let e : 0 + j ≡ j = omega arith in ap (at ys) e
 at_high (x ∷ xs) ys j = let e : suc (length xs) + j ≡ suc (length xs + j) = omega arith in ap (at (x ∷ (xs ++ ys))) e ∙ at_high xs ys j
 
-both_list : {A : Type 0} {P : A → A → Type 0} {ys : List A} → ListRel P ys ys → (j : ℕ) → j < length ys → BothRel P (at ys j) (at ys j)
+pub both_list : {A : Type 0} {P : A → A → Type 0} {ys : List A} → ListRel P ys ys → (j : ℕ) → j < length ys → BothRel P (at ys j) (at ys j)
 both_list r j l = go r j l
   where
     go : {A : Type 0} {P : A → A → Type 0} {xs ys : List A} → ListRel P xs ys → (j : ℕ) → j < length xs → BothRel P (at xs j) (at ys j)
@@ -66,6 +66,7 @@ pub record Laid (env : Environment) (parts : List Part) (insts : List Inst) (all
   pub first : ℕ → Store
   pub adds : ℕ → Store
   pub rest : ℕ → Store
+  pub first_none : first 0 ≡ own_store env
   pub first_sized : (k : ℕ) → k ≤ length parts → Sized env parts k (first k)
   pub parted : (k : ℕ) → k ≤ length parts → allocated ≡ joined_stores (first k) (rest k)
   pub first_next : (k : ℕ) (m : Module) → module_at parts k ≡ Some m → first (suc k) ≡ joined_stores (first k) (adds k)
@@ -138,7 +139,7 @@ both_more h (both r) = both (h _ _ r)
 -- ---- the next part is added ----
 
 module _ (law : CodeIsRelatedToItself) (env : Environment) (parts : List Part) (insts : List Inst) (allocated : Store) (laid : Laid env parts insts allocated) (p : ℕ) (m : Module) (is_part : module_at parts p ≡ Some m) (within : suc p ≤ length parts) where
-  sizes : Sized env parts p (laid.first p)
+  pub sizes : Sized env parts p (laid.first p)
   sizes = laid.first_sized p (omega (arith, within))
 
   next_sizes : Sized env parts (suc p) (joined_stores (laid.first p) (laid.adds p))
@@ -202,6 +203,17 @@ module _ (law : CodeIsRelatedToItself) (env : Environment) (parts : List Part) (
       let c = count_more k in
       subst (λ b. is_reached env parts (suc p) k a b ≡ true) r.0 (reached_at env parts (suc p) k a (omega (arith, r.1, c)))
 
+  -- the functions of the first parts and of the next
+  pub sound_joined : (fs : List Func) → ((a : ℕ) (f : Func) → at fs a ≡ Gives f → Sound env parts p f) → ((n : ℕ) (f : Func) → place (laid.adds p).funcs n ≡ Some f → Sound env parts (suc p) f) → (a : ℕ) (f : Func) → at (fs ++ (laid.adds p).funcs) a ≡ Gives f → Sound env parts (suc p) f
+  sound_joined fs old new a f e = go (cases_lt a (length fs))
+    where
+      go : (a < length fs) ⊎ (length fs ≤ a) → Sound env parts (suc p) f
+      go (inl low) = sound_more env parts p (suc p) f base_more elems_more datas_more (old a f (sym (at_low fs (laid.adds p).funcs a low) ∙ e))
+      go (inr high) =
+          let j = a - length fs in
+          let n : length fs + j ≡ a = omega (arith, high) in
+          new j f (Rattle.worlds_in_turn.proofs.Turn.at_place (laid.adds p).funcs j f (sym (at_high fs (laid.adds p).funcs j) ∙ ap (at (fs ++ (laid.adds p).funcs)) n ∙ e))
+
   at_allocated_funcs : (j : ℕ) → j < length (laid.adds p).funcs → at allocated.funcs (base env parts Functions p + j) ≡ at (laid.adds p).funcs j
   at_allocated_funcs = stands allocated.funcs (laid.first p).funcs (laid.adds p).funcs (laid.rest p).funcs (laid.rest (suc p)).funcs (base env parts Functions p) (ap (λ s. s.funcs) whole) (ap (λ s. s.funcs) tail) sizes.funcs
 
@@ -241,7 +253,7 @@ module _ (law : CodeIsRelatedToItself) (env : Environment) (parts : List Part) (
         elems = grown t.elems (laid.adds p).elems h.sized.elems elem_count;
         datas = grown t.datas (laid.adds p).datas h.sized.datas data_count;
       };
-      sound = λ a f e. sound_at a f e (cases_lt a (length t.funcs));
+      sound = sound_joined t.funcs h.sound sound_adds;
       same_funcs = λ a l. same_at a l (cases_lt a (base env parts Functions p));
       all_funcs = h.all_funcs;
       untouched = record {
@@ -259,13 +271,6 @@ module _ (law : CodeIsRelatedToItself) (env : Environment) (parts : List Part) (
 
         grown : {A : Type 0} (xs ys : List A) {n k : ℕ} → length xs ≡ n → k ≡ n + length ys → length (xs ++ ys) ≡ k
         grown xs ys a b = let c = Rattle.worlds_in_turn.proofs.Extends.append_length xs ys in omega (arith, a, b, c)
-
-        sound_at : (a : ℕ) (f : Func) → at (t.funcs ++ (laid.adds p).funcs) a ≡ Gives f → (a < length t.funcs) ⊎ (length t.funcs ≤ a) → Sound env parts (suc p) f
-        sound_at a f e (inl low) = sound_more env parts p (suc p) f base_more elems_more datas_more (h.sound a f (sym (at_low t.funcs (laid.adds p).funcs a low) ∙ e))
-        sound_at a f e (inr high) =
-            let j = a - length t.funcs in
-            let n : length t.funcs + j ≡ a = omega (arith, high) in
-            sound_adds j f (Rattle.worlds_in_turn.proofs.Turn.at_place (laid.adds p).funcs j f (sym (at_high t.funcs (laid.adds p).funcs j) ∙ ap (at (t.funcs ++ (laid.adds p).funcs)) n ∙ e))
 
         same_at : (a : ℕ) → a < base env parts Functions (suc p) → (a < base env parts Functions p) ⊎ (base env parts Functions p ≤ a) → at (t.funcs ++ (laid.adds p).funcs) a ≡ at allocated.funcs a
         same_at a l (inl low) = at_low t.funcs (laid.adds p).funcs a (let z = h.sized.funcs in omega (arith, low, z)) ∙ h.same_funcs a low

@@ -53,6 +53,11 @@ module _ (R Q : Pairing) (more : (k : Kind) (a b : ℕ) → R.of k a b → Q.of 
   pub elem_more : (e f : Elem) → ElemRel R e f → ElemRel Q e f
   elem_more e f r = record { items = list_more (λ _ _ p. ref_more p) r.items }
 
+-- a list whose elements are related to themselves
+pub self_by : {A : Type 0} {P : A → A → Type 0} (xs : List A) → ((n : ℕ) (x : A) → at xs n ≡ Gives x → P x x) → ListRel P xs xs
+self_by [] h = nil
+self_by (x ∷ xs) h = cons (h 0 x refl) (self_by xs (λ n x e. h (suc n) x e))
+
 -- what stands in such a store refers to itself
 pub record Closed (R : Pairing) (t : Store) : Type 0 where
   pub funcs : ListRel (FuncRel R) t.funcs t.funcs

@@ -32,7 +32,7 @@ nothing_fills : (R : Pairing) (s : Store) (b : Bool) → Fills R s (record { sto
 nothing_fills R s b = record { extends = stays s; closed = λ c. c }
 
 -- what stands at one place of a list that is related to itself
-self_at : {A : Type 0} {P : A → A → Type 0} (xs : List A) (n : ℕ) (x : A) → ListRel P xs xs → at xs n ≡ Gives x → P x x
+pub self_at : {A : Type 0} {P : A → A → Type 0} (xs : List A) (n : ℕ) (x : A) → ListRel P xs xs → at xs n ≡ Gives x → P x x
 self_at {A} {P} xs n x r e = go (subst (λ o. ResRel P o o) e (at_rel r n))
   where
     go : ResRel P (Gives x) (Gives x) → P x x

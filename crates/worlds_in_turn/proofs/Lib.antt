@@ -1,4 +1,3 @@
-mod TestRel
 mod Extends
 mod StepExtends
 mod TickExtends
@@ -13,6 +12,9 @@ mod Making
 mod Filling
 mod Given
 mod Waiting
+mod Over
+mod Stages
+mod Begins
 mod FillOwned
 mod FillPaths
 mod FillAddresses

@@ -13,7 +13,7 @@ use Rattle.wasm_meaning.specs.Memory.{written, writes, store_into, load_from, gr
 use Rattle.wasm_meaning.specs.Tables.{fits, writes_table, get_slot, set_slot, grow_table, table_may_grow, fill_table, init_table, with_table}
 use Rattle.wasm_meaning.specs.Control.{call_slot, call_checked, func_ref, type_at, resume, end_level, branch, branch_if, branch_table, level_here, open_level, shape_of, open_block}
 use Rattle.wasm_meaning.specs.Step.{exec, step_code, step_levels, act}
-use Rattle.worlds_in_turn.proofs.TestRel.{OptAll, nothing, stopped, just, bind_all, any, all_at}
+use Rattle.index_remap.proofs.Rel.{OptAll, nothing, stopped, just, bind_all, any, all_at}
 use Rattle.worlds_in_turn.proofs.Extends.{TableExtends, MemoryExtends, GlobalExtends, Extending, keeps, global, memory, table, elem_drops, data_drops, overwritten_length}
 
 -- what the frame does extends the store

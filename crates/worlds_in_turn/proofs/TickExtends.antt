@@ -12,7 +12,7 @@ use Rattle.wasm_meaning.specs.Step.{changed, give_levels, give, enter, enter_at,
 use Rattle.wasm_meaning.specs.Environment.{Shown, Thing, FuncAt, TableAt, MemoryAt, GlobalAt, func_of, received, received_ref, received_all}
 use Rattle.wasm_meaning.specs.Run
 use Rattle.wasm_meaning.specs.Run.{Event, Place, Move, Call, Invoke, Take, Answer, Refuse, Grant, Deny, Get, Size, Set, Extend, Phase, Fresh, Pending, Opened, Closed, Run, Out, viewed_at, place_at, trapped_at, trapped_to, showing, after, called, is_mark, delivered, answered, refused, grown_memory, grown_table, with_change, granted, decided, shows, got, size_of, does, byte_of, set, extended, moved, at_entries, or_bad, or_closed, next_move, nothing_in, started, open_next, is_taken_closed, closed_move, in_phase, tick_at, tick}
-use Rattle.worlds_in_turn.proofs.TestRel.{OptAll, nothing, stopped, just}
+use Rattle.index_remap.proofs.Rel.{OptAll, nothing, stopped, just}
 use Rattle.worlds_in_turn.proofs.Extends.{TableExtends, MemoryExtends, GlobalExtends, Extends, stays, and_then, Extending, keeps, global, memory, table, elem_drops, data_drops, changed_extends, overwritten_length, append_length}
 use Rattle.worlds_in_turn.proofs.StepExtends.{Grows, act_all, with_is, cond_all}
 

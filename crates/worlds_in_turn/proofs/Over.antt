@@ -1,0 +1,110 @@
+-- After the starts: a closed run stays closed, and a view that opens shows what the parts have.
+use Rattle.std.proofs.Common.{◌≡◌, ◌∙◌, refl, sym, ap, ap₂, subst, ℕ, zero, suc, ◌+◌, ◌<◌, ◌≤◌, List, [], ◌∷◌, ◌++◌, length, Option, Some, None, Bool, true, false, cond, arith}
+use Rattle.std.specs.Prelude.{nat_eq}
+use Rattle.wasm_tree.specs.declared.module.ExportDesc.{ExportDesc}
+use Rattle.wasm_tree.specs.declared.module.ExportDesc.TheVariants as ex
+use Rattle.wasm_tree.specs.declared.module.Module.{Module}
+use Rattle.wasm_meaning.specs.Outcomes.{Outcome, Gives, Traps, IllTyped, bind, at, overwrite}
+use Rattle.wasm_meaning.specs.State.{Text, Inst, Ref, Global, SetGlobal, Store}
+use Rattle.wasm_meaning.specs.Memory.{memory_may_grow}
+use Rattle.wasm_meaning.specs.Tables.{table_may_grow}
+use Rattle.wasm_meaning.specs.Linking.{Part, Entity, Functions, Tables, Memories, Globals, place, then_some, module_at}
+use Rattle.wasm_meaning.specs.Environment.{Environment, Thing, FuncAt, TableAt, MemoryAt, GlobalAt, Shown, received, received_ref}
+use Rattle.wasm_meaning.specs.World.{base, all_there, address_in, seen_as}
+use Rattle.wasm_meaning.specs.Run
+use Rattle.wasm_meaning.specs.Run.{Event, Move, Call, Invoke, Take, Answer, Refuse, Grant, Deny, Get, Size, Set, Extend, Place, Phase, Closed, Run, Out, place_at, shows, got, size_of, does, byte_of, set, extended, moved, or_bad, is_taken_closed, closed_move, tick_at, tick}
+use Rattle.index_remap.specs.Related.{Kind, Funcs, Mems, Pairing, ListRel, nil, cons}
+use Rattle.index_remap.specs.Related as to
+use Rattle.index_remap.specs.RelatedRuns.{ThingRel, a_func, a_table, a_memory, a_global, KeyRel}
+use Rattle.index_remap.proofs.Rel.{OptAll, nothing, stopped, just}
+use Rattle.worlds_in_turn.proofs.StepExtends.{with_is, cond_all}
+use Rattle.worlds_in_turn.proofs.Things.{then_is, some_is, space_in}
+use Rattle.worlds_in_turn.proofs.Reached.{reaching, reached_at}
+
+-- ---- a closed run ----
+
+-- nothing is on the stack, and the phase is what it was
+pub record Idle (r : Run) (o : Out) : Type 0 where
+  pub entries : o.0.entries ≡ r.entries
+  pub phase : o.0.phase ≡ r.phase
+
+abbrev AllIdle : Run → Outcome Out → Type 0
+AllIdle r = OptAll (Idle r)
+
+module _ (r : Run) where
+  got_idle : (x : Thing) (n : ℕ) → AllIdle r (got r x n)
+  got_idle (FuncAt a) n = nothing
+  got_idle (TableAt a) n = with_is (at r.store.tables a) _ (λ t _. with_is (at t.slots n) _ (λ v _. just (record { entries = refl; phase = refl })))
+  got_idle (MemoryAt a) n = with_is (at r.store.mems a) _ (λ m _. with_is (at m.bytes n) _ (λ b _. just (record { entries = refl; phase = refl })))
+  got_idle (GlobalAt a) n = with_is (at r.store.globals a) _ (λ g _. cond_all (nat_eq n 0) (just (record { entries = refl; phase = refl })) nothing)
+
+  size_idle : (x : Thing) → AllIdle r (size_of r x)
+  size_idle (FuncAt a) = nothing
+  size_idle (TableAt a) = with_is (at r.store.tables a) _ (λ t _. just (record { entries = refl; phase = refl }))
+  size_idle (MemoryAt a) = with_is (at r.store.mems a) _ (λ m _. just (record { entries = refl; phase = refl }))
+  size_idle (GlobalAt a) = with_is (at r.store.globals a) _ (λ g _. just (record { entries = refl; phase = refl }))
+
+  set_idle : (x : Thing) (n : ℕ) (v : Shown) → AllIdle r (set r x n v)
+  set_idle (FuncAt a) n v = nothing
+  set_idle (TableAt a) n v = with_is (at r.store.tables a) _ (λ t _. with_is (received_ref r.owned r.shown t.ty v) _ (λ w _. with_is (overwrite t.slots n (w ∷ [])) _ (λ s _. just (record { entries = refl; phase = refl }))))
+  set_idle (MemoryAt a) n v = with_is (at r.store.mems a) _ (λ m _. with_is (byte_of v) _ (λ b _. with_is (overwrite m.bytes n (b ∷ [])) _ (λ s _. just (record { entries = refl; phase = refl }))))
+  set_idle (GlobalAt a) n v =
+      with_is (at r.store.globals a) _ (λ g _. cond_all (nat_eq n 0) (cond_all g.ty.mutable (with_is (received r.owned r.shown g.ty.ty v) _ (λ w _. just (record { entries = refl; phase = refl }))) nothing) nothing)
+
+  extended_idle : (x : Thing) (n : ℕ) → AllIdle r (extended r x n)
+  extended_idle (FuncAt a) n = nothing
+  extended_idle (TableAt a) n = with_is (at r.store.tables a) _ (λ t _. cond_all (table_may_grow t n) (just (record { entries = refl; phase = refl })) nothing)
+  extended_idle (MemoryAt a) n = with_is (at r.store.mems a) _ (λ m _. cond_all (memory_may_grow m n) (just (record { entries = refl; phase = refl })) nothing)
+  extended_idle (GlobalAt a) n = nothing
+
+  closed_idle : (m : Move) → is_taken_closed m ≡ true → AllIdle r (moved r m)
+  closed_idle (Get p n) e = with_is (place_at r p) _ (λ x _. got_idle x n)
+  closed_idle (Size p) e = with_is (place_at r p) _ (λ x _. size_idle x)
+  closed_idle (Set p n v) e = with_is (place_at r p) _ (λ x _. set_idle x n v)
+  closed_idle (Extend p n) e = with_is (place_at r p) _ (λ x _. extended_idle x n)
+  closed_idle (Call i xs) e = cc
+  closed_idle (Invoke k xs) e = cc
+  closed_idle (Take i) e = cc
+  closed_idle (Answer xs) e = cc
+  closed_idle Refuse e = cc
+  closed_idle Grant e = cc
+  closed_idle Deny e = cc
+
+  taken_idle : (m : Move) → AllIdle r (cond (is_taken_closed m) (moved r m) IllTyped)
+  taken_idle m = go (is_taken_closed m) refl
+    where
+      go : (b : Bool) → is_taken_closed m ≡ b → AllIdle r (cond b (moved r m) IllTyped)
+      go true e = closed_idle m e
+      go false e = nothing
+
+  or_bad_idle : (o : Outcome Out) → AllIdle r o → Idle r (or_bad r o)
+  or_bad_idle (Gives o) (just h) = h
+  or_bad_idle Traps h = record { entries = refl; phase = refl }
+  or_bad_idle IllTyped h = record { entries = refl; phase = refl }
+
+move_idle : (r : Run) (ms : List Move) → Idle r (closed_move r ms)
+move_idle r [] = record { entries = refl; phase = refl }
+move_idle r (m ∷ ms) = let h = or_bad_idle (record r { moves = ms }) _ (taken_idle (record r { moves = ms }) m) in record { entries = h.entries; phase = h.phase }
+
+pub closed_stays : (r : Run) → r.entries ≡ [] → r.phase ≡ Closed → Idle r (tick r)
+closed_stays r e f = subst (Idle r) (sym (ap (tick_at r) e ∙ ap (Rattle.wasm_meaning.specs.Run.in_phase r) f)) (move_idle r r.moves)
+
+-- ---- the view ----
+
+-- what the embedder may use is what the parts reach
+pub view_self : (env : Environment) (parts : List Part) (p : ℕ) (insts : List Inst) → ((q : ℕ) (i : Inst) → place insts q ≡ Some i → (k : Rattle.wasm_meaning.specs.Linking.Kind) (n a : ℕ) → place (space_in i k) n ≡ Some a → a < base env parts k p) →
+    (vs : List (Text × Entity)) (view : List (Text × Thing)) → all_there (seen_as insts) vs ≡ Some view → ListRel (KeyRel (reaching env parts p)) view view
+view_self env parts p insts low [] view h = subst (λ l. ListRel (KeyRel (reaching env parts p)) l l) (some_is h) nil
+view_self env parts p insts low (v ∷ vs) view h =
+    let a = then_is (seen_as insts v) _ view h in
+    let b = then_is (all_there (seen_as insts) vs) _ view a.2 in
+    let i = then_is (place insts v.1.part) (λ i. then_some (address_in i v.1.what) (λ thing. Some (v.0, thing))) a.0 a.1 in
+    let x = then_is (address_in i.0 v.1.what) (λ thing. Some (v.0, thing)) a.0 i.2 in
+    let thing : ThingRel (reaching env parts p) x.0 x.0 = thing_of i.0 (low v.1.part i.0 i.1) v.1.what x.0 x.1 in
+    subst (λ l. ListRel (KeyRel (reaching env parts p)) l l) (some_is b.2) (cons (subst (λ y. KeyRel (reaching env parts p) y y) (some_is x.2) (record { key = refl; thing = thing })) (view_self env parts p insts low vs b.0 b.1))
+  where
+    thing_of : (i : Inst) → ((k : Rattle.wasm_meaning.specs.Linking.Kind) (n a : ℕ) → place (space_in i k) n ≡ Some a → a < base env parts k p) → (d : ExportDesc) (x : Thing) → address_in i d ≡ Some x → ThingRel (reaching env parts p) x x
+    thing_of i low (ex.Func n) x e = let a = then_is (place i.funcs n) (λ a. Some (FuncAt a)) x e in subst (λ x. ThingRel (reaching env parts p) x x) (some_is a.2) (a_func (reached_at env parts p Funcs a.0 (low Functions n a.0 a.1)))
+    thing_of i low (ex.Table n) x e = let a = then_is (place i.tables n) (λ a. Some (TableAt a)) x e in subst (λ x. ThingRel (reaching env parts p) x x) (some_is a.2) (a_table (reached_at env parts p to.Tables a.0 (low Tables n a.0 a.1)))
+    thing_of i low (ex.Memory n) x e = let a = then_is (place i.mems n) (λ a. Some (MemoryAt a)) x e in subst (λ x. ThingRel (reaching env parts p) x x) (some_is a.2) (a_memory (reached_at env parts p Mems a.0 (low Memories n a.0 a.1)))
+    thing_of i low (ex.Global n) x e = let a = then_is (place i.globals n) (λ a. Some (GlobalAt a)) x e in subst (λ x. ThingRel (reaching env parts p) x x) (some_is a.2) (a_global (reached_at env parts p to.Globals a.0 (low Globals n a.0 a.1)))
