@@ -106,6 +106,7 @@ module _ (env : Environment) (parts : List Part) (insts : List Inst) (are : inst
     first = first_stores env parts insts;
     adds = λ k. or_no_store (added_at env parts insts k);
     rest = rest_from env parts insts;
+    first_none = refl;
     first_sized = λ k l. sized_as k (first_stores env parts insts k) (first_parts env parts insts allocated stores_are size k l).lengths;
     parted = λ k l. (first_parts env parts insts allocated stores_are size k l).whole;
     first_next = λ k m is_part. refl;

@@ -29,3 +29,4 @@ mod FillNext
 mod FillHolds
 mod FillValid
 mod FillGiven
+mod FillWorld
