@@ -1,5 +1,5 @@
 -- What a part adds to the store as its turn comes is what it adds where all parts are allocated at once.
-use Rattle.std.proofs.Common.{◌≡◌, ◌∙◌, refl, sym, ap, ap₂, subst, ℕ, zero, suc, ◌+◌, ◌<◌, List, [], ◌∷◌, ◌++◌, ◌*◌, map, length, Option, Some, None, true, false, arith}
+use Rattle.std.proofs.Common.{◌≡◌, ◌∙◌, refl, sym, ap, ap₂, ℕ, suc, List, [], ◌∷◌, ◌*◌, map, length, Option, Some, true, false}
 use Rattle.wasm_tree.specs.declared.module.ConstExpr.{ConstExpr}
 use Rattle.wasm_tree.specs.declared.module.GlobalDef.{GlobalDef}
 use Rattle.wasm_tree.specs.declared.module.ElemSeg.{ElemSeg}
@@ -7,14 +7,14 @@ use Rattle.wasm_tree.specs.declared.module.ElemMode.TheVariants as elem
 use Rattle.wasm_tree.specs.declared.module.DataSeg.{DataSeg}
 use Rattle.wasm_tree.specs.declared.module.DataMode.TheVariants as data'
 use Rattle.wasm_tree.specs.declared.module.Module.{Module}
-use Rattle.wasm_meaning.specs.State.{RefVal, Val, Inst, Func, Global, Elem, Store}
+use Rattle.wasm_meaning.specs.State.{Val, Inst, Func, Global, Elem, Store}
 use Rattle.wasm_meaning.specs.Outcomes.{copies}
 use Rattle.wasm_meaning.specs.Values.{ref_of, null_of}
 use Rattle.wasm_meaning.specs.Linking.{Part, place, then_some, module_at, sites}
 use Rattle.wasm_meaning.specs.Environment.{Environment, all_of}
 use Rattle.wasm_meaning.specs.World.{all_there, given, is_matched, insts_from, own_store, stores_from, part_store, store_with, new_func, global_with, elem_with, new_elem, const_value, value_of}
 use Rattle.wasm_meaning.specs.InTurn.{JoinsEarlier}
-use Rattle.worlds_in_turn.proofs.Things.{then_is, some_is}
+use Rattle.worlds_in_turn.proofs.Things.{then_is}
 use Rattle.worlds_in_turn.proofs.Joined.{ExportsThere}
 use Rattle.worlds_in_turn.proofs.FillValues.{Constant, HoldsFixed, value_given}
 

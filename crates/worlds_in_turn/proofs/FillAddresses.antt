@@ -1,18 +1,18 @@
 -- The addresses of a part's imports are lower than those of what it defines, and these lower than those of what later parts define.
-use Rattle.std.proofs.Common.{◌≡◌, ◌∙◌, refl, sym, ap, ap₂, subst, ℕ, zero, suc, ◌+◌, ◌-◌, ◌<◌, ◌≤◌, List, [], ◌∷◌, ◌++◌, length, Option, Some, None, ◌⊎◌, inl, inr, arith}
+use Rattle.std.proofs.Common.{◌≡◌, ◌∙◌, refl, sym, ap, ap₂, subst, ℕ, zero, suc, ◌+◌, ◌-◌, ◌<◌, ◌≤◌, List, [], ◌∷◌, ◌++◌, length, Option, Some, ◌⊎◌, inl, inr, arith}
 use Rattle.wasm_tree.specs.declared.module.Import.{Import}
 use Rattle.wasm_tree.specs.declared.module.ImportDesc.{ImportDesc}
 use Rattle.wasm_tree.specs.declared.module.ImportDesc.TheVariants as im
 use Rattle.wasm_tree.specs.declared.module.Module.{Module}
 use Rattle.wasm_meaning.specs.State.{Pair, Inst}
-use Rattle.wasm_meaning.specs.Paths.{Next, Ends, walk_on, walk}
+use Rattle.wasm_meaning.specs.Paths.{walk_on, walk}
 use Rattle.wasm_meaning.specs.Linking.{Part, Site, Entity, End, Defined, Outside, Kind, Functions, Tables, Memories, Globals, place, then_some, kind_of_import, kind_of_export, index_of_export, imports_of, module_at, import_at, pair_of, import_step, end_of, sites}
-use Rattle.wasm_meaning.specs.Environment.{Environment, Thing, OwnKey, owned_of, owned_at}
-use Rattle.wasm_meaning.specs.World.{all_there, defined_count, defined_before, own_count, base, thing_at, address_of, given, import_type, own_key_of, own_key, outside_thing, defined_thing, thing_of, imported_thing, numbers, space, elems_before, datas_before}
+use Rattle.wasm_meaning.specs.Environment.{Environment, Thing, OwnKey}
+use Rattle.wasm_meaning.specs.World.{all_there, defined_count, defined_before, own_count, base, thing_at, address_of, import_type, own_key_of, own_key, thing_of, imported_thing, numbers, elems_before, datas_before}
 use Rattle.wasm_meaning.specs.InTurn.{JoinsEarlier}
 use Rattle.worlds_in_turn.proofs.Things.{then_is, some_is, IsInst, space_in, in_space, space_is, all_place, place_front}
 use Rattle.worlds_in_turn.proofs.Joined.{ExportsThere}
-use Rattle.worlds_in_turn.proofs.FillOwned.{kind_of_key, OwnAt, own_at}
+use Rattle.worlds_in_turn.proofs.FillOwned.{kind_of_key, own_at}
 use Rattle.worlds_in_turn.proofs.FillPaths.{LowInside, Low, inside, outside, ends_low}
 
 -- ---- what the first parts define ----

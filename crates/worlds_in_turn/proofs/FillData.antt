@@ -1,5 +1,5 @@
 -- Active segments of data are a matter of memories and of segments of data alone.
-use Rattle.std.proofs.Common.{◌≡◌, ◌∙◌, refl, sym, ap, ap₂, subst, ℕ, zero, suc, ◌+◌, ◌<◌, List, [], ◌∷◌, ◌++◌, map, length, Option, Some, None, Bool, true, false, cond, arith}
+use Rattle.std.proofs.Common.{◌≡◌, ◌∙◌, refl, ap, ℕ, suc, ◌<◌, List, [], ◌∷◌, map, Option, Some, true, false, cond}
 use Rattle.wasm_tree.specs.declared.module.ConstExpr.{ConstExpr}
 use Rattle.wasm_tree.specs.declared.module.DataSeg.{DataSeg}
 use Rattle.wasm_tree.specs.declared.module.DataMode.{DataMode}
@@ -11,9 +11,9 @@ use Rattle.wasm_meaning.specs.Values.{num_of}
 use Rattle.wasm_meaning.specs.Step.{no_bytes}
 use Rattle.wasm_meaning.specs.Linking.{place, then_some}
 use Rattle.wasm_meaning.specs.Environment.{any_of}
-use Rattle.wasm_meaning.specs.World.{Filled, Task, given, tasks_in, or_trapped, fill_memory, copy_data, run_data_with, and_then, in_turn}
+use Rattle.wasm_meaning.specs.World.{Filled, Task, given, tasks_in, fill_memory, run_data_with, and_then, in_turn}
 use Rattle.wasm_meaning.specs.InTurn.{is_active_data}
-use Rattle.worlds_in_turn.proofs.Things.{then_is, some_is}
+use Rattle.worlds_in_turn.proofs.Things.{then_is}
 use Rattle.worlds_in_turn.proofs.FillRuns.{Job, Skip, Fill, run, runs, LowJob, low_skip, low_fill, LowJobs, low_none, low_more, Kept, kept_skip, kept_fill, KeptAll, kept_none, kept_more}
 use Rattle.worlds_in_turn.proofs.FillTurns.{Turned, goes_on, stops, or_turned}
 

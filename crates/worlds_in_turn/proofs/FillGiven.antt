@@ -1,20 +1,19 @@
 -- The stores of parts in turn where no code has run, for the run in turn: how the store at once is laid out, what a part adds, and what its segments do.
-use Rattle.std.proofs.Common.{◌≡◌, ◌∙◌, refl, sym, ap, ap₂, subst, ℕ, zero, suc, ◌+◌, ◌-◌, ◌<◌, ◌≤◌, List, [], ◌∷◌, ◌++◌, length, Option, Some, None, Bool, true, false, arith}
+use Rattle.std.proofs.Common.{◌≡◌, ◌∙◌, refl, sym, ap, ap₂, subst, ℕ, zero, suc, ◌+◌, ◌-◌, ◌<◌, ◌≤◌, List, [], ◌∷◌, length, Option, Some, true, false, arith}
 use Rattle.wasm_tree.specs.declared.module.ConstExpr.{ConstExpr}
-use Rattle.wasm_tree.specs.declared.module.Import.{Import}
 use Rattle.wasm_tree.specs.declared.module.Module.{Module}
-use Rattle.wasm_meaning.specs.Outcomes.{Outcome, Gives, Traps, IllTyped, at, put, overwrite}
-use Rattle.wasm_meaning.specs.State.{RefVal, Inst, Func, Table, Memory, Global, Elem, Data, Store}
+use Rattle.wasm_meaning.specs.Outcomes.{Outcome, Gives, Traps, IllTyped, at, overwrite}
+use Rattle.wasm_meaning.specs.State.{RefVal, Inst, Table, Memory, Elem, Data, Store}
 use Rattle.wasm_meaning.specs.Step.{no_items, no_bytes}
-use Rattle.wasm_meaning.specs.Linking.{Part, Site, Functions, Tables, Memories, Globals, Read, place, then_some, module_at, import_at, sites_in, sites_from, sites, read_of}
+use Rattle.wasm_meaning.specs.Linking.{Part, Read, place, then_some, module_at, sites_in, sites_from, sites, read_of}
 use Rattle.wasm_meaning.specs.Environment.{Environment, all_of}
-use Rattle.wasm_meaning.specs.World.{base, given, is_matched, insts_from, own_store, stores_from, part_store, joined_stores, store_with, const_value, value_of, segments}
+use Rattle.wasm_meaning.specs.World.{given, is_matched, insts_from, own_store, stores_from, part_store, joined_stores, store_with, const_value, value_of, segments}
 use Rattle.wasm_meaning.specs.InTurn.{JoinsEarlier}
-use Rattle.worlds_in_turn.proofs.Extends.{TableExtends, MemoryExtends, GlobalExtends, EachExtends, each_then, each_put, each_stays, table_stays, memory_stays, global_stays, overwritten_length}
+use Rattle.worlds_in_turn.proofs.Extends.{TableExtends, MemoryExtends, EachExtends, each_then, each_put, each_stays, table_stays, memory_stays, global_stays, overwritten_length}
 use Rattle.worlds_in_turn.proofs.Things.{then_is, some_is, place_front, place_behind}
 use Rattle.worlds_in_turn.proofs.Joined.{ExportsThere}
 use Rattle.worlds_in_turn.proofs.Turn.{Sized, Holds, SitesThere, place_at, at_place}
-use Rattle.worlds_in_turn.proofs.Beside.{Laid, empty_store, at_low}
+use Rattle.worlds_in_turn.proofs.Beside.{Laid, at_low}
 use Rattle.worlds_in_turn.proofs.FillStores.{or_no_store, added_at, added_is, rest_for, rest_from, rest_last, first_stores, first_parts, part_adds, Lengths, module_low}
 use Rattle.worlds_in_turn.proofs.FillValues.{place_low, Constant, HoldsFixed, value_same}
 use Rattle.worlds_in_turn.proofs.FillAdded.{Constants, added_same}

@@ -1,11 +1,11 @@
 -- The next part's active segments, as its turn comes: what they do at once, with those of the parts before it and none of later ones.
-use Rattle.std.proofs.Common.{◌≡◌, ◌∙◌, refl, sym, ap, ap₂, subst, ℕ, zero, suc, ◌+◌, ◌<◌, ◌≤◌, List, [], ◌∷◌, ◌++◌, length, Option, Some, None, Bool, true, false, append_assoc, arith}
+use Rattle.std.proofs.Common.{◌≡◌, ◌∙◌, refl, sym, ap, ap₂, ℕ, suc, List, ◌++◌, length, Some, true, false, append_assoc, arith}
 use Rattle.wasm_tree.specs.declared.module.Module.{Module}
 use Rattle.wasm_meaning.specs.State.{Inst, Table, Memory, Elem, Data, Store}
 use Rattle.wasm_meaning.specs.Step.{no_items, no_bytes}
 use Rattle.wasm_meaning.specs.Linking.{Part, Tables, Memories, place, module_at, sites}
 use Rattle.wasm_meaning.specs.Environment.{Environment, all_of}
-use Rattle.wasm_meaning.specs.World.{Filled, base, elems_before, datas_before, numbers, is_matched, insts_from, own_store, stores_from, part_store, joined_stores, const_value, value_of, elem_tasks, data_tasks, segments}
+use Rattle.wasm_meaning.specs.World.{base, elems_before, datas_before, is_matched, insts_from, own_store, stores_from, part_store, joined_stores, const_value, value_of, elem_tasks, data_tasks, segments}
 use Rattle.wasm_meaning.specs.InTurn.{JoinsEarlier, own_segments}
 use Rattle.worlds_in_turn.proofs.Things.{IsInst}
 use Rattle.worlds_in_turn.proofs.Joined.{ExportsThere}
@@ -13,7 +13,7 @@ use Rattle.worlds_in_turn.proofs.FillAddresses.{elems_next, datas_next, numbers_
 use Rattle.worlds_in_turn.proofs.FillStores.{rest_from, rest_next, Lengths, lengths_next, module_low}
 use Rattle.worlds_in_turn.proofs.FillValues.{part_inst, HoldsFixed, value_given}
 use Rattle.worlds_in_turn.proofs.FillAdded.{Constants}
-use Rattle.worlds_in_turn.proofs.FillRuns.{runs, LowJobs, Front, runs_front, runs_kept, next_runs}
+use Rattle.worlds_in_turn.proofs.FillRuns.{Front, runs_front, runs_kept, next_runs}
 use Rattle.worlds_in_turn.proofs.FillTurns.{table_fill, elem_runs, elem_jobs, elems_low, elems_kept}
 use Rattle.worlds_in_turn.proofs.FillData.{memory_fill, data_runs, data_jobs, datas_low, datas_kept}
 use Rattle.worlds_in_turn.proofs.FillSegments.{both_went, own_go, elem_jobs_of, data_jobs_of, elem_jobs_at, data_jobs_at, FilledUpto, filled_holds, all_elems, all_datas}

@@ -1,9 +1,8 @@
 -- The environment's own entities have addresses of their kind, below the number of what it has.
-use Rattle.std.proofs.Common.{◌≡◌, ◌∙◌, refl, sym, ap, subst, ℕ, zero, suc, ◌+◌, ◌<◌, List, [], ◌∷◌, ◌++◌, map, length, Option, Some, None, Bool, true, false, cond, ◌⊎◌, inl, inr, arith}
+use Rattle.std.proofs.Common.{◌≡◌, ◌∙◌, refl, sym, ap, subst, ℕ, suc, ◌+◌, ◌<◌, List, [], ◌∷◌, ◌++◌, map, length, Option, Some, None, Bool, true, false, cond, ◌⊎◌, inl, inr, arith}
 use Rattle.wasm_meaning.specs.Outcomes.{Outcome, Gives, Traps, IllTyped}
-use Rattle.wasm_meaning.specs.State.{Own}
 use Rattle.wasm_meaning.specs.Linking.{Kind, Functions, Tables, Memories, Globals}
-use Rattle.wasm_meaning.specs.Environment.{Environment, Offer, OwnKey, FuncKey, TableKey, MemoryKey, GlobalKey, Thing, FuncAt, TableAt, MemoryAt, GlobalAt, Owned, same_key, look_up, owned_at, owned_of, addressed, flat, one_if, own_funcs, own_tables, own_memories, own_globals}
+use Rattle.wasm_meaning.specs.Environment.{Environment, Offer, OwnKey, FuncKey, TableKey, MemoryKey, GlobalKey, Thing, FuncAt, TableAt, MemoryAt, GlobalAt, Owned, same_key, look_up, owned_at, owned_of, addressed, flat, one_if}
 use Rattle.wasm_meaning.specs.World.{own_count, thing_at, given}
 use Rattle.worlds_in_turn.proofs.Extends.{append_length}
 

@@ -1,6 +1,6 @@
 -- Segments that are copied in turn, as a matter of two lists alone: what is written to, and the segments, which are dropped.
 -- What stands behind all that is written stays, and does not matter.
-use Rattle.std.proofs.Common.{◌≡◌, ◌∙◌, refl, sym, ap, ap₂, subst, ℕ, zero, suc, ◌+◌, ◌-◌, ◌<◌, ◌≤◌, List, [], ◌∷◌, ◌++◌, length, Option, Some, None, append_assoc, arith}
+use Rattle.std.proofs.Common.{◌≡◌, ◌∙◌, refl, sym, ap, ap₂, subst, ℕ, zero, suc, ◌-◌, ◌<◌, ◌≤◌, List, [], ◌∷◌, ◌++◌, length, Option, Some, None, append_assoc, arith}
 use Rattle.wasm_meaning.specs.Outcomes.{put}
 use Rattle.wasm_meaning.specs.Linking.{place, then_some}
 use Rattle.worlds_in_turn.proofs.Things.{then_is, some_is}

@@ -1,25 +1,21 @@
 -- Active segments that are copied as each part's turn comes do what they do where all parts are instantiated at once.
-use Rattle.std.proofs.Common.{◌≡◌, ◌∙◌, refl, sym, ap, ap₂, subst, ℕ, zero, suc, ◌+◌, ◌-◌, ◌<◌, ◌≤◌, List, [], ◌∷◌, ◌++◌, map, length, Option, Some, None, Bool, true, false, append_assoc, arith}
+use Rattle.std.proofs.Common.{◌≡◌, ◌∙◌, refl, sym, ap, ap₂, ℕ, suc, ◌+◌, ◌≤◌, List, [], ◌∷◌, ◌++◌, map, length, Option, Some, None, false, arith}
 use Rattle.std.proofs.lemmas.List.{map-append}
 use Rattle.wasm_tree.specs.declared.module.ConstExpr.{ConstExpr}
 use Rattle.wasm_tree.specs.declared.module.ElemSeg.{ElemSeg}
 use Rattle.wasm_tree.specs.declared.module.DataSeg.{DataSeg}
 use Rattle.wasm_tree.specs.declared.module.Module.{Module}
-use Rattle.wasm_meaning.specs.State.{Val, Inst, Table, Memory, Global, Elem, Data, Store}
+use Rattle.wasm_meaning.specs.State.{Val, Inst, Table, Memory, Elem, Data, Store}
 use Rattle.wasm_meaning.specs.Step.{no_items, no_bytes}
-use Rattle.wasm_meaning.specs.Linking.{Part, Tables, Memories, Globals, place, then_some, module_at, sites}
-use Rattle.wasm_meaning.specs.Environment.{Environment, all_of}
-use Rattle.wasm_meaning.specs.World.{Filled, Task, base, elems_before, datas_before, numbers, is_matched, insts_from, own_store, stores_from, part_store, joined_stores, const_value, value_of, tasks_in, elem_tasks, data_tasks, and_then, in_turn, segments}
-use Rattle.wasm_meaning.specs.InTurn.{JoinsEarlier, HasNoActive, own_segments}
-use Rattle.worlds_in_turn.proofs.Things.{then_is, some_is, IsInst}
-use Rattle.worlds_in_turn.proofs.Joined.{ExportsThere}
-use Rattle.worlds_in_turn.proofs.FillAddresses.{elems_next, datas_next, numbers_low, space_low}
-use Rattle.worlds_in_turn.proofs.FillStores.{rest_from, rest_next, Lengths, lengths_first, lengths_next, allocated_whole, inst_there, module_low}
-use Rattle.worlds_in_turn.proofs.FillValues.{place_within, part_inst, HoldsFixed, value_given}
-use Rattle.worlds_in_turn.proofs.FillAdded.{Constants}
-use Rattle.worlds_in_turn.proofs.FillRuns.{Job, runs, LowJobs, KeptAll, Front, runs_front, runs_kept, first_jobs, rest_jobs, next_runs, all_runs}
-use Rattle.worlds_in_turn.proofs.FillTurns.{Turned, goes_on, stops, turned_some, turned_not, table_fill, with_tables, elem_runs, elem_jobs, elem_task_job, elem_turn, elems_turned, elem_tasks_jobs, elems_skip, elems_low, elems_kept}
-use Rattle.worlds_in_turn.proofs.FillData.{memory_fill, with_memories, data_runs, data_jobs, data_task_job, data_turn, datas_turned, data_tasks_jobs, datas_skip, datas_low, datas_kept}
+use Rattle.wasm_meaning.specs.Linking.{Part, place, then_some, module_at}
+use Rattle.wasm_meaning.specs.Environment.{Environment}
+use Rattle.wasm_meaning.specs.World.{Filled, Task, own_store, stores_from, joined_stores, value_of, tasks_in, elem_tasks, data_tasks, and_then, in_turn, segments}
+use Rattle.wasm_meaning.specs.InTurn.{HasNoActive, own_segments}
+use Rattle.worlds_in_turn.proofs.FillStores.{rest_from, Lengths, lengths_first, allocated_whole}
+use Rattle.worlds_in_turn.proofs.FillValues.{place_within, HoldsFixed}
+use Rattle.worlds_in_turn.proofs.FillRuns.{Job, first_jobs, rest_jobs, all_runs}
+use Rattle.worlds_in_turn.proofs.FillTurns.{Turned, goes_on, stops, turned_some, turned_not, table_fill, with_tables, elem_runs, elem_jobs, elem_task_job, elem_turn, elems_turned, elem_tasks_jobs, elems_skip}
+use Rattle.worlds_in_turn.proofs.FillData.{memory_fill, data_runs, data_jobs, data_task_job, data_turn, datas_turned, data_tasks_jobs, datas_skip}
 
 -- ---- elements, then data ----
 

@@ -5,7 +5,7 @@ use Rattle.wasm_tree.specs.declared.module.Module.{Module}
 use Rattle.wasm_meaning.specs.State.{Val, Inst, Store}
 use Rattle.wasm_meaning.specs.Linking.{Part, Kind, Functions, Tables, Memories, Globals, place, then_some, module_at}
 use Rattle.wasm_meaning.specs.Environment.{Environment}
-use Rattle.wasm_meaning.specs.World.{base, defined_before, elems_before, datas_before, defined_count, own_count, all_there, new_func, global_with, elem_with, store_with, part_store, joined_stores, own_store, stores_from}
+use Rattle.wasm_meaning.specs.World.{base, defined_before, elems_before, datas_before, all_there, new_func, global_with, elem_with, store_with, part_store, joined_stores, own_store, stores_from}
 use Rattle.worlds_in_turn.proofs.Extends.{append_length}
 use Rattle.worlds_in_turn.proofs.Things.{then_is, some_is, all_length}
 use Rattle.worlds_in_turn.proofs.FillAddresses.{base_next, elems_next, datas_next}

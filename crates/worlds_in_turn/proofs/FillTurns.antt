@@ -1,21 +1,18 @@
 -- Active segments of elements are a matter of tables and of segments of elements alone.
-use Rattle.std.proofs.Common.{◌≡◌, ◌∙◌, refl, sym, ap, ap₂, subst, ℕ, zero, suc, ◌+◌, ◌<◌, List, [], ◌∷◌, ◌++◌, map, length, Option, Some, None, Bool, true, false, cond, arith}
+use Rattle.std.proofs.Common.{◌≡◌, ◌∙◌, refl, ap, ℕ, suc, ◌<◌, List, [], ◌∷◌, map, Option, Some, None, true, false, cond}
 use Rattle.wasm_tree.specs.declared.module.ConstExpr.{ConstExpr}
 use Rattle.wasm_tree.specs.declared.module.ElemSeg.{ElemSeg}
 use Rattle.wasm_tree.specs.declared.module.ElemMode.{ElemMode}
 use Rattle.wasm_tree.specs.declared.module.ElemMode.TheVariants as elem
-use Rattle.wasm_tree.specs.declared.module.DataSeg.{DataSeg}
-use Rattle.wasm_tree.specs.declared.module.DataMode.{DataMode}
-use Rattle.wasm_tree.specs.declared.module.DataMode.TheVariants as data'
 use Rattle.wasm_num.specs.Operations.{W32}
 use Rattle.wasm_meaning.specs.Outcomes.{Outcome, Gives, Traps, IllTyped, overwrite, put}
-use Rattle.wasm_meaning.specs.State.{RefVal, Val, Inst, Table, Memory, Elem, Data, Store}
+use Rattle.wasm_meaning.specs.State.{RefVal, Val, Inst, Table, Elem, Store}
 use Rattle.wasm_meaning.specs.Values.{num_of}
-use Rattle.wasm_meaning.specs.Step.{no_items, no_bytes}
+use Rattle.wasm_meaning.specs.Step.{no_items}
 use Rattle.wasm_meaning.specs.Linking.{place, then_some}
 use Rattle.wasm_meaning.specs.Environment.{any_of}
-use Rattle.wasm_meaning.specs.World.{Filled, Task, given, tasks_in, or_trapped, fill_table, copy_elem, run_elem_with, fill_memory, copy_data, run_data_with, and_then, in_turn}
-use Rattle.wasm_meaning.specs.InTurn.{is_active_elem, is_active_data}
+use Rattle.wasm_meaning.specs.World.{Filled, Task, given, tasks_in, or_trapped, fill_table, run_elem_with, and_then, in_turn}
+use Rattle.wasm_meaning.specs.InTurn.{is_active_elem}
 use Rattle.worlds_in_turn.proofs.Things.{then_is, some_is}
 use Rattle.worlds_in_turn.proofs.FillRuns.{Job, Skip, Fill, run, runs, LowJob, low_skip, low_fill, LowJobs, low_none, low_more, Kept, kept_skip, kept_fill, KeptAll, kept_none, kept_more}
 

@@ -1,18 +1,17 @@
 -- A constant expression of a part has one value, whether it is read from the store as the part's turn comes or along its path through joined globals.
-use Rattle.std.proofs.Common.{◌≡◌, ◌∙◌, refl, sym, ap, ap₂, subst, ℕ, zero, suc, ◌+◌, ◌-◌, ◌<◌, ◌≤◌, List, [], ◌∷◌, ◌++◌, length, Option, Some, None, Bool, true, false, cond, ◌⊎◌, inl, inr, arith}
+use Rattle.std.proofs.Common.{◌≡◌, ◌∙◌, refl, sym, ap, ap₂, subst, ℕ, zero, suc, ◌+◌, ◌-◌, ◌<◌, List, [], ◌∷◌, ◌++◌, length, Option, Some, None, Bool, true, false, cond, ◌⊎◌, inl, inr, arith}
 use Rattle.wasm_tree.specs.declared.types.GlobalType.{GlobalType}
 use Rattle.wasm_tree.specs.declared.module.Import.{Import}
 use Rattle.wasm_tree.specs.declared.module.ImportDesc.TheVariants as im
 use Rattle.wasm_tree.specs.declared.module.ConstExpr.{ConstExpr}
 use Rattle.wasm_tree.specs.declared.module.ConstExpr.TheVariants as const
-use Rattle.wasm_tree.specs.declared.module.ExportDesc.TheVariants as ex
 use Rattle.wasm_tree.specs.declared.module.Module.{Module}
 use Rattle.wasm_meaning.specs.State.{Val, Inst, Global, Store}
 use Rattle.wasm_meaning.specs.Values.{same_type}
 use Rattle.wasm_meaning.specs.Paths.{Next, Ends, Goes, walk, walk_on}
-use Rattle.wasm_meaning.specs.Linking.{Part, Site, Entity, End, Defined, Outside, Kind, Functions, Tables, Memories, Globals, Read, place, places, then_some, has_kind, same_kind, kind_of_import, space_index, index_of_export, imports_of, module_at, import_at, sites_in, sites_from, sites, end_of, global_import, initial, outside_read, end_step, read_step, initials_from, read_of}
-use Rattle.wasm_meaning.specs.Environment.{Environment, Thing, GlobalAt, own_globals, all_of}
-use Rattle.wasm_meaning.specs.World.{all_there, base, same_bool, or_false, is_match, is_matched, imported_thing, insts_from, inst_of, own_store, stores_from, part_store, global_with, new_func, elem_with, const_value, value_of_read, value_of, address_of, joined_stores}
+use Rattle.wasm_meaning.specs.Linking.{Part, Site, End, Defined, Outside, Kind, Functions, Tables, Memories, Globals, Read, place, places, then_some, has_kind, same_kind, kind_of_import, space_index, index_of_export, imports_of, module_at, import_at, sites_in, sites_from, sites, end_of, global_import, initial, outside_read, end_step, read_step, initials_from, read_of}
+use Rattle.wasm_meaning.specs.Environment.{Environment, GlobalAt, own_globals, all_of}
+use Rattle.wasm_meaning.specs.World.{all_there, base, same_bool, or_false, is_match, is_matched, imported_thing, insts_from, inst_of, own_store, stores_from, global_with, new_func, elem_with, const_value, value_of_read, value_of, address_of, joined_stores}
 use Rattle.wasm_meaning.specs.InTurn.{JoinsEarlier}
 use Rattle.worlds_in_turn.proofs.Things.{then_is, some_is, IsInst, inst_is, inst_at, walk_more, thing_has, place_behind}
 use Rattle.worlds_in_turn.proofs.Joined.{ExportsThere}

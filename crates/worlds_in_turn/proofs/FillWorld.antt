@@ -1,15 +1,13 @@
 -- What the run in turn asks of stores whose first parts' segments were copied.
-use Rattle.std.proofs.Common.{◌≡◌, ◌∙◌, refl, sym, ap, ap₂, subst, ℕ, zero, suc, ◌+◌, ◌-◌, ◌<◌, ◌≤◌, List, length, Option, Some, None, Bool, true, false, arith}
+use Rattle.std.proofs.Common.{◌≡◌, ◌∙◌, sym, ap, subst, ℕ, zero, suc, ◌+◌, ◌-◌, ◌≤◌, List, length, Some, false, arith}
 use Rattle.wasm_tree.specs.declared.module.Module.{Module}
 use Rattle.wasm_meaning.specs.State.{Text, Inst, Store}
-use Rattle.wasm_meaning.specs.Linking.{Part, place, module_at}
+use Rattle.wasm_meaning.specs.Linking.{place, module_at}
 use Rattle.wasm_meaning.specs.Environment.{Environment, Thing}
-use Rattle.wasm_meaning.specs.World.{World, Filled, own_store, stores_from, const_value, joined_stores, all_there, seen_as, segments}
+use Rattle.wasm_meaning.specs.World.{World, own_store, stores_from, const_value, joined_stores, all_there, seen_as, segments}
 use Rattle.wasm_meaning.specs.Below.{BelowIsNotSeen}
 use Rattle.wasm_meaning.specs.InTurn.{own_segments, HasNoActive}
 use Rattle.index_remap.specs.Laws.{CodeIsRelatedToItself, RelatedTicksAgree, OthersStay}
-use Rattle.worlds_in_turn.proofs.Things.{some_is}
-use Rattle.worlds_in_turn.proofs.Turn.{Sized}
 use Rattle.worlds_in_turn.proofs.Given.{IsGiven}
 use Rattle.worlds_in_turn.proofs.Begins.{FillLaws}
 use Rattle.worlds_in_turn.proofs.FillStores.{rest_from, rest_last, rest_next, inst_there}
