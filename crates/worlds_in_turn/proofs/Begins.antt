@@ -64,7 +64,7 @@ joined_extends s t u h = record {
 }
 
 -- the environment's functions are its own
-own_sound : (env : Environment) (parts : List Part) (p : ℕ) (offers : List Offer) (a : ℕ) (f : Func) → at (flat (λ o. map (Own o.pair) o.funcs) offers) a ≡ Gives f → Sound env parts p f
+pub own_sound : (env : Environment) (parts : List Part) (p : ℕ) (offers : List Offer) (a : ℕ) (f : Func) → at (flat (λ o. map (Own o.pair) o.funcs) offers) a ≡ Gives f → Sound env parts p f
 own_sound env parts p [] a f e = absurd (let z = e in cc)
 own_sound env parts p (o ∷ os) a f e = in_offer o.funcs a e (λ a e. own_sound env parts p os a f e)
   where
@@ -142,7 +142,7 @@ module _ (env : Environment) (w : World) (insts : List Inst) (allocated : Store)
     bytes_self [] = nil
     bytes_self (d ∷ ds) = cons refl (bytes_self ds)
 
-    beside_after : (k : ℕ) (t : Store) → k ≤ length w.parts → after ≡ joined_stores t (g.laid.rest k) → Sized env w.parts k t → Extends (g.laid.first k) t → Closed (reaching env w.parts k) t → ((a : ℕ) (f : Func) → at t.funcs a ≡ Gives f → Sound env w.parts k f) → Beside env w.parts k allocated t after
+    pub beside_after : (k : ℕ) (t : Store) → k ≤ length w.parts → after ≡ joined_stores t (g.laid.rest k) → Sized env w.parts k t → Extends (g.laid.first k) t → Closed (reaching env w.parts k) t → ((a : ℕ) (f : Func) → at t.funcs a ≡ Gives f → Sound env w.parts k f) → Beside env w.parts k allocated t after
     beside_after k t l whole sized h closed sound =
         let parted = g.laid.parted k l in
         let sizes = g.laid.first_sized k l in
@@ -166,7 +166,7 @@ module _ (env : Environment) (w : World) (insts : List Inst) (allocated : Store)
           };
         }
 
-    own_related : (k : ℕ) → OwnCorrespond (reaching env w.parts k) env
+    pub own_related : (k : ℕ) → OwnCorrespond (reaching env w.parts k) env
     own_related k = g.own (is_reached env w.parts k) env (shares_own env w.parts k)
 
     -- ---- the next part ----

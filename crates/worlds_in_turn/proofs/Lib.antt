@@ -15,6 +15,7 @@ mod Waiting
 mod Over
 mod Stages
 mod Begins
+mod Whole
 mod FillOwned
 mod FillPaths
 mod FillAddresses
