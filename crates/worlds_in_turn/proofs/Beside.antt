@@ -58,7 +58,7 @@ equal_list (x ∷ xs) = cons refl (equal_list xs)
 
 -- ---- how the stores are laid out ----
 
-pub empty_store : Store
+abbrev pub empty_store : Store
 empty_store = record { funcs = []; tables = []; mems = []; globals = []; elems = []; datas = [] }
 
 -- what the first parts have, what one part adds, and what the parts from one on have

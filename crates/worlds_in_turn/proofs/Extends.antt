@@ -33,16 +33,16 @@ pub record Extends (s t : Store) : Type 0 where
   pub elem_count : length t.elems ≡ length s.elems
   pub data_count : length t.datas ≡ length s.datas
 
-table_stays : (t : Table) → TableExtends t t
+pub table_stays : (t : Table) → TableExtends t t
 table_stays t = record { type = refl; most = refl; size = omega arith }
 
-memory_stays : (m : Memory) → MemoryExtends m m
+pub memory_stays : (m : Memory) → MemoryExtends m m
 memory_stays m = record { most = refl; size = omega arith }
 
-global_stays : (g : Global) → GlobalExtends g g
+pub global_stays : (g : Global) → GlobalExtends g g
 global_stays g = record { type = refl; fixed = λ e. refl }
 
-each_stays : {A : Type 0} (P : A → A → Type 0) (xs : List A) → ((x : A) → P x x) → EachExtends P xs xs
+pub each_stays : {A : Type 0} (P : A → A → Type 0) (xs : List A) → ((x : A) → P x x) → EachExtends P xs xs
 each_stays P xs h a x e = (x, e, h x)
 
 pub stays : (s : Store) → Extends s s
@@ -54,7 +54,7 @@ stays s = record {
   table_count = refl; memory_count = refl; global_count = refl; elem_count = refl; data_count = refl;
 }
 
-each_then : {A : Type 0} (P : A → A → Type 0) (xs ys zs : List A) → ((x y z : A) → P x y → P y z → P x z) → EachExtends P xs ys → EachExtends P ys zs → EachExtends P xs zs
+pub each_then : {A : Type 0} (P : A → A → Type 0) (xs ys zs : List A) → ((x y z : A) → P x y → P y z → P x z) → EachExtends P xs ys → EachExtends P ys zs → EachExtends P xs zs
 each_then P xs ys zs trans h k a x e =
     let y = h a x e in
     let z = k a y.0 y.1 in
@@ -93,7 +93,7 @@ put_there (x ∷ xs) (suc n) zero v h = refl
 put_there (x ∷ xs) (suc n) (suc m) v h = put_there xs n m v (λ e. h (ap suc e))
 
 -- one place is written with what extends the old
-each_put : {A : Type 0} (P : A → A → Type 0) (xs : List A) (n : ℕ) (old new : A) → ((x : A) → P x x) → at xs n ≡ Gives old → P old new → EachExtends P xs (put xs n new)
+pub each_put : {A : Type 0} (P : A → A → Type 0) (xs : List A) (n : ℕ) (old new : A) → ((x : A) → P x x) → at xs n ≡ Gives old → P old new → EachExtends P xs (put xs n new)
 each_put {A} P xs n old new same there p a x e = go (ℕ_discrete n a)
   where
     go : Dec (n ≡ a) → (y : A) × (at (put xs n new) a ≡ Gives y) × P x y

@@ -165,7 +165,7 @@ gathered g (i ∷ is) n fs ts ms gs f t m h = go i.desc f t m h (gathered g is (
 
 -- ---- the end of a path ----
 
-walk_more : {A E : Type 0} (next : A → Option (Next A E)) (n : ℕ) (a : A) (e : E) → walk next n a ≡ Some e → walk next (suc n) a ≡ Some e
+pub walk_more : {A E : Type 0} (next : A → Option (Next A E)) (n : ℕ) (a : A) (e : E) → walk next n a ≡ Some e → walk next (suc n) a ≡ Some e
 walk_more next zero a e h = cc
 walk_more next (suc n) a e h = go (next a) h (λ b. walk_more next n b e)
   where
@@ -201,7 +201,7 @@ in_space env parts p m i h Tables = h.tables
 in_space env parts p m i h Memories = h.mems
 in_space env parts p m i h Globals = h.globals
 
-thing_has : (k : Kind) (x : Thing) (a : ℕ) → address_of k x ≡ Some a → thing_at k a ≡ x
+pub thing_has : (k : Kind) (x : Thing) (a : ℕ) → address_of k x ≡ Some a → thing_at k a ≡ x
 thing_has Functions x a h = sym (func_is x a h)
 thing_has Tables x a h = sym (table_is x a h)
 thing_has Memories x a h = sym (memory_is x a h)

@@ -1,0 +1,115 @@
+-- Active segments of elements are a matter of tables and of segments of elements alone.
+use Rattle.std.proofs.Common.{◌≡◌, ◌∙◌, refl, ap, ℕ, suc, ◌<◌, List, [], ◌∷◌, map, Option, Some, None, true, false, cond}
+use Rattle.wasm_tree.specs.declared.module.ConstExpr.{ConstExpr}
+use Rattle.wasm_tree.specs.declared.module.ElemSeg.{ElemSeg}
+use Rattle.wasm_tree.specs.declared.module.ElemMode.{ElemMode}
+use Rattle.wasm_tree.specs.declared.module.ElemMode.TheVariants as elem
+use Rattle.wasm_num.specs.Operations.{W32}
+use Rattle.wasm_meaning.specs.Outcomes.{Outcome, Gives, Traps, IllTyped, overwrite, put}
+use Rattle.wasm_meaning.specs.State.{RefVal, Val, Inst, Table, Elem, Store}
+use Rattle.wasm_meaning.specs.Values.{num_of}
+use Rattle.wasm_meaning.specs.Step.{no_items}
+use Rattle.wasm_meaning.specs.Linking.{place, then_some}
+use Rattle.wasm_meaning.specs.Environment.{any_of}
+use Rattle.wasm_meaning.specs.World.{Filled, Task, given, tasks_in, or_trapped, fill_table, run_elem_with, and_then, in_turn}
+use Rattle.wasm_meaning.specs.InTurn.{is_active_elem}
+use Rattle.worlds_in_turn.proofs.Things.{then_is, some_is}
+use Rattle.worlds_in_turn.proofs.FillRuns.{Job, Skip, Fill, run, runs, LowJob, low_skip, low_fill, LowJobs, low_none, low_more, Kept, kept_skip, kept_fill, KeptAll, kept_none, kept_more}
+
+-- with the lists that come out set into the store; or a segment was out of bounds
+pub data Turned {X Y : Type 0} (set : List X × List Y → Store) : Option (List X × List Y) → Filled → Type 0 where
+  goes_on : {c : List X × List Y} → Turned set (Some c) (record { store = set c; trapped = false })
+  stops : {u : Store} → Turned set None (record { store = u; trapped = true })
+
+pub turned_some : {X Y : Type 0} {set : List X × List Y → Store} {o : Option (List X × List Y)} {f : Filled} → Turned set o f → (c : List X × List Y) → o ≡ Some c → f ≡ record { store = set c; trapped = false }
+turned_some {set = set} (goes_on {c = d}) c e = ap (λ c. record { store = set c; trapped = false }) (some_is e)
+turned_some stops c e = absurd (let k = e in cc)
+
+pub turned_not : {X Y : Type 0} {set : List X × List Y → Store} {o : Option (List X × List Y)} {f : Filled} → Turned set o f → f.trapped ≡ false → (c : List X × List Y) × (o ≡ Some c)
+turned_not (goes_on {c = c}) e = (c, refl)
+turned_not stops e = absurd (let k = e in cc)
+
+pub or_turned : {A X Y : Type 0} (set : List X × List Y → Store) (s : Store) (o : Option A) (g : A → Option (List X × List Y)) (f : A → Option Filled) → ((a : A) → Turned set (g a) (or_trapped s (f a))) → Turned set (then_some o g) (or_trapped s (then_some o f))
+or_turned set s None g f h = stops
+or_turned set s (Some a) g f h = h a
+
+-- ---- elements ----
+
+abbrev pub table_fill : Table → Elem → ℕ → Option Table
+table_fill t e n = then_some (given (overwrite t.slots n e.items)) (λ slots. Some (record t { slots = slots }))
+
+abbrev pub with_tables : Store → List Table × List Elem → Store
+with_tables s c = record s { tables = c.0; elems = c.1 }
+
+abbrev pub elem_runs : List Job → List Table × List Elem → Option (List Table × List Elem)
+elem_runs = runs Table Elem table_fill no_items
+
+abbrev pub elem_job : (ConstExpr → Option Val) → Inst → ℕ → ElemMode → Job
+elem_job value i n (elem.Active x offset) = Fill n (place i.tables x) (then_some (value offset) (λ v. given (num_of W32 v)))
+elem_job value i n elem.Passive = Skip
+elem_job value i n elem.Declarative = Skip
+
+abbrev pub elem_jobs : (ConstExpr → Option Val) → Inst → List ℕ → List ElemSeg → List Job
+elem_jobs value i (n ∷ ns) (e ∷ es) = elem_job value i n e.mode ∷ elem_jobs value i ns es
+elem_jobs value i _ _ = []
+
+abbrev pub elem_task_job : (ℕ → ConstExpr → Option Val) → Task ElemSeg → Job
+elem_task_job value task = elem_job (value task.part) task.inst task.address task.segment.mode
+
+abbrev pub elem_turn : (ℕ → ConstExpr → Option Val) → Store → Task ElemSeg → Filled
+elem_turn value s task = run_elem_with (value task.part) s task task.segment.mode
+
+elem_turned_one : (value : ConstExpr → Option Val) (s : Store) (task : Task ElemSeg) (mode : ElemMode) → Turned (with_tables s) (run Table Elem table_fill no_items (elem_job value task.inst task.address mode) (s.tables, s.elems)) (run_elem_with value s task mode)
+elem_turned_one value s task elem.Passive = goes_on
+elem_turned_one value s task elem.Declarative = goes_on
+elem_turned_one value s task (elem.Active x offset) =
+    or_turned (with_tables s) s (then_some (value offset) (λ v. given (num_of W32 v))) _ _ (λ n. or_turned (with_tables s) s (place task.inst.tables x) _ _ (λ a. or_turned (with_tables s) s (place s.tables a) _ _ (λ t. or_turned (with_tables s) s (place s.elems task.address) _ _ (λ e. last a t (overwrite t.slots n e.items)))))
+  where
+    last : (a : ℕ) (t : Table) (o : Outcome (List RefVal)) → Turned (with_tables s) (then_some (then_some (given o) (λ slots. Some (record t { slots = slots }))) (λ z. Some (put s.tables a z, put s.elems task.address no_items))) (fill_table s task.address a t o)
+    last a t (Gives slots) = goes_on
+    last a t Traps = stops
+    last a t IllTyped = stops
+
+pub elems_turned : (value : ℕ → ConstExpr → Option Val) (tasks : List (Task ElemSeg)) (s : Store) → Turned (with_tables s) (elem_runs (map (elem_task_job value) tasks) (s.tables, s.elems)) (in_turn (elem_turn value) s tasks)
+elems_turned value [] s = goes_on
+elems_turned value (task ∷ tasks) s = go (elem_turned_one (value task.part) s task task.segment.mode) (elems_turned value tasks)
+  where
+    go : {o : Option (List Table × List Elem)} {f : Filled} → Turned (with_tables s) o f → ((u : Store) → Turned (with_tables u) (elem_runs (map (elem_task_job value) tasks) (u.tables, u.elems)) (in_turn (elem_turn value) u tasks)) →
+        Turned (with_tables s) (then_some o (elem_runs (map (elem_task_job value) tasks))) (and_then f (λ s. in_turn (elem_turn value) s tasks))
+    go (goes_on {c = c}) h = h (with_tables s c)
+    go stops h = stops
+
+pub elem_tasks_jobs : (value : ℕ → ConstExpr → Option Val) (p : ℕ) (i : Inst) (ns : List ℕ) (es : List ElemSeg) → map (elem_task_job value) (tasks_in p i ns es) ≡ elem_jobs (value p) i ns es
+elem_tasks_jobs value p i [] es = refl
+elem_tasks_jobs value p i (n ∷ ns) [] = refl
+elem_tasks_jobs value p i (n ∷ ns) (e ∷ es) = ap (λ js. elem_job (value p) i n e.mode ∷ js) (elem_tasks_jobs value p i ns es)
+
+pub elems_skip : (value : ConstExpr → Option Val) (i : Inst) (ns : List ℕ) (es : List ElemSeg) → any_of (λ e. is_active_elem e.mode) es ≡ false → (c : List Table × List Elem) → elem_runs (elem_jobs value i ns es) c ≡ Some c
+elems_skip value i [] es h c = refl
+elems_skip value i (n ∷ ns) [] h c = refl
+elems_skip value i (n ∷ ns) (e ∷ es) h c = go e.mode h (elems_skip value i ns es)
+  where
+    go : (mode : ElemMode) → cond (is_active_elem mode) true (any_of (λ e. is_active_elem e.mode) es) ≡ false → (any_of (λ e. is_active_elem e.mode) es ≡ false → (c : List Table × List Elem) → elem_runs (elem_jobs value i ns es) c ≡ Some c) → elem_runs (elem_job value i n mode ∷ elem_jobs value i ns es) c ≡ Some c
+    go (elem.Active x offset) h more = absurd (let k = h in cc)
+    go elem.Passive h more = more h c
+    go elem.Declarative h more = more h c
+
+pub elems_low : (value : ConstExpr → Option Val) (i : Inst) (targets segments : ℕ) → ((x a : ℕ) → place i.tables x ≡ Some a → a < targets) → (ns : List ℕ) (es : List ElemSeg) → ((x a : ℕ) → place ns x ≡ Some a → a < segments) → LowJobs targets segments (elem_jobs value i ns es)
+elems_low value i targets segments f [] es g = low_none
+elems_low value i targets segments f (n ∷ ns) [] g = low_none
+elems_low value i targets segments f (n ∷ ns) (e ∷ es) g = low_more (one e.mode) (elems_low value i targets segments f ns es (λ x a h. g (suc x) a h))
+  where
+    one : (mode : ElemMode) → LowJob targets segments (elem_job value i n mode)
+    one (elem.Active x offset) = low_fill (g 0 n refl) (f x)
+    one elem.Passive = low_skip
+    one elem.Declarative = low_skip
+
+pub elems_kept : (v w : ConstExpr → Option Val) (i : Inst) (ns : List ℕ) (es : List ElemSeg) → ((n : ℕ) (s : ElemSeg) (x : _) (e : ConstExpr) → place es n ≡ Some s → s.mode ≡ elem.Active x e → (u : Val) → v e ≡ Some u → w e ≡ Some u) → KeptAll (elem_jobs v i ns es) (elem_jobs w i ns es)
+elems_kept v w i [] es h = kept_none
+elems_kept v w i (n ∷ ns) [] h = kept_none
+elems_kept v w i (n ∷ ns) (e ∷ es) h = kept_more (one e.mode refl) (elems_kept v w i ns es (λ n s x e at m u k. h (suc n) s x e at m u k))
+  where
+    one : (mode : ElemMode) → e.mode ≡ mode → Kept (elem_job v i n mode) (elem_job w i n mode)
+    one (elem.Active x offset) m = kept_fill (λ a k. let u = then_is (v offset) _ a k in ap (λ o. then_some o (λ v. given (num_of W32 v))) (h 0 e x offset refl m u.0 u.1) ∙ u.2)
+    one elem.Passive m = kept_skip
+    one elem.Declarative m = kept_skip
