@@ -31,3 +31,5 @@ mod FillHolds
 mod FillValid
 mod FillGiven
 mod FillWorld
+mod Started
+mod Assembled
