@@ -86,7 +86,7 @@ RelatedTicksAgree =
     (of : Kind → ℕ → ℕ → Bool) → OneToOne (passed of of []) → (r q : Run) → RunRel (passed of of []) (EntryByEntry (passed of of [])) (EntryByEntry (passed of of [])) r q →
     OutRel (passed of of []) (EntryByEntry (passed of of [])) (EntryByEntry (passed of of [])) (tick r) (tick q)
 
--- A step of a run that was instantiated leaves what nothing of the other run is related to.
+-- Once both are instantiated, a step of the second run leaves as it was what nothing of the first is related to.
 abbrev pub OthersStay : Type 0
 OthersStay =
     (of : Kind → ℕ → ℕ → Bool) → OneToOne (passed of of []) → (r q : Run) → RunRel (passed of of []) (EntryByEntry (passed of of [])) (EntryByEntry (passed of of [])) r q → IsBegun r.phase →

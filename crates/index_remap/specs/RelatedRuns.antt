@@ -58,7 +58,7 @@ pub record KeepsOthers (R : Pairing) (before after : Store) : Type 0 where
   pub elems : (b : ℕ) → HasNoPartner R Elems b → at after.elems b ≡ at before.elems b
   pub datas : (b : ℕ) → HasNoPartner R Datas b → at after.datas b ≡ at before.datas b
 
--- it was instantiated
+-- its instantiation is past
 abbrev pub IsBegun : Phase → Type 0
 IsBegun (Fresh b) = ⊥
 IsBegun _ = Unit {0}

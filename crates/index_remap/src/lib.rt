@@ -26,14 +26,14 @@ pub fn steps_agree()
 {}
 
 /// A body with other indices is related to what it was, where each index that it names and its entry stand for the same: the relation of which `steps_agree` speaks
-/// (`code`). Over one instance code is related to itself (`itself`).
+/// (`code`). Over one instance, whose addresses code may name as one with themselves, code is related to itself (`itself`).
 pub fn renumbered_code_is_related()
     ensures code { RenumberedCodeIsRelated }
     ensures itself { CodeIsRelatedToItself }
 {}
 
-/// Two runs that are related show the same events, in however many steps (`events`): each step leaves them related (`ticks`), and what has no partner as it
-/// was (`others`).
+/// Two runs that are related show the same events, in however many steps (`events`): each step leaves them related (`ticks`). Once they are instantiated, it
+/// leaves what has no partner in the second as it was (`others`).
 pub fn related_runs_show_the_same()
     ensures events { RelatedRunsShowTheSame }
     ensures ticks { RelatedTicksAgree }

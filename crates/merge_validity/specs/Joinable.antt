@@ -12,7 +12,7 @@ use Rattle.merge_terms.specs.Joined.{joined_module, over_limit, repeated_name}
 abbrev pub EachPart : (Module → Type 0) → List Part → Type 0
 EachPart P parts = (p : ℕ) (m : Module) → module_at parts p ≡ Some m → P m
 
--- Valid modules whose imports are linked; where the mode lets no name stand twice, none does, and no list is too long.
+-- Valid modules, each of whose lists a u32 can count, that link without a fault; where the mode lets no name stand twice, none does, and no list is too long.
 pub record CanBeJoined (parts : List Part) (mode : Mode) : Type 0 where
   pub valid : EachPart IsValid parts
   pub bounded : EachPart IsBounded parts

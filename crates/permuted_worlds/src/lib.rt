@@ -17,7 +17,8 @@ use remap_typing::renumbering_keeps_typing;
 use wasm_meaning::what_stands_below_is_not_seen;
 
 /// In the world of a module alone each import is its own end (`ends`) and stands for what the environment offers of its name, or for nothing (`things`); the
-/// index spaces are these, then what the module defines (`spaces`); and constant expressions read what stands in them (`reads`).
+/// index spaces are these, then what the module defines (`spaces`); and what a constant expression reads is the expression itself, or the `global.get` of the
+/// import that it names (`reads`).
 pub fn imports_of_one_module_stay()
     ensures ends { ImportsStay }
     ensures things { ImportsStandForTheEnvironments }
@@ -25,7 +26,7 @@ pub fn imports_of_one_module_stay()
     ensures reads { ReadsStay }
 {}
 
-/// Where each address of the environment's own entities stands for itself, so do their keys, and what is allocated for them corresponds.
+/// Where each address of the environment's own entities stands for itself, their keys correspond, and the tables and globals that are allocated for them do.
 pub fn own_entities_correspond()
     ensures own { OwnEntitiesCorrespond }
 {}

@@ -18,6 +18,8 @@ use Rattle.wasm_format.specs.Files.{Spells, Within}
 use Rattle.wasm_meaning.specs.Linking.{Part, module_at}
 use Rattle.merge_validity.specs.Joinable.{CanBeJoined}
 use Rattle.merge_worlds.specs.Laws.{BehavesAs}
+use Rattle.worlds_in_turn.specs.Laws.{TurnsAreNotSeen}
+use Rattle.merge_terms.specs.View.{linked_world}
 use Rattle.wasm_tree.specs.declared.which.Which.{Which}
 use Rattle.merge_terms.specs.Joined.{over_limit, joined_module, repeated_name, outcome}
 use Rattle.wasm_plain.specs.Plain.{plain}
@@ -38,6 +40,7 @@ pub record Respelled : Type 0 where
   pub in_range : (parts : List Part) (mode : Mode) → Every (λ (p : Part). InRange p.«module») parts → IsValid (joined_module parts mode) → IsSingle (joined_module parts mode) → IsBounded (joined_module parts mode)
       → InRange (joined_module parts mode)
   pub same : (parts : List Part) (mode : Mode) → CanBeJoined parts mode → BehavesAs parts mode (joined_module parts mode)
+  pub turns : TurnsAreNotSeen
 
 sound_at : (P : Module → Type 0) → ((p : Part) → IsSound p → P p.«module») → (parts : List Part) → Every IsSound parts → (n : ℕ) (m : Module) → module_at parts n ≡ Some m → P m
 sound_at P f [] h n m e = absurd (cc)
@@ -150,15 +153,17 @@ written_keeps : Respelled → (sources : List Source) (output : Text) (mode : Mo
 written_keeps k sources output mode before files trees tree job e loads is (too_large large) = tt
 written_keeps k sources output mode before files trees tree job e loads is (written fits) =
     let sound = merged_is_sound k (parts_of sources trees) mode tree (parts_sound k sources files trees loads) (parts_in_range k sources files trees loads) is in
-    let short : length (plain tree) < 2 ^ 32 = omega arith in (
-      trees,
-      tree,
-      files_hold before (map (λ s. s.file) sources) most_input files trees e loads,
-      is,
-      (plain tree, written_there before output (plain tree), k.plainly tree sound.1 short),
-      sound.0,
-      sound.2,
-    )
+    let short : length (plain tree) < 2 ^ 32 = omega arith in
+    record {
+      trees = trees;
+      tree = tree;
+      read = files_hold before (map (λ s. s.file) sources) most_input files trees e loads;
+      merged = is;
+      written = (plain tree, written_there before output (plain tree), k.plainly tree sound.1 short);
+      accepted = sound.0;
+      behaves = sound.2;
+      in_turn = k.turns (linked_world (parts_of sources trees) mode) (sound_at IsValid (λ p h. h.0) (parts_of sources trees) (parts_sound k sources files trees loads));
+    }
 
 merge_keeps : Respelled → (sources : List Source) (output : Text) (mode : Mode) (before : Contents) (files : List Entry) (job : Job) → gathered (map (λ s. s.file) sources) before most_input ≡ Whole files → Merges sources output mode files job → DecisionKeeps (Merge sources output mode) before job
 merge_keeps k sources output mode before files job e (not_loaded text h) = tt

@@ -2,11 +2,14 @@
 use Rattle.std.specs.Prelude.{◌≡◌, false, List, [], ◌∷◌, map, Option, Some}
 use Rattle.std.specs.FinMap.{get}
 use Rattle.tool_io.specs.Outside.{Contents}
-use Rattle.tools_cli.specs.Words.{Text, Task, Merge, task_of}
+use Rattle.tools_cli.specs.Words.{Text, Source, Task, Merge, task_of}
 use Rattle.tools_cli.specs.Job.{IsAccepted, parts_of, AreMerged}
 use Rattle.wasm_tree.specs.declared.module.Module.{Module}
 use Rattle.wasm_format.specs.Files.{Spells}
+use Rattle.export_names.specs.declared.mode.Mode.{Mode}
+use Rattle.merge_terms.specs.View.{linked_world}
 use Rattle.merge_worlds.specs.Laws.{BehavesAs}
+use Rattle.worlds_in_turn.specs.Laws.{MayComeInTurn}
 
 -- The file of this name spells this module.
 abbrev pub HoldsModule : Contents → Text → Module → Type 0
@@ -18,18 +21,28 @@ HoldModules files [] [] = Unit {0}
 HoldModules files (name ∷ names) (tree ∷ trees) = HoldsModule files name tree × HoldModules files names trees
 HoldModules files _ _ = ⊥
 
--- A merge: its files spelled modules before, and its output spells the module that these parts are merged into, which is valid. It behaves as the parts do
--- where they are linked by their NAMEs and an embedder sees their exports under the names that the mode gives: to each environment and all that an embedder
--- does, whatever it sees of the parts in some number of steps it sees of the module alone in at most four more, and the other way round.
+-- A merge. Its files spelled modules before, and its output spells the module that these parts are merged into, which is valid and behaves as the parts do where
+-- they are linked by their NAMEs and an embedder sees their exports under the names that the mode gives: in each environment, by each list of moves, whatever is
+-- seen of the parts in some number of steps is seen of the module alone in at most four more, and the other way round. Where OUT is one of the FILEs, the parts are
+-- what stood there before.
+pub record MergeKeeps (sources : List Source) (output : Text) (mode : Mode) (before after : Contents) : Type 0 where
+  pub trees : List Module
+  pub tree : Module
+  pub read : HoldModules before (map (λ s. s.file) sources) trees
+  pub merged : AreMerged (parts_of sources trees) mode tree
+  pub written : HoldsModule after output tree
+  pub accepted : IsAccepted tree
+  pub behaves : BehavesAs (parts_of sources trees) mode tree
+  -- where the parts import from earlier ones alone, they may be instantiated one after the other
+  pub in_turn : MayComeInTurn (linked_world (parts_of sources trees) mode)
+
 abbrev pub TaskKeeps : Task → Contents → Contents → Type 0
-TaskKeeps (Merge sources output mode) before after =
-    (trees : List Module) × (tree : Module) × HoldModules before (map (λ s. s.file) sources) trees × AreMerged (parts_of sources trees) mode tree × HoldsModule after output tree × IsAccepted tree
-    × BehavesAs (parts_of sources trees) mode tree
+TaskKeeps (Merge sources output mode) = MergeKeeps sources output mode
 
 -- The words ask for a task, and it keeps what it read.
 abbrev pub Keeps : List Text → Contents → Contents → Type 0
 Keeps words before after = (task : Task) × (task_of words ≡ Some task) × TaskKeeps task before after
 
--- The files are told after the run, and what was read is kept in them.
+-- The files are told after the run, and the task has kept, in this sense, what it read.
 abbrev pub EndsKept : List Text → Contents → Option Contents → Type 0
 EndsKept words before new = (after : Contents) × (new ≡ Some after) × Keeps words before after

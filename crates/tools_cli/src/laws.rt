@@ -9,6 +9,7 @@ use merge_ranges::merged_modules_are_in_range;
 use merge_validity::merged_modules_are_valid;
 use merge_worlds::merged_modules_show_the_same;
 use plain_law::{plain_spells, spelled_trees_are_in_range};
+use worlds_in_turn::turns_are_not_seen;
 use wasm_format::{no_fault_where_spelled, one_tree, spelled_trees_are_bounded};
 
 /// A command line has at most one job over some files.
@@ -30,4 +31,5 @@ pub fn done_jobs_keep_the_modules()
     merged_modules_are_valid();
     merged_modules_are_in_range();
     merged_modules_show_the_same();
+    turns_are_not_seen();
 }

@@ -20,7 +20,7 @@ pub data GivesNothing : List Entry → Type 0 where
   a_call : GivesNothing (Waiting [] ∷ [])
   over : {e : Entry} {es : List Entry} → is_opening e ≡ false → GivesNothing es → GivesNothing (e ∷ es)
 
--- What a step comes to over the one and over the other, in its phase each, with these functions in the store: the start goes on, or has ended, or trapped.
+-- What a step comes to over the one and over the other, in its phase each: the start goes on or has ended, with these functions in the store, or it trapped.
 pub data Unseen (cs ds : List Entry) (p q : Phase) (funcs : List Func) : Out → Out → Type 0 where
   goes_on : {event : Option Event} (r : Run) (es : List Entry) → r.store.funcs ≡ funcs → GivesNothing es →
       Unseen cs ds p q funcs (record r { entries = es ++ cs; phase = p }, event) (record r { entries = es ++ ds; phase = q }, event)

@@ -55,7 +55,8 @@ abbrev pub added_as : Store → Module → Inst → Option Added
 added_as s m i =
     then_some (store_with (const_value s.globals i) m i) (λ t. Some (record { inst = i; filled = own_segments (const_value s.globals i) m i (joined_stores s t) }))
 
--- None where an import does not match. Constant expressions read the imported globals as they are now.
+-- None where an import does not match. (It is none as well where an index names nothing or an item is no reference, which no valid module has.) Constant
+-- expressions read the imported globals as they are now.
 abbrev pub added : Store → Module → List Thing → Option Added
 added s m things = cond (all_match s m m.imports things) (added_as s m (next_inst s m things)) None
 
@@ -74,7 +75,7 @@ made_named (x ∷ xs) name = cond (is_named name x.part) (Some x) (made_named xs
 abbrev pub exported_by : List Made → Import → Option (Made × ExportDesc)
 exported_by made i = then_some (made_named made i.«module») (λ x. then_some (export_named x.part.«module».exports i.field) (λ d. Some (x, d)))
 
--- that, or where there is no such part or export the environment's own
+-- that, or where there is no such part or export the environment's own. A part whose turn has not come is not there, so that the environment is asked.
 abbrev pub thing_or_own : Owned → Module → Import → Option (Made × ExportDesc) → Option Thing
 thing_or_own owned m i None = then_some (own_key m i) (λ key. given (owned_at owned key))
 thing_or_own owned m i (Some x) = address_in x.0.inst x.1
@@ -91,11 +92,11 @@ pub record InTurn : Type 0 where
   pub rest : List Part
   pub view : List (Text × Entity)
 
--- the view over these instances
 abbrev pub or_empty : {A : Type 0} → Option (List A) → List A
 or_empty None = []
 or_empty (Some xs) = xs
 
+-- the view over these parts; it is empty while a name of it stands for a part that is not there
 abbrev pub view_over : List Made → List (Text × Entity) → List (Text × Thing)
 view_over made view = or_empty (all_there (seen_as (map (λ x. x.inst) made)) view)
 
@@ -129,7 +130,7 @@ turn_at q rest es = with_run q (tick q.run)
 abbrev pub tick_in_turn : InTurn → InTurn × Option Event
 tick_in_turn q = turn_at q q.rest q.run.entries
 
--- before the first part's turn
+-- Before the first part's turn. No start is left to be made, which is when the next turn comes.
 abbrev pub before_turns : Environment → World → List Move → InTurn
 before_turns env w moves = record {
   run = record (fresh_run env None moves) { entries = Opening [] ∷ []; phase = Pending [] };
@@ -156,7 +157,7 @@ abbrev pub is_active_data : DataMode → Bool
 is_active_data (data'.Active memory offset) = true
 is_active_data data'.Passive = false
 
--- no active segment writes anything at instantiation
+-- it has no active segment
 pub record HasNoActive (m : Module) : Type 0 where
   pub elems : any_of (λ e. is_active_elem e.mode) m.elems ≡ false
   pub datas : any_of (λ d. is_active_data d.mode) m.datas ≡ false

@@ -153,16 +153,16 @@ inst_of env parts p m =
 
 -- ---- constant expressions ----
 
--- the value of an expression that reads no joined global; of globals it sees the environment's
+-- the value of an expression; of globals it sees these
 abbrev pub const_value : List Global → Inst → ConstExpr → Option Val
-const_value own i (const.I32 v) = Some (Num W32 (wrapped 32 v))
-const_value own i (const.I64 v) = Some (Num W64 (wrapped 64 v))
-const_value own i (const.Null t) = Some (Ref (null_of t))
-const_value own i (const.Func f) = then_some (place i.funcs f) (λ a. Some (Ref (FuncRef (Some a))))
-const_value own i (const.Global x) = then_some (place i.globals x) (λ a. then_some (place own a) (λ g. Some g.value))
+const_value globals i (const.I32 v) = Some (Num W32 (wrapped 32 v))
+const_value globals i (const.I64 v) = Some (Num W64 (wrapped 64 v))
+const_value globals i (const.Null t) = Some (Ref (null_of t))
+const_value globals i (const.Func f) = then_some (place i.funcs f) (λ a. Some (Ref (FuncRef (Some a))))
+const_value globals i (const.Global x) = then_some (place i.globals x) (λ a. then_some (place globals a) (λ g. Some g.value))
 
 abbrev pub value_of_read : List Global → List Inst → Read → Option Val
-value_of_read own insts r = then_some (place insts r.part) (λ i. const_value own i r.expr)
+value_of_read own insts r = then_some (place insts r.part) (λ i. const_value globals i r.expr)
 
 -- the value of an expression of a part, by the read that it leads to
 abbrev pub value_of : Environment → List Part → List Inst → ℕ → ConstExpr → Option Val
@@ -179,7 +179,7 @@ number_value env parts insts p expr = then_some (value_of env parts insts p expr
 abbrev pub new_func : Inst → tree.Func → Option Func
 new_func i f = then_some (place i.types f.ty) (λ t. Some (Code t i (declared f.locals) f.body))
 
--- a global, an element segment and all else that a module of this instance adds to the store, where constant expressions have these values
+-- what a module of this instance adds to the store, where constant expressions have these values: a global
 abbrev pub global_with : (ConstExpr → Option Val) → GlobalDef → Option Global
 global_with value g = then_some (value g.init) (λ v. Some (record { ty = g.ty; value = v }))
 
@@ -191,12 +191,14 @@ abbrev pub new_elem : ElemMode → List RefVal → Elem
 new_elem elem.Declarative items = no_items
 new_elem mode items = record { items = items; dropped = false }
 
+-- an element segment
 abbrev pub elem_with : (ConstExpr → Option Val) → ElemSeg → Option Elem
 elem_with value e = then_some (all_there (λ x. then_some (value x) (λ v. given (ref_of v))) e.items) (λ items. Some (new_elem e.mode items))
 
 abbrev pub elem_of : Environment → List Part → List Inst → ℕ → ElemSeg → Option Elem
 elem_of env parts insts p = elem_with (value_of env parts insts p)
 
+-- and all of it
 abbrev pub store_with : (ConstExpr → Option Val) → Module → Inst → Option Store
 store_with value m i =
     then_some (all_there (new_func i) m.funcs) (λ funcs. then_some (all_there (global_with value) m.globals) (λ globals. then_some (all_there (elem_with value) m.elems) (λ elems.
@@ -303,7 +305,7 @@ abbrev pub copy_elem : Store → (segment : ℕ) → Inst → (table : ℕ) → 
 copy_elem s segment i x offset =
     or_trapped s (then_some offset (λ n. then_some (place i.tables x) (λ a. then_some (place s.tables a) (λ t. then_some (place s.elems segment) (λ e. Some (fill_table s segment a t (overwrite t.slots n e.items)))))))
 
--- where constant expressions have these values
+-- by its mode, where constant expressions have these values
 abbrev pub run_elem_with : (ConstExpr → Option Val) → Store → Task ElemSeg → ElemMode → Filled
 run_elem_with value s task (elem.Active x offset) = copy_elem s task.address task.inst x (then_some (value offset) (λ v. given (num_of W32 v)))
 run_elem_with value s task _ = record { store = s; trapped = false }
@@ -323,6 +325,7 @@ abbrev pub copy_data : Store → (segment : ℕ) → Inst → (memory : ℕ) →
 copy_data s segment i x offset =
     or_trapped s (then_some offset (λ n. then_some (place i.mems x) (λ a. then_some (place s.mems a) (λ m. then_some (place s.datas segment) (λ d. Some (fill_memory s segment a m (overwrite m.bytes n d.bytes)))))))
 
+-- by its mode, where constant expressions have these values
 abbrev pub run_data_with : (ConstExpr → Option Val) → Store → Task DataSeg → DataMode → Filled
 run_data_with value s task (data'.Active x offset) = copy_data s task.address task.inst x (then_some (value offset) (λ v. given (num_of W32 v)))
 run_data_with value s task data'.Passive = record { store = s; trapped = false }

@@ -15,8 +15,10 @@ ShowsTheSameInTurn w =
     (env : Environment) → IsTrue (is_environment env) → BeginsWell env w → (moves : List Move) (n : ℕ) →
     IsPrefix (events w env moves n) (events_in_turn w env moves (n + 4 * length w.parts)) × IsPrefix (events_in_turn w env moves n) (events w env moves (n + 4 * length w.parts))
 
--- So it is for a world of at least one part, all valid, in which each joined import leads to an earlier part and no part after one with a start has an active
--- segment.
+-- So it is where there is at least one part, each joined import leads to an earlier part, and no part after one with a start has an active segment.
+abbrev pub MayComeInTurn : World → Type 0
+MayComeInTurn w = 0 < length w.parts → JoinsEarlier w.parts → NoLateSegments w.parts → ShowsTheSameInTurn w
+
+-- And that for every world of valid parts. (Validity is needed: one part may not read a mutable global of another for its own, which a start could have set.)
 abbrev pub TurnsAreNotSeen : Type 0
-TurnsAreNotSeen =
-    (w : World) → ((p : ℕ) (m : Module) → module_at w.parts p ≡ Some m → IsValid m) → 0 < length w.parts → JoinsEarlier w.parts → NoLateSegments w.parts → ShowsTheSameInTurn w
+TurnsAreNotSeen = (w : World) → ((p : ℕ) (m : Module) → module_at w.parts p ≡ Some m → IsValid m) → MayComeInTurn w

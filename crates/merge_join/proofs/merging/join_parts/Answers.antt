@@ -6,6 +6,7 @@ use Rattle.wasm_meaning.specs.Linking.{Part, module_at}
 use Rattle.export_names.specs.declared.mode.Mode.{Mode}
 use Rattle.merge_terms.specs.Faults.{link_fault}
 use Rattle.merge_terms.specs.Parts.{named_modules}
+use Rattle.merge_terms.specs.View.{linked_world}
 use Rattle.merge_terms.specs.Joined.{joined_module, over_limit, repeated_name, Joins}
 use Rattle.merge_validity.specs.Joinable.{CanBeJoined}
 use Rattle.merge_worlds.specs.Laws.{BehavesAs}
@@ -52,3 +53,6 @@ returns-clause-same c =
     let mode = c.args.mode in
     let can = can_join ps mode c.in_ok-tree.tree c.parts_hold.ensures c.requires.linked c.in_ok-tree.ensures.joined in
     subst (BehavesAs ps mode) (can.1 ∙ sym c.known.ensures) (c.merged_modules_show_the_same.ensures.same ps mode can.0)
+
+pub returns-clause-in_turn : goal.returns-clause-in_turn
+returns-clause-in_turn c = c.turns_are_not_seen.ensures.turns (linked_world (named_modules c.args.parts.now) c.args.mode) (λ p m at. (c.parts_hold.ensures p m at).0)

@@ -13,4 +13,5 @@ returns c words before writes lines h =
       sizes = c.merged_modules_are_valid.ensures.bounded;
       in_range = c.merged_modules_are_in_range.ensures;
       same = c.merged_modules_show_the_same.ensures.same;
+      turns = c.turns_are_not_seen.ensures.turns;
     }) words before writes lines h
