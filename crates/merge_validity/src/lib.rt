@@ -60,7 +60,7 @@ pub fn maps_have_entries()
 
 /// Where parts are linked, each import ends with what it asks for, inside or outside (`ends`), and what stays is its own end (`stays`); the sites are the
 /// imports that are there (`sites`). In the merged module each import that stays, each index, each definition and each type of a part has its place
-/// (`places`, `indices`, `defined`, `types`), and what is defined are the definitions of all parts (`counts`).
+/// (`places`, `indices`, `defined`, `types`), and what is defined are the definitions of all parts, and the function that calls the starts where one does (`counts`).
 pub fn linked_imports_have_ends()
     ensures ends { LinkedImportsEnd }
     ensures stays { StayingImportsEndThere }
