@@ -31,3 +31,4 @@ mod FillHolds
 mod FillValid
 mod FillGiven
 mod FillWorld
+mod FillStarts
