@@ -32,3 +32,4 @@ mod FillValid
 mod FillGiven
 mod FillWorld
 mod FillStarts
+mod FillBegins
