@@ -1,5 +1,5 @@
 -- Of valid parts that the environment links, and of which no segment traps, all is known that the run in turn asks.
-use Rattle.std.proofs.Common.{◌≡◌, ◌∙◌, refl, sym, ap, subst, ℕ, suc, ◌<◌, List, [], ◌∷◌, length, Option, Some, None, Bool, true, false, cond, arith}
+use Rattle.std.proofs.Common.{◌≡◌, ◌∙◌, refl, sym, ap, ℕ, suc, ◌<◌, List, [], ◌∷◌, length, Some, None, Bool, true, false, cond}
 use Rattle.std.specs.Prelude.{◌↔◌}
 use Rattle.wasm_tree.specs.declared.module.Module.{Module}
 use Rattle.wasm_valid.specs.declared.kinds.ItemKind.{ItemKind}
@@ -8,7 +8,7 @@ use Rattle.wasm_meaning.specs.State.{Text, Inst, Store}
 use Rattle.wasm_meaning.specs.Linking.{Part, module_at, sites}
 use Rattle.wasm_meaning.specs.Environment.{Environment, Thing, all_of}
 use Rattle.wasm_meaning.specs.World.{World, Begun, begun, own_store, inst_of, insts_from, stores_from, all_there, seen_as, is_matched, segments, instantiate}
-use Rattle.wasm_meaning.specs.InTurn.{JoinsEarlier, NoLateSegments, BeginsWell}
+use Rattle.wasm_meaning.specs.InTurn.{JoinsEarlier, NoLateSegments}
 use Rattle.permuted_worlds.specs.Owned.{OwnEntitiesCorrespond}
 use Rattle.worlds_in_turn.proofs.Things.{then_is, some_is}
 use Rattle.worlds_in_turn.proofs.Given.{IsGiven}

@@ -1,8 +1,7 @@
 -- The start function of a valid part, at its address in the store at once, takes nothing and gives nothing.
-use Rattle.std.proofs.Common.{◌≡◌, ◌∙◌, refl, sym, ap, ap₂, subst, ℕ, zero, suc, ◌+◌, ◌-◌, ◌<◌, ◌≤◌, List, [], ◌∷◌, ◌++◌, map, length, Option, Some, None, Bool, true, false, cond, ◌⊎◌, inl, inr, arith}
+use Rattle.std.proofs.Common.{◌≡◌, ◌∙◌, refl, sym, ap, ap₂, ℕ, zero, suc, ◌+◌, ◌<◌, List, [], ◌∷◌, ◌++◌, map, length, Option, Some, None, Bool, true, false, cond, ◌⊎◌, inl, inr, arith}
 use Rattle.std.specs.Prelude.{◌↔◌, slice_get, option_and_then}
-use Rattle.std.specs.List.{filter_map, cons_option}
-use Rattle.std.proofs.lemmas.Bool.{cases_lt}
+use Rattle.std.specs.List.{cons_option}
 use Rattle.wasm_tree.specs.declared.types.RefType.{RefType}
 use Rattle.wasm_tree.specs.declared.types.RefType.TheVariants as reft
 use Rattle.wasm_tree.specs.declared.types.ValType.{ValType}
@@ -24,11 +23,11 @@ use Rattle.wasm_meaning.specs.Control.{type_at}
 use Rattle.wasm_meaning.specs.Control as control
 use Rattle.wasm_meaning.specs.Linking.{Part, Functions, place, places, has_kind, same_kind, kind_of_import, then_some, module_at, import_at, imports_of, sites}
 use Rattle.wasm_meaning.specs.Environment.{Environment, FuncAt, all_of}
-use Rattle.wasm_meaning.specs.World.{base, given, import_type, is_match, is_matched, imported_thing, insts_from, own_store, stores_from, part_store, joined_stores, or_false, all_there, new_func, numbers, defined_count}
-use Rattle.worlds_in_turn.proofs.Things.{then_is, some_is, space_is, in_space, thing_has, all_place, all_length, numbers_place, place_behind}
+use Rattle.wasm_meaning.specs.World.{base, given, is_match, is_matched, imported_thing, insts_from, own_store, stores_from, joined_stores, or_false, all_there, new_func, numbers}
+use Rattle.worlds_in_turn.proofs.Things.{then_is, some_is, space_is, thing_has, all_place, all_length, numbers_place, place_behind}
 use Rattle.worlds_in_turn.proofs.Turn.{place_at}
 use Rattle.worlds_in_turn.proofs.Making.{nothing_to_nothing}
-use Rattle.worlds_in_turn.proofs.FillAddresses.{HasAddress, import_address}
+use Rattle.worlds_in_turn.proofs.FillAddresses.{import_address}
 use Rattle.worlds_in_turn.proofs.FillStores.{adds, rest_from, rest_next, first_stores, first_parts, part_adds, module_low}
 use Rattle.worlds_in_turn.proofs.FillValues.{place_low, place_within, part_inst, all_from}
 
