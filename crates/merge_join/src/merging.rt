@@ -6,12 +6,14 @@ ghost use Rattle.merge_terms.specs.Faults.{link_fault};
 ghost use Rattle.merge_terms.specs.Joined.{FewInAll, Joins};
 ghost use Rattle.merge_terms.specs.Linked.{AreLinks};
 ghost use Rattle.merge_terms.specs.Parts.{named_modules};
+ghost use Rattle.merge_worlds.specs.Laws.{BehavesAs};
 
 use crate::linked::parts_hold;
 use crate::tree::joined_tree;
 use export_names::Mode;
 use merge_terms::{JoinFault, Links, Part};
 use merge_validity::merged_modules_are_valid;
+use merge_worlds::merged_modules_show_the_same;
 use std::alloc::Global;
 use wasm_bytes::Items;
 use wasm_valid::Valid;
@@ -22,9 +24,11 @@ fn join_parts(alloc: Global, parts: &[Part], links: &Links, mode: Mode) -> Resul
     requires linked { link_fault (named_modules parts.now) ≡ None }
     requires few { FewInAll (named_modules parts.now) }
     ensures joined { IfOk result (λ valid. Joins (named_modules parts.now) mode (Ok valid)) }
+    ensures same { IfOk result (λ valid. BehavesAs (named_modules parts.now) mode valid) }
     ensures fault { IfErr result (λ f. (f ≡ OutOfMemory) ⊎ Joins (named_modules parts.now) mode (Err f)) }
 {
     merged_modules_are_valid();
+    merged_modules_show_the_same();
     parts_hold(parts);
     let tree = joined_tree(alloc, parts, links, mode)?;
     Ok(Valid::known(tree))
@@ -35,7 +39,8 @@ fn join_parts(alloc: Global, parts: &[Part], links: &Links, mode: Mode) -> Resul
 /// Its types are the distinct ones of the parts, its imports those that stay, and its functions, tables, memories, globals and segments what the parts
 /// define, by part. Each index is the one in the merged index spaces, and a constant expression that reads a joined global becomes what it reads. Where
 /// several parts have a start, one more function calls each, by part. Exports have the names that the mode gives them, and functions that `ref.func` names
-/// are declared (WebAssembly Core 2.0, sections 2.5 and 3.4.10). The module is valid.
+/// are declared (WebAssembly Core 2.0, sections 2.5 and 3.4.10). The module is valid, and alone it shows each embedder the same as the parts, linked by name,
+/// in at most four steps more (`same`, section 4.5.4 for several modules together).
 ///
 /// `ExportConflict` comes exactly where the mode is `Refuse` and a name came before, with the first such name; else `TooMany` exactly where a count of
 /// the merged module is above its limit, with the first such count in the order types, imports, functions, tables, memories, globals, exports, element
@@ -50,6 +55,7 @@ pub fn join(
     requires linked { link_fault (named_modules parts) ≡ None }
     requires few { FewInAll (named_modules parts) }
     ensures joined { IfOk result (λ valid. Joins (named_modules parts) mode (Ok valid)) }
+    ensures same { IfOk result (λ valid. BehavesAs (named_modules parts) mode valid) }
     ensures fault { IfErr result (λ f. (f ≡ OutOfMemory) ⊎ Joins (named_modules parts) mode (Err f)) }
 {
     join_parts(alloc, parts.as_slice(), links, mode)

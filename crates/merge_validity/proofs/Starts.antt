@@ -8,19 +8,21 @@ use Rattle.wasm_tree.specs.declared.instr.Instr.TheVariants.{Call}
 use Rattle.wasm_tree.specs.Spaces.{funcs_of, type_of_func}
 use Rattle.wasm_typing.specs.Typing.{Context, Gives, LeadsAll, WellTyped, effect_of, gives_of, signature_in, then_option}
 use Rattle.wasm_valid.specs.declared.kinds.ItemKind.TheVariants as kind
-use Rattle.wasm_valid.specs.Validity.{HoldsAt, start_count, body_context}
+use Rattle.wasm_valid.specs.Validity.{IsValid, HoldsAt, start_count, body_context}
 use Rattle.wasm_meaning.specs.State.{Text}
 use Rattle.wasm_meaning.specs.Laws.{EndsArePaths}
 use Rattle.wasm_meaning.specs.World.{defined_before}
 use Rattle.wasm_meaning.specs.Linking.{Part, Functions, module_at}
+use Rattle.wasm_meaning.specs.Linking as linking
 use Rattle.remap_typing.specs.ButForReferences.{any_named, HoldsButForReferences}
 use Rattle.merge_terms.specs.Merged.{merged, staying_of, new_index, by_part, start_of, starts, start_among, start_calls, nullary, place_of_type, defined_funcs}
-use Rattle.merge_validity.proofs.Lists.{Has, behind}
+use Rattle.merge_validity.specs.Started.{StartsTakeNothing}
+use Rattle.merge_validity.proofs.Lists.{Has, place_get, behind}
 use Rattle.merge_validity.proofs.Entities.{FuncTy, type_at, own, imported, space}
 use Rattle.merge_validity.proofs.ByPart.{by_part_back}
 use Rattle.merge_validity.proofs.TypePlaces.{type_placed}
 use Rattle.merge_validity.proofs.MergedSpaces.{types_are, own_is, moved_own, extra, all_own, imported_many}
-use Rattle.merge_validity.proofs.Linked.{AreLinked}
+use Rattle.merge_validity.proofs.Linked.{AreLinked, are_linked}
 use Rattle.merge_validity.proofs.Entries.{entry_kept}
 use Rattle.merge_validity.proofs.Agree.{ItemsHold, func_to, func_back}
 
@@ -86,7 +88,7 @@ module _ (law : EndsArePaths) (parts : List Part) (names : List (Option Text)) (
       ap_lt (Some y) x h = omega arith
 
   -- a start function of the merged module takes and gives nothing
-  start_typed : (i f : ℕ) → slice_get (starts parts) i ≡ Some f → type_of_func (merged parts names) f ≡ Some nullary
+  pub start_typed : (i f : ℕ) → slice_get (starts parts) i ≡ Some f → type_of_func (merged parts names) f ≡ Some nullary
   start_typed i f h =
       let s = started i f h in
       func_back (merged parts names) f nullary (ap (type_at (merged parts names) Functions) s.new ∙ entry_kept law parts names links s.part s.of Functions s.func (FuncTy nullary) s.is_part (func_to s.of s.func nullary s.typed))
@@ -99,7 +101,7 @@ module _ (law : EndsArePaths) (parts : List Part) (names : List (Option Text)) (
       by (Some ty) h = (ty, h)
 
   -- the type of the function that calls several
-  nullary_there : (i f : ℕ) → slice_get (starts parts) i ≡ Some f → slice_get (merged parts names).types (place_of_type parts nullary) ≡ Some nullary
+  pub nullary_there : (i f : ℕ) → slice_get (starts parts) i ≡ Some f → slice_get (merged parts names).types (place_of_type parts nullary) ≡ Some nullary
   nullary_there i f h =
       let s = started i f h in
       ap (λ z. slice_get z (place_of_type parts nullary)) (types_are parts names) ∙ type_placed parts s.part s.of nullary s.is_part (has_type s.of s.func nullary s.typed)
@@ -154,3 +156,12 @@ module _ (law : EndsArePaths) (parts : List Part) (names : List (Option Text)) (
       let u = merged parts names in
       let body : WellTyped (any_named (body_context u h nullary)) (map Call (starts parts)) [] [] = calls_typed (any_named (body_context u h nullary)) (starts parts) (λ i f e. start_typed i f e) in
       (h, nullary, at, calls_typed_at h w, subst (λ is. WellTyped (any_named (body_context u h nullary)) is [] []) (ap (λ (h : Func). h.body) (sym w.is)) body)
+
+pub take_nothing : EndsArePaths → ((m : Module) → IsValid m → ItemsHold m) → StartsTakeNothing
+take_nothing law hold parts names valid linked n f h =
+    let links = are_linked parts linked in
+    let items : (p : ℕ) (m : Module) → module_at parts p ≡ Some m → ItemsHold m = λ p m is. hold m (valid p m is) in
+    let at = sym (place_get (starts parts) n) ∙ h in (
+      start_typed law parts names links items n f at,
+      ap (λ z. linking.place z (place_of_type parts nullary)) (sym (types_are parts names)) ∙ place_get (merged parts names).types (place_of_type parts nullary) ∙ nullary_there law parts names links items n f at,
+    )

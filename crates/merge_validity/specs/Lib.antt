@@ -1,3 +1,4 @@
 pub mod Joinable
 pub mod Ended
 pub mod Entries
+pub mod Started

@@ -20,6 +20,7 @@ ghost use Rattle.merge_validity.specs.Ended.{
 };
 ghost use Rattle.merge_validity.specs.Entries.{HasEntry};
 ghost use Rattle.merge_validity.specs.Joinable.{CanBeJoined, EachPart};
+ghost use Rattle.merge_validity.specs.Started.{StartsTakeNothing};
 
 use export_names::{conflicts_are_first, given_names_differ};
 use remap_typing::{
@@ -45,11 +46,12 @@ pub fn merged_modules_are_valid()
 }
 
 /// The map of a part has an entry for each index that its valid module names (`entries`) and that a constant expression with a type names (`constants`).
-/// Where the parts are linked, what such an expression reads through joined globals stands in a part whose map has an entry for it (`reads`).
+/// Where the parts are linked, what such an expression reads through joined globals is there (`there`), in a part whose map has an entry for it (`reads`).
 pub fn maps_have_entries()
     ensures entries { (parts : List Part) (p : ℕ) (m : Module) → IsValid m → IsTrue (fits_tree (map_of parts p m) m) }
     ensures constants { (parts : List Part) (p : ℕ) (m : Module) (e : ConstExpr) (ty : ValType) → const_type m e ≡ Some ty → IsTrue (fits_const (map_of parts p m) e) }
     ensures reads { (parts : List Part) (p : ℕ) (m : Module) (e : ConstExpr) (ty : ValType) (r : Read) → EachPart IsValid parts → link_fault parts ≡ None → module_at parts p ≡ Some m → const_type m e ≡ Some ty → read_of parts p e ≡ Some r → HasEntry parts r }
+    ensures there { (parts : List Part) (p : ℕ) (m : Module) (e : ConstExpr) (ty : ValType) → EachPart IsValid parts → link_fault parts ≡ None → module_at parts p ≡ Some m → const_type m e ≡ Some ty → (r : Read) × (read_of parts p e ≡ Some r) }
 {
     valid_where_items_hold();
     renumbering_keeps_typing();
@@ -69,5 +71,13 @@ pub fn linked_imports_have_ends()
     ensures types { TypesHavePlaces }
     ensures counts { MergedModulesDefineAll }
 {
+    ends_and_reads_are_paths();
+}
+
+/// The functions that valid parts start take and give nothing, also in the merged module, if the parts are linked.
+pub fn starts_take_nothing()
+    ensures starts { StartsTakeNothing }
+{
+    valid_where_items_hold();
     ends_and_reads_are_paths();
 }

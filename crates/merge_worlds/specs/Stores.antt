@@ -1,6 +1,6 @@
 -- The store of parts that are linked by name, and that of the merged module: the same but for what joining added, a function that calls the starts and a segment
 -- that declares references.
-use Rattle.std.specs.Prelude.{◌≡◌, ℕ, List, [], ◌∷◌, ◌++◌, length}
+use Rattle.std.specs.Prelude.{◌≡◌, List, ◌++◌, length}
 use Rattle.wasm_meaning.specs.State.{Func, Elem, Store}
 use Rattle.wasm_meaning.specs.Linking.{Part}
 use Rattle.wasm_meaning.specs.Environment.{Environment}

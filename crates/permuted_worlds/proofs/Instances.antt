@@ -17,12 +17,12 @@ use Rattle.index_remap.specs.Renumbered.{has, all_true, new_import, new_import_d
 use Rattle.index_remap.specs.Related.{Funcs, Mems, Elems, Datas, Pairing, OptRel, some, ListRel}
 use Rattle.index_remap.specs.Related as to
 use Rattle.index_remap.proofs.Rel.{append_rel}
+use Rattle.permuted_worlds.specs.Named.{EntriesName}
 use Rattle.permuted_worlds.specs.Permuted.{moving, IsOrder, permuted}
 use Rattle.permuted_worlds.proofs.Places.{left_true, right_true, index_at, found, within, place_left, place_right, map_length, numbers_length, place_numbers, index_numbers, moved_low, moved_high, moved_length, then_rel, then_same, opt_self, opt_at, place_rel, numbers_rel, all_length, names_of}
 use Rattle.permuted_worlds.specs.Alone.{one, import_places, addresses, address_in}
 use Rattle.permuted_worlds.proofs.Alone.{space_is, funcs_counted}
 use Rattle.permuted_worlds.proofs.Partners.{pairing, func_moves, same_table, same_memory, same_global, same_elem, same_data, kind_in, addresses_rel}
-use Rattle.permuted_worlds.proofs.Named.{EntriesName}
 
 -- every index that the tree names has an entry
 pub record Fits (m : Remap) (t : Module) : Type 0 where

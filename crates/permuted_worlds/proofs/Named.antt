@@ -1,26 +1,16 @@
 -- Where each index that has an entry names what its entry names, so does each index of a body all of whose indices have entries.
 use Rattle.std.proofs.Common.{◌≡◌, ℕ, Bool, true, List, [], ◌∷◌, sym, subst, ◌∙◌}
-use Rattle.std.specs.Prelude.{slice_index}
 use Rattle.wasm_tree.specs.declared.types.BlockType.{BlockType}
 use Rattle.wasm_tree.specs.declared.types.BlockType.TheVariants as bt
 use Rattle.wasm_tree.specs.declared.instr.Instr.{Instr, fold_out-Instr, map-Instr, out-Instr, Row_of-Instr, items-the_row-Instr, items_shown-the_row-Instr-0, end_of-Instr, more_of-Instr, Block', Loop', If'}
 use Rattle.wasm_tree.specs.declared.instr.Instr.TheOpen.{Instr-F}
 use Rattle.wasm_meaning.specs.State.{Inst}
 use Rattle.index_remap.specs.declared.remap.Remap.{Remap}
-use Rattle.index_remap.specs.Renumbered.{has, fits, fits_all, fits_step, fits_type}
-use Rattle.index_remap.specs.Related.{Pairing, Funcs, Tables, Mems, Globals, Elems, Datas, Names, SameType}
+use Rattle.index_remap.specs.Renumbered.{fits, fits_all, fits_step, fits_type}
+use Rattle.index_remap.specs.Related.{Pairing}
 use Rattle.index_remap.specs.CodeNames.{BlockNames, LayerNames, Layers, RowLayers, ListLayers}
+use Rattle.permuted_worlds.specs.Named.{EntriesName}
 use Rattle.permuted_worlds.proofs.Places.{left_true, right_true}
-
--- each index that has an entry names what the entry names
-pub record EntriesName (R : Pairing) (m : Remap) (i j : Inst) : Type 0 where
-  pub types : (x : ℕ) → has m.types x ≡ true → SameType i j x (slice_index m.types x)
-  pub funcs : (x : ℕ) → has m.funcs x ≡ true → Names R.named Funcs i.funcs j.funcs x (slice_index m.funcs x)
-  pub tables : (x : ℕ) → has m.tables x ≡ true → Names R.named Tables i.tables j.tables x (slice_index m.tables x)
-  pub mems : (x : ℕ) → has m.mems x ≡ true → Names R.named Mems i.mems j.mems x (slice_index m.mems x)
-  pub globals : (x : ℕ) → has m.globals x ≡ true → Names R.named Globals i.globals j.globals x (slice_index m.globals x)
-  pub elems : (x : ℕ) → has m.elems x ≡ true → Names R.named Elems i.elems j.elems x (slice_index m.elems x)
-  pub datas : (x : ℕ) → has m.datas x ≡ true → Names R.named Datas i.datas j.datas x (slice_index m.datas x)
 
 module _ (R : Pairing) (m : Remap) (i j : Inst) (k : EntriesName R m i j) where
   block_named : (b : BlockType) → fits_type m b ≡ true → BlockNames m i j b

@@ -2,8 +2,11 @@
 //! one start may call several functions.
 #![tactic(auto)]
 
-ghost use Rattle.permuted_worlds.specs.Alone.{ImportsStandForTheEnvironments, ImportsStay, ReadsStay, SpacesAreImportsAndOwn};
+ghost use Rattle.permuted_worlds.specs.Alone.{
+    ImportsStandForTheEnvironments, ImportsStay, ReadsStay, SpacesAreImportsAndOwn,
+};
 ghost use Rattle.permuted_worlds.specs.Instances.{RelatedBegunShowTheSame, RelatedInstancesShowTheSame};
+ghost use Rattle.permuted_worlds.specs.Named.{FittingCodeIsNamed};
 ghost use Rattle.permuted_worlds.specs.Owned.{OwnEntitiesCorrespond};
 ghost use Rattle.permuted_worlds.specs.Permuted.{OrderIsNotSeen};
 ghost use Rattle.permuted_worlds.specs.Silent.{BudgetedRunsShowTheSame, SlowerRunsShowTheSame};
@@ -45,6 +48,11 @@ pub fn permuted_worlds_show_the_same()
     related_instances_show_the_same();
     renumbering_keeps_typing();
 }
+
+/// Where each index that has an entry in a map names what its entry names, so does each index of a body all of whose indices have entries (`named`).
+pub fn code_that_fits_is_named()
+    ensures named { FittingCodeIsNamed }
+{}
 
 /// Two machines show the same events, where each may make silent steps alone out of a number that is left to it (`budget`), or where the second answers each
 /// step of the first by at most so many of its own (`slower`).

@@ -79,12 +79,12 @@ module _ (m : Remap) (c d : Context) (locals : c.locals ≡ d.locals) (results :
   effect_at ls (TableFill x) q e h = keeps_map _ _ _ q e h
   effect_at ls _ q e h = h
 
-  type_kept : (b : BlockType) → BlockAgrees m c d b → Keeps (signature_of c.types b) (signature_of d.types (new_type m b))
+  pub type_kept : (b : BlockType) → BlockAgrees m c d b → Keeps (signature_of c.types b) (signature_of d.types (new_type m b))
   type_kept bt.Empty q f h = h
   type_kept (bt.Value t) q f h = h
   type_kept (bt.Index i) q f h = keeps_signature _ _ q f h
 
-  plain_kept : (ls : List (List ValType)) (i : Instr) (s t : Stack) → LayerAgrees m c d (out-Instr i) → (e : Effect) → effect_of (labelled c ls) i ≡ Some e → Acts e s t → Fits (labelled d ls) (renumbered m i) s t
+  pub plain_kept : (ls : List (List ValType)) (i : Instr) (s t : Stack) → LayerAgrees m c d (out-Instr i) → (e : Effect) → effect_of (labelled c ls) i ≡ Some e → Acts e s t → Fits (labelled d ls) (renumbered m i) s t
   plain_kept ls i s t q e h a =
       fits_plain (labelled d ls) (renumbered m i) s t e (ap (effect_of (labelled d ls)) (fold_out-Instr Instr (renumber_step m) i) ∙ effect_at ls i q e h) a
 

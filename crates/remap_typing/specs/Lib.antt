@@ -1,3 +1,4 @@
 pub mod Agreement
 pub mod Trees
 pub mod ButForReferences
+pub mod Replaced

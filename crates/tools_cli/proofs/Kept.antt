@@ -17,6 +17,7 @@ use Rattle.wasm_format.specs.Words.{Every}
 use Rattle.wasm_format.specs.Files.{Spells, Within}
 use Rattle.wasm_meaning.specs.Linking.{Part, module_at}
 use Rattle.merge_validity.specs.Joinable.{CanBeJoined}
+use Rattle.merge_worlds.specs.Laws.{BehavesAs}
 use Rattle.wasm_tree.specs.declared.which.Which.{Which}
 use Rattle.merge_terms.specs.Joined.{over_limit, joined_module, repeated_name, outcome}
 use Rattle.wasm_plain.specs.Plain.{plain}
@@ -36,6 +37,7 @@ pub record Respelled : Type 0 where
   pub sizes : (parts : List Part) (mode : Mode) → CanBeJoined parts mode → IsBounded (joined_module parts mode)
   pub in_range : (parts : List Part) (mode : Mode) → Every (λ (p : Part). InRange p.«module») parts → IsValid (joined_module parts mode) → IsSingle (joined_module parts mode) → IsBounded (joined_module parts mode)
       → InRange (joined_module parts mode)
+  pub same : (parts : List Part) (mode : Mode) → CanBeJoined parts mode → BehavesAs parts mode (joined_module parts mode)
 
 sound_at : (P : Module → Type 0) → ((p : Part) → IsSound p → P p.«module») → (parts : List Part) → Every IsSound parts → (n : ℕ) (m : Module) → module_at parts n ≡ Some m → P m
 sound_at P f [] h n m e = absurd (cc)
@@ -48,7 +50,7 @@ joins_to (Some name) which m tree e = absurd (cc)
 joins_to None (Some which) m tree e = absurd (cc)
 joins_to None None m tree e = let same : m ≡ tree = cc in (refl, refl, same)
 
-merged_is_sound : Respelled → (parts : List Part) (mode : Mode) (tree : Module) → Every IsSound parts → Every (λ (p : Part). InRange p.«module») parts → AreMerged parts mode tree → IsAccepted tree × InRange tree
+merged_is_sound : Respelled → (parts : List Part) (mode : Mode) (tree : Module) → Every IsSound parts → Every (λ (p : Part). InRange p.«module») parts → AreMerged parts mode tree → IsAccepted tree × InRange tree × BehavesAs parts mode tree
 merged_is_sound k parts mode tree sound ranged is =
     let joins = joins_to (repeated_name parts mode) (over_limit (joined_module parts mode)) (joined_module parts mode) tree is.1 in
     let can : CanBeJoined parts mode = record {
@@ -60,8 +62,8 @@ merged_is_sound k parts mode tree sound ranged is =
     } in
     let valid = k.valid parts mode can in
     let single = k.single parts mode can in
-    let P : Module → Type 0 = λ m. IsAccepted m × InRange m in
-    subst P joins.2 (record { valid = valid; single = single }, k.in_range parts mode ranged valid single (k.sizes parts mode can))
+    let P : Module → Type 0 = λ m. IsAccepted m × InRange m × BehavesAs parts mode m in
+    subst P joins.2 (record { valid = valid; single = single }, k.in_range parts mode ranged valid single (k.sizes parts mode can), k.same parts mode can)
 
 -- what a job that is done keeps
 abbrev pub JobKeeps : List Text → Contents → Job → Type 0
@@ -155,6 +157,7 @@ written_keeps k sources output mode before files trees tree job e loads is (writ
       is,
       (plain tree, written_there before output (plain tree), k.plainly tree sound.1 short),
       sound.0,
+      sound.2,
     )
 
 merge_keeps : Respelled → (sources : List Source) (output : Text) (mode : Mode) (before : Contents) (files : List Entry) (job : Job) → gathered (map (λ s. s.file) sources) before most_input ≡ Whole files → Merges sources output mode files job → DecisionKeeps (Merge sources output mode) before job

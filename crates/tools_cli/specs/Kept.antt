@@ -6,6 +6,7 @@ use Rattle.tools_cli.specs.Words.{Text, Task, Merge, task_of}
 use Rattle.tools_cli.specs.Job.{IsAccepted, parts_of, AreMerged}
 use Rattle.wasm_tree.specs.declared.module.Module.{Module}
 use Rattle.wasm_format.specs.Files.{Spells}
+use Rattle.merge_worlds.specs.Laws.{BehavesAs}
 
 -- The file of this name spells this module.
 abbrev pub HoldsModule : Contents → Text → Module → Type 0
@@ -17,10 +18,13 @@ HoldModules files [] [] = Unit {0}
 HoldModules files (name ∷ names) (tree ∷ trees) = HoldsModule files name tree × HoldModules files names trees
 HoldModules files _ _ = ⊥
 
--- A merge: its files spelled modules before, and its output spells the module that these parts are merged into, which is valid.
+-- A merge: its files spelled modules before, and its output spells the module that these parts are merged into, which is valid. It behaves as the parts do
+-- where they are linked by their NAMEs and an embedder sees their exports under the names that the mode gives: to each environment and all that an embedder
+-- does, whatever it sees of the parts in some number of steps it sees of the module alone in at most four more, and the other way round.
 abbrev pub TaskKeeps : Task → Contents → Contents → Type 0
 TaskKeeps (Merge sources output mode) before after =
     (trees : List Module) × (tree : Module) × HoldModules before (map (λ s. s.file) sources) trees × AreMerged (parts_of sources trees) mode tree × HoldsModule after output tree × IsAccepted tree
+    × BehavesAs (parts_of sources trees) mode tree
 
 -- The words ask for a task, and it keeps what it read.
 abbrev pub Keeps : List Text → Contents → Contents → Type 0

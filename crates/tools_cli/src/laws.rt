@@ -7,6 +7,7 @@ ghost use Rattle.tools_cli.specs.Kept.{Keeps};
 
 use merge_ranges::merged_modules_are_in_range;
 use merge_validity::merged_modules_are_valid;
+use merge_worlds::merged_modules_show_the_same;
 use plain_law::{plain_spells, spelled_trees_are_in_range};
 use wasm_format::{no_fault_where_spelled, one_tree, spelled_trees_are_bounded};
 
@@ -18,7 +19,8 @@ pub fn jobs_are_determined()
     no_fault_where_spelled();
 }
 
-/// A job that is done keeps the modules that it read: the output spells the module that they are merged into, and it is valid.
+/// A job that is done keeps the modules that it read: the output spells the module that they are merged into, it is valid, and it behaves as they do where they
+/// are linked by name.
 pub fn done_jobs_keep_the_modules()
     ensures { (words : List (List ℕ)) (before : Contents) (writes : List Entry) (lines : List ℕ) → HasJob words before (Done writes lines) → Keeps words before (made writes before) }
 {
@@ -27,4 +29,5 @@ pub fn done_jobs_keep_the_modules()
     spelled_trees_are_bounded();
     merged_modules_are_valid();
     merged_modules_are_in_range();
+    merged_modules_show_the_same();
 }

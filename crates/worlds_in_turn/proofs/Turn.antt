@@ -105,7 +105,7 @@ module _ (env : Environment) (parts : List Part) (p : ℕ) (s t : Store) (holds 
 
 -- ---- all sites ----
 
-all_is : {A : Type 0} (test : A → Bool) (xs : List A) → all_of test xs ≡ true → (n : ℕ) (x : A) → place xs n ≡ Some x → test x ≡ true
+pub all_is : {A : Type 0} (test : A → Bool) (xs : List A) → all_of test xs ≡ true → (n : ℕ) (x : A) → place xs n ≡ Some x → test x ≡ true
 all_is test [] h n x e = absurd (let k = e in cc)
 all_is test (y ∷ ys) h zero x e = ap test (sym (some_is e)) ∙ (cond_left (test y) (all_of test ys) h).0
 all_is test (y ∷ ys) h (suc n) x e = all_is test ys (cond_left (test y) (all_of test ys) h).1 n x e

@@ -2,7 +2,7 @@ use Rattle.std.specs.Prelude.{[]}
 use Rattle.merge_terms.specs.Merged.{map_of}
 use Rattle.merge_validity.proofs.Linked.{are_linked}
 use Rattle.merge_validity.proofs.Agree.{map_covers}
-use Rattle.merge_validity.proofs.Constants.{map_fits, read_fits}
+use Rattle.merge_validity.proofs.Constants.{map_fits, read_fits, read_there}
 use Rattle.merge_validity.proofs.maps_have_entries.Goals as goal
 
 pub returns : goal.returns
@@ -11,4 +11,6 @@ returns c = record {
   constants = map_fits;
   reads = λ parts p m e ty r valid linked is t reads.
       read_fits c.ends_and_reads_are_paths.ensures.ends parts [] (are_linked parts linked) c.ends_and_reads_are_paths.ensures.reads (λ p m is. (c.valid_where_items_hold.ensures m).0 (valid p m is)) p e m ty r is t reads;
+  there = λ parts p m e ty valid linked is t.
+      read_there c.ends_and_reads_are_paths.ensures.ends parts [] (are_linked parts linked) c.ends_and_reads_are_paths.ensures.reads (λ p m is. (c.valid_where_items_hold.ensures m).0 (valid p m is)) p e m ty is t;
 }

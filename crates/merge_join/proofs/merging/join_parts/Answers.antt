@@ -1,11 +1,30 @@
-use Rattle.std.proofs.Common.{◌≡◌, sym, subst}
+use Rattle.std.proofs.Common.{◌≡◌, ◌∙◌, sym, subst, ℕ, List, Some, None, Ok}
+use Rattle.wasm_tree.specs.declared.module.Module.{Module}
 use Rattle.wasm_tree.specs.Bounds.{IsBounded}
 use Rattle.wasm_valid.specs.Validity.{IsValid}
+use Rattle.wasm_meaning.specs.Linking.{Part, module_at}
+use Rattle.export_names.specs.declared.mode.Mode.{Mode}
+use Rattle.merge_terms.specs.Faults.{link_fault}
 use Rattle.merge_terms.specs.Parts.{named_modules}
-use Rattle.merge_terms.specs.Joined.{joined_module, over_limit, repeated_name}
+use Rattle.merge_terms.specs.Joined.{joined_module, over_limit, repeated_name, Joins}
 use Rattle.merge_validity.specs.Joinable.{CanBeJoined}
+use Rattle.merge_worlds.specs.Laws.{BehavesAs}
 use Rattle.merge_join.proofs.Outcomes.{joined_from}
 use Rattle.merge_join.proofs.merging.join_parts.Goals as goal
+
+-- where joining gives a tree, the parts can be joined, and the tree is their merged module
+can_join : (ps : List Part) (mode : Mode) (tree : Module) → ((p : ℕ) (m : Module) → module_at ps p ≡ Some m → IsValid m × IsBounded m) → link_fault ps ≡ None → Joins ps mode (Ok tree) → CanBeJoined ps mode × (joined_module ps mode ≡ tree)
+can_join ps mode tree hold linked joins =
+    let is = joined_from (repeated_name ps mode) (over_limit (joined_module ps mode)) (joined_module ps mode) tree joins in (
+      record {
+        valid = λ p m at. (hold p m at).0;
+        bounded = λ p m at. (hold p m at).1;
+        linked = linked;
+        names = is.no_name;
+        sizes = is.no_count;
+      },
+      is.same,
+    )
 
 pub joined_tree-requires : goal.joined_tree-requires
 joined_tree-requires c = record {
@@ -21,15 +40,15 @@ pub known-requires : goal.known-requires
 known-requires c =
     let ps = named_modules c.args.parts.now in
     let mode = c.args.mode in
-    let is = joined_from (repeated_name ps mode) (over_limit (joined_module ps mode)) (joined_module ps mode) c.in_ok-tree.tree c.in_ok-tree.ensures.joined in
-    let can : CanBeJoined ps mode = record {
-      valid = λ p m at. (c.parts_hold.ensures p m at).0;
-      bounded = λ p m at. (c.parts_hold.ensures p m at).1;
-      linked = c.requires.linked;
-      names = is.no_name;
-      sizes = is.no_count;
-    } in
+    let can = can_join ps mode c.in_ok-tree.tree c.parts_hold.ensures c.requires.linked c.in_ok-tree.ensures.joined in
     record {
-      valid = subst IsValid is.same (c.merged_modules_are_valid.ensures.valid ps mode can);
-      bounded = subst IsBounded is.same (c.merged_modules_are_valid.ensures.bounded ps mode can);
+      valid = subst IsValid can.1 (c.merged_modules_are_valid.ensures.valid ps mode can.0);
+      bounded = subst IsBounded can.1 (c.merged_modules_are_valid.ensures.bounded ps mode can.0);
     }
+
+pub returns-clause-same : goal.returns-clause-same
+returns-clause-same c =
+    let ps = named_modules c.args.parts.now in
+    let mode = c.args.mode in
+    let can = can_join ps mode c.in_ok-tree.tree c.parts_hold.ensures c.requires.linked c.in_ok-tree.ensures.joined in
+    subst (BehavesAs ps mode) (can.1 ∙ sym c.known.ensures) (c.merged_modules_show_the_same.ensures.same ps mode can.0)

@@ -12,4 +12,5 @@ returns c words before writes lines h =
       single = c.merged_modules_are_valid.ensures.single;
       sizes = c.merged_modules_are_valid.ensures.bounded;
       in_range = c.merged_modules_are_in_range.ensures;
+      same = c.merged_modules_show_the_same.ensures.same;
     }) words before writes lines h

@@ -1,0 +1,63 @@
+-- The functions that a part defines, and those that they become in the merged module.
+use Rattle.std.proofs.Common.{◌≡◌, ℕ, ◌<◌, List, [], length, Some, true, sym, ap, ◌∙◌, arith}
+use Rattle.std.specs.Prelude.{slice_index}
+use Rattle.std.proofs.lemmas.Bool.{ltb-true}
+use Rattle.wasm_tree.specs.declared.instr.Instr.{Instr}
+use Rattle.wasm_tree.specs.declared.module.Func as tree
+use Rattle.wasm_tree.specs.declared.module.Module.{Module}
+use Rattle.wasm_meaning.specs.State.{Inst, Code}
+use Rattle.wasm_meaning.specs.Values.{declared}
+use Rattle.wasm_meaning.specs.Linking.{Part, place, then_some}
+use Rattle.wasm_meaning.specs.Environment.{Environment}
+use Rattle.wasm_meaning.specs.World.{new_func}
+use Rattle.index_remap.specs.declared.remap.Remap.{Remap}
+use Rattle.index_remap.specs.Renumbered.{has, renumbered_all, fits_all, fits_func}
+use Rattle.index_remap.specs.Renumbered as renumbered
+use Rattle.index_remap.specs.Related.{Kind, Funcs, Tables, Mems, Globals, Elems, Datas, Pairing, OptRel, some, CodeRel, FuncRel, defined}
+use Rattle.permuted_worlds.specs.Named.{EntriesName}
+use Rattle.permuted_worlds.proofs.Places.{left_true, right_true, found, map_length, opt_at, names_of}
+use Rattle.merge_terms.specs.Merged.{map_of}
+use Rattle.merge_worlds.specs.Instances.{SpaceAgrees, PartAgrees}
+use Rattle.merge_worlds.specs.Shared.{is_shared, sharing}
+use Rattle.merge_worlds.proofs.ValueShared.{shares}
+use Rattle.merge_worlds.proofs.ValueGiven.{Laws}
+use Rattle.merge_worlds.proofs.AllocatedLists.{at_is}
+
+type_entries : (parts : List Part) (p : ℕ) (m : Module) → length (map_of parts p m).types ≡ length m.types
+unfolding map_of
+type_entries parts p m = map_length _ m.types
+
+module _ (laws : Laws) (env : Environment) (parts : List Part) (p : ℕ) (m : Module) (i j : Inst) (k : PartAgrees env parts p m i j) where
+  abbrev R : Pairing
+  R = sharing env parts
+
+  abbrev r : Remap
+  r = map_of parts p m
+
+  -- an index and its entry name one address
+  space_names : (kind : Kind) (xs ys entries : List ℕ) → SpaceAgrees env parts kind xs ys entries → (x : ℕ) → has entries x ≡ true → OptRel (R.of kind) (place xs x) (place ys (slice_index entries x))
+  space_names kind xs ys entries s x h = let a = s.each x (ltb-true _ _ h) in opt_at a.first a.second (some (shares env parts kind a.address a.shared))
+
+  type_below : (x : ℕ) → has r.types x ≡ true → x < length m.types
+  type_below x h = let l = ltb-true _ _ h in omega (arith, l, type_entries parts p m)
+
+  entries_name : EntriesName R r i j
+  entries_name = record {
+    types = λ x h. let t = found m.types x (type_below x h) in at_is i.types x t.0 (ap (λ ts. place ts x) k.own_types ∙ t.1) ∙ sym (at_is j.types (slice_index r.types x) t.0 (k.types x t.0 t.1));
+    funcs = λ x h. names_of i.funcs j.funcs x _ (space_names Funcs i.funcs j.funcs r.funcs k.funcs x h);
+    tables = λ x h. names_of i.tables j.tables x _ (space_names Tables i.tables j.tables r.tables k.tables x h);
+    mems = λ x h. names_of i.mems j.mems x _ (space_names Mems i.mems j.mems r.mems k.mems x h);
+    globals = λ x h. names_of i.globals j.globals x _ (space_names Globals i.globals j.globals r.globals k.globals x h);
+    elems = λ x h. names_of i.elems j.elems x _ (space_names Elems i.elems j.elems r.elems k.elems x h);
+    datas = λ x h. names_of i.datas j.datas x _ (space_names Datas i.datas j.datas r.datas k.datas x h);
+  }
+
+  code_rel : (body : List Instr) → fits_all r body ≡ true → CodeRel R i j body (renumbered_all r body)
+  code_rel body h = laws.code (is_shared env parts) (is_shared env parts) [] r i j body (laws.named (is_shared env parts) (is_shared env parts) [] r i j entries_name body h)
+
+  pub func_rel : (f : tree.Func) → fits_func r f ≡ true → OptRel (FuncRel R) (new_func i f) (new_func j (renumbered.new_func r f))
+  func_rel f h =
+      let t = found m.types f.ty (type_below f.ty (left_true _ _ h)) in
+      opt_at (ap (λ o. then_some o (λ t. Some (Code t i (declared f.locals) f.body))) (ap (λ ts. place ts f.ty) k.own_types ∙ t.1))
+      (ap (λ o. then_some o (λ t. Some (Code t j (declared f.locals) (renumbered_all r f.body)))) (k.types f.ty t.0 t.1))
+      (some (defined (code_rel f.body (right_true (has r.types f.ty) _ h))))

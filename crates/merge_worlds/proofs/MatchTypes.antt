@@ -1,0 +1,78 @@
+-- External types that are the same but for limits.
+use Rattle.std.proofs.Common.{◌≡◌, List, [], ◌∷◌, Bool, true, false, refl, ap, ap₂, subst}
+use Rattle.wasm_tree.specs.declared.types.RefType.{RefType}
+use Rattle.wasm_tree.specs.declared.types.RefType.TheVariants as reft
+use Rattle.wasm_tree.specs.declared.types.ValType.{ValType}
+use Rattle.wasm_tree.specs.declared.types.ValType.TheVariants as valt
+use Rattle.wasm_tree.specs.declared.types.FuncType.{FuncType}
+use Rattle.wasm_tree.specs.declared.types.Limits.{Limits}
+use Rattle.wasm_tree.specs.declared.types.TableType.{TableType}
+use Rattle.wasm_tree.specs.declared.types.GlobalType.{GlobalType}
+use Rattle.wasm_meaning.specs.Values.{same_ref, same_type, same_types, same_func_type}
+use Rattle.wasm_meaning.specs.World.{same_bool}
+use Rattle.merge_terms.specs.Faults.{External, FuncOf, TableOf, MemoryOf, GlobalOf, same_but_limits}
+use Rattle.merge_worlds.proofs.MatchLists.{both_true}
+
+ref_is : (r s : RefType) → same_ref r s ≡ true → r ≡ s
+ref_is reft.Func reft.Func h = refl
+ref_is reft.Extern reft.Extern h = refl
+ref_is reft.Func reft.Extern h = cc
+ref_is reft.Extern reft.Func h = cc
+
+type_is : (s t : ValType) → same_type s t ≡ true → s ≡ t
+type_is valt.I32 valt.I32 h = refl
+type_is valt.I64 valt.I64 h = refl
+type_is (valt.Ref r) (valt.Ref s) h = ap valt.Ref (ref_is r s h)
+type_is valt.I32 valt.I64 h = cc
+type_is valt.I32 (valt.Ref s) h = cc
+type_is valt.I64 valt.I32 h = cc
+type_is valt.I64 (valt.Ref s) h = cc
+type_is (valt.Ref r) valt.I32 h = cc
+type_is (valt.Ref r) valt.I64 h = cc
+
+types_are : (ss ts : List ValType) → same_types ss ts ≡ true → ss ≡ ts
+types_are [] [] h = refl
+types_are [] (t ∷ ts) h = cc
+types_are (s ∷ ss) [] h = cc
+types_are (s ∷ ss) (t ∷ ts) h = let b = both_true (same_type s t) (same_types ss ts) h in ap₂ (λ x y. x ∷ y) (type_is s t b.0) (types_are ss ts b.1)
+
+func_type_is : (s t : FuncType) → same_func_type s t ≡ true → s ≡ t
+func_type_is s t h =
+    let b = both_true (same_types s.params t.params) (same_types s.results t.results) h in
+    ap₂ (λ x y. record { params = x; results = y }) (types_are s.params t.params b.0) (types_are s.results t.results b.1)
+
+bool_is : (a b : Bool) → same_bool a b ≡ true → a ≡ b
+bool_is true true h = refl
+bool_is false false h = refl
+bool_is true false h = cc
+bool_is false true h = cc
+
+global_is : (s t : GlobalType) → same_but_limits (GlobalOf s) (GlobalOf t) ≡ true → s ≡ t
+global_is s t h =
+    let b = both_true (same_type s.ty t.ty) (same_bool s.mutable t.mutable) h in
+    ap₂ (λ x y. record { ty = x; mutable = y }) (type_is s.ty t.ty b.0) (bool_is s.mutable t.mutable b.1)
+
+-- of one kind, and with one type
+pub data AlikeButLimits : External → External → Type 0 where
+  two_funcs : {t : FuncType} → AlikeButLimits (FuncOf t) (FuncOf t)
+  two_tables : {t u : TableType} → t.ty ≡ u.ty → AlikeButLimits (TableOf t) (TableOf u)
+  two_memories : {l k : Limits} → AlikeButLimits (MemoryOf l) (MemoryOf k)
+  two_globals : {t : GlobalType} → AlikeButLimits (GlobalOf t) (GlobalOf t)
+
+pub alike_is : (x y : External) → same_but_limits x y ≡ true → AlikeButLimits x y
+alike_is (FuncOf t) (FuncOf u) h = subst (λ u. AlikeButLimits (FuncOf t) (FuncOf u)) (func_type_is t u h) two_funcs
+alike_is (TableOf t) (TableOf u) h = two_tables (ref_is t.ty u.ty h)
+alike_is (MemoryOf l) (MemoryOf k) h = two_memories
+alike_is (GlobalOf t) (GlobalOf u) h = subst (λ u. AlikeButLimits (GlobalOf t) (GlobalOf u)) (global_is t u h) two_globals
+alike_is (FuncOf t) (TableOf u) h = absurd (let k = h in cc)
+alike_is (FuncOf t) (MemoryOf u) h = absurd (let k = h in cc)
+alike_is (FuncOf t) (GlobalOf u) h = absurd (let k = h in cc)
+alike_is (TableOf t) (FuncOf u) h = absurd (let k = h in cc)
+alike_is (TableOf t) (MemoryOf u) h = absurd (let k = h in cc)
+alike_is (TableOf t) (GlobalOf u) h = absurd (let k = h in cc)
+alike_is (MemoryOf t) (FuncOf u) h = absurd (let k = h in cc)
+alike_is (MemoryOf t) (TableOf u) h = absurd (let k = h in cc)
+alike_is (MemoryOf t) (GlobalOf u) h = absurd (let k = h in cc)
+alike_is (GlobalOf t) (FuncOf u) h = absurd (let k = h in cc)
+alike_is (GlobalOf t) (TableOf u) h = absurd (let k = h in cc)
+alike_is (GlobalOf t) (MemoryOf u) h = absurd (let k = h in cc)

@@ -1,0 +1,123 @@
+-- Segments by part, one after the other, and the same segments of one module.
+use Rattle.std.proofs.Common.{◌≡◌, ℕ, zero, suc, ◌+◌, ◌<◌, List, [], ◌∷◌, ◌++◌, map, length, Some, false, refl, sym, ap, subst, ◌∙◌, arith, append_assoc}
+use Rattle.wasm_tree.specs.declared.module.Module.{Module}
+use Rattle.wasm_meaning.specs.Outcomes.{past}
+use Rattle.wasm_meaning.specs.State.{Inst, Store}
+use Rattle.wasm_meaning.specs.Linking.{Part, place, module_at}
+use Rattle.wasm_meaning.specs.Environment.{Environment}
+use Rattle.wasm_meaning.specs.World.{Filled, Task, tasks_in, elem_tasks, data_tasks, in_turn, elems_before, datas_before}
+use Rattle.merge_terms.specs.Merged.{by_part_from}
+use Rattle.merge_worlds.specs.Stores.{StoresAlike, FilledAlike}
+use Rattle.merge_worlds.proofs.SegmentLists.{place_past, past_past}
+use Rattle.merge_worlds.proofs.SegmentStores.{and_then_alike}
+
+-- ---- segments by part ----
+
+-- the segments of one kind, by part
+abbrev pub tasks_by : {A : Type 0} → (Module → List A) → (Inst → List ℕ) → ℕ → List Part → List Inst → List (Task A)
+tasks_by segs adds p (part ∷ parts) (i ∷ is) = tasks_in p i (adds i) (segs part.«module») ++ tasks_by segs adds (suc p) parts is
+tasks_by segs adds p _ _ = []
+
+pub elems_by : (p : ℕ) (parts : List Part) (is : List Inst) → elem_tasks p parts is ≡ tasks_by (λ m. m.elems) (λ i. i.elems) p parts is
+elems_by p [] is = refl
+elems_by p (part ∷ parts) [] = refl
+elems_by p (part ∷ parts) (i ∷ is) = ap (λ ts. tasks_in p i i.elems part.«module».elems ++ ts) (elems_by (suc p) parts is)
+
+pub datas_by : (p : ℕ) (parts : List Part) (is : List Inst) → data_tasks p parts is ≡ tasks_by (λ m. m.datas) (λ i. i.datas) p parts is
+datas_by p [] is = refl
+datas_by p (part ∷ parts) [] = refl
+datas_by p (part ∷ parts) (i ∷ is) = ap (λ ts. tasks_in p i i.datas part.«module».datas ++ ts) (datas_by (suc p) parts is)
+
+pub elems_start : (parts : List Part) → elems_before parts 0 ≡ 0
+elems_start [] = refl
+elems_start (part ∷ parts) = refl
+
+pub datas_start : (parts : List Part) → datas_before parts 0 ≡ 0
+datas_start [] = refl
+datas_start (part ∷ parts) = refl
+
+pub elems_next : (parts : List Part) (p : ℕ) (m : Module) → module_at parts p ≡ Some m → elems_before parts (suc p) ≡ elems_before parts p + length m.elems
+elems_next [] p m h = cc
+elems_next (part ∷ parts) zero m h =
+    let same : part.«module» ≡ m = cc in
+    let n = elems_start parts in
+    let l : length part.«module».elems ≡ length m.elems = ap (λ (m : Module). length m.elems) same in
+    omega (arith, n, l)
+elems_next (part ∷ parts) (suc p) m h = let n = elems_next parts p m h in omega (arith, n)
+
+pub datas_next : (parts : List Part) (p : ℕ) (m : Module) → module_at parts p ≡ Some m → datas_before parts (suc p) ≡ datas_before parts p + length m.datas
+datas_next [] p m h = cc
+datas_next (part ∷ parts) zero m h =
+    let same : part.«module» ≡ m = cc in
+    let n = datas_start parts in
+    let l : length part.«module».datas ≡ length m.datas = ap (λ (m : Module). length m.datas) same in
+    omega (arith, n, l)
+datas_next (part ∷ parts) (suc p) m h = let n = datas_next parts p m h in omega (arith, n)
+
+-- ---- in turn ----
+
+-- a place at which one address stands in both lists
+pub record OneAddress (xs ys : List ℕ) (n k : ℕ) : Type 0 where
+  pub address : ℕ
+  pub first : place xs n ≡ Some address
+  pub second : place ys k ≡ Some address
+
+abbrev pub task : {A : Type 0} → ℕ → Inst → ℕ → A → Task A
+task p i a x = record { part = p; inst = i; address = a; segment = x }
+
+-- both do the same with a segment at an address
+abbrev pub DoAlike : {A : Type 0} → Environment → List Part → (f g : Store → Task A → Filled) → Task A → Task A → Type 0
+DoAlike env parts f g x y = (s z : Store) → StoresAlike env parts s z → FilledAlike env parts (f s x) (g z y)
+
+-- A part's segments stand in the merged module from a place on, with the addresses that they have, and both do the same with each.
+pub record PartDoes (env : Environment) (parts : List Part) {A : Type 0} (f g : Store → Task A → Filled) (insts : List Inst) (j : Inst) (segs : Module → List A) (adds : Inst → List ℕ) (new : ℕ → Module → A → A) (before : ℕ → ℕ) (p : ℕ) (m : Module) : Type 0 where
+  pub inst : Inst
+  pub is : place insts p ≡ Some inst
+  pub same : (x : ℕ) → x < length (segs m) → OneAddress (adds inst) (adds j) x (before p + x)
+  pub each : (x a : ℕ) (e : A) → place (segs m) x ≡ Some e → place (adds inst) x ≡ Some a → DoAlike env parts f g (task p inst a e) (task 0 j a (new p m e))
+
+module _ (env : Environment) (parts : List Part) {A : Type 0} (f g : Store → Task A → Filled) (j : Inst) where
+  -- the segments of one part, and then others
+  in_part : (p : ℕ) (i : Inst) (new : A → A) (xs ys : List ℕ) (es : List A) (rest : List (Task A)) (more : List A) →
+      ((x : ℕ) → x < length es → OneAddress xs ys x x) → ((x a : ℕ) (e : A) → place es x ≡ Some e → place xs x ≡ Some a → DoAlike env parts f g (task p i a e) (task 0 j a (new e))) →
+      ((s z : Store) → StoresAlike env parts s z → FilledAlike env parts (in_turn f s rest) (in_turn g z (tasks_in 0 j (past ys (length es)) more))) →
+      (s z : Store) → StoresAlike env parts s z → FilledAlike env parts (in_turn f s (tasks_in p i xs es ++ rest)) (in_turn g z (tasks_in 0 j ys (map new es ++ more)))
+  in_part p i new [] ys [] rest more same each then s z like = then s z like
+  in_part p i new (x ∷ xs) ys [] rest more same each then s z like = then s z like
+  in_part p i new [] ys (e ∷ es) rest more same each then s z like = let o = same 0 (omega arith) in let k = o.first in cc
+  in_part p i new (x ∷ xs) [] (e ∷ es) rest more same each then s z like = let o = same 0 (omega arith) in let k = o.second in cc
+  in_part p i new (x ∷ xs) (y ∷ ys) (e ∷ es) rest more same each then s z like =
+      let o = same 0 (omega arith) in
+      let first = o.first in
+      let second = o.second in
+      let is : x ≡ y = cc in
+      and_then_alike env parts (subst (λ a. FilledAlike env parts (f s (task p i x e)) (g z (task 0 j a (new e)))) is (each 0 x e refl refl s z like))
+      (λ s z like. in_part p i new xs ys es rest more (λ n l. let o = same (suc n) (omega (arith, l)) in record { address = o.address; first = o.first; second = o.second }) (λ n a e h k. each (suc n) a e h k) then s z like)
+
+  module _ (insts : List Inst) (segs : Module → List A) (adds : Inst → List ℕ) (new : ℕ → Module → A → A) (before : ℕ → ℕ) (next : (p : ℕ) (m : Module) → module_at parts p ≡ Some m → before (suc p) ≡ before p + length (segs m))
+      (more : List A) (nothing : (ns : List ℕ) (s z : Store) → StoresAlike env parts s z → FilledAlike env parts (record { store = s; trapped = false }) (in_turn g z (tasks_in 0 j ns more))) where
+    pub by_parts : ((p : ℕ) (m : Module) → module_at parts p ≡ Some m → PartDoes env parts f g insts j segs adds new before p m) →
+        (p : ℕ) (rest : List Part) (is : List Inst) → ((q : ℕ) → module_at rest q ≡ module_at parts (p + q)) → ((q : ℕ) → place is q ≡ place insts (p + q)) → (s z : Store) → StoresAlike env parts s z →
+        FilledAlike env parts (in_turn f s (tasks_by segs adds p rest is)) (in_turn g z (tasks_in 0 j (past (adds j) (before p)) (by_part_from (λ p m. map (new p m) (segs m)) p rest ++ more)))
+    by_parts does p [] is modules places s z like = nothing _ s z like
+    by_parts does p (part ∷ rest) [] modules places s z like =
+        let zero_more : p + 0 ≡ p = omega arith in
+        let d = does p part.«module» (ap (module_at parts) (sym zero_more) ∙ sym (modules 0)) in
+        let h = places 0 ∙ ap (place insts) zero_more ∙ d.is in
+        cc
+    by_parts does p (part ∷ rest) (i ∷ is) modules places s z like =
+        let m = part.«module» in
+        let zero_more : p + 0 ≡ p = omega arith in
+        let at_p : module_at parts p ≡ Some m = ap (module_at parts) (sym zero_more) ∙ sym (modules 0) in
+        let d = does p m at_p in
+        let h : Some i ≡ Some d.inst = places 0 ∙ ap (place insts) zero_more ∙ d.is in
+        let same : d.inst ≡ i = cc in
+        let later : (s z : Store) → StoresAlike env parts s z → FilledAlike env parts (in_turn f s (tasks_by segs adds (suc p) rest is)) (in_turn g z (tasks_in 0 j (past (past (adds j) (before p)) (length (segs m))) (by_part_from (λ p m. map (new p m) (segs m)) (suc p) rest ++ more))) = λ s z like.
+        subst (λ ns. FilledAlike env parts (in_turn f s (tasks_by segs adds (suc p) rest is)) (in_turn g z (tasks_in 0 j ns (by_part_from (λ p m. map (new p m) (segs m)) (suc p) rest ++ more))))
+        (sym (past_past (adds j) (before p) (length (segs m)) ∙ ap (past (adds j)) (sym (next p m at_p))))
+        (by_parts does (suc p) rest is (λ q. modules (suc q) ∙ (let e : p + suc q ≡ suc p + q = omega arith in ap (module_at parts) e)) (λ q. places (suc q) ∙ (let e : p + suc q ≡ suc p + q = omega arith in ap (place insts) e)) s z like) in
+        subst (λ xs. FilledAlike env parts (in_turn f s (tasks_in p i (adds i) (segs m) ++ tasks_by segs adds (suc p) rest is)) (in_turn g z (tasks_in 0 j (past (adds j) (before p)) xs)))
+        (sym (append_assoc (map (new p m) (segs m)) (by_part_from (λ p m. map (new p m) (segs m)) (suc p) rest) more))
+        (in_part p i (new p m) (adds i) (past (adds j) (before p)) (segs m) (tasks_by segs adds (suc p) rest is) (by_part_from (λ p m. map (new p m) (segs m)) (suc p) rest ++ more)
+        (λ x l. let o = d.same x l in record { address = o.address; first = ap (λ i. place (adds i) x) (sym same) ∙ o.first; second = place_past (adds j) (before p) x ∙ o.second })
+        (λ x a e h k. subst (λ i. DoAlike env parts f g (task p i a e) (task 0 j a (new p m e))) same (d.each x a e h (ap (λ i. place (adds i) x) same ∙ k))) later s z like)

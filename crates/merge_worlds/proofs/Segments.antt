@@ -1,0 +1,294 @@
+-- The active segments of the parts and those of the merged module are copied to the same places of both stores.
+use Rattle.std.proofs.Common.{◌≡◌, ℕ, ◌+◌, ◌<◌, List, [], ◌∷◌, ◌++◌, map, length, Option, Some, true, false, refl, sym, ap, subst, ◌∙◌, arith}
+use Rattle.std.specs.Prelude.{slice_get, slice_index}
+use Rattle.wasm_tree.specs.declared.types.ValType.{ValType}
+use Rattle.wasm_tree.specs.declared.types.ValType.TheVariants.{I32}
+use Rattle.wasm_tree.specs.declared.module.ConstExpr.{ConstExpr}
+use Rattle.wasm_tree.specs.declared.module.ElemMode.{ElemMode}
+use Rattle.wasm_tree.specs.declared.module.ElemMode.TheVariants as elem
+use Rattle.wasm_tree.specs.declared.module.ElemSeg.{ElemSeg}
+use Rattle.wasm_tree.specs.declared.module.DataMode.{DataMode}
+use Rattle.wasm_tree.specs.declared.module.DataMode.TheVariants as data'
+use Rattle.wasm_tree.specs.declared.module.DataSeg.{DataSeg}
+use Rattle.wasm_tree.specs.declared.module.Module.{Module}
+use Rattle.wasm_tree.specs.Spaces.{tables_of, memories_of}
+use Rattle.wasm_num.specs.Operations.{W32}
+use Rattle.wasm_valid.specs.declared.kinds.ItemKind.{ItemKind}
+use Rattle.wasm_valid.specs.declared.kinds.ItemKind.TheVariants as kind
+use Rattle.wasm_valid.specs.Constants.{const_type}
+use Rattle.wasm_valid.specs.Validity.{IsValid, HoldsAt, ElemModeHolds, DataModeHolds, count_of}
+use Rattle.wasm_meaning.specs.Outcomes.{past, overwrite}
+use Rattle.wasm_meaning.specs.State.{Val, Inst, Memory, Data, Store}
+use Rattle.wasm_meaning.specs.Values.{num_of}
+use Rattle.wasm_meaning.specs.Linking.{Part, place, then_some, module_at}
+use Rattle.wasm_meaning.specs.Environment.{Environment}
+use Rattle.wasm_meaning.specs.World.{Filled, given, numbers, value_of, number_value, tasks_in, elem_tasks, data_tasks, elems_before, datas_before, fill_table, fill_memory, copy_elem, copy_data, run_elem, run_elem_mode, run_data, run_data_mode, in_turn, segments}
+use Rattle.index_remap.specs.Related.{Pairing, Elems, OptRel, none, some, ElemRel, ValRel, number, reference}
+use Rattle.index_remap.specs.References.{declaring, with_declared, declared_refs}
+use Rattle.index_remap.proofs.Rel.{length_rel, overwrite_rel}
+use Rattle.permuted_worlds.specs.Alone.{one}
+use Rattle.permuted_worlds.proofs.Places.{index_at, place_left, place_numbers, map_length, numbers_length, then_rel, then_same, opt_at, place_rel}
+use Rattle.export_names.specs.declared.mode.Mode.{Mode}
+use Rattle.export_names.specs.Names.{new_names}
+use Rattle.merge_terms.specs.Merged.{by_part, map_of, merged, merged_const, merged_elem, merged_elem_mode, merged_data, merged_data_mode, export_names}
+use Rattle.merge_terms.specs.Joined.{joined_module}
+use Rattle.merge_validity.specs.Joinable.{CanBeJoined}
+use Rattle.merge_validity.proofs.Lists.{place_get, map_back, within}
+use Rattle.merge_worlds.specs.Shared.{shared_count, sharing}
+use Rattle.merge_worlds.specs.Instances.{PartAgrees, InstancesAgree}
+use Rattle.merge_worlds.specs.Stores.{StoresAlike, FilledAlike}
+use Rattle.merge_worlds.proofs.SegmentLists.{equal_rel}
+use Rattle.merge_worlds.proofs.SegmentStores.{goes_on, and_then_alike, or_trapped_alike, fill_table_alike, fill_memory_alike}
+use Rattle.merge_worlds.proofs.SegmentTurns.{tasks_by, elems_by, datas_by, elems_start, datas_start, elems_next, datas_next, task, PartDoes, by_parts}
+
+-- constant expressions of the parts and what they become have the same values
+abbrev pub ValuesAgree : Environment → List Part → Mode → List Inst → List Inst → Type 0
+ValuesAgree env parts mode insts js =
+    (p : ℕ) (m : Module) (e : ConstExpr) (ty : ValType) → module_at parts p ≡ Some m → const_type m e ≡ Some ty →
+    OptRel (ValRel (sharing env parts)) (value_of env parts insts p e) (value_of env (one (joined_module parts mode)) js 0 (merged_const parts p e))
+
+-- each item of a valid module holds
+abbrev pub ValidItemsHold : Type 0
+ValidItemsHold = (m : Module) → IsValid m → (k : ItemKind) (i : ℕ) → i < count_of m true k → HoldsAt m k i
+
+-- ---- the segments of the merged module ----
+
+data Declares : List ElemSeg → Type 0 where
+  nothing_more : Declares []
+  one_more : (fs : List ℕ) → Declares (declaring fs ∷ [])
+
+record JoinedElems (parts : List Part) (mode : Mode) : Type 0 where
+  more : List ElemSeg
+  declares : Declares more
+  are : (joined_module parts mode).elems ≡ by_part (λ p m. map (merged_elem parts p (map_of parts p m)) m.elems) parts ++ more
+
+nothing_after : {A : Type 0} (xs : List A) → xs ≡ xs ++ []
+nothing_after [] = refl
+nothing_after (x ∷ xs) = ap (λ ys. x ∷ ys) (nothing_after xs)
+
+joined_elems : (parts : List Part) (mode : Mode) → JoinedElems parts mode
+unfolding joined_module merged
+joined_elems parts mode = let r = go (declared_refs (merged parts (new_names mode (export_names parts)))) in record { more = r.0; declares = r.1; are = r.2 }
+  where
+    all : List ElemSeg
+    all = by_part (λ p m. map (merged_elem parts p (map_of parts p m)) m.elems) parts
+
+    go : (fs : List ℕ) → (more : List ElemSeg) × Declares more × ((with_declared (merged parts (new_names mode (export_names parts))) fs).elems ≡ all ++ more)
+    go [] = ([], nothing_more, nothing_after all)
+    go (f ∷ fs) = (declaring (f ∷ fs) ∷ [], one_more (f ∷ fs), refl)
+
+joined_datas : (parts : List Part) (mode : Mode) → (joined_module parts mode).datas ≡ by_part (λ p m. map (merged_data parts p (map_of parts p m)) m.datas) parts
+unfolding joined_module merged
+joined_datas parts mode = go (declared_refs (merged parts (new_names mode (export_names parts))))
+  where
+    go : (fs : List ℕ) → (with_declared (merged parts (new_names mode (export_names parts))) fs).datas ≡ by_part (λ p m. map (merged_data parts p (map_of parts p m)) m.datas) parts
+    go [] = refl
+    go (f ∷ fs) = refl
+
+-- ---- what the map of a part says of segments ----
+
+tables_many : (parts : List Part) (p : ℕ) (m : Module) → length (map_of parts p m).tables ≡ length (tables_of m)
+unfolding map_of
+tables_many parts p m = map_length _ (numbers 0 (length (tables_of m))) ∙ numbers_length 0 (length (tables_of m))
+
+mems_many : (parts : List Part) (p : ℕ) (m : Module) → length (map_of parts p m).mems ≡ length (memories_of m)
+unfolding map_of
+mems_many parts p m = map_length _ (numbers 0 (length (memories_of m))) ∙ numbers_length 0 (length (memories_of m))
+
+elem_places : (parts : List Part) (p : ℕ) (m : Module) → (map_of parts p m).elems ≡ numbers (elems_before parts p) (length m.elems)
+unfolding map_of
+elem_places parts p m = refl
+
+data_places : (parts : List Part) (p : ℕ) (m : Module) → (map_of parts p m).datas ≡ numbers (datas_before parts p) (length m.datas)
+unfolding map_of
+data_places parts p m = refl
+
+-- the entry of a segment is its place among all
+entry_is : (entries : List ℕ) (n count x : ℕ) → entries ≡ numbers n count → x < count → slice_index entries x ≡ n + x
+entry_is entries n count x e lt = ap (λ l. slice_index l x) e ∙ index_at (numbers n count) x (n + x) (place_numbers n count x lt)
+
+entries_many : (entries : List ℕ) (n count : ℕ) → entries ≡ numbers n count → length entries ≡ count
+entries_many entries n count e = ap length e ∙ numbers_length n count
+
+-- ---- a segment of a part ----
+
+-- the segment at an address is copied into the table at an address
+abbrev table_at : Store → (segment offset : ℕ) → ℕ → Option Filled
+table_at s n q a = then_some (place s.tables a) (λ t. then_some (place s.elems n) (λ e. Some (fill_table s n a t (overwrite t.slots q e.items))))
+
+abbrev memory_at : Store → (segment offset : ℕ) → ℕ → Option Filled
+memory_at s n q a = then_some (place s.mems a) (λ m. then_some (place s.datas n) (λ d. Some (fill_memory s n a m (overwrite m.bytes q d.bytes))))
+
+module _ (env : Environment) (parts : List Part) (mode : Mode) where
+  abbrev R : Pairing
+  R = sharing env parts
+
+  abbrev whole : Module
+  whole = joined_module parts mode
+
+  abbrev M : List Part
+  M = one whole
+
+  copy_elem_alike : {s z : Store} (i j : Inst) (n x y a : ℕ) (o : Option ℕ) → place i.tables x ≡ Some a → place j.tables y ≡ Some a → n < length s.elems → StoresAlike env parts s z → FilledAlike env parts (copy_elem s n i x o) (copy_elem z n j y o)
+  copy_elem_alike {s} {z} i j n x y a o first second lt like =
+      or_trapped_alike env parts like (then_same o (λ q _. opt_at (ap (λ o. then_some o (table_at s n q)) first) (ap (λ o. then_some o (table_at z n q)) second) (here q)))
+    where
+      segment : OptRel (ElemRel R) (place s.elems n) (place z.elems n)
+      segment =
+          let m = length_rel like.elems in
+          opt_at refl (ap (λ es. place es n) like.all_elems ∙ place_left like.shared_elems like.more_elems n (omega (arith, lt, m))) (place_rel like.elems n)
+
+      here : (q : ℕ) → OptRel (FilledAlike env parts) (table_at s n q a) (table_at z n q a)
+      here q = then_rel (place_rel like.tables a) (λ _ _ t. then_rel segment (λ _ _ e. some (fill_table_alike env parts n a like lt t (overwrite_rel q t.slots e.items))))
+
+  copy_data_alike : {s z : Store} (i j : Inst) (n x y a : ℕ) (o : Option ℕ) → place i.mems x ≡ Some a → place j.mems y ≡ Some a → StoresAlike env parts s z → FilledAlike env parts (copy_data s n i x o) (copy_data z n j y o)
+  copy_data_alike {s} {z} i j n x y a o first second like =
+      or_trapped_alike env parts like (then_same o (λ q _. opt_at (ap (λ o. then_some o (memory_at s n q)) first) (ap (λ o. then_some o (memory_at z n q)) second) (here q)))
+    where
+      same : (q : ℕ) (v w : Memory) (d e : Data) → v ≡ w → d ≡ e → FilledAlike env parts (fill_memory s n a v (overwrite v.bytes q d.bytes)) (fill_memory z n a w (overwrite w.bytes q e.bytes))
+      same q v w d e f g =
+          subst (λ e. FilledAlike env parts (fill_memory s n a v (overwrite v.bytes q d.bytes)) (fill_memory z n a w (overwrite w.bytes q e.bytes))) g
+          (subst (λ w. FilledAlike env parts (fill_memory s n a v (overwrite v.bytes q d.bytes)) (fill_memory z n a w (overwrite w.bytes q d.bytes))) f (fill_memory_alike env parts {v = v} {w = v} n a (overwrite v.bytes q d.bytes) like refl))
+
+      here : (q : ℕ) → OptRel (FilledAlike env parts) (memory_at s n q a) (memory_at z n q a)
+      here q = then_rel (equal_rel (ap (λ ms. place ms a) like.mems)) (λ v w f. then_rel (equal_rel (ap (λ ds. place ds n) like.datas)) (λ d e g. some (same q v w d e f g)))
+
+  module _ (can : CanBeJoined parts mode) (items : ValidItemsHold) (insts js : List Inst) (agree : InstancesAgree env parts insts js) (values : ValuesAgree env parts mode insts js) where
+    abbrev j : Inst
+    j = agree.merged
+
+    number_same : {v w : Val} → ValRel R v w → given (num_of W32 v) ≡ given (num_of W32 w)
+    number_same number = refl
+    number_same (reference r) = refl
+
+    offset_same : (p : ℕ) (m : Module) (e : ConstExpr) (ty : ValType) → module_at parts p ≡ Some m → const_type m e ≡ Some ty → number_value env parts insts p e ≡ number_value env M js 0 (merged_const parts p e)
+    offset_same p m e ty is t = go (values p m e ty is t)
+      where
+        go : {o q : Option Val} → OptRel (ValRel R) o q → then_some o (λ v. given (num_of W32 v)) ≡ then_some q (λ v. given (num_of W32 v))
+        go none = refl
+        go (some v) = number_same v
+
+    -- ---- element segments ----
+
+    elem_holds : (p : ℕ) (m : Module) (x : ℕ) (e : ElemSeg) → module_at parts p ≡ Some m → place m.elems x ≡ Some e → ElemModeHolds m e.ty e.mode
+    elem_holds p m x e is h =
+        let got : slice_get m.elems x ≡ Some e = sym (place_get m.elems x) ∙ h in
+        let z = items m (can.valid p m is) kind.Elem x (within m.elems x e got) in
+        let both : Some z.0 ≡ Some e = sym z.1 ∙ got in
+        let same : z.0 ≡ e = cc in
+        subst (λ (e : ElemSeg). ElemModeHolds m e.ty e.mode) same z.3
+
+    elem_alike : {s z : Store} (p : ℕ) (m : Module) (i : Inst) (a : ℕ) (e : ElemSeg) → module_at parts p ≡ Some m → PartAgrees env parts p m i j → ElemModeHolds m e.ty e.mode → a < shared_count env parts Elems → StoresAlike env parts s z →
+        FilledAlike env parts (run_elem env parts insts s (task p i a e)) (run_elem env M js z (task 0 j a (merged_elem parts p (map_of parts p m) e)))
+    elem_alike {s} {z} p m i a e is k holds lt like = go e.mode holds
+      where
+        go : (mode : ElemMode) → ElemModeHolds m e.ty mode →
+            FilledAlike env parts (run_elem_mode env parts insts s (task p i a e) mode) (run_elem_mode env M js z (task 0 j a (merged_elem parts p (map_of parts p m) e)) (merged_elem_mode parts p (map_of parts p m) mode))
+        go (elem.Active x offset) h =
+            let t = map_back (λ t. t.ty) (tables_of m) x e.ty h.0 in
+            let there = within (tables_of m) x t.0 t.1 in
+            let many = tables_many parts p m in
+            let o = k.tables.each x (omega (arith, there, many)) in
+            let count = like.elem_count in
+            subst (λ o. FilledAlike env parts (copy_elem s a i x (number_value env parts insts p offset)) (copy_elem z a j (slice_index (map_of parts p m).tables x) o)) (offset_same p m offset I32 is h.1)
+            (copy_elem_alike i j a x (slice_index (map_of parts p m).tables x) o.address (number_value env parts insts p offset) o.first o.second (omega (arith, lt, count)) like)
+        go elem.Passive h = goes_on env parts like
+        go elem.Declarative h = goes_on env parts like
+
+    elems_do : (p : ℕ) (m : Module) → module_at parts p ≡ Some m →
+        PartDoes env parts (run_elem env parts insts) (run_elem env M js) insts j (λ m. m.elems) (λ i. i.elems) (λ p m. merged_elem parts p (map_of parts p m)) (elems_before parts) p m
+    elems_do p m is =
+        let i = agree.each p m is in
+        let size : length (map_of parts p m).elems ≡ length m.elems = entries_many (map_of parts p m).elems (elems_before parts p) (length m.elems) (elem_places parts p m) in
+        record {
+          inst = i.0;
+          is = i.1;
+          same = λ x l.
+              let o = i.2.elems.each x (omega (arith, l, size)) in
+              record { address = o.address; first = o.first; second = ap (place j.elems) (sym (entry_is (map_of parts p m).elems (elems_before parts p) (length m.elems) x (elem_places parts p m) l)) ∙ o.second };
+          each = λ x a e h at s z like.
+              let l = within m.elems x e (sym (place_get m.elems x) ∙ h) in
+              let o = i.2.elems.each x (omega (arith, l, size)) in
+              let both : Some o.address ≡ Some a = sym o.first ∙ at in
+              let same : o.address ≡ a = cc in
+              let lt = o.shared in
+              elem_alike p m i.0 a e is i.2 (elem_holds p m x e is h) (omega (arith, lt, same)) like;
+        }
+
+    -- a declarative segment does nothing
+    declared_alike : {more : List ElemSeg} → Declares more → (ns : List ℕ) (s z : Store) → StoresAlike env parts s z → FilledAlike env parts (record { store = s; trapped = false }) (in_turn (run_elem env M js) z (tasks_in 0 j ns more))
+    declared_alike nothing_more [] s z like = goes_on env parts like
+    declared_alike nothing_more (n ∷ ns) s z like = goes_on env parts like
+    declared_alike (one_more fs) [] s z like = goes_on env parts like
+    declared_alike (one_more fs) (n ∷ []) s z like = goes_on env parts like
+    declared_alike (one_more fs) (n ∷ k ∷ ns) s z like = goes_on env parts like
+
+    elems_alike : (s z : Store) → StoresAlike env parts s z → FilledAlike env parts (in_turn (run_elem env parts insts) s (elem_tasks 0 parts insts)) (in_turn (run_elem env M js) z (elem_tasks 0 M js))
+    elems_alike s z like =
+        let e = joined_elems parts mode in
+        let zero_more : (q : ℕ) → q ≡ 0 + q = λ q. omega arith in
+        let all = by_parts env parts (run_elem env parts insts) (run_elem env M js) j insts (λ m. m.elems) (λ i. i.elems) (λ p m. merged_elem parts p (map_of parts p m)) (elems_before parts) (elems_next parts) e.more (declared_alike e.declares)
+        elems_do 0 parts insts (λ q. ap (module_at parts) (zero_more q)) (λ q. ap (place insts) (zero_more q)) s z like in
+        let first : tasks_in 0 j (past j.elems (elems_before parts 0)) (by_part (λ p m. map (merged_elem parts p (map_of parts p m)) m.elems) parts ++ e.more) ≡ elem_tasks 0 M js =
+        ap (λ n. tasks_in 0 j (past j.elems n) (by_part (λ p m. map (merged_elem parts p (map_of parts p m)) m.elems) parts ++ e.more)) (elems_start parts)
+        ∙ ap (tasks_in 0 j j.elems) (sym e.are) ∙ nothing_after (tasks_in 0 j j.elems whole.elems) ∙ ap (elem_tasks 0 M) (sym agree.alone) in
+        subst (λ ts. FilledAlike env parts (in_turn (run_elem env parts insts) s ts) (in_turn (run_elem env M js) z (elem_tasks 0 M js))) (sym (elems_by 0 parts insts))
+        (subst (λ ts. FilledAlike env parts (in_turn (run_elem env parts insts) s (tasks_by (λ m. m.elems) (λ i. i.elems) 0 parts insts)) (in_turn (run_elem env M js) z ts)) first all)
+
+    -- ---- data segments ----
+
+    data_holds : (p : ℕ) (m : Module) (x : ℕ) (d : DataSeg) → module_at parts p ≡ Some m → place m.datas x ≡ Some d → DataModeHolds m d.mode
+    data_holds p m x d is h =
+        let got : slice_get m.datas x ≡ Some d = sym (place_get m.datas x) ∙ h in
+        let z = items m (can.valid p m is) kind.Segment x (within m.datas x d got) in
+        let both : Some z.0 ≡ Some d = sym z.1 ∙ got in
+        let same : z.0 ≡ d = cc in
+        subst (λ (d : DataSeg). DataModeHolds m d.mode) same z.2
+
+    data_alike : {s z : Store} (p : ℕ) (m : Module) (i : Inst) (a : ℕ) (d : DataSeg) → module_at parts p ≡ Some m → PartAgrees env parts p m i j → DataModeHolds m d.mode → StoresAlike env parts s z →
+        FilledAlike env parts (run_data env parts insts s (task p i a d)) (run_data env M js z (task 0 j a (merged_data parts p (map_of parts p m) d)))
+    data_alike {s} {z} p m i a d is k holds like = go d.mode holds
+      where
+        go : (mode : DataMode) → DataModeHolds m mode →
+            FilledAlike env parts (run_data_mode env parts insts s (task p i a d) mode) (run_data_mode env M js z (task 0 j a (merged_data parts p (map_of parts p m) d)) (merged_data_mode parts p (map_of parts p m) mode))
+        go (data'.Active x offset) h =
+            let there = h.0 in
+            let many = mems_many parts p m in
+            let o = k.mems.each x (omega (arith, there, many)) in
+            subst (λ o. FilledAlike env parts (copy_data s a i x (number_value env parts insts p offset)) (copy_data z a j (slice_index (map_of parts p m).mems x) o)) (offset_same p m offset I32 is h.1)
+            (copy_data_alike i j a x (slice_index (map_of parts p m).mems x) o.address (number_value env parts insts p offset) o.first o.second like)
+        go data'.Passive h = goes_on env parts like
+
+    datas_do : (p : ℕ) (m : Module) → module_at parts p ≡ Some m →
+        PartDoes env parts (run_data env parts insts) (run_data env M js) insts j (λ m. m.datas) (λ i. i.datas) (λ p m. merged_data parts p (map_of parts p m)) (datas_before parts) p m
+    datas_do p m is =
+        let i = agree.each p m is in
+        let size : length (map_of parts p m).datas ≡ length m.datas = entries_many (map_of parts p m).datas (datas_before parts p) (length m.datas) (data_places parts p m) in
+        record {
+          inst = i.0;
+          is = i.1;
+          same = λ x l.
+              let o = i.2.datas.each x (omega (arith, l, size)) in
+              record { address = o.address; first = o.first; second = ap (place j.datas) (sym (entry_is (map_of parts p m).datas (datas_before parts p) (length m.datas) x (data_places parts p m) l)) ∙ o.second };
+          each = λ x a d h at s z like. data_alike p m i.0 a d is i.2 (data_holds p m x d is h) like;
+        }
+
+    datas_alike : (s z : Store) → StoresAlike env parts s z → FilledAlike env parts (in_turn (run_data env parts insts) s (data_tasks 0 parts insts)) (in_turn (run_data env M js) z (data_tasks 0 M js))
+    datas_alike s z like =
+        let zero_more : (q : ℕ) → q ≡ 0 + q = λ q. omega arith in
+        let all = by_parts env parts (run_data env parts insts) (run_data env M js) j insts (λ m. m.datas) (λ i. i.datas) (λ p m. merged_data parts p (map_of parts p m)) (datas_before parts) (datas_next parts) [] no_data
+        datas_do 0 parts insts (λ q. ap (module_at parts) (zero_more q)) (λ q. ap (place insts) (zero_more q)) s z like in
+        let first : tasks_in 0 j (past j.datas (datas_before parts 0)) (by_part (λ p m. map (merged_data parts p (map_of parts p m)) m.datas) parts ++ []) ≡ data_tasks 0 M js =
+        ap (λ n. tasks_in 0 j (past j.datas n) (by_part (λ p m. map (merged_data parts p (map_of parts p m)) m.datas) parts ++ [])) (datas_start parts)
+        ∙ ap (tasks_in 0 j j.datas) (sym (nothing_after _) ∙ sym (joined_datas parts mode)) ∙ nothing_after (tasks_in 0 j j.datas whole.datas) ∙ ap (data_tasks 0 M) (sym agree.alone) in
+        subst (λ ts. FilledAlike env parts (in_turn (run_data env parts insts) s ts) (in_turn (run_data env M js) z (data_tasks 0 M js))) (sym (datas_by 0 parts insts))
+        (subst (λ ts. FilledAlike env parts (in_turn (run_data env parts insts) s (tasks_by (λ m. m.datas) (λ i. i.datas) 0 parts insts)) (in_turn (run_data env M js) z ts)) first all)
+      where
+        no_data : (ns : List ℕ) (s z : Store) → StoresAlike env parts s z → FilledAlike env parts (record { store = s; trapped = false }) (in_turn (run_data env M js) z (tasks_in 0 j ns []))
+        no_data [] s z like = goes_on env parts like
+        no_data (n ∷ ns) s z like = goes_on env parts like
+
+    -- ---- all of them ----
+
+    pub segments_alike : {s z : Store} → StoresAlike env parts s z → FilledAlike env parts (segments env parts insts s) (segments env M js z)
+    segments_alike {s} {z} like = and_then_alike env parts (elems_alike s z like) datas_alike

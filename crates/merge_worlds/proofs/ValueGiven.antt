@@ -1,0 +1,43 @@
+-- What the laws of lower crates say that the values and stores of parts and of their merged module rest on.
+use Rattle.std.specs.Prelude.{◌≡◌, ◌↔◌, ℕ, ◌<◌, List, Some, None, true, IsTrue}
+use Rattle.wasm_tree.specs.declared.types.ValType.{ValType}
+use Rattle.wasm_tree.specs.declared.module.ConstExpr.{ConstExpr}
+use Rattle.wasm_tree.specs.declared.module.Module.{Module}
+use Rattle.wasm_valid.specs.declared.kinds.ItemKind.{ItemKind}
+use Rattle.wasm_valid.specs.Constants.{const_type}
+use Rattle.wasm_valid.specs.Validity.{IsValid, HoldsAt, count_of}
+use Rattle.wasm_meaning.specs.State.{Inst}
+use Rattle.wasm_meaning.specs.Linking.{Part, Read, place, module_at, read_of}
+use Rattle.wasm_meaning.specs.Environment.{Environment}
+use Rattle.index_remap.specs.Renumbered.{fits_tree}
+use Rattle.index_remap.specs.Laws.{RenumberedCodeIsRelated}
+use Rattle.permuted_worlds.specs.Alone.{SpacesAreImportsAndOwn, ReadsStay}
+use Rattle.permuted_worlds.specs.Named.{FittingCodeIsNamed}
+use Rattle.permuted_worlds.specs.Owned.{OwnEntitiesCorrespond}
+use Rattle.export_names.specs.declared.mode.Mode.{Mode}
+use Rattle.merge_terms.specs.Faults.{link_fault}
+use Rattle.merge_terms.specs.Joined.{joined_module}
+use Rattle.merge_terms.specs.Merged.{map_of}
+use Rattle.merge_validity.specs.Entries.{HasEntry}
+use Rattle.merge_validity.specs.Joinable.{CanBeJoined, EachPart}
+use Rattle.merge_worlds.specs.Instances.{PartAgrees}
+
+pub record Laws : Type 0 where
+  -- of wasm_valid
+  pub items : (m : Module) → IsValid m ↔ ((k : ItemKind) (i : ℕ) → i < count_of m true k → HoldsAt m k i)
+  -- of merge_validity
+  pub valid : (parts : List Part) (mode : Mode) → CanBeJoined parts mode → IsValid (joined_module parts mode)
+  pub entries : (parts : List Part) (p : ℕ) (m : Module) → IsValid m → IsTrue (fits_tree (map_of parts p m) m)
+  pub reads : (parts : List Part) (p : ℕ) (m : Module) (e : ConstExpr) (ty : ValType) (r : Read) → EachPart IsValid parts → link_fault parts ≡ None → module_at parts p ≡ Some m → const_type m e ≡ Some ty → read_of parts p e ≡ Some r → HasEntry parts r
+  pub there : (parts : List Part) (p : ℕ) (m : Module) (e : ConstExpr) (ty : ValType) → EachPart IsValid parts → link_fault parts ≡ None → module_at parts p ≡ Some m → const_type m e ≡ Some ty → (r : Read) × (read_of parts p e ≡ Some r)
+  -- of permuted_worlds
+  pub alone_reads : ReadsStay
+  pub alone_spaces : SpacesAreImportsAndOwn
+  pub own : OwnEntitiesCorrespond
+  pub named : FittingCodeIsNamed
+  -- of index_remap
+  pub code : RenumberedCodeIsRelated
+
+-- the instance of each part agrees with that of the merged module
+abbrev pub EachAgrees : Environment → List Part → List Inst → Inst → Type 0
+EachAgrees env parts insts j = (p : ℕ) (m : Module) → module_at parts p ≡ Some m → (i : Inst) × (place insts p ≡ Some i) × PartAgrees env parts p m i j

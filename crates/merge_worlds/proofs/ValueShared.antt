@@ -1,0 +1,59 @@
+-- The addresses that both worlds have: each stands for itself, and those of the environment's own entities are among them.
+use Rattle.std.proofs.Common.{◌≡◌, ℕ, ◌<◌, List, Bool, true, false, cond, refl, sym, ◌∙◌, arith}
+use Rattle.std.specs.Prelude.{nat_eq, nat_lt}
+use Rattle.std.proofs.lemmas.Bool.{eqb-true, eq-eqb, ltb-true, lt-ltb}
+use Rattle.wasm_tree.specs.declared.types.RefType.{RefType}
+use Rattle.wasm_tree.specs.declared.types.RefType.TheVariants as reft
+use Rattle.wasm_meaning.specs.Values.{null_of}
+use Rattle.wasm_meaning.specs.Linking.{Part}
+use Rattle.wasm_meaning.specs.Environment.{Environment, own_funcs}
+use Rattle.index_remap.specs.Related.{Kind, Funcs, Tables, Mems, Globals, Pairing, OneToOne, none, ListRel, RefRel, func, extern, FuncRel, own}
+use Rattle.permuted_worlds.specs.Owned.{SharesOwn, OwnCorrespond, OwnEntitiesCorrespond}
+use Rattle.permuted_worlds.proofs.Owned.{flat_rel}
+use Rattle.permuted_worlds.proofs.Places.{self_rel, maps_rel}
+use Rattle.merge_worlds.specs.Shared.{shared_count, is_shared, sharing}
+
+both_true : (b c : Bool) → b ≡ true → c ≡ true → cond b c false ≡ true
+both_true true c e h = h
+both_true false c e h = cc
+
+first_true : (b c : Bool) → cond b c false ≡ true → b ≡ true
+first_true true c h = refl
+first_true false c h = cc
+
+second_true : (b c : Bool) → cond b c false ≡ true → c ≡ true
+second_true true c h = h
+second_true false c h = cc
+
+module _ (env : Environment) (parts : List Part) where
+  abbrev R : Pairing
+  R = sharing env parts
+
+  pub shares : (k : Kind) (a : ℕ) → a < shared_count env parts k → R.of k a a
+  shares k a h = both_true (nat_eq a a) (nat_lt a (shared_count env parts k)) (eq-eqb a a refl) (lt-ltb a (shared_count env parts k) h)
+
+  pub is_same : (k : Kind) (a b : ℕ) → R.of k a b → (a ≡ b) × (a < shared_count env parts k)
+  is_same k a b h = (eqb-true a b (first_true (nat_eq a b) (nat_lt a (shared_count env parts k)) h), ltb-true a (shared_count env parts k) (second_true (nat_eq a b) (nat_lt a (shared_count env parts k)) h))
+
+  pub one_to_one : OneToOne R
+  one_to_one = record { right = λ {k} a b c p q. sym (is_same k a b p).0 ∙ (is_same k a c q).0; left = λ {k} a b c p q. (is_same k a c p).0 ∙ sym (is_same k b c q).0 }
+
+  -- ---- the environment's own entities ----
+
+  shares_own : SharesOwn R env
+  shares_own = record {
+    funcs = λ a h. shares Funcs a (omega arith);
+    tables = λ a h. shares Tables a (omega arith);
+    mems = λ a h. shares Mems a (omega arith);
+    globals = λ a h. shares Globals a (omega arith);
+  }
+
+  pub own_entities : OwnEntitiesCorrespond → OwnCorrespond R env
+  own_entities law = law (is_shared env parts) env shares_own
+
+  pub own_funcs_rel : ListRel (FuncRel R) (own_funcs env) (own_funcs env)
+  own_funcs_rel = flat_rel _ (λ o. maps_rel _ _ (self_rel o.funcs (λ ty. own))) env
+
+  pub null_rel : (ty : RefType) → RefRel R (null_of ty) (null_of ty)
+  null_rel reft.Func = func none
+  null_rel reft.Extern = extern

@@ -1,0 +1,98 @@
+-- A constant expression of a part and what it becomes in the merged module have related values.
+use Rattle.std.proofs.Common.{◌≡◌, ℕ, List, [], ◌∷◌, Option, Some, true, refl, sym, ap, subst, ◌∙◌}
+use Rattle.std.specs.Prelude.{slice_index}
+use Rattle.std.proofs.lemmas.Bool.{ltb-true}
+use Rattle.wasm_tree.specs.declared.types.ValType.{ValType}
+use Rattle.wasm_tree.specs.declared.module.ConstExpr.{ConstExpr}
+use Rattle.wasm_tree.specs.declared.module.ConstExpr.TheVariants as const
+use Rattle.wasm_tree.specs.declared.module.Module.{Module}
+use Rattle.wasm_valid.specs.Constants.{const_type}
+use Rattle.wasm_num.specs.Operations.{Width, W32, W64}
+use Rattle.wasm_meaning.specs.State.{FuncRef, Val, Ref, Inst}
+use Rattle.wasm_meaning.specs.Values.{ref_of, num_of}
+use Rattle.wasm_meaning.specs.Linking.{Part, Read, place, then_some, module_at, read_of}
+use Rattle.wasm_meaning.specs.Environment.{Environment, own_globals}
+use Rattle.wasm_meaning.specs.World.{given, insts_from, const_value, value_of_read, value_of, ref_value, number_value}
+use Rattle.index_remap.specs.Renumbered.{new_const, fits_const}
+use Rattle.index_remap.specs.Related.{Funcs, Pairing, OptRel, none, some, RefRel, func, ValRel, number, reference}
+use Rattle.permuted_worlds.specs.Alone.{one}
+use Rattle.permuted_worlds.proofs.Places.{then_rel, opt_at, place_rel}
+use Rattle.export_names.specs.declared.mode.Mode.{Mode}
+use Rattle.merge_terms.specs.Joined.{joined_module}
+use Rattle.merge_terms.specs.Merged.{map_of, or_this, merged_read, merged_const}
+use Rattle.merge_validity.specs.Joinable.{CanBeJoined}
+use Rattle.merge_worlds.specs.Instances.{PartAgrees, InstancesAgree}
+use Rattle.merge_worlds.specs.Shared.{sharing}
+use Rattle.merge_worlds.proofs.ValueShared.{shares, null_rel, own_entities}
+use Rattle.merge_worlds.proofs.ValueAlone.{global_value}
+use Rattle.merge_worlds.proofs.ValueGiven.{Laws, EachAgrees}
+
+const_is : (parts : List Part) (p : ℕ) (e : ConstExpr) (r : Read) (m : Module) → read_of parts p e ≡ Some r → module_at parts r.part ≡ Some m → merged_const parts p e ≡ new_const (map_of parts r.part m) r.expr
+unfolding merged_const
+const_is parts p e r m reads is =
+    ap (λ o. or_this e (then_some o (merged_read parts))) reads ∙ ap (λ o. or_this e (then_some {A = Module} {B = ConstExpr} o (λ m. Some (new_const (map_of parts r.part m) r.expr)))) is
+
+module _ (laws : Laws) (env : Environment) (parts : List Part) (mode : Mode) where
+  abbrev M : List Part
+  M = one (joined_module parts mode)
+
+  abbrev R : Pairing
+  R = sharing env parts
+
+  ref_rel : {v w : Val} → ValRel R v w → OptRel (RefRel R) (given (ref_of v)) (given (ref_of w))
+  ref_rel number = none
+  ref_rel (reference r) = some r
+
+  number_same : (w : Width) {v z : Val} → ValRel R v z → given (num_of w v) ≡ given (num_of w z)
+  number_same w number = refl
+  number_same W32 (reference r) = refl
+  number_same W64 (reference r) = refl
+
+  module _ (can : CanBeJoined parts mode) (insts : List Inst) (j : Inst) (each : EachAgrees env parts insts j) (are : insts_from env (one (joined_module parts mode)) 0 (one (joined_module parts mode)) ≡ Some (j ∷ [])) where
+    -- what is read
+    read_rel : (q : ℕ) (m : Module) (i : Inst) → PartAgrees env parts q m i j → (x : ConstExpr) → fits_const (map_of parts q m) x ≡ true → OptRel (ValRel R) (const_value (own_globals env) i x) (value_of env M (j ∷ []) 0 (new_const (map_of parts q m) x))
+    read_rel q m i k (const.I32 v) h = some number
+    read_rel q m i k (const.I64 v) h = some number
+    read_rel q m i k (const.Null ty) h = some (reference (null_rel env parts ty))
+    read_rel q m i k (const.Func f) h =
+        let a = k.funcs.each f (ltb-true _ _ h) in
+        opt_at (ap (λ o. then_some o (λ a. Some (Ref (FuncRef (Some a))))) a.first) (ap (λ o. then_some o (λ a. Some (Ref (FuncRef (Some a))))) a.second) (some (reference (func (some (shares env parts Funcs a.address a.shared)))))
+    read_rel q m i k (const.Global x) h =
+        let a = k.globals.each x (ltb-true _ _ h) in
+        opt_at (ap (λ o. then_some o (λ a. then_some (place (own_globals env) a) (λ g. Some g.value))) a.first)
+        (global_value laws.alone_reads laws.alone_spaces env (joined_module parts mode) j are (slice_index (map_of parts q m).globals x) a.address a.second)
+        (then_rel (place_rel (own_entities env parts laws.own).globals a.address) (λ _ _ g. some g.value))
+
+    pub const_rel : (p : ℕ) (m : Module) (e : ConstExpr) (ty : ValType) → module_at parts p ≡ Some m → const_type m e ≡ Some ty → OptRel (ValRel R) (value_of env parts insts p e) (value_of env M (j ∷ []) 0 (merged_const parts p e))
+    const_rel p m e ty is t =
+        let r = laws.there parts p m e ty can.valid can.linked is t in
+        let h = laws.reads parts p m e ty r.0 can.valid can.linked is t r.1 in
+        let i = each r.0.part h.of h.is_part in
+        opt_at (ap (λ o. then_some o (value_of_read (own_globals env) insts)) r.1 ∙ ap (λ o. then_some o (λ i. const_value (own_globals env) i r.0.expr)) i.1)
+        (ap (value_of env M (j ∷ []) 0) (const_is parts p e r.0 h.of r.1 h.is_part))
+        (read_rel r.0.part h.of i.0 i.2 r.0.expr h.fits)
+
+    pub reference_rel : (p : ℕ) (m : Module) (e : ConstExpr) (ty : ValType) → module_at parts p ≡ Some m → const_type m e ≡ Some ty → OptRel (RefRel R) (ref_value env parts insts p e) (ref_value env M (j ∷ []) 0 (merged_const parts p e))
+    reference_rel p m e ty is t = then_rel (const_rel p m e ty is t) (λ _ _ v. ref_rel v)
+
+    pub offset_same : (p : ℕ) (m : Module) (e : ConstExpr) (ty : ValType) → module_at parts p ≡ Some m → const_type m e ≡ Some ty → number_value env parts insts p e ≡ number_value env M (j ∷ []) 0 (merged_const parts p e)
+    offset_same p m e ty is t = go (const_rel p m e ty is t)
+      where
+        go : {o p : Option Val} → OptRel (ValRel R) o p → then_some o (λ v. given (num_of W32 v)) ≡ then_some p (λ v. given (num_of W32 v))
+        go none = refl
+        go (some v) = number_same W32 v
+
+  -- ---- for instances that agree ----
+
+  module _ (can : CanBeJoined parts mode) (insts js : List Inst) (k : InstancesAgree env parts insts js) (are : insts_from env (one (joined_module parts mode)) 0 (one (joined_module parts mode)) ≡ Some js) where
+    pub are_one : insts_from env M 0 M ≡ Some (k.merged ∷ [])
+    are_one = are ∙ ap Some k.alone
+
+    pub value_rel : (p : ℕ) (m : Module) (e : ConstExpr) (ty : ValType) → module_at parts p ≡ Some m → const_type m e ≡ Some ty → OptRel (ValRel R) (value_of env parts insts p e) (value_of env M js 0 (merged_const parts p e))
+    value_rel p m e ty is t = subst (λ js. OptRel (ValRel R) (value_of env parts insts p e) (value_of env M js 0 (merged_const parts p e))) (sym k.alone) (const_rel can insts k.merged k.each are_one p m e ty is t)
+
+    pub ref_value_rel : (p : ℕ) (m : Module) (e : ConstExpr) (ty : ValType) → module_at parts p ≡ Some m → const_type m e ≡ Some ty → OptRel (RefRel R) (ref_value env parts insts p e) (ref_value env M js 0 (merged_const parts p e))
+    ref_value_rel p m e ty is t = subst (λ js. OptRel (RefRel R) (ref_value env parts insts p e) (ref_value env M js 0 (merged_const parts p e))) (sym k.alone) (reference_rel can insts k.merged k.each are_one p m e ty is t)
+
+    pub number_value_same : (p : ℕ) (m : Module) (e : ConstExpr) (ty : ValType) → module_at parts p ≡ Some m → const_type m e ≡ Some ty → number_value env parts insts p e ≡ number_value env M js 0 (merged_const parts p e)
+    number_value_same p m e ty is t = subst (λ js. number_value env parts insts p e ≡ number_value env M js 0 (merged_const parts p e)) (sym k.alone) (offset_same can insts k.merged k.each are_one p m e ty is t)

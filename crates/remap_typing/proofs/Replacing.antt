@@ -1,0 +1,105 @@
+-- Bodies stay well typed where code of the same type stands in place of calls of listed functions.
+use Rattle.std.proofs.Common.{◌≡◌, ℕ, Bool, true, false, List, [], ◌∷◌, ◌++◌, reverse, Option, Some, None, refl, sym, ◌∙◌, subst}
+use Rattle.std.specs.Prelude.{slice_get}
+use Rattle.wasm_tree.specs.declared.types.ValType.{ValType}
+use Rattle.wasm_tree.specs.declared.types.FuncType.{FuncType}
+use Rattle.wasm_tree.specs.declared.instr.Instr.{Instr, out-Instr, Row_of-Instr, end_of-Instr, more_of-Instr}
+use Rattle.wasm_tree.specs.declared.instr.Instr.TheBlock.{hidden-the_row-Instr-0}
+use Rattle.wasm_tree.specs.declared.instr.Instr.TheViews.{outs-Block', outs-Loop', outs-If'}
+use Rattle.wasm_tree.specs.declared.instr.Instr.TheVariants.{Block, Block', Loop, Loop', If, If', Call}
+use Rattle.wasm_typing.specs.Typing.{Stack, operands, AllMatch, signature_in, Effect, Gives, Acts, gives_of, then_option, Context, Ends, Fits, Leads, LeadsAll, WellTyped}
+use Rattle.index_remap.specs.declared.remap.Remap.{Remap}
+use Rattle.index_remap.specs.Renumbered.{new_type, renumbered}
+use Rattle.index_remap.specs.References.{is_among}
+use Rattle.index_remap.specs.CodeNames.{Layers, RowLayers, ListLayers}
+use Rattle.index_remap.proofs.Rel.{append_rel}
+use Rattle.remap_typing.specs.Agreement.{BlockAgrees, LayerAgrees, SameFrame}
+use Rattle.remap_typing.specs.Replaced.{Codes, CallReplaced, StandsFor, RowReplaced, Replaced, OthersAgree, CodesHaveTypes}
+use Rattle.remap_typing.proofs.Bodies.{labelled, plain_kept, type_kept}
+use Rattle.remap_typing.proofs.Keeping.{then_is}
+use Rattle.remap_typing.proofs.Lower.{Lower, lower_self, lower_on, lower_match, match_lower, fits_lower, leads_lower, leads_over, leads_on}
+use Rattle.remap_typing.proofs.Rows.{row_typed}
+
+-- the type of a call is that of its function
+call_type : (o : Option FuncType) (e : Effect) → gives_of (signature_in o) ≡ Some e → (t : FuncType) × (o ≡ Some t) × (Gives t.params t.results ≡ e)
+call_type None e h = cc
+call_type (Some t) e h = (t, refl, cc)
+
+-- code of a type leads on from a stack that is lower than one on which the type acts
+code_leads : (c : Context) (code : List Instr) (ps rs : List ValType) (s t r : Stack) → WellTyped c code ps rs → Acts (Gives ps rs) s t → Lower r s → (u : Stack) × LeadsAll c code r u × Lower u t
+code_leads c code ps rs s t r (last, l, a) (args, rest, e, h, g) k =
+    let low : Lower r (operands ps ++ rest) = lower_on (subst (Lower r) e k) (append_rel (match_lower args (reverse ps) h) (lower_self rest)) in
+    let (u, p, q) = leads_lower c code (operands ps ++ rest) (last ++ rest) r low (leads_over c code (operands ps) last rest l) in
+    (u, p, subst (Lower u) (sym g) (lower_on q (append_rel (match_lower last (reverse rs) a) (lower_self rest))))
+
+-- an instruction leads on from a lower stack
+one_leads : (c : Context) (i : Instr) (code : List Instr) (s t r : Stack) → code ≡ i ∷ [] → Fits c i s t → Lower r s → (u : Stack) × LeadsAll c code r u × Lower u t
+one_leads c i code s t r e h k =
+    let (u, f, l) = fits_lower c i s t r k h in
+    (u, subst (λ z. LeadsAll c z r u) (sym e) (u, f, refl), l)
+
+both_lead : (c : Context) (is js ks : List Instr) (s u t v : Stack) → ks ≡ is ++ js → LeadsAll c is s u → Lower v t → LeadsAll c js u v → (w : Stack) × LeadsAll c ks s w × Lower w t
+both_lead c is js ks s u t v e h l k = (v, subst (λ z. LeadsAll c z s v) (sym e) (leads_on c is js s u v h k), l)
+
+-- what leads on lower than to operands that match the results
+lower_ends : (c : Context) (js : List Instr) (last : Stack) (ps rs : List ValType) → AllMatch last (reverse rs) → (u : Stack) × LeadsAll c js (operands ps) u × Lower u last → WellTyped c js ps rs
+lower_ends c js last ps rs a (u, l, k) = (u, l, lower_match (reverse rs) k a)
+
+-- the same for what a block holds
+row_ends : {n : _} (c d : Context) (is : Row_of-Instr n) (js : List Instr) (ps rs : List ValType) → ((s t r : Stack) → Leads c is s t → Lower r s → (u : Stack) × LeadsAll d js r u × Lower u t) →
+    Ends (Leads c is) ps rs → Ends (Leads d (hidden-the_row-Instr-0 js)) ps rs
+row_ends c d is js ps rs k (last, l, a) = row_typed d js ps rs (lower_ends d js last ps rs a (k (operands ps) last (operands ps) l (lower_self (operands ps))))
+
+module _ (m : Remap) (listed : List ℕ) (codes : Codes) (c d : Context) (locals : c.locals ≡ d.locals) (results : c.results ≡ d.results) (typed : CodesHaveTypes listed codes c d) where
+  -- a call of a function that is on the list, or not
+  call_stands : (b : Bool) (ls : List (List ValType)) (f : ℕ) (code : List Instr) (s t r : Stack) → is_among listed f ≡ b → (b ≡ false → LayerAgrees m c d (out-Instr (Call f))) → CallReplaced m b codes f code →
+      Fits (labelled c ls) (Call f) s t → Lower r s → (u : Stack) × LeadsAll (labelled d ls) code r u × Lower u t
+  call_stands true ls f code s t r w q k h l =
+      let (ty, e, g) = call_type (then_option (slice_get c.funcs f) (slice_get c.types)) h.0 h.1 in
+      let has : WellTyped (labelled d ls) code ty.params ty.results = typed f code w k ty (sym (then_is (slice_get c.funcs f) (slice_get c.types)) ∙ e) ls in
+      code_leads (labelled d ls) code ty.params ty.results s t r has (subst (λ z. Acts z s t) (sym g) h.2) l
+  call_stands false ls f code s t r w q k h l =
+      one_leads (labelled d ls) (renumbered m (Call f)) code s t r k (plain_kept m c d locals results ls (Call f) s t (q refl) h.0 h.1 h.2) l
+
+  mutual
+    unfolding out-Instr denote.Hole.Carrier.out
+
+    stands : (ls : List (List ValType)) (i : Instr) (code : List Instr) (s t r : Stack) → Layers (OthersAgree m listed c d) i → StandsFor m listed codes i code → Fits (labelled c ls) i s t → Lower r s →
+        (u : Stack) × LeadsAll (labelled d ls) code r u × Lower u t
+    stands ls (Block' ty n body) code s t r q (b, k, e) (f, g, w, a) l =
+        let here : BlockAgrees m c d ty = subst (LayerAgrees m c d) (outs-Block' ty n body) (q.0 refl) in
+        let inner = row_ends (labelled c (f.results ∷ ls)) (labelled d (f.results ∷ ls)) body b f.params f.results (λ s t r. row_leads (f.results ∷ ls) body b s t r q.1 k) w in
+        one_leads (labelled d ls) (Block (new_type m ty) b) code s t r e (f, type_kept m c d locals results ty here f g, inner, a) l
+    stands ls (Loop' ty n body) code s t r q (b, k, e) (f, g, w, a) l =
+        let here : BlockAgrees m c d ty = subst (LayerAgrees m c d) (outs-Loop' ty n body) (q.0 refl) in
+        let inner = row_ends (labelled c (f.params ∷ ls)) (labelled d (f.params ∷ ls)) body b f.params f.results (λ s t r. row_leads (f.params ∷ ls) body b s t r q.1 k) w in
+        one_leads (labelled d ls) (Loop (new_type m ty) b) code s t r e (f, type_kept m c d locals results ty here f g, inner, a) l
+    stands ls (If' ty n body j other) code s t r q (b, o, k, x, e) (f, g, w, y, a) l =
+        let here : BlockAgrees m c d ty = subst (LayerAgrees m c d) (outs-If' ty n body j other) (q.0 refl) in
+        let first = row_ends (labelled c (f.results ∷ ls)) (labelled d (f.results ∷ ls)) body b f.params f.results (λ s t r. row_leads (f.results ∷ ls) body b s t r q.1 k) w in
+        let second = row_ends (labelled c (f.results ∷ ls)) (labelled d (f.results ∷ ls)) other o f.params f.results (λ s t r. row_leads (f.results ∷ ls) other o s t r q.2 x) y in
+        one_leads (labelled d ls) (If (new_type m ty) b o) code s t r e (f, type_kept m c d locals results ty here f g, first, second, a) l
+    stands ls (Call f) code s t r q k h l = call_stands (is_among listed f) ls f code s t r refl q k h l
+    stands ls i code s t r q k h l = one_leads (labelled d ls) (renumbered m i) code s t r k (plain_kept m c d locals results ls i s t (q refl) h.0 h.1 h.2) l
+
+    row_leads : {n : _} (ls : List (List ValType)) (is : Row_of-Instr n) (js : List Instr) (s t r : Stack) → RowLayers (OthersAgree m listed c d) is → RowReplaced m listed codes is js → Leads (labelled c ls) is s t → Lower r s →
+        (u : Stack) × LeadsAll (labelled d ls) js r u × Lower u t
+    row_leads ls end_of-Instr js s t r q k h l = (r, subst (λ z. LeadsAll (labelled d ls) z r r) (sym k) refl, subst (Lower r) h l)
+    row_leads ls (more_of-Instr i is) js s t r q (code, rest, x, k, e) (v, f, h) l =
+        let (u, p, low) = stands ls i code s v r q.0 x f l in
+        let (w, g, y) = row_leads ls is rest v t u q.1 k h low in
+        both_lead (labelled d ls) code rest js r u t w e p y g
+
+  all_leads : (ls : List (List ValType)) (is js : List Instr) (s t r : Stack) → ListLayers (OthersAgree m listed c d) is → Replaced m listed codes is js → LeadsAll (labelled c ls) is s t → Lower r s →
+      (u : Stack) × LeadsAll (labelled d ls) js r u × Lower u t
+  all_leads ls [] js s t r q k h l = (r, subst (λ z. LeadsAll (labelled d ls) z r r) (sym k) refl, subst (Lower r) h l)
+  all_leads ls (i ∷ is) js s t r q (code, rest, x, k, e) (v, f, h) l =
+      let (u, p, low) = stands ls i code s v r q.0 x f l in
+      let (w, g, y) = all_leads ls is rest v t u q.1 k h low in
+      both_lead (labelled d ls) code rest js r u t w e p y g
+
+pub replaced_typed : (m : Remap) (listed : List ℕ) (codes : Codes) (c d : Context) (is js : List Instr) (ps rs : List ValType) → SameFrame c d → ListLayers (OthersAgree m listed c d) is → CodesHaveTypes listed codes c d →
+    Replaced m listed codes is js → WellTyped c is ps rs → WellTyped d js ps rs
+replaced_typed m listed codes c d is js ps rs same q typed k (last, l, a) =
+    let kept = all_leads m listed codes c d same.locals same.results typed c.labels is js (operands ps) last (operands ps) q k l (lower_self (operands ps)) in
+    lower_ends d js last ps rs a (subst (λ ls. (u : Stack) × LeadsAll (labelled d ls) js (operands ps) u × Lower u last) same.labels kept)
