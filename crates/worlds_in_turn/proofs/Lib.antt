@@ -31,5 +31,7 @@ mod FillHolds
 mod FillValid
 mod FillGiven
 mod FillWorld
+mod Started
+mod Assembled
 mod FillStarts
 mod FillBegins

@@ -89,7 +89,7 @@ pub record Gathered (g : ℕ → Option Thing) (is : List Import) (n : ℕ) (fs 
   pub globals : addresses_of Globals things ≡ gs
 
 -- a thing that has an address of a kind is of that kind
-func_is : (x : Thing) (a : ℕ) → address_of Functions x ≡ Some a → x ≡ FuncAt a
+pub func_is : (x : Thing) (a : ℕ) → address_of Functions x ≡ Some a → x ≡ FuncAt a
 func_is (FuncAt b) a e = ap FuncAt (some_is e)
 func_is (TableAt b) a e = cc
 func_is (MemoryAt b) a e = cc
