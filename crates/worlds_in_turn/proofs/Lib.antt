@@ -27,11 +27,8 @@ mod FillData
 mod FillAdded
 mod FillSegments
 mod FillNext
-mod FillHolds
 mod FillValid
 mod FillGiven
 mod FillWorld
 mod Started
 mod Assembled
-mod FillStarts
-mod FillBegins
