@@ -68,7 +68,7 @@ all_in test p (suc count) from n e l = go (test (record { part = p; import = fro
     go true s e zero l more = let z : from + 0 ≡ from = omega arith in ap (λ n. test (record { part = p; import = n })) z ∙ s
     go true s e (suc n) l more = let z : from + suc n ≡ suc from + n = omega arith in ap (λ n. test (record { part = p; import = n })) z ∙ more n e (omega (arith, l))
 
-all_from : (test : Site → Bool) (p : ℕ) (ps : List Part) → all_of test (sites_from p ps) ≡ true → (q : ℕ) (m : Module) → module_at ps q ≡ Some m → (n : ℕ) → n < length m.imports → test (record { part = p + q; import = n }) ≡ true
+pub all_from : (test : Site → Bool) (p : ℕ) (ps : List Part) → all_of test (sites_from p ps) ≡ true → (q : ℕ) (m : Module) → module_at ps q ≡ Some m → (n : ℕ) → n < length m.imports → test (record { part = p + q; import = n }) ≡ true
 all_from test p [] e q m h n l = absurd (let k = h in cc)
 all_from test p (part ∷ ps) e q m h n l = go q h (all_both test (sites_in p (length part.«module».imports) 0) (sites_from (suc p) ps) e) (all_from test (suc p) ps)
   where

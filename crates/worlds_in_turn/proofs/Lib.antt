@@ -27,7 +27,6 @@ mod FillData
 mod FillAdded
 mod FillSegments
 mod FillNext
-mod FillHolds
 mod FillValid
 mod FillGiven
 mod FillWorld
