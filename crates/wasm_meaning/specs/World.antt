@@ -162,7 +162,7 @@ const_value globals i (const.Func f) = then_some (place i.funcs f) (λ a. Some (
 const_value globals i (const.Global x) = then_some (place i.globals x) (λ a. then_some (place globals a) (λ g. Some g.value))
 
 abbrev pub value_of_read : List Global → List Inst → Read → Option Val
-value_of_read own insts r = then_some (place insts r.part) (λ i. const_value globals i r.expr)
+value_of_read own insts r = then_some (place insts r.part) (λ i. const_value own i r.expr)
 
 -- the value of an expression of a part, by the read that it leads to
 abbrev pub value_of : Environment → List Part → List Inst → ℕ → ConstExpr → Option Val
