@@ -18,9 +18,9 @@ HoldModules files [] [] = Unit {0}
 HoldModules files (name ∷ names) (tree ∷ trees) = HoldsModule files name tree × HoldModules files names trees
 HoldModules files _ _ = ⊥
 
--- A merge: its files spelled modules before, and its output spells the module that these parts are merged into, which is valid. It behaves as the parts do
--- where they are linked by their NAMEs and an embedder sees their exports under the names that the mode gives: to each environment and all that an embedder
--- does, whatever it sees of the parts in some number of steps it sees of the module alone in at most four more, and the other way round.
+-- A merge: its files spelled modules before, and its output spells the module that these parts are merged into, which is valid. In every environment, whatever
+-- an embedder does: what it sees of the parts in n steps, linked by their NAMEs and with their exports under the names that the mode gives, it sees in n + 4 of
+-- that module alone, and the other way round.
 abbrev pub TaskKeeps : Task → Contents → Contents → Type 0
 TaskKeeps (Merge sources output mode) before after =
     (trees : List Module) × (tree : Module) × HoldModules before (map (λ s. s.file) sources) trees × AreMerged (parts_of sources trees) mode tree × HoldsModule after output tree × IsAccepted tree
