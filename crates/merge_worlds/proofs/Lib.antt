@@ -17,9 +17,6 @@ pub mod AllocatedParts
 pub mod AllocatedMerged
 pub mod Allocated
 pub mod AllocatedRelated
-pub mod AllocatedAt
-pub mod AllocatedStarter
-pub mod AllocatedKept
 pub mod Called
 pub mod SegmentLists
 pub mod SegmentStores

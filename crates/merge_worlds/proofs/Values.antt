@@ -90,9 +90,3 @@ module _ (laws : Laws) (env : Environment) (parts : List Part) (mode : Mode) whe
 
     pub value_rel : (p : ℕ) (m : Module) (e : ConstExpr) (ty : ValType) → module_at parts p ≡ Some m → const_type m e ≡ Some ty → OptRel (ValRel R) (value_of env parts insts p e) (value_of env M js 0 (merged_const parts p e))
     value_rel p m e ty is t = subst (λ js. OptRel (ValRel R) (value_of env parts insts p e) (value_of env M js 0 (merged_const parts p e))) (sym k.alone) (const_rel can insts k.merged k.each are_one p m e ty is t)
-
-    pub ref_value_rel : (p : ℕ) (m : Module) (e : ConstExpr) (ty : ValType) → module_at parts p ≡ Some m → const_type m e ≡ Some ty → OptRel (RefRel R) (ref_value env parts insts p e) (ref_value env M js 0 (merged_const parts p e))
-    ref_value_rel p m e ty is t = subst (λ js. OptRel (RefRel R) (ref_value env parts insts p e) (ref_value env M js 0 (merged_const parts p e))) (sym k.alone) (reference_rel can insts k.merged k.each are_one p m e ty is t)
-
-    pub number_value_same : (p : ℕ) (m : Module) (e : ConstExpr) (ty : ValType) → module_at parts p ≡ Some m → const_type m e ≡ Some ty → number_value env parts insts p e ≡ number_value env M js 0 (merged_const parts p e)
-    number_value_same p m e ty is t = subst (λ js. number_value env parts insts p e ≡ number_value env M js 0 (merged_const parts p e)) (sym k.alone) (offset_same can insts k.merged k.each are_one p m e ty is t)
