@@ -1,6 +1,7 @@
 pub mod Simulation
 mod SmallRuns
 mod MoreRuns
+mod TurnRuns
 pub mod Pigeons
 pub mod Walks
 pub mod Linked
