@@ -16,10 +16,10 @@ use export_names::Mode;
 use merge_terms::{JoinFault, Links, Part};
 use merge_validity::merged_modules_are_valid;
 use merge_worlds::merged_modules_show_the_same;
-use worlds_in_turn::turns_are_not_seen;
 use std::alloc::Global;
 use wasm_bytes::Items;
 use wasm_valid::Valid;
+use worlds_in_turn::turns_are_not_seen;
 
 // Joins parts in a slice.
 fn join_parts(alloc: Global, parts: &[Part], links: &Links, mode: Mode) -> Result<Valid, JoinFault>

@@ -15,8 +15,14 @@ ghost use Rattle.merge_terms.specs.Faults.{link_fault};
 ghost use Rattle.merge_terms.specs.Merged.{map_of};
 ghost use Rattle.merge_terms.specs.Joined.{joined_module};
 ghost use Rattle.merge_validity.specs.Ended.{
-    DefinedEntitiesHavePlaces, LinkedImportsEnd, MergedModulesDefineAll, NewIndicesArePlaces,
-    SitesAreImports, StayingImportsEndThere, StayingImportsHavePlaces, TypesHavePlaces,
+  DefinedEntitiesHavePlaces,
+  LinkedImportsEnd,
+  MergedModulesDefineAll,
+  NewIndicesArePlaces,
+  SitesAreImports,
+  StayingImportsEndThere,
+  StayingImportsHavePlaces,
+  TypesHavePlaces,
 };
 ghost use Rattle.merge_validity.specs.Entries.{HasEntry};
 ghost use Rattle.merge_validity.specs.Joinable.{CanBeJoined, EachPart};

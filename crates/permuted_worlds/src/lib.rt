@@ -3,7 +3,10 @@
 #![tactic(auto)]
 
 ghost use Rattle.permuted_worlds.specs.Alone.{
-    ImportsStandForTheEnvironments, ImportsStay, ReadsStay, SpacesAreImportsAndOwn,
+  ImportsStandForTheEnvironments,
+  ImportsStay,
+  ReadsStay,
+  SpacesAreImportsAndOwn,
 };
 ghost use Rattle.permuted_worlds.specs.Instances.{RelatedBegunShowTheSame, RelatedInstancesShowTheSame};
 ghost use Rattle.permuted_worlds.specs.Named.{FittingCodeIsNamed};

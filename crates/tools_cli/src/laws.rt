@@ -9,8 +9,8 @@ use merge_ranges::merged_modules_are_in_range;
 use merge_validity::merged_modules_are_valid;
 use merge_worlds::merged_modules_show_the_same;
 use plain_law::{plain_spells, spelled_trees_are_in_range};
-use worlds_in_turn::turns_are_not_seen;
 use wasm_format::{no_fault_where_spelled, one_tree, spelled_trees_are_bounded};
+use worlds_in_turn::turns_are_not_seen;
 
 /// A command line has at most one job over some files.
 pub fn jobs_are_determined()

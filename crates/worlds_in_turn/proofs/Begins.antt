@@ -190,7 +190,7 @@ module _ (env : Environment) (w : World) (insts : List Inst) (allocated : Store)
         let a = laws.filled_next k part.«module» i t is_part at_inst h.filled in
         let store_is : q.run.store ≡ t = ap (λ r. r.store) h.second_run in
         let e = turned env w insts allocated g k part i at_part at_inst q h.turn (ap (λ r. r.entries) h.second_run) (ap (λ r. r.owned) h.second_run) (subst (Sized env w.parts k) (sym store_is) sized) (subst (Holds env w.parts k allocated) (sym store_is) holds)
-            (ap (λ t. (filled_in env w insts allocated g k part i at_part at_inst t).trapped) store_is ∙ a.0) in
+        (ap (λ t. (filled_in env w insts allocated g k part i at_part at_inst t).trapped) store_is ∙ a.0) in
         let f = own_fill (reaching env w.parts (suc k)) (const_value t.globals i) part.«module» i (joined_stores t (g.laid.adds k)) in
         let m = more itself env w.parts insts allocated g.laid k part.«module» is_part (within env w insts allocated g itself k part i at_part at_inst) in
         let values : (n : ℕ) (x : Global) → place t.globals n ≡ Some x → Rattle.index_remap.specs.Related.ValRel (reaching env w.parts (suc k)) x.value x.value = λ n x at_x. val_more (reaching env w.parts k) (reaching env w.parts (suc k)) m (global_self t n x h.closed at_x) in

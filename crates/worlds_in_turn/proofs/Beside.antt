@@ -236,15 +236,15 @@ module _ (law : CodeIsRelatedToItself) (env : Environment) (parts : List Part) (
       related = stores_related env parts (suc p) (joined_stores t (laid.adds p)) s
           (λ a l. joined_both (FuncRel (reaching env parts (suc p))) t.funcs (laid.adds p).funcs s.funcs (base env parts Functions p) h.sized.funcs old_funcs closed.funcs (λ j k. ap (λ fs. at fs (base env parts Functions p + j)) h.all_funcs ∙ at_allocated_funcs j k) a (let c = func_count in omega (arith, l, c)))
           (λ a l. joined_both (TableRel (reaching env parts (suc p))) t.tables (laid.adds p).tables s.tables (base env parts Tables p) h.sized.tables (λ a l. both_more (table_more (reaching env parts p) (reaching env parts (suc p)) more) (h.related.tables (reached_at env parts p to.Tables a l))) closed.tables
-              (λ j k. h.untouched.tables (base env parts Tables p + j) (omega arith) ∙ stands allocated.tables (laid.first p).tables (laid.adds p).tables (laid.rest p).tables (laid.rest (suc p)).tables (base env parts Tables p) (ap (λ s. s.tables) whole) (ap (λ s. s.tables) tail) sizes.tables j k) a (let c = table_count in omega (arith, l, c)))
+          (λ j k. h.untouched.tables (base env parts Tables p + j) (omega arith) ∙ stands allocated.tables (laid.first p).tables (laid.adds p).tables (laid.rest p).tables (laid.rest (suc p)).tables (base env parts Tables p) (ap (λ s. s.tables) whole) (ap (λ s. s.tables) tail) sizes.tables j k) a (let c = table_count in omega (arith, l, c)))
           (λ a l. joined_both (λ (x y : Memory). x ≡ y) t.mems (laid.adds p).mems s.mems (base env parts Memories p) h.sized.mems (λ a l. h.related.mems (reached_at env parts p Mems a l)) (equal_list (laid.adds p).mems)
-              (λ j k. h.untouched.mems (base env parts Memories p + j) (omega arith) ∙ stands allocated.mems (laid.first p).mems (laid.adds p).mems (laid.rest p).mems (laid.rest (suc p)).mems (base env parts Memories p) (ap (λ s. s.mems) whole) (ap (λ s. s.mems) tail) sizes.mems j k) a (let c = memory_count in omega (arith, l, c)))
+          (λ j k. h.untouched.mems (base env parts Memories p + j) (omega arith) ∙ stands allocated.mems (laid.first p).mems (laid.adds p).mems (laid.rest p).mems (laid.rest (suc p)).mems (base env parts Memories p) (ap (λ s. s.mems) whole) (ap (λ s. s.mems) tail) sizes.mems j k) a (let c = memory_count in omega (arith, l, c)))
           (λ a l. joined_both (GlobalRel (reaching env parts (suc p))) t.globals (laid.adds p).globals s.globals (base env parts Globals p) h.sized.globals (λ a l. both_more (global_more (reaching env parts p) (reaching env parts (suc p)) more) (h.related.globals (reached_at env parts p to.Globals a l))) closed.globals
-              (λ j k. h.untouched.globals (base env parts Globals p + j) (omega arith) ∙ stands allocated.globals (laid.first p).globals (laid.adds p).globals (laid.rest p).globals (laid.rest (suc p)).globals (base env parts Globals p) (ap (λ s. s.globals) whole) (ap (λ s. s.globals) tail) sizes.globals j k) a (let c = global_count in omega (arith, l, c)))
+          (λ j k. h.untouched.globals (base env parts Globals p + j) (omega arith) ∙ stands allocated.globals (laid.first p).globals (laid.adds p).globals (laid.rest p).globals (laid.rest (suc p)).globals (base env parts Globals p) (ap (λ s. s.globals) whole) (ap (λ s. s.globals) tail) sizes.globals j k) a (let c = global_count in omega (arith, l, c)))
           (λ a l. joined_both (ElemRel (reaching env parts (suc p))) t.elems (laid.adds p).elems s.elems (elems_before parts p) h.sized.elems (λ a l. both_more (elem_more (reaching env parts p) (reaching env parts (suc p)) more) (h.related.elems (reached_at env parts p Elems a l))) closed.elems
-              (λ j k. h.untouched.elems (elems_before parts p + j) (omega arith) ∙ stands allocated.elems (laid.first p).elems (laid.adds p).elems (laid.rest p).elems (laid.rest (suc p)).elems (elems_before parts p) (ap (λ s. s.elems) whole) (ap (λ s. s.elems) tail) sizes.elems j k) a (let c = elem_count in omega (arith, l, c)))
+          (λ j k. h.untouched.elems (elems_before parts p + j) (omega arith) ∙ stands allocated.elems (laid.first p).elems (laid.adds p).elems (laid.rest p).elems (laid.rest (suc p)).elems (elems_before parts p) (ap (λ s. s.elems) whole) (ap (λ s. s.elems) tail) sizes.elems j k) a (let c = elem_count in omega (arith, l, c)))
           (λ a l. joined_both (λ (x y : Data). x.bytes ≡ y.bytes) t.datas (laid.adds p).datas s.datas (datas_before parts p) h.sized.datas (λ a l. h.related.datas (reached_at env parts p Datas a l)) (bytes_list (laid.adds p).datas)
-              (λ j k. h.untouched.datas (datas_before parts p + j) (omega arith) ∙ stands allocated.datas (laid.first p).datas (laid.adds p).datas (laid.rest p).datas (laid.rest (suc p)).datas (datas_before parts p) (ap (λ s. s.datas) whole) (ap (λ s. s.datas) tail) sizes.datas j k) a (let c = data_count in omega (arith, l, c)));
+          (λ j k. h.untouched.datas (datas_before parts p + j) (omega arith) ∙ stands allocated.datas (laid.first p).datas (laid.adds p).datas (laid.rest p).datas (laid.rest (suc p)).datas (datas_before parts p) (ap (λ s. s.datas) whole) (ap (λ s. s.datas) tail) sizes.datas j k) a (let c = data_count in omega (arith, l, c)));
       sized = record {
         funcs = grown t.funcs (laid.adds p).funcs h.sized.funcs func_count;
         tables = grown t.tables (laid.adds p).tables h.sized.tables table_count;

@@ -51,7 +51,11 @@ stays s = record {
   tables = each_stays TableExtends s.tables table_stays;
   mems = each_stays MemoryExtends s.mems memory_stays;
   globals = each_stays GlobalExtends s.globals global_stays;
-  table_count = refl; memory_count = refl; global_count = refl; elem_count = refl; data_count = refl;
+  table_count = refl;
+  memory_count = refl;
+  global_count = refl;
+  elem_count = refl;
+  data_count = refl;
 }
 
 pub each_then : {A : Type 0} (P : A → A → Type 0) (xs ys zs : List A) → ((x y z : A) → P x y → P y z → P x z) → EachExtends P xs ys → EachExtends P ys zs → EachExtends P xs zs

@@ -65,7 +65,7 @@ module _ (parts : List Part) (there : ExportsThere parts) (earlier : JoinsEarlie
           let w = exported parts i x j in
           let low = there x.part w.of i.field x.what w.is_part w.named in
           let none : then_some (place (imports_of (kind_of_export x.what) w.of) (index_of_export x.what)) (λ n. Some (record { part = x.part; import = n })) ≡ None =
-              sym (ap (λ o. then_some o (λ m. then_some (place (imports_of (kind_of_export x.what) m) (index_of_export x.what)) (λ n. Some (record { part = x.part; import = n })))) w.is_part) ∙ imp in
+          sym (ap (λ o. then_some o (λ m. then_some (place (imports_of (kind_of_export x.what) m) (index_of_export x.what)) (λ n. Some (record { part = x.part; import = n })))) w.is_part) ∙ imp in
           let same : Defined x ≡ end = some_is (on (Ends (Defined x)) (step_is i h ∙ ap (λ o. Some (joined_step parts s o)) j ∙ ap (λ o. Some (entity_step x o)) imp)) in
           subst (Low parts s.part) same (inside (record { before = before; of = w.of; is_part = w.is_part; follows = past_end _ _ (then_none _ _ none); within = low }))
         where

@@ -142,11 +142,11 @@ module _ (env : Environment) (parts : List Part) (insts : List Inst) (are : inst
         let whole = first.whole ∙ ap (joined_stores (first_stores env parts insts p)) next in
         let count = (adds _ m t.1 a.0 a.1).globals in
         let here : place a.0.globals j ≡ Some g =
-            sym (place_within a.0.globals (rest_from env parts insts (suc p)).globals j (omega (arith, low, count)))
-            ∙ sym (place_behind (first_stores env parts insts p).globals (a.0.globals ++ (rest_from env parts insts (suc p)).globals) j)
-            ∙ ap (λ n. place ((first_stores env parts insts p).globals ++ (a.0.globals ++ (rest_from env parts insts (suc p)).globals)) (n + j)) n
-            ∙ ap (λ s. place s.globals (base env parts Globals p + j)) (sym whole)
-            ∙ at in
+        sym (place_within a.0.globals (rest_from env parts insts (suc p)).globals j (omega (arith, low, count)))
+        ∙ sym (place_behind (first_stores env parts insts p).globals (a.0.globals ++ (rest_from env parts insts (suc p)).globals) j)
+        ∙ ap (λ n. place ((first_stores env parts insts p).globals ++ (a.0.globals ++ (rest_from env parts insts (suc p)).globals)) (n + j)) n
+        ∙ ap (λ s. place s.globals (base env parts Globals p + j)) (sym whole)
+        ∙ at in
         let f = then_is (all_there (new_func t.1) m.funcs) _ a.0 a.1 in
         let gs = then_is (all_there (global_with (value_of env parts insts p)) m.globals) _ a.0 f.2 in
         let es = then_is (all_there (elem_with (value_of env parts insts p)) m.elems) _ a.0 gs.2 in
@@ -214,7 +214,7 @@ module _ (env : Environment) (parts : List Part) (insts : List Inst) (are : inst
               let same : a.address ≡ d.address = some_is (sym a.has ∙ ap (λ o. then_some o (address_of Globals)) (sym a.is ∙ w.thing)) in
               let whole = ap (λ s. s.globals) (allocated_whole env parts insts allocated stores_are size) in
               let here : place (own_globals env) a.address ≡ Some fixed.global =
-                  ap (place (own_globals env)) same ∙ sym (place_within (own_globals env) (rest_from env parts insts 0).globals d.address w.low) ∙ ap (λ l. place l d.address) (sym whole) ∙ fixed.is in
+              ap (place (own_globals env)) same ∙ sym (place_within (own_globals env) (rest_from env parts insts 0).globals d.address w.low) ∙ ap (λ l. place l d.address) (sym whole) ∙ fixed.is in
               ap (λ o. then_some o (value_of_read (own_globals env) insts)) (reads ∙ ap Some (sym r_is))
               ∙ ap (λ o. then_some o (λ i. const_value (own_globals env) i (const.Global y))) j.3
               ∙ ap (λ o. then_some o (λ a. then_some (place (own_globals env) a) (λ g. Some g.value))) a.at

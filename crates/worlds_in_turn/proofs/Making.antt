@@ -42,7 +42,7 @@ event_of f = None
 
 abbrev started_with : Run → List ℕ → Outcome Func → Out
 started_with r xs o =
-    or_closed r (bind (bind o (λ f. Gives (type_of_func f))) (λ t. bind (nothing_in t.results) (λ u. bind (bind o (λ f. Gives (type_of_func f))) (λ t. bind (received_all r.owned r.shown t.params []) (λ vs. Gives (after r (bind o (λ f. Gives (enter r.store f vs (Opening xs ∷ [])))))))))) 
+    or_closed r (bind (bind o (λ f. Gives (type_of_func f))) (λ t. bind (nothing_in t.results) (λ u. bind (bind o (λ f. Gives (type_of_func f))) (λ t. bind (received_all r.owned r.shown t.params []) (λ vs. Gives (after r (bind o (λ f. Gives (enter r.store f vs (Opening xs ∷ []))))))))))
 
 opens_code : (r : Run) (xs : List ℕ) (t : FuncType) (i : Inst) (ls : List ValType) (c : List Instr) → t ≡ nothing_to_nothing → started_with r xs (Gives (Code t i ls c)) ≡ (record r { entries = entry_of (Code t i ls c) ∷ Opening xs ∷ [] }, None)
 opens_code r xs t i ls c e = subst (λ t. started_with r xs (Gives (Code t i ls c)) ≡ (record r { entries = entry_of (Code t i ls c) ∷ Opening xs ∷ [] }, None)) (sym e) refl

@@ -130,9 +130,10 @@ module _ (env : Environment) (parts : List Part) (insts : List Inst) (are : inst
         let here : place m.imports n ≡ Some im = ap (place m.imports) (sym z) ∙ at 0 im refl in
         let r = things_for is (suc n) b.0 (λ j i e. ap (place m.imports) (let s : suc n + j ≡ n + suc j = omega arith in s) ∙ at (suc j) i e) b.1 in
         let thing = thing_same env parts insts are size there earlier p n m im is_part here a.0 a.1 in
-        let first = matches n im a.0 here a.1 in
-        (ap₂ (λ o q. then_some o (λ y. then_some q (λ ys. Some (y ∷ ys)))) thing r.0 ∙ b.2,
-        ap (all_match t m (im ∷ is)) (sym (some_is b.2)) ∙ ap₂ (λ b c. cond b c false) first r.1)
+        let first = matches n im a.0 here a.1 in (
+          ap₂ (λ o q. then_some o (λ y. then_some q (λ ys. Some (y ∷ ys)))) thing r.0 ∙ b.2,
+          ap (all_match t m (im ∷ is)) (sym (some_is b.2)) ∙ ap₂ (λ b c. cond b c false) first r.1,
+        )
       where
         matches : (n : ℕ) (im : Import) (x : Thing) → place m.imports n ≡ Some im → imported n ≡ Some x → or_false (is_match t m im.desc x) ≡ true
         matches n im x here h =
