@@ -9,7 +9,8 @@ use Rattle.wasm_meaning.specs.World.{base, elems_before, datas_before, is_matche
 use Rattle.wasm_meaning.specs.InTurn.{JoinsEarlier, own_segments}
 use Rattle.worlds_in_turn.proofs.Things.{IsInst}
 use Rattle.worlds_in_turn.proofs.Joined.{ExportsThere}
-use Rattle.worlds_in_turn.proofs.FillAddresses.{elems_next, datas_next, numbers_low, space_low}
+use Rattle.worlds_in_turn.proofs.Reached.{elems_next, datas_next}
+use Rattle.worlds_in_turn.proofs.FillAddresses.{numbers_low, space_low}
 use Rattle.worlds_in_turn.proofs.FillStores.{rest_from, rest_next, Lengths, lengths_next, module_low}
 use Rattle.worlds_in_turn.proofs.FillValues.{part_inst, HoldsFixed, value_given}
 use Rattle.worlds_in_turn.proofs.FillAdded.{Constants}

@@ -8,7 +8,8 @@ use Rattle.wasm_meaning.specs.Environment.{Environment}
 use Rattle.wasm_meaning.specs.World.{base, defined_before, elems_before, datas_before, all_there, new_func, global_with, elem_with, store_with, part_store, joined_stores, own_store, stores_from}
 use Rattle.worlds_in_turn.proofs.Extends.{append_length}
 use Rattle.worlds_in_turn.proofs.Things.{then_is, some_is, all_length}
-use Rattle.worlds_in_turn.proofs.FillAddresses.{base_next, elems_next, datas_next}
+use Rattle.worlds_in_turn.proofs.Reached.{elems_next, datas_next}
+use Rattle.worlds_in_turn.proofs.FillAddresses.{base_next}
 
 abbrev pub no_store : Store
 no_store = record { funcs = []; tables = []; mems = []; globals = []; elems = []; datas = [] }

@@ -15,7 +15,8 @@ use Rattle.wasm_meaning.specs.World.{all_there, base, same_bool, or_false, is_ma
 use Rattle.wasm_meaning.specs.InTurn.{JoinsEarlier}
 use Rattle.worlds_in_turn.proofs.Things.{then_is, some_is, IsInst, inst_is, inst_at, walk_more, thing_has, place_behind}
 use Rattle.worlds_in_turn.proofs.Joined.{ExportsThere}
-use Rattle.worlds_in_turn.proofs.FillAddresses.{AtDefined, AtOwn, HasAddress, import_address, imported_at, imported_low, all_back}
+use Rattle.worlds_in_turn.proofs.FillAddresses.{AtDefined, AtOwn, HasAddress, import_address, imported_at, imported_low}
+use Rattle.worlds_in_turn.proofs.Low.{all_back}
 use Rattle.worlds_in_turn.proofs.FillStores.{adds, rest_from, rest_next, first_stores, part_adds, inst_there, allocated_whole, first_parts, module_low}
 
 -- ---- lists ----

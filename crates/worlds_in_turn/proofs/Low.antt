@@ -39,7 +39,7 @@ all_back {A} {B} f (x ∷ xs) ys h n y e =
 
 -- ---- kinds ----
 
-same_thing : (k l : Kind) (a b : ℕ) → address_of k (thing_at l a) ≡ Some b → (l ≡ k) × (a ≡ b)
+pub same_thing : (k l : Kind) (a b : ℕ) → address_of k (thing_at l a) ≡ Some b → (l ≡ k) × (a ≡ b)
 same_thing Functions Functions a b e = (refl, some_is e)
 same_thing Tables Tables a b e = (refl, some_is e)
 same_thing Memories Memories a b e = (refl, some_is e)
