@@ -32,3 +32,4 @@ pub mod MatchDefined
 pub mod MatchMerged
 pub mod MatchAll
 mod Worlds
+mod WrongMerges

@@ -1,0 +1,309 @@
+-- Three merges that are wrong, of small parts each: what is seen of the parts is not seen of such a module, by computation.
+use Rattle.std.proofs.Common.{◌≡◌, refl, ap, ◌∙◌, subst, ℕ, List, [], ◌∷◌, Bool, true, false, Some, None}
+use Rattle.std.specs.Prelude.{pos, ◌+◌, slice_index, IsTrue}
+use Rattle.wasm_tree.specs.declared.types.RefType.TheVariants as reft
+use Rattle.wasm_tree.specs.declared.types.ValType.TheVariants as valt
+use Rattle.wasm_tree.specs.declared.types.FuncType.{FuncType}
+use Rattle.wasm_tree.specs.declared.types.Limits.{Limits}
+use Rattle.wasm_tree.specs.declared.instr.Instr.{Instr, fold-Instr, fold_out-Instr, out-Instr}
+use Rattle.wasm_tree.specs.declared.instr.Instr.TheVariants as i
+use Rattle.wasm_tree.specs.declared.module.Func.{Func}
+use Rattle.wasm_tree.specs.declared.module.Import.{Import}
+use Rattle.wasm_tree.specs.declared.module.ImportDesc.TheVariants as im
+use Rattle.wasm_tree.specs.declared.module.ConstExpr.TheVariants as const
+use Rattle.wasm_tree.specs.declared.module.ElemMode.TheVariants as elem
+use Rattle.wasm_tree.specs.declared.module.Module.{Module}
+use Rattle.wasm_num.specs.Operations.{wrapped}
+use Rattle.wasm_meaning.specs.State.{Text}
+use Rattle.wasm_meaning.specs.Linking.{Part, same_text}
+use Rattle.wasm_meaning.specs.Environment.{Environment, Offer, is_environment}
+use Rattle.wasm_meaning.specs.World.{alone}
+use Rattle.wasm_meaning.specs.Run.{Event, Linked, LinkFault, InstanceTrapped, Asked, BadMove, Move, Answer, IsPrefix, events}
+use Rattle.index_remap.specs.declared.remap.Remap.{Remap}
+use Rattle.index_remap.specs.References.{refs_step}
+use Rattle.index_remap.specs.Renumbered.{renumber_step}
+use Rattle.export_names.specs.declared.mode.Mode.TheVariants as mode
+use Rattle.merge_terms.specs.Faults.{link_fault, import_fault, stays, kept_limits, clash_fault, memory_count, memory_fault, own_globals, global_fault}
+use Rattle.merge_terms.specs.Merged.{staying, staying_of, place_of_end, new_index, merged_types, place_of_type, map_of, merged_const, merged_import, starts, defined_funcs, all_exports, merged}
+use Rattle.merge_terms.specs.Joined.{joined_module}
+use Rattle.merge_terms.specs.View.{linked_world, all_entities, merge_view}
+use Rattle.merge_worlds.specs.Laws.{BehavesAs}
+
+-- ---- what is common ----
+
+-- the names own, f, g and m
+abbrev own : Text
+own = 111 ∷ (119 ∷ (110 ∷ []))
+
+abbrev f : Text
+f = 102 ∷ []
+
+abbrev g : Text
+g = 103 ∷ []
+
+abbrev m : Text
+m = 109 ∷ []
+
+abbrev nothing : FuncType
+nothing = record { params = []; results = [] }
+
+abbrev from_i32 : FuncType
+from_i32 = record { params = valt.I32 ∷ []; results = valt.I32 ∷ [] }
+
+abbrev empty : Module
+empty = record { types = []; imports = []; funcs = []; tables = []; mems = []; globals = []; exports = []; start = None; elems = []; datas = [] }
+
+abbrev code : ℕ → List Instr → Func
+code ty body = record { ty = ty; locals = []; body = body }
+
+abbrev own_func : Text → ℕ → Import
+own_func field ty = record { «module» = own; field = field; desc = im.Func ty }
+
+abbrev offered : Text → Offer
+offered field = record { pair = (own, field); funcs = nothing ∷ []; table = None; memory = None; global = None }
+
+abbrev part : Module → Part
+part x = record { name = None; «module» = x }
+
+abbrev asks : Text → Event
+asks field = Asked (own, field) nothing []
+
+abbrev answer : List Move
+answer = Answer [] ∷ []
+
+abbrev two_answers : List Move
+two_answers = Answer [] ∷ answer
+
+-- Where what is seen of the parts does not begin what is seen of a module, in four steps more, the module does not behave as they do.
+refused : (parts : List Part) (wrong : Module) (env : Environment) (moves : List Move) (n : ℕ) (xs ys : List Event) → IsTrue (is_environment env) →
+    events (linked_world parts mode.Refuse) env moves n ≡ xs → events (alone wrong) env moves (n + 4) ≡ ys → (IsPrefix xs ys → ⊥) → BehavesAs parts mode.Refuse wrong → ⊥
+refused parts wrong env moves n xs ys fit seen shown apart same =
+    apart (subst (λ es. IsPrefix es ys) seen (subst (IsPrefix (events (linked_world parts mode.Refuse) env moves n)) shown (same env fit tt moves n).0))
+
+abbrev asked_field : Event → Text
+asked_field (Asked pair ty xs) = pair.1
+asked_field _ = []
+
+abbrev is_fault : Event → Bool
+is_fault LinkFault = true
+is_fault _ = false
+
+abbrev first_is : (Event → Bool) → List Event → Bool
+first_is is [] = false
+first_is is (e ∷ es) = is e
+
+abbrev second_is : (Event → Bool) → List Event → Bool
+second_is is [] = false
+second_is is (e ∷ es) = first_is is es
+
+-- ---- renumbered instructions ----
+
+new_call : (m : Remap) (n : ℕ) → fold-Instr Instr (renumber_step m) (i.Call n) ≡ i.Call (slice_index m.funcs n)
+unfolding out-Instr denote.Hole.Carrier.out
+new_call m n = fold_out-Instr Instr (renumber_step m) (i.Call n)
+
+new_indirect : (m : Remap) (n k : ℕ) → fold-Instr Instr (renumber_step m) (i.CallIndirect n k) ≡ i.CallIndirect (slice_index m.types n) (slice_index m.tables k)
+unfolding out-Instr denote.Hole.Carrier.out
+new_indirect m n k = fold_out-Instr Instr (renumber_step m) (i.CallIndirect n k)
+
+new_number : (m : Remap) (n : ℕ) → fold-Instr Instr (renumber_step m) (i.I32Const (pos n)) ≡ i.I32Const (pos n)
+unfolding out-Instr denote.Hole.Carrier.out
+new_number m n = fold_out-Instr Instr (renumber_step m) (i.I32Const (pos n))
+
+new_drop : (m : Remap) → fold-Instr Instr (renumber_step m) i.Drop ≡ i.Drop
+unfolding out-Instr denote.Hole.Carrier.out
+new_drop m = fold_out-Instr Instr (renumber_step m) i.Drop
+
+call_refs : (n : ℕ) → fold-Instr (List ℕ) refs_step (i.Call n) ≡ []
+unfolding out-Instr denote.Hole.Carrier.out
+call_refs n = fold_out-Instr (List ℕ) refs_step (i.Call n)
+
+indirect_refs : (n k : ℕ) → fold-Instr (List ℕ) refs_step (i.CallIndirect n k) ≡ []
+unfolding out-Instr denote.Hole.Carrier.out
+indirect_refs n k = fold_out-Instr (List ℕ) refs_step (i.CallIndirect n k)
+
+number_refs : (n : ℕ) → fold-Instr (List ℕ) refs_step (i.I32Const (pos n)) ≡ []
+unfolding out-Instr denote.Hole.Carrier.out
+number_refs n = fold_out-Instr (List ℕ) refs_step (i.I32Const (pos n))
+
+drop_refs : fold-Instr (List ℕ) refs_step i.Drop ≡ []
+unfolding out-Instr denote.Hole.Carrier.out
+drop_refs = fold_out-Instr (List ℕ) refs_step i.Drop
+
+-- ---- two starts ----
+
+-- whose start calls one function of the environment's own
+abbrev starting : Text → Module
+starting field = record empty { types = nothing ∷ []; imports = own_func field 0 ∷ []; funcs = code 0 (i.Call 0 ∷ []) ∷ []; start = Some 1 }
+
+abbrev two_starts : List Part
+two_starts = part (starting f) ∷ (part (starting g) ∷ [])
+
+abbrev two_starts_merged : Module
+two_starts_merged = record empty {
+  types = nothing ∷ [];
+  imports = own_func f 0 ∷ (own_func g 0 ∷ []);
+  funcs = code 0 (i.Call 0 ∷ []) ∷ (code 0 (i.Call 1 ∷ []) ∷ (code 0 (i.Call 2 ∷ (i.Call 3 ∷ [])) ∷ []));
+  start = Some 4;
+}
+
+abbrev both_offered : Environment
+both_offered = offered f ∷ (offered g ∷ [])
+
+two_starts_have_no_fault : link_fault two_starts ≡ None
+unfolding link_fault import_fault stays kept_limits clash_fault memory_count memory_fault own_globals global_fault
+two_starts_have_no_fault = refl
+
+two_starts_join : joined_module two_starts mode.Refuse ≡ two_starts_merged
+unfolding joined_module merged staying staying_of place_of_end new_index merged_types place_of_type map_of merged_const merged_import starts defined_funcs all_exports stays
+two_starts_join = simp (new_call, call_refs) refl
+
+the_parts_ask_in_order : events (linked_world two_starts mode.Refuse) both_offered two_answers 10 ≡ asks f ∷ (asks g ∷ (Linked ∷ []))
+unfolding out-Instr denote.Hole.Carrier.out wrapped all_entities merge_view
+the_parts_ask_in_order = refl
+
+the_merged_module_asks_in_order : events (alone two_starts_merged) both_offered two_answers 14 ≡ asks f ∷ (asks g ∷ (Linked ∷ []))
+unfolding out-Instr denote.Hole.Carrier.out wrapped
+the_merged_module_asks_in_order = refl
+
+the_merge_asks_in_order : events (alone (joined_module two_starts mode.Refuse)) both_offered two_answers 14 ≡ asks f ∷ (asks g ∷ (Linked ∷ []))
+the_merge_asks_in_order = ap (λ tree. events (alone tree) both_offered two_answers 14) two_starts_join ∙ the_merged_module_asks_in_order
+
+-- the second start is not called
+abbrev second_dropped : Module
+second_dropped = record two_starts_merged { funcs = code 0 (i.Call 0 ∷ []) ∷ (code 0 (i.Call 1 ∷ []) ∷ (code 0 (i.Call 2 ∷ []) ∷ [])) }
+
+-- the first start is the start
+abbrev first_alone : Module
+first_alone = record two_starts_merged { start = Some 2 }
+
+-- the second start is called first
+abbrev second_first : Module
+second_first = record two_starts_merged { funcs = code 0 (i.Call 0 ∷ []) ∷ (code 0 (i.Call 1 ∷ []) ∷ (code 0 (i.Call 3 ∷ (i.Call 2 ∷ [])) ∷ [])) }
+
+one_start_asks_once : events (alone second_dropped) both_offered two_answers 14 ≡ asks f ∷ (Linked ∷ (BadMove ∷ []))
+unfolding out-Instr denote.Hole.Carrier.out wrapped
+one_start_asks_once = refl
+
+the_first_start_asks_once : events (alone first_alone) both_offered two_answers 14 ≡ asks f ∷ (Linked ∷ (BadMove ∷ []))
+unfolding out-Instr denote.Hole.Carrier.out wrapped
+the_first_start_asks_once = refl
+
+starts_in_reverse_ask_in_reverse : events (alone second_first) both_offered two_answers 14 ≡ asks g ∷ (asks f ∷ (Linked ∷ []))
+unfolding out-Instr denote.Hole.Carrier.out wrapped
+starts_in_reverse_ask_in_reverse = refl
+
+-- a merge that does not call the second start is refused
+dropped_starts_are_refused : BehavesAs two_starts mode.Refuse second_dropped → ⊥
+dropped_starts_are_refused =
+    refused two_starts second_dropped both_offered two_answers 10 _ _ refl the_parts_ask_in_order one_start_asks_once (λ p. let h : true ≡ false = ap (second_is (λ e. same_text g (asked_field e))) p.1 in cc)
+
+-- so is one that starts with the first alone
+first_starts_alone_are_refused : BehavesAs two_starts mode.Refuse first_alone → ⊥
+first_starts_alone_are_refused =
+    refused two_starts first_alone both_offered two_answers 10 _ _ refl the_parts_ask_in_order the_first_start_asks_once (λ p. let h : true ≡ false = ap (second_is (λ e. same_text g (asked_field e))) p.1 in cc)
+
+-- and one that calls the second start first
+starts_in_reverse_are_refused : BehavesAs two_starts mode.Refuse second_first → ⊥
+starts_in_reverse_are_refused =
+    refused two_starts second_first both_offered two_answers 10 _ _ refl the_parts_ask_in_order starts_in_reverse_ask_in_reverse (λ p. let h : true ≡ false = ap (first_is (λ e. same_text f (asked_field e))) p.1 in cc)
+
+-- ---- an indirect call ----
+
+-- whose start calls a function of the environment's own through its table
+abbrev calling : Module
+calling = record empty {
+  types = nothing ∷ [];
+  imports = own_func f 0 ∷ [];
+  funcs = code 0 (i.I32Const (pos 7) ∷ (i.I32Const (pos 0) ∷ (i.CallIndirect 0 0 ∷ (i.Drop ∷ [])))) ∷ [];
+  tables = record { ty = reft.Func; limits = record { min = 1; max = Some 1 } } ∷ [];
+  start = Some 1;
+  elems = record { mode = elem.Active 0 (const.I32 (pos 0)); ty = reft.Func; items = const.Func 0 ∷ [] } ∷ [];
+}
+
+-- the first part has another type
+abbrev two_types : List Part
+two_types = part (record empty { types = from_i32 ∷ [] }) ∷ (part calling ∷ [])
+
+-- with this type index in the indirect call
+abbrev two_types_with : ℕ → Module
+two_types_with ty = record calling {
+  types = from_i32 ∷ (nothing ∷ []);
+  imports = own_func f 1 ∷ [];
+  funcs = code 1 (i.I32Const (pos 7) ∷ (i.I32Const (pos 0) ∷ (i.CallIndirect ty 0 ∷ (i.Drop ∷ [])))) ∷ [];
+}
+
+abbrev one_offered : Environment
+one_offered = offered f ∷ []
+
+two_types_have_no_fault : link_fault two_types ≡ None
+unfolding link_fault import_fault stays kept_limits clash_fault memory_count memory_fault own_globals global_fault
+two_types_have_no_fault = refl
+
+two_types_join : joined_module two_types mode.Refuse ≡ two_types_with 1
+unfolding joined_module merged staying staying_of place_of_end new_index merged_types place_of_type map_of merged_const merged_import starts defined_funcs all_exports stays
+two_types_join = simp (new_indirect, new_number, new_drop, indirect_refs, number_refs, drop_refs) refl
+
+the_parts_call_through_a_table : events (linked_world two_types mode.Refuse) one_offered answer 9 ≡ asks f ∷ (Linked ∷ [])
+unfolding out-Instr denote.Hole.Carrier.out wrapped all_entities merge_view
+the_parts_call_through_a_table = refl
+
+the_merged_module_calls_through_a_table : events (alone (two_types_with 1)) one_offered answer 13 ≡ asks f ∷ (Linked ∷ [])
+unfolding out-Instr denote.Hole.Carrier.out wrapped
+the_merged_module_calls_through_a_table = refl
+
+the_merge_calls_through_a_table : events (alone (joined_module two_types mode.Refuse)) one_offered answer 13 ≡ asks f ∷ (Linked ∷ [])
+the_merge_calls_through_a_table = ap (λ tree. events (alone tree) one_offered answer 13) two_types_join ∙ the_merged_module_calls_through_a_table
+
+a_call_by_the_type_of_another_traps : events (alone (two_types_with 0)) one_offered answer 13 ≡ InstanceTrapped ∷ (BadMove ∷ [])
+unfolding out-Instr denote.Hole.Carrier.out wrapped
+a_call_by_the_type_of_another_traps = refl
+
+-- a merge that shares the types and leaves the type index of an indirect call as it was is refused
+kept_type_indices_are_refused : BehavesAs two_types mode.Refuse (two_types_with 0) → ⊥
+kept_type_indices_are_refused =
+    refused two_types (two_types_with 0) one_offered answer 9 _ _ refl the_parts_call_through_a_table a_call_by_the_type_of_another_traps (λ p. let h : true ≡ false = ap (first_is (λ e. same_text f (asked_field e))) p.1 in cc)
+
+-- ---- the limits of a memory ----
+
+abbrev pages_from : ℕ → Limits
+pages_from n = record { min = n; max = None }
+
+abbrev own_memory : ℕ → Import
+own_memory n = record { «module» = own; field = m; desc = im.Memory (pages_from n) }
+
+abbrev one_memory : List Part
+one_memory = part (record empty { imports = own_memory 0 ∷ [] }) ∷ (part (record empty { imports = own_memory 1 ∷ [] }) ∷ [])
+
+-- with this minimum
+abbrev one_memory_from : ℕ → Module
+one_memory_from n = record empty { imports = own_memory n ∷ [] }
+
+-- a memory without a page
+abbrev no_page : Environment
+no_page = record { pair = (own, m); funcs = []; table = None; memory = Some (record { limits = pages_from 0; pages = 0; bytes = [] }); global = None } ∷ []
+
+one_memory_has_no_fault : link_fault one_memory ≡ None
+unfolding link_fault import_fault stays kept_limits clash_fault memory_count memory_fault own_globals global_fault
+one_memory_has_no_fault = refl
+
+one_memory_joins : joined_module one_memory mode.Refuse ≡ one_memory_from 1
+unfolding joined_module merged staying staying_of place_of_end new_index merged_types place_of_type map_of merged_const merged_import starts defined_funcs all_exports stays
+one_memory_joins = refl
+
+the_parts_find_no_page : events (linked_world one_memory mode.Refuse) no_page [] 2 ≡ LinkFault ∷ []
+unfolding all_entities merge_view
+the_parts_find_no_page = refl
+
+the_merged_module_finds_no_page : events (alone (one_memory_from 1)) no_page [] 6 ≡ LinkFault ∷ []
+the_merged_module_finds_no_page = refl
+
+the_merge_finds_no_page : events (alone (joined_module one_memory mode.Refuse)) no_page [] 6 ≡ LinkFault ∷ []
+the_merge_finds_no_page = ap (λ tree. events (alone tree) no_page [] 6) one_memory_joins ∙ the_merged_module_finds_no_page
+
+the_first_limits_ask_for_no_page : events (alone (one_memory_from 0)) no_page [] 6 ≡ Linked ∷ []
+the_first_limits_ask_for_no_page = refl
+
+-- a merge that keeps the first limits of a memory that two parts import is refused
+first_limits_are_refused : BehavesAs one_memory mode.Refuse (one_memory_from 0) → ⊥
+first_limits_are_refused = refused one_memory (one_memory_from 0) no_page [] 2 _ _ refl the_parts_find_no_page the_first_limits_ask_for_no_page (λ p. let h : true ≡ false = ap (first_is is_fault) p.1 in cc)
