@@ -1,5 +1,5 @@
 -- All of it together: what a world that begins well gives to the run in turn.
-use Rattle.std.proofs.Common.{◌≡◌, ◌∙◌, refl, sym, ap, ap₂, subst, ℕ, zero, suc, ◌+◌, ◌*◌, ◌<◌, List, [], ◌∷◌, length, Option, Some, None, Bool, true, false, cond, arith}
+use Rattle.std.proofs.Common.{◌≡◌, ◌∙◌, refl, sym, ap, ap₂, subst, ℕ, suc, ◌+◌, ◌*◌, ◌<◌, List, [], ◌∷◌, length, Some, None, Bool, true, false, cond, arith}
 use Rattle.std.specs.Prelude.{◌↔◌}
 use Rattle.wasm_tree.specs.declared.types.ValType.{ValType}
 use Rattle.wasm_tree.specs.declared.types.FuncType.{FuncType}
@@ -8,15 +8,13 @@ use Rattle.wasm_tree.specs.Spaces.{type_of_func}
 use Rattle.wasm_valid.specs.declared.kinds.ItemKind.{ItemKind}
 use Rattle.wasm_valid.specs.declared.kinds.ItemKind.TheVariants as kind
 use Rattle.wasm_valid.specs.Validity.{IsValid, HoldsAt, count_of, start_count}
-use Rattle.wasm_meaning.specs.Outcomes.{Gives, at}
-use Rattle.wasm_meaning.specs.State.{Text, Inst, Func, Store}
-use Rattle.wasm_meaning.specs.Control as control
-use Rattle.wasm_meaning.specs.Linking.{Part, place, then_some, module_at, sites}
+use Rattle.wasm_meaning.specs.State.{Text, Inst, Store}
+use Rattle.wasm_meaning.specs.Linking.{Part, sites}
 use Rattle.wasm_meaning.specs.Environment.{Environment, Thing, all_of}
 use Rattle.wasm_meaning.specs.World.{World, Begun, own_store, inst_of, insts_from, stores_from, seen_as, all_there, is_matched, segments, begun, instantiate}
-use Rattle.wasm_meaning.specs.Run.{Move, IsPrefix, fresh_run, tick, events_of, events}
+use Rattle.wasm_meaning.specs.Run.{IsPrefix, fresh_run, tick, events_of}
 use Rattle.wasm_meaning.specs.Below.{BelowIsNotSeen}
-use Rattle.wasm_meaning.specs.InTurn.{events_in_turn, JoinsEarlier, NoLateSegments, BeginsWell}
+use Rattle.wasm_meaning.specs.InTurn.{events_in_turn}
 use Rattle.index_remap.specs.Laws.{CodeIsRelatedToItself, RelatedTicksAgree, OthersStay}
 use Rattle.permuted_worlds.specs.Owned.{OwnEntitiesCorrespond}
 use Rattle.merge_validity.proofs.Same.{func_type_is}

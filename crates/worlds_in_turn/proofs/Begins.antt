@@ -1,36 +1,31 @@
 -- Until the first start the parts are added one after the other, their segments with them, and then the stores stand beside one another.
-use Rattle.std.proofs.Common.{◌≡◌, ◌∙◌, refl, sym, ap, ap₂, subst, ℕ, zero, suc, ◌+◌, ◌-◌, ◌<◌, ◌≤◌, List, [], ◌∷◌, ◌++◌, map, length, Option, Some, None, Bool, true, false, ◌⊎◌, inl, inr, arith}
+use Rattle.std.proofs.Common.{◌≡◌, ◌∙◌, refl, sym, ap, subst, ℕ, zero, suc, ◌+◌, ◌-◌, ◌<◌, ◌≤◌, List, [], ◌∷◌, ◌++◌, map, length, Some, None, false, ◌⊎◌, inl, inr, arith}
 use Rattle.std.proofs.lemmas.Bool.{cases_lt}
 use Rattle.wasm_tree.specs.declared.types.FuncType.{FuncType}
 use Rattle.wasm_tree.specs.declared.module.Module.{Module}
 use Rattle.wasm_meaning.specs.Outcomes.{Outcome, Gives, at, past}
-use Rattle.wasm_meaning.specs.State.{Text, Inst, Func, Own, Table, Memory, Global, Data, Store, Opening}
-use Rattle.wasm_meaning.specs.Linking.{Part, Entity, Functions, Tables, Memories, Globals, place, then_some, module_at}
-use Rattle.wasm_meaning.specs.Environment.{Environment, Offer, Thing, flat, own_funcs, owned_of}
-use Rattle.wasm_meaning.specs.World.{World, Begun, Filled, base, elems_before, datas_before, own_store, const_value, joined_stores, all_there, start_in, starts_of, seen_as, segments}
-use Rattle.wasm_meaning.specs.Run.{Fresh, Pending, Move, Run, began, fresh_run, tick}
+use Rattle.wasm_meaning.specs.State.{Text, Inst, Func, Own, Global, Data, Store, Opening}
+use Rattle.wasm_meaning.specs.Linking.{Part, Functions, Tables, Memories, Globals, place, then_some, module_at}
+use Rattle.wasm_meaning.specs.Environment.{Environment, Offer, Thing, flat, owned_of}
+use Rattle.wasm_meaning.specs.World.{World, base, elems_before, datas_before, own_store, const_value, joined_stores, all_there, starts_of, seen_as, segments}
+use Rattle.wasm_meaning.specs.Run.{Pending, Move, Run}
 use Rattle.wasm_meaning.specs.Below.{BelowIsNotSeen}
-use Rattle.wasm_meaning.specs.InTurn.{InTurn, or_empty, view_over, own_segments, goes_on, before_turns, tick_in_turn, HasNoActive, NoLateSegments}
-use Rattle.wasm_meaning.proofs.Simulation.{Follow, both, second}
+use Rattle.wasm_meaning.specs.InTurn.{InTurn, view_over, own_segments, goes_on, tick_in_turn, HasNoActive}
 use Rattle.index_remap.specs.Related.{Kind, Pairing, BothRel, both, ListRel, nil, cons, opening, FuncRel, TableRel, GlobalRel, ElemRel}
 use Rattle.index_remap.specs.Related as to
-use Rattle.index_remap.specs.RelatedRuns.{pending}
 use Rattle.index_remap.specs.Laws.{CodeIsRelatedToItself, RelatedTicksAgree, OthersStay}
 use Rattle.index_remap.proofs.Rel.{append_rel}
 use Rattle.permuted_worlds.specs.Owned.{OwnCorrespond}
 use Rattle.worlds_in_turn.proofs.Extends.{TableExtends, MemoryExtends, GlobalExtends, EachExtends, Extends, stays, append_length}
 use Rattle.worlds_in_turn.proofs.Extends as extends
-use Rattle.worlds_in_turn.proofs.Things.{some_is}
 use Rattle.worlds_in_turn.proofs.Joined.{made_upto}
 use Rattle.worlds_in_turn.proofs.Reached.{is_reached, reaching, shares_own}
 use Rattle.worlds_in_turn.proofs.Turn.{Sized, Holds, place_at}
 use Rattle.worlds_in_turn.proofs.Closed.{table_more, global_more, elem_more, val_more, list_more, self_by, Closed, Sound, own_func, func_self}
-use Rattle.worlds_in_turn.proofs.Beside.{at_low, at_high, both_list, Laid, Untouched, Beside, stores_related, sound_joined, more}
+use Rattle.worlds_in_turn.proofs.Beside.{at_low, at_high, both_list, Beside, stores_related, sound_joined, more}
 use Rattle.worlds_in_turn.proofs.Filling.{own_fill, all_fill}
-use Rattle.worlds_in_turn.proofs.Making.{over_one, Abreast}
-use Rattle.worlds_in_turn.proofs.Given.{IsGiven, IsTurn, part_there, starts_from, starts_next, filled_in, turned, next_turn}
+use Rattle.worlds_in_turn.proofs.Given.{IsGiven, IsTurn, starts_from, filled_in, turned}
 use Rattle.worlds_in_turn.proofs.Waiting.{within, adds_closed, adds_sound}
-use Rattle.worlds_in_turn.proofs.Stages.{Waits, Stage, waits, added_stage}
 
 -- ---- joined stores ----
 

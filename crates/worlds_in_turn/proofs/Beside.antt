@@ -1,21 +1,20 @@
 -- The store of parts that are instantiated in turn beside the store of all parts at once: what the first parts have corresponds, and the rest is as it was allocated.
-use Rattle.std.proofs.Common.{◌≡◌, ◌∙◌, refl, sym, ap, ap₂, subst, ℕ, zero, suc, ◌+◌, ◌-◌, ◌<◌, ◌≤◌, List, [], ◌∷◌, ◌++◌, map, length, Option, Some, None, Bool, true, false, cond, ◌⊎◌, inl, inr, arith}
+use Rattle.std.proofs.Common.{◌≡◌, ◌∙◌, refl, sym, ap, subst, ℕ, zero, suc, ◌+◌, ◌-◌, ◌<◌, ◌≤◌, List, [], ◌∷◌, ◌++◌, length, Some, true, ◌⊎◌, inl, inr, arith}
 use Rattle.std.proofs.lemmas.Bool.{cases_lt}
 use Rattle.wasm_tree.specs.declared.types.FuncType.{FuncType}
 use Rattle.wasm_tree.specs.declared.module.Module.{Module}
-use Rattle.wasm_meaning.specs.Outcomes.{Outcome, Gives, IllTyped, bind, at}
-use Rattle.wasm_meaning.specs.State.{Inst, Func, Code, Own, Table, Memory, Global, Elem, Data, Store}
+use Rattle.wasm_meaning.specs.Outcomes.{Outcome, Gives, bind, at}
+use Rattle.wasm_meaning.specs.State.{Inst, Func, Memory, Data, Store}
 use Rattle.wasm_meaning.specs.Control.{type_of_func, own_of, type_at, own_at}
 use Rattle.wasm_meaning.specs.Linking.{Part, Functions, Tables, Memories, Globals, place, module_at}
 use Rattle.wasm_meaning.specs.Environment.{Environment}
-use Rattle.wasm_meaning.specs.World.{own_store, base, elems_before, datas_before, store_with, const_value, joined_stores, part_store}
+use Rattle.wasm_meaning.specs.World.{own_store, base, elems_before, datas_before, joined_stores, part_store}
 use Rattle.index_remap.specs.Related.{Kind, Funcs, Mems, Elems, Datas, Pairing, BothRel, both, ResRel, done, ListRel, nil, cons, FuncRel, TableRel, GlobalRel, ElemRel, StoreRel}
 use Rattle.index_remap.specs.Related as to
 use Rattle.index_remap.specs.Laws.{CodeIsRelatedToItself}
-use Rattle.worlds_in_turn.proofs.Things.{some_is}
 use Rattle.worlds_in_turn.proofs.Reached.{count_upto, is_reached, reaching, reached_at, reached_is}
 use Rattle.worlds_in_turn.proofs.Turn.{Sized}
-use Rattle.worlds_in_turn.proofs.Closed.{val_more, table_more, global_more, elem_more, Closed, Sound, own_func, code, Reaches, func_self}
+use Rattle.worlds_in_turn.proofs.Closed.{table_more, global_more, elem_more, Closed, Sound, own_func, code, Reaches, func_self}
 
 -- ---- lists by place ----
 

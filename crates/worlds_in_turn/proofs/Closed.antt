@@ -1,9 +1,7 @@
 -- A store that refers to nothing beyond what the environment and the first parts have, and what a part adds to it.
-use Rattle.std.proofs.Common.{◌≡◌, ◌∙◌, refl, sym, ap, ap₂, subst, ℕ, zero, suc, ◌+◌, ◌-◌, ◌*◌, ◌<◌, ◌≤◌, List, [], ◌∷◌, ◌++◌, map, length, Option, Some, None, Bool, true, false, cond, arith}
-use Rattle.wasm_tree.specs.declared.types.Limits.{Limits}
+use Rattle.std.proofs.Common.{◌≡◌, ◌∙◌, refl, ap, subst, ℕ, zero, suc, ◌<◌, List, [], ◌∷◌, map, Option, Some}
 use Rattle.wasm_tree.specs.declared.types.RefType.{RefType}
 use Rattle.wasm_tree.specs.declared.types.RefType.TheVariants as reft
-use Rattle.wasm_tree.specs.declared.types.TableType.{TableType}
 use Rattle.wasm_tree.specs.declared.types.FuncType.{FuncType}
 use Rattle.wasm_tree.specs.declared.instr.Instr.{Instr}
 use Rattle.wasm_tree.specs.declared.module.ConstExpr.{ConstExpr}
@@ -14,19 +12,18 @@ use Rattle.wasm_tree.specs.declared.module.ElemSeg.{ElemSeg}
 use Rattle.wasm_tree.specs.declared.module.ElemMode.{ElemMode}
 use Rattle.wasm_tree.specs.declared.module.ElemMode.TheVariants as elem
 use Rattle.wasm_tree.specs.declared.module.Module.{Module}
-use Rattle.wasm_num.specs.Operations.{W32, W64}
 use Rattle.wasm_meaning.specs.Outcomes.{Gives, at, copies}
-use Rattle.wasm_meaning.specs.State.{RefVal, FuncRef, Val, Num, Ref, Inst, Func, Code, Own, Table, Memory, Global, Elem, Data, Store}
-use Rattle.wasm_meaning.specs.Values.{null_of, declared, ref_of}
+use Rattle.wasm_meaning.specs.State.{RefVal, Val, Num, Ref, Inst, Func, Code, Own, Table, Global, Elem, Store}
+use Rattle.wasm_meaning.specs.Values.{null_of, ref_of}
 use Rattle.wasm_meaning.specs.Linking.{Part, Functions, Tables, Memories, Globals, place, then_some}
-use Rattle.wasm_meaning.specs.Environment.{Environment, own_funcs, flat}
+use Rattle.wasm_meaning.specs.Environment.{Environment}
 use Rattle.wasm_meaning.specs.World.{given, all_there, new_func, global_with, new_elem, elem_with, store_with, const_value}
 use Rattle.index_remap.specs.Related.{Kind, Funcs, Mems, Elems, Datas, Pairing, OptRel, none, some, ListRel, nil, cons, RefRel, func, extern, ValRel, number, reference, CodeRel, FuncRel, defined, own, TableRel, GlobalRel, ElemRel}
 use Rattle.index_remap.specs.Related as to
 use Rattle.index_remap.specs.Laws.{NamesItself, CodeIsRelatedToItself}
-use Rattle.index_remap.proofs.Rel.{append_rel, copies_rel}
+use Rattle.index_remap.proofs.Rel.{copies_rel}
 use Rattle.worlds_in_turn.proofs.Things.{then_is, some_is, space_in}
-use Rattle.worlds_in_turn.proofs.Reached.{count_upto, is_reached, reaching, reached_at, reached_is}
+use Rattle.worlds_in_turn.proofs.Reached.{count_upto, is_reached, reaching, reached_at}
 
 -- ---- more is reached later ----
 

@@ -1,8 +1,8 @@
 -- A step only extends the store: functions stay, sizes do not shrink, types and maxima stay, and so do the values of globals that are not mutable.
-use Rattle.std.proofs.Common.{◌≡◌, ℕ, zero, suc, ◌+◌, ◌≤◌, List, [], ◌∷◌, ◌++◌, length, Option, Some, None, Bool, true, false, cond, refl, sym, ap, subst, ◌∙◌, arith}
+use Rattle.std.proofs.Common.{◌≡◌, ℕ, zero, suc, ◌+◌, ◌≤◌, List, [], ◌∷◌, ◌++◌, length, false, refl, sym, ap, subst, ◌∙◌, arith}
 use native.Mathlib.Decide.{ℕ_discrete}
-use Rattle.wasm_meaning.specs.Outcomes.{Outcome, Gives, Traps, IllTyped, trapping, or_trap, bind, at, put, split_at, overwrite, copies}
-use Rattle.wasm_meaning.specs.State.{RefVal, Table, Memory, Global, Elem, Data, Store, Change, Keep, SetGlobal, SetMemory, SetTable, DropElem, DropData}
+use Rattle.wasm_meaning.specs.Outcomes.{Outcome, Gives, Traps, IllTyped, bind, at, put, split_at, overwrite}
+use Rattle.wasm_meaning.specs.State.{Table, Memory, Global, Store, Change, Keep, SetGlobal, SetMemory, SetTable, DropElem, DropData}
 use Rattle.wasm_meaning.specs.Step.{changed, no_items, no_bytes}
 
 pub record TableExtends (t u : Table) : Type 0 where

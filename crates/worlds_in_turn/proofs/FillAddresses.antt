@@ -1,14 +1,14 @@
 -- The addresses of a part's imports are lower than those of what it defines, and these lower than those of what later parts define.
-use Rattle.std.proofs.Common.{◌≡◌, ◌∙◌, refl, sym, ap, ap₂, subst, ℕ, zero, suc, ◌+◌, ◌-◌, ◌<◌, ◌≤◌, List, [], ◌∷◌, ◌++◌, length, Option, Some, ◌⊎◌, inl, inr, arith}
+use Rattle.std.proofs.Common.{◌≡◌, ◌∙◌, sym, ap, ap₂, subst, ℕ, zero, suc, ◌+◌, ◌-◌, ◌<◌, List, length, Some, ◌⊎◌, inl, inr, arith}
 use Rattle.wasm_tree.specs.declared.module.Import.{Import}
 use Rattle.wasm_tree.specs.declared.module.ImportDesc.{ImportDesc}
 use Rattle.wasm_tree.specs.declared.module.ImportDesc.TheVariants as im
 use Rattle.wasm_tree.specs.declared.module.Module.{Module}
 use Rattle.wasm_meaning.specs.State.{Pair, Inst}
 use Rattle.wasm_meaning.specs.Paths.{walk_on, walk}
-use Rattle.wasm_meaning.specs.Linking.{Part, Site, Entity, End, Defined, Outside, Kind, Functions, Tables, Memories, Globals, place, then_some, kind_of_import, kind_of_export, index_of_export, imports_of, module_at, import_at, pair_of, import_step, end_of, sites}
+use Rattle.wasm_meaning.specs.Linking.{Part, Site, Entity, End, Defined, Outside, Kind, place, then_some, kind_of_import, kind_of_export, index_of_export, imports_of, module_at, import_at, pair_of, import_step, end_of, sites}
 use Rattle.wasm_meaning.specs.Environment.{Environment, Thing, OwnKey}
-use Rattle.wasm_meaning.specs.World.{all_there, defined_count, defined_before, own_count, base, thing_at, address_of, import_type, own_key_of, own_key, thing_of, imported_thing, numbers, elems_before, datas_before}
+use Rattle.wasm_meaning.specs.World.{all_there, defined_count, own_count, base, thing_at, address_of, import_type, own_key_of, own_key, thing_of, imported_thing, numbers}
 use Rattle.wasm_meaning.specs.InTurn.{JoinsEarlier}
 use Rattle.worlds_in_turn.proofs.Things.{then_is, some_is, IsInst, space_in, in_space, space_is, all_place, place_front}
 use Rattle.worlds_in_turn.proofs.Joined.{ExportsThere}

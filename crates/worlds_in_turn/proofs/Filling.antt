@@ -1,5 +1,5 @@
 -- Segments that are copied extend the store, and refer to nothing that it does not.
-use Rattle.std.proofs.Common.{◌≡◌, ◌∙◌, refl, sym, ap, subst, ℕ, zero, suc, ◌+◌, List, [], ◌∷◌, ◌++◌, length, Option, Some, None, Bool, true, false, cond, arith}
+use Rattle.std.proofs.Common.{◌≡◌, refl, subst, ℕ, List, [], ◌∷◌, Option, Some, None, Bool, true, false, cond, arith}
 use Rattle.wasm_tree.specs.declared.module.ConstExpr.{ConstExpr}
 use Rattle.wasm_tree.specs.declared.module.ElemSeg.{ElemSeg}
 use Rattle.wasm_tree.specs.declared.module.ElemMode.{ElemMode}
@@ -9,15 +9,15 @@ use Rattle.wasm_tree.specs.declared.module.DataMode.{DataMode}
 use Rattle.wasm_tree.specs.declared.module.DataMode.TheVariants as data'
 use Rattle.wasm_tree.specs.declared.module.Module.{Module}
 use Rattle.wasm_num.specs.Operations.{W32}
-use Rattle.wasm_meaning.specs.Outcomes.{Outcome, Gives, Traps, IllTyped, at, put, overwrite}
+use Rattle.wasm_meaning.specs.Outcomes.{Outcome, Gives, Traps, IllTyped, at, overwrite}
 use Rattle.wasm_meaning.specs.State.{RefVal, Val, Inst, Table, Memory, Elem, Data, Store, SetTable, SetMemory, DropElem, DropData}
 use Rattle.wasm_meaning.specs.Values.{num_of}
-use Rattle.wasm_meaning.specs.Step.{changed, no_items}
+use Rattle.wasm_meaning.specs.Step.{changed}
 use Rattle.wasm_meaning.specs.Linking.{Part, place, then_some}
 use Rattle.wasm_meaning.specs.Environment.{Environment}
 use Rattle.wasm_meaning.specs.World.{given, Filled, Task, or_trapped, fill_table, copy_elem, run_elem_with, run_elem, fill_memory, copy_data, run_data_with, run_data, and_then, in_turn, elem_tasks, data_tasks, tasks_in, segments}
 use Rattle.wasm_meaning.specs.InTurn.{own_segments}
-use Rattle.index_remap.specs.Related.{Pairing, ResRel, done, trap, wrong, ListRel, nil, cons, RefRel, TableRel, ElemRel}
+use Rattle.index_remap.specs.Related.{Pairing, ResRel, done, ListRel, nil}
 use Rattle.index_remap.proofs.Rel.{put_rel, overwrite_rel, at_rel}
 use Rattle.worlds_in_turn.proofs.Extends
 use Rattle.worlds_in_turn.proofs.Extends.{TableExtends, MemoryExtends, Extends, stays, Extending, table, memory, elem_drops, data_drops, changed_extends, overwritten_length}

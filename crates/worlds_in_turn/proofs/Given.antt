@@ -1,20 +1,19 @@
 -- What is known of a world whose parts are to be instantiated in turn, and what its next part's turn comes to.
-use Rattle.std.proofs.Common.{◌≡◌, ◌∙◌, refl, sym, ap, ap₂, subst, ℕ, zero, suc, ◌+◌, ◌-◌, ◌<◌, ◌≤◌, List, [], ◌∷◌, ◌++◌, map, length, Option, Some, None, Bool, true, false, cond, ◌⊎◌, inl, inr, arith}
+use Rattle.std.proofs.Common.{◌≡◌, ◌∙◌, refl, sym, ap, ap₂, ℕ, zero, suc, ◌<◌, List, [], ◌∷◌, ◌++◌, map, length, Option, Some, None, true, false, cond, arith}
 use Rattle.wasm_tree.specs.declared.module.ConstExpr.{ConstExpr}
 use Rattle.wasm_tree.specs.declared.module.Module.{Module}
 use Rattle.wasm_meaning.specs.Outcomes.{Gives, at, past}
-use Rattle.wasm_meaning.specs.State.{Text, Val, Inst, Func, Table, Memory, Global, Store, Opening}
+use Rattle.wasm_meaning.specs.State.{Val, Inst, Func, Store, Opening}
 use Rattle.wasm_meaning.specs.Control.{type_of_func}
-use Rattle.wasm_meaning.specs.Linking.{Part, Functions, Tables, Memories, Globals, place, then_some, module_at, sites}
-use Rattle.wasm_meaning.specs.Environment.{Environment, Thing, owned_of, all_of}
-use Rattle.wasm_meaning.specs.World.{World, Filled, base, own_store, store_with, const_value, joined_stores, all_there, insts_from, stores_from, is_matched, segments, start_in, starts_of, seen_as}
-use Rattle.wasm_meaning.specs.Run.{Event, InstanceTrapped, Phase, Pending, Run}
-use Rattle.wasm_meaning.specs.InTurn.{Made, Added, next_inst, closed_by, added, added_as, thing_for, own_segments, InTurn, view_over, or_empty, goes_on, part_added, next_part, turn_at, tick_in_turn, JoinsEarlier, HasNoActive, NoLateSegments}
+use Rattle.wasm_meaning.specs.Linking.{Part, place, then_some, module_at, sites}
+use Rattle.wasm_meaning.specs.Environment.{Environment, owned_of, all_of}
+use Rattle.wasm_meaning.specs.World.{World, Filled, store_with, const_value, joined_stores, all_there, insts_from, is_matched, start_in, starts_of}
+use Rattle.wasm_meaning.specs.Run.{InstanceTrapped}
+use Rattle.wasm_meaning.specs.InTurn.{Made, next_inst, closed_by, added, added_as, thing_for, own_segments, InTurn, goes_on, part_added, turn_at, tick_in_turn, JoinsEarlier, HasNoActive, NoLateSegments}
 use Rattle.permuted_worlds.specs.Owned.{OwnEntitiesCorrespond}
-use Rattle.worlds_in_turn.proofs.Extends.{TableExtends, MemoryExtends, GlobalExtends, Extends}
 use Rattle.worlds_in_turn.proofs.Things.{some_is}
 use Rattle.worlds_in_turn.proofs.Joined.{ExportsThere, made_upto}
-use Rattle.worlds_in_turn.proofs.Turn.{Sized, Holds, SitesThere, Comes, comes}
+use Rattle.worlds_in_turn.proofs.Turn.{Sized, Holds, SitesThere, comes}
 use Rattle.worlds_in_turn.proofs.Beside.{Laid}
 use Rattle.worlds_in_turn.proofs.Making.{nothing_to_nothing}
 

@@ -1,15 +1,14 @@
 -- What an import of a part is joined with among the parts before it is what it is joined with among all, where each joined import leads to an earlier part.
-use Rattle.std.proofs.Common.{◌≡◌, ◌∙◌, refl, sym, ap, ap₂, subst, ℕ, zero, suc, ◌+◌, ◌-◌, ◌<◌, ◌≤◌, List, [], ◌∷◌, ◌++◌, length, Option, Some, None, Bool, true, false, cond, ◌⊎◌, inl, inr, arith}
+use Rattle.std.proofs.Common.{◌≡◌, ◌∙◌, refl, sym, ap, ap₂, ℕ, zero, suc, ◌+◌, ◌<◌, ◌≤◌, List, [], ◌∷◌, length, Option, Some, None, Bool, true, false, cond, arith}
 use Rattle.wasm_tree.specs.declared.module.Import.{Import}
 use Rattle.wasm_tree.specs.declared.module.ExportDesc.{ExportDesc}
 use Rattle.wasm_tree.specs.declared.module.Module.{Module}
 use Rattle.wasm_meaning.specs.State.{Text, Inst}
-use Rattle.wasm_meaning.specs.Paths.{Next, Ends, Goes}
 use Rattle.wasm_meaning.specs.Linking.{Part, Site, Entity, End, Defined, Outside, place, then_some, kind_of_export, index_of_export, imports_of, module_at, import_at, is_named, export_named, first_place, source_of, joined, imported_as, entity_step, joined_step, import_step, end_of}
 use Rattle.wasm_meaning.specs.Environment.{Environment, Thing, owned_of, owned_at}
-use Rattle.wasm_meaning.specs.World.{defined_count, given, own_key, outside_thing, thing_of, imported_thing, insts_from, inst_of, address_in}
+use Rattle.wasm_meaning.specs.World.{defined_count, given, own_key, thing_of, imported_thing, insts_from, inst_of, address_in}
 use Rattle.wasm_meaning.specs.InTurn.{Made, made_named, exported_by, thing_or_own, thing_for, JoinsEarlier}
-use Rattle.worlds_in_turn.proofs.Things.{then_is, some_is, inst_is, inst_at, each_from, goes_to, ends_at, defined_is, imported_is}
+use Rattle.worlds_in_turn.proofs.Things.{then_is, some_is, inst_is, inst_at, goes_to, ends_at, defined_is, imported_is}
 
 -- the first parts, each with its instance
 abbrev pub made_upto : ℕ → List Part → List Inst → List Made

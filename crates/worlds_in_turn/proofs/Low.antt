@@ -1,16 +1,15 @@
 -- A part's instance has addresses of the environment's entities and of what parts up to it define, where each joined import leads to an earlier part.
-use Rattle.std.proofs.Common.{◌≡◌, ◌∙◌, refl, sym, ap, ap₂, subst, ℕ, zero, suc, ◌+◌, ◌-◌, ◌<◌, ◌≤◌, List, [], ◌∷◌, ◌++◌, length, Option, Some, None, ◌⊎◌, inl, inr, arith}
+use Rattle.std.proofs.Common.{◌≡◌, ◌∙◌, refl, sym, ap, subst, ℕ, zero, suc, ◌+◌, ◌<◌, ◌≤◌, List, [], ◌∷◌, ◌++◌, length, Option, Some, None, ◌⊎◌, inl, inr, arith}
 use Rattle.wasm_tree.specs.declared.module.Import.{Import}
-use Rattle.wasm_tree.specs.declared.module.ExportDesc.{ExportDesc}
 use Rattle.wasm_tree.specs.declared.module.Module.{Module}
 use Rattle.wasm_meaning.specs.State.{Inst}
 use Rattle.wasm_meaning.specs.Paths.{walk, walk_on}
-use Rattle.wasm_meaning.specs.Linking.{Part, Site, Entity, Kind, Functions, Tables, Memories, Globals, place, then_some, kind_of_export, index_of_export, imports_of, module_at, import_at, export_named, source_of, joined, joined_step, import_step, sites, end_of}
+use Rattle.wasm_meaning.specs.Linking.{Part, Entity, Kind, Functions, Tables, Memories, Globals, place, then_some, kind_of_export, index_of_export, imports_of, module_at, import_at, export_named, source_of, joined, joined_step, import_step, sites, end_of}
 use Rattle.wasm_meaning.specs.Environment.{Environment, Thing, owned_of, owned_at}
 use Rattle.wasm_meaning.specs.World.{given, own_key, defined_count, base, thing_at, address_of, imported_thing, thing_of, all_there, numbers, insts_from, address_in}
-use Rattle.wasm_meaning.specs.InTurn.{thing_or_own, JoinsEarlier}
+use Rattle.wasm_meaning.specs.InTurn.{JoinsEarlier}
 use Rattle.permuted_worlds.specs.Owned.{OwnEntitiesCorrespond}
-use Rattle.worlds_in_turn.proofs.Things.{then_is, some_is, IsInst, inst_is, inst_at, space_is, space_in, in_space, address_is}
+use Rattle.worlds_in_turn.proofs.Things.{then_is, some_is, inst_is, inst_at, space_is, space_in, in_space, address_is}
 use Rattle.worlds_in_turn.proofs.Joined.{ExportsThere, stays_own, joins, inst_of_part}
 use Rattle.worlds_in_turn.proofs.Reached.{defined_next, defined_more, own_low}
 

@@ -1,5 +1,5 @@
 -- While a start is made, the run in turn and the run at once make the same steps.
-use Rattle.std.proofs.Common.{◌≡◌, ◌∙◌, refl, sym, ap, ap₂, subst, ℕ, zero, suc, ◌+◌, ◌<◌, ◌≤◌, List, [], ◌∷◌, ◌++◌, length, Option, Some, None, Bool, true, false, arith}
+use Rattle.std.proofs.Common.{◌≡◌, ◌∙◌, refl, sym, ap, subst, ℕ, ◌<◌, ◌≤◌, List, [], ◌∷◌, ◌++◌, length, Option, Some, None, arith}
 use Rattle.wasm_tree.specs.declared.types.FuncType.{FuncType}
 use Rattle.wasm_tree.specs.declared.types.ValType.{ValType}
 use Rattle.wasm_tree.specs.declared.instr.Instr.{Instr}
@@ -8,15 +8,15 @@ use Rattle.wasm_meaning.specs.State.{Text, Inst, Func, Code, Own, Placeholder, S
 use Rattle.wasm_meaning.specs.Control.{type_of_func}
 use Rattle.wasm_meaning.specs.Values.{zeros}
 use Rattle.wasm_meaning.specs.Step.{enter}
-use Rattle.wasm_meaning.specs.Linking.{Part, Functions, Tables, Memories, Globals}
-use Rattle.wasm_meaning.specs.Environment.{Environment, Thing, Owned, owned_of, received_all}
-use Rattle.wasm_meaning.specs.World.{base, elems_before, datas_before}
-use Rattle.wasm_meaning.specs.Run.{Event, InstanceTrapped, Asked, Phase, Fresh, Pending, Closed, Run, Out, after, nothing_in, or_closed, tick_at, tick}
+use Rattle.wasm_meaning.specs.Linking.{Part, Functions}
+use Rattle.wasm_meaning.specs.Environment.{Environment, Thing, owned_of, received_all}
+use Rattle.wasm_meaning.specs.World.{base}
+use Rattle.wasm_meaning.specs.Run.{Event, Asked, Phase, Fresh, Pending, Closed, Run, Out, after, nothing_in, or_closed, tick_at, tick}
 use Rattle.wasm_meaning.specs.Below.{IsBottom, GivesNothing, a_frame, a_call, over, Unseen, goes_on, ended, trapped, BelowIsNotSeen}
 use Rattle.index_remap.specs.Related.{Kind, Funcs, Mems, Elems, Datas, Pairing, ListRel, nil, cons, EntryRel, opening}
 use Rattle.index_remap.specs.Related as to
-use Rattle.index_remap.specs.RelatedRuns.{PhaseRel, pending, RunRel, OutRel, KeepsOthers, HasNoPartner}
-use Rattle.index_remap.specs.Laws.{passed, EntryByEntry, RelatedTicksAgree, OthersStay}
+use Rattle.index_remap.specs.RelatedRuns.{pending, RunRel, OutRel, KeepsOthers, HasNoPartner}
+use Rattle.index_remap.specs.Laws.{EntryByEntry, RelatedTicksAgree, OthersStay}
 use Rattle.index_remap.proofs.Rel.{length_rel}
 use Rattle.worlds_in_turn.proofs.Extends.{Extends, and_then, append_length}
 use Rattle.worlds_in_turn.proofs.TickExtends.{Kept, tick_extends}

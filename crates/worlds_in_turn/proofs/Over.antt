@@ -1,11 +1,10 @@
 -- After the starts: a closed run stays closed, and a view that opens shows what the parts have.
-use Rattle.std.proofs.Common.{◌≡◌, ◌∙◌, refl, sym, ap, ap₂, subst, ℕ, zero, suc, ◌+◌, ◌<◌, ◌≤◌, List, [], ◌∷◌, ◌++◌, length, Option, Some, None, Bool, true, false, cond, arith}
+use Rattle.std.proofs.Common.{◌≡◌, ◌∙◌, refl, sym, ap, subst, ℕ, ◌<◌, List, [], ◌∷◌, Some, Bool, true, false, cond}
 use Rattle.std.specs.Prelude.{nat_eq}
 use Rattle.wasm_tree.specs.declared.module.ExportDesc.{ExportDesc}
 use Rattle.wasm_tree.specs.declared.module.ExportDesc.TheVariants as ex
-use Rattle.wasm_tree.specs.declared.module.Module.{Module}
-use Rattle.wasm_meaning.specs.Outcomes.{Outcome, Gives, Traps, IllTyped, bind, at, overwrite}
-use Rattle.wasm_meaning.specs.State.{Text, Inst, Ref, Global, SetGlobal, Store}
+use Rattle.wasm_meaning.specs.Outcomes.{Outcome, Gives, Traps, IllTyped, at, overwrite}
+use Rattle.wasm_meaning.specs.State.{Text, Inst}
 use Rattle.wasm_meaning.specs.Memory.{memory_may_grow}
 use Rattle.wasm_meaning.specs.Tables.{table_may_grow}
 use Rattle.wasm_meaning.specs.Linking.{Part, Entity, Functions, Tables, Memories, Globals, place, then_some, module_at}
@@ -16,7 +15,7 @@ use Rattle.wasm_meaning.specs.Run.{Event, Move, Call, Invoke, Take, Answer, Refu
 use Rattle.index_remap.specs.Related.{Kind, Funcs, Mems, Pairing, ListRel, nil, cons}
 use Rattle.index_remap.specs.Related as to
 use Rattle.index_remap.specs.RelatedRuns.{ThingRel, a_func, a_table, a_memory, a_global, KeyRel}
-use Rattle.index_remap.proofs.Rel.{OptAll, nothing, stopped, just}
+use Rattle.index_remap.proofs.Rel.{OptAll, nothing, just}
 use Rattle.worlds_in_turn.proofs.StepExtends.{with_is, cond_all}
 use Rattle.worlds_in_turn.proofs.Things.{then_is, some_is, space_in}
 use Rattle.worlds_in_turn.proofs.Reached.{reaching, reached_at}

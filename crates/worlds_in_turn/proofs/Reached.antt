@@ -1,5 +1,5 @@
 -- The addresses that the environment and the first parts have, each of which stands for itself.
-use Rattle.std.proofs.Common.{◌≡◌, ◌∙◌, refl, sym, ap, ap₂, subst, ℕ, zero, suc, ◌+◌, ◌-◌, ◌<◌, ◌≤◌, List, [], ◌∷◌, ◌++◌, length, Option, Some, None, Bool, true, false, cond, ◌⊎◌, inl, inr, arith}
+use Rattle.std.proofs.Common.{◌≡◌, ◌∙◌, refl, sym, ap, ap₂, subst, ℕ, zero, suc, ◌+◌, ◌<◌, ◌≤◌, List, [], ◌∷◌, length, Some, Bool, true, false, cond, arith}
 use Rattle.std.specs.Prelude.{nat_eq, nat_lt}
 use Rattle.std.proofs.lemmas.Bool.{ltb-true, lt-ltb, eq-eqb, eqb-true}
 use Rattle.wasm_tree.specs.declared.module.Module.{Module}
@@ -7,13 +7,13 @@ use Rattle.wasm_meaning.specs.Outcomes.{Gives}
 use Rattle.wasm_meaning.specs.Linking.{Part, Functions, Tables, Memories, Globals, module_at}
 use Rattle.wasm_meaning.specs.Linking as linking
 use Rattle.wasm_meaning.specs.Environment.{Environment, OwnKey, Owned, owned_of, owned_at, look_up, same_key, Thing, FuncAt, TableAt, MemoryAt, GlobalAt}
-use Rattle.wasm_meaning.specs.World.{given, defined_count, own_count, defined_before, base, elems_before, datas_before, address_of}
+use Rattle.wasm_meaning.specs.World.{given, defined_count, defined_before, base, elems_before, datas_before, address_of}
 use Rattle.index_remap.specs.Related.{Kind, Funcs, Mems, Elems, Datas, Pairing, OneToOne, ListRel, nil, cons}
 use Rattle.index_remap.specs.Related as to
 use Rattle.index_remap.specs.RelatedRuns.{ThingRel, a_func, a_table, a_memory, a_global, KeyRel}
 use Rattle.index_remap.specs.Laws.{passed}
 use Rattle.permuted_worlds.specs.Owned.{SharesOwn, OwnEntitiesCorrespond}
-use Rattle.worlds_in_turn.proofs.Things.{then_is, some_is}
+use Rattle.worlds_in_turn.proofs.Things.{some_is}
 
 abbrev pub count_upto : Environment → List Part → ℕ → Kind → ℕ
 count_upto env parts p Funcs = base env parts Functions p

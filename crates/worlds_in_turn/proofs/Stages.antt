@@ -1,26 +1,25 @@
 -- The stages of a run whose parts are instantiated in turn beside the run of the world at once: parts are added, a start is made, the view opens.
-use Rattle.std.proofs.Common.{◌≡◌, ◌∙◌, refl, sym, ap, ap₂, subst, ℕ, zero, suc, ◌+◌, ◌-◌, ◌<◌, ◌≤◌, List, [], ◌∷◌, ◌++◌, length, Option, Some, None, Bool, true, false, ◌⊎◌, inl, inr, arith}
+use Rattle.std.proofs.Common.{◌≡◌, ◌∙◌, refl, sym, ap, ap₂, subst, ℕ, zero, suc, ◌+◌, ◌<◌, ◌≤◌, List, [], ◌∷◌, ◌++◌, length, Option, Some, None, false, ◌⊎◌, inl, inr, arith}
 use Rattle.std.proofs.lemmas.Bool.{cases_lt}
 use Rattle.wasm_tree.specs.declared.module.Module.{Module}
 use Rattle.wasm_meaning.specs.Outcomes.{Gives, at, past}
 use Rattle.wasm_meaning.specs.State.{Text, Inst, Func, Store, Entry, Running, Opening, Waiting}
 use Rattle.wasm_meaning.specs.Control.{type_of_func}
 use Rattle.wasm_meaning.specs.Linking.{Part, Functions, place, then_some, module_at}
-use Rattle.wasm_meaning.specs.Environment.{Environment, Thing, owned_of}
+use Rattle.wasm_meaning.specs.Environment.{Environment, Thing}
 use Rattle.wasm_meaning.specs.World.{World, Begun, base, all_there, joined_stores, start_in, starts_of, one_place, seen_as}
 use Rattle.wasm_meaning.specs.Run.{Event, Phase, Pending, Opened, Closed, Run, Out, tick_at, tick}
 use Rattle.wasm_meaning.specs.Below.{GivesNothing, a_frame, a_call, over, BelowIsNotSeen}
-use Rattle.wasm_meaning.specs.InTurn.{InTurn, or_empty, view_over, goes_on, with_run, turn_at, tick_in_turn, HasNoActive, NoLateSegments}
+use Rattle.wasm_meaning.specs.InTurn.{InTurn, or_empty, view_over, goes_on, with_run, turn_at, tick_in_turn, HasNoActive}
 use Rattle.wasm_meaning.proofs.Simulation.{Follow, both, second}
-use Rattle.index_remap.specs.Related.{Funcs, ListRel, nil, cons}
+use Rattle.index_remap.specs.Related.{ListRel, nil}
 use Rattle.index_remap.specs.RelatedRuns.{opened, RunRel, OutRel}
 use Rattle.index_remap.specs.Laws.{CodeIsRelatedToItself, EntryByEntry, RelatedTicksAgree, OthersStay}
-use Rattle.worlds_in_turn.proofs.Things.{some_is, space_in}
-use Rattle.worlds_in_turn.proofs.Joined.{made_upto, inst_of_part}
+use Rattle.worlds_in_turn.proofs.Things.{space_in}
+use Rattle.worlds_in_turn.proofs.Joined.{made_upto}
 use Rattle.worlds_in_turn.proofs.Reached.{is_reached, reaching, one_to_one, defined_more}
 use Rattle.worlds_in_turn.proofs.Low.{inst_low}
-use Rattle.worlds_in_turn.proofs.Turn.{Sized, Holds}
-use Rattle.worlds_in_turn.proofs.Making.{nothing_to_nothing, over_one, opening_bottom, Abreast, Stepped, on, done, stopped, step, open_both}
+use Rattle.worlds_in_turn.proofs.Making.{nothing_to_nothing, opening_bottom, Abreast, Stepped, on, done, stopped, step, open_both}
 use Rattle.worlds_in_turn.proofs.Given.{IsGiven, IsTurn, part_there, made_all, starts_from, starts_next, starts_end, filled_in, turned, next_turn}
 use Rattle.worlds_in_turn.proofs.Waiting.{holds_of, abreast_next, within}
 use Rattle.worlds_in_turn.proofs.Over.{closed_stays, view_self}

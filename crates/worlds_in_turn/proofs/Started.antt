@@ -1,7 +1,6 @@
 -- The start of a valid part is a function that takes nothing and gives nothing.
-use Rattle.std.proofs.Common.{◌≡◌, ◌∙◌, refl, sym, ap, ap₂, subst, ℕ, zero, suc, ◌+◌, ◌<◌, ◌≤◌, List, [], ◌∷◌, ◌++◌, map, length, Option, Some, None, Bool, true, false, cond, ◌⊎◌, inl, inr, arith}
+use Rattle.std.proofs.Common.{◌≡◌, ◌∙◌, refl, sym, ap, ap₂, ℕ, zero, suc, ◌+◌, ◌≤◌, List, [], ◌∷◌, ◌++◌, map, length, Option, Some, None, Bool, true, ◌⊎◌, inl, inr, arith}
 use Rattle.std.specs.Prelude.{slice_get, option_and_then}
-use Rattle.std.specs.List.{filter_map}
 use Rattle.wasm_tree.specs.declared.types.FuncType.{FuncType}
 use Rattle.wasm_tree.specs.declared.module.Func as tree
 use Rattle.wasm_tree.specs.declared.module.Import.{Import}
@@ -10,13 +9,13 @@ use Rattle.wasm_tree.specs.declared.module.ImportDesc.TheVariants as im
 use Rattle.wasm_tree.specs.declared.module.Module.{Module}
 use Rattle.wasm_tree.specs.Spaces.{func_of, imported_funcs, funcs_of, type_of_func}
 use Rattle.wasm_meaning.specs.Outcomes.{Outcome, Gives, Traps, IllTyped, bind, at}
-use Rattle.wasm_meaning.specs.State.{Inst, Func, Code, Store}
-use Rattle.wasm_meaning.specs.Values.{declared, same_func_type}
+use Rattle.wasm_meaning.specs.State.{Inst, Func, Store}
+use Rattle.wasm_meaning.specs.Values.{same_func_type}
 use Rattle.wasm_meaning.specs.Control as control
 use Rattle.wasm_meaning.specs.Control.{type_at}
 use Rattle.wasm_meaning.specs.Linking.{Part, Functions, same_kind, kind_of_import, has_kind, place, then_some, imports_of, module_at, import_at, sites}
 use Rattle.wasm_meaning.specs.Environment.{Environment, Thing, FuncAt, all_of}
-use Rattle.wasm_meaning.specs.World.{given, base, address_of, import_type, imported_thing, all_there, numbers, insts_from, new_func, global_with, elem_with, part_store, value_of, is_match, is_matched, or_false}
+use Rattle.wasm_meaning.specs.World.{given, base, address_of, import_type, imported_thing, all_there, numbers, insts_from, new_func, global_with, elem_with, value_of, is_match, is_matched, or_false}
 use Rattle.wasm_meaning.specs.InTurn.{JoinsEarlier}
 use Rattle.index_remap.specs.Laws.{CodeIsRelatedToItself}
 use Rattle.merge_validity.proofs.Lists.{place_get, place_of, places_many, split, map_back}

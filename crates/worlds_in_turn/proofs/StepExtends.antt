@@ -1,20 +1,19 @@
 -- What an instruction writes extends what stood there, and so each step of a run extends its store.
-use Rattle.std.proofs.Common.{◌≡◌, ℕ, zero, suc, ◌+◌, ◌≤◌, List, [], ◌∷◌, ◌++◌, length, Option, Some, None, Bool, true, false, cond, refl, sym, ap, subst, ◌∙◌, arith}
+use Rattle.std.proofs.Common.{◌≡◌, ℕ, List, [], ◌∷◌, Bool, true, false, cond, refl, sym, ◌∙◌, arith}
 use Rattle.std.specs.Prelude.{nat_eq}
-use Rattle.wasm_tree.specs.declared.types.ValType.{ValType}
 use Rattle.wasm_tree.specs.declared.instr.Instr.{Instr, out-Instr}
 use Rattle.wasm_tree.specs.declared.instr.Instr.TheOpen.{Instr-F}
 use Rattle.wasm_tree.specs.declared.types.BlockType.{BlockType}
 use Rattle.wasm_num.specs.Operations.{W32}
-use Rattle.wasm_meaning.specs.Outcomes.{Outcome, Gives, Traps, IllTyped, trapping, or_trap, or_other, bind, at, past, split_at, slice, overwrite, copies}
-use Rattle.wasm_meaning.specs.State.{Val, RefVal, Table, Memory, Global, Store, Level, Frame, Env, Body, Change, Keep, SetGlobal, SetMemory, SetTable, DropElem, DropData, Act, Goes, Calls, AsksGrow, Ends}
+use Rattle.wasm_meaning.specs.Outcomes.{Outcome, Gives, Traps, IllTyped, trapping, bind, at, past, split_at, slice, overwrite, copies}
+use Rattle.wasm_meaning.specs.State.{Val, RefVal, Table, Memory, Global, Store, Level, Frame, Env, Body, SetGlobal, Act, Goes}
 use Rattle.wasm_meaning.specs.Values.{typed, pop, pop_num, pop_ref, pushes, on_values, with_values, local_put, global_put, unary, binary, ref_is_null, select_any, select_typed}
 use Rattle.wasm_meaning.specs.Memory.{written, writes, store_into, load_from, grow_memory, memory_may_grow, init_memory, fill_memory, pop_three, with_memory}
 use Rattle.wasm_meaning.specs.Tables.{fits, writes_table, get_slot, set_slot, grow_table, table_may_grow, fill_table, init_table, with_table}
-use Rattle.wasm_meaning.specs.Control.{call_slot, call_checked, func_ref, type_at, resume, end_level, branch, branch_if, branch_table, level_here, open_level, shape_of, open_block}
+use Rattle.wasm_meaning.specs.Control.{call_slot, func_ref, type_at, resume, end_level, branch, level_here, open_level, shape_of, open_block}
 use Rattle.wasm_meaning.specs.Step.{exec, step_code, step_levels, act}
-use Rattle.index_remap.proofs.Rel.{OptAll, nothing, stopped, just, bind_all, any, all_at}
-use Rattle.worlds_in_turn.proofs.Extends.{TableExtends, MemoryExtends, GlobalExtends, Extending, keeps, global, memory, table, elem_drops, data_drops, overwritten_length}
+use Rattle.index_remap.proofs.Rel.{OptAll, nothing, stopped, just}
+use Rattle.worlds_in_turn.proofs.Extends.{Extending, keeps, global, memory, table, elem_drops, data_drops, overwritten_length}
 
 -- what the frame does extends the store
 abbrev pub Grows : Store → Act → Type 0

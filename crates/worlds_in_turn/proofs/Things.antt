@@ -1,20 +1,18 @@
 -- What the imports of a part stand for is the same whether all parts are instantiated at once or the part's turn has come, where each joined import leads to
 -- an earlier part.
-use Rattle.std.proofs.Common.{◌≡◌, ◌∙◌, refl, sym, ap, ap₂, subst, ℕ, zero, suc, ◌+◌, ◌-◌, ◌<◌, ◌≤◌, List, [], ◌∷◌, ◌++◌, length, Option, Some, None, Bool, true, false, cond, ◌⊎◌, inl, inr, arith}
-use Rattle.std.specs.List.{filter_map}
-use Rattle.std.proofs.lemmas.Bool.{cases_lt}
+use Rattle.std.proofs.Common.{◌≡◌, ◌∙◌, refl, sym, ap, ap₂, ℕ, zero, suc, ◌+◌, ◌-◌, ◌<◌, ◌≤◌, List, [], ◌∷◌, ◌++◌, length, Option, Some, None, cond, arith}
 use Rattle.wasm_tree.specs.declared.module.Import.{Import}
 use Rattle.wasm_tree.specs.declared.module.ImportDesc.{ImportDesc}
 use Rattle.wasm_tree.specs.declared.module.ImportDesc.TheVariants as im
 use Rattle.wasm_tree.specs.declared.module.ExportDesc.{ExportDesc}
 use Rattle.wasm_tree.specs.declared.module.ExportDesc.TheVariants as ex
 use Rattle.wasm_tree.specs.declared.module.Module.{Module}
-use Rattle.wasm_meaning.specs.State.{Text, Inst, Store}
+use Rattle.wasm_meaning.specs.State.{Inst}
 use Rattle.wasm_meaning.specs.Paths.{Next, Ends, Goes, walk, walk_on}
-use Rattle.wasm_meaning.specs.Linking.{same_kind, kind_of_import, Part, Site, Entity, End, Defined, Outside, Kind, Functions, Tables, Memories, Globals, place, then_some, places, has_kind, kind_of_export, index_of_export, imports_of, module_at, import_at, is_named, is_text, same_text, export_named, first_place, source_of, joined, imported_as, entity_step, joined_step, import_step, sites, end_of}
-use Rattle.wasm_meaning.specs.Environment.{Environment, Thing, FuncAt, TableAt, MemoryAt, GlobalAt, Owned, owned_of, owned_at}
-use Rattle.wasm_meaning.specs.World.{defined_count, base, thing_at, address_of, given, own_key, outside_thing, defined_thing, thing_of, imported_thing, all_there, numbers, space, elems_before, datas_before, inst_of, insts_from, address_in}
-use Rattle.wasm_meaning.specs.InTurn.{addresses_of, Made, made_named, exported_by, thing_or_own, thing_for}
+use Rattle.wasm_meaning.specs.Linking.{same_kind, kind_of_import, Part, Site, Entity, End, Kind, Functions, Tables, Memories, Globals, place, then_some, places, has_kind, kind_of_export, index_of_export, imports_of, module_at, imported_as, import_step, sites, end_of}
+use Rattle.wasm_meaning.specs.Environment.{Environment, Thing, FuncAt, TableAt, MemoryAt, GlobalAt}
+use Rattle.wasm_meaning.specs.World.{defined_count, base, thing_at, address_of, defined_thing, imported_thing, all_there, numbers, space, elems_before, datas_before, inst_of, insts_from, address_in}
+use Rattle.wasm_meaning.specs.InTurn.{addresses_of}
 
 -- ---- options ----
 

@@ -1,19 +1,17 @@
 -- Each step of a run that was instantiated extends its store.
-use Rattle.std.proofs.Common.{◌≡◌, ℕ, zero, suc, ◌+◌, ◌≤◌, List, [], ◌∷◌, ◌++◌, length, Option, Some, None, Bool, true, false, cond, refl, sym, ap, subst, ◌∙◌, arith}
+use Rattle.std.proofs.Common.{◌≡◌, ℕ, List, [], ◌∷◌, None, Bool, true, false, cond, refl, sym, subst, ◌∙◌, arith}
 use Rattle.std.specs.Prelude.{nat_eq}
-use Rattle.wasm_tree.specs.declared.types.ValType.{ValType}
 use Rattle.wasm_meaning.specs.Outcomes.{Outcome, Gives, Traps, IllTyped, bind, at, overwrite, copies}
-use Rattle.wasm_meaning.specs.State.{Val, RefVal, Num, Ref, Table, Memory, Global, Func, Code, Own, Placeholder, Store, Level, Frame, Entry, Running, Caller, Host, Starter, Mark, Opening, Waiting, Ended, Growing, Growth, GrowMemory, GrowTable, Change, SetGlobal, SetMemory, SetTable, Act, Goes, Calls, AsksGrow, Ends, Next, Ran, CallsOwn, WaitsGrowth, CallsPlaceholder, EndsCall}
+use Rattle.wasm_meaning.specs.State.{Val, RefVal, Ref, Table, Memory, Global, Func, Code, Own, Placeholder, Store, Level, Frame, Entry, Running, Caller, Host, Starter, Mark, Opening, Waiting, Ended, Growing, Growth, GrowMemory, GrowTable, Change, SetGlobal, Act, Goes, Calls, AsksGrow, Ends, Next, Ran, CallsOwn, WaitsGrowth, CallsPlaceholder, EndsCall}
 use Rattle.wasm_meaning.specs.Values.{pop_typed, null_of}
 use Rattle.wasm_meaning.specs.Memory.{memory_may_grow}
 use Rattle.wasm_meaning.specs.Tables.{table_may_grow}
 use Rattle.wasm_meaning.specs.Control.{type_at}
 use Rattle.wasm_meaning.specs.Step.{changed, give_levels, give, enter, enter_at, act, perform, step, to_mark}
 use Rattle.wasm_meaning.specs.Environment.{Shown, Thing, FuncAt, TableAt, MemoryAt, GlobalAt, func_of, received, received_ref, received_all}
-use Rattle.wasm_meaning.specs.Run
-use Rattle.wasm_meaning.specs.Run.{Event, Place, Move, Call, Invoke, Take, Answer, Refuse, Grant, Deny, Get, Size, Set, Extend, Phase, Fresh, Pending, Opened, Closed, Run, Out, viewed_at, place_at, trapped_at, trapped_to, showing, after, called, is_mark, delivered, answered, refused, grown_memory, grown_table, with_change, granted, decided, shows, got, size_of, does, byte_of, set, extended, moved, at_entries, or_bad, or_closed, next_move, nothing_in, started, open_next, is_taken_closed, closed_move, in_phase, tick_at, tick}
+use Rattle.wasm_meaning.specs.Run.{Move, Call, Invoke, Take, Answer, Refuse, Grant, Deny, Get, Size, Set, Extend, Phase, Fresh, Pending, Opened, Closed, Run, Out, viewed_at, place_at, trapped_to, after, called, is_mark, delivered, answered, refused, grown_memory, grown_table, with_change, granted, decided, shows, got, size_of, does, byte_of, set, extended, moved, at_entries, or_bad, or_closed, next_move, nothing_in, open_next, is_taken_closed, closed_move, in_phase, tick_at, tick}
 use Rattle.index_remap.proofs.Rel.{OptAll, nothing, stopped, just}
-use Rattle.worlds_in_turn.proofs.Extends.{TableExtends, MemoryExtends, GlobalExtends, Extends, stays, and_then, Extending, keeps, global, memory, table, elem_drops, data_drops, changed_extends, overwritten_length, append_length}
+use Rattle.worlds_in_turn.proofs.Extends.{TableExtends, MemoryExtends, Extends, stays, and_then, Extending, global, memory, table, changed_extends, overwritten_length, append_length}
 use Rattle.worlds_in_turn.proofs.StepExtends.{Grows, act_all, with_is, cond_all}
 
 -- the store that is left

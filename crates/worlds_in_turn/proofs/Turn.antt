@@ -1,5 +1,5 @@
 -- When a part's turn comes its imports are there and match, and its instance is the one that it has at once.
-use Rattle.std.proofs.Common.{◌≡◌, ◌∙◌, refl, sym, ap, ap₂, subst, ℕ, zero, suc, ◌+◌, ◌-◌, ◌<◌, ◌≤◌, List, [], ◌∷◌, ◌++◌, length, Option, Some, None, Bool, true, false, cond, arith}
+use Rattle.std.proofs.Common.{◌≡◌, ◌∙◌, refl, sym, ap, ap₂, ℕ, zero, suc, ◌+◌, ◌<◌, ◌≤◌, List, [], ◌∷◌, ◌++◌, length, Option, Some, None, Bool, true, false, cond, arith}
 use Rattle.std.specs.Prelude.{nat_le}
 use Rattle.std.proofs.lemmas.Bool.{leb-true, le-leb}
 use Rattle.wasm_tree.specs.declared.types.Limits.{Limits}
@@ -8,15 +8,15 @@ use Rattle.wasm_tree.specs.declared.module.ImportDesc.{ImportDesc}
 use Rattle.wasm_tree.specs.declared.module.ImportDesc.TheVariants as im
 use Rattle.wasm_tree.specs.declared.module.Module.{Module}
 use Rattle.wasm_meaning.specs.Outcomes.{Outcome, Gives, Traps, IllTyped, at}
-use Rattle.wasm_meaning.specs.State.{Inst, Func, Table, Memory, Global, Store}
+use Rattle.wasm_meaning.specs.State.{Inst, Table, Memory, Global, Store}
 use Rattle.wasm_meaning.specs.Control.{type_at}
-use Rattle.wasm_meaning.specs.Linking.{Part, Site, Functions, Tables, Memories, Globals, place, then_some, imports_of, module_at, import_at, sites}
+use Rattle.wasm_meaning.specs.Linking.{Part, Site, Functions, Tables, Memories, Globals, place, then_some, module_at, import_at, sites}
 use Rattle.wasm_meaning.specs.Environment.{Environment, Thing, FuncAt, TableAt, MemoryAt, GlobalAt, owned_of, all_of}
 use Rattle.wasm_meaning.specs.World.{given, defined_count, base, elems_before, datas_before, imported_thing, all_there, numbers, insts_from, is_match, is_matched, meets, meets_most, or_false}
-use Rattle.wasm_meaning.specs.InTurn.{addresses_of, next_inst, all_match, thing_for, JoinsEarlier}
+use Rattle.wasm_meaning.specs.InTurn.{next_inst, all_match, thing_for, JoinsEarlier}
 use Rattle.permuted_worlds.specs.Owned.{OwnEntitiesCorrespond}
 use Rattle.worlds_in_turn.proofs.Extends.{TableExtends, MemoryExtends, GlobalExtends}
-use Rattle.worlds_in_turn.proofs.Things.{then_is, some_is, IsInst, inst_is, space_is, each_from, Gathered, gathered}
+use Rattle.worlds_in_turn.proofs.Things.{then_is, some_is, inst_is, space_is, each_from, gathered}
 use Rattle.worlds_in_turn.proofs.Joined.{ExportsThere, made_upto, thing_same, inst_of_part}
 use Rattle.worlds_in_turn.proofs.Low.{thing_low}
 

@@ -1,31 +1,28 @@
 -- Between starts: a part's turn comes, and the stores stay beside one another.
-use Rattle.std.proofs.Common.{◌≡◌, ◌∙◌, refl, sym, ap, ap₂, subst, ℕ, zero, suc, ◌+◌, ◌-◌, ◌<◌, ◌≤◌, List, [], ◌∷◌, ◌++◌, length, Option, Some, None, Bool, true, false, arith}
-use Rattle.wasm_tree.specs.declared.module.Module.{Module}
+use Rattle.std.proofs.Common.{◌≡◌, ◌∙◌, refl, sym, ap, subst, ℕ, zero, suc, ◌<◌, ◌≤◌, List, [], ◌∷◌, length, Some, arith}
 use Rattle.wasm_meaning.specs.Outcomes.{Outcome, Gives, Traps, IllTyped, at, past}
-use Rattle.wasm_meaning.specs.State.{RefVal, FuncRef, ExternRef, Val, Num, Ref, Inst, Func, Table, Memory, Global, Store, Opening}
-use Rattle.wasm_meaning.specs.Control.{type_of_func}
-use Rattle.wasm_meaning.specs.Linking.{Part, Functions, Tables, Memories, Globals, place, then_some, module_at}
-use Rattle.wasm_meaning.specs.Linking as linking
-use Rattle.wasm_meaning.specs.Environment.{Environment, Thing, owned_of}
-use Rattle.wasm_meaning.specs.World.{World, Filled, base, elems_before, datas_before, numbers, joined_stores, const_value, start_in, starts_of}
-use Rattle.wasm_meaning.specs.Run.{Pending, Run, Out, tick}
-use Rattle.wasm_meaning.specs.Below.{GivesNothing, BelowIsNotSeen}
-use Rattle.wasm_meaning.specs.InTurn.{InTurn, view_over, goes_on, tick_in_turn, HasNoActive}
+use Rattle.wasm_meaning.specs.State.{RefVal, FuncRef, Val, Ref, Inst, Func, Table, Memory, Global, Store}
+use Rattle.wasm_meaning.specs.Linking.{Part, place, then_some, module_at}
+use Rattle.wasm_meaning.specs.Environment.{Environment, Thing}
+use Rattle.wasm_meaning.specs.World.{World, elems_before, datas_before, joined_stores}
+use Rattle.wasm_meaning.specs.Run.{Run}
+use Rattle.wasm_meaning.specs.Below.{BelowIsNotSeen}
+use Rattle.wasm_meaning.specs.InTurn.{InTurn, goes_on}
 use Rattle.index_remap.specs.Related.{Kind, Funcs, Mems, Elems, Datas, Pairing, BothRel, both, OptRel, none, some, RefRel, func, extern, ValRel, number, reference, ListRel, nil, cons, opening, TableRel, GlobalRel}
 use Rattle.index_remap.specs.Related as to
 use Rattle.index_remap.specs.RelatedRuns.{ThingRel, a_func, a_table, a_memory, a_global, KeyRel, pending}
 use Rattle.index_remap.specs.Laws.{CodeIsRelatedToItself, RelatedTicksAgree, OthersStay}
 use Rattle.index_remap.proofs.Rel.{length_rel}
 use Rattle.worlds_in_turn.proofs.Extends.{TableExtends, MemoryExtends, GlobalExtends, Extends}
-use Rattle.worlds_in_turn.proofs.Things.{some_is, inst_is}
-use Rattle.worlds_in_turn.proofs.Joined.{made_upto, inst_of_part}
-use Rattle.worlds_in_turn.proofs.Reached.{count_upto, is_reached, reaching, reached_at, reached_is, elems_next, datas_next, shares_own}
+use Rattle.worlds_in_turn.proofs.Things.{inst_is}
+use Rattle.worlds_in_turn.proofs.Joined.{inst_of_part}
+use Rattle.worlds_in_turn.proofs.Reached.{reaching, reached_at, reached_is, elems_next, datas_next}
 use Rattle.worlds_in_turn.proofs.Low.{inst_low, numbers_back}
-use Rattle.worlds_in_turn.proofs.Turn.{Sized, Holds, place_at}
+use Rattle.worlds_in_turn.proofs.Turn.{Holds, place_at}
 use Rattle.worlds_in_turn.proofs.Closed.{val_more, Closed, Sound, Reaches, added_closed, added_sound}
-use Rattle.worlds_in_turn.proofs.Beside.{Laid, Beside, beside_next, more}
-use Rattle.worlds_in_turn.proofs.Making.{nothing_to_nothing, over_one, Abreast}
-use Rattle.worlds_in_turn.proofs.Given.{IsGiven, IsTurn, starts_from, starts_next, filled_in, turned, next_turn}
+use Rattle.worlds_in_turn.proofs.Beside.{Beside, beside_next, more}
+use Rattle.worlds_in_turn.proofs.Making.{Abreast}
+use Rattle.worlds_in_turn.proofs.Given.{IsGiven}
 
 -- ---- what is related by itself is the same ----
 

@@ -1,5 +1,5 @@
 -- The whole run: parts in turn show what the world shows at once.
-use Rattle.std.proofs.Common.{◌≡◌, ◌∙◌, refl, sym, ap, ap₂, subst, ℕ, zero, suc, ◌+◌, ◌*◌, ◌-◌, ◌<◌, ◌≤◌, List, [], ◌∷◌, ◌++◌, length, Option, Some, None, Bool, true, false, cond, ◌⊎◌, inl, inr, arith}
+use Rattle.std.proofs.Common.{◌≡◌, ◌∙◌, refl, sym, ap, ap₂, subst, ℕ, zero, suc, ◌+◌, ◌*◌, ◌<◌, ◌≤◌, List, [], ◌∷◌, ◌++◌, length, Option, Some, None, false, cond, ◌⊎◌, inl, inr, arith}
 use Rattle.std.proofs.lemmas.Bool.{cases_lt}
 use Rattle.wasm_tree.specs.declared.module.Module.{Module}
 use Rattle.wasm_meaning.specs.Outcomes.{past}
@@ -7,11 +7,11 @@ use Rattle.wasm_meaning.specs.State.{Text, Inst, Store, Opening}
 use Rattle.wasm_meaning.specs.Linking.{Part, Entity, place, then_some, module_at}
 use Rattle.wasm_meaning.specs.Environment.{Environment, Thing, owned_of}
 use Rattle.wasm_meaning.specs.World.{World, Begun, own_store, begun, all_there, start_in, starts_of, seen_as, segments}
-use Rattle.wasm_meaning.specs.Run.{Event, InstanceTrapped, Fresh, Pending, Closed, Move, Run, Out, IsPrefix, fresh_run, tick, events_of}
+use Rattle.wasm_meaning.specs.Run.{Event, InstanceTrapped, Pending, Closed, Move, Run, IsPrefix, fresh_run, tick, events_of}
 use Rattle.wasm_meaning.specs.Below.{BelowIsNotSeen}
 use Rattle.wasm_meaning.specs.InTurn.{InTurn, or_empty, view_over, goes_on, before_turns, tick_in_turn, events_in_turn, HasNoActive}
 use Rattle.wasm_meaning.proofs.Simulation.{Prefix, Follow, both, second, follows, swapped, prefix_trans, later}
-use Rattle.index_remap.specs.Related.{ListRel, nil, cons, opening}
+use Rattle.index_remap.specs.Related.{nil, cons, opening}
 use Rattle.index_remap.specs.RelatedRuns.{pending}
 use Rattle.index_remap.specs.Laws.{CodeIsRelatedToItself, RelatedTicksAgree, OthersStay}
 use Rattle.worlds_in_turn.proofs.Extends.{Extends, stays}
