@@ -2,6 +2,7 @@ pub mod Simulation
 mod SmallRuns
 mod MoreRuns
 mod TurnRuns
+mod LoaderRuns
 pub mod Pigeons
 pub mod Walks
 pub mod Linked

@@ -12,5 +12,6 @@ pub mod Environment
 pub mod World
 pub mod Run
 pub mod InTurn
+pub mod Loader
 pub mod Below
 pub mod Laws
