@@ -1,5 +1,6 @@
 -- Only so many numbers make names that are taken.
-use Rattle.std.proofs.Common.{◌≡◌, ◌∙◌, sym, ap, ℕ, ◌<◌, ◌≤◌, ◌-◌, ◌+◌, ◌^◌, List, ◌∷◌, length, map, arith, Some, Bool, true, decimal, string_bytes}
+use Rattle.std.proofs.Common.{◌≡◌, ◌∙◌, sym, ap, refl, ℕ, suc, ◌<◌, ◌≤◌, ◌-◌, ◌+◌, ◌^◌, List, [], ◌∷◌, length, map, arith, Some, Bool, true, false, decimal, string_bytes}
+use Rattle.std.specs.List.{list_any}
 use Rattle.std.specs.Option.{option_map}
 use Rattle.std.specs.Prelude.{String}
 use Rattle.std.specs.Str.{bytes_eq}
@@ -13,7 +14,16 @@ use Rattle.std.proofs.lemmas.List.{append_cancel_left, length-map}
 use Rattle.std.proofs.lemmas.Option.{slice_get-map}
 use Rattle.export_names.specs.Names.{numbered, among}
 use Rattle.export_names.proofs.Among.{same_from}
-use Rattle.export_names.proofs.Pigeons.{Has, pigeons, found}
+use Rattle.list_laws.proofs.Pigeons.{Has, pigeons}
+
+-- what a test finds
+found : {A : Type 0} (test : A → Bool) (xs : List A) → list_any test xs ≡ true → (x : A) × Has xs x × (test x ≡ true)
+found test [] h = cc
+found test (x ∷ xs) h = here test x xs (test x) refl (λ k. let r = found test xs k in (r.0, (suc r.1.0, r.1.1), r.2)) h
+  where
+    here : {A : Type 0} (test : A → Bool) (x : A) (xs : List A) (b : Bool) → test x ≡ b → (list_any test xs ≡ true → (y : A) × Has (x ∷ xs) y × (test y ≡ true)) → list_any test (x ∷ xs) ≡ true → (y : A) × Has (x ∷ xs) y × (test y ≡ true)
+    here test x xs true e r h = (x, (0, refl), e)
+    here test x xs false e r h = r (rw e at h)
 
 -- names with different numbers differ
 numbered_differ : (name : List ℕ) (i j : ℕ) → i < 2 ^ 64 → j < 2 ^ 64 → numbered name i ≡ numbered name j → i ≡ j

@@ -4,6 +4,5 @@ pub mod Coming
 pub mod Distinct
 pub mod Few
 pub mod Loops
-pub mod Pigeons
 pub mod Renamed
 pub mod Rules

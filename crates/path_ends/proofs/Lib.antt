@@ -2,4 +2,3 @@ pub mod Leads
 pub mod Ended
 pub mod Lists
 pub mod Marks
-pub mod Pigeons

@@ -3,7 +3,6 @@ mod SmallRuns
 mod MoreRuns
 mod TurnRuns
 mod LoaderRuns
-pub mod Pigeons
 pub mod Walks
 pub mod Linked
 mod Below

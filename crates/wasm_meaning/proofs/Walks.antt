@@ -1,8 +1,12 @@
 -- A walk of enough points finds the end of a path, and no other.
 use Rattle.std.proofs.Common.{◌≡◌, ◌∙◌, ap, subst, refl, ℕ, zero, suc, ◌-◌, ◌<◌, ◌≤◌, List, length, arith, Option, Some, None, ◌↔◌, ◌⊎◌, inl, inr}
 use Rattle.std.proofs.lemmas.Bool.{cases_lt}
-use Rattle.wasm_meaning.specs.Paths.{Next, Ends, Goes, Path, ends, goes, walk_on, walk, In}
-use Rattle.wasm_meaning.proofs.Pigeons.{Has, in_has, pigeons}
+use Rattle.list_laws.proofs.Pigeons.{Has, pigeons}
+use Rattle.wasm_meaning.specs.Paths.{Next, Ends, Goes, Path, ends, goes, walk_on, walk, In, here, there}
+
+in_has : {A : Type 0} {x : A} {xs : List A} → In x xs → Has xs x
+in_has here = (0, refl)
+in_has (there i) = let h = in_has i in (suc h.0, h.1)
 
 module _ {A E : Type 0} (next : A → Option (Next A E)) where
   pub found : (n : ℕ) (a : A) (e : E) → walk next n a ≡ Some e → Path next a e
