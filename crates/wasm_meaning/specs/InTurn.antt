@@ -3,7 +3,6 @@
 use Rattle.std.proofs.Common.{◌≡◌, ◌<◌, ℕ, List, [], ◌∷◌, ◌++◌, map, length, Option, Some, None, Bool, true, false, cond}
 use Rattle.std.specs.List.{filter_map}
 use Rattle.wasm_tree.specs.declared.module.Import.{Import}
-use Rattle.wasm_tree.specs.declared.module.Export.{Export}
 use Rattle.wasm_tree.specs.declared.module.ExportDesc.{ExportDesc}
 use Rattle.wasm_tree.specs.declared.module.ConstExpr.{ConstExpr}
 use Rattle.wasm_tree.specs.declared.module.ElemMode.{ElemMode}
@@ -60,6 +59,10 @@ added_as s m i =
 abbrev pub added : Store → Module → List Thing → Option Added
 added s m things = cond (all_match s m m.imports things) (added_as s m (next_inst s m things)) None
 
+-- where this tells what each import stands for
+abbrev pub added_with : (Import → Option Thing) → Store → Module → Option Added
+added_with supplied s m = then_some (all_there supplied m.imports) (added s m)
+
 -- ---- what an import stands for, among the parts that are there ----
 
 -- a part that is there, with its instance
@@ -75,9 +78,13 @@ made_named (x ∷ xs) name = cond (is_named name x.part) (Some x) (made_named xs
 abbrev pub exported_by : List Made → Import → Option (Made × ExportDesc)
 exported_by made i = then_some (made_named made i.«module») (λ x. then_some (export_named x.part.«module».exports i.field) (λ d. Some (x, d)))
 
+-- the environment's own entity for it
+abbrev pub own_thing : Owned → Module → Import → Option Thing
+own_thing owned m i = then_some (own_key m i) (λ key. given (owned_at owned key))
+
 -- that, or where there is no such part or export the environment's own. A part whose turn has not come is not there, so that the environment is asked.
 abbrev pub thing_or_own : Owned → Module → Import → Option (Made × ExportDesc) → Option Thing
-thing_or_own owned m i None = then_some (own_key m i) (λ key. given (owned_at owned key))
+thing_or_own owned m i None = own_thing owned m i
 thing_or_own owned m i (Some x) = address_in x.0.inst x.1
 
 abbrev pub thing_for : Owned → List Made → Module → Import → Option Thing
@@ -117,7 +124,7 @@ part_added q part rest (Some a) =
 -- the next part's turn: one step for its allocation and its segments
 abbrev pub next_part : InTurn → Part → List Part → InTurn × Option Event
 next_part q part rest =
-    part_added q part rest (then_some (all_there (thing_for q.run.owned q.made part.«module») part.«module».imports) (added q.run.store part.«module»))
+    part_added q part rest (added_with (thing_for q.run.owned q.made part.«module») q.run.store part.«module»)
 
 abbrev pub with_run : InTurn → Out → InTurn × Option Event
 with_run q o = (record q { run = o.0 }, o.1)

@@ -5,6 +5,8 @@ use Rattle.wasm_meaning.specs.Linking.{Part, Site, End, Read, Leads, end_of, Rea
 use Rattle.wasm_meaning.specs.Environment.{Environment}
 use Rattle.wasm_meaning.specs.World.{World}
 use Rattle.wasm_meaning.specs.Run.{Move, IsPrefix, events}
+use Rattle.wasm_meaning.specs.InTurn.{events_in_turn}
+use Rattle.wasm_meaning.specs.Loader.{LoaderWorld, events_loaded}
 
 -- equal worlds, environments, moves and numbers of steps give equal events
 abbrev pub RunsAreDetermined : Type 0
@@ -13,6 +15,14 @@ RunsAreDetermined = (v w : World) (d e : Environment) (ms ns : List Move) (m n :
 -- the events of fewer steps are a prefix of those of more
 abbrev pub ShorterRunsArePrefixes : Type 0
 ShorterRunsArePrefixes = (w : World) (env : Environment) (moves : List Move) (n k : ℕ) → IsPrefix (events w env moves n) (events w env moves (n + k))
+
+-- so are those of parts that are instantiated one after the other
+abbrev pub ShorterRunsInTurnArePrefixes : Type 0
+ShorterRunsInTurnArePrefixes = (w : World) (env : Environment) (moves : List Move) (n k : ℕ) → IsPrefix (events_in_turn w env moves n) (events_in_turn w env moves (n + k))
+
+-- and those of a module under a loader
+abbrev pub ShorterLoadedRunsArePrefixes : Type 0
+ShorterLoadedRunsArePrefixes = (w : LoaderWorld) (env : Environment) (moves : List Move) (n k : ℕ) → IsPrefix (events_loaded w env moves n) (events_loaded w env moves (n + k))
 
 -- an import's end is that to which a path of imports and exports leads, and there is none where following never ends
 abbrev pub EndsArePaths : Type 0

@@ -4,16 +4,19 @@
 #![tactic(auto)]
 
 ghost use Rattle.wasm_meaning.specs.Below.{BelowIsNotSeen};
-ghost use Rattle.wasm_meaning.specs.Laws.{EndsArePaths, ReadsArePaths, RunsAreDetermined, ShorterRunsArePrefixes};
+ghost use Rattle.wasm_meaning.specs.Laws.{EndsArePaths, ReadsArePaths, RunsAreDetermined, ShorterLoadedRunsArePrefixes, ShorterRunsArePrefixes, ShorterRunsInTurnArePrefixes};
 
 /// A run is determined by its world, its environment, the embedder's moves and the number of steps.
 pub fn runs_are_determined()
     ensures determined { RunsAreDetermined }
 {}
 
-/// What is seen in fewer steps of a run comes first in what is seen in more.
+/// What is seen in fewer steps of a run comes first in what is seen in more: in runs of a world, of its parts one after the other (`in_turn`), and of a module
+/// under a loader (`loaded`).
 pub fn shorter_runs_are_prefixes()
     ensures prefixes { ShorterRunsArePrefixes }
+    ensures in_turn { ShorterRunsInTurnArePrefixes }
+    ensures loaded { ShorterLoadedRunsArePrefixes }
 {}
 
 /// Where an import ends, and what a constant expression reads through joined globals, are said by paths; the definitions that worlds compute with are the same.
