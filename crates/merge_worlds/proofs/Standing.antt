@@ -1,6 +1,6 @@
 -- For what each entry of a part's index space stands, in the parts' world and in the merged module: for what a part defines, with its number among all
 -- definitions, or for an import that stays.
-use Rattle.std.proofs.Common.{◌≡◌, ◌∙◌, ap, ap₂, subst, refl, ℕ, zero, suc, ◌+◌, ◌-◌, ◌<◌, ◌≤◌, List, [], ◌∷◌, length, Option, Some, None, Bool, true, cond, false, arith}
+use Rattle.std.proofs.Common.{◌≡◌, ◌∙◌, sym, ap, ap₂, subst, refl, ℕ, zero, suc, ◌+◌, ◌-◌, ◌<◌, ◌≤◌, List, [], ◌∷◌, length, Option, Some, None, Bool, true, cond, false, arith}
 use Rattle.std.specs.Prelude.{nat_eq, nat_lt}
 use Rattle.std.proofs.lemmas.Bool.{ltb-true, lt-ltb, eq-eqb}
 use Rattle.wasm_tree.specs.declared.module.Import.{Import}
@@ -17,6 +17,7 @@ use Rattle.merge_terms.specs.Merged.{staying_of, entry_of, new_index}
 use Rattle.merge_validity.specs.Ended.{EndsInside, EndsOutside, Ended, inside, outside}
 use Rattle.merge_validity.proofs.Lists.{then_is}
 use Rattle.merge_validity.proofs.ByPart.{before, defined_is}
+use Rattle.merge_validity.proofs.Same.{kind_is}
 use Rattle.permuted_worlds.specs.Owned.{SharesOwn, OwnEntitiesCorrespond}
 use Rattle.permuted_worlds.proofs.Places.{place_rel, opt_self}
 use Rattle.merge_worlds.specs.Shared.{shared_count, is_shared, sharing}
@@ -24,24 +25,6 @@ use Rattle.merge_worlds.proofs.Chosen.{place_back, past_end}
 use Rattle.merge_worlds.proofs.SpaceLaws.{SpaceLaws}
 
 -- ---- kinds ----
-
-kind_is : (k l : Kind) → same_kind k l ≡ true → l ≡ k
-kind_is Functions Functions h = refl
-kind_is Tables Tables h = refl
-kind_is Memories Memories h = refl
-kind_is Globals Globals h = refl
-kind_is Functions Tables h = cc
-kind_is Functions Memories h = cc
-kind_is Functions Globals h = cc
-kind_is Tables Functions h = cc
-kind_is Tables Memories h = cc
-kind_is Tables Globals h = cc
-kind_is Memories Functions h = cc
-kind_is Memories Tables h = cc
-kind_is Memories Globals h = cc
-kind_is Globals Functions h = cc
-kind_is Globals Tables h = cc
-kind_is Globals Memories h = cc
 
 abbrev pub kind_in : Kind → to.Kind
 kind_in Functions = to.Funcs
@@ -87,7 +70,7 @@ pub import_there : (k : Kind) (m : Module) (x n : ℕ) → place (imports_of k m
 import_there k m x n h =
     let r = place_back (has_kind k) m.imports 0 x n h in
     let same : n ≡ r.0 = (let d = r.2 in omega (arith, d)) in
-    record { import = r.1; at = ap (place m.imports) same ∙ r.3; kind = kind_is k (kind_of_import r.1.desc) r.4 }
+    record { import = r.1; at = ap (place m.imports) same ∙ r.3; kind = sym (kind_is k (kind_of_import r.1.desc) r.4) }
 
 -- ---- the environment's own ----
 
