@@ -239,6 +239,8 @@ class Refusal extends Error {}
 const string = (text) => String.fromCharCode(...text.map(Number));
 const typeName = (type) => (type.tag === "I32" ? "i32" : type.tag === "I64" ? "i64" : type.args[0].tag === "Func" ? "anyfunc" : "externref");
 
+const extent = (size, limits) => ({ initial: Number(size), ...(inner(limits.max) === null ? {} : { maximum: Number(inner(limits.max)) }) });
+
 class Embedder {
   constructor(world, environment, moves, expected) {
     this.expected = expected;
@@ -251,13 +253,14 @@ class Embedder {
     this.events = [];
   }
 
-  // the environment's own memory or global of a pair, and the types of its functions
+  // the environment's own table, memory or global of a pair, and the types of its functions
   offered(offer) {
-    const [memory, global] = [inner(offer.memory), inner(offer.global)];
-    if (inner(offer.table)) throw new NotShown("a table of the environment's own");
+    const [table, memory, global] = [inner(offer.table), inner(offer.memory), inner(offer.global)];
+    if (table?.entries.some((entry) => entry.tag !== "Null")) throw new NotShown("a table of the environment's own that has an entry");
     return {
       offer,
-      memory: memory && new WebAssembly.Memory({ initial: Number(memory.pages), ...(inner(memory.limits.max) === null ? {} : { maximum: Number(inner(memory.limits.max)) }) }),
+      table: table && new WebAssembly.Table({ element: table.ty.tag === "Func" ? "anyfunc" : "externref", ...extent(table.entries.length, table.limits) }),
+      memory: memory && new WebAssembly.Memory(extent(memory.pages, memory.limits)),
       global: global && new WebAssembly.Global({ value: typeName(global.ty.ty), mutable: global.ty.mutable.tag === "true" }, this.received(global.ty.ty, global.value)),
     };
   }
@@ -311,7 +314,8 @@ class Embedder {
     const part = this.partNamed(i.module);
     if (part) return part.instance.exports[string(i.field)];
     const own = this.owned.get(JSON.stringify([string(i.module), string(i.field)]));
-    if (!own || i.desc.tag === "Table") return undefined;
+    if (!own) return undefined;
+    if (i.desc.tag === "Table") return own.table;
     if (i.desc.tag === "Memory") return own.memory;
     if (i.desc.tag === "Global") return own.global;
     const type = module.types[Number(i.desc.args[0])];
@@ -376,7 +380,7 @@ class Embedder {
   placed({ tag, args }) {
     if (tag === "Named") return this.viewed(args[0]);
     const own = this.owned.get(JSON.stringify(args[0].pair.map(string)));
-    return tag === "MemoryOf" ? own.memory : own.global;
+    return tag === "TableOf" ? own.table : tag === "MemoryOf" ? own.memory : own.global;
   }
 
   element(thing, index) {

@@ -3,6 +3,7 @@ use Rattle.std.proofs.Common.{◌≡◌, refl, ℕ, List, [], ◌∷◌, Some, N
 use Rattle.std.specs.Prelude.{pos, negsuc}
 use Rattle.wasm_num.specs.declared.BinOp.TheVariants as bin
 use Rattle.wasm_num.specs.declared.UnOp.TheVariants as un
+use Rattle.wasm_tree.specs.declared.types.RefType.{RefType}
 use Rattle.wasm_tree.specs.declared.types.RefType.TheVariants as reft
 use Rattle.wasm_tree.specs.declared.types.ValType.{ValType}
 use Rattle.wasm_tree.specs.declared.types.ValType.TheVariants as valt
@@ -26,7 +27,7 @@ use Rattle.wasm_meaning.specs.Access.{load_to, load_width, loaded, store_from, s
 use Rattle.wasm_meaning.specs.Linking.{Tables, Memories}
 use Rattle.wasm_meaning.specs.Environment.{Environment, Number, Null, ExternNumber}
 use Rattle.wasm_meaning.specs.World.{World}
-use Rattle.wasm_meaning.specs.Run.{Linked, InstanceTrapped, Returned, Trapped, Asked, GrowAsked, Got, Call, Answer, Grant, Deny, Get, Named, events}
+use Rattle.wasm_meaning.specs.Run.{Linked, LinkFault, InstanceTrapped, Returned, Trapped, Asked, GrowAsked, Got, Call, Answer, Grant, Deny, Get, Named, events}
 use Rattle.wasm_meaning.proofs.SmallRuns.{f, g, a, b, e, m, i32, nothing, to_nothing, empty, code, code', num, gives, page, three, alone, plain, returns, f_gives}
 
 -- ---- modules ----
@@ -553,3 +554,23 @@ an_element_segment_out_of_bounds = refl
 starts_come_by_part : events two_starts hearing (Answer [] ∷ (Answer [] ∷ [])) 25 ≡ Asked (e, g) to_nothing (Number 1 ∷ []) ∷ (Asked (e, g) to_nothing (Number 2 ∷ []) ∷ (Linked ∷ []))
 unfolding out-Instr denote.Hole.Carrier.out wrapped un_from un_to un_value bin_from bin_to bin_value load_to load_width loaded store_from stored
 starts_come_by_part = refl
+
+-- a table of the environment, matched with its size
+
+abbrev needs_a_table : ℕ → Module
+needs_a_table n = record (gives (num 1 ∷ [])) { imports = record { «module» = e; field = m; desc = im.Table (record { ty = reft.Func; limits = record { min = n; max = Some 3 } }) } ∷ [] }
+
+abbrev table_of : RefType → Environment
+table_of ty = record { pair = (e, m); funcs = []; table = Some (record { ty = ty; limits = record { min = 1; max = Some 3 }; entries = Null ∷ [] }); memory = None; global = None } ∷ []
+
+a_table_that_fits : events (plain (needs_a_table 1)) (table_of reft.Func) (Call f [] ∷ []) 25 ≡ returns (Number 1 ∷ [])
+unfolding out-Instr denote.Hole.Carrier.out wrapped un_from un_to un_value bin_from bin_to bin_value load_to load_width loaded store_from stored
+a_table_that_fits = refl
+
+a_table_that_is_too_small : events (plain (needs_a_table 2)) (table_of reft.Func) [] 25 ≡ LinkFault ∷ []
+unfolding out-Instr denote.Hole.Carrier.out wrapped un_from un_to un_value bin_from bin_to bin_value load_to load_width loaded store_from stored
+a_table_that_is_too_small = refl
+
+a_table_of_other_references : events (plain (needs_a_table 1)) (table_of reft.Extern) [] 25 ≡ LinkFault ∷ []
+unfolding out-Instr denote.Hole.Carrier.out wrapped un_from un_to un_value bin_from bin_to bin_value load_to load_width loaded store_from stored
+a_table_of_other_references = refl
