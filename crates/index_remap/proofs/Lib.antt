@@ -11,6 +11,12 @@ pub mod Lockstep
 pub mod Runs
 pub mod SameRuns
 pub mod AboveSteps
+pub mod Keeping
+pub mod Rows
+pub mod Lower
+pub mod Instructions
+pub mod Replacing
+pub mod Unlisted
 pub mod RenumberedCode
 pub mod Others
 pub mod ItselfCode

@@ -5,15 +5,12 @@ use Rattle.std.proofs.lemmas.List.{map-append}
 use Rattle.std.specs.List.{filter, flat_map, range_with_len}
 use Rattle.wasm_tree.specs.declared.types.BlockType.{BlockType}
 use Rattle.wasm_tree.specs.declared.instr.Instr.{Instr, If, the_lemmas}
-use Rattle.wasm_tree.specs.declared.types.RefType.TheVariants.{Func as func_ref}
 use Rattle.wasm_tree.specs.declared.module.ConstExpr.{ConstExpr}
 use Rattle.wasm_tree.specs.declared.module.ConstExpr.TheVariants as const
-use Rattle.wasm_tree.specs.declared.module.ElemMode.TheVariants as elem
 use Rattle.wasm_tree.specs.declared.module.Func.{Func}
-use Rattle.wasm_tree.specs.declared.module.Module.{Module}
 use Rattle.wasm_valid.specs.Named.{named_from, marked_all}
 use Rattle.wasm_valid.proofs.Marked.{segment_step, marked_append, all_marks, no_marks}
-use Rattle.index_remap.specs.References.{refs, refs_all, body_refs, is_among, marked_only, with_declared}
+use Rattle.index_remap.specs.References.{refs, refs_all, body_refs, is_among, marked_only}
 
 joined : {X : Type 0} (f : X → List ℕ) (xs : List X) → flat_map (λ ys. ys) (map f xs) ≡ flat_map f xs
 joined f [] = refl

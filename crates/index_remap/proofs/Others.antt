@@ -1,9 +1,9 @@
 -- A step leaves what has no partner.
-use Rattle.std.proofs.Common.{◌≡◌, ℕ, List, [], ◌∷◌, refl, subst, ◌∙◌}
+use Rattle.std.proofs.Common.{◌≡◌, ℕ, List, ◌∷◌, refl, subst, ◌∙◌}
 use Rattle.wasm_meaning.specs.Outcomes.{Outcome, at, put}
-use Rattle.wasm_meaning.specs.State.{Val, Store, Change, Entry, Running, Caller}
+use Rattle.wasm_meaning.specs.State.{Val, Store, Change, Entry, Caller}
 use Rattle.wasm_meaning.specs.Step.{changed, no_items, no_bytes, give, step}
-use Rattle.wasm_meaning.specs.Run.{Phase, Fresh, Pending, Opened, Closed, Run, tick}
+use Rattle.wasm_meaning.specs.Run.{Phase, Run, tick}
 use Rattle.index_remap.specs.Related.{Kind, Tables, Mems, Globals, Elems, Datas, Pairing, OneToOne, ResRel, done, trap, wrong, ListRel, nil, cons, ValRel, StoreRel, EntryRel, running, mark, opening, waiting, ended, growing, ChangeRel, keep, set_global, set_memory, set_table, drop_elem, drop_data, NextRel, ran, returned}
 use Rattle.index_remap.specs.RelatedRuns.{HasNoPartner, KeepsOthers, IsBegun, PhaseRel, pending, opened, closed, fresh, RunRel}
 use Rattle.index_remap.proofs.Rel.{there, bind_rel, PairRel, at_put_there}

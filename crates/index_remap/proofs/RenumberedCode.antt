@@ -1,16 +1,21 @@
--- Renumbered code is related.
-use Rattle.std.proofs.Common.{◌≡◌, ℕ, List, [], ◌∷◌, refl, sym, ap, subst, ◌∙◌, false}
+-- Code with other indices, in which code stands in place of calls of listed functions, is related to what it was.
+use Rattle.std.proofs.Common.{◌≡◌, ℕ, List, [], ◌∷◌, ◌++◌, Bool, true, false, true≢false, refl, sym, subst}
 use Rattle.wasm_tree.specs.declared.types.BlockType.{BlockType}
 use Rattle.wasm_tree.specs.declared.types.BlockType.TheVariants as bt
-use Rattle.wasm_tree.specs.declared.instr.Instr.{Instr, fold-Instr, fold_out-Instr, map-Instr, out-Instr, Row_of-Instr, end_of-Instr, more_of-Instr, items-the_row-Instr, items_shown-the_row-Instr-0, Block', Loop', If'}
+use Rattle.wasm_tree.specs.declared.instr.Instr.{Instr, fold_out-Instr, map-Instr, out-Instr, Row_of-Instr, end_of-Instr, more_of-Instr, items-the_row-Instr, items_shown-the_row-Instr-0}
+use Rattle.wasm_tree.specs.declared.instr.Instr.TheBlock.{shown-the_row-Instr-0}
 use Rattle.wasm_tree.specs.declared.instr.Instr.TheOpen.{Instr-F}
 use Rattle.wasm_tree.specs.declared.instr.Instr.TheVariants as i
+use Rattle.wasm_tree.specs.declared.instr.Instr.TheVariants.{Block, Block', Loop, Loop', If, If', Call}
 use Rattle.wasm_meaning.specs.State.{Inst}
 use Rattle.index_remap.specs.declared.remap.Remap.{Remap}
 use Rattle.index_remap.specs.Related
-use Rattle.index_remap.specs.Related.{Pairing, BlockRel, empty, value, indexed, OpRel, CodeRel, end, then}
-use Rattle.index_remap.specs.Renumbered.{new_type, new_memarg, renumber_step, renumbered, renumbered_all}
+use Rattle.index_remap.specs.Related.{Pairing, BlockRel, empty, value, indexed, OpRel, CodeRel, end, then, instead}
+use Rattle.index_remap.specs.Renumbered.{new_type, renumber_step, renumbered, renumbered_all}
+use Rattle.index_remap.specs.References.{is_among}
 use Rattle.index_remap.specs.CodeNames.{BlockNames, LayerNames, Layers, RowLayers, ListLayers}
+use Rattle.index_remap.specs.Replaced.{Codes, CallReplaced, StandsFor, RowReplaced, Replaced, OthersNamed, AreReplaced}
+use Rattle.index_remap.proofs.Unlisted.{all_follow, unlisted_renumbered}
 
 module _ (R : Pairing) (m : Remap) (x y : Inst) where
   block_rel : (b : BlockType) → BlockNames m x y b → BlockRel x y b (new_type m b)
@@ -18,89 +23,99 @@ module _ (R : Pairing) (m : Remap) (x y : Inst) where
   block_rel (bt.Value t) n = value
   block_rel (bt.Index k) n = indexed n
 
-  -- what the layer holds is related to what it holds renumbered
-  abbrev Held : Instr-F Instr → Type 0
-  Held (Instr-F.Block b c) = CodeRel R x y c (renumbered_all m c)
-  Held (Instr-F.Loop b c) = CodeRel R x y c (renumbered_all m c)
-  Held (Instr-F.If b c d) = CodeRel R x y c (renumbered_all m c) × CodeRel R x y d (renumbered_all m d)
-  Held _ = Unit {0}
+  -- it holds no other instructions
+  abbrev HoldsNone : Instr-F Instr → Type 0
+  HoldsNone (Instr-F.Block b c) = ⊥
+  HoldsNone (Instr-F.Loop b c) = ⊥
+  HoldsNone (Instr-F.If b c d) = ⊥
+  HoldsNone _ = Unit {0}
 
-  block_layer : (b : BlockType) (c : List Instr) → BlockNames m x y b → CodeRel R x y c (renumbered_all m c) → OpRel R x y false (Instr-F.Block b c) (out-Instr (renumber_step m (map-Instr Instr Instr (renumbered m) (Instr-F.Block b c))))
-  block_layer b c n h = rw (i.outs-Block (new_type m b) _) (Related.block (block_rel b n) h)
-
-  loop_layer : (b : BlockType) (c : List Instr) → BlockNames m x y b → CodeRel R x y c (renumbered_all m c) → OpRel R x y false (Instr-F.Loop b c) (out-Instr (renumber_step m (map-Instr Instr Instr (renumbered m) (Instr-F.Loop b c))))
-  loop_layer b c n h = rw (i.outs-Loop (new_type m b) _) (Related.loop (block_rel b n) h)
-
-  if_layer : (b : BlockType) (c d : List Instr) → BlockNames m x y b → CodeRel R x y c (renumbered_all m c) → CodeRel R x y d (renumbered_all m d) → OpRel R x y false (Instr-F.If b c d) (out-Instr (renumber_step m (map-Instr Instr Instr (renumbered m) (Instr-F.If b c d))))
-  if_layer b c d n h k = rw (i.outs-If (new_type m b) _ _) (Related.if_else (block_rel b n) h k)
-
-  layer_rel : (l : Instr-F Instr) → LayerNames R m x y l → Held l → OpRel R x y false l (out-Instr (renumber_step m (map-Instr Instr Instr (renumbered m) l)))
+  layer_rel : (l : Instr-F Instr) → HoldsNone l → LayerNames R m x y l → OpRel R x y false l (out-Instr (renumber_step m (map-Instr Instr Instr (renumbered m) l)))
   unfolding out-Instr denote.Hole.Carrier.out
-  layer_rel Instr-F.Unreachable n h = Related.unreachable
-  layer_rel Instr-F.Nop n h = Related.nop
-  layer_rel (Instr-F.Block x0 x1) n h = block_layer x0 x1 n h
-  layer_rel (Instr-F.Loop x0 x1) n h = loop_layer x0 x1 n h
-  layer_rel (Instr-F.If x0 x1 x2) n h = if_layer x0 x1 x2 n h.0 h.1
-  layer_rel (Instr-F.Br x0) n h = Related.br
-  layer_rel (Instr-F.BrIf x0) n h = Related.br_if
-  layer_rel (Instr-F.BrTable x0 x1) n h = Related.br_table
-  layer_rel Instr-F.Return n h = Related.return
-  layer_rel (Instr-F.Call x0) n h = Related.call n
-  layer_rel (Instr-F.CallIndirect x0 x1) n h = Related.call_indirect n.0 n.1
-  layer_rel Instr-F.Drop n h = Related.drop
-  layer_rel Instr-F.Select n h = Related.select
-  layer_rel (Instr-F.SelectTyped x0) n h = Related.select_typed
-  layer_rel (Instr-F.LocalGet x0) n h = Related.local_get
-  layer_rel (Instr-F.LocalSet x0) n h = Related.local_set
-  layer_rel (Instr-F.LocalTee x0) n h = Related.local_tee
-  layer_rel (Instr-F.GlobalGet x0) n h = Related.global_get n
-  layer_rel (Instr-F.GlobalSet x0) n h = Related.global_set n
-  layer_rel (Instr-F.TableGet x0) n h = Related.table_get n
-  layer_rel (Instr-F.TableSet x0) n h = Related.table_set n
-  layer_rel (Instr-F.Load x0 x1) n h = Related.load (record { offset = refl; memory = n })
-  layer_rel (Instr-F.Store x0 x1) n h = Related.store (record { offset = refl; memory = n })
-  layer_rel (Instr-F.MemorySize x0) n h = Related.memory_size n
-  layer_rel (Instr-F.MemoryGrow x0) n h = Related.memory_grow n
-  layer_rel (Instr-F.I32Const x0) n h = Related.i32_const
-  layer_rel (Instr-F.I64Const x0) n h = Related.i64_const
-  layer_rel (Instr-F.Un x0) n h = Related.un
-  layer_rel (Instr-F.Bin x0) n h = Related.bin
-  layer_rel (Instr-F.RefNull x0) n h = Related.ref_null
-  layer_rel Instr-F.RefIsNull n h = Related.ref_is_null
-  layer_rel (Instr-F.RefFunc x0) n h = Related.ref_func n
-  layer_rel (Instr-F.MemoryInit x0 x1) n h = Related.memory_init n.0 n.1
-  layer_rel (Instr-F.DataDrop x0) n h = Related.data_drop n
-  layer_rel (Instr-F.MemoryCopy x0 x1) n h = Related.memory_copy n.0 n.1
-  layer_rel (Instr-F.MemoryFill x0) n h = Related.memory_fill n
-  layer_rel (Instr-F.TableInit x0 x1) n h = Related.table_init n.0 n.1
-  layer_rel (Instr-F.ElemDrop x0) n h = Related.elem_drop n
-  layer_rel (Instr-F.TableCopy x0 x1) n h = Related.table_copy n.0 n.1
-  layer_rel (Instr-F.TableGrow x0) n h = Related.table_grow n
-  layer_rel (Instr-F.TableSize x0) n h = Related.table_size n
-  layer_rel (Instr-F.TableFill x0) n h = Related.table_fill n
+  layer_rel Instr-F.Unreachable h n = Related.unreachable
+  layer_rel Instr-F.Nop h n = Related.nop
+  layer_rel (Instr-F.Block x0 x1) h n = absurd h
+  layer_rel (Instr-F.Loop x0 x1) h n = absurd h
+  layer_rel (Instr-F.If x0 x1 x2) h n = absurd h
+  layer_rel (Instr-F.Br x0) h n = Related.br
+  layer_rel (Instr-F.BrIf x0) h n = Related.br_if
+  layer_rel (Instr-F.BrTable x0 x1) h n = Related.br_table
+  layer_rel Instr-F.Return h n = Related.return
+  layer_rel (Instr-F.Call x0) h n = Related.call n
+  layer_rel (Instr-F.CallIndirect x0 x1) h n = Related.call_indirect n.0 n.1
+  layer_rel Instr-F.Drop h n = Related.drop
+  layer_rel Instr-F.Select h n = Related.select
+  layer_rel (Instr-F.SelectTyped x0) h n = Related.select_typed
+  layer_rel (Instr-F.LocalGet x0) h n = Related.local_get
+  layer_rel (Instr-F.LocalSet x0) h n = Related.local_set
+  layer_rel (Instr-F.LocalTee x0) h n = Related.local_tee
+  layer_rel (Instr-F.GlobalGet x0) h n = Related.global_get n
+  layer_rel (Instr-F.GlobalSet x0) h n = Related.global_set n
+  layer_rel (Instr-F.TableGet x0) h n = Related.table_get n
+  layer_rel (Instr-F.TableSet x0) h n = Related.table_set n
+  layer_rel (Instr-F.Load x0 x1) h n = Related.load (record { offset = refl; memory = n })
+  layer_rel (Instr-F.Store x0 x1) h n = Related.store (record { offset = refl; memory = n })
+  layer_rel (Instr-F.MemorySize x0) h n = Related.memory_size n
+  layer_rel (Instr-F.MemoryGrow x0) h n = Related.memory_grow n
+  layer_rel (Instr-F.I32Const x0) h n = Related.i32_const
+  layer_rel (Instr-F.I64Const x0) h n = Related.i64_const
+  layer_rel (Instr-F.Un x0) h n = Related.un
+  layer_rel (Instr-F.Bin x0) h n = Related.bin
+  layer_rel (Instr-F.RefNull x0) h n = Related.ref_null
+  layer_rel Instr-F.RefIsNull h n = Related.ref_is_null
+  layer_rel (Instr-F.RefFunc x0) h n = Related.ref_func n
+  layer_rel (Instr-F.MemoryInit x0 x1) h n = Related.memory_init n.0 n.1
+  layer_rel (Instr-F.DataDrop x0) h n = Related.data_drop n
+  layer_rel (Instr-F.MemoryCopy x0 x1) h n = Related.memory_copy n.0 n.1
+  layer_rel (Instr-F.MemoryFill x0) h n = Related.memory_fill n
+  layer_rel (Instr-F.TableInit x0 x1) h n = Related.table_init n.0 n.1
+  layer_rel (Instr-F.ElemDrop x0) h n = Related.elem_drop n
+  layer_rel (Instr-F.TableCopy x0 x1) h n = Related.table_copy n.0 n.1
+  layer_rel (Instr-F.TableGrow x0) h n = Related.table_grow n
+  layer_rel (Instr-F.TableSize x0) h n = Related.table_size n
+  layer_rel (Instr-F.TableFill x0) h n = Related.table_fill n
 
-  names : (o : Instr) → Layers (LayerNames R m x y) o → LayerNames R m x y (out-Instr o)
-  names (Block' b s c) h = h.0
-  names (Loop' b s c) h = h.0
-  names (If' b s c t d) h = h.0
-  names _ h = h
+  plain_rel : (o : Instr) → HoldsNone (out-Instr o) → LayerNames R m x y (out-Instr o) → OpRel R x y false (out-Instr o) (out-Instr (renumbered m o))
+  plain_rel o h n = rw (fold_out-Instr Instr (renumber_step m) o) (layer_rel (out-Instr o) h n)
 
-  whole : (o : Instr) → Layers (LayerNames R m x y) o → Held (out-Instr o) → OpRel R x y false (out-Instr o) (out-Instr (renumbered m o))
-  whole o n h = rw (fold_out-Instr Instr (renumber_step m) o) (layer_rel (out-Instr o) (names o n) h)
+  -- one instruction before the rest
+  one_rel : (o p : Instr) (code c d : List Instr) → code ≡ p ∷ [] → OpRel R x y false (out-Instr o) (out-Instr p) → CodeRel R x y c d → CodeRel R x y (o ∷ c) (code ++ d)
+  one_rel o p code c d e h k = subst (λ z. CodeRel R x y (o ∷ c) (z ++ d)) (sym e) (then h k)
 
-  mutual
+  module _ (listed : List ℕ) (codes : Codes) (there : AreReplaced R listed x) where
+    -- a call of a function that is on the list, or not
+    call_rel : (b : Bool) (f : ℕ) (code c d : List Instr) → is_among listed f ≡ b → (b ≡ false → LayerNames R m x y (out-Instr (Call f))) → CallReplaced m b codes f code → CodeRel R x y c d →
+        CodeRel R x y (Call f ∷ c) (code ++ d)
     unfolding out-Instr denote.Hole.Carrier.out
+    call_rel true f code c d w q k h = let (a, found, free) = there f w in instead code refl found free h
+    call_rel false f code c d w q k h = one_rel (Call f) (renumbered m (Call f)) code c d k (plain_rel (Call f) tt (q refl)) h
 
-    held : (o : Instr) → Layers (LayerNames R m x y) o → Held (out-Instr o)
-    held (Block' b s c) h = rw (items_shown-the_row-Instr-0 s c) (row_rel c h.1)
-    held (Loop' b s c) h = rw (items_shown-the_row-Instr-0 s c) (row_rel c h.1)
-    held (If' b s c t d) h = (rw (items_shown-the_row-Instr-0 s c) (row_rel c h.1), rw (items_shown-the_row-Instr-0 t d) (row_rel d h.2))
-    held _ h = tt
+    mutual
+      unfolding out-Instr denote.Hole.Carrier.out
 
-    row_rel : {n : _} (r : Row_of-Instr n) → RowLayers (LayerNames R m x y) r → CodeRel R x y (items-the_row-Instr n r) (renumbered_all m (items-the_row-Instr n r))
-    row_rel end_of-Instr h = end
-    row_rel (more_of-Instr o r) h = then (whole o h.0 (held o h.0)) (row_rel r h.1)
+      stands_rel : (o : Instr) (code c d : List Instr) → Layers (OthersNamed R m listed x y) o → StandsFor m listed codes o code → CodeRel R x y c d → CodeRel R x y (o ∷ c) (code ++ d)
+      stands_rel (Block' ty n body) code c d q (b, k, e) h =
+          let held : CodeRel R x y (shown-the_row-Instr-0 n body) b = rw (items_shown-the_row-Instr-0 n body) (row_rel body b q.1 k) in
+          one_rel (Block' ty n body) (Block (new_type m ty) b) code c d e (rw (i.outs-Block (new_type m ty) b) (Related.block (block_rel ty (q.0 refl)) held)) h
+      stands_rel (Loop' ty n body) code c d q (b, k, e) h =
+          let held : CodeRel R x y (shown-the_row-Instr-0 n body) b = rw (items_shown-the_row-Instr-0 n body) (row_rel body b q.1 k) in
+          one_rel (Loop' ty n body) (Loop (new_type m ty) b) code c d e (rw (i.outs-Loop (new_type m ty) b) (Related.loop (block_rel ty (q.0 refl)) held)) h
+      stands_rel (If' ty n body l other) code c d q (b, o, k, z, e) h =
+          let held : CodeRel R x y (shown-the_row-Instr-0 n body) b = rw (items_shown-the_row-Instr-0 n body) (row_rel body b q.1 k) in
+          let others : CodeRel R x y (shown-the_row-Instr-0 l other) o = rw (items_shown-the_row-Instr-0 l other) (row_rel other o q.2 z) in
+          one_rel (If' ty n body l other) (If (new_type m ty) b o) code c d e (rw (i.outs-If (new_type m ty) b o) (Related.if_else (block_rel ty (q.0 refl)) held others)) h
+      stands_rel (Call f) code c d q k h = call_rel (is_among listed f) f code c d refl q k h
+      stands_rel o code c d q k h = one_rel o (renumbered m o) code c d k (plain_rel o tt (q refl)) h
 
-  pub renumbered_rel : (os : List Instr) → ListLayers (LayerNames R m x y) os → CodeRel R x y os (renumbered_all m os)
-  renumbered_rel [] h = end
-  renumbered_rel (o ∷ os) h = then (whole o h.0 (held o h.0)) (renumbered_rel os h.1)
+      row_rel : {n : _} (r : Row_of-Instr n) (js : List Instr) → RowLayers (OthersNamed R m listed x y) r → RowReplaced m listed codes r js → CodeRel R x y (items-the_row-Instr n r) js
+      row_rel end_of-Instr js q k = subst (CodeRel R x y []) (sym k) end
+      row_rel (more_of-Instr o r) js q (code, rest, k, z, e) =
+          subst (CodeRel R x y (o ∷ items-the_row-Instr _ r)) (sym e) (stands_rel o code (items-the_row-Instr _ r) rest q.0 k (row_rel r rest q.1 z))
+
+    pub replaced_rel : (os js : List Instr) → ListLayers (OthersNamed R m listed x y) os → Replaced m listed codes os js → CodeRel R x y os js
+    replaced_rel [] js q k = subst (CodeRel R x y []) (sym k) end
+    replaced_rel (o ∷ os) js q (code, rest, k, z, e) = subst (CodeRel R x y (o ∷ os)) (sym e) (stands_rel o code os rest q.0 k (replaced_rel os rest q.1 z))
+
+pub renumbered_rel : (R : Pairing) (m : Remap) (x y : Inst) (os : List Instr) → ListLayers (LayerNames R m x y) os → CodeRel R x y os (renumbered_all m os)
+renumbered_rel R m x y os h =
+    replaced_rel R m x y [] (λ f. []) (λ f k. absurd (true≢false (sym k))) os (renumbered_all m os) (all_follow (LayerNames R m x y) (OthersNamed R m [] x y) (λ l n e. n) os h) (unlisted_renumbered m (λ f. []) os)

@@ -1,5 +1,5 @@
 -- What a body names: each index and its entry in the map stand for addresses that code may name as one, and for equal types.
-use Rattle.std.specs.Prelude.{ℕ, List, [], ◌∷◌, slice_index}
+use Rattle.std.specs.Prelude.{List, [], ◌∷◌, slice_index}
 use Rattle.wasm_tree.specs.declared.types.BlockType.{BlockType}
 use Rattle.wasm_tree.specs.declared.types.BlockType.TheVariants as bt
 use Rattle.wasm_tree.specs.declared.instr.Instr.{Instr, out-Instr, Row_of-Instr, end_of-Instr, more_of-Instr, Block', Loop', If'}

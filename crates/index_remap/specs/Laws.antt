@@ -7,10 +7,14 @@ use Rattle.wasm_meaning.specs.State.{Inst, Store, Entry, Running, Mark, Opening,
 use Rattle.wasm_meaning.specs.Step.{act, step, to_mark}
 use Rattle.wasm_meaning.specs.Run.{Run, tick, events_of}
 use Rattle.index_remap.specs.RelatedRuns.{RunRel, OutRel, KeepsOthers, IsBegun}
+use Rattle.wasm_tree.specs.declared.types.ValType.{ValType}
 use Rattle.wasm_tree.specs.declared.instr.Instr.{Instr}
+use Rattle.wasm_typing.specs.Typing.{Context, WellTyped}
 use Rattle.index_remap.specs.declared.remap.Remap.{Remap}
 use Rattle.index_remap.specs.Renumbered.{renumbered_all}
 use Rattle.index_remap.specs.CodeNames.{LayerNames, ListLayers}
+use Rattle.index_remap.specs.Agreement.{SameFrame}
+use Rattle.index_remap.specs.Replaced.{Codes, Replaced, OthersAgree, OthersNamed, AreReplaced, CodesHaveTypes}
 use Rattle.index_remap.specs.Related.{CodeRel, Kind, Funcs, Tables, Mems, Globals, Elems, Datas, Pairing, OneToOne, ResRel, ListRel, StoreRel, EntryRel, NextRel, TopSkips, TopKnown}
 
 -- the addresses that pass the first test are related, and code may name as one those that pass the second; of the functions of a list only the types are known,
@@ -65,6 +69,24 @@ abbrev pub TrapsAgree : Type 0
 TrapsAgree =
     (of named : Kind → ℕ → ℕ → Bool) (l : List ℕ) (s t : Store) (es fs cs ds : List Entry) → ListRel (EntryRel (passed of named l)) es fs → HasMark es →
     ResRel (MarksAgree (passed of named l) cs ds s t) (to_mark (es ++ cs)) (to_mark (fs ++ ds))
+
+-- A body that is well typed stays so where its indices are replaced by their entries, and calls of the functions of a list by code of the same type: the indices
+-- that the other instructions name agree with their entries.
+abbrev pub TypingIsKept : Type 0
+TypingIsKept =
+    (m : Remap) (listed : List ℕ) (codes : Codes) (c d : Context) (is js : List Instr) (ps rs : List ValType) → SameFrame c d → ListLayers (OthersAgree m listed c d) is → CodesHaveTypes listed codes c d →
+    Replaced m listed codes is js → WellTyped c is ps rs → WellTyped d js ps rs
+
+-- Such code is related, where each index that the other instructions name and its entry stand for addresses that code may name as one, and for equal types, and
+-- each function on the list is at an address of which other code may stand for calls.
+abbrev pub ReplacedCodeIsRelated : Type 0
+ReplacedCodeIsRelated =
+    (of named : Kind → ℕ → ℕ → Bool) (l : List ℕ) (m : Remap) (i j : Inst) (listed : List ℕ) (codes : Codes) (is js : List Instr) → ListLayers (OthersNamed (passed of named l) m listed i j) is →
+    AreReplaced (passed of named l) listed i → Replaced m listed codes is js → CodeRel (passed of named l) i j is js
+
+-- With no function on the list such code is the body with other indices.
+abbrev pub UnlistedAreRenumbered : Type 0
+UnlistedAreRenumbered = (m : Remap) (codes : Codes) (is : List Instr) → Replaced m [] codes is (renumbered_all m is)
 
 -- Code whose indices are replaced by their entries is related, where each index and its entry stand for addresses that code may name as one, and for equal types.
 abbrev pub RenumberedCodeIsRelated : Type 0

@@ -22,7 +22,7 @@ use Rattle.wasm_meaning.specs.Laws.{EndsArePaths}
 use Rattle.wasm_meaning.specs.World.{numbers, elems_before, datas_before}
 use Rattle.wasm_meaning.specs.Linking.{Part, Kind, Functions, Tables, Memories, Globals, then_some, module_at}
 use Rattle.index_remap.specs.declared.remap.Remap.{Remap}
-use Rattle.remap_typing.specs.Agreement.{Keeps}
+use Rattle.index_remap.specs.Agreement.{Keeps}
 use Rattle.remap_typing.specs.Trees.{TreesAgree, Covers}
 use Rattle.merge_terms.specs.Merged.{merged, map_of, merged_elem, merged_data, by_part, new_index}
 use Rattle.merge_validity.proofs.Lists.{there, then_is, within, index_at, map_at, map_back, numbers_at, numbers_many, split, chosen_from}

@@ -1,15 +1,20 @@
 -- Where all that has an entry agrees with it and each index that a body names has one, what the body names agrees.
-use Rattle.std.proofs.Common.{◌≡◌, Bool, true, List, [], ◌∷◌, sym, ◌∙◌}
+use Rattle.std.proofs.Common.{◌≡◌, Bool, true, true≢false, List, [], ◌∷◌, sym, ◌∙◌}
 use Rattle.std.proofs.lemmas.Bool.{ltb-true}
+use Rattle.wasm_tree.specs.declared.types.ValType.{ValType}
 use Rattle.wasm_tree.specs.declared.types.BlockType.{BlockType}
 use Rattle.wasm_tree.specs.declared.types.BlockType.TheVariants as bt
 use Rattle.wasm_tree.specs.declared.instr.Instr.{Instr, fold_out-Instr, map-Instr, out-Instr, Row_of-Instr, items-the_row-Instr, end_of-Instr, more_of-Instr, Block', Loop', If'}
 use Rattle.wasm_tree.specs.declared.instr.Instr.TheOpen.{Instr-F}
-use Rattle.wasm_typing.specs.Typing.{Context}
+use Rattle.wasm_typing.specs.Typing.{Context, WellTyped}
 use Rattle.index_remap.specs.declared.remap.Remap.{Remap}
-use Rattle.index_remap.specs.Renumbered.{fits, fits_all, fits_step, fits_type}
+use Rattle.index_remap.specs.Renumbered.{fits, fits_all, fits_step, fits_type, renumbered_all}
 use Rattle.index_remap.specs.CodeNames.{Layers, RowLayers, ListLayers}
-use Rattle.remap_typing.specs.Agreement.{AgreesAlong, BlockAgrees, LayerAgrees}
+use Rattle.index_remap.specs.Agreement.{BlockAgrees, LayerAgrees, SameFrame}
+use Rattle.index_remap.specs.Replaced.{OthersAgree}
+use Rattle.index_remap.specs.Laws.{TypingIsKept, UnlistedAreRenumbered}
+use Rattle.index_remap.proofs.Unlisted.{all_follow}
+use Rattle.remap_typing.specs.Along.{AgreesAlong}
 use Rattle.remap_typing.proofs.Lists.{left_true, right_true}
 use Rattle.remap_typing.proofs.Rows.{block_fits, loop_fits, if_fits}
 
@@ -65,3 +70,13 @@ module _ (m : Remap) (c d : Context) (k : AgreesAlong m c d) where
   pub all_along : (is : List Instr) → fits_all m is ≡ true → ListLayers (LayerAgrees m c d) is
   all_along [] h = tt
   all_along (i ∷ is) h = (instr_along i (left_true _ _ h), all_along is (right_true _ _ h))
+
+-- ---- the law of code in which calls are replaced, with no function on the list ----
+
+module _ (typed : TypingIsKept) (unlisted : UnlistedAreRenumbered) where
+  pub kept_by_index : (m : Remap) (c d : Context) (is : List Instr) (ps rs : List ValType) → SameFrame c d → ListLayers (LayerAgrees m c d) is → WellTyped c is ps rs → WellTyped d (renumbered_all m is) ps rs
+  kept_by_index m c d is ps rs same h =
+      typed m [] (λ f. []) c d is (renumbered_all m is) ps rs same (all_follow (LayerAgrees m c d) (OthersAgree m [] c d) (λ l k e. k) is h) (λ f code k. absurd (true≢false (sym k))) (unlisted m (λ f. []) is)
+
+  pub kept_along : (m : Remap) (c d : Context) (is : List Instr) (ps rs : List ValType) → AgreesAlong m c d → fits_all m is ≡ true → WellTyped c is ps rs → WellTyped d (renumbered_all m is) ps rs
+  kept_along m c d is ps rs k h = kept_by_index m c d is ps rs k.frame (all_along m c d k is h)

@@ -32,7 +32,7 @@ use Rattle.wasm_valid.specs.Named.{const_func, elem_refs, global_refs, export_re
 use Rattle.wasm_valid.specs.SpaceTypes.{elem_types}
 use Rattle.wasm_valid.specs.Validity.{HoldsAt, ImportHolds, InSpace, ElemModeHolds, DataModeHolds, IsSingle, IsValid, body_context, count_of}
 use Rattle.index_remap.specs.References.{refs_all, body_refs, offset_func, offset_refs, outside_refs, is_among, declared_refs, declaring, with_declared, declared}
-use Rattle.remap_typing.specs.Agreement.{Keeps}
+use Rattle.index_remap.specs.Agreement.{Keeps}
 use Rattle.remap_typing.specs.ButForReferences.{any_named, HoldsButForReferences, IsValidButForReferences}
 use Rattle.remap_typing.proofs.Lists.{two_cases, both_true, found, get_front, get_last, get_each, each_within, among_left, among_right, among_either, among_joined, joined_among, chosen_among, marked, is_marked, named_within, left_either, right_either}
 use Rattle.remap_typing.proofs.NamedFuncs.{typed_named, typed_wider}

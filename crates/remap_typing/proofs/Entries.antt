@@ -12,8 +12,8 @@ use Rattle.wasm_tree.specs.declared.instr.Instr.TheVariants.{Block', Loop', If',
 use Rattle.wasm_typing.specs.Typing.{Stack, Effect, Context, Signature, signature_in, signature_of, both, effect_of, Fits, Leads, LeadsAll, WellTyped}
 use Rattle.index_remap.specs.declared.remap.Remap.{Remap}
 use Rattle.index_remap.specs.Renumbered.{has, fits, fits_all, fits_step, fits_type}
-use Rattle.remap_typing.specs.Agreement.{CoversContext}
-use Rattle.remap_typing.proofs.Bodies.{labelled}
+use Rattle.remap_typing.specs.Along.{CoversContext}
+use Rattle.index_remap.specs.Agreement.{labelled}
 use Rattle.remap_typing.proofs.Lists.{left_true, right_true, both_true, has_at, map_there, then_there, only_true, only_rest}
 use Rattle.remap_typing.proofs.Rows.{block_fits, loop_fits, if_fits}
 

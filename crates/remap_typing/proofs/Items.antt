@@ -7,6 +7,7 @@ use Rattle.wasm_tree.specs.declared.types.RefType.{RefType}
 use Rattle.wasm_tree.specs.declared.types.ValType.{ValType}
 use Rattle.wasm_tree.specs.declared.types.ValType.TheVariants.{Ref}
 use Rattle.wasm_tree.specs.declared.types.FuncType.{FuncType}
+use Rattle.wasm_tree.specs.declared.instr.Instr.{Instr}
 use Rattle.wasm_tree.specs.declared.module.ImportDesc.{ImportDesc}
 use Rattle.wasm_tree.specs.declared.module.ImportDesc.TheVariants as im
 use Rattle.wasm_tree.specs.declared.module.ExportDesc.{ExportDesc}
@@ -28,16 +29,15 @@ use Rattle.wasm_valid.specs.SpaceTypes.{table_types}
 use Rattle.wasm_valid.specs.Validity.{HoldsAt, ImportHolds, InSpace, ElemModeHolds, DataModeHolds, body_context}
 use Rattle.index_remap.specs.declared.remap.Remap.{Remap}
 use Rattle.index_remap.specs.Renumbered.{fits_all, fits_const, fits_import_desc, fits_export_desc, new_const, new_func, new_import_desc, new_export_desc, renumbered_all}
-use Rattle.remap_typing.specs.Agreement.{AgreesAlong}
+use Rattle.remap_typing.specs.Along.{AgreesAlong}
 use Rattle.remap_typing.specs.Trees.{TreesAgree, RefsAgree, ReadsImport, ConstStands, ElemModeStands, DataModeStands, ItemStands, active, passive, declarative}
 use Rattle.remap_typing.specs.ButForReferences.{any_named, HoldsButForReferences}
 use Rattle.remap_typing.proofs.Lists.{left_true, right_true, place_kept, get_each, named_within}
-use Rattle.remap_typing.proofs.Keeping.{keeps_then, keeps_only, and_keeps}
-use Rattle.remap_typing.proofs.Along.{all_along}
-use Rattle.remap_typing.proofs.Bodies.{typing_kept}
+use Rattle.index_remap.proofs.Keeping.{keeps_then, keeps_only, and_keeps}
 
-pub body_kept : (m : Remap) (c d : Context) (is : List _) (ps rs : List ValType) → AgreesAlong m c d → IsTrue (fits_all m is) → WellTyped c is ps rs → WellTyped d (renumbered_all m is) ps rs
-body_kept m c d is ps rs k h w = typing_kept m c d is ps rs k.frame (all_along m c d k is h) w
+-- bodies stay well typed
+abbrev pub BodiesAreKept : Type 0
+BodiesAreKept = (m : Remap) (c d : Context) (is : List Instr) (ps rs : List ValType) → AgreesAlong m c d → IsTrue (fits_all m is) → WellTyped c is ps rs → WellTyped d (renumbered_all m is) ps rs
 
 module _ (m : Remap) (t u : Module) (k : TreesAgree m t u) where
   pub const_kept : (e : ConstExpr) → IsTrue (fits_const m e) → ReadsImport m u e → ConstStands t u e (new_const m e)
@@ -145,18 +145,18 @@ module _ (m : Remap) (t u : Module) (k : TreesAgree m t u) where
       (b, new, data_mode_kept a.mode b.mode mode (subst (λ w. DataModeHolds t w.mode) same p))
   item_kept kind.Body i j o s p = absurd o
 
-  pub items_kept : (n : ItemKind) (i j : ℕ) → RefsAgree m t u → ItemStands m t u n i j → HoldsAt t n i → HoldsAt u n j
-  items_kept kind.Body i j r (f, at, h, new) (z, ft, it, ty, w) =
+  pub items_kept : BodiesAreKept → (n : ItemKind) (i j : ℕ) → RefsAgree m t u → ItemStands m t u n i j → HoldsAt t n i → HoldsAt u n j
+  items_kept law kind.Body i j r (f, at, h, new) (z, ft, it, ty, w) =
       let same : z ≡ f = cc in
       let ty' : slice_get t.types f.ty ≡ Some ft = subst (λ (g : Func). slice_get t.types g.ty ≡ Some ft) same ty in
       let w' : WellTyped (body_context t f ft) f.body [] ft.results = subst (λ (g : Func). WellTyped (body_context t g ft) g.body [] ft.results) same w in
-      (new_func m f, ft, new, k.types f.ty (ltb-true _ _ (left_true _ _ h)) ft ty', body_kept m (body_context t f ft) (body_context u (new_func m f) ft) f.body [] ft.results (agrees f ft r) (right_true _ _ h) w')
-  items_kept n i j r s p = item_kept n i j tt s p
+      (new_func m f, ft, new, k.types f.ty (ltb-true _ _ (left_true _ _ h)) ft ty', law m (body_context t f ft) (body_context u (new_func m f) ft) f.body [] ft.results (agrees f ft r) (right_true _ _ h) w')
+  items_kept law n i j r s p = item_kept n i j tt s p
 
-  pub items_weakly : (n : ItemKind) (i j : ℕ) → ItemStands m t u n i j → HoldsAt t n i → HoldsButForReferences u n j
-  items_weakly kind.Body i j (f, at, h, new) (z, ft, it, ty, w) =
+  pub items_weakly : BodiesAreKept → (n : ItemKind) (i j : ℕ) → ItemStands m t u n i j → HoldsAt t n i → HoldsButForReferences u n j
+  items_weakly law kind.Body i j (f, at, h, new) (z, ft, it, ty, w) =
       let same : z ≡ f = cc in
       let ty' : slice_get t.types f.ty ≡ Some ft = subst (λ (g : Func). slice_get t.types g.ty ≡ Some ft) same ty in
       let w' : WellTyped (body_context t f ft) f.body [] ft.results = subst (λ (g : Func). WellTyped (body_context t g ft) g.body [] ft.results) same w in
-      (new_func m f, ft, new, k.types f.ty (ltb-true _ _ (left_true _ _ h)) ft ty', body_kept m (body_context t f ft) (any_named (body_context u (new_func m f) ft)) f.body [] ft.results (any_agrees f ft) (right_true _ _ h) w')
-  items_weakly n i j s p = item_kept n i j tt s p
+      (new_func m f, ft, new, k.types f.ty (ltb-true _ _ (left_true _ _ h)) ft ty', law m (body_context t f ft) (any_named (body_context u (new_func m f) ft)) f.body [] ft.results (any_agrees f ft) (right_true _ _ h) w')
+  items_weakly law n i j s p = item_kept n i j tt s p

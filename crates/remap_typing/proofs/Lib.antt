@@ -1,9 +1,5 @@
 pub mod Lists
-pub mod Keeping
 pub mod Rows
-pub mod Bodies
-pub mod Lower
-pub mod Replacing
 pub mod Along
 pub mod Entries
 pub mod Items

@@ -10,7 +10,7 @@ use Rattle.wasm_typing.specs.Typing.{map_option, then_option, only}
 use Rattle.index_remap.specs.Renumbered.{all_true, has}
 use Rattle.index_remap.specs.References.{is_among}
 use Rattle.wasm_valid.specs.Named.{named_from}
-use Rattle.remap_typing.specs.Agreement.{Keeps}
+use Rattle.index_remap.specs.Agreement.{Keeps}
 
 pub left_true : (a b : Bool) → a && b ≡ true → a ≡ true
 left_true false b h = cc

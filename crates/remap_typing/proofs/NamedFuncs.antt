@@ -6,13 +6,15 @@ use Rattle.wasm_tree.specs.declared.types.ValType.{ValType}
 use Rattle.wasm_tree.specs.declared.types.BlockType.{BlockType}
 use Rattle.wasm_tree.specs.declared.instr.Instr.{Instr, fold_out-Instr, map-Instr, out-Instr, Row_of-Instr, items-the_row-Instr, end_of-Instr, more_of-Instr, the_lemmas}
 use Rattle.wasm_tree.specs.declared.instr.Instr.TheVariants.{Block, Block', Loop, Loop', If, If', RefFunc, TableInit, ElemDrop}
-use Rattle.wasm_typing.specs.Typing.{Stack, Effect, Context, effect_of, Fits, Leads, LeadsAll, WellTyped}
+use Rattle.wasm_typing.specs.Typing.{Stack, Effect, Context, effect_of, Ends, Fits, Leads, LeadsAll, WellTyped}
 use Rattle.index_remap.specs.References.{refs, refs_all, refs_step, is_among}
-use Rattle.remap_typing.specs.Agreement.{Keeps}
-use Rattle.remap_typing.proofs.Bodies.{labelled, ends_map}
-use Rattle.remap_typing.proofs.Keeping.{keeps_map, keeps_only, both_keeps, named_keeps}
+use Rattle.index_remap.specs.Agreement.{Keeps, labelled}
+use Rattle.index_remap.proofs.Keeping.{keeps_map, keeps_only, both_keeps, named_keeps}
 use Rattle.remap_typing.proofs.Lists.{then_there, only_true, either_true, left_either, same_number, among_left, among_right, among_either}
-use Rattle.remap_typing.proofs.Rows.{block_is, loop_is, if_is}
+use Rattle.index_remap.proofs.Rows.{block_is, loop_is, if_is}
+
+ends_map : (f g : Stack → Stack → Type 0) (ps rs : List ValType) → ((s t : Stack) → f s t → g s t) → Ends f ps rs → Ends g ps rs
+ends_map f g ps rs k (last, l, a) = (last, k _ last l, a)
 
 of_Block : (bt : BlockType) (is : List Instr) → refs (Block bt is) ≡ refs_all is
 of_Block bt is = search (rules, the_lemmas)

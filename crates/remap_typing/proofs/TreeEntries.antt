@@ -33,7 +33,7 @@ use Rattle.wasm_valid.specs.SpaceTypes.{table_types}
 use Rattle.wasm_valid.specs.Validity.{HoldsAt, ImportHolds, InSpace, ElemModeHolds, DataModeHolds, IsValid, body_context, count_of, start_count}
 use Rattle.index_remap.specs.declared.remap.Remap.{Remap}
 use Rattle.index_remap.specs.Renumbered.{has, fits_const, fits_func, fits_import, fits_import_desc, fits_global, fits_export, fits_export_desc, fits_elem, fits_elem_mode, fits_data, fits_data_mode, fits_start, fits_tree}
-use Rattle.remap_typing.specs.Agreement.{CoversContext}
+use Rattle.remap_typing.specs.Along.{CoversContext}
 use Rattle.remap_typing.specs.Trees.{Covers}
 use Rattle.remap_typing.proofs.Lists.{both_true, has_at, all_got, then_there, only_true}
 use Rattle.remap_typing.proofs.Entries.{body_fits}

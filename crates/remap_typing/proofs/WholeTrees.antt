@@ -27,7 +27,7 @@ use Rattle.index_remap.specs.Renumbered.{all_true, has, fits_const, fits_func, f
 use Rattle.index_remap.specs.References.{is_among}
 use Rattle.remap_typing.specs.Trees.{TreesAgree, RefsAgree, ImportsAgree, ReadsImport, ConstStands, ElemModeStands, DataModeStands, ItemsStand, ItemStands, active, passive, declarative}
 use Rattle.remap_typing.proofs.Lists.{left_true, right_true, found, get_map, all_get, among_map, marked, is_marked, named_within, then_there, only_true}
-use Rattle.remap_typing.proofs.Items.{const_kept, items_kept}
+use Rattle.remap_typing.proofs.Items.{BodiesAreKept, const_kept, items_kept}
 
 -- a tree is valid exactly where each item holds
 abbrev pub ValidWhereItemsHold : Type 0
@@ -188,6 +188,6 @@ module _ (m : Remap) (t : Module) (k : TreesAgree m t (renumbered_tree m t)) (im
       let f = got (new_func m) t.funcs i lt in
       (f.0, f.1, all_get (fits_func m) t.funcs i f.0 parts.1 f.1, get_map (new_func m) t.funcs i f.0 f.1)
 
-  pub tree_valid : ValidWhereItemsHold → IsValid t → IsValid u
-  tree_valid law valid =
-      (law u).1 (λ n i lt. let holds = (law t).0 valid n i (subst (λ z. i < z) (count_stays m t n) lt) in items_kept m t u k n i i refs_agree (stands n i lt holds) holds)
+  pub tree_valid : ValidWhereItemsHold → BodiesAreKept → IsValid t → IsValid u
+  tree_valid law bodies valid =
+      (law u).1 (λ n i lt. let holds = (law t).0 valid n i (subst (λ z. i < z) (count_stays m t n) lt) in items_kept m t u k bodies n i i refs_agree (stands n i lt holds) holds)

@@ -1,4 +1,3 @@
-pub mod Agreement
+pub mod Along
 pub mod Trees
 pub mod ButForReferences
-pub mod Replaced

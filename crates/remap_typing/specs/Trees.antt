@@ -21,7 +21,7 @@ use Rattle.wasm_valid.specs.Named.{named_of}
 use Rattle.wasm_valid.specs.SpaceTypes.{table_types, elem_types}
 use Rattle.index_remap.specs.declared.remap.Remap.{Remap}
 use Rattle.index_remap.specs.Renumbered.{fits_import_desc, fits_export_desc, fits_func, new_import_desc, new_export_desc, new_func}
-use Rattle.remap_typing.specs.Agreement.{Keeps}
+use Rattle.index_remap.specs.Agreement.{Keeps}
 
 -- each index of t that has an entry stands in u, by its entry, for what has the same type; of other indices nothing is said
 pub record TreesAgree (m : Remap) (t u : Module) : Type 0 where

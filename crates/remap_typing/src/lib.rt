@@ -15,26 +15,27 @@ ghost use Rattle.index_remap.specs.declared.remap.Remap.{Remap};
 ghost use Rattle.index_remap.specs.Renumbered.{renumbered_all, renumbered_tree, new_const, fits_all, fits_const, fits_tree};
 ghost use Rattle.index_remap.specs.CodeNames.{ListLayers};
 ghost use Rattle.index_remap.specs.References.{declared};
-ghost use Rattle.remap_typing.specs.Agreement.{AgreesAlong, CoversContext, LayerAgrees, SameFrame};
-ghost use Rattle.remap_typing.specs.Replaced.{Codes, CodesHaveTypes, OthersAgree, Replaced};
+ghost use Rattle.index_remap.specs.Agreement.{LayerAgrees, SameFrame};
+ghost use Rattle.remap_typing.specs.Along.{AgreesAlong, CoversContext};
 ghost use Rattle.remap_typing.specs.Trees.{ConstStands, Covers, ImportsAgree, ItemStands, ReadsImport, RefsAgree, TreesAgree};
 ghost use Rattle.remap_typing.specs.ButForReferences.{HoldsButForReferences, IsValidButForReferences};
 
+use index_remap::{renumbered_code_is_related, steps_agree};
 use wasm_valid::valid_where_items_hold;
 
 /// A body that is well typed stays so where each index is replaced by its entry (WebAssembly Core 2.0, section 3.3): where all that has an entry agrees with
-/// it and each index that the body names has one (`bodies`), or where the indices that the body names agree with their entries (`by_index`). It stays so as
-/// well where other code stands in place of each call of a function of a list, in blocks too: code that has the type of that function, whatever labels stand
-/// around it. The index of such a call needs no entry; the indices that the other instructions name agree with theirs (`replaced`). A constant expression
-/// keeps its type likewise (`constants`). What is well typed names only indices of its spaces (`entries`, `tree_entries`).
+/// it and each index that the body names has one (`bodies`), or where the indices that the body names agree with their entries (`by_index`). This is the clause
+/// `typed` of `steps_agree` where no call is replaced. A constant expression keeps its type likewise (`constants`). What is well typed names only indices of its
+/// spaces (`entries`, `tree_entries`).
 pub fn renumbering_keeps_typing()
     ensures bodies { (m : Remap) (c d : Context) (is : List Instr) (ps rs : List ValType) → AgreesAlong m c d → IsTrue (fits_all m is) → WellTyped c is ps rs → WellTyped d (renumbered_all m is) ps rs }
     ensures by_index { (m : Remap) (c d : Context) (is : List Instr) (ps rs : List ValType) → SameFrame c d → ListLayers (LayerAgrees m c d) is → WellTyped c is ps rs → WellTyped d (renumbered_all m is) ps rs }
-    ensures replaced { (m : Remap) (listed : List ℕ) (codes : Codes) (c d : Context) (is js : List Instr) (ps rs : List ValType) → SameFrame c d → ListLayers (OthersAgree m listed c d) is → CodesHaveTypes listed codes c d → Replaced m listed codes is js → WellTyped c is ps rs → WellTyped d js ps rs }
     ensures constants { (m : Remap) (t u : Module) (e : ConstExpr) → TreesAgree m t u → IsTrue (fits_const m e) → ReadsImport m u e → ConstStands t u e (new_const m e) }
     ensures entries { (m : Remap) (c : Context) (is : List Instr) (ps rs : List ValType) → CoversContext m c → WellTyped c is ps rs → IsTrue (fits_all m is) }
     ensures tree_entries { (m : Remap) (t : Module) → IsValid t → Covers m t → IsTrue (fits_tree m t) }
 {
+    steps_agree();
+    renumbered_code_is_related();
     valid_where_items_hold();
 }
 
@@ -45,6 +46,7 @@ pub fn renumbered_trees_are_valid()
     ensures undeclared { (m : Remap) (t u : Module) (k : ItemKind) (i j : ℕ) → TreesAgree m t u → ItemStands m t u k i j → HoldsAt t k i → HoldsButForReferences u k j }
     ensures trees { (m : Remap) (t : Module) → IsValid t → IsTrue (fits_tree m t) → TreesAgree m t (renumbered_tree m t) → ImportsAgree m t (renumbered_tree m t) → IsValid (renumbered_tree m t) }
 {
+    renumbering_keeps_typing();
     valid_where_items_hold();
 }
 

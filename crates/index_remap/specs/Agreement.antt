@@ -1,7 +1,8 @@
--- When two contexts have the same along a map of indices: at each index and at its entry (WebAssembly Core 2.0, section 3.1.1).
-use Rattle.std.specs.Prelude.{◌≡◌, ℕ, ◌<◌, ◌≤◌, true, length, Option, Some, slice_get, slice_index, option_and_then}
+-- When two contexts have the same at an index and at its entry in a map (WebAssembly Core 2.0, section 3.1.1).
+use Rattle.std.specs.Prelude.{◌≡◌, ℕ, ◌<◌, true, List, Option, Some, slice_get, slice_index, option_and_then}
 use Rattle.wasm_tree.specs.declared.types.BlockType.{BlockType}
 use Rattle.wasm_tree.specs.declared.types.BlockType.TheVariants as bt
+use Rattle.wasm_tree.specs.declared.types.ValType.{ValType}
 use Rattle.wasm_tree.specs.declared.types.FuncType.{FuncType}
 use Rattle.wasm_tree.specs.declared.instr.Instr.{Instr}
 use Rattle.wasm_tree.specs.declared.instr.Instr.TheOpen.{Instr-F}
@@ -44,7 +45,7 @@ DataAgrees m c d i = i < c.datas → slice_index m.datas i < d.datas
 abbrev pub RefAgrees : Remap → Context → Context → ℕ → Type 0
 RefAgrees m c d i = slice_get c.named i ≡ Some true → slice_get d.named (slice_index m.funcs i) ≡ Some true
 
--- ---- all of them ----
+-- ---- the frame ----
 
 -- the same locals, results and labels, which a map of indices leaves
 pub record SameFrame (c d : Context) : Type 0 where
@@ -52,29 +53,9 @@ pub record SameFrame (c d : Context) : Type 0 where
   pub results : c.results ≡ d.results
   pub labels : c.labels ≡ d.labels
 
--- each index that has an entry agrees with it; of other indices nothing is said
-pub record AgreesAlong (m : Remap) (c d : Context) : Type 0 where
-  pub types : (i : ℕ) → i < length m.types → TypeAgrees m c d i
-  pub funcs : (i : ℕ) → i < length m.funcs → FuncAgrees m c d i
-  pub tables : (i : ℕ) → i < length m.tables → TableAgrees m c d i
-  pub memories : (i : ℕ) → i < length m.mems → MemoryAgrees m c d i
-  pub globals : (i : ℕ) → i < length m.globals → GlobalAgrees m c d i
-  pub elems : (i : ℕ) → i < length m.elems → ElemAgrees m c d i
-  pub datas : (i : ℕ) → i < length m.datas → DataAgrees m c d i
-  pub refs : (i : ℕ) → i < length m.funcs → RefAgrees m c d i
-  pub frame : SameFrame c d
-
--- the lists of the map are at least as long as the spaces of the context
-pub record CoversContext (m : Remap) (c : Context) : Type 0 where
-  pub types : length c.types ≤ length m.types
-  pub funcs : length c.funcs ≤ length m.funcs
-  pub tables : length c.tables ≤ length m.tables
-  pub memories : c.memories ≤ length m.mems
-  pub globals : length c.globals ≤ length m.globals
-  pub elems : length c.elems ≤ length m.elems
-  pub datas : c.datas ≤ length m.datas
-  -- so that `ref.func` names functions of the space
-  pub refs : length c.named ≤ length m.funcs
+-- the context with these labels
+abbrev pub labelled : Context → List (List ValType) → Context
+labelled c ls = record c { labels = ls }
 
 -- ---- the indices that one instruction names ----
 

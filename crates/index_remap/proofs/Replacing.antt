@@ -13,12 +13,12 @@ use Rattle.index_remap.specs.Renumbered.{new_type, renumbered}
 use Rattle.index_remap.specs.References.{is_among}
 use Rattle.index_remap.specs.CodeNames.{Layers, RowLayers, ListLayers}
 use Rattle.index_remap.proofs.Rel.{append_rel}
-use Rattle.remap_typing.specs.Agreement.{BlockAgrees, LayerAgrees, SameFrame}
-use Rattle.remap_typing.specs.Replaced.{Codes, CallReplaced, StandsFor, RowReplaced, Replaced, OthersAgree, CodesHaveTypes}
-use Rattle.remap_typing.proofs.Bodies.{labelled, plain_kept, type_kept}
-use Rattle.remap_typing.proofs.Keeping.{then_is}
-use Rattle.remap_typing.proofs.Lower.{Lower, lower_self, lower_on, lower_match, match_lower, fits_lower, leads_lower, leads_over, leads_on}
-use Rattle.remap_typing.proofs.Rows.{row_typed}
+use Rattle.index_remap.specs.Agreement.{BlockAgrees, LayerAgrees, SameFrame, labelled}
+use Rattle.index_remap.specs.Replaced.{Codes, CallReplaced, StandsFor, RowReplaced, Replaced, OthersAgree, CodesHaveTypes}
+use Rattle.index_remap.proofs.Instructions.{plain_kept, type_kept}
+use Rattle.index_remap.proofs.Keeping.{then_is}
+use Rattle.index_remap.proofs.Lower.{Lower, lower_self, lower_on, lower_match, match_lower, fits_lower, leads_lower, leads_over, leads_on}
+use Rattle.index_remap.proofs.Rows.{row_typed}
 
 -- the type of a call is that of its function
 call_type : (o : Option FuncType) (e : Effect) → gives_of (signature_in o) ≡ Some e → (t : FuncType) × (o ≡ Some t) × (Gives t.params t.results ≡ e)

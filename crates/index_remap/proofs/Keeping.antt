@@ -6,7 +6,7 @@ use Rattle.wasm_tree.specs.declared.types.RefType.TheVariants.{Func}
 use Rattle.wasm_tree.specs.declared.types.ValType.TheVariants.{Ref}
 use Rattle.wasm_tree.specs.declared.types.FuncType.{FuncType}
 use Rattle.wasm_typing.specs.Typing.{Gives, signature_in, map_option, then_option, only, both}
-use Rattle.remap_typing.specs.Agreement.{Keeps}
+use Rattle.index_remap.specs.Agreement.{Keeps}
 
 pub keeps_map : {A B : Type 0} (f : A → B) (m n : Option A) → Keeps m n → Keeps (map_option f m) (map_option f n)
 keeps_map f None n k y h = cc

@@ -6,10 +6,14 @@ use Rattle.wasm_tree.specs.declared.instr.Instr.{Instr, Row_of-Instr, end_of-Ins
 use Rattle.wasm_tree.specs.declared.instr.Instr.TheOpen.{Instr-F}
 use Rattle.wasm_tree.specs.declared.instr.Instr.TheVariants.{Block, Block', Loop, Loop', If, If', Call}
 use Rattle.wasm_typing.specs.Typing.{Context, WellTyped}
+use Rattle.wasm_meaning.specs.Outcomes.{Gives, at}
+use Rattle.wasm_meaning.specs.State.{Inst}
 use Rattle.index_remap.specs.declared.remap.Remap.{Remap}
 use Rattle.index_remap.specs.Renumbered.{new_type, renumbered}
 use Rattle.index_remap.specs.References.{is_among}
-use Rattle.remap_typing.specs.Agreement.{LayerAgrees, func_type}
+use Rattle.index_remap.specs.CodeNames.{LayerNames}
+use Rattle.index_remap.specs.Related.{Pairing}
+use Rattle.index_remap.specs.Agreement.{LayerAgrees, func_type, labelled}
 
 -- ---- what stands for the instructions of a body ----
 
@@ -42,7 +46,7 @@ abbrev pub Replaced : Remap → List ℕ → Codes → List Instr → List Instr
 Replaced m listed codes [] js = js ≡ []
 Replaced m listed codes (i ∷ is) js = (code rest : List Instr) × StandsFor m listed codes i code × Replaced m listed codes is rest × (js ≡ code ++ rest)
 
--- ---- what it needs to stay well typed ----
+-- ---- the other instructions ----
 
 abbrev pub calls_listed : List ℕ → Instr-F Instr → Bool
 calls_listed listed (Instr-F.Call f) = is_among listed f
@@ -52,9 +56,19 @@ calls_listed listed _ = false
 abbrev pub OthersAgree : Remap → List ℕ → Context → Context → Instr-F Instr → Type 0
 OthersAgree m listed c d l = calls_listed listed l ≡ false → LayerAgrees m c d l
 
+-- each index that the layer itself names and its entry stand for addresses that code may name as one, and for equal types; again but the function of such a call
+abbrev pub OthersNamed : Pairing → Remap → List ℕ → Inst → Inst → Instr-F Instr → Type 0
+OthersNamed R m listed i j l = calls_listed listed l ≡ false → LayerNames R m i j l
+
+-- each function on the list is at an address of which other code may stand for calls
+abbrev pub AreReplaced : Pairing → List ℕ → Inst → Type 0
+AreReplaced R listed i = (f : ℕ) → IsTrue (is_among listed f) → (a : ℕ) × (at i.funcs f ≡ Gives a) × R.replaced a
+
+-- ---- what it needs to stay well typed ----
+
 -- the code has in d the type that the function has in c, whatever labels stand around it
 abbrev pub HasTypeOf : Context → Context → ℕ → List Instr → Type 0
-HasTypeOf c d f code = (t : FuncType) → func_type c f ≡ Some t → (labels : List (List ValType)) → WellTyped (record d { labels = labels }) code t.params t.results
+HasTypeOf c d f code = (t : FuncType) → func_type c f ≡ Some t → (labels : List (List ValType)) → WellTyped (labelled d labels) code t.params t.results
 
 -- each code of each function on the list has its type
 abbrev pub CodesHaveTypes : List ℕ → Codes → Context → Context → Type 0

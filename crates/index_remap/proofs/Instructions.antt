@@ -1,4 +1,4 @@
--- Bodies stay well typed where each index that they name agrees with its entry.
+-- An instruction without a body keeps its type where each index that it names agrees with its entry, and a block the one of its block type.
 use Rattle.std.proofs.Common.{◌≡◌, ℕ, ◌^◌, true, nat_lt, nat_le, List, [], ◌∷◌, Some, sym, ap, ◌∙◌, subst}
 use Rattle.std.specs.Prelude.{slice_get, slice_index}
 use Rattle.std.proofs.lemmas.Bool.{ltb-true, lt-ltb}
@@ -6,17 +6,14 @@ use Rattle.wasm_tree.specs.declared.types.ValType.{ValType}
 use Rattle.wasm_tree.specs.declared.types.BlockType.{BlockType}
 use Rattle.wasm_tree.specs.declared.types.BlockType.TheVariants as bt
 use Rattle.wasm_tree.specs.declared.instr.MemArg.{MemArg}
-use Rattle.wasm_tree.specs.declared.instr.Instr.{Instr, fold_out-Instr, map-Instr, out-Instr, Row_of-Instr, items-the_row-Instr, end_of-Instr, more_of-Instr}
-use Rattle.wasm_tree.specs.declared.instr.Instr.TheViews.{outs-Block', outs-Loop', outs-If'}
+use Rattle.wasm_tree.specs.declared.instr.Instr.{Instr, fold_out-Instr, map-Instr, out-Instr}
 use Rattle.wasm_tree.specs.declared.instr.Instr.TheVariants.{Block', Loop', If', Return, Call, CallIndirect, LocalGet, LocalSet, LocalTee, GlobalGet, GlobalSet, TableGet, TableSet, Load, Store, MemorySize, MemoryGrow, RefFunc, MemoryInit, DataDrop, MemoryCopy, MemoryFill, TableInit, ElemDrop, TableCopy, TableGrow, TableSize, TableFill}
 use Rattle.wasm_typing.specs.Ops.{load_width, store_width}
-use Rattle.wasm_typing.specs.Typing.{Stack, operands, Effect, Gives, Leaves, Acts, Context, signature_of, map_option, then_option, fits_memory, effect_of, Ends, Fits, Leads, LeadsAll, WellTyped}
+use Rattle.wasm_typing.specs.Typing.{Stack, Effect, Gives, Leaves, Acts, Context, signature_of, map_option, then_option, fits_memory, effect_of, Fits}
 use Rattle.index_remap.specs.declared.remap.Remap.{Remap}
-use Rattle.index_remap.specs.Renumbered.{new_type, new_memarg, renumber_step, renumbered, renumbered_all}
-use Rattle.index_remap.specs.CodeNames.{Layers, RowLayers, ListLayers}
-use Rattle.remap_typing.specs.Agreement.{Keeps, BlockAgrees, FuncAgrees, LayerAgrees, MemoryAgrees, DataAgrees, SameFrame}
-use Rattle.remap_typing.proofs.Keeping.{keeps_map, keeps_then, keeps_only, keeps_signature, and_keeps, both_keeps, named_keeps, then_is}
-use Rattle.remap_typing.proofs.Rows.{row_typed, block_renumbered, loop_renumbered, if_renumbered}
+use Rattle.index_remap.specs.Renumbered.{new_type, new_memarg, renumber_step, renumbered}
+use Rattle.index_remap.specs.Agreement.{Keeps, BlockAgrees, FuncAgrees, LayerAgrees, MemoryAgrees, DataAgrees, labelled}
+use Rattle.index_remap.proofs.Keeping.{keeps_map, keeps_then, keeps_only, keeps_signature, and_keeps, both_keeps, named_keeps, then_is}
 
 -- an instruction without a body fits where its type acts
 fits_plain : (c : Context) (i : Instr) (s t : Stack) (e : Effect) → effect_of c i ≡ Some e → Acts e s t → Fits c i s t
@@ -24,13 +21,6 @@ fits_plain c (Block' bt n body) s t e h a = absurd cc
 fits_plain c (Loop' bt n body) s t e h a = absurd cc
 fits_plain c (If' bt n body k other) s t e h a = absurd cc
 fits_plain c i s t e h a = (e, h, a)
-
-pub ends_map : (f g : Stack → Stack → Type 0) (ps rs : List ValType) → ((s t : Stack) → f s t → g s t) → Ends f ps rs → Ends g ps rs
-ends_map f g ps rs k (last, l, a) = (last, k _ last l, a)
-
--- the context with these labels
-abbrev pub labelled : Context → List (List ValType) → Context
-labelled c ls = record c { labels = ls }
 
 module _ (m : Remap) (c d : Context) (locals : c.locals ≡ d.locals) (results : c.results ≡ d.results) where
   memory_keeps : (x : ℕ) → MemoryAgrees m c d x → nat_lt x c.memories ≡ true → nat_lt (slice_index m.mems x) d.memories ≡ true
@@ -87,32 +77,3 @@ module _ (m : Remap) (c d : Context) (locals : c.locals ≡ d.locals) (results :
   pub plain_kept : (ls : List (List ValType)) (i : Instr) (s t : Stack) → LayerAgrees m c d (out-Instr i) → (e : Effect) → effect_of (labelled c ls) i ≡ Some e → Acts e s t → Fits (labelled d ls) (renumbered m i) s t
   plain_kept ls i s t q e h a =
       fits_plain (labelled d ls) (renumbered m i) s t e (ap (effect_of (labelled d ls)) (fold_out-Instr Instr (renumber_step m) i) ∙ effect_at ls i q e h) a
-
-  mutual
-    fits_kept : (ls : List (List ValType)) (i : Instr) (s t : Stack) → Layers (LayerAgrees m c d) i → Fits (labelled c ls) i s t → Fits (labelled d ls) (renumbered m i) s t
-    fits_kept ls (Block' bt n body) s t q (f, e, l, a) =
-        let here : BlockAgrees m c d bt = subst (LayerAgrees m c d) (outs-Block' bt n body) q.0 in
-        let g = ends_map _ _ f.params f.results (leads_kept (f.results ∷ ls) body q.1) l in
-        subst (λ j. Fits (labelled d ls) j s t) (sym (block_renumbered m bt n body)) (f, type_kept bt here f e, row_typed (labelled d (f.results ∷ ls)) (renumbered_all m (items-the_row-Instr _ body)) f.params f.results g, a)
-    fits_kept ls (Loop' bt n body) s t q (f, e, l, a) =
-        let here : BlockAgrees m c d bt = subst (LayerAgrees m c d) (outs-Loop' bt n body) q.0 in
-        let g = ends_map _ _ f.params f.results (leads_kept (f.params ∷ ls) body q.1) l in
-        subst (λ j. Fits (labelled d ls) j s t) (sym (loop_renumbered m bt n body)) (f, type_kept bt here f e, row_typed (labelled d (f.params ∷ ls)) (renumbered_all m (items-the_row-Instr _ body)) f.params f.results g, a)
-    fits_kept ls (If' bt n body k other) s t q (f, e, l, o, a) =
-        let here : BlockAgrees m c d bt = subst (LayerAgrees m c d) (outs-If' bt n body k other) q.0 in
-        let g = ends_map _ _ f.params f.results (leads_kept (f.results ∷ ls) body q.1) l in
-        let p = ends_map _ _ f.params f.results (leads_kept (f.results ∷ ls) other q.2) o in
-        subst (λ j. Fits (labelled d ls) j s t) (sym (if_renumbered m bt n body k other)) (f, type_kept bt here f e, row_typed (labelled d (f.results ∷ ls)) (renumbered_all m (items-the_row-Instr _ body)) f.params f.results g, row_typed (labelled d (f.results ∷ ls)) (renumbered_all m (items-the_row-Instr _ other)) f.params f.results p, a)
-    fits_kept ls i s t q h = plain_kept ls i s t q h.0 h.1 h.2
-
-    leads_kept : {n : _} (ls : List (List ValType)) (is : Row_of-Instr n) → RowLayers (LayerAgrees m c d) is → (s t : Stack) → Leads (labelled c ls) is s t → LeadsAll (labelled d ls) (renumbered_all m (items-the_row-Instr n is)) s t
-    leads_kept ls end_of-Instr q s t h = h
-    leads_kept ls (more_of-Instr i is) q s t (u, f, l) = (u, fits_kept ls i s u q.0 f, leads_kept ls is q.1 u t l)
-
-  all_kept : (ls : List (List ValType)) (is : List Instr) → ListLayers (LayerAgrees m c d) is → (s t : Stack) → LeadsAll (labelled c ls) is s t → LeadsAll (labelled d ls) (renumbered_all m is) s t
-  all_kept ls [] q s t h = h
-  all_kept ls (i ∷ is) q s t (u, f, l) = (u, fits_kept ls i s u q.0 f, all_kept ls is q.1 u t l)
-
-pub typing_kept : (m : Remap) (c d : Context) (is : List Instr) (ps rs : List ValType) → SameFrame c d → ListLayers (LayerAgrees m c d) is → WellTyped c is ps rs → WellTyped d (renumbered_all m is) ps rs
-typing_kept m c d is ps rs k q (last, l, a) =
-    (last, subst (λ ls. LeadsAll (labelled d ls) (renumbered_all m is) (operands ps) last) k.labels (all_kept m c d k.locals k.results c.labels is q (operands ps) last l), a)
