@@ -1,11 +1,11 @@
 -- Lists that are joined by part, read at a place and made one part after the other.
-use Rattle.std.proofs.Common.{◌≡◌, ◌∙◌, sym, ap, refl, ℕ, zero, suc, ◌+◌, ◌<◌, ◌≤◌, List, [], ◌∷◌, ◌++◌, length, map, take, arith, slice_get, slice_index, Option, Some, None, append_assoc, append-nil, add-one}
+use Rattle.std.proofs.Common.{◌≡◌, ◌∙◌, sym, ap, refl, ℕ, zero, suc, ◌+◌, ◌<◌, ◌≤◌, List, [], ◌∷◌, ◌++◌, length, map, take, arith, slice_get, slice_index, Some, append_assoc, append-nil}
 use Rattle.std.specs.Option.{option_map}
 use Rattle.std.proofs.lemmas.List.{length-map, length-append, take_all}
 use Rattle.std.specs.List.{flat_map}
 use Rattle.std.proofs.lemmas.Option.{slice_get-map, slice_get_within, get_or_from_slice_get}
 use Rattle.wasm_tree.specs.declared.module.Module.{Module}
-use Rattle.wasm_meaning.specs.Linking.{Part, Site, place, then_some, module_at, import_at, sites_in}
+use Rattle.wasm_meaning.specs.Linking.{Part, Site, place, module_at, sites_in}
 use Rattle.merge_terms.specs.declared.parts.Part as declared
 use Rattle.merge_terms.specs.Parts.{named_module, named_modules}
 use Rattle.merge_terms.specs.Linked.{by_import_from, by_import}

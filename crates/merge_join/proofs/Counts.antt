@@ -1,5 +1,5 @@
 -- How many stay or are defined before a place.
-use Rattle.std.proofs.Common.{◌≡◌, ◌∙◌, sym, ap, refl, ℕ, zero, suc, ◌+◌, ◌<◌, ◌≤◌, ◌^◌, List, [], ◌∷◌, ◌++◌, length, map, take, arith, Bool, true, false, cond, Some, append_assoc, append-nil}
+use Rattle.std.proofs.Common.{◌≡◌, ◌∙◌, sym, ap, refl, ℕ, zero, suc, ◌+◌, ◌<◌, ◌≤◌, List, [], ◌∷◌, ◌++◌, length, take, arith, Bool, true, false, cond, Some, append_assoc, append-nil}
 use Rattle.std.specs.Prelude.{filter}
 use Rattle.std.proofs.lemmas.List.{length-append, take_all}
 use Rattle.std.proofs.lemmas.List.Elements.{filter-append}
@@ -8,8 +8,7 @@ use Rattle.wasm_meaning.specs.World.{defined_count, defined_before, elems_before
 use Rattle.wasm_meaning.specs.Linking.{Part, Site, Kind, then_some, module_at, imports_of, sites_in, sites_from, sites}
 use Rattle.merge_terms.specs.declared.parts.Part as declared
 use Rattle.merge_terms.specs.Parts.{named_modules}
-use Rattle.merge_terms.specs.Merged.{or_this, by_part_from, staying_of, imported_count}
-use Rattle.merge_terms.specs.Joined.{FewInAll}
+use Rattle.merge_terms.specs.Merged.{or_this, staying_of, imported_count}
 use Rattle.merge_join.specs.Words.{site}
 use Rattle.merge_join.specs.Spaces.{picked, sites_before, count_before}
 use Rattle.merge_join.proofs.ByPart.{named_length, part_more}

@@ -1,18 +1,15 @@
 -- The map of a part has an entry for each index of the part's index spaces.
-use Rattle.std.proofs.Common.{◌≡◌, ◌∙◌, sym, ap, refl, subst, ℕ, zero, suc, ◌+◌, ◌<◌, ◌≤◌, List, [], ◌∷◌, length, map, arith, slice_get, Some, Bool, true, false, ◌&&◌, true≢false}
+use Rattle.std.proofs.Common.{◌≡◌, ◌∙◌, sym, ap, refl, subst, ℕ, zero, suc, ◌+◌, ◌<◌, List, [], ◌∷◌, length, map, arith, Some, Bool, true, false, ◌&&◌, true≢false}
 use Rattle.std.specs.Prelude.{slice_index, IsTrue, nat_lt}
 use Rattle.std.proofs.lemmas.Bool.Decides.{nat_tests}
 use Rattle.std.proofs.lemmas.List.{length-map}
 use Rattle.wasm_tree.specs.declared.module.Module.{Module}
-use Rattle.wasm_tree.specs.Spaces.{funcs_of, tables_of, memories_of, globals_of}
-use Rattle.wasm_meaning.specs.World.{numbers, elems_before, datas_before}
-use Rattle.wasm_meaning.specs.Linking.{Part, Functions, module_at}
+use Rattle.wasm_tree.specs.Spaces.{funcs_of}
+use Rattle.wasm_meaning.specs.World.{numbers}
+use Rattle.wasm_meaning.specs.Linking.{Part, Functions}
 use Rattle.index_remap.specs.declared.remap.Remap.{Remap}
 use Rattle.index_remap.specs.Renumbered.{all_true, fits_import, fits_func, fits_global, fits_export, fits_start, fits_elem, fits_data, fits_tree}
-use Rattle.remap_typing.specs.Trees.{Covers}
-use Rattle.merge_terms.specs.Merged.{map_of, new_index, place_of_type, start_of}
-use Rattle.merge_join.specs.Words.{AreMaps}
-use Rattle.merge_join.proofs.ByPart.{each_at}
+use Rattle.merge_terms.specs.Merged.{map_of, new_index, start_of}
 
 numbers_length : (from count : ℕ) → length (numbers from count) ≡ count
 numbers_length from zero = refl

@@ -1,6 +1,5 @@
 -- Ends as they are written down.
-use Rattle.std.proofs.Common.{◌≡◌, ◌∙◌, sym, ap, refl, ℕ, List, Bool, true, false, cond, Option, Some, None, eqb, arith}
-use Rattle.std.specs.Prelude.{nat_eq}
+use Rattle.std.proofs.Common.{◌≡◌, ap, refl, ℕ, List, Bool, false, Option, Some, None, eqb, arith}
 use Rattle.std.specs.Option.{option_map, unwrap_or}
 use Rattle.std.proofs.lemmas.Bool.Decides.{nat_tests}
 use Rattle.wasm_meaning.specs.Linking as linking

@@ -1,5 +1,5 @@
 -- Where linking finds no fault, each import's end is there, and of the import's kind.
-use Rattle.std.proofs.Common.{◌≡◌, ◌∙◌, sym, ap, refl, subst, inl, inr, ◌⊎◌, ℕ, zero, suc, ◌+◌, ◌<◌, List, [], ◌∷◌, ◌++◌, length, arith, slice_get, Bool, true, false, cond, Option, Some, None}
+use Rattle.std.proofs.Common.{◌≡◌, ◌∙◌, sym, ap, refl, subst, inl, inr, ◌⊎◌, ℕ, zero, suc, ◌<◌, List, [], ◌∷◌, ◌++◌, length, arith, slice_get, Bool, true, false, cond, Option, Some, None}
 use Rattle.std.specs.Prelude.{option_and_then}
 use Rattle.std.specs.Option.{option_map}
 use Rattle.std.proofs.lemmas.Option.{slice_get_within}
@@ -13,13 +13,12 @@ use Rattle.wasm_tree.specs.Spaces.{funcs_of, tables_of, memories_of, globals_of,
 use Rattle.wasm_meaning.specs.Linking as linking
 use Rattle.wasm_meaning.specs.Linking.{Part, Site, Entity, Kind, Functions, Tables, Memories, Globals, place, then_some, module_at, import_at, kind_of_import, kind_of_export, index_of_export, same_kind, has_kind, sites, end_of, linked_end, gathered, gathered_at, first_site, stays_as, same_memory, same_pair, pair_of, is_outside}
 use Rattle.merge_terms.specs.declared.links.End.{End}
-use Rattle.merge_terms.specs.declared.links.End.TheVariants.{Defined, Outside}
 use Rattle.merge_terms.specs.declared.faults.LinkFault.{LinkFault}
-use Rattle.merge_terms.specs.declared.faults.LinkFault.TheVariants.{ImportMismatch, ImportCycle}
+use Rattle.merge_terms.specs.declared.faults.LinkFault.TheVariants.{ImportMismatch}
 use Rattle.wasm_meaning.specs.World.{or_false}
 use Rattle.merge_terms.specs.Faults.{External, FuncOf, TableOf, MemoryOf, GlobalOf, asked, asked_at, external_of, found, same_but_limits, meets_limits, suits, is_suited, or_else, first_fault, end_fault, import_fault, link_fault}
 use Rattle.merge_terms.specs.Linked.{end_entry}
-use Rattle.merge_join.specs.Words.{site, space_size, IsSite, IsEnd}
+use Rattle.merge_join.specs.Words.{site, space_size, IsEnd}
 use Rattle.merge_join.specs.Spaces.{sites_before}
 use Rattle.merge_join.proofs.Sites.{sites_split}
 use Rattle.merge_join.proofs.SpaceSizes.{funcs_size, tables_size, memories_size, globals_size}

@@ -1,5 +1,5 @@
 -- Types that are added where they are not there yet, looked up by their texts.
-use Rattle.std.proofs.Common.{◌≡◌, ◌∙◌, sym, ap, refl, inl, inr, ℕ, zero, suc, ◌+◌, List, [], ◌∷◌, ◌++◌, length, arith, ◌≤◌, Bool, true, false, cond, is_some, Option, Some, None, ◌||◌}
+use Rattle.std.proofs.Common.{◌≡◌, ◌∙◌, sym, ap, refl, inl, inr, ℕ, suc, ◌+◌, List, [], ◌∷◌, ◌++◌, length, arith, ◌≤◌, Bool, true, false, cond, is_some, Option, Some, None, ◌||◌}
 use Rattle.std.specs.List.{list_any}
 use Rattle.std.specs.Str.{bytes_eq}
 use Rattle.std.proofs.lemmas.Bool.{cases_Bool}
@@ -8,7 +8,7 @@ use Rattle.std.proofs.lemmas.Slice.Eq.{bytes_eq-Decides}
 use Rattle.wasm_tree.specs.declared.types.FuncType.{FuncType}
 use Rattle.wasm_meaning.specs.Linking.{first_place}
 use Rattle.wasm_meaning.specs.Values.{same_func_type}
-use Rattle.merge_terms.specs.Merged.{or_this, with_type, with_types}
+use Rattle.merge_terms.specs.Merged.{with_type, with_types}
 use Rattle.merge_join.specs.Texts.{text_of_type}
 use Rattle.merge_join.proofs.TypeTexts.{same_by_text}
 

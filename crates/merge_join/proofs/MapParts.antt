@@ -1,10 +1,9 @@
 -- The map of a part, from its lists.
-use Rattle.std.proofs.Common.{◌≡◌, ◌∙◌, sym, ap, refl, subst, ℕ, List, length, map, Some}
-use Rattle.wasm_tree.specs.declared.types.FuncType.{FuncType}
+use Rattle.std.proofs.Common.{◌≡◌, ◌∙◌, sym, ap, subst, ℕ, List, length, map, Some}
 use Rattle.wasm_tree.specs.declared.module.Module.{Module}
 use Rattle.wasm_tree.specs.Spaces.{funcs_of, tables_of, memories_of, globals_of}
 use Rattle.wasm_meaning.specs.World.{numbers, elems_before, datas_before}
-use Rattle.wasm_meaning.specs.Linking.{Part, Kind, Functions, Tables, Memories, Globals, module_at, first_place}
+use Rattle.wasm_meaning.specs.Linking.{Part, Functions, Tables, Memories, Globals, module_at, first_place}
 use Rattle.wasm_meaning.specs.Values.{same_func_type}
 use Rattle.index_remap.specs.declared.remap.Remap.{Remap}
 use Rattle.merge_terms.specs.declared.parts.Part as declared

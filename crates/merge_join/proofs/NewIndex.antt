@@ -1,19 +1,18 @@
 -- The new index of an entry of a part's index space.
-use Rattle.std.proofs.Common.{◌≡◌, ◌∙◌, sym, ap, refl, ℕ, zero, suc, ◌+◌, ◌-◌, ◌<◌, ◌≤◌, List, [], ◌∷◌, ◌++◌, length, map, take, arith, slice_get, Bool, true, false, cond, Option, Some, None}
+use Rattle.std.proofs.Common.{◌≡◌, ◌∙◌, sym, ap, refl, ℕ, zero, suc, ◌+◌, ◌≤◌, List, [], ◌∷◌, ◌++◌, length, map, take, arith, slice_get, Bool, true, false, cond, Option, Some, None}
 use Rattle.std.specs.Option.{option_map}
-use Rattle.std.proofs.lemmas.List.{map_push, map-append}
-use Rattle.wasm_tree.specs.declared.module.ExportDesc.{ExportDesc}
+use Rattle.std.proofs.lemmas.List.{map-append}
 use Rattle.wasm_tree.specs.declared.module.Module.{Module}
 use Rattle.wasm_meaning.specs.World.{defined_before, numbers}
 use Rattle.wasm_meaning.specs.Linking as linking
 use Rattle.wasm_meaning.specs.Linking.{Part, Site, Entity, Kind, Functions, Tables, Memories, Globals, place, places, then_some, module_at, kind_of_export, index_of_export, imports_of, imported_as, linked_end}
 use Rattle.merge_terms.specs.declared.links.End.{End}
 use Rattle.merge_terms.specs.Linked.{end_entry}
-use Rattle.merge_terms.specs.Merged.{or_this, staying_of, imported_count, place_of_end, entry_of, end_from, entry_end, new_index}
+use Rattle.merge_terms.specs.Merged.{or_this, staying_of, place_of_end, entry_of, end_from, new_index}
 use Rattle.merge_join.specs.Words.{site, place_at}
 use Rattle.merge_join.proofs.Counts.{imported_is}
 use Rattle.merge_join.proofs.Ends.{place_is}
-use Rattle.merge_join.proofs.NumberLists.{numbers_more, numbers_split, numbers_length}
+use Rattle.merge_join.proofs.NumberLists.{numbers_split}
 
 kind_is : (k : Kind) (i : ℕ) → kind_of_export (entry_of k i) ≡ k
 kind_is Functions i = refl

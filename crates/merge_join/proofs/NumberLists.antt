@@ -1,5 +1,5 @@
 -- Numbers from one on.
-use Rattle.std.proofs.Common.{◌≡◌, ◌∙◌, sym, ap, refl, ℕ, zero, suc, ◌+◌, ◌<◌, List, [], ◌∷◌, ◌++◌, length, arith, slice_get, Some}
+use Rattle.std.proofs.Common.{◌≡◌, ◌∙◌, ap, refl, ℕ, zero, suc, ◌+◌, [], ◌∷◌, ◌++◌, length, arith}
 use Rattle.wasm_meaning.specs.World.{numbers}
 
 numbers_push : (n i : ℕ) → numbers n (suc i) ≡ numbers n i ++ (n + i) ∷ []

@@ -1,9 +1,8 @@
 -- What the outcome of joining says.
-use Rattle.std.proofs.Common.{◌≡◌, ◌∙◌, sym, ap, refl, Option, Some, None, Result, Ok, Err}
+use Rattle.std.proofs.Common.{◌≡◌, ◌∙◌, ap, refl, Option, Some, None, Ok, Err}
 use Rattle.wasm_tree.specs.declared.which.Which.{Which}
 use Rattle.wasm_tree.specs.declared.module.Module.{Module}
 use Rattle.wasm_meaning.specs.State.{Text}
-use Rattle.merge_terms.specs.declared.faults.JoinFault.{JoinFault}
 use Rattle.merge_terms.specs.declared.faults.JoinFault.TheVariants.{ExportConflict, TooMany}
 use Rattle.merge_terms.specs.Joined.{outcome}
 

@@ -1,5 +1,5 @@
 -- What holds where a call gave a value.
-use Rattle.std.proofs.Common.{◌≡◌, Bool, true, false, Ok, Err, Result, OnOk}
+use Rattle.std.proofs.Common.{◌≡◌, false, Ok, Err, Result, OnOk}
 use Rattle.std.specs.Result.{is_err}
 
 pub on_ok : {T E : Type 0} (r : Result T E) (P : Type 0) → is_err r ≡ false → OnOk r P → P

@@ -1,10 +1,8 @@
 -- Rows with an entry for each import, read at an import.
-use Rattle.std.proofs.Common.{◌≡◌, ◌∙◌, sym, ap, refl, subst, ℕ, zero, suc, ◌+◌, ◌<◌, ◌≤◌, List, [], ◌∷◌, ◌++◌, length, map, arith, slice_get, get_or, Option, Some, None}
-use Rattle.std.specs.Option.{option_map}
+use Rattle.std.proofs.Common.{◌≡◌, ◌∙◌, sym, ap, refl, ℕ, zero, suc, ◌<◌, List, [], ◌∷◌, length, map, arith, slice_get, get_or, Option, Some, None}
 use Rattle.std.proofs.lemmas.List.{length-map}
-use Rattle.std.proofs.lemmas.Option.{slice_get-map, slice_get_within, slice_get-get_or, get_or_from_slice_get}
-use Rattle.wasm_tree.specs.declared.module.Module.{Module}
-use Rattle.wasm_meaning.specs.Linking.{Part, Site, module_at, sites_in}
+use Rattle.std.proofs.lemmas.Option.{slice_get_within, get_or_from_slice_get}
+use Rattle.wasm_meaning.specs.Linking.{Part, Site, sites_in}
 use Rattle.merge_terms.specs.Linked.{by_import}
 use Rattle.merge_join.specs.Words.{site, IsSite}
 use Rattle.merge_join.proofs.ByPart.{row_at, entry_at, sites_in_length}

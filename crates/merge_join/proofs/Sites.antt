@@ -1,20 +1,16 @@
 -- The imports of all parts, one after the other, and those of a kind that stay.
-use Rattle.std.proofs.Common.{◌≡◌, ◌∙◌, sym, ap, refl, inl, inr, ℕ, zero, suc, ◌+◌, ◌-◌, ◌<◌, ◌≤◌, List, [], ◌∷◌, ◌++◌, length, map, take, arith, slice_get, Bool, true, false, cond, Option, Some, None, append_assoc, append-nil, eqb}
-use Rattle.std.specs.Prelude.{filter, nat_eq}
+use Rattle.std.proofs.Common.{◌≡◌, ◌∙◌, sym, ap, refl, inl, inr, ℕ, zero, suc, ◌+◌, ◌-◌, ◌<◌, ◌≤◌, List, [], ◌∷◌, ◌++◌, length, take, arith, slice_get, Bool, true, false, cond, Some, None, append_assoc}
+use Rattle.std.specs.Prelude.{filter}
 use Rattle.std.proofs.lemmas.Bool.{cases_Bool}
 use Rattle.std.proofs.lemmas.Bool.Decides.{nat_tests}
-use Rattle.std.proofs.lemmas.List.{length-append, take_all, length_push}
+use Rattle.std.proofs.lemmas.List.{length-append}
 use Rattle.std.proofs.lemmas.List.Elements.{filter-append}
-use Rattle.wasm_tree.specs.declared.module.Import.{Import}
 use Rattle.wasm_tree.specs.declared.module.Module.{Module}
-use Rattle.wasm_meaning.specs.Linking.{Part, Site, Kind, place, places, then_some, module_at, import_at, kind_of_import, same_kind, has_kind, same_site, first_place, sites_in, sites_from, sites}
-use Rattle.merge_terms.specs.declared.parts.Part as declared
-use Rattle.merge_terms.specs.Parts.{named_modules}
+use Rattle.wasm_meaning.specs.Linking.{Part, Site, Kind, places, module_at, same_site, first_place, sites_in, sites_from, sites}
 use Rattle.merge_terms.specs.Faults.{stays}
 use Rattle.merge_terms.specs.Merged.{by_part_from, by_part, staying, staying_of, imports_kind}
 use Rattle.merge_join.specs.Words.{site}
 use Rattle.merge_join.specs.Spaces.{staying_place, picked, sites_before, count_before}
-use Rattle.merge_join.proofs.ByPart.{part_more, part_all, part_room}
 
 -- ---- places of a kind ----
 

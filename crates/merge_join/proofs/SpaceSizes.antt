@@ -1,5 +1,5 @@
 -- The sizes of the index spaces, by what is imported and what is defined.
-use Rattle.std.proofs.Common.{◌≡◌, ◌∙◌, sym, ap, refl, ℕ, zero, suc, ◌+◌, ◌<◌, List, [], ◌∷◌, ◌++◌, length, map, arith, Bool, true, false, cond, is_some, Option, Some, None}
+use Rattle.std.proofs.Common.{◌≡◌, ◌∙◌, ap, refl, ℕ, suc, ◌+◌, List, [], ◌∷◌, length, map, Bool, true, false, cond, is_some, Option, Some, None}
 use Rattle.std.specs.List.{filter_map, cons_option}
 use Rattle.std.proofs.lemmas.List.{length-append, length-map}
 use Rattle.wasm_tree.specs.declared.module.Import.{Import}
@@ -7,7 +7,7 @@ use Rattle.wasm_tree.specs.declared.module.ImportDesc.{ImportDesc}
 use Rattle.wasm_tree.specs.declared.module.ImportDesc.TheVariants as im
 use Rattle.wasm_tree.specs.declared.module.Module.{Module}
 use Rattle.wasm_tree.specs.Spaces.{func_of, table_of, memory_of, global_of, imported_funcs, imported_tables, imported_memories, imported_globals, funcs_of, tables_of, memories_of, globals_of}
-use Rattle.wasm_meaning.specs.Linking.{Kind, Functions, Tables, Memories, Globals, places, has_kind, kind_of_import, same_kind}
+use Rattle.wasm_meaning.specs.Linking.{Functions, Tables, Memories, Globals, places, has_kind, kind_of_import, same_kind}
 use Rattle.merge_join.specs.Words.{space_size}
 
 count_same : {A : Type 0} (h : Import → Option A) (is : Import → Bool) → ((i : Import) → is_some (h i) ≡ is i) → (xs : List Import) (n : ℕ) → length (filter_map h xs) ≡ length (places is xs n)

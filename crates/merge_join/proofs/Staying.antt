@@ -8,7 +8,7 @@ use Rattle.wasm_tree.specs.declared.module.ImportDesc.{ImportDesc}
 use Rattle.wasm_tree.specs.declared.module.ImportDesc.TheVariants as im
 use Rattle.wasm_tree.specs.declared.module.Module.{Module}
 use Rattle.wasm_meaning.specs.State.{Text}
-use Rattle.wasm_meaning.specs.Linking.{Part, Site, place, then_some, module_at, import_at, limits_of, met_limits, sites_in, sites_from, sites}
+use Rattle.wasm_meaning.specs.Linking.{Part, Site, place, then_some, module_at, import_at, limits_of, met_limits, sites_in, sites_from}
 use Rattle.index_remap.specs.declared.remap.Remap.{Remap}
 use Rattle.merge_terms.specs.Faults.{stays, kept_limits}
 use Rattle.merge_terms.specs.Merged.{by_part_from, by_part, map_of, merged_desc, merged_import, staying}

@@ -1,6 +1,5 @@
 -- Where the plain spelling of a module has fewer than 2^32 bytes, each vector and each written size is below 2^32.
-use Rattle.std.proofs.Common.{◌≡◌, ℕ, zero, suc, ◌+◌, ◌<◌, ◌≤◌, ◌^◌, List, [], ◌∷◌, ◌++◌, map, length, length-append, Bool, true, false, ◌&&◌, refl, sym, ap, ◌∙◌, subst, arith, append-nil, ⊎_elim}
-use Rattle.std.proofs.lemmas.Bool.{lt-ltb}
+use Rattle.std.proofs.Common.{◌≡◌, ℕ, suc, ◌+◌, ◌<◌, ◌^◌, List, [], ◌∷◌, ◌++◌, map, length, length-append, Bool, true, refl, ap, ◌∙◌, subst, arith, append-nil, ⊎_elim}
 use Rattle.wasm_bytes.specs.Writing.{u32_text, unsigned_text, sized_text}
 use Rattle.wasm_tree.specs.declared.types.FuncType.{FuncType}
 use Rattle.wasm_tree.specs.declared.instr.Instr.{Instr, map-Instr, ind-Instr, fold-roll-Instr, roll-Instr}
@@ -12,10 +11,9 @@ use Rattle.wasm_tree.specs.declared.module.DataSeg.{DataSeg}
 use Rattle.wasm_tree.specs.declared.module.Func.{Func}
 use Rattle.wasm_tree.specs.declared.module.Module.{Module}
 use Rattle.wasm_format.specs.Words.{Every, Any}
-use Rattle.wasm_plain.specs.PlainValues.{each_text, vector_text, val_text, block_type_text, func_type_text, import_desc_text, import_text, table_text, limits_text, global_text, export_desc_text, export_text, const_text, func_of, by_index, index_items, const_items, mode_by_index, mode_by_const, elem_text, data_mode_text, data_text}
+use Rattle.wasm_plain.specs.PlainValues.{vector_text, val_text, block_type_text, func_type_text, import_desc_text, import_text, table_text, limits_text, global_text, export_desc_text, export_text, const_text, func_of, by_index, index_items, const_items, elem_text, data_mode_text, data_text}
 use Rattle.wasm_plain.specs.PlainCode.{instr_step, instr_text, instrs_text, body_text, group_text, code_text, entry_text}
 use Rattle.wasm_plain.specs.Plain.{list_section, plain}
-use Rattle.plain_law.specs.Ranges.{small, all_true}
 use Rattle.plain_law.specs.SmallSizes.{IsShort, lists_step, has_short_lists, all_have_short_lists, SmallSection, FuncTypeIsSmall, ImportIsSmall, FuncIsSmall, SmallSizes}
 use Rattle.plain_law.proofs.Parts.{u32_some, vector_count, every_of, every_short}
 use Rattle.plain_law.proofs.NumberRanges.{is_small, both}

@@ -1,5 +1,5 @@
 -- A command line has one job.
-use Rattle.std.proofs.Common.{Bool, true, cond, ltb, ◌-◌, ◌↔◌, ◌≡◌, ◌∙◌, sym, refl, ap, ap₂, subst, map, ◌⊎◌, inl, inr, ℕ, List, [], ◌∷◌, Option, Some, None, Result, Ok, Err, false, ◌≤◌, ◌<◌, length, arith}
+use Rattle.std.proofs.Common.{Bool, true, cond, ltb, ◌-◌, ◌↔◌, ◌≡◌, ◌∙◌, sym, refl, ap, ap₂, subst, map, inl, inr, ℕ, List, [], ◌∷◌, Option, Some, None, Result, Ok, Err, false, length, arith}
 use Rattle.std.specs.FinMap.{get}
 use Rattle.wasm_bytes.specs.Reading.{IsBytes}
 use Rattle.tool_io.specs.Outside.{Contents}
@@ -7,7 +7,7 @@ use Rattle.tools_cli.specs.Words.{Text, Source, Task, Merge, inputs_of}
 use Rattle.tools_cli.specs.Effects.{Entry}
 use Rattle.tools_cli.specs.Texts.{fault_text, invalid_text, link_text, join_text, over_limit}
 use Rattle.wasm_tree.specs.declared.which.Which.TheVariants.{InputBytes}
-use Rattle.tools_cli.specs.Job.{IsRead, IsAccepted, invalid, Job, Refused, Done, Gathered, add_first, add_file, HoldBytes, Whole, Lacks, TooLong, gathered, most_input, most_output, Loads, loaded, faulty, AllLoad, OneFails, Writes, too_large, written, Merges, not_loaded, not_linked, not_joined, merged, parts_of, Decides, TaskJob, not_begun, missing, too_long, decided, HasJob, no_task, asked}
+use Rattle.tools_cli.specs.Job.{IsRead, IsAccepted, invalid, Job, Refused, Gathered, add_first, add_file, HoldBytes, Whole, Lacks, TooLong, gathered, most_input, Loads, loaded, faulty, AllLoad, OneFails, Writes, too_large, written, Merges, not_loaded, not_linked, not_joined, merged, parts_of, Decides, TaskJob, not_begun, missing, too_long, decided, HasJob, no_task, asked}
 use Rattle.wasm_tree.specs.declared.module.Module.{Module}
 use Rattle.wasm_format.specs.declared.fault.ReadFault.{ReadFault}
 use Rattle.wasm_valid.specs.declared.kinds.Invalid.{Invalid}
@@ -21,7 +21,6 @@ use Rattle.merge_terms.specs.Faults.{link_fault}
 use Rattle.merge_terms.specs.Joined.{join_of}
 use Rattle.merge_terms.specs.declared.faults.LinkFault.{LinkFault}
 use Rattle.merge_terms.specs.declared.faults.JoinFault.{JoinFault}
-use Rattle.wasm_plain.specs.Plain.{plain}
 
 -- bytes spell one tree, and what is spelled within the limits has no fault
 abbrev pub TreeIsOne : Type 0

@@ -1,18 +1,17 @@
 -- What stands in the parts of a merge together.
-use Rattle.std.proofs.Common.{◌≡◌, ◌∙◌, refl, sym, ap, subst, ℕ, zero, suc, ◌+◌, ◌*◌, ◌≤◌, ◌<◌, ◌^◌, List, [], ◌∷◌, ◌++◌, map, length, length-append, Option, Some, None, Ok, Result, Err, cond, ltb, true, false, Bool, arith}
+use Rattle.std.proofs.Common.{◌≡◌, refl, ap, subst, ℕ, zero, suc, ◌*◌, ◌≤◌, List, [], ◌∷◌, length, length-append, Some, None, Ok, Result, cond, ltb, true, false, Bool, arith}
 use Rattle.std.specs.List.{flat_map}
 use Rattle.std.proofs.lemmas.Bool.Decides.{nat_tests}
-use Rattle.wasm_tree.specs.declared.types.FuncType.{FuncType}
 use Rattle.wasm_tree.specs.declared.module.Module.{Module}
 use Rattle.wasm_format.specs.Words.{Every}
 use Rattle.wasm_meaning.specs.World.{defined_count, defined_before, elems_before, datas_before}
-use Rattle.wasm_meaning.specs.Linking.{Part, Site, Kind, Functions, Tables, Memories, Globals, sites_in, sites_from, sites}
+use Rattle.wasm_meaning.specs.Linking.{Part, Kind, Functions, Tables, Memories, Globals, sites_in, sites_from}
 use Rattle.merge_terms.specs.Joined as joined
-use Rattle.tools_cli.specs.Words.{Text, Source, Task, Merge}
+use Rattle.tools_cli.specs.Words.{Text, Source, Merge}
 use Rattle.tools_cli.specs.Effects.{Entry}
 use Rattle.export_names.specs.declared.mode.Mode.{Mode}
 use Rattle.tools_cli.specs.Texts.{parts_over_limit}
-use Rattle.tools_cli.specs.Job.{IsRead, IsAccepted, Loads, loaded, faulty, invalid, AllLoad, parts_of, refused_before, most_parts}
+use Rattle.tools_cli.specs.Job.{Loads, loaded, faulty, invalid, AllLoad, parts_of, refused_before, most_parts}
 use Rattle.tools_cli.proofs.Limits.{IsWithinLimits, read_within}
 
 abbrev pub EachWithin : List Part → Type 0

@@ -1,13 +1,13 @@
 -- A job that is done keeps the module that it read.
-use Rattle.std.proofs.Common.{Bool, true, false, cond, ltb, ◌≡◌, ◌∙◌, refl, sym, ap, subst, map, ℕ, zero, suc, ◌-◌, List, [], ◌∷◌, length, Option, Some, None, IfSome, IfOk, Result, Ok, Err, ◌<◌, ◌≤◌, ◌^◌, arith}
+use Rattle.std.proofs.Common.{Bool, true, false, cond, ltb, ◌≡◌, ◌∙◌, refl, sym, ap, subst, map, ℕ, zero, suc, ◌-◌, List, [], ◌∷◌, length, Option, Some, None, IfSome, IfOk, Result, Ok, ◌<◌, ◌^◌, arith}
 use Rattle.std.specs.FinMap.{get, insert, get-insert}
 use Rattle.std.specs.Cmp.{eq_by_cmp_equiv}
 use Rattle.std.proofs.lemmas.Cmp.{nat_list_cmp_total}
 use Rattle.tool_io.specs.Outside.{Contents}
-use Rattle.tools_cli.specs.Words.{Text, Source, Task, Merge, task_of, inputs_of}
+use Rattle.tools_cli.specs.Words.{Text, Source, Task, Merge, task_of}
 use Rattle.export_names.specs.declared.mode.Mode.{Mode}
 use Rattle.tools_cli.specs.Effects.{Entry, made}
-use Rattle.tools_cli.specs.Job.{IsRead, IsAccepted, Job, Usage, Missing, Refused, Done, Gathered, Whole, Lacks, TooLong, add_first, add_file, gathered, most_input, most_output, Loads, loaded, faulty, invalid, AllLoad, Writes, too_large, written, Merges, not_loaded, not_linked, not_joined, merged, parts_of, AreMerged, TaskJob, not_begun, missing, too_long, decided, HasJob, no_task, asked}
+use Rattle.tools_cli.specs.Job.{IsRead, IsAccepted, Job, Usage, Missing, Refused, Done, Gathered, Whole, Lacks, TooLong, add_first, add_file, gathered, most_input, Loads, loaded, faulty, invalid, AllLoad, Writes, too_large, written, Merges, not_loaded, not_linked, not_joined, merged, parts_of, AreMerged, TaskJob, not_begun, missing, too_long, decided, HasJob, no_task, asked}
 use Rattle.tools_cli.specs.Run.{EndsDone}
 use Rattle.tools_cli.specs.Kept.{HoldModules, TaskKeeps, Keeps, EndsKept}
 use Rattle.wasm_tree.specs.declared.module.Module.{Module}

@@ -1,12 +1,12 @@
 -- A tree that is read has no list above its limit.
-use Rattle.std.proofs.Common.{◌≡◌, ℕ, ◌≤◌, List, [], ◌∷◌, length, Bool, true, false, sym, subst, arith}
+use Rattle.std.proofs.Common.{ℕ, ◌≤◌, List, [], ◌∷◌, length, Bool, true, false, sym, subst, arith}
 use Rattle.std.specs.Prelude.{◌==◌}
 use Rattle.wasm_bytes.specs.Frames.{Section}
 use Rattle.wasm_tree.specs.declared.module.Func.{Func}
 use Rattle.wasm_tree.specs.declared.module.Module.{Module}
 use Rattle.wasm_format.specs.declared.parts.Parts.{Parts}
 use Rattle.wasm_format.specs.Words.{Never, Made, When, Any, Every, Limited, WhenSmall}
-use Rattle.wasm_format.specs.Files.{nothing, with_types, with_imports, with_func_types, with_tables, with_mems, with_globals, with_exports, with_start, with_elems, with_codes, with_datas, with_count, SpellsCustom, section_form, small_form, SmallSection, Contents, typed, tree_of, Spells, Within}
+use Rattle.wasm_format.specs.Files.{nothing, with_types, with_imports, with_func_types, with_tables, with_mems, with_globals, with_exports, with_start, with_elems, with_codes, with_datas, with_count, SpellsCustom, section_form, small_form, SmallSection, Contents, typed, tree_of}
 use Rattle.tools_cli.specs.Words.{Text}
 use Rattle.tools_cli.specs.Job.{IsRead}
 

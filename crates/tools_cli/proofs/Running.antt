@@ -7,7 +7,7 @@ use Rattle.tools_cli.specs.Words.{Text, Task, task_of, inputs_of, outputs_of}
 use Rattle.tools_cli.specs.Effects.{Entry, made, IsCut, written_names}
 use Rattle.tools_cli.specs.Job.{Job, Usage, Refused, Done, Whole, TooLong, gathered, most_input, Decides, TaskJob, refused_before, not_begun, too_long, decided, HasJob, no_task, asked}
 use Rattle.tools_cli.specs.Stop.{IsLine, usage, fault_line, invalid_line, parts_line, link_line, join_line, output_line, unlinked_text, cannot_read_line, cannot_write_line, cannot_print_line, no_memory_line, no_memory, stop_line, line_of, refusal_text, Says, Reports}
-use Rattle.tools_cli.specs.Causes.{FailsAtItsTurn, StopsGathering, StopsDeciding, StopsPreparing, StopsFinishing, AreOutputs, AllWritten, PrintsAfter}
+use Rattle.tools_cli.specs.Causes.{StopsGathering, StopsDeciding, StopsPreparing, StopsFinishing, AreOutputs, AllWritten, PrintsAfter}
 use Rattle.tools_cli.specs.Run.{IsUsage, Outside, StopsWork, ChangesByTheJob, PrintsForTheJob, EndsDone, Gains, IsSame, HasOutsideCause, HasStatus, SomeRose}
 use Rattle.tools_cli.specs.declared.stop.Status.{Status}
 use Rattle.tools_cli.specs.declared.stop.Status.TheVariants as status

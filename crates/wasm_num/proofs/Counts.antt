@@ -1,8 +1,8 @@
 -- The counts of bits by their formulas are those that std gives.
-use Rattle.std.proofs.Common.{◌≡◌, ℕ, zero, suc, ◌+◌, ◌-◌, ◌*◌, ◌/◌, ◌%◌, ◌^◌, ◌<◌, ◌≤◌, refl, sym, ap, ap₂, subst, ◌∙◌, arith, Bool, true, false, cond, ◌⊎◌, inl, inr}
+use Rattle.std.proofs.Common.{◌≡◌, ℕ, zero, suc, ◌+◌, ◌*◌, ◌/◌, ◌%◌, ◌^◌, ◌<◌, ◌≤◌, refl, sym, ap, subst, ◌∙◌, arith, ◌⊎◌, inl, inr}
 use Rattle.std.specs.Prelude.{nat_lt, nat_eq, count_ones, if◌then◌else◌}
 use Rattle.std.specs.Int.Count.{ones_step, count_leading_zeros, leading_unique, count_trailing_zeros, under}
-use Rattle.std.proofs.Math.Nat.{pow-suc, div-lt_iff_lt-mul}
+use Rattle.std.proofs.Math.Nat.{pow-suc}
 use Rattle.std.proofs.lemmas.Bool.{cases_lt, ne_eqb, lt-ltb, le-ltb}
 use Rattle.std.proofs.lemmas.Nat.{ones_le_self}
 use Rattle.wasm_num.specs.Operations.{leading, trailing, ones}

@@ -14,7 +14,7 @@ use Rattle.wasm_tree.specs.declared.instr.Instr.{Instr, fold-Instr}
 use Rattle.wasm_tree.specs.declared.instr.Instr.TheOpen.{Instr-F}
 use Rattle.wasm_tree.specs.declared.module.LocalGroup.{LocalGroup}
 use Rattle.wasm_tree.specs.declared.module.Func.{Func}
-use Rattle.wasm_plain.specs.PlainValues.{joined, each_text, vector_text, ref_text, val_text, block_type_text}
+use Rattle.wasm_plain.specs.PlainValues.{joined, vector_text, ref_text, val_text, block_type_text}
 
 -- ---- opcodes
 

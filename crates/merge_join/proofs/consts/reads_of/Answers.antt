@@ -1,4 +1,4 @@
-use Rattle.std.proofs.Common.{ℕ, ◌≡◌, ◌∙◌, sym, ap, ◌<◌, length, true, false, ◌++◌, ◌∷◌, []}
+use Rattle.std.proofs.Common.{ℕ, ◌≡◌, ◌∙◌, sym, ap, true, false, ◌++◌, ◌∷◌, []}
 use Rattle.wasm_meaning.specs.Linking.{Globals, has_kind}
 use Rattle.merge_terms.specs.Parts.{named_modules}
 use Rattle.merge_terms.specs.Linked.{read_at}

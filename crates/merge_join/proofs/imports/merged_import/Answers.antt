@@ -1,12 +1,9 @@
-use Rattle.std.proofs.Common.{◌≡◌, ◌∙◌, sym, ap, subst, ◌<◌, length, Some, IsTrue, arith}
+use Rattle.std.proofs.Common.{ap, ◌<◌, length, arith}
 use Rattle.wasm_tree.specs.declared.module.Module.{Module}
-use Rattle.index_remap.specs.Renumbered.{fits_import, fits_import_desc}
-use Rattle.index_remap.proofs.Fits.{each_at}
 use Rattle.merge_terms.specs.Parts.{named_modules}
-use Rattle.merge_terms.specs.Merged.{map_of}
 use Rattle.merge_join.specs.Words.{site}
 use Rattle.merge_join.proofs.PartMaps.{same_module}
-use Rattle.merge_join.proofs.Holding.{fitting, import_fits}
+use Rattle.merge_join.proofs.Holding.{import_fits}
 use Rattle.merge_join.proofs.Staying.{import_made}
 use Rattle.merge_join.proofs.imports.merged_import.Goals as goal
 

@@ -1,4 +1,4 @@
-use Rattle.std.proofs.Common.{◌≡◌, ◌∙◌, sym, ap, ◌<◌, length, get_or, Some, None, arith}
+use Rattle.std.proofs.Common.{◌∙◌, sym, ap, length, get_or, Some, arith}
 use Rattle.std.specs.Option.{option_map}
 use Rattle.wasm_meaning.specs.Linking.{linked_end}
 use Rattle.merge_terms.specs.Linked.{end_entry}

@@ -1,4 +1,4 @@
-use Rattle.std.proofs.Common.{◌≡◌, ◌∙◌, sym, ap, Some}
+use Rattle.std.proofs.Common.{◌∙◌, sym, ap}
 use Rattle.merge_terms.specs.Parts.{named_modules}
 use Rattle.merge_join.specs.Words.{site}
 use Rattle.merge_join.proofs.Ends.{is_self, stays_is, same_part, other_part}

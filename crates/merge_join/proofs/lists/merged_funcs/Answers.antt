@@ -1,4 +1,4 @@
-use Rattle.std.proofs.Common.{◌≡◌, ◌∙◌, sym, ap, subst, IsTrue, map, List, ◌++◌, arith}
+use Rattle.std.proofs.Common.{◌∙◌, sym, ap, subst, IsTrue, map, List, ◌++◌, arith}
 use Rattle.wasm_tree.specs.declared.module.Func.{Func}
 use Rattle.index_remap.specs.Renumbered.{all_true, fits_func, new_func}
 use Rattle.merge_terms.specs.Parts.{named_modules}

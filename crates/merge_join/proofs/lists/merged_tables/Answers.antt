@@ -1,4 +1,4 @@
-use Rattle.std.proofs.Common.{◌≡◌, ◌∙◌, ap, ◌++◌, arith}
+use Rattle.std.proofs.Common.{◌∙◌, ap, ◌++◌, arith}
 use Rattle.merge_terms.specs.Parts.{named_modules}
 use Rattle.merge_join.proofs.ByPart.{part_more, part_all}
 use Rattle.merge_join.proofs.Holding.{flat_parts}

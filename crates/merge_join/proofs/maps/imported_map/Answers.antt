@@ -1,13 +1,12 @@
-use Rattle.std.proofs.Common.{◌≡◌, ◌∙◌, sym, ap, refl, subst, ◌+◌, ◌++◌, ◌∷◌, [], ◌<◌, Some, Bool, true, false, cond, length, map, take, slice_get, get_or, arith}
+use Rattle.std.proofs.Common.{◌≡◌, ◌∙◌, sym, ap, refl, subst, ◌+◌, ◌++◌, ◌∷◌, [], Some, Bool, true, false, cond, length, map, take, slice_get, arith}
 use Rattle.std.proofs.lemmas.Option.{slice_get_read}
 use Rattle.std.proofs.lemmas.List.{map_push, take_all}
-use Rattle.wasm_tree.specs.declared.module.Import.{Import}
 use Rattle.wasm_tree.specs.declared.module.Module.{Module}
 use Rattle.wasm_meaning.specs.World.{numbers}
-use Rattle.wasm_meaning.specs.Linking.{Kind, places, place, has_kind, kind_of_import, imports_of}
+use Rattle.wasm_meaning.specs.Linking.{places, place, has_kind, kind_of_import, imports_of}
 use Rattle.merge_terms.specs.Parts.{named_modules}
 use Rattle.merge_terms.specs.Merged.{new_index}
-use Rattle.merge_join.specs.Words.{the_kind, IsEnd, place_at}
+use Rattle.merge_join.specs.Words.{the_kind, IsEnd}
 use Rattle.merge_join.proofs.ByPart.{place_is_get}
 use Rattle.merge_join.proofs.Fits.{entry_there, kind_from}
 use Rattle.merge_join.proofs.NewIndex.{new_index_at, import_place}

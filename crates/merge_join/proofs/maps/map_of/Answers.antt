@@ -1,4 +1,4 @@
-use Rattle.std.proofs.Common.{◌≡◌, ◌∙◌, sym, ap, ◌≤◌, Some, map, length, arith}
+use Rattle.std.proofs.Common.{◌≡◌, ◌∙◌, sym, ap, Some, map, length, arith}
 use Rattle.wasm_tree.specs.declared.module.Module.{Module}
 use Rattle.wasm_meaning.specs.World.{numbers}
 use Rattle.wasm_meaning.specs.Linking.{first_place}
@@ -6,7 +6,6 @@ use Rattle.wasm_meaning.specs.Values.{same_func_type}
 use Rattle.merge_terms.specs.Parts.{named_modules}
 use Rattle.merge_terms.specs.Merged.{or_this}
 use Rattle.merge_join.specs.declared.kinds.Kind.TheVariants.{Functions, Tables, Memories, Globals}
-use Rattle.merge_join.proofs.ByPart.{named_length}
 use Rattle.merge_join.proofs.Counts.{elems_room, datas_room}
 use Rattle.merge_join.proofs.MapParts.{space_is, map_built}
 use Rattle.merge_join.proofs.maps.map_of.Goals as goal

@@ -1,5 +1,4 @@
-use Rattle.std.proofs.Common.{◌≡◌, ◌∙◌, sym, ap, ◌+◌, ◌++◌, ◌<◌, Some, length, map, slice_index, arith}
-use Rattle.wasm_tree.specs.declared.module.Module.{Module}
+use Rattle.std.proofs.Common.{◌≡◌, ◌∙◌, sym, ap, ◌+◌, ◌++◌, Some, length, map, arith}
 use Rattle.wasm_meaning.specs.World.{numbers, defined_before, defined_count}
 use Rattle.wasm_meaning.specs.Linking.{imports_of}
 use Rattle.merge_terms.specs.Parts.{named_modules}

@@ -1,4 +1,4 @@
-use Rattle.std.proofs.Common.{◌≡◌, ◌∙◌, sym, ap, ◌+◌, ◌++◌, ◌∷◌, [], append_assoc, append-nil}
+use Rattle.std.proofs.Common.{◌∙◌, sym, ap, ◌+◌, ◌++◌, ◌∷◌, [], append_assoc}
 use Rattle.wasm_meaning.specs.World.{numbers}
 use Rattle.merge_join.proofs.NumberLists.{numbers_more}
 use Rattle.merge_join.proofs.numbers.add_numbers.Goals as goal

@@ -1,7 +1,6 @@
-use Rattle.std.proofs.Common.{◌≡◌, ◌∙◌, sym, ap, ◌++◌, ◌∷◌, [], length, arith}
-use Rattle.wasm_meaning.specs.Linking.{then_some, places, has_kind, imports_of}
+use Rattle.std.proofs.Common.{◌∙◌, sym, ap, ◌++◌, ◌∷◌, [], length, arith}
+use Rattle.wasm_meaning.specs.Linking.{places, has_kind}
 use Rattle.merge_terms.specs.Parts.{named_modules}
-use Rattle.merge_terms.specs.Merged.{or_this}
 use Rattle.merge_join.specs.Words.{the_kind}
 use Rattle.merge_join.specs.Spaces.{imported_in}
 use Rattle.merge_join.proofs.ByPart.{part_more, part_all}

@@ -1,4 +1,4 @@
-use Rattle.std.proofs.Common.{◌≡◌, ◌∙◌, sym, ap, ◌<◌, length, arith}
+use Rattle.std.proofs.Common.{ap, arith}
 use Rattle.wasm_meaning.specs.World.{defined_before}
 use Rattle.merge_terms.specs.Parts.{named_modules}
 use Rattle.merge_join.specs.Words.{the_kind}

@@ -1,7 +1,7 @@
-use Rattle.std.proofs.Common.{◌≡◌, ◌∙◌, sym, ap, subst, ℕ, ◌+◌, ◌<◌, ◌++◌, ◌∷◌, [], length, map, cond, Some, None, Bool, arith}
+use Rattle.std.proofs.Common.{◌≡◌, ◌∙◌, sym, ap, ◌+◌, ◌<◌, ◌++◌, ◌∷◌, [], length, map, cond, Some, None, Bool, arith}
 use Rattle.std.proofs.lemmas.List.{map_push}
 use Rattle.wasm_tree.specs.declared.module.Module.{Module}
-use Rattle.wasm_meaning.specs.Linking.{sites_in, sites}
+use Rattle.wasm_meaning.specs.Linking.{sites_in}
 use Rattle.merge_terms.specs.Parts.{named_modules}
 use Rattle.merge_join.specs.Words.{the_kind, site}
 use Rattle.merge_join.specs.Spaces.{staying_place, picked, count_before}

@@ -1,4 +1,4 @@
-use Rattle.std.proofs.Common.{◌≡◌, ◌∙◌, sym, ap, refl, ◌+◌, ◌++◌, ◌∷◌, [], length, take, arith}
+use Rattle.std.proofs.Common.{◌∙◌, sym, ap, refl, ◌++◌, [], length, take, arith}
 use Rattle.merge_terms.specs.Parts.{named_modules}
 use Rattle.merge_terms.specs.Merged.{by_part_from, with_types, merged_types}
 use Rattle.merge_join.proofs.ByPart.{part_more, part_all, part_room, flat_is}

@@ -1,4 +1,4 @@
-use Rattle.std.proofs.Common.{◌≡◌, refl, sym, subst}
+use Rattle.std.proofs.Common.{refl, sym, subst}
 use Rattle.std.proofs.lemmas.Result.{IfOk-weaker, IfErr-weaker}
 use Rattle.tools_cli.specs.Command.{task, input_entries, output_entries}
 use Rattle.tools_cli.specs.Job.{Decides, Done, Writes}

@@ -1,5 +1,4 @@
-use Rattle.std.proofs.Common.{rules}
-use Rattle.tools_cli.proofs.Deciding.{short_input, load_one_more, fail_one_later, all_load, one_stops}
+use Rattle.tools_cli.proofs.Deciding.{short_input, all_load}
 use Rattle.tools_cli.proofs.plan.load_all.Goals as goal
 
 pub load-requires : goal.load-requires

@@ -1,9 +1,8 @@
-use Rattle.std.proofs.Common.{◌≡◌, ◌≤◌, ◌∙◌, sym, ap, subst, length, map, arith}
+use Rattle.std.proofs.Common.{◌≡◌, ◌≤◌, ◌∙◌, sym, ap, subst, length, arith}
 use Rattle.std.proofs.lemmas.Result.{IfErr-weaker}
-use Rattle.wasm_meaning.specs.Linking.{Part}
 use Rattle.merge_terms.specs.Parts.{named_modules}
 use Rattle.merge_terms.specs.Joined.{FewInAll}
-use Rattle.tools_cli.specs.Command.{task, source_values, input_entry, input_entries}
+use Rattle.tools_cli.specs.Command.{task, source_values, input_entries}
 use Rattle.tools_cli.specs.Job.{parts_of}
 use Rattle.tools_cli.specs.Causes.{StopsMerging, StopsDeciding}
 use Rattle.tools_cli.proofs.Deciding.{length_once, inputs_once, loading_stops, merging_stops}

@@ -1,4 +1,4 @@
-use Rattle.std.proofs.Common.{sym, subst, ◌<◌, length, arith, IsTrue}
+use Rattle.std.proofs.Common.{sym, subst, arith, IsTrue}
 use Rattle.index_remap.specs.Renumbered.{fits_tree}
 use Rattle.merge_terms.specs.Parts.{named_modules}
 use Rattle.merge_join.proofs.PartMaps.{maps_length, map_at}

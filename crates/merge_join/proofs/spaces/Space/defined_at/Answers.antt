@@ -1,9 +1,8 @@
-use Rattle.std.proofs.Common.{◌≡◌, ◌∙◌, sym, ap, ◌+◌, ◌-◌, ◌<◌, ℕ, length, slice_index, Some, arith}
-use Rattle.wasm_meaning.specs.World.{defined_before}
+use Rattle.std.proofs.Common.{arith}
 use Rattle.merge_terms.specs.Parts.{named_modules}
 use Rattle.merge_join.specs.Words.{the_kind, place_at}
 use Rattle.merge_join.specs.Spaces.{first_of, imported_in}
-use Rattle.merge_join.proofs.ByPart.{each_within, each_index, named_length}
+use Rattle.merge_join.proofs.ByPart.{each_within, each_index}
 use Rattle.merge_join.proofs.Counts.{imported_is, defined_room}
 use Rattle.merge_join.proofs.spaces.Space.defined_at.Goals as goal
 

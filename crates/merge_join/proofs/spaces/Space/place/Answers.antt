@@ -1,12 +1,9 @@
-use Rattle.std.proofs.Common.{◌≡◌, ◌∙◌, sym, ap, ℕ}
+use Rattle.std.proofs.Common.{◌∙◌, sym, ap}
 use Rattle.std.specs.Option.{unwrap_or}
 use Rattle.merge_terms.specs.Parts.{named_modules}
-use Rattle.merge_terms.specs.Merged.{or_this}
 use Rattle.merge_join.specs.Words.{the_kind, place_at, site}
 use Rattle.merge_join.specs.Spaces.{staying_place}
 use Rattle.merge_join.proofs.Ends.{or_zero}
-use Rattle.merge_join.proofs.SpaceSizes.{funcs_size}
-use Rattle.merge_join.proofs.Fits.{suited}
 use Rattle.merge_join.proofs.spaces.Space.place.Goals as goal
 
 pub returns-in-Outside : goal.returns-in-Outside

@@ -1,4 +1,4 @@
-use Rattle.std.proofs.Common.{◌≡◌, ◌∙◌, sym, ap, ◌<◌, length, get_or, Some, None, arith}
+use Rattle.std.proofs.Common.{◌∙◌, ap, length, get_or, None, arith}
 use Rattle.merge_terms.specs.Parts.{named_modules}
 use Rattle.merge_join.specs.Words.{the_kind}
 use Rattle.merge_join.specs.Spaces.{staying_place}

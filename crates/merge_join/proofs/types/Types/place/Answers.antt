@@ -1,9 +1,7 @@
-use Rattle.std.proofs.Common.{◌≡◌, ◌∙◌, sym, ap, refl, ℕ, Option, Some, None, string_bytes}
+use Rattle.std.proofs.Common.{◌≡◌, ◌∙◌, ap}
 use Rattle.std.specs.Option.{unwrap_or}
-use Rattle.std.specs.BTreeMap.{get_by_text}
 use Rattle.wasm_meaning.specs.Linking.{first_place}
 use Rattle.wasm_meaning.specs.Values.{same_func_type}
-use Rattle.merge_terms.specs.Merged.{or_this}
 use Rattle.merge_join.specs.Texts.{text_of_type}
 use Rattle.merge_join.proofs.Ends.{or_zero}
 use Rattle.merge_join.proofs.Interning.{place_by_text, has_text}
