@@ -33,3 +33,4 @@ pub mod MatchMerged
 pub mod MatchAll
 mod Worlds
 mod WrongMerges
+mod PartsOfWrongMerges

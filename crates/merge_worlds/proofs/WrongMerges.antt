@@ -35,34 +35,34 @@ use Rattle.merge_worlds.specs.Laws.{BehavesAs}
 abbrev own : Text
 own = 111 ∷ (119 ∷ (110 ∷ []))
 
-abbrev f : Text
+abbrev pub f : Text
 f = 102 ∷ []
 
-abbrev g : Text
+abbrev pub g : Text
 g = 103 ∷ []
 
 abbrev m : Text
 m = 109 ∷ []
 
-abbrev nothing : FuncType
+abbrev pub nothing : FuncType
 nothing = record { params = []; results = [] }
 
-abbrev from_i32 : FuncType
+abbrev pub from_i32 : FuncType
 from_i32 = record { params = valt.I32 ∷ []; results = valt.I32 ∷ [] }
 
-abbrev empty : Module
+abbrev pub empty : Module
 empty = record { types = []; imports = []; funcs = []; tables = []; mems = []; globals = []; exports = []; start = None; elems = []; datas = [] }
 
-abbrev code : ℕ → List Instr → Func
+abbrev pub code : ℕ → List Instr → Func
 code ty body = record { ty = ty; locals = []; body = body }
 
-abbrev own_func : Text → ℕ → Import
+abbrev pub own_func : Text → ℕ → Import
 own_func field ty = record { «module» = own; field = field; desc = im.Func ty }
 
 abbrev offered : Text → Offer
 offered field = record { pair = (own, field); funcs = nothing ∷ []; table = None; memory = None; global = None }
 
-abbrev part : Module → Part
+abbrev pub part : Module → Part
 part x = record { name = None; «module» = x }
 
 abbrev asks : Text → Event
@@ -133,13 +133,13 @@ drop_refs = fold_out-Instr (List ℕ) refs_step i.Drop
 -- ---- two starts ----
 
 -- whose start calls one function of the environment's own
-abbrev starting : Text → Module
+abbrev pub starting : Text → Module
 starting field = record empty { types = nothing ∷ []; imports = own_func field 0 ∷ []; funcs = code 0 (i.Call 0 ∷ []) ∷ []; start = Some 1 }
 
-abbrev two_starts : List Part
+abbrev pub two_starts : List Part
 two_starts = part (starting f) ∷ (part (starting g) ∷ [])
 
-abbrev two_starts_merged : Module
+abbrev pub two_starts_merged : Module
 two_starts_merged = record empty {
   types = nothing ∷ [];
   imports = own_func f 0 ∷ (own_func g 0 ∷ []);
@@ -150,11 +150,11 @@ two_starts_merged = record empty {
 abbrev both_offered : Environment
 both_offered = offered f ∷ (offered g ∷ [])
 
-two_starts_have_no_fault : link_fault two_starts ≡ None
+pub two_starts_have_no_fault : link_fault two_starts ≡ None
 unfolding link_fault import_fault stays kept_limits clash_fault memory_count memory_fault own_globals global_fault
 two_starts_have_no_fault = refl
 
-two_starts_join : joined_module two_starts mode.Refuse ≡ two_starts_merged
+pub two_starts_join : joined_module two_starts mode.Refuse ≡ two_starts_merged
 unfolding joined_module merged staying staying_of place_of_end new_index merged_types place_of_type map_of merged_const merged_import starts defined_funcs all_exports stays
 two_starts_join = simp (new_call, call_refs) refl
 
@@ -170,15 +170,15 @@ the_merge_asks_in_order : events (alone (joined_module two_starts mode.Refuse)) 
 the_merge_asks_in_order = ap (λ tree. events (alone tree) both_offered two_answers 14) two_starts_join ∙ the_merged_module_asks_in_order
 
 -- the second start is not called
-abbrev second_dropped : Module
+abbrev pub second_dropped : Module
 second_dropped = record two_starts_merged { funcs = code 0 (i.Call 0 ∷ []) ∷ (code 0 (i.Call 1 ∷ []) ∷ (code 0 (i.Call 2 ∷ []) ∷ [])) }
 
 -- the first start is the start
-abbrev first_alone : Module
+abbrev pub first_alone : Module
 first_alone = record two_starts_merged { start = Some 2 }
 
 -- the second start is called first
-abbrev second_first : Module
+abbrev pub second_first : Module
 second_first = record two_starts_merged { funcs = code 0 (i.Call 0 ∷ []) ∷ (code 0 (i.Call 1 ∷ []) ∷ (code 0 (i.Call 3 ∷ (i.Call 2 ∷ [])) ∷ [])) }
 
 one_start_asks_once : events (alone second_dropped) both_offered two_answers 14 ≡ asks f ∷ (Linked ∷ (BadMove ∷ []))
@@ -194,24 +194,24 @@ unfolding out-Instr denote.Hole.Carrier.out wrapped
 starts_in_reverse_ask_in_reverse = refl
 
 -- a merge that does not call the second start is refused
-dropped_starts_are_refused : BehavesAs two_starts mode.Refuse second_dropped → ⊥
+pub dropped_starts_are_refused : BehavesAs two_starts mode.Refuse second_dropped → ⊥
 dropped_starts_are_refused =
     refused two_starts second_dropped both_offered two_answers 10 _ _ refl the_parts_ask_in_order one_start_asks_once (λ p. let h : true ≡ false = ap (second_is (λ e. same_text g (asked_field e))) p.1 in cc)
 
 -- so is one that starts with the first alone
-first_starts_alone_are_refused : BehavesAs two_starts mode.Refuse first_alone → ⊥
+pub first_starts_alone_are_refused : BehavesAs two_starts mode.Refuse first_alone → ⊥
 first_starts_alone_are_refused =
     refused two_starts first_alone both_offered two_answers 10 _ _ refl the_parts_ask_in_order the_first_start_asks_once (λ p. let h : true ≡ false = ap (second_is (λ e. same_text g (asked_field e))) p.1 in cc)
 
 -- and one that calls the second start first
-starts_in_reverse_are_refused : BehavesAs two_starts mode.Refuse second_first → ⊥
+pub starts_in_reverse_are_refused : BehavesAs two_starts mode.Refuse second_first → ⊥
 starts_in_reverse_are_refused =
     refused two_starts second_first both_offered two_answers 10 _ _ refl the_parts_ask_in_order starts_in_reverse_ask_in_reverse (λ p. let h : true ≡ false = ap (first_is (λ e. same_text f (asked_field e))) p.1 in cc)
 
 -- ---- an indirect call ----
 
 -- whose start calls a function of the environment's own through its table
-abbrev calling : Module
+abbrev pub calling : Module
 calling = record empty {
   types = nothing ∷ [];
   imports = own_func f 0 ∷ [];
@@ -222,11 +222,11 @@ calling = record empty {
 }
 
 -- the first part has another type
-abbrev two_types : List Part
+abbrev pub two_types : List Part
 two_types = part (record empty { types = from_i32 ∷ [] }) ∷ (part calling ∷ [])
 
 -- with this type index in the indirect call
-abbrev two_types_with : ℕ → Module
+abbrev pub two_types_with : ℕ → Module
 two_types_with ty = record calling {
   types = from_i32 ∷ (nothing ∷ []);
   imports = own_func f 1 ∷ [];
@@ -236,11 +236,11 @@ two_types_with ty = record calling {
 abbrev one_offered : Environment
 one_offered = offered f ∷ []
 
-two_types_have_no_fault : link_fault two_types ≡ None
+pub two_types_have_no_fault : link_fault two_types ≡ None
 unfolding link_fault import_fault stays kept_limits clash_fault memory_count memory_fault own_globals global_fault
 two_types_have_no_fault = refl
 
-two_types_join : joined_module two_types mode.Refuse ≡ two_types_with 1
+pub two_types_join : joined_module two_types mode.Refuse ≡ two_types_with 1
 unfolding joined_module merged staying staying_of place_of_end new_index merged_types place_of_type map_of merged_const merged_import starts defined_funcs all_exports stays
 two_types_join = simp (new_indirect, new_number, new_drop, indirect_refs, number_refs, drop_refs) refl
 
@@ -260,7 +260,7 @@ unfolding out-Instr denote.Hole.Carrier.out wrapped
 a_call_by_the_type_of_another_traps = refl
 
 -- a merge that shares the types and leaves the type index of an indirect call as it was is refused
-kept_type_indices_are_refused : BehavesAs two_types mode.Refuse (two_types_with 0) → ⊥
+pub kept_type_indices_are_refused : BehavesAs two_types mode.Refuse (two_types_with 0) → ⊥
 kept_type_indices_are_refused =
     refused two_types (two_types_with 0) one_offered answer 9 _ _ refl the_parts_call_through_a_table a_call_by_the_type_of_another_traps (λ p. let h : true ≡ false = ap (first_is (λ e. same_text f (asked_field e))) p.1 in cc)
 
@@ -269,25 +269,25 @@ kept_type_indices_are_refused =
 abbrev pages_from : ℕ → Limits
 pages_from n = record { min = n; max = None }
 
-abbrev own_memory : ℕ → Import
+abbrev pub own_memory : ℕ → Import
 own_memory n = record { «module» = own; field = m; desc = im.Memory (pages_from n) }
 
-abbrev one_memory : List Part
+abbrev pub one_memory : List Part
 one_memory = part (record empty { imports = own_memory 0 ∷ [] }) ∷ (part (record empty { imports = own_memory 1 ∷ [] }) ∷ [])
 
 -- with this minimum
-abbrev one_memory_from : ℕ → Module
+abbrev pub one_memory_from : ℕ → Module
 one_memory_from n = record empty { imports = own_memory n ∷ [] }
 
 -- a memory without a page
 abbrev no_page : Environment
 no_page = record { pair = (own, m); funcs = []; table = None; memory = Some (record { limits = pages_from 0; pages = 0; bytes = [] }); global = None } ∷ []
 
-one_memory_has_no_fault : link_fault one_memory ≡ None
+pub one_memory_has_no_fault : link_fault one_memory ≡ None
 unfolding link_fault import_fault stays kept_limits clash_fault memory_count memory_fault own_globals global_fault
 one_memory_has_no_fault = refl
 
-one_memory_joins : joined_module one_memory mode.Refuse ≡ one_memory_from 1
+pub one_memory_joins : joined_module one_memory mode.Refuse ≡ one_memory_from 1
 unfolding joined_module merged staying staying_of place_of_end new_index merged_types place_of_type map_of merged_const merged_import starts defined_funcs all_exports stays
 one_memory_joins = refl
 
@@ -305,5 +305,5 @@ the_first_limits_ask_for_no_page : events (alone (one_memory_from 0)) no_page []
 the_first_limits_ask_for_no_page = refl
 
 -- a merge that keeps the first limits of a memory that two parts import is refused
-first_limits_are_refused : BehavesAs one_memory mode.Refuse (one_memory_from 0) → ⊥
+pub first_limits_are_refused : BehavesAs one_memory mode.Refuse (one_memory_from 0) → ⊥
 first_limits_are_refused = refused one_memory (one_memory_from 0) no_page [] 2 _ _ refl the_parts_find_no_page the_first_limits_ask_for_no_page (λ p. let h : true ≡ false = ap (first_is is_fault) p.1 in cc)

@@ -1,0 +1,226 @@
+-- The parts of the wrong merges can be joined, so that the law `merged_modules_show_the_same` speaks of them: a merge that gives a wrong module breaks it.
+use Rattle.std.proofs.Common.{◌≡◌, refl, ap, subst, ◌∙◌, ℕ, zero, suc, List, [], ◌∷◌, Some, None, arith}
+use Rattle.std.specs.Prelude.{pos, ◌+◌, length, ◌<◌, ◌^◌, slice_get}
+use Rattle.wasm_tree.specs.declared.types.RefType.TheVariants as reft
+use Rattle.wasm_tree.specs.declared.types.ValType.TheVariants as valt
+use Rattle.wasm_tree.specs.declared.types.FuncType.{FuncType}
+use Rattle.wasm_tree.specs.declared.instr.Instr.{Instr, out-Instr}
+use Rattle.wasm_tree.specs.declared.instr.Instr.TheVariants as i
+use Rattle.wasm_tree.specs.declared.module.Func.{Func}
+use Rattle.wasm_tree.specs.declared.module.ConstExpr.{ConstExpr}
+use Rattle.wasm_tree.specs.declared.module.ConstExpr.TheVariants as const
+use Rattle.wasm_tree.specs.declared.module.Module.{Module}
+use Rattle.wasm_tree.specs.Bounds.{IsBounded, local_count}
+use Rattle.wasm_tree.specs.Spaces.{funcs_of, tables_of, memories_of, globals_of}
+use Rattle.wasm_typing.specs.Typing.{Stack, WellTyped, Gives, Drops}
+use Rattle.wasm_valid.specs.Constants.{const_type}
+use Rattle.wasm_valid.specs.Validity.{IsValid, body_context}
+use Rattle.wasm_meaning.specs.State.{Text}
+use Rattle.wasm_meaning.specs.Linking.{Part}
+use Rattle.export_names.specs.declared.mode.Mode.{Mode}
+use Rattle.export_names.specs.declared.mode.Mode.TheVariants as mode
+use Rattle.export_names.specs.Names.{conflict_behind}
+use Rattle.merge_terms.specs.Merged.{all_exports}
+use Rattle.merge_terms.specs.Joined.{over_limit, repeated_name}
+use Rattle.merge_validity.specs.Joinable.{EachPart, CanBeJoined}
+use Rattle.merge_worlds.specs.Laws.{BehavesAs}
+use Rattle.merge_worlds.proofs.WrongMerges.{f, g, nothing, from_i32, empty, code, own_func, part, starting, two_starts, two_starts_merged, two_starts_have_no_fault, two_starts_join, second_dropped, first_alone, second_first, dropped_starts_are_refused, first_starts_alone_are_refused, starts_in_reverse_are_refused, calling, two_types, two_types_with, two_types_have_no_fault, two_types_join, kept_type_indices_are_refused, own_memory, one_memory, one_memory_from, one_memory_has_no_fault, one_memory_joins, first_limits_are_refused}
+
+-- ---- what is common ----
+
+some_same : {A : Type 0} {x y : A} → Some x ≡ Some y → x ≡ y
+some_same e = cc
+
+-- what holds of two modules holds of each part of the two
+of_both : (P : Module → Type 0) (x y : Module) → P x → P y → EachPart P (part x ∷ (part y ∷ []))
+of_both P x y first second zero m e = subst P (some_same e) first
+of_both P x y first second (suc zero) m e = subst P (some_same e) second
+of_both P x y first second (suc (suc p)) m e = cc
+
+-- the locals of one function
+of_one : (types : List FuncType) (x : Func) → local_count types x < 2 ^ 32 → (n : ℕ) (y : Func) → slice_get (x ∷ []) n ≡ Some y → local_count types y < 2 ^ 32
+of_one types x few zero y e = subst (λ (z : Func). local_count types z < 2 ^ 32) (some_same e) few
+of_one types x few (suc n) y e = cc
+
+-- how many entries the lists and the index spaces have together
+abbrev entries : Module → ℕ
+entries x =
+    length x.types + (length x.imports + (length (funcs_of x) + (length (tables_of x) + (length (memories_of x) + (length (globals_of x) + (length x.exports + (length x.elems + length x.datas)))))))
+
+few_are_bounded : (x : Module) → entries x < 2 ^ 32 → ((n : ℕ) (y : Func) → slice_get x.funcs n ≡ Some y → local_count x.types y < 2 ^ 32) → IsBounded x
+few_are_bounded x few locals = record {
+  types = omega (arith, few);
+  imports = omega (arith, few);
+  funcs = omega (arith, few);
+  tables = omega (arith, few);
+  memories = omega (arith, few);
+  globals = omega (arith, few);
+  exports = omega (arith, few);
+  elems = omega (arith, few);
+  datas = omega (arith, few);
+  locals = locals;
+}
+
+-- what the law `merged_modules_show_the_same` says, with this merge in the place of `joined_module`
+abbrev ShowsTheSame : (List Part → Mode → Module) → Type 0
+ShowsTheSame merge = (parts : List Part) (how : Mode) → CanBeJoined parts how → BehavesAs parts how (merge parts how)
+
+-- no merge that gives this module for these parts satisfies it
+abbrev BreaksTheLaw : List Part → Module → Type 0
+BreaksTheLaw parts wrong = (merge : List Part → Mode → Module) → merge parts mode.Refuse ≡ wrong → ShowsTheSame merge → ⊥
+
+breaks_the_law : (parts : List Part) (wrong : Module) → CanBeJoined parts mode.Refuse → (BehavesAs parts mode.Refuse wrong → ⊥) → BreaksTheLaw parts wrong
+breaks_the_law parts wrong joinable refused merge gives law = refused (subst (BehavesAs parts mode.Refuse) gives (law parts mode.Refuse joinable))
+
+-- ---- two starts ----
+
+starting_is_typed : (field : Text) → WellTyped (body_context (starting field) (code 0 (i.Call 0 ∷ [])) nothing) (i.Call 0 ∷ []) [] []
+unfolding out-Instr denote.Hole.Carrier.out
+starting_is_typed field = ([], ([], (Gives [] [], refl, ([], [], refl, tt, refl)), refl), tt)
+
+-- its import, its function, its start and the body of the function
+starting_is_valid : (field : Text) → IsValid (starting field)
+starting_is_valid field = (
+  (own_func field 0, refl, omega arith),
+  (
+    (code 0 (i.Call 0 ∷ []), refl, omega arith),
+    (
+      (1, nothing, refl, refl, refl, refl),
+      ((code 0 (i.Call 0 ∷ []), nothing, refl, refl, starting_is_typed field), tt),
+    ),
+  ),
+)
+
+starting_is_bounded : (field : Text) → IsBounded (starting field)
+starting_is_bounded field = few_are_bounded (starting field) (omega arith) (of_one (nothing ∷ []) (code 0 (i.Call 0 ∷ [])) (omega arith))
+
+two_starts_repeat_no_name : repeated_name two_starts mode.Refuse ≡ None
+unfolding repeated_name conflict_behind all_exports
+two_starts_repeat_no_name = refl
+
+two_starts_are_few : over_limit two_starts_merged ≡ None
+unfolding over_limit
+two_starts_are_few = refl
+
+two_starts_can_be_joined : CanBeJoined two_starts mode.Refuse
+two_starts_can_be_joined = record {
+  valid = of_both IsValid (starting f) (starting g) (starting_is_valid f) (starting_is_valid g);
+  bounded = of_both IsBounded (starting f) (starting g) (starting_is_bounded f) (starting_is_bounded g);
+  linked = two_starts_have_no_fault;
+  names = two_starts_repeat_no_name;
+  sizes = ap over_limit two_starts_join ∙ two_starts_are_few;
+}
+
+dropped_starts_break_the_law : BreaksTheLaw two_starts second_dropped
+dropped_starts_break_the_law = breaks_the_law two_starts second_dropped two_starts_can_be_joined dropped_starts_are_refused
+
+first_starts_alone_break_the_law : BreaksTheLaw two_starts first_alone
+first_starts_alone_break_the_law = breaks_the_law two_starts first_alone two_starts_can_be_joined first_starts_alone_are_refused
+
+starts_in_reverse_break_the_law : BreaksTheLaw two_starts second_first
+starts_in_reverse_break_the_law = breaks_the_law two_starts second_first two_starts_can_be_joined starts_in_reverse_are_refused
+
+-- ---- an indirect call ----
+
+-- with one type and nothing else
+abbrev one_type : Module
+one_type = record empty { types = from_i32 ∷ [] }
+
+abbrev calling_body : List Instr
+calling_body = i.I32Const (pos 7) ∷ (i.I32Const (pos 0) ∷ (i.CallIndirect 0 0 ∷ (i.Drop ∷ [])))
+
+abbrev one_number : Stack
+one_number = Some valt.I32 ∷ []
+
+abbrev two_numbers : Stack
+two_numbers = Some valt.I32 ∷ one_number
+
+-- after each of the four instructions: one operand, two, one, none
+calling_is_typed : WellTyped (body_context calling (code 0 calling_body) nothing) calling_body [] []
+unfolding out-Instr denote.Hole.Carrier.out
+calling_is_typed = (
+  [],
+  (
+    one_number,
+    (Gives [] (valt.I32 ∷ []), refl, ([], [], refl, tt, refl)),
+    (
+      two_numbers,
+      (Gives [] (valt.I32 ∷ []), refl, ([], one_number, refl, tt, refl)),
+      (
+        one_number,
+        (Gives (valt.I32 ∷ []) [], refl, (one_number, one_number, refl, (refl, tt), refl)),
+        ([], (Drops, refl, (Some valt.I32, refl)), refl),
+      ),
+    ),
+  ),
+  tt,
+)
+
+-- what its table is filled with is a function
+calling_items : (n : ℕ) (e : ConstExpr) → slice_get (const.Func 0 ∷ []) n ≡ Some e → const_type calling e ≡ Some (valt.Ref reft.Func)
+calling_items zero e is = subst (λ (x : ConstExpr). const_type calling x ≡ Some (valt.Ref reft.Func)) (some_same is) refl
+calling_items (suc n) e is = cc
+
+-- its import, its function, its table, its start, its element segment and the body of the function
+calling_is_valid : IsValid calling
+calling_is_valid = (
+  (own_func f 0, refl, omega arith),
+  (
+    (code 0 calling_body, refl, omega arith),
+    (
+      (_, refl, omega arith),
+      (
+        (1, nothing, refl, refl, refl, refl),
+        (
+          (_, refl, calling_items, (refl, refl)),
+          ((code 0 calling_body, nothing, refl, refl, calling_is_typed), tt),
+        ),
+      ),
+    ),
+  ),
+)
+
+calling_is_bounded : IsBounded calling
+calling_is_bounded = few_are_bounded calling (omega arith) (of_one (nothing ∷ []) (code 0 calling_body) (omega arith))
+
+two_types_repeat_no_name : repeated_name two_types mode.Refuse ≡ None
+unfolding repeated_name conflict_behind all_exports
+two_types_repeat_no_name = refl
+
+two_types_are_few : over_limit (two_types_with 1) ≡ None
+unfolding over_limit
+two_types_are_few = refl
+
+two_types_can_be_joined : CanBeJoined two_types mode.Refuse
+two_types_can_be_joined = record {
+  valid = of_both IsValid one_type calling tt calling_is_valid;
+  bounded = of_both IsBounded one_type calling (few_are_bounded one_type (omega arith) (λ n y e. cc)) calling_is_bounded;
+  linked = two_types_have_no_fault;
+  names = two_types_repeat_no_name;
+  sizes = ap over_limit two_types_join ∙ two_types_are_few;
+}
+
+kept_type_indices_break_the_law : BreaksTheLaw two_types (two_types_with 0)
+kept_type_indices_break_the_law = breaks_the_law two_types (two_types_with 0) two_types_can_be_joined kept_type_indices_are_refused
+
+-- ---- the limits of a memory ----
+
+one_memory_repeats_no_name : repeated_name one_memory mode.Refuse ≡ None
+unfolding repeated_name conflict_behind all_exports
+one_memory_repeats_no_name = refl
+
+one_memory_is_few : over_limit (one_memory_from 1) ≡ None
+unfolding over_limit
+one_memory_is_few = refl
+
+one_memory_can_be_joined : CanBeJoined one_memory mode.Refuse
+one_memory_can_be_joined = record {
+  valid = of_both IsValid (one_memory_from 0) (one_memory_from 1) ((own_memory 0, refl, (tt, omega arith, tt)), tt) ((own_memory 1, refl, (tt, omega arith, tt)), tt);
+  bounded = of_both IsBounded (one_memory_from 0) (one_memory_from 1) (few_are_bounded (one_memory_from 0) (omega arith) (λ n y e. cc)) (few_are_bounded (one_memory_from 1) (omega arith) (λ n y e. cc));
+  linked = one_memory_has_no_fault;
+  names = one_memory_repeats_no_name;
+  sizes = ap over_limit one_memory_joins ∙ one_memory_is_few;
+}
+
+first_limits_break_the_law : BreaksTheLaw one_memory (one_memory_from 0)
+first_limits_break_the_law = breaks_the_law one_memory (one_memory_from 0) one_memory_can_be_joined first_limits_are_refused
