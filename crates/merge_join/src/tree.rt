@@ -8,8 +8,9 @@ ghost use Rattle.merge_terms.specs.Merged as terms;
 ghost use Rattle.merge_terms.specs.Joined as joined;
 ghost use Rattle.merge_terms.specs.declared.faults.JoinFault.TheVariants.{NoMemory as OutOfMemory};
 ghost use Rattle.merge_join.specs.Words.{AreJoined, AreLinked, funcs_before_calls};
+ghost use Rattle.merge_join.specs.AllSpaces.{AreSpaces};
 
-use crate::all_spaces::spaces_of;
+use crate::all_spaces::{Spaces, spaces_of};
 use crate::exports::{merged_exports, new_names};
 use crate::imports::merged_imports;
 use crate::joining::Joining;
@@ -96,6 +97,30 @@ fn put_names(
     Ok(())
 }
 
+// Puts all but the types, from these and the number of the functions without the one that calls several starts.
+fn put_all(
+    alloc: Global,
+    joining: &Joining<'_>,
+    names: &[Option<Name>],
+    types: &Types,
+    count: u32,
+    tree: &mut Module,
+) -> Result<(), NoMemory>
+    requires joined { AreJoined joining.now }
+    requires named { length names.now ≡ length (terms.all_exports (named_modules joining.now.parts.now)) }
+    requires types { types.now.list ≡ terms.merged_types (named_modules joining.now.parts.now) }
+    requires count { count ≡ funcs_before_calls (named_modules joining.now.parts.now) }
+    ensures { OnOk result (record tree.new {
+      types = terms.merged_types (named_modules joining.now.parts.now);
+    } ≡ terms.merged (named_modules joining.now.parts.now) names.now) }
+{
+    put_funcs(alloc, joining, types, count, tree)?;
+    put_defined(alloc, joining, tree)?;
+    put_segments(alloc, joining, tree)?;
+    put_names(alloc, joining, names, tree)?;
+    Ok(())
+}
+
 // The merged module, from its types and the number of its functions without the one that calls several starts.
 fn tree_of(
     alloc: Global,
@@ -111,12 +136,32 @@ fn tree_of(
     ensures { IfOk result (λ tree. tree ≡ terms.merged (named_modules joining.now.parts.now) names.now) }
 {
     let mut tree = Module::empty(alloc);
-    put_funcs(alloc, joining, &types, count, &mut tree)?;
-    put_defined(alloc, joining, &mut tree)?;
-    put_segments(alloc, joining, &mut tree)?;
-    put_names(alloc, joining, names, &mut tree)?;
+    put_all(alloc, joining, names, &types, count, &mut tree)?;
     tree.types = types.into_list();
     Ok(tree)
+}
+
+// The merged module over its index spaces.
+fn merged_over(
+    alloc: Global,
+    parts: &[Part],
+    links: &Links,
+    names: &[Option<Name>],
+    spaces: &Spaces<'_>,
+) -> Result<Module, NoMemory>
+    requires linked { AreLinked parts.now links.now }
+    requires named { length names.now ≡ length (terms.all_exports (named_modules parts.now)) }
+    requires spaces { AreSpaces parts.now spaces.now }
+    ensures { IfOk result (λ tree. tree ≡ terms.merged (named_modules parts.now) names.now) }
+{
+    let types = all_types(alloc, parts)?;
+    let maps = all_maps(alloc, parts, links, spaces, &types)?;
+    let joining = Joining {
+        parts,
+        links,
+        maps: maps.as_slice(),
+    };
+    tree_of(alloc, &joining, names, types, spaces.funcs.count)
 }
 
 // The merged module, where its exports have these names.
@@ -132,14 +177,7 @@ fn merged(
     ensures few { IfOk result (λ tree. length (funcs_of tree) < 2 ^ 32) }
 {
     let spaces = spaces_of(alloc, parts, links)?;
-    let types = all_types(alloc, parts)?;
-    let maps = all_maps(alloc, parts, links, &spaces, &types)?;
-    let joining = Joining {
-        parts,
-        links,
-        maps: maps.as_slice(),
-    };
-    tree_of(alloc, &joining, names, types, spaces.funcs.count)
+    merged_over(alloc, parts, links, names, &spaces)
 }
 
 /// The merged module with its references declared, or why there is none.

@@ -1,7 +1,7 @@
-ghost use Rattle.std.specs.Prelude.{◌≡◌, ◌<◌, ◌≤◌, length, OnOk};
+ghost use Rattle.std.specs.Prelude.{◌≡◌, ◌<◌, ◌≤◌, Bool, length, OnOk};
 ghost use Rattle.wasm_format.specs.Reading.{Gives};
-ghost use Rattle.wasm_format.specs.Tokens.{rest_form};
-ghost use Rattle.wasm_format.specs.BodyReading.{arg_at, memory_at, prefixed_at, token_of, token_at};
+ghost use Rattle.wasm_format.specs.Tokens.{rest_form, sub_form};
+ghost use Rattle.wasm_format.specs.BodyReading.{arg_at, memory_at, simple_of, prefixed_at, token_of, token_at};
 
 use crate::operations::{bin_of, load_of, store_of, un_of};
 use crate::types::{read_block_type, read_tag};
@@ -60,13 +60,15 @@ fn read_memory(cursor: &mut Cursor<'_>, many: bool) -> Result<u32, Fault>
     }
 }
 
-/// The rest of a token that begins with `FC` (WebAssembly Core 2.0, sections 5.4.5 and 5.4.6).
-#[tactic(auto, unfolding(wasm_format::specs::BodyReading::prefixed_at, wasm_format::specs::BodyReading::simple_of, wasm_format::specs::Tokens::sub_form))]
-fn read_prefixed(cursor: &mut Cursor<'_>, many: bool) -> Result<Token, Fault>
-    ensures gives { Gives result cursor.new (prefixed_at many cursor.old) }
-    ensures shorter { OnOk result (length cursor.new < length cursor.old) }
+/// The rest of a token that begins with `FC`, and has a number of an instruction that there is.
+#[tactic(auto, unfolding(wasm_format::specs::BodyReading::simple_of, wasm_format::specs::Tokens::sub_form))]
+fn read_bulk(cursor: &mut Cursor<'_>, many: bool, code: u32) -> Result<Token, Fault>
+    requires least { 8 ≤ code }
+    requires most { code ≤ 17 }
+    ensures gives { Gives result cursor.new (simple_of many (sub_form code) cursor.old) }
+    ensures shorter { OnOk result (length cursor.new ≤ length cursor.old) }
 {
-    match cursor.u32()? {
+    match code {
         8 => {
             let segment = cursor.u32()?;
             let memory = read_memory(cursor, many)?;
@@ -93,15 +95,29 @@ fn read_prefixed(cursor: &mut Cursor<'_>, many: bool) -> Result<Token, Fault>
         15 => Ok(Token::Plain(Instr::TableGrow(cursor.u32()?))),
         16 => Ok(Token::Plain(Instr::TableSize(cursor.u32()?))),
         17 => Ok(Token::Plain(Instr::TableFill(cursor.u32()?))),
+        _ => unreachable!(),
+    }
+}
+
+/// The rest of a token that begins with `FC` (WebAssembly Core 2.0, sections 5.4.5 and 5.4.6).
+#[tactic(auto, unfolding(wasm_format::specs::BodyReading::prefixed_at, wasm_format::specs::BodyReading::simple_of, wasm_format::specs::Tokens::sub_form))]
+fn read_prefixed(cursor: &mut Cursor<'_>, many: bool) -> Result<Token, Fault>
+    ensures gives { Gives result cursor.new (prefixed_at many cursor.old) }
+    ensures shorter { OnOk result (length cursor.new < length cursor.old) }
+{
+    let code = cursor.u32()?;
+    match code {
         0..=7 => Err(Fault::Unsupported),
+        8..=17 => read_bulk(cursor, many, code),
         _ => Err(Fault::Malformed),
     }
 }
 
-/// The rest of a token whose opcode is no operation, load or store (WebAssembly Core 2.0, section 5.4).
+/// The rest of a token that begins a block, or ends a part of one, or does nothing (WebAssembly Core 2.0, section 5.4.1).
 #[tactic(auto, unfolding(wasm_format::specs::BodyReading::simple_of, wasm_format::specs::Tokens::rest_form))]
-fn read_rest(alloc: Global, cursor: &mut Cursor<'_>, many: bool, opcode: u8) -> Result<Token, Fault>
-    ensures gives { Gives result cursor.new (token_of many (rest_form opcode) cursor.old) }
+fn read_opening(alloc: Global, cursor: &mut Cursor<'_>, opcode: u8) -> Result<Token, Fault>
+    requires most { opcode ≤ 0x05 }
+    ensures gives { (many : Bool) → Gives result cursor.new (token_of many (rest_form opcode) cursor.old) }
     ensures shorter { OnOk result (length cursor.new ≤ length cursor.old) }
 {
     match opcode {
@@ -111,6 +127,19 @@ fn read_rest(alloc: Global, cursor: &mut Cursor<'_>, many: bool, opcode: u8) -> 
         0x03 => Ok(Token::Open(Opener::Loop, read_block_type(alloc, cursor)?)),
         0x04 => Ok(Token::Open(Opener::If, read_block_type(alloc, cursor)?)),
         0x05 => Ok(Token::Else),
+        _ => unreachable!(),
+    }
+}
+
+/// The rest of a token that ends a block, branches or calls (WebAssembly Core 2.0, section 5.4.1).
+#[tactic(auto, unfolding(wasm_format::specs::BodyReading::simple_of, wasm_format::specs::Tokens::rest_form))]
+fn read_branch(alloc: Global, cursor: &mut Cursor<'_>, opcode: u8) -> Result<Token, Fault>
+    requires least { 0x0B ≤ opcode }
+    requires most { opcode ≤ 0x11 }
+    ensures gives { (many : Bool) → Gives result cursor.new (token_of many (rest_form opcode) cursor.old) }
+    ensures shorter { OnOk result (length cursor.new ≤ length cursor.old) }
+{
+    match opcode {
         0x0B => Ok(Token::End),
         0x0C => Ok(Token::Plain(Instr::Br(cursor.u32()?))),
         0x0D => Ok(Token::Plain(Instr::BrIf(cursor.u32()?))),
@@ -125,9 +154,35 @@ fn read_rest(alloc: Global, cursor: &mut Cursor<'_>, many: bool, opcode: u8) -> 
             let table = cursor.u32()?;
             Ok(Token::Plain(Instr::CallIndirect { ty, table }))
         }
+        _ => unreachable!(),
+    }
+}
+
+/// The rest of a parametric instruction (WebAssembly Core 2.0, section 5.4.3).
+#[tactic(auto, unfolding(wasm_format::specs::BodyReading::simple_of, wasm_format::specs::Tokens::rest_form))]
+fn read_parametric(alloc: Global, cursor: &mut Cursor<'_>, opcode: u8) -> Result<Token, Fault>
+    requires least { 0x1A ≤ opcode }
+    requires most { opcode ≤ 0x1C }
+    ensures gives { (many : Bool) → Gives result cursor.new (token_of many (rest_form opcode) cursor.old) }
+    ensures shorter { OnOk result (length cursor.new ≤ length cursor.old) }
+{
+    match opcode {
         0x1A => Ok(Token::Plain(Instr::Drop)),
         0x1B => Ok(Token::Plain(Instr::Select)),
         0x1C => Ok(Token::Plain(Instr::SelectTyped(read_list(alloc, cursor)?))),
+        _ => unreachable!(),
+    }
+}
+
+/// The rest of an instruction on a variable or an item of a table (WebAssembly Core 2.0, sections 5.4.4 and 5.4.5).
+#[tactic(auto, unfolding(wasm_format::specs::BodyReading::simple_of, wasm_format::specs::Tokens::rest_form))]
+fn read_variable(cursor: &mut Cursor<'_>, opcode: u8) -> Result<Token, Fault>
+    requires least { 0x20 ≤ opcode }
+    requires most { opcode ≤ 0x26 }
+    ensures gives { (many : Bool) → Gives result cursor.new (token_of many (rest_form opcode) cursor.old) }
+    ensures shorter { OnOk result (length cursor.new ≤ length cursor.old) }
+{
+    match opcode {
         0x20 => Ok(Token::Plain(Instr::LocalGet(cursor.u32()?))),
         0x21 => Ok(Token::Plain(Instr::LocalSet(cursor.u32()?))),
         0x22 => Ok(Token::Plain(Instr::LocalTee(cursor.u32()?))),
@@ -135,13 +190,56 @@ fn read_rest(alloc: Global, cursor: &mut Cursor<'_>, many: bool, opcode: u8) -> 
         0x24 => Ok(Token::Plain(Instr::GlobalSet(cursor.u32()?))),
         0x25 => Ok(Token::Plain(Instr::TableGet(cursor.u32()?))),
         0x26 => Ok(Token::Plain(Instr::TableSet(cursor.u32()?))),
+        _ => unreachable!(),
+    }
+}
+
+/// The rest of an instruction on a memory's size, or of a constant (WebAssembly Core 2.0, sections 5.4.6 and 5.4.7).
+#[tactic(auto, unfolding(wasm_format::specs::BodyReading::simple_of, wasm_format::specs::Tokens::rest_form))]
+fn read_size(cursor: &mut Cursor<'_>, many: bool, opcode: u8) -> Result<Token, Fault>
+    requires least { 0x3F ≤ opcode }
+    requires most { opcode ≤ 0x42 }
+    ensures gives { Gives result cursor.new (token_of many (rest_form opcode) cursor.old) }
+    ensures shorter { OnOk result (length cursor.new ≤ length cursor.old) }
+{
+    match opcode {
         0x3F => Ok(Token::Plain(Instr::MemorySize(read_memory(cursor, many)?))),
         0x40 => Ok(Token::Plain(Instr::MemoryGrow(read_memory(cursor, many)?))),
         0x41 => Ok(Token::Plain(Instr::I32Const(cursor.s32()?))),
         0x42 => Ok(Token::Plain(Instr::I64Const(cursor.s64()?))),
+        _ => unreachable!(),
+    }
+}
+
+/// The rest of an instruction on references (WebAssembly Core 2.0, section 5.4.2).
+#[tactic(auto, unfolding(wasm_format::specs::BodyReading::simple_of, wasm_format::specs::Tokens::rest_form))]
+fn read_reference(alloc: Global, cursor: &mut Cursor<'_>, opcode: u8) -> Result<Token, Fault>
+    requires least { 0xD0 ≤ opcode }
+    requires most { opcode ≤ 0xD2 }
+    ensures gives { (many : Bool) → Gives result cursor.new (token_of many (rest_form opcode) cursor.old) }
+    ensures shorter { OnOk result (length cursor.new ≤ length cursor.old) }
+{
+    match opcode {
         0xD0 => Ok(Token::Plain(Instr::RefNull(RefType::read(alloc, cursor)?))),
         0xD1 => Ok(Token::Plain(Instr::RefIsNull)),
         0xD2 => Ok(Token::Plain(Instr::RefFunc(cursor.u32()?))),
+        _ => unreachable!(),
+    }
+}
+
+/// The rest of a token whose opcode is no operation, load or store (WebAssembly Core 2.0, section 5.4).
+#[tactic(auto, unfolding(wasm_format::specs::BodyReading::simple_of, wasm_format::specs::Tokens::rest_form))]
+fn read_rest(alloc: Global, cursor: &mut Cursor<'_>, many: bool, opcode: u8) -> Result<Token, Fault>
+    ensures gives { Gives result cursor.new (token_of many (rest_form opcode) cursor.old) }
+    ensures shorter { OnOk result (length cursor.new ≤ length cursor.old) }
+{
+    match opcode {
+        0x00..=0x05 => read_opening(alloc, cursor, opcode),
+        0x0B..=0x11 => read_branch(alloc, cursor, opcode),
+        0x1A..=0x1C => read_parametric(alloc, cursor, opcode),
+        0x20..=0x26 => read_variable(cursor, opcode),
+        0x3F..=0x42 => read_size(cursor, many, opcode),
+        0xD0..=0xD2 => read_reference(alloc, cursor, opcode),
         0xFC => read_prefixed(cursor, many),
         0x2A..=0x2B
         | 0x38..=0x39

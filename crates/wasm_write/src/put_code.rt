@@ -7,7 +7,7 @@ use crate::opcodes::{bin_code, load_code, store_code, un_code};
 use crate::plain::{Plain, put_number, put_vector};
 use crate::types::ref_code;
 use wasm_bytes::{NoMemory, Out};
-use wasm_tree::{Instr, MemArg};
+use wasm_tree::{BlockType, Instr, MemArg, ValType};
 
 /// Appends where a load or a store goes (WebAssembly Core 2.0, section 5.4.6). A memory other than memory 0 is named.
 fn put_mem_arg(out: &mut Out, arg: &MemArg) -> Result<(), NoMemory>
@@ -23,6 +23,63 @@ fn put_mem_arg(out: &mut Out, arg: &MemArg) -> Result<(), NoMemory>
     }
 }
 
+/// Appends an opcode and an index.
+fn put_index(out: &mut Out, opcode: u8, index: u32) -> Result<(), NoMemory>
+    ensures { OnOk result (out.new ≡ out.old ++ opcode ∷ u32_text index) }
+{
+    out.byte(opcode)?;
+    out.u32(index)
+}
+
+/// Appends an opcode that `FC` begins, and an index.
+fn put_prefixed(out: &mut Out, opcode: u8, index: u32) -> Result<(), NoMemory>
+    ensures { OnOk result (out.new ≡ out.old ++ 0xFC ∷ opcode ∷ u32_text index) }
+{
+    out.byte(0xFC)?;
+    put_index(out, opcode, index)
+}
+
+/// Appends an opcode that `FC` begins, and two indices.
+fn put_prefixed_pair(out: &mut Out, opcode: u8, first: u32, second: u32) -> Result<(), NoMemory>
+    ensures { OnOk result (out.new ≡ out.old ++ (0xFC ∷ opcode ∷ u32_text first) ++ u32_text second) }
+{
+    put_prefixed(out, opcode, first)?;
+    out.u32(second)
+}
+
+/// Appends the opcode of a load or a store, and where it goes.
+fn put_access(out: &mut Out, opcode: u8, arg: &MemArg) -> Result<(), NoMemory>
+    ensures { OnOk result (out.new ≡ out.old ++ opcode ∷ mem_arg_text arg.now) }
+{
+    out.byte(opcode)?;
+    put_mem_arg(out, arg)
+}
+
+/// Appends the opcode of a block, and its type.
+fn put_opener(out: &mut Out, opcode: u8, ty: &BlockType) -> Result<(), NoMemory>
+    ensures { OnOk result (out.new ≡ out.old ++ opcode ∷ block_type_text ty.now) }
+{
+    out.byte(opcode)?;
+    ty.put(out)
+}
+
+/// Appends a branch to one of several labels.
+fn put_branches(out: &mut Out, labels: &[u32], other: u32) -> Result<(), NoMemory>
+    ensures { OnOk result (out.new ≡ out.old ++ (0x0E ∷ vector_text u32_text labels.now) ++ u32_text other) }
+{
+    out.byte(0x0E)?;
+    put_vector(out, labels)?;
+    out.u32(other)
+}
+
+/// Appends a selection with its type.
+fn put_typed(out: &mut Out, types: &[ValType]) -> Result<(), NoMemory>
+    ensures { OnOk result (out.new ≡ out.old ++ 0x1C ∷ vector_text val_text types.now) }
+{
+    out.byte(0x1C)?;
+    put_vector(out, types)
+}
+
 /// Appends an instruction.
 #[cycle(put)]
 fn put_instr(out: &mut Out, instr: &Instr) -> Result<(), NoMemory>
@@ -32,20 +89,17 @@ fn put_instr(out: &mut Out, instr: &Instr) -> Result<(), NoMemory>
         Instr::Unreachable => out.byte(0x00),
         Instr::Nop => out.byte(0x01),
         Instr::Block(ty, body) => {
-            out.byte(0x02)?;
-            ty.put(out)?;
+            put_opener(out, 0x02, ty)?;
             put_instrs(out, body.as_slice())?;
             out.byte(0x0B)
         }
         Instr::Loop(ty, body) => {
-            out.byte(0x03)?;
-            ty.put(out)?;
+            put_opener(out, 0x03, ty)?;
             put_instrs(out, body.as_slice())?;
             out.byte(0x0B)
         }
         Instr::If(ty, body, other) => {
-            out.byte(0x04)?;
-            ty.put(out)?;
+            put_opener(out, 0x04, ty)?;
             put_instrs(out, body.as_slice())?;
             if other.len() != 0 {
                 out.byte(0x05)?;
@@ -53,79 +107,29 @@ fn put_instr(out: &mut Out, instr: &Instr) -> Result<(), NoMemory>
             }
             out.byte(0x0B)
         }
-        Instr::Br(x) => {
-            out.byte(0x0C)?;
-            out.u32(*x)
-        }
-        Instr::BrIf(x) => {
-            out.byte(0x0D)?;
-            out.u32(*x)
-        }
-        Instr::BrTable(labels, other) => {
-            out.byte(0x0E)?;
-            put_vector(out, labels.as_slice())?;
-            out.u32(*other)
-        }
+        Instr::Br(x) => put_index(out, 0x0C, *x),
+        Instr::BrIf(x) => put_index(out, 0x0D, *x),
+        Instr::BrTable(labels, other) => put_branches(out, labels.as_slice(), *other),
         Instr::Return => out.byte(0x0F),
-        Instr::Call(x) => {
-            out.byte(0x10)?;
-            out.u32(*x)
-        }
+        Instr::Call(x) => put_index(out, 0x10, *x),
         Instr::CallIndirect { ty, table } => {
-            out.byte(0x11)?;
-            out.u32(*ty)?;
+            put_index(out, 0x11, *ty)?;
             out.u32(*table)
         }
         Instr::Drop => out.byte(0x1A),
         Instr::Select => out.byte(0x1B),
-        Instr::SelectTyped(types) => {
-            out.byte(0x1C)?;
-            put_vector(out, types.as_slice())
-        }
-        Instr::LocalGet(x) => {
-            out.byte(0x20)?;
-            out.u32(*x)
-        }
-        Instr::LocalSet(x) => {
-            out.byte(0x21)?;
-            out.u32(*x)
-        }
-        Instr::LocalTee(x) => {
-            out.byte(0x22)?;
-            out.u32(*x)
-        }
-        Instr::GlobalGet(x) => {
-            out.byte(0x23)?;
-            out.u32(*x)
-        }
-        Instr::GlobalSet(x) => {
-            out.byte(0x24)?;
-            out.u32(*x)
-        }
-        Instr::TableGet(x) => {
-            out.byte(0x25)?;
-            out.u32(*x)
-        }
-        Instr::TableSet(x) => {
-            out.byte(0x26)?;
-            out.u32(*x)
-        }
-        Instr::Load(op, arg) => {
-            out.byte(load_code(*op))?;
-            put_mem_arg(out, arg)
-        }
-        Instr::Store(op, arg) => {
-            out.byte(store_code(*op))?;
-            put_mem_arg(out, arg)
-        }
-        Instr::MemorySize(x) => {
-            out.byte(0x3F)?;
-            out.u32(*x)
-        }
-        Instr::MemoryGrow(x) => {
-            out.byte(0x40)?;
-            out.u32(*x)
-        }
+        Instr::SelectTyped(types) => put_typed(out, types.as_slice()),
+        Instr::LocalGet(x) => put_index(out, 0x20, *x),
+        Instr::LocalSet(x) => put_index(out, 0x21, *x),
+        Instr::LocalTee(x) => put_index(out, 0x22, *x),
+        Instr::GlobalGet(x) => put_index(out, 0x23, *x),
+        Instr::GlobalSet(x) => put_index(out, 0x24, *x),
+        Instr::TableGet(x) => put_index(out, 0x25, *x),
+        Instr::TableSet(x) => put_index(out, 0x26, *x),
+        Instr::Load(op, arg) => put_access(out, load_code(*op), arg),
+        Instr::Store(op, arg) => put_access(out, store_code(*op), arg),
+        Instr::MemorySize(x) => put_index(out, 0x3F, *x),
+        Instr::MemoryGrow(x) => put_index(out, 0x40, *x),
         Instr::I32Const(value) => {
             out.byte(0x41)?;
             out.s32(*value)
@@ -141,54 +145,17 @@ fn put_instr(out: &mut Out, instr: &Instr) -> Result<(), NoMemory>
             out.byte(ref_code(*ty))
         }
         Instr::RefIsNull => out.byte(0xD1),
-        Instr::RefFunc(x) => {
-            out.byte(0xD2)?;
-            out.u32(*x)
-        }
-        Instr::MemoryInit { segment, memory } => {
-            out.bytes(&[0xFC, 8])?;
-            out.u32(*segment)?;
-            out.u32(*memory)
-        }
-        Instr::DataDrop(x) => {
-            out.bytes(&[0xFC, 9])?;
-            out.u32(*x)
-        }
-        Instr::MemoryCopy { to, from } => {
-            out.bytes(&[0xFC, 10])?;
-            out.u32(*to)?;
-            out.u32(*from)
-        }
-        Instr::MemoryFill(x) => {
-            out.bytes(&[0xFC, 11])?;
-            out.u32(*x)
-        }
-        Instr::TableInit { segment, table } => {
-            out.bytes(&[0xFC, 12])?;
-            out.u32(*segment)?;
-            out.u32(*table)
-        }
-        Instr::ElemDrop(x) => {
-            out.bytes(&[0xFC, 13])?;
-            out.u32(*x)
-        }
-        Instr::TableCopy { to, from } => {
-            out.bytes(&[0xFC, 14])?;
-            out.u32(*to)?;
-            out.u32(*from)
-        }
-        Instr::TableGrow(x) => {
-            out.bytes(&[0xFC, 15])?;
-            out.u32(*x)
-        }
-        Instr::TableSize(x) => {
-            out.bytes(&[0xFC, 16])?;
-            out.u32(*x)
-        }
-        Instr::TableFill(x) => {
-            out.bytes(&[0xFC, 17])?;
-            out.u32(*x)
-        }
+        Instr::RefFunc(x) => put_index(out, 0xD2, *x),
+        Instr::MemoryInit { segment, memory } => put_prefixed_pair(out, 8, *segment, *memory),
+        Instr::DataDrop(x) => put_prefixed(out, 9, *x),
+        Instr::MemoryCopy { to, from } => put_prefixed_pair(out, 10, *to, *from),
+        Instr::MemoryFill(x) => put_prefixed(out, 11, *x),
+        Instr::TableInit { segment, table } => put_prefixed_pair(out, 12, *segment, *table),
+        Instr::ElemDrop(x) => put_prefixed(out, 13, *x),
+        Instr::TableCopy { to, from } => put_prefixed_pair(out, 14, *to, *from),
+        Instr::TableGrow(x) => put_prefixed(out, 15, *x),
+        Instr::TableSize(x) => put_prefixed(out, 16, *x),
+        Instr::TableFill(x) => put_prefixed(out, 17, *x),
     }
 }
 

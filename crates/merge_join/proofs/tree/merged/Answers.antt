@@ -13,4 +13,4 @@ few_from (Err e) m is few = tt
 pub returns-clause-few : goal.returns-clause-few
 returns-clause-few c =
     let ps = named_modules c.args.parts.now in
-    few_from c.tree_of.result (merged ps c.args.names.now) c.tree_of.ensures (funcs_few ps c.args.names.now c.requires.linked.few)
+    few_from c.merged_over.result (merged ps c.args.names.now) c.merged_over.ensures (funcs_few ps c.args.names.now c.requires.linked.few)
