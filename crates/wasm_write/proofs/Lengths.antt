@@ -1,8 +1,7 @@
 -- How long the shortest spellings are.
-use Rattle.std.proofs.Common.{◌≡◌, ℕ, zero, suc, ◌+◌, ◌/◌, ◌<◌, ◌≤◌, List, [], ◌∷◌, ◌++◌, length, length-append, ℤ, pos, negsuc, refl, sym, ap, ◌∙◌, subst, arith, ⊎_elim}
+use Rattle.std.proofs.Common.{◌≡◌, ℕ, zero, suc, ◌+◌, ◌/◌, List, [], ◌∷◌, ◌++◌, length, length-append, ℤ, pos, negsuc, refl, ap, ◌∙◌, arith, ⊎_elim}
 use Rattle.std.proofs.lemmas.Bool.{cases_lt, lt-ltb, le-ltb}
-use Rattle.wasm_bytes.specs.Writing.{signed_text, high}
-use Rattle.wasm_bytes.proofs.SignedShortest.{size_high}
+use Rattle.wasm_bytes.specs.Writing.{signed_text}
 use Rattle.wasm_bytes.specs.Writing.{u32_text}
 use Rattle.wasm_bytes.specs.Frames.{header}
 use Rattle.wasm_tree.specs.declared.module.Func.{Func}

@@ -1,8 +1,8 @@
-use Rattle.std.proofs.Common.{◌≡◌, ◌∙◌, ap, refl}
+use Rattle.std.proofs.Common.{◌∙◌, ap, refl}
 use Rattle.wasm_tree.specs.declared.module.Module.{Module}
 use Rattle.merge_terms.specs.Parts.{named_modules}
 use Rattle.merge_terms.specs.Merged.{start_among, starts}
-use Rattle.merge_join.proofs.MergedTrees.{AreLists, merged_is}
+use Rattle.merge_join.proofs.MergedTrees.{merged_is}
 use Rattle.merge_join.proofs.tree.put_all.Goals as goal
 
 pub returns : goal.returns

@@ -1,5 +1,4 @@
 use Rattle.std.proofs.Common.{◌∙◌, ap}
-use Rattle.wasm_tree.specs.declared.module.Module.{Module}
 use Rattle.merge_join.proofs.tree.tree_of.Goals as goal
 
 pub returns : goal.returns

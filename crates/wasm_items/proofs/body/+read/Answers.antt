@@ -1,8 +1,5 @@
-use Rattle.std.proofs.Common.{◌≡◌, ℕ, ◌<◌, ◌≤◌, ◌-◌, ◌+◌, [], ◌∷◌, ◌++◌, length, Ok, Err, sym, ap, ◌∙◌, arith, append-nil}
-use Rattle.std.proofs.lemmas.Result.{err_from_is_err_and}
-use Rattle.wasm_tree.specs.declared.instr.Instr.{Instr}
-use Rattle.wasm_format.specs.declared.fault.Fault.{Fault}
-use Rattle.wasm_format.specs.BodyReading.{sequence_at, block_at, behind}
+use Rattle.std.proofs.Common.{◌≡◌, [], ◌∷◌, Err, sym, ap, ◌∙◌, arith, append-nil}
+use Rattle.wasm_format.specs.BodyReading.{sequence_at, behind}
 use Rattle.wasm_format.proofs.Loops.{fails_through}
 use Rattle.wasm_format.proofs.Blocks.{behind_none, behind_behind, behind_fails, block_none, block_some, seq_err, seq_end, seq_else, seq_plain, seq_open, seq_open_err}
 use Rattle.wasm_items.proofs.body.+read.Goals as goal

@@ -1,4 +1,4 @@
-use Rattle.std.proofs.Common.{get_or, pos, ◌∙◌, ◌++◌, ap, sym}
+use Rattle.std.proofs.Common.{get_or, pos, ◌∙◌, ◌++◌, ap}
 use Rattle.wasm_tree.specs.declared.module.ConstExpr.TheVariants as const
 use Rattle.wasm_bytes.specs.Writing.{u32_text}
 use Rattle.wasm_tree.specs.declared.module.ConstExpr.{ConstExpr}
