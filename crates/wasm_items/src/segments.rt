@@ -83,41 +83,30 @@ fn read_elem_funcs(alloc: Global, cursor: &mut Cursor<'_>, flags: u32) -> Result
     ensures gives { Gives result cursor.new (elem_from flags cursor.old) }
     ensures shorter { OnOk result (length cursor.new ≤ length cursor.old) }
 {
+    let ty = RefType::Func;
     match flags {
         0 => {
             let offset = ConstExpr::read(alloc, cursor)?;
             let items = read_funcs(alloc, cursor)?;
-            Ok(ElemSeg {
-                mode: ElemMode::Active { table: 0, offset },
-                ty: RefType::Func,
-                items,
-            })
+            let mode = ElemMode::Active { table: 0, offset };
+            Ok(ElemSeg { mode, ty, items })
         }
         1 => {
             let items = read_kind_funcs(alloc, cursor)?;
-            Ok(ElemSeg {
-                mode: ElemMode::Passive,
-                ty: RefType::Func,
-                items,
-            })
+            let mode = ElemMode::Passive;
+            Ok(ElemSeg { mode, ty, items })
         }
         2 => {
             let table = cursor.u32()?;
             let offset = ConstExpr::read(alloc, cursor)?;
             let items = read_kind_funcs(alloc, cursor)?;
-            Ok(ElemSeg {
-                mode: ElemMode::Active { table, offset },
-                ty: RefType::Func,
-                items,
-            })
+            let mode = ElemMode::Active { table, offset };
+            Ok(ElemSeg { mode, ty, items })
         }
         3 => {
             let items = read_kind_funcs(alloc, cursor)?;
-            Ok(ElemSeg {
-                mode: ElemMode::Declarative,
-                ty: RefType::Func,
-                items,
-            })
+            let mode = ElemMode::Declarative;
+            Ok(ElemSeg { mode, ty, items })
         }
         _ => unreachable!(),
     }
@@ -134,40 +123,29 @@ fn read_elem_constants(alloc: Global, cursor: &mut Cursor<'_>, flags: u32) -> Re
         4 => {
             let offset = ConstExpr::read(alloc, cursor)?;
             let items = read_list(alloc, cursor)?;
-            Ok(ElemSeg {
-                mode: ElemMode::Active { table: 0, offset },
-                ty: RefType::Func,
-                items,
-            })
+            let mode = ElemMode::Active { table: 0, offset };
+            let ty = RefType::Func;
+            Ok(ElemSeg { mode, ty, items })
         }
         5 => {
             let ty = RefType::read(alloc, cursor)?;
             let items = read_list(alloc, cursor)?;
-            Ok(ElemSeg {
-                mode: ElemMode::Passive,
-                ty,
-                items,
-            })
+            let mode = ElemMode::Passive;
+            Ok(ElemSeg { mode, ty, items })
         }
         6 => {
             let table = cursor.u32()?;
             let offset = ConstExpr::read(alloc, cursor)?;
             let ty = RefType::read(alloc, cursor)?;
             let items = read_list(alloc, cursor)?;
-            Ok(ElemSeg {
-                mode: ElemMode::Active { table, offset },
-                ty,
-                items,
-            })
+            let mode = ElemMode::Active { table, offset };
+            Ok(ElemSeg { mode, ty, items })
         }
         7 => {
             let ty = RefType::read(alloc, cursor)?;
             let items = read_list(alloc, cursor)?;
-            Ok(ElemSeg {
-                mode: ElemMode::Declarative,
-                ty,
-                items,
-            })
+            let mode = ElemMode::Declarative;
+            Ok(ElemSeg { mode, ty, items })
         }
         _ => unreachable!(),
     }
