@@ -1,7 +1,7 @@
 ghost use Rattle.std.specs.Prelude.{◌≡◌, ◌<◌, ◌≤◌, length, OnOk};
 ghost use Rattle.wasm_bytes.specs.Reading.{lent};
 ghost use Rattle.wasm_format.specs.declared.fault.Fault.TheVariants.{Malformed as Misspelled};
-ghost use Rattle.wasm_format.specs.Reading.{Gives, GivesSlice, sized_at, u32_at, mapped_at, each_at, func_item_at, func_items_at, tagged_at, elem_at, data_at};
+ghost use Rattle.wasm_format.specs.Reading.{Gives, GivesSlice, sized_at, u32_at, mapped_at, each_at, func_item_at, func_items_at, tagged_at, elem_from, elem_at, data_at};
 
 use crate::types::read_tag;
 use crate::vectors::{Spelled, read_list};
@@ -77,85 +77,89 @@ fn read_kind_funcs(alloc: Global, cursor: &mut Cursor<'_>) -> Result<Items<Const
     read_funcs(alloc, cursor)
 }
 
+/// The rest of an element segment of function indices, after its flags (WebAssembly Core 2.0, section 5.5.12).
+fn read_elem_funcs(alloc: Global, cursor: &mut Cursor<'_>, flags: u32) -> Result<ElemSeg, Fault>
+    requires most { flags ≤ 3 }
+    ensures gives { Gives result cursor.new (elem_from flags cursor.old) }
+    ensures shorter { OnOk result (length cursor.new ≤ length cursor.old) }
+{
+    let ty = RefType::Func;
+    match flags {
+        0 => {
+            let offset = ConstExpr::read(alloc, cursor)?;
+            let items = read_funcs(alloc, cursor)?;
+            let mode = ElemMode::Active { table: 0, offset };
+            Ok(ElemSeg { mode, ty, items })
+        }
+        1 => {
+            let items = read_kind_funcs(alloc, cursor)?;
+            let mode = ElemMode::Passive;
+            Ok(ElemSeg { mode, ty, items })
+        }
+        2 => {
+            let table = cursor.u32()?;
+            let offset = ConstExpr::read(alloc, cursor)?;
+            let items = read_kind_funcs(alloc, cursor)?;
+            let mode = ElemMode::Active { table, offset };
+            Ok(ElemSeg { mode, ty, items })
+        }
+        3 => {
+            let items = read_kind_funcs(alloc, cursor)?;
+            let mode = ElemMode::Declarative;
+            Ok(ElemSeg { mode, ty, items })
+        }
+        _ => unreachable!(),
+    }
+}
+
+/// The rest of an element segment of constant expressions, after its flags (WebAssembly Core 2.0, section 5.5.12).
+fn read_elem_constants(alloc: Global, cursor: &mut Cursor<'_>, flags: u32) -> Result<ElemSeg, Fault>
+    requires least { 4 ≤ flags }
+    requires most { flags ≤ 7 }
+    ensures gives { Gives result cursor.new (elem_from flags cursor.old) }
+    ensures shorter { OnOk result (length cursor.new ≤ length cursor.old) }
+{
+    match flags {
+        4 => {
+            let offset = ConstExpr::read(alloc, cursor)?;
+            let items = read_list(alloc, cursor)?;
+            let mode = ElemMode::Active { table: 0, offset };
+            let ty = RefType::Func;
+            Ok(ElemSeg { mode, ty, items })
+        }
+        5 => {
+            let ty = RefType::read(alloc, cursor)?;
+            let items = read_list(alloc, cursor)?;
+            let mode = ElemMode::Passive;
+            Ok(ElemSeg { mode, ty, items })
+        }
+        6 => {
+            let table = cursor.u32()?;
+            let offset = ConstExpr::read(alloc, cursor)?;
+            let ty = RefType::read(alloc, cursor)?;
+            let items = read_list(alloc, cursor)?;
+            let mode = ElemMode::Active { table, offset };
+            Ok(ElemSeg { mode, ty, items })
+        }
+        7 => {
+            let ty = RefType::read(alloc, cursor)?;
+            let items = read_list(alloc, cursor)?;
+            let mode = ElemMode::Declarative;
+            Ok(ElemSeg { mode, ty, items })
+        }
+        _ => unreachable!(),
+    }
+}
+
 impl Spelled for ElemSeg {
     ghost reading = { elem_at };
 
     #[tactic(auto, unfolding(wasm_format::specs::Reading::elem_at))]
     fn read(alloc: Global, cursor: &mut Cursor<'_>) -> Result<ElemSeg, Fault> {
-        match cursor.u32()? {
-            0 => {
-                let offset = ConstExpr::read(alloc, cursor)?;
-                let items = read_funcs(alloc, cursor)?;
-                Ok(ElemSeg {
-                    mode: ElemMode::Active { table: 0, offset },
-                    ty: RefType::Func,
-                    items,
-                })
-            }
-            1 => {
-                let items = read_kind_funcs(alloc, cursor)?;
-                Ok(ElemSeg {
-                    mode: ElemMode::Passive,
-                    ty: RefType::Func,
-                    items,
-                })
-            }
-            2 => {
-                let table = cursor.u32()?;
-                let offset = ConstExpr::read(alloc, cursor)?;
-                let items = read_kind_funcs(alloc, cursor)?;
-                Ok(ElemSeg {
-                    mode: ElemMode::Active { table, offset },
-                    ty: RefType::Func,
-                    items,
-                })
-            }
-            3 => {
-                let items = read_kind_funcs(alloc, cursor)?;
-                Ok(ElemSeg {
-                    mode: ElemMode::Declarative,
-                    ty: RefType::Func,
-                    items,
-                })
-            }
-            4 => {
-                let offset = ConstExpr::read(alloc, cursor)?;
-                let items = read_list(alloc, cursor)?;
-                Ok(ElemSeg {
-                    mode: ElemMode::Active { table: 0, offset },
-                    ty: RefType::Func,
-                    items,
-                })
-            }
-            5 => {
-                let ty = RefType::read(alloc, cursor)?;
-                let items = read_list(alloc, cursor)?;
-                Ok(ElemSeg {
-                    mode: ElemMode::Passive,
-                    ty,
-                    items,
-                })
-            }
-            6 => {
-                let table = cursor.u32()?;
-                let offset = ConstExpr::read(alloc, cursor)?;
-                let ty = RefType::read(alloc, cursor)?;
-                let items = read_list(alloc, cursor)?;
-                Ok(ElemSeg {
-                    mode: ElemMode::Active { table, offset },
-                    ty,
-                    items,
-                })
-            }
-            7 => {
-                let ty = RefType::read(alloc, cursor)?;
-                let items = read_list(alloc, cursor)?;
-                Ok(ElemSeg {
-                    mode: ElemMode::Declarative,
-                    ty,
-                    items,
-                })
-            }
+        let flags = cursor.u32()?;
+        match flags {
+            0..=3 => read_elem_funcs(alloc, cursor, flags),
+            4..=7 => read_elem_constants(alloc, cursor, flags),
             _ => Err(Fault::Malformed),
         }
     }

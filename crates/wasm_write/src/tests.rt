@@ -19,12 +19,6 @@ fn is_written(alloc: Global, module: &Module, expected: &[u8]) -> Result<bool, N
     Ok(bytes.as_slice() == expected && fits(module, size) && !fits(module, size.saturating_sub(1)))
 }
 
-/// Whether the bytes that are written end so.
-fn ends_so(alloc: Global, module: &Module, expected: &[u8]) -> Result<bool, NoMemory> {
-    let bytes = write(alloc, module)?;
-    Ok(bytes.as_slice().ends_with(expected))
-}
-
 /// One function type, of nothing to nothing.
 fn types(alloc: Global) -> Result<Items<FuncType>, NoMemory> {
     let mut types = Items::new(alloc);
@@ -110,22 +104,27 @@ fn with_data(alloc: Global, instr: Instr) -> Result<Module, NoMemory> {
     Ok(module)
 }
 
+/// Whether what is written of a module with this body and a data segment ends so.
+fn ends_so(alloc: Global, instr: Instr, expected: &[u8]) -> Result<bool, NoMemory> {
+    let module = with_data(alloc, instr)?;
+    let bytes = write(alloc, &module)?;
+    Ok(bytes.as_slice().ends_with(expected))
+}
+
 #[test]
 fn a_data_count_stands_where_a_body_needs_one(rt: HostRuntime) -> Result<(), Fail> {
     let alloc = rt.alloc();
-    let counted = with_data(alloc, Instr::DataDrop(0))?;
     assert!(rt;
         ends_so(
             alloc,
-            &counted,
+            Instr::DataDrop(0),
             b"\x03\x02\x01\x00\x0C\x01\x01\x0A\x07\x01\x05\x00\xFC\x09\x00\x0B\x0B\x04\x01\x01\x01\x78",
         )?
     );
-    let plain = with_data(alloc, Instr::Nop)?;
     assert!(rt;
         ends_so(
             alloc,
-            &plain,
+            Instr::Nop,
             b"\x03\x02\x01\x00\x0A\x05\x01\x03\x00\x01\x0B\x0B\x04\x01\x01\x01\x78"
         )?
     );
@@ -309,10 +308,8 @@ fn exports(alloc: Global) -> Result<Items<Export>, NoMemory> {
     Ok(exports)
 }
 
-#[test]
-fn sections_stand_in_their_order(rt: HostRuntime) -> Result<(), Fail> {
-    let alloc = rt.alloc();
-    let mut module = Module::empty(alloc);
+/// Puts one item in each section without code or segments.
+fn put_items(alloc: Global, module: &mut Module) -> Result<(), NoMemory> {
     module.types = types(alloc)?;
     module.imports = imports(alloc)?;
     module.tables = tables(alloc)?;
@@ -320,6 +317,14 @@ fn sections_stand_in_their_order(rt: HostRuntime) -> Result<(), Fail> {
     module.globals = globals(alloc)?;
     module.exports = exports(alloc)?;
     module.start = Some(0);
+    Ok(())
+}
+
+#[test]
+fn sections_stand_in_their_order(rt: HostRuntime) -> Result<(), Fail> {
+    let alloc = rt.alloc();
+    let mut module = Module::empty(alloc);
+    put_items(alloc, &mut module)?;
     assert!(rt;
         is_written(
             alloc,
