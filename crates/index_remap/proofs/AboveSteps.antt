@@ -1,24 +1,40 @@
 -- A step leaves alone what it does not touch.
-use Rattle.std.proofs.Common.{◌≡◌, ℕ, List, ◌∷◌, ◌++◌, refl, sym, ap, subst}
+use Rattle.std.proofs.Common.{◌≡◌, ℕ, List, [], ◌∷◌, ◌++◌, true, refl, sym, ap, subst}
+use Rattle.std.proofs.lemmas.Bool.{true≢false}
 use Rattle.wasm_meaning.specs.Outcomes.{Outcome, bind}
-use Rattle.wasm_meaning.specs.State.{Val, Store, Frame, Entry, Act, Ends}
+use Rattle.wasm_meaning.specs.State.{Val, Store, Frame, Entry, Running, Mark, Opening, Waiting, Ended, Growing, Act, Ends}
 use Rattle.wasm_meaning.specs.Values.{pop_typed}
 use Rattle.wasm_meaning.specs.Step.{enter_at, give, act, perform, step, to_mark}
 use Rattle.index_remap.specs.Related.{Funcs, Pairing, OneToOne, ResRel, done, trap, wrong, ListRel, nil, cons, ValRel, StoreRel, FrameRel, EntryRel, running, mark, opening, waiting, ended, growing, ActRel, goes, calls, asks_grow, ends, NextRel, ran, asked_grow, returned, NotListed, TopSkips}
-use Rattle.index_remap.specs.Laws.{Above, NeedsBelow, Touches, EntriesKnown, HasMark, below, MarksAgree}
+use Rattle.index_remap.specs.Laws.{Above, NeedsBelow, Touches, EntriesKnown, ends_trap, NoMark, MarksAgree}
 use Rattle.index_remap.proofs.Rel.{there, same_there, bind_rel, bind_eq}
 use Rattle.index_remap.proofs.ValueSteps.{pop_typed_rel}
 use Rattle.index_remap.proofs.StepsAgree.{frame_rel, left_rel, enter_rel, give_levels_rel, changed_rel, act_rel}
 
+-- a trap goes past entries of which none is a mark
+past : (es fs : List Entry) → NoMark es → to_mark (es ++ fs) ≡ to_mark fs
+past [] fs h = refl
+past (Running f ∷ es) fs h = past es fs h.1
+past (Mark ∷ es) fs h = absurd (true≢false h.0)
+past (Opening xs ∷ es) fs h = absurd (true≢false h.0)
+past (Waiting ts ∷ es) fs h = past es fs h.1
+past (Ended vs ∷ es) fs h = past es fs h.1
+past (Growing g ∷ es) fs h = past es fs h.1
+
 module _ (R : Pairing) (cs ds : List Entry) where
-  pub marks_agree : {s t : Store} {es fs : List Entry} → ListRel (EntryRel R) es fs → HasMark es → ResRel (MarksAgree R cs ds s t) (to_mark (es ++ cs)) (to_mark (fs ++ ds))
-  marks_agree nil h = elim h [ ]
-  marks_agree (cons mark e) h = done (record { caller = refl; rest = record { first = _; second = _; related = e; left = refl; right = refl } })
-  marks_agree (cons (opening x) e) h = done (record { caller = refl; rest = record { first = _; second = _; related = e; left = refl; right = refl } })
-  marks_agree (cons (running f) e) (below h) = marks_agree e h
-  marks_agree (cons waiting e) (below h) = marks_agree e h
-  marks_agree (cons (ended v) e) (below h) = marks_agree e h
-  marks_agree (cons (growing n) e) (below h) = marks_agree e h
+  at_mark : {s t : Store} {e f : Entry} {es fs : List Entry} → ends_trap e ≡ true → EntryRel R e f → ListRel (EntryRel R) es fs → ResRel (MarksAgree R cs ds s t) (to_mark (e ∷ (es ++ cs))) (to_mark (f ∷ (fs ++ ds)))
+  at_mark h mark e = done (record { caller = refl; rest = record { first = _; second = _; related = e; left = refl; right = refl } })
+  at_mark h (opening x) e = done (record { caller = refl; rest = record { first = _; second = _; related = e; left = refl; right = refl } })
+  at_mark h (running f) e = absurd (true≢false (sym h))
+  at_mark h waiting e = absurd (true≢false (sym h))
+  at_mark h (ended v) e = absurd (true≢false (sym h))
+  at_mark h (growing n) e = absurd (true≢false (sym h))
+
+  pub traps_agree : (s t : Store) (above beyond es fs : List Entry) (e f : Entry) → NoMark above → NoMark beyond → ends_trap e ≡ true → EntryRel R e f → ListRel (EntryRel R) es fs →
+      ResRel (MarksAgree R cs ds s t) (to_mark (above ++ (e ∷ (es ++ cs)))) (to_mark (beyond ++ (f ∷ (fs ++ ds))))
+  traps_agree s t above beyond es fs e f n o h p r =
+      subst (λ x. ResRel (MarksAgree R cs ds s t) x (to_mark (beyond ++ (f ∷ (fs ++ ds))))) (sym (past above (e ∷ (es ++ cs)) n))
+      (subst (λ y. ResRel (MarksAgree R cs ds s t) (to_mark (e ∷ (es ++ cs))) y) (sym (past beyond (f ∷ (fs ++ ds)) o)) (at_mark h p r))
 
 module _ (R : Pairing) (apart : OneToOne R) (cs ds : List Entry) where
   abbrev pub Both : Store → Store → List Entry → List Entry → Type 0
@@ -30,7 +46,7 @@ module _ (R : Pairing) (apart : OneToOne R) (cs ds : List Entry) where
   above : {s t : Store} {es fs : List Entry} → ListRel (EntryRel R) es fs → Both s t (es ++ cs) (fs ++ ds)
   above e = record { first = _; second = _; related = e; left = refl; right = refl }
 
-  give_rel : {s t : Store} {vs ws : List Val} {e f : Entry} {es fs : List Entry} → StoreRel R s t → ListRel (ValRel R) vs ws → EntryRel R e f → ListRel (EntryRel R) es fs →
+  pub give_rel : {s t : Store} {vs ws : List Val} {e f : Entry} {es fs : List Entry} → StoreRel R s t → ListRel (ValRel R) vs ws → EntryRel R e f → ListRel (EntryRel R) es fs →
       ResRel (NextRel R Both) (give s vs (e ∷ (es ++ cs))) (give t ws (f ∷ (fs ++ ds)))
   give_rel s v (running f) e = give_levels_rel R apart Both Both (λ s t es fs e. e) push s f f.levels v (above e)
   give_rel s v mark e = done (returned v s (above e))
@@ -39,17 +55,22 @@ module _ (R : Pairing) (apart : OneToOne R) (cs ds : List Entry) where
   give_rel s v (ended w) e = wrong
   give_rel s v (growing n) e = wrong
 
-  enter_at_rel : {s t : Store} {a b : ℕ} {vs ws : List Val} {es fs : List Entry} → StoreRel R s t → R.of Funcs a b → ¬ R.listed a → ListRel (ValRel R) vs ws → Both s t es fs → ResRel (NextRel R Both) (enter_at s a vs es) (enter_at t b ws fs)
+  -- to what stands below, where anything does
+  give_below : {s t : Store} {vs ws : List Val} {es fs : List Entry} (us : List Val) → StoreRel R s t → ListRel (ValRel R) vs ws → ListRel (EntryRel R) es fs → NeedsBelow es cs ds (Ends us) →
+      ResRel (NextRel R Both) (give s vs (es ++ cs)) (give t ws (fs ++ ds))
+  give_below {s} {t} {vs = vs} {ws = ws} us h v nil needs = subst (λ xs. ResRel (NextRel R Both) (give s vs xs) (give t ws ds)) (sym needs.0) (subst (λ ys. ResRel (NextRel R Both) (give s vs []) (give t ws ys)) (sym needs.1) wrong)
+  give_below us h v (cons e r) needs = give_rel h v e r
+
+  pub enter_at_rel : {s t : Store} {a b : ℕ} {vs ws : List Val} {es fs : List Entry} → StoreRel R s t → R.of Funcs a b → ¬ R.listed a → ListRel (ValRel R) vs ws → Both s t es fs → ResRel (NextRel R Both) (enter_at s a vs es) (enter_at t b ws fs)
   enter_at_rel s n free v e = bind_rel (there (s.funcs n free)) (λ _ _ f. done (enter_rel R apart Both Both (λ s t es fs e. e) push s f v e))
 
-  ends_rel : {s t : Store} {f g : Frame} {vs ws : List Val} {es fs : List Entry} → StoreRel R s t → FrameRel R f g → ListRel (ValRel R) vs ws → ListRel (EntryRel R) es fs → NeedsBelow es (Ends vs) →
+  ends_rel : {s t : Store} {f g : Frame} {vs ws : List Val} {es fs : List Entry} → StoreRel R s t → FrameRel R f g → ListRel (ValRel R) vs ws → ListRel (EntryRel R) es fs → NeedsBelow es cs ds (Ends vs) →
       ResRel (NextRel R Both) (perform s f (es ++ cs) (Ends vs)) (perform t g (fs ++ ds) (Ends ws))
-  ends_rel s p v nil needs = absurd needs
-  ends_rel {s = s1} {t = t1} {f = f} {vs = vs} {ws = ws} s p v (cons {a = x} {b = y} {xs = es} {ys = fs} e r) needs =
-      subst (λ ts. ResRel (NextRel R Both) (bind (pop_typed f.results vs) (λ q. give s1 q.0 (x ∷ (es ++ cs)))) (bind (pop_typed ts ws) (λ q. give t1 q.0 (y ∷ (fs ++ ds))))) p.results
-      (bind_rel (pop_typed_rel R f.results v) (λ _ _ q. give_rel s q.first e r))
+  ends_rel {s = s1} {t = t1} {f = f} {vs = vs} {ws = ws} {es = es} {fs = fs} s p v e needs =
+      subst (λ ts. ResRel (NextRel R Both) (bind (pop_typed f.results vs) (λ q. give s1 q.0 (es ++ cs))) (bind (pop_typed ts ws) (λ q. give t1 q.0 (fs ++ ds)))) p.results
+      (bind_rel (pop_typed_rel R f.results v) (λ _ _ q. give_below vs s q.first e needs))
 
-  perform_free : {s t : Store} {f g : Frame} {x y : Act} {es fs : List Entry} → StoreRel R s t → FrameRel R f g → ActRel R f.inst g.inst x y → ListRel (EntryRel R) es fs → NotListed R x → NeedsBelow es x →
+  perform_free : {s t : Store} {f g : Frame} {x y : Act} {es fs : List Entry} → StoreRel R s t → FrameRel R f g → ActRel R f.inst g.inst x y → ListRel (EntryRel R) es fs → NotListed R x → NeedsBelow es cs ds x →
       ResRel (NextRel R Both) (perform s f (es ++ cs) x) (perform t g (fs ++ ds) y)
   perform_free s f (goes c r) e free needs = done (ran (changed_rel R apart s c) (push _ _ _ _ _ _ (running (frame_rel R apart f r)) (above e)))
   perform_free s f (calls n v r) e free needs =
@@ -57,13 +78,13 @@ module _ (R : Pairing) (apart : OneToOne R) (cs ds : List Entry) where
   perform_free s f (asks_grow n r) e free needs = done (asked_grow n s (push _ _ _ _ _ _ (growing n) (push _ _ _ _ _ _ (running (frame_rel R apart f r)) (above e))))
   perform_free s f (ends v) e free needs = ends_rel s f v e needs
 
-  pub step_above : {s t : Store} {es fs : List Entry} → StoreRel R s t → ListRel (EntryRel R) es fs → Touches s es → TopSkips R s es → EntriesKnown R es fs → ResRel (NextRel R Both) (step s (es ++ cs)) (step t (fs ++ ds))
-  step_above s nil touches free known = absurd touches
-  step_above s (cons mark e) touches free known = absurd touches
-  step_above s (cons (opening x) e) touches free known = absurd touches
-  step_above s (cons waiting e) touches free known = absurd touches
-  step_above s (cons (ended v) e) touches free known = absurd touches
-  step_above s (cons (growing n) e) touches free known = absurd touches
+  pub step_above : {s t : Store} {es fs : List Entry} → StoreRel R s t → ListRel (EntryRel R) es fs → Touches s es cs ds → TopSkips R s es → EntriesKnown R es fs → ResRel (NextRel R Both) (step s (es ++ cs)) (step t (fs ++ ds))
+  step_above {s} {t} h nil touches free known = subst (λ xs. ResRel (NextRel R Both) (step s xs) (step t ds)) (sym touches.0) (subst (λ ys. ResRel (NextRel R Both) (step s []) (step t ys)) (sym touches.1) wrong)
+  step_above s (cons mark e) touches free known = wrong
+  step_above s (cons (opening x) e) touches free known = wrong
+  step_above s (cons waiting e) touches free known = wrong
+  step_above s (cons (ended v) e) touches free known = wrong
+  step_above s (cons (growing n) e) touches free known = wrong
   step_above {s} {t} p (cons {xs = es} {ys = fs} (running {f = f} {g = g} q) e) touches free known = go (act s f) (act t g) refl (act_rel R apart p q free.direct known)
     where
       go : (x y : Outcome Act) → x ≡ act s f → ResRel (ActRel R f.inst g.inst) x y → ResRel (NextRel R Both) (bind x (perform s f (es ++ cs))) (bind y (perform t g (fs ++ ds)))

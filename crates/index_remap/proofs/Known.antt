@@ -3,9 +3,10 @@ use Rattle.std.proofs.Common.{ℕ, List, [], ◌∷◌, true, false}
 use Rattle.wasm_tree.specs.declared.instr.Instr.{Instr}
 use Rattle.wasm_tree.specs.declared.instr.Instr.TheOpen.{Instr-F}
 use Rattle.wasm_meaning.specs.Outcomes.{Outcome}
-use Rattle.wasm_meaning.specs.State.{Inst, Level}
+use Rattle.wasm_meaning.specs.State.{Inst, Level, Entry, Running, Mark, Opening, Waiting, Ended, Growing}
 use Rattle.index_remap.specs.Related
 use Rattle.index_remap.specs.Related.{Kind, Pairing, ResRel, done, trap, wrong, Names, ArgRel, OpRel, NextKnown, TopKnown}
+use Rattle.index_remap.specs.Laws.{EntriesKnown}
 
 module _ (R : Pairing) (known : (k : Kind) (a b : ℕ) → R.named k a b → R.of k a b) (i j : Inst) where
   names_known : {k : Kind} {o p : Outcome ℕ} → ResRel (R.named k) o p → ResRel (R.of k) o p
@@ -66,3 +67,18 @@ module _ (R : Pairing) (known : (k : Kind) (a b : ℕ) → R.named k a b → R.o
   top_known (l ∷ ls) (m ∷ ms) = next_known l.code m.code
   top_known [] ms = tt
   top_known (l ∷ ls) [] = tt
+
+pub entries_known : (R : Pairing) → ((k : Kind) (a b : ℕ) → R.named k a b → R.of k a b) → (es fs : List Entry) → EntriesKnown R es fs
+entries_known R known (Running f ∷ es) (Running g ∷ fs) = top_known R known f.inst g.inst f.levels g.levels
+entries_known R known (Running f ∷ es) (Mark ∷ fs) = tt
+entries_known R known (Running f ∷ es) (Opening ys ∷ fs) = tt
+entries_known R known (Running f ∷ es) (Waiting us ∷ fs) = tt
+entries_known R known (Running f ∷ es) (Ended ws ∷ fs) = tt
+entries_known R known (Running f ∷ es) (Growing h ∷ fs) = tt
+entries_known R known (Running f ∷ es) [] = tt
+entries_known R known (Mark ∷ es) fs = tt
+entries_known R known (Opening xs ∷ es) fs = tt
+entries_known R known (Waiting ts ∷ es) fs = tt
+entries_known R known (Ended vs ∷ es) fs = tt
+entries_known R known (Growing g ∷ es) fs = tt
+entries_known R known [] fs = tt

@@ -8,6 +8,7 @@ pub mod ControlSteps
 pub mod StepsAgree
 pub mod Known
 pub mod Lockstep
+pub mod Shown
 pub mod Runs
 pub mod SameRuns
 pub mod AboveSteps

@@ -54,8 +54,8 @@ module _ (R : Pairing) (apart : OneToOne R) (known : (k : Kind) (a b : ℕ) → 
     changes = λ c e. record { entries = e.entries; keeps = changed_keeps c e.keeps };
     changes_all = λ c e. record { entries = e.entries; keeps = changed_keeps c e.keeps };
     push = λ p e. record { entries = cons p e.entries; keeps = e.keeps };
-    marks = λ e. marks_held e.keeps (marks R apart known e.entries);
-    marked = λ e. marked R apart known e.entries;
+    marks = λ e. marks_held e.keeps (marks R apart e.entries);
+    marked = λ e. marked R apart e.entries;
     gives = λ s v e. give_held s v e.keeps e.entries;
     enters = λ s n _ _ v e. bind_rel (there (s.funcs n (plain _))) (λ _ _ f. done (enter_rel R apart Held Held (λ s t es fs e. e) push s f v e));
   }

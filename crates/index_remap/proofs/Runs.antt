@@ -1,28 +1,26 @@
 -- Related runs show the same events.
-use Rattle.std.proofs.Common.{◌≡◌, ℕ, ◌^◌, List, [], ◌∷◌, ◌++◌, Option, Some, None, Bool, true, false, cond, ◌⊎◌, inl, inr, refl, sym, ap, subst, ◌∙◌}
-use Rattle.std.proofs.lemmas.Bool.Decides.{eqb_tells}
+use Rattle.std.proofs.Common.{◌≡◌, ℕ, ◌^◌, List, [], ◌∷◌, Option, Some, None, Bool, true, false, cond, refl, ap, subst}
 use Rattle.std.specs.Prelude.{nat_eq, nat_lt}
 use Rattle.wasm_tree.specs.declared.types.RefType.{RefType}
 use Rattle.wasm_tree.specs.declared.types.RefType.TheVariants as reft
 use Rattle.wasm_tree.specs.declared.types.ValType.{ValType}
 use Rattle.wasm_tree.specs.declared.types.ValType.TheVariants as valt
-use Rattle.wasm_tree.specs.declared.types.FuncType.{FuncType}
 use Rattle.wasm_num.specs.Operations.{W32}
-use Rattle.wasm_meaning.specs.Outcomes.{Outcome, Gives, Traps, IllTyped, bind, at, overwrite}
-use Rattle.wasm_meaning.specs.State.{Pair, RefVal, Val, Num, Table, Memory, Store, Change, SetTable, Growth, Entry, Caller, Host, Starter, Opening, Ended, Next}
+use Rattle.wasm_meaning.specs.Outcomes.{Outcome, Gives, IllTyped, bind, at, overwrite}
+use Rattle.wasm_meaning.specs.State.{RefVal, Val, Num, Table, Memory, Store, Change, SetTable, Growth, Entry, Caller, Host, Starter, Opening, Ended, Next}
 use Rattle.wasm_meaning.specs.Values.{typed, null_of, ref_of}
 use Rattle.wasm_meaning.specs.Memory.{memory_may_grow}
 use Rattle.wasm_meaning.specs.Tables.{table_may_grow}
-use Rattle.wasm_meaning.specs.Control.{own_at}
 use Rattle.wasm_meaning.specs.Step.{give, step}
 use Rattle.wasm_meaning.specs.Linking.{same_text}
 use Rattle.wasm_meaning.specs.Environment.{Shown, Number, Null, OwnFunc, ExternNumber, Function, Thing, FuncKey, TableKey, MemoryKey, GlobalKey, Owned, same_key, look_up, owned_at, func_of, func_value, received, received_ref, received_all}
 use Rattle.wasm_meaning.specs.World.{Begun}
-use Rattle.wasm_meaning.specs.Run.{Event, InstanceTrapped, Returned, Asked, Got, Place, TableOf, MemoryOf, GlobalOf, Named, Move, Call, Invoke, Take, Answer, Refuse, Grant, Deny, Get, Size, Set, Extend, Phase, Pending, Closed, Run, Out, place_at, place_of, numbered, show_func, show, show_all, trapped_at, trapped_to, showing, after, called, is_mark, delivered, grown_table, answered, refused, with_change, granted, decided, shows, got, size_of, does, byte_of, set, extended, moved, at_entries, or_bad, or_closed, next_move, began, view_of, nothing_in, started, open_next, is_taken_closed, closed_move, in_phase, tick_at}
+use Rattle.wasm_meaning.specs.Run.{Event, InstanceTrapped, Returned, Asked, Got, Place, TableOf, MemoryOf, GlobalOf, Named, Move, Call, Invoke, Take, Answer, Refuse, Grant, Deny, Get, Size, Set, Extend, Phase, Pending, Closed, Run, Out, place_at, trapped_at, trapped_to, showing, after, called, is_mark, delivered, grown_table, answered, refused, with_change, granted, decided, shows, got, size_of, does, byte_of, set, extended, moved, at_entries, or_bad, or_closed, next_move, began, view_of, nothing_in, started, open_next, is_taken_closed, closed_move, in_phase, tick_at}
 use Rattle.index_remap.specs.Related.{Funcs, Mems, Pairing, OneToOne, OptRel, none, some, ResRel, done, trap, wrong, ListRel, nil, cons, RefRel, func, extern, ValRel, number, reference, TableRel, StoreRel, mark, opening, waiting, ended, growing, ChangeRel, set_global, set_memory, set_table, GrowthRel, memory_grows, table_grows, NextRel, ran, asked, asked_grow, loads, returned}
 use Rattle.index_remap.specs.RelatedRuns.{ThingRel, a_func, a_table, a_memory, a_global, KeyRel, BegunRel, PhaseRel, fresh, pending, opened, closed, RunRel, OutRel}
 use Rattle.index_remap.proofs.Rel.{there, same_there, bind_rel, bind_rel_is, bind_is, bind_same, bind_eq, cond_rel, PairRel, OptAll, nothing, just, bind_all, all_at, any, at_rel, append_rel, length_rel, copies_rel, overwrite_rel}
 use Rattle.index_remap.proofs.ValueSteps.{Fits}
+use Rattle.index_remap.proofs.Shown.{show_rel, show_all_rel}
 use Rattle.index_remap.proofs.TableSteps.{may_rel}
 use Rattle.index_remap.proofs.StepsAgree.{Stacks, TopView, top_none, top_mark, top_opening, top_waiting, top_ended, top_growing, top_running, changed_rel}
 
@@ -37,51 +35,6 @@ module _ (R : Pairing) (apart : OneToOne R) (B C : Store → Store → List Entr
 
   phase_rel : {r q : Run} {p o : Phase} → RunRel R B F r q → PhaseRel R F p o → RunRel R B F (record r { phase = p }) (record q { phase = o })
   phase_rel h x = record { store = h.store; entries = h.entries; phase = x; shown = h.shown; view = h.view; owned = h.owned; moves = h.moves }
-
-  -- ---- values shown ----
-
-  eq_rel : {a b c d : ℕ} → R.of Funcs a b → R.of Funcs c d → nat_eq a c ≡ nat_eq b d
-  eq_rel {a} {b} {c} {d} p q = go (eqb_tells a c) (eqb_tells b d)
-    where
-      go : ((nat_eq a c ≡ true) × (a ≡ c)) ⊎ ((nat_eq a c ≡ false) × (a ≡ c → ⊥)) → ((nat_eq b d ≡ true) × (b ≡ d)) ⊎ ((nat_eq b d ≡ false) × (b ≡ d → ⊥)) → nat_eq a c ≡ nat_eq b d
-      go (inl e) (inl f) = e.0 ∙ sym f.0
-      go (inl e) (inr f) = absurd (f.1 (apart.right a b d p (subst (λ x. R.of Funcs x d) (sym e.1) q)))
-      go (inr e) (inl f) = absurd (e.1 (apart.left a c b p (subst (λ x. R.of Funcs c x) (sym f.1) q)))
-      go (inr e) (inr f) = e.0 ∙ sym f.0
-
-  place_rel : {xs ys : List ℕ} {a b : ℕ} → ListRel (R.of Funcs) xs ys → R.of Funcs a b → place_of xs a ≡ place_of ys b
-  place_rel nil p = refl
-  place_rel {a = a} {b = b} (cons {a = x} {b = y} {xs = xs} {ys = ys} q r) p = rw (eq_rel q p, place_rel r p)
-
-  snoc_rel : {xs ys : List ℕ} {a b : ℕ} → ListRel (R.of Funcs) xs ys → R.of Funcs a b → ListRel (R.of Funcs) (xs ++ a ∷ []) (ys ++ b ∷ [])
-  snoc_rel nil p = cons p nil
-  snoc_rel (cons q r) p = cons q (snoc_rel r p)
-
-  pub record ShowRel {A : Type 0} (x y : A × List ℕ) : Type 0 where
-    pub same : x.0 ≡ y.0
-    pub shown : ListRel (R.of Funcs) x.1 y.1
-
-  numbered_rel : {xs ys : List ℕ} {a b : ℕ} (o : Outcome ℕ) → ListRel (R.of Funcs) xs ys → R.of Funcs a b → ShowRel (numbered xs a o) (numbered ys b o)
-  numbered_rel (Gives k) r p = record { same = refl; shown = r }
-  numbered_rel IllTyped r p = record { same = ap Function (length_rel r); shown = snoc_rel r p }
-  numbered_rel Traps r p = record { same = ap Function (length_rel r); shown = snoc_rel r p }
-
-  show_func_rel : {xs ys : List ℕ} {a b : ℕ} (o : Outcome (Pair × FuncType)) → ListRel (R.of Funcs) xs ys → R.of Funcs a b → ShowRel (show_func xs a o) (show_func ys b o)
-  show_func_rel (Gives p) r q = record { same = refl; shown = r }
-  show_func_rel {xs} {a = a} IllTyped r q = rw (← (place_rel r q)) (numbered_rel (place_of xs a) r q)
-  show_func_rel {xs} {a = a} Traps r q = rw (← (place_rel r q)) (numbered_rel (place_of xs a) r q)
-
-  show_rel : {s t : Store} {xs ys : List ℕ} {v w : Val} → StoreRel R s t → ListRel (R.of Funcs) xs ys → ValRel R v w → ShowRel (show s xs v) (show t ys w)
-  show_rel s r number = record { same = refl; shown = r }
-  show_rel s r (reference (func none)) = record { same = refl; shown = r }
-  show_rel {s = s} h r (reference (func (some {a = a} q))) = rw (← (h.owns q)) (show_func_rel (own_at s a) r q)
-  show_rel s r (reference (extern {n = None})) = record { same = refl; shown = r }
-  show_rel s r (reference (extern {n = Some n})) = record { same = refl; shown = r }
-
-  show_all_rel : {s t : Store} {vs ws : List Val} → StoreRel R s t → ListRel (ValRel R) vs ws → (xs ys : List ℕ) → ListRel (R.of Funcs) xs ys → ShowRel (show_all s xs vs) (show_all t ys ws)
-  show_all_rel s nil xs ys r = record { same = refl; shown = r }
-  show_all_rel s (cons v vs) xs ys r =
-      let one = show_rel s r v in let rest = show_all_rel s vs _ _ one.shown in record { same = rw (one.same, rest.same); shown = rest.shown }
 
   -- ---- values received ----
 
@@ -134,7 +87,7 @@ module _ (R : Pairing) (apart : OneToOne R) (B C : Store → Store → List Entr
 
   showing_rel : {r q : Run} {s t : Store} {es fs : List Entry} {vs ws : List Val} (event : List Shown → Event) → RunRel R B F r q → StoreRel R s t → B s t es fs → ListRel (ValRel R) vs ws → OutRel R B F (showing r s es vs event) (showing q t fs ws event)
   showing_rel event h s e v =
-      let x = show_all_rel s v _ _ h.shown in record { event = ap (λ l. Some (event l)) x.same; run = shown_rel (state_rel h s e) x.shown }
+      let x = show_all_rel R apart s v _ _ h.shown in record { event = ap (λ l. Some (event l)) x.same; run = shown_rel (state_rel h s e) x.shown }
 
   pub after_rel : {r q : Run} {o p : Outcome Next} → RunRel R B F r q → ResRel (NextRel R B) o p → OutRel R B F (after r o) (after q p)
   after_rel h wrong = trapped_rel h (stacks.marks h.entries)
@@ -221,7 +174,7 @@ module _ (R : Pairing) (apart : OneToOne R) (B C : Store → Store → List Entr
   decided_rel _ h p e = wrong
 
   shows_rel : {r q : Run} {v w : Val} → RunRel R B F r q → ValRel R v w → ResRel (OutRel R B F) (shows r v) (shows q w)
-  shows_rel h v = let x = show_rel h.store h.shown v in done (record { event = ap (λ s. Some (Got s)) x.same; run = shown_rel h x.shown })
+  shows_rel h v = let x = show_rel R apart h.store h.shown v in done (record { event = ap (λ s. Some (Got s)) x.same; run = shown_rel h x.shown })
 
   got_rel : {r q : Run} {x y : Thing} (n : ℕ) → RunRel R B F r q → ThingRel R x y → ResRel (OutRel R B F) (got r x n) (got q y n)
   got_rel n h (a_func p) = wrong

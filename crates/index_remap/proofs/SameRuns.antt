@@ -1,22 +1,49 @@
--- Runs from related states, where the list is empty, show the same events.
-use Rattle.std.proofs.Common.{◌≡◌, ℕ, zero, suc, List, [], ◌∷◌, refl, ap₂}
+-- Runs from related states, where the list is empty, show the same events: by the law of steps, where all is related and nothing stands below.
+use Rattle.std.proofs.Common.{◌≡◌, ℕ, zero, suc, List, [], ◌∷◌, Bool, refl, sym, ap₂}
+use Rattle.std.proofs.lemmas.Bool.{true≢false}
 use Rattle.wasm_meaning.specs.State.{Store, Entry, Running, Mark, Opening, Waiting, Ended, Growing, Act}
-use Rattle.index_remap.specs.Related.{Kind, Pairing, OneToOne, NotListed, TopSkips}
+use Rattle.wasm_meaning.specs.Step.{step}
 use Rattle.wasm_meaning.specs.Run.{Run, tick, noted, events_of}
-use Rattle.index_remap.proofs.StepsAgree.{Stacks}
-use Rattle.index_remap.proofs.Lockstep.{Entries, stacks, view, step_rel}
+use Rattle.index_remap.specs.Related.{Kind, Pairing, OneToOne, ResRel, ListRel, StoreRel, EntryRel, NextRel, NotListed, TopSkips}
 use Rattle.index_remap.specs.RelatedRuns.{RunRel, OutRel}
+use Rattle.index_remap.specs.Laws.{passed, Above, NeedsBelow, Touches, StepsAgree, NamedAreKnown}
+use Rattle.index_remap.proofs.Lockstep.{Entries, stacks, view, whole, alone}
 use Rattle.index_remap.proofs.Runs.{still_rel}
 
-module _ (R : Pairing) (apart : OneToOne R) (known : (k : Kind) (a b : ℕ) → R.named k a b → R.of k a b) (plain : (a : ℕ) → ¬ R.listed a) (kept : (a : ℕ) → ¬ R.replaced a) where
-  free_act : (a : Act) → NotListed R a
-  free_act (Act.Goes c f) = tt
-  free_act (Act.Calls a vs h) = plain a
-  free_act (Act.AsksGrow g m n f) = tt
-  free_act (Act.Ends vs) = tt
+needs : (es : List Entry) (x : Act) → NeedsBelow es [] [] x
+needs (e ∷ es) (Act.Ends vs) = tt
+needs [] (Act.Ends vs) = (refl, refl)
+needs (e ∷ es) (Act.Goes c h) = tt
+needs [] (Act.Goes c h) = tt
+needs (e ∷ es) (Act.Calls a vs h) = tt
+needs [] (Act.Calls a vs h) = tt
+needs (e ∷ es) (Act.AsksGrow g m n h) = tt
+needs [] (Act.AsksGrow g m n h) = tt
+
+touches : (s : Store) (es : List Entry) → Touches s es [] []
+touches s [] = (refl, refl)
+touches s (Running f ∷ es) = λ x _. needs es x
+touches s (Mark ∷ es) = tt
+touches s (Opening xs ∷ es) = tt
+touches s (Waiting ts ∷ es) = tt
+touches s (Ended vs ∷ es) = tt
+touches s (Growing g ∷ es) = tt
+
+module _ (of : Kind → ℕ → ℕ → Bool) where
+  abbrev R : Pairing
+  R = passed of of []
+
+  none_listed : (a : ℕ) → ¬ R.listed a
+  none_listed a p = true≢false (sym p)
+
+  none_called : (x : Act) → NotListed R x
+  none_called (Act.Goes c f) = tt
+  none_called (Act.Calls a vs h) = none_listed a
+  none_called (Act.AsksGrow g m n f) = tt
+  none_called (Act.Ends vs) = tt
 
   skips : (s : Store) (es : List Entry) → TopSkips R s es
-  skips s (Running f ∷ es) = record { direct = λ a _. kept a; made = λ a _. free_act a }
+  skips s (Running f ∷ es) = record { direct = λ a _. none_listed a; made = λ x _. none_called x }
   skips s [] = tt
   skips s (Mark ∷ es) = tt
   skips s (Opening xs ∷ es) = tt
@@ -24,13 +51,16 @@ module _ (R : Pairing) (apart : OneToOne R) (known : (k : Kind) (a b : ℕ) → 
   skips s (Ended vs ∷ es) = tt
   skips s (Growing g ∷ es) = tt
 
-  the_stacks : Stacks R apart (Entries R apart known) (Entries R apart known)
-  the_stacks = stacks R apart known plain kept
+  module _ (apart : OneToOne R) (law : StepsAgree) (known : NamedAreKnown) where
+    step_rel : (s t : Store) (es fs : List Entry) → StoreRel R s t → ListRel (EntryRel R) es fs → ResRel (NextRel R (Entries R apart)) (step s es) (step t fs)
+    step_rel s t es fs h e =
+        alone R apart
+        (whole (λ xs ys. ResRel (NextRel R (Above R [] [])) (step s xs) (step t ys)) es fs (law of of [] apart s t es fs [] [] h e (touches s es) (skips s es) (known of of [] (λ k a b p. p) es fs)))
 
-  pub ticks_agree : (r q : Run) → RunRel R (Entries R apart known) (Entries R apart known) r q → OutRel R (Entries R apart known) (Entries R apart known) (tick r) (tick q)
-  ticks_agree r q h =
-      still_rel R apart (Entries R apart known) (Entries R apart known) the_stacks (Entries R apart known) (λ s t es fs e. e) h (λ e. e) (λ e. e) (view R apart known h.entries) (step_rel R apart known h.store h.entries (skips r.store r.entries))
+    pub ticks_agree : (r q : Run) → RunRel R (Entries R apart) (Entries R apart) r q → OutRel R (Entries R apart) (Entries R apart) (tick r) (tick q)
+    ticks_agree r q h =
+        still_rel R apart (Entries R apart) (Entries R apart) (stacks R apart none_listed) (Entries R apart) (λ s t es fs e. e) h (λ e. e) (λ e. e) (view R apart h.entries) (step_rel r.store q.store r.entries q.entries h.store h.entries)
 
-  pub same_events : (n : ℕ) (r q : Run) → RunRel R (Entries R apart known) (Entries R apart known) r q → events_of tick r n ≡ events_of tick q n
-  same_events zero r q h = refl
-  same_events (suc n) r q h = let o = ticks_agree r q h in ap₂ noted o.event (same_events n _ _ o.run)
+    pub same_events : (n : ℕ) (r q : Run) → RunRel R (Entries R apart) (Entries R apart) r q → events_of tick r n ≡ events_of tick q n
+    same_events zero r q h = refl
+    same_events (suc n) r q h = let o = ticks_agree r q h in ap₂ noted o.event (same_events n _ _ o.run)

@@ -1,12 +1,12 @@
--- The law of steps: from corresponding stores and related configurations one step of each agrees.
-use Rattle.std.proofs.Common.{◌≡◌, ℕ, List, [], ◌∷◌, ◌++◌, Bool}
+-- The laws of steps, of what keeps typing, and of runs: from corresponding stores and related configurations one step of each agrees.
+use Rattle.std.proofs.Common.{◌≡◌, ℕ, List, [], ◌∷◌, ◌++◌, Bool, true, false}
 use Rattle.std.specs.Prelude.{IsTrue, nat_eq}
 use Rattle.std.specs.List.{list_any}
 use Rattle.wasm_meaning.specs.Outcomes.{Gives, at}
-use Rattle.wasm_meaning.specs.State.{Inst, Store, Entry, Running, Mark, Opening, Caller, Act, Ends}
+use Rattle.wasm_meaning.specs.State.{Inst, Val, Store, Entry, Running, Mark, Opening, Caller, Act, Ends}
 use Rattle.wasm_meaning.specs.Step.{act, step, to_mark}
-use Rattle.wasm_meaning.specs.Run.{Run, tick, events_of}
-use Rattle.index_remap.specs.RelatedRuns.{RunRel, OutRel, KeepsOthers, IsBegun}
+use Rattle.wasm_meaning.specs.Run.{Run, show_all, tick, events_of}
+use Rattle.index_remap.specs.RelatedRuns.{ShowRel, RunRel, OutRel, KeepsOthers, IsBegun}
 use Rattle.wasm_tree.specs.declared.types.ValType.{ValType}
 use Rattle.wasm_tree.specs.declared.instr.Instr.{Instr}
 use Rattle.wasm_typing.specs.Typing.{Context, WellTyped}
@@ -15,7 +15,7 @@ use Rattle.index_remap.specs.Renumbered.{renumbered_all}
 use Rattle.index_remap.specs.CodeNames.{LayerNames, ListLayers}
 use Rattle.index_remap.specs.Agreement.{SameFrame}
 use Rattle.index_remap.specs.Replaced.{Codes, Replaced, OthersAgree, OthersNamed, AreReplaced, CodesHaveTypes}
-use Rattle.index_remap.specs.Related.{CodeRel, Kind, Funcs, Tables, Mems, Globals, Elems, Datas, Pairing, OneToOne, ResRel, ListRel, StoreRel, EntryRel, NextRel, TopSkips, TopKnown}
+use Rattle.index_remap.specs.Related.{CodeRel, Kind, Funcs, Tables, Mems, Globals, Elems, Datas, Pairing, OneToOne, ResRel, ListRel, ValRel, StoreRel, EntryRel, NextRel, TopSkips, TopKnown}
 
 -- the addresses that pass the first test are related, and code may name as one those that pass the second; of the functions of a list only the types are known,
 -- and other code may stand for calls of them
@@ -30,16 +30,21 @@ pub record Above (R : Pairing) (cs ds : List Entry) (s t : Store) (es fs : List 
   pub left : es ≡ first ++ cs
   pub right : fs ≡ second ++ ds
 
--- a step that ends a frame touches what stands below it as well
-abbrev pub NeedsBelow : List Entry → Act → Type 0
-NeedsBelow (e ∷ es) (Ends vs) = Unit {0}
-NeedsBelow [] (Ends vs) = ⊥
-NeedsBelow es _ = Unit {0}
+-- nothing stands below
+abbrev pub NoneBelow : (cs ds : List Entry) → Type 0
+NoneBelow cs ds = (cs ≡ []) × (ds ≡ [])
 
--- the entries that the step touches are among these
-abbrev pub Touches : Store → List Entry → Type 0
-Touches s (Running f ∷ es) = (x : Act) → act s f ≡ Gives x → NeedsBelow es x
-Touches s _ = ⊥
+-- a step that ends a frame touches what stands below it as well, where anything does
+abbrev pub NeedsBelow : (es cs ds : List Entry) → Act → Type 0
+NeedsBelow (e ∷ es) cs ds (Ends vs) = Unit {0}
+NeedsBelow [] cs ds (Ends vs) = NoneBelow cs ds
+NeedsBelow es cs ds _ = Unit {0}
+
+-- the entries that the step touches are among these, where others stand below
+abbrev pub Touches : Store → (es cs ds : List Entry) → Type 0
+Touches s [] cs ds = NoneBelow cs ds
+Touches s (Running f ∷ es) cs ds = (x : Act) → act s f ≡ Gives x → NeedsBelow es cs ds x
+Touches s (e ∷ es) cs ds = Unit {0}
 
 -- the next instructions of the top frames name related addresses
 abbrev pub EntriesKnown : Pairing → List Entry → List Entry → Type 0
@@ -51,24 +56,39 @@ EntriesKnown R _ _ = Unit {0}
 abbrev pub StepsAgree : Type 0
 StepsAgree =
     (of named : Kind → ℕ → ℕ → Bool) (l : List ℕ) → OneToOne (passed of named l) → (s t : Store) (es fs cs ds : List Entry) →
-    StoreRel (passed of named l) s t → ListRel (EntryRel (passed of named l)) es fs → Touches s es → TopSkips (passed of named l) s es → EntriesKnown (passed of named l) es fs →
+    StoreRel (passed of named l) s t → ListRel (EntryRel (passed of named l)) es fs → Touches s es cs ds → TopSkips (passed of named l) s es → EntriesKnown (passed of named l) es fs →
     ResRel (NextRel (passed of named l) (Above (passed of named l) cs ds)) (step s (es ++ cs)) (step t (fs ++ ds))
 
-pub data HasMark : List Entry → Type 0 where
-  here : {es : List Entry} → HasMark (Mark ∷ es)
-  at_start : {xs : List ℕ} {es : List Entry} → HasMark (Opening xs ∷ es)
-  below : {e : Entry} {es : List Entry} → HasMark es → HasMark (e ∷ es)
+-- where code may name as one only addresses that are related, whatever instruction comes next names related ones
+abbrev pub NamedAreKnown : Type 0
+NamedAreKnown = (of named : Kind → ℕ → ℕ → Bool) (l : List ℕ) → ((k : Kind) (a b : ℕ) → IsTrue (named k a b) → IsTrue (of k a b)) → (es fs : List Entry) → EntriesKnown (passed of named l) es fs
+
+-- Of related values the embedder is shown the same, where the functions that were shown before are related, number by number; and so are they again.
+abbrev pub ShownAgree : Type 0
+ShownAgree =
+    (of named : Kind → ℕ → ℕ → Bool) (l : List ℕ) → OneToOne (passed of named l) → (s t : Store) (vs ws : List Val) (xs ys : List ℕ) → StoreRel (passed of named l) s t → ListRel (ValRel (passed of named l)) vs ws →
+    ListRel (λ a b. IsTrue (of Funcs a b)) xs ys → ShowRel (passed of named l) (show_all s xs vs) (show_all t ys ws)
+
+-- a trap ends at such an entry
+abbrev pub ends_trap : Entry → Bool
+ends_trap Mark = true
+ends_trap (Opening xs) = true
+ends_trap _ = false
+
+abbrev pub NoMark : List Entry → Type 0
+NoMark [] = Unit {0}
+NoMark (e ∷ es) = (ends_trap e ≡ false) × NoMark es
 
 -- who waits, and what stands below
 pub record MarksAgree (R : Pairing) (cs ds : List Entry) (s t : Store) (p q : Caller × List Entry) : Type 0 where
   pub caller : p.0 ≡ q.0
   pub rest : Above R cs ds s t p.1 q.1
 
--- A trap removes everything down to the nearest mark, which is the same on both sides; only what stands above it and the mark need to be related.
+-- A trap removes everything down to the nearest mark. That mark needs to be related, and nothing above it; what stands below it is as it was.
 abbrev pub TrapsAgree : Type 0
 TrapsAgree =
-    (of named : Kind → ℕ → ℕ → Bool) (l : List ℕ) (s t : Store) (es fs cs ds : List Entry) → ListRel (EntryRel (passed of named l)) es fs → HasMark es →
-    ResRel (MarksAgree (passed of named l) cs ds s t) (to_mark (es ++ cs)) (to_mark (fs ++ ds))
+    (of named : Kind → ℕ → ℕ → Bool) (l : List ℕ) (s t : Store) (above beyond es fs cs ds : List Entry) (e f : Entry) → NoMark above → NoMark beyond → ends_trap e ≡ true → EntryRel (passed of named l) e f →
+    ListRel (EntryRel (passed of named l)) es fs → ResRel (MarksAgree (passed of named l) cs ds s t) (to_mark (above ++ (e ∷ (es ++ cs)))) (to_mark (beyond ++ (f ∷ (fs ++ ds))))
 
 -- A body that is well typed stays so where its indices are replaced by their entries, and calls of the functions of a list by code of the same type: the indices
 -- that the other instructions name agree with their entries.

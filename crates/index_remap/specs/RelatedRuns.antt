@@ -17,6 +17,11 @@ pub record KeyRel (R : Pairing) {K : Type 0} (x y : K × Thing) : Type 0 where
   pub key : x.0 ≡ y.0
   pub thing : ThingRel R x.1 y.1
 
+-- the same is shown, and the functions that were shown are related, number by number
+pub record ShowRel (R : Pairing) {A : Type 0} (x y : A × List ℕ) : Type 0 where
+  pub same : x.0 ≡ y.0
+  pub shown : ListRel (R.of Funcs) x.1 y.1
+
 -- but for the starts, which the entries hold
 pub record BegunRel (R : Pairing) (B : Store → Store → List Entry → List Entry → Type 0) (b c : Begun) : Type 0 where
   pub store : StoreRel R b.store c.store

@@ -1,11 +1,15 @@
 use Rattle.index_remap.specs.Laws.{passed}
-use Rattle.index_remap.proofs.AboveSteps.{step_above, marks_agree}
+use Rattle.index_remap.proofs.AboveSteps.{step_above, traps_agree}
+use Rattle.index_remap.proofs.Known.{entries_known}
+use Rattle.index_remap.proofs.Shown.{show_all_rel}
 use Rattle.index_remap.proofs.Replacing.{replaced_typed}
 use Rattle.index_remap.proofs.steps_agree.Goals as goal
 
 pub returns : goal.returns
 returns c = record {
   steps = λ of named l apart s t es fs cs ds p q touches free known. step_above (passed of named l) apart cs ds p q touches free known;
-  traps = λ of named l s t es fs cs ds q h. marks_agree (passed of named l) cs ds q h;
+  known = λ of named l. entries_known (passed of named l);
+  shown = λ of named l apart s t vs ws xs ys h v x. show_all_rel (passed of named l) apart h v xs ys x;
+  traps = λ of named l s t above beyond es fs cs ds e f. traps_agree (passed of named l) cs ds s t above beyond es fs e f;
   typed = replaced_typed;
 }
