@@ -2,9 +2,12 @@ pub mod Fits
 pub mod Marks
 pub mod Rel
 pub mod ValueSteps
+pub mod ValueGroup
 pub mod MemorySteps
 pub mod TableSteps
+pub mod MemoryGroup
 pub mod ControlSteps
+pub mod ControlGroup
 pub mod StepsAgree
 pub mod Known
 pub mod Lockstep

@@ -7,61 +7,28 @@ use Rattle.wasm_meaning.specs.Outcomes.{Gives, bind, onto}
 use Rattle.wasm_tree.specs.declared.types.FuncType.{FuncType}
 use Rattle.wasm_meaning.specs.State.{Val, Func, Store, Change, Level, Frame, Entry, Running, Caller, Mark, Opening, Waiting, Ended, Growing, Growth, Env, Body, Act}
 use Rattle.wasm_meaning.specs.Control.{type_at}
-use Rattle.wasm_meaning.specs.Values.{pop_typed, with_values, unary, binary, ref_is_null, select_any, select_typed}
+use Rattle.wasm_meaning.specs.Values.{pop_typed, with_values}
 use Rattle.wasm_meaning.specs.Step.{exec, step_code, step_levels, act, frame_of, give_levels, give, enter, enter_at, to_mark, no_items, no_bytes, changed, perform, step, call_of, named_call, top_call}
 use Rattle.wasm_meaning.specs.Run.{is_mark}
 use Rattle.index_remap.specs.Related
-use Rattle.index_remap.specs.Related.{Funcs, Tables, Mems, Globals, Elems, Datas, Pairing, OneToOne, OptRel, none, some, ResRel, done, trap, wrong, ListRel, nil, cons, ValRel, number, reference, OpRel, CodeRel, end, then, instead, FuncRel, defined, own, slot, TableRel, GlobalRel, ElemRel, StoreRel, LevelRel, FrameRel, EntryRel, mark, opening, waiting, growing, BodyRel, GrowthRel, ChangeRel, keep, set_global, set_memory, set_table, drop_elem, drop_data, ActRel, goes, calls, asks_grow, ends, NextRel, ran, asked, asked_grow, loads, returned, NotListed, Skips, TopSkips, NextKnown, TopKnown}
+use Rattle.index_remap.specs.Related.{Funcs, Tables, Mems, Globals, Elems, Datas, Pairing, OneToOne, OptRel, none, some, ResRel, done, wrong, ListRel, nil, cons, ValRel, OpRel, CodeRel, end, then, instead, FuncRel, defined, own, slot, TableRel, GlobalRel, ElemRel, StoreRel, LevelRel, FrameRel, EntryRel, mark, opening, waiting, growing, BodyRel, GrowthRel, ChangeRel, keep, set_global, set_memory, set_table, drop_elem, drop_data, ActRel, goes, calls, asks_grow, ends, NextRel, ran, asked, asked_grow, loads, returned, NotListed, Skips, TopSkips, NextKnown, TopKnown}
+use Rattle.index_remap.specs.Groups.{Group, Values, Memories, Control, group_of, GroupAgrees}
 use Rattle.index_remap.proofs.Rel.{same_there, bind_rel, bind_is, bind_rel_is, all_at, PairRel, onto_rel, append_rel, write_rel}
-use Rattle.index_remap.proofs.ValueSteps.{Fits, pop_typed_all, pop_typed_rel, pop_rel, null_rel, zeros_rel, unary_rel, binary_rel, ref_is_null_rel, select_any_rel, select_typed_rel, go_rel, values_rel, on_values_rel, pushes_rel, local_get_rel, local_set_rel, local_tee_rel, global_get_rel, global_set_rel, ref_func_rel}
-use Rattle.index_remap.proofs.MemorySteps.{load_rel, store_rel, memory_size_rel, memory_grow_rel, memory_init_rel, data_drop_rel, memory_copy_rel, memory_fill_rel}
-use Rattle.index_remap.proofs.TableSteps.{table_get_rel, table_set_rel, table_size_rel, table_grow_rel, table_fill_rel, table_copy_rel, table_init_rel, elem_drop_rel}
-use Rattle.index_remap.proofs.ControlSteps.{call_rel, call_indirect_rel, finish_rel, end_level_rel, branch_rel, branch_if_rel, branch_table_rel, open_here_rel, open_loop_rel, open_if_rel}
+use Rattle.index_remap.proofs.ValueSteps.{Fits, pop_typed_all, pop_typed_rel, zeros_rel}
+use Rattle.index_remap.proofs.ControlSteps.{end_level_rel}
+use Rattle.index_remap.proofs.ValueGroup.{values_agree}
+use Rattle.index_remap.proofs.MemoryGroup.{memories_agree}
+use Rattle.index_remap.proofs.ControlGroup.{control_agrees}
+
+-- the laws of the three groups, joined
+each_group : (g : Group) → GroupAgrees g
+each_group Values = values_agree
+each_group Memories = memories_agree
+each_group Control = control_agrees
 
 module _ (R : Pairing) (ev ew : Env) (st : StoreRel R ev.store ew.store) where
   exec_rel : {h k : Body} {o p : Instr-F Instr} → BodyRel R ev.inst ew.inst h k → OpRel R ev.inst ew.inst true o p → ResRel (ActRel R ev.inst ew.inst) (exec o ev h) (exec p ew k)
-  exec_rel r Related.unreachable = trap
-  exec_rel r Related.nop = go_rel R ev ew st r
-  exec_rel r (Related.block {b = b} {d = d} p c) = open_here_rel R ev ew st b d r p c
-  exec_rel r (Related.loop {b = b} {d = d} {c = c} {e = e} p q) = open_loop_rel R ev ew st b d c e r p q
-  exec_rel r (Related.if_else {b = b} {d = d} {c = c} {e = e} {p = f} {q = g} p q s) = open_if_rel R ev ew st b d c e f g r p q s
-  exec_rel r (Related.br {n = n}) = branch_rel R ev ew st n r
-  exec_rel r (Related.br_if {n = n}) = branch_if_rel R ev ew st n r
-  exec_rel r (Related.br_table {ns = ns} {n = n}) = branch_table_rel R ev ew st ns n r
-  exec_rel r Related.return = finish_rel R ev ew st r r.values
-  exec_rel r (Related.call {n = n} {m = m} p) = call_rel R ev ew st n m r p
-  exec_rel r (Related.call_indirect {s = s} {t = t} {n = n} {m = m} e p) = call_indirect_rel R ev ew st s t n m r e p
-  exec_rel r Related.drop = bind_rel (pop_rel R r.values) (λ _ _ p. go_rel R ev ew st (values_rel R ev ew st r p.second))
-  exec_rel r Related.select = on_values_rel R ev ew st select_any r (select_any_rel R r.values)
-  exec_rel r (Related.select_typed {ts = ts}) = on_values_rel R ev ew st (select_typed ts) r (select_typed_rel R ts r.values)
-  exec_rel r (Related.local_get {n = n}) = local_get_rel R ev ew st n r
-  exec_rel r (Related.local_set {n = n}) = local_set_rel R ev ew st n r
-  exec_rel r (Related.local_tee {n = n}) = local_tee_rel R ev ew st n r
-  exec_rel r (Related.global_get {n = n} {m = m} p) = global_get_rel R ev ew st n m r p
-  exec_rel r (Related.global_set {n = n} {m = m} p) = global_set_rel R ev ew st n m r p
-  exec_rel r (Related.table_get {n = n} {m = m} p) = table_get_rel R ev ew st n m r p
-  exec_rel r (Related.table_set {n = n} {m = m} p) = table_set_rel R ev ew st n m r p
-  exec_rel r (Related.load {o = o} p) = load_rel R ev ew st o r p
-  exec_rel r (Related.store {o = o} p) = store_rel R ev ew st o r p
-  exec_rel r (Related.memory_size {n = n} {m = m} p) = memory_size_rel R ev ew st n m r p
-  exec_rel r (Related.memory_grow {n = n} {m = m} p) = memory_grow_rel R ev ew st n m r p
-  exec_rel r Related.i32_const = pushes_rel R ev ew st r number
-  exec_rel r Related.i64_const = pushes_rel R ev ew st r number
-  exec_rel r (Related.un {o = o}) = on_values_rel R ev ew st (unary o) r (unary_rel R o r.values)
-  exec_rel r (Related.bin {o = o}) = on_values_rel R ev ew st (binary o) r (binary_rel R o r.values)
-  exec_rel r (Related.ref_null {t = t}) = pushes_rel R ev ew st r (reference (null_rel R t))
-  exec_rel r Related.ref_is_null = on_values_rel R ev ew st ref_is_null r (ref_is_null_rel R r.values)
-  exec_rel r (Related.ref_func {n = n} {m = m} p) = ref_func_rel R ev ew st n m r p
-  exec_rel r (Related.memory_init {s = s} {t = t} {n = n} {m = m} p q) = memory_init_rel R ev ew st s t n m r p q
-  exec_rel r (Related.data_drop {s = s} {t = t} p) = data_drop_rel R ev ew st s t r p
-  exec_rel r (Related.memory_copy {s = s} {t = t} {n = n} {m = m} p q) = memory_copy_rel R ev ew st s t n m r p q
-  exec_rel r (Related.memory_fill {n = n} {m = m} p) = memory_fill_rel R ev ew st n m r p
-  exec_rel r (Related.table_init {s = s} {t = t} {n = n} {m = m} p q) = table_init_rel R ev ew st s t n m r p q
-  exec_rel r (Related.elem_drop {s = s} {t = t} p) = elem_drop_rel R ev ew st s t r p
-  exec_rel r (Related.table_copy {s = s} {t = t} {n = n} {m = m} p q) = table_copy_rel R ev ew st s t n m r p q
-  exec_rel r (Related.table_grow {n = n} {m = m} p) = table_grow_rel R ev ew st n m r p
-  exec_rel r (Related.table_size {n = n} {m = m} p) = table_size_rel R ev ew st n m r p
-  exec_rel r (Related.table_fill {n = n} {m = m} p) = table_fill_rel R ev ew st n m r p
+  exec_rel {h} {k} {o} {p} r q = each_group (group_of o) R ev ew st h k r o p q refl
 
   step_code_rel : {h k : Body} {c d : List Instr} → BodyRel R ev.inst ew.inst h k → CodeRel R ev.inst ew.inst c d → ((a : ℕ) → named_call ev.inst c ≡ Gives a → ¬ R.replaced a) → NextKnown R ev.inst ew.inst c d → ResRel (ActRel R ev.inst ew.inst) (step_code ev h c) (step_code ew k d)
   step_code_rel r end f u = end_level_rel R ev ew st r

@@ -1,6 +1,7 @@
 pub mod Renumbered
 pub mod References
 pub mod Related
+pub mod Groups
 pub mod CodeNames
 pub mod RelatedRuns
 pub mod Agreement

@@ -1,0 +1,53 @@
+-- Instructions in three groups, and the law of steps of a group.
+use Rattle.std.proofs.Common.{◌≡◌, true}
+use Rattle.wasm_tree.specs.declared.instr.Instr.{Instr}
+use Rattle.wasm_tree.specs.declared.instr.Instr.TheOpen.{Instr-F}
+use Rattle.wasm_meaning.specs.State.{Env, Body}
+use Rattle.wasm_meaning.specs.Step.{exec}
+use Rattle.index_remap.specs.Related.{Pairing, ResRel, OpRel, StoreRel, BodyRel, ActRel}
+
+pub data Group : Type 0 where
+  -- numeric, reference, parametric and variable instructions (WebAssembly Core 2.0, sections 4.4.1 to 4.4.5)
+  Values : Group
+  -- instructions on tables, memories and segments (sections 4.4.6 and 4.4.7)
+  Memories : Group
+  -- control instructions (section 4.4.8)
+  Control : Group
+
+-- where the standard has an instruction
+abbrev pub group_of : Instr-F Instr → Group
+group_of Instr-F.Unreachable = Control
+group_of Instr-F.Nop = Control
+group_of (Instr-F.Block b c) = Control
+group_of (Instr-F.Loop b c) = Control
+group_of (Instr-F.If b c d) = Control
+group_of (Instr-F.Br n) = Control
+group_of (Instr-F.BrIf n) = Control
+group_of (Instr-F.BrTable ns n) = Control
+group_of Instr-F.Return = Control
+group_of (Instr-F.Call n) = Control
+group_of (Instr-F.CallIndirect t n) = Control
+group_of (Instr-F.TableGet n) = Memories
+group_of (Instr-F.TableSet n) = Memories
+group_of (Instr-F.TableSize n) = Memories
+group_of (Instr-F.TableGrow n) = Memories
+group_of (Instr-F.TableFill n) = Memories
+group_of (Instr-F.TableCopy n m) = Memories
+group_of (Instr-F.TableInit s n) = Memories
+group_of (Instr-F.ElemDrop n) = Memories
+group_of (Instr-F.Load o arg) = Memories
+group_of (Instr-F.Store o arg) = Memories
+group_of (Instr-F.MemorySize n) = Memories
+group_of (Instr-F.MemoryGrow n) = Memories
+group_of (Instr-F.MemoryFill n) = Memories
+group_of (Instr-F.MemoryCopy n m) = Memories
+group_of (Instr-F.MemoryInit s n) = Memories
+group_of (Instr-F.DataDrop n) = Memories
+group_of _ = Values
+
+-- The law of steps of a group: over stores that correspond and from related bodies, an instruction of the group and a related one come to related acts, or both
+-- trap, or both are ill typed.
+abbrev pub GroupAgrees : Group → Type 1
+GroupAgrees g =
+    (R : Pairing) (ev ew : Env) → StoreRel R ev.store ew.store → (h k : Body) → BodyRel R ev.inst ew.inst h k → (o p : Instr-F Instr) → OpRel R ev.inst ew.inst true o p → group_of o ≡ g →
+    ResRel (ActRel R ev.inst ew.inst) (exec o ev h) (exec p ew k)
