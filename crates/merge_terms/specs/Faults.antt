@@ -19,7 +19,7 @@ use Rattle.wasm_meaning.specs.Linking.{Part, Site, End, Defined, Outside, Memori
 use Rattle.merge_terms.specs.declared.faults.LinkFault.{LinkFault}
 use Rattle.merge_terms.specs.declared.faults.LinkFault.TheVariants.{ImportMismatch, ImportCycle, LimitsClash, TooManyMemories, GlobalCycle}
 
--- ---- external types (section 2.3.8) ----
+-- ---- external types (section 2.3.11) ----
 
 pub data External : Type 0 where
   FuncOf : FuncType → External

@@ -40,7 +40,7 @@ all_match s m [] [] = true
 all_match s m (i ∷ is) (x ∷ xs) = cond (or_false (is_match s m i.desc x)) (all_match s m is xs) false
 all_match s m _ _ = false
 
--- its active element segments in order, then its active data segments
+-- its active element segments in order, then its active data segments (the number of the part, 0, is not looked at)
 abbrev pub own_segments : (ConstExpr → Option Val) → Module → Inst → Store → Filled
 own_segments value m i s =
     and_then (in_turn (λ s task. run_elem_with value s task task.segment.mode) s (tasks_in 0 i i.elems m.elems)) (λ s. in_turn (λ s task. run_data_with value s task task.segment.mode) s (tasks_in 0 i i.datas m.datas))
@@ -173,6 +173,6 @@ pub record HasNoActive (m : Module) : Type 0 where
 abbrev pub NoLateSegments : List Part → Type 0
 NoLateSegments parts = (p q f : ℕ) (m n : Module) → p < q → module_at parts p ≡ Some m → module_at parts q ≡ Some n → m.start ≡ Some f → HasNoActive n
 
--- the environment links the world at once, and no segment traps
+-- the environment links the world at once (`links`), and no segment traps
 abbrev pub BeginsWell : Environment → World → Type 0
 BeginsWell env w = (b : Begun) × (instantiate env w ≡ Some b) × (b.trapped ≡ false)

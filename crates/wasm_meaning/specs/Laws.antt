@@ -12,6 +12,14 @@ use Rattle.wasm_meaning.specs.Loader.{LoaderWorld, events_loaded}
 abbrev pub RunsAreDetermined : Type 0
 RunsAreDetermined = (v w : World) (d e : Environment) (ms ns : List Move) (m n : ℕ) → v ≡ w → d ≡ e → ms ≡ ns → m ≡ n → events v d ms m ≡ events w e ns n
 
+-- so do equal modules under a loader
+abbrev pub LoadedRunsAreDetermined : Type 0
+LoadedRunsAreDetermined = (v w : LoaderWorld) (d e : Environment) (ms ns : List Move) (m n : ℕ) → v ≡ w → d ≡ e → ms ≡ ns → m ≡ n → events_loaded v d ms m ≡ events_loaded w e ns n
+
+-- and parts that are instantiated one after the other
+abbrev pub RunsInTurnAreDetermined : Type 0
+RunsInTurnAreDetermined = (v w : World) (d e : Environment) (ms ns : List Move) (m n : ℕ) → v ≡ w → d ≡ e → ms ≡ ns → m ≡ n → events_in_turn v d ms m ≡ events_in_turn w e ns n
+
 -- the events of fewer steps are a prefix of those of more
 abbrev pub ShorterRunsArePrefixes : Type 0
 ShorterRunsArePrefixes = (w : World) (env : Environment) (moves : List Move) (n k : ℕ) → IsPrefix (events w env moves n) (events w env moves (n + k))

@@ -66,7 +66,7 @@ begun_under env w = then_some (primary_added env w) (begun_of env w)
 abbrev pub secondary_added : LoaderWorld → Inst → Store → Option Added
 secondary_added w i s = added_with (λ x. then_some (export_named w.primary.exports x.field) (address_in i)) s w.secondary
 
--- The store in which a placeholder's call goes on, after the secondary's segments. It has no start that would be made.
+-- The store in which a placeholder's call goes on, after the secondary's segments. Its start, if it has one, is not made.
 abbrev pub store_loaded : LoaderWorld → Inst → (is_loaded : Bool) → Store → Filled
 store_loaded w i true s = record { store = s; trapped = false }
 store_loaded w i false s = or_trapped s (then_some (secondary_added w i s) (λ a. Some a.filled))
@@ -82,7 +82,7 @@ slot_called w i slot vs es s =
 
 -- ---- runs ----
 
--- the run so far, the primary's instance, and whether a placeholder was called, so that the secondary is there
+-- the run so far, the primary's instance, and whether the secondary was instantiated, or that was tried
 pub record LoaderRun : Type 0 where
   pub run : Run
   pub inst : Option Inst

@@ -383,8 +383,8 @@ seen_as insts v = then_some (place insts v.1.part) (λ i. then_some (address_in 
 abbrev pub begun : Environment → World → List Inst → List (Text × Thing) → Filled → Begun
 begun env w insts view filled = record { store = filled.store; trapped = filled.trapped; starts = starts_of w.parts insts; view = view; owned = owned_of env }
 
--- None where an import does not match or a constant read has no end, also one of a segment's offset or items. (It is none as well where an index names nothing or an
--- item is no reference, which no valid module has.)
+-- None where an import does not match or a constant read has no end. (In a module that is not valid it is none as well where an index names nothing or an item is no
+-- reference; a segment whose table, memory or offset is not there traps. An offset whose read has no end stands on a global whose read has none either.)
 abbrev pub instantiate : Environment → World → Option Begun
 instantiate env w =
     then_some (insts_from env w.parts 0 w.parts) (λ insts. then_some (stores_from env w.parts insts (own_store env) 0 w.parts insts) (λ s. then_some (all_there (seen_as insts) w.view) (λ view.

@@ -4,11 +4,14 @@
 #![tactic(auto)]
 
 ghost use Rattle.wasm_meaning.specs.Below.{BelowIsNotSeen};
-ghost use Rattle.wasm_meaning.specs.Laws.{EndsArePaths, ReadsArePaths, RunsAreDetermined, ShorterLoadedRunsArePrefixes, ShorterRunsArePrefixes, ShorterRunsInTurnArePrefixes};
+ghost use Rattle.wasm_meaning.specs.Laws.{EndsArePaths, LoadedRunsAreDetermined, ReadsArePaths, RunsAreDetermined, RunsInTurnAreDetermined, ShorterLoadedRunsArePrefixes, ShorterRunsArePrefixes, ShorterRunsInTurnArePrefixes};
 
-/// A run is determined by its world, its environment, the embedder's moves and the number of steps.
+/// A run is determined by its world, its environment, the embedder's moves and the number of steps: a run of a world, of its parts one after the other
+/// (`in_turn`), and of a module under a loader (`loaded`).
 pub fn runs_are_determined()
     ensures determined { RunsAreDetermined }
+    ensures in_turn { RunsInTurnAreDetermined }
+    ensures loaded { LoadedRunsAreDetermined }
 {}
 
 /// What is seen in fewer steps of a run comes first in what is seen in more: in runs of a world, of its parts one after the other (`in_turn`), and of a module
