@@ -1,9 +1,9 @@
 // The small runs of crates/wasm_meaning, made in a real engine.
 //
-// Reads the theorems of SmallRuns.antt and MoreRuns.antt, builds the modules of each as bytes, makes the embedder's moves, and compares what is
-// seen with the events that the theorem states. A run that no engine can show (a growth that is denied, a run without an end, imports in a circle)
-// is named with its reason. A run is shown in part where a move isn't taken, which is then left out, or a growth is granted, whose request no
-// engine tells. Ends with 1 where the engine shows something else, or nothing was read.
+// Reads the theorems of SmallRuns.antt, MoreRuns.antt and EmbedderRuns.antt, builds the modules of each as bytes, makes the embedder's moves, and
+// compares what is seen with the events that the theorem states. A run that no engine can show (a growth that is denied, a run that doesn't end
+// in its steps, imports in a circle) is named with its reason. A run is shown in part where a move isn't taken, which is then left out, or a growth
+// is granted, whose request no engine tells. Ends with 1 where the engine shows something else, or nothing was read.
 //
 //     node scripts/small_runs.mjs [FILE.antt..]     (a later file uses the names of the ones before it)
 import { readFileSync } from "node:fs";
@@ -11,7 +11,7 @@ import { dirname, join } from "node:path";
 import { fileURLToPath } from "node:url";
 
 const FOLDER = join(dirname(dirname(fileURLToPath(import.meta.url))), "crates/wasm_meaning/proofs");
-const FILES = process.argv.length > 2 ? process.argv.slice(2) : ["SmallRuns.antt", "MoreRuns.antt"].map((name) => join(FOLDER, name));
+const FILES = process.argv.length > 2 ? process.argv.slice(2) : ["SmallRuns.antt", "MoreRuns.antt", "EmbedderRuns.antt"].map((name) => join(FOLDER, name));
 
 // ---- reading: terms of names, numbers, lists, pairs, records and applications ----
 
@@ -258,11 +258,20 @@ class Embedder {
     const [table, memory, global] = [inner(offer.table), inner(offer.memory), inner(offer.global)];
     if (table?.entries.some((entry) => entry.tag !== "Null")) throw new NotShown("a table of the environment's own that has an entry");
     return {
-      offer,
+      funcs: offer.funcs.map((type) => this.ownFunction(offer.pair, type)),
       table: table && new WebAssembly.Table({ element: table.ty.tag === "Func" ? "anyfunc" : "externref", ...extent(table.entries.length, table.limits) }),
       memory: memory && new WebAssembly.Memory(extent(memory.pages, memory.limits)),
       global: global && new WebAssembly.Global({ value: typeName(global.ty.ty), mutable: global.ty.mutable.tag === "true" }, this.received(global.ty.ty, global.value)),
     };
+  }
+
+  // a function of the environment's own, as the engine shows it where it is a value: through a module that imports and exports it
+  ownFunction(pair, type) {
+    const [name, field] = pair.pair;
+    const desc = made("Func", 0n);
+    const through = { types: [type], imports: [{ module: name, field, desc }], funcs: [], tables: [], mems: [], globals: [], exports: [{ name: [], desc }], start: made("None"), elems: [], datas: [] };
+    const objects = { [string(name)]: { [string(field)]: (...args) => this.asked(pair, type, args) } };
+    return { type, value: made("OwnFunc", pair, type), callee: new WebAssembly.Instance(new WebAssembly.Module(moduleBytes(through)), objects).exports[""] };
   }
 
   run() {
@@ -319,8 +328,7 @@ class Embedder {
     if (i.desc.tag === "Memory") return own.memory;
     if (i.desc.tag === "Global") return own.global;
     const type = module.types[Number(i.desc.args[0])];
-    const offers = own.offer.funcs.some((offered) => text(offered) === text(type));
-    return offers ? (...args) => this.asked(own.offer.pair, type, args) : undefined;
+    return own.funcs.find((one) => text(one.type) === text(type))?.callee;
   }
 
   // an import was called: moves are made until it is answered or refused
@@ -349,6 +357,7 @@ class Embedder {
       case "Get": return this.got(this.element(this.placed(args[0]), Number(args[1])));
       case "Size": return this.got(this.size(this.placed(args[0])));
       case "Set": return this.set(this.placed(args[0]), Number(args[1]), args[2]);
+      case "Extend": return this.extend(this.placed(args[0]), Number(args[1]));
       default: throw new NotShown(`the move ${tag}`);
     }
   }
@@ -394,7 +403,13 @@ class Embedder {
   set(thing, index, given) {
     if (thing instanceof WebAssembly.Memory) new Uint8Array(thing.buffer)[index] = Number(given.args[0]);
     else if (thing instanceof WebAssembly.Global) thing.value = typeof thing.value === "bigint" ? given.args[0] : Number(given.args[0]);
-    else throw new NotShown("a table's entry set");
+    else thing.set(index, this.received(null, given));
+    this.events.push(made("Done"));
+  }
+
+  extend(thing, count) {
+    if (thing instanceof WebAssembly.Table) thing.grow(count, null);
+    else thing.grow(count);
     this.events.push(made("Done"));
   }
 
@@ -408,6 +423,8 @@ class Embedder {
     if (typeof what === "bigint") return made("Number", BigInt.asUintN(64, what));
     if (what === null) return made("Null");
     if (typeof what !== "function") return made("ExternNumber", what.number);
+    const own = this.ownFunctions().find((one) => one.callee === what);
+    if (own) return own.value;
     if (!this.shown.includes(what)) this.shown.push(what);
     return made("Function", BigInt(this.shown.indexOf(what)));
   }
@@ -416,8 +433,12 @@ class Embedder {
     if (tag === "Null") return null;
     if (tag === "ExternNumber") return this.extern(args[0]);
     if (tag === "Function") return this.shown[Number(args[0])];
-    if (tag !== "Number") throw new NotShown("a function of the environment's own as a value");
+    if (tag === "OwnFunc") return this.ownFunctions().find((one) => text(one.value.args) === text(args)).callee;
     return type.tag === "I64" ? args[0] : Number(args[0]);
+  }
+
+  ownFunctions() {
+    return [...this.owned.values()].flatMap((own) => own.funcs);
   }
 
   extern(number) {
@@ -433,8 +454,8 @@ const count = (list, ...tags) => list.filter(({ tag }) => tags.includes(tag)).le
 
 // why no engine can show a run, or null
 function unseen(events, moves) {
-  if (count(moves, "Deny")) return "a growth that is denied";
-  if (count(events, "Returned", "Trapped", "BadMove") < count(moves, "Call", "Invoke")) return "a run without an end";
+  if (count(events, "GrowAsked") && count(moves, "Deny")) return "a growth that is denied";
+  if (count(events, "Returned", "Trapped", "BadMove") < count(moves, "Call", "Invoke")) return "a run that doesn't end in its steps";
   return null;
 }
 
@@ -445,8 +466,9 @@ function tried({ run, events }) {
   const reason = unseen(all, moves);
   if (reason) return { reason };
   const expected = all.filter((event) => event.tag !== "GrowAsked");
+  const grants = moves.filter((move) => move.tag === "Grant").slice(0, count(all, "GrowAsked"));
   try {
-    const seen = new Embedder(world, environment, moves.filter((move) => move.tag !== "Grant"), expected).run();
+    const seen = new Embedder(world, environment, moves.filter((move) => !grants.includes(move)), expected).run();
     return { seen: text(seen), wanted: text(expected), inPart: count(all, "BadMove", "GrowAsked") > 0 };
   } catch (error) {
     if (error instanceof NotShown) return { reason: error.message };

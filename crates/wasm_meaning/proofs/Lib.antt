@@ -1,6 +1,8 @@
 pub mod Simulation
 mod SmallRuns
 mod MoreRuns
+mod EmbedderRuns
+mod IllTypedRuns
 mod TurnRuns
 mod LoaderRuns
 pub mod Walks

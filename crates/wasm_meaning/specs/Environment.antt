@@ -70,7 +70,8 @@ where_there is (Some x) = is x
 abbrev pub offers_func : Pair → FuncType → Offer → Bool
 offers_func pair ty offer = cond (same_pair pair offer.pair) (any_of (same_func_type ty) offer.funcs) false
 
--- the value is of the type, and a function of the environment's own is one that it offers
+-- The value is of the type: a number is in its type's range, and a function of the environment's own is one that it offers. No function stands here by its number,
+-- since none was shown yet; an extern number may be any.
 abbrev pub is_value : Environment → ValType → Shown → Bool
 is_value env valt.I32 (Number n) = nat_lt n (2 ^ 32)
 is_value env valt.I64 (Number n) = nat_lt n (2 ^ 64)
@@ -84,6 +85,7 @@ is_value env _ _ = false
 abbrev pub is_within : ℕ → Limits → Bool
 is_within size l = cond (nat_le l.min size) (where_there (λ most. cond (nat_le l.min most) (nat_le size most) false) l.max) false
 
+-- a table has at most 2 ^ 32 - 1 entries; its maximum has no such bound
 abbrev pub is_table : Environment → OwnTable → Bool
 is_table env t = cond (is_within (length t.entries) t.limits) (cond (nat_lt (length t.entries) (2 ^ 32)) (all_of (is_value env (valt.Ref t.ty)) t.entries) false) false
 
@@ -188,6 +190,7 @@ received_all owned shown _ _ = IllTyped
 
 -- ---- what is allocated for it ----
 
+-- where there is no such reference or value, null or zero; under is_environment there always is one
 abbrev pub or_null : RefType → Outcome RefVal → RefVal
 or_null ty (Gives r) = r
 or_null reft.Func _ = FuncRef None

@@ -51,10 +51,11 @@ grow_memory h a m =
 abbrev pub memory_grow : Env → Body → ℕ → Outcome Act
 memory_grow env h i = with_memory env i (grow_memory h)
 
--- three numbers: a place to write to, one to read from, and a length, which is on top
+-- three numbers: a place to write to; a place to read from, or for memory.fill the value; and a length, which is on top
 abbrev pub pop_three : List Val → Outcome ((ℕ × ℕ × ℕ) × List Val)
 pop_three vs = bind (pop_num W32 vs) (λ n. bind (pop_num W32 n.1) (λ s. bind (pop_num W32 s.1) (λ d. Gives ((d.0, s.0, n.0), d.1))))
 
+-- a part of these bytes is written: they are a segment's, or for memory.copy those of its source before the write
 abbrev pub init_memory : Body → List ℕ → ℕ → Memory → Outcome Act
 init_memory h bytes a m = bind (pop_three h.values) (λ p. bind (trapping (slice bytes p.0.1 p.0.2)) (λ b. writes h a (written m p.0.0 b) p.1))
 

@@ -7,7 +7,7 @@ pub data Outcome (A : Type 0) : Type 0 where
   Traps : Outcome A
   IllTyped : Outcome A
 
--- the second with what the first gives
+-- the second with what the first gives; a trap or ill typed where the first is that
 abbrev pub bind : {A B : Type 0} → Outcome A → (A → Outcome B) → Outcome B
 bind Traps f = Traps
 bind IllTyped f = IllTyped
@@ -24,12 +24,13 @@ abbrev pub or_trap : {A : Type 0} → Option A → Outcome A
 or_trap None = Traps
 or_trap (Some a) = Gives a
 
+-- what is given, or the other where nothing is
 abbrev pub or_other : {A : Type 0} → Outcome A → A → A
 or_other (Gives a) b = a
 or_other Traps b = b
 or_other IllTyped b = b
 
--- the element at a place
+-- the element at a place; ill typed where there is no such place
 abbrev pub at : {A : Type 0} → List A → ℕ → Outcome A
 at [] n = IllTyped
 at (x ∷ xs) zero = Gives x
@@ -66,6 +67,7 @@ slice xs place n = bind (split_at place xs) (λ p. bind (split_at n p.1) (λ q. 
 abbrev pub overwrite : {A : Type 0} → List A → (place : ℕ) → List A → Outcome (List A)
 overwrite xs place ys = bind (split_at place xs) (λ p. bind (split_at (length ys) p.1) (λ q. Gives (p.0 ++ (ys ++ q.1))))
 
+-- a list of so many copies
 abbrev pub copies : {A : Type 0} → ℕ → A → List A
 copies zero v = []
 copies (suc n) v = v ∷ copies n v

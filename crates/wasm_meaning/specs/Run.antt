@@ -116,11 +116,12 @@ show_all s shown (v ∷ vs) = let one = show s shown v in let rest = show_all s 
 
 -- ---- what follows a step ----
 
--- a trap removes everything down to the nearest mark
+-- A trap removes everything down to the nearest mark. Where that is a start's it removes everything and closes the world.
 abbrev pub trapped_at : Run → Caller → List Entry → Out
 trapped_at r Host es = (record r { entries = es }, Some Trapped)
 trapped_at r Starter es = (record r { entries = []; phase = Closed }, Some InstanceTrapped)
 
+-- a run always has a mark there: the second line never comes
 abbrev pub trapped_to : Run → Outcome (Caller × List Entry) → Out
 trapped_to r (Gives w) = trapped_at r w.0 w.1
 trapped_to r _ = (record r { entries = [] }, Some Trapped)

@@ -121,14 +121,14 @@ abbrev pub step : Store → List Entry → Outcome Next
 step s (Running f ∷ es) = bind (act s f) (perform s f es)
 step s _ = IllTyped
 
--- who waits at the nearest mark, and what stands below it
+-- who waits at the nearest mark, and what stands below it; the mark of a start is Opening
 abbrev pub to_mark : List Entry → Outcome (Caller × List Entry)
 to_mark [] = IllTyped
 to_mark (Mark ∷ es) = Gives (Host, es)
 to_mark (Opening xs ∷ es) = Gives (Starter, es)
 to_mark (_ ∷ es) = to_mark es
 
--- ---- which function the next instruction names ----
+-- ---- which function a `call` that comes next names, for the law of steps ----
 
 abbrev pub call_of : Inst → Instr-F Instr → Outcome ℕ
 call_of i (Instr-F.Call n) = at i.funcs n

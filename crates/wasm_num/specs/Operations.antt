@@ -1,4 +1,4 @@
--- The integer operations, as formulas over whole numbers (WebAssembly Core 2.0, section 4.3.2).
+-- The integer operations, as formulas over whole numbers (WebAssembly Core 2.0, section 4.3.2, and for wrap and extend_i32 section 4.3.4).
 -- An operand of w bits is its number below 2 ^ w; where its sign counts, the signed reading of that number.
 use Rattle.std.specs.Prelude.{ℕ, zero, suc, ◌+◌, ◌-◌, ◌*◌, ◌/◌, ◌%◌, ◌^◌, Option, Some, None, Result, Ok, Err, Bool, if◌then◌else◌, nat_eq, nat_lt, nat_le, not, ℤ, pos, negsuc, ◌-ℤ◌, int_lt, int_le, int_div, int_rem, bit_and, bit_or, bit_xor}
 use Rattle.wasm_num.specs.declared.Num.{Num}

@@ -1,0 +1,134 @@
+-- What an embedder does, computed: it extends what is its own, its own functions and those that it was shown are passed and called, and moves that are not taken.
+use Rattle.std.proofs.Common.{◌≡◌, refl, [], ◌∷◌, Some, None, false}
+use Rattle.wasm_tree.specs.declared.types.RefType.TheVariants as reft
+use Rattle.wasm_tree.specs.declared.types.ValType.TheVariants as valt
+use Rattle.wasm_tree.specs.declared.instr.Instr.{out-Instr}
+use Rattle.wasm_tree.specs.declared.instr.Instr.TheVariants as i
+use Rattle.wasm_tree.specs.declared.module.ImportDesc.TheVariants as im
+use Rattle.wasm_tree.specs.declared.module.ExportDesc.TheVariants as ex
+use Rattle.wasm_tree.specs.declared.module.Module.{Module}
+use Rattle.wasm_num.specs.Operations.{wrapped, un_from, un_to, un_value, bin_from, bin_to, bin_value}
+use Rattle.wasm_meaning.specs.Access.{load_to, load_width, loaded, store_from, stored}
+use Rattle.wasm_meaning.specs.Environment.{Environment, Shown, Number, Null, OwnFunc, Function}
+use Rattle.wasm_meaning.specs.World.{World}
+use Rattle.wasm_meaning.specs.Run.{Linked, Returned, Trapped, Asked, Got, Done, BadMove, Call, Invoke, Take, Answer, Refuse, Grant, Deny, Get, Size, Set, Extend, TableOf, MemoryOf, GlobalOf, Named, events}
+use Rattle.wasm_meaning.proofs.SmallRuns.{f, g, e, m, i32, to_i32, empty, code, num, gives, plain, own, importing}
+
+-- ---- modules, worlds and environments ----
+
+-- a memory of no page and a table of one null, which may grow by one each
+abbrev room : Environment
+room = record {
+  pair = (e, m);
+  funcs = [];
+  table = Some (record { ty = reft.Func; limits = record { min = 1; max = Some 2 }; entries = Null ∷ [] });
+  memory = Some (record { limits = record { min = 0; max = Some 1 }; pages = 0; bytes = [] });
+  global = None;
+} ∷ []
+
+-- a module that gives the size of that memory
+abbrev sizing : World
+sizing = plain (record (gives (i.MemorySize 0 ∷ [])) { imports = record { «module» = e; field = m; desc = im.Memory (record { min = 0; max = Some 1 }) } ∷ [] })
+
+-- an immutable global that is 3
+abbrev fixed : Environment
+fixed = record { pair = (e, m); funcs = []; table = None; memory = None; global = Some (record { ty = record { ty = i32; mutable = false }; value = Number 3 }) } ∷ []
+
+-- the environment's function g of e as it is, and a function that gives 5
+abbrev around : World
+around = record { parts = record { name = None; «module» = importing (num 5 ∷ []) } ∷ []; view = (g, record { part = 0; what = ex.Func 0 }) ∷ ((f, record { part = 0; what = ex.Func 1 }) ∷ []) }
+
+-- the same function, as a value
+abbrev its_own : Shown
+its_own = OwnFunc (e, g) to_i32
+
+-- f calls the function that it gets, through a table; g gives 5
+abbrev applying : Module
+applying = record empty {
+  types = record { params = valt.Ref reft.Func ∷ []; results = i32 ∷ [] } ∷ (to_i32 ∷ []);
+  funcs = code 0 (num 0 ∷ (i.LocalGet 0 ∷ (i.TableSet 0 ∷ (num 0 ∷ (i.CallIndirect 1 0 ∷ []))))) ∷ (code 1 (num 5 ∷ []) ∷ []);
+  tables = record { ty = reft.Func; limits = record { min = 1; max = Some 1 } } ∷ [];
+}
+
+abbrev applied : World
+applied = record { parts = record { name = None; «module» = applying } ∷ []; view = (f, record { part = 0; what = ex.Func 0 }) ∷ ((g, record { part = 0; what = ex.Func 1 }) ∷ []) }
+
+-- the function g of e, and a table of one null
+abbrev own_and_table : Environment
+own_and_table = record { pair = (e, g); funcs = to_i32 ∷ []; table = Some (record { ty = reft.Func; limits = record { min = 1; max = Some 1 }; entries = Null ∷ [] }); memory = None; global = None } ∷ []
+
+-- ---- what is the embedder's own is extended ----
+
+an_extended_memory : events sizing room (Call f [] ∷ (Extend (MemoryOf (e, m)) 1 ∷ (Call f [] ∷ (Get (MemoryOf (e, m)) 65535 ∷ [])))) 25 ≡ Linked ∷ (Returned (Number 0 ∷ []) ∷ (Done ∷ (Returned (Number 1 ∷ []) ∷ (Got (Number 0) ∷ []))))
+unfolding out-Instr denote.Hole.Carrier.out wrapped un_from un_to un_value bin_from bin_to bin_value load_to load_width loaded store_from stored
+an_extended_memory = refl
+
+a_memory_is_not_extended_past_its_maximum : events sizing room (Extend (MemoryOf (e, m)) 2 ∷ (Size (MemoryOf (e, m)) ∷ [])) 25 ≡ Linked ∷ (BadMove ∷ (Got (Number 0) ∷ []))
+unfolding out-Instr denote.Hole.Carrier.out wrapped un_from un_to un_value bin_from bin_to bin_value load_to load_width loaded store_from stored
+a_memory_is_not_extended_past_its_maximum = refl
+
+an_extended_table : events (plain (gives (num 5 ∷ []))) room (Extend (TableOf (e, m)) 1 ∷ (Size (TableOf (e, m)) ∷ (Get (TableOf (e, m)) 1 ∷ []))) 25 ≡ Linked ∷ (Done ∷ (Got (Number 2) ∷ (Got Null ∷ [])))
+unfolding out-Instr denote.Hole.Carrier.out wrapped un_from un_to un_value bin_from bin_to bin_value load_to load_width loaded store_from stored
+an_extended_table = refl
+
+a_table_is_not_extended_past_its_maximum : events (plain (gives (num 5 ∷ []))) room (Extend (TableOf (e, m)) 2 ∷ (Size (TableOf (e, m)) ∷ [])) 25 ≡ Linked ∷ (BadMove ∷ (Got (Number 1) ∷ []))
+unfolding out-Instr denote.Hole.Carrier.out wrapped un_from un_to un_value bin_from bin_to bin_value load_to load_width loaded store_from stored
+a_table_is_not_extended_past_its_maximum = refl
+
+-- ---- functions as values ----
+
+an_own_function_is_shown_by_its_names : events around own (Take g ∷ (Take f ∷ [])) 25 ≡ Linked ∷ (Got its_own ∷ (Got (Function 0) ∷ []))
+unfolding out-Instr denote.Hole.Carrier.out wrapped un_from un_to un_value bin_from bin_to bin_value load_to load_width loaded store_from stored
+an_own_function_is_shown_by_its_names = refl
+
+an_own_function_is_passed_and_called : events applied own (Call f (its_own ∷ []) ∷ (Answer (Number 4 ∷ []) ∷ [])) 25 ≡ Linked ∷ (Asked (e, g) to_i32 [] ∷ (Returned (Number 4 ∷ []) ∷ []))
+unfolding out-Instr denote.Hole.Carrier.out wrapped un_from un_to un_value bin_from bin_to bin_value load_to load_width loaded store_from stored
+an_own_function_is_passed_and_called = refl
+
+an_own_function_that_is_not_offered_is_not_passed : events applied own (Call f (OwnFunc (e, f) to_i32 ∷ []) ∷ []) 25 ≡ Linked ∷ (BadMove ∷ [])
+unfolding out-Instr denote.Hole.Carrier.out wrapped un_from un_to un_value bin_from bin_to bin_value load_to load_width loaded store_from stored
+an_own_function_that_is_not_offered_is_not_passed = refl
+
+a_table_is_set_to_an_own_function : events (plain (gives (num 5 ∷ []))) own_and_table (Get (TableOf (e, g)) 0 ∷ (Set (TableOf (e, g)) 0 its_own ∷ (Get (TableOf (e, g)) 0 ∷ []))) 25 ≡ Linked ∷ (Got Null ∷ (Done ∷ (Got its_own ∷ [])))
+unfolding out-Instr denote.Hole.Carrier.out wrapped un_from un_to un_value bin_from bin_to bin_value load_to load_width loaded store_from stored
+a_table_is_set_to_an_own_function = refl
+
+a_function_is_passed_back : events applied [] (Take g ∷ (Call f (Function 0 ∷ []) ∷ [])) 25 ≡ Linked ∷ (Got (Function 0) ∷ (Returned (Number 5 ∷ []) ∷ []))
+unfolding out-Instr denote.Hole.Carrier.out wrapped un_from un_to un_value bin_from bin_to bin_value load_to load_width loaded store_from stored
+a_function_is_passed_back = refl
+
+a_function_that_was_not_shown_is_not_passed : events applied [] (Take g ∷ (Call f (Function 1 ∷ []) ∷ [])) 25 ≡ Linked ∷ (Got (Function 0) ∷ (BadMove ∷ []))
+unfolding out-Instr denote.Hole.Carrier.out wrapped un_from un_to un_value bin_from bin_to bin_value load_to load_width loaded store_from stored
+a_function_that_was_not_shown_is_not_passed = refl
+
+-- ---- an own function that the embedder calls ----
+
+the_embedder_calls_its_own_function : events around own (Call g [] ∷ (Answer (Number 4 ∷ []) ∷ [])) 5 ≡ Linked ∷ (Asked (e, g) to_i32 [] ∷ (Returned (Number 4 ∷ []) ∷ []))
+unfolding out-Instr denote.Hole.Carrier.out wrapped un_from un_to un_value bin_from bin_to bin_value load_to load_width loaded store_from stored
+the_embedder_calls_its_own_function = refl
+
+its_end_is_a_step_of_its_own : events around own (Call g [] ∷ (Answer (Number 4 ∷ []) ∷ [])) 4 ≡ Linked ∷ (Asked (e, g) to_i32 [] ∷ [])
+unfolding out-Instr denote.Hole.Carrier.out wrapped un_from un_to un_value bin_from bin_to bin_value load_to load_width loaded store_from stored
+its_end_is_a_step_of_its_own = refl
+
+the_embedder_refuses_its_own_call : events around own (Call g [] ∷ (Refuse ∷ (Call f [] ∷ []))) 25 ≡ Linked ∷ (Asked (e, g) to_i32 [] ∷ (Trapped ∷ (Returned (Number 5 ∷ []) ∷ [])))
+unfolding out-Instr denote.Hole.Carrier.out wrapped un_from un_to un_value bin_from bin_to bin_value load_to load_width loaded store_from stored
+the_embedder_refuses_its_own_call = refl
+
+-- ---- moves that are not taken ----
+
+an_immutable_global_is_not_set : events (plain (gives (num 5 ∷ []))) fixed (Set (GlobalOf (e, m)) 0 (Number 4) ∷ (Get (GlobalOf (e, m)) 0 ∷ (Get (GlobalOf (e, m)) 1 ∷ (Size (GlobalOf (e, m)) ∷ [])))) 25 ≡ Linked ∷ (BadMove ∷ (Got (Number 3) ∷ (BadMove ∷ (Got (Number 1) ∷ []))))
+unfolding out-Instr denote.Hole.Carrier.out wrapped un_from un_to un_value bin_from bin_to bin_value load_to load_width loaded store_from stored
+an_immutable_global_is_not_set = refl
+
+an_unknown_number_is_not_invoked : events (plain (gives (num 5 ∷ []))) [] (Invoke 0 [] ∷ (Call f [] ∷ [])) 25 ≡ Linked ∷ (BadMove ∷ (Returned (Number 5 ∷ []) ∷ []))
+unfolding out-Instr denote.Hole.Carrier.out wrapped un_from un_to un_value bin_from bin_to bin_value load_to load_width loaded store_from stored
+an_unknown_number_is_not_invoked = refl
+
+nothing_waits : events (plain (gives (num 5 ∷ []))) [] (Grant ∷ (Deny ∷ (Answer [] ∷ (Refuse ∷ (Call f [] ∷ []))))) 25 ≡ Linked ∷ (BadMove ∷ (BadMove ∷ (BadMove ∷ (BadMove ∷ (Returned (Number 5 ∷ []) ∷ [])))))
+unfolding out-Instr denote.Hole.Carrier.out wrapped un_from un_to un_value bin_from bin_to bin_value load_to load_width loaded store_from stored
+nothing_waits = refl
+
+a_function_is_no_place : events (plain (gives (num 5 ∷ []))) [] (Get (Named f) 0 ∷ (Size (Named f) ∷ (Set (Named f) 0 (Number 1) ∷ (Extend (Named f) 0 ∷ (Call f [] ∷ []))))) 25 ≡ Linked ∷ (BadMove ∷ (BadMove ∷ (BadMove ∷ (BadMove ∷ (Returned (Number 5 ∷ []) ∷ [])))))
+unfolding out-Instr denote.Hole.Carrier.out wrapped un_from un_to un_value bin_from bin_to bin_value load_to load_width loaded store_from stored
+a_function_is_no_place = refl
