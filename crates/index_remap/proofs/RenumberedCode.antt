@@ -14,7 +14,7 @@ use Rattle.index_remap.specs.Related.{Pairing, BlockRel, empty, value, indexed, 
 use Rattle.index_remap.specs.Renumbered.{new_type, renumber_step, renumbered, renumbered_all}
 use Rattle.index_remap.specs.References.{is_among}
 use Rattle.index_remap.specs.CodeNames.{BlockNames, LayerNames, Layers, RowLayers, ListLayers}
-use Rattle.index_remap.specs.Replaced.{Codes, CallReplaced, StandsFor, RowReplaced, Replaced, OthersNamed, AreReplaced}
+use Rattle.index_remap.specs.Replaced.{Codes, CallReplaced, StandsFor, RowReplaced, Replaced, OthersNamed, MayBeReplaced}
 use Rattle.index_remap.proofs.Unlisted.{all_follow, unlisted_renumbered}
 
 module _ (R : Pairing) (m : Remap) (x y : Inst) where
@@ -82,7 +82,7 @@ module _ (R : Pairing) (m : Remap) (x y : Inst) where
   one_rel : (o p : Instr) (code c d : List Instr) → code ≡ p ∷ [] → OpRel R x y false (out-Instr o) (out-Instr p) → CodeRel R x y c d → CodeRel R x y (o ∷ c) (code ++ d)
   one_rel o p code c d e h k = subst (λ z. CodeRel R x y (o ∷ c) (z ++ d)) (sym e) (then h k)
 
-  module _ (listed : List ℕ) (codes : Codes) (there : AreReplaced R listed x) where
+  module _ (listed : List ℕ) (codes : Codes) (there : MayBeReplaced R listed x) where
     -- a call of a function that is on the list, or not
     call_rel : (b : Bool) (f : ℕ) (code c d : List Instr) → is_among listed f ≡ b → (b ≡ false → LayerNames R m x y (out-Instr (Call f))) → CallReplaced m b codes f code → CodeRel R x y c d →
         CodeRel R x y (Call f ∷ c) (code ++ d)

@@ -13,7 +13,7 @@ BlockNames m i j bt.Empty = Unit {0}
 BlockNames m i j (bt.Value t) = Unit {0}
 BlockNames m i j (bt.Index n) = SameType i j n (slice_index m.types n)
 
--- each index that the layer itself names and its entry in the map name related addresses and equal types
+-- each index that the layer itself names and its entry in the map stand for addresses that code may name as one, and for equal types
 abbrev pub LayerNames : Pairing → Remap → Inst → Inst → Instr-F Instr → Type 0
 LayerNames R m i j Instr-F.Unreachable = Unit {0}
 LayerNames R m i j Instr-F.Nop = Unit {0}

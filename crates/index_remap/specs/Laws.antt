@@ -14,11 +14,11 @@ use Rattle.index_remap.specs.declared.remap.Remap.{Remap}
 use Rattle.index_remap.specs.Renumbered.{renumbered_all}
 use Rattle.index_remap.specs.CodeNames.{LayerNames, ListLayers}
 use Rattle.index_remap.specs.Agreement.{SameFrame}
-use Rattle.index_remap.specs.Replaced.{Codes, Replaced, OthersAgree, OthersNamed, AreReplaced, CodesHaveTypes}
+use Rattle.index_remap.specs.Replaced.{Codes, Replaced, OthersAgree, OthersNamed, MayBeReplaced, CodesHaveTypes}
 use Rattle.index_remap.specs.Related.{CodeRel, Kind, Funcs, Tables, Mems, Globals, Elems, Datas, Pairing, OneToOne, ResRel, ListRel, ValRel, StoreRel, EntryRel, NextRel, TopSkips, TopKnown}
 
--- the addresses that pass the first test are related, and code may name as one those that pass the second; of the functions of a list only the types are known,
--- and other code may stand for calls of them
+-- the addresses that pass the first test are related, and code may name as one those that pass the second; of the functions of a list only the types are known
+-- and whose they are, and other code may stand for calls of them
 abbrev pub passed : (of named : Kind → ℕ → ℕ → Bool) → List ℕ → Pairing
 passed of named l = record { of = λ k a b. IsTrue (of k a b); named = λ k a b. IsTrue (named k a b); listed = λ a. IsTrue (list_any (nat_eq a) l); replaced = λ a. IsTrue (list_any (nat_eq a) l) }
 
@@ -102,7 +102,7 @@ TypingIsKept =
 abbrev pub ReplacedCodeIsRelated : Type 0
 ReplacedCodeIsRelated =
     (of named : Kind → ℕ → ℕ → Bool) (l : List ℕ) (m : Remap) (i j : Inst) (listed : List ℕ) (codes : Codes) (is js : List Instr) → ListLayers (OthersNamed (passed of named l) m listed i j) is →
-    AreReplaced (passed of named l) listed i → Replaced m listed codes is js → CodeRel (passed of named l) i j is js
+    MayBeReplaced (passed of named l) listed i → Replaced m listed codes is js → CodeRel (passed of named l) i j is js
 
 -- With no function on the list such code is the body with other indices.
 abbrev pub UnlistedAreRenumbered : Type 0

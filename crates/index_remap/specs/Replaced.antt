@@ -60,9 +60,9 @@ OthersAgree m listed c d l = calls_listed listed l ≡ false → LayerAgrees m c
 abbrev pub OthersNamed : Pairing → Remap → List ℕ → Inst → Inst → Instr-F Instr → Type 0
 OthersNamed R m listed i j l = calls_listed listed l ≡ false → LayerNames R m i j l
 
--- each function on the list is at an address of which other code may stand for calls
-abbrev pub AreReplaced : Pairing → List ℕ → Inst → Type 0
-AreReplaced R listed i = (f : ℕ) → IsTrue (is_among listed f) → (a : ℕ) × (at i.funcs f ≡ Gives a) × R.replaced a
+-- each function on the list is at an address for whose calls other code may stand
+abbrev pub MayBeReplaced : Pairing → List ℕ → Inst → Type 0
+MayBeReplaced R listed i = (f : ℕ) → IsTrue (is_among listed f) → (a : ℕ) × (at i.funcs f ≡ Gives a) × R.replaced a
 
 -- ---- what it needs to stay well typed ----
 
