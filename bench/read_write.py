@@ -6,6 +6,7 @@
 Makes modules of 1, 4 and 16 MiB, and prints for each tool the time (the least of three runs), the greatest resident memory, and for the
 smallest module the machine instructions, as callgrind of valgrind counts them. `merge` reads, validates and writes; wasm-strip (wabt) reads and copies
 sections; wasm-opt (binaryen) without passes reads and writes; wasm-validate (wabt) reads and validates. A tool that is not installed is skipped.
+Then it prints where the instructions of `merge` go for the smallest module: those of whole calls of the functions in PARTS, and all.
 """
 import os
 import random
@@ -93,6 +94,27 @@ def instructions(command, folder):
     return int(found.group(1)) if found else None
 
 
+# a part of the job, and the function whose calls it is
+PARTS = [
+    ("reading sections", "wasm_read::sections::read_section"),
+    ("typing bodies", "wasm_typing::check::is_well_typed"),
+    ("joining", "merge_join::tree::joined_tree"),
+    ("renumbering bodies, in joining", "index_remap::body::renumber_all"),
+    ("measuring the code section", "wasm_write::sections::fit_code_section"),
+    ("writing", "wasm_write::write"),
+]
+
+
+def parts(command, size, folder):
+    count = instructions(command, folder)
+    told = subprocess.run(["callgrind_annotate", "--inclusive=yes", "--threshold=100", f"{folder}/callgrind"], capture_output=True, text=True).stdout
+    print("\n| part of binkit merge | instructions a byte |\n|---|---|")
+    for part, function in PARTS:
+        found = re.search(rf"([\d,]+) .*\?\?\?:{function} \[", told)
+        print(f"| {part} | {int(found.group(1).replace(',', '')) / size:.0f} |" if found else f"| {part} | not found |")
+    print(f"| all | {count / size:.0f} |")
+
+
 def main():
     with tempfile.TemporaryDirectory() as folder:
         print("| MiB | tool | seconds | MiB of memory | instructions a byte |")
@@ -120,6 +142,9 @@ def main():
                 count = instructions(command, folder) if mib == 1 and shutil.which("valgrind") else None
                 a_byte = f"{count / len(content):.0f}" if count else ""
                 print(f"| {mib} | {tool} | {min(run[0] for run in runs):.2f} | {max(run[1] for run in runs):.0f} | {a_byte} |", flush=True)
+        if shutil.which("valgrind"):
+            content = module((1 << 20) - 4096)
+            parts([PROGRAM, "merge", os.path.join(folder, "1.wasm"), "m", "-o", os.path.join(folder, "out.wasm")], len(content), folder)
 
 
 if __name__ == "__main__":
