@@ -85,9 +85,9 @@ module _ (R : Pairing) (apart : OneToOne R) (cs ds : List Entry) where
   step_above s (cons waiting e) touches free known = wrong
   step_above s (cons (ended v) e) touches free known = wrong
   step_above s (cons (growing n) e) touches free known = wrong
-  step_above {s} {t} p (cons {xs = es} {ys = fs} (running {f = f} {g = g} q) e) touches free known = go (act s f) (act t g) refl (act_rel R apart p q free.direct known)
+  step_above {s} {t} p (cons {xs = es} {ys = fs} (running {f = f} {g = g} q) e) touches free known = go (act s f) (act t g) refl (act_rel R apart p q free known)
     where
       go : (x y : Outcome Act) → x ≡ act s f → ResRel (ActRel R f.inst g.inst) x y → ResRel (NextRel R Both) (bind x (perform s f (es ++ cs))) (bind y (perform t g (fs ++ ds)))
       go _ _ i trap = trap
       go _ _ i wrong = wrong
-      go _ _ i (done a) = perform_free p q a e (free.made _ (sym i)) (touches _ (sym i))
+      go _ _ i (done a) = perform_free p q a e (free _ (sym i)) (touches _ (sym i))

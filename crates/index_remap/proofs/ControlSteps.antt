@@ -1,6 +1,7 @@
 -- Calls, ends, branches and blocks agree.
 use Rattle.std.proofs.Common.{◌≡◌, ℕ, List, [], ◌∷◌, ◌++◌, length, refl, sym, subst, append_assoc}
 use Rattle.std.specs.Prelude.{nat_eq}
+use Rattle.wasm_tree.specs.declared.types.ValType.{ValType}
 use Rattle.wasm_tree.specs.declared.types.BlockType.{BlockType}
 use Rattle.wasm_tree.specs.declared.instr.Instr.{Instr}
 use Rattle.wasm_tree.specs.declared.instr.Instr.TheVariants as i
@@ -12,8 +13,8 @@ use Rattle.wasm_meaning.specs.Values.{same_func_type}
 use Rattle.wasm_meaning.specs.Control.{call, func_ref, call_indirect, finish, resume, end_level, level_here, branch, branch_if, branch_table, shape_of, open_level, open_block, open_loop, open_if}
 use Rattle.index_remap.specs.Related
 use Rattle.index_remap.specs.Related.{Kind, Funcs, Tables, Pairing, OptRel, none, some, ResRel, done, trap, wrong, ListRel, nil, cons, RefRel, func, extern, ValRel, Names, StoreRel, SameType, BlockRel, empty, value, indexed, OpRel, CodeRel, end, then, instead, TableRel, LevelRel, BodyRel, ActRel, goes, calls, ends}
-use Rattle.index_remap.proofs.Rel.{same_there, bind_rel, bind_eq, cond_rel, cond_two, at_rel, append_rel, past_rel, split_rel, trapping_rel, or_trap_rel}
-use Rattle.index_remap.proofs.ValueSteps.{bind_num, go_rel, values_rel}
+use Rattle.index_remap.proofs.Rel.{same_there, bind_rel, bind_eq, cond_rel, cond_two, at_rel, onto_rel, append_rel, past_rel, split_rel, trapping_rel, or_trap_rel}
+use Rattle.index_remap.proofs.ValueSteps.{bind_num, pop_typed_rel, go_rel, values_rel}
 use Rattle.index_remap.proofs.TableSteps.{bind_table}
 
 pub followed_rel : {R : Pairing} {i j : Inst} {c d e f : List Instr} → CodeRel R i j c d → CodeRel R i j e f → CodeRel R i j (c ++ e) (d ++ f)
@@ -71,12 +72,12 @@ module _ (R : Pairing) (ev ew : Env) (st : StoreRel R ev.store ew.store) where
   shape_rel value = refl
   shape_rel (indexed e) = e
 
-  open_level_rel : {h k : Body} {vs ws : List Val} {c d back again : List Instr} (params gives takes : ℕ) → BodyRel R ev.inst ew.inst h k → ListRel (ValRel R) vs ws → CodeRel R ev.inst ew.inst c d → CodeRel R ev.inst ew.inst back again → ResRel (ActRel R ev.inst ew.inst) (open_level h vs params gives takes c back) (open_level k ws params gives takes d again)
+  open_level_rel : {h k : Body} {vs ws : List Val} {c d back again : List Instr} (params : List ValType) (gives takes : ℕ) → BodyRel R ev.inst ew.inst h k → ListRel (ValRel R) vs ws → CodeRel R ev.inst ew.inst c d → CodeRel R ev.inst ew.inst back again → ResRel (ActRel R ev.inst ew.inst) (open_level h vs params gives takes c back) (open_level k ws params gives takes d again)
   open_level_rel params gives takes r v c b =
-      bind_rel (split_rel params v) (λ _ _ p. go_rel R ev ew st (record { locals = r.locals; values = p.first; rest = c; gives = refl; takes = refl; back = b; outer = cons (level_rel (values_rel R ev ew st r p.second)) r.outer }))
+      bind_rel (pop_typed_rel R params v) (λ _ _ p. go_rel R ev ew st (record { locals = r.locals; values = onto_rel p.first nil; rest = c; gives = refl; takes = refl; back = b; outer = cons (level_rel (values_rel R ev ew st r p.second)) r.outer }))
 
   open_block_rel : {h k : Body} {vs ws : List Val} (b e : BlockType) {c d : List Instr} → BodyRel R ev.inst ew.inst h k → ListRel (ValRel R) vs ws → BlockRel ev.inst ew.inst b e → CodeRel R ev.inst ew.inst c d → ResRel (ActRel R ev.inst ew.inst) (open_block ev h vs b c) (open_block ew k ws e d)
-  open_block_rel b e r v p c = bind_eq (shape_rel p) (λ t. open_level_rel (length t.params) (length t.results) (length t.results) r v c end)
+  open_block_rel b e r v p c = bind_eq (shape_rel p) (λ t. open_level_rel t.params (length t.results) (length t.results) r v c end)
 
   pub open_here_rel : {h k : Body} (b e : BlockType) {c d : List Instr} → BodyRel R ev.inst ew.inst h k → BlockRel ev.inst ew.inst b e → CodeRel R ev.inst ew.inst c d → ResRel (ActRel R ev.inst ew.inst) (open_block ev h h.values b c) (open_block ew k k.values e d)
   open_here_rel b e r p c = open_block_rel b e r r.values p c
@@ -86,7 +87,7 @@ module _ (R : Pairing) (ev ew : Env) (st : StoreRel R ev.store ew.store) where
   again_rel b e c d p q = then (rw (outs-Loop b c, outs-Loop e d) (Related.loop p q)) end
 
   pub open_loop_rel : {h k : Body} (b e : BlockType) (c d : List Instr) → BodyRel R ev.inst ew.inst h k → BlockRel ev.inst ew.inst b e → CodeRel R ev.inst ew.inst c d → ResRel (ActRel R ev.inst ew.inst) (open_loop ev h b c) (open_loop ew k e d)
-  open_loop_rel b e c d r p q = bind_eq (shape_rel p) (λ t. open_level_rel (length t.params) (length t.results) (length t.params) r r.values q (again_rel b e c d p q))
+  open_loop_rel b e c d r p q = bind_eq (shape_rel p) (λ t. open_level_rel t.params (length t.results) (length t.params) r r.values q (again_rel b e c d p q))
 
   pub open_if_rel : {h k : Body} (b e : BlockType) (c d f g : List Instr) → BodyRel R ev.inst ew.inst h k → BlockRel ev.inst ew.inst b e → CodeRel R ev.inst ew.inst c d → CodeRel R ev.inst ew.inst f g → ResRel (ActRel R ev.inst ew.inst) (open_if ev h b c f) (open_if ew k e d g)
   open_if_rel {h} {k} b e c d f g r p q s = bind_num R W32 _ _ r.values (λ n _ _ v. open_block_rel b e r v p (cond_two (CodeRel R ev.inst ew.inst) (nat_eq n 0) s q))

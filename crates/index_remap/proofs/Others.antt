@@ -8,11 +8,11 @@ use Rattle.index_remap.specs.Related.{Kind, Tables, Mems, Globals, Elems, Datas,
 use Rattle.index_remap.specs.RelatedRuns.{HasNoPartner, KeepsOthers, IsBegun, PhaseRel, pending, opened, closed, fresh, RunRel}
 use Rattle.index_remap.proofs.Rel.{there, bind_rel, PairRel, at_put_there}
 use Rattle.index_remap.proofs.Known.{top_known}
-use Rattle.index_remap.proofs.StepsAgree.{Stacks, TopView, top_none, top_mark, top_opening, top_waiting, top_ended, top_growing, top_running, enter_rel, give_levels_rel, top_rel}
+use Rattle.index_remap.proofs.StepsAgree.{Stacks, TopView, top_none, top_mark, top_opening, top_waiting, top_ended, top_growing, top_running, enter_rel, give_levels_rel, top_rel, none_called}
 use Rattle.index_remap.proofs.Lockstep.{marks, marked}
 use Rattle.index_remap.proofs.Runs.{still_rel}
 
-module _ (R : Pairing) (apart : OneToOne R) (known : (k : Kind) (a b : ℕ) → R.named k a b → R.of k a b) (plain : (a : ℕ) → ¬ R.listed a) (kept : (a : ℕ) → ¬ R.replaced a) (first : Store) where
+module _ (R : Pairing) (apart : OneToOne R) (known : (k : Kind) (a b : ℕ) → R.named k a b → R.of k a b) (plain : (a : ℕ) → ¬ R.listed a) (first : Store) where
   -- entry by entry, and nothing else was changed in the second store
   record Held (s t : Store) (es fs : List Entry) : Type 0 where
     entries : ListRel (EntryRel R) es fs
@@ -73,7 +73,7 @@ module _ (R : Pairing) (apart : OneToOne R) (known : (k : Kind) (a b : ℕ) → 
   steps s h nil = wrong
   steps s h (cons mark e) = wrong
   steps s h (cons (opening x) e) = wrong
-  steps s h (cons (running {f = f} {g = g} p) e) = top_rel R apart Held Held stacks s p (record { entries = e; keeps = h }) (λ a _. kept a) (top_known R known f.inst g.inst f.levels g.levels)
+  steps s h (cons (running {f = f} {g = g} p) e) = top_rel R apart Held Held stacks s p (record { entries = e; keeps = h }) (λ x _. none_called R plain x) (top_known R known f.inst g.inst f.levels g.levels)
   steps s h (cons waiting e) = wrong
   steps s h (cons (ended v) e) = wrong
   steps s h (cons (growing n) e) = wrong

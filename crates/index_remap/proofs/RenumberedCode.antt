@@ -1,5 +1,6 @@
 -- Code with other indices, in which code stands in place of calls of listed functions, is related to what it was.
 use Rattle.std.proofs.Common.{◌≡◌, ℕ, List, [], ◌∷◌, ◌++◌, Bool, true, false, true≢false, refl, sym, subst}
+use Rattle.wasm_tree.specs.declared.types.FuncType.{FuncType}
 use Rattle.wasm_tree.specs.declared.types.BlockType.{BlockType}
 use Rattle.wasm_tree.specs.declared.types.BlockType.TheVariants as bt
 use Rattle.wasm_tree.specs.declared.instr.Instr.{Instr, fold_out-Instr, map-Instr, out-Instr, Row_of-Instr, end_of-Instr, more_of-Instr, items-the_row-Instr, items_shown-the_row-Instr-0}
@@ -14,7 +15,7 @@ use Rattle.index_remap.specs.Related.{Pairing, BlockRel, empty, value, indexed, 
 use Rattle.index_remap.specs.Renumbered.{new_type, renumber_step, renumbered, renumbered_all}
 use Rattle.index_remap.specs.References.{is_among}
 use Rattle.index_remap.specs.CodeNames.{BlockNames, LayerNames, Layers, RowLayers, ListLayers}
-use Rattle.index_remap.specs.Replaced.{Codes, CallReplaced, StandsFor, RowReplaced, Replaced, OthersNamed, MayBeReplaced}
+use Rattle.index_remap.specs.Replaced.{Labels, Codes, CallReplaced, StandsFor, RowReplaced, Replaced, OthersNamed, MayBeReplaced}
 use Rattle.index_remap.proofs.Unlisted.{all_follow, unlisted_renumbered}
 
 module _ (R : Pairing) (m : Remap) (x y : Inst) where
@@ -82,40 +83,41 @@ module _ (R : Pairing) (m : Remap) (x y : Inst) where
   one_rel : (o p : Instr) (code c d : List Instr) → code ≡ p ∷ [] → OpRel R x y false (out-Instr o) (out-Instr p) → CodeRel R x y c d → CodeRel R x y (o ∷ c) (code ++ d)
   one_rel o p code c d e h k = subst (λ z. CodeRel R x y (o ∷ c) (z ++ d)) (sym e) (then h k)
 
-  module _ (listed : List ℕ) (codes : Codes) (there : MayBeReplaced R listed x) where
+  module _ (types : List FuncType) (listed : List ℕ) (codes : Codes) (there : MayBeReplaced R listed x) where
     -- a call of a function that is on the list, or not
-    call_rel : (b : Bool) (f : ℕ) (code c d : List Instr) → is_among listed f ≡ b → (b ≡ false → LayerNames R m x y (out-Instr (Call f))) → CallReplaced m b codes f code → CodeRel R x y c d →
+    call_rel : (b : Bool) (labels : Labels) (f : ℕ) (code c d : List Instr) → is_among listed f ≡ b → (b ≡ false → LayerNames R m x y (out-Instr (Call f))) → CallReplaced m b codes labels f code → CodeRel R x y c d →
         CodeRel R x y (Call f ∷ c) (code ++ d)
     unfolding out-Instr denote.Hole.Carrier.out
-    call_rel true f code c d w q k h = let (a, found, free) = there f w in instead code refl found free h
-    call_rel false f code c d w q k h = one_rel (Call f) (renumbered m (Call f)) code c d k (plain_rel (Call f) tt (q refl)) h
+    call_rel true labels f code c d w q k h = let (a, found, free) = there f w in instead code refl found free h
+    call_rel false labels f code c d w q k h = one_rel (Call f) (renumbered m (Call f)) code c d k (plain_rel (Call f) tt (q refl)) h
 
     mutual
       unfolding out-Instr denote.Hole.Carrier.out
 
-      stands_rel : (o : Instr) (code c d : List Instr) → Layers (OthersNamed R m listed x y) o → StandsFor m listed codes o code → CodeRel R x y c d → CodeRel R x y (o ∷ c) (code ++ d)
-      stands_rel (Block' ty n body) code c d q (b, k, e) h =
-          let held : CodeRel R x y (shown-the_row-Instr-0 n body) b = rw (items_shown-the_row-Instr-0 n body) (row_rel body b q.1 k) in
+      stands_rel : (labels : Labels) (o : Instr) (code c d : List Instr) → Layers (OthersNamed R m listed x y) o → StandsFor types m listed codes labels o code → CodeRel R x y c d → CodeRel R x y (o ∷ c) (code ++ d)
+      stands_rel labels (Block' ty n body) code c d q (b, k, e) h =
+          let held : CodeRel R x y (shown-the_row-Instr-0 n body) b = rw (items_shown-the_row-Instr-0 n body) (row_rel _ body b q.1 k) in
           one_rel (Block' ty n body) (Block (new_type m ty) b) code c d e (rw (i.outs-Block (new_type m ty) b) (Related.block (block_rel ty (q.0 refl)) held)) h
-      stands_rel (Loop' ty n body) code c d q (b, k, e) h =
-          let held : CodeRel R x y (shown-the_row-Instr-0 n body) b = rw (items_shown-the_row-Instr-0 n body) (row_rel body b q.1 k) in
+      stands_rel labels (Loop' ty n body) code c d q (b, k, e) h =
+          let held : CodeRel R x y (shown-the_row-Instr-0 n body) b = rw (items_shown-the_row-Instr-0 n body) (row_rel _ body b q.1 k) in
           one_rel (Loop' ty n body) (Loop (new_type m ty) b) code c d e (rw (i.outs-Loop (new_type m ty) b) (Related.loop (block_rel ty (q.0 refl)) held)) h
-      stands_rel (If' ty n body l other) code c d q (b, o, k, z, e) h =
-          let held : CodeRel R x y (shown-the_row-Instr-0 n body) b = rw (items_shown-the_row-Instr-0 n body) (row_rel body b q.1 k) in
-          let others : CodeRel R x y (shown-the_row-Instr-0 l other) o = rw (items_shown-the_row-Instr-0 l other) (row_rel other o q.2 z) in
+      stands_rel labels (If' ty n body l other) code c d q (b, o, k, z, e) h =
+          let held : CodeRel R x y (shown-the_row-Instr-0 n body) b = rw (items_shown-the_row-Instr-0 n body) (row_rel _ body b q.1 k) in
+          let others : CodeRel R x y (shown-the_row-Instr-0 l other) o = rw (items_shown-the_row-Instr-0 l other) (row_rel _ other o q.2 z) in
           one_rel (If' ty n body l other) (If (new_type m ty) b o) code c d e (rw (i.outs-If (new_type m ty) b o) (Related.if_else (block_rel ty (q.0 refl)) held others)) h
-      stands_rel (Call f) code c d q k h = call_rel (is_among listed f) f code c d refl q k h
-      stands_rel o code c d q k h = one_rel o (renumbered m o) code c d k (plain_rel o tt (q refl)) h
+      stands_rel labels (Call f) code c d q k h = call_rel (is_among listed f) labels f code c d refl q k h
+      stands_rel labels o code c d q k h = one_rel o (renumbered m o) code c d k (plain_rel o tt (q refl)) h
 
-      row_rel : {n : _} (r : Row_of-Instr n) (js : List Instr) → RowLayers (OthersNamed R m listed x y) r → RowReplaced m listed codes r js → CodeRel R x y (items-the_row-Instr n r) js
-      row_rel end_of-Instr js q k = subst (CodeRel R x y []) (sym k) end
-      row_rel (more_of-Instr o r) js q (code, rest, k, z, e) =
-          subst (CodeRel R x y (o ∷ items-the_row-Instr _ r)) (sym e) (stands_rel o code (items-the_row-Instr _ r) rest q.0 k (row_rel r rest q.1 z))
+      row_rel : {n : _} (labels : Labels) (r : Row_of-Instr n) (js : List Instr) → RowLayers (OthersNamed R m listed x y) r → RowReplaced types m listed codes labels r js → CodeRel R x y (items-the_row-Instr n r) js
+      row_rel labels end_of-Instr js q k = subst (CodeRel R x y []) (sym k) end
+      row_rel labels (more_of-Instr o r) js q (code, rest, k, z, e) =
+          subst (CodeRel R x y (o ∷ items-the_row-Instr _ r)) (sym e) (stands_rel labels o code (items-the_row-Instr _ r) rest q.0 k (row_rel labels r rest q.1 z))
 
-    pub replaced_rel : (os js : List Instr) → ListLayers (OthersNamed R m listed x y) os → Replaced m listed codes os js → CodeRel R x y os js
-    replaced_rel [] js q k = subst (CodeRel R x y []) (sym k) end
-    replaced_rel (o ∷ os) js q (code, rest, k, z, e) = subst (CodeRel R x y (o ∷ os)) (sym e) (stands_rel o code os rest q.0 k (replaced_rel os rest q.1 z))
+    pub replaced_rel : (labels : Labels) (os js : List Instr) → ListLayers (OthersNamed R m listed x y) os → Replaced types m listed codes labels os js → CodeRel R x y os js
+    replaced_rel labels [] js q k = subst (CodeRel R x y []) (sym k) end
+    replaced_rel labels (o ∷ os) js q (code, rest, k, z, e) = subst (CodeRel R x y (o ∷ os)) (sym e) (stands_rel labels o code os rest q.0 k (replaced_rel labels os rest q.1 z))
 
 pub renumbered_rel : (R : Pairing) (m : Remap) (x y : Inst) (os : List Instr) → ListLayers (LayerNames R m x y) os → CodeRel R x y os (renumbered_all m os)
 renumbered_rel R m x y os h =
-    replaced_rel R m x y [] (λ f. []) (λ f k. absurd (true≢false (sym k))) os (renumbered_all m os) (all_follow (LayerNames R m x y) (OthersNamed R m [] x y) (λ l n e. n) os h) (unlisted_renumbered m (λ f. []) os)
+    replaced_rel R m x y [] [] (λ labels f. []) (λ f k. absurd (true≢false (sym k))) [] os (renumbered_all m os) (all_follow (LayerNames R m x y) (OthersNamed R m [] x y) (λ l n e. n) os h)
+    (unlisted_renumbered [] m (λ labels f. []) [] os)

@@ -3,18 +3,19 @@ use Rattle.std.proofs.Common.{◌≡◌, ℕ, Bool, true, false, List, [], ◌�
 use Rattle.std.specs.Prelude.{slice_get}
 use Rattle.wasm_tree.specs.declared.types.ValType.{ValType}
 use Rattle.wasm_tree.specs.declared.types.FuncType.{FuncType}
+use Rattle.wasm_tree.specs.declared.types.BlockType.{BlockType}
 use Rattle.wasm_tree.specs.declared.instr.Instr.{Instr, out-Instr, Row_of-Instr, end_of-Instr, more_of-Instr}
 use Rattle.wasm_tree.specs.declared.instr.Instr.TheBlock.{hidden-the_row-Instr-0}
 use Rattle.wasm_tree.specs.declared.instr.Instr.TheViews.{outs-Block', outs-Loop', outs-If'}
 use Rattle.wasm_tree.specs.declared.instr.Instr.TheVariants.{Block, Block', Loop, Loop', If, If', Call}
-use Rattle.wasm_typing.specs.Typing.{Stack, operands, AllMatch, signature_in, Effect, Gives, Acts, gives_of, then_option, Context, Ends, Fits, Leads, LeadsAll, WellTyped}
+use Rattle.wasm_typing.specs.Typing.{Stack, operands, AllMatch, Signature, signature_of, signature_in, Effect, Gives, Acts, gives_of, then_option, Context, Ends, Fits, Leads, LeadsAll, WellTyped}
 use Rattle.index_remap.specs.declared.remap.Remap.{Remap}
 use Rattle.index_remap.specs.Renumbered.{new_type, renumbered}
 use Rattle.index_remap.specs.References.{is_among}
 use Rattle.index_remap.specs.CodeNames.{Layers, RowLayers, ListLayers}
 use Rattle.index_remap.proofs.Rel.{append_rel}
 use Rattle.index_remap.specs.Agreement.{BlockAgrees, LayerAgrees, SameFrame, labelled}
-use Rattle.index_remap.specs.Replaced.{Codes, CallReplaced, StandsFor, RowReplaced, Replaced, OthersAgree, CodesHaveTypes}
+use Rattle.index_remap.specs.Replaced.{Labels, Codes, CallReplaced, block_label, loop_label, StandsFor, RowReplaced, Replaced, OthersAgree, CodesHaveTypes}
 use Rattle.index_remap.proofs.Instructions.{plain_kept, type_kept}
 use Rattle.index_remap.proofs.Keeping.{then_is}
 use Rattle.index_remap.proofs.Lower.{Lower, lower_self, lower_on, lower_match, match_lower, fits_lower, leads_lower, leads_over, leads_on}
@@ -51,12 +52,17 @@ row_ends : {n : _} (c d : Context) (is : Row_of-Instr n) (js : List Instr) (ps r
 row_ends c d is js ps rs k (last, l, a) = row_typed d js ps rs (lower_ends d js last ps rs a (k (operands ps) last (operands ps) l (lower_self (operands ps))))
 
 module _ (m : Remap) (listed : List ℕ) (codes : Codes) (c d : Context) (locals : c.locals ≡ d.locals) (results : c.results ≡ d.results) (typed : CodesHaveTypes listed codes c d) where
+  -- what stands under the label of a block, where the block has this type
+  under_block : {n : _} (ls : Labels) (f : Signature) (ty : BlockType) → signature_of c.types ty ≡ Some f → (is : Row_of-Instr n) (js : List Instr) →
+      RowReplaced c.types m listed codes (block_label (signature_of c.types ty) ∷ ls) is js → RowReplaced c.types m listed codes (f.results ∷ ls) is js
+  under_block ls f ty g is js k = subst (λ o. RowReplaced c.types m listed codes (block_label o ∷ ls) is js) g k
+
   -- a call of a function that is on the list, or not
-  call_stands : (b : Bool) (ls : List (List ValType)) (f : ℕ) (code : List Instr) (s t r : Stack) → is_among listed f ≡ b → (b ≡ false → LayerAgrees m c d (out-Instr (Call f))) → CallReplaced m b codes f code →
+  call_stands : (b : Bool) (ls : Labels) (f : ℕ) (code : List Instr) (s t r : Stack) → is_among listed f ≡ b → (b ≡ false → LayerAgrees m c d (out-Instr (Call f))) → CallReplaced m b codes ls f code →
       Fits (labelled c ls) (Call f) s t → Lower r s → (u : Stack) × LeadsAll (labelled d ls) code r u × Lower u t
   call_stands true ls f code s t r w q k h l =
       let (ty, e, g) = call_type (then_option (slice_get c.funcs f) (slice_get c.types)) h.0 h.1 in
-      let has : WellTyped (labelled d ls) code ty.params ty.results = typed f code w k ty (sym (then_is (slice_get c.funcs f) (slice_get c.types)) ∙ e) ls in
+      let has : WellTyped (labelled d ls) code ty.params ty.results = typed ls f code w k ty (sym (then_is (slice_get c.funcs f) (slice_get c.types)) ∙ e) in
       code_leads (labelled d ls) code ty.params ty.results s t r has (subst (λ z. Acts z s t) (sym g) h.2) l
   call_stands false ls f code s t r w q k h l =
       one_leads (labelled d ls) (renumbered m (Call f)) code s t r k (plain_kept m c d locals results ls (Call f) s t (q refl) h.0 h.1 h.2) l
@@ -64,25 +70,25 @@ module _ (m : Remap) (listed : List ℕ) (codes : Codes) (c d : Context) (locals
   mutual
     unfolding out-Instr denote.Hole.Carrier.out
 
-    stands : (ls : List (List ValType)) (i : Instr) (code : List Instr) (s t r : Stack) → Layers (OthersAgree m listed c d) i → StandsFor m listed codes i code → Fits (labelled c ls) i s t → Lower r s →
+    stands : (ls : Labels) (i : Instr) (code : List Instr) (s t r : Stack) → Layers (OthersAgree m listed c d) i → StandsFor c.types m listed codes ls i code → Fits (labelled c ls) i s t → Lower r s →
         (u : Stack) × LeadsAll (labelled d ls) code r u × Lower u t
     stands ls (Block' ty n body) code s t r q (b, k, e) (f, g, w, a) l =
         let here : BlockAgrees m c d ty = subst (LayerAgrees m c d) (outs-Block' ty n body) (q.0 refl) in
-        let inner = row_ends (labelled c (f.results ∷ ls)) (labelled d (f.results ∷ ls)) body b f.params f.results (λ s t r. row_leads (f.results ∷ ls) body b s t r q.1 k) w in
+        let inner = row_ends (labelled c (f.results ∷ ls)) (labelled d (f.results ∷ ls)) body b f.params f.results (λ s t r. row_leads (f.results ∷ ls) body b s t r q.1 (under_block ls f ty g body b k)) w in
         one_leads (labelled d ls) (Block (new_type m ty) b) code s t r e (f, type_kept m c d locals results ty here f g, inner, a) l
     stands ls (Loop' ty n body) code s t r q (b, k, e) (f, g, w, a) l =
         let here : BlockAgrees m c d ty = subst (LayerAgrees m c d) (outs-Loop' ty n body) (q.0 refl) in
-        let inner = row_ends (labelled c (f.params ∷ ls)) (labelled d (f.params ∷ ls)) body b f.params f.results (λ s t r. row_leads (f.params ∷ ls) body b s t r q.1 k) w in
+        let inner = row_ends (labelled c (f.params ∷ ls)) (labelled d (f.params ∷ ls)) body b f.params f.results (λ s t r. row_leads (f.params ∷ ls) body b s t r q.1 (subst (λ o. RowReplaced c.types m listed codes (loop_label o ∷ ls) body b) g k)) w in
         one_leads (labelled d ls) (Loop (new_type m ty) b) code s t r e (f, type_kept m c d locals results ty here f g, inner, a) l
     stands ls (If' ty n body j other) code s t r q (b, o, k, x, e) (f, g, w, y, a) l =
         let here : BlockAgrees m c d ty = subst (LayerAgrees m c d) (outs-If' ty n body j other) (q.0 refl) in
-        let first = row_ends (labelled c (f.results ∷ ls)) (labelled d (f.results ∷ ls)) body b f.params f.results (λ s t r. row_leads (f.results ∷ ls) body b s t r q.1 k) w in
-        let second = row_ends (labelled c (f.results ∷ ls)) (labelled d (f.results ∷ ls)) other o f.params f.results (λ s t r. row_leads (f.results ∷ ls) other o s t r q.2 x) y in
+        let first = row_ends (labelled c (f.results ∷ ls)) (labelled d (f.results ∷ ls)) body b f.params f.results (λ s t r. row_leads (f.results ∷ ls) body b s t r q.1 (under_block ls f ty g body b k)) w in
+        let second = row_ends (labelled c (f.results ∷ ls)) (labelled d (f.results ∷ ls)) other o f.params f.results (λ s t r. row_leads (f.results ∷ ls) other o s t r q.2 (under_block ls f ty g other o x)) y in
         one_leads (labelled d ls) (If (new_type m ty) b o) code s t r e (f, type_kept m c d locals results ty here f g, first, second, a) l
     stands ls (Call f) code s t r q k h l = call_stands (is_among listed f) ls f code s t r refl q k h l
     stands ls i code s t r q k h l = one_leads (labelled d ls) (renumbered m i) code s t r k (plain_kept m c d locals results ls i s t (q refl) h.0 h.1 h.2) l
 
-    row_leads : {n : _} (ls : List (List ValType)) (is : Row_of-Instr n) (js : List Instr) (s t r : Stack) → RowLayers (OthersAgree m listed c d) is → RowReplaced m listed codes is js → Leads (labelled c ls) is s t → Lower r s →
+    row_leads : {n : _} (ls : Labels) (is : Row_of-Instr n) (js : List Instr) (s t r : Stack) → RowLayers (OthersAgree m listed c d) is → RowReplaced c.types m listed codes ls is js → Leads (labelled c ls) is s t → Lower r s →
         (u : Stack) × LeadsAll (labelled d ls) js r u × Lower u t
     row_leads ls end_of-Instr js s t r q k h l = (r, subst (λ z. LeadsAll (labelled d ls) z r r) (sym k) refl, subst (Lower r) h l)
     row_leads ls (more_of-Instr i is) js s t r q (code, rest, x, k, e) (v, f, h) l =
@@ -90,7 +96,7 @@ module _ (m : Remap) (listed : List ℕ) (codes : Codes) (c d : Context) (locals
         let (w, g, y) = row_leads ls is rest v t u q.1 k h low in
         both_lead (labelled d ls) code rest js r u t w e p y g
 
-  all_leads : (ls : List (List ValType)) (is js : List Instr) (s t r : Stack) → ListLayers (OthersAgree m listed c d) is → Replaced m listed codes is js → LeadsAll (labelled c ls) is s t → Lower r s →
+  all_leads : (ls : Labels) (is js : List Instr) (s t r : Stack) → ListLayers (OthersAgree m listed c d) is → Replaced c.types m listed codes ls is js → LeadsAll (labelled c ls) is s t → Lower r s →
       (u : Stack) × LeadsAll (labelled d ls) js r u × Lower u t
   all_leads ls [] js s t r q k h l = (r, subst (λ z. LeadsAll (labelled d ls) z r r) (sym k) refl, subst (Lower r) h l)
   all_leads ls (i ∷ is) js s t r q (code, rest, x, k, e) (v, f, h) l =
@@ -99,7 +105,7 @@ module _ (m : Remap) (listed : List ℕ) (codes : Codes) (c d : Context) (locals
       both_lead (labelled d ls) code rest js r u t w e p y g
 
 pub replaced_typed : (m : Remap) (listed : List ℕ) (codes : Codes) (c d : Context) (is js : List Instr) (ps rs : List ValType) → SameFrame c d → ListLayers (OthersAgree m listed c d) is → CodesHaveTypes listed codes c d →
-    Replaced m listed codes is js → WellTyped c is ps rs → WellTyped d js ps rs
+    Replaced c.types m listed codes c.labels is js → WellTyped c is ps rs → WellTyped d js ps rs
 replaced_typed m listed codes c d is js ps rs same q typed k (last, l, a) =
     let kept = all_leads m listed codes c d same.locals same.results typed c.labels is js (operands ps) last (operands ps) q k l (lower_self (operands ps)) in
     lower_ends d js last ps rs a (subst (λ ls. (u : Stack) × LeadsAll (labelled d ls) js (operands ps) u × Lower u last) same.labels kept)

@@ -4,10 +4,11 @@ use Rattle.std.proofs.lemmas.Bool.{true≢false}
 use Rattle.wasm_meaning.specs.State.{Store, Entry, Running, Mark, Opening, Waiting, Ended, Growing, Act}
 use Rattle.wasm_meaning.specs.Step.{step}
 use Rattle.wasm_meaning.specs.Run.{Run, tick, noted, events_of}
-use Rattle.index_remap.specs.Related.{Kind, Pairing, OneToOne, ResRel, ListRel, StoreRel, EntryRel, NextRel, NotListed, TopSkips}
+use Rattle.index_remap.specs.Related.{Kind, Pairing, OneToOne, ResRel, ListRel, StoreRel, EntryRel, NextRel, TopSkips}
 use Rattle.index_remap.specs.RelatedRuns.{RunRel, OutRel}
 use Rattle.index_remap.specs.Laws.{passed, Above, NeedsBelow, Touches, StepsAgree, NamedAreKnown}
 use Rattle.index_remap.proofs.Lockstep.{Entries, stacks, view, whole, alone}
+use Rattle.index_remap.proofs.StepsAgree.{none_called}
 use Rattle.index_remap.proofs.Runs.{still_rel}
 
 needs : (es : List Entry) (x : Act) → NeedsBelow es [] [] x
@@ -36,14 +37,8 @@ module _ (of : Kind → ℕ → ℕ → Bool) where
   none_listed : (a : ℕ) → ¬ R.listed a
   none_listed a p = true≢false (sym p)
 
-  none_called : (x : Act) → NotListed R x
-  none_called (Act.Goes c f) = tt
-  none_called (Act.Calls a vs h) = none_listed a
-  none_called (Act.AsksGrow g m n f) = tt
-  none_called (Act.Ends vs) = tt
-
   skips : (s : Store) (es : List Entry) → TopSkips R s es
-  skips s (Running f ∷ es) = record { direct = λ a _. none_listed a; made = λ x _. none_called x }
+  skips s (Running f ∷ es) = λ x _. none_called R none_listed x
   skips s [] = tt
   skips s (Mark ∷ es) = tt
   skips s (Opening xs ∷ es) = tt

@@ -5,13 +5,13 @@ use Rattle.wasm_tree.specs.declared.instr.Instr.{Instr}
 use Rattle.wasm_tree.specs.declared.instr.Instr.TheOpen.{Instr-F}
 use Rattle.wasm_meaning.specs.Outcomes.{Gives, bind, onto}
 use Rattle.wasm_tree.specs.declared.types.FuncType.{FuncType}
-use Rattle.wasm_meaning.specs.State.{Val, Func, Store, Change, Level, Frame, Entry, Running, Caller, Mark, Opening, Waiting, Ended, Growing, Growth, Env, Body, Act}
-use Rattle.wasm_meaning.specs.Control.{type_at}
+use Rattle.wasm_meaning.specs.State.{Val, Func, Store, Change, Level, Frame, Entry, Running, Caller, Mark, Opening, Waiting, Ended, Growing, Growth, Env, Body, Act, Goes, Calls, AsksGrow, Ends}
+use Rattle.wasm_meaning.specs.Control.{type_at, call_address}
 use Rattle.wasm_meaning.specs.Values.{pop_typed, with_values}
-use Rattle.wasm_meaning.specs.Step.{exec, step_code, step_levels, act, frame_of, give_levels, give, enter, enter_at, to_mark, no_items, no_bytes, changed, perform, step, call_of, named_call, top_call}
+use Rattle.wasm_meaning.specs.Step.{exec, step_code, step_levels, act, frame_of, give_levels, give, enter, enter_at, to_mark, no_items, no_bytes, changed, perform, step}
 use Rattle.wasm_meaning.specs.Run.{is_mark}
 use Rattle.index_remap.specs.Related
-use Rattle.index_remap.specs.Related.{Funcs, Tables, Mems, Globals, Elems, Datas, Pairing, OneToOne, OptRel, none, some, ResRel, done, wrong, ListRel, nil, cons, ValRel, OpRel, CodeRel, end, then, instead, FuncRel, defined, own, slot, TableRel, GlobalRel, ElemRel, StoreRel, LevelRel, FrameRel, EntryRel, mark, opening, waiting, growing, BodyRel, GrowthRel, ChangeRel, keep, set_global, set_memory, set_table, drop_elem, drop_data, ActRel, goes, calls, asks_grow, ends, NextRel, ran, asked, asked_grow, loads, returned, NotListed, Skips, TopSkips, NextKnown, TopKnown}
+use Rattle.index_remap.specs.Related.{Funcs, Tables, Mems, Globals, Elems, Datas, Pairing, OneToOne, OptRel, none, some, ResRel, done, wrong, ListRel, nil, cons, ValRel, OpRel, CodeRel, end, then, instead, FuncRel, defined, own, slot, TableRel, GlobalRel, ElemRel, StoreRel, LevelRel, FrameRel, EntryRel, mark, opening, waiting, growing, BodyRel, GrowthRel, ChangeRel, keep, set_global, set_memory, set_table, drop_elem, drop_data, ActRel, goes, calls, asks_grow, ends, NextRel, ran, asked, asked_grow, loads, returned, NotListed, TopSkips, NextKnown, TopKnown}
 use Rattle.index_remap.specs.Groups.{Group, Values, Memories, Control, group_of, GroupAgrees}
 use Rattle.index_remap.proofs.Rel.{same_there, bind_rel, bind_is, bind_rel_is, all_at, PairRel, onto_rel, append_rel, write_rel}
 use Rattle.index_remap.proofs.ValueSteps.{Fits, pop_typed_all, pop_typed_rel, zeros_rel}
@@ -26,21 +26,30 @@ each_group Values = values_agree
 each_group Memories = memories_agree
 each_group Control = control_agrees
 
+-- where no function is on the list, no call of one begins
+pub none_called : (R : Pairing) → ((a : ℕ) → ¬ R.listed a) → (x : Act) → NotListed R x
+none_called R plain (Goes c f) = tt
+none_called R plain (Calls a vs h) = plain a
+none_called R plain (AsksGrow g m n f) = tt
+none_called R plain (Ends vs) = tt
+
 module _ (R : Pairing) (ev ew : Env) (st : StoreRel R ev.store ew.store) where
   exec_rel : {h k : Body} {o p : Instr-F Instr} → BodyRel R ev.inst ew.inst h k → OpRel R ev.inst ew.inst true o p → ResRel (ActRel R ev.inst ew.inst) (exec o ev h) (exec p ew k)
   exec_rel {h} {k} {o} {p} r q = each_group (group_of o) R ev ew st h k r o p q refl
 
-  step_code_rel : {h k : Body} {c d : List Instr} → BodyRel R ev.inst ew.inst h k → CodeRel R ev.inst ew.inst c d → ((a : ℕ) → named_call ev.inst c ≡ Gives a → ¬ R.replaced a) → NextKnown R ev.inst ew.inst c d → ResRel (ActRel R ev.inst ew.inst) (step_code ev h c) (step_code ew k d)
+  step_code_rel : {h k : Body} {c d : List Instr} → BodyRel R ev.inst ew.inst h k → CodeRel R ev.inst ew.inst c d → ((x : Act) → step_code ev h c ≡ Gives x → NotListed R x) → NextKnown R ev.inst ew.inst c d → ResRel (ActRel R ev.inst ew.inst) (step_code ev h c) (step_code ew k d)
   step_code_rel r end f u = end_level_rel R ev ew st r
   step_code_rel r (then o c) f u = exec_rel (record { locals = r.locals; values = r.values; rest = c; gives = r.gives; takes = r.takes; back = r.back; outer = r.outer }) (u o)
-  step_code_rel r (instead {a = a} x p e l c) f u = absurd (f a (ap (call_of ev.inst) p ∙ e) l)
+  step_code_rel {h} r (instead {a = a} {c = c} x p e l _) f u =
+      let called : Body = record h { rest = c } in
+      absurd (f (Calls a h.values called) (ap (λ o. exec o ev called) p ∙ ap (λ found. bind found (call_address called)) e) l)
 
-  pub step_levels_rel : {vs ws : List Val} {ls ms : List Level} → ListRel (ValRel R) vs ws → ListRel (LevelRel R ev.inst ew.inst) ls ms → ((a : ℕ) → top_call ev.inst ls ≡ Gives a → ¬ R.replaced a) → TopKnown R ev.inst ew.inst ls ms → ResRel (ActRel R ev.inst ew.inst) (step_levels ev vs ls) (step_levels ew ws ms)
+  pub step_levels_rel : {vs ws : List Val} {ls ms : List Level} → ListRel (ValRel R) vs ws → ListRel (LevelRel R ev.inst ew.inst) ls ms → ((x : Act) → step_levels ev vs ls ≡ Gives x → NotListed R x) → TopKnown R ev.inst ew.inst ls ms → ResRel (ActRel R ev.inst ew.inst) (step_levels ev vs ls) (step_levels ew ws ms)
   step_levels_rel v nil free u = wrong
   step_levels_rel v (cons l ls) free u = step_code_rel (record { locals = v; values = l.values; rest = end; gives = l.gives; takes = l.takes; back = l.back; outer = ls }) l.code free u
 
 module _ (R : Pairing) (apart : OneToOne R) where
-  pub act_rel : {s t : Store} {f g : Frame} → StoreRel R s t → FrameRel R f g → ((a : ℕ) → top_call f.inst f.levels ≡ Gives a → ¬ R.replaced a) → TopKnown R f.inst g.inst f.levels g.levels → ResRel (ActRel R f.inst g.inst) (act s f) (act t g)
+  pub act_rel : {s t : Store} {f g : Frame} → StoreRel R s t → FrameRel R f g → ((x : Act) → act s f ≡ Gives x → NotListed R x) → TopKnown R f.inst g.inst f.levels g.levels → ResRel (ActRel R f.inst g.inst) (act s f) (act t g)
   act_rel {s} {t} {f} {g} p q free u = step_levels_rel R (record { store = s; inst = f.inst }) (record { store = t; inst = g.inst }) p q.locals q.levels free u
 
   pub changed_rel : {s t : Store} {c d : Change} → StoreRel R s t → ChangeRel R c d → StoreRel R (changed s c) (changed t d)
@@ -147,5 +156,5 @@ module _ (R : Pairing) (apart : OneToOne R) where
     perform_rel {s = s1} {t = t1} {f = f} {es = es} {fs = fs} s p (ends {vs = vs} {ws = ws} v) e = subst (λ ts. ResRel (NextRel R B) (bind (pop_typed f.results vs) (λ q. give s1 q.0 es)) (bind (pop_typed ts ws) (λ q. give t1 q.0 fs))) p.results (bind_rel (pop_typed_rel R f.results v) (λ _ _ q. stacks.gives s q.first e))
 
     -- one step of frames on top
-    pub top_rel : {s t : Store} {f g : Frame} {es fs : List Entry} → StoreRel R s t → FrameRel R f g → C s t es fs → ((a : ℕ) → top_call f.inst f.levels ≡ Gives a → ¬ R.replaced a) → TopKnown R f.inst g.inst f.levels g.levels → ResRel (NextRel R B) (step s (Running f ∷ es)) (step t (Running g ∷ fs))
+    pub top_rel : {s t : Store} {f g : Frame} {es fs : List Entry} → StoreRel R s t → FrameRel R f g → C s t es fs → ((x : Act) → act s f ≡ Gives x → NotListed R x) → TopKnown R f.inst g.inst f.levels g.levels → ResRel (NextRel R B) (step s (Running f ∷ es)) (step t (Running g ∷ fs))
     top_rel s f e free u = bind_rel (act_rel s f free u) (λ _ _ a. perform_rel s f a e)

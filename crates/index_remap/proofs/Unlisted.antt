@@ -1,31 +1,32 @@
 -- Code in which no call is replaced: it is the body with other indices. And tests of layers of which one follows from another.
 use Rattle.std.proofs.Common.{List, [], ◌∷◌, refl, ap}
+use Rattle.wasm_tree.specs.declared.types.FuncType.{FuncType}
 use Rattle.wasm_tree.specs.declared.instr.Instr.{Instr, out-Instr, Row_of-Instr, items-the_row-Instr, end_of-Instr, more_of-Instr}
 use Rattle.wasm_tree.specs.declared.instr.Instr.TheOpen.{Instr-F}
 use Rattle.wasm_tree.specs.declared.instr.Instr.TheVariants.{Block', Loop', If', Call}
 use Rattle.index_remap.specs.declared.remap.Remap.{Remap}
 use Rattle.index_remap.specs.Renumbered.{renumbered, renumbered_all}
 use Rattle.index_remap.specs.CodeNames.{Layers, RowLayers, ListLayers}
-use Rattle.index_remap.specs.Replaced.{Codes, StandsFor, RowReplaced, Replaced}
+use Rattle.index_remap.specs.Replaced.{Labels, Codes, StandsFor, RowReplaced, Replaced}
 use Rattle.index_remap.proofs.Rows.{block_renumbered, loop_renumbered, if_renumbered}
 
-module _ (m : Remap) (codes : Codes) where
+module _ (types : List FuncType) (m : Remap) (codes : Codes) where
   mutual
-    stands_renumbered : (i : Instr) → StandsFor m [] codes i (renumbered m i ∷ [])
-    stands_renumbered (Block' ty n body) = (renumbered_all m (items-the_row-Instr _ body), row_renumbered body, ap (λ i. i ∷ []) (block_renumbered m ty n body))
-    stands_renumbered (Loop' ty n body) = (renumbered_all m (items-the_row-Instr _ body), row_renumbered body, ap (λ i. i ∷ []) (loop_renumbered m ty n body))
-    stands_renumbered (If' ty n body k other) =
-        (renumbered_all m (items-the_row-Instr _ body), renumbered_all m (items-the_row-Instr _ other), row_renumbered body, row_renumbered other, ap (λ i. i ∷ []) (if_renumbered m ty n body k other))
-    stands_renumbered (Call f) = refl
-    stands_renumbered i = refl
+    stands_renumbered : (labels : Labels) (i : Instr) → StandsFor types m [] codes labels i (renumbered m i ∷ [])
+    stands_renumbered labels (Block' ty n body) = (renumbered_all m (items-the_row-Instr _ body), row_renumbered _ body, ap (λ i. i ∷ []) (block_renumbered m ty n body))
+    stands_renumbered labels (Loop' ty n body) = (renumbered_all m (items-the_row-Instr _ body), row_renumbered _ body, ap (λ i. i ∷ []) (loop_renumbered m ty n body))
+    stands_renumbered labels (If' ty n body k other) =
+        (renumbered_all m (items-the_row-Instr _ body), renumbered_all m (items-the_row-Instr _ other), row_renumbered _ body, row_renumbered _ other, ap (λ i. i ∷ []) (if_renumbered m ty n body k other))
+    stands_renumbered labels (Call f) = refl
+    stands_renumbered labels i = refl
 
-    row_renumbered : {n : _} (is : Row_of-Instr n) → RowReplaced m [] codes is (renumbered_all m (items-the_row-Instr n is))
-    row_renumbered end_of-Instr = refl
-    row_renumbered (more_of-Instr i is) = (renumbered m i ∷ [], renumbered_all m (items-the_row-Instr _ is), stands_renumbered i, row_renumbered is, refl)
+    row_renumbered : {n : _} (labels : Labels) (is : Row_of-Instr n) → RowReplaced types m [] codes labels is (renumbered_all m (items-the_row-Instr n is))
+    row_renumbered labels end_of-Instr = refl
+    row_renumbered labels (more_of-Instr i is) = (renumbered m i ∷ [], renumbered_all m (items-the_row-Instr _ is), stands_renumbered labels i, row_renumbered labels is, refl)
 
-  pub unlisted_renumbered : (is : List Instr) → Replaced m [] codes is (renumbered_all m is)
-  unlisted_renumbered [] = refl
-  unlisted_renumbered (i ∷ is) = (renumbered m i ∷ [], renumbered_all m is, stands_renumbered i, unlisted_renumbered is, refl)
+  pub unlisted_renumbered : (labels : Labels) (is : List Instr) → Replaced types m [] codes labels is (renumbered_all m is)
+  unlisted_renumbered labels [] = refl
+  unlisted_renumbered labels (i ∷ is) = (renumbered m i ∷ [], renumbered_all m is, stands_renumbered labels i, unlisted_renumbered labels is, refl)
 
 module _ (P Q : Instr-F Instr → Type 0) (k : (l : Instr-F Instr) → P l → Q l) where
   mutual

@@ -8,19 +8,20 @@ use Rattle.wasm_meaning.specs.Step.{act, step, to_mark}
 use Rattle.wasm_meaning.specs.Run.{Run, show_all, tick, events_of}
 use Rattle.index_remap.specs.RelatedRuns.{ShowRel, RunRel, OutRel, KeepsOthers, IsBegun}
 use Rattle.wasm_tree.specs.declared.types.ValType.{ValType}
+use Rattle.wasm_tree.specs.declared.types.FuncType.{FuncType}
 use Rattle.wasm_tree.specs.declared.instr.Instr.{Instr}
 use Rattle.wasm_typing.specs.Typing.{Context, WellTyped}
 use Rattle.index_remap.specs.declared.remap.Remap.{Remap}
 use Rattle.index_remap.specs.Renumbered.{renumbered_all}
 use Rattle.index_remap.specs.CodeNames.{LayerNames, ListLayers}
 use Rattle.index_remap.specs.Agreement.{SameFrame}
-use Rattle.index_remap.specs.Replaced.{Codes, Replaced, OthersAgree, OthersNamed, MayBeReplaced, CodesHaveTypes}
+use Rattle.index_remap.specs.Replaced.{Labels, Codes, Replaced, OthersAgree, OthersNamed, MayBeReplaced, CodesHaveTypes}
 use Rattle.index_remap.specs.Related.{CodeRel, Kind, Funcs, Tables, Mems, Globals, Elems, Datas, Pairing, OneToOne, ResRel, ListRel, ValRel, StoreRel, EntryRel, NextRel, TopSkips, TopKnown}
 
 -- the addresses that pass the first test are related, and code may name as one those that pass the second; of the functions of a list only the types are known
 -- and whose they are, and other code may stand for calls of them
 abbrev pub passed : (of named : Kind → ℕ → ℕ → Bool) → List ℕ → Pairing
-passed of named l = record { of = λ k a b. IsTrue (of k a b); named = λ k a b. IsTrue (named k a b); listed = λ a. IsTrue (list_any (nat_eq a) l); replaced = λ a. IsTrue (list_any (nat_eq a) l) }
+passed of named l = record { of = λ k a b. IsTrue (of k a b); named = λ k a b. IsTrue (named k a b); listed = λ a. IsTrue (list_any (nat_eq a) l) }
 
 -- related entry by entry above what need not be related
 pub record Above (R : Pairing) (cs ds : List Entry) (s t : Store) (es fs : List Entry) : Type 0 where
@@ -95,18 +96,18 @@ TrapsAgree =
 abbrev pub TypingIsKept : Type 0
 TypingIsKept =
     (m : Remap) (listed : List ℕ) (codes : Codes) (c d : Context) (is js : List Instr) (ps rs : List ValType) → SameFrame c d → ListLayers (OthersAgree m listed c d) is → CodesHaveTypes listed codes c d →
-    Replaced m listed codes is js → WellTyped c is ps rs → WellTyped d js ps rs
+    Replaced c.types m listed codes c.labels is js → WellTyped c is ps rs → WellTyped d js ps rs
 
 -- Such code is related, where each index that the other instructions name and its entry stand for addresses that code may name as one, and for equal types, and
 -- each function on the list is at an address of which other code may stand for calls.
 abbrev pub ReplacedCodeIsRelated : Type 0
 ReplacedCodeIsRelated =
-    (of named : Kind → ℕ → ℕ → Bool) (l : List ℕ) (m : Remap) (i j : Inst) (listed : List ℕ) (codes : Codes) (is js : List Instr) → ListLayers (OthersNamed (passed of named l) m listed i j) is →
-    MayBeReplaced (passed of named l) listed i → Replaced m listed codes is js → CodeRel (passed of named l) i j is js
+    (of named : Kind → ℕ → ℕ → Bool) (l : List ℕ) (m : Remap) (i j : Inst) (types : List FuncType) (labels : Labels) (listed : List ℕ) (codes : Codes) (is js : List Instr) → ListLayers (OthersNamed (passed of named l) m listed i j) is →
+    MayBeReplaced (passed of named l) listed i → Replaced types m listed codes labels is js → CodeRel (passed of named l) i j is js
 
 -- With no function on the list such code is the body with other indices.
 abbrev pub UnlistedAreRenumbered : Type 0
-UnlistedAreRenumbered = (m : Remap) (codes : Codes) (is : List Instr) → Replaced m [] codes is (renumbered_all m is)
+UnlistedAreRenumbered = (types : List FuncType) (m : Remap) (codes : Codes) (labels : Labels) (is : List Instr) → Replaced types m [] codes labels is (renumbered_all m is)
 
 -- Code whose indices are replaced by their entries is related, where each index and its entry stand for addresses that code may name as one, and for equal types.
 abbrev pub RenumberedCodeIsRelated : Type 0

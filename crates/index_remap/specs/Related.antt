@@ -17,7 +17,7 @@ use Rattle.wasm_meaning.specs.Outcomes.{Outcome, Gives, Traps, IllTyped, at}
 use Rattle.wasm_num.specs.Operations.{Width}
 use Rattle.wasm_meaning.specs.State.{Pair, RefVal, FuncRef, ExternRef, Val, Num, Ref, Inst, Func, Code, Own, Placeholder, Table, Memory, Global, Elem, Store, Level, Frame, Growth, GrowMemory, GrowTable, Entry, Running, Mark, Opening, Waiting, Ended, Growing, Body, Change, Keep, SetGlobal, SetMemory, SetTable, DropElem, DropData, Act, Goes, Calls, AsksGrow, Ends, Next, Ran, CallsOwn, WaitsGrowth, CallsPlaceholder, EndsCall}
 use Rattle.wasm_meaning.specs.Control.{type_at, own_at}
-use Rattle.wasm_meaning.specs.Step.{act, top_call}
+use Rattle.wasm_meaning.specs.Step.{act}
 
 pub data Kind : Type 0 where
   Funcs : Kind
@@ -27,14 +27,12 @@ pub data Kind : Type 0 where
   Elems : Kind
   Datas : Kind
 
--- related addresses, and the functions of the list, of which only the type is known
+-- related addresses, and the functions of the list, of which only the type is known and for whose calls other code may stand
 pub record Pairing : Type 1 where
   pub of : Kind → ℕ → ℕ → Type 0
   -- addresses that code may name as one: of those that are not related nothing is known
   pub named : Kind → ℕ → ℕ → Type 0
   pub listed : ℕ → Type 0
-  -- those whose calls other code may stand for
-  pub replaced : ℕ → Type 0
 
 -- by which relation an index is read: what comes next by the related addresses, other code by the named ones
 abbrev pub by : Pairing → Bool → Kind → ℕ → ℕ → Type 0
@@ -139,7 +137,7 @@ mutual
     end : CodeRel R i j [] []
     then : {o p : Instr} {c d : List Instr} → OpRel R i j false (out-Instr o) (out-Instr p) → CodeRel R i j c d → CodeRel R i j (o ∷ c) (p ∷ d)
     -- in place of a call of a function of the list stands other code
-    instead : {o : Instr} {n a : ℕ} {c d : List Instr} (e : List Instr) → out-Instr o ≡ Instr-F.Call n → at i.funcs n ≡ Gives a → R.replaced a → CodeRel R i j c d → CodeRel R i j (o ∷ c) (e ++ d)
+    instead : {o : Instr} {n a : ℕ} {c d : List Instr} (e : List Instr) → out-Instr o ≡ Instr-F.Call n → at i.funcs n ≡ Gives a → R.listed a → CodeRel R i j c d → CodeRel R i j (o ∷ c) (e ++ d)
 
 pub data FuncRel (R : Pairing) : Func → Func → Type 0 where
   defined : {t : FuncType} {i j : Inst} {ls : List ValType} {c d : List Instr} → CodeRel R i j c d → FuncRel R (Code t i ls c) (Code t j ls d)
@@ -231,13 +229,9 @@ abbrev pub NotListed : Pairing → Act → Type 0
 NotListed R (Calls a vs h) = ¬ R.listed a
 NotListed R _ = Unit {0}
 
--- the frame's next step is no call of a function of the list
-pub record Skips (R : Pairing) (s : Store) (f : Frame) : Type 0 where
-  pub direct : (a : ℕ) → top_call f.inst f.levels ≡ Gives a → ¬ R.replaced a
-  pub made : (x : Act) → act s f ≡ Gives x → NotListed R x
-
+-- the next step begins no call of a function of the list, directly or through a table
 abbrev pub TopSkips : Pairing → Store → List Entry → Type 0
-TopSkips R s (Running f ∷ es) = Skips R s f
+TopSkips R s (Running f ∷ es) = (x : Act) → act s f ≡ Gives x → NotListed R x
 TopSkips R s _ = Unit {0}
 
 -- the instruction that comes next names related addresses

@@ -1,11 +1,11 @@
 -- Code in which each index is replaced by its entry in a map, but where a function of a list is called: there stands other code, of the type of the function.
-use Rattle.std.specs.Prelude.{◌≡◌, ℕ, Bool, true, false, IsTrue, List, [], ◌∷◌, ◌++◌, Some, Contains}
+use Rattle.std.specs.Prelude.{◌≡◌, ℕ, Bool, true, false, IsTrue, List, [], ◌∷◌, ◌++◌, Option, Some, None, Contains}
 use Rattle.wasm_tree.specs.declared.types.ValType.{ValType}
 use Rattle.wasm_tree.specs.declared.types.FuncType.{FuncType}
 use Rattle.wasm_tree.specs.declared.instr.Instr.{Instr, Row_of-Instr, end_of-Instr, more_of-Instr}
 use Rattle.wasm_tree.specs.declared.instr.Instr.TheOpen.{Instr-F}
 use Rattle.wasm_tree.specs.declared.instr.Instr.TheVariants.{Block, Block', Loop, Loop', If, If', Call}
-use Rattle.wasm_typing.specs.Typing.{Context, WellTyped}
+use Rattle.wasm_typing.specs.Typing.{Signature, signature_of, Context, WellTyped}
 use Rattle.wasm_meaning.specs.Outcomes.{Gives, at}
 use Rattle.wasm_meaning.specs.State.{Inst}
 use Rattle.index_remap.specs.declared.remap.Remap.{Remap}
@@ -17,34 +17,49 @@ use Rattle.index_remap.specs.Agreement.{LayerAgrees, func_type, labelled}
 
 -- ---- what stands for the instructions of a body ----
 
--- the codes that may stand for a call of a function, each of which is a list of instructions
+-- the types of the labels around an instruction, the innermost first (section 3.1.1)
+abbrev pub Labels : Type 0
+Labels = List (List ValType)
+
+-- the codes that may stand for a call of a function under these labels, each of which is a list of instructions
 abbrev pub Codes : Type 0
-Codes = ℕ → List (List Instr)
+Codes = Labels → ℕ → List (List Instr)
 
 -- of a call of a function that is on the list, one of its codes; of another the call of its entry
-abbrev pub CallReplaced : Remap → Bool → Codes → ℕ → List Instr → Type 0
-CallReplaced m true codes f code = Contains (codes f) code
-CallReplaced m false codes f code = code ≡ renumbered m (Call f) ∷ []
+abbrev pub CallReplaced : Remap → Bool → Codes → Labels → ℕ → List Instr → Type 0
+CallReplaced m true codes labels f code = Contains (codes labels f) code
+CallReplaced m false codes labels f code = code ≡ renumbered m (Call f) ∷ []
 
-abbrev mutual
-  -- the code stands for the instruction; a block holds what stands for what it held
-  pub StandsFor : Remap → List ℕ → Codes → Instr → List Instr → Type 0
-  StandsFor m listed codes (Block' ty n body) code = (b : List Instr) × RowReplaced m listed codes body b × (code ≡ Block (new_type m ty) b ∷ [])
-  StandsFor m listed codes (Loop' ty n body) code = (b : List Instr) × RowReplaced m listed codes body b × (code ≡ Loop (new_type m ty) b ∷ [])
-  StandsFor m listed codes (If' ty n body k other) code =
-      (b o : List Instr) × RowReplaced m listed codes body b × RowReplaced m listed codes other o × (code ≡ If (new_type m ty) b o ∷ [])
-  StandsFor m listed codes (Call f) code = CallReplaced m (is_among listed f) codes f code
-  StandsFor m listed codes i code = code ≡ renumbered m i ∷ []
+-- what the label of a block or an if takes, and that of a loop; nothing where the type that it names is not there (sections 3.3.8 and 3.2.2)
+abbrev pub block_label : Option Signature → List ValType
+block_label None = []
+block_label (Some f) = f.results
 
-  -- the same for the instructions of a block
-  pub RowReplaced : {n : _} → Remap → List ℕ → Codes → Row_of-Instr n → List Instr → Type 0
-  RowReplaced m listed codes end_of-Instr js = js ≡ []
-  RowReplaced m listed codes (more_of-Instr i is) js = (code rest : List Instr) × StandsFor m listed codes i code × RowReplaced m listed codes is rest × (js ≡ code ++ rest)
+abbrev pub loop_label : Option Signature → List ValType
+loop_label None = []
+loop_label (Some f) = f.params
 
--- the second is the first with other indices, and with one of the codes of its function in place of each call of one on the list, in blocks as well
-abbrev pub Replaced : Remap → List ℕ → Codes → List Instr → List Instr → Type 0
-Replaced m listed codes [] js = js ≡ []
-Replaced m listed codes (i ∷ is) js = (code rest : List Instr) × StandsFor m listed codes i code × Replaced m listed codes is rest × (js ≡ code ++ rest)
+module _ (types : List FuncType) (m : Remap) (listed : List ℕ) (codes : Codes) where
+  abbrev mutual
+    -- the code stands for the instruction under these labels; a block holds what stands for what it held, under one more
+    pub StandsFor : Labels → Instr → List Instr → Type 0
+    StandsFor labels (Block' ty n body) code = (b : List Instr) × RowReplaced (block_label (signature_of types ty) ∷ labels) body b × (code ≡ Block (new_type m ty) b ∷ [])
+    StandsFor labels (Loop' ty n body) code = (b : List Instr) × RowReplaced (loop_label (signature_of types ty) ∷ labels) body b × (code ≡ Loop (new_type m ty) b ∷ [])
+    StandsFor labels (If' ty n body k other) code =
+        (b o : List Instr) × RowReplaced (block_label (signature_of types ty) ∷ labels) body b × RowReplaced (block_label (signature_of types ty) ∷ labels) other o × (code ≡ If (new_type m ty) b o ∷ [])
+    StandsFor labels (Call f) code = CallReplaced m (is_among listed f) codes labels f code
+    StandsFor labels i code = code ≡ renumbered m i ∷ []
+
+    -- the same for the instructions of a block
+    pub RowReplaced : {n : _} → Labels → Row_of-Instr n → List Instr → Type 0
+    RowReplaced labels end_of-Instr js = js ≡ []
+    RowReplaced labels (more_of-Instr i is) js = (code rest : List Instr) × StandsFor labels i code × RowReplaced labels is rest × (js ≡ code ++ rest)
+
+  -- the second is the first with other indices, and with one of the codes of its function in place of each call of one on the list, in blocks as well; these
+  -- labels stand around it, and these are the types that its blocks name
+  abbrev pub Replaced : Labels → List Instr → List Instr → Type 0
+  Replaced labels [] js = js ≡ []
+  Replaced labels (i ∷ is) js = (code rest : List Instr) × StandsFor labels i code × Replaced labels is rest × (js ≡ code ++ rest)
 
 -- ---- the other instructions ----
 
@@ -62,14 +77,14 @@ OthersNamed R m listed i j l = calls_listed listed l ≡ false → LayerNames R 
 
 -- each function on the list is at an address for whose calls other code may stand
 abbrev pub MayBeReplaced : Pairing → List ℕ → Inst → Type 0
-MayBeReplaced R listed i = (f : ℕ) → IsTrue (is_among listed f) → (a : ℕ) × (at i.funcs f ≡ Gives a) × R.replaced a
+MayBeReplaced R listed i = (f : ℕ) → IsTrue (is_among listed f) → (a : ℕ) × (at i.funcs f ≡ Gives a) × R.listed a
 
 -- ---- what it needs to stay well typed ----
 
--- the code has in d the type that the function has in c, whatever labels stand around it
-abbrev pub HasTypeOf : Context → Context → ℕ → List Instr → Type 0
-HasTypeOf c d f code = (t : FuncType) → func_type c f ≡ Some t → (labels : List (List ValType)) → WellTyped (labelled d labels) code t.params t.results
+-- under these labels the code has in d the type that the function has in c
+abbrev pub HasTypeOf : Context → Context → Labels → ℕ → List Instr → Type 0
+HasTypeOf c d labels f code = (t : FuncType) → func_type c f ≡ Some t → WellTyped (labelled d labels) code t.params t.results
 
--- each code of each function on the list has its type
+-- each code of each function on the list has its type, where it may stand
 abbrev pub CodesHaveTypes : List ℕ → Codes → Context → Context → Type 0
-CodesHaveTypes listed codes c d = (f : ℕ) (code : List Instr) → IsTrue (is_among listed f) → Contains (codes f) code → HasTypeOf c d f code
+CodesHaveTypes listed codes c d = (labels : Labels) (f : ℕ) (code : List Instr) → IsTrue (is_among listed f) → Contains (codes labels f) code → HasTypeOf c d labels f code

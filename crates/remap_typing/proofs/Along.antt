@@ -76,7 +76,8 @@ module _ (m : Remap) (c d : Context) (k : AgreesAlong m c d) where
 module _ (typed : TypingIsKept) (unlisted : UnlistedAreRenumbered) where
   pub kept_by_index : (m : Remap) (c d : Context) (is : List Instr) (ps rs : List ValType) → SameFrame c d → ListLayers (LayerAgrees m c d) is → WellTyped c is ps rs → WellTyped d (renumbered_all m is) ps rs
   kept_by_index m c d is ps rs same h =
-      typed m [] (λ f. []) c d is (renumbered_all m is) ps rs same (all_follow (LayerAgrees m c d) (OthersAgree m [] c d) (λ l k e. k) is h) (λ f code k. absurd (true≢false (sym k))) (unlisted m (λ f. []) is)
+      typed m [] (λ labels f. []) c d is (renumbered_all m is) ps rs same (all_follow (LayerAgrees m c d) (OthersAgree m [] c d) (λ l k e. k) is h) (λ labels f code k. absurd (true≢false (sym k)))
+      (unlisted c.types m (λ labels f. []) c.labels is)
 
   pub kept_along : (m : Remap) (c d : Context) (is : List Instr) (ps rs : List ValType) → AgreesAlong m c d → fits_all m is ≡ true → WellTyped c is ps rs → WellTyped d (renumbered_all m is) ps rs
   kept_along m c d is ps rs k h = kept_by_index m c d is ps rs k.frame (all_along m c d k is h)

@@ -1,15 +1,16 @@
 -- Calls, ends, branches and blocks (WebAssembly Core 2.0, sections 4.4.8 to 4.4.10).
 use Rattle.std.proofs.Common.{ℕ, List, [], ◌∷◌, ◌++◌, length, cond}
 use Rattle.std.specs.Prelude.{nat_eq}
+use Rattle.wasm_tree.specs.declared.types.ValType.{ValType}
 use Rattle.wasm_tree.specs.declared.types.FuncType.{FuncType}
 use Rattle.wasm_tree.specs.declared.types.BlockType.{BlockType}
 use Rattle.wasm_tree.specs.declared.types.BlockType.TheVariants as bt
 use Rattle.wasm_tree.specs.declared.instr.Instr.{Instr}
 use Rattle.wasm_tree.specs.declared.instr.Instr.TheVariants as i
-use Rattle.wasm_meaning.specs.Outcomes.{Outcome, Gives, Traps, IllTyped, trapping, or_trap, or_other, bind, at, past, split_at}
+use Rattle.wasm_meaning.specs.Outcomes.{Outcome, Gives, Traps, IllTyped, trapping, or_trap, or_other, bind, at, onto, past, split_at}
 use Rattle.wasm_num.specs.Operations.{W32}
 use Rattle.wasm_meaning.specs.State.{Pair, RefVal, FuncRef, ExternRef, Val, Inst, Func, Code, Own, Placeholder, Table, Store, Level, Env, Body, Act, Calls, Ends}
-use Rattle.wasm_meaning.specs.Values.{same_func_type, pop_num, go, with_values}
+use Rattle.wasm_meaning.specs.Values.{same_func_type, pop_num, pop_typed, go, with_values}
 use Rattle.wasm_meaning.specs.Tables.{with_table}
 
 abbrev pub type_of_func : Func → FuncType
@@ -82,16 +83,16 @@ shape_of i bt.Empty = Gives (record { params = []; results = [] })
 shape_of i (bt.Value t) = Gives (record { params = []; results = t ∷ [] })
 shape_of i (bt.Index n) = at i.types n
 
--- a level is opened with so many of the values; it gives so many at its end, and a branch to it takes so many and begins this code
-abbrev pub open_level : Body → List Val → (params gives takes : ℕ) → (body back : List Instr) → Outcome Act
+-- a level is opened with the values of these types; it gives so many at its end, and a branch to it takes so many and begins this code
+abbrev pub open_level : Body → List Val → (params : List ValType) → (gives takes : ℕ) → (body back : List Instr) → Outcome Act
 open_level h vs params gives takes body back =
-    bind (split_at params vs) (λ p. Gives (go (record h { values = p.0; rest = body; gives = gives; takes = takes; back = back; outer = level_here (with_values h p.1) ∷ h.outer })))
+    bind (pop_typed params vs) (λ p. Gives (go (record h { values = onto p.0 []; rest = body; gives = gives; takes = takes; back = back; outer = level_here (with_values h p.1) ∷ h.outer })))
 
 abbrev pub open_block : Env → Body → List Val → BlockType → List Instr → Outcome Act
-open_block env h vs b body = bind (shape_of env.inst b) (λ t. open_level h vs (length t.params) (length t.results) (length t.results) body [])
+open_block env h vs b body = bind (shape_of env.inst b) (λ t. open_level h vs t.params (length t.results) (length t.results) body [])
 
 abbrev pub open_loop : Env → Body → BlockType → List Instr → Outcome Act
-open_loop env h b body = bind (shape_of env.inst b) (λ t. open_level h h.values (length t.params) (length t.results) (length t.params) body (i.Loop b body ∷ []))
+open_loop env h b body = bind (shape_of env.inst b) (λ t. open_level h h.values t.params (length t.results) (length t.params) body (i.Loop b body ∷ []))
 
 abbrev pub open_if : Env → Body → BlockType → (body other : List Instr) → Outcome Act
 open_if env h b body other = bind (pop_num W32 h.values) (λ p. open_block env h p.1 b (cond (nat_eq p.0 0) other body))

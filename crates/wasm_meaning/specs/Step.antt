@@ -127,17 +127,3 @@ to_mark [] = IllTyped
 to_mark (Mark ∷ es) = Gives (Host, es)
 to_mark (Opening xs ∷ es) = Gives (Starter, es)
 to_mark (_ ∷ es) = to_mark es
-
--- ---- which function a `call` that comes next names, for the law of steps ----
-
-abbrev pub call_of : Inst → Instr-F Instr → Outcome ℕ
-call_of i (Instr-F.Call n) = at i.funcs n
-call_of i _ = IllTyped
-
-abbrev pub named_call : Inst → List Instr → Outcome ℕ
-named_call i [] = IllTyped
-named_call i (o ∷ os) = call_of i (out-Instr o)
-
-abbrev pub top_call : Inst → List Level → Outcome ℕ
-top_call i [] = IllTyped
-top_call i (l ∷ ls) = named_call i l.code

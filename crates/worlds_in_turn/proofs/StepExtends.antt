@@ -3,11 +3,12 @@ use Rattle.std.proofs.Common.{◌≡◌, ℕ, List, [], ◌∷◌, Bool, true, f
 use Rattle.std.specs.Prelude.{nat_eq}
 use Rattle.wasm_tree.specs.declared.instr.Instr.{Instr, out-Instr}
 use Rattle.wasm_tree.specs.declared.instr.Instr.TheOpen.{Instr-F}
+use Rattle.wasm_tree.specs.declared.types.ValType.{ValType}
 use Rattle.wasm_tree.specs.declared.types.BlockType.{BlockType}
 use Rattle.wasm_num.specs.Operations.{W32}
 use Rattle.wasm_meaning.specs.Outcomes.{Outcome, Gives, Traps, IllTyped, trapping, bind, at, past, split_at, slice, overwrite, copies}
 use Rattle.wasm_meaning.specs.State.{Val, RefVal, Table, Memory, Global, Store, Level, Frame, Env, Body, SetGlobal, Act, Goes}
-use Rattle.wasm_meaning.specs.Values.{typed, pop, pop_num, pop_ref, pushes, on_values, with_values, local_put, global_put, unary, binary, ref_is_null, select_any, select_typed}
+use Rattle.wasm_meaning.specs.Values.{typed, pop, pop_num, pop_ref, pop_typed, pushes, on_values, with_values, local_put, global_put, unary, binary, ref_is_null, select_any, select_typed}
 use Rattle.wasm_meaning.specs.Memory.{written, writes, store_into, load_from, grow_memory, memory_may_grow, init_memory, fill_memory, pop_three, with_memory}
 use Rattle.wasm_meaning.specs.Tables.{fits, writes_table, get_slot, set_slot, grow_table, table_may_grow, fill_table, init_table, with_table}
 use Rattle.wasm_meaning.specs.Control.{call_slot, func_ref, type_at, resume, end_level, branch, level_here, open_level, shape_of, open_block}
@@ -118,8 +119,8 @@ module _ (env : Env) where
   branch_all : (h : Body) (n : ℕ) → All (branch h n)
   branch_all h n = with_is (at (level_here h ∷ h.outer) n) _ (λ t _. with_is (split_at t.takes h.values) _ (λ p _. resume_all h p.0 t.back (past h.outer n)))
 
-  open_level_all : (h : Body) (vs : List Val) (params gives takes : ℕ) (body back : List Instr) → All (open_level h vs params gives takes body back)
-  open_level_all h vs params gives takes body back = with_is (split_at params vs) _ (λ p _. just keeps)
+  open_level_all : (h : Body) (vs : List Val) (params : List ValType) (gives takes : ℕ) (body back : List Instr) → All (open_level h vs params gives takes body back)
+  open_level_all h vs params gives takes body back = with_is (pop_typed params vs) _ (λ p _. just keeps)
 
   open_block_all : (h : Body) (vs : List Val) (b : BlockType) (body : List Instr) → All (open_block env h vs b body)
   open_block_all h vs b body = with_is (shape_of env.inst b) _ (λ t _. open_level_all h vs _ _ _ body [])

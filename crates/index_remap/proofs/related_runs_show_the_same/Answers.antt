@@ -9,5 +9,5 @@ pub returns : goal.returns
 returns c = record {
   events = λ of apart r q h n. same_events of apart c.steps_agree.ensures.steps c.steps_agree.ensures.known n r q h;
   ticks = λ of apart r q h. ticks_agree of apart c.steps_agree.ensures.steps c.steps_agree.ensures.known r q h;
-  others = λ of apart r q h begun. others_held (passed of of []) apart (λ k a b p. p) (λ a p. true≢false (sym p)) (λ a p. true≢false (sym p)) q.store r q h begun (none_changed (passed of of []) q.store);
+  others = λ of apart r q h begun. others_held (passed of of []) apart (λ k a b p. p) (λ a p. true≢false (sym p)) q.store r q h begun (none_changed (passed of of []) q.store);
 }
