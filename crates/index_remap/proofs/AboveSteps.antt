@@ -1,12 +1,12 @@
 -- A step leaves alone what it does not touch.
-use Rattle.std.proofs.Common.{◌≡◌, ℕ, List, [], ◌∷◌, ◌++◌, true, refl, sym, ap, subst}
+use Rattle.std.proofs.Common.{◌≡◌, ℕ, List, [], ◌∷◌, ◌++◌, true, refl, sym, ◌∙◌, ap, subst}
 use Rattle.std.proofs.lemmas.Bool.{true≢false}
-use Rattle.wasm_meaning.specs.Outcomes.{Outcome, bind}
-use Rattle.wasm_meaning.specs.State.{Val, Store, Frame, Entry, Running, Mark, Opening, Waiting, Ended, Growing, Act, Ends}
+use Rattle.wasm_meaning.specs.Outcomes.{Outcome, Gives, bind}
+use Rattle.wasm_meaning.specs.State.{Val, Store, Frame, Entry, Running, Mark, Opening, Waiting, Ended, Growing, Caller, Host, Starter, Act, Ends}
 use Rattle.wasm_meaning.specs.Values.{pop_typed}
 use Rattle.wasm_meaning.specs.Step.{enter_at, give, act, perform, step, to_mark}
-use Rattle.index_remap.specs.Related.{Funcs, Pairing, OneToOne, ResRel, done, trap, wrong, ListRel, nil, cons, ValRel, StoreRel, FrameRel, EntryRel, running, mark, opening, waiting, ended, growing, ActRel, goes, calls, asks_grow, ends, NextRel, ran, asked_grow, returned, NotListed, TopSkips}
-use Rattle.index_remap.specs.Laws.{Above, NeedsBelow, Touches, EntriesKnown, ends_trap, NoMark, MarksAgree}
+use Rattle.index_remap.specs.Related.{Funcs, Pairing, OneToOneWhereWritten, ResRel, done, trap, wrong, ListRel, nil, cons, ValRel, StoreRel, FrameRel, EntryRel, running, mark, opening, waiting, ended, growing, ActRel, goes, calls, asks_grow, ends, NextRel, ran, asked_grow, returned, NotListed, TopSkips}
+use Rattle.index_remap.specs.Laws.{Above, NeedsBelow, Touches, EntriesKnown, ends_trap, NoMark}
 use Rattle.index_remap.proofs.Rel.{there, same_there, bind_rel, bind_eq}
 use Rattle.index_remap.proofs.ValueSteps.{pop_typed_rel}
 use Rattle.index_remap.proofs.StepsAgree.{frame_rel, left_rel, enter_rel, give_levels_rel, changed_rel, act_rel}
@@ -21,22 +21,22 @@ past (Waiting ts ∷ es) fs h = past es fs h.1
 past (Ended vs ∷ es) fs h = past es fs h.1
 past (Growing g ∷ es) fs h = past es fs h.1
 
-module _ (R : Pairing) (cs ds : List Entry) where
-  at_mark : {s t : Store} {e f : Entry} {es fs : List Entry} → ends_trap e ≡ true → EntryRel R e f → ListRel (EntryRel R) es fs → ResRel (MarksAgree R cs ds s t) (to_mark (e ∷ (es ++ cs))) (to_mark (f ∷ (fs ++ ds)))
-  at_mark h mark e = done (record { caller = refl; rest = record { first = _; second = _; related = e; left = refl; right = refl } })
-  at_mark h (opening x) e = done (record { caller = refl; rest = record { first = _; second = _; related = e; left = refl; right = refl } })
-  at_mark h (running f) e = absurd (true≢false (sym h))
-  at_mark h waiting e = absurd (true≢false (sym h))
-  at_mark h (ended v) e = absurd (true≢false (sym h))
-  at_mark h (growing n) e = absurd (true≢false (sym h))
+-- at related marks the same waits
+at_mark : {R : Pairing} {e f : Entry} (es fs : List Entry) → ends_trap e ≡ true → EntryRel R e f → (c : Caller) × (to_mark (e ∷ es) ≡ Gives (c, es)) × (to_mark (f ∷ fs) ≡ Gives (c, fs))
+at_mark es fs h mark = (Host, refl, refl)
+at_mark es fs h (opening x) = (Starter, refl, refl)
+at_mark es fs h (running f) = absurd (true≢false (sym h))
+at_mark es fs h waiting = absurd (true≢false (sym h))
+at_mark es fs h (ended v) = absurd (true≢false (sym h))
+at_mark es fs h (growing n) = absurd (true≢false (sym h))
 
-  pub traps_agree : (s t : Store) (above beyond es fs : List Entry) (e f : Entry) → NoMark above → NoMark beyond → ends_trap e ≡ true → EntryRel R e f → ListRel (EntryRel R) es fs →
-      ResRel (MarksAgree R cs ds s t) (to_mark (above ++ (e ∷ (es ++ cs)))) (to_mark (beyond ++ (f ∷ (fs ++ ds))))
-  traps_agree s t above beyond es fs e f n o h p r =
-      subst (λ x. ResRel (MarksAgree R cs ds s t) x (to_mark (beyond ++ (f ∷ (fs ++ ds))))) (sym (past above (e ∷ (es ++ cs)) n))
-      (subst (λ y. ResRel (MarksAgree R cs ds s t) (to_mark (e ∷ (es ++ cs))) y) (sym (past beyond (f ∷ (fs ++ ds)) o)) (at_mark h p r))
+pub traps_agree : (R : Pairing) (above beyond es fs : List Entry) (e f : Entry) → NoMark above → NoMark beyond → ends_trap e ≡ true → EntryRel R e f →
+    (c : Caller) × (to_mark (above ++ (e ∷ es)) ≡ Gives (c, es)) × (to_mark (beyond ++ (f ∷ fs)) ≡ Gives (c, fs))
+traps_agree R above beyond es fs e f n o h p =
+    let (c, first, second) = at_mark es fs h p in
+    (c, past above (e ∷ es) n ∙ first, past beyond (f ∷ fs) o ∙ second)
 
-module _ (R : Pairing) (apart : OneToOne R) (cs ds : List Entry) where
+module _ (R : Pairing) (apart : OneToOneWhereWritten R) (cs ds : List Entry) where
   abbrev pub Both : Store → Store → List Entry → List Entry → Type 0
   Both = Above R cs ds
 

@@ -4,7 +4,7 @@ use Rattle.wasm_meaning.specs.Outcomes.{Outcome}
 use Rattle.wasm_meaning.specs.State.{Val, Store, Entry, Caller, Next}
 use Rattle.wasm_meaning.specs.Step.{give, to_mark}
 use Rattle.wasm_meaning.specs.Run.{is_mark}
-use Rattle.index_remap.specs.Related.{Pairing, OneToOne, ResRel, done, trap, wrong, ListRel, nil, cons, ValRel, StoreRel, EntryRel, running, mark, opening, waiting, ended, growing, NextRel, ran, asked, asked_grow, loads, returned}
+use Rattle.index_remap.specs.Related.{Pairing, OneToOneWhereWritten, ResRel, done, trap, wrong, ListRel, nil, cons, ValRel, StoreRel, EntryRel, running, mark, opening, waiting, ended, growing, NextRel, ran, asked, asked_grow, loads, returned}
 use Rattle.index_remap.specs.Laws.{Above}
 use Rattle.index_remap.proofs.Rel.{PairRel}
 use Rattle.index_remap.proofs.StepsAgree.{Stacks, TopView, top_none, top_mark, top_opening, top_waiting, top_ended, top_growing, top_running}
@@ -14,7 +14,7 @@ use Rattle.index_remap.proofs.AboveSteps as above
 pub whole : (P : List Entry → List Entry → Type 0) (es fs : List Entry) → P (es ++ []) (fs ++ []) → P es fs
 whole P es fs p = subst (λ xs. P xs fs) (append-nil es) (subst (P (es ++ [])) (append-nil fs) p)
 
-module _ (R : Pairing) (apart : OneToOne R) where
+module _ (R : Pairing) (apart : OneToOneWhereWritten R) where
   abbrev pub Entries : Store → Store → List Entry → List Entry → Type 0
   Entries s t = ListRel (EntryRel R)
 

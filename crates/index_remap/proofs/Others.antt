@@ -6,7 +6,7 @@ use Rattle.wasm_meaning.specs.Step.{changed, no_items, no_bytes, give, step}
 use Rattle.wasm_meaning.specs.Run.{Phase, Run, tick}
 use Rattle.index_remap.specs.Related.{Kind, Tables, Mems, Globals, Elems, Datas, Pairing, OneToOne, ResRel, done, trap, wrong, ListRel, nil, cons, ValRel, StoreRel, EntryRel, running, mark, opening, waiting, ended, growing, ChangeRel, keep, set_global, set_memory, set_table, drop_elem, drop_data, NextRel, ran, returned}
 use Rattle.index_remap.specs.RelatedRuns.{HasNoPartner, KeepsOthers, IsBegun, PhaseRel, pending, opened, closed, fresh, RunRel}
-use Rattle.index_remap.proofs.Rel.{there, bind_rel, PairRel, at_put_there}
+use Rattle.index_remap.proofs.Rel.{written, there, bind_rel, PairRel, at_put_there}
 use Rattle.index_remap.proofs.Known.{top_known}
 use Rattle.index_remap.proofs.StepsAgree.{Stacks, TopView, top_none, top_mark, top_opening, top_waiting, top_ended, top_growing, top_running, enter_rel, give_levels_rel, top_rel, none_called}
 use Rattle.index_remap.proofs.Lockstep.{marks, marked}
@@ -40,27 +40,27 @@ module _ (R : Pairing) (apart : OneToOne R) (known : (k : Kind) (a b : ℕ) → 
 
   give_held : {s t : Store} {vs ws : List Val} {es fs : List Entry} → StoreRel R s t → ListRel (ValRel R) vs ws → KeepsOthers R first t → ListRel (EntryRel R) es fs → ResRel (NextRel R Held) (give s vs es) (give t ws fs)
   give_held s v h nil = wrong
-  give_held s v h (cons (running f) e) = give_levels_rel R apart Held Held (λ s t es fs e. e) push s f f.levels v (record { entries = e; keeps = h })
+  give_held s v h (cons (running f) e) = give_levels_rel R (written apart) Held Held (λ s t es fs e. e) push s f f.levels v (record { entries = e; keeps = h })
   give_held s v h (cons mark e) = done (returned v s (record { entries = e; keeps = h }))
   give_held s v h (cons (opening x) e) = done (ran s (record { entries = cons (opening x) e; keeps = h }))
   give_held s v h (cons waiting e) = wrong
   give_held s v h (cons (ended w) e) = wrong
   give_held s v h (cons (growing n) e) = wrong
 
-  stacks : Stacks R apart Held Held
+  stacks : Stacks R (written apart) Held Held
   stacks = record {
     steady = λ e. e;
     cleared = λ e. record { entries = nil; keeps = e.keeps };
     changes = λ c e. record { entries = e.entries; keeps = changed_keeps c e.keeps };
     changes_all = λ c e. record { entries = e.entries; keeps = changed_keeps c e.keeps };
     push = λ p e. record { entries = cons p e.entries; keeps = e.keeps };
-    marks = λ e. marks_held e.keeps (marks R apart e.entries);
-    marked = λ e. marked R apart e.entries;
+    marks = λ e. marks_held e.keeps (marks R (written apart) e.entries);
+    marked = λ e. marked R (written apart) e.entries;
     gives = λ s v e. give_held s v e.keeps e.entries;
-    enters = λ s n _ _ v e. bind_rel (there (s.funcs n (plain _))) (λ _ _ f. done (enter_rel R apart Held Held (λ s t es fs e. e) push s f v e));
+    enters = λ s n _ _ v e. bind_rel (there (s.funcs n (plain _))) (λ _ _ f. done (enter_rel R (written apart) Held Held (λ s t es fs e. e) push s f v e));
   }
 
-  view : {s t : Store} {es fs : List Entry} → KeepsOthers R first t → ListRel (EntryRel R) es fs → TopView R apart Held s t es fs
+  view : {s t : Store} {es fs : List Entry} → KeepsOthers R first t → ListRel (EntryRel R) es fs → TopView R (written apart) Held s t es fs
   view h nil = top_none (record { entries = nil; keeps = h })
   view h (cons mark e) = top_mark (record { entries = e; keeps = h })
   view h (cons (opening x) e) = top_opening x (record { entries = e; keeps = h })
@@ -73,7 +73,7 @@ module _ (R : Pairing) (apart : OneToOne R) (known : (k : Kind) (a b : ℕ) → 
   steps s h nil = wrong
   steps s h (cons mark e) = wrong
   steps s h (cons (opening x) e) = wrong
-  steps s h (cons (running {f = f} {g = g} p) e) = top_rel R apart Held Held stacks s p (record { entries = e; keeps = h }) (λ x _. none_called R plain x) (top_known R known f.inst g.inst f.levels g.levels)
+  steps s h (cons (running {f = f} {g = g} p) e) = top_rel R (written apart) Held Held stacks s p (record { entries = e; keeps = h }) (λ x _. none_called R plain x) (top_known R known f.inst g.inst f.levels g.levels)
   steps s h (cons waiting e) = wrong
   steps s h (cons (ended v) e) = wrong
   steps s h (cons (growing n) e) = wrong

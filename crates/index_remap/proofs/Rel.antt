@@ -2,7 +2,7 @@
 use Rattle.std.proofs.Common.{◌≡◌, ℕ, zero, suc, List, [], ◌∷◌, ◌++◌, length, Option, Bool, true, false, cond, refl, sym, ap, subst}
 use native.Mathlib.Decide.{ℕ_discrete}
 use Rattle.wasm_meaning.specs.Outcomes.{Outcome, Gives, Traps, IllTyped, trapping, or_trap, bind, at, put, onto, past, split_at, slice, overwrite, copies}
-use Rattle.index_remap.specs.Related.{Kind, Pairing, OneToOne, OptRel, none, some, BothRel, both, ResRel, done, trap, wrong, ListRel, nil, cons}
+use Rattle.index_remap.specs.Related.{Kind, Pairing, OneToOne, OneToOneWhereWritten, is_written, OptRel, none, some, BothRel, both, ResRel, done, trap, wrong, ListRel, nil, cons}
 
 -- ---- options ----
 
@@ -141,7 +141,11 @@ at_put_there (x ∷ xs) zero (suc m) v h = refl
 at_put_there (x ∷ xs) (suc n) zero v h = refl
 at_put_there (x ∷ xs) (suc n) (suc m) v h = at_put_there xs n m v (λ e. h (ap suc e))
 
-module _ (R : Pairing) (apart : OneToOne R) (k : Kind) {A B : Type 0} (P : A → B → Type 0) (xs : List A) (ys : List B) (v : A) (w : B) where
+-- what is one to one is so where something is written
+pub written : {R : Pairing} → OneToOne R → OneToOneWhereWritten R
+written apart = record { right = λ _. apart.right; left = λ _. apart.left }
+
+module _ (R : Pairing) (apart : OneToOneWhereWritten R) (k : Kind) (may : is_written k ≡ true) {A B : Type 0} (P : A → B → Type 0) (xs : List A) (ys : List B) (v : A) (w : B) where
   pub write_rel : {a b : ℕ} → R.of k a b → ((c d : ℕ) → R.of k c d → BothRel P (at xs c) (at ys d)) → P v w → (c d : ℕ) → R.of k c d → BothRel P (at (put xs a v) c) (at (put ys b w) d)
   write_rel {a} {b} r all p c d q = go (ℕ_discrete a c) (ℕ_discrete b d)
     where
@@ -150,8 +154,8 @@ module _ (R : Pairing) (apart : OneToOne R) (k : Kind) {A B : Type 0} (P : A →
 
       go : Dec (a ≡ c) → Dec (b ≡ d) → BothRel P (at (put xs a v) c) (at (put ys b w) d)
       go (yes e) (yes f) = rw (← e, ← f, at_put_here xs a v, at_put_here ys b w) (written (all a b r))
-      go (yes e) (no f) = absurd (f (apart.right a b d r (subst (λ x. R.of k x d) (sym e) q)))
-      go (no e) (yes f) = absurd (e (apart.left a c b r (subst (λ x. R.of k c x) (sym f) q)))
+      go (yes e) (no f) = absurd (f (apart.right may a b d r (subst (λ x. R.of k x d) (sym e) q)))
+      go (no e) (yes f) = absurd (e (apart.left may a c b r (subst (λ x. R.of k c x) (sym f) q)))
       go (no e) (no f) = rw (at_put_there xs a c v e, at_put_there ys b d w f) (all c d q)
 
 pub trapping_rel : {A B : Type 0} {P : A → B → Type 0} {o : Outcome A} {p : Outcome B} → ResRel P o p → ResRel P (trapping o) (trapping p)

@@ -15,7 +15,7 @@ use Rattle.index_remap.specs.Related.{Pairing, BlockRel, empty, value, indexed, 
 use Rattle.index_remap.specs.Renumbered.{new_type, renumber_step, renumbered, renumbered_all}
 use Rattle.index_remap.specs.References.{is_among}
 use Rattle.index_remap.specs.CodeNames.{BlockNames, LayerNames, Layers, RowLayers, ListLayers}
-use Rattle.index_remap.specs.Replaced.{Labels, Codes, CallReplaced, StandsFor, RowReplaced, Replaced, OthersNamed, MayBeReplaced}
+use Rattle.index_remap.specs.Replaced.{Labels, Codes, CallReplaced, StandsFor, RowReplaced, Replaced, CallNamed, OthersNamed}
 use Rattle.index_remap.proofs.Unlisted.{all_follow, unlisted_renumbered}
 
 module _ (R : Pairing) (m : Remap) (x y : Inst) where
@@ -83,13 +83,13 @@ module _ (R : Pairing) (m : Remap) (x y : Inst) where
   one_rel : (o p : Instr) (code c d : List Instr) → code ≡ p ∷ [] → OpRel R x y false (out-Instr o) (out-Instr p) → CodeRel R x y c d → CodeRel R x y (o ∷ c) (code ++ d)
   one_rel o p code c d e h k = subst (λ z. CodeRel R x y (o ∷ c) (z ++ d)) (sym e) (then h k)
 
-  module _ (types : List FuncType) (listed : List ℕ) (codes : Codes) (there : MayBeReplaced R listed x) where
+  module _ (types : List FuncType) (listed : List ℕ) (codes : Codes) where
     -- a call of a function that is on the list, or not
-    call_rel : (b : Bool) (labels : Labels) (f : ℕ) (code c d : List Instr) → is_among listed f ≡ b → (b ≡ false → LayerNames R m x y (out-Instr (Call f))) → CallReplaced m b codes labels f code → CodeRel R x y c d →
+    call_rel : (b : Bool) (labels : Labels) (f : ℕ) (code c d : List Instr) → CallNamed R m b x y f → CallReplaced m b codes labels f code → CodeRel R x y c d →
         CodeRel R x y (Call f ∷ c) (code ++ d)
     unfolding out-Instr denote.Hole.Carrier.out
-    call_rel true labels f code c d w q k h = let (a, found, free) = there f w in instead code refl found free h
-    call_rel false labels f code c d w q k h = one_rel (Call f) (renumbered m (Call f)) code c d k (plain_rel (Call f) tt (q refl)) h
+    call_rel true labels f code c d (a, found, free) k h = instead code refl found free h
+    call_rel false labels f code c d q k h = one_rel (Call f) (renumbered m (Call f)) code c d k (plain_rel (Call f) tt q) h
 
     mutual
       unfolding out-Instr denote.Hole.Carrier.out
@@ -97,16 +97,16 @@ module _ (R : Pairing) (m : Remap) (x y : Inst) where
       stands_rel : (labels : Labels) (o : Instr) (code c d : List Instr) → Layers (OthersNamed R m listed x y) o → StandsFor types m listed codes labels o code → CodeRel R x y c d → CodeRel R x y (o ∷ c) (code ++ d)
       stands_rel labels (Block' ty n body) code c d q (b, k, e) h =
           let held : CodeRel R x y (shown-the_row-Instr-0 n body) b = rw (items_shown-the_row-Instr-0 n body) (row_rel _ body b q.1 k) in
-          one_rel (Block' ty n body) (Block (new_type m ty) b) code c d e (rw (i.outs-Block (new_type m ty) b) (Related.block (block_rel ty (q.0 refl)) held)) h
+          one_rel (Block' ty n body) (Block (new_type m ty) b) code c d e (rw (i.outs-Block (new_type m ty) b) (Related.block (block_rel ty q.0) held)) h
       stands_rel labels (Loop' ty n body) code c d q (b, k, e) h =
           let held : CodeRel R x y (shown-the_row-Instr-0 n body) b = rw (items_shown-the_row-Instr-0 n body) (row_rel _ body b q.1 k) in
-          one_rel (Loop' ty n body) (Loop (new_type m ty) b) code c d e (rw (i.outs-Loop (new_type m ty) b) (Related.loop (block_rel ty (q.0 refl)) held)) h
+          one_rel (Loop' ty n body) (Loop (new_type m ty) b) code c d e (rw (i.outs-Loop (new_type m ty) b) (Related.loop (block_rel ty q.0) held)) h
       stands_rel labels (If' ty n body l other) code c d q (b, o, k, z, e) h =
           let held : CodeRel R x y (shown-the_row-Instr-0 n body) b = rw (items_shown-the_row-Instr-0 n body) (row_rel _ body b q.1 k) in
           let others : CodeRel R x y (shown-the_row-Instr-0 l other) o = rw (items_shown-the_row-Instr-0 l other) (row_rel _ other o q.2 z) in
-          one_rel (If' ty n body l other) (If (new_type m ty) b o) code c d e (rw (i.outs-If (new_type m ty) b o) (Related.if_else (block_rel ty (q.0 refl)) held others)) h
-      stands_rel labels (Call f) code c d q k h = call_rel (is_among listed f) labels f code c d refl q k h
-      stands_rel labels o code c d q k h = one_rel o (renumbered m o) code c d k (plain_rel o tt (q refl)) h
+          one_rel (If' ty n body l other) (If (new_type m ty) b o) code c d e (rw (i.outs-If (new_type m ty) b o) (Related.if_else (block_rel ty q.0) held others)) h
+      stands_rel labels (Call f) code c d q k h = call_rel (is_among listed f) labels f code c d q k h
+      stands_rel labels o code c d q k h = one_rel o (renumbered m o) code c d k (plain_rel o tt q) h
 
       row_rel : {n : _} (labels : Labels) (r : Row_of-Instr n) (js : List Instr) → RowLayers (OthersNamed R m listed x y) r → RowReplaced types m listed codes labels r js → CodeRel R x y (items-the_row-Instr n r) js
       row_rel labels end_of-Instr js q k = subst (CodeRel R x y []) (sym k) end
@@ -117,7 +117,11 @@ module _ (R : Pairing) (m : Remap) (x y : Inst) where
     replaced_rel labels [] js q k = subst (CodeRel R x y []) (sym k) end
     replaced_rel labels (o ∷ os) js q (code, rest, k, z, e) = subst (CodeRel R x y (o ∷ os)) (sym e) (stands_rel labels o code os rest q.0 k (replaced_rel labels os rest q.1 z))
 
+-- with no function on the list each layer names what it named
+named_others : (R : Pairing) (m : Remap) (x y : Inst) (l : Instr-F Instr) → LayerNames R m x y l → OthersNamed R m [] x y l
+named_others R m x y (Instr-F.Call f) n = n
+named_others R m x y l n = n
+
 pub renumbered_rel : (R : Pairing) (m : Remap) (x y : Inst) (os : List Instr) → ListLayers (LayerNames R m x y) os → CodeRel R x y os (renumbered_all m os)
 renumbered_rel R m x y os h =
-    replaced_rel R m x y [] [] (λ labels f. []) (λ f k. absurd (true≢false (sym k))) [] os (renumbered_all m os) (all_follow (LayerNames R m x y) (OthersNamed R m [] x y) (λ l n e. n) os h)
-    (unlisted_renumbered [] m (λ labels f. []) [] os)
+    replaced_rel R m x y [] [] (λ labels f. []) [] os (renumbered_all m os) (all_follow (LayerNames R m x y) (OthersNamed R m [] x y) (named_others R m x y) os h) (unlisted_renumbered [] m (λ labels f. []) [] os)

@@ -18,13 +18,13 @@ use Rattle.wasm_meaning.specs.World.{Begun}
 use Rattle.wasm_meaning.specs.Run.{Event, InstanceTrapped, Returned, Asked, Got, Place, TableOf, MemoryOf, GlobalOf, Named, Move, Call, Invoke, Take, Answer, Refuse, Grant, Deny, Get, Size, Set, Extend, Phase, Pending, Closed, Run, Out, place_at, trapped_at, trapped_to, showing, after, called, is_mark, delivered, grown_table, answered, refused, with_change, granted, decided, shows, got, size_of, does, byte_of, set, extended, moved, at_entries, or_bad, or_closed, next_move, began, view_of, nothing_in, started, open_next, is_taken_closed, closed_move, in_phase, tick_at}
 use Rattle.index_remap.specs.Related.{Funcs, Mems, Pairing, OneToOne, OptRel, none, some, ResRel, done, trap, wrong, ListRel, nil, cons, RefRel, func, extern, ValRel, number, reference, TableRel, StoreRel, mark, opening, waiting, ended, growing, ChangeRel, set_global, set_memory, set_table, GrowthRel, memory_grows, table_grows, NextRel, ran, asked, asked_grow, loads, returned}
 use Rattle.index_remap.specs.RelatedRuns.{ThingRel, a_func, a_table, a_memory, a_global, KeyRel, BegunRel, PhaseRel, fresh, pending, opened, closed, RunRel, OutRel}
-use Rattle.index_remap.proofs.Rel.{there, same_there, bind_rel, bind_rel_is, bind_is, bind_same, bind_eq, cond_rel, PairRel, OptAll, nothing, just, bind_all, all_at, any, at_rel, append_rel, length_rel, copies_rel, overwrite_rel}
+use Rattle.index_remap.proofs.Rel.{written, there, same_there, bind_rel, bind_rel_is, bind_is, bind_same, bind_eq, cond_rel, PairRel, OptAll, nothing, just, bind_all, all_at, any, at_rel, append_rel, length_rel, copies_rel, overwrite_rel}
 use Rattle.index_remap.proofs.ValueSteps.{Fits}
 use Rattle.index_remap.proofs.Shown.{show_rel, show_all_rel}
 use Rattle.index_remap.proofs.TableSteps.{may_rel}
 use Rattle.index_remap.proofs.StepsAgree.{Stacks, TopView, top_none, top_mark, top_opening, top_waiting, top_ended, top_growing, top_running, changed_rel}
 
-module _ (R : Pairing) (apart : OneToOne R) (B C : Store → Store → List Entry → List Entry → Type 0) (stacks : Stacks R apart B C) (F : Store → Store → List Entry → List Entry → Type 0) (begins : (s t : Store) (es fs : List Entry) → F s t es fs → B s t es fs) where
+module _ (R : Pairing) (apart : OneToOne R) (B C : Store → Store → List Entry → List Entry → Type 0) (stacks : Stacks R (written apart) B C) (F : Store → Store → List Entry → List Entry → Type 0) (begins : (s t : Store) (es fs : List Entry) → F s t es fs → B s t es fs) where
   -- ---- the run with a part changed ----
 
   state_rel : {r q : Run} {s t : Store} {es fs : List Entry} → RunRel R B F r q → StoreRel R s t → B s t es fs → RunRel R B F (record r { store = s; entries = es }) (record q { store = t; entries = fs })
@@ -133,7 +133,7 @@ module _ (R : Pairing) (apart : OneToOne R) (B C : Store → Store → List Entr
       either true = record { event = refl; run = state_rel h h.store (stacks.steady (stacks.push (ended v) e)) }
       either false = after_rel h (stacks.gives h.store v e)
 
-  answered_rel : {r q : Run} {es fs : List Entry} (xs : List Shown) → RunRel R B F r q → TopView R apart C r.store q.store es fs → ResRel (OutRel R B F) (answered r xs es) (answered q xs fs)
+  answered_rel : {r q : Run} {es fs : List Entry} (xs : List Shown) → RunRel R B F r q → TopView R (written apart) C r.store q.store es fs → ResRel (OutRel R B F) (answered r xs es) (answered q xs fs)
   answered_rel xs h (top_waiting {ts = ts} e) = bind_rel (received_all_rel ts xs h.owned h.shown) (λ _ _ v. done (delivered_rel h v e))
   answered_rel xs h (top_none e) = wrong
   answered_rel xs h (top_mark e) = wrong
@@ -142,7 +142,7 @@ module _ (R : Pairing) (apart : OneToOne R) (B C : Store → Store → List Entr
   answered_rel xs h (top_growing n e) = wrong
   answered_rel xs h (top_ended v e) = wrong
 
-  refused_rel : {r q : Run} {es fs : List Entry} → RunRel R B F r q → TopView R apart C r.store q.store es fs → ResRel (OutRel R B F) (refused r es) (refused q fs)
+  refused_rel : {r q : Run} {es fs : List Entry} → RunRel R B F r q → TopView R (written apart) C r.store q.store es fs → ResRel (OutRel R B F) (refused r es) (refused q fs)
   refused_rel h (top_waiting e) = done (after_rel h trap)
   refused_rel h (top_none e) = wrong
   refused_rel h (top_mark e) = wrong
@@ -152,7 +152,7 @@ module _ (R : Pairing) (apart : OneToOne R) (B C : Store → Store → List Entr
   refused_rel h (top_ended v e) = wrong
 
   change_rel : {r q : Run} {c d : Change} → RunRel R B F r q → ChangeRel R c d → RunRel R B F (with_change r c) (with_change q d)
-  change_rel h c = state_rel h (changed_rel R apart h.store c) (stacks.changes_all c h.entries)
+  change_rel h c = state_rel h (changed_rel R (written apart) h.store c) (stacks.changes_all c h.entries)
 
   num_eq : {n m : ℕ} → n ≡ m → ValRel R (Num W32 n) (Num W32 m)
   num_eq {n} e = subst (λ x. ValRel R (Num W32 n) (Num W32 x)) e number
@@ -219,7 +219,7 @@ module _ (R : Pairing) (apart : OneToOne R) (B C : Store → Store → List Entr
   place_at_rel (GlobalOf p) h = look_rel (same_key (GlobalKey p)) h.owned
   place_at_rel (Named n) h = look_rel (same_text n) h.view
 
-  moved_rel : {r q : Run} (m : Move) → RunRel R B F r q → C r.store q.store r.entries q.entries → TopView R apart C r.store q.store r.entries q.entries → ResRel (OutRel R B F) (moved r m) (moved q m)
+  moved_rel : {r q : Run} (m : Move) → RunRel R B F r q → C r.store q.store r.entries q.entries → TopView R (written apart) C r.store q.store r.entries q.entries → ResRel (OutRel R B F) (moved r m) (moved q m)
   moved_rel (Call i xs) h c w = bind_rel (look_rel (same_text i) h.view) (λ _ _ x. bind_rel (func_of_rel x) (λ _ _ n. called_rel xs h (stacks.push mark c) n))
   moved_rel (Invoke k xs) h c w = bind_rel (at_rel h.shown k) (λ _ _ n. called_rel xs h (stacks.push mark c) n)
   moved_rel (Take i) h c w = bind_rel (look_rel (same_text i) h.view) (λ _ _ x. bind_rel (func_of_rel x) (λ _ _ n. shows_rel h (reference (func (some n)))))
@@ -232,7 +232,7 @@ module _ (R : Pairing) (apart : OneToOne R) (B C : Store → Store → List Entr
   moved_rel (Set p n v) h c w = bind_rel (place_at_rel p h) (λ _ _ x. set_rel n v h x)
   moved_rel (Extend p n) h c w = bind_rel (place_at_rel p h) (λ _ _ x. extended_rel n h x)
 
-  at_entries_rel : {r q : Run} {es fs : List Entry} (m : Move) → RunRel R B F r q → C r.store q.store r.entries q.entries → TopView R apart C r.store q.store r.entries q.entries → TopView R apart C r.store q.store es fs → ResRel (OutRel R B F) (at_entries r m es) (at_entries q m fs)
+  at_entries_rel : {r q : Run} {es fs : List Entry} (m : Move) → RunRel R B F r q → C r.store q.store r.entries q.entries → TopView R (written apart) C r.store q.store r.entries q.entries → TopView R (written apart) C r.store q.store es fs → ResRel (OutRel R B F) (at_entries r m es) (at_entries q m fs)
   at_entries_rel m h c w (top_growing p e) = decided_rel m h p e
   at_entries_rel m h c w (top_none e) = moved_rel m h c w
   at_entries_rel m h c w (top_mark e) = moved_rel m h c w
@@ -249,14 +249,14 @@ module _ (R : Pairing) (apart : OneToOne R) (B C : Store → Store → List Entr
   moves_rel : {r q : Run} (ms : List Move) → RunRel R B F r q → RunRel R B F (record r { moves = ms }) (record q { moves = ms })
   moves_rel ms h = record { store = h.store; entries = h.entries; phase = h.phase; shown = h.shown; view = h.view; owned = h.owned; moves = refl }
 
-  next_move_rel : {r q : Run} (ms : List Move) → RunRel R B F r q → C r.store q.store r.entries q.entries → TopView R apart C r.store q.store r.entries q.entries → OutRel R B F (next_move r ms) (next_move q ms)
+  next_move_rel : {r q : Run} (ms : List Move) → RunRel R B F r q → C r.store q.store r.entries q.entries → TopView R (written apart) C r.store q.store r.entries q.entries → OutRel R B F (next_move r ms) (next_move q ms)
   next_move_rel [] h c w = record { event = refl; run = h }
   next_move_rel (m ∷ ms) h c w = let k = moves_rel ms h in or_bad_rel k (at_entries_rel m k c w w)
 
-  due_move_rel : {r q : Run} {ms ns : List Move} → ms ≡ ns → RunRel R B F r q → C r.store q.store r.entries q.entries → TopView R apart C r.store q.store r.entries q.entries → OutRel R B F (next_move r ms) (next_move q ns)
+  due_move_rel : {r q : Run} {ms ns : List Move} → ms ≡ ns → RunRel R B F r q → C r.store q.store r.entries q.entries → TopView R (written apart) C r.store q.store r.entries q.entries → OutRel R B F (next_move r ms) (next_move q ns)
   due_move_rel {r} {q} {ms} e h c w = subst (λ x. OutRel R B F (next_move r ms) (next_move q x)) e (next_move_rel ms h c w)
 
-  closed_move_rel : {r q : Run} {ms ns : List Move} → ms ≡ ns → RunRel R B F r q → C r.store q.store r.entries q.entries → TopView R apart C r.store q.store r.entries q.entries → OutRel R B F (closed_move r ms) (closed_move q ns)
+  closed_move_rel : {r q : Run} {ms ns : List Move} → ms ≡ ns → RunRel R B F r q → C r.store q.store r.entries q.entries → TopView R (written apart) C r.store q.store r.entries q.entries → OutRel R B F (closed_move r ms) (closed_move q ns)
   closed_move_rel {r} {q} {ms} e h c w = subst (λ x. OutRel R B F (closed_move r ms) (closed_move q x)) e (go ms)
     where
       go : (ms : List Move) → OutRel R B F (closed_move r ms) (closed_move q ms)
@@ -278,7 +278,7 @@ module _ (R : Pairing) (apart : OneToOne R) (B C : Store → Store → List Entr
   or_closed_rel h trap = record { event = refl; run = phase_rel (state_rel h h.store (stacks.steady (stacks.cleared h.entries))) closed }
   or_closed_rel h (done o) = o
 
-  in_phase_rel : {r q : Run} {p o : Phase} → RunRel R B F r q → C r.store q.store r.entries q.entries → TopView R apart C r.store q.store r.entries q.entries → PhaseRel R F p o → OutRel R B F (in_phase r p) (in_phase q o)
+  in_phase_rel : {r q : Run} {p o : Phase} → RunRel R B F r q → C r.store q.store r.entries q.entries → TopView R (written apart) C r.store q.store r.entries q.entries → PhaseRel R F p o → OutRel R B F (in_phase r p) (in_phase q o)
   in_phase_rel h c w (fresh b) = began_rel h b
   in_phase_rel h c w (pending v) = record { event = refl; run = h }
   in_phase_rel h c w opened = due_move_rel h.moves h c w
@@ -298,7 +298,7 @@ module _ (R : Pairing) (apart : OneToOne R) (B C : Store → Store → List Entr
   open_next_rel h (cons n x) e = or_closed_rel h (started_rel h x e n)
 
   -- a step of each, given what a step of the top frames comes to
-  pub still_rel : {r q : Run} {es fs : List Entry} → RunRel R B F r q → (C r.store q.store es fs → C r.store q.store r.entries q.entries) → (TopView R apart C r.store q.store es fs → TopView R apart C r.store q.store r.entries q.entries) → TopView R apart C r.store q.store es fs → ResRel (NextRel R B) (step r.store r.entries) (step q.store q.entries) → OutRel R B F (tick_at r es) (tick_at q fs)
+  pub still_rel : {r q : Run} {es fs : List Entry} → RunRel R B F r q → (C r.store q.store es fs → C r.store q.store r.entries q.entries) → (TopView R (written apart) C r.store q.store es fs → TopView R (written apart) C r.store q.store r.entries q.entries) → TopView R (written apart) C r.store q.store es fs → ResRel (NextRel R B) (step r.store r.entries) (step q.store q.entries) → OutRel R B F (tick_at r es) (tick_at q fs)
   still_rel h whole views (top_none e) s = in_phase_rel h (whole e) (views (top_none e)) h.phase
   still_rel h whole views (top_mark e) s = record { event = refl; run = h }
   still_rel h whole views (top_opening x e) s = open_next_rel h x e

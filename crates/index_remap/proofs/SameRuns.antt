@@ -7,6 +7,7 @@ use Rattle.wasm_meaning.specs.Run.{Run, tick, noted, events_of}
 use Rattle.index_remap.specs.Related.{Kind, Pairing, OneToOne, ResRel, ListRel, StoreRel, EntryRel, NextRel, TopSkips}
 use Rattle.index_remap.specs.RelatedRuns.{RunRel, OutRel}
 use Rattle.index_remap.specs.Laws.{passed, Above, NeedsBelow, Touches, StepsAgree, NamedAreKnown}
+use Rattle.index_remap.proofs.Rel.{written}
 use Rattle.index_remap.proofs.Lockstep.{Entries, stacks, view, whole, alone}
 use Rattle.index_remap.proofs.StepsAgree.{none_called}
 use Rattle.index_remap.proofs.Runs.{still_rel}
@@ -47,15 +48,15 @@ module _ (of : Kind → ℕ → ℕ → Bool) where
   skips s (Growing g ∷ es) = tt
 
   module _ (apart : OneToOne R) (law : StepsAgree) (known : NamedAreKnown) where
-    step_rel : (s t : Store) (es fs : List Entry) → StoreRel R s t → ListRel (EntryRel R) es fs → ResRel (NextRel R (Entries R apart)) (step s es) (step t fs)
+    step_rel : (s t : Store) (es fs : List Entry) → StoreRel R s t → ListRel (EntryRel R) es fs → ResRel (NextRel R (Entries R (written apart))) (step s es) (step t fs)
     step_rel s t es fs h e =
-        alone R apart
-        (whole (λ xs ys. ResRel (NextRel R (Above R [] [])) (step s xs) (step t ys)) es fs (law of of [] apart s t es fs [] [] h e (touches s es) (skips s es) (known of of [] (λ k a b p. p) es fs)))
+        alone R (written apart)
+        (whole (λ xs ys. ResRel (NextRel R (Above R [] [])) (step s xs) (step t ys)) es fs (law of of [] (written apart) s t es fs [] [] h e (touches s es) (skips s es) (known of of [] (λ k a b p. p) es fs)))
 
-    pub ticks_agree : (r q : Run) → RunRel R (Entries R apart) (Entries R apart) r q → OutRel R (Entries R apart) (Entries R apart) (tick r) (tick q)
+    pub ticks_agree : (r q : Run) → RunRel R (Entries R (written apart)) (Entries R (written apart)) r q → OutRel R (Entries R (written apart)) (Entries R (written apart)) (tick r) (tick q)
     ticks_agree r q h =
-        still_rel R apart (Entries R apart) (Entries R apart) (stacks R apart none_listed) (Entries R apart) (λ s t es fs e. e) h (λ e. e) (λ e. e) (view R apart h.entries) (step_rel r.store q.store r.entries q.entries h.store h.entries)
+        still_rel R apart (Entries R (written apart)) (Entries R (written apart)) (stacks R (written apart) none_listed) (Entries R (written apart)) (λ s t es fs e. e) h (λ e. e) (λ e. e) (view R (written apart) h.entries) (step_rel r.store q.store r.entries q.entries h.store h.entries)
 
-    pub same_events : (n : ℕ) (r q : Run) → RunRel R (Entries R apart) (Entries R apart) r q → events_of tick r n ≡ events_of tick q n
+    pub same_events : (n : ℕ) (r q : Run) → RunRel R (Entries R (written apart)) (Entries R (written apart)) r q → events_of tick r n ≡ events_of tick q n
     same_events zero r q h = refl
     same_events (suc n) r q h = let o = ticks_agree r q h in ap₂ noted o.event (same_events n _ _ o.run)

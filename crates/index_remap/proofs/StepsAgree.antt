@@ -11,7 +11,7 @@ use Rattle.wasm_meaning.specs.Values.{pop_typed, with_values}
 use Rattle.wasm_meaning.specs.Step.{exec, step_code, step_levels, act, frame_of, give_levels, give, enter, enter_at, to_mark, no_items, no_bytes, changed, perform, step}
 use Rattle.wasm_meaning.specs.Run.{is_mark}
 use Rattle.index_remap.specs.Related
-use Rattle.index_remap.specs.Related.{Funcs, Tables, Mems, Globals, Elems, Datas, Pairing, OneToOne, OptRel, none, some, ResRel, done, wrong, ListRel, nil, cons, ValRel, OpRel, CodeRel, end, then, instead, FuncRel, defined, own, slot, TableRel, GlobalRel, ElemRel, StoreRel, LevelRel, FrameRel, EntryRel, mark, opening, waiting, growing, BodyRel, GrowthRel, ChangeRel, keep, set_global, set_memory, set_table, drop_elem, drop_data, ActRel, goes, calls, asks_grow, ends, NextRel, ran, asked, asked_grow, loads, returned, NotListed, TopSkips, NextKnown, TopKnown}
+use Rattle.index_remap.specs.Related.{Funcs, Tables, Mems, Globals, Elems, Datas, Pairing, OneToOneWhereWritten, OptRel, none, some, ResRel, done, wrong, ListRel, nil, cons, ValRel, OpRel, CodeRel, end, then, instead, FuncRel, defined, own, slot, TableRel, GlobalRel, ElemRel, StoreRel, LevelRel, FrameRel, EntryRel, mark, opening, waiting, growing, BodyRel, GrowthRel, ChangeRel, keep, set_global, set_memory, set_table, drop_elem, drop_data, ActRel, goes, calls, asks_grow, ends, NextRel, ran, asked, asked_grow, loads, returned, NotListed, TopSkips, NextKnown, TopKnown}
 use Rattle.index_remap.specs.Groups.{Group, Values, Memories, Control, group_of, GroupAgrees}
 use Rattle.index_remap.proofs.Rel.{same_there, bind_rel, bind_is, bind_rel_is, all_at, PairRel, onto_rel, append_rel, write_rel}
 use Rattle.index_remap.proofs.ValueSteps.{Fits, pop_typed_all, pop_typed_rel, zeros_rel}
@@ -48,7 +48,7 @@ module _ (R : Pairing) (ev ew : Env) (st : StoreRel R ev.store ew.store) where
   step_levels_rel v nil free u = wrong
   step_levels_rel v (cons l ls) free u = step_code_rel (record { locals = v; values = l.values; rest = end; gives = l.gives; takes = l.takes; back = l.back; outer = ls }) l.code free u
 
-module _ (R : Pairing) (apart : OneToOne R) where
+module _ (R : Pairing) (apart : OneToOneWhereWritten R) where
   pub act_rel : {s t : Store} {f g : Frame} → StoreRel R s t → FrameRel R f g → ((x : Act) → act s f ≡ Gives x → NotListed R x) → TopKnown R f.inst g.inst f.levels g.levels → ResRel (ActRel R f.inst g.inst) (act s f) (act t g)
   act_rel {s} {t} {f} {g} p q free u = step_levels_rel R (record { store = s; inst = f.inst }) (record { store = t; inst = g.inst }) p q.locals q.levels free u
 
@@ -62,7 +62,7 @@ module _ (R : Pairing) (apart : OneToOne R) where
     mems = r.mems;
     elems = r.elems;
     datas = r.datas;
-    globals = write_rel R apart Globals (GlobalRel R) s.globals t.globals g h n (λ c d m. r.globals m) q _ _;
+    globals = write_rel R apart Globals refl (GlobalRel R) s.globals t.globals g h n (λ c d m. r.globals m) q _ _;
   }
   changed_rel {s} {t} r (set_memory {m = m} n) = record {
     types = r.types;
@@ -72,7 +72,7 @@ module _ (R : Pairing) (apart : OneToOne R) where
     globals = r.globals;
     elems = r.elems;
     datas = r.datas;
-    mems = write_rel R apart Mems (λ m n. m ≡ n) s.mems t.mems m m n (λ c d q. r.mems q) refl _ _;
+    mems = write_rel R apart Mems refl (λ m n. m ≡ n) s.mems t.mems m m n (λ c d q. r.mems q) refl _ _;
   }
   changed_rel {s} {t} r (set_table {t = x} {u = y} n q) = record {
     types = r.types;
@@ -82,7 +82,7 @@ module _ (R : Pairing) (apart : OneToOne R) where
     globals = r.globals;
     elems = r.elems;
     datas = r.datas;
-    tables = write_rel R apart Tables (TableRel R) s.tables t.tables x y n (λ c d q. r.tables q) q _ _;
+    tables = write_rel R apart Tables refl (TableRel R) s.tables t.tables x y n (λ c d q. r.tables q) q _ _;
   }
   changed_rel {s} {t} r (drop_elem n) = record {
     types = r.types;
@@ -92,7 +92,7 @@ module _ (R : Pairing) (apart : OneToOne R) where
     globals = r.globals;
     tables = r.tables;
     datas = r.datas;
-    elems = write_rel R apart Elems (ElemRel R) s.elems t.elems no_items no_items n (λ c d q. r.elems q) (record { items = nil }) _ _;
+    elems = write_rel R apart Elems refl (ElemRel R) s.elems t.elems no_items no_items n (λ c d q. r.elems q) (record { items = nil }) _ _;
   }
   changed_rel {s} {t} r (drop_data n) = record {
     types = r.types;
@@ -102,7 +102,7 @@ module _ (R : Pairing) (apart : OneToOne R) where
     globals = r.globals;
     tables = r.tables;
     elems = r.elems;
-    datas = write_rel R apart Datas (λ d e. d.bytes ≡ e.bytes) s.datas t.datas no_bytes no_bytes n (λ c d q. r.datas q) refl _ _;
+    datas = write_rel R apart Datas refl (λ d e. d.bytes ≡ e.bytes) s.datas t.datas no_bytes no_bytes n (λ c d q. r.datas q) refl _ _;
   }
 
   pub frame_rel : {f g : Frame} {h k : Body} → FrameRel R f g → BodyRel R f.inst g.inst h k → FrameRel R (frame_of f h) (frame_of g k)

@@ -1,4 +1,4 @@
--- What a body names: each index and its entry in the map stand for addresses that code may name as one, and for equal types.
+-- What a body names: each index and its entry in the map stand for addresses that code may name as one, or for equal types, or neither is there.
 use Rattle.std.specs.Prelude.{List, [], ◌∷◌, slice_index}
 use Rattle.wasm_tree.specs.declared.types.BlockType.{BlockType}
 use Rattle.wasm_tree.specs.declared.types.BlockType.TheVariants as bt
@@ -13,7 +13,7 @@ BlockNames m i j bt.Empty = Unit {0}
 BlockNames m i j (bt.Value t) = Unit {0}
 BlockNames m i j (bt.Index n) = SameType i j n (slice_index m.types n)
 
--- each index that the layer itself names and its entry in the map stand for addresses that code may name as one, and for equal types
+-- each index that the layer itself names and its entry in the map stand for addresses that code may name as one, or for equal types, or neither is there
 abbrev pub LayerNames : Pairing → Remap → Inst → Inst → Instr-F Instr → Type 0
 LayerNames R m i j Instr-F.Unreachable = Unit {0}
 LayerNames R m i j Instr-F.Nop = Unit {0}

@@ -1,11 +1,12 @@
--- The laws of steps, of what keeps typing, and of runs: from corresponding stores and related configurations one step of each agrees.
+-- The law of steps (from corresponding stores and related configurations one step of each agrees), and the laws of code with other indices, of what keeps typing,
+-- and of runs.
 use Rattle.std.proofs.Common.{◌≡◌, ℕ, List, [], ◌∷◌, ◌++◌, Bool, true, false}
 use Rattle.std.specs.Prelude.{IsTrue, nat_eq}
 use Rattle.std.specs.List.{list_any}
 use Rattle.wasm_meaning.specs.Outcomes.{Gives, at}
 use Rattle.wasm_meaning.specs.State.{Inst, Val, Store, Entry, Running, Mark, Opening, Caller, Act, Ends}
 use Rattle.wasm_meaning.specs.Step.{act, step, to_mark}
-use Rattle.wasm_meaning.specs.Run.{Run, show_all, tick, events_of}
+use Rattle.wasm_meaning.specs.Run.{Run, Out, show_all, tick, events_of}
 use Rattle.index_remap.specs.RelatedRuns.{ShowRel, RunRel, OutRel, KeepsOthers, IsBegun}
 use Rattle.wasm_tree.specs.declared.types.ValType.{ValType}
 use Rattle.wasm_tree.specs.declared.types.FuncType.{FuncType}
@@ -15,11 +16,11 @@ use Rattle.index_remap.specs.declared.remap.Remap.{Remap}
 use Rattle.index_remap.specs.Renumbered.{renumbered_all}
 use Rattle.index_remap.specs.CodeNames.{LayerNames, ListLayers}
 use Rattle.index_remap.specs.Agreement.{SameFrame}
-use Rattle.index_remap.specs.Replaced.{Labels, Codes, Replaced, OthersAgree, OthersNamed, MayBeReplaced, CodesHaveTypes}
-use Rattle.index_remap.specs.Related.{CodeRel, Kind, Funcs, Tables, Mems, Globals, Elems, Datas, Pairing, OneToOne, ResRel, ListRel, ValRel, StoreRel, EntryRel, NextRel, TopSkips, TopKnown}
+use Rattle.index_remap.specs.Replaced.{Labels, Codes, Replaced, OthersAgree, OthersNamed, CodesHaveTypes}
+use Rattle.index_remap.specs.Related.{CodeRel, Kind, Funcs, Tables, Mems, Globals, Elems, Datas, Pairing, OneToOne, OneToOneWhereWritten, ResRel, ListRel, ValRel, StoreRel, EntryRel, NextRel, TopSkips, TopKnown}
 
 -- the addresses that pass the first test are related, and code may name as one those that pass the second; of the functions of a list only the types are known
--- and whose they are, and other code may stand for calls of them
+-- and whose they are, and other code may stand in place of calls of them
 abbrev pub passed : (of named : Kind → ℕ → ℕ → Bool) → List ℕ → Pairing
 passed of named l = record { of = λ k a b. IsTrue (of k a b); named = λ k a b. IsTrue (named k a b); listed = λ a. IsTrue (list_any (nat_eq a) l) }
 
@@ -47,16 +48,17 @@ Touches s [] cs ds = NoneBelow cs ds
 Touches s (Running f ∷ es) cs ds = (x : Act) → act s f ≡ Gives x → NeedsBelow es cs ds x
 Touches s (e ∷ es) cs ds = Unit {0}
 
--- the next instructions of the top frames name related addresses
+-- the next instructions of the top frames, where they are related as other code is, name related addresses
 abbrev pub EntriesKnown : Pairing → List Entry → List Entry → Type 0
 EntriesKnown R (Running f ∷ es) (Running g ∷ fs) = TopKnown R f.inst g.inst f.levels g.levels
 EntriesKnown R _ _ = Unit {0}
 
--- One step of each shows the same, or traps on both sides, or is ill typed on both, and leaves stores that correspond and configurations that are related. Of the
--- configurations only the first entries need to be related, among which are those that the step touches.
+-- One step of each comes to related values, or traps on both sides, or is ill typed on both, and leaves stores that correspond and entries that are related, where
+-- the next instructions name related addresses and the step begins no call of a function of the list. Of the entries only the first need to be related, among which
+-- are those that the step touches.
 abbrev pub StepsAgree : Type 0
 StepsAgree =
-    (of named : Kind → ℕ → ℕ → Bool) (l : List ℕ) → OneToOne (passed of named l) → (s t : Store) (es fs cs ds : List Entry) →
+    (of named : Kind → ℕ → ℕ → Bool) (l : List ℕ) → OneToOneWhereWritten (passed of named l) → (s t : Store) (es fs cs ds : List Entry) →
     StoreRel (passed of named l) s t → ListRel (EntryRel (passed of named l)) es fs → Touches s es cs ds → TopSkips (passed of named l) s es → EntriesKnown (passed of named l) es fs →
     ResRel (NextRel (passed of named l) (Above (passed of named l) cs ds)) (step s (es ++ cs)) (step t (fs ++ ds))
 
@@ -64,7 +66,8 @@ StepsAgree =
 abbrev pub NamedAreKnown : Type 0
 NamedAreKnown = (of named : Kind → ℕ → ℕ → Bool) (l : List ℕ) → ((k : Kind) (a b : ℕ) → IsTrue (named k a b) → IsTrue (of k a b)) → (es fs : List Entry) → EntriesKnown (passed of named l) es fs
 
--- Of related values the embedder is shown the same, where the functions that were shown before are related, number by number; and so are they again.
+-- Of related values in stores that correspond the embedder is shown the same, where the functions that were shown before are related, number by number; and so are
+-- they again.
 abbrev pub ShownAgree : Type 0
 ShownAgree =
     (of named : Kind → ℕ → ℕ → Bool) (l : List ℕ) → OneToOne (passed of named l) → (s t : Store) (vs ws : List Val) (xs ys : List ℕ) → StoreRel (passed of named l) s t → ListRel (ValRel (passed of named l)) vs ws →
@@ -80,59 +83,64 @@ abbrev pub NoMark : List Entry → Type 0
 NoMark [] = Unit {0}
 NoMark (e ∷ es) = (ends_trap e ≡ false) × NoMark es
 
--- who waits, and what stands below
-pub record MarksAgree (R : Pairing) (cs ds : List Entry) (s t : Store) (p q : Caller × List Entry) : Type 0 where
-  pub caller : p.0 ≡ q.0
-  pub rest : Above R cs ds s t p.1 q.1
-
--- A trap removes everything down to the nearest mark. That mark needs to be related, and nothing above it; what stands below it is as it was.
+-- A trap removes everything down to the nearest mark. Where these marks are related the same waits there, and what stands below them is left; nothing above needs
+-- to be related.
 abbrev pub TrapsAgree : Type 0
 TrapsAgree =
-    (of named : Kind → ℕ → ℕ → Bool) (l : List ℕ) (s t : Store) (above beyond es fs cs ds : List Entry) (e f : Entry) → NoMark above → NoMark beyond → ends_trap e ≡ true → EntryRel (passed of named l) e f →
-    ListRel (EntryRel (passed of named l)) es fs → ResRel (MarksAgree (passed of named l) cs ds s t) (to_mark (above ++ (e ∷ (es ++ cs)))) (to_mark (beyond ++ (f ∷ (fs ++ ds))))
+    (of named : Kind → ℕ → ℕ → Bool) (l : List ℕ) (above beyond es fs : List Entry) (e f : Entry) → NoMark above → NoMark beyond → ends_trap e ≡ true → EntryRel (passed of named l) e f →
+    (c : Caller) × (to_mark (above ++ (e ∷ es)) ≡ Gives (c, es)) × (to_mark (beyond ++ (f ∷ fs)) ≡ Gives (c, fs))
 
--- A body that is well typed stays so where its indices are replaced by their entries, and calls of the functions of a list by code of the same type: the indices
--- that the other instructions name agree with their entries.
+-- A body that is well typed stays so, over the same locals, results and labels, where its indices are replaced by their entries, and calls of the functions of a
+-- list by code that has the type of the function under the labels where it stands: the indices that the other instructions name agree with their entries.
 abbrev pub TypingIsKept : Type 0
 TypingIsKept =
     (m : Remap) (listed : List ℕ) (codes : Codes) (c d : Context) (is js : List Instr) (ps rs : List ValType) → SameFrame c d → ListLayers (OthersAgree m listed c d) is → CodesHaveTypes listed codes c d →
     Replaced c.types m listed codes c.labels is js → WellTyped c is ps rs → WellTyped d js ps rs
 
--- Such code is related, where each index that the other instructions name and its entry stand for addresses that code may name as one, and for equal types, and
--- each function on the list is at an address of which other code may stand for calls.
+-- Such code is related to the body, where each index that the other instructions name and its entry stand for addresses that code may name as one, or for equal types,
+-- or neither is there, and each function whose call is replaced is at an address of the list.
 abbrev pub ReplacedCodeIsRelated : Type 0
 ReplacedCodeIsRelated =
     (of named : Kind → ℕ → ℕ → Bool) (l : List ℕ) (m : Remap) (i j : Inst) (types : List FuncType) (labels : Labels) (listed : List ℕ) (codes : Codes) (is js : List Instr) → ListLayers (OthersNamed (passed of named l) m listed i j) is →
-    MayBeReplaced (passed of named l) listed i → Replaced types m listed codes labels is js → CodeRel (passed of named l) i j is js
+    Replaced types m listed codes labels is js → CodeRel (passed of named l) i j is js
 
--- With no function on the list such code is the body with other indices.
+-- With no function on the list the body with other indices is such code.
 abbrev pub UnlistedAreRenumbered : Type 0
 UnlistedAreRenumbered = (types : List FuncType) (m : Remap) (codes : Codes) (labels : Labels) (is : List Instr) → Replaced types m [] codes labels is (renumbered_all m is)
 
--- Code whose indices are replaced by their entries is related, where each index and its entry stand for addresses that code may name as one, and for equal types.
+-- A body is related to itself with other indices, where each index and its entry stand for addresses that code may name as one, or for equal types, or neither is
+-- there.
 abbrev pub RenumberedCodeIsRelated : Type 0
 RenumberedCodeIsRelated =
     (of named : Kind → ℕ → ℕ → Bool) (l : List ℕ) (m : Remap) (i j : Inst) (code : List Instr) → ListLayers (LayerNames (passed of named l) m i j) code → CodeRel (passed of named l) i j code (renumbered_all m code)
 
--- runs whose stacks are related entry by entry
+-- stacks that are related entry by entry, whatever the stores
 abbrev pub EntryByEntry : Pairing → Store → Store → List Entry → List Entry → Type 0
 EntryByEntry R s t = ListRel (EntryRel R)
+
+-- runs whose stacks are
+abbrev pub RelatedRuns : Pairing → Run → Run → Type 0
+RelatedRuns R = RunRel R (EntryByEntry R) (EntryByEntry R)
+
+-- the same event, and again such runs
+abbrev pub RelatedOuts : Pairing → Out → Out → Type 0
+RelatedOuts R = OutRel R (EntryByEntry R) (EntryByEntry R)
 
 -- Where all that code names is related and no function is set apart, related runs show the same events.
 abbrev pub RelatedRunsShowTheSame : Type 0
 RelatedRunsShowTheSame =
-    (of : Kind → ℕ → ℕ → Bool) → OneToOne (passed of of []) → (r q : Run) → RunRel (passed of of []) (EntryByEntry (passed of of [])) (EntryByEntry (passed of of [])) r q → (n : ℕ) → events_of tick r n ≡ events_of tick q n
+    (of : Kind → ℕ → ℕ → Bool) → OneToOne (passed of of []) → (r q : Run) → RelatedRuns (passed of of []) r q → (n : ℕ) → events_of tick r n ≡ events_of tick q n
 
 -- One step of each of two such runs shows the same, and leaves them related.
 abbrev pub RelatedTicksAgree : Type 0
 RelatedTicksAgree =
-    (of : Kind → ℕ → ℕ → Bool) → OneToOne (passed of of []) → (r q : Run) → RunRel (passed of of []) (EntryByEntry (passed of of [])) (EntryByEntry (passed of of [])) r q →
-    OutRel (passed of of []) (EntryByEntry (passed of of [])) (EntryByEntry (passed of of [])) (tick r) (tick q)
+    (of : Kind → ℕ → ℕ → Bool) → OneToOne (passed of of []) → (r q : Run) → RelatedRuns (passed of of []) r q →
+    RelatedOuts (passed of of []) (tick r) (tick q)
 
--- Once both are instantiated, a step of the second run leaves as it was what nothing of the first is related to.
+-- Once both are instantiated, a step of the second run leaves the functions as they were, and all else that nothing of the first is related to.
 abbrev pub OthersStay : Type 0
 OthersStay =
-    (of : Kind → ℕ → ℕ → Bool) → OneToOne (passed of of []) → (r q : Run) → RunRel (passed of of []) (EntryByEntry (passed of of [])) (EntryByEntry (passed of of [])) r q → IsBegun r.phase →
+    (of : Kind → ℕ → ℕ → Bool) → OneToOne (passed of of []) → (r q : Run) → RelatedRuns (passed of of []) r q → IsBegun r.phase →
     KeepsOthers (passed of of []) q.store (tick q).0.store
 
 -- code may name each address of the instance as one with itself
@@ -144,6 +152,6 @@ pub record NamesItself (R : Pairing) (i : Inst) : Type 0 where
   pub elems : (n a : ℕ) → at i.elems n ≡ Gives a → R.named Elems a a
   pub datas : (n a : ℕ) → at i.datas n ≡ Gives a → R.named Datas a a
 
--- Code is related to itself over an instance whose addresses are.
+-- Code is related to itself over an instance whose addresses code may name as one with themselves.
 abbrev pub CodeIsRelatedToItself : Type 0
 CodeIsRelatedToItself = (of named : Kind → ℕ → ℕ → Bool) (l : List ℕ) (i : Inst) (code : List Instr) → NamesItself (passed of named l) i → CodeRel (passed of named l) i i code code

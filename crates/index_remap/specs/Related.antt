@@ -27,7 +27,8 @@ pub data Kind : Type 0 where
   Elems : Kind
   Datas : Kind
 
--- related addresses, and the functions of the list, of which only the type is known and for whose calls other code may stand
+-- related addresses, addresses that code may name as one, and the functions of a list, of which only the type is known and whose they are, and in place of whose
+-- calls other code may stand
 pub record Pairing : Type 1 where
   pub of : Kind → ℕ → ℕ → Type 0
   -- addresses that code may name as one: of those that are not related nothing is known
@@ -43,12 +44,22 @@ pub record OneToOne (R : Pairing) : Type 0 where
   pub right : {k : Kind} (a b c : ℕ) → R.of k a b → R.of k a c → b ≡ c
   pub left : {k : Kind} (a b c : ℕ) → R.of k a c → R.of k b c → a ≡ b
 
+-- an instruction may write at an address of the kind; functions stay as they are (section 4.2.3)
+abbrev pub is_written : Kind → Bool
+is_written Funcs = false
+is_written _ = true
+
+-- one to one, but for functions: two functions of one store may be related to one of the other
+pub record OneToOneWhereWritten (R : Pairing) : Type 0 where
+  pub right : {k : Kind} → is_written k ≡ true → (a b c : ℕ) → R.of k a b → R.of k a c → b ≡ c
+  pub left : {k : Kind} → is_written k ≡ true → (a b c : ℕ) → R.of k a c → R.of k b c → a ≡ b
+
 -- both are there and related, or none is there
 pub data OptRel {A B : Type 0} (P : A → B → Type 0) : Option A → Option B → Type 0 where
   none : OptRel P None None
   some : {a : A} {b : B} → P a b → OptRel P (Some a) (Some b)
 
--- both come to related values, or both trap, or both are wrong
+-- both come to related values, or both trap, or both are ill typed
 pub data ResRel {A B : Type 0} (P : A → B → Type 0) : Outcome A → Outcome B → Type 0 where
   done : {a : A} {b : B} → P a b → ResRel P (Gives a) (Gives b)
   trap : ResRel P Traps Traps
@@ -71,7 +82,7 @@ pub data ValRel (R : Pairing) : Val → Val → Type 0 where
   number : {w : Width} {n : ℕ} → ValRel R (Num w n) (Num w n)
   reference : {r s : RefVal} → RefRel R r s → ValRel R (Ref r) (Ref s)
 
--- the two indices name related addresses
+-- the two indices name addresses that N relates, or neither names any
 abbrev pub Names : (Kind → ℕ → ℕ → Type 0) → Kind → List ℕ → List ℕ → ℕ → ℕ → Type 0
 Names N k xs ys n m = ResRel (N k) (at xs n) (at ys m)
 
@@ -88,7 +99,8 @@ pub record ArgRel (N : Kind → ℕ → ℕ → Type 0) (i j : Inst) (a b : MemA
   pub memory : Names N Mems i.mems j.mems a.memory b.memory
 
 mutual
-  -- the second is the first with other indices, which name related addresses and equal types
+  -- the second is the first with other indices: what comes next (true) names related addresses, other code such as code may name as one, and both equal types;
+  -- alignments are left aside
   pub data OpRel (R : Pairing) (i j : Inst) : Bool → Instr-F Instr → Instr-F Instr → Type 0 where
     unreachable : {w : Bool} → OpRel R i j w Instr-F.Unreachable Instr-F.Unreachable
     nop : {w : Bool} → OpRel R i j w Instr-F.Nop Instr-F.Nop
@@ -157,7 +169,8 @@ pub record GlobalRel (R : Pairing) (g h : Global) : Type 0 where
 pub record ElemRel (R : Pairing) (e f : Elem) : Type 0 where
   pub items : ListRel (RefRel R) e.items f.items
 
--- related addresses hold entities with the same contents; of a listed function only the type is known, and that it is the environment's own or not
+-- related addresses hold entities with the same contents; of a listed function only the type is known, and that neither is the environment's own or both are the
+-- same one
 pub record StoreRel (R : Pairing) (s t : Store) : Type 0 where
   pub types : {a b : ℕ} → R.of Funcs a b → BothRel (◌≡◌ {A = FuncType}) (type_at s a) (type_at t b)
   pub owns : {a b : ℕ} → R.of Funcs a b → own_at s a ≡ own_at t b
@@ -216,7 +229,7 @@ pub data ActRel (R : Pairing) (i j : Inst) : Act → Act → Type 0 where
   asks_grow : {p q : Growth} {m n : ℕ} {h k : Body} → GrowthRel R p q → BodyRel R i j h k → ActRel R i j (AsksGrow p m n h) (AsksGrow q m n k)
   ends : {vs ws : List Val} → ListRel (ValRel R) vs ws → ActRel R i j (Ends vs) (Ends ws)
 
--- the same event, and again what corresponds, the configurations by B
+-- both come to the same, with related values, and again to stores that correspond; the configurations are related by B
 pub data NextRel (R : Pairing) (B : Store → Store → List Entry → List Entry → Type 0) : Next → Next → Type 0 where
   ran : {s t : Store} {es fs : List Entry} → StoreRel R s t → B s t es fs → NextRel R B (Ran s es) (Ran t fs)
   asked : {p : Pair} {u : FuncType} {vs ws : List Val} {s t : Store} {es fs : List Entry} → ListRel (ValRel R) vs ws → StoreRel R s t → B s t es fs → NextRel R B (CallsOwn p u vs s es) (CallsOwn p u ws t fs)
@@ -234,7 +247,7 @@ abbrev pub TopSkips : Pairing → Store → List Entry → Type 0
 TopSkips R s (Running f ∷ es) = (x : Act) → act s f ≡ Gives x → NotListed R x
 TopSkips R s _ = Unit {0}
 
--- the instruction that comes next names related addresses
+-- the instructions that come next, where they are related as other code is, name related addresses
 abbrev pub NextKnown : Pairing → Inst → Inst → List Instr → List Instr → Type 0
 NextKnown R i j (o ∷ c) (p ∷ d) = OpRel R i j false (out-Instr o) (out-Instr p) → OpRel R i j true (out-Instr o) (out-Instr p)
 NextKnown R i j _ _ = Unit {0}

@@ -22,7 +22,7 @@ pub record ShowRel (R : Pairing) {A : Type 0} (x y : A × List ℕ) : Type 0 whe
   pub same : x.0 ≡ y.0
   pub shown : ListRel (R.of Funcs) x.1 y.1
 
--- but for the starts, which the entries hold
+-- part by part; the starts as the entry that holds them, and the stack with nothing on it
 pub record BegunRel (R : Pairing) (B : Store → Store → List Entry → List Entry → Type 0) (b c : Begun) : Type 0 where
   pub store : StoreRel R b.store c.store
   pub entries : B b.store c.store (Opening b.starts ∷ []) (Opening c.starts ∷ [])

@@ -1,4 +1,4 @@
--- Code in which each index is replaced by its entry in a map, but where a function of a list is called: there stands other code, of the type of the function.
+-- Code in which each index is replaced by its entry in a map, but where a function of a list is called: there stands other code.
 use Rattle.std.specs.Prelude.{◌≡◌, ℕ, Bool, true, false, IsTrue, List, [], ◌∷◌, ◌++◌, Option, Some, None, Contains}
 use Rattle.wasm_tree.specs.declared.types.ValType.{ValType}
 use Rattle.wasm_tree.specs.declared.types.FuncType.{FuncType}
@@ -41,7 +41,8 @@ loop_label (Some f) = f.params
 
 module _ (types : List FuncType) (m : Remap) (listed : List ℕ) (codes : Codes) where
   abbrev mutual
-    -- the code stands for the instruction under these labels; a block holds what stands for what it held, under one more
+    -- the code stands for the instruction under these labels; a block has its new type, and holds what stands for what it
+    -- held, under one label more
     pub StandsFor : Labels → Instr → List Instr → Type 0
     StandsFor labels (Block' ty n body) code = (b : List Instr) × RowReplaced (block_label (signature_of types ty) ∷ labels) body b × (code ≡ Block (new_type m ty) b ∷ [])
     StandsFor labels (Loop' ty n body) code = (b : List Instr) × RowReplaced (loop_label (signature_of types ty) ∷ labels) body b × (code ≡ Loop (new_type m ty) b ∷ [])
@@ -71,13 +72,16 @@ calls_listed listed _ = false
 abbrev pub OthersAgree : Remap → List ℕ → Context → Context → Instr-F Instr → Type 0
 OthersAgree m listed c d l = calls_listed listed l ≡ false → LayerAgrees m c d l
 
--- each index that the layer itself names and its entry stand for addresses that code may name as one, and for equal types; again but the function of such a call
-abbrev pub OthersNamed : Pairing → Remap → List ℕ → Inst → Inst → Instr-F Instr → Type 0
-OthersNamed R m listed i j l = calls_listed listed l ≡ false → LayerNames R m i j l
+-- a call that is replaced is of a function at an address of the list; the function of another and its entry stand for addresses that code may name as one
+abbrev pub CallNamed : Pairing → Remap → Bool → Inst → Inst → ℕ → Type 0
+CallNamed R m true i j f = (a : ℕ) × (at i.funcs f ≡ Gives a) × R.listed a
+CallNamed R m false i j f = LayerNames R m i j (Instr-F.Call f)
 
--- each function on the list is at an address for whose calls other code may stand
-abbrev pub MayBeReplaced : Pairing → List ℕ → Inst → Type 0
-MayBeReplaced R listed i = (f : ℕ) → IsTrue (is_among listed f) → (a : ℕ) × (at i.funcs f ≡ Gives a) × R.listed a
+-- each index that the layer itself names and its entry stand for addresses that code may name as one, or for equal types, or neither is there; but for the
+-- function of a call that is replaced
+abbrev pub OthersNamed : Pairing → Remap → List ℕ → Inst → Inst → Instr-F Instr → Type 0
+OthersNamed R m listed i j (Instr-F.Call f) = CallNamed R m (is_among listed f) i j f
+OthersNamed R m listed i j l = LayerNames R m i j l
 
 -- ---- what it needs to stay well typed ----
 

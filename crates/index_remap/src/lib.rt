@@ -1,4 +1,4 @@
-//! Trees with other indices: the call that makes one, and the laws that every step of it agrees and that its runs show the same.
+//! Trees with other indices or with their references declared: the calls that make them, and the laws that related steps agree and related runs show the same.
 #![tactic(auto)]
 
 mod body;
@@ -19,35 +19,37 @@ pub use each::renumber_func;
 pub use remap::{Remap, renumber_const, renumber_export_desc};
 pub use renumbering::renumber;
 
-/// From stores that correspond under a one-to-one relation of addresses, and configurations that are related, one step of each agrees (WebAssembly Core 2.0,
-/// section 4.4): both trap, or both are ill typed, or both come to related values and again to what corresponds (`steps`), of which the embedder is shown the same
-/// (`shown`). Only the entries that the step touches need to be related. What comes next has to name related addresses, and other code only such as code may name
-/// as one; where these are the same, it does (`known`). A trap ends at the nearest mark, which alone needs to be related (`traps`). Of the functions of a list it
-/// is enough that their types are equal, and that both or neither is the environment's own; in place of a call of one of them other code may stand, and of a step
-/// that begins such a call nothing is said. A body that is well typed stays so with its indices replaced by their entries, and with such calls replaced, in blocks
-/// too, by code that has the type of the function, whatever labels stand around it; the index of such a call needs no entry (section 3.3, `typed`). That this is
-/// code of which `steps` speaks says `renumbered_code_is_related`.
+/// One step of each agrees, from stores that correspond under a one-to-one relation of addresses (functions need not be one to one) and from configurations that are
+/// related (WebAssembly Core 2.0, section 4.4): both come to related values and again to what corresponds, or both trap, or both are ill typed (`steps`). Of related
+/// values the embedder is shown the same, where the functions that it was shown before are related (`shown`). Only the entries that the step touches need to be
+/// related. The instruction that comes next has to name related addresses, other code only such as code may name as one; where all of these are related, it does
+/// (`known`). A trap ends at the nearest mark: where these are related the same waits there, and nothing above needs to be (`traps`).
+///
+/// Of the functions of a list it is enough that their types are equal, and that neither is the environment's own or both are the same one. In place of a call of one
+/// of them other code may stand, and of a step that begins a call of one, directly or through a table, nothing is said.
+///
+/// A body is related to itself with other indices, where each index that it names and its entry stand for addresses that code may name as one, or for equal types, or
+/// neither is there (`code`); so it is where other code stands in place of calls of functions at addresses of the list, whose indices need no entry (`replaced`). With
+/// no function on the list the body with other indices is such code (`unlisted`). Over one instance, whose addresses code may name as one with themselves, code is
+/// related to itself (`itself`).
+///
+/// A body that is well typed stays so with other indices, over the same locals, results and labels, where the indices of the other instructions agree with their
+/// entries, and what stands in place of a call has the type of the function under the labels where it stands (section 3.3, `typed`).
 pub fn steps_agree()
     ensures steps { StepsAgree }
     ensures known { NamedAreKnown }
     ensures shown { ShownAgree }
     ensures traps { TrapsAgree }
-    ensures typed { TypingIsKept }
-{}
-
-/// A body with other indices is related to what it was, where each index that it names and its entry stand for the same: the relation of which `steps_agree` speaks
-/// (`code`). So is one in which code stands in place of each call of a function of a list, where the others of its indices do (`replaced`); with no function on the
-/// list it is the body with other indices (`unlisted`). Over one instance, whose addresses code may name as one with themselves, code is related to itself
-/// (`itself`).
-pub fn renumbered_code_is_related()
     ensures code { RenumberedCodeIsRelated }
     ensures replaced { ReplacedCodeIsRelated }
     ensures unlisted { UnlistedAreRenumbered }
     ensures itself { CodeIsRelatedToItself }
+    ensures typed { TypingIsKept }
 {}
 
-/// Two runs that are related show the same events, in however many steps (`events`): each step leaves them related (`ticks`). Once they are instantiated, it
-/// leaves as it was what nothing of the first is related to (`others`).
+/// Two runs that are related, where all that code names is related and no function is set apart, show the same events in however many steps (`events`): each step
+/// shows the same and leaves them related (`ticks`). Once they are instantiated it leaves the functions of the second as they were, and all else that nothing of the
+/// first is related to (`others`).
 pub fn related_runs_show_the_same()
     ensures events { RelatedRunsShowTheSame }
     ensures ticks { RelatedTicksAgree }

@@ -3,7 +3,7 @@
 
 ghost use Rattle.merge_worlds.specs.Laws.{MergedModulesShowTheSame};
 
-use index_remap::renumbered_code_is_related;
+use index_remap::steps_agree;
 use merge_validity::{
     linked_imports_have_ends, maps_have_entries, merged_modules_are_valid, starts_take_nothing,
 };
@@ -19,7 +19,7 @@ pub fn merged_modules_show_the_same()
     ensures same { MergedModulesShowTheSame }
 {
     valid_where_items_hold();
-    renumbered_code_is_related();
+    steps_agree();
     imports_of_one_module_stay();
     own_entities_correspond();
     code_that_fits_is_named();

@@ -15,7 +15,7 @@ ghost use Rattle.permuted_worlds.specs.Permuted.{OrderIsNotSeen};
 ghost use Rattle.permuted_worlds.specs.Silent.{BudgetedRunsShowTheSame, SlowerRunsShowTheSame};
 ghost use Rattle.permuted_worlds.specs.Starts.{OneStartMayCallSeveral};
 
-use index_remap::{related_runs_show_the_same, renumbered_code_is_related};
+use index_remap::{related_runs_show_the_same, steps_agree};
 use remap_typing::renumbering_keeps_typing;
 use wasm_meaning::what_stands_below_is_not_seen;
 
@@ -48,7 +48,7 @@ pub fn related_instances_show_the_same()
 pub fn permuted_worlds_show_the_same()
     ensures same { OrderIsNotSeen }
 {
-    renumbered_code_is_related();
+    steps_agree();
     related_instances_show_the_same();
     renumbering_keeps_typing();
 }

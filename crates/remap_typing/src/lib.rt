@@ -20,7 +20,7 @@ ghost use Rattle.remap_typing.specs.Along.{AgreesAlong, CoversContext};
 ghost use Rattle.remap_typing.specs.Trees.{ConstStands, Covers, ImportsAgree, ItemStands, ReadsImport, RefsAgree, TreesAgree};
 ghost use Rattle.remap_typing.specs.ButForReferences.{HoldsButForReferences, IsValidButForReferences};
 
-use index_remap::{renumbered_code_is_related, steps_agree};
+use index_remap::steps_agree;
 use wasm_valid::valid_where_items_hold;
 
 /// A body that is well typed stays so where each index is replaced by its entry (WebAssembly Core 2.0, section 3.3): where all that has an entry agrees with
@@ -35,7 +35,6 @@ pub fn renumbering_keeps_typing()
     ensures tree_entries { (m : Remap) (t : Module) → IsValid t → Covers m t → IsTrue (fits_tree m t) }
 {
     steps_agree();
-    renumbered_code_is_related();
     valid_where_items_hold();
 }
 

@@ -70,11 +70,19 @@ level_here h = record { values = h.values; code = h.rest; gives = h.gives; takes
 abbrev pub branch : Body → ℕ → Outcome Act
 branch h n = bind (at (level_here h ∷ h.outer) n) (λ t. bind (split_at t.takes h.values) (λ p. resume h p.0 t.back (past h.outer n)))
 
+-- the label and what a branch to it takes have to be there, also where it is not taken
 abbrev pub branch_if : Body → ℕ → Outcome Act
-branch_if h n = bind (pop_num W32 h.values) (λ p. cond (nat_eq p.0 0) (Gives (go (with_values h p.1))) (branch (with_values h p.1) n))
+branch_if h n = bind (pop_num W32 h.values) (λ p. bind (branch (with_values h p.1) n) (λ taken. Gives (cond (nat_eq p.0 0) (go (with_values h p.1)) taken)))
 
+-- what a branch to each of these labels comes to
+abbrev pub branches : Body → List ℕ → Outcome (List Act)
+branches h [] = Gives []
+branches h (n ∷ ns) = bind (branch h n) (λ a. bind (branches h ns) (λ rest. Gives (a ∷ rest)))
+
+-- each label and what a branch to it takes have to be there, also those that are not chosen
 abbrev pub branch_table : Body → List ℕ → ℕ → Outcome Act
-branch_table h ns n = bind (pop_num W32 h.values) (λ p. branch (with_values h p.1) (or_other (at ns p.0) n))
+branch_table h ns n =
+    bind (pop_num W32 h.values) (λ p. bind (branch (with_values h p.1) n) (λ last. bind (branches (with_values h p.1) ns) (λ taken. Gives (or_other (at taken p.0) last))))
 
 -- ---- blocks ----
 

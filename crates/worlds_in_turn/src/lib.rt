@@ -3,7 +3,7 @@
 
 ghost use Rattle.worlds_in_turn.specs.Laws.{TurnsAreNotSeen};
 
-use index_remap::{related_runs_show_the_same, renumbered_code_is_related};
+use index_remap::{related_runs_show_the_same, steps_agree};
 use permuted_worlds::own_entities_correspond;
 use wasm_meaning::what_stands_below_is_not_seen;
 use wasm_valid::valid_where_items_hold;
@@ -16,7 +16,7 @@ pub fn turns_are_not_seen()
 {
     valid_where_items_hold();
     what_stands_below_is_not_seen();
-    renumbered_code_is_related();
+    steps_agree();
     related_runs_show_the_same();
     own_entities_correspond();
 }

@@ -2,6 +2,9 @@ use Rattle.index_remap.specs.Laws.{passed}
 use Rattle.index_remap.proofs.AboveSteps.{step_above, traps_agree}
 use Rattle.index_remap.proofs.Known.{entries_known}
 use Rattle.index_remap.proofs.Shown.{show_all_rel}
+use Rattle.index_remap.proofs.RenumberedCode.{renumbered_rel, replaced_rel}
+use Rattle.index_remap.proofs.Unlisted.{unlisted_renumbered}
+use Rattle.index_remap.proofs.ItselfCode.{code_self}
 use Rattle.index_remap.proofs.Replacing.{replaced_typed}
 use Rattle.index_remap.proofs.steps_agree.Goals as goal
 
@@ -10,6 +13,10 @@ returns c = record {
   steps = λ of named l apart s t es fs cs ds p q touches free known. step_above (passed of named l) apart cs ds p q touches free known;
   known = λ of named l. entries_known (passed of named l);
   shown = λ of named l apart s t vs ws xs ys h v x. show_all_rel (passed of named l) apart h v xs ys x;
-  traps = λ of named l s t above beyond es fs cs ds e f. traps_agree (passed of named l) cs ds s t above beyond es fs e f;
+  traps = λ of named l. traps_agree (passed of named l);
+  code = λ of named l m i j code h. renumbered_rel (passed of named l) m i j code h;
+  replaced = λ of named l m i j types labels listed codes is js h k. replaced_rel (passed of named l) m i j types listed codes labels is js h k;
+  unlisted = unlisted_renumbered;
+  itself = λ of named l i code h. code_self (passed of named l) i h code;
   typed = replaced_typed;
 }

@@ -32,7 +32,7 @@ returns c =
       alone_spaces = alone.spaces;
       own = own;
       named = c.code_that_fits_is_named.ensures.named;
-      code = c.renumbered_code_is_related.ensures.code;
+      code = c.steps_agree.ensures.code;
     } in
     record {
       same = λ parts mode can env offers named moves n.

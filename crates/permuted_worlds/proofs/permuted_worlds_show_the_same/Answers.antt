@@ -10,7 +10,7 @@ pub returns : goal.returns
 returns c = record {
   same = λ t places funcs valid order env offers named moves n.
       let fit = fits_parts (moving places t) t (c.renumbering_keeps_typing.ensures.tree_entries (moving places t) t valid (covers places funcs t order)) in
-      let instances = instances_rel env places t funcs order fit c.renumbered_code_is_related.ensures.code in
+      let instances = instances_rel env places t funcs order fit c.steps_agree.ensures.code in
       let same = c.related_instances_show_the_same.ensures.same (related env places t) (one_to_one env places t order) (alone t) (alone (permuted places funcs t)) env instances moves n in
       (whole same, whole (sym same));
 }

@@ -6,8 +6,8 @@ use Rattle.remap_typing.proofs.renumbering_keeps_typing.Goals as goal
 
 pub returns : goal.returns
 returns c = record {
-  bodies = kept_along c.steps_agree.ensures.typed c.renumbered_code_is_related.ensures.unlisted;
-  by_index = kept_by_index c.steps_agree.ensures.typed c.renumbered_code_is_related.ensures.unlisted;
+  bodies = kept_along c.steps_agree.ensures.typed c.steps_agree.ensures.unlisted;
+  by_index = kept_by_index c.steps_agree.ensures.typed c.steps_agree.ensures.unlisted;
   constants = λ m t u e k. const_kept m t u k e;
   entries = λ m d is ps rs k. body_fits m d k is ps rs;
   tree_entries = λ m t valid k. tree_fits m t k c.valid_where_items_hold.ensures valid;
