@@ -24,3 +24,4 @@ pub mod Unlisted
 pub mod RenumberedCode
 pub mod Others
 pub mod ItselfCode
+mod ReplacedRows

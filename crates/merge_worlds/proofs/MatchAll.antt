@@ -1,5 +1,5 @@
 -- All imports of the parts match where all imports of the merged module do.
-use Rattle.std.proofs.Common.{◌≡◌, ℕ, zero, suc, ◌+◌, ◌-◌, ◌≤◌, List, length, Option, Some, None, true, refl, sym, ap, ap₂, subst, ◌∙◌}
+use Rattle.std.proofs.Common.{◌≡◌, ℕ, zero, suc, ◌+◌, ◌-◌, ◌<◌, ◌≤◌, List, length, Option, Some, None, true, refl, sym, ap, ap₂, subst, ◌∙◌, arith}
 use Rattle.std.specs.Prelude.{nat_eq}
 use Rattle.std.proofs.lemmas.Bool.{eqb-true, eq-eqb}
 use Rattle.wasm_tree.specs.declared.types.Limits.{Limits}
@@ -8,13 +8,14 @@ use Rattle.wasm_tree.specs.declared.module.Module.{Module}
 use Rattle.wasm_meaning.specs.State.{Inst, Store}
 use Rattle.wasm_meaning.specs.Linking.{Part, Site, End, Defined, Outside, Kind, then_some, place, import_at, imports_of, kind_of_export, index_of_export, same_site, is_outside, sites, linked_end, limits_of, met_limits}
 use Rattle.wasm_meaning.specs.Environment.{Environment, Thing, owned_of, all_of}
-use Rattle.wasm_meaning.specs.World.{base, thing_at, outside_thing, thing_of, imported_thing, own_store, stores_from, is_matched}
+use Rattle.wasm_meaning.specs.World.{base, defined_count, thing_at, outside_thing, thing_of, imported_thing, own_store, stores_from, is_matched}
 use Rattle.export_names.specs.declared.mode.Mode.{Mode}
 use Rattle.merge_terms.specs.Faults.{External, asked_at, stays}
 use Rattle.merge_terms.specs.Joined.{joined_module}
 use Rattle.merge_validity.specs.Joinable.{CanBeJoined}
 use Rattle.merge_worlds.specs.Instances.{InstancesAgree}
 use Rattle.merge_worlds.specs.Stores.{StoresAlike}
+use Rattle.permuted_worlds.proofs.Defined.{defined_at}
 use Rattle.permuted_worlds.specs.Alone.{one, site, ImportsStandForTheEnvironments}
 use Rattle.merge_validity.specs.Ended.{EndsInside, EndsOutside, Ended, inside, outside, LinkedImportsEnd, StayingImportsEndThere, SitesAreImports, TypesHavePlaces}
 use Rattle.merge_worlds.proofs.MatchLists.{bool_same, both_true, true_both, all_each, each_all}
@@ -158,10 +159,11 @@ module _ (ends_law : LinkedImportsEnd) (stays_law : StayingImportsEndThere) (sit
           let e = w.entity in
           let k = kind_of_export e.what in
           let a = agree.each e.part w.of w.is_part in
+          let follows : length (imports_of k w.of) ≤ index_of_export e.what = subst (λ (k : Kind). length (imports_of k w.of) ≤ index_of_export e.what) (sym w.kind) w.follows in
+          let within : index_of_export e.what < length (imports_of k w.of) + defined_count k w.of = subst (λ (k : Kind). index_of_export e.what < length (imports_of k w.of) + defined_count k w.of) (sym w.kind) w.within in
           let thing : imported_thing env parts t ≡ Some (thing_at k (base env parts k e.part + (index_of_export e.what - length (imports_of k w.of)))) =
           ap (λ o. then_some o (thing_of env parts)) w.end
-          ∙ ap (λ o. then_some {A = Module} {B = Thing} o (λ m. Some (thing_at (kind_of_export e.what) (base env parts (kind_of_export e.what) e.part + (index_of_export e.what - length (imports_of (kind_of_export e.what) m)))))) w.is_part in
-          let follows : length (imports_of k w.of) ≤ index_of_export e.what = subst (λ (k : Kind). length (imports_of k w.of) ≤ index_of_export e.what) (sym w.kind) w.follows in
+          ∙ defined_at env parts e w.of w.is_part (omega (arith, follows, within)) in
           matched_at env parts s t i w.demand at w.asks
           ∙ there_fitting s w.demand (imported_thing env parts t) _ thing (defined_fits env parts insts s made e.part w.of a.0 w.is_part a.1 a.2.own_types e.what w.demand w.thing w.is follows w.same w.meets)
 

@@ -19,6 +19,7 @@ use Rattle.merge_validity.proofs.Lists.{then_is}
 use Rattle.merge_validity.proofs.ByPart.{before, defined_is}
 use Rattle.merge_validity.proofs.Same.{kind_is}
 use Rattle.permuted_worlds.specs.Owned.{SharesOwn, OwnEntitiesCorrespond}
+use Rattle.permuted_worlds.proofs.Defined.{defined_at}
 use Rattle.permuted_worlds.proofs.Places.{place_rel, opt_self}
 use Rattle.merge_worlds.specs.Shared.{shared_count, is_shared, sharing}
 use Rattle.merge_worlds.proofs.Chosen.{place_back, past_end}
@@ -161,7 +162,7 @@ module _ (env : Environment) (parts : List Part) where
         let low = defined_low k parts e.part w.of w.is_part in
         let same : kind_of_export e.what ≡ k = w.kind ∙ kind in
         let thing : then_some (defined_thing env parts e) (address_of k) ≡ Some (base env parts k e.part + j) =
-        ap (λ o. then_some (then_some o (λ m. Some (thing_at (kind_of_export e.what) (base env parts (kind_of_export e.what) e.part + (index_of_export e.what - length (imports_of (kind_of_export e.what) m)))))) (address_of k)) w.is_part
+        ap (λ o. then_some o (address_of k)) (defined_at env parts e w.of w.is_part (subst (λ l. index_of_export e.what - length (imports_of l w.of) < defined_count l w.of) (sym same) (omega (arith, follows, within))))
         ∙ ap (λ l. address_of k (thing_at l (base env parts l e.part + (index_of_export e.what - length (imports_of l w.of))))) same
         ∙ address_at k (base env parts k e.part + j) in
         let number : base env parts k e.part + j ≡ own_count k env + d = omega arith in

@@ -3,6 +3,7 @@ pub mod Led
 mod Starts
 pub mod FirstStep
 pub mod Places
+pub mod Defined
 pub mod Named
 pub mod Alone
 pub mod Owned

@@ -54,12 +54,12 @@ abbrev pub added_as : Store → Module → Inst → Option Added
 added_as s m i =
     then_some (store_with (const_value s.globals i) m i) (λ t. Some (record { inst = i; filled = own_segments (const_value s.globals i) m i (joined_stores s t) }))
 
--- None where an import does not match. (It is none as well where an index names nothing or an item is no reference, which no valid module has.) Constant
--- expressions read the imported globals as they are now.
+-- None where an import does not match. (In a module that is not valid it is none as well where an index names nothing or an item is no reference; but a segment whose
+-- table, memory or offset is not there traps, and a start that is not there is none.) Constant expressions read the imported globals as they are now.
 abbrev pub added : Store → Module → List Thing → Option Added
 added s m things = cond (all_match s m m.imports things) (added_as s m (next_inst s m things)) None
 
--- where this tells what each import stands for
+-- where this tells what each import stands for; none where it tells nothing of one
 abbrev pub added_with : (Import → Option Thing) → Store → Module → Option Added
 added_with supplied s m = then_some (all_there supplied m.imports) (added s m)
 

@@ -12,7 +12,7 @@ use Rattle.wasm_meaning.specs.Loader.{LoaderWorld, events_loaded}
 abbrev pub RunsAreDetermined : Type 0
 RunsAreDetermined = (v w : World) (d e : Environment) (ms ns : List Move) (m n : ℕ) → v ≡ w → d ≡ e → ms ≡ ns → m ≡ n → events v d ms m ≡ events w e ns n
 
--- so do equal modules under a loader
+-- so do equal worlds under a loader
 abbrev pub LoadedRunsAreDetermined : Type 0
 LoadedRunsAreDetermined = (v w : LoaderWorld) (d e : Environment) (ms ns : List Move) (m n : ℕ) → v ≡ w → d ≡ e → ms ≡ ns → m ≡ n → events_loaded v d ms m ≡ events_loaded w e ns n
 

@@ -4,7 +4,7 @@ use Rattle.wasm_tree.specs.declared.instr.Instr.{Instr, out-Instr}
 use Rattle.wasm_tree.specs.declared.instr.Instr.TheOpen.{Instr-F}
 use Rattle.wasm_meaning.specs.Outcomes.{Outcome, Gives, Traps, IllTyped, bind, at, put, onto}
 use Rattle.wasm_num.specs.Operations.{W32, W64, wrapped}
-use Rattle.wasm_meaning.specs.State.{Val, Num, Ref, Inst, Func, Code, Own, Placeholder, Elem, Data, Store, Change, Keep, SetGlobal, SetMemory, SetTable, DropElem, DropData, Level, Frame, Entry, Running, Caller, Host, Starter, Mark, Opening, Waiting, Growing, Env, Body, Act, Goes, Calls, AsksGrow, Ends, Next, Ran, CallsOwn, WaitsGrowth, CallsPlaceholder, EndsCall}
+use Rattle.wasm_meaning.specs.State.{Val, Num, Ref, Func, Code, Own, Placeholder, Elem, Data, Store, Change, Keep, SetGlobal, SetMemory, SetTable, DropElem, DropData, Level, Frame, Entry, Running, Caller, Host, Starter, Mark, Opening, Waiting, Growing, Env, Body, Act, Goes, Calls, AsksGrow, Ends, Next, Ran, CallsOwn, WaitsGrowth, CallsPlaceholder, EndsCall}
 use Rattle.wasm_meaning.specs.Values.{pop, pop_typed, zeros, null_of, unary, binary, ref_is_null, select_any, select_typed, go, with_values, on_values, pushes, local_get, local_set, local_tee, global_get, global_set, ref_func}
 use Rattle.wasm_meaning.specs.Memory.{load, store, memory_size, memory_grow, memory_init, data_drop, memory_copy, memory_fill}
 use Rattle.wasm_meaning.specs.Tables.{table_get, table_set, table_size, table_grow, table_fill, table_copy, table_init, elem_drop}

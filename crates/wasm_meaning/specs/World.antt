@@ -100,10 +100,18 @@ own_key m i = own_key_of m (pair_of i) i.desc
 abbrev pub outside_thing : Owned → List Part → Site → Option Thing
 outside_thing owned parts s = then_some (module_at parts s.part) (λ m. then_some (import_at parts s) (λ i. then_some (own_key m i) (λ key. given (owned_at owned key))))
 
+abbrev pub numbers : (from count : ℕ) → List ℕ
+numbers n zero = []
+numbers n (suc count) = n ∷ numbers (suc n) count
+
+-- the addresses of what a part defines
+abbrev pub defined_addresses : Environment → List Part → Kind → ℕ → Module → List ℕ
+defined_addresses env parts k p m = numbers (base env parts k p) (defined_count k m)
+
 abbrev pub defined_thing : Environment → List Part → Entity → Option Thing
 defined_thing env parts e =
     then_some (module_at parts e.part)
-    (λ m. let k = kind_of_export e.what in Some (thing_at k (base env parts k e.part + (index_of_export e.what - length (imports_of k m)))))
+    (λ m. let k = kind_of_export e.what in then_some (place (defined_addresses env parts k e.part m) (index_of_export e.what - length (imports_of k m))) (λ a. Some (thing_at k a)))
 
 abbrev pub thing_of : Environment → List Part → End → Option Thing
 thing_of env parts (Defined e) = defined_thing env parts e
@@ -117,15 +125,11 @@ abbrev pub all_there : {A B : Type 0} → (A → Option B) → List A → Option
 all_there f [] = Some []
 all_there f (x ∷ xs) = then_some (f x) (λ y. then_some (all_there f xs) (λ ys. Some (y ∷ ys)))
 
-abbrev pub numbers : (from count : ℕ) → List ℕ
-numbers n zero = []
-numbers n (suc count) = n ∷ numbers (suc n) count
-
 -- the addresses of an index space: of the imports, then of what is defined
 abbrev pub space : Environment → List Part → Kind → ℕ → Module → Option (List ℕ)
 space env parts k p m =
     then_some (all_there (λ n. then_some (imported_thing env parts (record { part = p; import = n })) (address_of k)) (imports_of k m))
-    (λ imported. Some (imported ++ numbers (base env parts k p) (defined_count k m)))
+    (λ imported. Some (imported ++ defined_addresses env parts k p m))
 
 -- element and data segments have addresses by part
 abbrev pub elems_before : List Part → ℕ → ℕ
@@ -383,8 +387,9 @@ seen_as insts v = then_some (place insts v.1.part) (λ i. then_some (address_in 
 abbrev pub begun : Environment → World → List Inst → List (Text × Thing) → Filled → Begun
 begun env w insts view filled = record { store = filled.store; trapped = filled.trapped; starts = starts_of w.parts insts; view = view; owned = owned_of env }
 
--- None where an import does not match or a constant read has no end. (In a module that is not valid it is none as well where an index names nothing or an item is no
--- reference; a segment whose table, memory or offset is not there traps. An offset whose read has no end stands on a global whose read has none either.)
+-- None where an import does not match or a constant read has no end, or a name of the view stands for nothing. (In a module that is not valid it is none as well where
+-- an index names nothing or an item is no reference; but a segment whose table, memory or offset is not there traps, and a start that is not there is none. An offset
+-- whose read has no end stands on a global whose read has none either.)
 abbrev pub instantiate : Environment → World → Option Begun
 instantiate env w =
     then_some (insts_from env w.parts 0 w.parts) (λ insts. then_some (stores_from env w.parts insts (own_store env) 0 w.parts insts) (λ s. then_some (all_there (seen_as insts) w.view) (λ view.

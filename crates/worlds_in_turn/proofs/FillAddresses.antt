@@ -10,6 +10,7 @@ use Rattle.wasm_meaning.specs.Linking.{Part, Site, Entity, End, Defined, Outside
 use Rattle.wasm_meaning.specs.Environment.{Environment, Thing, OwnKey}
 use Rattle.wasm_meaning.specs.World.{all_there, defined_count, own_count, base, thing_at, address_of, import_type, own_key_of, own_key, thing_of, imported_thing, numbers}
 use Rattle.wasm_meaning.specs.InTurn.{JoinsEarlier}
+use Rattle.permuted_worlds.proofs.Defined.{defined_at}
 use Rattle.worlds_in_turn.proofs.Things.{then_is, some_is, IsInst, space_in, in_space, space_is, all_place, place_front}
 use Rattle.worlds_in_turn.proofs.Joined.{ExportsThere}
 use Rattle.worlds_in_turn.proofs.Reached.{defined_next, defined_more}
@@ -67,11 +68,11 @@ module _ (env : Environment) (parts : List Part) where
         go : (end : End) → end_of parts s ≡ Some end → thing_of env parts end ≡ Some x → Low parts s.part end → AtDefined k s a ⊎ AtOwn k s a
         go (Defined e) ends thing (inside low) =
             let kd = kind_of_export e.what in
-            let is : Some (thing_at kd (base env parts kd e.part + (index_of_export e.what - length (imports_of kd low.of)))) ≡ Some x = sym (ap (λ o. then_some o (λ m. let k = kind_of_export e.what in Some (thing_at k (base env parts k e.part + (index_of_export e.what - length (imports_of k m)))))) low.is_part) ∙ thing in
-            let both = same_thing k kd _ a (ap (address_of k) (some_is is) ∙ has) in
             let l = low.within in
             let f = low.follows in
             let less : index_of_export e.what - length (imports_of kd low.of) < defined_count kd low.of = omega (arith, l, f) in
+            let is = sym (defined_at env parts e low.of low.is_part less) ∙ thing in
+            let both = same_thing k kd _ a (ap (address_of k) (some_is is) ∙ has) in
             inl (record {
               entity = e;
               end = ends;

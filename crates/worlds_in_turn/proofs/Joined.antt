@@ -94,8 +94,7 @@ module _ (env : Environment) (parts : List Part) (insts : List Inst) (are : inst
         let e = then_is (end_of parts (record { part = p; import = n })) (thing_of env parts) x h in
         let is_source = module_is parts q part at_part in
         let is_inst = inst_is env parts q part.«module» inst (inst_of_part q part.«module» inst is_source at_inst) in
-        let low = there q part.«module» i.field d is_source named in
-        go e.0 e.1 e.2 (imported_as parts (record { part = q; what = d })) refl (defined_is env parts q part.«module» is_source inst is_inst d low) (imported_is env parts q part.«module» is_source inst is_inst d)
+        go e.0 e.1 e.2 (imported_as parts (record { part = q; what = d })) refl (defined_is env parts q part.«module» is_source inst is_inst d) (imported_is env parts q part.«module» is_source inst is_inst d)
       where
         go : (end : End) → end_of parts (record { part = p; import = n }) ≡ Some end → thing_of env parts end ≡ Some x → (o : Option Site) → imported_as parts (record { part = q; what = d }) ≡ o →
             (imported_as parts (record { part = q; what = d }) ≡ None → address_in inst d ≡ thing_of env parts (Defined (record { part = q; what = d }))) →

@@ -1,5 +1,5 @@
 -- What an instruction writes extends what stood there, and so each step of a run extends its store.
-use Rattle.std.proofs.Common.{◌≡◌, ℕ, zero, suc, List, [], ◌∷◌, Bool, true, false, cond, refl, sym, ◌∙◌, arith}
+use Rattle.std.proofs.Common.{◌≡◌, ℕ, zero, suc, length, List, [], ◌∷◌, Bool, true, false, cond, refl, sym, ◌∙◌, arith}
 use Rattle.std.specs.Prelude.{nat_eq}
 use Rattle.wasm_tree.specs.declared.instr.Instr.{Instr, out-Instr}
 use Rattle.wasm_tree.specs.declared.instr.Instr.TheOpen.{Instr-F}
@@ -140,7 +140,7 @@ module _ (env : Env) where
   open_level_all h vs params gives takes body back = with_is (pop_typed params vs) _ (λ p _. just keeps)
 
   open_block_all : (h : Body) (vs : List Val) (b : BlockType) (body : List Instr) → All (open_block env h vs b body)
-  open_block_all h vs b body = with_is (shape_of env.inst b) _ (λ t _. open_level_all h vs _ _ _ body [])
+  open_block_all h vs b body = with_is (shape_of env.inst b) _ (λ t _. open_level_all h vs t.params (length t.results) (length t.results) body [])
 
   -- ---- every instruction ----
 
@@ -148,7 +148,7 @@ module _ (env : Env) where
   exec_all Instr-F.Unreachable h = stopped
   exec_all Instr-F.Nop h = just keeps
   exec_all (Instr-F.Block b c) h = open_block_all h h.values b c
-  exec_all (Instr-F.Loop b c) h = with_is (shape_of env.inst b) _ (λ t _. open_level_all h h.values _ _ _ c _)
+  exec_all (Instr-F.Loop b c) h = with_is (shape_of env.inst b) _ (λ t _. open_level_all h h.values t.params (length t.results) (length t.params) c _)
   exec_all (Instr-F.If b c d) h = with_is (pop_num W32 h.values) _ (λ p _. open_block_all h p.1 b _)
   exec_all (Instr-F.Br n) h = branch_all h n
   exec_all (Instr-F.BrIf n) h = with_is (pop_num W32 h.values) _ (λ p _. bind_all (branch_all (with_values h p.1) n) (λ a _ g. just (either (Grows env.store) (nat_eq p.0 0) keeps g)))

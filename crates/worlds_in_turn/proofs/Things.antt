@@ -11,7 +11,7 @@ use Rattle.wasm_meaning.specs.State.{Inst}
 use Rattle.wasm_meaning.specs.Paths.{Next, Ends, Goes, walk, walk_on}
 use Rattle.wasm_meaning.specs.Linking.{same_kind, kind_of_import, Part, Site, Entity, End, Kind, Functions, Tables, Memories, Globals, place, then_some, places, has_kind, kind_of_export, index_of_export, imports_of, module_at, imported_as, import_step, sites, end_of}
 use Rattle.wasm_meaning.specs.Environment.{Environment, Thing, FuncAt, TableAt, MemoryAt, GlobalAt}
-use Rattle.wasm_meaning.specs.World.{defined_count, base, thing_at, address_of, defined_thing, imported_thing, all_there, numbers, space, elems_before, datas_before, inst_of, insts_from, address_in}
+use Rattle.wasm_meaning.specs.World.{defined_count, base, thing_at, address_of, defined_addresses, defined_thing, imported_thing, all_there, numbers, space, elems_before, datas_before, inst_of, insts_from, address_in}
 use Rattle.wasm_meaning.specs.InTurn.{addresses_of}
 
 -- ---- options ----
@@ -254,15 +254,15 @@ module _ (env : Environment) (parts : List Part) (p : ℕ) (m : Module) (is_part
   as_import = ap (λ o. then_some o (λ m. then_some (place (imports_of k m) (index_of_export d)) (λ n. Some (record { part = p; import = n })))) is_part
 
   -- what a part defines
-  pub defined_is : index_of_export d < length (imports_of k m) + defined_count k m → imported_as parts entity ≡ None → address_in i d ≡ defined_thing env parts entity
-  defined_is low none =
+  pub defined_is : imported_as parts entity ≡ None → address_in i d ≡ defined_thing env parts entity
+  defined_is none =
       let s = space_is env parts k p m (space_in i k) (in_space env parts p m i inst k) in
       let high = past_none (imports_of k m) (index_of_export d) (then_none _ _ (sym as_import ∙ none)) in
       let l = all_length _ (imports_of k m) s.0 s.1 in
       let y = index_of_export d - length (imports_of k m) in
       let e : length s.0 + y ≡ index_of_export d = omega (arith, high, l) in
-      let at = ap (λ xs. place xs (index_of_export d)) (sym s.2) ∙ ap (place (s.0 ++ numbers (base env parts k p) (defined_count k m))) (sym e) ∙ place_behind s.0 _ y ∙ numbers_place (base env parts k p) (defined_count k m) y (omega (arith, low, high)) in
-      address_is i d ∙ ap (λ o. then_some o (λ a. Some (thing_at k a))) at ∙ sym (ap (λ o. then_some o (λ m. let k = kind_of_export d in Some (thing_at k (base env parts k p + (index_of_export d - length (imports_of k m)))))) is_part)
+      let at = ap (λ xs. place xs (index_of_export d)) (sym s.2) ∙ ap (place (s.0 ++ numbers (base env parts k p) (defined_count k m))) (sym e) ∙ place_behind s.0 _ y in
+      address_is i d ∙ ap (λ o. then_some o (λ a. Some (thing_at k a))) at ∙ sym (ap (λ o. then_some o (λ m. let k = kind_of_export d in then_some (place (defined_addresses env parts k p m) (index_of_export d - length (imports_of k m))) (λ a. Some (thing_at k a)))) is_part)
     where
       then_none : {A B : Type 0} (o : Option A) (f : A → B) → then_some o (λ a. Some (f a)) ≡ None → o ≡ None
       then_none None f e = refl
