@@ -58,7 +58,7 @@ ExportsThere parts = (p : ℕ) (m : Module) (field : Text) (d : ExportDesc) → 
 pub module_is : (parts : List Part) (p : ℕ) (part : Part) → place parts p ≡ Some part → module_at parts p ≡ Some part.«module»
 module_is parts p part e = ap (λ o. then_some o (λ part. Some part.«module»)) e
 
-module _ (env : Environment) (parts : List Part) (insts : List Inst) (are : insts_from env parts 0 parts ≡ Some insts) (size : length insts ≡ length parts) (there : ExportsThere parts) (earlier : JoinsEarlier parts) where
+module _ (env : Environment) (parts : List Part) (insts : List Inst) (are : insts_from env parts 0 parts ≡ Some insts) (size : length insts ≡ length parts) (earlier : JoinsEarlier parts) where
   abbrev made : ℕ → List Made
   made p = made_upto p parts insts
 

@@ -10,7 +10,7 @@ use Rattle.wasm_meaning.specs.World.{given, own_key, defined_count, base, thing_
 use Rattle.wasm_meaning.specs.InTurn.{JoinsEarlier}
 use Rattle.permuted_worlds.specs.Owned.{OwnEntitiesCorrespond}
 use Rattle.worlds_in_turn.proofs.Things.{then_is, some_is, inst_is, inst_at, space_is, space_in, in_space, address_is}
-use Rattle.worlds_in_turn.proofs.Joined.{ExportsThere, stays_own, joins, inst_of_part}
+use Rattle.worlds_in_turn.proofs.Joined.{stays_own, joins, inst_of_part}
 use Rattle.worlds_in_turn.proofs.Reached.{defined_next, defined_more, own_low}
 
 -- ---- lists ----
@@ -56,7 +56,7 @@ same_thing Globals Functions a b e = cc
 same_thing Globals Tables a b e = cc
 same_thing Globals Memories a b e = cc
 
-module _ (env : Environment) (parts : List Part) (insts : List Inst) (are : insts_from env parts 0 parts ≡ Some insts) (size : length insts ≡ length parts) (there : ExportsThere parts) (earlier : JoinsEarlier parts) (own : OwnEntitiesCorrespond) where
+module _ (env : Environment) (parts : List Part) (insts : List Inst) (are : insts_from env parts 0 parts ≡ Some insts) (size : length insts ≡ length parts) (earlier : JoinsEarlier parts) (own : OwnEntitiesCorrespond) where
   more : (k : Kind) (p q : ℕ) → p ≤ q → base env parts k p ≤ base env parts k q
   more k p q l = let r = defined_more k parts p q l in omega (arith, r)
 
@@ -84,7 +84,7 @@ module _ (env : Environment) (parts : List Part) (insts : List Inst) (are : inst
 
   inst_by : (p : ℕ) → LowThing p → LowInst p
   inst_by p low m i is at k n a h =
-      let s = space_is env parts k p m (space_in i k) (in_space env parts p m i (inst_is env parts p m i (inst_of_part env parts insts are size there earlier p m i is at)) k) in
+      let s = space_is env parts k p m (space_in i k) (in_space env parts p m i (inst_is env parts p m i (inst_of_part env parts insts are size earlier p m i is at)) k) in
       let next = defined_next k parts p m is in
       go s.0 s.1 next (append_back s.0 (numbers (base env parts k p) (defined_count k m)) n a (ap (λ l. place l n) s.2 ∙ h))
     where
@@ -102,7 +102,7 @@ module _ (env : Environment) (parts : List Part) (insts : List Inst) (are : inst
     where
       go : (i : Import) → place m.imports n ≡ Some i → (o : Option Entity) → joined parts i ≡ o → a < base env parts k p
       go i at None j =
-          let o = stays_own env parts insts are size there earlier p n m i is at x None j refl h in
+          let o = stays_own env parts insts are size earlier p n m i is at x None j refl h in
           let key = then_is (own_key m i) (λ key. given (owned_at (owned_of env) key)) x o in
           own_low own env parts p key.0 x key.2 k a has
       go i at (Some e) j =
@@ -114,7 +114,7 @@ module _ (env : Environment) (parts : List Part) (insts : List Inst) (are : inst
           let same = some_is part.2 in
           let named : export_named part.0.«module».exports i.field ≡ Some c.0 = ap (λ m. export_named m.exports i.field) same ∙ c.1 in
           let j' : joined parts i ≡ Some (record { part = s.0; what = c.0 }) = j ∙ sym c.2 in
-          let address = joins env parts insts are size there earlier p n m i is at x s.0 part.0 inst.0 c.0 j' part.1 inst.1 named h in
+          let address = joins env parts insts are size earlier p n m i is at x s.0 part.0 inst.0 c.0 j' part.1 inst.1 named h in
           let low : s.0 < p = earlier p n m i (record { part = s.0; what = c.0 }) is at j' in
           let at_place = then_is (place (space_in inst.0 (kind_of_export c.0)) (index_of_export c.0)) (λ a. Some (thing_at (kind_of_export c.0) a)) x (sym (address_is inst.0 c.0) ∙ address) in
           let is_thing = same_thing k (kind_of_export c.0) at_place.0 a (ap (address_of k) (some_is at_place.2) ∙ has) in

@@ -125,7 +125,7 @@ module _ (env : Environment) (w : World) (insts : List Inst) (allocated : Store)
       go (Some x) is =
           let s = g.starts k x part.«module» i is_part at_inst is in
           let ys : start_in i part.«module».start ≡ s.0 ∷ [] = ap (start_in i) is ∙ ap one_place s.2 in
-          let low = inst_low env w.parts insts g.are g.size g.exports g.earlier g.own k part.«module» i is_part at_inst Functions x s.0 s.2 in
+          let low = inst_low env w.parts insts g.are g.size g.earlier g.own k part.«module» i is_part at_inst Functions x s.0 s.2 in
           let now = h (s.0 ∷ []) ys in
           opens l (record { func = s.1; there = now.abreast.beside.same_funcs s.0 low ∙ s.3; type = s.4; low = low }) now
 
@@ -161,7 +161,7 @@ module _ (env : Environment) (w : World) (insts : List Inst) (allocated : Store)
       let l = place_low insts q i e in
       let part = part_there w.parts q (let s = g.size in omega (arith, l, s)) in
       let is_part : module_at w.parts q ≡ Some part.0.«module» = ap (λ o. then_some o (λ part. Some part.«module»)) part.1 in
-      let r = inst_low env w.parts insts g.are g.size g.exports g.earlier g.own q part.0.«module» i is_part e k n a h in
+      let r = inst_low env w.parts insts g.are g.size g.earlier g.own q part.0.«module» i is_part e k n a h in
       let m = defined_more k w.parts (suc q) (length w.parts) (let s = g.size in omega (arith, l, s)) in
       omega (arith, r, m)
     where

@@ -73,7 +73,7 @@ module _ (same_types : (s t : FuncType) → same_func_type s t ≡ true → s �
     imported n = imported_thing env parts (record { part = p; import = n })
 
     is_inst : IsInst env parts p m i
-    is_inst = inst_is env parts p m i (inst_of_part env parts insts are size there earlier p m i is_part at_inst)
+    is_inst = inst_is env parts p m i (inst_of_part env parts insts are size earlier p m i is_part at_inst)
 
     -- an import matches what it stands for
     matches : (n : ℕ) (i : Import) (y : Thing) → place m.imports n ≡ Some i → imported n ≡ Some y → is_match allocated m i.desc y ≡ Some true

@@ -129,7 +129,7 @@ module _ (env : Environment) (parts : List Part) (insts : List Inst) (are : inst
         let z : n + 0 ≡ n = omega arith in
         let here : place m.imports n ≡ Some im = ap (place m.imports) (sym z) ∙ at 0 im refl in
         let r = things_for is (suc n) b.0 (λ j i e. ap (place m.imports) (let s : suc n + j ≡ n + suc j = omega arith in s) ∙ at (suc j) i e) b.1 in
-        let thing = thing_same env parts insts are size there earlier p n m im is_part here a.0 a.1 in
+        let thing = thing_same env parts insts are size earlier p n m im is_part here a.0 a.1 in
         let first = matches n im a.0 here a.1 in (
           ap₂ (λ o q. then_some o (λ y. then_some q (λ ys. Some (y ∷ ys)))) thing r.0 ∙ b.2,
           ap (all_match t m (im ∷ is)) (sym (some_is b.2)) ∙ ap₂ (λ b c. cond b c false) first r.1,
@@ -143,7 +143,7 @@ module _ (env : Environment) (parts : List Part) (insts : List Inst) (are : inst
             let is : or_false (is_match allocated m im.desc x) ≡ true =
             sym (ap (λ o. or_false (then_some o (λ m. then_some (import_at parts (record { part = p; import = n })) (λ i. then_some (imported n) (is_match allocated m i.desc))))) is_part
             ∙ ap (λ o. or_false (then_some o (λ i. then_some (imported n) (is_match allocated m i.desc)))) import_is ∙ ap (λ o. or_false (then_some o (is_match allocated m im.desc))) h) ∙ was in
-            let low = thing_low env parts insts are size there earlier own p n m x is_part h in
+            let low = thing_low env parts insts are size earlier own p n m x is_part h in
             match_stays env parts p allocated t holds m im.desc x (λ a e. low Functions a (ap (Rattle.wasm_meaning.specs.World.address_of Functions) e)) (λ a e. low Tables a (ap (Rattle.wasm_meaning.specs.World.address_of Tables) e)) (λ a e. low Memories a (ap (Rattle.wasm_meaning.specs.World.address_of Memories) e)) (λ a e. low Globals a (ap (Rattle.wasm_meaning.specs.World.address_of Globals) e)) is
 
     pub record Comes : Type 0 where
@@ -154,7 +154,7 @@ module _ (env : Environment) (parts : List Part) (insts : List Inst) (are : inst
 
     pub comes : Comes
     comes =
-        let is = inst_is env parts p m i (inst_of_part env parts insts are size there earlier p m i is_part is_inst) in
+        let is = inst_is env parts p m i (inst_of_part env parts insts are size earlier p m i is_part is_inst) in
         let f = space_is env parts Functions p m i.funcs is.funcs in
         let t' = space_is env parts Tables p m i.tables is.tables in
         let s = space_is env parts Memories p m i.mems is.mems in

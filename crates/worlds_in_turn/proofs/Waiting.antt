@@ -77,11 +77,11 @@ module _ (env : Environment) (w : World) (insts : List Inst) (allocated : Store)
 
   pub reaches : Reaches env w.parts (suc k) i
   reaches =
-      let is = inst_is env w.parts k part.«module» i (inst_of_part env w.parts insts g.are g.size g.exports g.earlier k part.«module» i is_part at_inst) in
+      let is = inst_is env w.parts k part.«module» i (inst_of_part env w.parts insts g.are g.size g.earlier k part.«module» i is_part at_inst) in
       let en = elems_next w.parts k part.«module» is_part in
       let dn = datas_next w.parts k part.«module» is_part in
       record {
-        spaces = λ kind n a h. inst_low env w.parts insts g.are g.size g.exports g.earlier g.own k part.«module» i is_part at_inst kind n a h;
+        spaces = λ kind n a h. inst_low env w.parts insts g.are g.size g.earlier g.own k part.«module» i is_part at_inst kind n a h;
         elems = λ n a h. let r = numbers_back (elems_before w.parts k) (length part.«module».elems) n a (ap (λ l. place l n) (sym is.elems) ∙ h) in omega (arith, r.0, r.1, en);
         datas = λ n a h. let r = numbers_back (datas_before w.parts k) (length part.«module».datas) n a (ap (λ l. place l n) (sym is.datas) ∙ h) in omega (arith, r.0, r.1, dn);
       }
