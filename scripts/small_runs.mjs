@@ -1,9 +1,10 @@
 // The small runs of crates/wasm_meaning, made in a real engine.
 //
-// Reads the theorems of SmallRuns.antt, MoreRuns.antt and EmbedderRuns.antt, builds the modules of each as bytes, makes the embedder's moves, and
-// compares what is seen with the events that the theorem states. A run that no engine can show (a growth that is denied, a run that doesn't end
-// in its steps, imports in a circle) is named with its reason. A run is shown in part where a move isn't taken, which is then left out, or a growth
-// is granted, whose request no engine tells. Ends with 1 where the engine shows something else, or nothing was read.
+// Reads the theorems of SmallRuns.antt, MoreRuns.antt, EmbedderRuns.antt and FurtherRuns.antt, builds the modules of each as bytes, makes the embedder's
+// moves, and compares what is seen with the events that the theorem states. A run that the engine can't show (a growth that is denied, a move while a
+// growth waits, a run that doesn't end in its steps, imports in a circle, what several parts do at once, two memories) is named with its reason. A run is
+// shown in part where a move isn't taken, which is then left out, or a growth is granted, whose request no engine tells. Ends with 1 where the engine shows
+// something else, or nothing was read.
 //
 //     node scripts/small_runs.mjs [FILE.antt..]     (a later file uses the names of the ones before it)
 import { readFileSync } from "node:fs";
@@ -11,7 +12,7 @@ import { dirname, join } from "node:path";
 import { fileURLToPath } from "node:url";
 
 const FOLDER = join(dirname(dirname(fileURLToPath(import.meta.url))), "crates/wasm_meaning/proofs");
-const FILES = process.argv.length > 2 ? process.argv.slice(2) : ["SmallRuns.antt", "MoreRuns.antt", "EmbedderRuns.antt"].map((name) => join(FOLDER, name));
+const FILES = process.argv.length > 2 ? process.argv.slice(2) : ["SmallRuns.antt", "MoreRuns.antt", "EmbedderRuns.antt", "FurtherRuns.antt"].map((name) => join(FOLDER, name));
 
 // ---- reading: terms of names, numbers, lists, pairs, records and applications ----
 
@@ -239,12 +240,18 @@ class Refusal extends Error {}
 const string = (text) => String.fromCharCode(...text.map(Number));
 const typeName = (type) => (type.tag === "I32" ? "i32" : type.tag === "I64" ? "i64" : type.args[0].tag === "Func" ? "anyfunc" : "externref");
 
+const isZero = (bytes) => (Array.isArray(bytes) ? bytes.every((byte) => byte === 0n) : bytes.tag === "copies" && bytes.args[1] === 0n);
+const writesSegments = (module) => [...module.elems, ...module.datas].some(({ mode }) => mode.tag === "Active");
+const hasStart = (module) => module.start.tag === "Some";
+const pairOf = (i) => [string(i.module), string(i.field)];
+const memories = (module) => count(module.imports.map((i) => i.desc), "Memory") + module.mems.length;
+
 const extent = (size, limits) => ({ initial: Number(size), ...(inner(limits.max) === null ? {} : { maximum: Number(inner(limits.max)) }) });
 
 class Embedder {
   constructor(world, environment, moves, expected) {
     this.expected = expected;
-    this.parts = world.parts.map((part) => ({ name: part.name.tag === "Some" ? string(inner(part.name)) : null, module: part.module }));
+    this.parts = world.parts.map((part) => ({ name: part.name.tag === "Some" ? string(inner(part.name)) : null, module: part.module, instance: null }));
     this.view = new Map(world.view.map(({ pair: [name, entity] }) => [string(name), entity]));
     this.owned = new Map(environment.map((offer) => [JSON.stringify(offer.pair.pair.map(string)), this.offered(offer)]));
     this.moves = moves;
@@ -257,6 +264,7 @@ class Embedder {
   offered(offer) {
     const [table, memory, global] = [inner(offer.table), inner(offer.memory), inner(offer.global)];
     if (table?.entries.some((entry) => entry.tag !== "Null")) throw new NotShown("a table of the environment's own that has an entry");
+    if (memory && !isZero(memory.bytes)) throw new NotShown("a memory of the environment's own that has bytes");
     return {
       funcs: offer.funcs.map((type) => this.ownFunction(offer.pair, type)),
       table: table && new WebAssembly.Table({ element: table.ty.tag === "Func" ? "anyfunc" : "externref", ...extent(table.entries.length, table.limits) }),
@@ -288,11 +296,13 @@ class Embedder {
   }
 
   instantiate() {
+    this.refuseWorld();
     try {
       let waiting = [...this.parts.keys()];
       while (waiting.length) {
-        const ready = waiting.find((p) => this.parts[p].module.imports.every((i) => this.partNamed(i.module)?.instance !== null));
+        const ready = waiting.find((p) => this.isReady(this.parts[p]));
         if (ready === undefined) throw new NotShown("imports in a circle");
+        if (ready !== waiting[0] && this.isOrderSeen()) throw new NotShown("parts that an engine takes in another order");
         this.parts[ready].instance = this.instance(this.parts[ready], ready);
         waiting = waiting.filter((p) => p !== ready);
       }
@@ -304,25 +314,50 @@ class Embedder {
     }
   }
 
-  // the part of a name, with null for an instance that isn't made yet
-  partNamed(text) {
-    const part = this.parts.find((part) => part.name === string(text));
-    return part && { ...part, instance: part.instance ?? null };
+  // Where the engine would show something else: it instantiates one part after the other, and a world does so at once, which is seen of segments where
+  // something fails or a start is made.
+  refuseWorld() {
+    const modules = this.parts.map((part) => part.module);
+    if (modules.some((module) => memories(module) > 1)) throw new NotShown("two memories in one module");
+    const isSeen = modules.some(hasStart) || count(this.expected, "LinkFault", "InstanceTrapped") > 0;
+    if (modules.length > 1 && modules.some(writesSegments) && isSeen) throw new NotShown("segments of several parts at once");
+  }
+
+  isOrderSeen() {
+    return this.parts.filter(({ module }) => hasStart(module) || writesSegments(module)).length > 1;
+  }
+
+  isReady(part) {
+    return part.module.imports.every((i) => this.joined(i)?.instance !== null);
+  }
+
+  // the part with an export of which an import is joined
+  joined(i) {
+    const part = this.parts.find((part) => part.name === string(i.module));
+    return part?.module.exports.some((e) => text(e.name) === text(i.field)) ? part : undefined;
   }
 
   instance(part, p) {
     const views = [...this.view].filter(([, entity]) => Number(entity.part) === p);
     const exports = [...part.module.exports, ...views.map(([name, entity]) => ({ name: [...Buffer.from(`view ${name}`)], desc: entity.what }))];
+    return new WebAssembly.Instance(new WebAssembly.Module(moduleBytes({ ...part.module, exports })), this.objects(part.module));
+  }
+
+  // an engine reads the imports in their order, and those of one pair may be several things
+  objects(module) {
     const objects = {};
-    for (const i of part.module.imports) (objects[string(i.module)] ??= {})[string(i.field)] = this.supplied(part.module, i);
-    return new WebAssembly.Instance(new WebAssembly.Module(moduleBytes({ ...part.module, exports })), objects);
+    for (const i of module.imports) {
+      const given = module.imports.filter((other) => text(pairOf(other)) === text(pairOf(i))).map((other) => this.supplied(module, other));
+      Object.defineProperty((objects[string(i.module)] ??= {}), string(i.field), { configurable: true, get: () => given.shift() });
+    }
+    return objects;
   }
 
   // what an import gets: another part's export, or the environment's own, or nothing
   supplied(module, i) {
-    const part = this.partNamed(i.module);
+    const part = this.joined(i);
     if (part) return part.instance.exports[string(i.field)];
-    const own = this.owned.get(JSON.stringify([string(i.module), string(i.field)]));
+    const own = this.owned.get(JSON.stringify(pairOf(i)));
     if (!own) return undefined;
     if (i.desc.tag === "Table") return own.table;
     if (i.desc.tag === "Memory") return own.memory;
@@ -454,6 +489,7 @@ const count = (list, ...tags) => list.filter(({ tag }) => tags.includes(tag)).le
 
 // why no engine can show a run, or null
 function unseen(events, moves) {
+  if (events.some(({ tag }, n) => tag === "GrowAsked" && events[n + 1]?.tag === "BadMove")) return "a move while a growth waits";
   if (count(events, "GrowAsked") && count(moves, "Deny")) return "a growth that is denied";
   if (count(events, "Returned", "Trapped", "BadMove") < count(moves, "Call", "Invoke")) return "a run that doesn't end in its steps";
   return null;

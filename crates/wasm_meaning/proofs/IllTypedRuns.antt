@@ -1,17 +1,21 @@
--- Code that no validation lets through, computed: where it is ill typed it traps. No engine takes these modules.
+-- Code that no validation lets through, computed: where it is ill typed it traps. No engine takes these modules. Beside three of them stands what goes on.
 use Rattle.std.proofs.Common.{◌≡◌, refl, [], ◌∷◌, Some, false}
 use Rattle.std.specs.Prelude.{pos}
 use Rattle.wasm_num.specs.declared.BinOp.TheVariants as bin
+use Rattle.wasm_tree.specs.declared.types.RefType.TheVariants as reft
 use Rattle.wasm_tree.specs.declared.types.ValType.TheVariants as valt
 use Rattle.wasm_tree.specs.declared.types.BlockType.TheVariants as bt
 use Rattle.wasm_tree.specs.declared.instr.Instr.{out-Instr}
 use Rattle.wasm_tree.specs.declared.instr.Instr.TheVariants as i
+use Rattle.wasm_tree.specs.declared.instr.LoadOp.TheVariants as load
+use Rattle.wasm_tree.specs.declared.instr.StoreOp.TheVariants as store
 use Rattle.wasm_tree.specs.declared.module.ConstExpr.TheVariants as const
 use Rattle.wasm_num.specs.Operations.{wrapped, un_from, un_to, un_value, bin_from, bin_to, bin_value}
 use Rattle.wasm_meaning.specs.Access.{load_to, load_width, loaded, store_from, stored}
 use Rattle.wasm_meaning.specs.Environment.{Number}
 use Rattle.wasm_meaning.specs.Run.{Linked, InstanceTrapped, Trapped, Call, events}
-use Rattle.wasm_meaning.proofs.SmallRuns.{f, i32, empty, code, num, gives, plain, returns, f_gives}
+use Rattle.wasm_meaning.proofs.SmallRuns.{f, i32, to_i32, empty, code, code', num, gives, page, three, plain, returns, f_gives}
+use Rattle.wasm_meaning.proofs.MoreRuns.{i64, by, forty, from_slot}
 
 an_operand_is_missing : f_gives (gives (num 1 ∷ (i.Bin bin.I32Add ∷ []))) 25 ≡ Linked ∷ (Trapped ∷ [])
 unfolding out-Instr denote.Hole.Carrier.out wrapped un_from un_to un_value bin_from bin_to bin_value load_to load_width loaded store_from stored
@@ -61,3 +65,147 @@ a_start_that_gives_a_result = refl
 surplus_values_are_dropped : f_gives (gives (num 7 ∷ (i.Block (bt.Value valt.I32) (num 4 ∷ (num 5 ∷ [])) ∷ (i.Bin bin.I32Add ∷ [])))) 12 ≡ returns (Number 12 ∷ [])
 unfolding wrapped bin_from bin_to bin_value
 surplus_values_are_dropped = simp (i.outs-Block, i.outs-I32Const, i.outs-Bin) refl
+
+-- ---- values that enter a block, a loop or an if ----
+
+-- an i64 enters a block that takes an i32, and would be dropped there
+a_block_takes_another_type : f_gives (gives (i.I64Const (pos 5) ∷ (i.Block (bt.Index 1) (i.Drop ∷ (num 6 ∷ [])) ∷ []))) 7 ≡ Linked ∷ (Trapped ∷ [])
+unfolding wrapped
+a_block_takes_another_type = simp (i.outs-Block, i.outs-I64Const) refl
+
+-- an i32 enters it, and the block goes on
+a_block_of_its_type : f_gives (gives (num 5 ∷ (i.Block (bt.Index 1) (i.Drop ∷ (num 6 ∷ [])) ∷ []))) 9 ≡ returns (Number 6 ∷ [])
+unfolding wrapped
+a_block_of_its_type = simp (i.outs-Block, i.outs-I32Const, i.outs-Drop) refl
+
+-- the same of a loop
+a_loop_takes_another_type : f_gives (gives (i.I64Const (pos 5) ∷ (i.Loop (bt.Index 1) (i.Drop ∷ (num 6 ∷ [])) ∷ []))) 7 ≡ Linked ∷ (Trapped ∷ [])
+unfolding wrapped
+a_loop_takes_another_type = simp (i.outs-Loop, i.outs-I64Const) refl
+
+-- which goes on with an i32
+a_loop_of_its_type : f_gives (gives (num 5 ∷ (i.Loop (bt.Index 1) (i.Drop ∷ (num 6 ∷ [])) ∷ []))) 9 ≡ returns (Number 6 ∷ [])
+unfolding wrapped
+a_loop_of_its_type = simp (i.outs-Loop, i.outs-I32Const, i.outs-Drop) refl
+
+-- the same of the first arm of an if
+an_arm_takes_another_type : f_gives (gives (i.I64Const (pos 5) ∷ (num 1 ∷ (i.If (bt.Index 1) (i.Drop ∷ (num 6 ∷ [])) (i.Drop ∷ (num 7 ∷ [])) ∷ [])))) 8 ≡ Linked ∷ (Trapped ∷ [])
+unfolding wrapped
+an_arm_takes_another_type = simp (i.outs-If, i.outs-I64Const, i.outs-I32Const) refl
+
+-- and of the second
+the_other_arm_takes_another_type : f_gives (gives (i.I64Const (pos 5) ∷ (num 0 ∷ (i.If (bt.Index 1) (i.Drop ∷ (num 6 ∷ [])) (i.Drop ∷ (num 7 ∷ [])) ∷ [])))) 8 ≡ Linked ∷ (Trapped ∷ [])
+unfolding wrapped
+the_other_arm_takes_another_type = simp (i.outs-If, i.outs-I64Const, i.outs-I32Const) refl
+
+-- the first goes on with an i32
+an_arm_of_its_type : f_gives (gives (num 5 ∷ (num 1 ∷ (i.If (bt.Index 1) (i.Drop ∷ (num 6 ∷ [])) (i.Drop ∷ (num 7 ∷ [])) ∷ [])))) 10 ≡ returns (Number 6 ∷ [])
+unfolding wrapped
+an_arm_of_its_type = simp (i.outs-If, i.outs-I32Const, i.outs-Drop) refl
+
+-- and of the second where there is none
+no_second_arm_takes_another_type : f_gives (gives (i.I64Const (pos 5) ∷ (num 0 ∷ (i.If (bt.Index 1) (i.Drop ∷ (num 6 ∷ [])) [] ∷ [])))) 8 ≡ Linked ∷ (Trapped ∷ [])
+unfolding wrapped
+no_second_arm_takes_another_type = simp (i.outs-If, i.outs-I64Const, i.outs-I32Const) refl
+
+-- a block whose parameter is missing
+a_block_without_its_value : f_gives (gives (i.Block (bt.Index 1) (num 6 ∷ []) ∷ [])) 6 ≡ Linked ∷ (Trapped ∷ [])
+unfolding wrapped
+a_block_without_its_value = simp (i.outs-Block) refl
+
+-- an i64 below an i32, where the block takes an i32 below an i64
+a_block_takes_two_types_in_another_order : f_gives (record (gives (i.I64Const (pos 5) ∷ (num 9 ∷ (i.Block (bt.Index 1) (i.Return ∷ []) ∷ [])))) { types = to_i32 ∷ (record { params = i32 ∷ (i64 ∷ []); results = i32 ∷ [] } ∷ []) }) 8 ≡ Linked ∷ (Trapped ∷ [])
+unfolding wrapped
+a_block_takes_two_types_in_another_order = simp (i.outs-Block, i.outs-I64Const, i.outs-I32Const) refl
+
+-- a branch to a loop takes a value of another type than the loop does
+a_branch_to_a_loop_counts_its_values : f_gives (gives (num 5 ∷ (i.Loop (bt.Index 1) (i.Drop ∷ (i.I64Const (pos 7) ∷ (i.Br 0 ∷ []))) ∷ []))) 8 ≡ Linked ∷ []
+unfolding wrapped
+a_branch_to_a_loop_counts_its_values = simp (i.outs-Loop, i.outs-I64Const, i.outs-I32Const, i.outs-Drop, i.outs-Br) refl
+
+-- and the step in which the loop begins again with it traps
+a_loop_begins_again_with_another_type : f_gives (gives (num 5 ∷ (i.Loop (bt.Index 1) (i.Drop ∷ (i.I64Const (pos 7) ∷ (i.Br 0 ∷ []))) ∷ []))) 9 ≡ Linked ∷ (Trapped ∷ [])
+unfolding wrapped
+a_loop_begins_again_with_another_type = simp (i.outs-Loop, i.outs-I64Const, i.outs-I32Const, i.outs-Drop, i.outs-Br) refl
+
+-- an if whose condition is an i64
+a_condition_of_another_type : f_gives (gives (i.I64Const (pos 1) ∷ (i.If (bt.Value valt.I32) (num 6 ∷ []) (num 7 ∷ []) ∷ []))) 7 ≡ Linked ∷ (Trapped ∷ [])
+unfolding wrapped
+a_condition_of_another_type = simp (i.outs-If, i.outs-I64Const) refl
+
+-- ---- values of another type elsewhere ----
+
+-- an i32 local is set to an i64
+a_local_is_set_to_another_type : f_gives (record empty { funcs = code' 0 (i.I64Const (pos 5) ∷ (i.LocalSet 0 ∷ (num 1 ∷ []))) ∷ [] }) 25 ≡ Linked ∷ (Trapped ∷ [])
+unfolding out-Instr denote.Hole.Carrier.out wrapped un_from un_to un_value bin_from bin_to bin_value load_to load_width loaded store_from stored
+a_local_is_set_to_another_type = refl
+
+-- also where the value stays on the stack
+a_local_is_left_with_another_type : f_gives (record empty { funcs = code' 0 (i.I64Const (pos 5) ∷ (i.LocalTee 0 ∷ (i.Drop ∷ (num 1 ∷ [])))) ∷ [] }) 25 ≡ Linked ∷ (Trapped ∷ [])
+unfolding out-Instr denote.Hole.Carrier.out wrapped un_from un_to un_value bin_from bin_to bin_value load_to load_width loaded store_from stored
+a_local_is_left_with_another_type = refl
+
+-- a mutable i32 global is set to an i64
+a_global_is_set_to_another_type : f_gives (forty (i.I64Const (pos 5) ∷ (i.GlobalSet 0 ∷ (num 1 ∷ [])))) 25 ≡ Linked ∷ (Trapped ∷ [])
+unfolding out-Instr denote.Hole.Carrier.out wrapped un_from un_to un_value bin_from bin_to bin_value load_to load_width loaded store_from stored
+a_global_is_set_to_another_type = refl
+
+-- a table of functions is set to an extern reference
+a_table_is_set_to_another_type : f_gives (three (gives (num 0 ∷ (i.RefNull reft.Extern ∷ (i.TableSet 0 ∷ (num 1 ∷ [])))))) 25 ≡ Linked ∷ (Trapped ∷ [])
+unfolding out-Instr denote.Hole.Carrier.out wrapped un_from un_to un_value bin_from bin_to bin_value load_to load_width loaded store_from stored
+a_table_is_set_to_another_type = refl
+
+-- and filled with one
+a_table_is_filled_with_another_type : f_gives (three (gives (num 0 ∷ (i.RefNull reft.Extern ∷ (num 1 ∷ (i.TableFill 0 ∷ (num 1 ∷ []))))))) 25 ≡ Linked ∷ (Trapped ∷ [])
+unfolding out-Instr denote.Hole.Carrier.out wrapped un_from un_to un_value bin_from bin_to bin_value load_to load_width loaded store_from stored
+a_table_is_filled_with_another_type = refl
+
+-- and is to grow by one: the embedder is not asked
+a_table_grows_by_another_type : f_gives (three (gives (i.RefNull reft.Extern ∷ (num 1 ∷ (i.TableGrow 0 ∷ []))))) 25 ≡ Linked ∷ (Trapped ∷ [])
+unfolding out-Instr denote.Hole.Carrier.out wrapped un_from un_to un_value bin_from bin_to bin_value load_to load_width loaded store_from stored
+a_table_grows_by_another_type = refl
+
+-- an i64 is stored as an i32
+a_store_of_another_type : f_gives (page (gives (num 0 ∷ (i.I64Const (pos 5) ∷ (i.Store store.I32Store (by 0) ∷ (num 1 ∷ [])))))) 25 ≡ Linked ∷ (Trapped ∷ [])
+unfolding out-Instr denote.Hole.Carrier.out wrapped un_from un_to un_value bin_from bin_to bin_value load_to load_width loaded store_from stored
+a_store_of_another_type = refl
+
+-- an i64 as an address
+an_address_of_another_type : f_gives (page (gives (i.I64Const (pos 0) ∷ (i.Load load.I32Load (by 0) ∷ [])))) 25 ≡ Linked ∷ (Trapped ∷ [])
+unfolding out-Instr denote.Hole.Carrier.out wrapped un_from un_to un_value bin_from bin_to bin_value load_to load_width loaded store_from stored
+an_address_of_another_type = refl
+
+-- an i64 is passed through a table to a function that takes an i32, and would drop it
+an_indirect_argument_of_another_type : f_gives (three (record empty { funcs = code 0 (i.I64Const (pos 5) ∷ (num 0 ∷ (i.CallIndirect 1 0 ∷ []))) ∷ (code 1 (num 6 ∷ []) ∷ []); elems = record { mode = from_slot 0; ty = reft.Func; items = const.Func 1 ∷ [] } ∷ [] })) 25 ≡ Linked ∷ (Trapped ∷ [])
+unfolding out-Instr denote.Hole.Carrier.out wrapped un_from un_to un_value bin_from bin_to bin_value load_to load_width loaded store_from stored
+an_indirect_argument_of_another_type = refl
+
+-- and to such a function by its index
+an_unused_argument_of_another_type : f_gives (record empty { funcs = code 0 (i.I64Const (pos 5) ∷ (i.Call 1 ∷ [])) ∷ (code 1 (num 6 ∷ []) ∷ []) }) 25 ≡ Linked ∷ (Trapped ∷ [])
+unfolding out-Instr denote.Hole.Carrier.out wrapped un_from un_to un_value bin_from bin_to bin_value load_to load_width loaded store_from stored
+an_unused_argument_of_another_type = refl
+
+-- a function that gives an i32 returns an i64
+return_gives_another_type : f_gives (gives (i.I64Const (pos 5) ∷ (i.Return ∷ []))) 25 ≡ Linked ∷ (Trapped ∷ [])
+unfolding out-Instr denote.Hole.Carrier.out wrapped un_from un_to un_value bin_from bin_to bin_value load_to load_width loaded store_from stored
+return_gives_another_type = refl
+
+-- and branches to its end with one
+a_branch_gives_another_type : f_gives (gives (i.I64Const (pos 5) ∷ (i.Br 0 ∷ []))) 25 ≡ Linked ∷ (Trapped ∷ [])
+unfolding out-Instr denote.Hole.Carrier.out wrapped un_from un_to un_value bin_from bin_to bin_value load_to load_width loaded store_from stored
+a_branch_gives_another_type = refl
+
+-- and gives one to its caller, which would drop it
+a_called_function_gives_another_type : f_gives (record empty { funcs = code 0 (i.Call 1 ∷ (i.Drop ∷ (num 6 ∷ []))) ∷ (code 0 (i.I64Const (pos 5) ∷ []) ∷ []) }) 25 ≡ Linked ∷ (Trapped ∷ [])
+unfolding out-Instr denote.Hole.Carrier.out wrapped un_from un_to un_value bin_from bin_to bin_value load_to load_width loaded store_from stored
+a_called_function_gives_another_type = refl
+
+-- a select between an i32 and an i64
+a_select_between_two_types : f_gives (gives (num 1 ∷ (i.I64Const (pos 5) ∷ (num 1 ∷ (i.Select ∷ []))))) 25 ≡ Linked ∷ (Trapped ∷ [])
+unfolding out-Instr denote.Hole.Carrier.out wrapped un_from un_to un_value bin_from bin_to bin_value load_to load_width loaded store_from stored
+a_select_between_two_types = refl
+
+-- a select of references that names no type
+a_select_of_references : f_gives (gives (i.RefNull reft.Func ∷ (i.RefNull reft.Func ∷ (num 1 ∷ (i.Select ∷ (i.Drop ∷ (num 6 ∷ []))))))) 25 ≡ Linked ∷ (Trapped ∷ [])
+unfolding out-Instr denote.Hole.Carrier.out wrapped un_from un_to un_value bin_from bin_to bin_value load_to load_width loaded store_from stored
+a_select_of_references = refl

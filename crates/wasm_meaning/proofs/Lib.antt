@@ -3,6 +3,7 @@ mod SmallRuns
 mod MoreRuns
 mod EmbedderRuns
 mod IllTypedRuns
+mod FurtherRuns
 mod TurnRuns
 mod LoaderRuns
 pub mod Walks
