@@ -1,4 +1,4 @@
--- Small code in which calls are replaced: what stands for what, and code that branches to a label around the call stays well typed there.
+-- Small code in which calls are replaced: what stands for what, and that a body stays well typed where a branch to a label around the call stands in its place.
 use Rattle.std.proofs.Common.{◌≡◌, ℕ, List, [], ◌∷◌, zero, suc, Option, Some, None, refl, sym, ap, subst, arith, rules, true≢false}
 use Rattle.std.specs.Prelude.{Contains}
 use Rattle.wasm_tree.specs.declared.types.FuncType.{FuncType}
@@ -87,7 +87,7 @@ others_agree : ListLayers (OthersAgree moved (0 ∷ []) one_function one_functio
 unfolding out-Instr denote.Hole.Carrier.out
 others_agree = ((λ _. subst (LayerAgrees moved one_function one_function) (sym (outs-Block' bt.Empty (_ ∷ []) (more_of-Instr (Call 0) end_of-Instr))) tt, (λ e. absurd (true≢false e), tt)), tt)
 
--- by the law, which asks for the type under the label of the block alone
+-- by the law, which asks for the type only under labels where the code may stand
 the_branch_is_well_typed : WellTyped one_function branched [] []
 the_branch_is_well_typed =
     replaced_typed moved (0 ∷ []) branching one_function one_function called branched [] [] (record { locals = refl; results = refl; labels = refl }) others_agree branches_have_the_type a_branch_stands_for_the_call the_call_is_well_typed

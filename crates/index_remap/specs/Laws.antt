@@ -53,9 +53,9 @@ abbrev pub EntriesKnown : Pairing → List Entry → List Entry → Type 0
 EntriesKnown R (Running f ∷ es) (Running g ∷ fs) = TopKnown R f.inst g.inst f.levels g.levels
 EntriesKnown R _ _ = Unit {0}
 
--- One step of each comes to related values, or traps on both sides, or is ill typed on both, and leaves stores that correspond and entries that are related, where
--- the next instructions name related addresses and the step begins no call of a function of the list. Of the entries only the first need to be related, among which
--- are those that the step touches.
+-- From stores that correspond under a relation that is one to one but for functions, one step of each comes to related values, or traps on both sides, or is ill
+-- typed on both, and leaves stores that correspond and entries that are related, where the next instructions name related addresses and the step begins no call of a
+-- function of the list. Of the entries only the first need to be related, among which are those that the step touches.
 abbrev pub StepsAgree : Type 0
 StepsAgree =
     (of named : Kind → ℕ → ℕ → Bool) (l : List ℕ) → OneToOneWhereWritten (passed of named l) → (s t : Store) (es fs cs ds : List Entry) →
@@ -66,8 +66,8 @@ StepsAgree =
 abbrev pub NamedAreKnown : Type 0
 NamedAreKnown = (of named : Kind → ℕ → ℕ → Bool) (l : List ℕ) → ((k : Kind) (a b : ℕ) → IsTrue (named k a b) → IsTrue (of k a b)) → (es fs : List Entry) → EntriesKnown (passed of named l) es fs
 
--- Of related values in stores that correspond the embedder is shown the same, where the functions that were shown before are related, number by number; and so are
--- they again.
+-- Of related values in stores that correspond under a one-to-one relation, functions included, the embedder is shown the same, where the functions that were shown
+-- before are related, number by number; and so are they again.
 abbrev pub ShownAgree : Type 0
 ShownAgree =
     (of named : Kind → ℕ → ℕ → Bool) (l : List ℕ) → OneToOne (passed of named l) → (s t : Store) (vs ws : List Val) (xs ys : List ℕ) → StoreRel (passed of named l) s t → ListRel (ValRel (passed of named l)) vs ws →
@@ -126,7 +126,7 @@ RelatedRuns R = RunRel R (EntryByEntry R) (EntryByEntry R)
 abbrev pub RelatedOuts : Pairing → Out → Out → Type 0
 RelatedOuts R = OutRel R (EntryByEntry R) (EntryByEntry R)
 
--- Where all that code names is related and no function is set apart, related runs show the same events.
+-- Where the relation is one to one, functions included, all that code names is related and no function is set apart, related runs show the same events.
 abbrev pub RelatedRunsShowTheSame : Type 0
 RelatedRunsShowTheSame =
     (of : Kind → ℕ → ℕ → Bool) → OneToOne (passed of of []) → (r q : Run) → RelatedRuns (passed of of []) r q → (n : ℕ) → events_of tick r n ≡ events_of tick q n

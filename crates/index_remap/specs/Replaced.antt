@@ -72,7 +72,8 @@ calls_listed listed _ = false
 abbrev pub OthersAgree : Remap → List ℕ → Context → Context → Instr-F Instr → Type 0
 OthersAgree m listed c d l = calls_listed listed l ≡ false → LayerAgrees m c d l
 
--- a call that is replaced is of a function at an address of the list; the function of another and its entry stand for addresses that code may name as one
+-- a call that is replaced is of a function at an address of the list; the function of another and its entry stand for addresses that code may name as
+-- one, or neither is there
 abbrev pub CallNamed : Pairing → Remap → Bool → Inst → Inst → ℕ → Type 0
 CallNamed R m true i j f = (a : ℕ) × (at i.funcs f ≡ Gives a) × R.listed a
 CallNamed R m false i j f = LayerNames R m i j (Instr-F.Call f)

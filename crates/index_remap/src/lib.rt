@@ -21,16 +21,17 @@ pub use renumbering::renumber;
 
 /// One step of each agrees, from stores that correspond under a one-to-one relation of addresses (functions need not be one to one) and from configurations that are
 /// related (WebAssembly Core 2.0, section 4.4): both come to related values and again to what corresponds, or both trap, or both are ill typed (`steps`). Of related
-/// values the embedder is shown the same, where the functions that it was shown before are related (`shown`). Only the entries that the step touches need to be
-/// related. The instruction that comes next has to name related addresses, other code only such as code may name as one; where all of these are related, it does
-/// (`known`). A trap ends at the nearest mark: where these are related the same waits there, and nothing above needs to be (`traps`).
+/// values the embedder is shown the same, where functions too are one to one and those that it was shown before are related, number by number (`shown`). Only the
+/// entries that the step touches need to be related. The instruction that comes next has to name related addresses, other code only such as code may name as one;
+/// where all of these are related, it does (`known`). A trap ends at the nearest mark: where the two marks are related the same waits at both, and nothing above needs
+/// to be (`traps`).
 ///
 /// Of the functions of a list it is enough that their types are equal, and that neither is the environment's own or both are the same one. In place of a call of one
 /// of them other code may stand, and of a step that begins a call of one, directly or through a table, nothing is said.
 ///
 /// A body is related to itself with other indices, where each index that it names and its entry stand for addresses that code may name as one, or for equal types, or
-/// neither is there (`code`); so it is where other code stands in place of calls of functions at addresses of the list, whose indices need no entry (`replaced`). With
-/// no function on the list the body with other indices is such code (`unlisted`). Over one instance, whose addresses code may name as one with themselves, code is
+/// neither is there (`code`); so it is where other code stands in place of calls of functions at addresses of the list; an index that only such calls name needs no
+/// entry (`replaced`). With no function on the list the body with other indices is such code (`unlisted`). Over one instance, whose addresses code may name as one with themselves, code is
 /// related to itself (`itself`).
 ///
 /// A body that is well typed stays so with other indices, over the same locals, results and labels, where the indices of the other instructions agree with their
@@ -47,8 +48,8 @@ pub fn steps_agree()
     ensures typed { TypingIsKept }
 {}
 
-/// Two runs that are related, where all that code names is related and no function is set apart, show the same events in however many steps (`events`): each step
-/// shows the same and leaves them related (`ticks`). Once they are instantiated it leaves the functions of the second as they were, and all else that nothing of the
+/// Two runs that are related by a one-to-one relation of addresses, functions included, where all that code may name as one is related and no function is set apart,
+/// show the same events in however many steps (`events`): each step shows the same and leaves them related (`ticks`). Once they are instantiated it leaves the functions of the second as they were, and all else that nothing of the
 /// first is related to (`others`).
 pub fn related_runs_show_the_same()
     ensures events { RelatedRunsShowTheSame }

@@ -66,6 +66,23 @@ surplus_values_are_dropped : f_gives (gives (num 7 ∷ (i.Block (bt.Value valt.I
 unfolding wrapped bin_from bin_to bin_value
 surplus_values_are_dropped = simp (i.outs-Block, i.outs-I32Const, i.outs-Bin) refl
 
+-- ---- labels that are not taken ----
+
+-- what a branch would take is missing, and the branch is not taken
+a_branch_not_taken_wants_its_values : f_gives (gives (num 0 ∷ (i.BrIf 0 ∷ (num 6 ∷ [])))) 25 ≡ Linked ∷ (Trapped ∷ [])
+unfolding out-Instr denote.Hole.Carrier.out wrapped un_from un_to un_value bin_from bin_to bin_value load_to load_width loaded store_from stored
+a_branch_not_taken_wants_its_values = refl
+
+-- the label is missing, and the branch is not taken
+a_branch_not_taken_wants_its_label : f_gives (gives (num 5 ∷ (num 0 ∷ (i.BrIf 1 ∷ [])))) 25 ≡ Linked ∷ (Trapped ∷ [])
+unfolding out-Instr denote.Hole.Carrier.out wrapped un_from un_to un_value bin_from bin_to bin_value load_to load_width loaded store_from stored
+a_branch_not_taken_wants_its_label = refl
+
+-- a label that is not chosen is missing
+each_label_of_a_table_is_wanted : f_gives (gives (num 5 ∷ (num 0 ∷ (i.BrTable (0 ∷ (1 ∷ [])) 0 ∷ [])))) 25 ≡ Linked ∷ (Trapped ∷ [])
+unfolding out-Instr denote.Hole.Carrier.out wrapped un_from un_to un_value bin_from bin_to bin_value load_to load_width loaded store_from stored
+each_label_of_a_table_is_wanted = refl
+
 -- ---- values that enter a block, a loop or an if ----
 
 -- an i64 enters a block that takes an i32, and would be dropped there

@@ -54,8 +54,9 @@ abbrev pub added_as : Store → Module → Inst → Option Added
 added_as s m i =
     then_some (store_with (const_value s.globals i) m i) (λ t. Some (record { inst = i; filled = own_segments (const_value s.globals i) m i (joined_stores s t) }))
 
--- None where an import does not match. (In a module that is not valid it is none as well where an index names nothing or an item is no reference; but a segment whose
--- table, memory or offset is not there traps, and a start that is not there is none.) Constant expressions read the imported globals as they are now.
+-- None where an import does not match. (In a module that is not valid it is none as well where a function's type or what an initialiser or an item names is not there,
+-- or is a global that is not imported, or an item is no reference; but a segment whose table, memory or i32 offset is not there traps.) Constant expressions read the
+-- imported globals as they are now.
 abbrev pub added : Store → Module → List Thing → Option Added
 added s m things = cond (all_match s m m.imports things) (added_as s m (next_inst s m things)) None
 

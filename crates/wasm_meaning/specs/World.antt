@@ -388,8 +388,9 @@ abbrev pub begun : Environment → World → List Inst → List (Text × Thing) 
 begun env w insts view filled = record { store = filled.store; trapped = filled.trapped; starts = starts_of w.parts insts; view = view; owned = owned_of env }
 
 -- None where an import does not match or a constant read has no end, or a name of the view stands for nothing. (In a module that is not valid it is none as well where
--- an index names nothing or an item is no reference; but a segment whose table, memory or offset is not there traps, and a start that is not there is none. An offset
--- whose read has no end stands on a global whose read has none either.)
+-- the type of a function or of an import, what an initialiser or an item names, or an export that is imported is not there, where an initialiser or an item reads a
+-- global that is not imported, or an item is no reference; but a segment whose table, memory or i32 offset is not there traps, and a start that is not there is no
+-- start. An offset whose read has no end stands on a global whose read has none either.)
 abbrev pub instantiate : Environment → World → Option Begun
 instantiate env w =
     then_some (insts_from env w.parts 0 w.parts) (λ insts. then_some (stores_from env w.parts insts (own_store env) 0 w.parts insts) (λ s. then_some (all_there (seen_as insts) w.view) (λ view.
@@ -399,6 +400,7 @@ abbrev pub is_there : {A : Type 0} → Option A → Bool
 is_there None = false
 is_there (Some a) = true
 
--- an environment links a world where every import matches and every constant read has an end, whether or not a segment or a start traps then
+-- an environment links a world where every import matches, every constant read has an end and the view's names stand for something, whether or not a segment or a
+-- start traps then
 abbrev pub links : Environment → World → Bool
 links env w = is_there (instantiate env w)
