@@ -23,6 +23,7 @@ use Rattle.wasm_meaning.specs.World.{numbers, elems_before, datas_before}
 use Rattle.wasm_meaning.specs.Linking.{Part, Kind, Functions, Tables, Memories, Globals, then_some, module_at}
 use Rattle.index_remap.specs.declared.remap.Remap.{Remap}
 use Rattle.index_remap.specs.Agreement.{Keeps}
+use Rattle.remap_typing.specs.Indices.{with_entry}
 use Rattle.remap_typing.specs.Trees.{TreesAgree, Covers}
 use Rattle.merge_terms.specs.Merged.{merged, map_of, merged_elem, merged_data, by_part, new_index}
 use Rattle.merge_validity.proofs.Lists.{there, then_is, within, index_at, map_at, map_back, numbers_at, numbers_many, split, chosen_from}
@@ -212,7 +213,7 @@ module _ (law : EndsArePaths) (parts : List Part) (names : List (Option Text)) (
       let s = there m.datas i lt in
       subst (λ n. n < length (merged parts names).datas) (sym (data_entry parts p m i lt)) (within (merged parts names).datas (datas_before parts p + i) (merged_data parts p (map_of parts p m) s.0) (data_stands parts names p m i s.0 is s.1))
 
-  pub trees_agree : TreesAgree (map_of parts p m) m (merged parts names)
+  pub trees_agree : TreesAgree (map_of parts p m) (with_entry (map_of parts p m)) m (merged parts names)
   trees_agree = record {
     types = λ i lt t h. ap (λ z. slice_get z (slice_index (map_of parts p m).types i)) (types_are parts names) ∙ type_stands parts p m i t is h;
     funcs = λ i lt ft h. func_back (merged parts names) _ ft (kept Functions i (FuncTy ft) (func_to m i ft h));

@@ -21,6 +21,7 @@ use Rattle.wasm_meaning.specs.Laws.{EndsArePaths, ReadsArePaths}
 use Rattle.wasm_meaning.specs.Linking.{Part, Site, Outside, Entity, Kind, Functions, Globals, Read, place, then_some, places, has_kind, space_index, module_at, imports_of, index_of_export, imported_as, end_of, initial, outside_read, end_step, read_step, read_of}
 use Rattle.index_remap.specs.declared.remap.Remap.{Remap}
 use Rattle.index_remap.specs.Renumbered.{fits_const, new_const}
+use Rattle.remap_typing.specs.Indices.{Indices, with_entry, ConstNamesOnly}
 use Rattle.remap_typing.specs.Trees.{TreesAgree, ReadsImport, ConstStands}
 use Rattle.remap_typing.proofs.Lists.{left_true, right_true, then_there, only_true, only_rest}
 use Rattle.merge_terms.specs.Merged.{merged, map_of, or_this, merged_read, merged_const, staying_of, place_of_end, end_from, new_index}
@@ -62,6 +63,13 @@ const_fits m r (const.I64 v) ty a b h = refl
 const_fits m r (const.Null t) ty a b h = refl
 const_fits m r (const.Func f) ty a b h = let l = ltb-true _ _ (only_true (nat_lt f (length (funcs_of m))) (Some (Ref func_ref)) ty h) in lt-ltb _ _ (omega (arith, l, a))
 const_fits m r (const.Global x) ty a b h = let g = reads_global m x ty h in let l = within (globals_of m) x g.global g.at in lt-ltb _ _ (omega (arith, l, b))
+
+const_named : (r : Remap) (e : ConstExpr) → IsTrue (fits_const r e) → ConstNamesOnly (with_entry r) e
+const_named r (const.I32 v) h = tt
+const_named r (const.I64 v) h = tt
+const_named r (const.Null t) h = tt
+const_named r (const.Func f) h = h
+const_named r (const.Global x) h = h
 
 pub map_fits : (parts : List Part) (p : ℕ) (m : Module) (e : ConstExpr) (ty : ValType) → const_type m e ≡ Some ty → IsTrue (fits_const (map_of parts p m) e)
 map_fits parts p m e ty h =
@@ -216,15 +224,15 @@ module _ (ends_law : EndsArePaths) (parts : List Part) (names : List (Option Tex
             let r = links.globals d.part of j g is at in
             (r.0, (reads_law parts p e r.0).0 (goes k ((reads_law parts d.part g.init r.0).1 r.1)))
 
-    module _ (constants : (m : Remap) (t u : Module) (e : ConstExpr) → TreesAgree m t u → IsTrue (fits_const m e) → ReadsImport m u e → ConstStands t u e (new_const m e)) where
+    module _ (constants : (m : Remap) (kept : Indices) (t u : Module) (e : ConstExpr) → TreesAgree m kept t u → ConstNamesOnly kept e → ReadsImport m u e → ConstStands t u e (new_const m e)) where
       -- a constant expression becomes one of its type
       pub const_stands : (p : ℕ) (m : Module) (e : ConstExpr) → module_at parts p ≡ Some m → ConstStands m (merged parts names) e (merged_const parts p e)
       unfolding merged_const
       const_stands p m e is ty t =
           let r = read_there p e m ty is t in
           let z = ended (record { part = p; expr = e }) r.0 ((reads_law parts p e r.0).1 r.1) m ty is t in
-          let fits = map_fits parts r.0.part z.of r.0.expr ty z.typed in
+          let named = const_named (map_of parts r.0.part z.of) r.0.expr (map_fits parts r.0.part z.of r.0.expr ty z.typed) in
           let agree = trees_agree ends_law parts names links r.0.part z.of z.is_part (valid r.0.part z.of z.is_part) in
           ap (λ o. const_type (merged parts names) (or_this e (then_some o (merged_read parts)))) r.1
           ∙ ap (λ o. const_type (merged parts names) (or_this e (then_some {A = Module} {B = ConstExpr} o (λ m. Some (new_const (map_of parts r.0.part m) r.0.expr))))) z.is_part
-          ∙ constants (map_of parts r.0.part z.of) z.of (merged parts names) r.0.expr agree fits z.reads ty z.typed
+          ∙ constants (map_of parts r.0.part z.of) (with_entry (map_of parts r.0.part z.of)) z.of (merged parts names) r.0.expr agree named z.reads ty z.typed

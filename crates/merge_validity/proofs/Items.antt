@@ -1,9 +1,6 @@
 -- Each item of the merged module holds, but for references: it stands for an item of a part, or it was added.
-use Rattle.std.proofs.Common.{◌≡◌, ◌∙◌, ap, ap₂, sym, subst, refl, ℕ, ◌+◌, ◌^◌, ◌<◌, ◌≤◌, List, map, take, length, Option, Some, Bool, true, ◌&&◌, arith, IsTrue, ◌⊎◌, inl, inr}
+use Rattle.std.proofs.Common.{◌≡◌, ◌∙◌, ap, ap₂, sym, subst, refl, ℕ, ◌+◌, ◌^◌, ◌<◌, List, map, take, length, Option, Some, true, arith, ◌⊎◌, inl, inr}
 use Rattle.std.specs.Prelude.{slice_get, slice_index, Contains}
-use Rattle.std.proofs.lemmas.Bool.{lt-ltb}
-use Rattle.wasm_tree.specs.declared.module.ExportDesc.{ExportDesc}
-use Rattle.wasm_tree.specs.declared.module.ExportDesc.TheVariants as ex
 use Rattle.wasm_tree.specs.declared.module.Export.{Export}
 use Rattle.wasm_tree.specs.declared.module.ElemMode.{ElemMode}
 use Rattle.wasm_tree.specs.declared.module.ElemMode.TheVariants as elem
@@ -15,19 +12,18 @@ use Rattle.wasm_tree.specs.declared.module.ConstExpr.{ConstExpr}
 use Rattle.wasm_tree.specs.declared.module.Func.{Func}
 use Rattle.wasm_tree.specs.declared.module.GlobalDef.{GlobalDef}
 use Rattle.wasm_tree.specs.declared.module.Module.{Module}
-use Rattle.wasm_tree.specs.Spaces.{tables_of}
 use Rattle.wasm_tree.specs.Bounds.{IsBounded, local_count, param_count, declared_count}
 use Rattle.wasm_valid.specs.declared.kinds.ItemKind.{ItemKind}
 use Rattle.wasm_valid.specs.declared.kinds.ItemKind.TheVariants as kind
-use Rattle.wasm_valid.specs.Validity.{HoldsAt, InSpace, ElemModeHolds, DataModeHolds, count_of}
+use Rattle.wasm_valid.specs.Validity.{HoldsAt, count_of}
 use Rattle.wasm_meaning.specs.State.{Text}
 use Rattle.wasm_meaning.specs.Laws.{EndsArePaths}
 use Rattle.wasm_meaning.specs.Linking.{Part, module_at}
 use Rattle.index_remap.specs.declared.remap.Remap.{Remap}
-use Rattle.index_remap.specs.Renumbered.{all_true, has, fits_import, fits_func, fits_global, fits_export, fits_export_desc, fits_start, fits_elem, fits_data, fits_tree, new_func}
+use Rattle.index_remap.specs.Renumbered.{new_func}
+use Rattle.remap_typing.specs.Indices.{Indices, with_entry, ElemModeNamesOnly, DataModeNamesOnly, TreeNamesOnly}
 use Rattle.remap_typing.specs.Trees.{TreesAgree, Covers, ConstStands, ElemModeStands, DataModeStands, ItemsStand, ItemStands, active, passive, declarative}
 use Rattle.remap_typing.specs.ButForReferences.{HoldsButForReferences, IsValidButForReferences}
-use Rattle.remap_typing.proofs.Lists.{left_true, right_true, all_get}
 use Rattle.merge_terms.specs.Merged.{merged, map_of, merged_const, merged_global, merged_elem, merged_elem_mode, merged_data, merged_data_mode, by_part, defined_funcs, start_calls, starts}
 use Rattle.merge_validity.proofs.Lists.{there, within, map_back, split}
 use Rattle.merge_validity.proofs.ByPart.{by_part_back, by_part_flat}
@@ -69,9 +65,6 @@ comes f parts xs i x e h =
     let z : 0 + r.part ≡ r.part = omega arith in
     record { part = r.part; of = r.«module»; place = r.place; is_part = r.is_part; got = ap (λ p. slice_get (f p r.«module») r.place) (sym z) ∙ r.got }
 
-has_entry : (ys : List ℕ) (n i : ℕ) → n ≤ length ys → i < n → has ys i ≡ true
-has_entry ys n i le lt = lt-ltb _ _ (omega (arith, le, lt))
-
 -- ---- a function of the merged module ----
 
 -- one of a part, or the function that calls several
@@ -103,35 +96,31 @@ func_typed m holds i f at =
     let same : z.0 ≡ f = cc in
     subst (λ (f : Func). f.ty < length m.types) same z.2
 
-second_true : (a b c : Bool) → a && (b && c) ≡ true → b ≡ true
-second_true a b c h = left_true b c (right_true a (b && c) h)
-
-funcs_fit : (m : Remap) (t : Module) → fits_tree m t ≡ true → all_true (map (fits_func m) t.funcs) ≡ true
-funcs_fit m t h =
-    second_true (all_true (map (fits_import m) t.imports)) (all_true (map (fits_func m) t.funcs))
-    (all_true (map (fits_global m) t.globals) && (all_true (map (fits_export m) t.exports) && (fits_start m t.start && (all_true (map (fits_elem m) t.elems) && all_true (map (fits_data m) t.datas))))) h
-
-abbrev pub TreeEntries : Type 0
-TreeEntries = (m : Remap) (t : Module) → ItemsHold t → Covers m t → IsTrue (fits_tree m t)
+-- what each part names has an entry
+abbrev pub TreeNames : Type 0
+TreeNames = (m : Remap) (t : Module) → ItemsHold t → Covers m t → TreeNamesOnly (with_entry m) t
 
 abbrev pub Undeclared : Type 0
-Undeclared = (m : Remap) (t u : Module) (k : ItemKind) (i j : ℕ) → TreesAgree m t u → ItemStands m t u k i j → HoldsAt t k i → HoldsButForReferences u k j
+Undeclared = (m : Remap) (kept : Indices) (t u : Module) (k : ItemKind) (i j : ℕ) → TreesAgree m kept t u → ItemStands m kept t u k i j → HoldsAt t k i → HoldsButForReferences u k j
 
-module _ (law : EndsArePaths) (entries : TreeEntries) (undeclared : Undeclared) (parts : List Part) (names : List (Option Text)) (links : AreLinked parts) (valid : (p : ℕ) (m : Module) → module_at parts p ≡ Some m → ItemsHold m)
+module _ (law : EndsArePaths) (named : TreeNames) (undeclared : Undeclared) (parts : List Part) (names : List (Option Text)) (links : AreLinked parts) (valid : (p : ℕ) (m : Module) → module_at parts p ≡ Some m → ItemsHold m)
     (stands : (p : ℕ) (m : Module) (e : ConstExpr) → module_at parts p ≡ Some m → ConstStands m (merged parts names) e (merged_const parts p e))
     (differ : (j : ℕ) (e : Export) → slice_get (merged parts names).exports j ≡ Some e → Contains (map (λ x. x.name) (take j (merged parts names).exports)) e.name → ⊥) where
   abbrev whole : Module
   whole = merged parts names
 
-  agree : (p : ℕ) (m : Module) → module_at parts p ≡ Some m → TreesAgree (map_of parts p m) m whole
+  abbrev entered : ℕ → Module → Indices
+  entered p m = with_entry (map_of parts p m)
+
+  names_only : (p : ℕ) (m : Module) → module_at parts p ≡ Some m → TreeNamesOnly (entered p m) m
+  names_only p m is = named (map_of parts p m) m (valid p m is) (map_covers parts p m)
+
+  agree : (p : ℕ) (m : Module) → module_at parts p ≡ Some m → TreesAgree (map_of parts p m) (entered p m) m whole
   agree p m is = trees_agree law parts names links p m is (valid p m is)
 
   -- what stands for an item of a part holds
-  by_stand : (p : ℕ) (m : Module) (k : ItemKind) (i j : ℕ) → module_at parts p ≡ Some m → i < count_of m true k → ItemStands (map_of parts p m) m whole k i j → HoldsButForReferences whole k j
-  by_stand p m k i j is lt s = undeclared (map_of parts p m) m whole k i j (agree p m is) s (valid p m is k i lt)
-
-  type_fits : (p : ℕ) (m : Module) (ty : ℕ) → ty < length m.types → ty < length (map_of parts p m).types
-  type_fits p m ty lt = let c = (map_covers parts p m).types in omega (arith, c, lt)
+  by_stand : (p : ℕ) (m : Module) (k : ItemKind) (i j : ℕ) → module_at parts p ≡ Some m → i < count_of m true k → ItemStands (map_of parts p m) (entered p m) m whole k i j → HoldsButForReferences whole k j
+  by_stand p m k i j is lt s = undeclared (map_of parts p m) (entered p m) m whole k i j (agree p m is) s (valid p m is k i lt)
 
   func_holds : (j : ℕ) → j < length whole.funcs → HoldsButForReferences whole kind.Func j
   func_holds j lt = let h = there whole.funcs j lt in by h.0 h.1 (func_from parts names j h.0 h.1)
@@ -139,7 +128,7 @@ module _ (law : EndsArePaths) (entries : TreeEntries) (undeclared : Undeclared) 
       by : (h : Func) → slice_get whole.funcs j ≡ Some h → PartFunc parts h ⊎ ((k : ℕ) × (slice_get (start_calls parts (starts parts)) k ≡ Some h)) → HoldsButForReferences whole kind.Func j
       by h at (inl f) =
           by_stand f.part f.of kind.Func f.place j f.is_part (within f.of.funcs f.place f.func f.at)
-          (f.func, h, f.at, at, type_fits f.part f.of f.func.ty (func_typed f.of (valid f.part f.of f.is_part) f.place f.func f.at), ap (λ (h : Func). h.ty) f.new)
+          (f.func, h, f.at, at, ((names_only f.part f.of f.is_part).funcs f.place f.func f.at).0, ap (λ (h : Func). h.ty) f.new)
       by h at (inr c) =
           let w = calls_are law parts names links valid c.0 h c.1 in
           (h, at, within whole.types h.ty _ (calls_typed_at law parts names links valid h w))
@@ -147,14 +136,10 @@ module _ (law : EndsArePaths) (entries : TreeEntries) (undeclared : Undeclared) 
   body_holds : (j : ℕ) → j < length whole.funcs → HoldsButForReferences whole kind.Body j
   body_holds j lt = let h = there whole.funcs j lt in by h.0 h.1 (func_from parts names j h.0 h.1)
     where
-      fits : (p : ℕ) (m : Module) (i : ℕ) (f : Func) → module_at parts p ≡ Some m → slice_get m.funcs i ≡ Some f → fits_func (map_of parts p m) f ≡ true
-      fits p m i f is at =
-          all_get (fits_func (map_of parts p m)) m.funcs i f (funcs_fit (map_of parts p m) m (entries (map_of parts p m) m (valid p m is) (map_covers parts p m))) at
-
       by : (h : Func) → slice_get whole.funcs j ≡ Some h → PartFunc parts h ⊎ ((k : ℕ) × (slice_get (start_calls parts (starts parts)) k ≡ Some h)) → HoldsButForReferences whole kind.Body j
       by h at (inl f) =
           by_stand f.part f.of kind.Body f.place j f.is_part (within f.of.funcs f.place f.func f.at)
-          (f.func, f.at, fits f.part f.of f.place f.func f.is_part f.at, at ∙ ap Some f.new)
+          (f.func, f.at, (names_only f.part f.of f.is_part).funcs f.place f.func f.at, at ∙ ap Some f.new)
       by h at (inr c) = calls_body law parts names links valid j h at (calls_are law parts names links valid c.0 h c.1)
 
   table_holds : (j : ℕ) → j < length whole.tables → HoldsButForReferences whole kind.Table j
@@ -177,33 +162,19 @@ module _ (law : EndsArePaths) (entries : TreeEntries) (undeclared : Undeclared) 
       let init : ConstStands r.of whole g.0.init x.0.init = subst (λ (h : GlobalDef). ConstStands r.of whole g.0.init h.init) g.2 (stands r.part r.of g.0.init r.is_part) in
       by_stand r.part r.of kind.Global r.place j r.is_part (within r.of.globals r.place g.0 g.1) (g.0, x.0, g.1, x.1, ap (λ (h : GlobalDef). h.ty.ty) (sym g.2), init)
 
-  export_fits : (p : ℕ) (m : Module) (d : ExportDesc) → InSpace m d → fits_export_desc (map_of parts p m) d ≡ true
-  export_fits p m (ex.Func i) lt = has_entry _ _ _ (map_covers parts p m).funcs lt
-  export_fits p m (ex.Table i) lt = has_entry _ _ _ (map_covers parts p m).tables lt
-  export_fits p m (ex.Memory i) lt = has_entry _ _ _ (map_covers parts p m).memories lt
-  export_fits p m (ex.Global i) lt = has_entry _ _ _ (map_covers parts p m).globals lt
-
   export_holds : (j : ℕ) → j < length whole.exports → HoldsButForReferences whole kind.Export j
   export_holds j lt =
       let e = there whole.exports j lt in
       let r = export_from parts names j e.0 e.1 in
       let in_exports = within r.1.exports r.2 r.3 r.5 in
-      let z = valid r.0 r.1 r.4 kind.Export r.2 in_exports in
-      let both : Some z.0 ≡ Some r.3 = sym z.1 ∙ r.5 in
-      let same : z.0 ≡ r.3 = cc in
-      let space : InSpace r.1 r.3.desc = subst (λ (x : Export). InSpace r.1 x.desc) same z.2 in
-      by_stand r.0 r.1 kind.Export r.2 j r.4 in_exports (r.3, e.0, r.5, e.1, export_fits r.0 r.1 r.3.desc space, r.6, differ j e.0 e.1)
+      by_stand r.0 r.1 kind.Export r.2 j r.4 in_exports (r.3, e.0, r.5, e.1, (names_only r.0 r.1 r.4).exports r.2 r.3 r.5, r.6, differ j e.0 e.1)
 
   -- ---- segments ----
 
-  elem_mode_stands : (p : ℕ) (m : Module) (ty : _) (mode : ElemMode) → module_at parts p ≡ Some m → ElemModeHolds m ty mode → ElemModeStands (map_of parts p m) m whole mode (merged_elem_mode parts p (map_of parts p m) mode)
-  elem_mode_stands p m ty (elem.Active table offset) is h =
-      let c = (map_covers parts p m).tables in
-      let r = map_back (λ t. t.ty) (tables_of m) table ty h.0 in
-      let l = within (tables_of m) table r.0 r.1 in
-      active (omega (arith, c, l)) (stands p m offset is)
-  elem_mode_stands p m ty elem.Passive is h = passive
-  elem_mode_stands p m ty elem.Declarative is h = declarative
+  elem_mode_stands : (p : ℕ) (m : Module) (mode : ElemMode) → module_at parts p ≡ Some m → ElemModeNamesOnly (entered p m) mode → ElemModeStands (map_of parts p m) (entered p m) m whole mode (merged_elem_mode parts p (map_of parts p m) mode)
+  elem_mode_stands p m (elem.Active table offset) is n = active n.0 (stands p m offset is)
+  elem_mode_stands p m elem.Passive is n = passive
+  elem_mode_stands p m elem.Declarative is n = declarative
 
   elem_holds : (j : ℕ) → j < length whole.elems → HoldsButForReferences whole kind.Elem j
   elem_holds j lt =
@@ -211,10 +182,6 @@ module _ (law : EndsArePaths) (entries : TreeEntries) (undeclared : Undeclared) 
       let r = comes (λ p m. map (merged_elem parts p (map_of parts p m)) m.elems) parts whole.elems j x.0 (elems_are parts names) x.1 in
       let s = map_back (merged_elem parts r.part (map_of parts r.part r.of)) r.of.elems r.place x.0 r.got in
       let in_elems = within r.of.elems r.place s.0 s.1 in
-      let z = valid r.part r.of r.is_part kind.Elem r.place in_elems in
-      let both : Some z.0 ≡ Some s.0 = sym z.1 ∙ s.1 in
-      let same : z.0 ≡ s.0 = cc in
-      let mode : ElemModeHolds r.of s.0.ty s.0.mode = subst (λ (s : ElemSeg). ElemModeHolds r.of s.ty s.mode) same z.3 in
       by_stand r.part r.of kind.Elem r.place j r.is_part in_elems (
         s.0,
         x.0,
@@ -222,15 +189,15 @@ module _ (law : EndsArePaths) (entries : TreeEntries) (undeclared : Undeclared) 
         x.1,
         ap (λ (s : ElemSeg). s.ty) (sym s.2),
         subst (ItemsStand r.of whole s.0) s.2 (items r.part r.of s.0 r.is_part),
-        subst (λ (x : ElemSeg). ElemModeStands (map_of parts r.part r.of) r.of whole s.0.mode x.mode) s.2 (elem_mode_stands r.part r.of s.0.ty s.0.mode r.is_part mode),
+        subst (λ (x : ElemSeg). ElemModeStands (map_of parts r.part r.of) (entered r.part r.of) r.of whole s.0.mode x.mode) s.2 (elem_mode_stands r.part r.of s.0.mode r.is_part ((names_only r.part r.of r.is_part).elem_modes r.place s.0 s.1)),
       )
     where
       items : (p : ℕ) (m : Module) (s : ElemSeg) → module_at parts p ≡ Some m → ItemsStand m whole s (merged_elem parts p (map_of parts p m) s)
-      items p m s is n d h = let e = map_back (merged_const parts p) s.items n d h in (e.0, e.1, subst (ConstStands m whole e.0) e.2 (stands p m e.0 is))
+      items p m s is n d h = let e = map_back (merged_const parts p) s.items n d h in (n, e.0, e.1, subst (ConstStands m whole e.0) e.2 (stands p m e.0 is))
 
-  data_mode_stands : (p : ℕ) (m : Module) (mode : DataMode) → module_at parts p ≡ Some m → DataModeHolds m mode → DataModeStands (map_of parts p m) m whole mode (merged_data_mode parts p (map_of parts p m) mode)
-  data_mode_stands p m («data».Active memory offset) is h = let c = (map_covers parts p m).memories in let l = h.0 in active (omega (arith, c, l)) (stands p m offset is)
-  data_mode_stands p m «data».Passive is h = passive
+  data_mode_stands : (p : ℕ) (m : Module) (mode : DataMode) → module_at parts p ≡ Some m → DataModeNamesOnly (entered p m) mode → DataModeStands (map_of parts p m) (entered p m) m whole mode (merged_data_mode parts p (map_of parts p m) mode)
+  data_mode_stands p m («data».Active memory offset) is n = active n.0 (stands p m offset is)
+  data_mode_stands p m «data».Passive is n = passive
 
   data_holds : (j : ℕ) → j < length whole.datas → HoldsButForReferences whole kind.Segment j
   data_holds j lt =
@@ -238,12 +205,8 @@ module _ (law : EndsArePaths) (entries : TreeEntries) (undeclared : Undeclared) 
       let r = comes (λ p m. map (merged_data parts p (map_of parts p m)) m.datas) parts whole.datas j x.0 (datas_are parts names) x.1 in
       let s = map_back (merged_data parts r.part (map_of parts r.part r.of)) r.of.datas r.place x.0 r.got in
       let in_datas = within r.of.datas r.place s.0 s.1 in
-      let z = valid r.part r.of r.is_part kind.Segment r.place in_datas in
-      let both : Some z.0 ≡ Some s.0 = sym z.1 ∙ s.1 in
-      let same : z.0 ≡ s.0 = cc in
-      let mode : DataModeHolds r.of s.0.mode = subst (λ (s : DataSeg). DataModeHolds r.of s.mode) same z.2 in
       by_stand r.part r.of kind.Segment r.place j r.is_part in_datas
-      (s.0, x.0, s.1, x.1, subst (λ (x : DataSeg). DataModeStands (map_of parts r.part r.of) r.of whole s.0.mode x.mode) s.2 (data_mode_stands r.part r.of s.0.mode r.is_part mode))
+      (s.0, x.0, s.1, x.1, subst (λ (x : DataSeg). DataModeStands (map_of parts r.part r.of) (entered r.part r.of) r.of whole s.0.mode x.mode) s.2 (data_mode_stands r.part r.of s.0.mode r.is_part ((names_only r.part r.of r.is_part).data_modes r.place s.0 s.1)))
 
   -- ---- all items ----
 

@@ -8,8 +8,9 @@ use Rattle.wasm_meaning.specs.State.{Text}
 use Rattle.wasm_meaning.specs.Laws.{EndsArePaths, ReadsArePaths}
 use Rattle.wasm_meaning.specs.Linking.{Part, module_at}
 use Rattle.index_remap.specs.declared.remap.Remap.{Remap}
-use Rattle.index_remap.specs.Renumbered.{fits_const, fits_tree, new_const}
+use Rattle.index_remap.specs.Renumbered.{fits_tree, new_const}
 use Rattle.index_remap.specs.References.{declared}
+use Rattle.remap_typing.specs.Indices.{Indices, with_entry, ConstNamesOnly, TreeNamesOnly}
 use Rattle.remap_typing.specs.Trees.{TreesAgree, Covers, ReadsImport, ConstStands}
 use Rattle.remap_typing.specs.ButForReferences.{IsValidButForReferences}
 use Rattle.export_names.specs.declared.mode.Mode.{Mode}
@@ -23,7 +24,7 @@ use Rattle.merge_validity.proofs.Agree.{ItemsHold}
 use Rattle.merge_validity.proofs.Constants.{const_stands}
 use Rattle.merge_validity.proofs.Exports.{names_differ}
 use Rattle.merge_validity.proofs.Bounds.{merged_single, few_exports, few_elems, module_bounded}
-use Rattle.merge_validity.proofs.Items.{Undeclared, items_hold, locals_few}
+use Rattle.merge_validity.proofs.Items.{TreeNames, Undeclared, items_hold, locals_few}
 
 joined_is : (parts : List Part) (mode : Mode) → joined_module parts mode ≡ declared (merged parts (new_names mode (export_names parts)))
 unfolding joined_module
@@ -33,7 +34,8 @@ joined_is parts mode = refl
 pub record Laws : Type 0 where
   pub items : (m : Module) → IsValid m ↔ ItemsHold m
   pub entries : (m : Remap) (t : Module) → IsValid t → Covers m t → IsTrue (fits_tree m t)
-  pub constants : (m : Remap) (t u : Module) (e : ConstExpr) → TreesAgree m t u → IsTrue (fits_const m e) → ReadsImport m u e → ConstStands t u e (new_const m e)
+  pub named : (m : Remap) (t : Module) → IsTrue (fits_tree m t) → TreeNamesOnly (with_entry m) t
+  pub constants : (m : Remap) (kept : Indices) (t u : Module) (e : ConstExpr) → TreesAgree m kept t u → ConstNamesOnly kept e → ReadsImport m u e → ConstStands t u e (new_const m e)
   pub undeclared : Undeclared
   pub valid : (t : Module) → IsValidButForReferences t → IsValid (declared t)
   pub single : (t : Module) → IsSingle t → IsSingle (declared t)
@@ -59,10 +61,13 @@ module _ (laws : Laws) (parts : List Part) (mode : Mode) (can : CanBeJoined part
   stands : (p : ℕ) (m : Module) (e : ConstExpr) → module_at parts p ≡ Some m → ConstStands m (merged parts names) e (merged_const parts p e)
   stands p m e is = const_stands laws.ends parts names links laws.reads valid laws.constants p m e is
 
+  names_only : TreeNames
+  names_only m t holds covers = laws.named m t (laws.entries m t ((laws.items t).1 holds) covers)
+
   pub joined_valid : IsValid (joined_module parts mode)
   joined_valid =
       subst IsValid (sym (joined_is parts mode))
-      (laws.valid (merged parts names) (items_hold laws.ends (λ m t holds. laws.entries m t ((laws.items t).1 holds)) laws.undeclared parts names links valid stands
+      (laws.valid (merged parts names) (items_hold laws.ends names_only laws.undeclared parts names links valid stands
       (names_differ laws.differ laws.first parts mode can.names (few_exports (merged parts names) sizes))))
 
   pub joined_bounded : IsBounded (joined_module parts mode)
@@ -70,7 +75,7 @@ module _ (laws : Laws) (parts : List Part) (mode : Mode) (can : CanBeJoined part
       subst IsBounded (sym (joined_is parts mode))
       (laws.bounded (merged parts names)
       (module_bounded (merged parts names) sizes
-      (locals_few laws.ends (λ m t holds. laws.entries m t ((laws.items t).1 holds)) laws.undeclared parts names links valid stands
+      (locals_few laws.ends names_only laws.undeclared parts names links valid stands
       (names_differ laws.differ laws.first parts mode can.names (few_exports (merged parts names) sizes)) can.bounded))
       (few_elems (merged parts names) sizes))
 

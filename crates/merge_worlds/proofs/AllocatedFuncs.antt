@@ -14,6 +14,7 @@ use Rattle.index_remap.specs.declared.remap.Remap.{Remap}
 use Rattle.index_remap.specs.Renumbered.{has, renumbered_all, fits_all, fits_func}
 use Rattle.index_remap.specs.Renumbered as renumbered
 use Rattle.index_remap.specs.Related.{Kind, Funcs, Tables, Mems, Globals, Elems, Datas, Pairing, OptRel, some, CodeRel, FuncRel, defined}
+use Rattle.remap_typing.specs.Indices.{with_entry}
 use Rattle.permuted_worlds.specs.Named.{EntriesName}
 use Rattle.permuted_worlds.proofs.Places.{left_true, right_true, found, map_length, opt_at, names_of}
 use Rattle.merge_terms.specs.Merged.{map_of}
@@ -41,7 +42,7 @@ module _ (laws : Laws) (env : Environment) (parts : List Part) (p : ℕ) (m : Mo
   type_below : (x : ℕ) → has r.types x ≡ true → x < length m.types
   type_below x h = let l = ltb-true _ _ h in omega (arith, l, type_entries parts p m)
 
-  entries_name : EntriesName R r i j
+  entries_name : EntriesName R r (with_entry r) i j
   entries_name = record {
     types = λ x h. let t = found m.types x (type_below x h) in at_is i.types x t.0 (ap (λ ts. place ts x) k.own_types ∙ t.1) ∙ sym (at_is j.types (slice_index r.types x) t.0 (k.types x t.0 t.1));
     funcs = λ x h. names_of i.funcs j.funcs x _ (space_names Funcs i.funcs j.funcs r.funcs k.funcs x h);

@@ -22,7 +22,6 @@ use Rattle.index_remap.specs.Renumbered.{has, new_const, new_elem_mode, renumber
 use Rattle.index_remap.specs.Renumbered as renumbered
 use Rattle.index_remap.specs.Related.{Funcs, Pairing, OptRel, none, some, BothRel, both, ListRel, nil, RefRel, func, ValRel, number, reference, FuncRel, defined, own, TableRel, GlobalRel, ElemRel, StoreRel, CodeRel}
 use Rattle.index_remap.specs.Related as to
-use Rattle.index_remap.specs.Laws.{RenumberedCodeIsRelated}
 use Rattle.index_remap.proofs.Rel.{append_rel, copies_rel}
 use Rattle.permuted_worlds.specs.Permuted.{moving, IsOrder, permuted}
 use Rattle.permuted_worlds.proofs.Places.{left_true, right_true, found, within, place_left, place_right, map_length, append_length, number_at, Moves, stays, goes, moves_by, some_then, then_rel, then_rel_is, then_same, opt_self, opt_at, place_rel, self_rel, tested_rel, map_rel, maps_rel, all_rel, all_length, AllThere, each_there, tested_at, both_at, both_in}
@@ -30,7 +29,7 @@ use Rattle.permuted_worlds.specs.Alone.{one, read_in, read_place}
 use Rattle.permuted_worlds.proofs.Alone.{read_is}
 use Rattle.permuted_worlds.proofs.Partners.{related, pairing, partner, shares_own}
 use Rattle.permuted_worlds.proofs.Owned.{null_rel, flat_rel, own_tables_rel, own_globals_rel}
-use Rattle.permuted_worlds.proofs.Named.{all_named}
+use Rattle.permuted_worlds.proofs.Named.{FittingCodeIsRelated}
 use Rattle.permuted_worlds.proofs.Instances.{Fits, stays_at, below, imports_stay, InstRel, entries_name}
 
 module _ (env : Environment) (places : List ℕ) (t : Module) where
@@ -82,7 +81,7 @@ module _ (env : Environment) (places : List ℕ) (t : Module) where
     datas = λ {a} {b} r. in_lists _ k.datas k.data_count a b (partner env places t to.Datas a b r);
   }
 
-  module _ (funcs : List tree.Func) (order : IsOrder places funcs t) (fit : Fits m t) (code : RenumberedCodeIsRelated) (i j : Inst) (k : InstRel env places t i j) where
+  module _ (funcs : List tree.Func) (order : IsOrder places funcs t) (fit : Fits m t) (code : FittingCodeIsRelated) (i j : Inst) (k : InstRel env places t i j) where
     abbrev u : Module
     u = permuted places funcs t
 
@@ -160,7 +159,7 @@ module _ (env : Environment) (places : List ℕ) (t : Module) where
         func_there j k.right_types g (subst (λ n. n < length t.types) same (below _ f.0.ty fits)))
 
     body_rel : (f : tree.Func) (n : ℕ) → place t.funcs n ≡ Some f → CodeRel R i j f.body (renumbered_all m f.body)
-    body_rel f n h = code (related env places t) (related env places t) [] m i j f.body (all_named R m i j (entries_name env places t k) f.body (right_true (has m.types f.ty) _ (tested_at (fits_func m) t.funcs n f fit.funcs h)))
+    body_rel f n h = code (related env places t) (related env places t) [] m i j (entries_name env places t k) f.body (right_true (has m.types f.ty) _ (tested_at (fits_func m) t.funcs n f fit.funcs h))
 
     own_rel : ListRel (FuncRel R) (own_funcs env) (own_funcs env)
     own_rel = flat_rel _ (λ o. maps_rel _ _ (self_rel o.funcs (λ ty. own))) env

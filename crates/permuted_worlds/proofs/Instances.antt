@@ -17,6 +17,7 @@ use Rattle.index_remap.specs.Renumbered.{has, all_true, new_import, new_import_d
 use Rattle.index_remap.specs.Related.{Funcs, Mems, Elems, Datas, Pairing, OptRel, some, ListRel}
 use Rattle.index_remap.specs.Related as to
 use Rattle.index_remap.proofs.Rel.{append_rel}
+use Rattle.remap_typing.specs.Indices.{with_entry}
 use Rattle.permuted_worlds.specs.Named.{EntriesName}
 use Rattle.permuted_worlds.specs.Permuted.{moving, IsOrder, permuted}
 use Rattle.permuted_worlds.proofs.Places.{left_true, right_true, index_at, found, within, place_left, place_right, map_length, numbers_length, place_numbers, index_numbers, moved_low, moved_high, moved_length, then_rel, then_same, opt_self, opt_at, place_rel, numbers_rel, all_length, names_of}
@@ -149,7 +150,7 @@ module _ (env : Environment) (places : List ℕ) (t : Module) where
   pub row_names : {P : ℕ → ℕ → Type 0} (n : ℕ) (xs ys : List ℕ) → ListRel P xs ys → (x : ℕ) → has (numbers 0 n) x ≡ true → OptRel P (place xs x) (place ys (slice_index (numbers 0 n) x))
   row_names {P = P} n xs ys r x h = subst (λ z. OptRel P (place xs x) (place ys z)) (sym (stays_at n x h)) (place_rel r x)
 
-  pub entries_name : {i j : Inst} → InstRel i j → EntriesName R m i j
+  pub entries_name : {i j : Inst} → InstRel i j → EntriesName R m (with_entry m) i j
   entries_name {i} {j} k = record {
     types = λ x h. rw (k.left_types, k.right_types, stays_at (length t.types) x h) refl;
     funcs = λ x h. names_of i.funcs j.funcs x _ (k.funcs x (ltb-true _ _ h));

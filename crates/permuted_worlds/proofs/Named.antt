@@ -1,29 +1,31 @@
--- Where each index that has an entry names what its entry names, so does each index of a body all of whose indices have entries.
-use Rattle.std.proofs.Common.{◌≡◌, Bool, true, List, [], ◌∷◌, sym, subst, ◌∙◌}
+-- Where each index of a set names what its entry names, so does each index of a body that names only these.
+use Rattle.std.proofs.Common.{◌≡◌, ℕ, List, Bool, true}
 use Rattle.wasm_tree.specs.declared.types.BlockType.{BlockType}
 use Rattle.wasm_tree.specs.declared.types.BlockType.TheVariants as bt
-use Rattle.wasm_tree.specs.declared.instr.Instr.{Instr, fold_out-Instr, map-Instr, out-Instr, Row_of-Instr, items-the_row-Instr, items_shown-the_row-Instr-0, end_of-Instr, more_of-Instr, Block', Loop', If'}
+use Rattle.wasm_tree.specs.declared.instr.Instr.{Instr}
 use Rattle.wasm_tree.specs.declared.instr.Instr.TheOpen.{Instr-F}
 use Rattle.wasm_meaning.specs.State.{Inst}
 use Rattle.index_remap.specs.declared.remap.Remap.{Remap}
-use Rattle.index_remap.specs.Renumbered.{fits, fits_all, fits_step, fits_type}
-use Rattle.index_remap.specs.Related.{Pairing}
-use Rattle.index_remap.specs.CodeNames.{BlockNames, LayerNames, Layers, RowLayers, ListLayers}
+use Rattle.index_remap.specs.Renumbered.{fits_all, renumbered_all}
+use Rattle.index_remap.specs.Related.{Kind, Pairing, CodeRel}
+use Rattle.index_remap.specs.Laws.{passed}
+use Rattle.index_remap.specs.CodeNames.{BlockNames, LayerNames, ListLayers}
+use Rattle.index_remap.proofs.Unlisted.{all_follow}
+use Rattle.remap_typing.specs.Indices.{Indices, with_entry, BlockNamesOnly, LayerNamesOnly}
 use Rattle.permuted_worlds.specs.Named.{EntriesName}
-use Rattle.permuted_worlds.proofs.Places.{left_true, right_true}
 
-module _ (R : Pairing) (m : Remap) (i j : Inst) (k : EntriesName R m i j) where
-  block_named : (b : BlockType) → fits_type m b ≡ true → BlockNames m i j b
+module _ (R : Pairing) (m : Remap) (kept : Indices) (i j : Inst) (k : EntriesName R m kept i j) where
+  block_named : (b : BlockType) → BlockNamesOnly kept b → BlockNames m i j b
   block_named bt.Empty h = tt
   block_named (bt.Value t) h = tt
   block_named (bt.Index x) h = k.types x h
 
-  layer_named : (l : Instr-F Instr) → fits_step m (map-Instr Instr Bool (fits m) l) ≡ true → LayerNames R m i j l
-  layer_named (Instr-F.Block b is) h = block_named b (left_true _ _ h)
-  layer_named (Instr-F.Loop b is) h = block_named b (left_true _ _ h)
-  layer_named (Instr-F.If b is os) h = block_named b (left_true _ _ (left_true _ _ h))
+  layer_named : (l : Instr-F Instr) → LayerNamesOnly kept l → LayerNames R m i j l
+  layer_named (Instr-F.Block b is) h = block_named b h
+  layer_named (Instr-F.Loop b is) h = block_named b h
+  layer_named (Instr-F.If b is os) h = block_named b h
   layer_named (Instr-F.Call x) h = k.funcs x h
-  layer_named (Instr-F.CallIndirect x y) h = (k.types x (left_true _ _ h), k.tables y (right_true _ _ h))
+  layer_named (Instr-F.CallIndirect x y) h = (k.types x h.0, k.tables y h.1)
   layer_named (Instr-F.GlobalGet x) h = k.globals x h
   layer_named (Instr-F.GlobalSet x) h = k.globals x h
   layer_named (Instr-F.TableGet x) h = k.tables x h
@@ -33,13 +35,13 @@ module _ (R : Pairing) (m : Remap) (i j : Inst) (k : EntriesName R m i j) where
   layer_named (Instr-F.MemorySize x) h = k.mems x h
   layer_named (Instr-F.MemoryGrow x) h = k.mems x h
   layer_named (Instr-F.RefFunc x) h = k.funcs x h
-  layer_named (Instr-F.MemoryInit x y) h = (k.datas x (left_true _ _ h), k.mems y (right_true _ _ h))
+  layer_named (Instr-F.MemoryInit x y) h = (k.datas x h.0, k.mems y h.1)
   layer_named (Instr-F.DataDrop x) h = k.datas x h
-  layer_named (Instr-F.MemoryCopy x y) h = (k.mems x (left_true _ _ h), k.mems y (right_true _ _ h))
+  layer_named (Instr-F.MemoryCopy x y) h = (k.mems x h.0, k.mems y h.1)
   layer_named (Instr-F.MemoryFill x) h = k.mems x h
-  layer_named (Instr-F.TableInit x y) h = (k.elems x (left_true _ _ h), k.tables y (right_true _ _ h))
+  layer_named (Instr-F.TableInit x y) h = (k.elems x h.0, k.tables y h.1)
   layer_named (Instr-F.ElemDrop x) h = k.elems x h
-  layer_named (Instr-F.TableCopy x y) h = (k.tables x (left_true _ _ h), k.tables y (right_true _ _ h))
+  layer_named (Instr-F.TableCopy x y) h = (k.tables x h.0, k.tables y h.1)
   layer_named (Instr-F.TableGrow x) h = k.tables x h
   layer_named (Instr-F.TableSize x) h = k.tables x h
   layer_named (Instr-F.TableFill x) h = k.tables x h
@@ -62,30 +64,11 @@ module _ (R : Pairing) (m : Remap) (i j : Inst) (k : EntriesName R m i j) where
   layer_named (Instr-F.RefNull x) h = tt
   layer_named Instr-F.RefIsNull h = tt
 
-  opened : (o : Instr) → fits m o ≡ true → fits_step m (map-Instr Instr Bool (fits m) (out-Instr o)) ≡ true
-  opened o h = sym (fold_out-Instr Bool (fits_step m) o) ∙ h
+  pub all_named : (code : List Instr) → ListLayers (LayerNamesOnly kept) code → ListLayers (LayerNames R m i j) code
+  all_named = all_follow (LayerNamesOnly kept) (LayerNames R m i j) layer_named
 
-  here : (o : Instr) → fits m o ≡ true → LayerNames R m i j (out-Instr o)
-  here o h = layer_named (out-Instr o) (opened o h)
-
-  mutual
-    unfolding out-Instr denote.Hole.Carrier.out
-
-    instr_named : (o : Instr) → fits m o ≡ true → Layers (LayerNames R m i j) o
-    instr_named (Block' b n c) h = (here (Block' b n c) h, row_named c (subst (λ is. fits_all m is ≡ true) (items_shown-the_row-Instr-0 n c) (right_true (fits_type m b) _ (opened (Block' b n c) h))))
-    instr_named (Loop' b n c) h = (here (Loop' b n c) h, row_named c (subst (λ is. fits_all m is ≡ true) (items_shown-the_row-Instr-0 n c) (right_true (fits_type m b) _ (opened (Loop' b n c) h))))
-    instr_named (If' b n c l d) h =
-        let both = opened (If' b n c l d) h in (
-          here (If' b n c l d) h,
-          row_named c (subst (λ is. fits_all m is ≡ true) (items_shown-the_row-Instr-0 n c) (right_true (fits_type m b) _ (left_true _ _ both))),
-          row_named d (subst (λ is. fits_all m is ≡ true) (items_shown-the_row-Instr-0 l d) (right_true _ _ both)),
-        )
-    instr_named o h = here o h
-
-    row_named : {n : _} (os : Row_of-Instr n) → fits_all m (items-the_row-Instr n os) ≡ true → RowLayers (LayerNames R m i j) os
-    row_named end_of-Instr h = tt
-    row_named (more_of-Instr o os) h = (instr_named o (left_true _ _ h), row_named os (right_true (fits m o) _ h))
-
-  pub all_named : (os : List Instr) → fits_all m os ≡ true → ListLayers (LayerNames R m i j) os
-  all_named [] h = tt
-  all_named (o ∷ os) h = (instr_named o (left_true _ _ h), all_named os (right_true (fits m o) _ h))
+-- what the two laws of such code say together: code that fits a map and its renumbering are related
+abbrev pub FittingCodeIsRelated : Type 0
+FittingCodeIsRelated =
+    (of named : Kind → ℕ → ℕ → Bool) (l : List ℕ) (m : Remap) (i j : Inst) → EntriesName (passed of named l) m (with_entry m) i j →
+    (code : List Instr) → fits_all m code ≡ true → CodeRel (passed of named l) i j code (renumbered_all m code)

@@ -18,9 +18,9 @@ use Rattle.wasm_meaning.specs.World.{Filled, tasks_in, or_trapped, fill_table, c
 use Rattle.index_remap.specs.declared.remap.Remap.{Remap}
 use Rattle.index_remap.specs.Renumbered.{all_true, new_elem_mode, new_elem, new_data_mode, new_data, fits_elem, fits_elem_mode, fits_data, fits_data_mode}
 use Rattle.index_remap.specs.Related.{Tables, Mems, Elems, Datas, Pairing, OptRel, none, some, ResRel, done, trap, wrong, ListRel, nil, cons, RefRel, TableRel, ElemRel}
-use Rattle.index_remap.specs.Laws.{RenumberedCodeIsRelated}
 use Rattle.index_remap.proofs.Rel.{put_rel, overwrite_rel}
 use Rattle.permuted_worlds.specs.Permuted.{moving, IsOrder, permuted}
+use Rattle.permuted_worlds.proofs.Named.{FittingCodeIsRelated}
 use Rattle.permuted_worlds.proofs.Places.{left_true, right_true, number_at, then_rel, then_same, place_rel, put_length}
 use Rattle.permuted_worlds.specs.Alone.{one}
 use Rattle.permuted_worlds.proofs.Partners.{pairing, partner}
@@ -95,7 +95,7 @@ module _ (env : Environment) (places : List ℕ) (t : Module) where
   fill_memory_rel Traps like e d r = record { store = like; trapped = refl }
   fill_memory_rel IllTyped like e d r = record { store = like; trapped = refl }
 
-  module _ (funcs : List tree.Func) (order : IsOrder places funcs t) (fit : Fits m t) (code : RenumberedCodeIsRelated) (i j : Inst) (k : InstRel env places t i j) where
+  module _ (funcs : List tree.Func) (order : IsOrder places funcs t) (fit : Fits m t) (code : FittingCodeIsRelated) (i j : Inst) (k : InstRel env places t i j) where
     abbrev u : Module
     u = permuted places funcs t
 

@@ -16,10 +16,11 @@ use Rattle.index_remap.specs.declared.remap.Remap.{Remap}
 use Rattle.index_remap.specs.Renumbered.{new_start, new_export, new_export_desc, fits_start, fits_export, fits_export_desc}
 use Rattle.index_remap.specs.Related.{Funcs, Pairing, OptRel, none, some, ListRel, nil, cons, opening}
 use Rattle.index_remap.specs.RelatedRuns.{ThingRel, a_func, a_table, a_memory, a_global, KeyRel, BegunRel}
-use Rattle.index_remap.specs.Laws.{RenumberedCodeIsRelated, EntryByEntry}
+use Rattle.index_remap.specs.Laws.{EntryByEntry}
 use Rattle.index_remap.proofs.Rel.{append_rel}
 use Rattle.remap_typing.specs.Trees.{Covers}
 use Rattle.permuted_worlds.specs.Permuted.{moving, IsOrder, permuted}
+use Rattle.permuted_worlds.proofs.Named.{FittingCodeIsRelated}
 use Rattle.permuted_worlds.proofs.Places.{map_length, append_length, numbers_length, moved_length, then_rel, tested_rel, maps_rel, all_rel}
 use Rattle.permuted_worlds.specs.Alone.{one}
 use Rattle.permuted_worlds.proofs.Partners.{pairing, shares_own}
@@ -47,7 +48,7 @@ covers places funcs t order = record {
     row : (n : ℕ) → n ≤ length (numbers 0 n)
     row n = omega (arith, numbers_length 0 n)
 
-module _ (env : Environment) (places : List ℕ) (t : Module) (funcs : List tree.Func) (order : IsOrder places funcs t) (fit : Fits (moving places t) t) (code : RenumberedCodeIsRelated) where
+module _ (env : Environment) (places : List ℕ) (t : Module) (funcs : List tree.Func) (order : IsOrder places funcs t) (fit : Fits (moving places t) t) (code : FittingCodeIsRelated) where
   abbrev m : Remap
   m = moving places t
 

@@ -9,7 +9,7 @@ ghost use Rattle.permuted_worlds.specs.Alone.{
   SpacesAreImportsAndOwn,
 };
 ghost use Rattle.permuted_worlds.specs.Instances.{RelatedBegunShowTheSame, RelatedInstancesShowTheSame};
-ghost use Rattle.permuted_worlds.specs.Named.{FittingCodeIsNamed};
+ghost use Rattle.permuted_worlds.specs.Named.{FittingCodeIsNamed, KeptCodeIsNamed};
 ghost use Rattle.permuted_worlds.specs.Owned.{OwnEntitiesCorrespond};
 ghost use Rattle.permuted_worlds.specs.Permuted.{OrderIsNotSeen};
 ghost use Rattle.permuted_worlds.specs.Silent.{BudgetedRunsShowTheSame, SlowerRunsShowTheSame};
@@ -19,9 +19,9 @@ use index_remap::{related_runs_show_the_same, steps_agree};
 use remap_typing::renumbering_keeps_typing;
 use wasm_meaning::what_stands_below_is_not_seen;
 
-/// In the world of a module alone each import is its own end (`ends`) and stands for what the environment offers of its name, or for nothing (`things`); the
-/// index spaces are these, then what the module defines (`spaces`); and what a constant expression reads is the expression itself, or the `global.get` of the
-/// import that it names (`reads`).
+/// In the world of a module alone each import is its own end (`ends`) and stands for what the environment offers of its name, and of its type if it is a function,
+/// or for nothing (`things`); the index spaces are these, then what the module defines, or none where an import stands for nothing (`spaces`); and what a constant
+/// expression reads is the expression itself, or the `global.get` of the import that it names, or nothing (`reads`).
 pub fn imports_of_one_module_stay()
     ensures ends { ImportsStay }
     ensures things { ImportsStandForTheEnvironments }
@@ -34,8 +34,8 @@ pub fn own_entities_correspond()
     ensures own { OwnEntitiesCorrespond }
 {}
 
-/// Two worlds show the same events, step by step, where neither can be instantiated, or both to what corresponds (WebAssembly Core 2.0, section 4.5.4): of worlds
-/// (`same`), and of what they are instantiated to (`begun`).
+/// Two worlds show the same events, step by step, where neither can be instantiated, or both to what corresponds under a one-to-one relation, with no function set
+/// apart (WebAssembly Core 2.0, section 4.5.4): of worlds (`same`), and of what they are instantiated to (`begun`).
 pub fn related_instances_show_the_same()
     ensures same { RelatedInstancesShowTheSame }
     ensures begun { RelatedBegunShowTheSame }
@@ -51,12 +51,17 @@ pub fn permuted_worlds_show_the_same()
     steps_agree();
     related_instances_show_the_same();
     renumbering_keeps_typing();
+    code_that_fits_is_named();
 }
 
-/// Where each index that has an entry in a map names what its entry names, so does each index of a body all of whose indices have entries (`named`).
+/// Where each index of a set and its entry in a map name addresses that code may name as one, or equal types, or nothing, so do each index of a body and its entry,
+/// if the body names only indices of the set (`kept`); if the set is that of the indices with an entry, such is each body that the map has entries for (`fitting`).
 pub fn code_that_fits_is_named()
-    ensures named { FittingCodeIsNamed }
-{}
+    ensures kept { KeptCodeIsNamed }
+    ensures fitting { FittingCodeIsNamed }
+{
+    renumbering_keeps_typing();
+}
 
 /// Two machines show the same events, where each may make silent steps alone out of a number that is left to it (`budget`), or where the second answers each
 /// step of the first by at most so many of its own (`slower`).
@@ -65,7 +70,8 @@ pub fn silent_steps_may_come_between()
     ensures slower { SlowerRunsShowTheSame }
 {}
 
-/// One start that calls several functions shows the same as these as starts one after the other, in two silent steps more.
+/// One start that calls several functions that take and give nothing shows the same as these as starts one after the other, in two silent steps more; the other way
+/// round in no step more.
 pub fn one_start_may_call_several()
     ensures calls { OneStartMayCallSeveral }
 {

@@ -28,65 +28,67 @@ use Rattle.wasm_valid.specs.Named.{refs_of}
 use Rattle.wasm_valid.specs.SpaceTypes.{table_types}
 use Rattle.wasm_valid.specs.Validity.{HoldsAt, ImportHolds, InSpace, ElemModeHolds, DataModeHolds, body_context}
 use Rattle.index_remap.specs.declared.remap.Remap.{Remap}
-use Rattle.index_remap.specs.Renumbered.{fits_all, fits_const, fits_import_desc, fits_export_desc, new_const, new_func, new_import_desc, new_export_desc, renumbered_all}
+use Rattle.index_remap.specs.Renumbered.{new_const, new_func, new_import_desc, new_export_desc, renumbered_all}
+use Rattle.index_remap.specs.CodeNames.{ListLayers}
+use Rattle.remap_typing.specs.Indices.{Indices, LayerNamesOnly, ConstNamesOnly, ImportNamesOnly, ExportNamesOnly}
 use Rattle.remap_typing.specs.Along.{AgreesAlong}
 use Rattle.remap_typing.specs.Trees.{TreesAgree, RefsAgree, ReadsImport, ConstStands, ElemModeStands, DataModeStands, ItemStands, active, passive, declarative}
 use Rattle.remap_typing.specs.ButForReferences.{any_named, HoldsButForReferences}
-use Rattle.remap_typing.proofs.Lists.{left_true, right_true, place_kept, get_each, named_within}
+use Rattle.remap_typing.proofs.Lists.{place_kept, get_each, named_within}
 use Rattle.index_remap.proofs.Keeping.{keeps_then, keeps_only, and_keeps}
 
 -- bodies stay well typed
 abbrev pub BodiesAreKept : Type 0
-BodiesAreKept = (m : Remap) (c d : Context) (is : List Instr) (ps rs : List ValType) → AgreesAlong m c d → IsTrue (fits_all m is) → WellTyped c is ps rs → WellTyped d (renumbered_all m is) ps rs
+BodiesAreKept = (m : Remap) (kept : Indices) (c d : Context) (is : List Instr) (ps rs : List ValType) → AgreesAlong m kept c d → ListLayers (LayerNamesOnly kept) is → WellTyped c is ps rs → WellTyped d (renumbered_all m is) ps rs
 
-module _ (m : Remap) (t u : Module) (k : TreesAgree m t u) where
-  pub const_kept : (e : ConstExpr) → IsTrue (fits_const m e) → ReadsImport m u e → ConstStands t u e (new_const m e)
+module _ (m : Remap) (kept : Indices) (t u : Module) (k : TreesAgree m kept t u) where
+  pub const_kept : (e : ConstExpr) → ConstNamesOnly kept e → ReadsImport m u e → ConstStands t u e (new_const m e)
   const_kept (const.I32 v) h r ty e = e
   const_kept (const.I64 v) h r ty e = e
   const_kept (const.Null q) h r ty e = e
   const_kept (const.Func f) h r ty e =
-      keeps_only (nat_lt f (length (funcs_of t))) (nat_lt (slice_index m.funcs f) (length (funcs_of u))) _ _ (λ b. lt-ltb _ _ (k.func_space f (ltb-true _ _ h) (ltb-true _ _ b))) (λ z p. p) ty e
+      keeps_only (nat_lt f (length (funcs_of t))) (nat_lt (slice_index m.funcs f) (length (funcs_of u))) _ _ (λ b. lt-ltb _ _ (k.func_space f h (ltb-true _ _ b))) (λ z p. p) ty e
   const_kept (const.Global g) h r ty e =
-      keeps_then (slice_get (globals_of t) g) (slice_get (globals_of u) (slice_index m.globals g)) _ _ (k.globals g (ltb-true _ _ h))
+      keeps_then (slice_get (globals_of t) g) (slice_get (globals_of u) (slice_index m.globals g)) _ _ (k.globals g h)
       (λ z. keeps_only (nat_lt g (length (imported_globals t.imports)) && not z.mutable) (nat_lt (slice_index m.globals g) (length (imported_globals u.imports)) && not z.mutable) _ _
       (and_keeps (nat_lt g (length (imported_globals t.imports))) (nat_lt (slice_index m.globals g) (length (imported_globals u.imports))) (not z.mutable) (not z.mutable) (λ b. lt-ltb _ _ r) (λ b. b)) (λ y p. p)) ty e
 
-  types_within : (i : ℕ) → i < length m.types → i < length t.types → slice_index m.types i < length u.types
+  types_within : (i : ℕ) → IsTrue (kept.types i) → i < length t.types → slice_index m.types i < length u.types
   types_within i h lt = place_kept t.types u.types i (slice_index m.types i) (k.types i h) lt
 
-  tables_within : (i : ℕ) → i < length m.tables → i < length (tables_of t) → slice_index m.tables i < length (tables_of u)
+  tables_within : (i : ℕ) → IsTrue (kept.tables i) → i < length (tables_of t) → slice_index m.tables i < length (tables_of u)
   tables_within i h lt =
       let a = length-map (tables_of t) (λ x. x.ty) in
       let b = length-map (tables_of u) (λ x. x.ty) in
       let there : slice_index m.tables i < length (table_types u) = place_kept (table_types t) (table_types u) i (slice_index m.tables i) (k.tables i h) (omega (arith, a)) in
       omega (arith, b, there)
 
-  globals_within : (i : ℕ) → i < length m.globals → i < length (globals_of t) → slice_index m.globals i < length (globals_of u)
+  globals_within : (i : ℕ) → IsTrue (kept.globals i) → i < length (globals_of t) → slice_index m.globals i < length (globals_of u)
   globals_within i h lt = place_kept (globals_of t) (globals_of u) i (slice_index m.globals i) (k.globals i h) lt
 
-  import_kept : (d : ImportDesc) → IsTrue (fits_import_desc m d) → ImportHolds t d → ImportHolds u (new_import_desc m d)
-  import_kept (im.Func ty) h p = types_within ty (ltb-true _ _ h) p
+  import_kept : (d : ImportDesc) → ImportNamesOnly kept d → ImportHolds t d → ImportHolds u (new_import_desc m d)
+  import_kept (im.Func ty) h p = types_within ty h p
   import_kept (im.Table ty) h p = p
   import_kept (im.Memory l) h p = p
   import_kept (im.Global g) h p = p
 
-  export_kept : (d : ExportDesc) → IsTrue (fits_export_desc m d) → InSpace t d → InSpace u (new_export_desc m d)
-  export_kept (ex.Func i) h p = k.func_space i (ltb-true _ _ h) p
-  export_kept (ex.Table i) h p = tables_within i (ltb-true _ _ h) p
-  export_kept (ex.Memory i) h p = k.memories i (ltb-true _ _ h) p
-  export_kept (ex.Global i) h p = globals_within i (ltb-true _ _ h) p
+  export_kept : (d : ExportDesc) → ExportNamesOnly kept d → InSpace t d → InSpace u (new_export_desc m d)
+  export_kept (ex.Func i) h p = k.func_space i h p
+  export_kept (ex.Table i) h p = tables_within i h p
+  export_kept (ex.Memory i) h p = k.memories i h p
+  export_kept (ex.Global i) h p = globals_within i h p
 
-  elem_mode_kept : (ty : RefType) (a b : ElemMode) → ElemModeStands m t u a b → ElemModeHolds t ty a → ElemModeHolds u ty b
+  elem_mode_kept : (ty : RefType) (a b : ElemMode) → ElemModeStands m kept t u a b → ElemModeHolds t ty a → ElemModeHolds u ty b
   elem_mode_kept ty a b (active {table} h c) p = (k.tables table h ty p.0, c _ p.1)
   elem_mode_kept ty a b passive p = tt
   elem_mode_kept ty a b declarative p = tt
 
-  data_mode_kept : (a b : DataMode) → DataModeStands m t u a b → DataModeHolds t a → DataModeHolds u b
+  data_mode_kept : (a b : DataMode) → DataModeStands m kept t u a b → DataModeHolds t a → DataModeHolds u b
   data_mode_kept a b (active {memory} h c) p = (k.memories memory h p.0, c _ p.1)
   data_mode_kept a b passive p = tt
 
   -- the contexts of a function's body agree
-  agrees : (f : Func) (ft : FuncType) → RefsAgree m t u → AgreesAlong m (body_context t f ft) (body_context u (new_func m f) ft)
+  agrees : (f : Func) (ft : FuncType) → RefsAgree m kept t u → AgreesAlong m kept (body_context t f ft) (body_context u (new_func m f) ft)
   agrees f ft r = record {
     types = k.types;
     funcs = k.funcs;
@@ -99,7 +101,7 @@ module _ (m : Remap) (t u : Module) (k : TreesAgree m t u) where
     frame = record { locals = refl; results = refl; labels = refl };
   }
 
-  any_agrees : (f : Func) (ft : FuncType) → AgreesAlong m (body_context t f ft) (any_named (body_context u (new_func m f) ft))
+  any_agrees : (f : Func) (ft : FuncType) → AgreesAlong m kept (body_context t f ft) (any_named (body_context u (new_func m f) ft))
   any_agrees f ft = record {
     types = k.types;
     funcs = k.funcs;
@@ -117,7 +119,7 @@ module _ (m : Remap) (t u : Module) (k : TreesAgree m t u) where
   NoBody kind.Body = ⊥
   NoBody _ = Unit {0}
 
-  item_kept : (n : ItemKind) (i j : ℕ) → NoBody n → ItemStands m t u n i j → HoldsAt t n i → HoldsAt u n j
+  item_kept : (n : ItemKind) (i j : ℕ) → NoBody n → ItemStands m kept t u n i j → HoldsAt t n i → HoldsAt u n j
   item_kept kind.Import i j o (x, y, at, new, h, e) (z, it, p) =
       let same : z ≡ x = cc in
       (y, new, subst (ImportHolds u) (sym e) (import_kept x.desc h (subst (λ w. ImportHolds t w.desc) same p)))
@@ -139,24 +141,24 @@ module _ (m : Remap) (t u : Module) (k : TreesAgree m t u) where
   item_kept kind.Elem i j o (a, b, at, new, e, c, mode) (z, it, p, q) =
       let same : z ≡ a = cc in
       let each : (n : ℕ) (d : ConstExpr) → slice_get a.items n ≡ Some d → const_type t d ≡ Some (Ref a.ty) = subst (λ (w : ElemSeg). (n : ℕ) (d : ConstExpr) → slice_get w.items n ≡ Some d → const_type t d ≡ Some (Ref w.ty)) same p in
-      (b, new, (λ n d g. let r = c n d g in r.2 _ (each n r.0 r.1) ∙ ap (λ w. Some (Ref w)) (sym e)), subst (λ w. ElemModeHolds u w b.mode) (sym e) (elem_mode_kept a.ty a.mode b.mode mode (subst (λ (w : ElemSeg). ElemModeHolds t w.ty w.mode) same q)))
+      (b, new, (λ n d g. let r = c n d g in r.3 _ (each r.0 r.1 r.2) ∙ ap (λ w. Some (Ref w)) (sym e)), subst (λ w. ElemModeHolds u w b.mode) (sym e) (elem_mode_kept a.ty a.mode b.mode mode (subst (λ (w : ElemSeg). ElemModeHolds t w.ty w.mode) same q)))
   item_kept kind.Segment i j o (a, b, at, new, mode) (z, it, p) =
       let same : z ≡ a = cc in
       (b, new, data_mode_kept a.mode b.mode mode (subst (λ w. DataModeHolds t w.mode) same p))
   item_kept kind.Body i j o s p = absurd o
 
-  pub items_kept : BodiesAreKept → (n : ItemKind) (i j : ℕ) → RefsAgree m t u → ItemStands m t u n i j → HoldsAt t n i → HoldsAt u n j
+  pub items_kept : BodiesAreKept → (n : ItemKind) (i j : ℕ) → RefsAgree m kept t u → ItemStands m kept t u n i j → HoldsAt t n i → HoldsAt u n j
   items_kept law kind.Body i j r (f, at, h, new) (z, ft, it, ty, w) =
       let same : z ≡ f = cc in
       let ty' : slice_get t.types f.ty ≡ Some ft = subst (λ (g : Func). slice_get t.types g.ty ≡ Some ft) same ty in
       let w' : WellTyped (body_context t f ft) f.body [] ft.results = subst (λ (g : Func). WellTyped (body_context t g ft) g.body [] ft.results) same w in
-      (new_func m f, ft, new, k.types f.ty (ltb-true _ _ (left_true _ _ h)) ft ty', law m (body_context t f ft) (body_context u (new_func m f) ft) f.body [] ft.results (agrees f ft r) (right_true _ _ h) w')
+      (new_func m f, ft, new, k.types f.ty h.0 ft ty', law m kept (body_context t f ft) (body_context u (new_func m f) ft) f.body [] ft.results (agrees f ft r) h.1 w')
   items_kept law n i j r s p = item_kept n i j tt s p
 
-  pub items_weakly : BodiesAreKept → (n : ItemKind) (i j : ℕ) → ItemStands m t u n i j → HoldsAt t n i → HoldsButForReferences u n j
+  pub items_weakly : BodiesAreKept → (n : ItemKind) (i j : ℕ) → ItemStands m kept t u n i j → HoldsAt t n i → HoldsButForReferences u n j
   items_weakly law kind.Body i j (f, at, h, new) (z, ft, it, ty, w) =
       let same : z ≡ f = cc in
       let ty' : slice_get t.types f.ty ≡ Some ft = subst (λ (g : Func). slice_get t.types g.ty ≡ Some ft) same ty in
       let w' : WellTyped (body_context t f ft) f.body [] ft.results = subst (λ (g : Func). WellTyped (body_context t g ft) g.body [] ft.results) same w in
-      (new_func m f, ft, new, k.types f.ty (ltb-true _ _ (left_true _ _ h)) ft ty', law m (body_context t f ft) (any_named (body_context u (new_func m f) ft)) f.body [] ft.results (any_agrees f ft) (right_true _ _ h) w')
+      (new_func m f, ft, new, k.types f.ty h.0 ft ty', law m kept (body_context t f ft) (any_named (body_context u (new_func m f) ft)) f.body [] ft.results (any_agrees f ft) h.1 w')
   items_weakly law n i j s p = item_kept n i j tt s p

@@ -7,3 +7,4 @@ pub mod WholeTrees
 pub mod TreeEntries
 pub mod NamedFuncs
 pub mod DeclaredTrees
+mod Removed

@@ -5,6 +5,9 @@ use Rattle.std.specs.List.{flat_map, filter_map, cons_option}
 use Rattle.std.proofs.lemmas.Bool.{ltb-true}
 use Rattle.std.proofs.lemmas.List.{length-map, map-append}
 use Rattle.wasm_tree.specs.declared.types.ValType.{ValType}
+use Rattle.wasm_tree.specs.declared.module.Func.{Func}
+use Rattle.wasm_tree.specs.declared.module.ImportDesc.{ImportDesc}
+use Rattle.wasm_tree.specs.declared.module.ImportDesc.TheVariants as im
 use Rattle.wasm_tree.specs.declared.module.Export.{Export}
 use Rattle.wasm_tree.specs.declared.module.ExportDesc.{ExportDesc}
 use Rattle.wasm_tree.specs.declared.module.ExportDesc.TheVariants as ex
@@ -23,20 +26,20 @@ use Rattle.wasm_valid.specs.Constants.{const_type}
 use Rattle.wasm_valid.specs.Named.{const_func, export_func, elem_refs, global_refs, export_refs, refs_of}
 use Rattle.wasm_valid.specs.Validity.{HoldsAt, IsValid, count_of, start_count}
 use Rattle.index_remap.specs.declared.remap.Remap.{Remap}
-use Rattle.index_remap.specs.Renumbered.{all_true, has, fits_const, fits_func, fits_import, fits_global, fits_export, fits_elem, fits_elem_mode, fits_data, fits_data_mode, fits_start, fits_tree, new_const, new_func, new_import, new_global, new_export, new_export_desc, new_elem, new_elem_mode, new_data, new_data_mode, new_start, renumbered_tree}
+use Rattle.index_remap.specs.Renumbered.{all_true, has, fits_const, fits_func, fits_import, fits_import_desc, fits_global, fits_export, fits_export_desc, fits_elem, fits_elem_mode, fits_data, fits_data_mode, fits_start, fits_tree, new_const, new_func, new_import, new_global, new_export, new_export_desc, new_elem, new_elem_mode, new_data, new_data_mode, new_start, renumbered_tree}
 use Rattle.index_remap.specs.References.{is_among}
-use Rattle.remap_typing.specs.Trees.{TreesAgree, RefsAgree, ImportsAgree, ReadsImport, ConstStands, ElemModeStands, DataModeStands, ItemsStand, ItemStands, active, passive, declarative}
+use Rattle.remap_typing.specs.Indices.{Indices, with_entry, ConstNamesOnly, ImportNamesOnly, ExportNamesOnly, ElemModeNamesOnly, DataModeNamesOnly, FuncNamesOnly, TreeNamesOnly}
+use Rattle.remap_typing.specs.Trees.{TreesAgree, RefsAgree, ImportsAgree, ReadsImport, ConstStands, ElemModeStands, DataModeStands, ItemsStand, ItemStands, EachStands, active, passive, declarative}
+use Rattle.remap_typing.specs.ButForReferences.{IsValidButForReferences}
 use Rattle.remap_typing.proofs.Lists.{left_true, right_true, found, get_map, all_get, among_map, marked, is_marked, named_within, then_there, only_true}
-use Rattle.remap_typing.proofs.Items.{BodiesAreKept, const_kept, items_kept}
+use Rattle.remap_typing.proofs.Along.{all_named}
+use Rattle.remap_typing.proofs.Items.{BodiesAreKept, const_kept, items_kept, items_weakly}
 
 -- a tree is valid exactly where each item holds
 abbrev pub ValidWhereItemsHold : Type 0
 ValidWhereItemsHold = (m : Module) → IsValid m ↔ ((k : ItemKind) (i : ℕ) → i < count_of m true k → HoldsAt m k i)
 
 -- ---- what other indices leave ----
-
-has_lt : (ys : List ℕ) (i : ℕ) → has ys i ≡ true → i < length ys
-has_lt ys i h = ltb-true _ _ h
 
 names_stay : (m : Remap) (n : ℕ) (xs : List Export) → map (λ x. x.name) (take n (map (new_export m) xs)) ≡ map (λ x. x.name) (take n xs)
 names_stay m zero xs = refl
@@ -105,7 +108,7 @@ module _ (m : Remap) where
   count_stays t kind.Segment = length-map t.datas (new_data m)
   count_stays t kind.Body = length-map t.funcs (new_func m)
 
--- ---- each item stands for the one that it was ----
+-- ---- several tests ----
 
 seven : (a b c d e f g : Bool) → a && (b && (c && (d && (e && (f && g))))) ≡ true → (a ≡ true) × (b ≡ true) × (c ≡ true) × (d ≡ true) × (e ≡ true) × (f ≡ true) × (g ≡ true)
 seven a b c d e f g h =
@@ -116,78 +119,129 @@ seven a b c d e f g h =
     let h5 = right_true e (f && g) h4 in
     (left_true a (b && (c && (d && (e && (f && g))))) h, left_true b (c && (d && (e && (f && g)))) h1, left_true c (d && (e && (f && g))) h2, left_true d (e && (f && g)) h3, left_true e (f && g) h4, left_true f g h5, right_true f g h5)
 
-module _ (m : Remap) (t : Module) (k : TreesAgree m t (renumbered_tree m t)) (imports : ImportsAgree m t (renumbered_tree m t)) (fit : fits_tree m t ≡ true) where
+-- ---- a tree that fits a map names only indices with an entry ----
+
+module _ (m : Remap) where
+  const_named : (e : ConstExpr) → fits_const m e ≡ true → ConstNamesOnly (with_entry m) e
+  const_named (const.I32 v) h = tt
+  const_named (const.I64 v) h = tt
+  const_named (const.Null q) h = tt
+  const_named (const.Func f) h = h
+  const_named (const.Global g) h = h
+
+  import_named : (d : ImportDesc) → fits_import_desc m d ≡ true → ImportNamesOnly (with_entry m) d
+  import_named (im.Func ty) h = h
+  import_named (im.Table ty) h = tt
+  import_named (im.Memory l) h = tt
+  import_named (im.Global g) h = tt
+
+  export_named : (d : ExportDesc) → fits_export_desc m d ≡ true → ExportNamesOnly (with_entry m) d
+  export_named (ex.Func i) h = h
+  export_named (ex.Table i) h = h
+  export_named (ex.Memory i) h = h
+  export_named (ex.Global i) h = h
+
+  elem_mode_named : (mode : ElemMode) → fits_elem_mode m mode ≡ true → ElemModeNamesOnly (with_entry m) mode
+  elem_mode_named (elem.Active table offset) h = (left_true _ _ h, const_named offset (right_true _ _ h))
+  elem_mode_named elem.Passive h = tt
+  elem_mode_named elem.Declarative h = tt
+
+  data_mode_named : (mode : DataMode) → fits_data_mode m mode ≡ true → DataModeNamesOnly (with_entry m) mode
+  data_mode_named («data».Active memory offset) h = (left_true _ _ h, const_named offset (right_true _ _ h))
+  data_mode_named «data».Passive h = tt
+
+  func_named : (f : Func) → fits_func m f ≡ true → FuncNamesOnly (with_entry m) f
+  func_named f h = (left_true _ _ h, all_named m f.body (right_true (has m.types f.ty) _ h))
+
+  pub tree_named : (t : Module) → fits_tree m t ≡ true → TreeNamesOnly (with_entry m) t
+  tree_named t fit =
+      let parts =
+      seven (all_true (map (fits_import m) t.imports)) (all_true (map (fits_func m) t.funcs)) (all_true (map (fits_global m) t.globals)) (all_true (map (fits_export m) t.exports)) (fits_start m t.start) (all_true (map (fits_elem m) t.elems))
+      (all_true (map (fits_data m) t.datas)) fit in
+      record {
+        imports = λ i x at. import_named x.desc (all_get (fits_import m) t.imports i x parts.0 at);
+        funcs = λ i f at. func_named f (all_get (fits_func m) t.funcs i f parts.1 at);
+        globals = λ i g at. const_named g.init (all_get (fits_global m) t.globals i g parts.2 at);
+        exports = λ i e at. export_named e.desc (all_get (fits_export m) t.exports i e parts.3 at);
+        start = λ f at. subst (λ o. fits_start m o ≡ true) at parts.4;
+        items = λ i p a e at got. const_named e (all_get (fits_const m) a.items p e (right_true (fits_elem_mode m a.mode) _ (all_get (fits_elem m) t.elems i a parts.5 at)) got);
+        elem_modes = λ i a at. elem_mode_named a.mode (left_true (fits_elem_mode m a.mode) _ (all_get (fits_elem m) t.elems i a parts.5 at));
+        data_modes = λ i a at. data_mode_named a.mode (all_get (fits_data m) t.datas i a parts.6 at);
+      }
+
+-- ---- a tree each of whose items stands for one of a valid tree ----
+
+module _ (law : ValidWhereItemsHold) (bodies : BodiesAreKept) (m : Remap) (kept : Indices) (t u : Module) (k : TreesAgree m kept t u) (valid : IsValid t) (each : EachStands m kept t u) where
+  pub standing_valid : RefsAgree m kept t u → IsValid u
+  standing_valid refs = (law u).1 (λ n j lt. let s = each n j lt in items_kept m kept t u k bodies n s.0 j refs s.2 ((law t).0 valid n s.0 s.1))
+
+  pub standing_weakly : IsValidButForReferences u
+  standing_weakly n j lt = let s = each n j lt in items_weakly m kept t u k bodies n s.0 j s.2 ((law t).0 valid n s.0 s.1)
+
+-- ---- each item stands for the one that it was ----
+
+module _ (m : Remap) (kept : Indices) (t : Module) (k : TreesAgree m kept t (renumbered_tree m t)) (imports : ImportsAgree m kept t (renumbered_tree m t)) (names : TreeNamesOnly kept t) where
   abbrev u : Module
   u = renumbered_tree m t
 
-  parts : (all_true (map (fits_import m) t.imports) ≡ true) × (all_true (map (fits_func m) t.funcs) ≡ true) × (all_true (map (fits_global m) t.globals) ≡ true) × (all_true (map (fits_export m) t.exports) ≡ true) × (fits_start m t.start ≡ true) × (all_true (map (fits_elem m) t.elems) ≡ true) × (all_true (map (fits_data m) t.datas) ≡ true)
-  parts = seven (all_true (map (fits_import m) t.imports)) (all_true (map (fits_func m) t.funcs)) (all_true (map (fits_global m) t.globals)) (all_true (map (fits_export m) t.exports)) (fits_start m t.start) (all_true (map (fits_elem m) t.elems)) (all_true (map (fits_data m) t.datas)) fit
-
-  refs_agree : RefsAgree m t u
-  refs_agree i lt h =
+  refs_agree : RefsAgree m kept t u
+  refs_agree i is_kept h =
       let within = named_within (refs_of t) 0 (length (funcs_of t)) i true h in
       let named = among_map (slice_index m.funcs) (refs_of t) i (is_marked (refs_of t) (length (funcs_of t)) i h) in
-      marked (refs_of u) (length (funcs_of u)) (slice_index m.funcs i) (k.func_space i lt within) (ap (λ z. is_among z (slice_index m.funcs i)) (refs_new m t) ∙ named)
+      marked (refs_of u) (length (funcs_of u)) (slice_index m.funcs i) (k.func_space i is_kept within) (ap (λ z. is_among z (slice_index m.funcs i)) (refs_new m t) ∙ named)
 
-  reads : (e : ConstExpr) (ty : ValType) → fits_const m e ≡ true → const_type t e ≡ Some ty → ReadsImport m u e
+  reads : (e : ConstExpr) (ty : ValType) → ConstNamesOnly kept e → const_type t e ≡ Some ty → ReadsImport m u e
   reads (const.I32 v) ty h e = tt
   reads (const.I64 v) ty h e = tt
   reads (const.Null q) ty h e = tt
   reads (const.Func f) ty h e = tt
   reads (const.Global g) ty h e =
       let z = then_there (slice_get (globals_of t) g) _ ty e in
-      imports g (has_lt m.globals g h) (ltb-true _ _ (left_true _ _ (only_true _ _ ty z.2)))
+      imports g h (ltb-true _ _ (left_true _ _ (only_true _ _ ty z.2)))
 
-  const_stands : (e : ConstExpr) → fits_const m e ≡ true → ConstStands t u e (new_const m e)
-  const_stands e h ty is = const_kept m t u k e h (reads e ty h is) ty is
+  const_stands : (e : ConstExpr) → ConstNamesOnly kept e → ConstStands t u e (new_const m e)
+  const_stands e h ty is = const_kept m kept t u k e h (reads e ty h is) ty is
 
-  elem_mode_stands : (mode : ElemMode) → fits_elem_mode m mode ≡ true → ElemModeStands m t u mode (new_elem_mode m mode)
-  elem_mode_stands (elem.Active table offset) h = active (has_lt m.tables table (left_true _ _ h)) (const_stands offset (right_true _ _ h))
+  elem_mode_stands : (mode : ElemMode) → ElemModeNamesOnly kept mode → ElemModeStands m kept t u mode (new_elem_mode m mode)
+  elem_mode_stands (elem.Active table offset) h = active h.0 (const_stands offset h.1)
   elem_mode_stands elem.Passive h = passive
   elem_mode_stands elem.Declarative h = declarative
 
-  data_mode_stands : (mode : DataMode) → fits_data_mode m mode ≡ true → DataModeStands m t u mode (new_data_mode m mode)
-  data_mode_stands («data».Active memory offset) h = active (has_lt m.mems memory (left_true _ _ h)) (const_stands offset (right_true _ _ h))
+  data_mode_stands : (mode : DataMode) → DataModeNamesOnly kept mode → DataModeStands m kept t u mode (new_data_mode m mode)
+  data_mode_stands («data».Active memory offset) h = active h.0 (const_stands offset h.1)
   data_mode_stands «data».Passive h = passive
 
-  items_stand : (a : ElemSeg) → all_true (map (fits_const m) a.items) ≡ true → ItemsStand t u a (new_elem m a)
-  items_stand a h p d e =
+  items_stand : (i : ℕ) (a : ElemSeg) → slice_get t.elems i ≡ Some a → ItemsStand t u a (new_elem m a)
+  items_stand i a at p d e =
       let r = got_back (new_const m) a.items p d e in
-      (r.0, r.1, subst (ConstStands t u r.0) r.2 (const_stands r.0 (all_get (fits_const m) a.items p r.0 h r.1)))
+      (p, r.0, r.1, subst (ConstStands t u r.0) r.2 (const_stands r.0 (names.items i p a r.0 at r.1)))
 
-  stands : (n : ItemKind) (i : ℕ) → i < count_of u true n → HoldsAt t n i → ItemStands m t u n i i
+  stands : (n : ItemKind) (i : ℕ) → i < count_of u true n → HoldsAt t n i → ItemStands m kept t u n i i
   stands kind.Import i lt p =
       let x = got (new_import m) t.imports i lt in
-      (x.0, new_import m x.0, x.1, get_map (new_import m) t.imports i x.0 x.1, all_get (fits_import m) t.imports i x.0 parts.0 x.1, refl)
+      (x.0, new_import m x.0, x.1, get_map (new_import m) t.imports i x.0 x.1, names.imports i x.0 x.1, refl)
   stands kind.Memories i lt p = absurd (omega arith)
   stands kind.Func i lt p =
       let f = got (new_func m) t.funcs i lt in
-      let h = all_get (fits_func m) t.funcs i f.0 parts.1 f.1 in
-      (f.0, new_func m f.0, f.1, get_map (new_func m) t.funcs i f.0 f.1, has_lt m.types f.0.ty (left_true _ _ h), refl)
+      (f.0, new_func m f.0, f.1, get_map (new_func m) t.funcs i f.0 f.1, (names.funcs i f.0 f.1).0, refl)
   stands kind.Table i lt p = refl
   stands kind.Memory i lt p = refl
   stands kind.Global i lt p =
       let g = got (new_global m) t.globals i lt in
-      let h = all_get (fits_global m) t.globals i g.0 parts.2 g.1 in
-      (g.0, new_global m g.0, g.1, get_map (new_global m) t.globals i g.0 g.1, refl, const_stands g.0.init h)
+      (g.0, new_global m g.0, g.1, get_map (new_global m) t.globals i g.0 g.1, refl, const_stands g.0.init (names.globals i g.0 g.1))
   stands kind.Export i lt (e, at, within, fresh) =
-      let h = all_get (fits_export m) t.exports i e parts.3 at in
-      (e, new_export m e, at, get_map (new_export m) t.exports i e at, h, refl, (λ c. fresh (subst (λ ns. Contains ns e.name) (names_stay m i t.exports) c)))
-  stands kind.Start i lt (x, ft, at, ty, ps, rs) =
-      let h = parts.4 in
-      (x, at, has_lt m.funcs x (subst (λ o. fits_start m o ≡ true) at h), ap (new_start m) at)
+      (e, new_export m e, at, get_map (new_export m) t.exports i e at, names.exports i e at, refl, (λ c. fresh (subst (λ ns. Contains ns e.name) (names_stay m i t.exports) c)))
+  stands kind.Start i lt (x, ft, at, ty, ps, rs) = (x, at, names.start x at, ap (new_start m) at)
   stands kind.Elem i lt p =
       let a = got (new_elem m) t.elems i lt in
-      let h = all_get (fits_elem m) t.elems i a.0 parts.5 a.1 in
-      (a.0, new_elem m a.0, a.1, get_map (new_elem m) t.elems i a.0 a.1, refl, items_stand a.0 (right_true _ _ h), elem_mode_stands a.0.mode (left_true _ _ h))
+      (a.0, new_elem m a.0, a.1, get_map (new_elem m) t.elems i a.0 a.1, refl, items_stand i a.0 a.1, elem_mode_stands a.0.mode (names.elem_modes i a.0 a.1))
   stands kind.Segment i lt p =
       let a = got (new_data m) t.datas i lt in
-      let h = all_get (fits_data m) t.datas i a.0 parts.6 a.1 in
-      (a.0, new_data m a.0, a.1, get_map (new_data m) t.datas i a.0 a.1, data_mode_stands a.0.mode h)
+      (a.0, new_data m a.0, a.1, get_map (new_data m) t.datas i a.0 a.1, data_mode_stands a.0.mode (names.data_modes i a.0 a.1))
   stands kind.Body i lt p =
       let f = got (new_func m) t.funcs i lt in
-      (f.0, f.1, all_get (fits_func m) t.funcs i f.0 parts.1 f.1, get_map (new_func m) t.funcs i f.0 f.1)
+      (f.0, f.1, names.funcs i f.0 f.1, get_map (new_func m) t.funcs i f.0 f.1)
 
   pub tree_valid : ValidWhereItemsHold → BodiesAreKept → IsValid t → IsValid u
   tree_valid law bodies valid =
-      (law u).1 (λ n i lt. let holds = (law t).0 valid n i (subst (λ z. i < z) (count_stays m t n) lt) in items_kept m t u k bodies n i i refs_agree (stands n i lt holds) holds)
+      standing_valid law bodies m kept t u k valid (λ n i lt. let there = subst (λ z. i < z) (count_stays m t n) lt in (i, there, stands n i lt ((law t).0 valid n i there))) refs_agree

@@ -1,3 +1,4 @@
+pub mod Indices
 pub mod Along
 pub mod Trees
 pub mod ButForReferences

@@ -5,6 +5,7 @@ laws : (c : goal.After-conflicts_are_first) → Laws
 laws c = record {
   items = c.valid_where_items_hold.ensures;
   entries = c.renumbering_keeps_typing.ensures.tree_entries;
+  named = c.renumbering_keeps_typing.ensures.tree_named;
   constants = c.renumbering_keeps_typing.ensures.constants;
   undeclared = c.renumbered_trees_are_valid.ensures.undeclared;
   valid = c.declared_trees_are_valid.ensures.valid;

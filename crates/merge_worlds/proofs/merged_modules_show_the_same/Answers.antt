@@ -31,7 +31,7 @@ returns c =
       alone_reads = alone.reads;
       alone_spaces = alone.spaces;
       own = own;
-      named = c.code_that_fits_is_named.ensures.named;
+      named = c.code_that_fits_is_named.ensures.fitting;
       code = c.steps_agree.ensures.code;
     } in
     record {

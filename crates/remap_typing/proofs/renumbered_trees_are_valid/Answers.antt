@@ -1,10 +1,12 @@
 use Rattle.remap_typing.proofs.Items.{items_kept, items_weakly}
-use Rattle.remap_typing.proofs.WholeTrees.{tree_valid}
+use Rattle.remap_typing.proofs.WholeTrees.{standing_valid, standing_weakly, tree_valid}
 use Rattle.remap_typing.proofs.renumbered_trees_are_valid.Goals as goal
 
 pub returns : goal.returns
 returns c = record {
-  items = λ m t u n i j k refs. items_kept m t u k c.renumbering_keeps_typing.ensures.bodies n i j refs;
-  undeclared = λ m t u n i j k. items_weakly m t u k c.renumbering_keeps_typing.ensures.bodies n i j;
-  trees = λ m t valid fit k imports. tree_valid m t k imports fit c.valid_where_items_hold.ensures c.renumbering_keeps_typing.ensures.bodies valid;
+  items = λ m kept t u n i j k refs. items_kept m kept t u k c.renumbering_keeps_typing.ensures.bodies n i j refs;
+  undeclared = λ m kept t u n i j k. items_weakly m kept t u k c.renumbering_keeps_typing.ensures.bodies n i j;
+  trees = λ m kept t u valid k refs each. standing_valid c.valid_where_items_hold.ensures c.renumbering_keeps_typing.ensures.bodies m kept t u k valid each refs;
+  undeclared_trees = λ m kept t u valid k each. standing_weakly c.valid_where_items_hold.ensures c.renumbering_keeps_typing.ensures.bodies m kept t u k valid each;
+  renumbered = λ m kept t valid names k imports. tree_valid m kept t k imports names c.valid_where_items_hold.ensures c.renumbering_keeps_typing.ensures.bodies valid;
 }

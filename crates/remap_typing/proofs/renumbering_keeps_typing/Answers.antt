@@ -1,14 +1,17 @@
-use Rattle.remap_typing.proofs.Along.{kept_along, kept_by_index}
+use Rattle.remap_typing.proofs.Along.{kept_along, kept_by_index, all_named}
 use Rattle.remap_typing.proofs.Entries.{body_fits}
 use Rattle.remap_typing.proofs.Items.{const_kept}
 use Rattle.remap_typing.proofs.TreeEntries.{tree_fits}
+use Rattle.remap_typing.proofs.WholeTrees.{tree_named}
 use Rattle.remap_typing.proofs.renumbering_keeps_typing.Goals as goal
 
 pub returns : goal.returns
 returns c = record {
   bodies = kept_along c.steps_agree.ensures.typed c.steps_agree.ensures.unlisted;
   by_index = kept_by_index c.steps_agree.ensures.typed c.steps_agree.ensures.unlisted;
-  constants = λ m t u e k. const_kept m t u k e;
+  constants = λ m kept t u e k. const_kept m kept t u k e;
   entries = λ m d is ps rs k. body_fits m d k is ps rs;
   tree_entries = λ m t valid k. tree_fits m t k c.valid_where_items_hold.ensures valid;
+  named = all_named;
+  tree_named = tree_named;
 }
