@@ -1,9 +1,9 @@
--- Runs of which one makes steps of its own.
+-- Machines of which one makes steps of its own.
 use Rattle.std.proofs.Common.{◌≡◌, ℕ, zero, suc, ◌+◌, ◌-◌, ◌*◌, ◌<◌, ◌≤◌, List, ◌++◌, ◌⊎◌, inl, inr, sym, ap, subst, ◌∙◌, arith}
 use Rattle.std.proofs.lemmas.Bool.{cases_lt}
-use Rattle.wasm_meaning.specs.Run.{Run, noted, events_of, state_after, IsPrefix}
+use Rattle.wasm_meaning.specs.Run.{noted, events_of, state_after, IsPrefix}
 use Rattle.wasm_meaning.proofs.Simulation.{Prefix, prefix_nil, prefix_trans, prefix_noted, prefix_append, events_add, later}
-use Rattle.permuted_worlds.specs.Silent.{Machine, Follows, both, second, first, Answers, by_some}
+use Rattle.permuted_worlds.specs.Silent.{Machine, Follows, both, second, first, BudgetedShowTheSame, Answers, by_some, SlowerShowTheSame}
 use Rattle.permuted_worlds.specs.Silent as silent
 
 a_prefix : {E : Type 0} {xs ys : List E} → Prefix xs ys → IsPrefix xs ys
@@ -11,8 +11,8 @@ a_prefix p = (p.rest, p.is)
 
 -- ---- a number of silent steps in all ----
 
-module _ (t u : Machine) where
-  there : (n : ℕ) {k d e : ℕ} {r q : Run} → Follows t u k d e r q → n + d + e ≤ k → Prefix (events_of t r n) (events_of u q (n + d))
+module _ {S T : Type 0} (t : Machine S) (u : Machine T) where
+  there : (n : ℕ) {k d e : ℕ} {r : S} {q : T} → Follows t u k d e r q → n + d + e ≤ k → Prefix (events_of t r n) (events_of u q (n + d))
   there zero f h = prefix_nil _
   there (suc n) silent.Follows.so_far h = absurd (omega arith)
   there (suc n) {d = d} {r = r} {q = q} (both p f) h =
@@ -24,19 +24,19 @@ module _ (t u : Machine) where
   there (suc n) {d = d} {r = r} {q = q} (first p f) h =
       subst (λ x. Prefix (noted x (events_of t (t r).0 n)) (events_of u q (suc n + d))) (sym p) (prefix_trans (there n f (omega arith)) (later u (n + d) (suc n + d) q (omega arith)))
 
-  pub turned : {k d e : ℕ} {r q : Run} → Follows t u k d e r q → Follows u t k e d q r
+  pub turned : {k d e : ℕ} {r : S} {q : T} → Follows t u k d e r q → Follows u t k e d q r
   turned silent.Follows.so_far = silent.Follows.so_far
   turned (both p f) = both (sym p) (turned f)
   turned (second p f) = first p (turned f)
   turned (first p f) = second p (turned f)
 
-pub budgeted : (t u : Machine) (d e : ℕ) (r q : Run) → ((steps : ℕ) → Follows t u steps d e r q) → (n : ℕ) → IsPrefix (events_of t r n) (events_of u q (n + d)) × IsPrefix (events_of u q n) (events_of t r (n + e))
+pub budgeted : {S T : Type 0} → BudgetedShowTheSame S T
 budgeted t u d e r q f n = (a_prefix (there t u n (f (n + d + e)) (omega arith)), a_prefix (there u t n (turned t u (f (n + e + d))) (omega arith)))
 
 -- ---- several steps for one ----
 
-module _ (t u : Machine) (c : ℕ) where
-  slower : {n : ℕ} {r q : Run} → Answers t u c n r q → Prefix (events_of t r n) (events_of u q (c * n))
+module _ {S T : Type 0} (t : Machine S) (u : Machine T) (c : ℕ) where
+  slower : {n : ℕ} {r : S} {q : T} → Answers t u c n r q → Prefix (events_of t r n) (events_of u q (c * n))
   slower silent.Answers.so_far = prefix_nil _
   slower {r = r} {q = q} (by_some {n = n} further bound shown a) =
       let v = state_after u q (suc further) in
@@ -45,7 +45,7 @@ module _ (t u : Machine) (c : ℕ) where
       let le : suc further + c * n ≤ c * suc n = omega (arith, bound) in
       prefix_trans (subst (λ l. Prefix (events_of t r (suc n)) l) b (subst (λ l. Prefix l (events_of t r 1 ++ events_of u v (c * n))) one (prefix_append (events_of t r 1) (slower a)))) (later u _ _ q le)
 
-  no_faster : (n : ℕ) {k : ℕ} {r q : Run} → n ≤ k → Answers t u c k r q → Prefix (events_of u q n) (events_of t r n)
+  no_faster : (n : ℕ) {k : ℕ} {r : S} {q : T} → n ≤ k → Answers t u c k r q → Prefix (events_of u q n) (events_of t r n)
   no_faster zero h a = prefix_nil _
   no_faster (suc n) h silent.Answers.so_far = absurd (omega arith)
   no_faster (suc n) {r = r} {q = q} h (by_some {n = k} further bound shown a) = go (cases_lt further n) (λ m l. no_faster m l a)
@@ -59,5 +59,5 @@ module _ (t u : Machine) (c : ℕ) where
           let one : events_of t r 1 ++ events_of t (t r).0 m ≡ events_of t r (suc m) = (let k : 1 + m ≡ suc m = omega arith in sym (events_add t 1 m r) ∙ ap (events_of t r) k) in
           prefix_trans (subst (λ x. Prefix x (events_of t r (suc m))) b (subst (λ x. Prefix (events_of t r 1 ++ events_of u v m) x) one (prefix_append (events_of t r 1) (ih m (omega arith))))) (later t (suc m) (suc n) r (omega arith))
 
-pub slowed : (t u : Machine) (c : ℕ) (r q : Run) → ((steps : ℕ) → Answers t u c steps r q) → (n : ℕ) → IsPrefix (events_of t r n) (events_of u q (c * n)) × IsPrefix (events_of u q n) (events_of t r n)
+pub slowed : {S T : Type 0} → SlowerShowTheSame S T
 slowed t u c r q a n = (a_prefix (slower t u c (a n)), a_prefix (no_faster t u c n (omega arith) (a n)))

@@ -12,7 +12,14 @@ ghost use Rattle.permuted_worlds.specs.Instances.{RelatedBegunShowTheSame, Relat
 ghost use Rattle.permuted_worlds.specs.Named.{FittingCodeIsNamed, KeptCodeIsNamed};
 ghost use Rattle.permuted_worlds.specs.Owned.{OwnEntitiesCorrespond};
 ghost use Rattle.permuted_worlds.specs.Permuted.{OrderIsNotSeen};
-ghost use Rattle.permuted_worlds.specs.Silent.{BudgetedRunsShowTheSame, SlowerRunsShowTheSame};
+ghost use Rattle.permuted_worlds.specs.Silent.{
+  BudgetedLoadersShowTheSame,
+  BudgetedRunsShowTheSame,
+  BudgetedTurnsShowTheSame,
+  SlowerLoadersShowTheSame,
+  SlowerRunsShowTheSame,
+  SlowerTurnsShowTheSame,
+};
 ghost use Rattle.permuted_worlds.specs.Starts.{OneStartMayCallSeveral};
 
 use index_remap::{related_runs_show_the_same, steps_agree};
@@ -63,11 +70,17 @@ pub fn code_that_fits_is_named()
     renumbering_keeps_typing();
 }
 
-/// Two machines show the same events, where each may make silent steps alone out of a number that is left to it (`budget`), or where the second answers each
-/// step of the first by at most so many of its own (`slower`).
+/// What one machine shows in n steps another shows in so many more as it may make silently alone (`budget`); where the second answers each step of the first by one to
+/// c that show the same, in c times n, and the other way round in n (`slower`). Both are said of two machines over runs; of one over runs and one over runs under a
+/// loader (`budget_loaded`, `slower_loaded`); and of one over runs and one over runs whose parts come in turn (`budget_in_turn`, `slower_in_turn`); of these, either
+/// may be the first.
 pub fn silent_steps_may_come_between()
     ensures budget { BudgetedRunsShowTheSame }
+    ensures budget_loaded { BudgetedLoadersShowTheSame }
+    ensures budget_in_turn { BudgetedTurnsShowTheSame }
     ensures slower { SlowerRunsShowTheSame }
+    ensures slower_loaded { SlowerLoadersShowTheSame }
+    ensures slower_in_turn { SlowerTurnsShowTheSame }
 {}
 
 /// One start that calls several functions that take and give nothing shows the same as these as starts one after the other, in two silent steps more; the other way

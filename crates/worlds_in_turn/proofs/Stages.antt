@@ -11,10 +11,10 @@ use Rattle.wasm_meaning.specs.World.{World, Begun, base, all_there, joined_store
 use Rattle.wasm_meaning.specs.Run.{Event, Phase, Pending, Opened, Closed, Run, Out, tick_at, tick}
 use Rattle.wasm_meaning.specs.Below.{GivesNothing, a_frame, a_call, over, BelowIsNotSeen}
 use Rattle.wasm_meaning.specs.InTurn.{InTurn, or_empty, view_over, goes_on, with_run, turn_at, tick_in_turn, HasNoActive}
-use Rattle.wasm_meaning.proofs.Simulation.{Follow, both, second}
 use Rattle.index_remap.specs.Related.{ListRel, nil}
 use Rattle.index_remap.specs.RelatedRuns.{opened, RunRel, OutRel}
 use Rattle.index_remap.specs.Laws.{CodeIsRelatedToItself, EntryByEntry, RelatedTicksAgree, OthersStay}
+use Rattle.permuted_worlds.proofs.Led.{Leads, both, second}
 use Rattle.worlds_in_turn.proofs.Things.{space_in}
 use Rattle.worlds_in_turn.proofs.Joined.{made_upto}
 use Rattle.worlds_in_turn.proofs.Reached.{is_reached, reaching, one_to_one, defined_more}
@@ -104,7 +104,7 @@ module _ (env : Environment) (w : World) (insts : List Inst) (allocated : Store)
     seen : (k : ℕ) → Same k q.run r → q.rest ≡ [] → Stage d r q
 
   abbrev pub Next : ℕ → Run → InTurn → Type 0
-  Next d r q = Follow tick tick_in_turn (λ d e r q. Stage d r q) r q d 0
+  Next d r q = Leads tick tick_in_turn (λ d e r q. Stage d r q) d 0 r q
 
   -- a step of both, where the turn is the run's
   in_step : (d : ℕ) (r : Run) (q : InTurn) → tick_in_turn q ≡ with_run q (tick q.run) → (tick r).1 ≡ (tick q.run).1 → Stage d (tick r).0 (record q { run = (tick q.run).0 }) → Next d r q

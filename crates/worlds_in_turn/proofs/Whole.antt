@@ -10,10 +10,12 @@ use Rattle.wasm_meaning.specs.World.{World, Begun, own_store, begun, all_there, 
 use Rattle.wasm_meaning.specs.Run.{Event, InstanceTrapped, Pending, Closed, Move, Run, IsPrefix, fresh_run, tick, events_of}
 use Rattle.wasm_meaning.specs.Below.{BelowIsNotSeen}
 use Rattle.wasm_meaning.specs.InTurn.{InTurn, or_empty, view_over, goes_on, before_turns, tick_in_turn, events_in_turn, HasNoActive}
-use Rattle.wasm_meaning.proofs.Simulation.{Prefix, Follow, both, second, follows, swapped, prefix_trans, later}
+use Rattle.wasm_meaning.proofs.Simulation.{Prefix, prefix_trans, later}
 use Rattle.index_remap.specs.Related.{nil, cons, opening}
 use Rattle.index_remap.specs.RelatedRuns.{pending}
 use Rattle.index_remap.specs.Laws.{CodeIsRelatedToItself, RelatedTicksAgree, OthersStay}
+use Rattle.permuted_worlds.specs.Silent.{BudgetedTurnsShowTheSame}
+use Rattle.permuted_worlds.proofs.Led.{Leads, both, second, led}
 use Rattle.worlds_in_turn.proofs.Extends.{Extends, stays}
 use Rattle.worlds_in_turn.proofs.Joined.{made_upto}
 use Rattle.worlds_in_turn.proofs.Reached.{reaching}
@@ -138,7 +140,7 @@ module _ (env : Environment) (w : World) (insts : List Inst) (allocated : Store)
             module_low (part ∷ parts) (suc p) m e = let b = module_low parts p m e in omega (arith, b)
 
   abbrev Next : ℕ → Run → InTurn → Type 0
-  Next d r q = Follow tick tick_in_turn (λ d e r q. Early d r q) r q d 0
+  Next d r q = Leads tick tick_in_turn (λ d e r q. Early d r q) d 0 r q
 
   -- ---- the first step ----
 
@@ -190,7 +192,7 @@ module _ (env : Environment) (w : World) (insts : List Inst) (allocated : Store)
           second (ap (λ o. o.1) s.1) (subst (λ o. Early d r o.0) (sym s.1) s.2)
   next d r q (later_on h) = on (stages.next env w insts allocated g itself below ticks others view view_is d r q h)
     where
-      on : {d : ℕ} → Follow tick tick_in_turn (λ d e r q. TheStage d r q) r q d 0 → Next d r q
+      on : {d : ℕ} → Leads tick tick_in_turn (λ d e r q. TheStage d r q) d 0 r q → Next d r q
       on (both p i) = both p (later_on i)
       on (second p i) = second p (later_on i)
 
@@ -199,22 +201,23 @@ module _ (env : Environment) (w : World) (insts : List Inst) (allocated : Store)
   abbrev Credit : ℕ → ℕ → Run → InTurn → Type 0
   Credit d e r q = (e ≡ 0) × Early d r q
 
-  credited : (d e : ℕ) (r : Run) (q : InTurn) → Credit d e r q → Follow tick tick_in_turn (λ d e r q. Credit d e r q) r q d e
-  credited d e r q h = subst (λ e. Follow tick tick_in_turn (λ d e r q. Credit d e r q) r q d e) (sym h.0) (on (next d r q h.1))
+  credited : (d e : ℕ) (r : Run) (q : InTurn) → Credit d e r q → Leads tick tick_in_turn (λ d e r q. Credit d e r q) d e r q
+  credited d e r q h = subst (λ e. Leads tick tick_in_turn (λ d e r q. Credit d e r q) d e r q) (sym h.0) (on (next d r q h.1))
     where
-      on : {d : ℕ} → Next d r q → Follow tick tick_in_turn (λ d e r q. Credit d e r q) r q d 0
+      on : {d : ℕ} → Next d r q → Leads tick tick_in_turn (λ d e r q. Credit d e r q) d 0 r q
       on (both p i) = both p (refl, i)
       on (second p i) = second p (refl, i)
 
-  is_prefix : {xs ys : List Event} → Prefix xs ys → IsPrefix xs ys
-  is_prefix p = (p.rest, p.is)
+  further : (xs ys zs : List Event) → IsPrefix xs ys → Prefix ys zs → IsPrefix xs zs
+  further xs ys zs p q =
+      let first : Prefix xs ys = record { rest = p.0; is = p.1 } in
+      let r = prefix_trans first q in (r.rest, r.is)
 
-  pub seen_the_same : 0 < length w.parts → (n : ℕ) → IsPrefix (events_of tick (fresh_run env (Some instance) moves) n) (events_in_turn w env moves (n + 4 * length w.parts)) × IsPrefix (events_in_turn w env moves n) (events_of tick (fresh_run env (Some instance) moves) (n + 4 * length w.parts))
-  seen_the_same some n =
+  pub seen_the_same : BudgetedTurnsShowTheSame → 0 < length w.parts → (n : ℕ) → IsPrefix (events_of tick (fresh_run env (Some instance) moves) n) (events_in_turn w env moves (n + 4 * length w.parts)) × IsPrefix (events_in_turn w env moves n) (events_of tick (fresh_run env (Some instance) moves) (n + 4 * length w.parts))
+  seen_the_same budget some n =
       let k = length w.parts in
       let r = fresh_run env (Some instance) moves in
       let q = before_turns env w moves in
       let start : Early k r q = fresh refl refl some (omega arith) in
-      let there = follows tick tick_in_turn (λ d e r q. Credit d e r q) credited n k 0 r q (refl, start) in
-      let back = follows tick_in_turn tick (λ e d q r. Credit d e r q) (λ e d q r h. swapped (credited d e r q h)) n 0 k q r (refl, start) in
-      (is_prefix (prefix_trans there (later tick_in_turn (n + k) (n + 4 * k) q (omega arith))), is_prefix (prefix_trans back (later tick (n + 0) (n + 4 * k) r (omega arith))))
+      let seen = budget.0 tick tick_in_turn k 0 r q (λ steps. led tick tick_in_turn Credit credited steps k 0 r q (refl, start)) n in
+      (further _ _ _ seen.0 (later tick_in_turn (n + k) (n + 4 * k) q (omega arith)), further _ _ _ seen.1 (later tick (n + 0) (n + 4 * k) r (omega arith)))
