@@ -5,6 +5,8 @@ mod EmbedderRuns
 mod IllTypedRuns
 mod TurnRuns
 mod LoaderRuns
+mod TellingRuns
+mod TellingWorlds
 pub mod Walks
 pub mod Linked
 mod Below
