@@ -36,6 +36,7 @@ use Rattle.wasm_meaning.specs.Linking.{Tables, Memories}
 use Rattle.wasm_meaning.specs.Environment.{Environment, Number, Null}
 use Rattle.wasm_meaning.specs.World.{World}
 use Rattle.wasm_meaning.specs.Run.{Event, Move, Linked, Returned, Trapped, Asked, GrowAsked, Call, Answer, Grant, events}
+use Rattle.wasm_meaning.specs.InTurn.{events_in_turn}
 use Rattle.wasm_meaning.proofs.SmallRuns.{f, g, a, b, e, i32, to_i32, from_i32, nothing, empty, code, num, gives, plain, returns}
 use Rattle.wasm_meaning.proofs.MoreRuns.{i64}
 
@@ -152,6 +153,21 @@ a_table_of_branches_hands_on_two_in_order = refl
 a_table_of_branches_hands_on_two_to_its_last : body_gives (i.Block (bt.Index 2) (i.Block (bt.Index 2) (num 9 ∷ (num 7 ∷ (num 2 ∷ (num 1 ∷ (i.BrTable (1 ∷ []) 0 ∷ []))))) ∷ (i.Drop ∷ (i.Drop ∷ (num 9 ∷ (num 3 ∷ []))))) ∷ (minus ∷ [])) ≡ returns (Number 6 ∷ [])
 unfolding out-Instr denote.Hole.Carrier.out shown-the_row-Instr-0 denote.Hole.Carrier.shown denote.Hole.Carrier.hidden wrapped un_from un_to un_value bin_from bin_to bin_value
 a_table_of_branches_hands_on_two_to_its_last = refl
+
+-- what was entered and left inside a block does not change how many values it gives
+a_block_gives_its_own_count : body_gives (i.Block (bt.Index 2) (i.Block bt.Empty (i.Nop ∷ []) ∷ (num 7 ∷ (num 2 ∷ []))) ∷ (minus ∷ [])) ≡ returns (Number 5 ∷ [])
+unfolding out-Instr denote.Hole.Carrier.out shown-the_row-Instr-0 denote.Hole.Carrier.shown denote.Hole.Carrier.hidden wrapped un_from un_to un_value bin_from bin_to bin_value
+a_block_gives_its_own_count = refl
+
+-- nor how many a branch to it takes
+a_branch_takes_its_own_count : body_gives (i.Block (bt.Index 2) (i.Block bt.Empty (i.Nop ∷ []) ∷ (num 9 ∷ (num 7 ∷ (num 2 ∷ (i.Br 0 ∷ []))))) ∷ (minus ∷ [])) ≡ returns (Number 5 ∷ [])
+unfolding out-Instr denote.Hole.Carrier.out shown-the_row-Instr-0 denote.Hole.Carrier.shown denote.Hole.Carrier.hidden wrapped un_from un_to un_value bin_from bin_to bin_value
+a_branch_takes_its_own_count = refl
+
+-- nor what a branch to a loop begins: it is made three times
+a_loop_is_begun_again_after_a_block : gives_in (record empty { funcs = record { ty = 0; locals = record { count = 1; ty = i32 } ∷ []; body = i.Loop bt.Empty (i.Block bt.Empty (i.Nop ∷ []) ∷ (i.LocalGet 0 ∷ (num 1 ∷ (plus ∷ (i.LocalTee 0 ∷ (num 3 ∷ (i.Bin bin.I32LtU ∷ (i.BrIf 0 ∷ [])))))))) ∷ (i.LocalGet 0 ∷ []) } ∷ [] }) ≡ returns (Number 3 ∷ [])
+unfolding out-Instr denote.Hole.Carrier.out shown-the_row-Instr-0 denote.Hole.Carrier.shown denote.Hole.Carrier.hidden wrapped un_from un_to un_value bin_from bin_to bin_value
+a_loop_is_begun_again_after_a_block = refl
 
 -- a call takes its arguments in order
 a_call_takes_two_in_order : gives_in (first_and (seven_two (i.Call 1 ∷ [])) (difference ∷ [])) ≡ returns (Number 5 ∷ [])
@@ -413,6 +429,25 @@ a_global_of_the_second_part = refl
 a_call_in_the_second_part : f_then_g (both_parts (first_and (i.Call 1 ∷ []) (giving 1 ∷ [])) (first_and (i.Call 1 ∷ []) (giving 2 ∷ []))) ≡ return_both 2 1
 unfolding out-Instr denote.Hole.Carrier.out wrapped un_from un_to un_value bin_from bin_to bin_value load_to load_width loaded store_from stored
 a_call_in_the_second_part = refl
+
+-- f is called first where the parts are instantiated one after the other
+abbrev in_turn : World → List Event
+in_turn w = events_in_turn w [] (Call f [] ∷ (Call g [] ∷ [])) 40
+
+-- so it is where the second part comes after the first
+bytes_of_the_second_part_in_turn : in_turn with_bytes ≡ return_both 6 0
+unfolding out-Instr denote.Hole.Carrier.out wrapped un_from un_to un_value bin_from bin_to bin_value load_to load_width loaded store_from stored
+bytes_of_the_second_part_in_turn = refl
+
+-- of tables and their segments
+entries_of_the_second_part_in_turn : in_turn with_entries ≡ return_both 2 1
+unfolding out-Instr denote.Hole.Carrier.out wrapped un_from un_to un_value bin_from bin_to bin_value load_to load_width loaded store_from stored
+entries_of_the_second_part_in_turn = refl
+
+-- and of globals
+a_global_of_the_second_part_in_turn : in_turn with_globals ≡ return_both 51 40
+unfolding out-Instr denote.Hole.Carrier.out wrapped un_from un_to un_value bin_from bin_to bin_value load_to load_width loaded store_from stored
+a_global_of_the_second_part_in_turn = refl
 
 -- ---- locals ----
 

@@ -33,6 +33,7 @@ use Rattle.wasm_meaning.specs.Environment.{Environment, Shown, Number, Null, Own
 use Rattle.wasm_meaning.specs.World.{World}
 use Rattle.wasm_meaning.specs.World as world
 use Rattle.wasm_meaning.specs.Run.{Event, Place, Linked, LinkFault, InstanceTrapped, Returned, Trapped, Asked, GrowAsked, Got, Done, BadMove, Call, Invoke, Take, Answer, Grant, Get, Set, TableOf, GlobalOf, Named, events}
+use Rattle.wasm_meaning.specs.InTurn.{events_in_turn}
 use Rattle.wasm_meaning.specs.Loader.{LoaderWorld, events_loaded}
 use Rattle.wasm_meaning.proofs.SmallRuns.{f, g, a, b, e, m, i32, to_i32, nothing, to_nothing, empty, code, num, gives, plain, returns, env, log, linked_by_hand, logging}
 use Rattle.wasm_meaning.proofs.MoreRuns.{i64, by}
@@ -91,6 +92,31 @@ one_start_of_two = record {
   view = [];
 }
 
+-- the environment has one of each kind by the names of the function: a table of one entry, no page, and a global that is 3; and a global that is 20 by the name m
+abbrev one_of_each : Environment
+one_of_each = record {
+  pair = (e, g);
+  funcs = to_i32 ∷ [];
+  table = Some (record { ty = reft.Func; limits = record { min = 1; max = None }; entries = Null ∷ [] });
+  memory = Some (record { limits = pages 0; pages = 0; bytes = [] });
+  global = Some (record { ty = fixed i32; value = Number 3 });
+} ∷ (record { pair = (e, m); funcs = []; table = None; memory = None; global = Some (record { ty = fixed i32; value = Number 20 }) } ∷ [])
+
+-- a module's own table, memory and global are not the environment's, which come first
+what_is_not_imported_is_not_there : events (plain (record (one_memory [] (i.TableSize 0 ∷ (i.MemorySize 0 ∷ (plus ∷ (i.GlobalGet 0 ∷ (plus ∷ [])))))) { tables = func_table 2 ∷ []; globals = counter 40 ∷ [] })) one_of_each (Call f [] ∷ []) 40 ≡ returns (Number 43 ∷ [])
+unfolding out-Instr denote.Hole.Carrier.out wrapped un_from un_to un_value bin_from bin_to bin_value load_to load_width loaded store_from stored
+what_is_not_imported_is_not_there = refl
+
+-- global 1 is the third import: a global that is defined takes its value
+imports_of_several_kinds : events (record { parts = record { name = None; «module» = record (first_and (i.Call 0 ∷ (i.GlobalGet 2 ∷ (plus ∷ (i.GlobalGet 0 ∷ (plus ∷ []))))) []) { imports = from_e (im.Global (fixed i32)) ∷ (from_e (im.Func 0) ∷ (record { «module» = e; field = m; desc = im.Global (fixed i32) } ∷ [])); globals = record { ty = fixed i32; init = const.Global 1 } ∷ [] } } ∷ []; view = (f, record { part = 0; what = ex.Func 1 }) ∷ [] }) one_of_each (Call f [] ∷ (Answer (Number 19 ∷ []) ∷ [])) 40 ≡ Linked ∷ (Asked (e, g) to_i32 [] ∷ (Returned (Number 42 ∷ []) ∷ []))
+unfolding out-Instr denote.Hole.Carrier.out wrapped un_from un_to un_value bin_from bin_to bin_value load_to load_width loaded store_from stored
+imports_of_several_kinds = refl
+
+-- an i64 that is -1, null and a function
+globals_of_each_type : events (plain (record empty { types = record { params = []; results = i64 ∷ (externref ∷ (funcref ∷ [])) } ∷ []; funcs = code 0 (i.GlobalGet 0 ∷ (i.GlobalGet 1 ∷ (i.GlobalGet 2 ∷ []))) ∷ []; globals = record { ty = fixed i64; init = const.I64 (negsuc 0) } ∷ (record { ty = fixed externref; init = const.Null reft.Extern } ∷ (record { ty = fixed funcref; init = const.Func 0 } ∷ [])) })) [] (Call f [] ∷ []) 40 ≡ returns (Number 18446744073709551615 ∷ (Null ∷ (Function 0 ∷ [])))
+unfolding out-Instr denote.Hole.Carrier.out wrapped un_from un_to un_value bin_from bin_to bin_value load_to load_width loaded store_from stored
+globals_of_each_type = refl
+
 -- of two that overlap the later stands where both write
 data_segments_come_in_order : gives_in (one_memory (data_at 0 0 (5 ∷ (6 ∷ [])) ∷ (data_at 0 1 (7 ∷ []) ∷ [])) (num 0 ∷ (i.Load load.I32Load16U (by 0) ∷ []))) ≡ returns (Number 1797 ∷ [])
 unfolding out-Instr denote.Hole.Carrier.out wrapped un_from un_to un_value bin_from bin_to bin_value load_to load_width loaded store_from stored
@@ -131,10 +157,21 @@ no_items_at_an_offset_below_zero : begins (with_elems (no_items_at (const.I32 (n
 unfolding out-Instr denote.Hole.Carrier.out wrapped un_from un_to un_value bin_from bin_to bin_value load_to load_width loaded store_from stored
 no_items_at_an_offset_below_zero = refl
 
+abbrev by_its_globals : World
+by_its_globals = record {
+  parts = record { name = Some a; «module» = with_globals_out } ∷ (record { name = None; «module» = by_globals (from_a (im.Global (fixed i32))) (record { «module» = a; field = g; desc = im.Global (fixed funcref) }) } ∷ []);
+  view = (f, record { part = 1; what = ex.Func 0 }) ∷ [];
+}
+
 -- offsets and an item are read from globals of another part
-segments_by_joined_globals : events (record { parts = record { name = Some a; «module» = with_globals_out } ∷ (record { name = None; «module» = by_globals (from_a (im.Global (fixed i32))) (record { «module» = a; field = g; desc = im.Global (fixed funcref) }) } ∷ []); view = (f, record { part = 1; what = ex.Func 0 }) ∷ [] }) [] (Call f [] ∷ []) 40 ≡ returns (Number 12 ∷ [])
+segments_by_joined_globals : events by_its_globals [] (Call f [] ∷ []) 40 ≡ returns (Number 12 ∷ [])
 unfolding out-Instr denote.Hole.Carrier.out wrapped un_from un_to un_value bin_from bin_to bin_value load_to load_width loaded store_from stored
 segments_by_joined_globals = refl
+
+-- so they are where the other part came before
+segments_by_joined_globals_in_turn : events_in_turn by_its_globals [] (Call f [] ∷ []) 40 ≡ returns (Number 12 ∷ [])
+unfolding out-Instr denote.Hole.Carrier.out wrapped un_from un_to un_value bin_from bin_to bin_value load_to load_width loaded store_from stored
+segments_by_joined_globals_in_turn = refl
 
 -- and from the environment's
 segments_by_globals_of_the_environment : events (plain (by_globals (from_e (im.Global (fixed i32))) (record { «module» = e; field = m; desc = im.Global (fixed funcref) }))) own_globals (Call f [] ∷ (Answer (Number 3 ∷ []) ∷ [])) 40 ≡ Linked ∷ (Asked (e, g) to_i32 [] ∷ (Returned (Number 12 ∷ []) ∷ []))
@@ -232,6 +269,11 @@ a_part_that_imports_from_itself = refl
 one_part_writes_what_another_reads : events (both_parts sharing writing) [] (Call g [] ∷ (Call f [] ∷ (Call g [] ∷ []))) 50 ≡ Linked ∷ (Trapped ∷ (Returned (Number 1 ∷ []) ∷ (Returned (Number 42 ∷ []) ∷ [])))
 unfolding out-Instr denote.Hole.Carrier.out wrapped un_from un_to un_value bin_from bin_to bin_value load_to load_width loaded store_from stored
 one_part_writes_what_another_reads = refl
+
+-- so it is where the second part comes after the first
+one_part_writes_what_an_earlier_one_reads : events_in_turn (both_parts sharing writing) [] (Call g [] ∷ (Call f [] ∷ (Call g [] ∷ []))) 50 ≡ Linked ∷ (Trapped ∷ (Returned (Number 1 ∷ []) ∷ (Returned (Number 42 ∷ []) ∷ [])))
+unfolding out-Instr denote.Hole.Carrier.out wrapped un_from un_to un_value bin_from bin_to bin_value load_to load_width loaded store_from stored
+one_part_writes_what_an_earlier_one_reads = refl
 
 -- no page where one is asked for
 a_defined_memory_that_is_too_small : memory_for (up_to 0 None) (up_to 1 None) ≡ LinkFault ∷ (BadMove ∷ [])
@@ -515,6 +557,36 @@ the_second_placeholder_loads = refl
 a_moved_function_asks_the_environment : events_loaded (loaded_by with_an_own asking_more one_slot ((f, ex.Func 2) ∷ [])) (offering (to_i32 ∷ [])) (Call f [] ∷ (Answer (Number 4 ∷ []) ∷ [])) 60 ≡ Linked ∷ (Asked (e, g) to_i32 [] ∷ (Returned (Number 5 ∷ []) ∷ []))
 unfolding out-Instr denote.Hole.Carrier.out wrapped un_from un_to un_value bin_from bin_to bin_value load_to load_width loaded store_from stored
 a_moved_function_asks_the_environment = refl
+
+-- the placeholder's slot is entry 0 of table 1, and function 2 stands in entry 0 of table 0
+abbrev second_table : Module
+second_table = record (primary 0 1 (const.Func 2 ∷ []) (code 0 (i.Call 0 ∷ []) ∷ (giving 9 ∷ []))) {
+  tables = func_table 1 ∷ (func_table 1 ∷ []);
+  exports = out_as a (ex.Table 1) ∷ [];
+  elems = put_at 0 0 (const.Func 2 ∷ []) ∷ (put_at 1 0 (const.Func 0 ∷ []) ∷ []);
+}
+
+-- function 0 is the placeholder, which f calls, and what was moved gives 7
+abbrev calls_moved : Module
+calls_moved = primary 0 1 (const.Func 0 ∷ []) (code 0 (i.Call 0 ∷ []) ∷ [])
+
+abbrev gives_moved : Module
+gives_moved = secondary 1 (const.Func 0 ∷ []) (giving 7 ∷ [])
+
+-- the slots may stand in another table than 0
+the_slots_are_table_1 : events_loaded (record (loaded_by second_table gives_moved one_slot ((f, ex.Func 1) ∷ [])) { slot_table = 1 }) [] (Call f [] ∷ []) 60 ≡ returns (Number 7 ∷ [])
+unfolding out-Instr denote.Hole.Carrier.out wrapped un_from un_to un_value bin_from bin_to bin_value load_to load_width loaded store_from stored
+the_slots_are_table_1 = refl
+
+-- what the loader supplies is not the environment's, which offers that name too
+a_placeholder_is_not_asked_of_the_environment : events_loaded (loaded_by calls_moved gives_moved one_slot ((f, ex.Func 1) ∷ [])) (record { pair = (b, g); funcs = to_i32 ∷ []; table = None; memory = None; global = None } ∷ []) (Call f [] ∷ []) 60 ≡ returns (Number 7 ∷ [])
+unfolding out-Instr denote.Hole.Carrier.out wrapped un_from un_to un_value bin_from bin_to bin_value load_to load_width loaded store_from stored
+a_placeholder_is_not_asked_of_the_environment = refl
+
+-- a start that the secondary has is not made
+the_start_of_a_secondary_is_not_made : events_loaded (loaded_by calls_moved (record gives_moved { funcs = giving 7 ∷ (code 4 (i.Unreachable ∷ []) ∷ []); start = Some 1 }) one_slot ((f, ex.Func 1) ∷ [])) [] (Call f [] ∷ []) 60 ≡ returns (Number 7 ∷ [])
+unfolding out-Instr denote.Hole.Carrier.out wrapped un_from un_to un_value bin_from bin_to bin_value load_to load_width loaded store_from stored
+the_start_of_a_secondary_is_not_made = refl
 
 -- ---- a module alone ----
 
