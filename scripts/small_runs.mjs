@@ -3,8 +3,8 @@
 // Reads the theorems of the files named below, builds the modules of each as bytes, makes the embedder's moves, and compares what is seen with the
 // events that the theorem states. Of a module under a loader it is the loader, too. A run that the engine can't show (a growth that is denied, a move
 // while a growth waits, a run that doesn't end in its steps, imports in a circle, what several parts do at once, two memories, a load while the
-// primary starts) is named with its reason. A run is shown in part where a move isn't taken, which is then left out, or a growth is granted, whose
-// request no engine tells. Ends with 1 where the engine shows something else, or nothing was read.
+// primary starts, a placeholder that a move calls) is named with its reason. A run is shown in part where a move isn't taken, which is then left out,
+// or a growth is granted, whose request no engine tells. Ends with 1 where the engine shows something else, or nothing was read.
 //
 //     node scripts/small_runs.mjs [FILE.antt..]     (a later file uses the names of the ones before it)
 import { readFileSync } from "node:fs";
@@ -540,6 +540,11 @@ class Loader extends Embedder {
     const slots = instance.exports[`view ${SLOTS}`];
     if (this.placeholders.some(({ callee }) => callee === slots.get(slot))) throw new Refusal();
     return throughSlot(slots, slot, this.placeholders[slot].type)(...args);
+  }
+
+  calls(callee, type, args) {
+    if (this.placeholders.some((one) => one.callee === callee)) throw new NotShown("a placeholder that a move calls");
+    return super.calls(callee, type, args);
   }
 
   load(exports) {

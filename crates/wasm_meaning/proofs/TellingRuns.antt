@@ -33,7 +33,7 @@ use Rattle.wasm_tree.specs.declared.module.Module.{Module}
 use Rattle.wasm_num.specs.Operations.{wrapped, un_from, un_to, un_value, bin_from, bin_to, bin_value}
 use Rattle.wasm_meaning.specs.Access.{load_to, load_width, loaded, store_from, stored}
 use Rattle.wasm_meaning.specs.Linking.{Tables, Memories}
-use Rattle.wasm_meaning.specs.Environment.{Environment, Number, Null}
+use Rattle.wasm_meaning.specs.Environment.{Environment, Number, Null, ExternNumber}
 use Rattle.wasm_meaning.specs.World.{World}
 use Rattle.wasm_meaning.specs.Run.{Event, Move, Linked, Returned, Trapped, Asked, GrowAsked, Call, Answer, Grant, events}
 use Rattle.wasm_meaning.specs.InTurn.{events_in_turn}
@@ -449,7 +449,7 @@ a_global_of_the_second_part_in_turn : in_turn with_globals ≡ return_both 51 40
 unfolding out-Instr denote.Hole.Carrier.out wrapped un_from un_to un_value bin_from bin_to bin_value load_to load_width loaded store_from stored
 a_global_of_the_second_part_in_turn = refl
 
--- ---- locals ----
+-- ---- locals, and entries that are null at first ----
 
 -- a module whose one function has this type and these locals
 abbrev pub declaring : FuncType → List LocalGroup → List Instr → Module
@@ -489,6 +489,11 @@ locals_are_new_in_each_call = refl
 locals_stay_over_a_call : gives_in (record empty { funcs = record { ty = 0; locals = locals_of 1 i32 ∷ []; body = num 7 ∷ (i.LocalSet 0 ∷ (i.Call 1 ∷ (i.LocalGet 0 ∷ (minus ∷ [])))) } ∷ (record { ty = 0; locals = locals_of 1 i32 ∷ []; body = num 9 ∷ (i.LocalSet 0 ∷ (i.LocalGet 0 ∷ [])) } ∷ []) }) ≡ returns (Number 2 ∷ [])
 unfolding out-Instr denote.Hole.Carrier.out wrapped un_from un_to un_value bin_from bin_to bin_value load_to load_width loaded store_from stored
 locals_stay_over_a_call = refl
+
+-- an entry that is set, and one that is null at first, are extern references
+a_table_of_extern_references : f_of (record (declaring (record { params = externref ∷ []; results = externref ∷ (externref ∷ []) }) [] (num 0 ∷ (i.LocalGet 0 ∷ (i.TableSet 0 ∷ (num 0 ∷ (i.TableGet 0 ∷ (num 1 ∷ (i.TableGet 0 ∷ [])))))))) { tables = record { ty = reft.Extern; limits = record { min = 2; max = None } } ∷ [] }) (Call f (ExternNumber 7 ∷ []) ∷ []) ≡ returns (ExternNumber 7 ∷ (Null ∷ []))
+unfolding out-Instr denote.Hole.Carrier.out wrapped un_from un_to un_value bin_from bin_to bin_value load_to load_width loaded store_from stored
+a_table_of_extern_references = refl
 
 -- ---- equal types under other indices ----
 

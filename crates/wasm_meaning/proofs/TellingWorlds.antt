@@ -193,6 +193,10 @@ handing_on import = record { name = Some a; «module» = record empty { imports 
 abbrev through_a : Part
 through_a = record { name = None; «module» = record (first_and (i.Call 0 ∷ []) []) { imports = from_a (im.Func 0) ∷ [] } }
 
+-- it is named a, and its function f gives a number
+abbrev giver_of : ℕ → Part
+giver_of n = record { name = Some a; «module» = record (gives (num n ∷ [])) { exports = record { name = f; desc = ex.Func 0 } ∷ [] } }
+
 abbrev func_1_of : List Part → World
 func_1_of parts = record { parts = parts; view = (f, record { part = 0; what = ex.Func 1 }) ∷ [] }
 
@@ -259,6 +263,16 @@ a_path_of_two_joins = refl
 a_path_to_the_environment : events (func_1_of (through_a ∷ (handing_on (from_e (im.Func 0)) ∷ []))) (offering (to_i32 ∷ [])) (Call f [] ∷ (Answer (Number 4 ∷ []) ∷ [])) 40 ≡ Linked ∷ (Asked (e, g) to_i32 [] ∷ (Returned (Number 4 ∷ []) ∷ []))
 unfolding out-Instr denote.Hole.Carrier.out wrapped un_from un_to un_value bin_from bin_to bin_value load_to load_width loaded store_from stored
 a_path_to_the_environment = refl
+
+-- function 0 of a is its second import
+a_path_through_an_import_of_several : events (func_1_of (through_a ∷ (record { name = Some a; «module» = record empty { imports = record { «module» = b; field = g; desc = im.Global (fixed i32) } ∷ (record { «module» = b; field = f; desc = im.Func 0 } ∷ []); exports = record { name = f; desc = ex.Func 0 } ∷ [] } } ∷ (record { name = Some b; «module» = record with_globals_out { exports = record { name = f; desc = ex.Func 0 } ∷ (record { name = g; desc = ex.Global 0 } ∷ []) } } ∷ [])))) [] (Call f [] ∷ []) 40 ≡ returns (Number 3 ∷ [])
+unfolding out-Instr denote.Hole.Carrier.out wrapped un_from un_to un_value bin_from bin_to bin_value load_to load_width loaded store_from stored
+a_path_through_an_import_of_several = refl
+
+-- of two parts of one name the first counts
+parts_that_share_a_name : events (func_1_of (through_a ∷ (giver_of 3 ∷ (giver_of 4 ∷ [])))) [] (Call f [] ∷ []) 40 ≡ returns (Number 3 ∷ [])
+unfolding out-Instr denote.Hole.Carrier.out wrapped un_from un_to un_value bin_from bin_to bin_value load_to load_width loaded store_from stored
+parts_that_share_a_name = refl
 
 -- its import is its own function
 a_part_that_imports_from_itself : events from_itself [] (Call f [] ∷ []) 40 ≡ returns (Number 3 ∷ [])
@@ -352,7 +366,7 @@ a_global_that_fits = refl
 
 -- ---- moves ----
 
--- functions of one part, and its memory 0, by the names f, g and m
+-- two functions of one part, by the names f and g
 abbrev naming : ℕ → ℕ → Module → World
 naming first second x = record { parts = record { name = None; «module» = x } ∷ []; view = (f, record { part = 0; what = ex.Func first }) ∷ ((g, record { part = 0; what = ex.Func second }) ∷ []) }
 
@@ -582,6 +596,16 @@ the_slots_are_table_1 = refl
 a_placeholder_is_not_asked_of_the_environment : events_loaded (loaded_by calls_moved gives_moved one_slot ((f, ex.Func 1) ∷ [])) (record { pair = (b, g); funcs = to_i32 ∷ []; table = None; memory = None; global = None } ∷ []) (Call f [] ∷ []) 60 ≡ returns (Number 7 ∷ [])
 unfolding out-Instr denote.Hole.Carrier.out wrapped un_from un_to un_value bin_from bin_to bin_value load_to load_width loaded store_from stored
 a_placeholder_is_not_asked_of_the_environment = refl
+
+-- a placeholder in a table is shown by its number, as code is
+a_placeholder_has_a_number : events_loaded (loaded_by calls_moved gives_moved one_slot (f_and a (ex.Table 0))) [] (Get (Named a) 0 ∷ (Call f [] ∷ (Get (Named a) 0 ∷ (Invoke 1 [] ∷ [])))) 60 ≡ Linked ∷ (Got (Function 0) ∷ (Returned (Number 7 ∷ []) ∷ (Got (Function 1) ∷ (Returned (Number 7 ∷ []) ∷ []))))
+unfolding out-Instr denote.Hole.Carrier.out wrapped un_from un_to un_value bin_from bin_to bin_value load_to load_width loaded store_from stored
+a_placeholder_has_a_number = refl
+
+-- where a move calls it nothing is loaded, and the call traps
+a_placeholder_that_a_move_calls : events_loaded (loaded_by calls_moved gives_moved one_slot (f_and a (ex.Table 0))) [] (Get (Named a) 0 ∷ (Invoke 0 [] ∷ (Get (Named a) 0 ∷ (Call f [] ∷ [])))) 60 ≡ Linked ∷ (Got (Function 0) ∷ (Trapped ∷ (Got (Function 0) ∷ (Returned (Number 7 ∷ []) ∷ []))))
+unfolding out-Instr denote.Hole.Carrier.out wrapped un_from un_to un_value bin_from bin_to bin_value load_to load_width loaded store_from stored
+a_placeholder_that_a_move_calls = refl
 
 -- a start that the secondary has is not made
 the_start_of_a_secondary_is_not_made : events_loaded (loaded_by calls_moved (record gives_moved { funcs = giving 7 ∷ (code 4 (i.Unreachable ∷ []) ∷ []); start = Some 1 }) one_slot ((f, ex.Func 1) ∷ [])) [] (Call f [] ∷ []) 60 ≡ returns (Number 7 ∷ [])
