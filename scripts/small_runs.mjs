@@ -1,10 +1,10 @@
 // The small runs of crates/wasm_meaning, made in a real engine.
 //
-// Reads the theorems of SmallRuns.antt, MoreRuns.antt, EmbedderRuns.antt and FurtherRuns.antt, builds the modules of each as bytes, makes the embedder's
-// moves, and compares what is seen with the events that the theorem states. A run that the engine can't show (a growth that is denied, a move while a
-// growth waits, a run that doesn't end in its steps, imports in a circle, what several parts do at once, two memories) is named with its reason. A run is
-// shown in part where a move isn't taken, which is then left out, or a growth is granted, whose request no engine tells. Ends with 1 where the engine shows
-// something else, or nothing was read.
+// Reads the theorems of the files named below, builds the modules of each as bytes, makes the embedder's moves, and compares what is seen with the
+// events that the theorem states. Of a module under a loader it is the loader, too. A run that the engine can't show (a growth that is denied, a move
+// while a growth waits, a run that doesn't end in its steps, imports in a circle, what several parts do at once, two memories, a load while the
+// primary starts, a placeholder that a move calls) is named with its reason. A run is shown in part where a move isn't taken, which is then left out,
+// or a growth is granted, whose request no engine tells. Ends with 1 where the engine shows something else, or nothing was read.
 //
 //     node scripts/small_runs.mjs [FILE.antt..]     (a later file uses the names of the ones before it)
 import { readFileSync } from "node:fs";
@@ -12,9 +12,10 @@ import { dirname, join } from "node:path";
 import { fileURLToPath } from "node:url";
 
 const FOLDER = join(dirname(dirname(fileURLToPath(import.meta.url))), "crates/wasm_meaning/proofs");
-const FILES = process.argv.length > 2 ? process.argv.slice(2) : ["SmallRuns.antt", "MoreRuns.antt", "EmbedderRuns.antt", "FurtherRuns.antt"].map((name) => join(FOLDER, name));
+const NAMES = ["SmallRuns", "MoreRuns", "EmbedderRuns", "FurtherRuns", "LoaderRuns", "TellingRuns", "TellingWorlds"];
+const FILES = process.argv.length > 2 ? process.argv.slice(2) : NAMES.map((name) => join(FOLDER, `${name}.antt`));
 
-// ---- reading: terms of names, numbers, lists, pairs, records and applications ----
+// ---- reading: terms of names, numbers, lists and their joins, pairs, records and applications ----
 
 const words = (text) => text.match(/[()\[\]{},;]|[^\s()\[\]{},;]+/g) ?? [];
 
@@ -34,14 +35,15 @@ class Reader {
   needs(word) {
     if (!this.takes(word)) throw new Error(`${word} is missing before ${this.words.slice(this.next, this.next + 5).join(" ")}`);
   }
-  // an application, or an item and a list
+  // an application, or an item and a list, or two lists
   term() {
     const head = this.application();
+    if (this.takes("++")) return { joined: [head, this.term()] };
     return this.takes("∷") ? { cons: [head, this.term()] } : head;
   }
   application() {
     let term = this.item();
-    while (this.next < this.words.length && !/^[)\]},;∷=≡]$/.test(this.words[this.next])) term = { call: term, on: this.item() };
+    while (this.next < this.words.length && !/^([)\]},;∷=≡]|\+\+)$/.test(this.words[this.next])) term = { call: term, on: this.item() };
     return term;
   }
   item() {
@@ -86,14 +88,24 @@ const made = (tag, ...args) => ({ tag, args });
 function value(term, local) {
   if ("number" in term) return term.number;
   if ("list" in term) return [];
+  if ("joined" in term) return term.joined.flatMap((part) => value(part, local));
   if ("cons" in term) return [value(term.cons[0], local), ...value(term.cons[1], local)];
   if ("pair" in term) return { pair: term.pair.map((part) => value(part, local)) };
   if ("fields" in term) return { ...(term.base ? value(term.base, local) : {}), ...Object.fromEntries(term.fields.map(([name, part]) => [name, value(part, local)])) };
   if ("call" in term) return applied(value(term.call, local), value(term.on, local));
   if (term.name in local) return local[term.name];
   const known = definitions.get(term.name);
-  return known ? closure(known, known.names, {}) : made(term.name.split(".").at(-1));
+  return known ? closure(known, known.names, {}) : named(term.name);
 }
+
+// a definition of the specs, a field of what is defined here, or a constructor
+function named(name) {
+  if (name === "world.alone") return alone;
+  const [first, last] = [name.split(".")[0], name.split(".").at(-1)];
+  return first !== last && definitions.has(first) ? value({ name: first }, {})[last] : made(last);
+}
+
+const alone = (module) => ({ parts: [{ name: made("None"), module }], view: module.exports.map((e) => ({ pair: [e.name, { part: 0n, what: e.desc }] })) });
 
 const closure = (known, names, local) => (names.length ? (given) => closure(known, names.slice(1), { ...local, [names[0]]: given }) : value(known.term, local));
 
@@ -248,38 +260,56 @@ const memories = (module) => count(module.imports.map((i) => i.desc), "Memory") 
 
 const extent = (size, limits) => ({ initial: Number(size), ...(inner(limits.max) === null ? {} : { maximum: Number(inner(limits.max)) }) });
 
+// an instance of a module with the one import and the one export that these are
+function instanceOf(module, desc, what) {
+  const whole = { ...NOTHING, ...module, imports: [{ module: [], field: [], desc }], exports: [{ name: [], desc: made("Func", 0n) }] };
+  return new WebAssembly.Instance(new WebAssembly.Module(moduleBytes(whole)), { "": { "": what } }).exports[""];
+}
+
+const NOTHING = { types: [], funcs: [], tables: [], mems: [], globals: [], start: made("None"), elems: [], datas: [] };
+
+// a function of ours as the engine shows it where it is a value: through a module that imports and exports it
+const asEngineHas = (type, does) => instanceOf({ types: [type] }, made("Func", 0n), does);
+
+// what calls through a slot of a table, as code does
+function throughSlot(table, slot, type) {
+  const body = [...type.params.map((_, n) => made("LocalGet", n)), made("I32Const", made("pos", BigInt(slot))), made("CallIndirect", 0, 0)];
+  return instanceOf({ types: [type], funcs: [{ ty: 0, locals: [], body }] }, made("Table", { ty: made("Func"), limits: { min: 0, max: made("None") } }), table);
+}
+
 class Embedder {
   constructor(world, environment, moves, expected) {
     this.expected = expected;
     this.parts = world.parts.map((part) => ({ name: part.name.tag === "Some" ? string(inner(part.name)) : null, module: part.module, instance: null }));
     this.view = new Map(world.view.map(({ pair: [name, entity] }) => [string(name), entity]));
-    this.owned = new Map(environment.map((offer) => [JSON.stringify(offer.pair.pair.map(string)), this.offered(offer)]));
     this.moves = moves;
     this.shown = [];
     this.externs = new Map();
     this.events = [];
+    const key = (offer) => JSON.stringify(offer.pair.pair.map(string));
+    this.owned = new Map(environment.map((offer) => [key(offer), { funcs: offer.funcs.map((type) => this.ownFunction(offer.pair, type)) }]));
+    for (const offer of environment) Object.assign(this.owned.get(key(offer)), this.offered(offer));
   }
 
-  // the environment's own table, memory or global of a pair, and the types of its functions
+  // the environment's own table, memory and global of a pair
   offered(offer) {
     const [table, memory, global] = [inner(offer.table), inner(offer.memory), inner(offer.global)];
-    if (table?.entries.some((entry) => entry.tag !== "Null")) throw new NotShown("a table of the environment's own that has an entry");
     if (memory && !isZero(memory.bytes)) throw new NotShown("a memory of the environment's own that has bytes");
     return {
-      funcs: offer.funcs.map((type) => this.ownFunction(offer.pair, type)),
-      table: table && new WebAssembly.Table({ element: table.ty.tag === "Func" ? "anyfunc" : "externref", ...extent(table.entries.length, table.limits) }),
+      table: table && this.ownTable(table),
       memory: memory && new WebAssembly.Memory(extent(memory.pages, memory.limits)),
       global: global && new WebAssembly.Global({ value: typeName(global.ty.ty), mutable: global.ty.mutable.tag === "true" }, this.received(global.ty.ty, global.value)),
     };
   }
 
-  // a function of the environment's own, as the engine shows it where it is a value: through a module that imports and exports it
+  ownTable({ ty, limits, entries }) {
+    const table = new WebAssembly.Table({ element: ty.tag === "Func" ? "anyfunc" : "externref", ...extent(entries.length, limits) });
+    for (const [n, entry] of entries.entries()) if (entry.tag !== "Null") table.set(n, this.received(null, entry));
+    return table;
+  }
+
   ownFunction(pair, type) {
-    const [name, field] = pair.pair;
-    const desc = made("Func", 0n);
-    const through = { types: [type], imports: [{ module: name, field, desc }], funcs: [], tables: [], mems: [], globals: [], exports: [{ name: [], desc }], start: made("None"), elems: [], datas: [] };
-    const objects = { [string(name)]: { [string(field)]: (...args) => this.asked(pair, type, args) } };
-    return { type, value: made("OwnFunc", pair, type), callee: new WebAssembly.Instance(new WebAssembly.Module(moduleBytes(through)), objects).exports[""] };
+    return { type, value: made("OwnFunc", pair, type), callee: asEngineHas(type, (...args) => this.asked(pair, type, args)) };
   }
 
   run() {
@@ -482,6 +512,53 @@ class Embedder {
   }
 }
 
+// ---- the loader ----
+
+const SLOTS = "its slots";
+
+// a primary whose placeholders are functions of the loader: the first call of one instantiates the secondary
+class Loader extends Embedder {
+  constructor({ primary, secondary, placeholders, slot_table, view }, environment, moves, expected) {
+    const slots = { pair: [[...Buffer.from(SLOTS)], made("Table", slot_table)] };
+    const entities = [...view, slots].map(({ pair: [name, what] }) => ({ pair: [name, { part: 0n, what }] }));
+    super({ parts: [{ name: made("None"), module: primary }], view: entities }, environment, moves, expected);
+    this.secondary = { ...secondary, start: made("None") };
+    this.placeholders = placeholders.map(({ pair: [{ pair }, type] }, slot) => ({ pair, type, callee: asEngineHas(type, (...args) => this.called(slot, args)) }));
+    this.isLoaded = false;
+  }
+
+  supplied(module, i) {
+    const placeholder = this.placeholders.find(({ pair }) => text(pair) === text([i.module, i.field]));
+    return placeholder ? placeholder.callee : super.supplied(module, i);
+  }
+
+  // a placeholder that is found in the slot is not called again
+  called(slot, args) {
+    const { instance } = this.parts[0];
+    if (!instance) throw new NotShown("a load while the primary starts");
+    if (!this.isLoaded) this.load(instance.exports);
+    const slots = instance.exports[`view ${SLOTS}`];
+    if (this.placeholders.some(({ callee }) => callee === slots.get(slot))) throw new Refusal();
+    return throughSlot(slots, slot, this.placeholders[slot].type)(...args);
+  }
+
+  calls(callee, type, args) {
+    if (this.placeholders.some((one) => one.callee === callee)) throw new NotShown("a placeholder that a move calls");
+    return super.calls(callee, type, args);
+  }
+
+  load(exports) {
+    this.isLoaded = true;
+    const objects = {};
+    for (const i of this.secondary.imports) (objects[string(i.module)] ??= {})[string(i.field)] = exports[string(i.field)];
+    try {
+      new WebAssembly.Instance(new WebAssembly.Module(moduleBytes(this.secondary)), objects);
+    } catch (error) {
+      throw error instanceof WebAssembly.LinkError ? new Refusal() : error;
+    }
+  }
+}
+
 // ---- comparing ----
 
 const text = (what) => JSON.stringify(what, (key, part) => (typeof part === "bigint" ? part.toString() : part));
@@ -497,14 +574,14 @@ function unseen(events, moves) {
 
 // what the engine shows of a theorem, or why it shows nothing
 function tried({ run, events }) {
-  const [world, environment, moves] = value(run, {}).args;
+  const { tag, args: [world, environment, moves] } = value(run, {});
   const all = value(events, {});
   const reason = unseen(all, moves);
   if (reason) return { reason };
   const expected = all.filter((event) => event.tag !== "GrowAsked");
   const grants = moves.filter((move) => move.tag === "Grant").slice(0, count(all, "GrowAsked"));
   try {
-    const seen = new Embedder(world, environment, moves.filter((move) => !grants.includes(move)), expected).run();
+    const seen = new (tag === "events_loaded" ? Loader : Embedder)(world, environment, moves.filter((move) => !grants.includes(move)), expected).run();
     return { seen: text(seen), wanted: text(expected), inPart: count(all, "BadMove", "GrowAsked") > 0 };
   } catch (error) {
     if (error instanceof NotShown) return { reason: error.message };

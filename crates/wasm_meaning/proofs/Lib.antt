@@ -6,6 +6,8 @@ mod IllTypedRuns
 mod FurtherRuns
 mod TurnRuns
 mod LoaderRuns
+mod TellingRuns
+mod TellingWorlds
 pub mod Walks
 pub mod Linked
 mod Below
