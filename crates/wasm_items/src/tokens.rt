@@ -4,7 +4,7 @@ ghost use Rattle.wasm_format.specs.Tokens.{rest_form, sub_form};
 ghost use Rattle.wasm_format.specs.BodyReading.{arg_at, memory_at, simple_of, prefixed_at, token_of, token_at};
 
 use crate::operations::{bin_of, load_of, store_of, un_of};
-use crate::types::{read_block_type, read_tag};
+use crate::types::{read_block_type, read_tag, read_u32};
 use crate::vectors::{Spelled, read_list};
 use std::alloc::Global;
 use wasm_bytes::Cursor;
@@ -17,9 +17,9 @@ fn read_arg(cursor: &mut Cursor<'_>, many: bool) -> Result<MemArg, Fault>
     ensures gives { Gives result cursor.new (arg_at many cursor.old) }
     ensures shorter { OnOk result (length cursor.new < length cursor.old) }
 {
-    let first = cursor.u32()?;
+    let first = read_u32(cursor)?;
     if !many {
-        let offset = cursor.u32()?;
+        let offset = read_u32(cursor)?;
         return Ok(MemArg {
             align: first,
             offset,
@@ -27,7 +27,7 @@ fn read_arg(cursor: &mut Cursor<'_>, many: bool) -> Result<MemArg, Fault>
         });
     }
     if first < 64 {
-        let offset = cursor.u32()?;
+        let offset = read_u32(cursor)?;
         return Ok(MemArg {
             align: first,
             offset,
@@ -35,8 +35,8 @@ fn read_arg(cursor: &mut Cursor<'_>, many: bool) -> Result<MemArg, Fault>
         });
     }
     if first < 128 {
-        let memory = cursor.u32()?;
-        let offset = cursor.u32()?;
+        let memory = read_u32(cursor)?;
+        let offset = read_u32(cursor)?;
         return Ok(MemArg {
             align: first - 64,
             offset,
@@ -53,7 +53,7 @@ fn read_memory(cursor: &mut Cursor<'_>, many: bool) -> Result<u32, Fault>
     ensures shorter { OnOk result (length cursor.new < length cursor.old) }
 {
     if many {
-        Ok(cursor.u32()?)
+        Ok(read_u32(cursor)?)
     } else {
         read_tag(cursor, 0)?;
         Ok(0)
@@ -70,11 +70,11 @@ fn read_bulk(cursor: &mut Cursor<'_>, many: bool, code: u32) -> Result<Token, Fa
 {
     match code {
         8 => {
-            let segment = cursor.u32()?;
+            let segment = read_u32(cursor)?;
             let memory = read_memory(cursor, many)?;
             Ok(Token::Plain(Instr::MemoryInit { segment, memory }))
         }
-        9 => Ok(Token::Plain(Instr::DataDrop(cursor.u32()?))),
+        9 => Ok(Token::Plain(Instr::DataDrop(read_u32(cursor)?))),
         10 => {
             let to = read_memory(cursor, many)?;
             let from = read_memory(cursor, many)?;
@@ -82,19 +82,19 @@ fn read_bulk(cursor: &mut Cursor<'_>, many: bool, code: u32) -> Result<Token, Fa
         }
         11 => Ok(Token::Plain(Instr::MemoryFill(read_memory(cursor, many)?))),
         12 => {
-            let segment = cursor.u32()?;
-            let table = cursor.u32()?;
+            let segment = read_u32(cursor)?;
+            let table = read_u32(cursor)?;
             Ok(Token::Plain(Instr::TableInit { segment, table }))
         }
-        13 => Ok(Token::Plain(Instr::ElemDrop(cursor.u32()?))),
+        13 => Ok(Token::Plain(Instr::ElemDrop(read_u32(cursor)?))),
         14 => {
-            let to = cursor.u32()?;
-            let from = cursor.u32()?;
+            let to = read_u32(cursor)?;
+            let from = read_u32(cursor)?;
             Ok(Token::Plain(Instr::TableCopy { to, from }))
         }
-        15 => Ok(Token::Plain(Instr::TableGrow(cursor.u32()?))),
-        16 => Ok(Token::Plain(Instr::TableSize(cursor.u32()?))),
-        17 => Ok(Token::Plain(Instr::TableFill(cursor.u32()?))),
+        15 => Ok(Token::Plain(Instr::TableGrow(read_u32(cursor)?))),
+        16 => Ok(Token::Plain(Instr::TableSize(read_u32(cursor)?))),
+        17 => Ok(Token::Plain(Instr::TableFill(read_u32(cursor)?))),
         _ => unreachable!(),
     }
 }
@@ -105,7 +105,7 @@ fn read_prefixed(cursor: &mut Cursor<'_>, many: bool) -> Result<Token, Fault>
     ensures gives { Gives result cursor.new (prefixed_at many cursor.old) }
     ensures shorter { OnOk result (length cursor.new < length cursor.old) }
 {
-    let code = cursor.u32()?;
+    let code = read_u32(cursor)?;
     match code {
         0..=7 => Err(Fault::Unsupported),
         8..=17 => read_bulk(cursor, many, code),
@@ -141,17 +141,17 @@ fn read_branch(alloc: Global, cursor: &mut Cursor<'_>, opcode: u8) -> Result<Tok
 {
     match opcode {
         0x0B => Ok(Token::End),
-        0x0C => Ok(Token::Plain(Instr::Br(cursor.u32()?))),
-        0x0D => Ok(Token::Plain(Instr::BrIf(cursor.u32()?))),
+        0x0C => Ok(Token::Plain(Instr::Br(read_u32(cursor)?))),
+        0x0D => Ok(Token::Plain(Instr::BrIf(read_u32(cursor)?))),
         0x0E => {
             let labels = read_list(alloc, cursor)?;
-            Ok(Token::Plain(Instr::BrTable(labels, cursor.u32()?)))
+            Ok(Token::Plain(Instr::BrTable(labels, read_u32(cursor)?)))
         }
         0x0F => Ok(Token::Plain(Instr::Return)),
-        0x10 => Ok(Token::Plain(Instr::Call(cursor.u32()?))),
+        0x10 => Ok(Token::Plain(Instr::Call(read_u32(cursor)?))),
         0x11 => {
-            let ty = cursor.u32()?;
-            let table = cursor.u32()?;
+            let ty = read_u32(cursor)?;
+            let table = read_u32(cursor)?;
             Ok(Token::Plain(Instr::CallIndirect { ty, table }))
         }
         _ => unreachable!(),
@@ -182,14 +182,15 @@ fn read_variable(cursor: &mut Cursor<'_>, opcode: u8) -> Result<Token, Fault>
     ensures gives { (many : Bool) → Gives result cursor.new (token_of many (rest_form opcode) cursor.old) }
     ensures shorter { OnOk result (length cursor.new ≤ length cursor.old) }
 {
+    let index = read_u32(cursor)?;
     match opcode {
-        0x20 => Ok(Token::Plain(Instr::LocalGet(cursor.u32()?))),
-        0x21 => Ok(Token::Plain(Instr::LocalSet(cursor.u32()?))),
-        0x22 => Ok(Token::Plain(Instr::LocalTee(cursor.u32()?))),
-        0x23 => Ok(Token::Plain(Instr::GlobalGet(cursor.u32()?))),
-        0x24 => Ok(Token::Plain(Instr::GlobalSet(cursor.u32()?))),
-        0x25 => Ok(Token::Plain(Instr::TableGet(cursor.u32()?))),
-        0x26 => Ok(Token::Plain(Instr::TableSet(cursor.u32()?))),
+        0x20 => Ok(Token::Plain(Instr::LocalGet(index))),
+        0x21 => Ok(Token::Plain(Instr::LocalSet(index))),
+        0x22 => Ok(Token::Plain(Instr::LocalTee(index))),
+        0x23 => Ok(Token::Plain(Instr::GlobalGet(index))),
+        0x24 => Ok(Token::Plain(Instr::GlobalSet(index))),
+        0x25 => Ok(Token::Plain(Instr::TableGet(index))),
+        0x26 => Ok(Token::Plain(Instr::TableSet(index))),
         _ => unreachable!(),
     }
 }
@@ -222,8 +223,23 @@ fn read_reference(alloc: Global, cursor: &mut Cursor<'_>, opcode: u8) -> Result<
     match opcode {
         0xD0 => Ok(Token::Plain(Instr::RefNull(RefType::read(alloc, cursor)?))),
         0xD1 => Ok(Token::Plain(Instr::RefIsNull)),
-        0xD2 => Ok(Token::Plain(Instr::RefFunc(cursor.u32()?))),
+        0xD2 => Ok(Token::Plain(Instr::RefFunc(read_u32(cursor)?))),
         _ => unreachable!(),
+    }
+}
+
+/// The rest of a token that opens or ends a block, branches, calls or is parametric (WebAssembly Core 2.0, sections 5.4.1 and 5.4.3).
+#[tactic(auto, unfolding(wasm_format::specs::BodyReading::simple_of, wasm_format::specs::Tokens::rest_form))]
+fn read_control(alloc: Global, cursor: &mut Cursor<'_>, opcode: u8) -> Result<Token, Fault>
+    requires most { opcode ≤ 0x1F }
+    ensures gives { (many : Bool) → Gives result cursor.new (token_of many (rest_form opcode) cursor.old) }
+    ensures shorter { OnOk result (length cursor.new ≤ length cursor.old) }
+{
+    match opcode {
+        0x00..=0x05 => read_opening(alloc, cursor, opcode),
+        0x0B..=0x11 => read_branch(alloc, cursor, opcode),
+        0x1A..=0x1C => read_parametric(alloc, cursor, opcode),
+        _ => Err(Fault::Malformed),
     }
 }
 
@@ -234,9 +250,7 @@ fn read_rest(alloc: Global, cursor: &mut Cursor<'_>, many: bool, opcode: u8) -> 
     ensures shorter { OnOk result (length cursor.new ≤ length cursor.old) }
 {
     match opcode {
-        0x00..=0x05 => read_opening(alloc, cursor, opcode),
-        0x0B..=0x11 => read_branch(alloc, cursor, opcode),
-        0x1A..=0x1C => read_parametric(alloc, cursor, opcode),
+        0x00..=0x1F => read_control(alloc, cursor, opcode),
         0x20..=0x26 => read_variable(cursor, opcode),
         0x3F..=0x42 => read_size(cursor, many, opcode),
         0xD0..=0xD2 => read_reference(alloc, cursor, opcode),

@@ -7,11 +7,23 @@ use wasm_bytes::Cursor;
 use wasm_format::Fault;
 use wasm_tree::{BlockType, FuncType, GlobalType, Limits, RefType, TableType, ValType, Which};
 
+/// A u32 (WebAssembly Core 2.0, section 5.2.2). Most are indices below 128, which one byte spells.
+#[tactic(auto, unfolding(wasm_bytes::specs::Reading::unsigned_at))]
+pub fn read_u32(cursor: &mut Cursor<'_>) -> Result<u32, Fault>
+    ensures gives { Gives result cursor.new (u32_at cursor.old) }
+    ensures shorter { OnOk result (length cursor.new < length cursor.old) }
+{
+    match cursor.peek() {
+        Some(0x00..=0x7F) => Ok(u32::from(cursor.byte()?)),
+        _ => Ok(cursor.u32()?),
+    }
+}
+
 impl Spelled for u32 {
     ghost reading = { u32_at };
 
     fn read(_alloc: Global, cursor: &mut Cursor<'_>) -> Result<u32, Fault> {
-        Ok(cursor.u32()?)
+        read_u32(cursor)
     }
 }
 

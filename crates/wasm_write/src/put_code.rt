@@ -24,6 +24,7 @@ fn put_mem_arg(out: &mut Out, arg: &MemArg) -> Result<(), NoMemory>
 }
 
 /// Appends an opcode and an index.
+#[inline]
 fn put_index(out: &mut Out, opcode: u8, index: u32) -> Result<(), NoMemory>
     ensures { OnOk result (out.new ≡ out.old ++ opcode ∷ u32_text index) }
 {
