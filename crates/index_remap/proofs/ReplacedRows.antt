@@ -34,9 +34,19 @@ abbrev held : List Instr
 held = Nop ∷ LocalGet 0 ∷ CallIndirect 0 1 ∷ []
 
 a_call_in_a_block : Replaced [] moved (0 ∷ []) through_slot [] (Call 1 ∷ Block' bt.Empty (_ ∷ _ ∷ []) (more_of-Instr Nop (more_of-Instr (Call 0) end_of-Instr)) ∷ []) (Call 5 ∷ Block bt.Empty held ∷ [])
-a_call_in_a_block =
-    (Call 5 ∷ [], Block bt.Empty held ∷ [], ap (λ i. i ∷ []) (sym moved_call), (Block bt.Empty held ∷ [], [],
-    (held, (Nop ∷ [], LocalGet 0 ∷ CallIndirect 0 1 ∷ [], ap (λ i. i ∷ []) (sym moved_nop), (LocalGet 0 ∷ CallIndirect 0 1 ∷ [], [], the_only _, refl, refl), refl), refl), refl, refl), refl)
+a_call_in_a_block = (
+  Call 5 ∷ [],
+  Block bt.Empty held ∷ [],
+  ap (λ i. i ∷ []) (sym moved_call),
+  (
+    Block bt.Empty held ∷ [],
+    [],
+    (held, (Nop ∷ [], LocalGet 0 ∷ CallIndirect 0 1 ∷ [], ap (λ i. i ∷ []) (sym moved_nop), (LocalGet 0 ∷ CallIndirect 0 1 ∷ [], [], the_only _, refl, refl), refl), refl),
+    refl,
+    refl,
+  ),
+  refl,
+)
 
 -- ---- code that branches ----
 

@@ -2,7 +2,7 @@
 use Rattle.std.proofs.Common.{◌≡◌, ℕ, zero, suc, ◌+◌, ◌-◌, ◌*◌, ◌<◌, ◌≤◌, List, ◌++◌, ◌⊎◌, inl, inr, sym, ap, subst, ◌∙◌, arith}
 use Rattle.std.proofs.lemmas.Bool.{cases_lt}
 use Rattle.wasm_meaning.specs.Run.{noted, events_of, state_after, IsPrefix}
-use Rattle.wasm_meaning.proofs.Simulation.{Prefix, prefix_nil, prefix_trans, prefix_noted, prefix_append, events_add, later}
+use Rattle.wasm_meaning.proofs.Prefixes.{Prefix, prefix_nil, prefix_trans, prefix_noted, prefix_append, events_add, later}
 use Rattle.permuted_worlds.specs.Silent.{Machine, Follows, both, second, first, BudgetedShowTheSame, Answers, by_some, SlowerShowTheSame}
 use Rattle.permuted_worlds.specs.Silent as silent
 

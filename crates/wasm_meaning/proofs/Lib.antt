@@ -1,4 +1,4 @@
-pub mod Simulation
+pub mod Prefixes
 mod SmallRuns
 mod MoreRuns
 mod EmbedderRuns

@@ -10,7 +10,7 @@ use Rattle.wasm_meaning.specs.World.{World, Begun, own_store, begun, all_there, 
 use Rattle.wasm_meaning.specs.Run.{Event, InstanceTrapped, Pending, Closed, Move, Run, IsPrefix, fresh_run, tick, events_of}
 use Rattle.wasm_meaning.specs.Below.{BelowIsNotSeen}
 use Rattle.wasm_meaning.specs.InTurn.{InTurn, or_empty, view_over, goes_on, before_turns, tick_in_turn, events_in_turn, HasNoActive}
-use Rattle.wasm_meaning.proofs.Simulation.{Prefix, prefix_trans, later}
+use Rattle.wasm_meaning.proofs.Prefixes.{Prefix, prefix_trans, later}
 use Rattle.index_remap.specs.Related.{nil, cons, opening}
 use Rattle.index_remap.specs.RelatedRuns.{pending}
 use Rattle.index_remap.specs.Laws.{CodeIsRelatedToItself, RelatedTicksAgree, OthersStay}

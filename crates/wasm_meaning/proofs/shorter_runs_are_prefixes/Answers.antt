@@ -3,7 +3,7 @@ use Rattle.wasm_meaning.specs.World.{instantiate}
 use Rattle.wasm_meaning.specs.Run.{Event, IsPrefix, tick, fresh_run, events_of}
 use Rattle.wasm_meaning.specs.InTurn.{tick_in_turn, before_turns}
 use Rattle.wasm_meaning.specs.Loader.{tick_loader, fresh_loader}
-use Rattle.wasm_meaning.proofs.Simulation.{more_events}
+use Rattle.wasm_meaning.proofs.Prefixes.{more_events}
 use Rattle.wasm_meaning.proofs.shorter_runs_are_prefixes.Goals as goal
 
 prefix : {S : Type 0} (t : S → S × Option Event) (s : S) (n k : ℕ) → IsPrefix (events_of t s n) (events_of t s (n + k))
