@@ -45,8 +45,9 @@ fn join_parts(alloc: Global, parts: &[Part], links: &Links, mode: Mode) -> Resul
 /// define, by part. Each index is the one in the merged index spaces, and a constant expression that reads a joined global becomes what it reads. Where
 /// several parts have a start, one more function calls each, by part. Exports have the names that the mode gives them, and functions that `ref.func` names
 /// are declared (WebAssembly Core 2.0, sections 2.5 and 3.4.10). The module is valid, and alone it shows each embedder the same as the parts, linked by name,
-/// in at most four steps more (`same`, section 4.5.4 for several modules together). Where each part imports from earlier ones alone and no part after one with a
-/// start has an active segment, that is also what the parts show when they are instantiated one after the other (`in_turn`).
+/// in at most four steps more (`same`, section 4.5.4 for several modules together). Where each part imports from earlier ones alone, no part after one with a start
+/// has an active segment, no segment traps and the environment links all parts at once, that is also what the parts show when they are instantiated one after the
+/// other (`in_turn`).
 ///
 /// `ExportConflict` comes exactly where the mode is `Refuse` and a name came before, with the first such name; else `TooMany` exactly where a count of
 /// the merged module is above its limit, with the first such count in the order types, imports, functions, tables, memories, globals, exports, element

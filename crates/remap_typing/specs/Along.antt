@@ -26,5 +26,5 @@ pub record CoversContext (m : Remap) (c : Context) : Type 0 where
   pub globals : length c.globals ≤ length m.globals
   pub elems : length c.elems ≤ length m.elems
   pub datas : c.datas ≤ length m.datas
-  -- so that `ref.func` names functions of the space
+  -- so that what `ref.func` may name has an entry
   pub refs : length c.named ≤ length m.funcs

@@ -26,7 +26,7 @@ use wasm_valid::valid_where_items_hold;
 
 /// A body that is well typed stays so over the same locals, results and labels where each index is replaced by its entry (WebAssembly Core 2.0, section 3.3):
 /// where each index of a set agrees with its entry and the body names only these (`bodies`), or where the indices that the body names agree with their entries
-/// (`by_index`). Of an index that the body does not name nothing is asked. This is the clause `typed` of `steps_agree` where no call is replaced. A constant
+/// (`by_index`). Of other indices nothing is asked. This is the clause `typed` of `steps_agree` where no call is replaced. A constant
 /// expression keeps its type likewise, where a global that it reads stays imported (`constants`). What is well typed names only indices of its spaces, so that a
 /// map with as many entries has one for each (`entries`, `tree_entries`). The set may be that of the indices with an entry: a body or a tree that fits a map names
 /// only these (`named`, `tree_named`).
@@ -45,7 +45,7 @@ pub fn renumbering_keeps_typing()
 
 /// An item that stands for one that holds, holds, where each index of a set agrees with its entry and the item names only these (`items`); where references are yet
 /// to be declared, it holds but for references (`undeclared`). So a tree each of whose items stands for one of a valid tree is valid (`trees`), or is so but for
-/// references (`undeclared_trees`): others of the valid tree may be gone, from anywhere, as nothing is asked of an index that no item names. One with the same
+/// references (`undeclared_trees`): others of the valid tree may be gone, from anywhere, as nothing is asked of an index that is not of the set. One with the same
 /// items, each index replaced by its entry, is valid where also the imported globals of the set stay imported (`renumbered`).
 pub fn renumbered_trees_are_valid()
     ensures items { (m : Remap) (kept : Indices) (t u : Module) (k : ItemKind) (i j : ℕ) → TreesAgree m kept t u → RefsAgree m kept t u → ItemStands m kept t u k i j → HoldsAt t k i → HoldsAt u k j }

@@ -33,7 +33,7 @@ pub record MergeKeeps (sources : List Source) (output : Text) (mode : Mode) (bef
   pub written : HoldsModule after output tree
   pub accepted : IsAccepted tree
   pub behaves : BehavesAs (parts_of sources trees) mode tree
-  -- where the parts import from earlier ones alone, they may be instantiated one after the other
+  -- where the law of worlds_in_turn lets them, the parts may be instantiated one after the other
   pub in_turn : MayComeInTurn (linked_world (parts_of sources trees) mode)
 
 abbrev pub TaskKeeps : Task → Contents → Contents → Type 0

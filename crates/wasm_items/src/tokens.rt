@@ -11,7 +11,7 @@ use wasm_bytes::Cursor;
 use wasm_format::{Fault, Opener, Token};
 use wasm_tree::{Instr, MemArg, RefType};
 
-/// The rest of a memory argument whose first number is read (WebAssembly Core 2.0, section 5.4.6).
+/// A memory argument (WebAssembly Core 2.0, section 5.4.6).
 #[tactic(auto, unfolding(wasm_format::specs::BodyReading::arg_at))]
 fn read_arg(cursor: &mut Cursor<'_>, many: bool) -> Result<MemArg, Fault>
     ensures gives { Gives result cursor.new (arg_at many cursor.old) }
@@ -113,7 +113,7 @@ fn read_prefixed(cursor: &mut Cursor<'_>, many: bool) -> Result<Token, Fault>
     }
 }
 
-/// The rest of a token that begins a block, or ends a part of one, or does nothing (WebAssembly Core 2.0, section 5.4.1).
+/// The rest of a token that begins a block or an else, or is unreachable or nop (WebAssembly Core 2.0, section 5.4.1).
 #[tactic(auto, unfolding(wasm_format::specs::BodyReading::simple_of, wasm_format::specs::Tokens::rest_form))]
 fn read_opening(alloc: Global, cursor: &mut Cursor<'_>, opcode: u8) -> Result<Token, Fault>
     requires most { opcode ≤ 0x05 }
@@ -228,7 +228,7 @@ fn read_reference(alloc: Global, cursor: &mut Cursor<'_>, opcode: u8) -> Result<
     }
 }
 
-/// The rest of a token that opens or ends a block, branches, calls or is parametric (WebAssembly Core 2.0, sections 5.4.1 and 5.4.3).
+/// The rest of a token that opens or ends a block, branches, calls, is unreachable or nop, or is parametric (WebAssembly Core 2.0, sections 5.4.1 and 5.4.3).
 #[tactic(auto, unfolding(wasm_format::specs::BodyReading::simple_of, wasm_format::specs::Tokens::rest_form))]
 fn read_control(alloc: Global, cursor: &mut Cursor<'_>, opcode: u8) -> Result<Token, Fault>
     requires most { opcode ≤ 0x1F }

@@ -1,5 +1,5 @@
 -- Further small runs, computed: what comes first where parts are linked and filled, what the embedder may do while something waits and after the world was closed,
--- which numbers functions are shown by, when a growth is asked for, imports of one pair, and starts.
+-- which numbers functions are shown by, when a growth is asked for, imports of one pair, starts, and values that enter blocks.
 use Rattle.std.proofs.Common.{◌≡◌, refl, ℕ, List, [], ◌∷◌, Some, None, true, false}
 use Rattle.std.specs.Prelude.{pos, negsuc}
 use Rattle.wasm_num.specs.declared.BinOp.TheVariants as bin

@@ -115,7 +115,7 @@ the_other_arm_takes_another_type : f_gives (gives (i.I64Const (pos 5) ∷ (num 0
 unfolding wrapped
 the_other_arm_takes_another_type = simp (i.outs-If, i.outs-I64Const, i.outs-I32Const) refl
 
--- the first goes on with an i32
+-- with an i32 the first arm goes on
 an_arm_of_its_type : f_gives (gives (num 5 ∷ (num 1 ∷ (i.If (bt.Index 1) (i.Drop ∷ (num 6 ∷ [])) (i.Drop ∷ (num 7 ∷ [])) ∷ [])))) 10 ≡ returns (Number 6 ∷ [])
 unfolding wrapped
 an_arm_of_its_type = simp (i.outs-If, i.outs-I32Const, i.outs-Drop) refl

@@ -427,7 +427,7 @@ what_is_no_function : f_of (same_as funcref) (Call f (ExternNumber 0 ∷ []) ∷
 unfolding out-Instr denote.Hole.Carrier.out wrapped un_from un_to un_value bin_from bin_to bin_value load_to load_width loaded store_from stored
 what_is_no_function = refl
 
--- a function and a number are none of these
+-- a function and a number are no extern references
 what_is_no_extern_reference : events (plain (same_as externref)) (offering (to_i32 ∷ [])) (Call f (its_own ∷ []) ∷ (Call f (Number 0 ∷ []) ∷ (Call f (ExternNumber 18446744073709551616 ∷ []) ∷ []))) 40 ≡ Linked ∷ (BadMove ∷ (BadMove ∷ (Returned (ExternNumber 18446744073709551616 ∷ []) ∷ [])))
 unfolding out-Instr denote.Hole.Carrier.out wrapped un_from un_to un_value bin_from bin_to bin_value load_to load_width loaded store_from stored
 what_is_no_extern_reference = refl
@@ -510,7 +510,7 @@ a_placeholder_takes_two_in_order : events_loaded (loaded_by (primary 1 1 (const.
 unfolding out-Instr denote.Hole.Carrier.out wrapped un_from un_to un_value bin_from bin_to bin_value load_to load_width loaded store_from stored
 a_placeholder_takes_two_in_order = refl
 
--- besides the slots by these names: a memory whose byte 0 f makes 5, a global that is 7, and a function that gives 30
+-- besides the slots by these names: a memory whose byte 0 the view's f makes 5, a global that is 7, and a function that gives 30
 abbrev sharing_all : Module
 sharing_all = record (primary 0 1 (const.Func 0 ∷ []) (code 0 (num 0 ∷ (num 5 ∷ (i.Store store.I32Store8 (by 0) ∷ (i.Call 0 ∷ [])))) ∷ (giving 30 ∷ []))) {
   mems = pages 1 ∷ [];

@@ -18,7 +18,7 @@ use Rattle.wasm_meaning.specs.World.{World, Begun, own_store, instantiate}
 -- ---- what is seen and done ----
 
 pub data Event : Type 0 where
-  -- instantiation: the view is open; an import did not match or a constant read has no end; a segment or a start trapped
+  -- instantiation: the view is open; an import did not match, a constant read has no end or a name of the view stands for nothing; a segment or a start trapped
   Linked : Event
   LinkFault : Event
   InstanceTrapped : Event

@@ -1,4 +1,5 @@
--- Small modules and their parts, spelled: the bytes that the standard's grammar gives (Core 2.0, chapter 5), written by hand.
+-- Small modules and their parts, spelled: the bytes that the standard's grammar gives (Core 2.0, chapter 5), written by hand; a memory
+-- other than 0 is named as where there are several.
 use Rattle.std.proofs.Common.{◌≡◌, refl, ℕ, List, [], ◌∷◌, Bool, false, true, Option, Some, None}
 use Rattle.std.specs.Prelude.{map, pos, negsuc}
 use Rattle.wasm_num.specs.declared.UnOp.TheVariants as un
