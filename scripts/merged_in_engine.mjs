@@ -4,8 +4,8 @@
 //     scripts/merged_in_engine.mjs SAMPLES PROGRAM
 //
 // SAMPLES has two folders of parts. Those of `m2` import from the ones before them, so that this engine can also link them one after the
-// other: the merged module must give what they give, for the same calls. Those of `mstart` import from one another in a circle, which no
-// engine links part by part: what their starts log, and what their exports then give, is written out here by the rule that all is
+// other: the merged module must give what they give, for the same calls. Two of `mstart` import from each other, which no engine links part
+// by part: what their starts log, and what their exports then give, is written out here by the rule that all is
 // allocated first, then all segments are copied by part, and then all starts run by part.
 import { execFileSync } from "node:child_process";
 import { mkdtempSync, readFileSync, rmSync } from "node:fs";
