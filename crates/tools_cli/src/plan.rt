@@ -18,6 +18,7 @@ use merge_join::join;
 use merge_link::resolve;
 use merge_terms::Part;
 use std::alloc::{AllocError, Global};
+use std::mem::forget;
 use wasm_bytes::{Items, Name, NoMemory};
 use wasm_read::read;
 use wasm_tree::{Module, Which};
@@ -196,7 +197,12 @@ pub(crate) fn decide<'a>(
     ensures stops { IfErr result (StopsDeciding (task merge.now) (input_entries inputs.now)) }
 {
     match merge_inputs(alloc, merge, inputs) {
-        Ok(tree) => encode(alloc, tree.module(), merge.output),
+        Ok(tree) => {
+            let plan = encode(alloc, tree.module(), merge.output);
+            // The process ends soon: its memory goes back at once, and not node by node.
+            forget(tree);
+            plan
+        }
         Err(stop) => Err(stop),
     }
 }

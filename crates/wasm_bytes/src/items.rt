@@ -1,4 +1,4 @@
-ghost use Rattle.std.specs.Prelude.{◌≡◌, [], ◌∷◌, ◌++◌, ◌<◌, length, slice_get, ◌↔◌, IsSome, IfOk, IfErr, OnOk, OnErr};
+ghost use Rattle.std.specs.Prelude.{◌≡◌, [], ◌∷◌, ◌++◌, ◌<◌, ◌≤◌, length, take, drop, slice_get, ◌↔◌, IsSome, IfOk, IfErr, OnOk, OnErr};
 ghost use Rattle.std.specs.Borrow.{sem};
 ghost use Rattle.std.specs.Option.{option_copied};
 ghost use Rattle.wasm_bytes.specs.Lending.{LendsItem, option_now};
@@ -75,10 +75,24 @@ impl<T> Items<T> {
     {
         self.items.as_slice()
     }
+
+    /// Takes off the items from a place on, as a list that takes no more memory than they need. For want of memory the list stays as it was.
+    pub fn split_off(&mut self, at: usize) -> Result<Items<T>, NoMemory>
+        requires { at ≤ length self.old }
+        ensures front { OnOk result (self.new ≡ take at self.old) }
+        ensures back { IfOk result (λ tail. tail ≡ drop at self.old) }
+        ensures err { OnErr result (self.new ≡ self.old) }
+    {
+        match self.items.split_off(at) {
+            Ok(items) => Ok(Items { items }),
+            Err(_) => Err(NoMemory),
+        }
+    }
 }
 
 impl<T: Drop> Items<T> {
     /// Appends the item, or lets it go for want of memory; then the list stays as it was.
+    #[inline(always)]
     pub fn keep(&mut self, item: T) -> Result<(), NoMemory>
         ensures ok { OnOk result (self.new ≡ self.old ++ item ∷ []) }
         ensures err { OnErr result (self.new ≡ self.old) }

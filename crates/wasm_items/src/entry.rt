@@ -7,7 +7,7 @@ use crate::vectors::Spelled;
 use std::alloc::Global;
 use wasm_bytes::{Cursor, Items};
 use wasm_format::Fault;
-use wasm_tree::{Func, LocalGroup, ValType, Which};
+use wasm_tree::{Func, Instr, LocalGroup, ValType, Which};
 
 /// A group of locals where so many came before.
 #[tactic(auto, unfolding(wasm_format::specs::Reading::local_at))]
@@ -60,12 +60,17 @@ fn read_locals(alloc: Global, cursor: &mut Cursor<'_>) -> Result<Items<LocalGrou
 /// What is inside a code entry: the locals and the body (WebAssembly Core 2.0, section 5.5.13). A function's type stands
 /// elsewhere, and is 0 here. `many` says that memories have indices. It answers the first fault, or want of memory.
 #[tactic(auto, unfolding(wasm_format::specs::BodyReading::code_at))]
-pub fn read_code(alloc: Global, bytes: &[u8], many: bool) -> Result<Func, Fault>
+pub fn read_code(
+    alloc: Global,
+    bytes: &[u8],
+    many: bool,
+    pile: &mut Items<Instr>,
+) -> Result<Func, Fault>
     ensures { GivesAll result (code_at many bytes.now) }
 {
     let mut cursor = Cursor::new(bytes);
     let locals = read_locals(alloc, &mut cursor)?;
-    let body = read_body(alloc, &mut cursor, many)?;
+    let body = read_body(alloc, &mut cursor, many, pile)?;
     Ok(Func {
         ty: 0,
         locals,

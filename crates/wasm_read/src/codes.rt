@@ -6,7 +6,7 @@ use std::alloc::Global;
 use wasm_bytes::{Cursor, Items};
 use wasm_format::{Fault, ReadFault};
 use wasm_items::{read_code, read_sized};
-use wasm_tree::{Func, Which};
+use wasm_tree::{Func, Instr, Which};
 
 /// The fault of a section, or of a function's entry in it.
 pub fn place(section: u32, func: Option<u32>, fault: Fault) -> ReadFault
@@ -31,6 +31,7 @@ fn read_entry(
     many: bool,
     section: u32,
     func: u32,
+    pile: &mut Items<Instr>,
 ) -> Result<Func, ReadFault>
     ensures gives { Gives result cursor.new (entry_at many section func cursor.old) }
 {
@@ -38,7 +39,7 @@ fn read_entry(
         Ok(content) => content,
         Err(fault) => return Err(place(section, None, fault)),
     };
-    match read_code(alloc, content, many) {
+    match read_code(alloc, content, many, pile) {
         Ok(code) => Ok(code),
         Err(fault) => Err(place(section, Some(func), fault)),
     }
@@ -58,9 +59,10 @@ fn read_entries(
     ensures gives { Gives result cursor.new (each_from (entry_at many section) next_func count first cursor.old) }
 {
     let mut codes = Items::new(alloc);
+    let mut pile = Items::new(alloc);
     let mut func = first;
     for _i in 0..count {
-        let code = read_entry(alloc, cursor, many, section, func)?;
+        let code = read_entry(alloc, cursor, many, section, func, &mut pile)?;
         match codes.keep(code) {
             Ok(()) => (),
             Err(_) => return Err(ReadFault::NoMemory),

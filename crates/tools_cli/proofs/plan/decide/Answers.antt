@@ -13,11 +13,11 @@ returns-in-Ok-clause-plan c =
     let files = input_entries c.args.inputs.now in
     let tree = c.module.result.now in
     let loads = subst (LoadAndMerge t files) (sym c.module.ensures.value) c.in-Ok.ensures.merged in
-    IfOk-weaker c.encode.result
+    IfOk-weaker c.encode-plan.result
     (λ plan. Writes output tree (Done (output_entries plan.outputs.items) plan.lines.items))
     (λ plan. Decides t files (Done (output_entries plan.outputs.items) plan.lines.items))
     (λ plan h. merged_at t files tree output _ refl loads h)
-    c.encode.ensures.plan
+    c.encode-plan.ensures.plan
 
 pub returns-in-Ok-clause-stops : goal.returns-in-Ok-clause-stops
 returns-in-Ok-clause-stops c =
@@ -26,4 +26,4 @@ returns-in-Ok-clause-stops c =
     let files = input_entries c.args.inputs.now in
     let tree = c.module.result.now in
     let loads = subst (LoadAndMerge t files) (sym c.module.ensures.value) c.in-Ok.ensures.merged in
-    IfErr-weaker c.encode.result (StopsEncoding output tree) (StopsDeciding t files) (λ s h. encoding_stops t files tree output s refl loads h) c.encode.ensures.stops
+    IfErr-weaker c.encode-plan.result (StopsEncoding output tree) (StopsDeciding t files) (λ s h. encoding_stops t files tree output s refl loads h) c.encode-plan.ensures.stops

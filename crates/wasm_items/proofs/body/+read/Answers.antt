@@ -1,4 +1,6 @@
-use Rattle.std.proofs.Common.{◌≡◌, [], ◌∷◌, Err, sym, ap, ◌∙◌, arith, append-nil}
+use Rattle.std.proofs.Common.{◌≡◌, [], ◌∷◌, ◌++◌, Err, sym, ap, ◌∙◌, arith, append-nil}
+use Rattle.std.proofs.Math.Seq.{drop-append_seam, take-append_seam}
+use Rattle.std.proofs.lemmas.List.{append_assoc}
 use Rattle.wasm_format.specs.BodyReading.{sequence_at, behind}
 use Rattle.wasm_format.proofs.Loops.{fails_through}
 use Rattle.wasm_format.proofs.Blocks.{behind_none, behind_behind, behind_fails, block_none, block_some, seq_err, seq_end, seq_else, seq_plain, seq_open, seq_open_err}
@@ -48,46 +50,65 @@ read_block-returns-else-first-3-clause-reads t c = λ fuel enough.
     rw (block_some (sequence_at c.args.many fuel) c.args.deeper c.args.opener c.args.ty c.args.cursor.now (omega arith), c.in_ok-first.ensures.reads fuel enough, c.in-Loop.is, c.if-first-3.false)
 
 pub read_sequence-tokens-init : goal.read_sequence-tokens-init
-read_sequence-tokens-init t c = (λ n enough. (n, enough, rw c.new-items.ensures (sym (behind_none _))), omega arith)
+read_sequence-tokens-init t c = ([], rw append-nil, c.len-start.ensures, (λ n enough. (n, enough, sym (behind_none _))), omega arith)
 
 pub read_sequence-returns-in_err-read_token-clause-reads : goal.read_sequence-returns-in_err-read_token-clause-reads
 read_sequence-returns-in_err-read_token-clause-reads t c = λ fuel enough.
     let gone : c.from_residual.result ≡ Err c.in_err-read_token.field-0.0 = grind arith in
-    let so = c.tokens.invariant.0 fuel enough in
-    rw (gone, so.2) (behind_fails c.in_err-read_token.field-0.0 c.tokens.items _ (seq_err c.args.many c.args.deeper so.0 c.tokens.cursor c.in_err-read_token.field-0.0 so.1 c.in_err-read_token.ensures.gives))
+    let so = c.tokens.invariant.3 fuel enough in
+    rw (gone, so.2) (behind_fails c.in_err-read_token.field-0.0 c.tokens.invariant.0 _ (seq_err c.args.many c.args.deeper so.0 c.tokens.cursor c.in_err-read_token.field-0.0 so.1 c.in_err-read_token.ensures.gives))
 
 pub read_sequence-returns-in-End-clause-reads : goal.read_sequence-returns-in-End-clause-reads
 read_sequence-returns-in-End-clause-reads t c = λ fuel enough.
-    let so = c.tokens.invariant.0 fuel enough in
-    so.2 ∙ ap (behind c.tokens.items) (seq_end c.args.many c.args.deeper so.0 c.tokens.cursor _ so.1 (rw c.in-End.is at c.in_ok-read_token.ensures.gives)) ∙ rw append-nil
+    let items = c.tokens.invariant.0 in
+    let so = c.tokens.invariant.3 fuel enough in
+    let back : c.in_ok-split_off-in-End.field-0 ≡ items = c.in_ok-split_off-in-End.ensures.back ∙ rw (c.tokens.invariant.2, c.tokens.invariant.1) (drop-append_seam c.args.pile.now items) in
+    so.2 ∙ ap (behind items) (seq_end c.args.many c.args.deeper so.0 c.tokens.cursor _ so.1 (rw c.in-End.is at c.in_ok-read_token.ensures.gives)) ∙ rw (append-nil, back)
 
 pub read_sequence-returns-in-Else-clause-reads : goal.read_sequence-returns-in-Else-clause-reads
 read_sequence-returns-in-Else-clause-reads t c = λ fuel enough.
-    let so = c.tokens.invariant.0 fuel enough in
-    so.2 ∙ ap (behind c.tokens.items) (seq_else c.args.many c.args.deeper so.0 c.tokens.cursor _ so.1 (rw c.in-Else.is at c.in_ok-read_token.ensures.gives)) ∙ rw append-nil
+    let items = c.tokens.invariant.0 in
+    let so = c.tokens.invariant.3 fuel enough in
+    let back : c.in_ok-split_off-in-Else.field-0 ≡ items = c.in_ok-split_off-in-Else.ensures.back ∙ rw (c.tokens.invariant.2, c.tokens.invariant.1) (drop-append_seam c.args.pile.now items) in
+    so.2 ∙ ap (behind items) (seq_else c.args.many c.args.deeper so.0 c.tokens.cursor _ so.1 (rw c.in-Else.is at c.in_ok-read_token.ensures.gives)) ∙ rw (append-nil, back)
+
+pub read_sequence-returns-in-End-clause-pile : goal.read_sequence-returns-in-End-clause-pile
+read_sequence-returns-in-End-clause-pile t c =
+    c.in_ok-split_off-in-End.ensures.front ∙ rw (c.tokens.invariant.2, c.tokens.invariant.1) (take-append_seam c.args.pile.now c.tokens.invariant.0)
+
+pub read_sequence-returns-in-Else-clause-pile : goal.read_sequence-returns-in-Else-clause-pile
+read_sequence-returns-in-Else-clause-pile t c =
+    c.in_ok-split_off-in-Else.ensures.front ∙ rw (c.tokens.invariant.2, c.tokens.invariant.1) (take-append_seam c.args.pile.now c.tokens.invariant.0)
 
 pub read_sequence-tokens-preserved-in_ok-keep-in-Plain : goal.read_sequence-tokens-preserved-in_ok-keep-in-Plain
-read_sequence-tokens-preserved-in_ok-keep-in-Plain t c = (
-  λ n enough.
-      let so = c.tokens.invariant.0 n enough in
-      let step = seq_plain c.args.many c.args.deeper so.0 c.tokens.cursor _ c.in-Plain.instr so.1 (rw c.in-Plain.is at c.in_ok-read_token.ensures.gives) c.in_ok-read_token.ensures.shorter in
-      (step.0, step.1, so.2 ∙ ap (behind c.tokens.items) step.2 ∙ behind_behind c.tokens.items (c.in-Plain.instr ∷ []) _ ∙ ap (λ xs. behind xs (sequence_at c.args.many step.0 c.args.deeper c.read_token.new.cursor)) (sym c.in_ok-keep-in-Plain.ensures.ok)),
-  omega (arith, c.in_ok-read_token.ensures.shorter),
-)
+read_sequence-tokens-preserved-in_ok-keep-in-Plain t c =
+    let items = c.tokens.invariant.0 in
+    let i = c.in-Plain.instr in
+    ( items ++ i ∷ []
+    , c.in_ok-keep-in-Plain.ensures.ok ∙ ap (λ p. p ++ i ∷ []) c.tokens.invariant.1 ∙ append_assoc c.args.pile.now items (i ∷ [])
+    , c.tokens.invariant.2
+    , (λ n enough.
+        let so = c.tokens.invariant.3 n enough in
+        let step = seq_plain c.args.many c.args.deeper so.0 c.tokens.cursor _ i so.1 (rw c.in-Plain.is at c.in_ok-read_token.ensures.gives) c.in_ok-read_token.ensures.shorter in
+        (step.0, step.1, so.2 ∙ ap (behind items) step.2 ∙ behind_behind items (i ∷ []) _))
+    , omega (arith, c.tokens.invariant.4, c.in_ok-read_token.ensures.shorter))
 
-pub read_sequence-returns-in_err-read_block-in-Open-clause-reads : goal.read_sequence-returns-in_err-read_block-in-Open-clause-reads
-read_sequence-returns-in_err-read_block-in-Open-clause-reads t c = λ fuel enough.
-    let e = c.in_err-read_block-in-Open.field-0.0 in
-    let gone : c.from_residual-in_err-read_block-in-Open.result ≡ Err c.in_err-read_block-in-Open.field-0.0 = grind arith in
-    let so = c.tokens.invariant.0 fuel enough in
-    rw (gone, so.2) (behind_fails e c.tokens.items _ (seq_open_err c.args.many c.args.deeper so.0 c.tokens.cursor _ c.in-Open.opener c.in-Open.ty e so.1 (rw c.in-Open.is at c.in_ok-read_token.ensures.gives) c.in_ok-read_token.ensures.shorter c.in_err-read_block-in-Open.ensures.reads))
+pub read_sequence-returns-in_err-block-in-Open-clause-reads : goal.read_sequence-returns-in_err-block-in-Open-clause-reads
+read_sequence-returns-in_err-block-in-Open-clause-reads t c = λ fuel enough.
+    let e = c.in_err-block-in-Open.field-0.0 in
+    let gone : c.from_residual-in_err-block-in-Open.result ≡ Err c.in_err-block-in-Open.field-0.0 = grind arith in
+    let so = c.tokens.invariant.3 fuel enough in
+    rw (gone, so.2) (behind_fails e c.tokens.invariant.0 _ (seq_open_err c.args.many c.args.deeper so.0 c.tokens.cursor _ c.in-Open.opener c.in-Open.ty e so.1 (rw c.in-Open.is at c.in_ok-read_token.ensures.gives) c.in_ok-read_token.ensures.shorter c.in_err-block-in-Open.ensures.reads))
 
 pub read_sequence-tokens-preserved : goal.read_sequence-tokens-preserved
-read_sequence-tokens-preserved t c = (
-  λ n enough.
-      let so = c.tokens.invariant.0 n enough in
-      let i = c.in_ok-read_block-in-Open.field-0 in
-      let step = seq_open c.args.many c.args.deeper so.0 c.tokens.cursor _ _ c.in-Open.opener c.in-Open.ty i so.1 (rw c.in-Open.is at c.in_ok-read_token.ensures.gives) c.in_ok-read_token.ensures.shorter c.in_ok-read_block-in-Open.ensures.reads (omega (arith, c.in_ok-read_block-in-Open.ensures.shorter)) in
-      (step.0, step.1, so.2 ∙ ap (behind c.tokens.items) step.2 ∙ behind_behind c.tokens.items (i ∷ []) _ ∙ ap (λ xs. behind xs (sequence_at c.args.many step.0 c.args.deeper c.read_block.new.cursor)) (sym c.in_ok-keep-in-Open.ensures.ok)),
-  omega (arith, c.in_ok-read_token.ensures.shorter, c.in_ok-read_block-in-Open.ensures.shorter),
-)
+read_sequence-tokens-preserved t c =
+    let items = c.tokens.invariant.0 in
+    let i = c.in_ok-block-in-Open.block in
+    ( items ++ i ∷ []
+    , c.in_ok-keep-in-Open.ensures.ok ∙ ap (λ p. p ++ i ∷ []) (c.in_ok-block-in-Open.ensures.pile ∙ c.tokens.invariant.1) ∙ append_assoc c.args.pile.now items (i ∷ [])
+    , c.tokens.invariant.2
+    , (λ n enough.
+        let so = c.tokens.invariant.3 n enough in
+        let step = seq_open c.args.many c.args.deeper so.0 c.tokens.cursor _ _ c.in-Open.opener c.in-Open.ty i so.1 (rw c.in-Open.is at c.in_ok-read_token.ensures.gives) c.in_ok-read_token.ensures.shorter c.in_ok-block-in-Open.ensures.reads (omega (arith, c.in_ok-block-in-Open.ensures.shorter)) in
+        (step.0, step.1, so.2 ∙ ap (behind items) step.2 ∙ behind_behind items (i ∷ []) _))
+    , omega (arith, c.tokens.invariant.4, c.in_ok-read_token.ensures.shorter, c.in_ok-block-in-Open.ensures.shorter))

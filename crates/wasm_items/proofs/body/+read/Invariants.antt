@@ -1,4 +1,5 @@
-use Rattle.std.proofs.Common.{◌≡◌, ℕ, ◌+◌, ◌*◌, ◌≤◌, length}
+use Rattle.std.proofs.Common.{◌≡◌, ℕ, List, ◌+◌, ◌*◌, ◌≤◌, ◌++◌, length}
+use Rattle.wasm_tree.specs.declared.instr.Instr.{Instr}
 use Rattle.wasm_format.specs.BodyReading.{sequence_at, behind}
 use Rattle.wasm_items.proofs.body.+read.Given as goal
 
@@ -8,10 +9,13 @@ decreases-read_block l = 2 * l.deeper
 abbrev pub decreases-read_sequence : goal.decreases-read_sequence
 decreases-read_sequence l = 2 * l.deeper + 1
 
--- with fuel enough, what the whole gives is what the rest gives behind the items so far
+-- with fuel enough, what the whole gives is what the rest gives behind the items so far, which lie on the pile behind what lay there
 abbrev pub invariant-read_sequence-tokens : goal.invariant-read_sequence-tokens
 invariant-read_sequence-tokens l =
-    ((n : ℕ) → length l.initial.cursor ≤ n → (m : ℕ) × (length l.cursor ≤ m) × (sequence_at l.many n l.deeper l.initial.cursor ≡ behind l.items (sequence_at l.many m l.deeper l.cursor)))
+    (items : List Instr)
+    × (l.pile ≡ l.initial.pile ++ items)
+    × (l.start ≡ length l.initial.pile)
+    × ((n : ℕ) → length l.initial.cursor ≤ n → (m : ℕ) × (length l.cursor ≤ m) × (sequence_at l.many n l.deeper l.initial.cursor ≡ behind items (sequence_at l.many m l.deeper l.cursor)))
     × (length l.cursor ≤ length l.initial.cursor)
 
 abbrev pub decreases-read_sequence-tokens : goal.decreases-read_sequence-tokens
