@@ -1,5 +1,5 @@
 -- What is among names.
-use Rattle.std.proofs.Common.{◌≡◌, ◌∙◌, sym, ap, refl, ℕ, zero, suc, ◌+◌, List, [], ◌∷◌, ◌++◌, take, slice_get, Some, Bool, true, false, cond, ◌||◌}
+use Rattle.std.proofs.Common.{◌≡◌, ◌∙◌, sym, ap, refl, ℕ, zero, suc, ◌+◌, List, [], ◌∷◌, ◌++◌, take, slice_get, Some, Bool, true, false, cond, ◌||◌, ◌&&◌}
 use Rattle.std.specs.Prelude.{Contains}
 use Rattle.std.specs.Str.{bytes_eq}
 use Rattle.std.proofs.lemmas.Slice.Eq.{bytes_eq-Decides}
@@ -15,7 +15,7 @@ eq_self x = (bytes_eq-Decides x x).1 refl
 
 -- the tests of one more name
 pub among_push : (ns : List (List ℕ)) (x q : List ℕ) → among (ns ++ x ∷ []) q ≡ cond (bytes_eq x q) true (among ns q)
-among_push [] x q = elim (bytes_eq x q) as (λ b. b || false ≡ cond b true false) [ true ↦ refl | false ↦ refl ]
+among_push [] x q = elim (bytes_eq x q) as (λ b. b || false ≡ b && true) [ true ↦ refl | false ↦ refl ]
 among_push (n ∷ ns) x q = ap (λ (b : Bool). bytes_eq n q || b) (among_push ns x q) ∙ swap (bytes_eq n q) (bytes_eq x q) (among ns q)
   where
     swap : (a b c : Bool) → a || cond b true c ≡ cond b true (a || c)

@@ -1,5 +1,5 @@
 -- An instruction without a body keeps its type where each index that it names agrees with its entry, and a block the one of its block type.
-use Rattle.std.proofs.Common.{◌≡◌, ℕ, ◌^◌, true, nat_lt, nat_le, List, [], ◌∷◌, Some, sym, ap, ◌∙◌, subst}
+use Rattle.std.proofs.Common.{◌≡◌, ℕ, ◌^◌, true, nat_lt, nat_le, List, [], ◌∷◌, Some, sym, ap, ◌∙◌, subst, option_and_then, option_map}
 use Rattle.std.specs.Prelude.{slice_get, slice_index}
 use Rattle.std.proofs.lemmas.Bool.{ltb-true, lt-ltb}
 use Rattle.wasm_tree.specs.declared.types.ValType.{ValType}
@@ -9,7 +9,7 @@ use Rattle.wasm_tree.specs.declared.instr.MemArg.{MemArg}
 use Rattle.wasm_tree.specs.declared.instr.Instr.{Instr, fold_out-Instr, map-Instr, out-Instr}
 use Rattle.wasm_tree.specs.declared.instr.Instr.TheVariants.{Block', Loop', If', Return, Call, CallIndirect, LocalGet, LocalSet, LocalTee, GlobalGet, GlobalSet, TableGet, TableSet, Load, Store, MemorySize, MemoryGrow, RefFunc, MemoryInit, DataDrop, MemoryCopy, MemoryFill, TableInit, ElemDrop, TableCopy, TableGrow, TableSize, TableFill}
 use Rattle.wasm_typing.specs.Ops.{load_width, store_width}
-use Rattle.wasm_typing.specs.Typing.{Stack, Effect, Gives, Leaves, Acts, Context, signature_of, map_option, then_option, fits_memory, effect_of, Fits}
+use Rattle.wasm_typing.specs.Typing.{Stack, Effect, Gives, Leaves, Acts, Context, signature_of, fits_memory, effect_of, Fits}
 use Rattle.index_remap.specs.declared.remap.Remap.{Remap}
 use Rattle.index_remap.specs.Renumbered.{new_type, new_memarg, renumber_step, renumbered}
 use Rattle.index_remap.specs.Agreement.{Keeps, BlockAgrees, FuncAgrees, LayerAgrees, MemoryAgrees, DataAgrees, labelled}
@@ -33,7 +33,7 @@ module _ (m : Remap) (c d : Context) (locals : c.locals ≡ d.locals) (results :
   aligned_keeps ls w a k h =
       and_keeps (nat_lt a.memory c.memories) (nat_lt (slice_index m.mems a.memory) d.memories) (nat_le (2 ^ a.align) w) (nat_le (2 ^ a.align) w) (memory_keeps a.memory k) (λ z. z) h
 
-  call_keeps : (x : ℕ) → FuncAgrees m c d x → Keeps (then_option (slice_get c.funcs x) (λ t. slice_get c.types t)) (then_option (slice_get d.funcs (slice_index m.funcs x)) (λ t. slice_get d.types t))
+  call_keeps : (x : ℕ) → FuncAgrees m c d x → Keeps (option_and_then (λ t. slice_get c.types t) (slice_get c.funcs x)) (option_and_then (λ t. slice_get d.types t) (slice_get d.funcs (slice_index m.funcs x)))
   call_keeps x k y h = then_is (slice_get d.funcs (slice_index m.funcs x)) (slice_get d.types) ∙ k y (sym (then_is (slice_get c.funcs x) (slice_get c.types)) ∙ h)
 
   effect_at : (ls : List (List ValType)) (i : Instr) → LayerAgrees m c d (out-Instr i) → (e : Effect) → effect_of (labelled c ls) i ≡ Some e →
@@ -45,9 +45,9 @@ module _ (m : Remap) (c d : Context) (locals : c.locals ≡ d.locals) (results :
   effect_at ls Return q e h = subst (λ z. Some (Leaves z) ≡ Some e) results h
   effect_at ls (Call x) q e h = keeps_map _ _ _ (keeps_signature _ _ (call_keeps x q)) e h
   effect_at ls (CallIndirect ty table) q e h = keeps_then _ _ _ _ q.1 (λ r. keeps_only _ _ _ _ (λ b. b) (keeps_map _ _ _ (keeps_signature _ _ q.0))) e h
-  effect_at ls (LocalGet x) q e h = subst (λ z. map_option (λ t. Gives [] (t ∷ [])) (slice_get z x) ≡ Some e) locals h
-  effect_at ls (LocalSet x) q e h = subst (λ z. map_option (λ t. Gives (t ∷ []) []) (slice_get z x) ≡ Some e) locals h
-  effect_at ls (LocalTee x) q e h = subst (λ z. map_option (λ t. Gives (t ∷ []) (t ∷ [])) (slice_get z x) ≡ Some e) locals h
+  effect_at ls (LocalGet x) q e h = subst (λ z. option_map (λ t. Gives [] (t ∷ [])) (slice_get z x) ≡ Some e) locals h
+  effect_at ls (LocalSet x) q e h = subst (λ z. option_map (λ t. Gives (t ∷ []) []) (slice_get z x) ≡ Some e) locals h
+  effect_at ls (LocalTee x) q e h = subst (λ z. option_map (λ t. Gives (t ∷ []) (t ∷ [])) (slice_get z x) ≡ Some e) locals h
   effect_at ls (GlobalGet x) q e h = keeps_map _ _ _ q e h
   effect_at ls (GlobalSet x) q e h = keeps_then _ _ _ _ q (λ g z p. p) e h
   effect_at ls (TableGet x) q e h = keeps_map _ _ _ q e h

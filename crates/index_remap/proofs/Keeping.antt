@@ -1,20 +1,20 @@
 -- What is there stays there, through the words of which the types of instructions are made.
-use Rattle.std.proofs.Common.{◌≡◌, Bool, true, false, ◌&&◌, [], ◌∷◌, Option, Some, None, refl, ap, ◌∙◌}
+use Rattle.std.proofs.Common.{◌≡◌, Bool, true, false, ◌&&◌, [], ◌∷◌, Option, Some, None, refl, ap, ◌∙◌, option_map}
 use Rattle.std.specs.Prelude.{option_and_then}
 use Rattle.wasm_tree.specs.declared.types.RefType.{RefType}
 use Rattle.wasm_tree.specs.declared.types.RefType.TheVariants.{Func}
 use Rattle.wasm_tree.specs.declared.types.ValType.TheVariants.{Ref}
 use Rattle.wasm_tree.specs.declared.types.FuncType.{FuncType}
-use Rattle.wasm_typing.specs.Typing.{Gives, signature_in, map_option, then_option, only, both}
+use Rattle.wasm_typing.specs.Typing.{Gives, signature_in, only, both}
 use Rattle.index_remap.specs.Agreement.{Keeps}
 
-pub keeps_map : {A B : Type 0} (f : A → B) (m n : Option A) → Keeps m n → Keeps (map_option f m) (map_option f n)
+pub keeps_map : {A B : Type 0} (f : A → B) (m n : Option A) → Keeps m n → Keeps (option_map f m) (option_map f n)
 keeps_map f None n k y h = cc
-keeps_map f (Some x) n k y h = ap (map_option f) (k x refl) ∙ h
+keeps_map f (Some x) n k y h = ap (option_map f) (k x refl) ∙ h
 
-pub keeps_then : {A B : Type 0} (m n : Option A) (f g : A → Option B) → Keeps m n → ((x : A) → Keeps (f x) (g x)) → Keeps (then_option m f) (then_option n g)
+pub keeps_then : {A B : Type 0} (m n : Option A) (f g : A → Option B) → Keeps m n → ((x : A) → Keeps (f x) (g x)) → Keeps (option_and_then f m) (option_and_then g n)
 keeps_then None n f g k l y h = cc
-keeps_then (Some x) n f g k l y h = ap (λ z. then_option z g) (k x refl) ∙ l x y h
+keeps_then (Some x) n f g k l y h = ap (λ z. option_and_then g z) (k x refl) ∙ l x y h
 
 pub keeps_only : {A : Type 0} (a b : Bool) (m n : Option A) → (a ≡ true → b ≡ true) → Keeps m n → Keeps (only a m) (only b n)
 keeps_only false b m n t k y h = cc
@@ -33,11 +33,11 @@ both_keeps None m' n n' s t h = cc
 both_keeps (Some a) m' None n' s t h = cc
 both_keeps (Some a) m' (Some b) n' s t h = ap (λ z. both z n') (s a refl) ∙ ap (both (Some a)) (t b refl) ∙ h
 
-pub named_keeps : (m n : Option Bool) → (m ≡ Some true → n ≡ Some true) → Keeps (then_option m (λ b. only b (Some (Gives [] (Ref Func ∷ []))))) (then_option n (λ b. only b (Some (Gives [] (Ref Func ∷ [])))))
+pub named_keeps : (m n : Option Bool) → (m ≡ Some true → n ≡ Some true) → Keeps (option_and_then (λ b. only b (Some (Gives [] (Ref Func ∷ [])))) m) (option_and_then (λ b. only b (Some (Gives [] (Ref Func ∷ [])))) n)
 named_keeps None n k y h = cc
 named_keeps (Some false) n k y h = cc
-named_keeps (Some true) n k y h = ap (λ z. then_option z (λ b. only b (Some (Gives [] (Ref Func ∷ []))))) (k refl) ∙ h
+named_keeps (Some true) n k y h = ap (λ z. option_and_then (λ b. only b (Some (Gives [] (Ref Func ∷ [])))) z) (k refl) ∙ h
 
-pub then_is : {A B : Type 0} (x : Option A) (f : A → Option B) → then_option x f ≡ option_and_then f x
+pub then_is : {A B : Type 0} (x : Option A) (f : A → Option B) → option_and_then f x ≡ option_and_then f x
 then_is None f = refl
 then_is (Some x) f = refl

@@ -1,6 +1,6 @@
 -- A step leaves what has no partner.
-use Rattle.std.proofs.Common.{◌≡◌, ℕ, List, ◌∷◌, refl, subst, ◌∙◌}
-use Rattle.wasm_meaning.specs.Outcomes.{Outcome, at, put}
+use Rattle.std.proofs.Common.{◌≡◌, ℕ, List, ◌∷◌, refl, subst, ◌∙◌, slice_set}
+use Rattle.wasm_meaning.specs.Outcomes.{Outcome, at}
 use Rattle.wasm_meaning.specs.State.{Val, Store, Change, Entry, Caller}
 use Rattle.wasm_meaning.specs.Step.{changed, no_items, no_bytes, give, step}
 use Rattle.wasm_meaning.specs.Run.{Phase, Run, tick}
@@ -19,7 +19,7 @@ module _ (R : Pairing) (apart : OneToOne R) (known : (k : Kind) (a b : ℕ) → 
     keeps : KeepsOthers R first t
 
   -- an address that has a partner is not one that has none
-  elsewhere : {A : Type 0} (k : Kind) (xs : List A) (a b : ℕ) (v : A) (c : ℕ) → R.of k a b → HasNoPartner R k c → at (put xs b v) c ≡ at xs c
+  elsewhere : {A : Type 0} (k : Kind) (xs : List A) (a b : ℕ) (v : A) (c : ℕ) → R.of k a b → HasNoPartner R k c → at (slice_set xs b v) c ≡ at xs c
   elsewhere k xs a b v c r h = at_put_there xs b c v (λ e. h a (subst (λ x. R.of k a x) e r))
 
   changed_keeps : {s : Store} {c d : Change} → ChangeRel R c d → KeepsOthers R first s → KeepsOthers R first (changed s d)

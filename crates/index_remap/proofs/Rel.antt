@@ -1,7 +1,7 @@
 -- Options, lists and stores that correspond.
-use Rattle.std.proofs.Common.{◌≡◌, ℕ, zero, suc, List, [], ◌∷◌, ◌++◌, length, Option, Bool, true, false, cond, refl, sym, ap, subst}
+use Rattle.std.proofs.Common.{◌≡◌, ℕ, zero, suc, List, [], ◌∷◌, ◌++◌, length, Option, Bool, true, false, cond, refl, sym, ap, subst, drop, slice_set}
 use native.Mathlib.Decide.{ℕ_discrete}
-use Rattle.wasm_meaning.specs.Outcomes.{Outcome, Gives, Traps, IllTyped, trapping, or_trap, bind, at, put, onto, past, split_at, slice, overwrite, copies}
+use Rattle.wasm_meaning.specs.Outcomes.{Outcome, Gives, Traps, IllTyped, trapping, or_trap, bind, at, onto, split_at, slice, overwrite, copies}
 use Rattle.index_remap.specs.Related.{Kind, Pairing, OneToOne, OneToOneWhereWritten, is_written, OptRel, none, some, BothRel, both, ResRel, done, trap, wrong, ListRel, nil, cons}
 
 -- ---- options ----
@@ -81,7 +81,7 @@ at_rel nil n = wrong
 at_rel (cons p r) zero = done p
 at_rel (cons p r) (suc n) = at_rel r n
 
-pub put_rel : {A B : Type 0} {P : A → B → Type 0} {xs : List A} {ys : List B} {v : A} {w : B} → ListRel P xs ys → (n : ℕ) → P v w → ListRel P (put xs n v) (put ys n w)
+pub put_rel : {A B : Type 0} {P : A → B → Type 0} {xs : List A} {ys : List B} {v : A} {w : B} → ListRel P xs ys → (n : ℕ) → P v w → ListRel P (slice_set xs n v) (slice_set ys n w)
 put_rel nil n q = nil
 put_rel (cons p r) zero q = cons q r
 put_rel (cons p r) (suc n) q = cons p (put_rel r n q)
@@ -94,7 +94,7 @@ pub append_rel : {A B : Type 0} {P : A → B → Type 0} {xs vs : List A} {ys ws
 append_rel nil s = s
 append_rel (cons p r) s = cons p (append_rel r s)
 
-pub past_rel : {A B : Type 0} {P : A → B → Type 0} {xs : List A} {ys : List B} → ListRel P xs ys → (n : ℕ) → ListRel P (past xs n) (past ys n)
+pub past_rel : {A B : Type 0} {P : A → B → Type 0} {xs : List A} {ys : List B} → ListRel P xs ys → (n : ℕ) → ListRel P (drop n xs) (drop n ys)
 past_rel r zero = r
 past_rel nil (suc n) = nil
 past_rel (cons p r) (suc n) = past_rel r n
@@ -129,12 +129,12 @@ same_there (both e) = ap Gives e
 
 -- ---- a write at related addresses ----
 
-at_put_here : {A : Type 0} (xs : List A) (n : ℕ) (v : A) → at (put xs n v) n ≡ bind (at xs n) (λ old. Gives v)
+at_put_here : {A : Type 0} (xs : List A) (n : ℕ) (v : A) → at (slice_set xs n v) n ≡ bind (at xs n) (λ old. Gives v)
 at_put_here [] n v = refl
 at_put_here (x ∷ xs) zero v = refl
 at_put_here (x ∷ xs) (suc n) v = at_put_here xs n v
 
-pub at_put_there : {A : Type 0} (xs : List A) (n m : ℕ) (v : A) → (n ≡ m → ⊥) → at (put xs n v) m ≡ at xs m
+pub at_put_there : {A : Type 0} (xs : List A) (n m : ℕ) (v : A) → (n ≡ m → ⊥) → at (slice_set xs n v) m ≡ at xs m
 at_put_there [] n m v h = refl
 at_put_there (x ∷ xs) zero zero v h = absurd (h refl)
 at_put_there (x ∷ xs) zero (suc m) v h = refl
@@ -146,13 +146,13 @@ pub written : {R : Pairing} → OneToOne R → OneToOneWhereWritten R
 written apart = record { right = λ _. apart.right; left = λ _. apart.left }
 
 module _ (R : Pairing) (apart : OneToOneWhereWritten R) (k : Kind) (may : is_written k ≡ true) {A B : Type 0} (P : A → B → Type 0) (xs : List A) (ys : List B) (v : A) (w : B) where
-  pub write_rel : {a b : ℕ} → R.of k a b → ((c d : ℕ) → R.of k c d → BothRel P (at xs c) (at ys d)) → P v w → (c d : ℕ) → R.of k c d → BothRel P (at (put xs a v) c) (at (put ys b w) d)
+  pub write_rel : {a b : ℕ} → R.of k a b → ((c d : ℕ) → R.of k c d → BothRel P (at xs c) (at ys d)) → P v w → (c d : ℕ) → R.of k c d → BothRel P (at (slice_set xs a v) c) (at (slice_set ys b w) d)
   write_rel {a} {b} r all p c d q = go (ℕ_discrete a c) (ℕ_discrete b d)
     where
       written : {o : Outcome A} {p' : Outcome B} → BothRel P o p' → BothRel P (bind o (λ old. Gives v)) (bind p' (λ old. Gives w))
       written (both q) = both p
 
-      go : Dec (a ≡ c) → Dec (b ≡ d) → BothRel P (at (put xs a v) c) (at (put ys b w) d)
+      go : Dec (a ≡ c) → Dec (b ≡ d) → BothRel P (at (slice_set xs a v) c) (at (slice_set ys b w) d)
       go (yes e) (yes f) = rw (← e, ← f, at_put_here xs a v, at_put_here ys b w) (written (all a b r))
       go (yes e) (no f) = absurd (f (apart.right may a b d r (subst (λ x. R.of k x d) (sym e) q)))
       go (no e) (yes f) = absurd (e (apart.left may a c b r (subst (λ x. R.of k c x) (sym f) q)))

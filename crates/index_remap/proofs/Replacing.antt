@@ -1,5 +1,5 @@
 -- Bodies stay well typed where code of the same type stands in place of calls of listed functions.
-use Rattle.std.proofs.Common.{◌≡◌, ℕ, Bool, true, false, List, [], ◌∷◌, ◌++◌, reverse, Option, Some, None, refl, sym, ◌∙◌, subst}
+use Rattle.std.proofs.Common.{◌≡◌, ℕ, Bool, true, false, List, [], ◌∷◌, ◌++◌, reverse, Option, Some, None, refl, sym, ◌∙◌, subst, option_and_then}
 use Rattle.std.specs.Prelude.{slice_get}
 use Rattle.wasm_tree.specs.declared.types.ValType.{ValType}
 use Rattle.wasm_tree.specs.declared.types.FuncType.{FuncType}
@@ -8,7 +8,7 @@ use Rattle.wasm_tree.specs.declared.instr.Instr.{Instr, out-Instr, Row_of-Instr,
 use Rattle.wasm_tree.specs.declared.instr.Instr.TheBlock.{hidden-the_row-Instr-0}
 use Rattle.wasm_tree.specs.declared.instr.Instr.TheViews.{outs-Block', outs-Loop', outs-If'}
 use Rattle.wasm_tree.specs.declared.instr.Instr.TheVariants.{Block, Block', Loop, Loop', If, If', Call}
-use Rattle.wasm_typing.specs.Typing.{Stack, operands, AllMatch, Signature, signature_of, signature_in, Effect, Gives, Acts, gives_of, then_option, Context, Ends, Fits, Leads, LeadsAll, WellTyped}
+use Rattle.wasm_typing.specs.Typing.{Stack, operands, AllMatch, Signature, signature_of, signature_in, Effect, Gives, Acts, gives_of, Context, Ends, Fits, Leads, LeadsAll, WellTyped}
 use Rattle.index_remap.specs.declared.remap.Remap.{Remap}
 use Rattle.index_remap.specs.Renumbered.{new_type, renumbered}
 use Rattle.index_remap.specs.References.{is_among}
@@ -61,7 +61,7 @@ module _ (m : Remap) (listed : List ℕ) (codes : Codes) (c d : Context) (locals
   call_stands : (b : Bool) (ls : Labels) (f : ℕ) (code : List Instr) (s t r : Stack) → is_among listed f ≡ b → (b ≡ false → LayerAgrees m c d (out-Instr (Call f))) → CallReplaced m b codes ls f code →
       Fits (labelled c ls) (Call f) s t → Lower r s → (u : Stack) × LeadsAll (labelled d ls) code r u × Lower u t
   call_stands true ls f code s t r w q k h l =
-      let (ty, e, g) = call_type (then_option (slice_get c.funcs f) (slice_get c.types)) h.0 h.1 in
+      let (ty, e, g) = call_type (option_and_then (slice_get c.types) (slice_get c.funcs f)) h.0 h.1 in
       let has : WellTyped (labelled d ls) code ty.params ty.results = typed ls f code w k ty (sym (then_is (slice_get c.funcs f) (slice_get c.types)) ∙ e) in
       code_leads (labelled d ls) code ty.params ty.results s t r has (subst (λ z. Acts z s t) (sym g) h.2) l
   call_stands false ls f code s t r w q k h l =

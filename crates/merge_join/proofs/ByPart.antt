@@ -5,7 +5,7 @@ use Rattle.std.proofs.lemmas.List.{length-map, length-append, take_all}
 use Rattle.std.specs.List.{flat_map}
 use Rattle.std.proofs.lemmas.Option.{slice_get-map, slice_get_within, get_or_from_slice_get}
 use Rattle.wasm_tree.specs.declared.module.Module.{Module}
-use Rattle.wasm_meaning.specs.Linking.{Part, Site, place, module_at, sites_in}
+use Rattle.wasm_meaning.specs.Linking.{Part, Site, module_at, sites_in}
 use Rattle.merge_terms.specs.declared.parts.Part as declared
 use Rattle.merge_terms.specs.Parts.{named_module, named_modules}
 use Rattle.merge_terms.specs.Linked.{by_import_from, by_import}
@@ -138,7 +138,7 @@ each_within f ps all p m is at = slice_get_within all p (f p m) (ap (λ x. slice
 pub each_index : (f : ℕ → Module → ℕ) (ps : List Part) (all : List ℕ) (p : ℕ) (m : Module) → all ≡ each_part f ps → module_at ps p ≡ Some m → slice_index all p ≡ f p m
 each_index f ps all p m is at = get_or_from_slice_get all p (f p m) 0 (ap (λ x. slice_get x p) is ∙ each_at f ps p m at)
 
-pub place_is_get : {A : Type 0} (xs : List A) (n : ℕ) → place xs n ≡ slice_get xs n
+pub place_is_get : {A : Type 0} (xs : List A) (n : ℕ) → slice_get xs n ≡ slice_get xs n
 place_is_get [] zero = refl
 place_is_get [] (suc n) = refl
 place_is_get (x ∷ xs) zero = refl

@@ -1,5 +1,5 @@
 -- The function that calls several.
-use Rattle.std.proofs.Common.{◌≡◌, ◌∙◌, ap, ℕ, ◌≤◌, List, [], ◌∷◌, length, map, arith}
+use Rattle.std.proofs.Common.{◌≡◌, ◌∙◌, ap, ℕ, ◌≤◌, List, [], ◌∷◌, length, map, arith, unwrap_or}
 use Rattle.wasm_tree.specs.declared.types.ValType.{ValType}
 use Rattle.wasm_tree.specs.declared.types.FuncType.{FuncType}
 use Rattle.wasm_tree.specs.declared.module.LocalGroup.{LocalGroup}
@@ -8,13 +8,13 @@ use Rattle.wasm_tree.specs.declared.instr.Instr.{Instr}
 use Rattle.wasm_tree.specs.declared.instr.Instr.TheVariants.{Call}
 use Rattle.wasm_meaning.specs.Linking.{Part, first_place}
 use Rattle.wasm_meaning.specs.Values.{same_func_type}
-use Rattle.merge_terms.specs.Merged.{or_this, merged_types, place_of_type, nullary, start_calls}
+use Rattle.merge_terms.specs.Merged.{merged_types, place_of_type, nullary, start_calls}
 
 abbrev function : ℕ → List LocalGroup → List Instr → Func
 function ty locals body = record { ty = ty; locals = locals; body = body }
 
 abbrev place_in : List FuncType → List ValType → List ValType → ℕ
-place_in ts ps rs = or_this 0 (first_place (same_func_type (record { params = ps; results = rs })) ts 0)
+place_in ts ps rs = unwrap_or (first_place (same_func_type (record { params = ps; results = rs })) ts 0) 0
 
 nullary_place : (ps : List Part) (ts : List FuncType) (params results : List ValType) → ts ≡ merged_types ps → params ≡ [] → results ≡ [] → place_in ts params results ≡ place_of_type ps nullary
 unfolding place_of_type

@@ -1,14 +1,14 @@
 -- How many stay or are defined before a place.
-use Rattle.std.proofs.Common.{◌≡◌, ◌∙◌, sym, ap, refl, ℕ, zero, suc, ◌+◌, ◌<◌, ◌≤◌, List, [], ◌∷◌, ◌++◌, length, take, arith, Bool, true, false, cond, Some, append_assoc, append-nil}
+use Rattle.std.proofs.Common.{◌≡◌, ◌∙◌, sym, ap, refl, ℕ, zero, suc, ◌+◌, ◌<◌, ◌≤◌, List, [], ◌∷◌, ◌++◌, length, take, arith, Bool, true, false, cond, Some, append_assoc, append-nil, option_and_then, unwrap_or}
 use Rattle.std.specs.Prelude.{filter}
 use Rattle.std.proofs.lemmas.List.{length-append, take_all}
 use Rattle.std.proofs.lemmas.List.Elements.{filter-append}
 use Rattle.wasm_tree.specs.declared.module.Module.{Module}
 use Rattle.wasm_meaning.specs.World.{defined_count, defined_before, elems_before, datas_before}
-use Rattle.wasm_meaning.specs.Linking.{Part, Site, Kind, then_some, module_at, imports_of, sites_in, sites_from, sites}
+use Rattle.wasm_meaning.specs.Linking.{Part, Site, Kind, module_at, imports_of, sites_in, sites_from, sites}
 use Rattle.merge_terms.specs.declared.parts.Part as declared
 use Rattle.merge_terms.specs.Parts.{named_modules}
-use Rattle.merge_terms.specs.Merged.{or_this, staying_of, imported_count}
+use Rattle.merge_terms.specs.Merged.{staying_of, imported_count}
 use Rattle.merge_join.specs.Words.{site}
 use Rattle.merge_join.specs.Spaces.{picked, sites_before, count_before}
 use Rattle.merge_join.proofs.ByPart.{named_length, part_more}
@@ -92,7 +92,7 @@ defined_room k ps p m h = omega (arith, defined_suc k ps p m h, defined_most k p
 
 -- how many a part imports
 pub imported_is : (ps : List Part) (k : Kind) (p : ℕ) (m : Module) → module_at ps p ≡ Some m → imported_count ps p k ≡ length (imports_of k m)
-imported_is ps k p m at = ap (λ o. or_this 0 (then_some o (λ x. Some (length (imports_of k x))))) at
+imported_is ps k p m at = ap (λ o. unwrap_or (option_and_then (λ x. Some (length (imports_of k x))) o) 0) at
 
 pub count_none : (ps : List Part) (k : Kind) → count_before ps k 0 0 ≡ 0
 unfolding count_before

@@ -8,7 +8,7 @@ use Rattle.merge_terms.specs.declared.links.End.{End}
 use Rattle.merge_terms.specs.declared.links.End.TheVariants.{Defined, Outside}
 use Rattle.merge_terms.specs.Faults.{stays}
 use Rattle.merge_terms.specs.Linked.{end_entry}
-use Rattle.merge_terms.specs.Merged.{or_this, place_of_end}
+use Rattle.merge_terms.specs.Merged.{place_of_end}
 use Rattle.merge_join.specs.Words.{site, place_at}
 
 -- whether an import is this end
@@ -37,6 +37,6 @@ unfolding place_of_end place_at
 place_is ps k (linking.Defined e) = refl
 place_is ps k (linking.Outside s) = refl
 
-pub or_zero : (o : Option ℕ) → unwrap_or o 0 ≡ or_this 0 o
+pub or_zero : (o : Option ℕ) → unwrap_or o 0 ≡ unwrap_or o 0
 or_zero None = refl
 or_zero (Some a) = refl

@@ -1,11 +1,11 @@
 -- The exports of all parts.
-use Rattle.std.proofs.Common.{◌≡◌, ◌∙◌, sym, ap, refl, ℕ, zero, suc, ◌+◌, ◌≤◌, List, [], ◌∷◌, ◌++◌, length, map, take, arith, slice_get, Option, Some, None, append_assoc}
+use Rattle.std.proofs.Common.{◌≡◌, ◌∙◌, sym, ap, refl, ℕ, zero, suc, ◌+◌, ◌≤◌, List, [], ◌∷◌, ◌++◌, length, map, take, arith, slice_get, Option, Some, None, append_assoc, option_and_then}
 use Rattle.std.proofs.lemmas.List.{length-map, map-append, length-append, length-take-le}
 use Rattle.std.proofs.lemmas.Option.{slice_get_within}
 use Rattle.wasm_tree.specs.declared.module.Module.{Module}
 use Rattle.wasm_tree.specs.declared.module.Export.{Export}
 use Rattle.wasm_meaning.specs.State.{Text}
-use Rattle.wasm_meaning.specs.Linking.{Part, place, module_at, then_some}
+use Rattle.wasm_meaning.specs.Linking.{Part, module_at}
 use Rattle.index_remap.specs.declared.remap.Remap.{Remap}
 use Rattle.index_remap.specs.Renumbered.{new_export}
 use Rattle.export_names.specs.declared.mode.Mode.{Mode}
@@ -18,7 +18,7 @@ use Rattle.merge_join.proofs.ByPart.{part_push}
 abbrev pub new_exports : List Part → ℕ → Module → List Export
 new_exports ps p m = map (new_export (map_of ps p m)) m.exports
 
-pub place_is_get : {A : Type 0} (xs : List A) (n : ℕ) → place xs n ≡ slice_get xs n
+pub place_is_get : {A : Type 0} (xs : List A) (n : ℕ) → slice_get xs n ≡ slice_get xs n
 place_is_get [] n = refl
 place_is_get (x ∷ xs) zero = refl
 place_is_get (x ∷ xs) (suc n) = place_is_get xs n
@@ -47,13 +47,13 @@ names_many ps = length-map (all_exports ps) (λ e. e.name)
 -- where there is no conflict no name is repeated
 pub none_repeated : (ps : List Part) (mode : Mode) (names : List Text) → names ≡ export_names ps → conflict mode names ≡ None → repeated_name ps mode ≡ None
 unfolding repeated_name
-none_repeated ps mode names same none = ap (λ o. then_some o (place (export_names ps))) (ap (conflict mode) (sym same) ∙ none)
+none_repeated ps mode names same none = ap (λ o. option_and_then (slice_get (export_names ps)) o) (ap (conflict mode) (sym same) ∙ none)
 
 -- otherwise the one at its place is
 pub repeated_at : (ps : List Part) (mode : Mode) (names : List Text) (n : ℕ) → names ≡ export_names ps → conflict mode names ≡ Some n → slice_get names n ≡ repeated_name ps mode
 unfolding repeated_name
 repeated_at ps mode names n same at =
-    ap (λ x. slice_get x n) same ∙ sym (ap (λ o. then_some o (place (export_names ps))) (ap (conflict mode) (sym same) ∙ at) ∙ place_is_get (export_names ps) n)
+    ap (λ x. slice_get x n) same ∙ sym (ap (λ o. option_and_then (slice_get (export_names ps)) o) (ap (conflict mode) (sym same) ∙ at) ∙ place_is_get (export_names ps) n)
 
 -- ---- exports with names ----
 

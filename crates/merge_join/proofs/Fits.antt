@@ -1,5 +1,5 @@
 -- Where linking finds no fault, each import's end is there, and of the import's kind.
-use Rattle.std.proofs.Common.{◌≡◌, ◌∙◌, sym, ap, refl, subst, inl, inr, ◌⊎◌, ℕ, zero, suc, ◌<◌, List, [], ◌∷◌, ◌++◌, length, arith, slice_get, Bool, true, false, cond, Option, Some, None}
+use Rattle.std.proofs.Common.{◌≡◌, ◌∙◌, sym, ap, refl, subst, inl, inr, ◌⊎◌, ℕ, zero, suc, ◌<◌, List, [], ◌∷◌, ◌++◌, length, arith, slice_get, Bool, true, false, cond, Option, Some, None, unwrap_or, ◌&&◌}
 use Rattle.std.specs.Prelude.{option_and_then}
 use Rattle.std.specs.Option.{option_map}
 use Rattle.std.proofs.lemmas.Option.{slice_get_within}
@@ -11,11 +11,10 @@ use Rattle.wasm_tree.specs.declared.module.ExportDesc.TheVariants as ex
 use Rattle.wasm_tree.specs.declared.module.Module.{Module}
 use Rattle.wasm_tree.specs.Spaces.{funcs_of, tables_of, memories_of, globals_of, type_of_func}
 use Rattle.wasm_meaning.specs.Linking as linking
-use Rattle.wasm_meaning.specs.Linking.{Part, Site, Entity, Kind, Functions, Tables, Memories, Globals, place, then_some, module_at, import_at, kind_of_import, kind_of_export, index_of_export, same_kind, has_kind, sites, end_of, linked_end, gathered, gathered_at, first_site, stays_as, same_memory, same_pair, pair_of, is_outside}
+use Rattle.wasm_meaning.specs.Linking.{Part, Site, Entity, Kind, Functions, Tables, Memories, Globals, module_at, import_at, kind_of_import, kind_of_export, index_of_export, same_kind, has_kind, sites, end_of, linked_end, gathered, gathered_at, first_site, stays_as, same_memory, same_pair, pair_of, is_outside}
 use Rattle.merge_terms.specs.declared.links.End.{End}
 use Rattle.merge_terms.specs.declared.faults.LinkFault.{LinkFault}
 use Rattle.merge_terms.specs.declared.faults.LinkFault.TheVariants.{ImportMismatch}
-use Rattle.wasm_meaning.specs.World.{or_false}
 use Rattle.merge_terms.specs.Faults.{External, FuncOf, TableOf, MemoryOf, GlobalOf, asked, asked_at, external_of, found, same_but_limits, meets_limits, suits, is_suited, or_else, first_fault, end_fault, import_fault, link_fault}
 use Rattle.merge_terms.specs.Linked.{end_entry}
 use Rattle.merge_join.specs.Words.{site, space_size, IsEnd}
@@ -31,16 +30,16 @@ kind_of_external (TableOf t) = Tables
 kind_of_external (MemoryOf l) = Memories
 kind_of_external (GlobalOf t) = Globals
 
-some_of : {A B : Type 0} (o : Option A) (f : A → Option B) (b : B) → then_some o f ≡ Some b → (a : A) × (o ≡ Some a) × (f a ≡ Some b)
+some_of : {A B : Type 0} (o : Option A) (f : A → Option B) (b : B) → option_and_then f o ≡ Some b → (a : A) × (o ≡ Some a) × (f a ≡ Some b)
 some_of None f b h = cc
 some_of (Some a) f b h = (a, refl, h)
 
-true_of : (o : Option Bool) → or_false o ≡ true → o ≡ Some true
+true_of : (o : Option Bool) → unwrap_or o false ≡ true → o ≡ Some true
 true_of None h = cc
 true_of (Some b) h = ap Some h
 
 asked_kind : (m : Module) (d : ImportDesc) (x : External) → asked m d ≡ Some x → kind_of_external x ≡ kind_of_import d
-asked_kind m (im.Func ty) x h = let (t, a, b) = some_of (place m.types ty) (λ t. Some (FuncOf t)) x h in let e : FuncOf t ≡ x = cc in sym (ap kind_of_external e)
+asked_kind m (im.Func ty) x h = let (t, a, b) = some_of (slice_get m.types ty) (λ t. Some (FuncOf t)) x h in let e : FuncOf t ≡ x = cc in sym (ap kind_of_external e)
 asked_kind m (im.Table t) x h = let e : TableOf t ≡ x = cc in sym (ap kind_of_external e)
 asked_kind m (im.Memory l) x h = let e : MemoryOf l ≡ x = cc in sym (ap kind_of_external e)
 asked_kind m (im.Global t) x h = let e : GlobalOf t ≡ x = cc in sym (ap kind_of_external e)
@@ -109,7 +108,7 @@ suited ps s (Some x) end h e = let same : x ≡ end = cc in ap (is_suited ps s) 
     case true h = refl
     case false h = cc
 
-pub place_within : {A : Type 0} (xs : List A) (n : ℕ) (x : A) → place xs n ≡ Some x → n < length xs
+pub place_within : {A : Type 0} (xs : List A) (n : ℕ) (x : A) → slice_get xs n ≡ Some x → n < length xs
 place_within [] n x h = cc
 place_within (y ∷ ys) zero x h = omega arith
 place_within (y ∷ ys) (suc n) x h = omega (arith, place_within ys n x h)
@@ -124,7 +123,7 @@ EndThere ps k (linking.Outside t) = (j : Import) × (import_at ps t ≡ Some j) 
 suits_same : (d : External) (end : linking.End) (x : External) → suits d end x ≡ true → same_but_limits d x ≡ true
 suits_same d (linking.Defined e) x h = case (same_but_limits d x) (meets_limits d x) h
   where
-    case : (a b : Bool) → cond a b false ≡ true → a ≡ true
+    case : (a b : Bool) → a && b ≡ true → a ≡ true
     case true b h = refl
     case false b h = cc
 suits_same d (linking.Outside s) x h = h
@@ -135,35 +134,35 @@ found_there ps (linking.Defined e) x h =
     let (k, within) = external_there m e.what x ext in
     (m, at, sym k, subst (λ z. index_of_export e.what < space_size z m) (sym k) within)
 found_there ps (linking.Outside s) x h =
-    let (m, at, rest) = some_of (module_at ps s.part) (λ m. then_some (place m.imports s.import) (λ i. asked m i.desc)) x h in
-    let (j, here, ext) = some_of (place m.imports s.import) (λ i. asked m i.desc) x rest in
-    (j, ap (λ o. then_some o (λ m. place m.imports s.import)) at ∙ here, sym (asked_kind m j.desc x ext))
+    let (m, at, rest) = some_of (module_at ps s.part) (λ m. option_and_then (λ i. asked m i.desc) (slice_get m.imports s.import)) x h in
+    let (j, here, ext) = some_of (slice_get m.imports s.import) (λ i. asked m i.desc) x rest in
+    (j, ap (λ o. option_and_then (λ m. slice_get m.imports s.import) o) at ∙ here, sym (asked_kind m j.desc x ext))
 
 import_of : (ps : List Part) (s : Site) (d : External) (i : Import) → asked_at ps s ≡ Some d → import_at ps s ≡ Some i → kind_of_external d ≡ kind_of_import i.desc
 import_of ps s d i h here =
-    let (m, at, rest) = some_of (module_at ps s.part) (λ m. then_some (place m.imports s.import) (λ i. asked m i.desc)) d h in
-    let (j, there, ext) = some_of (place m.imports s.import) (λ i. asked m i.desc) d rest in
-    let e : Some i ≡ Some j = sym here ∙ ap (λ o. then_some o (λ m. place m.imports s.import)) at ∙ there in
+    let (m, at, rest) = some_of (module_at ps s.part) (λ m. option_and_then (λ i. asked m i.desc) (slice_get m.imports s.import)) d h in
+    let (j, there, ext) = some_of (slice_get m.imports s.import) (λ i. asked m i.desc) d rest in
+    let e : Some i ≡ Some j = sym here ∙ ap (λ o. option_and_then (λ m. slice_get m.imports s.import) o) at ∙ there in
     let same : i ≡ j = cc in
     asked_kind m j.desc d ext ∙ ap (λ (x : Import). kind_of_import x.desc) (sym same)
 
 suited_there : (ps : List Part) (s : Site) (end : linking.End) (i : Import) → import_at ps s ≡ Some i → is_suited ps s end ≡ true → EndThere ps (kind_of_import i.desc) end
 suited_there ps s end i here h =
-    let (d, asks, rest) = some_of (asked_at ps s) (λ d. then_some (found ps end) (λ x. Some (suits d end x))) true (true_of (then_some (asked_at ps s) (λ d. then_some (found ps end) (λ x. Some (suits d end x)))) h) in
+    let (d, asks, rest) = some_of (asked_at ps s) (λ d. option_and_then (λ x. Some (suits d end x)) (found ps end)) true (true_of (option_and_then (λ d. option_and_then (λ x. Some (suits d end x)) (found ps end)) (asked_at ps s)) h) in
     let (x, finds, last) = some_of (found ps end) (λ x. Some (suits d end x)) true rest in
     let fits : suits d end x ≡ true = cc in
     let k : kind_of_external x ≡ kind_of_import i.desc = sym (same_kinds d x (suits_same d end x fits)) ∙ import_of ps s d i asks here in
     subst (λ z. EndThere ps z end) k (found_there ps end x finds)
 
 -- where linking finds no fault
-pub end_there : (ps : List Part) (p n : ℕ) (m : Module) (i : Import) (end : linking.End) → link_fault ps ≡ None → module_at ps p ≡ Some m → place m.imports n ≡ Some i → end_of ps (site p n) ≡ Some end → EndThere ps (kind_of_import i.desc) end
+pub end_there : (ps : List Part) (p n : ℕ) (m : Module) (i : Import) (end : linking.End) → link_fault ps ≡ None → module_at ps p ≡ Some m → slice_get m.imports n ≡ Some i → end_of ps (site p n) ≡ Some end → EndThere ps (kind_of_import i.desc) end
 unfolding link_fault import_fault
 end_there ps p n m i end none at here ends =
     let s = site p n in
     let (rest, is) = sites_split ps p n m at (place_within m.imports n i here) in
     let first : first_fault (import_fault ps) (sites ps) ≡ None = none_first (first_fault (import_fault ps) (sites ps)) _ none in
     let mine : import_fault ps s ≡ None = none_at (import_fault ps) (sites_before ps p n) s rest (ap (first_fault (import_fault ps)) (sym is) ∙ first) in
-    suited_there ps s end i (ap (λ o. then_some o (λ m. place m.imports n)) at ∙ here) (suited ps s (end_of ps s) end mine ends)
+    suited_there ps s end i (ap (λ o. option_and_then (λ m. slice_get m.imports n) o) at ∙ here) (suited ps s (end_of ps s) end mine ends)
 
 -- ---- memories that are one ----
 
@@ -179,7 +178,7 @@ same_memory_kind : (j : Import) (o : Option Import) → same_memory j o ≡ true
 same_memory_kind j None h = cc
 same_memory_kind j (Some l) h = (l, refl, case (kind_of_import j.desc) (kind_of_import l.desc) h)
   where
-    case : (a b : Kind) → cond (same_kind Memories a) (cond (same_kind Memories b) (same_pair (pair_of j) (pair_of l)) false) false ≡ true → b ≡ a
+    case : (a b : Kind) → same_kind Memories a && (same_kind Memories b && same_pair (pair_of j) (pair_of l)) ≡ true → b ≡ a
     case Memories Memories h = refl
     case Memories Functions h = cc
     case Memories Tables h = cc
@@ -191,7 +190,7 @@ same_memory_kind j (Some l) h = (l, refl, case (kind_of_import j.desc) (kind_of_
 stays_same : (ps : List Part) (j : Import) (t : Site) → stays_as ps j t ≡ true → same_memory j (import_at ps t) ≡ true
 stays_same ps j t h = case (is_outside t (end_of ps t)) (same_memory j (import_at ps t)) h
   where
-    case : (a b : Bool) → cond a b false ≡ true → b ≡ true
+    case : (a b : Bool) → a && b ≡ true → b ≡ true
     case true b h = h
     case false b h = cc
 
@@ -215,7 +214,7 @@ gather_there ps k (linking.Outside t) (j, at, is) = gathered_there ps k t (impor
 written : (ps : List Part) (k : Kind) (end : linking.End) → EndThere ps k end → IsEnd ps k (end_entry end)
 written ps k (linking.Defined e) (m, at, kind, within) = (m, at, within)
 written ps k (linking.Outside t) (j, at, kind) =
-    let (m, there, here) = some_of (module_at ps t.part) (λ m. place m.imports t.import) j at in
+    let (m, there, here) = some_of (module_at ps t.part) (λ m. slice_get m.imports t.import) j at in
     (m, there, place_within m.imports t.import j here)
 
 entry_from : (o : Option linking.End) (e : End) → option_map end_entry o ≡ Some e → (end : linking.End) × (o ≡ Some end) × (end_entry end ≡ e)
@@ -223,7 +222,7 @@ entry_from None e h = cc
 entry_from (Some end) e h = let same : end_entry end ≡ e = cc in (end, refl, same)
 
 -- the end of an import, as it is written down, is there
-pub entry_there : (ps : List Part) (p n : ℕ) (m : Module) (i : Import) (e : End) → link_fault ps ≡ None → module_at ps p ≡ Some m → place m.imports n ≡ Some i → option_map end_entry (linked_end ps (site p n)) ≡ Some e → IsEnd ps (kind_of_import i.desc) e
+pub entry_there : (ps : List Part) (p n : ℕ) (m : Module) (i : Import) (e : End) → link_fault ps ≡ None → module_at ps p ≡ Some m → slice_get m.imports n ≡ Some i → option_map end_entry (linked_end ps (site p n)) ≡ Some e → IsEnd ps (kind_of_import i.desc) e
 entry_there ps p n m i e none at here ends =
     let (linked, is, entry) = entry_from (linked_end ps (site p n)) e ends in
     let (end, first, last) = some_of (end_of ps (site p n)) (λ end. Some (gathered ps end)) linked is in

@@ -1,5 +1,5 @@
 -- The map of a part, from its lists.
-use Rattle.std.proofs.Common.{◌≡◌, ◌∙◌, sym, ap, subst, ℕ, List, length, map, Some}
+use Rattle.std.proofs.Common.{◌≡◌, ◌∙◌, sym, ap, subst, ℕ, List, length, map, Some, unwrap_or}
 use Rattle.wasm_tree.specs.declared.module.Module.{Module}
 use Rattle.wasm_tree.specs.Spaces.{funcs_of, tables_of, memories_of, globals_of}
 use Rattle.wasm_meaning.specs.World.{numbers, elems_before, datas_before}
@@ -8,7 +8,7 @@ use Rattle.wasm_meaning.specs.Values.{same_func_type}
 use Rattle.index_remap.specs.declared.remap.Remap.{Remap}
 use Rattle.merge_terms.specs.declared.parts.Part as declared
 use Rattle.merge_terms.specs.Parts.{named_modules}
-use Rattle.merge_terms.specs.Merged.{or_this, new_index, merged_types, place_of_type, map_of}
+use Rattle.merge_terms.specs.Merged.{new_index, merged_types, place_of_type, map_of}
 use Rattle.merge_join.specs.declared.kinds.Kind as kinds
 use Rattle.merge_join.specs.Words.{the_kind, space_size}
 use Rattle.merge_join.proofs.SpaceSizes.{funcs_size, tables_size, memories_size, globals_size}
@@ -26,7 +26,7 @@ built types funcs tables mems globals elems datas = record { types = types; func
 
 -- the lists that make the map of a part
 pub record AreLists (ps : List Part) (p : ℕ) (m : Module) (types funcs tables mems globals elems datas : List ℕ) : Type 0 where
-  pub types_are : types ≡ map (λ t. or_this 0 (first_place (same_func_type t) (merged_types ps) 0)) m.types
+  pub types_are : types ≡ map (λ t. unwrap_or (first_place (same_func_type t) (merged_types ps) 0) 0) m.types
   pub funcs_are : funcs ≡ map (new_index ps p Functions) (numbers 0 (space_size Functions m))
   pub tables_are : tables ≡ map (new_index ps p Tables) (numbers 0 (space_size Tables m))
   pub mems_are : mems ≡ map (new_index ps p Memories) (numbers 0 (space_size Memories m))
@@ -37,7 +37,7 @@ pub record AreLists (ps : List Part) (p : ℕ) (m : Module) (types funcs tables 
 pub map_built : (ps : List Part) (p : ℕ) (m : Module) (types funcs tables mems globals elems datas : List ℕ) → AreLists ps p m types funcs tables mems globals elems datas → built types funcs tables mems globals elems datas ≡ map_of ps p m
 unfolding map_of place_of_type
 map_built ps p m types funcs tables mems globals elems datas a =
-    let ts = map (λ t. or_this 0 (first_place (same_func_type t) (merged_types ps) 0)) m.types in
+    let ts = map (λ t. unwrap_or (first_place (same_func_type t) (merged_types ps) 0) 0) m.types in
     let fs = map (new_index ps p Functions) (numbers 0 (length (funcs_of m))) in
     let tabs = map (new_index ps p Tables) (numbers 0 (length (tables_of m))) in
     let ms = map (new_index ps p Memories) (numbers 0 (length (memories_of m))) in

@@ -1,5 +1,5 @@
 -- What a constant expression of a part becomes, by what is read through the part's imported globals.
-use Rattle.std.proofs.Common.{◌≡◌, ◌∙◌, ap, sym, subst, refl, ℕ, zero, suc, ◌+◌, ◌<◌, List, [], ◌∷◌, ◌++◌, length, Option, Some, None, Bool, true, false, cond, ◌&&◌, not, nat_lt, arith, slice_get, get_or}
+use Rattle.std.proofs.Common.{◌≡◌, ◌∙◌, ap, sym, subst, refl, ℕ, zero, suc, ◌+◌, ◌<◌, List, [], ◌∷◌, ◌++◌, length, Option, Some, None, Bool, true, false, cond, ◌&&◌, not, nat_lt, arith, slice_get, get_or, option_and_then, unwrap_or}
 use Rattle.std.specs.Option.{option_map}
 use Rattle.std.specs.List.{cons_option}
 use Rattle.std.proofs.lemmas.Bool.{ltb-true}
@@ -17,14 +17,14 @@ use Rattle.wasm_typing.specs.Typing.{only}
 use Rattle.wasm_valid.specs.Constants.{const_type}
 use Rattle.wasm_valid.specs.Validity.{IsValid}
 use Rattle.wasm_meaning.specs.Linking as linking
-use Rattle.wasm_meaning.specs.Linking.{Part, Site, Globals, place, places, then_some, kind_of_import, same_kind, has_kind, space_index, module_at, import_at, imports_of, read_of}
+use Rattle.wasm_meaning.specs.Linking.{Part, Site, Globals, places, kind_of_import, same_kind, has_kind, space_index, module_at, import_at, imports_of, read_of}
 use Rattle.index_remap.specs.Renumbered.{new_const}
 use Rattle.remap_typing.proofs.Lists.{left_true, right_true, then_there, only_true}
 use Rattle.merge_terms.specs.declared.links.Read.{Read}
 use Rattle.merge_terms.specs.Parts.{named_modules}
 use Rattle.merge_terms.specs.Faults.{link_fault}
 use Rattle.merge_terms.specs.Linked.{read_entry, when_fixed, read_at_desc, read_at}
-use Rattle.merge_terms.specs.Merged.{or_this, map_of, merged_read, merged_const}
+use Rattle.merge_terms.specs.Merged.{map_of, merged_read, merged_const}
 use Rattle.merge_validity.proofs.Lists.{is_some, place_get}
 use Rattle.merge_validity.specs.Entries.{HasEntry}
 use Rattle.merge_validity.specs.Joinable.{EachPart}
@@ -55,8 +55,8 @@ front_only (z ∷ xs) ys (suc i) x l h = front_only xs ys i x (omega (arith, l))
 record Found (is : List Import) (from x : ℕ) (g : GlobalType) : Type 0 where
   n : ℕ
   import : Import
-  at : place (places (has_kind Globals) is from) x ≡ Some (from + n)
-  there : place is n ≡ Some import
+  at : slice_get (places (has_kind Globals) is from) x ≡ Some (from + n)
+  there : slice_get is n ≡ Some import
   desc : import.desc ≡ im.Global g
   index : space_index is n Globals ≡ x
 
@@ -67,13 +67,13 @@ found (i ∷ is) from x g h = by (λ x h. found is (suc from) x g h) (global_of 
     rest : List ℕ
     rest = places (has_kind Globals) is (suc from)
 
-    on : (x y : ℕ) → (b : Bool) → has_kind Globals i ≡ b → (f : Found is (suc from) x g) → place (cond b (from ∷ rest) rest) y ≡ place rest x → cond b (suc (space_index is f.n Globals)) (space_index is f.n Globals) ≡ y → Found (i ∷ is) from y g
+    on : (x y : ℕ) → (b : Bool) → has_kind Globals i ≡ b → (f : Found is (suc from) x g) → slice_get (cond b (from ∷ rest) rest) y ≡ slice_get rest x → cond b (suc (space_index is f.n Globals)) (space_index is f.n Globals) ≡ y → Found (i ∷ is) from y g
     on x y b k f same count =
         let z : suc from + f.n ≡ from + suc f.n = omega arith in
         record {
           n = suc f.n;
           import = f.import;
-          at = ap (λ b. place (cond b (from ∷ rest) rest) y) k ∙ same ∙ f.at ∙ ap Some z;
+          at = ap (λ b. slice_get (cond b (from ∷ rest) rest) y) k ∙ same ∙ f.at ∙ ap Some z;
           there = f.there;
           desc = f.desc;
           index = ap (λ b. cond b (suc (space_index is f.n Globals)) (space_index is f.n Globals)) k ∙ count;
@@ -89,7 +89,7 @@ found (i ∷ is) from x g h = by (λ x h. found is (suc from) x g h) (global_of 
         record {
           n = 0;
           import = i;
-          at = ap (λ b. place (cond b (from ∷ rest) rest) 0) k ∙ ap Some z;
+          at = ap (λ b. slice_get (cond b (from ∷ rest) rest) 0) k ∙ ap Some z;
           there = refl;
           desc = is_global i.desc g (e ∙ h);
           index = refl;
@@ -128,11 +128,11 @@ module _ (ps : List Part) (p : ℕ) (reads : List (Option Read)) (are : AreReads
   read_is =
       let g = fixed.global in
       let s = site p import.n in
-      let at : import_at ps s ≡ Some import.import = ap (λ o. then_some o (λ m. place m.imports import.n)) typed.2 ∙ import.there in
-      ap (λ o. option_map read_entry (then_some {A = Import} {B = linking.Read} o (λ i. read_at_desc ps s i.desc))) at
+      let at : import_at ps s ≡ Some import.import = ap (λ o. option_and_then (λ m. slice_get m.imports import.n) o) typed.2 ∙ import.there in
+      ap (λ o. option_map read_entry (option_and_then {B = linking.Read} {A = Import} o (λ i. read_at_desc ps s i.desc))) at
       ∙ ap (λ d. option_map read_entry (read_at_desc ps s d)) import.desc
-      ∙ ap (λ b. option_map read_entry (when_fixed b (then_some (module_at ps p) (λ m. read_of ps p (const.Global (space_index m.imports import.n Globals)))))) fixed.fixed
-      ∙ ap (λ o. option_map read_entry (then_some {A = Module} {B = linking.Read} o (λ m. read_of ps p (const.Global (space_index m.imports import.n Globals))))) typed.2
+      ∙ ap (λ b. option_map read_entry (when_fixed b (option_and_then (λ m. read_of ps p (const.Global (space_index m.imports import.n Globals))) (module_at ps p)))) fixed.fixed
+      ∙ ap (λ o. option_map read_entry (option_and_then {B = linking.Read} {A = Module} o (λ m. read_of ps p (const.Global (space_index m.imports import.n Globals))))) typed.2
       ∙ ap (λ x. option_map read_entry (read_of ps p (const.Global x))) import.index
 
   there_is : slice_get reads x ≡ Some (option_map read_entry (read_of ps p (const.Global x)))
@@ -164,12 +164,12 @@ no_read (Some q) h = cc
 pub becomes_read : (ps : List Part) (p : ℕ) (e : ConstExpr) (r : Read) (m : Module) → option_map read_entry (read_of ps p e) ≡ Some r → module_at ps r.part ≡ Some m → new_const (map_of ps r.part m) r.expr ≡ merged_const ps p e
 unfolding merged_const
 becomes_read ps p e r m h at =
-    sym (ap (λ o. or_this e (then_some {A = linking.Read} {B = ConstExpr} o (merged_read ps))) (read_back (read_of ps p e) r h)
-    ∙ ap (λ o. or_this e (then_some {A = Module} {B = ConstExpr} o (λ m. Some (new_const (map_of ps r.part m) r.expr)))) at)
+    sym (ap (λ o. unwrap_or (option_and_then {B = ConstExpr} {A = linking.Read} o (merged_read ps)) e) (read_back (read_of ps p e) r h)
+    ∙ ap (λ o. unwrap_or (option_and_then {B = ConstExpr} {A = Module} o (λ m. Some (new_const (map_of ps r.part m) r.expr))) e) at)
 
 pub stays_expr : (ps : List Part) (p : ℕ) (e : ConstExpr) → option_map read_entry (read_of ps p e) ≡ None → e ≡ merged_const ps p e
 unfolding merged_const
-stays_expr ps p e h = sym (ap (λ o. or_this e (then_some {A = linking.Read} {B = ConstExpr} o (merged_read ps))) (no_read (read_of ps p e) h))
+stays_expr ps p e h = sym (ap (λ o. unwrap_or (option_and_then {B = ConstExpr} {A = linking.Read} o (merged_read ps)) e) (no_read (read_of ps p e) h))
 
 pub becomes_new : (ps : List Part) (p : ℕ) (e : ConstExpr) (m : Module) → ((x : ℕ) → e ≡ const.Global x → ⊥) → module_at ps p ≡ Some m → new_const (map_of ps p m) e ≡ merged_const ps p e
 becomes_new ps p (const.I32 v) m not at = becomes_read ps p (const.I32 v) (record { part = p; expr = const.I32 v }) m refl at

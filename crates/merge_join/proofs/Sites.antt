@@ -1,5 +1,5 @@
 -- The imports of all parts, one after the other, and those of a kind that stay.
-use Rattle.std.proofs.Common.{◌≡◌, ◌∙◌, sym, ap, refl, inl, inr, ℕ, zero, suc, ◌+◌, ◌-◌, ◌<◌, ◌≤◌, List, [], ◌∷◌, ◌++◌, length, take, arith, slice_get, Bool, true, false, cond, Some, None, append_assoc}
+use Rattle.std.proofs.Common.{◌≡◌, ◌∙◌, sym, ap, refl, inl, inr, ℕ, zero, suc, ◌+◌, ◌-◌, ◌<◌, ◌≤◌, List, [], ◌∷◌, ◌++◌, length, take, arith, slice_get, Bool, true, false, cond, Some, None, append_assoc, ◌&&◌}
 use Rattle.std.specs.Prelude.{filter}
 use Rattle.std.proofs.lemmas.Bool.{cases_Bool}
 use Rattle.std.proofs.lemmas.Bool.Decides.{nat_tests}
@@ -163,11 +163,11 @@ none_picked s q (x ∷ xs) n h = case (q x) refl (none_picked s q xs n h) (none_
       | inr apart ↦ ap (λ (b : Bool). cond b (Some n) (first_place (same_site s) (filter q xs) (suc n))) apart ∙ more
     ]
 
-filter_join : (p q : Site → Bool) (xs : List Site) → filter q (filter p xs) ≡ filter (λ s. cond (p s) (q s) false) xs
+filter_join : (p q : Site → Bool) (xs : List Site) → filter q (filter p xs) ≡ filter (λ s. p s && q s) xs
 filter_join p q [] = refl
 filter_join p q (x ∷ xs) = case (p x) (filter_join p q xs)
   where
-    case : (a : Bool) → filter q (filter p xs) ≡ filter (λ s. cond (p s) (q s) false) xs → filter q (cond a (x ∷ filter p xs) (filter p xs)) ≡ cond (cond a (q x) false) (x ∷ filter (λ s. cond (p s) (q s) false) xs) (filter (λ s. cond (p s) (q s) false) xs)
+    case : (a : Bool) → filter q (filter p xs) ≡ filter (λ s. p s && q s) xs → filter q (cond a (x ∷ filter p xs) (filter p xs)) ≡ cond (a && q x) (x ∷ filter (λ s. p s && q s) xs) (filter (λ s. p s && q s) xs)
     case true rest = ap (λ ys. cond (q x) (x ∷ ys) ys) rest
     case false rest = rest
 

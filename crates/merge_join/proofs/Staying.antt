@@ -1,5 +1,5 @@
 -- The imports that stay, one after the other.
-use Rattle.std.proofs.Common.{◌≡◌, ◌∙◌, sym, ap, refl, ℕ, zero, suc, ◌+◌, ◌<◌, List, [], ◌∷◌, ◌++◌, length, Option, Some, None, Bool, true, false, cond, arith, slice_get, get_or, append_assoc, append-nil}
+use Rattle.std.proofs.Common.{◌≡◌, ◌∙◌, sym, ap, refl, ℕ, zero, suc, ◌+◌, ◌<◌, List, [], ◌∷◌, ◌++◌, length, Option, Some, None, Bool, true, false, cond, arith, slice_get, get_or, append_assoc, append-nil, option_and_then}
 use Rattle.std.specs.List.{filter, filter_map, cons_option}
 use Rattle.std.proofs.lemmas.List.Elements.{filter-append, filter_map-append}
 use Rattle.wasm_tree.specs.declared.types.Limits.{Limits}
@@ -8,7 +8,7 @@ use Rattle.wasm_tree.specs.declared.module.ImportDesc.{ImportDesc}
 use Rattle.wasm_tree.specs.declared.module.ImportDesc.TheVariants as im
 use Rattle.wasm_tree.specs.declared.module.Module.{Module}
 use Rattle.wasm_meaning.specs.State.{Text}
-use Rattle.wasm_meaning.specs.Linking.{Part, Site, place, then_some, module_at, import_at, limits_of, met_limits, sites_in, sites_from}
+use Rattle.wasm_meaning.specs.Linking.{Part, Site, module_at, import_at, limits_of, met_limits, sites_in, sites_from}
 use Rattle.index_remap.specs.declared.remap.Remap.{Remap}
 use Rattle.merge_terms.specs.Faults.{stays, kept_limits}
 use Rattle.merge_terms.specs.Merged.{by_part_from, by_part, map_of, merged_desc, merged_import, staying}
@@ -19,23 +19,23 @@ use Rattle.merge_join.proofs.Holding.{read_there}
 
 -- ---- one import ----
 
-desc_is : (ps : List Part) (s : Site) (m : Module) (d : ImportDesc) → kept_desc (map_of ps s.part m) (then_some (limits_of d) (λ l. Some (met_limits ps s))) d ≡ merged_desc ps s m d
+desc_is : (ps : List Part) (s : Site) (m : Module) (d : ImportDesc) → kept_desc (map_of ps s.part m) (option_and_then (λ l. Some (met_limits ps s)) (limits_of d)) d ≡ merged_desc ps s m d
 desc_is ps s m (im.Func ty) = refl
 desc_is ps s m (im.Table t) = refl
 desc_is ps s m (im.Memory l) = refl
 desc_is ps s m (im.Global t) = refl
 
-kept_is : (ps : List Part) (s : Site) (i : Import) → stays ps s ≡ true → import_at ps s ≡ Some i → kept_limits ps s ≡ then_some (limits_of i.desc) (λ l. Some (met_limits ps s))
+kept_is : (ps : List Part) (s : Site) (i : Import) → stays ps s ≡ true → import_at ps s ≡ Some i → kept_limits ps s ≡ option_and_then (λ l. Some (met_limits ps s)) (limits_of i.desc)
 unfolding kept_limits
 kept_is ps s i yes-stays at =
-    ap (λ b. cond b (then_some (import_at ps s) (λ i. then_some {A = Limits} {B = Limits} (limits_of i.desc) (λ l. Some (met_limits ps s)))) None) yes-stays
-    ∙ ap (λ o. then_some {A = Import} {B = Limits} o (λ i. then_some (limits_of i.desc) (λ l. Some (met_limits ps s)))) at
+    ap (λ b. cond b (option_and_then (λ i. option_and_then {B = Limits} {A = Limits} (limits_of i.desc) (λ l. Some (met_limits ps s))) (import_at ps s)) None) yes-stays
+    ∙ ap (λ o. option_and_then {B = Limits} {A = Import} o (λ i. option_and_then (λ l. Some (met_limits ps s)) (limits_of i.desc))) at
 
 import_is : (ps : List Part) (s : Site) (m : Module) (i : Import) → module_at ps s.part ≡ Some m → import_at ps s ≡ Some i → merged_import ps s ≡ Some (record i { desc = merged_desc ps s m i.desc })
 unfolding merged_import
 import_is ps s m i at there =
-    ap (λ o. then_some {A = Module} {B = Import} o (λ m. then_some (import_at ps s) (λ i. Some (record i { desc = merged_desc ps s m i.desc })))) at
-    ∙ ap (λ o. then_some {A = Import} {B = Import} o (λ i. Some (record i { desc = merged_desc ps s m i.desc }))) there
+    ap (λ o. option_and_then {B = Import} {A = Module} o (λ m. option_and_then (λ i. Some (record i { desc = merged_desc ps s m i.desc })) (import_at ps s))) at
+    ∙ ap (λ o. option_and_then {B = Import} {A = Import} o (λ i. Some (record i { desc = merged_desc ps s m i.desc }))) there
 
 abbrev import_of : Text → Text → ImportDesc → Import
 import_of a b d = record { «module» = a; field = b; desc = d }
@@ -46,7 +46,7 @@ made i a b d e p q r = sym (ap (λ a. Some (import_of a b d)) p ∙ ap (λ b. So
 pub import_made : (ps : List Part) (s : Site) (m : Module) (r : Remap) (kept : Option Limits) (is : List Import) (i : Import) (a b : Text) (d : ImportDesc) → stays ps s ≡ true → module_at ps s.part ≡ Some m → is ≡ m.imports → s.import < length is → i ≡ get_or is s.import i →
     r ≡ map_of ps s.part m → kept ≡ kept_limits ps s → a ≡ i.«module» → b ≡ i.field → d ≡ kept_desc r kept i.desc → merged_import ps s ≡ Some (record { «module» = a; field = b; desc = d })
 import_made ps s m r kept is i a b d stay at same lt here map limits p q e =
-    let there : import_at ps s ≡ Some i = ap (λ o. then_some o (λ m. place m.imports s.import)) at ∙ place_get m.imports s.import ∙ ap (λ l. slice_get l s.import) (sym same) ∙ read_there is s.import i lt ∙ ap Some (sym here) in
+    let there : import_at ps s ≡ Some i = ap (λ o. option_and_then (λ m. slice_get m.imports s.import) o) at ∙ place_get m.imports s.import ∙ ap (λ l. slice_get l s.import) (sym same) ∙ read_there is s.import i lt ∙ ap Some (sym here) in
     let desc : d ≡ merged_desc ps s m i.desc =
     e ∙ ap (λ r. kept_desc r kept i.desc) map ∙ ap (λ k. kept_desc (map_of ps s.part m) k i.desc) (limits ∙ kept_is ps s i stay there) ∙ desc_is ps s m i.desc in
     import_is ps s m i at there ∙ made i a b d (merged_desc ps s m i.desc) p q desc

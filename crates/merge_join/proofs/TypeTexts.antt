@@ -1,5 +1,5 @@
 -- Two function types are equal exactly where their texts are.
-use Rattle.std.proofs.Common.{◌≡◌, ◌∙◌, sym, ap, refl, List, [], ◌∷◌, ◌++◌, map, Bool, true, false, cond, arith}
+use Rattle.std.proofs.Common.{◌≡◌, ◌∙◌, sym, ap, refl, List, [], ◌∷◌, ◌++◌, map, Bool, true, false, cond, arith, ◌&&◌}
 use Rattle.std.specs.Str.{bytes_eq}
 use Rattle.std.proofs.lemmas.Slice.Eq.{bytes_eq-Decides}
 use Rattle.wasm_tree.specs.declared.types.RefType.TheVariants as reft
@@ -86,7 +86,7 @@ type_self valt.I64 = refl
 type_self (valt.Ref reft.Func) = refl
 type_self (valt.Ref reft.Extern) = refl
 
-both_true : (a b : Bool) → cond a b false ≡ true → (a ≡ true) × (b ≡ true)
+both_true : (a b : Bool) → a && b ≡ true → (a ≡ true) × (b ≡ true)
 both_true true true e = (refl, refl)
 both_true true false e = cc
 both_true false b e = cc
@@ -102,7 +102,7 @@ types_same (s ∷ ss) (t ∷ ts) e =
 
 types_self : (ss : List ValType) → same_types ss ss ≡ true
 types_self [] = refl
-types_self (s ∷ ss) = ap (λ (b : Bool). cond b (same_types ss ss) false) (type_self s) ∙ types_self ss
+types_self (s ∷ ss) = ap (λ (b : Bool). b && same_types ss ss) (type_self s) ∙ types_self ss
 
 pub funcs_same : (t u : FuncType) → same_func_type t u ≡ true → t ≡ u
 funcs_same t u e =
@@ -110,7 +110,7 @@ funcs_same t u e =
     ap (λ ps. typed ps t.results) (types_same t.params u.params both.0) ∙ ap (typed u.params) (types_same t.results u.results both.1)
 
 pub func_self : (t : FuncType) → same_func_type t t ≡ true
-func_self t = ap (λ (b : Bool). cond b (same_types t.results t.results) false) (types_self t.params) ∙ types_self t.results
+func_self t = ap (λ (b : Bool). b && same_types t.results t.results) (types_self t.params) ∙ types_self t.results
 
 equal_tests : (a b : Bool) → (a ≡ true → b ≡ true) → (b ≡ true → a ≡ true) → a ≡ b
 equal_tests false false f g = refl

@@ -1,5 +1,5 @@
 -- The merged index space of a kind, as it is written down.
-use Rattle.std.specs.Prelude.{◌≡◌, ℕ, ◌+◌, List, ◌++◌, filter, length, Option, Bool, false, cond, take}
+use Rattle.std.specs.Prelude.{◌≡◌, ℕ, ◌+◌, List, ◌++◌, filter, length, Option, Bool, false, cond, take, ◌&&◌}
 use Rattle.wasm_tree.specs.declared.module.Module.{Module}
 use Rattle.wasm_meaning.specs.World.{defined_before}
 use Rattle.wasm_meaning.specs.Linking.{Part, Site, Kind, first_place, same_site, sites_in, sites_from}
@@ -27,7 +27,7 @@ pub record IsSpace (ps : List Part) (k : Kind) (staying : List (List (Option ℕ
 
 -- whether an import stays and is of a kind
 abbrev pub picked : List Part → Kind → Site → Bool
-picked ps k s = cond (stays ps s) (imports_kind ps k s) false
+picked ps k s = stays ps s && imports_kind ps k s
 
 -- all imports before the one at a place
 abbrev pub sites_before : List Part → (part import : ℕ) → List Site

@@ -1,5 +1,5 @@
 -- What the calls of this crate say of parts, links and index spaces.
-use Rattle.std.specs.Prelude.{◌≡◌, ℕ, ◌+◌, ◌-◌, ◌<◌, List, ◌∷◌, [], length, Some, None}
+use Rattle.std.specs.Prelude.{◌≡◌, ℕ, ◌+◌, ◌-◌, ◌<◌, List, ◌∷◌, [], length, Some, None, unwrap_or}
 use Rattle.wasm_tree.specs.declared.module.Module.{Module}
 use Rattle.wasm_tree.specs.Bounds.{IsBounded}
 use Rattle.wasm_valid.specs.Validity.{IsValid}
@@ -14,7 +14,7 @@ use Rattle.merge_terms.specs.declared.links.Links.{Links}
 use Rattle.merge_terms.specs.Parts.{named_modules}
 use Rattle.merge_terms.specs.Faults.{link_fault}
 use Rattle.merge_terms.specs.Linked.{AreLinks}
-use Rattle.merge_terms.specs.Merged.{or_this, staying_of, imported_count, by_part, map_of}
+use Rattle.merge_terms.specs.Merged.{staying_of, imported_count, by_part, map_of}
 use Rattle.merge_terms.specs.Joined.{FewInAll}
 use Rattle.merge_join.specs.declared.joining.Joining.{Joining}
 use Rattle.merge_join.specs.declared.kinds.Kind as declared
@@ -44,7 +44,7 @@ IsEnd ps k (Outside p n) = IsSite ps p n
 -- the place in the merged index space of an end that is written down
 unfoldable pub place_at : List linking.Part → Kind → End → ℕ
 place_at ps k (Defined p i) = length (staying_of ps k) + (defined_before k ps p + (i - imported_count ps p k))
-place_at ps k (Outside p n) = or_this 0 (first_place (same_site (site p n)) (staying_of ps k) 0)
+place_at ps k (Outside p n) = unwrap_or (first_place (same_site (site p n)) (staying_of ps k) 0) 0
 
 -- each part's module is valid
 abbrev pub PartsHold : List linking.Part → Type 0

@@ -1,13 +1,13 @@
 // The maps from the indices of each part to those of the merged module.
 
-ghost use Rattle.std.specs.Prelude.{◌≡◌, ◌+◌, ◌<◌, ◌≤◌, ◌^◌, length, map as each, Some, IfOk};
+ghost use Rattle.std.specs.Prelude.{◌≡◌, ◌+◌, ◌<◌, ◌≤◌, ◌^◌, length, map as each, Some, IfOk, unwrap_or};
 ghost use Rattle.wasm_tree.specs.declared.module.Module.{Module as Tree};
 ghost use Rattle.wasm_meaning.specs.Linking.{module_at, imports_of, first_place};
 ghost use Rattle.wasm_meaning.specs.Values.{same_func_type};
 ghost use Rattle.wasm_meaning.specs.World as world;
 ghost use Rattle.merge_terms.specs.Parts.{named_modules};
 ghost use Rattle.merge_terms.specs.Merged as merged;
-ghost use Rattle.merge_terms.specs.Merged.{or_this, new_index, merged_types};
+ghost use Rattle.merge_terms.specs.Merged.{new_index, merged_types};
 ghost use Rattle.merge_join.specs.Words.{the_kind, space_size, AreLinked, AreMaps};
 ghost use Rattle.merge_join.specs.AllSpaces.{AreSpaces};
 
@@ -35,7 +35,7 @@ fn numbers(alloc: Global, first: u32, count: usize) -> Result<Items<u32>, NoMemo
 
 // The new places of a part's types.
 fn type_map(alloc: Global, types: &[FuncType], all: &Types) -> Result<Items<u32>, NoMemory>
-    ensures { IfOk result (λ places. places ≡ each (λ t. or_this 0 (first_place (same_func_type t) all.now.list 0)) types.now) }
+    ensures { IfOk result (λ places. places ≡ each (λ t. unwrap_or (first_place (same_func_type t) all.now.list 0) 0) types.now) }
 {
     let mut map = Items::new(alloc);
     for ty in types {

@@ -1,13 +1,13 @@
 // The distinct types of all parts, in order of first appearance.
 
-ghost use Rattle.std.specs.Prelude.{◌≡◌, ℕ, List, Some, cond, ◌<◌, ◌^◌, [], ◌+◌, length, string_bytes, IfOk, OnOk};
+ghost use Rattle.std.specs.Prelude.{◌≡◌, ℕ, List, Some, cond, ◌<◌, ◌^◌, [], ◌+◌, length, string_bytes, IfOk, OnOk, unwrap_or};
 ghost use Rattle.std.specs.List.{flat_map};
 ghost use Rattle.std.specs.BTreeMap.{get_by_text};
 ghost use Rattle.std.specs.Str.{bytes_eq};
 ghost use Rattle.wasm_meaning.specs.Linking.{first_place};
 ghost use Rattle.wasm_meaning.specs.Values.{same_func_type};
 ghost use Rattle.merge_terms.specs.Parts.{named_modules};
-ghost use Rattle.merge_terms.specs.Merged.{or_this, with_type, with_types, merged_types};
+ghost use Rattle.merge_terms.specs.Merged.{with_type, with_types, merged_types};
 ghost use Rattle.merge_join.specs.Texts.{text_of_type};
 ghost use Rattle.merge_join.specs.Types.{ArePlaces};
 
@@ -30,7 +30,7 @@ pub(crate) struct Types {
 impl Types {
     /// The place of a type, and 0 where it is not there.
     pub(crate) fn place(&self, alloc: Global, ty: &FuncType) -> Result<u32, NoMemory>
-        ensures { IfOk result (λ place. place ≡ or_this 0 (first_place (same_func_type ty.now) self.now.list 0)) }
+        ensures { IfOk result (λ place. place ≡ unwrap_or (first_place (same_func_type ty.now) self.now.list 0) 0) }
     {
         let text = text_of(alloc, ty)?;
         Ok(self.places.get(text.as_str()).copied().unwrap_or(0))

@@ -1,11 +1,11 @@
 -- Counts of memories.
-use Rattle.std.proofs.Common.{◌≡◌, ◌∙◌, sym, ap, refl, ℕ, zero, suc, ◌+◌, ◌<◌, ◌≤◌, List, [], ◌∷◌, Option, Some, None, Bool, true, false, cond, map, length, drop, get_or, nat_lt, arith}
+use Rattle.std.proofs.Common.{◌≡◌, ◌∙◌, sym, ap, refl, ℕ, zero, suc, ◌+◌, ◌<◌, ◌≤◌, List, [], ◌∷◌, Option, Some, None, Bool, true, false, cond, map, length, drop, get_or, nat_lt, arith, option_and_then, unwrap_or, ◌&&◌}
 use Rattle.std.proofs.lemmas.List.{drop_more}
 use Rattle.std.proofs.lemmas.Bool.Decides.{nat_tests}
 use Rattle.wasm_tree.specs.declared.module.Import.{Import}
 use Rattle.wasm_tree.specs.declared.module.Module.{Module}
 use Rattle.wasm_meaning.specs.Linking as linking
-use Rattle.wasm_meaning.specs.World.{defined_before, defined_count, or_false}
+use Rattle.wasm_meaning.specs.World.{defined_before, defined_count}
 use Rattle.merge_terms.specs.declared.parts.Part.{Part}
 use Rattle.merge_terms.specs.Faults as faults
 use Rattle.merge_terms.specs.Parts.{named_modules}
@@ -42,13 +42,13 @@ count_map test g (x ∷ xs) = ap (λ n. cond (test (g x)) (suc n) n) (count_map 
 
 -- a staying memory, by its end
 pub staying_here : (ps : List Part) (s : Site) (e : linking.End) → linked_at ps s ≡ Some e
-    → cond (linking.is_outside (the_site s) (Some e)) (is_memory_at (linking.import_at (named_modules ps) (the_site s))) false ≡ faults.is_staying_memory (named_modules ps) (the_site s)
+    → linking.is_outside (the_site s) (Some e) && is_memory_at (linking.import_at (named_modules ps) (the_site s)) ≡ faults.is_staying_memory (named_modules ps) (the_site s)
 unfolding linked_at faults.stays
 staying_here ps s e h =
-    ap (λ o. cond (linking.is_outside (the_site s) o) (is_memory_at (linking.import_at (named_modules ps) (the_site s))) false) (sym h)
-    ∙ ap (λ b. cond (linking.is_outside (the_site s) (linking.linked_end (named_modules ps) (the_site s))) b false) (by (linking.import_at (named_modules ps) (the_site s)))
+    ap (λ o. linking.is_outside (the_site s) o && is_memory_at (linking.import_at (named_modules ps) (the_site s))) (sym h)
+    ∙ ap (λ b. linking.is_outside (the_site s) (linking.linked_end (named_modules ps) (the_site s)) && b) (by (linking.import_at (named_modules ps) (the_site s)))
   where
-    by : (o : Option Import) → is_memory_at o ≡ or_false (linking.then_some o (λ i. Some (linking.has_kind linking.Memories i)))
+    by : (o : Option Import) → is_memory_at o ≡ unwrap_or (option_and_then (λ i. Some (linking.has_kind linking.Memories i)) o) false
     by None = refl
     by (Some i) = refl
 

@@ -17,7 +17,7 @@ use Rattle.path_ends.proofs.Lists.{got_last, got_before}
 use Rattle.merge_link.specs.declared.joining.Ending.{Ending}
 use Rattle.merge_link.proofs.Places.{same_text_is, same_text_back}
 
-cond_false : (b : Bool) → cond b false false ≡ false
+cond_false : (b : Bool) → b && false ≡ false
 cond_false true = refl
 cond_false false = refl
 
@@ -30,7 +30,7 @@ not_same i is_no (Some j) = rw is_no refl
 alone : (lp : List linking.Part) (i : Import) (ss : List linking.Site) (other : linking.Site) → linking.has_kind linking.Memories i ≡ false → linking.first_site (linking.stays_as lp i) ss other ≡ other
 alone lp i [] other is_no = refl
 alone lp i (s ∷ ss) other is_no =
-    let here : linking.stays_as lp i s ≡ false = ap (λ b. cond (linking.is_outside s (linking.end_of lp s)) b false) (not_same i is_no (linking.import_at lp s)) ∙ cond_false (linking.is_outside s (linking.end_of lp s)) in
+    let here : linking.stays_as lp i s ≡ false = ap (λ b. linking.is_outside s (linking.end_of lp s) && b) (not_same i is_no (linking.import_at lp s)) ∙ cond_false (linking.is_outside s (linking.end_of lp s)) in
     ap (λ b. cond b s (linking.first_site (linking.stays_as lp i) ss other)) here ∙ alone lp i ss other is_no
 
 pub gathered_other : (ps : List Part) (s : linking.Site) (i : Import) → linking.import_at (named_modules ps) s ≡ Some i → linking.has_kind linking.Memories i ≡ false
@@ -54,7 +54,7 @@ same_first ps i [] other is_yes = refl
 same_first ps i (s ∷ ss) other is_yes =
     let lp = named_modules ps in
     let here : linking.stays_as lp i (the_site s) ≡ is_memory_of ps (linking.pair_of i) s
-    = ap (λ b. cond (linking.is_outside (the_site s) (linking.end_of lp (the_site s))) b false) (same_one i is_yes (linking.import_at lp (the_site s))) in
+    = ap (λ b. linking.is_outside (the_site s) (linking.end_of lp (the_site s)) && b) (same_one i is_yes (linking.import_at lp (the_site s))) in
     ap (λ b. cond b (the_site s) (linking.first_site (linking.stays_as lp i) (map the_site ss) other)) here ∙ by (is_memory_of ps (linking.pair_of i) s) (same_first ps i ss other is_yes)
   where
     by : (b : Bool) → linking.first_site (linking.stays_as (named_modules ps) i) (map the_site ss) other ≡ chosen other (first_memory ps (linking.pair_of i) ss)
@@ -82,7 +82,7 @@ pair_tested a b c d =
     ∙ ap (λ x. linking.same_text c a && x) (is_eq-slice_cmp b d ∙ sym (same_text_back d b ∙ same_text_is b d))
     ∙ by (linking.same_text c a) (linking.same_text d b)
   where
-    by : (x y : Bool) → x && y ≡ cond x y false
+    by : (x y : Bool) → x && y ≡ x && y
     by true y = refl
     by false y = refl
 
@@ -90,11 +90,11 @@ pair_tested a b c d =
 
 -- an import that is no staying memory is none of any pair
 pub passed : (ps : List Part) (pair : Pair) (s : Site) (e : linking.End) → linking.end_of (named_modules ps) (the_site s) ≡ Some e
-    → cond (linking.is_outside (the_site s) (Some e)) (is_memory_at (linking.import_at (named_modules ps) (the_site s))) false ≡ false → is_memory_of ps pair s ≡ false
+    → linking.is_outside (the_site s) (Some e) && is_memory_at (linking.import_at (named_modules ps) (the_site s)) ≡ false → is_memory_of ps pair s ≡ false
 unfolding is_memory_of
 passed ps pair s e end is_no = rw end (by (linking.is_outside (the_site s) (Some e)) (linking.import_at (named_modules ps) (the_site s)) is_no)
   where
-    by : (b : Bool) (o : Option Import) → cond b (is_memory_at o) false ≡ false → cond b (is_of_pair pair o) false ≡ false
+    by : (b : Bool) (o : Option Import) → b && is_memory_at o ≡ false → b && is_of_pair pair o ≡ false
     by true None h = refl
     by true (Some i) h = rw h refl
     by false o h = refl

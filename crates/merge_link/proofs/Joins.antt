@@ -1,5 +1,5 @@
 -- What is looked up in tables is what linking by name looks up in parts.
-use Rattle.std.proofs.Common.{◌≡◌, ◌∙◌, sym, ap, refl, ℕ, zero, suc, ◌+◌, ◌<◌, ◌≤◌, List, [], ◌∷◌, Option, Some, None, Bool, true, false, cond, length, get_or, slice_get, arith}
+use Rattle.std.proofs.Common.{◌≡◌, ◌∙◌, sym, ap, refl, ℕ, zero, suc, ◌+◌, ◌<◌, ◌≤◌, List, [], ◌∷◌, Option, Some, None, Bool, true, false, cond, length, get_or, slice_get, arith, option_and_then}
 use Rattle.std.specs.Option.{option_map}
 use Rattle.std.specs.BTreeMap.{get_by}
 use Rattle.std.specs.Ordering.{nat_cmp}
@@ -60,34 +60,34 @@ joined_found lp ts i p t o are source at found =
     let look : linking.export_named x.tree.exports i.field ≡ o = sym (x.table.exports i.field) ∙ found in
     rw (source, x.at, look) (by o)
   where
-    by : (o : Option ExportDesc) → linking.then_some o (λ d. let e : linking.Entity = record { part = p; what = d } in Some e) ≡ option_map (λ d. let e : linking.Entity = record { part = p; what = d } in e) o
+    by : (o : Option ExportDesc) → option_and_then (λ d. let e : linking.Entity = record { part = p; what = d } in Some e) o ≡ option_map (λ d. let e : linking.Entity = record { part = p; what = d } in e) o
     by None = refl
     by (Some d) = refl
 
-pub placed : {A : Type 0} (test : A → Bool) (xs : List A) (k i n : ℕ) → linking.place (linking.places test xs k) i ≡ Some n → n < k + length xs
+pub placed : {A : Type 0} (test : A → Bool) (xs : List A) (k i n : ℕ) → slice_get (linking.places test xs k) i ≡ Some n → n < k + length xs
 placed test [] k i n h = cc
 placed test (x ∷ xs) k i n h = by (placed test xs (suc k)) (test x) i h
   where
-    by : ((i n : ℕ) → linking.place (linking.places test xs (suc k)) i ≡ Some n → n < suc k + length xs) → (b : Bool) (i : ℕ)
-        → linking.place (cond b (k ∷ linking.places test xs (suc k)) (linking.places test xs (suc k))) i ≡ Some n → n < k + suc (length xs)
+    by : ((i n : ℕ) → slice_get (linking.places test xs (suc k)) i ≡ Some n → n < suc k + length xs) → (b : Bool) (i : ℕ)
+        → slice_get (cond b (k ∷ linking.places test xs (suc k)) (linking.places test xs (suc k))) i ≡ Some n → n < k + suc (length xs)
     by more true zero e = let same : k ≡ n = cc in omega (arith, same)
     by more true (suc i) e = omega (arith, more i n e)
     by more false i e = omega (arith, more i n e)
 
 pub imported_none : (lp : List linking.Part) (ts : List Table) (e : linking.Entity) (t : Table) → AreTables lp ts → slice_get ts e.part ≡ Some t
-    → linking.place (places_of t (linking.kind_of_export e.what)) (linking.index_of_export e.what) ≡ None → linking.imported_as lp e ≡ None
+    → slice_get (places_of t (linking.kind_of_export e.what)) (linking.index_of_export e.what) ≡ None → linking.imported_as lp e ≡ None
 imported_none lp ts e t are at found =
     let x = table_at lp ts e.part t are at in
-    let look : linking.place (linking.imports_of (linking.kind_of_export e.what) x.tree) (linking.index_of_export e.what) ≡ None
-    = ap (λ (ns : List ℕ). linking.place ns (linking.index_of_export e.what)) (sym (x.table.places (linking.kind_of_export e.what))) ∙ found in
+    let look : slice_get (linking.imports_of (linking.kind_of_export e.what) x.tree) (linking.index_of_export e.what) ≡ None
+    = ap (λ (ns : List ℕ). slice_get ns (linking.index_of_export e.what)) (sym (x.table.places (linking.kind_of_export e.what))) ∙ found in
     rw (x.at, look) refl
 
 pub imported_some : (lp : List linking.Part) (ts : List Table) (e : linking.Entity) (t : Table) (n : ℕ) → AreTables lp ts → slice_get ts e.part ≡ Some t
-    → linking.place (places_of t (linking.kind_of_export e.what)) (linking.index_of_export e.what) ≡ Some n → IsImportedAs lp e (Some (t.first_import + n))
+    → slice_get (places_of t (linking.kind_of_export e.what)) (linking.index_of_export e.what) ≡ Some n → IsImportedAs lp e (Some (t.first_import + n))
 imported_some lp ts e t n are at found =
     let x = table_at lp ts e.part t are at in
-    let look : linking.place (linking.imports_of (linking.kind_of_export e.what) x.tree) (linking.index_of_export e.what) ≡ Some n
-    = ap (λ (ns : List ℕ). linking.place ns (linking.index_of_export e.what)) (sym (x.table.places (linking.kind_of_export e.what))) ∙ found in
+    let look : slice_get (linking.imports_of (linking.kind_of_export e.what) x.tree) (linking.index_of_export e.what) ≡ Some n
+    = ap (λ (ns : List ℕ). slice_get ns (linking.index_of_export e.what)) (sym (x.table.places (linking.kind_of_export e.what))) ∙ found in
     let within = placed (linking.has_kind (linking.kind_of_export e.what)) x.tree.imports 0 (linking.index_of_export e.what) n look in
     let s : linking.Site = record { part = e.part; import = n } in
     let z : 0 + e.part ≡ e.part = omega arith in

@@ -1,5 +1,5 @@
 -- Met limits, one import more at a time, from the last to the first.
-use Rattle.std.proofs.Common.{◌≡◌, ◌≢◌, ◌⊎◌, ◌∙◌, sym, ap, refl, subst, inl, inr, ℕ, zero, suc, ◌+◌, ◌<◌, List, [], ◌∷◌, Option, Some, None, Bool, true, false, cond, map, max, length, set, replicate, slice_get, nat_eq, arith}
+use Rattle.std.proofs.Common.{◌≡◌, ◌≢◌, ◌⊎◌, ◌∙◌, sym, ap, refl, subst, inl, inr, ℕ, zero, suc, ◌+◌, ◌<◌, List, [], ◌∷◌, Option, Some, None, Bool, true, false, cond, map, max, length, set, replicate, slice_get, nat_eq, arith, option_and_then}
 use Rattle.std.specs.Option.{option_map}
 use Rattle.std.proofs.lemmas.Bool.{cases_eq}
 use Rattle.std.proofs.lemmas.Bool.Decides.{nat_tests}
@@ -37,7 +37,7 @@ module_within (x ∷ lp) (suc p) m h = omega (arith, module_within lp p m h)
 pub part_there : (lp : List linking.Part) (s : linking.Site) (i : Import) → linking.import_at lp s ≡ Some i → (m : Module) × (linking.module_at lp s.part ≡ Some m) × (s.import < length m.imports)
 part_there lp s i h = by (linking.module_at lp s.part) refl h
   where
-    by : (o : Option Module) → linking.module_at lp s.part ≡ o → linking.then_some o (λ m. linking.place m.imports s.import) ≡ Some i → (m : Module) × (linking.module_at lp s.part ≡ Some m) × (s.import < length m.imports)
+    by : (o : Option Module) → linking.module_at lp s.part ≡ o → option_and_then (λ m. slice_get m.imports s.import) o ≡ Some i → (m : Module) × (linking.module_at lp s.part ≡ Some m) × (s.import < length m.imports)
     by None at k = absurd (cc)
     by (Some m) at k = (m, at, slice_get_within m.imports s.import i (sym (place_is m.imports s.import) ∙ k))
 
@@ -154,11 +154,11 @@ pub kept_here : (ps : List Part) (s : Site) (e : linking.End) (met : Limits) →
 unfolding linked_at met_at faults.kept_limits faults.stays
 kept_here ps s e met h is =
     let lp = named_modules ps in
-    ap (λ o. cond (linking.is_outside (the_site s) o) (linking.then_some (asked_limits lp (the_site s)) (λ l. Some met)) None) (sym h)
-    ∙ ap (λ m. cond (linking.is_outside (the_site s) (linking.linked_end lp (the_site s))) (linking.then_some (asked_limits lp (the_site s)) (λ l. Some m)) None) is
+    ap (λ o. cond (linking.is_outside (the_site s) o) (option_and_then (λ l. Some met) (asked_limits lp (the_site s))) None) (sym h)
+    ∙ ap (λ m. cond (linking.is_outside (the_site s) (linking.linked_end lp (the_site s))) (option_and_then (λ l. Some m) (asked_limits lp (the_site s))) None) is
     ∙ ap (λ x. cond (linking.is_outside (the_site s) (linking.linked_end lp (the_site s))) x None) (by (linking.import_at lp (the_site s)))
   where
-    by : (o : Option Import) → linking.then_some (linking.then_some o (λ i. linking.limits_of i.desc)) (λ l. Some (linking.met_limits (named_modules ps) (the_site s))) ≡ linking.then_some o (λ i. linking.then_some (linking.limits_of i.desc) (λ l. Some (linking.met_limits (named_modules ps) (the_site s))))
+    by : (o : Option Import) → option_and_then (λ l. Some (linking.met_limits (named_modules ps) (the_site s))) (option_and_then (λ i. linking.limits_of i.desc) o) ≡ option_and_then (λ i. option_and_then (λ l. Some (linking.met_limits (named_modules ps) (the_site s))) (linking.limits_of i.desc)) o
     by None = refl
     by (Some i) = refl
 

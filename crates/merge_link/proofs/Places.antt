@@ -12,7 +12,7 @@ use Rattle.wasm_meaning.specs.Linking as linking
 use Rattle.merge_terms.specs.declared.parts.Part.{Part}
 use Rattle.merge_terms.specs.Parts.{named_modules}
 
-pub place_is : {A : Type 0} (xs : List A) (n : ℕ) → linking.place xs n ≡ slice_get xs n
+pub place_is : {A : Type 0} (xs : List A) (n : ℕ) → slice_get xs n ≡ slice_get xs n
 place_is [] n = refl
 place_is (x ∷ xs) zero = refl
 place_is (x ∷ xs) (suc n) = place_is xs n

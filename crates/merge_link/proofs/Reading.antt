@@ -1,5 +1,5 @@
 -- Defined globals by their numbers, and one step of a read.
-use Rattle.std.proofs.Common.{◌≡◌, ◌∙◌, sym, ap, refl, ℕ, zero, suc, ◌+◌, ◌-◌, ◌^◌, ◌<◌, ◌≤◌, List, [], ◌∷◌, ◌++◌, Option, Some, None, map, length, drop, get_or, slice_get, arith}
+use Rattle.std.proofs.Common.{◌≡◌, ◌∙◌, sym, ap, refl, ℕ, zero, suc, ◌+◌, ◌-◌, ◌^◌, ◌<◌, ◌≤◌, List, [], ◌∷◌, ◌++◌, Option, Some, None, map, length, drop, get_or, slice_get, arith, option_and_then}
 use Rattle.std.specs.Option.{option_map}
 use Rattle.std.proofs.lemmas.List.{length-append, length-map, drop_more}
 use Rattle.std.proofs.lemmas.Option.{slice_get-map, slice_get_within, slice_get_past}
@@ -77,7 +77,7 @@ own_some lp ts e t m are at tree within =
     let z : 0 + e.part ≡ e.part = omega arith in
     let r : faults.OwnGlobal = record { part = 0 + e.part; index = own.0; init = g.0.init } in
     let count : linking.index_of_export e.what - length (linking.imports_of linking.Globals m) ≡ own_place t e = ap (λ (ns : List ℕ). linking.index_of_export e.what - length ns) (sym (x.places linking.Globals)) in
-    let init : linking.initial lp e ≡ Some g.0.init = rw (tree, count) (ap (λ o. linking.then_some o (λ d. Some d.init)) (place_is m.globals (own_place t e) ∙ g.1)) in
+    let init : linking.initial lp e ≡ Some g.0.init = rw (tree, count) (ap (λ o. option_and_then (λ d. Some d.init) o) (place_is m.globals (own_place t e) ∙ g.1)) in
     (r, ap (λ k. slice_get (faults.own_globals lp) (k + own_place t e)) x.first_global ∙ own.1, z, init)
 
 pub own_none : (lp : List linking.Part) (ts : List Table) (e : linking.Entity) (t : Table) (m : Module) → AreTables lp ts → slice_get ts e.part ≡ Some t → linking.module_at lp e.part ≡ Some m
@@ -85,7 +85,7 @@ pub own_none : (lp : List linking.Part) (ts : List Table) (e : linking.Entity) (
 own_none lp ts e t m are at tree past =
     let x = are.right e.part m t tree at in
     let count : linking.index_of_export e.what - length (linking.imports_of linking.Globals m) ≡ own_place t e = ap (λ (ns : List ℕ). linking.index_of_export e.what - length ns) (sym (x.places linking.Globals)) in
-    rw (tree, count) (ap (λ o. linking.then_some o (λ d. Some d.init)) (place_is m.globals (own_place t e) ∙ slice_get_past m.globals (own_place t e) past))
+    rw (tree, count) (ap (λ o. option_and_then (λ d. Some d.init) o) (place_is m.globals (own_place t e) ∙ slice_get_past m.globals (own_place t e) past))
 
 pub own_past : (lp : List linking.Part) (ts : List Table) (e : linking.Entity) → AreTables lp ts → length ts ≤ e.part → linking.initial lp e ≡ None
 own_past lp ts e are h = rw (module_past lp e.part (omega (arith, are.one_each))) refl
@@ -112,11 +112,11 @@ pub step_to : (ps : List Part) (e : linking.Entity) (n : ℕ) → IsOwn (named_m
 step_to ps e n (g, at, part, init) = (
   own_read g,
   slice_get-map own_read (faults.own_globals (named_modules ps)) n ∙ ap (option_map own_read) at,
-  ap (λ o. linking.then_some o (λ x. let r : linking.Read = record { part = e.part; expr = x } in Some (paths.Goes r))) init ∙ ap (λ p. let r : linking.Read = record { part = p; expr = g.init } in Some (paths.Goes r)) (sym part),
+  ap (λ o. option_and_then (λ x. let r : linking.Read = record { part = e.part; expr = x } in Some (paths.Goes r)) o) init ∙ ap (λ p. let r : linking.Read = record { part = p; expr = g.init } in Some (paths.Goes r)) (sym part),
 )
 
 pub step_none : (ps : List Part) (e : linking.Entity) → linking.initial (named_modules ps) e ≡ None → IsEndStep ps (linking.Defined e) Nowhere
-step_none ps e h = ap (λ o. linking.then_some o (λ x. let r : linking.Read = record { part = e.part; expr = x } in Some (paths.Goes r))) h
+step_none ps e h = ap (λ o. option_and_then (λ x. let r : linking.Read = record { part = e.part; expr = x } in Some (paths.Goes r)) o) h
 
 -- the end of an import that has a number
 pub end_numbered : (ps : List Part) (sites : List Site) (ends : List Ending) (n : ℕ) (s : linking.Site) (e : Ending) → AreSites ps sites → AreKnown ps sites ends → slice_get (linking.sites (named_modules ps)) n ≡ Some s → slice_get ends n ≡ Some e
@@ -133,7 +133,7 @@ pub step_read : (ps : List Part) (p x : ℕ) (s : linking.Site) (e : linking.End
 step_read ps p x s e step at end is = by step is
   where
     same : linking.read_step (named_modules ps) (record { part = p; expr = const.Global x }) ≡ linking.end_step (named_modules ps) (Some e)
-    same = ap (λ o. linking.end_step (named_modules ps) (linking.then_some o (linking.end_of (named_modules ps)))) at ∙ ap (linking.end_step (named_modules ps)) end
+    same = ap (λ o. linking.end_step (named_modules ps) (option_and_then (linking.end_of (named_modules ps)) o)) at ∙ ap (linking.end_step (named_modules ps)) end
 
     by : (step : Step Read) → IsEndStep ps e step → IsStep (linking.read_step (named_modules ps)) (own_reads (named_modules ps)) the_read (record { part = p; expr = const.Global x }) step
     by (Goes n) (r, a, b) = (r, a, same ∙ b)
@@ -141,7 +141,7 @@ step_read ps p x s e step at end is = by step is
     by Nowhere a = same ∙ a
 
 pub step_unread : (ps : List Part) (p x : ℕ) → linking.global_import (named_modules ps) p x ≡ None → IsStep {F = Read} (linking.read_step (named_modules ps)) (own_reads (named_modules ps)) the_read (record { part = p; expr = const.Global x }) Nowhere
-step_unread ps p x at = ap (λ o. linking.end_step (named_modules ps) (linking.then_some o (linking.end_of (named_modules ps)))) at
+step_unread ps p x at = ap (λ o. linking.end_step (named_modules ps) (option_and_then (linking.end_of (named_modules ps)) o)) at
 
 -- ---- faults ----
 

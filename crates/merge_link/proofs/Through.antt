@@ -1,5 +1,5 @@
 -- What is read through imports, by the ends of paths.
-use Rattle.std.proofs.Common.{◌≡◌, ◌∙◌, sym, ap, refl, subst, ℕ, zero, suc, ◌+◌, ◌<◌, List, [], ◌∷◌, Option, Some, None, Bool, true, false, cond, length, slice_get, arith, ◌↔◌}
+use Rattle.std.proofs.Common.{◌≡◌, ◌∙◌, sym, ap, refl, subst, ℕ, zero, suc, ◌+◌, ◌<◌, List, [], ◌∷◌, Option, Some, None, Bool, true, false, cond, length, slice_get, arith, ◌↔◌, option_and_then}
 use Rattle.std.specs.Option.{option_map}
 use Rattle.std.proofs.lemmas.Option.{slice_get_within}
 use Rattle.wasm_tree.specs.declared.module.ConstExpr.{ConstExpr}
@@ -28,7 +28,7 @@ pub value_numbered : (ps : List Part) (values : List (Option Read)) (e : linking
 unfolding own_value
 value_numbered ps values e n o are (g, at, part, init) h =
     same_at (option_map the_read) (own_value ps) values (faults.own_globals (named_modules ps)) n o g are h at
-    ∙ ap (λ p. linking.read_of (named_modules ps) p g.init) part ∙ sym (ap (λ x. linking.then_some x (linking.read_of (named_modules ps) e.part)) init)
+    ∙ ap (λ p. linking.read_of (named_modules ps) p g.init) part ∙ sym (ap (λ x. option_and_then (linking.read_of (named_modules ps) e.part) x) init)
 
 pub number_within : (ps : List Part) (values : List (Option Read)) (e : linking.Entity) (n : ℕ) → AreValues ps values → IsOwn (named_modules ps) e (Some n) → n < length values
 number_within ps values e n are (g, at, part, init) =
@@ -72,19 +72,19 @@ past_end : (lp : List linking.Part) (e : linking.End) → told lp (linking.end_s
 unfolding told
 past_end lp (linking.Outside s) = by (linking.outside_read lp s)
   where
-    by : (o : Option linking.Read) → told lp (linking.then_some o (λ r. Some (paths.Ends r))) ≡ o
+    by : (o : Option linking.Read) → told lp (option_and_then (λ r. Some (paths.Ends r)) o) ≡ o
     by None = refl
     by (Some r) = refl
 past_end lp (linking.Defined e) = by (linking.initial lp e)
   where
-    by : (o : Option ConstExpr) → told lp (linking.then_some o (λ x. let r : linking.Read = record { part = e.part; expr = x } in Some (paths.Goes r))) ≡ linking.then_some o (linking.read_of lp e.part)
+    by : (o : Option ConstExpr) → told lp (option_and_then (λ x. let r : linking.Read = record { part = e.part; expr = x } in Some (paths.Goes r)) o) ≡ option_and_then (linking.read_of lp e.part) o
     by None = refl
     by (Some x) = refl
 
 -- ---- the index of a global import ----
 
 place_back : (k : linking.Kind) (imports : List Import) (from n : ℕ) (i : Import) → slice_get imports n ≡ Some i → linking.has_kind k i ≡ true
-    → linking.place (linking.places (linking.has_kind k) imports from) (linking.space_index imports n k) ≡ Some (from + n)
+    → slice_get (linking.places (linking.has_kind k) imports from) (linking.space_index imports n k) ≡ Some (from + n)
 place_back k [] from n i h is = cc
 place_back k (x ∷ xs) from zero i h is =
     let same : x ≡ i = cc in
@@ -96,8 +96,8 @@ place_back k (x ∷ xs) from (suc n) i h is = by (linking.has_kind k x) (place_b
     next : suc from + n ≡ from + suc n
     next = omega arith
 
-    by : (b : Bool) → linking.place (linking.places (linking.has_kind k) xs (suc from)) (linking.space_index xs n k) ≡ Some (suc from + n)
-        → linking.place (cond b (from ∷ linking.places (linking.has_kind k) xs (suc from)) (linking.places (linking.has_kind k) xs (suc from))) (cond b (suc (linking.space_index xs n k)) (linking.space_index xs n k)) ≡ Some (from + suc n)
+    by : (b : Bool) → slice_get (linking.places (linking.has_kind k) xs (suc from)) (linking.space_index xs n k) ≡ Some (suc from + n)
+        → slice_get (cond b (from ∷ linking.places (linking.has_kind k) xs (suc from)) (linking.places (linking.has_kind k) xs (suc from))) (cond b (suc (linking.space_index xs n k)) (linking.space_index xs n k)) ≡ Some (from + suc n)
     by true e = e ∙ ap Some next
     by false e = e ∙ ap Some next
 
@@ -111,18 +111,18 @@ through lp law s i m e at there is end =
     let x = linking.space_index m.imports s.import linking.Globals in
     let back = place_back linking.Globals m.imports 0 s.import i there is in
     let z : 0 + s.import ≡ s.import = omega arith in
-    let site : linking.global_import lp s.part x ≡ Some s = rw at (ap (λ o. linking.then_some o (λ n. let t : linking.Site = record { part = s.part; import = n } in Some t)) (back ∙ ap Some z)) in
-    one_step lp law s.part (const.Global x) ∙ ap (λ o. told lp (linking.end_step lp (linking.then_some o (linking.end_of lp)))) site ∙ ap (λ o. told lp (linking.end_step lp o)) end ∙ past_end lp e
+    let site : linking.global_import lp s.part x ≡ Some s = rw at (ap (λ o. option_and_then (λ n. let t : linking.Site = record { part = s.part; import = n } in Some t) o) (back ∙ ap Some z)) in
+    one_step lp law s.part (const.Global x) ∙ ap (λ o. told lp (linking.end_step lp (option_and_then (linking.end_of lp) o))) site ∙ ap (λ o. told lp (linking.end_step lp o)) end ∙ past_end lp e
 
 tree_at : (lp : List linking.Part) (s : linking.Site) (i : Import) (m : Module) → linking.module_at lp s.part ≡ Some m → linking.import_at lp s ≡ Some i → slice_get m.imports s.import ≡ Some i
-tree_at lp s i m at there = sym (place_is m.imports s.import) ∙ sym (ap (λ o. linking.then_some o (λ t. linking.place t.imports s.import)) at) ∙ there
+tree_at lp s i m at there = sym (place_is m.imports s.import) ∙ sym (ap (λ o. option_and_then (λ t. slice_get t.imports s.import) o) at) ∙ there
 
 pub fixed_is : (lp : List linking.Part) → ((p : ℕ) (x : ConstExpr) (r : linking.Read) → linking.Reads lp (record { part = p; expr = x }) r ↔ (linking.read_of lp p x ≡ Some r))
     → (s : linking.Site) (i : Import) (e : linking.End) → linking.import_at lp s ≡ Some i → linking.end_of lp s ≡ Some e → fixed_read lp s e ≡ read_at lp s
 fixed_is lp law s i e there end =
     let m = part_there lp s i there in
     let tree = tree_at lp s i m.0 m.1 there in
-    ap (option_map read_entry) (ap (λ o. linking.then_some o (λ j. fixed_desc lp e j.desc)) there ∙ by i.desc refl m.0 m.1 tree ∙ sym (ap (λ o. linking.then_some o (λ j. read_at_desc lp s j.desc)) there))
+    ap (option_map read_entry) (ap (λ o. option_and_then (λ j. fixed_desc lp e j.desc) o) there ∙ by i.desc refl m.0 m.1 tree ∙ sym (ap (λ o. option_and_then (λ j. read_at_desc lp s j.desc) o) there))
   where
     by : (d : ImportDesc) → i.desc ≡ d → (m : Module) → linking.module_at lp s.part ≡ Some m → slice_get m.imports s.import ≡ Some i → fixed_desc lp e d ≡ read_at_desc lp s d
     by (im.Func t) is m at tree = refl
@@ -130,4 +130,4 @@ fixed_is lp law s i e there end =
     by (im.Memory t) is m at tree = refl
     by (im.Global t) is m at tree =
         let kind : linking.has_kind linking.Globals i ≡ true = ap (λ d. linking.same_kind linking.Globals (linking.kind_of_import d)) is in
-        ap (when_fixed t.mutable) (sym (ap (λ (o : Option Module). linking.then_some o (λ x. linking.read_of lp s.part (const.Global (linking.space_index x.imports s.import linking.Globals)))) at ∙ through lp law s i m e at tree kind end))
+        ap (when_fixed t.mutable) (sym (ap (λ (o : Option Module). option_and_then (λ x. linking.read_of lp s.part (const.Global (linking.space_index x.imports s.import linking.Globals))) o) at ∙ through lp law s i m e at tree kind end))

@@ -41,13 +41,13 @@ types_same E same [] (y ∷ ys) = refl
 types_same E same (x ∷ xs) [] = refl
 types_same E same (x ∷ xs) (y ∷ ys) = by (E x y) (values.same_type x y) (same x y) (types_same E same xs ys)
   where
-    by : (a b : Bool) → a ≡ b → pointwise E xs ys ≡ values.same_types xs ys → a && pointwise E xs ys ≡ cond b (values.same_types xs ys) false
+    by : (a b : Bool) → a ≡ b → pointwise E xs ys ≡ values.same_types xs ys → a && pointwise E xs ys ≡ b && values.same_types xs ys
     by true true e rest = rest
     by true false e rest = absurd (cc)
     by false true e rest = absurd (cc)
     by false false e rest = refl
 
-then_map : {A B : Type 0} (o : Option A) (f : A → B) → linking.then_some o (λ x. Some (f x)) ≡ option_map f o
+then_map : {A B : Type 0} (o : Option A) (f : A → B) → option_and_then (λ x. Some (f x)) o ≡ option_map f o
 then_map None f = refl
 then_map (Some x) f = refl
 
@@ -125,7 +125,7 @@ external_global m i n e h =
     by None = refl
     by (Some g) = refl
 
-pub past_none : {A : Type 0} (xs : List A) (i : ℕ) → linking.place xs i ≡ None → length xs ≤ i
+pub past_none : {A : Type 0} (xs : List A) (i : ℕ) → slice_get xs i ≡ None → length xs ≤ i
 past_none [] i h = omega arith
 past_none (x ∷ xs) zero h = absurd (cc)
 past_none (x ∷ xs) (suc i) h = omega (arith, past_none xs i h)
@@ -133,8 +133,8 @@ past_none (x ∷ xs) (suc i) h = omega (arith, past_none xs i h)
 -- what is no import has an index behind those of the imports
 pub not_imported : (lp : List linking.Part) (e : linking.Entity) (m : Module) → linking.module_at lp e.part ≡ Some m → linking.imported_as lp e ≡ None
     → length (linking.imports_of (linking.kind_of_export e.what) m) ≤ linking.index_of_export e.what
-not_imported lp e m at none = past_none (linking.imports_of (linking.kind_of_export e.what) m) (linking.index_of_export e.what) (by (linking.place (linking.imports_of (linking.kind_of_export e.what) m) (linking.index_of_export e.what)) (rw at at none))
+not_imported lp e m at none = past_none (linking.imports_of (linking.kind_of_export e.what) m) (linking.index_of_export e.what) (by (slice_get (linking.imports_of (linking.kind_of_export e.what) m) (linking.index_of_export e.what)) (rw at at none))
   where
-    by : (o : Option ℕ) → linking.then_some o (λ n. let s : linking.Site = record { part = e.part; import = n } in Some s) ≡ None → o ≡ None
+    by : (o : Option ℕ) → option_and_then (λ n. let s : linking.Site = record { part = e.part; import = n } in Some s) o ≡ None → o ≡ None
     by None h = refl
     by (Some n) h = absurd (cc)

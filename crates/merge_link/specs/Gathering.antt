@@ -1,5 +1,5 @@
 -- Memories that stay, gathered by their module and field names.
-use Rattle.std.specs.Prelude.{◌≡◌, ℕ, List, [], ◌∷◌, Option, Some, None, Bool, true, false, cond, map, slice_get}
+use Rattle.std.specs.Prelude.{◌≡◌, ℕ, List, [], ◌∷◌, Option, Some, None, Bool, true, false, cond, map, slice_get, ◌&&◌}
 use Rattle.std.specs.BTreeMap.{BTreeMap, get_by}
 use Rattle.std.specs.Ordering.{nat_cmp, ordering_then}
 use Rattle.std.specs.Cmp.Lexicographic.{slice_cmp}
@@ -21,19 +21,19 @@ is_memory_at None = false
 is_memory_at (Some i) = linking.has_kind linking.Memories i
 
 abbrev pub IsStayingMemory : List linking.Part → Site → Ending → Option (Bor Import) → Type 0
-IsStayingMemory lp s e None = cond (linking.is_outside (the_site s) (Some (the_end e))) (is_memory_at (linking.import_at lp (the_site s))) false ≡ false
+IsStayingMemory lp s e None = linking.is_outside (the_site s) (Some (the_end e)) && is_memory_at (linking.import_at lp (the_site s)) ≡ false
 IsStayingMemory lp s e (Some i) =
     (linking.is_outside (the_site s) (Some (the_end e)) ≡ true) × (linking.import_at lp (the_site s) ≡ Some i.now) × (linking.has_kind linking.Memories i.now ≡ true)
 
 -- an import of this module and field name
 abbrev pub is_of_pair : Pair → Option Import → Bool
 is_of_pair pair None = false
-is_of_pair pair (Some i) = cond (linking.has_kind linking.Memories i) (linking.same_pair pair (linking.pair_of i)) false
+is_of_pair pair (Some i) = linking.has_kind linking.Memories i && linking.same_pair pair (linking.pair_of i)
 
 -- a staying memory of this module and field name
 unfoldable pub is_memory_of : List Part → Pair → Site → Bool
 is_memory_of parts pair s =
-    cond (linking.is_outside (the_site s) (linking.end_of (named_modules parts) (the_site s))) (is_of_pair pair (linking.import_at (named_modules parts) (the_site s))) false
+    linking.is_outside (the_site s) (linking.end_of (named_modules parts) (the_site s)) && is_of_pair pair (linking.import_at (named_modules parts) (the_site s))
 
 -- the first of them
 abbrev pub first_memory : List Part → Pair → List Site → Option Site

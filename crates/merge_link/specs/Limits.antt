@@ -1,5 +1,6 @@
 -- Limits of what stays.
 use Rattle.std.specs.Prelude.{◌≡◌, ℕ, List, Option, Some, None, cond, map, slice_get}
+use Rattle.base_lists.specs.Options.{◌>>=◌}
 use Rattle.wasm_tree.specs.declared.types.Limits.{Limits}
 use Rattle.wasm_meaning.specs.Linking as linking
 use Rattle.merge_terms.specs.declared.parts.Part.{Part}
@@ -20,7 +21,7 @@ met_of parts ts s = linking.met (linking.demands (named_modules parts) (the_site
 
 -- the limits that an import asks for
 abbrev pub asked_limits : List linking.Part → linking.Site → Option Limits
-asked_limits lp t = linking.then_some (linking.import_at lp t) (λ i. linking.limits_of i.desc)
+asked_limits lp t = linking.import_at lp t >>= λ i. linking.limits_of i.desc
 
 -- an import asks nothing of what stays, or it asks for limits of the one with this number
 abbrev pub IsDemand : List linking.Part → linking.Site → linking.End → Option (ℕ × Limits) → Type 0
@@ -30,7 +31,7 @@ IsDemand lp t (linking.Outside u) (Some d) = (slice_get (linking.sites lp) d.0 �
 
 -- the limits of an import that ends here
 abbrev pub kept_of : List linking.Part → linking.Site → linking.End → Limits → Option Limits
-kept_of lp s e met = cond (linking.is_outside s (Some e)) (linking.then_some (asked_limits lp s) (λ l. Some met)) None
+kept_of lp s e met = cond (linking.is_outside s (Some e)) (asked_limits lp s >>= λ l. Some met) None
 
 abbrev pub clash_of : linking.Site → Option Limits → Option LinkFault
-clash_of s limits = linking.then_some limits (λ l. cond (is_under l.max l.min) (Some (LimitsClash s.part s.import)) None)
+clash_of s limits = limits >>= λ l. cond (is_under l.max l.min) (Some (LimitsClash s.part s.import)) None

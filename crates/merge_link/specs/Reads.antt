@@ -1,5 +1,6 @@
 -- What is read through imports.
 use Rattle.std.specs.Prelude.{◌≡◌, List, Option, None, map, option_map}
+use Rattle.base_lists.specs.Options.{◌>>=◌}
 use Rattle.wasm_tree.specs.declared.module.ImportDesc.{ImportDesc}
 use Rattle.wasm_tree.specs.declared.module.ImportDesc.TheVariants as im
 use Rattle.wasm_meaning.specs.Linking as linking
@@ -21,7 +22,7 @@ AreValues parts values = map (option_map the_read) values ≡ map (own_value par
 -- what is read from the end of a global's import
 abbrev pub read_past : List linking.Part → linking.End → Option linking.Read
 read_past lp (linking.Outside s) = linking.outside_read lp s
-read_past lp (linking.Defined e) = linking.then_some (linking.initial lp e) (linking.read_of lp e.part)
+read_past lp (linking.Defined e) = linking.initial lp e >>= (linking.read_of lp e.part)
 
 abbrev pub fixed_desc : List linking.Part → linking.End → ImportDesc → Option linking.Read
 fixed_desc lp e (im.Global t) = when_fixed t.mutable (read_past lp e)
@@ -29,4 +30,4 @@ fixed_desc lp e _ = None
 
 -- what is read through the import at this place, which has this end
 abbrev pub fixed_read : List linking.Part → linking.Site → linking.End → Option Read
-fixed_read lp s e = option_map read_entry (linking.then_some (linking.import_at lp s) (λ i. fixed_desc lp e i.desc))
+fixed_read lp s e = option_map read_entry (linking.import_at lp s >>= λ i. fixed_desc lp e i.desc)

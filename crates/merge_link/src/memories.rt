@@ -1,6 +1,6 @@
 // How many memories there are: those that are defined, and those that stay imported.
 
-ghost use Rattle.std.specs.Prelude.{Some, cond, false, length, nat_lt, ◌+◌, ◌≡◌};
+ghost use Rattle.std.specs.Prelude.{Some, cond, false, length, nat_lt, ◌+◌, ◌≡◌, ◌&&◌};
 ghost use Rattle.merge_terms.specs.Faults as faults;
 ghost use Rattle.merge_terms.specs.Parts.{named_modules};
 ghost use Rattle.wasm_meaning.specs.Linking as linking;
@@ -15,7 +15,7 @@ use crate::sites::Site;
 impl<'a> Joining<'a> {
     fn is_staying_memory(&self, site: Site, end: Ending) -> bool
         requires { IsThere self.now.parts.now site }
-        ensures { result ≡ cond (linking.is_outside (the_site site) (Some (the_end end))) (is_memory_at (linking.import_at (named_modules self.now.parts.now) (the_site site))) false }
+        ensures { result ≡ linking.is_outside (the_site site) (Some (the_end end)) && is_memory_at (linking.import_at (named_modules self.now.parts.now) (the_site site)) }
     {
         self.staying_memory(site, end).is_some()
     }

@@ -195,7 +195,7 @@ impl<'a> Table<'a> {
 
     /// The place in the import section of an entry of an index space, where it is imported.
     pub fn place(&self, kind: Kind, index: u32) -> Option<u32>
-        ensures { result ≡ linking.place (places_of self.now (the_kind kind)) index }
+        ensures { result ≡ slice_get (places_of self.now (the_kind kind)) index }
     {
         let places = match kind {
             Kind::Functions => &self.funcs,

@@ -1,5 +1,5 @@
 -- A body that is well typed, and whose other numbers are in range, is in range.
-use Rattle.std.proofs.Common.{◌≡◌, ℕ, zero, suc, ◌<◌, ◌≤◌, ◌^◌, Bool, true, false, ◌&&◌, nat_eq, nat_lt, List, [], ◌∷◌, length, Option, Some, None, refl, sym, ap, ◌∙◌, arith, rules}
+use Rattle.std.proofs.Common.{◌≡◌, ℕ, zero, suc, ◌<◌, ◌≤◌, ◌^◌, Bool, true, false, ◌&&◌, nat_eq, nat_lt, List, [], ◌∷◌, length, Option, Some, None, refl, sym, ap, ◌∙◌, arith, rules, option_and_then, option_map}
 use Rattle.std.specs.Prelude.{slice_get}
 use Rattle.std.proofs.lemmas.Bool.Decides.{nat_tests}
 use Rattle.wasm_tree.specs.declared.types.RefType.{RefType}
@@ -13,7 +13,7 @@ use Rattle.wasm_tree.specs.declared.instr.Instr.{Instr, Row_of-Instr, end_of-Ins
 use Rattle.wasm_tree.specs.declared.instr.Instr.TheVariants.{Block, Block', Loop, Loop', If, If', Unreachable, Nop, Br, BrIf, BrTable, Return, Call, CallIndirect, Drop, Select, SelectTyped, LocalGet, LocalSet, LocalTee, GlobalGet, GlobalSet, TableGet, TableSet, Load, Store, MemorySize, MemoryGrow, I32Const, I64Const, Un, Bin, RefNull, RefIsNull, RefFunc, MemoryInit, DataDrop, MemoryCopy, MemoryFill, TableInit, ElemDrop, TableCopy, TableGrow, TableSize, TableFill}
 use Rattle.wasm_tree.specs.declared.instr.Instr.TheBlock.{shown-the_row-Instr-0}
 use Rattle.wasm_tree.specs.declared.instr.Instr.TheViews.{roll-Instr, outs-Block', rolls-Block, outs-Loop', rolls-Loop, outs-If', rolls-If}
-use Rattle.wasm_typing.specs.Typing.{Stack, Effect, Signature, Context, map_option, then_option, signature_of, signature_in, gives_of, both, under, only, effect_of, Fits, Leads, LeadsAll}
+use Rattle.wasm_typing.specs.Typing.{Stack, Effect, Signature, Context, signature_of, signature_in, gives_of, both, under, only, effect_of, Fits, Leads, LeadsAll}
 use Rattle.plain_law.specs.Ranges.{small, small_type, small_arg, in_range, all_in_range}
 use Rattle.merge_ranges.proofs.Numbers.{small_access, numbers_in, all_numbers_in}
 
@@ -48,11 +48,11 @@ small_there : {A : Type 0} (xs : List A) (n : ℕ) (o : Option A) → length xs 
 small_there xs n None few e some = absurd (some refl)
 small_there xs n (Some x) few e some = small_below n (length xs) (there xs n x e) few
 
-mapped : {A B : Type 0} (f : A → B) (o : Option A) (e : B) → map_option f o ≡ Some e → o ≡ None → ⊥
+mapped : {A B : Type 0} (f : A → B) (o : Option A) (e : B) → option_map f o ≡ Some e → o ≡ None → ⊥
 mapped f None e h n = cc
 mapped f (Some x) e h n = cc
 
-then_there : {A B : Type 0} (f : A → Option B) (o : Option A) (e : B) → then_option o f ≡ Some e → o ≡ None → ⊥
+then_there : {A B : Type 0} (f : A → Option B) (o : Option A) (e : B) → option_and_then f o ≡ Some e → o ≡ None → ⊥
 then_there f None e h n = cc
 then_there f (Some x) e h n = cc
 
@@ -222,15 +222,15 @@ arg_in a h z = both_true (small a.align) _ (left_true _ _ h) (both_true (small a
 indirect_table : (c : Context) (x y : ℕ) (e : Effect) → effect_of c (CallIndirect x y) ≡ Some e → slice_get c.tables y ≡ None → ⊥
 indirect_table c x y e h n = then_there _ (slice_get c.tables y) e h n
 
-indirect_type : (o : Option RefType) (p : Option FuncType) (f : RefType → Bool) (g : Signature → Effect) (e : Effect) → then_option o (λ r. only (f r) (map_option g (signature_in p))) ≡ Some e → p ≡ None → ⊥
+indirect_type : (o : Option RefType) (p : Option FuncType) (f : RefType → Bool) (g : Signature → Effect) (e : Effect) → option_and_then (λ r. only (f r) (option_map g (signature_in p))) o ≡ Some e → p ≡ None → ⊥
 indirect_type None p f g e h n = cc
 indirect_type (Some r) p f g e h n = by_test (f r) h
   where
-    by_test : (b : Bool) → only b (map_option g (signature_in p)) ≡ Some e → ⊥
+    by_test : (b : Bool) → only b (option_map g (signature_in p)) ≡ Some e → ⊥
     by_test false k = cc
-    by_test true k = let empty : map_option g (signature_in None) ≡ Some e = ap (λ q. map_option g (signature_in q)) (sym n) ∙ k in cc
+    by_test true k = let empty : option_map g (signature_in None) ≡ Some e = ap (λ q. option_map g (signature_in q)) (sym n) ∙ k in cc
 
-call_there : (o : Option ℕ) (f : ℕ → Option FuncType) (e : Effect) → gives_of (signature_in (then_option o f)) ≡ Some e → o ≡ None → ⊥
+call_there : (o : Option ℕ) (f : ℕ → Option FuncType) (e : Effect) → gives_of (signature_in (option_and_then f o)) ≡ Some e → o ≡ None → ⊥
 call_there None f e h n = cc
 call_there (Some x) f e h n = cc
 

@@ -1,5 +1,5 @@
 -- The constant expressions of a merged module have numbers that stand in some part.
-use Rattle.std.proofs.Common.{◌≡◌, ℕ, zero, suc, ◌-◌, List, length, Option, Some, None, refl, subst}
+use Rattle.std.proofs.Common.{◌≡◌, ℕ, zero, suc, ◌-◌, List, length, Option, Some, None, refl, subst, option_and_then, slice_get, unwrap_or}
 use Rattle.wasm_tree.specs.declared.module.ConstExpr.{ConstExpr}
 use Rattle.wasm_tree.specs.declared.module.ConstExpr.TheVariants as const
 use Rattle.wasm_tree.specs.declared.module.GlobalDef.{GlobalDef}
@@ -11,10 +11,10 @@ use Rattle.wasm_tree.specs.declared.module.DataMode.TheVariants as segment
 use Rattle.wasm_tree.specs.declared.module.DataSeg.{DataSeg}
 use Rattle.wasm_tree.specs.declared.module.Module.{Module}
 use Rattle.wasm_meaning.specs.Paths.{Next, Ends, Goes, walk, walk_on}
-use Rattle.wasm_meaning.specs.Linking.{Part, Site, End, Defined, Outside, Entity, Read, Globals, place, then_some, module_at, imports_of, space_index, index_of_export, initial, end_step, end_of, global_import, expr_step, read_step, initials_from, read_of}
+use Rattle.wasm_meaning.specs.Linking.{Part, Site, End, Defined, Outside, Entity, Read, Globals, module_at, imports_of, space_index, index_of_export, initial, end_step, end_of, global_import, expr_step, read_step, initials_from, read_of}
 use Rattle.index_remap.specs.declared.remap.Remap.{Remap}
 use Rattle.index_remap.specs.Renumbered.{new_const}
-use Rattle.merge_terms.specs.Merged.{or_this, map_of, merged_read, merged_const, merged_global, merged_elem_mode, merged_elem, merged_data_mode, merged_data}
+use Rattle.merge_terms.specs.Merged.{map_of, merged_read, merged_const, merged_global, merged_elem_mode, merged_elem, merged_data_mode, merged_data}
 use Rattle.plain_law.specs.Ranges.{ConstInRange, ElemModeInRange, ElemInRange, DataModeInRange, InRange}
 use Rattle.merge_ranges.proofs.Numbers.{ConstNumberInRange, ElemOffsetInRange, ElemNumbersInRange, DataOffsetInRange}
 use Rattle.merge_ranges.proofs.Lists.{every_map, every_place, from_some, at_part}
@@ -43,19 +43,19 @@ StepIn (Some (Goes r)) = ConstNumberInRange r.expr
 initial_in : (parts : List Part) → PartsInRange parts → (e : Entity) (expr : ConstExpr) → initial parts e ≡ Some expr → ConstNumberInRange expr
 initial_in parts h e expr is = in_module (from_some (module_at parts e.part) _ expr is)
   where
-    in_module : (m : Module) × (module_at parts e.part ≡ Some m) × (then_some (place m.globals (index_of_export e.what - length (imports_of Globals m))) (λ (g : GlobalDef). Some g.init) ≡ Some expr) → ConstNumberInRange expr
-    in_module (m, there, f) = in_globals (from_some (place m.globals (index_of_export e.what - length (imports_of Globals m))) (λ (g : GlobalDef). Some g.init) expr f)
+    in_module : (m : Module) × (module_at parts e.part ≡ Some m) × (option_and_then (λ (g : GlobalDef). Some g.init) (slice_get m.globals (index_of_export e.what - length (imports_of Globals m))) ≡ Some expr) → ConstNumberInRange expr
+    in_module (m, there, f) = in_globals (from_some (slice_get m.globals (index_of_export e.what - length (imports_of Globals m))) (λ (g : GlobalDef). Some g.init) expr f)
       where
-        in_globals : (g : GlobalDef) × (place m.globals (index_of_export e.what - length (imports_of Globals m)) ≡ Some g) × (◌≡◌ {A = Option ConstExpr} (Some g.init) (Some expr)) → ConstNumberInRange expr
+        in_globals : (g : GlobalDef) × (slice_get m.globals (index_of_export e.what - length (imports_of Globals m)) ≡ Some g) × (◌≡◌ {A = Option ConstExpr} (Some g.init) (Some expr)) → ConstNumberInRange expr
         in_globals (g, at, same) =
             let is_it : g.init ≡ expr = cc in
             number_of expr (subst ConstInRange is_it (every_place (λ (x : GlobalDef). ConstInRange x.init) m.globals _ g (at_part InRange parts e.part m h there).globals at))
 
-goes_in : (part : ℕ) (o : Option ConstExpr) → ((expr : ConstExpr) → o ≡ Some expr → ConstNumberInRange expr) → StepIn (then_some o (λ expr. Some (Goes (record { part = part; expr = expr }))))
+goes_in : (part : ℕ) (o : Option ConstExpr) → ((expr : ConstExpr) → o ≡ Some expr → ConstNumberInRange expr) → StepIn (option_and_then (λ expr. Some (Goes (record { part = part; expr = expr }))) o)
 goes_in part None f = tt
 goes_in part (Some expr) f = f expr refl
 
-outside_in : (parts : List Part) (s : Site) (o : Option Module) → StepIn (then_some (then_some o (λ (m : Module). Some (record { part = s.part; expr = const.Global (space_index m.imports s.import Globals) }))) (λ (r : Read). Some (Ends r)))
+outside_in : (parts : List Part) (s : Site) (o : Option Module) → StepIn (option_and_then (λ (r : Read). Some (Ends r)) (option_and_then (λ (m : Module). Some (record { part = s.part; expr = const.Global (space_index m.imports s.import Globals) })) o))
 outside_in parts s None = tt
 outside_in parts s (Some m) = tt
 
@@ -69,7 +69,7 @@ expr_in parts h p (const.I32 z) n = n
 expr_in parts h p (const.I64 z) n = n
 expr_in parts h p (const.Null t) n = tt
 expr_in parts h p (const.Func f) n = tt
-expr_in parts h p (const.Global x) n = end_in parts h (then_some (global_import parts p x) (end_of parts))
+expr_in parts h p (const.Global x) n = end_in parts h (option_and_then (end_of parts) (global_import parts p x))
 
 -- what a walk ends with
 abbrev EndIn : Option Read → Type 0
@@ -88,11 +88,11 @@ walk_in parts h (suc most) r n = on_step parts most (read_step parts r) (expr_in
 read_in : (parts : List Part) → PartsInRange parts → (p : ℕ) (expr : ConstExpr) → ConstNumberInRange expr → EndIn (read_of parts p expr)
 read_in parts h p expr n = walk_in parts h (suc (length (initials_from 0 parts))) (record { part = p; expr = expr }) n
 
-or_this_in : (parts : List Part) (expr : ConstExpr) (o : Option Read) → ConstNumberInRange expr → EndIn o → ConstNumberInRange (or_this expr (then_some o (merged_read parts)))
+or_this_in : (parts : List Part) (expr : ConstExpr) (o : Option Read) → ConstNumberInRange expr → EndIn o → ConstNumberInRange (unwrap_or (option_and_then (merged_read parts) o) expr)
 or_this_in parts expr None n e = n
 or_this_in parts expr (Some r) n e = in_part (module_at parts r.part)
   where
-    in_part : (o : Option Module) → ConstNumberInRange (or_this expr (then_some o (λ m. Some (new_const (map_of parts r.part m) r.expr))))
+    in_part : (o : Option Module) → ConstNumberInRange (unwrap_or (option_and_then (λ m. Some (new_const (map_of parts r.part m) r.expr)) o) expr)
     in_part None = n
     in_part (Some m) = new_number (map_of parts r.part m) r.expr e
 

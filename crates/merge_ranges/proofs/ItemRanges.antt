@@ -24,7 +24,7 @@ use Rattle.wasm_tree.specs.declared.module.Func.{Func}
 use Rattle.wasm_tree.specs.declared.module.Module.{Module}
 use Rattle.wasm_tree.specs.Spaces.{funcs_of, tables_of, globals_of}
 use Rattle.wasm_tree.specs.Bounds.{IsBounded}
-use Rattle.wasm_typing.specs.Typing.{then_option, only}
+use Rattle.wasm_typing.specs.Typing.{only}
 use Rattle.wasm_valid.specs.declared.kinds.ItemKind.{ItemKind}
 use Rattle.wasm_valid.specs.declared.kinds.ItemKind.TheVariants as kind
 use Rattle.wasm_valid.specs.Constants.{const_type}
@@ -68,10 +68,10 @@ module _ (m : Module) (holds : ItemsHold m) (single : IsSingle m) (few : IsBound
       by_test false is k = absurd (cc)
       by_test true is k = let less : f < length (funcs_of m) = grind (arith, nat_tests) in omega (arith, few.funcs)
 
-  global_there : {A B : Type 0} (xs : List A) (n : ℕ) (f : A → Option B) (t : B) → length xs < 2 ^ 32 → then_option (slice_get xs n) f ≡ Some t → n < 2 ^ 32
+  global_there : {A B : Type 0} (xs : List A) (n : ℕ) (f : A → Option B) (t : B) → length xs < 2 ^ 32 → option_and_then f (slice_get xs n) ≡ Some t → n < 2 ^ 32
   global_there xs n f t h e = by_case (slice_get xs n) refl e
     where
-      by_case : (o : Option _) → slice_get xs n ≡ o → then_option o f ≡ Some t → n < 2 ^ 32
+      by_case : (o : Option _) → slice_get xs n ≡ o → option_and_then f o ≡ Some t → n < 2 ^ 32
       by_case None is k = absurd (cc)
       by_case (Some x) is k = let less : n < length xs = there xs n x is in omega arith
 

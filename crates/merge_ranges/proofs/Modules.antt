@@ -1,5 +1,5 @@
 -- The merged module keeps the numbers of its parts.
-use Rattle.std.proofs.Common.{◌≡◌, ℕ, List, [], ◌∷◌, map, Option, Some, subst}
+use Rattle.std.proofs.Common.{◌≡◌, ℕ, List, [], ◌∷◌, map, Option, Some, subst, option_and_then}
 use Rattle.std.specs.Prelude.{IsUtf8}
 use Rattle.wasm_tree.specs.declared.types.TableType.{TableType}
 use Rattle.wasm_tree.specs.declared.module.ConstExpr.TheVariants as const
@@ -12,7 +12,7 @@ use Rattle.wasm_tree.specs.declared.module.GlobalDef.{GlobalDef}
 use Rattle.wasm_tree.specs.declared.module.DataSeg.{DataSeg}
 use Rattle.wasm_tree.specs.declared.module.Module.{Module}
 use Rattle.wasm_format.specs.Words.{Every}
-use Rattle.wasm_meaning.specs.Linking.{Part, Site, then_some, module_at, import_at}
+use Rattle.wasm_meaning.specs.Linking.{Part, Site, module_at, import_at}
 use Rattle.index_remap.specs.declared.remap.Remap.{Remap}
 use Rattle.index_remap.specs.Renumbered.{new_func, new_export}
 use Rattle.index_remap.specs.References.{declaring, with_declared, declared_refs}
@@ -41,7 +41,7 @@ module _ (parts : List Part) (h : PartsInRange parts) where
   unfolding merged_import
   import_numbers s x e = in_module (from_some (module_at parts s.part) _ x e)
     where
-      in_module : (m : Module) × (module_at parts s.part ≡ Some m) × (then_some (import_at parts s) (λ i. Some (record i { desc = merged_desc parts s m i.desc })) ≡ Some x) → ImportNumbersInRange x
+      in_module : (m : Module) × (module_at parts s.part ≡ Some m) × (option_and_then (λ i. Some (record i { desc = merged_desc parts s m i.desc })) (import_at parts s) ≡ Some x) → ImportNumbersInRange x
       in_module (m, there, f) = in_import (from_some (import_at parts s) (λ i. Some (record i { desc = merged_desc parts s m i.desc })) x f)
         where
           in_import : (i : Import) × (import_at parts s ≡ Some i) × (◌≡◌ {A = Option Import} (Some (record i { desc = merged_desc parts s m i.desc })) (Some x)) → ImportNumbersInRange x

@@ -1,6 +1,7 @@
 -- Why parts are not linked: the first fault, in the order in which they are told.
 -- First every import is compared with its end; then the limits of what stays; then the memories are counted; then the values of globals are followed.
-use Rattle.std.specs.Prelude.{ℕ, suc, ◌+◌, List, [], ◌∷◌, ◌++◌, length, Option, Some, None, Bool, true, false, cond, nat_lt, slice_get}
+use Rattle.std.specs.Prelude.{ℕ, suc, ◌+◌, List, [], ◌∷◌, ◌++◌, length, Option, Some, None, Bool, true, false, cond, nat_lt, slice_get, unwrap_or, ◌&&◌}
+use Rattle.base_lists.specs.Options.{◌>>=◌}
 use Rattle.wasm_tree.specs.declared.types.FuncType.{FuncType}
 use Rattle.wasm_tree.specs.declared.types.Limits.{Limits}
 use Rattle.wasm_tree.specs.declared.types.TableType.{TableType}
@@ -14,8 +15,8 @@ use Rattle.wasm_tree.specs.declared.module.GlobalDef.{GlobalDef}
 use Rattle.wasm_tree.specs.declared.module.Module.{Module}
 use Rattle.wasm_tree.specs.Spaces.{type_of_func, tables_of, memories_of, globals_of}
 use Rattle.wasm_meaning.specs.Values.{same_ref, same_type, same_func_type}
-use Rattle.wasm_meaning.specs.World.{same_bool, meets, or_false, defined_before}
-use Rattle.wasm_meaning.specs.Linking.{Part, Site, End, Defined, Outside, Memories, Globals, place, then_some, count_of, has_kind, module_at, import_at, imports_of, sites, end_of, is_outside, linked_end, limits_of, met_limits, Read, read_of}
+use Rattle.wasm_meaning.specs.World.{same_bool, meets, defined_before}
+use Rattle.wasm_meaning.specs.Linking.{Part, Site, End, Defined, Outside, Memories, Globals, count_of, has_kind, module_at, import_at, imports_of, sites, end_of, is_outside, linked_end, limits_of, met_limits, Read, read_of}
 use Rattle.merge_terms.specs.declared.faults.LinkFault.{LinkFault}
 use Rattle.merge_terms.specs.declared.faults.LinkFault.TheVariants.{ImportMismatch, ImportCycle, LimitsClash, TooManyMemories, GlobalCycle}
 
@@ -29,23 +30,23 @@ pub data External : Type 0 where
 
 -- what an import asks for
 abbrev pub asked : Module → ImportDesc → Option External
-asked m (im.Func ty) = then_some (place m.types ty) (λ t. Some (FuncOf t))
+asked m (im.Func ty) = slice_get m.types ty >>= λ t. Some (FuncOf t)
 asked m (im.Table t) = Some (TableOf t)
 asked m (im.Memory l) = Some (MemoryOf l)
 asked m (im.Global t) = Some (GlobalOf t)
 
 abbrev pub asked_at : List Part → Site → Option External
-asked_at parts s = then_some (module_at parts s.part) (λ m. then_some (place m.imports s.import) (λ i. asked m i.desc))
+asked_at parts s = module_at parts s.part >>= λ m. slice_get m.imports s.import >>= λ i. asked m i.desc
 
 -- what an entry of an index space is
 abbrev pub external_of : Module → ExportDesc → Option External
-external_of m (ex.Func i) = then_some (type_of_func m i) (λ t. Some (FuncOf t))
-external_of m (ex.Table i) = then_some (slice_get (tables_of m) i) (λ t. Some (TableOf t))
-external_of m (ex.Memory i) = then_some (slice_get (memories_of m) i) (λ l. Some (MemoryOf l))
-external_of m (ex.Global i) = then_some (slice_get (globals_of m) i) (λ t. Some (GlobalOf t))
+external_of m (ex.Func i) = type_of_func m i >>= λ t. Some (FuncOf t)
+external_of m (ex.Table i) = slice_get (tables_of m) i >>= λ t. Some (TableOf t)
+external_of m (ex.Memory i) = slice_get (memories_of m) i >>= λ l. Some (MemoryOf l)
+external_of m (ex.Global i) = slice_get (globals_of m) i >>= λ t. Some (GlobalOf t)
 
 abbrev pub found : List Part → End → Option External
-found parts (Defined e) = then_some (module_at parts e.part) (λ m. external_of m e.what)
+found parts (Defined e) = module_at parts e.part >>= λ m. external_of m e.what
 found parts (Outside s) = asked_at parts s
 
 -- one kind and one type, the limits of tables and memories left aside
@@ -53,7 +54,7 @@ abbrev pub same_but_limits : External → External → Bool
 same_but_limits (FuncOf t) (FuncOf u) = same_func_type t u
 same_but_limits (TableOf t) (TableOf u) = same_ref t.ty u.ty
 same_but_limits (MemoryOf l) (MemoryOf k) = true
-same_but_limits (GlobalOf t) (GlobalOf u) = cond (same_type t.ty u.ty) (same_bool t.mutable u.mutable) false
+same_but_limits (GlobalOf t) (GlobalOf u) = same_type t.ty u.ty && same_bool t.mutable u.mutable
 same_but_limits _ _ = false
 
 -- the limits of what is found meet the demand
@@ -64,11 +65,11 @@ meets_limits _ _ = true
 
 -- an import's end is what it asks for; only of what is defined are the limits compared
 abbrev pub suits : (demand : External) → End → External → Bool
-suits d (Defined e) x = cond (same_but_limits d x) (meets_limits d x) false
+suits d (Defined e) x = same_but_limits d x && meets_limits d x
 suits d (Outside s) x = same_but_limits d x
 
 abbrev pub is_suited : List Part → Site → End → Bool
-is_suited parts s end = or_false (then_some (asked_at parts s) (λ d. then_some (found parts end) (λ x. Some (suits d end x))))
+is_suited parts s end = unwrap_or (asked_at parts s >>= λ d. found parts end >>= λ x. Some (suits d end x)) false
 
 -- ---- the faults ----
 
@@ -95,7 +96,7 @@ stays parts s = is_outside s (linked_end parts s)
 
 -- the limits that a staying table or memory has
 unfoldable pub kept_limits : List Part → Site → Option Limits
-kept_limits parts s = cond (stays parts s) (then_some (import_at parts s) (λ i. then_some (limits_of i.desc) (λ l. Some (met_limits parts s)))) None
+kept_limits parts s = cond (stays parts s) (import_at parts s >>= λ i. limits_of i.desc >>= λ l. Some (met_limits parts s)) None
 
 abbrev pub is_under : Option ℕ → ℕ → Bool
 is_under None min = false
@@ -103,10 +104,10 @@ is_under (Some max) min = nat_lt max min
 
 -- the greatest minimum exceeds the least maximum
 unfoldable pub clash_fault : List Part → Site → Option LinkFault
-clash_fault parts s = then_some (kept_limits parts s) (λ l. cond (is_under l.max l.min) (Some (LimitsClash s.part s.import)) None)
+clash_fault parts s = kept_limits parts s >>= λ l. cond (is_under l.max l.min) (Some (LimitsClash s.part s.import)) None
 
 abbrev pub is_staying_memory : List Part → Site → Bool
-is_staying_memory parts s = cond (stays parts s) (or_false (then_some (import_at parts s) (λ i. Some (has_kind Memories i)))) false
+is_staying_memory parts s = stays parts s && (unwrap_or (import_at parts s >>= λ i. Some (has_kind Memories i)) false)
 
 -- the memories that are defined, and the distinct ones that stay imported
 unfoldable pub memory_count : List Part → ℕ

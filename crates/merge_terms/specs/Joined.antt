@@ -1,12 +1,13 @@
 -- What joining parts gives: the merged module with its references declared, or why there is none.
-use Rattle.std.specs.Prelude.{◌≡◌, ℕ, ◌+◌, ◌<◌, ◌^◌, List, length, Option, Some, None, cond, nat_lt, Result, Ok, Err}
+use Rattle.std.specs.Prelude.{◌≡◌, ℕ, ◌+◌, ◌<◌, ◌^◌, List, length, Option, Some, None, cond, nat_lt, Result, Ok, Err, slice_get}
+use Rattle.base_lists.specs.Options.{◌>>=◌}
 use Rattle.std.specs.List.{flat_map}
 use Rattle.wasm_tree.specs.declared.which.Which.{Which}
 use Rattle.wasm_tree.specs.declared.which.Which.TheVariants as which
 use Rattle.wasm_tree.specs.declared.module.Module.{Module}
 use Rattle.wasm_meaning.specs.State.{Text}
 use Rattle.wasm_meaning.specs.World.{defined_before, elems_before, datas_before}
-use Rattle.wasm_meaning.specs.Linking.{Part, Kind, place, then_some, sites}
+use Rattle.wasm_meaning.specs.Linking.{Part, Kind, sites}
 use Rattle.index_remap.specs.References.{declared}
 use Rattle.export_names.specs.declared.mode.Mode.{Mode}
 use Rattle.export_names.specs.Names.{new_names, conflict}
@@ -38,7 +39,7 @@ joined_module parts mode = declared (merged parts (new_names mode (export_names 
 
 -- where no name may stand twice, the first name that came before
 unfoldable pub repeated_name : List Part → Mode → Option Text
-repeated_name parts mode = then_some (conflict mode (export_names parts)) (place (export_names parts))
+repeated_name parts mode = conflict mode (export_names parts) >>= (slice_get (export_names parts))
 
 abbrev pub outcome : Option Text → Option Which → Module → Result Module JoinFault
 outcome (Some name) which m = Err (ExportConflict name)

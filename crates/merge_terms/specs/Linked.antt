@@ -1,10 +1,11 @@
 -- The links of parts: for each import its end, the limits that it keeps, and what is read through it.
 use Rattle.std.specs.Prelude.{◌≡◌, ℕ, suc, List, [], ◌∷◌, map, length, Option, Some, None, option_map, Bool, true, false}
+use Rattle.base_lists.specs.Options.{◌>>=◌}
 use Rattle.wasm_tree.specs.declared.types.GlobalType.{GlobalType}
 use Rattle.wasm_tree.specs.declared.module.ImportDesc.{ImportDesc}
 use Rattle.wasm_tree.specs.declared.module.ImportDesc.TheVariants as im
 use Rattle.wasm_tree.specs.declared.module.ConstExpr.TheVariants as const
-use Rattle.wasm_meaning.specs.Linking.{Part, Site, Kind, Globals, then_some, module_at, import_at, space_index, sites_in, index_of_export, linked_end, read_of}
+use Rattle.wasm_meaning.specs.Linking.{Part, Site, Kind, Globals, module_at, import_at, space_index, sites_in, index_of_export, linked_end, read_of}
 use Rattle.wasm_meaning.specs.Linking as linking
 use Rattle.merge_terms.specs.Faults.{kept_limits}
 use Rattle.merge_terms.specs.declared.links.End.{End}
@@ -34,14 +35,14 @@ when_fixed false x = x
 
 -- what is read through the import at this site, where it is an immutable global
 abbrev pub read_through : List Part → Site → GlobalType → Option linking.Read
-read_through parts s t = when_fixed t.mutable (then_some (module_at parts s.part) (λ m. read_of parts s.part (const.Global (space_index m.imports s.import Globals))))
+read_through parts s t = when_fixed t.mutable (module_at parts s.part >>= λ m. read_of parts s.part (const.Global (space_index m.imports s.import Globals)))
 
 abbrev pub read_at_desc : List Part → Site → ImportDesc → Option linking.Read
 read_at_desc parts s (im.Global t) = read_through parts s t
 read_at_desc parts s _ = None
 
 abbrev pub read_at : List Part → Site → Option Read
-read_at parts s = option_map read_entry (then_some (import_at parts s) (λ i. read_at_desc parts s i.desc))
+read_at parts s = option_map read_entry (import_at parts s >>= λ i. read_at_desc parts s i.desc)
 
 -- these are the links of the parts
 pub record AreLinks (parts : List Part) (links : Links) : Type 0 where

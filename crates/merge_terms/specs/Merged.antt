@@ -1,5 +1,6 @@
 -- The merged module: its lists are filters and joins of the parts' lists, and its indices are places in these.
-use Rattle.std.specs.Prelude.{ℕ, suc, ◌+◌, ◌-◌, List, [], ◌∷◌, ◌++◌, map, filter, length, Option, Some, None, Bool, cond, slice_index}
+use Rattle.std.specs.Prelude.{ℕ, suc, ◌+◌, ◌-◌, List, [], ◌∷◌, ◌++◌, map, filter, length, Option, Some, None, Bool, cond, slice_index, unwrap_or}
+use Rattle.base_lists.specs.Options.{◌>>=◌}
 use Rattle.std.specs.List.{flat_map, filter_map, list_any}
 use Rattle.wasm_tree.specs.declared.types.FuncType.{FuncType}
 use Rattle.wasm_tree.specs.declared.module.Import.{Import}
@@ -22,16 +23,11 @@ use Rattle.wasm_tree.specs.declared.instr.Instr.TheVariants.{Call}
 use Rattle.wasm_tree.specs.Spaces.{funcs_of, tables_of, memories_of, globals_of}
 use Rattle.wasm_meaning.specs.State.{Text}
 use Rattle.wasm_meaning.specs.Values.{same_func_type}
-use Rattle.wasm_meaning.specs.World.{defined_before, numbers, elems_before, datas_before, or_false}
-use Rattle.wasm_meaning.specs.Linking.{Part, Site, End, Defined, Outside, Entity, Kind, Functions, Tables, Memories, Globals, Read, then_some, first_place, has_kind, module_at, import_at, imports_of, index_of_export, same_site, imported_as, sites, linked_end, met_limits, read_of}
+use Rattle.wasm_meaning.specs.World.{defined_before, numbers, elems_before, datas_before}
+use Rattle.wasm_meaning.specs.Linking.{Part, Site, End, Defined, Outside, Entity, Kind, Functions, Tables, Memories, Globals, Read, first_place, has_kind, module_at, import_at, imports_of, index_of_export, same_site, imported_as, sites, linked_end, met_limits, read_of}
 use Rattle.index_remap.specs.declared.remap.Remap.{Remap}
 use Rattle.index_remap.specs.Renumbered.{new_const, new_func, new_export}
 use Rattle.merge_terms.specs.Faults.{stays}
-
--- What is there, or something else. Where parts have no fault, each end, place and read that is looked up below is there.
-abbrev pub or_this : {A : Type 0} → A → Option A → A
-or_this other None = other
-or_this other (Some x) = x
 
 -- ---- what stays, and places in the merged index spaces ----
 
@@ -40,18 +36,18 @@ unfoldable pub staying : List Part → List Site
 staying parts = filter (stays parts) (sites parts)
 
 abbrev pub imports_kind : List Part → Kind → Site → Bool
-imports_kind parts k s = or_false (then_some (import_at parts s) (λ i. Some (has_kind k i)))
+imports_kind parts k s = unwrap_or (import_at parts s >>= λ i. Some (has_kind k i)) false
 
 -- those of one kind, which come first in that kind's index space
 unfoldable pub staying_of : List Part → Kind → List Site
 staying_of parts k = filter (imports_kind parts k) (staying parts)
 
 abbrev pub imported_count : List Part → ℕ → Kind → ℕ
-imported_count parts p k = or_this 0 (then_some (module_at parts p) (λ m. Some (length (imports_of k m))))
+imported_count parts p k = unwrap_or (module_at parts p >>= λ m. Some (length (imports_of k m))) 0
 
 -- the place of an end in the merged index space of its kind: of what stays among the imports, of what is defined after these, by part
 unfoldable pub place_of_end : List Part → Kind → End → ℕ
-place_of_end parts k (Outside s) = or_this 0 (first_place (same_site s) (staying_of parts k) 0)
+place_of_end parts k (Outside s) = unwrap_or (first_place (same_site s) (staying_of parts k) 0) 0
 place_of_end parts k (Defined e) = length (staying_of parts k) + (defined_before k parts e.part + (index_of_export e.what - imported_count parts e.part k))
 
 abbrev pub entry_of : Kind → ℕ → ExportDesc
@@ -69,7 +65,7 @@ abbrev pub entry_end : List Part → Entity → Option End
 entry_end parts e = end_from parts e (imported_as parts e)
 
 unfoldable pub new_index : List Part → ℕ → Kind → ℕ → ℕ
-new_index parts p k i = or_this 0 (then_some (entry_end parts (record { part = p; what = entry_of k i })) (λ end. Some (place_of_end parts k end)))
+new_index parts p k i = unwrap_or (entry_end parts (record { part = p; what = entry_of k i }) >>= λ end. Some (place_of_end parts k end)) 0
 
 -- ---- types ----
 
@@ -87,7 +83,7 @@ unfoldable pub merged_types : List Part → List FuncType
 merged_types parts = with_types [] (flat_map (λ p. p.«module».types) parts)
 
 unfoldable pub place_of_type : List Part → FuncType → ℕ
-place_of_type parts t = or_this 0 (first_place (same_func_type t) (merged_types parts) 0)
+place_of_type parts t = unwrap_or (first_place (same_func_type t) (merged_types parts) 0) 0
 
 -- ---- the maps of a part's indices ----
 
@@ -113,11 +109,11 @@ by_part f = by_part_from f 0
 -- ---- constant expressions ----
 
 abbrev pub merged_read : List Part → Read → Option ConstExpr
-merged_read parts r = then_some (module_at parts r.part) (λ m. Some (new_const (map_of parts r.part m) r.expr))
+merged_read parts r = module_at parts r.part >>= λ m. Some (new_const (map_of parts r.part m) r.expr)
 
 -- a constant expression becomes what it reads through joined globals
 unfoldable pub merged_const : List Part → ℕ → ConstExpr → ConstExpr
-merged_const parts p expr = or_this expr (then_some (read_of parts p expr) (merged_read parts))
+merged_const parts p expr = unwrap_or (read_of parts p expr >>= (merged_read parts)) expr
 
 -- ---- the lists ----
 
@@ -128,7 +124,7 @@ merged_desc parts s m (im.Memory l) = im.Memory (met_limits parts s)
 merged_desc parts s m (im.Global t) = im.Global t
 
 unfoldable pub merged_import : List Part → Site → Option Import
-merged_import parts s = then_some (module_at parts s.part) (λ m. then_some (import_at parts s) (λ i. Some (record i { desc = merged_desc parts s m i.desc })))
+merged_import parts s = module_at parts s.part >>= λ m. import_at parts s >>= λ i. Some (record i { desc = merged_desc parts s m i.desc })
 
 abbrev pub merged_global : List Part → ℕ → GlobalDef → GlobalDef
 merged_global parts p g = record g { init = merged_const parts p g.init }

@@ -20,7 +20,7 @@ use Rattle.wasm_valid.specs.Validity.{HoldsAt, ImportHolds, count_of}
 use Rattle.wasm_meaning.specs.State.{Text}
 use Rattle.wasm_meaning.specs.Laws.{EndsArePaths}
 use Rattle.wasm_meaning.specs.World.{numbers, elems_before, datas_before}
-use Rattle.wasm_meaning.specs.Linking.{Part, Kind, Functions, Tables, Memories, Globals, then_some, module_at}
+use Rattle.wasm_meaning.specs.Linking.{Part, Kind, Functions, Tables, Memories, Globals, module_at}
 use Rattle.index_remap.specs.declared.remap.Remap.{Remap}
 use Rattle.index_remap.specs.Agreement.{Keeps}
 use Rattle.remap_typing.specs.Indices.{with_entry}
@@ -93,23 +93,23 @@ map_covers parts p m =
 pub func_to : (m : Module) (i : ℕ) (ft : FuncType) → type_of_func m i ≡ Some ft → type_at m Functions i ≡ Some (FuncTy ft)
 func_to m i ft h = by (slice_get (funcs_of m) i) h
   where
-    by : (o : Option ℕ) → option_and_then (slice_get m.types) o ≡ Some ft → then_some o (type_of m Functions) ≡ Some (FuncTy ft)
+    by : (o : Option ℕ) → option_and_then (slice_get m.types) o ≡ Some ft → option_and_then (type_of m Functions) o ≡ Some (FuncTy ft)
     by None h = cc
-    by (Some ty) h = ap (λ o. then_some o (λ t. Some (FuncTy t))) h
+    by (Some ty) h = ap (λ o. option_and_then (λ t. Some (FuncTy t)) o) h
 
 pub func_back : (m : Module) (i : ℕ) (ft : FuncType) → type_at m Functions i ≡ Some (FuncTy ft) → type_of_func m i ≡ Some ft
 func_back m i ft h = by (slice_get (funcs_of m) i) h
   where
-    inner : (o : Option FuncType) → then_some o (λ t. Some (FuncTy t)) ≡ Some (FuncTy ft) → o ≡ Some ft
+    inner : (o : Option FuncType) → option_and_then (λ t. Some (FuncTy t)) o ≡ Some (FuncTy ft) → o ≡ Some ft
     inner None h = cc
     inner (Some t) h = let same : t ≡ ft = cc in ap Some same
 
-    by : (o : Option ℕ) → then_some o (type_of m Functions) ≡ Some (FuncTy ft) → option_and_then (slice_get m.types) o ≡ Some ft
+    by : (o : Option ℕ) → option_and_then (type_of m Functions) o ≡ Some (FuncTy ft) → option_and_then (slice_get m.types) o ≡ Some ft
     by None h = cc
     by (Some ty) h = inner (slice_get m.types ty) h
 
 table_to : (m : Module) (i : ℕ) (r : RefType) → slice_get (table_types m) i ≡ Some r → type_at m Tables i ≡ Some (TableTy r)
-table_to m i r h = let t = map_back (λ t. t.ty) (tables_of m) i r h in ap (λ o. then_some o (type_of m Tables)) t.1 ∙ ap (λ z. Some (TableTy z)) t.2
+table_to m i r h = let t = map_back (λ t. t.ty) (tables_of m) i r h in ap (λ o. option_and_then (type_of m Tables) o) t.1 ∙ ap (λ z. Some (TableTy z)) t.2
 
 table_back : (m : Module) (i : ℕ) (r : RefType) → type_at m Tables i ≡ Some (TableTy r) → slice_get (table_types m) i ≡ Some r
 table_back m i r h =
@@ -200,7 +200,7 @@ module _ (law : EndsArePaths) (parts : List Part) (names : List (Option Text)) (
   func_within i lt = let ft = func_there m holds i lt in at_there (merged parts names) Functions _ _ (kept Functions i (FuncTy ft.0) (func_to m i ft.0 ft.1))
 
   memory_within : (i : ℕ) → i < length (memories_of m) → slice_index (map_of parts p m).mems i < length (memories_of (merged parts names))
-  memory_within i lt = let l = there (memories_of m) i lt in at_there (merged parts names) Memories _ _ (kept Memories i MemoryTy (ap (λ o. then_some o (type_of m Memories)) l.1))
+  memory_within i lt = let l = there (memories_of m) i lt in at_there (merged parts names) Memories _ _ (kept Memories i MemoryTy (ap (λ o. option_and_then (type_of m Memories) o) l.1))
 
   elem_kept : (i : ℕ) → Keeps (slice_get (elem_types m.elems) i) (slice_get (elem_types (merged parts names).elems) (slice_index (map_of parts p m).elems i))
   elem_kept i r h =
@@ -220,7 +220,7 @@ module _ (law : EndsArePaths) (parts : List Part) (names : List (Option Text)) (
     func_space = λ i lt within. func_within i within;
     tables = λ i lt r h. table_back (merged parts names) _ r (kept Tables i (TableTy r) (table_to m i r h));
     memories = λ i lt within. memory_within i within;
-    globals = λ i lt g h. global_back (merged parts names) _ g (kept Globals i (GlobalTy g) (ap (λ o. then_some o (type_of m Globals)) h));
+    globals = λ i lt g h. global_back (merged parts names) _ g (kept Globals i (GlobalTy g) (ap (λ o. option_and_then (type_of m Globals) o) h));
     elems = λ i lt. elem_kept i;
     datas = λ i lt within. data_kept i within;
   }

@@ -1,5 +1,5 @@
 -- A constant expression of a part keeps its type where it becomes what it reads through joined globals.
-use Rattle.std.proofs.Common.{◌≡◌, ◌∙◌, ap, ap₂, sym, subst, refl, ℕ, zero, suc, ◌+◌, ◌-◌, ◌<◌, ◌≤◌, List, [], ◌∷◌, length, Option, Some, Bool, true, false, cond, ◌&&◌, not, nat_lt, arith, IsTrue}
+use Rattle.std.proofs.Common.{◌≡◌, ◌∙◌, ap, ap₂, sym, subst, refl, ℕ, zero, suc, ◌+◌, ◌-◌, ◌<◌, ◌≤◌, List, [], ◌∷◌, length, Option, Some, Bool, true, false, cond, ◌&&◌, not, nat_lt, arith, IsTrue, option_and_then, unwrap_or}
 use Rattle.std.specs.Prelude.{slice_get, slice_index}
 use Rattle.std.proofs.lemmas.Bool.{ltb-true, lt-ltb}
 use Rattle.wasm_tree.specs.declared.types.RefType.TheVariants.{Func as func_ref}
@@ -12,19 +12,19 @@ use Rattle.wasm_tree.specs.declared.module.ConstExpr.TheVariants as const
 use Rattle.wasm_tree.specs.declared.module.GlobalDef.{GlobalDef}
 use Rattle.wasm_tree.specs.declared.module.Module.{Module}
 use Rattle.wasm_tree.specs.Spaces.{funcs_of, globals_of, imported_globals}
-use Rattle.wasm_typing.specs.Typing.{then_option, only}
+use Rattle.wasm_typing.specs.Typing.{only}
 use Rattle.wasm_valid.specs.declared.kinds.ItemKind.TheVariants as kind
 use Rattle.wasm_valid.specs.Constants.{const_type}
 use Rattle.wasm_meaning.specs.State.{Text}
 use Rattle.wasm_meaning.specs.Paths.{Next, Ends, Goes, Path, ends, goes}
 use Rattle.wasm_meaning.specs.Laws.{EndsArePaths, ReadsArePaths}
-use Rattle.wasm_meaning.specs.Linking.{Part, Site, Outside, Entity, Kind, Functions, Globals, Read, place, then_some, places, has_kind, space_index, module_at, imports_of, index_of_export, imported_as, end_of, initial, outside_read, end_step, read_step, read_of}
+use Rattle.wasm_meaning.specs.Linking.{Part, Site, Outside, Entity, Kind, Functions, Globals, Read, places, has_kind, space_index, module_at, imports_of, index_of_export, imported_as, end_of, initial, outside_read, end_step, read_step, read_of}
 use Rattle.index_remap.specs.declared.remap.Remap.{Remap}
 use Rattle.index_remap.specs.Renumbered.{fits_const, new_const}
 use Rattle.remap_typing.specs.Indices.{Indices, with_entry, ConstNamesOnly}
 use Rattle.remap_typing.specs.Trees.{TreesAgree, ReadsImport, ConstStands}
 use Rattle.remap_typing.proofs.Lists.{left_true, right_true, then_there, only_true, only_rest}
-use Rattle.merge_terms.specs.Merged.{merged, map_of, or_this, merged_read, merged_const, staying_of, place_of_end, end_from, new_index}
+use Rattle.merge_terms.specs.Merged.{merged, map_of, merged_read, merged_const, staying_of, place_of_end, end_from, new_index}
 use Rattle.merge_validity.specs.Entries.{HasEntry}
 use Rattle.merge_validity.proofs.Lists.{place_get, place_of, places_many, map_back, then_is, within, there, front}
 use Rattle.merge_validity.proofs.Entities.{of_import, own, imported, space, import_kind, GlobalTy, type_of, asked_type}
@@ -54,7 +54,7 @@ reads_global m x ty h =
 
 global_typed : (m : Module) (x : ℕ) (g : GlobalType) → slice_get (globals_of m) x ≡ Some g → x < length (imported_globals m.imports) → not g.mutable ≡ true → const_type m (const.Global x) ≡ Some g.ty
 global_typed m x g at lt fixed =
-    ap (λ o. then_option o (λ g. only (nat_lt x (length (imported_globals m.imports)) && not g.mutable) (Some g.ty))) at
+    ap (λ o. option_and_then (λ g. only (nat_lt x (length (imported_globals m.imports)) && not g.mutable) (Some g.ty)) o) at
     ∙ ap₂ (λ a b. only (a && b) (Some g.ty)) (lt-ltb _ _ lt) fixed
 
 const_fits : (m : Module) (r : Remap) (e : ConstExpr) (ty : ValType) → length (funcs_of m) ≤ length r.funcs → length (globals_of m) ≤ length r.globals → const_type m e ≡ Some ty → IsTrue (fits_const r e)
@@ -79,16 +79,16 @@ map_fits parts p m e ty h =
 
 -- ---- the place of an import in its space ----
 
-index_place : (k : Kind) (is : List Import) (n from : ℕ) (i : Import) → slice_get is n ≡ Some i → has_kind k i ≡ true → place (places (has_kind k) is from) (space_index is n k) ≡ Some (from + n)
+index_place : (k : Kind) (is : List Import) (n from : ℕ) (i : Import) → slice_get is n ≡ Some i → has_kind k i ≡ true → slice_get (places (has_kind k) is from) (space_index is n k) ≡ Some (from + n)
 index_place k [] n from i h e = cc
 index_place k (x ∷ xs) zero from i h e =
     let same : x ≡ i = cc in
     let z : from ≡ from + 0 = omega arith in
-    ap (λ b. place (cond b (from ∷ places (has_kind k) xs (suc from)) (places (has_kind k) xs (suc from))) 0) (ap (has_kind k) same ∙ e) ∙ ap Some z
+    ap (λ b. slice_get (cond b (from ∷ places (has_kind k) xs (suc from)) (places (has_kind k) xs (suc from))) 0) (ap (has_kind k) same ∙ e) ∙ ap Some z
 index_place k (x ∷ xs) (suc n) from i h e = by (has_kind k x) (index_place k xs n (suc from) i h e)
   where
-    by : (b : Bool) → place (places (has_kind k) xs (suc from)) (space_index xs n k) ≡ Some (suc from + n) →
-        place (cond b (from ∷ places (has_kind k) xs (suc from)) (places (has_kind k) xs (suc from))) (cond b (suc (space_index xs n k)) (space_index xs n k)) ≡ Some (from + suc n)
+    by : (b : Bool) → slice_get (places (has_kind k) xs (suc from)) (space_index xs n k) ≡ Some (suc from + n) →
+        slice_get (cond b (from ∷ places (has_kind k) xs (suc from)) (places (has_kind k) xs (suc from))) (cond b (suc (space_index xs n k)) (space_index xs n k)) ≡ Some (from + suc n)
     by true on = on ∙ ap Some (let z : suc from + n ≡ from + suc n = omega arith in z)
     by false on = on ∙ ap Some (let z : suc from + n ≡ from + suc n = omega arith in z)
 
@@ -120,7 +120,7 @@ module _ (ends_law : EndsArePaths) (parts : List Part) (names : List (Option Tex
       let h = outside_kind parts k s (GlobalTy g) refl w in
       let at : slice_get m.0.imports w.to.import ≡ Some w.stays.import = sym (place_get m.0.imports w.to.import) ∙ m.2 in
       let z : 0 + w.to.import ≡ w.to.import = omega arith in
-      let p : place (imports_of k m.0) x ≡ Some w.to.import = index_place k m.0.imports w.to.import 0 w.stays.import at h ∙ ap Some z in
+      let p : slice_get (imports_of k m.0) x ≡ Some w.to.import = index_place k m.0.imports w.to.import 0 w.stays.import at h ∙ ap Some z in
       let c = some_there (of_import k w.stays.import) (import_kind k w.stays.import ∙ h) in
       let got = place_of (has_kind k) (of_import k) m.0.imports (import_kind k) 0 x w.to.import p in
       let n : w.to.import ≡ got.0 = (let d = got.2 in omega (arith, d)) in
@@ -132,15 +132,15 @@ module _ (ends_law : EndsArePaths) (parts : List Part) (names : List (Option Tex
       let lt = within (imported k m.0) x c.0 is_c in
       let at_x : slice_get (globals_of m.0) x ≡ Some g = front (imported k m.0) (own k m.0) x c.0 is_c ∙ ap Some c_g in
       let q : Read = record { part = w.to.part; expr = const.Global x } in
-      let out : outside_read parts w.to ≡ Some q = ap (λ o. then_some {A = Module} {B = Read} o (λ m. Some (record { part = w.to.part; expr = const.Global (space_index m.imports w.to.import Globals) }))) m.1 in
+      let out : outside_read parts w.to ≡ Some q = ap (λ o. option_and_then {B = Read} {A = Module} o (λ m. Some (record { part = w.to.part; expr = const.Global (space_index m.imports w.to.import Globals) }))) m.1 in
       let space_lt : x < length (space k m.0) = within (space k m.0) x g at_x in
       let entry : new_index parts w.to.part k x ≡ place_of_end parts k (Outside w.to) =
-      index_is parts w.to.part k x (Outside w.to) (ap (end_from parts (entity_at w.to.part k x)) (entry_import parts w.to.part m.0 k x m.1 ∙ ap (λ o. then_some {A = ℕ} {B = Site} o (λ n. Some (record { part = w.to.part; import = n }))) p) ∙ w.stays.linked) in
+      index_is parts w.to.part k x (Outside w.to) (ap (end_from parts (entity_at w.to.part k x)) (entry_import parts w.to.part m.0 k x m.1 ∙ ap (λ o. option_and_then {B = Site} {A = ℕ} o (λ n. Some (record { part = w.to.part; import = n }))) p) ∙ w.stays.linked) in
       let in_map : slice_index (map_of parts w.to.part m.0).globals x ≡ place_of_end parts k (Outside w.to) = entry_at parts w.to.part m.0 k x space_lt ∙ entry in
       let few : place_of_end parts k (Outside w.to) < length (staying_of parts k) = within (staying_of parts k) _ w.to (outside_place parts k w.to w.stays h) in
       let many = imported_many parts names k in
       let imports : slice_index (map_of parts w.to.part m.0).globals x < length (imported k (merged parts names)) = omega (arith, in_map, few, many) in
-      stop q (step ∙ ap (end_step parts) w.end ∙ ap (λ t. then_some (outside_read parts t) (λ r. Some (Ends r))) (sym to) ∙ ap (λ o. then_some {A = Read} {B = Next Read Read} o (λ r. Some (Ends r))) out)
+      stop q (step ∙ ap (end_step parts) w.end ∙ ap (λ t. option_and_then (λ r. Some (Ends r)) (outside_read parts t)) (sym to) ∙ ap (λ o. option_and_then {B = Next Read Read} {A = Read} o (λ r. Some (Ends r))) out)
       (record { of = m.0; is_part = m.1; typed = global_typed m.0 x g at_x lt fixed; reads = imports })
 
   -- to the value of a global that is joined
@@ -153,22 +153,22 @@ module _ (ends_law : EndsArePaths) (parts : List Part) (names : List (Option Tex
       let at : slice_get (own k w.of) (n - length (imports_of k w.of)) ≡ Some c.0 = own_entry k w.of n c.0 o.own c.1 in
       let c_g : c.0 ≡ g = global_type c.0 g c.2 in
       let d = map_back (λ (g : GlobalDef). g.ty) w.of.globals (n - length (imports_of k w.of)) c.0 at in
-      let got : place w.of.globals (n - length (imports_of k w.of)) ≡ Some d.0 = place_get w.of.globals (n - length (imports_of k w.of)) ∙ d.1 in
+      let got : slice_get w.of.globals (n - length (imports_of k w.of)) ≡ Some d.0 = place_get w.of.globals (n - length (imports_of k w.of)) ∙ d.1 in
       let init : initial parts w.entity ≡ Some d.0.init =
-      ap (λ o. then_some o (λ m. then_some (place m.globals (index_of_export w.entity.what - length (imports_of Globals m))) (λ g. Some g.init))) w.is_part ∙ ap (λ o. then_some {A = GlobalDef} o (λ g. Some g.init)) got in
+      ap (λ o. option_and_then (λ m. option_and_then (λ g. Some g.init) (slice_get m.globals (index_of_export w.entity.what - length (imports_of Globals m)))) o) w.is_part ∙ ap (λ o. option_and_then o {A = GlobalDef} (λ g. Some g.init)) got in
       on w.entity w.of (n - length (imports_of k w.of)) d.0
-      (step ∙ ap (end_step parts) w.end ∙ ap (λ o. then_some {A = ConstExpr} {B = Next Read Read} o (λ expr. Some (Goes (record { part = w.entity.part; expr = expr })))) init) w.is_part d.1 (ap (λ (g : GlobalType). g.ty) (d.2 ∙ c_g))
+      (step ∙ ap (end_step parts) w.end ∙ ap (λ o. option_and_then {B = Next Read Read} {A = ConstExpr} o (λ expr. Some (Goes (record { part = w.entity.part; expr = expr })))) init) w.is_part d.1 (ap (λ (g : GlobalType). g.ty) (d.2 ∙ c_g))
 
   global_step : (p x : ℕ) (m : Module) (ty : ValType) → module_at parts p ≡ Some m → ReadsGlobal m x ty → Step (record { part = p; expr = const.Global x }) ty
   global_step p x m ty is g =
       let lt = g.imported in
       let many = places_many (has_kind Globals) (of_import Globals) m.imports (import_kind Globals) 0 in
       let n = there (imports_of Globals m) x (omega (arith, lt, many)) in
-      let at : place (imports_of Globals m) x ≡ Some n.0 = place_get (imports_of Globals m) x ∙ n.1 in
-      let j = joined_entry ends_law parts links p m Globals x n.0 (GlobalTy g.global) is at (ap (λ o. then_some o (type_of m Globals)) g.at) in
-      let import : imported_as parts (entity_at p Globals x) ≡ Some (site_at p n.0) = entry_import parts p m Globals x is ∙ ap (λ o. then_some {A = ℕ} {B = Site} o (λ n. Some (record { part = p; import = n }))) at in
+      let at : slice_get (imports_of Globals m) x ≡ Some n.0 = place_get (imports_of Globals m) x ∙ n.1 in
+      let j = joined_entry ends_law parts links p m Globals x n.0 (GlobalTy g.global) is at (ap (λ o. option_and_then (type_of m Globals) o) g.at) in
+      let import : imported_as parts (entity_at p Globals x) ≡ Some (site_at p n.0) = entry_import parts p m Globals x is ∙ ap (λ o. option_and_then {B = Site} {A = ℕ} o (λ n. Some (record { part = p; import = n }))) at in
       subst (Step (record { part = p; expr = const.Global x })) g.typed
-      (lands (site_at p n.0) (ap (λ o. end_step parts (then_some o (end_of parts))) import) j.lands)
+      (lands (site_at p n.0) (ap (λ o. end_step parts (option_and_then (end_of parts) o)) import) j.lands)
     where
       lands : (s : Site) → read_step parts (record { part = p; expr = const.Global x }) ≡ end_step parts (end_of parts s) → Landed parts s (GlobalTy g.global) → Step (record { part = p; expr = const.Global x }) g.global.ty
       lands s step (inside w) = joins_read (record { part = p; expr = const.Global x }) s g.global step w
@@ -233,6 +233,6 @@ module _ (ends_law : EndsArePaths) (parts : List Part) (names : List (Option Tex
           let z = ended (record { part = p; expr = e }) r.0 ((reads_law parts p e r.0).1 r.1) m ty is t in
           let named = const_named (map_of parts r.0.part z.of) r.0.expr (map_fits parts r.0.part z.of r.0.expr ty z.typed) in
           let agree = trees_agree ends_law parts names links r.0.part z.of z.is_part (valid r.0.part z.of z.is_part) in
-          ap (λ o. const_type (merged parts names) (or_this e (then_some o (merged_read parts)))) r.1
-          ∙ ap (λ o. const_type (merged parts names) (or_this e (then_some {A = Module} {B = ConstExpr} o (λ m. Some (new_const (map_of parts r.0.part m) r.0.expr))))) z.is_part
+          ap (λ o. const_type (merged parts names) (unwrap_or (option_and_then (merged_read parts) o) e)) r.1
+          ∙ ap (λ o. const_type (merged parts names) (unwrap_or (option_and_then {B = ConstExpr} {A = Module} o (λ m. Some (new_const (map_of parts r.0.part m) r.0.expr))) e)) z.is_part
           ∙ constants (map_of parts r.0.part z.of) (with_entry (map_of parts r.0.part z.of)) z.of (merged parts names) r.0.expr agree named z.reads ty z.typed

@@ -1,5 +1,5 @@
 -- Where imports of linked parts end, with all that is asked and found there; and which sites are imports.
-use Rattle.std.proofs.Common.{◌≡◌, ◌∙◌, ap, ap₂, sym, subst, refl, ℕ, zero, suc, ◌+◌, ◌-◌, ◌<◌, List, length, Option, Some, Bool, true, false, cond, arith}
+use Rattle.std.proofs.Common.{◌≡◌, ◌∙◌, ap, ap₂, sym, subst, refl, ℕ, zero, suc, ◌+◌, ◌-◌, ◌<◌, List, length, Option, Some, Bool, true, false, cond, arith, option_and_then, ◌&&◌}
 use Rattle.std.specs.Prelude.{slice_get, slice_index}
 use Rattle.std.proofs.lemmas.List.{length-append, length-map}
 use Rattle.wasm_tree.specs.declared.types.GlobalType.{GlobalType}
@@ -12,7 +12,7 @@ use Rattle.wasm_meaning.specs.Laws.{EndsArePaths}
 use Rattle.wasm_meaning.specs.Environment.{Owned, MemoryKey, owned_at}
 use Rattle.wasm_meaning.specs.Values.{same_ref, same_type, same_func_type}
 use Rattle.wasm_meaning.specs.World.{same_bool, given, defined_before, own_key, own_key_of, outside_thing}
-use Rattle.wasm_meaning.specs.Linking.{Part, Site, End, Defined, Outside, Entity, Kind, Functions, Tables, Memories, Globals, place, then_some, has_kind, import_at, imports_of, imported_as, kind_of_import, index_of_export, pair_of, sites_in, sites, end_of, linked_end, gathered}
+use Rattle.wasm_meaning.specs.Linking.{Part, Site, End, Defined, Outside, Entity, Kind, Functions, Tables, Memories, Globals, has_kind, import_at, imports_of, imported_as, kind_of_import, index_of_export, pair_of, sites_in, sites, end_of, linked_end, gathered}
 use Rattle.merge_terms.specs.Faults.{External, FuncOf, TableOf, MemoryOf, GlobalOf, asked_at, found, suits, external_of, same_but_limits, meets_limits, stays}
 use Rattle.merge_terms.specs.Merged.{merged, merged_types, map_of, start_calls, starts, by_part, staying_of, place_of_end, end_from}
 use Rattle.merge_validity.specs.Ended.{EndsInside, EndsOutside, Ended, inside, outside, added_count, LinkedImportsEnd, StayingImportsEndThere, SitesAreImports, StayingImportsHavePlaces, NewIndicesArePlaces, DefinedEntitiesHavePlaces, TypesHavePlaces, MergedModulesDefineAll}
@@ -38,7 +38,7 @@ alike (TableOf t) (TableOf u) h = let e : t.ty ≡ u.ty = cc in subst (λ z. sam
 alike (MemoryOf t) (MemoryOf u) h = refl
 alike (GlobalOf t) (GlobalOf u) h =
     let e : t ≡ u = cc in
-    subst (λ (z : GlobalType). cond (same_type t.ty z.ty) (same_bool t.mutable z.mutable) false ≡ true) e (cond_both (same_type t.ty t.ty) (same_bool t.mutable t.mutable) (type_same t.ty) (bool_same t.mutable))
+    subst (λ (z : GlobalType). same_type t.ty z.ty && same_bool t.mutable z.mutable ≡ true) e (cond_both (same_type t.ty t.ty) (same_bool t.mutable t.mutable) (type_same t.ty) (bool_same t.mutable))
 alike (FuncOf t) (TableOf u) h = cc
 alike (FuncOf t) (MemoryOf u) h = cc
 alike (FuncOf t) (GlobalOf u) h = cc
@@ -63,7 +63,7 @@ ends_inside law parts s i at w d e =
     let n = index_of_export v.entity.what in
     let ends : Some w.end ≡ Some (Defined v.entity) = sym w.ends ∙ v.end in
     let end : w.end ≡ Defined v.entity = cc in
-    let finds : Some w.thing ≡ Some v.thing = sym w.finds ∙ ap (found parts) end ∙ ap (λ o. then_some o (λ m. external_of m v.entity.what)) v.is_part ∙ v.is in
+    let finds : Some w.thing ≡ Some v.thing = sym w.finds ∙ ap (found parts) end ∙ ap (λ o. option_and_then (λ m. external_of m v.entity.what) o) v.is_part ∙ v.is in
     let thing : w.thing ≡ v.thing = cc in
     let yes = both_are (same_but_limits w.demand v.thing) (meets_limits w.demand v.thing) (sym (ap₂ (suits w.demand) end thing) ∙ w.yes) in
     let c = then_is (slice_get (space k v.of) n) (type_of v.of k) (bare w.demand) o.typed in
@@ -99,9 +99,9 @@ memory_key m pair (im.Global t) e = absurd (let z = e in cc)
 memory_thing : (owned : Owned) (parts : List Part) (u : Site) (j : Import) → import_at parts u ≡ Some j → kind_of_import j.desc ≡ Memories → outside_thing owned parts u ≡ given (owned_at owned (MemoryKey (pair_of j)))
 memory_thing owned parts u j at e =
     let m = import_site parts u j at in
-    ap (λ o. then_some o (λ m. then_some (import_at parts u) (λ i. then_some (own_key m i) (λ key. given (owned_at owned key))))) m.1
-    ∙ ap (λ o. then_some o (λ i. then_some (own_key m.0 i) (λ key. given (owned_at owned key)))) at
-    ∙ ap (λ o. then_some o (λ key. given (owned_at owned key))) (memory_key m.0 (pair_of j) j.desc e)
+    ap (λ o. option_and_then (λ m. option_and_then (λ i. option_and_then (λ key. given (owned_at owned key)) (own_key m i)) (import_at parts u)) o) m.1
+    ∙ ap (λ o. option_and_then (λ i. option_and_then (λ key. given (owned_at owned key)) (own_key m.0 i)) o) at
+    ∙ ap (λ o. option_and_then (λ key. given (owned_at owned key)) o) (memory_key m.0 (pair_of j) j.desc e)
 
 -- what is gathered is one of the environment's own
 gathered_thing : (owned : Owned) (parts : List Part) (t : Site) (i : Import) → import_at parts t ≡ Some i → (g : Gathers parts t i) (b : Bool) → has_kind Memories i ≡ b → outside_thing owned parts t ≡ outside_thing owned parts g.to
@@ -134,7 +134,7 @@ ends_outside law parts links s i at w t e =
       last_at = o.1;
       last_kind = kind;
       to = g.to;
-      linked = ap (λ z. then_some z (λ end. Some (gathered parts end))) ended ∙ ap Some g.is;
+      linked = ap (λ z. option_and_then (λ end. Some (gathered parts end)) z) ended ∙ ap Some g.is;
       import = g.stays.import;
       at = g.stays.at;
       kind = sym (kind_asked parts g.to g.stays.import v.demand g.stays.at v.asks) ∙ ap kind_of typed ∙ q;
@@ -178,7 +178,7 @@ stays_there law parts h s i at remains = by w.end refl
         let ends : end_of parts s ≡ Some (Outside t) = w.ends ∙ ap Some e in
         let o = end_outside law parts s t ends in
         let g = gathers parts t o.0 o.1 o.2 in
-        let both : Some (Outside g.to) ≡ Some (Outside s) = ap Some (sym g.is) ∙ sym (ap (λ z. then_some z (λ end. Some (gathered parts end))) ends) ∙ linked in
+        let both : Some (Outside g.to) ≡ Some (Outside s) = ap Some (sym g.is) ∙ sym (ap (λ z. option_and_then (λ end. Some (gathered parts end)) z) ends) ∙ linked in
         let same : g.to ≡ s = cc in
         (subst (λ u. end_of parts u ≡ Some (Outside u)) same g.stays.own_end, linked)
 
@@ -196,7 +196,7 @@ site_back p (suc count) from (suc n) s h =
     let e : suc from + n ≡ from + suc n = omega arith in
     (omega (arith, l), r.1 ∙ ap {A = ℕ} {B = Site} (λ n. record { part = p; import = n }) e)
 
-site_there : (parts : List Part) (n : ℕ) (s : Site) → place (sites parts) n ≡ Some s → (i : Import) × (import_at parts s ≡ Some i)
+site_there : (parts : List Part) (n : ℕ) (s : Site) → slice_get (sites parts) n ≡ Some s → (i : Import) × (import_at parts s ≡ Some i)
 site_there parts n s h =
     let r = by_part_back (λ p m. sites_in p (length m.imports) 0) 0 parts n s (ap (λ z. slice_get z n) (sym (sites_are 0 parts)) ∙ sym (place_get (sites parts) n) ∙ h) in
     let b = site_back (0 + r.part) (length r.«module».imports) 0 r.place s r.got in
@@ -204,7 +204,7 @@ site_there parts n s h =
     let part : 0 + r.part ≡ r.part = omega arith in
     let import : 0 + r.place ≡ r.place = omega arith in
     let is : s ≡ record { part = r.part; import = r.place } = b.1 ∙ ap₂ {A = ℕ} {B = ℕ} {C = Site} (λ p n. record { part = p; import = n }) part import in
-    (x.0, ap (import_at parts) is ∙ ap (λ o. then_some o (λ m. place m.imports r.place)) r.is_part ∙ place_get r.«module».imports r.place ∙ x.1)
+    (x.0, ap (import_at parts) is ∙ ap (λ o. option_and_then (λ m. slice_get m.imports r.place) o) r.is_part ∙ place_get r.«module».imports r.place ∙ x.1)
 
 pub sites_are_imports : SitesAreImports
 sites_are_imports parts s = (λ n h. site_there parts n s h, λ i h. let r = in_sites parts s i h in (r.0, place_get (sites parts) r.0 ∙ r.1))
@@ -217,8 +217,8 @@ have_places parts s i at remains k e = place_get (staying_of parts k) (place_of_
 pub indices_are_places : NewIndicesArePlaces
 indices_are_places parts p m k x is = (λ n e h linked. index_is parts p k x e (ap (end_from parts (entity_at p k x)) (imported_at h) ∙ linked), λ h. index_is parts p k x (Defined (entity_at p k x)) (ap (end_from parts (entity_at p k x)) (imported_at h)))
   where
-    imported_at : {o : Option ℕ} → place (imports_of k m) x ≡ o → imported_as parts (entity_at p k x) ≡ then_some {A = ℕ} {B = Site} o (λ n. Some (record { part = p; import = n }))
-    imported_at h = entry_import parts p m k x is ∙ ap (λ o. then_some {A = ℕ} {B = Site} o (λ n. Some (record { part = p; import = n }))) h
+    imported_at : {o : Option ℕ} → slice_get (imports_of k m) x ≡ o → imported_as parts (entity_at p k x) ≡ option_and_then {B = Site} {A = ℕ} o (λ n. Some (record { part = p; import = n }))
+    imported_at h = entry_import parts p m k x is ∙ ap (λ o. option_and_then {B = Site} {A = ℕ} o (λ n. Some (record { part = p; import = n }))) h
 
 pub defined_have_places : DefinedEntitiesHavePlaces
 unfolding place_of_end

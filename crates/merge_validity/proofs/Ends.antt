@@ -1,11 +1,11 @@
 -- Where an import of linked parts ends: with an entity of a part that defines it, or with an import that stays, of the type that is asked for.
-use Rattle.std.proofs.Common.{◌≡◌, ◌∙◌, ap, ap₂, sym, subst, refl, ℕ, zero, suc, List, [], ◌∷◌, Option, Some, None, Bool, true, false, cond}
+use Rattle.std.proofs.Common.{◌≡◌, ◌∙◌, ap, ap₂, sym, subst, refl, ℕ, zero, suc, List, [], ◌∷◌, Option, Some, None, Bool, true, false, cond, option_and_then, ◌&&◌}
 use Rattle.std.specs.Prelude.{slice_get}
 use Rattle.wasm_tree.specs.declared.module.Import.{Import}
 use Rattle.wasm_tree.specs.declared.module.Module.{Module}
 use Rattle.wasm_meaning.specs.Paths.{Next, Ends, Path, ends, goes}
 use Rattle.wasm_meaning.specs.Laws.{EndsArePaths}
-use Rattle.wasm_meaning.specs.Linking.{Part, Site, End, Defined, Outside, Entity, Memories, place, then_some, module_at, import_at, imported_as, joined, entity_step, joined_step, import_step, sites, end_of, is_outside, same_memory, same_pair, pair_of, has_kind, stays_as, first_site, gathered_at, gathered, linked_end, kind_of_import}
+use Rattle.wasm_meaning.specs.Linking.{Part, Site, End, Defined, Outside, Entity, Memories, module_at, import_at, imported_as, joined, entity_step, joined_step, import_step, sites, end_of, is_outside, same_memory, same_pair, pair_of, has_kind, stays_as, first_site, gathered_at, gathered, linked_end, kind_of_import}
 use Rattle.merge_terms.specs.Faults.{External, asked, asked_at, found, external_of}
 use Rattle.merge_validity.proofs.Lists.{then_is}
 use Rattle.merge_validity.proofs.Same.{both_are, cond_both, site_is, site_same, pair_is, pair_same, kind_is}
@@ -39,7 +39,7 @@ stops parts s e h = by (import_at parts s) refl h
         record { outside = λ t q. let z : Outside s ≡ Outside t = same ∙ q in let y : s ≡ t = cc in y; defined = λ c q. absurd (let z : Outside s ≡ Defined c = same ∙ q in cc); there = (i, at) }
     at_joined i at (Some d) k = at_entity i at d (imported_as parts d) refl k
 
-    by : (o : Option Import) → import_at parts s ≡ o → then_some o (λ i. Some (joined_step parts s (joined parts i))) ≡ Some (Ends e) → Stops parts s e
+    by : (o : Option Import) → import_at parts s ≡ o → option_and_then (λ i. Some (joined_step parts s (joined parts i))) o ≡ Some (Ends e) → Stops parts s e
     by None at k = absurd (let z = k in cc)
     by (Some i) at k = at_joined i at (joined parts i) k
 
@@ -85,25 +85,25 @@ first_none : (f : Site → Bool) → ((s : Site) → f s ≡ false) → (xs : Li
 first_none f e [] d = refl
 first_none f e (x ∷ xs) d = ap₂ (λ b r. cond b x r) (e x) (first_none f e xs d)
 
-never : (b : Bool) → cond b false false ≡ false
+never : (b : Bool) → b && false ≡ false
 never true = refl
 never false = refl
 
 none_same : (i : Import) → has_kind Memories i ≡ false → (o : Option Import) → same_memory i o ≡ false
 none_same i e None = refl
-none_same i e (Some j) = ap (λ b. cond b (cond (has_kind Memories j) (same_pair (pair_of i) (pair_of j)) false) false) e
+none_same i e (Some j) = ap (λ b. b && (has_kind Memories j && same_pair (pair_of i) (pair_of j))) e
 
 none_as : (parts : List Part) (i : Import) → has_kind Memories i ≡ false → (s : Site) → stays_as parts i s ≡ false
-none_as parts i e s = ap (λ b. cond (is_outside s (end_of parts s)) b false) (none_same i e (import_at parts s)) ∙ never (is_outside s (end_of parts s))
+none_as parts i e s = ap (λ b. is_outside s (end_of parts s) && b) (none_same i e (import_at parts s)) ∙ never (is_outside s (end_of parts s))
 
 -- the memories of one module and field name are the same ones
 same_alike : (i j : Import) → has_kind Memories i ≡ true → has_kind Memories j ≡ true → pair_of i ≡ pair_of j → (o : Option Import) → same_memory j o ≡ same_memory i o
 same_alike i j a b e None = refl
 same_alike i j a b e (Some k) =
-    ap₂ (λ c p. cond c (cond (has_kind Memories k) (same_pair p (pair_of k)) false) false) (b ∙ sym a) (sym e)
+    ap₂ (λ c p. c && (has_kind Memories k && same_pair p (pair_of k))) (b ∙ sym a) (sym e)
 
 as_alike : (parts : List Part) (i j : Import) → has_kind Memories i ≡ true → has_kind Memories j ≡ true → pair_of i ≡ pair_of j → (s : Site) → stays_as parts j s ≡ stays_as parts i s
-as_alike parts i j a b e s = ap (λ c. cond (is_outside s (end_of parts s)) c false) (same_alike i j a b e (import_at parts s))
+as_alike parts i j a b e s = ap (λ c. is_outside s (end_of parts s) && c) (same_alike i j a b e (import_at parts s))
 
 -- an import at which others end: it is its own end, also where memories are gathered
 pub record Stays (parts : List Part) (u : Site) : Type 0 where
@@ -120,7 +120,7 @@ outside_is u (Some (Outside t)) h = ap (λ z. Some (Outside z)) (sym (site_is u 
 memory_is : (i : Import) (o : Option Import) → same_memory i o ≡ true → (j : Import) × (o ≡ Some j) × (has_kind Memories j ≡ true) × (pair_of i ≡ pair_of j)
 memory_is i None h = absurd (let k = h in cc)
 memory_is i (Some j) h =
-    let a = both_are (has_kind Memories i) (cond (has_kind Memories j) (same_pair (pair_of i) (pair_of j)) false) h in
+    let a = both_are (has_kind Memories i) (has_kind Memories j && same_pair (pair_of i) (pair_of j)) h in
     let b = both_are (has_kind Memories j) (same_pair (pair_of i) (pair_of j)) a.1 in
     (j, refl, b.0, pair_is (pair_of i) (pair_of j) b.1)
 
@@ -140,7 +140,7 @@ gathers parts t i at own = by (has_kind Memories i) refl
     gathered_is u j e = ap (gathered_at parts u) e
 
     linked_is : (u : Site) → end_of parts u ≡ Some (Outside u) → linked_end parts u ≡ Some (gathered parts (Outside u))
-    linked_is u e = ap (λ o. then_some o (λ end. Some (gathered parts end))) e
+    linked_is u e = ap (λ o. option_and_then (λ end. Some (gathered parts end)) o) e
 
     plain : has_kind Memories i ≡ false → Gathers parts t i
     plain e =
@@ -152,7 +152,7 @@ gathers parts t i at own = by (has_kind Memories i) refl
         let n = in_sites parts t i at in
         let f = stays_as parts i in
         let u = first_site f (sites parts) t in
-        let alike : same_memory i (import_at parts t) ≡ true = ap (same_memory i) at ∙ cond_both (has_kind Memories i) (cond (has_kind Memories i) (same_pair (pair_of i) (pair_of i)) false) e (cond_both (has_kind Memories i) (same_pair (pair_of i) (pair_of i)) e (pair_same (pair_of i))) in
+        let alike : same_memory i (import_at parts t) ≡ true = ap (same_memory i) at ∙ cond_both (has_kind Memories i) (has_kind Memories i && same_pair (pair_of i) (pair_of i)) e (cond_both (has_kind Memories i) (same_pair (pair_of i) (pair_of i)) e (pair_same (pair_of i))) in
         let out : is_outside t (end_of parts t) ≡ true = ap (is_outside t) own ∙ site_same t in
         let yes : f t ≡ true = cond_both (is_outside t (end_of parts t)) (same_memory i (import_at parts t)) out alike in
         let u_yes = both_are (is_outside u (end_of parts u)) (same_memory i (import_at parts u)) (first_yes f (sites parts) n.0 t t n.1 yes) in
@@ -212,18 +212,18 @@ memory_type (GlobalTy t) h = cc
 pub kind_asked : (parts : List Part) (u : Site) (j : Import) (x : External) → import_at parts u ≡ Some j → asked_at parts u ≡ Some x → kind_of (bare x) ≡ kind_of_import j.desc
 kind_asked parts u j x at h =
     let m = import_site parts u j at in
-    let a : asked_at parts u ≡ asked m.0 j.desc = ap (λ o. then_some o (λ m. then_some (place m.imports u.import) (λ i. asked m i.desc))) m.1 ∙ ap (λ o. then_some o (λ i. asked m.0 i.desc)) m.2 in
+    let a : asked_at parts u ≡ asked m.0 j.desc = ap (λ o. option_and_then (λ m. option_and_then (λ i. asked m i.desc) (slice_get m.imports u.import)) o) m.1 ∙ ap (λ o. option_and_then (λ i. asked m.0 i.desc) o) m.2 in
     asked_kind m.0 j.desc x (sym a ∙ h)
 
 pub lands_inside : EndsArePaths → (parts : List Part) (s : Site) (w : Suited parts s) (d : Entity) → w.end ≡ Defined d → EndsInside parts s (bare w.demand)
 lands_inside law parts s w d e =
     let ended : end_of parts s ≡ Some (Defined d) = w.ends ∙ ap Some e in
-    let finds : then_some (module_at parts d.part) (λ m. external_of m d.what) ≡ Some w.thing = ap (found parts) (sym e) ∙ w.finds in
+    let finds : option_and_then (λ m. external_of m d.what) (module_at parts d.part) ≡ Some w.thing = ap (found parts) (sym e) ∙ w.finds in
     let m = then_is (module_at parts d.part) (λ m. external_of m d.what) w.thing finds in
     record {
       entity = d;
       end = ended;
-      linked = ap (λ z. then_some z (λ end. Some (gathered parts end))) ended;
+      linked = ap (λ z. option_and_then (λ end. Some (gathered parts end)) z) ended;
       own = end_defined law parts s d ended;
       of = m.0;
       is_part = m.1;
@@ -257,7 +257,7 @@ lands_outside law parts links s w t e =
       first = t;
       end = ended;
       to = g.to;
-      linked = ap (λ z. then_some z (λ end. Some (gathered parts end))) ended ∙ ap Some g.is;
+      linked = ap (λ z. option_and_then (λ end. Some (gathered parts end)) z) ended ∙ ap Some g.is;
       stays = g.stays;
       thing = v.demand;
       asks = v.asks;

@@ -17,7 +17,7 @@ use Rattle.wasm_tree.specs.declared.module.Module.{Module}
 use Rattle.wasm_tree.specs.Spaces.{func_of, table_of, memory_of, global_of, funcs_of, tables_of, memories_of, globals_of, type_of_func}
 use Rattle.wasm_meaning.specs.Values.{same_type}
 use Rattle.wasm_meaning.specs.World.{same_bool, defined_count}
-use Rattle.wasm_meaning.specs.Linking.{Kind, Functions, Tables, Memories, Globals, place, then_some, has_kind, kind_of_import, kind_of_export, index_of_export}
+use Rattle.wasm_meaning.specs.Linking.{Kind, Functions, Tables, Memories, Globals, has_kind, kind_of_import, kind_of_export, index_of_export}
 use Rattle.merge_terms.specs.Faults.{External, FuncOf, TableOf, MemoryOf, GlobalOf, asked, external_of, same_but_limits}
 use Rattle.merge_terms.specs.Merged.{entry_of}
 use Rattle.merge_validity.proofs.Lists.{is_some, place_get}
@@ -122,13 +122,13 @@ bare (GlobalOf t) = GlobalTy t
 
 -- the type of an entry of a module's space
 abbrev pub type_of : Module → (k : Kind) → Entry k → Option Ty
-type_of m Functions ty = then_some (slice_get m.types ty) (λ t. Some (FuncTy t))
+type_of m Functions ty = option_and_then (λ t. Some (FuncTy t)) (slice_get m.types ty)
 type_of m Tables t = Some (TableTy t.ty)
 type_of m Memories l = Some MemoryTy
 type_of m Globals t = Some (GlobalTy t)
 
 abbrev pub type_at : Module → (k : Kind) → ℕ → Option Ty
-type_at m k i = then_some (slice_get (space k m) i) (type_of m k)
+type_at m k i = option_and_then (type_of m k) (slice_get (space k m) i)
 
 pub bare_is : (x y : External) → same_but_limits x y ≡ true → bare x ≡ bare y
 bare_is (FuncOf t) (FuncOf u) h = ap FuncTy (func_type_is t u h)
@@ -154,9 +154,9 @@ bare_is (GlobalOf t) (MemoryOf u) h = cc
 
 -- what an import asks for is of its kind, and has the type of the entry that it adds
 pub asked_kind : (m : Module) (d : ImportDesc) (x : External) → asked m d ≡ Some x → kind_of (bare x) ≡ kind_of_import d
-asked_kind m (im.Func ty) x h = by (place m.types ty) h
+asked_kind m (im.Func ty) x h = by (slice_get m.types ty) h
   where
-    by : (o : Option FuncType) → then_some o (λ t. Some (FuncOf t)) ≡ Some x → kind_of (bare x) ≡ Functions
+    by : (o : Option FuncType) → option_and_then (λ t. Some (FuncOf t)) o ≡ Some x → kind_of (bare x) ≡ Functions
     by None h = cc
     by (Some t) h = let same : FuncOf t ≡ x = cc in ap (λ z. kind_of (bare z)) (sym same)
 asked_kind m (im.Table t) x h = let same : TableOf t ≡ x = cc in ap (λ z. kind_of (bare z)) (sym same)
@@ -166,9 +166,9 @@ asked_kind m (im.Global t) x h = let same : GlobalOf t ≡ x = cc in ap (λ z. k
 pub asked_type : (m : Module) (k : Kind) (d : ImportDesc) (c : Entry k) (x : External) → of_desc k d ≡ Some c → asked m d ≡ Some x → type_of m k c ≡ Some (bare x)
 asked_type m Functions (im.Func ty) c x e h =
     let same : ty ≡ c = cc in
-    ap (λ z. then_some (slice_get m.types z) (λ t. Some (FuncTy t))) (sym same) ∙ ap (λ o. then_some o (λ t. Some (FuncTy t))) (sym (place_get m.types ty)) ∙ by (place m.types ty) h
+    ap (λ z. option_and_then (λ t. Some (FuncTy t)) (slice_get m.types z)) (sym same) ∙ ap (λ o. option_and_then (λ t. Some (FuncTy t)) o) (sym (place_get m.types ty)) ∙ by (slice_get m.types ty) h
   where
-    by : (o : Option FuncType) → then_some o (λ t. Some (FuncOf t)) ≡ Some x → then_some o (λ t. Some (FuncTy t)) ≡ Some (bare x)
+    by : (o : Option FuncType) → option_and_then (λ t. Some (FuncOf t)) o ≡ Some x → option_and_then (λ t. Some (FuncTy t)) o ≡ Some (bare x)
     by None h = cc
     by (Some t) h = let same : FuncOf t ≡ x = cc in ap (λ z. Some (bare z)) same
 asked_type m Functions (im.Table t) c x e h = cc
@@ -191,47 +191,47 @@ asked_type m Globals (im.Global t) c x e h = let a : t ≡ c = cc in let b : Glo
 pub external_kind : (m : Module) (e : ExportDesc) (x : External) → external_of m e ≡ Some x → kind_of (bare x) ≡ kind_of_export e
 external_kind m (ex.Func i) x h = by (type_of_func m i) h
   where
-    by : (o : Option FuncType) → then_some o (λ t. Some (FuncOf t)) ≡ Some x → kind_of (bare x) ≡ Functions
+    by : (o : Option FuncType) → option_and_then (λ t. Some (FuncOf t)) o ≡ Some x → kind_of (bare x) ≡ Functions
     by None h = cc
     by (Some t) h = let same : FuncOf t ≡ x = cc in ap (λ z. kind_of (bare z)) (sym same)
 external_kind m (ex.Table i) x h = by (slice_get (tables_of m) i) h
   where
-    by : (o : Option TableType) → then_some o (λ t. Some (TableOf t)) ≡ Some x → kind_of (bare x) ≡ Tables
+    by : (o : Option TableType) → option_and_then (λ t. Some (TableOf t)) o ≡ Some x → kind_of (bare x) ≡ Tables
     by None h = cc
     by (Some t) h = let same : TableOf t ≡ x = cc in ap (λ z. kind_of (bare z)) (sym same)
 external_kind m (ex.Memory i) x h = by (slice_get (memories_of m) i) h
   where
-    by : (o : Option Limits) → then_some o (λ t. Some (MemoryOf t)) ≡ Some x → kind_of (bare x) ≡ Memories
+    by : (o : Option Limits) → option_and_then (λ t. Some (MemoryOf t)) o ≡ Some x → kind_of (bare x) ≡ Memories
     by None h = cc
     by (Some t) h = let same : MemoryOf t ≡ x = cc in ap (λ z. kind_of (bare z)) (sym same)
 external_kind m (ex.Global i) x h = by (slice_get (globals_of m) i) h
   where
-    by : (o : Option GlobalType) → then_some o (λ t. Some (GlobalOf t)) ≡ Some x → kind_of (bare x) ≡ Globals
+    by : (o : Option GlobalType) → option_and_then (λ t. Some (GlobalOf t)) o ≡ Some x → kind_of (bare x) ≡ Globals
     by None h = cc
     by (Some t) h = let same : GlobalOf t ≡ x = cc in ap (λ z. kind_of (bare z)) (sym same)
 
 pub external_type : (m : Module) (k : Kind) (i : ℕ) (x : External) → external_of m (entry_of k i) ≡ Some x → type_at m k i ≡ Some (bare x)
 external_type m Functions i x h = by (slice_get (funcs_of m) i) h
   where
-    inner : (o : Option FuncType) → then_some o (λ t. Some (FuncOf t)) ≡ Some x → then_some o (λ t. Some (FuncTy t)) ≡ Some (bare x)
+    inner : (o : Option FuncType) → option_and_then (λ t. Some (FuncOf t)) o ≡ Some x → option_and_then (λ t. Some (FuncTy t)) o ≡ Some (bare x)
     inner None h = cc
     inner (Some t) h = let same : FuncOf t ≡ x = cc in ap (λ z. Some (bare z)) same
 
-    by : (o : Option ℕ) → then_some (option_and_then (slice_get m.types) o) (λ t. Some (FuncOf t)) ≡ Some x → then_some o (type_of m Functions) ≡ Some (bare x)
+    by : (o : Option ℕ) → option_and_then (λ t. Some (FuncOf t)) (option_and_then (slice_get m.types) o) ≡ Some x → option_and_then (type_of m Functions) o ≡ Some (bare x)
     by None h = cc
     by (Some ty) h = inner (slice_get m.types ty) h
 external_type m Tables i x h = by (slice_get (tables_of m) i) h
   where
-    by : (o : Option TableType) → then_some o (λ t. Some (TableOf t)) ≡ Some x → then_some o (type_of m Tables) ≡ Some (bare x)
+    by : (o : Option TableType) → option_and_then (λ t. Some (TableOf t)) o ≡ Some x → option_and_then (type_of m Tables) o ≡ Some (bare x)
     by None h = cc
     by (Some t) h = let same : TableOf t ≡ x = cc in ap (λ z. Some (bare z)) same
 external_type m Memories i x h = by (slice_get (memories_of m) i) h
   where
-    by : (o : Option Limits) → then_some o (λ t. Some (MemoryOf t)) ≡ Some x → then_some o (type_of m Memories) ≡ Some (bare x)
+    by : (o : Option Limits) → option_and_then (λ t. Some (MemoryOf t)) o ≡ Some x → option_and_then (type_of m Memories) o ≡ Some (bare x)
     by None h = cc
     by (Some t) h = let same : MemoryOf t ≡ x = cc in ap (λ z. Some (bare z)) same
 external_type m Globals i x h = by (slice_get (globals_of m) i) h
   where
-    by : (o : Option GlobalType) → then_some o (λ t. Some (GlobalOf t)) ≡ Some x → then_some o (type_of m Globals) ≡ Some (bare x)
+    by : (o : Option GlobalType) → option_and_then (λ t. Some (GlobalOf t)) o ≡ Some x → option_and_then (type_of m Globals) o ≡ Some (bare x)
     by None h = cc
     by (Some t) h = let same : GlobalOf t ≡ x = cc in ap (λ z. Some (bare z)) same

@@ -1,5 +1,5 @@
 -- The new index of an entry of a part's index space stands in the merged module for an entity of the same type.
-use Rattle.std.proofs.Common.{◌≡◌, ◌∙◌, ap, ap₂, sym, subst, refl, ℕ, zero, suc, ◌+◌, ◌-◌, ◌<◌, ◌≤◌, List, [], ◌∷◌, ◌++◌, length, Option, Some, None, true, arith, ◌⊎◌, inl, inr}
+use Rattle.std.proofs.Common.{◌≡◌, ◌∙◌, ap, ap₂, sym, subst, refl, ℕ, zero, suc, ◌+◌, ◌-◌, ◌<◌, ◌≤◌, List, [], ◌∷◌, ◌++◌, length, Option, Some, None, true, arith, ◌⊎◌, inl, inr, option_and_then, unwrap_or}
 use Rattle.std.specs.Prelude.{slice_get}
 use Rattle.std.specs.List.{filter}
 use Rattle.wasm_tree.specs.declared.module.Import.{Import}
@@ -7,10 +7,10 @@ use Rattle.wasm_tree.specs.declared.module.ExportDesc.{ExportDesc}
 use Rattle.wasm_tree.specs.declared.module.Module.{Module}
 use Rattle.wasm_meaning.specs.State.{Text}
 use Rattle.wasm_meaning.specs.Laws.{EndsArePaths}
-use Rattle.wasm_meaning.specs.World.{defined_before, or_false}
-use Rattle.wasm_meaning.specs.Linking.{Part, Site, End, Defined, Outside, Entity, Kind, place, then_some, first_place, module_at, import_at, imports_of, has_kind, kind_of_import, kind_of_export, index_of_export, imported_as, sites, same_site, same_kind, is_outside}
+use Rattle.wasm_meaning.specs.World.{defined_before}
+use Rattle.wasm_meaning.specs.Linking.{Part, Site, End, Defined, Outside, Entity, Kind, first_place, module_at, import_at, imports_of, has_kind, kind_of_import, kind_of_export, index_of_export, imported_as, sites, same_site, same_kind, is_outside}
 use Rattle.merge_terms.specs.Faults.{External, asked, asked_at, external_of, stays}
-use Rattle.merge_terms.specs.Merged.{merged, or_this, staying, staying_of, imports_kind, imported_count, place_of_end, entry_of, end_from, entry_end, new_index}
+use Rattle.merge_terms.specs.Merged.{merged, staying, staying_of, imports_kind, imported_count, place_of_end, entry_of, end_from, entry_end, new_index}
 use Rattle.merge_validity.proofs.Lists.{Has, is_some, first_at, then_is, place_get, place_of, places_many, split, past, within, is_kept}
 use Rattle.merge_validity.proofs.Same.{site_is, site_same, kind_is, kind_same}
 use Rattle.merge_validity.proofs.Entities.{Entry, of_desc, of_import, own, imported, space, import_kind, kind_of_entry, index_of_entry, entry_is, Ty, kind_of, bare, type_of, type_at, asked_type, asked_kind, external_kind, external_type}
@@ -24,7 +24,7 @@ pub imports_many : (k : Kind) (m : Module) → length (imports_of k m) ≡ lengt
 imports_many k m = places_many (has_kind k) (of_import k) m.imports (import_kind k) 0
 
 -- what follows the imports is what the part defines
-pub own_entry : (k : Kind) (m : Module) (i : ℕ) (c : Entry k) → place (imports_of k m) i ≡ None → slice_get (space k m) i ≡ Some c → slice_get (own k m) (i - length (imports_of k m)) ≡ Some c
+pub own_entry : (k : Kind) (m : Module) (i : ℕ) (c : Entry k) → slice_get (imports_of k m) i ≡ None → slice_get (space k m) i ≡ Some c → slice_get (own k m) (i - length (imports_of k m)) ≡ Some c
 own_entry k m i c e h = by (split (imported k m) (own k m) i c h)
   where
     few : length (imports_of k m) ≤ i
@@ -37,20 +37,20 @@ own_entry k m i c e h = by (split (imported k m) (own k m) i c h)
 -- the import that an entry is
 pub record IsImport (k : Kind) (m : Module) (n : ℕ) (y : Ty) : Type 0 where
   pub import : Import
-  pub at : place m.imports n ≡ Some import
+  pub at : slice_get m.imports n ≡ Some import
   pub of_kind : has_kind k import ≡ true
   pub entry : Entry k
   pub adds : of_desc k import.desc ≡ Some entry
   pub typed : type_of m k entry ≡ Some y
 
-pub import_entry : (k : Kind) (m : Module) (i n : ℕ) (y : Ty) → place (imports_of k m) i ≡ Some n → type_at m k i ≡ Some y → IsImport k m n y
+pub import_entry : (k : Kind) (m : Module) (i n : ℕ) (y : Ty) → slice_get (imports_of k m) i ≡ Some n → type_at m k i ≡ Some y → IsImport k m n y
 import_entry k m i n y e t =
     let r = place_of (has_kind k) (of_import k) m.imports (import_kind k) 0 i n e in
     let c = then_is (slice_get (space k m) i) (type_of m k) y t in
     let at : n ≡ r.0 = (let z = r.2 in omega (arith, z)) in
     let l : i < length (imported k m) = (let a = within (imports_of k m) i n (sym (place_get (imports_of k m) i) ∙ e) in let q = imports_many k m in omega (arith, a, q)) in
     let got : slice_get (imported k m) i ≡ Some c.0 = front_only (imported k m) (own k m) i c.0 l c.1 in
-    record { import = r.1; at = ap (place m.imports) at ∙ place_get m.imports r.0 ∙ r.3; of_kind = r.4; entry = c.0; adds = sym r.5 ∙ got; typed = c.2 }
+    record { import = r.1; at = ap (slice_get m.imports) at ∙ place_get m.imports r.0 ∙ r.3; of_kind = r.4; entry = c.0; adds = sym r.5 ∙ got; typed = c.2 }
   where
     front_only : {A : Type 0} (xs ys : List A) (i : ℕ) (x : A) → i < length xs → slice_get (xs ++ ys) i ≡ Some x → slice_get xs i ≡ Some x
     front_only [] ys i x l h = absurd (omega (arith, l))
@@ -59,22 +59,22 @@ import_entry k m i n y e t =
 
 -- the import that an entity is, by the entry of the space
 pub imported_is : (parts : List Part) (k : Kind) (p : ℕ) (m : Module) (what : ExportDesc) (i : ℕ) → module_at parts p ≡ Some m → kind_of_export what ≡ k → index_of_export what ≡ i →
-    imported_as parts (record { part = p; what = what }) ≡ then_some {A = ℕ} {B = Site} (place (imports_of k m) i) (λ n. Some (record { part = p; import = n }))
+    imported_as parts (record { part = p; what = what }) ≡ option_and_then {B = Site} {A = ℕ} (slice_get (imports_of k m) i) (λ n. Some (record { part = p; import = n }))
 imported_is parts k p m what i e a b =
-    ap (λ o. then_some {A = Module} {B = Site} o (λ m. then_some {A = ℕ} {B = Site} (place (imports_of (kind_of_export what) m) (index_of_export what)) (λ n. Some (record { part = p; import = n })))) e
-    ∙ ap₂ (λ k i. then_some {A = ℕ} {B = Site} (place (imports_of k m) i) (λ n. Some (record { part = p; import = n }))) a b
+    ap (λ o. option_and_then {B = Site} {A = Module} o (λ m. option_and_then {B = Site} {A = ℕ} (slice_get (imports_of (kind_of_export what) m) (index_of_export what)) (λ n. Some (record { part = p; import = n })))) e
+    ∙ ap₂ (λ k i. option_and_then {B = Site} {A = ℕ} (slice_get (imports_of k m) i) (λ n. Some (record { part = p; import = n }))) a b
 
-no_import : (parts : List Part) (p n : ℕ) (o : Option ℕ) → then_some {A = ℕ} {B = Site} o (λ n. Some (record { part = p; import = n })) ≡ None → o ≡ None
+no_import : (parts : List Part) (p n : ℕ) (o : Option ℕ) → option_and_then {B = Site} {A = ℕ} o (λ n. Some (record { part = p; import = n })) ≡ None → o ≡ None
 no_import parts p n None h = refl
 no_import parts p n (Some x) h = cc
 
 -- ---- places ----
 
 pub count_is : (parts : List Part) (k : Kind) (p : ℕ) (m : Module) → module_at parts p ≡ Some m → imported_count parts p k ≡ length (imports_of k m)
-count_is parts k p m e = ap (λ o. or_this 0 (then_some o (λ m. Some (length (imports_of k m))))) e
+count_is parts k p m e = ap (λ o. unwrap_or (option_and_then (λ m. Some (length (imports_of k m))) o) 0) e
 
 -- what a part defines
-defined_place : (parts : List Part) (names : List (Option Text)) (k : Kind) (e : Entity) (m : Module) (i : ℕ) (y : Ty) → module_at parts e.part ≡ Some m → index_of_export e.what ≡ i → place (imports_of k m) i ≡ None → type_at m k i ≡ Some y →
+defined_place : (parts : List Part) (names : List (Option Text)) (k : Kind) (e : Entity) (m : Module) (i : ℕ) (y : Ty) → module_at parts e.part ≡ Some m → index_of_export e.what ≡ i → slice_get (imports_of k m) i ≡ None → type_at m k i ≡ Some y →
     type_at (merged parts names) k (place_of_end parts k (Defined e)) ≡ Some y
 unfolding place_of_end
 defined_place parts names k e m i y is at none t =
@@ -93,7 +93,7 @@ unfolding staying_of staying
 staying_has parts k u i at remains e =
     let n = in_sites parts u i at in
     let a = is_kept (stays parts) (sites parts) n.0 u n.1 remains in
-    is_kept (imports_kind parts k) (filter (stays parts) (sites parts)) a.0 u a.1 (ap (λ o. or_false (then_some o (λ i. Some (has_kind k i)))) at ∙ e)
+    is_kept (imports_kind parts k) (filter (stays parts) (sites parts)) a.0 u a.1 (ap (λ o. unwrap_or (option_and_then (λ i. Some (has_kind k i)) o) false) at ∙ e)
 
 -- and its place is there
 pub staying_place : (parts : List Part) (k : Kind) (u : Site) (i : Import) → import_at parts u ≡ Some i → stays parts u ≡ true → has_kind k i ≡ true → slice_get (staying_of parts k) (place_of_end parts k (Outside u)) ≡ Some u
@@ -103,14 +103,14 @@ staying_place parts k u i at remains e =
     let f = first_at (same_site u) (staying_of parts k) 0 n.0 u n.1 (site_same u) in
     let from_0 : 0 + f.at ≡ f.at = omega arith in
     let is : first_place (same_site u) (staying_of parts k) 0 ≡ Some f.at = f.is ∙ ap Some from_0 in
-    ap (λ o. slice_get (staying_of parts k) (or_this 0 o)) is ∙ f.got ∙ ap Some (sym (site_is u f.item f.yes))
+    ap (λ o. slice_get (staying_of parts k) (unwrap_or o 0)) is ∙ f.got ∙ ap Some (sym (site_is u f.item f.yes))
 
 pub outside_place : (parts : List Part) (k : Kind) (u : Site) (w : Stays parts u) → has_kind k w.import ≡ true → slice_get (staying_of parts k) (place_of_end parts k (Outside u)) ≡ Some u
 outside_place parts k u w e = staying_place parts k u w.import w.at (stays_is parts u w) e
 
 -- the kind of an import is that of the type that it asks for
-pub kind_there : (parts : List Part) (u : Site) (i : Import) (x : External) (m : Module) → module_at parts u.part ≡ Some m → place m.imports u.import ≡ Some i → asked_at parts u ≡ Some x → asked m i.desc ≡ Some x
-kind_there parts u i x m is at h = sym (ap (λ o. then_some o (λ m. then_some (place m.imports u.import) (λ i. asked m i.desc))) is ∙ ap (λ o. then_some o (λ i. asked m i.desc)) at) ∙ h
+pub kind_there : (parts : List Part) (u : Site) (i : Import) (x : External) (m : Module) → module_at parts u.part ≡ Some m → slice_get m.imports u.import ≡ Some i → asked_at parts u ≡ Some x → asked m i.desc ≡ Some x
+kind_there parts u i x m is at h = sym (ap (λ o. option_and_then (λ m. option_and_then (λ i. asked m i.desc) (slice_get m.imports u.import)) o) is ∙ ap (λ o. option_and_then (λ i. asked m i.desc) o) at) ∙ h
 
 pub has_its_kind : (k : Kind) (i : Import) → kind_of_import i.desc ≡ k → has_kind k i ≡ true
 has_its_kind k i e = ap (same_kind k) e ∙ kind_same k
@@ -138,7 +138,7 @@ outside_type parts names k s y q w =
 -- the entity with which an import ends, as an entry of its kind
 pub record IsOwn (parts : List Part) (k : Kind) (e : Entity) (m : Module) (y : Ty) : Type 0 where
   pub kind : kind_of_export e.what ≡ k
-  pub own : place (imports_of k m) (index_of_export e.what) ≡ None
+  pub own : slice_get (imports_of k m) (index_of_export e.what) ≡ None
   pub typed : type_at m k (index_of_export e.what) ≡ Some y
 
 pub inside_own : (parts : List Part) (k : Kind) (s : Site) (y : Ty) → kind_of y ≡ k → (w : EndsInside parts s y) → IsOwn parts k w.entity w.of y
@@ -149,7 +149,7 @@ inside_own parts k s y q w =
     let none = sym (imported_is parts k w.entity.part w.of w.entity.what n w.is_part kind refl) ∙ w.own in
     record {
       kind = kind;
-      own = no_import parts w.entity.part n (place (imports_of k w.of) n) none;
+      own = no_import parts w.entity.part n (slice_get (imports_of k w.of) n) none;
       typed = external_type w.of k n w.thing (ap (external_of w.of) (sym what) ∙ w.is) ∙ ap Some w.typed;
     }
 
@@ -165,9 +165,9 @@ entity_at p k i = record { part = p; what = entry_of k i }
 
 pub index_is : (parts : List Part) (p : ℕ) (k : Kind) (i : ℕ) (e : End) → entry_end parts (entity_at p k i) ≡ Some e → new_index parts p k i ≡ place_of_end parts k e
 unfolding new_index
-index_is parts p k i e h = ap (λ o. or_this 0 (then_some o (λ end. Some (place_of_end parts k end)))) h
+index_is parts p k i e h = ap (λ o. unwrap_or (option_and_then (λ end. Some (place_of_end parts k end)) o) 0) h
 
-pub entry_import : (parts : List Part) (p : ℕ) (m : Module) (k : Kind) (i : ℕ) → module_at parts p ≡ Some m → imported_as parts (entity_at p k i) ≡ then_some {A = ℕ} {B = Site} (place (imports_of k m) i) (λ n. Some (record { part = p; import = n }))
+pub entry_import : (parts : List Part) (p : ℕ) (m : Module) (k : Kind) (i : ℕ) → module_at parts p ≡ Some m → imported_as parts (entity_at p k i) ≡ option_and_then {B = Site} {A = ℕ} (slice_get (imports_of k m) i) (λ n. Some (record { part = p; import = n }))
 entry_import parts p m k i is = imported_is parts k p m (entry_of k i) i is (kind_of_entry k i) (index_of_entry k i)
 
 abbrev pub site_at : ℕ → ℕ → Site
@@ -180,10 +180,10 @@ pub record Joined (parts : List Part) (k : Kind) (p : ℕ) (m : Module) (n : ℕ
   pub kind : kind_of y ≡ k
   pub lands : Landed parts (site_at p n) y
 
-pub joined_entry : EndsArePaths → (parts : List Part) → AreLinked parts → (p : ℕ) (m : Module) (k : Kind) (i n : ℕ) (y : Ty) → module_at parts p ≡ Some m → place (imports_of k m) i ≡ Some n → type_at m k i ≡ Some y → Joined parts k p m n y
+pub joined_entry : EndsArePaths → (parts : List Part) → AreLinked parts → (p : ℕ) (m : Module) (k : Kind) (i n : ℕ) (y : Ty) → module_at parts p ≡ Some m → slice_get (imports_of k m) i ≡ Some n → type_at m k i ≡ Some y → Joined parts k p m n y
 joined_entry law parts links p m k i n y is e t =
     let r = import_entry k m i n y e t in
-    let at : import_at parts (site_at p n) ≡ Some r.import = ap (λ o. then_some o (λ m. place m.imports n)) is ∙ r.at in
+    let at : import_at parts (site_at p n) ≡ Some r.import = ap (λ o. option_and_then (λ m. slice_get m.imports n) o) is ∙ r.at in
     let w = links.imports (site_at p n) r.import at in
     let x = kind_there parts (site_at p n) r.import w.demand m is r.at w.asks in
     let both : Some y ≡ Some (bare w.demand) = sym r.typed ∙ asked_type m k r.import.desc r.entry w.demand r.adds x in
@@ -196,18 +196,18 @@ joined_entry law parts links p m k i n y is e t =
     }
 
 pub entry_kept : EndsArePaths → (parts : List Part) (names : List (Option Text)) → AreLinked parts → (p : ℕ) (m : Module) (k : Kind) (i : ℕ) (y : Ty) → module_at parts p ≡ Some m → type_at m k i ≡ Some y → type_at (merged parts names) k (new_index parts p k i) ≡ Some y
-entry_kept law parts names links p m k i y is t = by (place (imports_of k m) i) refl
+entry_kept law parts names links p m k i y is t = by (slice_get (imports_of k m) i) refl
   where
-    lands : (n : ℕ) → place (imports_of k m) i ≡ Some n → kind_of y ≡ k → Landed parts (site_at p n) y → type_at (merged parts names) k (new_index parts p k i) ≡ Some y
+    lands : (n : ℕ) → slice_get (imports_of k m) i ≡ Some n → kind_of y ≡ k → Landed parts (site_at p n) y → type_at (merged parts names) k (new_index parts p k i) ≡ Some y
     lands n e q (inside w) =
-        ap (type_at (merged parts names) k) (index_is parts p k i (Defined w.entity) (ap (end_from parts (entity_at p k i)) (entry_import parts p m k i is ∙ ap (λ o. then_some {A = ℕ} {B = Site} o (λ n. Some (record { part = p; import = n }))) e) ∙ w.linked))
+        ap (type_at (merged parts names) k) (index_is parts p k i (Defined w.entity) (ap (end_from parts (entity_at p k i)) (entry_import parts p m k i is ∙ ap (λ o. option_and_then {B = Site} {A = ℕ} o (λ n. Some (record { part = p; import = n }))) e) ∙ w.linked))
         ∙ inside_type parts names k (site_at p n) y q w
     lands n e q (outside w) =
-        ap (type_at (merged parts names) k) (index_is parts p k i (Outside w.to) (ap (end_from parts (entity_at p k i)) (entry_import parts p m k i is ∙ ap (λ o. then_some {A = ℕ} {B = Site} o (λ n. Some (record { part = p; import = n }))) e) ∙ w.linked))
+        ap (type_at (merged parts names) k) (index_is parts p k i (Outside w.to) (ap (end_from parts (entity_at p k i)) (entry_import parts p m k i is ∙ ap (λ o. option_and_then {B = Site} {A = ℕ} o (λ n. Some (record { part = p; import = n }))) e) ∙ w.linked))
         ∙ outside_type parts names k (site_at p n) y q w
 
-    by : (o : Option ℕ) → place (imports_of k m) i ≡ o → type_at (merged parts names) k (new_index parts p k i) ≡ Some y
+    by : (o : Option ℕ) → slice_get (imports_of k m) i ≡ o → type_at (merged parts names) k (new_index parts p k i) ≡ Some y
     by None e =
-        ap (type_at (merged parts names) k) (index_is parts p k i (Defined (entity_at p k i)) (ap (end_from parts (entity_at p k i)) (entry_import parts p m k i is ∙ ap (λ o. then_some {A = ℕ} {B = Site} o (λ n. Some (record { part = p; import = n }))) e)))
+        ap (type_at (merged parts names) k) (index_is parts p k i (Defined (entity_at p k i)) (ap (end_from parts (entity_at p k i)) (entry_import parts p m k i is ∙ ap (λ o. option_and_then {B = Site} {A = ℕ} o (λ n. Some (record { part = p; import = n }))) e)))
         ∙ defined_place parts names k (entity_at p k i) m i y is (index_of_entry k i) e t
     by (Some n) e = let j = joined_entry law parts links p m k i n y is e t in lands n e j.kind j.lands

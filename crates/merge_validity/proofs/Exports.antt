@@ -1,11 +1,11 @@
 -- The exports of the merged module stand for exports of parts, under names that differ.
-use Rattle.std.proofs.Common.{◌≡◌, ◌∙◌, ap, sym, subst, refl, ℕ, zero, suc, ◌+◌, ◌^◌, ◌<◌, ◌≤◌, List, [], ◌∷◌, ◌++◌, map, take, length, Option, Some, None, arith}
+use Rattle.std.proofs.Common.{◌≡◌, ◌∙◌, ap, sym, subst, refl, ℕ, zero, suc, ◌+◌, ◌^◌, ◌<◌, ◌≤◌, List, [], ◌∷◌, ◌++◌, map, take, length, Option, Some, None, arith, option_and_then}
 use Rattle.std.specs.Prelude.{slice_get, Contains}
 use Rattle.std.proofs.lemmas.List.{length-map}
 use Rattle.wasm_tree.specs.declared.module.Export.{Export}
 use Rattle.wasm_tree.specs.declared.module.Module.{Module}
 use Rattle.wasm_meaning.specs.State.{Text}
-use Rattle.wasm_meaning.specs.Linking.{Part, place, then_some, module_at}
+use Rattle.wasm_meaning.specs.Linking.{Part, module_at}
 use Rattle.index_remap.specs.Renumbered.{new_export}
 use Rattle.export_names.specs.declared.mode.Mode.{Mode}
 use Rattle.export_names.specs.declared.mode.Mode.TheVariants.{Refuse, Rename, Skip}
@@ -76,7 +76,7 @@ no_conflict : ConflictsAreFirst → (parts : List Part) (mode : Mode) → repeat
 unfolding repeated_name
 no_conflict law parts mode h = by (conflict mode (export_names parts)) refl h
   where
-    by : (o : Option ℕ) → conflict mode (export_names parts) ≡ o → then_some o (place (export_names parts)) ≡ None → conflict mode (export_names parts) ≡ None
+    by : (o : Option ℕ) → conflict mode (export_names parts) ≡ o → option_and_then (slice_get (export_names parts)) o ≡ None → conflict mode (export_names parts) ≡ None
     by None e h = e
     by (Some n) e h =
         let c = (law mode (export_names parts) n e).1.came in

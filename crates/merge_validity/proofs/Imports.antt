@@ -1,5 +1,5 @@
 -- The imports of the merged module hold: their types are there, and the limits that they keep are limits.
-use Rattle.std.proofs.Common.{◌≡◌, ◌∙◌, ap, sym, subst, refl, ℕ, ◌<◌, ◌≤◌, List, [], ◌∷◌, length, Option, Some, None, Bool, true, false, cond, arith}
+use Rattle.std.proofs.Common.{◌≡◌, ◌∙◌, ap, sym, subst, refl, ℕ, ◌<◌, ◌≤◌, List, [], ◌∷◌, length, Option, Some, None, Bool, true, false, cond, arith, option_and_then}
 use Rattle.std.specs.Prelude.{slice_get, slice_index, max}
 use Rattle.std.proofs.lemmas.Bool.{ltb-false}
 use Rattle.wasm_tree.specs.declared.types.Limits.{Limits}
@@ -11,7 +11,7 @@ use Rattle.wasm_valid.specs.declared.kinds.ItemKind.TheVariants as kind
 use Rattle.wasm_valid.specs.Validity.{HoldsAt, ImportHolds, LimitsHold, MostIsAtLeast, MostIsAtMost}
 use Rattle.wasm_meaning.specs.State.{Text}
 use Rattle.wasm_meaning.specs.Laws.{EndsArePaths}
-use Rattle.wasm_meaning.specs.Linking.{Part, Site, Memories, place, then_some, kind_of_import, module_at, import_at, sites, is_outside, linked_end, limits_of, consed, demands, least, met, met_limits}
+use Rattle.wasm_meaning.specs.Linking.{Part, Site, Memories, kind_of_import, module_at, import_at, sites, is_outside, linked_end, limits_of, consed, demands, least, met, met_limits}
 use Rattle.merge_terms.specs.declared.faults.LinkFault.{LinkFault}
 use Rattle.merge_terms.specs.declared.faults.LinkFault.TheVariants.{LimitsClash}
 use Rattle.merge_terms.specs.Faults.{asked_at, stays, kept_limits, is_under, clash_fault}
@@ -44,9 +44,9 @@ pub limits_hold : (parts : List Part) (s : Site) (i : Import) (l : Limits) → s
 unfolding clash_fault kept_limits
 limits_hold parts s i l remain at is h =
     let kept : kept_limits parts s ≡ Some (met_limits parts s) =
-    ap (λ b. cond b (then_some (import_at parts s) (λ i. then_some (limits_of i.desc) (λ l. Some (met_limits parts s)))) None) remain ∙ ap (λ o. then_some o (λ i. then_some (limits_of i.desc) (λ l. Some (met_limits parts s)))) at ∙ ap (λ o. then_some {A = Limits} {B = Limits} o (λ l. Some (met_limits parts s))) is in
+    ap (λ b. cond b (option_and_then (λ i. option_and_then (λ l. Some (met_limits parts s)) (limits_of i.desc)) (import_at parts s)) None) remain ∙ ap (λ o. option_and_then (λ i. option_and_then (λ l. Some (met_limits parts s)) (limits_of i.desc)) o) at ∙ ap (λ o. option_and_then {B = Limits} {A = Limits} o (λ l. Some (met_limits parts s))) is in
     let fits : cond (is_under (met_limits parts s).max (met_limits parts s).min) (Some (LimitsClash s.part s.import)) None ≡ None =
-    sym (ap (λ o. then_some {A = Limits} {B = LinkFault} o (λ l. cond (is_under l.max l.min) (Some (LimitsClash s.part s.import)) None)) kept) ∙ h in
+    sym (ap (λ o. option_and_then {B = LinkFault} {A = Limits} o (λ l. cond (is_under l.max l.min) (Some (LimitsClash s.part s.import)) None)) kept) ∙ h in
     not_under (met_limits parts s).max (met_limits parts s).min (no_clash s (met_limits parts s) fits)
 
 -- no more pages than a memory has
@@ -62,11 +62,11 @@ least_few (Some a) (Some b) x y = omega (arith, x, y)
 more_few : (l k : Limits) → Few l → Few k → Few (record { min = max l.min k.min; max = least l.max k.max })
 more_few l k x y = record { low = (let a = x.low in let b = y.low in omega (arith, a, b)); high = least_few l.max k.max x.high y.high }
 
-demands_few : (parts : List Part) (s : Site) (ts : List Site) → ((t : Site) (l : Limits) → is_outside s (linked_end parts t) ≡ true → then_some (import_at parts t) (λ i. limits_of i.desc) ≡ Some l → Few l) → Few (met (demands parts s ts))
+demands_few : (parts : List Part) (s : Site) (ts : List Site) → ((t : Site) (l : Limits) → is_outside s (linked_end parts t) ≡ true → option_and_then (λ i. limits_of i.desc) (import_at parts t) ≡ Some l → Few l) → Few (met (demands parts s ts))
 demands_few parts s [] each = record { low = omega arith; high = tt }
-demands_few parts s (t ∷ ts) each = by (is_outside s (linked_end parts t)) refl (then_some (import_at parts t) (λ i. limits_of i.desc)) refl (demands_few parts s ts each)
+demands_few parts s (t ∷ ts) each = by (is_outside s (linked_end parts t)) refl (option_and_then (λ i. limits_of i.desc) (import_at parts t)) refl (demands_few parts s ts each)
   where
-    by : (b : Bool) → is_outside s (linked_end parts t) ≡ b → (o : Option Limits) → then_some (import_at parts t) (λ i. limits_of i.desc) ≡ o → Few (met (demands parts s ts)) → Few (met (cond b (consed o (demands parts s ts)) (demands parts s ts)))
+    by : (b : Bool) → is_outside s (linked_end parts t) ≡ b → (o : Option Limits) → option_and_then (λ i. limits_of i.desc) (import_at parts t) ≡ o → Few (met (demands parts s ts)) → Few (met (cond b (consed o (demands parts s ts)) (demands parts s ts)))
     by false e o is rest = rest
     by true e None is rest = rest
     by true e (Some l) is rest = more_few l (met (demands parts s ts)) (each t l e is) rest
@@ -78,7 +78,7 @@ memory_few m (im.Table t) l e h p = absurd (let z = e in cc)
 memory_few m (im.Global t) l e h p = absurd (let z = e in cc)
 
 -- an import of a valid part holds
-pub part_import : (m : Module) → ItemsHold m → (n : ℕ) (i : Import) → place m.imports n ≡ Some i → ImportHolds m i.desc
+pub part_import : (m : Module) → ItemsHold m → (n : ℕ) (i : Import) → slice_get m.imports n ≡ Some i → ImportHolds m i.desc
 part_import m holds n i at =
     let got : slice_get m.imports n ≡ Some i = sym (place_get m.imports n) ∙ at in
     let z = holds kind.Import n (within m.imports n i got) in
@@ -107,7 +107,7 @@ module _ (law : EndsArePaths) (parts : List Part) (links : AreLinked parts) (val
   memory_met : (s : Site) (i : Import) → import_at parts s ≡ Some i → kind_of_import i.desc ≡ Memories → Few (met_limits parts s)
   memory_met s i at e = demands_few parts s (sites parts) (λ t l h is. each t l h is)
     where
-      each : (t : Site) (l : Limits) → is_outside s (linked_end parts t) ≡ true → then_some (import_at parts t) (λ i. limits_of i.desc) ≡ Some l → Few l
+      each : (t : Site) (l : Limits) → is_outside s (linked_end parts t) ≡ true → option_and_then (λ i. limits_of i.desc) (import_at parts t) ≡ Some l → Few l
       each t l h is =
           let j = then_is (import_at parts t) (λ i. limits_of i.desc) l is in
           let m = import_site parts t j.0 j.1 in
@@ -126,7 +126,7 @@ module _ (law : EndsArePaths) (parts : List Part) (links : AreLinked parts) (val
   import_back : (s : Site) (x : Import) → merged_import parts s ≡ Some x → (m : Module) × (i : Import) × (module_at parts s.part ≡ Some m) × (import_at parts s ≡ Some i) × (x.desc ≡ merged_desc parts s m i.desc)
   unfolding merged_import
   import_back s x h =
-      let m = then_is (module_at parts s.part) (λ m. then_some (import_at parts s) (λ i. Some (record i { desc = merged_desc parts s m i.desc }))) x h in
+      let m = then_is (module_at parts s.part) (λ m. option_and_then (λ i. Some (record i { desc = merged_desc parts s m i.desc })) (import_at parts s)) x h in
       let i = then_is (import_at parts s) (λ i. Some (record i { desc = merged_desc parts s m.0 i.desc })) x m.2 in
       let q = i.2 in
       let same : record i.0 { desc = merged_desc parts s m.0 i.0.desc } ≡ x = cc in
@@ -144,5 +144,5 @@ module _ (law : EndsArePaths) (parts : List Part) (links : AreLinked parts) (val
       let m = import_site parts s.0 b.1 b.3 in
       let both : Some m.0 ≡ Some b.0 = sym m.1 ∙ b.2 in
       let same : m.0 ≡ b.0 = cc in
-      let p = part_import b.0 (valid s.0.part b.0 b.2) s.0.import b.1 (ap (λ (m : Module). place m.imports s.0.import) (sym same) ∙ m.2) in
+      let p = part_import b.0 (valid s.0.part b.0 b.2) s.0.import b.1 (ap (λ (m : Module). slice_get m.imports s.0.import) (sym same) ∙ m.2) in
       (x.0, x.1, subst (ImportHolds (merged parts names)) (sym b.4) (desc_holds names s.0 b.0 b.1 b.1.desc refl (stays_there s.0 s.1) b.2 b.3 p))

@@ -1,10 +1,10 @@
 -- What it says that parts have no fault of linking: of each import, of the memories, and of each global that a part defines.
-use Rattle.std.proofs.Common.{◌≡◌, ◌∙◌, ap, ap₂, sym, subst, refl, ℕ, zero, suc, ◌+◌, ◌<◌, List, [], ◌∷◌, ◌++◌, length, Option, Some, None, Bool, true, false, cond, arith}
+use Rattle.std.proofs.Common.{◌≡◌, ◌∙◌, ap, ap₂, sym, subst, refl, ℕ, zero, suc, ◌+◌, ◌<◌, List, [], ◌∷◌, ◌++◌, length, Option, Some, None, Bool, true, false, cond, arith, option_and_then}
 use Rattle.std.specs.Prelude.{slice_get}
 use Rattle.wasm_tree.specs.declared.module.Import.{Import}
 use Rattle.wasm_tree.specs.declared.module.GlobalDef.{GlobalDef}
 use Rattle.wasm_tree.specs.declared.module.Module.{Module}
-use Rattle.wasm_meaning.specs.Linking.{Part, Site, End, Defined, Outside, Globals, Read, place, then_some, module_at, import_at, imports_of, sites_in, sites_from, sites, end_of, read_of}
+use Rattle.wasm_meaning.specs.Linking.{Part, Site, End, Defined, Outside, Globals, Read, module_at, import_at, imports_of, sites_in, sites_from, sites, end_of, read_of}
 use Rattle.merge_terms.specs.declared.faults.LinkFault.{LinkFault}
 use Rattle.merge_terms.specs.declared.faults.LinkFault.TheVariants.{ImportMismatch}
 use Rattle.merge_terms.specs.Faults.{External, asked_at, found, suits, same_but_limits, meets_limits, is_suited, or_else, first_fault, end_fault, import_fault, clash_fault, memory_fault, OwnGlobal, own_globals_in, own_globals_from, own_globals, value_fault, global_fault, link_fault}
@@ -34,8 +34,8 @@ site_in p zero from i l = absurd (omega (arith, l))
 site_in p (suc count) from zero l = ap {A = ℕ} {B = Option Site} (λ n. Some (record { part = p; import = n })) (let e : from ≡ from + 0 = omega arith in e)
 site_in p (suc count) from (suc i) l = site_in p count (suc from) i (omega (arith, l)) ∙ ap {A = ℕ} {B = Option Site} (λ n. Some (record { part = p; import = n })) (let e : suc from + i ≡ from + suc i = omega arith in e)
 
-pub import_site : (parts : List Part) (s : Site) (i : Import) → import_at parts s ≡ Some i → (m : Module) × (module_at parts s.part ≡ Some m) × (place m.imports s.import ≡ Some i)
-import_site parts s i h = then_is (module_at parts s.part) (λ m. place m.imports s.import) i h
+pub import_site : (parts : List Part) (s : Site) (i : Import) → import_at parts s ≡ Some i → (m : Module) × (module_at parts s.part ≡ Some m) × (slice_get m.imports s.import ≡ Some i)
+import_site parts s i h = then_is (module_at parts s.part) (λ m. slice_get m.imports s.import) i h
 
 pub in_sites : (parts : List Part) (s : Site) (i : Import) → import_at parts s ≡ Some i → Has (sites parts) s
 in_sites parts s i h =
@@ -96,7 +96,7 @@ suited parts s h = by (end_of parts s) refl h
 
     here : (e : End) → end_of parts s ≡ Some e → is_suited parts s e ≡ true → Suited parts s
     here e is h =
-        let d = then_is (asked_at parts s) (λ d. then_some (found parts e) (λ x. Some (suits d e x))) true (or_false_is _ h) in
+        let d = then_is (asked_at parts s) (λ d. option_and_then (λ x. Some (suits d e x)) (found parts e)) true (or_false_is _ h) in
         let x = then_is (found parts e) (λ x. Some (suits d.0 e x)) true d.2 in
         let yes : suits d.0 e x.0 ≡ true = (let k = x.2 in cc) in
         record { end = e; ends = is; demand = d.0; asks = d.1; thing = x.0; finds = x.1; same = suits_same d.0 e x.0 yes; yes = yes }

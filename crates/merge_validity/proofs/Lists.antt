@@ -1,15 +1,15 @@
 -- Lists: what stands at a place, and places in what is kept, chosen and joined.
-use Rattle.std.proofs.Common.{◌≡◌, ◌∙◌, ap, sym, subst, refl, ℕ, zero, suc, ◌+◌, ◌<◌, ◌≤◌, List, [], ◌∷◌, ◌++◌, map, length, Option, Some, None, Bool, true, false, cond, arith, ◌⊎◌, inl, inr}
+use Rattle.std.proofs.Common.{◌≡◌, ◌∙◌, ap, sym, subst, refl, ℕ, zero, suc, ◌+◌, ◌<◌, ◌≤◌, List, [], ◌∷◌, ◌++◌, map, length, Option, Some, None, Bool, true, false, cond, arith, ◌⊎◌, inl, inr, option_and_then, unwrap_or, ◌&&◌}
 use Rattle.std.specs.Prelude.{slice_get, slice_index}
 use Rattle.std.specs.List.{filter, filter_map, cons_option}
-use Rattle.wasm_meaning.specs.Linking.{place, then_some, first_place, places, count_of}
-use Rattle.wasm_meaning.specs.World.{numbers, or_false}
+use Rattle.wasm_meaning.specs.Linking.{first_place, places, count_of}
+use Rattle.wasm_meaning.specs.World.{numbers}
 
 -- something stands in a list
 abbrev pub Has : {A : Type 0} → List A → A → Type 0
 Has xs x = (n : ℕ) × (slice_get xs n ≡ Some x)
 
-pub place_get : {A : Type 0} (xs : List A) (n : ℕ) → place xs n ≡ slice_get xs n
+pub place_get : {A : Type 0} (xs : List A) (n : ℕ) → slice_get xs n ≡ slice_get xs n
 place_get [] n = refl
 place_get (x ∷ xs) zero = refl
 place_get (x ∷ xs) (suc n) = place_get xs n
@@ -141,11 +141,11 @@ as_many {A} {B} test f (y ∷ ys) e = by (as_many test f ys e) (f y) (test y) (e
     by on (Some c) b k = ap suc on ∙ ap (λ b. length (cond b (y ∷ filter test ys) (filter test ys))) k
 
 -- choosing twice
-pub chosen_twice : {A B C : Type 0} (f : A → Option B) (g : B → Option C) (xs : List A) → filter_map g (filter_map f xs) ≡ filter_map (λ x. then_some (f x) g) xs
+pub chosen_twice : {A B C : Type 0} (f : A → Option B) (g : B → Option C) (xs : List A) → filter_map g (filter_map f xs) ≡ filter_map (λ x. option_and_then g (f x)) xs
 chosen_twice f g [] = refl
 chosen_twice {A} {B} f g (x ∷ xs) = by (chosen_twice f g xs) (f x)
   where
-    by : filter_map g (filter_map f xs) ≡ filter_map (λ x. then_some (f x) g) xs → (o : Option B) → filter_map g (cons_option o (filter_map f xs)) ≡ cons_option (then_some o g) (filter_map (λ x. then_some (f x) g) xs)
+    by : filter_map g (filter_map f xs) ≡ filter_map (λ x. option_and_then g (f x)) xs → (o : Option B) → filter_map g (cons_option o (filter_map f xs)) ≡ cons_option (option_and_then g o) (filter_map (λ x. option_and_then g (f x)) xs)
     by on None = on
     by on (Some b) = ap (cons_option (g b)) on
 
@@ -165,7 +165,7 @@ chosen_from {A} {B} f (x ∷ xs) n y h = by (λ n h. chosen_from f xs n y h) (f 
 -- ---- the places whose elements pass a test ----
 
 -- the place at i, and what stands there is the one at i of what is chosen
-pub place_of : {A B : Type 0} (test : A → Bool) (f : A → Option B) (xs : List A) → ((x : A) → is_some (f x) ≡ test x) → (from i n : ℕ) → place (places test xs from) i ≡ Some n →
+pub place_of : {A B : Type 0} (test : A → Bool) (f : A → Option B) (xs : List A) → ((x : A) → is_some (f x) ≡ test x) → (from i n : ℕ) → slice_get (places test xs from) i ≡ Some n →
     (k : ℕ) × (x : A) × (n ≡ from + k) × (slice_get xs k ≡ Some x) × (test x ≡ true) × (slice_get (filter_map f xs) i ≡ f x)
 place_of test f [] e from i n h = absurd (let k = h in cc)
 place_of {A} {B} test f (y ∷ ys) e from i n h = by (λ i h. place_of test f ys e (suc from) i n h) (test y) (f y) refl refl (e y) i h
@@ -173,7 +173,7 @@ place_of {A} {B} test f (y ∷ ys) e from i n h = by (λ i h. place_of test f ys
     more_at : (i : ℕ) → (k : ℕ) × (x : A) × (n ≡ suc from + k) × (slice_get ys k ≡ Some x) × (test x ≡ true) × (slice_get (filter_map f ys) i ≡ f x) → (k : ℕ) × (x : A) × (n ≡ from + k) × (slice_get (y ∷ ys) k ≡ Some x) × (test x ≡ true) × (slice_get (filter_map f ys) i ≡ f x)
     more_at i r = let d = r.2 in (suc r.0, r.1, omega (arith, d), r.3, r.4, r.5)
 
-    by : ((i : ℕ) → place (places test ys (suc from)) i ≡ Some n → (k : ℕ) × (x : A) × (n ≡ suc from + k) × (slice_get ys k ≡ Some x) × (test x ≡ true) × (slice_get (filter_map f ys) i ≡ f x)) → (b : Bool) (o : Option B) → test y ≡ b → f y ≡ o → is_some o ≡ test y → (i : ℕ) → place (cond b (from ∷ places test ys (suc from)) (places test ys (suc from))) i ≡ Some n →
+    by : ((i : ℕ) → slice_get (places test ys (suc from)) i ≡ Some n → (k : ℕ) × (x : A) × (n ≡ suc from + k) × (slice_get ys k ≡ Some x) × (test x ≡ true) × (slice_get (filter_map f ys) i ≡ f x)) → (b : Bool) (o : Option B) → test y ≡ b → f y ≡ o → is_some o ≡ test y → (i : ℕ) → slice_get (cond b (from ∷ places test ys (suc from)) (places test ys (suc from))) i ≡ Some n →
         (k : ℕ) × (x : A) × (n ≡ from + k) × (slice_get (y ∷ ys) k ≡ Some x) × (test x ≡ true) × (slice_get (cons_option o (filter_map f ys)) i ≡ f x)
     by on true None t is k i h = absurd (let a : false ≡ true = k ∙ t in cc)
     by on true (Some c) t is k zero h = let same : from ≡ n = cc in (0, y, omega (arith, same), refl, t, sym is)
@@ -197,15 +197,15 @@ count_kept {A} test (y ∷ ys) = by (count_kept test ys) (test y)
     by on true = ap suc on
     by on false = on
 
-pub filter_both : {A : Type 0} (f g : A → Bool) (xs : List A) → filter f (filter g xs) ≡ filter (λ x. cond (g x) (f x) false) xs
+pub filter_both : {A : Type 0} (f g : A → Bool) (xs : List A) → filter f (filter g xs) ≡ filter (λ x. g x && f x) xs
 filter_both f g [] = refl
 filter_both {A} f g (x ∷ xs) = by (filter_both f g xs) (g x)
   where
-    inner : filter f (filter g xs) ≡ filter (λ x. cond (g x) (f x) false) xs → (c : Bool) → cond c (x ∷ filter f (filter g xs)) (filter f (filter g xs)) ≡ cond c (x ∷ filter (λ x. cond (g x) (f x) false) xs) (filter (λ x. cond (g x) (f x) false) xs)
+    inner : filter f (filter g xs) ≡ filter (λ x. g x && f x) xs → (c : Bool) → cond c (x ∷ filter f (filter g xs)) (filter f (filter g xs)) ≡ cond c (x ∷ filter (λ x. g x && f x) xs) (filter (λ x. g x && f x) xs)
     inner on true = ap (λ z. x ∷ z) on
     inner on false = on
 
-    by : filter f (filter g xs) ≡ filter (λ x. cond (g x) (f x) false) xs → (b : Bool) → filter f (cond b (x ∷ filter g xs) (filter g xs)) ≡ cond (cond b (f x) false) (x ∷ filter (λ x. cond (g x) (f x) false) xs) (filter (λ x. cond (g x) (f x) false) xs)
+    by : filter f (filter g xs) ≡ filter (λ x. g x && f x) xs → (b : Bool) → filter f (cond b (x ∷ filter g xs) (filter g xs)) ≡ cond (b && f x) (x ∷ filter (λ x. g x && f x) xs) (filter (λ x. g x && f x) xs)
     by on true = inner on (f x)
     by on false = on
 
@@ -222,10 +222,10 @@ numbers_many from (suc count) = ap suc (numbers_many (suc from) count)
 
 -- ---- options ----
 
-pub then_is : {A B : Type 0} (o : Option A) (f : A → Option B) (y : B) → then_some o f ≡ Some y → (x : A) × (o ≡ Some x) × (f x ≡ Some y)
+pub then_is : {A B : Type 0} (o : Option A) (f : A → Option B) (y : B) → option_and_then f o ≡ Some y → (x : A) × (o ≡ Some x) × (f x ≡ Some y)
 then_is None f y h = absurd (let k = h in cc)
 then_is (Some x) f y h = (x, refl, h)
 
-pub or_false_is : (o : Option Bool) → or_false o ≡ true → o ≡ Some true
+pub or_false_is : (o : Option Bool) → unwrap_or o false ≡ true → o ≡ Some true
 or_false_is None h = absurd (let k = h in cc)
 or_false_is (Some b) h = ap Some h

@@ -1,5 +1,5 @@
 -- The index spaces of the merged module: an import that stays and an entity that a part defines stand there at their places, with their types.
-use Rattle.std.proofs.Common.{◌≡◌, ◌∙◌, ap, sym, subst, refl, ℕ, ◌+◌, List, [], ◌∷◌, ◌++◌, map, length, Option, Some, None, arith}
+use Rattle.std.proofs.Common.{◌≡◌, ◌∙◌, ap, sym, subst, refl, ℕ, ◌+◌, List, [], ◌∷◌, ◌++◌, map, length, Option, Some, None, arith, option_and_then, unwrap_or}
 use Rattle.std.specs.Prelude.{slice_get, slice_index}
 use Rattle.std.specs.List.{filter_map}
 use Rattle.std.proofs.lemmas.List.{length-map, map-append}
@@ -8,8 +8,8 @@ use Rattle.wasm_tree.specs.declared.module.ImportDesc.{ImportDesc}
 use Rattle.wasm_tree.specs.declared.module.ImportDesc.TheVariants as im
 use Rattle.wasm_tree.specs.declared.module.Module.{Module}
 use Rattle.wasm_meaning.specs.State.{Text}
-use Rattle.wasm_meaning.specs.World.{defined_count, defined_before, or_false}
-use Rattle.wasm_meaning.specs.Linking.{Part, Site, Kind, Functions, Tables, Memories, Globals, place, then_some, has_kind, module_at, import_at}
+use Rattle.wasm_meaning.specs.World.{defined_count, defined_before}
+use Rattle.wasm_meaning.specs.Linking.{Part, Site, Kind, Functions, Tables, Memories, Globals, has_kind, module_at, import_at}
 use Rattle.index_remap.specs.Renumbered.{new_func}
 use Rattle.merge_terms.specs.Merged.{merged, merged_types, map_of, merged_import, merged_desc, merged_global, staying, staying_of, imports_kind, defined_funcs, start_calls, starts, by_part}
 use Rattle.merge_validity.proofs.Lists.{is_some, then_is, front, behind, map_at, chosen_at, as_many, chosen_twice}
@@ -96,52 +96,52 @@ desc_moved parts s m Globals (im.Table t) = refl
 desc_moved parts s m Globals (im.Memory t) = refl
 desc_moved parts s m Globals (im.Global t) = refl
 
-import_moved : (parts : List Part) (k : Kind) (s : Site) → is_some (then_some (merged_import parts s) (of_import k)) ≡ imports_kind parts k s
+import_moved : (parts : List Part) (k : Kind) (s : Site) → is_some (option_and_then (of_import k) (merged_import parts s)) ≡ imports_kind parts k s
 unfolding merged_import
 import_moved parts k s = by (module_at parts s.part)
   where
-    inner : (m : Module) (o : Option Import) → is_some (then_some (then_some o (λ i. Some (record i { desc = merged_desc parts s m i.desc }))) (of_import k)) ≡ or_false (then_some o (λ i. Some (has_kind k i)))
+    inner : (m : Module) (o : Option Import) → is_some (option_and_then (of_import k) (option_and_then (λ i. Some (record i { desc = merged_desc parts s m i.desc })) o)) ≡ unwrap_or (option_and_then (λ i. Some (has_kind k i)) o) false
     inner m None = refl
     inner m (Some i) = desc_moved parts s m k i.desc ∙ import_kind k i
 
     by : (o : Option Module) →
-        is_some (then_some (then_some o (λ m. then_some (then_some o (λ m. place m.imports s.import)) (λ i. Some (record i { desc = merged_desc parts s m i.desc })))) (of_import k)) ≡ or_false (then_some (then_some o (λ m. place m.imports s.import)) (λ i. Some (has_kind k i)))
+        is_some (option_and_then (of_import k) (option_and_then (λ m. option_and_then (λ i. Some (record i { desc = merged_desc parts s m i.desc })) (option_and_then (λ m. slice_get m.imports s.import) o)) o)) ≡ unwrap_or (option_and_then (λ i. Some (has_kind k i)) (option_and_then (λ m. slice_get m.imports s.import) o)) false
     by None = refl
-    by (Some m) = inner m (place m.imports s.import)
+    by (Some m) = inner m (slice_get m.imports s.import)
 
 pub imported_many : (parts : List Part) (names : List (Option Text)) (k : Kind) → length (imported k (merged parts names)) ≡ length (staying_of parts k)
 unfolding staying_of
 imported_many parts names k =
     ap (λ z. length (filter_map (of_import k) z)) (imports_are parts names) ∙ ap length (chosen_twice (merged_import parts) (of_import k) (staying parts))
-    ∙ as_many (imports_kind parts k) (λ s. then_some (merged_import parts s) (of_import k)) (staying parts) (import_moved parts k)
+    ∙ as_many (imports_kind parts k) (λ s. option_and_then (of_import k) (merged_import parts s)) (staying parts) (import_moved parts k)
 
-imported_at : (parts : List Part) (names : List (Option Text)) (k : Kind) (n : ℕ) (s : Site) → slice_get (staying_of parts k) n ≡ Some s → slice_get (imported k (merged parts names)) n ≡ then_some (merged_import parts s) (of_import k)
+imported_at : (parts : List Part) (names : List (Option Text)) (k : Kind) (n : ℕ) (s : Site) → slice_get (staying_of parts k) n ≡ Some s → slice_get (imported k (merged parts names)) n ≡ option_and_then (of_import k) (merged_import parts s)
 unfolding staying_of
 imported_at parts names k n s h =
     ap (λ z. slice_get (filter_map (of_import k) z) n) (imports_are parts names) ∙ ap (λ z. slice_get z n) (chosen_twice (merged_import parts) (of_import k) (staying parts))
-    ∙ chosen_at (imports_kind parts k) (λ s. then_some (merged_import parts s) (of_import k)) (staying parts) (import_moved parts k) n s h
+    ∙ chosen_at (imports_kind parts k) (λ s. option_and_then (of_import k) (merged_import parts s)) (staying parts) (import_moved parts k) n s h
 
 pub import_is : (parts : List Part) (s : Site) (m : Module) (i : Import) → module_at parts s.part ≡ Some m → import_at parts s ≡ Some i → merged_import parts s ≡ Some (record i { desc = merged_desc parts s m i.desc })
 unfolding merged_import
 import_is parts s m i e h = by (module_at parts s.part) e h
   where
-    inner : (o : Option Import) → o ≡ Some i → then_some o (λ i. Some (record i { desc = merged_desc parts s m i.desc })) ≡ Some (record i { desc = merged_desc parts s m i.desc })
+    inner : (o : Option Import) → o ≡ Some i → option_and_then (λ i. Some (record i { desc = merged_desc parts s m i.desc })) o ≡ Some (record i { desc = merged_desc parts s m i.desc })
     inner None h = cc
     inner (Some j) h = let same : j ≡ i = cc in ap {A = Import} (λ j. Some (record j { desc = merged_desc parts s m j.desc })) same
 
-    by : (o : Option Module) → o ≡ Some m → then_some o (λ m. place m.imports s.import) ≡ Some i →
-        then_some o (λ n. then_some (then_some o (λ m. place m.imports s.import)) (λ i. Some (record i { desc = merged_desc parts s n i.desc }))) ≡ Some (record i { desc = merged_desc parts s m i.desc })
+    by : (o : Option Module) → o ≡ Some m → option_and_then (λ m. slice_get m.imports s.import) o ≡ Some i →
+        option_and_then (λ n. option_and_then (λ i. Some (record i { desc = merged_desc parts s n i.desc })) (option_and_then (λ m. slice_get m.imports s.import) o)) o ≡ Some (record i { desc = merged_desc parts s m i.desc })
     by None e h = cc
     by (Some n) e h =
         let same : n ≡ m = cc in
-        subst (λ n. then_some {A = Import} {B = Import} (place n.imports s.import) (λ i. Some (record i { desc = merged_desc parts s n i.desc })) ≡ Some (record i { desc = merged_desc parts s m i.desc })) (sym same) (inner (place m.imports s.import) (subst (λ n. place n.imports s.import ≡ Some i) same h))
+        subst (λ n. option_and_then {B = Import} {A = Import} (slice_get n.imports s.import) (λ i. Some (record i { desc = merged_desc parts s n i.desc })) ≡ Some (record i { desc = merged_desc parts s m i.desc })) (sym same) (inner (slice_get m.imports s.import) (subst (λ n. slice_get n.imports s.import ≡ Some i) same h))
 
 -- ---- types ----
 
 type_moved : (parts : List Part) (names : List (Option Text)) (k : Kind) (p : ℕ) (m : Module) (c : Entry k) (y : Ty) → module_at parts p ≡ Some m → type_of m k c ≡ Some y → type_of (merged parts names) k (moved parts k p m c) ≡ Some y
 type_moved parts names Functions p m c y e h =
     let t = then_is (slice_get m.types c) (λ t. Some (FuncTy t)) y h in
-    ap (λ z. then_some (slice_get z (moved parts Functions p m c)) (λ t. Some (FuncTy t))) (types_are parts names) ∙ ap (λ o. then_some o (λ t. Some (FuncTy t))) (type_stands parts p m c t.0 e t.1) ∙ t.2
+    ap (λ z. option_and_then (λ t. Some (FuncTy t)) (slice_get z (moved parts Functions p m c))) (types_are parts names) ∙ ap (λ o. option_and_then (λ t. Some (FuncTy t)) o) (type_stands parts p m c t.0 e t.1) ∙ t.2
 type_moved parts names Tables p m c y e h = h
 type_moved parts names Memories p m c y e h = h
 type_moved parts names Globals p m c y e h = h
@@ -176,8 +176,8 @@ pub staying_type : (parts : List Part) (names : List (Option Text)) (k : Kind) (
     import_at parts s ≡ Some i → of_desc k i.desc ≡ Some c → type_of m k c ≡ Some y → type_at (merged parts names) k n ≡ Some y
 staying_type parts names k n s m i c y h e at is t =
     let r = stood parts names k s m i.desc c y e is t in
-    let got : slice_get (imported k (merged parts names)) n ≡ Some r.entry = imported_at parts names k n s h ∙ ap (λ o. then_some o (of_import k)) (import_is parts s m i e at) ∙ r.is in
-    ap (λ o. then_some o (type_of (merged parts names) k)) (front (imported k (merged parts names)) (own k (merged parts names)) n r.entry got) ∙ r.typed
+    let got : slice_get (imported k (merged parts names)) n ≡ Some r.entry = imported_at parts names k n s h ∙ ap (λ o. option_and_then (of_import k) o) (import_is parts s m i e at) ∙ r.is in
+    ap (λ o. option_and_then (type_of (merged parts names) k) o) (front (imported k (merged parts names)) (own k (merged parts names)) n r.entry got) ∙ r.typed
 
 pub own_at : (parts : List Part) (names : List (Option Text)) (k : Kind) (q : ℕ) (m : Module) (j : ℕ) (c : Entry k) → module_at parts q ≡ Some m → slice_get (own k m) j ≡ Some c →
     slice_get (space k (merged parts names)) (length (staying_of parts k) + (defined_before k parts q + j)) ≡ Some (moved parts k q m c)
@@ -192,4 +192,4 @@ own_at parts names k q m j c e h =
 pub own_type : (parts : List Part) (names : List (Option Text)) (k : Kind) (q : ℕ) (m : Module) (j : ℕ) (c : Entry k) (y : Ty) → module_at parts q ≡ Some m → slice_get (own k m) j ≡ Some c → type_of m k c ≡ Some y →
     type_at (merged parts names) k (length (staying_of parts k) + (defined_before k parts q + j)) ≡ Some y
 own_type parts names k q m j c y e h t =
-    ap (λ o. then_some o (type_of (merged parts names) k)) (own_at parts names k q m j c e h) ∙ type_moved parts names k q m c y e t
+    ap (λ o. option_and_then (type_of (merged parts names) k) o) (own_at parts names k q m j c e h) ∙ type_moved parts names k q m c y e t

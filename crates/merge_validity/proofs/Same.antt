@@ -1,5 +1,5 @@
 -- The tests of sameness: what passes them is equal, and each passes with itself.
-use Rattle.std.proofs.Common.{◌≡◌, ◌∙◌, ap, ap₂, sym, refl, List, [], ◌∷◌, Bool, true, false, cond, nat_eq, eq-eqb}
+use Rattle.std.proofs.Common.{◌≡◌, ◌∙◌, ap, ap₂, sym, refl, List, [], ◌∷◌, Bool, true, false, cond, nat_eq, eq-eqb, ◌&&◌}
 use Rattle.std.proofs.lemmas.Bool.{eqb-true}
 use Rattle.wasm_tree.specs.declared.types.RefType.{RefType}
 use Rattle.wasm_tree.specs.declared.types.RefType.TheVariants as reft
@@ -11,12 +11,12 @@ use Rattle.wasm_meaning.specs.Values.{same_ref, same_type, same_types, same_func
 use Rattle.wasm_meaning.specs.World.{same_bool}
 use Rattle.wasm_meaning.specs.Linking.{Site, Kind, Functions, Tables, Memories, Globals, same_text, same_pair, same_site, same_kind}
 
-pub both_are : (a b : Bool) → cond a b false ≡ true → (a ≡ true) × (b ≡ true)
+pub both_are : (a b : Bool) → a && b ≡ true → (a ≡ true) × (b ≡ true)
 both_are true b h = (refl, h)
 both_are false b h = absurd (let k = h in cc)
 
-pub cond_both : (a b : Bool) → a ≡ true → b ≡ true → cond a b false ≡ true
-cond_both a b g h = ap (λ z. cond z b false) g ∙ h
+pub cond_both : (a b : Bool) → a ≡ true → b ≡ true → a && b ≡ true
+cond_both a b g h = ap (λ z. z && b) g ∙ h
 
 pub ref_is : (r s : RefType) → same_ref r s ≡ true → r ≡ s
 ref_is reft.Func reft.Func h = refl

@@ -6,7 +6,7 @@ use Rattle.wasm_tree.specs.declared.module.Func.{Func}
 use Rattle.wasm_tree.specs.declared.module.Module.{Module}
 use Rattle.wasm_tree.specs.declared.instr.Instr.TheVariants.{Call}
 use Rattle.wasm_tree.specs.Spaces.{funcs_of, type_of_func}
-use Rattle.wasm_typing.specs.Typing.{Context, Gives, LeadsAll, WellTyped, effect_of, gives_of, signature_in, then_option}
+use Rattle.wasm_typing.specs.Typing.{Context, Gives, LeadsAll, WellTyped, effect_of, gives_of, signature_in}
 use Rattle.wasm_valid.specs.declared.kinds.ItemKind.TheVariants as kind
 use Rattle.wasm_valid.specs.Validity.{IsValid, HoldsAt, start_count, body_context}
 use Rattle.wasm_meaning.specs.State.{Text}
@@ -43,7 +43,7 @@ nothing t a b = ap₂ (λ p r. record { params = p; results = r }) a b
 call_effect : (c : Context) (f : ℕ) → option_and_then (slice_get c.types) (slice_get c.funcs f) ≡ Some nullary → effect_of c (Call f) ≡ Some (Gives [] [])
 call_effect c f h = by (slice_get c.funcs f) h
   where
-    by : (o : Option ℕ) → option_and_then (slice_get c.types) o ≡ Some nullary → gives_of (signature_in (then_option o (λ t. slice_get c.types t))) ≡ Some (Gives [] [])
+    by : (o : Option ℕ) → option_and_then (slice_get c.types) o ≡ Some nullary → gives_of (signature_in (option_and_then (λ t. slice_get c.types t) o)) ≡ Some (Gives [] [])
     by None h = cc
     by (Some ty) h = ap (λ o. gives_of (signature_in o)) h
 
@@ -163,5 +163,5 @@ take_nothing law hold parts names valid linked n f h =
     let items : (p : ℕ) (m : Module) → module_at parts p ≡ Some m → ItemsHold m = λ p m is. hold m (valid p m is) in
     let at = sym (place_get (starts parts) n) ∙ h in (
       start_typed law parts names links items n f at,
-      ap (λ z. linking.place z (place_of_type parts nullary)) (sym (types_are parts names)) ∙ place_get (merged parts names).types (place_of_type parts nullary) ∙ nullary_there law parts names links items n f at,
+      ap (λ z. slice_get z (place_of_type parts nullary)) (sym (types_are parts names)) ∙ place_get (merged parts names).types (place_of_type parts nullary) ∙ nullary_there law parts names links items n f at,
     )

@@ -1,12 +1,12 @@
 -- Each type of a part stands among the merged types, at the entry that the part's map has for it.
-use Rattle.std.proofs.Common.{◌≡◌, ◌∙◌, ap, sym, subst, refl, ℕ, zero, suc, ◌+◌, List, [], ◌∷◌, ◌++◌, map, Some, Bool, true, false, cond, arith, ◌||◌}
+use Rattle.std.proofs.Common.{◌≡◌, ◌∙◌, ap, sym, subst, refl, ℕ, zero, suc, ◌+◌, List, [], ◌∷◌, ◌++◌, map, Some, Bool, true, false, cond, arith, ◌||◌, unwrap_or}
 use Rattle.std.specs.Prelude.{slice_get, slice_index}
 use Rattle.std.specs.List.{flat_map, list_any}
 use Rattle.wasm_tree.specs.declared.types.FuncType.{FuncType}
 use Rattle.wasm_tree.specs.declared.module.Module.{Module}
 use Rattle.wasm_meaning.specs.Values.{same_func_type}
 use Rattle.wasm_meaning.specs.Linking.{Part, module_at, first_place}
-use Rattle.merge_terms.specs.Merged.{or_this, with_type, with_types, merged_types, place_of_type, map_of}
+use Rattle.merge_terms.specs.Merged.{with_type, with_types, merged_types, place_of_type, map_of}
 use Rattle.merge_validity.proofs.Lists.{Has, first_at, in_front, in_back, index_at, map_at}
 use Rattle.merge_validity.proofs.Same.{func_type_is, func_type_same}
 
@@ -58,7 +58,7 @@ type_placed parts p m t e h =
     let from_0 : 0 + f.at ≡ f.at = omega arith in
     let same : f.item ≡ t = sym (func_type_is t f.item f.yes) in
     let place : first_place (same_func_type t) (merged_types parts) 0 ≡ Some f.at = f.is ∙ ap Some from_0 in
-    ap (λ o. slice_get (merged_types parts) (or_this 0 o)) place ∙ f.got ∙ ap Some same
+    ap (λ o. slice_get (merged_types parts) (unwrap_or o 0)) place ∙ f.got ∙ ap Some same
 
 pub types_map : (parts : List Part) (p : ℕ) (m : Module) → (map_of parts p m).types ≡ map (place_of_type parts) m.types
 unfolding map_of

@@ -1,10 +1,10 @@
 -- Where the imports of linked parts end, and where the types and entities of the parts stand in the merged module.
-use Rattle.std.specs.Prelude.{◌≡◌, ℕ, ◌+◌, ◌-◌, ◌<◌, ◌≤◌, List, length, Option, Some, None, true, slice_index}
+use Rattle.std.specs.Prelude.{◌≡◌, ℕ, ◌+◌, ◌-◌, ◌<◌, ◌≤◌, List, length, Option, Some, None, true, slice_index, slice_get}
 use Rattle.wasm_tree.specs.declared.types.FuncType.{FuncType}
 use Rattle.wasm_tree.specs.declared.module.Import.{Import}
 use Rattle.wasm_tree.specs.declared.module.Module.{Module}
 use Rattle.wasm_meaning.specs.State.{Text}
-use Rattle.wasm_meaning.specs.Linking.{Part, Site, End, Defined, Outside, Entity, Kind, Functions, Tables, Memories, Globals, place, module_at, import_at, imports_of, kind_of_import, kind_of_export, index_of_export, pair_of, sites, end_of, linked_end}
+use Rattle.wasm_meaning.specs.Linking.{Part, Site, End, Defined, Outside, Entity, Kind, Functions, Tables, Memories, Globals, module_at, import_at, imports_of, kind_of_import, kind_of_export, index_of_export, pair_of, sites, end_of, linked_end}
 use Rattle.wasm_meaning.specs.Environment.{Owned}
 use Rattle.wasm_meaning.specs.World.{defined_count, defined_before, outside_thing}
 use Rattle.merge_terms.specs.Faults.{External, asked_at, external_of, same_but_limits, meets_limits, link_fault, stays}
@@ -67,21 +67,21 @@ StayingImportsEndThere = (parts : List Part) → link_fault parts ≡ None → (
 abbrev pub SitesAreImports : Type 0
 SitesAreImports =
     (parts : List Part) (s : Site) →
-    ((n : ℕ) → place (sites parts) n ≡ Some s → (i : Import) × (import_at parts s ≡ Some i)) × ((i : Import) → import_at parts s ≡ Some i → (n : ℕ) × (place (sites parts) n ≡ Some s))
+    ((n : ℕ) → slice_get (sites parts) n ≡ Some s → (i : Import) × (import_at parts s ≡ Some i)) × ((i : Import) → import_at parts s ≡ Some i → (n : ℕ) × (slice_get (sites parts) n ≡ Some s))
 
 -- ---- in the merged module ----
 
 -- what stays stands at its place among the imports of its kind
 abbrev pub StayingImportsHavePlaces : Type 0
 StayingImportsHavePlaces =
-    (parts : List Part) (s : Site) (i : Import) → import_at parts s ≡ Some i → stays parts s ≡ true → (k : Kind) → kind_of_import i.desc ≡ k → place (staying_of parts k) (place_of_end parts k (Outside s)) ≡ Some s
+    (parts : List Part) (s : Site) (i : Import) → import_at parts s ≡ Some i → stays parts s ≡ true → (k : Kind) → kind_of_import i.desc ≡ k → slice_get (staying_of parts k) (place_of_end parts k (Outside s)) ≡ Some s
 
 -- an index of a part's space becomes the place of its import's end, or of what the part defines
 abbrev pub NewIndicesArePlaces : Type 0
 NewIndicesArePlaces =
     (parts : List Part) (p : ℕ) (m : Module) (k : Kind) (x : ℕ) → module_at parts p ≡ Some m →
-    ((n : ℕ) (e : End) → place (imports_of k m) x ≡ Some n → linked_end parts (record { part = p; import = n }) ≡ Some e → new_index parts p k x ≡ place_of_end parts k e)
-    × (place (imports_of k m) x ≡ None → new_index parts p k x ≡ place_of_end parts k (Defined (record { part = p; what = entry_of k x })))
+    ((n : ℕ) (e : End) → slice_get (imports_of k m) x ≡ Some n → linked_end parts (record { part = p; import = n }) ≡ Some e → new_index parts p k x ≡ place_of_end parts k e)
+    × (slice_get (imports_of k m) x ≡ None → new_index parts p k x ≡ place_of_end parts k (Defined (record { part = p; what = entry_of k x })))
 
 -- what a part defines comes after what stays, by part
 abbrev pub DefinedEntitiesHavePlaces : Type 0
@@ -92,7 +92,7 @@ DefinedEntitiesHavePlaces =
 -- each type of a part stands where the part's map says
 abbrev pub TypesHavePlaces : Type 0
 TypesHavePlaces =
-    (parts : List Part) (p : ℕ) (m : Module) (x : ℕ) (t : FuncType) → module_at parts p ≡ Some m → place m.types x ≡ Some t → place (merged_types parts) (slice_index (map_of parts p m).types x) ≡ Some t
+    (parts : List Part) (p : ℕ) (m : Module) (x : ℕ) (t : FuncType) → module_at parts p ≡ Some m → slice_get m.types x ≡ Some t → slice_get (merged_types parts) (slice_index (map_of parts p m).types x) ≡ Some t
 
 -- what the merged module defines besides what the parts define
 abbrev pub added_count : List Part → Kind → ℕ

@@ -1,8 +1,8 @@
 -- The store of parts that are linked by name, and the store of their merged module, are alike.
-use Rattle.std.proofs.Common.{◌≡◌, ◌+◌, List, [], ◌∷◌, ◌++◌, map, length, Option, Some, None, refl, sym, ap, ap₂, subst, ◌∙◌, append_assoc, arith}
+use Rattle.std.proofs.Common.{◌≡◌, ◌+◌, List, [], ◌∷◌, ◌++◌, map, length, Option, Some, None, refl, sym, ap, ap₂, subst, ◌∙◌, append_assoc, arith, option_and_then, slice_get}
 use Rattle.wasm_tree.specs.declared.module.Module.{Module}
 use Rattle.wasm_meaning.specs.State.{Inst, Func, Global, Elem, Store}
-use Rattle.wasm_meaning.specs.Linking.{Part, place, then_some, module_at}
+use Rattle.wasm_meaning.specs.Linking.{Part, module_at}
 use Rattle.wasm_meaning.specs.Environment.{Environment, own_funcs, own_tables, own_memories, own_globals}
 use Rattle.wasm_meaning.specs.World.{all_there, new_func, new_global, elem_of, insts_from, joined_stores, own_store, stores_from}
 use Rattle.index_remap.specs.Related.{Pairing, OptRel, ListRel, FuncRel, TableRel, GlobalRel, ElemRel}
@@ -63,17 +63,16 @@ module _ (laws : Laws) (env : Environment) (parts : List Part) (mode : Mode) (ca
         ∙ ap (both_lists (all_there (elem_of env M (j ∷ []) 0) (by_part_from (part_elems parts) 0 parts))) (last_elems env parts mode j (func_count laws.alone_reads laws.alone_spaces env u j are)).1
 
     as_added : (f : Option (List Func)) (g : Option (List Global)) (e : Option (List Elem)) →
-        then_some (then_some f (λ funcs. then_some g (λ globals. then_some e (λ elems. Some (record { funcs = funcs; tables = map table_of u.tables; mems = map memory_of u.mems; globals = globals; elems = elems; datas = map data_of u.datas })))))
-        (λ t. Some (joined_stores (own_store env) t)) ≡ then_some (adding f g e) (λ a. Some (store_of a))
+        option_and_then (λ t. Some (joined_stores (own_store env) t)) (option_and_then (λ funcs. option_and_then (λ globals. option_and_then (λ elems. Some (record { funcs = funcs; tables = map table_of u.tables; mems = map memory_of u.mems; globals = globals; elems = elems; datas = map data_of u.datas })) e) g) f) ≡ option_and_then (λ a. Some (store_of a)) (adding f g e)
     as_added None g e = refl
     as_added (Some fs) None e = refl
     as_added (Some fs) (Some gs) None = refl
     as_added (Some fs) (Some gs) (Some es) = refl
 
-    merged_store : stores_from env M (j ∷ []) (own_store env) 0 M (j ∷ []) ≡ then_some (added_by laws env parts mode can insts j each are 0 parts) (λ a. Some (store_of (with_more more_funcs more_elems a)))
+    merged_store : stores_from env M (j ∷ []) (own_store env) 0 M (j ∷ []) ≡ option_and_then (λ a. Some (store_of (with_more more_funcs more_elems a))) (added_by laws env parts mode can insts j each are 0 parts)
     merged_store =
         as_added (all_there (new_func j) u.funcs) (all_there (new_global env M (j ∷ []) 0) u.globals) (all_there (elem_of env M (j ∷ []) 0) u.elems)
-        ∙ ap (λ o. then_some o (λ a. Some (store_of a)))
+        ∙ ap (λ o. option_and_then (λ a. Some (store_of a)) o)
         (ap (λ f. adding f (all_there (new_global env M (j ∷ []) 0) u.globals) (all_there (elem_of env M (j ∷ []) 0) u.elems)) funcs_are
         ∙ ap₂ (λ g e. adding (both_lists (all_there (new_func j) (by_part_from (part_funcs parts) 0 parts)) (Some more_funcs)) g e) (ap (all_there (new_global env M (j ∷ []) 0)) (by_part_is parts mode).globals) elems_are
         ∙ adding_more _ _ _ more_funcs more_elems)
@@ -108,7 +107,7 @@ module _ (laws : Laws) (env : Environment) (parts : List Part) (mode : Mode) (ca
 
     one_alike : OptRel (StoresAlike env parts) (stores_from env parts insts (own_store env) 0 parts insts) (stores_from env M (j ∷ []) (own_store env) 0 M (j ∷ []))
     one_alike =
-        let row = rows laws env parts mode can insts j each are 0 parts insts (λ q m h. ap (module_at parts) (let z : 0 + q ≡ q = omega arith in z) ∙ h) (λ q. ap (place insts) (let z : q ≡ 0 + q = omega arith in z)) size in
+        let row = rows laws env parts mode can insts j each are 0 parts insts (λ q m h. ap (module_at parts) (let z : 0 + q ≡ q = omega arith in z) ∙ h) (λ q. ap (slice_get insts) (let z : q ≡ 0 + q = omega arith in z)) size in
         opt_at refl merged_store (some_rel (λ a. store_of (with_more more_funcs more_elems a)) (grown_rel laws env parts mode can insts j each are row (own_store env)) alike)
 
   pub stores_alike : (insts js : List Inst) → InstancesAgree env parts insts js → insts_from env M 0 M ≡ Some js →

@@ -1,5 +1,5 @@
 -- The functions that a part defines, and those that they become in the merged module.
-use Rattle.std.proofs.Common.{◌≡◌, ℕ, ◌<◌, List, [], length, Some, true, sym, ap, ◌∙◌, arith}
+use Rattle.std.proofs.Common.{◌≡◌, ℕ, ◌<◌, List, [], length, Some, true, sym, ap, ◌∙◌, arith, option_and_then, slice_get}
 use Rattle.std.specs.Prelude.{slice_index}
 use Rattle.std.proofs.lemmas.Bool.{ltb-true}
 use Rattle.wasm_tree.specs.declared.instr.Instr.{Instr}
@@ -7,7 +7,7 @@ use Rattle.wasm_tree.specs.declared.module.Func as tree
 use Rattle.wasm_tree.specs.declared.module.Module.{Module}
 use Rattle.wasm_meaning.specs.State.{Inst, Code}
 use Rattle.wasm_meaning.specs.Values.{declared}
-use Rattle.wasm_meaning.specs.Linking.{Part, place, then_some}
+use Rattle.wasm_meaning.specs.Linking.{Part}
 use Rattle.wasm_meaning.specs.Environment.{Environment}
 use Rattle.wasm_meaning.specs.World.{new_func}
 use Rattle.index_remap.specs.declared.remap.Remap.{Remap}
@@ -36,7 +36,7 @@ module _ (laws : Laws) (env : Environment) (parts : List Part) (p : ℕ) (m : Mo
   r = map_of parts p m
 
   -- an index and its entry name one address
-  space_names : (kind : Kind) (xs ys entries : List ℕ) → SpaceAgrees env parts kind xs ys entries → (x : ℕ) → has entries x ≡ true → OptRel (R.of kind) (place xs x) (place ys (slice_index entries x))
+  space_names : (kind : Kind) (xs ys entries : List ℕ) → SpaceAgrees env parts kind xs ys entries → (x : ℕ) → has entries x ≡ true → OptRel (R.of kind) (slice_get xs x) (slice_get ys (slice_index entries x))
   space_names kind xs ys entries s x h = let a = s.each x (ltb-true _ _ h) in opt_at a.first a.second (some (shares env parts kind a.address a.shared))
 
   type_below : (x : ℕ) → has r.types x ≡ true → x < length m.types
@@ -44,7 +44,7 @@ module _ (laws : Laws) (env : Environment) (parts : List Part) (p : ℕ) (m : Mo
 
   entries_name : EntriesName R r (with_entry r) i j
   entries_name = record {
-    types = λ x h. let t = found m.types x (type_below x h) in at_is i.types x t.0 (ap (λ ts. place ts x) k.own_types ∙ t.1) ∙ sym (at_is j.types (slice_index r.types x) t.0 (k.types x t.0 t.1));
+    types = λ x h. let t = found m.types x (type_below x h) in at_is i.types x t.0 (ap (λ ts. slice_get ts x) k.own_types ∙ t.1) ∙ sym (at_is j.types (slice_index r.types x) t.0 (k.types x t.0 t.1));
     funcs = λ x h. names_of i.funcs j.funcs x _ (space_names Funcs i.funcs j.funcs r.funcs k.funcs x h);
     tables = λ x h. names_of i.tables j.tables x _ (space_names Tables i.tables j.tables r.tables k.tables x h);
     mems = λ x h. names_of i.mems j.mems x _ (space_names Mems i.mems j.mems r.mems k.mems x h);
@@ -59,6 +59,6 @@ module _ (laws : Laws) (env : Environment) (parts : List Part) (p : ℕ) (m : Mo
   pub func_rel : (f : tree.Func) → fits_func r f ≡ true → OptRel (FuncRel R) (new_func i f) (new_func j (renumbered.new_func r f))
   func_rel f h =
       let t = found m.types f.ty (type_below f.ty (left_true _ _ h)) in
-      opt_at (ap (λ o. then_some o (λ t. Some (Code t i (declared f.locals) f.body))) (ap (λ ts. place ts f.ty) k.own_types ∙ t.1))
-      (ap (λ o. then_some o (λ t. Some (Code t j (declared f.locals) (renumbered_all r f.body)))) (k.types f.ty t.0 t.1))
+      opt_at (ap (λ o. option_and_then (λ t. Some (Code t i (declared f.locals) f.body)) o) (ap (λ ts. slice_get ts f.ty) k.own_types ∙ t.1))
+      (ap (λ o. option_and_then (λ t. Some (Code t j (declared f.locals) (renumbered_all r f.body))) o) (k.types f.ty t.0 t.1))
       (some (defined (code_rel f.body (right_true (has r.types f.ty) _ h))))

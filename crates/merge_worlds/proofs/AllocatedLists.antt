@@ -1,8 +1,7 @@
 -- What is there of lists that are joined: functions, globals and element segments, of which each may be missing.
-use Rattle.std.proofs.Common.{◌≡◌, ℕ, zero, suc, List, [], ◌∷◌, ◌++◌, map, Option, Some, None, refl, ap, ◌∙◌}
+use Rattle.std.proofs.Common.{◌≡◌, ℕ, zero, suc, List, [], ◌∷◌, ◌++◌, map, Option, Some, None, refl, ap, ◌∙◌, option_and_then, slice_get}
 use Rattle.wasm_meaning.specs.Outcomes.{Gives, at}
 use Rattle.wasm_meaning.specs.State.{Func, Global, Elem}
-use Rattle.wasm_meaning.specs.Linking.{place, then_some}
 use Rattle.wasm_meaning.specs.World.{all_there}
 use Rattle.index_remap.specs.Related.{OptRel, none, some, ListRel, nil, cons}
 
@@ -10,35 +9,35 @@ pub nothing_more : {A : Type 0} (xs : List A) → xs ++ [] ≡ xs
 nothing_more [] = refl
 nothing_more (x ∷ xs) = ap (λ ys. x ∷ ys) (nothing_more xs)
 
-pub at_is : {A : Type 0} (xs : List A) (n : ℕ) (x : A) → place xs n ≡ Some x → at xs n ≡ Gives x
+pub at_is : {A : Type 0} (xs : List A) (n : ℕ) (x : A) → slice_get xs n ≡ Some x → at xs n ≡ Gives x
 at_is [] n x h = cc
 at_is (y ∷ xs) zero x h = let same : y ≡ x = cc in ap Gives same
 at_is (y ∷ xs) (suc n) x h = at_is xs n x h
 
-pub placed_rel : {A B : Type 0} {P : A → B → Type 0} (f : A → B) (xs : List A) → ((n : ℕ) (x : A) → place xs n ≡ Some x → P x (f x)) → ListRel P xs (map f xs)
+pub placed_rel : {A B : Type 0} {P : A → B → Type 0} (f : A → B) (xs : List A) → ((n : ℕ) (x : A) → slice_get xs n ≡ Some x → P x (f x)) → ListRel P xs (map f xs)
 placed_rel f [] h = nil
 placed_rel f (x ∷ xs) h = cons (h zero x refl) (placed_rel f xs (λ n. h (suc n)))
 
-pub some_rel : {A B C : Type 0} {P : A → B → Type 0} {Q : A → C → Type 0} {o : Option A} {p : Option B} (f : B → C) → OptRel P o p → ((a : A) (b : B) → P a b → Q a (f b)) → OptRel Q o (then_some p (λ b. Some (f b)))
+pub some_rel : {A B C : Type 0} {P : A → B → Type 0} {Q : A → C → Type 0} {o : Option A} {p : Option B} (f : B → C) → OptRel P o p → ((a : A) (b : B) → P a b → Q a (f b)) → OptRel Q o (option_and_then (λ b. Some (f b)) p)
 some_rel f none h = none
 some_rel f (some r) h = some (h _ _ r)
 
-pub some_twice : {A B C : Type 0} (o : Option A) (f : A → B) (g : B → C) → then_some (then_some o (λ a. Some (f a))) (λ b. Some (g b)) ≡ then_some o (λ a. Some (g (f a)))
+pub some_twice : {A B C : Type 0} (o : Option A) (f : A → B) (g : B → C) → option_and_then (λ b. Some (g b)) (option_and_then (λ a. Some (f a)) o) ≡ option_and_then (λ a. Some (g (f a))) o
 some_twice None f g = refl
 some_twice (Some a) f g = refl
 
 abbrev pub both_lists : {A : Type 0} → Option (List A) → Option (List A) → Option (List A)
-both_lists o p = then_some o (λ xs. then_some p (λ ys. Some (xs ++ ys)))
+both_lists o p = option_and_then (λ xs. option_and_then (λ ys. Some (xs ++ ys)) p) o
 
 pub all_append : {A B : Type 0} (f : A → Option B) (xs ys : List A) → all_there f (xs ++ ys) ≡ both_lists (all_there f xs) (all_there f ys)
 all_append {B = B} f [] ys = go (all_there f ys)
   where
-    go : (o : Option (List B)) → o ≡ then_some o (λ ys. Some ys)
+    go : (o : Option (List B)) → o ≡ option_and_then (λ ys. Some ys) o
     go None = refl
     go (Some zs) = refl
-all_append {B = B} f (x ∷ xs) ys = ap (λ o. then_some (f x) (λ y. then_some o (λ zs. Some (y ∷ zs)))) (all_append f xs ys) ∙ go (f x) (all_there f xs) (all_there f ys)
+all_append {B = B} f (x ∷ xs) ys = ap (λ o. option_and_then (λ y. option_and_then (λ zs. Some (y ∷ zs)) o) (f x)) (all_append f xs ys) ∙ go (f x) (all_there f xs) (all_there f ys)
   where
-    go : (o : Option B) (p q : Option (List B)) → then_some o (λ y. then_some (both_lists p q) (λ zs. Some (y ∷ zs))) ≡ both_lists (then_some o (λ y. then_some p (λ zs. Some (y ∷ zs)))) q
+    go : (o : Option B) (p q : Option (List B)) → option_and_then (λ y. option_and_then (λ zs. Some (y ∷ zs)) (both_lists p q)) o ≡ both_lists (option_and_then (λ y. option_and_then (λ zs. Some (y ∷ zs)) p) o) q
     go None p q = refl
     go (Some y) None q = refl
     go (Some y) (Some zs) None = refl
@@ -52,14 +51,14 @@ pub record Added : Type 0 where
   pub elems : List Elem
 
 abbrev pub adding : Option (List Func) → Option (List Global) → Option (List Elem) → Option Added
-adding f g e = then_some f (λ fs. then_some g (λ gs. then_some e (λ es. Some (record { funcs = fs; globals = gs; elems = es }))))
+adding f g e = option_and_then (λ fs. option_and_then (λ gs. option_and_then (λ es. Some (record { funcs = fs; globals = gs; elems = es })) e) g) f
 
 abbrev pub and_added : Added → Added → Added
 and_added a b = record { funcs = a.funcs ++ b.funcs; globals = a.globals ++ b.globals; elems = a.elems ++ b.elems }
 
 -- by kind, or by part
 pub exchange : (f h : Option (List Func)) (g k : Option (List Global)) (e l : Option (List Elem)) →
-    adding (both_lists f h) (both_lists g k) (both_lists e l) ≡ then_some (adding f g e) (λ a. then_some (adding h k l) (λ b. Some (and_added a b)))
+    adding (both_lists f h) (both_lists g k) (both_lists e l) ≡ option_and_then (λ a. option_and_then (λ b. Some (and_added a b)) (adding h k l)) (adding f g e)
 exchange None h g k e l = refl
 exchange (Some a) None None k e l = refl
 exchange (Some a) None (Some b) k None l = refl
@@ -75,7 +74,7 @@ abbrev pub with_more : List Func → List Elem → Added → Added
 with_more fs es a = record { funcs = a.funcs ++ fs; globals = a.globals; elems = a.elems ++ es }
 
 pub adding_more : (f : Option (List Func)) (g : Option (List Global)) (e : Option (List Elem)) (fs : List Func) (es : List Elem) →
-    adding (both_lists f (Some fs)) g (both_lists e (Some es)) ≡ then_some (adding f g e) (λ a. Some (with_more fs es a))
+    adding (both_lists f (Some fs)) g (both_lists e (Some es)) ≡ option_and_then (λ a. Some (with_more fs es a)) (adding f g e)
 adding_more None g e fs es = refl
 adding_more (Some a) None e fs es = refl
 adding_more (Some a) (Some b) None fs es = refl

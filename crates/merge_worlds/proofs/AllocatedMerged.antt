@@ -1,5 +1,5 @@
 -- The lists of the merged module, by part; and what comes after these in it: a function that calls starts, and a segment that declares references.
-use Rattle.std.proofs.Common.{◌≡◌, ℕ, zero, suc, ◌+◌, ◌<◌, List, [], ◌∷◌, ◌++◌, map, length, Some, ◌&&◌, refl, sym, ap, ap₂, subst, ◌∙◌, arith}
+use Rattle.std.proofs.Common.{◌≡◌, ℕ, zero, suc, ◌+◌, ◌<◌, List, [], ◌∷◌, ◌++◌, map, length, Some, ◌&&◌, refl, sym, ap, ap₂, subst, ◌∙◌, arith, option_and_then}
 use Rattle.std.specs.Prelude.{not, slice_get}
 use Rattle.std.specs.List.{flat_map, range_with_len}
 use Rattle.wasm_tree.specs.declared.module.ConstExpr.TheVariants as const
@@ -12,7 +12,7 @@ use Rattle.wasm_valid.specs.declared.kinds.ItemKind.TheVariants as kind
 use Rattle.wasm_valid.specs.Validity.{IsValid}
 use Rattle.wasm_meaning.specs.State.{RefVal, FuncRef, Ref, Inst, Code, Elem}
 use Rattle.wasm_meaning.specs.Values.{ref_of, declared}
-use Rattle.wasm_meaning.specs.Linking.{Part, place, then_some}
+use Rattle.wasm_meaning.specs.Linking.{Part}
 use Rattle.wasm_meaning.specs.Environment.{Environment}
 use Rattle.wasm_meaning.specs.World.{given, all_there, new_func, new_elem, ref_value, elem_of}
 use Rattle.index_remap.specs.References.{is_among, body_refs, outside_refs, declared_refs, with_declared, declaring}
@@ -79,7 +79,7 @@ range_below a zero k x h = cc
 range_below a (suc n) zero x h = let same : a ≡ x = cc in omega (arith, same)
 range_below a (suc n) (suc k) x h = let l = range_below (a + 1) n k x h in omega (arith, l)
 
-declared_below : (parts : List Part) (mode : Mode) (n f : ℕ) → place (declared_in parts mode) n ≡ Some f → f < length (funcs_of (joined_module parts mode))
+declared_below : (parts : List Part) (mode : Mode) (n f : ℕ) → slice_get (declared_in parts mode) n ≡ Some f → f < length (funcs_of (joined_module parts mode))
 declared_below parts mode n f h =
     let m = undeclared parts mode in
     let k = kept_is (λ f. is_among (body_refs m.funcs) f && not (is_among (outside_refs m) f)) (range_with_len 0 (length (funcs_of m))) n f (sym (place_get (declared_refs m) n) ∙ h) in
@@ -88,19 +88,19 @@ declared_below parts mode n f h =
     omega (arith, l, e)
 
 module _ (env : Environment) (u : Module) (j : Inst) where
-  refs_there : (fs : List ℕ) → ((n f : ℕ) → place fs n ≡ Some f → f < length j.funcs) → (xs : List RefVal) × (all_there (ref_value env (one u) (j ∷ []) 0) (map const.Func fs) ≡ Some xs)
+  refs_there : (fs : List ℕ) → ((n f : ℕ) → slice_get fs n ≡ Some f → f < length j.funcs) → (xs : List RefVal) × (all_there (ref_value env (one u) (j ∷ []) 0) (map const.Func fs) ≡ Some xs)
   refs_there [] h = ([], refl)
   refs_there (f ∷ fs) h =
       let a = found j.funcs f (h zero f refl) in
       let rest = refs_there fs (λ n. h (suc n)) in
-      let first : ref_value env (one u) (j ∷ []) 0 (const.Func f) ≡ Some (FuncRef (Some a.0)) = ap (λ o. then_some (then_some o (λ a. Some (Ref (FuncRef (Some a))))) (λ v. given (ref_of v))) a.1 in
-      (FuncRef (Some a.0) ∷ rest.0, ap₂ (λ o p. then_some o (λ y. then_some p (λ ys. Some (y ∷ ys)))) first rest.1)
+      let first : ref_value env (one u) (j ∷ []) 0 (const.Func f) ≡ Some (FuncRef (Some a.0)) = ap (λ o. option_and_then (λ v. given (ref_of v)) (option_and_then (λ a. Some (Ref (FuncRef (Some a)))) o)) a.1 in
+      (FuncRef (Some a.0) ∷ rest.0, ap₂ (λ o p. option_and_then (λ y. option_and_then (λ ys. Some (y ∷ ys)) p) o) first rest.1)
 
-  segments_there : (fs : List ℕ) → ((n f : ℕ) → place fs n ≡ Some f → f < length j.funcs) → (es : List Elem) × (all_there (elem_of env (one u) (j ∷ []) 0) (last_segments fs) ≡ Some es)
+  segments_there : (fs : List ℕ) → ((n f : ℕ) → slice_get fs n ≡ Some f → f < length j.funcs) → (es : List Elem) × (all_there (elem_of env (one u) (j ∷ []) 0) (last_segments fs) ≡ Some es)
   segments_there [] h = ([], refl)
   segments_there (f ∷ fs) h =
       let r = refs_there (f ∷ fs) h in
-      (new_elem elem.Declarative r.0 ∷ [], ap (λ o. then_some (then_some o (λ items. Some (new_elem elem.Declarative items))) (λ e. Some (e ∷ []))) r.1)
+      (new_elem elem.Declarative r.0 ∷ [], ap (λ o. option_and_then (λ e. Some (e ∷ [])) (option_and_then (λ items. Some (new_elem elem.Declarative items)) o)) r.1)
 
 -- the segment that declares references is allocated
 pub last_elems : (env : Environment) (parts : List Part) (mode : Mode) (j : Inst) → length j.funcs ≡ length (funcs_of (joined_module parts mode)) →
@@ -115,10 +115,10 @@ before_calls parts = by_part_from (part_funcs parts) 0 parts
 abbrev calls : List Part → List tree.Func
 calls parts = start_calls parts (starts parts)
 
-pub call_at : (parts : List Part) (mode : Mode) (n : ℕ) (f : tree.Func) → place (start_calls parts (starts parts)) n ≡ Some f → place (joined_module parts mode).funcs (length (by_part_from (part_funcs parts) 0 parts) + n) ≡ Some f
-call_at parts mode n f h = ap (λ fs. place fs (length (before_calls parts) + n)) (by_part_is parts mode).funcs ∙ place_right (before_calls parts) (calls parts) n ∙ h
+pub call_at : (parts : List Part) (mode : Mode) (n : ℕ) (f : tree.Func) → slice_get (start_calls parts (starts parts)) n ≡ Some f → slice_get (joined_module parts mode).funcs (length (by_part_from (part_funcs parts) 0 parts) + n) ≡ Some f
+call_at parts mode n f h = ap (λ fs. slice_get fs (length (before_calls parts) + n)) (by_part_is parts mode).funcs ∙ place_right (before_calls parts) (calls parts) n ∙ h
 
-func_typed : (laws : Laws) (m : Module) → IsValid m → (n : ℕ) (f : tree.Func) → place m.funcs n ≡ Some f → f.ty < length m.types
+func_typed : (laws : Laws) (m : Module) → IsValid m → (n : ℕ) (f : tree.Func) → slice_get m.funcs n ≡ Some f → f.ty < length m.types
 func_typed laws m valid n f h =
     let z = (laws.items m).0 valid kind.Func n (within m.funcs n f h) in
     let both : Some z.0 ≡ Some f = sym z.1 ∙ sym (place_get m.funcs n) ∙ h in
@@ -130,4 +130,4 @@ pub last_funcs : (laws : Laws) (parts : List Part) (mode : Mode) (j : Inst) → 
 last_funcs laws parts mode j valid types = each_there (new_func j) (calls parts) (λ n f h.
     let lt = func_typed laws (joined_module parts mode) valid (length (before_calls parts) + n) f (call_at parts mode n f h) in
     let t = found j.types f.ty (subst (λ ts. f.ty < length ts) (sym types) lt) in
-    (Code t.0 j (declared f.locals) f.body, ap (λ o. then_some o (λ t. Some (Code t j (declared f.locals) f.body))) t.1))
+    (Code t.0 j (declared f.locals) f.body, ap (λ o. option_and_then (λ t. Some (Code t j (declared f.locals) f.body)) o) t.1))

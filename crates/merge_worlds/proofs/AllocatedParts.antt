@@ -1,5 +1,5 @@
 -- What each part adds to the store, and what its definitions add where they stand in the merged module.
-use Rattle.std.proofs.Common.{◌≡◌, ℕ, suc, ◌+◌, ◌*◌, List, [], ◌∷◌, ◌++◌, map, length, Option, Some, true, false, refl, sym, ap, ap₂, subst, ◌∙◌, append_assoc, arith}
+use Rattle.std.proofs.Common.{◌≡◌, ℕ, suc, ◌+◌, ◌*◌, List, [], ◌∷◌, ◌++◌, map, length, Option, Some, true, false, refl, sym, ap, ap₂, subst, ◌∙◌, append_assoc, arith, option_and_then}
 use Rattle.std.specs.Prelude.{slice_get}
 use Rattle.std.specs.List.{flat_map}
 use Rattle.std.proofs.lemmas.List.{map-append}
@@ -20,7 +20,7 @@ use Rattle.wasm_valid.specs.Validity.{IsValid}
 use Rattle.wasm_meaning.specs.Outcomes.{copies}
 use Rattle.wasm_meaning.specs.State.{RefVal, Inst, Func, Table, Memory, Global, Elem, Data, Store}
 use Rattle.wasm_meaning.specs.Values.{null_of}
-use Rattle.wasm_meaning.specs.Linking.{Part, Functions, Tables, Memories, Globals, place, then_some, module_at}
+use Rattle.wasm_meaning.specs.Linking.{Part, Functions, Tables, Memories, Globals, module_at}
 use Rattle.wasm_meaning.specs.Environment.{Environment}
 use Rattle.wasm_meaning.specs.World.{all_there, defined_before, elems_before, datas_before, new_func, new_global, new_elem, elem_of, insts_from, part_store, joined_stores, stores_from}
 use Rattle.index_remap.specs.declared.remap.Remap.{Remap}
@@ -74,14 +74,14 @@ datas_same parts p r (d ∷ ds) = ap (λ xs. data_of d ∷ xs) (datas_same parts
 -- ---- what holds of a valid module's items ----
 
 module _ (laws : Laws) (m : Module) (valid : IsValid m) where
-  global_typed : (n : ℕ) (g : GlobalDef) → place m.globals n ≡ Some g → const_type m g.init ≡ Some g.ty.ty
+  global_typed : (n : ℕ) (g : GlobalDef) → slice_get m.globals n ≡ Some g → const_type m g.init ≡ Some g.ty.ty
   global_typed n g h =
       let z = (laws.items m).0 valid kind.Global n (within m.globals n g h) in
       let both : Some z.0 ≡ Some g = sym z.1 ∙ sym (place_get m.globals n) ∙ h in
       let same : z.0 ≡ g = cc in
       subst (λ (g : GlobalDef). const_type m g.init ≡ Some g.ty.ty) same z.2
 
-  item_typed : (n : ℕ) (s : ElemSeg) → place m.elems n ≡ Some s → (l : ℕ) (e : ConstExpr) → place s.items l ≡ Some e → const_type m e ≡ Some (Ref s.ty)
+  item_typed : (n : ℕ) (s : ElemSeg) → slice_get m.elems n ≡ Some s → (l : ℕ) (e : ConstExpr) → slice_get s.items l ≡ Some e → const_type m e ≡ Some (Ref s.ty)
   item_typed n s h l e at =
       let z = (laws.items m).0 valid kind.Elem n (within m.elems n s h) in
       let both : Some z.0 ≡ Some s = sym z.1 ∙ sym (place_get m.elems n) ∙ h in
@@ -150,7 +150,7 @@ module _ (laws : Laws) (env : Environment) (parts : List Part) (mode : Mode) (ca
     ends : {p : ℕ} → Row p [] []
     next : {p : ℕ} {part : Part} {ps : List Part} {i : Inst} {is : List Inst} → module_at parts p ≡ Some part.«module» → PartAgrees env parts p part.«module» i j → Row (suc p) ps is → Row p (part ∷ ps) (i ∷ is)
 
-  pub rows : (p : ℕ) (ps : List Part) (is : List Inst) → ((q : ℕ) (m : Module) → module_at ps q ≡ Some m → module_at parts (p + q) ≡ Some m) → ((q : ℕ) → place is q ≡ place insts (p + q)) → length is ≡ length ps → Row p ps is
+  pub rows : (p : ℕ) (ps : List Part) (is : List Inst) → ((q : ℕ) (m : Module) → module_at ps q ≡ Some m → module_at parts (p + q) ≡ Some m) → ((q : ℕ) → slice_get is q ≡ slice_get insts (p + q)) → length is ≡ length ps → Row p ps is
   rows p [] [] f g e = ends
   rows p [] (i ∷ is) f g e = absurd (omega arith)
   rows p (part ∷ ps) [] f g e = absurd (omega arith)
@@ -158,10 +158,10 @@ module _ (laws : Laws) (env : Environment) (parts : List Part) (mode : Mode) (ca
       let z : p + 0 ≡ p = omega arith in
       let is_part : module_at parts p ≡ Some part.«module» = ap (module_at parts) (sym z) ∙ f 0 part.«module» refl in
       let x = each p part.«module» is_part in
-      let both : Some i ≡ Some x.0 = g 0 ∙ ap (place insts) z ∙ x.1 in
+      let both : Some i ≡ Some x.0 = g 0 ∙ ap (slice_get insts) z ∙ x.1 in
       let same : x.0 ≡ i = cc in
       next is_part (subst (λ i. PartAgrees env parts p part.«module» i j) same x.2)
-      (rows (suc p) ps is (λ q m h. ap (module_at parts) (let n : suc p + q ≡ p + suc q = omega arith in n) ∙ f (suc q) m h) (λ q. g (suc q) ∙ ap (place insts) (let n : p + suc q ≡ suc p + q = omega arith in n)) (omega arith))
+      (rows (suc p) ps is (λ q m h. ap (module_at parts) (let n : suc p + q ≡ p + suc q = omega arith in n) ∙ f (suc q) m h) (λ q. g (suc q) ∙ ap (slice_get insts) (let n : p + suc q ≡ suc p + q = omega arith in n)) (omega arith))
 
   -- a store with what the parts from p on add to it, and what their definitions add in the merged module
   pub record Grown (s : Store) (p : ℕ) (ps : List Part) (t : Store) (a : Added) : Type 0 where
@@ -244,7 +244,7 @@ module _ (laws : Laws) (env : Environment) (parts : List Part) (mode : Mode) (ca
         data_count = counted s.datas t.datas u.datas _ _ r.data_count datas_many;
       }
 
-  added_more : (p : ℕ) (part : Part) (ps : List Part) → added_by p (part ∷ ps) ≡ then_some (added_in p part.«module») (λ a. then_some (added_by (suc p) ps) (λ b. Some (and_added a b)))
+  added_more : (p : ℕ) (part : Part) (ps : List Part) → added_by p (part ∷ ps) ≡ option_and_then (λ a. option_and_then (λ b. Some (and_added a b)) (added_by (suc p) ps)) (added_in p part.«module»)
   added_more p part ps =
       let m = part.«module» in
       ap (λ f. adding f (all_there (new_global env M (j ∷ []) 0) (by_part_from (part_globals parts) p (part ∷ ps))) (all_there (elem_of env M (j ∷ []) 0) (by_part_from (part_elems parts) p (part ∷ ps)))) (all_append (new_func j) (part_funcs parts p m) (by_part_from (part_funcs parts) (suc p) ps))

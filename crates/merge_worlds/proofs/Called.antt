@@ -1,5 +1,5 @@
 -- The functions that the merged module starts, as they stand in its store: those of the parts, which take and give nothing, and the one that calls several.
-use Rattle.std.proofs.Common.{◌≡◌, ◌∙◌, ap, ap₂, sym, refl, ℕ, zero, suc, ◌+◌, ◌-◌, ◌<◌, ◌≤◌, List, [], ◌∷◌, ◌++◌, map, length, Option, Some, None, Bool, true, false, cond, arith, ◌⊎◌, inl, inr}
+use Rattle.std.proofs.Common.{◌≡◌, ◌∙◌, ap, ap₂, sym, refl, ℕ, zero, suc, ◌+◌, ◌-◌, ◌<◌, ◌≤◌, List, [], ◌∷◌, ◌++◌, map, length, Option, Some, None, Bool, true, false, cond, arith, ◌⊎◌, inl, inr, ◌&&◌}
 use Rattle.std.specs.Prelude.{slice_get, option_and_then}
 use Rattle.std.proofs.lemmas.Bool.{cases_lt}
 use Rattle.std.proofs.lemmas.List.{length-append}
@@ -22,7 +22,7 @@ use Rattle.wasm_meaning.specs.State.{Text, RefVal, Inst, Func, Code, Table, Memo
 use Rattle.wasm_meaning.specs.Values.{declared, same_func_type}
 use Rattle.wasm_meaning.specs.Control as control
 use Rattle.wasm_meaning.specs.Control.{type_at}
-use Rattle.wasm_meaning.specs.Linking.{Part, Functions, place, then_some, has_kind, imports_of, import_at, sites}
+use Rattle.wasm_meaning.specs.Linking.{Part, Functions, has_kind, imports_of, import_at, sites}
 use Rattle.wasm_meaning.specs.Environment.{Environment, Thing, FuncAt, TableAt, MemoryAt, GlobalAt, own_funcs, all_of}
 use Rattle.wasm_meaning.specs.World.{given, number_value, own_count, defined_count, defined_before, base, address_of, imported_thing, all_there, numbers, new_func, new_global, elem_of, part_store, own_store, stores_from, is_match, is_matched, Filled, Task, or_trapped, fill_table, copy_elem, run_elem_mode, run_elem, fill_memory, copy_data, run_data_mode, run_data, and_then, in_turn, segments, elem_tasks, data_tasks}
 use Rattle.index_remap.specs.Related.{Funcs, ListRel, nil, cons}
@@ -58,17 +58,17 @@ fill_memory_keeps s segment a m (Gives bytes) = refl
 fill_memory_keeps s segment a m Traps = refl
 fill_memory_keeps s segment a m IllTyped = refl
 
-then_keeps : {A : Type 0} (s : Store) (o : Option A) (f : A → Option Filled) → ((a : A) → (or_trapped s (f a)).store.funcs ≡ s.funcs) → (or_trapped s (then_some o f)).store.funcs ≡ s.funcs
+then_keeps : {A : Type 0} (s : Store) (o : Option A) (f : A → Option Filled) → ((a : A) → (or_trapped s (f a)).store.funcs ≡ s.funcs) → (or_trapped s (option_and_then f o)).store.funcs ≡ s.funcs
 then_keeps s None f h = refl
 then_keeps s (Some a) f h = h a
 
 copy_elem_keeps : (s : Store) (segment : ℕ) (i : Inst) (x : ℕ) (offset : Option ℕ) → (copy_elem s segment i x offset).store.funcs ≡ s.funcs
 copy_elem_keeps s segment i x offset =
-    then_keeps s offset _ (λ n. then_keeps s (place i.tables x) _ (λ a. then_keeps s (place s.tables a) _ (λ t. then_keeps s (place s.elems segment) _ (λ e. fill_table_keeps s segment a t (overwrite t.slots n e.items)))))
+    then_keeps s offset _ (λ n. then_keeps s (slice_get i.tables x) _ (λ a. then_keeps s (slice_get s.tables a) _ (λ t. then_keeps s (slice_get s.elems segment) _ (λ e. fill_table_keeps s segment a t (overwrite t.slots n e.items)))))
 
 copy_data_keeps : (s : Store) (segment : ℕ) (i : Inst) (x : ℕ) (offset : Option ℕ) → (copy_data s segment i x offset).store.funcs ≡ s.funcs
 copy_data_keeps s segment i x offset =
-    then_keeps s offset _ (λ n. then_keeps s (place i.mems x) _ (λ a. then_keeps s (place s.mems a) _ (λ m. then_keeps s (place s.datas segment) _ (λ d. fill_memory_keeps s segment a m (overwrite m.bytes n d.bytes)))))
+    then_keeps s offset _ (λ n. then_keeps s (slice_get i.mems x) _ (λ a. then_keeps s (slice_get s.mems a) _ (λ m. then_keeps s (slice_get s.datas segment) _ (λ d. fill_memory_keeps s segment a m (overwrite m.bytes n d.bytes)))))
 
 elem_keeps : (env : Environment) (parts : List Part) (insts : List Inst) (s : Store) (task : Task ElemSeg) → (run_elem env parts insts s task).store.funcs ≡ s.funcs
 elem_keeps env parts insts s task = by task.segment.mode
@@ -103,7 +103,7 @@ segments_keep_funcs env parts insts s =
 
 -- ---- look-ups ----
 
-pub at_is : {A : Type 0} (xs : List A) (n : ℕ) (x : A) → place xs n ≡ Some x → at xs n ≡ Gives x
+pub at_is : {A : Type 0} (xs : List A) (n : ℕ) (x : A) → slice_get xs n ≡ Some x → at xs n ≡ Gives x
 at_is [] n x h = absurd (let k = h in cc)
 at_is (y ∷ xs) zero x h = let same : y ≡ x = cc in ap Gives same
 at_is (y ∷ xs) (suc n) x h = at_is xs n x h
@@ -120,11 +120,11 @@ given_is IllTyped a h = absurd (let k = h in cc)
 matched_type : (o : Outcome FuncType) (t u ty : FuncType) → given o ≡ Some u → t ≡ u → t ≡ ty → o ≡ Gives ty
 matched_type o t u ty h e d = given_is o u h ∙ ap Gives (sym e ∙ d)
 
-all_of_at : {A : Type 0} (is : A → Bool) (xs : List A) (n : ℕ) (x : A) → all_of is xs ≡ true → place xs n ≡ Some x → is x ≡ true
+all_of_at : {A : Type 0} (is : A → Bool) (xs : List A) (n : ℕ) (x : A) → all_of is xs ≡ true → slice_get xs n ≡ Some x → is x ≡ true
 all_of_at is [] n x h e = absurd (let k = e in cc)
 all_of_at {A} is (y ∷ xs) n x h e = by (is y) refl h (λ k n e. all_of_at is xs n x k e) n e
   where
-    by : (b : Bool) → is y ≡ b → cond b (all_of is xs) false ≡ true → (all_of is xs ≡ true → (n : ℕ) → place xs n ≡ Some x → is x ≡ true) → (n : ℕ) → place (y ∷ xs) n ≡ Some x → is x ≡ true
+    by : (b : Bool) → is y ≡ b → b && all_of is xs ≡ true → (all_of is xs ≡ true → (n : ℕ) → slice_get xs n ≡ Some x → is x ≡ true) → (n : ℕ) → slice_get (y ∷ xs) n ≡ Some x → is x ≡ true
     by true q h on zero e = let same : y ≡ x = cc in ap is (sym same) ∙ q
     by true q h on (suc n) e = on h n e
     by false q h on n e = absurd (let k = h in cc)
@@ -167,18 +167,18 @@ module _ (laws : SpaceLaws) (env : Environment) (t : Module) (j : Inst) (inst : 
       let f = then_is (all_there (new_func j) t.funcs) _ s.0 s.1 in
       let g = then_is (all_there (new_global env (one t) (j ∷ []) 0) t.globals) _ s.0 f.2 in
       let e = then_is (all_there (elem_of env (one t) (j ∷ []) 0) t.elems) _ s.0 g.2 in
-      let part : Some (s.0.funcs) ≡ Some f.0 = ap (λ o. then_some o (λ (s : Store). Some s.funcs)) (sym e.2) in
+      let part : Some (s.0.funcs) ≡ Some f.0 = ap (λ o. option_and_then (λ (s : Store). Some s.funcs) o) (sym e.2) in
       let funcs : s.0.funcs ≡ f.0 = cc in
-      let all : Some (own_funcs env ++ s.0.funcs) ≡ Some z.funcs = ap (λ o. then_some o (λ (s : Store). Some s.funcs)) s.2 in
+      let all : Some (own_funcs env ++ s.0.funcs) ≡ Some z.funcs = ap (λ o. option_and_then (λ (s : Store). Some s.funcs) o) s.2 in
       let same : own_funcs env ++ s.0.funcs ≡ z.funcs = cc in
       record { funcs = f.0; are = f.1; all = sym same ∙ ap (λ l. own_funcs env ++ l) funcs }
 
-  pub own_func_at : (n : ℕ) (f : tree.Func) (ty : FuncType) → place t.funcs n ≡ Some f → place t.types f.ty ≡ Some ty → place z.funcs (own_count Functions env + n) ≡ Some (Code ty j (declared f.locals) f.body)
+  pub own_func_at : (n : ℕ) (f : tree.Func) (ty : FuncType) → slice_get t.funcs n ≡ Some f → slice_get t.types f.ty ≡ Some ty → slice_get z.funcs (own_count Functions env + n) ≡ Some (Code ty j (declared f.locals) f.body)
   own_func_at n f ty h e =
       let s = has_funcs in
       let r = all_at (new_func j) t.funcs s.funcs s.are n f h in
-      let is : new_func j f ≡ Some (Code ty j (declared f.locals) f.body) = ap (λ o. then_some {A = FuncType} {B = Func} o (λ ty. Some (Code ty j (declared f.locals) f.body))) (ap (λ l. place l f.ty) inst.types ∙ e) in
-      ap (λ l. place l (own_count Functions env + n)) s.all ∙ place_right (own_funcs env) s.funcs n ∙ r.2 ∙ sym r.1 ∙ is
+      let is : new_func j f ≡ Some (Code ty j (declared f.locals) f.body) = ap (λ o. option_and_then {B = Func} {A = FuncType} o (λ ty. Some (Code ty j (declared f.locals) f.body))) (ap (λ l. slice_get l f.ty) inst.types ∙ e) in
+      ap (λ l. slice_get l (own_count Functions env + n)) s.all ∙ place_right (own_funcs env) s.funcs n ∙ r.2 ∙ sym r.1 ∙ is
 
   own_typed : (x n a : ℕ) (ty : FuncType) → x ≡ length (imports_of Functions t) + n → a ≡ own_count Functions env + n → type_of_func t x ≡ Some ty → type_at z a ≡ Gives ty
   own_typed x n a ty e d h =
@@ -187,16 +187,16 @@ module _ (laws : SpaceLaws) (env : Environment) (t : Module) (j : Inst) (inst : 
       let at : length (imported_funcs t.imports) + n ≡ x = omega (arith, e, many) in
       let got : slice_get (map (λ f. f.ty) t.funcs) n ≡ Some y.0 = sym (behind (imported_funcs t.imports) (map (λ f. f.ty) t.funcs) n) ∙ ap (slice_get (funcs_of t)) at ∙ y.1 in
       let f = map_back (λ f. f.ty) t.funcs n y.0 got in
-      let type : place t.types f.0.ty ≡ Some ty = place_get t.types f.0.ty ∙ ap (slice_get t.types) f.2 ∙ y.2 in
+      let type : slice_get t.types f.0.ty ≡ Some ty = place_get t.types f.0.ty ∙ ap (slice_get t.types) f.2 ∙ y.2 in
       let func = own_func_at n f.0 ty (place_get t.funcs n ∙ f.1) type in
       ap (type_at z) d ∙ ap (λ o. bind o (λ f. Gives (control.type_of_func f))) (at_is z.funcs (own_count Functions env + n) _ func)
 
-  import_typed : all_of (is_matched env (one t) z) (sites (one t)) ≡ true → (x n a : ℕ) (ty : FuncType) → place (imports_of Functions t) x ≡ Some n → import_address env (one t) Functions 0 n ≡ Some a → type_of_func t x ≡ Some ty → type_at z a ≡ Gives ty
+  import_typed : all_of (is_matched env (one t) z) (sites (one t)) ≡ true → (x n a : ℕ) (ty : FuncType) → slice_get (imports_of Functions t) x ≡ Some n → import_address env (one t) Functions 0 n ≡ Some a → type_of_func t x ≡ Some ty → type_at z a ≡ Gives ty
   import_typed matched x n a ty e address h =
       let y = and_then_is (slice_get t.types) (slice_get (funcs_of t) x) ty h in
       let r = place_of (has_kind Functions) (λ i. func_of i.desc) t.imports func_kind 0 x n e in
       let k : n ≡ r.0 = (let d = r.2 in omega (arith, d)) in
-      let i : place t.imports n ≡ Some r.1 = ap (place t.imports) k ∙ place_get t.imports r.0 ∙ r.3 in
+      let i : slice_get t.imports n ≡ Some r.1 = ap (slice_get t.imports) k ∙ place_get t.imports r.0 ∙ r.3 in
       let many = funcs_counted t.imports 0 in
       let low : x < length (imported_funcs t.imports) = (let l = within (imports_of Functions t) x n e in omega (arith, l, many)) in
       let got : func_of r.1.desc ≡ Some y.0 =
@@ -207,9 +207,9 @@ module _ (laws : SpaceLaws) (env : Environment) (t : Module) (j : Inst) (inst : 
       let d = then_is (imported_thing env (one t) (site n)) (is_match z t c.0.desc) true c.2 in
       let both : Some c.0 ≡ Some r.1 = sym c.1 ∙ i in
       let same : c.0 ≡ r.1 = cc in
-      let thing = func_thing d.0 a (sym (ap (λ o. then_some o (address_of Functions)) d.1) ∙ address) in
+      let thing = func_thing d.0 a (sym (ap (λ o. option_and_then (address_of Functions) o) d.1) ∙ address) in
       let match : is_match z t (im.Func y.0) (FuncAt a) ≡ Some true = sym (ap₂ (is_match z t) (ap (λ (i : Import). i.desc) same ∙ desc) thing) ∙ d.2 in
-      let u = then_is (place t.types y.0) _ true match in
+      let u = then_is (slice_get t.types y.0) _ true match in
       let v = then_is (given (type_at z a)) _ true u.2 in
       let yes : same_func_type u.0 v.0 ≡ true = in_some (same_func_type u.0 v.0) true v.2 in
       let types : Some u.0 ≡ Some ty = sym u.1 ∙ place_get t.types y.0 ∙ y.2 in
@@ -217,7 +217,7 @@ module _ (laws : SpaceLaws) (env : Environment) (t : Module) (j : Inst) (inst : 
       matched_type (type_at z a) u.0 v.0 ty v.1 (func_type_is u.0 v.0 yes) type
 
   -- a function that an index names has the type of that index
-  pub named_typed : all_of (is_matched env (one t) z) (sites (one t)) ≡ true → (x a : ℕ) (ty : FuncType) → place j.funcs x ≡ Some a → type_of_func t x ≡ Some ty → type_at z a ≡ Gives ty
+  pub named_typed : all_of (is_matched env (one t) z) (sites (one t)) ≡ true → (x a : ℕ) (ty : FuncType) → slice_get j.funcs x ≡ Some a → type_of_func t x ≡ Some ty → type_at z a ≡ Gives ty
   named_typed matched x a ty h e = go (cases_lt x (length (imports_of Functions t)))
     where
       s : (l : List ℕ) × (all_there (import_address env (one t) Functions 0) (imports_of Functions t) ≡ Some l) × (Some (l ++ numbers (base env (one t) Functions 0) (defined_count Functions t)) ≡ Some j.funcs)
@@ -233,7 +233,7 @@ module _ (laws : SpaceLaws) (env : Environment) (t : Module) (j : Inst) (inst : 
       go (inl low) =
           let n = found (imports_of Functions t) x low in
           let r = all_at (import_address env (one t) Functions 0) (imports_of Functions t) s.0 s.1 x n.0 n.1 in
-          let both : Some a ≡ Some r.0 = sym h ∙ ap (λ l. place l x) all ∙ place_left s.0 _ x (within s.0 x r.0 r.2) ∙ r.2 in
+          let both : Some a ≡ Some r.0 = sym h ∙ ap (λ l. slice_get l x) all ∙ place_left s.0 _ x (within s.0 x r.0 r.2) ∙ r.2 in
           import_typed matched x n.0 a ty n.1 (r.1 ∙ sym both) e
       go (inr high) =
           let n = x - length (imports_of Functions t) in
@@ -243,7 +243,7 @@ module _ (laws : SpaceLaws) (env : Environment) (t : Module) (j : Inst) (inst : 
           let count = numbers_length (base env (one t) Functions 0) (defined_count Functions t) in
           let back : x ≡ length s.0 + n = omega (arith, at, many) in
           let low : n < defined_count Functions t = omega (arith, at, l, size, count, many) in
-          let both : Some a ≡ Some (base env (one t) Functions 0 + n) = sym h ∙ ap₂ (λ l x. place l x) all back ∙ place_right s.0 _ n ∙ place_numbers (base env (one t) Functions 0) (defined_count Functions t) n low in
+          let both : Some a ≡ Some (base env (one t) Functions 0 + n) = sym h ∙ ap₂ (λ l x. slice_get l x) all back ∙ place_right s.0 _ n ∙ place_numbers (base env (one t) Functions 0) (defined_count Functions t) n low in
           let same : a ≡ base env (one t) Functions 0 + n = cc in
           own_typed x n a ty at (omega (arith, same)) e
 
@@ -261,7 +261,7 @@ unfolding defined_funcs
 defined_many parts = by_part_many (λ p m. map (new.new_func (map_of parts p m)) m.funcs) (λ m. length m.funcs) (λ p m. map_length (new.new_func (map_of parts p m)) m.funcs) 0 parts ∙ sym (defined_is Functions parts (length parts))
 
 -- from the addresses that are named to the indices that name them
-each_start : (env : Environment) (parts : List Part) (j : Inst) (P : ℕ → ℕ → Type 0) {several fs : List ℕ} → ListRel (IsNamed env parts j) several fs → ((n f a : ℕ) → place fs n ≡ Some f → place j.funcs f ≡ Some a → P f a) → ListRel P fs several
+each_start : (env : Environment) (parts : List Part) (j : Inst) (P : ℕ → ℕ → Type 0) {several fs : List ℕ} → ListRel (IsNamed env parts j) several fs → ((n f a : ℕ) → slice_get fs n ≡ Some f → slice_get j.funcs f ≡ Some a → P f a) → ListRel P fs several
 each_start env parts j P nil h = nil
 each_start env parts j P (cons w r) h = cons (h 0 _ _ refl w.names) (each_start env parts j P r (λ n. h (suc n)))
 
@@ -274,13 +274,13 @@ module _ (laws : SpaceLaws) (nothing : StartsTakeNothing) (env : Environment) (p
       at z.funcs (shared_count env parts Funcs) ≡ Gives (Code nullary j [] (map Call (starts parts)))
   caller_code inst there f g fs e =
       let q = joined_keeps parts mode in
-      let n = nothing parts (names_of parts mode) can.valid can.linked 0 f (ap (λ l. place l 0) e) in
-      let type : place J.types (place_of_type parts nullary) ≡ Some nullary = ap (λ l. place l (place_of_type parts nullary)) (q.types ∙ merged_types_are parts (names_of parts mode)) ∙ n.1 in
+      let n = nothing parts (names_of parts mode) can.valid can.linked 0 f (ap (λ l. slice_get l 0) e) in
+      let type : slice_get J.types (place_of_type parts nullary) ≡ Some nullary = ap (λ l. slice_get l (place_of_type parts nullary)) (q.types ∙ merged_types_are parts (names_of parts mode)) ∙ n.1 in
       let many = defined_many parts in
       let total = defined_before Functions parts (length parts) in
       let last : total ≡ length (defined_funcs parts) + 0 = omega (arith, many) in
-      let func : place J.funcs total ≡ Some (record { ty = place_of_type parts nullary; locals = []; body = map Call (f ∷ g ∷ fs) }) =
-      ap₂ (λ l n. place l n) (q.funcs ∙ merged_funcs_are parts (names_of parts mode)) last ∙ place_right (defined_funcs parts) (start_calls parts (starts parts)) 0 ∙ ap (λ l. place (start_calls parts l) 0) e in
+      let func : slice_get J.funcs total ≡ Some (record { ty = place_of_type parts nullary; locals = []; body = map Call (f ∷ g ∷ fs) }) =
+      ap₂ (λ l n. slice_get l n) (q.funcs ∙ merged_funcs_are parts (names_of parts mode)) last ∙ place_right (defined_funcs parts) (start_calls parts (starts parts)) 0 ∙ ap (λ l. slice_get (start_calls parts l) 0) e in
       at_is z.funcs (shared_count env parts Funcs) _ (own_func_at laws env J j inst z there total _ nullary func type)
       ∙ ap (λ l. Gives (Code nullary j [] (map Call l))) (sym e)
 

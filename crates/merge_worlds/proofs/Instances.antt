@@ -1,11 +1,11 @@
 -- The instances of the parts, and the instance of the merged module: all there or none, and each index of a part and its new one name one address.
-use Rattle.std.proofs.Common.{◌≡◌, ◌∙◌, ap, ap₂, sym, subst, refl, ℕ, ◌+◌, ◌-◌, ◌<◌, ◌≤◌, List, [], ◌∷◌, ◌++◌, map, length, Option, Some, None, arith, ◌⊎◌, inl, inr}
+use Rattle.std.proofs.Common.{◌≡◌, ◌∙◌, ap, ap₂, sym, subst, refl, ℕ, ◌+◌, ◌-◌, ◌<◌, ◌≤◌, List, [], ◌∷◌, ◌++◌, map, length, Option, Some, None, arith, ◌⊎◌, inl, inr, option_and_then, slice_get}
 use Rattle.std.specs.Prelude.{slice_index}
 use Rattle.std.proofs.lemmas.Bool.{cases_lt}
 use Rattle.wasm_tree.specs.declared.module.Module.{Module}
 use Rattle.wasm_tree.specs.Spaces.{funcs_of, tables_of, memories_of, globals_of, imported_funcs, imported_tables, imported_memories, imported_globals}
 use Rattle.wasm_meaning.specs.State.{Inst}
-use Rattle.wasm_meaning.specs.Linking.{Part, Site, Outside, Kind, Functions, Tables, Memories, Globals, place, then_some, has_kind, module_at, imports_of, end_of}
+use Rattle.wasm_meaning.specs.Linking.{Part, Site, Outside, Kind, Functions, Tables, Memories, Globals, has_kind, module_at, imports_of, end_of}
 use Rattle.wasm_meaning.specs.Environment.{Environment}
 use Rattle.wasm_meaning.specs.World.{own_count, defined_count, base, thing_of, address_of, all_there, numbers, space, elems_before, datas_before, inst_of, insts_from}
 use Rattle.index_remap.specs.Related.{OptRel, none, some}
@@ -36,7 +36,7 @@ pub map_entry : (parts : List Part) (p : ℕ) (k : Kind) (entries : List ℕ) (s
 map_entry parts p k entries size e x l =
     let from_0 : 0 + x ≡ x = omega arith in
     index_at entries x (new_index parts p k x)
-    (ap (λ l. place l x) e ∙ place_map (new_index parts p k) (numbers 0 size) x ∙ ap (λ o. then_some o (λ x. Some (new_index parts p k x))) (place_numbers 0 size x l ∙ ap Some from_0))
+    (ap (λ l. slice_get l x) e ∙ place_map (new_index parts p k) (numbers 0 size) x ∙ ap (λ o. option_and_then (λ x. Some (new_index parts p k x)) o) (place_numbers 0 size x l ∙ ap Some from_0))
 
 pub map_funcs : (parts : List Part) (p : ℕ) (m : Module) → (map_of parts p m).funcs ≡ map (new_index parts p Functions) (numbers 0 (length (funcs_of m)))
 unfolding map_of
@@ -108,33 +108,33 @@ module _ (laws : SpaceLaws) (env : Environment) (parts : List Part) (linked : li
       record { imported = r.0; are = r.1; all = sym same }
 
   -- what an index of a part names, and what that stands for
-  stands_at : (k : Kind) (p : ℕ) (m : Module) (xs : List ℕ) → module_at parts p ≡ Some m → PartSpace k p m xs → (x : ℕ) → x < length (imports_of k m) + defined_count k m → (a : ℕ) × (place xs x ≡ Some a) × Stands env parts k (Some a) (new_index parts p k x)
+  stands_at : (k : Kind) (p : ℕ) (m : Module) (xs : List ℕ) → module_at parts p ≡ Some m → PartSpace k p m xs → (x : ℕ) → x < length (imports_of k m) + defined_count k m → (a : ℕ) × (slice_get xs x ≡ Some a) × Stands env parts k (Some a) (new_index parts p k x)
   stands_at k p m xs is s x l = go (cases_lt x (length (imports_of k m)))
     where
-      go : (x < length (imports_of k m)) ⊎ (length (imports_of k m) ≤ x) → (a : ℕ) × (place xs x ≡ Some a) × Stands env parts k (Some a) (new_index parts p k x)
+      go : (x < length (imports_of k m)) ⊎ (length (imports_of k m) ≤ x) → (a : ℕ) × (slice_get xs x ≡ Some a) × Stands env parts k (Some a) (new_index parts p k x)
       go (inl low) =
           let n = found (imports_of k m) x low in
           let a = all_at (import_address env parts k p) (imports_of k m) s.imported s.are x n.0 n.1 in
-          (a.0, ap (λ l. place l x) s.all ∙ place_left s.imported _ x (within s.imported x a.0 a.2) ∙ a.2, subst (λ o. Stands env parts k o (new_index parts p k x)) a.1 (import_stands env parts laws linked k p m x n.0 is n.1))
+          (a.0, ap (λ l. slice_get l x) s.all ∙ place_left s.imported _ x (within s.imported x a.0 a.2) ∙ a.2, subst (λ o. Stands env parts k o (new_index parts p k x)) a.1 (import_stands env parts laws linked k p m x n.0 is n.1))
       go (inr high) =
           let j = x - length (imports_of k m) in
           let at : x ≡ length (imports_of k m) + j = omega (arith, high) in
           let many = all_length (import_address env parts k p) (imports_of k m) s.imported s.are in
           let back : x ≡ length s.imported + j = omega (arith, at, many) in
           let lt : j < defined_count k m = omega (arith, at, l) in
-          (base env parts k p + j, ap₂ (λ l x. place l x) s.all back ∙ place_right s.imported _ j ∙ place_numbers (base env parts k p) (defined_count k m) j lt, own_stands env parts laws linked k p m x j is at lt)
+          (base env parts k p + j, ap₂ (λ l x. slice_get l x) s.all back ∙ place_right s.imported _ j ∙ place_numbers (base env parts k p) (defined_count k m) j lt, own_stands env parts laws linked k p m x j is at lt)
 
   -- the merged module's index names the same
-  names_same : (k : Kind) (ys : List ℕ) → MergedSpace k ys → (a index : ℕ) → Stands env parts k (Some a) index → (place ys index ≡ Some a) × (a < shared_count env parts (kind_in k))
+  names_same : (k : Kind) (ys : List ℕ) → MergedSpace k ys → (a index : ℕ) → Stands env parts k (Some a) index → (slice_get ys index ≡ Some a) × (a < shared_count env parts (kind_in k))
   names_same k ys s a index (own d l e i) =
       let many = all_length (site_address env parts k) (staying_of parts k) s.imported s.are in
       let same : a ≡ own_count k env + d = cc in
       let at : index ≡ length s.imported + d = omega (arith, many, i) in
       let shared = shared_is env parts k in
-      (ap₂ (λ l x. place l x) s.all at ∙ place_right s.imported _ d ∙ place_numbers (own_count k env) (total env parts k + added_count parts k) d (omega (arith, l)) ∙ sym e, omega (arith, same, shared, l))
+      (ap₂ (λ l x. slice_get l x) s.all at ∙ place_right s.imported _ d ∙ place_numbers (own_count k env) (total env parts k + added_count parts k) d (omega (arith, l)) ∙ sym e, omega (arith, same, shared, l))
   names_same k ys s a index (stays u h e) =
       let r = all_at (site_address env parts k) (staying_of parts k) s.imported s.are index u h in
-      (ap (λ l. place l index) s.all ∙ place_left s.imported _ index (within s.imported index r.0 r.2) ∙ r.2 ∙ sym r.1 ∙ sym e, site_low env parts laws.own k u a (sym e))
+      (ap (λ l. slice_get l index) s.all ∙ place_left s.imported _ index (within s.imported index r.0 r.2) ∙ r.2 ∙ sym r.1 ∙ sym e, site_low env parts laws.own k u a (sym e))
 
   space_agrees : (k : Kind) (p : ℕ) (m : Module) (xs ys entries : List ℕ) (size : ℕ) → module_at parts p ≡ Some m → PartSpace k p m xs → MergedSpace k ys → entries ≡ map (new_index parts p k) (numbers 0 size) → size ≡ length (imports_of k m) + defined_count k m →
       SpaceAgrees env parts (kind_in k) xs ys entries
@@ -148,7 +148,7 @@ module _ (laws : SpaceLaws) (env : Environment) (parts : List Part) (linked : li
       each x l =
           let r = stands_at k p m xs is s x (omega (arith, l, n)) in
           let q = names_same k ys t r.0 (new_index parts p k x) r.2 in
-          record { address = r.0; first = r.1; second = ap (place ys) (map_entry parts p k entries size e x l) ∙ q.0; shared = q.1 }
+          record { address = r.0; first = r.1; second = ap (slice_get ys) (map_entry parts p k entries size e x l) ∙ q.0; shared = q.1 }
 
   -- segments
   segments_agree : (k : to.Kind) (xs ys entries : List ℕ) (first count n : ℕ) → xs ≡ numbers first count → ys ≡ numbers 0 n → entries ≡ numbers first count → first + count ≤ shared_count env parts k → shared_count env parts k ≤ n → SpaceAgrees env parts k xs ys entries
@@ -156,12 +156,12 @@ module _ (laws : SpaceLaws) (env : Environment) (parts : List Part) (linked : li
     where
       each : (x : ℕ) → x < count → SameAddress env parts k xs ys entries x
       each x low =
-          let at : (zs : List ℕ) → zs ≡ numbers first count → place zs x ≡ Some (first + x) = λ zs e. ap (λ l. place l x) e ∙ place_numbers first count x low in
+          let at : (zs : List ℕ) → zs ≡ numbers first count → slice_get zs x ≡ Some (first + x) = λ zs e. ap (λ l. slice_get l x) e ∙ place_numbers first count x low in
           let from_0 : 0 + (first + x) ≡ first + x = omega arith in
           record {
             address = first + x;
             first = at xs e;
-            second = ap₂ (λ l x. place l x) f (index_at entries x (first + x) (at entries g)) ∙ place_numbers 0 n (first + x) (omega (arith, low, l, h)) ∙ ap Some from_0;
+            second = ap₂ (λ l x. slice_get l x) f (index_at entries x (first + x) (at entries g)) ∙ place_numbers 0 n (first + x) (omega (arith, low, l, h)) ∙ ap Some from_0;
             shared = omega (arith, low, l);
           }
 
@@ -192,7 +192,7 @@ module _ (laws : SpaceLaws) (env : Environment) (parts : List Part) (linked : li
       let types : j.types ≡ _ = b.types ∙ (joined_keeps parts mode).types ∙ merged_types_are parts (names_of parts mode) in
       record {
         own_types = a.types;
-        types = λ x t h. ap (λ l. place l (slice_index (map_of parts p m).types x)) types ∙ laws.types parts p m x t is h;
+        types = λ x t h. ap (λ l. slice_get l (slice_index (map_of parts p m).types x)) types ∙ laws.types parts p m x t is h;
         funcs = space_agrees Functions p m i.funcs j.funcs (map_of parts p m).funcs (length (funcs_of m)) is (part_space Functions p m i.funcs a.funcs) (merged_part Functions j.funcs b.funcs) (map_funcs parts p m) (funcs_size m);
         tables = space_agrees Tables p m i.tables j.tables (map_of parts p m).tables (length (tables_of m)) is (part_space Tables p m i.tables a.tables) (merged_part Tables j.tables b.tables) (map_tables parts p m) (tables_size m);
         mems = space_agrees Memories p m i.mems j.mems (map_of parts p m).mems (length (memories_of m)) is (part_space Memories p m i.mems a.mems) (merged_part Memories j.mems b.mems) (map_mems parts p m) (mems_size m);
@@ -221,7 +221,7 @@ module _ (laws : SpaceLaws) (env : Environment) (parts : List Part) (linked : li
 
   -- the environment has what each import of a kind that stays asks for
   abbrev Present : Kind → Type 0
-  Present k = (n : ℕ) (s : Site) → place (staying_of parts k) n ≡ Some s → (a : ℕ) × (site_address env parts k s ≡ Some a)
+  Present k = (n : ℕ) (s : Site) → slice_get (staying_of parts k) n ≡ Some s → (a : ℕ) × (site_address env parts k s ≡ Some a)
 
   merged_present : (k : Kind) (ys : List ℕ) → MergedSpace k ys → Present k
   merged_present k ys t n s h = let r = all_at (site_address env parts k) (staying_of parts k) t.imported t.are n s h in (r.0, r.1)
@@ -229,7 +229,7 @@ module _ (laws : SpaceLaws) (env : Environment) (parts : List Part) (linked : li
   merged_there : (k : Kind) → Present k → (ys : List ℕ) × (space env (one J) k 0 J ≡ Some ys)
   merged_there k present =
       let r = each_there (site_address env parts k) (staying_of parts k) present in
-      (_, merged_space laws env parts linked mode k ∙ ap (λ o. then_some o (λ l. Some (l ++ numbers (own_count k env) (total env parts k + added_count parts k)))) r.are)
+      (_, merged_space laws env parts linked mode k ∙ ap (λ o. option_and_then (λ l. Some (l ++ numbers (own_count k env) (total env parts k + added_count parts k))) o) r.are)
 
   import_present : (k : Kind) → Present k → (o : Option ℕ) (index : ℕ) → Stands env parts k o index → (a : ℕ) × (o ≡ Some a)
   import_present k present o index (own d l e i) = (own_count k env + d, e)
@@ -238,13 +238,13 @@ module _ (laws : SpaceLaws) (env : Environment) (parts : List Part) (linked : li
   part_there : (k : Kind) → Present k → (p : ℕ) (m : Module) → module_at parts p ≡ Some m → (xs : List ℕ) × (space env parts k p m ≡ Some xs)
   part_there k present p m is =
       let r = each_there (import_address env parts k p) (imports_of k m) (λ x n h. import_present k present (import_address env parts k p n) (new_index parts p k x) (import_stands env parts laws linked k p m x n is h)) in
-      (_, ap (λ o. then_some o (λ l. Some (l ++ numbers (base env parts k p) (defined_count k m)))) r.are)
+      (_, ap (λ o. option_and_then (λ l. Some (l ++ numbers (base env parts k p) (defined_count k m))) o) r.are)
 
   -- an import that stays is one of its part
-  part_present : (k : Kind) (p : ℕ) (m : Module) (xs : List ℕ) → PartSpace k p m xs → (s : Site) → s.part ≡ p → end_of parts s ≡ Some (Outside s) → (x : ℕ) → place (imports_of k m) x ≡ Some s.import → (a : ℕ) × (site_address env parts k s ≡ Some a)
+  part_present : (k : Kind) (p : ℕ) (m : Module) (xs : List ℕ) → PartSpace k p m xs → (s : Site) → s.part ≡ p → end_of parts s ≡ Some (Outside s) → (x : ℕ) → slice_get (imports_of k m) x ≡ Some s.import → (a : ℕ) × (site_address env parts k s ≡ Some a)
   part_present k p m xs t s e own_end x h =
       let r = all_at (import_address env parts k p) (imports_of k m) t.imported t.are x s.import h in
-      (r.0, sym (ap (λ p. import_address env parts k p s.import) (sym e) ∙ ap (λ o. then_some (then_some o (thing_of env parts)) (address_of k)) own_end) ∙ r.1)
+      (r.0, sym (ap (λ p. import_address env parts k p s.import) (sym e) ∙ ap (λ o. option_and_then (address_of k) (option_and_then (thing_of env parts) o)) own_end) ∙ r.1)
 
   space_in : (k : Kind) (p : ℕ) (m : Module) (i : Inst) → IsInst env parts p m i → (xs : List ℕ) × PartSpace k p m xs
   space_in Functions p m i a = (i.funcs, part_space Functions p m i.funcs a.funcs)
@@ -269,7 +269,7 @@ module _ (laws : SpaceLaws) (env : Environment) (parts : List Part) (linked : li
       let m = merged_there Memories (present Memories) in
       let g = merged_there Globals (present Globals) in
       let i = inst_there env (one J) 0 J f.0 t.0 m.0 g.0 f.1 t.1 m.1 g.1 in
-      (i.0 ∷ [], ap (λ o. then_some {A = Inst} {B = List Inst} o (λ i. Some (i ∷ []))) i.1)
+      (i.0 ∷ [], ap (λ o. option_and_then {B = List Inst} {A = Inst} o (λ i. Some (i ∷ []))) i.1)
 
   all_parts_there : ((k : Kind) → Present k) → (insts : List Inst) × (insts_from env parts 0 parts ≡ Some insts)
   all_parts_there present = insts_there env parts 0 parts (λ p m is.

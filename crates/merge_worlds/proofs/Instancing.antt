@@ -1,9 +1,9 @@
 -- What an instance holds, and the instances of several parts one after the other.
-use Rattle.std.proofs.Common.{◌≡◌, ◌∙◌, ap, ap₂, sym, refl, ℕ, zero, suc, ◌+◌, List, [], ◌∷◌, length, Option, Some, arith}
+use Rattle.std.proofs.Common.{◌≡◌, ◌∙◌, ap, ap₂, sym, refl, ℕ, zero, suc, ◌+◌, List, [], ◌∷◌, length, Option, Some, arith, option_and_then, slice_get}
 use Rattle.wasm_tree.specs.declared.types.FuncType.{FuncType}
 use Rattle.wasm_tree.specs.declared.module.Module.{Module}
 use Rattle.wasm_meaning.specs.State.{Inst}
-use Rattle.wasm_meaning.specs.Linking.{Part, Functions, Tables, Memories, Globals, place, then_some, module_at}
+use Rattle.wasm_meaning.specs.Linking.{Part, Functions, Tables, Memories, Globals, module_at}
 use Rattle.wasm_meaning.specs.Environment.{Environment}
 use Rattle.wasm_meaning.specs.World.{space, numbers, elems_before, datas_before, inst_of, insts_from}
 use Rattle.merge_validity.proofs.Lists.{then_is}
@@ -21,7 +21,7 @@ pub record IsInst (env : Environment) (parts : List Part) (p : ℕ) (m : Module)
 
 abbrev made : List FuncType → (elems datas : List ℕ) → (funcs tables mems globals : Option (List ℕ)) → Option Inst
 made types elems datas f t m g =
-    then_some f (λ funcs. then_some t (λ tables. then_some m (λ mems. then_some g (λ globals. Some (record { types = types; funcs = funcs; tables = tables; mems = mems; globals = globals; elems = elems; datas = datas })))))
+    option_and_then (λ funcs. option_and_then (λ tables. option_and_then (λ mems. option_and_then (λ globals. Some (record { types = types; funcs = funcs; tables = tables; mems = mems; globals = globals; elems = elems; datas = datas })) g) m) t) f
 
 pub inst_is : (env : Environment) (parts : List Part) (p : ℕ) (m : Module) (i : Inst) → inst_of env parts p m ≡ Some i → IsInst env parts p m i
 inst_is env parts p m i h =
@@ -56,10 +56,10 @@ inst_there env parts p m fs ts ms gs f t s g =
 -- the instances of the parts from one on
 pub record EachInst (env : Environment) (all : List Part) (p : ℕ) (parts : List Part) (is : List Inst) : Type 0 where
   pub size : length is ≡ length parts
-  pub each : (q : ℕ) (m : Module) → module_at parts q ≡ Some m → (i : Inst) × (place is q ≡ Some i) × (inst_of env all (p + q) m ≡ Some i)
+  pub each : (q : ℕ) (m : Module) → module_at parts q ≡ Some m → (i : Inst) × (slice_get is q ≡ Some i) × (inst_of env all (p + q) m ≡ Some i)
 
 each_cons : (env : Environment) (all : List Part) (p : ℕ) (part : Part) (parts : List Part) (i : Inst) (is : List Inst) → inst_of env all p part.«module» ≡ Some i → EachInst env all (suc p) parts is → (q : ℕ) (m : Module) → module_at (part ∷ parts) q ≡ Some m →
-    (j : Inst) × (place (i ∷ is) q ≡ Some j) × (inst_of env all (p + q) m ≡ Some j)
+    (j : Inst) × (slice_get (i ∷ is) q ≡ Some j) × (inst_of env all (p + q) m ≡ Some j)
 each_cons env all p part parts i is h later zero m e =
     let same : m ≡ part.«module» = cc in
     let here : p + 0 ≡ p = omega arith in
@@ -77,7 +77,7 @@ insts_are env all p (part ∷ parts) is h =
     let q = r.2 in
     let same : i.0 ∷ r.0 ≡ is = cc in
     let later = insts_are env all (suc p) parts r.0 r.1 in
-    record { size = ap length (sym same) ∙ ap suc later.size; each = λ q m e. let c = each_cons env all p part parts i.0 r.0 i.1 later q m e in (c.0, ap (λ l. place l q) (sym same) ∙ c.1, c.2) }
+    record { size = ap length (sym same) ∙ ap suc later.size; each = λ q m e. let c = each_cons env all p part parts i.0 r.0 i.1 later q m e in (c.0, ap (λ l. slice_get l q) (sym same) ∙ c.1, c.2) }
 
 pub insts_there : (env : Environment) (all : List Part) (p : ℕ) (parts : List Part) → ((q : ℕ) (m : Module) → module_at parts q ≡ Some m → (i : Inst) × (inst_of env all (p + q) m ≡ Some i)) → (is : List Inst) × (insts_from env all p parts ≡ Some is)
 insts_there env all p [] h = ([], refl)
@@ -86,5 +86,5 @@ insts_there env all p (part ∷ parts) h =
     let here : p ≡ p + 0 = omega arith in
     let r = insts_there env all (suc p) parts (λ q m e. let x = h (suc q) m e in let n : suc p + q ≡ p + suc q = omega arith in (x.0, ap (λ n. inst_of env all n m) n ∙ x.1)) in (
       first.0 ∷ r.0,
-      ap₂ (λ o l. then_some o (λ i. then_some l (λ is. Some (i ∷ is)))) (ap (λ n. inst_of env all n part.«module») here ∙ first.1) r.1,
+      ap₂ (λ o l. option_and_then (λ i. option_and_then (λ is. Some (i ∷ is)) l) o) (ap (λ n. inst_of env all n part.«module») here ∙ first.1) r.1,
     )

@@ -1,11 +1,11 @@
 -- The environment's own entities fit what is asked for in both stores or in none.
-use Rattle.std.proofs.Common.{◌≡◌, ℕ, zero, suc, ◌+◌, ◌<◌, List, [], ◌∷◌, ◌++◌, map, length, Some, Bool, true, false, cond, refl, sym, ap, ap₂, subst, ◌∙◌, arith}
+use Rattle.std.proofs.Common.{◌≡◌, ℕ, zero, suc, ◌+◌, ◌<◌, List, [], ◌∷◌, ◌++◌, map, length, Some, Bool, true, false, cond, refl, sym, ap, ap₂, subst, ◌∙◌, arith, option_and_then, slice_get, ◌&&◌}
 use Rattle.wasm_tree.specs.declared.types.TableType.{TableType}
 use Rattle.wasm_meaning.specs.Outcomes.{Outcome, Gives, bind, at}
 use Rattle.wasm_meaning.specs.State.{Func, Own, Table, Store}
 use Rattle.wasm_meaning.specs.Values.{same_ref, same_type, same_func_type}
 use Rattle.wasm_meaning.specs.Control.{type_of_func, type_at}
-use Rattle.wasm_meaning.specs.Linking.{Part, place, then_some}
+use Rattle.wasm_meaning.specs.Linking.{Part}
 use Rattle.wasm_meaning.specs.Environment.{Environment, OwnKey, FuncKey, TableKey, MemoryKey, Thing, FuncAt, TableAt, MemoryAt, GlobalAt, Owned, look_up, addressed, flat, one_if, owned_of, owned_at, own_funcs}
 use Rattle.wasm_meaning.specs.World.{given, same_bool, meets}
 use Rattle.index_remap.specs.Related.{Pairing, ResRel, done, trap, wrong, FuncRel, defined, own, TableRel}
@@ -83,13 +83,13 @@ module _ (env : Environment) (parts : List Part) {s z : Store} (like : StoresAli
       let m = length_rel like.funcs in
       func_same (at_rel like.funcs a) ∙ ap (λ o. bind o (λ f. Gives (type_of_func f))) (sym (ap (λ fs. at fs a) like.all_funcs ∙ at_front like.shared_funcs like.more_funcs a (omega (arith, lt, count, m))))
 
-  table_same : (t : TableType) {v w : Table} → TableRel R v w → cond (same_ref t.ty v.ty) (meets (length v.slots) v.most t.limits) false ≡ cond (same_ref t.ty w.ty) (meets (length w.slots) w.most t.limits) false
+  table_same : (t : TableType) {v w : Table} → TableRel R v w → same_ref t.ty v.ty && meets (length v.slots) v.most t.limits ≡ same_ref t.ty w.ty && meets (length w.slots) w.most t.limits
   table_same t {v} {w} r =
-      ap (λ ty. cond (same_ref t.ty ty) (meets (length v.slots) v.most t.limits) false) r.type ∙ ap₂ (λ n most. cond (same_ref t.ty w.ty) (meets n most t.limits) false) (length_rel r.slots) r.most
+      ap (λ ty. same_ref t.ty ty && meets (length v.slots) v.most t.limits) r.type ∙ ap₂ (λ n most. same_ref t.ty w.ty && meets n most t.limits) (length_rel r.slots) r.most
 
   pub fits_same : (x : External) (th : Thing) → IsAmong (length (own_funcs env)) th → fits s x th ≡ fits z x th
-  fits_same (FuncOf t) (FuncAt a) lt = ap (λ o. then_some (given o) (λ u. Some (same_func_type t u))) (type_same a lt)
+  fits_same (FuncOf t) (FuncAt a) lt = ap (λ o. option_and_then (λ u. Some (same_func_type t u)) (given o)) (type_same a lt)
   fits_same (TableOf t) (TableAt a) lt = then_eq (place_rel like.tables a) (λ _ _ r. ap Some (table_same t r))
-  fits_same (MemoryOf l) (MemoryAt a) lt = ap (λ ms. then_some (place ms a) (λ u. Some (meets u.pages u.most l))) like.mems
-  fits_same (GlobalOf t) (GlobalAt a) lt = then_eq (place_rel like.globals a) (λ _ _ r. ap (λ ty. Some (cond (same_type t.ty ty.ty) (same_bool t.mutable ty.mutable) false)) r.type)
+  fits_same (MemoryOf l) (MemoryAt a) lt = ap (λ ms. option_and_then (λ u. Some (meets u.pages u.most l)) (slice_get ms a)) like.mems
+  fits_same (GlobalOf t) (GlobalAt a) lt = then_eq (place_rel like.globals a) (λ _ _ r. ap (λ ty. Some (same_type t.ty ty.ty && same_bool t.mutable ty.mutable)) r.type)
   fits_same _ _ lt = refl

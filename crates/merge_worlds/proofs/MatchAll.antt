@@ -1,12 +1,12 @@
 -- All imports of the parts match where all imports of the merged module do.
-use Rattle.std.proofs.Common.{◌≡◌, ℕ, zero, suc, ◌+◌, ◌-◌, ◌<◌, ◌≤◌, List, length, Option, Some, None, true, refl, sym, ap, ap₂, subst, ◌∙◌, arith}
+use Rattle.std.proofs.Common.{◌≡◌, ℕ, zero, suc, ◌+◌, ◌-◌, ◌<◌, ◌≤◌, List, length, Option, Some, None, true, refl, sym, ap, ap₂, subst, ◌∙◌, arith, option_and_then, slice_get}
 use Rattle.std.specs.Prelude.{nat_eq}
 use Rattle.std.proofs.lemmas.Bool.{eqb-true, eq-eqb}
 use Rattle.wasm_tree.specs.declared.types.Limits.{Limits}
 use Rattle.wasm_tree.specs.declared.module.Import.{Import}
 use Rattle.wasm_tree.specs.declared.module.Module.{Module}
 use Rattle.wasm_meaning.specs.State.{Inst, Store}
-use Rattle.wasm_meaning.specs.Linking.{Part, Site, End, Defined, Outside, Kind, then_some, place, import_at, imports_of, kind_of_export, index_of_export, same_site, is_outside, sites, linked_end, limits_of, met_limits}
+use Rattle.wasm_meaning.specs.Linking.{Part, Site, End, Defined, Outside, Kind, import_at, imports_of, kind_of_export, index_of_export, same_site, is_outside, sites, linked_end, limits_of, met_limits}
 use Rattle.wasm_meaning.specs.Environment.{Environment, Thing, owned_of, all_of}
 use Rattle.wasm_meaning.specs.World.{base, defined_count, thing_at, outside_thing, thing_of, imported_thing, own_store, stores_from, is_matched}
 use Rattle.export_names.specs.declared.mode.Mode.{Mode}
@@ -41,10 +41,10 @@ outside_end u (Some (Defined e)) h = cc
 outside_end u (Some (Outside t)) h = ap (λ t. Some (Outside t)) (sym (site_is u t h))
 
 -- the imports of a module alone
-one_site : (m : Module) (t : Site) (x : Import) → import_at (one m) t ≡ Some x → (t ≡ site t.import) × (place m.imports t.import ≡ Some x)
+one_site : (m : Module) (t : Site) (x : Import) → import_at (one m) t ≡ Some x → (t ≡ site t.import) × (slice_get m.imports t.import ≡ Some x)
 one_site m t x h = by t.part refl h
   where
-    by : (p : ℕ) → t.part ≡ p → import_at (one m) (record { part = p; import = t.import }) ≡ Some x → (t ≡ site t.import) × (place m.imports t.import ≡ Some x)
+    by : (p : ℕ) → t.part ≡ p → import_at (one m) (record { part = p; import = t.import }) ≡ Some x → (t ≡ site t.import) × (slice_get m.imports t.import ≡ Some x)
     by zero e h = (ap (λ p. record { part = p; import = t.import }) e, h)
     by (suc p) e h = absurd (let k = h in cc)
 
@@ -64,10 +64,10 @@ module _ (ends_law : LinkedImportsEnd) (stays_law : StayingImportsEndThere) (sit
 
   -- an import that ends outside stands for what the one stands for which stays
   outside_thing_is : (t : Site) (i : Import) (w : EndsOutside parts t i) → imported_thing env parts t ≡ own w.to
-  outside_thing_is t i w = ap (λ o. then_some o (thing_of env parts)) w.end ∙ w.same_thing (owned_of env)
+  outside_thing_is t i w = ap (λ o. option_and_then (thing_of env parts) o) w.end ∙ w.same_thing (owned_of env)
 
   staying_thing_is : (u : Site) (j : Import) → import_at parts u ≡ Some j → stays parts u ≡ true → imported_thing env parts u ≡ own u
-  staying_thing_is u j at remains = ap (λ o. then_some o (thing_of env parts)) (stays_law parts can.linked u j at remains).0
+  staying_thing_is u j at remains = ap (λ o. option_and_then (thing_of env parts) o) (stays_law parts can.linked u j at remains).0
 
   -- ---- from the parts to the merged module ----
 
@@ -92,11 +92,11 @@ module _ (ends_law : LinkedImportsEnd) (stays_law : StayingImportsEndThere) (sit
           let same : w.to ≡ u = cc in
           record { import = i; at = at; demand = w.demand; asks = w.asks; thing = outside_thing_is t i w ∙ ap own same }
 
-  demand_limits : (t : Site) (i : Import) (x : External) (l : Limits) → import_at parts t ≡ Some i → asked_at parts t ≡ Some x → then_some (import_at parts t) (λ i. limits_of i.desc) ≡ Some l → limits_in x ≡ Some l
-  demand_limits t i x l at asks h = let m = import_site parts t i at in sym (asked_limits m.0 i.desc x (asks_by parts t m.0 i x m.1 m.2 asks)) ∙ sym (ap (λ o. then_some o (λ i. limits_of i.desc)) at) ∙ h
+  demand_limits : (t : Site) (i : Import) (x : External) (l : Limits) → import_at parts t ≡ Some i → asked_at parts t ≡ Some x → option_and_then (λ i. limits_of i.desc) (import_at parts t) ≡ Some l → limits_in x ≡ Some l
+  demand_limits t i x l at asks h = let m = import_site parts t i at in sym (asked_limits m.0 i.desc x (asks_by parts t m.0 i x m.1 m.2 asks)) ∙ sym (ap (λ o. option_and_then (λ i. limits_of i.desc) o) at) ∙ h
 
-  limits_demand : (t : Site) (i : Import) (x : External) (l : Limits) → import_at parts t ≡ Some i → asked_at parts t ≡ Some x → limits_in x ≡ Some l → then_some (import_at parts t) (λ i. limits_of i.desc) ≡ Some l
-  limits_demand t i x l at asks h = let m = import_site parts t i at in ap (λ o. then_some o (λ i. limits_of i.desc)) at ∙ asked_limits m.0 i.desc x (asks_by parts t m.0 i x m.1 m.2 asks) ∙ h
+  limits_demand : (t : Site) (i : Import) (x : External) (l : Limits) → import_at parts t ≡ Some i → asked_at parts t ≡ Some x → limits_in x ≡ Some l → option_and_then (λ i. limits_of i.desc) (import_at parts t) ≡ Some l
+  limits_demand t i x l at asks h = let m = import_site parts t i at in ap (λ o. option_and_then (λ i. limits_of i.desc) o) at ∙ asked_limits m.0 i.desc x (asks_by parts t m.0 i x m.1 m.2 asks) ∙ h
 
   module _ {s z : Store} (like : StoresAlike env parts s z) where
     -- what an import fits that is matched
@@ -113,7 +113,7 @@ module _ (ends_law : LinkedImportsEnd) (stays_law : StayingImportsEndThere) (sit
         let a = ends_at u t i.0 i.1 outside in
         fits_limits s a.demand th l size most (fits_at t a.import a.demand th a.at a.asks (a.thing ∙ is) (all_each (is_matched env parts s) (sites parts) all n t stands)) (demand_limits t a.import a.demand l a.at a.asks demand) e))
 
-    merged_matches : all_of (is_matched env parts s) (sites parts) ≡ true → (n : ℕ) (x : Import) → place whole.imports n ≡ Some x → is_matched env (one whole) z (site n) ≡ true
+    merged_matches : all_of (is_matched env parts s) (sites parts) ≡ true → (n : ℕ) (x : Import) → slice_get whole.imports n ≡ Some x → is_matched env (one whole) z (site n) ≡ true
     merged_matches all n x h =
         let w = is_staying parts mode n x h in
         let u = w.site in
@@ -137,7 +137,7 @@ module _ (ends_law : LinkedImportsEnd) (stays_law : StayingImportsEndThere) (sit
 
     -- ---- from the merged module to the parts ----
 
-    outside_matches : all_of (is_matched env (one whole) z) (sites (one whole)) ≡ true → (k : ℕ) (t : Site) (i : Import) → place (sites parts) k ≡ Some t → import_at parts t ≡ Some i → EndsOutside parts t i → is_matched env parts s t ≡ true
+    outside_matches : all_of (is_matched env (one whole) z) (sites (one whole)) ≡ true → (k : ℕ) (t : Site) (i : Import) → slice_get (sites parts) k ≡ Some t → import_at parts t ≡ Some i → EndsOutside parts t i → is_matched env parts s t ≡ true
     outside_matches all k t i stands at w =
         let u = w.to in
         let j = w.import in
@@ -162,7 +162,7 @@ module _ (ends_law : LinkedImportsEnd) (stays_law : StayingImportsEndThere) (sit
           let follows : length (imports_of k w.of) ≤ index_of_export e.what = subst (λ (k : Kind). length (imports_of k w.of) ≤ index_of_export e.what) (sym w.kind) w.follows in
           let within : index_of_export e.what < length (imports_of k w.of) + defined_count k w.of = subst (λ (k : Kind). index_of_export e.what < length (imports_of k w.of) + defined_count k w.of) (sym w.kind) w.within in
           let thing : imported_thing env parts t ≡ Some (thing_at k (base env parts k e.part + (index_of_export e.what - length (imports_of k w.of)))) =
-          ap (λ o. then_some o (thing_of env parts)) w.end
+          ap (λ o. option_and_then (thing_of env parts) o) w.end
           ∙ defined_at env parts e w.of w.is_part (omega (arith, follows, within)) in
           matched_at env parts s t i w.demand at w.asks
           ∙ there_fitting s w.demand (imported_thing env parts t) _ thing (defined_fits env parts insts s made e.part w.of a.0 w.is_part a.1 a.2.own_types e.what w.demand w.thing w.is follows w.same w.meets)
@@ -170,7 +170,7 @@ module _ (ends_law : LinkedImportsEnd) (stays_law : StayingImportsEndThere) (sit
       all_parts_match : all_of (is_matched env (one whole) z) (sites (one whole)) ≡ true → all_of (is_matched env parts s) (sites parts) ≡ true
       all_parts_match all = each_all (is_matched env parts s) (sites parts) (λ k t stands. let i = (sites_law parts t).0 k stands in by k t i.0 stands i.1 (ended t i.0 i.1))
         where
-          by : (k : ℕ) (t : Site) (i : Import) → place (sites parts) k ≡ Some t → import_at parts t ≡ Some i → Ended parts t i → is_matched env parts s t ≡ true
+          by : (k : ℕ) (t : Site) (i : Import) → slice_get (sites parts) k ≡ Some t → import_at parts t ≡ Some i → Ended parts t i → is_matched env parts s t ≡ true
           by k t i stands at (inside w) = inside_matches t i at w
           by k t i stands at (outside w) = outside_matches all k t i stands at w
 

@@ -1,5 +1,5 @@
 -- An entity that a part defines fits what is asked for, where its type and its limits do: what is allocated for it has its type, its least size and its maximum.
-use Rattle.std.proofs.Common.{◌≡◌, ℕ, zero, suc, ◌+◌, ◌-◌, ◌≤◌, List, [], ◌∷◌, ◌++◌, map, length, Option, Some, None, true, false, cond, refl, sym, ap, ap₂, ◌∙◌, arith}
+use Rattle.std.proofs.Common.{◌≡◌, ℕ, zero, suc, ◌+◌, ◌-◌, ◌≤◌, List, [], ◌∷◌, ◌++◌, map, length, Option, Some, None, true, false, cond, refl, sym, ap, ap₂, ◌∙◌, arith, ◌&&◌}
 use Rattle.std.specs.Prelude.{slice_get, option_and_then}
 use Rattle.wasm_tree.specs.declared.types.FuncType.{FuncType}
 use Rattle.wasm_tree.specs.declared.types.Limits.{Limits}
@@ -16,7 +16,7 @@ use Rattle.wasm_meaning.specs.State.{Inst, Code, Global, Store}
 use Rattle.wasm_meaning.specs.Values.{same_ref, same_type, same_func_type, null_of, declared}
 use Rattle.wasm_meaning.specs.Control as control
 use Rattle.wasm_meaning.specs.Control.{type_at}
-use Rattle.wasm_meaning.specs.Linking.{Part, Kind, Functions, Tables, Memories, Globals, place, then_some, has_kind, same_kind, kind_of_import, kind_of_export, index_of_export, imports_of, module_at}
+use Rattle.wasm_meaning.specs.Linking.{Part, Kind, Functions, Tables, Memories, Globals, has_kind, same_kind, kind_of_import, kind_of_export, index_of_export, imports_of, module_at}
 use Rattle.wasm_meaning.specs.Environment.{Environment, FuncAt, TableAt, MemoryAt, GlobalAt}
 use Rattle.wasm_meaning.specs.World.{given, same_bool, meets, base, thing_at, new_func, new_global, value_of, own_store, stores_from}
 use Rattle.permuted_worlds.proofs.Places.{place_map}
@@ -72,41 +72,41 @@ own_global m i t = after (imported_globals m.imports) (map (λ g. g.ty) m.global
 
 -- ---- what fits ----
 
-at_is : {A : Type 0} (xs : List A) (n : ℕ) (x : A) → place xs n ≡ Some x → at xs n ≡ Gives x
+at_is : {A : Type 0} (xs : List A) (n : ℕ) (x : A) → slice_get xs n ≡ Some x → at xs n ≡ Gives x
 at_is [] n x h = cc
 at_is (y ∷ xs) zero x h = let same : y ≡ x = cc in ap Gives same
 at_is (y ∷ xs) (suc n) x h = at_is xs n x h
 
 func_fits : (s : Store) (a : ℕ) (d : External) (t : FuncType) → type_at s a ≡ Gives t → same_but_limits d (FuncOf t) ≡ true → fits s d (FuncAt a) ≡ Some true
-func_fits s a (FuncOf u) t e h = ap (λ o. then_some (given o) (λ v. Some (same_func_type u v))) e ∙ ap Some h
+func_fits s a (FuncOf u) t e h = ap (λ o. option_and_then (λ v. Some (same_func_type u v)) (given o)) e ∙ ap Some h
 func_fits s a (TableOf u) t e h = absurd (let k = h in cc)
 func_fits s a (MemoryOf u) t e h = absurd (let k = h in cc)
 func_fits s a (GlobalOf u) t e h = absurd (let k = h in cc)
 
-table_fits : (s : Store) (a : ℕ) (d : External) (t : TableType) → place s.tables a ≡ Some (new_table t) → same_but_limits d (TableOf t) ≡ true → meets_limits d (TableOf t) ≡ true → fits s d (TableAt a) ≡ Some true
+table_fits : (s : Store) (a : ℕ) (d : External) (t : TableType) → slice_get s.tables a ≡ Some (new_table t) → same_but_limits d (TableOf t) ≡ true → meets_limits d (TableOf t) ≡ true → fits s d (TableAt a) ≡ Some true
 table_fits s a (TableOf u) t e h k =
     let size : length (new_table t).slots ≡ t.limits.min = copies_length t.limits.min (null_of t.ty) in
-    ap (λ o. then_some o (λ v. Some (cond (same_ref u.ty v.ty) (meets (length v.slots) v.most u.limits) false))) e
+    ap (λ o. option_and_then (λ v. Some (same_ref u.ty v.ty && meets (length v.slots) v.most u.limits)) o) e
     ∙ ap Some (true_both (same_ref u.ty t.ty) (meets (length (new_table t).slots) t.limits.max u.limits) h (ap (λ n. meets n t.limits.max u.limits) size ∙ k))
 table_fits s a (FuncOf u) t e h k = absurd (let z = h in cc)
 table_fits s a (MemoryOf u) t e h k = absurd (let z = h in cc)
 table_fits s a (GlobalOf u) t e h k = absurd (let z = h in cc)
 
-memory_fits : (s : Store) (a : ℕ) (d : External) (l : Limits) → place s.mems a ≡ Some (new_memory l) → same_but_limits d (MemoryOf l) ≡ true → meets_limits d (MemoryOf l) ≡ true → fits s d (MemoryAt a) ≡ Some true
-memory_fits s a (MemoryOf u) l e h k = ap (λ o. then_some o (λ v. Some (meets v.pages v.most u))) e ∙ ap Some k
+memory_fits : (s : Store) (a : ℕ) (d : External) (l : Limits) → slice_get s.mems a ≡ Some (new_memory l) → same_but_limits d (MemoryOf l) ≡ true → meets_limits d (MemoryOf l) ≡ true → fits s d (MemoryAt a) ≡ Some true
+memory_fits s a (MemoryOf u) l e h k = ap (λ o. option_and_then (λ v. Some (meets v.pages v.most u)) o) e ∙ ap Some k
 memory_fits s a (FuncOf u) l e h k = absurd (let z = h in cc)
 memory_fits s a (TableOf u) l e h k = absurd (let z = h in cc)
 memory_fits s a (GlobalOf u) l e h k = absurd (let z = h in cc)
 
-global_fits : (s : Store) (a : ℕ) (d : External) (g : Global) (t : GlobalType) → place s.globals a ≡ Some g → g.ty ≡ t → same_but_limits d (GlobalOf t) ≡ true → fits s d (GlobalAt a) ≡ Some true
-global_fits s a (GlobalOf u) g t e f h = ap (λ o. then_some o (λ v. Some (cond (same_type u.ty v.ty.ty) (same_bool u.mutable v.ty.mutable) false))) e ∙ ap (λ ty. Some (cond (same_type u.ty ty.ty) (same_bool u.mutable ty.mutable) false)) f ∙ ap Some h
+global_fits : (s : Store) (a : ℕ) (d : External) (g : Global) (t : GlobalType) → slice_get s.globals a ≡ Some g → g.ty ≡ t → same_but_limits d (GlobalOf t) ≡ true → fits s d (GlobalAt a) ≡ Some true
+global_fits s a (GlobalOf u) g t e f h = ap (λ o. option_and_then (λ v. Some (same_type u.ty v.ty.ty && same_bool u.mutable v.ty.mutable)) o) e ∙ ap (λ ty. Some (same_type u.ty ty.ty && same_bool u.mutable ty.mutable)) f ∙ ap Some h
 global_fits s a (FuncOf u) g t e f h = absurd (let z = h in cc)
 global_fits s a (TableOf u) g t e f h = absurd (let z = h in cc)
 global_fits s a (MemoryOf u) g t e f h = absurd (let z = h in cc)
 
 -- ---- what a part defines ----
 
-module _ (env : Environment) (parts : List Part) (insts : List Inst) (s : Store) (made : stores_from env parts insts (own_store env) 0 parts insts ≡ Some s) (q : ℕ) (m : Module) (i : Inst) (is : module_at parts q ≡ Some m) (there : place insts q ≡ Some i) (types : i.types ≡ m.types) where
+module _ (env : Environment) (parts : List Part) (insts : List Inst) (s : Store) (made : stores_from env parts insts (own_store env) 0 parts insts ≡ Some s) (q : ℕ) (m : Module) (i : Inst) (is : module_at parts q ≡ Some m) (there : slice_get insts q ≡ Some i) (types : i.types ≡ m.types) where
   abbrev address : Kind → ℕ → ℕ
   address k n = base env parts k q + (n - length (imports_of k m))
 
@@ -121,8 +121,8 @@ module _ (env : Environment) (parts : List Part) (insts : List Inst) (s : Store)
           let f = map_back (λ f. f.ty) m.funcs k ty (own_func m n ty le e) in
           let r = funcs_stand env parts insts s made q m i is there in
           let x = all_places (new_func i) m.funcs r.added.funcs (adds env parts insts q m i r.added r.made).funcs k f.0 (place_get m.funcs k ∙ f.1) in
-          let type_is : place i.types f.0.ty ≡ Some t = ap₂ place types f.2 ∙ place_get m.types ty ∙ g in
-          let code : Some (Code t i (declared f.0.locals) f.0.body) ≡ Some x.0 = sym (ap (λ o. then_some o (λ t. Some (Code t i (declared f.0.locals) f.0.body))) type_is) ∙ x.2 in
+          let type_is : slice_get i.types f.0.ty ≡ Some t = ap₂ slice_get types f.2 ∙ place_get m.types ty ∙ g in
+          let code : Some (Code t i (declared f.0.locals) f.0.body) ≡ Some x.0 = sym (ap (λ o. option_and_then (λ t. Some (Code t i (declared f.0.locals) f.0.body)) o) type_is) ∙ x.2 in
           let same : Code t i (declared f.0.locals) f.0.body ≡ x.0 = cc in
           ap (λ o. bind o (λ f. Gives (control.type_of_func f))) (at_is s.funcs (address Functions n) x.0 (r.at k x.0 x.1)) ∙ ap (λ f. Gives (control.type_of_func f)) (sym same)
 
@@ -130,19 +130,19 @@ module _ (env : Environment) (parts : List Part) (insts : List Inst) (s : Store)
       by None e h = absurd (let z = h in cc)
       by (Some ty) e h = stood ty e h
 
-  table_there : (n : ℕ) (t : TableType) → length (imports_of Tables m) ≤ n → slice_get (tables_of m) n ≡ Some t → place s.tables (address Tables n) ≡ Some (new_table t)
+  table_there : (n : ℕ) (t : TableType) → length (imports_of Tables m) ≤ n → slice_get (tables_of m) n ≡ Some t → slice_get s.tables (address Tables n) ≡ Some (new_table t)
   table_there n t le h =
       let k = n - length (imports_of Tables m) in
       let r = tables_stand env parts insts s made q m i is there in
-      r.at k (new_table t) (ap (λ ts. place ts k) (adds env parts insts q m i r.added r.made).tables ∙ place_map new_table m.tables k ∙ ap (λ o. then_some o (λ t. Some (new_table t))) (place_get m.tables k ∙ own_table m n t le h))
+      r.at k (new_table t) (ap (λ ts. slice_get ts k) (adds env parts insts q m i r.added r.made).tables ∙ place_map new_table m.tables k ∙ ap (λ o. option_and_then (λ t. Some (new_table t)) o) (place_get m.tables k ∙ own_table m n t le h))
 
-  memory_there : (n : ℕ) (l : Limits) → length (imports_of Memories m) ≤ n → slice_get (memories_of m) n ≡ Some l → place s.mems (address Memories n) ≡ Some (new_memory l)
+  memory_there : (n : ℕ) (l : Limits) → length (imports_of Memories m) ≤ n → slice_get (memories_of m) n ≡ Some l → slice_get s.mems (address Memories n) ≡ Some (new_memory l)
   memory_there n l le h =
       let k = n - length (imports_of Memories m) in
       let r = mems_stand env parts insts s made q m i is there in
-      r.at k (new_memory l) (ap (λ ms. place ms k) (adds env parts insts q m i r.added r.made).mems ∙ place_map new_memory m.mems k ∙ ap (λ o. then_some o (λ l. Some (new_memory l))) (place_get m.mems k ∙ own_memory m n l le h))
+      r.at k (new_memory l) (ap (λ ms. slice_get ms k) (adds env parts insts q m i r.added r.made).mems ∙ place_map new_memory m.mems k ∙ ap (λ o. option_and_then (λ l. Some (new_memory l)) o) (place_get m.mems k ∙ own_memory m n l le h))
 
-  global_there : (n : ℕ) (t : GlobalType) → length (imports_of Globals m) ≤ n → slice_get (globals_of m) n ≡ Some t → (g : Global) × (place s.globals (address Globals n) ≡ Some g) × (g.ty ≡ t)
+  global_there : (n : ℕ) (t : GlobalType) → length (imports_of Globals m) ≤ n → slice_get (globals_of m) n ≡ Some t → (g : Global) × (slice_get s.globals (address Globals n) ≡ Some g) × (g.ty ≡ t)
   global_there n t le h =
       let k = n - length (imports_of Globals m) in
       let g = map_back (λ g. g.ty) m.globals k t (own_global m n t le h) in

@@ -1,5 +1,5 @@
 -- Whether an entity of the store is what an import asks for, by the external type that is asked for.
-use Rattle.std.proofs.Common.{◌≡◌, ℕ, length, Option, Some, None, Bool, true, false, cond, refl, sym, ap, ap₂, ◌∙◌}
+use Rattle.std.proofs.Common.{◌≡◌, ℕ, length, Option, Some, None, Bool, true, false, cond, refl, sym, ap, ap₂, ◌∙◌, option_and_then, slice_get, unwrap_or, ◌&&◌}
 use Rattle.wasm_tree.specs.declared.types.FuncType.{FuncType}
 use Rattle.wasm_tree.specs.declared.types.Limits.{Limits}
 use Rattle.wasm_tree.specs.declared.types.TableType.{TableType}
@@ -9,35 +9,35 @@ use Rattle.wasm_tree.specs.declared.module.Module.{Module}
 use Rattle.wasm_meaning.specs.State.{Table, Memory, Store}
 use Rattle.wasm_meaning.specs.Values.{same_ref, same_type, same_func_type}
 use Rattle.wasm_meaning.specs.Control.{type_at}
-use Rattle.wasm_meaning.specs.Linking.{place, then_some, limits_of}
+use Rattle.wasm_meaning.specs.Linking.{limits_of}
 use Rattle.wasm_meaning.specs.Environment.{Thing, FuncAt, TableAt, MemoryAt, GlobalAt}
-use Rattle.wasm_meaning.specs.World.{given, same_bool, meets, is_match, or_false}
+use Rattle.wasm_meaning.specs.World.{given, same_bool, meets, is_match}
 use Rattle.merge_terms.specs.Faults.{External, FuncOf, TableOf, MemoryOf, GlobalOf, asked}
 use Rattle.merge_validity.proofs.Lists.{then_is, or_false_is}
 use Rattle.merge_worlds.proofs.MatchLists.{both_true, true_both}
 use Rattle.merge_worlds.proofs.MatchTypes.{AlikeButLimits, two_funcs, two_tables, two_memories, two_globals}
 
 abbrev pub fits : Store → External → Thing → Option Bool
-fits s (FuncOf t) (FuncAt a) = then_some (given (type_at s a)) (λ u. Some (same_func_type t u))
-fits s (TableOf t) (TableAt a) = then_some (place s.tables a) (λ u. Some (cond (same_ref t.ty u.ty) (meets (length u.slots) u.most t.limits) false))
-fits s (MemoryOf l) (MemoryAt a) = then_some (place s.mems a) (λ u. Some (meets u.pages u.most l))
-fits s (GlobalOf t) (GlobalAt a) = then_some (place s.globals a) (λ u. Some (cond (same_type t.ty u.ty.ty) (same_bool t.mutable u.ty.mutable) false))
+fits s (FuncOf t) (FuncAt a) = option_and_then (λ u. Some (same_func_type t u)) (given (type_at s a))
+fits s (TableOf t) (TableAt a) = option_and_then (λ u. Some (same_ref t.ty u.ty && meets (length u.slots) u.most t.limits)) (slice_get s.tables a)
+fits s (MemoryOf l) (MemoryAt a) = option_and_then (λ u. Some (meets u.pages u.most l)) (slice_get s.mems a)
+fits s (GlobalOf t) (GlobalAt a) = option_and_then (λ u. Some (same_type t.ty u.ty.ty && same_bool t.mutable u.ty.mutable)) (slice_get s.globals a)
 fits s _ _ = None
 
 -- what an import stands for fits, where it stands for something
 abbrev pub fitting : Store → External → Option Thing → Bool
-fitting s x o = or_false (then_some o (fits s x))
+fitting s x o = unwrap_or (option_and_then (fits s x) o) false
 
 pub fitting_there : (s : Store) (x : External) (o : Option Thing) → fitting s x o ≡ true → (th : Thing) × (o ≡ Some th) × (fits s x th ≡ Some true)
-fitting_there s x o h = then_is o (fits s x) true (or_false_is (then_some o (fits s x)) h)
+fitting_there s x o h = then_is o (fits s x) true (or_false_is (option_and_then (fits s x) o) h)
 
 pub there_fitting : (s : Store) (x : External) (o : Option Thing) (th : Thing) → o ≡ Some th → fits s x th ≡ Some true → fitting s x o ≡ true
-there_fitting s x o th e h = ap (λ o. or_false (then_some o (fits s x))) e ∙ ap or_false h
+there_fitting s x o th e h = ap (λ o. unwrap_or (option_and_then (fits s x) o) false) e ∙ ap unwrap_or h false
 
 -- ---- what an import asks for ----
 
-match_func : (s : Store) (m : Module) (ty : ℕ) (t : FuncType) → place m.types ty ≡ Some t → (th : Thing) → is_match s m (im.Func ty) th ≡ fits s (FuncOf t) th
-match_func s m ty t e (FuncAt a) = ap (λ o. then_some o (λ t. then_some (given (type_at s a)) (λ u. Some (same_func_type t u)))) e
+match_func : (s : Store) (m : Module) (ty : ℕ) (t : FuncType) → slice_get m.types ty ≡ Some t → (th : Thing) → is_match s m (im.Func ty) th ≡ fits s (FuncOf t) th
+match_func s m ty t e (FuncAt a) = ap (λ o. option_and_then (λ t. option_and_then (λ u. Some (same_func_type t u)) (given (type_at s a))) o) e
 match_func s m ty t e (TableAt a) = refl
 match_func s m ty t e (MemoryAt a) = refl
 match_func s m ty t e (GlobalAt a) = refl
@@ -62,7 +62,7 @@ match_global s m t (GlobalAt a) = refl
 
 pub match_fits : (s : Store) (m : Module) (d : ImportDesc) (x : External) (th : Thing) → asked m d ≡ Some x → is_match s m d th ≡ fits s x th
 match_fits s m (im.Func ty) x th h =
-    let t = then_is (place m.types ty) (λ t. Some (FuncOf t)) x h in
+    let t = then_is (slice_get m.types ty) (λ t. Some (FuncOf t)) x h in
     let e = t.2 in
     let same : FuncOf t.0 ≡ x = cc in
     match_func s m ty t.0 t.1 th ∙ ap (λ x. fits s x th) same
@@ -80,7 +80,7 @@ limits_in (GlobalOf t) = None
 
 pub asked_limits : (m : Module) (d : ImportDesc) (x : External) → asked m d ≡ Some x → limits_of d ≡ limits_in x
 asked_limits m (im.Func ty) x h =
-    let t = then_is (place m.types ty) (λ t. Some (FuncOf t)) x h in
+    let t = then_is (slice_get m.types ty) (λ t. Some (FuncOf t)) x h in
     let e = t.2 in
     let same : FuncOf t.0 ≡ x = cc in
     ap limits_in same
@@ -97,26 +97,26 @@ kept (GlobalOf t) l = GlobalOf t
 
 -- the actual size of a table or a memory, and its maximum
 abbrev pub sized : Store → Thing → Option (ℕ × Option ℕ)
-sized s (TableAt a) = then_some (place s.tables a) (λ u. Some (length u.slots, u.most))
-sized s (MemoryAt a) = then_some (place s.mems a) (λ u. Some (u.pages, u.most))
+sized s (TableAt a) = option_and_then (λ u. Some (length u.slots, u.most)) (slice_get s.tables a)
+sized s (MemoryAt a) = option_and_then (λ u. Some (u.pages, u.most)) (slice_get s.mems a)
 sized s _ = None
 
 -- what fits has a size that meets the limits
 pub fits_limits : (s : Store) (x : External) (th : Thing) (l : Limits) (size : ℕ) (most : Option ℕ) → fits s x th ≡ Some true → limits_in x ≡ Some l → sized s th ≡ Some (size, most) → meets size most l ≡ true
-fits_limits s (TableOf t) (TableAt a) l size most h e f = by (place s.tables a) h f
+fits_limits s (TableOf t) (TableAt a) l size most h e f = by (slice_get s.tables a) h f
   where
-    by : (o : Option Table) → then_some o (λ u. Some (cond (same_ref t.ty u.ty) (meets (length u.slots) u.most t.limits) false)) ≡ Some true → then_some {A = Table} {B = ℕ × Option ℕ} o (λ u. Some (length u.slots, u.most)) ≡ Some (size, most) → meets size most l ≡ true
+    by : (o : Option Table) → option_and_then (λ u. Some (same_ref t.ty u.ty && meets (length u.slots) u.most t.limits)) o ≡ Some true → option_and_then {B = ℕ × Option ℕ} {A = Table} o (λ u. Some (length u.slots, u.most)) ≡ Some (size, most) → meets size most l ≡ true
     by None h f = absurd (let k = h in cc)
     by (Some u) h f =
-        let yes : cond (same_ref t.ty u.ty) (meets (length u.slots) u.most t.limits) false ≡ true = cc in
+        let yes : (same_ref t.ty u.ty && meets (length u.slots) u.most t.limits) ≡ true = cc in
         let same : t.limits ≡ l = cc in
         let pair : (length u.slots, u.most) ≡ (size, most) = cc in
         let n : length u.slots ≡ size = ap (λ (p : ℕ × Option ℕ). p.0) pair in
         let k : u.most ≡ most = ap (λ (p : ℕ × Option ℕ). p.1) pair in
         ap₂ (λ n k. meets n k l) (sym n) (sym k) ∙ ap (meets (length u.slots) u.most) (sym same) ∙ (both_true (same_ref t.ty u.ty) (meets (length u.slots) u.most t.limits) yes).1
-fits_limits s (MemoryOf k) (MemoryAt a) l size most h e f = by (place s.mems a) h f
+fits_limits s (MemoryOf k) (MemoryAt a) l size most h e f = by (slice_get s.mems a) h f
   where
-    by : (o : Option Memory) → then_some o (λ u. Some (meets u.pages u.most k)) ≡ Some true → then_some {A = Memory} {B = ℕ × Option ℕ} o (λ u. Some (u.pages, u.most)) ≡ Some (size, most) → meets size most l ≡ true
+    by : (o : Option Memory) → option_and_then (λ u. Some (meets u.pages u.most k)) o ≡ Some true → option_and_then {B = ℕ × Option ℕ} {A = Memory} o (λ u. Some (u.pages, u.most)) ≡ Some (size, most) → meets size most l ≡ true
     by None h f = absurd (let k = h in cc)
     by (Some u) h f =
         let yes : meets u.pages u.most k ≡ true = cc in
@@ -138,18 +138,18 @@ fits_limits s (MemoryOf t) (GlobalAt a) l size most h e f = absurd (let k = h in
 pub kept_fits : (s : Store) (y : External) (th : Thing) (l : Limits) → fits s y th ≡ Some true → ((size : ℕ) (most : Option ℕ) → sized s th ≡ Some (size, most) → meets size most l ≡ true) → fits s (kept y l) th ≡ Some true
 kept_fits s (FuncOf t) th l h met = h
 kept_fits s (GlobalOf t) th l h met = h
-kept_fits s (TableOf t) (TableAt a) l h met = by (place s.tables a) h met
+kept_fits s (TableOf t) (TableAt a) l h met = by (slice_get s.tables a) h met
   where
-    by : (o : Option Table) → then_some o (λ u. Some (cond (same_ref t.ty u.ty) (meets (length u.slots) u.most t.limits) false)) ≡ Some true →
-        ((size : ℕ) (most : Option ℕ) → then_some {A = Table} {B = ℕ × Option ℕ} o (λ u. Some (length u.slots, u.most)) ≡ Some (size, most) → meets size most l ≡ true) → then_some o (λ u. Some (cond (same_ref t.ty u.ty) (meets (length u.slots) u.most l) false)) ≡ Some true
+    by : (o : Option Table) → option_and_then (λ u. Some (same_ref t.ty u.ty && meets (length u.slots) u.most t.limits)) o ≡ Some true →
+        ((size : ℕ) (most : Option ℕ) → option_and_then {B = ℕ × Option ℕ} {A = Table} o (λ u. Some (length u.slots, u.most)) ≡ Some (size, most) → meets size most l ≡ true) → option_and_then (λ u. Some (same_ref t.ty u.ty && meets (length u.slots) u.most l)) o ≡ Some true
     by None h met = absurd (let k = h in cc)
     by (Some u) h met =
-        let yes : cond (same_ref t.ty u.ty) (meets (length u.slots) u.most t.limits) false ≡ true = cc in
+        let yes : (same_ref t.ty u.ty && meets (length u.slots) u.most t.limits) ≡ true = cc in
         ap Some (true_both (same_ref t.ty u.ty) (meets (length u.slots) u.most l) (both_true (same_ref t.ty u.ty) (meets (length u.slots) u.most t.limits) yes).0 (met (length u.slots) u.most refl))
-kept_fits s (MemoryOf k) (MemoryAt a) l h met = by (place s.mems a) h met
+kept_fits s (MemoryOf k) (MemoryAt a) l h met = by (slice_get s.mems a) h met
   where
-    by : (o : Option Memory) → then_some o (λ u. Some (meets u.pages u.most k)) ≡ Some true → ((size : ℕ) (most : Option ℕ) → then_some {A = Memory} {B = ℕ × Option ℕ} o (λ u. Some (u.pages, u.most)) ≡ Some (size, most) → meets size most l ≡ true) →
-        then_some o (λ u. Some (meets u.pages u.most l)) ≡ Some true
+    by : (o : Option Memory) → option_and_then (λ u. Some (meets u.pages u.most k)) o ≡ Some true → ((size : ℕ) (most : Option ℕ) → option_and_then {B = ℕ × Option ℕ} {A = Memory} o (λ u. Some (u.pages, u.most)) ≡ Some (size, most) → meets size most l ≡ true) →
+        option_and_then (λ u. Some (meets u.pages u.most l)) o ≡ Some true
     by None h met = absurd (let k = h in cc)
     by (Some u) h met = ap Some (met u.pages u.most refl)
 kept_fits s (TableOf t) (FuncAt a) l h met = absurd (let k = h in cc)
@@ -166,26 +166,26 @@ fits_kept two_funcs s th l h implied = h
 fits_kept two_globals s th l h implied = h
 fits_kept (two_tables {t = t} {u = u} e) s th l h implied = at_thing th h
   where
-    by : (o : Option Table) → then_some o (λ v. Some (cond (same_ref u.ty v.ty) (meets (length v.slots) v.most l) false)) ≡ Some true → then_some o (λ v. Some (cond (same_ref t.ty v.ty) (meets (length v.slots) v.most t.limits) false)) ≡ Some true
+    by : (o : Option Table) → option_and_then (λ v. Some (same_ref u.ty v.ty && meets (length v.slots) v.most l)) o ≡ Some true → option_and_then (λ v. Some (same_ref t.ty v.ty && meets (length v.slots) v.most t.limits)) o ≡ Some true
     by None h = absurd (let k = h in cc)
     by (Some v) h =
-        let yes : cond (same_ref u.ty v.ty) (meets (length v.slots) v.most l) false ≡ true = cc in
+        let yes : (same_ref u.ty v.ty && meets (length v.slots) v.most l) ≡ true = cc in
         let b = both_true (same_ref u.ty v.ty) (meets (length v.slots) v.most l) yes in
         ap Some (true_both (same_ref t.ty v.ty) (meets (length v.slots) v.most t.limits) (ap (λ r. same_ref r v.ty) e ∙ b.0) (implied t.limits refl (length v.slots) v.most b.1))
 
     at_thing : (th : Thing) → fits s (TableOf (record u { limits = l })) th ≡ Some true → fits s (TableOf t) th ≡ Some true
-    at_thing (TableAt a) h = by (place s.tables a) h
+    at_thing (TableAt a) h = by (slice_get s.tables a) h
     at_thing (FuncAt a) h = absurd (let k = h in cc)
     at_thing (MemoryAt a) h = absurd (let k = h in cc)
     at_thing (GlobalAt a) h = absurd (let k = h in cc)
 fits_kept (two_memories {l = k}) s th l h implied = at_thing th h
   where
-    by : (o : Option Memory) → then_some o (λ v. Some (meets v.pages v.most l)) ≡ Some true → then_some o (λ v. Some (meets v.pages v.most k)) ≡ Some true
+    by : (o : Option Memory) → option_and_then (λ v. Some (meets v.pages v.most l)) o ≡ Some true → option_and_then (λ v. Some (meets v.pages v.most k)) o ≡ Some true
     by None h = absurd (let k = h in cc)
     by (Some v) h = let yes : meets v.pages v.most l ≡ true = cc in ap Some (implied k refl v.pages v.most yes)
 
     at_thing : (th : Thing) → fits s (MemoryOf l) th ≡ Some true → fits s (MemoryOf k) th ≡ Some true
-    at_thing (MemoryAt a) h = by (place s.mems a) h
+    at_thing (MemoryAt a) h = by (slice_get s.mems a) h
     at_thing (FuncAt a) h = absurd (let k = h in cc)
     at_thing (TableAt a) h = absurd (let k = h in cc)
     at_thing (GlobalAt a) h = absurd (let k = h in cc)

@@ -1,9 +1,9 @@
 -- A size and a maximum meet the limits that several imports ask for together exactly where they meet those of each.
-use Rattle.std.proofs.Common.{◌≡◌, ℕ, zero, suc, List, [], ◌∷◌, Option, Some, None, Bool, true, false, cond, refl, sym, ap, ap₂, subst, ◌∙◌, arith}
+use Rattle.std.proofs.Common.{◌≡◌, ℕ, zero, suc, List, [], ◌∷◌, Option, Some, None, Bool, true, false, cond, refl, sym, ap, ap₂, subst, ◌∙◌, arith, option_and_then, slice_get, ◌&&◌}
 use Rattle.std.specs.Prelude.{nat_le, max, min}
 use Rattle.std.proofs.lemmas.Bool.{leb-true, le-leb}
 use Rattle.wasm_tree.specs.declared.types.Limits.{Limits}
-use Rattle.wasm_meaning.specs.Linking.{Part, Site, place, then_some, import_at, is_outside, linked_end, limits_of, consed, demands, least, met}
+use Rattle.wasm_meaning.specs.Linking.{Part, Site, import_at, is_outside, linked_end, limits_of, consed, demands, least, met}
 use Rattle.wasm_meaning.specs.World.{meets, meets_most}
 use Rattle.merge_worlds.proofs.MatchLists.{bool_same, both_true, true_both}
 
@@ -12,44 +12,44 @@ use Rattle.merge_worlds.proofs.MatchLists.{bool_same, both_true, true_both}
 abbrev both_limits : Limits → Limits → Limits
 both_limits l k = record { min = max l.min k.min; max = least l.max k.max }
 
-least_both : (n a b : ℕ) → nat_le (max a b) n ≡ cond (nat_le a n) (nat_le b n) false
+least_both : (n a b : ℕ) → nat_le (max a b) n ≡ nat_le a n && nat_le b n
 least_both n a b =
-    bool_same (nat_le (max a b) n) (cond (nat_le a n) (nat_le b n) false)
+    bool_same (nat_le (max a b) n) (nat_le a n && nat_le b n)
     (λ h. let l = leb-true (max a b) n h in true_both (nat_le a n) (nat_le b n) (le-leb a n (omega (arith, l))) (le-leb b n (omega (arith, l))))
     (λ h. let p = both_true (nat_le a n) (nat_le b n) h in let l = leb-true a n p.0 in let k = leb-true b n p.1 in le-leb (max a b) n (omega (arith, l, k)))
 
-most_both : (n a b : ℕ) → nat_le n (min a b) ≡ cond (nat_le n a) (nat_le n b) false
+most_both : (n a b : ℕ) → nat_le n (min a b) ≡ nat_le n a && nat_le n b
 most_both n a b =
-    bool_same (nat_le n (min a b)) (cond (nat_le n a) (nat_le n b) false)
+    bool_same (nat_le n (min a b)) (nat_le n a && nat_le n b)
     (λ h. let l = leb-true n (min a b) h in true_both (nat_le n a) (nat_le n b) (le-leb n a (omega (arith, l))) (le-leb n b (omega (arith, l))))
     (λ h. let p = both_true (nat_le n a) (nat_le n b) h in let l = leb-true n a p.0 in let k = leb-true n b p.1 in le-leb n (min a b) (omega (arith, l, k)))
 
-only_true : (b : Bool) → b ≡ cond b true false
+only_true : (b : Bool) → b ≡ b && true
 only_true true = refl
 only_true false = refl
 
-meets_both_most : (most a b : Option ℕ) → meets_most most (least a b) ≡ cond (meets_most most a) (meets_most most b) false
+meets_both_most : (most a b : Option ℕ) → meets_most most (least a b) ≡ meets_most most a && meets_most most b
 meets_both_most most None b = refl
 meets_both_most None (Some a) None = refl
 meets_both_most (Some n) (Some a) None = only_true (nat_le n a)
 meets_both_most None (Some a) (Some b) = refl
 meets_both_most (Some n) (Some a) (Some b) = most_both n a b
 
-four : (a b c d : Bool) → cond (cond a b false) (cond c d false) false ≡ cond (cond a c false) (cond b d false) false
+four : (a b c d : Bool) → (a && b) && (c && d) ≡ (a && c) && (b && d)
 four true true c d = refl
 four true false true d = refl
 four true false false d = refl
 four false b c d = refl
 
 -- both are met where each is met
-meets_both : (size : ℕ) (most : Option ℕ) (l k : Limits) → meets size most (both_limits l k) ≡ cond (meets size most l) (meets size most k) false
-meets_both size most l k = ap₂ (λ a b. cond a b false) (least_both size l.min k.min) (meets_both_most most l.max k.max) ∙ four (nat_le l.min size) (nat_le k.min size) (meets_most most l.max) (meets_most most k.max)
+meets_both : (size : ℕ) (most : Option ℕ) (l k : Limits) → meets size most (both_limits l k) ≡ meets size most l && meets size most k
+meets_both size most l k = ap₂ (λ a b. a && b) (least_both size l.min k.min) (meets_both_most most l.max k.max) ∙ four (nat_le l.min size) (nat_le k.min size) (meets_most most l.max) (meets_most most k.max)
 
 -- ---- all that is asked for ----
 
 module _ (size : ℕ) (most : Option ℕ) where
   abbrev asked_limits : List Part → Site → Option Limits
-  asked_limits parts t = then_some (import_at parts t) (λ i. limits_of i.desc)
+  asked_limits parts t = option_and_then (λ i. limits_of i.desc) (import_at parts t)
 
   none_met : meets size most (met []) ≡ true
   none_met = true_both (nat_le 0 size) true (le-leb 0 size (omega arith)) refl
@@ -65,7 +65,7 @@ module _ (size : ℕ) (most : Option ℕ) where
       (λ l e. let same : k ≡ l = cc in subst (λ l. meets size most l ≡ true) same b.0, b.1)
 
   -- where each demand on a staying import is met, they are together
-  pub each_met : (parts : List Part) (s : Site) (ts : List Site) → ((n : ℕ) (t : Site) (l : Limits) → place ts n ≡ Some t → is_outside s (linked_end parts t) ≡ true → then_some (import_at parts t) (λ i. limits_of i.desc) ≡ Some l → meets size most l ≡ true) →
+  pub each_met : (parts : List Part) (s : Site) (ts : List Site) → ((n : ℕ) (t : Site) (l : Limits) → slice_get ts n ≡ Some t → is_outside s (linked_end parts t) ≡ true → option_and_then (λ i. limits_of i.desc) (import_at parts t) ≡ Some l → meets size most l ≡ true) →
       meets size most (met (demands parts s ts)) ≡ true
   each_met parts s [] each = none_met
   each_met parts s (t ∷ ts) each = by (is_outside s (linked_end parts t)) refl (each_met parts s ts (λ n. each (suc n)))
@@ -77,12 +77,12 @@ module _ (size : ℕ) (most : Option ℕ) where
 
   -- and where they are together, each is
   pub met_each : (parts : List Part) (s : Site) (ts : List Site) → meets size most (met (demands parts s ts)) ≡ true →
-      (n : ℕ) (t : Site) (l : Limits) → place ts n ≡ Some t → is_outside s (linked_end parts t) ≡ true → then_some (import_at parts t) (λ i. limits_of i.desc) ≡ Some l → meets size most l ≡ true
+      (n : ℕ) (t : Site) (l : Limits) → slice_get ts n ≡ Some t → is_outside s (linked_end parts t) ≡ true → option_and_then (λ i. limits_of i.desc) (import_at parts t) ≡ Some l → meets size most l ≡ true
   met_each parts s [] h n t l at e is = absurd (let k = at in cc)
   met_each parts s (u ∷ ts) h n t l at e is = by (is_outside s (linked_end parts u)) refl h n at (λ h n at. met_each parts s ts h n t l at e is)
     where
       by : (b : Bool) → is_outside s (linked_end parts u) ≡ b → meets size most (met (cond b (consed (asked_limits parts u) (demands parts s ts)) (demands parts s ts))) ≡ true →
-          (n : ℕ) → place (u ∷ ts) n ≡ Some t → (meets size most (met (demands parts s ts)) ≡ true → (n : ℕ) → place ts n ≡ Some t → meets size most l ≡ true) → meets size most l ≡ true
+          (n : ℕ) → slice_get (u ∷ ts) n ≡ Some t → (meets size most (met (demands parts s ts)) ≡ true → (n : ℕ) → slice_get ts n ≡ Some t → meets size most l ≡ true) → meets size most l ≡ true
       by true f h zero at on = let same : u ≡ t = cc in (consed_rest (asked_limits parts u) (demands parts s ts) h).0 l (ap (asked_limits parts) same ∙ is)
       by true f h (suc n) at on = on (consed_rest (asked_limits parts u) (demands parts s ts) h).1 n at
       by false f h zero at on = let same : u ≡ t = cc in absurd (let k : false ≡ true = sym f ∙ ap (λ t. is_outside s (linked_end parts t)) same ∙ e in cc)

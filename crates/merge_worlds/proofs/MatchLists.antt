@@ -1,9 +1,8 @@
 -- Tests, and lists by place, as matching needs them.
-use Rattle.std.proofs.Common.{◌≡◌, ℕ, zero, suc, List, [], ◌∷◌, length, Option, Some, None, Bool, true, false, cond, refl, sym, ap, ◌∙◌}
+use Rattle.std.proofs.Common.{◌≡◌, ℕ, zero, suc, List, [], ◌∷◌, length, Option, Some, None, Bool, true, false, cond, refl, sym, ap, ◌∙◌, option_and_then, ◌&&◌}
 use Rattle.std.specs.Prelude.{slice_get}
 use Rattle.std.specs.List.{filter_map, cons_option}
 use Rattle.wasm_meaning.specs.Outcomes.{copies}
-use Rattle.wasm_meaning.specs.Linking.{place, then_some}
 use Rattle.wasm_meaning.specs.Environment.{all_of}
 use Rattle.wasm_meaning.specs.World.{all_there}
 use Rattle.merge_validity.proofs.Lists.{Has, then_is}
@@ -15,19 +14,19 @@ bool_same true c f g = sym (f refl)
 bool_same false true f g = g refl
 bool_same false false f g = refl
 
-pub both_true : (a b : Bool) → cond a b false ≡ true → (a ≡ true) × (b ≡ true)
+pub both_true : (a b : Bool) → a && b ≡ true → (a ≡ true) × (b ≡ true)
 both_true true b h = (refl, h)
 both_true false b h = absurd (let k = h in cc)
 
-pub true_both : (a b : Bool) → a ≡ true → b ≡ true → cond a b false ≡ true
-true_both a b g h = ap (λ z. cond z b false) g ∙ h
+pub true_both : (a b : Bool) → a ≡ true → b ≡ true → a && b ≡ true
+true_both a b g h = ap (λ z. z && b) g ∙ h
 
-pub all_each : {A : Type 0} (test : A → Bool) (xs : List A) → all_of test xs ≡ true → (n : ℕ) (x : A) → place xs n ≡ Some x → test x ≡ true
+pub all_each : {A : Type 0} (test : A → Bool) (xs : List A) → all_of test xs ≡ true → (n : ℕ) (x : A) → slice_get xs n ≡ Some x → test x ≡ true
 all_each test [] h n x e = cc
 all_each test (y ∷ ys) h zero x e = let same : y ≡ x = cc in ap test (sym same) ∙ (both_true (test y) (all_of test ys) h).0
 all_each test (y ∷ ys) h (suc n) x e = all_each test ys (both_true (test y) (all_of test ys) h).1 n x e
 
-pub each_all : {A : Type 0} (test : A → Bool) (xs : List A) → ((n : ℕ) (x : A) → place xs n ≡ Some x → test x ≡ true) → all_of test xs ≡ true
+pub each_all : {A : Type 0} (test : A → Bool) (xs : List A) → ((n : ℕ) (x : A) → slice_get xs n ≡ Some x → test x ≡ true) → all_of test xs ≡ true
 each_all test [] h = refl
 each_all test (y ∷ ys) h = true_both (test y) (all_of test ys) (h 0 y refl) (each_all test ys (λ n. h (suc n)))
 
@@ -45,12 +44,12 @@ has_chosen {A} {B} f (z ∷ xs) n x y h e = by (f z) refl n h (λ n h. has_chose
     by (Some w) is (suc n) h on = let r = on n h in (suc r.0, r.1)
 
 -- where all are there, each stands at its place
-pub all_places : {A B : Type 0} (f : A → Option B) (xs : List A) (ys : List B) → all_there f xs ≡ Some ys → (n : ℕ) (x : A) → place xs n ≡ Some x → (y : B) × (place ys n ≡ Some y) × (f x ≡ Some y)
+pub all_places : {A B : Type 0} (f : A → Option B) (xs : List A) (ys : List B) → all_there f xs ≡ Some ys → (n : ℕ) (x : A) → slice_get xs n ≡ Some x → (y : B) × (slice_get ys n ≡ Some y) × (f x ≡ Some y)
 all_places f [] ys h n x e = absurd (let k = e in cc)
 all_places {A} {B} f (z ∷ xs) ys h n x e = by (λ n. all_places f xs tail.0 tail.1 n x) n e
   where
-    head : (y : B) × (f z ≡ Some y) × (then_some (all_there f xs) (λ ys. Some (y ∷ ys)) ≡ Some ys)
-    head = then_is (f z) (λ y. then_some (all_there f xs) (λ ys. Some (y ∷ ys))) ys h
+    head : (y : B) × (f z ≡ Some y) × (option_and_then (λ ys. Some (y ∷ ys)) (all_there f xs) ≡ Some ys)
+    head = then_is (f z) (λ y. option_and_then (λ ys. Some (y ∷ ys)) (all_there f xs)) ys h
 
     tail : (zs : List B) × (all_there f xs ≡ Some zs) × (Some (head.0 ∷ zs) ≡ Some ys)
     tail = then_is (all_there f xs) (λ ys. Some (head.0 ∷ ys)) ys head.2
@@ -58,9 +57,9 @@ all_places {A} {B} f (z ∷ xs) ys h n x e = by (λ n. all_places f xs tail.0 ta
     are : head.0 ∷ tail.0 ≡ ys
     are = let k = tail.2 in cc
 
-    by : ((n : ℕ) → place xs n ≡ Some x → (y : B) × (place tail.0 n ≡ Some y) × (f x ≡ Some y)) → (n : ℕ) → place (z ∷ xs) n ≡ Some x → (y : B) × (place ys n ≡ Some y) × (f x ≡ Some y)
-    by on zero e = let same : z ≡ x = cc in (head.0, ap (λ l. place l 0) (sym are), ap f (sym same) ∙ head.1)
-    by on (suc n) e = let r = on n e in (r.0, ap (λ l. place l (suc n)) (sym are) ∙ r.1, r.2)
+    by : ((n : ℕ) → slice_get xs n ≡ Some x → (y : B) × (slice_get tail.0 n ≡ Some y) × (f x ≡ Some y)) → (n : ℕ) → slice_get (z ∷ xs) n ≡ Some x → (y : B) × (slice_get ys n ≡ Some y) × (f x ≡ Some y)
+    by on zero e = let same : z ≡ x = cc in (head.0, ap (λ l. slice_get l 0) (sym are), ap f (sym same) ∙ head.1)
+    by on (suc n) e = let r = on n e in (r.0, ap (λ l. slice_get l (suc n)) (sym are) ∙ r.1, r.2)
 
 pub copies_length : {A : Type 0} (n : ℕ) (v : A) → length (copies n v) ≡ n
 copies_length zero v = refl

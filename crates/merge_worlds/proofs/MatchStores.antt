@@ -1,12 +1,12 @@
 -- What a part adds to the store stands there at the addresses of the part.
-use Rattle.std.proofs.Common.{◌≡◌, ℕ, zero, suc, ◌+◌, ◌*◌, false, List, [], ◌∷◌, ◌++◌, map, length, Some, refl, sym, ap, ap₂, subst, ◌∙◌, arith}
+use Rattle.std.proofs.Common.{◌≡◌, ℕ, zero, suc, ◌+◌, ◌*◌, false, List, [], ◌∷◌, ◌++◌, map, length, Some, refl, sym, ap, ap₂, subst, ◌∙◌, arith, option_and_then, slice_get}
 use Rattle.wasm_tree.specs.declared.types.Limits.{Limits}
 use Rattle.wasm_tree.specs.declared.types.TableType.{TableType}
 use Rattle.wasm_tree.specs.declared.module.Module.{Module}
 use Rattle.wasm_meaning.specs.Outcomes.{copies}
 use Rattle.wasm_meaning.specs.State.{Inst, Func, Table, Memory, Global, Elem, Store}
 use Rattle.wasm_meaning.specs.Values.{null_of}
-use Rattle.wasm_meaning.specs.Linking.{Part, Kind, Functions, Tables, Memories, Globals, place, then_some, module_at}
+use Rattle.wasm_meaning.specs.Linking.{Part, Kind, Functions, Tables, Memories, Globals, module_at}
 use Rattle.wasm_meaning.specs.Environment.{Environment}
 use Rattle.wasm_meaning.specs.World.{defined_count, defined_before, base, all_there, new_func, new_global, elem_of, part_store, joined_stores, own_store, stores_from}
 use Rattle.permuted_worlds.proofs.Places.{within, place_left, place_right, append_length, map_length, all_length}
@@ -30,7 +30,7 @@ pub record Adds (env : Environment) (all : List Part) (insts : List Inst) (p : �
 pub record Stands (env : Environment) (all : List Part) (insts : List Inst) {A : Type 0} (get : Store → List A) (z : Store) (from p : ℕ) (m : Module) (i : Inst) : Type 0 where
   pub added : Store
   pub made : part_store env all insts p m i ≡ Some added
-  pub at : (n : ℕ) (x : A) → place (get added) n ≡ Some x → place (get z) (from + n) ≡ Some x
+  pub at : (n : ℕ) (x : A) → slice_get (get added) n ≡ Some x → slice_get (get z) (from + n) ≡ Some x
 
 module _ (env : Environment) (all : List Part) (insts : List Inst) where
   abbrev with_elems : Module → List Func → List Global → List Elem → Store
@@ -45,8 +45,8 @@ module _ (env : Environment) (all : List Part) (insts : List Inst) where
 
   pub adds : (p : ℕ) (m : Module) (i : Inst) (t : Store) → part_store env all insts p m i ≡ Some t → Adds env all insts p m i t
   adds p m i t h =
-      let f = then_is (all_there (new_func i) m.funcs) (λ funcs. then_some (all_there (new_global env all insts p) m.globals) (λ globals. then_some (all_there (elem_of env all insts p) m.elems) (λ elems. Some (with_elems m funcs globals elems)))) t h in
-      let g = then_is (all_there (new_global env all insts p) m.globals) (λ globals. then_some (all_there (elem_of env all insts p) m.elems) (λ elems. Some (with_elems m f.0 globals elems))) t f.2 in
+      let f = then_is (all_there (new_func i) m.funcs) (λ funcs. option_and_then (λ globals. option_and_then (λ elems. Some (with_elems m funcs globals elems)) (all_there (elem_of env all insts p) m.elems)) (all_there (new_global env all insts p) m.globals)) t h in
+      let g = then_is (all_there (new_global env all insts p) m.globals) (λ globals. option_and_then (λ elems. Some (with_elems m f.0 globals elems)) (all_there (elem_of env all insts p) m.elems)) t f.2 in
       let e = then_is (all_there (elem_of env all insts p) m.elems) (λ elems. Some (with_elems m f.0 g.0 elems)) t g.2 in
       let last = e.2 in
       let same : with_elems m f.0 g.0 e.0 ≡ t = cc in
@@ -56,14 +56,14 @@ module _ (env : Environment) (all : List Part) (insts : List Inst) where
 
   -- those of one kind that a part adds come after all before them
   module _ (k : Kind) {A : Type 0} (get : Store → List A) (joins : (s t : Store) → get (joined_stores s t) ≡ get s ++ get t) (many : (p : ℕ) (m : Module) (i : Inst) (t : Store) → part_store env all insts p m i ≡ Some t → length (get t) ≡ defined_count k m) where
-    keeps : (p : ℕ) (rest : List Part) (is : List Inst) (s z : Store) → stores_from env all insts s p rest is ≡ Some z → (n : ℕ) (x : A) → place (get s) n ≡ Some x → place (get z) n ≡ Some x
-    keeps p [] is s z h n x e = let same : s ≡ z = cc in ap (λ s. place (get s) n) (sym same) ∙ e
-    keeps p (part ∷ rest) [] s z h n x e = let same : s ≡ z = cc in ap (λ s. place (get s) n) (sym same) ∙ e
+    keeps : (p : ℕ) (rest : List Part) (is : List Inst) (s z : Store) → stores_from env all insts s p rest is ≡ Some z → (n : ℕ) (x : A) → slice_get (get s) n ≡ Some x → slice_get (get z) n ≡ Some x
+    keeps p [] is s z h n x e = let same : s ≡ z = cc in ap (λ s. slice_get (get s) n) (sym same) ∙ e
+    keeps p (part ∷ rest) [] s z h n x e = let same : s ≡ z = cc in ap (λ s. slice_get (get s) n) (sym same) ∙ e
     keeps p (part ∷ rest) (i ∷ is) s z h n x e =
         let t = then_is (part_store env all insts p part.«module» i) (λ t. stores_from env all insts (joined_stores s t) (suc p) rest is) z h in
-        keeps (suc p) rest is (joined_stores s t.0) z t.2 n x (ap (λ l. place l n) (joins s t.0) ∙ place_left (get s) (get t.0) n (within (get s) n x e) ∙ e)
+        keeps (suc p) rest is (joined_stores s t.0) z t.2 n x (ap (λ l. slice_get l n) (joins s t.0) ∙ place_left (get s) (get t.0) n (within (get s) n x e) ∙ e)
 
-    stands : (p : ℕ) (rest : List Part) (is : List Inst) (s z : Store) → stores_from env all insts s p rest is ≡ Some z → (q : ℕ) (m : Module) (i : Inst) → module_at rest q ≡ Some m → place is q ≡ Some i → Stands env all insts get z (length (get s) + defined_before k rest q) (p + q) m i
+    stands : (p : ℕ) (rest : List Part) (is : List Inst) (s z : Store) → stores_from env all insts s p rest is ≡ Some z → (q : ℕ) (m : Module) (i : Inst) → module_at rest q ≡ Some m → slice_get is q ≡ Some i → Stands env all insts get z (length (get s) + defined_before k rest q) (p + q) m i
     stands p [] is s z h q m i e f = cc
     stands p (part ∷ rest) [] s z h q m i e f = cc
     stands p (part ∷ rest) (j ∷ is) s z h zero m i e f =
@@ -76,7 +76,7 @@ module _ (env : Environment) (all : List Part) (insts : List Inst) where
           made = ap (λ p. part_store env all insts p m i) n ∙ ap₂ (part_store env all insts p) (sym same) (sym same_inst) ∙ t.1;
           at = λ n x g.
               let z : (length (get s) + 0) + n ≡ length (get s) + n = omega arith in
-              ap (place (get _)) z ∙ keeps (suc p) rest is (joined_stores s t.0) _ t.2 (length (get s) + n) x (ap (λ l. place l (length (get s) + n)) (joins s t.0) ∙ place_right (get s) (get t.0) n ∙ g);
+              ap (slice_get (get _)) z ∙ keeps (suc p) rest is (joined_stores s t.0) _ t.2 (length (get s) + n) x (ap (λ l. slice_get l (length (get s) + n)) (joins s t.0) ∙ place_right (get s) (get t.0) n ∙ g);
         }
     stands p (part ∷ rest) (j ∷ is) s z h (suc q) m i e f =
         let t = then_is (part_store env all insts p part.«module» j) (λ t. stores_from env all insts (joined_stores s t) (suc p) rest is) z h in
@@ -88,12 +88,12 @@ module _ (env : Environment) (all : List Part) (insts : List Inst) where
           made = ap (λ p. part_store env all insts p m i) n ∙ r.made;
           at = λ n x g.
               let place_is : (length (get s) + (defined_count k part.«module» + defined_before k rest q)) + n ≡ (length (get (joined_stores s t.0)) + defined_before k rest q) + n = omega (arith, size) in
-              ap (place (get z)) place_is ∙ r.at n x g;
+              ap (slice_get (get z)) place_is ∙ r.at n x g;
         }
 
   -- ---- by kind ----
 
-  module _ (s : Store) (made : stores_from env all insts (own_store env) 0 all insts ≡ Some s) (q : ℕ) (m : Module) (i : Inst) (is : module_at all q ≡ Some m) (there : place insts q ≡ Some i) where
+  module _ (s : Store) (made : stores_from env all insts (own_store env) 0 all insts ≡ Some s) (q : ℕ) (m : Module) (i : Inst) (is : module_at all q ≡ Some m) (there : slice_get insts q ≡ Some i) where
     from_none : {A : Type 0} (get : Store → List A) (from : ℕ) → Stands env all insts get s from (0 + q) m i → Stands env all insts get s from q m i
     from_none get from h = let z : 0 + q ≡ q = omega arith in subst (λ p. Stands env all insts get s from p m i) z h
 

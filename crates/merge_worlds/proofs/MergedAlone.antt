@@ -1,5 +1,5 @@
 -- The merged module alone: its imports are those that stay, and stand for what these stand for in the parts' world; then comes what the parts define.
-use Rattle.std.proofs.Common.{◌≡◌, ◌∙◌, ap, ap₂, sym, refl, ℕ, ◌+◌, List, [], ◌∷◌, ◌++◌, map, length, Option, Some, None, true, arith}
+use Rattle.std.proofs.Common.{◌≡◌, ◌∙◌, ap, ap₂, sym, refl, ℕ, ◌+◌, List, [], ◌∷◌, ◌++◌, map, length, Option, Some, None, true, arith, option_and_then, slice_get, unwrap_or}
 use Rattle.std.specs.List.{filter, filter_map}
 use Rattle.wasm_tree.specs.declared.types.FuncType.{FuncType}
 use Rattle.wasm_tree.specs.declared.module.Import.{Import}
@@ -8,9 +8,9 @@ use Rattle.wasm_tree.specs.declared.module.ImportDesc.TheVariants as im
 use Rattle.wasm_tree.specs.declared.module.ElemSeg.{ElemSeg}
 use Rattle.wasm_tree.specs.declared.module.Module.{Module}
 use Rattle.wasm_meaning.specs.State.{Text, Pair}
-use Rattle.wasm_meaning.specs.Linking.{Part, Site, Kind, Functions, Tables, Memories, Globals, place, then_some, has_kind, same_kind, kind_of_import, pair_of, module_at, import_at, sites}
+use Rattle.wasm_meaning.specs.Linking.{Part, Site, Kind, Functions, Tables, Memories, Globals, has_kind, same_kind, kind_of_import, pair_of, module_at, import_at, sites}
 use Rattle.wasm_meaning.specs.Environment.{Environment, FuncKey, OwnKey, owned_of, owned_at}
-use Rattle.wasm_meaning.specs.World.{given, own_count, defined_count, defined_before, address_of, own_key, own_key_of, outside_thing, all_there, numbers, space, or_false, elems_before, datas_before}
+use Rattle.wasm_meaning.specs.World.{given, own_count, defined_count, defined_before, address_of, own_key, own_key_of, outside_thing, all_there, numbers, space, elems_before, datas_before}
 use Rattle.index_remap.specs.References.{with_declared, declared_refs}
 use Rattle.export_names.specs.declared.mode.Mode.{Mode}
 use Rattle.export_names.specs.Names.{new_names}
@@ -88,29 +88,29 @@ pub record IsStaying (parts : List Part) (s : Site) : Type 0 where
   pub remains : stays parts s ≡ true
   pub of : Module
   pub is_part : module_at parts s.part ≡ Some of
-  pub stands : place of.imports s.import ≡ Some import
+  pub stands : slice_get of.imports s.import ≡ Some import
 
-pub staying_is : SpaceLaws → (parts : List Part) (n : ℕ) (s : Site) → place (staying parts) n ≡ Some s → IsStaying parts s
+pub staying_is : SpaceLaws → (parts : List Part) (n : ℕ) (s : Site) → slice_get (staying parts) n ≡ Some s → IsStaying parts s
 unfolding staying
 staying_is laws parts n s h =
     let k = kept_is (stays parts) (sites parts) n s (sym (place_get (filter (stays parts) (sites parts)) n) ∙ h) in
     let i = (laws.sites parts s).0 k.1.0 (place_get (sites parts) k.1.0 ∙ k.1.1) in
-    let m = then_is (module_at parts s.part) (λ m. place m.imports s.import) i.0 i.1 in
+    let m = then_is (module_at parts s.part) (λ m. slice_get m.imports s.import) i.0 i.1 in
     record { import = i.0; at = i.1; remains = k.0; of = m.0; is_part = m.1; stands = m.2 }
 
 -- those of one kind
-pub staying_kind : SpaceLaws → (parts : List Part) (k : Kind) (n : ℕ) (s : Site) → place (staying_of parts k) n ≡ Some s → (w : IsStaying parts s) × (has_kind k w.import ≡ true)
+pub staying_kind : SpaceLaws → (parts : List Part) (k : Kind) (n : ℕ) (s : Site) → slice_get (staying_of parts k) n ≡ Some s → (w : IsStaying parts s) × (has_kind k w.import ≡ true)
 unfolding staying_of
 staying_kind laws parts k n s h =
     let r = kept_is (imports_kind parts k) (staying parts) n s (sym (place_get (filter (imports_kind parts k) (staying parts)) n) ∙ h) in
     let w = staying_is laws parts r.1.0 s (place_get (staying parts) r.1.0 ∙ r.1.1) in
-    (w, sym (ap (λ o. or_false (then_some o (λ i. Some (has_kind k i)))) w.at) ∙ r.0)
+    (w, sym (ap (λ o. unwrap_or (option_and_then (λ i. Some (has_kind k i)) o) false) w.at) ∙ r.0)
 
 moved_import : (parts : List Part) (s : Site) (m : Module) (i : Import) → module_at parts s.part ≡ Some m → import_at parts s ≡ Some i → merged_import parts s ≡ Some (record i { desc = merged_desc parts s m i.desc })
 unfolding merged_import
 moved_import parts s m i is at =
-    ap {A = Option Module} {B = Option Import} (λ o. then_some o (λ m. then_some (import_at parts s) (λ i. Some (record i { desc = merged_desc parts s m i.desc })))) is
-    ∙ ap {A = Option Import} {B = Option Import} (λ o. then_some o (λ i. Some (record i { desc = merged_desc parts s m i.desc }))) at
+    ap {A = Option Module} {B = Option Import} (λ o. option_and_then (λ m. option_and_then (λ i. Some (record i { desc = merged_desc parts s m i.desc })) (import_at parts s)) o) is
+    ∙ ap {A = Option Import} {B = Option Import} (λ o. option_and_then (λ i. Some (record i { desc = merged_desc parts s m i.desc })) o) at
 
 moved_kind : (parts : List Part) (s : Site) (m : Module) (d : ImportDesc) → kind_of_import (merged_desc parts s m d) ≡ kind_of_import d
 moved_kind parts s m (im.Func ty) = refl
@@ -121,8 +121,8 @@ moved_kind parts s m (im.Global t) = refl
 -- it names the same of the environment's own
 moved_key : SpaceLaws → (parts : List Part) (s : Site) (m : Module) → module_at parts s.part ≡ Some m → (pair : Pair) (d : ImportDesc) (x : External) → asked m d ≡ Some x → key_in (merged_types parts) pair (merged_desc parts s m d) ≡ own_key_of m pair d
 moved_key laws parts s m is pair (im.Func ty) x h =
-    let t = then_is (place m.types ty) (λ t. Some (FuncOf t)) x h in
-    ap (λ o. then_some {A = FuncType} {B = OwnKey} o (λ t. Some (FuncKey pair t))) (laws.types parts s.part m ty t.0 is t.1 ∙ sym t.1)
+    let t = then_is (slice_get m.types ty) (λ t. Some (FuncOf t)) x h in
+    ap (λ o. option_and_then {B = OwnKey} {A = FuncType} o (λ t. Some (FuncKey pair t))) (laws.types parts s.part m ty t.0 is t.1 ∙ sym t.1)
 moved_key laws parts s m is pair (im.Table t) x h = refl
 moved_key laws parts s m is pair (im.Memory l) x h = refl
 moved_key laws parts s m is pair (im.Global t) x h = refl
@@ -135,40 +135,40 @@ module _ (laws : SpaceLaws) (env : Environment) (parts : List Part) (linked : li
   asked_there : (s : Site) (w : IsStaying parts s) → (x : External) × (asked w.of w.import.desc ≡ Some x)
   asked_there s w =
       let d = demand_of (laws.ends parts linked s w.import w.at) in
-      (d.0, sym (ap (λ o. then_some o (λ m. then_some (place m.imports s.import) (λ i. asked m i.desc))) w.is_part ∙ ap (λ o. then_some o (λ i. asked w.of i.desc)) w.stands) ∙ d.1)
+      (d.0, sym (ap (λ o. option_and_then (λ m. option_and_then (λ i. asked m i.desc) (slice_get m.imports s.import)) o) w.is_part ∙ ap (λ o. option_and_then (λ i. asked w.of i.desc) o) w.stands) ∙ d.1)
 
   moved_thing : (s : Site) (w : IsStaying parts s) → thing_in env (merged_types parts) (Some (record w.import { desc = merged_desc parts s w.of w.import.desc })) ≡ outside_thing (owned_of env) parts s
   moved_thing s w =
       let x = asked_there s w in
-      ap (λ o. then_some o (λ key. given (owned_at (owned_of env) key))) (moved_key laws parts s w.of w.is_part (pair_of w.import) w.import.desc x.0 x.1)
-      ∙ sym (ap (λ o. then_some o (λ m. then_some (import_at parts s) (λ i. then_some (own_key m i) (λ key. given (owned_at (owned_of env) key))))) w.is_part
-      ∙ ap (λ o. then_some o (λ i. then_some (own_key w.of i) (λ key. given (owned_at (owned_of env) key)))) w.at)
+      ap (λ o. option_and_then (λ key. given (owned_at (owned_of env) key)) o) (moved_key laws parts s w.of w.is_part (pair_of w.import) w.import.desc x.0 x.1)
+      ∙ sym (ap (λ o. option_and_then (λ m. option_and_then (λ i. option_and_then (λ key. given (owned_at (owned_of env) key)) (own_key m i)) (import_at parts s)) o) w.is_part
+      ∙ ap (λ o. option_and_then (λ i. option_and_then (λ key. given (owned_at (owned_of env) key)) (own_key w.of i)) o) w.at)
 
   chosen_addresses : (k : Kind) → addresses env (merged_types parts) (filter_map (merged_import parts) (staying parts)) k ≡ all_there (site_address env parts k) (staying_of parts k)
   unfolding staying_of
   chosen_addresses k =
       let imports = filter_map (merged_import parts) (staying parts) in
-      at_places (has_kind k) import_of imports 0 (address_in env (merged_types parts) imports k) (λ i y e. ap (λ n. address_in env (merged_types parts) imports k n) (let z : 0 + i ≡ i = omega arith in z) ∙ ap (λ o. then_some (thing_in env (merged_types parts) o) (address_of k)) e)
+      at_places (has_kind k) import_of imports 0 (address_in env (merged_types parts) imports k) (λ i y e. ap (λ n. address_in env (merged_types parts) imports k n) (let z : 0 + i ≡ i = omega arith in z) ∙ ap (λ o. option_and_then (address_of k) (thing_in env (merged_types parts) o)) e)
       ∙ of_chosen (merged_import parts) (has_kind k) (imports_kind parts k) import_of (site_address env parts k) (staying parts) each
     where
       import_of : Import → Option ℕ
-      import_of i = then_some (thing_in env (merged_types parts) (Some i)) (address_of k)
+      import_of i = option_and_then (address_of k) (thing_in env (merged_types parts) (Some i))
 
-      each : (n : ℕ) (s : Site) → place (staying parts) n ≡ Some s → (i : Import) × (merged_import parts s ≡ Some i) × (has_kind k i ≡ imports_kind parts k s) × (imports_kind parts k s ≡ true → import_of i ≡ site_address env parts k s)
+      each : (n : ℕ) (s : Site) → slice_get (staying parts) n ≡ Some s → (i : Import) × (merged_import parts s ≡ Some i) × (has_kind k i ≡ imports_kind parts k s) × (imports_kind parts k s ≡ true → import_of i ≡ site_address env parts k s)
       each n s h =
           let w = staying_is laws parts n s h in (
             record w.import { desc = merged_desc parts s w.of w.import.desc },
             moved_import parts s w.of w.import w.is_part w.at,
-            ap (same_kind k) (moved_kind parts s w.of w.import.desc) ∙ sym (ap (λ o. or_false (then_some o (λ i. Some (has_kind k i)))) w.at),
-            λ q. ap (λ o. then_some o (address_of k)) (moved_thing s w),
+            ap (same_kind k) (moved_kind parts s w.of w.import.desc) ∙ sym (ap (λ o. unwrap_or (option_and_then (λ i. Some (has_kind k i)) o) false) w.at),
+            λ q. ap (λ o. option_and_then (address_of k) o) (moved_thing s w),
           )
 
   -- its index spaces
   pub merged_space : (mode : Mode) (k : Kind) →
-      space env (one (joined_module parts mode)) k 0 (joined_module parts mode) ≡ then_some (all_there (site_address env parts k) (staying_of parts k)) (λ l. Some (l ++ numbers (own_count k env) (defined_before k parts (length parts) + added_count parts k)))
+      space env (one (joined_module parts mode)) k 0 (joined_module parts mode) ≡ option_and_then (λ l. Some (l ++ numbers (own_count k env) (defined_before k parts (length parts) + added_count parts k))) (all_there (site_address env parts k) (staying_of parts k))
   merged_space mode k =
       let q = joined_keeps parts mode in
       laws.spaces env (joined_module parts mode) k
-      ∙ ap₂ (λ o n. then_some o (λ l. Some (l ++ numbers (own_count k env) n)))
+      ∙ ap₂ (λ o n. option_and_then (λ l. Some (l ++ numbers (own_count k env) n)) o)
       (ap₂ (λ t i. addresses env t i k) (q.types ∙ merged_types_are parts (names_of parts mode)) (q.imports ∙ merged_imports_are parts (names_of parts mode)) ∙ chosen_addresses k)
       (count_kept q k ∙ laws.counts parts (names_of parts mode) k)

@@ -1,12 +1,12 @@
 -- What the exports and starts of the parts name: the same addresses in both worlds.
-use Rattle.std.proofs.Common.{◌≡◌, ap, subst, refl, ℕ, suc, ◌+◌, List, [], ◌∷◌, map, Some, Bool, true, arith}
+use Rattle.std.proofs.Common.{◌≡◌, ap, subst, refl, ℕ, suc, ◌+◌, List, [], ◌∷◌, map, Some, Bool, true, arith, option_and_then, slice_get}
 use Rattle.std.specs.Prelude.{IsTrue, slice_index}
 use Rattle.std.proofs.lemmas.Bool.{ltb-true}
 use Rattle.wasm_tree.specs.declared.module.ExportDesc.{ExportDesc}
 use Rattle.wasm_tree.specs.declared.module.ExportDesc.TheVariants as ex
 use Rattle.wasm_tree.specs.declared.module.Module.{Module}
 use Rattle.wasm_meaning.specs.State.{Inst}
-use Rattle.wasm_meaning.specs.Linking.{Part, place, then_some, module_at}
+use Rattle.wasm_meaning.specs.Linking.{Part, module_at}
 use Rattle.wasm_meaning.specs.Environment.{Environment, Thing, FuncAt, TableAt, MemoryAt, GlobalAt}
 use Rattle.wasm_meaning.specs.World.{address_in}
 use Rattle.index_remap.specs.declared.remap.Remap.{Remap}
@@ -50,9 +50,9 @@ tested_maps test f g (x ∷ xs) t h = cons (h x (left_true _ _ t)) (tested_maps 
 
 module _ (env : Environment) (parts : List Part) (p : ℕ) (m : Module) (i j : Inst) (agrees : PartAgrees env parts p m i j) where
   named : (k : to.Kind) (xs ys entries : List ℕ) (x : ℕ) (thing : ℕ → Thing) → ((a : ℕ) → (sharing env parts).of k a a → ThingRel (sharing env parts) (thing a) (thing a)) → SameAddress env parts k xs ys entries x →
-      OptRel (ThingRel (sharing env parts)) (then_some (place xs x) (λ a. Some (thing a))) (then_some (place ys (slice_index entries x)) (λ a. Some (thing a)))
+      OptRel (ThingRel (sharing env parts)) (option_and_then (λ a. Some (thing a)) (slice_get xs x)) (option_and_then (λ a. Some (thing a)) (slice_get ys (slice_index entries x)))
   named k xs ys entries x thing rel s =
-      opt_at (ap (λ o. then_some o (λ a. Some (thing a))) s.first) (ap (λ o. then_some o (λ a. Some (thing a))) s.second) (some (rel s.address (is_shared_at env parts k s.address s.shared)))
+      opt_at (ap (λ o. option_and_then (λ a. Some (thing a)) o) s.first) (ap (λ o. option_and_then (λ a. Some (thing a)) o) s.second) (some (rel s.address (is_shared_at env parts k s.address s.shared)))
 
   pub export_named : (d : ExportDesc) → fits_export_desc (map_of parts p m) d ≡ true → OptRel (ThingRel (sharing env parts)) (address_in i d) (address_in j (new_export_desc (map_of parts p m) d))
   export_named (ex.Func x) h = named Funcs i.funcs j.funcs (map_of parts p m).funcs x FuncAt (λ a r. a_func r) (agrees.funcs.each x (ltb-true _ _ h))

@@ -1,6 +1,6 @@
 -- Stores that are alike stay alike where a segment is copied into a table or a memory of both.
-use Rattle.std.proofs.Common.{◌≡◌, ℕ, ◌<◌, List, length, Option, Bool, true, false, cond, refl, sym, ap, ap₂, subst, ◌∙◌, arith}
-use Rattle.wasm_meaning.specs.Outcomes.{Outcome, Gives, Traps, IllTyped, put}
+use Rattle.std.proofs.Common.{◌≡◌, ℕ, ◌<◌, List, length, Option, Bool, true, false, cond, refl, sym, ap, ap₂, subst, ◌∙◌, arith, slice_set}
+use Rattle.wasm_meaning.specs.Outcomes.{Outcome, Gives, Traps, IllTyped}
 use Rattle.wasm_meaning.specs.State.{RefVal, Table, Memory, Data, Store}
 use Rattle.wasm_meaning.specs.Step.{no_items, no_bytes}
 use Rattle.wasm_meaning.specs.Linking.{Part}
@@ -36,7 +36,7 @@ module _ (env : Environment) (parts : List Part) where
   -- ---- a segment in a table ----
 
   with_table : {s z : Store} {v w : Table} (n a : ℕ) → StoresAlike env parts s z → n < length s.elems → TableRel R v w →
-      StoresAlike env parts (record s { tables = put s.tables a v; elems = put s.elems n no_items }) (record z { tables = put z.tables a w; elems = put z.elems n no_items })
+      StoresAlike env parts (record s { tables = slice_set s.tables a v; elems = slice_set s.elems n no_items }) (record z { tables = slice_set z.tables a w; elems = slice_set z.elems n no_items })
   with_table {s} {z} {v} {w} n a like lt r = record {
     shared_funcs = like.shared_funcs;
     more_funcs = like.more_funcs;
@@ -45,9 +45,9 @@ module _ (env : Environment) (parts : List Part) where
     tables = put_rel like.tables a r;
     mems = like.mems;
     globals = like.globals;
-    shared_elems = put like.shared_elems n no_items;
+    shared_elems = slice_set like.shared_elems n no_items;
     more_elems = like.more_elems;
-    all_elems = ap (λ es. put es n no_items) like.all_elems ∙ put_front like.shared_elems like.more_elems n no_items (let e = length_rel like.elems in omega (arith, lt, e));
+    all_elems = ap (λ es. slice_set es n no_items) like.all_elems ∙ put_front like.shared_elems like.more_elems n no_items (let e = length_rel like.elems in omega (arith, lt, e));
     elems = put_rel {v = no_items} {w = no_items} like.elems n (record { items = nil });
     datas = like.datas;
     func_count = like.func_count;
@@ -66,20 +66,20 @@ module _ (env : Environment) (parts : List Part) where
   -- ---- a segment in a memory ----
 
   with_memory : {s z : Store} {v w : Memory} (n a : ℕ) → StoresAlike env parts s z → v ≡ w →
-      StoresAlike env parts (record s { mems = put s.mems a v; datas = put s.datas n no_bytes }) (record z { mems = put z.mems a w; datas = put z.datas n no_bytes })
+      StoresAlike env parts (record s { mems = slice_set s.mems a v; datas = slice_set s.datas n no_bytes }) (record z { mems = slice_set z.mems a w; datas = slice_set z.datas n no_bytes })
   with_memory {s} {z} {v} {w} n a like e = record {
     shared_funcs = like.shared_funcs;
     more_funcs = like.more_funcs;
     all_funcs = like.all_funcs;
     funcs = like.funcs;
     tables = like.tables;
-    mems = ap₂ (λ (ms : List Memory) (m : Memory). put ms a m) like.mems e;
+    mems = ap₂ (λ (ms : List Memory) (m : Memory). slice_set ms a m) like.mems e;
     globals = like.globals;
     shared_elems = like.shared_elems;
     more_elems = like.more_elems;
     all_elems = like.all_elems;
     elems = like.elems;
-    datas = ap (λ (ds : List Data). put ds n no_bytes) like.datas;
+    datas = ap (λ (ds : List Data). slice_set ds n no_bytes) like.datas;
     func_count = like.func_count;
     table_count = like.table_count;
     memory_count = put_length s.mems a v ∙ like.memory_count;

@@ -1,9 +1,8 @@
 -- Segments by part, one after the other, and the same segments of one module.
-use Rattle.std.proofs.Common.{◌≡◌, ℕ, zero, suc, ◌+◌, ◌<◌, List, [], ◌∷◌, ◌++◌, map, length, Some, false, refl, sym, ap, subst, ◌∙◌, arith, append_assoc}
+use Rattle.std.proofs.Common.{◌≡◌, ℕ, zero, suc, ◌+◌, ◌<◌, List, [], ◌∷◌, ◌++◌, map, length, Some, false, refl, sym, ap, subst, ◌∙◌, arith, append_assoc, drop, slice_get}
 use Rattle.wasm_tree.specs.declared.module.Module.{Module}
-use Rattle.wasm_meaning.specs.Outcomes.{past}
 use Rattle.wasm_meaning.specs.State.{Inst, Store}
-use Rattle.wasm_meaning.specs.Linking.{Part, place, module_at}
+use Rattle.wasm_meaning.specs.Linking.{Part, module_at}
 use Rattle.wasm_meaning.specs.Environment.{Environment}
 use Rattle.wasm_meaning.specs.World.{Filled, Task, tasks_in, elem_tasks, data_tasks, in_turn, elems_before, datas_before}
 use Rattle.merge_terms.specs.Merged.{by_part_from}
@@ -59,8 +58,8 @@ datas_next (part ∷ parts) (suc p) m h = let n = datas_next parts p m h in omeg
 -- a place at which one address stands in both lists
 pub record OneAddress (xs ys : List ℕ) (n k : ℕ) : Type 0 where
   pub address : ℕ
-  pub first : place xs n ≡ Some address
-  pub second : place ys k ≡ Some address
+  pub first : slice_get xs n ≡ Some address
+  pub second : slice_get ys k ≡ Some address
 
 abbrev pub task : {A : Type 0} → ℕ → Inst → ℕ → A → Task A
 task p i a x = record { part = p; inst = i; address = a; segment = x }
@@ -72,15 +71,15 @@ DoAlike env parts f g x y = (s z : Store) → StoresAlike env parts s z → Fill
 -- A part's segments stand in the merged module from a place on, with the addresses that they have, and both do the same with each.
 pub record PartDoes (env : Environment) (parts : List Part) {A : Type 0} (f g : Store → Task A → Filled) (insts : List Inst) (j : Inst) (segs : Module → List A) (adds : Inst → List ℕ) (new : ℕ → Module → A → A) (before : ℕ → ℕ) (p : ℕ) (m : Module) : Type 0 where
   pub inst : Inst
-  pub is : place insts p ≡ Some inst
+  pub is : slice_get insts p ≡ Some inst
   pub same : (x : ℕ) → x < length (segs m) → OneAddress (adds inst) (adds j) x (before p + x)
-  pub each : (x a : ℕ) (e : A) → place (segs m) x ≡ Some e → place (adds inst) x ≡ Some a → DoAlike env parts f g (task p inst a e) (task 0 j a (new p m e))
+  pub each : (x a : ℕ) (e : A) → slice_get (segs m) x ≡ Some e → slice_get (adds inst) x ≡ Some a → DoAlike env parts f g (task p inst a e) (task 0 j a (new p m e))
 
 module _ (env : Environment) (parts : List Part) {A : Type 0} (f g : Store → Task A → Filled) (j : Inst) where
   -- the segments of one part, and then others
   in_part : (p : ℕ) (i : Inst) (new : A → A) (xs ys : List ℕ) (es : List A) (rest : List (Task A)) (more : List A) →
-      ((x : ℕ) → x < length es → OneAddress xs ys x x) → ((x a : ℕ) (e : A) → place es x ≡ Some e → place xs x ≡ Some a → DoAlike env parts f g (task p i a e) (task 0 j a (new e))) →
-      ((s z : Store) → StoresAlike env parts s z → FilledAlike env parts (in_turn f s rest) (in_turn g z (tasks_in 0 j (past ys (length es)) more))) →
+      ((x : ℕ) → x < length es → OneAddress xs ys x x) → ((x a : ℕ) (e : A) → slice_get es x ≡ Some e → slice_get xs x ≡ Some a → DoAlike env parts f g (task p i a e) (task 0 j a (new e))) →
+      ((s z : Store) → StoresAlike env parts s z → FilledAlike env parts (in_turn f s rest) (in_turn g z (tasks_in 0 j (drop (length es) ys) more))) →
       (s z : Store) → StoresAlike env parts s z → FilledAlike env parts (in_turn f s (tasks_in p i xs es ++ rest)) (in_turn g z (tasks_in 0 j ys (map new es ++ more)))
   in_part p i new [] ys [] rest more same each then s z like = then s z like
   in_part p i new (x ∷ xs) ys [] rest more same each then s z like = then s z like
@@ -97,27 +96,27 @@ module _ (env : Environment) (parts : List Part) {A : Type 0} (f g : Store → T
   module _ (insts : List Inst) (segs : Module → List A) (adds : Inst → List ℕ) (new : ℕ → Module → A → A) (before : ℕ → ℕ) (next : (p : ℕ) (m : Module) → module_at parts p ≡ Some m → before (suc p) ≡ before p + length (segs m))
       (more : List A) (nothing : (ns : List ℕ) (s z : Store) → StoresAlike env parts s z → FilledAlike env parts (record { store = s; trapped = false }) (in_turn g z (tasks_in 0 j ns more))) where
     pub by_parts : ((p : ℕ) (m : Module) → module_at parts p ≡ Some m → PartDoes env parts f g insts j segs adds new before p m) →
-        (p : ℕ) (rest : List Part) (is : List Inst) → ((q : ℕ) → module_at rest q ≡ module_at parts (p + q)) → ((q : ℕ) → place is q ≡ place insts (p + q)) → (s z : Store) → StoresAlike env parts s z →
-        FilledAlike env parts (in_turn f s (tasks_by segs adds p rest is)) (in_turn g z (tasks_in 0 j (past (adds j) (before p)) (by_part_from (λ p m. map (new p m) (segs m)) p rest ++ more)))
+        (p : ℕ) (rest : List Part) (is : List Inst) → ((q : ℕ) → module_at rest q ≡ module_at parts (p + q)) → ((q : ℕ) → slice_get is q ≡ slice_get insts (p + q)) → (s z : Store) → StoresAlike env parts s z →
+        FilledAlike env parts (in_turn f s (tasks_by segs adds p rest is)) (in_turn g z (tasks_in 0 j (drop (before p) (adds j)) (by_part_from (λ p m. map (new p m) (segs m)) p rest ++ more)))
     by_parts does p [] is modules places s z like = nothing _ s z like
     by_parts does p (part ∷ rest) [] modules places s z like =
         let zero_more : p + 0 ≡ p = omega arith in
         let d = does p part.«module» (ap (module_at parts) (sym zero_more) ∙ sym (modules 0)) in
-        let h = places 0 ∙ ap (place insts) zero_more ∙ d.is in
+        let h = places 0 ∙ ap (slice_get insts) zero_more ∙ d.is in
         cc
     by_parts does p (part ∷ rest) (i ∷ is) modules places s z like =
         let m = part.«module» in
         let zero_more : p + 0 ≡ p = omega arith in
         let at_p : module_at parts p ≡ Some m = ap (module_at parts) (sym zero_more) ∙ sym (modules 0) in
         let d = does p m at_p in
-        let h : Some i ≡ Some d.inst = places 0 ∙ ap (place insts) zero_more ∙ d.is in
+        let h : Some i ≡ Some d.inst = places 0 ∙ ap (slice_get insts) zero_more ∙ d.is in
         let same : d.inst ≡ i = cc in
-        let later : (s z : Store) → StoresAlike env parts s z → FilledAlike env parts (in_turn f s (tasks_by segs adds (suc p) rest is)) (in_turn g z (tasks_in 0 j (past (past (adds j) (before p)) (length (segs m))) (by_part_from (λ p m. map (new p m) (segs m)) (suc p) rest ++ more))) = λ s z like.
+        let later : (s z : Store) → StoresAlike env parts s z → FilledAlike env parts (in_turn f s (tasks_by segs adds (suc p) rest is)) (in_turn g z (tasks_in 0 j (drop (length (segs m)) (drop (before p) (adds j))) (by_part_from (λ p m. map (new p m) (segs m)) (suc p) rest ++ more))) = λ s z like.
         subst (λ ns. FilledAlike env parts (in_turn f s (tasks_by segs adds (suc p) rest is)) (in_turn g z (tasks_in 0 j ns (by_part_from (λ p m. map (new p m) (segs m)) (suc p) rest ++ more))))
-        (sym (past_past (adds j) (before p) (length (segs m)) ∙ ap (past (adds j)) (sym (next p m at_p))))
-        (by_parts does (suc p) rest is (λ q. modules (suc q) ∙ (let e : p + suc q ≡ suc p + q = omega arith in ap (module_at parts) e)) (λ q. places (suc q) ∙ (let e : p + suc q ≡ suc p + q = omega arith in ap (place insts) e)) s z like) in
-        subst (λ xs. FilledAlike env parts (in_turn f s (tasks_in p i (adds i) (segs m) ++ tasks_by segs adds (suc p) rest is)) (in_turn g z (tasks_in 0 j (past (adds j) (before p)) xs)))
+        (sym (past_past (adds j) (before p) (length (segs m)) ∙ ap (λ i. drop i (adds j)) (sym (next p m at_p))))
+        (by_parts does (suc p) rest is (λ q. modules (suc q) ∙ (let e : p + suc q ≡ suc p + q = omega arith in ap (module_at parts) e)) (λ q. places (suc q) ∙ (let e : p + suc q ≡ suc p + q = omega arith in ap (slice_get insts) e)) s z like) in
+        subst (λ xs. FilledAlike env parts (in_turn f s (tasks_in p i (adds i) (segs m) ++ tasks_by segs adds (suc p) rest is)) (in_turn g z (tasks_in 0 j (drop (before p) (adds j)) xs)))
         (sym (append_assoc (map (new p m) (segs m)) (by_part_from (λ p m. map (new p m) (segs m)) (suc p) rest) more))
-        (in_part p i (new p m) (adds i) (past (adds j) (before p)) (segs m) (tasks_by segs adds (suc p) rest is) (by_part_from (λ p m. map (new p m) (segs m)) (suc p) rest ++ more)
-        (λ x l. let o = d.same x l in record { address = o.address; first = ap (λ i. place (adds i) x) (sym same) ∙ o.first; second = place_past (adds j) (before p) x ∙ o.second })
-        (λ x a e h k. subst (λ i. DoAlike env parts f g (task p i a e) (task 0 j a (new p m e))) same (d.each x a e h (ap (λ i. place (adds i) x) same ∙ k))) later s z like)
+        (in_part p i (new p m) (adds i) (drop (before p) (adds j)) (segs m) (tasks_by segs adds (suc p) rest is) (by_part_from (λ p m. map (new p m) (segs m)) (suc p) rest ++ more)
+        (λ x l. let o = d.same x l in record { address = o.address; first = ap (λ i. slice_get (adds i) x) (sym same) ∙ o.first; second = place_past (adds j) (before p) x ∙ o.second })
+        (λ x a e h k. subst (λ i. DoAlike env parts f g (task p i a e) (task 0 j a (new p m e))) same (d.each x a e h (ap (λ i. slice_get (adds i) x) same ∙ k))) later s z like)

@@ -1,5 +1,5 @@
 -- The active segments of the parts and those of the merged module are copied to the same places of both stores.
-use Rattle.std.proofs.Common.{◌≡◌, ℕ, ◌+◌, ◌<◌, List, [], ◌∷◌, ◌++◌, map, length, Option, Some, true, false, refl, sym, ap, subst, ◌∙◌, arith}
+use Rattle.std.proofs.Common.{◌≡◌, ℕ, ◌+◌, ◌<◌, List, [], ◌∷◌, ◌++◌, map, length, Option, Some, true, false, refl, sym, ap, subst, ◌∙◌, arith, drop, option_and_then}
 use Rattle.std.specs.Prelude.{slice_get, slice_index}
 use Rattle.wasm_tree.specs.declared.types.ValType.{ValType}
 use Rattle.wasm_tree.specs.declared.types.ValType.TheVariants.{I32}
@@ -17,10 +17,10 @@ use Rattle.wasm_valid.specs.declared.kinds.ItemKind.{ItemKind}
 use Rattle.wasm_valid.specs.declared.kinds.ItemKind.TheVariants as kind
 use Rattle.wasm_valid.specs.Constants.{const_type}
 use Rattle.wasm_valid.specs.Validity.{IsValid, HoldsAt, ElemModeHolds, DataModeHolds, count_of}
-use Rattle.wasm_meaning.specs.Outcomes.{past, overwrite}
+use Rattle.wasm_meaning.specs.Outcomes.{overwrite}
 use Rattle.wasm_meaning.specs.State.{Val, Inst, Memory, Data, Store}
 use Rattle.wasm_meaning.specs.Values.{num_of}
-use Rattle.wasm_meaning.specs.Linking.{Part, place, then_some, module_at}
+use Rattle.wasm_meaning.specs.Linking.{Part, module_at}
 use Rattle.wasm_meaning.specs.Environment.{Environment}
 use Rattle.wasm_meaning.specs.World.{Filled, given, numbers, value_of, number_value, tasks_in, elem_tasks, data_tasks, elems_before, datas_before, fill_table, fill_memory, copy_elem, copy_data, run_elem, run_elem_mode, run_data, run_data_mode, in_turn, segments}
 use Rattle.index_remap.specs.Related.{Pairing, Elems, OptRel, none, some, ElemRel, ValRel, number, reference}
@@ -114,10 +114,10 @@ entries_many entries n count e = ap length e ∙ numbers_length n count
 
 -- the segment at an address is copied into the table at an address
 abbrev table_at : Store → (segment offset : ℕ) → ℕ → Option Filled
-table_at s n q a = then_some (place s.tables a) (λ t. then_some (place s.elems n) (λ e. Some (fill_table s n a t (overwrite t.slots q e.items))))
+table_at s n q a = option_and_then (λ t. option_and_then (λ e. Some (fill_table s n a t (overwrite t.slots q e.items))) (slice_get s.elems n)) (slice_get s.tables a)
 
 abbrev memory_at : Store → (segment offset : ℕ) → ℕ → Option Filled
-memory_at s n q a = then_some (place s.mems a) (λ m. then_some (place s.datas n) (λ d. Some (fill_memory s n a m (overwrite m.bytes q d.bytes))))
+memory_at s n q a = option_and_then (λ m. option_and_then (λ d. Some (fill_memory s n a m (overwrite m.bytes q d.bytes))) (slice_get s.datas n)) (slice_get s.mems a)
 
 module _ (env : Environment) (parts : List Part) (mode : Mode) where
   abbrev R : Pairing
@@ -129,21 +129,21 @@ module _ (env : Environment) (parts : List Part) (mode : Mode) where
   abbrev M : List Part
   M = one whole
 
-  copy_elem_alike : {s z : Store} (i j : Inst) (n x y a : ℕ) (o : Option ℕ) → place i.tables x ≡ Some a → place j.tables y ≡ Some a → n < length s.elems → StoresAlike env parts s z → FilledAlike env parts (copy_elem s n i x o) (copy_elem z n j y o)
+  copy_elem_alike : {s z : Store} (i j : Inst) (n x y a : ℕ) (o : Option ℕ) → slice_get i.tables x ≡ Some a → slice_get j.tables y ≡ Some a → n < length s.elems → StoresAlike env parts s z → FilledAlike env parts (copy_elem s n i x o) (copy_elem z n j y o)
   copy_elem_alike {s} {z} i j n x y a o first second lt like =
-      or_trapped_alike env parts like (then_same o (λ q _. opt_at (ap (λ o. then_some o (table_at s n q)) first) (ap (λ o. then_some o (table_at z n q)) second) (here q)))
+      or_trapped_alike env parts like (then_same o (λ q _. opt_at (ap (λ o. option_and_then (table_at s n q) o) first) (ap (λ o. option_and_then (table_at z n q) o) second) (here q)))
     where
-      segment : OptRel (ElemRel R) (place s.elems n) (place z.elems n)
+      segment : OptRel (ElemRel R) (slice_get s.elems n) (slice_get z.elems n)
       segment =
           let m = length_rel like.elems in
-          opt_at refl (ap (λ es. place es n) like.all_elems ∙ place_left like.shared_elems like.more_elems n (omega (arith, lt, m))) (place_rel like.elems n)
+          opt_at refl (ap (λ es. slice_get es n) like.all_elems ∙ place_left like.shared_elems like.more_elems n (omega (arith, lt, m))) (place_rel like.elems n)
 
       here : (q : ℕ) → OptRel (FilledAlike env parts) (table_at s n q a) (table_at z n q a)
       here q = then_rel (place_rel like.tables a) (λ _ _ t. then_rel segment (λ _ _ e. some (fill_table_alike env parts n a like lt t (overwrite_rel q t.slots e.items))))
 
-  copy_data_alike : {s z : Store} (i j : Inst) (n x y a : ℕ) (o : Option ℕ) → place i.mems x ≡ Some a → place j.mems y ≡ Some a → StoresAlike env parts s z → FilledAlike env parts (copy_data s n i x o) (copy_data z n j y o)
+  copy_data_alike : {s z : Store} (i j : Inst) (n x y a : ℕ) (o : Option ℕ) → slice_get i.mems x ≡ Some a → slice_get j.mems y ≡ Some a → StoresAlike env parts s z → FilledAlike env parts (copy_data s n i x o) (copy_data z n j y o)
   copy_data_alike {s} {z} i j n x y a o first second like =
-      or_trapped_alike env parts like (then_same o (λ q _. opt_at (ap (λ o. then_some o (memory_at s n q)) first) (ap (λ o. then_some o (memory_at z n q)) second) (here q)))
+      or_trapped_alike env parts like (then_same o (λ q _. opt_at (ap (λ o. option_and_then (memory_at s n q) o) first) (ap (λ o. option_and_then (memory_at z n q) o) second) (here q)))
     where
       same : (q : ℕ) (v w : Memory) (d e : Data) → v ≡ w → d ≡ e → FilledAlike env parts (fill_memory s n a v (overwrite v.bytes q d.bytes)) (fill_memory z n a w (overwrite w.bytes q e.bytes))
       same q v w d e f g =
@@ -151,7 +151,7 @@ module _ (env : Environment) (parts : List Part) (mode : Mode) where
           (subst (λ w. FilledAlike env parts (fill_memory s n a v (overwrite v.bytes q d.bytes)) (fill_memory z n a w (overwrite w.bytes q d.bytes))) f (fill_memory_alike env parts {v = v} {w = v} n a (overwrite v.bytes q d.bytes) like refl))
 
       here : (q : ℕ) → OptRel (FilledAlike env parts) (memory_at s n q a) (memory_at z n q a)
-      here q = then_rel (equal_rel (ap (λ ms. place ms a) like.mems)) (λ v w f. then_rel (equal_rel (ap (λ ds. place ds n) like.datas)) (λ d e g. some (same q v w d e f g)))
+      here q = then_rel (equal_rel (ap (λ ms. slice_get ms a) like.mems)) (λ v w f. then_rel (equal_rel (ap (λ ds. slice_get ds n) like.datas)) (λ d e g. some (same q v w d e f g)))
 
   module _ (can : CanBeJoined parts mode) (items : ValidItemsHold) (insts js : List Inst) (agree : InstancesAgree env parts insts js) (values : ValuesAgree env parts mode insts js) where
     abbrev j : Inst
@@ -164,13 +164,13 @@ module _ (env : Environment) (parts : List Part) (mode : Mode) where
     offset_same : (p : ℕ) (m : Module) (e : ConstExpr) (ty : ValType) → module_at parts p ≡ Some m → const_type m e ≡ Some ty → number_value env parts insts p e ≡ number_value env M js 0 (merged_const parts p e)
     offset_same p m e ty is t = go (values p m e ty is t)
       where
-        go : {o q : Option Val} → OptRel (ValRel R) o q → then_some o (λ v. given (num_of W32 v)) ≡ then_some q (λ v. given (num_of W32 v))
+        go : {o q : Option Val} → OptRel (ValRel R) o q → option_and_then (λ v. given (num_of W32 v)) o ≡ option_and_then (λ v. given (num_of W32 v)) q
         go none = refl
         go (some v) = number_same v
 
     -- ---- element segments ----
 
-    elem_holds : (p : ℕ) (m : Module) (x : ℕ) (e : ElemSeg) → module_at parts p ≡ Some m → place m.elems x ≡ Some e → ElemModeHolds m e.ty e.mode
+    elem_holds : (p : ℕ) (m : Module) (x : ℕ) (e : ElemSeg) → module_at parts p ≡ Some m → slice_get m.elems x ≡ Some e → ElemModeHolds m e.ty e.mode
     elem_holds p m x e is h =
         let got : slice_get m.elems x ≡ Some e = sym (place_get m.elems x) ∙ h in
         let z = items m (can.valid p m is) kind.Elem x (within m.elems x e got) in
@@ -205,7 +205,7 @@ module _ (env : Environment) (parts : List Part) (mode : Mode) where
           is = i.1;
           same = λ x l.
               let o = i.2.elems.each x (omega (arith, l, size)) in
-              record { address = o.address; first = o.first; second = ap (place j.elems) (sym (entry_is (map_of parts p m).elems (elems_before parts p) (length m.elems) x (elem_places parts p m) l)) ∙ o.second };
+              record { address = o.address; first = o.first; second = ap (slice_get j.elems) (sym (entry_is (map_of parts p m).elems (elems_before parts p) (length m.elems) x (elem_places parts p m) l)) ∙ o.second };
           each = λ x a e h at s z like.
               let l = within m.elems x e (sym (place_get m.elems x) ∙ h) in
               let o = i.2.elems.each x (omega (arith, l, size)) in
@@ -228,16 +228,16 @@ module _ (env : Environment) (parts : List Part) (mode : Mode) where
         let e = joined_elems parts mode in
         let zero_more : (q : ℕ) → q ≡ 0 + q = λ q. omega arith in
         let all = by_parts env parts (run_elem env parts insts) (run_elem env M js) j insts (λ m. m.elems) (λ i. i.elems) (λ p m. merged_elem parts p (map_of parts p m)) (elems_before parts) (elems_next parts) e.more (declared_alike e.declares)
-        elems_do 0 parts insts (λ q. ap (module_at parts) (zero_more q)) (λ q. ap (place insts) (zero_more q)) s z like in
-        let first : tasks_in 0 j (past j.elems (elems_before parts 0)) (by_part (λ p m. map (merged_elem parts p (map_of parts p m)) m.elems) parts ++ e.more) ≡ elem_tasks 0 M js =
-        ap (λ n. tasks_in 0 j (past j.elems n) (by_part (λ p m. map (merged_elem parts p (map_of parts p m)) m.elems) parts ++ e.more)) (elems_start parts)
+        elems_do 0 parts insts (λ q. ap (module_at parts) (zero_more q)) (λ q. ap (slice_get insts) (zero_more q)) s z like in
+        let first : tasks_in 0 j (drop (elems_before parts 0) j.elems) (by_part (λ p m. map (merged_elem parts p (map_of parts p m)) m.elems) parts ++ e.more) ≡ elem_tasks 0 M js =
+        ap (λ n. tasks_in 0 j (drop n j.elems) (by_part (λ p m. map (merged_elem parts p (map_of parts p m)) m.elems) parts ++ e.more)) (elems_start parts)
         ∙ ap (tasks_in 0 j j.elems) (sym e.are) ∙ nothing_after (tasks_in 0 j j.elems whole.elems) ∙ ap (elem_tasks 0 M) (sym agree.alone) in
         subst (λ ts. FilledAlike env parts (in_turn (run_elem env parts insts) s ts) (in_turn (run_elem env M js) z (elem_tasks 0 M js))) (sym (elems_by 0 parts insts))
         (subst (λ ts. FilledAlike env parts (in_turn (run_elem env parts insts) s (tasks_by (λ m. m.elems) (λ i. i.elems) 0 parts insts)) (in_turn (run_elem env M js) z ts)) first all)
 
     -- ---- data segments ----
 
-    data_holds : (p : ℕ) (m : Module) (x : ℕ) (d : DataSeg) → module_at parts p ≡ Some m → place m.datas x ≡ Some d → DataModeHolds m d.mode
+    data_holds : (p : ℕ) (m : Module) (x : ℕ) (d : DataSeg) → module_at parts p ≡ Some m → slice_get m.datas x ≡ Some d → DataModeHolds m d.mode
     data_holds p m x d is h =
         let got : slice_get m.datas x ≡ Some d = sym (place_get m.datas x) ∙ h in
         let z = items m (can.valid p m is) kind.Segment x (within m.datas x d got) in
@@ -269,7 +269,7 @@ module _ (env : Environment) (parts : List Part) (mode : Mode) where
           is = i.1;
           same = λ x l.
               let o = i.2.datas.each x (omega (arith, l, size)) in
-              record { address = o.address; first = o.first; second = ap (place j.datas) (sym (entry_is (map_of parts p m).datas (datas_before parts p) (length m.datas) x (data_places parts p m) l)) ∙ o.second };
+              record { address = o.address; first = o.first; second = ap (slice_get j.datas) (sym (entry_is (map_of parts p m).datas (datas_before parts p) (length m.datas) x (data_places parts p m) l)) ∙ o.second };
           each = λ x a d h at s z like. data_alike p m i.0 a d is i.2 (data_holds p m x d is h) like;
         }
 
@@ -277,9 +277,9 @@ module _ (env : Environment) (parts : List Part) (mode : Mode) where
     datas_alike s z like =
         let zero_more : (q : ℕ) → q ≡ 0 + q = λ q. omega arith in
         let all = by_parts env parts (run_data env parts insts) (run_data env M js) j insts (λ m. m.datas) (λ i. i.datas) (λ p m. merged_data parts p (map_of parts p m)) (datas_before parts) (datas_next parts) [] no_data
-        datas_do 0 parts insts (λ q. ap (module_at parts) (zero_more q)) (λ q. ap (place insts) (zero_more q)) s z like in
-        let first : tasks_in 0 j (past j.datas (datas_before parts 0)) (by_part (λ p m. map (merged_data parts p (map_of parts p m)) m.datas) parts ++ []) ≡ data_tasks 0 M js =
-        ap (λ n. tasks_in 0 j (past j.datas n) (by_part (λ p m. map (merged_data parts p (map_of parts p m)) m.datas) parts ++ [])) (datas_start parts)
+        datas_do 0 parts insts (λ q. ap (module_at parts) (zero_more q)) (λ q. ap (slice_get insts) (zero_more q)) s z like in
+        let first : tasks_in 0 j (drop (datas_before parts 0) j.datas) (by_part (λ p m. map (merged_data parts p (map_of parts p m)) m.datas) parts ++ []) ≡ data_tasks 0 M js =
+        ap (λ n. tasks_in 0 j (drop n j.datas) (by_part (λ p m. map (merged_data parts p (map_of parts p m)) m.datas) parts ++ [])) (datas_start parts)
         ∙ ap (tasks_in 0 j j.datas) (sym (nothing_after _) ∙ sym (joined_datas parts mode)) ∙ nothing_after (tasks_in 0 j j.datas whole.datas) ∙ ap (data_tasks 0 M) (sym agree.alone) in
         subst (λ ts. FilledAlike env parts (in_turn (run_data env parts insts) s ts) (in_turn (run_data env M js) z (data_tasks 0 M js))) (sym (datas_by 0 parts insts))
         (subst (λ ts. FilledAlike env parts (in_turn (run_data env parts insts) s (tasks_by (λ m. m.datas) (λ i. i.datas) 0 parts insts)) (in_turn (run_data env M js) z ts)) first all)

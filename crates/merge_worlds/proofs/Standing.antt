@@ -1,12 +1,12 @@
 -- For what each entry of a part's index space stands, in the parts' world and in the merged module: for what a part defines, with its number among all
 -- definitions, or for an import that stays.
-use Rattle.std.proofs.Common.{◌≡◌, ◌∙◌, sym, ap, ap₂, subst, refl, ℕ, zero, suc, ◌+◌, ◌-◌, ◌<◌, ◌≤◌, List, [], ◌∷◌, length, Option, Some, None, Bool, true, cond, false, arith}
+use Rattle.std.proofs.Common.{◌≡◌, ◌∙◌, sym, ap, ap₂, subst, refl, ℕ, zero, suc, ◌+◌, ◌-◌, ◌<◌, ◌≤◌, List, [], ◌∷◌, length, Option, Some, None, Bool, true, cond, false, arith, option_and_then, slice_get, ◌&&◌}
 use Rattle.std.specs.Prelude.{nat_eq, nat_lt}
 use Rattle.std.proofs.lemmas.Bool.{ltb-true, lt-ltb, eq-eqb}
 use Rattle.wasm_tree.specs.declared.module.Import.{Import}
 use Rattle.wasm_tree.specs.declared.module.Module.{Module}
 use Rattle.wasm_meaning.specs.Outcomes.{Gives}
-use Rattle.wasm_meaning.specs.Linking.{Part, Site, Defined, Outside, Kind, Functions, Tables, Memories, Globals, place, then_some, has_kind, kind_of_import, kind_of_export, index_of_export, module_at, import_at, imports_of}
+use Rattle.wasm_meaning.specs.Linking.{Part, Site, Defined, Outside, Kind, Functions, Tables, Memories, Globals, has_kind, kind_of_import, kind_of_export, index_of_export, module_at, import_at, imports_of}
 use Rattle.wasm_meaning.specs.Environment.{Environment, OwnKey, Thing, Owned, owned_of, look_up, same_key}
 use Rattle.wasm_meaning.specs.World.{given, own_count, defined_count, defined_before, base, thing_at, address_of, own_key, outside_thing, defined_thing, thing_of, imported_thing}
 use Rattle.index_remap.specs.Related.{Pairing, OptRel, none, some, ListRel}
@@ -64,22 +64,22 @@ defined_low k parts p m e =
 
 pub record IsImport (k : Kind) (m : Module) (n : ℕ) : Type 0 where
   pub import : Import
-  pub at : place m.imports n ≡ Some import
+  pub at : slice_get m.imports n ≡ Some import
   pub kind : kind_of_import import.desc ≡ k
 
-pub import_there : (k : Kind) (m : Module) (x n : ℕ) → place (imports_of k m) x ≡ Some n → IsImport k m n
+pub import_there : (k : Kind) (m : Module) (x n : ℕ) → slice_get (imports_of k m) x ≡ Some n → IsImport k m n
 import_there k m x n h =
     let r = place_back (has_kind k) m.imports 0 x n h in
     let same : n ≡ r.0 = (let d = r.2 in omega (arith, d)) in
-    record { import = r.1; at = ap (place m.imports) same ∙ r.3; kind = sym (kind_is k (kind_of_import r.1.desc) r.4) }
+    record { import = r.1; at = ap (slice_get m.imports) same ∙ r.3; kind = sym (kind_is k (kind_of_import r.1.desc) r.4) }
 
 -- ---- the environment's own ----
 
-found_at : (is : OwnKey → Bool) (xs : Owned) (x : Thing) → given (look_up is xs) ≡ Some x → (n : ℕ) × (key : OwnKey) × (place xs n ≡ Some (key, x))
+found_at : (is : OwnKey → Bool) (xs : Owned) (x : Thing) → given (look_up is xs) ≡ Some x → (n : ℕ) × (key : OwnKey) × (slice_get xs n ≡ Some (key, x))
 found_at is [] x h = absurd (let k = h in cc)
 found_at is (y ∷ xs) x h = by (is y.0) h (λ h. found_at is xs x h)
   where
-    by : (b : Bool) → given (cond b (Gives y.1) (look_up is xs)) ≡ Some x → (given (look_up is xs) ≡ Some x → (n : ℕ) × (key : OwnKey) × (place xs n ≡ Some (key, x))) → (n : ℕ) × (key : OwnKey) × (place (y ∷ xs) n ≡ Some (key, x))
+    by : (b : Bool) → given (cond b (Gives y.1) (look_up is xs)) ≡ Some x → (given (look_up is xs) ≡ Some x → (n : ℕ) × (key : OwnKey) × (slice_get xs n ≡ Some (key, x))) → (n : ℕ) × (key : OwnKey) × (slice_get (y ∷ xs) n ≡ Some (key, x))
     by true h on = let same : y.1 ≡ x = cc in (0, y.0, ap {A = Thing} {B = Option (OwnKey × Thing)} (λ z. Some (y.0, z)) same)
     by false h on = let r = on h in (suc r.0, r.1, r.2)
 
@@ -108,12 +108,12 @@ module _ (env : Environment) (parts : List Part) where
   shared_is Globals = refl
 
   pub is_shared_at : (k : to.Kind) (a : ℕ) → a < shared_count env parts k → is_shared env parts k a a ≡ true
-  is_shared_at k a l = ap₂ (λ b c. cond b c false) (eq-eqb a a refl) (lt-ltb a (shared_count env parts k) l)
+  is_shared_at k a l = ap₂ (λ b c. b && c) (eq-eqb a a refl) (lt-ltb a (shared_count env parts k) l)
 
   pub shared_low : (k : to.Kind) (a b : ℕ) → is_shared env parts k a b ≡ true → a < shared_count env parts k
   shared_low k a b h = by (nat_eq a b) h
     where
-      by : (c : Bool) → cond c (nat_lt a (shared_count env parts k)) false ≡ true → a < shared_count env parts k
+      by : (c : Bool) → c && nat_lt a (shared_count env parts k) ≡ true → a < shared_count env parts k
       by true h = ltb-true a (shared_count env parts k) h
       by false h = cc
 
@@ -129,11 +129,11 @@ module _ (env : Environment) (parts : List Part) where
 
   -- the address of an import of a part
   abbrev pub import_address : Kind → ℕ → ℕ → Option ℕ
-  import_address k p n = then_some (imported_thing env parts (record { part = p; import = n })) (address_of k)
+  import_address k p n = option_and_then (address_of k) (imported_thing env parts (record { part = p; import = n }))
 
   -- the address of the environment's entity for which an import stands that stays
   abbrev pub site_address : Kind → Site → Option ℕ
-  site_address k s = then_some (outside_thing (owned_of env) parts s) (address_of k)
+  site_address k s = option_and_then (address_of k) (outside_thing (owned_of env) parts s)
 
   -- which is one of the first
   pub site_low : OwnEntitiesCorrespond → (k : Kind) (s : Site) (a : ℕ) → site_address k s ≡ Some a → a < shared_count env parts (kind_in k)
@@ -149,10 +149,10 @@ module _ (env : Environment) (parts : List Part) where
   -- an address in the parts' world, and an index of the merged module, of one entity
   pub data Stands (k : Kind) (address : Option ℕ) (index : ℕ) : Type 0 where
     own : (d : ℕ) → d < total k → address ≡ Some (own_count k env + d) → index ≡ length (staying_of parts k) + d → Stands k address index
-    stays : (u : Site) → place (staying_of parts k) index ≡ Some u → address ≡ site_address k u → Stands k address index
+    stays : (u : Site) → slice_get (staying_of parts k) index ≡ Some u → address ≡ site_address k u → Stands k address index
 
   module _ (laws : SpaceLaws) (linked : link_fault parts ≡ None) where
-    inside_stands : (k : Kind) (p : ℕ) (m : Module) (x n : ℕ) (i : Import) → module_at parts p ≡ Some m → place (imports_of k m) x ≡ Some n → kind_of_import i.desc ≡ k → EndsInside parts (record { part = p; import = n }) i → Stands k (import_address k p n) (new_index parts p k x)
+    inside_stands : (k : Kind) (p : ℕ) (m : Module) (x n : ℕ) (i : Import) → module_at parts p ≡ Some m → slice_get (imports_of k m) x ≡ Some n → kind_of_import i.desc ≡ k → EndsInside parts (record { part = p; import = n }) i → Stands k (import_address k p n) (new_index parts p k x)
     inside_stands k p m x n i is h kind w =
         let e = w.entity in
         let j = index_of_export e.what - length (imports_of k w.of) in
@@ -161,25 +161,25 @@ module _ (env : Environment) (parts : List Part) where
         let within = subst (λ k. index_of_export e.what < length (imports_of k w.of) + defined_count k w.of) kind w.within in
         let low = defined_low k parts e.part w.of w.is_part in
         let same : kind_of_export e.what ≡ k = w.kind ∙ kind in
-        let thing : then_some (defined_thing env parts e) (address_of k) ≡ Some (base env parts k e.part + j) =
-        ap (λ o. then_some o (address_of k)) (defined_at env parts e w.of w.is_part (subst (λ l. index_of_export e.what - length (imports_of l w.of) < defined_count l w.of) (sym same) (omega (arith, follows, within))))
+        let thing : option_and_then (address_of k) (defined_thing env parts e) ≡ Some (base env parts k e.part + j) =
+        ap (λ o. option_and_then (address_of k) o) (defined_at env parts e w.of w.is_part (subst (λ l. index_of_export e.what - length (imports_of l w.of) < defined_count l w.of) (sym same) (omega (arith, follows, within))))
         ∙ ap (λ l. address_of k (thing_at l (base env parts l e.part + (index_of_export e.what - length (imports_of l w.of))))) same
         ∙ address_at k (base env parts k e.part + j) in
         let number : base env parts k e.part + j ≡ own_count k env + d = omega arith in
         own d (omega (arith, follows, within, low))
-        (ap (λ o. then_some (then_some o (thing_of env parts)) (address_of k)) w.end ∙ thing ∙ ap Some number)
+        (ap (λ o. option_and_then (address_of k) (option_and_then (thing_of env parts) o)) w.end ∙ thing ∙ ap Some number)
         ((laws.indices parts p m k x is).0 n (Defined e) h w.linked ∙ laws.defined parts e w.of k w.is_part)
 
-    outside_stands : (k : Kind) (p : ℕ) (m : Module) (x n : ℕ) (i : Import) → module_at parts p ≡ Some m → place (imports_of k m) x ≡ Some n → kind_of_import i.desc ≡ k → EndsOutside parts (record { part = p; import = n }) i → Stands k (import_address k p n) (new_index parts p k x)
+    outside_stands : (k : Kind) (p : ℕ) (m : Module) (x n : ℕ) (i : Import) → module_at parts p ≡ Some m → slice_get (imports_of k m) x ≡ Some n → kind_of_import i.desc ≡ k → EndsOutside parts (record { part = p; import = n }) i → Stands k (import_address k p n) (new_index parts p k x)
     outside_stands k p m x n i is h kind w =
-        stays w.to (ap (place (staying_of parts k)) ((laws.indices parts p m k x is).0 n (Outside w.to) h w.linked) ∙ laws.places parts w.to w.import w.at w.remains k (w.kind ∙ kind))
-        (ap (λ o. then_some (then_some o (thing_of env parts)) (address_of k)) w.end ∙ ap (λ o. then_some o (address_of k)) (w.same_thing (owned_of env)))
+        stays w.to (ap (slice_get (staying_of parts k)) ((laws.indices parts p m k x is).0 n (Outside w.to) h w.linked) ∙ laws.places parts w.to w.import w.at w.remains k (w.kind ∙ kind))
+        (ap (λ o. option_and_then (address_of k) (option_and_then (thing_of env parts) o)) w.end ∙ ap (λ o. option_and_then (address_of k) o) (w.same_thing (owned_of env)))
 
     -- an import of a part
-    pub import_stands : (k : Kind) (p : ℕ) (m : Module) (x n : ℕ) → module_at parts p ≡ Some m → place (imports_of k m) x ≡ Some n → Stands k (import_address k p n) (new_index parts p k x)
+    pub import_stands : (k : Kind) (p : ℕ) (m : Module) (x n : ℕ) → module_at parts p ≡ Some m → slice_get (imports_of k m) x ≡ Some n → Stands k (import_address k p n) (new_index parts p k x)
     import_stands k p m x n is h =
         let i = import_there k m x n h in
-        by i.import i.kind (laws.ends parts linked (record { part = p; import = n }) i.import (ap (λ o. then_some o (λ m. place m.imports n)) is ∙ i.at))
+        by i.import i.kind (laws.ends parts linked (record { part = p; import = n }) i.import (ap (λ o. option_and_then (λ m. slice_get m.imports n) o) is ∙ i.at))
       where
         by : (i : Import) → kind_of_import i.desc ≡ k → Ended parts (record { part = p; import = n }) i → Stands k (import_address k p n) (new_index parts p k x)
         by i kind (inside w) = inside_stands k p m x n i is h kind w

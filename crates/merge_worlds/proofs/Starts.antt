@@ -1,11 +1,11 @@
 -- The functions that the parts start, and what the merged module starts: the same one, or none, or the one function that calls them.
-use Rattle.std.proofs.Common.{◌≡◌, ◌∙◌, ap, ap₂, sym, subst, refl, ℕ, suc, ◌+◌, ◌<◌, List, [], ◌∷◌, ◌++◌, length, Option, Some, None, true, arith}
+use Rattle.std.proofs.Common.{◌≡◌, ◌∙◌, ap, ap₂, sym, subst, refl, ℕ, suc, ◌+◌, ◌<◌, List, [], ◌∷◌, ◌++◌, length, Option, Some, None, true, arith, slice_get}
 use Rattle.std.specs.Prelude.{slice_index}
 use Rattle.std.proofs.lemmas.Bool.{ltb-true}
 use Rattle.wasm_tree.specs.declared.module.Module.{Module}
 use Rattle.wasm_tree.specs.Spaces.{funcs_of}
 use Rattle.wasm_meaning.specs.State.{Text, Inst}
-use Rattle.wasm_meaning.specs.Linking.{Part, Functions, place, module_at}
+use Rattle.wasm_meaning.specs.Linking.{Part, Functions, module_at}
 use Rattle.wasm_meaning.specs.Environment.{Environment}
 use Rattle.wasm_meaning.specs.World.{own_count, defined_before, one_place, start_in, starts_of, numbers, inst_of, insts_from}
 use Rattle.index_remap.specs.Renumbered.{fits_start}
@@ -30,7 +30,7 @@ use Rattle.merge_worlds.proofs.Named.{AllFit, start_fits}
 
 -- an address, and the index by which the merged module's instance names it
 pub record IsNamed (env : Environment) (parts : List Part) (j : Inst) (a f : ℕ) : Type 0 where
-  pub names : place j.funcs f ≡ Some a
+  pub names : slice_get j.funcs f ≡ Some a
   pub shared : a < shared_count env parts Funcs
 
 -- what the parts start one after the other, what is started of the merged module, and the new indices of the parts' starts
@@ -48,7 +48,7 @@ merged_start_is parts names = refl
 
 -- ---- several starts ----
 
-starts_by : (P : ℕ → ℕ → Type 0) (parts : List Part) (first : ℕ) (rest : List Part) (is : List Inst) → ((q : ℕ) (m : Module) → module_at rest q ≡ Some m → (i : Inst) × (place is q ≡ Some i) × ListRel P (start_in i m.start) (start_of parts (first + q) m.start)) →
+starts_by : (P : ℕ → ℕ → Type 0) (parts : List Part) (first : ℕ) (rest : List Part) (is : List Inst) → ((q : ℕ) (m : Module) → module_at rest q ≡ Some m → (i : Inst) × (slice_get is q ≡ Some i) × ListRel P (start_in i m.start) (start_of parts (first + q) m.start)) →
     ListRel P (starts_of rest is) (by_part_from (λ p m. start_of parts p m.start) first rest)
 starts_by P parts first [] is h = nil
 starts_by P parts first (part ∷ rest) [] h = absurd (let x = h 0 part.«module» refl in let z = x.1 in cc)
@@ -83,7 +83,7 @@ module _ (laws : SpaceLaws) (env : Environment) (parts : List Part) (linked : li
       let many : length (map_of parts p m).funcs ≡ length (funcs_of m) = ap length (map_funcs parts p m) ∙ map_length (new_index parts p Functions) (numbers 0 (length (funcs_of m))) ∙ numbers_length 0 (length (funcs_of m)) in
       let entry : slice_index (map_of parts p m).funcs f ≡ new_index parts p Functions f = map_entry parts p Functions (map_of parts p m).funcs (length (funcs_of m)) (map_funcs parts p m) f (omega (arith, low, many)) in
       subst (λ o. ListRel (IsNamed env parts agree.merged) (one_place o) (new_index parts p Functions f ∷ [])) (sym s.first)
-      (cons (record { names = ap (place agree.merged.funcs) (sym entry) ∙ s.second; shared = s.shared }) nil)
+      (cons (record { names = ap (slice_get agree.merged.funcs) (sym entry) ∙ s.second; shared = s.shared }) nil)
 
   all_named : ListRel (IsNamed env parts agree.merged) (starts_of parts insts) (starts parts)
   unfolding starts
@@ -96,7 +96,7 @@ module _ (laws : SpaceLaws) (env : Environment) (parts : List Part) (linked : li
   joined_starts = ap (starts_of (one J)) agree.alone ∙ ap (λ o. start_in agree.merged o ++ []) ((joined_keeps parts mode).start ∙ merged_start_is parts (names_of parts mode))
 
   -- where the merged module has a function more, the instance names it by its last index
-  pub last_named : insts_from env (one J) 0 (one J) ≡ Some js → (f g : ℕ) (fs : List ℕ) → starts parts ≡ f ∷ g ∷ fs → place agree.merged.funcs (length (staying_of parts Functions) + defined_before Functions parts (length parts)) ≡ Some (shared_count env parts Funcs)
+  pub last_named : insts_from env (one J) 0 (one J) ≡ Some js → (f g : ℕ) (fs : List ℕ) → starts parts ≡ f ∷ g ∷ fs → slice_get agree.merged.funcs (length (staying_of parts Functions) + defined_before Functions parts (length parts)) ≡ Some (shared_count env parts Funcs)
   last_named there f g fs e =
       let j = then_is (inst_of env (one J) 0 J) _ js there in
       let q = j.2 in
@@ -108,8 +108,8 @@ module _ (laws : SpaceLaws) (env : Environment) (parts : List Part) (linked : li
       let total = defined_before Functions parts (length parts) in
       let more : added_count parts Functions ≡ 1 = ap (λ fs. length (start_calls parts fs)) e in
       let at : length (staying_of parts Functions) + total ≡ length s.imported + total = omega (arith, many) in
-      ap (λ (i : Inst). place i.funcs (length (staying_of parts Functions) + total)) (sym same)
-      ∙ ap₂ (λ l n. place l n) s.all at ∙ place_right s.imported _ total ∙ place_numbers (own_count Functions env) (total + added_count parts Functions) total (omega (arith, more))
+      ap (λ (i : Inst). slice_get i.funcs (length (staying_of parts Functions) + total)) (sym same)
+      ∙ ap₂ (λ l n. slice_get l n) s.all at ∙ place_right s.imported _ total ∙ place_numbers (own_count Functions env) (total + added_count parts Functions) total (omega (arith, more))
 
   pub starts_agree : insts_from env (one J) 0 (one J) ≡ Some js → StartsAgree env parts agree.merged (starts_of parts insts) (starts_of (one J) js)
   starts_agree there = record {

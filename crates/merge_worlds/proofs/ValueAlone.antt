@@ -1,5 +1,5 @@
 -- A module alone that is instantiated: its index spaces, and the values of its constant expressions.
-use Rattle.std.proofs.Common.{◌≡◌, ℕ, zero, suc, ◌+◌, ◌-◌, ◌<◌, ◌≤◌, List, [], ◌∷◌, ◌++◌, map, length, Option, Some, None, Bool, true, false, cond, ◌⊎◌, inl, inr, refl, sym, ap, ◌∙◌, arith}
+use Rattle.std.proofs.Common.{◌≡◌, ℕ, zero, suc, ◌+◌, ◌-◌, ◌<◌, ◌≤◌, List, [], ◌∷◌, ◌++◌, map, length, Option, Some, None, Bool, true, false, cond, ◌⊎◌, inl, inr, refl, sym, ap, ◌∙◌, arith, option_and_then, slice_get}
 use Rattle.std.proofs.lemmas.Bool.{cases_lt}
 use Rattle.std.specs.List.{cons_option}
 use Rattle.wasm_tree.specs.declared.module.Import.{Import}
@@ -9,7 +9,7 @@ use Rattle.wasm_tree.specs.declared.module.ConstExpr.TheVariants as const
 use Rattle.wasm_tree.specs.declared.module.Module.{Module}
 use Rattle.wasm_tree.specs.Spaces.{func_of, imported_funcs, funcs_of}
 use Rattle.wasm_meaning.specs.State.{Inst}
-use Rattle.wasm_meaning.specs.Linking.{Kind, Functions, Globals, Read, place, then_some, places, has_kind, same_kind, kind_of_import, imports_of, space_index}
+use Rattle.wasm_meaning.specs.Linking.{Kind, Functions, Globals, Read, places, has_kind, same_kind, kind_of_import, imports_of, space_index}
 use Rattle.wasm_meaning.specs.Environment.{Environment, own_globals}
 use Rattle.wasm_meaning.specs.World.{numbers, own_count, defined_count, space, inst_of, insts_from, value_of_read, value_of}
 use Rattle.permuted_worlds.specs.Alone.{one, address_in, import_places, addresses, read_in, SpacesAreImportsAndOwn, ReadsStay}
@@ -18,7 +18,7 @@ use Rattle.merge_validity.proofs.Lists.{then_is}
 use Rattle.merge_worlds.proofs.Chosen.{past_end}
 use Rattle.merge_worlds.proofs.Instancing.{IsInst, inst_is}
 
-number_past : (c n z a : ℕ) → place (numbers c n) z ≡ Some a → c ≤ a
+number_past : (c n z a : ℕ) → slice_get (numbers c n) z ≡ Some a → c ≤ a
 number_past c zero z a h = cc
 number_past c (suc n) zero a h = let same : c ≡ a = cc in omega (arith, same)
 number_past c (suc n) (suc z) a h = let l = number_past (suc c) n z a h in omega (arith, l)
@@ -30,15 +30,15 @@ record ImportAt (k : Kind) (imports : List Import) (from y n : ℕ) : Type 0 whe
   at : ℕ
   import : Import
   is : n ≡ from + at
-  got : place imports at ≡ Some import
+  got : slice_get imports at ≡ Some import
   index : space_index imports at k ≡ y
 
-import_at : (k : Kind) (is : List Import) (from y n : ℕ) → place (places (has_kind k) is from) y ≡ Some n → ImportAt k is from y n
+import_at : (k : Kind) (is : List Import) (from y n : ℕ) → slice_get (places (has_kind k) is from) y ≡ Some n → ImportAt k is from y n
 import_at k [] from y n h = absurd (let e = h in cc)
 import_at k (i ∷ is) from y n h = by (λ y h. import_at k is (suc from) y n h) (has_kind k i) refl y h
   where
-    by : ((y : ℕ) → place (places (has_kind k) is (suc from)) y ≡ Some n → ImportAt k is (suc from) y n) → (b : Bool) → has_kind k i ≡ b →
-        (y : ℕ) → place (cond b (from ∷ places (has_kind k) is (suc from)) (places (has_kind k) is (suc from))) y ≡ Some n → ImportAt k (i ∷ is) from y n
+    by : ((y : ℕ) → slice_get (places (has_kind k) is (suc from)) y ≡ Some n → ImportAt k is (suc from) y n) → (b : Bool) → has_kind k i ≡ b →
+        (y : ℕ) → slice_get (cond b (from ∷ places (has_kind k) is (suc from)) (places (has_kind k) is (suc from))) y ≡ Some n → ImportAt k (i ∷ is) from y n
     by on true e zero h = let same : from ≡ n = cc in record { at = 0; import = i; is = omega (arith, same); got = refl; index = refl }
     by on true e (suc y) h =
         let r = on y h in
@@ -66,8 +66,8 @@ read_here is y lt =
     let r = import_at Globals is 0 y n.0 n.1 in
     let d = r.is in
     let at : n.0 ≡ r.at = omega (arith, d) in
-    ap (λ o. then_some (then_some o (λ n. then_some (place is n) (λ i. Some (space_index is n Globals)))) as_read) (n.1 ∙ ap Some at)
-    ∙ ap (λ o. then_some (then_some {A = Import} o (λ i. Some (space_index is r.at Globals))) as_read) r.got
+    ap (λ o. option_and_then as_read (option_and_then (λ n. option_and_then (λ i. Some (space_index is n Globals)) (slice_get is n)) o)) (n.1 ∙ ap Some at)
+    ∙ ap (λ o. option_and_then as_read (option_and_then o {A = Import} (λ i. Some (space_index is r.at Globals)))) r.got
     ∙ ap {A = ℕ} {B = Option Read} (λ y. Some (record { part = 0; expr = const.Global y })) r.index
   where
     as_read : ℕ → Option Read
@@ -75,7 +75,7 @@ read_here is y lt =
 
 -- and there is none where it is no import
 read_past : (is : List Import) (y : ℕ) → length (import_places Globals is) ≤ y → read_in is (const.Global y) ≡ None
-read_past is y h = ap (λ o. then_some {B = Read} (then_some o (λ n. then_some (place is n) (λ i. Some (space_index is n Globals)))) (λ y. Some (record { part = 0; expr = const.Global y }))) (past_end (import_places Globals is) y h)
+read_past is y h = ap (λ o. option_and_then (option_and_then (λ n. option_and_then (λ i. Some (space_index is n Globals)) (slice_get is n)) o) {B = Read} (λ y. Some (record { part = 0; expr = const.Global y }))) (past_end (import_places Globals is) y h)
 
 -- ---- its instance ----
 
@@ -83,7 +83,7 @@ module _ (reads : ReadsStay) (spaces : SpacesAreImportsAndOwn) (env : Environmen
   there : inst_of env (one u) 0 u ≡ Some j
   there = by (inst_of env (one u) 0 u) are
     where
-      by : (o : Option Inst) → then_some o (λ i. Some (i ∷ [])) ≡ Some (j ∷ []) → o ≡ Some j
+      by : (o : Option Inst) → option_and_then (λ i. Some (i ∷ [])) o ≡ Some (j ∷ []) → o ≡ Some j
       by None h = cc
       by (Some i) h = let same : i ≡ j = cc in ap Some same
 
@@ -113,16 +113,16 @@ module _ (reads : ReadsStay) (spaces : SpacesAreImportsAndOwn) (env : Environmen
       omega (arith, a, b, c, d, e, f)
 
   -- a global has the value of the environment's at its address, where it is an import, and otherwise none that is read; its address is then none of the environment's
-  pub global_value : (y a : ℕ) → place j.globals y ≡ Some a → value_of env (one u) (j ∷ []) 0 (const.Global y) ≡ then_some (place (own_globals env) a) (λ g. Some g.value)
-  global_value y a h = ap (λ o. then_some o (value_of_read (own_globals env) (j ∷ []))) (reads u (const.Global y)) ∙ go (cases_lt y (length (import_places Globals u.imports)))
+  pub global_value : (y a : ℕ) → slice_get j.globals y ≡ Some a → value_of env (one u) (j ∷ []) 0 (const.Global y) ≡ option_and_then (λ g. Some g.value) (slice_get (own_globals env) a)
+  global_value y a h = ap (λ o. option_and_then (value_of_read (own_globals env) (j ∷ [])) o) (reads u (const.Global y)) ∙ go (cases_lt y (length (import_places Globals u.imports)))
     where
-      go : (y < length (import_places Globals u.imports)) ⊎ (length (import_places Globals u.imports) ≤ y) → then_some (read_in u.imports (const.Global y)) (value_of_read (own_globals env) (j ∷ [])) ≡ then_some (place (own_globals env) a) (λ g. Some g.value)
-      go (inl lt) = ap (λ o. then_some o (value_of_read (own_globals env) (j ∷ []))) (read_here u.imports y lt) ∙ ap (λ o. then_some o (λ a. then_some (place (own_globals env) a) (λ g. Some g.value))) h
+      go : (y < length (import_places Globals u.imports)) ⊎ (length (import_places Globals u.imports) ≤ y) → option_and_then (value_of_read (own_globals env) (j ∷ [])) (read_in u.imports (const.Global y)) ≡ option_and_then (λ g. Some g.value) (slice_get (own_globals env) a)
+      go (inl lt) = ap (λ o. option_and_then (value_of_read (own_globals env) (j ∷ [])) o) (read_here u.imports y lt) ∙ ap (λ o. option_and_then (λ a. option_and_then (λ g. Some g.value) (slice_get (own_globals env) a)) o) h
       go (inr past) =
           let l = space_at Globals j.globals own_spaces.globals in
           let n = l.1 in
           let z = y - length l.0 in
           let back : length l.0 + z ≡ y = omega (arith, n) in
-          let at : place (numbers (own_count Globals env) (length u.globals)) z ≡ Some a = sym (ap (λ xs. place xs y) l.2 ∙ ap (place (l.0 ++ numbers (own_count Globals env) (length u.globals))) (sym back) ∙ place_right l.0 (numbers (own_count Globals env) (length u.globals)) z) ∙ h in
-          ap (λ o. then_some o (value_of_read (own_globals env) (j ∷ []))) (read_past u.imports y past)
-          ∙ sym (ap (λ o. then_some o (λ g. Some g.value)) (past_end (own_globals env) a (number_past (length (own_globals env)) (length u.globals) z a at)))
+          let at : slice_get (numbers (own_count Globals env) (length u.globals)) z ≡ Some a = sym (ap (λ xs. slice_get xs y) l.2 ∙ ap (slice_get (l.0 ++ numbers (own_count Globals env) (length u.globals))) (sym back) ∙ place_right l.0 (numbers (own_count Globals env) (length u.globals)) z) ∙ h in
+          ap (λ o. option_and_then (value_of_read (own_globals env) (j ∷ [])) o) (read_past u.imports y past)
+          ∙ sym (ap (λ o. option_and_then (λ g. Some g.value) o) (past_end (own_globals env) a (number_past (length (own_globals env)) (length u.globals) z a at)))

@@ -1,5 +1,5 @@
 -- What the laws of lower crates say that the values and stores of parts and of their merged module rest on.
-use Rattle.std.specs.Prelude.{◌≡◌, ◌↔◌, ℕ, ◌<◌, List, Some, None, true, IsTrue}
+use Rattle.std.specs.Prelude.{◌≡◌, ◌↔◌, ℕ, ◌<◌, List, Some, None, true, IsTrue, slice_get}
 use Rattle.wasm_tree.specs.declared.types.ValType.{ValType}
 use Rattle.wasm_tree.specs.declared.module.ConstExpr.{ConstExpr}
 use Rattle.wasm_tree.specs.declared.module.Module.{Module}
@@ -7,7 +7,7 @@ use Rattle.wasm_valid.specs.declared.kinds.ItemKind.{ItemKind}
 use Rattle.wasm_valid.specs.Constants.{const_type}
 use Rattle.wasm_valid.specs.Validity.{IsValid, HoldsAt, count_of}
 use Rattle.wasm_meaning.specs.State.{Inst}
-use Rattle.wasm_meaning.specs.Linking.{Part, Read, place, module_at, read_of}
+use Rattle.wasm_meaning.specs.Linking.{Part, Read, module_at, read_of}
 use Rattle.wasm_meaning.specs.Environment.{Environment}
 use Rattle.index_remap.specs.Renumbered.{fits_tree}
 use Rattle.index_remap.specs.Laws.{RenumberedCodeIsRelated}
@@ -40,4 +40,4 @@ pub record Laws : Type 0 where
 
 -- the instance of each part agrees with that of the merged module
 abbrev pub EachAgrees : Environment → List Part → List Inst → Inst → Type 0
-EachAgrees env parts insts j = (p : ℕ) (m : Module) → module_at parts p ≡ Some m → (i : Inst) × (place insts p ≡ Some i) × PartAgrees env parts p m i j
+EachAgrees env parts insts j = (p : ℕ) (m : Module) → module_at parts p ≡ Some m → (i : Inst) × (slice_get insts p ≡ Some i) × PartAgrees env parts p m i j

@@ -1,5 +1,5 @@
 -- The addresses that both worlds have: each stands for itself, and those of the environment's own entities are among them.
-use Rattle.std.proofs.Common.{◌≡◌, ℕ, ◌<◌, List, Bool, true, false, cond, refl, sym, ◌∙◌, arith}
+use Rattle.std.proofs.Common.{◌≡◌, ℕ, ◌<◌, List, Bool, true, false, cond, refl, sym, ◌∙◌, arith, ◌&&◌}
 use Rattle.std.specs.Prelude.{nat_eq, nat_lt}
 use Rattle.std.proofs.lemmas.Bool.{eqb-true, eq-eqb, ltb-true, lt-ltb}
 use Rattle.wasm_tree.specs.declared.types.RefType.{RefType}
@@ -13,15 +13,15 @@ use Rattle.permuted_worlds.proofs.Owned.{flat_rel}
 use Rattle.permuted_worlds.proofs.Places.{self_rel, maps_rel}
 use Rattle.merge_worlds.specs.Shared.{shared_count, is_shared, sharing}
 
-both_true : (b c : Bool) → b ≡ true → c ≡ true → cond b c false ≡ true
+both_true : (b c : Bool) → b ≡ true → c ≡ true → b && c ≡ true
 both_true true c e h = h
 both_true false c e h = cc
 
-first_true : (b c : Bool) → cond b c false ≡ true → b ≡ true
+first_true : (b c : Bool) → b && c ≡ true → b ≡ true
 first_true true c h = refl
 first_true false c h = cc
 
-second_true : (b c : Bool) → cond b c false ≡ true → c ≡ true
+second_true : (b c : Bool) → b && c ≡ true → c ≡ true
 second_true true c h = h
 second_true false c h = cc
 

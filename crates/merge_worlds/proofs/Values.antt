@@ -1,5 +1,5 @@
 -- A constant expression of a part and what it becomes in the merged module have related values.
-use Rattle.std.proofs.Common.{◌≡◌, ℕ, List, [], ◌∷◌, Option, Some, true, refl, sym, ap, subst, ◌∙◌}
+use Rattle.std.proofs.Common.{◌≡◌, ℕ, List, [], ◌∷◌, Option, Some, true, refl, sym, ap, subst, ◌∙◌, option_and_then, slice_get, unwrap_or}
 use Rattle.std.specs.Prelude.{slice_index}
 use Rattle.std.proofs.lemmas.Bool.{ltb-true}
 use Rattle.wasm_tree.specs.declared.types.ValType.{ValType}
@@ -10,7 +10,7 @@ use Rattle.wasm_valid.specs.Constants.{const_type}
 use Rattle.wasm_num.specs.Operations.{Width, W32, W64}
 use Rattle.wasm_meaning.specs.State.{FuncRef, Val, Ref, Inst}
 use Rattle.wasm_meaning.specs.Values.{ref_of, num_of}
-use Rattle.wasm_meaning.specs.Linking.{Part, Read, place, then_some, module_at, read_of}
+use Rattle.wasm_meaning.specs.Linking.{Part, Read, module_at, read_of}
 use Rattle.wasm_meaning.specs.Environment.{Environment, own_globals}
 use Rattle.wasm_meaning.specs.World.{given, insts_from, const_value, value_of_read, value_of, ref_value, number_value}
 use Rattle.index_remap.specs.Renumbered.{new_const, fits_const}
@@ -19,7 +19,7 @@ use Rattle.permuted_worlds.specs.Alone.{one}
 use Rattle.permuted_worlds.proofs.Places.{then_rel, opt_at, place_rel}
 use Rattle.export_names.specs.declared.mode.Mode.{Mode}
 use Rattle.merge_terms.specs.Joined.{joined_module}
-use Rattle.merge_terms.specs.Merged.{map_of, or_this, merged_read, merged_const}
+use Rattle.merge_terms.specs.Merged.{map_of, merged_read, merged_const}
 use Rattle.merge_validity.specs.Joinable.{CanBeJoined}
 use Rattle.merge_worlds.specs.Instances.{PartAgrees, InstancesAgree}
 use Rattle.merge_worlds.specs.Shared.{sharing}
@@ -30,7 +30,7 @@ use Rattle.merge_worlds.proofs.ValueGiven.{Laws, EachAgrees}
 const_is : (parts : List Part) (p : ℕ) (e : ConstExpr) (r : Read) (m : Module) → read_of parts p e ≡ Some r → module_at parts r.part ≡ Some m → merged_const parts p e ≡ new_const (map_of parts r.part m) r.expr
 unfolding merged_const
 const_is parts p e r m reads is =
-    ap (λ o. or_this e (then_some o (merged_read parts))) reads ∙ ap (λ o. or_this e (then_some {A = Module} {B = ConstExpr} o (λ m. Some (new_const (map_of parts r.part m) r.expr)))) is
+    ap (λ o. unwrap_or (option_and_then (merged_read parts) o) e) reads ∙ ap (λ o. unwrap_or (option_and_then {B = ConstExpr} {A = Module} o (λ m. Some (new_const (map_of parts r.part m) r.expr))) e) is
 
 module _ (laws : Laws) (env : Environment) (parts : List Part) (mode : Mode) where
   abbrev M : List Part
@@ -56,10 +56,10 @@ module _ (laws : Laws) (env : Environment) (parts : List Part) (mode : Mode) whe
     read_rel q m i k (const.Null ty) h = some (reference (null_rel env parts ty))
     read_rel q m i k (const.Func f) h =
         let a = k.funcs.each f (ltb-true _ _ h) in
-        opt_at (ap (λ o. then_some o (λ a. Some (Ref (FuncRef (Some a))))) a.first) (ap (λ o. then_some o (λ a. Some (Ref (FuncRef (Some a))))) a.second) (some (reference (func (some (shares env parts Funcs a.address a.shared)))))
+        opt_at (ap (λ o. option_and_then (λ a. Some (Ref (FuncRef (Some a)))) o) a.first) (ap (λ o. option_and_then (λ a. Some (Ref (FuncRef (Some a)))) o) a.second) (some (reference (func (some (shares env parts Funcs a.address a.shared)))))
     read_rel q m i k (const.Global x) h =
         let a = k.globals.each x (ltb-true _ _ h) in
-        opt_at (ap (λ o. then_some o (λ a. then_some (place (own_globals env) a) (λ g. Some g.value))) a.first)
+        opt_at (ap (λ o. option_and_then (λ a. option_and_then (λ g. Some g.value) (slice_get (own_globals env) a)) o) a.first)
         (global_value laws.alone_reads laws.alone_spaces env (joined_module parts mode) j are (slice_index (map_of parts q m).globals x) a.address a.second)
         (then_rel (place_rel (own_entities env parts laws.own).globals a.address) (λ _ _ g. some g.value))
 
@@ -68,7 +68,7 @@ module _ (laws : Laws) (env : Environment) (parts : List Part) (mode : Mode) whe
         let r = laws.there parts p m e ty can.valid can.linked is t in
         let h = laws.reads parts p m e ty r.0 can.valid can.linked is t r.1 in
         let i = each r.0.part h.of h.is_part in
-        opt_at (ap (λ o. then_some o (value_of_read (own_globals env) insts)) r.1 ∙ ap (λ o. then_some o (λ i. const_value (own_globals env) i r.0.expr)) i.1)
+        opt_at (ap (λ o. option_and_then (value_of_read (own_globals env) insts) o) r.1 ∙ ap (λ o. option_and_then (λ i. const_value (own_globals env) i r.0.expr) o) i.1)
         (ap (value_of env M (j ∷ []) 0) (const_is parts p e r.0 h.of r.1 h.is_part))
         (read_rel r.0.part h.of i.0 i.2 r.0.expr h.fits)
 
@@ -78,7 +78,7 @@ module _ (laws : Laws) (env : Environment) (parts : List Part) (mode : Mode) whe
     pub offset_same : (p : ℕ) (m : Module) (e : ConstExpr) (ty : ValType) → module_at parts p ≡ Some m → const_type m e ≡ Some ty → number_value env parts insts p e ≡ number_value env M (j ∷ []) 0 (merged_const parts p e)
     offset_same p m e ty is t = go (const_rel p m e ty is t)
       where
-        go : {o p : Option Val} → OptRel (ValRel R) o p → then_some o (λ v. given (num_of W32 v)) ≡ then_some p (λ v. given (num_of W32 v))
+        go : {o p : Option Val} → OptRel (ValRel R) o p → option_and_then (λ v. given (num_of W32 v)) o ≡ option_and_then (λ v. given (num_of W32 v)) p
         go none = refl
         go (some v) = number_same W32 v
 

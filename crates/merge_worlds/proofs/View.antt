@@ -1,9 +1,9 @@
 -- The view of the linked parts, and that of the merged module: the same names, each for one entity.
-use Rattle.std.proofs.Common.{◌≡◌, ◌∙◌, ap, sym, subst, refl, ℕ, ◌+◌, List, [], ◌∷◌, map, Option, Some, None, true, arith}
+use Rattle.std.proofs.Common.{◌≡◌, ◌∙◌, ap, sym, subst, refl, ℕ, ◌+◌, List, [], ◌∷◌, map, Option, Some, None, true, arith, option_and_then, slice_get}
 use Rattle.wasm_tree.specs.declared.module.Export.{Export}
 use Rattle.wasm_tree.specs.declared.module.Module.{Module}
 use Rattle.wasm_meaning.specs.State.{Text, Inst}
-use Rattle.wasm_meaning.specs.Linking.{Part, Entity, place, then_some, module_at}
+use Rattle.wasm_meaning.specs.Linking.{Part, Entity, module_at}
 use Rattle.wasm_meaning.specs.Environment.{Environment}
 use Rattle.wasm_meaning.specs.World.{address_in, seen_as, all_there, alone}
 use Rattle.index_remap.specs.Renumbered.{fits_export, new_export}
@@ -42,8 +42,8 @@ module _ (env : Environment) (parts : List Part) (fit : AllFit parts) (insts js 
   entity_seen : (p : ℕ) (m : Module) → module_at parts p ≡ Some m → (e : Export) → fits_export (map_of parts p m) e ≡ true → Sees env parts insts js (record { part = p; what = e.desc }) (new_export (map_of parts p m) e)
   entity_seen p m is e h name =
       let i = agree.each p m is in
-      let second : place js 0 ≡ Some agree.merged = ap (λ l. place l 0) agree.alone in
-      opt_at (ap (λ o. then_some o (λ i. then_some (address_in i e.desc) (λ thing. Some (name, thing)))) i.1) (ap (λ o. then_some o (λ i. then_some (address_in i (new_export (map_of parts p m) e).desc) (λ thing. Some (name, thing)))) second)
+      let second : slice_get js 0 ≡ Some agree.merged = ap (λ l. slice_get l 0) agree.alone in
+      opt_at (ap (λ o. option_and_then (λ i. option_and_then (λ thing. Some (name, thing)) (address_in i e.desc)) o) i.1) (ap (λ o. option_and_then (λ i. option_and_then (λ thing. Some (name, thing)) (address_in i (new_export (map_of parts p m) e).desc)) o) second)
       (then_rel (export_named env parts p m i.0 agree.merged i.2 e.desc h) (λ _ _ r. some (record { key = refl; thing = r })))
 
   entities_seen : ListRel (Sees env parts insts js) (all_entities parts) (all_exports parts)

@@ -1,10 +1,10 @@
 -- The world of linked parts and that of their merged module: both are instantiated or neither, and then they show the same.
-use Rattle.std.proofs.Common.{◌≡◌, ◌∙◌, ap, sym, subst, refl, ℕ, ◌+◌, ◌≤◌, List, [], ◌∷◌, ◌++◌, length, Option, Some, None, Bool, true, false, cond, arith}
+use Rattle.std.proofs.Common.{◌≡◌, ◌∙◌, ap, sym, subst, refl, ℕ, ◌+◌, ◌≤◌, List, [], ◌∷◌, ◌++◌, length, Option, Some, None, Bool, true, false, cond, arith, option_and_then}
 use Rattle.wasm_tree.specs.declared.module.Module.{Module}
 use Rattle.wasm_meaning.specs.Outcomes.{Gives, bind, at}
 use Rattle.wasm_meaning.specs.State.{Text, Inst, Store}
 use Rattle.wasm_meaning.specs.Control.{type_of_func}
-use Rattle.wasm_meaning.specs.Linking.{Part, then_some, sites}
+use Rattle.wasm_meaning.specs.Linking.{Part, sites}
 use Rattle.wasm_meaning.specs.Environment.{Environment, Thing, all_of}
 use Rattle.wasm_meaning.specs.World.{Begun, alone, inst_of, insts_from, own_store, stores_from, all_there, is_matched, segments, seen_as, starts_of, begun, instantiate}
 use Rattle.wasm_meaning.specs.Run.{Event, Move, tick, events_of, IsPrefix, fresh_run}
@@ -135,8 +135,8 @@ module _ (spaces : SpaceLaws) (laws : Laws) (nothing : StartsTakeNothing) (env :
     M = one J
 
     rest : OptRel (BegunAgree R)
-        (then_some (all_there (seen_as insts) (merge_view parts mode)) (λ view. cond (all_of (is_matched env parts s) (sites parts)) (Some (begun env (linked_world parts mode) insts view (segments env parts insts s))) None))
-        (then_some (all_there (seen_as js) (alone J).view) (λ view. cond (all_of (is_matched env M z) (sites M)) (Some (begun env (alone J) js view (segments env M js z))) None))
+        (option_and_then (λ view. cond (all_of (is_matched env parts s) (sites parts)) (Some (begun env (linked_world parts mode) insts view (segments env parts insts s))) None) (all_there (seen_as insts) (merge_view parts mode)))
+        (option_and_then (λ view. cond (all_of (is_matched env M z) (sites M)) (Some (begun env (alone J) js view (segments env M js z))) None) (all_there (seen_as js) (alone J).view))
     rest =
         then_rel (view_agrees env parts fit insts js i.related mode) (λ xs ys view.
         linked R _ _ (all_matched spaces.ends spaces.stays spaces.sites spaces.types spaces.things env parts mode can k.related insts js i.related k.first) (λ matched. begun_agrees matched xs ys view))
@@ -146,8 +146,8 @@ module _ (spaces : SpaceLaws) (laws : Laws) (nothing : StartsTakeNothing) (env :
     where
       stores : (insts js : List Inst) (i : BothAre (InstancesAgree env parts) (insts_from env parts 0 parts) (insts_from env (one J) 0 (one J)) insts js) →
           OptRel (BegunAgree R)
-          (then_some (stores_from env parts insts (own_store env) 0 parts insts) (λ s. then_some (all_there (seen_as insts) (merge_view parts mode)) (λ view. cond (all_of (is_matched env parts s) (sites parts)) (Some (begun env (linked_world parts mode) insts view (segments env parts insts s))) None)))
-          (then_some (stores_from env (one J) js (own_store env) 0 (one J) js) (λ s. then_some (all_there (seen_as js) (alone J).view) (λ view. cond (all_of (is_matched env (one J) s) (sites (one J))) (Some (begun env (alone J) js view (segments env (one J) js s))) None)))
+          (option_and_then (λ s. option_and_then (λ view. cond (all_of (is_matched env parts s) (sites parts)) (Some (begun env (linked_world parts mode) insts view (segments env parts insts s))) None) (all_there (seen_as insts) (merge_view parts mode))) (stores_from env parts insts (own_store env) 0 parts insts))
+          (option_and_then (λ s. option_and_then (λ view. cond (all_of (is_matched env (one J) s) (sites (one J))) (Some (begun env (alone J) js view (segments env (one J) js s))) None) (all_there (seen_as js) (alone J).view)) (stores_from env (one J) js (own_store env) 0 (one J) js))
       stores insts js i = then_rel (both_are (stores_alike laws env parts mode can insts js i.related i.second)) (λ s z k. rest insts js i s z k)
 
 -- ---- what is seen ----

@@ -1,9 +1,9 @@
 -- The instances of the parts, and the instance of the merged module.
-use Rattle.std.specs.Prelude.{◌≡◌, ℕ, ◌<◌, List, [], ◌∷◌, length, slice_index, Some}
+use Rattle.std.specs.Prelude.{◌≡◌, ℕ, ◌<◌, List, [], ◌∷◌, length, slice_index, Some, slice_get}
 use Rattle.wasm_tree.specs.declared.types.FuncType.{FuncType}
 use Rattle.wasm_tree.specs.declared.module.Module.{Module}
 use Rattle.wasm_meaning.specs.State.{Inst}
-use Rattle.wasm_meaning.specs.Linking.{Part, place, module_at}
+use Rattle.wasm_meaning.specs.Linking.{Part, module_at}
 use Rattle.wasm_meaning.specs.Environment.{Environment}
 use Rattle.index_remap.specs.Related.{Kind, Funcs, Mems, Elems, Datas}
 use Rattle.index_remap.specs.Related as to
@@ -13,8 +13,8 @@ use Rattle.merge_worlds.specs.Shared.{shared_count}
 -- an index of a part and its entry name one address, which both worlds have
 pub record SameAddress (env : Environment) (parts : List Part) (k : Kind) (xs ys entries : List ℕ) (x : ℕ) : Type 0 where
   pub address : ℕ
-  pub first : place xs x ≡ Some address
-  pub second : place ys (slice_index entries x) ≡ Some address
+  pub first : slice_get xs x ≡ Some address
+  pub second : slice_get ys (slice_index entries x) ≡ Some address
   pub shared : address < shared_count env parts k
 
 -- each index of an index space has an entry, and both name one address
@@ -25,7 +25,7 @@ pub record SpaceAgrees (env : Environment) (parts : List Part) (k : Kind) (xs ys
 -- a part's instance, and the merged module's
 pub record PartAgrees (env : Environment) (parts : List Part) (p : ℕ) (m : Module) (i j : Inst) : Type 0 where
   pub own_types : i.types ≡ m.types
-  pub types : (x : ℕ) (t : FuncType) → place m.types x ≡ Some t → place j.types (slice_index (map_of parts p m).types x) ≡ Some t
+  pub types : (x : ℕ) (t : FuncType) → slice_get m.types x ≡ Some t → slice_get j.types (slice_index (map_of parts p m).types x) ≡ Some t
   pub funcs : SpaceAgrees env parts Funcs i.funcs j.funcs (map_of parts p m).funcs
   pub tables : SpaceAgrees env parts to.Tables i.tables j.tables (map_of parts p m).tables
   pub mems : SpaceAgrees env parts Mems i.mems j.mems (map_of parts p m).mems
@@ -38,4 +38,4 @@ pub record InstancesAgree (env : Environment) (parts : List Part) (insts js : Li
   pub merged : Inst
   pub alone : js ≡ merged ∷ []
   pub size : length insts ≡ length parts
-  pub each : (p : ℕ) (m : Module) → module_at parts p ≡ Some m → (i : Inst) × (place insts p ≡ Some i) × PartAgrees env parts p m i merged
+  pub each : (p : ℕ) (m : Module) → module_at parts p ≡ Some m → (i : Inst) × (slice_get insts p ≡ Some i) × PartAgrees env parts p m i merged

@@ -1,5 +1,5 @@
 -- What is allocated for the module and for the one with its functions in another order.
-use Rattle.std.proofs.Common.{◌≡◌, ℕ, ◌+◌, ◌<◌, List, [], ◌∷◌, ◌++◌, map, length, Option, Some, None, true, refl, sym, ap, ap₂, subst, ◌∙◌, arith}
+use Rattle.std.proofs.Common.{◌≡◌, ℕ, ◌+◌, ◌<◌, List, [], ◌∷◌, ◌++◌, map, length, Option, Some, None, true, refl, sym, ap, ap₂, subst, ◌∙◌, arith, option_and_then, slice_get}
 use Rattle.std.proofs.lemmas.Bool.{ltb-true}
 use Rattle.wasm_tree.specs.declared.types.FuncType.{FuncType}
 use Rattle.wasm_tree.specs.declared.module.Func as tree
@@ -13,7 +13,7 @@ use Rattle.wasm_meaning.specs.Outcomes.{Outcome, Gives, bind, at}
 use Rattle.wasm_meaning.specs.State.{RefVal, Val, Inst, Func, Code, Memory, Data, Store}
 use Rattle.wasm_meaning.specs.Values.{ref_of, num_of, declared}
 use Rattle.wasm_meaning.specs.Control.{type_of_func, own_of}
-use Rattle.wasm_meaning.specs.Linking.{Read, place, then_some}
+use Rattle.wasm_meaning.specs.Linking.{Read}
 use Rattle.wasm_meaning.specs.Environment.{Environment, own_funcs, own_tables, own_memories, own_globals}
 use Rattle.wasm_meaning.specs.World.{given, all_there, numbers, value_of_read, value_of, ref_value, number_value, new_global, new_elem, elem_of, part_store, joined_stores, own_store, stores_from}
 use Rattle.wasm_meaning.specs.World as world
@@ -64,7 +64,7 @@ module _ (env : Environment) (places : List ℕ) (t : Module) where
   own_same (both own) = refl
   own_same (both to.slot) = refl
 
-  in_lists : {A B : Type 0} {P : A → B → Type 0} {xs : List A} {ys : List B} (n : ℕ) → ListRel P xs ys → length xs ≡ n → (a b : ℕ) → place (numbers 0 n) a ≡ Some b → BothRel P (at xs a) (at ys b)
+  in_lists : {A B : Type 0} {P : A → B → Type 0} {xs : List A} {ys : List B} (n : ℕ) → ListRel P xs ys → length xs ≡ n → (a b : ℕ) → slice_get (numbers 0 n) a ≡ Some b → BothRel P (at xs a) (at ys b)
   in_lists {P = P} {xs = xs} {ys = ys} n r e a b h =
       let x = number_at n a b h in
       subst (λ c. BothRel P (at xs a) (at ys c)) x.1 (both_in r a (omega (arith, e, x.0)))
@@ -87,22 +87,22 @@ module _ (env : Environment) (places : List ℕ) (t : Module) where
 
     -- ---- constant expressions ----
 
-    global_value : (a b : ℕ) → R.of to.Globals a b → OptRel (ValRel R) (then_some (place (own_globals env) a) (λ g. Some g.value)) (then_some (place (own_globals env) b) (λ g. Some g.value))
+    global_value : (a b : ℕ) → R.of to.Globals a b → OptRel (ValRel R) (option_and_then (λ g. Some g.value) (slice_get (own_globals env) a)) (option_and_then (λ g. Some g.value) (slice_get (own_globals env) b))
     global_value a b h =
         let same = (number_at (length (own_globals env) + length t.globals) a b (partner env places t to.Globals a b h)).1 in
-        subst (λ c. OptRel (ValRel R) (then_some (place (own_globals env) a) (λ g. Some g.value)) (then_some (place (own_globals env) c) (λ g. Some g.value))) same
+        subst (λ c. OptRel (ValRel R) (option_and_then (λ g. Some g.value) (slice_get (own_globals env) a)) (option_and_then (λ g. Some g.value) (slice_get (own_globals env) c))) same
         (then_rel (place_rel (own_globals_rel (pairing env places t) env (shares_own env places t)) a) (λ _ _ g. some g.value))
 
-    read_rel : (e : ConstExpr) → fits_const m e ≡ true → OptRel (ValRel R) (then_some (read_in t.imports e) (value_of_read (own_globals env) (i ∷ []))) (then_some (read_in t.imports (new_const m e)) (value_of_read (own_globals env) (j ∷ [])))
+    read_rel : (e : ConstExpr) → fits_const m e ≡ true → OptRel (ValRel R) (option_and_then (value_of_read (own_globals env) (i ∷ [])) (read_in t.imports e)) (option_and_then (value_of_read (own_globals env) (j ∷ [])) (read_in t.imports (new_const m e)))
     read_rel (const.I32 v) h = some number
     read_rel (const.I64 v) h = some number
     read_rel (const.Null ty) h = some (reference (null_rel (pairing env places t) ty))
     read_rel (const.Func f) h = then_rel (k.funcs f (ltb-true _ _ h)) (λ _ _ p. some (reference (func (some p))))
     read_rel (const.Global x) h =
-        subst (λ y. OptRel (ValRel R) (then_some (read_in t.imports (const.Global x)) (value_of_read (own_globals env) (i ∷ []))) (then_some (read_in t.imports (const.Global y)) (value_of_read (own_globals env) (j ∷ [])))) (sym (stays_at _ x h))
+        subst (λ y. OptRel (ValRel R) (option_and_then (value_of_read (own_globals env) (i ∷ [])) (read_in t.imports (const.Global x))) (option_and_then (value_of_read (own_globals env) (j ∷ [])) (read_in t.imports (const.Global y)))) (sym (stays_at _ x h))
         (then_same (read_in t.imports (const.Global x)) (λ r is. go (read_place t.imports x) r is))
       where
-        go : (o : Option ℕ) (r : Read) → then_some o (λ y. Some (record { part = 0; expr = const.Global y })) ≡ Some r → OptRel (ValRel R) (value_of_read (own_globals env) (i ∷ []) r) (value_of_read (own_globals env) (j ∷ []) r)
+        go : (o : Option ℕ) (r : Read) → option_and_then (λ y. Some (record { part = 0; expr = const.Global y })) o ≡ Some r → OptRel (ValRel R) (value_of_read (own_globals env) (i ∷ []) r) (value_of_read (own_globals env) (j ∷ []) r)
         go None r e = cc
         go (Some y) r e =
             let same : record { part = 0; expr = const.Global y } ≡ r = cc in
@@ -110,8 +110,8 @@ module _ (env : Environment) (places : List ℕ) (t : Module) where
 
     pub value_rel : (e : ConstExpr) → fits_const m e ≡ true → OptRel (ValRel R) (value_of env (one t) (i ∷ []) 0 e) (value_of env (one u) (j ∷ []) 0 (new_const m e))
     value_rel e h =
-        opt_at (ap (λ o. then_some o (value_of_read (own_globals env) (i ∷ []))) (read_is t e))
-        (ap (λ o. then_some o (value_of_read (own_globals env) (j ∷ []))) (read_is u (new_const m e) ∙ ap (λ is. read_in is (new_const m e)) (imports_stay env places t fit)))
+        opt_at (ap (λ o. option_and_then (value_of_read (own_globals env) (i ∷ [])) o) (read_is t e))
+        (ap (λ o. option_and_then (value_of_read (own_globals env) (j ∷ [])) o) (read_is u (new_const m e) ∙ ap (λ is. read_in is (new_const m e)) (imports_stay env places t fit)))
         (read_rel e h)
 
     ref_rel : {v w : Val} → ValRel R v w → OptRel (RefRel R) (given (ref_of v)) (given (ref_of w))
@@ -129,26 +129,26 @@ module _ (env : Environment) (places : List ℕ) (t : Module) where
     pub offset_same : (e : ConstExpr) → fits_const m e ≡ true → number_value env (one t) (i ∷ []) 0 e ≡ number_value env (one u) (j ∷ []) 0 (new_const m e)
     offset_same e h = go (value_rel e h)
       where
-        go : {o p : Option Val} → OptRel (ValRel R) o p → then_some o (λ v. given (num_of W32 v)) ≡ then_some p (λ v. given (num_of W32 v))
+        go : {o p : Option Val} → OptRel (ValRel R) o p → option_and_then (λ v. given (num_of W32 v)) o ≡ option_and_then (λ v. given (num_of W32 v)) p
         go none = refl
         go (some v) = number_same W32 v
 
     -- ---- functions ----
 
     func_there : (inst : Inst) → inst.types ≡ t.types → (f : tree.Func) → f.ty < length t.types → (x : Func) × (world.new_func inst f ≡ Some x)
-    func_there inst e f lt = let ty = found t.types f.ty lt in (Code ty.0 inst (declared f.locals) f.body, ap (λ o. then_some o (λ x. Some (Code x inst (declared f.locals) f.body))) (ap (λ ts. place ts f.ty) e ∙ ty.1))
+    func_there inst e f lt = let ty = found t.types f.ty lt in (Code ty.0 inst (declared f.locals) f.body, ap (λ o. option_and_then (λ x. Some (Code x inst (declared f.locals) f.body)) o) (ap (λ ts. slice_get ts f.ty) e ∙ ty.1))
 
-    type_there : (n : ℕ) (f : tree.Func) → place t.funcs n ≡ Some f → has m.types f.ty ≡ true
+    type_there : (n : ℕ) (f : tree.Func) → slice_get t.funcs n ≡ Some f → has m.types f.ty ≡ true
     type_there n f h = left_true _ _ (tested_at (fits_func m) t.funcs n f fit.funcs h)
 
     pub first_funcs : AllThere (world.new_func i) t.funcs
     first_funcs = each_there (world.new_func i) t.funcs (λ n f h. func_there i k.left_types f (below _ f.ty (type_there n f h)))
 
     -- the function that stands at a place
-    pub stands_for : (n : ℕ) (g : tree.Func) → place funcs n ≡ Some g → (f : tree.Func) × (x : ℕ) × (place t.funcs x ≡ Some f) × (renumbered.new_func m f ≡ g)
+    pub stands_for : (n : ℕ) (g : tree.Func) → slice_get funcs n ≡ Some g → (f : tree.Func) × (x : ℕ) × (slice_get t.funcs x ≡ Some f) × (renumbered.new_func m f ≡ g)
     stands_for n g h =
         let x = order.filled n (within funcs n g h) in
-        let f = some_then (place t.funcs x.0) (renumbered.new_func m) g (sym (order.stands x.0 n x.1) ∙ h) in
+        let f = some_then (slice_get t.funcs x.0) (renumbered.new_func m) g (sym (order.stands x.0 n x.1) ∙ h) in
         (f.0, x.0, f.1, f.2)
 
     pub second_funcs : AllThere (world.new_func j) funcs
@@ -158,7 +158,7 @@ module _ (env : Environment) (places : List ℕ) (t : Module) where
         let same : f.0.ty ≡ g.ty = sym (stays_at _ f.0.ty fits) ∙ ap (λ z. z.ty) f.3 in
         func_there j k.right_types g (subst (λ n. n < length t.types) same (below _ f.0.ty fits)))
 
-    body_rel : (f : tree.Func) (n : ℕ) → place t.funcs n ≡ Some f → CodeRel R i j f.body (renumbered_all m f.body)
+    body_rel : (f : tree.Func) (n : ℕ) → slice_get t.funcs n ≡ Some f → CodeRel R i j f.body (renumbered_all m f.body)
     body_rel f n h = code (related env places t) (related env places t) [] m i j (entries_name env places t k) f.body (right_true (has m.types f.ty) _ (tested_at (fits_func m) t.funcs n f fit.funcs h))
 
     own_rel : ListRel (FuncRel R) (own_funcs env) (own_funcs env)
@@ -169,19 +169,19 @@ module _ (env : Environment) (places : List ℕ) (t : Module) where
         let x = found (own_funcs env) a l in
         let f = place_left (own_funcs env) first_funcs.results a l ∙ x.1 in
         let g = place_left (own_funcs env) second_funcs.results a l ∙ x.1 in
-        both_at (own_funcs env ++ first_funcs.results) (own_funcs env ++ second_funcs.results) a b x.0 x.0 f (ap (place (own_funcs env ++ second_funcs.results)) (sym e) ∙ g) (opt_self (place_rel own_rel a) x.1)
+        both_at (own_funcs env ++ first_funcs.results) (own_funcs env ++ second_funcs.results) a b x.0 x.0 f (ap (slice_get (own_funcs env ++ second_funcs.results)) (sym e) ∙ g) (opt_self (place_rel own_rel a) x.1)
 
-    first_at : (x : ℕ) (f : tree.Func) (ty : FuncType) → place t.funcs x ≡ Some f → place t.types f.ty ≡ Some ty → place first_funcs.results x ≡ Some (Code ty i (declared f.locals) f.body)
+    first_at : (x : ℕ) (f : tree.Func) (ty : FuncType) → slice_get t.funcs x ≡ Some f → slice_get t.types f.ty ≡ Some ty → slice_get first_funcs.results x ≡ Some (Code ty i (declared f.locals) f.body)
     first_at x f ty h e =
-        first_funcs.places x ∙ ap (λ o. then_some o (world.new_func i)) h ∙ ap (λ ts. then_some (place ts f.ty) (λ z. Some (Code z i (declared f.locals) f.body))) k.left_types
-        ∙ ap (λ o. then_some o (λ z. Some (Code z i (declared f.locals) f.body))) e
+        first_funcs.places x ∙ ap (λ o. option_and_then (world.new_func i) o) h ∙ ap (λ ts. option_and_then (λ z. Some (Code z i (declared f.locals) f.body)) (slice_get ts f.ty)) k.left_types
+        ∙ ap (λ o. option_and_then (λ z. Some (Code z i (declared f.locals) f.body)) o) e
 
-    second_at : (x p : ℕ) (f : tree.Func) (ty : FuncType) → place places x ≡ Some p → place t.funcs x ≡ Some f → place t.types f.ty ≡ Some ty →
-        place second_funcs.results p ≡ Some (Code ty j (declared f.locals) (renumbered_all m f.body))
+    second_at : (x p : ℕ) (f : tree.Func) (ty : FuncType) → slice_get places x ≡ Some p → slice_get t.funcs x ≡ Some f → slice_get t.types f.ty ≡ Some ty →
+        slice_get second_funcs.results p ≡ Some (Code ty j (declared f.locals) (renumbered_all m f.body))
     second_at x p f ty g h e =
-        second_funcs.places p ∙ ap (λ o. then_some o (world.new_func j)) (order.stands x p g ∙ ap (λ o. then_some o (λ f. Some (renumbered.new_func m f))) h)
-        ∙ ap₂ (λ ts n. then_some (place ts n) (λ z. Some (Code z j (declared f.locals) (renumbered_all m f.body)))) k.right_types (stays_at _ f.ty (type_there x f h))
-        ∙ ap (λ o. then_some o (λ z. Some (Code z j (declared f.locals) (renumbered_all m f.body)))) e
+        second_funcs.places p ∙ ap (λ o. option_and_then (world.new_func j) o) (order.stands x p g ∙ ap (λ o. option_and_then (λ f. Some (renumbered.new_func m f)) o) h)
+        ∙ ap₂ (λ ts n. option_and_then (λ z. Some (Code z j (declared f.locals) (renumbered_all m f.body))) (slice_get ts n)) k.right_types (stays_at _ f.ty (type_there x f h))
+        ∙ ap (λ o. option_and_then (λ z. Some (Code z j (declared f.locals) (renumbered_all m f.body))) o) e
 
     -- related addresses hold related functions
     pub funcs_rel : (a b : ℕ) → R.of Funcs a b → BothRel (FuncRel R) (at (own_funcs env ++ first_funcs.results) a) (at (own_funcs env ++ second_funcs.results) b)
@@ -194,8 +194,8 @@ module _ (env : Environment) (places : List ℕ) (t : Module) where
             let f = found t.funcs x (omega (arith, l, order.size)) in
             let ty = found t.types f.0.ty (below _ f.0.ty (type_there x f.0 f.1)) in
             both_at (own_funcs env ++ first_funcs.results) (own_funcs env ++ second_funcs.results) a b _ _
-            (ap (place (own_funcs env ++ first_funcs.results)) d ∙ place_right (own_funcs env) first_funcs.results x ∙ first_at x f.0 ty.0 f.1 ty.1)
-            (ap (place (own_funcs env ++ second_funcs.results)) e ∙ place_right (own_funcs env) second_funcs.results p ∙ second_at x p f.0 ty.0 g f.1 ty.1)
+            (ap (slice_get (own_funcs env ++ first_funcs.results)) d ∙ place_right (own_funcs env) first_funcs.results x ∙ first_at x f.0 ty.0 f.1 ty.1)
+            (ap (slice_get (own_funcs env ++ second_funcs.results)) e ∙ place_right (own_funcs env) second_funcs.results p ∙ second_at x p f.0 ty.0 g f.1 ty.1)
             (defined (body_rel f.0 x f.1))
 
     -- ---- what else is allocated ----

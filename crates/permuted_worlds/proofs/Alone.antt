@@ -1,5 +1,5 @@
 -- A module alone: its imports all stay, so what they stand for and what is read through them is a matter of its types and imports.
-use Rattle.std.proofs.Common.{◌≡◌, ℕ, suc, ◌+◌, List, [], ◌∷◌, ◌++◌, length, Option, Some, None, cond, refl, ap, ap₂, ◌∙◌, arith}
+use Rattle.std.proofs.Common.{◌≡◌, ℕ, suc, ◌+◌, List, [], ◌∷◌, ◌++◌, length, Option, Some, None, cond, refl, ap, ap₂, ◌∙◌, arith, option_and_then, slice_get}
 use Rattle.wasm_tree.specs.declared.module.Import.{Import}
 use Rattle.wasm_tree.specs.declared.module.ImportDesc.{ImportDesc}
 use Rattle.wasm_tree.specs.declared.module.ImportDesc.TheVariants as im
@@ -10,7 +10,7 @@ use Rattle.std.specs.List.{cons_option}
 use Rattle.wasm_tree.specs.Spaces.{func_of, table_of, memory_of, global_of, imported_funcs, imported_tables, imported_memories, imported_globals}
 use Rattle.wasm_meaning.specs.State.{Pair}
 use Rattle.wasm_meaning.specs.Paths.{walk, walk_on}
-use Rattle.wasm_meaning.specs.Linking.{same_kind, kind_of_import, sites, joined, joined_step, import_step, read_step, initials_from, Outside, Kind, Functions, Tables, Memories, Globals, Read, place, then_some, places, has_kind, imports_of, pair_of, end_of, global_import, end_step, read_of, space_index}
+use Rattle.wasm_meaning.specs.Linking.{same_kind, kind_of_import, sites, joined, joined_step, import_step, read_step, initials_from, Outside, Kind, Functions, Tables, Memories, Globals, Read, places, has_kind, imports_of, pair_of, end_of, global_import, end_step, read_of, space_index}
 use Rattle.wasm_meaning.specs.Environment.{Environment, owned_of, owned_at}
 use Rattle.wasm_meaning.specs.World.{given, own_key_of, outside_thing, imported_thing, thing_of, address_of, numbers, own_count, defined_count, space}
 use Rattle.permuted_worlds.specs.Alone.{one, site, key_in, thing_in, addresses, read_in}
@@ -24,40 +24,40 @@ key_is t pair (im.Table u) = refl
 key_is t pair (im.Memory l) = refl
 key_is t pair (im.Global u) = refl
 
-pub ends_outside : (t : Module) (n : ℕ) → end_of (one t) (site n) ≡ then_some (place t.imports n) (λ i. Some (Outside (site n)))
-ends_outside t n = go (place t.imports n)
+pub ends_outside : (t : Module) (n : ℕ) → end_of (one t) (site n) ≡ option_and_then (λ i. Some (Outside (site n))) (slice_get t.imports n)
+ends_outside t n = go (slice_get t.imports n)
   where
-    go : (o : Option Import) → walk_on (walk (import_step (one t)) (length (sites (one t)))) (then_some o (λ i. Some (joined_step (one t) (site n) (joined (one t) i)))) ≡ then_some o (λ i. Some (Outside (site n)))
+    go : (o : Option Import) → walk_on (walk (import_step (one t)) (length (sites (one t)))) (option_and_then (λ i. Some (joined_step (one t) (site n) (joined (one t) i))) o) ≡ option_and_then (λ i. Some (Outside (site n))) o
     go None = refl
     go (Some i) = refl
 
 -- what comes after an import that is there
-pub twice : {A B : Type 0} (o : Option A) (f : A → Option B) → then_some o (λ a. then_some o f) ≡ then_some o f
+pub twice : {A B : Type 0} (o : Option A) (f : A → Option B) → option_and_then (λ a. option_and_then f o) o ≡ option_and_then f o
 twice None f = refl
 twice (Some a) f = refl
 
-nested : {A B C : Type 0} (o : Option A) (b : B) (f : B → Option C) → then_some (then_some o (λ a. Some b)) f ≡ then_some o (λ a. f b)
+nested : {A B C : Type 0} (o : Option A) (b : B) (f : B → Option C) → option_and_then f (option_and_then (λ a. Some b) o) ≡ option_and_then (λ a. f b) o
 nested None b f = refl
 nested (Some a) b f = refl
 
-pub on_some : {A B : Type 0} (o : Option A) {f g : A → Option B} → ((a : A) → f a ≡ g a) → then_some o f ≡ then_some o g
+pub on_some : {A B : Type 0} (o : Option A) {f g : A → Option B} → ((a : A) → f a ≡ g a) → option_and_then f o ≡ option_and_then g o
 on_some None h = refl
 on_some (Some a) h = h a
 
-outside_is : (env : Environment) (t : Module) (n : ℕ) → outside_thing (owned_of env) (one t) (site n) ≡ thing_in env t.types (place t.imports n)
-outside_is env t n = on_some (place t.imports n) (λ i. ap (λ k. then_some k (λ key. given (owned_at (owned_of env) key))) (key_is t (pair_of i) i.desc))
+outside_is : (env : Environment) (t : Module) (n : ℕ) → outside_thing (owned_of env) (one t) (site n) ≡ thing_in env t.types (slice_get t.imports n)
+outside_is env t n = on_some (slice_get t.imports n) (λ i. ap (λ k. option_and_then (λ key. given (owned_at (owned_of env) key)) k) (key_is t (pair_of i) i.desc))
 
-pub thing_is : (env : Environment) (t : Module) (n : ℕ) → imported_thing env (one t) (site n) ≡ thing_in env t.types (place t.imports n)
+pub thing_is : (env : Environment) (t : Module) (n : ℕ) → imported_thing env (one t) (site n) ≡ thing_in env t.types (slice_get t.imports n)
 thing_is env t n =
-    ap (λ e. then_some e (thing_of env (one t))) (ends_outside t n) ∙ nested (place t.imports n) (Outside (site n)) (thing_of env (one t))
-    ∙ on_some (place t.imports n) (λ i. outside_is env t n) ∙ twice (place t.imports n) (λ i. then_some (key_in t.types (pair_of i) i.desc) (λ key. given (owned_at (owned_of env) key)))
+    ap (λ e. option_and_then (thing_of env (one t)) e) (ends_outside t n) ∙ nested (slice_get t.imports n) (Outside (site n)) (thing_of env (one t))
+    ∙ on_some (slice_get t.imports n) (λ i. outside_is env t n) ∙ twice (slice_get t.imports n) (λ i. option_and_then (λ key. given (owned_at (owned_of env) key)) (key_in t.types (pair_of i) i.desc))
 
 -- ---- index spaces ----
 
-pub space_is : (env : Environment) (t : Module) (k : Kind) → space env (one t) k 0 t ≡ then_some (addresses env t.types t.imports k) (λ l. Some (l ++ numbers (own_count k env) (defined_count k t)))
+pub space_is : (env : Environment) (t : Module) (k : Kind) → space env (one t) k 0 t ≡ option_and_then (λ l. Some (l ++ numbers (own_count k env) (defined_count k t))) (addresses env t.types t.imports k)
 space_is env t k =
     let e : own_count k env + 0 ≡ own_count k env = omega arith in
-    ap₂ (λ o b. then_some o (λ l. Some (l ++ numbers b (defined_count k t)))) (all_same (λ n. ap (λ x. then_some x (address_of k)) (thing_is env t n)) (imports_of k t)) e
+    ap₂ (λ o b. option_and_then (λ l. Some (l ++ numbers b (defined_count k t))) o) (all_same (λ n. ap (λ x. option_and_then (address_of k) x) (thing_is env t n)) (imports_of k t)) e
 
 -- ---- how many are imported ----
 
@@ -103,10 +103,10 @@ globals_counted (i ∷ is) n = go i.desc (globals_counted is (suc n))
 
 -- ---- what is read ----
 
-import_of_global : (t : Module) (x : ℕ) → then_some (global_import (one t) 0 x) (end_of (one t)) ≡ then_some (place (imports_of Globals t) x) (λ n. then_some (place t.imports n) (λ i. Some (Outside (site n))))
-import_of_global t x = go (place (imports_of Globals t) x)
+import_of_global : (t : Module) (x : ℕ) → option_and_then (end_of (one t)) (global_import (one t) 0 x) ≡ option_and_then (λ n. option_and_then (λ i. Some (Outside (site n))) (slice_get t.imports n)) (slice_get (imports_of Globals t) x)
+import_of_global t x = go (slice_get (imports_of Globals t) x)
   where
-    go : (o : Option ℕ) → then_some (then_some o (λ n. Some (site n))) (end_of (one t)) ≡ then_some o (λ n. then_some (place t.imports n) (λ i. Some (Outside (site n))))
+    go : (o : Option ℕ) → option_and_then (end_of (one t)) (option_and_then (λ n. Some (site n)) o) ≡ option_and_then (λ n. option_and_then (λ i. Some (Outside (site n))) (slice_get t.imports n)) o
     go None = refl
     go (Some n) = ends_outside t n
 
@@ -115,16 +115,16 @@ read_is t (const.I32 v) = refl
 read_is t (const.I64 v) = refl
 read_is t (const.Null ty) = refl
 read_is t (const.Func f) = refl
-read_is t (const.Global x) = ap (λ o. walk_on more (end_step (one t) o)) (import_of_global t x) ∙ go (place (imports_of Globals t) x)
+read_is t (const.Global x) = ap (λ o. walk_on more (end_step (one t) o)) (import_of_global t x) ∙ go (slice_get (imports_of Globals t) x)
   where
     more : Read → Option Read
     more = walk (read_step (one t)) (length (initials_from 0 (one t)))
 
-    go : (o : Option ℕ) → walk_on more (end_step (one t) (then_some o (λ n. then_some (place t.imports n) (λ i. Some (Outside (site n))))))
-        ≡ then_some (then_some o (λ n. then_some (place t.imports n) (λ i. Some (space_index t.imports n Globals)))) (λ y. Some (record { part = 0; expr = const.Global y }))
+    go : (o : Option ℕ) → walk_on more (end_step (one t) (option_and_then (λ n. option_and_then (λ i. Some (Outside (site n))) (slice_get t.imports n)) o))
+        ≡ option_and_then (λ y. Some (record { part = 0; expr = const.Global y })) (option_and_then (λ n. option_and_then (λ i. Some (space_index t.imports n Globals)) (slice_get t.imports n)) o)
     go None = refl
-    go (Some n) = at_site (place t.imports n)
+    go (Some n) = at_site (slice_get t.imports n)
       where
-        at_site : (o : Option Import) → walk_on more (end_step (one t) (then_some o (λ i. Some (Outside (site n))))) ≡ then_some (then_some o (λ i. Some (space_index t.imports n Globals))) (λ y. Some (record { part = 0; expr = const.Global y }))
+        at_site : (o : Option Import) → walk_on more (end_step (one t) (option_and_then (λ i. Some (Outside (site n))) o)) ≡ option_and_then (λ y. Some (record { part = 0; expr = const.Global y })) (option_and_then (λ i. Some (space_index t.imports n Globals)) o)
         at_site None = refl
         at_site (Some i) = refl

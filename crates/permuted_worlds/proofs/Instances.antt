@@ -1,5 +1,5 @@
 -- The instances of the module and of the one with its functions in another order.
-use Rattle.std.proofs.Common.{◌≡◌, ℕ, ◌+◌, ◌-◌, ◌<◌, ◌≤◌, List, [], ◌∷◌, ◌++◌, map, length, Some, true, ◌⊎◌, inl, inr, refl, sym, ap, ap₂, subst, ◌∙◌, arith}
+use Rattle.std.proofs.Common.{◌≡◌, ℕ, ◌+◌, ◌-◌, ◌<◌, ◌≤◌, List, [], ◌∷◌, ◌++◌, map, length, Some, true, ◌⊎◌, inl, inr, refl, sym, ap, ap₂, subst, ◌∙◌, arith, option_and_then, slice_get}
 use Rattle.std.specs.Prelude.{slice_index}
 use Rattle.std.proofs.lemmas.Bool.{cases_lt, ltb-true}
 use Rattle.wasm_tree.specs.declared.module.Func as tree
@@ -9,7 +9,7 @@ use Rattle.wasm_tree.specs.declared.module.ImportDesc.TheVariants as im
 use Rattle.wasm_tree.specs.declared.module.Module.{Module}
 use Rattle.wasm_tree.specs.Spaces.{imported_funcs}
 use Rattle.wasm_meaning.specs.State.{Inst}
-use Rattle.wasm_meaning.specs.Linking.{Kind, Functions, Tables, Memories, Globals, place, then_some}
+use Rattle.wasm_meaning.specs.Linking.{Kind, Functions, Tables, Memories, Globals}
 use Rattle.wasm_meaning.specs.Environment.{Environment, own_funcs}
 use Rattle.wasm_meaning.specs.World.{numbers, own_count, defined_count, space, inst_of}
 use Rattle.index_remap.specs.declared.remap.Remap.{Remap}
@@ -77,7 +77,7 @@ module _ (env : Environment) (places : List ℕ) (t : Module) where
 
   -- what each function index names
   abbrev pub FuncsRel : List ℕ → List ℕ → Type 0
-  FuncsRel xs ys = (x : ℕ) → x < length m.funcs → OptRel (R.of Funcs) (place xs x) (place ys (slice_index m.funcs x))
+  FuncsRel xs ys = (x : ℕ) → x < length m.funcs → OptRel (R.of Funcs) (slice_get xs x) (slice_get ys (slice_index m.funcs x))
 
   pub record InstRel (i j : Inst) : Type 0 where
     pub left_types : i.types ≡ t.types
@@ -89,8 +89,8 @@ module _ (env : Environment) (places : List ℕ) (t : Module) where
     pub elems : ListRel (R.of Elems) i.elems j.elems
     pub datas : ListRel (R.of Datas) i.datas j.datas
 
-  behind : (l xs : List ℕ) (k n : ℕ) → length l ≡ k → place (l ++ xs) (k + n) ≡ place xs n
-  behind l xs k n e = subst (λ z. place (l ++ xs) (z + n) ≡ place xs n) e (place_right l xs n)
+  behind : (l xs : List ℕ) (k n : ℕ) → length l ≡ k → slice_get (l ++ xs) (k + n) ≡ slice_get xs n
+  behind l xs k n e = subst (λ z. slice_get (l ++ xs) (z + n) ≡ slice_get xs n) e (place_right l xs n)
 
   module _ (funcs : List tree.Func) (order : IsOrder places funcs t) (fit : Fits m t) where
     abbrev u : Module
@@ -102,25 +102,25 @@ module _ (env : Environment) (places : List ℕ) (t : Module) where
         k : ℕ
         k = length (imported_funcs t.imports)
 
-        go : (x < length (imported_funcs t.imports)) ⊎ (length (imported_funcs t.imports) ≤ x) → OptRel (R.of Funcs) (place (l ++ numbers (length (own_funcs env)) (length t.funcs)) x) (place (l ++ numbers (length (own_funcs env)) (length funcs)) (slice_index m.funcs x))
+        go : (x < length (imported_funcs t.imports)) ⊎ (length (imported_funcs t.imports) ≤ x) → OptRel (R.of Funcs) (slice_get (l ++ numbers (length (own_funcs env)) (length t.funcs)) x) (slice_get (l ++ numbers (length (own_funcs env)) (length funcs)) (slice_index m.funcs x))
         go (inl low) =
             let same : slice_index m.funcs x ≡ x = index_at m.funcs x x (moved_low (length (imported_funcs t.imports)) places x low) in
             let lt : x < length l = omega (arith, low, size) in
-            opt_at (place_left l _ x lt) (ap (place (l ++ numbers (length (own_funcs env)) (length funcs))) same ∙ place_left l _ x lt) (place_rel r x)
+            opt_at (place_left l _ x lt) (ap (slice_get (l ++ numbers (length (own_funcs env)) (length funcs))) same ∙ place_left l _ x lt) (place_rel r x)
         go (inr high) =
             let y = x - length (imported_funcs t.imports) in
             let back : length (imported_funcs t.imports) + y ≡ x = omega arith in
             let lt : y < length places = omega (arith, h, moved_length (length (imported_funcs t.imports)) places) in
             let p = found places y lt in
             let f = found t.funcs y (omega (arith, lt, order.size)) in
-            let moves : place m.funcs x ≡ Some (length (imported_funcs t.imports) + p.0) = ap (place m.funcs) (sym back) ∙ moved_high (length (imported_funcs t.imports)) places y ∙ ap (λ o. then_some o (λ p. Some (length (imported_funcs t.imports) + p))) p.1 in
-            let there = within funcs p.0 _ (order.stands y p.0 p.1 ∙ ap (λ o. then_some o (λ f. Some (new_func m f))) f.1) in
-            opt_at (ap (place (l ++ numbers (length (own_funcs env)) (length t.funcs))) (sym back) ∙ behind l _ (length (imported_funcs t.imports)) y size ∙ place_numbers (length (own_funcs env)) (length t.funcs) y (omega (arith, lt, order.size)))
-            (ap (place (l ++ numbers (length (own_funcs env)) (length funcs))) (index_at m.funcs x _ moves) ∙ behind l _ (length (imported_funcs t.imports)) p.0 size ∙ place_numbers (length (own_funcs env)) (length funcs) p.0 there)
+            let moves : slice_get m.funcs x ≡ Some (length (imported_funcs t.imports) + p.0) = ap (slice_get m.funcs) (sym back) ∙ moved_high (length (imported_funcs t.imports)) places y ∙ ap (λ o. option_and_then (λ p. Some (length (imported_funcs t.imports) + p)) o) p.1 in
+            let there = within funcs p.0 _ (order.stands y p.0 p.1 ∙ ap (λ o. option_and_then (λ f. Some (new_func m f)) o) f.1) in
+            opt_at (ap (slice_get (l ++ numbers (length (own_funcs env)) (length t.funcs))) (sym back) ∙ behind l _ (length (imported_funcs t.imports)) y size ∙ place_numbers (length (own_funcs env)) (length t.funcs) y (omega (arith, lt, order.size)))
+            (ap (slice_get (l ++ numbers (length (own_funcs env)) (length funcs))) (index_at m.funcs x _ moves) ∙ behind l _ (length (imported_funcs t.imports)) p.0 size ∙ place_numbers (length (own_funcs env)) (length funcs) p.0 there)
             (some (func_moves env places t y p.0 p.1))
 
-    count_stays : (k : Kind) (n : ℕ) → defined_count k u ≡ n → space env (one u) k 0 u ≡ then_some (addresses env t.types t.imports k) (λ l. Some (l ++ numbers (own_count k env) n))
-    count_stays k n e = space_is env u k ∙ ap₂ (λ is c. then_some (addresses env t.types is k) (λ l. Some (l ++ numbers (own_count k env) c))) (imports_stay fit) e
+    count_stays : (k : Kind) (n : ℕ) → defined_count k u ≡ n → space env (one u) k 0 u ≡ option_and_then (λ l. Some (l ++ numbers (own_count k env) n)) (addresses env t.types t.imports k)
+    count_stays k n e = space_is env u k ∙ ap₂ (λ is c. option_and_then (λ l. Some (l ++ numbers (own_count k env) c)) (addresses env t.types is k)) (imports_stay fit) e
 
     same_space : (k : Kind) → defined_count k u ≡ defined_count k t → ((a : ℕ) → a < own_count k env + defined_count k t → R.of (kind_in env places t k) a a) → OptRel (ListRel (R.of (kind_in env places t k))) (space env (one t) k 0 t) (space env (one u) k 0 u)
     same_space k e h =
@@ -147,8 +147,8 @@ module _ (env : Environment) (places : List ℕ) (t : Module) where
 
   -- ---- what code names ----
 
-  pub row_names : {P : ℕ → ℕ → Type 0} (n : ℕ) (xs ys : List ℕ) → ListRel P xs ys → (x : ℕ) → has (numbers 0 n) x ≡ true → OptRel P (place xs x) (place ys (slice_index (numbers 0 n) x))
-  row_names {P = P} n xs ys r x h = subst (λ z. OptRel P (place xs x) (place ys z)) (sym (stays_at n x h)) (place_rel r x)
+  pub row_names : {P : ℕ → ℕ → Type 0} (n : ℕ) (xs ys : List ℕ) → ListRel P xs ys → (x : ℕ) → has (numbers 0 n) x ≡ true → OptRel P (slice_get xs x) (slice_get ys (slice_index (numbers 0 n) x))
+  row_names {P = P} n xs ys r x h = subst (λ z. OptRel P (slice_get xs x) (slice_get ys z)) (sym (stays_at n x h)) (place_rel r x)
 
   pub entries_name : {i j : Inst} → InstRel i j → EntriesName R m (with_entry m) i j
   entries_name {i} {j} k = record {

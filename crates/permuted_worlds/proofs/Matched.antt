@@ -1,5 +1,5 @@
 -- Every import of the module matches where every one of its reordering does.
-use Rattle.std.proofs.Common.{◌≡◌, ℕ, zero, suc, List, [], ◌++◌, length, Some, false, cond, refl, sym, ap, ap₂, ◌∙◌}
+use Rattle.std.proofs.Common.{◌≡◌, ℕ, zero, suc, List, [], ◌++◌, length, Some, false, cond, refl, sym, ap, ap₂, ◌∙◌, option_and_then, slice_get, unwrap_or, ◌&&◌}
 use Rattle.wasm_tree.specs.declared.types.TableType.{TableType}
 use Rattle.wasm_tree.specs.declared.module.Func as tree
 use Rattle.wasm_tree.specs.declared.module.ImportDesc.{ImportDesc}
@@ -8,9 +8,9 @@ use Rattle.wasm_tree.specs.declared.module.Module.{Module}
 use Rattle.wasm_meaning.specs.Outcomes.{Outcome, Gives}
 use Rattle.wasm_meaning.specs.State.{Table, Store}
 use Rattle.wasm_meaning.specs.Values.{same_ref, same_type, same_func_type}
-use Rattle.wasm_meaning.specs.Linking.{place, then_some, sites_in, sites}
+use Rattle.wasm_meaning.specs.Linking.{sites_in, sites}
 use Rattle.wasm_meaning.specs.Environment.{Environment, Thing, all_of}
-use Rattle.wasm_meaning.specs.World.{given, meets, same_bool, is_match, or_false, is_matched}
+use Rattle.wasm_meaning.specs.World.{given, meets, same_bool, is_match, is_matched}
 use Rattle.index_remap.specs.declared.remap.Remap.{Remap}
 use Rattle.index_remap.specs.Renumbered.{new_import}
 use Rattle.index_remap.specs.Related.{Tables, Mems, Globals, Pairing, BothRel, both, TableRel}
@@ -37,31 +37,31 @@ module _ (env : Environment) (places : List ℕ) (t : Module) (funcs : List tree
   abbrev u : Module
   u = permuted places funcs t
 
-  table_same : (l : TableType) {v w : Table} → TableRel R v w → cond (same_ref l.ty v.ty) (meets (length v.slots) v.most l.limits) false ≡ cond (same_ref l.ty w.ty) (meets (length w.slots) w.most l.limits) false
+  table_same : (l : TableType) {v w : Table} → TableRel R v w → same_ref l.ty v.ty && meets (length v.slots) v.most l.limits ≡ same_ref l.ty w.ty && meets (length w.slots) w.most l.limits
   table_same l {v} {w} r =
-      ap (λ ty. cond (same_ref l.ty ty) (meets (length v.slots) v.most l.limits) false) r.type ∙ ap₂ (λ n most. cond (same_ref l.ty w.ty) (meets n most l.limits) false) (length_rel r.slots) r.most
+      ap (λ ty. same_ref l.ty ty && meets (length v.slots) v.most l.limits) r.type ∙ ap₂ (λ n most. same_ref l.ty w.ty && meets n most l.limits) (length_rel r.slots) r.most
 
   match_same : (d : ImportDesc) {x y : Thing} → ThingRel R x y → is_match s t d x ≡ is_match z u d y
-  match_same (im.Func ty) (a_func p) = on_some (place t.types ty) (λ v. ap (λ o. then_some (given o) (λ w. Some (same_func_type v w))) (both_same ((stores_rel env places t like).types p)))
+  match_same (im.Func ty) (a_func p) = on_some (slice_get t.types ty) (λ v. ap (λ o. option_and_then (λ w. Some (same_func_type v w)) (given o)) (both_same ((stores_rel env places t like).types p)))
   match_same (im.Table l) (a_table {a = a} {b = b} p) =
-      then_eq (place_rel like.tables a) (λ _ _ r. ap Some (table_same l r)) ∙ ap (λ c. then_some (place z.tables c) (λ w. Some (cond (same_ref l.ty w.ty) (meets (length w.slots) w.most l.limits) false))) (number_at _ a b (partner env places t Tables a b p)).1
+      then_eq (place_rel like.tables a) (λ _ _ r. ap Some (table_same l r)) ∙ ap (λ c. option_and_then (λ w. Some (same_ref l.ty w.ty && meets (length w.slots) w.most l.limits)) (slice_get z.tables c)) (number_at _ a b (partner env places t Tables a b p)).1
   match_same (im.Memory l) (a_memory {a = a} {b = b} p) =
-      then_eq (place_rel like.mems a) (λ _ _ r. ap (λ w. Some (meets w.pages w.most l)) r) ∙ ap (λ c. then_some (place z.mems c) (λ w. Some (meets w.pages w.most l))) (number_at _ a b (partner env places t Mems a b p)).1
+      then_eq (place_rel like.mems a) (λ _ _ r. ap (λ w. Some (meets w.pages w.most l)) r) ∙ ap (λ c. option_and_then (λ w. Some (meets w.pages w.most l)) (slice_get z.mems c)) (number_at _ a b (partner env places t Mems a b p)).1
   match_same (im.Global l) (a_global {a = a} {b = b} p) =
-      then_eq (place_rel like.globals a) (λ _ _ r. ap (λ ty. Some (cond (same_type l.ty ty.ty) (same_bool l.mutable ty.mutable) false)) r.type)
-      ∙ ap (λ c. then_some (place z.globals c) (λ w. Some (cond (same_type l.ty w.ty.ty) (same_bool l.mutable w.ty.mutable) false))) (number_at _ a b (partner env places t Globals a b p)).1
+      then_eq (place_rel like.globals a) (λ _ _ r. ap (λ ty. Some (same_type l.ty ty.ty && same_bool l.mutable ty.mutable)) r.type)
+      ∙ ap (λ c. option_and_then (λ w. Some (same_type l.ty w.ty.ty && same_bool l.mutable w.ty.mutable)) (slice_get z.globals c)) (number_at _ a b (partner env places t Globals a b p)).1
   match_same _ _ = refl
 
   matched_same : (n : ℕ) → is_matched env (one t) s (site n) ≡ is_matched env (one u) z (site n)
   matched_same n =
-      ap or_false (ap (λ x. then_some (place t.imports n) (λ i. then_some x (is_match s t i.desc))) (thing_is env t n)
-      ∙ on_some (place t.imports n) (λ i. then_eq (thing_rel env places t t.types (place t.imports n)) (λ _ _ r. match_same i.desc r))
-      ∙ ap (λ is. then_some (place is n) (λ i. then_some (thing_in env t.types (place is n)) (is_match z u i.desc))) (sym (imports_stay env places t fit))
-      ∙ ap (λ x. then_some (place u.imports n) (λ i. then_some x (is_match z u i.desc))) (sym (thing_is env u n)))
+      ap unwrap_or (ap (λ x. option_and_then (λ i. option_and_then (is_match s t i.desc) x) (slice_get t.imports n)) (thing_is env t n)
+      ∙ on_some (slice_get t.imports n) (λ i. then_eq (thing_rel env places t t.types (slice_get t.imports n)) (λ _ _ r. match_same i.desc r))
+      ∙ ap (λ is. option_and_then (λ i. option_and_then (is_match z u i.desc) (thing_in env t.types (slice_get is n))) (slice_get is n)) (sym (imports_stay env places t fit))
+      ∙ ap (λ x. option_and_then (λ i. option_and_then (is_match z u i.desc) x) (slice_get u.imports n)) (sym (thing_is env u n))) false
 
   each_matched : (count n : ℕ) → all_of (is_matched env (one t) s) (sites_in 0 count n ++ []) ≡ all_of (is_matched env (one u) z) (sites_in 0 count n ++ [])
   each_matched zero n = refl
-  each_matched (suc count) n = ap₂ (λ a b. cond a b false) (matched_same n) (each_matched count (suc n))
+  each_matched (suc count) n = ap₂ (λ a b. a && b) (matched_same n) (each_matched count (suc n))
 
   pub all_matched : all_of (is_matched env (one t) s) (sites (one t)) ≡ all_of (is_matched env (one u) z) (sites (one u))
   all_matched = each_matched (length t.imports) 0 ∙ ap (λ n. all_of (is_matched env (one u) z) (sites_in 0 n 0 ++ [])) (sym (map_length (new_import m) t.imports))

@@ -1,12 +1,12 @@
 -- The relation of addresses: a function stands for itself at its new place, and all else for itself.
-use Rattle.std.proofs.Common.{◌≡◌, ℕ, ◌+◌, ◌<◌, List, [], length, Option, Some, None, Bool, true, false, sym, ap, subst, ◌∙◌, arith}
+use Rattle.std.proofs.Common.{◌≡◌, ℕ, ◌+◌, ◌<◌, List, [], length, Option, Some, None, Bool, true, false, sym, ap, subst, ◌∙◌, arith, option_and_then, slice_get}
 use Rattle.std.specs.Prelude.{nat_eq}
 use Rattle.std.proofs.lemmas.Bool.{eqb-true, eq-eqb}
 use Rattle.wasm_tree.specs.declared.types.FuncType.{FuncType}
 use Rattle.wasm_tree.specs.declared.module.Func as tree
 use Rattle.wasm_tree.specs.declared.module.Import.{Import}
 use Rattle.wasm_tree.specs.declared.module.Module.{Module}
-use Rattle.wasm_meaning.specs.Linking.{Functions, Memories, place, then_some, has_kind, pair_of, places}
+use Rattle.wasm_meaning.specs.Linking.{Functions, Memories, has_kind, pair_of, places}
 use Rattle.wasm_meaning.specs.Linking as linking
 use Rattle.wasm_meaning.specs.Environment.{Environment, Thing, same_key, own_funcs, own_tables, own_memories, own_globals}
 use Rattle.wasm_meaning.specs.World.{address_of, numbers}
@@ -33,7 +33,7 @@ is_entry None b = false
 is_entry (Some a) b = nat_eq a b
 
 abbrev pub related : Environment → List ℕ → Module → Kind → ℕ → ℕ → Bool
-related env places t k a b = is_entry (place (partners env places t k) a) b
+related env places t k a b = is_entry (slice_get (partners env places t k) a) b
 
 abbrev pub pairing : Environment → List ℕ → Module → Pairing
 pairing env places t = passed (related env places t) (related env places t) []
@@ -50,17 +50,17 @@ module _ (env : Environment) (places : List ℕ) (t : Module) where
   abbrev R : Pairing
   R = pairing env places t
 
-  pub partner : (k : Kind) (a b : ℕ) → R.of k a b → place (partners env places t k) a ≡ Some b
+  pub partner : (k : Kind) (a b : ℕ) → R.of k a b → slice_get (partners env places t k) a ≡ Some b
   partner k a b h = is_its_entry _ b h
 
-  pub stands : (k : Kind) (a b : ℕ) → place (partners env places t k) a ≡ Some b → R.of k a b
+  pub stands : (k : Kind) (a b : ℕ) → slice_get (partners env places t k) a ≡ Some b → R.of k a b
   stands k a b h = entry_is _ b h
 
-  in_row : (n a : ℕ) → a < n → place (numbers 0 n) a ≡ Some a
+  in_row : (n a : ℕ) → a < n → slice_get (numbers 0 n) a ≡ Some a
   in_row n a h = place_numbers 0 n a h ∙ (let e : 0 + a ≡ a = omega arith in ap Some e)
 
-  pub func_moves : (i p : ℕ) → place places i ≡ Some p → R.of Funcs (length (own_funcs env) + i) (length (own_funcs env) + p)
-  func_moves i p h = stands Funcs _ _ (moved_high (length (own_funcs env)) places i ∙ ap (λ o. then_some o (λ p. Some (length (own_funcs env) + p))) h)
+  pub func_moves : (i p : ℕ) → slice_get places i ≡ Some p → R.of Funcs (length (own_funcs env) + i) (length (own_funcs env) + p)
+  func_moves i p h = stands Funcs _ _ (moved_high (length (own_funcs env)) places i ∙ ap (λ o. option_and_then (λ p. Some (length (own_funcs env) + p)) o) h)
 
   pub own_func : (a : ℕ) → a < length (own_funcs env) → R.of Funcs a a
   own_func a h = stands Funcs a a (moved_low (length (own_funcs env)) places a h)
@@ -82,10 +82,10 @@ module _ (env : Environment) (places : List ℕ) (t : Module) where
 
   -- ---- one to one ----
 
-  row_right : (n a b c : ℕ) → place (numbers 0 n) a ≡ Some b → place (numbers 0 n) a ≡ Some c → b ≡ c
+  row_right : (n a b c : ℕ) → slice_get (numbers 0 n) a ≡ Some b → slice_get (numbers 0 n) a ≡ Some c → b ≡ c
   row_right n a b c p q = let e : Some b ≡ Some c = sym p ∙ q in cc
 
-  row_left : (n a b c : ℕ) → place (numbers 0 n) a ≡ Some c → place (numbers 0 n) b ≡ Some c → a ≡ b
+  row_left : (n a b c : ℕ) → slice_get (numbers 0 n) a ≡ Some c → slice_get (numbers 0 n) b ≡ Some c → a ≡ b
   row_left n a b c p q = (number_at n a c p).1 ∙ sym (number_at n b c q).1
 
   moves_left : {funcs : List tree.Func} → IsOrder places funcs t → (k a b c : ℕ) → Moves k places a c → Moves k places b c → a ≡ b
@@ -94,16 +94,16 @@ module _ (env : Environment) (places : List ℕ) (t : Module) where
   moves_left o k a b c (goes i p f g h) (stays l e) = absurd (omega (arith, l, e, g))
   moves_left o k a b c (goes i p f g h) (goes j q d e l) =
       let same : q ≡ p = omega (arith, g, e) in
-      let is : i ≡ j = o.apart i j p h (subst (λ x. place places j ≡ Some x) same l) in
+      let is : i ≡ j = o.apart i j p h (subst (λ x. slice_get places j ≡ Some x) same l) in
       f ∙ ap (λ x. k + x) is ∙ sym d
 
   pub one_to_one : {funcs : List tree.Func} → IsOrder places funcs t → OneToOne R
   one_to_one o = record { right = λ {k} a b c p q. right k a b c (partner k a b p) (partner k a c q); left = λ {k} a b c p q. left k a b c (partner k a c p) (partner k b c q) }
     where
-      right : (k : Kind) (a b c : ℕ) → place (partners env places t k) a ≡ Some b → place (partners env places t k) a ≡ Some c → b ≡ c
+      right : (k : Kind) (a b c : ℕ) → slice_get (partners env places t k) a ≡ Some b → slice_get (partners env places t k) a ≡ Some c → b ≡ c
       right k a b c p q = let e : Some b ≡ Some c = sym p ∙ q in cc
 
-      left : (k : Kind) (a b c : ℕ) → place (partners env places t k) a ≡ Some c → place (partners env places t k) b ≡ Some c → a ≡ b
+      left : (k : Kind) (a b c : ℕ) → slice_get (partners env places t k) a ≡ Some c → slice_get (partners env places t k) b ≡ Some c → a ≡ b
       left Funcs a b c p q = moves_left o (length (own_funcs env)) a b c (moves_by _ places a c p) (moves_by _ places b c q)
       left Tables a b c p q = row_left _ a b c p q
       left Mems a b c p q = row_left _ a b c p q
@@ -138,4 +138,4 @@ module _ (env : Environment) (places : List ℕ) (t : Module) where
   address_rel k p = none
 
   pub addresses_rel : (types : List FuncType) (imports : List Import) (k : linking.Kind) → OptRel (ListRel (R.of (kind_in k))) (addresses env types imports k) (addresses env types imports k)
-  addresses_rel types imports k = all_rel (self_rel (linking.places (has_kind k) imports 0) (λ n. then_rel (thing_rel types (place imports n)) (λ _ _ p. address_rel k p)))
+  addresses_rel types imports k = all_rel (self_rel (linking.places (has_kind k) imports 0) (λ n. then_rel (thing_rel types (slice_get imports n)) (λ _ _ p. address_rel k p)))

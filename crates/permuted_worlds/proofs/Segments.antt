@@ -1,5 +1,5 @@
 -- The active segments of the module and of its reordering.
-use Rattle.std.proofs.Common.{◌≡◌, ℕ, List, [], ◌∷◌, ◌++◌, map, Option, Bool, true, false, cond, refl, sym, ap, ap₂, subst, ◌∙◌}
+use Rattle.std.proofs.Common.{◌≡◌, ℕ, List, [], ◌∷◌, ◌++◌, map, Option, Bool, true, false, cond, refl, sym, ap, ap₂, subst, ◌∙◌, option_and_then, slice_get, slice_set}
 use Rattle.std.specs.Prelude.{slice_index}
 use Rattle.wasm_tree.specs.declared.module.Func as tree
 use Rattle.wasm_tree.specs.declared.module.ElemSeg.{ElemSeg}
@@ -9,10 +9,9 @@ use Rattle.wasm_tree.specs.declared.module.DataSeg.{DataSeg}
 use Rattle.wasm_tree.specs.declared.module.DataMode.{DataMode}
 use Rattle.wasm_tree.specs.declared.module.DataMode.TheVariants as data'
 use Rattle.wasm_tree.specs.declared.module.Module.{Module}
-use Rattle.wasm_meaning.specs.Outcomes.{Outcome, Gives, Traps, IllTyped, put, overwrite}
+use Rattle.wasm_meaning.specs.Outcomes.{Outcome, Gives, Traps, IllTyped, overwrite}
 use Rattle.wasm_meaning.specs.State.{RefVal, Inst, Table, Memory, Data, Store}
 use Rattle.wasm_meaning.specs.Step.{no_items, no_bytes}
-use Rattle.wasm_meaning.specs.Linking.{place, then_some}
 use Rattle.wasm_meaning.specs.Environment.{Environment}
 use Rattle.wasm_meaning.specs.World.{Filled, tasks_in, or_trapped, fill_table, copy_elem, run_elem_mode, run_elem, fill_memory, copy_data, run_data_mode, run_data, and_then, in_turn, segments, number_value}
 use Rattle.index_remap.specs.declared.remap.Remap.{Remap}
@@ -50,17 +49,17 @@ module _ (env : Environment) (places : List ℕ) (t : Module) where
   or_trapped_rel like (some r) = r
 
   -- what stands at the same place of both
-  same_place : {A B C D : Type 0} {P : A → B → Type 0} {Q : C → D → Type 0} {xs : List A} {ys : List B} {f : A → Option C} {g : B → Option D} {a b : ℕ} → ListRel P xs ys → a ≡ b → ((x : A) (y : B) → P x y → OptRel Q (f x) (g y)) → OptRel Q (then_some (place xs a) f) (then_some (place ys b) g)
-  same_place {Q = Q} {xs = xs} {ys = ys} {f = f} {g = g} {a = a} r e h = subst (λ c. OptRel Q (then_some (place xs a) f) (then_some (place ys c) g)) e (then_rel (place_rel r a) h)
+  same_place : {A B C D : Type 0} {P : A → B → Type 0} {Q : C → D → Type 0} {xs : List A} {ys : List B} {f : A → Option C} {g : B → Option D} {a b : ℕ} → ListRel P xs ys → a ≡ b → ((x : A) (y : B) → P x y → OptRel Q (f x) (g y)) → OptRel Q (option_and_then f (slice_get xs a)) (option_and_then g (slice_get ys b))
+  same_place {Q = Q} {xs = xs} {ys = ys} {f = f} {g = g} {a = a} r e h = subst (λ c. OptRel Q (option_and_then f (slice_get xs a)) (option_and_then g (slice_get ys c))) e (then_rel (place_rel r a) h)
 
   with_table : {s z : Store} {a b n k : ℕ} {v w : Table} → Alike env places t s z → n ≡ k → a ≡ b → TableRel R v w →
-      Alike env places t (record s { tables = put s.tables a v; elems = put s.elems n no_items }) (record z { tables = put z.tables b w; elems = put z.elems k no_items })
+      Alike env places t (record s { tables = slice_set s.tables a v; elems = slice_set s.elems n no_items }) (record z { tables = slice_set z.tables b w; elems = slice_set z.elems k no_items })
   with_table {s} {z} {a} {b} {n} {k} {v} {w} like e d r = record {
     funcs = like.funcs;
-    tables = subst (λ c. ListRel (TableRel R) (put s.tables a v) (put z.tables c w)) d (put_rel like.tables a r);
+    tables = subst (λ c. ListRel (TableRel R) (slice_set s.tables a v) (slice_set z.tables c w)) d (put_rel like.tables a r);
     mems = like.mems;
     globals = like.globals;
-    elems = subst (λ c. ListRel (ElemRel R) (put s.elems n no_items) (put z.elems c no_items)) e (put_rel {v = no_items} {w = no_items} like.elems n (record { items = nil }));
+    elems = subst (λ c. ListRel (ElemRel R) (slice_set s.elems n no_items) (slice_set z.elems c no_items)) e (put_rel {v = no_items} {w = no_items} like.elems n (record { items = nil }));
     datas = like.datas;
     table_count = put_length s.tables a v ∙ like.table_count;
     memory_count = like.memory_count;
@@ -75,14 +74,14 @@ module _ (env : Environment) (places : List ℕ) (t : Module) where
   fill_table_rel like e d r wrong = record { store = like; trapped = refl }
 
   with_memory : {s z : Store} {a b n k : ℕ} {v w : Memory} → Alike env places t s z → n ≡ k → a ≡ b → v ≡ w →
-      Alike env places t (record s { mems = put s.mems a v; datas = put s.datas n no_bytes }) (record z { mems = put z.mems b w; datas = put z.datas k no_bytes })
+      Alike env places t (record s { mems = slice_set s.mems a v; datas = slice_set s.datas n no_bytes }) (record z { mems = slice_set z.mems b w; datas = slice_set z.datas k no_bytes })
   with_memory {s} {z} {a} {b} {n} {k} {v} {w} like e d r = record {
     funcs = like.funcs;
     tables = like.tables;
-    mems = subst (λ c. ListRel (λ (x y : Memory). x ≡ y) (put s.mems a v) (put z.mems c w)) d (put_rel like.mems a r);
+    mems = subst (λ c. ListRel (λ (x y : Memory). x ≡ y) (slice_set s.mems a v) (slice_set z.mems c w)) d (put_rel like.mems a r);
     globals = like.globals;
     elems = like.elems;
-    datas = subst (λ c. ListRel (λ (x y : Data). x.bytes ≡ y.bytes) (put s.datas n no_bytes) (put z.datas c no_bytes)) e (put_rel {v = no_bytes} {w = no_bytes} like.datas n refl);
+    datas = subst (λ c. ListRel (λ (x y : Data). x.bytes ≡ y.bytes) (slice_set s.datas n no_bytes) (slice_set z.datas c no_bytes)) e (put_rel {v = no_bytes} {w = no_bytes} like.datas n refl);
     table_count = like.table_count;
     memory_count = put_length s.mems a v ∙ like.memory_count;
     global_count = like.global_count;

@@ -1,5 +1,5 @@
 -- The world of a module and the world of the module with its functions in another order: both are instantiated or neither, and then they show the same.
-use Rattle.std.proofs.Common.{◌≡◌, ℕ, ◌≤◌, List, [], ◌∷◌, ◌++◌, map, length, Option, Some, None, Bool, true, false, cond, refl, ap, subst, ◌∙◌, arith}
+use Rattle.std.proofs.Common.{◌≡◌, ℕ, ◌≤◌, List, [], ◌∷◌, ◌++◌, map, length, Option, Some, None, Bool, true, false, cond, refl, ap, subst, ◌∙◌, arith, option_and_then}
 use Rattle.std.proofs.lemmas.Bool.{ltb-true}
 use Rattle.wasm_tree.specs.declared.module.Func as tree
 use Rattle.wasm_tree.specs.declared.module.Export.{Export}
@@ -8,7 +8,7 @@ use Rattle.wasm_tree.specs.declared.module.ExportDesc.TheVariants as ex
 use Rattle.wasm_tree.specs.declared.module.Module.{Module}
 use Rattle.wasm_tree.specs.Spaces.{imported_funcs}
 use Rattle.wasm_meaning.specs.State.{Text, Inst, Store}
-use Rattle.wasm_meaning.specs.Linking.{then_some, sites}
+use Rattle.wasm_meaning.specs.Linking.{sites}
 use Rattle.wasm_meaning.specs.Environment.{Environment, Thing, all_of}
 use Rattle.wasm_meaning.specs.World.{Begun, alone, numbers, insts_from, own_store, stores_from, all_there, is_matched, segments, one_place, start_in, address_in, seen_as, begun, instantiate}
 use Rattle.wasm_meaning.specs.Run.{IsPrefix}
@@ -116,8 +116,8 @@ module _ (env : Environment) (places : List ℕ) (t : Module) (funcs : List tree
     where
       rest : {is js : List Inst} → OneRel is js →
           OptRel (BegunRel R (EntryByEntry R))
-          (then_some (stores_from env (one t) is (own_store env) 0 (one t) is) (λ s. then_some (all_there (seen_as is) (alone t).view) (λ view. cond (all_of (is_matched env (one t) s) (sites (one t))) (Some (begun env (alone t) is view (segments env (one t) is s))) None)))
-          (then_some (stores_from env (one u) js (own_store env) 0 (one u) js) (λ s. then_some (all_there (seen_as js) (alone u).view) (λ view. cond (all_of (is_matched env (one u) s) (sites (one u))) (Some (begun env (alone u) js view (segments env (one u) js s))) None)))
+          (option_and_then (λ s. option_and_then (λ view. cond (all_of (is_matched env (one t) s) (sites (one t))) (Some (begun env (alone t) is view (segments env (one t) is s))) None) (all_there (seen_as is) (alone t).view)) (stores_from env (one t) is (own_store env) 0 (one t) is))
+          (option_and_then (λ s. option_and_then (λ view. cond (all_of (is_matched env (one u) s) (sites (one u))) (Some (begun env (alone u) js view (segments env (one u) js s))) None) (all_there (seen_as js) (alone u).view)) (stores_from env (one u) js (own_store env) 0 (one u) js))
       rest (one_of {i = i} {j = j} k) =
           then_rel (stores_alike env places t funcs order fit code i j k) (λ s z like. then_rel (view_rel k) (λ xs ys view. linked _ _ (all_matched env places t funcs fit s z like) (begun_rel k like view)))
 

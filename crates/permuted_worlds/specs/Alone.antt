@@ -1,5 +1,6 @@
 -- A module alone: its imports all stay, so what they stand for, its index spaces, and what its constant expressions read are a matter of its types and imports.
-use Rattle.std.specs.Prelude.{◌≡◌, ℕ, List, [], ◌∷◌, ◌++◌, Option, Some, None}
+use Rattle.std.specs.Prelude.{◌≡◌, ℕ, List, [], ◌∷◌, ◌++◌, Option, Some, None, slice_get}
+use Rattle.base_lists.specs.Options.{◌>>=◌}
 use Rattle.wasm_tree.specs.declared.types.FuncType.{FuncType}
 use Rattle.wasm_tree.specs.declared.module.Import.{Import}
 use Rattle.wasm_tree.specs.declared.module.ImportDesc.{ImportDesc}
@@ -8,7 +9,7 @@ use Rattle.wasm_tree.specs.declared.module.ConstExpr.{ConstExpr}
 use Rattle.wasm_tree.specs.declared.module.ConstExpr.TheVariants as const
 use Rattle.wasm_tree.specs.declared.module.Module.{Module}
 use Rattle.wasm_meaning.specs.State.{Pair}
-use Rattle.wasm_meaning.specs.Linking.{Part, Site, Outside, Kind, Globals, Read, place, then_some, places, has_kind, pair_of, end_of, read_of, space_index}
+use Rattle.wasm_meaning.specs.Linking.{Part, Site, Outside, Kind, Globals, Read, places, has_kind, pair_of, end_of, read_of, space_index}
 use Rattle.wasm_meaning.specs.Environment.{Environment, Thing, OwnKey, FuncKey, TableKey, MemoryKey, GlobalKey, owned_of, owned_at}
 use Rattle.wasm_meaning.specs.World.{given, imported_thing, address_of, all_there, numbers, own_count, defined_count, space}
 
@@ -23,25 +24,25 @@ site n = record { part = 0; import = n }
 
 -- the environment's entity that an import names
 abbrev pub key_in : List FuncType → Pair → ImportDesc → Option OwnKey
-key_in types pair (im.Func ty) = then_some (place types ty) (λ t. Some (FuncKey pair t))
+key_in types pair (im.Func ty) = slice_get types ty >>= λ t. Some (FuncKey pair t)
 key_in types pair (im.Table t) = Some (TableKey pair)
 key_in types pair (im.Memory l) = Some (MemoryKey pair)
 key_in types pair (im.Global t) = Some (GlobalKey pair)
 
 abbrev pub thing_in : Environment → List FuncType → Option Import → Option Thing
-thing_in env types o = then_some o (λ i. then_some (key_in types (pair_of i) i.desc) (λ key. given (owned_at (owned_of env) key)))
+thing_in env types o = o >>= λ i. key_in types (pair_of i) i.desc >>= λ key. given (owned_at (owned_of env) key)
 
 -- each import is its own end
 abbrev pub ImportsStay : Type 0
-ImportsStay = (t : Module) (n : ℕ) → end_of (one t) (site n) ≡ then_some (place t.imports n) (λ i. Some (Outside (site n)))
+ImportsStay = (t : Module) (n : ℕ) → end_of (one t) (site n) ≡ slice_get t.imports n >>= λ i. Some (Outside (site n))
 
 abbrev pub ImportsStandForTheEnvironments : Type 0
-ImportsStandForTheEnvironments = (env : Environment) (t : Module) (n : ℕ) → imported_thing env (one t) (site n) ≡ thing_in env t.types (place t.imports n)
+ImportsStandForTheEnvironments = (env : Environment) (t : Module) (n : ℕ) → imported_thing env (one t) (site n) ≡ thing_in env t.types (slice_get t.imports n)
 
 -- ---- index spaces ----
 
 abbrev pub address_in : Environment → List FuncType → List Import → Kind → ℕ → Option ℕ
-address_in env types imports k n = then_some (thing_in env types (place imports n)) (address_of k)
+address_in env types imports k n = thing_in env types (slice_get imports n) >>= (address_of k)
 
 abbrev pub import_places : Kind → List Import → List ℕ
 import_places k imports = places (has_kind k) imports 0
@@ -52,15 +53,15 @@ addresses env types imports k = all_there (address_in env types imports k) (impo
 -- the addresses of the imports, then those after all that is the environment's
 abbrev pub SpacesAreImportsAndOwn : Type 0
 SpacesAreImportsAndOwn =
-    (env : Environment) (t : Module) (k : Kind) → space env (one t) k 0 t ≡ then_some (addresses env t.types t.imports k) (λ l. Some (l ++ numbers (own_count k env) (defined_count k t)))
+    (env : Environment) (t : Module) (k : Kind) → space env (one t) k 0 t ≡ addresses env t.types t.imports k >>= λ l. Some (l ++ numbers (own_count k env) (defined_count k t))
 
 -- ---- what is read ----
 
 abbrev pub read_place : List Import → ℕ → Option ℕ
-read_place imports x = then_some (place (import_places Globals imports) x) (λ n. then_some (place imports n) (λ i. Some (space_index imports n Globals)))
+read_place imports x = slice_get (import_places Globals imports) x >>= λ n. slice_get imports n >>= λ i. Some (space_index imports n Globals)
 
 abbrev pub read_in : List Import → ConstExpr → Option Read
-read_in imports (const.Global x) = then_some (read_place imports x) (λ y. Some (record { part = 0; expr = const.Global y }))
+read_in imports (const.Global x) = read_place imports x >>= λ y. Some (record { part = 0; expr = const.Global y })
 read_in imports e = Some (record { part = 0; expr = e })
 
 abbrev pub ReadsStay : Type 0

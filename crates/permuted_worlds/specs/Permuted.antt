@@ -1,10 +1,10 @@
 -- A module with its functions in another order, each index that names one along (WebAssembly Core 2.0, sections 2.5 and 2.5.1).
-use Rattle.std.specs.Prelude.{◌≡◌, ℕ, ◌+◌, ◌<◌, List, ◌++◌, map, length, Some}
+use Rattle.std.specs.Prelude.{◌≡◌, ℕ, ◌+◌, ◌<◌, List, ◌++◌, map, length, Some, slice_get}
+use Rattle.base_lists.specs.Options.{◌>>=◌}
 use Rattle.wasm_tree.specs.declared.module.Func.{Func}
 use Rattle.wasm_tree.specs.declared.module.Module.{Module}
 use Rattle.wasm_tree.specs.Spaces.{imported_funcs, tables_of, memories_of, globals_of}
 use Rattle.wasm_valid.specs.Validity.{IsValid}
-use Rattle.wasm_meaning.specs.Linking.{place, then_some}
 use Rattle.wasm_meaning.specs.World.{alone, numbers}
 use Rattle.wasm_meaning.specs.Run.{Same}
 use Rattle.index_remap.specs.declared.remap.Remap.{Remap}
@@ -29,10 +29,10 @@ moving places t = record {
 -- the second list has the functions of the module, each with the new indices at its place
 pub record IsOrder (places : List ℕ) (funcs : List Func) (t : Module) : Type 0 where
   pub size : length places ≡ length t.funcs
-  pub stands : (i p : ℕ) → place places i ≡ Some p → place funcs p ≡ then_some (place t.funcs i) (λ f. Some (new_func (moving places t) f))
+  pub stands : (i p : ℕ) → slice_get places i ≡ Some p → slice_get funcs p ≡ slice_get t.funcs i >>= (λ f. Some (new_func (moving places t) f))
   -- no two have one place, and nothing else stands there
-  pub apart : (i j p : ℕ) → place places i ≡ Some p → place places j ≡ Some p → i ≡ j
-  pub filled : (p : ℕ) → p < length funcs → (i : ℕ) × (place places i ≡ Some p)
+  pub apart : (i j p : ℕ) → slice_get places i ≡ Some p → slice_get places j ≡ Some p → i ≡ j
+  pub filled : (p : ℕ) → p < length funcs → (i : ℕ) × (slice_get places i ≡ Some p)
 
 -- the module with these in place of its functions, and the new indices in all else
 abbrev pub permuted : (places : List ℕ) → (funcs : List Func) → Module → Module

@@ -1,12 +1,12 @@
 -- Lists: places that are there, and tests of all of them.
-use Rattle.std.proofs.Common.{◌≡◌, ℕ, zero, suc, ◌+◌, ◌<◌, ◌≤◌, Bool, true, false, ◌&&◌, ◌||◌, nat_eq, List, [], ◌∷◌, ◌++◌, map, length, Option, Some, None, ◌⊎◌, inl, inr, ⊎_elim, true≢false, refl, sym, ap, ◌∙◌, subst, arith, add-zero, eq-eqb}
+use Rattle.std.proofs.Common.{◌≡◌, ℕ, zero, suc, ◌+◌, ◌<◌, ◌≤◌, Bool, true, false, ◌&&◌, ◌||◌, nat_eq, List, [], ◌∷◌, ◌++◌, map, length, Option, Some, None, ◌⊎◌, inl, inr, ⊎_elim, true≢false, refl, sym, ap, ◌∙◌, subst, arith, add-zero, eq-eqb, option_and_then, option_map}
 use Rattle.std.specs.Prelude.{slice_get, replicate}
 use Rattle.std.specs.List.{flat_map, filter_map, cons_option}
 use Rattle.std.proofs.lemmas.Bool.{lt-ltb}
 use Rattle.std.proofs.lemmas.Bool.Decides.{nat_tests}
 use Rattle.std.proofs.lemmas.List.Folds.{list_any-append}
 use Rattle.std.proofs.lemmas.Option.{slice_get_within}
-use Rattle.wasm_typing.specs.Typing.{map_option, then_option, only}
+use Rattle.wasm_typing.specs.Typing.{only}
 use Rattle.index_remap.specs.Renumbered.{all_true, has}
 use Rattle.index_remap.specs.References.{is_among}
 use Rattle.wasm_valid.specs.Named.{named_from}
@@ -90,11 +90,11 @@ all_got test (x ∷ xs) h = both_true (test x) (all_true (map test xs)) (h 0 x r
 
 -- ---- what is there by the words of types ----
 
-pub map_there : {A B : Type 0} (f : A → B) (o : Option A) (e : B) → map_option f o ≡ Some e → (x : A) × (o ≡ Some x)
+pub map_there : {A B : Type 0} (f : A → B) (o : Option A) (e : B) → option_map f o ≡ Some e → (x : A) × (o ≡ Some x)
 map_there f None e h = cc
 map_there f (Some x) e h = (x, refl)
 
-pub then_there : {A B : Type 0} (o : Option A) (f : A → Option B) (e : B) → then_option o f ≡ Some e → (x : A) × (o ≡ Some x) × (f x ≡ Some e)
+pub then_there : {A B : Type 0} (o : Option A) (f : A → Option B) (e : B) → option_and_then f o ≡ Some e → (x : A) × (o ≡ Some x) × (f x ≡ Some e)
 then_there None f e h = cc
 then_there (Some x) f e h = (x, refl, h)
 

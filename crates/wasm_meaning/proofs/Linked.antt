@@ -1,12 +1,12 @@
 -- Where imports end and what is read: the definitions by paths and those that compute are one.
-use Rattle.std.proofs.Common.{◌≡◌, ◌∙◌, ap, subst, refl, ℕ, zero, suc, ◌+◌, ◌-◌, ◌<◌, ◌≤◌, List, [], ◌∷◌, ◌++◌, map, length, arith, Option, Some, None, ◌↔◌, Bool, true, false, cond}
+use Rattle.std.proofs.Common.{◌≡◌, ◌∙◌, ap, subst, refl, ℕ, zero, suc, ◌+◌, ◌-◌, ◌<◌, ◌≤◌, List, [], ◌∷◌, ◌++◌, map, length, arith, Option, Some, None, ◌↔◌, Bool, true, false, cond, option_and_then, slice_get}
 use Rattle.wasm_tree.specs.declared.module.Import.{Import}
 use Rattle.wasm_tree.specs.declared.module.GlobalDef.{GlobalDef}
 use Rattle.wasm_tree.specs.declared.module.ConstExpr.{ConstExpr}
 use Rattle.wasm_tree.specs.declared.module.ConstExpr.TheVariants as const
 use Rattle.wasm_tree.specs.declared.module.Module.{Module}
 use Rattle.wasm_meaning.specs.Paths.{Next, Ends, Goes, In, here, there}
-use Rattle.wasm_meaning.specs.Linking.{Part, Site, End, Defined, Outside, Entity, Globals, Read, place, places, then_some, module_at, import_at, imports_of, has_kind, kind_of_export, index_of_export, joined, imported_as, entity_step, joined_step, import_step, Leads, sites_in, sites_from, sites, end_of, initial, outside_read, global_import, end_step, expr_step, read_step, Reads, initials_from, read_of}
+use Rattle.wasm_meaning.specs.Linking.{Part, Site, End, Defined, Outside, Entity, Globals, Read, places, module_at, import_at, imports_of, has_kind, kind_of_export, index_of_export, joined, imported_as, entity_step, joined_step, import_step, Leads, sites_in, sites_from, sites, end_of, initial, outside_read, global_import, end_step, expr_step, read_step, Reads, initials_from, read_of}
 use Rattle.wasm_meaning.proofs.Walks.{walk_is}
 
 in_front : {A : Type 0} {x : A} {xs : List A} (ys : List A) → In x xs → In x (xs ++ ys)
@@ -23,14 +23,14 @@ record Between (n low high : ℕ) : Type 0 where
   least : low ≤ n
   most : n < high
 
-placed : {A : Type 0} (test : A → Bool) (xs : List A) (k i n : ℕ) → place (places test xs k) i ≡ Some n → Between n k (k + length xs)
+placed : {A : Type 0} (test : A → Bool) (xs : List A) (k i n : ℕ) → slice_get (places test xs k) i ≡ Some n → Between n k (k + length xs)
 placed test [] k i n h = cc
 placed test (x ∷ xs) k i n h = by (placed test xs (suc k)) (test x) i h
   where
     wider : Between n (suc k) (suc k + length xs) → Between n k (k + suc (length xs))
     wider b = record { least = omega (arith, b.least); most = omega (arith, b.most) }
 
-    by : ((i n : ℕ) → place (places test xs (suc k)) i ≡ Some n → Between n (suc k) (suc k + length xs)) → (b : Bool) (i : ℕ) → place (cond b (k ∷ places test xs (suc k)) (places test xs (suc k))) i ≡ Some n →
+    by : ((i n : ℕ) → slice_get (places test xs (suc k)) i ≡ Some n → Between n (suc k) (suc k + length xs)) → (b : Bool) (i : ℕ) → slice_get (cond b (k ∷ places test xs (suc k)) (places test xs (suc k))) i ≡ Some n →
         Between n k (k + suc (length xs))
     by more true zero e = let same : k ≡ n = cc in record { least = omega (arith, same); most = omega (arith, same) }
     by more true (suc i) e = wider (more i n e)
@@ -57,8 +57,8 @@ in_sites (part ∷ parts) first (suc p) m n h l =
 import_in : (parts : List Part) (e : Entity) (t : Site) → imported_as parts e ≡ Some t → In t (sites parts)
 import_in parts e t h = by (module_at parts e.part) refl h
   where
-    inner : (m : Module) → module_at parts e.part ≡ Some m → (o : Option ℕ) → place (imports_of (kind_of_export e.what) m) (index_of_export e.what) ≡ o →
-        then_some {B = Site} o (λ n. Some (record { part = e.part; import = n })) ≡ Some t → In t (sites parts)
+    inner : (m : Module) → module_at parts e.part ≡ Some m → (o : Option ℕ) → slice_get (imports_of (kind_of_export e.what) m) (index_of_export e.what) ≡ o →
+        option_and_then o {B = Site} (λ n. Some (record { part = e.part; import = n })) ≡ Some t → In t (sites parts)
     inner m is None at k = cc
     inner m is (Some n) at k =
         let same : record { part = e.part; import = n } ≡ t = cc in
@@ -66,9 +66,9 @@ import_in parts e t h = by (module_at parts e.part) refl h
         let from_0 : 0 + e.part ≡ e.part = omega arith in
         subst (λ t. In t (sites parts)) (ap (λ p. record { part = p; import = n }) from_0 ∙ same) (in_sites parts 0 e.part m n is (omega (arith, b.most)))
 
-    by : (o : Option Module) → module_at parts e.part ≡ o → then_some o (λ m. then_some (place (imports_of (kind_of_export e.what) m) (index_of_export e.what)) (λ n. Some (record { part = e.part; import = n }))) ≡ Some t → In t (sites parts)
+    by : (o : Option Module) → module_at parts e.part ≡ o → option_and_then (λ m. option_and_then (λ n. Some (record { part = e.part; import = n })) (slice_get (imports_of (kind_of_export e.what) m) (index_of_export e.what))) o ≡ Some t → In t (sites parts)
     by None is k = cc
-    by (Some m) is k = inner m is (place (imports_of (kind_of_export e.what) m) (index_of_export e.what)) refl k
+    by (Some m) is k = inner m is (slice_get (imports_of (kind_of_export e.what) m) (index_of_export e.what)) refl k
 
 goes_to_import : (parts : List Part) (s t : Site) → import_step parts s ≡ Some (Goes t) → In t (sites parts)
 goes_to_import parts s t h = by (import_at parts s) h
@@ -81,7 +81,7 @@ goes_to_import parts s t h = by (import_at parts s) h
     at_joined None k = cc
     at_joined (Some e) k = at_entity e (imported_as parts e) refl k
 
-    by : (o : Option Import) → then_some o (λ i. Some (joined_step parts s (joined parts i))) ≡ Some (Goes t) → In t (sites parts)
+    by : (o : Option Import) → option_and_then (λ i. Some (joined_step parts s (joined parts i))) o ≡ Some (Goes t) → In t (sites parts)
     by None k = cc
     by (Some i) k = at_joined (joined parts i) k
 
@@ -90,16 +90,16 @@ ends_are parts = walk_is (import_step parts) (sites parts) (goes_to_import parts
 
 -- ---- reads ----
 
-initial_in : (p : ℕ) (gs : List GlobalDef) (i : ℕ) (g : GlobalDef) → place gs i ≡ Some g → In {A = Read} (record { part = p; expr = g.init }) (map {B = Read} (λ g. record { part = p; expr = g.init }) gs)
+initial_in : (p : ℕ) (gs : List GlobalDef) (i : ℕ) (g : GlobalDef) → slice_get gs i ≡ Some g → In {A = Read} (record { part = p; expr = g.init }) (map {B = Read} (λ g. record { part = p; expr = g.init }) gs)
 initial_in p [] i g h = cc
 initial_in p (x ∷ gs) zero g h = let same : x ≡ g = cc in rw same here
 initial_in p (x ∷ gs) (suc i) g h = there (initial_in p gs i g h)
 
-in_initials : (parts : List Part) (first p : ℕ) (m : Module) (i : ℕ) (g : GlobalDef) → module_at parts p ≡ Some m → place m.globals i ≡ Some g → In {A = Read} (record { part = first + p; expr = g.init }) (initials_from first parts)
+in_initials : (parts : List Part) (first p : ℕ) (m : Module) (i : ℕ) (g : GlobalDef) → module_at parts p ≡ Some m → slice_get m.globals i ≡ Some g → In {A = Read} (record { part = first + p; expr = g.init }) (initials_from first parts)
 in_initials [] first p m i g h at = cc
 in_initials (part ∷ parts) first zero m i g h at =
     let same : part.«module» ≡ m = cc in
-    let at : place part.«module».globals i ≡ Some g = rw same at in
+    let at : slice_get part.«module».globals i ≡ Some g = rw same at in
     let e : first + 0 ≡ first = omega arith in rw e (in_front (initials_from (suc first) parts) (initial_in first part.«module».globals i g at))
 in_initials (part ∷ parts) first (suc p) m i g h at =
     let e : first + suc p ≡ suc first + p = omega arith in rw e (in_back (map {B = Read} (λ g. record { part = first; expr = g.init }) part.«module».globals) (in_initials parts (suc first) p m i g h at))
@@ -107,26 +107,26 @@ in_initials (part ∷ parts) first (suc p) m i g h at =
 initial_known : (parts : List Part) (e : Entity) (expr : ConstExpr) → initial parts e ≡ Some expr → In {A = Read} (record { part = e.part; expr = expr }) (initials_from 0 parts)
 initial_known parts e expr h = by (module_at parts e.part) refl h
   where
-    inner : (m : Module) → module_at parts e.part ≡ Some m → (o : Option GlobalDef) → place m.globals (index_of_export e.what - length (imports_of Globals m)) ≡ o → then_some o (λ g. Some g.init) ≡ Some expr →
+    inner : (m : Module) → module_at parts e.part ≡ Some m → (o : Option GlobalDef) → slice_get m.globals (index_of_export e.what - length (imports_of Globals m)) ≡ o → option_and_then (λ g. Some g.init) o ≡ Some expr →
         In {A = Read} (record { part = e.part; expr = expr }) (initials_from 0 parts)
     inner m is None at k = cc
     inner m is (Some g) at k = let same : g.init ≡ expr = cc in
         let from_0 : 0 + e.part ≡ e.part = omega arith in
         subst (λ x. In {A = Read} (record { part = e.part; expr = x }) (initials_from 0 parts)) same (subst (λ p. In {A = Read} (record { part = p; expr = g.init }) (initials_from 0 parts)) from_0 (in_initials parts 0 e.part m _ g is at))
 
-    by : (o : Option Module) → module_at parts e.part ≡ o → then_some o (λ m. then_some (place m.globals (index_of_export e.what - length (imports_of Globals m))) (λ g. Some g.init)) ≡ Some expr →
+    by : (o : Option Module) → module_at parts e.part ≡ o → option_and_then (λ m. option_and_then (λ g. Some g.init) (slice_get m.globals (index_of_export e.what - length (imports_of Globals m)))) o ≡ Some expr →
         In {A = Read} (record { part = e.part; expr = expr }) (initials_from 0 parts)
     by None is k = cc
-    by (Some m) is k = inner m is (place m.globals (index_of_export e.what - length (imports_of Globals m))) refl k
+    by (Some m) is k = inner m is (slice_get m.globals (index_of_export e.what - length (imports_of Globals m))) refl k
 
 goes_to_read : (parts : List Part) (r q : Read) → read_step parts r ≡ Some (Goes q) → In q (initials_from 0 parts)
 goes_to_read parts r q h = by r.expr h
   where
-    at_value : (e : Entity) (o : Option ConstExpr) → initial parts e ≡ o → then_some {B = Next Read Read} o (λ expr. Some (Goes (record { part = e.part; expr = expr }))) ≡ Some (Goes q) → In q (initials_from 0 parts)
+    at_value : (e : Entity) (o : Option ConstExpr) → initial parts e ≡ o → option_and_then o {B = Next Read Read} (λ expr. Some (Goes (record { part = e.part; expr = expr }))) ≡ Some (Goes q) → In q (initials_from 0 parts)
     at_value e None is k = cc
     at_value e (Some expr) is k = let same : record { part = e.part; expr = expr } ≡ q = cc in subst (λ x. In x (initials_from 0 parts)) same (initial_known parts e expr is)
 
-    at_outside : (o : Option Read) → then_some {B = Next Read Read} o (λ r. Some (Ends r)) ≡ Some (Goes q) → In q (initials_from 0 parts)
+    at_outside : (o : Option Read) → option_and_then o {B = Next Read Read} (λ r. Some (Ends r)) ≡ Some (Goes q) → In q (initials_from 0 parts)
     at_outside None k = cc
     at_outside (Some x) k = cc
 
@@ -136,7 +136,7 @@ goes_to_read parts r q h = by r.expr h
     at_end (Some (Defined e)) k = at_value e (initial parts e) refl k
 
     by : (x : ConstExpr) → expr_step parts r.part x ≡ Some (Goes q) → In q (initials_from 0 parts)
-    by (const.Global x) k = at_end (then_some (global_import parts r.part x) (end_of parts)) k
+    by (const.Global x) k = at_end (option_and_then (end_of parts) (global_import parts r.part x)) k
     by (const.I32 v) k = cc
     by (const.I64 v) k = cc
     by (const.Null t) k = cc

@@ -1,5 +1,5 @@
 -- Calls, ends, branches and blocks (WebAssembly Core 2.0, sections 4.4.8 to 4.4.10).
-use Rattle.std.proofs.Common.{ℕ, List, [], ◌∷◌, ◌++◌, length, cond}
+use Rattle.std.proofs.Common.{ℕ, List, [], ◌∷◌, ◌++◌, length, cond, drop}
 use Rattle.std.specs.Prelude.{nat_eq}
 use Rattle.wasm_tree.specs.declared.types.ValType.{ValType}
 use Rattle.wasm_tree.specs.declared.types.FuncType.{FuncType}
@@ -7,7 +7,7 @@ use Rattle.wasm_tree.specs.declared.types.BlockType.{BlockType}
 use Rattle.wasm_tree.specs.declared.types.BlockType.TheVariants as bt
 use Rattle.wasm_tree.specs.declared.instr.Instr.{Instr}
 use Rattle.wasm_tree.specs.declared.instr.Instr.TheVariants as i
-use Rattle.wasm_meaning.specs.Outcomes.{Outcome, Gives, Traps, IllTyped, trapping, or_trap, or_other, bind, at, onto, past, split_at}
+use Rattle.wasm_meaning.specs.Outcomes.{Outcome, Gives, Traps, IllTyped, trapping, or_trap, or_other, bind, at, onto, split_at}
 use Rattle.wasm_num.specs.Operations.{W32}
 use Rattle.wasm_meaning.specs.State.{Pair, RefVal, FuncRef, ExternRef, Val, Inst, Func, Code, Own, Placeholder, Table, Store, Level, Env, Body, Act, Calls, Ends}
 use Rattle.wasm_meaning.specs.Values.{same_func_type, pop_num, pop_typed, go, with_values}
@@ -68,7 +68,7 @@ abbrev pub level_here : Body → Level
 level_here h = record { values = h.values; code = h.rest; gives = h.gives; takes = h.takes; back = h.back }
 
 abbrev pub branch : Body → ℕ → Outcome Act
-branch h n = bind (at (level_here h ∷ h.outer) n) (λ t. bind (split_at t.takes h.values) (λ p. resume h p.0 t.back (past h.outer n)))
+branch h n = bind (at (level_here h ∷ h.outer) n) (λ t. bind (split_at t.takes h.values) (λ p. resume h p.0 t.back (drop n h.outer)))
 
 -- the label and what a branch to it takes have to be there, also where it is not taken
 abbrev pub branch_if : Body → ℕ → Outcome Act

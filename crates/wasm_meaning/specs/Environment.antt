@@ -1,5 +1,5 @@
 -- What an embedder offers to a world, and the values that it sees and passes.
-use Rattle.std.proofs.Common.{ℕ, suc, ◌*◌, ◌^◌, List, [], ◌∷◌, ◌++◌, map, length, Option, Some, None, Bool, true, false, cond}
+use Rattle.std.proofs.Common.{ℕ, suc, ◌*◌, ◌^◌, List, [], ◌∷◌, ◌++◌, map, length, Option, Some, None, Bool, true, false, cond, ◌&&◌}
 use Rattle.std.specs.Prelude.{nat_eq, nat_lt, nat_le}
 use Rattle.wasm_tree.specs.declared.types.RefType.{RefType}
 use Rattle.wasm_tree.specs.declared.types.RefType.TheVariants as reft
@@ -52,7 +52,7 @@ Environment = List Offer
 
 abbrev pub all_of : {A : Type 0} → (A → Bool) → List A → Bool
 all_of is [] = true
-all_of is (x ∷ xs) = cond (is x) (all_of is xs) false
+all_of is (x ∷ xs) = is x && all_of is xs
 
 abbrev pub any_of : {A : Type 0} → (A → Bool) → List A → Bool
 any_of is [] = false
@@ -68,7 +68,7 @@ where_there is None = true
 where_there is (Some x) = is x
 
 abbrev pub offers_func : Pair → FuncType → Offer → Bool
-offers_func pair ty offer = cond (same_pair pair offer.pair) (any_of (same_func_type ty) offer.funcs) false
+offers_func pair ty offer = same_pair pair offer.pair && any_of (same_func_type ty) offer.funcs
 
 -- The value is of the type: a number is in its type's range, and a function of the environment's own is one that it offers. No function stands here by its number,
 -- since none was shown yet; an extern number may be any.
@@ -83,29 +83,27 @@ is_value env _ _ = false
 
 -- the minimum is at most the maximum, and the size is between them
 abbrev pub is_within : ℕ → Limits → Bool
-is_within size l = cond (nat_le l.min size) (where_there (λ most. cond (nat_le l.min most) (nat_le size most) false) l.max) false
+is_within size l = nat_le l.min size && (where_there (λ most. nat_le l.min most && nat_le size most) l.max)
 
 -- a table has at most 2 ^ 32 - 1 entries; its maximum has no such bound
 abbrev pub is_table : Environment → OwnTable → Bool
-is_table env t = cond (is_within (length t.entries) t.limits) (cond (nat_lt (length t.entries) (2 ^ 32)) (all_of (is_value env (valt.Ref t.ty)) t.entries) false) false
+is_table env t = is_within (length t.entries) t.limits && ((nat_lt (length t.entries) (2 ^ 32)) && all_of (is_value env (valt.Ref t.ty)) t.entries)
 
 -- for a memory both limits are at most 65,536 pages
 abbrev pub is_memory : OwnMemory → Bool
 is_memory m =
-    cond (is_within m.pages m.limits)
-    (cond (where_there (λ most. nat_le most 65536) m.limits.max) (cond (nat_le m.pages 65536) (cond (nat_eq (length m.bytes) (65536 * m.pages)) (all_of (λ b. nat_lt b 256) m.bytes) false) false) false)
-    false
+    is_within m.pages m.limits && (where_there (λ most. nat_le most 65536) m.limits.max && (nat_le m.pages 65536 && ((nat_eq (length m.bytes) (65536 * m.pages)) && all_of (λ b. nat_lt b 256) m.bytes)))
 
 abbrev pub is_global : Environment → OwnGlobal → Bool
 is_global env g = is_value env g.ty.ty g.value
 
 abbrev pub is_offer : Environment → Offer → Bool
 is_offer env o =
-    cond (distinct same_func_type o.funcs) (cond (where_there (is_table env) o.table) (cond (where_there is_memory o.memory) (where_there (is_global env) o.global) false) false) false
+    distinct same_func_type o.funcs && (where_there (is_table env) o.table && (where_there is_memory o.memory && where_there (is_global env) o.global))
 
 -- one offer for each pair, with contents of their types and limits that are right
 abbrev pub is_environment : Environment → Bool
-is_environment env = cond (distinct same_pair (map (λ o. o.pair) env)) (all_of (is_offer env) env) false
+is_environment env = distinct same_pair (map (λ o. o.pair) env) && all_of (is_offer env) env
 
 -- ---- its entities in the store ----
 
@@ -127,7 +125,7 @@ abbrev pub Owned : Type 0
 Owned = List (OwnKey × Thing)
 
 abbrev pub same_key : OwnKey → OwnKey → Bool
-same_key (FuncKey p t) (FuncKey q u) = cond (same_pair p q) (same_func_type t u) false
+same_key (FuncKey p t) (FuncKey q u) = same_pair p q && same_func_type t u
 same_key (TableKey p) (TableKey q) = same_pair p q
 same_key (MemoryKey p) (MemoryKey q) = same_pair p q
 same_key (GlobalKey p) (GlobalKey q) = same_pair p q

@@ -1,6 +1,7 @@
 -- Parts that are instantiated one after the other: each is matched, allocated and filled, and its start is made, before the next part's turn comes
 -- (WebAssembly Core 2.0, section 4.5.4, for one module at a time). The view opens after the last.
-use Rattle.std.proofs.Common.{◌≡◌, ◌<◌, ℕ, List, [], ◌∷◌, ◌++◌, map, length, Option, Some, None, Bool, true, false, cond}
+use Rattle.std.proofs.Common.{◌≡◌, ◌<◌, ℕ, List, [], ◌∷◌, ◌++◌, map, length, Option, Some, None, Bool, true, false, cond, slice_get, unwrap_or, ◌&&◌}
+use Rattle.base_lists.specs.Options.{◌>>=◌}
 use Rattle.std.specs.List.{filter_map}
 use Rattle.wasm_tree.specs.declared.module.Import.{Import}
 use Rattle.wasm_tree.specs.declared.module.ExportDesc.{ExportDesc}
@@ -11,9 +12,9 @@ use Rattle.wasm_tree.specs.declared.module.DataMode.{DataMode}
 use Rattle.wasm_tree.specs.declared.module.DataMode.TheVariants as data'
 use Rattle.wasm_tree.specs.declared.module.Module.{Module}
 use Rattle.wasm_meaning.specs.State.{Text, Val, Inst, Store, Opening, Entry}
-use Rattle.wasm_meaning.specs.Linking.{Part, Entity, Functions, Tables, Memories, Globals, Kind, then_some, place, is_named, export_named, module_at, joined}
+use Rattle.wasm_meaning.specs.Linking.{Part, Entity, Functions, Tables, Memories, Globals, Kind, is_named, export_named, module_at, joined}
 use Rattle.wasm_meaning.specs.Environment.{Environment, Thing, Owned, owned_at, any_of}
-use Rattle.wasm_meaning.specs.World.{World, Begun, Filled, given, own_key, address_of, address_in, seen_as, all_there, numbers, const_value, store_with, joined_stores, is_match, or_false, tasks_in, run_elem_with, run_data_with, in_turn, and_then, start_in, instantiate}
+use Rattle.wasm_meaning.specs.World.{World, Begun, Filled, given, own_key, address_of, address_in, seen_as, all_there, numbers, const_value, store_with, joined_stores, is_match, tasks_in, run_elem_with, run_data_with, in_turn, and_then, start_in, instantiate}
 use Rattle.wasm_meaning.specs.Run.{Run, Pending, Closed, Event, LinkFault, InstanceTrapped, Move, Out, fresh_run, tick, events_of}
 
 -- ---- one module in a store that has others already ----
@@ -37,7 +38,7 @@ next_inst s m things = record {
 -- each import is matched by what it is to be, with the sizes that it has now
 abbrev pub all_match : Store → Module → List Import → List Thing → Bool
 all_match s m [] [] = true
-all_match s m (i ∷ is) (x ∷ xs) = cond (or_false (is_match s m i.desc x)) (all_match s m is xs) false
+all_match s m (i ∷ is) (x ∷ xs) = unwrap_or (is_match s m i.desc x) false && all_match s m is xs
 all_match s m _ _ = false
 
 -- its active element segments in order, then its active data segments (the number of the part, 0, is not looked at)
@@ -52,7 +53,7 @@ pub record Added : Type 0 where
 
 abbrev pub added_as : Store → Module → Inst → Option Added
 added_as s m i =
-    then_some (store_with (const_value s.globals i) m i) (λ t. Some (record { inst = i; filled = own_segments (const_value s.globals i) m i (joined_stores s t) }))
+    store_with (const_value s.globals i) m i >>= λ t. Some (record { inst = i; filled = own_segments (const_value s.globals i) m i (joined_stores s t) })
 
 -- None where an import does not match. (In a module that is not valid it is none as well where a function's type or what an initialiser or an item names is not there,
 -- or is a global that is not imported, or an item is no reference; but a segment whose table, memory or i32 offset is not there traps.) Constant expressions read the
@@ -62,7 +63,7 @@ added s m things = cond (all_match s m m.imports things) (added_as s m (next_ins
 
 -- where this tells what each import stands for; none where it tells nothing of one
 abbrev pub added_with : (Import → Option Thing) → Store → Module → Option Added
-added_with supplied s m = then_some (all_there supplied m.imports) (added s m)
+added_with supplied s m = all_there supplied m.imports >>= (added s m)
 
 -- ---- what an import stands for, among the parts that are there ----
 
@@ -77,11 +78,11 @@ made_named (x ∷ xs) name = cond (is_named name x.part) (Some x) (made_named xs
 
 -- the part that an import names, and what that part exports under the field's name
 abbrev pub exported_by : List Made → Import → Option (Made × ExportDesc)
-exported_by made i = then_some (made_named made i.«module») (λ x. then_some (export_named x.part.«module».exports i.field) (λ d. Some (x, d)))
+exported_by made i = made_named made i.«module» >>= λ x. export_named x.part.«module».exports i.field >>= λ d. Some (x, d)
 
 -- the environment's own entity for it
 abbrev pub own_thing : Owned → Module → Import → Option Thing
-own_thing owned m i = then_some (own_key m i) (λ key. given (owned_at owned key))
+own_thing owned m i = own_key m i >>= λ key. given (owned_at owned key)
 
 -- that, or where there is no such part or export the environment's own. A part whose turn has not come is not there, so that the environment is asked.
 abbrev pub thing_or_own : Owned → Module → Import → Option (Made × ExportDesc) → Option Thing
@@ -100,13 +101,9 @@ pub record InTurn : Type 0 where
   pub rest : List Part
   pub view : List (Text × Entity)
 
-abbrev pub or_empty : {A : Type 0} → Option (List A) → List A
-or_empty None = []
-or_empty (Some xs) = xs
-
 -- the view over these parts; it is empty while a name of it stands for a part that is not there
 abbrev pub view_over : List Made → List (Text × Entity) → List (Text × Thing)
-view_over made view = or_empty (all_there (seen_as (map (λ x. x.inst) made)) view)
+view_over made view = unwrap_or (all_there (seen_as (map (λ x. x.inst) made)) view) []
 
 abbrev pub closed_by : InTurn → Event → InTurn × Option Event
 closed_by q e = (record q { run = record q.run { entries = []; phase = Closed } }, Some e)
@@ -155,7 +152,7 @@ events_in_turn w env moves n = events_of tick_in_turn (before_turns env w moves)
 
 -- each import that is joined is joined with an earlier part
 abbrev pub JoinsEarlier : List Part → Type 0
-JoinsEarlier parts = (p n : ℕ) (m : Module) (i : Import) (e : Entity) → module_at parts p ≡ Some m → place m.imports n ≡ Some i → joined parts i ≡ Some e → e.part < p
+JoinsEarlier parts = (p n : ℕ) (m : Module) (i : Import) (e : Entity) → module_at parts p ≡ Some m → slice_get m.imports n ≡ Some i → joined parts i ≡ Some e → e.part < p
 
 abbrev pub is_active_elem : ElemMode → Bool
 is_active_elem (elem.Active table offset) = true

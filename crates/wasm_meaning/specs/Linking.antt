@@ -1,6 +1,7 @@
 -- Imports that are joined by name: where they end, what is asked of what stays, and what constant expressions read through them.
 -- An import whose module is a part's name is joined with that part's export of the field's name, if there is one; otherwise it stays an import.
-use Rattle.std.proofs.Common.{ℕ, zero, suc, ◌-◌, List, [], ◌∷◌, ◌++◌, map, length, Option, Some, None, Bool, true, false, cond}
+use Rattle.std.proofs.Common.{ℕ, zero, suc, ◌-◌, List, [], ◌∷◌, ◌++◌, map, length, Option, Some, None, Bool, true, false, cond, slice_get, ◌&&◌}
+use Rattle.base_lists.specs.Options.{◌>>=◌}
 use Rattle.std.specs.Prelude.{nat_eq, max, min}
 use Rattle.wasm_tree.specs.declared.types.Limits.{Limits}
 use Rattle.wasm_tree.specs.declared.module.Import.{Import}
@@ -27,22 +28,13 @@ pub record Site : Type 0 where
 
 -- ---- look-ups, none where nothing is there ----
 
-abbrev pub place : {A : Type 0} → List A → ℕ → Option A
-place [] n = None
-place (x ∷ xs) zero = Some x
-place (x ∷ xs) (suc n) = place xs n
-
-abbrev pub then_some : {A B : Type 0} → Option A → (A → Option B) → Option B
-then_some None f = None
-then_some (Some a) f = f a
-
 abbrev pub same_text : Text → Text → Bool
 same_text [] [] = true
-same_text (x ∷ xs) (y ∷ ys) = cond (nat_eq x y) (same_text xs ys) false
+same_text (x ∷ xs) (y ∷ ys) = nat_eq x y && same_text xs ys
 same_text _ _ = false
 
 abbrev pub same_pair : Pair → Pair → Bool
-same_pair p q = cond (same_text p.0 q.0) (same_text p.1 q.1) false
+same_pair p q = same_text p.0 q.0 && same_text p.1 q.1
 
 -- the first place from n on whose element passes the test
 abbrev pub first_place : {A : Type 0} → (A → Bool) → List A → ℕ → Option ℕ
@@ -107,10 +99,10 @@ space_index (i ∷ is) (suc n) k = cond (has_kind k i) (suc (space_index is n k)
 -- ---- joining ----
 
 abbrev pub module_at : List Part → ℕ → Option Module
-module_at parts p = then_some (place parts p) (λ part. Some part.«module»)
+module_at parts p = slice_get parts p >>= λ part. Some part.«module»
 
 abbrev pub import_at : List Part → Site → Option Import
-import_at parts site = then_some (module_at parts site.part) (λ m. place m.imports site.import)
+import_at parts site = module_at parts site.part >>= λ m. slice_get m.imports site.import
 
 abbrev pub is_text : Text → Option Text → Bool
 is_text text None = false
@@ -136,12 +128,12 @@ pub record Entity : Type 0 where
 -- what an import is joined with, or none where it stays an import
 abbrev pub joined : List Part → Import → Option Entity
 joined parts i =
-    then_some (source_of parts i) (λ p. then_some (module_at parts p) (λ m. then_some (export_named m.exports i.field) (λ d. Some (record { part = p; what = d }))))
+    source_of parts i >>= λ p. module_at parts p >>= λ m. export_named m.exports i.field >>= λ d. Some (record { part = p; what = d })
 
 -- the import that an entity is, or none where its part defines it
 abbrev pub imported_as : List Part → Entity → Option Site
 imported_as parts e =
-    then_some (module_at parts e.part) (λ m. then_some (place (imports_of (kind_of_export e.what) m) (index_of_export e.what)) (λ n. Some (record { part = e.part; import = n })))
+    module_at parts e.part >>= λ m. slice_get (imports_of (kind_of_export e.what) m) (index_of_export e.what) >>= λ n. Some (record { part = e.part; import = n })
 
 -- ---- where an import ends ----
 
@@ -162,7 +154,7 @@ joined_step parts s None = Ends (Outside s)
 joined_step parts s (Some e) = entity_step e (imported_as parts e)
 
 abbrev pub import_step : List Part → Site → Option (Next Site End)
-import_step parts s = then_some (import_at parts s) (λ i. Some (joined_step parts s (joined parts i)))
+import_step parts s = import_at parts s >>= λ i. Some (joined_step parts s (joined parts i))
 
 -- a path of imports and exports leads from an import to its end
 abbrev pub Leads : List Part → Site → End → Type 0
@@ -188,7 +180,7 @@ end_of parts = walk (import_step parts) (suc (length (sites parts)))
 -- ---- limits of what stays ----
 
 abbrev pub same_site : Site → Site → Bool
-same_site s t = cond (nat_eq s.part t.part) (nat_eq s.import t.import) false
+same_site s t = nat_eq s.part t.part && nat_eq s.import t.import
 
 abbrev pub is_outside : Site → Option End → Bool
 is_outside s (Some (Outside t)) = same_site s t
@@ -200,11 +192,11 @@ pair_of i = (i.«module», i.field)
 -- two memory imports of one module and field name
 abbrev pub same_memory : Import → Option Import → Bool
 same_memory i None = false
-same_memory i (Some j) = cond (has_kind Memories i) (cond (has_kind Memories j) (same_pair (pair_of i) (pair_of j)) false) false
+same_memory i (Some j) = has_kind Memories i && (has_kind Memories j && same_pair (pair_of i) (pair_of j))
 
 -- a staying import that is the same memory
 abbrev pub stays_as : List Part → Import → Site → Bool
-stays_as parts i t = cond (is_outside t (end_of parts t)) (same_memory i (import_at parts t)) false
+stays_as parts i t = is_outside t (end_of parts t) && same_memory i (import_at parts t)
 
 abbrev pub first_site : (Site → Bool) → List Site → Site → Site
 first_site is [] other = other
@@ -221,7 +213,7 @@ gathered parts (Outside s) = gathered_at parts s (import_at parts s)
 
 -- the end of an import, with such memories as one
 abbrev pub linked_end : List Part → Site → Option End
-linked_end parts s = then_some (end_of parts s) (λ end. Some (gathered parts end))
+linked_end parts s = end_of parts s >>= λ end. Some (gathered parts end)
 
 abbrev pub limits_of : ImportDesc → Option Limits
 limits_of (im.Func t) = None
@@ -237,7 +229,7 @@ consed (Some x) xs = x ∷ xs
 abbrev pub demands : List Part → Site → List Site → List Limits
 demands parts s [] = []
 demands parts s (t ∷ ts) =
-    cond (is_outside s (linked_end parts t)) (consed (then_some (import_at parts t) (λ i. limits_of i.desc)) (demands parts s ts)) (demands parts s ts)
+    cond (is_outside s (linked_end parts t)) (consed (import_at parts t >>= λ i. limits_of i.desc) (demands parts s ts)) (demands parts s ts)
 
 abbrev pub least : Option ℕ → Option ℕ → Option ℕ
 least None b = b
@@ -266,22 +258,22 @@ global_import parts p x = imported_as parts (record { part = p; what = ex.Global
 -- the value expression of a global that a part defines
 abbrev pub initial : List Part → Entity → Option ConstExpr
 initial parts e =
-    then_some (module_at parts e.part) (λ m. then_some (place m.globals (index_of_export e.what - length (imports_of Globals m))) (λ g. Some g.init))
+    module_at parts e.part >>= λ m. (slice_get m.globals (index_of_export e.what - length (imports_of Globals m))) >>= λ g. Some g.init
 
 -- the global.get of a staying import
 abbrev pub outside_read : List Part → Site → Option Read
 outside_read parts s =
-    then_some (module_at parts s.part) (λ m. Some (record { part = s.part; expr = const.Global (space_index m.imports s.import Globals) }))
+    module_at parts s.part >>= λ m. Some (record { part = s.part; expr = const.Global (space_index m.imports s.import Globals) })
 
 -- from a read through an import: to the value expression of the defined global in which it ends, or to the global.get of what stays
 abbrev pub end_step : List Part → Option End → Option (Next Read Read)
 end_step parts None = None
-end_step parts (Some (Outside s)) = then_some (outside_read parts s) (λ r. Some (Ends r))
-end_step parts (Some (Defined e)) = then_some (initial parts e) (λ expr. Some (Goes (record { part = e.part; expr = expr })))
+end_step parts (Some (Outside s)) = outside_read parts s >>= λ r. Some (Ends r)
+end_step parts (Some (Defined e)) = initial parts e >>= λ expr. Some (Goes (record { part = e.part; expr = expr }))
 
 -- an expression that reads an import goes on through it, and any other is what is read
 abbrev pub expr_step : List Part → ℕ → ConstExpr → Option (Next Read Read)
-expr_step parts p (const.Global x) = end_step parts (then_some (global_import parts p x) (end_of parts))
+expr_step parts p (const.Global x) = end_step parts (global_import parts p x >>= (end_of parts))
 expr_step parts p expr = Some (Ends (record { part = p; expr = expr }))
 
 abbrev pub read_step : List Part → Read → Option (Next Read Read)

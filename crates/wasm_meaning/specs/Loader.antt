@@ -1,6 +1,7 @@
 -- A module under a loader. The loader supplies some imports of a primary module as placeholders, each for a slot of one of the primary's tables. The first call
 -- of a placeholder instantiates a secondary module (WebAssembly Core 2.0, section 4.5.4); each call of one goes to the function that is then in its slot.
 use Rattle.std.proofs.Common.{ℕ, suc, ◌+◌, List, [], ◌∷◌, ◌++◌, Option, Some, None, Bool, true, false, cond}
+use Rattle.base_lists.specs.Options.{◌>>=◌}
 use Rattle.wasm_tree.specs.declared.types.FuncType.{FuncType}
 use Rattle.wasm_tree.specs.declared.module.Import.{Import}
 use Rattle.wasm_tree.specs.declared.module.ExportDesc.{ExportDesc}
@@ -11,7 +12,7 @@ use Rattle.wasm_meaning.specs.Values.{same_func_type}
 use Rattle.wasm_meaning.specs.Tables.{with_table}
 use Rattle.wasm_meaning.specs.Control.{type_at, func_ref}
 use Rattle.wasm_meaning.specs.Step.{enter_at, step}
-use Rattle.wasm_meaning.specs.Linking.{Functions, same_pair, first_place, pair_of, then_some, export_named}
+use Rattle.wasm_meaning.specs.Linking.{Functions, same_pair, first_place, pair_of, export_named}
 use Rattle.wasm_meaning.specs.Environment.{Environment, Thing, FuncAt, owned_of}
 use Rattle.wasm_meaning.specs.World.{Begun, Filled, or_trapped, own_count, own_store, all_there, address_in, start_in}
 use Rattle.wasm_meaning.specs.InTurn.{Added, added_with, own_thing}
@@ -53,23 +54,22 @@ primary_added env w = added_with (supplied env w) (store_under env w) w.primary
 
 abbrev pub begun_of : Environment → LoaderWorld → Added → Option Begun
 begun_of env w a =
-    then_some (all_there (λ v. then_some (address_in a.inst v.1) (λ x. Some (v.0, x))) w.view)
-    (λ view. Some (record { store = a.filled.store; trapped = a.filled.trapped; starts = start_in a.inst w.primary.start; view = view; owned = owned_of env }))
+    all_there (λ v. address_in a.inst v.1 >>= λ x. Some (v.0, x)) w.view >>= λ view. Some (record { store = a.filled.store; trapped = a.filled.trapped; starts = start_in a.inst w.primary.start; view = view; owned = owned_of env })
 
 -- its instantiation, in one step
 abbrev pub begun_under : Environment → LoaderWorld → Option Begun
-begun_under env w = then_some (primary_added env w) (begun_of env w)
+begun_under env w = primary_added env w >>= (begun_of env w)
 
 -- ---- the secondary ----
 
 -- its imports are the exports of these names of the primary's instance, which are there once it is allocated
 abbrev pub secondary_added : LoaderWorld → Inst → Store → Option Added
-secondary_added w i s = added_with (λ x. then_some (export_named w.primary.exports x.field) (address_in i)) s w.secondary
+secondary_added w i s = added_with (λ x. export_named w.primary.exports x.field >>= (address_in i)) s w.secondary
 
 -- The store in which a placeholder's call goes on, after the secondary's segments. Its start, if it has one, is not made.
 abbrev pub store_loaded : LoaderWorld → Inst → (is_loaded : Bool) → Store → Filled
 store_loaded w i true s = record { store = s; trapped = false }
-store_loaded w i false s = or_trapped s (then_some (secondary_added w i s) (λ a. Some a.filled))
+store_loaded w i false s = or_trapped s (secondary_added w i s >>= λ a. Some a.filled)
 
 -- a function of another type is not called
 abbrev pub called_as : FuncType → Store → ℕ → List Val → List Entry → Outcome Next
@@ -111,7 +111,7 @@ tick_loader w q = by_next w q (step q.run.store q.run.entries)
 
 abbrev pub fresh_loader : Environment → LoaderWorld → List Move → LoaderRun
 fresh_loader env w moves =
-    record { run = fresh_run env (begun_under env w) moves; inst = then_some (primary_added env w) (λ a. Some a.inst); is_loaded = false }
+    record { run = fresh_run env (begun_under env w) moves; inst = primary_added env w >>= (λ a. Some a.inst); is_loaded = false }
 
 -- the events of the first n steps under a loader
 abbrev pub events_loaded : LoaderWorld → Environment → List Move → ℕ → List Event

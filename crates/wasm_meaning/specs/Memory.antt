@@ -1,5 +1,5 @@
 -- Instructions on memories and data segments (WebAssembly Core 2.0, section 4.4.7).
-use Rattle.std.proofs.Common.{ℕ, suc, ◌+◌, ◌%◌, List, ◌∷◌, Option, Some, None, Bool, true, false, cond}
+use Rattle.std.proofs.Common.{ℕ, suc, ◌+◌, ◌%◌, List, ◌∷◌, Option, Some, None, Bool, true, false, cond, ◌&&◌}
 use Rattle.std.specs.Prelude.{nat_lt}
 use Rattle.wasm_tree.specs.declared.instr.LoadOp.{LoadOp}
 use Rattle.wasm_tree.specs.declared.instr.StoreOp.{StoreOp}
@@ -42,7 +42,7 @@ below_most None n = true
 below_most (Some most) n = nat_lt n (suc most)
 
 abbrev pub memory_may_grow : Memory → ℕ → Bool
-memory_may_grow m count = cond (nat_lt (m.pages + count) 65537) (below_most m.most (m.pages + count)) false
+memory_may_grow m count = (nat_lt (m.pages + count) 65537) && (below_most m.most (m.pages + count))
 
 abbrev pub grow_memory : Body → ℕ → Memory → Outcome Act
 grow_memory h a m =

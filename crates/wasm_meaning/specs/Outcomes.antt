@@ -36,22 +36,10 @@ at [] n = IllTyped
 at (x ∷ xs) zero = Gives x
 at (x ∷ xs) (suc n) = at xs n
 
--- the list with another element at a place, unchanged where it has no such place
-abbrev pub put : {A : Type 0} → List A → ℕ → A → List A
-put [] n v = []
-put (x ∷ xs) zero v = v ∷ xs
-put (x ∷ xs) (suc n) v = x ∷ put xs n v
-
 -- the first list in reverse order, on top of the second
 abbrev pub onto : {A : Type 0} → List A → List A → List A
 onto [] ys = ys
 onto (x ∷ xs) ys = onto xs (x ∷ ys)
-
--- without the first n
-abbrev pub past : {A : Type 0} → List A → ℕ → List A
-past xs zero = xs
-past [] (suc n) = []
-past (x ∷ xs) (suc n) = past xs n
 
 -- the first n, and what comes after them; ill typed where there are fewer
 abbrev pub split_at : {A : Type 0} → ℕ → List A → Outcome (List A × List A)

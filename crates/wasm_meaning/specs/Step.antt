@@ -1,8 +1,8 @@
 -- One small step (WebAssembly Core 2.0, section 4.4).
-use Rattle.std.proofs.Common.{ℕ, List, [], ◌∷◌, ◌++◌, length, true}
+use Rattle.std.proofs.Common.{ℕ, List, [], ◌∷◌, ◌++◌, length, true, slice_set}
 use Rattle.wasm_tree.specs.declared.instr.Instr.{Instr, out-Instr}
 use Rattle.wasm_tree.specs.declared.instr.Instr.TheOpen.{Instr-F}
-use Rattle.wasm_meaning.specs.Outcomes.{Outcome, Gives, Traps, IllTyped, bind, at, put, onto}
+use Rattle.wasm_meaning.specs.Outcomes.{Outcome, Gives, Traps, IllTyped, bind, at, onto}
 use Rattle.wasm_num.specs.Operations.{W32, W64, wrapped}
 use Rattle.wasm_meaning.specs.State.{Val, Num, Ref, Func, Code, Own, Placeholder, Elem, Data, Store, Change, Keep, SetGlobal, SetMemory, SetTable, DropElem, DropData, Level, Frame, Entry, Running, Caller, Host, Starter, Mark, Opening, Waiting, Growing, Env, Body, Act, Goes, Calls, AsksGrow, Ends, Next, Ran, CallsOwn, WaitsGrowth, CallsPlaceholder, EndsCall}
 use Rattle.wasm_meaning.specs.Values.{pop, pop_typed, zeros, null_of, unary, binary, ref_is_null, select_any, select_typed, go, with_values, on_values, pushes, local_get, local_set, local_tee, global_get, global_set, ref_func}
@@ -103,11 +103,11 @@ no_bytes = record { bytes = []; dropped = true }
 -- the store with a change
 abbrev pub changed : Store → Change → Store
 changed s Keep = s
-changed s (SetGlobal a g) = record s { globals = put s.globals a g }
-changed s (SetMemory a m) = record s { mems = put s.mems a m }
-changed s (SetTable a t) = record s { tables = put s.tables a t }
-changed s (DropElem a) = record s { elems = put s.elems a no_items }
-changed s (DropData a) = record s { datas = put s.datas a no_bytes }
+changed s (SetGlobal a g) = record s { globals = slice_set s.globals a g }
+changed s (SetMemory a m) = record s { mems = slice_set s.mems a m }
+changed s (SetTable a t) = record s { tables = slice_set s.tables a t }
+changed s (DropElem a) = record s { elems = slice_set s.elems a no_items }
+changed s (DropData a) = record s { datas = slice_set s.datas a no_bytes }
 
 -- what comes of it, for this frame over these entries
 abbrev pub perform : Store → Frame → List Entry → Act → Outcome Next

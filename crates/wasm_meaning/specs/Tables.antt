@@ -1,5 +1,5 @@
 -- Instructions on tables and element segments (WebAssembly Core 2.0, section 4.4.6).
-use Rattle.std.proofs.Common.{ℕ, ◌+◌, ◌^◌, List, [], ◌∷◌, length, Bool, false, cond}
+use Rattle.std.proofs.Common.{ℕ, ◌+◌, ◌^◌, List, [], ◌∷◌, length, Bool, false, cond, ◌&&◌}
 use Rattle.std.specs.Prelude.{nat_lt}
 use Rattle.wasm_meaning.specs.Outcomes.{Outcome, Gives, IllTyped, trapping, bind, at, slice, overwrite, copies}
 use Rattle.wasm_num.specs.Operations.{W32}
@@ -33,7 +33,7 @@ abbrev pub table_size : Env → Body → ℕ → Outcome Act
 table_size env h i = with_table env i (λ a t. pushes h (Num W32 (length t.slots)))
 
 abbrev pub table_may_grow : Table → ℕ → Bool
-table_may_grow t count = cond (nat_lt (length t.slots + count) (2 ^ 32)) (below_most t.most (length t.slots + count)) false
+table_may_grow t count = (nat_lt (length t.slots + count) (2 ^ 32)) && (below_most t.most (length t.slots + count))
 
 abbrev pub grow_table : Body → ℕ → Table → Outcome Act
 grow_table h a t =

@@ -1,5 +1,5 @@
 -- Instructions on values, locals and globals (WebAssembly Core 2.0, sections 4.4.1, 4.4.2, 4.4.4 and 4.4.5).
-use Rattle.std.proofs.Common.{ℕ, List, [], ◌∷◌, ◌++◌, Some, None, Bool, true, false, cond}
+use Rattle.std.proofs.Common.{ℕ, List, [], ◌∷◌, ◌++◌, Some, None, Bool, true, false, cond, slice_set, ◌&&◌}
 use Rattle.std.specs.Prelude.{nat_eq}
 use Rattle.wasm_tree.specs.declared.types.RefType.{RefType}
 use Rattle.wasm_tree.specs.declared.types.RefType.TheVariants as reft
@@ -10,7 +10,7 @@ use Rattle.wasm_tree.specs.declared.module.LocalGroup.{LocalGroup}
 use Rattle.wasm_num.specs.declared.UnOp.{UnOp}
 use Rattle.wasm_num.specs.declared.BinOp.{BinOp}
 use Rattle.wasm_num.specs.Operations.{Width, W32, W64, un_from, un_to, un_value, bin_from, bin_to, bin_value}
-use Rattle.wasm_meaning.specs.Outcomes.{Outcome, Gives, IllTyped, or_trap, bind, at, put, copies}
+use Rattle.wasm_meaning.specs.Outcomes.{Outcome, Gives, IllTyped, or_trap, bind, at, copies}
 use Rattle.wasm_meaning.specs.State.{RefVal, FuncRef, ExternRef, Val, Num, Ref, Global, Env, Body, Keep, SetGlobal, Act, Goes}
 
 -- ---- types of values ----
@@ -37,11 +37,11 @@ same_type _ _ = false
 
 abbrev pub same_types : List ValType → List ValType → Bool
 same_types [] [] = true
-same_types (s ∷ ss) (t ∷ ts) = cond (same_type s t) (same_types ss ts) false
+same_types (s ∷ ss) (t ∷ ts) = same_type s t && same_types ss ts
 same_types _ _ = false
 
 abbrev pub same_func_type : FuncType → FuncType → Bool
-same_func_type s t = cond (same_types s.params t.params) (same_types s.results t.results) false
+same_func_type s t = same_types s.params t.params && same_types s.results t.results
 
 -- a value, where it has the type
 abbrev pub typed : ValType → Val → Outcome Val
@@ -154,7 +154,7 @@ abbrev pub local_get : Body → ℕ → Outcome Act
 local_get h i = bind (at h.locals i) (pushes h)
 
 abbrev pub local_put : Body → ℕ → Val → Outcome Act
-local_put h i v = bind (at h.locals i) (λ old. bind (typed (type_of old) v) (λ w. Gives (go (record h { locals = put h.locals i w }))))
+local_put h i v = bind (at h.locals i) (λ old. bind (typed (type_of old) v) (λ w. Gives (go (record h { locals = slice_set h.locals i w }))))
 
 abbrev pub local_set : Body → ℕ → Outcome Act
 local_set h i = bind (pop h.values) (λ p. local_put (with_values h p.1) i p.0)

@@ -1,6 +1,7 @@
 -- Worlds, and their instantiation at once (WebAssembly Core 2.0, section 4.5.4, for several modules together).
 -- Every import is matched and everything allocated; then all active element segments are copied by part, then all active data segments by part.
-use Rattle.std.proofs.Common.{ℕ, zero, suc, ◌+◌, ◌-◌, ◌*◌, List, [], ◌∷◌, ◌++◌, map, length, Option, Some, None, Bool, true, false, cond}
+use Rattle.std.proofs.Common.{ℕ, zero, suc, ◌+◌, ◌-◌, ◌*◌, List, [], ◌∷◌, ◌++◌, map, length, Option, Some, None, Bool, true, false, cond, slice_get, unwrap_or, ◌&&◌}
+use Rattle.base_lists.specs.Options.{◌>>=◌}
 use Rattle.std.specs.Prelude.{nat_le}
 use Rattle.wasm_tree.specs.declared.types.FuncType.{FuncType}
 use Rattle.wasm_tree.specs.declared.types.Limits.{Limits}
@@ -26,7 +27,7 @@ use Rattle.wasm_meaning.specs.State.{Text, Pair, RefVal, FuncRef, Val, Num, Ref,
 use Rattle.wasm_meaning.specs.Values.{same_ref, same_type, same_func_type, null_of, declared, ref_of, num_of}
 use Rattle.wasm_meaning.specs.Control.{type_at}
 use Rattle.wasm_meaning.specs.Step.{changed, no_items}
-use Rattle.wasm_meaning.specs.Linking.{Part, Site, End, Defined, Outside, Entity, Kind, Functions, Tables, Memories, Globals, Read, place, then_some, module_at, import_at, imports_of, pair_of, kind_of_export, index_of_export, end_of, read_of, sites}
+use Rattle.wasm_meaning.specs.Linking.{Part, Site, End, Defined, Outside, Entity, Kind, Functions, Tables, Memories, Globals, Read, module_at, import_at, imports_of, pair_of, kind_of_export, index_of_export, end_of, read_of, sites}
 use Rattle.wasm_meaning.specs.Environment.{Environment, Thing, FuncAt, TableAt, MemoryAt, GlobalAt, OwnKey, FuncKey, TableKey, MemoryKey, GlobalKey, Owned, owned_of, owned_at, own_funcs, own_tables, own_memories, own_globals, all_of}
 
 -- modules with names, whose imports are joined by name, and what the embedder may use: names, each with the entity for which it stands
@@ -85,11 +86,11 @@ given _ = None
 
 -- the function type that an import names
 abbrev pub import_type : Module → ℕ → Option FuncType
-import_type m ty = place m.types ty
+import_type m ty = slice_get m.types ty
 
 -- the environment's entity that a staying import names
 abbrev pub own_key_of : Module → Pair → ImportDesc → Option OwnKey
-own_key_of m pair (im.Func ty) = then_some (import_type m ty) (λ t. Some (FuncKey pair t))
+own_key_of m pair (im.Func ty) = import_type m ty >>= λ t. Some (FuncKey pair t)
 own_key_of m pair (im.Table t) = Some (TableKey pair)
 own_key_of m pair (im.Memory l) = Some (MemoryKey pair)
 own_key_of m pair (im.Global t) = Some (GlobalKey pair)
@@ -98,7 +99,7 @@ abbrev pub own_key : Module → Import → Option OwnKey
 own_key m i = own_key_of m (pair_of i) i.desc
 
 abbrev pub outside_thing : Owned → List Part → Site → Option Thing
-outside_thing owned parts s = then_some (module_at parts s.part) (λ m. then_some (import_at parts s) (λ i. then_some (own_key m i) (λ key. given (owned_at owned key))))
+outside_thing owned parts s = module_at parts s.part >>= λ m. import_at parts s >>= λ i. own_key m i >>= λ key. given (owned_at owned key)
 
 abbrev pub numbers : (from count : ℕ) → List ℕ
 numbers n zero = []
@@ -110,8 +111,7 @@ defined_addresses env parts k p m = numbers (base env parts k p) (defined_count 
 
 abbrev pub defined_thing : Environment → List Part → Entity → Option Thing
 defined_thing env parts e =
-    then_some (module_at parts e.part)
-    (λ m. let k = kind_of_export e.what in then_some (place (defined_addresses env parts k e.part m) (index_of_export e.what - length (imports_of k m))) (λ a. Some (thing_at k a)))
+    module_at parts e.part >>= λ m. let k = kind_of_export e.what in (slice_get (defined_addresses env parts k e.part m) (index_of_export e.what - length (imports_of k m))) >>= λ a. Some (thing_at k a)
 
 abbrev pub thing_of : Environment → List Part → End → Option Thing
 thing_of env parts (Defined e) = defined_thing env parts e
@@ -119,17 +119,16 @@ thing_of env parts (Outside s) = outside_thing (owned_of env) parts s
 
 -- what an import stands for
 abbrev pub imported_thing : Environment → List Part → Site → Option Thing
-imported_thing env parts s = then_some (end_of parts s) (thing_of env parts)
+imported_thing env parts s = end_of parts s >>= (thing_of env parts)
 
 abbrev pub all_there : {A B : Type 0} → (A → Option B) → List A → Option (List B)
 all_there f [] = Some []
-all_there f (x ∷ xs) = then_some (f x) (λ y. then_some (all_there f xs) (λ ys. Some (y ∷ ys)))
+all_there f (x ∷ xs) = f x >>= λ y. all_there f xs >>= λ ys. Some (y ∷ ys)
 
 -- the addresses of an index space: of the imports, then of what is defined
 abbrev pub space : Environment → List Part → Kind → ℕ → Module → Option (List ℕ)
 space env parts k p m =
-    then_some (all_there (λ n. then_some (imported_thing env parts (record { part = p; import = n })) (address_of k)) (imports_of k m))
-    (λ imported. Some (imported ++ defined_addresses env parts k p m))
+    all_there (λ n. imported_thing env parts (record { part = p; import = n }) >>= (address_of k)) (imports_of k m) >>= λ imported. Some (imported ++ defined_addresses env parts k p m)
 
 -- element and data segments have addresses by part
 abbrev pub elems_before : List Part → ℕ → ℕ
@@ -144,7 +143,7 @@ datas_before (part ∷ parts) (suc p) = length part.«module».datas + datas_bef
 
 abbrev pub inst_of : Environment → List Part → ℕ → Module → Option Inst
 inst_of env parts p m =
-    then_some (space env parts Functions p m) (λ funcs. then_some (space env parts Tables p m) (λ tables. then_some (space env parts Memories p m) (λ mems. then_some (space env parts Globals p m) (λ globals.
+    space env parts Functions p m >>= λ funcs. space env parts Tables p m >>= λ tables. space env parts Memories p m >>= λ mems. space env parts Globals p m >>= λ globals.
     Some (record {
       types = m.types;
       funcs = funcs;
@@ -153,7 +152,7 @@ inst_of env parts p m =
       globals = globals;
       elems = numbers (elems_before parts p) (length m.elems);
       datas = numbers (datas_before parts p) (length m.datas);
-    })))))
+    })
 
 -- ---- constant expressions ----
 
@@ -162,30 +161,30 @@ abbrev pub const_value : List Global → Inst → ConstExpr → Option Val
 const_value globals i (const.I32 v) = Some (Num W32 (wrapped 32 v))
 const_value globals i (const.I64 v) = Some (Num W64 (wrapped 64 v))
 const_value globals i (const.Null t) = Some (Ref (null_of t))
-const_value globals i (const.Func f) = then_some (place i.funcs f) (λ a. Some (Ref (FuncRef (Some a))))
-const_value globals i (const.Global x) = then_some (place i.globals x) (λ a. then_some (place globals a) (λ g. Some g.value))
+const_value globals i (const.Func f) = slice_get i.funcs f >>= λ a. Some (Ref (FuncRef (Some a)))
+const_value globals i (const.Global x) = slice_get i.globals x >>= λ a. slice_get globals a >>= λ g. Some g.value
 
 abbrev pub value_of_read : List Global → List Inst → Read → Option Val
-value_of_read own insts r = then_some (place insts r.part) (λ i. const_value own i r.expr)
+value_of_read own insts r = slice_get insts r.part >>= λ i. const_value own i r.expr
 
 -- the value of an expression of a part, by the read that it leads to
 abbrev pub value_of : Environment → List Part → List Inst → ℕ → ConstExpr → Option Val
-value_of env parts insts p expr = then_some (read_of parts p expr) (value_of_read (own_globals env) insts)
+value_of env parts insts p expr = read_of parts p expr >>= (value_of_read (own_globals env) insts)
 
 abbrev pub ref_value : Environment → List Part → List Inst → ℕ → ConstExpr → Option RefVal
-ref_value env parts insts p expr = then_some (value_of env parts insts p expr) (λ v. given (ref_of v))
+ref_value env parts insts p expr = value_of env parts insts p expr >>= λ v. given (ref_of v)
 
 abbrev pub number_value : Environment → List Part → List Inst → ℕ → ConstExpr → Option ℕ
-number_value env parts insts p expr = then_some (value_of env parts insts p expr) (λ v. given (num_of W32 v))
+number_value env parts insts p expr = value_of env parts insts p expr >>= λ v. given (num_of W32 v)
 
 -- ---- allocation (section 4.5.3) ----
 
 abbrev pub new_func : Inst → tree.Func → Option Func
-new_func i f = then_some (place i.types f.ty) (λ t. Some (Code t i (declared f.locals) f.body))
+new_func i f = slice_get i.types f.ty >>= λ t. Some (Code t i (declared f.locals) f.body)
 
 -- what a module of this instance adds to the store, where constant expressions have these values: a global
 abbrev pub global_with : (ConstExpr → Option Val) → GlobalDef → Option Global
-global_with value g = then_some (value g.init) (λ v. Some (record { ty = g.ty; value = v }))
+global_with value g = value g.init >>= λ v. Some (record { ty = g.ty; value = v })
 
 abbrev pub new_global : Environment → List Part → List Inst → ℕ → GlobalDef → Option Global
 new_global env parts insts p = global_with (value_of env parts insts p)
@@ -197,7 +196,7 @@ new_elem mode items = record { items = items; dropped = false }
 
 -- an element segment
 abbrev pub elem_with : (ConstExpr → Option Val) → ElemSeg → Option Elem
-elem_with value e = then_some (all_there (λ x. then_some (value x) (λ v. given (ref_of v))) e.items) (λ items. Some (new_elem e.mode items))
+elem_with value e = all_there (λ x. value x >>= λ v. given (ref_of v)) e.items >>= λ items. Some (new_elem e.mode items)
 
 abbrev pub elem_of : Environment → List Part → List Inst → ℕ → ElemSeg → Option Elem
 elem_of env parts insts p = elem_with (value_of env parts insts p)
@@ -205,7 +204,7 @@ elem_of env parts insts p = elem_with (value_of env parts insts p)
 -- and all of it
 abbrev pub store_with : (ConstExpr → Option Val) → Module → Inst → Option Store
 store_with value m i =
-    then_some (all_there (new_func i) m.funcs) (λ funcs. then_some (all_there (global_with value) m.globals) (λ globals. then_some (all_there (elem_with value) m.elems) (λ elems.
+    all_there (new_func i) m.funcs >>= λ funcs. all_there (global_with value) m.globals >>= λ globals. all_there (elem_with value) m.elems >>= λ elems.
     Some (record {
       funcs = funcs;
       globals = globals;
@@ -213,7 +212,7 @@ store_with value m i =
       tables = map (λ t. record { ty = t.ty; most = t.limits.max; slots = copies t.limits.min (null_of t.ty) }) m.tables;
       mems = map (λ l. record { most = l.max; pages = l.min; bytes = copies (65536 * l.min) 0 }) m.mems;
       datas = map (λ d. record { bytes = d.bytes; dropped = false }) m.datas;
-    }))))
+    })
 
 -- what one part adds to the store
 abbrev pub part_store : Environment → List Part → List Inst → ℕ → Module → Inst → Option Store
@@ -229,12 +228,12 @@ own_store env = record { funcs = own_funcs env; tables = own_tables env; mems = 
 -- the instances of the parts from p on
 abbrev pub insts_from : Environment → List Part → ℕ → List Part → Option (List Inst)
 insts_from env all p [] = Some []
-insts_from env all p (part ∷ parts) = then_some (inst_of env all p part.«module») (λ i. then_some (insts_from env all (suc p) parts) (λ is. Some (i ∷ is)))
+insts_from env all p (part ∷ parts) = inst_of env all p part.«module» >>= λ i. insts_from env all (suc p) parts >>= λ is. Some (i ∷ is)
 
 -- the store with what the parts from p on add to it
 abbrev pub stores_from : Environment → List Part → List Inst → Store → ℕ → List Part → List Inst → Option Store
 stores_from env all insts s p (part ∷ parts) (i ∷ is) =
-    then_some (part_store env all insts p part.«module» i) (λ t. stores_from env all insts (joined_stores s t) (suc p) parts is)
+    part_store env all insts p part.«module» i >>= λ t. stores_from env all insts (joined_stores s t) (suc p) parts is
 stores_from env all insts s p _ _ = Some s
 
 -- ---- matching (sections 4.5.1 and 4.5.4) ----
@@ -252,23 +251,19 @@ meets_most (Some n) (Some d) = nat_le n d
 
 -- an actual size and a maximum meet a demand
 abbrev pub meets : (size : ℕ) → (most : Option ℕ) → Limits → Bool
-meets size most demand = cond (nat_le demand.min size) (meets_most most demand.max) false
+meets size most demand = nat_le demand.min size && meets_most most demand.max
 
 -- an entity of the store is what an import asks for
 abbrev pub is_match : Store → Module → ImportDesc → Thing → Option Bool
-is_match s m (im.Func ty) (FuncAt a) = then_some (import_type m ty) (λ t. then_some (given (type_at s a)) (λ u. Some (same_func_type t u)))
-is_match s m (im.Table t) (TableAt a) = then_some (place s.tables a) (λ u. Some (cond (same_ref t.ty u.ty) (meets (length u.slots) u.most t.limits) false))
-is_match s m (im.Memory l) (MemoryAt a) = then_some (place s.mems a) (λ u. Some (meets u.pages u.most l))
-is_match s m (im.Global t) (GlobalAt a) = then_some (place s.globals a) (λ u. Some (cond (same_type t.ty u.ty.ty) (same_bool t.mutable u.ty.mutable) false))
+is_match s m (im.Func ty) (FuncAt a) = import_type m ty >>= λ t. given (type_at s a) >>= λ u. Some (same_func_type t u)
+is_match s m (im.Table t) (TableAt a) = slice_get s.tables a >>= λ u. Some (same_ref t.ty u.ty && meets (length u.slots) u.most t.limits)
+is_match s m (im.Memory l) (MemoryAt a) = slice_get s.mems a >>= λ u. Some (meets u.pages u.most l)
+is_match s m (im.Global t) (GlobalAt a) = slice_get s.globals a >>= λ u. Some (same_type t.ty u.ty.ty && same_bool t.mutable u.ty.mutable)
 is_match s m _ _ = None
-
-abbrev pub or_false : Option Bool → Bool
-or_false (Some b) = b
-or_false None = false
 
 abbrev pub is_matched : Environment → List Part → Store → Site → Bool
 is_matched env parts s site =
-    or_false (then_some (module_at parts site.part) (λ m. then_some (import_at parts site) (λ i. then_some (imported_thing env parts site) (is_match s m i.desc))))
+    unwrap_or (module_at parts site.part >>= λ m. import_at parts site >>= λ i. imported_thing env parts site >>= (is_match s m i.desc)) false
 
 -- ---- active segments (section 4.5.4) ----
 
@@ -307,11 +302,11 @@ fill_table s segment a t _ = record { store = s; trapped = true }
 
 abbrev pub copy_elem : Store → (segment : ℕ) → Inst → (table : ℕ) → (offset : Option ℕ) → Filled
 copy_elem s segment i x offset =
-    or_trapped s (then_some offset (λ n. then_some (place i.tables x) (λ a. then_some (place s.tables a) (λ t. then_some (place s.elems segment) (λ e. Some (fill_table s segment a t (overwrite t.slots n e.items)))))))
+    or_trapped s (offset >>= λ n. slice_get i.tables x >>= λ a. slice_get s.tables a >>= λ t. slice_get s.elems segment >>= λ e. Some (fill_table s segment a t (overwrite t.slots n e.items)))
 
 -- by its mode, where constant expressions have these values
 abbrev pub run_elem_with : (ConstExpr → Option Val) → Store → Task ElemSeg → ElemMode → Filled
-run_elem_with value s task (elem.Active x offset) = copy_elem s task.address task.inst x (then_some (value offset) (λ v. given (num_of W32 v)))
+run_elem_with value s task (elem.Active x offset) = copy_elem s task.address task.inst x (value offset >>= λ v. given (num_of W32 v))
 run_elem_with value s task _ = record { store = s; trapped = false }
 
 abbrev pub run_elem_mode : Environment → List Part → List Inst → Store → Task ElemSeg → ElemMode → Filled
@@ -327,11 +322,11 @@ fill_memory s segment a m _ = record { store = s; trapped = true }
 
 abbrev pub copy_data : Store → (segment : ℕ) → Inst → (memory : ℕ) → (offset : Option ℕ) → Filled
 copy_data s segment i x offset =
-    or_trapped s (then_some offset (λ n. then_some (place i.mems x) (λ a. then_some (place s.mems a) (λ m. then_some (place s.datas segment) (λ d. Some (fill_memory s segment a m (overwrite m.bytes n d.bytes)))))))
+    or_trapped s (offset >>= λ n. slice_get i.mems x >>= λ a. slice_get s.mems a >>= λ m. slice_get s.datas segment >>= λ d. Some (fill_memory s segment a m (overwrite m.bytes n d.bytes)))
 
 -- by its mode, where constant expressions have these values
 abbrev pub run_data_with : (ConstExpr → Option Val) → Store → Task DataSeg → DataMode → Filled
-run_data_with value s task (data'.Active x offset) = copy_data s task.address task.inst x (then_some (value offset) (λ v. given (num_of W32 v)))
+run_data_with value s task (data'.Active x offset) = copy_data s task.address task.inst x (value offset >>= λ v. given (num_of W32 v))
 run_data_with value s task data'.Passive = record { store = s; trapped = false }
 
 abbrev pub run_data_mode : Environment → List Part → List Inst → Store → Task DataSeg → DataMode → Filled
@@ -368,7 +363,7 @@ one_place (Some a) = a ∷ []
 
 abbrev pub start_in : Inst → Option ℕ → List ℕ
 start_in i None = []
-start_in i (Some f) = one_place (place i.funcs f)
+start_in i (Some f) = one_place (slice_get i.funcs f)
 
 abbrev pub starts_of : List Part → List Inst → List ℕ
 starts_of (part ∷ parts) (i ∷ is) = start_in i part.«module».start ++ starts_of parts is
@@ -376,13 +371,13 @@ starts_of _ _ = []
 
 -- an entity of a part, by the instance of its part
 abbrev pub address_in : Inst → ExportDesc → Option Thing
-address_in i (ex.Func x) = then_some (place i.funcs x) (λ a. Some (FuncAt a))
-address_in i (ex.Table x) = then_some (place i.tables x) (λ a. Some (TableAt a))
-address_in i (ex.Memory x) = then_some (place i.mems x) (λ a. Some (MemoryAt a))
-address_in i (ex.Global x) = then_some (place i.globals x) (λ a. Some (GlobalAt a))
+address_in i (ex.Func x) = slice_get i.funcs x >>= λ a. Some (FuncAt a)
+address_in i (ex.Table x) = slice_get i.tables x >>= λ a. Some (TableAt a)
+address_in i (ex.Memory x) = slice_get i.mems x >>= λ a. Some (MemoryAt a)
+address_in i (ex.Global x) = slice_get i.globals x >>= λ a. Some (GlobalAt a)
 
 abbrev pub seen_as : List Inst → Text × Entity → Option (Text × Thing)
-seen_as insts v = then_some (place insts v.1.part) (λ i. then_some (address_in i v.1.what) (λ thing. Some (v.0, thing)))
+seen_as insts v = slice_get insts v.1.part >>= λ i. address_in i v.1.what >>= λ thing. Some (v.0, thing)
 
 abbrev pub begun : Environment → World → List Inst → List (Text × Thing) → Filled → Begun
 begun env w insts view filled = record { store = filled.store; trapped = filled.trapped; starts = starts_of w.parts insts; view = view; owned = owned_of env }
@@ -393,8 +388,8 @@ begun env w insts view filled = record { store = filled.store; trapped = filled.
 -- start. An offset whose read has no end stands on a global whose read has none either.)
 abbrev pub instantiate : Environment → World → Option Begun
 instantiate env w =
-    then_some (insts_from env w.parts 0 w.parts) (λ insts. then_some (stores_from env w.parts insts (own_store env) 0 w.parts insts) (λ s. then_some (all_there (seen_as insts) w.view) (λ view.
-    cond (all_of (is_matched env w.parts s) (sites w.parts)) (Some (begun env w insts view (segments env w.parts insts s))) None)))
+    insts_from env w.parts 0 w.parts >>= λ insts. stores_from env w.parts insts (own_store env) 0 w.parts insts >>= λ s. all_there (seen_as insts) w.view >>= λ view.
+    cond (all_of (is_matched env w.parts s) (sites w.parts)) (Some (begun env w insts view (segments env w.parts insts s))) None
 
 abbrev pub is_there : {A : Type 0} → Option A → Bool
 is_there None = false

@@ -1,3 +1,5 @@
 pub mod Spaces
 pub mod Bounds
+pub mod Limits
+pub mod Operands
 pub mod MemoryZero

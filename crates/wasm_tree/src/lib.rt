@@ -8,6 +8,7 @@ mod body;
 mod copy;
 mod instr;
 mod module;
+mod space;
 mod spaces;
 #[cfg(test)]
 mod tests;
@@ -20,5 +21,10 @@ pub use module::{
     ConstExpr, DataMode, DataSeg, ElemMode, ElemSeg, Export, ExportDesc, Func, GlobalDef, Import,
     ImportDesc, LocalGroup, Module,
 };
+pub use space::{Operand, Operands, Space};
 pub use types::{BlockType, FuncType, GlobalType, Limits, RefType, TableType, ValType};
-pub use which::Which;
+pub use which::{
+    MOST_DATA_SEGMENTS, MOST_ELEMENT_SEGMENTS, MOST_EXPORTS, MOST_FUNCTIONS, MOST_GLOBALS,
+    MOST_IMPORTS, MOST_INPUT_BYTES, MOST_LOCALS, MOST_MEMORIES, MOST_NESTING, MOST_OUTPUT_BYTES,
+    MOST_PARAMETERS, MOST_PARTS, MOST_RESULTS, MOST_TABLES, MOST_TRAMPOLINES, MOST_TYPES, Which,
+};

@@ -1,18 +1,18 @@
 -- What an instruction does to the kept stack is what it does to the stacks that it stands for.
-use Rattle.std.proofs.Common.{◌≡◌, ℕ, suc, Bool, true, false, cond, ◌&&◌, nat_eq, is_some, List, [], ◌∷◌, ◌++◌, map, reverse, length, Option, Some, None, refl, sym, ap, ◌∙◌, subst, eq-eqb}
+use Rattle.std.proofs.Common.{◌≡◌, ℕ, suc, Bool, true, false, cond, ◌&&◌, nat_eq, is_some, List, [], ◌∷◌, ◌++◌, map, reverse, length, Option, Some, None, refl, sym, ap, ◌∙◌, subst, eq-eqb, option_and_then, option_map}
 use Rattle.std.proofs.lemmas.List.{length-reverse}
 use Rattle.std.proofs.lemmas.Bool.{eqb-true}
 use Rattle.wasm_tree.specs.declared.types.ValType.{ValType}
 use Rattle.wasm_tree.specs.declared.types.ValType.TheVariants.{I32, I64, Ref}
-use Rattle.wasm_typing.specs.Typing.{Operand, Stack, Matches, AllMatch, EachMatches, operands, IsNumber, IsReference, map_option, then_option, Effect, Gives, Leaves, Drops, Selects, TestsNull, Branches, Acts}
+use Rattle.wasm_typing.specs.Typing.{Operand, Stack, Matches, AllMatch, EachMatches, operands, IsNumber, IsReference, Effect, Gives, Leaves, Drops, Selects, TestsNull, Branches, Acts}
 use Rattle.wasm_typing.specs.Tracking.{IsInstance, Instance, Concrete, same_type, fits_type, pop_one, below_type, pop_type, pop_all, is_number, is_reference, join, number_of, chosen, all_pop, arity, select_rest, select_two, test_top, act}
 use Rattle.wasm_typing.proofs.Pops.{fits-matches, same_type-refl, same_type-true, pop_type-on, pop_all-on, pop_all-back, padded}
 
-map_option-some : {A B : Type 0} (f : A → B) (m : Option A) (r : B) → map_option f m ≡ Some r → (x : A) × (m ≡ Some x) × (f x ≡ r)
+map_option-some : {A B : Type 0} (f : A → B) (m : Option A) (r : B) → option_map f m ≡ Some r → (x : A) × (m ≡ Some x) × (f x ≡ r)
 map_option-some f None r h = cc
 map_option-some f (Some x) r h = (x, refl, cc)
 
-then_option-some : {A B : Type 0} (f : A → Option B) (m : Option A) (r : B) → then_option m f ≡ Some r → (x : A) × (m ≡ Some x) × (f x ≡ Some r)
+then_option-some : {A B : Type 0} (f : A → Option B) (m : Option A) (r : B) → option_and_then f m ≡ Some r → (x : A) × (m ≡ Some x) × (f x ≡ Some r)
 then_option-some f None r h = cc
 then_option-some f (Some x) r h = (x, refl, h)
 
@@ -96,24 +96,24 @@ Ons e xs o t = (r : Stack × Bool) × (act e xs o ≡ Some r) × Instance r.0 r.
 pub act-on : (e : Effect) (xs : Stack) (o : Bool) (s t : Stack) → Instance xs o s → Acts e s t → Ons e xs o t
 act-on (Gives ps rs) xs o s t i (args, rest, es, m, et) =
     let p = pop_all-on xs o args rest (reverse ps) (along xs o s _ es i) m in
-    ((operands rs ++ p.0, o), ap (map_option (λ ys. (operands rs ++ ys, o))) p.1, along _ o _ t (sym et) (pushed (reverse rs) p.0 o rest p.2))
+    ((operands rs ++ p.0, o), ap (option_map (λ ys. (operands rs ++ ys, o))) p.1, along _ o _ t (sym et) (pushed (reverse rs) p.0 o rest p.2))
 act-on (Leaves ps) xs o s t i (args, rest, es, m) =
     let p = pop_all-on xs o args rest (reverse ps) (along xs o s _ es i) m in
-    (([], true), ap (map_option (λ ys. ([], true))) p.1, tt)
+    (([], true), ap (option_map (λ ys. ([], true))) p.1, tt)
 act-on Drops xs o s t i (x, es) =
     let p = pop_one-on xs o x t (along xs o s _ es i) in
-    ((p.0.1, o), ap (map_option (λ p. (p.1, o))) p.1, p.3)
+    ((p.0.1, o), ap (option_map (λ p. (p.1, o))) p.1, p.3)
 act-on Selects xs o s t i (x, b, a, u, rest, es, mx, mb, ma, n, et) =
     let p = pop_type-on xs o x (b ∷ a ∷ rest) I32 (along xs o s _ es i) mx in
     let q = pop_one-on p.0 o b (a ∷ rest) p.2 in
     let r = pop_one-on q.0.1 o a rest q.3 in
     let j = join-on q.0.0 r.0.0 b a u q.2 r.2 mb ma in
-    let c : chosen q.0.0 r.0.0 ≡ Some j.0 = ap (λ z. then_option z number_of) j.1 ∙ ap (λ z. cond z (Some j.0) None) (number-on j.0 u j.2 n) in (
+    let c : chosen q.0.0 r.0.0 ≡ Some j.0 = ap (λ z. option_and_then number_of z) j.1 ∙ ap (λ z. cond z (Some j.0) None) (number-on j.0 u j.2 n) in (
       (j.0 ∷ r.0.1, o),
-      ap (λ z. then_option z (λ ys. select_two o (pop_one ys o))) p.1
+      ap (λ z. option_and_then (λ ys. select_two o (pop_one ys o)) z) p.1
           ∙ ap (select_two o) q.1
           ∙ ap (select_rest o q.0.0) r.1
-          ∙ ap (map_option (λ u. (u ∷ r.0.1, o))) c,
+          ∙ ap (option_map (λ u. (u ∷ r.0.1, o))) c,
       along (j.0 ∷ r.0.1) o (u ∷ rest) t (sym et) (j.2, r.3),
     )
 act-on TestsNull xs o s t i (x, rest, es, m, et) =
@@ -121,7 +121,7 @@ act-on TestsNull xs o s t i (x, rest, es, m, et) =
     ((Some I32 ∷ p.0.1, o), ap (test_top o) p.1 ∙ ap (λ z. cond z (Some (Some I32 ∷ p.0.1, o)) None) (reference-on p.0.0 x p.2 m), along (Some I32 ∷ p.0.1) o _ t (sym et) (refl, p.3))
 act-on (Branches ls) xs o s t i (x, args, rest, es, mx, m) =
     let p = pop_type-on xs o x (args ++ rest) I32 (along xs o s _ es i) mx in
-    (([], true), ap (λ z. then_option z (λ ys. cond (all_pop ys o (arity ls) ls) (Some ([], true)) None)) p.1 ∙ ap (λ z. cond z (Some ([], true)) None) (arity-on ls p.0 o args rest p.2 m), tt)
+    (([], true), ap (λ z. option_and_then (λ ys. cond (all_pop ys o (arity ls) ls) (Some ([], true)) None) z) p.1 ∙ ap (λ z. cond z (Some ([], true)) None) (arity-on ls p.0 o args rest p.2 m), tt)
 
 self : (xs : Stack) (o : Bool) → Concrete xs o xs
 self [] false = tt

@@ -1,10 +1,10 @@
 -- Operands are taken off the kept stack exactly where they can be taken off the stacks that it stands for.
-use Rattle.std.proofs.Common.{◌≡◌, ℕ, zero, suc, Bool, true, false, cond, List, [], ◌∷◌, ◌++◌, length, Some, None, refl, sym, ap, ◌∙◌, subst}
+use Rattle.std.proofs.Common.{◌≡◌, ℕ, zero, suc, Bool, true, false, cond, List, [], ◌∷◌, ◌++◌, length, Some, None, refl, sym, ap, ◌∙◌, subst, option_and_then}
 use Rattle.wasm_tree.specs.declared.types.RefType.{RefType}
 use Rattle.wasm_tree.specs.declared.types.RefType.TheVariants.{Func, Extern}
 use Rattle.wasm_tree.specs.declared.types.ValType.{ValType}
 use Rattle.wasm_tree.specs.declared.types.ValType.TheVariants.{I32, I64, Ref}
-use Rattle.wasm_typing.specs.Typing.{Operand, Stack, Matches, AllMatch, then_option, same_ref}
+use Rattle.wasm_typing.specs.Typing.{Operand, Stack, Matches, AllMatch, same_ref}
 use Rattle.wasm_typing.specs.Tracking.{IsInstance, Instance, Concrete, same_type, fits_type, pop_type, pop_all}
 
 pub same_ref-refl : (r : RefType) → same_ref r r ≡ true
@@ -63,7 +63,7 @@ pop_all-on xs o (a ∷ args) s [] i m = absurd m
 pop_all-on xs o (a ∷ args) s (t ∷ ts) i m =
     let p = pop_type-on xs o a (args ++ s) t i m.0 in
     let q = pop_all-on p.0 o args s ts p.2 m.1 in
-    (q.0, ap (λ r. then_option r (λ ys. pop_all ys o ts)) p.1 ∙ q.1, q.2)
+    (q.0, ap (λ r. option_and_then (λ ys. pop_all ys o ts) r) p.1 ∙ q.1, q.2)
 
 abbrev Backs : Stack → Bool → List ValType → Stack → Type 0
 Backs xs o ts ys =
@@ -75,6 +75,6 @@ pop_all-back [] false (t ∷ ts) ys h = cc
 pop_all-back [] true (t ∷ ts) ys h = ((tt, (pop_all-back [] true ts ys h).0), λ s k. tt)
 pop_all-back (x ∷ xs) o (t ∷ ts) ys h = test (fits_type x t) refl h (pop_all-back xs o ts ys)
   where
-    test : (b : Bool) → fits_type x t ≡ b → then_option (cond b (Some xs) None) (λ zs. pop_all zs o ts) ≡ Some ys → (pop_all xs o ts ≡ Some ys → Backs xs o ts ys) → Backs (x ∷ xs) o (t ∷ ts) ys
+    test : (b : Bool) → fits_type x t ≡ b → option_and_then (λ zs. pop_all zs o ts) (cond b (Some xs) None) ≡ Some ys → (pop_all xs o ts ≡ Some ys → Backs xs o ts ys) → Backs (x ∷ xs) o (t ∷ ts) ys
     test false e g ih = cc
     test true e g ih = let i = ih g in ((fits-matches x t e, i.0), λ s k. (refl, i.1 s k))

@@ -1,8 +1,8 @@
 -- Steps of the loops over types.
-use Rattle.std.proofs.Common.{◌≡◌, ℕ, zero, suc, ◌+◌, ◌-◌, ◌<◌, ◌≤◌, Bool, true, false, cond, is_some, List, [], ◌∷◌, ◌++◌, reverse, length, take, get_or, Option, Some, None, refl, sym, ap, ◌∙◌, subst, arith}
+use Rattle.std.proofs.Common.{◌≡◌, ℕ, zero, suc, ◌+◌, ◌-◌, ◌<◌, ◌≤◌, Bool, true, false, cond, is_some, List, [], ◌∷◌, ◌++◌, reverse, length, take, get_or, Option, Some, None, refl, sym, ap, ◌∙◌, subst, arith, option_and_then, option_map}
 use Rattle.std.proofs.lemmas.List.{reverse-append, take_more}
 use Rattle.wasm_tree.specs.declared.types.ValType.{ValType}
-use Rattle.wasm_typing.specs.Typing.{Stack, then_option, map_option, operands, Gives}
+use Rattle.wasm_typing.specs.Typing.{Stack, operands, Gives}
 use Rattle.wasm_typing.specs.Tracking.{fits_type, pop_type, pop_all, act}
 use Rattle.std.proofs.Math.Path.{fun_ext}
 
@@ -13,35 +13,35 @@ reverse-take ts i d pos le =
     ap (λ n. reverse (take n ts)) e ∙ ap reverse (take_more ts (i - 1) d lt) ∙ reverse-append (take (i - 1) ts) (get_or ts (i - 1) d ∷ [])
 
 -- a turn of the loop that takes the types off
-pub pop_turn : (ts : List ValType) (i : ℕ) (d : ValType) (xs : Stack) (o : Bool) (r : Option Stack) → pop_type xs o (get_or ts (i - 1) d) ≡ r → 0 < i → i ≤ length ts → pop_all xs o (reverse (take i ts)) ≡ then_option r (λ ys. pop_all ys o (reverse (take (i - 1) ts)))
+pub pop_turn : (ts : List ValType) (i : ℕ) (d : ValType) (xs : Stack) (o : Bool) (r : Option Stack) → pop_type xs o (get_or ts (i - 1) d) ≡ r → 0 < i → i ≤ length ts → pop_all xs o (reverse (take i ts)) ≡ option_and_then (λ ys. pop_all ys o (reverse (take (i - 1) ts))) r
 pop_turn ts i d xs o r e pos le =
-    ap (pop_all xs o) (reverse-take ts i d pos le) ∙ ap (λ z. then_option z (λ ys. pop_all ys o (reverse (take (i - 1) ts)))) e
+    ap (pop_all xs o) (reverse-take ts i d pos le) ∙ ap (λ z. option_and_then (λ ys. pop_all ys o (reverse (take (i - 1) ts))) z) e
 
-then_option_assoc : {A B C : Type 0} (m : Option A) (f : A → Option B) (g : B → Option C) → then_option (then_option m f) g ≡ then_option m (λ x. then_option (f x) g)
+then_option_assoc : {A B C : Type 0} (m : Option A) (f : A → Option B) (g : B → Option C) → option_and_then g (option_and_then f m) ≡ option_and_then (λ x. option_and_then g (f x)) m
 then_option_assoc None f g = refl
 then_option_assoc (Some x) f g = refl
 
-pop_all-append : (ts us : List ValType) (xs : Stack) (o : Bool) → pop_all xs o (ts ++ us) ≡ then_option (pop_all xs o ts) (λ ys. pop_all ys o us)
+pop_all-append : (ts us : List ValType) (xs : Stack) (o : Bool) → pop_all xs o (ts ++ us) ≡ option_and_then (λ ys. pop_all ys o us) (pop_all xs o ts)
 pop_all-append [] us xs o = refl
 pop_all-append (t ∷ ts) us xs o =
-    ap (then_option (pop_type xs o t)) (fun_ext (λ ys. pop_all-append ts us ys o))
+    ap (λ f. option_and_then f (pop_type xs o t)) (fun_ext (λ ys. pop_all-append ts us ys o))
     ∙ sym (then_option_assoc (pop_type xs o t) (λ ys. pop_all ys o ts) (λ ys. pop_all ys o us))
 
-both_parts : (under top : List ValType) (xs : Stack) (o : Bool) → pop_all xs o (reverse (under ++ top)) ≡ then_option (pop_all xs o (reverse top)) (λ ys. pop_all ys o (reverse under))
+both_parts : (under top : List ValType) (xs : Stack) (o : Bool) → pop_all xs o (reverse (under ++ top)) ≡ option_and_then (λ ys. pop_all ys o (reverse under)) (pop_all xs o (reverse top))
 both_parts under top xs o =
     ap (pop_all xs o) (reverse-append under top) ∙ pop_all-append (reverse top) (reverse under) xs o
 
 pub gives_no_top : (under top rs : List ValType) (xs : Stack) (o : Bool) → pop_all xs o (reverse top) ≡ None → act (Gives (under ++ top) rs) xs o ≡ None
 gives_no_top under top rs xs o h =
-    ap (map_option (λ ys. (operands rs ++ ys, o))) (both_parts under top xs o ∙ ap (λ z. then_option z (λ ys. pop_all ys o (reverse under))) h)
+    ap (option_map (λ ys. (operands rs ++ ys, o))) (both_parts under top xs o ∙ ap (λ z. option_and_then (λ ys. pop_all ys o (reverse under)) z) h)
 
 pub gives_no_under : (under top rs : List ValType) (xs ys : Stack) (o p : Bool) → pop_all xs o (reverse top) ≡ Some ys → p ≡ o → pop_all ys p (reverse under) ≡ None → act (Gives (under ++ top) rs) xs o ≡ None
 gives_no_under under top rs xs ys o p h e g =
-    ap (map_option (λ ys. (operands rs ++ ys, o))) (both_parts under top xs o ∙ ap (λ z. then_option z (λ ys. pop_all ys o (reverse under))) h ∙ ap (λ q. pop_all ys q (reverse under)) (sym e) ∙ g)
+    ap (option_map (λ ys. (operands rs ++ ys, o))) (both_parts under top xs o ∙ ap (λ z. option_and_then (λ ys. pop_all ys o (reverse under)) z) h ∙ ap (λ q. pop_all ys q (reverse under)) (sym e) ∙ g)
 
 pub gives_both : (under top rs : List ValType) (xs ys zs ws : Stack) (o p q : Bool) → pop_all xs o (reverse top) ≡ Some ys → p ≡ o → pop_all ys p (reverse under) ≡ Some zs → q ≡ o → ws ≡ operands rs ++ zs → act (Gives (under ++ top) rs) xs o ≡ Some (ws, q)
 gives_both under top rs xs ys zs ws o p q h e g d w =
-    ap (map_option (λ ys. (operands rs ++ ys, o))) (both_parts under top xs o ∙ ap (λ z. then_option z (λ ys. pop_all ys o (reverse under))) h ∙ ap (λ q. pop_all ys q (reverse under)) (sym e) ∙ g)
+    ap (option_map (λ ys. (operands rs ++ ys, o))) (both_parts under top xs o ∙ ap (λ z. option_and_then (λ ys. pop_all ys o (reverse under)) z) h ∙ ap (λ q. pop_all ys q (reverse under)) (sym e) ∙ g)
     ∙ ap (λ z. Some (z, o)) (sym w)
     ∙ ap (λ z. Some (ws, z)) (sym d)
 

@@ -1,8 +1,9 @@
 -- The stack that the checker keeps: a list of operands, and whether any operands may lie below it.
-use Rattle.std.specs.Prelude.{◌≡◌, ℕ, Bool, true, false, cond, ◌&&◌, nat_eq, is_some, List, [], ◌∷◌, ◌++◌, reverse, length, Option, Some, None, slice_get}
+use Rattle.std.specs.Prelude.{◌≡◌, ℕ, Bool, true, false, cond, ◌&&◌, nat_eq, is_some, List, [], ◌∷◌, ◌++◌, reverse, length, Option, Some, None, slice_get, option_map}
+use Rattle.base_lists.specs.Options.{◌>>=◌}
 use Rattle.wasm_tree.specs.declared.types.ValType.{ValType}
 use Rattle.wasm_tree.specs.declared.types.ValType.TheVariants.{I32, I64, Ref}
-use Rattle.wasm_typing.specs.Typing.{Operand, Stack, operands, map_option, then_option, Effect, Gives, Leaves, Drops, Selects, TestsNull, Branches, same_ref}
+use Rattle.wasm_typing.specs.Typing.{Operand, Stack, operands, Effect, Gives, Leaves, Drops, Selects, TestsNull, Branches, same_ref}
 
 -- s is one of the stacks that are kept as xs: a type stands for itself, a bottom for any operand
 abbrev pub IsInstance : Operand → Operand → Type 0
@@ -68,7 +69,7 @@ pop_type xs o t = below_type t (pop_one xs o)
 
 abbrev pub pop_all : Stack → Bool → List ValType → Option Stack
 pop_all xs o [] = Some xs
-pop_all xs o (t ∷ ts) = then_option (pop_type xs o t) (λ ys. pop_all ys o ts)
+pop_all xs o (t ∷ ts) = pop_type xs o t >>= λ ys. pop_all ys o ts
 
 abbrev pub is_number : Operand → Bool
 is_number None = true
@@ -92,7 +93,7 @@ abbrev pub number_of : Operand → Option Operand
 number_of u = cond (is_number u) (Some u) None
 
 abbrev pub chosen : Operand → Operand → Option Operand
-chosen b a = then_option (join b a) number_of
+chosen b a = join b a >>= number_of
 
 -- the operands can be taken for each of these labels, all of one length
 abbrev pub all_pop : Stack → Bool → ℕ → List (List ValType) → Bool
@@ -105,7 +106,7 @@ arity (l ∷ ls) = length l
 
 abbrev pub select_rest : Bool → Operand → Option (Operand × Stack) → Option (Stack × Bool)
 select_rest o b None = None
-select_rest o b (Some q) = map_option (λ u. (u ∷ q.1, o)) (chosen b q.0)
+select_rest o b (Some q) = option_map (λ u. (u ∷ q.1, o)) (chosen b q.0)
 
 abbrev pub select_two : Bool → Option (Operand × Stack) → Option (Stack × Bool)
 select_two o None = None
@@ -117,12 +118,12 @@ test_top o (Some p) = cond (is_reference p.0) (Some (Some I32 ∷ p.1, o)) None
 
 -- what the checker keeps after an instruction, or none where it refuses it
 abbrev pub act : Effect → Stack → Bool → Option (Stack × Bool)
-act (Gives ps rs) xs o = map_option (λ ys. (operands rs ++ ys, o)) (pop_all xs o (reverse ps))
-act (Leaves ps) xs o = map_option (λ ys. ([], true)) (pop_all xs o (reverse ps))
-act Drops xs o = map_option (λ p. (p.1, o)) (pop_one xs o)
-act Selects xs o = then_option (pop_type xs o I32) (λ ys. select_two o (pop_one ys o))
+act (Gives ps rs) xs o = option_map (λ ys. (operands rs ++ ys, o)) (pop_all xs o (reverse ps))
+act (Leaves ps) xs o = option_map (λ ys. ([], true)) (pop_all xs o (reverse ps))
+act Drops xs o = option_map (λ p. (p.1, o)) (pop_one xs o)
+act Selects xs o = pop_type xs o I32 >>= λ ys. select_two o (pop_one ys o)
 act TestsNull xs o = test_top o (pop_one xs o)
-act (Branches ls) xs o = then_option (pop_type xs o I32) (λ ys. cond (all_pop ys o (arity ls) ls) (Some ([], true)) None)
+act (Branches ls) xs o = pop_type xs o I32 >>= λ ys. cond (all_pop ys o (arity ls) ls) (Some ([], true)) None
 
 abbrev pub answer_of : Option Effect → Stack → Bool → Option (Stack × Bool)
 answer_of None xs o = None

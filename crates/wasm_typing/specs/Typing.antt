@@ -1,6 +1,7 @@
 -- When a body is well typed: there is a list of stacks, one before, between and after its instructions (WebAssembly Core 2.0,
 -- sections 3.3.8 and 3.3.9).
-use Rattle.std.specs.Prelude.{◌≡◌, ℕ, ◌^◌, Bool, true, false, ◌&&◌, nat_lt, nat_le, List, [], ◌∷◌, ◌++◌, map, reverse, Option, Some, None, slice_get}
+use Rattle.std.specs.Prelude.{◌≡◌, ℕ, ◌^◌, Bool, true, false, ◌&&◌, nat_lt, nat_le, List, [], ◌∷◌, ◌++◌, map, reverse, Option, Some, None, slice_get, option_map}
+use Rattle.base_lists.specs.Options.{◌>>=◌}
 use Rattle.wasm_tree.specs.declared.types.RefType.{RefType}
 use Rattle.wasm_tree.specs.declared.types.RefType.TheVariants.{Func, Extern}
 use Rattle.wasm_tree.specs.declared.types.ValType.{ValType}
@@ -126,22 +127,14 @@ signature_of types Empty = Some (record { params = []; results = [] })
 signature_of types (Value t) = Some (record { params = []; results = t ∷ [] })
 signature_of types (Index i) = signature_in (slice_get types i)
 
-abbrev pub map_option : {A B : Type 0} → (A → B) → Option A → Option B
-map_option f None = None
-map_option f (Some x) = Some (f x)
-
-abbrev pub then_option : {A B : Type 0} → Option A → (A → Option B) → Option B
-then_option None f = None
-then_option (Some x) f = f x
-
 -- the types of these labels, where all are there
 abbrev pub labels_at : List (List ValType) → List ℕ → Option (List (List ValType))
 labels_at labels [] = Some []
 labels_at labels (l ∷ ls) =
-    then_option (slice_get labels l) (λ t. map_option (λ ts. t ∷ ts) (labels_at labels ls))
+    slice_get labels l >>= λ t. option_map (λ ts. t ∷ ts) (labels_at labels ls)
 
 abbrev pub gives_of : Option Signature → Option Effect
-gives_of = map_option (λ f. Gives f.params f.results)
+gives_of = option_map (λ f. Gives f.params f.results)
 
 -- two operands of the one type
 abbrev pub select_of : List ValType → Option Effect
@@ -180,23 +173,23 @@ three = Gives (I32 ∷ I32 ∷ I32 ∷ []) []
 abbrev pub effect_of : Context → Instr → Option Effect
 effect_of c Unreachable = Some (Leaves [])
 effect_of c Nop = Some (Gives [] [])
-effect_of c (Br l) = map_option Leaves (slice_get c.labels l)
-effect_of c (BrIf l) = map_option (λ ts. Gives (ts ++ I32 ∷ []) ts) (slice_get c.labels l)
-effect_of c (BrTable ls l) = map_option Branches (labels_at c.labels (l ∷ ls))
+effect_of c (Br l) = option_map Leaves (slice_get c.labels l)
+effect_of c (BrIf l) = option_map (λ ts. Gives (ts ++ I32 ∷ []) ts) (slice_get c.labels l)
+effect_of c (BrTable ls l) = option_map Branches (labels_at c.labels (l ∷ ls))
 effect_of c Return = Some (Leaves c.results)
-effect_of c (Call f) = gives_of (signature_in (then_option (slice_get c.funcs f) (λ t. slice_get c.types t)))
+effect_of c (Call f) = gives_of (signature_in (slice_get c.funcs f >>= λ t. slice_get c.types t))
 effect_of c (CallIndirect ty table) =
-    then_option (slice_get c.tables table) (λ r. only (is_func r) (map_option (λ f. Gives (f.params ++ I32 ∷ []) f.results) (signature_in (slice_get c.types ty))))
+    slice_get c.tables table >>= λ r. only (is_func r) (option_map (λ f. Gives (f.params ++ I32 ∷ []) f.results) (signature_in (slice_get c.types ty)))
 effect_of c Drop = Some Drops
 effect_of c Select = Some Selects
 effect_of c (SelectTyped ts) = select_of ts
-effect_of c (LocalGet x) = map_option (λ t. Gives [] (t ∷ [])) (slice_get c.locals x)
-effect_of c (LocalSet x) = map_option (λ t. Gives (t ∷ []) []) (slice_get c.locals x)
-effect_of c (LocalTee x) = map_option (λ t. Gives (t ∷ []) (t ∷ [])) (slice_get c.locals x)
-effect_of c (GlobalGet x) = map_option (λ g. Gives [] (g.ty ∷ [])) (slice_get c.globals x)
-effect_of c (GlobalSet x) = then_option (slice_get c.globals x) (λ g. only g.mutable (Some (Gives (g.ty ∷ []) [])))
-effect_of c (TableGet x) = map_option (λ r. Gives (I32 ∷ []) (Ref r ∷ [])) (slice_get c.tables x)
-effect_of c (TableSet x) = map_option (λ r. Gives (I32 ∷ Ref r ∷ []) []) (slice_get c.tables x)
+effect_of c (LocalGet x) = option_map (λ t. Gives [] (t ∷ [])) (slice_get c.locals x)
+effect_of c (LocalSet x) = option_map (λ t. Gives (t ∷ []) []) (slice_get c.locals x)
+effect_of c (LocalTee x) = option_map (λ t. Gives (t ∷ []) (t ∷ [])) (slice_get c.locals x)
+effect_of c (GlobalGet x) = option_map (λ g. Gives [] (g.ty ∷ [])) (slice_get c.globals x)
+effect_of c (GlobalSet x) = slice_get c.globals x >>= λ g. only g.mutable (Some (Gives (g.ty ∷ []) []))
+effect_of c (TableGet x) = option_map (λ r. Gives (I32 ∷ []) (Ref r ∷ [])) (slice_get c.tables x)
+effect_of c (TableSet x) = option_map (λ r. Gives (I32 ∷ Ref r ∷ []) []) (slice_get c.tables x)
 effect_of c (Load op m) = only (fits_memory c (load_width op) m) (Some (Gives (I32 ∷ []) (load_type op ∷ [])))
 effect_of c (Store op m) = only (fits_memory c (store_width op) m) (Some (Gives (I32 ∷ store_type op ∷ []) []))
 effect_of c (MemorySize m) = only (nat_lt m c.memories) (Some (Gives [] (I32 ∷ [])))
@@ -207,17 +200,17 @@ effect_of c (Un op) = Some (Gives (un_operand op ∷ []) (un_result op ∷ []))
 effect_of c (Bin op) = Some (Gives (bin_operand op ∷ bin_operand op ∷ []) (bin_result op ∷ []))
 effect_of c (RefNull r) = Some (Gives [] (Ref r ∷ []))
 effect_of c RefIsNull = Some TestsNull
-effect_of c (RefFunc x) = then_option (slice_get c.named x) (λ b. only b (Some (Gives [] (Ref Func ∷ []))))
+effect_of c (RefFunc x) = slice_get c.named x >>= λ b. only b (Some (Gives [] (Ref Func ∷ [])))
 effect_of c (MemoryInit segment memory) = only (nat_lt segment c.datas && nat_lt memory c.memories) (Some three)
 effect_of c (DataDrop x) = only (nat_lt x c.datas) (Some (Gives [] []))
 effect_of c (MemoryCopy to from) = only (nat_lt to c.memories && nat_lt from c.memories) (Some three)
 effect_of c (MemoryFill m) = only (nat_lt m c.memories) (Some three)
 effect_of c (TableInit segment table) = only (both (slice_get c.elems segment) (slice_get c.tables table)) (Some three)
-effect_of c (ElemDrop x) = map_option (λ r. Gives [] []) (slice_get c.elems x)
+effect_of c (ElemDrop x) = option_map (λ r. Gives [] []) (slice_get c.elems x)
 effect_of c (TableCopy to from) = only (both (slice_get c.tables to) (slice_get c.tables from)) (Some three)
-effect_of c (TableGrow x) = map_option (λ r. Gives (Ref r ∷ I32 ∷ []) (I32 ∷ [])) (slice_get c.tables x)
-effect_of c (TableSize x) = map_option (λ r. Gives [] (I32 ∷ [])) (slice_get c.tables x)
-effect_of c (TableFill x) = map_option (λ r. Gives (I32 ∷ Ref r ∷ I32 ∷ []) []) (slice_get c.tables x)
+effect_of c (TableGrow x) = option_map (λ r. Gives (Ref r ∷ I32 ∷ []) (I32 ∷ [])) (slice_get c.tables x)
+effect_of c (TableSize x) = option_map (λ r. Gives [] (I32 ∷ [])) (slice_get c.tables x)
+effect_of c (TableFill x) = option_map (λ r. Gives (I32 ∷ Ref r ∷ I32 ∷ []) []) (slice_get c.tables x)
 effect_of c _ = None
 
 -- a body leads from the operands ps to some that match rs

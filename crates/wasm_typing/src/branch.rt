@@ -1,7 +1,7 @@
 // A branch to one of several labels (WebAssembly Core 2.0, section 3.3.8.8).
 
-ghost use Rattle.std.specs.Prelude.{◌≡◌, ◌≤◌, ◌∷◌, length, reverse, take, is_some, slice_get, slice_set, Some, true, IfOk, IsTrue};
-ghost use Rattle.wasm_typing.specs.Typing.{map_option, Branches, labels_at};
+ghost use Rattle.std.specs.Prelude.{◌≡◌, ◌≤◌, ◌∷◌, length, reverse, take, is_some, slice_get, slice_set, Some, true, IfOk, IsTrue, option_map};
+ghost use Rattle.wasm_typing.specs.Typing.{Branches, labels_at};
 ghost use Rattle.wasm_typing.specs.Tracking.{pop_type, pop_all, allows_types, allows_all};
 ghost use Rattle.wasm_typing.specs.Kept.{stack_of, Answers};
 ghost use Rattle.wasm_typing.specs.Labels.{label_list};
@@ -98,7 +98,7 @@ impl Kept {
         last: u32,
         others: &[u32],
     ) -> Result<bool, AllocError>
-        ensures { IfOk result (λ ok. Answers (map_option Branches (labels_at (label_list labels.now) (last ∷ others.now))) self.old self.new ok) }
+        ensures { IfOk result (λ ok. Answers (option_map Branches (labels_at (label_list labels.now) (last ∷ others.now))) self.old self.new ok) }
     {
         let Some(types) = labels.types_at(last) else {
             return Ok(false);

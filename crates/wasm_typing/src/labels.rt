@@ -1,7 +1,6 @@
 // The labels that a branch can name.
 
-ghost use Rattle.std.specs.Prelude.{◌≡◌, ◌+◌, [], ◌∷◌, drop, length, OnOk, slice_get};
-ghost use Rattle.wasm_typing.specs.Typing.{map_option};
+ghost use Rattle.std.specs.Prelude.{◌≡◌, ◌+◌, [], ◌∷◌, drop, length, OnOk, slice_get, option_map};
 ghost use Rattle.wasm_typing.specs.Labels.{label_list};
 
 use std::alloc::{AllocError, Global};
@@ -47,7 +46,7 @@ impl<'a> Labels<'a> {
 
     /// The types of a label, counted from the innermost one on, if it is open.
     pub fn types_at(&self, label: u32) -> Option<&'a [ValType]>
-        ensures { map_option (λ ts. ts.now) result ≡ slice_get (label_list self.now) label }
+        ensures { option_map (λ ts. ts.now) result ≡ slice_get (label_list self.now) label }
     {
         let below = self.open.len().checked_sub(label as usize)?;
         let at = below.checked_sub(1)?;

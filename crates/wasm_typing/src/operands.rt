@@ -1,7 +1,7 @@
 // The operands that the checker keeps.
 
-ghost use Rattle.std.specs.Prelude.{◌≡◌, ◌↔◌, ◌++◌, ◌∷◌, [], false, map, reverse, IfOk, OnOk, IsTrue, Some};
-ghost use Rattle.wasm_typing.specs.Typing.{operands, map_option, only, Gives, Leaves, Drops, Selects, TestsNull};
+ghost use Rattle.std.specs.Prelude.{◌≡◌, ◌↔◌, ◌++◌, ◌∷◌, [], false, map, reverse, IfOk, OnOk, IsTrue, Some, option_map};
+ghost use Rattle.wasm_typing.specs.Typing.{operands, only, Gives, Leaves, Drops, Selects, TestsNull};
 ghost use Rattle.wasm_typing.specs.Tracking.{same_type, fits_type, pop_one, pop_type, pop_all, chosen};
 ghost use Rattle.wasm_typing.specs.Kept.{stack_of, when, Answers};
 
@@ -50,7 +50,7 @@ impl Kept {
     }
 
     pub fn pop_one(&mut self) -> Option<Option<ValType>>
-        ensures value { pop_one (stack_of self.old) self.old.any_below ≡ map_option (λ x. (x, stack_of self.new)) result }
+        ensures value { pop_one (stack_of self.old) self.old.any_below ≡ option_map (λ x. (x, stack_of self.new)) result }
         ensures any_below { self.new.any_below ≡ self.old.any_below }
     {
         match self.types.pop() {

@@ -1,7 +1,7 @@
 // What a body can name.
 
-ghost use Rattle.std.specs.Prelude.{◌≡◌, nat_lt, slice_get};
-ghost use Rattle.wasm_typing.specs.Typing.{map_option, then_option, signature_of};
+ghost use Rattle.std.specs.Prelude.{◌≡◌, nat_lt, slice_get, option_and_then, option_map};
+ghost use Rattle.wasm_typing.specs.Typing.{signature_of};
 ghost use Rattle.wasm_typing.specs.ScopeWords.{signature};
 
 use crate::locals::Locals;
@@ -39,7 +39,7 @@ pub struct Shape<'a> {
 
 /// The shape of a block type, if the type that it names is there (WebAssembly Core 2.0, section 3.2.2).
 pub fn shape_of<'a>(types: &'a [FuncType], block: &'a BlockType) -> Option<Shape<'a>>
-    ensures { map_option signature result ≡ signature_of types.now block.now }
+    ensures { option_map signature result ≡ signature_of types.now block.now }
 {
     match block {
         BlockType::Empty => Some(Shape {
@@ -63,7 +63,7 @@ pub fn shape_of<'a>(types: &'a [FuncType], block: &'a BlockType) -> Option<Shape
 impl<'a> Scope<'a> {
     /// The type of a function, if both are there.
     pub fn type_of_func(&self, func: u32) -> Option<&'a FuncType>
-        ensures { map_option (λ t. t.now) result ≡ then_option (slice_get self.now.funcs.now func) (λ i. slice_get self.now.types.now i) }
+        ensures { option_map (λ t. t.now) result ≡ option_and_then (λ i. slice_get self.now.types.now i) (slice_get self.now.funcs.now func) }
     {
         let ty = *self.funcs.get(func as usize)?;
         self.types.get(ty as usize)

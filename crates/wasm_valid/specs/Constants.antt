@@ -1,5 +1,6 @@
 -- Constant expressions (WebAssembly Core 2.0, section 3.3.10).
 use Rattle.std.specs.Prelude.{◌&&◌, not, nat_lt, length, Option, Some, slice_get}
+use Rattle.base_lists.specs.Options.{◌>>=◌}
 use Rattle.wasm_tree.specs.declared.types.RefType.TheVariants.{Func as func_ref}
 use Rattle.wasm_tree.specs.declared.types.ValType.{ValType}
 use Rattle.wasm_tree.specs.declared.types.ValType.TheVariants.{I32, I64, Ref}
@@ -7,7 +8,7 @@ use Rattle.wasm_tree.specs.declared.module.ConstExpr.{ConstExpr}
 use Rattle.wasm_tree.specs.declared.module.ConstExpr.TheVariants as expr
 use Rattle.wasm_tree.specs.declared.module.Module.{Module}
 use Rattle.wasm_tree.specs.Spaces.{funcs_of, globals_of, imported_globals}
-use Rattle.wasm_typing.specs.Typing.{then_option, only}
+use Rattle.wasm_typing.specs.Typing.{only}
 
 -- the type of a constant expression: `ref.func` needs the function, `global.get` an imported immutable global
 abbrev pub const_type : Module → ConstExpr → Option ValType
@@ -16,4 +17,4 @@ const_type m (expr.I64 value) = Some I64
 const_type m (expr.Null ty) = Some (Ref ty)
 const_type m (expr.Func func) = only (nat_lt func (length (funcs_of m))) (Some (Ref func_ref))
 const_type m (expr.Global global) =
-    then_option (slice_get (globals_of m) global) (λ g. only (nat_lt global (length (imported_globals m.imports)) && not g.mutable) (Some g.ty))
+    slice_get (globals_of m) global >>= λ g. only (nat_lt global (length (imported_globals m.imports)) && not g.mutable) (Some g.ty)

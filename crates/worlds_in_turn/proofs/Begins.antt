@@ -1,11 +1,11 @@
 -- Until the first start the parts are added one after the other, their segments with them, and then the stores stand beside one another.
-use Rattle.std.proofs.Common.{◌≡◌, ◌∙◌, refl, sym, ap, subst, ℕ, zero, suc, ◌+◌, ◌-◌, ◌<◌, ◌≤◌, List, [], ◌∷◌, ◌++◌, map, length, Some, None, false, ◌⊎◌, inl, inr, arith}
+use Rattle.std.proofs.Common.{◌≡◌, ◌∙◌, refl, sym, ap, subst, ℕ, zero, suc, ◌+◌, ◌-◌, ◌<◌, ◌≤◌, List, [], ◌∷◌, ◌++◌, map, length, Some, None, false, ◌⊎◌, inl, inr, arith, drop, option_and_then, slice_get}
 use Rattle.std.proofs.lemmas.Bool.{cases_lt}
 use Rattle.wasm_tree.specs.declared.types.FuncType.{FuncType}
 use Rattle.wasm_tree.specs.declared.module.Module.{Module}
-use Rattle.wasm_meaning.specs.Outcomes.{Outcome, Gives, at, past}
+use Rattle.wasm_meaning.specs.Outcomes.{Outcome, Gives, at}
 use Rattle.wasm_meaning.specs.State.{Text, Inst, Func, Own, Global, Data, Store, Opening}
-use Rattle.wasm_meaning.specs.Linking.{Part, Functions, Tables, Memories, Globals, place, then_some, module_at}
+use Rattle.wasm_meaning.specs.Linking.{Part, Functions, Tables, Memories, Globals, module_at}
 use Rattle.wasm_meaning.specs.Environment.{Environment, Offer, Thing, flat, owned_of}
 use Rattle.wasm_meaning.specs.World.{World, base, elems_before, datas_before, own_store, const_value, joined_stores, all_there, starts_of, seen_as, segments}
 use Rattle.wasm_meaning.specs.Run.{Pending, Move, Run}
@@ -78,7 +78,7 @@ module _ (env : Environment) (w : World) (insts : List Inst) (allocated : Store)
   -- what is known of stores whose first parts' segments were copied
   pub record FillLaws : Type 0 where
     pub filled_none : IsFilled 0 (own_store env)
-    pub filled_next : (k : ℕ) (m : Module) (i : Inst) (t : Store) → module_at w.parts k ≡ Some m → place insts k ≡ Some i → IsFilled k t → ((own_segments (const_value t.globals i) m i (joined_stores t (g.laid.adds k))).trapped ≡ false) × IsFilled (suc k) (own_segments (const_value t.globals i) m i (joined_stores t (g.laid.adds k))).store
+    pub filled_next : (k : ℕ) (m : Module) (i : Inst) (t : Store) → module_at w.parts k ≡ Some m → slice_get insts k ≡ Some i → IsFilled k t → ((own_segments (const_value t.globals i) m i (joined_stores t (g.laid.adds k))).trapped ≡ false) × IsFilled (suc k) (own_segments (const_value t.globals i) m i (joined_stores t (g.laid.adds k))).store
     pub filled_all : (k : ℕ) (t : Store) → k ≤ length w.parts → IsFilled k t → ((p : ℕ) (m : Module) → k ≤ p → module_at w.parts p ≡ Some m → HasNoActive m) → after ≡ joined_stores t (g.laid.rest k)
     pub filled_sized : (k : ℕ) (t : Store) → k ≤ length w.parts → IsFilled k t → Sized env w.parts k t
 
@@ -169,16 +169,16 @@ module _ (env : Environment) (w : World) (insts : List Inst) (allocated : Store)
     -- what comes of the first parts with one more
     pub record Advances (k : ℕ) (part : Part) (i : Inst) (q : InTurn) : Type 0 where
       pub next_store : Store
-      pub is : tick_in_turn q ≡ (goes_on q part (past w.parts (suc k)) i next_store, None)
+      pub is : tick_in_turn q ≡ (goes_on q part (drop (suc k) w.parts) i next_store, None)
       pub filled : IsFilled (suc k) next_store
       pub extends : Extends (g.laid.first (suc k)) next_store
       pub closed : Closed (reaching env w.parts (suc k)) next_store
       pub sound : (a : ℕ) (f : Func) → at next_store.funcs a ≡ Gives f → Sound env w.parts (suc k) f
 
-    pub advances : (k : ℕ) (part : Part) (i : Inst) (r : Run) (q : InTurn) → place w.parts k ≡ Some part → place insts k ≡ Some i → Fills k r q → Advances k part i q
+    pub advances : (k : ℕ) (part : Part) (i : Inst) (r : Run) (q : InTurn) → slice_get w.parts k ≡ Some part → slice_get insts k ≡ Some i → Fills k r q → Advances k part i q
     advances k part i r q at_part at_inst h =
         let t = h.store in
-        let is_part : module_at w.parts k ≡ Some part.«module» = ap (λ o. then_some o (λ part. Some part.«module»)) at_part in
+        let is_part : module_at w.parts k ≡ Some part.«module» = ap (λ o. option_and_then (λ part. Some part.«module») o) at_part in
         let low : k ≤ length w.parts = (let l = h.most in omega (arith, l)) in
         let holds = front_holds k t low h.extends in
         let sized = laws.filled_sized k t low h.filled in
@@ -188,7 +188,7 @@ module _ (env : Environment) (w : World) (insts : List Inst) (allocated : Store)
         (ap (λ t. (filled_in env w insts allocated g k part i at_part at_inst t).trapped) store_is ∙ a.0) in
         let f = own_fill (reaching env w.parts (suc k)) (const_value t.globals i) part.«module» i (joined_stores t (g.laid.adds k)) in
         let m = more itself env w.parts insts allocated g.laid k part.«module» is_part (within env w insts allocated g itself k part i at_part at_inst) in
-        let values : (n : ℕ) (x : Global) → place t.globals n ≡ Some x → Rattle.index_remap.specs.Related.ValRel (reaching env w.parts (suc k)) x.value x.value = λ n x at_x. val_more (reaching env w.parts k) (reaching env w.parts (suc k)) m (global_self t n x h.closed at_x) in
+        let values : (n : ℕ) (x : Global) → slice_get t.globals n ≡ Some x → Rattle.index_remap.specs.Related.ValRel (reaching env w.parts (suc k)) x.value x.value = λ n x at_x. val_more (reaching env w.parts k) (reaching env w.parts (suc k)) m (global_self t n x h.closed at_x) in
         let adds = adds_closed env w insts allocated g itself k part i at_part at_inst t holds values in
         let sound' = sound_joined itself env w.parts insts allocated g.laid k part.«module» is_part (within env w insts allocated g itself k part i at_part at_inst) t.funcs h.sound (adds_sound env w insts allocated g itself k part i at_part at_inst t holds values) in
         let joined : Closed (reaching env w.parts (suc k)) (joined_stores t (g.laid.adds k)) = record {
@@ -199,12 +199,12 @@ module _ (env : Environment) (w : World) (insts : List Inst) (allocated : Store)
         } in
         record {
           next_store = (filled_in env w insts allocated g k part i at_part at_inst t).store;
-          is = e ∙ ap (λ t. (goes_on q part (past w.parts (suc k)) i (filled_in env w insts allocated g k part i at_part at_inst t).store, None)) store_is;
+          is = e ∙ ap (λ t. (goes_on q part (drop (suc k) w.parts) i (filled_in env w insts allocated g k part i at_part at_inst t).store, None)) store_is;
           filled = a.1;
           extends = extends.and_then (g.laid.first (suc k)) (joined_stores t (g.laid.adds k)) _ (subst (λ s. Extends s (joined_stores t (g.laid.adds k))) (sym (g.laid.first_next k part.«module» is_part)) (joined_extends (g.laid.first k) t (g.laid.adds k) h.extends)) f.extends;
           closed = f.closed joined;
           sound = λ n x e. sound' n x (ap (λ fs. at fs n) (sym f.extends.funcs) ∙ e);
         }
       where
-        global_self : (t : Store) (n : ℕ) (x : Global) → Closed (reaching env w.parts k) t → place t.globals n ≡ Some x → Rattle.index_remap.specs.Related.ValRel (reaching env w.parts k) x.value x.value
+        global_self : (t : Store) (n : ℕ) (x : Global) → Closed (reaching env w.parts k) t → slice_get t.globals n ≡ Some x → Rattle.index_remap.specs.Related.ValRel (reaching env w.parts k) x.value x.value
         global_self t n x c e = (Rattle.worlds_in_turn.proofs.Filling.self_at t.globals n x c.globals (place_at t.globals n x e)).value

@@ -1,12 +1,12 @@
 -- The store of parts that are instantiated in turn beside the store of all parts at once: what the first parts have corresponds, and the rest is as it was allocated.
-use Rattle.std.proofs.Common.{◌≡◌, ◌∙◌, refl, sym, ap, subst, ℕ, zero, suc, ◌+◌, ◌-◌, ◌<◌, ◌≤◌, List, [], ◌∷◌, ◌++◌, length, Some, true, ◌⊎◌, inl, inr, arith}
+use Rattle.std.proofs.Common.{◌≡◌, ◌∙◌, refl, sym, ap, subst, ℕ, zero, suc, ◌+◌, ◌-◌, ◌<◌, ◌≤◌, List, [], ◌∷◌, ◌++◌, length, Some, true, ◌⊎◌, inl, inr, arith, slice_get}
 use Rattle.std.proofs.lemmas.Bool.{cases_lt}
 use Rattle.wasm_tree.specs.declared.types.FuncType.{FuncType}
 use Rattle.wasm_tree.specs.declared.module.Module.{Module}
 use Rattle.wasm_meaning.specs.Outcomes.{Outcome, Gives, bind, at}
 use Rattle.wasm_meaning.specs.State.{Inst, Func, Memory, Data, Store}
 use Rattle.wasm_meaning.specs.Control.{type_of_func, own_of, type_at, own_at}
-use Rattle.wasm_meaning.specs.Linking.{Part, Functions, Tables, Memories, Globals, place, module_at}
+use Rattle.wasm_meaning.specs.Linking.{Part, Functions, Tables, Memories, Globals, module_at}
 use Rattle.wasm_meaning.specs.Environment.{Environment}
 use Rattle.wasm_meaning.specs.World.{own_store, base, elems_before, datas_before, joined_stores, part_store}
 use Rattle.index_remap.specs.Related.{Kind, Funcs, Mems, Elems, Datas, Pairing, BothRel, both, ResRel, done, ListRel, nil, cons, FuncRel, TableRel, GlobalRel, ElemRel, StoreRel}
@@ -71,7 +71,7 @@ pub record Laid (env : Environment) (parts : List Part) (insts : List Inst) (all
   pub first_next : (k : ℕ) (m : Module) → module_at parts k ≡ Some m → first (suc k) ≡ joined_stores (first k) (adds k)
   pub rest_next : (k : ℕ) (m : Module) → module_at parts k ≡ Some m → rest k ≡ joined_stores (adds k) (rest (suc k))
   pub rest_end : rest (length parts) ≡ empty_store
-  pub part_adds : (k : ℕ) (m : Module) (i : Inst) → module_at parts k ≡ Some m → place insts k ≡ Some i → part_store env parts insts k m i ≡ Some (adds k)
+  pub part_adds : (k : ℕ) (m : Module) (i : Inst) → module_at parts k ≡ Some m → slice_get insts k ≡ Some i → part_store env parts insts k m i ≡ Some (adds k)
 
 -- beyond the first parts all is as it was allocated
 pub record Untouched (env : Environment) (parts : List Part) (p : ℕ) (allocated s : Store) : Type 0 where
@@ -203,7 +203,7 @@ module _ (law : CodeIsRelatedToItself) (env : Environment) (parts : List Part) (
       subst (λ b. is_reached env parts (suc p) k a b ≡ true) r.0 (reached_at env parts (suc p) k a (omega (arith, r.1, c)))
 
   -- the functions of the first parts and of the next
-  pub sound_joined : (fs : List Func) → ((a : ℕ) (f : Func) → at fs a ≡ Gives f → Sound env parts p f) → ((n : ℕ) (f : Func) → place (laid.adds p).funcs n ≡ Some f → Sound env parts (suc p) f) → (a : ℕ) (f : Func) → at (fs ++ (laid.adds p).funcs) a ≡ Gives f → Sound env parts (suc p) f
+  pub sound_joined : (fs : List Func) → ((a : ℕ) (f : Func) → at fs a ≡ Gives f → Sound env parts p f) → ((n : ℕ) (f : Func) → slice_get (laid.adds p).funcs n ≡ Some f → Sound env parts (suc p) f) → (a : ℕ) (f : Func) → at (fs ++ (laid.adds p).funcs) a ≡ Gives f → Sound env parts (suc p) f
   sound_joined fs old new a f e = go (cases_lt a (length fs))
     where
       go : (a < length fs) ⊎ (length fs ≤ a) → Sound env parts (suc p) f
@@ -216,7 +216,7 @@ module _ (law : CodeIsRelatedToItself) (env : Environment) (parts : List Part) (
   pub at_allocated_funcs : (j : ℕ) → j < length (laid.adds p).funcs → at allocated.funcs (base env parts Functions p + j) ≡ at (laid.adds p).funcs j
   at_allocated_funcs = stands allocated.funcs (laid.first p).funcs (laid.adds p).funcs (laid.rest p).funcs (laid.rest (suc p)).funcs (base env parts Functions p) (ap (λ s. s.funcs) whole) (ap (λ s. s.funcs) tail) sizes.funcs
 
-  module _ (t s : Store) (h : Beside env parts p allocated t s) (closed : Closed (reaching env parts (suc p)) (laid.adds p)) (sound_adds : (n : ℕ) (f : Func) → place (laid.adds p).funcs n ≡ Some f → Sound env parts (suc p) f) where
+  module _ (t s : Store) (h : Beside env parts p allocated t s) (closed : Closed (reaching env parts (suc p)) (laid.adds p)) (sound_adds : (n : ℕ) (f : Func) → slice_get (laid.adds p).funcs n ≡ Some f → Sound env parts (suc p) f) where
     abbrev R : Pairing
     R = reaching env parts p
 

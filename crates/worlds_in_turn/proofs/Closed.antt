@@ -1,5 +1,5 @@
 -- A store that refers to nothing beyond what the environment and the first parts have, and what a part adds to it.
-use Rattle.std.proofs.Common.{◌≡◌, ◌∙◌, refl, ap, subst, ℕ, zero, suc, ◌<◌, List, [], ◌∷◌, map, Option, Some}
+use Rattle.std.proofs.Common.{◌≡◌, ◌∙◌, refl, ap, subst, ℕ, zero, suc, ◌<◌, List, [], ◌∷◌, map, Option, Some, option_and_then, slice_get}
 use Rattle.wasm_tree.specs.declared.types.RefType.{RefType}
 use Rattle.wasm_tree.specs.declared.types.RefType.TheVariants as reft
 use Rattle.wasm_tree.specs.declared.types.FuncType.{FuncType}
@@ -15,7 +15,7 @@ use Rattle.wasm_tree.specs.declared.module.Module.{Module}
 use Rattle.wasm_meaning.specs.Outcomes.{Gives, at, copies}
 use Rattle.wasm_meaning.specs.State.{RefVal, Val, Num, Ref, Inst, Func, Code, Own, Table, Global, Elem, Store}
 use Rattle.wasm_meaning.specs.Values.{null_of, ref_of}
-use Rattle.wasm_meaning.specs.Linking.{Part, Functions, Tables, Memories, Globals, place, then_some}
+use Rattle.wasm_meaning.specs.Linking.{Part, Functions, Tables, Memories, Globals}
 use Rattle.wasm_meaning.specs.Environment.{Environment}
 use Rattle.wasm_meaning.specs.World.{given, all_there, new_func, global_with, new_elem, elem_with, store_with, const_value}
 use Rattle.index_remap.specs.Related.{Kind, Funcs, Mems, Elems, Datas, Pairing, OptRel, none, some, ListRel, nil, cons, RefRel, func, extern, ValRel, number, reference, CodeRel, FuncRel, defined, own, TableRel, GlobalRel, ElemRel}
@@ -86,16 +86,16 @@ null_self R reft.Extern = extern
 
 -- addresses that an instance has are reached
 pub record Reaches (env : Environment) (parts : List Part) (p : ℕ) (i : Inst) : Type 0 where
-  pub spaces : (k : Rattle.wasm_meaning.specs.Linking.Kind) (n a : ℕ) → place (space_in i k) n ≡ Some a → a < Rattle.wasm_meaning.specs.World.base env parts k p
-  pub elems : (n a : ℕ) → place i.elems n ≡ Some a → a < count_upto env parts p Elems
-  pub datas : (n a : ℕ) → place i.datas n ≡ Some a → a < count_upto env parts p Datas
+  pub spaces : (k : Rattle.wasm_meaning.specs.Linking.Kind) (n a : ℕ) → slice_get (space_in i k) n ≡ Some a → a < Rattle.wasm_meaning.specs.World.base env parts k p
+  pub elems : (n a : ℕ) → slice_get i.elems n ≡ Some a → a < count_upto env parts p Elems
+  pub datas : (n a : ℕ) → slice_get i.datas n ≡ Some a → a < count_upto env parts p Datas
 
-at_is_place : {A : Type 0} (xs : List A) (n : ℕ) (x : A) → at xs n ≡ Gives x → place xs n ≡ Some x
+at_is_place : {A : Type 0} (xs : List A) (n : ℕ) (x : A) → at xs n ≡ Gives x → slice_get xs n ≡ Some x
 at_is_place [] n x e = cc
 at_is_place (y ∷ ys) zero x e = let s : y ≡ x = cc in ap Some s
 at_is_place (y ∷ ys) (suc n) x e = at_is_place ys n x e
 
-place_is_at : {A : Type 0} (xs : List A) (n : ℕ) (x : A) → place xs n ≡ Some x → at xs n ≡ Gives x
+place_is_at : {A : Type 0} (xs : List A) (n : ℕ) (x : A) → slice_get xs n ≡ Some x → at xs n ≡ Gives x
 place_is_at [] n x e = cc
 place_is_at (y ∷ ys) zero x e = ap Gives (some_is e)
 place_is_at (y ∷ ys) (suc n) x e = place_is_at ys n x e
@@ -119,7 +119,7 @@ pub func_self : CodeIsRelatedToItself → (env : Environment) (parts : List Part
 func_self law env parts p f own_func = own
 func_self law env parts p f (code {i = i} {c = c} r) = defined (law (is_reached env parts p) (is_reached env parts p) [] i c (names_itself env parts p i r))
 
-module _ (law : CodeIsRelatedToItself) (env : Environment) (parts : List Part) (p : ℕ) (m : Module) (i : Inst) (globals : List Global) (reaches : Reaches env parts p i) (values : (a : ℕ) (g : Global) → place globals a ≡ Some g → ValRel (reaching env parts p) g.value g.value) where
+module _ (law : CodeIsRelatedToItself) (env : Environment) (parts : List Part) (p : ℕ) (m : Module) (i : Inst) (globals : List Global) (reaches : Reaches env parts p i) (values : (a : ℕ) (g : Global) → slice_get globals a ≡ Some g → ValRel (reaching env parts p) g.value g.value) where
   abbrev R : Pairing
   R = reaching env parts p
 
@@ -128,11 +128,11 @@ module _ (law : CodeIsRelatedToItself) (env : Environment) (parts : List Part) (
   value_self (const.I64 z) v h = subst (λ v. ValRel (reaching env parts p) v v) (some_is h) number
   value_self (const.Null t) v h = subst (λ v. ValRel (reaching env parts p) v v) (some_is h) (reference (null_self (reaching env parts p) t))
   value_self (const.Func f) v h =
-      let a = then_is (place i.funcs f) _ v h in
+      let a = then_is (slice_get i.funcs f) _ v h in
       subst (λ v. ValRel (reaching env parts p) v v) (some_is a.2) (reference (func (some (reached_at env parts p Funcs a.0 (reaches.spaces Functions f a.0 a.1)))))
   value_self (const.Global x) v h =
-      let a = then_is (place i.globals x) _ v h in
-      let g = then_is (place globals a.0) _ v a.2 in
+      let a = then_is (slice_get i.globals x) _ v h in
+      let g = then_is (slice_get globals a.0) _ v a.2 in
       subst (λ v. ValRel (reaching env parts p) v v) (some_is g.2) (values a.0 g.0 g.1)
 
   global_self : (g : GlobalDef) (h : Global) → global_with (const_value globals i) g ≡ Some h → GlobalRel (reaching env parts p) h h
@@ -140,7 +140,7 @@ module _ (law : CodeIsRelatedToItself) (env : Environment) (parts : List Part) (
       let v = then_is (const_value globals i g.init) _ h e in
       subst (λ h. GlobalRel (reaching env parts p) h h) (some_is v.2) (record { type = refl; value = value_self g.init v.0 v.1 })
 
-  item_self : (e : ConstExpr) (r : RefVal) → then_some (const_value globals i e) (λ v. given (ref_of v)) ≡ Some r → RefRel (reaching env parts p) r r
+  item_self : (e : ConstExpr) (r : RefVal) → option_and_then (λ v. given (ref_of v)) (const_value globals i e) ≡ Some r → RefRel (reaching env parts p) r r
   item_self e r h =
       let v = then_is (const_value globals i e) _ r h in
       go v.0 (value_self e v.0 v.1) v.2
@@ -151,8 +151,8 @@ module _ (law : CodeIsRelatedToItself) (env : Environment) (parts : List Part) (
 
   elem_self : (s : ElemSeg) (e : Elem) → elem_with (const_value globals i) s ≡ Some e → ElemRel (reaching env parts p) e e
   elem_self s e h =
-      let a = then_is (all_there (λ x. then_some (const_value globals i x) (λ v. given (ref_of v))) s.items) _ e h in
-      subst (λ e. ElemRel (reaching env parts p) e e) (some_is a.2) (go s.mode (all_self (λ x. then_some (const_value globals i x) (λ v. given (ref_of v))) s.items a.0 a.1 item_self))
+      let a = then_is (all_there (λ x. option_and_then (λ v. given (ref_of v)) (const_value globals i x)) s.items) _ e h in
+      subst (λ e. ElemRel (reaching env parts p) e e) (some_is a.2) (go s.mode (all_self (λ x. option_and_then (λ v. given (ref_of v)) (const_value globals i x)) s.items a.0 a.1 item_self))
     where
       go : (mode : ElemMode) {items : List RefVal} → ListRel (RefRel (reaching env parts p)) items items → ElemRel (reaching env parts p) (new_elem mode items) (new_elem mode items)
       go (elem.Active x y) k = record { items = k }
@@ -161,7 +161,7 @@ module _ (law : CodeIsRelatedToItself) (env : Environment) (parts : List Part) (
 
   new_sound : (f : tree.Func) (g : Func) → new_func i f ≡ Some g → Sound env parts p g
   new_sound f g h =
-      let t = then_is (place i.types f.ty) _ g h in
+      let t = then_is (slice_get i.types f.ty) _ g h in
       subst (λ g. Sound env parts p g) (some_is t.2) (code reaches)
 
   -- what a part adds refers to nothing beyond
@@ -177,10 +177,10 @@ module _ (law : CodeIsRelatedToItself) (env : Environment) (parts : List Part) (
         elems = all_self (elem_with (const_value globals i)) m.elems e.0 e.1 elem_self;
       })
 
-  pub added_sound : (t : Store) → store_with (const_value globals i) m i ≡ Some t → (n : ℕ) (f : Func) → place t.funcs n ≡ Some f → Sound env parts p f
+  pub added_sound : (t : Store) → store_with (const_value globals i) m i ≡ Some t → (n : ℕ) (f : Func) → slice_get t.funcs n ≡ Some f → Sound env parts p f
   added_sound t h n f e =
       let fs = then_is (all_there (new_func i) m.funcs) _ t h in
       let g = then_is (all_there (global_with (const_value globals i)) m.globals) _ t fs.2 in
       let es = then_is (all_there (elem_with (const_value globals i)) m.elems) _ t g.2 in
-      let b = Rattle.worlds_in_turn.proofs.Low.all_back (new_func i) m.funcs fs.0 fs.1 n f (ap (λ t. place t.funcs n) (some_is es.2) ∙ e) in
+      let b = Rattle.worlds_in_turn.proofs.Low.all_back (new_func i) m.funcs fs.0 fs.1 n f (ap (λ t. slice_get t.funcs n) (some_is es.2) ∙ e) in
       new_sound b.0 f b.2

@@ -1,7 +1,7 @@
 -- A step only extends the store: functions stay, sizes do not shrink, types and maxima stay, and so do the values of globals that are not mutable.
-use Rattle.std.proofs.Common.{◌≡◌, ℕ, zero, suc, ◌+◌, ◌≤◌, List, [], ◌∷◌, ◌++◌, length, false, refl, sym, ap, subst, ◌∙◌, arith}
+use Rattle.std.proofs.Common.{◌≡◌, ℕ, zero, suc, ◌+◌, ◌≤◌, List, [], ◌∷◌, ◌++◌, length, false, refl, sym, ap, subst, ◌∙◌, arith, slice_set}
 use native.Mathlib.Decide.{ℕ_discrete}
-use Rattle.wasm_meaning.specs.Outcomes.{Outcome, Gives, Traps, IllTyped, bind, at, put, split_at, overwrite}
+use Rattle.wasm_meaning.specs.Outcomes.{Outcome, Gives, Traps, IllTyped, bind, at, split_at, overwrite}
 use Rattle.wasm_meaning.specs.State.{Table, Memory, Global, Store, Change, Keep, SetGlobal, SetMemory, SetTable, DropElem, DropData}
 use Rattle.wasm_meaning.specs.Step.{changed, no_items, no_bytes}
 
@@ -79,17 +79,17 @@ and_then s t u h k = record {
 
 -- ---- a change ----
 
-put_length : {A : Type 0} (xs : List A) (n : ℕ) (v : A) → length (put xs n v) ≡ length xs
+put_length : {A : Type 0} (xs : List A) (n : ℕ) (v : A) → length (slice_set xs n v) ≡ length xs
 put_length [] n v = refl
 put_length (x ∷ xs) zero v = refl
 put_length (x ∷ xs) (suc n) v = ap suc (put_length xs n v)
 
-put_here : {A : Type 0} (xs : List A) (n : ℕ) (v w : A) → at xs n ≡ Gives w → at (put xs n v) n ≡ Gives v
+put_here : {A : Type 0} (xs : List A) (n : ℕ) (v w : A) → at xs n ≡ Gives w → at (slice_set xs n v) n ≡ Gives v
 put_here [] n v w e = cc
 put_here (x ∷ xs) zero v w e = refl
 put_here (x ∷ xs) (suc n) v w e = put_here xs n v w e
 
-put_there : {A : Type 0} (xs : List A) (n m : ℕ) (v : A) → (n ≡ m → ⊥) → at (put xs n v) m ≡ at xs m
+put_there : {A : Type 0} (xs : List A) (n m : ℕ) (v : A) → (n ≡ m → ⊥) → at (slice_set xs n v) m ≡ at xs m
 put_there [] n m v h = refl
 put_there (x ∷ xs) zero zero v h = absurd (h refl)
 put_there (x ∷ xs) zero (suc m) v h = refl
@@ -97,13 +97,13 @@ put_there (x ∷ xs) (suc n) zero v h = refl
 put_there (x ∷ xs) (suc n) (suc m) v h = put_there xs n m v (λ e. h (ap suc e))
 
 -- one place is written with what extends the old
-pub each_put : {A : Type 0} (P : A → A → Type 0) (xs : List A) (n : ℕ) (old new : A) → ((x : A) → P x x) → at xs n ≡ Gives old → P old new → EachExtends P xs (put xs n new)
+pub each_put : {A : Type 0} (P : A → A → Type 0) (xs : List A) (n : ℕ) (old new : A) → ((x : A) → P x x) → at xs n ≡ Gives old → P old new → EachExtends P xs (slice_set xs n new)
 each_put {A} P xs n old new same there p a x e = go (ℕ_discrete n a)
   where
-    go : Dec (n ≡ a) → (y : A) × (at (put xs n new) a ≡ Gives y) × P x y
+    go : Dec (n ≡ a) → (y : A) × (at (slice_set xs n new) a ≡ Gives y) × P x y
     go (yes i) =
         let o : old ≡ x = gives_same (sym there ∙ ap (at xs) i ∙ e) in
-        (new, ap (at (put xs n new)) (sym i) ∙ put_here xs n new old there, subst (λ z. P z new) o p)
+        (new, ap (at (slice_set xs n new)) (sym i) ∙ put_here xs n new old there, subst (λ z. P z new) o p)
       where
         gives_same : {u v : A} → Gives u ≡ Gives v → u ≡ v
         gives_same e = cc

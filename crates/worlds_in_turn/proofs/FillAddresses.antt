@@ -1,12 +1,12 @@
 -- The addresses of a part's imports are lower than those of what it defines, and these lower than those of what later parts define.
-use Rattle.std.proofs.Common.{◌≡◌, ◌∙◌, sym, ap, ap₂, subst, ℕ, zero, suc, ◌+◌, ◌-◌, ◌<◌, List, length, Some, ◌⊎◌, inl, inr, arith}
+use Rattle.std.proofs.Common.{◌≡◌, ◌∙◌, sym, ap, ap₂, subst, ℕ, zero, suc, ◌+◌, ◌-◌, ◌<◌, List, length, Some, ◌⊎◌, inl, inr, arith, option_and_then, slice_get}
 use Rattle.wasm_tree.specs.declared.module.Import.{Import}
 use Rattle.wasm_tree.specs.declared.module.ImportDesc.{ImportDesc}
 use Rattle.wasm_tree.specs.declared.module.ImportDesc.TheVariants as im
 use Rattle.wasm_tree.specs.declared.module.Module.{Module}
 use Rattle.wasm_meaning.specs.State.{Pair, Inst}
 use Rattle.wasm_meaning.specs.Paths.{walk_on, walk}
-use Rattle.wasm_meaning.specs.Linking.{Part, Site, Entity, End, Defined, Outside, Kind, place, then_some, kind_of_import, kind_of_export, index_of_export, imports_of, module_at, import_at, pair_of, import_step, end_of, sites}
+use Rattle.wasm_meaning.specs.Linking.{Part, Site, Entity, End, Defined, Outside, Kind, kind_of_import, kind_of_export, index_of_export, imports_of, module_at, import_at, pair_of, import_step, end_of, sites}
 use Rattle.wasm_meaning.specs.Environment.{Environment, Thing, OwnKey}
 use Rattle.wasm_meaning.specs.World.{all_there, defined_count, own_count, base, thing_at, address_of, import_type, own_key_of, own_key, thing_of, imported_thing, numbers}
 use Rattle.wasm_meaning.specs.InTurn.{JoinsEarlier}
@@ -26,7 +26,7 @@ key_kind m pair (im.Table ty) key e = ap kind_of_key (sym (some_is e))
 key_kind m pair (im.Memory l) key e = ap kind_of_key (sym (some_is e))
 key_kind m pair (im.Global ty) key e = ap kind_of_key (sym (some_is e))
 
-pub numbers_low : (from count n a : ℕ) → place (numbers from count) n ≡ Some a → a < from + count
+pub numbers_low : (from count n a : ℕ) → slice_get (numbers from count) n ≡ Some a → a < from + count
 numbers_low from zero n a e = absurd (let f = e in cc)
 numbers_low from (suc count) zero a e = let same = some_is e in omega (arith, same)
 numbers_low from (suc count) (suc n) a e = let l = numbers_low (suc from) count n a e in omega (arith, l)
@@ -54,7 +54,7 @@ module _ (env : Environment) (parts : List Part) where
     pub of : Module
     pub is_part : module_at parts last.part ≡ Some of
     pub import : Import
-    pub is_import : place of.imports last.import ≡ Some import
+    pub is_import : slice_get of.imports last.import ≡ Some import
     pub kind : kind_of_import import.desc ≡ k
     pub thing : imported_thing env parts last ≡ Some (thing_at k a)
     pub low : a < own_count k env
@@ -97,9 +97,9 @@ module _ (env : Environment) (parts : List Part) where
               of = m.0;
               is_part = m.1;
               import = i.0;
-              is_import = sym (ap (λ o. then_some o (λ m. place m.imports t.import)) m.1) ∙ i.1;
+              is_import = sym (ap (λ o. option_and_then (λ m. slice_get m.imports t.import) o) m.1) ∙ i.1;
               kind = sym (key_kind m.0 (pair_of i.0) i.0.desc key.0 key.1) ∙ both.0;
-              thing = ap (λ o. then_some o (thing_of env parts)) stays ∙ thing ∙ ap Some x_is;
+              thing = ap (λ o. option_and_then (thing_of env parts) o) stays ∙ thing ∙ ap Some x_is;
               low = subst (λ n. n < own_count k env) both.1 low;
             })
 
@@ -117,12 +117,12 @@ module _ (env : Environment) (parts : List Part) where
         go (inr o) = let l = o.low in omega (arith, l)
 
     -- what a part's instance has is lower than what later parts define
-    pub space_low : (p : ℕ) (m : Module) (i : Inst) → module_at parts p ≡ Some m → IsInst env parts p m i → (k : Kind) (x a : ℕ) → place (space_in i k) x ≡ Some a → a < base env parts k (suc p)
+    pub space_low : (p : ℕ) (m : Module) (i : Inst) → module_at parts p ≡ Some m → IsInst env parts p m i → (k : Kind) (x a : ℕ) → slice_get (space_in i k) x ≡ Some a → a < base env parts k (suc p)
     space_low p m i is_part inst k x a e =
         let s = space_is env parts k p m (space_in i k) (in_space env parts p m i inst k) in
-        go s.0 s.1 (append_back s.0 _ x a (ap (λ l. place l x) s.2 ∙ e))
+        go s.0 s.1 (append_back s.0 _ x a (ap (λ l. slice_get l x) s.2 ∙ e))
       where
-        go : (l : List ℕ) → all_there (λ n. then_some (imported_thing env parts (record { part = p; import = n })) (address_of k)) (imports_of k m) ≡ Some l → (place l x ≡ Some a) ⊎ ((j : ℕ) × (place (numbers (base env parts k p) (defined_count k m)) j ≡ Some a)) → a < base env parts k (suc p)
+        go : (l : List ℕ) → all_there (λ n. option_and_then (address_of k) (imported_thing env parts (record { part = p; import = n }))) (imports_of k m) ≡ Some l → (slice_get l x ≡ Some a) ⊎ ((j : ℕ) × (slice_get (numbers (base env parts k p) (defined_count k m)) j ≡ Some a)) → a < base env parts k (suc p)
         go l all (inl h) =
             let n = all_back _ (imports_of k m) l all x a h in
             let t = then_is (imported_thing env parts (record { part = p; import = n.0 })) (address_of k) a n.2 in
@@ -137,14 +137,14 @@ module _ (env : Environment) (parts : List Part) where
   -- an import of a part has its address in the part's instance
   pub record HasAddress (k : Kind) (s : Site) (i : Inst) (x : ℕ) : Type 0 where
     pub address : ℕ
-    pub at : place (space_in i k) x ≡ Some address
+    pub at : slice_get (space_in i k) x ≡ Some address
     pub thing : Thing
     pub is : imported_thing env parts s ≡ Some thing
     pub has : address_of k thing ≡ Some address
 
-  pub import_address : (p : ℕ) (m : Module) (i : Inst) → IsInst env parts p m i → (k : Kind) (x n : ℕ) → place (imports_of k m) x ≡ Some n → HasAddress k (record { part = p; import = n }) i x
+  pub import_address : (p : ℕ) (m : Module) (i : Inst) → IsInst env parts p m i → (k : Kind) (x n : ℕ) → slice_get (imports_of k m) x ≡ Some n → HasAddress k (record { part = p; import = n }) i x
   import_address p m i inst k x n e =
       let s = space_is env parts k p m (space_in i k) (in_space env parts p m i inst k) in
       let a = all_place _ (imports_of k m) s.0 s.1 x n e in
       let t = then_is (imported_thing env parts (record { part = p; import = n })) (address_of k) a.0 a.1 in
-      record { address = a.0; at = ap (λ xs. place xs x) (sym s.2) ∙ place_front s.0 _ x a.0 a.2; thing = t.0; is = t.1; has = t.2 }
+      record { address = a.0; at = ap (λ xs. slice_get xs x) (sym s.2) ∙ place_front s.0 _ x a.0 a.2; thing = t.0; is = t.1; has = t.2 }

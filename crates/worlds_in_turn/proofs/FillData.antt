@@ -1,15 +1,14 @@
 -- Active segments of data are a matter of memories and of segments of data alone.
-use Rattle.std.proofs.Common.{◌≡◌, ◌∙◌, refl, ap, ℕ, suc, ◌<◌, List, [], ◌∷◌, map, Option, Some, true, false, cond}
+use Rattle.std.proofs.Common.{◌≡◌, ◌∙◌, refl, ap, ℕ, suc, ◌<◌, List, [], ◌∷◌, map, Option, Some, true, false, cond, option_and_then, slice_get, slice_set}
 use Rattle.wasm_tree.specs.declared.module.ConstExpr.{ConstExpr}
 use Rattle.wasm_tree.specs.declared.module.DataSeg.{DataSeg}
 use Rattle.wasm_tree.specs.declared.module.DataMode.{DataMode}
 use Rattle.wasm_tree.specs.declared.module.DataMode.TheVariants as data'
 use Rattle.wasm_num.specs.Operations.{W32}
-use Rattle.wasm_meaning.specs.Outcomes.{Outcome, Gives, Traps, IllTyped, overwrite, put}
+use Rattle.wasm_meaning.specs.Outcomes.{Outcome, Gives, Traps, IllTyped, overwrite}
 use Rattle.wasm_meaning.specs.State.{Val, Inst, Memory, Data, Store}
 use Rattle.wasm_meaning.specs.Values.{num_of}
 use Rattle.wasm_meaning.specs.Step.{no_bytes}
-use Rattle.wasm_meaning.specs.Linking.{place, then_some}
 use Rattle.wasm_meaning.specs.Environment.{any_of}
 use Rattle.wasm_meaning.specs.World.{Filled, Task, given, tasks_in, fill_memory, run_data_with, and_then, in_turn}
 use Rattle.wasm_meaning.specs.InTurn.{is_active_data}
@@ -18,7 +17,7 @@ use Rattle.worlds_in_turn.proofs.FillRuns.{Job, Skip, Fill, run, runs, LowJob, l
 use Rattle.worlds_in_turn.proofs.FillTurns.{Turned, goes_on, stops, or_turned}
 
 abbrev pub memory_fill : Memory → Data → ℕ → Option Memory
-memory_fill t e n = then_some (given (overwrite t.bytes n e.bytes)) (λ bytes. Some (record t { bytes = bytes }))
+memory_fill t e n = option_and_then (λ bytes. Some (record t { bytes = bytes })) (given (overwrite t.bytes n e.bytes))
 
 abbrev pub with_memories : Store → List Memory × List Data → Store
 with_memories s c = record s { mems = c.0; datas = c.1 }
@@ -27,7 +26,7 @@ abbrev pub data_runs : List Job → List Memory × List Data → Option (List Me
 data_runs = runs Memory Data memory_fill no_bytes
 
 abbrev pub data_job : (ConstExpr → Option Val) → Inst → ℕ → DataMode → Job
-data_job value i n (data'.Active x offset) = Fill n (place i.mems x) (then_some (value offset) (λ v. given (num_of W32 v)))
+data_job value i n (data'.Active x offset) = Fill n (slice_get i.mems x) (option_and_then (λ v. given (num_of W32 v)) (value offset))
 data_job value i n data'.Passive = Skip
 
 abbrev pub data_jobs : (ConstExpr → Option Val) → Inst → List ℕ → List DataSeg → List Job
@@ -43,9 +42,9 @@ data_turn value s task = run_data_with (value task.part) s task task.segment.mod
 data_turned_one : (value : ConstExpr → Option Val) (s : Store) (task : Task DataSeg) (mode : DataMode) → Turned (with_memories s) (run Memory Data memory_fill no_bytes (data_job value task.inst task.address mode) (s.mems, s.datas)) (run_data_with value s task mode)
 data_turned_one value s task data'.Passive = goes_on
 data_turned_one value s task (data'.Active x offset) =
-    or_turned (with_memories s) s (then_some (value offset) (λ v. given (num_of W32 v))) _ _ (λ n. or_turned (with_memories s) s (place task.inst.mems x) _ _ (λ a. or_turned (with_memories s) s (place s.mems a) _ _ (λ t. or_turned (with_memories s) s (place s.datas task.address) _ _ (λ e. last a t (overwrite t.bytes n e.bytes)))))
+    or_turned (with_memories s) s (option_and_then (λ v. given (num_of W32 v)) (value offset)) _ _ (λ n. or_turned (with_memories s) s (slice_get task.inst.mems x) _ _ (λ a. or_turned (with_memories s) s (slice_get s.mems a) _ _ (λ t. or_turned (with_memories s) s (slice_get s.datas task.address) _ _ (λ e. last a t (overwrite t.bytes n e.bytes)))))
   where
-    last : (a : ℕ) (t : Memory) (o : Outcome (List ℕ)) → Turned (with_memories s) (then_some (then_some (given o) (λ bytes. Some (record t { bytes = bytes }))) (λ z. Some (put s.mems a z, put s.datas task.address no_bytes))) (fill_memory s task.address a t o)
+    last : (a : ℕ) (t : Memory) (o : Outcome (List ℕ)) → Turned (with_memories s) (option_and_then (λ z. Some (slice_set s.mems a z, slice_set s.datas task.address no_bytes)) (option_and_then (λ bytes. Some (record t { bytes = bytes })) (given o))) (fill_memory s task.address a t o)
     last a t (Gives bytes) = goes_on
     last a t Traps = stops
     last a t IllTyped = stops
@@ -55,7 +54,7 @@ datas_turned value [] s = goes_on
 datas_turned value (task ∷ tasks) s = go (data_turned_one (value task.part) s task task.segment.mode) (datas_turned value tasks)
   where
     go : {o : Option (List Memory × List Data)} {f : Filled} → Turned (with_memories s) o f → ((u : Store) → Turned (with_memories u) (data_runs (map (data_task_job value) tasks) (u.mems, u.datas)) (in_turn (data_turn value) u tasks)) →
-        Turned (with_memories s) (then_some o (data_runs (map (data_task_job value) tasks))) (and_then f (λ s. in_turn (data_turn value) s tasks))
+        Turned (with_memories s) (option_and_then (data_runs (map (data_task_job value) tasks)) o) (and_then f (λ s. in_turn (data_turn value) s tasks))
     go (goes_on {c = c}) h = h (with_memories s c)
     go stops h = stops
 
@@ -73,7 +72,7 @@ datas_skip value i (n ∷ ns) (e ∷ es) h c = go e.mode h (datas_skip value i n
     go (data'.Active x offset) h more = absurd (let k = h in cc)
     go data'.Passive h more = more h c
 
-pub datas_low : (value : ConstExpr → Option Val) (i : Inst) (targets segments : ℕ) → ((x a : ℕ) → place i.mems x ≡ Some a → a < targets) → (ns : List ℕ) (es : List DataSeg) → ((x a : ℕ) → place ns x ≡ Some a → a < segments) → LowJobs targets segments (data_jobs value i ns es)
+pub datas_low : (value : ConstExpr → Option Val) (i : Inst) (targets segments : ℕ) → ((x a : ℕ) → slice_get i.mems x ≡ Some a → a < targets) → (ns : List ℕ) (es : List DataSeg) → ((x a : ℕ) → slice_get ns x ≡ Some a → a < segments) → LowJobs targets segments (data_jobs value i ns es)
 datas_low value i targets segments f [] es g = low_none
 datas_low value i targets segments f (n ∷ ns) [] g = low_none
 datas_low value i targets segments f (n ∷ ns) (e ∷ es) g = low_more (one e.mode) (datas_low value i targets segments f ns es (λ x a h. g (suc x) a h))
@@ -82,11 +81,11 @@ datas_low value i targets segments f (n ∷ ns) (e ∷ es) g = low_more (one e.m
     one (data'.Active x offset) = low_fill (g 0 n refl) (f x)
     one data'.Passive = low_skip
 
-pub datas_kept : (v w : ConstExpr → Option Val) (i : Inst) (ns : List ℕ) (es : List DataSeg) → ((n : ℕ) (s : DataSeg) (x : _) (e : ConstExpr) → place es n ≡ Some s → s.mode ≡ data'.Active x e → (u : Val) → v e ≡ Some u → w e ≡ Some u) → KeptAll (data_jobs v i ns es) (data_jobs w i ns es)
+pub datas_kept : (v w : ConstExpr → Option Val) (i : Inst) (ns : List ℕ) (es : List DataSeg) → ((n : ℕ) (s : DataSeg) (x : _) (e : ConstExpr) → slice_get es n ≡ Some s → s.mode ≡ data'.Active x e → (u : Val) → v e ≡ Some u → w e ≡ Some u) → KeptAll (data_jobs v i ns es) (data_jobs w i ns es)
 datas_kept v w i [] es h = kept_none
 datas_kept v w i (n ∷ ns) [] h = kept_none
 datas_kept v w i (n ∷ ns) (e ∷ es) h = kept_more (one e.mode refl) (datas_kept v w i ns es (λ n s x e at m u k. h (suc n) s x e at m u k))
   where
     one : (mode : DataMode) → e.mode ≡ mode → Kept (data_job v i n mode) (data_job w i n mode)
-    one (data'.Active x offset) m = kept_fill (λ a k. let u = then_is (v offset) _ a k in ap (λ o. then_some o (λ v. given (num_of W32 v))) (h 0 e x offset refl m u.0 u.1) ∙ u.2)
+    one (data'.Active x offset) m = kept_fill (λ a k. let u = then_is (v offset) _ a k in ap (λ o. option_and_then (λ v. given (num_of W32 v)) o) (h 0 e x offset refl m u.0 u.1) ∙ u.2)
     one data'.Passive m = kept_skip

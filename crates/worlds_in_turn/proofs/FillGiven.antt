@@ -1,11 +1,11 @@
 -- The stores of parts in turn where no code has run, for the run in turn: how the store at once is laid out, what a part adds, and what its segments do.
-use Rattle.std.proofs.Common.{◌≡◌, ◌∙◌, refl, sym, ap, ap₂, subst, ℕ, zero, suc, ◌+◌, ◌-◌, ◌<◌, ◌≤◌, List, [], ◌∷◌, length, Option, Some, true, false, arith}
+use Rattle.std.proofs.Common.{◌≡◌, ◌∙◌, refl, sym, ap, ap₂, subst, ℕ, zero, suc, ◌+◌, ◌-◌, ◌<◌, ◌≤◌, List, [], ◌∷◌, length, Option, Some, true, false, arith, option_and_then, slice_get}
 use Rattle.wasm_tree.specs.declared.module.ConstExpr.{ConstExpr}
 use Rattle.wasm_tree.specs.declared.module.Module.{Module}
 use Rattle.wasm_meaning.specs.Outcomes.{Outcome, Gives, Traps, IllTyped, at, overwrite}
 use Rattle.wasm_meaning.specs.State.{RefVal, Inst, Table, Memory, Elem, Data, Store}
 use Rattle.wasm_meaning.specs.Step.{no_items, no_bytes}
-use Rattle.wasm_meaning.specs.Linking.{Part, Read, place, then_some, module_at, sites_in, sites_from, sites, read_of}
+use Rattle.wasm_meaning.specs.Linking.{Part, Read, module_at, sites_in, sites_from, sites, read_of}
 use Rattle.wasm_meaning.specs.Environment.{Environment, all_of}
 use Rattle.wasm_meaning.specs.World.{given, is_matched, insts_from, own_store, stores_from, part_store, joined_stores, store_with, const_value, value_of, segments}
 use Rattle.wasm_meaning.specs.InTurn.{JoinsEarlier}
@@ -26,12 +26,12 @@ use Rattle.worlds_in_turn.proofs.FillNext.{Next}
 
 -- ---- the sites are the imports ----
 
-in_sites : (p count from n : ℕ) → n < count → place (sites_in p count from) n ≡ Some (record { part = p; import = from + n })
+in_sites : (p count from n : ℕ) → n < count → slice_get (sites_in p count from) n ≡ Some (record { part = p; import = from + n })
 in_sites p zero from n l = absurd (omega (arith, l))
 in_sites p (suc count) from zero l = let z : from ≡ from + 0 = omega arith in ap (λ n. Some (record { part = p; import = n })) z
 in_sites p (suc count) from (suc n) l = let z : suc from + n ≡ from + suc n = omega arith in in_sites p count (suc from) n (omega (arith, l)) ∙ ap (λ n. Some (record { part = p; import = n })) z
 
-in_parts : (p : ℕ) (ps : List Part) (q : ℕ) (m : Module) (n : ℕ) → module_at ps q ≡ Some m → n < length m.imports → (j : ℕ) × (place (sites_from p ps) j ≡ Some (record { part = p + q; import = n }))
+in_parts : (p : ℕ) (ps : List Part) (q : ℕ) (m : Module) (n : ℕ) → module_at ps q ≡ Some m → n < length m.imports → (j : ℕ) × (slice_get (sites_from p ps) j ≡ Some (record { part = p + q; import = n }))
 in_parts p [] q m n e l = absurd (let k = e in cc)
 in_parts p (part ∷ ps) zero m n e l =
     let low : n < length part.«module».imports = subst (λ m. n < length m.imports) (sym (some_is e)) l in
@@ -58,8 +58,8 @@ module _ (X Y : Type 0) (fill : X → Y → ℕ → Option X) (empty : Y) (P : X
   run_extends (Fill n target offset) c d h =
       let o = then_is offset _ d h in
       let a = then_is target _ d o.2 in
-      let x = then_is (place c.0 a.0) _ d a.2 in
-      let y = then_is (place c.1 n) _ d x.2 in
+      let x = then_is (slice_get c.0 a.0) _ d a.2 in
+      let y = then_is (slice_get c.1 n) _ d x.2 in
       let z = then_is (fill x.0 y.0 o.0) _ d y.2 in
       subst (λ d. EachExtends P c.0 d.0) (some_is z.2) (each_put P c.0 a.0 x.0 z.0 same (place_at c.0 a.0 x.0 x.1) (fills x.0 y.0 o.0 z.0 z.1))
 
@@ -72,7 +72,7 @@ module _ (X Y : Type 0) (fill : X → Y → ℕ → Option X) (empty : Y) (P : X
 table_filled : (t : Table) (e : Elem) (n : ℕ) (u : Table) → table_fill t e n ≡ Some u → TableExtends t u
 table_filled t e n u h = go (overwrite t.slots n e.items) refl h
   where
-    go : (o : Outcome (List RefVal)) → overwrite t.slots n e.items ≡ o → then_some (given o) (λ slots. Some (record t { slots = slots })) ≡ Some u → TableExtends t u
+    go : (o : Outcome (List RefVal)) → overwrite t.slots n e.items ≡ o → option_and_then (λ slots. Some (record t { slots = slots })) (given o) ≡ Some u → TableExtends t u
     go (Gives slots) w h = let l = overwritten_length t.slots n e.items slots w in subst (TableExtends t) (some_is h) (record { type = refl; most = refl; size = omega (arith, l) })
     go Traps w h = absurd (let k = h in cc)
     go IllTyped w h = absurd (let k = h in cc)
@@ -94,7 +94,7 @@ module _ (env : Environment) (parts : List Part) (insts : List Inst) (are : inst
       let n : length parts - k ≡ suc (length parts - suc k) = omega (arith, l) in
       ap (λ n. rest_for env parts insts n k) n
 
-  pub adds_at : (k : ℕ) (m : Module) (i : Inst) → module_at parts k ≡ Some m → place insts k ≡ Some i → part_store env parts insts k m i ≡ Some (or_no_store (added_at env parts insts k))
+  pub adds_at : (k : ℕ) (m : Module) (i : Inst) → module_at parts k ≡ Some m → slice_get insts k ≡ Some i → part_store env parts insts k m i ≡ Some (or_no_store (added_at env parts insts k))
   adds_at k m i is_part is_inst =
       let a = part_adds env parts insts allocated stores_are size k m i is_part is_inst in
       a.1 ∙ ap (λ o. Some (or_no_store o)) (sym (added_is env parts insts k m i a.0 is_part is_inst a.1))
@@ -120,18 +120,18 @@ module _ (env : Environment) (parts : List Part) (insts : List Inst) (are : inst
       (y.0, at_place t.globals a y.0 y.1, y.2.fixed fixed)
 
   -- what a part adds as its turn comes
-  pub store_same : (k : ℕ) (m : Module) (i : Inst) (t : Store) → Constants m → module_at parts k ≡ Some m → place insts k ≡ Some i → Holds env parts k allocated t → store_with (const_value t.globals i) m i ≡ Some (laid.adds k)
+  pub store_same : (k : ℕ) (m : Module) (i : Inst) (t : Store) → Constants m → module_at parts k ≡ Some m → slice_get insts k ≡ Some i → Holds env parts k allocated t → store_with (const_value t.globals i) m i ≡ Some (laid.adds k)
   store_same k m i t c is_part is_inst h = added_same env parts insts are allocated stores_are matched size there earlier k m i is_part is_inst c t (holds_as k t h) (laid.adds k) (adds_at k m i is_part is_inst)
 
-  pub store_is_part_store : (k : ℕ) (m : Module) (i : Inst) (t : Store) → Constants m → module_at parts k ≡ Some m → place insts k ≡ Some i → HoldsFixed env parts allocated k t → store_with (const_value t.globals i) m i ≡ part_store env parts insts k m i
+  pub store_is_part_store : (k : ℕ) (m : Module) (i : Inst) (t : Store) → Constants m → module_at parts k ≡ Some m → slice_get insts k ≡ Some i → HoldsFixed env parts allocated k t → store_with (const_value t.globals i) m i ≡ part_store env parts insts k m i
   store_is_part_store k m i t c is_part is_inst h = added_same env parts insts are allocated stores_are matched size there earlier k m i is_part is_inst c t h (laid.adds k) (adds_at k m i is_part is_inst) ∙ sym (adds_at k m i is_part is_inst)
 
   -- the value of a constant expression, where what is read has an end
-  pub const_same : (k : ℕ) (m : Module) (i : Inst) (t : Store) (e : ConstExpr) → module_at parts k ≡ Some m → place insts k ≡ Some i → HoldsFixed env parts allocated k t → Constant m e → (r : Read) → read_of parts k e ≡ Some r → const_value t.globals i e ≡ value_of env parts insts k e
+  pub const_same : (k : ℕ) (m : Module) (i : Inst) (t : Store) (e : ConstExpr) → module_at parts k ≡ Some m → slice_get insts k ≡ Some i → HoldsFixed env parts allocated k t → Constant m e → (r : Read) → read_of parts k e ≡ Some r → const_value t.globals i e ≡ value_of env parts insts k e
   const_same k m i t e is_part is_inst h c r reads = value_same env parts insts are allocated stores_are matched size there earlier k m i is_part is_inst t h e c r reads
 
   -- the next part's segments
-  pub next_filled : (k : ℕ) (m : Module) (i : Inst) (t : Store) → Constants m → module_at parts k ≡ Some m → place insts k ≡ Some i → FilledUpto env parts insts allocated k t → (segments env parts insts allocated).trapped ≡ false → Next env parts insts are allocated stores_are matched size there earlier k m i t (laid.adds k)
+  pub next_filled : (k : ℕ) (m : Module) (i : Inst) (t : Store) → Constants m → module_at parts k ≡ Some m → slice_get insts k ≡ Some i → FilledUpto env parts insts allocated k t → (segments env parts insts allocated).trapped ≡ false → Next env parts insts are allocated stores_are matched size there earlier k m i t (laid.adds k)
   next_filled k m i t c is_part is_inst h well = FillNext.filled_next env parts insts are allocated stores_are matched size there earlier k m i is_part is_inst t (laid.adds k) (adds_at k m i is_part is_inst) h c well
 
   -- ---- what is there after the first parts' segments ----

@@ -1,9 +1,9 @@
 -- Where each joined import leads to an earlier part, an import ends with what an earlier part defines, or with an import that stays.
-use Rattle.std.proofs.Common.{◌≡◌, ◌∙◌, refl, sym, ap, subst, ℕ, zero, suc, ◌+◌, ◌<◌, ◌≤◌, List, [], ◌∷◌, length, Option, Some, None, arith}
+use Rattle.std.proofs.Common.{◌≡◌, ◌∙◌, refl, sym, ap, subst, ℕ, zero, suc, ◌+◌, ◌<◌, ◌≤◌, List, [], ◌∷◌, length, Option, Some, None, arith, option_and_then, slice_get}
 use Rattle.wasm_tree.specs.declared.module.Import.{Import}
 use Rattle.wasm_tree.specs.declared.module.Module.{Module}
 use Rattle.wasm_meaning.specs.Paths.{Next, Ends, Goes, walk, walk_on}
-use Rattle.wasm_meaning.specs.Linking.{Part, Site, Entity, End, Defined, Outside, place, then_some, kind_of_export, index_of_export, imports_of, module_at, import_at, export_named, source_of, joined, imported_as, entity_step, joined_step, import_step, end_of, sites}
+use Rattle.wasm_meaning.specs.Linking.{Part, Site, Entity, End, Defined, Outside, kind_of_export, index_of_export, imports_of, module_at, import_at, export_named, source_of, joined, imported_as, entity_step, joined_step, import_step, end_of, sites}
 use Rattle.wasm_meaning.specs.World.{defined_count}
 use Rattle.wasm_meaning.specs.InTurn.{JoinsEarlier}
 use Rattle.worlds_in_turn.proofs.Things.{then_is, some_is}
@@ -21,7 +21,7 @@ pub data Low (parts : List Part) (p : ℕ) : End → Type 0 where
   inside : {e : Entity} → LowInside parts p e → Low parts p (Defined e)
   outside : {t : Site} → import_step parts t ≡ Some (Ends (Outside t)) → Low parts p (Outside t)
 
-past_end : {A : Type 0} (xs : List A) (n : ℕ) → place xs n ≡ None → length xs ≤ n
+past_end : {A : Type 0} (xs : List A) (n : ℕ) → slice_get xs n ≡ None → length xs ≤ n
 past_end [] n e = omega arith
 past_end (x ∷ xs) zero e = absurd (let k = e in cc)
 past_end (x ∷ xs) (suc n) e = let l = past_end xs n e in omega (arith, l)
@@ -53,7 +53,7 @@ module _ (parts : List Part) (there : ExportsThere parts) (earlier : JoinsEarlie
   low_walk (suc fuel) s end e = at (import_at parts s) refl (λ t end. low_walk fuel t end)
     where
       step_is : (i : Import) → import_at parts s ≡ Some i → import_step parts s ≡ Some (joined_step parts s (joined parts i))
-      step_is i h = ap (λ o. then_some o (λ i. Some (joined_step parts s (joined parts i)))) h
+      step_is i h = ap (λ o. option_and_then (λ i. Some (joined_step parts s (joined parts i))) o) h
 
       on : (n : Next Site End) → import_step parts s ≡ Some n → walk_on (walk (import_step parts) fuel) (Some n) ≡ Some end
       on n h = ap (walk_on (walk (import_step parts) fuel)) (sym h) ∙ e
@@ -64,19 +64,19 @@ module _ (parts : List Part) (there : ExportsThere parts) (earlier : JoinsEarlie
           let before = earlier s.part s.import a.0 i x a.1 a.2 j in
           let w = exported parts i x j in
           let low = there x.part w.of i.field x.what w.is_part w.named in
-          let none : then_some (place (imports_of (kind_of_export x.what) w.of) (index_of_export x.what)) (λ n. Some (record { part = x.part; import = n })) ≡ None =
-          sym (ap (λ o. then_some o (λ m. then_some (place (imports_of (kind_of_export x.what) m) (index_of_export x.what)) (λ n. Some (record { part = x.part; import = n })))) w.is_part) ∙ imp in
+          let none : option_and_then (λ n. Some (record { part = x.part; import = n })) (slice_get (imports_of (kind_of_export x.what) w.of) (index_of_export x.what)) ≡ None =
+          sym (ap (λ o. option_and_then (λ m. option_and_then (λ n. Some (record { part = x.part; import = n })) (slice_get (imports_of (kind_of_export x.what) m) (index_of_export x.what))) o) w.is_part) ∙ imp in
           let same : Defined x ≡ end = some_is (on (Ends (Defined x)) (step_is i h ∙ ap (λ o. Some (joined_step parts s o)) j ∙ ap (λ o. Some (entity_step x o)) imp)) in
           subst (Low parts s.part) same (inside (record { before = before; of = w.of; is_part = w.is_part; follows = past_end _ _ (then_none _ _ none); within = low }))
         where
-          then_none : {A B : Type 0} (o : Option A) (f : A → B) → then_some o (λ a. Some (f a)) ≡ None → o ≡ None
+          then_none : {A B : Type 0} (o : Option A) (f : A → B) → option_and_then (λ a. Some (f a)) o ≡ None → o ≡ None
           then_none None f e = refl
           then_none (Some a) f e = cc
       join i h x j (Some t) imp more =
           let a = then_is (module_at parts s.part) _ i h in
           let before = earlier s.part s.import a.0 i x a.1 a.2 j in
           let m = then_is (module_at parts x.part) _ t imp in
-          let n = then_is (place (imports_of (kind_of_export x.what) m.0) (index_of_export x.what)) _ t m.2 in
+          let n = then_is (slice_get (imports_of (kind_of_export x.what) m.0) (index_of_export x.what)) _ t m.2 in
           let part : x.part ≡ t.part = ap (λ z. z.part) (some_is n.2) in
           let far = more t end (on (Goes t) (step_is i h ∙ ap (λ o. Some (joined_step parts s o)) j ∙ ap (λ o. Some (entity_step x o)) imp)) in
           low_later parts t.part s.part end (omega (arith, before, part)) far
@@ -89,7 +89,7 @@ module _ (parts : List Part) (there : ExportsThere parts) (earlier : JoinsEarlie
       joins i h (Some x) j more = join i h x j (imported_as parts x) refl more
 
       at : (o : Option Import) → import_at parts s ≡ o → More fuel → Low parts s.part end
-      at None h more = absurd (let f : walk_on (walk (import_step parts) fuel) None ≡ Some end = ap (walk_on (walk (import_step parts) fuel)) (sym (ap (λ o. then_some o (λ i. Some (joined_step parts s (joined parts i)))) h)) ∙ e in cc)
+      at None h more = absurd (let f : walk_on (walk (import_step parts) fuel) None ≡ Some end = ap (walk_on (walk (import_step parts) fuel)) (sym (ap (λ o. option_and_then (λ i. Some (joined_step parts s (joined parts i))) o) h)) ∙ e in cc)
       at (Some i) h more = joins i h (joined parts i) refl more
 
   pub ends_low : (s : Site) (end : End) → end_of parts s ≡ Some end → Low parts s.part end

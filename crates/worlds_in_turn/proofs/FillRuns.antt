@@ -1,8 +1,6 @@
 -- Segments that are copied in turn, as a matter of two lists alone: what is written to, and the segments, which are dropped.
 -- What stands behind all that is written stays, and does not matter.
-use Rattle.std.proofs.Common.{◌≡◌, ◌∙◌, refl, sym, ap, ap₂, subst, ℕ, zero, suc, ◌-◌, ◌<◌, ◌≤◌, List, [], ◌∷◌, ◌++◌, length, Option, Some, None, append_assoc, arith}
-use Rattle.wasm_meaning.specs.Outcomes.{put}
-use Rattle.wasm_meaning.specs.Linking.{place, then_some}
+use Rattle.std.proofs.Common.{◌≡◌, ◌∙◌, refl, sym, ap, ap₂, subst, ℕ, zero, suc, ◌-◌, ◌<◌, ◌≤◌, List, [], ◌∷◌, ◌++◌, length, Option, Some, None, append_assoc, arith, option_and_then, slice_get, slice_set}
 use Rattle.worlds_in_turn.proofs.Things.{then_is, some_is}
 use Rattle.worlds_in_turn.proofs.FillValues.{place_within}
 
@@ -29,12 +27,12 @@ pub data KeptAll : List Job → List Job → Type 0 where
   kept_none : KeptAll [] []
   kept_more : {j k : Job} {js ks : List Job} → Kept j k → KeptAll js ks → KeptAll (j ∷ js) (k ∷ ks)
 
-put_length : {A : Type 0} (xs : List A) (n : ℕ) (v : A) → length (put xs n v) ≡ length xs
+put_length : {A : Type 0} (xs : List A) (n : ℕ) (v : A) → length (slice_set xs n v) ≡ length xs
 put_length [] n v = refl
 put_length (x ∷ xs) zero v = refl
 put_length (x ∷ xs) (suc n) v = ap suc (put_length xs n v)
 
-put_within : {A : Type 0} (xs ys : List A) (n : ℕ) (v : A) → n < length xs → put (xs ++ ys) n v ≡ put xs n v ++ ys
+put_within : {A : Type 0} (xs ys : List A) (n : ℕ) (v : A) → n < length xs → slice_set (xs ++ ys) n v ≡ slice_set xs n v ++ ys
 put_within [] ys n v l = absurd (omega (arith, l))
 put_within (x ∷ xs) ys zero v l = refl
 put_within (x ∷ xs) ys (suc n) v l = ap (λ l. x ∷ l) (put_within xs ys n v (omega (arith, l)))
@@ -42,17 +40,17 @@ put_within (x ∷ xs) ys (suc n) v l = ap (λ l. x ∷ l) (put_within xs ys n v 
 module _ (X Y : Type 0) (fill : X → Y → ℕ → Option X) (empty : Y) where
   abbrev pub run : Job → List X × List Y → Option (List X × List Y)
   run Skip c = Some c
-  run (Fill n target offset) c = then_some offset (λ o. then_some target (λ a. then_some (place c.0 a) (λ x. then_some (place c.1 n) (λ y. then_some (fill x y o) (λ z. Some (put c.0 a z, put c.1 n empty))))))
+  run (Fill n target offset) c = option_and_then (λ o. option_and_then (λ a. option_and_then (λ x. option_and_then (λ y. option_and_then (λ z. Some (slice_set c.0 a z, slice_set c.1 n empty)) (fill x y o)) (slice_get c.1 n)) (slice_get c.0 a)) target) offset
 
   abbrev pub runs : List Job → List X × List Y → Option (List X × List Y)
   runs [] c = Some c
-  runs (j ∷ js) c = then_some (run j c) (runs js)
+  runs (j ∷ js) c = option_and_then (runs js) (run j c)
 
-  pub runs_both : (js ks : List Job) (c : List X × List Y) → runs (js ++ ks) c ≡ then_some (runs js c) (runs ks)
+  pub runs_both : (js ks : List Job) (c : List X × List Y) → runs (js ++ ks) c ≡ option_and_then (runs ks) (runs js c)
   runs_both [] ks c = refl
   runs_both (j ∷ js) ks c = go (run j c) (runs_both js ks)
     where
-      go : (o : Option (List X × List Y)) → ((d : List X × List Y) → runs (js ++ ks) d ≡ then_some (runs js d) (runs ks)) → then_some o (runs (js ++ ks)) ≡ then_some (then_some o (runs js)) (runs ks)
+      go : (o : Option (List X × List Y)) → ((d : List X × List Y) → runs (js ++ ks) d ≡ option_and_then (runs ks) (runs js d)) → option_and_then (runs (js ++ ks)) o ≡ option_and_then (runs ks) (option_and_then (runs js) o)
       go None h = refl
       go (Some d) h = h d
 
@@ -71,21 +69,21 @@ module _ (X Y : Type 0) (fill : X → Y → ℕ → Option X) (empty : Y) where
   run_front xs us ys vs (Fill n target offset) (low_fill l f) d h =
       let o = then_is offset _ d h in
       let a = then_is target _ d o.2 in
-      let x = then_is (place (xs ++ us) a.0) _ d a.2 in
-      let y = then_is (place (ys ++ vs) n) _ d x.2 in
+      let x = then_is (slice_get (xs ++ us) a.0) _ d a.2 in
+      let y = then_is (slice_get (ys ++ vs) n) _ d x.2 in
       let z = then_is (fill x.0 y.0 o.0) _ d y.2 in
       let at_target = sym (place_within xs us a.0 (f a.0 a.1)) ∙ x.1 in
       let at_segment = sym (place_within ys vs n l) ∙ y.1 in
       record {
-        targets = put xs a.0 z.0;
-        segments = put ys n empty;
+        targets = slice_set xs a.0 z.0;
+        segments = slice_set ys n empty;
         is = front o.0 a.0 x.0 y.0 z.0 o.1 a.1 at_target at_segment z.1;
         whole = sym (some_is z.2) ∙ ap₂ (λ xs ys. (xs, ys)) (put_within xs us a.0 z.0 (f a.0 a.1)) (put_within ys vs n empty l);
         target_count = put_length xs a.0 z.0;
         segment_count = put_length ys n empty;
       }
     where
-      front : (o a : ℕ) (x : X) (y : Y) (z : X) → offset ≡ Some o → target ≡ Some a → place xs a ≡ Some x → place ys n ≡ Some y → fill x y o ≡ Some z → run (Fill n target offset) (xs, ys) ≡ Some (put xs a z, put ys n empty)
+      front : (o a : ℕ) (x : X) (y : Y) (z : X) → offset ≡ Some o → target ≡ Some a → slice_get xs a ≡ Some x → slice_get ys n ≡ Some y → fill x y o ≡ Some z → run (Fill n target offset) (xs, ys) ≡ Some (slice_set xs a z, slice_set ys n empty)
       front o a x y z e f g h k = rw (e, f, g, h, k) refl
 
   pub runs_front : (us : List X) (vs : List Y) (js : List Job) (targets segments : ℕ) → LowJobs targets segments js → (xs : List X) (ys : List Y) → length xs ≡ targets → length ys ≡ segments → (d : List X × List Y) → runs js (xs ++ us, ys ++ vs) ≡ Some d → Front xs us ys vs (runs js (xs, ys)) d
@@ -97,7 +95,7 @@ module _ (X Y : Type 0) (fill : X → Y → ℕ → Option X) (empty : Y) where
       record {
         targets = rest.targets;
         segments = rest.segments;
-        is = ap (λ o. then_some o (runs js)) first.is ∙ rest.is;
+        is = ap (λ o. option_and_then (runs js) o) first.is ∙ rest.is;
         whole = rest.whole;
         target_count = rest.target_count ∙ first.target_count;
         segment_count = rest.segment_count ∙ first.segment_count;
@@ -109,13 +107,13 @@ module _ (X Y : Type 0) (fill : X → Y → ℕ → Option X) (empty : Y) where
   run_kept kept_skip c d h = h
   run_kept (kept_fill {n = n} {target = target} {o = o} {p = p} f) c d h =
       let a = then_is o _ d h in
-      ap (λ o. then_some o (λ o. then_some target (λ a. then_some (place c.0 a) (λ x. then_some (place c.1 n) (λ y. then_some (fill x y o) (λ z. Some (put c.0 a z, put c.1 n empty))))))) (f a.0 a.1) ∙ a.2
+      ap (λ o. option_and_then (λ o. option_and_then (λ a. option_and_then (λ x. option_and_then (λ y. option_and_then (λ z. Some (slice_set c.0 a z, slice_set c.1 n empty)) (fill x y o)) (slice_get c.1 n)) (slice_get c.0 a)) target) o) (f a.0 a.1) ∙ a.2
 
   pub runs_kept : {js ks : List Job} → KeptAll js ks → (c d : List X × List Y) → runs js c ≡ Some d → runs ks c ≡ Some d
   runs_kept kept_none c d h = h
   runs_kept (kept_more {j = j} {k = k} {js = js} {ks = ks} e es) c d h =
       let a = then_is (run j c) (runs js) d h in
-      ap (λ o. then_some o (runs ks)) (run_kept e c a.0 a.1) ∙ runs_kept es a.0 d a.2
+      ap (λ o. option_and_then (runs ks) o) (run_kept e c a.0 a.1) ∙ runs_kept es a.0 d a.2
 
   -- ---- by part ----
 
@@ -140,18 +138,18 @@ module _ (X Y : Type 0) (fill : X → Y → ℕ → Option X) (empty : Y) where
     pub rest_skips : (count k : ℕ) → ((q : ℕ) → k ≤ q → (c : List X × List Y) → runs (jobs_of q) c ≡ Some c) → (c : List X × List Y) → runs (rest_jobs count k) c ≡ Some c
     rest_skips zero k h c = refl
     rest_skips (suc count) k h c =
-        runs_both (jobs_of k) (rest_jobs count (suc k)) c ∙ ap (λ o. then_some o (runs (rest_jobs count (suc k)))) (h k (omega arith) c) ∙ rest_skips count (suc k) (λ q l. h q (omega (arith, l))) c
+        runs_both (jobs_of k) (rest_jobs count (suc k)) c ∙ ap (λ o. option_and_then (runs (rest_jobs count (suc k))) o) (h k (omega arith) c) ∙ rest_skips count (suc k) (λ q l. h q (omega (arith, l))) c
 
     -- what the next part's do, where all of them are done
     pub next_runs : (n k : ℕ) → k < n → (a c d : List X × List Y) → runs (rest_jobs n 0) a ≡ Some d → runs (first_jobs k) a ≡ Some c → (e : List X × List Y) × (runs (jobs_of k) c ≡ Some e) × (runs (first_jobs (suc k)) a ≡ Some e)
     next_runs n k l a c d h first =
         let e : n - k ≡ suc (n - suc k) = omega (arith, l) in
         let split = jobs_split n k (omega (arith, l)) ∙ ap (λ c. first_jobs k ++ rest_jobs c k) e in
-        let all : runs (jobs_of k ++ rest_jobs (n - suc k) (suc k)) c ≡ Some d = sym (ap (λ o. then_some o (runs (jobs_of k ++ rest_jobs (n - suc k) (suc k)))) first) ∙ sym (runs_both (first_jobs k) (jobs_of k ++ rest_jobs (n - suc k) (suc k)) a) ∙ ap (λ js. runs js a) (sym split) ∙ h in
+        let all : runs (jobs_of k ++ rest_jobs (n - suc k) (suc k)) c ≡ Some d = sym (ap (λ o. option_and_then (runs (jobs_of k ++ rest_jobs (n - suc k) (suc k))) o) first) ∙ sym (runs_both (first_jobs k) (jobs_of k ++ rest_jobs (n - suc k) (suc k)) a) ∙ ap (λ js. runs js a) (sym split) ∙ h in
         let b = then_is (runs (jobs_of k) c) (runs (rest_jobs (n - suc k) (suc k))) d (sym (runs_both (jobs_of k) (rest_jobs (n - suc k) (suc k)) c) ∙ all) in
-        (b.0, b.1, runs_both (first_jobs k) (jobs_of k) a ∙ ap (λ o. then_some o (runs (jobs_of k))) first ∙ b.1)
+        (b.0, b.1, runs_both (first_jobs k) (jobs_of k) a ∙ ap (λ o. option_and_then (runs (jobs_of k)) o) first ∙ b.1)
 
     -- all are done, where the rest do nothing
     pub all_runs : (n k : ℕ) → k ≤ n → (a c : List X × List Y) → runs (first_jobs k) a ≡ Some c → ((q : ℕ) → k ≤ q → (c : List X × List Y) → runs (jobs_of q) c ≡ Some c) → runs (rest_jobs n 0) a ≡ Some c
     all_runs n k l a c first h =
-        ap (λ js. runs js a) (jobs_split n k l) ∙ runs_both (first_jobs k) (rest_jobs (n - k) k) a ∙ ap (λ o. then_some o (runs (rest_jobs (n - k) k))) first ∙ rest_skips (n - k) k h c
+        ap (λ js. runs js a) (jobs_split n k l) ∙ runs_both (first_jobs k) (rest_jobs (n - k) k) a ∙ ap (λ o. option_and_then (runs (rest_jobs (n - k) k)) o) first ∙ rest_skips (n - k) k h c

@@ -1,5 +1,5 @@
 -- Active segments that are copied as each part's turn comes do what they do where all parts are instantiated at once.
-use Rattle.std.proofs.Common.{◌≡◌, ◌∙◌, refl, sym, ap, ap₂, ℕ, suc, ◌+◌, ◌≤◌, List, [], ◌∷◌, ◌++◌, map, length, Option, Some, None, false, arith}
+use Rattle.std.proofs.Common.{◌≡◌, ◌∙◌, refl, sym, ap, ap₂, ℕ, suc, ◌+◌, ◌≤◌, List, [], ◌∷◌, ◌++◌, map, length, Option, Some, None, false, arith, option_and_then, slice_get}
 use Rattle.std.proofs.lemmas.List.{map-append}
 use Rattle.wasm_tree.specs.declared.module.ConstExpr.{ConstExpr}
 use Rattle.wasm_tree.specs.declared.module.ElemSeg.{ElemSeg}
@@ -7,7 +7,7 @@ use Rattle.wasm_tree.specs.declared.module.DataSeg.{DataSeg}
 use Rattle.wasm_tree.specs.declared.module.Module.{Module}
 use Rattle.wasm_meaning.specs.State.{Val, Inst, Table, Memory, Elem, Data, Store}
 use Rattle.wasm_meaning.specs.Step.{no_items, no_bytes}
-use Rattle.wasm_meaning.specs.Linking.{Part, place, then_some, module_at}
+use Rattle.wasm_meaning.specs.Linking.{Part, module_at}
 use Rattle.wasm_meaning.specs.Environment.{Environment}
 use Rattle.wasm_meaning.specs.World.{Filled, Task, own_store, stores_from, joined_stores, value_of, tasks_in, elem_tasks, data_tasks, and_then, in_turn, segments}
 use Rattle.wasm_meaning.specs.InTurn.{HasNoActive, own_segments}
@@ -54,10 +54,10 @@ or_no_jobs (Some js) = js
 module _ (env : Environment) (parts : List Part) (insts : List Inst) where
   -- the segments of part k
   abbrev pub elem_jobs_of : ℕ → List Job
-  elem_jobs_of k = or_no_jobs (then_some (module_at parts k) (λ m. then_some (place insts k) (λ i. Some (elem_jobs (value_of env parts insts k) i i.elems m.elems))))
+  elem_jobs_of k = or_no_jobs (option_and_then (λ m. option_and_then (λ i. Some (elem_jobs (value_of env parts insts k) i i.elems m.elems)) (slice_get insts k)) (module_at parts k))
 
   abbrev pub data_jobs_of : ℕ → List Job
-  data_jobs_of k = or_no_jobs (then_some (module_at parts k) (λ m. then_some (place insts k) (λ i. Some (data_jobs (value_of env parts insts k) i i.datas m.datas))))
+  data_jobs_of k = or_no_jobs (option_and_then (λ m. option_and_then (λ i. Some (data_jobs (value_of env parts insts k) i i.datas m.datas)) (slice_get insts k)) (module_at parts k))
 
   abbrev pub first_elems : ℕ → List Job
   first_elems = first_jobs Table Elem table_fill no_items elem_jobs_of
@@ -71,37 +71,37 @@ module _ (env : Environment) (parts : List Part) (insts : List Inst) where
   abbrev pub rest_datas : (count k : ℕ) → List Job
   rest_datas = rest_jobs Memory Data memory_fill no_bytes data_jobs_of
 
-  module _ (k : ℕ) (m : Module) (i : Inst) (is_part : module_at parts k ≡ Some m) (is_inst : place insts k ≡ Some i) where
+  module _ (k : ℕ) (m : Module) (i : Inst) (is_part : module_at parts k ≡ Some m) (is_inst : slice_get insts k ≡ Some i) where
     pub elem_jobs_at : elem_jobs_of k ≡ elem_jobs (value_of env parts insts k) i i.elems m.elems
-    elem_jobs_at = ap₂ (λ o p. or_no_jobs (then_some o (λ m. then_some p (λ i. Some (elem_jobs (value_of env parts insts k) i i.elems m.elems))))) is_part is_inst
+    elem_jobs_at = ap₂ (λ o p. or_no_jobs (option_and_then (λ m. option_and_then (λ i. Some (elem_jobs (value_of env parts insts k) i i.elems m.elems)) p) o)) is_part is_inst
 
     pub data_jobs_at : data_jobs_of k ≡ data_jobs (value_of env parts insts k) i i.datas m.datas
-    data_jobs_at = ap₂ (λ o p. or_no_jobs (then_some o (λ m. then_some p (λ i. Some (data_jobs (value_of env parts insts k) i i.datas m.datas))))) is_part is_inst
+    data_jobs_at = ap₂ (λ o p. or_no_jobs (option_and_then (λ m. option_and_then (λ i. Some (data_jobs (value_of env parts insts k) i i.datas m.datas)) p) o)) is_part is_inst
 
   -- the tasks of all parts, by part
-  elems_by_part : (p : ℕ) (ps : List Part) (is : List Inst) → ((q : ℕ) (m : Module) → module_at ps q ≡ Some m → module_at parts (p + q) ≡ Some m) → ((q : ℕ) → place is q ≡ place insts (p + q)) → length is ≡ length ps → map (elem_task_job (value_of env parts insts)) (elem_tasks p ps is) ≡ rest_elems (length ps) p
+  elems_by_part : (p : ℕ) (ps : List Part) (is : List Inst) → ((q : ℕ) (m : Module) → module_at ps q ≡ Some m → module_at parts (p + q) ≡ Some m) → ((q : ℕ) → slice_get is q ≡ slice_get insts (p + q)) → length is ≡ length ps → map (elem_task_job (value_of env parts insts)) (elem_tasks p ps is) ≡ rest_elems (length ps) p
   elems_by_part p [] [] f g e = refl
   elems_by_part p [] (i ∷ is) f g e = absurd (omega (arith, e))
   elems_by_part p (part ∷ ps) [] f g e = absurd (omega (arith, e))
   elems_by_part p (part ∷ ps) (i ∷ is) f g e =
       let z : p + 0 ≡ p = omega arith in
       let is_part : module_at parts p ≡ Some part.«module» = ap (module_at parts) (sym z) ∙ f 0 part.«module» refl in
-      let is_inst : place insts p ≡ Some i = ap (place insts) (sym z) ∙ sym (g 0) in
+      let is_inst : slice_get insts p ≡ Some i = ap (slice_get insts) (sym z) ∙ sym (g 0) in
       map-append (elem_task_job (value_of env parts insts)) (tasks_in p i i.elems part.«module».elems) (elem_tasks (suc p) ps is)
       ∙ ap₂ (λ xs ys. xs ++ ys) (elem_tasks_jobs (value_of env parts insts) p i i.elems part.«module».elems ∙ sym (elem_jobs_at p part.«module» i is_part is_inst))
-      (elems_by_part (suc p) ps is (λ q m h. ap (module_at parts) (let n : suc p + q ≡ p + suc q = omega arith in n) ∙ f (suc q) m h) (λ q. g (suc q) ∙ ap (place insts) (let n : p + suc q ≡ suc p + q = omega arith in n)) (omega (arith, e)))
+      (elems_by_part (suc p) ps is (λ q m h. ap (module_at parts) (let n : suc p + q ≡ p + suc q = omega arith in n) ∙ f (suc q) m h) (λ q. g (suc q) ∙ ap (slice_get insts) (let n : p + suc q ≡ suc p + q = omega arith in n)) (omega (arith, e)))
 
-  datas_by_part : (p : ℕ) (ps : List Part) (is : List Inst) → ((q : ℕ) (m : Module) → module_at ps q ≡ Some m → module_at parts (p + q) ≡ Some m) → ((q : ℕ) → place is q ≡ place insts (p + q)) → length is ≡ length ps → map (data_task_job (value_of env parts insts)) (data_tasks p ps is) ≡ rest_datas (length ps) p
+  datas_by_part : (p : ℕ) (ps : List Part) (is : List Inst) → ((q : ℕ) (m : Module) → module_at ps q ≡ Some m → module_at parts (p + q) ≡ Some m) → ((q : ℕ) → slice_get is q ≡ slice_get insts (p + q)) → length is ≡ length ps → map (data_task_job (value_of env parts insts)) (data_tasks p ps is) ≡ rest_datas (length ps) p
   datas_by_part p [] [] f g e = refl
   datas_by_part p [] (i ∷ is) f g e = absurd (omega (arith, e))
   datas_by_part p (part ∷ ps) [] f g e = absurd (omega (arith, e))
   datas_by_part p (part ∷ ps) (i ∷ is) f g e =
       let z : p + 0 ≡ p = omega arith in
       let is_part : module_at parts p ≡ Some part.«module» = ap (module_at parts) (sym z) ∙ f 0 part.«module» refl in
-      let is_inst : place insts p ≡ Some i = ap (place insts) (sym z) ∙ sym (g 0) in
+      let is_inst : slice_get insts p ≡ Some i = ap (slice_get insts) (sym z) ∙ sym (g 0) in
       map-append (data_task_job (value_of env parts insts)) (tasks_in p i i.datas part.«module».datas) (data_tasks (suc p) ps is)
       ∙ ap₂ (λ xs ys. xs ++ ys) (data_tasks_jobs (value_of env parts insts) p i i.datas part.«module».datas ∙ sym (data_jobs_at p part.«module» i is_part is_inst))
-      (datas_by_part (suc p) ps is (λ q m h. ap (module_at parts) (let n : suc p + q ≡ p + suc q = omega arith in n) ∙ f (suc q) m h) (λ q. g (suc q) ∙ ap (place insts) (let n : p + suc q ≡ suc p + q = omega arith in n)) (omega (arith, e)))
+      (datas_by_part (suc p) ps is (λ q m h. ap (module_at parts) (let n : suc p + q ≡ p + suc q = omega arith in n) ∙ f (suc q) m h) (λ q. g (suc q) ∙ ap (slice_get insts) (let n : p + suc q ≡ suc p + q = omega arith in n)) (omega (arith, e)))
 
   -- ---- the first k parts' segments ----
 
@@ -117,7 +117,7 @@ module _ (env : Environment) (parts : List Part) (insts : List Inst) where
   pub filled_holds : (allocated : Store) (k : ℕ) (t : Store) → FilledUpto allocated k t → HoldsFixed env parts allocated k t
   filled_holds allocated k t h a g low at fixed =
       let n = h.lengths.globals in
-      (g, sym (place_within t.globals (rest_from env parts insts k).globals a (omega (arith, low, n))) ∙ ap (λ l. place l a) (sym h.globals) ∙ at, refl)
+      (g, sym (place_within t.globals (rest_from env parts insts k).globals a (omega (arith, low, n))) ∙ ap (λ l. slice_get l a) (sym h.globals) ∙ at, refl)
 
   module _ (allocated : Store) (stores_are : stores_from env parts insts (own_store env) 0 parts insts ≡ Some allocated) (size : length insts ≡ length parts) where
     pub filled_none : FilledUpto allocated 0 (own_store env)
@@ -132,10 +132,10 @@ module _ (env : Environment) (parts : List Part) (insts : List Inst) where
         }
 
     pub all_elems : map (elem_task_job (value_of env parts insts)) (elem_tasks 0 parts insts) ≡ rest_elems (length parts) 0
-    all_elems = elems_by_part 0 parts insts (λ q m h. ap (module_at parts) (let n : 0 + q ≡ q = omega arith in n) ∙ h) (λ q. ap (place insts) (let n : q ≡ 0 + q = omega arith in n)) size
+    all_elems = elems_by_part 0 parts insts (λ q m h. ap (module_at parts) (let n : 0 + q ≡ q = omega arith in n) ∙ h) (λ q. ap (slice_get insts) (let n : q ≡ 0 + q = omega arith in n)) size
 
     pub all_datas : map (data_task_job (value_of env parts insts)) (data_tasks 0 parts insts) ≡ rest_datas (length parts) 0
-    all_datas = datas_by_part 0 parts insts (λ q m h. ap (module_at parts) (let n : 0 + q ≡ q = omega arith in n) ∙ h) (λ q. ap (place insts) (let n : q ≡ 0 + q = omega arith in n)) size
+    all_datas = datas_by_part 0 parts insts (λ q m h. ap (module_at parts) (let n : 0 + q ≡ q = omega arith in n) ∙ h) (λ q. ap (slice_get insts) (let n : q ≡ 0 + q = omega arith in n)) size
 
     -- where no part from k on has an active segment, nothing more is copied
     pub filled_all : (k : ℕ) (t : Store) → k ≤ length parts → FilledUpto allocated k t → ((q : ℕ) (m : Module) → k ≤ q → module_at parts q ≡ Some m → HasNoActive m) → segments env parts insts allocated ≡ record { store = joined_stores t (rest_from env parts insts k); trapped = false }
@@ -145,18 +145,18 @@ module _ (env : Environment) (parts : List Part) (insts : List Inst) where
         both_go (value_of env parts insts) (elem_tasks 0 parts insts) (data_tasks 0 parts insts) allocated _ _ (ap (λ js. elem_runs js (allocated.tables, allocated.elems)) all_elems ∙ es) (ap (λ js. data_runs js (allocated.mems, allocated.datas)) all_datas ∙ ds)
         ∙ ap₂ (λ funcs globals. record { store = record (joined_stores t (rest_from env parts insts k)) { funcs = funcs; globals = globals }; trapped = false }) filled.funcs filled.globals
       where
-        elem_inst : (q : ℕ) (m : Module) → HasNoActive m → (o : Option Inst) (c : List Table × List Elem) → elem_runs (or_no_jobs (then_some o (λ i. Some (elem_jobs (value_of env parts insts q) i i.elems m.elems)))) c ≡ Some c
+        elem_inst : (q : ℕ) (m : Module) → HasNoActive m → (o : Option Inst) (c : List Table × List Elem) → elem_runs (or_no_jobs (option_and_then (λ i. Some (elem_jobs (value_of env parts insts q) i i.elems m.elems)) o)) c ≡ Some c
         elem_inst q m h None c = refl
         elem_inst q m h (Some i) c = elems_skip (value_of env parts insts q) i i.elems m.elems h.elems c
 
         elem_none : (q : ℕ) (o : Option Module) → module_at parts q ≡ o → ((m : Module) → module_at parts q ≡ Some m → HasNoActive m) → (c : List Table × List Elem) → elem_runs (elem_jobs_of q) c ≡ Some c
-        elem_none q None e h c = ap (λ o. elem_runs (or_no_jobs (then_some o (λ m. then_some (place insts q) (λ i. Some (elem_jobs (value_of env parts insts q) i i.elems m.elems))))) c) e
-        elem_none q (Some m) e h c = ap (λ o. elem_runs (or_no_jobs (then_some o (λ m. then_some (place insts q) (λ i. Some (elem_jobs (value_of env parts insts q) i i.elems m.elems))))) c) e ∙ elem_inst q m (h m e) (place insts q) c
+        elem_none q None e h c = ap (λ o. elem_runs (or_no_jobs (option_and_then (λ m. option_and_then (λ i. Some (elem_jobs (value_of env parts insts q) i i.elems m.elems)) (slice_get insts q)) o)) c) e
+        elem_none q (Some m) e h c = ap (λ o. elem_runs (or_no_jobs (option_and_then (λ m. option_and_then (λ i. Some (elem_jobs (value_of env parts insts q) i i.elems m.elems)) (slice_get insts q)) o)) c) e ∙ elem_inst q m (h m e) (slice_get insts q) c
 
-        data_inst : (q : ℕ) (m : Module) → HasNoActive m → (o : Option Inst) (c : List Memory × List Data) → data_runs (or_no_jobs (then_some o (λ i. Some (data_jobs (value_of env parts insts q) i i.datas m.datas)))) c ≡ Some c
+        data_inst : (q : ℕ) (m : Module) → HasNoActive m → (o : Option Inst) (c : List Memory × List Data) → data_runs (or_no_jobs (option_and_then (λ i. Some (data_jobs (value_of env parts insts q) i i.datas m.datas)) o)) c ≡ Some c
         data_inst q m h None c = refl
         data_inst q m h (Some i) c = datas_skip (value_of env parts insts q) i i.datas m.datas h.datas c
 
         data_none : (q : ℕ) (o : Option Module) → module_at parts q ≡ o → ((m : Module) → module_at parts q ≡ Some m → HasNoActive m) → (c : List Memory × List Data) → data_runs (data_jobs_of q) c ≡ Some c
-        data_none q None e h c = ap (λ o. data_runs (or_no_jobs (then_some o (λ m. then_some (place insts q) (λ i. Some (data_jobs (value_of env parts insts q) i i.datas m.datas))))) c) e
-        data_none q (Some m) e h c = ap (λ o. data_runs (or_no_jobs (then_some o (λ m. then_some (place insts q) (λ i. Some (data_jobs (value_of env parts insts q) i i.datas m.datas))))) c) e ∙ data_inst q m (h m e) (place insts q) c
+        data_none q None e h c = ap (λ o. data_runs (or_no_jobs (option_and_then (λ m. option_and_then (λ i. Some (data_jobs (value_of env parts insts q) i i.datas m.datas)) (slice_get insts q)) o)) c) e
+        data_none q (Some m) e h c = ap (λ o. data_runs (or_no_jobs (option_and_then (λ m. option_and_then (λ i. Some (data_jobs (value_of env parts insts q) i i.datas m.datas)) (slice_get insts q)) o)) c) e ∙ data_inst q m (h m e) (slice_get insts q) c

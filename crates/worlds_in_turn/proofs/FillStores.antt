@@ -1,9 +1,9 @@
 -- The store of all parts at once is what the first of them add, then what the rest add.
-use Rattle.std.proofs.Common.{◌≡◌, ◌∙◌, refl, sym, ap, ap₂, subst, ℕ, zero, suc, ◌+◌, ◌-◌, ◌<◌, ◌≤◌, List, [], ◌∷◌, ◌++◌, map, length, Option, Some, None, append_assoc, arith}
+use Rattle.std.proofs.Common.{◌≡◌, ◌∙◌, refl, sym, ap, ap₂, subst, ℕ, zero, suc, ◌+◌, ◌-◌, ◌<◌, ◌≤◌, List, [], ◌∷◌, ◌++◌, map, length, Option, Some, None, append_assoc, arith, option_and_then, slice_get}
 use Rattle.wasm_tree.specs.declared.module.ConstExpr.{ConstExpr}
 use Rattle.wasm_tree.specs.declared.module.Module.{Module}
 use Rattle.wasm_meaning.specs.State.{Val, Inst, Store}
-use Rattle.wasm_meaning.specs.Linking.{Part, Kind, Functions, Tables, Memories, Globals, place, then_some, module_at}
+use Rattle.wasm_meaning.specs.Linking.{Part, Kind, Functions, Tables, Memories, Globals, module_at}
 use Rattle.wasm_meaning.specs.Environment.{Environment}
 use Rattle.wasm_meaning.specs.World.{base, defined_before, elems_before, datas_before, all_there, new_func, global_with, elem_with, store_with, part_store, joined_stores, own_store, stores_from}
 use Rattle.worlds_in_turn.proofs.Extends.{append_length}
@@ -63,7 +63,7 @@ adds value m i t h =
 module _ (env : Environment) (parts : List Part) (insts : List Inst) where
   -- what part k adds
   abbrev pub added_at : ℕ → Option Store
-  added_at k = then_some (module_at parts k) (λ m. then_some (place insts k) (λ i. part_store env parts insts k m i))
+  added_at k = option_and_then (λ m. option_and_then (λ i. part_store env parts insts k m i) (slice_get insts k)) (module_at parts k)
 
   -- what so many parts from k on add
   abbrev pub rest_for : (count k : ℕ) → Store
@@ -88,9 +88,9 @@ module _ (env : Environment) (parts : List Part) (insts : List Inst) where
     pub elems : length t.elems ≡ elems_before parts k
     pub datas : length t.datas ≡ datas_before parts k
 
-  module _ (k : ℕ) (m : Module) (i : Inst) (a : Store) (is_part : module_at parts k ≡ Some m) (is_inst : place insts k ≡ Some i) (is_added : part_store env parts insts k m i ≡ Some a) where
+  module _ (k : ℕ) (m : Module) (i : Inst) (a : Store) (is_part : module_at parts k ≡ Some m) (is_inst : slice_get insts k ≡ Some i) (is_added : part_store env parts insts k m i ≡ Some a) where
     pub added_is : added_at k ≡ Some a
-    added_is = ap (λ o. then_some o (λ m. then_some (place insts k) (λ i. part_store env parts insts k m i))) is_part ∙ ap (λ o. then_some o (λ i. part_store env parts insts k m i)) is_inst ∙ is_added
+    added_is = ap (λ o. option_and_then (λ m. option_and_then (λ i. part_store env parts insts k m i) (slice_get insts k)) o) is_part ∙ ap (λ o. option_and_then (λ i. part_store env parts insts k m i) o) is_inst ∙ is_added
 
     pub rest_next : rest_from k ≡ joined_stores a (rest_from (suc k))
     rest_next =
@@ -145,26 +145,26 @@ module _ (env : Environment) (parts : List Part) (insts : List Inst) where
 
   -- what the parts from p on add is there, and is the store's rest
   record From (s : Store) (p : ℕ) (ps : List Part) (is : List Inst) (u : Store) : Type 0 where
-    each : (q : ℕ) (m : Module) (i : Inst) → module_at ps q ≡ Some m → place is q ≡ Some i → (a : Store) × (part_store env parts insts (p + q) m i ≡ Some a)
+    each : (q : ℕ) (m : Module) (i : Inst) → module_at ps q ≡ Some m → slice_get is q ≡ Some i → (a : Store) × (part_store env parts insts (p + q) m i ≡ Some a)
     whole : u ≡ joined_stores s (rest_for (length ps) p)
 
-  from : (s : Store) (p : ℕ) (ps : List Part) (is : List Inst) (u : Store) → ((q : ℕ) (m : Module) → module_at ps q ≡ Some m → module_at parts (p + q) ≡ Some m) → ((q : ℕ) → place is q ≡ place insts (p + q)) → length is ≡ length ps → stores_from env parts insts s p ps is ≡ Some u → From s p ps is u
+  from : (s : Store) (p : ℕ) (ps : List Part) (is : List Inst) (u : Store) → ((q : ℕ) (m : Module) → module_at ps q ≡ Some m → module_at parts (p + q) ≡ Some m) → ((q : ℕ) → slice_get is q ≡ slice_get insts (p + q)) → length is ≡ length ps → stores_from env parts insts s p ps is ≡ Some u → From s p ps is u
   from s p [] [] u f g e h = record { each = λ q m i a b. absurd (let k = a in cc); whole = sym (some_is h) ∙ sym (joined_none s) }
   from s p [] (i ∷ is) u f g e h = absurd (omega (arith, e))
   from s p (part ∷ ps) [] u f g e h = absurd (omega (arith, e))
   from s p (part ∷ ps) (i ∷ is) u f g e h =
       let t = then_is (part_store env parts insts p part.«module» i) _ u h in
       let z : p + 0 ≡ p = omega arith in
-      let more = from (joined_stores s t.0) (suc p) ps is u (λ q m h. ap (module_at parts) (let n : suc p + q ≡ p + suc q = omega arith in n) ∙ f (suc q) m h) (λ q. g (suc q) ∙ ap (place insts) (let n : p + suc q ≡ suc p + q = omega arith in n)) (omega (arith, e)) t.2 in
+      let more = from (joined_stores s t.0) (suc p) ps is u (λ q m h. ap (module_at parts) (let n : suc p + q ≡ p + suc q = omega arith in n) ∙ f (suc q) m h) (λ q. g (suc q) ∙ ap (slice_get insts) (let n : p + suc q ≡ suc p + q = omega arith in n)) (omega (arith, e)) t.2 in
       let is_part : module_at parts p ≡ Some part.«module» = ap (module_at parts) (sym z) ∙ f 0 part.«module» refl in
-      let is_inst : place insts p ≡ Some i = ap (place insts) (sym z) ∙ sym (g 0) in
+      let is_inst : slice_get insts p ≡ Some i = ap (slice_get insts) (sym z) ∙ sym (g 0) in
       let here = added_is p part.«module» i t.0 is_part is_inst t.1 in
       record {
         each = at t.0 t.1 more.each;
         whole = more.whole ∙ joined_twice s t.0 (rest_for (length ps) (suc p)) ∙ ap (λ o. joined_stores s (joined_stores (or_no_store o) (rest_for (length ps) (suc p)))) (sym here);
       }
     where
-      at : (t : Store) → part_store env parts insts p part.«module» i ≡ Some t → ((q : ℕ) (m : Module) (j : Inst) → module_at ps q ≡ Some m → place is q ≡ Some j → (a : Store) × (part_store env parts insts (suc p + q) m j ≡ Some a)) → (q : ℕ) (m : Module) (j : Inst) → module_at (part ∷ ps) q ≡ Some m → place (i ∷ is) q ≡ Some j → (a : Store) × (part_store env parts insts (p + q) m j ≡ Some a)
+      at : (t : Store) → part_store env parts insts p part.«module» i ≡ Some t → ((q : ℕ) (m : Module) (j : Inst) → module_at ps q ≡ Some m → slice_get is q ≡ Some j → (a : Store) × (part_store env parts insts (suc p + q) m j ≡ Some a)) → (q : ℕ) (m : Module) (j : Inst) → module_at (part ∷ ps) q ≡ Some m → slice_get (i ∷ is) q ≡ Some j → (a : Store) × (part_store env parts insts (p + q) m j ≡ Some a)
       at t h more zero m j a b =
           let z : p + 0 ≡ p = omega arith in
           (t, ap (λ n. part_store env parts insts n m j) z ∙ ap₂ (part_store env parts insts p) (sym (some_is a)) (sym (some_is b)) ∙ h)
@@ -175,9 +175,9 @@ module _ (env : Environment) (parts : List Part) (insts : List Inst) where
 
   module _ (allocated : Store) (stores_are : stores_from env parts insts (own_store env) 0 parts insts ≡ Some allocated) (size : length insts ≡ length parts) where
     all_from : From (own_store env) 0 parts insts allocated
-    all_from = from (own_store env) 0 parts insts allocated (λ q m h. ap (module_at parts) (let n : 0 + q ≡ q = omega arith in n) ∙ h) (λ q. ap (place insts) (let n : q ≡ 0 + q = omega arith in n)) size stores_are
+    all_from = from (own_store env) 0 parts insts allocated (λ q m h. ap (module_at parts) (let n : 0 + q ≡ q = omega arith in n) ∙ h) (λ q. ap (slice_get insts) (let n : q ≡ 0 + q = omega arith in n)) size stores_are
 
-    pub part_adds : (k : ℕ) (m : Module) (i : Inst) → module_at parts k ≡ Some m → place insts k ≡ Some i → (a : Store) × (part_store env parts insts k m i ≡ Some a)
+    pub part_adds : (k : ℕ) (m : Module) (i : Inst) → module_at parts k ≡ Some m → slice_get insts k ≡ Some i → (a : Store) × (part_store env parts insts k m i ≡ Some a)
     part_adds k m i is_part is_inst =
         let r = all_from.each k m i is_part is_inst in
         let z : 0 + k ≡ k = omega arith in
@@ -187,10 +187,10 @@ module _ (env : Environment) (parts : List Part) (insts : List Inst) where
     allocated_whole = let n : length parts ≡ length parts - 0 = omega arith in all_from.whole ∙ ap (λ n. joined_stores (own_store env) (rest_for n 0)) n
 
     -- each part has its instance
-    pub inst_there : (k : ℕ) → k < length parts → (m : Module) × (i : Inst) × (module_at parts k ≡ Some m) × (place insts k ≡ Some i)
+    pub inst_there : (k : ℕ) → k < length parts → (m : Module) × (i : Inst) × (module_at parts k ≡ Some m) × (slice_get insts k ≡ Some i)
     inst_there = go parts insts size
       where
-        go : (ps : List Part) (is : List Inst) → length is ≡ length ps → (k : ℕ) → k < length ps → (m : Module) × (i : Inst) × (module_at ps k ≡ Some m) × (place is k ≡ Some i)
+        go : (ps : List Part) (is : List Inst) → length is ≡ length ps → (k : ℕ) → k < length ps → (m : Module) × (i : Inst) × (module_at ps k ≡ Some m) × (slice_get is k ≡ Some i)
         go [] is e k l = absurd (omega (arith, l))
         go (p ∷ ps) [] e k l = absurd (omega (arith, e))
         go (p ∷ ps) (i ∷ is) e zero l = (p.«module», i, refl, refl)

@@ -1,15 +1,14 @@
 -- Active segments of elements are a matter of tables and of segments of elements alone.
-use Rattle.std.proofs.Common.{◌≡◌, ◌∙◌, refl, ap, ℕ, suc, ◌<◌, List, [], ◌∷◌, map, Option, Some, None, true, false, cond}
+use Rattle.std.proofs.Common.{◌≡◌, ◌∙◌, refl, ap, ℕ, suc, ◌<◌, List, [], ◌∷◌, map, Option, Some, None, true, false, cond, option_and_then, slice_get, slice_set}
 use Rattle.wasm_tree.specs.declared.module.ConstExpr.{ConstExpr}
 use Rattle.wasm_tree.specs.declared.module.ElemSeg.{ElemSeg}
 use Rattle.wasm_tree.specs.declared.module.ElemMode.{ElemMode}
 use Rattle.wasm_tree.specs.declared.module.ElemMode.TheVariants as elem
 use Rattle.wasm_num.specs.Operations.{W32}
-use Rattle.wasm_meaning.specs.Outcomes.{Outcome, Gives, Traps, IllTyped, overwrite, put}
+use Rattle.wasm_meaning.specs.Outcomes.{Outcome, Gives, Traps, IllTyped, overwrite}
 use Rattle.wasm_meaning.specs.State.{RefVal, Val, Inst, Table, Elem, Store}
 use Rattle.wasm_meaning.specs.Values.{num_of}
 use Rattle.wasm_meaning.specs.Step.{no_items}
-use Rattle.wasm_meaning.specs.Linking.{place, then_some}
 use Rattle.wasm_meaning.specs.Environment.{any_of}
 use Rattle.wasm_meaning.specs.World.{Filled, Task, given, tasks_in, or_trapped, fill_table, run_elem_with, and_then, in_turn}
 use Rattle.wasm_meaning.specs.InTurn.{is_active_elem}
@@ -29,14 +28,14 @@ pub turned_not : {X Y : Type 0} {set : List X × List Y → Store} {o : Option (
 turned_not (goes_on {c = c}) e = (c, refl)
 turned_not stops e = absurd (let k = e in cc)
 
-pub or_turned : {A X Y : Type 0} (set : List X × List Y → Store) (s : Store) (o : Option A) (g : A → Option (List X × List Y)) (f : A → Option Filled) → ((a : A) → Turned set (g a) (or_trapped s (f a))) → Turned set (then_some o g) (or_trapped s (then_some o f))
+pub or_turned : {A X Y : Type 0} (set : List X × List Y → Store) (s : Store) (o : Option A) (g : A → Option (List X × List Y)) (f : A → Option Filled) → ((a : A) → Turned set (g a) (or_trapped s (f a))) → Turned set (option_and_then g o) (or_trapped s (option_and_then f o))
 or_turned set s None g f h = stops
 or_turned set s (Some a) g f h = h a
 
 -- ---- elements ----
 
 abbrev pub table_fill : Table → Elem → ℕ → Option Table
-table_fill t e n = then_some (given (overwrite t.slots n e.items)) (λ slots. Some (record t { slots = slots }))
+table_fill t e n = option_and_then (λ slots. Some (record t { slots = slots })) (given (overwrite t.slots n e.items))
 
 abbrev pub with_tables : Store → List Table × List Elem → Store
 with_tables s c = record s { tables = c.0; elems = c.1 }
@@ -45,7 +44,7 @@ abbrev pub elem_runs : List Job → List Table × List Elem → Option (List Tab
 elem_runs = runs Table Elem table_fill no_items
 
 abbrev pub elem_job : (ConstExpr → Option Val) → Inst → ℕ → ElemMode → Job
-elem_job value i n (elem.Active x offset) = Fill n (place i.tables x) (then_some (value offset) (λ v. given (num_of W32 v)))
+elem_job value i n (elem.Active x offset) = Fill n (slice_get i.tables x) (option_and_then (λ v. given (num_of W32 v)) (value offset))
 elem_job value i n elem.Passive = Skip
 elem_job value i n elem.Declarative = Skip
 
@@ -63,9 +62,9 @@ elem_turned_one : (value : ConstExpr → Option Val) (s : Store) (task : Task El
 elem_turned_one value s task elem.Passive = goes_on
 elem_turned_one value s task elem.Declarative = goes_on
 elem_turned_one value s task (elem.Active x offset) =
-    or_turned (with_tables s) s (then_some (value offset) (λ v. given (num_of W32 v))) _ _ (λ n. or_turned (with_tables s) s (place task.inst.tables x) _ _ (λ a. or_turned (with_tables s) s (place s.tables a) _ _ (λ t. or_turned (with_tables s) s (place s.elems task.address) _ _ (λ e. last a t (overwrite t.slots n e.items)))))
+    or_turned (with_tables s) s (option_and_then (λ v. given (num_of W32 v)) (value offset)) _ _ (λ n. or_turned (with_tables s) s (slice_get task.inst.tables x) _ _ (λ a. or_turned (with_tables s) s (slice_get s.tables a) _ _ (λ t. or_turned (with_tables s) s (slice_get s.elems task.address) _ _ (λ e. last a t (overwrite t.slots n e.items)))))
   where
-    last : (a : ℕ) (t : Table) (o : Outcome (List RefVal)) → Turned (with_tables s) (then_some (then_some (given o) (λ slots. Some (record t { slots = slots }))) (λ z. Some (put s.tables a z, put s.elems task.address no_items))) (fill_table s task.address a t o)
+    last : (a : ℕ) (t : Table) (o : Outcome (List RefVal)) → Turned (with_tables s) (option_and_then (λ z. Some (slice_set s.tables a z, slice_set s.elems task.address no_items)) (option_and_then (λ slots. Some (record t { slots = slots })) (given o))) (fill_table s task.address a t o)
     last a t (Gives slots) = goes_on
     last a t Traps = stops
     last a t IllTyped = stops
@@ -75,7 +74,7 @@ elems_turned value [] s = goes_on
 elems_turned value (task ∷ tasks) s = go (elem_turned_one (value task.part) s task task.segment.mode) (elems_turned value tasks)
   where
     go : {o : Option (List Table × List Elem)} {f : Filled} → Turned (with_tables s) o f → ((u : Store) → Turned (with_tables u) (elem_runs (map (elem_task_job value) tasks) (u.tables, u.elems)) (in_turn (elem_turn value) u tasks)) →
-        Turned (with_tables s) (then_some o (elem_runs (map (elem_task_job value) tasks))) (and_then f (λ s. in_turn (elem_turn value) s tasks))
+        Turned (with_tables s) (option_and_then (elem_runs (map (elem_task_job value) tasks)) o) (and_then f (λ s. in_turn (elem_turn value) s tasks))
     go (goes_on {c = c}) h = h (with_tables s c)
     go stops h = stops
 
@@ -94,7 +93,7 @@ elems_skip value i (n ∷ ns) (e ∷ es) h c = go e.mode h (elems_skip value i n
     go elem.Passive h more = more h c
     go elem.Declarative h more = more h c
 
-pub elems_low : (value : ConstExpr → Option Val) (i : Inst) (targets segments : ℕ) → ((x a : ℕ) → place i.tables x ≡ Some a → a < targets) → (ns : List ℕ) (es : List ElemSeg) → ((x a : ℕ) → place ns x ≡ Some a → a < segments) → LowJobs targets segments (elem_jobs value i ns es)
+pub elems_low : (value : ConstExpr → Option Val) (i : Inst) (targets segments : ℕ) → ((x a : ℕ) → slice_get i.tables x ≡ Some a → a < targets) → (ns : List ℕ) (es : List ElemSeg) → ((x a : ℕ) → slice_get ns x ≡ Some a → a < segments) → LowJobs targets segments (elem_jobs value i ns es)
 elems_low value i targets segments f [] es g = low_none
 elems_low value i targets segments f (n ∷ ns) [] g = low_none
 elems_low value i targets segments f (n ∷ ns) (e ∷ es) g = low_more (one e.mode) (elems_low value i targets segments f ns es (λ x a h. g (suc x) a h))
@@ -104,12 +103,12 @@ elems_low value i targets segments f (n ∷ ns) (e ∷ es) g = low_more (one e.m
     one elem.Passive = low_skip
     one elem.Declarative = low_skip
 
-pub elems_kept : (v w : ConstExpr → Option Val) (i : Inst) (ns : List ℕ) (es : List ElemSeg) → ((n : ℕ) (s : ElemSeg) (x : _) (e : ConstExpr) → place es n ≡ Some s → s.mode ≡ elem.Active x e → (u : Val) → v e ≡ Some u → w e ≡ Some u) → KeptAll (elem_jobs v i ns es) (elem_jobs w i ns es)
+pub elems_kept : (v w : ConstExpr → Option Val) (i : Inst) (ns : List ℕ) (es : List ElemSeg) → ((n : ℕ) (s : ElemSeg) (x : _) (e : ConstExpr) → slice_get es n ≡ Some s → s.mode ≡ elem.Active x e → (u : Val) → v e ≡ Some u → w e ≡ Some u) → KeptAll (elem_jobs v i ns es) (elem_jobs w i ns es)
 elems_kept v w i [] es h = kept_none
 elems_kept v w i (n ∷ ns) [] h = kept_none
 elems_kept v w i (n ∷ ns) (e ∷ es) h = kept_more (one e.mode refl) (elems_kept v w i ns es (λ n s x e at m u k. h (suc n) s x e at m u k))
   where
     one : (mode : ElemMode) → e.mode ≡ mode → Kept (elem_job v i n mode) (elem_job w i n mode)
-    one (elem.Active x offset) m = kept_fill (λ a k. let u = then_is (v offset) _ a k in ap (λ o. then_some o (λ v. given (num_of W32 v))) (h 0 e x offset refl m u.0 u.1) ∙ u.2)
+    one (elem.Active x offset) m = kept_fill (λ a k. let u = then_is (v offset) _ a k in ap (λ o. option_and_then (λ v. given (num_of W32 v)) o) (h 0 e x offset refl m u.0 u.1) ∙ u.2)
     one elem.Passive m = kept_skip
     one elem.Declarative m = kept_skip

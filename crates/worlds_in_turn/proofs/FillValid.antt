@@ -1,5 +1,5 @@
 -- What valid parts give: their constant expressions read imports that are not mutable, and what they export is there.
-use Rattle.std.proofs.Common.{◌≡◌, ◌∙◌, refl, sym, ap, subst, ℕ, zero, suc, ◌+◌, ◌<◌, List, [], ◌∷◌, ◌++◌, map, length, Option, Some, None, Bool, true, false, cond, arith}
+use Rattle.std.proofs.Common.{◌≡◌, ◌∙◌, refl, sym, ap, subst, ℕ, zero, suc, ◌+◌, ◌<◌, List, [], ◌∷◌, ◌++◌, map, length, Option, Some, None, Bool, true, false, cond, arith, option_and_then}
 use Rattle.std.specs.Prelude.{◌↔◌, ◌&&◌, not, nat_lt, slice_get}
 use Rattle.std.specs.List.{filter_map, cons_option}
 use Rattle.std.proofs.lemmas.Bool.{ltb-true}
@@ -18,13 +18,13 @@ use Rattle.wasm_tree.specs.declared.module.ElemSeg.{ElemSeg}
 use Rattle.wasm_tree.specs.declared.module.DataSeg.{DataSeg}
 use Rattle.wasm_tree.specs.declared.module.Module.{Module}
 use Rattle.wasm_tree.specs.Spaces.{func_of, table_of, memory_of, global_of, imported_globals, globals_of}
-use Rattle.wasm_typing.specs.Typing.{then_option, only}
+use Rattle.wasm_typing.specs.Typing.{only}
 use Rattle.wasm_valid.specs.declared.kinds.ItemKind.{ItemKind}
 use Rattle.wasm_valid.specs.declared.kinds.ItemKind.TheVariants as kind
 use Rattle.wasm_valid.specs.Constants.{const_type}
 use Rattle.wasm_valid.specs.Validity.{IsValid, HoldsAt, count_of, InSpace, ElemModeHolds, DataModeHolds}
 use Rattle.wasm_meaning.specs.State.{Text}
-use Rattle.wasm_meaning.specs.Linking.{Part, Kind, Functions, Tables, Memories, Globals, place, places, has_kind, same_kind, same_text, kind_of_import, kind_of_export, index_of_export, imports_of, module_at, export_named}
+use Rattle.wasm_meaning.specs.Linking.{Part, Kind, Functions, Tables, Memories, Globals, places, has_kind, same_kind, same_text, kind_of_import, kind_of_export, index_of_export, imports_of, module_at, export_named}
 use Rattle.wasm_meaning.specs.World.{is_there, defined_count}
 use Rattle.worlds_in_turn.proofs.Extends.{append_length}
 use Rattle.worlds_in_turn.proofs.Things.{some_is}
@@ -35,7 +35,7 @@ use Rattle.worlds_in_turn.proofs.FillAdded.{Constants}
 
 -- ---- lists ----
 
-place_get : {A : Type 0} (xs : List A) (n : ℕ) → place xs n ≡ slice_get xs n
+place_get : {A : Type 0} (xs : List A) (n : ℕ) → slice_get xs n ≡ slice_get xs n
 place_get [] n = refl
 place_get (x ∷ xs) zero = refl
 place_get (x ∷ xs) (suc n) = place_get xs n
@@ -91,8 +91,8 @@ record Imported (is : List Import) (off x : ℕ) (rest : List GlobalType) : Type
   at : ℕ
   import : Import
   type : GlobalType
-  is_place : place (places (has_kind Globals) is off) x ≡ Some (off + at)
-  is_import : place is at ≡ Some import
+  is_place : slice_get (places (has_kind Globals) is off) x ≡ Some (off + at)
+  is_import : slice_get is at ≡ Some import
   is_global : import.desc ≡ im.Global type
   in_space : slice_get (imported_globals is ++ rest) x ≡ Some type
 
@@ -103,14 +103,14 @@ imported (i ∷ is) off x rest l = go i.desc refl x l (imported is (suc off))
     abbrev_found : ImportDesc → List ℕ
     abbrev_found d = cond (same_kind Globals (kind_of_import d)) (off ∷ places (has_kind Globals) is (suc off)) (places (has_kind Globals) is (suc off))
 
-    past : (d : ImportDesc) → i.desc ≡ d → (y : ℕ) → Imported is (suc off) y rest → (x : ℕ) → ((at : ℕ) → place (places (has_kind Globals) is (suc off)) y ≡ Some at → place (abbrev_found d) x ≡ Some at) → ((t : GlobalType) → slice_get (imported_globals is ++ rest) y ≡ Some t → slice_get (cons_option (global_of d) (imported_globals is) ++ rest) x ≡ Some t) → Imported (i ∷ is) off x rest
+    past : (d : ImportDesc) → i.desc ≡ d → (y : ℕ) → Imported is (suc off) y rest → (x : ℕ) → ((at : ℕ) → slice_get (places (has_kind Globals) is (suc off)) y ≡ Some at → slice_get (abbrev_found d) x ≡ Some at) → ((t : GlobalType) → slice_get (imported_globals is ++ rest) y ≡ Some t → slice_get (cons_option (global_of d) (imported_globals is) ++ rest) x ≡ Some t) → Imported (i ∷ is) off x rest
     past d e y r x f g =
         let z : suc off + r.at ≡ off + suc r.at = omega arith in
         record {
           at = suc r.at;
           import = r.import;
           type = r.type;
-          is_place = ap (λ d. place (abbrev_found d) x) e ∙ f (suc off + r.at) r.is_place ∙ ap Some z;
+          is_place = ap (λ d. slice_get (abbrev_found d) x) e ∙ f (suc off + r.at) r.is_place ∙ ap Some z;
           is_import = r.is_import;
           is_global = r.is_global;
           in_space = ap (λ d. slice_get (cons_option (global_of d) (imported_globals is) ++ rest) x) e ∙ g r.type r.in_space;
@@ -126,7 +126,7 @@ imported (i ∷ is) off x rest l = go i.desc refl x l (imported is (suc off))
           at = 0;
           import = i;
           type = t;
-          is_place = ap (λ d. place (abbrev_found d) 0) e ∙ ap Some z;
+          is_place = ap (λ d. slice_get (abbrev_found d) 0) e ∙ ap Some z;
           is_import = refl;
           is_global = e;
           in_space = ap (λ d. slice_get (cons_option (global_of d) (imported_globals is) ++ rest) 0) e;
@@ -144,7 +144,7 @@ constant_typed m e ty h x is = go (slice_get (globals_of m) x) refl (ap (const_t
     only_is true o a e = refl
     only_is false o a e = cc
 
-    go : (o : Option GlobalType) → slice_get (globals_of m) x ≡ o → then_option o (λ g. only (nat_lt x (length (imported_globals m.imports)) && not g.mutable) (Some g.ty)) ≡ Some ty → ReadsImport m x
+    go : (o : Option GlobalType) → slice_get (globals_of m) x ≡ o → option_and_then (λ g. only (nat_lt x (length (imported_globals m.imports)) && not g.mutable) (Some g.ty)) o ≡ Some ty → ReadsImport m x
     go None at e = absurd (let k = e in cc)
     go (Some g) at e =
         let both = both_true (nat_lt x (length (imported_globals m.imports))) (not g.mutable) (only_is _ (Some g.ty) ty e) in
@@ -170,19 +170,19 @@ module _ (items : (m : Module) → IsValid m ↔ ((k : ItemKind) (i : ℕ) → i
     memories = λ n s x e at mode. let h = subst (DataModeHolds m) mode (data_holds n s at) in constant_typed m e _ h.1;
   }
     where
-      global_typed : (n : ℕ) (g : GlobalDef) → place m.globals n ≡ Some g → const_type m g.init ≡ Some g.ty.ty
+      global_typed : (n : ℕ) (g : GlobalDef) → slice_get m.globals n ≡ Some g → const_type m g.init ≡ Some g.ty.ty
       global_typed n g h =
           let z = (items m).0 valid kind.Global n (place_low m.globals n g h) in
           let same : z.0 ≡ g = some_is (sym z.1 ∙ sym (place_get m.globals n) ∙ h) in
           subst (λ (g : GlobalDef). const_type m g.init ≡ Some g.ty.ty) same z.2
 
-      elem_holds : (n : ℕ) (s : ElemSeg) → place m.elems n ≡ Some s → ((l : ℕ) (e : ConstExpr) → slice_get s.items l ≡ Some e → const_type m e ≡ Some (Ref s.ty)) × ElemModeHolds m s.ty s.mode
+      elem_holds : (n : ℕ) (s : ElemSeg) → slice_get m.elems n ≡ Some s → ((l : ℕ) (e : ConstExpr) → slice_get s.items l ≡ Some e → const_type m e ≡ Some (Ref s.ty)) × ElemModeHolds m s.ty s.mode
       elem_holds n s h =
           let z = (items m).0 valid kind.Elem n (place_low m.elems n s h) in
           let same : z.0 ≡ s = some_is (sym z.1 ∙ sym (place_get m.elems n) ∙ h) in
           subst (λ (s : ElemSeg). ((l : ℕ) (e : ConstExpr) → slice_get s.items l ≡ Some e → const_type m e ≡ Some (Ref s.ty)) × ElemModeHolds m s.ty s.mode) same (z.2, z.3)
 
-      data_holds : (n : ℕ) (s : DataSeg) → place m.datas n ≡ Some s → DataModeHolds m s.mode
+      data_holds : (n : ℕ) (s : DataSeg) → slice_get m.datas n ≡ Some s → DataModeHolds m s.mode
       data_holds n s h =
           let z = (items m).0 valid kind.Segment n (place_low m.datas n s h) in
           let same : z.0 ≡ s = some_is (sym z.1 ∙ sym (place_get m.datas n) ∙ h) in
@@ -190,11 +190,11 @@ module _ (items : (m : Module) → IsValid m ↔ ((k : ItemKind) (i : ℕ) → i
 
   -- ---- exports ----
 
-  export_found : (es : List Export) (field : Text) (d : ExportDesc) → export_named es field ≡ Some d → (n : ℕ) × (e : Export) × (place es n ≡ Some e) × (e.desc ≡ d)
+  export_found : (es : List Export) (field : Text) (d : ExportDesc) → export_named es field ≡ Some d → (n : ℕ) × (e : Export) × (slice_get es n ≡ Some e) × (e.desc ≡ d)
   export_found [] field d h = absurd (let k = h in cc)
   export_found (e ∷ es) field d h = go (same_text e.name field) h (export_found es field d)
     where
-      go : (b : Bool) → cond b (Some e.desc) (export_named es field) ≡ Some d → (export_named es field ≡ Some d → (n : ℕ) × (e : Export) × (place es n ≡ Some e) × (e.desc ≡ d)) → (n : ℕ) × (f : Export) × (place (e ∷ es) n ≡ Some f) × (f.desc ≡ d)
+      go : (b : Bool) → cond b (Some e.desc) (export_named es field) ≡ Some d → (export_named es field ≡ Some d → (n : ℕ) × (e : Export) × (slice_get es n ≡ Some e) × (e.desc ≡ d)) → (n : ℕ) × (f : Export) × (slice_get (e ∷ es) n ≡ Some f) × (f.desc ≡ d)
       go true h more = (0, e, refl, some_is h)
       go false h more = let r = more h in (suc r.0, r.1, r.2, r.3)
 

@@ -1,8 +1,8 @@
 -- What the run in turn asks of stores whose first parts' segments were copied.
-use Rattle.std.proofs.Common.{◌≡◌, ◌∙◌, sym, ap, subst, ℕ, zero, suc, ◌+◌, ◌-◌, ◌≤◌, List, length, Some, false, arith}
+use Rattle.std.proofs.Common.{◌≡◌, ◌∙◌, sym, ap, subst, ℕ, zero, suc, ◌+◌, ◌-◌, ◌≤◌, List, length, Some, false, arith, slice_get}
 use Rattle.wasm_tree.specs.declared.module.Module.{Module}
 use Rattle.wasm_meaning.specs.State.{Text, Inst, Store}
-use Rattle.wasm_meaning.specs.Linking.{place, module_at}
+use Rattle.wasm_meaning.specs.Linking.{module_at}
 use Rattle.wasm_meaning.specs.Environment.{Environment, Thing}
 use Rattle.wasm_meaning.specs.World.{World, own_store, stores_from, const_value, joined_stores, all_there, seen_as, segments}
 use Rattle.wasm_meaning.specs.Below.{BelowIsNotSeen}
@@ -33,7 +33,7 @@ module _ (env : Environment) (w : World) (insts : List Inst) (allocated : Store)
       let more : (n : ℕ) × (n + k ≡ length w.parts) = (length w.parts - k, omega (arith, l)) in
       ap (λ f. f.store) (FillSegments.filled_all env w.parts insts allocated stores_are g.size k t l h none) ∙ ap (joined_stores t) (rest_same more.0 k more.1)
 
-  pub next_filled : (k : ℕ) (m : Module) (i : Inst) (t : Store) → module_at w.parts k ≡ Some m → place insts k ≡ Some i → FilledUpto env w.parts insts allocated k t → ((own_segments (const_value t.globals i) m i (joined_stores t (g.laid.adds k))).trapped ≡ false) × FilledUpto env w.parts insts allocated (suc k) (own_segments (const_value t.globals i) m i (joined_stores t (g.laid.adds k))).store
+  pub next_filled : (k : ℕ) (m : Module) (i : Inst) (t : Store) → module_at w.parts k ≡ Some m → slice_get insts k ≡ Some i → FilledUpto env w.parts insts allocated k t → ((own_segments (const_value t.globals i) m i (joined_stores t (g.laid.adds k))).trapped ≡ false) × FilledUpto env w.parts insts allocated (suc k) (own_segments (const_value t.globals i) m i (joined_stores t (g.laid.adds k))).store
   next_filled k m i t is_part is_inst h =
       let n = FillNext.filled_next env w.parts insts g.are allocated stores_are g.matched g.size g.exports g.earlier k m i is_part is_inst t (g.laid.adds k) (g.laid.part_adds k m i is_part is_inst) h (constants k m is_part) well in
       (ap (λ f. f.trapped) n.is, subst (λ f. FilledUpto env w.parts insts allocated (suc k) f.store) (sym n.is) n.filled)

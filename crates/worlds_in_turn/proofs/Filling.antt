@@ -1,5 +1,5 @@
 -- Segments that are copied extend the store, and refer to nothing that it does not.
-use Rattle.std.proofs.Common.{◌≡◌, refl, subst, ℕ, List, [], ◌∷◌, Option, Some, None, Bool, true, false, cond, arith}
+use Rattle.std.proofs.Common.{◌≡◌, refl, subst, ℕ, List, [], ◌∷◌, Option, Some, None, Bool, true, false, cond, arith, option_and_then, slice_get}
 use Rattle.wasm_tree.specs.declared.module.ConstExpr.{ConstExpr}
 use Rattle.wasm_tree.specs.declared.module.ElemSeg.{ElemSeg}
 use Rattle.wasm_tree.specs.declared.module.ElemMode.{ElemMode}
@@ -13,7 +13,7 @@ use Rattle.wasm_meaning.specs.Outcomes.{Outcome, Gives, Traps, IllTyped, at, ove
 use Rattle.wasm_meaning.specs.State.{RefVal, Val, Inst, Table, Memory, Elem, Data, Store, SetTable, SetMemory, DropElem, DropData}
 use Rattle.wasm_meaning.specs.Values.{num_of}
 use Rattle.wasm_meaning.specs.Step.{changed}
-use Rattle.wasm_meaning.specs.Linking.{Part, place, then_some}
+use Rattle.wasm_meaning.specs.Linking.{Part}
 use Rattle.wasm_meaning.specs.Environment.{Environment}
 use Rattle.wasm_meaning.specs.World.{given, Filled, Task, or_trapped, fill_table, copy_elem, run_elem_with, run_elem, fill_memory, copy_data, run_data_with, run_data, and_then, in_turn, elem_tasks, data_tasks, tasks_in, segments}
 use Rattle.wasm_meaning.specs.InTurn.{own_segments}
@@ -73,43 +73,43 @@ module _ (R : Pairing) where
 
   elem_copied : (s : Store) (segment : ℕ) (i : Inst) (x : ℕ) (offset : Option ℕ) → Fills R s (copy_elem s segment i x offset)
   elem_copied s segment i x None = nothing_fills R s true
-  elem_copied s segment i x (Some n) = first (place i.tables x)
+  elem_copied s segment i x (Some n) = first (slice_get i.tables x)
     where
-      third : (a : ℕ) (t : Table) → at s.tables a ≡ Gives t → (o : Option Elem) → place s.elems segment ≡ o → Fills R s (or_trapped s (then_some o (λ e. Some (fill_table s segment a t (overwrite t.slots n e.items)))))
+      third : (a : ℕ) (t : Table) → at s.tables a ≡ Gives t → (o : Option Elem) → slice_get s.elems segment ≡ o → Fills R s (or_trapped s (option_and_then (λ e. Some (fill_table s segment a t (overwrite t.slots n e.items))) o))
       third a t h None e = nothing_fills R s true
       third a t h (Some d) e = table_fills s segment a t d n h (place_at s.elems segment d e)
 
-      second : (a : ℕ) (o : Option Table) → place s.tables a ≡ o → Fills R s (or_trapped s (then_some o (λ t. then_some (place s.elems segment) (λ e. Some (fill_table s segment a t (overwrite t.slots n e.items))))))
+      second : (a : ℕ) (o : Option Table) → slice_get s.tables a ≡ o → Fills R s (or_trapped s (option_and_then (λ t. option_and_then (λ e. Some (fill_table s segment a t (overwrite t.slots n e.items))) (slice_get s.elems segment)) o))
       second a None e = nothing_fills R s true
-      second a (Some t) e = third a t (place_at s.tables a t e) (place s.elems segment) refl
+      second a (Some t) e = third a t (place_at s.tables a t e) (slice_get s.elems segment) refl
 
-      first : (o : Option ℕ) → Fills R s (or_trapped s (then_some o (λ a. then_some (place s.tables a) (λ t. then_some (place s.elems segment) (λ e. Some (fill_table s segment a t (overwrite t.slots n e.items)))))))
+      first : (o : Option ℕ) → Fills R s (or_trapped s (option_and_then (λ a. option_and_then (λ t. option_and_then (λ e. Some (fill_table s segment a t (overwrite t.slots n e.items))) (slice_get s.elems segment)) (slice_get s.tables a)) o))
       first None = nothing_fills R s true
-      first (Some a) = second a (place s.tables a) refl
+      first (Some a) = second a (slice_get s.tables a) refl
 
   data_copied : (s : Store) (segment : ℕ) (i : Inst) (x : ℕ) (offset : Option ℕ) → Fills R s (copy_data s segment i x offset)
   data_copied s segment i x None = nothing_fills R s true
-  data_copied s segment i x (Some n) = first (place i.mems x)
+  data_copied s segment i x (Some n) = first (slice_get i.mems x)
     where
-      third : (a : ℕ) (m : Memory) → at s.mems a ≡ Gives m → (o : Option Data) → Fills R s (or_trapped s (then_some o (λ d. Some (fill_memory s segment a m (overwrite m.bytes n d.bytes)))))
+      third : (a : ℕ) (m : Memory) → at s.mems a ≡ Gives m → (o : Option Data) → Fills R s (or_trapped s (option_and_then (λ d. Some (fill_memory s segment a m (overwrite m.bytes n d.bytes))) o))
       third a m h None = nothing_fills R s true
       third a m h (Some d) = memory_fills s segment a m (overwrite m.bytes n d.bytes) h
 
-      second : (a : ℕ) (o : Option Memory) → place s.mems a ≡ o → Fills R s (or_trapped s (then_some o (λ m. then_some (place s.datas segment) (λ d. Some (fill_memory s segment a m (overwrite m.bytes n d.bytes))))))
+      second : (a : ℕ) (o : Option Memory) → slice_get s.mems a ≡ o → Fills R s (or_trapped s (option_and_then (λ m. option_and_then (λ d. Some (fill_memory s segment a m (overwrite m.bytes n d.bytes))) (slice_get s.datas segment)) o))
       second a None e = nothing_fills R s true
-      second a (Some m) e = third a m (place_at s.mems a m e) (place s.datas segment)
+      second a (Some m) e = third a m (place_at s.mems a m e) (slice_get s.datas segment)
 
-      first : (o : Option ℕ) → Fills R s (or_trapped s (then_some o (λ a. then_some (place s.mems a) (λ m. then_some (place s.datas segment) (λ d. Some (fill_memory s segment a m (overwrite m.bytes n d.bytes)))))))
+      first : (o : Option ℕ) → Fills R s (or_trapped s (option_and_then (λ a. option_and_then (λ m. option_and_then (λ d. Some (fill_memory s segment a m (overwrite m.bytes n d.bytes))) (slice_get s.datas segment)) (slice_get s.mems a)) o))
       first None = nothing_fills R s true
-      first (Some a) = second a (place s.mems a) refl
+      first (Some a) = second a (slice_get s.mems a) refl
 
   pub elem_fills : (value : ConstExpr → Option Val) (s : Store) (task : Task ElemSeg) (mode : ElemMode) → Fills R s (run_elem_with value s task mode)
-  elem_fills value s task (elem.Active x offset) = elem_copied s task.address task.inst x (then_some (value offset) (λ v. given (num_of W32 v)))
+  elem_fills value s task (elem.Active x offset) = elem_copied s task.address task.inst x (option_and_then (λ v. given (num_of W32 v)) (value offset))
   elem_fills value s task elem.Passive = nothing_fills R s false
   elem_fills value s task elem.Declarative = nothing_fills R s false
 
   pub data_fills : (value : ConstExpr → Option Val) (s : Store) (task : Task DataSeg) (mode : DataMode) → Fills R s (run_data_with value s task mode)
-  data_fills value s task (data'.Active x offset) = data_copied s task.address task.inst x (then_some (value offset) (λ v. given (num_of W32 v)))
+  data_fills value s task (data'.Active x offset) = data_copied s task.address task.inst x (option_and_then (λ v. given (num_of W32 v)) (value offset))
   data_fills value s task data'.Passive = nothing_fills R s false
 
   then_fills : (s : Store) (f : Filled) (g : Store → Filled) → Fills R s f → ((t : Store) → Fills R t (g t)) → Fills R s (and_then f g)

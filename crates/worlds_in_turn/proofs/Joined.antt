@@ -1,10 +1,10 @@
 -- What an import of a part is joined with among the parts before it is what it is joined with among all, where each joined import leads to an earlier part.
-use Rattle.std.proofs.Common.{◌≡◌, ◌∙◌, refl, sym, ap, ap₂, ℕ, zero, suc, ◌+◌, ◌<◌, ◌≤◌, List, [], ◌∷◌, length, Option, Some, None, Bool, true, false, cond, arith}
+use Rattle.std.proofs.Common.{◌≡◌, ◌∙◌, refl, sym, ap, ap₂, ℕ, zero, suc, ◌+◌, ◌<◌, ◌≤◌, List, [], ◌∷◌, length, Option, Some, None, Bool, true, false, cond, arith, option_and_then, slice_get}
 use Rattle.wasm_tree.specs.declared.module.Import.{Import}
 use Rattle.wasm_tree.specs.declared.module.ExportDesc.{ExportDesc}
 use Rattle.wasm_tree.specs.declared.module.Module.{Module}
 use Rattle.wasm_meaning.specs.State.{Text, Inst}
-use Rattle.wasm_meaning.specs.Linking.{Part, Site, Entity, End, Defined, Outside, place, then_some, kind_of_export, index_of_export, imports_of, module_at, import_at, is_named, export_named, first_place, source_of, joined, imported_as, entity_step, joined_step, import_step, end_of}
+use Rattle.wasm_meaning.specs.Linking.{Part, Site, Entity, End, Defined, Outside, kind_of_export, index_of_export, imports_of, module_at, import_at, is_named, export_named, first_place, source_of, joined, imported_as, entity_step, joined_step, import_step, end_of}
 use Rattle.wasm_meaning.specs.Environment.{Environment, Thing, owned_of, owned_at}
 use Rattle.wasm_meaning.specs.World.{defined_count, given, own_key, thing_of, imported_thing, insts_from, inst_of, address_in}
 use Rattle.wasm_meaning.specs.InTurn.{Made, made_named, exported_by, thing_or_own, thing_for, JoinsEarlier}
@@ -17,7 +17,7 @@ made_upto _ _ _ = []
 
 -- the part of a name among the first k: it is there, or the first of that name comes later
 data Named (name : Text) (k off : ℕ) (ps : List Part) (is : List Inst) : Type 0 where
-  among : {j : ℕ} {part : Part} {inst : Inst} → j < k → first_place (is_named name) ps off ≡ Some (off + j) → place ps j ≡ Some part → place is j ≡ Some inst → made_named (made_upto k ps is) name ≡ Some (record { part = part; inst = inst }) → Named name k off ps is
+  among : {j : ℕ} {part : Part} {inst : Inst} → j < k → first_place (is_named name) ps off ≡ Some (off + j) → slice_get ps j ≡ Some part → slice_get is j ≡ Some inst → made_named (made_upto k ps is) name ≡ Some (record { part = part; inst = inst }) → Named name k off ps is
   later : ((q : ℕ) → first_place (is_named name) ps off ≡ Some q → off + k ≤ q) → made_named (made_upto k ps is) name ≡ None → Named name k off ps is
 
 first_high : {A : Type 0} (test : A → Bool) (xs : List A) (off q : ℕ) → first_place test xs off ≡ Some q → off ≤ q
@@ -55,28 +55,28 @@ named name (suc k) off (p ∷ ps) (i ∷ is) e = go (is_named name p) refl (name
 abbrev pub ExportsThere : List Part → Type 0
 ExportsThere parts = (p : ℕ) (m : Module) (field : Text) (d : ExportDesc) → module_at parts p ≡ Some m → export_named m.exports field ≡ Some d → index_of_export d < length (imports_of (kind_of_export d) m) + defined_count (kind_of_export d) m
 
-pub module_is : (parts : List Part) (p : ℕ) (part : Part) → place parts p ≡ Some part → module_at parts p ≡ Some part.«module»
-module_is parts p part e = ap (λ o. then_some o (λ part. Some part.«module»)) e
+pub module_is : (parts : List Part) (p : ℕ) (part : Part) → slice_get parts p ≡ Some part → module_at parts p ≡ Some part.«module»
+module_is parts p part e = ap (λ o. option_and_then (λ part. Some part.«module») o) e
 
 module _ (env : Environment) (parts : List Part) (insts : List Inst) (are : insts_from env parts 0 parts ≡ Some insts) (size : length insts ≡ length parts) (earlier : JoinsEarlier parts) where
   abbrev made : ℕ → List Made
   made p = made_upto p parts insts
 
-  pub inst_of_part : (q : ℕ) (m : Module) (i : Inst) → module_at parts q ≡ Some m → place insts q ≡ Some i → inst_of env parts q m ≡ Some i
+  pub inst_of_part : (q : ℕ) (m : Module) (i : Inst) → module_at parts q ≡ Some m → slice_get insts q ≡ Some i → inst_of env parts q m ≡ Some i
   inst_of_part q m i e h =
       let r = inst_at env parts 0 parts insts are q m e in
       let n : 0 + q ≡ q = omega arith in
       ap (λ n. inst_of env parts n m) (sym n) ∙ r.2 ∙ sym r.1 ∙ h
 
-  module _ (p n : ℕ) (m : Module) (i : Import) (is_part : module_at parts p ≡ Some m) (is_import : place m.imports n ≡ Some i) where
+  module _ (p n : ℕ) (m : Module) (i : Import) (is_part : module_at parts p ≡ Some m) (is_import : slice_get m.imports n ≡ Some i) where
     site : Site
     site = record { part = p; import = n }
 
     import_is : import_at parts (record { part = p; import = n }) ≡ Some i
-    import_is = ap (λ o. then_some o (λ m. place m.imports n)) is_part ∙ is_import
+    import_is = ap (λ o. option_and_then (λ m. slice_get m.imports n) o) is_part ∙ is_import
 
     step_is : import_step parts (record { part = p; import = n }) ≡ Some (joined_step parts (record { part = p; import = n }) (joined parts i))
-    step_is = ap (λ o. then_some o (λ i. Some (joined_step parts (record { part = p; import = n }) (joined parts i)))) import_is
+    step_is = ap (λ o. option_and_then (λ i. Some (joined_step parts (record { part = p; import = n }) (joined parts i))) o) import_is
 
     -- not joined: the environment's own
     pub stays_own : (x : Thing) (o : Option (Made × ExportDesc)) → joined parts i ≡ None → o ≡ None → imported_thing env parts (record { part = p; import = n }) ≡ Some x → thing_or_own (owned_of env) m i o ≡ Some x
@@ -84,11 +84,11 @@ module _ (env : Environment) (parts : List Part) (insts : List Inst) (are : inst
         let e = then_is (end_of parts (record { part = p; import = n })) (thing_of env parts) x h in
         let end = ends_at parts (record { part = p; import = n }) e.0 (Outside (record { part = p; import = n })) (step_is ∙ ap (λ o. Some (joined_step parts (record { part = p; import = n }) o)) j) e.1 in
         let thing = ap (thing_of env parts) end ∙ e.2 in
-        let own = ap₂ (λ o q. then_some o (λ m. then_some q (λ i. then_some (own_key m i) (λ key. given (owned_at (owned_of env) key))))) is_part import_is in
+        let own = ap₂ (λ o q. option_and_then (λ m. option_and_then (λ i. option_and_then (λ key. given (owned_at (owned_of env) key)) (own_key m i)) q) o) is_part import_is in
         ap (thing_or_own (owned_of env) m i) none ∙ sym own ∙ thing
 
     -- joined: what the other part's instance says
-    pub joins : (x : Thing) (q : ℕ) (part : Part) (inst : Inst) (d : ExportDesc) → joined parts i ≡ Some (record { part = q; what = d }) → place parts q ≡ Some part → place insts q ≡ Some inst → export_named part.«module».exports i.field ≡ Some d →
+    pub joins : (x : Thing) (q : ℕ) (part : Part) (inst : Inst) (d : ExportDesc) → joined parts i ≡ Some (record { part = q; what = d }) → slice_get parts q ≡ Some part → slice_get insts q ≡ Some inst → export_named part.«module».exports i.field ≡ Some d →
         imported_thing env parts (record { part = p; import = n }) ≡ Some x → address_in inst d ≡ Some x
     joins x q part inst d j at_part at_inst named h =
         let e = then_is (end_of parts (record { part = p; import = n })) (thing_of env parts) x h in
@@ -104,25 +104,25 @@ module _ (env : Environment) (parts : List Part) (insts : List Inst) (are : inst
             own imp ∙ ap (thing_of env parts) last ∙ thing
         go end ends thing (Some t) imp own far =
             let on = goes_to parts (record { part = p; import = n }) t end (step_is ∙ ap (λ o. Some (joined_step parts (record { part = p; import = n }) o)) j ∙ ap (λ o. Some (entity_step (record { part = q; what = d }) o)) imp) ends in
-            far t x imp (ap (λ o. then_some o (thing_of env parts)) on ∙ thing)
+            far t x imp (ap (λ o. option_and_then (thing_of env parts) o) on ∙ thing)
 
     pub thing_same : (x : Thing) → imported_thing env parts (record { part = p; import = n }) ≡ Some x → thing_for (owned_of env) (made p) m i ≡ Some x
     thing_same x h = by_source (named i.«module» p 0 parts insts size)
       where
         -- the part that is named was there
-        there_before : (q : ℕ) (part : Part) (inst : Inst) → source_of parts i ≡ Some q → place parts q ≡ Some part → place insts q ≡ Some inst → made_named (made p) i.«module» ≡ Some (record { part = part; inst = inst }) → (o : Option ExportDesc) → export_named part.«module».exports i.field ≡ o → thing_for (owned_of env) (made p) m i ≡ Some x
+        there_before : (q : ℕ) (part : Part) (inst : Inst) → source_of parts i ≡ Some q → slice_get parts q ≡ Some part → slice_get insts q ≡ Some inst → made_named (made p) i.«module» ≡ Some (record { part = part; inst = inst }) → (o : Option ExportDesc) → export_named part.«module».exports i.field ≡ o → thing_for (owned_of env) (made p) m i ≡ Some x
         there_before q part inst s a b c None e =
-            let j : joined parts i ≡ None = ap (λ o. then_some o (λ p. then_some (module_at parts p) (λ m. then_some (export_named m.exports i.field) (λ d. Some (record { part = p; what = d }))))) s ∙ ap (λ o. then_some o (λ m. then_some (export_named m.exports i.field) (λ d. Some (record { part = q; what = d })))) (module_is parts q part a) ∙ ap (λ o. then_some o (λ d. Some (record { part = q; what = d }))) e in
-            let none : exported_by (made p) i ≡ None = ap (λ o. then_some o (λ x. then_some (export_named x.part.«module».exports i.field) (λ d. Some (x, d)))) c ∙ ap (λ o. then_some o (λ d. Some (record { part = part; inst = inst }, d))) e in
+            let j : joined parts i ≡ None = ap (λ o. option_and_then (λ p. option_and_then (λ m. option_and_then (λ d. Some (record { part = p; what = d })) (export_named m.exports i.field)) (module_at parts p)) o) s ∙ ap (λ o. option_and_then (λ m. option_and_then (λ d. Some (record { part = q; what = d })) (export_named m.exports i.field)) o) (module_is parts q part a) ∙ ap (λ o. option_and_then (λ d. Some (record { part = q; what = d })) o) e in
+            let none : exported_by (made p) i ≡ None = ap (λ o. option_and_then (λ x. option_and_then (λ d. Some (x, d)) (export_named x.part.«module».exports i.field)) o) c ∙ ap (λ o. option_and_then (λ d. Some (record { part = part; inst = inst }, d)) o) e in
             stays_own x (exported_by (made p) i) j none h
         there_before q part inst s a b c (Some d) e =
-            let j : joined parts i ≡ Some (record { part = q; what = d }) = ap (λ o. then_some o (λ p. then_some (module_at parts p) (λ m. then_some (export_named m.exports i.field) (λ d. Some (record { part = p; what = d }))))) s ∙ ap (λ o. then_some o (λ m. then_some (export_named m.exports i.field) (λ d. Some (record { part = q; what = d })))) (module_is parts q part a) ∙ ap (λ o. then_some o (λ d. Some (record { part = q; what = d }))) e in
-            let some_by : exported_by (made p) i ≡ Some (record { part = part; inst = inst }, d) = ap (λ o. then_some o (λ x. then_some (export_named x.part.«module».exports i.field) (λ d. Some (x, d)))) c ∙ ap (λ o. then_some o (λ d. Some (record { part = part; inst = inst }, d))) e in
+            let j : joined parts i ≡ Some (record { part = q; what = d }) = ap (λ o. option_and_then (λ p. option_and_then (λ m. option_and_then (λ d. Some (record { part = p; what = d })) (export_named m.exports i.field)) (module_at parts p)) o) s ∙ ap (λ o. option_and_then (λ m. option_and_then (λ d. Some (record { part = q; what = d })) (export_named m.exports i.field)) o) (module_is parts q part a) ∙ ap (λ o. option_and_then (λ d. Some (record { part = q; what = d })) o) e in
+            let some_by : exported_by (made p) i ≡ Some (record { part = part; inst = inst }, d) = ap (λ o. option_and_then (λ x. option_and_then (λ d. Some (x, d)) (export_named x.part.«module».exports i.field)) o) c ∙ ap (λ o. option_and_then (λ d. Some (record { part = part; inst = inst }, d)) o) e in
             ap (thing_or_own (owned_of env) m i) some_by ∙ joins x q part inst d j a b e h
 
         -- it comes later, or there is none
         not_before : ((q : ℕ) → source_of parts i ≡ Some q → p ≤ q) → made_named (made p) i.«module» ≡ None → (o : Option Entity) → joined parts i ≡ o → thing_for (owned_of env) (made p) m i ≡ Some x
-        not_before l c None j = stays_own x (exported_by (made p) i) j (ap (λ o. then_some o (λ x. then_some (export_named x.part.«module».exports i.field) (λ d. Some (x, d)))) c) h
+        not_before l c None j = stays_own x (exported_by (made p) i) j (ap (λ o. option_and_then (λ x. option_and_then (λ d. Some (x, d)) (export_named x.part.«module».exports i.field)) o) c) h
         not_before l c (Some e) j =
             let s = then_is (source_of parts i) _ e j in
             let a = then_is (module_at parts s.0) _ e s.2 in

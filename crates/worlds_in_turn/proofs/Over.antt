@@ -1,5 +1,5 @@
 -- After the starts: a closed run stays closed, and a view that opens shows what the parts have.
-use Rattle.std.proofs.Common.{◌≡◌, ◌∙◌, refl, sym, ap, subst, ℕ, ◌<◌, List, [], ◌∷◌, Some, Bool, true, false, cond}
+use Rattle.std.proofs.Common.{◌≡◌, ◌∙◌, refl, sym, ap, subst, ℕ, ◌<◌, List, [], ◌∷◌, Some, Bool, true, false, cond, option_and_then, slice_get}
 use Rattle.std.specs.Prelude.{nat_eq}
 use Rattle.wasm_tree.specs.declared.module.ExportDesc.{ExportDesc}
 use Rattle.wasm_tree.specs.declared.module.ExportDesc.TheVariants as ex
@@ -7,7 +7,7 @@ use Rattle.wasm_meaning.specs.Outcomes.{Outcome, Gives, Traps, IllTyped, at, ove
 use Rattle.wasm_meaning.specs.State.{Text, Inst}
 use Rattle.wasm_meaning.specs.Memory.{memory_may_grow}
 use Rattle.wasm_meaning.specs.Tables.{table_may_grow}
-use Rattle.wasm_meaning.specs.Linking.{Part, Entity, Functions, Tables, Memories, Globals, place, then_some, module_at}
+use Rattle.wasm_meaning.specs.Linking.{Part, Entity, Functions, Tables, Memories, Globals, module_at}
 use Rattle.wasm_meaning.specs.Environment.{Environment, Thing, FuncAt, TableAt, MemoryAt, GlobalAt, Shown, received, received_ref}
 use Rattle.wasm_meaning.specs.World.{base, all_there, address_in, seen_as}
 use Rattle.wasm_meaning.specs.Run
@@ -91,19 +91,19 @@ closed_stays r e f = subst (Idle r) (sym (ap (tick_at r) e ∙ ap (Rattle.wasm_m
 -- ---- the view ----
 
 -- what the embedder may use is what the parts reach
-pub view_self : (env : Environment) (parts : List Part) (p : ℕ) (insts : List Inst) → ((q : ℕ) (i : Inst) → place insts q ≡ Some i → (k : Rattle.wasm_meaning.specs.Linking.Kind) (n a : ℕ) → place (space_in i k) n ≡ Some a → a < base env parts k p) →
+pub view_self : (env : Environment) (parts : List Part) (p : ℕ) (insts : List Inst) → ((q : ℕ) (i : Inst) → slice_get insts q ≡ Some i → (k : Rattle.wasm_meaning.specs.Linking.Kind) (n a : ℕ) → slice_get (space_in i k) n ≡ Some a → a < base env parts k p) →
     (vs : List (Text × Entity)) (view : List (Text × Thing)) → all_there (seen_as insts) vs ≡ Some view → ListRel (KeyRel (reaching env parts p)) view view
 view_self env parts p insts low [] view h = subst (λ l. ListRel (KeyRel (reaching env parts p)) l l) (some_is h) nil
 view_self env parts p insts low (v ∷ vs) view h =
     let a = then_is (seen_as insts v) _ view h in
     let b = then_is (all_there (seen_as insts) vs) _ view a.2 in
-    let i = then_is (place insts v.1.part) (λ i. then_some (address_in i v.1.what) (λ thing. Some (v.0, thing))) a.0 a.1 in
+    let i = then_is (slice_get insts v.1.part) (λ i. option_and_then (λ thing. Some (v.0, thing)) (address_in i v.1.what)) a.0 a.1 in
     let x = then_is (address_in i.0 v.1.what) (λ thing. Some (v.0, thing)) a.0 i.2 in
     let thing : ThingRel (reaching env parts p) x.0 x.0 = thing_of i.0 (low v.1.part i.0 i.1) v.1.what x.0 x.1 in
     subst (λ l. ListRel (KeyRel (reaching env parts p)) l l) (some_is b.2) (cons (subst (λ y. KeyRel (reaching env parts p) y y) (some_is x.2) (record { key = refl; thing = thing })) (view_self env parts p insts low vs b.0 b.1))
   where
-    thing_of : (i : Inst) → ((k : Rattle.wasm_meaning.specs.Linking.Kind) (n a : ℕ) → place (space_in i k) n ≡ Some a → a < base env parts k p) → (d : ExportDesc) (x : Thing) → address_in i d ≡ Some x → ThingRel (reaching env parts p) x x
-    thing_of i low (ex.Func n) x e = let a = then_is (place i.funcs n) (λ a. Some (FuncAt a)) x e in subst (λ x. ThingRel (reaching env parts p) x x) (some_is a.2) (a_func (reached_at env parts p Funcs a.0 (low Functions n a.0 a.1)))
-    thing_of i low (ex.Table n) x e = let a = then_is (place i.tables n) (λ a. Some (TableAt a)) x e in subst (λ x. ThingRel (reaching env parts p) x x) (some_is a.2) (a_table (reached_at env parts p to.Tables a.0 (low Tables n a.0 a.1)))
-    thing_of i low (ex.Memory n) x e = let a = then_is (place i.mems n) (λ a. Some (MemoryAt a)) x e in subst (λ x. ThingRel (reaching env parts p) x x) (some_is a.2) (a_memory (reached_at env parts p Mems a.0 (low Memories n a.0 a.1)))
-    thing_of i low (ex.Global n) x e = let a = then_is (place i.globals n) (λ a. Some (GlobalAt a)) x e in subst (λ x. ThingRel (reaching env parts p) x x) (some_is a.2) (a_global (reached_at env parts p to.Globals a.0 (low Globals n a.0 a.1)))
+    thing_of : (i : Inst) → ((k : Rattle.wasm_meaning.specs.Linking.Kind) (n a : ℕ) → slice_get (space_in i k) n ≡ Some a → a < base env parts k p) → (d : ExportDesc) (x : Thing) → address_in i d ≡ Some x → ThingRel (reaching env parts p) x x
+    thing_of i low (ex.Func n) x e = let a = then_is (slice_get i.funcs n) (λ a. Some (FuncAt a)) x e in subst (λ x. ThingRel (reaching env parts p) x x) (some_is a.2) (a_func (reached_at env parts p Funcs a.0 (low Functions n a.0 a.1)))
+    thing_of i low (ex.Table n) x e = let a = then_is (slice_get i.tables n) (λ a. Some (TableAt a)) x e in subst (λ x. ThingRel (reaching env parts p) x x) (some_is a.2) (a_table (reached_at env parts p to.Tables a.0 (low Tables n a.0 a.1)))
+    thing_of i low (ex.Memory n) x e = let a = then_is (slice_get i.mems n) (λ a. Some (MemoryAt a)) x e in subst (λ x. ThingRel (reaching env parts p) x x) (some_is a.2) (a_memory (reached_at env parts p Mems a.0 (low Memories n a.0 a.1)))
+    thing_of i low (ex.Global n) x e = let a = then_is (slice_get i.globals n) (λ a. Some (GlobalAt a)) x e in subst (λ x. ThingRel (reaching env parts p) x x) (some_is a.2) (a_global (reached_at env parts p to.Globals a.0 (low Globals n a.0 a.1)))

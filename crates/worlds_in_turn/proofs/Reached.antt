@@ -1,5 +1,5 @@
 -- The addresses that the environment and the first parts have, each of which stands for itself.
-use Rattle.std.proofs.Common.{◌≡◌, ◌∙◌, refl, sym, ap, ap₂, subst, ℕ, zero, suc, ◌+◌, ◌<◌, ◌≤◌, List, [], ◌∷◌, length, Some, Bool, true, false, cond, arith}
+use Rattle.std.proofs.Common.{◌≡◌, ◌∙◌, refl, sym, ap, ap₂, subst, ℕ, zero, suc, ◌+◌, ◌<◌, ◌≤◌, List, [], ◌∷◌, length, Some, Bool, true, false, cond, arith, ◌&&◌}
 use Rattle.std.specs.Prelude.{nat_eq, nat_lt}
 use Rattle.std.proofs.lemmas.Bool.{ltb-true, lt-ltb, eq-eqb, eqb-true}
 use Rattle.wasm_tree.specs.declared.module.Module.{Module}
@@ -24,18 +24,18 @@ count_upto env parts p Elems = elems_before parts p
 count_upto env parts p Datas = datas_before parts p
 
 abbrev pub is_reached : Environment → List Part → ℕ → Kind → ℕ → ℕ → Bool
-is_reached env parts p k a b = cond (nat_eq a b) (nat_lt a (count_upto env parts p k)) false
+is_reached env parts p k a b = nat_eq a b && nat_lt a (count_upto env parts p k)
 
 abbrev pub reaching : Environment → List Part → ℕ → Pairing
 reaching env parts p = passed (is_reached env parts p) (is_reached env parts p) []
 
 pub reached_at : (env : Environment) (parts : List Part) (p : ℕ) (k : Kind) (a : ℕ) → a < count_upto env parts p k → is_reached env parts p k a a ≡ true
-reached_at env parts p k a l = ap₂ (λ b c. cond b c false) (eq-eqb a a refl) (lt-ltb a (count_upto env parts p k) l)
+reached_at env parts p k a l = ap₂ (λ b c. b && c) (eq-eqb a a refl) (lt-ltb a (count_upto env parts p k) l)
 
 pub reached_is : (env : Environment) (parts : List Part) (p : ℕ) (k : Kind) (a b : ℕ) → is_reached env parts p k a b ≡ true → (a ≡ b) × (a < count_upto env parts p k)
 reached_is env parts p k a b h = by (nat_eq a b) refl h
   where
-    by : (c : Bool) → nat_eq a b ≡ c → cond c (nat_lt a (count_upto env parts p k)) false ≡ true → (a ≡ b) × (a < count_upto env parts p k)
+    by : (c : Bool) → nat_eq a b ≡ c → c && nat_lt a (count_upto env parts p k) ≡ true → (a ≡ b) × (a < count_upto env parts p k)
     by true e h = (eqb-true a b e, ltb-true a (count_upto env parts p k) h)
     by false e h = cc
 

@@ -1,16 +1,16 @@
 -- The stages of a run whose parts are instantiated in turn beside the run of the world at once: parts are added, a start is made, the view opens.
-use Rattle.std.proofs.Common.{◌≡◌, ◌∙◌, refl, sym, ap, ap₂, subst, ℕ, zero, suc, ◌+◌, ◌<◌, ◌≤◌, List, [], ◌∷◌, ◌++◌, length, Option, Some, None, false, ◌⊎◌, inl, inr, arith}
+use Rattle.std.proofs.Common.{◌≡◌, ◌∙◌, refl, sym, ap, ap₂, subst, ℕ, zero, suc, ◌+◌, ◌<◌, ◌≤◌, List, [], ◌∷◌, ◌++◌, length, Option, Some, None, false, ◌⊎◌, inl, inr, arith, drop, option_and_then, slice_get, unwrap_or}
 use Rattle.std.proofs.lemmas.Bool.{cases_lt}
 use Rattle.wasm_tree.specs.declared.module.Module.{Module}
-use Rattle.wasm_meaning.specs.Outcomes.{Gives, at, past}
+use Rattle.wasm_meaning.specs.Outcomes.{Gives, at}
 use Rattle.wasm_meaning.specs.State.{Text, Inst, Func, Store, Entry, Running, Opening, Waiting}
 use Rattle.wasm_meaning.specs.Control.{type_of_func}
-use Rattle.wasm_meaning.specs.Linking.{Part, Functions, place, then_some, module_at}
+use Rattle.wasm_meaning.specs.Linking.{Part, Functions, module_at}
 use Rattle.wasm_meaning.specs.Environment.{Environment, Thing}
 use Rattle.wasm_meaning.specs.World.{World, Begun, base, all_there, joined_stores, start_in, starts_of, one_place, seen_as}
 use Rattle.wasm_meaning.specs.Run.{Event, Phase, Pending, Opened, Closed, Run, Out, tick_at, tick}
 use Rattle.wasm_meaning.specs.Below.{GivesNothing, a_frame, a_call, over, BelowIsNotSeen}
-use Rattle.wasm_meaning.specs.InTurn.{InTurn, or_empty, view_over, goes_on, with_run, turn_at, tick_in_turn, HasNoActive}
+use Rattle.wasm_meaning.specs.InTurn.{InTurn, view_over, goes_on, with_run, turn_at, tick_in_turn, HasNoActive}
 use Rattle.index_remap.specs.Related.{ListRel, nil}
 use Rattle.index_remap.specs.RelatedRuns.{opened, RunRel, OutRel}
 use Rattle.index_remap.specs.Laws.{CodeIsRelatedToItself, EntryByEntry, RelatedTicksAgree, OthersStay}
@@ -113,12 +113,12 @@ module _ (env : Environment) (w : World) (insts : List Inst) (allocated : Store)
   -- ---- the turn of the next part ----
 
   -- what comes of a part that was added, by its start
-  pub added_stage : (d k : ℕ) (part : Part) (i : Inst) (r : Run) (q : InTurn) → place w.parts k ≡ Some part → place insts k ≡ Some i → length w.parts ≤ suc k + d → q.run.entries ≡ Opening (start_in i part.«module».start) ∷ [] →
+  pub added_stage : (d k : ℕ) (part : Part) (i : Inst) (r : Run) (q : InTurn) → slice_get w.parts k ≡ Some part → slice_get insts k ≡ Some i → length w.parts ≤ suc k + d → q.run.entries ≡ Opening (start_in i part.«module».start) ∷ [] →
       ((ys : List ℕ) → start_in i part.«module».start ≡ ys → Waits (suc k) ys r q) → Stage d r q
   added_stage d k part i r q at_part at_inst l e h = go part.«module».start refl
     where
       is_part : module_at w.parts k ≡ Some part.«module»
-      is_part = ap (λ o. then_some o (λ part. Some part.«module»)) at_part
+      is_part = ap (λ o. option_and_then (λ part. Some part.«module») o) at_part
 
       go : (s : Option ℕ) → part.«module».start ≡ s → Stage d r q
       go None is = waits l (h [] (ap (start_in i) is))
@@ -131,15 +131,15 @@ module _ (env : Environment) (w : World) (insts : List Inst) (allocated : Store)
 
   module _ (k d : ℕ) (r : Run) (q : InTurn) (h : Waits k [] r q) where
     -- the next part is added, in a step of the second alone
-    add_part : (part : Part) (i : Inst) → place w.parts k ≡ Some part → place insts k ≡ Some i → length w.parts ≤ k + suc d → Next (suc d) r q
+    add_part : (part : Part) (i : Inst) → slice_get w.parts k ≡ Some part → slice_get insts k ≡ Some i → length w.parts ≤ k + suc d → Next (suc d) r q
     add_part part i at_part at_inst l =
         let t = q.run.store in
-        let is_part : module_at w.parts k ≡ Some part.«module» = ap (λ o. then_some o (λ part. Some part.«module»)) at_part in
+        let is_part : module_at w.parts k ≡ Some part.«module» = ap (λ o. option_and_then (λ part. Some part.«module») o) at_part in
         let holds = holds_of env w.parts k allocated t r.store h.abreast.beside h.abreast.extends in
         let f = g.no_segments (Rattle.wasm_meaning.specs.World.const_value t.globals i) part.«module» i (joined_stores t (g.laid.adds k)) (h.quiet k part.«module» (omega arith) is_part) in
         let e = turned env w insts allocated g k part i at_part at_inst q h.turn h.second_entries h.abreast.second_owned h.abreast.beside.sized holds (ap (λ f. f.trapped) f) in
-        let e' : tick_in_turn q ≡ (goes_on q part (past w.parts (suc k)) i (joined_stores t (g.laid.adds k)), None) = e ∙ ap (λ f. (goes_on q part (past w.parts (suc k)) i f.store, None)) f in
-        let q' = goes_on q part (past w.parts (suc k)) i (joined_stores t (g.laid.adds k)) in
+        let e' : tick_in_turn q ≡ (goes_on q part (drop (suc k) w.parts) i (joined_stores t (g.laid.adds k)), None) = e ∙ ap (λ f. (goes_on q part (drop (suc k) w.parts) i f.store, None)) f in
+        let q' = goes_on q part (drop (suc k) w.parts) i (joined_stores t (g.laid.adds k)) in
         let turn' = next_turn env w insts allocated g k part i at_part at_inst q (joined_stores t (g.laid.adds k)) h.turn in
         let low = within env w insts allocated g itself k part i at_part at_inst in
         let stage : Stage d r q' = added_stage d k part i r q' at_part at_inst (omega (arith, l)) refl (λ ys e. record {
@@ -156,16 +156,16 @@ module _ (env : Environment) (w : World) (insts : List Inst) (allocated : Store)
 
   -- ---- the view opens ----
 
-  all_low : (q : ℕ) (i : Inst) → place insts q ≡ Some i → (k : Rattle.wasm_meaning.specs.Linking.Kind) (n a : ℕ) → place (space_in i k) n ≡ Some a → a < base env w.parts k (length w.parts)
+  all_low : (q : ℕ) (i : Inst) → slice_get insts q ≡ Some i → (k : Rattle.wasm_meaning.specs.Linking.Kind) (n a : ℕ) → slice_get (space_in i k) n ≡ Some a → a < base env w.parts k (length w.parts)
   all_low q i e k n a h =
       let l = place_low insts q i e in
       let part = part_there w.parts q (let s = g.size in omega (arith, l, s)) in
-      let is_part : module_at w.parts q ≡ Some part.0.«module» = ap (λ o. then_some o (λ part. Some part.«module»)) part.1 in
+      let is_part : module_at w.parts q ≡ Some part.0.«module» = ap (λ o. option_and_then (λ part. Some part.«module») o) part.1 in
       let r = inst_low env w.parts insts g.are g.size g.earlier g.own q part.0.«module» i is_part e k n a h in
       let m = defined_more k w.parts (suc q) (length w.parts) (let s = g.size in omega (arith, l, s)) in
       omega (arith, r, m)
     where
-      place_low : {A : Type 0} (xs : List A) (n : ℕ) (x : A) → place xs n ≡ Some x → n < length xs
+      place_low : {A : Type 0} (xs : List A) (n : ℕ) (x : A) → slice_get xs n ≡ Some x → n < length xs
       place_low [] n x e = absurd (let z = e in cc)
       place_low (y ∷ ys) zero x e = omega arith
       place_low (y ∷ ys) (suc n) x e = let l = place_low ys n x e in omega (arith, l)
@@ -176,8 +176,8 @@ module _ (env : Environment) (w : World) (insts : List Inst) (allocated : Store)
   open_view : (k d : ℕ) (r : Run) (q : InTurn) → k ≡ length w.parts → Waits k [] r q → Next d r q
   open_view k d r q all h =
       let none : starts_from w insts k ≡ [] = ap (starts_from w insts) all ∙ starts_end w insts in
-      let rest : q.rest ≡ [] = h.turn.rest ∙ ap (past w.parts) all ∙ Rattle.worlds_in_turn.proofs.Given.past_all w.parts in
-      let made : view_over (made_upto k w.parts insts) w.view ≡ view = ap (λ k. view_over (made_upto k w.parts insts) w.view) all ∙ ap (λ is. or_empty (all_there (seen_as is) w.view)) (made_all w.parts insts g.size) ∙ ap or_empty view_is in
+      let rest : q.rest ≡ [] = h.turn.rest ∙ ap (λ i. drop i w.parts) all ∙ Rattle.worlds_in_turn.proofs.Given.past_all w.parts in
+      let made : view_over (made_upto k w.parts insts) w.view ≡ view = ap (λ k. view_over (made_upto k w.parts insts) w.view) all ∙ ap (λ is. unwrap_or (all_there (seen_as is) w.view) []) (made_all w.parts insts g.size) ∙ ap unwrap_or view_is [] in
       let a = opened_run r view (h.first ∙ ap (λ xs. Opening xs ∷ []) none) h.phase in
       let b = opened_run q.run view h.second_entries (h.second_phase ∙ ap Pending made) in
       let c = h.abreast.related in

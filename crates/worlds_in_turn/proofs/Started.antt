@@ -1,5 +1,5 @@
 -- The start of a valid part is a function that takes nothing and gives nothing.
-use Rattle.std.proofs.Common.{◌≡◌, ◌∙◌, refl, sym, ap, ap₂, ℕ, zero, suc, ◌+◌, ◌≤◌, List, [], ◌∷◌, ◌++◌, map, length, Option, Some, None, Bool, true, ◌⊎◌, inl, inr, arith}
+use Rattle.std.proofs.Common.{◌≡◌, ◌∙◌, refl, sym, ap, ap₂, ℕ, zero, suc, ◌+◌, ◌≤◌, List, [], ◌∷◌, ◌++◌, map, length, Option, Some, None, Bool, true, ◌⊎◌, inl, inr, arith, unwrap_or}
 use Rattle.std.specs.Prelude.{slice_get, option_and_then}
 use Rattle.wasm_tree.specs.declared.types.FuncType.{FuncType}
 use Rattle.wasm_tree.specs.declared.module.Func as tree
@@ -13,9 +13,9 @@ use Rattle.wasm_meaning.specs.State.{Inst, Func, Store}
 use Rattle.wasm_meaning.specs.Values.{same_func_type}
 use Rattle.wasm_meaning.specs.Control as control
 use Rattle.wasm_meaning.specs.Control.{type_at}
-use Rattle.wasm_meaning.specs.Linking.{Part, Functions, same_kind, kind_of_import, has_kind, place, then_some, imports_of, module_at, import_at, sites}
+use Rattle.wasm_meaning.specs.Linking.{Part, Functions, same_kind, kind_of_import, has_kind, imports_of, module_at, import_at, sites}
 use Rattle.wasm_meaning.specs.Environment.{Environment, Thing, FuncAt, all_of}
-use Rattle.wasm_meaning.specs.World.{given, base, address_of, import_type, imported_thing, all_there, numbers, insts_from, new_func, global_with, elem_with, value_of, is_match, is_matched, or_false}
+use Rattle.wasm_meaning.specs.World.{given, base, address_of, import_type, imported_thing, all_there, numbers, insts_from, new_func, global_with, elem_with, value_of, is_match, is_matched}
 use Rattle.wasm_meaning.specs.InTurn.{JoinsEarlier}
 use Rattle.index_remap.specs.Laws.{CodeIsRelatedToItself}
 use Rattle.merge_validity.proofs.Lists.{place_get, place_of, places_many, split, map_back}
@@ -42,7 +42,7 @@ and_then_is : {A B : Type 0} (f : A → Option B) (o : Option A) (b : B) → opt
 and_then_is f None b e = cc
 and_then_is f (Some a) b e = (a, refl, e)
 
-or_false_is : (o : Option Bool) → or_false o ≡ true → o ≡ Some true
+or_false_is : (o : Option Bool) → unwrap_or o false ≡ true → o ≡ Some true
 or_false_is None e = cc
 or_false_is (Some b) e = ap Some e
 
@@ -63,12 +63,12 @@ bind_is IllTyped f b e = cc
 pub record HasFunc (i : Inst) (allocated : Store) (x : ℕ) (t : FuncType) : Type 0 where
   pub address : ℕ
   pub func : Func
-  pub named : place i.funcs x ≡ Some address
+  pub named : slice_get i.funcs x ≡ Some address
   pub there : at allocated.funcs address ≡ Gives func
   pub type : control.type_of_func func ≡ t
 
 module _ (same_types : (s t : FuncType) → same_func_type s t ≡ true → s ≡ t) (itself : CodeIsRelatedToItself) (env : Environment) (parts : List Part) (insts : List Inst) (are : insts_from env parts 0 parts ≡ Some insts) (size : length insts ≡ length parts) (there : ExportsThere parts) (earlier : JoinsEarlier parts) (listed : SitesThere parts) (allocated : Store) (laid : Laid env parts insts allocated) (matched : all_of (is_matched env parts allocated) (sites parts) ≡ true) where
-  module _ (p x : ℕ) (m : Module) (i : Inst) (t : FuncType) (is_part : module_at parts p ≡ Some m) (at_inst : place insts p ≡ Some i) where
+  module _ (p x : ℕ) (m : Module) (i : Inst) (t : FuncType) (is_part : module_at parts p ≡ Some m) (at_inst : slice_get insts p ≡ Some i) where
     abbrev imported : ℕ → Option Thing
     imported n = imported_thing env parts (record { part = p; import = n })
 
@@ -76,16 +76,16 @@ module _ (same_types : (s t : FuncType) → same_func_type s t ≡ true → s �
     is_inst = inst_is env parts p m i (inst_of_part env parts insts are size earlier p m i is_part at_inst)
 
     -- an import matches what it stands for
-    matches : (n : ℕ) (i : Import) (y : Thing) → place m.imports n ≡ Some i → imported n ≡ Some y → is_match allocated m i.desc y ≡ Some true
+    matches : (n : ℕ) (i : Import) (y : Thing) → slice_get m.imports n ≡ Some i → imported n ≡ Some y → is_match allocated m i.desc y ≡ Some true
     matches n im y here h =
-        let import_is : import_at parts (record { part = p; import = n }) ≡ Some im = ap (λ o. then_some o (λ m. place m.imports n)) is_part ∙ here in
+        let import_is : import_at parts (record { part = p; import = n }) ≡ Some im = ap (λ o. option_and_then (λ m. slice_get m.imports n) o) is_part ∙ here in
         let s = listed (record { part = p; import = n }) im import_is in
         let was = all_is (is_matched env parts allocated) (sites parts) matched s.0 (record { part = p; import = n }) s.1 in
         or_false_is (is_match allocated m im.desc y)
-        (sym (ap (λ o. or_false (then_some o (λ m. then_some (import_at parts (record { part = p; import = n })) (λ i. then_some (imported n) (is_match allocated m i.desc))))) is_part
-        ∙ ap (λ o. or_false (then_some o (λ i. then_some (imported n) (is_match allocated m i.desc)))) import_is ∙ ap (λ o. or_false (then_some o (is_match allocated m im.desc))) h) ∙ was)
+        (sym (ap (λ o. unwrap_or (option_and_then (λ m. option_and_then (λ i. option_and_then (is_match allocated m i.desc) (imported n)) (import_at parts (record { part = p; import = n }))) o) false) is_part
+        ∙ ap (λ o. unwrap_or (option_and_then (λ i. option_and_then (is_match allocated m i.desc) (imported n)) o) false) import_is ∙ ap (λ o. unwrap_or (option_and_then (is_match allocated m im.desc) o) false) h) ∙ was)
 
-    from_import : (ty : ℕ) → slice_get (imported_funcs m.imports) x ≡ Some ty → place m.types ty ≡ Some t → HasFunc i allocated x t
+    from_import : (ty : ℕ) → slice_get (imported_funcs m.imports) x ≡ Some ty → slice_get m.types ty ≡ Some t → HasFunc i allocated x t
     from_import ty e type =
         let s = space_is env parts Functions p m i.funcs is_inst.funcs in
         let many = places_many (has_kind Functions) (λ i. func_of i.desc) m.imports (λ i. is_func i.desc) 0 in
@@ -94,8 +94,8 @@ module _ (same_types : (s t : FuncType) → same_func_type s t ≡ true → s �
         let at_import = place_of (has_kind Functions) (λ i. func_of i.desc) m.imports (λ i. is_func i.desc) 0 x n.0 n.1 in
         let desc = func_desc at_import.1.desc ty (sym at_import.5 ∙ e) in
         let number : n.0 ≡ at_import.0 = (let d = at_import.2 in omega (arith, d)) in
-        let here : place m.imports n.0 ≡ Some at_import.1 = ap (place m.imports) number ∙ place_get m.imports at_import.0 ∙ at_import.3 in
-        let a = all_place (λ n. then_some (imported n) (address_of Functions)) (imports_of Functions m) s.0 s.1 x n.0 n.1 in
+        let here : slice_get m.imports n.0 ≡ Some at_import.1 = ap (slice_get m.imports) number ∙ place_get m.imports at_import.0 ∙ at_import.3 in
+        let a = all_place (λ n. option_and_then (address_of Functions) (imported n)) (imports_of Functions m) s.0 s.1 x n.0 n.1 in
         let y = then_is (imported n.0) (address_of Functions) a.0 a.1 in
         let thing = func_is y.0 a.0 y.2 in
         let match : is_match allocated m (im.Func ty) (FuncAt a.0) ≡ Some true = ap₂ (is_match allocated m) (sym desc) (sym thing) ∙ matches n.0 at_import.1 y.0 here y.1 in
@@ -106,16 +106,16 @@ module _ (same_types : (s t : FuncType) → same_func_type s t ≡ true → s �
         record {
           address = a.0;
           func = f.0;
-          named = ap (λ l. place l x) (sym s.2) ∙ place_front s.0 _ x a.0 a.2;
+          named = ap (λ l. slice_get l x) (sym s.2) ∙ place_front s.0 _ x a.0 a.2;
           there = f.1;
           type = f.2 ∙ sym (same_types u.0 v.0 (some_is v.2)) ∙ same_t;
         }
 
-    from_own : (k ty : ℕ) → x ≡ length (imported_funcs m.imports) + k → slice_get (map (λ (f : tree.Func). f.ty) m.funcs) k ≡ Some ty → place m.types ty ≡ Some t → HasFunc i allocated x t
+    from_own : (k ty : ℕ) → x ≡ length (imported_funcs m.imports) + k → slice_get (map (λ (f : tree.Func). f.ty) m.funcs) k ≡ Some ty → slice_get m.types ty ≡ Some t → HasFunc i allocated x t
     from_own k ty e h type =
         let s = space_is env parts Functions p m i.funcs is_inst.funcs in
         let many = places_many (has_kind Functions) (λ i. func_of i.desc) m.imports (λ i. is_func i.desc) 0 in
-        let l = all_length (λ n. then_some (imported n) (address_of Functions)) (imports_of Functions m) s.0 s.1 in
+        let l = all_length (λ n. option_and_then (address_of Functions) (imported n)) (imports_of Functions m) s.0 s.1 in
         let back = map_back (λ (f : tree.Func). f.ty) m.funcs k ty h in
         let low = lists.within m.funcs k back.0 back.1 in
         let number : length s.0 + k ≡ x = omega (arith, e, many, l) in
@@ -125,15 +125,15 @@ module _ (same_types : (s t : FuncType) → same_func_type s t ≡ true → s �
         let es = then_is (all_there (elem_with (value_of env parts insts p)) m.elems) _ (laid.adds p) gs.2 in
         let funcs : fs.0 ≡ (laid.adds p).funcs = ap (λ s. s.funcs) (some_is es.2) in
         let f = all_place (new_func i) m.funcs fs.0 fs.1 k back.0 (place_get m.funcs k ∙ back.1) in
-        let made = then_is (place i.types back.0.ty) _ f.0 f.1 in
-        let same_t : made.0 ≡ t = some_is (sym made.1 ∙ ap₂ place is_inst.types back.2 ∙ type) in
+        let made = then_is (slice_get i.types back.0.ty) _ f.0 f.1 in
+        let same_t : made.0 ≡ t = some_is (sym made.1 ∙ ap₂ slice_get is_inst.types back.2 ∙ type) in
         let count = all_length (new_func i) m.funcs fs.0 fs.1 in
         let n = ap length funcs in
         let within : suc p ≤ length parts = module_low parts p m is_part in
         record {
           address = base env parts Functions p + k;
           func = f.0;
-          named = ap (λ l. place l x) (sym s.2) ∙ ap (place (s.0 ++ numbers (base env parts Functions p) (length m.funcs))) (sym number) ∙ place_behind s.0 _ k ∙ numbers_place (base env parts Functions p) (length m.funcs) k low;
+          named = ap (λ l. slice_get l x) (sym s.2) ∙ ap (slice_get (s.0 ++ numbers (base env parts Functions p) (length m.funcs))) (sym number) ∙ place_behind s.0 _ k ∙ numbers_place (base env parts Functions p) (length m.funcs) k low;
           there = at_allocated_funcs itself env parts insts allocated laid p m is_part within k (omega (arith, low, count, n)) ∙ ap (λ l. at l k) (sym funcs) ∙ place_at fs.0 k f.0 f.2;
           type = ap control.type_of_func (sym (some_is made.2)) ∙ same_t;
         }
@@ -149,6 +149,6 @@ module _ (same_types : (s t : FuncType) → same_func_type s t ≡ true → s �
         let ty = and_then_is (slice_get m.types) (slice_get (funcs_of m) x) t h in
         go ty.0 (place_get m.types ty.0 ∙ ty.2) (split (imported_funcs m.imports) (map (λ f. f.ty) m.funcs) x ty.0 ty.1)
       where
-        go : (ty : ℕ) → place m.types ty ≡ Some t → (slice_get (imported_funcs m.imports) x ≡ Some ty) ⊎ ((k : ℕ) × (x ≡ length (imported_funcs m.imports) + k) × (slice_get (map (λ f. f.ty) m.funcs) k ≡ Some ty)) → HasFunc i allocated x t
+        go : (ty : ℕ) → slice_get m.types ty ≡ Some t → (slice_get (imported_funcs m.imports) x ≡ Some ty) ⊎ ((k : ℕ) × (x ≡ length (imported_funcs m.imports) + k) × (slice_get (map (λ f. f.ty) m.funcs) k ≡ Some ty)) → HasFunc i allocated x t
         go ty type (inl e) = from_import ty e type
         go ty type (inr (k, e, h)) = from_own k ty e h type

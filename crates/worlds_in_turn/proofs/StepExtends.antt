@@ -1,12 +1,12 @@
 -- What an instruction writes extends what stood there, and so each step of a run extends its store.
-use Rattle.std.proofs.Common.{◌≡◌, ℕ, zero, suc, length, List, [], ◌∷◌, Bool, true, false, cond, refl, sym, ◌∙◌, arith}
+use Rattle.std.proofs.Common.{◌≡◌, ℕ, zero, suc, length, List, [], ◌∷◌, Bool, true, false, cond, refl, sym, ◌∙◌, arith, drop}
 use Rattle.std.specs.Prelude.{nat_eq}
 use Rattle.wasm_tree.specs.declared.instr.Instr.{Instr, out-Instr}
 use Rattle.wasm_tree.specs.declared.instr.Instr.TheOpen.{Instr-F}
 use Rattle.wasm_tree.specs.declared.types.ValType.{ValType}
 use Rattle.wasm_tree.specs.declared.types.BlockType.{BlockType}
 use Rattle.wasm_num.specs.Operations.{W32}
-use Rattle.wasm_meaning.specs.Outcomes.{Outcome, Gives, Traps, IllTyped, or_other, trapping, bind, at, past, split_at, slice, overwrite, copies}
+use Rattle.wasm_meaning.specs.Outcomes.{Outcome, Gives, Traps, IllTyped, or_other, trapping, bind, at, split_at, slice, overwrite, copies}
 use Rattle.wasm_meaning.specs.State.{Val, RefVal, Table, Memory, Global, Store, Level, Frame, Env, Body, SetGlobal, Act, Goes}
 use Rattle.wasm_meaning.specs.Values.{typed, pop, pop_num, pop_ref, pop_typed, pushes, on_values, with_values, local_put, global_put, unary, binary, ref_is_null, select_any, select_typed}
 use Rattle.wasm_meaning.specs.Memory.{written, writes, store_into, load_from, grow_memory, memory_may_grow, init_memory, fill_memory, pop_three, with_memory}
@@ -121,7 +121,7 @@ module _ (env : Env) where
   end_level_all h = with_is (split_at h.gives h.values) _ (λ p _. resume_all h p.0 [] h.outer)
 
   branch_all : (h : Body) (n : ℕ) → All (branch h n)
-  branch_all h n = with_is (at (level_here h ∷ h.outer) n) _ (λ t _. with_is (split_at t.takes h.values) _ (λ p _. resume_all h p.0 t.back (past h.outer n)))
+  branch_all h n = with_is (at (level_here h ∷ h.outer) n) _ (λ t _. with_is (split_at t.takes h.values) _ (λ p _. resume_all h p.0 t.back (drop n h.outer)))
 
   abbrev EachGrows : List Act → Type 0
   EachGrows [] = Unit {0}

@@ -1,6 +1,6 @@
 -- What the imports of a part stand for is the same whether all parts are instantiated at once or the part's turn has come, where each joined import leads to
 -- an earlier part.
-use Rattle.std.proofs.Common.{◌≡◌, ◌∙◌, refl, sym, ap, ap₂, ℕ, zero, suc, ◌+◌, ◌-◌, ◌<◌, ◌≤◌, List, [], ◌∷◌, ◌++◌, length, Option, Some, None, cond, arith}
+use Rattle.std.proofs.Common.{◌≡◌, ◌∙◌, refl, sym, ap, ap₂, ℕ, zero, suc, ◌+◌, ◌-◌, ◌<◌, ◌≤◌, List, [], ◌∷◌, ◌++◌, length, Option, Some, None, cond, arith, option_and_then, slice_get}
 use Rattle.wasm_tree.specs.declared.module.Import.{Import}
 use Rattle.wasm_tree.specs.declared.module.ImportDesc.{ImportDesc}
 use Rattle.wasm_tree.specs.declared.module.ImportDesc.TheVariants as im
@@ -9,14 +9,14 @@ use Rattle.wasm_tree.specs.declared.module.ExportDesc.TheVariants as ex
 use Rattle.wasm_tree.specs.declared.module.Module.{Module}
 use Rattle.wasm_meaning.specs.State.{Inst}
 use Rattle.wasm_meaning.specs.Paths.{Next, Ends, Goes, walk, walk_on}
-use Rattle.wasm_meaning.specs.Linking.{same_kind, kind_of_import, Part, Site, Entity, End, Kind, Functions, Tables, Memories, Globals, place, then_some, places, has_kind, kind_of_export, index_of_export, imports_of, module_at, imported_as, import_step, sites, end_of}
+use Rattle.wasm_meaning.specs.Linking.{same_kind, kind_of_import, Part, Site, Entity, End, Kind, Functions, Tables, Memories, Globals, places, has_kind, kind_of_export, index_of_export, imports_of, module_at, imported_as, import_step, sites, end_of}
 use Rattle.wasm_meaning.specs.Environment.{Environment, Thing, FuncAt, TableAt, MemoryAt, GlobalAt}
 use Rattle.wasm_meaning.specs.World.{defined_count, base, thing_at, address_of, defined_addresses, defined_thing, imported_thing, all_there, numbers, space, elems_before, datas_before, inst_of, insts_from, address_in}
 use Rattle.wasm_meaning.specs.InTurn.{addresses_of}
 
 -- ---- options ----
 
-pub then_is : {A B : Type 0} (o : Option A) (f : A → Option B) (b : B) → then_some o f ≡ Some b → (a : A) × (o ≡ Some a) × (f a ≡ Some b)
+pub then_is : {A B : Type 0} (o : Option A) (f : A → Option B) (b : B) → option_and_then f o ≡ Some b → (a : A) × (o ≡ Some a) × (f a ≡ Some b)
 then_is None f b e = cc
 then_is (Some a) f b e = (a, refl, e)
 
@@ -44,7 +44,7 @@ inst_is env parts p m i h =
     let e = some_is g.2 in
     rw (← e) (record { types = refl; funcs = f.1; tables = t.1; mems = s.1; globals = g.1; elems = refl; datas = refl })
 
-pub inst_at : (env : Environment) (all : List Part) (p : ℕ) (ps : List Part) (is : List Inst) → insts_from env all p ps ≡ Some is → (q : ℕ) (m : Module) → module_at ps q ≡ Some m → (i : Inst) × (place is q ≡ Some i) × (inst_of env all (p + q) m ≡ Some i)
+pub inst_at : (env : Environment) (all : List Part) (p : ℕ) (ps : List Part) (is : List Inst) → insts_from env all p ps ≡ Some is → (q : ℕ) (m : Module) → module_at ps q ≡ Some m → (i : Inst) × (slice_get is q ≡ Some i) × (inst_of env all (p + q) m ≡ Some i)
 inst_at env all p [] is h q m e = absurd (let k = e in cc)
 inst_at env all p (part ∷ ps) is h q m e =
     let a = then_is (inst_of env all p part.«module») _ is h in
@@ -52,20 +52,20 @@ inst_at env all p (part ∷ ps) is h q m e =
     go a.0 b.0 a.1 (some_is b.2) q e (λ q e. inst_at env all (suc p) ps b.0 b.1 q m e)
   where
     go : (i : Inst) (js : List Inst) → inst_of env all p part.«module» ≡ Some i → i ∷ js ≡ is → (q : ℕ) → module_at (part ∷ ps) q ≡ Some m →
-        ((q : ℕ) → module_at ps q ≡ Some m → (i : Inst) × (place js q ≡ Some i) × (inst_of env all (suc p + q) m ≡ Some i)) → (i : Inst) × (place is q ≡ Some i) × (inst_of env all (p + q) m ≡ Some i)
+        ((q : ℕ) → module_at ps q ≡ Some m → (i : Inst) × (slice_get js q ≡ Some i) × (inst_of env all (suc p + q) m ≡ Some i)) → (i : Inst) × (slice_get is q ≡ Some i) × (inst_of env all (p + q) m ≡ Some i)
     go i js a b zero e more =
         let same : part.«module» ≡ m = some_is e in
         let n : p + 0 ≡ p = omega arith in
-        (i, ap (λ l. place l 0) (sym b), ap₂ (λ n m. inst_of env all n m) n (sym same) ∙ a)
+        (i, ap (λ l. slice_get l 0) (sym b), ap₂ (λ n m. inst_of env all n m) n (sym same) ∙ a)
     go i js a b (suc q) e more =
         let r = more q e in
         let n : p + suc q ≡ suc p + q = omega arith in
-        (r.0, ap (λ l. place l (suc q)) (sym b) ∙ r.1, ap (λ n. inst_of env all n m) n ∙ r.2)
+        (r.0, ap (λ l. slice_get l (suc q)) (sym b) ∙ r.1, ap (λ n. inst_of env all n m) n ∙ r.2)
 
 pub space_is : (env : Environment) (parts : List Part) (k : Kind) (p : ℕ) (m : Module) (xs : List ℕ) → space env parts k p m ≡ Some xs →
-    (l : List ℕ) × (all_there (λ n. then_some (imported_thing env parts (record { part = p; import = n })) (address_of k)) (imports_of k m) ≡ Some l) × (l ++ numbers (base env parts k p) (defined_count k m) ≡ xs)
+    (l : List ℕ) × (all_there (λ n. option_and_then (address_of k) (imported_thing env parts (record { part = p; import = n }))) (imports_of k m) ≡ Some l) × (l ++ numbers (base env parts k p) (defined_count k m) ≡ xs)
 space_is env parts k p m xs h =
-    let l = then_is (all_there (λ n. then_some (imported_thing env parts (record { part = p; import = n })) (address_of k)) (imports_of k m)) _ xs h in
+    let l = then_is (all_there (λ n. option_and_then (address_of k) (imported_thing env parts (record { part = p; import = n }))) (imports_of k m)) _ xs h in
     (l.0, l.1, some_is l.2)
 
 -- ---- the things that a list of imports stands for ----
@@ -73,10 +73,10 @@ space_is env parts k p m xs h =
 -- in order, from a place on
 abbrev pub each_from : (ℕ → Option Thing) → List Import → ℕ → Option (List Thing)
 each_from g [] n = Some []
-each_from g (i ∷ is) n = then_some (g n) (λ x. then_some (each_from g is (suc n)) (λ xs. Some (x ∷ xs)))
+each_from g (i ∷ is) n = option_and_then (λ x. option_and_then (λ xs. Some (x ∷ xs)) (each_from g is (suc n))) (g n)
 
 abbrev pub of_kind : (ℕ → Option Thing) → Kind → List Import → ℕ → Option (List ℕ)
-of_kind g k is n = all_there (λ j. then_some (g j) (address_of k)) (places (has_kind k) is n)
+of_kind g k is n = all_there (λ j. option_and_then (address_of k) (g j)) (places (has_kind k) is n)
 
 pub record Gathered (g : ℕ → Option Thing) (is : List Import) (n : ℕ) (fs ts ms gs : List ℕ) : Type 0 where
   pub things : List Thing
@@ -121,9 +121,9 @@ record Split (g : ℕ → Option Thing) (k : Kind) (n : ℕ) (rest : Option (Lis
   rest_is : rest ≡ Some others
   whole : address ∷ others ≡ xs
 
-split : (g : ℕ → Option Thing) (k : Kind) (n : ℕ) (rest : Option (List ℕ)) (xs : List ℕ) → then_some (then_some (g n) (address_of k)) (λ y. then_some rest (λ ys. Some (y ∷ ys))) ≡ Some xs → Split g k n rest xs
+split : (g : ℕ → Option Thing) (k : Kind) (n : ℕ) (rest : Option (List ℕ)) (xs : List ℕ) → option_and_then (λ y. option_and_then (λ ys. Some (y ∷ ys)) rest) (option_and_then (address_of k) (g n)) ≡ Some xs → Split g k n rest xs
 split g k n rest xs h =
-    let a = then_is (then_some (g n) (address_of k)) _ xs h in
+    let a = then_is (option_and_then (address_of k) (g n)) _ xs h in
     let b = then_is (g n) (address_of k) a.0 a.1 in
     let c = then_is rest _ xs a.2 in
     record { address = a.0; thing = b.0; is = b.1; has = b.2; others = c.0; rest_is = c.1; whole = some_is c.2 }
@@ -132,7 +132,7 @@ cons_each : (g : ℕ → Option Thing) (i : Import) (is : List Import) (n : ℕ)
 cons_each g i is n x xs e h = rw (e, h) refl
 
 abbrev AtDesc : (ℕ → Option Thing) → List Import → ℕ → ImportDesc → Kind → Option (List ℕ)
-AtDesc g is n d k = all_there (λ j. then_some (g j) (address_of k)) (cond (same_kind k (kind_of_import d)) (n ∷ places (has_kind k) is (suc n)) (places (has_kind k) is (suc n)))
+AtDesc g is n d k = all_there (λ j. option_and_then (address_of k) (g j)) (cond (same_kind k (kind_of_import d)) (n ∷ places (has_kind k) is (suc n)) (places (has_kind k) is (suc n)))
 
 pub gathered : (g : ℕ → Option Thing) (is : List Import) (n : ℕ) (fs ts ms gs : List ℕ) → of_kind g Functions is n ≡ Some fs → of_kind g Tables is n ≡ Some ts → of_kind g Memories is n ≡ Some ms → of_kind g Globals is n ≡ Some gs → Gathered g is n fs ts ms gs
 gathered g [] n fs ts ms gs f t m h = record { things = []; each = refl; funcs = some_is f; tables = some_is t; mems = some_is m; globals = some_is h }
@@ -187,7 +187,7 @@ space_in i Tables = i.tables
 space_in i Memories = i.mems
 space_in i Globals = i.globals
 
-pub address_is : (i : Inst) (d : ExportDesc) → address_in i d ≡ then_some (place (space_in i (kind_of_export d)) (index_of_export d)) (λ a. Some (thing_at (kind_of_export d) a))
+pub address_is : (i : Inst) (d : ExportDesc) → address_in i d ≡ option_and_then (λ a. Some (thing_at (kind_of_export d) a)) (slice_get (space_in i (kind_of_export d)) (index_of_export d))
 address_is i (ex.Func x) = refl
 address_is i (ex.Table x) = refl
 address_is i (ex.Memory x) = refl
@@ -206,16 +206,16 @@ thing_has Memories x a h = sym (memory_is x a h)
 thing_has Globals x a h = sym (global_is x a h)
 
 -- places of lists that are all there
-pub all_place : {A B : Type 0} (f : A → Option B) (xs : List A) (ys : List B) → all_there f xs ≡ Some ys → (n : ℕ) (x : A) → place xs n ≡ Some x → (y : B) × (f x ≡ Some y) × (place ys n ≡ Some y)
+pub all_place : {A B : Type 0} (f : A → Option B) (xs : List A) (ys : List B) → all_there f xs ≡ Some ys → (n : ℕ) (x : A) → slice_get xs n ≡ Some x → (y : B) × (f x ≡ Some y) × (slice_get ys n ≡ Some y)
 all_place f [] ys h n x e = absurd (let k = e in cc)
 all_place f (z ∷ zs) ys h n x e =
     let a = then_is (f z) _ ys h in
     let b = then_is (all_there f zs) _ ys a.2 in
     go a.0 b.0 a.1 (some_is b.2) n e (λ n e. all_place f zs b.0 b.1 n x e)
   where
-    go : (y : _) (rest : List _) → f z ≡ Some y → y ∷ rest ≡ ys → (n : ℕ) → place (z ∷ zs) n ≡ Some x → ((n : ℕ) → place zs n ≡ Some x → (y : _) × (f x ≡ Some y) × (place rest n ≡ Some y)) → (y : _) × (f x ≡ Some y) × (place ys n ≡ Some y)
-    go y rest a b zero e more = (y, ap f (sym (some_is e)) ∙ a, ap (λ l. place l 0) (sym b))
-    go y rest a b (suc n) e more = let r = more n e in (r.0, r.1, ap (λ l. place l (suc n)) (sym b) ∙ r.2)
+    go : (y : _) (rest : List _) → f z ≡ Some y → y ∷ rest ≡ ys → (n : ℕ) → slice_get (z ∷ zs) n ≡ Some x → ((n : ℕ) → slice_get zs n ≡ Some x → (y : _) × (f x ≡ Some y) × (slice_get rest n ≡ Some y)) → (y : _) × (f x ≡ Some y) × (slice_get ys n ≡ Some y)
+    go y rest a b zero e more = (y, ap f (sym (some_is e)) ∙ a, ap (λ l. slice_get l 0) (sym b))
+    go y rest a b (suc n) e more = let r = more n e in (r.0, r.1, ap (λ l. slice_get l (suc n)) (sym b) ∙ r.2)
 
 pub all_length : {A B : Type 0} (f : A → Option B) (xs : List A) (ys : List B) → all_there f xs ≡ Some ys → length ys ≡ length xs
 all_length f [] ys h = ap length (sym (some_is h))
@@ -224,21 +224,21 @@ all_length f (z ∷ zs) ys h =
     let b = then_is (all_there f zs) _ ys a.2 in
     ap length (sym (some_is b.2)) ∙ ap suc (all_length f zs b.0 b.1)
 
-pub place_front : {A : Type 0} (xs ys : List A) (n : ℕ) (x : A) → place xs n ≡ Some x → place (xs ++ ys) n ≡ Some x
+pub place_front : {A : Type 0} (xs ys : List A) (n : ℕ) (x : A) → slice_get xs n ≡ Some x → slice_get (xs ++ ys) n ≡ Some x
 place_front [] ys n x e = absurd (let k = e in cc)
 place_front (z ∷ zs) ys zero x e = e
 place_front (z ∷ zs) ys (suc n) x e = place_front zs ys n x e
 
-pub place_behind : {A : Type 0} (xs ys : List A) (n : ℕ) → place (xs ++ ys) (length xs + n) ≡ place ys n
-place_behind [] ys n = let e : 0 + n ≡ n = omega arith in ap (place ys) e
-place_behind (x ∷ xs) ys n = let e : suc (length xs) + n ≡ suc (length xs + n) = omega arith in ap (place (x ∷ (xs ++ ys))) e ∙ place_behind xs ys n
+pub place_behind : {A : Type 0} (xs ys : List A) (n : ℕ) → slice_get (xs ++ ys) (length xs + n) ≡ slice_get ys n
+place_behind [] ys n = let e : 0 + n ≡ n = omega arith in ap (slice_get ys) e
+place_behind (x ∷ xs) ys n = let e : suc (length xs) + n ≡ suc (length xs + n) = omega arith in ap (slice_get (x ∷ (xs ++ ys))) e ∙ place_behind xs ys n
 
-pub numbers_place : (from count n : ℕ) → n < count → place (numbers from count) n ≡ Some (from + n)
+pub numbers_place : (from count n : ℕ) → n < count → slice_get (numbers from count) n ≡ Some (from + n)
 numbers_place from zero n l = absurd (omega (arith, l))
 numbers_place from (suc count) zero l = let e : from ≡ from + 0 = omega arith in ap Some e
 numbers_place from (suc count) (suc n) l = let e : suc from + n ≡ from + suc n = omega arith in numbers_place (suc from) count n (omega (arith, l)) ∙ ap Some e
 
-past_none : {A : Type 0} (xs : List A) (n : ℕ) → place xs n ≡ None → length xs ≤ n
+past_none : {A : Type 0} (xs : List A) (n : ℕ) → slice_get xs n ≡ None → length xs ≤ n
 past_none [] n e = omega arith
 past_none (x ∷ xs) zero e = absurd (let k = e in cc)
 past_none (x ∷ xs) (suc n) e = let l = past_none xs n e in omega (arith, l)
@@ -250,8 +250,8 @@ module _ (env : Environment) (parts : List Part) (p : ℕ) (m : Module) (is_part
   abbrev entity : Entity
   entity = record { part = p; what = d }
 
-  as_import : imported_as parts entity ≡ then_some (place (imports_of k m) (index_of_export d)) (λ n. Some (record { part = p; import = n }))
-  as_import = ap (λ o. then_some o (λ m. then_some (place (imports_of k m) (index_of_export d)) (λ n. Some (record { part = p; import = n })))) is_part
+  as_import : imported_as parts entity ≡ option_and_then (λ n. Some (record { part = p; import = n })) (slice_get (imports_of k m) (index_of_export d))
+  as_import = ap (λ o. option_and_then (λ m. option_and_then (λ n. Some (record { part = p; import = n })) (slice_get (imports_of k m) (index_of_export d))) o) is_part
 
   -- what a part defines
   pub defined_is : imported_as parts entity ≡ None → address_in i d ≡ defined_thing env parts entity
@@ -261,10 +261,10 @@ module _ (env : Environment) (parts : List Part) (p : ℕ) (m : Module) (is_part
       let l = all_length _ (imports_of k m) s.0 s.1 in
       let y = index_of_export d - length (imports_of k m) in
       let e : length s.0 + y ≡ index_of_export d = omega (arith, high, l) in
-      let at = ap (λ xs. place xs (index_of_export d)) (sym s.2) ∙ ap (place (s.0 ++ numbers (base env parts k p) (defined_count k m))) (sym e) ∙ place_behind s.0 _ y in
-      address_is i d ∙ ap (λ o. then_some o (λ a. Some (thing_at k a))) at ∙ sym (ap (λ o. then_some o (λ m. let k = kind_of_export d in then_some (place (defined_addresses env parts k p m) (index_of_export d - length (imports_of k m))) (λ a. Some (thing_at k a)))) is_part)
+      let at = ap (λ xs. slice_get xs (index_of_export d)) (sym s.2) ∙ ap (slice_get (s.0 ++ numbers (base env parts k p) (defined_count k m))) (sym e) ∙ place_behind s.0 _ y in
+      address_is i d ∙ ap (λ o. option_and_then (λ a. Some (thing_at k a)) o) at ∙ sym (ap (λ o. option_and_then (λ m. let k = kind_of_export d in option_and_then (λ a. Some (thing_at k a)) (slice_get (defined_addresses env parts k p m) (index_of_export d - length (imports_of k m)))) o) is_part)
     where
-      then_none : {A B : Type 0} (o : Option A) (f : A → B) → then_some o (λ a. Some (f a)) ≡ None → o ≡ None
+      then_none : {A B : Type 0} (o : Option A) (f : A → B) → option_and_then (λ a. Some (f a)) o ≡ None → o ≡ None
       then_none None f e = refl
       then_none (Some a) f e = cc
 
@@ -272,9 +272,9 @@ module _ (env : Environment) (parts : List Part) (p : ℕ) (m : Module) (is_part
   pub imported_is : (t : Site) (x : Thing) → imported_as parts entity ≡ Some t → imported_thing env parts t ≡ Some x → address_in i d ≡ Some x
   imported_is t x e h =
       let s = space_is env parts k p m (space_in i k) (in_space env parts p m i inst k) in
-      let n = then_is (place (imports_of k m) (index_of_export d)) _ t (sym as_import ∙ e) in
-      let a = all_place (λ n. then_some (imported_thing env parts (record { part = p; import = n })) (address_of k)) (imports_of k m) s.0 s.1 (index_of_export d) n.0 n.1 in
+      let n = then_is (slice_get (imports_of k m) (index_of_export d)) _ t (sym as_import ∙ e) in
+      let a = all_place (λ n. option_and_then (address_of k) (imported_thing env parts (record { part = p; import = n }))) (imports_of k m) s.0 s.1 (index_of_export d) n.0 n.1 in
       let site : record { part = p; import = n.0 } ≡ t = some_is n.2 in
-      let at = ap (λ xs. place xs (index_of_export d)) (sym s.2) ∙ place_front s.0 _ (index_of_export d) a.0 a.2 in
-      let has : address_of k x ≡ Some a.0 = sym (ap (λ o. then_some o (address_of k)) (ap (imported_thing env parts) site ∙ h)) ∙ a.1 in
-      address_is i d ∙ ap (λ o. then_some o (λ a. Some (thing_at k a))) at ∙ ap Some (thing_has k x a.0 has)
+      let at = ap (λ xs. slice_get xs (index_of_export d)) (sym s.2) ∙ place_front s.0 _ (index_of_export d) a.0 a.2 in
+      let has : address_of k x ≡ Some a.0 = sym (ap (λ o. option_and_then (address_of k) o) (ap (imported_thing env parts) site ∙ h)) ∙ a.1 in
+      address_is i d ∙ ap (λ o. option_and_then (λ a. Some (thing_at k a)) o) at ∙ ap Some (thing_has k x a.0 has)

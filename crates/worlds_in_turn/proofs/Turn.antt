@@ -1,5 +1,5 @@
 -- When a part's turn comes its imports are there and match, and its instance is the one that it has at once.
-use Rattle.std.proofs.Common.{◌≡◌, ◌∙◌, refl, sym, ap, ap₂, ℕ, zero, suc, ◌+◌, ◌<◌, ◌≤◌, List, [], ◌∷◌, ◌++◌, length, Option, Some, None, Bool, true, false, cond, arith}
+use Rattle.std.proofs.Common.{◌≡◌, ◌∙◌, refl, sym, ap, ap₂, ℕ, zero, suc, ◌+◌, ◌<◌, ◌≤◌, List, [], ◌∷◌, ◌++◌, length, Option, Some, None, Bool, true, false, cond, arith, option_and_then, slice_get, unwrap_or, ◌&&◌}
 use Rattle.std.specs.Prelude.{nat_le}
 use Rattle.std.proofs.lemmas.Bool.{leb-true, le-leb}
 use Rattle.wasm_tree.specs.declared.types.Limits.{Limits}
@@ -10,9 +10,9 @@ use Rattle.wasm_tree.specs.declared.module.Module.{Module}
 use Rattle.wasm_meaning.specs.Outcomes.{Outcome, Gives, Traps, IllTyped, at}
 use Rattle.wasm_meaning.specs.State.{Inst, Table, Memory, Global, Store}
 use Rattle.wasm_meaning.specs.Control.{type_at}
-use Rattle.wasm_meaning.specs.Linking.{Part, Site, Functions, Tables, Memories, Globals, place, then_some, module_at, import_at, sites}
+use Rattle.wasm_meaning.specs.Linking.{Part, Site, Functions, Tables, Memories, Globals, module_at, import_at, sites}
 use Rattle.wasm_meaning.specs.Environment.{Environment, Thing, FuncAt, TableAt, MemoryAt, GlobalAt, owned_of, all_of}
-use Rattle.wasm_meaning.specs.World.{given, defined_count, base, elems_before, datas_before, imported_thing, all_there, numbers, insts_from, is_match, is_matched, meets, meets_most, or_false}
+use Rattle.wasm_meaning.specs.World.{given, defined_count, base, elems_before, datas_before, imported_thing, all_there, numbers, insts_from, is_match, is_matched, meets, meets_most}
 use Rattle.wasm_meaning.specs.InTurn.{next_inst, all_match, thing_for, JoinsEarlier}
 use Rattle.permuted_worlds.specs.Owned.{OwnEntitiesCorrespond}
 use Rattle.worlds_in_turn.proofs.Extends.{TableExtends, MemoryExtends, GlobalExtends}
@@ -39,12 +39,12 @@ pub record Holds (env : Environment) (parts : List Part) (p : ℕ) (s t : Store)
 inst_eq : (i j : Inst) → i.types ≡ j.types → i.funcs ≡ j.funcs → i.tables ≡ j.tables → i.mems ≡ j.mems → i.globals ≡ j.globals → i.elems ≡ j.elems → i.datas ≡ j.datas → i ≡ j
 inst_eq i j a b c d e f g = rw (← a, ← b, ← c, ← d, ← e, ← f, ← g) refl
 
-pub place_at : {A : Type 0} (xs : List A) (n : ℕ) (x : A) → place xs n ≡ Some x → at xs n ≡ Gives x
+pub place_at : {A : Type 0} (xs : List A) (n : ℕ) (x : A) → slice_get xs n ≡ Some x → at xs n ≡ Gives x
 place_at [] n x e = cc
 place_at (y ∷ ys) zero x e = ap Gives (some_is e)
 place_at (y ∷ ys) (suc n) x e = place_at ys n x e
 
-pub at_place : {A : Type 0} (xs : List A) (n : ℕ) (x : A) → at xs n ≡ Gives x → place xs n ≡ Some x
+pub at_place : {A : Type 0} (xs : List A) (n : ℕ) (x : A) → at xs n ≡ Gives x → slice_get xs n ≡ Some x
 at_place [] n x e = cc
 at_place (y ∷ ys) zero x e = let s : y ≡ x = cc in ap Some s
 at_place (y ∷ ys) (suc n) x e = at_place ys n x e
@@ -54,42 +54,42 @@ at_place (y ∷ ys) (suc n) x e = at_place ys n x e
 meets_more : (n m : ℕ) (most : Option ℕ) (l : Limits) → n ≤ m → meets n most l ≡ true → meets m most l ≡ true
 meets_more n m most l le h = go (nat_le l.min n) refl h
   where
-    go : (b : Bool) → nat_le l.min n ≡ b → cond b (meets_most most l.max) false ≡ true → meets m most l ≡ true
+    go : (b : Bool) → nat_le l.min n ≡ b → b && meets_most most l.max ≡ true → meets m most l ≡ true
     go false e h = cc
-    go true e h = let low = leb-true l.min n e in ap (λ b. cond b (meets_most most l.max) false) (le-leb l.min m (omega (arith, low, le))) ∙ h
+    go true e h = let low = leb-true l.min n e in ap (λ b. b && meets_most most l.max) (le-leb l.min m (omega (arith, low, le))) ∙ h
 
-cond_left : (a b : Bool) → cond a b false ≡ true → (a ≡ true) × (b ≡ true)
+cond_left : (a b : Bool) → a && b ≡ true → (a ≡ true) × (b ≡ true)
 cond_left true b h = (refl, h)
 cond_left false b h = cc
 
 module _ (env : Environment) (parts : List Part) (p : ℕ) (s t : Store) (holds : Holds env parts p s t) (m : Module) where
   match_stays : (d : ImportDesc) (x : Thing) → ((a : ℕ) → x ≡ FuncAt a → a < base env parts Functions p) → ((a : ℕ) → x ≡ TableAt a → a < base env parts Tables p) → ((a : ℕ) → x ≡ MemoryAt a → a < base env parts Memories p) → ((a : ℕ) → x ≡ GlobalAt a → a < base env parts Globals p) →
-      or_false (is_match s m d x) ≡ true → or_false (is_match t m d x) ≡ true
-  match_stays (im.Func ty) (FuncAt a) f ta me g h = ap (λ o. or_false (then_some (Rattle.wasm_meaning.specs.World.import_type m ty) (λ t. then_some (given (Rattle.wasm_meaning.specs.Outcomes.bind o (λ f. Gives (Rattle.wasm_meaning.specs.Control.type_of_func f)))) (λ u. Some (Rattle.wasm_meaning.specs.Values.same_func_type t u))))) (holds.funcs a (f a refl)) ∙ h
-  match_stays (im.Table ty) (TableAt a) f ta me g h = go (place s.tables a) refl h
+      unwrap_or (is_match s m d x) false ≡ true → unwrap_or (is_match t m d x) false ≡ true
+  match_stays (im.Func ty) (FuncAt a) f ta me g h = ap (λ o. unwrap_or (option_and_then (λ t. option_and_then (λ u. Some (Rattle.wasm_meaning.specs.Values.same_func_type t u)) (given (Rattle.wasm_meaning.specs.Outcomes.bind o (λ f. Gives (Rattle.wasm_meaning.specs.Control.type_of_func f))))) (Rattle.wasm_meaning.specs.World.import_type m ty)) false) (holds.funcs a (f a refl)) ∙ h
+  match_stays (im.Table ty) (TableAt a) f ta me g h = go (slice_get s.tables a) refl h
     where
-      go : (o : Option Table) → place s.tables a ≡ o → or_false (then_some o (λ u. Some (cond (Rattle.wasm_meaning.specs.Values.same_ref ty.ty u.ty) (meets (length u.slots) u.most ty.limits) false))) ≡ true → or_false (is_match t m (im.Table ty) (TableAt a)) ≡ true
+      go : (o : Option Table) → slice_get s.tables a ≡ o → unwrap_or (option_and_then (λ u. Some (Rattle.wasm_meaning.specs.Values.same_ref ty.ty u.ty && meets (length u.slots) u.most ty.limits)) o) false ≡ true → unwrap_or (is_match t m (im.Table ty) (TableAt a)) false ≡ true
       go None e h = cc
       go (Some u) e h =
           let y = holds.tables a u (ta a refl) (place_at s.tables a u e) in
           let c = cond_left _ _ h in
           let ty_same : Rattle.wasm_meaning.specs.Values.same_ref ty.ty y.0.ty ≡ true = ap (Rattle.wasm_meaning.specs.Values.same_ref ty.ty) y.2.type ∙ c.0 in
           let size : meets (length y.0.slots) y.0.most ty.limits ≡ true = meets_more (length u.slots) (length y.0.slots) y.0.most ty.limits y.2.size (ap (λ q. meets (length u.slots) q ty.limits) y.2.most ∙ c.1) in
-          ap (λ o. or_false (then_some o (λ u. Some (cond (Rattle.wasm_meaning.specs.Values.same_ref ty.ty u.ty) (meets (length u.slots) u.most ty.limits) false)))) (at_place t.tables a y.0 y.1) ∙ ap₂ (λ b c. cond b c false) ty_same size
-  match_stays (im.Memory l) (MemoryAt a) f ta me g h = go (place s.mems a) refl h
+          ap (λ o. unwrap_or (option_and_then (λ u. Some (Rattle.wasm_meaning.specs.Values.same_ref ty.ty u.ty && meets (length u.slots) u.most ty.limits)) o) false) (at_place t.tables a y.0 y.1) ∙ ap₂ (λ b c. b && c) ty_same size
+  match_stays (im.Memory l) (MemoryAt a) f ta me g h = go (slice_get s.mems a) refl h
     where
-      go : (o : Option Memory) → place s.mems a ≡ o → or_false (then_some o (λ u. Some (meets u.pages u.most l))) ≡ true → or_false (is_match t m (im.Memory l) (MemoryAt a)) ≡ true
+      go : (o : Option Memory) → slice_get s.mems a ≡ o → unwrap_or (option_and_then (λ u. Some (meets u.pages u.most l)) o) false ≡ true → unwrap_or (is_match t m (im.Memory l) (MemoryAt a)) false ≡ true
       go None e h = cc
       go (Some u) e h =
           let y = holds.mems a u (me a refl) (place_at s.mems a u e) in
-          ap (λ o. or_false (then_some o (λ u. Some (meets u.pages u.most l)))) (at_place t.mems a y.0 y.1) ∙ meets_more u.pages y.0.pages y.0.most l y.2.size (ap (λ q. meets u.pages q l) y.2.most ∙ h)
-  match_stays (im.Global ty) (GlobalAt a) f ta me g h = go (place s.globals a) refl h
+          ap (λ o. unwrap_or (option_and_then (λ u. Some (meets u.pages u.most l)) o) false) (at_place t.mems a y.0 y.1) ∙ meets_more u.pages y.0.pages y.0.most l y.2.size (ap (λ q. meets u.pages q l) y.2.most ∙ h)
+  match_stays (im.Global ty) (GlobalAt a) f ta me g h = go (slice_get s.globals a) refl h
     where
-      go : (o : Option Global) → place s.globals a ≡ o → or_false (then_some o (λ u. Some (cond (Rattle.wasm_meaning.specs.Values.same_type ty.ty u.ty.ty) (Rattle.wasm_meaning.specs.World.same_bool ty.mutable u.ty.mutable) false))) ≡ true → or_false (is_match t m (im.Global ty) (GlobalAt a)) ≡ true
+      go : (o : Option Global) → slice_get s.globals a ≡ o → unwrap_or (option_and_then (λ u. Some (Rattle.wasm_meaning.specs.Values.same_type ty.ty u.ty.ty && Rattle.wasm_meaning.specs.World.same_bool ty.mutable u.ty.mutable)) o) false ≡ true → unwrap_or (is_match t m (im.Global ty) (GlobalAt a)) false ≡ true
       go None e h = cc
       go (Some u) e h =
           let y = holds.globals a u (g a refl) (place_at s.globals a u e) in
-          ap (λ o. or_false (then_some o (λ u. Some (cond (Rattle.wasm_meaning.specs.Values.same_type ty.ty u.ty.ty) (Rattle.wasm_meaning.specs.World.same_bool ty.mutable u.ty.mutable) false)))) (at_place t.globals a y.0 y.1) ∙ ap (λ z. cond (Rattle.wasm_meaning.specs.Values.same_type ty.ty z.ty) (Rattle.wasm_meaning.specs.World.same_bool ty.mutable z.mutable) false) y.2.type ∙ h
+          ap (λ o. unwrap_or (option_and_then (λ u. Some (Rattle.wasm_meaning.specs.Values.same_type ty.ty u.ty.ty && Rattle.wasm_meaning.specs.World.same_bool ty.mutable u.ty.mutable)) o) false) (at_place t.globals a y.0 y.1) ∙ ap (λ z. Rattle.wasm_meaning.specs.Values.same_type ty.ty z.ty && Rattle.wasm_meaning.specs.World.same_bool ty.mutable z.mutable) y.2.type ∙ h
   match_stays (im.Func ty) (TableAt a) f ta me g h = cc
   match_stays (im.Func ty) (MemoryAt a) f ta me g h = cc
   match_stays (im.Func ty) (GlobalAt a) f ta me g h = cc
@@ -105,44 +105,44 @@ module _ (env : Environment) (parts : List Part) (p : ℕ) (s t : Store) (holds 
 
 -- ---- all sites ----
 
-pub all_is : {A : Type 0} (test : A → Bool) (xs : List A) → all_of test xs ≡ true → (n : ℕ) (x : A) → place xs n ≡ Some x → test x ≡ true
+pub all_is : {A : Type 0} (test : A → Bool) (xs : List A) → all_of test xs ≡ true → (n : ℕ) (x : A) → slice_get xs n ≡ Some x → test x ≡ true
 all_is test [] h n x e = absurd (let k = e in cc)
 all_is test (y ∷ ys) h zero x e = ap test (sym (some_is e)) ∙ (cond_left (test y) (all_of test ys) h).0
 all_is test (y ∷ ys) h (suc n) x e = all_is test ys (cond_left (test y) (all_of test ys) h).1 n x e
 
 -- the sites are the imports
 abbrev pub SitesThere : List Part → Type 0
-SitesThere parts = (s : Site) (i : Import) → import_at parts s ≡ Some i → (n : ℕ) × (place (sites parts) n ≡ Some s)
+SitesThere parts = (s : Site) (i : Import) → import_at parts s ≡ Some i → (n : ℕ) × (slice_get (sites parts) n ≡ Some s)
 
 module _ (env : Environment) (parts : List Part) (insts : List Inst) (are : insts_from env parts 0 parts ≡ Some insts) (size : length insts ≡ length parts) (there : ExportsThere parts) (earlier : JoinsEarlier parts) (own : OwnEntitiesCorrespond) (listed : SitesThere parts) (allocated : Store) (matched : all_of (is_matched env parts allocated) (sites parts) ≡ true) where
-  module _ (p : ℕ) (m : Module) (i : Inst) (is_part : module_at parts p ≡ Some m) (is_inst : place insts p ≡ Some i) (t : Store) (sized : Sized env parts p t) (holds : Holds env parts p allocated t) where
+  module _ (p : ℕ) (m : Module) (i : Inst) (is_part : module_at parts p ≡ Some m) (is_inst : slice_get insts p ≡ Some i) (t : Store) (sized : Sized env parts p t) (holds : Holds env parts p allocated t) where
     abbrev imported : ℕ → Option Thing
     imported n = imported_thing env parts (record { part = p; import = n })
 
     -- from a place of the imports on
-    things_for : (is : List Import) (n : ℕ) (xs : List Thing) → ((j : ℕ) (i : Import) → place is j ≡ Some i → place m.imports (n + j) ≡ Some i) → each_from imported is n ≡ Some xs →
+    things_for : (is : List Import) (n : ℕ) (xs : List Thing) → ((j : ℕ) (i : Import) → slice_get is j ≡ Some i → slice_get m.imports (n + j) ≡ Some i) → each_from imported is n ≡ Some xs →
         (all_there (thing_for (owned_of env) (made_upto p parts insts) m) is ≡ Some xs) × (all_match t m is xs ≡ true)
     things_for [] n xs at h = (h, ap (all_match t m []) (sym (some_is h)))
     things_for (im ∷ is) n xs at h =
         let a = then_is (imported n) _ xs h in
         let b = then_is (each_from imported is (suc n)) _ xs a.2 in
         let z : n + 0 ≡ n = omega arith in
-        let here : place m.imports n ≡ Some im = ap (place m.imports) (sym z) ∙ at 0 im refl in
-        let r = things_for is (suc n) b.0 (λ j i e. ap (place m.imports) (let s : suc n + j ≡ n + suc j = omega arith in s) ∙ at (suc j) i e) b.1 in
+        let here : slice_get m.imports n ≡ Some im = ap (slice_get m.imports) (sym z) ∙ at 0 im refl in
+        let r = things_for is (suc n) b.0 (λ j i e. ap (slice_get m.imports) (let s : suc n + j ≡ n + suc j = omega arith in s) ∙ at (suc j) i e) b.1 in
         let thing = thing_same env parts insts are size earlier p n m im is_part here a.0 a.1 in
         let first = matches n im a.0 here a.1 in (
-          ap₂ (λ o q. then_some o (λ y. then_some q (λ ys. Some (y ∷ ys)))) thing r.0 ∙ b.2,
-          ap (all_match t m (im ∷ is)) (sym (some_is b.2)) ∙ ap₂ (λ b c. cond b c false) first r.1,
+          ap₂ (λ o q. option_and_then (λ y. option_and_then (λ ys. Some (y ∷ ys)) q) o) thing r.0 ∙ b.2,
+          ap (all_match t m (im ∷ is)) (sym (some_is b.2)) ∙ ap₂ (λ b c. b && c) first r.1,
         )
       where
-        matches : (n : ℕ) (im : Import) (x : Thing) → place m.imports n ≡ Some im → imported n ≡ Some x → or_false (is_match t m im.desc x) ≡ true
+        matches : (n : ℕ) (im : Import) (x : Thing) → slice_get m.imports n ≡ Some im → imported n ≡ Some x → unwrap_or (is_match t m im.desc x) false ≡ true
         matches n im x here h =
-            let import_is : import_at parts (record { part = p; import = n }) ≡ Some im = ap (λ o. then_some o (λ m. place m.imports n)) is_part ∙ here in
+            let import_is : import_at parts (record { part = p; import = n }) ≡ Some im = ap (λ o. option_and_then (λ m. slice_get m.imports n) o) is_part ∙ here in
             let s = listed (record { part = p; import = n }) im import_is in
             let was = all_is (is_matched env parts allocated) (sites parts) matched s.0 (record { part = p; import = n }) s.1 in
-            let is : or_false (is_match allocated m im.desc x) ≡ true =
-            sym (ap (λ o. or_false (then_some o (λ m. then_some (import_at parts (record { part = p; import = n })) (λ i. then_some (imported n) (is_match allocated m i.desc))))) is_part
-            ∙ ap (λ o. or_false (then_some o (λ i. then_some (imported n) (is_match allocated m i.desc)))) import_is ∙ ap (λ o. or_false (then_some o (is_match allocated m im.desc))) h) ∙ was in
+            let is : unwrap_or (is_match allocated m im.desc x) false ≡ true =
+            sym (ap (λ o. unwrap_or (option_and_then (λ m. option_and_then (λ i. option_and_then (is_match allocated m i.desc) (imported n)) (import_at parts (record { part = p; import = n }))) o) false) is_part
+            ∙ ap (λ o. unwrap_or (option_and_then (λ i. option_and_then (is_match allocated m i.desc) (imported n)) o) false) import_is ∙ ap (λ o. unwrap_or (option_and_then (is_match allocated m im.desc) o) false) h) ∙ was in
             let low = thing_low env parts insts are size earlier own p n m x is_part h in
             match_stays env parts p allocated t holds m im.desc x (λ a e. low Functions a (ap (Rattle.wasm_meaning.specs.World.address_of Functions) e)) (λ a e. low Tables a (ap (Rattle.wasm_meaning.specs.World.address_of Tables) e)) (λ a e. low Memories a (ap (Rattle.wasm_meaning.specs.World.address_of Memories) e)) (λ a e. low Globals a (ap (Rattle.wasm_meaning.specs.World.address_of Globals) e)) is
 
@@ -160,7 +160,7 @@ module _ (env : Environment) (parts : List Part) (insts : List Inst) (are : inst
         let s = space_is env parts Memories p m i.mems is.mems in
         let g = space_is env parts Globals p m i.globals is.globals in
         let all = gathered imported m.imports 0 f.0 t'.0 s.0 g.0 f.1 t'.1 s.1 g.1 in
-        let r = things_for m.imports 0 all.things (λ j i e. ap (place m.imports) (let z : 0 + j ≡ j = omega arith in z) ∙ e) all.each in
+        let r = things_for m.imports 0 all.things (λ j i e. ap (slice_get m.imports) (let z : 0 + j ≡ j = omega arith in z) ∙ e) all.each in
         record {
           things = all.things;
           found = r.0;

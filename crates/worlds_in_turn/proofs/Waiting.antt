@@ -1,8 +1,8 @@
 -- Between starts: a part's turn comes, and the stores stay beside one another.
-use Rattle.std.proofs.Common.{◌≡◌, ◌∙◌, refl, sym, ap, subst, ℕ, zero, suc, ◌<◌, ◌≤◌, List, [], ◌∷◌, length, Some, arith}
-use Rattle.wasm_meaning.specs.Outcomes.{Outcome, Gives, Traps, IllTyped, at, past}
+use Rattle.std.proofs.Common.{◌≡◌, ◌∙◌, refl, sym, ap, subst, ℕ, zero, suc, ◌<◌, ◌≤◌, List, [], ◌∷◌, length, Some, arith, drop, option_and_then, slice_get}
+use Rattle.wasm_meaning.specs.Outcomes.{Outcome, Gives, Traps, IllTyped, at}
 use Rattle.wasm_meaning.specs.State.{RefVal, FuncRef, Val, Ref, Inst, Func, Table, Memory, Global, Store}
-use Rattle.wasm_meaning.specs.Linking.{Part, place, then_some, module_at}
+use Rattle.wasm_meaning.specs.Linking.{Part, module_at}
 use Rattle.wasm_meaning.specs.Environment.{Environment, Thing}
 use Rattle.wasm_meaning.specs.World.{World, elems_before, datas_before, joined_stores}
 use Rattle.wasm_meaning.specs.Run.{Run}
@@ -71,9 +71,9 @@ holds_of env parts p allocated t s h e = record {
         go IllTyped e r = elim r [ ]
         go (Gives z) e (both q) = (z, e, record { type = q.type ∙ k.type; fixed = λ f. val_same env parts p q.value ∙ k.fixed f })
 
-module _ (env : Environment) (w : World) (insts : List Inst) (allocated : Store) (g : IsGiven env w insts allocated) (itself : CodeIsRelatedToItself) (k : ℕ) (part : Part) (i : Inst) (at_part : place w.parts k ≡ Some part) (at_inst : place insts k ≡ Some i) where
+module _ (env : Environment) (w : World) (insts : List Inst) (allocated : Store) (g : IsGiven env w insts allocated) (itself : CodeIsRelatedToItself) (k : ℕ) (part : Part) (i : Inst) (at_part : slice_get w.parts k ≡ Some part) (at_inst : slice_get insts k ≡ Some i) where
   is_part : module_at w.parts k ≡ Some part.«module»
-  is_part = ap (λ o. then_some o (λ part. Some part.«module»)) at_part
+  is_part = ap (λ o. option_and_then (λ part. Some part.«module») o) at_part
 
   pub reaches : Reaches env w.parts (suc k) i
   reaches =
@@ -82,11 +82,11 @@ module _ (env : Environment) (w : World) (insts : List Inst) (allocated : Store)
       let dn = datas_next w.parts k part.«module» is_part in
       record {
         spaces = λ kind n a h. inst_low env w.parts insts g.are g.size g.earlier g.own k part.«module» i is_part at_inst kind n a h;
-        elems = λ n a h. let r = numbers_back (elems_before w.parts k) (length part.«module».elems) n a (ap (λ l. place l n) (sym is.elems) ∙ h) in omega (arith, r.0, r.1, en);
-        datas = λ n a h. let r = numbers_back (datas_before w.parts k) (length part.«module».datas) n a (ap (λ l. place l n) (sym is.datas) ∙ h) in omega (arith, r.0, r.1, dn);
+        elems = λ n a h. let r = numbers_back (elems_before w.parts k) (length part.«module».elems) n a (ap (λ l. slice_get l n) (sym is.elems) ∙ h) in omega (arith, r.0, r.1, en);
+        datas = λ n a h. let r = numbers_back (datas_before w.parts k) (length part.«module».datas) n a (ap (λ l. slice_get l n) (sym is.datas) ∙ h) in omega (arith, r.0, r.1, dn);
       }
 
-  place_low : {A : Type 0} (xs : List A) (n : ℕ) (x : A) → place xs n ≡ Some x → n < length xs
+  place_low : {A : Type 0} (xs : List A) (n : ℕ) (x : A) → slice_get xs n ≡ Some x → n < length xs
   place_low [] n x e = absurd (let z = e in cc)
   place_low (y ∷ ys) zero x e = omega arith
   place_low (y ∷ ys) (suc n) x e = let l = place_low ys n x e in omega (arith, l)
@@ -96,7 +96,7 @@ module _ (env : Environment) (w : World) (insts : List Inst) (allocated : Store)
 
   -- values that stand in globals refer to nothing beyond
   abbrev pub ValuesSelf : Store → Type 0
-  ValuesSelf t = (a : ℕ) (h : Global) → place t.globals a ≡ Some h → ValRel (reaching env w.parts (suc k)) h.value h.value
+  ValuesSelf t = (a : ℕ) (h : Global) → slice_get t.globals a ≡ Some h → ValRel (reaching env w.parts (suc k)) h.value h.value
 
   more_values : {v u : Val} → ValRel (reaching env w.parts k) v u → ValRel (reaching env w.parts (suc k)) v u
   more_values = val_more (reaching env w.parts k) (reaching env w.parts (suc k)) (more itself env w.parts insts allocated g.laid k part.«module» is_part within)
@@ -115,7 +115,7 @@ module _ (env : Environment) (w : World) (insts : List Inst) (allocated : Store)
   pub adds_closed : (t : Store) → Holds env w.parts k allocated t → ValuesSelf t → Closed (reaching env w.parts (suc k)) (g.laid.adds k)
   adds_closed t holds values = added_closed itself env w.parts (suc k) part.«module» i t.globals reaches values (g.laid.adds k) (g.store_is k part.«module» i t is_part at_inst holds)
 
-  pub adds_sound : (t : Store) → Holds env w.parts k allocated t → ValuesSelf t → (n : ℕ) (f : Func) → place (g.laid.adds k).funcs n ≡ Some f → Sound env w.parts (suc k) f
+  pub adds_sound : (t : Store) → Holds env w.parts k allocated t → ValuesSelf t → (n : ℕ) (f : Func) → slice_get (g.laid.adds k).funcs n ≡ Some f → Sound env w.parts (suc k) f
   adds_sound t holds values = added_sound itself env w.parts (suc k) part.«module» i t.globals reaches values (g.laid.adds k) (g.store_is k part.«module» i t is_part at_inst holds)
 
   -- ---- where the part has no active segment ----
@@ -131,7 +131,7 @@ module _ (env : Environment) (w : World) (insts : List Inst) (allocated : Store)
 
   module _ (below : BelowIsNotSeen) (ticks : RelatedTicksAgree) (others : OthersStay) where
     -- the two runs are abreast again, with the part
-    pub abreast_next : (r : Run) (q : InTurn) → Abreast below ticks others env w.parts allocated k [] [] r q.run → Abreast below ticks others env w.parts allocated (suc k) [] [] r (goes_on q part (past w.parts (suc k)) i (joined_stores q.run.store (g.laid.adds k))).run
+    pub abreast_next : (r : Run) (q : InTurn) → Abreast below ticks others env w.parts allocated k [] [] r q.run → Abreast below ticks others env w.parts allocated (suc k) [] [] r (goes_on q part (drop (suc k) w.parts) i (joined_stores q.run.store (g.laid.adds k))).run
     abreast_next r q h =
         let t = q.run.store in
         let holds = holds_of env w.parts k allocated t r.store h.beside h.extends in

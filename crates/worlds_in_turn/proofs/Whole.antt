@@ -1,15 +1,14 @@
 -- The whole run: parts in turn show what the world shows at once.
-use Rattle.std.proofs.Common.{◌≡◌, ◌∙◌, refl, sym, ap, ap₂, subst, ℕ, zero, suc, ◌+◌, ◌*◌, ◌<◌, ◌≤◌, List, [], ◌∷◌, ◌++◌, length, Option, Some, None, false, cond, ◌⊎◌, inl, inr, arith}
+use Rattle.std.proofs.Common.{◌≡◌, ◌∙◌, refl, sym, ap, ap₂, subst, ℕ, zero, suc, ◌+◌, ◌*◌, ◌<◌, ◌≤◌, List, [], ◌∷◌, ◌++◌, length, Option, Some, None, false, cond, ◌⊎◌, inl, inr, arith, drop, option_and_then, slice_get, unwrap_or}
 use Rattle.std.proofs.lemmas.Bool.{cases_lt}
 use Rattle.wasm_tree.specs.declared.module.Module.{Module}
-use Rattle.wasm_meaning.specs.Outcomes.{past}
 use Rattle.wasm_meaning.specs.State.{Text, Inst, Store, Opening}
-use Rattle.wasm_meaning.specs.Linking.{Part, Entity, place, then_some, module_at}
+use Rattle.wasm_meaning.specs.Linking.{Part, Entity, module_at}
 use Rattle.wasm_meaning.specs.Environment.{Environment, Thing, owned_of}
 use Rattle.wasm_meaning.specs.World.{World, Begun, own_store, begun, all_there, start_in, starts_of, seen_as, segments}
 use Rattle.wasm_meaning.specs.Run.{Event, InstanceTrapped, Pending, Closed, Move, Run, IsPrefix, fresh_run, tick, events_of}
 use Rattle.wasm_meaning.specs.Below.{BelowIsNotSeen}
-use Rattle.wasm_meaning.specs.InTurn.{InTurn, or_empty, view_over, goes_on, before_turns, tick_in_turn, events_in_turn, HasNoActive}
+use Rattle.wasm_meaning.specs.InTurn.{InTurn, view_over, goes_on, before_turns, tick_in_turn, events_in_turn, HasNoActive}
 use Rattle.wasm_meaning.proofs.Prefixes.{Prefix, prefix_trans, later}
 use Rattle.index_remap.specs.Related.{nil, cons, opening}
 use Rattle.index_remap.specs.RelatedRuns.{pending}
@@ -28,7 +27,7 @@ use Rattle.worlds_in_turn.proofs.Stages as stages
 use Rattle.worlds_in_turn.proofs.Begins.{FillLaws, Fills, Advances, advances, beside_after, own_related, own_sound}
 
 -- a view over no parts is empty
-no_view : (vs : List (Text × Entity)) → or_empty (all_there (seen_as []) vs) ≡ []
+no_view : (vs : List (Text × Entity)) → unwrap_or (all_there (seen_as []) vs) [] ≡ []
 no_view [] = refl
 no_view (v ∷ vs) = refl
 
@@ -54,12 +53,12 @@ module _ (env : Environment) (w : World) (insts : List Inst) (allocated : Store)
     later_on : TheStage d r q → Early d r q
 
   -- after the turn of a part before which there was no start
-  module _ (k d : ℕ) (part : Part) (i : Inst) (r : Run) (q : InTurn) (at_part : place w.parts k ≡ Some part) (at_inst : place insts k ≡ Some i) (h : Filling k r q) (a : Advances env w insts allocated g itself below ticks others view view_is IsFilled laws moves k part i q) (l : length w.parts ≤ suc k + d) where
+  module _ (k d : ℕ) (part : Part) (i : Inst) (r : Run) (q : InTurn) (at_part : slice_get w.parts k ≡ Some part) (at_inst : slice_get insts k ≡ Some i) (h : Filling k r q) (a : Advances env w insts allocated g itself below ticks others view view_is IsFilled laws moves k part i q) (l : length w.parts ≤ suc k + d) where
     abbrev next_state : InTurn
-    next_state = goes_on q part (past w.parts (suc k)) i a.next_store
+    next_state = goes_on q part (drop (suc k) w.parts) i a.next_store
 
     is_part : module_at w.parts k ≡ Some part.«module»
-    is_part = ap (λ o. then_some o (λ part. Some part.«module»)) at_part
+    is_part = ap (λ o. option_and_then (λ part. Some part.«module») o) at_part
 
     low : suc k ≤ length w.parts
     low = within env w insts allocated g itself k part i at_part at_inst
@@ -165,7 +164,7 @@ module _ (env : Environment) (w : World) (insts : List Inst) (allocated : Store)
       }
 
   -- the next part, by its place
-  part_at : (k : ℕ) → k < length w.parts → (part : Part) × (i : Inst) × (place w.parts k ≡ Some part) × (place insts k ≡ Some i)
+  part_at : (k : ℕ) → k < length w.parts → (part : Part) × (i : Inst) × (slice_get w.parts k ≡ Some part) × (slice_get insts k ≡ Some i)
   part_at k less =
       let part = part_there w.parts k less in
       let i = part_there insts k (let s = g.size in omega (arith, less, s)) in
@@ -175,7 +174,7 @@ module _ (env : Environment) (w : World) (insts : List Inst) (allocated : Store)
   step_of k d r q h l =
       let p = part_at k h.most in
       let a = advances env w insts allocated g itself below ticks others view view_is IsFilled laws moves k p.0 p.1 r q p.2 p.3 h in
-      (goes_on q p.0 (past w.parts (suc k)) p.1 a.next_store, a.is, after_turn k d p.0 p.1 r q p.2 p.3 h a l)
+      (goes_on q p.0 (drop (suc k) w.parts) p.1 a.next_store, a.is, after_turn k d p.0 p.1 r q p.2 p.3 h a l)
 
   next : (d : ℕ) (r : Run) (q : InTurn) → Early d r q → Next d r q
   next d r q (fresh e f some l) =

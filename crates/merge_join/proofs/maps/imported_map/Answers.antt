@@ -3,7 +3,7 @@ use Rattle.std.proofs.lemmas.Option.{slice_get_read}
 use Rattle.std.proofs.lemmas.List.{map_push, take_all}
 use Rattle.wasm_tree.specs.declared.module.Module.{Module}
 use Rattle.wasm_meaning.specs.World.{numbers}
-use Rattle.wasm_meaning.specs.Linking.{places, place, has_kind, kind_of_import, imports_of}
+use Rattle.wasm_meaning.specs.Linking.{places, has_kind, kind_of_import, imports_of}
 use Rattle.merge_terms.specs.Parts.{named_modules}
 use Rattle.merge_terms.specs.Merged.{new_index}
 use Rattle.merge_join.specs.Words.{the_kind, IsEnd}
@@ -27,7 +27,7 @@ loop-place-preserved c =
     let held : has_kind k import ≡ true = ap (has_kind k) c.index-imports-place.is ∙ sym c.is_of.ensures ∙ c.if-not-is_of.false in
     let count = length (places (has_kind k) (take i imports) 0) in
     let more : length (places (has_kind k) (take (i + 1) imports) 0) ≡ count + 1 = places_length (has_kind k) imports import i at ∙ ap (λ (b : Bool). count + cond b 1 0) held in
-    let place_is : place (imports_of k m) count ≡ Some i = ap (λ is. place (places (has_kind k) is 0) count) (sym c.as_slice-imports.ensures) ∙ import_place (has_kind k) imports import i at held in
+    let place_is : slice_get (imports_of k m) count ≡ Some i = ap (λ is. slice_get (places (has_kind k) is 0) count) (sym c.as_slice-imports.ensures) ∙ import_place (has_kind k) imports import i at held in
     let z : count ≡ 0 + count = omega arith in
     c.in_ok-keep.ensures.ok ∙ ap (λ x. x ++ c.place.result ∷ []) c.loop-place.invariant
     ∙ ap (λ x. map (new_index ps p k) (numbers 0 count) ++ x ∷ []) (c.place.ensures ∙ sym (new_index_at ps p k count i m c.end_of.result c.module_of.ensures.at place_is c.end_of.ensures) ∙ ap (new_index ps p k) z)
@@ -53,7 +53,7 @@ place-requires c =
     let i = c.loop-place.place in
     let imports = c.as_slice-imports.result.now in
     let import = c.index-imports-place.result in
-    let here : place m.imports i ≡ Some import = ap (λ is. place is i) (sym c.as_slice-imports.ensures) ∙ place_is_get imports i ∙ slice_get_read imports (length imports) i import refl c.loop-place-test.true c.index-imports-place.is in
+    let here : slice_get m.imports i ≡ Some import = ap (λ is. slice_get is i) (sym c.as_slice-imports.ensures) ∙ place_is_get imports i ∙ slice_get_read imports (length imports) i import refl c.loop-place-test.true c.index-imports-place.is in
     let kind : the_kind c.args.space.now.kind ≡ kind_of_import import.desc = kind_from (the_kind c.args.space.now.kind) (kind_of_import import.desc) (ap (has_kind (the_kind c.args.space.now.kind)) c.index-imports-place.is ∙ sym c.is_of.ensures ∙ c.if-not-is_of.false) in
     subst (λ k. IsEnd ps k c.end_of.result) (sym kind) (entry_there ps c.args.part i m import c.end_of.result c.requires.linked.no_fault c.module_of.ensures.at here c.end_of.ensures)
 

@@ -4,7 +4,6 @@ use Rattle.wasm_meaning.specs.World.{numbers}
 use Rattle.wasm_meaning.specs.Linking.{first_place}
 use Rattle.wasm_meaning.specs.Values.{same_func_type}
 use Rattle.merge_terms.specs.Parts.{named_modules}
-use Rattle.merge_terms.specs.Merged.{or_this}
 use Rattle.merge_join.specs.declared.kinds.Kind.TheVariants.{Functions, Tables, Memories, Globals}
 use Rattle.merge_join.proofs.Counts.{elems_room, datas_room}
 use Rattle.merge_join.proofs.MapParts.{space_is, map_built}

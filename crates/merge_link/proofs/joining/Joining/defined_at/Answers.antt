@@ -1,4 +1,4 @@
-use Rattle.std.proofs.Common.{length, Option, Some, ap, sym, ◌<◌, arith, slice_get, ◌≡◌, ◌∙◌}
+use Rattle.std.proofs.Common.{length, Option, Some, ap, sym, ◌<◌, arith, slice_get, ◌≡◌, ◌∙◌, option_and_then}
 use Rattle.std.proofs.lemmas.List.{length-map}
 use Rattle.wasm_tree.specs.declared.module.Module.{Module}
 use Rattle.wasm_meaning.specs.Linking as linking
@@ -36,10 +36,10 @@ returns-in-Some c =
     let within : p < length ps = omega (arith, c.in-Some.ensures.lookup.3.0, ap length c.deref.ensures.value, c.requires.joining.tables.one_each, length-map ps named_module) in
     let at : linking.module_at (named_modules ps) p ≡ Some c.module-module.result.now =
     module_read ps p c.index-self-entity.result c.module-module.result.now within c.index-self-entity.is (c.module-module.ensures.value ∙ ap (λ (x : Part). x.«module») (sym c.index-self-entity.is)) in
-    c.defined.ensures ∙ ap (λ (o : Option Module). linking.then_some o (λ m. faults.external_of m c.args.entity.what)) (sym at)
+    c.defined.ensures ∙ ap (λ (o : Option Module). option_and_then (λ m. faults.external_of m c.args.entity.what) o) (sym at)
 
 pub returns-in-None : goal.returns-in-None
 returns-in-None c =
     let lp = named_modules c.args.self.now.parts.now in
     let past = module_past lp c.args.entity.part (omega (arith, c.in-None.ensures.lookup.3, ap length c.deref.ensures.value, c.requires.joining.tables.one_each)) in
-    ap (λ (o : Option Module). linking.then_some o (λ m. faults.external_of m c.args.entity.what)) (sym past)
+    ap (λ (o : Option Module). option_and_then (λ m. faults.external_of m c.args.entity.what) o) (sym past)

@@ -1,0 +1,7 @@
+-- Chains of look-ups, any of which may find nothing.
+use Rattle.std.specs.Prelude.{Option, option_and_then}
+
+-- what f gives for what is there, as `Option::and_then`
+infixl 10 ◌>>=◌
+abbrev pub ◌>>=◌ : {A B : Type 0} → Option A → (A → Option B) → Option B
+o >>= f = option_and_then f o
