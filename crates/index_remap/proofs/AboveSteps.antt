@@ -1,11 +1,12 @@
 -- A step leaves alone what it does not touch.
 use Rattle.std.proofs.Common.{◌≡◌, ℕ, List, [], ◌∷◌, ◌++◌, true, refl, sym, ◌∙◌, ap, subst}
+use Rattle.wasm_tree.specs.declared.space.Space.TheVariants.{Functions}
 use Rattle.std.proofs.lemmas.Bool.{true≢false}
 use Rattle.wasm_meaning.specs.Outcomes.{Outcome, Gives, bind}
 use Rattle.wasm_meaning.specs.State.{Val, Store, Frame, Entry, Running, Mark, Opening, Waiting, Ended, Growing, Caller, Host, Starter, Act, Ends}
 use Rattle.wasm_meaning.specs.Values.{pop_typed}
 use Rattle.wasm_meaning.specs.Step.{enter_at, give, act, perform, step, to_mark}
-use Rattle.index_remap.specs.Related.{Funcs, Pairing, OneToOneWhereWritten, ResRel, done, trap, wrong, ListRel, nil, cons, ValRel, StoreRel, FrameRel, EntryRel, running, mark, opening, waiting, ended, growing, ActRel, goes, calls, asks_grow, ends, NextRel, ran, asked_grow, returned, NotListed, TopSkips}
+use Rattle.index_remap.specs.Related.{Pairing, OneToOneWhereWritten, ResRel, done, trap, wrong, ListRel, nil, cons, ValRel, StoreRel, FrameRel, EntryRel, running, mark, opening, waiting, ended, growing, ActRel, goes, calls, asks_grow, ends, NextRel, ran, asked_grow, returned, NotListed, TopSkips}
 use Rattle.index_remap.specs.Laws.{Above, NeedsBelow, Touches, EntriesKnown, ends_trap, NoMark}
 use Rattle.index_remap.proofs.Rel.{there, same_there, bind_rel, bind_eq}
 use Rattle.index_remap.proofs.ValueSteps.{pop_typed_rel}
@@ -61,7 +62,7 @@ module _ (R : Pairing) (apart : OneToOneWhereWritten R) (cs ds : List Entry) whe
   give_below {s} {t} {vs = vs} {ws = ws} us h v nil needs = subst (λ xs. ResRel (NextRel R Both) (give s vs xs) (give t ws ds)) (sym needs.0) (subst (λ ys. ResRel (NextRel R Both) (give s vs []) (give t ws ys)) (sym needs.1) wrong)
   give_below us h v (cons e r) needs = give_rel h v e r
 
-  pub enter_at_rel : {s t : Store} {a b : ℕ} {vs ws : List Val} {es fs : List Entry} → StoreRel R s t → R.of Funcs a b → ¬ R.listed a → ListRel (ValRel R) vs ws → Both s t es fs → ResRel (NextRel R Both) (enter_at s a vs es) (enter_at t b ws fs)
+  pub enter_at_rel : {s t : Store} {a b : ℕ} {vs ws : List Val} {es fs : List Entry} → StoreRel R s t → R.of Functions a b → ¬ R.listed a → ListRel (ValRel R) vs ws → Both s t es fs → ResRel (NextRel R Both) (enter_at s a vs es) (enter_at t b ws fs)
   enter_at_rel s n free v e = bind_rel (there (s.funcs n free)) (λ _ _ f. done (enter_rel R apart Both Both (λ s t es fs e. e) push s f v e))
 
   ends_rel : {s t : Store} {f g : Frame} {vs ws : List Val} {es fs : List Entry} → StoreRel R s t → FrameRel R f g → ListRel (ValRel R) vs ws → ListRel (EntryRel R) es fs → NeedsBelow es cs ds (Ends vs) →

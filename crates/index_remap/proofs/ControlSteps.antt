@@ -1,5 +1,6 @@
 -- Calls, ends, branches and blocks agree.
 use Rattle.std.proofs.Common.{◌≡◌, ℕ, zero, suc, List, [], ◌∷◌, ◌++◌, length, refl, sym, subst, append_assoc}
+use Rattle.wasm_tree.specs.declared.space.Space.TheVariants.{Functions, Tables}
 use Rattle.std.specs.Prelude.{nat_eq}
 use Rattle.wasm_tree.specs.declared.types.ValType.{ValType}
 use Rattle.wasm_tree.specs.declared.types.BlockType.{BlockType}
@@ -12,7 +13,7 @@ use Rattle.wasm_meaning.specs.State.{RefVal, Val, Inst, Level, Env, Body}
 use Rattle.wasm_meaning.specs.Values.{same_func_type}
 use Rattle.wasm_meaning.specs.Control.{call, func_ref, call_indirect, finish, resume, end_level, level_here, branch, branch_if, branches, branch_table, shape_of, open_level, open_block, open_loop, open_if}
 use Rattle.index_remap.specs.Related
-use Rattle.index_remap.specs.Related.{Kind, Funcs, Tables, Pairing, OptRel, none, some, ResRel, done, trap, wrong, ListRel, nil, cons, RefRel, func, extern, ValRel, Names, StoreRel, SameType, BlockRel, empty, value, indexed, OpRel, CodeRel, end, then, instead, TableRel, LevelRel, BodyRel, keep, ActRel, goes, calls, ends}
+use Rattle.index_remap.specs.Related.{Pairing, OptRel, none, some, ResRel, done, trap, wrong, ListRel, nil, cons, RefRel, func, extern, ValRel, Names, StoreRel, SameType, BlockRel, empty, value, indexed, OpRel, CodeRel, end, then, instead, TableRel, LevelRel, BodyRel, keep, ActRel, goes, calls, ends}
 use Rattle.index_remap.proofs.Rel.{same_there, bind_rel, bind_eq, cond_rel, cond_two, at_rel, onto_rel, append_rel, past_rel, split_rel, trapping_rel, or_trap_rel}
 use Rattle.index_remap.proofs.ValueSteps.{bind_num, pop_typed_rel, go_rel, values_rel}
 use Rattle.index_remap.proofs.TableSteps.{bind_table}
@@ -25,10 +26,10 @@ followed_rel {R} {i} {j} {e = g} {f = f} (instead {o = o} {c = c} {d = d} e p q 
 module _ (R : Pairing) (ev ew : Env) (st : StoreRel R ev.store ew.store) where
   -- ---- calls ----
 
-  pub call_rel : {h k : Body} (n m : ℕ) → BodyRel R ev.inst ew.inst h k → Names R.of Funcs ev.inst.funcs ew.inst.funcs n m → ResRel (ActRel R ev.inst ew.inst) (call ev h n) (call ew k m)
+  pub call_rel : {h k : Body} (n m : ℕ) → BodyRel R ev.inst ew.inst h k → Names R.of Functions ev.inst.funcs ew.inst.funcs n m → ResRel (ActRel R ev.inst ew.inst) (call ev h n) (call ew k m)
   call_rel n m r p = bind_rel p (λ _ _ p. done (calls p r.values r))
 
-  func_ref_rel : {x y : RefVal} → RefRel R x y → ResRel (R.of Funcs) (func_ref x) (func_ref y)
+  func_ref_rel : {x y : RefVal} → RefRel R x y → ResRel (R.of Functions) (func_ref x) (func_ref y)
   func_ref_rel (func p) = or_trap_rel p
   func_ref_rel extern = wrong
 

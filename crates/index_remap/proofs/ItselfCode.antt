@@ -1,5 +1,7 @@
 -- Code is related to itself.
 use Rattle.std.proofs.Common.{◌≡◌, ℕ, List, [], ◌∷◌, refl, false}
+use Rattle.wasm_tree.specs.declared.space.Space.{Space}
+use Rattle.wasm_tree.specs.declared.space.Space.TheVariants.{Functions, Tables, Memories, Globals, ElementSegments, DataSegments}
 use Rattle.wasm_tree.specs.declared.types.BlockType.{BlockType}
 use Rattle.wasm_tree.specs.declared.types.BlockType.TheVariants as bt
 use Rattle.wasm_tree.specs.declared.instr.Instr.{Instr, out-Instr, Row_of-Instr, end_of-Instr, more_of-Instr, items-the_row-Instr, items_shown-the_row-Instr-0, Block', Loop', If'}
@@ -7,11 +9,11 @@ use Rattle.wasm_tree.specs.declared.instr.Instr.TheOpen.{Instr-F}
 use Rattle.wasm_meaning.specs.Outcomes.{Outcome, Gives, Traps, IllTyped, at}
 use Rattle.wasm_meaning.specs.State.{Inst}
 use Rattle.index_remap.specs.Related
-use Rattle.index_remap.specs.Related.{Kind, Funcs, Tables, Mems, Globals, Elems, Datas, Pairing, ResRel, done, trap, wrong, Names, BlockRel, empty, value, indexed, OpRel, CodeRel, end, then}
+use Rattle.index_remap.specs.Related.{Pairing, ResRel, done, trap, wrong, Names, BlockRel, empty, value, indexed, OpRel, CodeRel, end, then}
 use Rattle.index_remap.specs.Laws.{NamesItself}
 
 module _ (R : Pairing) (i : Inst) (h : NamesItself R i) where
-  self : (k : Kind) (xs : List ℕ) → ((n a : ℕ) → at xs n ≡ Gives a → R.named k a a) → (n : ℕ) → Names R.named k xs xs n n
+  self : (k : Space) (xs : List ℕ) → ((n a : ℕ) → at xs n ≡ Gives a → R.named k a a) → (n : ℕ) → Names R.named k xs xs n n
   self k xs all n = go (at xs n) (all n)
     where
       go : (o : Outcome ℕ) → ((a : ℕ) → o ≡ Gives a → R.named k a a) → ResRel (R.named k) o o
@@ -24,23 +26,23 @@ module _ (R : Pairing) (i : Inst) (h : NamesItself R i) where
   block_self (bt.Value t) = value
   block_self (bt.Index k) = indexed refl
 
-  abbrev func : (n : ℕ) → Names R.named Funcs i.funcs i.funcs n n
-  func = self Funcs i.funcs h.funcs
+  abbrev func : (n : ℕ) → Names R.named Functions i.funcs i.funcs n n
+  func = self Functions i.funcs h.funcs
 
   abbrev table : (n : ℕ) → Names R.named Tables i.tables i.tables n n
   table = self Tables i.tables h.tables
 
-  abbrev memory : (n : ℕ) → Names R.named Mems i.mems i.mems n n
-  memory = self Mems i.mems h.mems
+  abbrev memory : (n : ℕ) → Names R.named Memories i.mems i.mems n n
+  memory = self Memories i.mems h.mems
 
   abbrev global : (n : ℕ) → Names R.named Globals i.globals i.globals n n
   global = self Globals i.globals h.globals
 
-  abbrev elem_segment : (n : ℕ) → Names R.named Elems i.elems i.elems n n
-  elem_segment = self Elems i.elems h.elems
+  abbrev elem_segment : (n : ℕ) → Names R.named ElementSegments i.elems i.elems n n
+  elem_segment = self ElementSegments i.elems h.elems
 
-  abbrev data_segment : (n : ℕ) → Names R.named Datas i.datas i.datas n n
-  data_segment = self Datas i.datas h.datas
+  abbrev data_segment : (n : ℕ) → Names R.named DataSegments i.datas i.datas n n
+  data_segment = self DataSegments i.datas h.datas
 
   -- what the layer holds is related to itself
   abbrev Held : Instr-F Instr → Type 0

@@ -1,15 +1,16 @@
 -- Where whatever code may name as one is related, the next instruction names related addresses.
 use Rattle.std.proofs.Common.{ℕ, List, [], ◌∷◌, true, false}
+use Rattle.wasm_tree.specs.declared.space.Space.{Space}
 use Rattle.wasm_tree.specs.declared.instr.Instr.{Instr}
 use Rattle.wasm_tree.specs.declared.instr.Instr.TheOpen.{Instr-F}
 use Rattle.wasm_meaning.specs.Outcomes.{Outcome}
 use Rattle.wasm_meaning.specs.State.{Inst, Level, Entry, Running, Mark, Opening, Waiting, Ended, Growing}
 use Rattle.index_remap.specs.Related
-use Rattle.index_remap.specs.Related.{Kind, Pairing, ResRel, done, trap, wrong, Names, ArgRel, OpRel, NextKnown, TopKnown}
+use Rattle.index_remap.specs.Related.{Pairing, ResRel, done, trap, wrong, Names, ArgRel, OpRel, NextKnown, TopKnown}
 use Rattle.index_remap.specs.Laws.{EntriesKnown}
 
-module _ (R : Pairing) (known : (k : Kind) (a b : ℕ) → R.named k a b → R.of k a b) (i j : Inst) where
-  names_known : {k : Kind} {o p : Outcome ℕ} → ResRel (R.named k) o p → ResRel (R.of k) o p
+module _ (R : Pairing) (known : (k : Space) (a b : ℕ) → R.named k a b → R.of k a b) (i j : Inst) where
+  names_known : {k : Space} {o p : Outcome ℕ} → ResRel (R.named k) o p → ResRel (R.of k) o p
   names_known {k} (done {a = a} {b = b} p) = done (known k a b p)
   names_known trap = trap
   names_known wrong = wrong
@@ -68,7 +69,7 @@ module _ (R : Pairing) (known : (k : Kind) (a b : ℕ) → R.named k a b → R.o
   top_known [] ms = tt
   top_known (l ∷ ls) [] = tt
 
-pub entries_known : (R : Pairing) → ((k : Kind) (a b : ℕ) → R.named k a b → R.of k a b) → (es fs : List Entry) → EntriesKnown R es fs
+pub entries_known : (R : Pairing) → ((k : Space) (a b : ℕ) → R.named k a b → R.of k a b) → (es fs : List Entry) → EntriesKnown R es fs
 entries_known R known (Running f ∷ es) (Running g ∷ fs) = top_known R known f.inst g.inst f.levels g.levels
 entries_known R known (Running f ∷ es) (Mark ∷ fs) = tt
 entries_known R known (Running f ∷ es) (Opening ys ∷ fs) = tt

@@ -1,10 +1,12 @@
 -- A step leaves what has no partner.
 use Rattle.std.proofs.Common.{◌≡◌, ℕ, List, ◌∷◌, refl, subst, ◌∙◌, slice_set}
+use Rattle.wasm_tree.specs.declared.space.Space.{Space}
+use Rattle.wasm_tree.specs.declared.space.Space.TheVariants.{Tables, Memories, Globals, ElementSegments, DataSegments}
 use Rattle.wasm_meaning.specs.Outcomes.{Outcome, at}
 use Rattle.wasm_meaning.specs.State.{Val, Store, Change, Entry, Caller}
 use Rattle.wasm_meaning.specs.Step.{changed, no_items, no_bytes, give, step}
 use Rattle.wasm_meaning.specs.Run.{Phase, Run, tick}
-use Rattle.index_remap.specs.Related.{Kind, Tables, Mems, Globals, Elems, Datas, Pairing, OneToOne, ResRel, done, trap, wrong, ListRel, nil, cons, ValRel, StoreRel, EntryRel, running, mark, opening, waiting, ended, growing, ChangeRel, keep, set_global, set_memory, set_table, drop_elem, drop_data, NextRel, ran, returned}
+use Rattle.index_remap.specs.Related.{Pairing, OneToOne, ResRel, done, trap, wrong, ListRel, nil, cons, ValRel, StoreRel, EntryRel, running, mark, opening, waiting, ended, growing, ChangeRel, keep, set_global, set_memory, set_table, drop_elem, drop_data, NextRel, ran, returned}
 use Rattle.index_remap.specs.RelatedRuns.{HasNoPartner, KeepsOthers, IsBegun, PhaseRel, pending, opened, closed, fresh, RunRel}
 use Rattle.index_remap.proofs.Rel.{written, there, bind_rel, PairRel, at_put_there}
 use Rattle.index_remap.proofs.Known.{top_known}
@@ -12,23 +14,23 @@ use Rattle.index_remap.proofs.StepsAgree.{Stacks, TopView, top_none, top_mark, t
 use Rattle.index_remap.proofs.Lockstep.{marks, marked}
 use Rattle.index_remap.proofs.Runs.{still_rel}
 
-module _ (R : Pairing) (apart : OneToOne R) (known : (k : Kind) (a b : ℕ) → R.named k a b → R.of k a b) (plain : (a : ℕ) → ¬ R.listed a) (first : Store) where
+module _ (R : Pairing) (apart : OneToOne R) (known : (k : Space) (a b : ℕ) → R.named k a b → R.of k a b) (plain : (a : ℕ) → ¬ R.listed a) (first : Store) where
   -- entry by entry, and nothing else was changed in the second store
   record Held (s t : Store) (es fs : List Entry) : Type 0 where
     entries : ListRel (EntryRel R) es fs
     keeps : KeepsOthers R first t
 
   -- an address that has a partner is not one that has none
-  elsewhere : {A : Type 0} (k : Kind) (xs : List A) (a b : ℕ) (v : A) (c : ℕ) → R.of k a b → HasNoPartner R k c → at (slice_set xs b v) c ≡ at xs c
+  elsewhere : {A : Type 0} (k : Space) (xs : List A) (a b : ℕ) (v : A) (c : ℕ) → R.of k a b → HasNoPartner R k c → at (slice_set xs b v) c ≡ at xs c
   elsewhere k xs a b v c r h = at_put_there xs b c v (λ e. h a (subst (λ x. R.of k a x) e r))
 
   changed_keeps : {s : Store} {c d : Change} → ChangeRel R c d → KeepsOthers R first s → KeepsOthers R first (changed s d)
   changed_keeps keep h = h
   changed_keeps {s} (set_global {a = a} {b = b} {h = g} r q) h = record { funcs = h.funcs; tables = h.tables; mems = h.mems; elems = h.elems; datas = h.datas; globals = λ c n. elsewhere Globals s.globals a b g c r n ∙ h.globals c n }
-  changed_keeps {s} (set_memory {a = a} {b = b} {m = m} r) h = record { funcs = h.funcs; tables = h.tables; globals = h.globals; elems = h.elems; datas = h.datas; mems = λ c n. elsewhere Mems s.mems a b m c r n ∙ h.mems c n }
+  changed_keeps {s} (set_memory {a = a} {b = b} {m = m} r) h = record { funcs = h.funcs; tables = h.tables; globals = h.globals; elems = h.elems; datas = h.datas; mems = λ c n. elsewhere Memories s.mems a b m c r n ∙ h.mems c n }
   changed_keeps {s} (set_table {a = a} {b = b} {u = u} r q) h = record { funcs = h.funcs; mems = h.mems; globals = h.globals; elems = h.elems; datas = h.datas; tables = λ c n. elsewhere Tables s.tables a b u c r n ∙ h.tables c n }
-  changed_keeps {s} (drop_elem {a = a} {b = b} r) h = record { funcs = h.funcs; tables = h.tables; mems = h.mems; globals = h.globals; datas = h.datas; elems = λ c n. elsewhere Elems s.elems a b no_items c r n ∙ h.elems c n }
-  changed_keeps {s} (drop_data {a = a} {b = b} r) h = record { funcs = h.funcs; tables = h.tables; mems = h.mems; globals = h.globals; elems = h.elems; datas = λ c n. elsewhere Datas s.datas a b no_bytes c r n ∙ h.datas c n }
+  changed_keeps {s} (drop_elem {a = a} {b = b} r) h = record { funcs = h.funcs; tables = h.tables; mems = h.mems; globals = h.globals; datas = h.datas; elems = λ c n. elsewhere ElementSegments s.elems a b no_items c r n ∙ h.elems c n }
+  changed_keeps {s} (drop_data {a = a} {b = b} r) h = record { funcs = h.funcs; tables = h.tables; mems = h.mems; globals = h.globals; elems = h.elems; datas = λ c n. elsewhere DataSegments s.datas a b no_bytes c r n ∙ h.datas c n }
 
   push : (s t : Store) (e f : Entry) (es fs : List Entry) → EntryRel R e f → Held s t es fs → Held s t (e ∷ es) (f ∷ fs)
   push s t e f es fs p h = record { entries = cons p h.entries; keeps = h.keeps }

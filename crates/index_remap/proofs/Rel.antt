@@ -1,8 +1,9 @@
 -- Options, lists and stores that correspond.
 use Rattle.std.proofs.Common.{◌≡◌, ℕ, zero, suc, List, [], ◌∷◌, ◌++◌, length, Option, Bool, true, false, cond, refl, sym, ap, subst, drop, slice_set}
+use Rattle.wasm_tree.specs.declared.space.Space.{Space}
 use native.Mathlib.Decide.{ℕ_discrete}
 use Rattle.wasm_meaning.specs.Outcomes.{Outcome, Gives, Traps, IllTyped, trapping, or_trap, bind, at, onto, split_at, slice, overwrite, copies}
-use Rattle.index_remap.specs.Related.{Kind, Pairing, OneToOne, OneToOneWhereWritten, is_written, OptRel, none, some, BothRel, both, ResRel, done, trap, wrong, ListRel, nil, cons}
+use Rattle.index_remap.specs.Related.{Pairing, OneToOne, OneToOneWhereWritten, is_written, OptRel, none, some, BothRel, both, ResRel, done, trap, wrong, ListRel, nil, cons}
 
 -- ---- options ----
 
@@ -145,7 +146,7 @@ at_put_there (x ∷ xs) (suc n) (suc m) v h = at_put_there xs n m v (λ e. h (ap
 pub written : {R : Pairing} → OneToOne R → OneToOneWhereWritten R
 written apart = record { right = λ _. apart.right; left = λ _. apart.left }
 
-module _ (R : Pairing) (apart : OneToOneWhereWritten R) (k : Kind) (may : is_written k ≡ true) {A B : Type 0} (P : A → B → Type 0) (xs : List A) (ys : List B) (v : A) (w : B) where
+module _ (R : Pairing) (apart : OneToOneWhereWritten R) (k : Space) (may : is_written k ≡ true) {A B : Type 0} (P : A → B → Type 0) (xs : List A) (ys : List B) (v : A) (w : B) where
   pub write_rel : {a b : ℕ} → R.of k a b → ((c d : ℕ) → R.of k c d → BothRel P (at xs c) (at ys d)) → P v w → (c d : ℕ) → R.of k c d → BothRel P (at (slice_set xs a v) c) (at (slice_set ys b w) d)
   write_rel {a} {b} r all p c d q = go (ℕ_discrete a c) (ℕ_discrete b d)
     where

@@ -1,5 +1,6 @@
 -- Related runs show the same events.
 use Rattle.std.proofs.Common.{◌≡◌, ℕ, ◌^◌, List, [], ◌∷◌, Option, Some, None, Bool, true, false, cond, refl, ap, subst}
+use Rattle.wasm_tree.specs.declared.space.Space.TheVariants.{Functions, Memories}
 use Rattle.std.specs.Prelude.{nat_eq, nat_lt}
 use Rattle.wasm_tree.specs.declared.types.RefType.{RefType}
 use Rattle.wasm_tree.specs.declared.types.RefType.TheVariants as reft
@@ -16,7 +17,7 @@ use Rattle.wasm_meaning.specs.Linking.{same_text}
 use Rattle.wasm_meaning.specs.Environment.{Shown, Number, Null, OwnFunc, ExternNumber, Function, Thing, FuncKey, TableKey, MemoryKey, GlobalKey, Owned, same_key, look_up, owned_at, func_of, func_value, received, received_ref, received_all}
 use Rattle.wasm_meaning.specs.World.{Begun}
 use Rattle.wasm_meaning.specs.Run.{Event, InstanceTrapped, Returned, Asked, Got, Place, TableOf, MemoryOf, GlobalOf, Named, Move, Call, Invoke, Take, Answer, Refuse, Grant, Deny, Get, Size, Set, Extend, Phase, Pending, Closed, Run, Out, place_at, trapped_at, trapped_to, showing, after, called, is_mark, delivered, grown_table, answered, refused, with_change, granted, decided, shows, got, size_of, does, byte_of, set, extended, moved, at_entries, or_bad, or_closed, next_move, began, view_of, nothing_in, started, open_next, is_taken_closed, closed_move, in_phase, tick_at}
-use Rattle.index_remap.specs.Related.{Funcs, Mems, Pairing, OneToOne, OptRel, none, some, ResRel, done, trap, wrong, ListRel, nil, cons, RefRel, func, extern, ValRel, number, reference, TableRel, StoreRel, mark, opening, waiting, ended, growing, ChangeRel, set_global, set_memory, set_table, GrowthRel, memory_grows, table_grows, NextRel, ran, asked, asked_grow, loads, returned}
+use Rattle.index_remap.specs.Related.{Pairing, OneToOne, OptRel, none, some, ResRel, done, trap, wrong, ListRel, nil, cons, RefRel, func, extern, ValRel, number, reference, TableRel, StoreRel, mark, opening, waiting, ended, growing, ChangeRel, set_global, set_memory, set_table, GrowthRel, memory_grows, table_grows, NextRel, ran, asked, asked_grow, loads, returned}
 use Rattle.index_remap.specs.RelatedRuns.{ThingRel, a_func, a_table, a_memory, a_global, KeyRel, BegunRel, PhaseRel, fresh, pending, opened, closed, RunRel, OutRel}
 use Rattle.index_remap.proofs.Rel.{written, there, same_there, bind_rel, bind_rel_is, bind_is, bind_same, bind_eq, cond_rel, PairRel, OptAll, nothing, just, bind_all, all_at, any, at_rel, append_rel, length_rel, copies_rel, overwrite_rel}
 use Rattle.index_remap.proofs.ValueSteps.{Fits}
@@ -30,7 +31,7 @@ module _ (R : Pairing) (apart : OneToOne R) (B C : Store → Store → List Entr
   state_rel : {r q : Run} {s t : Store} {es fs : List Entry} → RunRel R B F r q → StoreRel R s t → B s t es fs → RunRel R B F (record r { store = s; entries = es }) (record q { store = t; entries = fs })
   state_rel h s e = record { store = s; entries = e; phase = h.phase; shown = h.shown; view = h.view; owned = h.owned; moves = h.moves }
 
-  shown_rel : {r q : Run} {xs ys : List ℕ} → RunRel R B F r q → ListRel (R.of Funcs) xs ys → RunRel R B F (record r { shown = xs }) (record q { shown = ys })
+  shown_rel : {r q : Run} {xs ys : List ℕ} → RunRel R B F r q → ListRel (R.of Functions) xs ys → RunRel R B F (record r { shown = xs }) (record q { shown = ys })
   shown_rel h x = record { store = h.store; entries = h.entries; phase = h.phase; shown = x; view = h.view; owned = h.owned; moves = h.moves }
 
   phase_rel : {r q : Run} {p o : Phase} → RunRel R B F r q → PhaseRel R F p o → RunRel R B F (record r { phase = p }) (record q { phase = o })
@@ -42,16 +43,16 @@ module _ (R : Pairing) (apart : OneToOne R) (B C : Store → Store → List Entr
   look_rel is nil = wrong
   look_rel is (cons {b = b} o os) = rw o.key (cond_rel (is b.0) (done o.thing) (look_rel is os))
 
-  func_of_rel : {x y : Thing} → ThingRel R x y → ResRel (R.of Funcs) (func_of x) (func_of y)
+  func_of_rel : {x y : Thing} → ThingRel R x y → ResRel (R.of Functions) (func_of x) (func_of y)
   func_of_rel (a_func n) = done n
   func_of_rel (a_table n) = wrong
   func_of_rel (a_memory n) = wrong
   func_of_rel (a_global n) = wrong
 
-  value_rel : {o p : Outcome ℕ} → ResRel (R.of Funcs) o p → ResRel (ValRel R) (func_value o) (func_value p)
+  value_rel : {o p : Outcome ℕ} → ResRel (R.of Functions) o p → ResRel (ValRel R) (func_value o) (func_value p)
   value_rel o = bind_rel o (λ _ _ p. done (reference (func (some p))))
 
-  received_rel : {o p : Owned} {xs ys : List ℕ} (t : ValType) (x : Shown) → ListRel (KeyRel R) o p → ListRel (R.of Funcs) xs ys → ResRel (ValRel R) (received o xs t x) (received p ys t x)
+  received_rel : {o p : Owned} {xs ys : List ℕ} (t : ValType) (x : Shown) → ListRel (KeyRel R) o p → ListRel (R.of Functions) xs ys → ResRel (ValRel R) (received o xs t x) (received p ys t x)
   received_rel valt.I32 (Number n) o s = cond_rel (nat_lt n (2 ^ 32)) (done number) wrong
   received_rel valt.I64 (Number n) o s = cond_rel (nat_lt n (2 ^ 64)) (done number) wrong
   received_rel (valt.Ref reft.Func) Null o s = done (reference (func none))
@@ -65,10 +66,10 @@ module _ (R : Pairing) (apart : OneToOne R) (B C : Store → Store → List Entr
   ref_of_rel number = wrong
   ref_of_rel (reference p) = done p
 
-  received_ref_rel : {o p : Owned} {xs ys : List ℕ} (t : RefType) (x : Shown) → ListRel (KeyRel R) o p → ListRel (R.of Funcs) xs ys → ResRel (RefRel R) (received_ref o xs t x) (received_ref p ys t x)
+  received_ref_rel : {o p : Owned} {xs ys : List ℕ} (t : RefType) (x : Shown) → ListRel (KeyRel R) o p → ListRel (R.of Functions) xs ys → ResRel (RefRel R) (received_ref o xs t x) (received_ref p ys t x)
   received_ref_rel t x o s = bind_rel (received_rel (valt.Ref t) x o s) (λ _ _ v. ref_of_rel v)
 
-  received_all_rel : {o p : Owned} {ms ns : List ℕ} (ts : List ValType) (xs : List Shown) → ListRel (KeyRel R) o p → ListRel (R.of Funcs) ms ns → ResRel (ListRel (ValRel R)) (received_all o ms ts xs) (received_all p ns ts xs)
+  received_all_rel : {o p : Owned} {ms ns : List ℕ} (ts : List ValType) (xs : List Shown) → ListRel (KeyRel R) o p → ListRel (R.of Functions) ms ns → ResRel (ListRel (ValRel R)) (received_all o ms ts xs) (received_all p ns ts xs)
   received_all_rel [] [] o s = done nil
   received_all_rel (t ∷ ts) (x ∷ xs) o s = bind_rel (received_rel t x o s) (λ _ _ v. bind_rel (received_all_rel ts xs o s) (λ _ _ vs. done (cons v vs)))
   received_all_rel [] (x ∷ xs) o s = wrong
@@ -122,7 +123,7 @@ module _ (R : Pairing) (apart : OneToOne R) (B C : Store → Store → List Entr
   fits_received o ms [] (x ∷ xs) = nothing
   fits_received o ms (t ∷ ts) [] = nothing
 
-  called_rel : {r q : Run} {es fs : List Entry} {a b : ℕ} (xs : List Shown) → RunRel R B F r q → C r.store q.store es fs → R.of Funcs a b → ResRel (OutRel R B F) (called r es xs a) (called q fs xs b)
+  called_rel : {r q : Run} {es fs : List Entry} {a b : ℕ} (xs : List Shown) → RunRel R B F r q → C r.store q.store es fs → R.of Functions a b → ResRel (OutRel R B F) (called r es xs a) (called q fs xs b)
   called_rel {r} xs h e n =
       bind_is (same_there (h.store.types n)) (λ t is. bind_rel_is (received_all_rel t.params xs h.owned h.shown) (λ vs _ got v. done (after_rel h (stacks.enters h.store n is (all_at (fits_received r.owned r.shown t.params xs) got) v e))))
 
@@ -160,7 +161,7 @@ module _ (R : Pairing) (apart : OneToOne R) (B C : Store → Store → List Entr
   table_grown : {t u : Table} {v w : RefVal} (n : ℕ) → TableRel R t u → RefRel R v w → TableRel R (grown_table t n v) (grown_table u n w)
   table_grown {v = v} {w = w} n t x = record { type = t.type; most = t.most; slots = append_rel t.slots (copies_rel v w n x) }
 
-  bind_memory_at : {A C : Type 0} {Q : A → C → Type 0} {r q : Run} {a b : ℕ} {f : Memory → Outcome A} {g : Memory → Outcome C} → RunRel R B F r q → R.of Mems a b → ((m : Memory) → ResRel Q (f m) (g m)) → ResRel Q (bind (at r.store.mems a) f) (bind (at q.store.mems b) g)
+  bind_memory_at : {A C : Type 0} {Q : A → C → Type 0} {r q : Run} {a b : ℕ} {f : Memory → Outcome A} {g : Memory → Outcome C} → RunRel R B F r q → R.of Memories a b → ((m : Memory) → ResRel Q (f m) (g m)) → ResRel Q (bind (at r.store.mems a) f) (bind (at q.store.mems b) g)
   bind_memory_at {Q = Q} {f = f} {g = g} h p k = bind_rel (there (h.store.mems p)) (λ x y e. subst (λ z. ResRel Q (f x) (g z)) e (k x))
 
   granted_rel : {r q : Run} {x y : Growth} {es fs : List Entry} → RunRel R B F r q → GrowthRel R x y → C r.store q.store es fs → ResRel (OutRel R B F) (granted r x es) (granted q y fs)
@@ -290,10 +291,10 @@ module _ (R : Pairing) (apart : OneToOne R) (B C : Store → Store → List Entr
   view_of_rel h opened = h.view
   view_of_rel h closed = h.view
 
-  started_rel : {r q : Run} {xs ys : List ℕ} {es fs : List Entry} {a b : ℕ} → RunRel R B F r q → ListRel (R.of Funcs) xs ys → C r.store q.store es fs → R.of Funcs a b → ResRel (OutRel R B F) (started r xs es a) (started q ys fs b)
+  started_rel : {r q : Run} {xs ys : List ℕ} {es fs : List Entry} {a b : ℕ} → RunRel R B F r q → ListRel (R.of Functions) xs ys → C r.store q.store es fs → R.of Functions a b → ResRel (OutRel R B F) (started r xs es a) (started q ys fs b)
   started_rel h x e n = bind_eq (same_there (h.store.types n)) (λ t. bind_same (nothing_in t.results) (λ u. called_rel [] h (stacks.push (opening x) e) n))
 
-  pub open_next_rel : {r q : Run} {xs ys : List ℕ} {es fs : List Entry} → RunRel R B F r q → ListRel (R.of Funcs) xs ys → C r.store q.store es fs → OutRel R B F (open_next r xs es) (open_next q ys fs)
+  pub open_next_rel : {r q : Run} {xs ys : List ℕ} {es fs : List Entry} → RunRel R B F r q → ListRel (R.of Functions) xs ys → C r.store q.store es fs → OutRel R B F (open_next r xs es) (open_next q ys fs)
   open_next_rel h nil e = record { event = refl; run = record { store = h.store; entries = stacks.steady e; phase = opened; shown = h.shown; view = view_of_rel h h.phase; owned = h.owned; moves = h.moves } }
   open_next_rel h (cons n x) e = or_closed_rel h (started_rel h x e n)
 

@@ -1,10 +1,11 @@
 -- Runs from related states, where the list is empty, show the same events: by the law of steps, where all is related and nothing stands below.
 use Rattle.std.proofs.Common.{◌≡◌, ℕ, zero, suc, List, [], ◌∷◌, Bool, refl, sym, ap₂}
+use Rattle.wasm_tree.specs.declared.space.Space.{Space}
 use Rattle.std.proofs.lemmas.Bool.{true≢false}
 use Rattle.wasm_meaning.specs.State.{Store, Entry, Running, Mark, Opening, Waiting, Ended, Growing, Act}
 use Rattle.wasm_meaning.specs.Step.{step}
 use Rattle.wasm_meaning.specs.Run.{Run, tick, noted, events_of}
-use Rattle.index_remap.specs.Related.{Kind, Pairing, OneToOne, ResRel, ListRel, StoreRel, EntryRel, NextRel, TopSkips}
+use Rattle.index_remap.specs.Related.{Pairing, OneToOne, ResRel, ListRel, StoreRel, EntryRel, NextRel, TopSkips}
 use Rattle.index_remap.specs.RelatedRuns.{RunRel, OutRel}
 use Rattle.index_remap.specs.Laws.{passed, Above, NeedsBelow, Touches, StepsAgree, NamedAreKnown}
 use Rattle.index_remap.proofs.Rel.{written}
@@ -31,7 +32,7 @@ touches s (Waiting ts ∷ es) = tt
 touches s (Ended vs ∷ es) = tt
 touches s (Growing g ∷ es) = tt
 
-module _ (of : Kind → ℕ → ℕ → Bool) where
+module _ (of : Space → ℕ → ℕ → Bool) where
   abbrev R : Pairing
   R = passed of of []
 

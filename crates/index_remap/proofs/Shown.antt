@@ -1,5 +1,6 @@
 -- What is shown of related values is the same.
 use Rattle.std.proofs.Common.{◌≡◌, ℕ, List, [], ◌∷◌, ◌++◌, Some, None, true, false, ◌⊎◌, inl, inr, refl, sym, ap, subst, ◌∙◌}
+use Rattle.wasm_tree.specs.declared.space.Space.TheVariants.{Functions}
 use Rattle.std.proofs.lemmas.Bool.Decides.{eqb_tells}
 use Rattle.std.specs.Prelude.{nat_eq}
 use Rattle.wasm_tree.specs.declared.types.FuncType.{FuncType}
@@ -8,46 +9,46 @@ use Rattle.wasm_meaning.specs.State.{Pair, Val, Store}
 use Rattle.wasm_meaning.specs.Control.{own_at}
 use Rattle.wasm_meaning.specs.Environment.{Function}
 use Rattle.wasm_meaning.specs.Run.{place_of, numbered, show_func, show, show_all}
-use Rattle.index_remap.specs.Related.{Funcs, Pairing, OneToOne, none, some, ListRel, nil, cons, func, extern, ValRel, number, reference, StoreRel}
+use Rattle.index_remap.specs.Related.{Pairing, OneToOne, none, some, ListRel, nil, cons, func, extern, ValRel, number, reference, StoreRel}
 use Rattle.index_remap.specs.RelatedRuns.{ShowRel}
 use Rattle.index_remap.proofs.Rel.{length_rel}
 
 module _ (R : Pairing) (apart : OneToOne R) where
-  eq_rel : {a b c d : ℕ} → R.of Funcs a b → R.of Funcs c d → nat_eq a c ≡ nat_eq b d
+  eq_rel : {a b c d : ℕ} → R.of Functions a b → R.of Functions c d → nat_eq a c ≡ nat_eq b d
   eq_rel {a} {b} {c} {d} p q = go (eqb_tells a c) (eqb_tells b d)
     where
       go : ((nat_eq a c ≡ true) × (a ≡ c)) ⊎ ((nat_eq a c ≡ false) × (a ≡ c → ⊥)) → ((nat_eq b d ≡ true) × (b ≡ d)) ⊎ ((nat_eq b d ≡ false) × (b ≡ d → ⊥)) → nat_eq a c ≡ nat_eq b d
       go (inl e) (inl f) = e.0 ∙ sym f.0
-      go (inl e) (inr f) = absurd (f.1 (apart.right a b d p (subst (λ x. R.of Funcs x d) (sym e.1) q)))
-      go (inr e) (inl f) = absurd (e.1 (apart.left a c b p (subst (λ x. R.of Funcs c x) (sym f.1) q)))
+      go (inl e) (inr f) = absurd (f.1 (apart.right a b d p (subst (λ x. R.of Functions x d) (sym e.1) q)))
+      go (inr e) (inl f) = absurd (e.1 (apart.left a c b p (subst (λ x. R.of Functions c x) (sym f.1) q)))
       go (inr e) (inr f) = e.0 ∙ sym f.0
 
-  place_rel : {xs ys : List ℕ} {a b : ℕ} → ListRel (R.of Funcs) xs ys → R.of Funcs a b → place_of xs a ≡ place_of ys b
+  place_rel : {xs ys : List ℕ} {a b : ℕ} → ListRel (R.of Functions) xs ys → R.of Functions a b → place_of xs a ≡ place_of ys b
   place_rel nil p = refl
   place_rel {a = a} {b = b} (cons {a = x} {b = y} {xs = xs} {ys = ys} q r) p = rw (eq_rel q p, place_rel r p)
 
-  snoc_rel : {xs ys : List ℕ} {a b : ℕ} → ListRel (R.of Funcs) xs ys → R.of Funcs a b → ListRel (R.of Funcs) (xs ++ a ∷ []) (ys ++ b ∷ [])
+  snoc_rel : {xs ys : List ℕ} {a b : ℕ} → ListRel (R.of Functions) xs ys → R.of Functions a b → ListRel (R.of Functions) (xs ++ a ∷ []) (ys ++ b ∷ [])
   snoc_rel nil p = cons p nil
   snoc_rel (cons q r) p = cons q (snoc_rel r p)
 
-  numbered_rel : {xs ys : List ℕ} {a b : ℕ} (o : Outcome ℕ) → ListRel (R.of Funcs) xs ys → R.of Funcs a b → ShowRel R (numbered xs a o) (numbered ys b o)
+  numbered_rel : {xs ys : List ℕ} {a b : ℕ} (o : Outcome ℕ) → ListRel (R.of Functions) xs ys → R.of Functions a b → ShowRel R (numbered xs a o) (numbered ys b o)
   numbered_rel (Gives k) r p = record { same = refl; shown = r }
   numbered_rel IllTyped r p = record { same = ap Function (length_rel r); shown = snoc_rel r p }
   numbered_rel Traps r p = record { same = ap Function (length_rel r); shown = snoc_rel r p }
 
-  show_func_rel : {xs ys : List ℕ} {a b : ℕ} (o : Outcome (Pair × FuncType)) → ListRel (R.of Funcs) xs ys → R.of Funcs a b → ShowRel R (show_func xs a o) (show_func ys b o)
+  show_func_rel : {xs ys : List ℕ} {a b : ℕ} (o : Outcome (Pair × FuncType)) → ListRel (R.of Functions) xs ys → R.of Functions a b → ShowRel R (show_func xs a o) (show_func ys b o)
   show_func_rel (Gives p) r q = record { same = refl; shown = r }
   show_func_rel {xs} {a = a} IllTyped r q = rw (← (place_rel r q)) (numbered_rel (place_of xs a) r q)
   show_func_rel {xs} {a = a} Traps r q = rw (← (place_rel r q)) (numbered_rel (place_of xs a) r q)
 
-  pub show_rel : {s t : Store} {xs ys : List ℕ} {v w : Val} → StoreRel R s t → ListRel (R.of Funcs) xs ys → ValRel R v w → ShowRel R (show s xs v) (show t ys w)
+  pub show_rel : {s t : Store} {xs ys : List ℕ} {v w : Val} → StoreRel R s t → ListRel (R.of Functions) xs ys → ValRel R v w → ShowRel R (show s xs v) (show t ys w)
   show_rel s r number = record { same = refl; shown = r }
   show_rel s r (reference (func none)) = record { same = refl; shown = r }
   show_rel {s = s} h r (reference (func (some {a = a} q))) = rw (← (h.owns q)) (show_func_rel (own_at s a) r q)
   show_rel s r (reference (extern {n = None})) = record { same = refl; shown = r }
   show_rel s r (reference (extern {n = Some n})) = record { same = refl; shown = r }
 
-  pub show_all_rel : {s t : Store} {vs ws : List Val} → StoreRel R s t → ListRel (ValRel R) vs ws → (xs ys : List ℕ) → ListRel (R.of Funcs) xs ys → ShowRel R (show_all s xs vs) (show_all t ys ws)
+  pub show_all_rel : {s t : Store} {vs ws : List Val} → StoreRel R s t → ListRel (ValRel R) vs ws → (xs ys : List ℕ) → ListRel (R.of Functions) xs ys → ShowRel R (show_all s xs vs) (show_all t ys ws)
   show_all_rel s nil xs ys r = record { same = refl; shown = r }
   show_all_rel s (cons v vs) xs ys r =
       let one = show_rel s r v in let rest = show_all_rel s vs _ _ one.shown in record { same = rw (one.same, rest.same); shown = rest.shown }

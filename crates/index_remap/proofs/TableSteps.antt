@@ -1,11 +1,12 @@
 -- Steps on tables and element segments agree.
 use Rattle.std.proofs.Common.{◌≡◌, ℕ, List, subst}
+use Rattle.wasm_tree.specs.declared.space.Space.TheVariants.{Tables, ElementSegments}
 use Rattle.wasm_meaning.specs.Outcomes.{Outcome}
 use Rattle.wasm_num.specs.Operations.{W32}
 use Rattle.wasm_meaning.specs.State.{Val, RefVal, Table, Env, Body, GrowTable, AsksGrow}
 use Rattle.wasm_meaning.specs.Values.{type_of_ref, same_ref}
 use Rattle.wasm_meaning.specs.Tables.{with_table, fits, writes_table, table_get, table_set, table_size, table_may_grow, table_grow, table_fill, init_table, table_copy, table_init, elem_drop}
-use Rattle.index_remap.specs.Related.{Tables, Elems, Pairing, ResRel, done, wrong, ListRel, nil, cons, RefRel, ValRel, number, reference, Names, StoreRel, TableRel, BodyRel, table_grows, set_table, drop_elem, ActRel, goes, asks_grow}
+use Rattle.index_remap.specs.Related.{Pairing, ResRel, done, wrong, ListRel, nil, cons, RefRel, ValRel, number, reference, Names, StoreRel, TableRel, BodyRel, table_grows, set_table, drop_elem, ActRel, goes, asks_grow}
 use Rattle.index_remap.proofs.Rel.{there, bind_rel, cond_rel, at_rel, length_rel, copies_rel, slice_rel, overwrite_rel, trapping_rel}
 use Rattle.index_remap.proofs.ValueSteps.{bind_num, pop_ref_rel, ref_type_rel, values_rel, pushes_rel}
 use Rattle.index_remap.proofs.MemorySteps.{bind_three}
@@ -53,8 +54,8 @@ module _ (R : Pairing) (ev ew : Env) (st : StoreRel R ev.store ew.store) where
   pub table_copy_rel : {h k : Body} (s t n m : ℕ) → BodyRel R ev.inst ew.inst h k → Names R.of Tables ev.inst.tables ew.inst.tables n m → Names R.of Tables ev.inst.tables ew.inst.tables s t → ResRel (ActRel R ev.inst ew.inst) (table_copy ev h n s) (table_copy ew k m t)
   table_copy_rel s t n m r p q = bind_table s t _ _ r q (λ _ _ _ _ _ source. bind_table n m _ _ r p (λ _ _ _ _ p t. init_table_rel source.slots r p t))
 
-  pub table_init_rel : {h k : Body} (s t n m : ℕ) → BodyRel R ev.inst ew.inst h k → Names R.of Elems ev.inst.elems ew.inst.elems s t → Names R.of Tables ev.inst.tables ew.inst.tables n m → ResRel (ActRel R ev.inst ew.inst) (table_init ev h s n) (table_init ew k t m)
+  pub table_init_rel : {h k : Body} (s t n m : ℕ) → BodyRel R ev.inst ew.inst h k → Names R.of ElementSegments ev.inst.elems ew.inst.elems s t → Names R.of Tables ev.inst.tables ew.inst.tables n m → ResRel (ActRel R ev.inst ew.inst) (table_init ev h s n) (table_init ew k t m)
   table_init_rel s t n m r p q = bind_rel p (λ _ _ p. bind_rel (there (st.elems p)) (λ _ _ e. bind_table n m _ _ r q (λ _ _ _ _ q t. init_table_rel e.items r q t)))
 
-  pub elem_drop_rel : {h k : Body} (s t : ℕ) → BodyRel R ev.inst ew.inst h k → Names R.of Elems ev.inst.elems ew.inst.elems s t → ResRel (ActRel R ev.inst ew.inst) (elem_drop ev h s) (elem_drop ew k t)
+  pub elem_drop_rel : {h k : Body} (s t : ℕ) → BodyRel R ev.inst ew.inst h k → Names R.of ElementSegments ev.inst.elems ew.inst.elems s t → ResRel (ActRel R ev.inst ew.inst) (elem_drop ev h s) (elem_drop ew k t)
   elem_drop_rel s t r p = bind_rel p (λ _ _ p. done (goes (drop_elem p) r))

@@ -1,5 +1,6 @@
 -- Steps that keep to values, locals and globals agree.
 use Rattle.std.proofs.Common.{◌≡◌, ℕ, List, [], ◌∷◌, Bool, true, false, cond, refl, ap, subst}
+use Rattle.wasm_tree.specs.declared.space.Space.TheVariants.{Functions, Globals}
 use Rattle.std.specs.Prelude.{nat_eq}
 use Rattle.wasm_tree.specs.declared.types.RefType.TheVariants as reft
 use Rattle.wasm_tree.specs.declared.types.ValType.{ValType}
@@ -10,7 +11,7 @@ use Rattle.wasm_meaning.specs.Outcomes.{Outcome, Gives, IllTyped, or_trap, bind}
 use Rattle.wasm_num.specs.Operations.{Width, W32, W64, un_from, bin_from, bin_value}
 use Rattle.wasm_meaning.specs.State.{RefVal, Val, Num, Global, Env, Body}
 use Rattle.wasm_meaning.specs.Values.{type_of_ref, type_of, same_type, pop, pop_num, pop_ref, typed, pop_typed, null_of, zero_of, zeros, unary, binary, is_null, ref_is_null, is_number, select_of, second_type, select_any, select_typed, go, with_values, on_values, pushes, local_get, local_put, local_set, local_tee, global_get, global_put, global_set, ref_func}
-use Rattle.index_remap.specs.Related.{Funcs, Globals, Pairing, none, some, ResRel, done, wrong, ListRel, nil, cons, RefRel, func, extern, ValRel, number, reference, Names, GlobalRel, StoreRel, BodyRel, keep, set_global, ActRel, goes}
+use Rattle.index_remap.specs.Related.{Pairing, none, some, ResRel, done, wrong, ListRel, nil, cons, RefRel, func, extern, ValRel, number, reference, Names, GlobalRel, StoreRel, BodyRel, keep, set_global, ActRel, goes}
 use Rattle.index_remap.proofs.Rel.{there, bind_rel, bind_same, bind_eq, cond_rel, cond_two, PairRel, at_rel, put_rel, OptAll, just, bind_all, any}
 
 -- each value has its type
@@ -159,5 +160,5 @@ module _ (R : Pairing) (ev ew : Env) (st : StoreRel R ev.store ew.store) where
   global_set_rel n m r p =
       bind_rel p (λ _ _ p. bind_rel (there (st.globals p)) (λ _ _ g. bind_rel (pop_rel R r.values) (λ _ _ v. global_put_rel p g (values_rel r v.second) v.first)))
 
-  pub ref_func_rel : {h k : Body} (n m : ℕ) → BodyRel R ev.inst ew.inst h k → Names R.of Funcs ev.inst.funcs ew.inst.funcs n m → ResRel (ActRel R ev.inst ew.inst) (ref_func ev h n) (ref_func ew k m)
+  pub ref_func_rel : {h k : Body} (n m : ℕ) → BodyRel R ev.inst ew.inst h k → Names R.of Functions ev.inst.funcs ew.inst.funcs n m → ResRel (ActRel R ev.inst ew.inst) (ref_func ev h n) (ref_func ew k m)
   ref_func_rel n m r p = bind_rel p (λ _ _ p. pushes_rel r (reference (func (some p))))

@@ -1,12 +1,13 @@
 -- What a body names: each index and its entry in the map stand for addresses that code may name as one, or for equal types, or neither is there.
 use Rattle.std.specs.Prelude.{List, [], ◌∷◌, slice_index}
+use Rattle.wasm_tree.specs.declared.space.Space.TheVariants.{Functions, Tables, Memories, Globals, ElementSegments, DataSegments}
 use Rattle.wasm_tree.specs.declared.types.BlockType.{BlockType}
 use Rattle.wasm_tree.specs.declared.types.BlockType.TheVariants as bt
 use Rattle.wasm_tree.specs.declared.instr.Instr.{Instr, out-Instr, Row_of-Instr, end_of-Instr, more_of-Instr, Block', Loop', If'}
 use Rattle.wasm_tree.specs.declared.instr.Instr.TheOpen.{Instr-F}
 use Rattle.wasm_meaning.specs.State.{Inst}
 use Rattle.index_remap.specs.declared.remap.Remap.{Remap}
-use Rattle.index_remap.specs.Related.{Pairing, Funcs, Tables, Mems, Globals, Elems, Datas, Names, SameType}
+use Rattle.index_remap.specs.Related.{Pairing, Names, SameType}
 
 abbrev pub BlockNames : Remap → Inst → Inst → BlockType → Type 0
 BlockNames m i j bt.Empty = Unit {0}
@@ -24,7 +25,7 @@ LayerNames R m i j (Instr-F.Br x0) = Unit {0}
 LayerNames R m i j (Instr-F.BrIf x0) = Unit {0}
 LayerNames R m i j (Instr-F.BrTable x0 x1) = Unit {0}
 LayerNames R m i j Instr-F.Return = Unit {0}
-LayerNames R m i j (Instr-F.Call x0) = Names R.named Funcs i.funcs j.funcs x0 (slice_index m.funcs x0)
+LayerNames R m i j (Instr-F.Call x0) = Names R.named Functions i.funcs j.funcs x0 (slice_index m.funcs x0)
 LayerNames R m i j (Instr-F.CallIndirect x0 x1) = SameType i j x0 (slice_index m.types x0) × Names R.named Tables i.tables j.tables x1 (slice_index m.tables x1)
 LayerNames R m i j Instr-F.Drop = Unit {0}
 LayerNames R m i j Instr-F.Select = Unit {0}
@@ -36,23 +37,23 @@ LayerNames R m i j (Instr-F.GlobalGet x0) = Names R.named Globals i.globals j.gl
 LayerNames R m i j (Instr-F.GlobalSet x0) = Names R.named Globals i.globals j.globals x0 (slice_index m.globals x0)
 LayerNames R m i j (Instr-F.TableGet x0) = Names R.named Tables i.tables j.tables x0 (slice_index m.tables x0)
 LayerNames R m i j (Instr-F.TableSet x0) = Names R.named Tables i.tables j.tables x0 (slice_index m.tables x0)
-LayerNames R m i j (Instr-F.Load x0 x1) = Names R.named Mems i.mems j.mems x1.memory (slice_index m.mems x1.memory)
-LayerNames R m i j (Instr-F.Store x0 x1) = Names R.named Mems i.mems j.mems x1.memory (slice_index m.mems x1.memory)
-LayerNames R m i j (Instr-F.MemorySize x0) = Names R.named Mems i.mems j.mems x0 (slice_index m.mems x0)
-LayerNames R m i j (Instr-F.MemoryGrow x0) = Names R.named Mems i.mems j.mems x0 (slice_index m.mems x0)
+LayerNames R m i j (Instr-F.Load x0 x1) = Names R.named Memories i.mems j.mems x1.memory (slice_index m.mems x1.memory)
+LayerNames R m i j (Instr-F.Store x0 x1) = Names R.named Memories i.mems j.mems x1.memory (slice_index m.mems x1.memory)
+LayerNames R m i j (Instr-F.MemorySize x0) = Names R.named Memories i.mems j.mems x0 (slice_index m.mems x0)
+LayerNames R m i j (Instr-F.MemoryGrow x0) = Names R.named Memories i.mems j.mems x0 (slice_index m.mems x0)
 LayerNames R m i j (Instr-F.I32Const x0) = Unit {0}
 LayerNames R m i j (Instr-F.I64Const x0) = Unit {0}
 LayerNames R m i j (Instr-F.Un x0) = Unit {0}
 LayerNames R m i j (Instr-F.Bin x0) = Unit {0}
 LayerNames R m i j (Instr-F.RefNull x0) = Unit {0}
 LayerNames R m i j Instr-F.RefIsNull = Unit {0}
-LayerNames R m i j (Instr-F.RefFunc x0) = Names R.named Funcs i.funcs j.funcs x0 (slice_index m.funcs x0)
-LayerNames R m i j (Instr-F.MemoryInit x0 x1) = Names R.named Datas i.datas j.datas x0 (slice_index m.datas x0) × Names R.named Mems i.mems j.mems x1 (slice_index m.mems x1)
-LayerNames R m i j (Instr-F.DataDrop x0) = Names R.named Datas i.datas j.datas x0 (slice_index m.datas x0)
-LayerNames R m i j (Instr-F.MemoryCopy x0 x1) = Names R.named Mems i.mems j.mems x0 (slice_index m.mems x0) × Names R.named Mems i.mems j.mems x1 (slice_index m.mems x1)
-LayerNames R m i j (Instr-F.MemoryFill x0) = Names R.named Mems i.mems j.mems x0 (slice_index m.mems x0)
-LayerNames R m i j (Instr-F.TableInit x0 x1) = Names R.named Elems i.elems j.elems x0 (slice_index m.elems x0) × Names R.named Tables i.tables j.tables x1 (slice_index m.tables x1)
-LayerNames R m i j (Instr-F.ElemDrop x0) = Names R.named Elems i.elems j.elems x0 (slice_index m.elems x0)
+LayerNames R m i j (Instr-F.RefFunc x0) = Names R.named Functions i.funcs j.funcs x0 (slice_index m.funcs x0)
+LayerNames R m i j (Instr-F.MemoryInit x0 x1) = Names R.named DataSegments i.datas j.datas x0 (slice_index m.datas x0) × Names R.named Memories i.mems j.mems x1 (slice_index m.mems x1)
+LayerNames R m i j (Instr-F.DataDrop x0) = Names R.named DataSegments i.datas j.datas x0 (slice_index m.datas x0)
+LayerNames R m i j (Instr-F.MemoryCopy x0 x1) = Names R.named Memories i.mems j.mems x0 (slice_index m.mems x0) × Names R.named Memories i.mems j.mems x1 (slice_index m.mems x1)
+LayerNames R m i j (Instr-F.MemoryFill x0) = Names R.named Memories i.mems j.mems x0 (slice_index m.mems x0)
+LayerNames R m i j (Instr-F.TableInit x0 x1) = Names R.named ElementSegments i.elems j.elems x0 (slice_index m.elems x0) × Names R.named Tables i.tables j.tables x1 (slice_index m.tables x1)
+LayerNames R m i j (Instr-F.ElemDrop x0) = Names R.named ElementSegments i.elems j.elems x0 (slice_index m.elems x0)
 LayerNames R m i j (Instr-F.TableCopy x0 x1) = Names R.named Tables i.tables j.tables x0 (slice_index m.tables x0) × Names R.named Tables i.tables j.tables x1 (slice_index m.tables x1)
 LayerNames R m i j (Instr-F.TableGrow x0) = Names R.named Tables i.tables j.tables x0 (slice_index m.tables x0)
 LayerNames R m i j (Instr-F.TableSize x0) = Names R.named Tables i.tables j.tables x0 (slice_index m.tables x0)

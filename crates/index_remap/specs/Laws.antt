@@ -1,6 +1,8 @@
 -- The law of steps (from corresponding stores and related configurations one step of each agrees), and the laws of code with other indices, of what keeps typing,
 -- and of runs.
 use Rattle.std.proofs.Common.{◌≡◌, ℕ, List, [], ◌∷◌, ◌++◌, Bool, true, false}
+use Rattle.wasm_tree.specs.declared.space.Space.{Space}
+use Rattle.wasm_tree.specs.declared.space.Space.TheVariants.{Functions, Tables, Memories, Globals, ElementSegments, DataSegments}
 use Rattle.std.specs.Prelude.{IsTrue, nat_eq}
 use Rattle.std.specs.List.{list_any}
 use Rattle.wasm_meaning.specs.Outcomes.{Gives, at}
@@ -17,11 +19,11 @@ use Rattle.index_remap.specs.Renumbered.{renumbered_all}
 use Rattle.index_remap.specs.CodeNames.{LayerNames, ListLayers}
 use Rattle.index_remap.specs.Agreement.{SameFrame}
 use Rattle.index_remap.specs.Replaced.{Labels, Codes, Replaced, OthersAgree, OthersNamed, CodesHaveTypes}
-use Rattle.index_remap.specs.Related.{CodeRel, Kind, Funcs, Tables, Mems, Globals, Elems, Datas, Pairing, OneToOne, OneToOneWhereWritten, ResRel, ListRel, ValRel, StoreRel, EntryRel, NextRel, TopSkips, TopKnown}
+use Rattle.index_remap.specs.Related.{CodeRel, Pairing, OneToOne, OneToOneWhereWritten, ResRel, ListRel, ValRel, StoreRel, EntryRel, NextRel, TopSkips, TopKnown}
 
 -- the addresses that pass the first test are related, and code may name as one those that pass the second; of the functions of a list only the types are known
 -- and whose they are, and other code may stand in place of calls of them
-abbrev pub passed : (of named : Kind → ℕ → ℕ → Bool) → List ℕ → Pairing
+abbrev pub passed : (of named : Space → ℕ → ℕ → Bool) → List ℕ → Pairing
 passed of named l = record { of = λ k a b. IsTrue (of k a b); named = λ k a b. IsTrue (named k a b); listed = λ a. IsTrue (list_any (nat_eq a) l) }
 
 -- related entry by entry above what need not be related
@@ -58,20 +60,20 @@ EntriesKnown R _ _ = Unit {0}
 -- function of the list. Of the entries only the first need to be related, among which are those that the step touches.
 abbrev pub StepsAgree : Type 0
 StepsAgree =
-    (of named : Kind → ℕ → ℕ → Bool) (l : List ℕ) → OneToOneWhereWritten (passed of named l) → (s t : Store) (es fs cs ds : List Entry) →
+    (of named : Space → ℕ → ℕ → Bool) (l : List ℕ) → OneToOneWhereWritten (passed of named l) → (s t : Store) (es fs cs ds : List Entry) →
     StoreRel (passed of named l) s t → ListRel (EntryRel (passed of named l)) es fs → Touches s es cs ds → TopSkips (passed of named l) s es → EntriesKnown (passed of named l) es fs →
     ResRel (NextRel (passed of named l) (Above (passed of named l) cs ds)) (step s (es ++ cs)) (step t (fs ++ ds))
 
 -- where code may name as one only addresses that are related, whatever instruction comes next names related ones
 abbrev pub NamedAreKnown : Type 0
-NamedAreKnown = (of named : Kind → ℕ → ℕ → Bool) (l : List ℕ) → ((k : Kind) (a b : ℕ) → IsTrue (named k a b) → IsTrue (of k a b)) → (es fs : List Entry) → EntriesKnown (passed of named l) es fs
+NamedAreKnown = (of named : Space → ℕ → ℕ → Bool) (l : List ℕ) → ((k : Space) (a b : ℕ) → IsTrue (named k a b) → IsTrue (of k a b)) → (es fs : List Entry) → EntriesKnown (passed of named l) es fs
 
 -- Of related values in stores that correspond under a one-to-one relation, functions included, the embedder is shown the same, where the functions that were shown
 -- before are related, number by number; and so are they again.
 abbrev pub ShownAgree : Type 0
 ShownAgree =
-    (of named : Kind → ℕ → ℕ → Bool) (l : List ℕ) → OneToOne (passed of named l) → (s t : Store) (vs ws : List Val) (xs ys : List ℕ) → StoreRel (passed of named l) s t → ListRel (ValRel (passed of named l)) vs ws →
-    ListRel (λ a b. IsTrue (of Funcs a b)) xs ys → ShowRel (passed of named l) (show_all s xs vs) (show_all t ys ws)
+    (of named : Space → ℕ → ℕ → Bool) (l : List ℕ) → OneToOne (passed of named l) → (s t : Store) (vs ws : List Val) (xs ys : List ℕ) → StoreRel (passed of named l) s t → ListRel (ValRel (passed of named l)) vs ws →
+    ListRel (λ a b. IsTrue (of Functions a b)) xs ys → ShowRel (passed of named l) (show_all s xs vs) (show_all t ys ws)
 
 -- a trap ends at such an entry
 abbrev pub ends_trap : Entry → Bool
@@ -87,7 +89,7 @@ NoMark (e ∷ es) = (ends_trap e ≡ false) × NoMark es
 -- to be related.
 abbrev pub TrapsAgree : Type 0
 TrapsAgree =
-    (of named : Kind → ℕ → ℕ → Bool) (l : List ℕ) (above beyond es fs : List Entry) (e f : Entry) → NoMark above → NoMark beyond → ends_trap e ≡ true → EntryRel (passed of named l) e f →
+    (of named : Space → ℕ → ℕ → Bool) (l : List ℕ) (above beyond es fs : List Entry) (e f : Entry) → NoMark above → NoMark beyond → ends_trap e ≡ true → EntryRel (passed of named l) e f →
     (c : Caller) × (to_mark (above ++ (e ∷ es)) ≡ Gives (c, es)) × (to_mark (beyond ++ (f ∷ fs)) ≡ Gives (c, fs))
 
 -- A body that is well typed stays so, over the same locals, results and labels, where its indices are replaced by their entries, and calls of the functions of a
@@ -101,7 +103,7 @@ TypingIsKept =
 -- or neither is there, and each function whose call is replaced is at an address of the list.
 abbrev pub ReplacedCodeIsRelated : Type 0
 ReplacedCodeIsRelated =
-    (of named : Kind → ℕ → ℕ → Bool) (l : List ℕ) (m : Remap) (i j : Inst) (types : List FuncType) (labels : Labels) (listed : List ℕ) (codes : Codes) (is js : List Instr) → ListLayers (OthersNamed (passed of named l) m listed i j) is →
+    (of named : Space → ℕ → ℕ → Bool) (l : List ℕ) (m : Remap) (i j : Inst) (types : List FuncType) (labels : Labels) (listed : List ℕ) (codes : Codes) (is js : List Instr) → ListLayers (OthersNamed (passed of named l) m listed i j) is →
     Replaced types m listed codes labels is js → CodeRel (passed of named l) i j is js
 
 -- With no function on the list the body with other indices is such code.
@@ -112,7 +114,7 @@ UnlistedAreRenumbered = (types : List FuncType) (m : Remap) (codes : Codes) (lab
 -- there.
 abbrev pub RenumberedCodeIsRelated : Type 0
 RenumberedCodeIsRelated =
-    (of named : Kind → ℕ → ℕ → Bool) (l : List ℕ) (m : Remap) (i j : Inst) (code : List Instr) → ListLayers (LayerNames (passed of named l) m i j) code → CodeRel (passed of named l) i j code (renumbered_all m code)
+    (of named : Space → ℕ → ℕ → Bool) (l : List ℕ) (m : Remap) (i j : Inst) (code : List Instr) → ListLayers (LayerNames (passed of named l) m i j) code → CodeRel (passed of named l) i j code (renumbered_all m code)
 
 -- stacks that are related entry by entry, whatever the stores
 abbrev pub EntryByEntry : Pairing → Store → Store → List Entry → List Entry → Type 0
@@ -129,29 +131,29 @@ RelatedOuts R = OutRel R (EntryByEntry R) (EntryByEntry R)
 -- Where the relation is one to one, functions included, all that code names is related and no function is set apart, related runs show the same events.
 abbrev pub RelatedRunsShowTheSame : Type 0
 RelatedRunsShowTheSame =
-    (of : Kind → ℕ → ℕ → Bool) → OneToOne (passed of of []) → (r q : Run) → RelatedRuns (passed of of []) r q → (n : ℕ) → events_of tick r n ≡ events_of tick q n
+    (of : Space → ℕ → ℕ → Bool) → OneToOne (passed of of []) → (r q : Run) → RelatedRuns (passed of of []) r q → (n : ℕ) → events_of tick r n ≡ events_of tick q n
 
 -- One step of each of two such runs shows the same, and leaves them related.
 abbrev pub RelatedTicksAgree : Type 0
 RelatedTicksAgree =
-    (of : Kind → ℕ → ℕ → Bool) → OneToOne (passed of of []) → (r q : Run) → RelatedRuns (passed of of []) r q →
+    (of : Space → ℕ → ℕ → Bool) → OneToOne (passed of of []) → (r q : Run) → RelatedRuns (passed of of []) r q →
     RelatedOuts (passed of of []) (tick r) (tick q)
 
 -- Once both are instantiated, a step of the second run leaves the functions as they were, and all else that nothing of the first is related to.
 abbrev pub OthersStay : Type 0
 OthersStay =
-    (of : Kind → ℕ → ℕ → Bool) → OneToOne (passed of of []) → (r q : Run) → RelatedRuns (passed of of []) r q → IsBegun r.phase →
+    (of : Space → ℕ → ℕ → Bool) → OneToOne (passed of of []) → (r q : Run) → RelatedRuns (passed of of []) r q → IsBegun r.phase →
     KeepsOthers (passed of of []) q.store (tick q).0.store
 
 -- code may name each address of the instance as one with itself
 pub record NamesItself (R : Pairing) (i : Inst) : Type 0 where
-  pub funcs : (n a : ℕ) → at i.funcs n ≡ Gives a → R.named Funcs a a
+  pub funcs : (n a : ℕ) → at i.funcs n ≡ Gives a → R.named Functions a a
   pub tables : (n a : ℕ) → at i.tables n ≡ Gives a → R.named Tables a a
-  pub mems : (n a : ℕ) → at i.mems n ≡ Gives a → R.named Mems a a
+  pub mems : (n a : ℕ) → at i.mems n ≡ Gives a → R.named Memories a a
   pub globals : (n a : ℕ) → at i.globals n ≡ Gives a → R.named Globals a a
-  pub elems : (n a : ℕ) → at i.elems n ≡ Gives a → R.named Elems a a
-  pub datas : (n a : ℕ) → at i.datas n ≡ Gives a → R.named Datas a a
+  pub elems : (n a : ℕ) → at i.elems n ≡ Gives a → R.named ElementSegments a a
+  pub datas : (n a : ℕ) → at i.datas n ≡ Gives a → R.named DataSegments a a
 
 -- Code is related to itself over an instance whose addresses code may name as one with themselves.
 abbrev pub CodeIsRelatedToItself : Type 0
-CodeIsRelatedToItself = (of named : Kind → ℕ → ℕ → Bool) (l : List ℕ) (i : Inst) (code : List Instr) → NamesItself (passed of named l) i → CodeRel (passed of named l) i i code code
+CodeIsRelatedToItself = (of named : Space → ℕ → ℕ → Bool) (l : List ℕ) (i : Inst) (code : List Instr) → NamesItself (passed of named l) i → CodeRel (passed of named l) i i code code

@@ -1,5 +1,7 @@
 -- Stores and configurations that correspond under a relation of addresses.
 use Rattle.std.proofs.Common.{◌≡◌, ℕ, List, [], ◌∷◌, ◌++◌, Option, Some, None, Bool, true, false}
+use Rattle.wasm_tree.specs.declared.space.Space.{Space}
+use Rattle.wasm_tree.specs.declared.space.Space.TheVariants.{Functions, Tables, Memories, Globals, ElementSegments, DataSegments}
 use Rattle.std.specs.Prelude.{ℤ}
 use Rattle.wasm_tree.specs.declared.types.RefType.{RefType}
 use Rattle.wasm_tree.specs.declared.types.ValType.{ValType}
@@ -19,40 +21,32 @@ use Rattle.wasm_meaning.specs.State.{Pair, RefVal, FuncRef, ExternRef, Val, Num,
 use Rattle.wasm_meaning.specs.Control.{type_at, own_at}
 use Rattle.wasm_meaning.specs.Step.{act}
 
-pub data Kind : Type 0 where
-  Funcs : Kind
-  Tables : Kind
-  Mems : Kind
-  Globals : Kind
-  Elems : Kind
-  Datas : Kind
-
 -- related addresses, addresses that code may name as one, and the functions of a list, of which only the type is known and whose they are, and in place of whose
 -- calls other code may stand
 pub record Pairing : Type 1 where
-  pub of : Kind → ℕ → ℕ → Type 0
+  pub of : Space → ℕ → ℕ → Type 0
   -- addresses that code may name as one: of those that are not related nothing is known
-  pub named : Kind → ℕ → ℕ → Type 0
+  pub named : Space → ℕ → ℕ → Type 0
   pub listed : ℕ → Type 0
 
 -- by which relation an index is read: what comes next by the related addresses, other code by the named ones
-abbrev pub by : Pairing → Bool → Kind → ℕ → ℕ → Type 0
+abbrev pub by : Pairing → Bool → Space → ℕ → ℕ → Type 0
 by R true = R.of
 by R false = R.named
 
 pub record OneToOne (R : Pairing) : Type 0 where
-  pub right : {k : Kind} (a b c : ℕ) → R.of k a b → R.of k a c → b ≡ c
-  pub left : {k : Kind} (a b c : ℕ) → R.of k a c → R.of k b c → a ≡ b
+  pub right : {k : Space} (a b c : ℕ) → R.of k a b → R.of k a c → b ≡ c
+  pub left : {k : Space} (a b c : ℕ) → R.of k a c → R.of k b c → a ≡ b
 
 -- an instruction may write at an address of the kind; functions stay as they are (section 4.2.3)
-abbrev pub is_written : Kind → Bool
-is_written Funcs = false
+abbrev pub is_written : Space → Bool
+is_written Functions = false
 is_written _ = true
 
 -- one to one, but for functions: two functions of one store may be related to one of the other
 pub record OneToOneWhereWritten (R : Pairing) : Type 0 where
-  pub right : {k : Kind} → is_written k ≡ true → (a b c : ℕ) → R.of k a b → R.of k a c → b ≡ c
-  pub left : {k : Kind} → is_written k ≡ true → (a b c : ℕ) → R.of k a c → R.of k b c → a ≡ b
+  pub right : {k : Space} → is_written k ≡ true → (a b c : ℕ) → R.of k a b → R.of k a c → b ≡ c
+  pub left : {k : Space} → is_written k ≡ true → (a b c : ℕ) → R.of k a c → R.of k b c → a ≡ b
 
 -- both are there and related, or none is there
 pub data OptRel {A B : Type 0} (P : A → B → Type 0) : Option A → Option B → Type 0 where
@@ -75,7 +69,7 @@ pub data ListRel {A B : Type 0} (P : A → B → Type 0) : List A → List B →
   cons : {a : A} {b : B} {xs : List A} {ys : List B} → P a b → ListRel P xs ys → ListRel P (a ∷ xs) (b ∷ ys)
 
 pub data RefRel (R : Pairing) : RefVal → RefVal → Type 0 where
-  func : {a b : Option ℕ} → OptRel (R.of Funcs) a b → RefRel R (FuncRef a) (FuncRef b)
+  func : {a b : Option ℕ} → OptRel (R.of Functions) a b → RefRel R (FuncRef a) (FuncRef b)
   extern : {n : Option ℕ} → RefRel R (ExternRef n) (ExternRef n)
 
 pub data ValRel (R : Pairing) : Val → Val → Type 0 where
@@ -83,7 +77,7 @@ pub data ValRel (R : Pairing) : Val → Val → Type 0 where
   reference : {r s : RefVal} → RefRel R r s → ValRel R (Ref r) (Ref s)
 
 -- the two indices name addresses that N relates, or neither names any
-abbrev pub Names : (Kind → ℕ → ℕ → Type 0) → Kind → List ℕ → List ℕ → ℕ → ℕ → Type 0
+abbrev pub Names : (Space → ℕ → ℕ → Type 0) → Space → List ℕ → List ℕ → ℕ → ℕ → Type 0
 Names N k xs ys n m = ResRel (N k) (at xs n) (at ys m)
 
 abbrev pub SameType : Inst → Inst → ℕ → ℕ → Type 0
@@ -94,9 +88,9 @@ pub data BlockRel (i j : Inst) : BlockType → BlockType → Type 0 where
   value : {t : ValType} → BlockRel i j (bt.Value t) (bt.Value t)
   indexed : {n m : ℕ} → SameType i j n m → BlockRel i j (bt.Index n) (bt.Index m)
 
-pub record ArgRel (N : Kind → ℕ → ℕ → Type 0) (i j : Inst) (a b : MemArg) : Type 0 where
+pub record ArgRel (N : Space → ℕ → ℕ → Type 0) (i j : Inst) (a b : MemArg) : Type 0 where
   pub offset : a.offset ≡ b.offset
-  pub memory : Names N Mems i.mems j.mems a.memory b.memory
+  pub memory : Names N Memories i.mems j.mems a.memory b.memory
 
 mutual
   -- the second is the first with other indices: what comes next (true) names related addresses, other code such as code may name as one, and both equal types;
@@ -111,7 +105,7 @@ mutual
     br_if : {w : Bool} {n : ℕ} → OpRel R i j w (Instr-F.BrIf n) (Instr-F.BrIf n)
     br_table : {w : Bool} {ns : List ℕ} {n : ℕ} → OpRel R i j w (Instr-F.BrTable ns n) (Instr-F.BrTable ns n)
     return : {w : Bool} → OpRel R i j w Instr-F.Return Instr-F.Return
-    call : {w : Bool} {n m : ℕ} → Names (by R w) Funcs i.funcs j.funcs n m → OpRel R i j w (Instr-F.Call n) (Instr-F.Call m)
+    call : {w : Bool} {n m : ℕ} → Names (by R w) Functions i.funcs j.funcs n m → OpRel R i j w (Instr-F.Call n) (Instr-F.Call m)
     call_indirect : {w : Bool} {s t n m : ℕ} → SameType i j s t → Names (by R w) Tables i.tables j.tables n m → OpRel R i j w (Instr-F.CallIndirect s n) (Instr-F.CallIndirect t m)
     drop : {w : Bool} → OpRel R i j w Instr-F.Drop Instr-F.Drop
     select : {w : Bool} → OpRel R i j w Instr-F.Select Instr-F.Select
@@ -125,21 +119,21 @@ mutual
     table_set : {w : Bool} {n m : ℕ} → Names (by R w) Tables i.tables j.tables n m → OpRel R i j w (Instr-F.TableSet n) (Instr-F.TableSet m)
     load : {w : Bool} {o : LoadOp} {a b : MemArg} → ArgRel (by R w) i j a b → OpRel R i j w (Instr-F.Load o a) (Instr-F.Load o b)
     store : {w : Bool} {o : StoreOp} {a b : MemArg} → ArgRel (by R w) i j a b → OpRel R i j w (Instr-F.Store o a) (Instr-F.Store o b)
-    memory_size : {w : Bool} {n m : ℕ} → Names (by R w) Mems i.mems j.mems n m → OpRel R i j w (Instr-F.MemorySize n) (Instr-F.MemorySize m)
-    memory_grow : {w : Bool} {n m : ℕ} → Names (by R w) Mems i.mems j.mems n m → OpRel R i j w (Instr-F.MemoryGrow n) (Instr-F.MemoryGrow m)
+    memory_size : {w : Bool} {n m : ℕ} → Names (by R w) Memories i.mems j.mems n m → OpRel R i j w (Instr-F.MemorySize n) (Instr-F.MemorySize m)
+    memory_grow : {w : Bool} {n m : ℕ} → Names (by R w) Memories i.mems j.mems n m → OpRel R i j w (Instr-F.MemoryGrow n) (Instr-F.MemoryGrow m)
     i32_const : {w : Bool} {z : ℤ} → OpRel R i j w (Instr-F.I32Const z) (Instr-F.I32Const z)
     i64_const : {w : Bool} {z : ℤ} → OpRel R i j w (Instr-F.I64Const z) (Instr-F.I64Const z)
     un : {w : Bool} {o : UnOp} → OpRel R i j w (Instr-F.Un o) (Instr-F.Un o)
     bin : {w : Bool} {o : BinOp} → OpRel R i j w (Instr-F.Bin o) (Instr-F.Bin o)
     ref_null : {w : Bool} {t : RefType} → OpRel R i j w (Instr-F.RefNull t) (Instr-F.RefNull t)
     ref_is_null : {w : Bool} → OpRel R i j w Instr-F.RefIsNull Instr-F.RefIsNull
-    ref_func : {w : Bool} {n m : ℕ} → Names (by R w) Funcs i.funcs j.funcs n m → OpRel R i j w (Instr-F.RefFunc n) (Instr-F.RefFunc m)
-    memory_init : {w : Bool} {s t n m : ℕ} → Names (by R w) Datas i.datas j.datas s t → Names (by R w) Mems i.mems j.mems n m → OpRel R i j w (Instr-F.MemoryInit s n) (Instr-F.MemoryInit t m)
-    data_drop : {w : Bool} {s t : ℕ} → Names (by R w) Datas i.datas j.datas s t → OpRel R i j w (Instr-F.DataDrop s) (Instr-F.DataDrop t)
-    memory_copy : {w : Bool} {s t n m : ℕ} → Names (by R w) Mems i.mems j.mems n m → Names (by R w) Mems i.mems j.mems s t → OpRel R i j w (Instr-F.MemoryCopy n s) (Instr-F.MemoryCopy m t)
-    memory_fill : {w : Bool} {n m : ℕ} → Names (by R w) Mems i.mems j.mems n m → OpRel R i j w (Instr-F.MemoryFill n) (Instr-F.MemoryFill m)
-    table_init : {w : Bool} {s t n m : ℕ} → Names (by R w) Elems i.elems j.elems s t → Names (by R w) Tables i.tables j.tables n m → OpRel R i j w (Instr-F.TableInit s n) (Instr-F.TableInit t m)
-    elem_drop : {w : Bool} {s t : ℕ} → Names (by R w) Elems i.elems j.elems s t → OpRel R i j w (Instr-F.ElemDrop s) (Instr-F.ElemDrop t)
+    ref_func : {w : Bool} {n m : ℕ} → Names (by R w) Functions i.funcs j.funcs n m → OpRel R i j w (Instr-F.RefFunc n) (Instr-F.RefFunc m)
+    memory_init : {w : Bool} {s t n m : ℕ} → Names (by R w) DataSegments i.datas j.datas s t → Names (by R w) Memories i.mems j.mems n m → OpRel R i j w (Instr-F.MemoryInit s n) (Instr-F.MemoryInit t m)
+    data_drop : {w : Bool} {s t : ℕ} → Names (by R w) DataSegments i.datas j.datas s t → OpRel R i j w (Instr-F.DataDrop s) (Instr-F.DataDrop t)
+    memory_copy : {w : Bool} {s t n m : ℕ} → Names (by R w) Memories i.mems j.mems n m → Names (by R w) Memories i.mems j.mems s t → OpRel R i j w (Instr-F.MemoryCopy n s) (Instr-F.MemoryCopy m t)
+    memory_fill : {w : Bool} {n m : ℕ} → Names (by R w) Memories i.mems j.mems n m → OpRel R i j w (Instr-F.MemoryFill n) (Instr-F.MemoryFill m)
+    table_init : {w : Bool} {s t n m : ℕ} → Names (by R w) ElementSegments i.elems j.elems s t → Names (by R w) Tables i.tables j.tables n m → OpRel R i j w (Instr-F.TableInit s n) (Instr-F.TableInit t m)
+    elem_drop : {w : Bool} {s t : ℕ} → Names (by R w) ElementSegments i.elems j.elems s t → OpRel R i j w (Instr-F.ElemDrop s) (Instr-F.ElemDrop t)
     table_copy : {w : Bool} {s t n m : ℕ} → Names (by R w) Tables i.tables j.tables n m → Names (by R w) Tables i.tables j.tables s t → OpRel R i j w (Instr-F.TableCopy n s) (Instr-F.TableCopy m t)
     table_grow : {w : Bool} {n m : ℕ} → Names (by R w) Tables i.tables j.tables n m → OpRel R i j w (Instr-F.TableGrow n) (Instr-F.TableGrow m)
     table_size : {w : Bool} {n m : ℕ} → Names (by R w) Tables i.tables j.tables n m → OpRel R i j w (Instr-F.TableSize n) (Instr-F.TableSize m)
@@ -172,14 +166,14 @@ pub record ElemRel (R : Pairing) (e f : Elem) : Type 0 where
 -- related addresses hold entities with the same contents; of a listed function only the type is known, and that neither is the environment's own or both are the
 -- same one
 pub record StoreRel (R : Pairing) (s t : Store) : Type 0 where
-  pub types : {a b : ℕ} → R.of Funcs a b → BothRel (◌≡◌ {A = FuncType}) (type_at s a) (type_at t b)
-  pub owns : {a b : ℕ} → R.of Funcs a b → own_at s a ≡ own_at t b
-  pub funcs : {a b : ℕ} → R.of Funcs a b → ¬ R.listed a → BothRel (FuncRel R) (at s.funcs a) (at t.funcs b)
+  pub types : {a b : ℕ} → R.of Functions a b → BothRel (◌≡◌ {A = FuncType}) (type_at s a) (type_at t b)
+  pub owns : {a b : ℕ} → R.of Functions a b → own_at s a ≡ own_at t b
+  pub funcs : {a b : ℕ} → R.of Functions a b → ¬ R.listed a → BothRel (FuncRel R) (at s.funcs a) (at t.funcs b)
   pub tables : {a b : ℕ} → R.of Tables a b → BothRel (TableRel R) (at s.tables a) (at t.tables b)
-  pub mems : {a b : ℕ} → R.of Mems a b → BothRel (λ m n. m ≡ n) (at s.mems a) (at t.mems b)
+  pub mems : {a b : ℕ} → R.of Memories a b → BothRel (λ m n. m ≡ n) (at s.mems a) (at t.mems b)
   pub globals : {a b : ℕ} → R.of Globals a b → BothRel (GlobalRel R) (at s.globals a) (at t.globals b)
-  pub elems : {a b : ℕ} → R.of Elems a b → BothRel (ElemRel R) (at s.elems a) (at t.elems b)
-  pub datas : {a b : ℕ} → R.of Datas a b → BothRel (λ d e. d.bytes ≡ e.bytes) (at s.datas a) (at t.datas b)
+  pub elems : {a b : ℕ} → R.of ElementSegments a b → BothRel (ElemRel R) (at s.elems a) (at t.elems b)
+  pub datas : {a b : ℕ} → R.of DataSegments a b → BothRel (λ d e. d.bytes ≡ e.bytes) (at s.datas a) (at t.datas b)
 
 pub record LevelRel (R : Pairing) (i j : Inst) (l m : Level) : Type 0 where
   pub values : ListRel (ValRel R) l.values m.values
@@ -194,13 +188,13 @@ pub record FrameRel (R : Pairing) (f g : Frame) : Type 0 where
   pub levels : ListRel (LevelRel R f.inst g.inst) f.levels g.levels
 
 pub data GrowthRel (R : Pairing) : Growth → Growth → Type 0 where
-  memory_grows : {a b n : ℕ} → R.of Mems a b → GrowthRel R (GrowMemory a n) (GrowMemory b n)
+  memory_grows : {a b n : ℕ} → R.of Memories a b → GrowthRel R (GrowMemory a n) (GrowMemory b n)
   table_grows : {a b n : ℕ} {v w : RefVal} → R.of Tables a b → RefRel R v w → GrowthRel R (GrowTable a n v) (GrowTable b n w)
 
 pub data EntryRel (R : Pairing) : Entry → Entry → Type 0 where
   running : {f g : Frame} → FrameRel R f g → EntryRel R (Running f) (Running g)
   mark : EntryRel R Mark Mark
-  opening : {xs ys : List ℕ} → ListRel (R.of Funcs) xs ys → EntryRel R (Opening xs) (Opening ys)
+  opening : {xs ys : List ℕ} → ListRel (R.of Functions) xs ys → EntryRel R (Opening xs) (Opening ys)
   waiting : {ts : List ValType} → EntryRel R (Waiting ts) (Waiting ts)
   ended : {vs ws : List Val} → ListRel (ValRel R) vs ws → EntryRel R (Ended vs) (Ended ws)
   growing : {g h : Growth} → GrowthRel R g h → EntryRel R (Growing g) (Growing h)
@@ -217,15 +211,15 @@ pub record BodyRel (R : Pairing) (i j : Inst) (h k : Body) : Type 0 where
 pub data ChangeRel (R : Pairing) : Change → Change → Type 0 where
   keep : ChangeRel R Keep Keep
   set_global : {a b : ℕ} {g h : Global} → R.of Globals a b → GlobalRel R g h → ChangeRel R (SetGlobal a g) (SetGlobal b h)
-  set_memory : {a b : ℕ} {m : Memory} → R.of Mems a b → ChangeRel R (SetMemory a m) (SetMemory b m)
+  set_memory : {a b : ℕ} {m : Memory} → R.of Memories a b → ChangeRel R (SetMemory a m) (SetMemory b m)
   set_table : {a b : ℕ} {t u : Table} → R.of Tables a b → TableRel R t u → ChangeRel R (SetTable a t) (SetTable b u)
-  drop_elem : {a b : ℕ} → R.of Elems a b → ChangeRel R (DropElem a) (DropElem b)
-  drop_data : {a b : ℕ} → R.of Datas a b → ChangeRel R (DropData a) (DropData b)
+  drop_elem : {a b : ℕ} → R.of ElementSegments a b → ChangeRel R (DropElem a) (DropElem b)
+  drop_data : {a b : ℕ} → R.of DataSegments a b → ChangeRel R (DropData a) (DropData b)
 
 -- what the top frames do agrees
 pub data ActRel (R : Pairing) (i j : Inst) : Act → Act → Type 0 where
   goes : {c d : Change} {h k : Body} → ChangeRel R c d → BodyRel R i j h k → ActRel R i j (Goes c h) (Goes d k)
-  calls : {a b : ℕ} {vs ws : List Val} {h k : Body} → R.of Funcs a b → ListRel (ValRel R) vs ws → BodyRel R i j h k → ActRel R i j (Calls a vs h) (Calls b ws k)
+  calls : {a b : ℕ} {vs ws : List Val} {h k : Body} → R.of Functions a b → ListRel (ValRel R) vs ws → BodyRel R i j h k → ActRel R i j (Calls a vs h) (Calls b ws k)
   asks_grow : {p q : Growth} {m n : ℕ} {h k : Body} → GrowthRel R p q → BodyRel R i j h k → ActRel R i j (AsksGrow p m n h) (AsksGrow q m n k)
   ends : {vs ws : List Val} → ListRel (ValRel R) vs ws → ActRel R i j (Ends vs) (Ends ws)
 

@@ -1,16 +1,18 @@
 -- Runs that are related: their states by a relation of addresses, their stacks by relations that are given.
 use Rattle.std.proofs.Common.{◌≡◌, ℕ, List, [], ◌∷◌, Option}
+use Rattle.wasm_tree.specs.declared.space.Space.{Space}
+use Rattle.wasm_tree.specs.declared.space.Space.TheVariants.{Functions, Tables, Memories, Globals, ElementSegments, DataSegments}
 use Rattle.wasm_meaning.specs.Outcomes.{at}
 use Rattle.wasm_meaning.specs.State.{Text, Store, Entry, Opening}
 use Rattle.wasm_meaning.specs.Environment.{Thing, FuncAt, TableAt, MemoryAt, GlobalAt}
 use Rattle.wasm_meaning.specs.World.{Begun}
 use Rattle.wasm_meaning.specs.Run.{Phase, Fresh, Pending, Opened, Closed, Run, Out}
-use Rattle.index_remap.specs.Related.{Kind, Funcs, Tables, Mems, Globals, Elems, Datas, Pairing, OptRel, ListRel, StoreRel}
+use Rattle.index_remap.specs.Related.{Pairing, OptRel, ListRel, StoreRel}
 
 pub data ThingRel (R : Pairing) : Thing → Thing → Type 0 where
-  a_func : {a b : ℕ} → R.of Funcs a b → ThingRel R (FuncAt a) (FuncAt b)
+  a_func : {a b : ℕ} → R.of Functions a b → ThingRel R (FuncAt a) (FuncAt b)
   a_table : {a b : ℕ} → R.of Tables a b → ThingRel R (TableAt a) (TableAt b)
-  a_memory : {a b : ℕ} → R.of Mems a b → ThingRel R (MemoryAt a) (MemoryAt b)
+  a_memory : {a b : ℕ} → R.of Memories a b → ThingRel R (MemoryAt a) (MemoryAt b)
   a_global : {a b : ℕ} → R.of Globals a b → ThingRel R (GlobalAt a) (GlobalAt b)
 
 pub record KeyRel (R : Pairing) {K : Type 0} (x y : K × Thing) : Type 0 where
@@ -20,7 +22,7 @@ pub record KeyRel (R : Pairing) {K : Type 0} (x y : K × Thing) : Type 0 where
 -- the same is shown, and the functions that were shown are related, number by number
 pub record ShowRel (R : Pairing) {A : Type 0} (x y : A × List ℕ) : Type 0 where
   pub same : x.0 ≡ y.0
-  pub shown : ListRel (R.of Funcs) x.1 y.1
+  pub shown : ListRel (R.of Functions) x.1 y.1
 
 -- part by part; the starts as the entry that holds them, and the stack with nothing on it
 pub record BegunRel (R : Pairing) (B : Store → Store → List Entry → List Entry → Type 0) (b c : Begun) : Type 0 where
@@ -41,7 +43,7 @@ pub record RunRel (R : Pairing) (B F : Store → Store → List Entry → List E
   pub store : StoreRel R r.store q.store
   pub entries : B r.store q.store r.entries q.entries
   pub phase : PhaseRel R F r.phase q.phase
-  pub shown : ListRel (R.of Funcs) r.shown q.shown
+  pub shown : ListRel (R.of Functions) r.shown q.shown
   pub view : ListRel (KeyRel R) r.view q.view
   pub owned : ListRel (KeyRel R) r.owned q.owned
   pub moves : r.moves ≡ q.moves
@@ -51,17 +53,17 @@ pub record OutRel (R : Pairing) (B F : Store → Store → List Entry → List E
   pub run : RunRel R B F o.0 p.0
 
 -- nothing is related to this address of the second store
-abbrev pub HasNoPartner : Pairing → Kind → ℕ → Type 0
+abbrev pub HasNoPartner : Pairing → Space → ℕ → Type 0
 HasNoPartner R k b = (a : ℕ) → R.of k a b → ⊥
 
 -- what stands at such addresses is as it was, and no function is another
 pub record KeepsOthers (R : Pairing) (before after : Store) : Type 0 where
   pub funcs : after.funcs ≡ before.funcs
   pub tables : (b : ℕ) → HasNoPartner R Tables b → at after.tables b ≡ at before.tables b
-  pub mems : (b : ℕ) → HasNoPartner R Mems b → at after.mems b ≡ at before.mems b
+  pub mems : (b : ℕ) → HasNoPartner R Memories b → at after.mems b ≡ at before.mems b
   pub globals : (b : ℕ) → HasNoPartner R Globals b → at after.globals b ≡ at before.globals b
-  pub elems : (b : ℕ) → HasNoPartner R Elems b → at after.elems b ≡ at before.elems b
-  pub datas : (b : ℕ) → HasNoPartner R Datas b → at after.datas b ≡ at before.datas b
+  pub elems : (b : ℕ) → HasNoPartner R ElementSegments b → at after.elems b ≡ at before.elems b
+  pub datas : (b : ℕ) → HasNoPartner R DataSegments b → at after.datas b ≡ at before.datas b
 
 -- its instantiation is past
 abbrev pub IsBegun : Phase → Type 0

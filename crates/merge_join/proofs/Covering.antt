@@ -1,12 +1,13 @@
 -- The map of a part has an entry for each index of the part's index spaces.
 use Rattle.std.proofs.Common.{◌≡◌, ◌∙◌, sym, ap, refl, subst, ℕ, zero, suc, ◌+◌, ◌<◌, List, [], ◌∷◌, length, map, arith, Some, Bool, true, false, ◌&&◌, true≢false}
+use Rattle.wasm_tree.specs.declared.space.Space.TheVariants.{Functions}
 use Rattle.std.specs.Prelude.{slice_index, IsTrue, nat_lt}
 use Rattle.std.proofs.lemmas.Bool.Decides.{nat_tests}
 use Rattle.std.proofs.lemmas.List.{length-map}
 use Rattle.wasm_tree.specs.declared.module.Module.{Module}
 use Rattle.wasm_tree.specs.Spaces.{funcs_of}
 use Rattle.wasm_meaning.specs.World.{numbers}
-use Rattle.wasm_meaning.specs.Linking.{Part, Functions}
+use Rattle.wasm_meaning.specs.Linking.{Part}
 use Rattle.index_remap.specs.declared.remap.Remap.{Remap}
 use Rattle.index_remap.specs.Renumbered.{all_true, fits_import, fits_func, fits_global, fits_export, fits_start, fits_elem, fits_data, fits_tree}
 use Rattle.merge_terms.specs.Merged.{map_of, new_index, start_of}

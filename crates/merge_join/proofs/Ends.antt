@@ -1,9 +1,10 @@
 -- Ends as they are written down.
 use Rattle.std.proofs.Common.{◌≡◌, ap, refl, ℕ, List, Bool, false, Option, Some, None, eqb, arith}
+use Rattle.wasm_tree.specs.declared.space.Space.{Space}
 use Rattle.std.specs.Option.{option_map, unwrap_or}
 use Rattle.std.proofs.lemmas.Bool.Decides.{nat_tests}
 use Rattle.wasm_meaning.specs.Linking as linking
-use Rattle.wasm_meaning.specs.Linking.{Part, Site, Entity, Kind, linked_end, is_outside, same_site, index_of_export}
+use Rattle.wasm_meaning.specs.Linking.{Part, Site, Entity, linked_end, is_outside, same_site, index_of_export}
 use Rattle.merge_terms.specs.declared.links.End.{End}
 use Rattle.merge_terms.specs.declared.links.End.TheVariants.{Defined, Outside}
 use Rattle.merge_terms.specs.Faults.{stays}
@@ -32,7 +33,7 @@ pub other_part : (p n q k : ℕ) → (q ≡ p → ⊥) → eqb q p ≡ same_site
 other_part p n q k ne = grind (arith, nat_tests)
 
 -- the place of an end goes by what is written down of it
-pub place_is : (ps : List Part) (k : Kind) (end : linking.End) → place_of_end ps k end ≡ place_at ps k (end_entry end)
+pub place_is : (ps : List Part) (k : Space) (end : linking.End) → place_of_end ps k end ≡ place_at ps k (end_entry end)
 unfolding place_of_end place_at
 place_is ps k (linking.Defined e) = refl
 place_is ps k (linking.Outside s) = refl

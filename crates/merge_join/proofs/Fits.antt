@@ -1,5 +1,8 @@
 -- Where linking finds no fault, each import's end is there, and of the import's kind.
 use Rattle.std.proofs.Common.{◌≡◌, ◌∙◌, sym, ap, refl, subst, inl, inr, ◌⊎◌, ℕ, zero, suc, ◌<◌, List, [], ◌∷◌, ◌++◌, length, arith, slice_get, Bool, true, false, cond, Option, Some, None, unwrap_or, ◌&&◌}
+use Rattle.wasm_tree.specs.declared.space.Space.{Space}
+use Rattle.wasm_tree.specs.declared.space.Space.TheVariants.{Functions, Tables, Memories, Globals}
+use Rattle.wasm_tree.specs.Operands.{same_space}
 use Rattle.std.specs.Prelude.{option_and_then}
 use Rattle.std.specs.Option.{option_map}
 use Rattle.std.proofs.lemmas.Option.{slice_get_within}
@@ -11,7 +14,7 @@ use Rattle.wasm_tree.specs.declared.module.ExportDesc.TheVariants as ex
 use Rattle.wasm_tree.specs.declared.module.Module.{Module}
 use Rattle.wasm_tree.specs.Spaces.{funcs_of, tables_of, memories_of, globals_of, type_of_func}
 use Rattle.wasm_meaning.specs.Linking as linking
-use Rattle.wasm_meaning.specs.Linking.{Part, Site, Entity, Kind, Functions, Tables, Memories, Globals, module_at, import_at, kind_of_import, kind_of_export, index_of_export, same_kind, has_kind, sites, end_of, linked_end, gathered, gathered_at, first_site, stays_as, same_memory, same_pair, pair_of, is_outside}
+use Rattle.wasm_meaning.specs.Linking.{Part, Site, Entity, module_at, import_at, kind_of_import, kind_of_export, index_of_export, has_kind, sites, end_of, linked_end, gathered, gathered_at, first_site, stays_as, same_memory, same_pair, pair_of, is_outside}
 use Rattle.merge_terms.specs.declared.links.End.{End}
 use Rattle.merge_terms.specs.declared.faults.LinkFault.{LinkFault}
 use Rattle.merge_terms.specs.declared.faults.LinkFault.TheVariants.{ImportMismatch}
@@ -24,7 +27,7 @@ use Rattle.merge_join.proofs.SpaceSizes.{funcs_size, tables_size, memories_size,
 
 -- ---- external types have kinds ----
 
-abbrev kind_of_external : External → Kind
+abbrev kind_of_external : External → Space
 kind_of_external (FuncOf t) = Functions
 kind_of_external (TableOf t) = Tables
 kind_of_external (MemoryOf l) = Memories
@@ -116,7 +119,7 @@ place_within (y ∷ ys) (suc n) x h = omega (arith, place_within ys n x h)
 -- ---- ends ----
 
 -- the end is there, and of this kind
-abbrev pub EndThere : List Part → Kind → linking.End → Type 0
+abbrev pub EndThere : List Part → Space → linking.End → Type 0
 EndThere ps k (linking.Defined e) = (m : Module) × (module_at ps e.part ≡ Some m) × (kind_of_export e.what ≡ k) × (index_of_export e.what < space_size k m)
 EndThere ps k (linking.Outside t) = (j : Import) × (import_at ps t ≡ Some j) × (kind_of_import j.desc ≡ k)
 
@@ -178,7 +181,7 @@ same_memory_kind : (j : Import) (o : Option Import) → same_memory j o ≡ true
 same_memory_kind j None h = cc
 same_memory_kind j (Some l) h = (l, refl, case (kind_of_import j.desc) (kind_of_import l.desc) h)
   where
-    case : (a b : Kind) → same_kind Memories a && (same_kind Memories b && same_pair (pair_of j) (pair_of l)) ≡ true → b ≡ a
+    case : (a b : Space) → same_space Memories a && (same_space Memories b && same_pair (pair_of j) (pair_of l)) ≡ true → b ≡ a
     case Memories Memories h = refl
     case Memories Functions h = cc
     case Memories Tables h = cc
@@ -194,7 +197,7 @@ stays_same ps j t h = case (is_outside t (end_of ps t)) (same_memory j (import_a
     case true b h = h
     case false b h = cc
 
-gathered_there : (ps : List Part) (k : Kind) (t : Site) (o : Option Import) (j : Import) → o ≡ Some j → import_at ps t ≡ Some j → kind_of_import j.desc ≡ k → EndThere ps k (gathered_at ps t o)
+gathered_there : (ps : List Part) (k : Space) (t : Site) (o : Option Import) (j : Import) → o ≡ Some j → import_at ps t ≡ Some j → kind_of_import j.desc ≡ k → EndThere ps k (gathered_at ps t o)
 gathered_there ps k t None j e at is = cc
 gathered_there ps k t (Some l) j e at is =
     let same : l ≡ j = cc in
@@ -206,12 +209,12 @@ gathered_there ps k t (Some l) j e at is =
           (i, there, kind ∙ ap (λ (x : Import). kind_of_import x.desc) same ∙ is)
     ]
 
-gather_there : (ps : List Part) (k : Kind) (end : linking.End) → EndThere ps k end → EndThere ps k (gathered ps end)
+gather_there : (ps : List Part) (k : Space) (end : linking.End) → EndThere ps k end → EndThere ps k (gathered ps end)
 gather_there ps k (linking.Defined e) h = h
 gather_there ps k (linking.Outside t) (j, at, is) = gathered_there ps k t (import_at ps t) j at at is
 
 -- an end that is there can be written down
-written : (ps : List Part) (k : Kind) (end : linking.End) → EndThere ps k end → IsEnd ps k (end_entry end)
+written : (ps : List Part) (k : Space) (end : linking.End) → EndThere ps k end → IsEnd ps k (end_entry end)
 written ps k (linking.Defined e) (m, at, kind, within) = (m, at, within)
 written ps k (linking.Outside t) (j, at, kind) =
     let (m, there, here) = some_of (module_at ps t.part) (λ m. slice_get m.imports t.import) j at in
@@ -229,7 +232,7 @@ entry_there ps p n m i e none at here ends =
     let gathers : gathered ps end ≡ linked = cc in
     subst (IsEnd ps (kind_of_import i.desc)) (ap end_entry gathers ∙ entry) (written ps (kind_of_import i.desc) (gathered ps end) (gather_there ps (kind_of_import i.desc) end (end_there ps p n m i end none at here first)))
 
-pub kind_from : (a b : Kind) → same_kind a b ≡ true → a ≡ b
+pub kind_from : (a b : Space) → same_space a b ≡ true → a ≡ b
 kind_from Functions Functions h = refl
 kind_from Functions Tables h = cc
 kind_from Functions Memories h = cc

@@ -1,9 +1,10 @@
 -- The map of a part, from its lists.
 use Rattle.std.proofs.Common.{◌≡◌, ◌∙◌, sym, ap, subst, ℕ, List, length, map, Some, unwrap_or}
+use Rattle.wasm_tree.specs.declared.space.Space.TheVariants.{Functions, Tables, Memories, Globals, DataSegments, ElementSegments}
 use Rattle.wasm_tree.specs.declared.module.Module.{Module}
 use Rattle.wasm_tree.specs.Spaces.{funcs_of, tables_of, memories_of, globals_of}
-use Rattle.wasm_meaning.specs.World.{numbers, elems_before, datas_before}
-use Rattle.wasm_meaning.specs.Linking.{Part, Functions, Tables, Memories, Globals, module_at, first_place}
+use Rattle.wasm_meaning.specs.World.{numbers, defined_before}
+use Rattle.wasm_meaning.specs.Linking.{Part, module_at, first_place}
 use Rattle.wasm_meaning.specs.Values.{same_func_type}
 use Rattle.index_remap.specs.declared.remap.Remap.{Remap}
 use Rattle.merge_terms.specs.declared.parts.Part as declared
@@ -31,8 +32,8 @@ pub record AreLists (ps : List Part) (p : ℕ) (m : Module) (types funcs tables 
   pub tables_are : tables ≡ map (new_index ps p Tables) (numbers 0 (space_size Tables m))
   pub mems_are : mems ≡ map (new_index ps p Memories) (numbers 0 (space_size Memories m))
   pub globals_are : globals ≡ map (new_index ps p Globals) (numbers 0 (space_size Globals m))
-  pub elems_are : elems ≡ numbers (elems_before ps p) (length m.elems)
-  pub datas_are : datas ≡ numbers (datas_before ps p) (length m.datas)
+  pub elems_are : elems ≡ numbers (defined_before ElementSegments ps p) (length m.elems)
+  pub datas_are : datas ≡ numbers (defined_before DataSegments ps p) (length m.datas)
 
 pub map_built : (ps : List Part) (p : ℕ) (m : Module) (types funcs tables mems globals elems datas : List ℕ) → AreLists ps p m types funcs tables mems globals elems datas → built types funcs tables mems globals elems datas ≡ map_of ps p m
 unfolding map_of place_of_type
@@ -42,7 +43,7 @@ map_built ps p m types funcs tables mems globals elems datas a =
     let tabs = map (new_index ps p Tables) (numbers 0 (length (tables_of m))) in
     let ms = map (new_index ps p Memories) (numbers 0 (length (memories_of m))) in
     let gs = map (new_index ps p Globals) (numbers 0 (length (globals_of m))) in
-    let es = numbers (elems_before ps p) (length m.elems) in
+    let es = numbers (defined_before ElementSegments ps p) (length m.elems) in
     ap (λ x. built x funcs tables mems globals elems datas) a.types_are
     ∙ ap (λ x. built ts x tables mems globals elems datas) (a.funcs_are ∙ ap (λ n. map (new_index ps p Functions) (numbers 0 n)) (sym (funcs_size m)))
     ∙ ap (λ x. built ts fs x mems globals elems datas) (a.tables_are ∙ ap (λ n. map (new_index ps p Tables) (numbers 0 n)) (sym (tables_size m)))

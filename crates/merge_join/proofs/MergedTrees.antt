@@ -1,5 +1,6 @@
 -- The merged module, from its lists.
 use Rattle.std.proofs.Common.{◌≡◌, ◌∙◌, ap, refl, ℕ, suc, ◌+◌, ◌<◌, ◌≤◌, ◌^◌, List, [], ◌∷◌, ◌++◌, length, map, arith, Option, Some, None}
+use Rattle.wasm_tree.specs.declared.space.Space.TheVariants.{Functions}
 use Rattle.std.specs.List.{flat_map, filter_map, cons_option}
 use Rattle.std.proofs.lemmas.List.{length-append, length-map}
 use Rattle.wasm_tree.specs.declared.types.FuncType.{FuncType}
@@ -15,7 +16,7 @@ use Rattle.wasm_tree.specs.declared.module.Module.{Module}
 use Rattle.wasm_tree.specs.Spaces.{func_of, imported_funcs, funcs_of}
 use Rattle.wasm_meaning.specs.State.{Text}
 use Rattle.wasm_meaning.specs.World.{defined_before}
-use Rattle.wasm_meaning.specs.Linking.{Part, Functions, sites}
+use Rattle.wasm_meaning.specs.Linking.{Part, sites}
 use Rattle.index_remap.specs.Renumbered.{new_func}
 use Rattle.merge_terms.specs.Merged.{staying, merged_types, merged_import, by_part_from, by_part, defined_funcs, map_of, merged_global, merged_elem, merged_data, starts, start_calls, start_among, all_exports, named_exports, merged}
 use Rattle.merge_terms.specs.Faults.{stays}

@@ -1,5 +1,7 @@
 -- What a constant expression of a part becomes, by what is read through the part's imported globals.
 use Rattle.std.proofs.Common.{◌≡◌, ◌∙◌, ap, sym, subst, refl, ℕ, zero, suc, ◌+◌, ◌<◌, List, [], ◌∷◌, ◌++◌, length, Option, Some, None, Bool, true, false, cond, ◌&&◌, not, nat_lt, arith, slice_get, get_or, option_and_then, unwrap_or}
+use Rattle.wasm_tree.specs.declared.space.Space.TheVariants.{Globals}
+use Rattle.wasm_tree.specs.Operands.{same_space}
 use Rattle.std.specs.Option.{option_map}
 use Rattle.std.specs.List.{cons_option}
 use Rattle.std.proofs.lemmas.Bool.{ltb-true}
@@ -17,7 +19,7 @@ use Rattle.wasm_typing.specs.Typing.{only}
 use Rattle.wasm_valid.specs.Constants.{const_type}
 use Rattle.wasm_valid.specs.Validity.{IsValid}
 use Rattle.wasm_meaning.specs.Linking as linking
-use Rattle.wasm_meaning.specs.Linking.{Part, Site, Globals, places, kind_of_import, same_kind, has_kind, space_index, module_at, import_at, imports_of, read_of}
+use Rattle.wasm_meaning.specs.Linking.{Part, Site, places, kind_of_import, has_kind, space_index, module_at, import_at, imports_of, read_of}
 use Rattle.index_remap.specs.Renumbered.{new_const}
 use Rattle.remap_typing.proofs.Lists.{left_true, right_true, then_there, only_true}
 use Rattle.merge_terms.specs.declared.links.Read.{Read}
@@ -34,7 +36,7 @@ use Rattle.merge_join.specs.Reads.{AreReads, HasType}
 
 -- ---- an imported global ----
 
-kinds_agree : (d : ImportDesc) → is_some (global_of d) ≡ same_kind Globals (kind_of_import d)
+kinds_agree : (d : ImportDesc) → is_some (global_of d) ≡ same_space Globals (kind_of_import d)
 kinds_agree (im.Func t) = refl
 kinds_agree (im.Table t) = refl
 kinds_agree (im.Memory l) = refl
@@ -129,10 +131,10 @@ module _ (ps : List Part) (p : ℕ) (reads : List (Option Read)) (are : AreReads
       let g = fixed.global in
       let s = site p import.n in
       let at : import_at ps s ≡ Some import.import = ap (λ o. option_and_then (λ m. slice_get m.imports import.n) o) typed.2 ∙ import.there in
-      ap (λ o. option_map read_entry (option_and_then {B = linking.Read} {A = Import} o (λ i. read_at_desc ps s i.desc))) at
+      ap (λ o. option_map read_entry (option_and_then {T = Import} {U = linking.Read} (λ i. read_at_desc ps s i.desc) o)) at
       ∙ ap (λ d. option_map read_entry (read_at_desc ps s d)) import.desc
       ∙ ap (λ b. option_map read_entry (when_fixed b (option_and_then (λ m. read_of ps p (const.Global (space_index m.imports import.n Globals))) (module_at ps p)))) fixed.fixed
-      ∙ ap (λ o. option_map read_entry (option_and_then {B = linking.Read} {A = Module} o (λ m. read_of ps p (const.Global (space_index m.imports import.n Globals))))) typed.2
+      ∙ ap (λ o. option_map read_entry (option_and_then {T = Module} {U = linking.Read} (λ m. read_of ps p (const.Global (space_index m.imports import.n Globals))) o)) typed.2
       ∙ ap (λ x. option_map read_entry (read_of ps p (const.Global x))) import.index
 
   there_is : slice_get reads x ≡ Some (option_map read_entry (read_of ps p (const.Global x)))
@@ -164,12 +166,12 @@ no_read (Some q) h = cc
 pub becomes_read : (ps : List Part) (p : ℕ) (e : ConstExpr) (r : Read) (m : Module) → option_map read_entry (read_of ps p e) ≡ Some r → module_at ps r.part ≡ Some m → new_const (map_of ps r.part m) r.expr ≡ merged_const ps p e
 unfolding merged_const
 becomes_read ps p e r m h at =
-    sym (ap (λ o. unwrap_or (option_and_then {B = ConstExpr} {A = linking.Read} o (merged_read ps)) e) (read_back (read_of ps p e) r h)
-    ∙ ap (λ o. unwrap_or (option_and_then {B = ConstExpr} {A = Module} o (λ m. Some (new_const (map_of ps r.part m) r.expr))) e) at)
+    sym (ap (λ o. unwrap_or (option_and_then {T = linking.Read} {U = ConstExpr} (merged_read ps) o) e) (read_back (read_of ps p e) r h)
+    ∙ ap (λ o. unwrap_or (option_and_then {T = Module} {U = ConstExpr} (λ m. Some (new_const (map_of ps r.part m) r.expr)) o) e) at)
 
 pub stays_expr : (ps : List Part) (p : ℕ) (e : ConstExpr) → option_map read_entry (read_of ps p e) ≡ None → e ≡ merged_const ps p e
 unfolding merged_const
-stays_expr ps p e h = sym (ap (λ o. unwrap_or (option_and_then {B = ConstExpr} {A = linking.Read} o (merged_read ps)) e) (no_read (read_of ps p e) h))
+stays_expr ps p e h = sym (ap (λ o. unwrap_or (option_and_then {T = linking.Read} {U = ConstExpr} (merged_read ps) o) e) (no_read (read_of ps p e) h))
 
 pub becomes_new : (ps : List Part) (p : ℕ) (e : ConstExpr) (m : Module) → ((x : ℕ) → e ≡ const.Global x → ⊥) → module_at ps p ≡ Some m → new_const (map_of ps p m) e ≡ merged_const ps p e
 becomes_new ps p (const.I32 v) m not at = becomes_read ps p (const.I32 v) (record { part = p; expr = const.I32 v }) m refl at

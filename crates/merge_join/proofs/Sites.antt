@@ -1,12 +1,13 @@
 -- The imports of all parts, one after the other, and those of a kind that stay.
 use Rattle.std.proofs.Common.{◌≡◌, ◌∙◌, sym, ap, refl, inl, inr, ℕ, zero, suc, ◌+◌, ◌-◌, ◌<◌, ◌≤◌, List, [], ◌∷◌, ◌++◌, length, take, arith, slice_get, Bool, true, false, cond, Some, None, append_assoc, ◌&&◌}
+use Rattle.wasm_tree.specs.declared.space.Space.{Space}
 use Rattle.std.specs.Prelude.{filter}
 use Rattle.std.proofs.lemmas.Bool.{cases_Bool}
 use Rattle.std.proofs.lemmas.Bool.Decides.{nat_tests}
 use Rattle.std.proofs.lemmas.List.{length-append}
 use Rattle.std.proofs.lemmas.List.Elements.{filter-append}
 use Rattle.wasm_tree.specs.declared.module.Module.{Module}
-use Rattle.wasm_meaning.specs.Linking.{Part, Site, Kind, places, module_at, same_site, first_place, sites_in, sites_from, sites}
+use Rattle.wasm_meaning.specs.Linking.{Part, Site, places, module_at, same_site, first_place, sites_in, sites_from, sites}
 use Rattle.merge_terms.specs.Faults.{stays}
 use Rattle.merge_terms.specs.Merged.{by_part_from, by_part, staying, staying_of, imports_kind}
 use Rattle.merge_join.specs.Words.{site}
@@ -171,12 +172,12 @@ filter_join p q (x ∷ xs) = case (p x) (filter_join p q xs)
     case true rest = ap (λ ys. cond (q x) (x ∷ ys) ys) rest
     case false rest = rest
 
-pub staying_is : (ps : List Part) (k : Kind) → staying_of ps k ≡ filter (picked ps k) (sites ps)
+pub staying_is : (ps : List Part) (k : Space) → staying_of ps k ≡ filter (picked ps k) (sites ps)
 unfolding staying_of staying
 staying_is ps k = filter_join (stays ps) (imports_kind ps k) (sites ps)
 
 -- the place of an import among those that are picked
-pub staying_place_is : (ps : List Part) (k : Kind) (p n : ℕ) (m : Module) → module_at ps p ≡ Some m → n < length m.imports →
+pub staying_place_is : (ps : List Part) (k : Space) (p n : ℕ) (m : Module) → module_at ps p ≡ Some m → n < length m.imports →
     staying_place ps k (site p n) ≡ cond (picked ps k (site p n)) (Some (count_before ps k p n)) None
 unfolding count_before
 staying_place_is ps k p n m at h =

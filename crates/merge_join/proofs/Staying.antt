@@ -28,14 +28,14 @@ desc_is ps s m (im.Global t) = refl
 kept_is : (ps : List Part) (s : Site) (i : Import) → stays ps s ≡ true → import_at ps s ≡ Some i → kept_limits ps s ≡ option_and_then (λ l. Some (met_limits ps s)) (limits_of i.desc)
 unfolding kept_limits
 kept_is ps s i yes-stays at =
-    ap (λ b. cond b (option_and_then (λ i. option_and_then {B = Limits} {A = Limits} (limits_of i.desc) (λ l. Some (met_limits ps s))) (import_at ps s)) None) yes-stays
-    ∙ ap (λ o. option_and_then {B = Limits} {A = Import} o (λ i. option_and_then (λ l. Some (met_limits ps s)) (limits_of i.desc))) at
+    ap (λ b. cond b (option_and_then (λ i. option_and_then {T = Limits} {U = Limits} (λ l. Some (met_limits ps s)) (limits_of i.desc)) (import_at ps s)) None) yes-stays
+    ∙ ap (λ o. option_and_then {T = Import} {U = Limits} (λ i. option_and_then (λ l. Some (met_limits ps s)) (limits_of i.desc)) o) at
 
 import_is : (ps : List Part) (s : Site) (m : Module) (i : Import) → module_at ps s.part ≡ Some m → import_at ps s ≡ Some i → merged_import ps s ≡ Some (record i { desc = merged_desc ps s m i.desc })
 unfolding merged_import
 import_is ps s m i at there =
-    ap (λ o. option_and_then {B = Import} {A = Module} o (λ m. option_and_then (λ i. Some (record i { desc = merged_desc ps s m i.desc })) (import_at ps s))) at
-    ∙ ap (λ o. option_and_then {B = Import} {A = Import} o (λ i. Some (record i { desc = merged_desc ps s m i.desc }))) there
+    ap (λ o. option_and_then {T = Module} {U = Import} (λ m. option_and_then (λ i. Some (record i { desc = merged_desc ps s m i.desc })) (import_at ps s)) o) at
+    ∙ ap (λ o. option_and_then {T = Import} {U = Import} (λ i. Some (record i { desc = merged_desc ps s m i.desc })) o) there
 
 abbrev import_of : Text → Text → ImportDesc → Import
 import_of a b d = record { «module» = a; field = b; desc = d }

@@ -1,5 +1,6 @@
 -- What is read through the imported globals of a part, and constant expressions that have a type in a part.
 use Rattle.std.specs.Prelude.{◌≡◌, ℕ, List, map, Option, Some}
+use Rattle.wasm_tree.specs.declared.space.Space.TheVariants.{Globals}
 use Rattle.wasm_tree.specs.declared.types.RefType.{RefType}
 use Rattle.wasm_tree.specs.declared.types.ValType.{ValType}
 use Rattle.wasm_tree.specs.declared.module.ConstExpr.{ConstExpr}
@@ -8,7 +9,7 @@ use Rattle.wasm_tree.specs.declared.module.DataMode.{DataMode}
 use Rattle.wasm_tree.specs.declared.module.Module.{Module}
 use Rattle.wasm_valid.specs.Constants.{const_type}
 use Rattle.wasm_valid.specs.Validity.{ElemModeHolds, DataModeHolds}
-use Rattle.wasm_meaning.specs.Linking.{Part, Globals, module_at, imports_of}
+use Rattle.wasm_meaning.specs.Linking.{Part, module_at, imports_of}
 use Rattle.merge_terms.specs.declared.links.Read.{Read}
 use Rattle.merge_terms.specs.Linked.{read_at}
 use Rattle.merge_join.specs.Words.{site}

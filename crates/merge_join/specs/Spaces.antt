@@ -1,32 +1,33 @@
 -- The merged index space of a kind, as it is written down.
 use Rattle.std.specs.Prelude.{◌≡◌, ℕ, ◌+◌, List, ◌++◌, filter, length, Option, Bool, false, cond, take, ◌&&◌}
+use Rattle.wasm_tree.specs.declared.space.Space.{Space}
 use Rattle.wasm_tree.specs.declared.module.Module.{Module}
 use Rattle.wasm_meaning.specs.World.{defined_before}
-use Rattle.wasm_meaning.specs.Linking.{Part, Site, Kind, first_place, same_site, sites_in, sites_from}
+use Rattle.wasm_meaning.specs.Linking.{Part, Site, first_place, same_site, sites_in, sites_from}
 use Rattle.merge_terms.specs.Faults.{stays}
 use Rattle.merge_terms.specs.Linked.{by_import}
 use Rattle.merge_terms.specs.Merged.{staying_of, imports_kind, imported_count}
 use Rattle.merge_join.specs.Words.{each_part}
 
 -- the place of an import among those of a kind that stay
-abbrev pub staying_place : List Part → Kind → Site → Option ℕ
+abbrev pub staying_place : List Part → Space → Site → Option ℕ
 staying_place ps k s = first_place (same_site s) (staying_of ps k) 0
 
-abbrev pub first_of : List Part → Kind → ℕ → Module → ℕ
+abbrev pub first_of : List Part → Space → ℕ → Module → ℕ
 first_of ps k p m = length (staying_of ps k) + defined_before k ps p
 
-abbrev pub imported_in : List Part → Kind → ℕ → Module → ℕ
+abbrev pub imported_in : List Part → Space → ℕ → Module → ℕ
 imported_in ps k p m = imported_count ps p k
 
 -- for each import its place, for each part the first place of what it defines and how many it imports, and how many there are
-pub record IsSpace (ps : List Part) (k : Kind) (staying : List (List (Option ℕ))) (firsts imported : List ℕ) (count : ℕ) : Type 0 where
+pub record IsSpace (ps : List Part) (k : Space) (staying : List (List (Option ℕ))) (firsts imported : List ℕ) (count : ℕ) : Type 0 where
   pub staying_are : staying ≡ by_import (staying_place ps k) ps
   pub firsts_are : firsts ≡ each_part (first_of ps k) ps
   pub imported_are : imported ≡ each_part (imported_in ps k) ps
   pub count_is : count ≡ length (staying_of ps k) + defined_before k ps (length ps)
 
 -- whether an import stays and is of a kind
-abbrev pub picked : List Part → Kind → Site → Bool
+abbrev pub picked : List Part → Space → Site → Bool
 picked ps k s = stays ps s && imports_kind ps k s
 
 -- all imports before the one at a place
@@ -34,5 +35,5 @@ abbrev pub sites_before : List Part → (part import : ℕ) → List Site
 sites_before ps p n = sites_from 0 (take p ps) ++ sites_in p n 0
 
 -- how many before it stay and are of a kind
-unfoldable pub count_before : List Part → Kind → (part import : ℕ) → ℕ
+unfoldable pub count_before : List Part → Space → (part import : ℕ) → ℕ
 count_before ps k p n = length (filter (picked ps k) (sites_before ps p n))

@@ -1,11 +1,13 @@
 -- What the calls of this crate say of parts, links and index spaces.
 use Rattle.std.specs.Prelude.{◌≡◌, ℕ, ◌+◌, ◌-◌, ◌<◌, List, ◌∷◌, [], length, Some, None, unwrap_or}
+use Rattle.wasm_tree.specs.declared.space.Space.{Space}
+use Rattle.wasm_tree.specs.declared.space.Space.TheVariants.{Functions, Tables, Memories, Globals}
 use Rattle.wasm_tree.specs.declared.module.Module.{Module}
 use Rattle.wasm_tree.specs.Bounds.{IsBounded}
 use Rattle.wasm_valid.specs.Validity.{IsValid}
 use Rattle.wasm_meaning.specs.World.{defined_before, defined_count}
 use Rattle.wasm_meaning.specs.Linking as linking
-use Rattle.wasm_meaning.specs.Linking.{Site, Kind, Functions, Tables, Memories, Globals, module_at, imports_of, same_site, first_place, sites_in}
+use Rattle.wasm_meaning.specs.Linking.{Site, module_at, imports_of, same_site, first_place, sites_in}
 use Rattle.index_remap.specs.declared.remap.Remap.{Remap}
 use Rattle.merge_terms.specs.declared.parts.Part.{Part}
 use Rattle.merge_terms.specs.declared.links.End.{End}
@@ -20,7 +22,7 @@ use Rattle.merge_join.specs.declared.joining.Joining.{Joining}
 use Rattle.merge_join.specs.declared.kinds.Kind as declared
 use Rattle.merge_join.specs.declared.kinds.Kind.TheVariants as kind
 
-abbrev pub the_kind : declared.Kind → Kind
+abbrev pub the_kind : declared.Kind → Space
 the_kind kind.Functions = Functions
 the_kind kind.Tables = Tables
 the_kind kind.Memories = Memories
@@ -33,16 +35,16 @@ site p n = record { part = p; import = n }
 abbrev pub IsSite : List linking.Part → ℕ → ℕ → Type 0
 IsSite ps p n = (m : Module) × (module_at ps p ≡ Some m) × (n < length m.imports)
 
-abbrev pub space_size : Kind → Module → ℕ
+abbrev pub space_size : Space → Module → ℕ
 space_size k m = length (imports_of k m) + defined_count k m
 
 -- what is written down of an end of this kind is there
-abbrev pub IsEnd : List linking.Part → Kind → End → Type 0
+abbrev pub IsEnd : List linking.Part → Space → End → Type 0
 IsEnd ps k (Defined p i) = (m : Module) × (module_at ps p ≡ Some m) × (i < space_size k m)
 IsEnd ps k (Outside p n) = IsSite ps p n
 
 -- the place in the merged index space of an end that is written down
-unfoldable pub place_at : List linking.Part → Kind → End → ℕ
+unfoldable pub place_at : List linking.Part → Space → End → ℕ
 place_at ps k (Defined p i) = length (staying_of ps k) + (defined_before k ps p + (i - imported_count ps p k))
 place_at ps k (Outside p n) = unwrap_or (first_place (same_site (site p n)) (staying_of ps k) 0) 0
 

@@ -1,7 +1,8 @@
 // The kinds of what is imported and defined, one for each index space (WebAssembly Core 2.0, section 2.5.1).
 
 ghost use Rattle.std.specs.Prelude.{◌≡◌};
-ghost use Rattle.wasm_meaning.specs.Linking.{kind_of_import, same_kind};
+ghost use Rattle.wasm_tree.specs.Operands.{same_space};
+ghost use Rattle.wasm_meaning.specs.Linking.{kind_of_import};
 ghost use Rattle.wasm_meaning.specs.World as world;
 ghost use Rattle.merge_join.specs.Words.{the_kind};
 
@@ -17,7 +18,7 @@ pub(crate) enum Kind {
 
 /// Whether what is imported is of a kind.
 pub(crate) fn is_of(desc: &ImportDesc, kind: Kind) -> bool
-    ensures { result ≡ same_kind (the_kind kind) (kind_of_import desc.now) }
+    ensures { result ≡ same_space (the_kind kind) (kind_of_import desc.now) }
 {
     match desc {
         ImportDesc::Func(_) => kind == Kind::Functions,

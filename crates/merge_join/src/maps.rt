@@ -1,6 +1,7 @@
 // The maps from the indices of each part to those of the merged module.
 
 ghost use Rattle.std.specs.Prelude.{◌≡◌, ◌+◌, ◌<◌, ◌≤◌, ◌^◌, length, map as each, Some, IfOk, unwrap_or};
+ghost use Rattle.wasm_tree.specs.declared.space.Space.TheVariants.{DataSegments, ElementSegments};
 ghost use Rattle.wasm_tree.specs.declared.module.Module.{Module as Tree};
 ghost use Rattle.wasm_meaning.specs.Linking.{module_at, imports_of, first_place};
 ghost use Rattle.wasm_meaning.specs.Values.{same_func_type};
@@ -105,8 +106,8 @@ fn map_of(
     requires there { part < length parts.now }
     requires spaces { AreSpaces parts.now spaces.now }
     requires types { types.now.list ≡ merged_types (named_modules parts.now) }
-    requires elem { first.elem ≡ world.elems_before (named_modules parts.now) part }
-    requires data { first.data ≡ world.datas_before (named_modules parts.now) part }
+    requires elem { first.elem ≡ defined_before ElementSegments (named_modules parts.now) part }
+    requires data { first.data ≡ defined_before DataSegments (named_modules parts.now) part }
     ensures { IfOk result (λ map. (m : Tree) → module_at (named_modules parts.now) part ≡ Some m → map ≡ merged.map_of (named_modules parts.now) part m) }
 {
     let module = module_of(parts, part);

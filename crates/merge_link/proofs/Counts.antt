@@ -1,5 +1,7 @@
 -- Counts of memories.
 use Rattle.std.proofs.Common.{◌≡◌, ◌∙◌, sym, ap, refl, ℕ, zero, suc, ◌+◌, ◌<◌, ◌≤◌, List, [], ◌∷◌, Option, Some, None, Bool, true, false, cond, map, length, drop, get_or, nat_lt, arith, option_and_then, unwrap_or, ◌&&◌}
+use Rattle.wasm_tree.specs.declared.space.Space.{Space}
+use Rattle.wasm_tree.specs.declared.space.Space.TheVariants.{Memories}
 use Rattle.std.proofs.lemmas.List.{drop_more}
 use Rattle.std.proofs.lemmas.Bool.Decides.{nat_tests}
 use Rattle.wasm_tree.specs.declared.module.Import.{Import}
@@ -13,16 +15,16 @@ use Rattle.merge_link.specs.declared.sites.Site.{Site}
 use Rattle.merge_link.specs.Sites.{AreSites, the_site}
 use Rattle.merge_link.specs.Gathering.{is_memory_at, linked_at}
 
-pub defined_none : (k : linking.Kind) (lp : List linking.Part) → defined_before k lp 0 ≡ 0
+pub defined_none : (k : Space) (lp : List linking.Part) → defined_before k lp 0 ≡ 0
 defined_none k [] = refl
 defined_none k (x ∷ lp) = refl
 
-pub defined_more : (k : linking.Kind) (lp : List linking.Part) (p : ℕ) (m : Module) → linking.module_at lp p ≡ Some m → defined_before k lp (suc p) ≡ defined_before k lp p + defined_count k m
+pub defined_more : (k : Space) (lp : List linking.Part) (p : ℕ) (m : Module) → linking.module_at lp p ≡ Some m → defined_before k lp (suc p) ≡ defined_before k lp p + defined_count k m
 defined_more k [] p m h = cc
 defined_more k (x ∷ lp) zero m h = let e : x.«module» ≡ m = cc in omega (arith, ap (defined_count k) e, defined_none k lp)
 defined_more k (x ∷ lp) (suc p) m h = omega (arith, defined_more k lp p m h)
 
-pub defined_most : (k : linking.Kind) (lp : List linking.Part) (p : ℕ) → defined_before k lp p ≤ defined_before k lp (length lp)
+pub defined_most : (k : Space) (lp : List linking.Part) (p : ℕ) → defined_before k lp p ≤ defined_before k lp (length lp)
 defined_most k [] p = omega arith
 defined_most k (x ∷ lp) zero = omega arith
 defined_most k (x ∷ lp) (suc p) = omega (arith, defined_most k lp p)
@@ -48,15 +50,15 @@ staying_here ps s e h =
     ap (λ o. linking.is_outside (the_site s) o && is_memory_at (linking.import_at (named_modules ps) (the_site s))) (sym h)
     ∙ ap (λ b. linking.is_outside (the_site s) (linking.linked_end (named_modules ps) (the_site s)) && b) (by (linking.import_at (named_modules ps) (the_site s)))
   where
-    by : (o : Option Import) → is_memory_at o ≡ unwrap_or (option_and_then (λ i. Some (linking.has_kind linking.Memories i)) o) false
+    by : (o : Option Import) → is_memory_at o ≡ unwrap_or (option_and_then (λ i. Some (linking.has_kind Memories i)) o) false
     by None = refl
     by (Some i) = refl
 
 pub memories_counted : (ps : List Part) (sites : List Site) → AreSites ps sites
-    → linking.count_of (λ s. faults.is_staying_memory (named_modules ps) (the_site s)) sites + defined_before linking.Memories (named_modules ps) (length (named_modules ps)) ≡ faults.memory_count (named_modules ps)
+    → linking.count_of (λ s. faults.is_staying_memory (named_modules ps) (the_site s)) sites + defined_before Memories (named_modules ps) (length (named_modules ps)) ≡ faults.memory_count (named_modules ps)
 unfolding faults.memory_count
 memories_counted ps sites are =
-    ap (λ n. n + defined_before linking.Memories (named_modules ps) (length (named_modules ps))) (sym (count_map (faults.is_staying_memory (named_modules ps)) the_site sites) ∙ ap (linking.count_of (faults.is_staying_memory (named_modules ps))) are)
+    ap (λ n. n + defined_before Memories (named_modules ps) (length (named_modules ps))) (sym (count_map (faults.is_staying_memory (named_modules ps)) the_site sites) ∙ ap (linking.count_of (faults.is_staying_memory (named_modules ps))) are)
 
 pub above_one : (n : ℕ) → 1 < n → true ≡ nat_lt 1 n
 above_one n h = grind (arith, nat_tests)

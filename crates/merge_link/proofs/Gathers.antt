@@ -1,5 +1,6 @@
 -- Memories that stay, gathered: the first of a pair is found in the map.
 use Rattle.std.proofs.Common.{◌≡◌, ◌∙◌, sym, ap, refl, subst, inl, inr, ℕ, suc, ◌++◌, List, [], ◌∷◌, Option, Some, None, Bool, true, false, cond, map, length, drop, slice_get, ◌-◌, ◌&&◌, Ordering, Less, Equal, Greater}
+use Rattle.wasm_tree.specs.declared.space.Space.TheVariants.{Memories}
 use Rattle.std.specs.Ordering.{nat_cmp, ordering_then, is_eq}
 use Rattle.std.specs.Cmp.Lexicographic.{slice_cmp}
 use Rattle.std.proofs.lemmas.Map.Text.{is_eq-slice_cmp}
@@ -23,17 +24,17 @@ cond_false false = refl
 
 -- ---- what is no memory ends where it stays ----
 
-not_same : (i : Import) → linking.has_kind linking.Memories i ≡ false → (o : Option Import) → linking.same_memory i o ≡ false
+not_same : (i : Import) → linking.has_kind Memories i ≡ false → (o : Option Import) → linking.same_memory i o ≡ false
 not_same i is_no None = refl
 not_same i is_no (Some j) = rw is_no refl
 
-alone : (lp : List linking.Part) (i : Import) (ss : List linking.Site) (other : linking.Site) → linking.has_kind linking.Memories i ≡ false → linking.first_site (linking.stays_as lp i) ss other ≡ other
+alone : (lp : List linking.Part) (i : Import) (ss : List linking.Site) (other : linking.Site) → linking.has_kind Memories i ≡ false → linking.first_site (linking.stays_as lp i) ss other ≡ other
 alone lp i [] other is_no = refl
 alone lp i (s ∷ ss) other is_no =
     let here : linking.stays_as lp i s ≡ false = ap (λ b. linking.is_outside s (linking.end_of lp s) && b) (not_same i is_no (linking.import_at lp s)) ∙ cond_false (linking.is_outside s (linking.end_of lp s)) in
     ap (λ b. cond b s (linking.first_site (linking.stays_as lp i) ss other)) here ∙ alone lp i ss other is_no
 
-pub gathered_other : (ps : List Part) (s : linking.Site) (i : Import) → linking.import_at (named_modules ps) s ≡ Some i → linking.has_kind linking.Memories i ≡ false
+pub gathered_other : (ps : List Part) (s : linking.Site) (i : Import) → linking.import_at (named_modules ps) s ≡ Some i → linking.has_kind Memories i ≡ false
     → linking.gathered (named_modules ps) (linking.Outside s) ≡ linking.Outside s
 gathered_other ps s i at is_no = ap (linking.gathered_at (named_modules ps) s) at ∙ ap linking.Outside (alone (named_modules ps) i (linking.sites (named_modules ps)) s is_no)
 
@@ -43,11 +44,11 @@ abbrev pub chosen : linking.Site → Option Site → linking.Site
 chosen other None = other
 chosen other (Some s) = the_site s
 
-same_one : (i : Import) → linking.has_kind linking.Memories i ≡ true → (o : Option Import) → linking.same_memory i o ≡ is_of_pair (linking.pair_of i) o
+same_one : (i : Import) → linking.has_kind Memories i ≡ true → (o : Option Import) → linking.same_memory i o ≡ is_of_pair (linking.pair_of i) o
 same_one i is_yes None = refl
 same_one i is_yes (Some j) = rw is_yes refl
 
-same_first : (ps : List Part) (i : Import) (ss : List Site) (other : linking.Site) → linking.has_kind linking.Memories i ≡ true
+same_first : (ps : List Part) (i : Import) (ss : List Site) (other : linking.Site) → linking.has_kind Memories i ≡ true
     → linking.first_site (linking.stays_as (named_modules ps) i) (map the_site ss) other ≡ chosen other (first_memory ps (linking.pair_of i) ss)
 unfolding is_memory_of
 same_first ps i [] other is_yes = refl
@@ -62,7 +63,7 @@ same_first ps i (s ∷ ss) other is_yes =
     by true rest = refl
     by false rest = rest
 
-pub gathered_memory : (ps : List Part) (sites : List Site) (s : linking.Site) (i : Import) (o : Option Site) → AreSites ps sites → linking.import_at (named_modules ps) s ≡ Some i → linking.has_kind linking.Memories i ≡ true
+pub gathered_memory : (ps : List Part) (sites : List Site) (s : linking.Site) (i : Import) (o : Option Site) → AreSites ps sites → linking.import_at (named_modules ps) s ≡ Some i → linking.has_kind Memories i ≡ true
     → first_memory ps (linking.pair_of i) sites ≡ o → linking.gathered (named_modules ps) (linking.Outside s) ≡ linking.Outside (chosen s o)
 gathered_memory ps sites s i o are at is_yes first =
     ap (linking.gathered_at (named_modules ps) s) at
@@ -100,7 +101,7 @@ passed ps pair s e end is_no = rw end (by (linking.is_outside (the_site s) (Some
     by false o h = refl
 
 pub taken : (ps : List Part) (pair : Pair) (s : Site) (e : linking.End) (i : Import) → linking.end_of (named_modules ps) (the_site s) ≡ Some e
-    → linking.is_outside (the_site s) (Some e) ≡ true → linking.import_at (named_modules ps) (the_site s) ≡ Some i → linking.has_kind linking.Memories i ≡ true
+    → linking.is_outside (the_site s) (Some e) ≡ true → linking.import_at (named_modules ps) (the_site s) ≡ Some i → linking.has_kind Memories i ≡ true
     → is_memory_of ps pair s ≡ linking.same_pair pair (linking.pair_of i)
 unfolding is_memory_of
 taken ps pair s e i end out at is_yes = rw (end, out, at, is_yes) refl

@@ -1,5 +1,6 @@
 -- What is looked up in tables is what linking by name looks up in parts.
 use Rattle.std.proofs.Common.{◌≡◌, ◌∙◌, sym, ap, refl, ℕ, zero, suc, ◌+◌, ◌<◌, ◌≤◌, List, [], ◌∷◌, Option, Some, None, Bool, true, false, cond, length, get_or, slice_get, arith, option_and_then}
+use Rattle.wasm_tree.specs.declared.space.Space.TheVariants.{Globals}
 use Rattle.std.specs.Option.{option_map}
 use Rattle.std.specs.BTreeMap.{get_by}
 use Rattle.std.specs.Ordering.{nat_cmp}
@@ -42,7 +43,7 @@ module_read ps p x m h is tree = module_named ps p ∙ by (slice_get ps p) (slic
 pub record TableAt (lp : List linking.Part) (p : ℕ) (t : Table) : Type 0 where
   pub tree : Module
   pub at : linking.module_at lp p ≡ Some tree
-  pub table : IsTableOf (imports_before lp p) (defined_before linking.Globals lp p) tree t
+  pub table : IsTableOf (imports_before lp p) (defined_before Globals lp p) tree t
 
 pub table_at : (lp : List linking.Part) (ts : List Table) (p : ℕ) (t : Table) → AreTables lp ts → slice_get ts p ≡ Some t → TableAt lp p t
 table_at lp ts p t are h =

@@ -1,5 +1,6 @@
 -- Imports and defined globals are numbered through all parts.
 use Rattle.std.proofs.Common.{◌≡◌, ◌∙◌, sym, ap, refl, ℕ, zero, suc, ◌+◌, ◌-◌, ◌<◌, ◌≤◌, List, [], ◌∷◌, ◌++◌, Option, Some, length, slice_get, arith, inl, inr, ◌⊎◌}
+use Rattle.wasm_tree.specs.declared.space.Space.TheVariants.{Globals}
 use Rattle.std.proofs.lemmas.List.{length-append}
 use Rattle.wasm_tree.specs.declared.module.Import.{Import}
 use Rattle.wasm_tree.specs.declared.module.GlobalDef.{GlobalDef}
@@ -40,7 +41,7 @@ imports_more (x ∷ []) zero m h = let e : x.«module» ≡ m = cc in omega (ari
 imports_more (x ∷ y ∷ lp) zero m h = let e : x.«module» ≡ m = cc in omega (arith, ap (λ (y : Module). length y.imports) e)
 imports_more (x ∷ lp) (suc p) m h = omega (arith, imports_more lp p m h)
 
-pub globals_more : (lp : List linking.Part) (p : ℕ) (m : Module) → linking.module_at lp p ≡ Some m → defined_before linking.Globals lp (suc p) ≡ defined_before linking.Globals lp p + length m.globals
+pub globals_more : (lp : List linking.Part) (p : ℕ) (m : Module) → linking.module_at lp p ≡ Some m → defined_before Globals lp (suc p) ≡ defined_before Globals lp p + length m.globals
 globals_more [] p m h = cc
 globals_more (x ∷ []) zero m h = let e : x.«module» ≡ m = cc in omega (arith, ap (λ (y : Module). length y.globals) e)
 globals_more (x ∷ y ∷ lp) zero m h = let e : x.«module» ≡ m = cc in omega (arith, ap (λ (y : Module). length y.globals) e)
@@ -50,7 +51,7 @@ pub imports_none : (lp : List linking.Part) → imports_before lp 0 ≡ 0
 imports_none [] = refl
 imports_none (x ∷ lp) = refl
 
-pub globals_none : (lp : List linking.Part) → defined_before linking.Globals lp 0 ≡ 0
+pub globals_none : (lp : List linking.Part) → defined_before Globals lp 0 ≡ 0
 globals_none [] = refl
 globals_none (x ∷ lp) = refl
 
@@ -63,15 +64,15 @@ imports_most (x ∷ lp) first zero m h =
 imports_most (x ∷ lp) first (suc p) m h =
     omega (arith, imports_most lp (suc first) p m h, length-append (linking.sites_in first (length x.«module».imports) 0) (linking.sites_from (suc first) lp), length-sites_in first (length x.«module».imports) 0)
 
-pub globals_most : (lp : List linking.Part) (first p : ℕ) (m : Module) → linking.module_at lp p ≡ Some m → defined_before linking.Globals lp p + length m.globals ≤ length (own_globals_from first lp)
+pub globals_most : (lp : List linking.Part) (first p : ℕ) (m : Module) → linking.module_at lp p ≡ Some m → defined_before Globals lp p + length m.globals ≤ length (own_globals_from first lp)
 globals_most [] first p m h = cc
 globals_most (x ∷ lp) first zero m h =
     let e : x.«module» ≡ m = cc in
-    let l = length-append (own_globals_in first (length (linking.imports_of linking.Globals x.«module»)) x.«module».globals) (own_globals_from (suc first) lp) in
-    omega (arith, ap (λ (y : Module). length y.globals) e, l, length-own_in first (length (linking.imports_of linking.Globals x.«module»)) x.«module».globals)
+    let l = length-append (own_globals_in first (length (linking.imports_of Globals x.«module»)) x.«module».globals) (own_globals_from (suc first) lp) in
+    omega (arith, ap (λ (y : Module). length y.globals) e, l, length-own_in first (length (linking.imports_of Globals x.«module»)) x.«module».globals)
 globals_most (x ∷ lp) first (suc p) m h =
-    let l = length-append (own_globals_in first (length (linking.imports_of linking.Globals x.«module»)) x.«module».globals) (own_globals_from (suc first) lp) in
-    omega (arith, globals_most lp (suc first) p m h, l, length-own_in first (length (linking.imports_of linking.Globals x.«module»)) x.«module».globals)
+    let l = length-append (own_globals_in first (length (linking.imports_of Globals x.«module»)) x.«module».globals) (own_globals_from (suc first) lp) in
+    omega (arith, globals_most lp (suc first) p m h, l, length-own_in first (length (linking.imports_of Globals x.«module»)) x.«module».globals)
 
 -- one more place
 pub sites_in_more : (p n i : ℕ) → i < n → linking.sites_in p (n - i) i ≡ record { part = p; import = i } ∷ linking.sites_in p (n - (i + 1)) (i + 1)

@@ -1,5 +1,6 @@
 -- Places in lists, and what is looked up by name.
 use Rattle.std.proofs.Common.{◌≡◌, ◌∙◌, sym, ap, refl, ℕ, zero, suc, ◌+◌, ◌-◌, ◌<◌, ◌≤◌, List, [], ◌∷◌, ◌++◌, Some, Bool, true, false, cond, length, drop, get_or, slice_get, nat_eq, arith, inl, inr}
+use Rattle.wasm_tree.specs.declared.space.Space.{Space}
 use Rattle.std.specs.Option.{option_map}
 use Rattle.std.specs.Str.{bytes_eq}
 use Rattle.std.proofs.lemmas.List.{drop_more}
@@ -49,7 +50,7 @@ one_back xs i x above within is =
     drop_more xs (i - 1) x (omega arith) ∙ ap (λ y. y ∷ drop (i - 1 + 1) xs) (sym is) ∙ ap (λ n. x ∷ drop n xs) e
 
 -- the number of those of a kind before the next place
-pub space_zero : (imports : List Import) (k : linking.Kind) → linking.space_index imports 0 k ≡ 0
+pub space_zero : (imports : List Import) (k : Space) → linking.space_index imports 0 k ≡ 0
 space_zero [] k = refl
 space_zero (i ∷ is) k = refl
 
@@ -57,7 +58,7 @@ one_if : Bool → ℕ
 one_if true = 1
 one_if false = 0
 
-space_suc : (imports : List Import) (n : ℕ) (k : linking.Kind) (i : Import) → n < length imports → i ≡ get_or imports n i → linking.space_index imports (suc n) k ≡ linking.space_index imports n k + one_if (linking.has_kind k i)
+space_suc : (imports : List Import) (n : ℕ) (k : Space) (i : Import) → n < length imports → i ≡ get_or imports n i → linking.space_index imports (suc n) k ≡ linking.space_index imports n k + one_if (linking.has_kind k i)
 unfolding one_if
 space_suc [] n k i h is = absurd (omega arith)
 space_suc (x ∷ xs) zero k i h is = by (linking.has_kind k x) (ap (linking.has_kind k) is)
@@ -72,11 +73,11 @@ space_suc (x ∷ xs) (suc n) k i h is = by (linking.has_kind k x) (space_suc xs 
     by true e = omega (arith, e)
     by false e = e
 
-pub space_more : (imports : List Import) (n : ℕ) (k : linking.Kind) (i : Import) → n < length imports → i ≡ get_or imports n i → linking.has_kind k i ≡ true → linking.space_index imports (n + 1) k ≡ linking.space_index imports n k + 1
+pub space_more : (imports : List Import) (n : ℕ) (k : Space) (i : Import) → n < length imports → i ≡ get_or imports n i → linking.has_kind k i ≡ true → linking.space_index imports (n + 1) k ≡ linking.space_index imports n k + 1
 unfolding one_if
 space_more imports n k i h is e = let s : n + 1 ≡ suc n = omega arith in ap (λ m. linking.space_index imports m k) s ∙ space_suc imports n k i h is ∙ ap (λ b. linking.space_index imports n k + one_if b) e
 
-pub space_same : (imports : List Import) (n : ℕ) (k : linking.Kind) (i : Import) → n < length imports → i ≡ get_or imports n i → linking.has_kind k i ≡ false → linking.space_index imports (n + 1) k ≡ linking.space_index imports n k
+pub space_same : (imports : List Import) (n : ℕ) (k : Space) (i : Import) → n < length imports → i ≡ get_or imports n i → linking.has_kind k i ≡ false → linking.space_index imports (n + 1) k ≡ linking.space_index imports n k
 unfolding one_if
 space_same imports n k i h is e = let s : n + 1 ≡ suc n = omega arith in ap (λ m. linking.space_index imports m k) s ∙ space_suc imports n k i h is ∙ ap (λ b. linking.space_index imports n k + one_if b) e ∙ omega arith
 

@@ -1,5 +1,6 @@
 -- Defined globals by their numbers, and one step of a read.
 use Rattle.std.proofs.Common.{◌≡◌, ◌∙◌, sym, ap, refl, ℕ, zero, suc, ◌+◌, ◌-◌, ◌^◌, ◌<◌, ◌≤◌, List, [], ◌∷◌, ◌++◌, Option, Some, None, map, length, drop, get_or, slice_get, arith, option_and_then}
+use Rattle.wasm_tree.specs.declared.space.Space.TheVariants.{Globals}
 use Rattle.std.specs.Option.{option_map}
 use Rattle.std.proofs.lemmas.List.{length-append, length-map, drop_more}
 use Rattle.std.proofs.lemmas.Option.{slice_get-map, slice_get_within, slice_get_past}
@@ -39,33 +40,33 @@ own_in p n (x ∷ gs) zero g h = let e : x ≡ g = cc in (n, ap (λ (y : GlobalD
 own_in p n (x ∷ gs) (suc i) g h = own_in p (suc n) gs i g h
 
 own_from : (lp : List linking.Part) (first p i : ℕ) (m : Module) (g : GlobalDef) → linking.module_at lp p ≡ Some m → slice_get m.globals i ≡ Some g
-    → (k : ℕ) × (slice_get (faults.own_globals_from first lp) (defined_before linking.Globals lp p + i) ≡ Some (record { part = first + p; index = k; init = g.init }))
+    → (k : ℕ) × (slice_get (faults.own_globals_from first lp) (defined_before Globals lp p + i) ≡ Some (record { part = first + p; index = k; init = g.init }))
 own_from [] first p i m g h l = cc
 own_from (x ∷ lp) first zero i m g h l =
     let e : x.«module» ≡ m = cc in
     let l : slice_get x.«module».globals i ≡ Some g = ap (λ (y : Module). slice_get y.globals i) e ∙ l in
-    let here = own_in first (length (linking.imports_of linking.Globals x.«module»)) x.«module».globals i g l in
+    let here = own_in first (length (linking.imports_of Globals x.«module»)) x.«module».globals i g l in
     let z : first + 0 ≡ first = omega arith in
     let n : 0 + i ≡ i = omega arith in (
       here.0,
       ap (slice_get (faults.own_globals_from first (x ∷ lp))) n
-          ∙ got_front (faults.own_globals_in first (length (linking.imports_of linking.Globals x.«module»)) x.«module».globals) (faults.own_globals_from (suc first) lp) i _ here.1
+          ∙ got_front (faults.own_globals_in first (length (linking.imports_of Globals x.«module»)) x.«module».globals) (faults.own_globals_from (suc first) lp) i _ here.1
           ∙ ap (λ q. let r : faults.OwnGlobal = record { part = q; index = here.0; init = g.init } in Some r) (sym z),
     )
 own_from (x ∷ lp) first (suc p) i m g h l =
     let q : suc first + p ≡ first + suc p = omega arith in
-    let front = faults.own_globals_in first (length (linking.imports_of linking.Globals x.«module»)) x.«module».globals in
-    let j : length x.«module».globals + defined_before linking.Globals lp p + i ≡ length front + (defined_before linking.Globals lp p + i) =
-    omega (arith, length-own_in first (length (linking.imports_of linking.Globals x.«module»)) x.«module».globals) in
+    let front = faults.own_globals_in first (length (linking.imports_of Globals x.«module»)) x.«module».globals in
+    let j : length x.«module».globals + defined_before Globals lp p + i ≡ length front + (defined_before Globals lp p + i) =
+    omega (arith, length-own_in first (length (linking.imports_of Globals x.«module»)) x.«module».globals) in
     let rest = own_from lp (suc first) p i m g h l in (
       rest.0,
-      ap (slice_get (faults.own_globals_from first (x ∷ lp))) j ∙ got_behind front (faults.own_globals_from (suc first) lp) (defined_before linking.Globals lp p + i) ∙ rest.1
+      ap (slice_get (faults.own_globals_from first (x ∷ lp))) j ∙ got_behind front (faults.own_globals_from (suc first) lp) (defined_before Globals lp p + i) ∙ rest.1
           ∙ ap (λ r. let s : faults.OwnGlobal = record { part = r; index = rest.0; init = g.init } in Some s) q,
     )
 
 -- the place of a global among those that its part defines
 abbrev pub own_place : Table → linking.Entity → ℕ
-own_place t e = linking.index_of_export e.what - length (places_of t linking.Globals)
+own_place t e = linking.index_of_export e.what - length (places_of t Globals)
 
 pub own_some : (lp : List linking.Part) (ts : List Table) (e : linking.Entity) (t : Table) (m : Module) → AreTables lp ts → slice_get ts e.part ≡ Some t → linking.module_at lp e.part ≡ Some m
     → own_place t e < length m.globals → IsOwn lp e (Some (t.first_global + own_place t e))
@@ -76,7 +77,7 @@ own_some lp ts e t m are at tree within =
     let own = own_from lp 0 e.part (own_place t e) m g.0 tree g.1 in
     let z : 0 + e.part ≡ e.part = omega arith in
     let r : faults.OwnGlobal = record { part = 0 + e.part; index = own.0; init = g.0.init } in
-    let count : linking.index_of_export e.what - length (linking.imports_of linking.Globals m) ≡ own_place t e = ap (λ (ns : List ℕ). linking.index_of_export e.what - length ns) (sym (x.places linking.Globals)) in
+    let count : linking.index_of_export e.what - length (linking.imports_of Globals m) ≡ own_place t e = ap (λ (ns : List ℕ). linking.index_of_export e.what - length ns) (sym (x.places Globals)) in
     let init : linking.initial lp e ≡ Some g.0.init = rw (tree, count) (ap (λ o. option_and_then (λ d. Some d.init) o) (place_is m.globals (own_place t e) ∙ g.1)) in
     (r, ap (λ k. slice_get (faults.own_globals lp) (k + own_place t e)) x.first_global ∙ own.1, z, init)
 
@@ -84,7 +85,7 @@ pub own_none : (lp : List linking.Part) (ts : List Table) (e : linking.Entity) (
     → length m.globals ≤ own_place t e → linking.initial lp e ≡ None
 own_none lp ts e t m are at tree past =
     let x = are.right e.part m t tree at in
-    let count : linking.index_of_export e.what - length (linking.imports_of linking.Globals m) ≡ own_place t e = ap (λ (ns : List ℕ). linking.index_of_export e.what - length ns) (sym (x.places linking.Globals)) in
+    let count : linking.index_of_export e.what - length (linking.imports_of Globals m) ≡ own_place t e = ap (λ (ns : List ℕ). linking.index_of_export e.what - length ns) (sym (x.places Globals)) in
     rw (tree, count) (ap (λ o. option_and_then (λ d. Some d.init) o) (place_is m.globals (own_place t e) ∙ slice_get_past m.globals (own_place t e) past))
 
 pub own_past : (lp : List linking.Part) (ts : List Table) (e : linking.Entity) → AreTables lp ts → length ts ≤ e.part → linking.initial lp e ≡ None
@@ -103,7 +104,7 @@ pub read_outside : (lp : List linking.Part) (ts : List Table) (s : linking.Site)
 read_outside lp ts s i t n are there at index =
     let m = part_there lp s i there in
     let x = are.right s.part m.0 t m.1 at in
-    let same : linking.space_index m.0.imports s.import linking.Globals ≡ n = let a = x.indices.right s.import m.2 in cc in
+    let same : linking.space_index m.0.imports s.import Globals ≡ n = let a = x.indices.right s.import m.2 in cc in
     rw (m.1, same) refl
 
 -- ---- one step ----
@@ -153,16 +154,16 @@ global_here ps globals values i g o e h k = ap (faults.value_fault (the_own g)) 
 
 -- ---- the list of defined globals ----
 
-pub own_begin : (ps : List Part) (at : ℕ) (x : Part) (m : Module) (n : ℕ) → at < length ps → x ≡ get_or ps at x → m ≡ x.«module» → n ≡ length (linking.imports_of linking.Globals m)
+pub own_begin : (ps : List Part) (at : ℕ) (x : Part) (m : Module) (n : ℕ) → at < length ps → x ≡ get_or ps at x → m ≡ x.«module» → n ≡ length (linking.imports_of Globals m)
     → faults.own_globals_from at (named_modules (drop at ps)) ≡ faults.own_globals_in at (n + 0) (drop 0 m.globals) ++ faults.own_globals_from (at + 1) (named_modules (drop (at + 1) ps))
 own_begin ps at x m n h is tree count =
     let rest = named_modules (drop (at + 1) ps) in
     let next : suc at ≡ at + 1 = omega arith in
-    let z : length (linking.imports_of linking.Globals x.«module») ≡ n + 0 = omega (arith, count, ap (λ (t : Module). length (linking.imports_of linking.Globals t)) tree) in
+    let z : length (linking.imports_of Globals x.«module») ≡ n + 0 = omega (arith, count, ap (λ (t : Module). length (linking.imports_of Globals t)) tree) in
     ap (λ qs. faults.own_globals_from at (named_modules qs)) (drop_more ps at x h ∙ ap (λ (y : Part). y ∷ drop (at + 1) ps) (sym is))
-    ∙ ap (λ k. faults.own_globals_in at (length (linking.imports_of linking.Globals x.«module»)) x.«module».globals ++ faults.own_globals_from k rest) next
+    ∙ ap (λ k. faults.own_globals_in at (length (linking.imports_of Globals x.«module»)) x.«module».globals ++ faults.own_globals_from k rest) next
     ∙ ap (λ k. faults.own_globals_in at k x.«module».globals ++ faults.own_globals_from (at + 1) rest) z
     ∙ ap (λ (t : Module). faults.own_globals_in at (n + 0) t.globals ++ faults.own_globals_from (at + 1) rest) (sym tree)
 
-pub globals_fit : (m : Module) (i : ℕ) → length (globals_of m) < 2 ^ 32 → i < length m.globals → length (linking.imports_of linking.Globals m) + i < 2 ^ 32
+pub globals_fit : (m : Module) (i : ℕ) → length (globals_of m) < 2 ^ 32 → i < length m.globals → length (linking.imports_of Globals m) + i < 2 ^ 32
 globals_fit m i few h = omega (arith, few, length-append (imported_globals m.imports) (map (λ (g : GlobalDef). g.ty) m.globals), length-map m.globals (λ (g : GlobalDef). g.ty), count_globals m.imports 0)

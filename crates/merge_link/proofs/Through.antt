@@ -1,5 +1,8 @@
 -- What is read through imports, by the ends of paths.
 use Rattle.std.proofs.Common.{◌≡◌, ◌∙◌, sym, ap, refl, subst, ℕ, zero, suc, ◌+◌, ◌<◌, List, [], ◌∷◌, Option, Some, None, Bool, true, false, cond, length, slice_get, arith, ◌↔◌, option_and_then}
+use Rattle.wasm_tree.specs.declared.space.Space.{Space}
+use Rattle.wasm_tree.specs.declared.space.Space.TheVariants.{Globals}
+use Rattle.wasm_tree.specs.Operands.{same_space}
 use Rattle.std.specs.Option.{option_map}
 use Rattle.std.proofs.lemmas.Option.{slice_get_within}
 use Rattle.wasm_tree.specs.declared.module.ConstExpr.{ConstExpr}
@@ -83,7 +86,7 @@ past_end lp (linking.Defined e) = by (linking.initial lp e)
 
 -- ---- the index of a global import ----
 
-place_back : (k : linking.Kind) (imports : List Import) (from n : ℕ) (i : Import) → slice_get imports n ≡ Some i → linking.has_kind k i ≡ true
+place_back : (k : Space) (imports : List Import) (from n : ℕ) (i : Import) → slice_get imports n ≡ Some i → linking.has_kind k i ≡ true
     → slice_get (linking.places (linking.has_kind k) imports from) (linking.space_index imports n k) ≡ Some (from + n)
 place_back k [] from n i h is = cc
 place_back k (x ∷ xs) from zero i h is =
@@ -104,12 +107,12 @@ place_back k (x ∷ xs) from (suc n) i h is = by (linking.has_kind k x) (place_b
 -- ---- reads through imports ----
 
 through : (lp : List linking.Part) → ((p : ℕ) (x : ConstExpr) (r : linking.Read) → linking.Reads lp (record { part = p; expr = x }) r ↔ (linking.read_of lp p x ≡ Some r))
-    → (s : linking.Site) (i : Import) (m : Module) (e : linking.End) → linking.module_at lp s.part ≡ Some m → slice_get m.imports s.import ≡ Some i → linking.has_kind linking.Globals i ≡ true → linking.end_of lp s ≡ Some e
-    → linking.read_of lp s.part (const.Global (linking.space_index m.imports s.import linking.Globals)) ≡ read_past lp e
+    → (s : linking.Site) (i : Import) (m : Module) (e : linking.End) → linking.module_at lp s.part ≡ Some m → slice_get m.imports s.import ≡ Some i → linking.has_kind Globals i ≡ true → linking.end_of lp s ≡ Some e
+    → linking.read_of lp s.part (const.Global (linking.space_index m.imports s.import Globals)) ≡ read_past lp e
 unfolding told
 through lp law s i m e at there is end =
-    let x = linking.space_index m.imports s.import linking.Globals in
-    let back = place_back linking.Globals m.imports 0 s.import i there is in
+    let x = linking.space_index m.imports s.import Globals in
+    let back = place_back Globals m.imports 0 s.import i there is in
     let z : 0 + s.import ≡ s.import = omega arith in
     let site : linking.global_import lp s.part x ≡ Some s = rw at (ap (λ o. option_and_then (λ n. let t : linking.Site = record { part = s.part; import = n } in Some t) o) (back ∙ ap Some z)) in
     one_step lp law s.part (const.Global x) ∙ ap (λ o. told lp (linking.end_step lp (option_and_then (linking.end_of lp) o))) site ∙ ap (λ o. told lp (linking.end_step lp o)) end ∙ past_end lp e
@@ -129,5 +132,5 @@ fixed_is lp law s i e there end =
     by (im.Table t) is m at tree = refl
     by (im.Memory t) is m at tree = refl
     by (im.Global t) is m at tree =
-        let kind : linking.has_kind linking.Globals i ≡ true = ap (λ d. linking.same_kind linking.Globals (linking.kind_of_import d)) is in
-        ap (when_fixed t.mutable) (sym (ap (λ (o : Option Module). option_and_then (λ x. linking.read_of lp s.part (const.Global (linking.space_index x.imports s.import linking.Globals))) o) at ∙ through lp law s i m e at tree kind end))
+        let kind : linking.has_kind Globals i ≡ true = ap (λ d. same_space Globals (linking.kind_of_import d)) is in
+        ap (when_fixed t.mutable) (sym (ap (λ (o : Option Module). option_and_then (λ x. linking.read_of lp s.part (const.Global (linking.space_index x.imports s.import Globals))) o) at ∙ through lp law s i m e at tree kind end))

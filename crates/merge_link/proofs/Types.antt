@@ -1,5 +1,7 @@
 -- External types of what modules define, and lists of types compared.
 use Rattle.std.proofs.Common.{◌≡◌, ◌∙◌, sym, ap, refl, ℕ, zero, suc, ◌-◌, ◌≤◌, List, [], ◌∷◌, ◌++◌, Option, Some, None, Bool, true, false, cond, ◌&&◌, map, length, slice_get, arith}
+use Rattle.wasm_tree.specs.declared.space.Space.TheVariants.{Functions, Tables, Memories, Globals}
+use Rattle.wasm_tree.specs.Operands.{same_space}
 use Rattle.std.specs.Option.{option_map, option_and_then}
 use Rattle.std.specs.List.{cons_option}
 use lib.Pointwise.{pointwise}
@@ -57,65 +59,65 @@ behind (x ∷ xs) ys zero n e h = absurd (omega arith)
 behind (x ∷ xs) ys (suc i) n e h = let k : i - (n - 1) ≡ suc i - n = omega arith in behind xs ys i (n - 1) (omega arith) (omega arith) ∙ ap (slice_get ys) k
 
 -- how many imports there are of a kind
-count_funcs : (is : List Import) (n : ℕ) → length (imported_funcs is) ≡ length (linking.places (linking.has_kind linking.Functions) is n)
+count_funcs : (is : List Import) (n : ℕ) → length (imported_funcs is) ≡ length (linking.places (linking.has_kind Functions) is n)
 count_funcs [] n = refl
 count_funcs (i ∷ is) n = by i.desc (count_funcs is (suc n))
   where
-    by : (d : ImportDesc) → length (imported_funcs is) ≡ length (linking.places (linking.has_kind linking.Functions) is (suc n))
-        → length (cons_option (func_of d) (imported_funcs is)) ≡ length (cond (linking.same_kind linking.Functions (linking.kind_of_import d)) (n ∷ linking.places (linking.has_kind linking.Functions) is (suc n)) (linking.places (linking.has_kind linking.Functions) is (suc n)))
+    by : (d : ImportDesc) → length (imported_funcs is) ≡ length (linking.places (linking.has_kind Functions) is (suc n))
+        → length (cons_option (func_of d) (imported_funcs is)) ≡ length (cond (same_space Functions (linking.kind_of_import d)) (n ∷ linking.places (linking.has_kind Functions) is (suc n)) (linking.places (linking.has_kind Functions) is (suc n)))
     by (im.Func t) e = ap suc e
     by (im.Table t) e = e
     by (im.Memory t) e = e
     by (im.Global t) e = e
 
-count_tables : (is : List Import) (n : ℕ) → length (imported_tables is) ≡ length (linking.places (linking.has_kind linking.Tables) is n)
+count_tables : (is : List Import) (n : ℕ) → length (imported_tables is) ≡ length (linking.places (linking.has_kind Tables) is n)
 count_tables [] n = refl
 count_tables (i ∷ is) n = by i.desc (count_tables is (suc n))
   where
-    by : (d : ImportDesc) → length (imported_tables is) ≡ length (linking.places (linking.has_kind linking.Tables) is (suc n))
-        → length (cons_option (table_of d) (imported_tables is)) ≡ length (cond (linking.same_kind linking.Tables (linking.kind_of_import d)) (n ∷ linking.places (linking.has_kind linking.Tables) is (suc n)) (linking.places (linking.has_kind linking.Tables) is (suc n)))
+    by : (d : ImportDesc) → length (imported_tables is) ≡ length (linking.places (linking.has_kind Tables) is (suc n))
+        → length (cons_option (table_of d) (imported_tables is)) ≡ length (cond (same_space Tables (linking.kind_of_import d)) (n ∷ linking.places (linking.has_kind Tables) is (suc n)) (linking.places (linking.has_kind Tables) is (suc n)))
     by (im.Func t) e = e
     by (im.Table t) e = ap suc e
     by (im.Memory t) e = e
     by (im.Global t) e = e
 
-count_memories : (is : List Import) (n : ℕ) → length (imported_memories is) ≡ length (linking.places (linking.has_kind linking.Memories) is n)
+count_memories : (is : List Import) (n : ℕ) → length (imported_memories is) ≡ length (linking.places (linking.has_kind Memories) is n)
 count_memories [] n = refl
 count_memories (i ∷ is) n = by i.desc (count_memories is (suc n))
   where
-    by : (d : ImportDesc) → length (imported_memories is) ≡ length (linking.places (linking.has_kind linking.Memories) is (suc n))
-        → length (cons_option (memory_of d) (imported_memories is)) ≡ length (cond (linking.same_kind linking.Memories (linking.kind_of_import d)) (n ∷ linking.places (linking.has_kind linking.Memories) is (suc n)) (linking.places (linking.has_kind linking.Memories) is (suc n)))
+    by : (d : ImportDesc) → length (imported_memories is) ≡ length (linking.places (linking.has_kind Memories) is (suc n))
+        → length (cons_option (memory_of d) (imported_memories is)) ≡ length (cond (same_space Memories (linking.kind_of_import d)) (n ∷ linking.places (linking.has_kind Memories) is (suc n)) (linking.places (linking.has_kind Memories) is (suc n)))
     by (im.Func t) e = e
     by (im.Table t) e = e
     by (im.Memory t) e = ap suc e
     by (im.Global t) e = e
 
-pub count_globals : (is : List Import) (n : ℕ) → length (imported_globals is) ≡ length (linking.places (linking.has_kind linking.Globals) is n)
+pub count_globals : (is : List Import) (n : ℕ) → length (imported_globals is) ≡ length (linking.places (linking.has_kind Globals) is n)
 count_globals [] n = refl
 count_globals (i ∷ is) n = by i.desc (count_globals is (suc n))
   where
-    by : (d : ImportDesc) → length (imported_globals is) ≡ length (linking.places (linking.has_kind linking.Globals) is (suc n))
-        → length (cons_option (global_of d) (imported_globals is)) ≡ length (cond (linking.same_kind linking.Globals (linking.kind_of_import d)) (n ∷ linking.places (linking.has_kind linking.Globals) is (suc n)) (linking.places (linking.has_kind linking.Globals) is (suc n)))
+    by : (d : ImportDesc) → length (imported_globals is) ≡ length (linking.places (linking.has_kind Globals) is (suc n))
+        → length (cons_option (global_of d) (imported_globals is)) ≡ length (cond (same_space Globals (linking.kind_of_import d)) (n ∷ linking.places (linking.has_kind Globals) is (suc n)) (linking.places (linking.has_kind Globals) is (suc n)))
     by (im.Func t) e = e
     by (im.Table t) e = e
     by (im.Memory t) e = e
     by (im.Global t) e = ap suc e
 
 -- an entry that is defined
-pub external_func : (m : Module) (i n : ℕ) → n ≡ length (linking.imports_of linking.Functions m) → n ≤ i → faults.external_of m (ex.Func i) ≡ own_func m (i - n)
+pub external_func : (m : Module) (i n : ℕ) → n ≡ length (linking.imports_of Functions m) → n ≤ i → faults.external_of m (ex.Func i) ≡ own_func m (i - n)
 external_func m i n e h =
     then_map (option_and_then (slice_get m.types) (slice_get (funcs_of m) i)) faults.FuncOf
     ∙ ap (λ o. option_map faults.FuncOf (option_and_then (slice_get m.types) o)) (behind (imported_funcs m.imports) (map (λ (f : Func). f.ty) m.funcs) i n (count_funcs m.imports 0 ∙ sym e) h ∙ slice_get-map (λ (f : Func). f.ty) m.funcs (i - n))
 
-pub external_table : (m : Module) (i n : ℕ) → n ≡ length (linking.imports_of linking.Tables m) → n ≤ i → faults.external_of m (ex.Table i) ≡ own_table m (i - n)
+pub external_table : (m : Module) (i n : ℕ) → n ≡ length (linking.imports_of Tables m) → n ≤ i → faults.external_of m (ex.Table i) ≡ own_table m (i - n)
 external_table m i n e h =
     then_map (slice_get (imported_tables m.imports ++ m.tables) i) faults.TableOf ∙ ap (option_map faults.TableOf) (behind (imported_tables m.imports) m.tables i n (count_tables m.imports 0 ∙ sym e) h)
 
-pub external_memory : (m : Module) (i n : ℕ) → n ≡ length (linking.imports_of linking.Memories m) → n ≤ i → faults.external_of m (ex.Memory i) ≡ own_memory m (i - n)
+pub external_memory : (m : Module) (i n : ℕ) → n ≡ length (linking.imports_of Memories m) → n ≤ i → faults.external_of m (ex.Memory i) ≡ own_memory m (i - n)
 external_memory m i n e h =
     then_map (slice_get (imported_memories m.imports ++ m.mems) i) faults.MemoryOf ∙ ap (option_map faults.MemoryOf) (behind (imported_memories m.imports) m.mems i n (count_memories m.imports 0 ∙ sym e) h)
 
-pub external_global : (m : Module) (i n : ℕ) → n ≡ length (linking.imports_of linking.Globals m) → n ≤ i → faults.external_of m (ex.Global i) ≡ own_global m (i - n)
+pub external_global : (m : Module) (i n : ℕ) → n ≡ length (linking.imports_of Globals m) → n ≤ i → faults.external_of m (ex.Global i) ≡ own_global m (i - n)
 external_global m i n e h =
     then_map (slice_get (imported_globals m.imports ++ map (λ (g : GlobalDef). g.ty) m.globals) i) faults.GlobalOf
     ∙ ap (option_map faults.GlobalOf) (behind (imported_globals m.imports) (map (λ (g : GlobalDef). g.ty) m.globals) i n (count_globals m.imports 0 ∙ sym e) h ∙ slice_get-map (λ (g : GlobalDef). g.ty) m.globals (i - n))

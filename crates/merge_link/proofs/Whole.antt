@@ -1,5 +1,6 @@
 -- The stages of linking together.
 use Rattle.std.proofs.Common.{◌≡◌, ◌∙◌, sym, ap, refl, ℕ, zero, suc, List, [], ◌∷◌, Option, Some, None, true, false, map, length, slice_get, nat_lt, arith}
+use Rattle.wasm_tree.specs.declared.space.Space.TheVariants.{Globals}
 use Rattle.std.specs.Option.{option_map}
 use Rattle.std.proofs.lemmas.List.{length-append}
 use Rattle.std.proofs.lemmas.Option.{slice_get-map, slice_get_within}
@@ -119,11 +120,11 @@ fault_four lp o a b c d = rw (a, b, c) d
 
 -- ---- how many defined globals there are ----
 
-own_count_from : (lp : List linking.Part) (first : ℕ) → length (faults.own_globals_from first lp) ≡ defined_before linking.Globals lp (length lp)
+own_count_from : (lp : List linking.Part) (first : ℕ) → length (faults.own_globals_from first lp) ≡ defined_before Globals lp (length lp)
 own_count_from [] first = refl
 own_count_from (x ∷ lp) first =
-    omega (arith, length-append (faults.own_globals_in first (length (linking.imports_of linking.Globals x.«module»)) x.«module».globals) (faults.own_globals_from (suc first) lp), length-own_in first (length (linking.imports_of linking.Globals x.«module»)) x.«module».globals, own_count_from lp (suc first))
+    omega (arith, length-append (faults.own_globals_in first (length (linking.imports_of Globals x.«module»)) x.«module».globals) (faults.own_globals_from (suc first) lp), length-own_in first (length (linking.imports_of Globals x.«module»)) x.«module».globals, own_count_from lp (suc first))
 
-pub own_count : (lp : List linking.Part) → length (faults.own_globals lp) ≡ defined_before linking.Globals lp (length lp)
+pub own_count : (lp : List linking.Part) → length (faults.own_globals lp) ≡ defined_before Globals lp (length lp)
 unfolding faults.own_globals
 own_count lp = own_count_from lp 0

@@ -1,5 +1,6 @@
 -- Memories that stay, gathered by their module and field names.
 use Rattle.std.specs.Prelude.{◌≡◌, ℕ, List, [], ◌∷◌, Option, Some, None, Bool, true, false, cond, map, slice_get, ◌&&◌}
+use Rattle.wasm_tree.specs.declared.space.Space.TheVariants.{Memories}
 use Rattle.std.specs.BTreeMap.{BTreeMap, get_by}
 use Rattle.std.specs.Ordering.{nat_cmp, ordering_then}
 use Rattle.std.specs.Cmp.Lexicographic.{slice_cmp}
@@ -18,17 +19,17 @@ use Rattle.merge_link.specs.Joining.{the_end}
 -- an import that stays, and is a memory
 abbrev pub is_memory_at : Option Import → Bool
 is_memory_at None = false
-is_memory_at (Some i) = linking.has_kind linking.Memories i
+is_memory_at (Some i) = linking.has_kind Memories i
 
 abbrev pub IsStayingMemory : List linking.Part → Site → Ending → Option (Bor Import) → Type 0
 IsStayingMemory lp s e None = linking.is_outside (the_site s) (Some (the_end e)) && is_memory_at (linking.import_at lp (the_site s)) ≡ false
 IsStayingMemory lp s e (Some i) =
-    (linking.is_outside (the_site s) (Some (the_end e)) ≡ true) × (linking.import_at lp (the_site s) ≡ Some i.now) × (linking.has_kind linking.Memories i.now ≡ true)
+    (linking.is_outside (the_site s) (Some (the_end e)) ≡ true) × (linking.import_at lp (the_site s) ≡ Some i.now) × (linking.has_kind Memories i.now ≡ true)
 
 -- an import of this module and field name
 abbrev pub is_of_pair : Pair → Option Import → Bool
 is_of_pair pair None = false
-is_of_pair pair (Some i) = linking.has_kind linking.Memories i && linking.same_pair pair (linking.pair_of i)
+is_of_pair pair (Some i) = linking.has_kind Memories i && linking.same_pair pair (linking.pair_of i)
 
 -- a staying memory of this module and field name
 unfoldable pub is_memory_of : List Part → Pair → Site → Bool

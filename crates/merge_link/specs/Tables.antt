@@ -1,5 +1,7 @@
 -- What is looked up in parts, by the definitions of linking by name.
 use Rattle.std.specs.Prelude.{◌≡◌, ◌+◌, ◌<◌, ℕ, zero, suc, List, [], ◌∷◌, length, Some, slice_get}
+use Rattle.wasm_tree.specs.declared.space.Space.{Space}
+use Rattle.wasm_tree.specs.declared.space.Space.TheVariants.{Functions, Tables, Memories, Globals}
 use Rattle.std.specs.BTreeMap.{BTreeMap, get_by}
 use Rattle.std.specs.Ordering.{nat_cmp}
 use Rattle.std.specs.Cmp.Lexicographic.{slice_cmp}
@@ -12,11 +14,11 @@ use Rattle.merge_link.specs.declared.tables.Kind.{Kind}
 use Rattle.merge_link.specs.declared.tables.Kind.TheVariants as kind
 use Rattle.merge_link.specs.declared.tables.Table.{Table}
 
-abbrev pub the_kind : Kind → linking.Kind
-the_kind kind.Functions = linking.Functions
-the_kind kind.Tables = linking.Tables
-the_kind kind.Memories = linking.Memories
-the_kind kind.Globals = linking.Globals
+abbrev pub the_kind : Kind → Space
+the_kind kind.Functions = Functions
+the_kind kind.Tables = Tables
+the_kind kind.Memories = Memories
+the_kind kind.Globals = Globals
 
 -- how many imports the first parts have
 abbrev pub imports_before : List linking.Part → ℕ → ℕ
@@ -24,20 +26,20 @@ imports_before [] p = 0
 imports_before (part ∷ parts) zero = 0
 imports_before (part ∷ parts) (suc p) = length part.«module».imports + imports_before parts p
 
-abbrev pub places_of : Table → linking.Kind → List ℕ
-places_of t linking.Functions = t.funcs.items
-places_of t linking.Tables = t.tables.items
-places_of t linking.Memories = t.memories.items
-places_of t linking.Globals = t.globals.items
+abbrev pub places_of : Table → Space → List ℕ
+places_of t Functions = t.funcs.items
+places_of t Tables = t.tables.items
+places_of t Memories = t.memories.items
+places_of t Globals = t.globals.items
 
 -- these are the places of the module's imports
 abbrev pub HasPlaces : Module → Table → Type 0
-HasPlaces m t = (k : linking.Kind) → places_of t k ≡ linking.imports_of k m
+HasPlaces m t = (k : Space) → places_of t k ≡ linking.imports_of k m
 
 -- for each import its index in the global space, if it is a global
 pub record AreIndices (imports : List Import) (indices : List ℕ) : Type 0 where
   pub one_each : length indices ≡ length imports
-  pub right : (n : ℕ) → n < length imports → slice_get indices n ≡ Some (linking.space_index imports n linking.Globals)
+  pub right : (n : ℕ) → n < length imports → slice_get indices n ≡ Some (linking.space_index imports n Globals)
 
 -- what is looked up in a part, before which so many imports and defined globals come
 pub record IsTableOf (imports globals : ℕ) (m : Module) (t : Table) : Type 0 where
@@ -51,7 +53,7 @@ pub record IsTableOf (imports globals : ℕ) (m : Module) (t : Table) : Type 0 w
 pub record AreTables (parts : List linking.Part) (tables : List Table) : Type 0 where
   pub one_each : length tables ≡ length parts
   pub right : (p : ℕ) (m : Module) (t : Table) → linking.module_at parts p ≡ Some m → slice_get tables p ≡ Some t
-      → IsTableOf (imports_before parts p) (defined_before linking.Globals parts p) m t
+      → IsTableOf (imports_before parts p) (defined_before Globals parts p) m t
 
 -- the part that a name names
 abbrev pub AreNames : List linking.Part → BTreeMap (Bor (List ℕ)) ℕ → Type 0

@@ -1,6 +1,7 @@
 // How many memories there are: those that are defined, and those that stay imported.
 
 ghost use Rattle.std.specs.Prelude.{Some, cond, false, length, nat_lt, ◌+◌, ◌≡◌, ◌&&◌};
+ghost use Rattle.wasm_tree.specs.declared.space.Space.TheVariants.{Memories};
 ghost use Rattle.merge_terms.specs.Faults as faults;
 ghost use Rattle.merge_terms.specs.Parts.{named_modules};
 ghost use Rattle.wasm_meaning.specs.Linking as linking;
@@ -37,7 +38,7 @@ impl<'a> Joining<'a> {
 
     // Whether these and the defined memories are more than one.
     fn are_more_than_one(&self, staying: usize) -> bool
-        ensures { result ≡ nat_lt 1 (staying + world.defined_before linking.Memories (named_modules self.now.parts.now) (length (named_modules self.now.parts.now))) }
+        ensures { result ≡ nat_lt 1 (staying + world.defined_before Memories (named_modules self.now.parts.now) (length (named_modules self.now.parts.now))) }
     {
         let mut count = staying;
         for part in self.parts {

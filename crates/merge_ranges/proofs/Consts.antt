@@ -1,5 +1,6 @@
 -- The constant expressions of a merged module have numbers that stand in some part.
 use Rattle.std.proofs.Common.{◌≡◌, ℕ, zero, suc, ◌-◌, List, length, Option, Some, None, refl, subst, option_and_then, slice_get, unwrap_or}
+use Rattle.wasm_tree.specs.declared.space.Space.TheVariants.{Globals}
 use Rattle.wasm_tree.specs.declared.module.ConstExpr.{ConstExpr}
 use Rattle.wasm_tree.specs.declared.module.ConstExpr.TheVariants as const
 use Rattle.wasm_tree.specs.declared.module.GlobalDef.{GlobalDef}
@@ -11,7 +12,7 @@ use Rattle.wasm_tree.specs.declared.module.DataMode.TheVariants as segment
 use Rattle.wasm_tree.specs.declared.module.DataSeg.{DataSeg}
 use Rattle.wasm_tree.specs.declared.module.Module.{Module}
 use Rattle.wasm_meaning.specs.Paths.{Next, Ends, Goes, walk, walk_on}
-use Rattle.wasm_meaning.specs.Linking.{Part, Site, End, Defined, Outside, Entity, Read, Globals, module_at, imports_of, space_index, index_of_export, initial, end_step, end_of, global_import, expr_step, read_step, initials_from, read_of}
+use Rattle.wasm_meaning.specs.Linking.{Part, Site, End, Defined, Outside, Entity, Read, module_at, imports_of, space_index, index_of_export, initial, end_step, end_of, global_import, expr_step, read_step, initials_from, read_of}
 use Rattle.index_remap.specs.declared.remap.Remap.{Remap}
 use Rattle.index_remap.specs.Renumbered.{new_const}
 use Rattle.merge_terms.specs.Merged.{map_of, merged_read, merged_const, merged_global, merged_elem_mode, merged_elem, merged_data_mode, merged_data}

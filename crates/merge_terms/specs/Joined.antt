@@ -1,13 +1,15 @@
 -- What joining parts gives: the merged module with its references declared, or why there is none.
 use Rattle.std.specs.Prelude.{◌≡◌, ℕ, ◌+◌, ◌<◌, ◌^◌, List, length, Option, Some, None, cond, nat_lt, Result, Ok, Err, slice_get}
+use Rattle.wasm_tree.specs.declared.space.Space.TheVariants.{DataSegments, ElementSegments}
+use Rattle.wasm_tree.specs.declared.space.Space.{Space}
 use Rattle.base_lists.specs.Options.{◌>>=◌}
 use Rattle.std.specs.List.{flat_map}
 use Rattle.wasm_tree.specs.declared.which.Which.{Which}
 use Rattle.wasm_tree.specs.declared.which.Which.TheVariants as which
 use Rattle.wasm_tree.specs.declared.module.Module.{Module}
 use Rattle.wasm_meaning.specs.State.{Text}
-use Rattle.wasm_meaning.specs.World.{defined_before, elems_before, datas_before}
-use Rattle.wasm_meaning.specs.Linking.{Part, Kind, sites}
+use Rattle.wasm_meaning.specs.World.{defined_before}
+use Rattle.wasm_meaning.specs.Linking.{Part, sites}
 use Rattle.index_remap.specs.References.{declared}
 use Rattle.export_names.specs.declared.mode.Mode.{Mode}
 use Rattle.export_names.specs.Names.{new_names, conflict}
@@ -57,6 +59,6 @@ Joins parts mode result = join_of parts mode ≡ result
 pub record FewInAll (parts : List Part) : Type 0 where
   pub parts_few : length parts < 2 ^ 32
   pub types : length (flat_map (λ p. p.«module».types) parts) < 2 ^ 32
-  pub entities : (k : Kind) → length (sites parts) + (defined_before k parts (length parts) + 1) < 2 ^ 32
-  pub elems : elems_before parts (length parts) < 2 ^ 32
-  pub datas : datas_before parts (length parts) < 2 ^ 32
+  pub entities : (k : Space) → length (sites parts) + (defined_before k parts (length parts) + 1) < 2 ^ 32
+  pub elems : defined_before ElementSegments parts (length parts) < 2 ^ 32
+  pub datas : defined_before DataSegments parts (length parts) < 2 ^ 32

@@ -1,11 +1,12 @@
 -- The links of parts: for each import its end, the limits that it keeps, and what is read through it.
 use Rattle.std.specs.Prelude.{◌≡◌, ℕ, suc, List, [], ◌∷◌, map, length, Option, Some, None, option_map, Bool, true, false}
+use Rattle.wasm_tree.specs.declared.space.Space.TheVariants.{Globals}
 use Rattle.base_lists.specs.Options.{◌>>=◌}
 use Rattle.wasm_tree.specs.declared.types.GlobalType.{GlobalType}
 use Rattle.wasm_tree.specs.declared.module.ImportDesc.{ImportDesc}
 use Rattle.wasm_tree.specs.declared.module.ImportDesc.TheVariants as im
 use Rattle.wasm_tree.specs.declared.module.ConstExpr.TheVariants as const
-use Rattle.wasm_meaning.specs.Linking.{Part, Site, Kind, Globals, module_at, import_at, space_index, sites_in, index_of_export, linked_end, read_of}
+use Rattle.wasm_meaning.specs.Linking.{Part, Site, module_at, import_at, space_index, sites_in, index_of_export, linked_end, read_of}
 use Rattle.wasm_meaning.specs.Linking as linking
 use Rattle.merge_terms.specs.Faults.{kept_limits}
 use Rattle.merge_terms.specs.declared.links.End.{End}

@@ -1,5 +1,7 @@
 -- The merged module: its lists are filters and joins of the parts' lists, and its indices are places in these.
 use Rattle.std.specs.Prelude.{ℕ, suc, ◌+◌, ◌-◌, List, [], ◌∷◌, ◌++◌, map, filter, length, Option, Some, None, Bool, cond, slice_index, unwrap_or}
+use Rattle.wasm_tree.specs.declared.space.Space.{Space}
+use Rattle.wasm_tree.specs.declared.space.Space.TheVariants.{Functions, Tables, Memories, Globals, DataSegments, ElementSegments}
 use Rattle.base_lists.specs.Options.{◌>>=◌}
 use Rattle.std.specs.List.{flat_map, filter_map, list_any}
 use Rattle.wasm_tree.specs.declared.types.FuncType.{FuncType}
@@ -23,8 +25,8 @@ use Rattle.wasm_tree.specs.declared.instr.Instr.TheVariants.{Call}
 use Rattle.wasm_tree.specs.Spaces.{funcs_of, tables_of, memories_of, globals_of}
 use Rattle.wasm_meaning.specs.State.{Text}
 use Rattle.wasm_meaning.specs.Values.{same_func_type}
-use Rattle.wasm_meaning.specs.World.{defined_before, numbers, elems_before, datas_before}
-use Rattle.wasm_meaning.specs.Linking.{Part, Site, End, Defined, Outside, Entity, Kind, Functions, Tables, Memories, Globals, Read, first_place, has_kind, module_at, import_at, imports_of, index_of_export, same_site, imported_as, sites, linked_end, met_limits, read_of}
+use Rattle.wasm_meaning.specs.World.{defined_before, numbers}
+use Rattle.wasm_meaning.specs.Linking.{Part, Site, End, Defined, Outside, Entity, Read, first_place, has_kind, module_at, import_at, imports_of, index_of_export, same_site, imported_as, sites, linked_end, met_limits, read_of}
 use Rattle.index_remap.specs.declared.remap.Remap.{Remap}
 use Rattle.index_remap.specs.Renumbered.{new_const, new_func, new_export}
 use Rattle.merge_terms.specs.Faults.{stays}
@@ -35,22 +37,22 @@ use Rattle.merge_terms.specs.Faults.{stays}
 unfoldable pub staying : List Part → List Site
 staying parts = filter (stays parts) (sites parts)
 
-abbrev pub imports_kind : List Part → Kind → Site → Bool
+abbrev pub imports_kind : List Part → Space → Site → Bool
 imports_kind parts k s = unwrap_or (import_at parts s >>= λ i. Some (has_kind k i)) false
 
 -- those of one kind, which come first in that kind's index space
-unfoldable pub staying_of : List Part → Kind → List Site
+unfoldable pub staying_of : List Part → Space → List Site
 staying_of parts k = filter (imports_kind parts k) (staying parts)
 
-abbrev pub imported_count : List Part → ℕ → Kind → ℕ
+abbrev pub imported_count : List Part → ℕ → Space → ℕ
 imported_count parts p k = unwrap_or (module_at parts p >>= λ m. Some (length (imports_of k m))) 0
 
 -- the place of an end in the merged index space of its kind: of what stays among the imports, of what is defined after these, by part
-unfoldable pub place_of_end : List Part → Kind → End → ℕ
+unfoldable pub place_of_end : List Part → Space → End → ℕ
 place_of_end parts k (Outside s) = unwrap_or (first_place (same_site s) (staying_of parts k) 0) 0
 place_of_end parts k (Defined e) = length (staying_of parts k) + (defined_before k parts e.part + (index_of_export e.what - imported_count parts e.part k))
 
-abbrev pub entry_of : Kind → ℕ → ExportDesc
+abbrev pub entry_of : Space → ℕ → ExportDesc
 entry_of Functions i = ex.Func i
 entry_of Tables i = ex.Table i
 entry_of Memories i = ex.Memory i
@@ -64,7 +66,7 @@ end_from parts e (Some s) = linked_end parts s
 abbrev pub entry_end : List Part → Entity → Option End
 entry_end parts e = end_from parts e (imported_as parts e)
 
-unfoldable pub new_index : List Part → ℕ → Kind → ℕ → ℕ
+unfoldable pub new_index : List Part → ℕ → Space → ℕ → ℕ
 new_index parts p k i = unwrap_or (entry_end parts (record { part = p; what = entry_of k i }) >>= λ end. Some (place_of_end parts k end)) 0
 
 -- ---- types ----
@@ -94,8 +96,8 @@ map_of parts p m = record {
   tables = map (new_index parts p Tables) (numbers 0 (length (tables_of m)));
   mems = map (new_index parts p Memories) (numbers 0 (length (memories_of m)));
   globals = map (new_index parts p Globals) (numbers 0 (length (globals_of m)));
-  elems = numbers (elems_before parts p) (length m.elems);
-  datas = numbers (datas_before parts p) (length m.datas);
+  elems = numbers (defined_before ElementSegments parts p) (length m.elems);
+  datas = numbers (defined_before DataSegments parts p) (length m.datas);
 }
 
 -- for each part, with its place, a list; these joined

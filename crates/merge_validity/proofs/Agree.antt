@@ -1,5 +1,7 @@
 -- Each part agrees with the merged module along the part's map, and the map covers the part.
 use Rattle.std.proofs.Common.{◌≡◌, ◌∙◌, ap, sym, subst, refl, ℕ, ◌+◌, ◌<◌, List, map, length, Option, Some, None, true, arith, ◌⊎◌, inl, inr}
+use Rattle.wasm_tree.specs.declared.space.Space.{Space}
+use Rattle.wasm_tree.specs.declared.space.Space.TheVariants.{Functions, Tables, Memories, Globals, DataSegments, ElementSegments}
 use Rattle.std.specs.Prelude.{slice_get, slice_index, option_and_then}
 use Rattle.std.proofs.lemmas.List.{length-map}
 use Rattle.wasm_tree.specs.declared.types.RefType.{RefType}
@@ -19,8 +21,8 @@ use Rattle.wasm_valid.specs.SpaceTypes.{table_types, elem_types}
 use Rattle.wasm_valid.specs.Validity.{HoldsAt, ImportHolds, count_of}
 use Rattle.wasm_meaning.specs.State.{Text}
 use Rattle.wasm_meaning.specs.Laws.{EndsArePaths}
-use Rattle.wasm_meaning.specs.World.{numbers, elems_before, datas_before}
-use Rattle.wasm_meaning.specs.Linking.{Part, Kind, Functions, Tables, Memories, Globals, module_at}
+use Rattle.wasm_meaning.specs.World.{numbers, defined_before}
+use Rattle.wasm_meaning.specs.Linking.{Part, module_at}
 use Rattle.index_remap.specs.declared.remap.Remap.{Remap}
 use Rattle.index_remap.specs.Agreement.{Keeps}
 use Rattle.remap_typing.specs.Indices.{with_entry}
@@ -40,42 +42,42 @@ ItemsHold m = (k : ItemKind) (i : ℕ) → i < count_of m true k → HoldsAt m k
 
 -- ---- the lists of a map ----
 
-abbrev pub entries : Kind → Remap → List ℕ
+abbrev pub entries : Space → Remap → List ℕ
 entries Functions r = r.funcs
 entries Tables r = r.tables
 entries Memories r = r.mems
 entries Globals r = r.globals
 
-entries_are : (parts : List Part) (p : ℕ) (m : Module) (k : Kind) → entries k (map_of parts p m) ≡ map (new_index parts p k) (numbers 0 (length (space k m)))
+entries_are : (parts : List Part) (p : ℕ) (m : Module) (k : Space) → entries k (map_of parts p m) ≡ map (new_index parts p k) (numbers 0 (length (space k m)))
 unfolding map_of
 entries_are parts p m Functions = refl
 entries_are parts p m Tables = refl
 entries_are parts p m Memories = refl
 entries_are parts p m Globals = refl
 
-pub entries_many : (parts : List Part) (p : ℕ) (m : Module) (k : Kind) → length (entries k (map_of parts p m)) ≡ length (space k m)
+pub entries_many : (parts : List Part) (p : ℕ) (m : Module) (k : Space) → length (entries k (map_of parts p m)) ≡ length (space k m)
 entries_many parts p m k =
     ap length (entries_are parts p m k) ∙ length-map (numbers 0 (length (space k m))) (new_index parts p k) ∙ numbers_many 0 (length (space k m))
 
-pub entry_at : (parts : List Part) (p : ℕ) (m : Module) (k : Kind) (i : ℕ) → i < length (space k m) → slice_index (entries k (map_of parts p m)) i ≡ new_index parts p k i
+pub entry_at : (parts : List Part) (p : ℕ) (m : Module) (k : Space) (i : ℕ) → i < length (space k m) → slice_index (entries k (map_of parts p m)) i ≡ new_index parts p k i
 entry_at parts p m k i lt =
     let from_0 : 0 + i ≡ i = omega arith in
     ap (λ z. slice_index z i) (entries_are parts p m k)
     ∙ index_at (map (new_index parts p k) (numbers 0 (length (space k m)))) i (new_index parts p k i) (map_at (new_index parts p k) (numbers 0 (length (space k m))) i i (numbers_at 0 (length (space k m)) i lt ∙ ap Some from_0))
 
-elem_entries : (parts : List Part) (p : ℕ) (m : Module) → (map_of parts p m).elems ≡ numbers (elems_before parts p) (length m.elems)
+elem_entries : (parts : List Part) (p : ℕ) (m : Module) → (map_of parts p m).elems ≡ numbers (defined_before ElementSegments parts p) (length m.elems)
 unfolding map_of
 elem_entries parts p m = refl
 
-data_entries : (parts : List Part) (p : ℕ) (m : Module) → (map_of parts p m).datas ≡ numbers (datas_before parts p) (length m.datas)
+data_entries : (parts : List Part) (p : ℕ) (m : Module) → (map_of parts p m).datas ≡ numbers (defined_before DataSegments parts p) (length m.datas)
 unfolding map_of
 data_entries parts p m = refl
 
-elem_entry : (parts : List Part) (p : ℕ) (m : Module) (i : ℕ) → i < length m.elems → slice_index (map_of parts p m).elems i ≡ elems_before parts p + i
-elem_entry parts p m i lt = ap (λ z. slice_index z i) (elem_entries parts p m) ∙ index_at (numbers (elems_before parts p) (length m.elems)) i (elems_before parts p + i) (numbers_at (elems_before parts p) (length m.elems) i lt)
+elem_entry : (parts : List Part) (p : ℕ) (m : Module) (i : ℕ) → i < length m.elems → slice_index (map_of parts p m).elems i ≡ defined_before ElementSegments parts p + i
+elem_entry parts p m i lt = ap (λ z. slice_index z i) (elem_entries parts p m) ∙ index_at (numbers (defined_before ElementSegments parts p) (length m.elems)) i (defined_before ElementSegments parts p + i) (numbers_at (defined_before ElementSegments parts p) (length m.elems) i lt)
 
-data_entry : (parts : List Part) (p : ℕ) (m : Module) (i : ℕ) → i < length m.datas → slice_index (map_of parts p m).datas i ≡ datas_before parts p + i
-data_entry parts p m i lt = ap (λ z. slice_index z i) (data_entries parts p m) ∙ index_at (numbers (datas_before parts p) (length m.datas)) i (datas_before parts p + i) (numbers_at (datas_before parts p) (length m.datas) i lt)
+data_entry : (parts : List Part) (p : ℕ) (m : Module) (i : ℕ) → i < length m.datas → slice_index (map_of parts p m).datas i ≡ defined_before DataSegments parts p + i
+data_entry parts p m i lt = ap (λ z. slice_index z i) (data_entries parts p m) ∙ index_at (numbers (defined_before DataSegments parts p) (length m.datas)) i (defined_before DataSegments parts p + i) (numbers_at (defined_before DataSegments parts p) (length m.datas) i lt)
 
 pub map_covers : (parts : List Part) (p : ℕ) (m : Module) → Covers (map_of parts p m) m
 map_covers parts p m =
@@ -84,8 +86,8 @@ map_covers parts p m =
     let n = entries_many parts p m Memories in
     let g = entries_many parts p m Globals in
     let ty = ap length (types_map parts p m) ∙ length-map m.types _ in
-    let e = ap length (elem_entries parts p m) ∙ numbers_many (elems_before parts p) (length m.elems) in
-    let d = ap length (data_entries parts p m) ∙ numbers_many (datas_before parts p) (length m.datas) in
+    let e = ap length (elem_entries parts p m) ∙ numbers_many (defined_before ElementSegments parts p) (length m.elems) in
+    let d = ap length (data_entries parts p m) ∙ numbers_many (defined_before DataSegments parts p) (length m.datas) in
     record { types = omega (arith, ty); funcs = omega (arith, f); tables = omega (arith, t); memories = omega (arith, n); globals = omega (arith, g); elems = omega (arith, e); datas = omega (arith, d) }
 
 -- ---- types, by the words of validity ----
@@ -123,7 +125,7 @@ global_back m i g h =
     let q = t.2 in
     let same : t.0 ≡ g = cc in t.1 ∙ ap Some same
 
-pub at_there : (m : Module) (k : Kind) (i : ℕ) (y : Ty) → type_at m k i ≡ Some y → i < length (space k m)
+pub at_there : (m : Module) (k : Space) (i : ℕ) (y : Ty) → type_at m k i ≡ Some y → i < length (space k m)
 at_there m k i y h = let c = then_is (slice_get (space k m) i) (type_of m k) y h in within (space k m) i c.0 c.1
 
 -- ---- each function of a valid module has its type ----
@@ -173,19 +175,19 @@ unfolding merged
 datas_are parts names = refl
 
 elem_stands : (parts : List Part) (names : List (Option Text)) (p : ℕ) (m : Module) (i : ℕ) (s : ElemSeg) → module_at parts p ≡ Some m → slice_get m.elems i ≡ Some s →
-    slice_get (merged parts names).elems (elems_before parts p + i) ≡ Some (merged_elem parts p (map_of parts p m) s)
+    slice_get (merged parts names).elems (defined_before ElementSegments parts p + i) ≡ Some (merged_elem parts p (map_of parts p m) s)
 elem_stands parts names p m i s is h =
     let part_0 : 0 + p ≡ p = omega arith in
-    ap (λ z. slice_get z (elems_before parts p + i)) (elems_are parts names)
+    ap (λ z. slice_get z (defined_before ElementSegments parts p + i)) (elems_are parts names)
     ∙ ap (λ n. slice_get (by_part (λ p m. map (merged_elem parts p (map_of parts p m)) m.elems) parts) (n + i)) (elems_is parts p)
     ∙ by_part_at (λ p m. map (merged_elem parts p (map_of parts p m)) m.elems) (λ m. length m.elems) (λ p m. length-map m.elems (merged_elem parts p (map_of parts p m))) 0 parts p m i (merged_elem parts p (map_of parts p m) s) is
     (ap (λ q. slice_get (map (merged_elem parts q (map_of parts q m)) m.elems) i) part_0 ∙ map_at (merged_elem parts p (map_of parts p m)) m.elems i s h)
 
 data_stands : (parts : List Part) (names : List (Option Text)) (p : ℕ) (m : Module) (i : ℕ) (s : DataSeg) → module_at parts p ≡ Some m → slice_get m.datas i ≡ Some s →
-    slice_get (merged parts names).datas (datas_before parts p + i) ≡ Some (merged_data parts p (map_of parts p m) s)
+    slice_get (merged parts names).datas (defined_before DataSegments parts p + i) ≡ Some (merged_data parts p (map_of parts p m) s)
 data_stands parts names p m i s is h =
     let part_0 : 0 + p ≡ p = omega arith in
-    ap (λ z. slice_get z (datas_before parts p + i)) (datas_are parts names)
+    ap (λ z. slice_get z (defined_before DataSegments parts p + i)) (datas_are parts names)
     ∙ ap (λ n. slice_get (by_part (λ p m. map (merged_data parts p (map_of parts p m)) m.datas) parts) (n + i)) (datas_is parts p)
     ∙ by_part_at (λ p m. map (merged_data parts p (map_of parts p m)) m.datas) (λ m. length m.datas) (λ p m. length-map m.datas (merged_data parts p (map_of parts p m))) 0 parts p m i (merged_data parts p (map_of parts p m) s) is
     (ap (λ q. slice_get (map (merged_data parts q (map_of parts q m)) m.datas) i) part_0 ∙ map_at (merged_data parts p (map_of parts p m)) m.datas i s h)
@@ -193,7 +195,7 @@ data_stands parts names p m i s is h =
 -- ---- the whole ----
 
 module _ (law : EndsArePaths) (parts : List Part) (names : List (Option Text)) (links : AreLinked parts) (p : ℕ) (m : Module) (is : module_at parts p ≡ Some m) (holds : ItemsHold m) where
-  kept : (k : Kind) (i : ℕ) (y : Ty) → type_at m k i ≡ Some y → type_at (merged parts names) k (slice_index (entries k (map_of parts p m)) i) ≡ Some y
+  kept : (k : Space) (i : ℕ) (y : Ty) → type_at m k i ≡ Some y → type_at (merged parts names) k (slice_index (entries k (map_of parts p m)) i) ≡ Some y
   kept k i y h = ap (type_at (merged parts names) k) (entry_at parts p m k i (at_there m k i y h)) ∙ entry_kept law parts names links p m k i y is h
 
   func_within : (i : ℕ) → i < length (funcs_of m) → slice_index (map_of parts p m).funcs i < length (funcs_of (merged parts names))
@@ -206,12 +208,12 @@ module _ (law : EndsArePaths) (parts : List Part) (names : List (Option Text)) (
   elem_kept i r h =
       let s = map_back (λ s. s.ty) m.elems i r h in
       ap (slice_get (elem_types (merged parts names).elems)) (elem_entry parts p m i (within m.elems i s.0 s.1))
-      ∙ map_at (λ s. s.ty) (merged parts names).elems (elems_before parts p + i) (merged_elem parts p (map_of parts p m) s.0) (elem_stands parts names p m i s.0 is s.1) ∙ ap Some s.2
+      ∙ map_at (λ s. s.ty) (merged parts names).elems (defined_before ElementSegments parts p + i) (merged_elem parts p (map_of parts p m) s.0) (elem_stands parts names p m i s.0 is s.1) ∙ ap Some s.2
 
   data_kept : (i : ℕ) → i < length m.datas → slice_index (map_of parts p m).datas i < length (merged parts names).datas
   data_kept i lt =
       let s = there m.datas i lt in
-      subst (λ n. n < length (merged parts names).datas) (sym (data_entry parts p m i lt)) (within (merged parts names).datas (datas_before parts p + i) (merged_data parts p (map_of parts p m) s.0) (data_stands parts names p m i s.0 is s.1))
+      subst (λ n. n < length (merged parts names).datas) (sym (data_entry parts p m i lt)) (within (merged parts names).datas (defined_before DataSegments parts p + i) (merged_data parts p (map_of parts p m) s.0) (data_stands parts names p m i s.0 is s.1))
 
   pub trees_agree : TreesAgree (map_of parts p m) (with_entry (map_of parts p m)) m (merged parts names)
   trees_agree = record {

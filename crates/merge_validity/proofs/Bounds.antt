@@ -1,5 +1,7 @@
 -- A u32 can count what the merged module has, and it has at most one memory.
 use Rattle.std.proofs.Common.{◌≡◌, ◌∙◌, ap, sym, refl, ℕ, ◌+◌, ◌^◌, ◌<◌, ◌≤◌, List, [], ◌∷◌, length, Option, Some, None, Bool, true, false, cond, nat_lt, arith}
+use Rattle.wasm_tree.specs.declared.space.Space.{Space}
+use Rattle.wasm_tree.specs.declared.space.Space.TheVariants.{Functions, Tables, Memories, Globals}
 use Rattle.std.specs.Prelude.{slice_get}
 use Rattle.std.proofs.lemmas.Bool.{ltb-false}
 use Rattle.std.proofs.lemmas.List.{length-append}
@@ -13,7 +15,7 @@ use Rattle.wasm_tree.specs.Bounds.{IsBounded, local_count}
 use Rattle.wasm_valid.specs.Validity.{IsSingle}
 use Rattle.wasm_meaning.specs.State.{Text}
 use Rattle.wasm_meaning.specs.World.{defined_before}
-use Rattle.wasm_meaning.specs.Linking.{Part, Kind, Functions, Tables, Memories, Globals, count_of, sites}
+use Rattle.wasm_meaning.specs.Linking.{Part, count_of, sites}
 use Rattle.index_remap.specs.References.{declared, declared_refs, with_declared, declaring}
 use Rattle.merge_terms.specs.declared.faults.LinkFault.TheVariants.{TooManyMemories}
 use Rattle.merge_terms.specs.Faults.{stays, is_staying_memory, memory_count, memory_fault}
@@ -115,7 +117,7 @@ undeclared_within m (f ∷ fs) w =
 merged_within : (m : Module) → over_limit (declared m) ≡ None → Within m
 merged_within m h = undeclared_within m (declared_refs m) (within_limits (declared m) h)
 
-space_few : (k : Kind) (m : Module) → length (space k m) ≤ length m.imports + length (own k m)
+space_few : (k : Space) (m : Module) → length (space k m) ≤ length m.imports + length (own k m)
 space_few k m =
     let a = length-append (imported k m) (own k m) in
     let b = filter_map_most (of_import k) m.imports in

@@ -1,11 +1,13 @@
 -- Lists that are joined by part: an entry of a part's list has its place in all of them, and each entry comes from a part.
 use Rattle.std.proofs.Common.{◌≡◌, ◌∙◌, ap, ap₂, sym, refl, ℕ, zero, suc, ◌+◌, List, [], ◌∷◌, ◌++◌, map, length, Some, arith, ◌⊎◌, inl, inr}
+use Rattle.wasm_tree.specs.declared.space.Space.TheVariants.{DataSegments, ElementSegments}
+use Rattle.wasm_tree.specs.declared.space.Space.{Space}
 use Rattle.std.specs.Prelude.{slice_get}
 use Rattle.std.specs.List.{flat_map}
 use Rattle.std.proofs.lemmas.List.{length-append, map-append}
 use Rattle.wasm_tree.specs.declared.module.Module.{Module}
-use Rattle.wasm_meaning.specs.World.{defined_count, defined_before, elems_before, datas_before}
-use Rattle.wasm_meaning.specs.Linking.{Part, Kind, module_at}
+use Rattle.wasm_meaning.specs.World.{defined_count, defined_before}
+use Rattle.wasm_meaning.specs.Linking.{Part, module_at}
 use Rattle.merge_terms.specs.Merged.{by_part_from}
 use Rattle.merge_validity.proofs.Lists.{front, behind, split}
 
@@ -15,17 +17,17 @@ before count [] q = 0
 before count (part ∷ parts) zero = 0
 before count (part ∷ parts) (suc q) = count part.«module» + before count parts q
 
-pub defined_is : (k : Kind) (parts : List Part) (q : ℕ) → defined_before k parts q ≡ before (defined_count k) parts q
+pub defined_is : (k : Space) (parts : List Part) (q : ℕ) → defined_before k parts q ≡ before (defined_count k) parts q
 defined_is k [] q = refl
 defined_is k (part ∷ parts) zero = refl
 defined_is k (part ∷ parts) (suc q) = ap (λ n. defined_count k part.«module» + n) (defined_is k parts q)
 
-pub elems_is : (parts : List Part) (q : ℕ) → elems_before parts q ≡ before (λ m. length m.elems) parts q
+pub elems_is : (parts : List Part) (q : ℕ) → defined_before ElementSegments parts q ≡ before (λ m. length m.elems) parts q
 elems_is [] q = refl
 elems_is (part ∷ parts) zero = refl
 elems_is (part ∷ parts) (suc q) = ap (λ n. length part.«module».elems + n) (elems_is parts q)
 
-pub datas_is : (parts : List Part) (q : ℕ) → datas_before parts q ≡ before (λ m. length m.datas) parts q
+pub datas_is : (parts : List Part) (q : ℕ) → defined_before DataSegments parts q ≡ before (λ m. length m.datas) parts q
 datas_is [] q = refl
 datas_is (part ∷ parts) zero = refl
 datas_is (part ∷ parts) (suc q) = ap (λ n. length part.«module».datas + n) (datas_is parts q)

@@ -1,5 +1,7 @@
 -- A constant expression of a part keeps its type where it becomes what it reads through joined globals.
 use Rattle.std.proofs.Common.{◌≡◌, ◌∙◌, ap, ap₂, sym, subst, refl, ℕ, zero, suc, ◌+◌, ◌-◌, ◌<◌, ◌≤◌, List, [], ◌∷◌, length, Option, Some, Bool, true, false, cond, ◌&&◌, not, nat_lt, arith, IsTrue, option_and_then, unwrap_or}
+use Rattle.wasm_tree.specs.declared.space.Space.{Space}
+use Rattle.wasm_tree.specs.declared.space.Space.TheVariants.{Functions, Globals}
 use Rattle.std.specs.Prelude.{slice_get, slice_index}
 use Rattle.std.proofs.lemmas.Bool.{ltb-true, lt-ltb}
 use Rattle.wasm_tree.specs.declared.types.RefType.TheVariants.{Func as func_ref}
@@ -18,7 +20,7 @@ use Rattle.wasm_valid.specs.Constants.{const_type}
 use Rattle.wasm_meaning.specs.State.{Text}
 use Rattle.wasm_meaning.specs.Paths.{Next, Ends, Goes, Path, ends, goes}
 use Rattle.wasm_meaning.specs.Laws.{EndsArePaths, ReadsArePaths}
-use Rattle.wasm_meaning.specs.Linking.{Part, Site, Outside, Entity, Kind, Functions, Globals, Read, places, has_kind, space_index, module_at, imports_of, index_of_export, imported_as, end_of, initial, outside_read, end_step, read_step, read_of}
+use Rattle.wasm_meaning.specs.Linking.{Part, Site, Outside, Entity, Read, places, has_kind, space_index, module_at, imports_of, index_of_export, imported_as, end_of, initial, outside_read, end_step, read_step, read_of}
 use Rattle.index_remap.specs.declared.remap.Remap.{Remap}
 use Rattle.index_remap.specs.Renumbered.{fits_const, new_const}
 use Rattle.remap_typing.specs.Indices.{Indices, with_entry, ConstNamesOnly}
@@ -79,7 +81,7 @@ map_fits parts p m e ty h =
 
 -- ---- the place of an import in its space ----
 
-index_place : (k : Kind) (is : List Import) (n from : ℕ) (i : Import) → slice_get is n ≡ Some i → has_kind k i ≡ true → slice_get (places (has_kind k) is from) (space_index is n k) ≡ Some (from + n)
+index_place : (k : Space) (is : List Import) (n from : ℕ) (i : Import) → slice_get is n ≡ Some i → has_kind k i ≡ true → slice_get (places (has_kind k) is from) (space_index is n k) ≡ Some (from + n)
 index_place k [] n from i h e = cc
 index_place k (x ∷ xs) zero from i h e =
     let same : x ≡ i = cc in
@@ -132,15 +134,15 @@ module _ (ends_law : EndsArePaths) (parts : List Part) (names : List (Option Tex
       let lt = within (imported k m.0) x c.0 is_c in
       let at_x : slice_get (globals_of m.0) x ≡ Some g = front (imported k m.0) (own k m.0) x c.0 is_c ∙ ap Some c_g in
       let q : Read = record { part = w.to.part; expr = const.Global x } in
-      let out : outside_read parts w.to ≡ Some q = ap (λ o. option_and_then {B = Read} {A = Module} o (λ m. Some (record { part = w.to.part; expr = const.Global (space_index m.imports w.to.import Globals) }))) m.1 in
+      let out : outside_read parts w.to ≡ Some q = ap (λ o. option_and_then {T = Module} {U = Read} (λ m. Some (record { part = w.to.part; expr = const.Global (space_index m.imports w.to.import Globals) })) o) m.1 in
       let space_lt : x < length (space k m.0) = within (space k m.0) x g at_x in
       let entry : new_index parts w.to.part k x ≡ place_of_end parts k (Outside w.to) =
-      index_is parts w.to.part k x (Outside w.to) (ap (end_from parts (entity_at w.to.part k x)) (entry_import parts w.to.part m.0 k x m.1 ∙ ap (λ o. option_and_then {B = Site} {A = ℕ} o (λ n. Some (record { part = w.to.part; import = n }))) p) ∙ w.stays.linked) in
+      index_is parts w.to.part k x (Outside w.to) (ap (end_from parts (entity_at w.to.part k x)) (entry_import parts w.to.part m.0 k x m.1 ∙ ap (λ o. option_and_then {T = ℕ} {U = Site} (λ n. Some (record { part = w.to.part; import = n })) o) p) ∙ w.stays.linked) in
       let in_map : slice_index (map_of parts w.to.part m.0).globals x ≡ place_of_end parts k (Outside w.to) = entry_at parts w.to.part m.0 k x space_lt ∙ entry in
       let few : place_of_end parts k (Outside w.to) < length (staying_of parts k) = within (staying_of parts k) _ w.to (outside_place parts k w.to w.stays h) in
       let many = imported_many parts names k in
       let imports : slice_index (map_of parts w.to.part m.0).globals x < length (imported k (merged parts names)) = omega (arith, in_map, few, many) in
-      stop q (step ∙ ap (end_step parts) w.end ∙ ap (λ t. option_and_then (λ r. Some (Ends r)) (outside_read parts t)) (sym to) ∙ ap (λ o. option_and_then {B = Next Read Read} {A = Read} o (λ r. Some (Ends r))) out)
+      stop q (step ∙ ap (end_step parts) w.end ∙ ap (λ t. option_and_then (λ r. Some (Ends r)) (outside_read parts t)) (sym to) ∙ ap (λ o. option_and_then {T = Read} {U = Next Read Read} (λ r. Some (Ends r)) o) out)
       (record { of = m.0; is_part = m.1; typed = global_typed m.0 x g at_x lt fixed; reads = imports })
 
   -- to the value of a global that is joined
@@ -155,9 +157,9 @@ module _ (ends_law : EndsArePaths) (parts : List Part) (names : List (Option Tex
       let d = map_back (λ (g : GlobalDef). g.ty) w.of.globals (n - length (imports_of k w.of)) c.0 at in
       let got : slice_get w.of.globals (n - length (imports_of k w.of)) ≡ Some d.0 = place_get w.of.globals (n - length (imports_of k w.of)) ∙ d.1 in
       let init : initial parts w.entity ≡ Some d.0.init =
-      ap (λ o. option_and_then (λ m. option_and_then (λ g. Some g.init) (slice_get m.globals (index_of_export w.entity.what - length (imports_of Globals m)))) o) w.is_part ∙ ap (λ o. option_and_then o {A = GlobalDef} (λ g. Some g.init)) got in
+      ap (λ o. option_and_then (λ m. option_and_then (λ g. Some g.init) (slice_get m.globals (index_of_export w.entity.what - length (imports_of Globals m)))) o) w.is_part ∙ ap (λ o. option_and_then {T = GlobalDef} (λ g. Some g.init) o) got in
       on w.entity w.of (n - length (imports_of k w.of)) d.0
-      (step ∙ ap (end_step parts) w.end ∙ ap (λ o. option_and_then {B = Next Read Read} {A = ConstExpr} o (λ expr. Some (Goes (record { part = w.entity.part; expr = expr })))) init) w.is_part d.1 (ap (λ (g : GlobalType). g.ty) (d.2 ∙ c_g))
+      (step ∙ ap (end_step parts) w.end ∙ ap (λ o. option_and_then {T = ConstExpr} {U = Next Read Read} (λ expr. Some (Goes (record { part = w.entity.part; expr = expr }))) o) init) w.is_part d.1 (ap (λ (g : GlobalType). g.ty) (d.2 ∙ c_g))
 
   global_step : (p x : ℕ) (m : Module) (ty : ValType) → module_at parts p ≡ Some m → ReadsGlobal m x ty → Step (record { part = p; expr = const.Global x }) ty
   global_step p x m ty is g =
@@ -166,7 +168,7 @@ module _ (ends_law : EndsArePaths) (parts : List Part) (names : List (Option Tex
       let n = there (imports_of Globals m) x (omega (arith, lt, many)) in
       let at : slice_get (imports_of Globals m) x ≡ Some n.0 = place_get (imports_of Globals m) x ∙ n.1 in
       let j = joined_entry ends_law parts links p m Globals x n.0 (GlobalTy g.global) is at (ap (λ o. option_and_then (type_of m Globals) o) g.at) in
-      let import : imported_as parts (entity_at p Globals x) ≡ Some (site_at p n.0) = entry_import parts p m Globals x is ∙ ap (λ o. option_and_then {B = Site} {A = ℕ} o (λ n. Some (record { part = p; import = n }))) at in
+      let import : imported_as parts (entity_at p Globals x) ≡ Some (site_at p n.0) = entry_import parts p m Globals x is ∙ ap (λ o. option_and_then {T = ℕ} {U = Site} (λ n. Some (record { part = p; import = n })) o) at in
       subst (Step (record { part = p; expr = const.Global x })) g.typed
       (lands (site_at p n.0) (ap (λ o. end_step parts (option_and_then (end_of parts) o)) import) j.lands)
     where
@@ -234,5 +236,5 @@ module _ (ends_law : EndsArePaths) (parts : List Part) (names : List (Option Tex
           let named = const_named (map_of parts r.0.part z.of) r.0.expr (map_fits parts r.0.part z.of r.0.expr ty z.typed) in
           let agree = trees_agree ends_law parts names links r.0.part z.of z.is_part (valid r.0.part z.of z.is_part) in
           ap (λ o. const_type (merged parts names) (unwrap_or (option_and_then (merged_read parts) o) e)) r.1
-          ∙ ap (λ o. const_type (merged parts names) (unwrap_or (option_and_then {B = ConstExpr} {A = Module} o (λ m. Some (new_const (map_of parts r.0.part m) r.0.expr))) e)) z.is_part
+          ∙ ap (λ o. const_type (merged parts names) (unwrap_or (option_and_then {T = Module} {U = ConstExpr} (λ m. Some (new_const (map_of parts r.0.part m) r.0.expr)) o) e)) z.is_part
           ∙ constants (map_of parts r.0.part z.of) (with_entry (map_of parts r.0.part z.of)) z.of (merged parts names) r.0.expr agree named z.reads ty z.typed

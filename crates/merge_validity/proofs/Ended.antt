@@ -1,5 +1,7 @@
 -- Where imports of linked parts end, with all that is asked and found there; and which sites are imports.
 use Rattle.std.proofs.Common.{◌≡◌, ◌∙◌, ap, ap₂, sym, subst, refl, ℕ, zero, suc, ◌+◌, ◌-◌, ◌<◌, List, length, Option, Some, Bool, true, false, cond, arith, option_and_then, ◌&&◌}
+use Rattle.wasm_tree.specs.declared.space.Space.{Space}
+use Rattle.wasm_tree.specs.declared.space.Space.TheVariants.{Functions, Tables, Memories, Globals}
 use Rattle.std.specs.Prelude.{slice_get, slice_index}
 use Rattle.std.proofs.lemmas.List.{length-append, length-map}
 use Rattle.wasm_tree.specs.declared.types.GlobalType.{GlobalType}
@@ -12,7 +14,7 @@ use Rattle.wasm_meaning.specs.Laws.{EndsArePaths}
 use Rattle.wasm_meaning.specs.Environment.{Owned, MemoryKey, owned_at}
 use Rattle.wasm_meaning.specs.Values.{same_ref, same_type, same_func_type}
 use Rattle.wasm_meaning.specs.World.{same_bool, given, defined_before, own_key, own_key_of, outside_thing}
-use Rattle.wasm_meaning.specs.Linking.{Part, Site, End, Defined, Outside, Entity, Kind, Functions, Tables, Memories, Globals, has_kind, import_at, imports_of, imported_as, kind_of_import, index_of_export, pair_of, sites_in, sites, end_of, linked_end, gathered}
+use Rattle.wasm_meaning.specs.Linking.{Part, Site, End, Defined, Outside, Entity, has_kind, import_at, imports_of, imported_as, kind_of_import, index_of_export, pair_of, sites_in, sites, end_of, linked_end, gathered}
 use Rattle.merge_terms.specs.Faults.{External, FuncOf, TableOf, MemoryOf, GlobalOf, asked_at, found, suits, external_of, same_but_limits, meets_limits, stays}
 use Rattle.merge_terms.specs.Merged.{merged, merged_types, map_of, start_calls, starts, by_part, staying_of, place_of_end, end_from}
 use Rattle.merge_validity.specs.Ended.{EndsInside, EndsOutside, Ended, inside, outside, added_count, LinkedImportsEnd, StayingImportsEndThere, SitesAreImports, StayingImportsHavePlaces, NewIndicesArePlaces, DefinedEntitiesHavePlaces, TypesHavePlaces, MergedModulesDefineAll}
@@ -217,8 +219,8 @@ have_places parts s i at remains k e = place_get (staying_of parts k) (place_of_
 pub indices_are_places : NewIndicesArePlaces
 indices_are_places parts p m k x is = (λ n e h linked. index_is parts p k x e (ap (end_from parts (entity_at p k x)) (imported_at h) ∙ linked), λ h. index_is parts p k x (Defined (entity_at p k x)) (ap (end_from parts (entity_at p k x)) (imported_at h)))
   where
-    imported_at : {o : Option ℕ} → slice_get (imports_of k m) x ≡ o → imported_as parts (entity_at p k x) ≡ option_and_then {B = Site} {A = ℕ} o (λ n. Some (record { part = p; import = n }))
-    imported_at h = entry_import parts p m k x is ∙ ap (λ o. option_and_then {B = Site} {A = ℕ} o (λ n. Some (record { part = p; import = n }))) h
+    imported_at : {o : Option ℕ} → slice_get (imports_of k m) x ≡ o → imported_as parts (entity_at p k x) ≡ option_and_then {T = ℕ} {U = Site} (λ n. Some (record { part = p; import = n })) o
+    imported_at h = entry_import parts p m k x is ∙ ap (λ o. option_and_then {T = ℕ} {U = Site} (λ n. Some (record { part = p; import = n })) o) h
 
 pub defined_have_places : DefinedEntitiesHavePlaces
 unfolding place_of_end
@@ -227,7 +229,7 @@ defined_have_places parts e m k is = ap (λ n. length (staying_of parts k) + (de
 pub types_have_places : TypesHavePlaces
 types_have_places parts p m x t is h = place_get (merged_types parts) (slice_index (map_of parts p m).types x) ∙ type_stands parts p m x t is (sym (place_get m.types x) ∙ h)
 
-extra_many : (parts : List Part) (k : Kind) → length (extra parts k) ≡ added_count parts k
+extra_many : (parts : List Part) (k : Space) → length (extra parts k) ≡ added_count parts k
 extra_many parts Functions = length-map (start_calls parts (starts parts)) (λ f. f.ty)
 extra_many parts Tables = refl
 extra_many parts Memories = refl

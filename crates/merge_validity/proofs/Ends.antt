@@ -1,11 +1,12 @@
 -- Where an import of linked parts ends: with an entity of a part that defines it, or with an import that stays, of the type that is asked for.
 use Rattle.std.proofs.Common.{◌≡◌, ◌∙◌, ap, ap₂, sym, subst, refl, ℕ, zero, suc, List, [], ◌∷◌, Option, Some, None, Bool, true, false, cond, option_and_then, ◌&&◌}
+use Rattle.wasm_tree.specs.declared.space.Space.TheVariants.{Memories}
 use Rattle.std.specs.Prelude.{slice_get}
 use Rattle.wasm_tree.specs.declared.module.Import.{Import}
 use Rattle.wasm_tree.specs.declared.module.Module.{Module}
 use Rattle.wasm_meaning.specs.Paths.{Next, Ends, Path, ends, goes}
 use Rattle.wasm_meaning.specs.Laws.{EndsArePaths}
-use Rattle.wasm_meaning.specs.Linking.{Part, Site, End, Defined, Outside, Entity, Memories, module_at, import_at, imported_as, joined, entity_step, joined_step, import_step, sites, end_of, is_outside, same_memory, same_pair, pair_of, has_kind, stays_as, first_site, gathered_at, gathered, linked_end, kind_of_import}
+use Rattle.wasm_meaning.specs.Linking.{Part, Site, End, Defined, Outside, Entity, module_at, import_at, imported_as, joined, entity_step, joined_step, import_step, sites, end_of, is_outside, same_memory, same_pair, pair_of, has_kind, stays_as, first_site, gathered_at, gathered, linked_end, kind_of_import}
 use Rattle.merge_terms.specs.Faults.{External, asked, asked_at, found, external_of}
 use Rattle.merge_validity.proofs.Lists.{then_is}
 use Rattle.merge_validity.proofs.Same.{both_are, cond_both, site_is, site_same, pair_is, pair_same, kind_is}

@@ -1,5 +1,7 @@
 -- The four kinds of entities at once: what an entry of an index space is, and its type, with the limits of tables and memories left aside.
 use Rattle.std.proofs.Common.{◌≡◌, ◌∙◌, ap, ap₂, sym, refl, ℕ, List, ◌++◌, map, length, Option, Some, None, true}
+use Rattle.wasm_tree.specs.declared.space.Space.{Space}
+use Rattle.wasm_tree.specs.declared.space.Space.TheVariants.{Functions, Tables, Memories, Globals}
 use Rattle.std.specs.Prelude.{slice_get, option_and_then}
 use Rattle.std.specs.List.{filter_map}
 use Rattle.std.proofs.lemmas.List.{length-map}
@@ -17,7 +19,7 @@ use Rattle.wasm_tree.specs.declared.module.Module.{Module}
 use Rattle.wasm_tree.specs.Spaces.{func_of, table_of, memory_of, global_of, funcs_of, tables_of, memories_of, globals_of, type_of_func}
 use Rattle.wasm_meaning.specs.Values.{same_type}
 use Rattle.wasm_meaning.specs.World.{same_bool, defined_count}
-use Rattle.wasm_meaning.specs.Linking.{Kind, Functions, Tables, Memories, Globals, has_kind, kind_of_import, kind_of_export, index_of_export}
+use Rattle.wasm_meaning.specs.Linking.{has_kind, kind_of_import, kind_of_export, index_of_export}
 use Rattle.merge_terms.specs.Faults.{External, FuncOf, TableOf, MemoryOf, GlobalOf, asked, external_of, same_but_limits}
 use Rattle.merge_terms.specs.Merged.{entry_of}
 use Rattle.merge_validity.proofs.Lists.{is_some, place_get}
@@ -25,36 +27,36 @@ use Rattle.merge_validity.proofs.Same.{both_are, ref_is, type_is, func_type_is, 
 
 -- ---- entries ----
 
-abbrev pub Entry : Kind → Type 0
+abbrev pub Entry : Space → Type 0
 Entry Functions = ℕ
 Entry Tables = TableType
 Entry Memories = Limits
 Entry Globals = GlobalType
 
 -- what an import adds to the space of a kind
-abbrev pub of_desc : (k : Kind) → ImportDesc → Option (Entry k)
+abbrev pub of_desc : (k : Space) → ImportDesc → Option (Entry k)
 of_desc Functions d = func_of d
 of_desc Tables d = table_of d
 of_desc Memories d = memory_of d
 of_desc Globals d = global_of d
 
-abbrev pub of_import : (k : Kind) → Import → Option (Entry k)
+abbrev pub of_import : (k : Space) → Import → Option (Entry k)
 of_import k i = of_desc k i.desc
 
 -- what a module defines of a kind
-abbrev pub own : (k : Kind) → Module → List (Entry k)
+abbrev pub own : (k : Space) → Module → List (Entry k)
 own Functions m = map (λ f. f.ty) m.funcs
 own Tables m = m.tables
 own Memories m = m.mems
 own Globals m = map (λ g. g.ty) m.globals
 
-abbrev pub imported : (k : Kind) → Module → List (Entry k)
+abbrev pub imported : (k : Space) → Module → List (Entry k)
 imported k m = filter_map (of_import k) m.imports
 
-abbrev pub space : (k : Kind) → Module → List (Entry k)
+abbrev pub space : (k : Space) → Module → List (Entry k)
 space k m = imported k m ++ own k m
 
-pub desc_kind : (k : Kind) (d : ImportDesc) (i : Import) → i.desc ≡ d → is_some (of_desc k d) ≡ has_kind k i
+pub desc_kind : (k : Space) (d : ImportDesc) (i : Import) → i.desc ≡ d → is_some (of_desc k d) ≡ has_kind k i
 desc_kind Functions (im.Func t) i e = rw e refl
 desc_kind Functions (im.Table t) i e = rw e refl
 desc_kind Functions (im.Memory t) i e = rw e refl
@@ -72,22 +74,22 @@ desc_kind Globals (im.Table t) i e = rw e refl
 desc_kind Globals (im.Memory t) i e = rw e refl
 desc_kind Globals (im.Global t) i e = rw e refl
 
-pub import_kind : (k : Kind) (i : Import) → is_some (of_import k i) ≡ has_kind k i
+pub import_kind : (k : Space) (i : Import) → is_some (of_import k i) ≡ has_kind k i
 import_kind k i = desc_kind k i.desc i refl
 
-pub own_many : (k : Kind) (m : Module) → length (own k m) ≡ defined_count k m
+pub own_many : (k : Space) (m : Module) → length (own k m) ≡ defined_count k m
 own_many Functions m = length-map m.funcs (λ f. f.ty)
 own_many Tables m = refl
 own_many Memories m = refl
 own_many Globals m = length-map m.globals (λ g. g.ty)
 
-pub kind_of_entry : (k : Kind) (i : ℕ) → kind_of_export (entry_of k i) ≡ k
+pub kind_of_entry : (k : Space) (i : ℕ) → kind_of_export (entry_of k i) ≡ k
 kind_of_entry Functions i = refl
 kind_of_entry Tables i = refl
 kind_of_entry Memories i = refl
 kind_of_entry Globals i = refl
 
-pub index_of_entry : (k : Kind) (i : ℕ) → index_of_export (entry_of k i) ≡ i
+pub index_of_entry : (k : Space) (i : ℕ) → index_of_export (entry_of k i) ≡ i
 index_of_entry Functions i = refl
 index_of_entry Tables i = refl
 index_of_entry Memories i = refl
@@ -108,7 +110,7 @@ pub data Ty : Type 0 where
   MemoryTy : Ty
   GlobalTy : GlobalType → Ty
 
-abbrev pub kind_of : Ty → Kind
+abbrev pub kind_of : Ty → Space
 kind_of (FuncTy t) = Functions
 kind_of (TableTy t) = Tables
 kind_of MemoryTy = Memories
@@ -121,13 +123,13 @@ bare (MemoryOf l) = MemoryTy
 bare (GlobalOf t) = GlobalTy t
 
 -- the type of an entry of a module's space
-abbrev pub type_of : Module → (k : Kind) → Entry k → Option Ty
+abbrev pub type_of : Module → (k : Space) → Entry k → Option Ty
 type_of m Functions ty = option_and_then (λ t. Some (FuncTy t)) (slice_get m.types ty)
 type_of m Tables t = Some (TableTy t.ty)
 type_of m Memories l = Some MemoryTy
 type_of m Globals t = Some (GlobalTy t)
 
-abbrev pub type_at : Module → (k : Kind) → ℕ → Option Ty
+abbrev pub type_at : Module → (k : Space) → ℕ → Option Ty
 type_at m k i = option_and_then (type_of m k) (slice_get (space k m) i)
 
 pub bare_is : (x y : External) → same_but_limits x y ≡ true → bare x ≡ bare y
@@ -163,7 +165,7 @@ asked_kind m (im.Table t) x h = let same : TableOf t ≡ x = cc in ap (λ z. kin
 asked_kind m (im.Memory l) x h = let same : MemoryOf l ≡ x = cc in ap (λ z. kind_of (bare z)) (sym same)
 asked_kind m (im.Global t) x h = let same : GlobalOf t ≡ x = cc in ap (λ z. kind_of (bare z)) (sym same)
 
-pub asked_type : (m : Module) (k : Kind) (d : ImportDesc) (c : Entry k) (x : External) → of_desc k d ≡ Some c → asked m d ≡ Some x → type_of m k c ≡ Some (bare x)
+pub asked_type : (m : Module) (k : Space) (d : ImportDesc) (c : Entry k) (x : External) → of_desc k d ≡ Some c → asked m d ≡ Some x → type_of m k c ≡ Some (bare x)
 asked_type m Functions (im.Func ty) c x e h =
     let same : ty ≡ c = cc in
     ap (λ z. option_and_then (λ t. Some (FuncTy t)) (slice_get m.types z)) (sym same) ∙ ap (λ o. option_and_then (λ t. Some (FuncTy t)) o) (sym (place_get m.types ty)) ∙ by (slice_get m.types ty) h
@@ -210,7 +212,7 @@ external_kind m (ex.Global i) x h = by (slice_get (globals_of m) i) h
     by None h = cc
     by (Some t) h = let same : GlobalOf t ≡ x = cc in ap (λ z. kind_of (bare z)) (sym same)
 
-pub external_type : (m : Module) (k : Kind) (i : ℕ) (x : External) → external_of m (entry_of k i) ≡ Some x → type_at m k i ≡ Some (bare x)
+pub external_type : (m : Module) (k : Space) (i : ℕ) (x : External) → external_of m (entry_of k i) ≡ Some x → type_at m k i ≡ Some (bare x)
 external_type m Functions i x h = by (slice_get (funcs_of m) i) h
   where
     inner : (o : Option FuncType) → option_and_then (λ t. Some (FuncOf t)) o ≡ Some x → option_and_then (λ t. Some (FuncTy t)) o ≡ Some (bare x)

@@ -1,5 +1,7 @@
 -- The new index of an entry of a part's index space stands in the merged module for an entity of the same type.
 use Rattle.std.proofs.Common.{◌≡◌, ◌∙◌, ap, ap₂, sym, subst, refl, ℕ, zero, suc, ◌+◌, ◌-◌, ◌<◌, ◌≤◌, List, [], ◌∷◌, ◌++◌, length, Option, Some, None, true, arith, ◌⊎◌, inl, inr, option_and_then, unwrap_or}
+use Rattle.wasm_tree.specs.declared.space.Space.{Space}
+use Rattle.wasm_tree.specs.Operands.{same_space}
 use Rattle.std.specs.Prelude.{slice_get}
 use Rattle.std.specs.List.{filter}
 use Rattle.wasm_tree.specs.declared.module.Import.{Import}
@@ -8,7 +10,7 @@ use Rattle.wasm_tree.specs.declared.module.Module.{Module}
 use Rattle.wasm_meaning.specs.State.{Text}
 use Rattle.wasm_meaning.specs.Laws.{EndsArePaths}
 use Rattle.wasm_meaning.specs.World.{defined_before}
-use Rattle.wasm_meaning.specs.Linking.{Part, Site, End, Defined, Outside, Entity, Kind, first_place, module_at, import_at, imports_of, has_kind, kind_of_import, kind_of_export, index_of_export, imported_as, sites, same_site, same_kind, is_outside}
+use Rattle.wasm_meaning.specs.Linking.{Part, Site, End, Defined, Outside, Entity, first_place, module_at, import_at, imports_of, has_kind, kind_of_import, kind_of_export, index_of_export, imported_as, sites, same_site, is_outside}
 use Rattle.merge_terms.specs.Faults.{External, asked, asked_at, external_of, stays}
 use Rattle.merge_terms.specs.Merged.{merged, staying, staying_of, imports_kind, imported_count, place_of_end, entry_of, end_from, entry_end, new_index}
 use Rattle.merge_validity.proofs.Lists.{Has, is_some, first_at, then_is, place_get, place_of, places_many, split, past, within, is_kept}
@@ -20,11 +22,11 @@ use Rattle.merge_validity.proofs.MergedSpaces.{staying_type, own_type}
 
 -- ---- an entry of a part: an import, or what the part defines ----
 
-pub imports_many : (k : Kind) (m : Module) → length (imports_of k m) ≡ length (imported k m)
+pub imports_many : (k : Space) (m : Module) → length (imports_of k m) ≡ length (imported k m)
 imports_many k m = places_many (has_kind k) (of_import k) m.imports (import_kind k) 0
 
 -- what follows the imports is what the part defines
-pub own_entry : (k : Kind) (m : Module) (i : ℕ) (c : Entry k) → slice_get (imports_of k m) i ≡ None → slice_get (space k m) i ≡ Some c → slice_get (own k m) (i - length (imports_of k m)) ≡ Some c
+pub own_entry : (k : Space) (m : Module) (i : ℕ) (c : Entry k) → slice_get (imports_of k m) i ≡ None → slice_get (space k m) i ≡ Some c → slice_get (own k m) (i - length (imports_of k m)) ≡ Some c
 own_entry k m i c e h = by (split (imported k m) (own k m) i c h)
   where
     few : length (imports_of k m) ≤ i
@@ -35,7 +37,7 @@ own_entry k m i c e h = by (split (imported k m) (own k m) i c h)
     by (inr r) = let q = imports_many k m in let d = r.1 in let z : i - length (imports_of k m) ≡ r.0 = omega (arith, q, d) in ap (slice_get (own k m)) z ∙ r.2
 
 -- the import that an entry is
-pub record IsImport (k : Kind) (m : Module) (n : ℕ) (y : Ty) : Type 0 where
+pub record IsImport (k : Space) (m : Module) (n : ℕ) (y : Ty) : Type 0 where
   pub import : Import
   pub at : slice_get m.imports n ≡ Some import
   pub of_kind : has_kind k import ≡ true
@@ -43,7 +45,7 @@ pub record IsImport (k : Kind) (m : Module) (n : ℕ) (y : Ty) : Type 0 where
   pub adds : of_desc k import.desc ≡ Some entry
   pub typed : type_of m k entry ≡ Some y
 
-pub import_entry : (k : Kind) (m : Module) (i n : ℕ) (y : Ty) → slice_get (imports_of k m) i ≡ Some n → type_at m k i ≡ Some y → IsImport k m n y
+pub import_entry : (k : Space) (m : Module) (i n : ℕ) (y : Ty) → slice_get (imports_of k m) i ≡ Some n → type_at m k i ≡ Some y → IsImport k m n y
 import_entry k m i n y e t =
     let r = place_of (has_kind k) (of_import k) m.imports (import_kind k) 0 i n e in
     let c = then_is (slice_get (space k m) i) (type_of m k) y t in
@@ -58,23 +60,23 @@ import_entry k m i n y e t =
     front_only (z ∷ xs) ys (suc i) x l h = front_only xs ys i x (omega (arith, l)) h
 
 -- the import that an entity is, by the entry of the space
-pub imported_is : (parts : List Part) (k : Kind) (p : ℕ) (m : Module) (what : ExportDesc) (i : ℕ) → module_at parts p ≡ Some m → kind_of_export what ≡ k → index_of_export what ≡ i →
-    imported_as parts (record { part = p; what = what }) ≡ option_and_then {B = Site} {A = ℕ} (slice_get (imports_of k m) i) (λ n. Some (record { part = p; import = n }))
+pub imported_is : (parts : List Part) (k : Space) (p : ℕ) (m : Module) (what : ExportDesc) (i : ℕ) → module_at parts p ≡ Some m → kind_of_export what ≡ k → index_of_export what ≡ i →
+    imported_as parts (record { part = p; what = what }) ≡ option_and_then {T = ℕ} {U = Site} (λ n. Some (record { part = p; import = n })) (slice_get (imports_of k m) i)
 imported_is parts k p m what i e a b =
-    ap (λ o. option_and_then {B = Site} {A = Module} o (λ m. option_and_then {B = Site} {A = ℕ} (slice_get (imports_of (kind_of_export what) m) (index_of_export what)) (λ n. Some (record { part = p; import = n })))) e
-    ∙ ap₂ (λ k i. option_and_then {B = Site} {A = ℕ} (slice_get (imports_of k m) i) (λ n. Some (record { part = p; import = n }))) a b
+    ap (λ o. option_and_then {T = Module} {U = Site} (λ m. option_and_then {T = ℕ} {U = Site} (λ n. Some (record { part = p; import = n })) (slice_get (imports_of (kind_of_export what) m) (index_of_export what))) o) e
+    ∙ ap₂ (λ k i. option_and_then {T = ℕ} {U = Site} (λ n. Some (record { part = p; import = n })) (slice_get (imports_of k m) i)) a b
 
-no_import : (parts : List Part) (p n : ℕ) (o : Option ℕ) → option_and_then {B = Site} {A = ℕ} o (λ n. Some (record { part = p; import = n })) ≡ None → o ≡ None
+no_import : (parts : List Part) (p n : ℕ) (o : Option ℕ) → option_and_then {T = ℕ} {U = Site} (λ n. Some (record { part = p; import = n })) o ≡ None → o ≡ None
 no_import parts p n None h = refl
 no_import parts p n (Some x) h = cc
 
 -- ---- places ----
 
-pub count_is : (parts : List Part) (k : Kind) (p : ℕ) (m : Module) → module_at parts p ≡ Some m → imported_count parts p k ≡ length (imports_of k m)
+pub count_is : (parts : List Part) (k : Space) (p : ℕ) (m : Module) → module_at parts p ≡ Some m → imported_count parts p k ≡ length (imports_of k m)
 count_is parts k p m e = ap (λ o. unwrap_or (option_and_then (λ m. Some (length (imports_of k m))) o) 0) e
 
 -- what a part defines
-defined_place : (parts : List Part) (names : List (Option Text)) (k : Kind) (e : Entity) (m : Module) (i : ℕ) (y : Ty) → module_at parts e.part ≡ Some m → index_of_export e.what ≡ i → slice_get (imports_of k m) i ≡ None → type_at m k i ≡ Some y →
+defined_place : (parts : List Part) (names : List (Option Text)) (k : Space) (e : Entity) (m : Module) (i : ℕ) (y : Ty) → module_at parts e.part ≡ Some m → index_of_export e.what ≡ i → slice_get (imports_of k m) i ≡ None → type_at m k i ≡ Some y →
     type_at (merged parts names) k (place_of_end parts k (Defined e)) ≡ Some y
 unfolding place_of_end
 defined_place parts names k e m i y is at none t =
@@ -88,7 +90,7 @@ unfolding stays
 stays_is parts u w = ap (is_outside u) w.linked ∙ site_same u
 
 -- an import that stays is among those of its kind
-staying_has : (parts : List Part) (k : Kind) (u : Site) (i : Import) → import_at parts u ≡ Some i → stays parts u ≡ true → has_kind k i ≡ true → Has (staying_of parts k) u
+staying_has : (parts : List Part) (k : Space) (u : Site) (i : Import) → import_at parts u ≡ Some i → stays parts u ≡ true → has_kind k i ≡ true → Has (staying_of parts k) u
 unfolding staying_of staying
 staying_has parts k u i at remains e =
     let n = in_sites parts u i at in
@@ -96,7 +98,7 @@ staying_has parts k u i at remains e =
     is_kept (imports_kind parts k) (filter (stays parts) (sites parts)) a.0 u a.1 (ap (λ o. unwrap_or (option_and_then (λ i. Some (has_kind k i)) o) false) at ∙ e)
 
 -- and its place is there
-pub staying_place : (parts : List Part) (k : Kind) (u : Site) (i : Import) → import_at parts u ≡ Some i → stays parts u ≡ true → has_kind k i ≡ true → slice_get (staying_of parts k) (place_of_end parts k (Outside u)) ≡ Some u
+pub staying_place : (parts : List Part) (k : Space) (u : Site) (i : Import) → import_at parts u ≡ Some i → stays parts u ≡ true → has_kind k i ≡ true → slice_get (staying_of parts k) (place_of_end parts k (Outside u)) ≡ Some u
 unfolding place_of_end
 staying_place parts k u i at remains e =
     let n = staying_has parts k u i at remains e in
@@ -105,28 +107,28 @@ staying_place parts k u i at remains e =
     let is : first_place (same_site u) (staying_of parts k) 0 ≡ Some f.at = f.is ∙ ap Some from_0 in
     ap (λ o. slice_get (staying_of parts k) (unwrap_or o 0)) is ∙ f.got ∙ ap Some (sym (site_is u f.item f.yes))
 
-pub outside_place : (parts : List Part) (k : Kind) (u : Site) (w : Stays parts u) → has_kind k w.import ≡ true → slice_get (staying_of parts k) (place_of_end parts k (Outside u)) ≡ Some u
+pub outside_place : (parts : List Part) (k : Space) (u : Site) (w : Stays parts u) → has_kind k w.import ≡ true → slice_get (staying_of parts k) (place_of_end parts k (Outside u)) ≡ Some u
 outside_place parts k u w e = staying_place parts k u w.import w.at (stays_is parts u w) e
 
 -- the kind of an import is that of the type that it asks for
 pub kind_there : (parts : List Part) (u : Site) (i : Import) (x : External) (m : Module) → module_at parts u.part ≡ Some m → slice_get m.imports u.import ≡ Some i → asked_at parts u ≡ Some x → asked m i.desc ≡ Some x
 kind_there parts u i x m is at h = sym (ap (λ o. option_and_then (λ m. option_and_then (λ i. asked m i.desc) (slice_get m.imports u.import)) o) is ∙ ap (λ o. option_and_then (λ i. asked m i.desc) o) at) ∙ h
 
-pub has_its_kind : (k : Kind) (i : Import) → kind_of_import i.desc ≡ k → has_kind k i ≡ true
-has_its_kind k i e = ap (same_kind k) e ∙ kind_same k
+pub has_its_kind : (k : Space) (i : Import) → kind_of_import i.desc ≡ k → has_kind k i ≡ true
+has_its_kind k i e = ap (same_space k) e ∙ kind_same k
 
 pub some_there : {A : Type 0} (o : Option A) → is_some o ≡ true → (x : A) × (o ≡ Some x)
 some_there None h = absurd (let k = h in cc)
 some_there (Some x) h = (x, refl)
 
 -- the kind of the import at which another ends
-pub outside_kind : (parts : List Part) (k : Kind) (s : Site) (y : Ty) → kind_of y ≡ k → (w : EndsOutside parts s y) → has_kind k w.stays.import ≡ true
+pub outside_kind : (parts : List Part) (k : Space) (s : Site) (y : Ty) → kind_of y ≡ k → (w : EndsOutside parts s y) → has_kind k w.stays.import ≡ true
 outside_kind parts k s y q w =
     let m = import_site parts w.to w.stays.import w.stays.at in
     let x = kind_there parts w.to w.stays.import w.thing m.0 m.1 m.2 w.asks in
     has_its_kind k w.stays.import (sym (asked_kind m.0 w.stays.import.desc w.thing x) ∙ ap kind_of w.typed ∙ q)
 
-outside_type : (parts : List Part) (names : List (Option Text)) (k : Kind) (s : Site) (y : Ty) → kind_of y ≡ k → (w : EndsOutside parts s y) → type_at (merged parts names) k (place_of_end parts k (Outside w.to)) ≡ Some y
+outside_type : (parts : List Part) (names : List (Option Text)) (k : Space) (s : Site) (y : Ty) → kind_of y ≡ k → (w : EndsOutside parts s y) → type_at (merged parts names) k (place_of_end parts k (Outside w.to)) ≡ Some y
 outside_type parts names k s y q w =
     let m = import_site parts w.to w.stays.import w.stays.at in
     let x = kind_there parts w.to w.stays.import w.thing m.0 m.1 m.2 w.asks in
@@ -136,12 +138,12 @@ outside_type parts names k s y q w =
     ∙ ap Some w.typed
 
 -- the entity with which an import ends, as an entry of its kind
-pub record IsOwn (parts : List Part) (k : Kind) (e : Entity) (m : Module) (y : Ty) : Type 0 where
+pub record IsOwn (parts : List Part) (k : Space) (e : Entity) (m : Module) (y : Ty) : Type 0 where
   pub kind : kind_of_export e.what ≡ k
   pub own : slice_get (imports_of k m) (index_of_export e.what) ≡ None
   pub typed : type_at m k (index_of_export e.what) ≡ Some y
 
-pub inside_own : (parts : List Part) (k : Kind) (s : Site) (y : Ty) → kind_of y ≡ k → (w : EndsInside parts s y) → IsOwn parts k w.entity w.of y
+pub inside_own : (parts : List Part) (k : Space) (s : Site) (y : Ty) → kind_of y ≡ k → (w : EndsInside parts s y) → IsOwn parts k w.entity w.of y
 inside_own parts k s y q w =
     let kind : kind_of_export w.entity.what ≡ k = sym (external_kind w.of w.entity.what w.thing w.is) ∙ ap kind_of w.typed ∙ q in
     let n = index_of_export w.entity.what in
@@ -153,34 +155,34 @@ inside_own parts k s y q w =
       typed = external_type w.of k n w.thing (ap (external_of w.of) (sym what) ∙ w.is) ∙ ap Some w.typed;
     }
 
-inside_type : (parts : List Part) (names : List (Option Text)) (k : Kind) (s : Site) (y : Ty) → kind_of y ≡ k → (w : EndsInside parts s y) → type_at (merged parts names) k (place_of_end parts k (Defined w.entity)) ≡ Some y
+inside_type : (parts : List Part) (names : List (Option Text)) (k : Space) (s : Site) (y : Ty) → kind_of y ≡ k → (w : EndsInside parts s y) → type_at (merged parts names) k (place_of_end parts k (Defined w.entity)) ≡ Some y
 inside_type parts names k s y q w =
     let o = inside_own parts k s y q w in
     defined_place parts names k w.entity w.of (index_of_export w.entity.what) y w.is_part refl o.own o.typed
 
 -- ---- new indices ----
 
-abbrev pub entity_at : ℕ → Kind → ℕ → Entity
+abbrev pub entity_at : ℕ → Space → ℕ → Entity
 entity_at p k i = record { part = p; what = entry_of k i }
 
-pub index_is : (parts : List Part) (p : ℕ) (k : Kind) (i : ℕ) (e : End) → entry_end parts (entity_at p k i) ≡ Some e → new_index parts p k i ≡ place_of_end parts k e
+pub index_is : (parts : List Part) (p : ℕ) (k : Space) (i : ℕ) (e : End) → entry_end parts (entity_at p k i) ≡ Some e → new_index parts p k i ≡ place_of_end parts k e
 unfolding new_index
 index_is parts p k i e h = ap (λ o. unwrap_or (option_and_then (λ end. Some (place_of_end parts k end)) o) 0) h
 
-pub entry_import : (parts : List Part) (p : ℕ) (m : Module) (k : Kind) (i : ℕ) → module_at parts p ≡ Some m → imported_as parts (entity_at p k i) ≡ option_and_then {B = Site} {A = ℕ} (slice_get (imports_of k m) i) (λ n. Some (record { part = p; import = n }))
+pub entry_import : (parts : List Part) (p : ℕ) (m : Module) (k : Space) (i : ℕ) → module_at parts p ≡ Some m → imported_as parts (entity_at p k i) ≡ option_and_then {T = ℕ} {U = Site} (λ n. Some (record { part = p; import = n })) (slice_get (imports_of k m) i)
 entry_import parts p m k i is = imported_is parts k p m (entry_of k i) i is (kind_of_entry k i) (index_of_entry k i)
 
 abbrev pub site_at : ℕ → ℕ → Site
 site_at p n = record { part = p; import = n }
 
 -- an entry that is an import of linked parts
-pub record Joined (parts : List Part) (k : Kind) (p : ℕ) (m : Module) (n : ℕ) (y : Ty) : Type 0 where
+pub record Joined (parts : List Part) (k : Space) (p : ℕ) (m : Module) (n : ℕ) (y : Ty) : Type 0 where
   pub entry : IsImport k m n y
   pub at : import_at parts (site_at p n) ≡ Some entry.import
   pub kind : kind_of y ≡ k
   pub lands : Landed parts (site_at p n) y
 
-pub joined_entry : EndsArePaths → (parts : List Part) → AreLinked parts → (p : ℕ) (m : Module) (k : Kind) (i n : ℕ) (y : Ty) → module_at parts p ≡ Some m → slice_get (imports_of k m) i ≡ Some n → type_at m k i ≡ Some y → Joined parts k p m n y
+pub joined_entry : EndsArePaths → (parts : List Part) → AreLinked parts → (p : ℕ) (m : Module) (k : Space) (i n : ℕ) (y : Ty) → module_at parts p ≡ Some m → slice_get (imports_of k m) i ≡ Some n → type_at m k i ≡ Some y → Joined parts k p m n y
 joined_entry law parts links p m k i n y is e t =
     let r = import_entry k m i n y e t in
     let at : import_at parts (site_at p n) ≡ Some r.import = ap (λ o. option_and_then (λ m. slice_get m.imports n) o) is ∙ r.at in
@@ -195,19 +197,19 @@ joined_entry law parts links p m k i n y is e t =
       lands = subst (Landed parts (site_at p n)) same (landed law parts links (site_at p n) w);
     }
 
-pub entry_kept : EndsArePaths → (parts : List Part) (names : List (Option Text)) → AreLinked parts → (p : ℕ) (m : Module) (k : Kind) (i : ℕ) (y : Ty) → module_at parts p ≡ Some m → type_at m k i ≡ Some y → type_at (merged parts names) k (new_index parts p k i) ≡ Some y
+pub entry_kept : EndsArePaths → (parts : List Part) (names : List (Option Text)) → AreLinked parts → (p : ℕ) (m : Module) (k : Space) (i : ℕ) (y : Ty) → module_at parts p ≡ Some m → type_at m k i ≡ Some y → type_at (merged parts names) k (new_index parts p k i) ≡ Some y
 entry_kept law parts names links p m k i y is t = by (slice_get (imports_of k m) i) refl
   where
     lands : (n : ℕ) → slice_get (imports_of k m) i ≡ Some n → kind_of y ≡ k → Landed parts (site_at p n) y → type_at (merged parts names) k (new_index parts p k i) ≡ Some y
     lands n e q (inside w) =
-        ap (type_at (merged parts names) k) (index_is parts p k i (Defined w.entity) (ap (end_from parts (entity_at p k i)) (entry_import parts p m k i is ∙ ap (λ o. option_and_then {B = Site} {A = ℕ} o (λ n. Some (record { part = p; import = n }))) e) ∙ w.linked))
+        ap (type_at (merged parts names) k) (index_is parts p k i (Defined w.entity) (ap (end_from parts (entity_at p k i)) (entry_import parts p m k i is ∙ ap (λ o. option_and_then {T = ℕ} {U = Site} (λ n. Some (record { part = p; import = n })) o) e) ∙ w.linked))
         ∙ inside_type parts names k (site_at p n) y q w
     lands n e q (outside w) =
-        ap (type_at (merged parts names) k) (index_is parts p k i (Outside w.to) (ap (end_from parts (entity_at p k i)) (entry_import parts p m k i is ∙ ap (λ o. option_and_then {B = Site} {A = ℕ} o (λ n. Some (record { part = p; import = n }))) e) ∙ w.linked))
+        ap (type_at (merged parts names) k) (index_is parts p k i (Outside w.to) (ap (end_from parts (entity_at p k i)) (entry_import parts p m k i is ∙ ap (λ o. option_and_then {T = ℕ} {U = Site} (λ n. Some (record { part = p; import = n })) o) e) ∙ w.linked))
         ∙ outside_type parts names k (site_at p n) y q w
 
     by : (o : Option ℕ) → slice_get (imports_of k m) i ≡ o → type_at (merged parts names) k (new_index parts p k i) ≡ Some y
     by None e =
-        ap (type_at (merged parts names) k) (index_is parts p k i (Defined (entity_at p k i)) (ap (end_from parts (entity_at p k i)) (entry_import parts p m k i is ∙ ap (λ o. option_and_then {B = Site} {A = ℕ} o (λ n. Some (record { part = p; import = n }))) e)))
+        ap (type_at (merged parts names) k) (index_is parts p k i (Defined (entity_at p k i)) (ap (end_from parts (entity_at p k i)) (entry_import parts p m k i is ∙ ap (λ o. option_and_then {T = ℕ} {U = Site} (λ n. Some (record { part = p; import = n })) o) e)))
         ∙ defined_place parts names k (entity_at p k i) m i y is (index_of_entry k i) e t
     by (Some n) e = let j = joined_entry law parts links p m k i n y is e t in lands n e j.kind j.lands

@@ -1,5 +1,6 @@
 -- The imports of the merged module hold: their types are there, and the limits that they keep are limits.
 use Rattle.std.proofs.Common.{◌≡◌, ◌∙◌, ap, sym, subst, refl, ℕ, ◌<◌, ◌≤◌, List, [], ◌∷◌, length, Option, Some, None, Bool, true, false, cond, arith, option_and_then}
+use Rattle.wasm_tree.specs.declared.space.Space.TheVariants.{Memories}
 use Rattle.std.specs.Prelude.{slice_get, slice_index, max}
 use Rattle.std.proofs.lemmas.Bool.{ltb-false}
 use Rattle.wasm_tree.specs.declared.types.Limits.{Limits}
@@ -11,7 +12,7 @@ use Rattle.wasm_valid.specs.declared.kinds.ItemKind.TheVariants as kind
 use Rattle.wasm_valid.specs.Validity.{HoldsAt, ImportHolds, LimitsHold, MostIsAtLeast, MostIsAtMost}
 use Rattle.wasm_meaning.specs.State.{Text}
 use Rattle.wasm_meaning.specs.Laws.{EndsArePaths}
-use Rattle.wasm_meaning.specs.Linking.{Part, Site, Memories, kind_of_import, module_at, import_at, sites, is_outside, linked_end, limits_of, consed, demands, least, met, met_limits}
+use Rattle.wasm_meaning.specs.Linking.{Part, Site, kind_of_import, module_at, import_at, sites, is_outside, linked_end, limits_of, consed, demands, least, met, met_limits}
 use Rattle.merge_terms.specs.declared.faults.LinkFault.{LinkFault}
 use Rattle.merge_terms.specs.declared.faults.LinkFault.TheVariants.{LimitsClash}
 use Rattle.merge_terms.specs.Faults.{asked_at, stays, kept_limits, is_under, clash_fault}
@@ -44,9 +45,9 @@ pub limits_hold : (parts : List Part) (s : Site) (i : Import) (l : Limits) → s
 unfolding clash_fault kept_limits
 limits_hold parts s i l remain at is h =
     let kept : kept_limits parts s ≡ Some (met_limits parts s) =
-    ap (λ b. cond b (option_and_then (λ i. option_and_then (λ l. Some (met_limits parts s)) (limits_of i.desc)) (import_at parts s)) None) remain ∙ ap (λ o. option_and_then (λ i. option_and_then (λ l. Some (met_limits parts s)) (limits_of i.desc)) o) at ∙ ap (λ o. option_and_then {B = Limits} {A = Limits} o (λ l. Some (met_limits parts s))) is in
+    ap (λ b. cond b (option_and_then (λ i. option_and_then (λ l. Some (met_limits parts s)) (limits_of i.desc)) (import_at parts s)) None) remain ∙ ap (λ o. option_and_then (λ i. option_and_then (λ l. Some (met_limits parts s)) (limits_of i.desc)) o) at ∙ ap (λ o. option_and_then {T = Limits} {U = Limits} (λ l. Some (met_limits parts s)) o) is in
     let fits : cond (is_under (met_limits parts s).max (met_limits parts s).min) (Some (LimitsClash s.part s.import)) None ≡ None =
-    sym (ap (λ o. option_and_then {B = LinkFault} {A = Limits} o (λ l. cond (is_under l.max l.min) (Some (LimitsClash s.part s.import)) None)) kept) ∙ h in
+    sym (ap (λ o. option_and_then {T = Limits} {U = LinkFault} (λ l. cond (is_under l.max l.min) (Some (LimitsClash s.part s.import)) None) o) kept) ∙ h in
     not_under (met_limits parts s).max (met_limits parts s).min (no_clash s (met_limits parts s) fits)
 
 -- no more pages than a memory has

@@ -1,10 +1,11 @@
 -- What it says that parts have no fault of linking: of each import, of the memories, and of each global that a part defines.
 use Rattle.std.proofs.Common.{◌≡◌, ◌∙◌, ap, ap₂, sym, subst, refl, ℕ, zero, suc, ◌+◌, ◌<◌, List, [], ◌∷◌, ◌++◌, length, Option, Some, None, Bool, true, false, cond, arith, option_and_then}
+use Rattle.wasm_tree.specs.declared.space.Space.TheVariants.{Globals}
 use Rattle.std.specs.Prelude.{slice_get}
 use Rattle.wasm_tree.specs.declared.module.Import.{Import}
 use Rattle.wasm_tree.specs.declared.module.GlobalDef.{GlobalDef}
 use Rattle.wasm_tree.specs.declared.module.Module.{Module}
-use Rattle.wasm_meaning.specs.Linking.{Part, Site, End, Defined, Outside, Globals, Read, module_at, import_at, imports_of, sites_in, sites_from, sites, end_of, read_of}
+use Rattle.wasm_meaning.specs.Linking.{Part, Site, End, Defined, Outside, Read, module_at, import_at, imports_of, sites_in, sites_from, sites, end_of, read_of}
 use Rattle.merge_terms.specs.declared.faults.LinkFault.{LinkFault}
 use Rattle.merge_terms.specs.declared.faults.LinkFault.TheVariants.{ImportMismatch}
 use Rattle.merge_terms.specs.Faults.{External, asked_at, found, suits, same_but_limits, meets_limits, is_suited, or_else, first_fault, end_fault, import_fault, clash_fault, memory_fault, OwnGlobal, own_globals_in, own_globals_from, own_globals, value_fault, global_fault, link_fault}

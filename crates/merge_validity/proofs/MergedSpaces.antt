@@ -1,5 +1,7 @@
 -- The index spaces of the merged module: an import that stays and an entity that a part defines stand there at their places, with their types.
 use Rattle.std.proofs.Common.{◌≡◌, ◌∙◌, ap, sym, subst, refl, ℕ, ◌+◌, List, [], ◌∷◌, ◌++◌, map, length, Option, Some, None, arith, option_and_then, unwrap_or}
+use Rattle.wasm_tree.specs.declared.space.Space.{Space}
+use Rattle.wasm_tree.specs.declared.space.Space.TheVariants.{Functions, Tables, Memories, Globals}
 use Rattle.std.specs.Prelude.{slice_get, slice_index}
 use Rattle.std.specs.List.{filter_map}
 use Rattle.std.proofs.lemmas.List.{length-map, map-append}
@@ -9,7 +11,7 @@ use Rattle.wasm_tree.specs.declared.module.ImportDesc.TheVariants as im
 use Rattle.wasm_tree.specs.declared.module.Module.{Module}
 use Rattle.wasm_meaning.specs.State.{Text}
 use Rattle.wasm_meaning.specs.World.{defined_count, defined_before}
-use Rattle.wasm_meaning.specs.Linking.{Part, Site, Kind, Functions, Tables, Memories, Globals, has_kind, module_at, import_at}
+use Rattle.wasm_meaning.specs.Linking.{Part, Site, has_kind, module_at, import_at}
 use Rattle.index_remap.specs.Renumbered.{new_func}
 use Rattle.merge_terms.specs.Merged.{merged, merged_types, map_of, merged_import, merged_desc, merged_global, staying, staying_of, imports_kind, defined_funcs, start_calls, starts, by_part}
 use Rattle.merge_validity.proofs.Lists.{is_some, then_is, front, behind, map_at, chosen_at, as_many, chosen_twice}
@@ -28,20 +30,20 @@ unfolding merged
 imports_are parts names = refl
 
 -- an entry as it stands in the merged module
-abbrev pub moved : List Part → (k : Kind) → ℕ → Module → Entry k → Entry k
+abbrev pub moved : List Part → (k : Space) → ℕ → Module → Entry k → Entry k
 moved parts Functions p m ty = slice_index (map_of parts p m).types ty
 moved parts Tables p m t = t
 moved parts Memories p m l = l
 moved parts Globals p m t = t
 
 -- the function that calls several starts
-abbrev pub extra : List Part → (k : Kind) → List (Entry k)
+abbrev pub extra : List Part → (k : Space) → List (Entry k)
 extra parts Functions = map (λ f. f.ty) (start_calls parts (starts parts))
 extra parts Tables = []
 extra parts Memories = []
 extra parts Globals = []
 
-abbrev pub moved_own : List Part → (k : Kind) → ℕ → Module → List (Entry k)
+abbrev pub moved_own : List Part → (k : Space) → ℕ → Module → List (Entry k)
 moved_own parts k p m = map (moved parts k p m) (own k m)
 
 no_more : {A : Type 0} (xs : List A) → xs ≡ xs ++ []
@@ -61,7 +63,7 @@ own_globals parts =
     ∙ by_part_same (λ p m. map (λ g. g.ty) (map (merged_global parts p) m.globals)) (moved_own parts Globals) (λ p m. map_twice (λ g. g.ty) (merged_global parts p) m.globals ∙ sym (map_self (map (λ g. g.ty) m.globals))) 0 parts
     ∙ no_more (by_part (moved_own parts Globals) parts)
 
-pub own_is : (parts : List Part) (names : List (Option Text)) (k : Kind) → own k (merged parts names) ≡ by_part (moved_own parts k) parts ++ extra parts k
+pub own_is : (parts : List Part) (names : List (Option Text)) (k : Space) → own k (merged parts names) ≡ by_part (moved_own parts k) parts ++ extra parts k
 unfolding merged
 own_is parts names Functions = own_funcs parts
 own_is parts names Tables =
@@ -70,15 +72,15 @@ own_is parts names Memories =
     by_part_flat (λ m. m.mems) 0 parts ∙ by_part_same (λ p m. m.mems) (moved_own parts Memories) (λ p m. sym (map_self m.mems)) 0 parts ∙ no_more (by_part (moved_own parts Memories) parts)
 own_is parts names Globals = own_globals parts
 
-own_count : (parts : List Part) (k : Kind) (p : ℕ) (m : Module) → length (moved_own parts k p m) ≡ defined_count k m
+own_count : (parts : List Part) (k : Space) (p : ℕ) (m : Module) → length (moved_own parts k p m) ≡ defined_count k m
 own_count parts k p m = length-map (own k m) (moved parts k p m) ∙ own_many k m
 
-pub all_own : (parts : List Part) (k : Kind) → length (by_part (moved_own parts k) parts) ≡ defined_before k parts (length parts)
+pub all_own : (parts : List Part) (k : Space) → length (by_part (moved_own parts k) parts) ≡ defined_before k parts (length parts)
 all_own parts k = by_part_many (moved_own parts k) (defined_count k) (own_count parts k) 0 parts ∙ sym (defined_is k parts (length parts))
 
 -- ---- imports that stay ----
 
-desc_moved : (parts : List Part) (s : Site) (m : Module) (k : Kind) (d : ImportDesc) → is_some (of_desc k (merged_desc parts s m d)) ≡ is_some (of_desc k d)
+desc_moved : (parts : List Part) (s : Site) (m : Module) (k : Space) (d : ImportDesc) → is_some (of_desc k (merged_desc parts s m d)) ≡ is_some (of_desc k d)
 desc_moved parts s m Functions (im.Func t) = refl
 desc_moved parts s m Functions (im.Table t) = refl
 desc_moved parts s m Functions (im.Memory t) = refl
@@ -96,7 +98,7 @@ desc_moved parts s m Globals (im.Table t) = refl
 desc_moved parts s m Globals (im.Memory t) = refl
 desc_moved parts s m Globals (im.Global t) = refl
 
-import_moved : (parts : List Part) (k : Kind) (s : Site) → is_some (option_and_then (of_import k) (merged_import parts s)) ≡ imports_kind parts k s
+import_moved : (parts : List Part) (k : Space) (s : Site) → is_some (option_and_then (of_import k) (merged_import parts s)) ≡ imports_kind parts k s
 unfolding merged_import
 import_moved parts k s = by (module_at parts s.part)
   where
@@ -109,13 +111,13 @@ import_moved parts k s = by (module_at parts s.part)
     by None = refl
     by (Some m) = inner m (slice_get m.imports s.import)
 
-pub imported_many : (parts : List Part) (names : List (Option Text)) (k : Kind) → length (imported k (merged parts names)) ≡ length (staying_of parts k)
+pub imported_many : (parts : List Part) (names : List (Option Text)) (k : Space) → length (imported k (merged parts names)) ≡ length (staying_of parts k)
 unfolding staying_of
 imported_many parts names k =
     ap (λ z. length (filter_map (of_import k) z)) (imports_are parts names) ∙ ap length (chosen_twice (merged_import parts) (of_import k) (staying parts))
     ∙ as_many (imports_kind parts k) (λ s. option_and_then (of_import k) (merged_import parts s)) (staying parts) (import_moved parts k)
 
-imported_at : (parts : List Part) (names : List (Option Text)) (k : Kind) (n : ℕ) (s : Site) → slice_get (staying_of parts k) n ≡ Some s → slice_get (imported k (merged parts names)) n ≡ option_and_then (of_import k) (merged_import parts s)
+imported_at : (parts : List Part) (names : List (Option Text)) (k : Space) (n : ℕ) (s : Site) → slice_get (staying_of parts k) n ≡ Some s → slice_get (imported k (merged parts names)) n ≡ option_and_then (of_import k) (merged_import parts s)
 unfolding staying_of
 imported_at parts names k n s h =
     ap (λ z. slice_get (filter_map (of_import k) z) n) (imports_are parts names) ∙ ap (λ z. slice_get z n) (chosen_twice (merged_import parts) (of_import k) (staying parts))
@@ -134,11 +136,11 @@ import_is parts s m i e h = by (module_at parts s.part) e h
     by None e h = cc
     by (Some n) e h =
         let same : n ≡ m = cc in
-        subst (λ n. option_and_then {B = Import} {A = Import} (slice_get n.imports s.import) (λ i. Some (record i { desc = merged_desc parts s n i.desc })) ≡ Some (record i { desc = merged_desc parts s m i.desc })) (sym same) (inner (slice_get m.imports s.import) (subst (λ n. slice_get n.imports s.import ≡ Some i) same h))
+        subst (λ n. option_and_then {T = Import} {U = Import} (λ i. Some (record i { desc = merged_desc parts s n i.desc })) (slice_get n.imports s.import) ≡ Some (record i { desc = merged_desc parts s m i.desc })) (sym same) (inner (slice_get m.imports s.import) (subst (λ n. slice_get n.imports s.import ≡ Some i) same h))
 
 -- ---- types ----
 
-type_moved : (parts : List Part) (names : List (Option Text)) (k : Kind) (p : ℕ) (m : Module) (c : Entry k) (y : Ty) → module_at parts p ≡ Some m → type_of m k c ≡ Some y → type_of (merged parts names) k (moved parts k p m c) ≡ Some y
+type_moved : (parts : List Part) (names : List (Option Text)) (k : Space) (p : ℕ) (m : Module) (c : Entry k) (y : Ty) → module_at parts p ≡ Some m → type_of m k c ≡ Some y → type_of (merged parts names) k (moved parts k p m c) ≡ Some y
 type_moved parts names Functions p m c y e h =
     let t = then_is (slice_get m.types c) (λ t. Some (FuncTy t)) y h in
     ap (λ z. option_and_then (λ t. Some (FuncTy t)) (slice_get z (moved parts Functions p m c))) (types_are parts names) ∙ ap (λ o. option_and_then (λ t. Some (FuncTy t)) o) (type_stands parts p m c t.0 e t.1) ∙ t.2
@@ -146,12 +148,12 @@ type_moved parts names Tables p m c y e h = h
 type_moved parts names Memories p m c y e h = h
 type_moved parts names Globals p m c y e h = h
 
-record Stood (parts : List Part) (names : List (Option Text)) (k : Kind) (d : ImportDesc) (y : Ty) : Type 0 where
+record Stood (parts : List Part) (names : List (Option Text)) (k : Space) (d : ImportDesc) (y : Ty) : Type 0 where
   entry : Entry k
   is : of_desc k d ≡ Some entry
   typed : type_of (merged parts names) k entry ≡ Some y
 
-stood : (parts : List Part) (names : List (Option Text)) (k : Kind) (s : Site) (m : Module) (d : ImportDesc) (c : Entry k) (y : Ty) → module_at parts s.part ≡ Some m → of_desc k d ≡ Some c → type_of m k c ≡ Some y →
+stood : (parts : List Part) (names : List (Option Text)) (k : Space) (s : Site) (m : Module) (d : ImportDesc) (c : Entry k) (y : Ty) → module_at parts s.part ≡ Some m → of_desc k d ≡ Some c → type_of m k c ≡ Some y →
     Stood parts names k (merged_desc parts s m d) y
 stood parts names Functions s m (im.Func t) c y e is h =
     let same : t ≡ c = cc in record { entry = slice_index (map_of parts s.part m).types t; is = refl; typed = type_moved parts names Functions s.part m t y e (subst (λ z. type_of m Functions z ≡ Some y) (sym same) h) }
@@ -172,14 +174,14 @@ stood parts names Globals s m (im.Table t) c y e is h = absurd (let k = is in cc
 stood parts names Globals s m (im.Memory t) c y e is h = absurd (let k = is in cc)
 
 -- an import that stays has its type at its place
-pub staying_type : (parts : List Part) (names : List (Option Text)) (k : Kind) (n : ℕ) (s : Site) (m : Module) (i : Import) (c : Entry k) (y : Ty) → slice_get (staying_of parts k) n ≡ Some s → module_at parts s.part ≡ Some m →
+pub staying_type : (parts : List Part) (names : List (Option Text)) (k : Space) (n : ℕ) (s : Site) (m : Module) (i : Import) (c : Entry k) (y : Ty) → slice_get (staying_of parts k) n ≡ Some s → module_at parts s.part ≡ Some m →
     import_at parts s ≡ Some i → of_desc k i.desc ≡ Some c → type_of m k c ≡ Some y → type_at (merged parts names) k n ≡ Some y
 staying_type parts names k n s m i c y h e at is t =
     let r = stood parts names k s m i.desc c y e is t in
     let got : slice_get (imported k (merged parts names)) n ≡ Some r.entry = imported_at parts names k n s h ∙ ap (λ o. option_and_then (of_import k) o) (import_is parts s m i e at) ∙ r.is in
     ap (λ o. option_and_then (type_of (merged parts names) k) o) (front (imported k (merged parts names)) (own k (merged parts names)) n r.entry got) ∙ r.typed
 
-pub own_at : (parts : List Part) (names : List (Option Text)) (k : Kind) (q : ℕ) (m : Module) (j : ℕ) (c : Entry k) → module_at parts q ≡ Some m → slice_get (own k m) j ≡ Some c →
+pub own_at : (parts : List Part) (names : List (Option Text)) (k : Space) (q : ℕ) (m : Module) (j : ℕ) (c : Entry k) → module_at parts q ≡ Some m → slice_get (own k m) j ≡ Some c →
     slice_get (space k (merged parts names)) (length (staying_of parts k) + (defined_before k parts q + j)) ≡ Some (moved parts k q m c)
 own_at parts names k q m j c e h =
     let from_0 : 0 + q ≡ q = omega arith in
@@ -189,7 +191,7 @@ own_at parts names k q m j c e h =
     ap (λ z. slice_get (space k (merged parts names)) (z + (defined_before k parts q + j))) (sym (imported_many parts names k)) ∙ behind (imported k (merged parts names)) (own k (merged parts names)) (defined_before k parts q + j) ∙ at
 
 -- what a part defines has its type at its place
-pub own_type : (parts : List Part) (names : List (Option Text)) (k : Kind) (q : ℕ) (m : Module) (j : ℕ) (c : Entry k) (y : Ty) → module_at parts q ≡ Some m → slice_get (own k m) j ≡ Some c → type_of m k c ≡ Some y →
+pub own_type : (parts : List Part) (names : List (Option Text)) (k : Space) (q : ℕ) (m : Module) (j : ℕ) (c : Entry k) (y : Ty) → module_at parts q ≡ Some m → slice_get (own k m) j ≡ Some c → type_of m k c ≡ Some y →
     type_at (merged parts names) k (length (staying_of parts k) + (defined_before k parts q + j)) ≡ Some y
 own_type parts names k q m j c y e h t =
     ap (λ o. option_and_then (type_of (merged parts names) k) o) (own_at parts names k q m j c e h) ∙ type_moved parts names k q m c y e t

@@ -1,5 +1,8 @@
 -- The tests of sameness: what passes them is equal, and each passes with itself.
 use Rattle.std.proofs.Common.{◌≡◌, ◌∙◌, ap, ap₂, sym, refl, List, [], ◌∷◌, Bool, true, false, cond, nat_eq, eq-eqb, ◌&&◌}
+use Rattle.wasm_tree.specs.declared.space.Space.{Space}
+use Rattle.wasm_tree.specs.declared.space.Space.TheVariants.{Functions, Tables, Memories, Globals}
+use Rattle.wasm_tree.specs.Operands.{same_space}
 use Rattle.std.proofs.lemmas.Bool.{eqb-true}
 use Rattle.wasm_tree.specs.declared.types.RefType.{RefType}
 use Rattle.wasm_tree.specs.declared.types.RefType.TheVariants as reft
@@ -9,7 +12,7 @@ use Rattle.wasm_tree.specs.declared.types.FuncType.{FuncType}
 use Rattle.wasm_meaning.specs.State.{Text, Pair}
 use Rattle.wasm_meaning.specs.Values.{same_ref, same_type, same_types, same_func_type}
 use Rattle.wasm_meaning.specs.World.{same_bool}
-use Rattle.wasm_meaning.specs.Linking.{Site, Kind, Functions, Tables, Memories, Globals, same_text, same_pair, same_site, same_kind}
+use Rattle.wasm_meaning.specs.Linking.{Site, same_text, same_pair, same_site}
 
 pub both_are : (a b : Bool) → a && b ≡ true → (a ≡ true) × (b ≡ true)
 both_are true b h = (refl, h)
@@ -93,7 +96,7 @@ site_is s t h =
 pub site_same : (s : Site) → same_site s s ≡ true
 site_same s = cond_both (nat_eq s.part s.part) (nat_eq s.import s.import) (eq-eqb s.part s.part refl) (eq-eqb s.import s.import refl)
 
-pub kind_is : (k l : Kind) → same_kind k l ≡ true → k ≡ l
+pub kind_is : (k l : Space) → same_space k l ≡ true → k ≡ l
 kind_is Functions Functions h = refl
 kind_is Tables Tables h = refl
 kind_is Memories Memories h = refl
@@ -111,7 +114,7 @@ kind_is Globals Functions h = cc
 kind_is Globals Tables h = cc
 kind_is Globals Memories h = cc
 
-pub kind_same : (k : Kind) → same_kind k k ≡ true
+pub kind_same : (k : Space) → same_space k k ≡ true
 kind_same Functions = refl
 kind_same Tables = refl
 kind_same Memories = refl

@@ -1,5 +1,6 @@
 -- The start of the merged module: the start functions of the parts take and give nothing, and so does the function that calls several of them.
 use Rattle.std.proofs.Common.{◌≡◌, ◌∙◌, ap, ap₂, sym, subst, refl, ℕ, zero, suc, ◌+◌, ◌<◌, List, [], ◌∷◌, ◌++◌, map, length, Option, Some, None, arith}
+use Rattle.wasm_tree.specs.declared.space.Space.TheVariants.{Functions}
 use Rattle.std.specs.Prelude.{slice_get, option_and_then}
 use Rattle.wasm_tree.specs.declared.types.FuncType.{FuncType}
 use Rattle.wasm_tree.specs.declared.module.Func.{Func}
@@ -12,7 +13,7 @@ use Rattle.wasm_valid.specs.Validity.{IsValid, HoldsAt, start_count, body_contex
 use Rattle.wasm_meaning.specs.State.{Text}
 use Rattle.wasm_meaning.specs.Laws.{EndsArePaths}
 use Rattle.wasm_meaning.specs.World.{defined_before}
-use Rattle.wasm_meaning.specs.Linking.{Part, Functions, module_at}
+use Rattle.wasm_meaning.specs.Linking.{Part, module_at}
 use Rattle.wasm_meaning.specs.Linking as linking
 use Rattle.remap_typing.specs.ButForReferences.{any_named, HoldsButForReferences}
 use Rattle.merge_terms.specs.Merged.{merged, staying_of, new_index, by_part, start_of, starts, start_among, start_calls, nullary, place_of_type, defined_funcs}

@@ -1,10 +1,12 @@
 -- Where the imports of linked parts end, and where the types and entities of the parts stand in the merged module.
 use Rattle.std.specs.Prelude.{◌≡◌, ℕ, ◌+◌, ◌-◌, ◌<◌, ◌≤◌, List, length, Option, Some, None, true, slice_index, slice_get}
+use Rattle.wasm_tree.specs.declared.space.Space.{Space}
+use Rattle.wasm_tree.specs.declared.space.Space.TheVariants.{Functions, Tables, Memories, Globals}
 use Rattle.wasm_tree.specs.declared.types.FuncType.{FuncType}
 use Rattle.wasm_tree.specs.declared.module.Import.{Import}
 use Rattle.wasm_tree.specs.declared.module.Module.{Module}
 use Rattle.wasm_meaning.specs.State.{Text}
-use Rattle.wasm_meaning.specs.Linking.{Part, Site, End, Defined, Outside, Entity, Kind, Functions, Tables, Memories, Globals, module_at, import_at, imports_of, kind_of_import, kind_of_export, index_of_export, pair_of, sites, end_of, linked_end}
+use Rattle.wasm_meaning.specs.Linking.{Part, Site, End, Defined, Outside, Entity, module_at, import_at, imports_of, kind_of_import, kind_of_export, index_of_export, pair_of, sites, end_of, linked_end}
 use Rattle.wasm_meaning.specs.Environment.{Owned}
 use Rattle.wasm_meaning.specs.World.{defined_count, defined_before, outside_thing}
 use Rattle.merge_terms.specs.Faults.{External, asked_at, external_of, same_but_limits, meets_limits, link_fault, stays}
@@ -74,19 +76,19 @@ SitesAreImports =
 -- what stays stands at its place among the imports of its kind
 abbrev pub StayingImportsHavePlaces : Type 0
 StayingImportsHavePlaces =
-    (parts : List Part) (s : Site) (i : Import) → import_at parts s ≡ Some i → stays parts s ≡ true → (k : Kind) → kind_of_import i.desc ≡ k → slice_get (staying_of parts k) (place_of_end parts k (Outside s)) ≡ Some s
+    (parts : List Part) (s : Site) (i : Import) → import_at parts s ≡ Some i → stays parts s ≡ true → (k : Space) → kind_of_import i.desc ≡ k → slice_get (staying_of parts k) (place_of_end parts k (Outside s)) ≡ Some s
 
 -- an index of a part's space becomes the place of its import's end, or of what the part defines
 abbrev pub NewIndicesArePlaces : Type 0
 NewIndicesArePlaces =
-    (parts : List Part) (p : ℕ) (m : Module) (k : Kind) (x : ℕ) → module_at parts p ≡ Some m →
+    (parts : List Part) (p : ℕ) (m : Module) (k : Space) (x : ℕ) → module_at parts p ≡ Some m →
     ((n : ℕ) (e : End) → slice_get (imports_of k m) x ≡ Some n → linked_end parts (record { part = p; import = n }) ≡ Some e → new_index parts p k x ≡ place_of_end parts k e)
     × (slice_get (imports_of k m) x ≡ None → new_index parts p k x ≡ place_of_end parts k (Defined (record { part = p; what = entry_of k x })))
 
 -- what a part defines comes after what stays, by part
 abbrev pub DefinedEntitiesHavePlaces : Type 0
 DefinedEntitiesHavePlaces =
-    (parts : List Part) (e : Entity) (m : Module) (k : Kind) → module_at parts e.part ≡ Some m →
+    (parts : List Part) (e : Entity) (m : Module) (k : Space) → module_at parts e.part ≡ Some m →
     place_of_end parts k (Defined e) ≡ length (staying_of parts k) + (defined_before k parts e.part + (index_of_export e.what - length (imports_of k m)))
 
 -- each type of a part stands where the part's map says
@@ -95,7 +97,7 @@ TypesHavePlaces =
     (parts : List Part) (p : ℕ) (m : Module) (x : ℕ) (t : FuncType) → module_at parts p ≡ Some m → slice_get m.types x ≡ Some t → slice_get (merged_types parts) (slice_index (map_of parts p m).types x) ≡ Some t
 
 -- what the merged module defines besides what the parts define
-abbrev pub added_count : List Part → Kind → ℕ
+abbrev pub added_count : List Part → Space → ℕ
 added_count parts Functions = length (start_calls parts (starts parts))
 added_count parts Tables = 0
 added_count parts Memories = 0
@@ -103,4 +105,4 @@ added_count parts Globals = 0
 
 abbrev pub MergedModulesDefineAll : Type 0
 MergedModulesDefineAll =
-    (parts : List Part) (names : List (Option Text)) (k : Kind) → defined_count k (merged parts names) ≡ defined_before k parts (length parts) + added_count parts k
+    (parts : List Part) (names : List (Option Text)) (k : Space) → defined_count k (merged parts names) ≡ defined_before k parts (length parts) + added_count parts k

@@ -1,5 +1,7 @@
 -- The functions that a part defines, and those that they become in the merged module.
 use Rattle.std.proofs.Common.{◌≡◌, ℕ, ◌<◌, List, [], length, Some, true, sym, ap, ◌∙◌, arith, option_and_then, slice_get}
+use Rattle.wasm_tree.specs.declared.space.Space.{Space}
+use Rattle.wasm_tree.specs.declared.space.Space.TheVariants.{Functions, Tables, Memories, Globals, ElementSegments, DataSegments}
 use Rattle.std.specs.Prelude.{slice_index}
 use Rattle.std.proofs.lemmas.Bool.{ltb-true}
 use Rattle.wasm_tree.specs.declared.instr.Instr.{Instr}
@@ -13,7 +15,7 @@ use Rattle.wasm_meaning.specs.World.{new_func}
 use Rattle.index_remap.specs.declared.remap.Remap.{Remap}
 use Rattle.index_remap.specs.Renumbered.{has, renumbered_all, fits_all, fits_func}
 use Rattle.index_remap.specs.Renumbered as renumbered
-use Rattle.index_remap.specs.Related.{Kind, Funcs, Tables, Mems, Globals, Elems, Datas, Pairing, OptRel, some, CodeRel, FuncRel, defined}
+use Rattle.index_remap.specs.Related.{Pairing, OptRel, some, CodeRel, FuncRel, defined}
 use Rattle.remap_typing.specs.Indices.{with_entry}
 use Rattle.permuted_worlds.specs.Named.{EntriesName}
 use Rattle.permuted_worlds.proofs.Places.{left_true, right_true, found, map_length, opt_at, names_of}
@@ -36,7 +38,7 @@ module _ (laws : Laws) (env : Environment) (parts : List Part) (p : ℕ) (m : Mo
   r = map_of parts p m
 
   -- an index and its entry name one address
-  space_names : (kind : Kind) (xs ys entries : List ℕ) → SpaceAgrees env parts kind xs ys entries → (x : ℕ) → has entries x ≡ true → OptRel (R.of kind) (slice_get xs x) (slice_get ys (slice_index entries x))
+  space_names : (kind : Space) (xs ys entries : List ℕ) → SpaceAgrees env parts kind xs ys entries → (x : ℕ) → has entries x ≡ true → OptRel (R.of kind) (slice_get xs x) (slice_get ys (slice_index entries x))
   space_names kind xs ys entries s x h = let a = s.each x (ltb-true _ _ h) in opt_at a.first a.second (some (shares env parts kind a.address a.shared))
 
   type_below : (x : ℕ) → has r.types x ≡ true → x < length m.types
@@ -45,12 +47,12 @@ module _ (laws : Laws) (env : Environment) (parts : List Part) (p : ℕ) (m : Mo
   entries_name : EntriesName R r (with_entry r) i j
   entries_name = record {
     types = λ x h. let t = found m.types x (type_below x h) in at_is i.types x t.0 (ap (λ ts. slice_get ts x) k.own_types ∙ t.1) ∙ sym (at_is j.types (slice_index r.types x) t.0 (k.types x t.0 t.1));
-    funcs = λ x h. names_of i.funcs j.funcs x _ (space_names Funcs i.funcs j.funcs r.funcs k.funcs x h);
+    funcs = λ x h. names_of i.funcs j.funcs x _ (space_names Functions i.funcs j.funcs r.funcs k.funcs x h);
     tables = λ x h. names_of i.tables j.tables x _ (space_names Tables i.tables j.tables r.tables k.tables x h);
-    mems = λ x h. names_of i.mems j.mems x _ (space_names Mems i.mems j.mems r.mems k.mems x h);
+    mems = λ x h. names_of i.mems j.mems x _ (space_names Memories i.mems j.mems r.mems k.mems x h);
     globals = λ x h. names_of i.globals j.globals x _ (space_names Globals i.globals j.globals r.globals k.globals x h);
-    elems = λ x h. names_of i.elems j.elems x _ (space_names Elems i.elems j.elems r.elems k.elems x h);
-    datas = λ x h. names_of i.datas j.datas x _ (space_names Datas i.datas j.datas r.datas k.datas x h);
+    elems = λ x h. names_of i.elems j.elems x _ (space_names ElementSegments i.elems j.elems r.elems k.elems x h);
+    datas = λ x h. names_of i.datas j.datas x _ (space_names DataSegments i.datas j.datas r.datas k.datas x h);
   }
 
   code_rel : (body : List Instr) → fits_all r body ≡ true → CodeRel R i j body (renumbered_all r body)

@@ -1,5 +1,6 @@
 -- What each part adds to the store, and what its definitions add where they stand in the merged module.
 use Rattle.std.proofs.Common.{◌≡◌, ℕ, suc, ◌+◌, ◌*◌, List, [], ◌∷◌, ◌++◌, map, length, Option, Some, true, false, refl, sym, ap, ap₂, subst, ◌∙◌, append_assoc, arith, option_and_then}
+use Rattle.wasm_tree.specs.declared.space.Space.TheVariants.{Functions, Tables, Memories, Globals, DataSegments, ElementSegments}
 use Rattle.std.specs.Prelude.{slice_get}
 use Rattle.std.specs.List.{flat_map}
 use Rattle.std.proofs.lemmas.List.{map-append}
@@ -20,9 +21,9 @@ use Rattle.wasm_valid.specs.Validity.{IsValid}
 use Rattle.wasm_meaning.specs.Outcomes.{copies}
 use Rattle.wasm_meaning.specs.State.{RefVal, Inst, Func, Table, Memory, Global, Elem, Data, Store}
 use Rattle.wasm_meaning.specs.Values.{null_of}
-use Rattle.wasm_meaning.specs.Linking.{Part, Functions, Tables, Memories, Globals, module_at}
+use Rattle.wasm_meaning.specs.Linking.{Part, module_at}
 use Rattle.wasm_meaning.specs.Environment.{Environment}
-use Rattle.wasm_meaning.specs.World.{all_there, defined_before, elems_before, datas_before, new_func, new_global, new_elem, elem_of, insts_from, part_store, joined_stores, stores_from}
+use Rattle.wasm_meaning.specs.World.{all_there, defined_before, new_func, new_global, new_elem, elem_of, insts_from, part_store, joined_stores, stores_from}
 use Rattle.index_remap.specs.declared.remap.Remap.{Remap}
 use Rattle.index_remap.specs.Renumbered.{all_true, fits_import, fits_func, fits_tree}
 use Rattle.index_remap.specs.Renumbered as renumbered
@@ -181,8 +182,8 @@ module _ (laws : Laws) (env : Environment) (parts : List Part) (mode : Mode) (ca
     pub table_count : length t.tables ≡ length s.tables + defined_before Tables ps (length ps)
     pub memory_count : length t.mems ≡ length s.mems + defined_before Memories ps (length ps)
     pub global_count : length t.globals ≡ length s.globals + defined_before Globals ps (length ps)
-    pub elem_count : length t.elems ≡ length s.elems + elems_before ps (length ps)
-    pub data_count : length t.datas ≡ length s.datas + datas_before ps (length ps)
+    pub elem_count : length t.elems ≡ length s.elems + defined_before ElementSegments ps (length ps)
+    pub data_count : length t.datas ≡ length s.datas + defined_before DataSegments ps (length ps)
 
   grown_none : (s : Store) (p : ℕ) → Grown s p [] s (record { funcs = []; globals = []; elems = [] })
   grown_none s p = record {

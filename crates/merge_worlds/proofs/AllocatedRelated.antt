@@ -1,12 +1,14 @@
 -- Stores that are alike correspond by the addresses that both worlds have.
 use Rattle.std.proofs.Common.{◌≡◌, ℕ, zero, suc, ◌<◌, List, [], ◌∷◌, ◌++◌, length, refl, sym, subst, arith}
+use Rattle.wasm_tree.specs.declared.space.Space.{Space}
+use Rattle.wasm_tree.specs.declared.space.Space.TheVariants.{Functions, Tables, Memories, Globals, ElementSegments, DataSegments}
 use Rattle.wasm_tree.specs.declared.types.FuncType.{FuncType}
 use Rattle.wasm_meaning.specs.Outcomes.{Outcome, Gives, bind, at}
 use Rattle.wasm_meaning.specs.State.{Func, Store}
 use Rattle.wasm_meaning.specs.Control.{type_of_func, own_of}
 use Rattle.wasm_meaning.specs.Linking.{Part}
 use Rattle.wasm_meaning.specs.Environment.{Environment, owned_of}
-use Rattle.index_remap.specs.Related.{Kind, Funcs, Tables, Mems, Globals, Elems, Datas, Pairing, BothRel, both, ListRel, nil, cons, FuncRel, defined, own, slot, StoreRel}
+use Rattle.index_remap.specs.Related.{Pairing, BothRel, both, ListRel, nil, cons, FuncRel, defined, own, slot, StoreRel}
 use Rattle.index_remap.specs.RelatedRuns.{KeyRel}
 use Rattle.permuted_worlds.specs.Owned.{OwnEntitiesCorrespond}
 use Rattle.merge_worlds.specs.Shared.{shared_count, sharing}
@@ -40,13 +42,13 @@ module _ (env : Environment) (parts : List Part) where
   own_same (both slot) = refl
 
   -- what stands at related addresses of related lists
-  in_lists : {A B : Type 0} {P : A → B → Type 0} (kind : Kind) (xs : List A) (ys more zs : List B) → ListRel P xs ys → zs ≡ ys ++ more → length xs ≡ shared_count env parts kind → (a b : ℕ) → R.of kind a b → BothRel P (at xs a) (at zs b)
+  in_lists : {A B : Type 0} {P : A → B → Type 0} (kind : Space) (xs : List A) (ys more zs : List B) → ListRel P xs ys → zs ≡ ys ++ more → length xs ≡ shared_count env parts kind → (a b : ℕ) → R.of kind a b → BothRel P (at xs a) (at zs b)
   in_lists {P = P} kind xs ys more zs r are count a b h =
       let s = is_same env parts kind a b h in
       let l = s.1 in
       subst (λ c. BothRel P (at xs a) (at zs c)) s.0 (subst (λ zs. BothRel P (at xs a) (at zs a)) (sym are) (both_in more r a (omega (arith, l, count))))
 
-  in_same : {A : Type 0} {P : A → A → Type 0} (kind : Kind) (xs zs : List A) → ((x : A) → P x x) → xs ≡ zs → length xs ≡ shared_count env parts kind → (a b : ℕ) → R.of kind a b → BothRel P (at xs a) (at zs b)
+  in_same : {A : Type 0} {P : A → A → Type 0} (kind : Space) (xs zs : List A) → ((x : A) → P x x) → xs ≡ zs → length xs ≡ shared_count env parts kind → (a b : ℕ) → R.of kind a b → BothRel P (at xs a) (at zs b)
   in_same {P = P} kind xs zs refl_is same count a b h =
       let s = is_same env parts kind a b h in
       let l = s.1 in
@@ -58,14 +60,14 @@ module _ (env : Environment) (parts : List Part) where
     owns = λ {a} {b} h. own_same (funcs a b h);
     funcs = λ {a} {b} h _. funcs a b h;
     tables = λ {a} {b} h. in_lists Tables s.tables z.tables [] z.tables k.tables (sym (nothing_more z.tables)) k.table_count a b h;
-    mems = λ {a} {b} h. in_same Mems s.mems z.mems (λ x. refl) k.mems k.memory_count a b h;
+    mems = λ {a} {b} h. in_same Memories s.mems z.mems (λ x. refl) k.mems k.memory_count a b h;
     globals = λ {a} {b} h. in_lists Globals s.globals z.globals [] z.globals k.globals (sym (nothing_more z.globals)) k.global_count a b h;
-    elems = λ {a} {b} h. in_lists Elems s.elems k.shared_elems k.more_elems z.elems k.elems k.all_elems k.elem_count a b h;
-    datas = λ {a} {b} h. in_same Datas s.datas z.datas (λ x. refl) k.datas k.data_count a b h;
+    elems = λ {a} {b} h. in_lists ElementSegments s.elems k.shared_elems k.more_elems z.elems k.elems k.all_elems k.elem_count a b h;
+    datas = λ {a} {b} h. in_same DataSegments s.datas z.datas (λ x. refl) k.datas k.data_count a b h;
   }
     where
-      funcs : (a b : ℕ) → R.of Funcs a b → BothRel (FuncRel R) (at s.funcs a) (at z.funcs b)
-      funcs a b h = in_lists Funcs s.funcs k.shared_funcs k.more_funcs z.funcs k.funcs k.all_funcs k.func_count a b h
+      funcs : (a b : ℕ) → R.of Functions a b → BothRel (FuncRel R) (at s.funcs a) (at z.funcs b)
+      funcs a b h = in_lists Functions s.funcs k.shared_funcs k.more_funcs z.funcs k.funcs k.all_funcs k.func_count a b h
 
 -- the environment's own entities by key
 pub owned_rel : OwnEntitiesCorrespond → (env : Environment) (parts : List Part) → ListRel (KeyRel (sharing env parts)) (owned_of env) (owned_of env)

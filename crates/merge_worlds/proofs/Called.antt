@@ -1,5 +1,6 @@
 -- The functions that the merged module starts, as they stand in its store: those of the parts, which take and give nothing, and the one that calls several.
 use Rattle.std.proofs.Common.{◌≡◌, ◌∙◌, ap, ap₂, sym, refl, ℕ, zero, suc, ◌+◌, ◌-◌, ◌<◌, ◌≤◌, List, [], ◌∷◌, ◌++◌, map, length, Option, Some, None, Bool, true, false, cond, arith, ◌⊎◌, inl, inr, ◌&&◌}
+use Rattle.wasm_tree.specs.declared.space.Space.TheVariants.{Functions}
 use Rattle.std.specs.Prelude.{slice_get, option_and_then}
 use Rattle.std.proofs.lemmas.Bool.{cases_lt}
 use Rattle.std.proofs.lemmas.List.{length-append}
@@ -22,10 +23,10 @@ use Rattle.wasm_meaning.specs.State.{Text, RefVal, Inst, Func, Code, Table, Memo
 use Rattle.wasm_meaning.specs.Values.{declared, same_func_type}
 use Rattle.wasm_meaning.specs.Control as control
 use Rattle.wasm_meaning.specs.Control.{type_at}
-use Rattle.wasm_meaning.specs.Linking.{Part, Functions, has_kind, imports_of, import_at, sites}
+use Rattle.wasm_meaning.specs.Linking.{Part, has_kind, imports_of, import_at, sites}
 use Rattle.wasm_meaning.specs.Environment.{Environment, Thing, FuncAt, TableAt, MemoryAt, GlobalAt, own_funcs, all_of}
 use Rattle.wasm_meaning.specs.World.{given, number_value, own_count, defined_count, defined_before, base, address_of, imported_thing, all_there, numbers, new_func, new_global, elem_of, part_store, own_store, stores_from, is_match, is_matched, Filled, Task, or_trapped, fill_table, copy_elem, run_elem_mode, run_elem, fill_memory, copy_data, run_data_mode, run_data, and_then, in_turn, segments, elem_tasks, data_tasks}
-use Rattle.index_remap.specs.Related.{Funcs, ListRel, nil, cons}
+use Rattle.index_remap.specs.Related.{ListRel, nil, cons}
 use Rattle.index_remap.specs.Renumbered as new
 use Rattle.export_names.specs.declared.mode.Mode.{Mode}
 use Rattle.merge_terms.specs.Merged.{merged, map_of, defined_funcs, start_calls, starts, nullary, place_of_type}
@@ -177,7 +178,7 @@ module _ (laws : SpaceLaws) (env : Environment) (t : Module) (j : Inst) (inst : 
   own_func_at n f ty h e =
       let s = has_funcs in
       let r = all_at (new_func j) t.funcs s.funcs s.are n f h in
-      let is : new_func j f ≡ Some (Code ty j (declared f.locals) f.body) = ap (λ o. option_and_then {B = Func} {A = FuncType} o (λ ty. Some (Code ty j (declared f.locals) f.body))) (ap (λ l. slice_get l f.ty) inst.types ∙ e) in
+      let is : new_func j f ≡ Some (Code ty j (declared f.locals) f.body) = ap (λ o. option_and_then {T = FuncType} {U = Func} (λ ty. Some (Code ty j (declared f.locals) f.body)) o) (ap (λ l. slice_get l f.ty) inst.types ∙ e) in
       ap (λ l. slice_get l (own_count Functions env + n)) s.all ∙ place_right (own_funcs env) s.funcs n ∙ r.2 ∙ sym r.1 ∙ is
 
   own_typed : (x n a : ℕ) (ty : FuncType) → x ≡ length (imports_of Functions t) + n → a ≡ own_count Functions env + n → type_of_func t x ≡ Some ty → type_at z a ≡ Gives ty
@@ -271,7 +272,7 @@ module _ (laws : SpaceLaws) (nothing : StartsTakeNothing) (env : Environment) (p
 
   -- where several parts have a start, the function that calls these comes last
   pub caller_code : IsInst env (one J) 0 J j → stores_from env (one J) (j ∷ []) (own_store env) 0 (one J) (j ∷ []) ≡ Some z → (f g : ℕ) (fs : List ℕ) → starts parts ≡ f ∷ g ∷ fs →
-      at z.funcs (shared_count env parts Funcs) ≡ Gives (Code nullary j [] (map Call (starts parts)))
+      at z.funcs (shared_count env parts Functions) ≡ Gives (Code nullary j [] (map Call (starts parts)))
   caller_code inst there f g fs e =
       let q = joined_keeps parts mode in
       let n = nothing parts (names_of parts mode) can.valid can.linked 0 f (ap (λ l. slice_get l 0) e) in
@@ -281,7 +282,7 @@ module _ (laws : SpaceLaws) (nothing : StartsTakeNothing) (env : Environment) (p
       let last : total ≡ length (defined_funcs parts) + 0 = omega (arith, many) in
       let func : slice_get J.funcs total ≡ Some (record { ty = place_of_type parts nullary; locals = []; body = map Call (f ∷ g ∷ fs) }) =
       ap₂ (λ l n. slice_get l n) (q.funcs ∙ merged_funcs_are parts (names_of parts mode)) last ∙ place_right (defined_funcs parts) (start_calls parts (starts parts)) 0 ∙ ap (λ l. slice_get (start_calls parts l) 0) e in
-      at_is z.funcs (shared_count env parts Funcs) _ (own_func_at laws env J j inst z there total _ nullary func type)
+      at_is z.funcs (shared_count env parts Functions) _ (own_func_at laws env J j inst z there total _ nullary func type)
       ∙ ap (λ l. Gives (Code nullary j [] (map Call l))) (sym e)
 
   -- the parts' starts take and give nothing

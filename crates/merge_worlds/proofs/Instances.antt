@@ -1,13 +1,15 @@
 -- The instances of the parts, and the instance of the merged module: all there or none, and each index of a part and its new one name one address.
 use Rattle.std.proofs.Common.{◌≡◌, ◌∙◌, ap, ap₂, sym, subst, refl, ℕ, ◌+◌, ◌-◌, ◌<◌, ◌≤◌, List, [], ◌∷◌, ◌++◌, map, length, Option, Some, None, arith, ◌⊎◌, inl, inr, option_and_then, slice_get}
+use Rattle.wasm_tree.specs.declared.space.Space.{Space}
+use Rattle.wasm_tree.specs.declared.space.Space.TheVariants.{Functions, Tables, Memories, Globals, ElementSegments, DataSegments}
 use Rattle.std.specs.Prelude.{slice_index}
 use Rattle.std.proofs.lemmas.Bool.{cases_lt}
 use Rattle.wasm_tree.specs.declared.module.Module.{Module}
 use Rattle.wasm_tree.specs.Spaces.{funcs_of, tables_of, memories_of, globals_of, imported_funcs, imported_tables, imported_memories, imported_globals}
 use Rattle.wasm_meaning.specs.State.{Inst}
-use Rattle.wasm_meaning.specs.Linking.{Part, Site, Outside, Kind, Functions, Tables, Memories, Globals, has_kind, module_at, imports_of, end_of}
+use Rattle.wasm_meaning.specs.Linking.{Part, Site, Outside, has_kind, module_at, imports_of, end_of}
 use Rattle.wasm_meaning.specs.Environment.{Environment}
-use Rattle.wasm_meaning.specs.World.{own_count, defined_count, base, thing_of, address_of, all_there, numbers, space, elems_before, datas_before, inst_of, insts_from}
+use Rattle.wasm_meaning.specs.World.{own_count, defined_count, base, thing_of, address_of, all_there, numbers, space, inst_of, insts_from, defined_before}
 use Rattle.index_remap.specs.Related.{OptRel, none, some}
 use Rattle.index_remap.specs.Related as to
 use Rattle.export_names.specs.declared.mode.Mode.{Mode}
@@ -32,7 +34,7 @@ use Rattle.merge_worlds.proofs.MergedAlone.{joined_keeps, staying_kind, names_of
 -- ---- the entries of a part's map ----
 
 -- what a map has for an index
-pub map_entry : (parts : List Part) (p : ℕ) (k : Kind) (entries : List ℕ) (size : ℕ) → entries ≡ map (new_index parts p k) (numbers 0 size) → (x : ℕ) → x < size → slice_index entries x ≡ new_index parts p k x
+pub map_entry : (parts : List Part) (p : ℕ) (k : Space) (entries : List ℕ) (size : ℕ) → entries ≡ map (new_index parts p k) (numbers 0 size) → (x : ℕ) → x < size → slice_index entries x ≡ new_index parts p k x
 map_entry parts p k entries size e x l =
     let from_0 : 0 + x ≡ x = omega arith in
     index_at entries x (new_index parts p k x)
@@ -54,11 +56,11 @@ map_globals : (parts : List Part) (p : ℕ) (m : Module) → (map_of parts p m).
 unfolding map_of
 map_globals parts p m = refl
 
-map_elems : (parts : List Part) (p : ℕ) (m : Module) → (map_of parts p m).elems ≡ numbers (elems_before parts p) (length m.elems)
+map_elems : (parts : List Part) (p : ℕ) (m : Module) → (map_of parts p m).elems ≡ numbers (defined_before ElementSegments parts p) (length m.elems)
 unfolding map_of
 map_elems parts p m = refl
 
-map_datas : (parts : List Part) (p : ℕ) (m : Module) → (map_of parts p m).datas ≡ numbers (datas_before parts p) (length m.datas)
+map_datas : (parts : List Part) (p : ℕ) (m : Module) → (map_of parts p m).datas ≡ numbers (defined_before DataSegments parts p) (length m.datas)
 unfolding map_of
 map_datas parts p m = refl
 
@@ -83,24 +85,24 @@ module _ (laws : SpaceLaws) (env : Environment) (parts : List Part) (linked : li
 
   -- ---- the addresses of a space ----
 
-  record PartSpace (k : Kind) (p : ℕ) (m : Module) (xs : List ℕ) : Type 0 where
+  record PartSpace (k : Space) (p : ℕ) (m : Module) (xs : List ℕ) : Type 0 where
     imported : List ℕ
     are : all_there (import_address env parts k p) (imports_of k m) ≡ Some imported
     all : xs ≡ imported ++ numbers (base env parts k p) (defined_count k m)
 
-  part_space : (k : Kind) (p : ℕ) (m : Module) (xs : List ℕ) → space env parts k p m ≡ Some xs → PartSpace k p m xs
+  part_space : (k : Space) (p : ℕ) (m : Module) (xs : List ℕ) → space env parts k p m ≡ Some xs → PartSpace k p m xs
   part_space k p m xs h =
       let r = then_is (all_there (import_address env parts k p) (imports_of k m)) _ xs h in
       let q = r.2 in
       let same : r.0 ++ numbers (base env parts k p) (defined_count k m) ≡ xs = cc in
       record { imported = r.0; are = r.1; all = sym same }
 
-  pub record MergedSpace (k : Kind) (ys : List ℕ) : Type 0 where
+  pub record MergedSpace (k : Space) (ys : List ℕ) : Type 0 where
     pub imported : List ℕ
     pub are : all_there (site_address env parts k) (staying_of parts k) ≡ Some imported
     pub all : ys ≡ imported ++ numbers (own_count k env) (total env parts k + added_count parts k)
 
-  pub merged_part : (k : Kind) (ys : List ℕ) → space env (one J) k 0 J ≡ Some ys → MergedSpace k ys
+  pub merged_part : (k : Space) (ys : List ℕ) → space env (one J) k 0 J ≡ Some ys → MergedSpace k ys
   merged_part k ys h =
       let r = then_is (all_there (site_address env parts k) (staying_of parts k)) _ ys (sym (merged_space laws env parts linked mode k) ∙ h) in
       let q = r.2 in
@@ -108,7 +110,7 @@ module _ (laws : SpaceLaws) (env : Environment) (parts : List Part) (linked : li
       record { imported = r.0; are = r.1; all = sym same }
 
   -- what an index of a part names, and what that stands for
-  stands_at : (k : Kind) (p : ℕ) (m : Module) (xs : List ℕ) → module_at parts p ≡ Some m → PartSpace k p m xs → (x : ℕ) → x < length (imports_of k m) + defined_count k m → (a : ℕ) × (slice_get xs x ≡ Some a) × Stands env parts k (Some a) (new_index parts p k x)
+  stands_at : (k : Space) (p : ℕ) (m : Module) (xs : List ℕ) → module_at parts p ≡ Some m → PartSpace k p m xs → (x : ℕ) → x < length (imports_of k m) + defined_count k m → (a : ℕ) × (slice_get xs x ≡ Some a) × Stands env parts k (Some a) (new_index parts p k x)
   stands_at k p m xs is s x l = go (cases_lt x (length (imports_of k m)))
     where
       go : (x < length (imports_of k m)) ⊎ (length (imports_of k m) ≤ x) → (a : ℕ) × (slice_get xs x ≡ Some a) × Stands env parts k (Some a) (new_index parts p k x)
@@ -125,7 +127,7 @@ module _ (laws : SpaceLaws) (env : Environment) (parts : List Part) (linked : li
           (base env parts k p + j, ap₂ (λ l x. slice_get l x) s.all back ∙ place_right s.imported _ j ∙ place_numbers (base env parts k p) (defined_count k m) j lt, own_stands env parts laws linked k p m x j is at lt)
 
   -- the merged module's index names the same
-  names_same : (k : Kind) (ys : List ℕ) → MergedSpace k ys → (a index : ℕ) → Stands env parts k (Some a) index → (slice_get ys index ≡ Some a) × (a < shared_count env parts (kind_in k))
+  names_same : (k : Space) (ys : List ℕ) → MergedSpace k ys → (a index : ℕ) → Stands env parts k (Some a) index → (slice_get ys index ≡ Some a) × (a < shared_count env parts (kind_in k))
   names_same k ys s a index (own d l e i) =
       let many = all_length (site_address env parts k) (staying_of parts k) s.imported s.are in
       let same : a ≡ own_count k env + d = cc in
@@ -136,7 +138,7 @@ module _ (laws : SpaceLaws) (env : Environment) (parts : List Part) (linked : li
       let r = all_at (site_address env parts k) (staying_of parts k) s.imported s.are index u h in
       (ap (λ l. slice_get l index) s.all ∙ place_left s.imported _ index (within s.imported index r.0 r.2) ∙ r.2 ∙ sym r.1 ∙ sym e, site_low env parts laws.own k u a (sym e))
 
-  space_agrees : (k : Kind) (p : ℕ) (m : Module) (xs ys entries : List ℕ) (size : ℕ) → module_at parts p ≡ Some m → PartSpace k p m xs → MergedSpace k ys → entries ≡ map (new_index parts p k) (numbers 0 size) → size ≡ length (imports_of k m) + defined_count k m →
+  space_agrees : (k : Space) (p : ℕ) (m : Module) (xs ys entries : List ℕ) (size : ℕ) → module_at parts p ≡ Some m → PartSpace k p m xs → MergedSpace k ys → entries ≡ map (new_index parts p k) (numbers 0 size) → size ≡ length (imports_of k m) + defined_count k m →
       SpaceAgrees env parts (kind_in k) xs ys entries
   space_agrees k p m xs ys entries size is s t e n =
       let many = all_length (import_address env parts k p) (imports_of k m) s.imported s.are in
@@ -151,7 +153,7 @@ module _ (laws : SpaceLaws) (env : Environment) (parts : List Part) (linked : li
           record { address = r.0; first = r.1; second = ap (slice_get ys) (map_entry parts p k entries size e x l) ∙ q.0; shared = q.1 }
 
   -- segments
-  segments_agree : (k : to.Kind) (xs ys entries : List ℕ) (first count n : ℕ) → xs ≡ numbers first count → ys ≡ numbers 0 n → entries ≡ numbers first count → first + count ≤ shared_count env parts k → shared_count env parts k ≤ n → SpaceAgrees env parts k xs ys entries
+  segments_agree : (k : Space) (xs ys entries : List ℕ) (first count n : ℕ) → xs ≡ numbers first count → ys ≡ numbers 0 n → entries ≡ numbers first count → first + count ≤ shared_count env parts k → shared_count env parts k ≤ n → SpaceAgrees env parts k xs ys entries
   segments_agree k xs ys entries first count n e f g l h = record { size = ap length (e ∙ sym g); each = λ x low. let many : length entries ≡ count = ap length g ∙ numbers_length first count in each x (omega (arith, low, many)) }
     where
       each : (x : ℕ) → x < count → SameAddress env parts k xs ys entries x
@@ -165,24 +167,24 @@ module _ (laws : SpaceLaws) (env : Environment) (parts : List Part) (linked : li
             shared = omega (arith, low, l);
           }
 
-  joined_elems : shared_count env parts to.Elems ≤ length J.elems
+  joined_elems : shared_count env parts ElementSegments ≤ length J.elems
   joined_elems =
       let q = joined_keeps parts mode in
       let a = ap length q.elems ∙ append_length _ q.more in
       let b = elems_many parts (names_of parts mode) in
       omega (arith, a, b)
 
-  joined_datas : shared_count env parts to.Datas ≤ length J.datas
+  joined_datas : shared_count env parts DataSegments ≤ length J.datas
   joined_datas =
       let q = joined_keeps parts mode in
       let a = ap length q.datas in
       let b = datas_many parts (names_of parts mode) in
       omega (arith, a, b)
 
-  elems_low : (p : ℕ) (m : Module) → module_at parts p ≡ Some m → elems_before parts p + length m.elems ≤ elems_before parts (length parts)
+  elems_low : (p : ℕ) (m : Module) → module_at parts p ≡ Some m → defined_before ElementSegments parts p + length m.elems ≤ defined_before ElementSegments parts (length parts)
   elems_low p m is = let l = before_low (λ m. length m.elems) parts p m is in let a = elems_is parts p in let b = elems_is parts (length parts) in omega (arith, l, a, b)
 
-  datas_low : (p : ℕ) (m : Module) → module_at parts p ≡ Some m → datas_before parts p + length m.datas ≤ datas_before parts (length parts)
+  datas_low : (p : ℕ) (m : Module) → module_at parts p ≡ Some m → defined_before DataSegments parts p + length m.datas ≤ defined_before DataSegments parts (length parts)
   datas_low p m is = let l = before_low (λ m. length m.datas) parts p m is in let a = datas_is parts p in let b = datas_is parts (length parts) in omega (arith, l, a, b)
 
   -- ---- instances that are there ----
@@ -197,8 +199,8 @@ module _ (laws : SpaceLaws) (env : Environment) (parts : List Part) (linked : li
         tables = space_agrees Tables p m i.tables j.tables (map_of parts p m).tables (length (tables_of m)) is (part_space Tables p m i.tables a.tables) (merged_part Tables j.tables b.tables) (map_tables parts p m) (tables_size m);
         mems = space_agrees Memories p m i.mems j.mems (map_of parts p m).mems (length (memories_of m)) is (part_space Memories p m i.mems a.mems) (merged_part Memories j.mems b.mems) (map_mems parts p m) (mems_size m);
         globals = space_agrees Globals p m i.globals j.globals (map_of parts p m).globals (length (globals_of m)) is (part_space Globals p m i.globals a.globals) (merged_part Globals j.globals b.globals) (map_globals parts p m) (globals_size m);
-        elems = segments_agree to.Elems i.elems j.elems (map_of parts p m).elems (elems_before parts p) (length m.elems) (length J.elems) a.elems b.elems (map_elems parts p m) (elems_low p m is) joined_elems;
-        datas = segments_agree to.Datas i.datas j.datas (map_of parts p m).datas (datas_before parts p) (length m.datas) (length J.datas) a.datas b.datas (map_datas parts p m) (datas_low p m is) joined_datas;
+        elems = segments_agree ElementSegments i.elems j.elems (map_of parts p m).elems (defined_before ElementSegments parts p) (length m.elems) (length J.elems) a.elems b.elems (map_elems parts p m) (elems_low p m is) joined_elems;
+        datas = segments_agree DataSegments i.datas j.datas (map_of parts p m).datas (defined_before DataSegments parts p) (length m.datas) (length J.datas) a.datas b.datas (map_datas parts p m) (datas_low p m is) joined_datas;
       }
 
   both_there : (insts js : List Inst) → insts_from env parts 0 parts ≡ Some insts → insts_from env (one J) 0 (one J) ≡ Some js → InstancesAgree env parts insts js
@@ -220,39 +222,39 @@ module _ (laws : SpaceLaws) (env : Environment) (parts : List Part) (linked : li
   -- ---- all there or none ----
 
   -- the environment has what each import of a kind that stays asks for
-  abbrev Present : Kind → Type 0
+  abbrev Present : Space → Type 0
   Present k = (n : ℕ) (s : Site) → slice_get (staying_of parts k) n ≡ Some s → (a : ℕ) × (site_address env parts k s ≡ Some a)
 
-  merged_present : (k : Kind) (ys : List ℕ) → MergedSpace k ys → Present k
+  merged_present : (k : Space) (ys : List ℕ) → MergedSpace k ys → Present k
   merged_present k ys t n s h = let r = all_at (site_address env parts k) (staying_of parts k) t.imported t.are n s h in (r.0, r.1)
 
-  merged_there : (k : Kind) → Present k → (ys : List ℕ) × (space env (one J) k 0 J ≡ Some ys)
+  merged_there : (k : Space) → Present k → (ys : List ℕ) × (space env (one J) k 0 J ≡ Some ys)
   merged_there k present =
       let r = each_there (site_address env parts k) (staying_of parts k) present in
       (_, merged_space laws env parts linked mode k ∙ ap (λ o. option_and_then (λ l. Some (l ++ numbers (own_count k env) (total env parts k + added_count parts k))) o) r.are)
 
-  import_present : (k : Kind) → Present k → (o : Option ℕ) (index : ℕ) → Stands env parts k o index → (a : ℕ) × (o ≡ Some a)
+  import_present : (k : Space) → Present k → (o : Option ℕ) (index : ℕ) → Stands env parts k o index → (a : ℕ) × (o ≡ Some a)
   import_present k present o index (own d l e i) = (own_count k env + d, e)
   import_present k present o index (stays u h e) = let r = present index u h in (r.0, e ∙ r.1)
 
-  part_there : (k : Kind) → Present k → (p : ℕ) (m : Module) → module_at parts p ≡ Some m → (xs : List ℕ) × (space env parts k p m ≡ Some xs)
+  part_there : (k : Space) → Present k → (p : ℕ) (m : Module) → module_at parts p ≡ Some m → (xs : List ℕ) × (space env parts k p m ≡ Some xs)
   part_there k present p m is =
       let r = each_there (import_address env parts k p) (imports_of k m) (λ x n h. import_present k present (import_address env parts k p n) (new_index parts p k x) (import_stands env parts laws linked k p m x n is h)) in
       (_, ap (λ o. option_and_then (λ l. Some (l ++ numbers (base env parts k p) (defined_count k m))) o) r.are)
 
   -- an import that stays is one of its part
-  part_present : (k : Kind) (p : ℕ) (m : Module) (xs : List ℕ) → PartSpace k p m xs → (s : Site) → s.part ≡ p → end_of parts s ≡ Some (Outside s) → (x : ℕ) → slice_get (imports_of k m) x ≡ Some s.import → (a : ℕ) × (site_address env parts k s ≡ Some a)
+  part_present : (k : Space) (p : ℕ) (m : Module) (xs : List ℕ) → PartSpace k p m xs → (s : Site) → s.part ≡ p → end_of parts s ≡ Some (Outside s) → (x : ℕ) → slice_get (imports_of k m) x ≡ Some s.import → (a : ℕ) × (site_address env parts k s ≡ Some a)
   part_present k p m xs t s e own_end x h =
       let r = all_at (import_address env parts k p) (imports_of k m) t.imported t.are x s.import h in
       (r.0, sym (ap (λ p. import_address env parts k p s.import) (sym e) ∙ ap (λ o. option_and_then (address_of k) (option_and_then (thing_of env parts) o)) own_end) ∙ r.1)
 
-  space_in : (k : Kind) (p : ℕ) (m : Module) (i : Inst) → IsInst env parts p m i → (xs : List ℕ) × PartSpace k p m xs
+  space_in : (k : Space) (p : ℕ) (m : Module) (i : Inst) → IsInst env parts p m i → (xs : List ℕ) × PartSpace k p m xs
   space_in Functions p m i a = (i.funcs, part_space Functions p m i.funcs a.funcs)
   space_in Tables p m i a = (i.tables, part_space Tables p m i.tables a.tables)
   space_in Memories p m i a = (i.mems, part_space Memories p m i.mems a.mems)
   space_in Globals p m i a = (i.globals, part_space Globals p m i.globals a.globals)
 
-  parts_present : (insts : List Inst) → insts_from env parts 0 parts ≡ Some insts → (k : Kind) → Present k
+  parts_present : (insts : List Inst) → insts_from env parts 0 parts ≡ Some insts → (k : Space) → Present k
   parts_present insts h k n s at =
       let w = staying_kind laws parts k n s at in
       let i = (insts_are env parts 0 parts insts h).each s.part w.0.of w.0.is_part in
@@ -262,16 +264,16 @@ module _ (laws : SpaceLaws) (env : Environment) (parts : List Part) (linked : li
       let import : 0 + s.import ≡ s.import = omega arith in
       part_present k s.part w.0.of t.0 t.1 s refl (laws.stays parts linked s w.0.import w.0.at w.0.remains).0 x.0 (x.1 ∙ ap Some import)
 
-  joined_there : ((k : Kind) → Present k) → (js : List Inst) × (insts_from env (one J) 0 (one J) ≡ Some js)
+  joined_there : ((k : Space) → Present k) → (js : List Inst) × (insts_from env (one J) 0 (one J) ≡ Some js)
   joined_there present =
       let f = merged_there Functions (present Functions) in
       let t = merged_there Tables (present Tables) in
       let m = merged_there Memories (present Memories) in
       let g = merged_there Globals (present Globals) in
       let i = inst_there env (one J) 0 J f.0 t.0 m.0 g.0 f.1 t.1 m.1 g.1 in
-      (i.0 ∷ [], ap (λ o. option_and_then {B = List Inst} {A = Inst} o (λ i. Some (i ∷ []))) i.1)
+      (i.0 ∷ [], ap (λ o. option_and_then {T = Inst} {U = List Inst} (λ i. Some (i ∷ [])) o) i.1)
 
-  all_parts_there : ((k : Kind) → Present k) → (insts : List Inst) × (insts_from env parts 0 parts ≡ Some insts)
+  all_parts_there : ((k : Space) → Present k) → (insts : List Inst) × (insts_from env parts 0 parts ≡ Some insts)
   all_parts_there present = insts_there env parts 0 parts (λ p m is.
       let from_0 : 0 + p ≡ p = omega arith in
       let f = part_there Functions (present Functions) p m is in
@@ -281,7 +283,7 @@ module _ (laws : SpaceLaws) (env : Environment) (parts : List Part) (linked : li
       let i = inst_there env parts p m f.0 t.0 s.0 g.0 f.1 t.1 s.1 g.1 in
       (i.0, ap (λ p. inst_of env parts p m) from_0 ∙ i.1))
 
-  joined_present : (js : List Inst) → insts_from env (one J) 0 (one J) ≡ Some js → (k : Kind) → Present k
+  joined_present : (js : List Inst) → insts_from env (one J) 0 (one J) ≡ Some js → (k : Space) → Present k
   joined_present js h k = by k
     where
       j : (i : Inst) × (inst_of env (one J) 0 J ≡ Some i)
@@ -290,7 +292,7 @@ module _ (laws : SpaceLaws) (env : Environment) (parts : List Part) (linked : li
       a : IsInst env (one J) 0 J j.0
       a = inst_is env (one J) 0 J j.0 j.1
 
-      by : (k : Kind) → Present k
+      by : (k : Space) → Present k
       by Functions = merged_present Functions j.0.funcs (merged_part Functions j.0.funcs a.funcs)
       by Tables = merged_present Tables j.0.tables (merged_part Tables j.0.tables a.tables)
       by Memories = merged_present Memories j.0.mems (merged_part Memories j.0.mems a.mems)

@@ -1,11 +1,12 @@
 -- What an instance holds, and the instances of several parts one after the other.
 use Rattle.std.proofs.Common.{◌≡◌, ◌∙◌, ap, ap₂, sym, refl, ℕ, zero, suc, ◌+◌, List, [], ◌∷◌, length, Option, Some, arith, option_and_then, slice_get}
+use Rattle.wasm_tree.specs.declared.space.Space.TheVariants.{Functions, Tables, Memories, Globals, DataSegments, ElementSegments}
 use Rattle.wasm_tree.specs.declared.types.FuncType.{FuncType}
 use Rattle.wasm_tree.specs.declared.module.Module.{Module}
 use Rattle.wasm_meaning.specs.State.{Inst}
-use Rattle.wasm_meaning.specs.Linking.{Part, Functions, Tables, Memories, Globals, module_at}
+use Rattle.wasm_meaning.specs.Linking.{Part, module_at}
 use Rattle.wasm_meaning.specs.Environment.{Environment}
-use Rattle.wasm_meaning.specs.World.{space, numbers, elems_before, datas_before, inst_of, insts_from}
+use Rattle.wasm_meaning.specs.World.{space, numbers, inst_of, insts_from, defined_before}
 use Rattle.merge_validity.proofs.Lists.{then_is}
 
 -- ---- one ----
@@ -16,8 +17,8 @@ pub record IsInst (env : Environment) (parts : List Part) (p : ℕ) (m : Module)
   pub tables : space env parts Tables p m ≡ Some i.tables
   pub mems : space env parts Memories p m ≡ Some i.mems
   pub globals : space env parts Globals p m ≡ Some i.globals
-  pub elems : i.elems ≡ numbers (elems_before parts p) (length m.elems)
-  pub datas : i.datas ≡ numbers (datas_before parts p) (length m.datas)
+  pub elems : i.elems ≡ numbers (defined_before ElementSegments parts p) (length m.elems)
+  pub datas : i.datas ≡ numbers (defined_before DataSegments parts p) (length m.datas)
 
 abbrev made : List FuncType → (elems datas : List ℕ) → (funcs tables mems globals : Option (List ℕ)) → Option Inst
 made types elems datas f t m g =
@@ -30,7 +31,7 @@ inst_is env parts p m i h =
     let s = then_is (space env parts Memories p m) _ i t.2 in
     let g = then_is (space env parts Globals p m) _ i s.2 in
     let q = g.2 in
-    let same : record { types = m.types; funcs = f.0; tables = t.0; mems = s.0; globals = g.0; elems = numbers (elems_before parts p) (length m.elems); datas = numbers (datas_before parts p) (length m.datas) } ≡ i = cc in
+    let same : record { types = m.types; funcs = f.0; tables = t.0; mems = s.0; globals = g.0; elems = numbers (defined_before ElementSegments parts p) (length m.elems); datas = numbers (defined_before DataSegments parts p) (length m.datas) } ≡ i = cc in
     record {
       types = ap (λ (i : Inst). i.types) (sym same);
       funcs = f.1 ∙ ap (λ (i : Inst). Some i.funcs) same;
@@ -45,8 +46,8 @@ inst_is env parts p m i h =
 pub inst_there : (env : Environment) (parts : List Part) (p : ℕ) (m : Module) (fs ts ms gs : List ℕ) → space env parts Functions p m ≡ Some fs → space env parts Tables p m ≡ Some ts → space env parts Memories p m ≡ Some ms → space env parts Globals p m ≡ Some gs →
     (i : Inst) × (inst_of env parts p m ≡ Some i)
 inst_there env parts p m fs ts ms gs f t s g =
-    let elems = numbers (elems_before parts p) (length m.elems) in
-    let datas = numbers (datas_before parts p) (length m.datas) in (
+    let elems = numbers (defined_before ElementSegments parts p) (length m.elems) in
+    let datas = numbers (defined_before DataSegments parts p) (length m.datas) in (
       record { types = m.types; funcs = fs; tables = ts; mems = ms; globals = gs; elems = elems; datas = datas },
       ap₂ (λ a b. made m.types elems datas a b (space env parts Memories p m) (space env parts Globals p m)) f t ∙ ap₂ (made m.types elems datas (Some fs) (Some ts)) s g,
     )

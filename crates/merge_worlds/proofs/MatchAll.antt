@@ -1,12 +1,13 @@
 -- All imports of the parts match where all imports of the merged module do.
 use Rattle.std.proofs.Common.{◌≡◌, ℕ, zero, suc, ◌+◌, ◌-◌, ◌<◌, ◌≤◌, List, length, Option, Some, None, true, refl, sym, ap, ap₂, subst, ◌∙◌, arith, option_and_then, slice_get}
+use Rattle.wasm_tree.specs.declared.space.Space.{Space}
 use Rattle.std.specs.Prelude.{nat_eq}
 use Rattle.std.proofs.lemmas.Bool.{eqb-true, eq-eqb}
 use Rattle.wasm_tree.specs.declared.types.Limits.{Limits}
 use Rattle.wasm_tree.specs.declared.module.Import.{Import}
 use Rattle.wasm_tree.specs.declared.module.Module.{Module}
 use Rattle.wasm_meaning.specs.State.{Inst, Store}
-use Rattle.wasm_meaning.specs.Linking.{Part, Site, End, Defined, Outside, Kind, import_at, imports_of, kind_of_export, index_of_export, same_site, is_outside, sites, linked_end, limits_of, met_limits}
+use Rattle.wasm_meaning.specs.Linking.{Part, Site, End, Defined, Outside, import_at, imports_of, kind_of_export, index_of_export, same_site, is_outside, sites, linked_end, limits_of, met_limits}
 use Rattle.wasm_meaning.specs.Environment.{Environment, Thing, owned_of, all_of}
 use Rattle.wasm_meaning.specs.World.{base, defined_count, thing_at, outside_thing, thing_of, imported_thing, own_store, stores_from, is_matched}
 use Rattle.export_names.specs.declared.mode.Mode.{Mode}
@@ -159,8 +160,8 @@ module _ (ends_law : LinkedImportsEnd) (stays_law : StayingImportsEndThere) (sit
           let e = w.entity in
           let k = kind_of_export e.what in
           let a = agree.each e.part w.of w.is_part in
-          let follows : length (imports_of k w.of) ≤ index_of_export e.what = subst (λ (k : Kind). length (imports_of k w.of) ≤ index_of_export e.what) (sym w.kind) w.follows in
-          let within : index_of_export e.what < length (imports_of k w.of) + defined_count k w.of = subst (λ (k : Kind). index_of_export e.what < length (imports_of k w.of) + defined_count k w.of) (sym w.kind) w.within in
+          let follows : length (imports_of k w.of) ≤ index_of_export e.what = subst (λ (k : Space). length (imports_of k w.of) ≤ index_of_export e.what) (sym w.kind) w.follows in
+          let within : index_of_export e.what < length (imports_of k w.of) + defined_count k w.of = subst (λ (k : Space). index_of_export e.what < length (imports_of k w.of) + defined_count k w.of) (sym w.kind) w.within in
           let thing : imported_thing env parts t ≡ Some (thing_at k (base env parts k e.part + (index_of_export e.what - length (imports_of k w.of)))) =
           ap (λ o. option_and_then (thing_of env parts) o) w.end
           ∙ defined_at env parts e w.of w.is_part (omega (arith, follows, within)) in

@@ -1,5 +1,8 @@
 -- An entity that a part defines fits what is asked for, where its type and its limits do: what is allocated for it has its type, its least size and its maximum.
 use Rattle.std.proofs.Common.{◌≡◌, ℕ, zero, suc, ◌+◌, ◌-◌, ◌≤◌, List, [], ◌∷◌, ◌++◌, map, length, Option, Some, None, true, false, cond, refl, sym, ap, ap₂, ◌∙◌, arith, ◌&&◌}
+use Rattle.wasm_tree.specs.declared.space.Space.{Space}
+use Rattle.wasm_tree.specs.declared.space.Space.TheVariants.{Functions, Tables, Memories, Globals}
+use Rattle.wasm_tree.specs.Operands.{same_space}
 use Rattle.std.specs.Prelude.{slice_get, option_and_then}
 use Rattle.wasm_tree.specs.declared.types.FuncType.{FuncType}
 use Rattle.wasm_tree.specs.declared.types.Limits.{Limits}
@@ -16,7 +19,7 @@ use Rattle.wasm_meaning.specs.State.{Inst, Code, Global, Store}
 use Rattle.wasm_meaning.specs.Values.{same_ref, same_type, same_func_type, null_of, declared}
 use Rattle.wasm_meaning.specs.Control as control
 use Rattle.wasm_meaning.specs.Control.{type_at}
-use Rattle.wasm_meaning.specs.Linking.{Part, Kind, Functions, Tables, Memories, Globals, has_kind, same_kind, kind_of_import, kind_of_export, index_of_export, imports_of, module_at}
+use Rattle.wasm_meaning.specs.Linking.{Part, has_kind, kind_of_import, kind_of_export, index_of_export, imports_of, module_at}
 use Rattle.wasm_meaning.specs.Environment.{Environment, FuncAt, TableAt, MemoryAt, GlobalAt}
 use Rattle.wasm_meaning.specs.World.{given, same_bool, meets, base, thing_at, new_func, new_global, value_of, own_store, stores_from}
 use Rattle.permuted_worlds.proofs.Places.{place_map}
@@ -28,25 +31,25 @@ use Rattle.merge_worlds.proofs.MatchStores.{new_table, new_memory, adds, funcs_s
 
 -- ---- how many are imported ----
 
-func_kind : (d : ImportDesc) → is_some (func_of d) ≡ same_kind Functions (kind_of_import d)
+func_kind : (d : ImportDesc) → is_some (func_of d) ≡ same_space Functions (kind_of_import d)
 func_kind (im.Func x) = refl
 func_kind (im.Table x) = refl
 func_kind (im.Memory x) = refl
 func_kind (im.Global x) = refl
 
-table_kind : (d : ImportDesc) → is_some (table_of d) ≡ same_kind Tables (kind_of_import d)
+table_kind : (d : ImportDesc) → is_some (table_of d) ≡ same_space Tables (kind_of_import d)
 table_kind (im.Func x) = refl
 table_kind (im.Table x) = refl
 table_kind (im.Memory x) = refl
 table_kind (im.Global x) = refl
 
-memory_kind : (d : ImportDesc) → is_some (memory_of d) ≡ same_kind Memories (kind_of_import d)
+memory_kind : (d : ImportDesc) → is_some (memory_of d) ≡ same_space Memories (kind_of_import d)
 memory_kind (im.Func x) = refl
 memory_kind (im.Table x) = refl
 memory_kind (im.Memory x) = refl
 memory_kind (im.Global x) = refl
 
-global_kind : (d : ImportDesc) → is_some (global_of d) ≡ same_kind Globals (kind_of_import d)
+global_kind : (d : ImportDesc) → is_some (global_of d) ≡ same_space Globals (kind_of_import d)
 global_kind (im.Func x) = refl
 global_kind (im.Table x) = refl
 global_kind (im.Memory x) = refl
@@ -107,7 +110,7 @@ global_fits s a (MemoryOf u) g t e f h = absurd (let z = h in cc)
 -- ---- what a part defines ----
 
 module _ (env : Environment) (parts : List Part) (insts : List Inst) (s : Store) (made : stores_from env parts insts (own_store env) 0 parts insts ≡ Some s) (q : ℕ) (m : Module) (i : Inst) (is : module_at parts q ≡ Some m) (there : slice_get insts q ≡ Some i) (types : i.types ≡ m.types) where
-  abbrev address : Kind → ℕ → ℕ
+  abbrev address : Space → ℕ → ℕ
   address k n = base env parts k q + (n - length (imports_of k m))
 
   func_typed : (n : ℕ) (t : FuncType) → length (imports_of Functions m) ≤ n → type_of_func m n ≡ Some t → type_at s (address Functions n) ≡ Gives t

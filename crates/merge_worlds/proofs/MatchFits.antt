@@ -105,7 +105,7 @@ sized s _ = None
 pub fits_limits : (s : Store) (x : External) (th : Thing) (l : Limits) (size : ℕ) (most : Option ℕ) → fits s x th ≡ Some true → limits_in x ≡ Some l → sized s th ≡ Some (size, most) → meets size most l ≡ true
 fits_limits s (TableOf t) (TableAt a) l size most h e f = by (slice_get s.tables a) h f
   where
-    by : (o : Option Table) → option_and_then (λ u. Some (same_ref t.ty u.ty && meets (length u.slots) u.most t.limits)) o ≡ Some true → option_and_then {B = ℕ × Option ℕ} {A = Table} o (λ u. Some (length u.slots, u.most)) ≡ Some (size, most) → meets size most l ≡ true
+    by : (o : Option Table) → option_and_then (λ u. Some (same_ref t.ty u.ty && meets (length u.slots) u.most t.limits)) o ≡ Some true → option_and_then {T = Table} {U = ℕ × Option ℕ} (λ u. Some (length u.slots, u.most)) o ≡ Some (size, most) → meets size most l ≡ true
     by None h f = absurd (let k = h in cc)
     by (Some u) h f =
         let yes : (same_ref t.ty u.ty && meets (length u.slots) u.most t.limits) ≡ true = cc in
@@ -116,7 +116,7 @@ fits_limits s (TableOf t) (TableAt a) l size most h e f = by (slice_get s.tables
         ap₂ (λ n k. meets n k l) (sym n) (sym k) ∙ ap (meets (length u.slots) u.most) (sym same) ∙ (both_true (same_ref t.ty u.ty) (meets (length u.slots) u.most t.limits) yes).1
 fits_limits s (MemoryOf k) (MemoryAt a) l size most h e f = by (slice_get s.mems a) h f
   where
-    by : (o : Option Memory) → option_and_then (λ u. Some (meets u.pages u.most k)) o ≡ Some true → option_and_then {B = ℕ × Option ℕ} {A = Memory} o (λ u. Some (u.pages, u.most)) ≡ Some (size, most) → meets size most l ≡ true
+    by : (o : Option Memory) → option_and_then (λ u. Some (meets u.pages u.most k)) o ≡ Some true → option_and_then {T = Memory} {U = ℕ × Option ℕ} (λ u. Some (u.pages, u.most)) o ≡ Some (size, most) → meets size most l ≡ true
     by None h f = absurd (let k = h in cc)
     by (Some u) h f =
         let yes : meets u.pages u.most k ≡ true = cc in
@@ -141,14 +141,14 @@ kept_fits s (GlobalOf t) th l h met = h
 kept_fits s (TableOf t) (TableAt a) l h met = by (slice_get s.tables a) h met
   where
     by : (o : Option Table) → option_and_then (λ u. Some (same_ref t.ty u.ty && meets (length u.slots) u.most t.limits)) o ≡ Some true →
-        ((size : ℕ) (most : Option ℕ) → option_and_then {B = ℕ × Option ℕ} {A = Table} o (λ u. Some (length u.slots, u.most)) ≡ Some (size, most) → meets size most l ≡ true) → option_and_then (λ u. Some (same_ref t.ty u.ty && meets (length u.slots) u.most l)) o ≡ Some true
+        ((size : ℕ) (most : Option ℕ) → option_and_then {T = Table} {U = ℕ × Option ℕ} (λ u. Some (length u.slots, u.most)) o ≡ Some (size, most) → meets size most l ≡ true) → option_and_then (λ u. Some (same_ref t.ty u.ty && meets (length u.slots) u.most l)) o ≡ Some true
     by None h met = absurd (let k = h in cc)
     by (Some u) h met =
         let yes : (same_ref t.ty u.ty && meets (length u.slots) u.most t.limits) ≡ true = cc in
         ap Some (true_both (same_ref t.ty u.ty) (meets (length u.slots) u.most l) (both_true (same_ref t.ty u.ty) (meets (length u.slots) u.most t.limits) yes).0 (met (length u.slots) u.most refl))
 kept_fits s (MemoryOf k) (MemoryAt a) l h met = by (slice_get s.mems a) h met
   where
-    by : (o : Option Memory) → option_and_then (λ u. Some (meets u.pages u.most k)) o ≡ Some true → ((size : ℕ) (most : Option ℕ) → option_and_then {B = ℕ × Option ℕ} {A = Memory} o (λ u. Some (u.pages, u.most)) ≡ Some (size, most) → meets size most l ≡ true) →
+    by : (o : Option Memory) → option_and_then (λ u. Some (meets u.pages u.most k)) o ≡ Some true → ((size : ℕ) (most : Option ℕ) → option_and_then {T = Memory} {U = ℕ × Option ℕ} (λ u. Some (u.pages, u.most)) o ≡ Some (size, most) → meets size most l ≡ true) →
         option_and_then (λ u. Some (meets u.pages u.most l)) o ≡ Some true
     by None h met = absurd (let k = h in cc)
     by (Some u) h met = ap Some (met u.pages u.most refl)

@@ -1,12 +1,14 @@
 -- What a part adds to the store stands there at the addresses of the part.
 use Rattle.std.proofs.Common.{◌≡◌, ℕ, zero, suc, ◌+◌, ◌*◌, false, List, [], ◌∷◌, ◌++◌, map, length, Some, refl, sym, ap, ap₂, subst, ◌∙◌, arith, option_and_then, slice_get}
+use Rattle.wasm_tree.specs.declared.space.Space.{Space}
+use Rattle.wasm_tree.specs.declared.space.Space.TheVariants.{Functions, Tables, Memories, Globals}
 use Rattle.wasm_tree.specs.declared.types.Limits.{Limits}
 use Rattle.wasm_tree.specs.declared.types.TableType.{TableType}
 use Rattle.wasm_tree.specs.declared.module.Module.{Module}
 use Rattle.wasm_meaning.specs.Outcomes.{copies}
 use Rattle.wasm_meaning.specs.State.{Inst, Func, Table, Memory, Global, Elem, Store}
 use Rattle.wasm_meaning.specs.Values.{null_of}
-use Rattle.wasm_meaning.specs.Linking.{Part, Kind, Functions, Tables, Memories, Globals, module_at}
+use Rattle.wasm_meaning.specs.Linking.{Part, module_at}
 use Rattle.wasm_meaning.specs.Environment.{Environment}
 use Rattle.wasm_meaning.specs.World.{defined_count, defined_before, base, all_there, new_func, new_global, elem_of, part_store, joined_stores, own_store, stores_from}
 use Rattle.permuted_worlds.proofs.Places.{within, place_left, place_right, append_length, map_length, all_length}
@@ -55,7 +57,7 @@ module _ (env : Environment) (all : List Part) (insts : List Inst) where
   -- ---- what stands in the store ----
 
   -- those of one kind that a part adds come after all before them
-  module _ (k : Kind) {A : Type 0} (get : Store → List A) (joins : (s t : Store) → get (joined_stores s t) ≡ get s ++ get t) (many : (p : ℕ) (m : Module) (i : Inst) (t : Store) → part_store env all insts p m i ≡ Some t → length (get t) ≡ defined_count k m) where
+  module _ (k : Space) {A : Type 0} (get : Store → List A) (joins : (s t : Store) → get (joined_stores s t) ≡ get s ++ get t) (many : (p : ℕ) (m : Module) (i : Inst) (t : Store) → part_store env all insts p m i ≡ Some t → length (get t) ≡ defined_count k m) where
     keeps : (p : ℕ) (rest : List Part) (is : List Inst) (s z : Store) → stores_from env all insts s p rest is ≡ Some z → (n : ℕ) (x : A) → slice_get (get s) n ≡ Some x → slice_get (get z) n ≡ Some x
     keeps p [] is s z h n x e = let same : s ≡ z = cc in ap (λ s. slice_get (get s) n) (sym same) ∙ e
     keeps p (part ∷ rest) [] s z h n x e = let same : s ≡ z = cc in ap (λ s. slice_get (get s) n) (sym same) ∙ e

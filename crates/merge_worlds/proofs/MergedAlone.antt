@@ -1,5 +1,8 @@
 -- The merged module alone: its imports are those that stay, and stand for what these stand for in the parts' world; then comes what the parts define.
 use Rattle.std.proofs.Common.{◌≡◌, ◌∙◌, ap, ap₂, sym, refl, ℕ, ◌+◌, List, [], ◌∷◌, ◌++◌, map, length, Option, Some, None, true, arith, option_and_then, slice_get, unwrap_or}
+use Rattle.wasm_tree.specs.declared.space.Space.{Space}
+use Rattle.wasm_tree.specs.declared.space.Space.TheVariants.{Functions, Tables, Memories, Globals, DataSegments, ElementSegments}
+use Rattle.wasm_tree.specs.Operands.{same_space}
 use Rattle.std.specs.List.{filter, filter_map}
 use Rattle.wasm_tree.specs.declared.types.FuncType.{FuncType}
 use Rattle.wasm_tree.specs.declared.module.Import.{Import}
@@ -8,9 +11,9 @@ use Rattle.wasm_tree.specs.declared.module.ImportDesc.TheVariants as im
 use Rattle.wasm_tree.specs.declared.module.ElemSeg.{ElemSeg}
 use Rattle.wasm_tree.specs.declared.module.Module.{Module}
 use Rattle.wasm_meaning.specs.State.{Text, Pair}
-use Rattle.wasm_meaning.specs.Linking.{Part, Site, Kind, Functions, Tables, Memories, Globals, has_kind, same_kind, kind_of_import, pair_of, module_at, import_at, sites}
+use Rattle.wasm_meaning.specs.Linking.{Part, Site, has_kind, kind_of_import, pair_of, module_at, import_at, sites}
 use Rattle.wasm_meaning.specs.Environment.{Environment, FuncKey, OwnKey, owned_of, owned_at}
-use Rattle.wasm_meaning.specs.World.{given, own_count, defined_count, defined_before, address_of, own_key, own_key_of, outside_thing, all_there, numbers, space, elems_before, datas_before}
+use Rattle.wasm_meaning.specs.World.{given, own_count, defined_count, defined_before, address_of, own_key, own_key_of, outside_thing, all_there, numbers, space}
 use Rattle.index_remap.specs.References.{with_declared, declared_refs}
 use Rattle.export_names.specs.declared.mode.Mode.{Mode}
 use Rattle.export_names.specs.Names.{new_names}
@@ -58,7 +61,7 @@ pub joined_keeps : (parts : List Part) (mode : Mode) → Keeps (merged parts (na
 unfolding joined_module
 joined_keeps parts mode = keeps (merged parts (names_of parts mode)) (declared_refs (merged parts (names_of parts mode)))
 
-pub count_kept : {m n : Module} → Keeps m n → (k : Kind) → defined_count k n ≡ defined_count k m
+pub count_kept : {m n : Module} → Keeps m n → (k : Space) → defined_count k n ≡ defined_count k m
 count_kept q Functions = ap length q.funcs
 count_kept q Tables = ap length q.tables
 count_kept q Memories = ap length q.mems
@@ -72,11 +75,11 @@ merged_imports_are : (parts : List Part) (names : List (Option Text)) → (merge
 unfolding merged
 merged_imports_are parts names = refl
 
-pub elems_many : (parts : List Part) (names : List (Option Text)) → length (merged parts names).elems ≡ elems_before parts (length parts)
+pub elems_many : (parts : List Part) (names : List (Option Text)) → length (merged parts names).elems ≡ defined_before ElementSegments parts (length parts)
 unfolding merged
 elems_many parts names = by_part_many (λ p m. map (merged_elem parts p (map_of parts p m)) m.elems) (λ m. length m.elems) (λ p m. map_length (merged_elem parts p (map_of parts p m)) m.elems) 0 parts ∙ sym (elems_is parts (length parts))
 
-pub datas_many : (parts : List Part) (names : List (Option Text)) → length (merged parts names).datas ≡ datas_before parts (length parts)
+pub datas_many : (parts : List Part) (names : List (Option Text)) → length (merged parts names).datas ≡ defined_before DataSegments parts (length parts)
 unfolding merged
 datas_many parts names = by_part_many (λ p m. map (merged_data parts p (map_of parts p m)) m.datas) (λ m. length m.datas) (λ p m. map_length (merged_data parts p (map_of parts p m)) m.datas) 0 parts ∙ sym (datas_is parts (length parts))
 
@@ -99,7 +102,7 @@ staying_is laws parts n s h =
     record { import = i.0; at = i.1; remains = k.0; of = m.0; is_part = m.1; stands = m.2 }
 
 -- those of one kind
-pub staying_kind : SpaceLaws → (parts : List Part) (k : Kind) (n : ℕ) (s : Site) → slice_get (staying_of parts k) n ≡ Some s → (w : IsStaying parts s) × (has_kind k w.import ≡ true)
+pub staying_kind : SpaceLaws → (parts : List Part) (k : Space) (n : ℕ) (s : Site) → slice_get (staying_of parts k) n ≡ Some s → (w : IsStaying parts s) × (has_kind k w.import ≡ true)
 unfolding staying_of
 staying_kind laws parts k n s h =
     let r = kept_is (imports_kind parts k) (staying parts) n s (sym (place_get (filter (imports_kind parts k) (staying parts)) n) ∙ h) in
@@ -122,7 +125,7 @@ moved_kind parts s m (im.Global t) = refl
 moved_key : SpaceLaws → (parts : List Part) (s : Site) (m : Module) → module_at parts s.part ≡ Some m → (pair : Pair) (d : ImportDesc) (x : External) → asked m d ≡ Some x → key_in (merged_types parts) pair (merged_desc parts s m d) ≡ own_key_of m pair d
 moved_key laws parts s m is pair (im.Func ty) x h =
     let t = then_is (slice_get m.types ty) (λ t. Some (FuncOf t)) x h in
-    ap (λ o. option_and_then {B = OwnKey} {A = FuncType} o (λ t. Some (FuncKey pair t))) (laws.types parts s.part m ty t.0 is t.1 ∙ sym t.1)
+    ap (λ o. option_and_then {T = FuncType} {U = OwnKey} (λ t. Some (FuncKey pair t)) o) (laws.types parts s.part m ty t.0 is t.1 ∙ sym t.1)
 moved_key laws parts s m is pair (im.Table t) x h = refl
 moved_key laws parts s m is pair (im.Memory l) x h = refl
 moved_key laws parts s m is pair (im.Global t) x h = refl
@@ -144,7 +147,7 @@ module _ (laws : SpaceLaws) (env : Environment) (parts : List Part) (linked : li
       ∙ sym (ap (λ o. option_and_then (λ m. option_and_then (λ i. option_and_then (λ key. given (owned_at (owned_of env) key)) (own_key m i)) (import_at parts s)) o) w.is_part
       ∙ ap (λ o. option_and_then (λ i. option_and_then (λ key. given (owned_at (owned_of env) key)) (own_key w.of i)) o) w.at)
 
-  chosen_addresses : (k : Kind) → addresses env (merged_types parts) (filter_map (merged_import parts) (staying parts)) k ≡ all_there (site_address env parts k) (staying_of parts k)
+  chosen_addresses : (k : Space) → addresses env (merged_types parts) (filter_map (merged_import parts) (staying parts)) k ≡ all_there (site_address env parts k) (staying_of parts k)
   unfolding staying_of
   chosen_addresses k =
       let imports = filter_map (merged_import parts) (staying parts) in
@@ -159,12 +162,12 @@ module _ (laws : SpaceLaws) (env : Environment) (parts : List Part) (linked : li
           let w = staying_is laws parts n s h in (
             record w.import { desc = merged_desc parts s w.of w.import.desc },
             moved_import parts s w.of w.import w.is_part w.at,
-            ap (same_kind k) (moved_kind parts s w.of w.import.desc) ∙ sym (ap (λ o. unwrap_or (option_and_then (λ i. Some (has_kind k i)) o) false) w.at),
+            ap (same_space k) (moved_kind parts s w.of w.import.desc) ∙ sym (ap (λ o. unwrap_or (option_and_then (λ i. Some (has_kind k i)) o) false) w.at),
             λ q. ap (λ o. option_and_then (address_of k) o) (moved_thing s w),
           )
 
   -- its index spaces
-  pub merged_space : (mode : Mode) (k : Kind) →
+  pub merged_space : (mode : Mode) (k : Space) →
       space env (one (joined_module parts mode)) k 0 (joined_module parts mode) ≡ option_and_then (λ l. Some (l ++ numbers (own_count k env) (defined_before k parts (length parts) + added_count parts k))) (all_there (site_address env parts k) (staying_of parts k))
   merged_space mode k =
       let q = joined_keeps parts mode in

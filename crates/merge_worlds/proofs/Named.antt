@@ -1,5 +1,7 @@
 -- What the exports and starts of the parts name: the same addresses in both worlds.
 use Rattle.std.proofs.Common.{◌≡◌, ap, subst, refl, ℕ, suc, ◌+◌, List, [], ◌∷◌, map, Some, Bool, true, arith, option_and_then, slice_get}
+use Rattle.wasm_tree.specs.declared.space.Space.{Space}
+use Rattle.wasm_tree.specs.declared.space.Space.TheVariants.{Functions, Tables, Memories, Globals}
 use Rattle.std.specs.Prelude.{IsTrue, slice_index}
 use Rattle.std.proofs.lemmas.Bool.{ltb-true}
 use Rattle.wasm_tree.specs.declared.module.ExportDesc.{ExportDesc}
@@ -11,7 +13,7 @@ use Rattle.wasm_meaning.specs.Environment.{Environment, Thing, FuncAt, TableAt, 
 use Rattle.wasm_meaning.specs.World.{address_in}
 use Rattle.index_remap.specs.declared.remap.Remap.{Remap}
 use Rattle.index_remap.specs.Renumbered.{all_true, fits_tree, fits_import, fits_func, fits_global, fits_export, fits_export_desc, fits_start, new_export_desc}
-use Rattle.index_remap.specs.Related.{Funcs, Mems, OptRel, some, ListRel, nil, cons}
+use Rattle.index_remap.specs.Related.{OptRel, some, ListRel, nil, cons}
 use Rattle.index_remap.specs.Related as to
 use Rattle.index_remap.specs.RelatedRuns.{ThingRel, a_func, a_table, a_memory, a_global}
 use Rattle.index_remap.proofs.Rel.{append_rel}
@@ -49,13 +51,13 @@ tested_maps test f g (x ∷ xs) t h = cons (h x (left_true _ _ t)) (tested_maps 
 -- ---- exports ----
 
 module _ (env : Environment) (parts : List Part) (p : ℕ) (m : Module) (i j : Inst) (agrees : PartAgrees env parts p m i j) where
-  named : (k : to.Kind) (xs ys entries : List ℕ) (x : ℕ) (thing : ℕ → Thing) → ((a : ℕ) → (sharing env parts).of k a a → ThingRel (sharing env parts) (thing a) (thing a)) → SameAddress env parts k xs ys entries x →
+  named : (k : Space) (xs ys entries : List ℕ) (x : ℕ) (thing : ℕ → Thing) → ((a : ℕ) → (sharing env parts).of k a a → ThingRel (sharing env parts) (thing a) (thing a)) → SameAddress env parts k xs ys entries x →
       OptRel (ThingRel (sharing env parts)) (option_and_then (λ a. Some (thing a)) (slice_get xs x)) (option_and_then (λ a. Some (thing a)) (slice_get ys (slice_index entries x)))
   named k xs ys entries x thing rel s =
       opt_at (ap (λ o. option_and_then (λ a. Some (thing a)) o) s.first) (ap (λ o. option_and_then (λ a. Some (thing a)) o) s.second) (some (rel s.address (is_shared_at env parts k s.address s.shared)))
 
   pub export_named : (d : ExportDesc) → fits_export_desc (map_of parts p m) d ≡ true → OptRel (ThingRel (sharing env parts)) (address_in i d) (address_in j (new_export_desc (map_of parts p m) d))
-  export_named (ex.Func x) h = named Funcs i.funcs j.funcs (map_of parts p m).funcs x FuncAt (λ a r. a_func r) (agrees.funcs.each x (ltb-true _ _ h))
-  export_named (ex.Table x) h = named to.Tables i.tables j.tables (map_of parts p m).tables x TableAt (λ a r. a_table r) (agrees.tables.each x (ltb-true _ _ h))
-  export_named (ex.Memory x) h = named Mems i.mems j.mems (map_of parts p m).mems x MemoryAt (λ a r. a_memory r) (agrees.mems.each x (ltb-true _ _ h))
-  export_named (ex.Global x) h = named to.Globals i.globals j.globals (map_of parts p m).globals x GlobalAt (λ a r. a_global r) (agrees.globals.each x (ltb-true _ _ h))
+  export_named (ex.Func x) h = named Functions i.funcs j.funcs (map_of parts p m).funcs x FuncAt (λ a r. a_func r) (agrees.funcs.each x (ltb-true _ _ h))
+  export_named (ex.Table x) h = named Tables i.tables j.tables (map_of parts p m).tables x TableAt (λ a r. a_table r) (agrees.tables.each x (ltb-true _ _ h))
+  export_named (ex.Memory x) h = named Memories i.mems j.mems (map_of parts p m).mems x MemoryAt (λ a r. a_memory r) (agrees.mems.each x (ltb-true _ _ h))
+  export_named (ex.Global x) h = named Globals i.globals j.globals (map_of parts p m).globals x GlobalAt (λ a r. a_global r) (agrees.globals.each x (ltb-true _ _ h))

@@ -1,10 +1,11 @@
 -- Segments by part, one after the other, and the same segments of one module.
 use Rattle.std.proofs.Common.{◌≡◌, ℕ, zero, suc, ◌+◌, ◌<◌, List, [], ◌∷◌, ◌++◌, map, length, Some, false, refl, sym, ap, subst, ◌∙◌, arith, append_assoc, drop, slice_get}
+use Rattle.wasm_tree.specs.declared.space.Space.TheVariants.{DataSegments, ElementSegments}
 use Rattle.wasm_tree.specs.declared.module.Module.{Module}
 use Rattle.wasm_meaning.specs.State.{Inst, Store}
 use Rattle.wasm_meaning.specs.Linking.{Part, module_at}
 use Rattle.wasm_meaning.specs.Environment.{Environment}
-use Rattle.wasm_meaning.specs.World.{Filled, Task, tasks_in, elem_tasks, data_tasks, in_turn, elems_before, datas_before}
+use Rattle.wasm_meaning.specs.World.{Filled, Task, tasks_in, elem_tasks, data_tasks, in_turn, defined_before}
 use Rattle.merge_terms.specs.Merged.{by_part_from}
 use Rattle.merge_worlds.specs.Stores.{StoresAlike, FilledAlike}
 use Rattle.merge_worlds.proofs.SegmentLists.{place_past, past_past}
@@ -27,15 +28,15 @@ datas_by p [] is = refl
 datas_by p (part ∷ parts) [] = refl
 datas_by p (part ∷ parts) (i ∷ is) = ap (λ ts. tasks_in p i i.datas part.«module».datas ++ ts) (datas_by (suc p) parts is)
 
-pub elems_start : (parts : List Part) → elems_before parts 0 ≡ 0
+pub elems_start : (parts : List Part) → defined_before ElementSegments parts 0 ≡ 0
 elems_start [] = refl
 elems_start (part ∷ parts) = refl
 
-pub datas_start : (parts : List Part) → datas_before parts 0 ≡ 0
+pub datas_start : (parts : List Part) → defined_before DataSegments parts 0 ≡ 0
 datas_start [] = refl
 datas_start (part ∷ parts) = refl
 
-pub elems_next : (parts : List Part) (p : ℕ) (m : Module) → module_at parts p ≡ Some m → elems_before parts (suc p) ≡ elems_before parts p + length m.elems
+pub elems_next : (parts : List Part) (p : ℕ) (m : Module) → module_at parts p ≡ Some m → defined_before ElementSegments parts (suc p) ≡ defined_before ElementSegments parts p + length m.elems
 elems_next [] p m h = cc
 elems_next (part ∷ parts) zero m h =
     let same : part.«module» ≡ m = cc in
@@ -44,7 +45,7 @@ elems_next (part ∷ parts) zero m h =
     omega (arith, n, l)
 elems_next (part ∷ parts) (suc p) m h = let n = elems_next parts p m h in omega (arith, n)
 
-pub datas_next : (parts : List Part) (p : ℕ) (m : Module) → module_at parts p ≡ Some m → datas_before parts (suc p) ≡ datas_before parts p + length m.datas
+pub datas_next : (parts : List Part) (p : ℕ) (m : Module) → module_at parts p ≡ Some m → defined_before DataSegments parts (suc p) ≡ defined_before DataSegments parts p + length m.datas
 datas_next [] p m h = cc
 datas_next (part ∷ parts) zero m h =
     let same : part.«module» ≡ m = cc in

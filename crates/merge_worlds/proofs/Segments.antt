@@ -1,5 +1,6 @@
 -- The active segments of the parts and those of the merged module are copied to the same places of both stores.
 use Rattle.std.proofs.Common.{◌≡◌, ℕ, ◌+◌, ◌<◌, List, [], ◌∷◌, ◌++◌, map, length, Option, Some, true, false, refl, sym, ap, subst, ◌∙◌, arith, drop, option_and_then}
+use Rattle.wasm_tree.specs.declared.space.Space.TheVariants.{ElementSegments, DataSegments}
 use Rattle.std.specs.Prelude.{slice_get, slice_index}
 use Rattle.wasm_tree.specs.declared.types.ValType.{ValType}
 use Rattle.wasm_tree.specs.declared.types.ValType.TheVariants.{I32}
@@ -22,8 +23,8 @@ use Rattle.wasm_meaning.specs.State.{Val, Inst, Memory, Data, Store}
 use Rattle.wasm_meaning.specs.Values.{num_of}
 use Rattle.wasm_meaning.specs.Linking.{Part, module_at}
 use Rattle.wasm_meaning.specs.Environment.{Environment}
-use Rattle.wasm_meaning.specs.World.{Filled, given, numbers, value_of, number_value, tasks_in, elem_tasks, data_tasks, elems_before, datas_before, fill_table, fill_memory, copy_elem, copy_data, run_elem, run_elem_mode, run_data, run_data_mode, in_turn, segments}
-use Rattle.index_remap.specs.Related.{Pairing, Elems, OptRel, none, some, ElemRel, ValRel, number, reference}
+use Rattle.wasm_meaning.specs.World.{Filled, given, numbers, value_of, number_value, tasks_in, elem_tasks, data_tasks, fill_table, fill_memory, copy_elem, copy_data, run_elem, run_elem_mode, run_data, run_data_mode, in_turn, segments, defined_before}
+use Rattle.index_remap.specs.Related.{Pairing, OptRel, none, some, ElemRel, ValRel, number, reference}
 use Rattle.index_remap.specs.References.{declaring, with_declared, declared_refs}
 use Rattle.index_remap.proofs.Rel.{length_rel, overwrite_rel}
 use Rattle.permuted_worlds.specs.Alone.{one}
@@ -95,11 +96,11 @@ mems_many : (parts : List Part) (p : ℕ) (m : Module) → length (map_of parts 
 unfolding map_of
 mems_many parts p m = map_length _ (numbers 0 (length (memories_of m))) ∙ numbers_length 0 (length (memories_of m))
 
-elem_places : (parts : List Part) (p : ℕ) (m : Module) → (map_of parts p m).elems ≡ numbers (elems_before parts p) (length m.elems)
+elem_places : (parts : List Part) (p : ℕ) (m : Module) → (map_of parts p m).elems ≡ numbers (defined_before ElementSegments parts p) (length m.elems)
 unfolding map_of
 elem_places parts p m = refl
 
-data_places : (parts : List Part) (p : ℕ) (m : Module) → (map_of parts p m).datas ≡ numbers (datas_before parts p) (length m.datas)
+data_places : (parts : List Part) (p : ℕ) (m : Module) → (map_of parts p m).datas ≡ numbers (defined_before DataSegments parts p) (length m.datas)
 unfolding map_of
 data_places parts p m = refl
 
@@ -178,7 +179,7 @@ module _ (env : Environment) (parts : List Part) (mode : Mode) where
         let same : z.0 ≡ e = cc in
         subst (λ (e : ElemSeg). ElemModeHolds m e.ty e.mode) same z.3
 
-    elem_alike : {s z : Store} (p : ℕ) (m : Module) (i : Inst) (a : ℕ) (e : ElemSeg) → module_at parts p ≡ Some m → PartAgrees env parts p m i j → ElemModeHolds m e.ty e.mode → a < shared_count env parts Elems → StoresAlike env parts s z →
+    elem_alike : {s z : Store} (p : ℕ) (m : Module) (i : Inst) (a : ℕ) (e : ElemSeg) → module_at parts p ≡ Some m → PartAgrees env parts p m i j → ElemModeHolds m e.ty e.mode → a < shared_count env parts ElementSegments → StoresAlike env parts s z →
         FilledAlike env parts (run_elem env parts insts s (task p i a e)) (run_elem env M js z (task 0 j a (merged_elem parts p (map_of parts p m) e)))
     elem_alike {s} {z} p m i a e is k holds lt like = go e.mode holds
       where
@@ -196,16 +197,16 @@ module _ (env : Environment) (parts : List Part) (mode : Mode) where
         go elem.Declarative h = goes_on env parts like
 
     elems_do : (p : ℕ) (m : Module) → module_at parts p ≡ Some m →
-        PartDoes env parts (run_elem env parts insts) (run_elem env M js) insts j (λ m. m.elems) (λ i. i.elems) (λ p m. merged_elem parts p (map_of parts p m)) (elems_before parts) p m
+        PartDoes env parts (run_elem env parts insts) (run_elem env M js) insts j (λ m. m.elems) (λ i. i.elems) (λ p m. merged_elem parts p (map_of parts p m)) (defined_before ElementSegments parts) p m
     elems_do p m is =
         let i = agree.each p m is in
-        let size : length (map_of parts p m).elems ≡ length m.elems = entries_many (map_of parts p m).elems (elems_before parts p) (length m.elems) (elem_places parts p m) in
+        let size : length (map_of parts p m).elems ≡ length m.elems = entries_many (map_of parts p m).elems (defined_before ElementSegments parts p) (length m.elems) (elem_places parts p m) in
         record {
           inst = i.0;
           is = i.1;
           same = λ x l.
               let o = i.2.elems.each x (omega (arith, l, size)) in
-              record { address = o.address; first = o.first; second = ap (slice_get j.elems) (sym (entry_is (map_of parts p m).elems (elems_before parts p) (length m.elems) x (elem_places parts p m) l)) ∙ o.second };
+              record { address = o.address; first = o.first; second = ap (slice_get j.elems) (sym (entry_is (map_of parts p m).elems (defined_before ElementSegments parts p) (length m.elems) x (elem_places parts p m) l)) ∙ o.second };
           each = λ x a e h at s z like.
               let l = within m.elems x e (sym (place_get m.elems x) ∙ h) in
               let o = i.2.elems.each x (omega (arith, l, size)) in
@@ -227,9 +228,9 @@ module _ (env : Environment) (parts : List Part) (mode : Mode) where
     elems_alike s z like =
         let e = joined_elems parts mode in
         let zero_more : (q : ℕ) → q ≡ 0 + q = λ q. omega arith in
-        let all = by_parts env parts (run_elem env parts insts) (run_elem env M js) j insts (λ m. m.elems) (λ i. i.elems) (λ p m. merged_elem parts p (map_of parts p m)) (elems_before parts) (elems_next parts) e.more (declared_alike e.declares)
+        let all = by_parts env parts (run_elem env parts insts) (run_elem env M js) j insts (λ m. m.elems) (λ i. i.elems) (λ p m. merged_elem parts p (map_of parts p m)) (defined_before ElementSegments parts) (elems_next parts) e.more (declared_alike e.declares)
         elems_do 0 parts insts (λ q. ap (module_at parts) (zero_more q)) (λ q. ap (slice_get insts) (zero_more q)) s z like in
-        let first : tasks_in 0 j (drop (elems_before parts 0) j.elems) (by_part (λ p m. map (merged_elem parts p (map_of parts p m)) m.elems) parts ++ e.more) ≡ elem_tasks 0 M js =
+        let first : tasks_in 0 j (drop (defined_before ElementSegments parts 0) j.elems) (by_part (λ p m. map (merged_elem parts p (map_of parts p m)) m.elems) parts ++ e.more) ≡ elem_tasks 0 M js =
         ap (λ n. tasks_in 0 j (drop n j.elems) (by_part (λ p m. map (merged_elem parts p (map_of parts p m)) m.elems) parts ++ e.more)) (elems_start parts)
         ∙ ap (tasks_in 0 j j.elems) (sym e.are) ∙ nothing_after (tasks_in 0 j j.elems whole.elems) ∙ ap (elem_tasks 0 M) (sym agree.alone) in
         subst (λ ts. FilledAlike env parts (in_turn (run_elem env parts insts) s ts) (in_turn (run_elem env M js) z (elem_tasks 0 M js))) (sym (elems_by 0 parts insts))
@@ -260,25 +261,25 @@ module _ (env : Environment) (parts : List Part) (mode : Mode) where
         go data'.Passive h = goes_on env parts like
 
     datas_do : (p : ℕ) (m : Module) → module_at parts p ≡ Some m →
-        PartDoes env parts (run_data env parts insts) (run_data env M js) insts j (λ m. m.datas) (λ i. i.datas) (λ p m. merged_data parts p (map_of parts p m)) (datas_before parts) p m
+        PartDoes env parts (run_data env parts insts) (run_data env M js) insts j (λ m. m.datas) (λ i. i.datas) (λ p m. merged_data parts p (map_of parts p m)) (defined_before DataSegments parts) p m
     datas_do p m is =
         let i = agree.each p m is in
-        let size : length (map_of parts p m).datas ≡ length m.datas = entries_many (map_of parts p m).datas (datas_before parts p) (length m.datas) (data_places parts p m) in
+        let size : length (map_of parts p m).datas ≡ length m.datas = entries_many (map_of parts p m).datas (defined_before DataSegments parts p) (length m.datas) (data_places parts p m) in
         record {
           inst = i.0;
           is = i.1;
           same = λ x l.
               let o = i.2.datas.each x (omega (arith, l, size)) in
-              record { address = o.address; first = o.first; second = ap (slice_get j.datas) (sym (entry_is (map_of parts p m).datas (datas_before parts p) (length m.datas) x (data_places parts p m) l)) ∙ o.second };
+              record { address = o.address; first = o.first; second = ap (slice_get j.datas) (sym (entry_is (map_of parts p m).datas (defined_before DataSegments parts p) (length m.datas) x (data_places parts p m) l)) ∙ o.second };
           each = λ x a d h at s z like. data_alike p m i.0 a d is i.2 (data_holds p m x d is h) like;
         }
 
     datas_alike : (s z : Store) → StoresAlike env parts s z → FilledAlike env parts (in_turn (run_data env parts insts) s (data_tasks 0 parts insts)) (in_turn (run_data env M js) z (data_tasks 0 M js))
     datas_alike s z like =
         let zero_more : (q : ℕ) → q ≡ 0 + q = λ q. omega arith in
-        let all = by_parts env parts (run_data env parts insts) (run_data env M js) j insts (λ m. m.datas) (λ i. i.datas) (λ p m. merged_data parts p (map_of parts p m)) (datas_before parts) (datas_next parts) [] no_data
+        let all = by_parts env parts (run_data env parts insts) (run_data env M js) j insts (λ m. m.datas) (λ i. i.datas) (λ p m. merged_data parts p (map_of parts p m)) (defined_before DataSegments parts) (datas_next parts) [] no_data
         datas_do 0 parts insts (λ q. ap (module_at parts) (zero_more q)) (λ q. ap (slice_get insts) (zero_more q)) s z like in
-        let first : tasks_in 0 j (drop (datas_before parts 0) j.datas) (by_part (λ p m. map (merged_data parts p (map_of parts p m)) m.datas) parts ++ []) ≡ data_tasks 0 M js =
+        let first : tasks_in 0 j (drop (defined_before DataSegments parts 0) j.datas) (by_part (λ p m. map (merged_data parts p (map_of parts p m)) m.datas) parts ++ []) ≡ data_tasks 0 M js =
         ap (λ n. tasks_in 0 j (drop n j.datas) (by_part (λ p m. map (merged_data parts p (map_of parts p m)) m.datas) parts ++ [])) (datas_start parts)
         ∙ ap (tasks_in 0 j j.datas) (sym (nothing_after _) ∙ sym (joined_datas parts mode)) ∙ nothing_after (tasks_in 0 j j.datas whole.datas) ∙ ap (data_tasks 0 M) (sym agree.alone) in
         subst (λ ts. FilledAlike env parts (in_turn (run_data env parts insts) s ts) (in_turn (run_data env M js) z (data_tasks 0 M js))) (sym (datas_by 0 parts insts))

@@ -1,12 +1,14 @@
 -- For what each entry of a part's index space stands, in the parts' world and in the merged module: for what a part defines, with its number among all
 -- definitions, or for an import that stays.
 use Rattle.std.proofs.Common.{◌≡◌, ◌∙◌, sym, ap, ap₂, subst, refl, ℕ, zero, suc, ◌+◌, ◌-◌, ◌<◌, ◌≤◌, List, [], ◌∷◌, length, Option, Some, None, Bool, true, cond, false, arith, option_and_then, slice_get, ◌&&◌}
+use Rattle.wasm_tree.specs.declared.space.Space.{Space}
+use Rattle.wasm_tree.specs.declared.space.Space.TheVariants.{Functions, Tables, Memories, Globals}
 use Rattle.std.specs.Prelude.{nat_eq, nat_lt}
 use Rattle.std.proofs.lemmas.Bool.{ltb-true, lt-ltb, eq-eqb}
 use Rattle.wasm_tree.specs.declared.module.Import.{Import}
 use Rattle.wasm_tree.specs.declared.module.Module.{Module}
 use Rattle.wasm_meaning.specs.Outcomes.{Gives}
-use Rattle.wasm_meaning.specs.Linking.{Part, Site, Defined, Outside, Kind, Functions, Tables, Memories, Globals, has_kind, kind_of_import, kind_of_export, index_of_export, module_at, import_at, imports_of}
+use Rattle.wasm_meaning.specs.Linking.{Part, Site, Defined, Outside, has_kind, kind_of_import, kind_of_export, index_of_export, module_at, import_at, imports_of}
 use Rattle.wasm_meaning.specs.Environment.{Environment, OwnKey, Thing, Owned, owned_of, look_up, same_key}
 use Rattle.wasm_meaning.specs.World.{given, own_count, defined_count, defined_before, base, thing_at, address_of, own_key, outside_thing, defined_thing, thing_of, imported_thing}
 use Rattle.index_remap.specs.Related.{Pairing, OptRel, none, some, ListRel}
@@ -27,19 +29,19 @@ use Rattle.merge_worlds.proofs.SpaceLaws.{SpaceLaws}
 
 -- ---- kinds ----
 
-abbrev pub kind_in : Kind → to.Kind
-kind_in Functions = to.Funcs
-kind_in Tables = to.Tables
-kind_in Memories = to.Mems
-kind_in Globals = to.Globals
+abbrev pub kind_in : Space → Space
+kind_in Functions = Functions
+kind_in Tables = Tables
+kind_in Memories = Memories
+kind_in Globals = Globals
 
-entry_index : (k : Kind) (x : ℕ) → index_of_export (entry_of k x) ≡ x
+entry_index : (k : Space) (x : ℕ) → index_of_export (entry_of k x) ≡ x
 entry_index Functions x = refl
 entry_index Tables x = refl
 entry_index Memories x = refl
 entry_index Globals x = refl
 
-address_at : (k : Kind) (a : ℕ) → address_of k (thing_at k a) ≡ Some a
+address_at : (k : Space) (a : ℕ) → address_of k (thing_at k a) ≡ Some a
 address_at Functions a = refl
 address_at Tables a = refl
 address_at Memories a = refl
@@ -53,7 +55,7 @@ before_low count [] p m e = absurd (let k = e in cc)
 before_low count (part ∷ parts) zero m e = let same : part.«module» ≡ m = cc in let n = ap count same in omega (arith, n)
 before_low count (part ∷ parts) (suc p) m e = let l = before_low count parts p m e in omega (arith, l)
 
-pub defined_low : (k : Kind) (parts : List Part) (p : ℕ) (m : Module) → module_at parts p ≡ Some m → defined_before k parts p + defined_count k m ≤ defined_before k parts (length parts)
+pub defined_low : (k : Space) (parts : List Part) (p : ℕ) (m : Module) → module_at parts p ≡ Some m → defined_before k parts p + defined_count k m ≤ defined_before k parts (length parts)
 defined_low k parts p m e =
     let l = before_low (defined_count k) parts p m e in
     let a = defined_is k parts p in
@@ -62,12 +64,12 @@ defined_low k parts p m e =
 
 -- ---- imports of a part ----
 
-pub record IsImport (k : Kind) (m : Module) (n : ℕ) : Type 0 where
+pub record IsImport (k : Space) (m : Module) (n : ℕ) : Type 0 where
   pub import : Import
   pub at : slice_get m.imports n ≡ Some import
   pub kind : kind_of_import import.desc ≡ k
 
-pub import_there : (k : Kind) (m : Module) (x n : ℕ) → slice_get (imports_of k m) x ≡ Some n → IsImport k m n
+pub import_there : (k : Space) (m : Module) (x n : ℕ) → slice_get (imports_of k m) x ≡ Some n → IsImport k m n
 import_there k m x n h =
     let r = place_back (has_kind k) m.imports 0 x n h in
     let same : n ≡ r.0 = (let d = r.2 in omega (arith, d)) in
@@ -89,7 +91,7 @@ thing_self R xs r is x h =
     let k : KeyRel R (f.1, x) (f.1, x) = opt_self (place_rel r f.0) f.2 in
     k.thing
 
-address_rel : (R : Pairing) (k : Kind) {x y : Thing} → ThingRel R x y → OptRel (R.of (kind_in k)) (address_of k x) (address_of k y)
+address_rel : (R : Pairing) (k : Space) {x y : Thing} → ThingRel R x y → OptRel (R.of (kind_in k)) (address_of k x) (address_of k y)
 address_rel R Functions (a_func p) = some p
 address_rel R Tables (a_table p) = some p
 address_rel R Memories (a_memory p) = some p
@@ -98,19 +100,19 @@ address_rel R k p = none
 
 module _ (env : Environment) (parts : List Part) where
   -- all that parts define of a kind
-  abbrev pub total : Kind → ℕ
+  abbrev pub total : Space → ℕ
   total k = defined_before k parts (length parts)
 
-  pub shared_is : (k : Kind) → shared_count env parts (kind_in k) ≡ own_count k env + total k
+  pub shared_is : (k : Space) → shared_count env parts (kind_in k) ≡ own_count k env + total k
   shared_is Functions = refl
   shared_is Tables = refl
   shared_is Memories = refl
   shared_is Globals = refl
 
-  pub is_shared_at : (k : to.Kind) (a : ℕ) → a < shared_count env parts k → is_shared env parts k a a ≡ true
+  pub is_shared_at : (k : Space) (a : ℕ) → a < shared_count env parts k → is_shared env parts k a a ≡ true
   is_shared_at k a l = ap₂ (λ b c. b && c) (eq-eqb a a refl) (lt-ltb a (shared_count env parts k) l)
 
-  pub shared_low : (k : to.Kind) (a b : ℕ) → is_shared env parts k a b ≡ true → a < shared_count env parts k
+  pub shared_low : (k : Space) (a b : ℕ) → is_shared env parts k a b ≡ true → a < shared_count env parts k
   shared_low k a b h = by (nat_eq a b) h
     where
       by : (c : Bool) → c && nat_lt a (shared_count env parts k) ≡ true → a < shared_count env parts k
@@ -119,24 +121,24 @@ module _ (env : Environment) (parts : List Part) where
 
   pub shares_own : SharesOwn (sharing env parts) env
   shares_own = record {
-    funcs = λ a l. is_shared_at to.Funcs a (omega (arith, l));
-    tables = λ a l. is_shared_at to.Tables a (omega (arith, l));
-    mems = λ a l. is_shared_at to.Mems a (omega (arith, l));
-    globals = λ a l. is_shared_at to.Globals a (omega (arith, l));
+    funcs = λ a l. is_shared_at Functions a (omega (arith, l));
+    tables = λ a l. is_shared_at Tables a (omega (arith, l));
+    mems = λ a l. is_shared_at Memories a (omega (arith, l));
+    globals = λ a l. is_shared_at Globals a (omega (arith, l));
   }
 
   -- ---- addresses ----
 
   -- the address of an import of a part
-  abbrev pub import_address : Kind → ℕ → ℕ → Option ℕ
+  abbrev pub import_address : Space → ℕ → ℕ → Option ℕ
   import_address k p n = option_and_then (address_of k) (imported_thing env parts (record { part = p; import = n }))
 
   -- the address of the environment's entity for which an import stands that stays
-  abbrev pub site_address : Kind → Site → Option ℕ
+  abbrev pub site_address : Space → Site → Option ℕ
   site_address k s = option_and_then (address_of k) (outside_thing (owned_of env) parts s)
 
   -- which is one of the first
-  pub site_low : OwnEntitiesCorrespond → (k : Kind) (s : Site) (a : ℕ) → site_address k s ≡ Some a → a < shared_count env parts (kind_in k)
+  pub site_low : OwnEntitiesCorrespond → (k : Space) (s : Site) (a : ℕ) → site_address k s ≡ Some a → a < shared_count env parts (kind_in k)
   site_low law k s a h =
       let x = then_is (outside_thing (owned_of env) parts s) (address_of k) a h in
       let m = then_is (module_at parts s.part) _ x.0 x.1 in
@@ -147,12 +149,12 @@ module _ (env : Environment) (parts : List Part) where
       shared_low (kind_in k) a a b
 
   -- an address in the parts' world, and an index of the merged module, of one entity
-  pub data Stands (k : Kind) (address : Option ℕ) (index : ℕ) : Type 0 where
+  pub data Stands (k : Space) (address : Option ℕ) (index : ℕ) : Type 0 where
     own : (d : ℕ) → d < total k → address ≡ Some (own_count k env + d) → index ≡ length (staying_of parts k) + d → Stands k address index
     stays : (u : Site) → slice_get (staying_of parts k) index ≡ Some u → address ≡ site_address k u → Stands k address index
 
   module _ (laws : SpaceLaws) (linked : link_fault parts ≡ None) where
-    inside_stands : (k : Kind) (p : ℕ) (m : Module) (x n : ℕ) (i : Import) → module_at parts p ≡ Some m → slice_get (imports_of k m) x ≡ Some n → kind_of_import i.desc ≡ k → EndsInside parts (record { part = p; import = n }) i → Stands k (import_address k p n) (new_index parts p k x)
+    inside_stands : (k : Space) (p : ℕ) (m : Module) (x n : ℕ) (i : Import) → module_at parts p ≡ Some m → slice_get (imports_of k m) x ≡ Some n → kind_of_import i.desc ≡ k → EndsInside parts (record { part = p; import = n }) i → Stands k (import_address k p n) (new_index parts p k x)
     inside_stands k p m x n i is h kind w =
         let e = w.entity in
         let j = index_of_export e.what - length (imports_of k w.of) in
@@ -170,13 +172,13 @@ module _ (env : Environment) (parts : List Part) where
         (ap (λ o. option_and_then (address_of k) (option_and_then (thing_of env parts) o)) w.end ∙ thing ∙ ap Some number)
         ((laws.indices parts p m k x is).0 n (Defined e) h w.linked ∙ laws.defined parts e w.of k w.is_part)
 
-    outside_stands : (k : Kind) (p : ℕ) (m : Module) (x n : ℕ) (i : Import) → module_at parts p ≡ Some m → slice_get (imports_of k m) x ≡ Some n → kind_of_import i.desc ≡ k → EndsOutside parts (record { part = p; import = n }) i → Stands k (import_address k p n) (new_index parts p k x)
+    outside_stands : (k : Space) (p : ℕ) (m : Module) (x n : ℕ) (i : Import) → module_at parts p ≡ Some m → slice_get (imports_of k m) x ≡ Some n → kind_of_import i.desc ≡ k → EndsOutside parts (record { part = p; import = n }) i → Stands k (import_address k p n) (new_index parts p k x)
     outside_stands k p m x n i is h kind w =
         stays w.to (ap (slice_get (staying_of parts k)) ((laws.indices parts p m k x is).0 n (Outside w.to) h w.linked) ∙ laws.places parts w.to w.import w.at w.remains k (w.kind ∙ kind))
         (ap (λ o. option_and_then (address_of k) (option_and_then (thing_of env parts) o)) w.end ∙ ap (λ o. option_and_then (address_of k) o) (w.same_thing (owned_of env)))
 
     -- an import of a part
-    pub import_stands : (k : Kind) (p : ℕ) (m : Module) (x n : ℕ) → module_at parts p ≡ Some m → slice_get (imports_of k m) x ≡ Some n → Stands k (import_address k p n) (new_index parts p k x)
+    pub import_stands : (k : Space) (p : ℕ) (m : Module) (x n : ℕ) → module_at parts p ≡ Some m → slice_get (imports_of k m) x ≡ Some n → Stands k (import_address k p n) (new_index parts p k x)
     import_stands k p m x n is h =
         let i = import_there k m x n h in
         by i.import i.kind (laws.ends parts linked (record { part = p; import = n }) i.import (ap (λ o. option_and_then (λ m. slice_get m.imports n) o) is ∙ i.at))
@@ -186,7 +188,7 @@ module _ (env : Environment) (parts : List Part) where
         by i kind (outside w) = outside_stands k p m x n i is h kind w
 
     -- what a part defines
-    pub own_stands : (k : Kind) (p : ℕ) (m : Module) (x j : ℕ) → module_at parts p ≡ Some m → x ≡ length (imports_of k m) + j → j < defined_count k m → Stands k (Some (base env parts k p + j)) (new_index parts p k x)
+    pub own_stands : (k : Space) (p : ℕ) (m : Module) (x j : ℕ) → module_at parts p ≡ Some m → x ≡ length (imports_of k m) + j → j < defined_count k m → Stands k (Some (base env parts k p + j)) (new_index parts p k x)
     own_stands k p m x j is at l =
         let low = defined_low k parts p m is in
         let d = defined_before k parts p + j in

@@ -1,15 +1,16 @@
 -- The functions that the parts start, and what the merged module starts: the same one, or none, or the one function that calls them.
 use Rattle.std.proofs.Common.{◌≡◌, ◌∙◌, ap, ap₂, sym, subst, refl, ℕ, suc, ◌+◌, ◌<◌, List, [], ◌∷◌, ◌++◌, length, Option, Some, None, true, arith, slice_get}
+use Rattle.wasm_tree.specs.declared.space.Space.TheVariants.{Functions}
 use Rattle.std.specs.Prelude.{slice_index}
 use Rattle.std.proofs.lemmas.Bool.{ltb-true}
 use Rattle.wasm_tree.specs.declared.module.Module.{Module}
 use Rattle.wasm_tree.specs.Spaces.{funcs_of}
 use Rattle.wasm_meaning.specs.State.{Text, Inst}
-use Rattle.wasm_meaning.specs.Linking.{Part, Functions, module_at}
+use Rattle.wasm_meaning.specs.Linking.{Part, module_at}
 use Rattle.wasm_meaning.specs.Environment.{Environment}
 use Rattle.wasm_meaning.specs.World.{own_count, defined_before, one_place, start_in, starts_of, numbers, inst_of, insts_from}
 use Rattle.index_remap.specs.Renumbered.{fits_start}
-use Rattle.index_remap.specs.Related.{Funcs, ListRel, nil, cons}
+use Rattle.index_remap.specs.Related.{ListRel, nil, cons}
 use Rattle.index_remap.proofs.Rel.{append_rel}
 use Rattle.export_names.specs.declared.mode.Mode.{Mode}
 use Rattle.merge_terms.specs.Faults.{link_fault}
@@ -31,16 +32,16 @@ use Rattle.merge_worlds.proofs.Named.{AllFit, start_fits}
 -- an address, and the index by which the merged module's instance names it
 pub record IsNamed (env : Environment) (parts : List Part) (j : Inst) (a f : ℕ) : Type 0 where
   pub names : slice_get j.funcs f ≡ Some a
-  pub shared : a < shared_count env parts Funcs
+  pub shared : a < shared_count env parts Functions
 
 -- what the parts start one after the other, what is started of the merged module, and the new indices of the parts' starts
 pub record StartsAgree (env : Environment) (parts : List Part) (j : Inst) (several joined : List ℕ) : Type 0 where
   pub named : ListRel (IsNamed env parts j) several (starts parts)
-  pub shared : ListRel ((sharing env parts).of Funcs) several several
+  pub shared : ListRel ((sharing env parts).of Functions) several several
   -- where at most one part has a start
   pub few : length (starts parts) < 2 → joined ≡ several
   -- where several have one, the function that calls them, which comes last
-  pub calls : (f g : ℕ) (fs : List ℕ) → starts parts ≡ f ∷ g ∷ fs → joined ≡ shared_count env parts Funcs ∷ []
+  pub calls : (f g : ℕ) (fs : List ℕ) → starts parts ≡ f ∷ g ∷ fs → joined ≡ shared_count env parts Functions ∷ []
 
 merged_start_is : (parts : List Part) (names : List (Option Text)) → (merged parts names).start ≡ start_among (length (staying_of parts Functions) + defined_before Functions parts (length parts)) (starts parts)
 unfolding merged
@@ -62,9 +63,9 @@ starts_by P parts first (part ∷ rest) (i ∷ is) h =
     let n : first + suc q ≡ suc first + q = omega arith in
     (y.0, y.1, subst (λ n. ListRel P (start_in y.0 m.start) (start_of parts n m.start)) n y.2)))
 
-shared_with_self : (env : Environment) (parts : List Part) (j : Inst) {several fs : List ℕ} → ListRel (IsNamed env parts j) several fs → ListRel ((sharing env parts).of Funcs) several several
+shared_with_self : (env : Environment) (parts : List Part) (j : Inst) {several fs : List ℕ} → ListRel (IsNamed env parts j) several fs → ListRel ((sharing env parts).of Functions) several several
 shared_with_self env parts j nil = nil
-shared_with_self env parts j (cons {a = a} w r) = cons (is_shared_at env parts Funcs a w.shared) (shared_with_self env parts j r)
+shared_with_self env parts j (cons {a = a} w r) = cons (is_shared_at env parts Functions a w.shared) (shared_with_self env parts j r)
 
 few_starts : (env : Environment) (parts : List Part) (j : Inst) (n : ℕ) {several fs : List ℕ} → ListRel (IsNamed env parts j) several fs → length fs < 2 → start_in j (start_among n fs) ++ [] ≡ several
 few_starts env parts j n nil l = refl
@@ -96,7 +97,7 @@ module _ (laws : SpaceLaws) (env : Environment) (parts : List Part) (linked : li
   joined_starts = ap (starts_of (one J)) agree.alone ∙ ap (λ o. start_in agree.merged o ++ []) ((joined_keeps parts mode).start ∙ merged_start_is parts (names_of parts mode))
 
   -- where the merged module has a function more, the instance names it by its last index
-  pub last_named : insts_from env (one J) 0 (one J) ≡ Some js → (f g : ℕ) (fs : List ℕ) → starts parts ≡ f ∷ g ∷ fs → slice_get agree.merged.funcs (length (staying_of parts Functions) + defined_before Functions parts (length parts)) ≡ Some (shared_count env parts Funcs)
+  pub last_named : insts_from env (one J) 0 (one J) ≡ Some js → (f g : ℕ) (fs : List ℕ) → starts parts ≡ f ∷ g ∷ fs → slice_get agree.merged.funcs (length (staying_of parts Functions) + defined_before Functions parts (length parts)) ≡ Some (shared_count env parts Functions)
   last_named there f g fs e =
       let j = then_is (inst_of env (one J) 0 J) _ js there in
       let q = j.2 in

@@ -1,5 +1,8 @@
 -- A module alone that is instantiated: its index spaces, and the values of its constant expressions.
 use Rattle.std.proofs.Common.{◌≡◌, ℕ, zero, suc, ◌+◌, ◌-◌, ◌<◌, ◌≤◌, List, [], ◌∷◌, ◌++◌, map, length, Option, Some, None, Bool, true, false, cond, ◌⊎◌, inl, inr, refl, sym, ap, ◌∙◌, arith, option_and_then, slice_get}
+use Rattle.wasm_tree.specs.declared.space.Space.{Space}
+use Rattle.wasm_tree.specs.declared.space.Space.TheVariants.{Functions, Globals}
+use Rattle.wasm_tree.specs.Operands.{same_space}
 use Rattle.std.proofs.lemmas.Bool.{cases_lt}
 use Rattle.std.specs.List.{cons_option}
 use Rattle.wasm_tree.specs.declared.module.Import.{Import}
@@ -9,7 +12,7 @@ use Rattle.wasm_tree.specs.declared.module.ConstExpr.TheVariants as const
 use Rattle.wasm_tree.specs.declared.module.Module.{Module}
 use Rattle.wasm_tree.specs.Spaces.{func_of, imported_funcs, funcs_of}
 use Rattle.wasm_meaning.specs.State.{Inst}
-use Rattle.wasm_meaning.specs.Linking.{Kind, Functions, Globals, Read, places, has_kind, same_kind, kind_of_import, imports_of, space_index}
+use Rattle.wasm_meaning.specs.Linking.{Read, places, has_kind, kind_of_import, imports_of, space_index}
 use Rattle.wasm_meaning.specs.Environment.{Environment, own_globals}
 use Rattle.wasm_meaning.specs.World.{numbers, own_count, defined_count, space, inst_of, insts_from, value_of_read, value_of}
 use Rattle.permuted_worlds.specs.Alone.{one, address_in, import_places, addresses, read_in, SpacesAreImportsAndOwn, ReadsStay}
@@ -26,14 +29,14 @@ number_past c (suc n) (suc z) a h = let l = number_past (suc c) n z a h in omega
 -- ---- imports of one kind ----
 
 -- the import that stands at a place among those of its kind
-record ImportAt (k : Kind) (imports : List Import) (from y n : ℕ) : Type 0 where
+record ImportAt (k : Space) (imports : List Import) (from y n : ℕ) : Type 0 where
   at : ℕ
   import : Import
   is : n ≡ from + at
   got : slice_get imports at ≡ Some import
   index : space_index imports at k ≡ y
 
-import_at : (k : Kind) (is : List Import) (from y n : ℕ) → slice_get (places (has_kind k) is from) y ≡ Some n → ImportAt k is from y n
+import_at : (k : Space) (is : List Import) (from y n : ℕ) → slice_get (places (has_kind k) is from) y ≡ Some n → ImportAt k is from y n
 import_at k [] from y n h = absurd (let e = h in cc)
 import_at k (i ∷ is) from y n h = by (λ y h. import_at k is (suc from) y n h) (has_kind k i) refl y h
   where
@@ -53,7 +56,7 @@ funcs_counted : (is : List Import) (n : ℕ) → length (places (has_kind Functi
 funcs_counted [] n = refl
 funcs_counted (i ∷ is) n = go i.desc (funcs_counted is (suc n))
   where
-    go : (d : ImportDesc) → length (places (has_kind Functions) is (suc n)) ≡ length (imported_funcs is) → length (cond (same_kind Functions (kind_of_import d)) (n ∷ places (has_kind Functions) is (suc n)) (places (has_kind Functions) is (suc n))) ≡ length (cons_option (func_of d) (imported_funcs is))
+    go : (d : ImportDesc) → length (places (has_kind Functions) is (suc n)) ≡ length (imported_funcs is) → length (cond (same_space Functions (kind_of_import d)) (n ∷ places (has_kind Functions) is (suc n)) (places (has_kind Functions) is (suc n))) ≡ length (cons_option (func_of d) (imported_funcs is))
     go (im.Func x) h = ap suc h
     go (im.Table x) h = h
     go (im.Memory x) h = h
@@ -67,7 +70,7 @@ read_here is y lt =
     let d = r.is in
     let at : n.0 ≡ r.at = omega (arith, d) in
     ap (λ o. option_and_then as_read (option_and_then (λ n. option_and_then (λ i. Some (space_index is n Globals)) (slice_get is n)) o)) (n.1 ∙ ap Some at)
-    ∙ ap (λ o. option_and_then as_read (option_and_then o {A = Import} (λ i. Some (space_index is r.at Globals)))) r.got
+    ∙ ap (λ o. option_and_then as_read (option_and_then {T = Import} (λ i. Some (space_index is r.at Globals)) o)) r.got
     ∙ ap {A = ℕ} {B = Option Read} (λ y. Some (record { part = 0; expr = const.Global y })) r.index
   where
     as_read : ℕ → Option Read
@@ -75,7 +78,7 @@ read_here is y lt =
 
 -- and there is none where it is no import
 read_past : (is : List Import) (y : ℕ) → length (import_places Globals is) ≤ y → read_in is (const.Global y) ≡ None
-read_past is y h = ap (λ o. option_and_then (option_and_then (λ n. option_and_then (λ i. Some (space_index is n Globals)) (slice_get is n)) o) {B = Read} (λ y. Some (record { part = 0; expr = const.Global y }))) (past_end (import_places Globals is) y h)
+read_past is y h = ap (λ o. option_and_then {U = Read} (λ y. Some (record { part = 0; expr = const.Global y })) (option_and_then (λ n. option_and_then (λ i. Some (space_index is n Globals)) (slice_get is n)) o)) (past_end (import_places Globals is) y h)
 
 -- ---- its instance ----
 
@@ -94,7 +97,7 @@ module _ (reads : ReadsStay) (spaces : SpacesAreImportsAndOwn) (env : Environmen
   types_are = own_spaces.types
 
   -- the addresses of the imports, then those after all that is the environment's
-  space_at : (k : Kind) (xs : List ℕ) → space env (one u) k 0 u ≡ Some xs → (l : List ℕ) × (length l ≡ length (imports_of k u)) × (xs ≡ l ++ numbers (own_count k env) (defined_count k u))
+  space_at : (k : Space) (xs : List ℕ) → space env (one u) k 0 u ≡ Some xs → (l : List ℕ) × (length l ≡ length (imports_of k u)) × (xs ≡ l ++ numbers (own_count k env) (defined_count k u))
   space_at k xs e =
       let x = then_is (addresses env u.types u.imports k) _ xs (sym (spaces env u k) ∙ e) in
       let h = x.2 in

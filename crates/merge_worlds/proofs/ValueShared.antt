@@ -1,5 +1,7 @@
 -- The addresses that both worlds have: each stands for itself, and those of the environment's own entities are among them.
 use Rattle.std.proofs.Common.{◌≡◌, ℕ, ◌<◌, List, Bool, true, false, cond, refl, sym, ◌∙◌, arith, ◌&&◌}
+use Rattle.wasm_tree.specs.declared.space.Space.{Space}
+use Rattle.wasm_tree.specs.declared.space.Space.TheVariants.{Functions, Tables, Memories, Globals}
 use Rattle.std.specs.Prelude.{nat_eq, nat_lt}
 use Rattle.std.proofs.lemmas.Bool.{eqb-true, eq-eqb, ltb-true, lt-ltb}
 use Rattle.wasm_tree.specs.declared.types.RefType.{RefType}
@@ -7,7 +9,7 @@ use Rattle.wasm_tree.specs.declared.types.RefType.TheVariants as reft
 use Rattle.wasm_meaning.specs.Values.{null_of}
 use Rattle.wasm_meaning.specs.Linking.{Part}
 use Rattle.wasm_meaning.specs.Environment.{Environment, own_funcs}
-use Rattle.index_remap.specs.Related.{Kind, Funcs, Tables, Mems, Globals, Pairing, OneToOne, none, ListRel, RefRel, func, extern, FuncRel, own}
+use Rattle.index_remap.specs.Related.{Pairing, OneToOne, none, ListRel, RefRel, func, extern, FuncRel, own}
 use Rattle.permuted_worlds.specs.Owned.{SharesOwn, OwnCorrespond, OwnEntitiesCorrespond}
 use Rattle.permuted_worlds.proofs.Owned.{flat_rel}
 use Rattle.permuted_worlds.proofs.Places.{self_rel, maps_rel}
@@ -29,10 +31,10 @@ module _ (env : Environment) (parts : List Part) where
   abbrev R : Pairing
   R = sharing env parts
 
-  pub shares : (k : Kind) (a : ℕ) → a < shared_count env parts k → R.of k a a
+  pub shares : (k : Space) (a : ℕ) → a < shared_count env parts k → R.of k a a
   shares k a h = both_true (nat_eq a a) (nat_lt a (shared_count env parts k)) (eq-eqb a a refl) (lt-ltb a (shared_count env parts k) h)
 
-  pub is_same : (k : Kind) (a b : ℕ) → R.of k a b → (a ≡ b) × (a < shared_count env parts k)
+  pub is_same : (k : Space) (a b : ℕ) → R.of k a b → (a ≡ b) × (a < shared_count env parts k)
   is_same k a b h = (eqb-true a b (first_true (nat_eq a b) (nat_lt a (shared_count env parts k)) h), ltb-true a (shared_count env parts k) (second_true (nat_eq a b) (nat_lt a (shared_count env parts k)) h))
 
   pub one_to_one : OneToOne R
@@ -42,9 +44,9 @@ module _ (env : Environment) (parts : List Part) where
 
   shares_own : SharesOwn R env
   shares_own = record {
-    funcs = λ a h. shares Funcs a (omega arith);
+    funcs = λ a h. shares Functions a (omega arith);
     tables = λ a h. shares Tables a (omega arith);
-    mems = λ a h. shares Mems a (omega arith);
+    mems = λ a h. shares Memories a (omega arith);
     globals = λ a h. shares Globals a (omega arith);
   }
 

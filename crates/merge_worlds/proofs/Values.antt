@@ -1,5 +1,6 @@
 -- A constant expression of a part and what it becomes in the merged module have related values.
 use Rattle.std.proofs.Common.{◌≡◌, ℕ, List, [], ◌∷◌, Option, Some, true, refl, sym, ap, subst, ◌∙◌, option_and_then, slice_get, unwrap_or}
+use Rattle.wasm_tree.specs.declared.space.Space.TheVariants.{Functions}
 use Rattle.std.specs.Prelude.{slice_index}
 use Rattle.std.proofs.lemmas.Bool.{ltb-true}
 use Rattle.wasm_tree.specs.declared.types.ValType.{ValType}
@@ -14,7 +15,7 @@ use Rattle.wasm_meaning.specs.Linking.{Part, Read, module_at, read_of}
 use Rattle.wasm_meaning.specs.Environment.{Environment, own_globals}
 use Rattle.wasm_meaning.specs.World.{given, insts_from, const_value, value_of_read, value_of, ref_value, number_value}
 use Rattle.index_remap.specs.Renumbered.{new_const, fits_const}
-use Rattle.index_remap.specs.Related.{Funcs, Pairing, OptRel, none, some, RefRel, func, ValRel, number, reference}
+use Rattle.index_remap.specs.Related.{Pairing, OptRel, none, some, RefRel, func, ValRel, number, reference}
 use Rattle.permuted_worlds.specs.Alone.{one}
 use Rattle.permuted_worlds.proofs.Places.{then_rel, opt_at, place_rel}
 use Rattle.export_names.specs.declared.mode.Mode.{Mode}
@@ -30,7 +31,7 @@ use Rattle.merge_worlds.proofs.ValueGiven.{Laws, EachAgrees}
 const_is : (parts : List Part) (p : ℕ) (e : ConstExpr) (r : Read) (m : Module) → read_of parts p e ≡ Some r → module_at parts r.part ≡ Some m → merged_const parts p e ≡ new_const (map_of parts r.part m) r.expr
 unfolding merged_const
 const_is parts p e r m reads is =
-    ap (λ o. unwrap_or (option_and_then (merged_read parts) o) e) reads ∙ ap (λ o. unwrap_or (option_and_then {B = ConstExpr} {A = Module} o (λ m. Some (new_const (map_of parts r.part m) r.expr))) e) is
+    ap (λ o. unwrap_or (option_and_then (merged_read parts) o) e) reads ∙ ap (λ o. unwrap_or (option_and_then {T = Module} {U = ConstExpr} (λ m. Some (new_const (map_of parts r.part m) r.expr)) o) e) is
 
 module _ (laws : Laws) (env : Environment) (parts : List Part) (mode : Mode) where
   abbrev M : List Part
@@ -56,7 +57,7 @@ module _ (laws : Laws) (env : Environment) (parts : List Part) (mode : Mode) whe
     read_rel q m i k (const.Null ty) h = some (reference (null_rel env parts ty))
     read_rel q m i k (const.Func f) h =
         let a = k.funcs.each f (ltb-true _ _ h) in
-        opt_at (ap (λ o. option_and_then (λ a. Some (Ref (FuncRef (Some a)))) o) a.first) (ap (λ o. option_and_then (λ a. Some (Ref (FuncRef (Some a)))) o) a.second) (some (reference (func (some (shares env parts Funcs a.address a.shared)))))
+        opt_at (ap (λ o. option_and_then (λ a. Some (Ref (FuncRef (Some a)))) o) a.first) (ap (λ o. option_and_then (λ a. Some (Ref (FuncRef (Some a)))) o) a.second) (some (reference (func (some (shares env parts Functions a.address a.shared)))))
     read_rel q m i k (const.Global x) h =
         let a = k.globals.each x (ltb-true _ _ h) in
         opt_at (ap (λ o. option_and_then (λ a. option_and_then (λ g. Some g.value) (slice_get (own_globals env) a)) o) a.first)

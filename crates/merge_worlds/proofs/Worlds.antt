@@ -1,5 +1,6 @@
 -- The world of linked parts and that of their merged module: both are instantiated or neither, and then they show the same.
 use Rattle.std.proofs.Common.{◌≡◌, ◌∙◌, ap, sym, subst, refl, ℕ, ◌+◌, ◌≤◌, List, [], ◌∷◌, ◌++◌, length, Option, Some, None, Bool, true, false, cond, arith, option_and_then}
+use Rattle.wasm_tree.specs.declared.space.Space.TheVariants.{Functions}
 use Rattle.wasm_tree.specs.declared.module.Module.{Module}
 use Rattle.wasm_meaning.specs.Outcomes.{Gives, bind, at}
 use Rattle.wasm_meaning.specs.State.{Text, Inst, Store}
@@ -9,7 +10,7 @@ use Rattle.wasm_meaning.specs.Environment.{Environment, Thing, all_of}
 use Rattle.wasm_meaning.specs.World.{Begun, alone, inst_of, insts_from, own_store, stores_from, all_there, is_matched, segments, seen_as, starts_of, begun, instantiate}
 use Rattle.wasm_meaning.specs.Run.{Event, Move, tick, events_of, IsPrefix, fresh_run}
 use Rattle.wasm_meaning.proofs.Prefixes.{prefix_trans, later}
-use Rattle.index_remap.specs.Related.{Funcs, Pairing, OptRel, none, some, ListRel, nil, cons, opening}
+use Rattle.index_remap.specs.Related.{Pairing, OptRel, none, some, ListRel, nil, cons, opening}
 use Rattle.index_remap.specs.RelatedRuns.{KeyRel, BegunRel}
 use Rattle.index_remap.specs.Laws.{EntryByEntry}
 use Rattle.permuted_worlds.specs.Alone.{one}
@@ -97,14 +98,14 @@ module _ (spaces : SpaceLaws) (laws : Laws) (nothing : StartsTakeNothing) (env :
     agreed : StartsAgree env parts j several (starts_of (one J) js)
     agreed = starts_agree spaces env parts can.linked mode fit insts js i.related i.second
 
-    calls_each : all_of (is_matched env (one J) z) (sites (one J)) ≡ true → (f g : ℕ) (fs : List ℕ) → starts parts ≡ f ∷ g ∷ fs → CallsEach after (shared_count env parts Funcs) several
+    calls_each : all_of (is_matched env (one J) z) (sites (one J)) ≡ true → (f g : ℕ) (fs : List ℕ) → starts parts ≡ f ∷ g ∷ fs → CallsEach after (shared_count env parts Functions) several
     calls_each matched f g fs e =
         let inst = is_inst j (i.second ∙ ap Some i.related.alone) in
         let there : stores_from env (one J) (j ∷ []) (own_store env) 0 (one J) (j ∷ []) ≡ Some z = subst (λ js. stores_from env (one J) js (own_store env) 0 (one J) js ≡ Some z) i.related.alone k.second in
         record {
           inst = j;
           calls = starts parts;
-          code = ap (λ fs. at fs (shared_count env parts Funcs)) same_funcs ∙ caller_code spaces nothing env parts mode can j z inst there f g fs e;
+          code = ap (λ fs. at fs (shared_count env parts Functions)) same_funcs ∙ caller_code spaces nothing env parts mode can j z inst there f g fs e;
           each = starts_typed spaces nothing env parts mode can j z inst there matched several agreed.named (NamesStart after j)
               (λ f a named typed. record { named = named; typed = ap (λ fs. bind (at fs a) (λ f. Gives (type_of_func f))) same_funcs ∙ typed });
         }
@@ -115,7 +116,7 @@ module _ (spaces : SpaceLaws) (laws : Laws) (nothing : StartsTakeNothing) (env :
         go : (l : List ℕ) → starts parts ≡ l → StartsAlike (begun env (alone J) js ys (segments env (one J) js z)) several
         go [] e = the_same (agreed.few (let m = ap length e in omega (arith, m)))
         go (f ∷ []) e = the_same (agreed.few (let m = ap length e in omega (arith, m)))
-        go (f ∷ g ∷ fs) e = through_one (shared_count env parts Funcs) (agreed.calls f g fs e) (calls_each matched f g fs e)
+        go (f ∷ g ∷ fs) e = through_one (shared_count env parts Functions) (agreed.calls f g fs e) (calls_each matched f g fs e)
 
     begun_agrees : all_of (is_matched env (one J) z) (sites (one J)) ≡ true → (xs ys : List (Text × Thing)) → ListRel (KeyRel R) xs ys →
         BegunAgree R (begun env (linked_world parts mode) insts xs (segments env parts insts s)) (begun env (alone J) js ys (segments env (one J) js z))

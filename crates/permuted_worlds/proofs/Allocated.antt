@@ -1,5 +1,6 @@
 -- What is allocated for the module and for the one with its functions in another order.
 use Rattle.std.proofs.Common.{◌≡◌, ℕ, ◌+◌, ◌<◌, List, [], ◌∷◌, ◌++◌, map, length, Option, Some, None, true, refl, sym, ap, ap₂, subst, ◌∙◌, arith, option_and_then, slice_get}
+use Rattle.wasm_tree.specs.declared.space.Space.TheVariants.{Functions, Tables, Memories, Globals, ElementSegments, DataSegments}
 use Rattle.std.proofs.lemmas.Bool.{ltb-true}
 use Rattle.wasm_tree.specs.declared.types.FuncType.{FuncType}
 use Rattle.wasm_tree.specs.declared.module.Func as tree
@@ -20,7 +21,7 @@ use Rattle.wasm_meaning.specs.World as world
 use Rattle.index_remap.specs.declared.remap.Remap.{Remap}
 use Rattle.index_remap.specs.Renumbered.{has, new_const, new_elem_mode, renumbered_all, fits_const, fits_func, fits_global, fits_elem, fits_elem_mode}
 use Rattle.index_remap.specs.Renumbered as renumbered
-use Rattle.index_remap.specs.Related.{Funcs, Pairing, OptRel, none, some, BothRel, both, ListRel, nil, RefRel, func, ValRel, number, reference, FuncRel, defined, own, TableRel, GlobalRel, ElemRel, StoreRel, CodeRel}
+use Rattle.index_remap.specs.Related.{Pairing, OptRel, none, some, BothRel, both, ListRel, nil, RefRel, func, ValRel, number, reference, FuncRel, defined, own, TableRel, GlobalRel, ElemRel, StoreRel, CodeRel}
 use Rattle.index_remap.specs.Related as to
 use Rattle.index_remap.proofs.Rel.{append_rel, copies_rel}
 use Rattle.permuted_worlds.specs.Permuted.{moving, IsOrder, permuted}
@@ -42,7 +43,7 @@ module _ (env : Environment) (places : List ℕ) (t : Module) where
   -- ---- stores that are alike: their functions by address, all else place by place ----
 
   pub record Alike (s z : Store) : Type 0 where
-    pub funcs : (a b : ℕ) → R.of Funcs a b → BothRel (FuncRel R) (at s.funcs a) (at z.funcs b)
+    pub funcs : (a b : ℕ) → R.of Functions a b → BothRel (FuncRel R) (at s.funcs a) (at z.funcs b)
     pub tables : ListRel (TableRel R) s.tables z.tables
     pub mems : ListRel (λ (x y : Memory). x ≡ y) s.mems z.mems
     pub globals : ListRel (GlobalRel R) s.globals z.globals
@@ -74,11 +75,11 @@ module _ (env : Environment) (places : List ℕ) (t : Module) where
     types = λ {a} {b} r. type_same (k.funcs a b r);
     owns = λ {a} {b} r. own_same (k.funcs a b r);
     funcs = λ {a} {b} r _. k.funcs a b r;
-    tables = λ {a} {b} r. in_lists _ k.tables k.table_count a b (partner env places t to.Tables a b r);
-    mems = λ {a} {b} r. in_lists _ k.mems k.memory_count a b (partner env places t to.Mems a b r);
-    globals = λ {a} {b} r. in_lists _ k.globals k.global_count a b (partner env places t to.Globals a b r);
-    elems = λ {a} {b} r. in_lists _ k.elems k.elem_count a b (partner env places t to.Elems a b r);
-    datas = λ {a} {b} r. in_lists _ k.datas k.data_count a b (partner env places t to.Datas a b r);
+    tables = λ {a} {b} r. in_lists _ k.tables k.table_count a b (partner env places t Tables a b r);
+    mems = λ {a} {b} r. in_lists _ k.mems k.memory_count a b (partner env places t Memories a b r);
+    globals = λ {a} {b} r. in_lists _ k.globals k.global_count a b (partner env places t Globals a b r);
+    elems = λ {a} {b} r. in_lists _ k.elems k.elem_count a b (partner env places t ElementSegments a b r);
+    datas = λ {a} {b} r. in_lists _ k.datas k.data_count a b (partner env places t DataSegments a b r);
   }
 
   module _ (funcs : List tree.Func) (order : IsOrder places funcs t) (fit : Fits m t) (code : FittingCodeIsRelated) (i j : Inst) (k : InstRel env places t i j) where
@@ -87,9 +88,9 @@ module _ (env : Environment) (places : List ℕ) (t : Module) where
 
     -- ---- constant expressions ----
 
-    global_value : (a b : ℕ) → R.of to.Globals a b → OptRel (ValRel R) (option_and_then (λ g. Some g.value) (slice_get (own_globals env) a)) (option_and_then (λ g. Some g.value) (slice_get (own_globals env) b))
+    global_value : (a b : ℕ) → R.of Globals a b → OptRel (ValRel R) (option_and_then (λ g. Some g.value) (slice_get (own_globals env) a)) (option_and_then (λ g. Some g.value) (slice_get (own_globals env) b))
     global_value a b h =
-        let same = (number_at (length (own_globals env) + length t.globals) a b (partner env places t to.Globals a b h)).1 in
+        let same = (number_at (length (own_globals env) + length t.globals) a b (partner env places t Globals a b h)).1 in
         subst (λ c. OptRel (ValRel R) (option_and_then (λ g. Some g.value) (slice_get (own_globals env) a)) (option_and_then (λ g. Some g.value) (slice_get (own_globals env) c))) same
         (then_rel (place_rel (own_globals_rel (pairing env places t) env (shares_own env places t)) a) (λ _ _ g. some g.value))
 
@@ -184,8 +185,8 @@ module _ (env : Environment) (places : List ℕ) (t : Module) where
         ∙ ap (λ o. option_and_then (λ z. Some (Code z j (declared f.locals) (renumbered_all m f.body))) o) e
 
     -- related addresses hold related functions
-    pub funcs_rel : (a b : ℕ) → R.of Funcs a b → BothRel (FuncRel R) (at (own_funcs env ++ first_funcs.results) a) (at (own_funcs env ++ second_funcs.results) b)
-    funcs_rel a b h = go (moves_by _ places a b (partner env places t Funcs a b h))
+    pub funcs_rel : (a b : ℕ) → R.of Functions a b → BothRel (FuncRel R) (at (own_funcs env ++ first_funcs.results) a) (at (own_funcs env ++ second_funcs.results) b)
+    funcs_rel a b h = go (moves_by _ places a b (partner env places t Functions a b h))
       where
         go : Moves (length (own_funcs env)) places a b → BothRel (FuncRel R) (at (own_funcs env ++ first_funcs.results) a) (at (own_funcs env ++ second_funcs.results) b)
         go (stays l e) = stays_rel a b l e

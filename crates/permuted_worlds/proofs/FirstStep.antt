@@ -1,14 +1,15 @@
 -- The first step of a run, which instantiates its world.
 use Rattle.std.proofs.Common.{◌≡◌, ℕ, zero, suc, List, [], ◌∷◌, Option, Some, None, Bool, true, false, cond, refl, sym, ap, subst}
+use Rattle.wasm_tree.specs.declared.space.Space.{Space}
 use Rattle.wasm_meaning.specs.State.{Opening}
 use Rattle.wasm_meaning.specs.Environment.{Environment}
 use Rattle.wasm_meaning.specs.World.{Begun}
 use Rattle.wasm_meaning.specs.Run.{Event, InstanceTrapped, Move, Pending, Closed, Out, tick, noted, events_of, fresh_run}
-use Rattle.index_remap.specs.Related.{Kind, Pairing, OneToOne, OptRel, none, some, nil}
+use Rattle.index_remap.specs.Related.{Pairing, OneToOne, OptRel, none, some, nil}
 use Rattle.index_remap.specs.RelatedRuns.{BegunRel, pending, closed}
 use Rattle.index_remap.specs.Laws.{passed, EntryByEntry, RelatedRunsShowTheSame}
 
-module _ (law : RelatedRunsShowTheSame) (of : Kind → ℕ → ℕ → Bool) (apart : OneToOne (passed of of [])) (env : Environment) (moves : List Move) where
+module _ (law : RelatedRunsShowTheSame) (of : Space → ℕ → ℕ → Bool) (apart : OneToOne (passed of of [])) (env : Environment) (moves : List Move) where
   abbrev R : Pairing
   R = passed of of []
 

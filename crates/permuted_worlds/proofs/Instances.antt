@@ -1,5 +1,7 @@
 -- The instances of the module and of the one with its functions in another order.
 use Rattle.std.proofs.Common.{◌≡◌, ℕ, ◌+◌, ◌-◌, ◌<◌, ◌≤◌, List, [], ◌∷◌, ◌++◌, map, length, Some, true, ◌⊎◌, inl, inr, refl, sym, ap, ap₂, subst, ◌∙◌, arith, option_and_then, slice_get}
+use Rattle.wasm_tree.specs.declared.space.Space.{Space}
+use Rattle.wasm_tree.specs.declared.space.Space.TheVariants.{Functions, Tables, Memories, Globals, ElementSegments, DataSegments}
 use Rattle.std.specs.Prelude.{slice_index}
 use Rattle.std.proofs.lemmas.Bool.{cases_lt, ltb-true}
 use Rattle.wasm_tree.specs.declared.module.Func as tree
@@ -9,12 +11,11 @@ use Rattle.wasm_tree.specs.declared.module.ImportDesc.TheVariants as im
 use Rattle.wasm_tree.specs.declared.module.Module.{Module}
 use Rattle.wasm_tree.specs.Spaces.{imported_funcs}
 use Rattle.wasm_meaning.specs.State.{Inst}
-use Rattle.wasm_meaning.specs.Linking.{Kind, Functions, Tables, Memories, Globals}
 use Rattle.wasm_meaning.specs.Environment.{Environment, own_funcs}
 use Rattle.wasm_meaning.specs.World.{numbers, own_count, defined_count, space, inst_of}
 use Rattle.index_remap.specs.declared.remap.Remap.{Remap}
 use Rattle.index_remap.specs.Renumbered.{has, all_true, new_import, new_import_desc, new_func, fits_import, fits_import_desc, fits_func, fits_global, fits_export, fits_start, fits_elem, fits_data, fits_tree}
-use Rattle.index_remap.specs.Related.{Funcs, Mems, Elems, Datas, Pairing, OptRel, some, ListRel}
+use Rattle.index_remap.specs.Related.{Pairing, OptRel, some, ListRel}
 use Rattle.index_remap.specs.Related as to
 use Rattle.index_remap.proofs.Rel.{append_rel}
 use Rattle.remap_typing.specs.Indices.{with_entry}
@@ -77,17 +78,17 @@ module _ (env : Environment) (places : List ℕ) (t : Module) where
 
   -- what each function index names
   abbrev pub FuncsRel : List ℕ → List ℕ → Type 0
-  FuncsRel xs ys = (x : ℕ) → x < length m.funcs → OptRel (R.of Funcs) (slice_get xs x) (slice_get ys (slice_index m.funcs x))
+  FuncsRel xs ys = (x : ℕ) → x < length m.funcs → OptRel (R.of Functions) (slice_get xs x) (slice_get ys (slice_index m.funcs x))
 
   pub record InstRel (i j : Inst) : Type 0 where
     pub left_types : i.types ≡ t.types
     pub right_types : j.types ≡ t.types
     pub funcs : FuncsRel i.funcs j.funcs
-    pub tables : ListRel (R.of to.Tables) i.tables j.tables
-    pub mems : ListRel (R.of Mems) i.mems j.mems
-    pub globals : ListRel (R.of to.Globals) i.globals j.globals
-    pub elems : ListRel (R.of Elems) i.elems j.elems
-    pub datas : ListRel (R.of Datas) i.datas j.datas
+    pub tables : ListRel (R.of Tables) i.tables j.tables
+    pub mems : ListRel (R.of Memories) i.mems j.mems
+    pub globals : ListRel (R.of Globals) i.globals j.globals
+    pub elems : ListRel (R.of ElementSegments) i.elems j.elems
+    pub datas : ListRel (R.of DataSegments) i.datas j.datas
 
   behind : (l xs : List ℕ) (k n : ℕ) → length l ≡ k → slice_get (l ++ xs) (k + n) ≡ slice_get xs n
   behind l xs k n e = subst (λ z. slice_get (l ++ xs) (z + n) ≡ slice_get xs n) e (place_right l xs n)
@@ -96,13 +97,13 @@ module _ (env : Environment) (places : List ℕ) (t : Module) where
     abbrev u : Module
     u = permuted places funcs t
 
-    func_row : (l : List ℕ) → ListRel (R.of Funcs) l l → length l ≡ length (imported_funcs t.imports) → FuncsRel (l ++ numbers (length (own_funcs env)) (length t.funcs)) (l ++ numbers (length (own_funcs env)) (length funcs))
+    func_row : (l : List ℕ) → ListRel (R.of Functions) l l → length l ≡ length (imported_funcs t.imports) → FuncsRel (l ++ numbers (length (own_funcs env)) (length t.funcs)) (l ++ numbers (length (own_funcs env)) (length funcs))
     func_row l r size x h = go (cases_lt x (length (imported_funcs t.imports)))
       where
         k : ℕ
         k = length (imported_funcs t.imports)
 
-        go : (x < length (imported_funcs t.imports)) ⊎ (length (imported_funcs t.imports) ≤ x) → OptRel (R.of Funcs) (slice_get (l ++ numbers (length (own_funcs env)) (length t.funcs)) x) (slice_get (l ++ numbers (length (own_funcs env)) (length funcs)) (slice_index m.funcs x))
+        go : (x < length (imported_funcs t.imports)) ⊎ (length (imported_funcs t.imports) ≤ x) → OptRel (R.of Functions) (slice_get (l ++ numbers (length (own_funcs env)) (length t.funcs)) x) (slice_get (l ++ numbers (length (own_funcs env)) (length funcs)) (slice_index m.funcs x))
         go (inl low) =
             let same : slice_index m.funcs x ≡ x = index_at m.funcs x x (moved_low (length (imported_funcs t.imports)) places x low) in
             let lt : x < length l = omega (arith, low, size) in
@@ -119,10 +120,10 @@ module _ (env : Environment) (places : List ℕ) (t : Module) where
             (ap (slice_get (l ++ numbers (length (own_funcs env)) (length funcs))) (index_at m.funcs x _ moves) ∙ behind l _ (length (imported_funcs t.imports)) p.0 size ∙ place_numbers (length (own_funcs env)) (length funcs) p.0 there)
             (some (func_moves env places t y p.0 p.1))
 
-    count_stays : (k : Kind) (n : ℕ) → defined_count k u ≡ n → space env (one u) k 0 u ≡ option_and_then (λ l. Some (l ++ numbers (own_count k env) n)) (addresses env t.types t.imports k)
+    count_stays : (k : Space) (n : ℕ) → defined_count k u ≡ n → space env (one u) k 0 u ≡ option_and_then (λ l. Some (l ++ numbers (own_count k env) n)) (addresses env t.types t.imports k)
     count_stays k n e = space_is env u k ∙ ap₂ (λ is c. option_and_then (λ l. Some (l ++ numbers (own_count k env) c)) (addresses env t.types is k)) (imports_stay fit) e
 
-    same_space : (k : Kind) → defined_count k u ≡ defined_count k t → ((a : ℕ) → a < own_count k env + defined_count k t → R.of (kind_in env places t k) a a) → OptRel (ListRel (R.of (kind_in env places t k))) (space env (one t) k 0 t) (space env (one u) k 0 u)
+    same_space : (k : Space) → defined_count k u ≡ defined_count k t → ((a : ℕ) → a < own_count k env + defined_count k t → R.of (kind_in env places t k) a a) → OptRel (ListRel (R.of (kind_in env places t k))) (space env (one t) k 0 t) (space env (one u) k 0 u)
     same_space k e h =
         opt_at (space_is env t k) (count_stays k _ e) (then_same (addresses env t.types t.imports k) (λ l is. some (append_rel (opt_self (addresses_rel env places t t.types t.imports k) is) (numbers_rel _ _ (λ a _ lt. h a lt)))))
 
@@ -141,8 +142,8 @@ module _ (env : Environment) (places : List ℕ) (t : Module) where
           tables = x;
           mems = y;
           globals = g;
-          elems = subst (λ n. ListRel (R.of Elems) (numbers 0 (length t.elems)) (numbers 0 n)) (sym (map_length _ t.elems)) (numbers_rel 0 _ (λ a _ lt. same_elem env places t a (omega (arith, lt))));
-          datas = subst (λ n. ListRel (R.of Datas) (numbers 0 (length t.datas)) (numbers 0 n)) (sym (map_length _ t.datas)) (numbers_rel 0 _ (λ a _ lt. same_data env places t a (omega (arith, lt))));
+          elems = subst (λ n. ListRel (R.of ElementSegments) (numbers 0 (length t.elems)) (numbers 0 n)) (sym (map_length _ t.elems)) (numbers_rel 0 _ (λ a _ lt. same_elem env places t a (omega (arith, lt))));
+          datas = subst (λ n. ListRel (R.of DataSegments) (numbers 0 (length t.datas)) (numbers 0 n)) (sym (map_length _ t.datas)) (numbers_rel 0 _ (λ a _ lt. same_data env places t a (omega (arith, lt))));
         })))))
 
   -- ---- what code names ----

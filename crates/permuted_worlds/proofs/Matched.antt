@@ -1,5 +1,6 @@
 -- Every import of the module matches where every one of its reordering does.
 use Rattle.std.proofs.Common.{◌≡◌, ℕ, zero, suc, List, [], ◌++◌, length, Some, false, cond, refl, sym, ap, ap₂, ◌∙◌, option_and_then, slice_get, unwrap_or, ◌&&◌}
+use Rattle.wasm_tree.specs.declared.space.Space.TheVariants.{Tables, Memories, Globals}
 use Rattle.wasm_tree.specs.declared.types.TableType.{TableType}
 use Rattle.wasm_tree.specs.declared.module.Func as tree
 use Rattle.wasm_tree.specs.declared.module.ImportDesc.{ImportDesc}
@@ -13,7 +14,7 @@ use Rattle.wasm_meaning.specs.Environment.{Environment, Thing, all_of}
 use Rattle.wasm_meaning.specs.World.{given, meets, same_bool, is_match, is_matched}
 use Rattle.index_remap.specs.declared.remap.Remap.{Remap}
 use Rattle.index_remap.specs.Renumbered.{new_import}
-use Rattle.index_remap.specs.Related.{Tables, Mems, Globals, Pairing, BothRel, both, TableRel}
+use Rattle.index_remap.specs.Related.{Pairing, BothRel, both, TableRel}
 use Rattle.index_remap.specs.RelatedRuns.{ThingRel, a_func, a_table, a_memory, a_global}
 use Rattle.permuted_worlds.specs.Permuted.{moving, permuted}
 use Rattle.index_remap.proofs.Rel.{length_rel}
@@ -46,7 +47,7 @@ module _ (env : Environment) (places : List ℕ) (t : Module) (funcs : List tree
   match_same (im.Table l) (a_table {a = a} {b = b} p) =
       then_eq (place_rel like.tables a) (λ _ _ r. ap Some (table_same l r)) ∙ ap (λ c. option_and_then (λ w. Some (same_ref l.ty w.ty && meets (length w.slots) w.most l.limits)) (slice_get z.tables c)) (number_at _ a b (partner env places t Tables a b p)).1
   match_same (im.Memory l) (a_memory {a = a} {b = b} p) =
-      then_eq (place_rel like.mems a) (λ _ _ r. ap (λ w. Some (meets w.pages w.most l)) r) ∙ ap (λ c. option_and_then (λ w. Some (meets w.pages w.most l)) (slice_get z.mems c)) (number_at _ a b (partner env places t Mems a b p)).1
+      then_eq (place_rel like.mems a) (λ _ _ r. ap (λ w. Some (meets w.pages w.most l)) r) ∙ ap (λ c. option_and_then (λ w. Some (meets w.pages w.most l)) (slice_get z.mems c)) (number_at _ a b (partner env places t Memories a b p)).1
   match_same (im.Global l) (a_global {a = a} {b = b} p) =
       then_eq (place_rel like.globals a) (λ _ _ r. ap (λ ty. Some (same_type l.ty ty.ty && same_bool l.mutable ty.mutable)) r.type)
       ∙ ap (λ c. option_and_then (λ w. Some (same_type l.ty w.ty.ty && same_bool l.mutable w.ty.mutable)) (slice_get z.globals c)) (number_at _ a b (partner env places t Globals a b p)).1

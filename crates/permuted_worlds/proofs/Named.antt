@@ -1,5 +1,6 @@
 -- Where each index of a set names what its entry names, so does each index of a body that names only these.
 use Rattle.std.proofs.Common.{◌≡◌, ℕ, List, Bool, true}
+use Rattle.wasm_tree.specs.declared.space.Space.{Space}
 use Rattle.wasm_tree.specs.declared.types.BlockType.{BlockType}
 use Rattle.wasm_tree.specs.declared.types.BlockType.TheVariants as bt
 use Rattle.wasm_tree.specs.declared.instr.Instr.{Instr}
@@ -7,7 +8,7 @@ use Rattle.wasm_tree.specs.declared.instr.Instr.TheOpen.{Instr-F}
 use Rattle.wasm_meaning.specs.State.{Inst}
 use Rattle.index_remap.specs.declared.remap.Remap.{Remap}
 use Rattle.index_remap.specs.Renumbered.{fits_all, renumbered_all}
-use Rattle.index_remap.specs.Related.{Kind, Pairing, CodeRel}
+use Rattle.index_remap.specs.Related.{Pairing, CodeRel}
 use Rattle.index_remap.specs.Laws.{passed}
 use Rattle.index_remap.specs.CodeNames.{BlockNames, LayerNames, ListLayers}
 use Rattle.index_remap.proofs.Unlisted.{all_follow}
@@ -70,5 +71,5 @@ module _ (R : Pairing) (m : Remap) (kept : Indices) (i j : Inst) (k : EntriesNam
 -- what the two laws of such code say together: code that fits a map and its renumbering are related
 abbrev pub FittingCodeIsRelated : Type 0
 FittingCodeIsRelated =
-    (of named : Kind → ℕ → ℕ → Bool) (l : List ℕ) (m : Remap) (i j : Inst) → EntriesName (passed of named l) m (with_entry m) i j →
+    (of named : Space → ℕ → ℕ → Bool) (l : List ℕ) (m : Remap) (i j : Inst) → EntriesName (passed of named l) m (with_entry m) i j →
     (code : List Instr) → fits_all m code ≡ true → CodeRel (passed of named l) i j code (renumbered_all m code)

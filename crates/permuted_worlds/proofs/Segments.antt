@@ -1,5 +1,6 @@
 -- The active segments of the module and of its reordering.
 use Rattle.std.proofs.Common.{◌≡◌, ℕ, List, [], ◌∷◌, ◌++◌, map, Option, Bool, true, false, cond, refl, sym, ap, ap₂, subst, ◌∙◌, option_and_then, slice_get, slice_set}
+use Rattle.wasm_tree.specs.declared.space.Space.TheVariants.{Tables, Memories, ElementSegments, DataSegments}
 use Rattle.std.specs.Prelude.{slice_index}
 use Rattle.wasm_tree.specs.declared.module.Func as tree
 use Rattle.wasm_tree.specs.declared.module.ElemSeg.{ElemSeg}
@@ -16,7 +17,7 @@ use Rattle.wasm_meaning.specs.Environment.{Environment}
 use Rattle.wasm_meaning.specs.World.{Filled, tasks_in, or_trapped, fill_table, copy_elem, run_elem_mode, run_elem, fill_memory, copy_data, run_data_mode, run_data, and_then, in_turn, segments, number_value}
 use Rattle.index_remap.specs.declared.remap.Remap.{Remap}
 use Rattle.index_remap.specs.Renumbered.{all_true, new_elem_mode, new_elem, new_data_mode, new_data, fits_elem, fits_elem_mode, fits_data, fits_data_mode}
-use Rattle.index_remap.specs.Related.{Tables, Mems, Elems, Datas, Pairing, OptRel, none, some, ResRel, done, trap, wrong, ListRel, nil, cons, RefRel, TableRel, ElemRel}
+use Rattle.index_remap.specs.Related.{Pairing, OptRel, none, some, ResRel, done, trap, wrong, ListRel, nil, cons, RefRel, TableRel, ElemRel}
 use Rattle.index_remap.proofs.Rel.{put_rel, overwrite_rel}
 use Rattle.permuted_worlds.specs.Permuted.{moving, IsOrder, permuted}
 use Rattle.permuted_worlds.proofs.Named.{FittingCodeIsRelated}
@@ -114,15 +115,15 @@ module _ (env : Environment) (places : List ℕ) (t : Module) where
         go elem.Passive f = record { store = like; trapped = refl }
         go elem.Declarative f = record { store = like; trapped = refl }
 
-    elems_turn : {ns ls : List ℕ} {s z : Store} (es : List ElemSeg) → all_true (map (fits_elem m) es) ≡ true → ListRel (R.of Elems) ns ls → Alike env places t s z →
+    elems_turn : {ns ls : List ℕ} {s z : Store} (es : List ElemSeg) → all_true (map (fits_elem m) es) ≡ true → ListRel (R.of ElementSegments) ns ls → Alike env places t s z →
         FilledRel (in_turn (run_elem env (one t) (i ∷ [])) s (tasks_in 0 i ns es ++ [])) (in_turn (run_elem env (one u) (j ∷ [])) z (tasks_in 0 j ls (map (new_elem m) es) ++ []))
     elems_turn es h nil like = record { store = like; trapped = refl }
     elems_turn [] h (cons p r) like = record { store = like; trapped = refl }
-    elems_turn (e ∷ es) h (cons {a = n} {b = l} p r) like = and_then_rel (elem_rel e (left_true _ _ h) like (number_at _ n l (partner env places t Elems n l p)).1) (λ s z like. elems_turn es (right_true (fits_elem m e) _ h) r like)
+    elems_turn (e ∷ es) h (cons {a = n} {b = l} p r) like = and_then_rel (elem_rel e (left_true _ _ h) like (number_at _ n l (partner env places t ElementSegments n l p)).1) (λ s z like. elems_turn es (right_true (fits_elem m e) _ h) r like)
 
     copy_data_rel : {s z : Store} {n l : ℕ} (x : ℕ) (o : Option ℕ) → Alike env places t s z → n ≡ l → FilledRel (copy_data s n i x o) (copy_data z l j x o)
     copy_data_rel {s} {z} {n} {l} x o like e = or_trapped_rel like (then_same o (λ q _. then_rel (place_rel k.mems x) (λ a b h.
-        let d = (number_at _ a b (partner env places t Mems a b h)).1 in
+        let d = (number_at _ a b (partner env places t Memories a b h)).1 in
         same_place like.mems d (λ v w r. same_place like.datas e (λ x y same. some (subst (λ p. FilledRel (fill_memory s n a v (overwrite v.bytes q x.bytes)) (fill_memory z l b w p)) (ap₂ (λ c bytes. overwrite (Memory.bytes c) q bytes) r same) (fill_memory_rel (overwrite v.bytes q x.bytes) like e d r)))))))
 
     data_rel : {s z : Store} {n l : ℕ} (d : DataSeg) → fits_data m d ≡ true → Alike env places t s z → n ≡ l →
@@ -135,11 +136,11 @@ module _ (env : Environment) (places : List ℕ) (t : Module) where
             (subst (λ y. FilledRel (copy_data s n i x (number_value env (one t) (i ∷ []) 0 offset)) (copy_data z l j y (number_value env (one t) (i ∷ []) 0 offset))) (sym (stays_at _ x (left_true _ _ f))) (copy_data_rel x _ like same))
         go data'.Passive f = record { store = like; trapped = refl }
 
-    datas_turn : {ns ls : List ℕ} {s z : Store} (ds : List DataSeg) → all_true (map (fits_data m) ds) ≡ true → ListRel (R.of Datas) ns ls → Alike env places t s z →
+    datas_turn : {ns ls : List ℕ} {s z : Store} (ds : List DataSeg) → all_true (map (fits_data m) ds) ≡ true → ListRel (R.of DataSegments) ns ls → Alike env places t s z →
         FilledRel (in_turn (run_data env (one t) (i ∷ [])) s (tasks_in 0 i ns ds ++ [])) (in_turn (run_data env (one u) (j ∷ [])) z (tasks_in 0 j ls (map (new_data m) ds) ++ []))
     datas_turn ds h nil like = record { store = like; trapped = refl }
     datas_turn [] h (cons p r) like = record { store = like; trapped = refl }
-    datas_turn (d ∷ ds) h (cons {a = n} {b = l} p r) like = and_then_rel (data_rel d (left_true _ _ h) like (number_at _ n l (partner env places t Datas n l p)).1) (λ s z like. datas_turn ds (right_true (fits_data m d) _ h) r like)
+    datas_turn (d ∷ ds) h (cons {a = n} {b = l} p r) like = and_then_rel (data_rel d (left_true _ _ h) like (number_at _ n l (partner env places t DataSegments n l p)).1) (λ s z like. datas_turn ds (right_true (fits_data m d) _ h) r like)
 
     pub segments_rel : {s z : Store} → Alike env places t s z → FilledRel (segments env (one t) (i ∷ []) s) (segments env (one u) (j ∷ []) z)
     segments_rel like = and_then_rel (elems_turn t.elems fit.elems k.elems like) (λ s z like. datas_turn t.datas fit.datas k.datas like)

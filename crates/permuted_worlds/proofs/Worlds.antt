@@ -1,5 +1,6 @@
 -- The world of a module and the world of the module with its functions in another order: both are instantiated or neither, and then they show the same.
 use Rattle.std.proofs.Common.{◌≡◌, ℕ, ◌≤◌, List, [], ◌∷◌, ◌++◌, map, length, Option, Some, None, Bool, true, false, cond, refl, ap, subst, ◌∙◌, arith, option_and_then}
+use Rattle.wasm_tree.specs.declared.space.Space.TheVariants.{Functions}
 use Rattle.std.proofs.lemmas.Bool.{ltb-true}
 use Rattle.wasm_tree.specs.declared.module.Func as tree
 use Rattle.wasm_tree.specs.declared.module.Export.{Export}
@@ -14,7 +15,7 @@ use Rattle.wasm_meaning.specs.World.{Begun, alone, numbers, insts_from, own_stor
 use Rattle.wasm_meaning.specs.Run.{IsPrefix}
 use Rattle.index_remap.specs.declared.remap.Remap.{Remap}
 use Rattle.index_remap.specs.Renumbered.{new_start, new_export, new_export_desc, fits_start, fits_export, fits_export_desc}
-use Rattle.index_remap.specs.Related.{Funcs, Pairing, OptRel, none, some, ListRel, nil, cons, opening}
+use Rattle.index_remap.specs.Related.{Pairing, OptRel, none, some, ListRel, nil, cons, opening}
 use Rattle.index_remap.specs.RelatedRuns.{ThingRel, a_func, a_table, a_memory, a_global, KeyRel, BegunRel}
 use Rattle.index_remap.specs.Laws.{EntryByEntry}
 use Rattle.index_remap.proofs.Rel.{append_rel}
@@ -60,11 +61,11 @@ module _ (env : Environment) (places : List ℕ) (t : Module) (funcs : List tree
 
   -- ---- the start and the view ----
 
-  start_rel : {i j : Inst} → InstRel env places t i j → (start : Option ℕ) → fits_start m start ≡ true → ListRel (R.of Funcs) (start_in i start) (start_in j (new_start m start))
+  start_rel : {i j : Inst} → InstRel env places t i j → (start : Option ℕ) → fits_start m start ≡ true → ListRel (R.of Functions) (start_in i start) (start_in j (new_start m start))
   start_rel k None h = nil
   start_rel k (Some f) h = go (k.funcs f (ltb-true _ _ h))
     where
-      go : {o p : Option ℕ} → OptRel (R.of Funcs) o p → ListRel (R.of Funcs) (one_place o) (one_place p)
+      go : {o p : Option ℕ} → OptRel (R.of Functions) o p → ListRel (R.of Functions) (one_place o) (one_place p)
       go none = nil
       go (some r) = cons r nil
 

@@ -1,5 +1,7 @@
 -- A module alone: its imports all stay, so what they stand for, its index spaces, and what its constant expressions read are a matter of its types and imports.
 use Rattle.std.specs.Prelude.{◌≡◌, ℕ, List, [], ◌∷◌, ◌++◌, Option, Some, None, slice_get}
+use Rattle.wasm_tree.specs.declared.space.Space.{Space}
+use Rattle.wasm_tree.specs.declared.space.Space.TheVariants.{Globals}
 use Rattle.base_lists.specs.Options.{◌>>=◌}
 use Rattle.wasm_tree.specs.declared.types.FuncType.{FuncType}
 use Rattle.wasm_tree.specs.declared.module.Import.{Import}
@@ -9,7 +11,7 @@ use Rattle.wasm_tree.specs.declared.module.ConstExpr.{ConstExpr}
 use Rattle.wasm_tree.specs.declared.module.ConstExpr.TheVariants as const
 use Rattle.wasm_tree.specs.declared.module.Module.{Module}
 use Rattle.wasm_meaning.specs.State.{Pair}
-use Rattle.wasm_meaning.specs.Linking.{Part, Site, Outside, Kind, Globals, Read, places, has_kind, pair_of, end_of, read_of, space_index}
+use Rattle.wasm_meaning.specs.Linking.{Part, Site, Outside, Read, places, has_kind, pair_of, end_of, read_of, space_index}
 use Rattle.wasm_meaning.specs.Environment.{Environment, Thing, OwnKey, FuncKey, TableKey, MemoryKey, GlobalKey, owned_of, owned_at}
 use Rattle.wasm_meaning.specs.World.{given, imported_thing, address_of, all_there, numbers, own_count, defined_count, space}
 
@@ -41,19 +43,19 @@ ImportsStandForTheEnvironments = (env : Environment) (t : Module) (n : ℕ) → 
 
 -- ---- index spaces ----
 
-abbrev pub address_in : Environment → List FuncType → List Import → Kind → ℕ → Option ℕ
-address_in env types imports k n = thing_in env types (slice_get imports n) >>= (address_of k)
+abbrev pub address_in : Environment → List FuncType → List Import → Space → ℕ → Option ℕ
+address_in env types imports k n = thing_in env types (slice_get imports n) >>= address_of k
 
-abbrev pub import_places : Kind → List Import → List ℕ
+abbrev pub import_places : Space → List Import → List ℕ
 import_places k imports = places (has_kind k) imports 0
 
-abbrev pub addresses : Environment → List FuncType → List Import → Kind → Option (List ℕ)
+abbrev pub addresses : Environment → List FuncType → List Import → Space → Option (List ℕ)
 addresses env types imports k = all_there (address_in env types imports k) (import_places k imports)
 
 -- the addresses of the imports, then those after all that is the environment's
 abbrev pub SpacesAreImportsAndOwn : Type 0
 SpacesAreImportsAndOwn =
-    (env : Environment) (t : Module) (k : Kind) → space env (one t) k 0 t ≡ addresses env t.types t.imports k >>= λ l. Some (l ++ numbers (own_count k env) (defined_count k t))
+    (env : Environment) (t : Module) (k : Space) → space env (one t) k 0 t ≡ addresses env t.types t.imports k >>= λ l. Some (l ++ numbers (own_count k env) (defined_count k t))
 
 -- ---- what is read ----
 

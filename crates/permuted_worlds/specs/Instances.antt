@@ -1,9 +1,10 @@
 -- Two worlds whose instances correspond.
 use Rattle.std.specs.Prelude.{◌≡◌, ℕ, Bool, List, [], Option}
+use Rattle.wasm_tree.specs.declared.space.Space.{Space}
 use Rattle.wasm_meaning.specs.Environment.{Environment}
 use Rattle.wasm_meaning.specs.World.{World, Begun, instantiate}
 use Rattle.wasm_meaning.specs.Run.{Move, tick, events_of, fresh_run, events}
-use Rattle.index_remap.specs.Related.{Kind, OneToOne, OptRel}
+use Rattle.index_remap.specs.Related.{OneToOne, OptRel}
 use Rattle.index_remap.specs.RelatedRuns.{BegunRel}
 use Rattle.index_remap.specs.Laws.{passed, EntryByEntry}
 
@@ -11,11 +12,11 @@ use Rattle.index_remap.specs.Laws.{passed, EntryByEntry}
 -- offers is in the stores, so that they need not correspond.
 abbrev pub RelatedInstancesShowTheSame : Type 0
 RelatedInstancesShowTheSame =
-    (of : Kind → ℕ → ℕ → Bool) → OneToOne (passed of of []) → (v w : World) (env : Environment) →
+    (of : Space → ℕ → ℕ → Bool) → OneToOne (passed of of []) → (v w : World) (env : Environment) →
     OptRel (BegunRel (passed of of []) (EntryByEntry (passed of of []))) (instantiate env v) (instantiate env w) → (moves : List Move) (n : ℕ) → events v env moves n ≡ events w env moves n
 
 -- The same of what the worlds are instantiated to, whatever the worlds are.
 abbrev pub RelatedBegunShowTheSame : Type 0
 RelatedBegunShowTheSame =
-    (of : Kind → ℕ → ℕ → Bool) → OneToOne (passed of of []) → (env : Environment) (b c : Option Begun) →
+    (of : Space → ℕ → ℕ → Bool) → OneToOne (passed of of []) → (env : Environment) (b c : Option Begun) →
     OptRel (BegunRel (passed of of []) (EntryByEntry (passed of of []))) b c → (moves : List Move) (n : ℕ) → events_of tick (fresh_run env b moves) n ≡ events_of tick (fresh_run env c moves) n

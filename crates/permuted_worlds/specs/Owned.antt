@@ -1,19 +1,20 @@
 -- The environment's own entities in two worlds where each has its address: they correspond, and so do the tables and globals that are allocated for them.
 use Rattle.std.specs.Prelude.{ℕ, ◌<◌, [], Bool}
-use Rattle.wasm_meaning.specs.Linking.{Functions, Tables, Memories, Globals}
+use Rattle.wasm_tree.specs.declared.space.Space.{Space}
+use Rattle.wasm_tree.specs.declared.space.Space.TheVariants.{Functions, Tables, Memories, Globals}
 use Rattle.wasm_meaning.specs.Environment.{Environment, owned_of, own_tables, own_globals}
 use Rattle.wasm_meaning.specs.World.{own_count}
-use Rattle.index_remap.specs.Related.{Kind, Funcs, Mems, Pairing, ListRel, TableRel, GlobalRel}
+use Rattle.index_remap.specs.Related.{Pairing, ListRel, TableRel, GlobalRel}
 use Rattle.index_remap.specs.Related as to
 use Rattle.index_remap.specs.RelatedRuns.{KeyRel}
 use Rattle.index_remap.specs.Laws.{passed}
 
 -- each address of the environment's own entities stands for itself
 pub record SharesOwn (R : Pairing) (env : Environment) : Type 0 where
-  pub funcs : (a : ℕ) → a < own_count Functions env → R.of Funcs a a
-  pub tables : (a : ℕ) → a < own_count Tables env → R.of to.Tables a a
-  pub mems : (a : ℕ) → a < own_count Memories env → R.of Mems a a
-  pub globals : (a : ℕ) → a < own_count Globals env → R.of to.Globals a a
+  pub funcs : (a : ℕ) → a < own_count Functions env → R.of Functions a a
+  pub tables : (a : ℕ) → a < own_count Tables env → R.of Tables a a
+  pub mems : (a : ℕ) → a < own_count Memories env → R.of Memories a a
+  pub globals : (a : ℕ) → a < own_count Globals env → R.of Globals a a
 
 pub record OwnCorrespond (R : Pairing) (env : Environment) : Type 0 where
   pub owned : ListRel (KeyRel R) (owned_of env) (owned_of env)
@@ -21,4 +22,4 @@ pub record OwnCorrespond (R : Pairing) (env : Environment) : Type 0 where
   pub globals : ListRel (GlobalRel R) (own_globals env) (own_globals env)
 
 abbrev pub OwnEntitiesCorrespond : Type 0
-OwnEntitiesCorrespond = (of : Kind → ℕ → ℕ → Bool) (env : Environment) → SharesOwn (passed of of []) env → OwnCorrespond (passed of of []) env
+OwnEntitiesCorrespond = (of : Space → ℕ → ℕ → Bool) (env : Environment) → SharesOwn (passed of of []) env → OwnCorrespond (passed of of []) env

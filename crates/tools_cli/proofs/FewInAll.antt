@@ -1,11 +1,13 @@
 -- What stands in the parts of a merge together.
 use Rattle.std.proofs.Common.{◌≡◌, refl, ap, subst, ℕ, zero, suc, ◌*◌, ◌≤◌, List, [], ◌∷◌, length, length-append, Some, None, Ok, Result, cond, ltb, true, false, Bool, arith}
+use Rattle.wasm_tree.specs.declared.space.Space.{Space}
+use Rattle.wasm_tree.specs.declared.space.Space.TheVariants.{Functions, Tables, Memories, Globals, DataSegments, ElementSegments}
 use Rattle.std.specs.List.{flat_map}
 use Rattle.std.proofs.lemmas.Bool.Decides.{nat_tests}
 use Rattle.wasm_tree.specs.declared.module.Module.{Module}
 use Rattle.wasm_format.specs.Words.{Every}
-use Rattle.wasm_meaning.specs.World.{defined_count, defined_before, elems_before, datas_before}
-use Rattle.wasm_meaning.specs.Linking.{Part, Kind, Functions, Tables, Memories, Globals, sites_in, sites_from}
+use Rattle.wasm_meaning.specs.World.{defined_count, defined_before}
+use Rattle.wasm_meaning.specs.Linking.{Part, sites_in, sites_from}
 use Rattle.merge_terms.specs.Joined as joined
 use Rattle.tools_cli.specs.Words.{Text, Source, Merge}
 use Rattle.tools_cli.specs.Effects.{Entry}
@@ -31,23 +33,23 @@ sites_few n (p ∷ ps) h =
     let whole = length-append (sites_in n (length p.«module».imports) 0) (sites_from (suc n) ps) in
     omega (arith, whole, length_sites_in n (length p.«module».imports) 0, h.0.imports, sites_few (suc n) ps h.1)
 
-count_few : (k : Kind) (m : Module) → IsWithinLimits m → defined_count k m ≤ 1000000
+count_few : (k : Space) (m : Module) → IsWithinLimits m → defined_count k m ≤ 1000000
 count_few Functions m h = h.funcs
 count_few Tables m h = h.tables
 count_few Memories m h = h.mems
 count_few Globals m h = h.globals
 
-defined_few : (k : Kind) (ps : List Part) (n : ℕ) → EachWithin ps → defined_before k ps n ≤ 1000000 * length ps
+defined_few : (k : Space) (ps : List Part) (n : ℕ) → EachWithin ps → defined_before k ps n ≤ 1000000 * length ps
 defined_few k [] n h = omega arith
 defined_few k (p ∷ ps) zero h = omega arith
 defined_few k (p ∷ ps) (suc n) h = omega (arith, count_few k p.«module» h.0, defined_few k ps n h.1)
 
-elems_few : (ps : List Part) (n : ℕ) → EachWithin ps → elems_before ps n ≤ 1000000 * length ps
+elems_few : (ps : List Part) (n : ℕ) → EachWithin ps → defined_before ElementSegments ps n ≤ 1000000 * length ps
 elems_few [] n h = omega arith
 elems_few (p ∷ ps) zero h = omega arith
 elems_few (p ∷ ps) (suc n) h = omega (arith, h.0.elems, elems_few ps n h.1)
 
-datas_few : (ps : List Part) (n : ℕ) → EachWithin ps → datas_before ps n ≤ 1000000 * length ps
+datas_few : (ps : List Part) (n : ℕ) → EachWithin ps → defined_before DataSegments ps n ≤ 1000000 * length ps
 datas_few [] n h = omega arith
 datas_few (p ∷ ps) zero h = omega arith
 datas_few (p ∷ ps) (suc n) h = omega (arith, h.0.datas, datas_few ps n h.1)

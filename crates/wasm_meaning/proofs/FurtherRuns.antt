@@ -1,6 +1,7 @@
 -- Further small runs, computed: what comes first where parts are linked and filled, what the embedder may do while something waits and after the world was closed,
 -- which numbers functions are shown by, when a growth is asked for, imports of one pair, starts, and values that enter blocks.
 use Rattle.std.proofs.Common.{◌≡◌, refl, ℕ, List, [], ◌∷◌, Some, None, true, false}
+use Rattle.wasm_tree.specs.declared.space.Space.TheVariants.{Tables, Memories}
 use Rattle.std.specs.Prelude.{pos, negsuc}
 use Rattle.wasm_num.specs.declared.BinOp.TheVariants as bin
 use Rattle.wasm_num.specs.declared.UnOp.TheVariants as un
@@ -26,7 +27,7 @@ use Rattle.wasm_num.specs.Operations.{wrapped, un_from, un_to, un_value, bin_fro
 use Rattle.wasm_meaning.specs.Outcomes.{copies}
 use Rattle.wasm_meaning.specs.State.{Text, Pair}
 use Rattle.wasm_meaning.specs.Access.{load_to, load_width, loaded, store_from, stored}
-use Rattle.wasm_meaning.specs.Linking.{Part, Entity, Tables, Memories}
+use Rattle.wasm_meaning.specs.Linking.{Part, Entity}
 use Rattle.wasm_meaning.specs.Environment.{Environment, Number, Null, OwnFunc, ExternNumber, Function}
 use Rattle.wasm_meaning.specs.World.{World}
 use Rattle.wasm_meaning.specs.Run.{Event, Move, Linked, LinkFault, InstanceTrapped, Returned, Trapped, Asked, GrowAsked, Got, Done, BadMove, Call, Invoke, Take, Answer, Refuse, Grant, Deny, Get, Size, Set, Extend, TableOf, MemoryOf, GlobalOf, Named, events}

@@ -1,12 +1,13 @@
 -- Where imports end and what is read: the definitions by paths and those that compute are one.
 use Rattle.std.proofs.Common.{◌≡◌, ◌∙◌, ap, subst, refl, ℕ, zero, suc, ◌+◌, ◌-◌, ◌<◌, ◌≤◌, List, [], ◌∷◌, ◌++◌, map, length, arith, Option, Some, None, ◌↔◌, Bool, true, false, cond, option_and_then, slice_get}
+use Rattle.wasm_tree.specs.declared.space.Space.TheVariants.{Globals}
 use Rattle.wasm_tree.specs.declared.module.Import.{Import}
 use Rattle.wasm_tree.specs.declared.module.GlobalDef.{GlobalDef}
 use Rattle.wasm_tree.specs.declared.module.ConstExpr.{ConstExpr}
 use Rattle.wasm_tree.specs.declared.module.ConstExpr.TheVariants as const
 use Rattle.wasm_tree.specs.declared.module.Module.{Module}
 use Rattle.wasm_meaning.specs.Paths.{Next, Ends, Goes, In, here, there}
-use Rattle.wasm_meaning.specs.Linking.{Part, Site, End, Defined, Outside, Entity, Globals, Read, places, module_at, import_at, imports_of, has_kind, kind_of_export, index_of_export, joined, imported_as, entity_step, joined_step, import_step, Leads, sites_in, sites_from, sites, end_of, initial, outside_read, global_import, end_step, expr_step, read_step, Reads, initials_from, read_of}
+use Rattle.wasm_meaning.specs.Linking.{Part, Site, End, Defined, Outside, Entity, Read, places, module_at, import_at, imports_of, has_kind, kind_of_export, index_of_export, joined, imported_as, entity_step, joined_step, import_step, Leads, sites_in, sites_from, sites, end_of, initial, outside_read, global_import, end_step, expr_step, read_step, Reads, initials_from, read_of}
 use Rattle.wasm_meaning.proofs.Walks.{walk_is}
 
 in_front : {A : Type 0} {x : A} {xs : List A} (ys : List A) → In x xs → In x (xs ++ ys)
@@ -58,7 +59,7 @@ import_in : (parts : List Part) (e : Entity) (t : Site) → imported_as parts e 
 import_in parts e t h = by (module_at parts e.part) refl h
   where
     inner : (m : Module) → module_at parts e.part ≡ Some m → (o : Option ℕ) → slice_get (imports_of (kind_of_export e.what) m) (index_of_export e.what) ≡ o →
-        option_and_then o {B = Site} (λ n. Some (record { part = e.part; import = n })) ≡ Some t → In t (sites parts)
+        option_and_then {U = Site} (λ n. Some (record { part = e.part; import = n })) o ≡ Some t → In t (sites parts)
     inner m is None at k = cc
     inner m is (Some n) at k =
         let same : record { part = e.part; import = n } ≡ t = cc in
@@ -122,11 +123,11 @@ initial_known parts e expr h = by (module_at parts e.part) refl h
 goes_to_read : (parts : List Part) (r q : Read) → read_step parts r ≡ Some (Goes q) → In q (initials_from 0 parts)
 goes_to_read parts r q h = by r.expr h
   where
-    at_value : (e : Entity) (o : Option ConstExpr) → initial parts e ≡ o → option_and_then o {B = Next Read Read} (λ expr. Some (Goes (record { part = e.part; expr = expr }))) ≡ Some (Goes q) → In q (initials_from 0 parts)
+    at_value : (e : Entity) (o : Option ConstExpr) → initial parts e ≡ o → option_and_then {U = Next Read Read} (λ expr. Some (Goes (record { part = e.part; expr = expr }))) o ≡ Some (Goes q) → In q (initials_from 0 parts)
     at_value e None is k = cc
     at_value e (Some expr) is k = let same : record { part = e.part; expr = expr } ≡ q = cc in subst (λ x. In x (initials_from 0 parts)) same (initial_known parts e expr is)
 
-    at_outside : (o : Option Read) → option_and_then o {B = Next Read Read} (λ r. Some (Ends r)) ≡ Some (Goes q) → In q (initials_from 0 parts)
+    at_outside : (o : Option Read) → option_and_then {U = Next Read Read} (λ r. Some (Ends r)) o ≡ Some (Goes q) → In q (initials_from 0 parts)
     at_outside None k = cc
     at_outside (Some x) k = cc
 

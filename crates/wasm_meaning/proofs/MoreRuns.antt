@@ -1,5 +1,6 @@
 -- More small runs, computed: branches with a condition, segments and copies at their bounds, loads and stores of each width, numbers of 64 bits, references.
 use Rattle.std.proofs.Common.{◌≡◌, refl, ℕ, List, [], ◌∷◌, Some, None, true}
+use Rattle.wasm_tree.specs.declared.space.Space.TheVariants.{Tables, Memories}
 use Rattle.std.specs.Prelude.{pos, negsuc}
 use Rattle.wasm_num.specs.declared.BinOp.TheVariants as bin
 use Rattle.wasm_num.specs.declared.UnOp.TheVariants as un
@@ -24,7 +25,6 @@ use Rattle.wasm_tree.specs.declared.module.DataMode.TheVariants as data'
 use Rattle.wasm_tree.specs.declared.module.Module.{Module}
 use Rattle.wasm_num.specs.Operations.{wrapped, un_from, un_to, un_value, bin_from, bin_to, bin_value}
 use Rattle.wasm_meaning.specs.Access.{load_to, load_width, loaded, store_from, stored}
-use Rattle.wasm_meaning.specs.Linking.{Tables, Memories}
 use Rattle.wasm_meaning.specs.Environment.{Environment, Number, Null, ExternNumber}
 use Rattle.wasm_meaning.specs.World.{World}
 use Rattle.wasm_meaning.specs.Run.{Linked, LinkFault, InstanceTrapped, Returned, Trapped, Asked, GrowAsked, Got, Call, Answer, Grant, Deny, Get, Named, events}

@@ -1,5 +1,6 @@
 -- Small runs, computed: the definitions give the events that the standard asks for.
 use Rattle.std.proofs.Common.{◌≡◌, refl, ℕ, List, [], ◌∷◌, Some, None, true, false}
+use Rattle.wasm_tree.specs.declared.space.Space.TheVariants.{Tables, Memories}
 use Rattle.std.specs.Prelude.{pos, negsuc}
 use Rattle.wasm_num.specs.declared.BinOp.TheVariants as bin
 use Rattle.wasm_num.specs.declared.UnOp.TheVariants as un
@@ -22,7 +23,6 @@ use Rattle.wasm_tree.specs.declared.module.Module.{Module}
 use Rattle.wasm_num.specs.Operations.{wrapped, un_from, un_to, un_value, bin_from, bin_to, bin_value}
 use Rattle.wasm_meaning.specs.State.{Text}
 use Rattle.wasm_meaning.specs.Access.{load_to, load_width, loaded, store_from, stored}
-use Rattle.wasm_meaning.specs.Linking.{Tables, Memories}
 use Rattle.wasm_meaning.specs.Environment.{Environment, Shown, Number, Null, Function}
 use Rattle.wasm_meaning.specs.World.{World}
 use Rattle.wasm_meaning.specs.Run.{Event, Linked, LinkFault, InstanceTrapped, Returned, Trapped, Asked, GrowAsked, Got, Done, BadMove, Call, Invoke, Take, Answer, Refuse, Grant, Deny, Get, Size, Set, MemoryOf, GlobalOf, Named, events}

@@ -1,6 +1,7 @@
 -- Runs that tell, computed: each gives something else under a definition that is wrong in one place. The order of two values, indices other than 0, the addresses of a
 -- second part, locals, and equal types under other indices.
 use Rattle.std.proofs.Common.{◌≡◌, refl, ℕ, List, [], ◌∷◌, Some, None, true}
+use Rattle.wasm_tree.specs.declared.space.Space.TheVariants.{Tables, Memories}
 use Rattle.std.specs.Prelude.{pos}
 use Rattle.wasm_num.specs.declared.BinOp.TheVariants as bin
 use Rattle.wasm_num.specs.declared.UnOp.TheVariants as un
@@ -32,7 +33,6 @@ use Rattle.wasm_tree.specs.declared.module.DataMode.TheVariants as data'
 use Rattle.wasm_tree.specs.declared.module.Module.{Module}
 use Rattle.wasm_num.specs.Operations.{wrapped, un_from, un_to, un_value, bin_from, bin_to, bin_value}
 use Rattle.wasm_meaning.specs.Access.{load_to, load_width, loaded, store_from, stored}
-use Rattle.wasm_meaning.specs.Linking.{Tables, Memories}
 use Rattle.wasm_meaning.specs.Environment.{Environment, Number, Null, ExternNumber}
 use Rattle.wasm_meaning.specs.World.{World}
 use Rattle.wasm_meaning.specs.Run.{Event, Move, Linked, Returned, Trapped, Asked, GrowAsked, Call, Answer, Grant, events}

@@ -1,5 +1,6 @@
 -- Runs that tell, computed, continued: instantiation, linking, the embedder's moves, a loader, and a module alone with its own exports.
 use Rattle.std.proofs.Common.{◌≡◌, refl, ℕ, List, [], ◌∷◌, Option, Some, None, true, false}
+use Rattle.wasm_tree.specs.declared.space.Space.TheVariants.{Memories}
 use Rattle.std.specs.Prelude.{pos, negsuc}
 use Rattle.wasm_tree.specs.declared.types.RefType.TheVariants as reft
 use Rattle.wasm_tree.specs.declared.types.ValType.{ValType}
@@ -28,7 +29,7 @@ use Rattle.wasm_num.specs.Operations.{wrapped, un_from, un_to, un_value, bin_fro
 use Rattle.wasm_meaning.specs.Outcomes.{copies}
 use Rattle.wasm_meaning.specs.State.{Text, Pair}
 use Rattle.wasm_meaning.specs.Access.{load_to, load_width, loaded, store_from, stored}
-use Rattle.wasm_meaning.specs.Linking.{Part, Memories}
+use Rattle.wasm_meaning.specs.Linking.{Part}
 use Rattle.wasm_meaning.specs.Environment.{Environment, Shown, Number, Null, OwnFunc, ExternNumber, Function}
 use Rattle.wasm_meaning.specs.World.{World}
 use Rattle.wasm_meaning.specs.World as world

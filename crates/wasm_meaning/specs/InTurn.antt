@@ -1,6 +1,8 @@
 -- Parts that are instantiated one after the other: each is matched, allocated and filled, and its start is made, before the next part's turn comes
 -- (WebAssembly Core 2.0, section 4.5.4, for one module at a time). The view opens after the last.
 use Rattle.std.proofs.Common.{◌≡◌, ◌<◌, ℕ, List, [], ◌∷◌, ◌++◌, map, length, Option, Some, None, Bool, true, false, cond, slice_get, unwrap_or, ◌&&◌}
+use Rattle.wasm_tree.specs.declared.space.Space.{Space}
+use Rattle.wasm_tree.specs.declared.space.Space.TheVariants.{Functions, Tables, Memories, Globals}
 use Rattle.base_lists.specs.Options.{◌>>=◌}
 use Rattle.std.specs.List.{filter_map}
 use Rattle.wasm_tree.specs.declared.module.Import.{Import}
@@ -12,7 +14,7 @@ use Rattle.wasm_tree.specs.declared.module.DataMode.{DataMode}
 use Rattle.wasm_tree.specs.declared.module.DataMode.TheVariants as data'
 use Rattle.wasm_tree.specs.declared.module.Module.{Module}
 use Rattle.wasm_meaning.specs.State.{Text, Val, Inst, Store, Opening, Entry}
-use Rattle.wasm_meaning.specs.Linking.{Part, Entity, Functions, Tables, Memories, Globals, Kind, is_named, export_named, module_at, joined}
+use Rattle.wasm_meaning.specs.Linking.{Part, Entity, is_named, export_named, module_at, joined}
 use Rattle.wasm_meaning.specs.Environment.{Environment, Thing, Owned, owned_at, any_of}
 use Rattle.wasm_meaning.specs.World.{World, Begun, Filled, given, own_key, address_of, address_in, seen_as, all_there, numbers, const_value, store_with, joined_stores, is_match, tasks_in, run_elem_with, run_data_with, in_turn, and_then, start_in, instantiate}
 use Rattle.wasm_meaning.specs.Run.{Run, Pending, Closed, Event, LinkFault, InstanceTrapped, Move, Out, fresh_run, tick, events_of}
@@ -20,7 +22,7 @@ use Rattle.wasm_meaning.specs.Run.{Run, Pending, Closed, Event, LinkFault, Insta
 -- ---- one module in a store that has others already ----
 
 -- the addresses of one kind
-abbrev pub addresses_of : Kind → List Thing → List ℕ
+abbrev pub addresses_of : Space → List Thing → List ℕ
 addresses_of k = filter_map (address_of k)
 
 -- its instance, whose imports are these: what it defines comes after all that is there

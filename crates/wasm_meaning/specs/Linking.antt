@@ -1,6 +1,9 @@
 -- Imports that are joined by name: where they end, what is asked of what stays, and what constant expressions read through them.
 -- An import whose module is a part's name is joined with that part's export of the field's name, if there is one; otherwise it stays an import.
+use Rattle.wasm_tree.specs.declared.space.Space.TheVariants.{Functions, Tables, Memories, Globals}
 use Rattle.std.proofs.Common.{ℕ, zero, suc, ◌-◌, List, [], ◌∷◌, ◌++◌, map, length, Option, Some, None, Bool, true, false, cond, slice_get, ◌&&◌}
+use Rattle.wasm_tree.specs.declared.space.Space.{Space}
+use Rattle.wasm_tree.specs.Operands.{same_space}
 use Rattle.base_lists.specs.Options.{◌>>=◌}
 use Rattle.std.specs.Prelude.{nat_eq, max, min}
 use Rattle.wasm_tree.specs.declared.types.Limits.{Limits}
@@ -52,19 +55,13 @@ count_of is (x ∷ xs) = cond (is x) (suc (count_of is xs)) (count_of is xs)
 
 -- ---- kinds ----
 
-pub data Kind : Type 0 where
-  Functions : Kind
-  Tables : Kind
-  Memories : Kind
-  Globals : Kind
-
-abbrev pub kind_of_import : ImportDesc → Kind
+abbrev pub kind_of_import : ImportDesc → Space
 kind_of_import (im.Func t) = Functions
 kind_of_import (im.Table t) = Tables
 kind_of_import (im.Memory l) = Memories
 kind_of_import (im.Global t) = Globals
 
-abbrev pub kind_of_export : ExportDesc → Kind
+abbrev pub kind_of_export : ExportDesc → Space
 kind_of_export (ex.Func i) = Functions
 kind_of_export (ex.Table i) = Tables
 kind_of_export (ex.Memory i) = Memories
@@ -76,22 +73,15 @@ index_of_export (ex.Table i) = i
 index_of_export (ex.Memory i) = i
 index_of_export (ex.Global i) = i
 
-abbrev pub same_kind : Kind → Kind → Bool
-same_kind Functions Functions = true
-same_kind Tables Tables = true
-same_kind Memories Memories = true
-same_kind Globals Globals = true
-same_kind _ _ = false
-
-abbrev pub has_kind : Kind → Import → Bool
-has_kind k i = same_kind k (kind_of_import i.desc)
+abbrev pub has_kind : Space → Import → Bool
+has_kind k i = same_space k (kind_of_import i.desc)
 
 -- the places in the import section of the imports of one kind, which come first in that kind's index space
-abbrev pub imports_of : Kind → Module → List ℕ
+abbrev pub imports_of : Space → Module → List ℕ
 imports_of k m = places (has_kind k) m.imports 0
 
 -- the place in its index space of the import at a place: how many of its kind come before it
-abbrev pub space_index : List Import → (place : ℕ) → Kind → ℕ
+abbrev pub space_index : List Import → (place : ℕ) → Space → ℕ
 space_index [] n k = 0
 space_index (i ∷ is) zero k = 0
 space_index (i ∷ is) (suc n) k = cond (has_kind k i) (suc (space_index is n k)) (space_index is n k)
@@ -273,7 +263,7 @@ end_step parts (Some (Defined e)) = initial parts e >>= λ expr. Some (Goes (rec
 
 -- an expression that reads an import goes on through it, and any other is what is read
 abbrev pub expr_step : List Part → ℕ → ConstExpr → Option (Next Read Read)
-expr_step parts p (const.Global x) = end_step parts (global_import parts p x >>= (end_of parts))
+expr_step parts p (const.Global x) = end_step parts (global_import parts p x >>= end_of parts)
 expr_step parts p expr = Some (Ends (record { part = p; expr = expr }))
 
 abbrev pub read_step : List Part → Read → Option (Next Read Read)

@@ -1,6 +1,7 @@
 -- A module under a loader. The loader supplies some imports of a primary module as placeholders, each for a slot of one of the primary's tables. The first call
 -- of a placeholder instantiates a secondary module (WebAssembly Core 2.0, section 4.5.4); each call of one goes to the function that is then in its slot.
 use Rattle.std.proofs.Common.{ℕ, suc, ◌+◌, List, [], ◌∷◌, ◌++◌, Option, Some, None, Bool, true, false, cond}
+use Rattle.wasm_tree.specs.declared.space.Space.TheVariants.{Functions}
 use Rattle.base_lists.specs.Options.{◌>>=◌}
 use Rattle.wasm_tree.specs.declared.types.FuncType.{FuncType}
 use Rattle.wasm_tree.specs.declared.module.Import.{Import}
@@ -12,7 +13,7 @@ use Rattle.wasm_meaning.specs.Values.{same_func_type}
 use Rattle.wasm_meaning.specs.Tables.{with_table}
 use Rattle.wasm_meaning.specs.Control.{type_at, func_ref}
 use Rattle.wasm_meaning.specs.Step.{enter_at, step}
-use Rattle.wasm_meaning.specs.Linking.{Functions, same_pair, first_place, pair_of, export_named}
+use Rattle.wasm_meaning.specs.Linking.{same_pair, first_place, pair_of, export_named}
 use Rattle.wasm_meaning.specs.Environment.{Environment, Thing, FuncAt, owned_of}
 use Rattle.wasm_meaning.specs.World.{Begun, Filled, or_trapped, own_count, own_store, all_there, address_in, start_in}
 use Rattle.wasm_meaning.specs.InTurn.{Added, added_with, own_thing}

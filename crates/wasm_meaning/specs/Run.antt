@@ -1,5 +1,7 @@
 -- The embedder's moves, and runs. A run instantiates its world, opens the starts and the view, and then makes steps and takes moves; what others see of it are its events.
 use Rattle.std.proofs.Common.{◌≡◌, ℕ, zero, suc, ◌+◌, ◌*◌, List, [], ◌∷◌, ◌++◌, length, Option, Some, None, Bool, true, false, cond}
+use Rattle.wasm_tree.specs.declared.space.Space.{Space}
+use Rattle.wasm_tree.specs.declared.space.Space.TheVariants.{Tables, Memories}
 use Rattle.std.specs.Prelude.{nat_lt, nat_eq, IsTrue}
 use Rattle.wasm_tree.specs.declared.types.ValType.{ValType}
 use Rattle.wasm_tree.specs.declared.types.FuncType.{FuncType}
@@ -11,7 +13,7 @@ use Rattle.wasm_meaning.specs.Memory.{memory_may_grow}
 use Rattle.wasm_meaning.specs.Tables.{table_may_grow}
 use Rattle.wasm_meaning.specs.Control.{type_at, own_at}
 use Rattle.wasm_meaning.specs.Step.{give, enter_at, step, to_mark, changed}
-use Rattle.wasm_meaning.specs.Linking.{same_text, Kind, Tables, Memories}
+use Rattle.wasm_meaning.specs.Linking.{same_text}
 use Rattle.wasm_meaning.specs.Environment.{Environment, is_environment, owned_of, Shown, Number, Null, OwnFunc, ExternNumber, Function, Thing, FuncAt, TableAt, MemoryAt, GlobalAt, TableKey, MemoryKey, GlobalKey, Owned, owned_at, look_up, func_of, received, received_ref, received_all}
 use Rattle.wasm_meaning.specs.World.{World, Begun, own_store, instantiate}
 
@@ -27,7 +29,7 @@ pub data Event : Type 0 where
   Trapped : Event
   -- a function of the embedder's own is called, or a memory or table is to grow from a size by a count
   Asked : Pair → FuncType → List Shown → Event
-  GrowAsked : Kind → (size count : ℕ) → Event
+  GrowAsked : Space → (size count : ℕ) → Event
   -- the answers to moves
   Got : Shown → Event
   Done : Event
@@ -129,7 +131,7 @@ trapped_to r _ = (record r { entries = [] }, Some Trapped)
 abbrev pub showing : Run → Store → List Entry → List Val → (List Shown → Event) → Out
 showing r s es vs event = let x = show_all s r.shown vs in (record r { store = s; entries = es; shown = x.1 }, Some (event x.0))
 
-abbrev pub kind_of_growth : Growth → Kind
+abbrev pub kind_of_growth : Growth → Space
 kind_of_growth (GrowMemory a n) = Memories
 kind_of_growth (GrowTable a n v) = Tables
 

@@ -1,6 +1,8 @@
 -- Worlds, and their instantiation at once (WebAssembly Core 2.0, section 4.5.4, for several modules together).
 -- Every import is matched and everything allocated; then all active element segments are copied by part, then all active data segments by part.
 use Rattle.std.proofs.Common.{ℕ, zero, suc, ◌+◌, ◌-◌, ◌*◌, List, [], ◌∷◌, ◌++◌, map, length, Option, Some, None, Bool, true, false, cond, slice_get, unwrap_or, ◌&&◌}
+use Rattle.wasm_tree.specs.declared.space.Space.{Space}
+use Rattle.wasm_tree.specs.declared.space.Space.TheVariants.{Types, Functions, Tables, Memories, Globals, ElementSegments, DataSegments}
 use Rattle.base_lists.specs.Options.{◌>>=◌}
 use Rattle.std.specs.Prelude.{nat_le}
 use Rattle.wasm_tree.specs.declared.types.FuncType.{FuncType}
@@ -27,7 +29,7 @@ use Rattle.wasm_meaning.specs.State.{Text, Pair, RefVal, FuncRef, Val, Num, Ref,
 use Rattle.wasm_meaning.specs.Values.{same_ref, same_type, same_func_type, null_of, declared, ref_of, num_of}
 use Rattle.wasm_meaning.specs.Control.{type_at}
 use Rattle.wasm_meaning.specs.Step.{changed, no_items}
-use Rattle.wasm_meaning.specs.Linking.{Part, Site, End, Defined, Outside, Entity, Kind, Functions, Tables, Memories, Globals, Read, module_at, import_at, imports_of, pair_of, kind_of_export, index_of_export, end_of, read_of, sites}
+use Rattle.wasm_meaning.specs.Linking.{Part, Site, End, Defined, Outside, Entity, Read, module_at, import_at, imports_of, pair_of, kind_of_export, index_of_export, end_of, read_of, sites}
 use Rattle.wasm_meaning.specs.Environment.{Environment, Thing, FuncAt, TableAt, MemoryAt, GlobalAt, OwnKey, FuncKey, TableKey, MemoryKey, GlobalKey, Owned, owned_of, owned_at, own_funcs, own_tables, own_memories, own_globals, all_of}
 
 -- modules with names, whose imports are joined by name, and what the embedder may use: names, each with the entity for which it stands
@@ -44,36 +46,47 @@ alone t = record {
 
 -- ---- addresses ----
 
--- what a part defines of a kind
-abbrev pub defined_count : Kind → Module → ℕ
+-- how many a module defines of an index space
+abbrev pub defined_count : Space → Module → ℕ
+defined_count Types m = length m.types
 defined_count Functions m = length m.funcs
 defined_count Tables m = length m.tables
 defined_count Memories m = length m.mems
 defined_count Globals m = length m.globals
+defined_count ElementSegments m = length m.elems
+defined_count DataSegments m = length m.datas
 
-abbrev pub own_count : Kind → Environment → ℕ
+-- how many the environment has of its own
+abbrev pub own_count : Space → Environment → ℕ
+own_count Types env = 0
 own_count Functions env = length (own_funcs env)
 own_count Tables env = length (own_tables env)
 own_count Memories env = length (own_memories env)
 own_count Globals env = length (own_globals env)
+own_count ElementSegments env = 0
+own_count DataSegments env = 0
 
 -- how many the first parts define
-abbrev pub defined_before : Kind → List Part → ℕ → ℕ
+abbrev pub defined_before : Space → List Part → ℕ → ℕ
 defined_before k [] p = 0
 defined_before k (part ∷ parts) zero = 0
 defined_before k (part ∷ parts) (suc p) = defined_count k part.«module» + defined_before k parts p
 
 -- the entities of the environment come first, then what the parts define, by part
-abbrev pub base : Environment → List Part → Kind → ℕ → ℕ
+abbrev pub base : Environment → List Part → Space → ℕ → ℕ
 base env parts k p = own_count k env + defined_before k parts p
 
-abbrev pub thing_at : Kind → ℕ → Thing
-thing_at Functions a = FuncAt a
-thing_at Tables a = TableAt a
-thing_at Memories a = MemoryAt a
-thing_at Globals a = GlobalAt a
+-- the external value at an address; types and segments are none (section 4.2.11)
+abbrev pub thing_at : Space → ℕ → Option Thing
+thing_at Types a = None
+thing_at Functions a = Some (FuncAt a)
+thing_at Tables a = Some (TableAt a)
+thing_at Memories a = Some (MemoryAt a)
+thing_at Globals a = Some (GlobalAt a)
+thing_at ElementSegments a = None
+thing_at DataSegments a = None
 
-abbrev pub address_of : Kind → Thing → Option ℕ
+abbrev pub address_of : Space → Thing → Option ℕ
 address_of Functions (FuncAt a) = Some a
 address_of Tables (TableAt a) = Some a
 address_of Memories (MemoryAt a) = Some a
@@ -106,12 +119,12 @@ numbers n zero = []
 numbers n (suc count) = n ∷ numbers (suc n) count
 
 -- the addresses of what a part defines
-abbrev pub defined_addresses : Environment → List Part → Kind → ℕ → Module → List ℕ
+abbrev pub defined_addresses : Environment → List Part → Space → ℕ → Module → List ℕ
 defined_addresses env parts k p m = numbers (base env parts k p) (defined_count k m)
 
 abbrev pub defined_thing : Environment → List Part → Entity → Option Thing
 defined_thing env parts e =
-    module_at parts e.part >>= λ m. let k = kind_of_export e.what in (slice_get (defined_addresses env parts k e.part m) (index_of_export e.what - length (imports_of k m))) >>= λ a. Some (thing_at k a)
+    module_at parts e.part >>= λ m. let k = kind_of_export e.what in slice_get (defined_addresses env parts k e.part m) (index_of_export e.what - length (imports_of k m)) >>= thing_at k
 
 abbrev pub thing_of : Environment → List Part → End → Option Thing
 thing_of env parts (Defined e) = defined_thing env parts e
@@ -126,20 +139,9 @@ all_there f [] = Some []
 all_there f (x ∷ xs) = f x >>= λ y. all_there f xs >>= λ ys. Some (y ∷ ys)
 
 -- the addresses of an index space: of the imports, then of what is defined
-abbrev pub space : Environment → List Part → Kind → ℕ → Module → Option (List ℕ)
+abbrev pub space : Environment → List Part → Space → ℕ → Module → Option (List ℕ)
 space env parts k p m =
     all_there (λ n. imported_thing env parts (record { part = p; import = n }) >>= (address_of k)) (imports_of k m) >>= λ imported. Some (imported ++ defined_addresses env parts k p m)
-
--- element and data segments have addresses by part
-abbrev pub elems_before : List Part → ℕ → ℕ
-elems_before [] p = 0
-elems_before (part ∷ parts) zero = 0
-elems_before (part ∷ parts) (suc p) = length part.«module».elems + elems_before parts p
-
-abbrev pub datas_before : List Part → ℕ → ℕ
-datas_before [] p = 0
-datas_before (part ∷ parts) zero = 0
-datas_before (part ∷ parts) (suc p) = length part.«module».datas + datas_before parts p
 
 abbrev pub inst_of : Environment → List Part → ℕ → Module → Option Inst
 inst_of env parts p m =
@@ -150,8 +152,8 @@ inst_of env parts p m =
       tables = tables;
       mems = mems;
       globals = globals;
-      elems = numbers (elems_before parts p) (length m.elems);
-      datas = numbers (datas_before parts p) (length m.datas);
+      elems = numbers (defined_before ElementSegments parts p) (length m.elems);
+      datas = numbers (defined_before DataSegments parts p) (length m.datas);
     })
 
 -- ---- constant expressions ----

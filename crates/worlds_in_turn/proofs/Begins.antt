@@ -1,17 +1,18 @@
 -- Until the first start the parts are added one after the other, their segments with them, and then the stores stand beside one another.
 use Rattle.std.proofs.Common.{◌≡◌, ◌∙◌, refl, sym, ap, subst, ℕ, zero, suc, ◌+◌, ◌-◌, ◌<◌, ◌≤◌, List, [], ◌∷◌, ◌++◌, map, length, Some, None, false, ◌⊎◌, inl, inr, arith, drop, option_and_then, slice_get}
+use Rattle.wasm_tree.specs.declared.space.Space.TheVariants.{Functions, Tables, Memories, Globals, DataSegments, ElementSegments}
 use Rattle.std.proofs.lemmas.Bool.{cases_lt}
 use Rattle.wasm_tree.specs.declared.types.FuncType.{FuncType}
 use Rattle.wasm_tree.specs.declared.module.Module.{Module}
 use Rattle.wasm_meaning.specs.Outcomes.{Outcome, Gives, at}
 use Rattle.wasm_meaning.specs.State.{Text, Inst, Func, Own, Global, Data, Store, Opening}
-use Rattle.wasm_meaning.specs.Linking.{Part, Functions, Tables, Memories, Globals, module_at}
+use Rattle.wasm_meaning.specs.Linking.{Part, module_at}
 use Rattle.wasm_meaning.specs.Environment.{Environment, Offer, Thing, flat, owned_of}
-use Rattle.wasm_meaning.specs.World.{World, base, elems_before, datas_before, own_store, const_value, joined_stores, all_there, starts_of, seen_as, segments}
+use Rattle.wasm_meaning.specs.World.{World, base, own_store, const_value, joined_stores, all_there, starts_of, seen_as, segments, defined_before}
 use Rattle.wasm_meaning.specs.Run.{Pending, Move, Run}
 use Rattle.wasm_meaning.specs.Below.{BelowIsNotSeen}
 use Rattle.wasm_meaning.specs.InTurn.{InTurn, view_over, own_segments, goes_on, tick_in_turn, HasNoActive}
-use Rattle.index_remap.specs.Related.{Kind, Pairing, BothRel, both, ListRel, nil, cons, opening, FuncRel, TableRel, GlobalRel, ElemRel}
+use Rattle.index_remap.specs.Related.{Pairing, BothRel, both, ListRel, nil, cons, opening, FuncRel, TableRel, GlobalRel, ElemRel}
 use Rattle.index_remap.specs.Related as to
 use Rattle.index_remap.specs.Laws.{CodeIsRelatedToItself, RelatedTicksAgree, OthersStay}
 use Rattle.index_remap.proofs.Rel.{append_rel}
@@ -146,8 +147,8 @@ module _ (env : Environment) (w : World) (insts : List Inst) (allocated : Store)
               (both_front t.tables after.tables (g.laid.rest k).tables (base env w.parts Tables k) (ap (λ s. s.tables) whole) sized.tables closed.tables)
               (both_front t.mems after.mems (g.laid.rest k).mems (base env w.parts Memories k) (ap (λ s. s.mems) whole) sized.mems (equal_self t.mems))
               (both_front t.globals after.globals (g.laid.rest k).globals (base env w.parts Globals k) (ap (λ s. s.globals) whole) sized.globals closed.globals)
-              (both_front t.elems after.elems (g.laid.rest k).elems (elems_before w.parts k) (ap (λ s. s.elems) whole) sized.elems closed.elems)
-              (both_front t.datas after.datas (g.laid.rest k).datas (datas_before w.parts k) (ap (λ s. s.datas) whole) sized.datas (bytes_self t.datas));
+              (both_front t.elems after.elems (g.laid.rest k).elems (defined_before ElementSegments w.parts k) (ap (λ s. s.elems) whole) sized.elems closed.elems)
+              (both_front t.datas after.datas (g.laid.rest k).datas (defined_before DataSegments w.parts k) (ap (λ s. s.datas) whole) sized.datas (bytes_self t.datas));
           sized = sized;
           sound = sound;
           same_funcs = (front_holds k t l h).funcs;
@@ -156,8 +157,8 @@ module _ (env : Environment) (w : World) (insts : List Inst) (allocated : Store)
             tables = same_back after.tables allocated.tables t.tables (g.laid.first k).tables (g.laid.rest k).tables (base env w.parts Tables k) (ap (λ s. s.tables) whole) (ap (λ s. s.tables) parted) sized.tables sizes.tables;
             mems = same_back after.mems allocated.mems t.mems (g.laid.first k).mems (g.laid.rest k).mems (base env w.parts Memories k) (ap (λ s. s.mems) whole) (ap (λ s. s.mems) parted) sized.mems sizes.mems;
             globals = same_back after.globals allocated.globals t.globals (g.laid.first k).globals (g.laid.rest k).globals (base env w.parts Globals k) (ap (λ s. s.globals) whole) (ap (λ s. s.globals) parted) sized.globals sizes.globals;
-            elems = same_back after.elems allocated.elems t.elems (g.laid.first k).elems (g.laid.rest k).elems (elems_before w.parts k) (ap (λ s. s.elems) whole) (ap (λ s. s.elems) parted) sized.elems sizes.elems;
-            datas = same_back after.datas allocated.datas t.datas (g.laid.first k).datas (g.laid.rest k).datas (datas_before w.parts k) (ap (λ s. s.datas) whole) (ap (λ s. s.datas) parted) sized.datas sizes.datas;
+            elems = same_back after.elems allocated.elems t.elems (g.laid.first k).elems (g.laid.rest k).elems (defined_before ElementSegments w.parts k) (ap (λ s. s.elems) whole) (ap (λ s. s.elems) parted) sized.elems sizes.elems;
+            datas = same_back after.datas allocated.datas t.datas (g.laid.first k).datas (g.laid.rest k).datas (defined_before DataSegments w.parts k) (ap (λ s. s.datas) whole) (ap (λ s. s.datas) parted) sized.datas sizes.datas;
           };
         }
 

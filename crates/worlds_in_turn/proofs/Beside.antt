@@ -1,15 +1,17 @@
 -- The store of parts that are instantiated in turn beside the store of all parts at once: what the first parts have corresponds, and the rest is as it was allocated.
 use Rattle.std.proofs.Common.{◌≡◌, ◌∙◌, refl, sym, ap, subst, ℕ, zero, suc, ◌+◌, ◌-◌, ◌<◌, ◌≤◌, List, [], ◌∷◌, ◌++◌, length, Some, true, ◌⊎◌, inl, inr, arith, slice_get}
+use Rattle.wasm_tree.specs.declared.space.Space.{Space}
+use Rattle.wasm_tree.specs.declared.space.Space.TheVariants.{Functions, Tables, Memories, Globals, ElementSegments, DataSegments}
 use Rattle.std.proofs.lemmas.Bool.{cases_lt}
 use Rattle.wasm_tree.specs.declared.types.FuncType.{FuncType}
 use Rattle.wasm_tree.specs.declared.module.Module.{Module}
 use Rattle.wasm_meaning.specs.Outcomes.{Outcome, Gives, bind, at}
 use Rattle.wasm_meaning.specs.State.{Inst, Func, Memory, Data, Store}
 use Rattle.wasm_meaning.specs.Control.{type_of_func, own_of, type_at, own_at}
-use Rattle.wasm_meaning.specs.Linking.{Part, Functions, Tables, Memories, Globals, module_at}
+use Rattle.wasm_meaning.specs.Linking.{Part, module_at}
 use Rattle.wasm_meaning.specs.Environment.{Environment}
-use Rattle.wasm_meaning.specs.World.{own_store, base, elems_before, datas_before, joined_stores, part_store}
-use Rattle.index_remap.specs.Related.{Kind, Funcs, Mems, Elems, Datas, Pairing, BothRel, both, ResRel, done, ListRel, nil, cons, FuncRel, TableRel, GlobalRel, ElemRel, StoreRel}
+use Rattle.wasm_meaning.specs.World.{own_store, base, joined_stores, part_store, defined_before}
+use Rattle.index_remap.specs.Related.{Pairing, BothRel, both, ResRel, done, ListRel, nil, cons, FuncRel, TableRel, GlobalRel, ElemRel, StoreRel}
 use Rattle.index_remap.specs.Related as to
 use Rattle.index_remap.specs.Laws.{CodeIsRelatedToItself}
 use Rattle.worlds_in_turn.proofs.Reached.{count_upto, is_reached, reaching, reached_at, reached_is}
@@ -78,8 +80,8 @@ pub record Untouched (env : Environment) (parts : List Part) (p : ℕ) (allocate
   pub tables : (a : ℕ) → base env parts Tables p ≤ a → at s.tables a ≡ at allocated.tables a
   pub mems : (a : ℕ) → base env parts Memories p ≤ a → at s.mems a ≡ at allocated.mems a
   pub globals : (a : ℕ) → base env parts Globals p ≤ a → at s.globals a ≡ at allocated.globals a
-  pub elems : (a : ℕ) → elems_before parts p ≤ a → at s.elems a ≡ at allocated.elems a
-  pub datas : (a : ℕ) → datas_before parts p ≤ a → at s.datas a ≡ at allocated.datas a
+  pub elems : (a : ℕ) → defined_before ElementSegments parts p ≤ a → at s.elems a ≡ at allocated.elems a
+  pub datas : (a : ℕ) → defined_before DataSegments parts p ≤ a → at s.datas a ≡ at allocated.datas a
 
 -- the store in turn, and the store at once
 pub record Beside (env : Environment) (parts : List Part) (p : ℕ) (allocated t s : Store) : Type 0 where
@@ -90,14 +92,14 @@ pub record Beside (env : Environment) (parts : List Part) (p : ℕ) (allocated t
   pub all_funcs : s.funcs ≡ allocated.funcs
   pub untouched : Untouched env parts p allocated s
 
-reaches_more : (env : Environment) (parts : List Part) (p q : ℕ) (i : Inst) → ((k : Rattle.wasm_meaning.specs.Linking.Kind) → base env parts k p ≤ base env parts k q) → elems_before parts p ≤ elems_before parts q → datas_before parts p ≤ datas_before parts q → Reaches env parts p i → Reaches env parts q i
+reaches_more : (env : Environment) (parts : List Part) (p q : ℕ) (i : Inst) → ((k : Rattle.wasm_meaning.specs.Linking.Kind) → base env parts k p ≤ base env parts k q) → defined_before ElementSegments parts p ≤ defined_before ElementSegments parts q → defined_before DataSegments parts p ≤ defined_before DataSegments parts q → Reaches env parts p i → Reaches env parts q i
 reaches_more env parts p q i b e d r = record {
   spaces = λ k n a h. let l = r.spaces k n a h in let m = b k in omega (arith, l, m);
   elems = λ n a h. let l = r.elems n a h in omega (arith, l, e);
   datas = λ n a h. let l = r.datas n a h in omega (arith, l, d);
 }
 
-sound_more : (env : Environment) (parts : List Part) (p q : ℕ) (f : Func) → ((k : Rattle.wasm_meaning.specs.Linking.Kind) → base env parts k p ≤ base env parts k q) → elems_before parts p ≤ elems_before parts q → datas_before parts p ≤ datas_before parts q → Sound env parts p f → Sound env parts q f
+sound_more : (env : Environment) (parts : List Part) (p q : ℕ) (f : Func) → ((k : Rattle.wasm_meaning.specs.Linking.Kind) → base env parts k p ≤ base env parts k q) → defined_before ElementSegments parts p ≤ defined_before ElementSegments parts q → defined_before DataSegments parts p ≤ defined_before DataSegments parts q → Sound env parts p f → Sound env parts q f
 sound_more env parts p q f b e d own_func = own_func
 sound_more env parts p q f b e d (code {i = i} r) = code (reaches_more env parts p q i b e d r)
 
@@ -119,17 +121,17 @@ own_same (both to.slot) = refl
 -- a relation of stores by place gives the relation of stores
 pub stores_related : (env : Environment) (parts : List Part) (p : ℕ) (t s : Store) → ((a : ℕ) → a < base env parts Functions p → BothRel (FuncRel (reaching env parts p)) (at t.funcs a) (at s.funcs a)) →
     ((a : ℕ) → a < base env parts Tables p → BothRel (TableRel (reaching env parts p)) (at t.tables a) (at s.tables a)) → ((a : ℕ) → a < base env parts Memories p → BothRel (λ (x y : Memory). x ≡ y) (at t.mems a) (at s.mems a)) →
-    ((a : ℕ) → a < base env parts Globals p → BothRel (GlobalRel (reaching env parts p)) (at t.globals a) (at s.globals a)) → ((a : ℕ) → a < elems_before parts p → BothRel (ElemRel (reaching env parts p)) (at t.elems a) (at s.elems a)) →
-    ((a : ℕ) → a < datas_before parts p → BothRel (λ (x y : Data). x.bytes ≡ y.bytes) (at t.datas a) (at s.datas a)) → StoreRel (reaching env parts p) t s
+    ((a : ℕ) → a < base env parts Globals p → BothRel (GlobalRel (reaching env parts p)) (at t.globals a) (at s.globals a)) → ((a : ℕ) → a < defined_before ElementSegments parts p → BothRel (ElemRel (reaching env parts p)) (at t.elems a) (at s.elems a)) →
+    ((a : ℕ) → a < defined_before DataSegments parts p → BothRel (λ (x y : Data). x.bytes ≡ y.bytes) (at t.datas a) (at s.datas a)) → StoreRel (reaching env parts p) t s
 stores_related env parts p t s f ta me g e d = record {
-  types = λ {a} {b} r. let x = reached_is env parts p Funcs a b r in subst (λ b. BothRel (◌≡◌ {A = FuncType}) (type_at t a) (type_at s b)) x.0 (type_same (f a x.1));
-  owns = λ {a} {b} r. let x = reached_is env parts p Funcs a b r in subst (λ b. own_at t a ≡ own_at s b) x.0 (own_same (f a x.1));
-  funcs = λ {a} {b} r _. let x = reached_is env parts p Funcs a b r in subst (λ b. BothRel (FuncRel (reaching env parts p)) (at t.funcs a) (at s.funcs b)) x.0 (f a x.1);
-  tables = λ {a} {b} r. let x = reached_is env parts p to.Tables a b r in subst (λ b. BothRel (TableRel (reaching env parts p)) (at t.tables a) (at s.tables b)) x.0 (ta a x.1);
-  mems = λ {a} {b} r. let x = reached_is env parts p Mems a b r in subst (λ b. BothRel (λ (x y : Memory). x ≡ y) (at t.mems a) (at s.mems b)) x.0 (me a x.1);
-  globals = λ {a} {b} r. let x = reached_is env parts p to.Globals a b r in subst (λ b. BothRel (GlobalRel (reaching env parts p)) (at t.globals a) (at s.globals b)) x.0 (g a x.1);
-  elems = λ {a} {b} r. let x = reached_is env parts p Elems a b r in subst (λ b. BothRel (ElemRel (reaching env parts p)) (at t.elems a) (at s.elems b)) x.0 (e a x.1);
-  datas = λ {a} {b} r. let x = reached_is env parts p Datas a b r in subst (λ b. BothRel (λ (x y : Data). x.bytes ≡ y.bytes) (at t.datas a) (at s.datas b)) x.0 (d a x.1);
+  types = λ {a} {b} r. let x = reached_is env parts p Functions a b r in subst (λ b. BothRel (◌≡◌ {A = FuncType}) (type_at t a) (type_at s b)) x.0 (type_same (f a x.1));
+  owns = λ {a} {b} r. let x = reached_is env parts p Functions a b r in subst (λ b. own_at t a ≡ own_at s b) x.0 (own_same (f a x.1));
+  funcs = λ {a} {b} r _. let x = reached_is env parts p Functions a b r in subst (λ b. BothRel (FuncRel (reaching env parts p)) (at t.funcs a) (at s.funcs b)) x.0 (f a x.1);
+  tables = λ {a} {b} r. let x = reached_is env parts p Tables a b r in subst (λ b. BothRel (TableRel (reaching env parts p)) (at t.tables a) (at s.tables b)) x.0 (ta a x.1);
+  mems = λ {a} {b} r. let x = reached_is env parts p Memories a b r in subst (λ b. BothRel (λ (x y : Memory). x ≡ y) (at t.mems a) (at s.mems b)) x.0 (me a x.1);
+  globals = λ {a} {b} r. let x = reached_is env parts p Globals a b r in subst (λ b. BothRel (GlobalRel (reaching env parts p)) (at t.globals a) (at s.globals b)) x.0 (g a x.1);
+  elems = λ {a} {b} r. let x = reached_is env parts p ElementSegments a b r in subst (λ b. BothRel (ElemRel (reaching env parts p)) (at t.elems a) (at s.elems b)) x.0 (e a x.1);
+  datas = λ {a} {b} r. let x = reached_is env parts p DataSegments a b r in subst (λ b. BothRel (λ (x y : Data). x.bytes ≡ y.bytes) (at t.datas a) (at s.datas b)) x.0 (d a x.1);
 }
 
 both_more : {A B : Type 0} {P Q : A → B → Type 0} {o : Outcome A} {p : Outcome B} → ((a : A) (b : B) → P a b → Q a b) → BothRel P o p → BothRel Q o p
@@ -159,10 +161,10 @@ module _ (law : CodeIsRelatedToItself) (env : Environment) (parts : List Part) (
   pub global_count : base env parts Globals (suc p) ≡ base env parts Globals p + length (laid.adds p).globals
   global_count = lengths (laid.first p).globals (laid.adds p).globals sizes.globals next_sizes.globals
 
-  pub elem_count : elems_before parts (suc p) ≡ elems_before parts p + length (laid.adds p).elems
+  pub elem_count : defined_before ElementSegments parts (suc p) ≡ defined_before ElementSegments parts p + length (laid.adds p).elems
   elem_count = lengths (laid.first p).elems (laid.adds p).elems sizes.elems next_sizes.elems
 
-  pub data_count : datas_before parts (suc p) ≡ datas_before parts p + length (laid.adds p).datas
+  pub data_count : defined_before DataSegments parts (suc p) ≡ defined_before DataSegments parts p + length (laid.adds p).datas
   data_count = lengths (laid.first p).datas (laid.adds p).datas sizes.datas next_sizes.datas
 
   -- what was allocated for the part stands after what the first parts have
@@ -182,21 +184,21 @@ module _ (law : CodeIsRelatedToItself) (env : Environment) (parts : List Part) (
   base_more Memories = omega (arith, memory_count)
   base_more Globals = omega (arith, global_count)
 
-  elems_more : elems_before parts p ≤ elems_before parts (suc p)
+  elems_more : defined_before ElementSegments parts p ≤ defined_before ElementSegments parts (suc p)
   elems_more = omega (arith, elem_count)
 
-  datas_more : datas_before parts p ≤ datas_before parts (suc p)
+  datas_more : defined_before DataSegments parts p ≤ defined_before DataSegments parts (suc p)
   datas_more = omega (arith, data_count)
 
-  pub count_more : (k : Kind) → count_upto env parts p k ≤ count_upto env parts (suc p) k
-  count_more Funcs = base_more Functions
-  count_more to.Tables = base_more Tables
-  count_more Mems = base_more Memories
-  count_more to.Globals = base_more Globals
-  count_more Elems = elems_more
-  count_more Datas = datas_more
+  pub count_more : (k : Space) → count_upto env parts p k ≤ count_upto env parts (suc p) k
+  count_more Functions = base_more Functions
+  count_more Tables = base_more Tables
+  count_more Memories = base_more Memories
+  count_more Globals = base_more Globals
+  count_more ElementSegments = elems_more
+  count_more DataSegments = datas_more
 
-  pub more : (k : Kind) (a b : ℕ) → is_reached env parts p k a b ≡ true → is_reached env parts (suc p) k a b ≡ true
+  pub more : (k : Space) (a b : ℕ) → is_reached env parts p k a b ≡ true → is_reached env parts (suc p) k a b ≡ true
   more k a b h =
       let r = reached_is env parts p k a b h in
       let c = count_more k in
@@ -234,16 +236,16 @@ module _ (law : CodeIsRelatedToItself) (env : Environment) (parts : List Part) (
     beside_next = record {
       related = stores_related env parts (suc p) (joined_stores t (laid.adds p)) s
           (λ a l. joined_both (FuncRel (reaching env parts (suc p))) t.funcs (laid.adds p).funcs s.funcs (base env parts Functions p) h.sized.funcs old_funcs closed.funcs (λ j k. ap (λ fs. at fs (base env parts Functions p + j)) h.all_funcs ∙ at_allocated_funcs j k) a (let c = func_count in omega (arith, l, c)))
-          (λ a l. joined_both (TableRel (reaching env parts (suc p))) t.tables (laid.adds p).tables s.tables (base env parts Tables p) h.sized.tables (λ a l. both_more (table_more (reaching env parts p) (reaching env parts (suc p)) more) (h.related.tables (reached_at env parts p to.Tables a l))) closed.tables
+          (λ a l. joined_both (TableRel (reaching env parts (suc p))) t.tables (laid.adds p).tables s.tables (base env parts Tables p) h.sized.tables (λ a l. both_more (table_more (reaching env parts p) (reaching env parts (suc p)) more) (h.related.tables (reached_at env parts p Tables a l))) closed.tables
           (λ j k. h.untouched.tables (base env parts Tables p + j) (omega arith) ∙ stands allocated.tables (laid.first p).tables (laid.adds p).tables (laid.rest p).tables (laid.rest (suc p)).tables (base env parts Tables p) (ap (λ s. s.tables) whole) (ap (λ s. s.tables) tail) sizes.tables j k) a (let c = table_count in omega (arith, l, c)))
-          (λ a l. joined_both (λ (x y : Memory). x ≡ y) t.mems (laid.adds p).mems s.mems (base env parts Memories p) h.sized.mems (λ a l. h.related.mems (reached_at env parts p Mems a l)) (equal_list (laid.adds p).mems)
+          (λ a l. joined_both (λ (x y : Memory). x ≡ y) t.mems (laid.adds p).mems s.mems (base env parts Memories p) h.sized.mems (λ a l. h.related.mems (reached_at env parts p Memories a l)) (equal_list (laid.adds p).mems)
           (λ j k. h.untouched.mems (base env parts Memories p + j) (omega arith) ∙ stands allocated.mems (laid.first p).mems (laid.adds p).mems (laid.rest p).mems (laid.rest (suc p)).mems (base env parts Memories p) (ap (λ s. s.mems) whole) (ap (λ s. s.mems) tail) sizes.mems j k) a (let c = memory_count in omega (arith, l, c)))
-          (λ a l. joined_both (GlobalRel (reaching env parts (suc p))) t.globals (laid.adds p).globals s.globals (base env parts Globals p) h.sized.globals (λ a l. both_more (global_more (reaching env parts p) (reaching env parts (suc p)) more) (h.related.globals (reached_at env parts p to.Globals a l))) closed.globals
+          (λ a l. joined_both (GlobalRel (reaching env parts (suc p))) t.globals (laid.adds p).globals s.globals (base env parts Globals p) h.sized.globals (λ a l. both_more (global_more (reaching env parts p) (reaching env parts (suc p)) more) (h.related.globals (reached_at env parts p Globals a l))) closed.globals
           (λ j k. h.untouched.globals (base env parts Globals p + j) (omega arith) ∙ stands allocated.globals (laid.first p).globals (laid.adds p).globals (laid.rest p).globals (laid.rest (suc p)).globals (base env parts Globals p) (ap (λ s. s.globals) whole) (ap (λ s. s.globals) tail) sizes.globals j k) a (let c = global_count in omega (arith, l, c)))
-          (λ a l. joined_both (ElemRel (reaching env parts (suc p))) t.elems (laid.adds p).elems s.elems (elems_before parts p) h.sized.elems (λ a l. both_more (elem_more (reaching env parts p) (reaching env parts (suc p)) more) (h.related.elems (reached_at env parts p Elems a l))) closed.elems
-          (λ j k. h.untouched.elems (elems_before parts p + j) (omega arith) ∙ stands allocated.elems (laid.first p).elems (laid.adds p).elems (laid.rest p).elems (laid.rest (suc p)).elems (elems_before parts p) (ap (λ s. s.elems) whole) (ap (λ s. s.elems) tail) sizes.elems j k) a (let c = elem_count in omega (arith, l, c)))
-          (λ a l. joined_both (λ (x y : Data). x.bytes ≡ y.bytes) t.datas (laid.adds p).datas s.datas (datas_before parts p) h.sized.datas (λ a l. h.related.datas (reached_at env parts p Datas a l)) (bytes_list (laid.adds p).datas)
-          (λ j k. h.untouched.datas (datas_before parts p + j) (omega arith) ∙ stands allocated.datas (laid.first p).datas (laid.adds p).datas (laid.rest p).datas (laid.rest (suc p)).datas (datas_before parts p) (ap (λ s. s.datas) whole) (ap (λ s. s.datas) tail) sizes.datas j k) a (let c = data_count in omega (arith, l, c)));
+          (λ a l. joined_both (ElemRel (reaching env parts (suc p))) t.elems (laid.adds p).elems s.elems (defined_before ElementSegments parts p) h.sized.elems (λ a l. both_more (elem_more (reaching env parts p) (reaching env parts (suc p)) more) (h.related.elems (reached_at env parts p ElementSegments a l))) closed.elems
+          (λ j k. h.untouched.elems (defined_before ElementSegments parts p + j) (omega arith) ∙ stands allocated.elems (laid.first p).elems (laid.adds p).elems (laid.rest p).elems (laid.rest (suc p)).elems (defined_before ElementSegments parts p) (ap (λ s. s.elems) whole) (ap (λ s. s.elems) tail) sizes.elems j k) a (let c = elem_count in omega (arith, l, c)))
+          (λ a l. joined_both (λ (x y : Data). x.bytes ≡ y.bytes) t.datas (laid.adds p).datas s.datas (defined_before DataSegments parts p) h.sized.datas (λ a l. h.related.datas (reached_at env parts p DataSegments a l)) (bytes_list (laid.adds p).datas)
+          (λ j k. h.untouched.datas (defined_before DataSegments parts p + j) (omega arith) ∙ stands allocated.datas (laid.first p).datas (laid.adds p).datas (laid.rest p).datas (laid.rest (suc p)).datas (defined_before DataSegments parts p) (ap (λ s. s.datas) whole) (ap (λ s. s.datas) tail) sizes.datas j k) a (let c = data_count in omega (arith, l, c)));
       sized = record {
         funcs = grown t.funcs (laid.adds p).funcs h.sized.funcs func_count;
         tables = grown t.tables (laid.adds p).tables h.sized.tables table_count;

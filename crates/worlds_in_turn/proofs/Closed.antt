@@ -1,5 +1,7 @@
 -- A store that refers to nothing beyond what the environment and the first parts have, and what a part adds to it.
 use Rattle.std.proofs.Common.{◌≡◌, ◌∙◌, refl, ap, subst, ℕ, zero, suc, ◌<◌, List, [], ◌∷◌, map, Option, Some, option_and_then, slice_get}
+use Rattle.wasm_tree.specs.declared.space.Space.{Space}
+use Rattle.wasm_tree.specs.declared.space.Space.TheVariants.{Functions, Tables, Memories, Globals, ElementSegments, DataSegments}
 use Rattle.wasm_tree.specs.declared.types.RefType.{RefType}
 use Rattle.wasm_tree.specs.declared.types.RefType.TheVariants as reft
 use Rattle.wasm_tree.specs.declared.types.FuncType.{FuncType}
@@ -15,10 +17,10 @@ use Rattle.wasm_tree.specs.declared.module.Module.{Module}
 use Rattle.wasm_meaning.specs.Outcomes.{Gives, at, copies}
 use Rattle.wasm_meaning.specs.State.{RefVal, Val, Num, Ref, Inst, Func, Code, Own, Table, Global, Elem, Store}
 use Rattle.wasm_meaning.specs.Values.{null_of, ref_of}
-use Rattle.wasm_meaning.specs.Linking.{Part, Functions, Tables, Memories, Globals}
+use Rattle.wasm_meaning.specs.Linking.{Part}
 use Rattle.wasm_meaning.specs.Environment.{Environment}
 use Rattle.wasm_meaning.specs.World.{given, all_there, new_func, global_with, new_elem, elem_with, store_with, const_value}
-use Rattle.index_remap.specs.Related.{Kind, Funcs, Mems, Elems, Datas, Pairing, OptRel, none, some, ListRel, nil, cons, RefRel, func, extern, ValRel, number, reference, CodeRel, FuncRel, defined, own, TableRel, GlobalRel, ElemRel}
+use Rattle.index_remap.specs.Related.{Pairing, OptRel, none, some, ListRel, nil, cons, RefRel, func, extern, ValRel, number, reference, CodeRel, FuncRel, defined, own, TableRel, GlobalRel, ElemRel}
 use Rattle.index_remap.specs.Related as to
 use Rattle.index_remap.specs.Laws.{NamesItself, CodeIsRelatedToItself}
 use Rattle.index_remap.proofs.Rel.{copies_rel}
@@ -27,10 +29,10 @@ use Rattle.worlds_in_turn.proofs.Reached.{count_upto, is_reached, reaching, reac
 
 -- ---- more is reached later ----
 
-module _ (R Q : Pairing) (more : (k : Kind) (a b : ℕ) → R.of k a b → Q.of k a b) where
+module _ (R Q : Pairing) (more : (k : Space) (a b : ℕ) → R.of k a b → Q.of k a b) where
   ref_more : {r s : RefVal} → RefRel R r s → RefRel Q r s
   ref_more (func none) = func none
-  ref_more (func (some p)) = func (some (more Funcs _ _ p))
+  ref_more (func (some p)) = func (some (more Functions _ _ p))
   ref_more extern = extern
 
   pub val_more : {v w : Val} → ValRel R v w → ValRel Q v w
@@ -87,8 +89,8 @@ null_self R reft.Extern = extern
 -- addresses that an instance has are reached
 pub record Reaches (env : Environment) (parts : List Part) (p : ℕ) (i : Inst) : Type 0 where
   pub spaces : (k : Rattle.wasm_meaning.specs.Linking.Kind) (n a : ℕ) → slice_get (space_in i k) n ≡ Some a → a < Rattle.wasm_meaning.specs.World.base env parts k p
-  pub elems : (n a : ℕ) → slice_get i.elems n ≡ Some a → a < count_upto env parts p Elems
-  pub datas : (n a : ℕ) → slice_get i.datas n ≡ Some a → a < count_upto env parts p Datas
+  pub elems : (n a : ℕ) → slice_get i.elems n ≡ Some a → a < count_upto env parts p ElementSegments
+  pub datas : (n a : ℕ) → slice_get i.datas n ≡ Some a → a < count_upto env parts p DataSegments
 
 at_is_place : {A : Type 0} (xs : List A) (n : ℕ) (x : A) → at xs n ≡ Gives x → slice_get xs n ≡ Some x
 at_is_place [] n x e = cc
@@ -102,12 +104,12 @@ place_is_at (y ∷ ys) (suc n) x e = place_is_at ys n x e
 
 pub names_itself : (env : Environment) (parts : List Part) (p : ℕ) (i : Inst) → Reaches env parts p i → NamesItself (reaching env parts p) i
 names_itself env parts p i r = record {
-  funcs = λ n a e. reached_at env parts p Funcs a (r.spaces Functions n a (at_is_place i.funcs n a e));
-  tables = λ n a e. reached_at env parts p to.Tables a (r.spaces Tables n a (at_is_place i.tables n a e));
-  mems = λ n a e. reached_at env parts p Mems a (r.spaces Memories n a (at_is_place i.mems n a e));
-  globals = λ n a e. reached_at env parts p to.Globals a (r.spaces Globals n a (at_is_place i.globals n a e));
-  elems = λ n a e. reached_at env parts p Elems a (r.elems n a (at_is_place i.elems n a e));
-  datas = λ n a e. reached_at env parts p Datas a (r.datas n a (at_is_place i.datas n a e));
+  funcs = λ n a e. reached_at env parts p Functions a (r.spaces Functions n a (at_is_place i.funcs n a e));
+  tables = λ n a e. reached_at env parts p Tables a (r.spaces Tables n a (at_is_place i.tables n a e));
+  mems = λ n a e. reached_at env parts p Memories a (r.spaces Memories n a (at_is_place i.mems n a e));
+  globals = λ n a e. reached_at env parts p Globals a (r.spaces Globals n a (at_is_place i.globals n a e));
+  elems = λ n a e. reached_at env parts p ElementSegments a (r.elems n a (at_is_place i.elems n a e));
+  datas = λ n a e. reached_at env parts p DataSegments a (r.datas n a (at_is_place i.datas n a e));
 }
 
 -- functions of the environment's own, and code over an instance that reaches no further
@@ -129,7 +131,7 @@ module _ (law : CodeIsRelatedToItself) (env : Environment) (parts : List Part) (
   value_self (const.Null t) v h = subst (λ v. ValRel (reaching env parts p) v v) (some_is h) (reference (null_self (reaching env parts p) t))
   value_self (const.Func f) v h =
       let a = then_is (slice_get i.funcs f) _ v h in
-      subst (λ v. ValRel (reaching env parts p) v v) (some_is a.2) (reference (func (some (reached_at env parts p Funcs a.0 (reaches.spaces Functions f a.0 a.1)))))
+      subst (λ v. ValRel (reaching env parts p) v v) (some_is a.2) (reference (func (some (reached_at env parts p Functions a.0 (reaches.spaces Functions f a.0 a.1)))))
   value_self (const.Global x) v h =
       let a = then_is (slice_get i.globals x) _ v h in
       let g = then_is (slice_get globals a.0) _ v a.2 in

@@ -1,12 +1,13 @@
 -- The addresses of a part's imports are lower than those of what it defines, and these lower than those of what later parts define.
 use Rattle.std.proofs.Common.{◌≡◌, ◌∙◌, sym, ap, ap₂, subst, ℕ, zero, suc, ◌+◌, ◌-◌, ◌<◌, List, length, Some, ◌⊎◌, inl, inr, arith, option_and_then, slice_get}
+use Rattle.wasm_tree.specs.declared.space.Space.{Space}
 use Rattle.wasm_tree.specs.declared.module.Import.{Import}
 use Rattle.wasm_tree.specs.declared.module.ImportDesc.{ImportDesc}
 use Rattle.wasm_tree.specs.declared.module.ImportDesc.TheVariants as im
 use Rattle.wasm_tree.specs.declared.module.Module.{Module}
 use Rattle.wasm_meaning.specs.State.{Pair, Inst}
 use Rattle.wasm_meaning.specs.Paths.{walk_on, walk}
-use Rattle.wasm_meaning.specs.Linking.{Part, Site, Entity, End, Defined, Outside, Kind, kind_of_import, kind_of_export, index_of_export, imports_of, module_at, import_at, pair_of, import_step, end_of, sites}
+use Rattle.wasm_meaning.specs.Linking.{Part, Site, Entity, End, Defined, Outside, kind_of_import, kind_of_export, index_of_export, imports_of, module_at, import_at, pair_of, import_step, end_of, sites}
 use Rattle.wasm_meaning.specs.Environment.{Environment, Thing, OwnKey}
 use Rattle.wasm_meaning.specs.World.{all_there, defined_count, own_count, base, thing_at, address_of, import_type, own_key_of, own_key, thing_of, imported_thing, numbers}
 use Rattle.wasm_meaning.specs.InTurn.{JoinsEarlier}
@@ -34,11 +35,11 @@ numbers_low from (suc count) (suc n) a e = let l = numbers_low (suc from) count 
 -- ---- where an import's address comes from ----
 
 module _ (env : Environment) (parts : List Part) where
-  pub base_next : (k : Kind) (p : ℕ) (m : Module) → module_at parts p ≡ Some m → base env parts k (suc p) ≡ base env parts k p + defined_count k m
+  pub base_next : (k : Space) (p : ℕ) (m : Module) → module_at parts p ≡ Some m → base env parts k (suc p) ≡ base env parts k p + defined_count k m
   base_next k p m e = let n = defined_next k parts p m e in omega (arith, n)
 
   -- an earlier part defines it
-  pub record AtDefined (k : Kind) (s : Site) (a : ℕ) : Type 0 where
+  pub record AtDefined (k : Space) (s : Site) (a : ℕ) : Type 0 where
     pub entity : Entity
     pub end : end_of parts s ≡ Some (Defined entity)
     pub is : LowInside parts s.part entity
@@ -47,7 +48,7 @@ module _ (env : Environment) (parts : List Part) where
     pub address : a ≡ base env parts k entity.part + (index_of_export entity.what - length (imports_of k is.of))
 
   -- it is the environment's own
-  pub record AtOwn (k : Kind) (s : Site) (a : ℕ) : Type 0 where
+  pub record AtOwn (k : Space) (s : Site) (a : ℕ) : Type 0 where
     pub last : Site
     pub end : end_of parts s ≡ Some (Outside last)
     pub stays : end_of parts last ≡ Some (Outside last)
@@ -60,7 +61,7 @@ module _ (env : Environment) (parts : List Part) where
     pub low : a < own_count k env
 
   module _ (there : ExportsThere parts) (earlier : JoinsEarlier parts) where
-    pub imported_at : (k : Kind) (s : Site) (x : Thing) (a : ℕ) → imported_thing env parts s ≡ Some x → address_of k x ≡ Some a → AtDefined k s a ⊎ AtOwn k s a
+    pub imported_at : (k : Space) (s : Site) (x : Thing) (a : ℕ) → imported_thing env parts s ≡ Some x → address_of k x ≡ Some a → AtDefined k s a ⊎ AtOwn k s a
     imported_at k s x a h has =
         let e = then_is (end_of parts s) (thing_of env parts) x h in
         go e.0 e.1 e.2 (ends_low parts there earlier s e.0 e.1)
@@ -104,7 +105,7 @@ module _ (env : Environment) (parts : List Part) where
             })
 
     -- it is lower than what the part itself defines
-    pub imported_low : (k : Kind) (s : Site) (x : Thing) (a : ℕ) → imported_thing env parts s ≡ Some x → address_of k x ≡ Some a → a < base env parts k s.part
+    pub imported_low : (k : Space) (s : Site) (x : Thing) (a : ℕ) → imported_thing env parts s ≡ Some x → address_of k x ≡ Some a → a < base env parts k s.part
     imported_low k s x a h has = go (imported_at k s x a h has)
       where
         go : AtDefined k s a ⊎ AtOwn k s a → a < base env parts k s.part
@@ -117,7 +118,7 @@ module _ (env : Environment) (parts : List Part) where
         go (inr o) = let l = o.low in omega (arith, l)
 
     -- what a part's instance has is lower than what later parts define
-    pub space_low : (p : ℕ) (m : Module) (i : Inst) → module_at parts p ≡ Some m → IsInst env parts p m i → (k : Kind) (x a : ℕ) → slice_get (space_in i k) x ≡ Some a → a < base env parts k (suc p)
+    pub space_low : (p : ℕ) (m : Module) (i : Inst) → module_at parts p ≡ Some m → IsInst env parts p m i → (k : Space) (x a : ℕ) → slice_get (space_in i k) x ≡ Some a → a < base env parts k (suc p)
     space_low p m i is_part inst k x a e =
         let s = space_is env parts k p m (space_in i k) (in_space env parts p m i inst k) in
         go s.0 s.1 (append_back s.0 _ x a (ap (λ l. slice_get l x) s.2 ∙ e))
@@ -135,14 +136,14 @@ module _ (env : Environment) (parts : List Part) where
             omega (arith, low, next)
 
   -- an import of a part has its address in the part's instance
-  pub record HasAddress (k : Kind) (s : Site) (i : Inst) (x : ℕ) : Type 0 where
+  pub record HasAddress (k : Space) (s : Site) (i : Inst) (x : ℕ) : Type 0 where
     pub address : ℕ
     pub at : slice_get (space_in i k) x ≡ Some address
     pub thing : Thing
     pub is : imported_thing env parts s ≡ Some thing
     pub has : address_of k thing ≡ Some address
 
-  pub import_address : (p : ℕ) (m : Module) (i : Inst) → IsInst env parts p m i → (k : Kind) (x n : ℕ) → slice_get (imports_of k m) x ≡ Some n → HasAddress k (record { part = p; import = n }) i x
+  pub import_address : (p : ℕ) (m : Module) (i : Inst) → IsInst env parts p m i → (k : Space) (x n : ℕ) → slice_get (imports_of k m) x ≡ Some n → HasAddress k (record { part = p; import = n }) i x
   import_address p m i inst k x n e =
       let s = space_is env parts k p m (space_in i k) (in_space env parts p m i inst k) in
       let a = all_place _ (imports_of k m) s.0 s.1 x n e in

@@ -1,11 +1,12 @@
 -- The next part's active segments, as its turn comes: what they do at once, with those of the parts before it and none of later ones.
 use Rattle.std.proofs.Common.{◌≡◌, ◌∙◌, refl, sym, ap, ap₂, ℕ, suc, List, ◌++◌, length, Some, true, false, append_assoc, arith, slice_get}
+use Rattle.wasm_tree.specs.declared.space.Space.TheVariants.{Tables, Memories, DataSegments, ElementSegments}
 use Rattle.wasm_tree.specs.declared.module.Module.{Module}
 use Rattle.wasm_meaning.specs.State.{Inst, Table, Memory, Elem, Data, Store}
 use Rattle.wasm_meaning.specs.Step.{no_items, no_bytes}
-use Rattle.wasm_meaning.specs.Linking.{Part, Tables, Memories, module_at, sites}
+use Rattle.wasm_meaning.specs.Linking.{Part, module_at, sites}
 use Rattle.wasm_meaning.specs.Environment.{Environment, all_of}
-use Rattle.wasm_meaning.specs.World.{base, elems_before, datas_before, is_matched, insts_from, own_store, stores_from, part_store, joined_stores, const_value, value_of, elem_tasks, data_tasks, segments}
+use Rattle.wasm_meaning.specs.World.{base, is_matched, insts_from, own_store, stores_from, part_store, joined_stores, const_value, value_of, elem_tasks, data_tasks, segments, defined_before}
 use Rattle.wasm_meaning.specs.InTurn.{JoinsEarlier, own_segments}
 use Rattle.worlds_in_turn.proofs.Things.{IsInst}
 use Rattle.worlds_in_turn.proofs.Joined.{ExportsThere}
@@ -49,18 +50,18 @@ module _ (env : Environment) (parts : List Part) (insts : List Inst) (are : inst
 
     elem_front : (e : List Table × List Elem) → elem_runs (elem_jobs_of env parts insts k) (t.tables ++ (rest_from env parts insts k).tables, t.elems ++ (rest_from env parts insts k).elems) ≡ Some e → ElemFront e
     elem_front e h =
-        let low = elems_low (value_of env parts insts k) i (base env parts Tables (suc k)) (elems_before parts (suc k)) (λ x b at. space_low env parts there earlier k m i is_part inst Tables x b at) i.elems m.elems
-        (λ x b at. let l = numbers_low (elems_before parts k) (length m.elems) x b (ap (λ l. slice_get l x) (sym inst.elems) ∙ at) in let n = elems_next parts k m is_part in omega (arith, l, n)) in
-        runs_front Table Elem table_fill no_items later.tables later.elems (elem_jobs (value_of env parts insts k) i i.elems m.elems) (base env parts Tables (suc k)) (elems_before parts (suc k)) low (t.tables ++ a.tables) (t.elems ++ a.elems) lengths.tables lengths.elems e
+        let low = elems_low (value_of env parts insts k) i (base env parts Tables (suc k)) (defined_before ElementSegments parts (suc k)) (λ x b at. space_low env parts there earlier k m i is_part inst Tables x b at) i.elems m.elems
+        (λ x b at. let l = numbers_low (defined_before ElementSegments parts k) (length m.elems) x b (ap (λ l. slice_get l x) (sym inst.elems) ∙ at) in let n = elems_next parts k m is_part in omega (arith, l, n)) in
+        runs_front Table Elem table_fill no_items later.tables later.elems (elem_jobs (value_of env parts insts k) i i.elems m.elems) (base env parts Tables (suc k)) (defined_before ElementSegments parts (suc k)) low (t.tables ++ a.tables) (t.elems ++ a.elems) lengths.tables lengths.elems e
         (ap₂ (λ xs ys. elem_runs (elem_jobs (value_of env parts insts k) i i.elems m.elems) (xs, ys)) (append_assoc t.tables a.tables later.tables) (append_assoc t.elems a.elems later.elems)
         ∙ ap (λ r. elem_runs (elem_jobs (value_of env parts insts k) i i.elems m.elems) (t.tables ++ r.tables, t.elems ++ r.elems)) (sym rest)
         ∙ ap (λ js. elem_runs js (t.tables ++ (rest_from env parts insts k).tables, t.elems ++ (rest_from env parts insts k).elems)) (sym (elem_jobs_at env parts insts k m i is_part is_inst)) ∙ h)
 
     data_front : (e : List Memory × List Data) → data_runs (data_jobs_of env parts insts k) (t.mems ++ (rest_from env parts insts k).mems, t.datas ++ (rest_from env parts insts k).datas) ≡ Some e → DataFront e
     data_front e h =
-        let low = datas_low (value_of env parts insts k) i (base env parts Memories (suc k)) (datas_before parts (suc k)) (λ x b at. space_low env parts there earlier k m i is_part inst Memories x b at) i.datas m.datas
-        (λ x b at. let l = numbers_low (datas_before parts k) (length m.datas) x b (ap (λ l. slice_get l x) (sym inst.datas) ∙ at) in let n = datas_next parts k m is_part in omega (arith, l, n)) in
-        runs_front Memory Data memory_fill no_bytes later.mems later.datas (data_jobs (value_of env parts insts k) i i.datas m.datas) (base env parts Memories (suc k)) (datas_before parts (suc k)) low (t.mems ++ a.mems) (t.datas ++ a.datas) lengths.mems lengths.datas e
+        let low = datas_low (value_of env parts insts k) i (base env parts Memories (suc k)) (defined_before DataSegments parts (suc k)) (λ x b at. space_low env parts there earlier k m i is_part inst Memories x b at) i.datas m.datas
+        (λ x b at. let l = numbers_low (defined_before DataSegments parts k) (length m.datas) x b (ap (λ l. slice_get l x) (sym inst.datas) ∙ at) in let n = datas_next parts k m is_part in omega (arith, l, n)) in
+        runs_front Memory Data memory_fill no_bytes later.mems later.datas (data_jobs (value_of env parts insts k) i i.datas m.datas) (base env parts Memories (suc k)) (defined_before DataSegments parts (suc k)) low (t.mems ++ a.mems) (t.datas ++ a.datas) lengths.mems lengths.datas e
         (ap₂ (λ xs ys. data_runs (data_jobs (value_of env parts insts k) i i.datas m.datas) (xs, ys)) (append_assoc t.mems a.mems later.mems) (append_assoc t.datas a.datas later.datas)
         ∙ ap (λ r. data_runs (data_jobs (value_of env parts insts k) i i.datas m.datas) (t.mems ++ r.mems, t.datas ++ r.datas)) (sym rest)
         ∙ ap (λ js. data_runs js (t.mems ++ (rest_from env parts insts k).mems, t.datas ++ (rest_from env parts insts k).datas)) (sym (data_jobs_at env parts insts k m i is_part is_inst)) ∙ h)

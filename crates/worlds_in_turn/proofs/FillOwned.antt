@@ -1,12 +1,13 @@
 -- The environment's own entities have addresses of their kind, below the number of what it has.
 use Rattle.std.proofs.Common.{◌≡◌, ◌∙◌, refl, sym, ap, subst, ℕ, suc, ◌+◌, ◌<◌, List, [], ◌∷◌, ◌++◌, map, length, Option, Some, None, Bool, true, false, cond, ◌⊎◌, inl, inr, arith}
+use Rattle.wasm_tree.specs.declared.space.Space.{Space}
+use Rattle.wasm_tree.specs.declared.space.Space.TheVariants.{Functions, Tables, Memories, Globals}
 use Rattle.wasm_meaning.specs.Outcomes.{Outcome, Gives, Traps, IllTyped}
-use Rattle.wasm_meaning.specs.Linking.{Kind, Functions, Tables, Memories, Globals}
 use Rattle.wasm_meaning.specs.Environment.{Environment, Offer, OwnKey, FuncKey, TableKey, MemoryKey, GlobalKey, Thing, FuncAt, TableAt, MemoryAt, GlobalAt, Owned, same_key, look_up, owned_at, owned_of, addressed, flat, one_if}
 use Rattle.wasm_meaning.specs.World.{own_count, thing_at, given}
 use Rattle.worlds_in_turn.proofs.Extends.{append_length}
 
-abbrev pub kind_of_key : OwnKey → Kind
+abbrev pub kind_of_key : OwnKey → Space
 kind_of_key (FuncKey p t) = Functions
 kind_of_key (TableKey p) = Tables
 kind_of_key (MemoryKey p) = Memories
@@ -31,23 +32,23 @@ same_key_kind (GlobalKey p) (MemoryKey q) e = cc
 same_key_kind (GlobalKey p) (GlobalKey q) e = refl
 
 -- keys of one kind
-data Each (k : Kind) : List OwnKey → Type 0 where
+data Each (k : Space) : List OwnKey → Type 0 where
   no_keys : Each k []
   key_more : {key : OwnKey} {keys : List OwnKey} → kind_of_key key ≡ k → Each k keys → Each k (key ∷ keys)
 
-each_append : {k : Kind} {xs ys : List OwnKey} → Each k xs → Each k ys → Each k (xs ++ ys)
+each_append : {k : Space} {xs ys : List OwnKey} → Each k xs → Each k ys → Each k (xs ++ ys)
 each_append no_keys h = h
 each_append (key_more e g) h = key_more e (each_append g h)
 
-each_flat : (k : Kind) (f : Offer → List OwnKey) → ((o : Offer) → Each k (f o)) → (os : List Offer) → Each k (flat f os)
+each_flat : (k : Space) (f : Offer → List OwnKey) → ((o : Offer) → Each k (f o)) → (os : List Offer) → Each k (flat f os)
 each_flat k f h [] = no_keys
 each_flat k f h (o ∷ os) = each_append (h o) (each_flat k f h os)
 
-each_map : {A : Type 0} (k : Kind) (f : A → OwnKey) → ((a : A) → kind_of_key (f a) ≡ k) → (xs : List A) → Each k (map f xs)
+each_map : {A : Type 0} (k : Space) (f : A → OwnKey) → ((a : A) → kind_of_key (f a) ≡ k) → (xs : List A) → Each k (map f xs)
 each_map k f h [] = no_keys
 each_map k f h (x ∷ xs) = key_more (h x) (each_map k f h xs)
 
-each_one : {A : Type 0} (k : Kind) (f : A → OwnKey) → ((a : A) → kind_of_key (f a) ≡ k) → (o : Option A) → Each k (one_if f o)
+each_one : {A : Type 0} (k : Space) (f : A → OwnKey) → ((a : A) → kind_of_key (f a) ≡ k) → (o : Option A) → Each k (one_if f o)
 each_one k f h None = no_keys
 each_one k f h (Some a) = key_more (h a) no_keys
 
@@ -77,13 +78,13 @@ look_either is (z ∷ zs) ys x e = go (is z.0) e (look_either is zs ys x)
     go false e h = h e
 
 -- what is found among keys of one kind
-record Found (key : OwnKey) (thing : ℕ → Thing) (n : ℕ) (k : Kind) (count : ℕ) (x : Thing) : Type 0 where
+record Found (key : OwnKey) (thing : ℕ → Thing) (n : ℕ) (k : Space) (count : ℕ) (x : Thing) : Type 0 where
   place : ℕ
   is : x ≡ thing (n + place)
   low : place < count
   kind : kind_of_key key ≡ k
 
-look_addressed : (key : OwnKey) (thing : ℕ → Thing) (k : Kind) (n : ℕ) (keys : List OwnKey) → Each k keys → (x : Thing) → look_up (same_key key) (addressed thing n keys) ≡ Gives x → Found key thing n k (length keys) x
+look_addressed : (key : OwnKey) (thing : ℕ → Thing) (k : Space) (n : ℕ) (keys : List OwnKey) → Each k keys → (x : Thing) → look_up (same_key key) (addressed thing n keys) ≡ Gives x → Found key thing n k (length keys) x
 look_addressed key thing k n [] no_keys x e = absurd (let f = e in cc)
 look_addressed key thing k n (y ∷ ys) (key_more h hs) x e = go (same_key key y) refl e (look_addressed key thing k (suc n) ys hs x)
   where
@@ -103,7 +104,7 @@ pub record OwnAt (env : Environment) (key : OwnKey) (x : Thing) : Type 0 where
   pub is : x ≡ thing_at (kind_of_key key) address
   pub low : address < own_count (kind_of_key key) env
 
-own_found : (env : Environment) (key : OwnKey) (k : Kind) (count : ℕ) (x : Thing) → count ≡ own_count k env → Found key (thing_at k) 0 k count x → OwnAt env key x
+own_found : (env : Environment) (key : OwnKey) (k : Space) (count : ℕ) (x : Thing) → count ≡ own_count k env → Found key (thing_at k) 0 k count x → OwnAt env key x
 own_found env key k count x c f =
     let z : 0 + f.place ≡ f.place = omega arith in
     let l : f.place < own_count k env = subst (λ n. f.place < n) c f.low in

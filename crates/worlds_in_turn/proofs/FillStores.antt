@@ -1,11 +1,13 @@
 -- The store of all parts at once is what the first of them add, then what the rest add.
 use Rattle.std.proofs.Common.{◌≡◌, ◌∙◌, refl, sym, ap, ap₂, subst, ℕ, zero, suc, ◌+◌, ◌-◌, ◌<◌, ◌≤◌, List, [], ◌∷◌, ◌++◌, map, length, Option, Some, None, append_assoc, arith, option_and_then, slice_get}
+use Rattle.wasm_tree.specs.declared.space.Space.{Space}
+use Rattle.wasm_tree.specs.declared.space.Space.TheVariants.{Functions, Tables, Memories, Globals, DataSegments, ElementSegments}
 use Rattle.wasm_tree.specs.declared.module.ConstExpr.{ConstExpr}
 use Rattle.wasm_tree.specs.declared.module.Module.{Module}
 use Rattle.wasm_meaning.specs.State.{Val, Inst, Store}
-use Rattle.wasm_meaning.specs.Linking.{Part, Kind, Functions, Tables, Memories, Globals, module_at}
+use Rattle.wasm_meaning.specs.Linking.{Part, module_at}
 use Rattle.wasm_meaning.specs.Environment.{Environment}
-use Rattle.wasm_meaning.specs.World.{base, defined_before, elems_before, datas_before, all_there, new_func, global_with, elem_with, store_with, part_store, joined_stores, own_store, stores_from}
+use Rattle.wasm_meaning.specs.World.{base, defined_before, all_there, new_func, global_with, elem_with, store_with, part_store, joined_stores, own_store, stores_from}
 use Rattle.worlds_in_turn.proofs.Extends.{append_length}
 use Rattle.worlds_in_turn.proofs.Things.{then_is, some_is, all_length}
 use Rattle.worlds_in_turn.proofs.Reached.{elems_next, datas_next}
@@ -85,8 +87,8 @@ module _ (env : Environment) (parts : List Part) (insts : List Inst) where
     pub tables : length t.tables ≡ base env parts Tables k
     pub mems : length t.mems ≡ base env parts Memories k
     pub globals : length t.globals ≡ base env parts Globals k
-    pub elems : length t.elems ≡ elems_before parts k
-    pub datas : length t.datas ≡ datas_before parts k
+    pub elems : length t.elems ≡ defined_before ElementSegments parts k
+    pub datas : length t.datas ≡ defined_before DataSegments parts k
 
   module _ (k : ℕ) (m : Module) (i : Inst) (a : Store) (is_part : module_at parts k ≡ Some m) (is_inst : slice_get insts k ≡ Some i) (is_added : part_store env parts insts k m i ≡ Some a) where
     pub added_is : added_at k ≡ Some a
@@ -129,15 +131,15 @@ module _ (env : Environment) (parts : List Part) (insts : List Inst) where
     datas = sym (no_datas parts);
   }
     where
-      none_before : (k : Kind) (parts : List Part) → defined_before k parts 0 ≡ 0
+      none_before : (k : Space) (parts : List Part) → defined_before k parts 0 ≡ 0
       none_before k [] = refl
       none_before k (part ∷ parts) = refl
 
-      no_elems : (parts : List Part) → elems_before parts 0 ≡ 0
+      no_elems : (parts : List Part) → defined_before ElementSegments parts 0 ≡ 0
       no_elems [] = refl
       no_elems (part ∷ parts) = refl
 
-      no_datas : (parts : List Part) → datas_before parts 0 ≡ 0
+      no_datas : (parts : List Part) → defined_before DataSegments parts 0 ≡ 0
       no_datas [] = refl
       no_datas (part ∷ parts) = refl
 

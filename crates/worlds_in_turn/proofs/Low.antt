@@ -1,10 +1,12 @@
 -- A part's instance has addresses of the environment's entities and of what parts up to it define, where each joined import leads to an earlier part.
 use Rattle.std.proofs.Common.{◌≡◌, ◌∙◌, refl, sym, ap, subst, ℕ, zero, suc, ◌+◌, ◌<◌, ◌≤◌, List, [], ◌∷◌, ◌++◌, length, Option, Some, None, ◌⊎◌, inl, inr, arith, option_and_then, slice_get}
+use Rattle.wasm_tree.specs.declared.space.Space.{Space}
+use Rattle.wasm_tree.specs.declared.space.Space.TheVariants.{Functions, Tables, Memories, Globals}
 use Rattle.wasm_tree.specs.declared.module.Import.{Import}
 use Rattle.wasm_tree.specs.declared.module.Module.{Module}
 use Rattle.wasm_meaning.specs.State.{Inst}
 use Rattle.wasm_meaning.specs.Paths.{walk, walk_on}
-use Rattle.wasm_meaning.specs.Linking.{Part, Entity, Kind, Functions, Tables, Memories, Globals, kind_of_export, index_of_export, imports_of, module_at, import_at, export_named, source_of, joined, joined_step, import_step, sites, end_of}
+use Rattle.wasm_meaning.specs.Linking.{Part, Entity, kind_of_export, index_of_export, imports_of, module_at, import_at, export_named, source_of, joined, joined_step, import_step, sites, end_of}
 use Rattle.wasm_meaning.specs.Environment.{Environment, Thing, owned_of, owned_at}
 use Rattle.wasm_meaning.specs.World.{given, own_key, defined_count, base, thing_at, address_of, imported_thing, thing_of, all_there, numbers, insts_from, address_in}
 use Rattle.wasm_meaning.specs.InTurn.{JoinsEarlier}
@@ -38,7 +40,7 @@ all_back {A} {B} f (x ∷ xs) ys h n y e =
 
 -- ---- kinds ----
 
-pub same_thing : (k l : Kind) (a b : ℕ) → address_of k (thing_at l a) ≡ Some b → (l ≡ k) × (a ≡ b)
+pub same_thing : (k l : Space) (a b : ℕ) → address_of k (thing_at l a) ≡ Some b → (l ≡ k) × (a ≡ b)
 same_thing Functions Functions a b e = (refl, some_is e)
 same_thing Tables Tables a b e = (refl, some_is e)
 same_thing Memories Memories a b e = (refl, some_is e)
@@ -57,7 +59,7 @@ same_thing Globals Tables a b e = cc
 same_thing Globals Memories a b e = cc
 
 module _ (env : Environment) (parts : List Part) (insts : List Inst) (are : insts_from env parts 0 parts ≡ Some insts) (size : length insts ≡ length parts) (earlier : JoinsEarlier parts) (own : OwnEntitiesCorrespond) where
-  more : (k : Kind) (p q : ℕ) → p ≤ q → base env parts k p ≤ base env parts k q
+  more : (k : Space) (p q : ℕ) → p ≤ q → base env parts k p ≤ base env parts k q
   more k p q l = let r = defined_more k parts p q l in omega (arith, r)
 
   -- an import that stands for something is there
@@ -77,10 +79,10 @@ module _ (env : Environment) (parts : List Part) (insts : List Inst) (are : inst
   inst_there q m e = let r = inst_at env parts 0 parts insts are q m e in (r.0, r.1)
 
   abbrev pub LowThing : ℕ → Type 0
-  LowThing p = (n : ℕ) (m : Module) (x : Thing) → module_at parts p ≡ Some m → imported_thing env parts (record { part = p; import = n }) ≡ Some x → (k : Kind) (a : ℕ) → address_of k x ≡ Some a → a < base env parts k p
+  LowThing p = (n : ℕ) (m : Module) (x : Thing) → module_at parts p ≡ Some m → imported_thing env parts (record { part = p; import = n }) ≡ Some x → (k : Space) (a : ℕ) → address_of k x ≡ Some a → a < base env parts k p
 
   abbrev pub LowInst : ℕ → Type 0
-  LowInst p = (m : Module) (i : Inst) → module_at parts p ≡ Some m → slice_get insts p ≡ Some i → (k : Kind) (n a : ℕ) → slice_get (space_in i k) n ≡ Some a → a < base env parts k (suc p)
+  LowInst p = (m : Module) (i : Inst) → module_at parts p ≡ Some m → slice_get insts p ≡ Some i → (k : Space) (n a : ℕ) → slice_get (space_in i k) n ≡ Some a → a < base env parts k (suc p)
 
   inst_by : (p : ℕ) → LowThing p → LowInst p
   inst_by p low m i is at k n a h =

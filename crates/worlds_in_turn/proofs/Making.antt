@@ -1,5 +1,7 @@
 -- While a start is made, the run in turn and the run at once make the same steps.
 use Rattle.std.proofs.Common.{◌≡◌, ◌∙◌, refl, sym, ap, subst, ℕ, ◌<◌, ◌≤◌, List, [], ◌∷◌, ◌++◌, length, Option, Some, None, arith}
+use Rattle.wasm_tree.specs.declared.space.Space.{Space}
+use Rattle.wasm_tree.specs.declared.space.Space.TheVariants.{Functions, Tables, Memories, Globals, ElementSegments, DataSegments}
 use Rattle.wasm_tree.specs.declared.types.FuncType.{FuncType}
 use Rattle.wasm_tree.specs.declared.types.ValType.{ValType}
 use Rattle.wasm_tree.specs.declared.instr.Instr.{Instr}
@@ -8,12 +10,12 @@ use Rattle.wasm_meaning.specs.State.{Text, Inst, Func, Code, Own, Placeholder, S
 use Rattle.wasm_meaning.specs.Control.{type_of_func}
 use Rattle.wasm_meaning.specs.Values.{zeros}
 use Rattle.wasm_meaning.specs.Step.{enter}
-use Rattle.wasm_meaning.specs.Linking.{Part, Functions}
+use Rattle.wasm_meaning.specs.Linking.{Part}
 use Rattle.wasm_meaning.specs.Environment.{Environment, Thing, owned_of, received_all}
 use Rattle.wasm_meaning.specs.World.{base}
 use Rattle.wasm_meaning.specs.Run.{Event, Asked, Phase, Fresh, Pending, Closed, Run, Out, after, nothing_in, or_closed, tick_at, tick}
 use Rattle.wasm_meaning.specs.Below.{IsBottom, GivesNothing, a_frame, a_call, over, Unseen, goes_on, ended, trapped, BelowIsNotSeen}
-use Rattle.index_remap.specs.Related.{Kind, Funcs, Mems, Elems, Datas, Pairing, ListRel, nil, cons, EntryRel, opening}
+use Rattle.index_remap.specs.Related.{Pairing, ListRel, nil, cons, EntryRel, opening}
 use Rattle.index_remap.specs.Related as to
 use Rattle.index_remap.specs.RelatedRuns.{pending, RunRel, OutRel, KeepsOthers, HasNoPartner}
 use Rattle.index_remap.specs.Laws.{EntryByEntry, RelatedTicksAgree, OthersStay}
@@ -94,16 +96,16 @@ module _ (below : BelowIsNotSeen) (ticks : RelatedTicksAgree) (others : OthersSt
     done : {r u : Run} → Abreast [] [] r u → r.entries ≡ cs → r.phase ≡ Pending view → u.entries ≡ Opening [] ∷ [] → u.phase ≡ Pending v → Stepped cs view v (r, None) (u, None)
     stopped : {event : Option Event} {r u : Run} → RunRel (reaching env parts p) (EntryByEntry (reaching env parts p)) (EntryByEntry (reaching env parts p)) u r → r.entries ≡ [] → r.phase ≡ Closed → u.entries ≡ [] → u.phase ≡ Closed → Stepped cs view v (r, event) (u, event)
 
-  no_partner : (k : Kind) (a : ℕ) → Rattle.worlds_in_turn.proofs.Reached.count_upto env parts p k ≤ a → HasNoPartner (reaching env parts p) k a
+  no_partner : (k : Space) (a : ℕ) → Rattle.worlds_in_turn.proofs.Reached.count_upto env parts p k ≤ a → HasNoPartner (reaching env parts p) k a
   no_partner k a l b h = let r = reached_is env parts p k b a h in omega (arith, l, r.0, r.1)
 
   untouched_on : {s t : Store} → KeepsOthers (reaching env parts p) s t → Untouched env parts p allocated s → Untouched env parts p allocated t
   untouched_on k h = record {
-    tables = λ a l. k.tables a (no_partner to.Tables a l) ∙ h.tables a l;
-    mems = λ a l. k.mems a (no_partner Mems a l) ∙ h.mems a l;
-    globals = λ a l. k.globals a (no_partner to.Globals a l) ∙ h.globals a l;
-    elems = λ a l. k.elems a (no_partner Elems a l) ∙ h.elems a l;
-    datas = λ a l. k.datas a (no_partner Datas a l) ∙ h.datas a l;
+    tables = λ a l. k.tables a (no_partner Tables a l) ∙ h.tables a l;
+    mems = λ a l. k.mems a (no_partner Memories a l) ∙ h.mems a l;
+    globals = λ a l. k.globals a (no_partner Globals a l) ∙ h.globals a l;
+    elems = λ a l. k.elems a (no_partner ElementSegments a l) ∙ h.elems a l;
+    datas = λ a l. k.datas a (no_partner DataSegments a l) ∙ h.datas a l;
   }
 
   sized_on : {s t : Store} → Extends s t → Sized env parts p s → Sized env parts p t
@@ -180,7 +182,7 @@ module _ (below : BelowIsNotSeen) (ticks : RelatedTicksAgree) (others : OthersSt
     with_start r = record r { entries = Opening (a ∷ []) ∷ []; phase = Pending [] }
 
     about : RunRel (reaching env parts p) (EntryByEntry (reaching env parts p)) (EntryByEntry (reaching env parts p)) (with_start u) (with_start r)
-    about = record { store = h.related.store; entries = cons (opening (cons (reached_at env parts p Funcs a low) nil)) nil; phase = pending nil; shown = h.related.shown; view = h.related.view; owned = h.related.owned; moves = h.related.moves }
+    about = record { store = h.related.store; entries = cons (opening (cons (reached_at env parts p Functions a low) nil)) nil; phase = pending nil; shown = h.related.shown; view = h.related.view; owned = h.related.owned; moves = h.related.moves }
 
     after_opening : OutRel (reaching env parts p) (EntryByEntry (reaching env parts p)) (EntryByEntry (reaching env parts p)) (record (with_start u) { entries = entry_of f ∷ Opening [] ∷ [] }, event_of f) (record (with_start r) { entries = entry_of f ∷ Opening [] ∷ [] }, event_of f)
     after_opening =

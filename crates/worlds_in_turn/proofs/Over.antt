@@ -1,5 +1,6 @@
 -- After the starts: a closed run stays closed, and a view that opens shows what the parts have.
 use Rattle.std.proofs.Common.{◌≡◌, ◌∙◌, refl, sym, ap, subst, ℕ, ◌<◌, List, [], ◌∷◌, Some, Bool, true, false, cond, option_and_then, slice_get}
+use Rattle.wasm_tree.specs.declared.space.Space.TheVariants.{Functions, Tables, Memories, Globals}
 use Rattle.std.specs.Prelude.{nat_eq}
 use Rattle.wasm_tree.specs.declared.module.ExportDesc.{ExportDesc}
 use Rattle.wasm_tree.specs.declared.module.ExportDesc.TheVariants as ex
@@ -7,12 +8,12 @@ use Rattle.wasm_meaning.specs.Outcomes.{Outcome, Gives, Traps, IllTyped, at, ove
 use Rattle.wasm_meaning.specs.State.{Text, Inst}
 use Rattle.wasm_meaning.specs.Memory.{memory_may_grow}
 use Rattle.wasm_meaning.specs.Tables.{table_may_grow}
-use Rattle.wasm_meaning.specs.Linking.{Part, Entity, Functions, Tables, Memories, Globals, module_at}
+use Rattle.wasm_meaning.specs.Linking.{Part, Entity, module_at}
 use Rattle.wasm_meaning.specs.Environment.{Environment, Thing, FuncAt, TableAt, MemoryAt, GlobalAt, Shown, received, received_ref}
 use Rattle.wasm_meaning.specs.World.{base, all_there, address_in, seen_as}
 use Rattle.wasm_meaning.specs.Run
 use Rattle.wasm_meaning.specs.Run.{Event, Move, Call, Invoke, Take, Answer, Refuse, Grant, Deny, Get, Size, Set, Extend, Place, Phase, Closed, Run, Out, place_at, shows, got, size_of, does, byte_of, set, extended, moved, or_bad, is_taken_closed, closed_move, tick_at, tick}
-use Rattle.index_remap.specs.Related.{Kind, Funcs, Mems, Pairing, ListRel, nil, cons}
+use Rattle.index_remap.specs.Related.{Pairing, ListRel, nil, cons}
 use Rattle.index_remap.specs.Related as to
 use Rattle.index_remap.specs.RelatedRuns.{ThingRel, a_func, a_table, a_memory, a_global, KeyRel}
 use Rattle.index_remap.proofs.Rel.{OptAll, nothing, just}
@@ -103,7 +104,7 @@ view_self env parts p insts low (v ∷ vs) view h =
     subst (λ l. ListRel (KeyRel (reaching env parts p)) l l) (some_is b.2) (cons (subst (λ y. KeyRel (reaching env parts p) y y) (some_is x.2) (record { key = refl; thing = thing })) (view_self env parts p insts low vs b.0 b.1))
   where
     thing_of : (i : Inst) → ((k : Rattle.wasm_meaning.specs.Linking.Kind) (n a : ℕ) → slice_get (space_in i k) n ≡ Some a → a < base env parts k p) → (d : ExportDesc) (x : Thing) → address_in i d ≡ Some x → ThingRel (reaching env parts p) x x
-    thing_of i low (ex.Func n) x e = let a = then_is (slice_get i.funcs n) (λ a. Some (FuncAt a)) x e in subst (λ x. ThingRel (reaching env parts p) x x) (some_is a.2) (a_func (reached_at env parts p Funcs a.0 (low Functions n a.0 a.1)))
-    thing_of i low (ex.Table n) x e = let a = then_is (slice_get i.tables n) (λ a. Some (TableAt a)) x e in subst (λ x. ThingRel (reaching env parts p) x x) (some_is a.2) (a_table (reached_at env parts p to.Tables a.0 (low Tables n a.0 a.1)))
-    thing_of i low (ex.Memory n) x e = let a = then_is (slice_get i.mems n) (λ a. Some (MemoryAt a)) x e in subst (λ x. ThingRel (reaching env parts p) x x) (some_is a.2) (a_memory (reached_at env parts p Mems a.0 (low Memories n a.0 a.1)))
-    thing_of i low (ex.Global n) x e = let a = then_is (slice_get i.globals n) (λ a. Some (GlobalAt a)) x e in subst (λ x. ThingRel (reaching env parts p) x x) (some_is a.2) (a_global (reached_at env parts p to.Globals a.0 (low Globals n a.0 a.1)))
+    thing_of i low (ex.Func n) x e = let a = then_is (slice_get i.funcs n) (λ a. Some (FuncAt a)) x e in subst (λ x. ThingRel (reaching env parts p) x x) (some_is a.2) (a_func (reached_at env parts p Functions a.0 (low Functions n a.0 a.1)))
+    thing_of i low (ex.Table n) x e = let a = then_is (slice_get i.tables n) (λ a. Some (TableAt a)) x e in subst (λ x. ThingRel (reaching env parts p) x x) (some_is a.2) (a_table (reached_at env parts p Tables a.0 (low Tables n a.0 a.1)))
+    thing_of i low (ex.Memory n) x e = let a = then_is (slice_get i.mems n) (λ a. Some (MemoryAt a)) x e in subst (λ x. ThingRel (reaching env parts p) x x) (some_is a.2) (a_memory (reached_at env parts p Memories a.0 (low Memories n a.0 a.1)))
+    thing_of i low (ex.Global n) x e = let a = then_is (slice_get i.globals n) (λ a. Some (GlobalAt a)) x e in subst (λ x. ThingRel (reaching env parts p) x x) (some_is a.2) (a_global (reached_at env parts p Globals a.0 (low Globals n a.0 a.1)))

@@ -1,38 +1,40 @@
 -- The addresses that the environment and the first parts have, each of which stands for itself.
 use Rattle.std.proofs.Common.{◌≡◌, ◌∙◌, refl, sym, ap, ap₂, subst, ℕ, zero, suc, ◌+◌, ◌<◌, ◌≤◌, List, [], ◌∷◌, length, Some, Bool, true, false, cond, arith, ◌&&◌}
+use Rattle.wasm_tree.specs.declared.space.Space.{Space}
+use Rattle.wasm_tree.specs.declared.space.Space.TheVariants.{Functions, Tables, Memories, Globals, ElementSegments, DataSegments}
 use Rattle.std.specs.Prelude.{nat_eq, nat_lt}
 use Rattle.std.proofs.lemmas.Bool.{ltb-true, lt-ltb, eq-eqb, eqb-true}
 use Rattle.wasm_tree.specs.declared.module.Module.{Module}
 use Rattle.wasm_meaning.specs.Outcomes.{Gives}
-use Rattle.wasm_meaning.specs.Linking.{Part, Functions, Tables, Memories, Globals, module_at}
+use Rattle.wasm_meaning.specs.Linking.{Part, module_at}
 use Rattle.wasm_meaning.specs.Linking as linking
 use Rattle.wasm_meaning.specs.Environment.{Environment, OwnKey, Owned, owned_of, owned_at, look_up, same_key, Thing, FuncAt, TableAt, MemoryAt, GlobalAt}
-use Rattle.wasm_meaning.specs.World.{given, defined_count, defined_before, base, elems_before, datas_before, address_of}
-use Rattle.index_remap.specs.Related.{Kind, Funcs, Mems, Elems, Datas, Pairing, OneToOne, ListRel, nil, cons}
+use Rattle.wasm_meaning.specs.World.{given, defined_count, defined_before, base, address_of}
+use Rattle.index_remap.specs.Related.{Pairing, OneToOne, ListRel, nil, cons}
 use Rattle.index_remap.specs.Related as to
 use Rattle.index_remap.specs.RelatedRuns.{ThingRel, a_func, a_table, a_memory, a_global, KeyRel}
 use Rattle.index_remap.specs.Laws.{passed}
 use Rattle.permuted_worlds.specs.Owned.{SharesOwn, OwnEntitiesCorrespond}
 use Rattle.worlds_in_turn.proofs.Things.{some_is}
 
-abbrev pub count_upto : Environment → List Part → ℕ → Kind → ℕ
-count_upto env parts p Funcs = base env parts Functions p
-count_upto env parts p to.Tables = base env parts Tables p
-count_upto env parts p Mems = base env parts Memories p
-count_upto env parts p to.Globals = base env parts Globals p
-count_upto env parts p Elems = elems_before parts p
-count_upto env parts p Datas = datas_before parts p
+abbrev pub count_upto : Environment → List Part → ℕ → Space → ℕ
+count_upto env parts p Functions = base env parts Functions p
+count_upto env parts p Tables = base env parts Tables p
+count_upto env parts p Memories = base env parts Memories p
+count_upto env parts p Globals = base env parts Globals p
+count_upto env parts p ElementSegments = defined_before ElementSegments parts p
+count_upto env parts p DataSegments = defined_before DataSegments parts p
 
-abbrev pub is_reached : Environment → List Part → ℕ → Kind → ℕ → ℕ → Bool
+abbrev pub is_reached : Environment → List Part → ℕ → Space → ℕ → ℕ → Bool
 is_reached env parts p k a b = nat_eq a b && nat_lt a (count_upto env parts p k)
 
 abbrev pub reaching : Environment → List Part → ℕ → Pairing
 reaching env parts p = passed (is_reached env parts p) (is_reached env parts p) []
 
-pub reached_at : (env : Environment) (parts : List Part) (p : ℕ) (k : Kind) (a : ℕ) → a < count_upto env parts p k → is_reached env parts p k a a ≡ true
+pub reached_at : (env : Environment) (parts : List Part) (p : ℕ) (k : Space) (a : ℕ) → a < count_upto env parts p k → is_reached env parts p k a a ≡ true
 reached_at env parts p k a l = ap₂ (λ b c. b && c) (eq-eqb a a refl) (lt-ltb a (count_upto env parts p k) l)
 
-pub reached_is : (env : Environment) (parts : List Part) (p : ℕ) (k : Kind) (a b : ℕ) → is_reached env parts p k a b ≡ true → (a ≡ b) × (a < count_upto env parts p k)
+pub reached_is : (env : Environment) (parts : List Part) (p : ℕ) (k : Space) (a b : ℕ) → is_reached env parts p k a b ≡ true → (a ≡ b) × (a < count_upto env parts p k)
 reached_is env parts p k a b h = by (nat_eq a b) refl h
   where
     by : (c : Bool) → nat_eq a b ≡ c → c && nat_lt a (count_upto env parts p k) ≡ true → (a ≡ b) × (a < count_upto env parts p k)
@@ -47,35 +49,35 @@ one_to_one env parts p = record {
 
 -- ---- counts ----
 
-pub defined_next : (k : linking.Kind) (parts : List Part) (p : ℕ) (m : Module) → module_at parts p ≡ Some m → defined_before k parts (suc p) ≡ defined_before k parts p + defined_count k m
+pub defined_next : (k : Space) (parts : List Part) (p : ℕ) (m : Module) → module_at parts p ≡ Some m → defined_before k parts (suc p) ≡ defined_before k parts p + defined_count k m
 defined_next k [] p m e = absurd (let z = e in cc)
 defined_next k (part ∷ parts) zero m e = let same = ap (defined_count k) (some_is e) in let z = none k parts in omega (arith, same, z)
   where
-    none : (k : linking.Kind) (parts : List Part) → defined_before k parts 0 ≡ 0
+    none : (k : Space) (parts : List Part) → defined_before k parts 0 ≡ 0
     none k [] = refl
     none k (part ∷ parts) = refl
 defined_next k (part ∷ parts) (suc p) m e = let r = defined_next k parts p m e in omega (arith, r)
 
-pub defined_more : (k : linking.Kind) (parts : List Part) (p q : ℕ) → p ≤ q → defined_before k parts p ≤ defined_before k parts q
+pub defined_more : (k : Space) (parts : List Part) (p q : ℕ) → p ≤ q → defined_before k parts p ≤ defined_before k parts q
 defined_more k [] p q l = omega arith
 defined_more k (part ∷ parts) zero q l = omega arith
 defined_more k (part ∷ parts) (suc p) zero l = absurd (omega (arith, l))
 defined_more k (part ∷ parts) (suc p) (suc q) l = let r = defined_more k parts p q (omega (arith, l)) in omega (arith, r)
 
-pub elems_next : (parts : List Part) (p : ℕ) (m : Module) → module_at parts p ≡ Some m → elems_before parts (suc p) ≡ elems_before parts p + length m.elems
+pub elems_next : (parts : List Part) (p : ℕ) (m : Module) → module_at parts p ≡ Some m → defined_before ElementSegments parts (suc p) ≡ defined_before ElementSegments parts p + length m.elems
 elems_next [] p m e = absurd (let z = e in cc)
 elems_next (part ∷ parts) zero m e = let same = ap (λ m. length m.elems) (some_is e) in let z = none parts in omega (arith, same, z)
   where
-    none : (parts : List Part) → elems_before parts 0 ≡ 0
+    none : (parts : List Part) → defined_before ElementSegments parts 0 ≡ 0
     none [] = refl
     none (part ∷ parts) = refl
 elems_next (part ∷ parts) (suc p) m e = let r = elems_next parts p m e in omega (arith, r)
 
-pub datas_next : (parts : List Part) (p : ℕ) (m : Module) → module_at parts p ≡ Some m → datas_before parts (suc p) ≡ datas_before parts p + length m.datas
+pub datas_next : (parts : List Part) (p : ℕ) (m : Module) → module_at parts p ≡ Some m → defined_before DataSegments parts (suc p) ≡ defined_before DataSegments parts p + length m.datas
 datas_next [] p m e = absurd (let z = e in cc)
 datas_next (part ∷ parts) zero m e = let same = ap (λ m. length m.datas) (some_is e) in let z = none parts in omega (arith, same, z)
   where
-    none : (parts : List Part) → datas_before parts 0 ≡ 0
+    none : (parts : List Part) → defined_before DataSegments parts 0 ≡ 0
     none [] = refl
     none (part ∷ parts) = refl
 datas_next (part ∷ parts) (suc p) m e = let r = datas_next parts p m e in omega (arith, r)
@@ -84,10 +86,10 @@ datas_next (part ∷ parts) (suc p) m e = let r = datas_next parts p m e in omeg
 
 pub shares_own : (env : Environment) (parts : List Part) (p : ℕ) → SharesOwn (reaching env parts p) env
 shares_own env parts p = record {
-  funcs = λ a l. reached_at env parts p Funcs a (omega (arith, l));
-  tables = λ a l. reached_at env parts p to.Tables a (omega (arith, l));
-  mems = λ a l. reached_at env parts p Mems a (omega (arith, l));
-  globals = λ a l. reached_at env parts p to.Globals a (omega (arith, l));
+  funcs = λ a l. reached_at env parts p Functions a (omega (arith, l));
+  tables = λ a l. reached_at env parts p Tables a (omega (arith, l));
+  mems = λ a l. reached_at env parts p Memories a (omega (arith, l));
+  globals = λ a l. reached_at env parts p Globals a (omega (arith, l));
 }
 
 thing_self : (R : Pairing) (xs : Owned) → ListRel (KeyRel R) xs xs → (is : OwnKey → Bool) (x : Thing) → given (look_up is xs) ≡ Some x → ThingRel R x x
@@ -98,21 +100,21 @@ thing_self R (y ∷ ys) (cons r rs) is x h = by (is y.0) h (λ h. thing_self R y
     by true h on = subst (λ z. ThingRel R z z) (some_is h) r.thing
     by false h on = on h
 
-kind_in : linking.Kind → Kind
-kind_in Functions = Funcs
-kind_in Tables = to.Tables
-kind_in Memories = Mems
-kind_in Globals = to.Globals
+kind_in : Space → Space
+kind_in Functions = Functions
+kind_in Tables = Tables
+kind_in Memories = Memories
+kind_in Globals = Globals
 
 -- none of the parts: what is the environment's has an address below its count
-pub own_low : OwnEntitiesCorrespond → (env : Environment) (parts : List Part) (p : ℕ) (key : OwnKey) (x : Thing) → given (owned_at (owned_of env) key) ≡ Some x → (k : linking.Kind) (a : ℕ) → address_of k x ≡ Some a → a < base env parts k p
+pub own_low : OwnEntitiesCorrespond → (env : Environment) (parts : List Part) (p : ℕ) (key : OwnKey) (x : Thing) → given (owned_at (owned_of env) key) ≡ Some x → (k : Space) (a : ℕ) → address_of k x ≡ Some a → a < base env parts k p
 own_low law env parts p key x h k a e = go x k e (thing_self (reaching env parts p) (owned_of env) (law (is_reached env parts p) env (shares_own env parts p)).owned (same_key key) x h)
   where
-    go : (x : Thing) (k : linking.Kind) → address_of k x ≡ Some a → ThingRel (reaching env parts p) x x → a < base env parts k p
-    go (FuncAt b) Functions e (a_func r) = let l = (reached_is env parts p Funcs b b r).1 in let s = some_is e in omega (arith, l, s)
-    go (TableAt b) Tables e (a_table r) = let l = (reached_is env parts p to.Tables b b r).1 in let s = some_is e in omega (arith, l, s)
-    go (MemoryAt b) Memories e (a_memory r) = let l = (reached_is env parts p Mems b b r).1 in let s = some_is e in omega (arith, l, s)
-    go (GlobalAt b) Globals e (a_global r) = let l = (reached_is env parts p to.Globals b b r).1 in let s = some_is e in omega (arith, l, s)
+    go : (x : Thing) (k : Space) → address_of k x ≡ Some a → ThingRel (reaching env parts p) x x → a < base env parts k p
+    go (FuncAt b) Functions e (a_func r) = let l = (reached_is env parts p Functions b b r).1 in let s = some_is e in omega (arith, l, s)
+    go (TableAt b) Tables e (a_table r) = let l = (reached_is env parts p Tables b b r).1 in let s = some_is e in omega (arith, l, s)
+    go (MemoryAt b) Memories e (a_memory r) = let l = (reached_is env parts p Memories b b r).1 in let s = some_is e in omega (arith, l, s)
+    go (GlobalAt b) Globals e (a_global r) = let l = (reached_is env parts p Globals b b r).1 in let s = some_is e in omega (arith, l, s)
     go (FuncAt b) Tables e r = cc
     go (FuncAt b) Memories e r = cc
     go (FuncAt b) Globals e r = cc

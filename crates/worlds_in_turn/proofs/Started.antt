@@ -1,5 +1,7 @@
 -- The start of a valid part is a function that takes nothing and gives nothing.
 use Rattle.std.proofs.Common.{◌≡◌, ◌∙◌, refl, sym, ap, ap₂, ℕ, zero, suc, ◌+◌, ◌≤◌, List, [], ◌∷◌, ◌++◌, map, length, Option, Some, None, Bool, true, ◌⊎◌, inl, inr, arith, unwrap_or}
+use Rattle.wasm_tree.specs.declared.space.Space.TheVariants.{Functions}
+use Rattle.wasm_tree.specs.Operands.{same_space}
 use Rattle.std.specs.Prelude.{slice_get, option_and_then}
 use Rattle.wasm_tree.specs.declared.types.FuncType.{FuncType}
 use Rattle.wasm_tree.specs.declared.module.Func as tree
@@ -13,7 +15,7 @@ use Rattle.wasm_meaning.specs.State.{Inst, Func, Store}
 use Rattle.wasm_meaning.specs.Values.{same_func_type}
 use Rattle.wasm_meaning.specs.Control as control
 use Rattle.wasm_meaning.specs.Control.{type_at}
-use Rattle.wasm_meaning.specs.Linking.{Part, Functions, same_kind, kind_of_import, has_kind, imports_of, module_at, import_at, sites}
+use Rattle.wasm_meaning.specs.Linking.{Part, kind_of_import, has_kind, imports_of, module_at, import_at, sites}
 use Rattle.wasm_meaning.specs.Environment.{Environment, Thing, FuncAt, all_of}
 use Rattle.wasm_meaning.specs.World.{given, base, address_of, import_type, imported_thing, all_there, numbers, insts_from, new_func, global_with, elem_with, value_of, is_match, is_matched}
 use Rattle.wasm_meaning.specs.InTurn.{JoinsEarlier}
@@ -26,7 +28,7 @@ use Rattle.worlds_in_turn.proofs.Turn.{SitesThere, all_is, place_at}
 use Rattle.worlds_in_turn.proofs.Beside.{Laid, at_allocated_funcs}
 use Rattle.worlds_in_turn.proofs.Given.{part_there}
 
-is_func : (d : ImportDesc) → lists.is_some (func_of d) ≡ same_kind Functions (kind_of_import d)
+is_func : (d : ImportDesc) → lists.is_some (func_of d) ≡ same_space Functions (kind_of_import d)
 is_func (im.Func ty) = refl
 is_func (im.Table ty) = refl
 is_func (im.Memory l) = refl

@@ -1,6 +1,9 @@
 -- What the imports of a part stand for is the same whether all parts are instantiated at once or the part's turn has come, where each joined import leads to
 -- an earlier part.
 use Rattle.std.proofs.Common.{◌≡◌, ◌∙◌, refl, sym, ap, ap₂, ℕ, zero, suc, ◌+◌, ◌-◌, ◌<◌, ◌≤◌, List, [], ◌∷◌, ◌++◌, length, Option, Some, None, cond, arith, option_and_then, slice_get}
+use Rattle.wasm_tree.specs.declared.space.Space.{Space}
+use Rattle.wasm_tree.specs.declared.space.Space.TheVariants.{Functions, Tables, Memories, Globals, DataSegments, ElementSegments}
+use Rattle.wasm_tree.specs.Operands.{same_space}
 use Rattle.wasm_tree.specs.declared.module.Import.{Import}
 use Rattle.wasm_tree.specs.declared.module.ImportDesc.{ImportDesc}
 use Rattle.wasm_tree.specs.declared.module.ImportDesc.TheVariants as im
@@ -9,9 +12,9 @@ use Rattle.wasm_tree.specs.declared.module.ExportDesc.TheVariants as ex
 use Rattle.wasm_tree.specs.declared.module.Module.{Module}
 use Rattle.wasm_meaning.specs.State.{Inst}
 use Rattle.wasm_meaning.specs.Paths.{Next, Ends, Goes, walk, walk_on}
-use Rattle.wasm_meaning.specs.Linking.{same_kind, kind_of_import, Part, Site, Entity, End, Kind, Functions, Tables, Memories, Globals, places, has_kind, kind_of_export, index_of_export, imports_of, module_at, imported_as, import_step, sites, end_of}
+use Rattle.wasm_meaning.specs.Linking.{kind_of_import, Part, Site, Entity, End, places, has_kind, kind_of_export, index_of_export, imports_of, module_at, imported_as, import_step, sites, end_of}
 use Rattle.wasm_meaning.specs.Environment.{Environment, Thing, FuncAt, TableAt, MemoryAt, GlobalAt}
-use Rattle.wasm_meaning.specs.World.{defined_count, base, thing_at, address_of, defined_addresses, defined_thing, imported_thing, all_there, numbers, space, elems_before, datas_before, inst_of, insts_from, address_in}
+use Rattle.wasm_meaning.specs.World.{defined_count, base, thing_at, address_of, defined_addresses, defined_thing, imported_thing, all_there, numbers, space, inst_of, insts_from, address_in, defined_before}
 use Rattle.wasm_meaning.specs.InTurn.{addresses_of}
 
 -- ---- options ----
@@ -32,8 +35,8 @@ pub record IsInst (env : Environment) (parts : List Part) (p : ℕ) (m : Module)
   pub tables : space env parts Tables p m ≡ Some i.tables
   pub mems : space env parts Memories p m ≡ Some i.mems
   pub globals : space env parts Globals p m ≡ Some i.globals
-  pub elems : i.elems ≡ numbers (elems_before parts p) (length m.elems)
-  pub datas : i.datas ≡ numbers (datas_before parts p) (length m.datas)
+  pub elems : i.elems ≡ numbers (defined_before ElementSegments parts p) (length m.elems)
+  pub datas : i.datas ≡ numbers (defined_before DataSegments parts p) (length m.datas)
 
 pub inst_is : (env : Environment) (parts : List Part) (p : ℕ) (m : Module) (i : Inst) → inst_of env parts p m ≡ Some i → IsInst env parts p m i
 inst_is env parts p m i h =
@@ -62,7 +65,7 @@ inst_at env all p (part ∷ ps) is h q m e =
         let n : p + suc q ≡ suc p + q = omega arith in
         (r.0, ap (λ l. slice_get l (suc q)) (sym b) ∙ r.1, ap (λ n. inst_of env all n m) n ∙ r.2)
 
-pub space_is : (env : Environment) (parts : List Part) (k : Kind) (p : ℕ) (m : Module) (xs : List ℕ) → space env parts k p m ≡ Some xs →
+pub space_is : (env : Environment) (parts : List Part) (k : Space) (p : ℕ) (m : Module) (xs : List ℕ) → space env parts k p m ≡ Some xs →
     (l : List ℕ) × (all_there (λ n. option_and_then (address_of k) (imported_thing env parts (record { part = p; import = n }))) (imports_of k m) ≡ Some l) × (l ++ numbers (base env parts k p) (defined_count k m) ≡ xs)
 space_is env parts k p m xs h =
     let l = then_is (all_there (λ n. option_and_then (address_of k) (imported_thing env parts (record { part = p; import = n }))) (imports_of k m)) _ xs h in
@@ -75,7 +78,7 @@ abbrev pub each_from : (ℕ → Option Thing) → List Import → ℕ → Option
 each_from g [] n = Some []
 each_from g (i ∷ is) n = option_and_then (λ x. option_and_then (λ xs. Some (x ∷ xs)) (each_from g is (suc n))) (g n)
 
-abbrev pub of_kind : (ℕ → Option Thing) → Kind → List Import → ℕ → Option (List ℕ)
+abbrev pub of_kind : (ℕ → Option Thing) → Space → List Import → ℕ → Option (List ℕ)
 of_kind g k is n = all_there (λ j. option_and_then (address_of k) (g j)) (places (has_kind k) is n)
 
 pub record Gathered (g : ℕ → Option Thing) (is : List Import) (n : ℕ) (fs ts ms gs : List ℕ) : Type 0 where
@@ -112,7 +115,7 @@ global_is (MemoryAt b) a e = cc
 global_is (GlobalAt b) a e = ap GlobalAt (some_is e)
 
 -- the first of these, and the rest
-record Split (g : ℕ → Option Thing) (k : Kind) (n : ℕ) (rest : Option (List ℕ)) (xs : List ℕ) : Type 0 where
+record Split (g : ℕ → Option Thing) (k : Space) (n : ℕ) (rest : Option (List ℕ)) (xs : List ℕ) : Type 0 where
   address : ℕ
   thing : Thing
   is : g n ≡ Some thing
@@ -121,7 +124,7 @@ record Split (g : ℕ → Option Thing) (k : Kind) (n : ℕ) (rest : Option (Lis
   rest_is : rest ≡ Some others
   whole : address ∷ others ≡ xs
 
-split : (g : ℕ → Option Thing) (k : Kind) (n : ℕ) (rest : Option (List ℕ)) (xs : List ℕ) → option_and_then (λ y. option_and_then (λ ys. Some (y ∷ ys)) rest) (option_and_then (address_of k) (g n)) ≡ Some xs → Split g k n rest xs
+split : (g : ℕ → Option Thing) (k : Space) (n : ℕ) (rest : Option (List ℕ)) (xs : List ℕ) → option_and_then (λ y. option_and_then (λ ys. Some (y ∷ ys)) rest) (option_and_then (address_of k) (g n)) ≡ Some xs → Split g k n rest xs
 split g k n rest xs h =
     let a = then_is (option_and_then (address_of k) (g n)) _ xs h in
     let b = then_is (g n) (address_of k) a.0 a.1 in
@@ -131,8 +134,8 @@ split g k n rest xs h =
 cons_each : (g : ℕ → Option Thing) (i : Import) (is : List Import) (n : ℕ) (x : Thing) (xs : List Thing) → g n ≡ Some x → each_from g is (suc n) ≡ Some xs → each_from g (i ∷ is) n ≡ Some (x ∷ xs)
 cons_each g i is n x xs e h = rw (e, h) refl
 
-abbrev AtDesc : (ℕ → Option Thing) → List Import → ℕ → ImportDesc → Kind → Option (List ℕ)
-AtDesc g is n d k = all_there (λ j. option_and_then (address_of k) (g j)) (cond (same_kind k (kind_of_import d)) (n ∷ places (has_kind k) is (suc n)) (places (has_kind k) is (suc n)))
+abbrev AtDesc : (ℕ → Option Thing) → List Import → ℕ → ImportDesc → Space → Option (List ℕ)
+AtDesc g is n d k = all_there (λ j. option_and_then (address_of k) (g j)) (cond (same_space k (kind_of_import d)) (n ∷ places (has_kind k) is (suc n)) (places (has_kind k) is (suc n)))
 
 pub gathered : (g : ℕ → Option Thing) (is : List Import) (n : ℕ) (fs ts ms gs : List ℕ) → of_kind g Functions is n ≡ Some fs → of_kind g Tables is n ≡ Some ts → of_kind g Memories is n ≡ Some ms → of_kind g Globals is n ≡ Some gs → Gathered g is n fs ts ms gs
 gathered g [] n fs ts ms gs f t m h = record { things = []; each = refl; funcs = some_is f; tables = some_is t; mems = some_is m; globals = some_is h }
@@ -181,7 +184,7 @@ ends_at parts s x y e h = some_is (ap (walk_on (walk (import_step parts) (length
 
 -- ---- what an entity of a part is, by its instance ----
 
-abbrev pub space_in : Inst → Kind → List ℕ
+abbrev pub space_in : Inst → Space → List ℕ
 space_in i Functions = i.funcs
 space_in i Tables = i.tables
 space_in i Memories = i.mems
@@ -193,13 +196,13 @@ address_is i (ex.Table x) = refl
 address_is i (ex.Memory x) = refl
 address_is i (ex.Global x) = refl
 
-pub in_space : (env : Environment) (parts : List Part) (p : ℕ) (m : Module) (i : Inst) → IsInst env parts p m i → (k : Kind) → space env parts k p m ≡ Some (space_in i k)
+pub in_space : (env : Environment) (parts : List Part) (p : ℕ) (m : Module) (i : Inst) → IsInst env parts p m i → (k : Space) → space env parts k p m ≡ Some (space_in i k)
 in_space env parts p m i h Functions = h.funcs
 in_space env parts p m i h Tables = h.tables
 in_space env parts p m i h Memories = h.mems
 in_space env parts p m i h Globals = h.globals
 
-pub thing_has : (k : Kind) (x : Thing) (a : ℕ) → address_of k x ≡ Some a → thing_at k a ≡ x
+pub thing_has : (k : Space) (x : Thing) (a : ℕ) → address_of k x ≡ Some a → thing_at k a ≡ x
 thing_has Functions x a h = sym (func_is x a h)
 thing_has Tables x a h = sym (table_is x a h)
 thing_has Memories x a h = sym (memory_is x a h)
@@ -244,7 +247,7 @@ past_none (x ∷ xs) zero e = absurd (let k = e in cc)
 past_none (x ∷ xs) (suc n) e = let l = past_none xs n e in omega (arith, l)
 
 module _ (env : Environment) (parts : List Part) (p : ℕ) (m : Module) (is_part : module_at parts p ≡ Some m) (i : Inst) (inst : IsInst env parts p m i) (d : ExportDesc) where
-  abbrev k : Kind
+  abbrev k : Space
   k = kind_of_export d
 
   abbrev entity : Entity

@@ -1,5 +1,6 @@
 -- When a part's turn comes its imports are there and match, and its instance is the one that it has at once.
 use Rattle.std.proofs.Common.{◌≡◌, ◌∙◌, refl, sym, ap, ap₂, ℕ, zero, suc, ◌+◌, ◌<◌, ◌≤◌, List, [], ◌∷◌, ◌++◌, length, Option, Some, None, Bool, true, false, cond, arith, option_and_then, slice_get, unwrap_or, ◌&&◌}
+use Rattle.wasm_tree.specs.declared.space.Space.TheVariants.{Functions, Tables, Memories, Globals, DataSegments, ElementSegments}
 use Rattle.std.specs.Prelude.{nat_le}
 use Rattle.std.proofs.lemmas.Bool.{leb-true, le-leb}
 use Rattle.wasm_tree.specs.declared.types.Limits.{Limits}
@@ -10,9 +11,9 @@ use Rattle.wasm_tree.specs.declared.module.Module.{Module}
 use Rattle.wasm_meaning.specs.Outcomes.{Outcome, Gives, Traps, IllTyped, at}
 use Rattle.wasm_meaning.specs.State.{Inst, Table, Memory, Global, Store}
 use Rattle.wasm_meaning.specs.Control.{type_at}
-use Rattle.wasm_meaning.specs.Linking.{Part, Site, Functions, Tables, Memories, Globals, module_at, import_at, sites}
+use Rattle.wasm_meaning.specs.Linking.{Part, Site, module_at, import_at, sites}
 use Rattle.wasm_meaning.specs.Environment.{Environment, Thing, FuncAt, TableAt, MemoryAt, GlobalAt, owned_of, all_of}
-use Rattle.wasm_meaning.specs.World.{given, defined_count, base, elems_before, datas_before, imported_thing, all_there, numbers, insts_from, is_match, is_matched, meets, meets_most}
+use Rattle.wasm_meaning.specs.World.{given, defined_count, base, imported_thing, all_there, numbers, insts_from, is_match, is_matched, meets, meets_most, defined_before}
 use Rattle.wasm_meaning.specs.InTurn.{next_inst, all_match, thing_for, JoinsEarlier}
 use Rattle.permuted_worlds.specs.Owned.{OwnEntitiesCorrespond}
 use Rattle.worlds_in_turn.proofs.Extends.{TableExtends, MemoryExtends, GlobalExtends}
@@ -26,8 +27,8 @@ pub record Sized (env : Environment) (parts : List Part) (p : ℕ) (t : Store) :
   pub tables : length t.tables ≡ base env parts Tables p
   pub mems : length t.mems ≡ base env parts Memories p
   pub globals : length t.globals ≡ base env parts Globals p
-  pub elems : length t.elems ≡ elems_before parts p
-  pub datas : length t.datas ≡ datas_before parts p
+  pub elems : length t.elems ≡ defined_before ElementSegments parts p
+  pub datas : length t.datas ≡ defined_before DataSegments parts p
 
 -- what it holds extends what was allocated
 pub record Holds (env : Environment) (parts : List Part) (p : ℕ) (s t : Store) : Type 0 where

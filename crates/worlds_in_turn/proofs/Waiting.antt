@@ -1,14 +1,15 @@
 -- Between starts: a part's turn comes, and the stores stay beside one another.
 use Rattle.std.proofs.Common.{◌≡◌, ◌∙◌, refl, sym, ap, subst, ℕ, zero, suc, ◌<◌, ◌≤◌, List, [], ◌∷◌, length, Some, arith, drop, option_and_then, slice_get}
+use Rattle.wasm_tree.specs.declared.space.Space.TheVariants.{Functions, Tables, Memories, Globals, DataSegments, ElementSegments}
 use Rattle.wasm_meaning.specs.Outcomes.{Outcome, Gives, Traps, IllTyped, at}
 use Rattle.wasm_meaning.specs.State.{RefVal, FuncRef, Val, Ref, Inst, Func, Table, Memory, Global, Store}
 use Rattle.wasm_meaning.specs.Linking.{Part, module_at}
 use Rattle.wasm_meaning.specs.Environment.{Environment, Thing}
-use Rattle.wasm_meaning.specs.World.{World, elems_before, datas_before, joined_stores}
+use Rattle.wasm_meaning.specs.World.{World, joined_stores, defined_before}
 use Rattle.wasm_meaning.specs.Run.{Run}
 use Rattle.wasm_meaning.specs.Below.{BelowIsNotSeen}
 use Rattle.wasm_meaning.specs.InTurn.{InTurn, goes_on}
-use Rattle.index_remap.specs.Related.{Kind, Funcs, Mems, Elems, Datas, Pairing, BothRel, both, OptRel, none, some, RefRel, func, extern, ValRel, number, reference, ListRel, nil, cons, opening, TableRel, GlobalRel}
+use Rattle.index_remap.specs.Related.{Pairing, BothRel, both, OptRel, none, some, RefRel, func, extern, ValRel, number, reference, ListRel, nil, cons, opening, TableRel, GlobalRel}
 use Rattle.index_remap.specs.Related as to
 use Rattle.index_remap.specs.RelatedRuns.{ThingRel, a_func, a_table, a_memory, a_global, KeyRel, pending}
 use Rattle.index_remap.specs.Laws.{CodeIsRelatedToItself, RelatedTicksAgree, OthersStay}
@@ -28,7 +29,7 @@ use Rattle.worlds_in_turn.proofs.Given.{IsGiven}
 
 ref_same : (env : Environment) (parts : List Part) (p : ℕ) {r s : RefVal} → RefRel (reaching env parts p) r s → r ≡ s
 ref_same env parts p (func none) = refl
-ref_same env parts p (func (some {a = a} {b = b} h)) = ap {A = ℕ} {B = RefVal} (λ a. FuncRef (Some a)) (reached_is env parts p Funcs a b h).0
+ref_same env parts p (func (some {a = a} {b = b} h)) = ap {A = ℕ} {B = RefVal} (λ a. FuncRef (Some a)) (reached_is env parts p Functions a b h).0
 ref_same env parts p extern = refl
 
 val_same : (env : Environment) (parts : List Part) (p : ℕ) {v w : Val} → ValRel (reaching env parts p) v w → v ≡ w
@@ -42,9 +43,9 @@ val_self env parts p {v = v} h = subst (λ w. ValRel (reaching env parts p) v w)
 pub holds_of : (env : Environment) (parts : List Part) (p : ℕ) (allocated t s : Store) → Beside env parts p allocated t s → Extends allocated s → Holds env parts p allocated t
 holds_of env parts p allocated t s h e = record {
   funcs = h.same_funcs;
-  tables = λ a x l at_x. let y = e.tables a x at_x in table a x y.0 y.1 y.2 (h.related.tables (reached_at env parts p to.Tables a l));
-  mems = λ a x l at_x. let y = e.mems a x at_x in memory a x y.0 y.1 y.2 (h.related.mems (reached_at env parts p Mems a l));
-  globals = λ a x l at_x. let y = e.globals a x at_x in global a x y.0 y.1 y.2 (h.related.globals (reached_at env parts p to.Globals a l));
+  tables = λ a x l at_x. let y = e.tables a x at_x in table a x y.0 y.1 y.2 (h.related.tables (reached_at env parts p Tables a l));
+  mems = λ a x l at_x. let y = e.mems a x at_x in memory a x y.0 y.1 y.2 (h.related.mems (reached_at env parts p Memories a l));
+  globals = λ a x l at_x. let y = e.globals a x at_x in global a x y.0 y.1 y.2 (h.related.globals (reached_at env parts p Globals a l));
 }
   where
     table : (a : ℕ) (x y : Table) → at s.tables a ≡ Gives y → TableExtends x y → BothRel (TableRel (reaching env parts p)) (at t.tables a) (at s.tables a) → (z : Table) × (at t.tables a ≡ Gives z) × TableExtends x z
@@ -82,8 +83,8 @@ module _ (env : Environment) (w : World) (insts : List Inst) (allocated : Store)
       let dn = datas_next w.parts k part.«module» is_part in
       record {
         spaces = λ kind n a h. inst_low env w.parts insts g.are g.size g.earlier g.own k part.«module» i is_part at_inst kind n a h;
-        elems = λ n a h. let r = numbers_back (elems_before w.parts k) (length part.«module».elems) n a (ap (λ l. slice_get l n) (sym is.elems) ∙ h) in omega (arith, r.0, r.1, en);
-        datas = λ n a h. let r = numbers_back (datas_before w.parts k) (length part.«module».datas) n a (ap (λ l. slice_get l n) (sym is.datas) ∙ h) in omega (arith, r.0, r.1, dn);
+        elems = λ n a h. let r = numbers_back (defined_before ElementSegments w.parts k) (length part.«module».elems) n a (ap (λ l. slice_get l n) (sym is.elems) ∙ h) in omega (arith, r.0, r.1, en);
+        datas = λ n a h. let r = numbers_back (defined_before DataSegments w.parts k) (length part.«module».datas) n a (ap (λ l. slice_get l n) (sym is.datas) ∙ h) in omega (arith, r.0, r.1, dn);
       }
 
   place_low : {A : Type 0} (xs : List A) (n : ℕ) (x : A) → slice_get xs n ≡ Some x → n < length xs
@@ -105,7 +106,7 @@ module _ (env : Environment) (w : World) (insts : List Inst) (allocated : Store)
   values_self t s h a x at_x =
       let l = place_low t.globals a x at_x in
       let z = h.sized.globals in
-      go (at s.globals a) (subst (λ o. BothRel (GlobalRel (reaching env w.parts k)) o (at s.globals a)) (place_at t.globals a x at_x) (h.related.globals (reached_at env w.parts k to.Globals a (omega (arith, l, z)))))
+      go (at s.globals a) (subst (λ o. BothRel (GlobalRel (reaching env w.parts k)) o (at s.globals a)) (place_at t.globals a x at_x) (h.related.globals (reached_at env w.parts k Globals a (omega (arith, l, z)))))
     where
       go : (o : Outcome Global) → BothRel (GlobalRel (reaching env w.parts k)) (Gives x) o → ValRel (reaching env w.parts (suc k)) x.value x.value
       go Traps r = elim r [ ]
@@ -124,10 +125,10 @@ module _ (env : Environment) (w : World) (insts : List Inst) (allocated : Store)
   key_more x y h = record { key = h.key; thing = thing_more h.thing }
     where
       thing_more : {x y : Thing} → ThingRel (reaching env w.parts k) x y → ThingRel (reaching env w.parts (suc k)) x y
-      thing_more (a_func {a = a} {b = b} h) = a_func (more itself env w.parts insts allocated g.laid k part.«module» is_part within Funcs a b h)
-      thing_more (a_table {a = a} {b = b} h) = a_table (more itself env w.parts insts allocated g.laid k part.«module» is_part within to.Tables a b h)
-      thing_more (a_memory {a = a} {b = b} h) = a_memory (more itself env w.parts insts allocated g.laid k part.«module» is_part within Mems a b h)
-      thing_more (a_global {a = a} {b = b} h) = a_global (more itself env w.parts insts allocated g.laid k part.«module» is_part within to.Globals a b h)
+      thing_more (a_func {a = a} {b = b} h) = a_func (more itself env w.parts insts allocated g.laid k part.«module» is_part within Functions a b h)
+      thing_more (a_table {a = a} {b = b} h) = a_table (more itself env w.parts insts allocated g.laid k part.«module» is_part within Tables a b h)
+      thing_more (a_memory {a = a} {b = b} h) = a_memory (more itself env w.parts insts allocated g.laid k part.«module» is_part within Memories a b h)
+      thing_more (a_global {a = a} {b = b} h) = a_global (more itself env w.parts insts allocated g.laid k part.«module» is_part within Globals a b h)
 
   module _ (below : BelowIsNotSeen) (ticks : RelatedTicksAgree) (others : OthersStay) where
     -- the two runs are abreast again, with the part
@@ -142,7 +143,7 @@ module _ (env : Environment) (w : World) (insts : List Inst) (allocated : Store)
             store = b.related;
             entries = cons (opening nil) nil;
             phase = pending nil;
-            shown = Rattle.worlds_in_turn.proofs.Closed.list_more (reaching env w.parts k) (reaching env w.parts (suc k)) (more itself env w.parts insts allocated g.laid k part.«module» is_part within) (λ a b p. more itself env w.parts insts allocated g.laid k part.«module» is_part within Funcs a b p) h.related.shown;
+            shown = Rattle.worlds_in_turn.proofs.Closed.list_more (reaching env w.parts k) (reaching env w.parts (suc k)) (more itself env w.parts insts allocated g.laid k part.«module» is_part within) (λ a b p. more itself env w.parts insts allocated g.laid k part.«module» is_part within Functions a b p) h.related.shown;
             view = Rattle.worlds_in_turn.proofs.Closed.list_more (reaching env w.parts k) (reaching env w.parts (suc k)) (more itself env w.parts insts allocated g.laid k part.«module» is_part within) key_more h.related.view;
             owned = Rattle.worlds_in_turn.proofs.Closed.list_more (reaching env w.parts k) (reaching env w.parts (suc k)) (more itself env w.parts insts allocated g.laid k part.«module» is_part within) key_more h.related.owned;
             moves = h.related.moves;

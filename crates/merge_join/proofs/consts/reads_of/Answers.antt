@@ -1,5 +1,6 @@
 use Rattle.std.proofs.Common.{ℕ, ◌≡◌, ◌∙◌, sym, ap, true, false, ◌++◌, ◌∷◌, []}
-use Rattle.wasm_meaning.specs.Linking.{Globals, has_kind}
+use Rattle.wasm_tree.specs.declared.space.Space.TheVariants.{Globals}
+use Rattle.wasm_meaning.specs.Linking.{has_kind}
 use Rattle.merge_terms.specs.Parts.{named_modules}
 use Rattle.merge_terms.specs.Linked.{read_at}
 use Rattle.merge_join.specs.Words.{site}

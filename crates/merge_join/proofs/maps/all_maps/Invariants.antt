@@ -1,5 +1,6 @@
 use Rattle.std.proofs.Common.{◌≡◌, ◌∷◌, [], take}
-use Rattle.wasm_meaning.specs.World.{elems_before, datas_before}
+use Rattle.wasm_tree.specs.declared.space.Space.TheVariants.{DataSegments, ElementSegments}
+use Rattle.wasm_meaning.specs.World.{defined_before}
 use Rattle.merge_terms.specs.Parts.{named_modules}
 use Rattle.merge_terms.specs.Merged.{by_part_from, map_of}
 use Rattle.merge_join.proofs.maps.all_maps.Given as goal
@@ -7,6 +8,6 @@ use Rattle.merge_join.proofs.maps.all_maps.Given as goal
 abbrev pub invariant-loop-part : goal.invariant-loop-part
 invariant-loop-part l = record {
   maps_are : l.maps ≡ by_part_from (λ p m. map_of (named_modules l.parts) p m ∷ []) 0 (take l.part (named_modules l.parts));
-  elem_is : l.first.elem ≡ elems_before (named_modules l.parts) l.part;
-  data_is : l.first.data ≡ datas_before (named_modules l.parts) l.part;
+  elem_is : l.first.elem ≡ defined_before ElementSegments (named_modules l.parts) l.part;
+  data_is : l.first.data ≡ defined_before DataSegments (named_modules l.parts) l.part;
 }

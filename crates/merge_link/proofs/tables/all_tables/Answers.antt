@@ -1,4 +1,5 @@
 use Rattle.std.proofs.Common.{rules, ◌≡◌, ◌∙◌, ap, sym, refl, subst, ℕ, suc, ◌+◌, length, arith, Some}
+use Rattle.wasm_tree.specs.declared.space.Space.TheVariants.{Globals}
 use Rattle.std.specs.Option.{option_map}
 use Rattle.std.proofs.lemmas.Option.{slice_get_read}
 use Rattle.wasm_meaning.specs.Linking as linking
@@ -49,11 +50,11 @@ loop-part-preserved c =
     ∙ ap (option_map (λ (x : Part). x.«module»)) (slice_get_read c.args.parts.now (length c.args.parts.now) n c.part-item.result refl (omega arith) c.part-item.is)
     ∙ ap Some (sym c.module-module.ensures.value) in
     let suc_n : n + 1 ≡ suc n = omega arith in
-    let table : IsTableOf (imports_before lp n) (defined_before linking.Globals lp n) m t =
+    let table : IsTableOf (imports_before lp n) (defined_before Globals lp n) m t =
     subst (λ (g : ℕ). IsTableOf (imports_before lp n) g m t) i.first_global (subst (λ (k : ℕ). IsTableOf k c.loop-part.first_global m t) i.first_import c.in_ok-table.ensures) in
     record {
       one_each = search rules;
       first_import = omega (arith, i.first_import, c.len.ensures, ap (imports_before lp) suc_n, imports_more lp n m at);
-      first_global = omega (arith, i.first_global, c.len-in-loop-part.ensures, ap (defined_before linking.Globals lp) suc_n, globals_more lp n m at);
+      first_global = omega (arith, i.first_global, c.len-in-loop-part.ensures, ap (defined_before Globals lp) suc_n, globals_more lp n m at);
       right = rw c.in_ok-push.ensures.items (tables_more lp c.loop-part.tables.items t m n i.one_each at table i.right);
     }

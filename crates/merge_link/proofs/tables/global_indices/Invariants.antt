@@ -1,4 +1,5 @@
 use Rattle.std.proofs.Common.{length, Some, slice_get, ℕ, ◌<◌, ◌≤◌, ◌≡◌}
+use Rattle.wasm_tree.specs.declared.space.Space.TheVariants.{Globals}
 use Rattle.wasm_meaning.specs.Linking as linking
 use Rattle.merge_link.proofs.tables.global_indices.Given as goal
 
@@ -6,6 +7,6 @@ abbrev pub invariant-loop-import : goal.invariant-loop-import
 invariant-loop-import l = record {
   one_each : length l.indices.items ≡ l.import-index;
   most : l.count ≤ l.import-index;
-  count : l.count ≡ linking.space_index l.imports l.import-index linking.Globals;
-  right : (n : ℕ) → n < l.import-index → slice_get l.indices.items n ≡ Some (linking.space_index l.imports n linking.Globals);
+  count : l.count ≡ linking.space_index l.imports l.import-index Globals;
+  right : (n : ℕ) → n < l.import-index → slice_get l.indices.items n ≡ Some (linking.space_index l.imports n Globals);
 }

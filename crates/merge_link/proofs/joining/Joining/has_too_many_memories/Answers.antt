@@ -1,4 +1,5 @@
 use Rattle.std.proofs.Common.{◌∙◌, ap, ℕ, ◌+◌, length, nat_lt}
+use Rattle.wasm_tree.specs.declared.space.Space.TheVariants.{Memories}
 use Rattle.wasm_meaning.specs.Linking as linking
 use Rattle.wasm_meaning.specs.World as world
 use Rattle.merge_terms.specs.Parts.{named_modules}
@@ -8,4 +9,4 @@ use Rattle.merge_link.proofs.joining.Joining.has_too_many_memories.Goals as goal
 pub returns : goal.returns
 returns c =
     let ps = c.args.self.now.parts.now in
-    c.are_more_than_one.ensures ∙ ap (λ (n : ℕ). nat_lt 1 (n + world.defined_before linking.Memories (named_modules ps) (length (named_modules ps)))) c.staying_memories.ensures ∙ ap (nat_lt 1) (memories_counted ps c.args.sites.now c.requires.sites)
+    c.are_more_than_one.ensures ∙ ap (λ (n : ℕ). nat_lt 1 (n + world.defined_before Memories (named_modules ps) (length (named_modules ps)))) c.staying_memories.ensures ∙ ap (nat_lt 1) (memories_counted ps c.args.sites.now c.requires.sites)

@@ -1,4 +1,5 @@
 use Rattle.std.proofs.Common.{◌≡◌, ◌∙◌, sym, ap, subst, ℕ, ◌+◌, Some, None, slice_get, arith}
+use Rattle.wasm_tree.specs.declared.space.Space.{Space}
 use Rattle.std.proofs.lemmas.Option.{slice_get_within}
 use Rattle.wasm_meaning.specs.Linking as linking
 use Rattle.merge_terms.specs.Parts.{named_modules}
@@ -15,7 +16,7 @@ returns-in_err-place c =
     let t = c.in_ok-table.table.now in
     let at : slice_get ts e.part ≡ Some t = read_at ts c.deref.result.now e.part t c.deref.ensures.value c.in_ok-table.ensures.lookup.3.0 c.in_ok-table.ensures.lookup.1 in
     let found : slice_get (places_of t (linking.kind_of_export e.what)) (linking.index_of_export e.what) ≡ None =
-    ap (λ (k : linking.Kind). slice_get (places_of t k) (linking.index_of_export e.what)) (sym c.kind_of_export.ensures) ∙ ap (slice_get (places_of t _)) (sym c.index_of_export.ensures) ∙ sym c.place.ensures ∙ c.in_err-place.was in
+    ap (λ (k : Space). slice_get (places_of t k) (linking.index_of_export e.what)) (sym c.kind_of_export.ensures) ∙ ap (slice_get (places_of t _)) (sym c.index_of_export.ensures) ∙ sym c.place.ensures ∙ c.in_err-place.was in
     subst (IsImportedAs lp e) (sym c.from_residual-in_err-place.ensures) (imported_none lp ts e t c.requires.tables at found)
 
 pub overflow_add-result : goal.overflow_add-result
@@ -26,7 +27,7 @@ overflow_add-result c =
     let t = c.in_ok-table.table.now in
     let at : slice_get ts e.part ≡ Some t = read_at ts c.deref.result.now e.part t c.deref.ensures.value c.in_ok-table.ensures.lookup.3.0 c.in_ok-table.ensures.lookup.1 in
     let found : slice_get (places_of t (linking.kind_of_export e.what)) (linking.index_of_export e.what) ≡ Some c.in_ok-place.place =
-    ap (λ (k : linking.Kind). slice_get (places_of t k) (linking.index_of_export e.what)) (sym c.kind_of_export.ensures) ∙ ap (slice_get (places_of t _)) (sym c.index_of_export.ensures) ∙ sym c.place.ensures ∙ c.in_ok-place.was in
+    ap (λ (k : Space). slice_get (places_of t k) (linking.index_of_export e.what)) (sym c.kind_of_export.ensures) ∙ ap (slice_get (places_of t _)) (sym c.index_of_export.ensures) ∙ sym c.place.ensures ∙ c.in_ok-place.was in
     let r = imported_some lp ts e t c.in_ok-place.place c.requires.tables at found in
     omega (arith, slice_get_within (linking.sites lp) (t.first_import + c.in_ok-place.place) r.0 r.1, c.requires.imports, c.first_import.ensures)
 
@@ -38,5 +39,5 @@ returns c =
     let t = c.in_ok-table.table.now in
     let at : slice_get ts e.part ≡ Some t = read_at ts c.deref.result.now e.part t c.deref.ensures.value c.in_ok-table.ensures.lookup.3.0 c.in_ok-table.ensures.lookup.1 in
     let found : slice_get (places_of t (linking.kind_of_export e.what)) (linking.index_of_export e.what) ≡ Some c.in_ok-place.place =
-    ap (λ (k : linking.Kind). slice_get (places_of t k) (linking.index_of_export e.what)) (sym c.kind_of_export.ensures) ∙ ap (slice_get (places_of t _)) (sym c.index_of_export.ensures) ∙ sym c.place.ensures ∙ c.in_ok-place.was in
+    ap (λ (k : Space). slice_get (places_of t k) (linking.index_of_export e.what)) (sym c.kind_of_export.ensures) ∙ ap (slice_get (places_of t _)) (sym c.index_of_export.ensures) ∙ sym c.place.ensures ∙ c.in_ok-place.was in
     subst (λ (n : ℕ). IsImportedAs lp e (Some (n + c.in_ok-place.place))) (sym c.first_import.ensures) (imported_some lp ts e t c.in_ok-place.place c.requires.tables at found)

@@ -1,4 +1,5 @@
 use Rattle.std.proofs.Common.{◌≡◌, ◌∙◌, ◌<◌, ◌+◌, ◌++◌, sym, ap, refl, Some, map, drop, length, arith}
+use Rattle.wasm_tree.specs.declared.space.Space.TheVariants.{Globals}
 use Rattle.std.proofs.lemmas.List.{append-nil, append_assoc, drop_all, length-map}
 use Rattle.std.proofs.lemmas.Option.{slice_get_read}
 use Rattle.wasm_meaning.specs.Linking as linking
@@ -22,7 +23,7 @@ loop-place-init c =
     let within : n < length ps = omega arith in
     let at : linking.module_at lp n ≡ Some m = module_read ps n c.part-item.result m within c.part-item.is c.module.ensures.value in
     let table = slice_get_read ts (length ts) n c.index.result.now refl (omega (arith, within, c.requires.joining.tables.one_each, length-map ps named_module)) c.index.ensures in
-    let count = c.imported-imported.ensures ∙ ap length ((c.requires.joining.tables.right n m c.index.result.now at table).places linking.Globals) in
+    let count = c.imported-imported.ensures ∙ ap length ((c.requires.joining.tables.right n m c.index.result.now at table).places Globals) in
     let begin = own_begin ps n c.part-item.result m c.imported-imported.result within c.part-item.is (c.module.ensures.value) count in
     let old = map the_own c.loop-at.all.items in
     let rest = faults.own_globals_from (n + 1) (named_modules (drop (n + 1) ps)) in
@@ -39,7 +40,7 @@ overflow_cast-imported c =
     let within : n < length ps = omega arith in
     let at : linking.module_at lp n ≡ Some m = module_read ps n c.part-item.result m within c.part-item.is c.module.ensures.value in
     let table = slice_get_read ts (length ts) n c.index.result.now refl (omega (arith, within, c.requires.joining.tables.one_each, length-map ps named_module)) c.index.ensures in
-    let count = c.imported-imported.ensures ∙ ap length ((c.requires.joining.tables.right n m c.index.result.now at table).places linking.Globals) in
+    let count = c.imported-imported.ensures ∙ ap length ((c.requires.joining.tables.right n m c.index.result.now at table).places Globals) in
     omega (arith, count, globals_fit m c.loop-place.place c.module.ensures.bounded.globals (omega (arith, ap length c.as_slice-globals.ensures)))
 
 pub returns : goal.returns
