@@ -2,6 +2,9 @@
 
 ghost use Rattle.std.specs.Prelude.{◌≡◌, ◌<◌, ◌≤◌, ◌^◌, ◌↔◌, ◌⊎◌, ℕ, Some, length, IsNone, option_copied, slice_get};
 ghost use Rattle.wasm_tree.specs.Spaces.{
+  space_of_import,
+  space_of_export,
+  index_of_export,
   func_of,
   table_of,
   memory_of,
@@ -17,10 +20,23 @@ ghost use Rattle.wasm_tree.specs.Spaces.{
   type_of_func,
 };
 
-use crate::module::{ImportDesc, Module};
+use crate::module::{ExportDesc, ImportDesc, Module};
+use crate::space::Space;
 use crate::types::{FuncType, GlobalType, Limits, TableType};
 
 impl ImportDesc {
+    /// The index space to which the import adds.
+    pub fn space(&self) -> Space
+        ensures { result ≡ space_of_import self.now }
+    {
+        match self {
+            ImportDesc::Func(_) => Space::Functions,
+            ImportDesc::Table(_) => Space::Tables,
+            ImportDesc::Memory(_) => Space::Memories,
+            ImportDesc::Global(_) => Space::Globals,
+        }
+    }
+
     /// A function's place in the types; None for another kind.
     pub fn func(&self) -> Option<u32>
         ensures { result ≡ func_of self.now }
@@ -58,6 +74,32 @@ impl ImportDesc {
         match self {
             ImportDesc::Global(ty) => Some(*ty),
             _ => None,
+        }
+    }
+}
+
+impl ExportDesc {
+    /// The index space of what is exported.
+    pub fn space(&self) -> Space
+        ensures { result ≡ space_of_export self.now }
+    {
+        match self {
+            ExportDesc::Func(_) => Space::Functions,
+            ExportDesc::Table(_) => Space::Tables,
+            ExportDesc::Memory(_) => Space::Memories,
+            ExportDesc::Global(_) => Space::Globals,
+        }
+    }
+
+    /// The index of what is exported in its index space.
+    pub fn index(&self) -> u32
+        ensures { result ≡ index_of_export self.now }
+    {
+        match self {
+            ExportDesc::Func(index)
+            | ExportDesc::Table(index)
+            | ExportDesc::Memory(index)
+            | ExportDesc::Global(index) => *index,
         }
     }
 }
