@@ -22,11 +22,11 @@ use Rattle.wasm_tree.specs.declared.module.DataMode.{DataMode}
 use Rattle.wasm_tree.specs.declared.module.DataMode.TheVariants as data'
 use Rattle.wasm_tree.specs.declared.module.Module.{Module}
 use Rattle.wasm_tree.specs.declared.instr.Instr.TheVariants.{Call}
-use Rattle.wasm_tree.specs.Spaces.{funcs_of, tables_of, memories_of, globals_of}
+use Rattle.wasm_tree.specs.Spaces.{funcs_of, tables_of, memories_of, globals_of, index_of_export}
 use Rattle.wasm_meaning.specs.State.{Text}
 use Rattle.wasm_meaning.specs.Values.{same_func_type}
 use Rattle.wasm_meaning.specs.World.{defined_before, numbers}
-use Rattle.wasm_meaning.specs.Linking.{Part, Site, End, Defined, Outside, Entity, Read, first_place, has_kind, module_at, import_at, imports_of, index_of_export, same_site, imported_as, sites, linked_end, met_limits, read_of}
+use Rattle.wasm_meaning.specs.Linking.{Part, Site, End, Defined, Outside, Entity, Read, first_place, has_kind, module_at, import_at, imports_of, same_site, imported_as, sites, linked_end, met_limits, read_of}
 use Rattle.index_remap.specs.declared.remap.Remap.{Remap}
 use Rattle.index_remap.specs.Renumbered.{new_const, new_func, new_export}
 use Rattle.merge_terms.specs.Faults.{stays}

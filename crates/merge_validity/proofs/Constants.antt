@@ -13,14 +13,14 @@ use Rattle.wasm_tree.specs.declared.module.ConstExpr.{ConstExpr}
 use Rattle.wasm_tree.specs.declared.module.ConstExpr.TheVariants as const
 use Rattle.wasm_tree.specs.declared.module.GlobalDef.{GlobalDef}
 use Rattle.wasm_tree.specs.declared.module.Module.{Module}
-use Rattle.wasm_tree.specs.Spaces.{funcs_of, globals_of, imported_globals}
+use Rattle.wasm_tree.specs.Spaces.{funcs_of, globals_of, imported_globals, index_of_export}
 use Rattle.wasm_typing.specs.Typing.{only}
 use Rattle.wasm_valid.specs.declared.kinds.ItemKind.TheVariants as kind
 use Rattle.wasm_valid.specs.Constants.{const_type}
 use Rattle.wasm_meaning.specs.State.{Text}
 use Rattle.wasm_meaning.specs.Paths.{Next, Ends, Goes, Path, ends, goes}
 use Rattle.wasm_meaning.specs.Laws.{EndsArePaths, ReadsArePaths}
-use Rattle.wasm_meaning.specs.Linking.{Part, Site, Outside, Entity, Read, places, has_kind, space_index, module_at, imports_of, index_of_export, imported_as, end_of, initial, outside_read, end_step, read_step, read_of}
+use Rattle.wasm_meaning.specs.Linking.{Part, Site, Outside, Entity, Read, places, has_kind, space_index, module_at, imports_of, imported_as, end_of, initial, outside_read, end_step, read_step, read_of}
 use Rattle.index_remap.specs.declared.remap.Remap.{Remap}
 use Rattle.index_remap.specs.Renumbered.{fits_const, new_const}
 use Rattle.remap_typing.specs.Indices.{Indices, with_entry, ConstNamesOnly}

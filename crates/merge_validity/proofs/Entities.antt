@@ -16,10 +16,10 @@ use Rattle.wasm_tree.specs.declared.module.ImportDesc.TheVariants as im
 use Rattle.wasm_tree.specs.declared.module.ExportDesc.{ExportDesc}
 use Rattle.wasm_tree.specs.declared.module.ExportDesc.TheVariants as ex
 use Rattle.wasm_tree.specs.declared.module.Module.{Module}
-use Rattle.wasm_tree.specs.Spaces.{func_of, table_of, memory_of, global_of, funcs_of, tables_of, memories_of, globals_of, type_of_func}
+use Rattle.wasm_tree.specs.Spaces.{func_of, table_of, memory_of, global_of, funcs_of, tables_of, memories_of, globals_of, type_of_func, index_of_export, space_of_export, space_of_import}
 use Rattle.wasm_meaning.specs.Values.{same_type}
 use Rattle.wasm_meaning.specs.World.{same_bool, defined_count}
-use Rattle.wasm_meaning.specs.Linking.{has_kind, kind_of_import, kind_of_export, index_of_export}
+use Rattle.wasm_meaning.specs.Linking.{has_kind}
 use Rattle.merge_terms.specs.Faults.{External, FuncOf, TableOf, MemoryOf, GlobalOf, asked, external_of, same_but_limits}
 use Rattle.merge_terms.specs.Merged.{entry_of}
 use Rattle.merge_validity.proofs.Lists.{is_some, place_get}
@@ -83,7 +83,7 @@ own_many Tables m = refl
 own_many Memories m = refl
 own_many Globals m = length-map m.globals (λ g. g.ty)
 
-pub kind_of_entry : (k : Space) (i : ℕ) → kind_of_export (entry_of k i) ≡ k
+pub kind_of_entry : (k : Space) (i : ℕ) → space_of_export (entry_of k i) ≡ k
 kind_of_entry Functions i = refl
 kind_of_entry Tables i = refl
 kind_of_entry Memories i = refl
@@ -95,7 +95,7 @@ index_of_entry Tables i = refl
 index_of_entry Memories i = refl
 index_of_entry Globals i = refl
 
-pub entry_is : (e : ExportDesc) → e ≡ entry_of (kind_of_export e) (index_of_export e)
+pub entry_is : (e : ExportDesc) → e ≡ entry_of (space_of_export e) (index_of_export e)
 entry_is (ex.Func i) = refl
 entry_is (ex.Table i) = refl
 entry_is (ex.Memory i) = refl
@@ -155,7 +155,7 @@ bare_is (GlobalOf t) (TableOf u) h = cc
 bare_is (GlobalOf t) (MemoryOf u) h = cc
 
 -- what an import asks for is of its kind, and has the type of the entry that it adds
-pub asked_kind : (m : Module) (d : ImportDesc) (x : External) → asked m d ≡ Some x → kind_of (bare x) ≡ kind_of_import d
+pub asked_kind : (m : Module) (d : ImportDesc) (x : External) → asked m d ≡ Some x → kind_of (bare x) ≡ space_of_import d
 asked_kind m (im.Func ty) x h = by (slice_get m.types ty) h
   where
     by : (o : Option FuncType) → option_and_then (λ t. Some (FuncOf t)) o ≡ Some x → kind_of (bare x) ≡ Functions
@@ -190,7 +190,7 @@ asked_type m Globals (im.Memory l) c x e h = cc
 asked_type m Globals (im.Global t) c x e h = let a : t ≡ c = cc in let b : GlobalOf t ≡ x = cc in ap (λ z. Some (GlobalTy z)) (sym a) ∙ ap (λ z. Some (bare z)) b
 
 -- what an entry is, is of its kind, and has its type
-pub external_kind : (m : Module) (e : ExportDesc) (x : External) → external_of m e ≡ Some x → kind_of (bare x) ≡ kind_of_export e
+pub external_kind : (m : Module) (e : ExportDesc) (x : External) → external_of m e ≡ Some x → kind_of (bare x) ≡ space_of_export e
 external_kind m (ex.Func i) x h = by (type_of_func m i) h
   where
     by : (o : Option FuncType) → option_and_then (λ t. Some (FuncOf t)) o ≡ Some x → kind_of (bare x) ≡ Functions

@@ -10,7 +10,8 @@ use Rattle.wasm_tree.specs.declared.module.Module.{Module}
 use Rattle.wasm_meaning.specs.State.{Text}
 use Rattle.wasm_meaning.specs.Laws.{EndsArePaths}
 use Rattle.wasm_meaning.specs.World.{defined_before}
-use Rattle.wasm_meaning.specs.Linking.{Part, Site, End, Defined, Outside, Entity, first_place, module_at, import_at, imports_of, has_kind, kind_of_import, kind_of_export, index_of_export, imported_as, sites, same_site, is_outside}
+use Rattle.wasm_meaning.specs.Linking.{Part, Site, End, Defined, Outside, Entity, first_place, module_at, import_at, imports_of, has_kind, imported_as, sites, same_site, is_outside}
+use Rattle.wasm_tree.specs.Spaces.{index_of_export, space_of_export, space_of_import}
 use Rattle.merge_terms.specs.Faults.{External, asked, asked_at, external_of, stays}
 use Rattle.merge_terms.specs.Merged.{merged, staying, staying_of, imports_kind, imported_count, place_of_end, entry_of, end_from, entry_end, new_index}
 use Rattle.merge_validity.proofs.Lists.{Has, is_some, first_at, then_is, place_get, place_of, places_many, split, past, within, is_kept}
@@ -60,10 +61,10 @@ import_entry k m i n y e t =
     front_only (z ∷ xs) ys (suc i) x l h = front_only xs ys i x (omega (arith, l)) h
 
 -- the import that an entity is, by the entry of the space
-pub imported_is : (parts : List Part) (k : Space) (p : ℕ) (m : Module) (what : ExportDesc) (i : ℕ) → module_at parts p ≡ Some m → kind_of_export what ≡ k → index_of_export what ≡ i →
+pub imported_is : (parts : List Part) (k : Space) (p : ℕ) (m : Module) (what : ExportDesc) (i : ℕ) → module_at parts p ≡ Some m → space_of_export what ≡ k → index_of_export what ≡ i →
     imported_as parts (record { part = p; what = what }) ≡ option_and_then {T = ℕ} {U = Site} (λ n. Some (record { part = p; import = n })) (slice_get (imports_of k m) i)
 imported_is parts k p m what i e a b =
-    ap (λ o. option_and_then {T = Module} {U = Site} (λ m. option_and_then {T = ℕ} {U = Site} (λ n. Some (record { part = p; import = n })) (slice_get (imports_of (kind_of_export what) m) (index_of_export what))) o) e
+    ap (λ o. option_and_then {T = Module} {U = Site} (λ m. option_and_then {T = ℕ} {U = Site} (λ n. Some (record { part = p; import = n })) (slice_get (imports_of (space_of_export what) m) (index_of_export what))) o) e
     ∙ ap₂ (λ k i. option_and_then {T = ℕ} {U = Site} (λ n. Some (record { part = p; import = n })) (slice_get (imports_of k m) i)) a b
 
 no_import : (parts : List Part) (p n : ℕ) (o : Option ℕ) → option_and_then {T = ℕ} {U = Site} (λ n. Some (record { part = p; import = n })) o ≡ None → o ≡ None
@@ -114,7 +115,7 @@ outside_place parts k u w e = staying_place parts k u w.import w.at (stays_is pa
 pub kind_there : (parts : List Part) (u : Site) (i : Import) (x : External) (m : Module) → module_at parts u.part ≡ Some m → slice_get m.imports u.import ≡ Some i → asked_at parts u ≡ Some x → asked m i.desc ≡ Some x
 kind_there parts u i x m is at h = sym (ap (λ o. option_and_then (λ m. option_and_then (λ i. asked m i.desc) (slice_get m.imports u.import)) o) is ∙ ap (λ o. option_and_then (λ i. asked m i.desc) o) at) ∙ h
 
-pub has_its_kind : (k : Space) (i : Import) → kind_of_import i.desc ≡ k → has_kind k i ≡ true
+pub has_its_kind : (k : Space) (i : Import) → space_of_import i.desc ≡ k → has_kind k i ≡ true
 has_its_kind k i e = ap (same_space k) e ∙ kind_same k
 
 pub some_there : {A : Type 0} (o : Option A) → is_some o ≡ true → (x : A) × (o ≡ Some x)
@@ -139,13 +140,13 @@ outside_type parts names k s y q w =
 
 -- the entity with which an import ends, as an entry of its kind
 pub record IsOwn (parts : List Part) (k : Space) (e : Entity) (m : Module) (y : Ty) : Type 0 where
-  pub kind : kind_of_export e.what ≡ k
+  pub kind : space_of_export e.what ≡ k
   pub own : slice_get (imports_of k m) (index_of_export e.what) ≡ None
   pub typed : type_at m k (index_of_export e.what) ≡ Some y
 
 pub inside_own : (parts : List Part) (k : Space) (s : Site) (y : Ty) → kind_of y ≡ k → (w : EndsInside parts s y) → IsOwn parts k w.entity w.of y
 inside_own parts k s y q w =
-    let kind : kind_of_export w.entity.what ≡ k = sym (external_kind w.of w.entity.what w.thing w.is) ∙ ap kind_of w.typed ∙ q in
+    let kind : space_of_export w.entity.what ≡ k = sym (external_kind w.of w.entity.what w.thing w.is) ∙ ap kind_of w.typed ∙ q in
     let n = index_of_export w.entity.what in
     let what : w.entity.what ≡ entry_of k n = entry_is w.entity.what ∙ ap (λ k. entry_of k n) kind in
     let none = sym (imported_is parts k w.entity.part w.of w.entity.what n w.is_part kind refl) ∙ w.own in
@@ -193,7 +194,7 @@ joined_entry law parts links p m k i n y is e t =
     record {
       entry = r;
       at = at;
-      kind = ap kind_of (sym same) ∙ asked_kind m r.import.desc w.demand x ∙ sym (kind_is k (kind_of_import r.import.desc) r.of_kind);
+      kind = ap kind_of (sym same) ∙ asked_kind m r.import.desc w.demand x ∙ sym (kind_is k (space_of_import r.import.desc) r.of_kind);
       lands = subst (Landed parts (site_at p n)) same (landed law parts links (site_at p n) w);
     }
 
