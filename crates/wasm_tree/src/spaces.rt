@@ -1,6 +1,7 @@
 // The index spaces of a module: what is imported, in order, and then what is defined (WebAssembly Core 2.0, section 2.5.1).
 
 ghost use Rattle.std.specs.Prelude.{◌≡◌, ◌<◌, ◌≤◌, ◌^◌, ◌↔◌, ◌⊎◌, ℕ, Some, length, IsNone, option_copied, slice_get};
+ghost use Rattle.wasm_tree.specs.Operands.{same_space};
 ghost use Rattle.wasm_tree.specs.Spaces.{
   space_of_import,
   space_of_export,
@@ -34,6 +35,18 @@ impl ImportDesc {
             ImportDesc::Table(_) => Space::Tables,
             ImportDesc::Memory(_) => Space::Memories,
             ImportDesc::Global(_) => Space::Globals,
+        }
+    }
+
+    /// Whether the import adds to this index space.
+    pub fn is_in(&self, space: Space) -> bool
+        ensures { result ≡ same_space space (space_of_import self.now) }
+    {
+        match self {
+            ImportDesc::Func(_) => space == Space::Functions,
+            ImportDesc::Table(_) => space == Space::Tables,
+            ImportDesc::Memory(_) => space == Space::Memories,
+            ImportDesc::Global(_) => space == Space::Globals,
         }
     }
 
