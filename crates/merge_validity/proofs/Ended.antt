@@ -17,7 +17,7 @@ use Rattle.wasm_meaning.specs.World.{same_bool, given, defined_before, own_key, 
 use Rattle.wasm_meaning.specs.Linking.{Part, Site, End, Defined, Outside, Entity, has_kind, import_at, imports_of, imported_as, pair_of, sites_in, sites, end_of, linked_end, gathered}
 use Rattle.wasm_tree.specs.Spaces.{index_of_export, space_of_import}
 use Rattle.merge_terms.specs.Faults.{External, FuncOf, TableOf, MemoryOf, GlobalOf, asked_at, found, suits, external_of, same_but_limits, meets_limits, stays}
-use Rattle.merge_terms.specs.Merged.{merged, merged_types, map_of, start_calls, starts, by_part, staying_of, place_of_end, end_from}
+use Rattle.merge_terms.specs.Merged.{merged, merged_types, map_of, start_calls, starts, by_part, staying_of, place_of_end}
 use Rattle.merge_validity.specs.Ended.{EndsInside, EndsOutside, Ended, inside, outside, added_count, LinkedImportsEnd, StayingImportsEndThere, SitesAreImports, StayingImportsHavePlaces, NewIndicesArePlaces, DefinedEntitiesHavePlaces, TypesHavePlaces, MergedModulesDefineAll}
 use Rattle.merge_validity.proofs.Lists.{then_is, place_get, there, within, past}
 use Rattle.merge_validity.proofs.Same.{both_are, cond_both, ref_same, type_same, func_type_same, kind_is}
@@ -27,7 +27,7 @@ use Rattle.merge_validity.proofs.TypePlaces.{type_stands}
 use Rattle.merge_validity.proofs.MergedSpaces.{extra, moved_own, own_is, all_own}
 use Rattle.merge_validity.proofs.Linked.{Suited, AreLinked, are_linked, sites_are, import_site, in_sites}
 use Rattle.merge_validity.proofs.Ends.{Gathers, gathers, end_outside, kind_asked, gathered_type, lands_inside, outside_is}
-use Rattle.merge_validity.proofs.Entries.{imports_many, inside_own, count_is, stays_is, staying_place, has_its_kind, entity_at, index_is, entry_import}
+use Rattle.merge_validity.proofs.Entries.{imports_many, inside_own, stays_is, staying_place, has_its_kind, index_imported, index_defined, end_defined}
 
 -- ---- what is the same but for limits ----
 
@@ -218,14 +218,10 @@ pub have_places : StayingImportsHavePlaces
 have_places parts s i at remains k e = place_get (staying_of parts k) (place_of_end parts k (Outside s)) ∙ staying_place parts k s i at remains (has_its_kind k i e)
 
 pub indices_are_places : NewIndicesArePlaces
-indices_are_places parts p m k x is = (λ n e h linked. index_is parts p k x e (ap (end_from parts (entity_at p k x)) (imported_at h) ∙ linked), λ h. index_is parts p k x (Defined (entity_at p k x)) (ap (end_from parts (entity_at p k x)) (imported_at h)))
-  where
-    imported_at : {o : Option ℕ} → slice_get (imports_of k m) x ≡ o → imported_as parts (entity_at p k x) ≡ option_and_then {T = ℕ} {U = Site} (λ n. Some (record { part = p; import = n })) o
-    imported_at h = entry_import parts p m k x is ∙ ap (λ o. option_and_then {T = ℕ} {U = Site} (λ n. Some (record { part = p; import = n })) o) h
+indices_are_places parts p m k x is = (λ n e at linked. index_imported parts p m k x n e is at linked, λ none. index_defined parts p m k x is none)
 
 pub defined_have_places : DefinedEntitiesHavePlaces
-unfolding place_of_end
-defined_have_places parts e m k is = ap (λ n. length (staying_of parts k) + (defined_before k parts e.part + (index_of_export e.what - n))) (count_is parts k e.part m is)
+defined_have_places parts e m k is = end_defined parts k e m is
 
 pub types_have_places : TypesHavePlaces
 types_have_places parts p m x t is h = place_get (merged_types parts) (slice_index (map_of parts p m).types x) ∙ type_stands parts p m x t is (sym (place_get m.types x) ∙ h)

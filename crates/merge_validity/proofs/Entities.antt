@@ -21,7 +21,6 @@ use Rattle.wasm_meaning.specs.Values.{same_type}
 use Rattle.wasm_meaning.specs.World.{same_bool, defined_count}
 use Rattle.wasm_meaning.specs.Linking.{has_kind}
 use Rattle.merge_terms.specs.Faults.{External, FuncOf, TableOf, MemoryOf, GlobalOf, asked, external_of, same_but_limits}
-use Rattle.merge_terms.specs.Merged.{entry_of}
 use Rattle.merge_validity.proofs.Lists.{is_some, place_get}
 use Rattle.merge_validity.proofs.Same.{both_are, ref_is, type_is, func_type_is, bool_is}
 
@@ -82,24 +81,6 @@ own_many Functions m = length-map m.funcs (λ f. f.ty)
 own_many Tables m = refl
 own_many Memories m = refl
 own_many Globals m = length-map m.globals (λ g. g.ty)
-
-pub kind_of_entry : (k : Space) (i : ℕ) → space_of_export (entry_of k i) ≡ k
-kind_of_entry Functions i = refl
-kind_of_entry Tables i = refl
-kind_of_entry Memories i = refl
-kind_of_entry Globals i = refl
-
-pub index_of_entry : (k : Space) (i : ℕ) → index_of_export (entry_of k i) ≡ i
-index_of_entry Functions i = refl
-index_of_entry Tables i = refl
-index_of_entry Memories i = refl
-index_of_entry Globals i = refl
-
-pub entry_is : (e : ExportDesc) → e ≡ entry_of (space_of_export e) (index_of_export e)
-entry_is (ex.Func i) = refl
-entry_is (ex.Table i) = refl
-entry_is (ex.Memory i) = refl
-entry_is (ex.Global i) = refl
 
 -- ---- types ----
 
@@ -212,8 +193,8 @@ external_kind m (ex.Global i) x h = by (slice_get (globals_of m) i) h
     by None h = cc
     by (Some t) h = let same : GlobalOf t ≡ x = cc in ap (λ z. kind_of (bare z)) (sym same)
 
-pub external_type : (m : Module) (k : Space) (i : ℕ) (x : External) → external_of m (entry_of k i) ≡ Some x → type_at m k i ≡ Some (bare x)
-external_type m Functions i x h = by (slice_get (funcs_of m) i) h
+pub external_type : (m : Module) (e : ExportDesc) (x : External) → external_of m e ≡ Some x → type_at m (space_of_export e) (index_of_export e) ≡ Some (bare x)
+external_type m (ex.Func i) x h = by (slice_get (funcs_of m) i) h
   where
     inner : (o : Option FuncType) → option_and_then (λ t. Some (FuncOf t)) o ≡ Some x → option_and_then (λ t. Some (FuncTy t)) o ≡ Some (bare x)
     inner None h = cc
@@ -222,17 +203,17 @@ external_type m Functions i x h = by (slice_get (funcs_of m) i) h
     by : (o : Option ℕ) → option_and_then (λ t. Some (FuncOf t)) (option_and_then (slice_get m.types) o) ≡ Some x → option_and_then (type_of m Functions) o ≡ Some (bare x)
     by None h = cc
     by (Some ty) h = inner (slice_get m.types ty) h
-external_type m Tables i x h = by (slice_get (tables_of m) i) h
+external_type m (ex.Table i) x h = by (slice_get (tables_of m) i) h
   where
     by : (o : Option TableType) → option_and_then (λ t. Some (TableOf t)) o ≡ Some x → option_and_then (type_of m Tables) o ≡ Some (bare x)
     by None h = cc
     by (Some t) h = let same : TableOf t ≡ x = cc in ap (λ z. Some (bare z)) same
-external_type m Memories i x h = by (slice_get (memories_of m) i) h
+external_type m (ex.Memory i) x h = by (slice_get (memories_of m) i) h
   where
     by : (o : Option Limits) → option_and_then (λ t. Some (MemoryOf t)) o ≡ Some x → option_and_then (type_of m Memories) o ≡ Some (bare x)
     by None h = cc
     by (Some t) h = let same : MemoryOf t ≡ x = cc in ap (λ z. Some (bare z)) same
-external_type m Globals i x h = by (slice_get (globals_of m) i) h
+external_type m (ex.Global i) x h = by (slice_get (globals_of m) i) h
   where
     by : (o : Option GlobalType) → option_and_then (λ t. Some (GlobalOf t)) o ≡ Some x → option_and_then (type_of m Globals) o ≡ Some (bare x)
     by None h = cc

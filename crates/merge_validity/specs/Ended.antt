@@ -11,7 +11,7 @@ use Rattle.wasm_tree.specs.Spaces.{index_of_export, space_of_export, space_of_im
 use Rattle.wasm_meaning.specs.Environment.{Owned}
 use Rattle.wasm_meaning.specs.World.{defined_count, defined_before, outside_thing}
 use Rattle.merge_terms.specs.Faults.{External, asked_at, external_of, same_but_limits, meets_limits, link_fault, stays}
-use Rattle.merge_terms.specs.Merged.{merged, merged_types, map_of, staying_of, place_of_end, entry_of, new_index, starts, start_calls}
+use Rattle.merge_terms.specs.Merged.{merged, merged_types, map_of, staying_of, place_of_end, new_index, starts, start_calls}
 
 -- An import ends with an entity that a part defines, which is what it asks for.
 pub record EndsInside (parts : List Part) (s : Site) (i : Import) : Type 0 where
@@ -79,12 +79,12 @@ abbrev pub StayingImportsHavePlaces : Type 0
 StayingImportsHavePlaces =
     (parts : List Part) (s : Site) (i : Import) → import_at parts s ≡ Some i → stays parts s ≡ true → (k : Space) → space_of_import i.desc ≡ k → slice_get (staying_of parts k) (place_of_end parts k (Outside s)) ≡ Some s
 
--- an index of a part's space becomes the place of its import's end, or of what the part defines
+-- an index of a part's space becomes the place of its import's end, or of what the part defines: after what stays, by part
 abbrev pub NewIndicesArePlaces : Type 0
 NewIndicesArePlaces =
     (parts : List Part) (p : ℕ) (m : Module) (k : Space) (x : ℕ) → module_at parts p ≡ Some m →
     ((n : ℕ) (e : End) → slice_get (imports_of k m) x ≡ Some n → linked_end parts (record { part = p; import = n }) ≡ Some e → new_index parts p k x ≡ place_of_end parts k e)
-    × (slice_get (imports_of k m) x ≡ None → new_index parts p k x ≡ place_of_end parts k (Defined (record { part = p; what = entry_of k x })))
+    × (slice_get (imports_of k m) x ≡ None → new_index parts p k x ≡ length (staying_of parts k) + (defined_before k parts p + (x - length (imports_of k m))))
 
 -- what a part defines comes after what stays, by part
 abbrev pub DefinedEntitiesHavePlaces : Type 0

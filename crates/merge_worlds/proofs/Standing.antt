@@ -16,7 +16,7 @@ use Rattle.index_remap.specs.Related.{Pairing, OptRel, none, some, ListRel}
 use Rattle.index_remap.specs.Related as to
 use Rattle.index_remap.specs.RelatedRuns.{ThingRel, a_func, a_table, a_memory, a_global, KeyRel}
 use Rattle.merge_terms.specs.Faults.{link_fault}
-use Rattle.merge_terms.specs.Merged.{staying_of, entry_of, new_index}
+use Rattle.merge_terms.specs.Merged.{staying_of, new_index}
 use Rattle.merge_validity.specs.Ended.{EndsInside, EndsOutside, Ended, inside, outside}
 use Rattle.merge_validity.proofs.Lists.{then_is}
 use Rattle.merge_validity.proofs.ByPart.{before, defined_is}
@@ -35,12 +35,6 @@ kind_in Functions = Functions
 kind_in Tables = Tables
 kind_in Memories = Memories
 kind_in Globals = Globals
-
-entry_index : (k : Space) (x : ℕ) → index_of_export (entry_of k x) ≡ x
-entry_index Functions x = refl
-entry_index Tables x = refl
-entry_index Memories x = refl
-entry_index Globals x = refl
 
 address_at : (k : Space) (a : ℕ) → address_of k (thing_at k a) ≡ Some a
 address_at Functions a = refl
@@ -194,7 +188,7 @@ module _ (env : Environment) (parts : List Part) where
         let low = defined_low k parts p m is in
         let d = defined_before k parts p + j in
         let number : base env parts k p + j ≡ own_count k env + d = omega arith in
-        let back : index_of_export (entry_of k x) - length (imports_of k m) ≡ j = (let e = entry_index k x in omega (arith, e, at)) in
+        let back : x - length (imports_of k m) ≡ j = omega (arith, at) in
         own d (omega (arith, low, l)) (ap Some number)
-        ((laws.indices parts p m k x is).1 (past_end (imports_of k m) x (omega (arith, at))) ∙ laws.defined parts (record { part = p; what = entry_of k x }) m k is
+        ((laws.indices parts p m k x is).1 (past_end (imports_of k m) x (omega (arith, at)))
         ∙ ap (λ j. length (staying_of parts k) + (defined_before k parts p + j)) back)
