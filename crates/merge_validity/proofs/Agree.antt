@@ -1,7 +1,7 @@
 -- Each part agrees with the merged module along the part's map, and the map covers the part.
 use Rattle.std.proofs.Common.{◌≡◌, ◌∙◌, ap, sym, subst, refl, ℕ, ◌+◌, ◌<◌, List, map, length, Option, Some, None, true, arith, ◌⊎◌, inl, inr}
 use Rattle.wasm_tree.specs.declared.space.Space.{Space}
-use Rattle.wasm_tree.specs.declared.space.Space.TheVariants.{Functions, Tables, Memories, Globals, DataSegments, ElementSegments}
+use Rattle.wasm_tree.specs.declared.space.Space.TheVariants.{Types, Functions, Tables, Memories, Globals, DataSegments, ElementSegments}
 use Rattle.std.specs.Prelude.{slice_get, slice_index, option_and_then}
 use Rattle.std.proofs.lemmas.List.{length-map}
 use Rattle.wasm_tree.specs.declared.types.RefType.{RefType}
@@ -28,8 +28,9 @@ use Rattle.index_remap.specs.Agreement.{Keeps}
 use Rattle.remap_typing.specs.Indices.{with_entry}
 use Rattle.remap_typing.specs.Trees.{TreesAgree, Covers}
 use Rattle.merge_terms.specs.Merged.{merged, map_of, merged_elem, merged_data, by_part, new_index}
+use Rattle.merge_validity.specs.Ended.{is_external}
 use Rattle.merge_validity.proofs.Lists.{there, then_is, within, index_at, map_at, map_back, numbers_at, numbers_many, split, chosen_from}
-use Rattle.merge_validity.proofs.Entities.{of_desc, of_import, own, imported, space, Ty, FuncTy, TableTy, MemoryTy, GlobalTy, type_of, type_at}
+use Rattle.merge_validity.proofs.Entities.{of_desc, of_import, own, imported, space, Ty, FuncTy, TableTy, MemoryTy, GlobalTy, type_of, type_at, typed_external}
 use Rattle.merge_validity.proofs.ByPart.{elems_is, datas_is, by_part_at}
 use Rattle.merge_validity.proofs.TypePlaces.{type_stands, types_map}
 use Rattle.merge_validity.proofs.MergedSpaces.{types_are}
@@ -47,22 +48,28 @@ entries Functions r = r.funcs
 entries Tables r = r.tables
 entries Memories r = r.mems
 entries Globals r = r.globals
+entries Types r = r.types
+entries ElementSegments r = r.elems
+entries DataSegments r = r.datas
 
-entries_are : (parts : List Part) (p : ℕ) (m : Module) (k : Space) → entries k (map_of parts p m) ≡ map (new_index parts p k) (numbers 0 (length (space k m)))
+entries_are : (parts : List Part) (p : ℕ) (m : Module) (k : Space) → is_external k ≡ true → entries k (map_of parts p m) ≡ map (new_index parts p k) (numbers 0 (length (space k m)))
 unfolding map_of
-entries_are parts p m Functions = refl
-entries_are parts p m Tables = refl
-entries_are parts p m Memories = refl
-entries_are parts p m Globals = refl
+entries_are parts p m Functions e = refl
+entries_are parts p m Tables e = refl
+entries_are parts p m Memories e = refl
+entries_are parts p m Globals e = refl
+entries_are parts p m Types e = cc
+entries_are parts p m ElementSegments e = cc
+entries_are parts p m DataSegments e = cc
 
-pub entries_many : (parts : List Part) (p : ℕ) (m : Module) (k : Space) → length (entries k (map_of parts p m)) ≡ length (space k m)
-entries_many parts p m k =
-    ap length (entries_are parts p m k) ∙ length-map (numbers 0 (length (space k m))) (new_index parts p k) ∙ numbers_many 0 (length (space k m))
+pub entries_many : (parts : List Part) (p : ℕ) (m : Module) (k : Space) → is_external k ≡ true → length (entries k (map_of parts p m)) ≡ length (space k m)
+entries_many parts p m k e =
+    ap length (entries_are parts p m k e) ∙ length-map (numbers 0 (length (space k m))) (new_index parts p k) ∙ numbers_many 0 (length (space k m))
 
-pub entry_at : (parts : List Part) (p : ℕ) (m : Module) (k : Space) (i : ℕ) → i < length (space k m) → slice_index (entries k (map_of parts p m)) i ≡ new_index parts p k i
-entry_at parts p m k i lt =
+pub entry_at : (parts : List Part) (p : ℕ) (m : Module) (k : Space) (i : ℕ) → is_external k ≡ true → i < length (space k m) → slice_index (entries k (map_of parts p m)) i ≡ new_index parts p k i
+entry_at parts p m k i e lt =
     let from_0 : 0 + i ≡ i = omega arith in
-    ap (λ z. slice_index z i) (entries_are parts p m k)
+    ap (λ z. slice_index z i) (entries_are parts p m k e)
     ∙ index_at (map (new_index parts p k) (numbers 0 (length (space k m)))) i (new_index parts p k i) (map_at (new_index parts p k) (numbers 0 (length (space k m))) i i (numbers_at 0 (length (space k m)) i lt ∙ ap Some from_0))
 
 elem_entries : (parts : List Part) (p : ℕ) (m : Module) → (map_of parts p m).elems ≡ numbers (defined_before ElementSegments parts p) (length m.elems)
@@ -81,10 +88,10 @@ data_entry parts p m i lt = ap (λ z. slice_index z i) (data_entries parts p m) 
 
 pub map_covers : (parts : List Part) (p : ℕ) (m : Module) → Covers (map_of parts p m) m
 map_covers parts p m =
-    let f = entries_many parts p m Functions in
-    let t = entries_many parts p m Tables in
-    let n = entries_many parts p m Memories in
-    let g = entries_many parts p m Globals in
+    let f = entries_many parts p m Functions refl in
+    let t = entries_many parts p m Tables refl in
+    let n = entries_many parts p m Memories refl in
+    let g = entries_many parts p m Globals refl in
     let ty = ap length (types_map parts p m) ∙ length-map m.types _ in
     let e = ap length (elem_entries parts p m) ∙ numbers_many (defined_before ElementSegments parts p) (length m.elems) in
     let d = ap length (data_entries parts p m) ∙ numbers_many (defined_before DataSegments parts p) (length m.datas) in
@@ -196,7 +203,7 @@ data_stands parts names p m i s is h =
 
 module _ (law : EndsArePaths) (parts : List Part) (names : List (Option Text)) (links : AreLinked parts) (p : ℕ) (m : Module) (is : module_at parts p ≡ Some m) (holds : ItemsHold m) where
   kept : (k : Space) (i : ℕ) (y : Ty) → type_at m k i ≡ Some y → type_at (merged parts names) k (slice_index (entries k (map_of parts p m)) i) ≡ Some y
-  kept k i y h = ap (type_at (merged parts names) k) (entry_at parts p m k i (at_there m k i y h)) ∙ entry_kept law parts names links p m k i y is h
+  kept k i y h = ap (type_at (merged parts names) k) (entry_at parts p m k i (typed_external m k i y h) (at_there m k i y h)) ∙ entry_kept law parts names links p m k i y is h
 
   func_within : (i : ℕ) → i < length (funcs_of m) → slice_index (map_of parts p m).funcs i < length (funcs_of (merged parts names))
   func_within i lt = let ft = func_there m holds i lt in at_there (merged parts names) Functions _ _ (kept Functions i (FuncTy ft.0) (func_to m i ft.0 ft.1))

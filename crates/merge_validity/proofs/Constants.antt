@@ -29,7 +29,7 @@ use Rattle.remap_typing.specs.Trees.{TreesAgree, ReadsImport, ConstStands}
 use Rattle.remap_typing.proofs.Lists.{left_true, right_true, then_there, only_true, only_rest}
 use Rattle.merge_terms.specs.Merged.{merged, map_of, merged_read, merged_const, staying_of, place_of_end, new_index}
 use Rattle.merge_validity.specs.Entries.{HasEntry}
-use Rattle.merge_validity.proofs.Lists.{place_get, place_of, places_many, map_back, then_is, within, there, front}
+use Rattle.merge_validity.proofs.Lists.{place_of, places_many, map_back, then_is, within, there, front}
 use Rattle.merge_validity.proofs.Entities.{of_import, own, imported, space, import_kind, GlobalTy, type_of, asked_type}
 use Rattle.merge_validity.proofs.Linked.{AreLinked, import_site}
 use Rattle.merge_validity.proofs.Ends.{EndsInside, EndsOutside, Landed, inside, outside}
@@ -76,8 +76,8 @@ const_named r (const.Global x) h = h
 
 pub map_fits : (parts : List Part) (p : ℕ) (m : Module) (e : ConstExpr) (ty : ValType) → const_type m e ≡ Some ty → IsTrue (fits_const (map_of parts p m) e)
 map_fits parts p m e ty h =
-    let f = entries_many parts p m Functions in
-    let g = entries_many parts p m Globals in
+    let f = entries_many parts p m Functions refl in
+    let g = entries_many parts p m Globals refl in
     const_fits m (map_of parts p m) e ty (omega (arith, f)) (omega (arith, g)) h
 
 -- ---- the place of an import in its space ----
@@ -121,7 +121,7 @@ module _ (ends_law : EndsArePaths) (parts : List Part) (names : List (Option Tex
       let m = import_site parts w.to w.stays.import w.stays.at in
       let x = space_index m.0.imports w.to.import k in
       let h = outside_kind parts k s (GlobalTy g) refl w in
-      let at : slice_get m.0.imports w.to.import ≡ Some w.stays.import = sym (place_get m.0.imports w.to.import) ∙ m.2 in
+      let at : slice_get m.0.imports w.to.import ≡ Some w.stays.import = m.2 in
       let z : 0 + w.to.import ≡ w.to.import = omega arith in
       let p : slice_get (imports_of k m.0) x ≡ Some w.to.import = index_place k m.0.imports w.to.import 0 w.stays.import at h ∙ ap Some z in
       let c = some_there (of_import k w.stays.import) (import_kind k w.stays.import ∙ h) in
@@ -139,7 +139,7 @@ module _ (ends_law : EndsArePaths) (parts : List Part) (names : List (Option Tex
       let space_lt : x < length (space k m.0) = within (space k m.0) x g at_x in
       let entry : new_index parts w.to.part k x ≡ place_of_end parts k (Outside w.to) =
       index_imported parts w.to.part m.0 k x w.to.import (Outside w.to) m.1 p w.stays.linked in
-      let in_map : slice_index (map_of parts w.to.part m.0).globals x ≡ place_of_end parts k (Outside w.to) = entry_at parts w.to.part m.0 k x space_lt ∙ entry in
+      let in_map : slice_index (map_of parts w.to.part m.0).globals x ≡ place_of_end parts k (Outside w.to) = entry_at parts w.to.part m.0 k x refl space_lt ∙ entry in
       let few : place_of_end parts k (Outside w.to) < length (staying_of parts k) = within (staying_of parts k) _ w.to (outside_place parts k w.to w.stays h) in
       let many = imported_many parts names k in
       let imports : slice_index (map_of parts w.to.part m.0).globals x < length (imported k (merged parts names)) = omega (arith, in_map, few, many) in
@@ -156,7 +156,7 @@ module _ (ends_law : EndsArePaths) (parts : List Part) (names : List (Option Tex
       let at : slice_get (own k w.of) (n - length (imports_of k w.of)) ≡ Some c.0 = own_entry k w.of n c.0 o.own c.1 in
       let c_g : c.0 ≡ g = global_type c.0 g c.2 in
       let d = map_back (λ (g : GlobalDef). g.ty) w.of.globals (n - length (imports_of k w.of)) c.0 at in
-      let got : slice_get w.of.globals (n - length (imports_of k w.of)) ≡ Some d.0 = place_get w.of.globals (n - length (imports_of k w.of)) ∙ d.1 in
+      let got : slice_get w.of.globals (n - length (imports_of k w.of)) ≡ Some d.0 = d.1 in
       let init : initial parts w.entity ≡ Some d.0.init =
       ap (λ o. option_and_then (λ m. option_and_then (λ g. Some g.init) (slice_get m.globals (index_of_export w.entity.what - length (imports_of Globals m)))) o) w.is_part ∙ ap (λ o. option_and_then {T = GlobalDef} (λ g. Some g.init) o) got in
       on w.entity w.of (n - length (imports_of k w.of)) d.0
@@ -167,7 +167,7 @@ module _ (ends_law : EndsArePaths) (parts : List Part) (names : List (Option Tex
       let lt = g.imported in
       let many = places_many (has_kind Globals) (of_import Globals) m.imports (import_kind Globals) 0 in
       let n = there (imports_of Globals m) x (omega (arith, lt, many)) in
-      let at : slice_get (imports_of Globals m) x ≡ Some n.0 = place_get (imports_of Globals m) x ∙ n.1 in
+      let at : slice_get (imports_of Globals m) x ≡ Some n.0 = n.1 in
       let j = joined_entry ends_law parts links p m Globals x n.0 (GlobalTy g.global) is at (ap (λ o. option_and_then (type_of m Globals) o) g.at) in
       let import : global_import parts p x ≡ Some (site_at p n.0) = imported_is parts Globals p m (ex.Global x) x is refl refl ∙ ap (λ o. option_and_then {T = ℕ} {U = Site} (λ n. Some (record { part = p; import = n })) o) at in
       subst (Step (record { part = p; expr = const.Global x })) g.typed

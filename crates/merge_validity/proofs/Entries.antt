@@ -1,5 +1,5 @@
 -- The new index of an entry of a part's index space stands in the merged module for an entity of the same type.
-use Rattle.std.proofs.Common.{◌≡◌, ◌∙◌, ap, ap₂, sym, subst, refl, ℕ, zero, suc, ◌+◌, ◌-◌, ◌<◌, ◌≤◌, List, [], ◌∷◌, ◌++◌, length, Option, Some, None, true, arith, ◌⊎◌, inl, inr, option_and_then, unwrap_or}
+use Rattle.std.proofs.Common.{◌≡◌, ◌∙◌, ap, ap₂, sym, subst, refl, ℕ, zero, suc, ◌+◌, ◌-◌, ◌<◌, ◌≤◌, List, [], ◌∷◌, ◌++◌, length, Option, Some, None, true, arith, ◌⊎◌, inl, inr, option_and_then, unwrap_or, is_some, false}
 use Rattle.wasm_tree.specs.declared.space.Space.{Space}
 use Rattle.wasm_tree.specs.Operands.{same_space}
 use Rattle.std.specs.Prelude.{slice_get}
@@ -10,11 +10,11 @@ use Rattle.wasm_tree.specs.declared.module.Module.{Module}
 use Rattle.wasm_meaning.specs.State.{Text}
 use Rattle.wasm_meaning.specs.Laws.{EndsArePaths}
 use Rattle.wasm_meaning.specs.World.{defined_before}
-use Rattle.wasm_meaning.specs.Linking.{Part, Site, End, Defined, Outside, Entity, first_place, module_at, import_at, imports_of, has_kind, imported_as, sites, same_site, is_outside}
+use Rattle.wasm_meaning.specs.Linking.{Part, Site, End, Defined, Outside, Entity, first_place, module_at, import_at, imports_of, has_kind, imported_as, sites, same_site, is_outside, linked_end}
 use Rattle.wasm_tree.specs.Spaces.{index_of_export, space_of_export, space_of_import}
 use Rattle.merge_terms.specs.Faults.{External, asked, asked_at, external_of, stays}
 use Rattle.merge_terms.specs.Merged.{merged, staying, staying_of, imports_kind, imported_count, place_of_end, place_of_entry, new_index}
-use Rattle.merge_validity.proofs.Lists.{Has, is_some, first_at, then_is, place_get, place_of, places_many, split, past, within, is_kept}
+use Rattle.merge_validity.proofs.Lists.{Has, first_at, then_is, place_of, places_many, split, past, within, is_kept}
 use Rattle.merge_validity.proofs.Same.{site_is, site_same, kind_is, kind_same}
 use Rattle.merge_validity.proofs.Entities.{Entry, of_desc, of_import, own, imported, space, import_kind, Ty, kind_of, bare, type_of, type_at, asked_type, asked_kind, external_kind, external_type}
 use Rattle.merge_validity.proofs.Linked.{AreLinked, import_site, in_sites}
@@ -31,7 +31,7 @@ pub own_entry : (k : Space) (m : Module) (i : ℕ) (c : Entry k) → slice_get (
 own_entry k m i c e h = by (split (imported k m) (own k m) i c h)
   where
     few : length (imports_of k m) ≤ i
-    few = past (imports_of k m) i (sym (place_get (imports_of k m) i) ∙ e)
+    few = past (imports_of k m) i (e)
 
     by : (slice_get (imported k m) i ≡ Some c) ⊎ ((j : ℕ) × (i ≡ length (imported k m) + j) × (slice_get (own k m) j ≡ Some c)) → slice_get (own k m) (i - length (imports_of k m)) ≡ Some c
     by (inl g) = let l = within (imported k m) i c g in let q = imports_many k m in let f = few in absurd (omega (arith, l, q, f))
@@ -51,9 +51,9 @@ import_entry k m i n y e t =
     let r = place_of (has_kind k) (of_import k) m.imports (import_kind k) 0 i n e in
     let c = then_is (slice_get (space k m) i) (type_of m k) y t in
     let at : n ≡ r.0 = (let z = r.2 in omega (arith, z)) in
-    let l : i < length (imported k m) = (let a = within (imports_of k m) i n (sym (place_get (imports_of k m) i) ∙ e) in let q = imports_many k m in omega (arith, a, q)) in
+    let l : i < length (imported k m) = (let a = within (imports_of k m) i n (e) in let q = imports_many k m in omega (arith, a, q)) in
     let got : slice_get (imported k m) i ≡ Some c.0 = front_only (imported k m) (own k m) i c.0 l c.1 in
-    record { import = r.1; at = ap (slice_get m.imports) at ∙ place_get m.imports r.0 ∙ r.3; of_kind = r.4; entry = c.0; adds = sym r.5 ∙ got; typed = c.2 }
+    record { import = r.1; at = ap (slice_get m.imports) at ∙ r.3; of_kind = r.4; entry = c.0; adds = sym r.5 ∙ got; typed = c.2 }
   where
     front_only : {A : Type 0} (xs ys : List A) (i : ℕ) (x : A) → i < length xs → slice_get (xs ++ ys) i ≡ Some x → slice_get xs i ≡ Some x
     front_only [] ys i x l h = absurd (omega (arith, l))

@@ -13,7 +13,7 @@ use Rattle.export_names.specs.Names.{new_name, renamed_behind, kept_behind, new_
 use Rattle.export_names.specs.Laws.{GivenNamesDiffer, ConflictsAreFirst}
 use Rattle.merge_terms.specs.Joined.{repeated_name}
 use Rattle.merge_terms.specs.Merged.{merged, map_of, all_exports, export_names, named_exports}
-use Rattle.merge_validity.proofs.Lists.{Has, place_get, map_at, map_back}
+use Rattle.merge_validity.proofs.Lists.{Has, map_at, map_back}
 use Rattle.merge_validity.proofs.ByPart.{by_part_back}
 
 pub exports_are : (parts : List Part) (names : List (Option Text)) → (merged parts names).exports ≡ named_exports (all_exports parts) names
@@ -80,7 +80,7 @@ no_conflict law parts mode h = by (conflict mode (export_names parts)) refl h
     by None e h = e
     by (Some n) e h =
         let c = (law mode (export_names parts) n e).1.came in
-        absurd (let z : Some c.0 ≡ None = sym c.1 ∙ sym (place_get (export_names parts) n) ∙ h in cc)
+        absurd (let z : Some c.0 ≡ None = sym c.1 ∙ h in cc)
 
 pub names_differ : GivenNamesDiffer → ConflictsAreFirst → (parts : List Part) (mode : Mode) → repeated_name parts mode ≡ None → length (merged parts (new_names mode (export_names parts))).exports < 2 ^ 62 →
     (j : ℕ) (e : Export) → slice_get (merged parts (new_names mode (export_names parts))).exports j ≡ Some e → Contains (map (λ x. x.name) (take j (merged parts (new_names mode (export_names parts))).exports)) e.name → ⊥

@@ -18,7 +18,7 @@ use Rattle.merge_terms.specs.declared.faults.LinkFault.{LinkFault}
 use Rattle.merge_terms.specs.declared.faults.LinkFault.TheVariants.{LimitsClash}
 use Rattle.merge_terms.specs.Faults.{asked_at, stays, kept_limits, is_under, clash_fault}
 use Rattle.merge_terms.specs.Merged.{merged, map_of, merged_import, merged_desc, staying}
-use Rattle.merge_validity.proofs.Lists.{Has, place_get, there, then_is, within, kept_is, chosen_from}
+use Rattle.merge_validity.proofs.Lists.{Has, there, then_is, within, kept_is, chosen_from}
 use Rattle.merge_validity.proofs.Same.{site_is}
 use Rattle.merge_validity.proofs.Entities.{kind_of, bare, asked_kind}
 use Rattle.merge_validity.proofs.Linked.{Suited, AreLinked, import_site}
@@ -82,7 +82,7 @@ memory_few m (im.Global t) l e h p = absurd (let z = e in cc)
 -- an import of a valid part holds
 pub part_import : (m : Module) → ItemsHold m → (n : ℕ) (i : Import) → slice_get m.imports n ≡ Some i → ImportHolds m i.desc
 part_import m holds n i at =
-    let got : slice_get m.imports n ≡ Some i = sym (place_get m.imports n) ∙ at in
+    let got : slice_get m.imports n ≡ Some i = at in
     let z = holds kind.Import n (within m.imports n i got) in
     let both : Some z.0 ≡ Some i = sym z.1 ∙ got in
     let same : z.0 ≡ i = cc in
@@ -128,7 +128,7 @@ module _ (law : EndsArePaths) (parts : List Part) (links : AreLinked parts) (val
   import_back : (s : Site) (x : Import) → merged_import parts s ≡ Some x → (m : Module) × (i : Import) × (module_at parts s.part ≡ Some m) × (import_at parts s ≡ Some i) × (x.desc ≡ merged_desc parts s m i.desc)
   unfolding merged_import
   import_back s x h =
-      let m = then_is (module_at parts s.part) (λ m. option_and_then (λ i. Some (record i { desc = merged_desc parts s m i.desc })) (import_at parts s)) x h in
+      let m = then_is (module_at parts s.part) (λ m. option_and_then {T = Import} {U = Import} (λ i. Some (record i { desc = merged_desc parts s m i.desc })) (import_at parts s)) x h in
       let i = then_is (import_at parts s) (λ i. Some (record i { desc = merged_desc parts s m.0 i.desc })) x m.2 in
       let q = i.2 in
       let same : record i.0 { desc = merged_desc parts s m.0 i.0.desc } ≡ x = cc in

@@ -10,7 +10,7 @@ use Rattle.merge_terms.specs.declared.faults.LinkFault.{LinkFault}
 use Rattle.merge_terms.specs.declared.faults.LinkFault.TheVariants.{ImportMismatch}
 use Rattle.merge_terms.specs.Faults.{External, asked_at, found, suits, same_but_limits, meets_limits, is_suited, or_else, first_fault, end_fault, import_fault, clash_fault, memory_fault, OwnGlobal, own_globals_in, own_globals_from, own_globals, value_fault, global_fault, link_fault}
 use Rattle.merge_terms.specs.Merged.{by_part_from}
-use Rattle.merge_validity.proofs.Lists.{Has, place_get, within, in_front, in_back, then_is, or_false_is}
+use Rattle.merge_validity.proofs.Lists.{Has, within, in_front, in_back, then_is, or_false_is}
 use Rattle.merge_validity.proofs.Same.{both_are}
 use Rattle.merge_validity.proofs.Entities.{bare, bare_is}
 
@@ -41,7 +41,7 @@ import_site parts s i h = then_is (module_at parts s.part) (λ m. slice_get m.im
 pub in_sites : (parts : List Part) (s : Site) (i : Import) → import_at parts s ≡ Some i → Has (sites parts) s
 in_sites parts s i h =
     let m = import_site parts s i h in
-    let l = within m.0.imports s.import i (sym (place_get m.0.imports s.import) ∙ m.2) in
+    let l = within m.0.imports s.import i (m.2) in
     let from_0 : 0 + s.import ≡ s.import = omega arith in
     let part_0 : s.part ≡ 0 + s.part = omega arith in
     let got : slice_get (sites_in s.part (length m.0.imports) 0) s.import ≡ Some s = site_in s.part (length m.0.imports) 0 s.import l ∙ ap {A = ℕ} {B = Option Site} (λ n. Some (record { part = s.part; import = n })) from_0 in

@@ -1,5 +1,5 @@
 -- Lists: what stands at a place, and places in what is kept, chosen and joined.
-use Rattle.std.proofs.Common.{◌≡◌, ◌∙◌, ap, sym, subst, refl, ℕ, zero, suc, ◌+◌, ◌<◌, ◌≤◌, List, [], ◌∷◌, ◌++◌, map, length, Option, Some, None, Bool, true, false, cond, arith, ◌⊎◌, inl, inr, option_and_then, unwrap_or, ◌&&◌}
+use Rattle.std.proofs.Common.{◌≡◌, ◌∙◌, ap, sym, subst, refl, ℕ, zero, suc, ◌+◌, ◌<◌, ◌≤◌, List, [], ◌∷◌, ◌++◌, map, length, Option, Some, None, is_some, Bool, true, false, cond, arith, ◌⊎◌, inl, inr, option_and_then, unwrap_or, ◌&&◌}
 use Rattle.std.specs.Prelude.{slice_get, slice_index}
 use Rattle.std.specs.List.{filter, filter_map, cons_option}
 use Rattle.wasm_meaning.specs.Linking.{first_place, places, count_of}
@@ -8,11 +8,6 @@ use Rattle.wasm_meaning.specs.World.{numbers}
 -- something stands in a list
 abbrev pub Has : {A : Type 0} → List A → A → Type 0
 Has xs x = (n : ℕ) × (slice_get xs n ≡ Some x)
-
-pub place_get : {A : Type 0} (xs : List A) (n : ℕ) → slice_get xs n ≡ slice_get xs n
-place_get [] n = refl
-place_get (x ∷ xs) zero = refl
-place_get (x ∷ xs) (suc n) = place_get xs n
 
 pub within : {A : Type 0} (xs : List A) (n : ℕ) (x : A) → slice_get xs n ≡ Some x → n < length xs
 within [] n x h = cc
@@ -92,10 +87,6 @@ first_at {A} test (y ∷ ys) from n x h t = by (λ n h. first_at test ys (suc fr
         record { at = suc l.at; item = l.item; is = ap (λ b. cond b (Some from) (first_place test ys (suc from))) e ∙ l.is ∙ ap Some (let z : suc from + l.at ≡ from + suc l.at = omega arith in z); got = l.got; yes = l.yes }
 
 -- ---- what is kept and what is chosen ----
-
-abbrev pub is_some : {A : Type 0} → Option A → Bool
-is_some None = false
-is_some (Some a) = true
 
 pub kept_is : {A : Type 0} (test : A → Bool) (xs : List A) (n : ℕ) (x : A) → slice_get (filter test xs) n ≡ Some x → (test x ≡ true) × Has xs x
 kept_is test [] n x h = absurd (let k = h in cc)

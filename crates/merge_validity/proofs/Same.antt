@@ -1,7 +1,7 @@
 -- The tests of sameness: what passes them is equal, and each passes with itself.
 use Rattle.std.proofs.Common.{◌≡◌, ◌∙◌, ap, ap₂, sym, refl, List, [], ◌∷◌, Bool, true, false, cond, nat_eq, eq-eqb, ◌&&◌}
 use Rattle.wasm_tree.specs.declared.space.Space.{Space}
-use Rattle.wasm_tree.specs.declared.space.Space.TheVariants.{Functions, Tables, Memories, Globals}
+use Rattle.wasm_tree.specs.declared.space.Space.TheVariants.{Types, Functions, Tables, Memories, Globals, ElementSegments, DataSegments}
 use Rattle.wasm_tree.specs.Operands.{same_space}
 use Rattle.std.proofs.lemmas.Bool.{eqb-true}
 use Rattle.wasm_tree.specs.declared.types.RefType.{RefType}
@@ -97,25 +97,20 @@ pub site_same : (s : Site) → same_site s s ≡ true
 site_same s = cond_both (nat_eq s.part s.part) (nat_eq s.import s.import) (eq-eqb s.part s.part refl) (eq-eqb s.import s.import refl)
 
 pub kind_is : (k l : Space) → same_space k l ≡ true → k ≡ l
+kind_is Types Types h = refl
 kind_is Functions Functions h = refl
 kind_is Tables Tables h = refl
 kind_is Memories Memories h = refl
 kind_is Globals Globals h = refl
-kind_is Functions Tables h = cc
-kind_is Functions Memories h = cc
-kind_is Functions Globals h = cc
-kind_is Tables Functions h = cc
-kind_is Tables Memories h = cc
-kind_is Tables Globals h = cc
-kind_is Memories Functions h = cc
-kind_is Memories Tables h = cc
-kind_is Memories Globals h = cc
-kind_is Globals Functions h = cc
-kind_is Globals Tables h = cc
-kind_is Globals Memories h = cc
+kind_is ElementSegments ElementSegments h = refl
+kind_is DataSegments DataSegments h = refl
+kind_is _ _ h = cc
 
 pub kind_same : (k : Space) → same_space k k ≡ true
+kind_same Types = refl
 kind_same Functions = refl
 kind_same Tables = refl
 kind_same Memories = refl
 kind_same Globals = refl
+kind_same ElementSegments = refl
+kind_same DataSegments = refl
