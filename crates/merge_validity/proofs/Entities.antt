@@ -1,5 +1,5 @@
 -- The index spaces of entities at once: what an entry of one is, and its type, with the limits of tables and memories left aside. Types and segments are no entities.
-use Rattle.std.proofs.Common.{◌≡◌, ◌∙◌, ap, ap₂, sym, refl, ℕ, List, ◌++◌, map, length, Option, Some, None, true, is_some, false, []}
+use Rattle.std.proofs.Common.{◌≡◌, ◌∙◌, ap, ap₂, sym, refl, ℕ, List, ◌++◌, map, length, Option, Some, None, true, is_some, []}
 use Rattle.wasm_tree.specs.declared.space.Space.{Space}
 use Rattle.wasm_tree.specs.declared.space.Space.TheVariants.{Types, Functions, Tables, Memories, Globals, ElementSegments, DataSegments}
 use Rattle.std.specs.Prelude.{slice_get, option_and_then}
@@ -22,8 +22,9 @@ use Rattle.wasm_meaning.specs.World.{same_bool, defined_count}
 use Rattle.wasm_meaning.specs.Linking.{has_kind}
 use Rattle.merge_terms.specs.Faults.{External, FuncOf, TableOf, MemoryOf, GlobalOf, asked, external_of, same_but_limits}
 use Rattle.merge_validity.specs.Ended.{is_external}
-use Rattle.merge_validity.proofs.Lists.{then_is}
-use Rattle.merge_validity.proofs.Same.{both_are, ref_is, type_is, func_type_is, bool_is}
+use Rattle.merge_validity.proofs.Same.{ref_is, type_is, func_type_is, bool_is}
+use Rattle.base_lists.proofs.Options.{and_then_is}
+use Rattle.std.proofs.lemmas.Bool.{and_parts}
 
 -- ---- entries ----
 
@@ -152,14 +153,14 @@ entry_external ElementSegments c = absurd c
 entry_external DataSegments c = absurd c
 
 pub typed_external : (m : Module) (k : Space) (i : ℕ) (y : Ty) → type_at m k i ≡ Some y → is_external k ≡ true
-typed_external m k i y h = entry_external k (then_is (slice_get (space k m) i) (type_of m k) y h).0
+typed_external m k i y h = entry_external k (and_then_is (slice_get (space k m) i) (type_of m k) y h).0
 
 pub bare_is : (x y : External) → same_but_limits x y ≡ true → bare x ≡ bare y
 bare_is (FuncOf t) (FuncOf u) h = ap FuncTy (func_type_is t u h)
 bare_is (TableOf t) (TableOf u) h = ap TableTy (ref_is t.ty u.ty h)
 bare_is (MemoryOf l) (MemoryOf k) h = refl
 bare_is (GlobalOf t) (GlobalOf u) h =
-    let b = both_are (same_type t.ty u.ty) (same_bool t.mutable u.mutable) h in
+    let b = and_parts (same_type t.ty u.ty) (same_bool t.mutable u.mutable) h in
     let e = type_is t.ty u.ty b.0 in
     let f = bool_is t.mutable u.mutable b.1 in
     ap GlobalTy (ap₂ (λ x y. record { ty = x; mutable = y }) e f)

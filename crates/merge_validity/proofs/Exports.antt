@@ -13,8 +13,8 @@ use Rattle.export_names.specs.Names.{new_name, renamed_behind, kept_behind, new_
 use Rattle.export_names.specs.Laws.{GivenNamesDiffer, ConflictsAreFirst}
 use Rattle.merge_terms.specs.Joined.{repeated_name}
 use Rattle.merge_terms.specs.Merged.{merged, map_of, all_exports, export_names, named_exports}
-use Rattle.merge_validity.proofs.Lists.{Has, map_at, map_back}
 use Rattle.merge_validity.proofs.ByPart.{by_part_back}
+use Rattle.base_lists.proofs.Places.{map_at, map_from, Has}
 
 pub exports_are : (parts : List Part) (names : List (Option Text)) → (merged parts names).exports ≡ named_exports (all_exports parts) names
 unfolding merged
@@ -67,7 +67,7 @@ export_from parts names j e h =
     let r = named_back (all_exports parts) names j e (ap (λ z. slice_get z j) (sym (exports_are parts names)) ∙ h) in
     let f = by_part_back (λ p m. map (new_export (map_of parts p m)) m.exports) 0 parts r.1.0 r.0 r.1.1 in
     let z : 0 + f.part ≡ f.part = omega arith in
-    let x = map_back (new_export (map_of parts f.part f.«module»)) f.«module».exports f.place r.0 (ap (λ p. slice_get (map (new_export (map_of parts p f.«module»)) f.«module».exports) f.place) (sym z) ∙ f.got) in
+    let x = map_from (new_export (map_of parts f.part f.«module»)) f.«module».exports f.place r.0 (ap (λ p. slice_get (map (new_export (map_of parts p f.«module»)) f.«module».exports) f.place) (sym z) ∙ f.got) in
     (f.part, f.«module», f.place, x.0, f.is_part, x.1, r.2 ∙ ap (λ (e : Export). e.desc) (sym x.2))
 
 -- ---- names that differ ----
