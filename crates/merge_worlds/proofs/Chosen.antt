@@ -1,1 +1,0 @@
--- Lists whose elements all have a result, and what is chosen from lists.
