@@ -5,6 +5,7 @@ use Rattle.std.proofs.Common.{ℕ, zero, suc, ◌-◌, List, [], ◌∷◌, ◌+
 use Rattle.wasm_tree.specs.declared.space.Space.{Space}
 use Rattle.wasm_tree.specs.Operands.{same_space}
 use Rattle.base_lists.specs.Options.{◌>>=◌}
+pub use Rattle.base_lists.specs.Places.{first_place, places, count_of}
 use Rattle.std.specs.Prelude.{nat_eq, max, min}
 use Rattle.wasm_tree.specs.declared.types.Limits.{Limits}
 use Rattle.wasm_tree.specs.declared.module.Import.{Import}
@@ -38,20 +39,6 @@ same_text _ _ = false
 
 abbrev pub same_pair : Pair → Pair → Bool
 same_pair p q = same_text p.0 q.0 && same_text p.1 q.1
-
--- the first place from n on whose element passes the test
-abbrev pub first_place : {A : Type 0} → (A → Bool) → List A → ℕ → Option ℕ
-first_place is [] n = None
-first_place is (x ∷ xs) n = cond (is x) (Some n) (first_place is xs (suc n))
-
--- the places, counted from n, whose element passes the test
-abbrev pub places : {A : Type 0} → (A → Bool) → List A → ℕ → List ℕ
-places is [] n = []
-places is (x ∷ xs) n = cond (is x) (n ∷ places is xs (suc n)) (places is xs (suc n))
-
-abbrev pub count_of : {A : Type 0} → (A → Bool) → List A → ℕ
-count_of is [] = 0
-count_of is (x ∷ xs) = cond (is x) (suc (count_of is xs)) (count_of is xs)
 
 -- ---- kinds ----
 

@@ -4,6 +4,8 @@ use Rattle.std.proofs.Common.{ℕ, zero, suc, ◌+◌, ◌-◌, ◌*◌, List, [
 use Rattle.wasm_tree.specs.declared.space.Space.{Space}
 use Rattle.wasm_tree.specs.declared.space.Space.TheVariants.{Types, Functions, Tables, Memories, Globals, ElementSegments, DataSegments}
 use Rattle.base_lists.specs.Options.{◌>>=◌}
+pub use Rattle.base_lists.specs.Options.{all_there}
+pub use Rattle.base_lists.specs.Places.{numbers}
 use Rattle.std.specs.Prelude.{nat_le}
 use Rattle.wasm_tree.specs.declared.types.FuncType.{FuncType}
 use Rattle.wasm_tree.specs.declared.types.Limits.{Limits}
@@ -114,10 +116,6 @@ own_key m i = own_key_of m (pair_of i) i.desc
 abbrev pub outside_thing : Owned → List Part → Site → Option Thing
 outside_thing owned parts s = module_at parts s.part >>= λ m. import_at parts s >>= λ i. own_key m i >>= λ key. given (owned_at owned key)
 
-abbrev pub numbers : (from count : ℕ) → List ℕ
-numbers n zero = []
-numbers n (suc count) = n ∷ numbers (suc n) count
-
 -- the addresses of what a part defines
 abbrev pub defined_addresses : Environment → List Part → Space → ℕ → Module → List ℕ
 defined_addresses env parts k p m = numbers (base env parts k p) (defined_count k m)
@@ -133,10 +131,6 @@ thing_of env parts (Outside s) = outside_thing (owned_of env) parts s
 -- what an import stands for
 abbrev pub imported_thing : Environment → List Part → Site → Option Thing
 imported_thing env parts s = end_of parts s >>= (thing_of env parts)
-
-abbrev pub all_there : {A B : Type 0} → (A → Option B) → List A → Option (List B)
-all_there f [] = Some []
-all_there f (x ∷ xs) = f x >>= λ y. all_there f xs >>= λ ys. Some (y ∷ ys)
 
 -- the addresses of an index space: of the imports, then of what is defined
 abbrev pub space : Environment → List Part → Space → ℕ → Module → Option (List ℕ)
