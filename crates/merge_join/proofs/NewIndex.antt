@@ -7,7 +7,8 @@ use Rattle.std.proofs.lemmas.List.{map-append}
 use Rattle.wasm_tree.specs.declared.module.Module.{Module}
 use Rattle.wasm_meaning.specs.World.{defined_before, numbers}
 use Rattle.wasm_meaning.specs.Linking as linking
-use Rattle.wasm_meaning.specs.Linking.{Part, Site, Entity, places, module_at, kind_of_export, index_of_export, imports_of, imported_as, linked_end}
+use Rattle.wasm_meaning.specs.Linking.{Part, Site, Entity, places, module_at, imports_of, imported_as, linked_end}
+use Rattle.wasm_tree.specs.Spaces.{index_of_export, space_of_export}
 use Rattle.merge_terms.specs.declared.links.End.{End}
 use Rattle.merge_terms.specs.Linked.{end_entry}
 use Rattle.merge_terms.specs.Merged.{staying_of, place_of_end, entry_of, end_from, new_index}
@@ -16,7 +17,7 @@ use Rattle.merge_join.proofs.Counts.{imported_is}
 use Rattle.merge_join.proofs.Ends.{place_is}
 use Rattle.merge_join.proofs.NumberLists.{numbers_split}
 
-kind_is : (k : Space) (i : ℕ) → kind_of_export (entry_of k i) ≡ k
+kind_is : (k : Space) (i : ℕ) → space_of_export (entry_of k i) ≡ k
 kind_is Functions i = refl
 kind_is Tables i = refl
 kind_is Memories i = refl
@@ -34,7 +35,7 @@ the_entry p k i = record { part = p; what = entry_of k i }
 -- the import that an entry is
 imported_entry : (ps : List Part) (p : ℕ) (k : Space) (i : ℕ) (m : Module) → module_at ps p ≡ Some m → imported_as ps (the_entry p k i) ≡ option_and_then (λ n. Some (site p n)) (slice_get (imports_of k m) i)
 imported_entry ps p k i m at =
-    ap (λ o. option_and_then (λ x. option_and_then (λ n. Some (site p n)) (slice_get (imports_of (kind_of_export (entry_of k i)) x) (index_of_export (entry_of k i)))) o) at
+    ap (λ o. option_and_then (λ x. option_and_then (λ n. Some (site p n)) (slice_get (imports_of (space_of_export (entry_of k i)) x) (index_of_export (entry_of k i)))) o) at
     ∙ ap (λ z. option_and_then (λ n. Some (site p n)) (slice_get (imports_of z m) (index_of_export (entry_of k i)))) (kind_is k i)
     ∙ ap (λ j. option_and_then (λ n. Some (site p n)) (slice_get (imports_of k m) j)) (index_is k i)
 

@@ -2,7 +2,7 @@
 
 ghost use Rattle.std.specs.Prelude.{◌≡◌};
 ghost use Rattle.wasm_tree.specs.Operands.{same_space};
-ghost use Rattle.wasm_meaning.specs.Linking.{kind_of_import};
+ghost use Rattle.wasm_tree.specs.Spaces.{space_of_import};
 ghost use Rattle.wasm_meaning.specs.World as world;
 ghost use Rattle.merge_join.specs.Words.{the_kind};
 
@@ -18,7 +18,7 @@ pub(crate) enum Kind {
 
 /// Whether what is imported is of a kind.
 pub(crate) fn is_of(desc: &ImportDesc, kind: Kind) -> bool
-    ensures { result ≡ same_space (the_kind kind) (kind_of_import desc.now) }
+    ensures { result ≡ same_space (the_kind kind) (space_of_import desc.now) }
 {
     match desc {
         ImportDesc::Func(_) => kind == Kind::Functions,

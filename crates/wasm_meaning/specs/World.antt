@@ -31,7 +31,8 @@ use Rattle.wasm_meaning.specs.State.{Text, Pair, RefVal, FuncRef, Val, Num, Ref,
 use Rattle.wasm_meaning.specs.Values.{same_ref, same_type, same_func_type, null_of, declared, ref_of, num_of}
 use Rattle.wasm_meaning.specs.Control.{type_at}
 use Rattle.wasm_meaning.specs.Step.{changed, no_items}
-use Rattle.wasm_meaning.specs.Linking.{Part, Site, End, Defined, Outside, Entity, Read, module_at, import_at, imports_of, pair_of, kind_of_export, index_of_export, end_of, read_of, sites}
+use Rattle.wasm_meaning.specs.Linking.{Part, Site, End, Defined, Outside, Entity, Read, module_at, import_at, imports_of, pair_of, end_of, read_of, sites}
+use Rattle.wasm_tree.specs.Spaces.{index_of_export, space_of_export}
 use Rattle.wasm_meaning.specs.Environment.{Environment, Thing, FuncAt, TableAt, MemoryAt, GlobalAt, OwnKey, FuncKey, TableKey, MemoryKey, GlobalKey, Owned, owned_of, owned_at, own_funcs, own_tables, own_memories, own_globals, all_of}
 
 -- modules with names, whose imports are joined by name, and what the embedder may use: names, each with the entity for which it stands
@@ -122,7 +123,7 @@ defined_addresses env parts k p m = numbers (base env parts k p) (defined_count 
 
 abbrev pub defined_thing : Environment → List Part → Entity → Option Thing
 defined_thing env parts e =
-    module_at parts e.part >>= λ m. let k = kind_of_export e.what in slice_get (defined_addresses env parts k e.part m) (index_of_export e.what - length (imports_of k m)) >>= thing_at k
+    module_at parts e.part >>= λ m. let k = space_of_export e.what in slice_get (defined_addresses env parts k e.part m) (index_of_export e.what - length (imports_of k m)) >>= thing_at k
 
 abbrev pub thing_of : Environment → List Part → End → Option Thing
 thing_of env parts (Defined e) = defined_thing env parts e

@@ -3,7 +3,8 @@ use Rattle.std.proofs.lemmas.Option.{slice_get_read}
 use Rattle.std.proofs.lemmas.List.{map_push, take_all}
 use Rattle.wasm_tree.specs.declared.module.Module.{Module}
 use Rattle.wasm_meaning.specs.World.{numbers}
-use Rattle.wasm_meaning.specs.Linking.{places, has_kind, kind_of_import, imports_of}
+use Rattle.wasm_meaning.specs.Linking.{places, has_kind, imports_of}
+use Rattle.wasm_tree.specs.Spaces.{space_of_import}
 use Rattle.merge_terms.specs.Parts.{named_modules}
 use Rattle.merge_terms.specs.Merged.{new_index}
 use Rattle.merge_join.specs.Words.{the_kind, IsEnd}
@@ -54,7 +55,7 @@ place-requires c =
     let imports = c.as_slice-imports.result.now in
     let import = c.index-imports-place.result in
     let here : slice_get m.imports i ≡ Some import = ap (λ is. slice_get is i) (sym c.as_slice-imports.ensures) ∙ place_is_get imports i ∙ slice_get_read imports (length imports) i import refl c.loop-place-test.true c.index-imports-place.is in
-    let kind : the_kind c.args.space.now.kind ≡ kind_of_import import.desc = kind_from (the_kind c.args.space.now.kind) (kind_of_import import.desc) (ap (has_kind (the_kind c.args.space.now.kind)) c.index-imports-place.is ∙ sym c.is_of.ensures ∙ c.if-not-is_of.false) in
+    let kind : the_kind c.args.space.now.kind ≡ space_of_import import.desc = kind_from (the_kind c.args.space.now.kind) (space_of_import import.desc) (ap (has_kind (the_kind c.args.space.now.kind)) c.index-imports-place.is ∙ sym c.is_of.ensures ∙ c.if-not-is_of.false) in
     subst (λ k. IsEnd ps k c.end_of.result) (sym kind) (entry_there ps c.args.part i m import c.end_of.result c.requires.linked.no_fault c.module_of.ensures.at here c.end_of.ensures)
 
 pub returns : goal.returns
