@@ -95,7 +95,10 @@ impl Instr {
                 }),
                 second: None,
             },
-            Instr::CallIndirect { ty, table } => two(named(Space::Types, *ty), named(Space::Tables, *table)),
+            Instr::CallIndirect { ty, table } => two(
+                named(Space::Types, *ty),
+                named(Space::Tables, *table),
+            ),
             Instr::GlobalGet(global) | Instr::GlobalSet(global) => one(Space::Globals, *global),
             Instr::TableGet(table)
             | Instr::TableSet(table)
@@ -108,15 +111,27 @@ impl Instr {
             }
             Instr::RefFunc(func) => one(Space::Functions, *func),
             Instr::MemoryInit { segment, memory } => {
-                two(named(Space::DataSegments, *segment), named(Space::Memories, *memory))
+                two(
+                    named(Space::DataSegments, *segment),
+                    named(Space::Memories, *memory),
+                )
             }
             Instr::DataDrop(segment) => one(Space::DataSegments, *segment),
-            Instr::MemoryCopy { to, from } => two(named(Space::Memories, *to), named(Space::Memories, *from)),
+            Instr::MemoryCopy { to, from } => two(
+                named(Space::Memories, *to),
+                named(Space::Memories, *from),
+            ),
             Instr::TableInit { segment, table } => {
-                two(named(Space::ElementSegments, *segment), named(Space::Tables, *table))
+                two(
+                    named(Space::ElementSegments, *segment),
+                    named(Space::Tables, *table),
+                )
             }
             Instr::ElemDrop(segment) => one(Space::ElementSegments, *segment),
-            Instr::TableCopy { to, from } => two(named(Space::Tables, *to), named(Space::Tables, *from)),
+            Instr::TableCopy { to, from } => two(
+                named(Space::Tables, *to),
+                named(Space::Tables, *from),
+            ),
             Instr::Unreachable
             | Instr::Nop
             | Instr::Br(_)

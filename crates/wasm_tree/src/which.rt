@@ -9,6 +9,7 @@ pub const MOST_INPUT_BYTES: u32 = 16_777_216;
 pub const MOST_PARTS: u32 = 1_000;
 /// The most types of a module, in a file or in an output; so for those that follow.
 pub const MOST_TYPES: u32 = 1_000_000;
+
 pub const MOST_IMPORTS: u32 = 1_000_000;
 /// The most functions that a module defines.
 pub const MOST_FUNCTIONS: u32 = 1_000_000;
@@ -18,8 +19,11 @@ pub const MOST_TABLES: u32 = 10_000;
 pub const MOST_MEMORIES: u32 = 10_000;
 /// The most globals that a module defines.
 pub const MOST_GLOBALS: u32 = 1_000_000;
+
 pub const MOST_EXPORTS: u32 = 1_000_000;
+
 pub const MOST_ELEMENT_SEGMENTS: u32 = 300_000;
+
 pub const MOST_DATA_SEGMENTS: u32 = 300_000;
 /// The most blocks, loops and ifs that are open at once in a body.
 pub const MOST_NESTING: u32 = 1_000;
