@@ -1,15 +1,14 @@
 use Rattle.std.proofs.Common.{◌∙◌, ap, length, get_or, None, arith}
 use Rattle.merge_terms.specs.Parts.{named_modules}
-use Rattle.merge_join.specs.Words.{the_kind}
 use Rattle.merge_join.specs.Spaces.{staying_place}
 use Rattle.merge_join.proofs.Rows.{row_of}
-use Rattle.merge_join.proofs.spaces.Space.staying_at.Goals as goal
+use Rattle.merge_join.proofs.spaces.MergedSpace.staying_at.Goals as goal
 
 pub bounds-as_slice-part : goal.bounds-as_slice-part
 bounds-as_slice-part c =
     let s = c.args.self.now in
     let ps = named_modules s.parts.now in
-    let r = row_of (staying_place ps (the_kind s.kind)) ps s.staying c.args.part c.args.import s.is.staying_are c.requires in
+    let r = row_of (staying_place ps s.space) ps s.staying c.args.part c.args.import s.is.staying_are c.requires in
     let w = r.part_within in
     let e = ap length c.as_slice.ensures in omega arith
 
@@ -17,7 +16,7 @@ pub offset_bounds-as_slice-part : goal.offset_bounds-as_slice-part
 offset_bounds-as_slice-part c =
     let s = c.args.self.now in
     let ps = named_modules s.parts.now in
-    let r = row_of (staying_place ps (the_kind s.kind)) ps s.staying c.args.part c.args.import s.is.staying_are c.requires in
+    let r = row_of (staying_place ps s.space) ps s.staying c.args.part c.args.import s.is.staying_are c.requires in
     let w = r.part_within in
     let e = ap length c.as_slice.ensures in omega (arith, c.as_slice.type_inv.1)
 
@@ -25,7 +24,7 @@ pub bounds-as_slice-import : goal.bounds-as_slice-import
 bounds-as_slice-import c =
     let s = c.args.self.now in
     let ps = named_modules s.parts.now in
-    let r = row_of (staying_place ps (the_kind s.kind)) ps s.staying c.args.part c.args.import s.is.staying_are c.requires in
+    let r = row_of (staying_place ps s.space) ps s.staying c.args.part c.args.import s.is.staying_are c.requires in
     let row = c.index-as_slice-part.result in
     let is = c.index-as_slice-part.is ∙ ap (λ x. get_or x c.args.part row) c.as_slice.ensures in
     let e = ap length c.as_slice-2.ensures in
@@ -36,7 +35,7 @@ pub offset_bounds-as_slice-import : goal.offset_bounds-as_slice-import
 offset_bounds-as_slice-import c =
     let s = c.args.self.now in
     let ps = named_modules s.parts.now in
-    let r = row_of (staying_place ps (the_kind s.kind)) ps s.staying c.args.part c.args.import s.is.staying_are c.requires in
+    let r = row_of (staying_place ps s.space) ps s.staying c.args.part c.args.import s.is.staying_are c.requires in
     let row = c.index-as_slice-part.result in
     let is = c.index-as_slice-part.is ∙ ap (λ x. get_or x c.args.part row) c.as_slice.ensures in
     let e = ap length c.as_slice-2.ensures in
@@ -47,7 +46,7 @@ pub returns : goal.returns
 returns c =
     let s = c.args.self.now in
     let ps = named_modules s.parts.now in
-    let r = row_of (staying_place ps (the_kind s.kind)) ps s.staying c.args.part c.args.import s.is.staying_are c.requires in
+    let r = row_of (staying_place ps s.space) ps s.staying c.args.part c.args.import s.is.staying_are c.requires in
     let row = c.index-as_slice-part.result in
     let is = c.index-as_slice-part.is ∙ ap (λ x. get_or x c.args.part row) c.as_slice.ensures in
     ap (λ x. get_or x c.args.import None) c.as_slice-2.ensures ∙ r.entry_is row None is
