@@ -14,7 +14,8 @@ use Rattle.std.proofs.lemmas.List.{append_cancel_left, length-map}
 use Rattle.std.proofs.lemmas.Option.{slice_get-map}
 use Rattle.export_names.specs.Names.{numbered, among}
 use Rattle.export_names.proofs.Among.{same_from}
-use Rattle.base_lists.proofs.Pigeons.{Has, pigeons}
+use Rattle.base_lists.proofs.Pigeons.{pigeons}
+use Rattle.base_lists.proofs.Places.{Has}
 
 -- what a test finds
 found : {A : Type 0} (test : A → Bool) (xs : List A) → list_any test xs ≡ true → (x : A) × Has xs x × (test x ≡ true)

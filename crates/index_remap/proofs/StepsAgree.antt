@@ -1,6 +1,6 @@
 -- One step of each agrees.
 use Rattle.std.proofs.Common.{◌≡◌, ℕ, List, [], ◌∷◌, refl, ap, subst, ◌∙◌, true}
-use Rattle.wasm_tree.specs.declared.space.Space.TheVariants.{Functions, Tables, Globals, ElementSegments, DataSegments}
+use Rattle.wasm_tree.specs.declared.space.Space.TheVariants as space
 use Rattle.wasm_tree.specs.declared.types.ValType.{ValType}
 use Rattle.wasm_tree.specs.declared.instr.Instr.{Instr}
 use Rattle.wasm_tree.specs.declared.instr.Instr.TheOpen.{Instr-F}
@@ -63,7 +63,7 @@ module _ (R : Pairing) (apart : OneToOneWhereWritten R) where
     mems = r.mems;
     elems = r.elems;
     datas = r.datas;
-    globals = write_rel R apart Globals refl (GlobalRel R) s.globals t.globals g h n (λ c d m. r.globals m) q _ _;
+    globals = write_rel R apart space.Globals refl (GlobalRel R) s.globals t.globals g h n (λ c d m. r.globals m) q _ _;
   }
   changed_rel {s} {t} r (set_memory {m = m} n) = record {
     types = r.types;
@@ -73,7 +73,7 @@ module _ (R : Pairing) (apart : OneToOneWhereWritten R) where
     globals = r.globals;
     elems = r.elems;
     datas = r.datas;
-    mems = write_rel R apart Memories refl (λ m n. m ≡ n) s.mems t.mems m m n (λ c d q. r.mems q) refl _ _;
+    mems = write_rel R apart space.Memories refl (λ m n. m ≡ n) s.mems t.mems m m n (λ c d q. r.mems q) refl _ _;
   }
   changed_rel {s} {t} r (set_table {t = x} {u = y} n q) = record {
     types = r.types;
@@ -83,7 +83,7 @@ module _ (R : Pairing) (apart : OneToOneWhereWritten R) where
     globals = r.globals;
     elems = r.elems;
     datas = r.datas;
-    tables = write_rel R apart Tables refl (TableRel R) s.tables t.tables x y n (λ c d q. r.tables q) q _ _;
+    tables = write_rel R apart space.Tables refl (TableRel R) s.tables t.tables x y n (λ c d q. r.tables q) q _ _;
   }
   changed_rel {s} {t} r (drop_elem n) = record {
     types = r.types;
@@ -93,7 +93,7 @@ module _ (R : Pairing) (apart : OneToOneWhereWritten R) where
     globals = r.globals;
     tables = r.tables;
     datas = r.datas;
-    elems = write_rel R apart ElementSegments refl (ElemRel R) s.elems t.elems no_items no_items n (λ c d q. r.elems q) (record { items = nil }) _ _;
+    elems = write_rel R apart space.ElementSegments refl (ElemRel R) s.elems t.elems no_items no_items n (λ c d q. r.elems q) (record { items = nil }) _ _;
   }
   changed_rel {s} {t} r (drop_data n) = record {
     types = r.types;
@@ -103,7 +103,7 @@ module _ (R : Pairing) (apart : OneToOneWhereWritten R) where
     globals = r.globals;
     tables = r.tables;
     elems = r.elems;
-    datas = write_rel R apart DataSegments refl (λ d e. d.bytes ≡ e.bytes) s.datas t.datas no_bytes no_bytes n (λ c d q. r.datas q) refl _ _;
+    datas = write_rel R apart space.DataSegments refl (λ d e. d.bytes ≡ e.bytes) s.datas t.datas no_bytes no_bytes n (λ c d q. r.datas q) refl _ _;
   }
 
   pub frame_rel : {f g : Frame} {h k : Body} → FrameRel R f g → BodyRel R f.inst g.inst h k → FrameRel R (frame_of f h) (frame_of g k)
@@ -119,7 +119,7 @@ module _ (R : Pairing) (apart : OneToOneWhereWritten R) where
   pub data TopView (C : Store → Store → List Entry → List Entry → Type 0) (s t : Store) : List Entry → List Entry → Type 0 where
     top_none : C s t [] [] → TopView C s t [] []
     top_mark : {es fs : List Entry} → C s t es fs → TopView C s t (Mark ∷ es) (Mark ∷ fs)
-    top_opening : {xs ys : List ℕ} {es fs : List Entry} → ListRel (R.of Functions) xs ys → C s t es fs → TopView C s t (Opening xs ∷ es) (Opening ys ∷ fs)
+    top_opening : {xs ys : List ℕ} {es fs : List Entry} → ListRel (R.of space.Functions) xs ys → C s t es fs → TopView C s t (Opening xs ∷ es) (Opening ys ∷ fs)
     top_waiting : {ts : List ValType} {es fs : List Entry} → C s t es fs → TopView C s t (Waiting ts ∷ es) (Waiting ts ∷ fs)
     top_ended : {vs ws : List Val} {es fs : List Entry} → ListRel (ValRel R) vs ws → C s t es fs → TopView C s t (Ended vs ∷ es) (Ended ws ∷ fs)
     top_growing : {g h : Growth} {es fs : List Entry} → GrowthRel R g h → C s t es fs → TopView C s t (Growing g ∷ es) (Growing h ∷ fs)
@@ -135,7 +135,7 @@ module _ (R : Pairing) (apart : OneToOneWhereWritten R) where
     pub marks : {s t : Store} {es fs : List Entry} → B s t es fs → ResRel (PairRel (◌≡◌ {A = Caller}) (C s t)) (to_mark es) (to_mark fs)
     pub marked : {s t : Store} {es fs : List Entry} → C s t es fs → is_mark es ≡ is_mark fs
     pub gives : {s t : Store} {vs ws : List Val} {es fs : List Entry} → StoreRel R s t → ListRel (ValRel R) vs ws → C s t es fs → ResRel (NextRel R B) (give s vs es) (give t ws fs)
-    pub enters : {s t : Store} {a b : ℕ} {u : FuncType} {vs ws : List Val} {es fs : List Entry} → StoreRel R s t → R.of Functions a b → type_at s a ≡ Gives u → Fits u.params vs → ListRel (ValRel R) vs ws → C s t es fs → ResRel (NextRel R B) (enter_at s a vs es) (enter_at t b ws fs)
+    pub enters : {s t : Store} {a b : ℕ} {u : FuncType} {vs ws : List Val} {es fs : List Entry} → StoreRel R s t → R.of space.Functions a b → type_at s a ≡ Gives u → Fits u.params vs → ListRel (ValRel R) vs ws → C s t es fs → ResRel (NextRel R B) (enter_at s a vs es) (enter_at t b ws fs)
 
   module _ (B C : Store → Store → List Entry → List Entry → Type 0) (steady : (s t : Store) (es fs : List Entry) → C s t es fs → B s t es fs) (push : (s t : Store) (e f : Entry) (es fs : List Entry) → EntryRel R e f → C s t es fs → B s t (e ∷ es) (f ∷ fs)) where
     pub enter_rel : {s t : Store} {f g : Func} {vs ws : List Val} {es fs : List Entry} → StoreRel R s t → FuncRel R f g → ListRel (ValRel R) vs ws → C s t es fs → NextRel R B (enter s f vs es) (enter t g ws fs)

@@ -14,12 +14,12 @@ use Rattle.wasm_tree.specs.declared.module.ImportDesc.TheVariants as im
 use Rattle.wasm_tree.specs.declared.module.ConstExpr.{ConstExpr}
 use Rattle.wasm_tree.specs.declared.module.ConstExpr.TheVariants as const
 use Rattle.wasm_tree.specs.declared.module.Module.{Module}
-use Rattle.wasm_tree.specs.Spaces.{globals_of, global_of, imported_globals}
+use Rattle.wasm_tree.specs.Spaces.{globals_of, global_of, imported_globals, space_of_import}
 use Rattle.wasm_typing.specs.Typing.{only}
 use Rattle.wasm_valid.specs.Constants.{const_type}
 use Rattle.wasm_valid.specs.Validity.{IsValid}
 use Rattle.wasm_meaning.specs.Linking as linking
-use Rattle.wasm_meaning.specs.Linking.{Part, Site, places, kind_of_import, has_kind, space_index, module_at, import_at, imports_of, read_of}
+use Rattle.wasm_meaning.specs.Linking.{Part, Site, places, has_kind, space_index, module_at, import_at, imports_of, read_of}
 use Rattle.index_remap.specs.Renumbered.{new_const}
 use Rattle.remap_typing.proofs.Lists.{left_true, right_true, then_there, only_true}
 use Rattle.merge_terms.specs.declared.links.Read.{Read}
@@ -36,7 +36,7 @@ use Rattle.merge_join.specs.Reads.{AreReads, HasType}
 
 -- ---- an imported global ----
 
-kinds_agree : (d : ImportDesc) → is_some (global_of d) ≡ same_space Globals (kind_of_import d)
+kinds_agree : (d : ImportDesc) → is_some (global_of d) ≡ same_space Globals (space_of_import d)
 kinds_agree (im.Func t) = refl
 kinds_agree (im.Table t) = refl
 kinds_agree (im.Memory l) = refl

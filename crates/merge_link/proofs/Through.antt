@@ -14,6 +14,7 @@ use Rattle.wasm_tree.specs.declared.module.Module.{Module}
 use Rattle.wasm_meaning.specs.Paths as paths
 use Rattle.wasm_meaning.specs.Paths.Path.{ends, goes}
 use Rattle.wasm_meaning.specs.Linking as linking
+use Rattle.wasm_tree.specs.Spaces.{space_of_import}
 use Rattle.merge_terms.specs.declared.parts.Part.{Part}
 use Rattle.merge_terms.specs.declared.links.Read.{Read}
 use Rattle.merge_terms.specs.Faults as faults
@@ -132,5 +133,5 @@ fixed_is lp law s i e there end =
     by (im.Table t) is m at tree = refl
     by (im.Memory t) is m at tree = refl
     by (im.Global t) is m at tree =
-        let kind : linking.has_kind Globals i ≡ true = ap (λ d. same_space Globals (linking.kind_of_import d)) is in
+        let kind : linking.has_kind Globals i ≡ true = ap (λ d. same_space Globals (space_of_import d)) is in
         ap (when_fixed t.mutable) (sym (ap (λ (o : Option Module). option_and_then (λ x. linking.read_of lp s.part (const.Global (linking.space_index x.imports s.import Globals))) o) at ∙ through lp law s i m e at tree kind end))

@@ -6,6 +6,7 @@ use Rattle.base_lists.specs.Options.{◌>>=◌}
 use Rattle.std.specs.List.{flat_map}
 use Rattle.wasm_tree.specs.declared.which.Which.{Which}
 use Rattle.wasm_tree.specs.declared.which.Which.TheVariants as which
+use Rattle.wasm_tree.specs.Limits.{limit}
 use Rattle.wasm_tree.specs.declared.module.Module.{Module}
 use Rattle.wasm_meaning.specs.State.{Text}
 use Rattle.wasm_meaning.specs.World.{defined_before}
@@ -17,22 +18,22 @@ use Rattle.merge_terms.specs.Merged.{merged, export_names}
 use Rattle.merge_terms.specs.declared.faults.JoinFault.{JoinFault}
 use Rattle.merge_terms.specs.declared.faults.JoinFault.TheVariants.{ExportConflict, TooMany}
 
--- a count above its limit, or what comes after it
-abbrev pub or_above : (count limit : ℕ) → Which → Option Which → Option Which
-or_above count limit which rest = cond (nat_lt limit count) (Some which) rest
+-- the quantity, where its count is above its limit, or what comes after it
+abbrev pub or_above : (count : ℕ) → Which → Option Which → Option Which
+or_above count which rest = cond (nat_lt (limit which) count) (Some which) rest
 
 -- the first count above its limit
 unfoldable pub over_limit : Module → Option Which
 over_limit m =
-    or_above (length m.types) 1000000 which.Types
-    (or_above (length m.imports) 1000000 which.Imports
-    (or_above (length m.funcs) 1000000 which.Functions
-    (or_above (length m.tables) 10000 which.Tables
-    (or_above (length m.mems) 10000 which.Memories
-    (or_above (length m.globals) 1000000 which.Globals
-    (or_above (length m.exports) 1000000 which.Exports
-    (or_above (length m.elems) 300000 which.ElementSegments
-    (or_above (length m.datas) 300000 which.DataSegments
+    or_above (length m.types) which.Types
+    (or_above (length m.imports) which.Imports
+    (or_above (length m.funcs) which.Functions
+    (or_above (length m.tables) which.Tables
+    (or_above (length m.mems) which.Memories
+    (or_above (length m.globals) which.Globals
+    (or_above (length m.exports) which.Exports
+    (or_above (length m.elems) which.ElementSegments
+    (or_above (length m.datas) which.DataSegments
     None))))))))
 
 -- the merged module, its references declared, with the names that the mode gives its exports

@@ -11,29 +11,30 @@ use Rattle.wasm_tree.specs.declared.types.GlobalType.{GlobalType}
 use Rattle.wasm_tree.specs.declared.module.Import.{Import}
 use Rattle.wasm_tree.specs.declared.module.ConstExpr.{ConstExpr}
 use Rattle.wasm_tree.specs.declared.module.ConstExpr.TheVariants as const
+use Rattle.wasm_tree.specs.declared.module.ExportDesc.TheVariants as ex
 use Rattle.wasm_tree.specs.declared.module.GlobalDef.{GlobalDef}
 use Rattle.wasm_tree.specs.declared.module.Module.{Module}
-use Rattle.wasm_tree.specs.Spaces.{funcs_of, globals_of, imported_globals}
+use Rattle.wasm_tree.specs.Spaces.{funcs_of, globals_of, imported_globals, index_of_export}
 use Rattle.wasm_typing.specs.Typing.{only}
 use Rattle.wasm_valid.specs.declared.kinds.ItemKind.TheVariants as kind
 use Rattle.wasm_valid.specs.Constants.{const_type}
 use Rattle.wasm_meaning.specs.State.{Text}
 use Rattle.wasm_meaning.specs.Paths.{Next, Ends, Goes, Path, ends, goes}
 use Rattle.wasm_meaning.specs.Laws.{EndsArePaths, ReadsArePaths}
-use Rattle.wasm_meaning.specs.Linking.{Part, Site, Outside, Entity, Read, places, has_kind, space_index, module_at, imports_of, index_of_export, imported_as, end_of, initial, outside_read, end_step, read_step, read_of}
+use Rattle.wasm_meaning.specs.Linking.{Part, Site, Outside, Entity, Read, places, has_kind, space_index, module_at, imports_of, imported_as, global_import, end_of, initial, outside_read, end_step, read_step, read_of}
 use Rattle.index_remap.specs.declared.remap.Remap.{Remap}
 use Rattle.index_remap.specs.Renumbered.{fits_const, new_const}
 use Rattle.remap_typing.specs.Indices.{Indices, with_entry, ConstNamesOnly}
 use Rattle.remap_typing.specs.Trees.{TreesAgree, ReadsImport, ConstStands}
 use Rattle.remap_typing.proofs.Lists.{left_true, right_true, then_there, only_true, only_rest}
-use Rattle.merge_terms.specs.Merged.{merged, map_of, merged_read, merged_const, staying_of, place_of_end, end_from, new_index}
+use Rattle.merge_terms.specs.Merged.{merged, map_of, merged_read, merged_const, staying_of, place_of_end, new_index}
 use Rattle.merge_validity.specs.Entries.{HasEntry}
 use Rattle.merge_validity.proofs.Lists.{place_get, place_of, places_many, map_back, then_is, within, there, front}
 use Rattle.merge_validity.proofs.Entities.{of_import, own, imported, space, import_kind, GlobalTy, type_of, asked_type}
 use Rattle.merge_validity.proofs.Linked.{AreLinked, import_site}
 use Rattle.merge_validity.proofs.Ends.{EndsInside, EndsOutside, Landed, inside, outside}
 use Rattle.merge_validity.proofs.MergedSpaces.{imported_many}
-use Rattle.merge_validity.proofs.Entries.{inside_own, own_entry, outside_kind, outside_place, kind_there, some_there, entity_at, site_at, index_is, entry_import, joined_entry}
+use Rattle.merge_validity.proofs.Entries.{inside_own, own_entry, outside_kind, outside_place, kind_there, some_there, site_at, imported_is, index_imported, joined_entry}
 use Rattle.merge_validity.proofs.Agree.{ItemsHold, entry_at, entries_many, trees_agree}
 
 -- ---- constant expressions of one module ----
@@ -137,7 +138,7 @@ module _ (ends_law : EndsArePaths) (parts : List Part) (names : List (Option Tex
       let out : outside_read parts w.to ≡ Some q = ap (λ o. option_and_then {T = Module} {U = Read} (λ m. Some (record { part = w.to.part; expr = const.Global (space_index m.imports w.to.import Globals) })) o) m.1 in
       let space_lt : x < length (space k m.0) = within (space k m.0) x g at_x in
       let entry : new_index parts w.to.part k x ≡ place_of_end parts k (Outside w.to) =
-      index_is parts w.to.part k x (Outside w.to) (ap (end_from parts (entity_at w.to.part k x)) (entry_import parts w.to.part m.0 k x m.1 ∙ ap (λ o. option_and_then {T = ℕ} {U = Site} (λ n. Some (record { part = w.to.part; import = n })) o) p) ∙ w.stays.linked) in
+      index_imported parts w.to.part m.0 k x w.to.import (Outside w.to) m.1 p w.stays.linked in
       let in_map : slice_index (map_of parts w.to.part m.0).globals x ≡ place_of_end parts k (Outside w.to) = entry_at parts w.to.part m.0 k x space_lt ∙ entry in
       let few : place_of_end parts k (Outside w.to) < length (staying_of parts k) = within (staying_of parts k) _ w.to (outside_place parts k w.to w.stays h) in
       let many = imported_many parts names k in
@@ -168,7 +169,7 @@ module _ (ends_law : EndsArePaths) (parts : List Part) (names : List (Option Tex
       let n = there (imports_of Globals m) x (omega (arith, lt, many)) in
       let at : slice_get (imports_of Globals m) x ≡ Some n.0 = place_get (imports_of Globals m) x ∙ n.1 in
       let j = joined_entry ends_law parts links p m Globals x n.0 (GlobalTy g.global) is at (ap (λ o. option_and_then (type_of m Globals) o) g.at) in
-      let import : imported_as parts (entity_at p Globals x) ≡ Some (site_at p n.0) = entry_import parts p m Globals x is ∙ ap (λ o. option_and_then {T = ℕ} {U = Site} (λ n. Some (record { part = p; import = n })) o) at in
+      let import : global_import parts p x ≡ Some (site_at p n.0) = imported_is parts Globals p m (ex.Global x) x is refl refl ∙ ap (λ o. option_and_then {T = ℕ} {U = Site} (λ n. Some (record { part = p; import = n })) o) at in
       subst (Step (record { part = p; expr = const.Global x })) g.typed
       (lands (site_at p n.0) (ap (λ o. end_step parts (option_and_then (end_of parts) o)) import) j.lands)
     where

@@ -14,9 +14,10 @@ use Rattle.wasm_meaning.specs.Laws.{EndsArePaths}
 use Rattle.wasm_meaning.specs.Environment.{Owned, MemoryKey, owned_at}
 use Rattle.wasm_meaning.specs.Values.{same_ref, same_type, same_func_type}
 use Rattle.wasm_meaning.specs.World.{same_bool, given, defined_before, own_key, own_key_of, outside_thing}
-use Rattle.wasm_meaning.specs.Linking.{Part, Site, End, Defined, Outside, Entity, has_kind, import_at, imports_of, imported_as, kind_of_import, index_of_export, pair_of, sites_in, sites, end_of, linked_end, gathered}
+use Rattle.wasm_meaning.specs.Linking.{Part, Site, End, Defined, Outside, Entity, has_kind, import_at, imports_of, imported_as, pair_of, sites_in, sites, end_of, linked_end, gathered}
+use Rattle.wasm_tree.specs.Spaces.{index_of_export, space_of_import}
 use Rattle.merge_terms.specs.Faults.{External, FuncOf, TableOf, MemoryOf, GlobalOf, asked_at, found, suits, external_of, same_but_limits, meets_limits, stays}
-use Rattle.merge_terms.specs.Merged.{merged, merged_types, map_of, start_calls, starts, by_part, staying_of, place_of_end, end_from}
+use Rattle.merge_terms.specs.Merged.{merged, merged_types, map_of, start_calls, starts, by_part, staying_of, place_of_end}
 use Rattle.merge_validity.specs.Ended.{EndsInside, EndsOutside, Ended, inside, outside, added_count, LinkedImportsEnd, StayingImportsEndThere, SitesAreImports, StayingImportsHavePlaces, NewIndicesArePlaces, DefinedEntitiesHavePlaces, TypesHavePlaces, MergedModulesDefineAll}
 use Rattle.merge_validity.proofs.Lists.{then_is, place_get, there, within, past}
 use Rattle.merge_validity.proofs.Same.{both_are, cond_both, ref_same, type_same, func_type_same, kind_is}
@@ -26,7 +27,7 @@ use Rattle.merge_validity.proofs.TypePlaces.{type_stands}
 use Rattle.merge_validity.proofs.MergedSpaces.{extra, moved_own, own_is, all_own}
 use Rattle.merge_validity.proofs.Linked.{Suited, AreLinked, are_linked, sites_are, import_site, in_sites}
 use Rattle.merge_validity.proofs.Ends.{Gathers, gathers, end_outside, kind_asked, gathered_type, lands_inside, outside_is}
-use Rattle.merge_validity.proofs.Entries.{imports_many, inside_own, count_is, stays_is, staying_place, has_its_kind, entity_at, index_is, entry_import}
+use Rattle.merge_validity.proofs.Entries.{imports_many, inside_own, stays_is, staying_place, has_its_kind, index_imported, index_defined, end_defined}
 
 -- ---- what is the same but for limits ----
 
@@ -59,7 +60,7 @@ alike (GlobalOf t) (MemoryOf u) h = cc
 ends_inside : EndsArePaths → (parts : List Part) (s : Site) (i : Import) → import_at parts s ≡ Some i → (w : Suited parts s) (d : Entity) → w.end ≡ Defined d → EndsInside parts s i
 ends_inside law parts s i at w d e =
     let v = lands_inside law parts s w d e in
-    let k = kind_of_import i.desc in
+    let k = space_of_import i.desc in
     let q : kind_of (bare w.demand) ≡ k = kind_asked parts s i w.demand at w.asks in
     let o = inside_own parts k s (bare w.demand) q v in
     let n = index_of_export v.entity.what in
@@ -92,13 +93,13 @@ ends_inside law parts s i at w d e =
 
 -- ---- ends that stay ----
 
-memory_key : (m : Module) (pair : Pair) (d : ImportDesc) → kind_of_import d ≡ Memories → own_key_of m pair d ≡ Some (MemoryKey pair)
+memory_key : (m : Module) (pair : Pair) (d : ImportDesc) → space_of_import d ≡ Memories → own_key_of m pair d ≡ Some (MemoryKey pair)
 memory_key m pair (im.Memory l) e = refl
 memory_key m pair (im.Func t) e = absurd (let z = e in cc)
 memory_key m pair (im.Table t) e = absurd (let z = e in cc)
 memory_key m pair (im.Global t) e = absurd (let z = e in cc)
 
-memory_thing : (owned : Owned) (parts : List Part) (u : Site) (j : Import) → import_at parts u ≡ Some j → kind_of_import j.desc ≡ Memories → outside_thing owned parts u ≡ given (owned_at owned (MemoryKey (pair_of j)))
+memory_thing : (owned : Owned) (parts : List Part) (u : Site) (j : Import) → import_at parts u ≡ Some j → space_of_import j.desc ≡ Memories → outside_thing owned parts u ≡ given (owned_at owned (MemoryKey (pair_of j)))
 memory_thing owned parts u j at e =
     let m = import_site parts u j at in
     ap (λ o. option_and_then (λ m. option_and_then (λ i. option_and_then (λ key. given (owned_at owned key)) (own_key m i)) (import_at parts u)) o) m.1
@@ -108,15 +109,15 @@ memory_thing owned parts u j at e =
 -- what is gathered is one of the environment's own
 gathered_thing : (owned : Owned) (parts : List Part) (t : Site) (i : Import) → import_at parts t ≡ Some i → (g : Gathers parts t i) (b : Bool) → has_kind Memories i ≡ b → outside_thing owned parts t ≡ outside_thing owned parts g.to
 gathered_thing owned parts t i at g true e =
-    memory_thing owned parts t i at (sym (kind_is Memories (kind_of_import i.desc) e)) ∙ ap (λ p. given (owned_at owned (MemoryKey p))) g.pair
-    ∙ sym (memory_thing owned parts g.to g.stays.import g.stays.at (sym (kind_is Memories (kind_of_import g.stays.import.desc) (g.memory e))))
+    memory_thing owned parts t i at (sym (kind_is Memories (space_of_import i.desc) e)) ∙ ap (λ p. given (owned_at owned (MemoryKey p))) g.pair
+    ∙ sym (memory_thing owned parts g.to g.stays.import g.stays.at (sym (kind_is Memories (space_of_import g.stays.import.desc) (g.memory e))))
 gathered_thing owned parts t i at g false e = ap (outside_thing owned parts) (sym (g.other e))
 
-not_memory : (i : Import) → (kind_of_import i.desc ≡ Memories → ⊥) → has_kind Memories i ≡ false
+not_memory : (i : Import) → (space_of_import i.desc ≡ Memories → ⊥) → has_kind Memories i ≡ false
 not_memory i h = by (has_kind Memories i) refl
   where
     by : (b : Bool) → has_kind Memories i ≡ b → has_kind Memories i ≡ false
-    by true e = absurd (h (sym (kind_is Memories (kind_of_import i.desc) e)))
+    by true e = absurd (h (sym (kind_is Memories (space_of_import i.desc) e)))
     by false e = e
 
 ends_outside : EndsArePaths → (parts : List Part) → AreLinked parts → (s : Site) (i : Import) → import_at parts s ≡ Some i → (w : Suited parts s) (t : Site) → w.end ≡ Outside t → EndsOutside parts s i
@@ -127,8 +128,8 @@ ends_outside law parts links s i at w t e =
     let finds : asked_at parts t ≡ Some w.thing = ap (found parts) (sym e) ∙ w.finds in
     let v = links.imports g.to g.stays.import g.stays.at in
     let typed : bare v.demand ≡ bare w.demand = gathered_type parts t o.0 g w.thing v.demand o.1 finds v.asks (has_kind Memories o.0) refl ∙ sym w.same in
-    let q : kind_of (bare w.demand) ≡ kind_of_import i.desc = kind_asked parts s i w.demand at w.asks in
-    let kind : kind_of_import o.0.desc ≡ kind_of_import i.desc = sym (kind_asked parts t o.0 w.thing o.1 finds) ∙ ap kind_of (sym w.same) ∙ q in
+    let q : kind_of (bare w.demand) ≡ space_of_import i.desc = kind_asked parts s i w.demand at w.asks in
+    let kind : space_of_import o.0.desc ≡ space_of_import i.desc = sym (kind_asked parts t o.0 w.thing o.1 finds) ∙ ap kind_of (sym w.same) ∙ q in
     record {
       last = t;
       end = ended;
@@ -217,14 +218,10 @@ pub have_places : StayingImportsHavePlaces
 have_places parts s i at remains k e = place_get (staying_of parts k) (place_of_end parts k (Outside s)) ∙ staying_place parts k s i at remains (has_its_kind k i e)
 
 pub indices_are_places : NewIndicesArePlaces
-indices_are_places parts p m k x is = (λ n e h linked. index_is parts p k x e (ap (end_from parts (entity_at p k x)) (imported_at h) ∙ linked), λ h. index_is parts p k x (Defined (entity_at p k x)) (ap (end_from parts (entity_at p k x)) (imported_at h)))
-  where
-    imported_at : {o : Option ℕ} → slice_get (imports_of k m) x ≡ o → imported_as parts (entity_at p k x) ≡ option_and_then {T = ℕ} {U = Site} (λ n. Some (record { part = p; import = n })) o
-    imported_at h = entry_import parts p m k x is ∙ ap (λ o. option_and_then {T = ℕ} {U = Site} (λ n. Some (record { part = p; import = n })) o) h
+indices_are_places parts p m k x is = (λ n e at linked. index_imported parts p m k x n e is at linked, λ none. index_defined parts p m k x is none)
 
 pub defined_have_places : DefinedEntitiesHavePlaces
-unfolding place_of_end
-defined_have_places parts e m k is = ap (λ n. length (staying_of parts k) + (defined_before k parts e.part + (index_of_export e.what - n))) (count_is parts k e.part m is)
+defined_have_places parts e m k is = end_defined parts k e m is
 
 pub types_have_places : TypesHavePlaces
 types_have_places parts p m x t is h = place_get (merged_types parts) (slice_index (map_of parts p m).types x) ∙ type_stands parts p m x t is (sym (place_get m.types x) ∙ h)

@@ -6,7 +6,8 @@ use Rattle.wasm_tree.specs.declared.module.Import.{Import}
 use Rattle.wasm_tree.specs.declared.module.Module.{Module}
 use Rattle.wasm_meaning.specs.Paths.{Next, Ends, Path, ends, goes}
 use Rattle.wasm_meaning.specs.Laws.{EndsArePaths}
-use Rattle.wasm_meaning.specs.Linking.{Part, Site, End, Defined, Outside, Entity, module_at, import_at, imported_as, joined, entity_step, joined_step, import_step, sites, end_of, is_outside, same_memory, same_pair, pair_of, has_kind, stays_as, first_site, gathered_at, gathered, linked_end, kind_of_import}
+use Rattle.wasm_meaning.specs.Linking.{Part, Site, End, Defined, Outside, Entity, module_at, import_at, imported_as, joined, entity_step, joined_step, import_step, sites, end_of, is_outside, same_memory, same_pair, pair_of, has_kind, stays_as, first_site, gathered_at, gathered, linked_end}
+use Rattle.wasm_tree.specs.Spaces.{space_of_import}
 use Rattle.merge_terms.specs.Faults.{External, asked, asked_at, found, external_of}
 use Rattle.merge_validity.proofs.Lists.{then_is}
 use Rattle.merge_validity.proofs.Same.{both_are, cond_both, site_is, site_same, pair_is, pair_same, kind_is}
@@ -210,7 +211,7 @@ memory_type (TableTy t) h = cc
 memory_type MemoryTy h = refl
 memory_type (GlobalTy t) h = cc
 
-pub kind_asked : (parts : List Part) (u : Site) (j : Import) (x : External) → import_at parts u ≡ Some j → asked_at parts u ≡ Some x → kind_of (bare x) ≡ kind_of_import j.desc
+pub kind_asked : (parts : List Part) (u : Site) (j : Import) (x : External) → import_at parts u ≡ Some j → asked_at parts u ≡ Some x → kind_of (bare x) ≡ space_of_import j.desc
 kind_asked parts u j x at h =
     let m = import_site parts u j at in
     let a : asked_at parts u ≡ asked m.0 j.desc = ap (λ o. option_and_then (λ m. option_and_then (λ i. asked m i.desc) (slice_get m.imports u.import)) o) m.1 ∙ ap (λ o. option_and_then (λ i. asked m.0 i.desc) o) m.2 in
@@ -236,15 +237,15 @@ lands_inside law parts s w d e =
 -- where an import is a memory or not, the one to which it is gathered has its type
 pub gathered_type : (parts : List Part) (t : Site) (i : Import) (g : Gathers parts t i) (x z : External) → import_at parts t ≡ Some i → asked_at parts t ≡ Some x → asked_at parts g.to ≡ Some z → (b : Bool) → has_kind Memories i ≡ b → bare z ≡ bare x
 gathered_type parts t i g x z at h k true e =
-    let a : kind_of (bare x) ≡ Memories = kind_asked parts t i x at h ∙ sym (kind_is Memories (kind_of_import i.desc) e) in
-    let b : kind_of (bare z) ≡ Memories = kind_asked parts g.to g.stays.import z g.stays.at k ∙ sym (kind_is Memories (kind_of_import g.stays.import.desc) (g.memory e)) in
+    let a : kind_of (bare x) ≡ Memories = kind_asked parts t i x at h ∙ sym (kind_is Memories (space_of_import i.desc) e) in
+    let b : kind_of (bare z) ≡ Memories = kind_asked parts g.to g.stays.import z g.stays.at k ∙ sym (kind_is Memories (space_of_import g.stays.import.desc) (g.memory e)) in
     memory_type (bare z) b ∙ sym (memory_type (bare x) a)
 gathered_type parts t i g x z at h k false e =
     let both : Some z ≡ Some x = sym k ∙ ap (asked_at parts) (g.other e) ∙ h in
     let same : z ≡ x = cc in ap bare same
 
 gathered_same : (parts : List Part) (t : Site) (i : Import) (g : Gathers parts t i) (x : External) → import_at parts t ≡ Some i → asked_at parts t ≡ Some x → (kind_of (bare x) ≡ Memories → ⊥) → (b : Bool) → has_kind Memories i ≡ b → g.to ≡ t
-gathered_same parts t i g x at h other true e = absurd (other (kind_asked parts t i x at h ∙ sym (kind_is Memories (kind_of_import i.desc) e)))
+gathered_same parts t i g x at h other true e = absurd (other (kind_asked parts t i x at h ∙ sym (kind_is Memories (space_of_import i.desc) e)))
 gathered_same parts t i g x at h other false e = g.other e
 
 lands_outside : EndsArePaths → (parts : List Part) (links : AreLinked parts) (s : Site) (w : Suited parts s) (t : Site) → w.end ≡ Outside t → EndsOutside parts s (bare w.demand)

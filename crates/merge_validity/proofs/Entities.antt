@@ -16,12 +16,11 @@ use Rattle.wasm_tree.specs.declared.module.ImportDesc.TheVariants as im
 use Rattle.wasm_tree.specs.declared.module.ExportDesc.{ExportDesc}
 use Rattle.wasm_tree.specs.declared.module.ExportDesc.TheVariants as ex
 use Rattle.wasm_tree.specs.declared.module.Module.{Module}
-use Rattle.wasm_tree.specs.Spaces.{func_of, table_of, memory_of, global_of, funcs_of, tables_of, memories_of, globals_of, type_of_func}
+use Rattle.wasm_tree.specs.Spaces.{func_of, table_of, memory_of, global_of, funcs_of, tables_of, memories_of, globals_of, type_of_func, index_of_export, space_of_export, space_of_import}
 use Rattle.wasm_meaning.specs.Values.{same_type}
 use Rattle.wasm_meaning.specs.World.{same_bool, defined_count}
-use Rattle.wasm_meaning.specs.Linking.{has_kind, kind_of_import, kind_of_export, index_of_export}
+use Rattle.wasm_meaning.specs.Linking.{has_kind}
 use Rattle.merge_terms.specs.Faults.{External, FuncOf, TableOf, MemoryOf, GlobalOf, asked, external_of, same_but_limits}
-use Rattle.merge_terms.specs.Merged.{entry_of}
 use Rattle.merge_validity.proofs.Lists.{is_some, place_get}
 use Rattle.merge_validity.proofs.Same.{both_are, ref_is, type_is, func_type_is, bool_is}
 
@@ -83,24 +82,6 @@ own_many Tables m = refl
 own_many Memories m = refl
 own_many Globals m = length-map m.globals (λ g. g.ty)
 
-pub kind_of_entry : (k : Space) (i : ℕ) → kind_of_export (entry_of k i) ≡ k
-kind_of_entry Functions i = refl
-kind_of_entry Tables i = refl
-kind_of_entry Memories i = refl
-kind_of_entry Globals i = refl
-
-pub index_of_entry : (k : Space) (i : ℕ) → index_of_export (entry_of k i) ≡ i
-index_of_entry Functions i = refl
-index_of_entry Tables i = refl
-index_of_entry Memories i = refl
-index_of_entry Globals i = refl
-
-pub entry_is : (e : ExportDesc) → e ≡ entry_of (kind_of_export e) (index_of_export e)
-entry_is (ex.Func i) = refl
-entry_is (ex.Table i) = refl
-entry_is (ex.Memory i) = refl
-entry_is (ex.Global i) = refl
-
 -- ---- types ----
 
 -- the type of an entity, without limits
@@ -155,7 +136,7 @@ bare_is (GlobalOf t) (TableOf u) h = cc
 bare_is (GlobalOf t) (MemoryOf u) h = cc
 
 -- what an import asks for is of its kind, and has the type of the entry that it adds
-pub asked_kind : (m : Module) (d : ImportDesc) (x : External) → asked m d ≡ Some x → kind_of (bare x) ≡ kind_of_import d
+pub asked_kind : (m : Module) (d : ImportDesc) (x : External) → asked m d ≡ Some x → kind_of (bare x) ≡ space_of_import d
 asked_kind m (im.Func ty) x h = by (slice_get m.types ty) h
   where
     by : (o : Option FuncType) → option_and_then (λ t. Some (FuncOf t)) o ≡ Some x → kind_of (bare x) ≡ Functions
@@ -190,7 +171,7 @@ asked_type m Globals (im.Memory l) c x e h = cc
 asked_type m Globals (im.Global t) c x e h = let a : t ≡ c = cc in let b : GlobalOf t ≡ x = cc in ap (λ z. Some (GlobalTy z)) (sym a) ∙ ap (λ z. Some (bare z)) b
 
 -- what an entry is, is of its kind, and has its type
-pub external_kind : (m : Module) (e : ExportDesc) (x : External) → external_of m e ≡ Some x → kind_of (bare x) ≡ kind_of_export e
+pub external_kind : (m : Module) (e : ExportDesc) (x : External) → external_of m e ≡ Some x → kind_of (bare x) ≡ space_of_export e
 external_kind m (ex.Func i) x h = by (type_of_func m i) h
   where
     by : (o : Option FuncType) → option_and_then (λ t. Some (FuncOf t)) o ≡ Some x → kind_of (bare x) ≡ Functions
@@ -212,8 +193,8 @@ external_kind m (ex.Global i) x h = by (slice_get (globals_of m) i) h
     by None h = cc
     by (Some t) h = let same : GlobalOf t ≡ x = cc in ap (λ z. kind_of (bare z)) (sym same)
 
-pub external_type : (m : Module) (k : Space) (i : ℕ) (x : External) → external_of m (entry_of k i) ≡ Some x → type_at m k i ≡ Some (bare x)
-external_type m Functions i x h = by (slice_get (funcs_of m) i) h
+pub external_type : (m : Module) (e : ExportDesc) (x : External) → external_of m e ≡ Some x → type_at m (space_of_export e) (index_of_export e) ≡ Some (bare x)
+external_type m (ex.Func i) x h = by (slice_get (funcs_of m) i) h
   where
     inner : (o : Option FuncType) → option_and_then (λ t. Some (FuncOf t)) o ≡ Some x → option_and_then (λ t. Some (FuncTy t)) o ≡ Some (bare x)
     inner None h = cc
@@ -222,17 +203,17 @@ external_type m Functions i x h = by (slice_get (funcs_of m) i) h
     by : (o : Option ℕ) → option_and_then (λ t. Some (FuncOf t)) (option_and_then (slice_get m.types) o) ≡ Some x → option_and_then (type_of m Functions) o ≡ Some (bare x)
     by None h = cc
     by (Some ty) h = inner (slice_get m.types ty) h
-external_type m Tables i x h = by (slice_get (tables_of m) i) h
+external_type m (ex.Table i) x h = by (slice_get (tables_of m) i) h
   where
     by : (o : Option TableType) → option_and_then (λ t. Some (TableOf t)) o ≡ Some x → option_and_then (type_of m Tables) o ≡ Some (bare x)
     by None h = cc
     by (Some t) h = let same : TableOf t ≡ x = cc in ap (λ z. Some (bare z)) same
-external_type m Memories i x h = by (slice_get (memories_of m) i) h
+external_type m (ex.Memory i) x h = by (slice_get (memories_of m) i) h
   where
     by : (o : Option Limits) → option_and_then (λ t. Some (MemoryOf t)) o ≡ Some x → option_and_then (type_of m Memories) o ≡ Some (bare x)
     by None h = cc
     by (Some t) h = let same : MemoryOf t ≡ x = cc in ap (λ z. Some (bare z)) same
-external_type m Globals i x h = by (slice_get (globals_of m) i) h
+external_type m (ex.Global i) x h = by (slice_get (globals_of m) i) h
   where
     by : (o : Option GlobalType) → option_and_then (λ t. Some (GlobalOf t)) o ≡ Some x → option_and_then (type_of m Globals) o ≡ Some (bare x)
     by None h = cc

@@ -12,7 +12,8 @@ use Rattle.wasm_valid.specs.declared.kinds.ItemKind.TheVariants as kind
 use Rattle.wasm_valid.specs.Validity.{HoldsAt, ImportHolds, LimitsHold, MostIsAtLeast, MostIsAtMost}
 use Rattle.wasm_meaning.specs.State.{Text}
 use Rattle.wasm_meaning.specs.Laws.{EndsArePaths}
-use Rattle.wasm_meaning.specs.Linking.{Part, Site, kind_of_import, module_at, import_at, sites, is_outside, linked_end, limits_of, consed, demands, least, met, met_limits}
+use Rattle.wasm_meaning.specs.Linking.{Part, Site, module_at, import_at, sites, is_outside, linked_end, limits_of, consed, demands, least, met, met_limits}
+use Rattle.wasm_tree.specs.Spaces.{space_of_import}
 use Rattle.merge_terms.specs.declared.faults.LinkFault.{LinkFault}
 use Rattle.merge_terms.specs.declared.faults.LinkFault.TheVariants.{LimitsClash}
 use Rattle.merge_terms.specs.Faults.{asked_at, stays, kept_limits, is_under, clash_fault}
@@ -72,7 +73,7 @@ demands_few parts s (t ∷ ts) each = by (is_outside s (linked_end parts t)) ref
     by true e None is rest = rest
     by true e (Some l) is rest = more_few l (met (demands parts s ts)) (each t l e is) rest
 
-memory_few : (m : Module) (d : ImportDesc) (l : Limits) → kind_of_import d ≡ Memories → limits_of d ≡ Some l → ImportHolds m d → Few l
+memory_few : (m : Module) (d : ImportDesc) (l : Limits) → space_of_import d ≡ Memories → limits_of d ≡ Some l → ImportHolds m d → Few l
 memory_few m (im.Memory k) l e h p = let same : k ≡ l = cc in subst Few same (record { low = p.1; high = p.2 })
 memory_few m (im.Func t) l e h p = absurd (let z = e in cc)
 memory_few m (im.Table t) l e h p = absurd (let z = e in cc)
@@ -89,23 +90,23 @@ part_import m holds n i at =
 
 module _ (law : EndsArePaths) (parts : List Part) (links : AreLinked parts) (valid : (p : ℕ) (m : Module) → module_at parts p ≡ Some m → ItemsHold m) where
   -- an import that ends at a memory is one of a memory
-  ends_alike : (s t : Site) (i j : Import) → import_at parts s ≡ Some i → import_at parts t ≡ Some j → kind_of_import i.desc ≡ Memories → is_outside s (linked_end parts t) ≡ true → kind_of_import j.desc ≡ Memories
+  ends_alike : (s t : Site) (i j : Import) → import_at parts s ≡ Some i → import_at parts t ≡ Some j → space_of_import i.desc ≡ Memories → is_outside s (linked_end parts t) ≡ true → space_of_import j.desc ≡ Memories
   ends_alike s t i j at_s at_t e h = by (landed law parts links t w)
     where
       w : Suited parts t
       w = links.imports t j at_t
 
-      kind_at : (u : Site) (i : Import) (x : _) → import_at parts u ≡ Some i → asked_at parts u ≡ Some x → kind_of (bare x) ≡ kind_of_import i.desc
+      kind_at : (u : Site) (i : Import) (x : _) → import_at parts u ≡ Some i → asked_at parts u ≡ Some x → kind_of (bare x) ≡ space_of_import i.desc
       kind_at u i x at h = let m = import_site parts u i at in asked_kind m.0 i.desc x (kind_there parts u i x m.0 m.1 m.2 h)
 
-      by : Landed parts t (bare w.demand) → kind_of_import j.desc ≡ Memories
+      by : Landed parts t (bare w.demand) → space_of_import j.desc ≡ Memories
       by (inside v) = absurd (let z : false ≡ true = sym (ap (is_outside s) v.linked) ∙ h in cc)
       by (outside v) =
           let to : s ≡ v.to = site_is s v.to (sym (ap (is_outside s) v.linked) ∙ h) in
           let x : kind_of (bare v.thing) ≡ Memories = kind_at s i v.thing at_s (ap (asked_at parts) to ∙ v.asks) ∙ e in
           sym (kind_at t j w.demand at_t w.asks) ∙ sym (ap kind_of v.typed) ∙ x
 
-  memory_met : (s : Site) (i : Import) → import_at parts s ≡ Some i → kind_of_import i.desc ≡ Memories → Few (met_limits parts s)
+  memory_met : (s : Site) (i : Import) → import_at parts s ≡ Some i → space_of_import i.desc ≡ Memories → Few (met_limits parts s)
   memory_met s i at e = demands_few parts s (sites parts) (λ t l h is. each t l h is)
     where
       each : (t : Site) (l : Limits) → is_outside s (linked_end parts t) ≡ true → option_and_then (λ i. limits_of i.desc) (import_at parts t) ≡ Some l → Few l
@@ -120,7 +121,7 @@ module _ (law : EndsArePaths) (parts : List Part) (links : AreLinked parts) (val
       within (merged parts names).types _ t.0 (ap (λ z. slice_get z (slice_index (map_of parts s.part m).types ty)) (types_are parts names) ∙ type_stands parts s.part m ty t.0 is t.1)
   desc_holds names s m i (im.Table t) e remain is at p = limits_hold parts s i t.limits remain at (ap limits_of e) (links.limits s i at)
   desc_holds names s m i (im.Memory l) e remain is at p =
-      let few = memory_met s i at (ap kind_of_import e) in
+      let few = memory_met s i at (ap space_of_import e) in
       (limits_hold parts s i l remain at (ap limits_of e) (links.limits s i at), few.low, few.high)
   desc_holds names s m i (im.Global t) e remain is at p = tt
 

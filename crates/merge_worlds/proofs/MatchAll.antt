@@ -7,7 +7,8 @@ use Rattle.wasm_tree.specs.declared.types.Limits.{Limits}
 use Rattle.wasm_tree.specs.declared.module.Import.{Import}
 use Rattle.wasm_tree.specs.declared.module.Module.{Module}
 use Rattle.wasm_meaning.specs.State.{Inst, Store}
-use Rattle.wasm_meaning.specs.Linking.{Part, Site, End, Defined, Outside, import_at, imports_of, kind_of_export, index_of_export, same_site, is_outside, sites, linked_end, limits_of, met_limits}
+use Rattle.wasm_meaning.specs.Linking.{Part, Site, End, Defined, Outside, import_at, imports_of, same_site, is_outside, sites, linked_end, limits_of, met_limits}
+use Rattle.wasm_tree.specs.Spaces.{index_of_export, space_of_export}
 use Rattle.wasm_meaning.specs.Environment.{Environment, Thing, owned_of, all_of}
 use Rattle.wasm_meaning.specs.World.{base, defined_count, thing_at, outside_thing, thing_of, imported_thing, own_store, stores_from, is_matched}
 use Rattle.export_names.specs.declared.mode.Mode.{Mode}
@@ -158,7 +159,7 @@ module _ (ends_law : LinkedImportsEnd) (stays_law : StayingImportsEndThere) (sit
       inside_matches : (t : Site) (i : Import) → import_at parts t ≡ Some i → EndsInside parts t i → is_matched env parts s t ≡ true
       inside_matches t i at w =
           let e = w.entity in
-          let k = kind_of_export e.what in
+          let k = space_of_export e.what in
           let a = agree.each e.part w.of w.is_part in
           let follows : length (imports_of k w.of) ≤ index_of_export e.what = subst (λ (k : Space). length (imports_of k w.of) ≤ index_of_export e.what) (sym w.kind) w.follows in
           let within : index_of_export e.what < length (imports_of k w.of) + defined_count k w.of = subst (λ (k : Space). index_of_export e.what < length (imports_of k w.of) + defined_count k w.of) (sym w.kind) w.within in

@@ -13,13 +13,13 @@ use Rattle.wasm_tree.specs.declared.module.ImportDesc.TheVariants as im
 use Rattle.wasm_tree.specs.declared.module.ExportDesc.{ExportDesc}
 use Rattle.wasm_tree.specs.declared.module.ExportDesc.TheVariants as ex
 use Rattle.wasm_tree.specs.declared.module.Module.{Module}
-use Rattle.wasm_tree.specs.Spaces.{func_of, table_of, memory_of, global_of, imported_funcs, imported_tables, imported_memories, imported_globals, funcs_of, tables_of, memories_of, globals_of, type_of_func}
+use Rattle.wasm_tree.specs.Spaces.{func_of, table_of, memory_of, global_of, imported_funcs, imported_tables, imported_memories, imported_globals, funcs_of, tables_of, memories_of, globals_of, type_of_func, index_of_export, space_of_export, space_of_import}
 use Rattle.wasm_meaning.specs.Outcomes.{Gives, bind, at}
 use Rattle.wasm_meaning.specs.State.{Inst, Code, Global, Store}
 use Rattle.wasm_meaning.specs.Values.{same_ref, same_type, same_func_type, null_of, declared}
 use Rattle.wasm_meaning.specs.Control as control
 use Rattle.wasm_meaning.specs.Control.{type_at}
-use Rattle.wasm_meaning.specs.Linking.{Part, has_kind, kind_of_import, kind_of_export, index_of_export, imports_of, module_at}
+use Rattle.wasm_meaning.specs.Linking.{Part, has_kind, imports_of, module_at}
 use Rattle.wasm_meaning.specs.Environment.{Environment, FuncAt, TableAt, MemoryAt, GlobalAt}
 use Rattle.wasm_meaning.specs.World.{given, same_bool, meets, base, thing_at, new_func, new_global, value_of, own_store, stores_from}
 use Rattle.permuted_worlds.proofs.Places.{place_map}
@@ -31,25 +31,25 @@ use Rattle.merge_worlds.proofs.MatchStores.{new_table, new_memory, adds, funcs_s
 
 -- ---- how many are imported ----
 
-func_kind : (d : ImportDesc) → is_some (func_of d) ≡ same_space Functions (kind_of_import d)
+func_kind : (d : ImportDesc) → is_some (func_of d) ≡ same_space Functions (space_of_import d)
 func_kind (im.Func x) = refl
 func_kind (im.Table x) = refl
 func_kind (im.Memory x) = refl
 func_kind (im.Global x) = refl
 
-table_kind : (d : ImportDesc) → is_some (table_of d) ≡ same_space Tables (kind_of_import d)
+table_kind : (d : ImportDesc) → is_some (table_of d) ≡ same_space Tables (space_of_import d)
 table_kind (im.Func x) = refl
 table_kind (im.Table x) = refl
 table_kind (im.Memory x) = refl
 table_kind (im.Global x) = refl
 
-memory_kind : (d : ImportDesc) → is_some (memory_of d) ≡ same_space Memories (kind_of_import d)
+memory_kind : (d : ImportDesc) → is_some (memory_of d) ≡ same_space Memories (space_of_import d)
 memory_kind (im.Func x) = refl
 memory_kind (im.Table x) = refl
 memory_kind (im.Memory x) = refl
 memory_kind (im.Global x) = refl
 
-global_kind : (d : ImportDesc) → is_some (global_of d) ≡ same_space Globals (kind_of_import d)
+global_kind : (d : ImportDesc) → is_some (global_of d) ≡ same_space Globals (space_of_import d)
 global_kind (im.Func x) = refl
 global_kind (im.Table x) = refl
 global_kind (im.Memory x) = refl
@@ -156,8 +156,8 @@ module _ (env : Environment) (parts : List Part) (insts : List Inst) (s : Store)
       let same : record { ty = g.0.ty; value = v.0 } ≡ x.0 = cc in
       (x.0, r.at k x.0 x.1, ap (λ (g : Global). g.ty) (sym same) ∙ g.2)
 
-  pub defined_fits : (what : ExportDesc) (d x : External) → external_of m what ≡ Some x → length (imports_of (kind_of_export what) m) ≤ index_of_export what → same_but_limits d x ≡ true → meets_limits d x ≡ true →
-      fits s d (thing_at (kind_of_export what) (address (kind_of_export what) (index_of_export what))) ≡ Some true
+  pub defined_fits : (what : ExportDesc) (d x : External) → external_of m what ≡ Some x → length (imports_of (space_of_export what) m) ≤ index_of_export what → same_but_limits d x ≡ true → meets_limits d x ≡ true →
+      fits s d (thing_at (space_of_export what) (address (space_of_export what) (index_of_export what))) ≡ Some true
   defined_fits (ex.Func n) d x h le same meet =
       let t = then_is (type_of_func m n) (λ t. Some (FuncOf t)) x h in
       let e = t.2 in

@@ -11,7 +11,8 @@ use Rattle.wasm_tree.specs.declared.module.ImportDesc.TheVariants as im
 use Rattle.wasm_tree.specs.declared.module.ElemSeg.{ElemSeg}
 use Rattle.wasm_tree.specs.declared.module.Module.{Module}
 use Rattle.wasm_meaning.specs.State.{Text, Pair}
-use Rattle.wasm_meaning.specs.Linking.{Part, Site, has_kind, kind_of_import, pair_of, module_at, import_at, sites}
+use Rattle.wasm_meaning.specs.Linking.{Part, Site, has_kind, pair_of, module_at, import_at, sites}
+use Rattle.wasm_tree.specs.Spaces.{space_of_import}
 use Rattle.wasm_meaning.specs.Environment.{Environment, FuncKey, OwnKey, owned_of, owned_at}
 use Rattle.wasm_meaning.specs.World.{given, own_count, defined_count, defined_before, address_of, own_key, own_key_of, outside_thing, all_there, numbers, space}
 use Rattle.index_remap.specs.References.{with_declared, declared_refs}
@@ -115,7 +116,7 @@ moved_import parts s m i is at =
     ap {A = Option Module} {B = Option Import} (λ o. option_and_then (λ m. option_and_then (λ i. Some (record i { desc = merged_desc parts s m i.desc })) (import_at parts s)) o) is
     ∙ ap {A = Option Import} {B = Option Import} (λ o. option_and_then (λ i. Some (record i { desc = merged_desc parts s m i.desc })) o) at
 
-moved_kind : (parts : List Part) (s : Site) (m : Module) (d : ImportDesc) → kind_of_import (merged_desc parts s m d) ≡ kind_of_import d
+moved_kind : (parts : List Part) (s : Site) (m : Module) (d : ImportDesc) → space_of_import (merged_desc parts s m d) ≡ space_of_import d
 moved_kind parts s m (im.Func ty) = refl
 moved_kind parts s m (im.Table t) = refl
 moved_kind parts s m (im.Memory l) = refl

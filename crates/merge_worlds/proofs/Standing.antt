@@ -8,14 +8,15 @@ use Rattle.std.proofs.lemmas.Bool.{ltb-true, lt-ltb, eq-eqb}
 use Rattle.wasm_tree.specs.declared.module.Import.{Import}
 use Rattle.wasm_tree.specs.declared.module.Module.{Module}
 use Rattle.wasm_meaning.specs.Outcomes.{Gives}
-use Rattle.wasm_meaning.specs.Linking.{Part, Site, Defined, Outside, has_kind, kind_of_import, kind_of_export, index_of_export, module_at, import_at, imports_of}
+use Rattle.wasm_meaning.specs.Linking.{Part, Site, Defined, Outside, has_kind, module_at, import_at, imports_of}
+use Rattle.wasm_tree.specs.Spaces.{index_of_export, space_of_export, space_of_import}
 use Rattle.wasm_meaning.specs.Environment.{Environment, OwnKey, Thing, Owned, owned_of, look_up, same_key}
 use Rattle.wasm_meaning.specs.World.{given, own_count, defined_count, defined_before, base, thing_at, address_of, own_key, outside_thing, defined_thing, thing_of, imported_thing}
 use Rattle.index_remap.specs.Related.{Pairing, OptRel, none, some, ListRel}
 use Rattle.index_remap.specs.Related as to
 use Rattle.index_remap.specs.RelatedRuns.{ThingRel, a_func, a_table, a_memory, a_global, KeyRel}
 use Rattle.merge_terms.specs.Faults.{link_fault}
-use Rattle.merge_terms.specs.Merged.{staying_of, entry_of, new_index}
+use Rattle.merge_terms.specs.Merged.{staying_of, new_index}
 use Rattle.merge_validity.specs.Ended.{EndsInside, EndsOutside, Ended, inside, outside}
 use Rattle.merge_validity.proofs.Lists.{then_is}
 use Rattle.merge_validity.proofs.ByPart.{before, defined_is}
@@ -34,12 +35,6 @@ kind_in Functions = Functions
 kind_in Tables = Tables
 kind_in Memories = Memories
 kind_in Globals = Globals
-
-entry_index : (k : Space) (x : ℕ) → index_of_export (entry_of k x) ≡ x
-entry_index Functions x = refl
-entry_index Tables x = refl
-entry_index Memories x = refl
-entry_index Globals x = refl
 
 address_at : (k : Space) (a : ℕ) → address_of k (thing_at k a) ≡ Some a
 address_at Functions a = refl
@@ -67,13 +62,13 @@ defined_low k parts p m e =
 pub record IsImport (k : Space) (m : Module) (n : ℕ) : Type 0 where
   pub import : Import
   pub at : slice_get m.imports n ≡ Some import
-  pub kind : kind_of_import import.desc ≡ k
+  pub kind : space_of_import import.desc ≡ k
 
 pub import_there : (k : Space) (m : Module) (x n : ℕ) → slice_get (imports_of k m) x ≡ Some n → IsImport k m n
 import_there k m x n h =
     let r = place_back (has_kind k) m.imports 0 x n h in
     let same : n ≡ r.0 = (let d = r.2 in omega (arith, d)) in
-    record { import = r.1; at = ap (slice_get m.imports) same ∙ r.3; kind = sym (kind_is k (kind_of_import r.1.desc) r.4) }
+    record { import = r.1; at = ap (slice_get m.imports) same ∙ r.3; kind = sym (kind_is k (space_of_import r.1.desc) r.4) }
 
 -- ---- the environment's own ----
 
@@ -154,7 +149,7 @@ module _ (env : Environment) (parts : List Part) where
     stays : (u : Site) → slice_get (staying_of parts k) index ≡ Some u → address ≡ site_address k u → Stands k address index
 
   module _ (laws : SpaceLaws) (linked : link_fault parts ≡ None) where
-    inside_stands : (k : Space) (p : ℕ) (m : Module) (x n : ℕ) (i : Import) → module_at parts p ≡ Some m → slice_get (imports_of k m) x ≡ Some n → kind_of_import i.desc ≡ k → EndsInside parts (record { part = p; import = n }) i → Stands k (import_address k p n) (new_index parts p k x)
+    inside_stands : (k : Space) (p : ℕ) (m : Module) (x n : ℕ) (i : Import) → module_at parts p ≡ Some m → slice_get (imports_of k m) x ≡ Some n → space_of_import i.desc ≡ k → EndsInside parts (record { part = p; import = n }) i → Stands k (import_address k p n) (new_index parts p k x)
     inside_stands k p m x n i is h kind w =
         let e = w.entity in
         let j = index_of_export e.what - length (imports_of k w.of) in
@@ -162,7 +157,7 @@ module _ (env : Environment) (parts : List Part) where
         let follows = subst (λ k. length (imports_of k w.of) ≤ index_of_export e.what) kind w.follows in
         let within = subst (λ k. index_of_export e.what < length (imports_of k w.of) + defined_count k w.of) kind w.within in
         let low = defined_low k parts e.part w.of w.is_part in
-        let same : kind_of_export e.what ≡ k = w.kind ∙ kind in
+        let same : space_of_export e.what ≡ k = w.kind ∙ kind in
         let thing : option_and_then (address_of k) (defined_thing env parts e) ≡ Some (base env parts k e.part + j) =
         ap (λ o. option_and_then (address_of k) o) (defined_at env parts e w.of w.is_part (subst (λ l. index_of_export e.what - length (imports_of l w.of) < defined_count l w.of) (sym same) (omega (arith, follows, within))))
         ∙ ap (λ l. address_of k (thing_at l (base env parts l e.part + (index_of_export e.what - length (imports_of l w.of))))) same
@@ -172,7 +167,7 @@ module _ (env : Environment) (parts : List Part) where
         (ap (λ o. option_and_then (address_of k) (option_and_then (thing_of env parts) o)) w.end ∙ thing ∙ ap Some number)
         ((laws.indices parts p m k x is).0 n (Defined e) h w.linked ∙ laws.defined parts e w.of k w.is_part)
 
-    outside_stands : (k : Space) (p : ℕ) (m : Module) (x n : ℕ) (i : Import) → module_at parts p ≡ Some m → slice_get (imports_of k m) x ≡ Some n → kind_of_import i.desc ≡ k → EndsOutside parts (record { part = p; import = n }) i → Stands k (import_address k p n) (new_index parts p k x)
+    outside_stands : (k : Space) (p : ℕ) (m : Module) (x n : ℕ) (i : Import) → module_at parts p ≡ Some m → slice_get (imports_of k m) x ≡ Some n → space_of_import i.desc ≡ k → EndsOutside parts (record { part = p; import = n }) i → Stands k (import_address k p n) (new_index parts p k x)
     outside_stands k p m x n i is h kind w =
         stays w.to (ap (slice_get (staying_of parts k)) ((laws.indices parts p m k x is).0 n (Outside w.to) h w.linked) ∙ laws.places parts w.to w.import w.at w.remains k (w.kind ∙ kind))
         (ap (λ o. option_and_then (address_of k) (option_and_then (thing_of env parts) o)) w.end ∙ ap (λ o. option_and_then (address_of k) o) (w.same_thing (owned_of env)))
@@ -183,7 +178,7 @@ module _ (env : Environment) (parts : List Part) where
         let i = import_there k m x n h in
         by i.import i.kind (laws.ends parts linked (record { part = p; import = n }) i.import (ap (λ o. option_and_then (λ m. slice_get m.imports n) o) is ∙ i.at))
       where
-        by : (i : Import) → kind_of_import i.desc ≡ k → Ended parts (record { part = p; import = n }) i → Stands k (import_address k p n) (new_index parts p k x)
+        by : (i : Import) → space_of_import i.desc ≡ k → Ended parts (record { part = p; import = n }) i → Stands k (import_address k p n) (new_index parts p k x)
         by i kind (inside w) = inside_stands k p m x n i is h kind w
         by i kind (outside w) = outside_stands k p m x n i is h kind w
 
@@ -193,7 +188,7 @@ module _ (env : Environment) (parts : List Part) where
         let low = defined_low k parts p m is in
         let d = defined_before k parts p + j in
         let number : base env parts k p + j ≡ own_count k env + d = omega arith in
-        let back : index_of_export (entry_of k x) - length (imports_of k m) ≡ j = (let e = entry_index k x in omega (arith, e, at)) in
+        let back : x - length (imports_of k m) ≡ j = omega (arith, at) in
         own d (omega (arith, low, l)) (ap Some number)
-        ((laws.indices parts p m k x is).1 (past_end (imports_of k m) x (omega (arith, at))) ∙ laws.defined parts (record { part = p; what = entry_of k x }) m k is
+        ((laws.indices parts p m k x is).1 (past_end (imports_of k m) x (omega (arith, at)))
         ∙ ap (λ j. length (staying_of parts k) + (defined_before k parts p + j)) back)

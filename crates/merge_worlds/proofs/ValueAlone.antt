@@ -10,9 +10,9 @@ use Rattle.wasm_tree.specs.declared.module.ImportDesc.{ImportDesc}
 use Rattle.wasm_tree.specs.declared.module.ImportDesc.TheVariants as im
 use Rattle.wasm_tree.specs.declared.module.ConstExpr.TheVariants as const
 use Rattle.wasm_tree.specs.declared.module.Module.{Module}
-use Rattle.wasm_tree.specs.Spaces.{func_of, imported_funcs, funcs_of}
+use Rattle.wasm_tree.specs.Spaces.{func_of, imported_funcs, funcs_of, space_of_import}
 use Rattle.wasm_meaning.specs.State.{Inst}
-use Rattle.wasm_meaning.specs.Linking.{Read, places, has_kind, kind_of_import, imports_of, space_index}
+use Rattle.wasm_meaning.specs.Linking.{Read, places, has_kind, imports_of, space_index}
 use Rattle.wasm_meaning.specs.Environment.{Environment, own_globals}
 use Rattle.wasm_meaning.specs.World.{numbers, own_count, defined_count, space, inst_of, insts_from, value_of_read, value_of}
 use Rattle.permuted_worlds.specs.Alone.{one, address_in, import_places, addresses, read_in, SpacesAreImportsAndOwn, ReadsStay}
@@ -56,7 +56,7 @@ funcs_counted : (is : List Import) (n : ℕ) → length (places (has_kind Functi
 funcs_counted [] n = refl
 funcs_counted (i ∷ is) n = go i.desc (funcs_counted is (suc n))
   where
-    go : (d : ImportDesc) → length (places (has_kind Functions) is (suc n)) ≡ length (imported_funcs is) → length (cond (same_space Functions (kind_of_import d)) (n ∷ places (has_kind Functions) is (suc n)) (places (has_kind Functions) is (suc n))) ≡ length (cons_option (func_of d) (imported_funcs is))
+    go : (d : ImportDesc) → length (places (has_kind Functions) is (suc n)) ≡ length (imported_funcs is) → length (cond (same_space Functions (space_of_import d)) (n ∷ places (has_kind Functions) is (suc n)) (places (has_kind Functions) is (suc n))) ≡ length (cons_option (func_of d) (imported_funcs is))
     go (im.Func x) h = ap suc h
     go (im.Table x) h = h
     go (im.Memory x) h = h

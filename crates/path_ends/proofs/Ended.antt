@@ -4,7 +4,8 @@ use Rattle.std.proofs.lemmas.Bool.{cases_eq}
 use Rattle.path_ends.specs.Paths.{Reaches, IsEnd, by_step, followed, the_end}
 use Rattle.path_ends.specs.Paths.Reaches.{stop, go}
 use Rattle.path_ends.proofs.Lists.{there}
-use Rattle.base_lists.proofs.Pigeons.{Has, pigeons}
+use Rattle.base_lists.proofs.Pigeons.{pigeons}
+use Rattle.base_lists.proofs.Places.{Has}
 
 -- after k steps the path ends at e
 abbrev pub EndsIn : List (Option ℕ) → ℕ → ℕ → ℕ → Type 0

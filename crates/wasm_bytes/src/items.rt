@@ -1,4 +1,4 @@
-ghost use Rattle.std.specs.Prelude.{◌≡◌, [], ◌∷◌, ◌++◌, ◌<◌, ◌≤◌, length, take, drop, slice_get, ◌↔◌, IsSome, IfOk, IfErr, OnOk, OnErr};
+ghost use Rattle.std.specs.Prelude.{◌≡◌, [], ◌∷◌, ◌++◌, ◌<◌, ◌≤◌, length, take, drop, slice_get, ◌↔◌, IsSome, IsNone, IfSome, IfOk, IfErr, OnOk, OnErr};
 ghost use Rattle.std.specs.Borrow.{sem};
 ghost use Rattle.std.specs.Option.{option_copied};
 ghost use Rattle.wasm_bytes.specs.Lending.{LendsItem, option_now};
@@ -74,6 +74,27 @@ impl<T> Items<T> {
         ensures { result.now ≡ self.now }
     {
         self.items.as_slice()
+    }
+
+    /// Takes the last item out; None exactly where the list is empty. It takes no memory.
+    pub fn pop(&mut self) -> Option<T>
+        ensures some { IfSome result (λ item. self.old ≡ self.new ++ item ∷ []) }
+        ensures none { IsNone result ↔ (self.old ≡ []) }
+        ensures empty { IsNone result → self.new ≡ [] }
+    {
+        self.items.pop()
+    }
+
+    /// Moves all items of the other list behind the own ones, in order, and leaves it empty. For want of memory both stay as they were.
+    pub fn append(&mut self, other: &mut Items<T>) -> Result<(), NoMemory>
+        ensures ok { OnOk result (self.new ≡ self.old ++ other.old) }
+        ensures empty { OnOk result (other.new ≡ []) }
+        ensures err { OnErr result ((self.new ≡ self.old) × (other.new ≡ other.old)) }
+    {
+        match self.items.append(&mut other.items) {
+            Ok(()) => Ok(()),
+            Err(_) => Err(NoMemory),
+        }
     }
 
     /// Takes off the items from a place on, as a list that takes no more memory than they need. For want of memory the list stays as it was.

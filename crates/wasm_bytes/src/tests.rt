@@ -121,8 +121,15 @@ fn items_are_kept_in_order(rt: HostRuntime) -> Result<(), Fail> {
     assert_eq!(rt; items.len(), 2);
     assert_eq!(rt; items.get(0).copied(), Some(6));
     assert_eq!(rt; items.get(2).copied(), None);
-    let copy = Items::from_slice(alloc, items.as_slice())?;
+    let mut copy = Items::from_slice(alloc, items.as_slice())?;
     assert_eq!(rt; copy.as_slice(), &[6u32, 8][..]);
+    assert_eq!(rt; copy.pop(), Some(8));
+    copy.append(&mut items)?;
+    assert_eq!(rt; copy.as_slice(), &[6u32, 6, 8][..]);
+    assert_eq!(rt; items.pop(), None);
+    let tail = copy.split_off(1)?;
+    assert_eq!(rt; copy.as_slice(), &[6u32][..]);
+    assert_eq!(rt; tail.as_slice(), &[6u32, 8][..]);
     Ok(())
 }
 

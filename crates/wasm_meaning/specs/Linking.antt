@@ -5,6 +5,7 @@ use Rattle.std.proofs.Common.{ℕ, zero, suc, ◌-◌, List, [], ◌∷◌, ◌+
 use Rattle.wasm_tree.specs.declared.space.Space.{Space}
 use Rattle.wasm_tree.specs.Operands.{same_space}
 use Rattle.base_lists.specs.Options.{◌>>=◌}
+pub use Rattle.base_lists.specs.Places.{first_place, places, count_of}
 use Rattle.std.specs.Prelude.{nat_eq, max, min}
 use Rattle.wasm_tree.specs.declared.types.Limits.{Limits}
 use Rattle.wasm_tree.specs.declared.module.Import.{Import}
@@ -16,6 +17,7 @@ use Rattle.wasm_tree.specs.declared.module.ExportDesc.TheVariants as ex
 use Rattle.wasm_tree.specs.declared.module.ConstExpr.{ConstExpr}
 use Rattle.wasm_tree.specs.declared.module.ConstExpr.TheVariants as const
 use Rattle.wasm_tree.specs.declared.module.Module.{Module}
+use Rattle.wasm_tree.specs.Spaces.{space_of_import, space_of_export, index_of_export}
 use Rattle.wasm_meaning.specs.State.{Text, Pair}
 use Rattle.wasm_meaning.specs.Paths.{Next, Ends, Goes, Path, walk}
 
@@ -39,42 +41,10 @@ same_text _ _ = false
 abbrev pub same_pair : Pair → Pair → Bool
 same_pair p q = same_text p.0 q.0 && same_text p.1 q.1
 
--- the first place from n on whose element passes the test
-abbrev pub first_place : {A : Type 0} → (A → Bool) → List A → ℕ → Option ℕ
-first_place is [] n = None
-first_place is (x ∷ xs) n = cond (is x) (Some n) (first_place is xs (suc n))
-
--- the places, counted from n, whose element passes the test
-abbrev pub places : {A : Type 0} → (A → Bool) → List A → ℕ → List ℕ
-places is [] n = []
-places is (x ∷ xs) n = cond (is x) (n ∷ places is xs (suc n)) (places is xs (suc n))
-
-abbrev pub count_of : {A : Type 0} → (A → Bool) → List A → ℕ
-count_of is [] = 0
-count_of is (x ∷ xs) = cond (is x) (suc (count_of is xs)) (count_of is xs)
-
 -- ---- kinds ----
 
-abbrev pub kind_of_import : ImportDesc → Space
-kind_of_import (im.Func t) = Functions
-kind_of_import (im.Table t) = Tables
-kind_of_import (im.Memory l) = Memories
-kind_of_import (im.Global t) = Globals
-
-abbrev pub kind_of_export : ExportDesc → Space
-kind_of_export (ex.Func i) = Functions
-kind_of_export (ex.Table i) = Tables
-kind_of_export (ex.Memory i) = Memories
-kind_of_export (ex.Global i) = Globals
-
-abbrev pub index_of_export : ExportDesc → ℕ
-index_of_export (ex.Func i) = i
-index_of_export (ex.Table i) = i
-index_of_export (ex.Memory i) = i
-index_of_export (ex.Global i) = i
-
 abbrev pub has_kind : Space → Import → Bool
-has_kind k i = same_space k (kind_of_import i.desc)
+has_kind k i = same_space k (space_of_import i.desc)
 
 -- the places in the import section of the imports of one kind, which come first in that kind's index space
 abbrev pub imports_of : Space → Module → List ℕ
@@ -123,7 +93,7 @@ joined parts i =
 -- the import that an entity is, or none where its part defines it
 abbrev pub imported_as : List Part → Entity → Option Site
 imported_as parts e =
-    module_at parts e.part >>= λ m. slice_get (imports_of (kind_of_export e.what) m) (index_of_export e.what) >>= λ n. Some (record { part = e.part; import = n })
+    module_at parts e.part >>= λ m. slice_get (imports_of (space_of_export e.what) m) (index_of_export e.what) >>= λ n. Some (record { part = e.part; import = n })
 
 -- ---- where an import ends ----
 

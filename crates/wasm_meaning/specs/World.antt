@@ -4,6 +4,8 @@ use Rattle.std.proofs.Common.{ℕ, zero, suc, ◌+◌, ◌-◌, ◌*◌, List, [
 use Rattle.wasm_tree.specs.declared.space.Space.{Space}
 use Rattle.wasm_tree.specs.declared.space.Space.TheVariants.{Types, Functions, Tables, Memories, Globals, ElementSegments, DataSegments}
 use Rattle.base_lists.specs.Options.{◌>>=◌}
+pub use Rattle.base_lists.specs.Options.{all_there}
+pub use Rattle.base_lists.specs.Places.{numbers}
 use Rattle.std.specs.Prelude.{nat_le}
 use Rattle.wasm_tree.specs.declared.types.FuncType.{FuncType}
 use Rattle.wasm_tree.specs.declared.types.Limits.{Limits}
@@ -29,7 +31,8 @@ use Rattle.wasm_meaning.specs.State.{Text, Pair, RefVal, FuncRef, Val, Num, Ref,
 use Rattle.wasm_meaning.specs.Values.{same_ref, same_type, same_func_type, null_of, declared, ref_of, num_of}
 use Rattle.wasm_meaning.specs.Control.{type_at}
 use Rattle.wasm_meaning.specs.Step.{changed, no_items}
-use Rattle.wasm_meaning.specs.Linking.{Part, Site, End, Defined, Outside, Entity, Read, module_at, import_at, imports_of, pair_of, kind_of_export, index_of_export, end_of, read_of, sites}
+use Rattle.wasm_meaning.specs.Linking.{Part, Site, End, Defined, Outside, Entity, Read, module_at, import_at, imports_of, pair_of, end_of, read_of, sites}
+use Rattle.wasm_tree.specs.Spaces.{index_of_export, space_of_export}
 use Rattle.wasm_meaning.specs.Environment.{Environment, Thing, FuncAt, TableAt, MemoryAt, GlobalAt, OwnKey, FuncKey, TableKey, MemoryKey, GlobalKey, Owned, owned_of, owned_at, own_funcs, own_tables, own_memories, own_globals, all_of}
 
 -- modules with names, whose imports are joined by name, and what the embedder may use: names, each with the entity for which it stands
@@ -76,7 +79,7 @@ defined_before k (part ∷ parts) (suc p) = defined_count k part.«module» + de
 abbrev pub base : Environment → List Part → Space → ℕ → ℕ
 base env parts k p = own_count k env + defined_before k parts p
 
--- the external value at an address; types and segments are none (section 4.2.11)
+-- the external value at an address; types and segments are none (section 4.2.13)
 abbrev pub thing_at : Space → ℕ → Option Thing
 thing_at Types a = None
 thing_at Functions a = Some (FuncAt a)
@@ -114,17 +117,13 @@ own_key m i = own_key_of m (pair_of i) i.desc
 abbrev pub outside_thing : Owned → List Part → Site → Option Thing
 outside_thing owned parts s = module_at parts s.part >>= λ m. import_at parts s >>= λ i. own_key m i >>= λ key. given (owned_at owned key)
 
-abbrev pub numbers : (from count : ℕ) → List ℕ
-numbers n zero = []
-numbers n (suc count) = n ∷ numbers (suc n) count
-
 -- the addresses of what a part defines
 abbrev pub defined_addresses : Environment → List Part → Space → ℕ → Module → List ℕ
 defined_addresses env parts k p m = numbers (base env parts k p) (defined_count k m)
 
 abbrev pub defined_thing : Environment → List Part → Entity → Option Thing
 defined_thing env parts e =
-    module_at parts e.part >>= λ m. let k = kind_of_export e.what in slice_get (defined_addresses env parts k e.part m) (index_of_export e.what - length (imports_of k m)) >>= thing_at k
+    module_at parts e.part >>= λ m. let k = space_of_export e.what in slice_get (defined_addresses env parts k e.part m) (index_of_export e.what - length (imports_of k m)) >>= thing_at k
 
 abbrev pub thing_of : Environment → List Part → End → Option Thing
 thing_of env parts (Defined e) = defined_thing env parts e
@@ -133,10 +132,6 @@ thing_of env parts (Outside s) = outside_thing (owned_of env) parts s
 -- what an import stands for
 abbrev pub imported_thing : Environment → List Part → Site → Option Thing
 imported_thing env parts s = end_of parts s >>= (thing_of env parts)
-
-abbrev pub all_there : {A B : Type 0} → (A → Option B) → List A → Option (List B)
-all_there f [] = Some []
-all_there f (x ∷ xs) = f x >>= λ y. all_there f xs >>= λ ys. Some (y ∷ ys)
 
 -- the addresses of an index space: of the imports, then of what is defined
 abbrev pub space : Environment → List Part → Space → ℕ → Module → Option (List ℕ)

@@ -1,3 +1,5 @@
+pub mod SameTypes
+pub mod Numbers
 pub mod Spaces
 pub mod Bounds
 pub mod Limits

@@ -7,7 +7,8 @@ use Rattle.wasm_tree.specs.declared.module.ImportDesc.TheVariants as im
 use Rattle.wasm_tree.specs.declared.module.Module.{Module}
 use Rattle.wasm_meaning.specs.State.{Pair, Inst}
 use Rattle.wasm_meaning.specs.Paths.{walk_on, walk}
-use Rattle.wasm_meaning.specs.Linking.{Part, Site, Entity, End, Defined, Outside, kind_of_import, kind_of_export, index_of_export, imports_of, module_at, import_at, pair_of, import_step, end_of, sites}
+use Rattle.wasm_meaning.specs.Linking.{Part, Site, Entity, End, Defined, Outside, imports_of, module_at, import_at, pair_of, import_step, end_of, sites}
+use Rattle.wasm_tree.specs.Spaces.{index_of_export, space_of_export, space_of_import}
 use Rattle.wasm_meaning.specs.Environment.{Environment, Thing, OwnKey}
 use Rattle.wasm_meaning.specs.World.{all_there, defined_count, own_count, base, thing_at, address_of, import_type, own_key_of, own_key, thing_of, imported_thing, numbers}
 use Rattle.wasm_meaning.specs.InTurn.{JoinsEarlier}
@@ -21,7 +22,7 @@ use Rattle.worlds_in_turn.proofs.FillPaths.{LowInside, Low, inside, outside, end
 
 -- ---- kinds ----
 
-key_kind : (m : Module) (pair : Pair) (d : ImportDesc) (key : OwnKey) → own_key_of m pair d ≡ Some key → kind_of_key key ≡ kind_of_import d
+key_kind : (m : Module) (pair : Pair) (d : ImportDesc) (key : OwnKey) → own_key_of m pair d ≡ Some key → kind_of_key key ≡ space_of_import d
 key_kind m pair (im.Func ty) key e = let t = then_is (import_type m ty) _ key e in ap kind_of_key (sym (some_is t.2))
 key_kind m pair (im.Table ty) key e = ap kind_of_key (sym (some_is e))
 key_kind m pair (im.Memory l) key e = ap kind_of_key (sym (some_is e))
@@ -43,7 +44,7 @@ module _ (env : Environment) (parts : List Part) where
     pub entity : Entity
     pub end : end_of parts s ≡ Some (Defined entity)
     pub is : LowInside parts s.part entity
-    pub kind : kind_of_export entity.what ≡ k
+    pub kind : space_of_export entity.what ≡ k
     pub within : index_of_export entity.what - length (imports_of k is.of) < defined_count k is.of
     pub address : a ≡ base env parts k entity.part + (index_of_export entity.what - length (imports_of k is.of))
 
@@ -56,7 +57,7 @@ module _ (env : Environment) (parts : List Part) where
     pub is_part : module_at parts last.part ≡ Some of
     pub import : Import
     pub is_import : slice_get of.imports last.import ≡ Some import
-    pub kind : kind_of_import import.desc ≡ k
+    pub kind : space_of_import import.desc ≡ k
     pub thing : imported_thing env parts last ≡ Some (thing_at k a)
     pub low : a < own_count k env
 
@@ -68,7 +69,7 @@ module _ (env : Environment) (parts : List Part) where
       where
         go : (end : End) → end_of parts s ≡ Some end → thing_of env parts end ≡ Some x → Low parts s.part end → AtDefined k s a ⊎ AtOwn k s a
         go (Defined e) ends thing (inside low) =
-            let kd = kind_of_export e.what in
+            let kd = space_of_export e.what in
             let l = low.within in
             let f = low.follows in
             let less : index_of_export e.what - length (imports_of kd low.of) < defined_count kd low.of = omega (arith, l, f) in

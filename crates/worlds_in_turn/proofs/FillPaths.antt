@@ -3,7 +3,8 @@ use Rattle.std.proofs.Common.{◌≡◌, ◌∙◌, refl, sym, ap, subst, ℕ, z
 use Rattle.wasm_tree.specs.declared.module.Import.{Import}
 use Rattle.wasm_tree.specs.declared.module.Module.{Module}
 use Rattle.wasm_meaning.specs.Paths.{Next, Ends, Goes, walk, walk_on}
-use Rattle.wasm_meaning.specs.Linking.{Part, Site, Entity, End, Defined, Outside, kind_of_export, index_of_export, imports_of, module_at, import_at, export_named, source_of, joined, imported_as, entity_step, joined_step, import_step, end_of, sites}
+use Rattle.wasm_meaning.specs.Linking.{Part, Site, Entity, End, Defined, Outside, imports_of, module_at, import_at, export_named, source_of, joined, imported_as, entity_step, joined_step, import_step, end_of, sites}
+use Rattle.wasm_tree.specs.Spaces.{index_of_export, space_of_export}
 use Rattle.wasm_meaning.specs.World.{defined_count}
 use Rattle.wasm_meaning.specs.InTurn.{JoinsEarlier}
 use Rattle.worlds_in_turn.proofs.Things.{then_is, some_is}
@@ -14,8 +15,8 @@ pub record LowInside (parts : List Part) (p : ℕ) (e : Entity) : Type 0 where
   pub before : e.part < p
   pub of : Module
   pub is_part : module_at parts e.part ≡ Some of
-  pub follows : length (imports_of (kind_of_export e.what) of) ≤ index_of_export e.what
-  pub within : index_of_export e.what < length (imports_of (kind_of_export e.what) of) + defined_count (kind_of_export e.what) of
+  pub follows : length (imports_of (space_of_export e.what) of) ≤ index_of_export e.what
+  pub within : index_of_export e.what < length (imports_of (space_of_export e.what) of) + defined_count (space_of_export e.what) of
 
 pub data Low (parts : List Part) (p : ℕ) : End → Type 0 where
   inside : {e : Entity} → LowInside parts p e → Low parts p (Defined e)
@@ -64,8 +65,8 @@ module _ (parts : List Part) (there : ExportsThere parts) (earlier : JoinsEarlie
           let before = earlier s.part s.import a.0 i x a.1 a.2 j in
           let w = exported parts i x j in
           let low = there x.part w.of i.field x.what w.is_part w.named in
-          let none : option_and_then (λ n. Some (record { part = x.part; import = n })) (slice_get (imports_of (kind_of_export x.what) w.of) (index_of_export x.what)) ≡ None =
-          sym (ap (λ o. option_and_then (λ m. option_and_then (λ n. Some (record { part = x.part; import = n })) (slice_get (imports_of (kind_of_export x.what) m) (index_of_export x.what))) o) w.is_part) ∙ imp in
+          let none : option_and_then (λ n. Some (record { part = x.part; import = n })) (slice_get (imports_of (space_of_export x.what) w.of) (index_of_export x.what)) ≡ None =
+          sym (ap (λ o. option_and_then (λ m. option_and_then (λ n. Some (record { part = x.part; import = n })) (slice_get (imports_of (space_of_export x.what) m) (index_of_export x.what))) o) w.is_part) ∙ imp in
           let same : Defined x ≡ end = some_is (on (Ends (Defined x)) (step_is i h ∙ ap (λ o. Some (joined_step parts s o)) j ∙ ap (λ o. Some (entity_step x o)) imp)) in
           subst (Low parts s.part) same (inside (record { before = before; of = w.of; is_part = w.is_part; follows = past_end _ _ (then_none _ _ none); within = low }))
         where
@@ -76,7 +77,7 @@ module _ (parts : List Part) (there : ExportsThere parts) (earlier : JoinsEarlie
           let a = then_is (module_at parts s.part) _ i h in
           let before = earlier s.part s.import a.0 i x a.1 a.2 j in
           let m = then_is (module_at parts x.part) _ t imp in
-          let n = then_is (slice_get (imports_of (kind_of_export x.what) m.0) (index_of_export x.what)) _ t m.2 in
+          let n = then_is (slice_get (imports_of (space_of_export x.what) m.0) (index_of_export x.what)) _ t m.2 in
           let part : x.part ≡ t.part = ap (λ z. z.part) (some_is n.2) in
           let far = more t end (on (Goes t) (step_is i h ∙ ap (λ o. Some (joined_step parts s o)) j ∙ ap (λ o. Some (entity_step x o)) imp)) in
           low_later parts t.part s.part end (omega (arith, before, part)) far

@@ -20,14 +20,14 @@ use Rattle.wasm_tree.specs.declared.module.GlobalDef.{GlobalDef}
 use Rattle.wasm_tree.specs.declared.module.ElemSeg.{ElemSeg}
 use Rattle.wasm_tree.specs.declared.module.DataSeg.{DataSeg}
 use Rattle.wasm_tree.specs.declared.module.Module.{Module}
-use Rattle.wasm_tree.specs.Spaces.{func_of, table_of, memory_of, global_of, imported_globals, globals_of}
+use Rattle.wasm_tree.specs.Spaces.{func_of, table_of, memory_of, global_of, imported_globals, globals_of, index_of_export, space_of_export, space_of_import}
 use Rattle.wasm_typing.specs.Typing.{only}
 use Rattle.wasm_valid.specs.declared.kinds.ItemKind.{ItemKind}
 use Rattle.wasm_valid.specs.declared.kinds.ItemKind.TheVariants as kind
 use Rattle.wasm_valid.specs.Constants.{const_type}
 use Rattle.wasm_valid.specs.Validity.{IsValid, HoldsAt, count_of, InSpace, ElemModeHolds, DataModeHolds}
 use Rattle.wasm_meaning.specs.State.{Text}
-use Rattle.wasm_meaning.specs.Linking.{Part, places, has_kind, same_text, kind_of_import, kind_of_export, index_of_export, imports_of, module_at, export_named}
+use Rattle.wasm_meaning.specs.Linking.{Part, places, has_kind, same_text, imports_of, module_at, export_named}
 use Rattle.wasm_meaning.specs.World.{is_there, defined_count}
 use Rattle.worlds_in_turn.proofs.Extends.{append_length}
 use Rattle.worlds_in_turn.proofs.Things.{some_is}
@@ -55,7 +55,7 @@ not_true false e = refl
 
 -- ---- imports of a kind, and what they add to its space ----
 
-same_many : {A : Type 0} (k : Space) (f : ImportDesc → Option A) → ((d : ImportDesc) → is_there (f d) ≡ same_space k (kind_of_import d)) → (is : List Import) (off : ℕ) → length (filter_map (λ i. f i.desc) is) ≡ length (places (has_kind k) is off)
+same_many : {A : Type 0} (k : Space) (f : ImportDesc → Option A) → ((d : ImportDesc) → is_there (f d) ≡ same_space k (space_of_import d)) → (is : List Import) (off : ℕ) → length (filter_map (λ i. f i.desc) is) ≡ length (places (has_kind k) is off)
 same_many k f h [] off = refl
 same_many {A} k f h (i ∷ is) off = go (f i.desc) (has_kind k i) (h i.desc) (same_many k f h is (suc off))
   where
@@ -65,25 +65,25 @@ same_many {A} k f h (i ∷ is) off = go (f i.desc) (has_kind k i) (h i.desc) (sa
     go (Some a) true e r = ap suc r
     go (Some a) false e r = absurd (let k = e in cc)
 
-funcs_many : (d : ImportDesc) → is_there (func_of d) ≡ same_space Functions (kind_of_import d)
+funcs_many : (d : ImportDesc) → is_there (func_of d) ≡ same_space Functions (space_of_import d)
 funcs_many (im.Func t) = refl
 funcs_many (im.Table t) = refl
 funcs_many (im.Memory l) = refl
 funcs_many (im.Global t) = refl
 
-tables_many : (d : ImportDesc) → is_there (table_of d) ≡ same_space Tables (kind_of_import d)
+tables_many : (d : ImportDesc) → is_there (table_of d) ≡ same_space Tables (space_of_import d)
 tables_many (im.Func t) = refl
 tables_many (im.Table t) = refl
 tables_many (im.Memory l) = refl
 tables_many (im.Global t) = refl
 
-memories_many : (d : ImportDesc) → is_there (memory_of d) ≡ same_space Memories (kind_of_import d)
+memories_many : (d : ImportDesc) → is_there (memory_of d) ≡ same_space Memories (space_of_import d)
 memories_many (im.Func t) = refl
 memories_many (im.Table t) = refl
 memories_many (im.Memory l) = refl
 memories_many (im.Global t) = refl
 
-globals_many : (d : ImportDesc) → is_there (global_of d) ≡ same_space Globals (kind_of_import d)
+globals_many : (d : ImportDesc) → is_there (global_of d) ≡ same_space Globals (space_of_import d)
 globals_many (im.Func t) = refl
 globals_many (im.Table t) = refl
 globals_many (im.Memory l) = refl
@@ -104,7 +104,7 @@ imported [] off x rest l = absurd (omega (arith, l))
 imported (i ∷ is) off x rest l = go i.desc refl x l (imported is (suc off))
   where
     abbrev_found : ImportDesc → List ℕ
-    abbrev_found d = cond (same_space Globals (kind_of_import d)) (off ∷ places (has_kind Globals) is (suc off)) (places (has_kind Globals) is (suc off))
+    abbrev_found d = cond (same_space Globals (space_of_import d)) (off ∷ places (has_kind Globals) is (suc off)) (places (has_kind Globals) is (suc off))
 
     past : (d : ImportDesc) → i.desc ≡ d → (y : ℕ) → Imported is (suc off) y rest → (x : ℕ) → ((at : ℕ) → slice_get (places (has_kind Globals) is (suc off)) y ≡ Some at → slice_get (abbrev_found d) x ≡ Some at) → ((t : GlobalType) → slice_get (imported_globals is ++ rest) y ≡ Some t → slice_get (cons_option (global_of d) (imported_globals is) ++ rest) x ≡ Some t) → Imported (i ∷ is) off x rest
     past d e y r x f g =
@@ -201,7 +201,7 @@ module _ (items : (m : Module) → IsValid m ↔ ((k : ItemKind) (i : ℕ) → i
       go true h more = (0, e, refl, some_is h)
       go false h more = let r = more h in (suc r.0, r.1, r.2, r.3)
 
-  in_space : (m : Module) (d : ExportDesc) → InSpace m d → index_of_export d < length (imports_of (kind_of_export d) m) + defined_count (kind_of_export d) m
+  in_space : (m : Module) (d : ExportDesc) → InSpace m d → index_of_export d < length (imports_of (space_of_export d) m) + defined_count (space_of_export d) m
   in_space m (ex.Func x) h =
       let a = append_length (filter_map (λ i. func_of i.desc) m.imports) (map (λ f. f.ty) m.funcs) in
       let b = same_many Functions func_of funcs_many m.imports 0 in

@@ -12,7 +12,8 @@ use Rattle.wasm_tree.specs.declared.module.Module.{Module}
 use Rattle.wasm_meaning.specs.State.{Val, Inst, Global, Store}
 use Rattle.wasm_meaning.specs.Values.{same_type}
 use Rattle.wasm_meaning.specs.Paths.{Next, Ends, Goes, walk, walk_on}
-use Rattle.wasm_meaning.specs.Linking.{Part, Site, End, Defined, Outside, Read, places, has_kind, kind_of_import, space_index, index_of_export, imports_of, module_at, import_at, sites_in, sites_from, sites, end_of, global_import, initial, outside_read, end_step, read_step, initials_from, read_of}
+use Rattle.wasm_meaning.specs.Linking.{Part, Site, End, Defined, Outside, Read, places, has_kind, space_index, imports_of, module_at, import_at, sites_in, sites_from, sites, end_of, global_import, initial, outside_read, end_step, read_step, initials_from, read_of}
+use Rattle.wasm_tree.specs.Spaces.{index_of_export, space_of_import}
 use Rattle.wasm_meaning.specs.Environment.{Environment, GlobalAt, own_globals, all_of}
 use Rattle.wasm_meaning.specs.World.{all_there, base, same_bool, is_match, is_matched, imported_thing, insts_from, inst_of, own_store, stores_from, global_with, new_func, elem_with, const_value, value_of_read, value_of, address_of, joined_stores}
 use Rattle.wasm_meaning.specs.InTurn.{JoinsEarlier}
@@ -41,10 +42,10 @@ same_kind_self Tables = refl
 same_kind_self Memories = refl
 same_kind_self Globals = refl
 
-index_place : (k : Space) (is : List Import) (n off : ℕ) (i : Import) → slice_get is n ≡ Some i → kind_of_import i.desc ≡ k → slice_get (places (has_kind k) is off) (space_index is n k) ≡ Some (off + n)
+index_place : (k : Space) (is : List Import) (n off : ℕ) (i : Import) → slice_get is n ≡ Some i → space_of_import i.desc ≡ k → slice_get (places (has_kind k) is off) (space_index is n k) ≡ Some (off + n)
 index_place k [] n off i e h = absurd (let f = e in cc)
 index_place k (j ∷ js) zero off i e h =
-    let same : same_space k (kind_of_import j.desc) ≡ true = ap (λ i. same_space k (kind_of_import i.desc)) (some_is e) ∙ ap (same_space k) h ∙ same_kind_self k in
+    let same : same_space k (space_of_import j.desc) ≡ true = ap (λ i. same_space k (space_of_import i.desc)) (some_is e) ∙ ap (same_space k) h ∙ same_kind_self k in
     let z : off ≡ off + 0 = omega arith in
     ap (λ b. slice_get (cond b (off ∷ places (has_kind k) js (suc off)) (places (has_kind k) js (suc off))) 0) same ∙ ap Some z
 index_place k (j ∷ js) (suc n) off i e h = go (has_kind k j) (index_place k js n (suc off) i e h)

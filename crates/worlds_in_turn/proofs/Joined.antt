@@ -4,7 +4,8 @@ use Rattle.wasm_tree.specs.declared.module.Import.{Import}
 use Rattle.wasm_tree.specs.declared.module.ExportDesc.{ExportDesc}
 use Rattle.wasm_tree.specs.declared.module.Module.{Module}
 use Rattle.wasm_meaning.specs.State.{Text, Inst}
-use Rattle.wasm_meaning.specs.Linking.{Part, Site, Entity, End, Defined, Outside, kind_of_export, index_of_export, imports_of, module_at, import_at, is_named, export_named, first_place, source_of, joined, imported_as, entity_step, joined_step, import_step, end_of}
+use Rattle.wasm_meaning.specs.Linking.{Part, Site, Entity, End, Defined, Outside, imports_of, module_at, import_at, is_named, export_named, first_place, source_of, joined, imported_as, entity_step, joined_step, import_step, end_of}
+use Rattle.wasm_tree.specs.Spaces.{index_of_export, space_of_export}
 use Rattle.wasm_meaning.specs.Environment.{Environment, Thing, owned_of, owned_at}
 use Rattle.wasm_meaning.specs.World.{defined_count, given, own_key, thing_of, imported_thing, insts_from, inst_of, address_in}
 use Rattle.wasm_meaning.specs.InTurn.{Made, made_named, exported_by, thing_or_own, thing_for, JoinsEarlier}
@@ -53,7 +54,7 @@ named name (suc k) off (p ∷ ps) (i ∷ is) e = go (is_named name p) refl (name
 
 -- what parts export is there
 abbrev pub ExportsThere : List Part → Type 0
-ExportsThere parts = (p : ℕ) (m : Module) (field : Text) (d : ExportDesc) → module_at parts p ≡ Some m → export_named m.exports field ≡ Some d → index_of_export d < length (imports_of (kind_of_export d) m) + defined_count (kind_of_export d) m
+ExportsThere parts = (p : ℕ) (m : Module) (field : Text) (d : ExportDesc) → module_at parts p ≡ Some m → export_named m.exports field ≡ Some d → index_of_export d < length (imports_of (space_of_export d) m) + defined_count (space_of_export d) m
 
 pub module_is : (parts : List Part) (p : ℕ) (part : Part) → slice_get parts p ≡ Some part → module_at parts p ≡ Some part.«module»
 module_is parts p part e = ap (λ o. option_and_then (λ part. Some part.«module») o) e

@@ -6,7 +6,8 @@ use Rattle.wasm_tree.specs.declared.module.Import.{Import}
 use Rattle.wasm_tree.specs.declared.module.Module.{Module}
 use Rattle.wasm_meaning.specs.State.{Inst}
 use Rattle.wasm_meaning.specs.Paths.{walk, walk_on}
-use Rattle.wasm_meaning.specs.Linking.{Part, Entity, kind_of_export, index_of_export, imports_of, module_at, import_at, export_named, source_of, joined, joined_step, import_step, sites, end_of}
+use Rattle.wasm_meaning.specs.Linking.{Part, Entity, imports_of, module_at, import_at, export_named, source_of, joined, joined_step, import_step, sites, end_of}
+use Rattle.wasm_tree.specs.Spaces.{index_of_export, space_of_export}
 use Rattle.wasm_meaning.specs.Environment.{Environment, Thing, owned_of, owned_at}
 use Rattle.wasm_meaning.specs.World.{given, own_key, defined_count, base, thing_at, address_of, imported_thing, thing_of, all_there, numbers, insts_from, address_in}
 use Rattle.wasm_meaning.specs.InTurn.{JoinsEarlier}
@@ -118,9 +119,9 @@ module _ (env : Environment) (parts : List Part) (insts : List Inst) (are : inst
           let j' : joined parts i ≡ Some (record { part = s.0; what = c.0 }) = j ∙ sym c.2 in
           let address = joins env parts insts are size earlier p n m i is at x s.0 part.0 inst.0 c.0 j' part.1 inst.1 named h in
           let low : s.0 < p = earlier p n m i (record { part = s.0; what = c.0 }) is at j' in
-          let at_place = then_is (slice_get (space_in inst.0 (kind_of_export c.0)) (index_of_export c.0)) (λ a. Some (thing_at (kind_of_export c.0) a)) x (sym (address_is inst.0 c.0) ∙ address) in
-          let is_thing = same_thing k (kind_of_export c.0) at_place.0 a (ap (address_of k) (some_is at_place.2) ∙ has) in
-          let r = before s.0 low b.0 inst.0 b.1 inst.1 (kind_of_export c.0) (index_of_export c.0) at_place.0 at_place.1 in
+          let at_place = then_is (slice_get (space_in inst.0 (space_of_export c.0)) (index_of_export c.0)) (λ a. Some (thing_at (space_of_export c.0) a)) x (sym (address_is inst.0 c.0) ∙ address) in
+          let is_thing = same_thing k (space_of_export c.0) at_place.0 a (ap (address_of k) (some_is at_place.2) ∙ has) in
+          let r = before s.0 low b.0 inst.0 b.1 inst.1 (space_of_export c.0) (index_of_export c.0) at_place.0 at_place.1 in
           let t : at_place.0 < base env parts k (suc s.0) = subst (λ k. at_place.0 < base env parts k (suc s.0)) is_thing.0 r in
           let l = more k (suc s.0) p low in
           omega (arith, t, l, is_thing.1)

@@ -9,13 +9,13 @@ use Rattle.wasm_tree.specs.declared.module.Import.{Import}
 use Rattle.wasm_tree.specs.declared.module.ImportDesc.{ImportDesc}
 use Rattle.wasm_tree.specs.declared.module.ImportDesc.TheVariants as im
 use Rattle.wasm_tree.specs.declared.module.Module.{Module}
-use Rattle.wasm_tree.specs.Spaces.{func_of, imported_funcs, funcs_of, type_of_func}
+use Rattle.wasm_tree.specs.Spaces.{func_of, imported_funcs, funcs_of, type_of_func, space_of_import}
 use Rattle.wasm_meaning.specs.Outcomes.{Outcome, Gives, Traps, IllTyped, bind, at}
 use Rattle.wasm_meaning.specs.State.{Inst, Func, Store}
 use Rattle.wasm_meaning.specs.Values.{same_func_type}
 use Rattle.wasm_meaning.specs.Control as control
 use Rattle.wasm_meaning.specs.Control.{type_at}
-use Rattle.wasm_meaning.specs.Linking.{Part, kind_of_import, has_kind, imports_of, module_at, import_at, sites}
+use Rattle.wasm_meaning.specs.Linking.{Part, has_kind, imports_of, module_at, import_at, sites}
 use Rattle.wasm_meaning.specs.Environment.{Environment, Thing, FuncAt, all_of}
 use Rattle.wasm_meaning.specs.World.{given, base, address_of, import_type, imported_thing, all_there, numbers, insts_from, new_func, global_with, elem_with, value_of, is_match, is_matched}
 use Rattle.wasm_meaning.specs.InTurn.{JoinsEarlier}
@@ -28,7 +28,7 @@ use Rattle.worlds_in_turn.proofs.Turn.{SitesThere, all_is, place_at}
 use Rattle.worlds_in_turn.proofs.Beside.{Laid, at_allocated_funcs}
 use Rattle.worlds_in_turn.proofs.Given.{part_there}
 
-is_func : (d : ImportDesc) → lists.is_some (func_of d) ≡ same_space Functions (kind_of_import d)
+is_func : (d : ImportDesc) → lists.is_some (func_of d) ≡ same_space Functions (space_of_import d)
 is_func (im.Func ty) = refl
 is_func (im.Table ty) = refl
 is_func (im.Memory l) = refl

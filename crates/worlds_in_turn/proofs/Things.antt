@@ -12,7 +12,8 @@ use Rattle.wasm_tree.specs.declared.module.ExportDesc.TheVariants as ex
 use Rattle.wasm_tree.specs.declared.module.Module.{Module}
 use Rattle.wasm_meaning.specs.State.{Inst}
 use Rattle.wasm_meaning.specs.Paths.{Next, Ends, Goes, walk, walk_on}
-use Rattle.wasm_meaning.specs.Linking.{kind_of_import, Part, Site, Entity, End, places, has_kind, kind_of_export, index_of_export, imports_of, module_at, imported_as, import_step, sites, end_of}
+use Rattle.wasm_meaning.specs.Linking.{Part, Site, Entity, End, places, has_kind, imports_of, module_at, imported_as, import_step, sites, end_of}
+use Rattle.wasm_tree.specs.Spaces.{index_of_export, space_of_export, space_of_import}
 use Rattle.wasm_meaning.specs.Environment.{Environment, Thing, FuncAt, TableAt, MemoryAt, GlobalAt}
 use Rattle.wasm_meaning.specs.World.{defined_count, base, thing_at, address_of, defined_addresses, defined_thing, imported_thing, all_there, numbers, space, inst_of, insts_from, address_in, defined_before}
 use Rattle.wasm_meaning.specs.InTurn.{addresses_of}
@@ -135,7 +136,7 @@ cons_each : (g : ℕ → Option Thing) (i : Import) (is : List Import) (n : ℕ)
 cons_each g i is n x xs e h = rw (e, h) refl
 
 abbrev AtDesc : (ℕ → Option Thing) → List Import → ℕ → ImportDesc → Space → Option (List ℕ)
-AtDesc g is n d k = all_there (λ j. option_and_then (address_of k) (g j)) (cond (same_space k (kind_of_import d)) (n ∷ places (has_kind k) is (suc n)) (places (has_kind k) is (suc n)))
+AtDesc g is n d k = all_there (λ j. option_and_then (address_of k) (g j)) (cond (same_space k (space_of_import d)) (n ∷ places (has_kind k) is (suc n)) (places (has_kind k) is (suc n)))
 
 pub gathered : (g : ℕ → Option Thing) (is : List Import) (n : ℕ) (fs ts ms gs : List ℕ) → of_kind g Functions is n ≡ Some fs → of_kind g Tables is n ≡ Some ts → of_kind g Memories is n ≡ Some ms → of_kind g Globals is n ≡ Some gs → Gathered g is n fs ts ms gs
 gathered g [] n fs ts ms gs f t m h = record { things = []; each = refl; funcs = some_is f; tables = some_is t; mems = some_is m; globals = some_is h }
@@ -190,7 +191,7 @@ space_in i Tables = i.tables
 space_in i Memories = i.mems
 space_in i Globals = i.globals
 
-pub address_is : (i : Inst) (d : ExportDesc) → address_in i d ≡ option_and_then (λ a. Some (thing_at (kind_of_export d) a)) (slice_get (space_in i (kind_of_export d)) (index_of_export d))
+pub address_is : (i : Inst) (d : ExportDesc) → address_in i d ≡ option_and_then (λ a. Some (thing_at (space_of_export d) a)) (slice_get (space_in i (space_of_export d)) (index_of_export d))
 address_is i (ex.Func x) = refl
 address_is i (ex.Table x) = refl
 address_is i (ex.Memory x) = refl
@@ -248,7 +249,7 @@ past_none (x ∷ xs) (suc n) e = let l = past_none xs n e in omega (arith, l)
 
 module _ (env : Environment) (parts : List Part) (p : ℕ) (m : Module) (is_part : module_at parts p ≡ Some m) (i : Inst) (inst : IsInst env parts p m i) (d : ExportDesc) where
   abbrev k : Space
-  k = kind_of_export d
+  k = space_of_export d
 
   abbrev entity : Entity
   entity = record { part = p; what = d }
@@ -265,7 +266,7 @@ module _ (env : Environment) (parts : List Part) (p : ℕ) (m : Module) (is_part
       let y = index_of_export d - length (imports_of k m) in
       let e : length s.0 + y ≡ index_of_export d = omega (arith, high, l) in
       let at = ap (λ xs. slice_get xs (index_of_export d)) (sym s.2) ∙ ap (slice_get (s.0 ++ numbers (base env parts k p) (defined_count k m))) (sym e) ∙ place_behind s.0 _ y in
-      address_is i d ∙ ap (λ o. option_and_then (λ a. Some (thing_at k a)) o) at ∙ sym (ap (λ o. option_and_then (λ m. let k = kind_of_export d in option_and_then (λ a. Some (thing_at k a)) (slice_get (defined_addresses env parts k p m) (index_of_export d - length (imports_of k m)))) o) is_part)
+      address_is i d ∙ ap (λ o. option_and_then (λ a. Some (thing_at k a)) o) at ∙ sym (ap (λ o. option_and_then (λ m. let k = space_of_export d in option_and_then (λ a. Some (thing_at k a)) (slice_get (defined_addresses env parts k p m) (index_of_export d - length (imports_of k m)))) o) is_part)
     where
       then_none : {A B : Type 0} (o : Option A) (f : A → B) → option_and_then (λ a. Some (f a)) o ≡ None → o ≡ None
       then_none None f e = refl

@@ -1,0 +1,32 @@
+-- A test, or a fact, of each element of a list, by its place.
+use Rattle.std.proofs.Common.{◌≡◌, subst, refl, ℕ, zero, suc, List, [], ◌∷◌, Some, Bool, true, false, ◌||◌, slice_get}
+use Rattle.std.specs.List.{list_any, list_all}
+use Rattle.std.proofs.lemmas.Bool.{and_from}
+use Rattle.base_lists.specs.Every.{Every}
+use Rattle.base_lists.proofs.Bools.{left_true, right_true}
+use Rattle.base_lists.proofs.Places.{Has}
+
+pub every_at : {A : Type 0} (P : A → Type 0) (xs : List A) (n : ℕ) (x : A) → Every P xs → slice_get xs n ≡ Some x → P x
+every_at P [] n x e h = cc
+every_at P (y ∷ ys) zero x e h = let same : y ≡ x = cc in subst P same e.0
+every_at P (y ∷ ys) (suc n) x e h = every_at P ys n x e.1 h
+
+pub list_all_each : {A : Type 0} (test : A → Bool) (xs : List A) → list_all test xs ≡ true → (n : ℕ) (x : A) → slice_get xs n ≡ Some x → test x ≡ true
+list_all_each test [] h n x e = cc
+list_all_each test (y ∷ ys) h zero x e = let same : y ≡ x = cc in subst (λ z. test z ≡ true) same (left_true (test y) (list_all test ys) h)
+list_all_each test (y ∷ ys) h (suc n) x e = list_all_each test ys (right_true (test y) (list_all test ys) h) n x e
+
+pub list_all_from : {A : Type 0} (test : A → Bool) (xs : List A) → ((n : ℕ) (x : A) → slice_get xs n ≡ Some x → test x ≡ true) → list_all test xs ≡ true
+list_all_from test [] h = refl
+list_all_from test (y ∷ ys) h = and_from (test y) (list_all test ys) (h 0 y refl) (list_all_from test ys (λ n. h (suc n)))
+
+pub list_any_there : {A : Type 0} (test : A → Bool) (xs : List A) → list_any test xs ≡ true → (x : A) × Has xs x × (test x ≡ true)
+list_any_there test [] h = absurd (let k = h in cc)
+list_any_there {A} test (y ∷ ys) h = by (list_any_there test ys) (test y) refl h
+  where
+    more : (x : A) × Has ys x × (test x ≡ true) → (x : A) × Has (y ∷ ys) x × (test x ≡ true)
+    more r = (r.0, (suc r.1.0, r.1.1), r.2)
+
+    by : (list_any test ys ≡ true → (x : A) × Has ys x × (test x ≡ true)) → (b : Bool) → test y ≡ b → (b || list_any test ys) ≡ true → (x : A) × Has (y ∷ ys) x × (test x ≡ true)
+    by on true e k = (y, (0, refl), e)
+    by on false e k = more (on k)
