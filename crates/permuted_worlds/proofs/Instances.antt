@@ -16,7 +16,6 @@ use Rattle.wasm_meaning.specs.World.{numbers, own_count, defined_count, space, i
 use Rattle.index_remap.specs.declared.remap.Remap.{Remap}
 use Rattle.index_remap.specs.Renumbered.{has, all_true, new_import, new_import_desc, new_func, fits_import, fits_import_desc, fits_func, fits_global, fits_export, fits_start, fits_elem, fits_data, fits_tree}
 use Rattle.index_remap.specs.Related.{Pairing, OptRel, some, ListRel}
-use Rattle.index_remap.specs.Related as to
 use Rattle.index_remap.proofs.Rel.{append_rel}
 use Rattle.remap_typing.specs.Indices.{with_entry}
 use Rattle.permuted_worlds.specs.Named.{EntriesName}
@@ -24,7 +23,7 @@ use Rattle.permuted_worlds.specs.Permuted.{moving, IsOrder, permuted}
 use Rattle.permuted_worlds.proofs.Places.{left_true, right_true, index_at, found, within, place_left, place_right, map_length, numbers_length, place_numbers, index_numbers, moved_low, moved_high, moved_length, then_rel, then_same, opt_self, opt_at, place_rel, numbers_rel, all_length, names_of}
 use Rattle.permuted_worlds.specs.Alone.{one, import_places, addresses, address_in}
 use Rattle.permuted_worlds.proofs.Alone.{space_is, funcs_counted}
-use Rattle.permuted_worlds.proofs.Partners.{pairing, func_moves, same_table, same_memory, same_global, same_elem, same_data, kind_in, addresses_rel}
+use Rattle.permuted_worlds.proofs.Partners.{pairing, func_moves, same_table, same_memory, same_global, same_elem, same_data, addresses_rel}
 
 -- every index that the tree names has an entry
 pub record Fits (m : Remap) (t : Module) : Type 0 where
@@ -123,7 +122,7 @@ module _ (env : Environment) (places : List ℕ) (t : Module) where
     count_stays : (k : Space) (n : ℕ) → defined_count k u ≡ n → space env (one u) k 0 u ≡ option_and_then (λ l. Some (l ++ numbers (own_count k env) n)) (addresses env t.types t.imports k)
     count_stays k n e = space_is env u k ∙ ap₂ (λ is c. option_and_then (λ l. Some (l ++ numbers (own_count k env) c)) (addresses env t.types is k)) (imports_stay fit) e
 
-    same_space : (k : Space) → defined_count k u ≡ defined_count k t → ((a : ℕ) → a < own_count k env + defined_count k t → R.of (kind_in env places t k) a a) → OptRel (ListRel (R.of (kind_in env places t k))) (space env (one t) k 0 t) (space env (one u) k 0 u)
+    same_space : (k : Space) → defined_count k u ≡ defined_count k t → ((a : ℕ) → a < own_count k env + defined_count k t → R.of k a a) → OptRel (ListRel (R.of k)) (space env (one t) k 0 t) (space env (one u) k 0 u)
     same_space k e h =
         opt_at (space_is env t k) (count_stays k _ e) (then_same (addresses env t.types t.imports k) (λ l is. some (append_rel (opt_self (addresses_rel env places t t.types t.imports k) is) (numbers_rel _ _ (λ a _ lt. h a lt)))))
 

@@ -1,5 +1,5 @@
 -- Every import of the module matches where every one of its reordering does.
-use Rattle.std.proofs.Common.{◌≡◌, ℕ, zero, suc, List, [], ◌++◌, length, Some, false, cond, refl, sym, ap, ap₂, ◌∙◌, option_and_then, slice_get, unwrap_or, ◌&&◌}
+use Rattle.std.proofs.Common.{◌≡◌, ℕ, zero, suc, List, [], ◌++◌, length, Some, false, refl, sym, ap, ap₂, ◌∙◌, option_and_then, slice_get, unwrap_or, ◌&&◌}
 use Rattle.wasm_tree.specs.declared.space.Space.TheVariants.{Tables, Memories, Globals}
 use Rattle.wasm_tree.specs.declared.types.TableType.{TableType}
 use Rattle.wasm_tree.specs.declared.module.Func as tree
@@ -55,10 +55,10 @@ module _ (env : Environment) (places : List ℕ) (t : Module) (funcs : List tree
 
   matched_same : (n : ℕ) → is_matched env (one t) s (site n) ≡ is_matched env (one u) z (site n)
   matched_same n =
-      ap unwrap_or (ap (λ x. option_and_then (λ i. option_and_then (is_match s t i.desc) x) (slice_get t.imports n)) (thing_is env t n)
+      ap (λ o. unwrap_or o false) (ap (λ x. option_and_then (λ i. option_and_then (is_match s t i.desc) x) (slice_get t.imports n)) (thing_is env t n)
       ∙ on_some (slice_get t.imports n) (λ i. then_eq (thing_rel env places t t.types (slice_get t.imports n)) (λ _ _ r. match_same i.desc r))
       ∙ ap (λ is. option_and_then (λ i. option_and_then (is_match z u i.desc) (thing_in env t.types (slice_get is n))) (slice_get is n)) (sym (imports_stay env places t fit))
-      ∙ ap (λ x. option_and_then (λ i. option_and_then (is_match z u i.desc) x) (slice_get u.imports n)) (sym (thing_is env u n))) false
+      ∙ ap (λ x. option_and_then (λ i. option_and_then (is_match z u i.desc) x) (slice_get u.imports n)) (sym (thing_is env u n)))
 
   each_matched : (count n : ℕ) → all_of (is_matched env (one t) s) (sites_in 0 count n ++ []) ≡ all_of (is_matched env (one u) z) (sites_in 0 count n ++ [])
   each_matched zero n = refl

@@ -1,7 +1,7 @@
 -- The relation of addresses: a function stands for itself at its new place, and all else for itself.
 use Rattle.std.proofs.Common.{◌≡◌, ℕ, ◌+◌, ◌<◌, List, [], length, Option, Some, None, Bool, true, false, sym, ap, subst, ◌∙◌, arith, option_and_then, slice_get}
 use Rattle.wasm_tree.specs.declared.space.Space.{Space}
-use Rattle.wasm_tree.specs.declared.space.Space.TheVariants.{Functions, Tables, Memories, Globals, ElementSegments, DataSegments}
+use Rattle.wasm_tree.specs.declared.space.Space.TheVariants.{Types, Functions, Tables, Memories, Globals, ElementSegments, DataSegments}
 use Rattle.std.specs.Prelude.{nat_eq}
 use Rattle.std.proofs.lemmas.Bool.{eqb-true, eq-eqb}
 use Rattle.wasm_tree.specs.declared.types.FuncType.{FuncType}
@@ -23,6 +23,7 @@ use Rattle.permuted_worlds.specs.Alone.{key_in, thing_in, addresses}
 
 -- for each address of a kind the one that stands for it
 abbrev pub partners : Environment → List ℕ → Module → Space → List ℕ
+partners env places t Types = []
 partners env places t Functions = moved (length (own_funcs env)) places
 partners env places t Tables = numbers 0 (length (own_tables env) + length t.tables)
 partners env places t Memories = numbers 0 (length (own_memories env) + length t.mems)
@@ -106,6 +107,7 @@ module _ (env : Environment) (places : List ℕ) (t : Module) where
       right k a b c p q = let e : Some b ≡ Some c = sym p ∙ q in cc
 
       left : (k : Space) (a b c : ℕ) → slice_get (partners env places t k) a ≡ Some c → slice_get (partners env places t k) b ≡ Some c → a ≡ b
+      left Types a b c p q = cc
       left Functions a b c p q = moves_left o (length (own_funcs env)) a b c (moves_by _ places a c p) (moves_by _ places b c q)
       left Tables a b c p q = row_left _ a b c p q
       left Memories a b c p q = row_left _ a b c p q
@@ -126,18 +128,12 @@ module _ (env : Environment) (places : List ℕ) (t : Module) where
   pub thing_rel : (types : List FuncType) (o : Option Import) → OptRel (ThingRel R) (thing_in env types o) (thing_in env types o)
   thing_rel types o = then_same o (λ i _. then_same (key_in types (pair_of i) i.desc) (λ key _. given_rel R env shares_own (same_key key) (owned_rel R env shares_own)))
 
-  abbrev pub kind_in : Space → Space
-  kind_in Functions = Functions
-  kind_in Tables = Tables
-  kind_in Memories = Memories
-  kind_in Globals = Globals
-
-  address_rel : (k : Space) {x y : Thing} → ThingRel R x y → OptRel (R.of (kind_in k)) (address_of k x) (address_of k y)
+  address_rel : (k : Space) {x y : Thing} → ThingRel R x y → OptRel (R.of k) (address_of k x) (address_of k y)
   address_rel Functions (a_func p) = some p
   address_rel Tables (a_table p) = some p
   address_rel Memories (a_memory p) = some p
   address_rel Globals (a_global p) = some p
   address_rel k p = none
 
-  pub addresses_rel : (types : List FuncType) (imports : List Import) (k : Space) → OptRel (ListRel (R.of (kind_in k))) (addresses env types imports k) (addresses env types imports k)
+  pub addresses_rel : (types : List FuncType) (imports : List Import) (k : Space) → OptRel (ListRel (R.of k)) (addresses env types imports k) (addresses env types imports k)
   addresses_rel types imports k = all_rel (self_rel (linking.places (has_kind k) imports 0) (λ n. then_rel (thing_rel types (slice_get imports n)) (λ _ _ p. address_rel k p)))

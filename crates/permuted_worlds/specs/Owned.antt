@@ -5,7 +5,6 @@ use Rattle.wasm_tree.specs.declared.space.Space.TheVariants.{Functions, Tables, 
 use Rattle.wasm_meaning.specs.Environment.{Environment, owned_of, own_tables, own_globals}
 use Rattle.wasm_meaning.specs.World.{own_count}
 use Rattle.index_remap.specs.Related.{Pairing, ListRel, TableRel, GlobalRel}
-use Rattle.index_remap.specs.Related as to
 use Rattle.index_remap.specs.RelatedRuns.{KeyRel}
 use Rattle.index_remap.specs.Laws.{passed}
 
