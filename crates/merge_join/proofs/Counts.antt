@@ -1,6 +1,5 @@
 -- How many stay or are defined before a place.
 use Rattle.std.proofs.Common.{◌≡◌, ◌∙◌, sym, ap, refl, ℕ, zero, suc, ◌+◌, ◌<◌, ◌≤◌, List, [], ◌∷◌, ◌++◌, length, take, arith, Bool, true, false, cond, Some, append_assoc, append-nil, option_and_then, unwrap_or}
-use Rattle.wasm_tree.specs.declared.space.Space.TheVariants.{DataSegments, ElementSegments}
 use Rattle.wasm_tree.specs.declared.space.Space.{Space}
 use Rattle.std.specs.Prelude.{filter}
 use Rattle.std.proofs.lemmas.List.{length-append, take_all}
@@ -99,47 +98,3 @@ imported_is ps k p m at = ap (λ o. unwrap_or (option_and_then (λ x. Some (leng
 pub count_none : (ps : List Part) (k : Space) → count_before ps k 0 0 ≡ 0
 unfolding count_before
 count_none ps k = refl
-
--- ---- element segments ----
-
-pub elems_none : (ps : List Part) → defined_before ElementSegments ps 0 ≡ 0
-elems_none [] = refl
-elems_none (part ∷ ps) = refl
-
-elems_suc : (ps : List Part) (p : ℕ) (m : Module) → module_at ps p ≡ Some m → defined_before ElementSegments ps (suc p) ≡ defined_before ElementSegments ps p + length m.elems
-elems_suc [] p m h = cc
-elems_suc (part ∷ ps) zero m h = let same : part.«module» ≡ m = cc in let e = ap (λ (x : Module). length x.elems) same in let z = elems_none ps in omega arith
-elems_suc (part ∷ ps) (suc p) m h = omega (arith, elems_suc ps p m h)
-
-pub elems_more : (ps : List Part) (p : ℕ) (m : Module) → module_at ps p ≡ Some m → defined_before ElementSegments ps (p + 1) ≡ defined_before ElementSegments ps p + length m.elems
-elems_more ps p m h = let e : p + 1 ≡ suc p = omega arith in ap (defined_before ElementSegments ps) e ∙ elems_suc ps p m h
-
-elems_most : (ps : List Part) (p : ℕ) → defined_before ElementSegments ps p ≤ defined_before ElementSegments ps (length ps)
-elems_most [] p = omega arith
-elems_most (part ∷ ps) zero = omega arith
-elems_most (part ∷ ps) (suc p) = omega (arith, elems_most ps p)
-
-pub elems_room : (ps : List Part) (p : ℕ) (m : Module) → module_at ps p ≡ Some m → defined_before ElementSegments ps p + length m.elems ≤ defined_before ElementSegments ps (length ps)
-elems_room ps p m h = omega (arith, elems_suc ps p m h, elems_most ps (suc p))
-
--- ---- data segments ----
-
-pub datas_none : (ps : List Part) → defined_before DataSegments ps 0 ≡ 0
-datas_none [] = refl
-datas_none (part ∷ ps) = refl
-
-datas_suc : (ps : List Part) (p : ℕ) (m : Module) → module_at ps p ≡ Some m → defined_before DataSegments ps (suc p) ≡ defined_before DataSegments ps p + length m.datas
-datas_suc [] p m h = cc
-datas_suc (part ∷ ps) zero m h = let same : part.«module» ≡ m = cc in let e = ap (λ (x : Module). length x.datas) same in let z = datas_none ps in omega arith
-datas_suc (part ∷ ps) (suc p) m h = omega (arith, datas_suc ps p m h)
-
-pub datas_more : (ps : List Part) (p : ℕ) (m : Module) → module_at ps p ≡ Some m → defined_before DataSegments ps (p + 1) ≡ defined_before DataSegments ps p + length m.datas
-datas_more ps p m h = let e : p + 1 ≡ suc p = omega arith in ap (defined_before DataSegments ps) e ∙ datas_suc ps p m h
-
-datas_most : (ps : List Part) (p : ℕ) → defined_before DataSegments ps p ≤ defined_before DataSegments ps (length ps)
-datas_most [] p = omega arith
-datas_most (part ∷ ps) zero = omega arith
-datas_most (part ∷ ps) (suc p) = omega (arith, datas_most ps p)
-
-pub datas_room : (ps : List Part) (p : ℕ) (m : Module) → module_at ps p ≡ Some m → defined_before DataSegments ps p + length m.datas ≤ defined_before DataSegments ps (length ps)
-datas_room ps p m h = omega (arith, datas_suc ps p m h, datas_most ps (suc p))

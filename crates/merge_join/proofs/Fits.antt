@@ -233,19 +233,4 @@ entry_there ps p n m i e none at here ends =
     subst (IsEnd ps (space_of_import i.desc)) (ap end_entry gathers ∙ entry) (written ps (space_of_import i.desc) (gathered ps end) (gather_there ps (space_of_import i.desc) end (end_there ps p n m i end none at here first)))
 
 pub kind_from : (a b : Space) → same_space a b ≡ true → a ≡ b
-kind_from Functions Functions h = refl
-kind_from Functions Tables h = cc
-kind_from Functions Memories h = cc
-kind_from Functions Globals h = cc
-kind_from Tables Functions h = cc
-kind_from Tables Tables h = refl
-kind_from Tables Memories h = cc
-kind_from Tables Globals h = cc
-kind_from Memories Functions h = cc
-kind_from Memories Tables h = cc
-kind_from Memories Memories h = refl
-kind_from Memories Globals h = cc
-kind_from Globals Functions h = cc
-kind_from Globals Tables h = cc
-kind_from Globals Memories h = cc
-kind_from Globals Globals h = refl
+kind_from a b h = grind arith

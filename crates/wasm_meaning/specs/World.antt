@@ -79,7 +79,7 @@ defined_before k (part ∷ parts) (suc p) = defined_count k part.«module» + de
 abbrev pub base : Environment → List Part → Space → ℕ → ℕ
 base env parts k p = own_count k env + defined_before k parts p
 
--- the external value at an address; types and segments are none (section 4.2.11)
+-- the external value at an address; types and segments are none (section 4.2.13)
 abbrev pub thing_at : Space → ℕ → Option Thing
 thing_at Types a = None
 thing_at Functions a = Some (FuncAt a)

@@ -1,34 +1,23 @@
 -- Code that names no memory but memory 0, as each module with at most one memory does (WebAssembly Core 2.0, section 3.4.10).
-use Rattle.std.specs.Prelude.{Bool, true, ◌&&◌, nat_eq, List, [], ◌∷◌, map}
-use Rattle.wasm_tree.specs.declared.instr.Instr.{Instr, fold-Instr}
-use Rattle.wasm_tree.specs.declared.instr.Instr.TheOpen.{Instr-F}
+use Rattle.std.specs.Prelude.{Bool, ◌||◌, not, nat_eq, List}
+use Rattle.std.specs.List.{list_all}
+use Rattle.wasm_tree.specs.declared.space.Space.TheVariants.{Memories}
+use Rattle.wasm_tree.specs.declared.space.Operand.{Operand}
+use Rattle.wasm_tree.specs.declared.instr.Instr.{Instr}
 use Rattle.wasm_tree.specs.declared.module.Func.{Func}
+use Rattle.wasm_tree.specs.Operands.{same_space, operands_pass, all_operands_pass}
 
-abbrev pub all_true : List Bool → Bool
-all_true [] = true
-all_true (b ∷ bs) = b && all_true bs
-
--- of one instruction, where it is known of each instruction inside it
-abbrev pub memory_zero_step : Instr-F Bool → Bool
-memory_zero_step (Instr-F.Block ty body) = all_true body
-memory_zero_step (Instr-F.Loop ty body) = all_true body
-memory_zero_step (Instr-F.If ty body other) = all_true body && all_true other
-memory_zero_step (Instr-F.Load op arg) = nat_eq arg.memory 0
-memory_zero_step (Instr-F.Store op arg) = nat_eq arg.memory 0
-memory_zero_step (Instr-F.MemorySize memory) = nat_eq memory 0
-memory_zero_step (Instr-F.MemoryGrow memory) = nat_eq memory 0
-memory_zero_step (Instr-F.MemoryInit segment memory) = nat_eq memory 0
-memory_zero_step (Instr-F.MemoryCopy to from) = nat_eq to 0 && nat_eq from 0
-memory_zero_step (Instr-F.MemoryFill memory) = nat_eq memory 0
-memory_zero_step _ = true
+-- an operand in the space of memories is memory 0
+abbrev pub is_memory_zero : Operand → Bool
+is_memory_zero o = not (same_space o.space Memories) || nat_eq o.index 0
 
 -- each memory index in the instruction is 0
 abbrev pub memory_zero : Instr → Bool
-memory_zero = fold-Instr Bool memory_zero_step
+memory_zero = operands_pass is_memory_zero
 
 abbrev pub memory_zero_all : List Instr → Bool
-memory_zero_all is = all_true (map memory_zero is)
+memory_zero_all = all_operands_pass is_memory_zero
 
 -- each memory index in the bodies is 0
 abbrev pub memory_zero_funcs : List Func → Bool
-memory_zero_funcs fs = all_true (map (λ f. memory_zero_all f.body) fs)
+memory_zero_funcs = list_all (λ f. memory_zero_all f.body)

@@ -1,8 +1,7 @@
 -- The indices that an instruction itself names, each with its index space (WebAssembly Core 2.0, sections 2.4 and 2.5.1). Labels and locals are of no
 -- index space of the module, and what the instructions inside a block name is not the block's.
-use Rattle.std.specs.Prelude.{ℕ, Bool, true, false, ◌&&◌, List, [], ◌∷◌, ◌++◌, map, Option, Some, None, nat_eq, nat_lt, ◌||◌}
+use Rattle.std.specs.Prelude.{ℕ, Bool, true, false, ◌&&◌, List, [], ◌∷◌, ◌++◌, map, ◌||◌}
 use Rattle.std.specs.List.{list_all, list_any, cons_option}
-use Rattle.base_lists.specs.Every.{Every}
 use Rattle.wasm_tree.specs.declared.space.Space.{Space}
 use Rattle.wasm_tree.specs.declared.space.Space.TheVariants.{Types, Functions, Tables, Memories, Globals, ElementSegments, DataSegments}
 use Rattle.wasm_tree.specs.declared.space.Operand.{Operand}
@@ -10,7 +9,7 @@ use Rattle.wasm_tree.specs.declared.space.Operands.{Operands}
 use Rattle.wasm_tree.specs.declared.types.BlockType.{BlockType}
 use Rattle.wasm_tree.specs.declared.types.BlockType.TheVariants as block
 use Rattle.wasm_tree.specs.declared.instr.MemArg.{MemArg}
-use Rattle.wasm_tree.specs.declared.instr.Instr.{Instr, fold-Instr, out-Instr, Row_of-Instr, end_of-Instr, more_of-Instr, Block', Loop', If'}
+use Rattle.wasm_tree.specs.declared.instr.Instr.{Instr, fold-Instr, out-Instr}
 use Rattle.wasm_tree.specs.declared.instr.Instr.TheOpen.{Instr-F}
 use Rattle.wasm_tree.specs.declared.instr.Instr.TheVariants as instr
 
@@ -28,7 +27,7 @@ same_space _ _ = false
 
 -- ---- what an instruction names ----
 
--- an index of a space, named by anything but a call
+-- an index of a space, named by anything but a `call`
 abbrev pub named : Space → ℕ → Operand
 named space index = record { space = space; index = index; called = false }
 

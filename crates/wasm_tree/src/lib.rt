@@ -1,4 +1,4 @@
-//! A WebAssembly module as a tree, with the calls that read its index spaces.
+//! A WebAssembly module as a tree, with the calls that read its index spaces, the indices that an instruction names, and the limits.
 //!
 //! The types mirror the structure of WebAssembly Core 2.0, chapter 2, for the integer profile: the value types are i32, i64,
 //! funcref and externref. Contracts see a tree as plain data, so two trees with equal parts are equal.
@@ -6,7 +6,9 @@
 
 mod body;
 mod copy;
+mod data_use;
 mod instr;
+mod laws;
 mod module;
 mod space;
 mod spaces;
@@ -16,7 +18,9 @@ mod types;
 mod which;
 
 pub use body::copy_body;
+pub use data_use::any_uses_data;
 pub use instr::{Instr, LoadOp, MemArg, StoreOp};
+pub use laws::{operands_are_mapped, operands_pass_layer_by_layer};
 pub use module::{
     ConstExpr, DataMode, DataSeg, ElemMode, ElemSeg, Export, ExportDesc, Func, GlobalDef, Import,
     ImportDesc, LocalGroup, Module,

@@ -1,6 +1,6 @@
 use crate::{
-    ConstExpr, Export, ExportDesc, Func, FuncType, GlobalDef, GlobalType, Instr, Limits, Module,
-    RefType, TableType, ValType,
+    BlockType, ConstExpr, Export, ExportDesc, Func, FuncType, GlobalDef, GlobalType, Instr, Limits,
+    Module, Operand, RefType, Space, TableType, ValType, Which, any_uses_data,
 };
 use std::alloc::Global;
 use std::test::Fail;
@@ -113,5 +113,78 @@ fn what_is_declared_is_found(rt: HostRuntime) -> Result<(), Fail> {
     );
     assert_eq!(rt; sizes, (1, 1, 1));
     assert_eq!(rt; found, (Some(TABLE), Some(PAGE), Some(FLAG.ty)));
+    Ok(())
+}
+
+fn named(space: Space, index: u32) -> Operand {
+    Operand {
+        space,
+        index,
+        called: false,
+    }
+}
+
+#[test]
+fn operands_are_named_with_their_spaces(rt: HostRuntime) -> Result<(), Fail> {
+    let alloc = rt.alloc();
+    let call = Instr::Call(3).operands();
+    assert_eq!(rt;
+        call.first,
+        Some(Operand {
+            space: Space::Functions,
+            index: 3,
+            called: true
+        })
+    );
+    assert_eq!(rt; call.second, None);
+    let reference = Instr::RefFunc(3).operands();
+    assert_eq!(rt; reference.first, Some(named(Space::Functions, 3)));
+    assert_eq!(rt; reference.second, None);
+    let init = Instr::MemoryInit {
+        segment: 4,
+        memory: 5,
+    }
+    .operands();
+    assert_eq!(rt; init.first, Some(named(Space::DataSegments, 4)));
+    assert_eq!(rt; init.second, Some(named(Space::Memories, 5)));
+    let block = Instr::Block(BlockType::Index(6), Items::new(alloc)).operands();
+    assert_eq!(rt; block.first, Some(named(Space::Types, 6)));
+    assert_eq!(rt; block.second, None);
+    let nop = Instr::Nop.operands();
+    assert_eq!(rt; nop.first, None);
+    assert_eq!(rt; nop.second, None);
+    Ok(())
+}
+
+#[test]
+fn limits_are_as_they_are_told(rt: HostRuntime) -> Result<(), Fail> {
+    assert_eq!(rt; Which::InputBytes.limit(), 16_777_216);
+    assert_eq!(rt; Which::Parts.limit(), 1_000);
+    assert_eq!(rt; Which::Nesting.limit(), 1_000);
+    assert_eq!(rt; Which::Locals.limit(), 50_000);
+    assert_eq!(rt; Which::DataSegments.limit(), 300_000);
+    Ok(())
+}
+
+// One function whose body is a block that holds the instruction.
+fn around(alloc: Global, instr: Instr) -> Result<Items<Func>, NoMemory> {
+    let mut inner = Items::new(alloc);
+    inner.keep(instr)?;
+    let mut body = Items::new(alloc);
+    body.keep(Instr::Block(BlockType::Empty, inner))?;
+    let mut funcs = Items::new(alloc);
+    funcs.keep(Func {
+        ty: 0,
+        locals: Items::new(alloc),
+        body,
+    })?;
+    Ok(funcs)
+}
+
+#[test]
+fn data_use_is_found_inside_a_block(rt: HostRuntime) -> Result<(), Fail> {
+    let alloc = rt.alloc();
+    assert!(rt; any_uses_data(around(alloc, Instr::DataDrop(0))?.as_slice()));
+    assert!(rt; !any_uses_data(around(alloc, Instr::ElemDrop(0))?.as_slice()));
     Ok(())
 }

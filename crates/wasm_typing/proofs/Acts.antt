@@ -5,7 +5,8 @@ use Rattle.std.proofs.lemmas.Bool.{eqb-true}
 use Rattle.wasm_tree.specs.declared.types.ValType.{ValType}
 use Rattle.wasm_tree.specs.declared.types.ValType.TheVariants.{I32, I64, Ref}
 use Rattle.wasm_typing.specs.Typing.{Operand, Stack, Matches, AllMatch, EachMatches, operands, IsNumber, IsReference, Effect, Gives, Leaves, Drops, Selects, TestsNull, Branches, Acts}
-use Rattle.wasm_typing.specs.Tracking.{IsInstance, Instance, Concrete, same_type, fits_type, pop_one, below_type, pop_type, pop_all, is_number, is_reference, join, number_of, chosen, all_pop, arity, select_rest, select_two, test_top, act}
+use Rattle.wasm_tree.specs.SameTypes.{same_type}
+use Rattle.wasm_typing.specs.Tracking.{IsInstance, Instance, Concrete, fits_type, pop_one, below_type, pop_type, pop_all, is_number, is_reference, join, number_of, chosen, all_pop, arity, select_rest, select_two, test_top, act}
 use Rattle.wasm_typing.proofs.Pops.{fits-matches, same_type-refl, same_type-true, pop_type-on, pop_all-on, pop_all-back, padded}
 
 map_option-some : {A B : Type 0} (f : A → B) (m : Option A) (r : B) → option_map f m ≡ Some r → (x : A) × (m ≡ Some x) × (f x ≡ r)

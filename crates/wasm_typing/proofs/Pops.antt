@@ -4,8 +4,9 @@ use Rattle.wasm_tree.specs.declared.types.RefType.{RefType}
 use Rattle.wasm_tree.specs.declared.types.RefType.TheVariants.{Func, Extern}
 use Rattle.wasm_tree.specs.declared.types.ValType.{ValType}
 use Rattle.wasm_tree.specs.declared.types.ValType.TheVariants.{I32, I64, Ref}
-use Rattle.wasm_typing.specs.Typing.{Operand, Stack, Matches, AllMatch, same_ref}
-use Rattle.wasm_typing.specs.Tracking.{IsInstance, Instance, Concrete, same_type, fits_type, pop_type, pop_all}
+use Rattle.wasm_tree.specs.SameTypes.{same_ref, same_type}
+use Rattle.wasm_typing.specs.Typing.{Operand, Stack, Matches, AllMatch}
+use Rattle.wasm_typing.specs.Tracking.{IsInstance, Instance, Concrete, fits_type, pop_type, pop_all}
 
 pub same_ref-refl : (r : RefType) → same_ref r r ≡ true
 same_ref-refl Func = refl

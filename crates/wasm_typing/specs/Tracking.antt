@@ -3,7 +3,8 @@ use Rattle.std.specs.Prelude.{◌≡◌, ℕ, Bool, true, false, cond, ◌&&◌,
 use Rattle.base_lists.specs.Options.{◌>>=◌}
 use Rattle.wasm_tree.specs.declared.types.ValType.{ValType}
 use Rattle.wasm_tree.specs.declared.types.ValType.TheVariants.{I32, I64, Ref}
-use Rattle.wasm_typing.specs.Typing.{Operand, Stack, operands, Effect, Gives, Leaves, Drops, Selects, TestsNull, Branches, same_ref}
+use Rattle.wasm_typing.specs.Typing.{Operand, Stack, operands, Effect, Gives, Leaves, Drops, Selects, TestsNull, Branches}
+use Rattle.wasm_tree.specs.SameTypes.{same_type}
 
 -- s is one of the stacks that are kept as xs: a type stands for itself, a bottom for any operand
 abbrev pub IsInstance : Operand → Operand → Type 0
@@ -38,17 +39,6 @@ Fails F xs o = (s t : Stack) → Instance xs o s → F s t → ⊥
 abbrev pub Follows : (Stack → Stack → Type 0) → Stack → Bool → Stack → Bool → Bool → Type 0
 Follows F xs o ys p false = Fails F xs o
 Follows F xs o ys p true = StepsTo F xs o ys p
-
-abbrev pub same_type : ValType → ValType → Bool
-same_type I32 I32 = true
-same_type I32 I64 = false
-same_type I32 (Ref r) = false
-same_type I64 I32 = false
-same_type I64 I64 = true
-same_type I64 (Ref r) = false
-same_type (Ref r) I32 = false
-same_type (Ref r) I64 = false
-same_type (Ref r) (Ref q) = same_ref r q
 
 abbrev pub fits_type : Operand → ValType → Bool
 fits_type None t = true

@@ -13,6 +13,7 @@ use Rattle.wasm_tree.specs.declared.types.GlobalType.{GlobalType}
 use Rattle.wasm_tree.specs.declared.instr.MemArg.{MemArg}
 use Rattle.wasm_tree.specs.declared.instr.Instr.{Instr, Row_of-Instr, end_of-Instr, more_of-Instr}
 use Rattle.wasm_tree.specs.declared.instr.Instr.TheVariants.{Unreachable, Nop, Block', Loop', If', Br, BrIf, BrTable, Return, Call, CallIndirect, Drop, Select, SelectTyped, LocalGet, LocalSet, LocalTee, GlobalGet, GlobalSet, TableGet, TableSet, Load, Store, MemorySize, MemoryGrow, I32Const, I64Const, Un, Bin, RefNull, RefIsNull, RefFunc, MemoryInit, DataDrop, MemoryCopy, MemoryFill, TableInit, ElemDrop, TableCopy, TableGrow, TableSize, TableFill}
+use Rattle.wasm_tree.specs.SameTypes.{same_ref}
 use Rattle.wasm_typing.specs.Ops.{un_operand, un_result, bin_operand, bin_result, load_type, load_width, store_type, store_width}
 
 -- the type of an operand; None is the bottom (section 3.3, the operand types of instruction types)
@@ -146,12 +147,6 @@ abbrev pub is_func : RefType → Bool
 is_func Func = true
 is_func Extern = false
 
-abbrev pub same_ref : RefType → RefType → Bool
-same_ref Func Func = true
-same_ref Func Extern = false
-same_ref Extern Func = false
-same_ref Extern Extern = true
-
 -- only where the test holds
 abbrev pub only : {A : Type 0} → Bool → Option A → Option A
 only false m = None
@@ -211,7 +206,9 @@ effect_of c (TableCopy to from) = only (both (slice_get c.tables to) (slice_get 
 effect_of c (TableGrow x) = option_map (λ r. Gives (Ref r ∷ I32 ∷ []) (I32 ∷ [])) (slice_get c.tables x)
 effect_of c (TableSize x) = option_map (λ r. Gives [] (I32 ∷ [])) (slice_get c.tables x)
 effect_of c (TableFill x) = option_map (λ r. Gives (I32 ∷ Ref r ∷ I32 ∷ []) []) (slice_get c.tables x)
-effect_of c _ = None
+effect_of c (Block' bt n body) = None
+effect_of c (Loop' bt n body) = None
+effect_of c (If' bt n body m other) = None
 
 -- a body leads from the operands ps to some that match rs
 abbrev pub Ends : (Stack → Stack → Type 0) → List ValType → List ValType → Type 0

@@ -1,8 +1,9 @@
 // The operands that the checker keeps.
 
 ghost use Rattle.std.specs.Prelude.{◌≡◌, ◌↔◌, ◌++◌, ◌∷◌, [], false, map, reverse, IfOk, OnOk, IsTrue, Some, option_map};
+ghost use Rattle.wasm_tree.specs.SameTypes.{same_type};
 ghost use Rattle.wasm_typing.specs.Typing.{operands, only, Gives, Leaves, Drops, Selects, TestsNull};
-ghost use Rattle.wasm_typing.specs.Tracking.{same_type, fits_type, pop_one, pop_type, pop_all, chosen};
+ghost use Rattle.wasm_typing.specs.Tracking.{fits_type, pop_one, pop_type, pop_all, chosen};
 ghost use Rattle.wasm_typing.specs.Kept.{stack_of, when, Answers};
 
 use std::alloc::{AllocError, Global};

@@ -6,6 +6,7 @@ ghost use Rattle.wasm_typing.specs.Ops.{un_operand, un_result, bin_operand, bin_
 use wasm_num::{BinOp, UnOp};
 use wasm_tree::{LoadOp, StoreOp, ValType};
 
+#[tactic(auto, unfolding(wasm_num::specs::Operations::un_from))]
 pub fn un_operand(op: UnOp) -> ValType
     ensures { result ≡ un_operand op }
 {
@@ -29,6 +30,7 @@ pub fn un_operand(op: UnOp) -> ValType
     }
 }
 
+#[tactic(auto, unfolding(wasm_num::specs::Operations::un_to))]
 pub fn un_result(op: UnOp) -> ValType
     ensures { result ≡ un_result op }
 {
@@ -52,6 +54,7 @@ pub fn un_result(op: UnOp) -> ValType
     }
 }
 
+#[tactic(auto, unfolding(wasm_num::specs::Operations::bin_from))]
 pub fn bin_operand(op: BinOp) -> ValType
     ensures { result ≡ bin_operand op }
 {
@@ -109,6 +112,7 @@ pub fn bin_operand(op: BinOp) -> ValType
     }
 }
 
+#[tactic(auto, unfolding(wasm_num::specs::Operations::bin_to))]
 pub fn bin_result(op: BinOp) -> ValType
     ensures { result ≡ bin_result op }
 {

@@ -6,6 +6,8 @@ ghost use Rattle.wasm_valid.specs.declared.kinds.ItemKind.{ItemKind};
 ghost use Rattle.wasm_tree.specs.MemoryZero.{memory_zero_funcs};
 ghost use Rattle.wasm_valid.specs.Validity.{IsValid, IsSingle, HoldsAt, count_of};
 
+use wasm_tree::operands_pass_layer_by_layer;
+
 /// A module is valid exactly where each of its items holds.
 pub fn valid_where_items_hold()
     ensures { (m : Module) → IsValid m ↔ ((k : ItemKind) (i : ℕ) → i < count_of m true k → HoldsAt m k i) }
@@ -14,4 +16,6 @@ pub fn valid_where_items_hold()
 /// In a valid module with at most one memory, each memory index in the bodies is 0.
 pub fn valid_code_names_memory_zero()
     ensures { (m : Module) → IsValid m → IsSingle m → IsTrue (memory_zero_funcs m.funcs) }
-{}
+{
+    operands_pass_layer_by_layer();
+}

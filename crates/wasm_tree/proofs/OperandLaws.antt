@@ -1,0 +1,235 @@
+-- Laws of what an instruction names.
+use Rattle.std.proofs.Common.{◌≡◌, ℕ, Bool, true, false, ◌&&◌, ◌||◌, List, [], ◌∷◌, ◌++◌, map, refl, sym, ap, ◌∙◌, ◌↔◌, subst}
+use Rattle.std.specs.List.{list_all, list_any}
+use Rattle.std.proofs.lemmas.List.{map-append}
+use Rattle.std.proofs.lemmas.List.Folds.{list_all-append, list_all-map}
+use Rattle.base_lists.specs.Every.{Every}
+use Rattle.wasm_tree.specs.declared.space.Space.{Space}
+use Rattle.wasm_tree.specs.declared.space.Operand.{Operand}
+use Rattle.wasm_tree.specs.declared.types.BlockType.{BlockType}
+use Rattle.wasm_tree.specs.declared.types.BlockType.TheVariants as block
+use Rattle.wasm_tree.specs.declared.instr.Instr.{Instr, fold_out-Instr, map-Instr, out-Instr, Row_of-Instr, end_of-Instr, more_of-Instr, items-the_row-Instr, items_shown-the_row-Instr-0}
+use Rattle.wasm_tree.specs.declared.instr.Instr.TheBlock.{shown-the_row-Instr-0}
+use Rattle.wasm_tree.specs.declared.instr.Instr.TheOpen.{Instr-F}
+use Rattle.wasm_tree.specs.declared.instr.Instr.TheVariants.{Block, Block', Loop, Loop', If, If', outs-Block, outs-Loop, outs-If}
+use Rattle.wasm_tree.specs.Layers.{Layers, RowLayers, ListLayers}
+use Rattle.wasm_tree.specs.Operands.{operands, operands_of, block_operands, held, map_block, map_operands, mapped, mapped_all, all_pass_step, operands_pass, all_operands_pass, any_pass_step, operand_passes, any_operand_passes}
+use Rattle.wasm_tree.specs.OperandLaws.{moved}
+
+both : (a b : Bool) → a ≡ true → b ≡ true → a && b ≡ true
+both a b g h = ap (λ z. z && b) g ∙ h
+
+both_of : (a b : Bool) → a && b ≡ true → (a ≡ true) × (b ≡ true)
+both_of true b h = (refl, h)
+both_of false b h = cc
+
+-- what a layer holds does not matter to what it names
+operands_map : {X Y : Type 0} (g : X → Y) (layer : Instr-F X) → operands (map-Instr X Y g layer) ≡ operands layer
+operands_map g (Instr-F.Block ty body) = refl
+operands_map g layer = refl
+
+held_map : {X Y : Type 0} (g : X → Y) (layer : Instr-F X) → held (map-Instr X Y g layer) ≡ map g (held layer)
+held_map g (Instr-F.If ty body other) = sym (map-append g body other)
+held_map g layer = refl
+
+-- ---- other indices ----
+
+block_moved : (f : Space → ℕ → ℕ) (ty : BlockType) → block_operands (map_block f ty) ≡ map (moved f) (block_operands ty)
+block_moved f block.Empty = refl
+block_moved f (block.Value t) = refl
+block_moved f (block.Index ty) = refl
+
+pub layer_moved : (f : Space → ℕ → ℕ) (layer : Instr-F Instr) → operands_of (map_operands f layer) ≡ map (moved f) (operands layer)
+unfolding out-Instr denote.Hole.Carrier.out
+layer_moved f (Instr-F.Block ty body) = ap operands (outs-Block (map_block f ty) body) ∙ block_moved f ty
+layer_moved f (Instr-F.Loop ty body) = ap operands (outs-Loop (map_block f ty) body) ∙ block_moved f ty
+layer_moved f (Instr-F.If ty body other) = ap operands (outs-If (map_block f ty) body other) ∙ block_moved f ty
+layer_moved f layer = refl
+
+held_moved : (f : Space → ℕ → ℕ) (layer : Instr-F Instr) → held (out-Instr (map_operands f layer)) ≡ held layer
+unfolding out-Instr denote.Hole.Carrier.out
+held_moved f (Instr-F.Block ty body) = ap held (outs-Block (map_block f ty) body)
+held_moved f (Instr-F.Loop ty body) = ap held (outs-Loop (map_block f ty) body)
+held_moved f (Instr-F.If ty body other) = ap held (outs-If (map_block f ty) body other)
+held_moved f layer = refl
+
+pub instr_moved : (f : Space → ℕ → ℕ) (i : Instr) → operands_of (mapped f i) ≡ map (moved f) (operands_of i)
+instr_moved f i =
+    ap operands_of (fold_out-Instr Instr (map_operands f) i) ∙ layer_moved f (map-Instr Instr Instr (mapped f) (out-Instr i)) ∙ ap (map (moved f)) (operands_map (mapped f) (out-Instr i))
+
+pub held_mapped : (f : Space → ℕ → ℕ) (i : Instr) → held (out-Instr (mapped f i)) ≡ map (mapped f) (held (out-Instr i))
+held_mapped f i =
+    ap (λ x. held (out-Instr x)) (fold_out-Instr Instr (map_operands f) i) ∙ held_moved f (map-Instr Instr Instr (mapped f) (out-Instr i)) ∙ held_map (mapped f) (out-Instr i)
+
+-- ---- layer by layer ----
+
+any_map : {X : Type 0} (p : X → Bool) (xs : List X) → list_any (λ b. b) (map p xs) ≡ list_any p xs
+any_map p [] = refl
+any_map p (x ∷ xs) = ap (λ b. p x || b) (any_map p xs)
+
+pub passes_inside : (test : Operand → Bool) (i : Instr) → operands_pass test i ≡ list_all test (operands_of i) && all_operands_pass test (held (out-Instr i))
+passes_inside test i =
+    let layer : Instr-F Bool = map-Instr Instr Bool (operands_pass test) (out-Instr i) in
+    fold_out-Instr Bool (all_pass_step test) i
+    ∙ ap (λ os. list_all test os && list_all (λ b. b) (held layer)) (operands_map (operands_pass test) (out-Instr i))
+    ∙ ap (λ bs. list_all test (operands_of i) && list_all (λ b. b) bs) (held_map (operands_pass test) (out-Instr i))
+    ∙ ap (λ b. list_all test (operands_of i) && b) (list_all-map (λ b. b) (operands_pass test) (held (out-Instr i)))
+
+pub any_inside : (test : Operand → Bool) (i : Instr) → operand_passes test i ≡ (list_any test (operands_of i) || any_operand_passes test (held (out-Instr i)))
+any_inside test i =
+    let layer : Instr-F Bool = map-Instr Instr Bool (operand_passes test) (out-Instr i) in
+    fold_out-Instr Bool (any_pass_step test) i
+    ∙ ap (λ os. list_any test os || list_any (λ b. b) (held layer)) (operands_map (operand_passes test) (out-Instr i))
+    ∙ ap (λ bs. list_any test (operands_of i) || list_any (λ b. b) bs) (held_map (operand_passes test) (out-Instr i))
+    ∙ ap (λ b. list_any test (operands_of i) || b) (any_map (operand_passes test) (held (out-Instr i)))
+
+pub block_passes : (test : Operand → Bool) (ty : BlockType) (body : List Instr) → operands_pass test (Block ty body) ≡ list_all test (block_operands ty) && all_operands_pass test body
+block_passes test ty body = passes_inside test (Block ty body) ∙ ap (λ l. list_all test (operands l) && all_operands_pass test (held l)) (outs-Block ty body)
+
+pub loop_passes : (test : Operand → Bool) (ty : BlockType) (body : List Instr) → operands_pass test (Loop ty body) ≡ list_all test (block_operands ty) && all_operands_pass test body
+loop_passes test ty body = passes_inside test (Loop ty body) ∙ ap (λ l. list_all test (operands l) && all_operands_pass test (held l)) (outs-Loop ty body)
+
+pub if_passes : (test : Operand → Bool) (ty : BlockType) (body other : List Instr) →
+    operands_pass test (If ty body other) ≡ list_all test (block_operands ty) && (all_operands_pass test body && all_operands_pass test other)
+if_passes test ty body other =
+    passes_inside test (If ty body other)
+    ∙ ap (λ l. list_all test (operands l) && all_operands_pass test (held l)) (outs-If ty body other)
+    ∙ ap (λ b. list_all test (block_operands ty) && b) (list_all-append (operands_pass test) body other)
+
+every_of : (test : Operand → Bool) (os : List Operand) → list_all test os ≡ true → Every (λ o. test o ≡ true) os
+every_of test [] h = tt
+every_of test (o ∷ os) h = let s = both_of (test o) (list_all test os) h in (s.0, every_of test os s.1)
+
+all_of : (test : Operand → Bool) (os : List Operand) → Every (λ o. test o ≡ true) os → list_all test os ≡ true
+all_of test [] h = refl
+all_of test (o ∷ os) h = both (test o) (list_all test os) h.0 (all_of test os h.1)
+
+module _ (test : Operand → Bool) where
+  abbrev Passed : Instr-F Instr → Type 0
+  Passed l = Every (λ o. test o ≡ true) (operands l)
+
+  all_append : (xs ys : List Instr) → all_operands_pass test (xs ++ ys) ≡ all_operands_pass test xs && all_operands_pass test ys
+  all_append xs ys = list_all-append (operands_pass test) xs ys
+
+  -- of the three that hold others: their own operands and what they hold
+  in_block : (ty : BlockType) (n : _) (row : Row_of-Instr _) → operands_pass test (Block' ty n row) ≡ list_all test (block_operands ty) && all_operands_pass test (items-the_row-Instr _ row)
+  unfolding out-Instr denote.Hole.Carrier.out
+  in_block ty n row = passes_inside test (Block' ty n row) ∙ ap (λ xs. list_all test (block_operands ty) && all_operands_pass test xs) (items_shown-the_row-Instr-0 n row)
+
+  in_loop : (ty : BlockType) (n : _) (row : Row_of-Instr _) → operands_pass test (Loop' ty n row) ≡ list_all test (block_operands ty) && all_operands_pass test (items-the_row-Instr _ row)
+  unfolding out-Instr denote.Hole.Carrier.out
+  in_loop ty n row = passes_inside test (Loop' ty n row) ∙ ap (λ xs. list_all test (block_operands ty) && all_operands_pass test xs) (items_shown-the_row-Instr-0 n row)
+
+  in_if : (ty : BlockType) (n : _) (row : Row_of-Instr _) (k : _) (other : Row_of-Instr _) →
+      operands_pass test (If' ty n row k other) ≡ list_all test (block_operands ty) && (all_operands_pass test (items-the_row-Instr _ row) && all_operands_pass test (items-the_row-Instr _ other))
+  unfolding out-Instr denote.Hole.Carrier.out
+  in_if ty n row k other =
+      passes_inside test (If' ty n row k other)
+      ∙ ap (λ xs. list_all test (block_operands ty) && all_operands_pass test (xs ++ shown-the_row-Instr-0 k other)) (items_shown-the_row-Instr-0 n row)
+      ∙ ap (λ xs. list_all test (block_operands ty) && all_operands_pass test (items-the_row-Instr _ row ++ xs)) (items_shown-the_row-Instr-0 k other)
+      ∙ ap (λ b. list_all test (block_operands ty) && b) (all_append (items-the_row-Instr _ row) (items-the_row-Instr _ other))
+
+  plain_layers : (i : Instr) → operands_pass test i ≡ true → Passed (out-Instr i)
+  plain_layers i h = every_of test (operands_of i) (both_of (list_all test (operands_of i)) (all_operands_pass test (held (out-Instr i))) (sym (passes_inside test i) ∙ h)).0
+
+  plain_passes : (i : Instr) → all_operands_pass test (held (out-Instr i)) ≡ true → Passed (out-Instr i) → operands_pass test i ≡ true
+  plain_passes i none q = passes_inside test i ∙ both (list_all test (operands_of i)) (all_operands_pass test (held (out-Instr i))) (all_of test (operands_of i) q) none
+
+  mutual
+    unfolding out-Instr denote.Hole.Carrier.out
+
+    layers_of : (i : Instr) → operands_pass test i ≡ true → Layers Passed i
+    layers_of (Block' ty n row) h =
+        let s = both_of (list_all test (block_operands ty)) (all_operands_pass test (items-the_row-Instr _ row)) (sym (in_block ty n row) ∙ h) in (every_of test (block_operands ty) s.0, row_layers_of _ row s.1)
+    layers_of (Loop' ty n row) h =
+        let s = both_of (list_all test (block_operands ty)) (all_operands_pass test (items-the_row-Instr _ row)) (sym (in_loop ty n row) ∙ h) in (every_of test (block_operands ty) s.0, row_layers_of _ row s.1)
+    layers_of (If' ty n row k other) h =
+        let s = both_of (list_all test (block_operands ty)) (all_operands_pass test (items-the_row-Instr _ row) && all_operands_pass test (items-the_row-Instr _ other)) (sym (in_if ty n row k other) ∙ h) in
+        let t = both_of (all_operands_pass test (items-the_row-Instr _ row)) (all_operands_pass test (items-the_row-Instr _ other)) s.1 in
+        (every_of test (block_operands ty) s.0, row_layers_of _ row t.0, row_layers_of _ other t.1)
+    layers_of i h = plain_layers i h
+
+    row_layers_of : (n : _) (row : Row_of-Instr n) → all_operands_pass test (items-the_row-Instr _ row) ≡ true → RowLayers Passed row
+    row_layers_of _ end_of-Instr h = tt
+    row_layers_of _ (more_of-Instr i row) h = let s = both_of (operands_pass test i) (all_operands_pass test (items-the_row-Instr _ row)) h in (layers_of i s.0, row_layers_of _ row s.1)
+
+  mutual
+    unfolding out-Instr denote.Hole.Carrier.out
+
+    passes_of : (i : Instr) → Layers Passed i → operands_pass test i ≡ true
+    passes_of (Block' ty n row) q = in_block ty n row ∙ both (list_all test (block_operands ty)) (all_operands_pass test (items-the_row-Instr _ row)) (all_of test (block_operands ty) q.0) (row_passes_of _ row q.1)
+    passes_of (Loop' ty n row) q = in_loop ty n row ∙ both (list_all test (block_operands ty)) (all_operands_pass test (items-the_row-Instr _ row)) (all_of test (block_operands ty) q.0) (row_passes_of _ row q.1)
+    passes_of (If' ty n row k other) q =
+        in_if ty n row k other
+        ∙ both (list_all test (block_operands ty)) (all_operands_pass test (items-the_row-Instr _ row) && all_operands_pass test (items-the_row-Instr _ other)) (all_of test (block_operands ty) q.0)
+        (both (all_operands_pass test (items-the_row-Instr _ row)) (all_operands_pass test (items-the_row-Instr _ other)) (row_passes_of _ row q.1) (row_passes_of _ other q.2))
+    passes_of i q = plain_passes i refl q
+
+    row_passes_of : (n : _) (row : Row_of-Instr n) → RowLayers Passed row → all_operands_pass test (items-the_row-Instr _ row) ≡ true
+    row_passes_of _ end_of-Instr q = refl
+    row_passes_of _ (more_of-Instr i row) q = both (operands_pass test i) (all_operands_pass test (items-the_row-Instr _ row)) (passes_of i q.0) (row_passes_of _ row q.1)
+
+  list_layers_of : (code : List Instr) → all_operands_pass test code ≡ true → ListLayers Passed code
+  list_layers_of [] h = tt
+  list_layers_of (i ∷ is) h = let s = both_of (operands_pass test i) (all_operands_pass test is) h in (layers_of i s.0, list_layers_of is s.1)
+
+  list_passes_of : (code : List Instr) → ListLayers Passed code → all_operands_pass test code ≡ true
+  list_passes_of [] q = refl
+  list_passes_of (i ∷ is) q = both (operands_pass test i) (all_operands_pass test is) (passes_of i q.0) (list_passes_of is q.1)
+
+  pub layer_by_layer : (code : List Instr) → (all_operands_pass test code ≡ true) ↔ ListLayers Passed code
+  layer_by_layer code = (list_layers_of code, list_passes_of code)
+
+-- ---- code with other indices ----
+
+module _ (f : Space → ℕ → ℕ) (test : Operand → Bool) where
+  abbrev Then : Operand → Bool
+  Then o = test (moved f o)
+
+  -- of an instruction, where it is known of each that it holds
+  abbrev Same : Instr → Type 0
+  Same i = operands_pass test (mapped f i) ≡ operands_pass Then i
+
+  own_same : (i : Instr) → list_all test (operands_of (mapped f i)) ≡ list_all Then (operands_of i)
+  own_same i = ap (list_all test) (instr_moved f i) ∙ list_all-map test (moved f) (operands_of i)
+
+  same_inside : (i : Instr) → all_operands_pass test (mapped_all f (held (out-Instr i))) ≡ all_operands_pass Then (held (out-Instr i)) → Same i
+  same_inside i q =
+      passes_inside test (mapped f i)
+      ∙ ap (λ b. b && all_operands_pass test (held (out-Instr (mapped f i)))) (own_same i)
+      ∙ ap (λ xs. list_all Then (operands_of i) && all_operands_pass test xs) (held_mapped f i)
+      ∙ ap (λ b. list_all Then (operands_of i) && b) q
+      ∙ sym (passes_inside Then i)
+
+  abbrev SameAll : List Instr → Type 0
+  SameAll xs = all_operands_pass test (mapped_all f xs) ≡ all_operands_pass Then xs
+
+  more : (x : Instr) (xs : List Instr) → Same x → SameAll xs → SameAll (x ∷ xs)
+  more x xs h q = ap (λ b. b && all_operands_pass test (mapped_all f xs)) h ∙ ap (λ b. operands_pass Then x && b) q
+
+  joined : (xs ys : List Instr) → SameAll xs → SameAll ys → SameAll (xs ++ ys)
+  joined xs ys h q =
+      ap (all_operands_pass test) (map-append (mapped f) xs ys)
+      ∙ list_all-append (operands_pass test) (mapped_all f xs) (mapped_all f ys)
+      ∙ ap (λ b. b && all_operands_pass test (mapped_all f ys)) h
+      ∙ ap (λ b. all_operands_pass Then xs && b) q
+      ∙ sym (list_all-append (operands_pass Then) xs ys)
+
+  mutual
+    unfolding out-Instr denote.Hole.Carrier.out
+
+    same_of : (i : Instr) → Same i
+    same_of (Block' ty n row) = same_inside (Block' ty n row) (subst SameAll (sym (items_shown-the_row-Instr-0 n row)) (same_row _ row))
+    same_of (Loop' ty n row) = same_inside (Loop' ty n row) (subst SameAll (sym (items_shown-the_row-Instr-0 n row)) (same_row _ row))
+    same_of (If' ty n row k other) =
+        same_inside (If' ty n row k other)
+        (joined (shown-the_row-Instr-0 n row) (shown-the_row-Instr-0 k other) (subst SameAll (sym (items_shown-the_row-Instr-0 n row)) (same_row _ row)) (subst SameAll (sym (items_shown-the_row-Instr-0 k other)) (same_row _ other)))
+    same_of i = same_inside i refl
+
+    same_row : (n : _) (row : Row_of-Instr n) → SameAll (items-the_row-Instr _ row)
+    same_row _ end_of-Instr = refl
+    same_row _ (more_of-Instr i row) = more i (items-the_row-Instr _ row) (same_of i) (same_row _ row)
+
+  pub mapped_code_passes : (code : List Instr) → SameAll code
+  mapped_code_passes [] = refl
+  mapped_code_passes (x ∷ xs) = more x xs (same_of x) (mapped_code_passes xs)
