@@ -6,13 +6,14 @@ use Rattle.std.proofs.lemmas.List.Folds.{list_all-append, list_all-map}
 use Rattle.std.proofs.lemmas.Bool.{and_from}
 use Rattle.base_lists.proofs.Bools.{left_true, right_true}
 use Rattle.base_lists.specs.Every.{Every}
+use Rattle.wasm_tree.specs.declared.space.Space.{Space}
 use Rattle.wasm_tree.specs.declared.space.Operand.{Operand}
 use Rattle.wasm_tree.specs.declared.types.BlockType.{BlockType}
 use Rattle.wasm_tree.specs.declared.instr.Instr.{Instr, fold-Instr, fold_out-Instr, map-Instr, out-Instr}
 use Rattle.wasm_tree.specs.declared.instr.Instr.TheOpen.{Instr-F}
 use Rattle.wasm_tree.specs.declared.instr.Instr.TheVariants.{Block, Loop, If, outs-Block, outs-Loop, outs-If}
-use Rattle.wasm_tree.specs.Operands.{operands, operands_of, block_operands, held, all_pass_step, operands_pass, all_operands_pass}
-use Rattle.wasm_tree.proofs.OperandLaws.{tested_inside, passes_inside}
+use Rattle.wasm_tree.specs.Operands.{operands, operands_of, block_operands, held, map_block, map_operands, mapped, mapped_all, all_pass_step, operands_pass, all_operands_pass}
+use Rattle.wasm_tree.proofs.OperandLaws.{tested_inside, passes_inside, mapped_all_same}
 use Rattle.plain_law.specs.Ranges.{small_operand, small_numbers, number_step, numbers_in, all_numbers_in, in_range, all_in_range}
 
 numbers_map : {X Y : Type 0} (g : X → Y) (layer : Instr-F X) → small_numbers (map-Instr X Y g layer) ≡ small_numbers layer
@@ -21,6 +22,21 @@ numbers_map g layer = refl
 
 pub numbers_inside : (i : Instr) → numbers_in i ≡ small_numbers (out-Instr i) && all_numbers_in (held (out-Instr i))
 numbers_inside i = tested_inside small_numbers small_numbers (λ g l. numbers_map g l) i
+
+numbers_moved : (f : Space → ℕ → ℕ) (layer : Instr-F Instr) → small_numbers (out-Instr (map_operands f layer)) ≡ small_numbers layer
+unfolding out-Instr denote.Hole.Carrier.out
+numbers_moved f (Instr-F.Block ty body) = ap small_numbers (outs-Block (map_block f ty) body)
+numbers_moved f (Instr-F.Loop ty body) = ap small_numbers (outs-Loop (map_block f ty) body)
+numbers_moved f (Instr-F.If ty body other) = ap small_numbers (outs-If (map_block f ty) body other)
+numbers_moved f layer = refl
+
+own_numbers : (f : Space → ℕ → ℕ) (i : Instr) → small_numbers (out-Instr (mapped f i)) ≡ small_numbers (out-Instr i)
+own_numbers f i =
+    ap (λ x. small_numbers (out-Instr x)) (fold_out-Instr Instr (map_operands f) i) ∙ numbers_moved f (map-Instr Instr Instr (mapped f) (out-Instr i)) ∙ numbers_map (mapped f) (out-Instr i)
+
+-- code with other indices has the other numbers that it had
+pub numbers_stay : (f : Space → ℕ → ℕ) (code : List Instr) → all_numbers_in (mapped_all f code) ≡ all_numbers_in code
+numbers_stay f = mapped_all_same f numbers_in numbers_in small_numbers small_numbers numbers_inside numbers_inside (own_numbers f)
 
 -- ---- operands ----
 

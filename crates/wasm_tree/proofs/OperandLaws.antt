@@ -9,7 +9,7 @@ use Rattle.wasm_tree.specs.declared.space.Space.{Space}
 use Rattle.wasm_tree.specs.declared.space.Operand.{Operand}
 use Rattle.wasm_tree.specs.declared.types.BlockType.{BlockType}
 use Rattle.wasm_tree.specs.declared.types.BlockType.TheVariants as block
-use Rattle.wasm_tree.specs.declared.instr.Instr.{Instr, fold-Instr, fold_out-Instr, map-Instr, out-Instr, Row_of-Instr, end_of-Instr, more_of-Instr, items-the_row-Instr, items_shown-the_row-Instr-0}
+use Rattle.wasm_tree.specs.declared.instr.Instr.{Instr, fold-Instr, fold_out-Instr, map-Instr, out-Instr, Row_of-Instr, end_of-Instr, more_of-Instr, items-the_row-Instr, items_shown-the_row-Instr-0, ind-Instr, roll-Instr, out-roll-Instr}
 use Rattle.wasm_tree.specs.declared.instr.Instr.TheBlock.{shown-the_row-Instr-0}
 use Rattle.wasm_tree.specs.declared.instr.Instr.TheOpen.{Instr-F}
 use Rattle.wasm_tree.specs.declared.instr.Instr.TheVariants.{Block, Block', Loop, Loop', If, If', outs-Block, outs-Loop, outs-If}
@@ -184,54 +184,51 @@ module _ (test : Operand → Bool) where
 
 -- ---- code with other indices ----
 
-module _ (f : Space → ℕ → ℕ) (test : Operand → Bool) where
-  abbrev Then : Operand → Bool
-  Then o = test (moved f o)
+-- what is so of an instruction where it is so of each that it holds is so of all
+module _ (P : Instr → Type 0) (inside : (i : Instr) → Every P (held (out-Instr i)) → P i) where
+  abbrev Such : Type 0
+  Such = (i : Instr) × P i
 
-  -- of an instruction, where it is known of each that it holds
+  each : (es : List Such) → Every P (map (λ e. e.0) es)
+  each [] = tt
+  each (e ∷ es) = (e.1, each es)
+
+  pub by_held : (i : Instr) → P i
+  by_held = ind-Instr P (λ x y is. subst (λ z. P (roll-Instr z)) is (
+    let z = map-Instr Such Instr (λ e. e.0) y in
+    inside (roll-Instr z) (subst (λ l. Every P (held l)) (sym (out-roll-Instr z)) (subst (Every P) (sym (held_map (λ e. e.0) y)) (each (held y))))))
+
+-- two tests, layer by layer, where a layer passes the first with other indices exactly where it passes the second
+module _
+    (f : Space → ℕ → ℕ) (first second : Instr → Bool) (one other : Instr-F Instr → Bool)
+    (first_inside : (i : Instr) → first i ≡ one (out-Instr i) && list_all first (held (out-Instr i)))
+    (second_inside : (i : Instr) → second i ≡ other (out-Instr i) && list_all second (held (out-Instr i)))
+    (own : (i : Instr) → one (out-Instr (mapped f i)) ≡ other (out-Instr i))
+    where
   abbrev Same : Instr → Type 0
-  Same i = operands_pass test (mapped f i) ≡ operands_pass Then i
+  Same i = first (mapped f i) ≡ second i
 
-  own_same : (i : Instr) → list_all test (operands_of (mapped f i)) ≡ list_all Then (operands_of i)
-  own_same i = ap (list_all test) (instr_moved f i) ∙ list_all-map test (moved f) (operands_of i)
+  all_same : (xs : List Instr) → Every Same xs → list_all first (mapped_all f xs) ≡ list_all second xs
+  all_same [] q = refl
+  all_same (x ∷ xs) q = ap (λ b. b && list_all first (mapped_all f xs)) q.0 ∙ ap (λ b. second x && b) (all_same xs q.1)
 
-  same_inside : (i : Instr) → all_operands_pass test (mapped_all f (held (out-Instr i))) ≡ all_operands_pass Then (held (out-Instr i)) → Same i
+  same_inside : (i : Instr) → Every Same (held (out-Instr i)) → Same i
   same_inside i q =
-      passes_inside test (mapped f i)
-      ∙ ap (λ b. b && all_operands_pass test (held (out-Instr (mapped f i)))) (own_same i)
-      ∙ ap (λ xs. list_all Then (operands_of i) && all_operands_pass test xs) (held_mapped f i)
-      ∙ ap (λ b. list_all Then (operands_of i) && b) q
-      ∙ sym (passes_inside Then i)
+      first_inside (mapped f i)
+      ∙ ap (λ b. b && list_all first (held (out-Instr (mapped f i)))) (own i)
+      ∙ ap (λ xs. other (out-Instr i) && list_all first xs) (held_mapped f i)
+      ∙ ap (λ b. other (out-Instr i) && b) (all_same (held (out-Instr i)) q)
+      ∙ sym (second_inside i)
 
-  abbrev SameAll : List Instr → Type 0
-  SameAll xs = all_operands_pass test (mapped_all f xs) ≡ all_operands_pass Then xs
+  same_all : (xs : List Instr) → Every Same xs
+  same_all [] = tt
+  same_all (x ∷ xs) = (by_held Same same_inside x, same_all xs)
 
-  more : (x : Instr) (xs : List Instr) → Same x → SameAll xs → SameAll (x ∷ xs)
-  more x xs h q = ap (λ b. b && all_operands_pass test (mapped_all f xs)) h ∙ ap (λ b. operands_pass Then x && b) q
+  pub mapped_all_same : (code : List Instr) → list_all first (mapped_all f code) ≡ list_all second code
+  mapped_all_same code = all_same code (same_all code)
 
-  joined : (xs ys : List Instr) → SameAll xs → SameAll ys → SameAll (xs ++ ys)
-  joined xs ys h q =
-      ap (all_operands_pass test) (map-append (mapped f) xs ys)
-      ∙ list_all-append (operands_pass test) (mapped_all f xs) (mapped_all f ys)
-      ∙ ap (λ b. b && all_operands_pass test (mapped_all f ys)) h
-      ∙ ap (λ b. all_operands_pass Then xs && b) q
-      ∙ sym (list_all-append (operands_pass Then) xs ys)
-
-  mutual
-    unfolding out-Instr denote.Hole.Carrier.out
-
-    same_of : (i : Instr) → Same i
-    same_of (Block' ty n row) = same_inside (Block' ty n row) (subst SameAll (sym (items_shown-the_row-Instr-0 n row)) (same_row _ row))
-    same_of (Loop' ty n row) = same_inside (Loop' ty n row) (subst SameAll (sym (items_shown-the_row-Instr-0 n row)) (same_row _ row))
-    same_of (If' ty n row k other) =
-        same_inside (If' ty n row k other)
-        (joined (shown-the_row-Instr-0 n row) (shown-the_row-Instr-0 k other) (subst SameAll (sym (items_shown-the_row-Instr-0 n row)) (same_row _ row)) (subst SameAll (sym (items_shown-the_row-Instr-0 k other)) (same_row _ other)))
-    same_of i = same_inside i refl
-
-    same_row : (n : _) (row : Row_of-Instr n) → SameAll (items-the_row-Instr _ row)
-    same_row _ end_of-Instr = refl
-    same_row _ (more_of-Instr i row) = more i (items-the_row-Instr _ row) (same_of i) (same_row _ row)
-
-  pub mapped_code_passes : (code : List Instr) → SameAll code
-  mapped_code_passes [] = refl
-  mapped_code_passes (x ∷ xs) = more x xs (same_of x) (mapped_code_passes xs)
+pub mapped_code_passes : (f : Space → ℕ → ℕ) (test : Operand → Bool) (code : List Instr) → all_operands_pass test (mapped_all f code) ≡ all_operands_pass (λ o. test (moved f o)) code
+mapped_code_passes f test =
+    let then : Operand → Bool = λ o. test (moved f o) in
+    mapped_all_same f (operands_pass test) (operands_pass then) (λ l. list_all test (operands l)) (λ l. list_all then (operands l)) (passes_inside test) (passes_inside then)
+    (λ i. ap (list_all test) (instr_moved f i) ∙ list_all-map test (moved f) (operands_of i))
