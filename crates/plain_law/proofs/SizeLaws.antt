@@ -28,11 +28,11 @@ use Rattle.plain_law.proofs.FileTexts.{each_short, section_short, section_length
 
 -- ---- lists in bodies
 
-abbrev Good : Instr → Type 0
-Good i = length (instr_text i) < 2 ^ 32 → has_short_lists i ≡ true
+abbrev Short : Instr → Type 0
+Short i = length (instr_text i) < 2 ^ 32 → has_short_lists i ≡ true
 
 abbrev Such : Type 0
-Such = (i : Instr) × Good i
+Such = (i : Instr) × Short i
 
 abbrev trees : List Such → List Instr
 trees = map (λ e. e.0)
@@ -107,8 +107,8 @@ node (Instr-F.TableGrow x) k = refl
 node (Instr-F.TableSize x) k = refl
 node (Instr-F.TableFill x) k = refl
 
-good : (i : Instr) → Good i
-good = ind-Instr Good (λ x y is. subst (λ z. Good (roll-Instr z)) is (λ k.
+good : (i : Instr) → Short i
+good = ind-Instr Short (λ x y is. subst (λ z. Short (roll-Instr z)) is (λ k.
     let z = map-Instr Such Instr (λ e. e.0) y in
     fold-roll-Instr Bool lists_step z ∙ node y (subst (λ t. length t < 2 ^ 32) (fold-roll-Instr (List ℕ) instr_step z) k)))
 
