@@ -1,5 +1,5 @@
 -- What a constant expression of a part becomes, by what is read through the part's imported globals.
-use Rattle.std.proofs.Common.{◌≡◌, ◌∙◌, ap, sym, subst, refl, ℕ, zero, suc, ◌+◌, ◌<◌, List, [], ◌∷◌, ◌++◌, length, Option, Some, None, Bool, true, false, cond, ◌&&◌, not, nat_lt, arith, slice_get, get_or, option_and_then, unwrap_or}
+use Rattle.std.proofs.Common.{◌≡◌, ◌∙◌, ap, sym, subst, refl, ℕ, zero, suc, ◌+◌, ◌<◌, List, [], ◌∷◌, ◌++◌, length, Option, Some, None, Bool, true, false, cond, ◌&&◌, not, nat_lt, arith, slice_get, get_or, option_and_then, unwrap_or, is_some}
 use Rattle.wasm_tree.specs.declared.space.Space.TheVariants.{Globals}
 use Rattle.wasm_tree.specs.Operands.{same_space}
 use Rattle.std.specs.Option.{option_map}
@@ -27,7 +27,6 @@ use Rattle.merge_terms.specs.Parts.{named_modules}
 use Rattle.merge_terms.specs.Faults.{link_fault}
 use Rattle.merge_terms.specs.Linked.{read_entry, when_fixed, read_at_desc, read_at}
 use Rattle.merge_terms.specs.Merged.{map_of, merged_read, merged_const}
-use Rattle.merge_validity.proofs.Lists.{is_some, place_get}
 use Rattle.merge_validity.specs.Entries.{HasEntry}
 use Rattle.merge_validity.specs.Joinable.{EachPart}
 use Rattle.merge_join.specs.declared.joining.Joining.{Joining}
@@ -141,7 +140,7 @@ module _ (ps : List Part) (p : ℕ) (reads : List (Option Read)) (are : AreReads
   there_is =
       let ns = imports_of Globals of in
       let z : 0 + import.n ≡ import.n = omega arith in
-      let at : slice_get ns x ≡ Some import.n = sym (place_get ns x) ∙ import.at ∙ ap Some z in
+      let at : slice_get ns x ≡ Some import.n = import.at ∙ ap Some z in
       ap (λ l. slice_get l x) (are of typed.2) ∙ slice_get-map (λ n. read_at ps (site p n)) ns x ∙ ap (option_map (λ n. read_at ps (site p n))) at ∙ ap Some read_is
 
   pub entry_within : x < length reads

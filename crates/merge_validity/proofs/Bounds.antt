@@ -22,9 +22,9 @@ use Rattle.merge_terms.specs.Faults.{stays, is_staying_memory, memory_count, mem
 use Rattle.wasm_tree.specs.Limits.{limit}
 use Rattle.merge_terms.specs.Joined.{or_above, over_limit}
 use Rattle.merge_terms.specs.Merged.{merged, staying, staying_of, imports_kind, by_part}
-use Rattle.merge_validity.proofs.Lists.{count_kept, filter_both}
 use Rattle.merge_validity.proofs.Entities.{of_import, own, imported, space, own_many}
 use Rattle.merge_validity.proofs.MergedSpaces.{own_is, moved_own, extra, all_own, imported_many}
+use Rattle.base_lists.proofs.Filtered.{count_kept, filter_both}
 
 -- ---- one memory ----
 
@@ -49,8 +49,8 @@ merged_single parts names h =
     let u = merged parts names in
     let a = imported_many parts names Memories in
     let b = staying_memories parts in
-    let c = ap length (own_is parts names Memories) ∙ length-append (by_part (moved_own parts Memories) parts) [] in
-    let d = all_own parts Memories in
+    let c = ap length (own_is parts names Memories refl) ∙ length-append (by_part (moved_own parts Memories) parts) [] in
+    let d = all_own parts Memories refl in
     let e = count_is parts in
     let f = few_memories parts h in
     let z : length (memories_of u) ≡ length (imported Memories u) + length (own Memories u) = length-append (imported Memories u) (own Memories u) in
@@ -146,8 +146,8 @@ module_bounded m h locals =
     let st = space_few Tables m in
     let sm = space_few Memories m in
     let sg = space_few Globals m in
-    let of = own_many Functions m in
-    let og = own_many Globals m in
+    let of = own_many Functions m refl in
+    let og = own_many Globals m refl in
     record {
       types = omega (arith, ty);
       imports = omega (arith, i);

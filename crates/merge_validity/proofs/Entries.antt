@@ -1,5 +1,5 @@
 -- The new index of an entry of a part's index space stands in the merged module for an entity of the same type.
-use Rattle.std.proofs.Common.{◌≡◌, ◌∙◌, ap, ap₂, sym, subst, refl, ℕ, zero, suc, ◌+◌, ◌-◌, ◌<◌, ◌≤◌, List, [], ◌∷◌, ◌++◌, length, Option, Some, None, true, arith, ◌⊎◌, inl, inr, option_and_then, unwrap_or}
+use Rattle.std.proofs.Common.{◌≡◌, ◌∙◌, ap, ap₂, sym, subst, refl, ℕ, zero, suc, ◌+◌, ◌-◌, ◌<◌, ◌≤◌, List, [], ◌∷◌, ◌++◌, length, Option, Some, None, true, arith, ◌⊎◌, inl, inr, option_and_then, unwrap_or, false}
 use Rattle.wasm_tree.specs.declared.space.Space.{Space}
 use Rattle.wasm_tree.specs.Operands.{same_space}
 use Rattle.std.specs.Prelude.{slice_get}
@@ -10,16 +10,19 @@ use Rattle.wasm_tree.specs.declared.module.Module.{Module}
 use Rattle.wasm_meaning.specs.State.{Text}
 use Rattle.wasm_meaning.specs.Laws.{EndsArePaths}
 use Rattle.wasm_meaning.specs.World.{defined_before}
-use Rattle.wasm_meaning.specs.Linking.{Part, Site, End, Defined, Outside, Entity, first_place, module_at, import_at, imports_of, has_kind, imported_as, sites, same_site, is_outside}
+use Rattle.wasm_meaning.specs.Linking.{Part, Site, End, Defined, Outside, Entity, first_place, module_at, import_at, imports_of, has_kind, imported_as, sites, same_site, is_outside, linked_end}
 use Rattle.wasm_tree.specs.Spaces.{index_of_export, space_of_export, space_of_import}
-use Rattle.merge_terms.specs.Faults.{External, asked, asked_at, external_of, stays}
+use Rattle.merge_terms.specs.Faults.{External, asked, asked_at, stays}
 use Rattle.merge_terms.specs.Merged.{merged, staying, staying_of, imports_kind, imported_count, place_of_end, place_of_entry, new_index}
-use Rattle.merge_validity.proofs.Lists.{Has, is_some, first_at, then_is, place_get, place_of, places_many, split, past, within, is_kept}
 use Rattle.merge_validity.proofs.Same.{site_is, site_same, kind_is, kind_same}
 use Rattle.merge_validity.proofs.Entities.{Entry, of_desc, of_import, own, imported, space, import_kind, Ty, kind_of, bare, type_of, type_at, asked_type, asked_kind, external_kind, external_type}
 use Rattle.merge_validity.proofs.Linked.{AreLinked, import_site, in_sites}
 use Rattle.merge_validity.proofs.Ends.{Stays, EndsInside, EndsOutside, Landed, inside, outside, landed}
 use Rattle.merge_validity.proofs.MergedSpaces.{staying_type, own_type}
+use Rattle.base_lists.proofs.Options.{is_some_there, and_then_is}
+use Rattle.std.proofs.lemmas.Option.{slice_get_within}
+use Rattle.base_lists.proofs.Places.{slice_get_none, append_from, Has}
+use Rattle.base_lists.proofs.Filtered.{first_at, is_kept, place_of, places_many}
 
 -- ---- an entry of a part: an import, or what the part defines ----
 
@@ -28,13 +31,13 @@ imports_many k m = places_many (has_kind k) (of_import k) m.imports (import_kind
 
 -- what follows the imports is what the part defines
 pub own_entry : (k : Space) (m : Module) (i : ℕ) (c : Entry k) → slice_get (imports_of k m) i ≡ None → slice_get (space k m) i ≡ Some c → slice_get (own k m) (i - length (imports_of k m)) ≡ Some c
-own_entry k m i c e h = by (split (imported k m) (own k m) i c h)
+own_entry k m i c e h = by (append_from (imported k m) (own k m) i c h)
   where
     few : length (imports_of k m) ≤ i
-    few = past (imports_of k m) i (sym (place_get (imports_of k m) i) ∙ e)
+    few = slice_get_none (imports_of k m) i (e)
 
     by : (slice_get (imported k m) i ≡ Some c) ⊎ ((j : ℕ) × (i ≡ length (imported k m) + j) × (slice_get (own k m) j ≡ Some c)) → slice_get (own k m) (i - length (imports_of k m)) ≡ Some c
-    by (inl g) = let l = within (imported k m) i c g in let q = imports_many k m in let f = few in absurd (omega (arith, l, q, f))
+    by (inl g) = let l = slice_get_within (imported k m) i c g in let q = imports_many k m in let f = few in absurd (omega (arith, l, q, f))
     by (inr r) = let q = imports_many k m in let d = r.1 in let z : i - length (imports_of k m) ≡ r.0 = omega (arith, q, d) in ap (slice_get (own k m)) z ∙ r.2
 
 -- the import that an entry is
@@ -49,11 +52,11 @@ pub record IsImport (k : Space) (m : Module) (n : ℕ) (y : Ty) : Type 0 where
 pub import_entry : (k : Space) (m : Module) (i n : ℕ) (y : Ty) → slice_get (imports_of k m) i ≡ Some n → type_at m k i ≡ Some y → IsImport k m n y
 import_entry k m i n y e t =
     let r = place_of (has_kind k) (of_import k) m.imports (import_kind k) 0 i n e in
-    let c = then_is (slice_get (space k m) i) (type_of m k) y t in
+    let c = and_then_is (slice_get (space k m) i) (type_of m k) y t in
     let at : n ≡ r.0 = (let z = r.2 in omega (arith, z)) in
-    let l : i < length (imported k m) = (let a = within (imports_of k m) i n (sym (place_get (imports_of k m) i) ∙ e) in let q = imports_many k m in omega (arith, a, q)) in
+    let l : i < length (imported k m) = (let a = slice_get_within (imports_of k m) i n (e) in let q = imports_many k m in omega (arith, a, q)) in
     let got : slice_get (imported k m) i ≡ Some c.0 = front_only (imported k m) (own k m) i c.0 l c.1 in
-    record { import = r.1; at = ap (slice_get m.imports) at ∙ place_get m.imports r.0 ∙ r.3; of_kind = r.4; entry = c.0; adds = sym r.5 ∙ got; typed = c.2 }
+    record { import = r.1; at = ap (slice_get m.imports) at ∙ r.3; of_kind = r.4; entry = c.0; adds = sym r.5 ∙ got; typed = c.2 }
   where
     front_only : {A : Type 0} (xs ys : List A) (i : ℕ) (x : A) → i < length xs → slice_get (xs ++ ys) i ≡ Some x → slice_get xs i ≡ Some x
     front_only [] ys i x l h = absurd (omega (arith, l))
@@ -86,7 +89,7 @@ end_defined parts k e m is = ap (λ n. length (staying_of parts k) + (defined_be
 own_place : (parts : List Part) (names : List (Option Text)) (k : Space) (p : ℕ) (m : Module) (i : ℕ) (y : Ty) → module_at parts p ≡ Some m → slice_get (imports_of k m) i ≡ None → type_at m k i ≡ Some y →
     type_at (merged parts names) k (length (staying_of parts k) + (defined_before k parts p + (i - length (imports_of k m)))) ≡ Some y
 own_place parts names k p m i y is none t =
-    let c = then_is (slice_get (space k m) i) (type_of m k) y t in
+    let c = and_then_is (slice_get (space k m) i) (type_of m k) y t in
     own_type parts names k p m (i - length (imports_of k m)) c.0 y is (own_entry k m i c.0 none c.1) c.2
 
 pub stays_is : (parts : List Part) (u : Site) → Stays parts u → stays parts u ≡ true
@@ -121,10 +124,6 @@ kind_there parts u i x m is at h = sym (ap (λ o. option_and_then (λ m. option_
 pub has_its_kind : (k : Space) (i : Import) → space_of_import i.desc ≡ k → has_kind k i ≡ true
 has_its_kind k i e = ap (same_space k) e ∙ kind_same k
 
-pub some_there : {A : Type 0} (o : Option A) → is_some o ≡ true → (x : A) × (o ≡ Some x)
-some_there None h = absurd (let k = h in cc)
-some_there (Some x) h = (x, refl)
-
 -- the kind of the import at which another ends
 pub outside_kind : (parts : List Part) (k : Space) (s : Site) (y : Ty) → kind_of y ≡ k → (w : EndsOutside parts s y) → has_kind k w.stays.import ≡ true
 outside_kind parts k s y q w =
@@ -137,7 +136,7 @@ outside_type parts names k s y q w =
     let m = import_site parts w.to w.stays.import w.stays.at in
     let x = kind_there parts w.to w.stays.import w.thing m.0 m.1 m.2 w.asks in
     let h = outside_kind parts k s y q w in
-    let c = some_there (of_import k w.stays.import) (import_kind k w.stays.import ∙ h) in
+    let c = is_some_there (of_import k w.stays.import) (import_kind k w.stays.import ∙ h) in
     staying_type parts names k (place_of_end parts k (Outside w.to)) w.to m.0 w.stays.import c.0 (bare w.thing) (outside_place parts k w.to w.stays h) m.1 w.stays.at c.1 (asked_type m.0 k w.stays.import.desc c.0 w.thing c.1 x)
     ∙ ap Some w.typed
 

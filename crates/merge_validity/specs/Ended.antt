@@ -1,7 +1,7 @@
 -- Where the imports of linked parts end, and where the types and entities of the parts stand in the merged module.
-use Rattle.std.specs.Prelude.{◌≡◌, ℕ, ◌+◌, ◌-◌, ◌<◌, ◌≤◌, List, length, Option, Some, None, true, slice_index, slice_get}
+use Rattle.std.specs.Prelude.{◌≡◌, ℕ, ◌+◌, ◌-◌, ◌<◌, ◌≤◌, List, length, Option, Some, None, true, slice_index, slice_get, Bool, false}
 use Rattle.wasm_tree.specs.declared.space.Space.{Space}
-use Rattle.wasm_tree.specs.declared.space.Space.TheVariants.{Functions, Tables, Memories, Globals}
+use Rattle.wasm_tree.specs.declared.space.Space.TheVariants.{Types, Functions, Tables, Memories, Globals, ElementSegments, DataSegments}
 use Rattle.wasm_tree.specs.declared.types.FuncType.{FuncType}
 use Rattle.wasm_tree.specs.declared.module.Import.{Import}
 use Rattle.wasm_tree.specs.declared.module.Module.{Module}
@@ -97,13 +97,27 @@ abbrev pub TypesHavePlaces : Type 0
 TypesHavePlaces =
     (parts : List Part) (p : ℕ) (m : Module) (x : ℕ) (t : FuncType) → module_at parts p ≡ Some m → slice_get m.types x ≡ Some t → slice_get (merged_types parts) (slice_index (map_of parts p m).types x) ≡ Some t
 
+-- the index spaces of what may be imported and exported: of no types and no segments
+abbrev pub is_external : Space → Bool
+is_external Types = false
+is_external Functions = true
+is_external Tables = true
+is_external Memories = true
+is_external Globals = true
+is_external ElementSegments = false
+is_external DataSegments = false
+
 -- what the merged module defines besides what the parts define
 abbrev pub added_count : List Part → Space → ℕ
+added_count parts Types = 0
 added_count parts Functions = length (start_calls parts (starts parts))
 added_count parts Tables = 0
 added_count parts Memories = 0
 added_count parts Globals = 0
+added_count parts ElementSegments = 0
+added_count parts DataSegments = 0
 
 abbrev pub MergedModulesDefineAll : Type 0
 MergedModulesDefineAll =
-    (parts : List Part) (names : List (Option Text)) (k : Space) → defined_count k (merged parts names) ≡ defined_before k parts (length parts) + added_count parts k
+    (parts : List Part) (names : List (Option Text)) (k : Space) → is_external k ≡ true →
+    defined_count k (merged parts names) ≡ defined_before k parts (length parts) + added_count parts k

@@ -35,7 +35,6 @@ use Rattle.export_names.specs.declared.mode.Mode.{Mode}
 use Rattle.merge_terms.specs.Joined.{joined_module}
 use Rattle.merge_terms.specs.Merged.{map_of, by_part_from, merged_const, merged_global, merged_elem, merged_elem_mode, merged_data}
 use Rattle.merge_validity.specs.Joinable.{CanBeJoined}
-use Rattle.merge_validity.proofs.Lists.{place_get}
 use Rattle.merge_worlds.specs.Instances.{PartAgrees}
 use Rattle.merge_worlds.specs.Shared.{sharing}
 use Rattle.merge_worlds.proofs.ValueGiven.{Laws, EachAgrees}
@@ -78,17 +77,17 @@ module _ (laws : Laws) (m : Module) (valid : IsValid m) where
   global_typed : (n : ℕ) (g : GlobalDef) → slice_get m.globals n ≡ Some g → const_type m g.init ≡ Some g.ty.ty
   global_typed n g h =
       let z = (laws.items m).0 valid kind.Global n (within m.globals n g h) in
-      let both : Some z.0 ≡ Some g = sym z.1 ∙ sym (place_get m.globals n) ∙ h in
+      let both : Some z.0 ≡ Some g = sym z.1 ∙ h in
       let same : z.0 ≡ g = cc in
       subst (λ (g : GlobalDef). const_type m g.init ≡ Some g.ty.ty) same z.2
 
   item_typed : (n : ℕ) (s : ElemSeg) → slice_get m.elems n ≡ Some s → (l : ℕ) (e : ConstExpr) → slice_get s.items l ≡ Some e → const_type m e ≡ Some (Ref s.ty)
   item_typed n s h l e at =
       let z = (laws.items m).0 valid kind.Elem n (within m.elems n s h) in
-      let both : Some z.0 ≡ Some s = sym z.1 ∙ sym (place_get m.elems n) ∙ h in
+      let both : Some z.0 ≡ Some s = sym z.1 ∙ h in
       let same : z.0 ≡ s = cc in
       let typed = subst (λ (s : ElemSeg). (l : ℕ) (e : ConstExpr) → slice_get s.items l ≡ Some e → const_type m e ≡ Some (Ref s.ty)) same z.2 in
-      typed l e (sym (place_get s.items l) ∙ at)
+      typed l e (at)
 
   funcs_fit : (parts : List Part) (p : ℕ) → all_true (map (fits_func (map_of parts p m)) m.funcs) ≡ true
   funcs_fit parts p = left_true _ _ (right_true (all_true (map (fits_import (map_of parts p m)) m.imports)) _ (laws.entries parts p m valid))

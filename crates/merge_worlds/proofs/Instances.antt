@@ -18,7 +18,6 @@ use Rattle.merge_terms.specs.Merged.{map_of, staying_of, new_index}
 use Rattle.merge_terms.specs.Joined.{joined_module}
 use Rattle.merge_validity.specs.Joinable.{CanBeJoined}
 use Rattle.merge_validity.specs.Ended.{added_count}
-use Rattle.merge_validity.proofs.Lists.{then_is}
 use Rattle.merge_validity.proofs.ByPart.{elems_is, datas_is}
 use Rattle.permuted_worlds.specs.Alone.{one}
 use Rattle.permuted_worlds.proofs.Places.{found, within, place_left, place_right, map_length, append_length, numbers_length, place_numbers, index_at, place_map, all_length, each_there}
@@ -30,6 +29,7 @@ use Rattle.merge_worlds.proofs.Chosen.{all_at, place_there}
 use Rattle.merge_worlds.proofs.Instancing.{IsInst, inst_is, inst_there, insts_are, insts_there}
 use Rattle.merge_worlds.proofs.Standing.{kind_in, before_low, shared_is, total, import_address, site_address, site_low, Stands, own, stays, import_stands, own_stands}
 use Rattle.merge_worlds.proofs.MergedAlone.{joined_keeps, staying_kind, names_of, merged_types_are, merged_space, elems_many, datas_many}
+use Rattle.base_lists.proofs.Options.{and_then_is}
 
 -- ---- the entries of a part's map ----
 
@@ -92,7 +92,7 @@ module _ (laws : SpaceLaws) (env : Environment) (parts : List Part) (linked : li
 
   part_space : (k : Space) (p : ℕ) (m : Module) (xs : List ℕ) → space env parts k p m ≡ Some xs → PartSpace k p m xs
   part_space k p m xs h =
-      let r = then_is (all_there (import_address env parts k p) (imports_of k m)) _ xs h in
+      let r = and_then_is (all_there (import_address env parts k p) (imports_of k m)) _ xs h in
       let q = r.2 in
       let same : r.0 ++ numbers (base env parts k p) (defined_count k m) ≡ xs = cc in
       record { imported = r.0; are = r.1; all = sym same }
@@ -104,7 +104,7 @@ module _ (laws : SpaceLaws) (env : Environment) (parts : List Part) (linked : li
 
   pub merged_part : (k : Space) (ys : List ℕ) → space env (one J) k 0 J ≡ Some ys → MergedSpace k ys
   merged_part k ys h =
-      let r = then_is (all_there (site_address env parts k) (staying_of parts k)) _ ys (sym (merged_space laws env parts linked mode k) ∙ h) in
+      let r = and_then_is (all_there (site_address env parts k) (staying_of parts k)) _ ys (sym (merged_space laws env parts linked mode k) ∙ h) in
       let q = r.2 in
       let same : r.0 ++ numbers (own_count k env) (total env parts k + added_count parts k) ≡ ys = cc in
       record { imported = r.0; are = r.1; all = sym same }
@@ -205,7 +205,7 @@ module _ (laws : SpaceLaws) (env : Environment) (parts : List Part) (linked : li
 
   both_there : (insts js : List Inst) → insts_from env parts 0 parts ≡ Some insts → insts_from env (one J) 0 (one J) ≡ Some js → InstancesAgree env parts insts js
   both_there insts js h g =
-      let j = then_is (inst_of env (one J) 0 J) _ js g in
+      let j = and_then_is (inst_of env (one J) 0 J) _ js g in
       let q = j.2 in
       let same : j.0 ∷ [] ≡ js = cc in
       let e = insts_are env parts 0 parts insts h in
@@ -287,7 +287,7 @@ module _ (laws : SpaceLaws) (env : Environment) (parts : List Part) (linked : li
   joined_present js h k = by k
     where
       j : (i : Inst) × (inst_of env (one J) 0 J ≡ Some i)
-      j = let r = then_is (inst_of env (one J) 0 J) _ js h in (r.0, r.1)
+      j = let r = and_then_is (inst_of env (one J) 0 J) _ js h in (r.0, r.1)
 
       a : IsInst env (one J) 0 J j.0
       a = inst_is env (one J) 0 J j.0 j.1

@@ -13,9 +13,9 @@ use Rattle.wasm_meaning.specs.Linking.{limits_of}
 use Rattle.wasm_meaning.specs.Environment.{Thing, FuncAt, TableAt, MemoryAt, GlobalAt}
 use Rattle.wasm_meaning.specs.World.{given, same_bool, meets, is_match}
 use Rattle.merge_terms.specs.Faults.{External, FuncOf, TableOf, MemoryOf, GlobalOf, asked}
-use Rattle.merge_validity.proofs.Lists.{then_is, or_false_is}
 use Rattle.merge_worlds.proofs.MatchLists.{both_true, true_both}
 use Rattle.merge_worlds.proofs.MatchTypes.{AlikeButLimits, two_funcs, two_tables, two_memories, two_globals}
+use Rattle.base_lists.proofs.Options.{and_then_is, unwrap_or_false_is}
 
 abbrev pub fits : Store → External → Thing → Option Bool
 fits s (FuncOf t) (FuncAt a) = option_and_then (λ u. Some (same_func_type t u)) (given (type_at s a))
@@ -29,7 +29,7 @@ abbrev pub fitting : Store → External → Option Thing → Bool
 fitting s x o = unwrap_or (option_and_then (fits s x) o) false
 
 pub fitting_there : (s : Store) (x : External) (o : Option Thing) → fitting s x o ≡ true → (th : Thing) × (o ≡ Some th) × (fits s x th ≡ Some true)
-fitting_there s x o h = then_is o (fits s x) true (or_false_is (option_and_then (fits s x) o) h)
+fitting_there s x o h = and_then_is o (fits s x) true (unwrap_or_false_is (option_and_then (fits s x) o) h)
 
 pub there_fitting : (s : Store) (x : External) (o : Option Thing) (th : Thing) → o ≡ Some th → fits s x th ≡ Some true → fitting s x o ≡ true
 there_fitting s x o th e h = ap (λ o. unwrap_or (option_and_then (fits s x) o) false) e ∙ ap unwrap_or h false
@@ -62,7 +62,7 @@ match_global s m t (GlobalAt a) = refl
 
 pub match_fits : (s : Store) (m : Module) (d : ImportDesc) (x : External) (th : Thing) → asked m d ≡ Some x → is_match s m d th ≡ fits s x th
 match_fits s m (im.Func ty) x th h =
-    let t = then_is (slice_get m.types ty) (λ t. Some (FuncOf t)) x h in
+    let t = and_then_is (slice_get m.types ty) (λ t. Some (FuncOf t)) x h in
     let e = t.2 in
     let same : FuncOf t.0 ≡ x = cc in
     match_func s m ty t.0 t.1 th ∙ ap (λ x. fits s x th) same
@@ -80,7 +80,7 @@ limits_in (GlobalOf t) = None
 
 pub asked_limits : (m : Module) (d : ImportDesc) (x : External) → asked m d ≡ Some x → limits_of d ≡ limits_in x
 asked_limits m (im.Func ty) x h =
-    let t = then_is (slice_get m.types ty) (λ t. Some (FuncOf t)) x h in
+    let t = and_then_is (slice_get m.types ty) (λ t. Some (FuncOf t)) x h in
     let e = t.2 in
     let same : FuncOf t.0 ≡ x = cc in
     ap limits_in same

@@ -5,7 +5,8 @@ use Rattle.std.specs.List.{filter_map, cons_option}
 use Rattle.wasm_meaning.specs.Outcomes.{copies}
 use Rattle.wasm_meaning.specs.Environment.{all_of}
 use Rattle.wasm_meaning.specs.World.{all_there}
-use Rattle.merge_validity.proofs.Lists.{Has, then_is}
+use Rattle.base_lists.proofs.Options.{and_then_is}
+use Rattle.base_lists.proofs.Places.{Has}
 
 -- ---- tests ----
 
@@ -49,10 +50,10 @@ all_places f [] ys h n x e = absurd (let k = e in cc)
 all_places {A} {B} f (z ∷ xs) ys h n x e = by (λ n. all_places f xs tail.0 tail.1 n x) n e
   where
     head : (y : B) × (f z ≡ Some y) × (option_and_then (λ ys. Some (y ∷ ys)) (all_there f xs) ≡ Some ys)
-    head = then_is (f z) (λ y. option_and_then (λ ys. Some (y ∷ ys)) (all_there f xs)) ys h
+    head = and_then_is (f z) (λ y. option_and_then (λ ys. Some (y ∷ ys)) (all_there f xs)) ys h
 
     tail : (zs : List B) × (all_there f xs ≡ Some zs) × (Some (head.0 ∷ zs) ≡ Some ys)
-    tail = then_is (all_there f xs) (λ ys. Some (head.0 ∷ ys)) ys head.2
+    tail = and_then_is (all_there f xs) (λ ys. Some (head.0 ∷ ys)) ys head.2
 
     are : head.0 ∷ tail.0 ≡ ys
     are = let k = tail.2 in cc

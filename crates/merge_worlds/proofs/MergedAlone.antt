@@ -22,13 +22,14 @@ use Rattle.merge_terms.specs.Faults.{External, FuncOf, asked, asked_at, link_fau
 use Rattle.merge_terms.specs.Merged.{merged, merged_types, merged_import, merged_desc, merged_elem, merged_data, map_of, staying, staying_of, imports_kind, export_names}
 use Rattle.merge_terms.specs.Joined.{joined_module}
 use Rattle.merge_validity.specs.Ended.{Ended, inside, outside, added_count}
-use Rattle.merge_validity.proofs.Lists.{then_is, place_get, kept_is}
 use Rattle.merge_validity.proofs.ByPart.{elems_is, datas_is, by_part_many}
 use Rattle.permuted_worlds.specs.Alone.{one, key_in, thing_in, address_in, addresses}
 use Rattle.permuted_worlds.proofs.Places.{map_length}
 use Rattle.merge_worlds.proofs.Chosen.{at_places, of_chosen}
 use Rattle.merge_worlds.proofs.SpaceLaws.{SpaceLaws}
 use Rattle.merge_worlds.proofs.Standing.{site_address}
+use Rattle.base_lists.proofs.Filtered.{kept_is}
+use Rattle.base_lists.proofs.Options.{and_then_is}
 
 -- ---- with references declared ----
 
@@ -97,17 +98,17 @@ pub record IsStaying (parts : List Part) (s : Site) : Type 0 where
 pub staying_is : SpaceLaws → (parts : List Part) (n : ℕ) (s : Site) → slice_get (staying parts) n ≡ Some s → IsStaying parts s
 unfolding staying
 staying_is laws parts n s h =
-    let k = kept_is (stays parts) (sites parts) n s (sym (place_get (filter (stays parts) (sites parts)) n) ∙ h) in
-    let i = (laws.sites parts s).0 k.1.0 (place_get (sites parts) k.1.0 ∙ k.1.1) in
-    let m = then_is (module_at parts s.part) (λ m. slice_get m.imports s.import) i.0 i.1 in
+    let k = kept_is (stays parts) (sites parts) n s (h) in
+    let i = (laws.sites parts s).0 k.1.0 (k.1.1) in
+    let m = and_then_is (module_at parts s.part) (λ m. slice_get m.imports s.import) i.0 i.1 in
     record { import = i.0; at = i.1; remains = k.0; of = m.0; is_part = m.1; stands = m.2 }
 
 -- those of one kind
 pub staying_kind : SpaceLaws → (parts : List Part) (k : Space) (n : ℕ) (s : Site) → slice_get (staying_of parts k) n ≡ Some s → (w : IsStaying parts s) × (has_kind k w.import ≡ true)
 unfolding staying_of
 staying_kind laws parts k n s h =
-    let r = kept_is (imports_kind parts k) (staying parts) n s (sym (place_get (filter (imports_kind parts k) (staying parts)) n) ∙ h) in
-    let w = staying_is laws parts r.1.0 s (place_get (staying parts) r.1.0 ∙ r.1.1) in
+    let r = kept_is (imports_kind parts k) (staying parts) n s (h) in
+    let w = staying_is laws parts r.1.0 s (r.1.1) in
     (w, sym (ap (λ o. unwrap_or (option_and_then (λ i. Some (has_kind k i)) o) false) w.at) ∙ r.0)
 
 moved_import : (parts : List Part) (s : Site) (m : Module) (i : Import) → module_at parts s.part ≡ Some m → import_at parts s ≡ Some i → merged_import parts s ≡ Some (record i { desc = merged_desc parts s m i.desc })
@@ -125,7 +126,7 @@ moved_kind parts s m (im.Global t) = refl
 -- it names the same of the environment's own
 moved_key : SpaceLaws → (parts : List Part) (s : Site) (m : Module) → module_at parts s.part ≡ Some m → (pair : Pair) (d : ImportDesc) (x : External) → asked m d ≡ Some x → key_in (merged_types parts) pair (merged_desc parts s m d) ≡ own_key_of m pair d
 moved_key laws parts s m is pair (im.Func ty) x h =
-    let t = then_is (slice_get m.types ty) (λ t. Some (FuncOf t)) x h in
+    let t = and_then_is (slice_get m.types ty) (λ t. Some (FuncOf t)) x h in
     ap (λ o. option_and_then {T = FuncType} {U = OwnKey} (λ t. Some (FuncKey pair t)) o) (laws.types parts s.part m ty t.0 is t.1 ∙ sym t.1)
 moved_key laws parts s m is pair (im.Table t) x h = refl
 moved_key laws parts s m is pair (im.Memory l) x h = refl

@@ -18,7 +18,6 @@ use Rattle.index_remap.specs.RelatedRuns.{ThingRel, a_func, a_table, a_memory, a
 use Rattle.merge_terms.specs.Faults.{link_fault}
 use Rattle.merge_terms.specs.Merged.{staying_of, new_index}
 use Rattle.merge_validity.specs.Ended.{EndsInside, EndsOutside, Ended, inside, outside}
-use Rattle.merge_validity.proofs.Lists.{then_is}
 use Rattle.merge_validity.proofs.ByPart.{before, defined_is}
 use Rattle.merge_validity.proofs.Same.{kind_is}
 use Rattle.permuted_worlds.specs.Owned.{SharesOwn, OwnEntitiesCorrespond}
@@ -27,6 +26,7 @@ use Rattle.permuted_worlds.proofs.Places.{place_rel, opt_self}
 use Rattle.merge_worlds.specs.Shared.{shared_count, is_shared, sharing}
 use Rattle.merge_worlds.proofs.Chosen.{place_back, past_end}
 use Rattle.merge_worlds.proofs.SpaceLaws.{SpaceLaws}
+use Rattle.base_lists.proofs.Options.{and_then_is}
 
 -- ---- kinds ----
 
@@ -135,10 +135,10 @@ module _ (env : Environment) (parts : List Part) where
   -- which is one of the first
   pub site_low : OwnEntitiesCorrespond → (k : Space) (s : Site) (a : ℕ) → site_address k s ≡ Some a → a < shared_count env parts (kind_in k)
   site_low law k s a h =
-      let x = then_is (outside_thing (owned_of env) parts s) (address_of k) a h in
-      let m = then_is (module_at parts s.part) _ x.0 x.1 in
-      let i = then_is (import_at parts s) _ x.0 m.2 in
-      let key = then_is (own_key m.0 i.0) _ x.0 i.2 in
+      let x = and_then_is (outside_thing (owned_of env) parts s) (address_of k) a h in
+      let m = and_then_is (module_at parts s.part) _ x.0 x.1 in
+      let i = and_then_is (import_at parts s) _ x.0 m.2 in
+      let key = and_then_is (own_key m.0 i.0) _ x.0 i.2 in
       let r = thing_self (sharing env parts) (owned_of env) (law (is_shared env parts) env shares_own).owned (same_key key.0) x.0 key.2 in
       let b : is_shared env parts (kind_in k) a a ≡ true = opt_self (address_rel (sharing env parts) k r) x.2 in
       shared_low (kind_in k) a a b

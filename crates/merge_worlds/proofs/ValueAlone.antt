@@ -17,9 +17,9 @@ use Rattle.wasm_meaning.specs.Environment.{Environment, own_globals}
 use Rattle.wasm_meaning.specs.World.{numbers, own_count, defined_count, space, inst_of, insts_from, value_of_read, value_of}
 use Rattle.permuted_worlds.specs.Alone.{one, address_in, import_places, addresses, read_in, SpacesAreImportsAndOwn, ReadsStay}
 use Rattle.permuted_worlds.proofs.Places.{found, place_right, append_length, map_length, numbers_length, all_length}
-use Rattle.merge_validity.proofs.Lists.{then_is}
 use Rattle.merge_worlds.proofs.Chosen.{past_end}
 use Rattle.merge_worlds.proofs.Instancing.{IsInst, inst_is}
+use Rattle.base_lists.proofs.Options.{and_then_is}
 
 number_past : (c n z a : ℕ) → slice_get (numbers c n) z ≡ Some a → c ≤ a
 number_past c zero z a h = cc
@@ -99,7 +99,7 @@ module _ (reads : ReadsStay) (spaces : SpacesAreImportsAndOwn) (env : Environmen
   -- the addresses of the imports, then those after all that is the environment's
   space_at : (k : Space) (xs : List ℕ) → space env (one u) k 0 u ≡ Some xs → (l : List ℕ) × (length l ≡ length (imports_of k u)) × (xs ≡ l ++ numbers (own_count k env) (defined_count k u))
   space_at k xs e =
-      let x = then_is (addresses env u.types u.imports k) _ xs (sym (spaces env u k) ∙ e) in
+      let x = and_then_is (addresses env u.types u.imports k) _ xs (sym (spaces env u k) ∙ e) in
       let h = x.2 in
       let same : x.0 ++ numbers (own_count k env) (defined_count k u) ≡ xs = cc in
       (x.0, all_length (address_in env u.types u.imports k) (import_places k u.imports) x.0 x.1, sym same)

@@ -2,7 +2,7 @@
 use Rattle.std.proofs.Common.{◌≡◌, ℕ, zero, suc, ◌+◌, ◌<◌, ◌≤◌, List, [], ◌∷◌, ◌++◌, Bool, true, false, true≢false, ◌&&◌, ◌||◌, map, take, get_or, Result, Ok, Err, OnErr, length, length-append, append_assoc, append-nil, refl, sym, ap, ◌∙◌, arith}
 use Rattle.std.proofs.lemmas.List.{take_more}
 use Rattle.base_lists.proofs.Bools.{and_false, left_true, right_true}
-use Rattle.wasm_bytes.proofs.Walk.{mapped_more}
+use Rattle.base_lists.proofs.Walk.{mapped_more}
 use Rattle.wasm_plain.specs.PlainValues.{joined, each_text, is_func, all_funcs}
 use Rattle.wasm_tree.specs.declared.module.ConstExpr.{ConstExpr}
 

@@ -1,5 +1,5 @@
 -- The start of a valid part is a function that takes nothing and gives nothing.
-use Rattle.std.proofs.Common.{◌≡◌, ◌∙◌, refl, sym, ap, ap₂, ℕ, zero, suc, ◌+◌, ◌≤◌, List, [], ◌∷◌, ◌++◌, map, length, Option, Some, None, Bool, true, ◌⊎◌, inl, inr, arith, unwrap_or}
+use Rattle.std.proofs.Common.{◌≡◌, ◌∙◌, refl, sym, ap, ap₂, ℕ, zero, suc, ◌+◌, ◌≤◌, List, [], ◌∷◌, ◌++◌, map, length, Option, Some, None, Bool, true, ◌⊎◌, inl, inr, arith, unwrap_or, is_some}
 use Rattle.wasm_tree.specs.declared.space.Space.TheVariants.{Functions}
 use Rattle.wasm_tree.specs.Operands.{same_space}
 use Rattle.std.specs.Prelude.{slice_get, option_and_then}
@@ -20,15 +20,16 @@ use Rattle.wasm_meaning.specs.Environment.{Environment, Thing, FuncAt, all_of}
 use Rattle.wasm_meaning.specs.World.{given, base, address_of, import_type, imported_thing, all_there, numbers, insts_from, new_func, global_with, elem_with, value_of, is_match, is_matched}
 use Rattle.wasm_meaning.specs.InTurn.{JoinsEarlier}
 use Rattle.index_remap.specs.Laws.{CodeIsRelatedToItself}
-use Rattle.merge_validity.proofs.Lists.{place_get, place_of, places_many, split, map_back}
-use Rattle.merge_validity.proofs.Lists as lists
+use Rattle.std.proofs.lemmas.Option.{slice_get_within}
 use Rattle.worlds_in_turn.proofs.Things.{then_is, some_is, IsInst, inst_is, space_is, all_place, all_length, place_front, place_behind, numbers_place, func_is}
 use Rattle.worlds_in_turn.proofs.Joined.{ExportsThere, inst_of_part}
 use Rattle.worlds_in_turn.proofs.Turn.{SitesThere, all_is, place_at}
 use Rattle.worlds_in_turn.proofs.Beside.{Laid, at_allocated_funcs}
 use Rattle.worlds_in_turn.proofs.Given.{part_there}
+use Rattle.base_lists.proofs.Places.{map_from, append_from}
+use Rattle.base_lists.proofs.Filtered.{place_of, places_many}
 
-is_func : (d : ImportDesc) → lists.is_some (func_of d) ≡ same_space Functions (space_of_import d)
+is_func : (d : ImportDesc) → is_some (func_of d) ≡ same_space Functions (space_of_import d)
 is_func (im.Func ty) = refl
 is_func (im.Table ty) = refl
 is_func (im.Memory l) = refl
@@ -91,12 +92,12 @@ module _ (same_types : (s t : FuncType) → same_func_type s t ≡ true → s �
     from_import ty e type =
         let s = space_is env parts Functions p m i.funcs is_inst.funcs in
         let many = places_many (has_kind Functions) (λ i. func_of i.desc) m.imports (λ i. is_func i.desc) 0 in
-        let low = lists.within (imported_funcs m.imports) x ty e in
+        let low = slice_get_within (imported_funcs m.imports) x ty e in
         let n = part_there (imports_of Functions m) x (omega (arith, low, many)) in
         let at_import = place_of (has_kind Functions) (λ i. func_of i.desc) m.imports (λ i. is_func i.desc) 0 x n.0 n.1 in
         let desc = func_desc at_import.1.desc ty (sym at_import.5 ∙ e) in
         let number : n.0 ≡ at_import.0 = (let d = at_import.2 in omega (arith, d)) in
-        let here : slice_get m.imports n.0 ≡ Some at_import.1 = ap (slice_get m.imports) number ∙ place_get m.imports at_import.0 ∙ at_import.3 in
+        let here : slice_get m.imports n.0 ≡ Some at_import.1 = ap (slice_get m.imports) number ∙ at_import.3 in
         let a = all_place (λ n. option_and_then (address_of Functions) (imported n)) (imports_of Functions m) s.0 s.1 x n.0 n.1 in
         let y = then_is (imported n.0) (address_of Functions) a.0 a.1 in
         let thing = func_is y.0 a.0 y.2 in
@@ -118,15 +119,15 @@ module _ (same_types : (s t : FuncType) → same_func_type s t ≡ true → s �
         let s = space_is env parts Functions p m i.funcs is_inst.funcs in
         let many = places_many (has_kind Functions) (λ i. func_of i.desc) m.imports (λ i. is_func i.desc) 0 in
         let l = all_length (λ n. option_and_then (address_of Functions) (imported n)) (imports_of Functions m) s.0 s.1 in
-        let back = map_back (λ (f : tree.Func). f.ty) m.funcs k ty h in
-        let low = lists.within m.funcs k back.0 back.1 in
+        let back = map_from (λ (f : tree.Func). f.ty) m.funcs k ty h in
+        let low = slice_get_within m.funcs k back.0 back.1 in
         let number : length s.0 + k ≡ x = omega (arith, e, many, l) in
         let adds = laid.part_adds p m i is_part at_inst in
         let fs = then_is (all_there (new_func i) m.funcs) _ (laid.adds p) adds in
         let gs = then_is (all_there (global_with (value_of env parts insts p)) m.globals) _ (laid.adds p) fs.2 in
         let es = then_is (all_there (elem_with (value_of env parts insts p)) m.elems) _ (laid.adds p) gs.2 in
         let funcs : fs.0 ≡ (laid.adds p).funcs = ap (λ s. s.funcs) (some_is es.2) in
-        let f = all_place (new_func i) m.funcs fs.0 fs.1 k back.0 (place_get m.funcs k ∙ back.1) in
+        let f = all_place (new_func i) m.funcs fs.0 fs.1 k back.0 (back.1) in
         let made = then_is (slice_get i.types back.0.ty) _ f.0 f.1 in
         let same_t : made.0 ≡ t = some_is (sym made.1 ∙ ap₂ slice_get is_inst.types back.2 ∙ type) in
         let count = all_length (new_func i) m.funcs fs.0 fs.1 in
@@ -149,7 +150,7 @@ module _ (same_types : (s t : FuncType) → same_func_type s t ≡ true → s �
     pub func_there : type_of_func m x ≡ Some t → HasFunc i allocated x t
     func_there h =
         let ty = and_then_is (slice_get m.types) (slice_get (funcs_of m) x) t h in
-        go ty.0 (place_get m.types ty.0 ∙ ty.2) (split (imported_funcs m.imports) (map (λ f. f.ty) m.funcs) x ty.0 ty.1)
+        go ty.0 (ty.2) (append_from (imported_funcs m.imports) (map (λ f. f.ty) m.funcs) x ty.0 ty.1)
       where
         go : (ty : ℕ) → slice_get m.types ty ≡ Some t → (slice_get (imported_funcs m.imports) x ≡ Some ty) ⊎ ((k : ℕ) × (x ≡ length (imported_funcs m.imports) + k) × (slice_get (map (λ f. f.ty) m.funcs) k ≡ Some ty)) → HasFunc i allocated x t
         go ty type (inl e) = from_import ty e type

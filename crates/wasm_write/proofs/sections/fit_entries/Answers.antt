@@ -1,4 +1,4 @@
-use Rattle.wasm_bytes.proofs.Walk.{on_err}
+use Rattle.base_lists.proofs.Walk.{on_err}
 use Rattle.wasm_plain.specs.PlainCode.{entry_text}
 use Rattle.wasm_write.proofs.Loops.{measured_more, measured_stop}
 use Rattle.wasm_write.proofs.sections.fit_entries.Goals as goal

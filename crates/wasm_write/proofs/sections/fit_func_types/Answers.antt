@@ -1,4 +1,4 @@
-use Rattle.wasm_bytes.proofs.Walk.{on_err}
+use Rattle.base_lists.proofs.Walk.{on_err}
 use Rattle.wasm_bytes.specs.Writing.{u32_text}
 use Rattle.wasm_tree.specs.declared.module.Func.{Func}
 use Rattle.wasm_write.proofs.Loops.{measured_more, measured_stop}

@@ -1,5 +1,5 @@
 use Rattle.std.proofs.Common.{get_or, pos}
-use Rattle.wasm_bytes.proofs.Walk.{on_err}
+use Rattle.base_lists.proofs.Walk.{on_err}
 use Rattle.wasm_tree.specs.declared.module.ConstExpr.TheVariants as const
 use Rattle.wasm_bytes.specs.Writing.{u32_text}
 use Rattle.wasm_tree.specs.declared.module.ConstExpr.{ConstExpr}
