@@ -9,20 +9,23 @@ use Rattle.wasm_tree.specs.declared.instr.Instr.TheOpen.{Instr-F}
 use Rattle.wasm_tree.specs.declared.instr.Instr.TheVariants as i
 use Rattle.wasm_tree.specs.declared.instr.Instr.TheVariants.{Block, Block', Loop, Loop', If, If', Call}
 use Rattle.wasm_meaning.specs.State.{Inst}
+use Rattle.base_lists.specs.Every.{Every}
+use Rattle.wasm_tree.specs.Operands.{block_operands, map_operands}
 use Rattle.index_remap.specs.declared.remap.Remap.{Remap}
 use Rattle.index_remap.specs.Related
 use Rattle.index_remap.specs.Related.{Pairing, BlockRel, empty, value, indexed, OpRel, CodeRel, end, then, instead}
-use Rattle.index_remap.specs.Renumbered.{new_type, renumber_step, renumbered, renumbered_all}
+use Rattle.index_remap.specs.Renumbered.{entry, new_type, renumbered, renumbered_all}
 use Rattle.index_remap.specs.References.{is_among}
-use Rattle.index_remap.specs.CodeNames.{BlockNames, LayerNames, Layers, RowLayers, ListLayers}
+use Rattle.index_remap.specs.CodeNames.{EntryNames, LayerNames}
+use Rattle.wasm_tree.specs.Layers.{Layers, RowLayers, ListLayers}
 use Rattle.index_remap.specs.Replaced.{Labels, Codes, CallReplaced, StandsFor, RowReplaced, Replaced, CallNamed, OthersNamed}
 use Rattle.index_remap.proofs.Unlisted.{all_follow, unlisted_renumbered}
 
 module _ (R : Pairing) (m : Remap) (x y : Inst) where
-  block_rel : (b : BlockType) → BlockNames m x y b → BlockRel x y b (new_type m b)
+  block_rel : (b : BlockType) → Every (λ o. EntryNames R m x y o.space o.index) (block_operands b) → BlockRel x y b (new_type m b)
   block_rel bt.Empty n = empty
   block_rel (bt.Value t) n = value
-  block_rel (bt.Index k) n = indexed n
+  block_rel (bt.Index k) n = indexed n.0
 
   -- it holds no other instructions
   abbrev HoldsNone : Instr-F Instr → Type 0
@@ -31,7 +34,7 @@ module _ (R : Pairing) (m : Remap) (x y : Inst) where
   HoldsNone (Instr-F.If b c d) = ⊥
   HoldsNone _ = Unit {0}
 
-  layer_rel : (l : Instr-F Instr) → HoldsNone l → LayerNames R m x y l → OpRel R x y false l (out-Instr (renumber_step m (map-Instr Instr Instr (renumbered m) l)))
+  layer_rel : (l : Instr-F Instr) → HoldsNone l → LayerNames R m x y l → OpRel R x y false l (out-Instr (map_operands (entry m) (map-Instr Instr Instr (renumbered m) l)))
   unfolding out-Instr denote.Hole.Carrier.out
   layer_rel Instr-F.Unreachable h n = Related.unreachable
   layer_rel Instr-F.Nop h n = Related.nop
@@ -42,42 +45,42 @@ module _ (R : Pairing) (m : Remap) (x y : Inst) where
   layer_rel (Instr-F.BrIf x0) h n = Related.br_if
   layer_rel (Instr-F.BrTable x0 x1) h n = Related.br_table
   layer_rel Instr-F.Return h n = Related.return
-  layer_rel (Instr-F.Call x0) h n = Related.call n
-  layer_rel (Instr-F.CallIndirect x0 x1) h n = Related.call_indirect n.0 n.1
+  layer_rel (Instr-F.Call x0) h n = Related.call n.0
+  layer_rel (Instr-F.CallIndirect x0 x1) h n = Related.call_indirect n.0 n.1.0
   layer_rel Instr-F.Drop h n = Related.drop
   layer_rel Instr-F.Select h n = Related.select
   layer_rel (Instr-F.SelectTyped x0) h n = Related.select_typed
   layer_rel (Instr-F.LocalGet x0) h n = Related.local_get
   layer_rel (Instr-F.LocalSet x0) h n = Related.local_set
   layer_rel (Instr-F.LocalTee x0) h n = Related.local_tee
-  layer_rel (Instr-F.GlobalGet x0) h n = Related.global_get n
-  layer_rel (Instr-F.GlobalSet x0) h n = Related.global_set n
-  layer_rel (Instr-F.TableGet x0) h n = Related.table_get n
-  layer_rel (Instr-F.TableSet x0) h n = Related.table_set n
-  layer_rel (Instr-F.Load x0 x1) h n = Related.load (record { offset = refl; memory = n })
-  layer_rel (Instr-F.Store x0 x1) h n = Related.store (record { offset = refl; memory = n })
-  layer_rel (Instr-F.MemorySize x0) h n = Related.memory_size n
-  layer_rel (Instr-F.MemoryGrow x0) h n = Related.memory_grow n
+  layer_rel (Instr-F.GlobalGet x0) h n = Related.global_get n.0
+  layer_rel (Instr-F.GlobalSet x0) h n = Related.global_set n.0
+  layer_rel (Instr-F.TableGet x0) h n = Related.table_get n.0
+  layer_rel (Instr-F.TableSet x0) h n = Related.table_set n.0
+  layer_rel (Instr-F.Load x0 x1) h n = Related.load (record { offset = refl; memory = n.0 })
+  layer_rel (Instr-F.Store x0 x1) h n = Related.store (record { offset = refl; memory = n.0 })
+  layer_rel (Instr-F.MemorySize x0) h n = Related.memory_size n.0
+  layer_rel (Instr-F.MemoryGrow x0) h n = Related.memory_grow n.0
   layer_rel (Instr-F.I32Const x0) h n = Related.i32_const
   layer_rel (Instr-F.I64Const x0) h n = Related.i64_const
   layer_rel (Instr-F.Un x0) h n = Related.un
   layer_rel (Instr-F.Bin x0) h n = Related.bin
   layer_rel (Instr-F.RefNull x0) h n = Related.ref_null
   layer_rel Instr-F.RefIsNull h n = Related.ref_is_null
-  layer_rel (Instr-F.RefFunc x0) h n = Related.ref_func n
-  layer_rel (Instr-F.MemoryInit x0 x1) h n = Related.memory_init n.0 n.1
-  layer_rel (Instr-F.DataDrop x0) h n = Related.data_drop n
-  layer_rel (Instr-F.MemoryCopy x0 x1) h n = Related.memory_copy n.0 n.1
-  layer_rel (Instr-F.MemoryFill x0) h n = Related.memory_fill n
-  layer_rel (Instr-F.TableInit x0 x1) h n = Related.table_init n.0 n.1
-  layer_rel (Instr-F.ElemDrop x0) h n = Related.elem_drop n
-  layer_rel (Instr-F.TableCopy x0 x1) h n = Related.table_copy n.0 n.1
-  layer_rel (Instr-F.TableGrow x0) h n = Related.table_grow n
-  layer_rel (Instr-F.TableSize x0) h n = Related.table_size n
-  layer_rel (Instr-F.TableFill x0) h n = Related.table_fill n
+  layer_rel (Instr-F.RefFunc x0) h n = Related.ref_func n.0
+  layer_rel (Instr-F.MemoryInit x0 x1) h n = Related.memory_init n.0 n.1.0
+  layer_rel (Instr-F.DataDrop x0) h n = Related.data_drop n.0
+  layer_rel (Instr-F.MemoryCopy x0 x1) h n = Related.memory_copy n.0 n.1.0
+  layer_rel (Instr-F.MemoryFill x0) h n = Related.memory_fill n.0
+  layer_rel (Instr-F.TableInit x0 x1) h n = Related.table_init n.0 n.1.0
+  layer_rel (Instr-F.ElemDrop x0) h n = Related.elem_drop n.0
+  layer_rel (Instr-F.TableCopy x0 x1) h n = Related.table_copy n.0 n.1.0
+  layer_rel (Instr-F.TableGrow x0) h n = Related.table_grow n.0
+  layer_rel (Instr-F.TableSize x0) h n = Related.table_size n.0
+  layer_rel (Instr-F.TableFill x0) h n = Related.table_fill n.0
 
   plain_rel : (o : Instr) → HoldsNone (out-Instr o) → LayerNames R m x y (out-Instr o) → OpRel R x y false (out-Instr o) (out-Instr (renumbered m o))
-  plain_rel o h n = rw (fold_out-Instr Instr (renumber_step m) o) (layer_rel (out-Instr o) h n)
+  plain_rel o h n = rw (fold_out-Instr Instr (map_operands (entry m)) o) (layer_rel (out-Instr o) h n)
 
   -- one instruction before the rest
   one_rel : (o p : Instr) (code c d : List Instr) → code ≡ p ∷ [] → OpRel R x y false (out-Instr o) (out-Instr p) → CodeRel R x y c d → CodeRel R x y (o ∷ c) (code ++ d)

@@ -12,9 +12,11 @@ use Rattle.wasm_typing.specs.Typing.{Stack, operands, AllMatch, Signature, signa
 use Rattle.index_remap.specs.declared.remap.Remap.{Remap}
 use Rattle.index_remap.specs.Renumbered.{new_type, renumbered}
 use Rattle.index_remap.specs.References.{is_among}
-use Rattle.index_remap.specs.CodeNames.{Layers, RowLayers, ListLayers}
+use Rattle.base_lists.specs.Every.{Every}
+use Rattle.wasm_tree.specs.Operands.{block_operands}
+use Rattle.wasm_tree.specs.Layers.{Layers, RowLayers, ListLayers}
 use Rattle.index_remap.proofs.Rel.{append_rel}
-use Rattle.index_remap.specs.Agreement.{BlockAgrees, LayerAgrees, SameFrame, labelled}
+use Rattle.index_remap.specs.Agreement.{OperandAgrees, LayerAgrees, SameFrame, labelled}
 use Rattle.index_remap.specs.Replaced.{Labels, Codes, CallReplaced, block_label, loop_label, StandsFor, RowReplaced, Replaced, OthersAgree, CodesHaveTypes}
 use Rattle.index_remap.proofs.Instructions.{plain_kept, type_kept}
 use Rattle.index_remap.proofs.Keeping.{then_is}
@@ -73,15 +75,15 @@ module _ (m : Remap) (listed : List ℕ) (codes : Codes) (c d : Context) (locals
     stands : (ls : Labels) (i : Instr) (code : List Instr) (s t r : Stack) → Layers (OthersAgree m listed c d) i → StandsFor c.types m listed codes ls i code → Fits (labelled c ls) i s t → Lower r s →
         (u : Stack) × LeadsAll (labelled d ls) code r u × Lower u t
     stands ls (Block' ty n body) code s t r q (b, k, e) (f, g, w, a) l =
-        let here : BlockAgrees m c d ty = subst (LayerAgrees m c d) (outs-Block' ty n body) (q.0 refl) in
+        let here : Every (λ o. OperandAgrees m c d o.space o.called o.index) (block_operands ty) = subst (LayerAgrees m c d) (outs-Block' ty n body) (q.0 refl) in
         let inner = row_ends (labelled c (f.results ∷ ls)) (labelled d (f.results ∷ ls)) body b f.params f.results (λ s t r. row_leads (f.results ∷ ls) body b s t r q.1 (under_block ls f ty g body b k)) w in
         one_leads (labelled d ls) (Block (new_type m ty) b) code s t r e (f, type_kept m c d locals results ty here f g, inner, a) l
     stands ls (Loop' ty n body) code s t r q (b, k, e) (f, g, w, a) l =
-        let here : BlockAgrees m c d ty = subst (LayerAgrees m c d) (outs-Loop' ty n body) (q.0 refl) in
+        let here : Every (λ o. OperandAgrees m c d o.space o.called o.index) (block_operands ty) = subst (LayerAgrees m c d) (outs-Loop' ty n body) (q.0 refl) in
         let inner = row_ends (labelled c (f.params ∷ ls)) (labelled d (f.params ∷ ls)) body b f.params f.results (λ s t r. row_leads (f.params ∷ ls) body b s t r q.1 (subst (λ o. RowReplaced c.types m listed codes (loop_label o ∷ ls) body b) g k)) w in
         one_leads (labelled d ls) (Loop (new_type m ty) b) code s t r e (f, type_kept m c d locals results ty here f g, inner, a) l
     stands ls (If' ty n body j other) code s t r q (b, o, k, x, e) (f, g, w, y, a) l =
-        let here : BlockAgrees m c d ty = subst (LayerAgrees m c d) (outs-If' ty n body j other) (q.0 refl) in
+        let here : Every (λ o. OperandAgrees m c d o.space o.called o.index) (block_operands ty) = subst (LayerAgrees m c d) (outs-If' ty n body j other) (q.0 refl) in
         let first = row_ends (labelled c (f.results ∷ ls)) (labelled d (f.results ∷ ls)) body b f.params f.results (λ s t r. row_leads (f.results ∷ ls) body b s t r q.1 (under_block ls f ty g body b k)) w in
         let second = row_ends (labelled c (f.results ∷ ls)) (labelled d (f.results ∷ ls)) other o f.params f.results (λ s t r. row_leads (f.results ∷ ls) other o s t r q.2 (under_block ls f ty g other o x)) y in
         one_leads (labelled d ls) (If (new_type m ty) b o) code s t r e (f, type_kept m c d locals results ty here f g, first, second, a) l
