@@ -2,7 +2,7 @@ use Rattle.std.proofs.Common.{◌≡◌, ◌∙◌, sym, ap, Some, map, length, 
 use Rattle.wasm_tree.specs.declared.module.Module.{Module}
 use Rattle.wasm_meaning.specs.World.{numbers}
 use Rattle.wasm_meaning.specs.Linking.{first_place}
-use Rattle.wasm_meaning.specs.Values.{same_func_type}
+use Rattle.wasm_tree.specs.SameTypes.{same_func_type}
 use Rattle.merge_terms.specs.Parts.{named_modules}
 use Rattle.wasm_tree.specs.declared.space.Space.TheVariants.{Functions, Tables, Memories, Globals}
 use Rattle.merge_join.proofs.Counts.{elems_room, datas_room}
