@@ -1,7 +1,8 @@
 -- Where what a part defines is.
 use Rattle.std.proofs.Common.{◌≡◌, ◌+◌, ◌-◌, ◌<◌, List, length, Some, ap, ◌∙◌, option_and_then, slice_get}
 use Rattle.wasm_tree.specs.declared.module.Module.{Module}
-use Rattle.wasm_meaning.specs.Linking.{Part, Entity, module_at, imports_of, space_of_export, index_of_export}
+use Rattle.wasm_tree.specs.Spaces.{space_of_export, index_of_export}
+use Rattle.wasm_meaning.specs.Linking.{Part, Entity, module_at, imports_of}
 use Rattle.wasm_meaning.specs.Environment.{Environment}
 use Rattle.wasm_meaning.specs.World.{base, defined_count, defined_addresses, defined_thing, thing_at}
 use Rattle.permuted_worlds.proofs.Places.{place_numbers}
