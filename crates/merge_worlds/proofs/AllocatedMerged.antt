@@ -1,5 +1,5 @@
 -- The lists of the merged module, by part; and what comes after these in it: a function that calls starts, and a segment that declares references.
-use Rattle.std.proofs.Common.{◌≡◌, ℕ, zero, suc, ◌+◌, ◌<◌, List, [], ◌∷◌, ◌++◌, map, length, Some, ◌&&◌, refl, sym, ap, ap₂, subst, ◌∙◌, arith, option_and_then}
+use Rattle.std.proofs.Common.{◌≡◌, ℕ, zero, suc, ◌+◌, ◌<◌, List, [], ◌∷◌, ◌++◌, map, length, Some, ◌&&◌, refl, sym, ap, ap₂, subst, ◌∙◌, arith, option_and_then, append-nil}
 use Rattle.std.specs.Prelude.{not, slice_get}
 use Rattle.std.specs.List.{flat_map, range_with_len}
 use Rattle.wasm_tree.specs.declared.module.ConstExpr.TheVariants as const
@@ -23,7 +23,6 @@ use Rattle.export_names.specs.Names.{new_names}
 use Rattle.merge_terms.specs.Joined.{joined_module}
 use Rattle.merge_terms.specs.Merged.{by_part_from, starts, start_calls, defined_funcs, export_names, merged}
 use Rattle.merge_worlds.proofs.ValueGiven.{Laws}
-use Rattle.merge_worlds.proofs.AllocatedLists.{nothing_more}
 use Rattle.merge_worlds.proofs.AllocatedParts.{part_funcs, part_globals, part_elems, part_datas}
 use Rattle.base_lists.proofs.Filtered.{kept_is}
 
@@ -44,7 +43,7 @@ record Declared (m u : Module) (fs : List ℕ) : Type 0 where
   space : funcs_of u ≡ funcs_of m
 
 declared_is : (m : Module) (fs : List ℕ) → Declared m (with_declared m fs) fs
-declared_is m [] = record { funcs = refl; tables = refl; mems = refl; globals = refl; elems = sym (nothing_more m.elems); datas = refl; space = refl }
+declared_is m [] = record { funcs = refl; tables = refl; mems = refl; globals = refl; elems = sym (append-nil m.elems); datas = refl; space = refl }
 declared_is m (f ∷ fs) = record { funcs = refl; tables = refl; mems = refl; globals = refl; elems = refl; datas = refl; space = refl }
 
 -- the merged module before its references are declared

@@ -1,5 +1,5 @@
 -- What each part adds to the store, and what its definitions add where they stand in the merged module.
-use Rattle.std.proofs.Common.{◌≡◌, ℕ, suc, ◌+◌, ◌*◌, List, [], ◌∷◌, ◌++◌, map, length, Option, Some, true, false, refl, sym, ap, ap₂, subst, ◌∙◌, append_assoc, arith, option_and_then}
+use Rattle.std.proofs.Common.{◌≡◌, ℕ, suc, ◌+◌, ◌*◌, List, [], ◌∷◌, ◌++◌, map, length, Option, Some, true, false, refl, sym, ap, ap₂, subst, ◌∙◌, append_assoc, arith, option_and_then, append-nil}
 use Rattle.wasm_tree.specs.declared.space.Space.TheVariants.{Functions, Tables, Memories, Globals, DataSegments, ElementSegments}
 use Rattle.std.specs.Prelude.{slice_get}
 use Rattle.std.specs.List.{flat_map}
@@ -39,7 +39,7 @@ use Rattle.merge_worlds.specs.Instances.{PartAgrees}
 use Rattle.merge_worlds.specs.Shared.{sharing}
 use Rattle.merge_worlds.proofs.ValueGiven.{Laws, EachAgrees}
 use Rattle.merge_worlds.proofs.Values.{const_rel, reference_rel}
-use Rattle.merge_worlds.proofs.AllocatedLists.{nothing_more, placed_rel, some_rel, both_lists, all_append, Added, adding, and_added, exchange}
+use Rattle.merge_worlds.proofs.AllocatedLists.{placed_rel, some_rel, both_lists, all_append, Added, adding, and_added, exchange}
 use Rattle.merge_worlds.proofs.AllocatedFuncs.{func_rel}
 
 -- ---- what is allocated in the same way ----
@@ -187,17 +187,17 @@ module _ (laws : Laws) (env : Environment) (parts : List Part) (mode : Mode) (ca
   grown_none : (s : Store) (p : ℕ) → Grown s p [] s (record { funcs = []; globals = []; elems = [] })
   grown_none s p = record {
     more_funcs = [];
-    funcs_are = sym (nothing_more s.funcs);
+    funcs_are = sym (append-nil s.funcs);
     funcs = nil;
     more_globals = [];
-    globals_are = sym (nothing_more s.globals);
+    globals_are = sym (append-nil s.globals);
     globals = nil;
     more_elems = [];
-    elems_are = sym (nothing_more s.elems);
+    elems_are = sym (append-nil s.elems);
     elems = nil;
-    tables = sym (nothing_more s.tables);
-    mems = sym (nothing_more s.mems);
-    datas = sym (nothing_more s.datas);
+    tables = sym (append-nil s.tables);
+    mems = sym (append-nil s.mems);
+    datas = sym (append-nil s.datas);
     func_count = omega arith;
     table_count = omega arith;
     memory_count = omega arith;

@@ -40,14 +40,14 @@ use Rattle.permuted_worlds.proofs.Places.{found, within, place_left, place_right
 use Rattle.permuted_worlds.proofs.Alone.{funcs_counted}
 use Rattle.merge_worlds.specs.Shared.{shared_count}
 use Rattle.merge_worlds.proofs.SpaceLaws.{SpaceLaws}
-use Rattle.merge_worlds.proofs.Chosen.{all_at}
 use Rattle.merge_worlds.proofs.Instancing.{IsInst}
 use Rattle.merge_worlds.proofs.Standing.{import_address}
 use Rattle.merge_worlds.proofs.MergedAlone.{Keeps, joined_keeps, names_of, merged_types_are}
 use Rattle.merge_worlds.proofs.Starts.{IsNamed}
 use Rattle.base_lists.proofs.Places.{map_from, append_right}
 use Rattle.base_lists.proofs.Filtered.{place_of}
-use Rattle.base_lists.proofs.Options.{and_then_is, unwrap_or_false_is}
+use Rattle.base_lists.proofs.Options.{and_then_is, unwrap_or_false_is, all_there_at}
+use Rattle.std.proofs.lemmas.Option.{same_Some}
 
 -- ---- segments leave the functions as they are ----
 
@@ -111,10 +111,6 @@ at_is [] n x h = absurd (let k = h in cc)
 at_is (y ∷ xs) zero x h = let same : y ≡ x = cc in ap Gives same
 at_is (y ∷ xs) (suc n) x h = at_is xs n x h
 
-and_then_is : {A B : Type 0} (f : A → Option B) (o : Option A) (y : B) → option_and_then f o ≡ Some y → (x : A) × (o ≡ Some x) × (f x ≡ Some y)
-and_then_is f None y h = absurd (let k = h in cc)
-and_then_is f (Some x) y h = (x, refl, h)
-
 given_is : {A : Type 0} (o : Outcome A) (a : A) → given o ≡ Some a → o ≡ Gives a
 given_is (Gives b) a h = let same : b ≡ a = cc in ap Gives same
 given_is Traps a h = absurd (let k = h in cc)
@@ -131,9 +127,6 @@ all_of_at {A} is (y ∷ xs) n x h e = by (is y) refl h (λ k n e. all_of_at is x
     by true q h on zero e = let same : y ≡ x = cc in ap is (sym same) ∙ q
     by true q h on (suc n) e = on h n e
     by false q h on n e = absurd (let k = h in cc)
-
-in_some : {A : Type 0} (x y : A) → Some x ≡ Some y → x ≡ y
-in_some x y h = cc
 
 func_kind : (i : Import) → is_some (func_of i.desc) ≡ has_kind Functions i
 func_kind i = by i.desc refl
@@ -179,13 +172,13 @@ module _ (laws : SpaceLaws) (env : Environment) (t : Module) (j : Inst) (inst : 
   pub own_func_at : (n : ℕ) (f : tree.Func) (ty : FuncType) → slice_get t.funcs n ≡ Some f → slice_get t.types f.ty ≡ Some ty → slice_get z.funcs (own_count Functions env + n) ≡ Some (Code ty j (declared f.locals) f.body)
   own_func_at n f ty h e =
       let s = has_funcs in
-      let r = all_at (new_func j) t.funcs s.funcs s.are n f h in
+      let r = all_there_at (new_func j) t.funcs s.funcs s.are n f h in
       let is : new_func j f ≡ Some (Code ty j (declared f.locals) f.body) = ap (λ o. option_and_then {T = FuncType} {U = Func} (λ ty. Some (Code ty j (declared f.locals) f.body)) o) (ap (λ l. slice_get l f.ty) inst.types ∙ e) in
       ap (λ l. slice_get l (own_count Functions env + n)) s.all ∙ place_right (own_funcs env) s.funcs n ∙ r.2 ∙ sym r.1 ∙ is
 
   own_typed : (x n a : ℕ) (ty : FuncType) → x ≡ length (imports_of Functions t) + n → a ≡ own_count Functions env + n → type_of_func t x ≡ Some ty → type_at z a ≡ Gives ty
   own_typed x n a ty e d h =
-      let y = and_then_is (slice_get t.types) (slice_get (funcs_of t) x) ty h in
+      let y = and_then_is (slice_get (funcs_of t) x) (slice_get t.types) ty h in
       let many = funcs_counted t.imports 0 in
       let at : length (imported_funcs t.imports) + n ≡ x = omega (arith, e, many) in
       let got : slice_get (map (λ f. f.ty) t.funcs) n ≡ Some y.0 = sym (append_right (imported_funcs t.imports) (map (λ f. f.ty) t.funcs) n) ∙ ap (slice_get (funcs_of t)) at ∙ y.1 in
@@ -196,7 +189,7 @@ module _ (laws : SpaceLaws) (env : Environment) (t : Module) (j : Inst) (inst : 
 
   import_typed : all_of (is_matched env (one t) z) (sites (one t)) ≡ true → (x n a : ℕ) (ty : FuncType) → slice_get (imports_of Functions t) x ≡ Some n → import_address env (one t) Functions 0 n ≡ Some a → type_of_func t x ≡ Some ty → type_at z a ≡ Gives ty
   import_typed matched x n a ty e address h =
-      let y = and_then_is (slice_get t.types) (slice_get (funcs_of t) x) ty h in
+      let y = and_then_is (slice_get (funcs_of t) x) (slice_get t.types) ty h in
       let r = place_of (has_kind Functions) (λ i. func_of i.desc) t.imports func_kind 0 x n e in
       let k : n ≡ r.0 = (let d = r.2 in omega (arith, d)) in
       let i : slice_get t.imports n ≡ Some r.1 = ap (slice_get t.imports) k ∙ r.3 in
@@ -214,7 +207,7 @@ module _ (laws : SpaceLaws) (env : Environment) (t : Module) (j : Inst) (inst : 
       let match : is_match z t (im.Func y.0) (FuncAt a) ≡ Some true = sym (ap₂ (is_match z t) (ap (λ (i : Import). i.desc) same ∙ desc) thing) ∙ d.2 in
       let u = and_then_is (slice_get t.types y.0) _ true match in
       let v = and_then_is (given (type_at z a)) _ true u.2 in
-      let yes : same_func_type u.0 v.0 ≡ true = in_some (same_func_type u.0 v.0) true v.2 in
+      let yes : same_func_type u.0 v.0 ≡ true = same_Some (same_func_type u.0 v.0) true v.2 in
       let types : Some u.0 ≡ Some ty = sym u.1 ∙ y.2 in
       let type : u.0 ≡ ty = cc in
       matched_type (type_at z a) u.0 v.0 ty v.1 (func_type_is u.0 v.0 yes) type
@@ -235,7 +228,7 @@ module _ (laws : SpaceLaws) (env : Environment) (t : Module) (j : Inst) (inst : 
       go : (x < length (imports_of Functions t)) ⊎ (length (imports_of Functions t) ≤ x) → type_at z a ≡ Gives ty
       go (inl low) =
           let n = found (imports_of Functions t) x low in
-          let r = all_at (import_address env (one t) Functions 0) (imports_of Functions t) s.0 s.1 x n.0 n.1 in
+          let r = all_there_at (import_address env (one t) Functions 0) (imports_of Functions t) s.0 s.1 x n.0 n.1 in
           let both : Some a ≡ Some r.0 = sym h ∙ ap (λ l. slice_get l x) all ∙ place_left s.0 _ x (within s.0 x r.0 r.2) ∙ r.2 in
           import_typed matched x n.0 a ty n.1 (r.1 ∙ sym both) e
       go (inr high) =

@@ -1,5 +1,5 @@
 -- An entity that a part defines fits what is asked for, where its type and its limits do: what is allocated for it has its type, its least size and its maximum.
-use Rattle.std.proofs.Common.{◌≡◌, ℕ, zero, suc, ◌+◌, ◌-◌, ◌≤◌, List, [], ◌∷◌, ◌++◌, map, length, Option, Some, None, true, false, cond, refl, sym, ap, ap₂, ◌∙◌, arith, ◌&&◌, is_some}
+use Rattle.std.proofs.Common.{◌≡◌, ℕ, zero, suc, ◌+◌, ◌-◌, ◌≤◌, List, [], ◌∷◌, ◌++◌, map, length, Option, Some, None, true, refl, sym, ap, ap₂, ◌∙◌, arith, ◌&&◌, is_some}
 use Rattle.wasm_tree.specs.declared.space.Space.{Space}
 use Rattle.wasm_tree.specs.declared.space.Space.TheVariants.{Functions, Tables, Memories, Globals}
 use Rattle.wasm_tree.specs.Operands.{same_space}
@@ -24,12 +24,13 @@ use Rattle.wasm_meaning.specs.Environment.{Environment, FuncAt, TableAt, MemoryA
 use Rattle.wasm_meaning.specs.World.{given, same_bool, meets, base, thing_at, new_func, new_global, value_of, own_store, stores_from}
 use Rattle.permuted_worlds.proofs.Places.{place_map}
 use Rattle.merge_terms.specs.Faults.{External, FuncOf, TableOf, MemoryOf, GlobalOf, external_of, same_but_limits, meets_limits}
-use Rattle.merge_worlds.proofs.MatchLists.{true_both, all_places, copies_length}
+use Rattle.merge_worlds.proofs.MatchLists.{all_places, copies_length}
 use Rattle.merge_worlds.proofs.MatchFits.{fits}
 use Rattle.merge_worlds.proofs.MatchStores.{new_table, new_memory, adds, funcs_stand, tables_stand, mems_stand, globals_stand}
 use Rattle.base_lists.proofs.Places.{map_from, append_right}
 use Rattle.base_lists.proofs.Filtered.{places_many}
 use Rattle.base_lists.proofs.Options.{and_then_is}
+use Rattle.std.proofs.lemmas.Bool.{and_from}
 
 -- ---- how many are imported ----
 
@@ -92,7 +93,7 @@ table_fits : (s : Store) (a : ℕ) (d : External) (t : TableType) → slice_get 
 table_fits s a (TableOf u) t e h k =
     let size : length (new_table t).slots ≡ t.limits.min = copies_length t.limits.min (null_of t.ty) in
     ap (λ o. option_and_then (λ v. Some (same_ref u.ty v.ty && meets (length v.slots) v.most u.limits)) o) e
-    ∙ ap Some (true_both (same_ref u.ty t.ty) (meets (length (new_table t).slots) t.limits.max u.limits) h (ap (λ n. meets n t.limits.max u.limits) size ∙ k))
+    ∙ ap Some (and_from (same_ref u.ty t.ty) (meets (length (new_table t).slots) t.limits.max u.limits) h (ap (λ n. meets n t.limits.max u.limits) size ∙ k))
 table_fits s a (FuncOf u) t e h k = absurd (let z = h in cc)
 table_fits s a (MemoryOf u) t e h k = absurd (let z = h in cc)
 table_fits s a (GlobalOf u) t e h k = absurd (let z = h in cc)
@@ -159,7 +160,7 @@ module _ (env : Environment) (parts : List Part) (insts : List Inst) (s : Store)
       (x.0, r.at k x.0 x.1, ap (λ (g : Global). g.ty) (sym same) ∙ g.2)
 
   pub defined_fits : (what : ExportDesc) (d x : External) → external_of m what ≡ Some x → length (imports_of (space_of_export what) m) ≤ index_of_export what → same_but_limits d x ≡ true → meets_limits d x ≡ true →
-      fits s d (thing_at (space_of_export what) (address (space_of_export what) (index_of_export what))) ≡ Some true
+      option_and_then (fits s d) (thing_at (space_of_export what) (address (space_of_export what) (index_of_export what))) ≡ Some true
   defined_fits (ex.Func n) d x h le same meet =
       let t = and_then_is (type_of_func m n) (λ t. Some (FuncOf t)) x h in
       let e = t.2 in

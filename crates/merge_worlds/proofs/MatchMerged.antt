@@ -1,5 +1,5 @@
 -- An import of the merged module, and the import of a part that stays as it: both stand for the same, and the merged one has the limits that are asked for together.
-use Rattle.std.proofs.Common.{◌≡◌, ℕ, List, [], ◌∷◌, length, Option, Some, None, true, refl, sym, ap, ◌∙◌, option_and_then, slice_get, unwrap_or}
+use Rattle.std.proofs.Common.{◌≡◌, ℕ, List, [], ◌∷◌, length, Option, Some, None, true, refl, sym, ap, ◌∙◌, option_and_then, slice_get, unwrap_or, false}
 use Rattle.std.specs.Prelude.{slice_index}
 use Rattle.std.specs.List.{filter, filter_map}
 use Rattle.wasm_tree.specs.declared.types.FuncType.{FuncType}
@@ -20,10 +20,9 @@ use Rattle.merge_terms.specs.Joined.{joined_module}
 use Rattle.merge_worlds.specs.Stores.{StoresAlike}
 use Rattle.permuted_worlds.specs.Alone.{one, site, key_in, thing_in, ImportsStandForTheEnvironments}
 use Rattle.merge_validity.specs.Ended.{TypesHavePlaces}
-use Rattle.merge_worlds.proofs.MatchLists.{has_chosen}
 use Rattle.merge_worlds.proofs.MatchFits.{fits, fitting, match_fits, kept}
 use Rattle.merge_worlds.proofs.MatchAlike.{IsAmong, own_among, fits_same}
-use Rattle.base_lists.proofs.Filtered.{kept_is, is_kept, chosen_from}
+use Rattle.base_lists.proofs.Filtered.{kept_is, is_kept, chosen_from, has_chosen}
 use Rattle.base_lists.proofs.Options.{and_then_is}
 
 -- ---- an import by its site ----
@@ -40,7 +39,7 @@ pub matched_is : (env : Environment) (parts : List Part) (s : Store) (t : Site) 
     is_matched env parts s t ≡ fitting s x (imported_thing env parts t)
 matched_is env parts s t m i x is at asks =
     ap (λ o. unwrap_or (option_and_then (λ m. option_and_then (λ i. option_and_then (is_match s m i.desc) (imported_thing env parts t)) (import_at parts t)) o) false) is
-    ∙ ap (λ o. unwrap_or (option_and_then (λ i. option_and_then (is_match s m i.desc) (imported_thing env parts t)) o) false) at ∙ ap unwrap_or (by (imported_thing env parts t)) false
+    ∙ ap (λ o. unwrap_or (option_and_then (λ i. option_and_then (is_match s m i.desc) (imported_thing env parts t)) o) false) at ∙ ap (λ o. unwrap_or o false) (by (imported_thing env parts t))
   where
     by : (o : Option Thing) → option_and_then (is_match s m i.desc) o ≡ option_and_then (fits s x) o
     by None = refl
@@ -164,4 +163,4 @@ module _ (types_law : TypesHavePlaces) (parts : List Part) (mode : Mode) (u : Si
       where
         by : (o : Option Thing) → outside_thing (owned_of env) parts u ≡ o → fitting z (kept y (met_limits parts u)) o ≡ fitting s (kept y (met_limits parts u)) o
         by None e = refl
-        by (Some th) e = ap unwrap_or (sym (fits_same env parts like (kept y (met_limits parts u)) th (outside_among env parts u m j th is at e))) false
+        by (Some th) e = ap (λ o. unwrap_or o false) (sym (fits_same env parts like (kept y (met_limits parts u)) th (outside_among env parts u m j th is at e)))

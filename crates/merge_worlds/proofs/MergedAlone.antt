@@ -1,9 +1,9 @@
 -- The merged module alone: its imports are those that stay, and stand for what these stand for in the parts' world; then comes what the parts define.
-use Rattle.std.proofs.Common.{◌≡◌, ◌∙◌, ap, ap₂, sym, refl, ℕ, ◌+◌, List, [], ◌∷◌, ◌++◌, map, length, Option, Some, None, true, arith, option_and_then, slice_get, unwrap_or}
+use Rattle.std.proofs.Common.{◌≡◌, ◌∙◌, ap, ap₂, sym, refl, ℕ, ◌+◌, List, [], ◌∷◌, ◌++◌, map, length, Option, Some, None, true, arith, option_and_then, slice_get, unwrap_or, append-nil, false}
 use Rattle.wasm_tree.specs.declared.space.Space.{Space}
-use Rattle.wasm_tree.specs.declared.space.Space.TheVariants.{Functions, Tables, Memories, Globals, DataSegments, ElementSegments}
+use Rattle.wasm_tree.specs.declared.space.Space.TheVariants.{Functions, Tables, Memories, Globals, DataSegments, ElementSegments, Types}
 use Rattle.wasm_tree.specs.Operands.{same_space}
-use Rattle.std.specs.List.{filter, filter_map}
+use Rattle.std.specs.List.{filter_map}
 use Rattle.wasm_tree.specs.declared.types.FuncType.{FuncType}
 use Rattle.wasm_tree.specs.declared.module.Import.{Import}
 use Rattle.wasm_tree.specs.declared.module.ImportDesc.{ImportDesc}
@@ -21,14 +21,13 @@ use Rattle.export_names.specs.Names.{new_names}
 use Rattle.merge_terms.specs.Faults.{External, FuncOf, asked, asked_at, link_fault, stays}
 use Rattle.merge_terms.specs.Merged.{merged, merged_types, merged_import, merged_desc, merged_elem, merged_data, map_of, staying, staying_of, imports_kind, export_names}
 use Rattle.merge_terms.specs.Joined.{joined_module}
-use Rattle.merge_validity.specs.Ended.{Ended, inside, outside, added_count}
+use Rattle.merge_validity.specs.Ended.{Ended, inside, outside, added_count, is_external}
 use Rattle.merge_validity.proofs.ByPart.{elems_is, datas_is, by_part_many}
 use Rattle.permuted_worlds.specs.Alone.{one, key_in, thing_in, address_in, addresses}
 use Rattle.permuted_worlds.proofs.Places.{map_length}
-use Rattle.merge_worlds.proofs.Chosen.{at_places, of_chosen}
 use Rattle.merge_worlds.proofs.SpaceLaws.{SpaceLaws}
 use Rattle.merge_worlds.proofs.Standing.{site_address}
-use Rattle.base_lists.proofs.Filtered.{kept_is}
+use Rattle.base_lists.proofs.Filtered.{kept_is, at_places, of_chosen}
 use Rattle.base_lists.proofs.Options.{and_then_is}
 
 -- ---- with references declared ----
@@ -47,12 +46,8 @@ pub record Keeps (m n : Module) : Type 0 where
   pub more : List ElemSeg
   pub elems : n.elems ≡ m.elems ++ more
 
-no_more : {A : Type 0} (xs : List A) → xs ≡ xs ++ []
-no_more [] = refl
-no_more (x ∷ xs) = ap (λ z. x ∷ z) (no_more xs)
-
 keeps : (m : Module) (fs : List ℕ) → Keeps m (with_declared m fs)
-keeps m [] = record { types = refl; imports = refl; funcs = refl; tables = refl; mems = refl; globals = refl; exports = refl; start = refl; datas = refl; more = []; elems = no_more m.elems }
+keeps m [] = record { types = refl; imports = refl; funcs = refl; tables = refl; mems = refl; globals = refl; exports = refl; start = refl; datas = refl; more = []; elems = sym (append-nil m.elems) }
 keeps m (f ∷ fs) = record { types = refl; imports = refl; funcs = refl; tables = refl; mems = refl; globals = refl; exports = refl; start = refl; datas = refl; more = _; elems = refl }
 
 -- the names of the merged module's exports
@@ -63,11 +58,14 @@ pub joined_keeps : (parts : List Part) (mode : Mode) → Keeps (merged parts (na
 unfolding joined_module
 joined_keeps parts mode = keeps (merged parts (names_of parts mode)) (declared_refs (merged parts (names_of parts mode)))
 
-pub count_kept : {m n : Module} → Keeps m n → (k : Space) → defined_count k n ≡ defined_count k m
-count_kept q Functions = ap length q.funcs
-count_kept q Tables = ap length q.tables
-count_kept q Memories = ap length q.mems
-count_kept q Globals = ap length q.globals
+pub count_kept : {m n : Module} → Keeps m n → (k : Space) → is_external k ≡ true → defined_count k n ≡ defined_count k m
+count_kept q Functions e = ap length q.funcs
+count_kept q Tables e = ap length q.tables
+count_kept q Memories e = ap length q.mems
+count_kept q Globals e = ap length q.globals
+count_kept q Types e = cc
+count_kept q ElementSegments e = cc
+count_kept q DataSegments e = cc
 
 pub merged_types_are : (parts : List Part) (names : List (Option Text)) → (merged parts names).types ≡ merged_types parts
 unfolding merged
@@ -114,8 +112,8 @@ staying_kind laws parts k n s h =
 moved_import : (parts : List Part) (s : Site) (m : Module) (i : Import) → module_at parts s.part ≡ Some m → import_at parts s ≡ Some i → merged_import parts s ≡ Some (record i { desc = merged_desc parts s m i.desc })
 unfolding merged_import
 moved_import parts s m i is at =
-    ap {A = Option Module} {B = Option Import} (λ o. option_and_then (λ m. option_and_then (λ i. Some (record i { desc = merged_desc parts s m i.desc })) (import_at parts s)) o) is
-    ∙ ap {A = Option Import} {B = Option Import} (λ o. option_and_then (λ i. Some (record i { desc = merged_desc parts s m i.desc })) o) at
+    ap {A = Option Module} {B = Option Import} (λ o. option_and_then (λ m. option_and_then {T = Import} {U = Import} (λ i. Some (record i { desc = merged_desc parts s m i.desc })) (import_at parts s)) o) is
+    ∙ ap {A = Option Import} {B = Option Import} (λ o. option_and_then {T = Import} {U = Import} (λ i. Some (record i { desc = merged_desc parts s m i.desc })) o) at
 
 moved_kind : (parts : List Part) (s : Site) (m : Module) (d : ImportDesc) → space_of_import (merged_desc parts s m d) ≡ space_of_import d
 moved_kind parts s m (im.Func ty) = refl
@@ -169,11 +167,11 @@ module _ (laws : SpaceLaws) (env : Environment) (parts : List Part) (linked : li
           )
 
   -- its index spaces
-  pub merged_space : (mode : Mode) (k : Space) →
+  pub merged_space : (mode : Mode) (k : Space) → is_external k ≡ true →
       space env (one (joined_module parts mode)) k 0 (joined_module parts mode) ≡ option_and_then (λ l. Some (l ++ numbers (own_count k env) (defined_before k parts (length parts) + added_count parts k))) (all_there (site_address env parts k) (staying_of parts k))
-  merged_space mode k =
+  merged_space mode k e =
       let q = joined_keeps parts mode in
       laws.spaces env (joined_module parts mode) k
       ∙ ap₂ (λ o n. option_and_then (λ l. Some (l ++ numbers (own_count k env) n)) o)
       (ap₂ (λ t i. addresses env t i k) (q.types ∙ merged_types_are parts (names_of parts mode)) (q.imports ∙ merged_imports_are parts (names_of parts mode)) ∙ chosen_addresses k)
-      (count_kept q k ∙ laws.counts parts (names_of parts mode) k)
+      (count_kept q k e ∙ laws.counts parts (names_of parts mode) k e)

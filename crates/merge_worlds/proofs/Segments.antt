@@ -1,5 +1,5 @@
 -- The active segments of the parts and those of the merged module are copied to the same places of both stores.
-use Rattle.std.proofs.Common.{◌≡◌, ℕ, ◌+◌, ◌<◌, List, [], ◌∷◌, ◌++◌, map, length, Option, Some, true, false, refl, sym, ap, subst, ◌∙◌, arith, drop, option_and_then}
+use Rattle.std.proofs.Common.{◌≡◌, ℕ, ◌+◌, ◌<◌, List, [], ◌∷◌, ◌++◌, map, length, Option, Some, true, false, refl, sym, ap, subst, ◌∙◌, arith, drop, option_and_then, append-nil}
 use Rattle.wasm_tree.specs.declared.space.Space.TheVariants.{ElementSegments, DataSegments}
 use Rattle.std.specs.Prelude.{slice_get, slice_index}
 use Rattle.wasm_tree.specs.declared.types.ValType.{ValType}
@@ -64,10 +64,6 @@ record JoinedElems (parts : List Part) (mode : Mode) : Type 0 where
   declares : Declares more
   are : (joined_module parts mode).elems ≡ by_part (λ p m. map (merged_elem parts p (map_of parts p m)) m.elems) parts ++ more
 
-nothing_after : {A : Type 0} (xs : List A) → xs ≡ xs ++ []
-nothing_after [] = refl
-nothing_after (x ∷ xs) = ap (λ ys. x ∷ ys) (nothing_after xs)
-
 joined_elems : (parts : List Part) (mode : Mode) → JoinedElems parts mode
 unfolding joined_module merged
 joined_elems parts mode = let r = go (declared_refs (merged parts (new_names mode (export_names parts)))) in record { more = r.0; declares = r.1; are = r.2 }
@@ -76,7 +72,7 @@ joined_elems parts mode = let r = go (declared_refs (merged parts (new_names mod
     all = by_part (λ p m. map (merged_elem parts p (map_of parts p m)) m.elems) parts
 
     go : (fs : List ℕ) → (more : List ElemSeg) × Declares more × ((with_declared (merged parts (new_names mode (export_names parts))) fs).elems ≡ all ++ more)
-    go [] = ([], nothing_more, nothing_after all)
+    go [] = ([], nothing_more, sym (append-nil all))
     go (f ∷ fs) = (declaring (f ∷ fs) ∷ [], one_more (f ∷ fs), refl)
 
 joined_datas : (parts : List Part) (mode : Mode) → (joined_module parts mode).datas ≡ by_part (λ p m. map (merged_data parts p (map_of parts p m)) m.datas) parts
@@ -233,7 +229,7 @@ module _ (env : Environment) (parts : List Part) (mode : Mode) where
         elems_do 0 parts insts (λ q. ap (module_at parts) (zero_more q)) (λ q. ap (slice_get insts) (zero_more q)) s z like in
         let first : tasks_in 0 j (drop (defined_before ElementSegments parts 0) j.elems) (by_part (λ p m. map (merged_elem parts p (map_of parts p m)) m.elems) parts ++ e.more) ≡ elem_tasks 0 M js =
         ap (λ n. tasks_in 0 j (drop n j.elems) (by_part (λ p m. map (merged_elem parts p (map_of parts p m)) m.elems) parts ++ e.more)) (elems_start parts)
-        ∙ ap (tasks_in 0 j j.elems) (sym e.are) ∙ nothing_after (tasks_in 0 j j.elems whole.elems) ∙ ap (elem_tasks 0 M) (sym agree.alone) in
+        ∙ ap (tasks_in 0 j j.elems) (sym e.are) ∙ sym (append-nil (tasks_in 0 j j.elems whole.elems)) ∙ ap (elem_tasks 0 M) (sym agree.alone) in
         subst (λ ts. FilledAlike env parts (in_turn (run_elem env parts insts) s ts) (in_turn (run_elem env M js) z (elem_tasks 0 M js))) (sym (elems_by 0 parts insts))
         (subst (λ ts. FilledAlike env parts (in_turn (run_elem env parts insts) s (tasks_by (λ m. m.elems) (λ i. i.elems) 0 parts insts)) (in_turn (run_elem env M js) z ts)) first all)
 
@@ -282,7 +278,7 @@ module _ (env : Environment) (parts : List Part) (mode : Mode) where
         datas_do 0 parts insts (λ q. ap (module_at parts) (zero_more q)) (λ q. ap (slice_get insts) (zero_more q)) s z like in
         let first : tasks_in 0 j (drop (defined_before DataSegments parts 0) j.datas) (by_part (λ p m. map (merged_data parts p (map_of parts p m)) m.datas) parts ++ []) ≡ data_tasks 0 M js =
         ap (λ n. tasks_in 0 j (drop n j.datas) (by_part (λ p m. map (merged_data parts p (map_of parts p m)) m.datas) parts ++ [])) (datas_start parts)
-        ∙ ap (tasks_in 0 j j.datas) (sym (nothing_after _) ∙ sym (joined_datas parts mode)) ∙ nothing_after (tasks_in 0 j j.datas whole.datas) ∙ ap (data_tasks 0 M) (sym agree.alone) in
+        ∙ ap (tasks_in 0 j j.datas) (sym (sym (append-nil _)) ∙ sym (joined_datas parts mode)) ∙ sym (append-nil (tasks_in 0 j j.datas whole.datas)) ∙ ap (data_tasks 0 M) (sym agree.alone) in
         subst (λ ts. FilledAlike env parts (in_turn (run_data env parts insts) s ts) (in_turn (run_data env M js) z (data_tasks 0 M js))) (sym (datas_by 0 parts insts))
         (subst (λ ts. FilledAlike env parts (in_turn (run_data env parts insts) s (tasks_by (λ m. m.datas) (λ i. i.datas) 0 parts insts)) (in_turn (run_data env M js) z ts)) first all)
       where

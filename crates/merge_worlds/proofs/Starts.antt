@@ -104,7 +104,7 @@ module _ (laws : SpaceLaws) (env : Environment) (parts : List Part) (linked : li
       let both : j.0 ∷ [] ≡ js = cc in
       let lists : j.0 ∷ [] ≡ agree.merged ∷ [] = both ∙ agree.alone in
       let same : j.0 ≡ agree.merged = cc in
-      let s = merged_part laws env parts linked mode Functions j.0.funcs (inst_is env (one J) 0 J j.0 j.1).funcs in
+      let s = merged_part laws env parts linked mode Functions refl j.0.funcs (inst_is env (one J) 0 J j.0 j.1).funcs in
       let many = all_length (site_address env parts Functions) (staying_of parts Functions) s.imported s.are in
       let total = defined_before Functions parts (length parts) in
       let more : added_count parts Functions ≡ 1 = ap (λ fs. length (start_calls parts fs)) e in

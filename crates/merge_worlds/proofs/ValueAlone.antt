@@ -17,9 +17,9 @@ use Rattle.wasm_meaning.specs.Environment.{Environment, own_globals}
 use Rattle.wasm_meaning.specs.World.{numbers, own_count, defined_count, space, inst_of, insts_from, value_of_read, value_of}
 use Rattle.permuted_worlds.specs.Alone.{one, address_in, import_places, addresses, read_in, SpacesAreImportsAndOwn, ReadsStay}
 use Rattle.permuted_worlds.proofs.Places.{found, place_right, append_length, map_length, numbers_length, all_length}
-use Rattle.merge_worlds.proofs.Chosen.{past_end}
 use Rattle.merge_worlds.proofs.Instancing.{IsInst, inst_is}
 use Rattle.base_lists.proofs.Options.{and_then_is}
+use Rattle.std.proofs.lemmas.Option.{slice_get_past}
 
 number_past : (c n z a : ℕ) → slice_get (numbers c n) z ≡ Some a → c ≤ a
 number_past c zero z a h = cc
@@ -78,7 +78,7 @@ read_here is y lt =
 
 -- and there is none where it is no import
 read_past : (is : List Import) (y : ℕ) → length (import_places Globals is) ≤ y → read_in is (const.Global y) ≡ None
-read_past is y h = ap (λ o. option_and_then {U = Read} (λ y. Some (record { part = 0; expr = const.Global y })) (option_and_then (λ n. option_and_then (λ i. Some (space_index is n Globals)) (slice_get is n)) o)) (past_end (import_places Globals is) y h)
+read_past is y h = ap (λ o. option_and_then {U = Read} (λ y. Some (record { part = 0; expr = const.Global y })) (option_and_then (λ n. option_and_then (λ i. Some (space_index is n Globals)) (slice_get is n)) o)) (slice_get_past (import_places Globals is) y h)
 
 -- ---- its instance ----
 
@@ -128,4 +128,4 @@ module _ (reads : ReadsStay) (spaces : SpacesAreImportsAndOwn) (env : Environmen
           let back : length l.0 + z ≡ y = omega (arith, n) in
           let at : slice_get (numbers (own_count Globals env) (length u.globals)) z ≡ Some a = sym (ap (λ xs. slice_get xs y) l.2 ∙ ap (slice_get (l.0 ++ numbers (own_count Globals env) (length u.globals))) (sym back) ∙ place_right l.0 (numbers (own_count Globals env) (length u.globals)) z) ∙ h in
           ap (λ o. option_and_then (value_of_read (own_globals env) (j ∷ [])) o) (read_past u.imports y past)
-          ∙ sym (ap (λ o. option_and_then (λ g. Some g.value) o) (past_end (own_globals env) a (number_past (length (own_globals env)) (length u.globals) z a at)))
+          ∙ sym (ap (λ o. option_and_then (λ g. Some g.value) o) (slice_get_past (own_globals env) a (number_past (length (own_globals env)) (length u.globals) z a at)))

@@ -1,5 +1,5 @@
 -- The world of linked parts and that of their merged module: both are instantiated or neither, and then they show the same.
-use Rattle.std.proofs.Common.{◌≡◌, ◌∙◌, ap, sym, subst, refl, ℕ, ◌+◌, ◌≤◌, List, [], ◌∷◌, ◌++◌, length, Option, Some, None, Bool, true, false, cond, arith, option_and_then}
+use Rattle.std.proofs.Common.{◌≡◌, ◌∙◌, ap, sym, subst, refl, ℕ, ◌+◌, ◌≤◌, List, [], ◌∷◌, length, Option, Some, None, Bool, true, false, cond, arith, option_and_then, append-nil}
 use Rattle.wasm_tree.specs.declared.space.Space.TheVariants.{Functions}
 use Rattle.wasm_tree.specs.declared.module.Module.{Module}
 use Rattle.wasm_meaning.specs.Outcomes.{Gives, bind, at}
@@ -161,12 +161,8 @@ abbrev ShowInFourMore : Environment → List Move → Option Begun → Option Be
 ShowInFourMore env moves b c n =
     IsPrefix (events_of tick (fresh_run env b moves) n) (events_of tick (fresh_run env c moves) (n + 4)) × IsPrefix (events_of tick (fresh_run env c moves) n) (events_of tick (fresh_run env b moves) (n + 4))
 
-nothing_after : {A : Type 0} (xs : List A) → xs ++ [] ≡ xs
-nothing_after [] = refl
-nothing_after (x ∷ xs) = ap (λ ys. x ∷ ys) (nothing_after xs)
-
 all_of_it : {A : Type 0} {xs ys : List A} → xs ≡ ys → IsPrefix xs ys
-all_of_it {xs = xs} e = ([], nothing_after xs ∙ e)
+all_of_it {xs = xs} e = ([], append-nil xs ∙ e)
 
 module _ (env : Environment) (moves : List Move) where
   equal_show : (b c : Option Begun) → ((n : ℕ) → events_of tick (fresh_run env b moves) n ≡ events_of tick (fresh_run env c moves) n) → (n : ℕ) → ShowInFourMore env moves b c n

@@ -5,7 +5,7 @@ use Rattle.wasm_tree.specs.declared.space.Space.TheVariants.{Functions, Tables, 
 use Rattle.wasm_tree.specs.Operands.{same_space}
 use Rattle.std.specs.Prelude.{◌↔◌, ◌&&◌, not, nat_lt, slice_get}
 use Rattle.std.specs.List.{filter_map, cons_option}
-use Rattle.std.proofs.lemmas.Bool.{ltb-true}
+use Rattle.std.proofs.lemmas.Bool.{ltb-true, and_parts, not-true}
 use Rattle.wasm_tree.specs.declared.types.ValType.{ValType}
 use Rattle.wasm_tree.specs.declared.types.ValType.TheVariants.{Ref}
 use Rattle.wasm_tree.specs.declared.types.GlobalType.{GlobalType}
@@ -29,12 +29,11 @@ use Rattle.wasm_valid.specs.Validity.{IsValid, HoldsAt, count_of, InSpace, ElemM
 use Rattle.wasm_meaning.specs.State.{Text}
 use Rattle.wasm_meaning.specs.Linking.{Part, places, has_kind, same_text, imports_of, module_at, export_named}
 use Rattle.wasm_meaning.specs.World.{is_there, defined_count}
-use Rattle.worlds_in_turn.proofs.Extends.{append_length}
-use Rattle.worlds_in_turn.proofs.Things.{some_is}
 use Rattle.worlds_in_turn.proofs.Joined.{ExportsThere}
-use Rattle.worlds_in_turn.proofs.FillStores.{map_length}
-use Rattle.worlds_in_turn.proofs.FillValues.{place_low, ReadsImport, Constant}
+use Rattle.worlds_in_turn.proofs.FillValues.{ReadsImport, Constant}
 use Rattle.worlds_in_turn.proofs.FillAdded.{Constants}
+use Rattle.std.proofs.lemmas.List.{length-append, length-map}
+use Rattle.std.proofs.lemmas.Option.{slice_get_within, same_Some}
 
 -- ---- lists ----
 
@@ -42,16 +41,6 @@ place_get : {A : Type 0} (xs : List A) (n : ℕ) → slice_get xs n ≡ slice_ge
 place_get [] n = refl
 place_get (x ∷ xs) zero = refl
 place_get (x ∷ xs) (suc n) = place_get xs n
-
-both_true : (b c : Bool) → b && c ≡ true → (b ≡ true) × (c ≡ true)
-both_true true true e = (refl, refl)
-both_true true false e = cc
-both_true false true e = cc
-both_true false false e = cc
-
-not_true : (b : Bool) → not b ≡ true → b ≡ false
-not_true true e = cc
-not_true false e = refl
 
 -- ---- imports of a kind, and what they add to its space ----
 
@@ -150,9 +139,9 @@ constant_typed m e ty h x is = go (slice_get (globals_of m) x) refl (ap (const_t
     go : (o : Option GlobalType) → slice_get (globals_of m) x ≡ o → option_and_then (λ g. only (nat_lt x (length (imported_globals m.imports)) && not g.mutable) (Some g.ty)) o ≡ Some ty → ReadsImport m x
     go None at e = absurd (let k = e in cc)
     go (Some g) at e =
-        let both = both_true (nat_lt x (length (imported_globals m.imports))) (not g.mutable) (only_is _ (Some g.ty) ty e) in
+        let both = and_parts (nat_lt x (length (imported_globals m.imports))) (not g.mutable) (only_is _ (Some g.ty) ty e) in
         let r = imported m.imports 0 x (map (λ g. g.ty) m.globals) (ltb-true _ _ both.0) in
-        let same : r.type ≡ g = some_is (sym r.in_space ∙ at) in
+        let same : r.type ≡ g = same_Some _ _ (sym r.in_space ∙ at) in
         let z : 0 + r.at ≡ r.at = omega arith in
         record {
           at = r.at;
@@ -161,7 +150,7 @@ constant_typed m e ty h x is = go (slice_get (globals_of m) x) refl (ap (const_t
           is_import = r.is_import;
           type = r.type;
           is_global = r.is_global;
-          fixed = ap (λ t. t.mutable) same ∙ not_true g.mutable both.1;
+          fixed = ap (λ t. t.mutable) same ∙ not-true g.mutable both.1;
         }
 
 module _ (items : (m : Module) → IsValid m ↔ ((k : ItemKind) (i : ℕ) → i < count_of m true k → HoldsAt m k i)) where
@@ -175,20 +164,20 @@ module _ (items : (m : Module) → IsValid m ↔ ((k : ItemKind) (i : ℕ) → i
     where
       global_typed : (n : ℕ) (g : GlobalDef) → slice_get m.globals n ≡ Some g → const_type m g.init ≡ Some g.ty.ty
       global_typed n g h =
-          let z = (items m).0 valid kind.Global n (place_low m.globals n g h) in
-          let same : z.0 ≡ g = some_is (sym z.1 ∙ sym (place_get m.globals n) ∙ h) in
+          let z = (items m).0 valid kind.Global n (slice_get_within m.globals n g h) in
+          let same : z.0 ≡ g = same_Some _ _ (sym z.1 ∙ sym (place_get m.globals n) ∙ h) in
           subst (λ (g : GlobalDef). const_type m g.init ≡ Some g.ty.ty) same z.2
 
       elem_holds : (n : ℕ) (s : ElemSeg) → slice_get m.elems n ≡ Some s → ((l : ℕ) (e : ConstExpr) → slice_get s.items l ≡ Some e → const_type m e ≡ Some (Ref s.ty)) × ElemModeHolds m s.ty s.mode
       elem_holds n s h =
-          let z = (items m).0 valid kind.Elem n (place_low m.elems n s h) in
-          let same : z.0 ≡ s = some_is (sym z.1 ∙ sym (place_get m.elems n) ∙ h) in
+          let z = (items m).0 valid kind.Elem n (slice_get_within m.elems n s h) in
+          let same : z.0 ≡ s = same_Some _ _ (sym z.1 ∙ sym (place_get m.elems n) ∙ h) in
           subst (λ (s : ElemSeg). ((l : ℕ) (e : ConstExpr) → slice_get s.items l ≡ Some e → const_type m e ≡ Some (Ref s.ty)) × ElemModeHolds m s.ty s.mode) same (z.2, z.3)
 
       data_holds : (n : ℕ) (s : DataSeg) → slice_get m.datas n ≡ Some s → DataModeHolds m s.mode
       data_holds n s h =
-          let z = (items m).0 valid kind.Segment n (place_low m.datas n s h) in
-          let same : z.0 ≡ s = some_is (sym z.1 ∙ sym (place_get m.datas n) ∙ h) in
+          let z = (items m).0 valid kind.Segment n (slice_get_within m.datas n s h) in
+          let same : z.0 ≡ s = same_Some _ _ (sym z.1 ∙ sym (place_get m.datas n) ∙ h) in
           subst (λ (s : DataSeg). DataModeHolds m s.mode) same z.2
 
   -- ---- exports ----
@@ -198,32 +187,32 @@ module _ (items : (m : Module) → IsValid m ↔ ((k : ItemKind) (i : ℕ) → i
   export_found (e ∷ es) field d h = go (same_text e.name field) h (export_found es field d)
     where
       go : (b : Bool) → cond b (Some e.desc) (export_named es field) ≡ Some d → (export_named es field ≡ Some d → (n : ℕ) × (e : Export) × (slice_get es n ≡ Some e) × (e.desc ≡ d)) → (n : ℕ) × (f : Export) × (slice_get (e ∷ es) n ≡ Some f) × (f.desc ≡ d)
-      go true h more = (0, e, refl, some_is h)
+      go true h more = (0, e, refl, same_Some _ _ h)
       go false h more = let r = more h in (suc r.0, r.1, r.2, r.3)
 
   in_space : (m : Module) (d : ExportDesc) → InSpace m d → index_of_export d < length (imports_of (space_of_export d) m) + defined_count (space_of_export d) m
   in_space m (ex.Func x) h =
-      let a = append_length (filter_map (λ i. func_of i.desc) m.imports) (map (λ f. f.ty) m.funcs) in
+      let a = length-append (filter_map (λ i. func_of i.desc) m.imports) (map (λ f. f.ty) m.funcs) in
       let b = same_many Functions func_of funcs_many m.imports 0 in
-      let c = map_length (λ f. f.ty) m.funcs in
+      let c = length-map m.funcs (λ f. f.ty) in
       omega (arith, h, a, b, c)
   in_space m (ex.Table x) h =
-      let a = append_length (filter_map (λ i. table_of i.desc) m.imports) m.tables in
+      let a = length-append (filter_map (λ i. table_of i.desc) m.imports) m.tables in
       let b = same_many Tables table_of tables_many m.imports 0 in
       omega (arith, h, a, b)
   in_space m (ex.Memory x) h =
-      let a = append_length (filter_map (λ i. memory_of i.desc) m.imports) m.mems in
+      let a = length-append (filter_map (λ i. memory_of i.desc) m.imports) m.mems in
       let b = same_many Memories memory_of memories_many m.imports 0 in
       omega (arith, h, a, b)
   in_space m (ex.Global x) h =
-      let a = append_length (filter_map (λ i. global_of i.desc) m.imports) (map (λ g. g.ty) m.globals) in
+      let a = length-append (filter_map (λ i. global_of i.desc) m.imports) (map (λ g. g.ty) m.globals) in
       let b = same_many Globals global_of globals_many m.imports 0 in
-      let c = map_length (λ g. g.ty) m.globals in
+      let c = length-map m.globals (λ g. g.ty) in
       omega (arith, h, a, b, c)
 
   pub valid_exports : (parts : List Part) → ((p : ℕ) (m : Module) → module_at parts p ≡ Some m → IsValid m) → ExportsThere parts
   valid_exports parts valid p m field d is_part named =
       let e = export_found m.exports field d named in
-      let z = (items m).0 (valid p m is_part) kind.Export e.0 (place_low m.exports e.0 e.1 e.2) in
-      let same : z.0 ≡ e.1 = some_is (sym z.1 ∙ sym (place_get m.exports e.0) ∙ e.2) in
+      let z = (items m).0 (valid p m is_part) kind.Export e.0 (slice_get_within m.exports e.0 e.1 e.2) in
+      let same : z.0 ≡ e.1 = same_Some _ _ (sym z.1 ∙ sym (place_get m.exports e.0) ∙ e.2) in
       in_space m d (subst (InSpace m) (ap (λ e. e.desc) same ∙ e.3) z.2)
