@@ -5,3 +5,5 @@ pub mod Each
 pub mod Numbers
 pub mod Filtered
 pub mod Pigeons
+pub mod Walk
+pub mod Found

@@ -4,6 +4,7 @@ use Rattle.std.specs.Prelude.{Contains}
 use Rattle.std.specs.Str.{bytes_eq}
 use Rattle.std.proofs.lemmas.Slice.Eq.{bytes_eq-Decides}
 use Rattle.std.proofs.lemmas.List.{take_more}
+use Rattle.std.proofs.lemmas.List.Folds.{list_any-append}
 use Rattle.std.proofs.lemmas.Option.{slice_get-get_or, slice_get_within, get_or_from_slice_get}
 use Rattle.export_names.specs.Names.{among}
 
@@ -15,7 +16,7 @@ eq_self x = (bytes_eq-Decides x x).1 refl
 
 -- the tests of one more name
 pub among_push : (ns : List (List ℕ)) (x q : List ℕ) → among (ns ++ x ∷ []) q ≡ cond (bytes_eq x q) true (among ns q)
-among_push [] x q = elim (bytes_eq x q) as (λ b. b || false ≡ b && true) [ true ↦ refl | false ↦ refl ]
+among_push [] x q = elim (bytes_eq x q) as (λ b. b || false ≡ cond b true false) [ true ↦ refl | false ↦ refl ]
 among_push (n ∷ ns) x q = ap (λ (b : Bool). bytes_eq n q || b) (among_push ns x q) ∙ swap (bytes_eq n q) (bytes_eq x q) (among ns q)
   where
     swap : (a b c : Bool) → a || cond b true c ≡ cond b true (a || c)
@@ -25,12 +26,7 @@ among_push (n ∷ ns) x q = ap (λ (b : Bool). bytes_eq n q || b) (among_push ns
     swap false false c = refl
 
 pub among_join : (ns ms : List (List ℕ)) (q : List ℕ) → among (ns ++ ms) q ≡ among ns q || among ms q
-among_join [] ms q = refl
-among_join (n ∷ ns) ms q = ap (λ (b : Bool). bytes_eq n q || b) (among_join ns ms q) ∙ step (bytes_eq n q) (among ns q) (among ms q)
-  where
-    step : (a b c : Bool) → a || (b || c) ≡ (a || b) || c
-    step true b c = refl
-    step false b c = refl
+among_join ns ms q = list_any-append (λ n. bytes_eq n q) ns ms
 
 pub among_self : (ns : List (List ℕ)) (i : ℕ) (x : List ℕ) → slice_get ns i ≡ Some x → among ns x ≡ true
 among_self [] i x h = cc

@@ -4,7 +4,8 @@ use Rattle.wasm_tree.specs.declared.space.Space.{Space}
 use Rattle.std.specs.Option.{option_map, unwrap_or}
 use Rattle.std.proofs.lemmas.Bool.Decides.{nat_tests}
 use Rattle.wasm_meaning.specs.Linking as linking
-use Rattle.wasm_meaning.specs.Linking.{Part, Site, Entity, linked_end, is_outside, same_site, index_of_export}
+use Rattle.wasm_meaning.specs.Linking.{Part, Site, Entity, linked_end, is_outside, same_site}
+use Rattle.wasm_tree.specs.Spaces.{index_of_export}
 use Rattle.merge_terms.specs.declared.links.End.{End}
 use Rattle.merge_terms.specs.declared.links.End.TheVariants.{Defined, Outside}
 use Rattle.merge_terms.specs.Faults.{stays}

@@ -12,9 +12,10 @@ use Rattle.wasm_tree.specs.declared.module.ImportDesc.TheVariants as im
 use Rattle.wasm_tree.specs.declared.module.ExportDesc.{ExportDesc}
 use Rattle.wasm_tree.specs.declared.module.ExportDesc.TheVariants as ex
 use Rattle.wasm_tree.specs.declared.module.Module.{Module}
-use Rattle.wasm_tree.specs.Spaces.{funcs_of, tables_of, memories_of, globals_of, type_of_func}
+use Rattle.wasm_tree.specs.Spaces.{funcs_of, tables_of, memories_of, globals_of, type_of_func, index_of_export, space_of_export, space_of_import}
+use Rattle.base_lists.proofs.Bools.{left_true, right_true}
 use Rattle.wasm_meaning.specs.Linking as linking
-use Rattle.wasm_meaning.specs.Linking.{Part, Site, Entity, module_at, import_at, kind_of_import, kind_of_export, index_of_export, has_kind, sites, end_of, linked_end, gathered, gathered_at, first_site, stays_as, same_memory, same_pair, pair_of, is_outside}
+use Rattle.wasm_meaning.specs.Linking.{Part, Site, Entity, module_at, import_at, has_kind, sites, end_of, linked_end, gathered, gathered_at, first_site, stays_as, same_memory, same_pair, pair_of, is_outside}
 use Rattle.merge_terms.specs.declared.links.End.{End}
 use Rattle.merge_terms.specs.declared.faults.LinkFault.{LinkFault}
 use Rattle.merge_terms.specs.declared.faults.LinkFault.TheVariants.{ImportMismatch}
@@ -41,7 +42,7 @@ true_of : (o : Option Bool) → unwrap_or o false ≡ true → o ≡ Some true
 true_of None h = cc
 true_of (Some b) h = ap Some h
 
-asked_kind : (m : Module) (d : ImportDesc) (x : External) → asked m d ≡ Some x → kind_of_external x ≡ kind_of_import d
+asked_kind : (m : Module) (d : ImportDesc) (x : External) → asked m d ≡ Some x → kind_of_external x ≡ space_of_import d
 asked_kind m (im.Func ty) x h = let (t, a, b) = some_of (slice_get m.types ty) (λ t. Some (FuncOf t)) x h in let e : FuncOf t ≡ x = cc in sym (ap kind_of_external e)
 asked_kind m (im.Table t) x h = let e : TableOf t ≡ x = cc in sym (ap kind_of_external e)
 asked_kind m (im.Memory l) x h = let e : MemoryOf l ≡ x = cc in sym (ap kind_of_external e)
@@ -70,7 +71,7 @@ then_within None f b h = cc
 then_within (Some a) f b h = (a, refl)
 
 -- an entry that is there has its kind and is in its space
-external_there : (m : Module) (d : ExportDesc) (x : External) → external_of m d ≡ Some x → (kind_of_external x ≡ kind_of_export d) × (index_of_export d < space_size (kind_of_export d) m)
+external_there : (m : Module) (d : ExportDesc) (x : External) → external_of m d ≡ Some x → (kind_of_external x ≡ space_of_export d) × (index_of_export d < space_size (space_of_export d) m)
 external_there m (ex.Func i) x h =
     let (t, a, b) = some_of (type_of_func m i) (λ t. Some (FuncOf t)) x h in
     let e : FuncOf t ≡ x = cc in
@@ -120,8 +121,8 @@ place_within (y ∷ ys) (suc n) x h = omega (arith, place_within ys n x h)
 
 -- the end is there, and of this kind
 abbrev pub EndThere : List Part → Space → linking.End → Type 0
-EndThere ps k (linking.Defined e) = (m : Module) × (module_at ps e.part ≡ Some m) × (kind_of_export e.what ≡ k) × (index_of_export e.what < space_size k m)
-EndThere ps k (linking.Outside t) = (j : Import) × (import_at ps t ≡ Some j) × (kind_of_import j.desc ≡ k)
+EndThere ps k (linking.Defined e) = (m : Module) × (module_at ps e.part ≡ Some m) × (space_of_export e.what ≡ k) × (index_of_export e.what < space_size k m)
+EndThere ps k (linking.Outside t) = (j : Import) × (import_at ps t ≡ Some j) × (space_of_import j.desc ≡ k)
 
 suits_same : (d : External) (end : linking.End) (x : External) → suits d end x ≡ true → same_but_limits d x ≡ true
 suits_same d (linking.Defined e) x h = case (same_but_limits d x) (meets_limits d x) h
@@ -141,24 +142,24 @@ found_there ps (linking.Outside s) x h =
     let (j, here, ext) = some_of (slice_get m.imports s.import) (λ i. asked m i.desc) x rest in
     (j, ap (λ o. option_and_then (λ m. slice_get m.imports s.import) o) at ∙ here, sym (asked_kind m j.desc x ext))
 
-import_of : (ps : List Part) (s : Site) (d : External) (i : Import) → asked_at ps s ≡ Some d → import_at ps s ≡ Some i → kind_of_external d ≡ kind_of_import i.desc
+import_of : (ps : List Part) (s : Site) (d : External) (i : Import) → asked_at ps s ≡ Some d → import_at ps s ≡ Some i → kind_of_external d ≡ space_of_import i.desc
 import_of ps s d i h here =
     let (m, at, rest) = some_of (module_at ps s.part) (λ m. option_and_then (λ i. asked m i.desc) (slice_get m.imports s.import)) d h in
     let (j, there, ext) = some_of (slice_get m.imports s.import) (λ i. asked m i.desc) d rest in
     let e : Some i ≡ Some j = sym here ∙ ap (λ o. option_and_then (λ m. slice_get m.imports s.import) o) at ∙ there in
     let same : i ≡ j = cc in
-    asked_kind m j.desc d ext ∙ ap (λ (x : Import). kind_of_import x.desc) (sym same)
+    asked_kind m j.desc d ext ∙ ap (λ (x : Import). space_of_import x.desc) (sym same)
 
-suited_there : (ps : List Part) (s : Site) (end : linking.End) (i : Import) → import_at ps s ≡ Some i → is_suited ps s end ≡ true → EndThere ps (kind_of_import i.desc) end
+suited_there : (ps : List Part) (s : Site) (end : linking.End) (i : Import) → import_at ps s ≡ Some i → is_suited ps s end ≡ true → EndThere ps (space_of_import i.desc) end
 suited_there ps s end i here h =
     let (d, asks, rest) = some_of (asked_at ps s) (λ d. option_and_then (λ x. Some (suits d end x)) (found ps end)) true (true_of (option_and_then (λ d. option_and_then (λ x. Some (suits d end x)) (found ps end)) (asked_at ps s)) h) in
     let (x, finds, last) = some_of (found ps end) (λ x. Some (suits d end x)) true rest in
     let fits : suits d end x ≡ true = cc in
-    let k : kind_of_external x ≡ kind_of_import i.desc = sym (same_kinds d x (suits_same d end x fits)) ∙ import_of ps s d i asks here in
+    let k : kind_of_external x ≡ space_of_import i.desc = sym (same_kinds d x (suits_same d end x fits)) ∙ import_of ps s d i asks here in
     subst (λ z. EndThere ps z end) k (found_there ps end x finds)
 
 -- where linking finds no fault
-pub end_there : (ps : List Part) (p n : ℕ) (m : Module) (i : Import) (end : linking.End) → link_fault ps ≡ None → module_at ps p ≡ Some m → slice_get m.imports n ≡ Some i → end_of ps (site p n) ≡ Some end → EndThere ps (kind_of_import i.desc) end
+pub end_there : (ps : List Part) (p n : ℕ) (m : Module) (i : Import) (end : linking.End) → link_fault ps ≡ None → module_at ps p ≡ Some m → slice_get m.imports n ≡ Some i → end_of ps (site p n) ≡ Some end → EndThere ps (space_of_import i.desc) end
 unfolding link_fault import_fault
 end_there ps p n m i end none at here ends =
     let s = site p n in
@@ -177,18 +178,18 @@ first_is is (s ∷ ss) other = case (is s) refl (first_is is ss other)
     case true e rest = inr e
     case false e rest = rest
 
-same_memory_kind : (j : Import) (o : Option Import) → same_memory j o ≡ true → (l : Import) × (o ≡ Some l) × (kind_of_import l.desc ≡ kind_of_import j.desc)
+pub kind_from : (a b : Space) → same_space a b ≡ true → a ≡ b
+kind_from a b h = grind arith
+
+same_memory_kind : (j : Import) (o : Option Import) → same_memory j o ≡ true → (l : Import) × (o ≡ Some l) × (space_of_import l.desc ≡ space_of_import j.desc)
 same_memory_kind j None h = cc
-same_memory_kind j (Some l) h = (l, refl, case (kind_of_import j.desc) (kind_of_import l.desc) h)
-  where
-    case : (a b : Space) → same_space Memories a && (same_space Memories b && same_pair (pair_of j) (pair_of l)) ≡ true → b ≡ a
-    case Memories Memories h = refl
-    case Memories Functions h = cc
-    case Memories Tables h = cc
-    case Memories Globals h = cc
-    case Functions b h = cc
-    case Tables b h = cc
-    case Globals b h = cc
+same_memory_kind j (Some l) h =
+    let a = space_of_import j.desc in
+    let b = space_of_import l.desc in
+    let more = right_true (same_space Memories a) (same_space Memories b && same_pair (pair_of j) (pair_of l)) h in
+    let first : Memories ≡ a = kind_from Memories a (left_true (same_space Memories a) (same_space Memories b && same_pair (pair_of j) (pair_of l)) h) in
+    let second : Memories ≡ b = kind_from Memories b (left_true (same_space Memories b) (same_pair (pair_of j) (pair_of l)) more) in
+    (l, refl, sym second ∙ first)
 
 stays_same : (ps : List Part) (j : Import) (t : Site) → stays_as ps j t ≡ true → same_memory j (import_at ps t) ≡ true
 stays_same ps j t h = case (is_outside t (end_of ps t)) (same_memory j (import_at ps t)) h
@@ -197,7 +198,7 @@ stays_same ps j t h = case (is_outside t (end_of ps t)) (same_memory j (import_a
     case true b h = h
     case false b h = cc
 
-gathered_there : (ps : List Part) (k : Space) (t : Site) (o : Option Import) (j : Import) → o ≡ Some j → import_at ps t ≡ Some j → kind_of_import j.desc ≡ k → EndThere ps k (gathered_at ps t o)
+gathered_there : (ps : List Part) (k : Space) (t : Site) (o : Option Import) (j : Import) → o ≡ Some j → import_at ps t ≡ Some j → space_of_import j.desc ≡ k → EndThere ps k (gathered_at ps t o)
 gathered_there ps k t None j e at is = cc
 gathered_there ps k t (Some l) j e at is =
     let same : l ≡ j = cc in
@@ -206,7 +207,7 @@ gathered_there ps k t (Some l) j e at is =
       | inl here ↦ (j, ap (import_at ps) here ∙ at, is)
       | inr stays ↦
           let (i, there, kind) = same_memory_kind l (import_at ps u) (stays_same ps l u stays) in
-          (i, there, kind ∙ ap (λ (x : Import). kind_of_import x.desc) same ∙ is)
+          (i, there, kind ∙ ap (λ (x : Import). space_of_import x.desc) same ∙ is)
     ]
 
 gather_there : (ps : List Part) (k : Space) (end : linking.End) → EndThere ps k end → EndThere ps k (gathered ps end)
@@ -225,27 +226,9 @@ entry_from None e h = cc
 entry_from (Some end) e h = let same : end_entry end ≡ e = cc in (end, refl, same)
 
 -- the end of an import, as it is written down, is there
-pub entry_there : (ps : List Part) (p n : ℕ) (m : Module) (i : Import) (e : End) → link_fault ps ≡ None → module_at ps p ≡ Some m → slice_get m.imports n ≡ Some i → option_map end_entry (linked_end ps (site p n)) ≡ Some e → IsEnd ps (kind_of_import i.desc) e
+pub entry_there : (ps : List Part) (p n : ℕ) (m : Module) (i : Import) (e : End) → link_fault ps ≡ None → module_at ps p ≡ Some m → slice_get m.imports n ≡ Some i → option_map end_entry (linked_end ps (site p n)) ≡ Some e → IsEnd ps (space_of_import i.desc) e
 entry_there ps p n m i e none at here ends =
     let (linked, is, entry) = entry_from (linked_end ps (site p n)) e ends in
     let (end, first, last) = some_of (end_of ps (site p n)) (λ end. Some (gathered ps end)) linked is in
     let gathers : gathered ps end ≡ linked = cc in
-    subst (IsEnd ps (kind_of_import i.desc)) (ap end_entry gathers ∙ entry) (written ps (kind_of_import i.desc) (gathered ps end) (gather_there ps (kind_of_import i.desc) end (end_there ps p n m i end none at here first)))
-
-pub kind_from : (a b : Space) → same_space a b ≡ true → a ≡ b
-kind_from Functions Functions h = refl
-kind_from Functions Tables h = cc
-kind_from Functions Memories h = cc
-kind_from Functions Globals h = cc
-kind_from Tables Functions h = cc
-kind_from Tables Tables h = refl
-kind_from Tables Memories h = cc
-kind_from Tables Globals h = cc
-kind_from Memories Functions h = cc
-kind_from Memories Tables h = cc
-kind_from Memories Memories h = refl
-kind_from Memories Globals h = cc
-kind_from Globals Functions h = cc
-kind_from Globals Tables h = cc
-kind_from Globals Memories h = cc
-kind_from Globals Globals h = refl
+    subst (IsEnd ps (space_of_import i.desc)) (ap end_entry gathers ∙ entry) (written ps (space_of_import i.desc) (gathered ps end) (gather_there ps (space_of_import i.desc) end (end_there ps p n m i end none at here first)))

@@ -27,9 +27,9 @@ use Rattle.index_remap.specs.Renumbered.{all_true, fits_func, fits_tree, fits_im
 use Rattle.index_remap.proofs.Fits.{each_at}
 use Rattle.remap_typing.proofs.Lists.{left_true, right_true}
 use Rattle.merge_terms.specs.Merged.{by_part_from, by_part, map_of, new_index}
-use Rattle.merge_validity.proofs.Lists.{numbers_many}
 use Rattle.merge_join.specs.Reads.{HasType, ElemModeFits, DataModeFits}
 use Rattle.merge_join.proofs.Growing.{item_there}
+use Rattle.base_lists.proofs.Numbers.{length-numbers}
 
 abbrev pub ItemsHold : Module → Type 0
 ItemsHold m = (k : ItemKind) (i : ℕ) → i < count_of m true k → HoldsAt m k i
@@ -82,11 +82,11 @@ data_mode_fits law ps p m datas i s at valid is lt here =
 
 tables_many : (ps : List Part) (p : ℕ) (m : Module) → length (map_of ps p m).tables ≡ length (tables_of m)
 unfolding map_of
-tables_many ps p m = length-map (numbers 0 (length (tables_of m))) (new_index ps p Tables) ∙ numbers_many 0 (length (tables_of m))
+tables_many ps p m = length-map (numbers 0 (length (tables_of m))) (new_index ps p Tables) ∙ length-numbers 0 (length (tables_of m))
 
 mems_many : (ps : List Part) (p : ℕ) (m : Module) → length (map_of ps p m).mems ≡ length (memories_of m)
 unfolding map_of
-mems_many ps p m = length-map (numbers 0 (length (memories_of m))) (new_index ps p Memories) ∙ numbers_many 0 (length (memories_of m))
+mems_many ps p m = length-map (numbers 0 (length (memories_of m))) (new_index ps p Memories) ∙ length-numbers 0 (length (memories_of m))
 
 -- the map has an entry for the table of a segment, and for the memory
 pub table_within : (ps : List Part) (p : ℕ) (m : Module) (ty : RefType) (table : ℕ) (offset : ConstExpr) (r : Remap) (tables : List ℕ) → ElemModeHolds m ty (elem.Active table offset) → r ≡ map_of ps p m → tables ≡ r.tables → table < length tables

@@ -5,22 +5,22 @@ use Rattle.wasm_tree.specs.declared.module.Module.{Module}
 use Rattle.wasm_tree.specs.Spaces.{funcs_of, tables_of, memories_of, globals_of}
 use Rattle.wasm_meaning.specs.World.{numbers, defined_before}
 use Rattle.wasm_meaning.specs.Linking.{Part, module_at, first_place}
-use Rattle.wasm_meaning.specs.Values.{same_func_type}
+use Rattle.wasm_tree.specs.SameTypes.{same_func_type}
 use Rattle.index_remap.specs.declared.remap.Remap.{Remap}
 use Rattle.merge_terms.specs.declared.parts.Part as declared
 use Rattle.merge_terms.specs.Parts.{named_modules}
 use Rattle.merge_terms.specs.Merged.{new_index, merged_types, place_of_type, map_of}
-use Rattle.merge_join.specs.declared.kinds.Kind as kinds
-use Rattle.merge_join.specs.Words.{the_kind, space_size}
+use Rattle.wasm_tree.specs.declared.space.Space.{Space}
+use Rattle.merge_join.specs.Words.{space_size}
 use Rattle.merge_join.proofs.SpaceSizes.{funcs_size, tables_size, memories_size, globals_size}
 
--- the new indices of a space, where its parts and its kind are these
-pub space_is : (qs parts : List declared.Part) (kind k : kinds.Kind) (p : ℕ) (new : List ℕ) → qs ≡ parts → kind ≡ k
-    → ((m : Module) → module_at (named_modules qs) p ≡ Some m → new ≡ map (new_index (named_modules qs) p (the_kind kind)) (numbers 0 (space_size (the_kind kind) m)))
-    → (m : Module) → module_at (named_modules parts) p ≡ Some m → new ≡ map (new_index (named_modules parts) p (the_kind k)) (numbers 0 (space_size (the_kind k) m))
-space_is qs parts kind k p new same is h =
-    subst (λ (xs : List declared.Part). (m : Module) → module_at (named_modules xs) p ≡ Some m → new ≡ map (new_index (named_modules xs) p (the_kind k)) (numbers 0 (space_size (the_kind k) m))) same
-    (subst (λ (x : kinds.Kind). (m : Module) → module_at (named_modules qs) p ≡ Some m → new ≡ map (new_index (named_modules qs) p (the_kind x)) (numbers 0 (space_size (the_kind x) m))) is h)
+-- the new indices of a space, where its parts and its index space are these
+pub space_is : (qs parts : List declared.Part) (of k : Space) (p : ℕ) (new : List ℕ) → qs ≡ parts → of ≡ k
+    → ((m : Module) → module_at (named_modules qs) p ≡ Some m → new ≡ map (new_index (named_modules qs) p of) (numbers 0 (space_size of m)))
+    → (m : Module) → module_at (named_modules parts) p ≡ Some m → new ≡ map (new_index (named_modules parts) p k) (numbers 0 (space_size k m))
+space_is qs parts of k p new same is h =
+    subst (λ (xs : List declared.Part). (m : Module) → module_at (named_modules xs) p ≡ Some m → new ≡ map (new_index (named_modules xs) p k) (numbers 0 (space_size k m))) same
+    (subst (λ (x : Space). (m : Module) → module_at (named_modules qs) p ≡ Some m → new ≡ map (new_index (named_modules qs) p x) (numbers 0 (space_size x m))) is h)
 
 abbrev pub built : (types funcs tables mems globals elems datas : List ℕ) → Remap
 built types funcs tables mems globals elems datas = record { types = types; funcs = funcs; tables = tables; mems = mems; globals = globals; elems = elems; datas = datas }

@@ -1,5 +1,5 @@
 -- What a constant expression of a part becomes, by what is read through the part's imported globals.
-use Rattle.std.proofs.Common.{◌≡◌, ◌∙◌, ap, sym, subst, refl, ℕ, zero, suc, ◌+◌, ◌<◌, List, [], ◌∷◌, ◌++◌, length, Option, Some, None, Bool, true, false, cond, ◌&&◌, not, nat_lt, arith, slice_get, get_or, option_and_then, unwrap_or}
+use Rattle.std.proofs.Common.{◌≡◌, ◌∙◌, ap, sym, subst, refl, ℕ, zero, suc, ◌+◌, ◌<◌, List, [], ◌∷◌, ◌++◌, length, Option, Some, None, Bool, true, false, cond, ◌&&◌, not, nat_lt, arith, slice_get, get_or, option_and_then, unwrap_or, is_some}
 use Rattle.wasm_tree.specs.declared.space.Space.TheVariants.{Globals}
 use Rattle.wasm_tree.specs.Operands.{same_space}
 use Rattle.std.specs.Option.{option_map}
@@ -14,12 +14,12 @@ use Rattle.wasm_tree.specs.declared.module.ImportDesc.TheVariants as im
 use Rattle.wasm_tree.specs.declared.module.ConstExpr.{ConstExpr}
 use Rattle.wasm_tree.specs.declared.module.ConstExpr.TheVariants as const
 use Rattle.wasm_tree.specs.declared.module.Module.{Module}
-use Rattle.wasm_tree.specs.Spaces.{globals_of, global_of, imported_globals}
+use Rattle.wasm_tree.specs.Spaces.{globals_of, global_of, imported_globals, space_of_import}
 use Rattle.wasm_typing.specs.Typing.{only}
 use Rattle.wasm_valid.specs.Constants.{const_type}
 use Rattle.wasm_valid.specs.Validity.{IsValid}
 use Rattle.wasm_meaning.specs.Linking as linking
-use Rattle.wasm_meaning.specs.Linking.{Part, Site, places, kind_of_import, has_kind, space_index, module_at, import_at, imports_of, read_of}
+use Rattle.wasm_meaning.specs.Linking.{Part, Site, places, has_kind, space_index, module_at, import_at, imports_of, read_of}
 use Rattle.index_remap.specs.Renumbered.{new_const}
 use Rattle.remap_typing.proofs.Lists.{left_true, right_true, then_there, only_true}
 use Rattle.merge_terms.specs.declared.links.Read.{Read}
@@ -27,7 +27,6 @@ use Rattle.merge_terms.specs.Parts.{named_modules}
 use Rattle.merge_terms.specs.Faults.{link_fault}
 use Rattle.merge_terms.specs.Linked.{read_entry, when_fixed, read_at_desc, read_at}
 use Rattle.merge_terms.specs.Merged.{map_of, merged_read, merged_const}
-use Rattle.merge_validity.proofs.Lists.{is_some, place_get}
 use Rattle.merge_validity.specs.Entries.{HasEntry}
 use Rattle.merge_validity.specs.Joinable.{EachPart}
 use Rattle.merge_join.specs.declared.joining.Joining.{Joining}
@@ -36,7 +35,7 @@ use Rattle.merge_join.specs.Reads.{AreReads, HasType}
 
 -- ---- an imported global ----
 
-kinds_agree : (d : ImportDesc) → is_some (global_of d) ≡ same_space Globals (kind_of_import d)
+kinds_agree : (d : ImportDesc) → is_some (global_of d) ≡ same_space Globals (space_of_import d)
 kinds_agree (im.Func t) = refl
 kinds_agree (im.Table t) = refl
 kinds_agree (im.Memory l) = refl
@@ -141,7 +140,7 @@ module _ (ps : List Part) (p : ℕ) (reads : List (Option Read)) (are : AreReads
   there_is =
       let ns = imports_of Globals of in
       let z : 0 + import.n ≡ import.n = omega arith in
-      let at : slice_get ns x ≡ Some import.n = sym (place_get ns x) ∙ import.at ∙ ap Some z in
+      let at : slice_get ns x ≡ Some import.n = import.at ∙ ap Some z in
       ap (λ l. slice_get l x) (are of typed.2) ∙ slice_get-map (λ n. read_at ps (site p n)) ns x ∙ ap (option_map (λ n. read_at ps (site p n))) at ∙ ap Some read_is
 
   pub entry_within : x < length reads

@@ -8,8 +8,8 @@ use Rattle.wasm_tree.specs.declared.module.Import.{Import}
 use Rattle.wasm_tree.specs.declared.module.ImportDesc.{ImportDesc}
 use Rattle.wasm_tree.specs.declared.module.ImportDesc.TheVariants as im
 use Rattle.wasm_tree.specs.declared.module.Module.{Module}
-use Rattle.wasm_tree.specs.Spaces.{func_of, table_of, memory_of, global_of, imported_funcs, imported_tables, imported_memories, imported_globals, funcs_of, tables_of, memories_of, globals_of}
-use Rattle.wasm_meaning.specs.Linking.{places, has_kind, kind_of_import}
+use Rattle.wasm_tree.specs.Spaces.{func_of, table_of, memory_of, global_of, imported_funcs, imported_tables, imported_memories, imported_globals, funcs_of, tables_of, memories_of, globals_of, space_of_import}
+use Rattle.wasm_meaning.specs.Linking.{places, has_kind}
 use Rattle.merge_join.specs.Words.{space_size}
 
 count_same : {A : Type 0} (h : Import → Option A) (is : Import → Bool) → ((i : Import) → is_some (h i) ≡ is i) → (xs : List Import) (n : ℕ) → length (filter_map h xs) ≡ length (places is xs n)
@@ -22,25 +22,25 @@ count_same {A} h is same (x ∷ xs) n = case (h x) (is x) (same x) (count_same h
     case (Some a) true e rest = ap suc rest
     case (Some a) false e rest = cc
 
-is_func : (d : ImportDesc) → is_some (func_of d) ≡ same_space Functions (kind_of_import d)
+is_func : (d : ImportDesc) → is_some (func_of d) ≡ same_space Functions (space_of_import d)
 is_func (im.Func t) = refl
 is_func (im.Table t) = refl
 is_func (im.Memory l) = refl
 is_func (im.Global t) = refl
 
-is_table : (d : ImportDesc) → is_some (table_of d) ≡ same_space Tables (kind_of_import d)
+is_table : (d : ImportDesc) → is_some (table_of d) ≡ same_space Tables (space_of_import d)
 is_table (im.Func t) = refl
 is_table (im.Table t) = refl
 is_table (im.Memory l) = refl
 is_table (im.Global t) = refl
 
-is_memory : (d : ImportDesc) → is_some (memory_of d) ≡ same_space Memories (kind_of_import d)
+is_memory : (d : ImportDesc) → is_some (memory_of d) ≡ same_space Memories (space_of_import d)
 is_memory (im.Func t) = refl
 is_memory (im.Table t) = refl
 is_memory (im.Memory l) = refl
 is_memory (im.Global t) = refl
 
-is_global : (d : ImportDesc) → is_some (global_of d) ≡ same_space Globals (kind_of_import d)
+is_global : (d : ImportDesc) → is_some (global_of d) ≡ same_space Globals (space_of_import d)
 is_global (im.Func t) = refl
 is_global (im.Table t) = refl
 is_global (im.Memory l) = refl

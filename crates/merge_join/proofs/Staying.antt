@@ -12,7 +12,6 @@ use Rattle.wasm_meaning.specs.Linking.{Part, Site, module_at, import_at, limits_
 use Rattle.index_remap.specs.declared.remap.Remap.{Remap}
 use Rattle.merge_terms.specs.Faults.{stays, kept_limits}
 use Rattle.merge_terms.specs.Merged.{by_part_from, by_part, map_of, merged_desc, merged_import, staying}
-use Rattle.merge_validity.proofs.Lists.{place_get}
 use Rattle.merge_join.specs.Kept.{kept_desc}
 use Rattle.merge_join.specs.Words.{site}
 use Rattle.merge_join.proofs.Holding.{read_there}
@@ -46,7 +45,7 @@ made i a b d e p q r = sym (ap (λ a. Some (import_of a b d)) p ∙ ap (λ b. So
 pub import_made : (ps : List Part) (s : Site) (m : Module) (r : Remap) (kept : Option Limits) (is : List Import) (i : Import) (a b : Text) (d : ImportDesc) → stays ps s ≡ true → module_at ps s.part ≡ Some m → is ≡ m.imports → s.import < length is → i ≡ get_or is s.import i →
     r ≡ map_of ps s.part m → kept ≡ kept_limits ps s → a ≡ i.«module» → b ≡ i.field → d ≡ kept_desc r kept i.desc → merged_import ps s ≡ Some (record { «module» = a; field = b; desc = d })
 import_made ps s m r kept is i a b d stay at same lt here map limits p q e =
-    let there : import_at ps s ≡ Some i = ap (λ o. option_and_then (λ m. slice_get m.imports s.import) o) at ∙ place_get m.imports s.import ∙ ap (λ l. slice_get l s.import) (sym same) ∙ read_there is s.import i lt ∙ ap Some (sym here) in
+    let there : import_at ps s ≡ Some i = ap (λ o. option_and_then (λ m. slice_get m.imports s.import) o) at ∙ ap (λ l. slice_get l s.import) (sym same) ∙ read_there is s.import i lt ∙ ap Some (sym here) in
     let desc : d ≡ merged_desc ps s m i.desc =
     e ∙ ap (λ r. kept_desc r kept i.desc) map ∙ ap (λ k. kept_desc (map_of ps s.part m) k i.desc) (limits ∙ kept_is ps s i stay there) ∙ desc_is ps s m i.desc in
     import_is ps s m i at there ∙ made i a b d (merged_desc ps s m i.desc) p q desc

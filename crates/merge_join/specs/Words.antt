@@ -19,14 +19,6 @@ use Rattle.merge_terms.specs.Linked.{AreLinks}
 use Rattle.merge_terms.specs.Merged.{staying_of, imported_count, by_part, map_of}
 use Rattle.merge_terms.specs.Joined.{FewInAll}
 use Rattle.merge_join.specs.declared.joining.Joining.{Joining}
-use Rattle.merge_join.specs.declared.kinds.Kind as declared
-use Rattle.merge_join.specs.declared.kinds.Kind.TheVariants as kind
-
-abbrev pub the_kind : declared.Kind → Space
-the_kind kind.Functions = Functions
-the_kind kind.Tables = Tables
-the_kind kind.Memories = Memories
-the_kind kind.Globals = Globals
 
 abbrev pub site : (part import : ℕ) → Site
 site p n = record { part = p; import = n }

@@ -4,19 +4,19 @@ ghost use Rattle.std.specs.Prelude.{IfOk};
 ghost use Rattle.merge_join.specs.Words.{AreLinked};
 ghost use Rattle.merge_join.specs.AllSpaces.{AreSpaces};
 
-use crate::kinds::Kind;
-use crate::spaces::{Space, space_of};
+use crate::spaces::{MergedSpace, space_of};
 use merge_terms::{Links, Part};
 use std::alloc::Global;
 use wasm_bytes::NoMemory;
+use wasm_tree::Space;
 
 /// The merged index spaces.
 #[derive(Drop)]
 pub(crate) struct Spaces<'a> {
-    pub funcs: Space<'a>,
-    pub tables: Space<'a>,
-    pub mems: Space<'a>,
-    pub globals: Space<'a>,
+    pub funcs: MergedSpace<'a>,
+    pub tables: MergedSpace<'a>,
+    pub mems: MergedSpace<'a>,
+    pub globals: MergedSpace<'a>,
 }
 
 /// The four merged index spaces.
@@ -29,9 +29,9 @@ pub(crate) fn spaces_of<'a>(
     ensures { IfOk result (λ spaces. AreSpaces parts.now spaces) }
 {
     Ok(Spaces {
-        funcs: space_of(alloc, parts, links, Kind::Functions)?,
-        tables: space_of(alloc, parts, links, Kind::Tables)?,
-        mems: space_of(alloc, parts, links, Kind::Memories)?,
-        globals: space_of(alloc, parts, links, Kind::Globals)?,
+        funcs: space_of(alloc, parts, links, Space::Functions)?,
+        tables: space_of(alloc, parts, links, Space::Tables)?,
+        mems: space_of(alloc, parts, links, Space::Memories)?,
+        globals: space_of(alloc, parts, links, Space::Globals)?,
     })
 }

@@ -7,14 +7,13 @@ ghost use Rattle.merge_join.specs.Reads.{AreReads, HasType};
 ghost use Rattle.merge_join.specs.Words.{AreJoined};
 
 use crate::joining::Joining;
-use crate::kinds::{Kind, is_of};
 use crate::linked::{module_of, read_of};
 use index_remap::renumber_const;
 use merge_terms::Read;
 use merge_validity::maps_have_entries;
 use std::alloc::Global;
 use wasm_bytes::{Items, NoMemory};
-use wasm_tree::ConstExpr;
+use wasm_tree::{ConstExpr, Space};
 
 /// What is read through each imported global of a part.
 pub(crate) fn reads_of(
@@ -29,7 +28,7 @@ pub(crate) fn reads_of(
     let mut reads = Items::new(alloc);
     let imports = module_of(joining.parts, part).imports.as_slice();
     for place in 0..imports.len() {
-        if !is_of(&imports[place].desc, Kind::Globals) {
+        if !imports[place].desc.is_in(Space::Globals) {
             continue;
         }
         reads.keep(read_of(joining.parts, joining.links, part, place))?;

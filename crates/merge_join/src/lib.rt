@@ -3,10 +3,10 @@
 
 mod all_spaces;
 mod consts;
+mod defined;
 mod exports;
 mod imports;
 mod joining;
-mod kinds;
 mod limits;
 mod linked;
 mod lists;

@@ -1,40 +1,48 @@
 // The limits of a module.
 
-ghost use Rattle.std.specs.Prelude.{◌≡◌};
+ghost use Rattle.std.specs.Prelude.{◌≡◌, nat_lt};
+ghost use Rattle.wasm_tree.specs.Limits.{limit};
 ghost use Rattle.merge_terms.specs.Joined as joined;
 
 use wasm_tree::{Module, Which};
+
+// Whether there are more than there may be.
+fn is_above(count: usize, which: Which) -> bool
+    ensures { result ≡ nat_lt (limit which) count }
+{
+    count > which.limit() as usize
+}
 
 /// The first count above its limit, in the order of the sections.
 #[tactic(auto, unfolding(merge_terms::specs::Joined::over_limit))]
 pub(crate) fn over_limit(module: &Module) -> Option<Which>
     ensures { result ≡ joined.over_limit «module».now }
 {
-    if module.types.len() > 1_000_000 {
+    if is_above(module.types.len(), Which::Types) {
         return Some(Which::Types);
     }
-    if module.imports.len() > 1_000_000 {
+    if is_above(module.imports.len(), Which::Imports) {
         return Some(Which::Imports);
     }
-    if module.funcs.len() > 1_000_000 {
+    if is_above(module.funcs.len(), Which::Functions) {
         return Some(Which::Functions);
     }
-    if module.tables.len() > 10_000 {
+    if is_above(module.tables.len(), Which::Tables) {
         return Some(Which::Tables);
     }
-    if module.mems.len() > 10_000 {
+    if is_above(module.mems.len(), Which::Memories) {
         return Some(Which::Memories);
     }
-    if module.globals.len() > 1_000_000 {
+    if is_above(module.globals.len(), Which::Globals) {
         return Some(Which::Globals);
     }
-    if module.exports.len() > 1_000_000 {
+    if is_above(module.exports.len(), Which::Exports) {
         return Some(Which::Exports);
     }
-    if module.elems.len() > 300_000 {
+    if is_above(module.elems.len(), Which::ElementSegments) {
         return Some(Which::ElementSegments);
     }
-    if module.datas.len() > 300_000 {
+    if is_above(module.datas.len(), Which::DataSegments) {
         return Some(Which::DataSegments);
     }
     None

@@ -4,19 +4,19 @@ ghost use Rattle.std.specs.Prelude.{◌≡◌, ◌+◌, ◌<◌, ◌≤◌, ◌^
 ghost use Rattle.wasm_tree.specs.declared.space.Space.TheVariants.{DataSegments, ElementSegments};
 ghost use Rattle.wasm_tree.specs.declared.module.Module.{Module as Tree};
 ghost use Rattle.wasm_meaning.specs.Linking.{module_at, imports_of, first_place};
-ghost use Rattle.wasm_meaning.specs.Values.{same_func_type};
+ghost use Rattle.wasm_tree.specs.SameTypes.{same_func_type};
 ghost use Rattle.wasm_meaning.specs.World as world;
 ghost use Rattle.merge_terms.specs.Parts.{named_modules};
 ghost use Rattle.merge_terms.specs.Merged as merged;
 ghost use Rattle.merge_terms.specs.Merged.{new_index, merged_types};
-ghost use Rattle.merge_join.specs.Words.{the_kind, space_size, AreLinked, AreMaps};
+ghost use Rattle.merge_join.specs.Words.{space_size, AreLinked, AreMaps};
 ghost use Rattle.merge_join.specs.AllSpaces.{AreSpaces};
 
 use crate::all_spaces::Spaces;
-use crate::kinds::{defined_count, is_of};
+use crate::defined::defined_count;
 use crate::linked::{end_of, module_of};
 use crate::numbers::{add_numbers, number_at};
-use crate::spaces::Space;
+use crate::spaces::MergedSpace;
 use crate::types::Types;
 use index_remap::Remap;
 use merge_terms::{Links, Part};
@@ -50,19 +50,19 @@ fn imported_map(
     alloc: Global,
     links: &Links,
     part: usize,
-    space: &Space<'_>,
+    into: &MergedSpace<'_>,
 ) -> Result<Items<u32>, NoMemory>
-    requires linked { AreLinked space.now.parts.now links.now }
-    requires there { part < length space.now.parts.now }
-    ensures { IfOk result (λ new. (m : Tree) → module_at (named_modules space.now.parts.now) part ≡ Some m → new ≡ each (new_index (named_modules space.now.parts.now) part (the_kind space.now.kind)) (world.numbers 0 (length (imports_of (the_kind space.now.kind) m)))) }
+    requires linked { AreLinked into.now.parts.now links.now }
+    requires there { part < length into.now.parts.now }
+    ensures { IfOk result (λ new. (m : Tree) → module_at (named_modules into.now.parts.now) part ≡ Some m → new ≡ each (new_index (named_modules into.now.parts.now) part into.now.space) (world.numbers 0 (length (imports_of into.now.space m)))) }
 {
     let mut map = Items::new(alloc);
-    let imports = module_of(space.parts, part).imports.as_slice();
+    let imports = module_of(into.parts, part).imports.as_slice();
     for place in 0..imports.len() {
-        if !is_of(&imports[place].desc, space.kind) {
+        if !imports[place].desc.is_in(into.space) {
             continue;
         }
-        map.keep(space.place(end_of(space.parts, links, part, place)))?;
+        map.keep(into.place(end_of(into.parts, links, part, place)))?;
     }
     Ok(map)
 }
@@ -72,15 +72,15 @@ fn space_map(
     alloc: Global,
     links: &Links,
     part: usize,
-    space: &Space<'_>,
+    into: &MergedSpace<'_>,
 ) -> Result<Items<u32>, NoMemory>
-    requires linked { AreLinked space.now.parts.now links.now }
-    requires there { part < length space.now.parts.now }
-    ensures { IfOk result (λ new. (m : Tree) → module_at (named_modules space.now.parts.now) part ≡ Some m → new ≡ each (new_index (named_modules space.now.parts.now) part (the_kind space.now.kind)) (world.numbers 0 (space_size (the_kind space.now.kind) m))) }
+    requires linked { AreLinked into.now.parts.now links.now }
+    requires there { part < length into.now.parts.now }
+    ensures { IfOk result (λ new. (m : Tree) → module_at (named_modules into.now.parts.now) part ≡ Some m → new ≡ each (new_index (named_modules into.now.parts.now) part into.now.space) (world.numbers 0 (space_size into.now.space m))) }
 {
-    let mut map = imported_map(alloc, links, part, space)?;
-    let first = number_at(&space.firsts, part);
-    let defined = defined_count(space.kind, module_of(space.parts, part));
+    let mut map = imported_map(alloc, links, part, into)?;
+    let first = number_at(&into.firsts, part);
+    let defined = defined_count(into.space, module_of(into.parts, part));
     add_numbers(&mut map, first, defined)?;
     Ok(map)
 }

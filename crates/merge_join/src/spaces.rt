@@ -8,22 +8,22 @@ ghost use Rattle.merge_terms.specs.Parts.{named_modules};
 ghost use Rattle.merge_terms.specs.declared.links.End.TheVariants.{Defined};
 ghost use Rattle.merge_terms.specs.Linked.{AreLinks, by_import};
 ghost use Rattle.merge_terms.specs.Merged as merged;
-ghost use Rattle.merge_join.specs.Words.{the_kind, site, place_at, each_part, IsSite, IsEnd, AreLinked};
+ghost use Rattle.merge_join.specs.Words.{site, place_at, each_part, IsSite, IsEnd, AreLinked};
 ghost use Rattle.merge_join.specs.Spaces.{IsSpace, staying_place, imported_in, picked, count_before};
 
-use crate::kinds::{Kind, defined_count, is_of};
+use crate::defined::defined_count;
 use crate::linked::{module_of, stays};
 use crate::numbers::number_at;
 use merge_terms::{End, Links, Part};
 use std::alloc::Global;
 use wasm_bytes::{Items, NoMemory};
-use wasm_tree::Import;
+use wasm_tree::{Import, Space};
 
 /// Where things of a kind stand in the merged index space of these parts.
 #[derive(Drop)]
-pub(crate) struct Space<'a> {
+pub(crate) struct MergedSpace<'a> {
     pub parts: &'a [Part],
-    pub kind: Kind,
+    pub space: Space,
     /// For each import of each part its place, where it stays and is of this kind.
     pub staying: Items<Items<Option<u32>>>,
     /// For each part the place of the first that it defines.
@@ -33,22 +33,22 @@ pub(crate) struct Space<'a> {
     /// How many there are.
     pub count: u32,
     ghost few: { count < 2 ^ 32 },
-    pub ghost is: { IsSpace (named_modules parts.now) (the_kind kind) staying firsts imported count },
+    pub ghost is: { IsSpace (named_modules parts.now) space staying firsts imported count },
 }
 
-impl<'a> Space<'a> {
+impl<'a> MergedSpace<'a> {
     // The place of an import, where it stays and is of this kind.
     fn staying_at(&self, part: usize, import: usize) -> Option<u32>
         requires { IsSite (named_modules self.now.parts.now) part import }
-        ensures { result ≡ staying_place (named_modules self.now.parts.now) (the_kind self.now.kind) (site part import) }
+        ensures { result ≡ staying_place (named_modules self.now.parts.now) self.now.space (site part import) }
     {
         self.staying.as_slice()[part].as_slice()[import]
     }
 
     // The place of what a part defines, by its index in that part's index space.
     fn defined_at(&self, part: usize, index: u32) -> u32
-        requires { IsEnd (named_modules self.now.parts.now) (the_kind self.now.kind) (Defined part index) }
-        ensures { result ≡ place_at (named_modules self.now.parts.now) (the_kind self.now.kind) (Defined part index) }
+        requires { IsEnd (named_modules self.now.parts.now) self.now.space (Defined part index) }
+        ensures { result ≡ place_at (named_modules self.now.parts.now) self.now.space (Defined part index) }
     {
         let imported = number_at(&self.imported, part);
         number_at(&self.firsts, part) + index.saturating_sub(imported)
@@ -56,8 +56,8 @@ impl<'a> Space<'a> {
 
     /// The place of an end.
     pub(crate) fn place(&self, end: End) -> u32
-        requires { IsEnd (named_modules self.now.parts.now) (the_kind self.now.kind) end }
-        ensures { result ≡ place_at (named_modules self.now.parts.now) (the_kind self.now.kind) end }
+        requires { IsEnd (named_modules self.now.parts.now) self.now.space end }
+        ensures { result ≡ place_at (named_modules self.now.parts.now) self.now.space end }
     {
         match end {
             End::Outside { part, import } => self
@@ -69,18 +69,18 @@ impl<'a> Space<'a> {
 }
 
 // Whether an import stays and is of a kind.
-fn is_picked(parts: &[Part], links: &Links, part: usize, import: usize, kind: Kind) -> bool
+fn is_picked(parts: &[Part], links: &Links, part: usize, import: usize, space: Space) -> bool
     requires links { AreLinks (named_modules parts.now) links.now }
     requires there { IsSite (named_modules parts.now) part import }
-    ensures { result ≡ picked (named_modules parts.now) (the_kind kind) (site part import) }
+    ensures { result ≡ picked (named_modules parts.now) space (site part import) }
 {
     let imports = module_of(parts, part).imports.as_slice();
-    stays(parts, links, part, import) && is_of(&imports[import].desc, kind)
+    stays(parts, links, part, import) && imports[import].desc.is_in(space)
 }
 
 // The next place, where one is taken.
 fn next_place(count: &mut u32, taken: bool) -> Option<u32>
-    requires { count.old + 1 < 2 ^ 32 }
+    requires { count.old + cond taken 1 0 < 2 ^ 32 }
     ensures place { result ≡ cond taken (Some count.old) None }
     ensures count { count.new ≡ count.old + cond taken 1 0 }
 {
@@ -92,36 +92,36 @@ fn next_place(count: &mut u32, taken: bool) -> Option<u32>
     Some(place)
 }
 
-// The places of the imports of one part that stay and are of a kind, where so many come before them.
+// The places of the imports of one part that stay and are of a space, where so many come before them.
 fn staying_in(
     alloc: Global,
     parts: &[Part],
     links: &Links,
     part: usize,
-    kind: Kind,
+    space: Space,
     count: &mut u32,
 ) -> Result<Items<Option<u32>>, NoMemory>
     requires linked { AreLinked parts.now links.now }
     requires there { part < length parts.now }
-    requires count { count.old ≡ count_before (named_modules parts.now) (the_kind kind) part 0 }
-    ensures row { IfOk result (λ row. (m : Tree) → module_at (named_modules parts.now) part ≡ Some m → row ≡ map (staying_place (named_modules parts.now) (the_kind kind)) (sites_in part (length m.imports) 0)) }
-    ensures count { OnOk result (count.new ≡ count_before (named_modules parts.now) (the_kind kind) (part + 1) 0) }
+    requires count { count.old ≡ count_before (named_modules parts.now) space part 0 }
+    ensures row { IfOk result (λ row. (m : Tree) → module_at (named_modules parts.now) part ≡ Some m → row ≡ map (staying_place (named_modules parts.now) space) (sites_in part (length m.imports) 0)) }
+    ensures count { OnOk result (count.new ≡ count_before (named_modules parts.now) space (part + 1) 0) }
 {
     let mut row = Items::new(alloc);
     for import in 0..module_of(parts, part).imports.len() {
-        let taken = is_picked(parts, links, part, import, kind);
+        let taken = is_picked(parts, links, part, import, space);
         row.keep(next_place(count, taken))?;
     }
     Ok(row)
 }
 
-fn imported_count(imports: &[Import], kind: Kind) -> u32
+fn imported_count(imports: &[Import], space: Space) -> u32
     requires { length imports.now < 2 ^ 32 }
-    ensures { result ≡ length (places (has_kind (the_kind kind)) imports.now 0) }
+    ensures { result ≡ length (places (has_kind space) imports.now 0) }
 {
     let mut count = 0;
     for import in imports {
-        if is_of(&import.desc, kind) {
+        if import.desc.is_in(space) {
             count += 1;
         }
     }
@@ -133,18 +133,18 @@ pub(crate) fn space_of<'a>(
     alloc: Global,
     parts: &'a [Part],
     links: &Links,
-    kind: Kind,
-) -> Result<Space<'a>, NoMemory>
+    space: Space,
+) -> Result<MergedSpace<'a>, NoMemory>
     requires { AreLinked parts.now links.now }
-    ensures parts { IfOk result (λ space. space.parts.now ≡ parts.now) }
-    ensures kind { IfOk result (λ space. space.kind ≡ kind) }
+    ensures parts { IfOk result (λ merged. merged.parts.now ≡ parts.now) }
+    ensures space { IfOk result (λ merged. merged.space ≡ space) }
 {
-    let (staying, count) = all_staying(alloc, parts, links, kind)?;
-    let (firsts, count) = firsts_of(alloc, parts, kind, count)?;
-    let imported = imported_of(alloc, parts, kind)?;
-    Ok(Space {
+    let (staying, count) = all_staying(alloc, parts, links, space)?;
+    let (firsts, count) = firsts_of(alloc, parts, space, count)?;
+    let imported = imported_of(alloc, parts, space)?;
+    Ok(MergedSpace {
         parts,
-        kind,
+        space,
         staying,
         firsts,
         imported,
@@ -152,21 +152,21 @@ pub(crate) fn space_of<'a>(
     })
 }
 
-// For each import of each part its place, where it stays and is of a kind, and how many these are.
+// For each import of each part its place, where it stays and is of a space, and how many these are.
 fn all_staying(
     alloc: Global,
     parts: &[Part],
     links: &Links,
-    kind: Kind,
+    space: Space,
 ) -> Result<(Items<Items<Option<u32>>>, u32), NoMemory>
     requires { AreLinked parts.now links.now }
-    ensures staying { IfOk result (λ r. r.0 ≡ by_import (staying_place (named_modules parts.now) (the_kind kind)) (named_modules parts.now)) }
-    ensures count { IfOk result (λ r. r.1 ≡ length (merged.staying_of (named_modules parts.now) (the_kind kind))) }
+    ensures staying { IfOk result (λ r. r.0 ≡ by_import (staying_place (named_modules parts.now) space) (named_modules parts.now)) }
+    ensures count { IfOk result (λ r. r.1 ≡ length (merged.staying_of (named_modules parts.now) space)) }
 {
     let mut staying = Items::new(alloc);
     let mut count = 0;
     for part in 0..parts.len() {
-        staying.keep(staying_in(alloc, parts, links, part, kind, &mut count)?)?;
+        staying.keep(staying_in(alloc, parts, links, part, space, &mut count)?)?;
     }
     Ok((staying, count))
 }
@@ -175,29 +175,29 @@ fn all_staying(
 fn firsts_of(
     alloc: Global,
     parts: &[Part],
-    kind: Kind,
+    space: Space,
     staying: u32,
 ) -> Result<(Items<u32>, u32), NoMemory>
-    requires few { staying + defined_before (the_kind kind) (named_modules parts.now) (length parts.now) < 2 ^ 32 }
-    ensures firsts { IfOk result (λ r. r.0 ≡ each_part (λ p m. staying + defined_before (the_kind kind) (named_modules parts.now) p) (named_modules parts.now)) }
-    ensures count { IfOk result (λ r. r.1 ≡ staying + defined_before (the_kind kind) (named_modules parts.now) (length parts.now)) }
+    requires few { staying + defined_before space (named_modules parts.now) (length parts.now) < 2 ^ 32 }
+    ensures firsts { IfOk result (λ r. r.0 ≡ each_part (λ p m. staying + defined_before space (named_modules parts.now) p) (named_modules parts.now)) }
+    ensures count { IfOk result (λ r. r.1 ≡ staying + defined_before space (named_modules parts.now) (length parts.now)) }
 {
     let mut firsts = Items::new(alloc);
     let mut first = staying;
     for part in 0..parts.len() {
         firsts.keep(first)?;
-        first += defined_count(kind, module_of(parts, part)) as u32;
+        first += defined_count(space, module_of(parts, part)) as u32;
     }
     Ok((firsts, first))
 }
 
-fn imported_of(alloc: Global, parts: &[Part], kind: Kind) -> Result<Items<u32>, NoMemory>
-    ensures { IfOk result (λ all. all ≡ each_part (imported_in (named_modules parts.now) (the_kind kind)) (named_modules parts.now)) }
+fn imported_of(alloc: Global, parts: &[Part], space: Space) -> Result<Items<u32>, NoMemory>
+    ensures { IfOk result (λ all. all ≡ each_part (imported_in (named_modules parts.now) space) (named_modules parts.now)) }
 {
     let mut imported = Items::new(alloc);
     for part in 0..parts.len() {
         let imports = module_of(parts, part).imports.as_slice();
-        imported.keep(imported_count(imports, kind))?;
+        imported.keep(imported_count(imports, space))?;
     }
     Ok(imported)
 }

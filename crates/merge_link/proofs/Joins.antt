@@ -10,6 +10,7 @@ use Rattle.wasm_tree.specs.declared.module.Import.{Import}
 use Rattle.wasm_tree.specs.declared.module.ExportDesc.{ExportDesc}
 use Rattle.wasm_tree.specs.declared.module.Module.{Module}
 use Rattle.wasm_meaning.specs.Linking as linking
+use Rattle.wasm_tree.specs.Spaces.{index_of_export, space_of_export}
 use Rattle.wasm_meaning.specs.World.{defined_before}
 use Rattle.merge_link.specs.declared.tables.Table.{Table}
 use Rattle.merge_link.specs.Tables.{AreTables, IsTableOf, imports_before, places_of}
@@ -76,20 +77,20 @@ placed test (x ∷ xs) k i n h = by (placed test xs (suc k)) (test x) i h
     by more false i e = omega (arith, more i n e)
 
 pub imported_none : (lp : List linking.Part) (ts : List Table) (e : linking.Entity) (t : Table) → AreTables lp ts → slice_get ts e.part ≡ Some t
-    → slice_get (places_of t (linking.kind_of_export e.what)) (linking.index_of_export e.what) ≡ None → linking.imported_as lp e ≡ None
+    → slice_get (places_of t (space_of_export e.what)) (index_of_export e.what) ≡ None → linking.imported_as lp e ≡ None
 imported_none lp ts e t are at found =
     let x = table_at lp ts e.part t are at in
-    let look : slice_get (linking.imports_of (linking.kind_of_export e.what) x.tree) (linking.index_of_export e.what) ≡ None
-    = ap (λ (ns : List ℕ). slice_get ns (linking.index_of_export e.what)) (sym (x.table.places (linking.kind_of_export e.what))) ∙ found in
+    let look : slice_get (linking.imports_of (space_of_export e.what) x.tree) (index_of_export e.what) ≡ None
+    = ap (λ (ns : List ℕ). slice_get ns (index_of_export e.what)) (sym (x.table.places (space_of_export e.what))) ∙ found in
     rw (x.at, look) refl
 
 pub imported_some : (lp : List linking.Part) (ts : List Table) (e : linking.Entity) (t : Table) (n : ℕ) → AreTables lp ts → slice_get ts e.part ≡ Some t
-    → slice_get (places_of t (linking.kind_of_export e.what)) (linking.index_of_export e.what) ≡ Some n → IsImportedAs lp e (Some (t.first_import + n))
+    → slice_get (places_of t (space_of_export e.what)) (index_of_export e.what) ≡ Some n → IsImportedAs lp e (Some (t.first_import + n))
 imported_some lp ts e t n are at found =
     let x = table_at lp ts e.part t are at in
-    let look : slice_get (linking.imports_of (linking.kind_of_export e.what) x.tree) (linking.index_of_export e.what) ≡ Some n
-    = ap (λ (ns : List ℕ). slice_get ns (linking.index_of_export e.what)) (sym (x.table.places (linking.kind_of_export e.what))) ∙ found in
-    let within = placed (linking.has_kind (linking.kind_of_export e.what)) x.tree.imports 0 (linking.index_of_export e.what) n look in
+    let look : slice_get (linking.imports_of (space_of_export e.what) x.tree) (index_of_export e.what) ≡ Some n
+    = ap (λ (ns : List ℕ). slice_get ns (index_of_export e.what)) (sym (x.table.places (space_of_export e.what))) ∙ found in
+    let within = placed (linking.has_kind (space_of_export e.what)) x.tree.imports 0 (index_of_export e.what) n look in
     let s : linking.Site = record { part = e.part; import = n } in
     let z : 0 + e.part ≡ e.part = omega arith in
     let number : slice_get (linking.sites lp) (imports_before lp e.part + n) ≡ Some s = site_at lp 0 e.part n x.tree x.at (omega (arith, within)) ∙ ap (λ p. let q : linking.Site = record { part = p; import = n } in Some q) z in

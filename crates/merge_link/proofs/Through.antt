@@ -14,6 +14,7 @@ use Rattle.wasm_tree.specs.declared.module.Module.{Module}
 use Rattle.wasm_meaning.specs.Paths as paths
 use Rattle.wasm_meaning.specs.Paths.Path.{ends, goes}
 use Rattle.wasm_meaning.specs.Linking as linking
+use Rattle.wasm_tree.specs.Spaces.{space_of_import}
 use Rattle.merge_terms.specs.declared.parts.Part.{Part}
 use Rattle.merge_terms.specs.declared.links.Read.{Read}
 use Rattle.merge_terms.specs.Faults as faults
@@ -23,7 +24,6 @@ use Rattle.merge_link.specs.Globals.{IsOwn, the_read}
 use Rattle.merge_link.specs.Reads.{AreValues, fixed_desc, fixed_read, own_value, read_past}
 use Rattle.merge_link.proofs.Found.{lengths_same, same_at}
 use Rattle.merge_link.proofs.Meets.{part_there}
-use Rattle.merge_link.proofs.Places.{place_is}
 
 -- the value of a defined global that has a number
 pub value_numbered : (ps : List Part) (values : List (Option Read)) (e : linking.Entity) (n : ℕ) (o : Option Read) → AreValues ps values → IsOwn (named_modules ps) e (Some n) → slice_get values n ≡ Some o
@@ -118,7 +118,7 @@ through lp law s i m e at there is end =
     one_step lp law s.part (const.Global x) ∙ ap (λ o. told lp (linking.end_step lp (option_and_then (linking.end_of lp) o))) site ∙ ap (λ o. told lp (linking.end_step lp o)) end ∙ past_end lp e
 
 tree_at : (lp : List linking.Part) (s : linking.Site) (i : Import) (m : Module) → linking.module_at lp s.part ≡ Some m → linking.import_at lp s ≡ Some i → slice_get m.imports s.import ≡ Some i
-tree_at lp s i m at there = sym (place_is m.imports s.import) ∙ sym (ap (λ o. option_and_then (λ t. slice_get t.imports s.import) o) at) ∙ there
+tree_at lp s i m at there = sym (ap (λ o. option_and_then (λ t. slice_get t.imports s.import) o) at) ∙ there
 
 pub fixed_is : (lp : List linking.Part) → ((p : ℕ) (x : ConstExpr) (r : linking.Read) → linking.Reads lp (record { part = p; expr = x }) r ↔ (linking.read_of lp p x ≡ Some r))
     → (s : linking.Site) (i : Import) (e : linking.End) → linking.import_at lp s ≡ Some i → linking.end_of lp s ≡ Some e → fixed_read lp s e ≡ read_at lp s
@@ -132,5 +132,5 @@ fixed_is lp law s i e there end =
     by (im.Table t) is m at tree = refl
     by (im.Memory t) is m at tree = refl
     by (im.Global t) is m at tree =
-        let kind : linking.has_kind Globals i ≡ true = ap (λ d. same_space Globals (linking.kind_of_import d)) is in
+        let kind : linking.has_kind Globals i ≡ true = ap (λ d. same_space Globals (space_of_import d)) is in
         ap (when_fixed t.mutable) (sym (ap (λ (o : Option Module). option_and_then (λ x. linking.read_of lp s.part (const.Global (linking.space_index x.imports s.import Globals))) o) at ∙ through lp law s i m e at tree kind end))

@@ -17,13 +17,13 @@ use Rattle.wasm_tree.specs.declared.module.ExportDesc.TheVariants as ex
 use Rattle.wasm_tree.specs.declared.module.Func.{Func}
 use Rattle.wasm_tree.specs.declared.module.GlobalDef.{GlobalDef}
 use Rattle.wasm_tree.specs.declared.module.Module.{Module}
-use Rattle.wasm_tree.specs.Spaces.{func_of, table_of, memory_of, global_of, imported_funcs, imported_tables, imported_memories, imported_globals, funcs_of}
+use Rattle.wasm_tree.specs.Spaces.{func_of, table_of, memory_of, global_of, imported_funcs, imported_tables, imported_memories, imported_globals, funcs_of, index_of_export, space_of_export, space_of_import}
 use Rattle.wasm_meaning.specs.Linking as linking
-use Rattle.wasm_meaning.specs.Values as values
+use Rattle.wasm_tree.specs.SameTypes as types
 use Rattle.merge_terms.specs.Faults as faults
 use Rattle.merge_link.specs.Externals.{own_func, own_table, own_memory, own_global}
 
-pub type_same : (a b : ValType) → (ValTypePartialEq.TheImpl.ghosts).eq a b ≡ values.same_type a b
+pub type_same : (a b : ValType) → (ValTypePartialEq.TheImpl.ghosts).eq a b ≡ types.same_type a b
 type_same valt.I32 valt.I32 = refl
 type_same valt.I32 valt.I64 = refl
 type_same valt.I32 (valt.Ref r) = refl
@@ -37,13 +37,13 @@ type_same (valt.Ref reft.Func) (valt.Ref reft.Extern) = refl
 type_same (valt.Ref reft.Extern) (valt.Ref reft.Func) = refl
 type_same (valt.Ref reft.Extern) (valt.Ref reft.Extern) = refl
 
-pub types_same : (E : ValType → ValType → Bool) → ((a b : ValType) → E a b ≡ values.same_type a b) → (xs ys : List ValType) → pointwise E xs ys ≡ values.same_types xs ys
+pub types_same : (E : ValType → ValType → Bool) → ((a b : ValType) → E a b ≡ types.same_type a b) → (xs ys : List ValType) → pointwise E xs ys ≡ types.same_types xs ys
 types_same E same [] [] = refl
 types_same E same [] (y ∷ ys) = refl
 types_same E same (x ∷ xs) [] = refl
-types_same E same (x ∷ xs) (y ∷ ys) = by (E x y) (values.same_type x y) (same x y) (types_same E same xs ys)
+types_same E same (x ∷ xs) (y ∷ ys) = by (E x y) (types.same_type x y) (same x y) (types_same E same xs ys)
   where
-    by : (a b : Bool) → a ≡ b → pointwise E xs ys ≡ values.same_types xs ys → a && pointwise E xs ys ≡ b && values.same_types xs ys
+    by : (a b : Bool) → a ≡ b → pointwise E xs ys ≡ types.same_types xs ys → a && pointwise E xs ys ≡ b && types.same_types xs ys
     by true true e rest = rest
     by true false e rest = absurd (cc)
     by false true e rest = absurd (cc)
@@ -64,7 +64,7 @@ count_funcs [] n = refl
 count_funcs (i ∷ is) n = by i.desc (count_funcs is (suc n))
   where
     by : (d : ImportDesc) → length (imported_funcs is) ≡ length (linking.places (linking.has_kind Functions) is (suc n))
-        → length (cons_option (func_of d) (imported_funcs is)) ≡ length (cond (same_space Functions (linking.kind_of_import d)) (n ∷ linking.places (linking.has_kind Functions) is (suc n)) (linking.places (linking.has_kind Functions) is (suc n)))
+        → length (cons_option (func_of d) (imported_funcs is)) ≡ length (cond (same_space Functions (space_of_import d)) (n ∷ linking.places (linking.has_kind Functions) is (suc n)) (linking.places (linking.has_kind Functions) is (suc n)))
     by (im.Func t) e = ap suc e
     by (im.Table t) e = e
     by (im.Memory t) e = e
@@ -75,7 +75,7 @@ count_tables [] n = refl
 count_tables (i ∷ is) n = by i.desc (count_tables is (suc n))
   where
     by : (d : ImportDesc) → length (imported_tables is) ≡ length (linking.places (linking.has_kind Tables) is (suc n))
-        → length (cons_option (table_of d) (imported_tables is)) ≡ length (cond (same_space Tables (linking.kind_of_import d)) (n ∷ linking.places (linking.has_kind Tables) is (suc n)) (linking.places (linking.has_kind Tables) is (suc n)))
+        → length (cons_option (table_of d) (imported_tables is)) ≡ length (cond (same_space Tables (space_of_import d)) (n ∷ linking.places (linking.has_kind Tables) is (suc n)) (linking.places (linking.has_kind Tables) is (suc n)))
     by (im.Func t) e = e
     by (im.Table t) e = ap suc e
     by (im.Memory t) e = e
@@ -86,7 +86,7 @@ count_memories [] n = refl
 count_memories (i ∷ is) n = by i.desc (count_memories is (suc n))
   where
     by : (d : ImportDesc) → length (imported_memories is) ≡ length (linking.places (linking.has_kind Memories) is (suc n))
-        → length (cons_option (memory_of d) (imported_memories is)) ≡ length (cond (same_space Memories (linking.kind_of_import d)) (n ∷ linking.places (linking.has_kind Memories) is (suc n)) (linking.places (linking.has_kind Memories) is (suc n)))
+        → length (cons_option (memory_of d) (imported_memories is)) ≡ length (cond (same_space Memories (space_of_import d)) (n ∷ linking.places (linking.has_kind Memories) is (suc n)) (linking.places (linking.has_kind Memories) is (suc n)))
     by (im.Func t) e = e
     by (im.Table t) e = e
     by (im.Memory t) e = ap suc e
@@ -97,7 +97,7 @@ count_globals [] n = refl
 count_globals (i ∷ is) n = by i.desc (count_globals is (suc n))
   where
     by : (d : ImportDesc) → length (imported_globals is) ≡ length (linking.places (linking.has_kind Globals) is (suc n))
-        → length (cons_option (global_of d) (imported_globals is)) ≡ length (cond (same_space Globals (linking.kind_of_import d)) (n ∷ linking.places (linking.has_kind Globals) is (suc n)) (linking.places (linking.has_kind Globals) is (suc n)))
+        → length (cons_option (global_of d) (imported_globals is)) ≡ length (cond (same_space Globals (space_of_import d)) (n ∷ linking.places (linking.has_kind Globals) is (suc n)) (linking.places (linking.has_kind Globals) is (suc n)))
     by (im.Func t) e = e
     by (im.Table t) e = e
     by (im.Memory t) e = e
@@ -134,8 +134,8 @@ past_none (x ∷ xs) (suc i) h = omega (arith, past_none xs i h)
 
 -- what is no import has an index behind those of the imports
 pub not_imported : (lp : List linking.Part) (e : linking.Entity) (m : Module) → linking.module_at lp e.part ≡ Some m → linking.imported_as lp e ≡ None
-    → length (linking.imports_of (linking.kind_of_export e.what) m) ≤ linking.index_of_export e.what
-not_imported lp e m at none = past_none (linking.imports_of (linking.kind_of_export e.what) m) (linking.index_of_export e.what) (by (slice_get (linking.imports_of (linking.kind_of_export e.what) m) (linking.index_of_export e.what)) (rw at at none))
+    → length (linking.imports_of (space_of_export e.what) m) ≤ index_of_export e.what
+not_imported lp e m at none = past_none (linking.imports_of (space_of_export e.what) m) (index_of_export e.what) (by (slice_get (linking.imports_of (space_of_export e.what) m) (index_of_export e.what)) (rw at at none))
   where
     by : (o : Option ℕ) → option_and_then (λ n. let s : linking.Site = record { part = e.part; import = n } in Some s) o ≡ None → o ≡ None
     by None h = refl

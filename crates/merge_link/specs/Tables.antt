@@ -1,7 +1,7 @@
 -- What is looked up in parts, by the definitions of linking by name.
 use Rattle.std.specs.Prelude.{◌≡◌, ◌+◌, ◌<◌, ℕ, zero, suc, List, [], ◌∷◌, length, Some, slice_get}
 use Rattle.wasm_tree.specs.declared.space.Space.{Space}
-use Rattle.wasm_tree.specs.declared.space.Space.TheVariants.{Functions, Tables, Memories, Globals}
+use Rattle.wasm_tree.specs.declared.space.Space.TheVariants.{Types, Functions, Tables, Memories, Globals, ElementSegments, DataSegments}
 use Rattle.std.specs.BTreeMap.{BTreeMap, get_by}
 use Rattle.std.specs.Ordering.{nat_cmp}
 use Rattle.std.specs.Cmp.Lexicographic.{slice_cmp}
@@ -10,15 +10,7 @@ use Rattle.wasm_tree.specs.declared.module.Import.{Import}
 use Rattle.wasm_tree.specs.declared.module.Module.{Module}
 use Rattle.wasm_meaning.specs.Linking as linking
 use Rattle.wasm_meaning.specs.World.{defined_before}
-use Rattle.merge_link.specs.declared.tables.Kind.{Kind}
-use Rattle.merge_link.specs.declared.tables.Kind.TheVariants as kind
 use Rattle.merge_link.specs.declared.tables.Table.{Table}
-
-abbrev pub the_kind : Kind → Space
-the_kind kind.Functions = Functions
-the_kind kind.Tables = Tables
-the_kind kind.Memories = Memories
-the_kind kind.Globals = Globals
 
 -- how many imports the first parts have
 abbrev pub imports_before : List linking.Part → ℕ → ℕ
@@ -31,6 +23,9 @@ places_of t Functions = t.funcs.items
 places_of t Tables = t.tables.items
 places_of t Memories = t.memories.items
 places_of t Globals = t.globals.items
+places_of t Types = []
+places_of t ElementSegments = []
+places_of t DataSegments = []
 
 -- these are the places of the module's imports
 abbrev pub HasPlaces : Module → Table → Type 0

@@ -8,7 +8,6 @@ ghost use Rattle.merge_link.specs.Cutting.{cut_by, import_counts};
 ghost use Rattle.merge_link.specs.Joining.{the_end};
 
 use crate::joining::Ending;
-use crate::tables::index_of_export;
 use merge_terms::{End, Part};
 use std::alloc::{AllocError, Global};
 use wasm_bytes::{Items, NoMemory};
@@ -20,7 +19,7 @@ fn end_entry(end: Ending) -> End
     match end {
         Ending::Defined(entity) => End::Defined {
             part: entity.part,
-            index: index_of_export(entity.what),
+            index: entity.what.index(),
         },
         Ending::Outside(site) => End::Outside {
             part: site.part,

@@ -3,8 +3,9 @@
 ghost use Rattle.std.specs.Prelude.{None, length, option_map, ◌≡◌, ◌≤◌};
 ghost use Rattle.merge_terms.specs.Faults as faults;
 ghost use Rattle.merge_terms.specs.Parts.{named_modules};
+ghost use Rattle.wasm_tree.specs.Spaces.{index_of_export, space_of_export};
 ghost use Rattle.wasm_meaning.specs.Linking as linking;
-ghost use Rattle.wasm_meaning.specs.Values as values;
+ghost use Rattle.wasm_tree.specs.SameTypes as types;
 ghost use Rattle.wasm_meaning.specs.World as world;
 ghost use Rattle.merge_link.specs.Sites.{IsThere, the_site};
 ghost use Rattle.merge_link.specs.Tables.{HasPlaces};
@@ -13,7 +14,7 @@ ghost use Rattle.merge_link.specs.Externals.{own_func, own_global, own_memory, o
 
 use crate::joining::{Ending, Entity, Joining};
 use crate::sites::{Site, import_at};
-use crate::tables::{Table, index_of_export, kind_of_export};
+use crate::tables::Table;
 use wasm_tree::{
     ExportDesc, FuncType, GlobalType, Import, ImportDesc, Limits, Module, TableType, ValType,
 };
@@ -28,13 +29,13 @@ pub enum External<'a> {
 }
 
 fn same_types(a: &[ValType], b: &[ValType]) -> bool
-    ensures { result ≡ values.same_types a.now b.now }
+    ensures { result ≡ types.same_types a.now b.now }
 {
     a == b
 }
 
 fn same_func_type(a: &FuncType, b: &FuncType) -> bool
-    ensures { result ≡ values.same_func_type a.now b.now }
+    ensures { result ≡ types.same_func_type a.now b.now }
 {
     same_types(a.params.as_slice(), b.params.as_slice())
         && same_types(a.results.as_slice(), b.results.as_slice())
@@ -149,10 +150,10 @@ fn defined_global<'a>(module: &'a Module, place: usize) -> Option<External<'a>>
 // An entry of an index space that the module defines.
 fn defined<'a>(module: &'a Module, table: &Table, what: ExportDesc) -> Option<External<'a>>
     requires places { HasPlaces «module».now table.now }
-    requires own { length (linking.imports_of (linking.kind_of_export what) «module».now) ≤ linking.index_of_export what }
+    requires own { length (linking.imports_of (space_of_export what) «module».now) ≤ index_of_export what }
     ensures { option_map the_external result ≡ faults.external_of «module».now what }
 {
-    let place = index_of_export(what) as usize - table.imported(kind_of_export(what));
+    let place = what.index() as usize - table.imported(what.space());
     match what {
         ExportDesc::Func(_) => defined_func(module, place),
         ExportDesc::Table(_) => defined_table(module, place),

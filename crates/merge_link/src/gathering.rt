@@ -10,10 +10,9 @@ ghost use Rattle.merge_link.specs.Gathering.{AreFirst, AreLinked, EndsThere, IsS
 
 use crate::joining::{Ending, Joining};
 use crate::sites::{Site, import_at};
-use crate::tables::{Kind, has_kind};
 use std::alloc::{AllocError, Global};
 use std::collections::BTreeMap;
-use wasm_tree::Import;
+use wasm_tree::{Import, Space};
 
 impl<'a> Joining<'a> {
     /// The import at a place, where it is a memory that stays.
@@ -25,7 +24,7 @@ impl<'a> Joining<'a> {
             Ending::Defined(_) => None,
             Ending::Outside(at) => {
                 let import = import_at(self.parts, site);
-                if at == site && has_kind(Kind::Memories, import) {
+                if at == site && import.desc.is_in(Space::Memories) {
                     Some(import)
                 } else {
                     None
@@ -75,7 +74,7 @@ impl<'a> Joining<'a> {
             Ending::Defined(_) => end,
             Ending::Outside(site) => {
                 let import = import_at(self.parts, site);
-                if has_kind(Kind::Memories, import) {
+                if import.desc.is_in(Space::Memories) {
                     match firsts.get(&(import.module.as_str(), import.field.as_str())) {
                         None => end,
                         Some(first) => Ending::Outside(*first),

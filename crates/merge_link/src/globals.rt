@@ -10,12 +10,11 @@ ghost use Rattle.merge_link.specs.Globals.{AreOwn, IsEndStep, IsOwn, own_read, o
 
 use crate::joining::{Ending, Entity, Joining};
 use crate::sites::Site;
-use crate::tables::{Kind, index_of_export};
 use merge_terms::{LinkFault, Read};
 use path_ends::{Step, endings};
 use std::alloc::{AllocError, Global};
 use wasm_meaning::ends_and_reads_are_paths;
-use wasm_tree::{ConstExpr, ExportDesc};
+use wasm_tree::{ConstExpr, ExportDesc, Space};
 
 /// A global that a part defines: the part, its index in that part's global space, and its value expression.
 #[derive(Clone, Copy, Drop)]
@@ -35,7 +34,7 @@ impl<'a> Joining<'a> {
         let mut all = Vec::new(alloc);
         for (at, part) in self.parts.iter().enumerate() {
             let globals = part.module.module().globals.as_slice();
-            let imported = self.tables[at].imported(Kind::Globals);
+            let imported = self.tables[at].imported(Space::Globals);
             for place in 0..globals.len() {
                 all.push(OwnGlobal {
                     part: at as u32,
@@ -55,8 +54,8 @@ impl<'a> Joining<'a> {
         match self.tables.get(entity.part as usize) {
             None => None,
             Some(table) => {
-                let index = index_of_export(entity.what) as usize;
-                let place = index.saturating_sub(table.imported(Kind::Globals));
+                let index = entity.what.index() as usize;
+                let place = index.saturating_sub(table.imported(Space::Globals));
                 let globals = self.parts[entity.part as usize]
                     .module
                     .module()

@@ -7,7 +7,7 @@ ghost use Rattle.merge_link.specs.Sites.{AreSites, the_site};
 ghost use Rattle.merge_link.specs.Joining.{AreSteps, AreStops, IsImportedAs, IsJoining, IsStep, end_at, the_end, the_entity};
 
 use crate::sites::{Site, import_at};
-use crate::tables::{Table, index_of_export, kind_of_export};
+use crate::tables::Table;
 use merge_terms::Part;
 use path_ends::{Step, endings};
 use std::alloc::{AllocError, Global};
@@ -55,7 +55,7 @@ impl<'a> Joining<'a> {
         ensures { IsImportedAs (named_modules self.now.parts.now) (the_entity entity) result }
     {
         let table = self.tables.get(entity.part as usize)?;
-        let place = table.place(kind_of_export(entity.what), index_of_export(entity.what))?;
+        let place = table.place(entity.what.space(), entity.what.index())?;
         Some(table.first_import() + place)
     }
 

@@ -9,21 +9,12 @@ ghost use Rattle.std.specs.Cmp.Lexicographic.{slice_cmp};
 ghost use Rattle.merge_terms.specs.Faults.{own_globals};
 ghost use Rattle.merge_terms.specs.Parts.{named_modules};
 ghost use Rattle.wasm_meaning.specs.Linking as linking;
-ghost use Rattle.merge_link.specs.Tables.{AreIndices, AreNames, AreTables, IsTableOf, imports_before, places_of, the_kind};
+ghost use Rattle.merge_link.specs.Tables.{AreIndices, AreNames, AreTables, IsTableOf, imports_before, places_of};
 
 use merge_terms::Part;
 use std::alloc::{AllocError, Global};
 use std::collections::BTreeMap;
-use wasm_tree::{Export, ExportDesc, Import, ImportDesc, Module};
-
-/// The kinds of what is imported and exported, one for each index space.
-#[derive(Clone, Copy, Debug, PartialEq, Eq)]
-pub enum Kind {
-    Functions,
-    Tables,
-    Memories,
-    Globals,
-}
+use wasm_tree::{Export, ExportDesc, Import, Module, Space};
 
 /// What is looked up in a part.
 #[derive(Drop)]
@@ -36,55 +27,6 @@ pub struct Table<'a> {
     indices: Vec<u32>,
     first_import: u32,
     first_global: u32,
-}
-
-/// The kind of what is imported.
-pub fn kind_of_import(desc: ImportDesc) -> Kind
-    ensures { the_kind result ≡ linking.kind_of_import desc }
-{
-    match desc {
-        ImportDesc::Func(_) => Kind::Functions,
-        ImportDesc::Table(_) => Kind::Tables,
-        ImportDesc::Memory(_) => Kind::Memories,
-        ImportDesc::Global(_) => Kind::Globals,
-    }
-}
-
-/// The kind of what is exported.
-pub fn kind_of_export(desc: ExportDesc) -> Kind
-    ensures { the_kind result ≡ linking.kind_of_export desc }
-{
-    match desc {
-        ExportDesc::Func(_) => Kind::Functions,
-        ExportDesc::Table(_) => Kind::Tables,
-        ExportDesc::Memory(_) => Kind::Memories,
-        ExportDesc::Global(_) => Kind::Globals,
-    }
-}
-
-/// The index of what is exported in the index space of its kind.
-pub fn index_of_export(desc: ExportDesc) -> u32
-    ensures { result ≡ linking.index_of_export desc }
-{
-    match desc {
-        ExportDesc::Func(index) => index,
-        ExportDesc::Table(index) => index,
-        ExportDesc::Memory(index) => index,
-        ExportDesc::Global(index) => index,
-    }
-}
-
-/// Whether the import is of the kind.
-pub fn has_kind(kind: Kind, import: &Import) -> bool
-    ensures { result ≡ linking.has_kind (the_kind kind) import.now }
-{
-    match (kind, import.desc) {
-        (Kind::Functions, ImportDesc::Func(_)) => true,
-        (Kind::Tables, ImportDesc::Table(_)) => true,
-        (Kind::Memories, ImportDesc::Memory(_)) => true,
-        (Kind::Globals, ImportDesc::Global(_)) => true,
-        _ => false,
-    }
 }
 
 // What each name stands for, from the last export to the first, so that the first that bears a name counts.
@@ -102,14 +44,14 @@ fn exported<'a>(
     Ok(map)
 }
 
-// The places of the imports of a kind.
-fn places(alloc: Global, imports: &[Import], kind: Kind) -> Result<Vec<u32>, AllocError>
+// The places of the imports that add to an index space.
+fn places(alloc: Global, imports: &[Import], space: Space) -> Result<Vec<u32>, AllocError>
     requires { length imports.now < 2 ^ 32 }
-    ensures { IfOk result (λ places. places.items ≡ linking.places (linking.has_kind (the_kind kind)) imports.now 0) }
+    ensures { IfOk result (λ places. places.items ≡ linking.places (linking.has_kind space) imports.now 0) }
 {
     let mut places = Vec::new(alloc);
     for (at, import) in imports.iter().enumerate() {
-        if has_kind(kind, import) {
+        if import.desc.is_in(space) {
             places.push(at as u32)?;
         }
     }
@@ -125,7 +67,7 @@ fn global_indices(alloc: Global, imports: &[Import]) -> Result<Vec<u32>, AllocEr
     let mut count: u32 = 0;
     for import in imports {
         indices.push(count)?;
-        if has_kind(Kind::Globals, import) {
+        if import.desc.is_in(Space::Globals) {
             count += 1;
         }
     }
@@ -144,10 +86,10 @@ fn table_of<'a>(
     let imports = module.imports.as_slice();
     Ok(Table {
         exports: exported(alloc, module.exports.as_slice())?,
-        funcs: places(alloc, imports, Kind::Functions)?,
-        tables: places(alloc, imports, Kind::Tables)?,
-        memories: places(alloc, imports, Kind::Memories)?,
-        globals: places(alloc, imports, Kind::Globals)?,
+        funcs: places(alloc, imports, Space::Functions)?,
+        tables: places(alloc, imports, Space::Tables)?,
+        memories: places(alloc, imports, Space::Memories)?,
+        globals: places(alloc, imports, Space::Globals)?,
         indices: global_indices(alloc, imports)?,
         first_import,
         first_global,
@@ -194,27 +136,29 @@ impl<'a> Table<'a> {
     }
 
     /// The place in the import section of an entry of an index space, where it is imported.
-    pub fn place(&self, kind: Kind, index: u32) -> Option<u32>
-        ensures { result ≡ slice_get (places_of self.now (the_kind kind)) index }
+    pub fn place(&self, space: Space, index: u32) -> Option<u32>
+        ensures { result ≡ slice_get (places_of self.now space) index }
     {
-        let places = match kind {
-            Kind::Functions => &self.funcs,
-            Kind::Tables => &self.tables,
-            Kind::Memories => &self.memories,
-            Kind::Globals => &self.globals,
+        let places = match space {
+            Space::Functions => &self.funcs,
+            Space::Tables => &self.tables,
+            Space::Memories => &self.memories,
+            Space::Globals => &self.globals,
+            Space::Types | Space::ElementSegments | Space::DataSegments => return None,
         };
         places.get(index as usize).copied()
     }
 
     /// How many entries of an index space are imported.
-    pub fn imported(&self, kind: Kind) -> usize
-        ensures { result ≡ length (places_of self.now (the_kind kind)) }
+    pub fn imported(&self, space: Space) -> usize
+        ensures { result ≡ length (places_of self.now space) }
     {
-        match kind {
-            Kind::Functions => self.funcs.len(),
-            Kind::Tables => self.tables.len(),
-            Kind::Memories => self.memories.len(),
-            Kind::Globals => self.globals.len(),
+        match space {
+            Space::Functions => self.funcs.len(),
+            Space::Tables => self.tables.len(),
+            Space::Memories => self.memories.len(),
+            Space::Globals => self.globals.len(),
+            Space::Types | Space::ElementSegments | Space::DataSegments => 0,
         }
     }
 

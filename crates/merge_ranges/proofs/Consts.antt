@@ -12,7 +12,8 @@ use Rattle.wasm_tree.specs.declared.module.DataMode.TheVariants as segment
 use Rattle.wasm_tree.specs.declared.module.DataSeg.{DataSeg}
 use Rattle.wasm_tree.specs.declared.module.Module.{Module}
 use Rattle.wasm_meaning.specs.Paths.{Next, Ends, Goes, walk, walk_on}
-use Rattle.wasm_meaning.specs.Linking.{Part, Site, End, Defined, Outside, Entity, Read, module_at, imports_of, space_index, index_of_export, initial, end_step, end_of, global_import, expr_step, read_step, initials_from, read_of}
+use Rattle.wasm_meaning.specs.Linking.{Part, Site, End, Defined, Outside, Entity, Read, module_at, imports_of, space_index, initial, end_step, end_of, global_import, expr_step, read_step, initials_from, read_of}
+use Rattle.wasm_tree.specs.Spaces.{index_of_export}
 use Rattle.index_remap.specs.declared.remap.Remap.{Remap}
 use Rattle.index_remap.specs.Renumbered.{new_const}
 use Rattle.merge_terms.specs.Merged.{map_of, merged_read, merged_const, merged_global, merged_elem_mode, merged_elem, merged_data_mode, merged_data}

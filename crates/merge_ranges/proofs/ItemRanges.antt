@@ -31,7 +31,7 @@ use Rattle.wasm_valid.specs.Constants.{const_type}
 use Rattle.wasm_valid.specs.SpaceTypes.{table_types, elem_types}
 use Rattle.wasm_valid.specs.Named.{refs_of, named_from, named_of}
 use Rattle.wasm_valid.specs.Validity.{ImportHolds, InSpace, ElemModeHolds, DataModeHolds, IsSingle, HoldsAt, start_count, count_of, body_context}
-use Rattle.wasm_format.specs.Words.{Every}
+use Rattle.base_lists.specs.Every.{Every}
 use Rattle.wasm_tree.specs.declared.types.ValType.TheVariants.{Ref}
 use Rattle.plain_law.specs.Ranges.{all_in_range, MaxInRange, ConstInRange, ImportDescInRange, ImportInRange, ExportDescInRange, ExportInRange, ElemModeInRange, ElemInRange, DataModeInRange, FuncInRange, InRange}
 use Rattle.merge_ranges.proofs.Numbers.{all_numbers_in, ConstNumberInRange, ImportLimitsInRange, ImportNumbersInRange, FuncNumbersInRange, ElemOffsetInRange, ElemNumbersInRange, DataOffsetInRange, NumbersInRange}

@@ -5,7 +5,7 @@ use Rattle.wasm_tree.specs.declared.module.ImportDesc.{ImportDesc}
 use Rattle.wasm_tree.specs.declared.module.ImportDesc.TheVariants as im
 use Rattle.wasm_tree.specs.declared.module.Import.{Import}
 use Rattle.wasm_tree.specs.declared.module.Module.{Module}
-use Rattle.wasm_format.specs.Words.{Every}
+use Rattle.base_lists.specs.Every.{Every}
 use Rattle.wasm_meaning.specs.Linking.{Part, Site, module_at, import_at, sites, linked_end, is_outside, limits_of, consed, demands, least, met, met_limits}
 use Rattle.plain_law.specs.Ranges.{MaxInRange, LimitsInRange, ImportDescInRange, ImportInRange, InRange}
 use Rattle.merge_ranges.proofs.Lists.{every_place, from_some, at_part}

@@ -6,7 +6,7 @@ use Rattle.std.specs.Fmt.{digits, digits_onto, digit_glyph}
 use Rattle.std.proofs.lemmas.Bool.Decides.{nat_tests}
 use Rattle.std.proofs.lemmas.Str.{IsUtf8-append, IsUtf8-from_ascii}
 use Rattle.wasm_tree.specs.declared.module.Export.{Export}
-use Rattle.wasm_format.specs.Words.{Every}
+use Rattle.base_lists.specs.Every.{Every}
 use Rattle.export_names.specs.declared.mode.Mode.{Mode}
 use Rattle.export_names.specs.declared.mode.Mode.TheVariants.{Refuse, Rename, Skip}
 use Rattle.export_names.specs.Names.{among, numbered, least_free, new_name, renamed_behind, kept_behind, new_names}

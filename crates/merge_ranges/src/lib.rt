@@ -4,7 +4,7 @@
 ghost use Rattle.std.specs.Prelude.{List};
 ghost use Rattle.wasm_tree.specs.Bounds.{IsBounded};
 ghost use Rattle.wasm_valid.specs.Validity.{IsSingle, IsValid};
-ghost use Rattle.wasm_format.specs.Words.{Every};
+ghost use Rattle.base_lists.specs.Every.{Every};
 ghost use Rattle.wasm_meaning.specs.Linking.{Part};
 ghost use Rattle.export_names.specs.declared.mode.Mode.{Mode};
 ghost use Rattle.merge_terms.specs.Joined.{joined_module};

@@ -1,5 +1,5 @@
 -- Small merges, computed: the definitions give the faults and the modules that the rules ask for.
-use Rattle.std.proofs.Common.{◌≡◌, refl, ℕ, List, [], ◌∷◌, Option, Some, None, false}
+use Rattle.std.proofs.Common.{◌≡◌, refl, ℕ, zero, suc, List, [], ◌∷◌, Option, Some, None, false, slice_get, length, ap, arith}
 use Rattle.std.specs.Prelude.{pos}
 use Rattle.wasm_tree.specs.declared.types.ValType.{ValType}
 use Rattle.wasm_tree.specs.declared.types.ValType.TheVariants as valt
@@ -22,6 +22,7 @@ use Rattle.wasm_meaning.specs.State.{Text}
 use Rattle.wasm_meaning.specs.Linking.{Part}
 use Rattle.merge_terms.specs.declared.faults.LinkFault.TheVariants.{ImportMismatch, ImportCycle, LimitsClash, TooManyMemories, GlobalCycle}
 use Rattle.merge_terms.specs.Faults.{link_fault, import_fault, clash_fault, memory_fault, memory_count, global_fault, own_globals, stays, kept_limits}
+use Rattle.merge_terms.specs.Types.{AreFirstAppearances}
 use Rattle.merge_terms.specs.Merged.{merged, merged_types, place_of_type, map_of, merged_const, merged_import, starts, defined_funcs, all_exports, staying, staying_of, place_of_end, new_index}
 
 abbrev a : Text
@@ -141,6 +142,31 @@ nothing_stays = refl
 one_type : (merged calling (Some f ∷ Some g ∷ [])).types ≡ gives ∷ []
 unfolding merged merged_types
 one_type = refl
+
+-- types of two parts, some of which are equal: each once, where it appears first
+abbrev with_types_of : Text → List FuncType → Part
+with_types_of name types = part name (record empty { types = types })
+
+three_types : (merged (with_types_of a (gives ∷ takes ∷ []) ∷ with_types_of b (takes ∷ nothing ∷ gives ∷ []) ∷ []) []).types ≡ gives ∷ takes ∷ nothing ∷ []
+unfolding merged merged_types
+three_types = refl
+
+-- another order is refused, and a type that stands twice
+another_order : AreFirstAppearances (gives ∷ takes ∷ []) (takes ∷ gives ∷ []) → ⊥
+another_order h = let w = h.in_order 0 1 takes gives (omega arith) refl refl 0 refl in let low = w.1 in omega (arith, low)
+
+a_type_twice : AreFirstAppearances (gives ∷ gives ∷ []) (gives ∷ gives ∷ []) → ⊥
+a_type_twice h = let e = h.apart 0 1 gives refl refl in omega (arith, e)
+
+a_type_left_out : AreFirstAppearances (gives ∷ takes ∷ []) (gives ∷ []) → ⊥
+a_type_left_out h = by (h.kept 1 takes refl)
+  where
+    by : (n : ℕ) × (slice_get (gives ∷ []) n ≡ Some takes) → ⊥
+    by (zero, e) =
+        let same : gives ≡ takes = cc in
+        let many : 0 ≡ 1 = ap (λ (t : FuncType). length t.params) same in
+        omega (arith, many)
+    by (suc n, e) = absurd (cc)
 
 both_exports : (merged calling (Some f ∷ Some g ∷ [])).exports ≡ export f (ex.Func 0) ∷ export g (ex.Func 1) ∷ []
 unfolding merged all_exports map_of staying staying_of place_of_end new_index stays

@@ -3,4 +3,5 @@ pub mod Faults
 pub mod Linked
 pub mod Merged
 pub mod Joined
+pub mod Types
 pub mod View

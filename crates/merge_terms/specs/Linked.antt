@@ -6,7 +6,8 @@ use Rattle.wasm_tree.specs.declared.types.GlobalType.{GlobalType}
 use Rattle.wasm_tree.specs.declared.module.ImportDesc.{ImportDesc}
 use Rattle.wasm_tree.specs.declared.module.ImportDesc.TheVariants as im
 use Rattle.wasm_tree.specs.declared.module.ConstExpr.TheVariants as const
-use Rattle.wasm_meaning.specs.Linking.{Part, Site, module_at, import_at, space_index, sites_in, index_of_export, linked_end, read_of}
+use Rattle.wasm_meaning.specs.Linking.{Part, Site, module_at, import_at, space_index, sites_in, linked_end, read_of}
+use Rattle.wasm_tree.specs.Spaces.{index_of_export}
 use Rattle.wasm_meaning.specs.Linking as linking
 use Rattle.merge_terms.specs.Faults.{kept_limits}
 use Rattle.merge_terms.specs.declared.links.End.{End}

@@ -1,5 +1,5 @@
 -- The merged module: its lists are filters and joins of the parts' lists, and its indices are places in these.
-use Rattle.std.specs.Prelude.{ℕ, suc, ◌+◌, ◌-◌, List, [], ◌∷◌, ◌++◌, map, filter, length, Option, Some, None, Bool, cond, slice_index, unwrap_or}
+use Rattle.std.specs.Prelude.{ℕ, suc, ◌+◌, ◌-◌, List, [], ◌∷◌, ◌++◌, map, filter, length, Option, Some, None, Bool, false, cond, slice_index, slice_get, unwrap_or}
 use Rattle.wasm_tree.specs.declared.space.Space.{Space}
 use Rattle.wasm_tree.specs.declared.space.Space.TheVariants.{Functions, Tables, Memories, Globals, DataSegments, ElementSegments}
 use Rattle.base_lists.specs.Options.{◌>>=◌}
@@ -9,8 +9,6 @@ use Rattle.wasm_tree.specs.declared.module.Import.{Import}
 use Rattle.wasm_tree.specs.declared.module.ImportDesc.{ImportDesc}
 use Rattle.wasm_tree.specs.declared.module.ImportDesc.TheVariants as im
 use Rattle.wasm_tree.specs.declared.module.Export.{Export}
-use Rattle.wasm_tree.specs.declared.module.ExportDesc.{ExportDesc}
-use Rattle.wasm_tree.specs.declared.module.ExportDesc.TheVariants as ex
 use Rattle.wasm_tree.specs.declared.module.ConstExpr.{ConstExpr}
 use Rattle.wasm_tree.specs.declared.module.Func.{Func}
 use Rattle.wasm_tree.specs.declared.module.GlobalDef.{GlobalDef}
@@ -22,11 +20,11 @@ use Rattle.wasm_tree.specs.declared.module.DataMode.{DataMode}
 use Rattle.wasm_tree.specs.declared.module.DataMode.TheVariants as data'
 use Rattle.wasm_tree.specs.declared.module.Module.{Module}
 use Rattle.wasm_tree.specs.declared.instr.Instr.TheVariants.{Call}
-use Rattle.wasm_tree.specs.Spaces.{funcs_of, tables_of, memories_of, globals_of}
+use Rattle.wasm_tree.specs.Spaces.{funcs_of, tables_of, memories_of, globals_of, index_of_export}
 use Rattle.wasm_meaning.specs.State.{Text}
-use Rattle.wasm_meaning.specs.Values.{same_func_type}
+use Rattle.wasm_tree.specs.SameTypes.{same_func_type}
 use Rattle.wasm_meaning.specs.World.{defined_before, numbers}
-use Rattle.wasm_meaning.specs.Linking.{Part, Site, End, Defined, Outside, Entity, Read, first_place, has_kind, module_at, import_at, imports_of, index_of_export, same_site, imported_as, sites, linked_end, met_limits, read_of}
+use Rattle.wasm_meaning.specs.Linking.{Part, Site, End, Defined, Outside, Read, first_place, has_kind, module_at, import_at, imports_of, same_site, sites, linked_end, met_limits, read_of}
 use Rattle.index_remap.specs.declared.remap.Remap.{Remap}
 use Rattle.index_remap.specs.Renumbered.{new_const, new_func, new_export}
 use Rattle.merge_terms.specs.Faults.{stays}
@@ -47,27 +45,22 @@ staying_of parts k = filter (imports_kind parts k) (staying parts)
 abbrev pub imported_count : List Part → ℕ → Space → ℕ
 imported_count parts p k = unwrap_or (module_at parts p >>= λ m. Some (length (imports_of k m))) 0
 
--- the place of an end in the merged index space of its kind: of what stays among the imports, of what is defined after these, by part
+-- the place in the merged index space of what a part defines at an index of its own: after what stays imported, and after what the parts before it define
+abbrev pub place_of_defined : List Part → Space → (part index : ℕ) → ℕ
+place_of_defined parts k p i = length (staying_of parts k) + (defined_before k parts p + (i - imported_count parts p k))
+
+-- the place of an end in the merged index space of its kind
 unfoldable pub place_of_end : List Part → Space → End → ℕ
 place_of_end parts k (Outside s) = unwrap_or (first_place (same_site s) (staying_of parts k) 0) 0
-place_of_end parts k (Defined e) = length (staying_of parts k) + (defined_before k parts e.part + (index_of_export e.what - imported_count parts e.part k))
+place_of_end parts k (Defined e) = place_of_defined parts k e.part (index_of_export e.what)
 
-abbrev pub entry_of : Space → ℕ → ExportDesc
-entry_of Functions i = ex.Func i
-entry_of Tables i = ex.Table i
-entry_of Memories i = ex.Memory i
-entry_of Globals i = ex.Global i
-
-abbrev pub end_from : List Part → Entity → Option Site → Option End
-end_from parts e None = Some (Defined e)
-end_from parts e (Some s) = linked_end parts s
-
--- the end of an entry of a part's index space: itself where the part defines it, otherwise the import's
-abbrev pub entry_end : List Part → Entity → Option End
-entry_end parts e = end_from parts e (imported_as parts e)
+-- the place of an entry of a part's index space, which the part defines, or which is the import at a place
+abbrev pub place_of_entry : List Part → (part : ℕ) → Space → (index : ℕ) → (import : Option ℕ) → Option ℕ
+place_of_entry parts p k i None = Some (place_of_defined parts k p i)
+place_of_entry parts p k i (Some n) = linked_end parts (record { part = p; import = n }) >>= λ end. Some (place_of_end parts k end)
 
 unfoldable pub new_index : List Part → ℕ → Space → ℕ → ℕ
-new_index parts p k i = unwrap_or (entry_end parts (record { part = p; what = entry_of k i }) >>= λ end. Some (place_of_end parts k end)) 0
+new_index parts p k i = unwrap_or (module_at parts p >>= λ m. place_of_entry parts p k i (slice_get (imports_of k m) i)) 0
 
 -- ---- types ----
 

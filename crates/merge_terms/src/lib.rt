@@ -2,9 +2,11 @@
 #![tactic(auto)]
 
 mod faults;
+mod laws;
 mod links;
 mod parts;
 
 pub use faults::{JoinFault, LinkFault};
+pub use laws::merged_types_are_distinct;
 pub use links::{End, Links, Read};
 pub use parts::Part;

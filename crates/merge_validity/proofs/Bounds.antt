@@ -5,7 +5,7 @@ use Rattle.wasm_tree.specs.declared.space.Space.TheVariants.{Functions, Tables, 
 use Rattle.std.specs.Prelude.{slice_get}
 use Rattle.std.proofs.lemmas.Bool.{ltb-false}
 use Rattle.std.proofs.lemmas.List.{length-append}
-use Rattle.wasm_tree.proofs.Places.{filter_map_most}
+use Rattle.base_lists.proofs.Found.{filter_map_most}
 use Rattle.wasm_tree.specs.declared.which.Which.{Which}
 use Rattle.wasm_tree.specs.declared.which.Which.TheVariants as which
 use Rattle.wasm_tree.specs.declared.module.Func.{Func}
@@ -19,11 +19,12 @@ use Rattle.wasm_meaning.specs.Linking.{Part, count_of, sites}
 use Rattle.index_remap.specs.References.{declared, declared_refs, with_declared, declaring}
 use Rattle.merge_terms.specs.declared.faults.LinkFault.TheVariants.{TooManyMemories}
 use Rattle.merge_terms.specs.Faults.{stays, is_staying_memory, memory_count, memory_fault}
+use Rattle.wasm_tree.specs.Limits.{limit}
 use Rattle.merge_terms.specs.Joined.{or_above, over_limit}
 use Rattle.merge_terms.specs.Merged.{merged, staying, staying_of, imports_kind, by_part}
-use Rattle.merge_validity.proofs.Lists.{count_kept, filter_both}
 use Rattle.merge_validity.proofs.Entities.{of_import, own, imported, space, own_many}
 use Rattle.merge_validity.proofs.MergedSpaces.{own_is, moved_own, extra, all_own, imported_many}
+use Rattle.base_lists.proofs.Filtered.{count_kept, filter_both}
 
 -- ---- one memory ----
 
@@ -48,8 +49,8 @@ merged_single parts names h =
     let u = merged parts names in
     let a = imported_many parts names Memories in
     let b = staying_memories parts in
-    let c = ap length (own_is parts names Memories) ∙ length-append (by_part (moved_own parts Memories) parts) [] in
-    let d = all_own parts Memories in
+    let c = ap length (own_is parts names Memories refl) ∙ length-append (by_part (moved_own parts Memories) parts) [] in
+    let d = all_own parts Memories refl in
     let e = count_is parts in
     let f = few_memories parts h in
     let z : length (memories_of u) ≡ length (imported Memories u) + length (own Memories u) = length-append (imported Memories u) (own Memories u) in
@@ -59,25 +60,25 @@ merged_single parts names h =
 -- ---- limits ----
 
 record Within (m : Module) : Type 0 where
-  types : length m.types ≤ 1000000
-  imports : length m.imports ≤ 1000000
-  funcs : length m.funcs ≤ 1000000
-  tables : length m.tables ≤ 10000
-  mems : length m.mems ≤ 10000
-  globals : length m.globals ≤ 1000000
-  exports : length m.exports ≤ 1000000
-  elems : length m.elems ≤ 300000
-  datas : length m.datas ≤ 300000
+  types : length m.types ≤ limit which.Types
+  imports : length m.imports ≤ limit which.Imports
+  funcs : length m.funcs ≤ limit which.Functions
+  tables : length m.tables ≤ limit which.Tables
+  mems : length m.mems ≤ limit which.Memories
+  globals : length m.globals ≤ limit which.Globals
+  exports : length m.exports ≤ limit which.Exports
+  elems : length m.elems ≤ limit which.ElementSegments
+  datas : length m.datas ≤ limit which.DataSegments
 
-not_above : (count limit : ℕ) (w : Which) (rest : Option Which) → or_above count limit w rest ≡ None → count ≤ limit
-not_above count limit w rest h = ltb-false limit count (by (nat_lt limit count) h)
+not_above : (count : ℕ) (w : Which) (rest : Option Which) → or_above count w rest ≡ None → count ≤ limit w
+not_above count w rest h = ltb-false (limit w) count (by (nat_lt (limit w) count) h)
   where
     by : (b : Bool) → cond b (Some w) rest ≡ None → b ≡ false
     by true h = cc
     by false h = refl
 
-not_later : (count limit : ℕ) (w : Which) (rest : Option Which) → or_above count limit w rest ≡ None → rest ≡ None
-not_later count limit w rest h = by (nat_lt limit count) h
+not_later : (count : ℕ) (w : Which) (rest : Option Which) → or_above count w rest ≡ None → rest ≡ None
+not_later count w rest h = by (nat_lt (limit w) count) h
   where
     by : (b : Bool) → cond b (Some w) rest ≡ None → rest ≡ None
     by true h = cc
@@ -86,24 +87,24 @@ not_later count limit w rest h = by (nat_lt limit count) h
 within_limits : (m : Module) → over_limit m ≡ None → Within m
 unfolding over_limit
 within_limits m h =
-    let h1 = not_later (length m.types) 1000000 which.Types _ h in
-    let h2 = not_later (length m.imports) 1000000 which.Imports _ h1 in
-    let h3 = not_later (length m.funcs) 1000000 which.Functions _ h2 in
-    let h4 = not_later (length m.tables) 10000 which.Tables _ h3 in
-    let h5 = not_later (length m.mems) 10000 which.Memories _ h4 in
-    let h6 = not_later (length m.globals) 1000000 which.Globals _ h5 in
-    let h7 = not_later (length m.exports) 1000000 which.Exports _ h6 in
-    let h8 = not_later (length m.elems) 300000 which.ElementSegments _ h7 in
+    let h1 = not_later (length m.types) which.Types _ h in
+    let h2 = not_later (length m.imports) which.Imports _ h1 in
+    let h3 = not_later (length m.funcs) which.Functions _ h2 in
+    let h4 = not_later (length m.tables) which.Tables _ h3 in
+    let h5 = not_later (length m.mems) which.Memories _ h4 in
+    let h6 = not_later (length m.globals) which.Globals _ h5 in
+    let h7 = not_later (length m.exports) which.Exports _ h6 in
+    let h8 = not_later (length m.elems) which.ElementSegments _ h7 in
     record {
-      types = not_above (length m.types) 1000000 which.Types _ h;
-      imports = not_above (length m.imports) 1000000 which.Imports _ h1;
-      funcs = not_above (length m.funcs) 1000000 which.Functions _ h2;
-      tables = not_above (length m.tables) 10000 which.Tables _ h3;
-      mems = not_above (length m.mems) 10000 which.Memories _ h4;
-      globals = not_above (length m.globals) 1000000 which.Globals _ h5;
-      exports = not_above (length m.exports) 1000000 which.Exports _ h6;
-      elems = not_above (length m.elems) 300000 which.ElementSegments _ h7;
-      datas = not_above (length m.datas) 300000 which.DataSegments None h8;
+      types = not_above (length m.types) which.Types _ h;
+      imports = not_above (length m.imports) which.Imports _ h1;
+      funcs = not_above (length m.funcs) which.Functions _ h2;
+      tables = not_above (length m.tables) which.Tables _ h3;
+      mems = not_above (length m.mems) which.Memories _ h4;
+      globals = not_above (length m.globals) which.Globals _ h5;
+      exports = not_above (length m.exports) which.Exports _ h6;
+      elems = not_above (length m.elems) which.ElementSegments _ h7;
+      datas = not_above (length m.datas) which.DataSegments None h8;
     }
 
 -- a tree with its references declared has no fewer segments, and all else as it was
@@ -145,8 +146,8 @@ module_bounded m h locals =
     let st = space_few Tables m in
     let sm = space_few Memories m in
     let sg = space_few Globals m in
-    let of = own_many Functions m in
-    let og = own_many Globals m in
+    let of = own_many Functions m refl in
+    let og = own_many Globals m refl in
     record {
       types = omega (arith, ty);
       imports = omega (arith, i);

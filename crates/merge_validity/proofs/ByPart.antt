@@ -9,7 +9,7 @@ use Rattle.wasm_tree.specs.declared.module.Module.{Module}
 use Rattle.wasm_meaning.specs.World.{defined_count, defined_before}
 use Rattle.wasm_meaning.specs.Linking.{Part, module_at}
 use Rattle.merge_terms.specs.Merged.{by_part_from}
-use Rattle.merge_validity.proofs.Lists.{front, behind, split}
+use Rattle.base_lists.proofs.Places.{append_at_left, append_right, append_from}
 
 -- how many the first parts have
 abbrev pub before : (Module → ℕ) → List Part → ℕ → ℕ
@@ -40,13 +40,13 @@ by_part_at f count e first (part ∷ parts) zero m j x h g =
     let at_first : first + 0 ≡ first = omega arith in
     let here : slice_get (f first part.«module») j ≡ Some x = ap₂ (λ p n. slice_get (f p n) j) (sym at_first) same ∙ g in
     let z : 0 + j ≡ j = omega arith in
-    ap (slice_get (f first part.«module» ++ by_part_from f (suc first) parts)) z ∙ front (f first part.«module») (by_part_from f (suc first) parts) j x here
+    ap (slice_get (f first part.«module» ++ by_part_from f (suc first) parts)) z ∙ append_at_left (f first part.«module») (by_part_from f (suc first) parts) j x here
 by_part_at f count e first (part ∷ parts) (suc q) m j x h g =
     let n : first + suc q ≡ suc first + q = omega arith in
     let later = by_part_at f count e (suc first) parts q m j x h (ap (λ p. slice_get (f p m) j) (sym n) ∙ g) in
     let many = e first part.«module» in
     let at : (count part.«module» + before count parts q) + j ≡ length (f first part.«module») + (before count parts q + j) = omega (arith, many) in
-    ap (slice_get (f first part.«module» ++ by_part_from f (suc first) parts)) at ∙ behind (f first part.«module») (by_part_from f (suc first) parts) (before count parts q + j) ∙ later
+    ap (slice_get (f first part.«module» ++ by_part_from f (suc first) parts)) at ∙ append_right (f first part.«module») (by_part_from f (suc first) parts) (before count parts q + j) ∙ later
 
 -- an entry comes from a part
 pub record From {A : Type 0} (f : ℕ → Module → List A) (first : ℕ) (parts : List Part) (x : A) : Type 0 where
@@ -58,7 +58,7 @@ pub record From {A : Type 0} (f : ℕ → Module → List A) (first : ℕ) (part
 
 pub by_part_back : {A : Type 0} (f : ℕ → Module → List A) (first : ℕ) (parts : List Part) (i : ℕ) (x : A) → slice_get (by_part_from f first parts) i ≡ Some x → From f first parts x
 by_part_back f first [] i x h = absurd (let k = h in cc)
-by_part_back {A} f first (part ∷ parts) i x h = by (split (f first part.«module») (by_part_from f (suc first) parts) i x h) (λ j g. by_part_back f (suc first) parts j x g)
+by_part_back {A} f first (part ∷ parts) i x h = by (append_from (f first part.«module») (by_part_from f (suc first) parts) i x h) (λ j g. by_part_back f (suc first) parts j x g)
   where
     by : (slice_get (f first part.«module») i ≡ Some x) ⊎ ((k : ℕ) × (i ≡ length (f first part.«module») + k) × (slice_get (by_part_from f (suc first) parts) k ≡ Some x)) →
         ((j : ℕ) → slice_get (by_part_from f (suc first) parts) j ≡ Some x → From f (suc first) parts x) → From f first (part ∷ parts) x
@@ -84,10 +84,6 @@ by_part_same f g e first (part ∷ parts) = ap₂ (λ a b. a ++ b) (e first part
 pub by_part_flat : {A : Type 0} (f : Module → List A) (first : ℕ) (parts : List Part) → flat_map (λ p. f p.«module») parts ≡ by_part_from (λ p m. f m) first parts
 by_part_flat f first [] = refl
 by_part_flat f first (part ∷ parts) = ap (λ z. f part.«module» ++ z) (by_part_flat f (suc first) parts)
-
-pub map_twice : {A B C : Type 0} (g : B → C) (f : A → B) (xs : List A) → map g (map f xs) ≡ map (λ x. g (f x)) xs
-map_twice g f [] = refl
-map_twice g f (x ∷ xs) = ap (λ z. g (f x) ∷ z) (map_twice g f xs)
 
 pub map_self : {A : Type 0} (xs : List A) → map (λ x. x) xs ≡ xs
 map_self [] = refl

@@ -11,30 +11,34 @@ use Rattle.wasm_tree.specs.declared.types.GlobalType.{GlobalType}
 use Rattle.wasm_tree.specs.declared.module.Import.{Import}
 use Rattle.wasm_tree.specs.declared.module.ConstExpr.{ConstExpr}
 use Rattle.wasm_tree.specs.declared.module.ConstExpr.TheVariants as const
+use Rattle.wasm_tree.specs.declared.module.ExportDesc.TheVariants as ex
 use Rattle.wasm_tree.specs.declared.module.GlobalDef.{GlobalDef}
 use Rattle.wasm_tree.specs.declared.module.Module.{Module}
-use Rattle.wasm_tree.specs.Spaces.{funcs_of, globals_of, imported_globals}
+use Rattle.wasm_tree.specs.Spaces.{funcs_of, globals_of, imported_globals, index_of_export}
 use Rattle.wasm_typing.specs.Typing.{only}
 use Rattle.wasm_valid.specs.declared.kinds.ItemKind.TheVariants as kind
 use Rattle.wasm_valid.specs.Constants.{const_type}
 use Rattle.wasm_meaning.specs.State.{Text}
 use Rattle.wasm_meaning.specs.Paths.{Next, Ends, Goes, Path, ends, goes}
 use Rattle.wasm_meaning.specs.Laws.{EndsArePaths, ReadsArePaths}
-use Rattle.wasm_meaning.specs.Linking.{Part, Site, Outside, Entity, Read, places, has_kind, space_index, module_at, imports_of, index_of_export, imported_as, end_of, initial, outside_read, end_step, read_step, read_of}
+use Rattle.wasm_meaning.specs.Linking.{Part, Site, Outside, Entity, Read, places, has_kind, space_index, module_at, imports_of, global_import, end_of, initial, outside_read, end_step, read_step, read_of}
 use Rattle.index_remap.specs.declared.remap.Remap.{Remap}
 use Rattle.index_remap.specs.Renumbered.{fits_const, new_const}
 use Rattle.remap_typing.specs.Indices.{Indices, with_entry, ConstNamesOnly}
 use Rattle.remap_typing.specs.Trees.{TreesAgree, ReadsImport, ConstStands}
 use Rattle.remap_typing.proofs.Lists.{left_true, right_true, then_there, only_true, only_rest}
-use Rattle.merge_terms.specs.Merged.{merged, map_of, merged_read, merged_const, staying_of, place_of_end, end_from, new_index}
+use Rattle.merge_terms.specs.Merged.{merged, map_of, merged_read, merged_const, staying_of, place_of_end, new_index}
 use Rattle.merge_validity.specs.Entries.{HasEntry}
-use Rattle.merge_validity.proofs.Lists.{place_get, place_of, places_many, map_back, then_is, within, there, front}
 use Rattle.merge_validity.proofs.Entities.{of_import, own, imported, space, import_kind, GlobalTy, type_of, asked_type}
 use Rattle.merge_validity.proofs.Linked.{AreLinked, import_site}
 use Rattle.merge_validity.proofs.Ends.{EndsInside, EndsOutside, Landed, inside, outside}
 use Rattle.merge_validity.proofs.MergedSpaces.{imported_many}
-use Rattle.merge_validity.proofs.Entries.{inside_own, own_entry, outside_kind, outside_place, kind_there, some_there, entity_at, site_at, index_is, entry_import, joined_entry}
+use Rattle.merge_validity.proofs.Entries.{inside_own, own_entry, outside_kind, outside_place, kind_there, site_at, imported_is, index_imported, joined_entry}
 use Rattle.merge_validity.proofs.Agree.{ItemsHold, entry_at, entries_many, trees_agree}
+use Rattle.base_lists.proofs.Options.{is_some_there, and_then_is}
+use Rattle.std.proofs.lemmas.Option.{slice_get_within}
+use Rattle.base_lists.proofs.Places.{slice_get_there, map_from, append_at_left}
+use Rattle.base_lists.proofs.Filtered.{place_of, places_many}
 
 -- ---- constant expressions of one module ----
 
@@ -64,7 +68,7 @@ const_fits m r (const.I32 v) ty a b h = refl
 const_fits m r (const.I64 v) ty a b h = refl
 const_fits m r (const.Null t) ty a b h = refl
 const_fits m r (const.Func f) ty a b h = let l = ltb-true _ _ (only_true (nat_lt f (length (funcs_of m))) (Some (Ref func_ref)) ty h) in lt-ltb _ _ (omega (arith, l, a))
-const_fits m r (const.Global x) ty a b h = let g = reads_global m x ty h in let l = within (globals_of m) x g.global g.at in lt-ltb _ _ (omega (arith, l, b))
+const_fits m r (const.Global x) ty a b h = let g = reads_global m x ty h in let l = slice_get_within (globals_of m) x g.global g.at in lt-ltb _ _ (omega (arith, l, b))
 
 const_named : (r : Remap) (e : ConstExpr) → IsTrue (fits_const r e) → ConstNamesOnly (with_entry r) e
 const_named r (const.I32 v) h = tt
@@ -75,8 +79,8 @@ const_named r (const.Global x) h = h
 
 pub map_fits : (parts : List Part) (p : ℕ) (m : Module) (e : ConstExpr) (ty : ValType) → const_type m e ≡ Some ty → IsTrue (fits_const (map_of parts p m) e)
 map_fits parts p m e ty h =
-    let f = entries_many parts p m Functions in
-    let g = entries_many parts p m Globals in
+    let f = entries_many parts p m Functions refl in
+    let g = entries_many parts p m Globals refl in
     const_fits m (map_of parts p m) e ty (omega (arith, f)) (omega (arith, g)) h
 
 -- ---- the place of an import in its space ----
@@ -120,10 +124,10 @@ module _ (ends_law : EndsArePaths) (parts : List Part) (names : List (Option Tex
       let m = import_site parts w.to w.stays.import w.stays.at in
       let x = space_index m.0.imports w.to.import k in
       let h = outside_kind parts k s (GlobalTy g) refl w in
-      let at : slice_get m.0.imports w.to.import ≡ Some w.stays.import = sym (place_get m.0.imports w.to.import) ∙ m.2 in
+      let at : slice_get m.0.imports w.to.import ≡ Some w.stays.import = m.2 in
       let z : 0 + w.to.import ≡ w.to.import = omega arith in
       let p : slice_get (imports_of k m.0) x ≡ Some w.to.import = index_place k m.0.imports w.to.import 0 w.stays.import at h ∙ ap Some z in
-      let c = some_there (of_import k w.stays.import) (import_kind k w.stays.import ∙ h) in
+      let c = is_some_there (of_import k w.stays.import) (import_kind k w.stays.import ∙ h) in
       let got = place_of (has_kind k) (of_import k) m.0.imports (import_kind k) 0 x w.to.import p in
       let n : w.to.import ≡ got.0 = (let d = got.2 in omega (arith, d)) in
       let both : Some w.stays.import ≡ Some got.1 = sym at ∙ ap (slice_get m.0.imports) n ∙ got.3 in
@@ -131,15 +135,15 @@ module _ (ends_law : EndsArePaths) (parts : List Part) (names : List (Option Tex
       let is_c : slice_get (imported k m.0) x ≡ Some c.0 = got.5 ∙ ap (of_import k) same ∙ c.1 in
       let asks = kind_there parts w.to w.stays.import w.thing m.0 m.1 m.2 w.asks in
       let c_g : c.0 ≡ g = global_type c.0 g (asked_type m.0 k w.stays.import.desc c.0 w.thing c.1 asks ∙ ap Some w.typed) in
-      let lt = within (imported k m.0) x c.0 is_c in
-      let at_x : slice_get (globals_of m.0) x ≡ Some g = front (imported k m.0) (own k m.0) x c.0 is_c ∙ ap Some c_g in
+      let lt = slice_get_within (imported k m.0) x c.0 is_c in
+      let at_x : slice_get (globals_of m.0) x ≡ Some g = append_at_left (imported k m.0) (own k m.0) x c.0 is_c ∙ ap Some c_g in
       let q : Read = record { part = w.to.part; expr = const.Global x } in
       let out : outside_read parts w.to ≡ Some q = ap (λ o. option_and_then {T = Module} {U = Read} (λ m. Some (record { part = w.to.part; expr = const.Global (space_index m.imports w.to.import Globals) })) o) m.1 in
-      let space_lt : x < length (space k m.0) = within (space k m.0) x g at_x in
+      let space_lt : x < length (space k m.0) = slice_get_within (space k m.0) x g at_x in
       let entry : new_index parts w.to.part k x ≡ place_of_end parts k (Outside w.to) =
-      index_is parts w.to.part k x (Outside w.to) (ap (end_from parts (entity_at w.to.part k x)) (entry_import parts w.to.part m.0 k x m.1 ∙ ap (λ o. option_and_then {T = ℕ} {U = Site} (λ n. Some (record { part = w.to.part; import = n })) o) p) ∙ w.stays.linked) in
-      let in_map : slice_index (map_of parts w.to.part m.0).globals x ≡ place_of_end parts k (Outside w.to) = entry_at parts w.to.part m.0 k x space_lt ∙ entry in
-      let few : place_of_end parts k (Outside w.to) < length (staying_of parts k) = within (staying_of parts k) _ w.to (outside_place parts k w.to w.stays h) in
+      index_imported parts w.to.part m.0 k x w.to.import (Outside w.to) m.1 p w.stays.linked in
+      let in_map : slice_index (map_of parts w.to.part m.0).globals x ≡ place_of_end parts k (Outside w.to) = entry_at parts w.to.part m.0 k x refl space_lt ∙ entry in
+      let few : place_of_end parts k (Outside w.to) < length (staying_of parts k) = slice_get_within (staying_of parts k) _ w.to (outside_place parts k w.to w.stays h) in
       let many = imported_many parts names k in
       let imports : slice_index (map_of parts w.to.part m.0).globals x < length (imported k (merged parts names)) = omega (arith, in_map, few, many) in
       stop q (step ∙ ap (end_step parts) w.end ∙ ap (λ t. option_and_then (λ r. Some (Ends r)) (outside_read parts t)) (sym to) ∙ ap (λ o. option_and_then {T = Read} {U = Next Read Read} (λ r. Some (Ends r)) o) out)
@@ -151,11 +155,11 @@ module _ (ends_law : EndsArePaths) (parts : List Part) (names : List (Option Tex
       let k = Globals in
       let o = inside_own parts k s (GlobalTy g) refl w in
       let n = index_of_export w.entity.what in
-      let c = then_is (slice_get (space k w.of) n) (type_of w.of k) (GlobalTy g) o.typed in
+      let c = and_then_is (slice_get (space k w.of) n) (type_of w.of k) (GlobalTy g) o.typed in
       let at : slice_get (own k w.of) (n - length (imports_of k w.of)) ≡ Some c.0 = own_entry k w.of n c.0 o.own c.1 in
       let c_g : c.0 ≡ g = global_type c.0 g c.2 in
-      let d = map_back (λ (g : GlobalDef). g.ty) w.of.globals (n - length (imports_of k w.of)) c.0 at in
-      let got : slice_get w.of.globals (n - length (imports_of k w.of)) ≡ Some d.0 = place_get w.of.globals (n - length (imports_of k w.of)) ∙ d.1 in
+      let d = map_from (λ (g : GlobalDef). g.ty) w.of.globals (n - length (imports_of k w.of)) c.0 at in
+      let got : slice_get w.of.globals (n - length (imports_of k w.of)) ≡ Some d.0 = d.1 in
       let init : initial parts w.entity ≡ Some d.0.init =
       ap (λ o. option_and_then (λ m. option_and_then (λ g. Some g.init) (slice_get m.globals (index_of_export w.entity.what - length (imports_of Globals m)))) o) w.is_part ∙ ap (λ o. option_and_then {T = GlobalDef} (λ g. Some g.init) o) got in
       on w.entity w.of (n - length (imports_of k w.of)) d.0
@@ -165,10 +169,10 @@ module _ (ends_law : EndsArePaths) (parts : List Part) (names : List (Option Tex
   global_step p x m ty is g =
       let lt = g.imported in
       let many = places_many (has_kind Globals) (of_import Globals) m.imports (import_kind Globals) 0 in
-      let n = there (imports_of Globals m) x (omega (arith, lt, many)) in
-      let at : slice_get (imports_of Globals m) x ≡ Some n.0 = place_get (imports_of Globals m) x ∙ n.1 in
+      let n = slice_get_there (imports_of Globals m) x (omega (arith, lt, many)) in
+      let at : slice_get (imports_of Globals m) x ≡ Some n.0 = n.1 in
       let j = joined_entry ends_law parts links p m Globals x n.0 (GlobalTy g.global) is at (ap (λ o. option_and_then (type_of m Globals) o) g.at) in
-      let import : imported_as parts (entity_at p Globals x) ≡ Some (site_at p n.0) = entry_import parts p m Globals x is ∙ ap (λ o. option_and_then {T = ℕ} {U = Site} (λ n. Some (record { part = p; import = n })) o) at in
+      let import : global_import parts p x ≡ Some (site_at p n.0) = imported_is parts Globals p m (ex.Global x) x is refl refl ∙ ap (λ o. option_and_then {T = ℕ} {U = Site} (λ n. Some (record { part = p; import = n })) o) at in
       subst (Step (record { part = p; expr = const.Global x })) g.typed
       (lands (site_at p n.0) (ap (λ o. end_step parts (option_and_then (end_of parts) o)) import) j.lands)
     where
@@ -187,7 +191,7 @@ module _ (ends_law : EndsArePaths) (parts : List Part) (names : List (Option Tex
     -- the value of a global that a part defines has the global's type
     init_typed : (m : Module) → ItemsHold m → (j : ℕ) (g : GlobalDef) → slice_get m.globals j ≡ Some g → const_type m g.init ≡ Some g.ty.ty
     init_typed m holds j g at =
-        let z = holds kind.Global j (within m.globals j g at) in
+        let z = holds kind.Global j (slice_get_within m.globals j g at) in
         let both : Some z.0 ≡ Some g = sym z.1 ∙ at in
         let same : z.0 ≡ g = cc in
         subst (λ (g : GlobalDef). const_type m g.init ≡ Some g.ty.ty) same z.2
@@ -216,7 +220,7 @@ module _ (ends_law : EndsArePaths) (parts : List Part) (names : List (Option Tex
         let z = ended (record { part = p; expr = e }) r ((reads_law parts p e r).1 reads) m ty is t in
         record { of = z.of; is_part = z.is_part; fits = map_fits parts r.part z.of r.expr ty z.typed }
 
-    -- what is read is there
+    -- what is read is slice_get_there
     pub read_there : (p : ℕ) (e : ConstExpr) (m : Module) (ty : ValType) → module_at parts p ≡ Some m → const_type m e ≡ Some ty → (r : Read) × (read_of parts p e ≡ Some r)
     read_there p e m ty is t = by (step_of p e m ty is t)
       where

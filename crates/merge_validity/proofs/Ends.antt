@@ -6,12 +6,15 @@ use Rattle.wasm_tree.specs.declared.module.Import.{Import}
 use Rattle.wasm_tree.specs.declared.module.Module.{Module}
 use Rattle.wasm_meaning.specs.Paths.{Next, Ends, Path, ends, goes}
 use Rattle.wasm_meaning.specs.Laws.{EndsArePaths}
-use Rattle.wasm_meaning.specs.Linking.{Part, Site, End, Defined, Outside, Entity, module_at, import_at, imported_as, joined, entity_step, joined_step, import_step, sites, end_of, is_outside, same_memory, same_pair, pair_of, has_kind, stays_as, first_site, gathered_at, gathered, linked_end, kind_of_import}
+use Rattle.wasm_meaning.specs.Linking.{Part, Site, End, Defined, Outside, Entity, module_at, import_at, imported_as, joined, entity_step, joined_step, import_step, sites, end_of, is_outside, same_memory, same_pair, pair_of, has_kind, stays_as, first_site, gathered_at, gathered, linked_end}
+use Rattle.wasm_tree.specs.Spaces.{space_of_import}
 use Rattle.merge_terms.specs.Faults.{External, asked, asked_at, found, external_of}
-use Rattle.merge_validity.proofs.Lists.{then_is}
-use Rattle.merge_validity.proofs.Same.{both_are, cond_both, site_is, site_same, pair_is, pair_same, kind_is}
+use Rattle.merge_validity.proofs.Same.{site_is, site_same, pair_is, pair_same, kind_is}
 use Rattle.merge_validity.proofs.Entities.{Ty, FuncTy, TableTy, MemoryTy, GlobalTy, bare, kind_of, asked_kind}
 use Rattle.merge_validity.proofs.Linked.{Suited, AreLinked, import_site, in_sites}
+use Rattle.base_lists.proofs.Bools.{and_false}
+use Rattle.base_lists.proofs.Options.{and_then_is}
+use Rattle.std.proofs.lemmas.Bool.{and_parts, and_from}
 
 -- ---- paths ----
 
@@ -86,16 +89,12 @@ first_none : (f : Site → Bool) → ((s : Site) → f s ≡ false) → (xs : Li
 first_none f e [] d = refl
 first_none f e (x ∷ xs) d = ap₂ (λ b r. cond b x r) (e x) (first_none f e xs d)
 
-never : (b : Bool) → b && false ≡ false
-never true = refl
-never false = refl
-
 none_same : (i : Import) → has_kind Memories i ≡ false → (o : Option Import) → same_memory i o ≡ false
 none_same i e None = refl
 none_same i e (Some j) = ap (λ b. b && (has_kind Memories j && same_pair (pair_of i) (pair_of j))) e
 
 none_as : (parts : List Part) (i : Import) → has_kind Memories i ≡ false → (s : Site) → stays_as parts i s ≡ false
-none_as parts i e s = ap (λ b. is_outside s (end_of parts s) && b) (none_same i e (import_at parts s)) ∙ never (is_outside s (end_of parts s))
+none_as parts i e s = ap (λ b. is_outside s (end_of parts s) && b) (none_same i e (import_at parts s)) ∙ and_false (is_outside s (end_of parts s))
 
 -- the memories of one module and field name are the same ones
 same_alike : (i j : Import) → has_kind Memories i ≡ true → has_kind Memories j ≡ true → pair_of i ≡ pair_of j → (o : Option Import) → same_memory j o ≡ same_memory i o
@@ -121,8 +120,8 @@ outside_is u (Some (Outside t)) h = ap (λ z. Some (Outside z)) (sym (site_is u 
 memory_is : (i : Import) (o : Option Import) → same_memory i o ≡ true → (j : Import) × (o ≡ Some j) × (has_kind Memories j ≡ true) × (pair_of i ≡ pair_of j)
 memory_is i None h = absurd (let k = h in cc)
 memory_is i (Some j) h =
-    let a = both_are (has_kind Memories i) (has_kind Memories j && same_pair (pair_of i) (pair_of j)) h in
-    let b = both_are (has_kind Memories j) (same_pair (pair_of i) (pair_of j)) a.1 in
+    let a = and_parts (has_kind Memories i) (has_kind Memories j && same_pair (pair_of i) (pair_of j)) h in
+    let b = and_parts (has_kind Memories j) (same_pair (pair_of i) (pair_of j)) a.1 in
     (j, refl, b.0, pair_is (pair_of i) (pair_of j) b.1)
 
 -- where one ends, the one stays to which memories are gathered, and it is the same or a memory as it is
@@ -153,10 +152,10 @@ gathers parts t i at own = by (has_kind Memories i) refl
         let n = in_sites parts t i at in
         let f = stays_as parts i in
         let u = first_site f (sites parts) t in
-        let alike : same_memory i (import_at parts t) ≡ true = ap (same_memory i) at ∙ cond_both (has_kind Memories i) (has_kind Memories i && same_pair (pair_of i) (pair_of i)) e (cond_both (has_kind Memories i) (same_pair (pair_of i) (pair_of i)) e (pair_same (pair_of i))) in
+        let alike : same_memory i (import_at parts t) ≡ true = ap (same_memory i) at ∙ and_from (has_kind Memories i) (has_kind Memories i && same_pair (pair_of i) (pair_of i)) e (and_from (has_kind Memories i) (same_pair (pair_of i) (pair_of i)) e (pair_same (pair_of i))) in
         let out : is_outside t (end_of parts t) ≡ true = ap (is_outside t) own ∙ site_same t in
-        let yes : f t ≡ true = cond_both (is_outside t (end_of parts t)) (same_memory i (import_at parts t)) out alike in
-        let u_yes = both_are (is_outside u (end_of parts u)) (same_memory i (import_at parts u)) (first_yes f (sites parts) n.0 t t n.1 yes) in
+        let yes : f t ≡ true = and_from (is_outside t (end_of parts t)) (same_memory i (import_at parts t)) out alike in
+        let u_yes = and_parts (is_outside u (end_of parts u)) (same_memory i (import_at parts u)) (first_yes f (sites parts) n.0 t t n.1 yes) in
         let own_u : end_of parts u ≡ Some (Outside u) = outside_is u (end_of parts u) u_yes.0 in
         let j = memory_is i (import_at parts u) u_yes.1 in
         let again : first_site (stays_as parts j.0) (sites parts) u ≡ u = first_same (stays_as parts j.0) f (as_alike parts i j.0 e j.2 j.3) (sites parts) u ∙ first_any f (sites parts) n.0 t u t n.1 yes in
@@ -210,7 +209,7 @@ memory_type (TableTy t) h = cc
 memory_type MemoryTy h = refl
 memory_type (GlobalTy t) h = cc
 
-pub kind_asked : (parts : List Part) (u : Site) (j : Import) (x : External) → import_at parts u ≡ Some j → asked_at parts u ≡ Some x → kind_of (bare x) ≡ kind_of_import j.desc
+pub kind_asked : (parts : List Part) (u : Site) (j : Import) (x : External) → import_at parts u ≡ Some j → asked_at parts u ≡ Some x → kind_of (bare x) ≡ space_of_import j.desc
 kind_asked parts u j x at h =
     let m = import_site parts u j at in
     let a : asked_at parts u ≡ asked m.0 j.desc = ap (λ o. option_and_then (λ m. option_and_then (λ i. asked m i.desc) (slice_get m.imports u.import)) o) m.1 ∙ ap (λ o. option_and_then (λ i. asked m.0 i.desc) o) m.2 in
@@ -220,7 +219,7 @@ pub lands_inside : EndsArePaths → (parts : List Part) (s : Site) (w : Suited p
 lands_inside law parts s w d e =
     let ended : end_of parts s ≡ Some (Defined d) = w.ends ∙ ap Some e in
     let finds : option_and_then (λ m. external_of m d.what) (module_at parts d.part) ≡ Some w.thing = ap (found parts) (sym e) ∙ w.finds in
-    let m = then_is (module_at parts d.part) (λ m. external_of m d.what) w.thing finds in
+    let m = and_then_is (module_at parts d.part) (λ m. external_of m d.what) w.thing finds in
     record {
       entity = d;
       end = ended;
@@ -236,15 +235,15 @@ lands_inside law parts s w d e =
 -- where an import is a memory or not, the one to which it is gathered has its type
 pub gathered_type : (parts : List Part) (t : Site) (i : Import) (g : Gathers parts t i) (x z : External) → import_at parts t ≡ Some i → asked_at parts t ≡ Some x → asked_at parts g.to ≡ Some z → (b : Bool) → has_kind Memories i ≡ b → bare z ≡ bare x
 gathered_type parts t i g x z at h k true e =
-    let a : kind_of (bare x) ≡ Memories = kind_asked parts t i x at h ∙ sym (kind_is Memories (kind_of_import i.desc) e) in
-    let b : kind_of (bare z) ≡ Memories = kind_asked parts g.to g.stays.import z g.stays.at k ∙ sym (kind_is Memories (kind_of_import g.stays.import.desc) (g.memory e)) in
+    let a : kind_of (bare x) ≡ Memories = kind_asked parts t i x at h ∙ sym (kind_is Memories (space_of_import i.desc) e) in
+    let b : kind_of (bare z) ≡ Memories = kind_asked parts g.to g.stays.import z g.stays.at k ∙ sym (kind_is Memories (space_of_import g.stays.import.desc) (g.memory e)) in
     memory_type (bare z) b ∙ sym (memory_type (bare x) a)
 gathered_type parts t i g x z at h k false e =
     let both : Some z ≡ Some x = sym k ∙ ap (asked_at parts) (g.other e) ∙ h in
     let same : z ≡ x = cc in ap bare same
 
 gathered_same : (parts : List Part) (t : Site) (i : Import) (g : Gathers parts t i) (x : External) → import_at parts t ≡ Some i → asked_at parts t ≡ Some x → (kind_of (bare x) ≡ Memories → ⊥) → (b : Bool) → has_kind Memories i ≡ b → g.to ≡ t
-gathered_same parts t i g x at h other true e = absurd (other (kind_asked parts t i x at h ∙ sym (kind_is Memories (kind_of_import i.desc) e)))
+gathered_same parts t i g x at h other true e = absurd (other (kind_asked parts t i x at h ∙ sym (kind_is Memories (space_of_import i.desc) e)))
 gathered_same parts t i g x at h other false e = g.other e
 
 lands_outside : EndsArePaths → (parts : List Part) (links : AreLinked parts) (s : Site) (w : Suited parts s) (t : Site) → w.end ≡ Outside t → EndsOutside parts s (bare w.demand)

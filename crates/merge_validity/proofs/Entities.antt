@@ -1,7 +1,7 @@
--- The four kinds of entities at once: what an entry of an index space is, and its type, with the limits of tables and memories left aside.
-use Rattle.std.proofs.Common.{◌≡◌, ◌∙◌, ap, ap₂, sym, refl, ℕ, List, ◌++◌, map, length, Option, Some, None, true}
+-- The index spaces of entities at once: what an entry of one is, and its type, with the limits of tables and memories left aside. Types and segments are no entities.
+use Rattle.std.proofs.Common.{◌≡◌, ◌∙◌, ap, ap₂, sym, refl, ℕ, List, ◌++◌, map, length, Option, Some, None, true, is_some, []}
 use Rattle.wasm_tree.specs.declared.space.Space.{Space}
-use Rattle.wasm_tree.specs.declared.space.Space.TheVariants.{Functions, Tables, Memories, Globals}
+use Rattle.wasm_tree.specs.declared.space.Space.TheVariants.{Types, Functions, Tables, Memories, Globals, ElementSegments, DataSegments}
 use Rattle.std.specs.Prelude.{slice_get, option_and_then}
 use Rattle.std.specs.List.{filter_map}
 use Rattle.std.proofs.lemmas.List.{length-map}
@@ -16,14 +16,15 @@ use Rattle.wasm_tree.specs.declared.module.ImportDesc.TheVariants as im
 use Rattle.wasm_tree.specs.declared.module.ExportDesc.{ExportDesc}
 use Rattle.wasm_tree.specs.declared.module.ExportDesc.TheVariants as ex
 use Rattle.wasm_tree.specs.declared.module.Module.{Module}
-use Rattle.wasm_tree.specs.Spaces.{func_of, table_of, memory_of, global_of, funcs_of, tables_of, memories_of, globals_of, type_of_func}
+use Rattle.wasm_tree.specs.Spaces.{func_of, table_of, memory_of, global_of, funcs_of, tables_of, memories_of, globals_of, type_of_func, index_of_export, space_of_export, space_of_import}
 use Rattle.wasm_meaning.specs.Values.{same_type}
 use Rattle.wasm_meaning.specs.World.{same_bool, defined_count}
-use Rattle.wasm_meaning.specs.Linking.{has_kind, kind_of_import, kind_of_export, index_of_export}
+use Rattle.wasm_meaning.specs.Linking.{has_kind}
 use Rattle.merge_terms.specs.Faults.{External, FuncOf, TableOf, MemoryOf, GlobalOf, asked, external_of, same_but_limits}
-use Rattle.merge_terms.specs.Merged.{entry_of}
-use Rattle.merge_validity.proofs.Lists.{is_some, place_get}
-use Rattle.merge_validity.proofs.Same.{both_are, ref_is, type_is, func_type_is, bool_is}
+use Rattle.merge_validity.specs.Ended.{is_external}
+use Rattle.merge_validity.proofs.Same.{ref_is, type_is, func_type_is, bool_is}
+use Rattle.base_lists.proofs.Options.{and_then_is}
+use Rattle.std.proofs.lemmas.Bool.{and_parts}
 
 -- ---- entries ----
 
@@ -32,6 +33,9 @@ Entry Functions = ℕ
 Entry Tables = TableType
 Entry Memories = Limits
 Entry Globals = GlobalType
+Entry Types = ⊥
+Entry ElementSegments = ⊥
+Entry DataSegments = ⊥
 
 -- what an import adds to the space of a kind
 abbrev pub of_desc : (k : Space) → ImportDesc → Option (Entry k)
@@ -39,6 +43,9 @@ of_desc Functions d = func_of d
 of_desc Tables d = table_of d
 of_desc Memories d = memory_of d
 of_desc Globals d = global_of d
+of_desc Types d = None
+of_desc ElementSegments d = None
+of_desc DataSegments d = None
 
 abbrev pub of_import : (k : Space) → Import → Option (Entry k)
 of_import k i = of_desc k i.desc
@@ -49,6 +56,9 @@ own Functions m = map (λ f. f.ty) m.funcs
 own Tables m = m.tables
 own Memories m = m.mems
 own Globals m = map (λ g. g.ty) m.globals
+own Types m = []
+own ElementSegments m = []
+own DataSegments m = []
 
 abbrev pub imported : (k : Space) → Module → List (Entry k)
 imported k m = filter_map (of_import k) m.imports
@@ -73,33 +83,30 @@ desc_kind Globals (im.Func t) i e = rw e refl
 desc_kind Globals (im.Table t) i e = rw e refl
 desc_kind Globals (im.Memory t) i e = rw e refl
 desc_kind Globals (im.Global t) i e = rw e refl
+desc_kind Types (im.Func t) i e = rw e refl
+desc_kind Types (im.Table t) i e = rw e refl
+desc_kind Types (im.Memory t) i e = rw e refl
+desc_kind Types (im.Global t) i e = rw e refl
+desc_kind ElementSegments (im.Func t) i e = rw e refl
+desc_kind ElementSegments (im.Table t) i e = rw e refl
+desc_kind ElementSegments (im.Memory t) i e = rw e refl
+desc_kind ElementSegments (im.Global t) i e = rw e refl
+desc_kind DataSegments (im.Func t) i e = rw e refl
+desc_kind DataSegments (im.Table t) i e = rw e refl
+desc_kind DataSegments (im.Memory t) i e = rw e refl
+desc_kind DataSegments (im.Global t) i e = rw e refl
 
 pub import_kind : (k : Space) (i : Import) → is_some (of_import k i) ≡ has_kind k i
 import_kind k i = desc_kind k i.desc i refl
 
-pub own_many : (k : Space) (m : Module) → length (own k m) ≡ defined_count k m
-own_many Functions m = length-map m.funcs (λ f. f.ty)
-own_many Tables m = refl
-own_many Memories m = refl
-own_many Globals m = length-map m.globals (λ g. g.ty)
-
-pub kind_of_entry : (k : Space) (i : ℕ) → kind_of_export (entry_of k i) ≡ k
-kind_of_entry Functions i = refl
-kind_of_entry Tables i = refl
-kind_of_entry Memories i = refl
-kind_of_entry Globals i = refl
-
-pub index_of_entry : (k : Space) (i : ℕ) → index_of_export (entry_of k i) ≡ i
-index_of_entry Functions i = refl
-index_of_entry Tables i = refl
-index_of_entry Memories i = refl
-index_of_entry Globals i = refl
-
-pub entry_is : (e : ExportDesc) → e ≡ entry_of (kind_of_export e) (index_of_export e)
-entry_is (ex.Func i) = refl
-entry_is (ex.Table i) = refl
-entry_is (ex.Memory i) = refl
-entry_is (ex.Global i) = refl
+pub own_many : (k : Space) (m : Module) → is_external k ≡ true → length (own k m) ≡ defined_count k m
+own_many Functions m e = length-map m.funcs (λ f. f.ty)
+own_many Tables m e = refl
+own_many Memories m e = refl
+own_many Globals m e = length-map m.globals (λ g. g.ty)
+own_many Types m e = cc
+own_many ElementSegments m e = cc
+own_many DataSegments m e = cc
 
 -- ---- types ----
 
@@ -128,16 +135,32 @@ type_of m Functions ty = option_and_then (λ t. Some (FuncTy t)) (slice_get m.ty
 type_of m Tables t = Some (TableTy t.ty)
 type_of m Memories l = Some MemoryTy
 type_of m Globals t = Some (GlobalTy t)
+type_of m Types c = absurd c
+type_of m ElementSegments c = absurd c
+type_of m DataSegments c = absurd c
 
 abbrev pub type_at : Module → (k : Space) → ℕ → Option Ty
 type_at m k i = option_and_then (type_of m k) (slice_get (space k m) i)
+
+-- what stands in an index space is an entity
+pub entry_external : (k : Space) → Entry k → is_external k ≡ true
+entry_external Functions c = refl
+entry_external Tables c = refl
+entry_external Memories c = refl
+entry_external Globals c = refl
+entry_external Types c = absurd c
+entry_external ElementSegments c = absurd c
+entry_external DataSegments c = absurd c
+
+pub typed_external : (m : Module) (k : Space) (i : ℕ) (y : Ty) → type_at m k i ≡ Some y → is_external k ≡ true
+typed_external m k i y h = entry_external k (and_then_is (slice_get (space k m) i) (type_of m k) y h).0
 
 pub bare_is : (x y : External) → same_but_limits x y ≡ true → bare x ≡ bare y
 bare_is (FuncOf t) (FuncOf u) h = ap FuncTy (func_type_is t u h)
 bare_is (TableOf t) (TableOf u) h = ap TableTy (ref_is t.ty u.ty h)
 bare_is (MemoryOf l) (MemoryOf k) h = refl
 bare_is (GlobalOf t) (GlobalOf u) h =
-    let b = both_are (same_type t.ty u.ty) (same_bool t.mutable u.mutable) h in
+    let b = and_parts (same_type t.ty u.ty) (same_bool t.mutable u.mutable) h in
     let e = type_is t.ty u.ty b.0 in
     let f = bool_is t.mutable u.mutable b.1 in
     ap GlobalTy (ap₂ (λ x y. record { ty = x; mutable = y }) e f)
@@ -155,7 +178,7 @@ bare_is (GlobalOf t) (TableOf u) h = cc
 bare_is (GlobalOf t) (MemoryOf u) h = cc
 
 -- what an import asks for is of its kind, and has the type of the entry that it adds
-pub asked_kind : (m : Module) (d : ImportDesc) (x : External) → asked m d ≡ Some x → kind_of (bare x) ≡ kind_of_import d
+pub asked_kind : (m : Module) (d : ImportDesc) (x : External) → asked m d ≡ Some x → kind_of (bare x) ≡ space_of_import d
 asked_kind m (im.Func ty) x h = by (slice_get m.types ty) h
   where
     by : (o : Option FuncType) → option_and_then (λ t. Some (FuncOf t)) o ≡ Some x → kind_of (bare x) ≡ Functions
@@ -168,7 +191,7 @@ asked_kind m (im.Global t) x h = let same : GlobalOf t ≡ x = cc in ap (λ z. k
 pub asked_type : (m : Module) (k : Space) (d : ImportDesc) (c : Entry k) (x : External) → of_desc k d ≡ Some c → asked m d ≡ Some x → type_of m k c ≡ Some (bare x)
 asked_type m Functions (im.Func ty) c x e h =
     let same : ty ≡ c = cc in
-    ap (λ z. option_and_then (λ t. Some (FuncTy t)) (slice_get m.types z)) (sym same) ∙ ap (λ o. option_and_then (λ t. Some (FuncTy t)) o) (sym (place_get m.types ty)) ∙ by (slice_get m.types ty) h
+    ap (λ z. option_and_then (λ t. Some (FuncTy t)) (slice_get m.types z)) (sym same) ∙ by (slice_get m.types ty) h
   where
     by : (o : Option FuncType) → option_and_then (λ t. Some (FuncOf t)) o ≡ Some x → option_and_then (λ t. Some (FuncTy t)) o ≡ Some (bare x)
     by None h = cc
@@ -188,9 +211,12 @@ asked_type m Globals (im.Func t) c x e h = cc
 asked_type m Globals (im.Table t) c x e h = cc
 asked_type m Globals (im.Memory l) c x e h = cc
 asked_type m Globals (im.Global t) c x e h = let a : t ≡ c = cc in let b : GlobalOf t ≡ x = cc in ap (λ z. Some (GlobalTy z)) (sym a) ∙ ap (λ z. Some (bare z)) b
+asked_type m Types d c x e h = absurd c
+asked_type m ElementSegments d c x e h = absurd c
+asked_type m DataSegments d c x e h = absurd c
 
 -- what an entry is, is of its kind, and has its type
-pub external_kind : (m : Module) (e : ExportDesc) (x : External) → external_of m e ≡ Some x → kind_of (bare x) ≡ kind_of_export e
+pub external_kind : (m : Module) (e : ExportDesc) (x : External) → external_of m e ≡ Some x → kind_of (bare x) ≡ space_of_export e
 external_kind m (ex.Func i) x h = by (type_of_func m i) h
   where
     by : (o : Option FuncType) → option_and_then (λ t. Some (FuncOf t)) o ≡ Some x → kind_of (bare x) ≡ Functions
@@ -212,8 +238,8 @@ external_kind m (ex.Global i) x h = by (slice_get (globals_of m) i) h
     by None h = cc
     by (Some t) h = let same : GlobalOf t ≡ x = cc in ap (λ z. kind_of (bare z)) (sym same)
 
-pub external_type : (m : Module) (k : Space) (i : ℕ) (x : External) → external_of m (entry_of k i) ≡ Some x → type_at m k i ≡ Some (bare x)
-external_type m Functions i x h = by (slice_get (funcs_of m) i) h
+pub external_type : (m : Module) (e : ExportDesc) (x : External) → external_of m e ≡ Some x → type_at m (space_of_export e) (index_of_export e) ≡ Some (bare x)
+external_type m (ex.Func i) x h = by (slice_get (funcs_of m) i) h
   where
     inner : (o : Option FuncType) → option_and_then (λ t. Some (FuncOf t)) o ≡ Some x → option_and_then (λ t. Some (FuncTy t)) o ≡ Some (bare x)
     inner None h = cc
@@ -222,17 +248,17 @@ external_type m Functions i x h = by (slice_get (funcs_of m) i) h
     by : (o : Option ℕ) → option_and_then (λ t. Some (FuncOf t)) (option_and_then (slice_get m.types) o) ≡ Some x → option_and_then (type_of m Functions) o ≡ Some (bare x)
     by None h = cc
     by (Some ty) h = inner (slice_get m.types ty) h
-external_type m Tables i x h = by (slice_get (tables_of m) i) h
+external_type m (ex.Table i) x h = by (slice_get (tables_of m) i) h
   where
     by : (o : Option TableType) → option_and_then (λ t. Some (TableOf t)) o ≡ Some x → option_and_then (type_of m Tables) o ≡ Some (bare x)
     by None h = cc
     by (Some t) h = let same : TableOf t ≡ x = cc in ap (λ z. Some (bare z)) same
-external_type m Memories i x h = by (slice_get (memories_of m) i) h
+external_type m (ex.Memory i) x h = by (slice_get (memories_of m) i) h
   where
     by : (o : Option Limits) → option_and_then (λ t. Some (MemoryOf t)) o ≡ Some x → option_and_then (type_of m Memories) o ≡ Some (bare x)
     by None h = cc
     by (Some t) h = let same : MemoryOf t ≡ x = cc in ap (λ z. Some (bare z)) same
-external_type m Globals i x h = by (slice_get (globals_of m) i) h
+external_type m (ex.Global i) x h = by (slice_get (globals_of m) i) h
   where
     by : (o : Option GlobalType) → option_and_then (λ t. Some (GlobalOf t)) o ≡ Some x → option_and_then (type_of m Globals) o ≡ Some (bare x)
     by None h = cc

@@ -13,8 +13,8 @@ use Rattle.export_names.specs.Names.{new_name, renamed_behind, kept_behind, new_
 use Rattle.export_names.specs.Laws.{GivenNamesDiffer, ConflictsAreFirst}
 use Rattle.merge_terms.specs.Joined.{repeated_name}
 use Rattle.merge_terms.specs.Merged.{merged, map_of, all_exports, export_names, named_exports}
-use Rattle.merge_validity.proofs.Lists.{Has, place_get, map_at, map_back}
 use Rattle.merge_validity.proofs.ByPart.{by_part_back}
+use Rattle.base_lists.proofs.Places.{map_at, map_from, Has}
 
 pub exports_are : (parts : List Part) (names : List (Option Text)) → (merged parts names).exports ≡ named_exports (all_exports parts) names
 unfolding merged
@@ -67,7 +67,7 @@ export_from parts names j e h =
     let r = named_back (all_exports parts) names j e (ap (λ z. slice_get z j) (sym (exports_are parts names)) ∙ h) in
     let f = by_part_back (λ p m. map (new_export (map_of parts p m)) m.exports) 0 parts r.1.0 r.0 r.1.1 in
     let z : 0 + f.part ≡ f.part = omega arith in
-    let x = map_back (new_export (map_of parts f.part f.«module»)) f.«module».exports f.place r.0 (ap (λ p. slice_get (map (new_export (map_of parts p f.«module»)) f.«module».exports) f.place) (sym z) ∙ f.got) in
+    let x = map_from (new_export (map_of parts f.part f.«module»)) f.«module».exports f.place r.0 (ap (λ p. slice_get (map (new_export (map_of parts p f.«module»)) f.«module».exports) f.place) (sym z) ∙ f.got) in
     (f.part, f.«module», f.place, x.0, f.is_part, x.1, r.2 ∙ ap (λ (e : Export). e.desc) (sym x.2))
 
 -- ---- names that differ ----
@@ -80,7 +80,7 @@ no_conflict law parts mode h = by (conflict mode (export_names parts)) refl h
     by None e h = e
     by (Some n) e h =
         let c = (law mode (export_names parts) n e).1.came in
-        absurd (let z : Some c.0 ≡ None = sym c.1 ∙ sym (place_get (export_names parts) n) ∙ h in cc)
+        absurd (let z : Some c.0 ≡ None = sym c.1 ∙ h in cc)
 
 pub names_differ : GivenNamesDiffer → ConflictsAreFirst → (parts : List Part) (mode : Mode) → repeated_name parts mode ≡ None → length (merged parts (new_names mode (export_names parts))).exports < 2 ^ 62 →
     (j : ℕ) (e : Export) → slice_get (merged parts (new_names mode (export_names parts))).exports j ≡ Some e → Contains (map (λ x. x.name) (take j (merged parts (new_names mode (export_names parts))).exports)) e.name → ⊥

@@ -1,4 +1,4 @@
--- The imports of the merged module hold: their types are there, and the limits that they keep are limits.
+-- The imports of the merged module hold: their types are slice_get_there, and the limits that they keep are limits.
 use Rattle.std.proofs.Common.{◌≡◌, ◌∙◌, ap, sym, subst, refl, ℕ, ◌<◌, ◌≤◌, List, [], ◌∷◌, length, Option, Some, None, Bool, true, false, cond, arith, option_and_then}
 use Rattle.wasm_tree.specs.declared.space.Space.TheVariants.{Memories}
 use Rattle.std.specs.Prelude.{slice_get, slice_index, max}
@@ -12,12 +12,12 @@ use Rattle.wasm_valid.specs.declared.kinds.ItemKind.TheVariants as kind
 use Rattle.wasm_valid.specs.Validity.{HoldsAt, ImportHolds, LimitsHold, MostIsAtLeast, MostIsAtMost}
 use Rattle.wasm_meaning.specs.State.{Text}
 use Rattle.wasm_meaning.specs.Laws.{EndsArePaths}
-use Rattle.wasm_meaning.specs.Linking.{Part, Site, kind_of_import, module_at, import_at, sites, is_outside, linked_end, limits_of, consed, demands, least, met, met_limits}
+use Rattle.wasm_meaning.specs.Linking.{Part, Site, module_at, import_at, sites, is_outside, linked_end, limits_of, consed, demands, least, met, met_limits}
+use Rattle.wasm_tree.specs.Spaces.{space_of_import}
 use Rattle.merge_terms.specs.declared.faults.LinkFault.{LinkFault}
 use Rattle.merge_terms.specs.declared.faults.LinkFault.TheVariants.{LimitsClash}
 use Rattle.merge_terms.specs.Faults.{asked_at, stays, kept_limits, is_under, clash_fault}
 use Rattle.merge_terms.specs.Merged.{merged, map_of, merged_import, merged_desc, staying}
-use Rattle.merge_validity.proofs.Lists.{Has, place_get, there, then_is, within, kept_is, chosen_from}
 use Rattle.merge_validity.proofs.Same.{site_is}
 use Rattle.merge_validity.proofs.Entities.{kind_of, bare, asked_kind}
 use Rattle.merge_validity.proofs.Linked.{Suited, AreLinked, import_site}
@@ -26,6 +26,10 @@ use Rattle.merge_validity.proofs.TypePlaces.{type_stands}
 use Rattle.merge_validity.proofs.MergedSpaces.{types_are, imports_are}
 use Rattle.merge_validity.proofs.Entries.{kind_there}
 use Rattle.merge_validity.proofs.Agree.{ItemsHold}
+use Rattle.std.proofs.lemmas.Option.{slice_get_within}
+use Rattle.base_lists.proofs.Places.{slice_get_there, Has}
+use Rattle.base_lists.proofs.Filtered.{kept_is, chosen_from}
+use Rattle.base_lists.proofs.Options.{and_then_is}
 
 -- ---- limits ----
 
@@ -72,7 +76,7 @@ demands_few parts s (t ∷ ts) each = by (is_outside s (linked_end parts t)) ref
     by true e None is rest = rest
     by true e (Some l) is rest = more_few l (met (demands parts s ts)) (each t l e is) rest
 
-memory_few : (m : Module) (d : ImportDesc) (l : Limits) → kind_of_import d ≡ Memories → limits_of d ≡ Some l → ImportHolds m d → Few l
+memory_few : (m : Module) (d : ImportDesc) (l : Limits) → space_of_import d ≡ Memories → limits_of d ≡ Some l → ImportHolds m d → Few l
 memory_few m (im.Memory k) l e h p = let same : k ≡ l = cc in subst Few same (record { low = p.1; high = p.2 })
 memory_few m (im.Func t) l e h p = absurd (let z = e in cc)
 memory_few m (im.Table t) l e h p = absurd (let z = e in cc)
@@ -81,54 +85,54 @@ memory_few m (im.Global t) l e h p = absurd (let z = e in cc)
 -- an import of a valid part holds
 pub part_import : (m : Module) → ItemsHold m → (n : ℕ) (i : Import) → slice_get m.imports n ≡ Some i → ImportHolds m i.desc
 part_import m holds n i at =
-    let got : slice_get m.imports n ≡ Some i = sym (place_get m.imports n) ∙ at in
-    let z = holds kind.Import n (within m.imports n i got) in
+    let got : slice_get m.imports n ≡ Some i = at in
+    let z = holds kind.Import n (slice_get_within m.imports n i got) in
     let both : Some z.0 ≡ Some i = sym z.1 ∙ got in
     let same : z.0 ≡ i = cc in
     subst (λ (x : Import). ImportHolds m x.desc) same z.2
 
 module _ (law : EndsArePaths) (parts : List Part) (links : AreLinked parts) (valid : (p : ℕ) (m : Module) → module_at parts p ≡ Some m → ItemsHold m) where
   -- an import that ends at a memory is one of a memory
-  ends_alike : (s t : Site) (i j : Import) → import_at parts s ≡ Some i → import_at parts t ≡ Some j → kind_of_import i.desc ≡ Memories → is_outside s (linked_end parts t) ≡ true → kind_of_import j.desc ≡ Memories
+  ends_alike : (s t : Site) (i j : Import) → import_at parts s ≡ Some i → import_at parts t ≡ Some j → space_of_import i.desc ≡ Memories → is_outside s (linked_end parts t) ≡ true → space_of_import j.desc ≡ Memories
   ends_alike s t i j at_s at_t e h = by (landed law parts links t w)
     where
       w : Suited parts t
       w = links.imports t j at_t
 
-      kind_at : (u : Site) (i : Import) (x : _) → import_at parts u ≡ Some i → asked_at parts u ≡ Some x → kind_of (bare x) ≡ kind_of_import i.desc
+      kind_at : (u : Site) (i : Import) (x : _) → import_at parts u ≡ Some i → asked_at parts u ≡ Some x → kind_of (bare x) ≡ space_of_import i.desc
       kind_at u i x at h = let m = import_site parts u i at in asked_kind m.0 i.desc x (kind_there parts u i x m.0 m.1 m.2 h)
 
-      by : Landed parts t (bare w.demand) → kind_of_import j.desc ≡ Memories
+      by : Landed parts t (bare w.demand) → space_of_import j.desc ≡ Memories
       by (inside v) = absurd (let z : false ≡ true = sym (ap (is_outside s) v.linked) ∙ h in cc)
       by (outside v) =
           let to : s ≡ v.to = site_is s v.to (sym (ap (is_outside s) v.linked) ∙ h) in
           let x : kind_of (bare v.thing) ≡ Memories = kind_at s i v.thing at_s (ap (asked_at parts) to ∙ v.asks) ∙ e in
           sym (kind_at t j w.demand at_t w.asks) ∙ sym (ap kind_of v.typed) ∙ x
 
-  memory_met : (s : Site) (i : Import) → import_at parts s ≡ Some i → kind_of_import i.desc ≡ Memories → Few (met_limits parts s)
+  memory_met : (s : Site) (i : Import) → import_at parts s ≡ Some i → space_of_import i.desc ≡ Memories → Few (met_limits parts s)
   memory_met s i at e = demands_few parts s (sites parts) (λ t l h is. each t l h is)
     where
       each : (t : Site) (l : Limits) → is_outside s (linked_end parts t) ≡ true → option_and_then (λ i. limits_of i.desc) (import_at parts t) ≡ Some l → Few l
       each t l h is =
-          let j = then_is (import_at parts t) (λ i. limits_of i.desc) l is in
+          let j = and_then_is (import_at parts t) (λ i. limits_of i.desc) l is in
           let m = import_site parts t j.0 j.1 in
           memory_few m.0 j.0.desc l (ends_alike s t i j.0 at j.1 e h) j.2 (part_import m.0 (valid t.part m.0 m.1) t.import j.0 m.2)
 
   desc_holds : (names : List (Option Text)) (s : Site) (m : Module) (i : Import) (d : ImportDesc) → i.desc ≡ d → stays parts s ≡ true → module_at parts s.part ≡ Some m → import_at parts s ≡ Some i → ImportHolds m d → ImportHolds (merged parts names) (merged_desc parts s m d)
   desc_holds names s m i (im.Func ty) e remain is at p =
-      let t = there m.types ty p in
-      within (merged parts names).types _ t.0 (ap (λ z. slice_get z (slice_index (map_of parts s.part m).types ty)) (types_are parts names) ∙ type_stands parts s.part m ty t.0 is t.1)
+      let t = slice_get_there m.types ty p in
+      slice_get_within (merged parts names).types _ t.0 (ap (λ z. slice_get z (slice_index (map_of parts s.part m).types ty)) (types_are parts names) ∙ type_stands parts s.part m ty t.0 is t.1)
   desc_holds names s m i (im.Table t) e remain is at p = limits_hold parts s i t.limits remain at (ap limits_of e) (links.limits s i at)
   desc_holds names s m i (im.Memory l) e remain is at p =
-      let few = memory_met s i at (ap kind_of_import e) in
+      let few = memory_met s i at (ap space_of_import e) in
       (limits_hold parts s i l remain at (ap limits_of e) (links.limits s i at), few.low, few.high)
   desc_holds names s m i (im.Global t) e remain is at p = tt
 
   import_back : (s : Site) (x : Import) → merged_import parts s ≡ Some x → (m : Module) × (i : Import) × (module_at parts s.part ≡ Some m) × (import_at parts s ≡ Some i) × (x.desc ≡ merged_desc parts s m i.desc)
   unfolding merged_import
   import_back s x h =
-      let m = then_is (module_at parts s.part) (λ m. option_and_then (λ i. Some (record i { desc = merged_desc parts s m i.desc })) (import_at parts s)) x h in
-      let i = then_is (import_at parts s) (λ i. Some (record i { desc = merged_desc parts s m.0 i.desc })) x m.2 in
+      let m = and_then_is (module_at parts s.part) (λ m. option_and_then {T = Import} {U = Import} (λ i. Some (record i { desc = merged_desc parts s m i.desc })) (import_at parts s)) x h in
+      let i = and_then_is (import_at parts s) (λ i. Some (record i { desc = merged_desc parts s m.0 i.desc })) x m.2 in
       let q = i.2 in
       let same : record i.0 { desc = merged_desc parts s m.0 i.0.desc } ≡ x = cc in
       (m.0, i.0, m.1, i.1, ap (λ (x : Import). x.desc) (sym same))
@@ -139,7 +143,7 @@ module _ (law : EndsArePaths) (parts : List Part) (links : AreLinked parts) (val
 
   pub imports_hold : (names : List (Option Text)) (j : ℕ) → j < length (merged parts names).imports → HoldsAt (merged parts names) kind.Import j
   imports_hold names j lt =
-      let x = there (merged parts names).imports j lt in
+      let x = slice_get_there (merged parts names).imports j lt in
       let s = chosen_from (merged_import parts) (staying parts) j x.0 (ap (λ z. slice_get z j) (sym (imports_are parts names)) ∙ x.1) in
       let b = import_back s.0 x.0 s.2 in
       let m = import_site parts s.0 b.1 b.3 in

@@ -1,4 +1,3 @@
-pub mod Lists
 pub mod Same
 pub mod Entities
 pub mod ByPart

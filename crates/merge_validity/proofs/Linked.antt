@@ -10,9 +10,11 @@ use Rattle.merge_terms.specs.declared.faults.LinkFault.{LinkFault}
 use Rattle.merge_terms.specs.declared.faults.LinkFault.TheVariants.{ImportMismatch}
 use Rattle.merge_terms.specs.Faults.{External, asked_at, found, suits, same_but_limits, meets_limits, is_suited, or_else, first_fault, end_fault, import_fault, clash_fault, memory_fault, OwnGlobal, own_globals_in, own_globals_from, own_globals, value_fault, global_fault, link_fault}
 use Rattle.merge_terms.specs.Merged.{by_part_from}
-use Rattle.merge_validity.proofs.Lists.{Has, place_get, within, in_front, in_back, then_is, or_false_is}
-use Rattle.merge_validity.proofs.Same.{both_are}
 use Rattle.merge_validity.proofs.Entities.{bare, bare_is}
+use Rattle.std.proofs.lemmas.Option.{slice_get_within}
+use Rattle.base_lists.proofs.Places.{has_left, has_right, Has}
+use Rattle.base_lists.proofs.Options.{and_then_is, unwrap_or_false_is}
+use Rattle.std.proofs.lemmas.Bool.{and_parts}
 
 -- ---- what stands in lists that are joined by part ----
 
@@ -21,10 +23,10 @@ by_part_has f first [] q m x h g = absurd (let k = h in cc)
 by_part_has f first (part ∷ parts) zero m x h g =
     let same : m ≡ part.«module» = cc in
     let at_first : first + 0 ≡ first = omega arith in
-    in_front (f first part.«module») (by_part_from f (suc first) parts) x (subst (λ n. Has (f n part.«module») x) at_first (subst (λ n. Has (f (first + 0) n) x) same g))
+    has_left (f first part.«module») (by_part_from f (suc first) parts) x (subst (λ n. Has (f n part.«module») x) at_first (subst (λ n. Has (f (first + 0) n) x) same g))
 by_part_has f first (part ∷ parts) (suc q) m x h g =
     let n : first + suc q ≡ suc first + q = omega arith in
-    in_back (f first part.«module») (by_part_from f (suc first) parts) x (by_part_has f (suc first) parts q m x h (subst (λ p. Has (f p m) x) n g))
+    has_right (f first part.«module») (by_part_from f (suc first) parts) x (by_part_has f (suc first) parts q m x h (subst (λ p. Has (f p m) x) n g))
 
 pub sites_are : (first : ℕ) (parts : List Part) → sites_from first parts ≡ by_part_from (λ p m. sites_in p (length m.imports) 0) first parts
 sites_are first [] = refl
@@ -36,12 +38,12 @@ site_in p (suc count) from zero l = ap {A = ℕ} {B = Option Site} (λ n. Some (
 site_in p (suc count) from (suc i) l = site_in p count (suc from) i (omega (arith, l)) ∙ ap {A = ℕ} {B = Option Site} (λ n. Some (record { part = p; import = n })) (let e : suc from + i ≡ from + suc i = omega arith in e)
 
 pub import_site : (parts : List Part) (s : Site) (i : Import) → import_at parts s ≡ Some i → (m : Module) × (module_at parts s.part ≡ Some m) × (slice_get m.imports s.import ≡ Some i)
-import_site parts s i h = then_is (module_at parts s.part) (λ m. slice_get m.imports s.import) i h
+import_site parts s i h = and_then_is (module_at parts s.part) (λ m. slice_get m.imports s.import) i h
 
 pub in_sites : (parts : List Part) (s : Site) (i : Import) → import_at parts s ≡ Some i → Has (sites parts) s
 in_sites parts s i h =
     let m = import_site parts s i h in
-    let l = within m.0.imports s.import i (sym (place_get m.0.imports s.import) ∙ m.2) in
+    let l = slice_get_within m.0.imports s.import i (m.2) in
     let from_0 : 0 + s.import ≡ s.import = omega arith in
     let part_0 : s.part ≡ 0 + s.part = omega arith in
     let got : slice_get (sites_in s.part (length m.0.imports) 0) s.import ≡ Some s = site_in s.part (length m.0.imports) 0 s.import l ∙ ap {A = ℕ} {B = Option Site} (λ n. Some (record { part = s.part; import = n })) from_0 in
@@ -84,7 +86,7 @@ pub record Suited (parts : List Part) (s : Site) : Type 0 where
   pub yes : suits demand end thing ≡ true
 
 suits_same : (d : External) (e : End) (x : External) → suits d e x ≡ true → bare d ≡ bare x
-suits_same d (Defined e) x h = bare_is d x (both_are (same_but_limits d x) (meets_limits d x) h).0
+suits_same d (Defined e) x h = bare_is d x (and_parts (same_but_limits d x) (meets_limits d x) h).0
 suits_same d (Outside s) x h = bare_is d x h
 
 suited : (parts : List Part) (s : Site) → import_fault parts s ≡ None → Suited parts s
@@ -97,8 +99,8 @@ suited parts s h = by (end_of parts s) refl h
 
     here : (e : End) → end_of parts s ≡ Some e → is_suited parts s e ≡ true → Suited parts s
     here e is h =
-        let d = then_is (asked_at parts s) (λ d. option_and_then (λ x. Some (suits d e x)) (found parts e)) true (or_false_is _ h) in
-        let x = then_is (found parts e) (λ x. Some (suits d.0 e x)) true d.2 in
+        let d = and_then_is (asked_at parts s) (λ d. option_and_then (λ x. Some (suits d e x)) (found parts e)) true (unwrap_or_false_is _ h) in
+        let x = and_then_is (found parts e) (λ x. Some (suits d.0 e x)) true d.2 in
         let yes : suits d.0 e x.0 ≡ true = (let k = x.2 in cc) in
         record { end = e; ends = is; demand = d.0; asks = d.1; thing = x.0; finds = x.1; same = suits_same d.0 e x.0 yes; yes = yes }
 

@@ -1,7 +1,7 @@
 -- The index spaces of the merged module: an import that stays and an entity that a part defines stand there at their places, with their types.
-use Rattle.std.proofs.Common.{◌≡◌, ◌∙◌, ap, sym, subst, refl, ℕ, ◌+◌, List, [], ◌∷◌, ◌++◌, map, length, Option, Some, None, arith, option_and_then, unwrap_or}
+use Rattle.std.proofs.Common.{◌≡◌, ◌∙◌, ap, sym, subst, refl, ℕ, ◌+◌, List, [], ◌++◌, map, length, Option, Some, None, true, false, arith, option_and_then, unwrap_or, is_some, append-nil}
 use Rattle.wasm_tree.specs.declared.space.Space.{Space}
-use Rattle.wasm_tree.specs.declared.space.Space.TheVariants.{Functions, Tables, Memories, Globals}
+use Rattle.wasm_tree.specs.declared.space.Space.TheVariants.{Types, Functions, Tables, Memories, Globals, ElementSegments, DataSegments}
 use Rattle.std.specs.Prelude.{slice_get, slice_index}
 use Rattle.std.specs.List.{filter_map}
 use Rattle.std.proofs.lemmas.List.{length-map, map-append}
@@ -14,10 +14,13 @@ use Rattle.wasm_meaning.specs.World.{defined_count, defined_before}
 use Rattle.wasm_meaning.specs.Linking.{Part, Site, has_kind, module_at, import_at}
 use Rattle.index_remap.specs.Renumbered.{new_func}
 use Rattle.merge_terms.specs.Merged.{merged, merged_types, map_of, merged_import, merged_desc, merged_global, staying, staying_of, imports_kind, defined_funcs, start_calls, starts, by_part}
-use Rattle.merge_validity.proofs.Lists.{is_some, then_is, front, behind, map_at, chosen_at, as_many, chosen_twice}
-use Rattle.merge_validity.proofs.Entities.{Entry, of_desc, of_import, own, imported, space, import_kind, own_many, Ty, FuncTy, type_of, type_at}
-use Rattle.merge_validity.proofs.ByPart.{before, defined_is, by_part_at, by_part_map, by_part_same, by_part_flat, by_part_many, map_twice, map_self}
+use Rattle.merge_validity.specs.Ended.{is_external}
+use Rattle.merge_validity.proofs.Entities.{Entry, of_desc, of_import, own, imported, space, import_kind, own_many, entry_external, Ty, FuncTy, type_of, type_at}
+use Rattle.merge_validity.proofs.ByPart.{before, defined_is, by_part_at, by_part_map, by_part_same, by_part_flat, by_part_many, map_self}
 use Rattle.merge_validity.proofs.TypePlaces.{type_stands}
+use Rattle.base_lists.proofs.Places.{map_twice, map_at, append_at_left, append_right}
+use Rattle.base_lists.proofs.Filtered.{chosen_at, as_many, chosen_twice}
+use Rattle.base_lists.proofs.Options.{and_then_is}
 
 -- ---- the lists of the merged module ----
 
@@ -35,6 +38,9 @@ moved parts Functions p m ty = slice_index (map_of parts p m).types ty
 moved parts Tables p m t = t
 moved parts Memories p m l = l
 moved parts Globals p m t = t
+moved parts Types p m c = c
+moved parts ElementSegments p m c = c
+moved parts DataSegments p m c = c
 
 -- the function that calls several starts
 abbrev pub extra : List Part → (k : Space) → List (Entry k)
@@ -42,13 +48,12 @@ extra parts Functions = map (λ f. f.ty) (start_calls parts (starts parts))
 extra parts Tables = []
 extra parts Memories = []
 extra parts Globals = []
+extra parts Types = []
+extra parts ElementSegments = []
+extra parts DataSegments = []
 
 abbrev pub moved_own : List Part → (k : Space) → ℕ → Module → List (Entry k)
 moved_own parts k p m = map (moved parts k p m) (own k m)
-
-no_more : {A : Type 0} (xs : List A) → xs ≡ xs ++ []
-no_more [] = refl
-no_more (x ∷ xs) = ap (λ z. x ∷ z) (no_more xs)
 
 own_funcs : (parts : List Part) → map (λ f. f.ty) (defined_funcs parts ++ start_calls parts (starts parts)) ≡ by_part (moved_own parts Functions) parts ++ extra parts Functions
 unfolding defined_funcs
@@ -61,22 +66,25 @@ own_globals : (parts : List Part) → map (λ g. g.ty) (by_part (λ p m. map (me
 own_globals parts =
     by_part_map (λ g. g.ty) (λ p m. map (merged_global parts p) m.globals) 0 parts
     ∙ by_part_same (λ p m. map (λ g. g.ty) (map (merged_global parts p) m.globals)) (moved_own parts Globals) (λ p m. map_twice (λ g. g.ty) (merged_global parts p) m.globals ∙ sym (map_self (map (λ g. g.ty) m.globals))) 0 parts
-    ∙ no_more (by_part (moved_own parts Globals) parts)
+    ∙ sym (append-nil (by_part (moved_own parts Globals) parts))
 
-pub own_is : (parts : List Part) (names : List (Option Text)) (k : Space) → own k (merged parts names) ≡ by_part (moved_own parts k) parts ++ extra parts k
+pub own_is : (parts : List Part) (names : List (Option Text)) (k : Space) → is_external k ≡ true → own k (merged parts names) ≡ by_part (moved_own parts k) parts ++ extra parts k
 unfolding merged
-own_is parts names Functions = own_funcs parts
-own_is parts names Tables =
-    by_part_flat (λ m. m.tables) 0 parts ∙ by_part_same (λ p m. m.tables) (moved_own parts Tables) (λ p m. sym (map_self m.tables)) 0 parts ∙ no_more (by_part (moved_own parts Tables) parts)
-own_is parts names Memories =
-    by_part_flat (λ m. m.mems) 0 parts ∙ by_part_same (λ p m. m.mems) (moved_own parts Memories) (λ p m. sym (map_self m.mems)) 0 parts ∙ no_more (by_part (moved_own parts Memories) parts)
-own_is parts names Globals = own_globals parts
+own_is parts names Functions e = own_funcs parts
+own_is parts names Tables e =
+    by_part_flat (λ m. m.tables) 0 parts ∙ by_part_same (λ p m. m.tables) (moved_own parts Tables) (λ p m. sym (map_self m.tables)) 0 parts ∙ sym (append-nil (by_part (moved_own parts Tables) parts))
+own_is parts names Memories e =
+    by_part_flat (λ m. m.mems) 0 parts ∙ by_part_same (λ p m. m.mems) (moved_own parts Memories) (λ p m. sym (map_self m.mems)) 0 parts ∙ sym (append-nil (by_part (moved_own parts Memories) parts))
+own_is parts names Globals e = own_globals parts
+own_is parts names Types e = cc
+own_is parts names ElementSegments e = cc
+own_is parts names DataSegments e = cc
 
-own_count : (parts : List Part) (k : Space) (p : ℕ) (m : Module) → length (moved_own parts k p m) ≡ defined_count k m
-own_count parts k p m = length-map (own k m) (moved parts k p m) ∙ own_many k m
+own_count : (parts : List Part) (k : Space) → is_external k ≡ true → (p : ℕ) (m : Module) → length (moved_own parts k p m) ≡ defined_count k m
+own_count parts k e p m = length-map (own k m) (moved parts k p m) ∙ own_many k m e
 
-pub all_own : (parts : List Part) (k : Space) → length (by_part (moved_own parts k) parts) ≡ defined_before k parts (length parts)
-all_own parts k = by_part_many (moved_own parts k) (defined_count k) (own_count parts k) 0 parts ∙ sym (defined_is k parts (length parts))
+pub all_own : (parts : List Part) (k : Space) → is_external k ≡ true → length (by_part (moved_own parts k) parts) ≡ defined_before k parts (length parts)
+all_own parts k e = by_part_many (moved_own parts k) (defined_count k) (own_count parts k e) 0 parts ∙ sym (defined_is k parts (length parts))
 
 -- ---- imports that stay ----
 
@@ -97,17 +105,20 @@ desc_moved parts s m Globals (im.Func t) = refl
 desc_moved parts s m Globals (im.Table t) = refl
 desc_moved parts s m Globals (im.Memory t) = refl
 desc_moved parts s m Globals (im.Global t) = refl
+desc_moved parts s m Types d = refl
+desc_moved parts s m ElementSegments d = refl
+desc_moved parts s m DataSegments d = refl
 
 import_moved : (parts : List Part) (k : Space) (s : Site) → is_some (option_and_then (of_import k) (merged_import parts s)) ≡ imports_kind parts k s
 unfolding merged_import
 import_moved parts k s = by (module_at parts s.part)
   where
-    inner : (m : Module) (o : Option Import) → is_some (option_and_then (of_import k) (option_and_then (λ i. Some (record i { desc = merged_desc parts s m i.desc })) o)) ≡ unwrap_or (option_and_then (λ i. Some (has_kind k i)) o) false
+    inner : (m : Module) (o : Option Import) → is_some (option_and_then (of_import k) (option_and_then {T = Import} {U = Import} (λ i. Some (record i { desc = merged_desc parts s m i.desc })) o)) ≡ unwrap_or (option_and_then (λ i. Some (has_kind k i)) o) false
     inner m None = refl
     inner m (Some i) = desc_moved parts s m k i.desc ∙ import_kind k i
 
     by : (o : Option Module) →
-        is_some (option_and_then (of_import k) (option_and_then (λ m. option_and_then (λ i. Some (record i { desc = merged_desc parts s m i.desc })) (option_and_then (λ m. slice_get m.imports s.import) o)) o)) ≡ unwrap_or (option_and_then (λ i. Some (has_kind k i)) (option_and_then (λ m. slice_get m.imports s.import) o)) false
+        is_some (option_and_then (of_import k) (option_and_then (λ m. option_and_then {T = Import} {U = Import} (λ i. Some (record i { desc = merged_desc parts s m i.desc })) (option_and_then (λ m. slice_get m.imports s.import) o)) o)) ≡ unwrap_or (option_and_then (λ i. Some (has_kind k i)) (option_and_then (λ m. slice_get m.imports s.import) o)) false
     by None = refl
     by (Some m) = inner m (slice_get m.imports s.import)
 
@@ -127,12 +138,12 @@ pub import_is : (parts : List Part) (s : Site) (m : Module) (i : Import) → mod
 unfolding merged_import
 import_is parts s m i e h = by (module_at parts s.part) e h
   where
-    inner : (o : Option Import) → o ≡ Some i → option_and_then (λ i. Some (record i { desc = merged_desc parts s m i.desc })) o ≡ Some (record i { desc = merged_desc parts s m i.desc })
+    inner : (o : Option Import) → o ≡ Some i → option_and_then {T = Import} {U = Import} (λ i. Some (record i { desc = merged_desc parts s m i.desc })) o ≡ Some (record i { desc = merged_desc parts s m i.desc })
     inner None h = cc
     inner (Some j) h = let same : j ≡ i = cc in ap {A = Import} (λ j. Some (record j { desc = merged_desc parts s m j.desc })) same
 
     by : (o : Option Module) → o ≡ Some m → option_and_then (λ m. slice_get m.imports s.import) o ≡ Some i →
-        option_and_then (λ n. option_and_then (λ i. Some (record i { desc = merged_desc parts s n i.desc })) (option_and_then (λ m. slice_get m.imports s.import) o)) o ≡ Some (record i { desc = merged_desc parts s m i.desc })
+        option_and_then (λ n. option_and_then {T = Import} {U = Import} (λ i. Some (record i { desc = merged_desc parts s n i.desc })) (option_and_then (λ m. slice_get m.imports s.import) o)) o ≡ Some (record i { desc = merged_desc parts s m i.desc })
     by None e h = cc
     by (Some n) e h =
         let same : n ≡ m = cc in
@@ -142,11 +153,14 @@ import_is parts s m i e h = by (module_at parts s.part) e h
 
 type_moved : (parts : List Part) (names : List (Option Text)) (k : Space) (p : ℕ) (m : Module) (c : Entry k) (y : Ty) → module_at parts p ≡ Some m → type_of m k c ≡ Some y → type_of (merged parts names) k (moved parts k p m c) ≡ Some y
 type_moved parts names Functions p m c y e h =
-    let t = then_is (slice_get m.types c) (λ t. Some (FuncTy t)) y h in
+    let t = and_then_is (slice_get m.types c) (λ t. Some (FuncTy t)) y h in
     ap (λ z. option_and_then (λ t. Some (FuncTy t)) (slice_get z (moved parts Functions p m c))) (types_are parts names) ∙ ap (λ o. option_and_then (λ t. Some (FuncTy t)) o) (type_stands parts p m c t.0 e t.1) ∙ t.2
 type_moved parts names Tables p m c y e h = h
 type_moved parts names Memories p m c y e h = h
 type_moved parts names Globals p m c y e h = h
+type_moved parts names Types p m c y e h = absurd c
+type_moved parts names ElementSegments p m c y e h = absurd c
+type_moved parts names DataSegments p m c y e h = absurd c
 
 record Stood (parts : List Part) (names : List (Option Text)) (k : Space) (d : ImportDesc) (y : Ty) : Type 0 where
   entry : Entry k
@@ -172,6 +186,9 @@ stood parts names Globals s m (im.Global t) c y e is h = let same : t ≡ c = cc
 stood parts names Globals s m (im.Func t) c y e is h = absurd (let k = is in cc)
 stood parts names Globals s m (im.Table t) c y e is h = absurd (let k = is in cc)
 stood parts names Globals s m (im.Memory t) c y e is h = absurd (let k = is in cc)
+stood parts names Types s m d c y e is h = absurd c
+stood parts names ElementSegments s m d c y e is h = absurd c
+stood parts names DataSegments s m d c y e is h = absurd c
 
 -- an import that stays has its type at its place
 pub staying_type : (parts : List Part) (names : List (Option Text)) (k : Space) (n : ℕ) (s : Site) (m : Module) (i : Import) (c : Entry k) (y : Ty) → slice_get (staying_of parts k) n ≡ Some s → module_at parts s.part ≡ Some m →
@@ -179,16 +196,17 @@ pub staying_type : (parts : List Part) (names : List (Option Text)) (k : Space) 
 staying_type parts names k n s m i c y h e at is t =
     let r = stood parts names k s m i.desc c y e is t in
     let got : slice_get (imported k (merged parts names)) n ≡ Some r.entry = imported_at parts names k n s h ∙ ap (λ o. option_and_then (of_import k) o) (import_is parts s m i e at) ∙ r.is in
-    ap (λ o. option_and_then (type_of (merged parts names) k) o) (front (imported k (merged parts names)) (own k (merged parts names)) n r.entry got) ∙ r.typed
+    ap (λ o. option_and_then (type_of (merged parts names) k) o) (append_at_left (imported k (merged parts names)) (own k (merged parts names)) n r.entry got) ∙ r.typed
 
 pub own_at : (parts : List Part) (names : List (Option Text)) (k : Space) (q : ℕ) (m : Module) (j : ℕ) (c : Entry k) → module_at parts q ≡ Some m → slice_get (own k m) j ≡ Some c →
     slice_get (space k (merged parts names)) (length (staying_of parts k) + (defined_before k parts q + j)) ≡ Some (moved parts k q m c)
 own_at parts names k q m j c e h =
+    let ext = entry_external k c in
     let from_0 : 0 + q ≡ q = omega arith in
-    let got = by_part_at (moved_own parts k) (defined_count k) (own_count parts k) 0 parts q m j (moved parts k q m c) e (ap (λ p. slice_get (moved_own parts k p m) j) from_0 ∙ map_at (moved parts k q m) (own k m) j c h) in
+    let got = by_part_at (moved_own parts k) (defined_count k) (own_count parts k ext) 0 parts q m j (moved parts k q m c) e (ap (λ p. slice_get (moved_own parts k p m) j) from_0 ∙ map_at (moved parts k q m) (own k m) j c h) in
     let at : slice_get (own k (merged parts names)) (defined_before k parts q + j) ≡ Some (moved parts k q m c) =
-    ap (λ z. slice_get z (defined_before k parts q + j)) (own_is parts names k) ∙ ap (λ z. slice_get (by_part (moved_own parts k) parts ++ extra parts k) (z + j)) (defined_is k parts q) ∙ front (by_part (moved_own parts k) parts) (extra parts k) (before (defined_count k) parts q + j) (moved parts k q m c) got in
-    ap (λ z. slice_get (space k (merged parts names)) (z + (defined_before k parts q + j))) (sym (imported_many parts names k)) ∙ behind (imported k (merged parts names)) (own k (merged parts names)) (defined_before k parts q + j) ∙ at
+    ap (λ z. slice_get z (defined_before k parts q + j)) (own_is parts names k ext) ∙ ap (λ z. slice_get (by_part (moved_own parts k) parts ++ extra parts k) (z + j)) (defined_is k parts q) ∙ append_at_left (by_part (moved_own parts k) parts) (extra parts k) (before (defined_count k) parts q + j) (moved parts k q m c) got in
+    ap (λ z. slice_get (space k (merged parts names)) (z + (defined_before k parts q + j))) (sym (imported_many parts names k)) ∙ append_right (imported k (merged parts names)) (own k (merged parts names)) (defined_before k parts q + j) ∙ at
 
 -- what a part defines has its type at its place
 pub own_type : (parts : List Part) (names : List (Option Text)) (k : Space) (q : ℕ) (m : Module) (j : ℕ) (c : Entry k) (y : Ty) → module_at parts q ≡ Some m → slice_get (own k m) j ≡ Some c → type_of m k c ≡ Some y →

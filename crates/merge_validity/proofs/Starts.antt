@@ -14,11 +14,9 @@ use Rattle.wasm_meaning.specs.State.{Text}
 use Rattle.wasm_meaning.specs.Laws.{EndsArePaths}
 use Rattle.wasm_meaning.specs.World.{defined_before}
 use Rattle.wasm_meaning.specs.Linking.{Part, module_at}
-use Rattle.wasm_meaning.specs.Linking as linking
 use Rattle.remap_typing.specs.ButForReferences.{any_named, HoldsButForReferences}
 use Rattle.merge_terms.specs.Merged.{merged, staying_of, new_index, by_part, start_of, starts, start_among, start_calls, nullary, place_of_type, defined_funcs}
 use Rattle.merge_validity.specs.Started.{StartsTakeNothing}
-use Rattle.merge_validity.proofs.Lists.{Has, place_get, behind}
 use Rattle.merge_validity.proofs.Entities.{FuncTy, type_at, own, imported, space}
 use Rattle.merge_validity.proofs.ByPart.{by_part_back}
 use Rattle.merge_validity.proofs.TypePlaces.{type_placed}
@@ -26,6 +24,7 @@ use Rattle.merge_validity.proofs.MergedSpaces.{types_are, own_is, moved_own, ext
 use Rattle.merge_validity.proofs.Linked.{AreLinked, are_linked}
 use Rattle.merge_validity.proofs.Entries.{entry_kept}
 use Rattle.merge_validity.proofs.Agree.{ItemsHold, func_to, func_back}
+use Rattle.base_lists.proofs.Places.{append_right, Has}
 
 pub start_is : (parts : List Part) (names : List (Option Text)) → (merged parts names).start ≡ start_among (length (staying_of parts Functions) + defined_before Functions parts (length parts)) (starts parts)
 unfolding merged
@@ -116,11 +115,11 @@ module _ (law : EndsArePaths) (parts : List Part) (names : List (Option Text)) (
       let b = by_part (moved_own parts Functions) parts in
       let more : extra parts Functions ≡ place_of_type parts nullary ∷ [] = ap (λ s. map (λ (f : Func). f.ty) (start_calls parts s)) e in
       let at : slice_get (own Functions u) (length b + 0) ≡ Some (place_of_type parts nullary) =
-      ap (λ z. slice_get z (length b + 0)) (own_is parts names Functions) ∙ behind b (extra parts Functions) 0 ∙ ap (λ z. slice_get z 0) more in
+      ap (λ z. slice_get z (length b + 0)) (own_is parts names Functions refl) ∙ append_right b (extra parts Functions) 0 ∙ ap (λ z. slice_get z 0) more in
       let n = imported_many parts names Functions in
-      let k = all_own parts Functions in
+      let k = all_own parts Functions refl in
       let place : last_func ≡ length (imported Functions u) + (length b + 0) = omega (arith, n, k) in
-      let got : slice_get (funcs_of u) last_func ≡ Some (place_of_type parts nullary) = ap (slice_get (space Functions u)) place ∙ behind (imported Functions u) (own Functions u) (length b + 0) ∙ at in
+      let got : slice_get (funcs_of u) last_func ≡ Some (place_of_type parts nullary) = ap (slice_get (space Functions u)) place ∙ append_right (imported Functions u) (own Functions u) (length b + 0) ∙ at in
       ap (option_and_then (slice_get u.types)) got ∙ nullary_there 0 f (ap (λ s. slice_get s 0) e)
 
   start_by : (fs : List ℕ) → starts parts ≡ fs → (j : ℕ) → j < start_count (start_among last_func fs) → (merged parts names).start ≡ start_among last_func fs → HoldsAt (merged parts names) kind.Start j
@@ -162,7 +161,7 @@ pub take_nothing : EndsArePaths → ((m : Module) → IsValid m → ItemsHold m)
 take_nothing law hold parts names valid linked n f h =
     let links = are_linked parts linked in
     let items : (p : ℕ) (m : Module) → module_at parts p ≡ Some m → ItemsHold m = λ p m is. hold m (valid p m is) in
-    let at = sym (place_get (starts parts) n) ∙ h in (
+    let at = h in (
       start_typed law parts names links items n f at,
-      ap (λ z. slice_get z (place_of_type parts nullary)) (sym (types_are parts names)) ∙ place_get (merged parts names).types (place_of_type parts nullary) ∙ nullary_there law parts names links items n f at,
+      ap (λ z. slice_get z (place_of_type parts nullary)) (sym (types_are parts names)) ∙ nullary_there law parts names links items n f at,
     )

@@ -1,5 +1,5 @@
 -- Each type of a part stands among the merged types, at the entry that the part's map has for it.
-use Rattle.std.proofs.Common.{◌≡◌, ◌∙◌, ap, sym, subst, refl, ℕ, zero, suc, ◌+◌, List, [], ◌∷◌, ◌++◌, map, Some, Bool, true, false, cond, arith, ◌||◌, unwrap_or}
+use Rattle.std.proofs.Common.{◌≡◌, ◌∙◌, ap, sym, subst, refl, ℕ, zero, suc, ◌+◌, List, [], ◌∷◌, ◌++◌, map, Some, Bool, true, false, cond, arith, unwrap_or}
 use Rattle.std.specs.Prelude.{slice_get, slice_index}
 use Rattle.std.specs.List.{flat_map, list_any}
 use Rattle.wasm_tree.specs.declared.types.FuncType.{FuncType}
@@ -7,30 +7,24 @@ use Rattle.wasm_tree.specs.declared.module.Module.{Module}
 use Rattle.wasm_meaning.specs.Values.{same_func_type}
 use Rattle.wasm_meaning.specs.Linking.{Part, module_at, first_place}
 use Rattle.merge_terms.specs.Merged.{with_type, with_types, merged_types, place_of_type, map_of}
-use Rattle.merge_validity.proofs.Lists.{Has, first_at, in_front, in_back, index_at, map_at}
 use Rattle.merge_validity.proofs.Same.{func_type_is, func_type_same}
-
-pub any_is : {A : Type 0} (test : A → Bool) (xs : List A) → list_any test xs ≡ true → (x : A) × Has xs x × (test x ≡ true)
-any_is test [] h = absurd (let k = h in cc)
-any_is {A} test (y ∷ ys) h = by (test y) refl h (λ k. any_is test ys k)
-  where
-    by : (b : Bool) → test y ≡ b → (b || list_any test ys) ≡ true → (list_any test ys ≡ true → (x : A) × Has ys x × (test x ≡ true)) → (x : A) × Has (y ∷ ys) x × (test x ≡ true)
-    by true e h on = (y, (0, refl), e)
-    by false e h on = let r = on h in (r.0, (suc r.1.0, r.1.1), r.2)
+use Rattle.base_lists.proofs.Places.{slice_index_is, map_at, has_left, has_right, Has}
+use Rattle.base_lists.proofs.Filtered.{first_at}
+use Rattle.base_lists.proofs.Each.{list_any_there}
 
 type_kept : (ts : List FuncType) (t x : FuncType) → Has ts x → Has (with_type ts t) x
 type_kept ts t x h = by (list_any (same_func_type t) ts)
   where
     by : (b : Bool) → Has (cond b ts (ts ++ t ∷ [])) x
     by true = h
-    by false = in_front ts (t ∷ []) x h
+    by false = has_left ts (t ∷ []) x h
 
 type_there : (ts : List FuncType) (t : FuncType) → Has (with_type ts t) t
 type_there ts t = by (list_any (same_func_type t) ts) refl
   where
     by : (b : Bool) → list_any (same_func_type t) ts ≡ b → Has (cond b ts (ts ++ t ∷ [])) t
-    by true e = let r = any_is (same_func_type t) ts e in subst (Has ts) (sym (func_type_is t r.0 r.2)) r.1
-    by false e = in_back ts (t ∷ []) t (0, refl)
+    by true e = let r = list_any_there (same_func_type t) ts e in subst (Has ts) (sym (func_type_is t r.0 r.2)) r.1
+    by false e = has_right ts (t ∷ []) t (0, refl)
 
 types_kept : (ts us : List FuncType) (x : FuncType) → Has ts x → Has (with_types ts us) x
 types_kept ts [] x h = h
@@ -43,8 +37,8 @@ types_there ts (u ∷ us) x (suc n) h = types_there (with_type ts u) us x n h
 
 flat_has : {A : Type 0} (f : Module → List A) (parts : List Part) (p : ℕ) (m : Module) (x : A) → module_at parts p ≡ Some m → Has (f m) x → Has (flat_map (λ p. f p.«module») parts) x
 flat_has f [] p m x e h = absurd (let k = e in cc)
-flat_has f (part ∷ parts) zero m x e h = let same : m ≡ part.«module» = cc in in_front (f part.«module») (flat_map (λ p. f p.«module») parts) x (subst (λ z. Has (f z) x) same h)
-flat_has f (part ∷ parts) (suc p) m x e h = in_back (f part.«module») (flat_map (λ p. f p.«module») parts) x (flat_has f parts p m x e h)
+flat_has f (part ∷ parts) zero m x e h = let same : m ≡ part.«module» = cc in has_left (f part.«module») (flat_map (λ p. f p.«module») parts) x (subst (λ z. Has (f z) x) same h)
+flat_has f (part ∷ parts) (suc p) m x e h = has_right (f part.«module») (flat_map (λ p. f p.«module») parts) x (flat_has f parts p m x e h)
 
 merged_has : (parts : List Part) (p : ℕ) (m : Module) (t : FuncType) → module_at parts p ≡ Some m → Has m.types t → Has (merged_types parts) t
 unfolding merged_types
@@ -65,7 +59,7 @@ unfolding map_of
 types_map parts p m = refl
 
 pub type_entry : (parts : List Part) (p : ℕ) (m : Module) (ty : ℕ) (t : FuncType) → slice_get m.types ty ≡ Some t → slice_index (map_of parts p m).types ty ≡ place_of_type parts t
-type_entry parts p m ty t h = ap (λ z. slice_index z ty) (types_map parts p m) ∙ index_at (map (place_of_type parts) m.types) ty (place_of_type parts t) (map_at (place_of_type parts) m.types ty t h)
+type_entry parts p m ty t h = ap (λ z. slice_index z ty) (types_map parts p m) ∙ slice_index_is (map (place_of_type parts) m.types) ty (place_of_type parts t) (map_at (place_of_type parts) m.types ty t h)
 
 -- the entry of a part's type is that type
 pub type_stands : (parts : List Part) (p : ℕ) (m : Module) (ty : ℕ) (t : FuncType) → module_at parts p ≡ Some m → slice_get m.types ty ≡ Some t → slice_get (merged_types parts) (slice_index (map_of parts p m).types ty) ≡ Some t

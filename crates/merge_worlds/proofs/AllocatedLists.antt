@@ -5,10 +5,6 @@ use Rattle.wasm_meaning.specs.State.{Func, Global, Elem}
 use Rattle.wasm_meaning.specs.World.{all_there}
 use Rattle.index_remap.specs.Related.{OptRel, none, some, ListRel, nil, cons}
 
-pub nothing_more : {A : Type 0} (xs : List A) → xs ++ [] ≡ xs
-nothing_more [] = refl
-nothing_more (x ∷ xs) = ap (λ ys. x ∷ ys) (nothing_more xs)
-
 pub at_is : {A : Type 0} (xs : List A) (n : ℕ) (x : A) → slice_get xs n ≡ Some x → at xs n ≡ Gives x
 at_is [] n x h = cc
 at_is (y ∷ xs) zero x h = let same : y ≡ x = cc in ap Gives same

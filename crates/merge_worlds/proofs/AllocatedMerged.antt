@@ -1,5 +1,5 @@
 -- The lists of the merged module, by part; and what comes after these in it: a function that calls starts, and a segment that declares references.
-use Rattle.std.proofs.Common.{◌≡◌, ℕ, zero, suc, ◌+◌, ◌<◌, List, [], ◌∷◌, ◌++◌, map, length, Some, ◌&&◌, refl, sym, ap, ap₂, subst, ◌∙◌, arith, option_and_then}
+use Rattle.std.proofs.Common.{◌≡◌, ℕ, zero, suc, ◌+◌, ◌<◌, List, [], ◌∷◌, ◌++◌, map, length, Some, ◌&&◌, refl, sym, ap, ap₂, subst, ◌∙◌, arith, option_and_then, append-nil}
 use Rattle.std.specs.Prelude.{not, slice_get}
 use Rattle.std.specs.List.{flat_map, range_with_len}
 use Rattle.wasm_tree.specs.declared.module.ConstExpr.TheVariants as const
@@ -22,10 +22,9 @@ use Rattle.export_names.specs.declared.mode.Mode.{Mode}
 use Rattle.export_names.specs.Names.{new_names}
 use Rattle.merge_terms.specs.Joined.{joined_module}
 use Rattle.merge_terms.specs.Merged.{by_part_from, starts, start_calls, defined_funcs, export_names, merged}
-use Rattle.merge_validity.proofs.Lists.{place_get, kept_is}
 use Rattle.merge_worlds.proofs.ValueGiven.{Laws}
-use Rattle.merge_worlds.proofs.AllocatedLists.{nothing_more}
 use Rattle.merge_worlds.proofs.AllocatedParts.{part_funcs, part_globals, part_elems, part_datas}
+use Rattle.base_lists.proofs.Filtered.{kept_is}
 
 -- ---- one more segment ----
 
@@ -44,7 +43,7 @@ record Declared (m u : Module) (fs : List ℕ) : Type 0 where
   space : funcs_of u ≡ funcs_of m
 
 declared_is : (m : Module) (fs : List ℕ) → Declared m (with_declared m fs) fs
-declared_is m [] = record { funcs = refl; tables = refl; mems = refl; globals = refl; elems = sym (nothing_more m.elems); datas = refl; space = refl }
+declared_is m [] = record { funcs = refl; tables = refl; mems = refl; globals = refl; elems = sym (append-nil m.elems); datas = refl; space = refl }
 declared_is m (f ∷ fs) = record { funcs = refl; tables = refl; mems = refl; globals = refl; elems = refl; datas = refl; space = refl }
 
 -- the merged module before its references are declared
@@ -82,7 +81,7 @@ range_below a (suc n) (suc k) x h = let l = range_below (a + 1) n k x h in omega
 declared_below : (parts : List Part) (mode : Mode) (n f : ℕ) → slice_get (declared_in parts mode) n ≡ Some f → f < length (funcs_of (joined_module parts mode))
 declared_below parts mode n f h =
     let m = undeclared parts mode in
-    let k = kept_is (λ f. is_among (body_refs m.funcs) f && not (is_among (outside_refs m) f)) (range_with_len 0 (length (funcs_of m))) n f (sym (place_get (declared_refs m) n) ∙ h) in
+    let k = kept_is (λ f. is_among (body_refs m.funcs) f && not (is_among (outside_refs m) f)) (range_with_len 0 (length (funcs_of m))) n f (h) in
     let l = range_below 0 (length (funcs_of m)) k.1.0 f k.1.1 in
     let e = ap length (joined_is parts mode).space in
     omega (arith, l, e)
@@ -121,7 +120,7 @@ call_at parts mode n f h = ap (λ fs. slice_get fs (length (before_calls parts) 
 func_typed : (laws : Laws) (m : Module) → IsValid m → (n : ℕ) (f : tree.Func) → slice_get m.funcs n ≡ Some f → f.ty < length m.types
 func_typed laws m valid n f h =
     let z = (laws.items m).0 valid kind.Func n (within m.funcs n f h) in
-    let both : Some z.0 ≡ Some f = sym z.1 ∙ sym (place_get m.funcs n) ∙ h in
+    let both : Some z.0 ≡ Some f = sym z.1 ∙ h in
     let same : z.0 ≡ f = cc in
     subst (λ (f : tree.Func). f.ty < length m.types) same z.2
 

@@ -1,5 +1,5 @@
 -- What each part adds to the store, and what its definitions add where they stand in the merged module.
-use Rattle.std.proofs.Common.{◌≡◌, ℕ, suc, ◌+◌, ◌*◌, List, [], ◌∷◌, ◌++◌, map, length, Option, Some, true, false, refl, sym, ap, ap₂, subst, ◌∙◌, append_assoc, arith, option_and_then}
+use Rattle.std.proofs.Common.{◌≡◌, ℕ, suc, ◌+◌, ◌*◌, List, [], ◌∷◌, ◌++◌, map, length, Option, Some, true, false, refl, sym, ap, ap₂, subst, ◌∙◌, append_assoc, arith, option_and_then, append-nil}
 use Rattle.wasm_tree.specs.declared.space.Space.TheVariants.{Functions, Tables, Memories, Globals, DataSegments, ElementSegments}
 use Rattle.std.specs.Prelude.{slice_get}
 use Rattle.std.specs.List.{flat_map}
@@ -35,12 +35,11 @@ use Rattle.export_names.specs.declared.mode.Mode.{Mode}
 use Rattle.merge_terms.specs.Joined.{joined_module}
 use Rattle.merge_terms.specs.Merged.{map_of, by_part_from, merged_const, merged_global, merged_elem, merged_elem_mode, merged_data}
 use Rattle.merge_validity.specs.Joinable.{CanBeJoined}
-use Rattle.merge_validity.proofs.Lists.{place_get}
 use Rattle.merge_worlds.specs.Instances.{PartAgrees}
 use Rattle.merge_worlds.specs.Shared.{sharing}
 use Rattle.merge_worlds.proofs.ValueGiven.{Laws, EachAgrees}
 use Rattle.merge_worlds.proofs.Values.{const_rel, reference_rel}
-use Rattle.merge_worlds.proofs.AllocatedLists.{nothing_more, placed_rel, some_rel, both_lists, all_append, Added, adding, and_added, exchange}
+use Rattle.merge_worlds.proofs.AllocatedLists.{placed_rel, some_rel, both_lists, all_append, Added, adding, and_added, exchange}
 use Rattle.merge_worlds.proofs.AllocatedFuncs.{func_rel}
 
 -- ---- what is allocated in the same way ----
@@ -78,17 +77,17 @@ module _ (laws : Laws) (m : Module) (valid : IsValid m) where
   global_typed : (n : ℕ) (g : GlobalDef) → slice_get m.globals n ≡ Some g → const_type m g.init ≡ Some g.ty.ty
   global_typed n g h =
       let z = (laws.items m).0 valid kind.Global n (within m.globals n g h) in
-      let both : Some z.0 ≡ Some g = sym z.1 ∙ sym (place_get m.globals n) ∙ h in
+      let both : Some z.0 ≡ Some g = sym z.1 ∙ h in
       let same : z.0 ≡ g = cc in
       subst (λ (g : GlobalDef). const_type m g.init ≡ Some g.ty.ty) same z.2
 
   item_typed : (n : ℕ) (s : ElemSeg) → slice_get m.elems n ≡ Some s → (l : ℕ) (e : ConstExpr) → slice_get s.items l ≡ Some e → const_type m e ≡ Some (Ref s.ty)
   item_typed n s h l e at =
       let z = (laws.items m).0 valid kind.Elem n (within m.elems n s h) in
-      let both : Some z.0 ≡ Some s = sym z.1 ∙ sym (place_get m.elems n) ∙ h in
+      let both : Some z.0 ≡ Some s = sym z.1 ∙ h in
       let same : z.0 ≡ s = cc in
       let typed = subst (λ (s : ElemSeg). (l : ℕ) (e : ConstExpr) → slice_get s.items l ≡ Some e → const_type m e ≡ Some (Ref s.ty)) same z.2 in
-      typed l e (sym (place_get s.items l) ∙ at)
+      typed l e (at)
 
   funcs_fit : (parts : List Part) (p : ℕ) → all_true (map (fits_func (map_of parts p m)) m.funcs) ≡ true
   funcs_fit parts p = left_true _ _ (right_true (all_true (map (fits_import (map_of parts p m)) m.imports)) _ (laws.entries parts p m valid))
@@ -188,17 +187,17 @@ module _ (laws : Laws) (env : Environment) (parts : List Part) (mode : Mode) (ca
   grown_none : (s : Store) (p : ℕ) → Grown s p [] s (record { funcs = []; globals = []; elems = [] })
   grown_none s p = record {
     more_funcs = [];
-    funcs_are = sym (nothing_more s.funcs);
+    funcs_are = sym (append-nil s.funcs);
     funcs = nil;
     more_globals = [];
-    globals_are = sym (nothing_more s.globals);
+    globals_are = sym (append-nil s.globals);
     globals = nil;
     more_elems = [];
-    elems_are = sym (nothing_more s.elems);
+    elems_are = sym (append-nil s.elems);
     elems = nil;
-    tables = sym (nothing_more s.tables);
-    mems = sym (nothing_more s.mems);
-    datas = sym (nothing_more s.datas);
+    tables = sym (append-nil s.tables);
+    mems = sym (append-nil s.mems);
+    datas = sym (append-nil s.datas);
     func_count = omega arith;
     table_count = omega arith;
     memory_count = omega arith;

@@ -1,5 +1,5 @@
 -- Stores that are alike correspond by the addresses that both worlds have.
-use Rattle.std.proofs.Common.{◌≡◌, ℕ, zero, suc, ◌<◌, List, [], ◌∷◌, ◌++◌, length, refl, sym, subst, arith}
+use Rattle.std.proofs.Common.{◌≡◌, ℕ, zero, suc, ◌<◌, List, [], ◌∷◌, ◌++◌, length, refl, sym, subst, arith, append-nil}
 use Rattle.wasm_tree.specs.declared.space.Space.{Space}
 use Rattle.wasm_tree.specs.declared.space.Space.TheVariants.{Functions, Tables, Memories, Globals, ElementSegments, DataSegments}
 use Rattle.wasm_tree.specs.declared.types.FuncType.{FuncType}
@@ -13,7 +13,6 @@ use Rattle.index_remap.specs.RelatedRuns.{KeyRel}
 use Rattle.permuted_worlds.specs.Owned.{OwnEntitiesCorrespond}
 use Rattle.merge_worlds.specs.Shared.{shared_count, sharing}
 use Rattle.merge_worlds.specs.Stores.{StoresAlike}
-use Rattle.merge_worlds.proofs.AllocatedLists.{nothing_more}
 use Rattle.merge_worlds.proofs.ValueShared.{is_same, own_entities}
 
 -- related lists, of which more may follow the second
@@ -59,9 +58,9 @@ module _ (env : Environment) (parts : List Part) where
     types = λ {a} {b} h. type_same (funcs a b h);
     owns = λ {a} {b} h. own_same (funcs a b h);
     funcs = λ {a} {b} h _. funcs a b h;
-    tables = λ {a} {b} h. in_lists Tables s.tables z.tables [] z.tables k.tables (sym (nothing_more z.tables)) k.table_count a b h;
+    tables = λ {a} {b} h. in_lists Tables s.tables z.tables [] z.tables k.tables (sym (append-nil z.tables)) k.table_count a b h;
     mems = λ {a} {b} h. in_same Memories s.mems z.mems (λ x. refl) k.mems k.memory_count a b h;
-    globals = λ {a} {b} h. in_lists Globals s.globals z.globals [] z.globals k.globals (sym (nothing_more z.globals)) k.global_count a b h;
+    globals = λ {a} {b} h. in_lists Globals s.globals z.globals [] z.globals k.globals (sym (append-nil z.globals)) k.global_count a b h;
     elems = λ {a} {b} h. in_lists ElementSegments s.elems k.shared_elems k.more_elems z.elems k.elems k.all_elems k.elem_count a b h;
     datas = λ {a} {b} h. in_same DataSegments s.datas z.datas (λ x. refl) k.datas k.data_count a b h;
   }

@@ -1,5 +1,5 @@
 -- The functions that the merged module starts, as they stand in its store: those of the parts, which take and give nothing, and the one that calls several.
-use Rattle.std.proofs.Common.{◌≡◌, ◌∙◌, ap, ap₂, sym, refl, ℕ, zero, suc, ◌+◌, ◌-◌, ◌<◌, ◌≤◌, List, [], ◌∷◌, ◌++◌, map, length, Option, Some, None, Bool, true, false, cond, arith, ◌⊎◌, inl, inr, ◌&&◌}
+use Rattle.std.proofs.Common.{◌≡◌, ◌∙◌, ap, ap₂, sym, refl, ℕ, zero, suc, ◌+◌, ◌-◌, ◌<◌, ◌≤◌, List, [], ◌∷◌, ◌++◌, map, length, Option, Some, None, Bool, true, false, cond, arith, ◌⊎◌, inl, inr, ◌&&◌, is_some}
 use Rattle.wasm_tree.specs.declared.space.Space.TheVariants.{Functions}
 use Rattle.std.specs.Prelude.{slice_get, option_and_then}
 use Rattle.std.proofs.lemmas.Bool.{cases_lt}
@@ -33,7 +33,6 @@ use Rattle.merge_terms.specs.Merged.{merged, map_of, defined_funcs, start_calls,
 use Rattle.merge_terms.specs.Joined.{joined_module}
 use Rattle.merge_validity.specs.Joinable.{CanBeJoined}
 use Rattle.merge_validity.specs.Started.{StartsTakeNothing}
-use Rattle.merge_validity.proofs.Lists.{then_is, or_false_is, place_get, place_of, is_some, map_back, behind}
 use Rattle.merge_validity.proofs.Same.{func_type_is}
 use Rattle.merge_validity.proofs.ByPart.{by_part_many, defined_is}
 use Rattle.permuted_worlds.specs.Alone.{one, site}
@@ -41,11 +40,14 @@ use Rattle.permuted_worlds.proofs.Places.{found, within, place_left, place_right
 use Rattle.permuted_worlds.proofs.Alone.{funcs_counted}
 use Rattle.merge_worlds.specs.Shared.{shared_count}
 use Rattle.merge_worlds.proofs.SpaceLaws.{SpaceLaws}
-use Rattle.merge_worlds.proofs.Chosen.{all_at}
 use Rattle.merge_worlds.proofs.Instancing.{IsInst}
 use Rattle.merge_worlds.proofs.Standing.{import_address}
 use Rattle.merge_worlds.proofs.MergedAlone.{Keeps, joined_keeps, names_of, merged_types_are}
 use Rattle.merge_worlds.proofs.Starts.{IsNamed}
+use Rattle.base_lists.proofs.Places.{map_from, append_right}
+use Rattle.base_lists.proofs.Filtered.{place_of}
+use Rattle.base_lists.proofs.Options.{and_then_is, unwrap_or_false_is, all_there_at}
+use Rattle.std.proofs.lemmas.Option.{same_Some}
 
 -- ---- segments leave the functions as they are ----
 
@@ -109,10 +111,6 @@ at_is [] n x h = absurd (let k = h in cc)
 at_is (y ∷ xs) zero x h = let same : y ≡ x = cc in ap Gives same
 at_is (y ∷ xs) (suc n) x h = at_is xs n x h
 
-and_then_is : {A B : Type 0} (f : A → Option B) (o : Option A) (y : B) → option_and_then f o ≡ Some y → (x : A) × (o ≡ Some x) × (f x ≡ Some y)
-and_then_is f None y h = absurd (let k = h in cc)
-and_then_is f (Some x) y h = (x, refl, h)
-
 given_is : {A : Type 0} (o : Outcome A) (a : A) → given o ≡ Some a → o ≡ Gives a
 given_is (Gives b) a h = let same : b ≡ a = cc in ap Gives same
 given_is Traps a h = absurd (let k = h in cc)
@@ -129,9 +127,6 @@ all_of_at {A} is (y ∷ xs) n x h e = by (is y) refl h (λ k n e. all_of_at is x
     by true q h on zero e = let same : y ≡ x = cc in ap is (sym same) ∙ q
     by true q h on (suc n) e = on h n e
     by false q h on n e = absurd (let k = h in cc)
-
-in_some : {A : Type 0} (x y : A) → Some x ≡ Some y → x ≡ y
-in_some x y h = cc
 
 func_kind : (i : Import) → is_some (func_of i.desc) ≡ has_kind Functions i
 func_kind i = by i.desc refl
@@ -164,10 +159,10 @@ module _ (laws : SpaceLaws) (env : Environment) (t : Module) (j : Inst) (inst : 
 
   has_funcs : HasFuncs
   has_funcs =
-      let s = then_is (part_store env (one t) (j ∷ []) 0 t j) _ z there in
-      let f = then_is (all_there (new_func j) t.funcs) _ s.0 s.1 in
-      let g = then_is (all_there (new_global env (one t) (j ∷ []) 0) t.globals) _ s.0 f.2 in
-      let e = then_is (all_there (elem_of env (one t) (j ∷ []) 0) t.elems) _ s.0 g.2 in
+      let s = and_then_is (part_store env (one t) (j ∷ []) 0 t j) _ z there in
+      let f = and_then_is (all_there (new_func j) t.funcs) _ s.0 s.1 in
+      let g = and_then_is (all_there (new_global env (one t) (j ∷ []) 0) t.globals) _ s.0 f.2 in
+      let e = and_then_is (all_there (elem_of env (one t) (j ∷ []) 0) t.elems) _ s.0 g.2 in
       let part : Some (s.0.funcs) ≡ Some f.0 = ap (λ o. option_and_then (λ (s : Store). Some s.funcs) o) (sym e.2) in
       let funcs : s.0.funcs ≡ f.0 = cc in
       let all : Some (own_funcs env ++ s.0.funcs) ≡ Some z.funcs = ap (λ o. option_and_then (λ (s : Store). Some s.funcs) o) s.2 in
@@ -177,43 +172,43 @@ module _ (laws : SpaceLaws) (env : Environment) (t : Module) (j : Inst) (inst : 
   pub own_func_at : (n : ℕ) (f : tree.Func) (ty : FuncType) → slice_get t.funcs n ≡ Some f → slice_get t.types f.ty ≡ Some ty → slice_get z.funcs (own_count Functions env + n) ≡ Some (Code ty j (declared f.locals) f.body)
   own_func_at n f ty h e =
       let s = has_funcs in
-      let r = all_at (new_func j) t.funcs s.funcs s.are n f h in
+      let r = all_there_at (new_func j) t.funcs s.funcs s.are n f h in
       let is : new_func j f ≡ Some (Code ty j (declared f.locals) f.body) = ap (λ o. option_and_then {T = FuncType} {U = Func} (λ ty. Some (Code ty j (declared f.locals) f.body)) o) (ap (λ l. slice_get l f.ty) inst.types ∙ e) in
       ap (λ l. slice_get l (own_count Functions env + n)) s.all ∙ place_right (own_funcs env) s.funcs n ∙ r.2 ∙ sym r.1 ∙ is
 
   own_typed : (x n a : ℕ) (ty : FuncType) → x ≡ length (imports_of Functions t) + n → a ≡ own_count Functions env + n → type_of_func t x ≡ Some ty → type_at z a ≡ Gives ty
   own_typed x n a ty e d h =
-      let y = and_then_is (slice_get t.types) (slice_get (funcs_of t) x) ty h in
+      let y = and_then_is (slice_get (funcs_of t) x) (slice_get t.types) ty h in
       let many = funcs_counted t.imports 0 in
       let at : length (imported_funcs t.imports) + n ≡ x = omega (arith, e, many) in
-      let got : slice_get (map (λ f. f.ty) t.funcs) n ≡ Some y.0 = sym (behind (imported_funcs t.imports) (map (λ f. f.ty) t.funcs) n) ∙ ap (slice_get (funcs_of t)) at ∙ y.1 in
-      let f = map_back (λ f. f.ty) t.funcs n y.0 got in
-      let type : slice_get t.types f.0.ty ≡ Some ty = place_get t.types f.0.ty ∙ ap (slice_get t.types) f.2 ∙ y.2 in
-      let func = own_func_at n f.0 ty (place_get t.funcs n ∙ f.1) type in
+      let got : slice_get (map (λ f. f.ty) t.funcs) n ≡ Some y.0 = sym (append_right (imported_funcs t.imports) (map (λ f. f.ty) t.funcs) n) ∙ ap (slice_get (funcs_of t)) at ∙ y.1 in
+      let f = map_from (λ f. f.ty) t.funcs n y.0 got in
+      let type : slice_get t.types f.0.ty ≡ Some ty = ap (slice_get t.types) f.2 ∙ y.2 in
+      let func = own_func_at n f.0 ty (f.1) type in
       ap (type_at z) d ∙ ap (λ o. bind o (λ f. Gives (control.type_of_func f))) (at_is z.funcs (own_count Functions env + n) _ func)
 
   import_typed : all_of (is_matched env (one t) z) (sites (one t)) ≡ true → (x n a : ℕ) (ty : FuncType) → slice_get (imports_of Functions t) x ≡ Some n → import_address env (one t) Functions 0 n ≡ Some a → type_of_func t x ≡ Some ty → type_at z a ≡ Gives ty
   import_typed matched x n a ty e address h =
-      let y = and_then_is (slice_get t.types) (slice_get (funcs_of t) x) ty h in
+      let y = and_then_is (slice_get (funcs_of t) x) (slice_get t.types) ty h in
       let r = place_of (has_kind Functions) (λ i. func_of i.desc) t.imports func_kind 0 x n e in
       let k : n ≡ r.0 = (let d = r.2 in omega (arith, d)) in
-      let i : slice_get t.imports n ≡ Some r.1 = ap (slice_get t.imports) k ∙ place_get t.imports r.0 ∙ r.3 in
+      let i : slice_get t.imports n ≡ Some r.1 = ap (slice_get t.imports) k ∙ r.3 in
       let many = funcs_counted t.imports 0 in
       let low : x < length (imported_funcs t.imports) = (let l = within (imports_of Functions t) x n e in omega (arith, l, many)) in
       let got : func_of r.1.desc ≡ Some y.0 =
-      sym r.5 ∙ sym (place_get (imported_funcs t.imports) x) ∙ sym (place_left (imported_funcs t.imports) (map (λ f. f.ty) t.funcs) x low) ∙ place_get (funcs_of t) x ∙ y.1 in
+      sym r.5 ∙ sym (place_left (imported_funcs t.imports) (map (λ f. f.ty) t.funcs) x low) ∙ y.1 in
       let desc = func_desc r.1.desc y.0 got in
       let s = (laws.sites (one t) (site n)).1 r.1 i in
-      let c = then_is (import_at (one t) (site n)) _ true (or_false_is _ (all_of_at (is_matched env (one t) z) (sites (one t)) s.0 (site n) matched s.1)) in
-      let d = then_is (imported_thing env (one t) (site n)) (is_match z t c.0.desc) true c.2 in
+      let c = and_then_is (import_at (one t) (site n)) _ true (unwrap_or_false_is _ (all_of_at (is_matched env (one t) z) (sites (one t)) s.0 (site n) matched s.1)) in
+      let d = and_then_is (imported_thing env (one t) (site n)) (is_match z t c.0.desc) true c.2 in
       let both : Some c.0 ≡ Some r.1 = sym c.1 ∙ i in
       let same : c.0 ≡ r.1 = cc in
       let thing = func_thing d.0 a (sym (ap (λ o. option_and_then (address_of Functions) o) d.1) ∙ address) in
       let match : is_match z t (im.Func y.0) (FuncAt a) ≡ Some true = sym (ap₂ (is_match z t) (ap (λ (i : Import). i.desc) same ∙ desc) thing) ∙ d.2 in
-      let u = then_is (slice_get t.types y.0) _ true match in
-      let v = then_is (given (type_at z a)) _ true u.2 in
-      let yes : same_func_type u.0 v.0 ≡ true = in_some (same_func_type u.0 v.0) true v.2 in
-      let types : Some u.0 ≡ Some ty = sym u.1 ∙ place_get t.types y.0 ∙ y.2 in
+      let u = and_then_is (slice_get t.types y.0) _ true match in
+      let v = and_then_is (given (type_at z a)) _ true u.2 in
+      let yes : same_func_type u.0 v.0 ≡ true = same_Some (same_func_type u.0 v.0) true v.2 in
+      let types : Some u.0 ≡ Some ty = sym u.1 ∙ y.2 in
       let type : u.0 ≡ ty = cc in
       matched_type (type_at z a) u.0 v.0 ty v.1 (func_type_is u.0 v.0 yes) type
 
@@ -222,7 +217,7 @@ module _ (laws : SpaceLaws) (env : Environment) (t : Module) (j : Inst) (inst : 
   named_typed matched x a ty h e = go (cases_lt x (length (imports_of Functions t)))
     where
       s : (l : List ℕ) × (all_there (import_address env (one t) Functions 0) (imports_of Functions t) ≡ Some l) × (Some (l ++ numbers (base env (one t) Functions 0) (defined_count Functions t)) ≡ Some j.funcs)
-      s = then_is (all_there (import_address env (one t) Functions 0) (imports_of Functions t)) (λ l. Some (l ++ numbers (base env (one t) Functions 0) (defined_count Functions t))) j.funcs inst.funcs
+      s = and_then_is (all_there (import_address env (one t) Functions 0) (imports_of Functions t)) (λ l. Some (l ++ numbers (base env (one t) Functions 0) (defined_count Functions t))) j.funcs inst.funcs
 
       all : j.funcs ≡ s.0 ++ numbers (base env (one t) Functions 0) (defined_count Functions t)
       all = let q = s.2 in let same : s.0 ++ numbers (base env (one t) Functions 0) (defined_count Functions t) ≡ j.funcs = cc in sym same
@@ -233,7 +228,7 @@ module _ (laws : SpaceLaws) (env : Environment) (t : Module) (j : Inst) (inst : 
       go : (x < length (imports_of Functions t)) ⊎ (length (imports_of Functions t) ≤ x) → type_at z a ≡ Gives ty
       go (inl low) =
           let n = found (imports_of Functions t) x low in
-          let r = all_at (import_address env (one t) Functions 0) (imports_of Functions t) s.0 s.1 x n.0 n.1 in
+          let r = all_there_at (import_address env (one t) Functions 0) (imports_of Functions t) s.0 s.1 x n.0 n.1 in
           let both : Some a ≡ Some r.0 = sym h ∙ ap (λ l. slice_get l x) all ∙ place_left s.0 _ x (within s.0 x r.0 r.2) ∙ r.2 in
           import_typed matched x n.0 a ty n.1 (r.1 ∙ sym both) e
       go (inr high) =

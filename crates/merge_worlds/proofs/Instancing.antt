@@ -7,7 +7,7 @@ use Rattle.wasm_meaning.specs.State.{Inst}
 use Rattle.wasm_meaning.specs.Linking.{Part, module_at}
 use Rattle.wasm_meaning.specs.Environment.{Environment}
 use Rattle.wasm_meaning.specs.World.{space, numbers, inst_of, insts_from, defined_before}
-use Rattle.merge_validity.proofs.Lists.{then_is}
+use Rattle.base_lists.proofs.Options.{and_then_is}
 
 -- ---- one ----
 
@@ -26,10 +26,10 @@ made types elems datas f t m g =
 
 pub inst_is : (env : Environment) (parts : List Part) (p : ℕ) (m : Module) (i : Inst) → inst_of env parts p m ≡ Some i → IsInst env parts p m i
 inst_is env parts p m i h =
-    let f = then_is (space env parts Functions p m) _ i h in
-    let t = then_is (space env parts Tables p m) _ i f.2 in
-    let s = then_is (space env parts Memories p m) _ i t.2 in
-    let g = then_is (space env parts Globals p m) _ i s.2 in
+    let f = and_then_is (space env parts Functions p m) _ i h in
+    let t = and_then_is (space env parts Tables p m) _ i f.2 in
+    let s = and_then_is (space env parts Memories p m) _ i t.2 in
+    let g = and_then_is (space env parts Globals p m) _ i s.2 in
     let q = g.2 in
     let same : record { types = m.types; funcs = f.0; tables = t.0; mems = s.0; globals = g.0; elems = numbers (defined_before ElementSegments parts p) (length m.elems); datas = numbers (defined_before DataSegments parts p) (length m.datas) } ≡ i = cc in
     record {
@@ -73,8 +73,8 @@ each_cons env all p part parts i is h later (suc q) m e =
 pub insts_are : (env : Environment) (all : List Part) (p : ℕ) (parts : List Part) (is : List Inst) → insts_from env all p parts ≡ Some is → EachInst env all p parts is
 insts_are env all p [] is h = let same : [] ≡ is = cc in record { size = ap length (sym same); each = λ q m e. absurd (let k = e in cc) }
 insts_are env all p (part ∷ parts) is h =
-    let i = then_is (inst_of env all p part.«module») _ is h in
-    let r = then_is (insts_from env all (suc p) parts) _ is i.2 in
+    let i = and_then_is (inst_of env all p part.«module») _ is h in
+    let r = and_then_is (insts_from env all (suc p) parts) _ is i.2 in
     let q = r.2 in
     let same : i.0 ∷ r.0 ≡ is = cc in
     let later = insts_are env all (suc p) parts r.0 r.1 in

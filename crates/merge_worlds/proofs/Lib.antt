@@ -1,5 +1,4 @@
 pub mod SpaceLaws
-pub mod Chosen
 pub mod Instancing
 pub mod Standing
 pub mod MergedAlone

@@ -1,13 +1,14 @@
 -- All imports of the parts match where all imports of the merged module do.
-use Rattle.std.proofs.Common.{◌≡◌, ℕ, zero, suc, ◌+◌, ◌-◌, ◌<◌, ◌≤◌, List, length, Option, Some, None, true, refl, sym, ap, ap₂, subst, ◌∙◌, arith, option_and_then, slice_get}
+use Rattle.std.proofs.Common.{◌≡◌, ℕ, zero, suc, ◌+◌, ◌-◌, ◌<◌, ◌≤◌, List, length, Option, Some, None, true, refl, sym, ap, ap₂, subst, ◌∙◌, arith, option_and_then, slice_get, unwrap_or, false}
 use Rattle.wasm_tree.specs.declared.space.Space.{Space}
 use Rattle.std.specs.Prelude.{nat_eq}
-use Rattle.std.proofs.lemmas.Bool.{eqb-true, eq-eqb}
+use Rattle.std.proofs.lemmas.Bool.{eqb-true, eq-eqb, and_parts, and_from}
 use Rattle.wasm_tree.specs.declared.types.Limits.{Limits}
 use Rattle.wasm_tree.specs.declared.module.Import.{Import}
 use Rattle.wasm_tree.specs.declared.module.Module.{Module}
 use Rattle.wasm_meaning.specs.State.{Inst, Store}
-use Rattle.wasm_meaning.specs.Linking.{Part, Site, End, Defined, Outside, import_at, imports_of, kind_of_export, index_of_export, same_site, is_outside, sites, linked_end, limits_of, met_limits}
+use Rattle.wasm_meaning.specs.Linking.{Part, Site, End, Defined, Outside, import_at, imports_of, same_site, is_outside, sites, linked_end, limits_of, met_limits}
+use Rattle.wasm_tree.specs.Spaces.{index_of_export, space_of_export}
 use Rattle.wasm_meaning.specs.Environment.{Environment, Thing, owned_of, all_of}
 use Rattle.wasm_meaning.specs.World.{base, defined_count, thing_at, outside_thing, thing_of, imported_thing, own_store, stores_from, is_matched}
 use Rattle.export_names.specs.declared.mode.Mode.{Mode}
@@ -19,22 +20,23 @@ use Rattle.merge_worlds.specs.Stores.{StoresAlike}
 use Rattle.permuted_worlds.proofs.Defined.{defined_at}
 use Rattle.permuted_worlds.specs.Alone.{one, site, ImportsStandForTheEnvironments}
 use Rattle.merge_validity.specs.Ended.{EndsInside, EndsOutside, Ended, inside, outside, LinkedImportsEnd, StayingImportsEndThere, SitesAreImports, TypesHavePlaces}
-use Rattle.merge_worlds.proofs.MatchLists.{bool_same, both_true, true_both, all_each, each_all}
+use Rattle.merge_worlds.proofs.MatchLists.{all_each, each_all}
 use Rattle.merge_worlds.proofs.MatchTypes.{alike_is}
 use Rattle.merge_worlds.proofs.MatchLimits.{each_met, met_each}
 use Rattle.merge_worlds.proofs.MatchFits.{fits, fitting_there, there_fitting, asked_limits, limits_in, kept, fits_limits, kept_fits, fits_kept}
 use Rattle.merge_worlds.proofs.MatchDefined.{defined_fits}
 use Rattle.merge_worlds.proofs.MatchMerged.{import_site, asks_by, matched_at, moved, is_staying, stays_in, moved_matched}
+use Rattle.base_lists.proofs.Bools.{same_tests}
 
 -- ---- sites ----
 
 site_is : (s t : Site) → same_site s t ≡ true → s ≡ t
 site_is s t h =
-    let b = both_true (nat_eq s.part t.part) (nat_eq s.import t.import) h in
+    let b = and_parts (nat_eq s.part t.part) (nat_eq s.import t.import) h in
     ap₂ (λ p n. record { part = p; import = n }) (eqb-true s.part t.part b.0) (eqb-true s.import t.import b.1)
 
 site_same : (s : Site) → same_site s s ≡ true
-site_same s = true_both (nat_eq s.part s.part) (nat_eq s.import s.import) (eq-eqb s.part s.part refl) (eq-eqb s.import s.import refl)
+site_same s = and_from (nat_eq s.part s.part) (nat_eq s.import s.import) (eq-eqb s.part s.part refl) (eq-eqb s.import s.import refl)
 
 outside_end : (u : Site) (o : Option End) → is_outside u o ≡ true → o ≡ Some (Outside u)
 outside_end u None h = cc
@@ -158,15 +160,16 @@ module _ (ends_law : LinkedImportsEnd) (stays_law : StayingImportsEndThere) (sit
       inside_matches : (t : Site) (i : Import) → import_at parts t ≡ Some i → EndsInside parts t i → is_matched env parts s t ≡ true
       inside_matches t i at w =
           let e = w.entity in
-          let k = kind_of_export e.what in
+          let k = space_of_export e.what in
           let a = agree.each e.part w.of w.is_part in
           let follows : length (imports_of k w.of) ≤ index_of_export e.what = subst (λ (k : Space). length (imports_of k w.of) ≤ index_of_export e.what) (sym w.kind) w.follows in
           let within : index_of_export e.what < length (imports_of k w.of) + defined_count k w.of = subst (λ (k : Space). index_of_export e.what < length (imports_of k w.of) + defined_count k w.of) (sym w.kind) w.within in
-          let thing : imported_thing env parts t ≡ Some (thing_at k (base env parts k e.part + (index_of_export e.what - length (imports_of k w.of)))) =
+          let thing : imported_thing env parts t ≡ thing_at k (base env parts k e.part + (index_of_export e.what - length (imports_of k w.of))) =
           ap (λ o. option_and_then (thing_of env parts) o) w.end
           ∙ defined_at env parts e w.of w.is_part (omega (arith, follows, within)) in
           matched_at env parts s t i w.demand at w.asks
-          ∙ there_fitting s w.demand (imported_thing env parts t) _ thing (defined_fits env parts insts s made e.part w.of a.0 w.is_part a.1 a.2.own_types e.what w.demand w.thing w.is follows w.same w.meets)
+          ∙ ap (λ o. unwrap_or (option_and_then (fits s w.demand) o) false) thing
+          ∙ ap (λ o. unwrap_or o false) (defined_fits env parts insts s made e.part w.of a.0 w.is_part a.1 a.2.own_types e.what w.demand w.thing w.is follows w.same w.meets)
 
       all_parts_match : all_of (is_matched env (one whole) z) (sites (one whole)) ≡ true → all_of (is_matched env parts s) (sites parts) ≡ true
       all_parts_match all = each_all (is_matched env parts s) (sites parts) (λ k t stands. let i = (sites_law parts t).0 k stands in by k t i.0 stands i.1 (ended t i.0 i.1))
@@ -176,4 +179,4 @@ module _ (ends_law : LinkedImportsEnd) (stays_law : StayingImportsEndThere) (sit
           by k t i stands at (outside w) = outside_matches all k t i stands at w
 
       pub all_matched : all_of (is_matched env parts s) (sites parts) ≡ all_of (is_matched env (one whole) z) (sites (one whole))
-      all_matched = bool_same (all_of (is_matched env parts s) (sites parts)) (all_of (is_matched env (one whole) z) (sites (one whole))) all_merged_match all_parts_match
+      all_matched = same_tests (all_of (is_matched env parts s) (sites parts)) (all_of (is_matched env (one whole) z) (sites (one whole))) all_merged_match all_parts_match

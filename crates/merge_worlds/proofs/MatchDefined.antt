@@ -1,5 +1,5 @@
 -- An entity that a part defines fits what is asked for, where its type and its limits do: what is allocated for it has its type, its least size and its maximum.
-use Rattle.std.proofs.Common.{◌≡◌, ℕ, zero, suc, ◌+◌, ◌-◌, ◌≤◌, List, [], ◌∷◌, ◌++◌, map, length, Option, Some, None, true, false, cond, refl, sym, ap, ap₂, ◌∙◌, arith, ◌&&◌}
+use Rattle.std.proofs.Common.{◌≡◌, ℕ, zero, suc, ◌+◌, ◌-◌, ◌≤◌, List, [], ◌∷◌, ◌++◌, map, length, Option, Some, None, true, refl, sym, ap, ap₂, ◌∙◌, arith, ◌&&◌, is_some}
 use Rattle.wasm_tree.specs.declared.space.Space.{Space}
 use Rattle.wasm_tree.specs.declared.space.Space.TheVariants.{Functions, Tables, Memories, Globals}
 use Rattle.wasm_tree.specs.Operands.{same_space}
@@ -13,43 +13,46 @@ use Rattle.wasm_tree.specs.declared.module.ImportDesc.TheVariants as im
 use Rattle.wasm_tree.specs.declared.module.ExportDesc.{ExportDesc}
 use Rattle.wasm_tree.specs.declared.module.ExportDesc.TheVariants as ex
 use Rattle.wasm_tree.specs.declared.module.Module.{Module}
-use Rattle.wasm_tree.specs.Spaces.{func_of, table_of, memory_of, global_of, imported_funcs, imported_tables, imported_memories, imported_globals, funcs_of, tables_of, memories_of, globals_of, type_of_func}
+use Rattle.wasm_tree.specs.Spaces.{func_of, table_of, memory_of, global_of, imported_funcs, imported_tables, imported_memories, imported_globals, funcs_of, tables_of, memories_of, globals_of, type_of_func, index_of_export, space_of_export, space_of_import}
 use Rattle.wasm_meaning.specs.Outcomes.{Gives, bind, at}
 use Rattle.wasm_meaning.specs.State.{Inst, Code, Global, Store}
 use Rattle.wasm_meaning.specs.Values.{same_ref, same_type, same_func_type, null_of, declared}
 use Rattle.wasm_meaning.specs.Control as control
 use Rattle.wasm_meaning.specs.Control.{type_at}
-use Rattle.wasm_meaning.specs.Linking.{Part, has_kind, kind_of_import, kind_of_export, index_of_export, imports_of, module_at}
+use Rattle.wasm_meaning.specs.Linking.{Part, has_kind, imports_of, module_at}
 use Rattle.wasm_meaning.specs.Environment.{Environment, FuncAt, TableAt, MemoryAt, GlobalAt}
 use Rattle.wasm_meaning.specs.World.{given, same_bool, meets, base, thing_at, new_func, new_global, value_of, own_store, stores_from}
 use Rattle.permuted_worlds.proofs.Places.{place_map}
 use Rattle.merge_terms.specs.Faults.{External, FuncOf, TableOf, MemoryOf, GlobalOf, external_of, same_but_limits, meets_limits}
-use Rattle.merge_validity.proofs.Lists.{is_some, then_is, place_get, behind, map_back, places_many}
-use Rattle.merge_worlds.proofs.MatchLists.{true_both, all_places, copies_length}
+use Rattle.merge_worlds.proofs.MatchLists.{all_places, copies_length}
 use Rattle.merge_worlds.proofs.MatchFits.{fits}
 use Rattle.merge_worlds.proofs.MatchStores.{new_table, new_memory, adds, funcs_stand, tables_stand, mems_stand, globals_stand}
+use Rattle.base_lists.proofs.Places.{map_from, append_right}
+use Rattle.base_lists.proofs.Filtered.{places_many}
+use Rattle.base_lists.proofs.Options.{and_then_is}
+use Rattle.std.proofs.lemmas.Bool.{and_from}
 
 -- ---- how many are imported ----
 
-func_kind : (d : ImportDesc) → is_some (func_of d) ≡ same_space Functions (kind_of_import d)
+func_kind : (d : ImportDesc) → is_some (func_of d) ≡ same_space Functions (space_of_import d)
 func_kind (im.Func x) = refl
 func_kind (im.Table x) = refl
 func_kind (im.Memory x) = refl
 func_kind (im.Global x) = refl
 
-table_kind : (d : ImportDesc) → is_some (table_of d) ≡ same_space Tables (kind_of_import d)
+table_kind : (d : ImportDesc) → is_some (table_of d) ≡ same_space Tables (space_of_import d)
 table_kind (im.Func x) = refl
 table_kind (im.Table x) = refl
 table_kind (im.Memory x) = refl
 table_kind (im.Global x) = refl
 
-memory_kind : (d : ImportDesc) → is_some (memory_of d) ≡ same_space Memories (kind_of_import d)
+memory_kind : (d : ImportDesc) → is_some (memory_of d) ≡ same_space Memories (space_of_import d)
 memory_kind (im.Func x) = refl
 memory_kind (im.Table x) = refl
 memory_kind (im.Memory x) = refl
 memory_kind (im.Global x) = refl
 
-global_kind : (d : ImportDesc) → is_some (global_of d) ≡ same_space Globals (kind_of_import d)
+global_kind : (d : ImportDesc) → is_some (global_of d) ≡ same_space Globals (space_of_import d)
 global_kind (im.Func x) = refl
 global_kind (im.Table x) = refl
 global_kind (im.Memory x) = refl
@@ -59,7 +62,7 @@ global_kind (im.Global x) = refl
 after : {A : Type 0} (xs ys : List A) (n i : ℕ) (x : A) → n ≡ length xs → n ≤ i → slice_get (xs ++ ys) i ≡ Some x → slice_get ys (i - n) ≡ Some x
 after xs ys n i x e le h =
     let at_i : length xs + (i - n) ≡ i = omega (arith, e, le) in
-    sym (behind xs ys (i - n)) ∙ ap (slice_get (xs ++ ys)) at_i ∙ h
+    sym (append_right xs ys (i - n)) ∙ ap (slice_get (xs ++ ys)) at_i ∙ h
 
 own_func : (m : Module) (i ty : ℕ) → length (imports_of Functions m) ≤ i → slice_get (funcs_of m) i ≡ Some ty → slice_get (map (λ f. f.ty) m.funcs) (i - length (imports_of Functions m)) ≡ Some ty
 own_func m i ty = after (imported_funcs m.imports) (map (λ f. f.ty) m.funcs) (length (imports_of Functions m)) i ty (places_many (has_kind Functions) (λ x. func_of x.desc) m.imports (λ x. func_kind x.desc) 0)
@@ -90,7 +93,7 @@ table_fits : (s : Store) (a : ℕ) (d : External) (t : TableType) → slice_get 
 table_fits s a (TableOf u) t e h k =
     let size : length (new_table t).slots ≡ t.limits.min = copies_length t.limits.min (null_of t.ty) in
     ap (λ o. option_and_then (λ v. Some (same_ref u.ty v.ty && meets (length v.slots) v.most u.limits)) o) e
-    ∙ ap Some (true_both (same_ref u.ty t.ty) (meets (length (new_table t).slots) t.limits.max u.limits) h (ap (λ n. meets n t.limits.max u.limits) size ∙ k))
+    ∙ ap Some (and_from (same_ref u.ty t.ty) (meets (length (new_table t).slots) t.limits.max u.limits) h (ap (λ n. meets n t.limits.max u.limits) size ∙ k))
 table_fits s a (FuncOf u) t e h k = absurd (let z = h in cc)
 table_fits s a (MemoryOf u) t e h k = absurd (let z = h in cc)
 table_fits s a (GlobalOf u) t e h k = absurd (let z = h in cc)
@@ -121,10 +124,10 @@ module _ (env : Environment) (parts : List Part) (insts : List Inst) (s : Store)
 
       stood : (ty : ℕ) → slice_get (funcs_of m) n ≡ Some ty → slice_get m.types ty ≡ Some t → type_at s (address Functions n) ≡ Gives t
       stood ty e g =
-          let f = map_back (λ f. f.ty) m.funcs k ty (own_func m n ty le e) in
+          let f = map_from (λ f. f.ty) m.funcs k ty (own_func m n ty le e) in
           let r = funcs_stand env parts insts s made q m i is there in
-          let x = all_places (new_func i) m.funcs r.added.funcs (adds env parts insts q m i r.added r.made).funcs k f.0 (place_get m.funcs k ∙ f.1) in
-          let type_is : slice_get i.types f.0.ty ≡ Some t = ap₂ slice_get types f.2 ∙ place_get m.types ty ∙ g in
+          let x = all_places (new_func i) m.funcs r.added.funcs (adds env parts insts q m i r.added r.made).funcs k f.0 (f.1) in
+          let type_is : slice_get i.types f.0.ty ≡ Some t = ap₂ slice_get types f.2 ∙ g in
           let code : Some (Code t i (declared f.0.locals) f.0.body) ≡ Some x.0 = sym (ap (λ o. option_and_then (λ t. Some (Code t i (declared f.0.locals) f.0.body)) o) type_is) ∙ x.2 in
           let same : Code t i (declared f.0.locals) f.0.body ≡ x.0 = cc in
           ap (λ o. bind o (λ f. Gives (control.type_of_func f))) (at_is s.funcs (address Functions n) x.0 (r.at k x.0 x.1)) ∙ ap (λ f. Gives (control.type_of_func f)) (sym same)
@@ -137,44 +140,44 @@ module _ (env : Environment) (parts : List Part) (insts : List Inst) (s : Store)
   table_there n t le h =
       let k = n - length (imports_of Tables m) in
       let r = tables_stand env parts insts s made q m i is there in
-      r.at k (new_table t) (ap (λ ts. slice_get ts k) (adds env parts insts q m i r.added r.made).tables ∙ place_map new_table m.tables k ∙ ap (λ o. option_and_then (λ t. Some (new_table t)) o) (place_get m.tables k ∙ own_table m n t le h))
+      r.at k (new_table t) (ap (λ ts. slice_get ts k) (adds env parts insts q m i r.added r.made).tables ∙ place_map new_table m.tables k ∙ ap (λ o. option_and_then (λ t. Some (new_table t)) o) (own_table m n t le h))
 
   memory_there : (n : ℕ) (l : Limits) → length (imports_of Memories m) ≤ n → slice_get (memories_of m) n ≡ Some l → slice_get s.mems (address Memories n) ≡ Some (new_memory l)
   memory_there n l le h =
       let k = n - length (imports_of Memories m) in
       let r = mems_stand env parts insts s made q m i is there in
-      r.at k (new_memory l) (ap (λ ms. slice_get ms k) (adds env parts insts q m i r.added r.made).mems ∙ place_map new_memory m.mems k ∙ ap (λ o. option_and_then (λ l. Some (new_memory l)) o) (place_get m.mems k ∙ own_memory m n l le h))
+      r.at k (new_memory l) (ap (λ ms. slice_get ms k) (adds env parts insts q m i r.added r.made).mems ∙ place_map new_memory m.mems k ∙ ap (λ o. option_and_then (λ l. Some (new_memory l)) o) (own_memory m n l le h))
 
   global_there : (n : ℕ) (t : GlobalType) → length (imports_of Globals m) ≤ n → slice_get (globals_of m) n ≡ Some t → (g : Global) × (slice_get s.globals (address Globals n) ≡ Some g) × (g.ty ≡ t)
   global_there n t le h =
       let k = n - length (imports_of Globals m) in
-      let g = map_back (λ g. g.ty) m.globals k t (own_global m n t le h) in
+      let g = map_from (λ g. g.ty) m.globals k t (own_global m n t le h) in
       let r = globals_stand env parts insts s made q m i is there in
-      let x = all_places (new_global env parts insts q) m.globals r.added.globals (adds env parts insts q m i r.added r.made).globals k g.0 (place_get m.globals k ∙ g.1) in
-      let v = then_is (value_of env parts insts q g.0.init) (λ v. Some (record { ty = g.0.ty; value = v })) x.0 x.2 in
+      let x = all_places (new_global env parts insts q) m.globals r.added.globals (adds env parts insts q m i r.added r.made).globals k g.0 (g.1) in
+      let v = and_then_is (value_of env parts insts q g.0.init) (λ v. Some (record { ty = g.0.ty; value = v })) x.0 x.2 in
       let last = v.2 in
       let same : record { ty = g.0.ty; value = v.0 } ≡ x.0 = cc in
       (x.0, r.at k x.0 x.1, ap (λ (g : Global). g.ty) (sym same) ∙ g.2)
 
-  pub defined_fits : (what : ExportDesc) (d x : External) → external_of m what ≡ Some x → length (imports_of (kind_of_export what) m) ≤ index_of_export what → same_but_limits d x ≡ true → meets_limits d x ≡ true →
-      fits s d (thing_at (kind_of_export what) (address (kind_of_export what) (index_of_export what))) ≡ Some true
+  pub defined_fits : (what : ExportDesc) (d x : External) → external_of m what ≡ Some x → length (imports_of (space_of_export what) m) ≤ index_of_export what → same_but_limits d x ≡ true → meets_limits d x ≡ true →
+      option_and_then (fits s d) (thing_at (space_of_export what) (address (space_of_export what) (index_of_export what))) ≡ Some true
   defined_fits (ex.Func n) d x h le same meet =
-      let t = then_is (type_of_func m n) (λ t. Some (FuncOf t)) x h in
+      let t = and_then_is (type_of_func m n) (λ t. Some (FuncOf t)) x h in
       let e = t.2 in
       let is_func : FuncOf t.0 ≡ x = cc in
       func_fits s (address Functions n) d t.0 (func_typed n t.0 le t.1) (ap (same_but_limits d) is_func ∙ same)
   defined_fits (ex.Table n) d x h le same meet =
-      let t = then_is (slice_get (tables_of m) n) (λ t. Some (TableOf t)) x h in
+      let t = and_then_is (slice_get (tables_of m) n) (λ t. Some (TableOf t)) x h in
       let e = t.2 in
       let is_table : TableOf t.0 ≡ x = cc in
       table_fits s (address Tables n) d t.0 (table_there n t.0 le t.1) (ap (same_but_limits d) is_table ∙ same) (ap (meets_limits d) is_table ∙ meet)
   defined_fits (ex.Memory n) d x h le same meet =
-      let l = then_is (slice_get (memories_of m) n) (λ l. Some (MemoryOf l)) x h in
+      let l = and_then_is (slice_get (memories_of m) n) (λ l. Some (MemoryOf l)) x h in
       let e = l.2 in
       let is_memory : MemoryOf l.0 ≡ x = cc in
       memory_fits s (address Memories n) d l.0 (memory_there n l.0 le l.1) (ap (same_but_limits d) is_memory ∙ same) (ap (meets_limits d) is_memory ∙ meet)
   defined_fits (ex.Global n) d x h le same meet =
-      let t = then_is (slice_get (globals_of m) n) (λ t. Some (GlobalOf t)) x h in
+      let t = and_then_is (slice_get (globals_of m) n) (λ t. Some (GlobalOf t)) x h in
       let e = t.2 in
       let is_global : GlobalOf t.0 ≡ x = cc in
       let g = global_there n t.0 le t.1 in

@@ -1,5 +1,5 @@
 -- Whether an entity of the store is what an import asks for, by the external type that is asked for.
-use Rattle.std.proofs.Common.{◌≡◌, ℕ, length, Option, Some, None, Bool, true, false, cond, refl, sym, ap, ap₂, ◌∙◌, option_and_then, slice_get, unwrap_or, ◌&&◌}
+use Rattle.std.proofs.Common.{◌≡◌, ℕ, length, Option, Some, None, Bool, true, false, refl, sym, ap, ap₂, ◌∙◌, option_and_then, slice_get, unwrap_or, ◌&&◌}
 use Rattle.wasm_tree.specs.declared.types.FuncType.{FuncType}
 use Rattle.wasm_tree.specs.declared.types.Limits.{Limits}
 use Rattle.wasm_tree.specs.declared.types.TableType.{TableType}
@@ -13,9 +13,9 @@ use Rattle.wasm_meaning.specs.Linking.{limits_of}
 use Rattle.wasm_meaning.specs.Environment.{Thing, FuncAt, TableAt, MemoryAt, GlobalAt}
 use Rattle.wasm_meaning.specs.World.{given, same_bool, meets, is_match}
 use Rattle.merge_terms.specs.Faults.{External, FuncOf, TableOf, MemoryOf, GlobalOf, asked}
-use Rattle.merge_validity.proofs.Lists.{then_is, or_false_is}
-use Rattle.merge_worlds.proofs.MatchLists.{both_true, true_both}
 use Rattle.merge_worlds.proofs.MatchTypes.{AlikeButLimits, two_funcs, two_tables, two_memories, two_globals}
+use Rattle.base_lists.proofs.Options.{and_then_is, unwrap_or_false_is}
+use Rattle.std.proofs.lemmas.Bool.{and_parts, and_from}
 
 abbrev pub fits : Store → External → Thing → Option Bool
 fits s (FuncOf t) (FuncAt a) = option_and_then (λ u. Some (same_func_type t u)) (given (type_at s a))
@@ -29,10 +29,10 @@ abbrev pub fitting : Store → External → Option Thing → Bool
 fitting s x o = unwrap_or (option_and_then (fits s x) o) false
 
 pub fitting_there : (s : Store) (x : External) (o : Option Thing) → fitting s x o ≡ true → (th : Thing) × (o ≡ Some th) × (fits s x th ≡ Some true)
-fitting_there s x o h = then_is o (fits s x) true (or_false_is (option_and_then (fits s x) o) h)
+fitting_there s x o h = and_then_is o (fits s x) true (unwrap_or_false_is (option_and_then (fits s x) o) h)
 
 pub there_fitting : (s : Store) (x : External) (o : Option Thing) (th : Thing) → o ≡ Some th → fits s x th ≡ Some true → fitting s x o ≡ true
-there_fitting s x o th e h = ap (λ o. unwrap_or (option_and_then (fits s x) o) false) e ∙ ap unwrap_or h false
+there_fitting s x o th e h = ap (λ o. unwrap_or (option_and_then (fits s x) o) false) e ∙ ap (λ o. unwrap_or o false) h
 
 -- ---- what an import asks for ----
 
@@ -62,7 +62,7 @@ match_global s m t (GlobalAt a) = refl
 
 pub match_fits : (s : Store) (m : Module) (d : ImportDesc) (x : External) (th : Thing) → asked m d ≡ Some x → is_match s m d th ≡ fits s x th
 match_fits s m (im.Func ty) x th h =
-    let t = then_is (slice_get m.types ty) (λ t. Some (FuncOf t)) x h in
+    let t = and_then_is (slice_get m.types ty) (λ t. Some (FuncOf t)) x h in
     let e = t.2 in
     let same : FuncOf t.0 ≡ x = cc in
     match_func s m ty t.0 t.1 th ∙ ap (λ x. fits s x th) same
@@ -80,7 +80,7 @@ limits_in (GlobalOf t) = None
 
 pub asked_limits : (m : Module) (d : ImportDesc) (x : External) → asked m d ≡ Some x → limits_of d ≡ limits_in x
 asked_limits m (im.Func ty) x h =
-    let t = then_is (slice_get m.types ty) (λ t. Some (FuncOf t)) x h in
+    let t = and_then_is (slice_get m.types ty) (λ t. Some (FuncOf t)) x h in
     let e = t.2 in
     let same : FuncOf t.0 ≡ x = cc in
     ap limits_in same
@@ -113,7 +113,7 @@ fits_limits s (TableOf t) (TableAt a) l size most h e f = by (slice_get s.tables
         let pair : (length u.slots, u.most) ≡ (size, most) = cc in
         let n : length u.slots ≡ size = ap (λ (p : ℕ × Option ℕ). p.0) pair in
         let k : u.most ≡ most = ap (λ (p : ℕ × Option ℕ). p.1) pair in
-        ap₂ (λ n k. meets n k l) (sym n) (sym k) ∙ ap (meets (length u.slots) u.most) (sym same) ∙ (both_true (same_ref t.ty u.ty) (meets (length u.slots) u.most t.limits) yes).1
+        ap₂ (λ n k. meets n k l) (sym n) (sym k) ∙ ap (meets (length u.slots) u.most) (sym same) ∙ (and_parts (same_ref t.ty u.ty) (meets (length u.slots) u.most t.limits) yes).1
 fits_limits s (MemoryOf k) (MemoryAt a) l size most h e f = by (slice_get s.mems a) h f
   where
     by : (o : Option Memory) → option_and_then (λ u. Some (meets u.pages u.most k)) o ≡ Some true → option_and_then {T = Memory} {U = ℕ × Option ℕ} (λ u. Some (u.pages, u.most)) o ≡ Some (size, most) → meets size most l ≡ true
@@ -145,7 +145,7 @@ kept_fits s (TableOf t) (TableAt a) l h met = by (slice_get s.tables a) h met
     by None h met = absurd (let k = h in cc)
     by (Some u) h met =
         let yes : (same_ref t.ty u.ty && meets (length u.slots) u.most t.limits) ≡ true = cc in
-        ap Some (true_both (same_ref t.ty u.ty) (meets (length u.slots) u.most l) (both_true (same_ref t.ty u.ty) (meets (length u.slots) u.most t.limits) yes).0 (met (length u.slots) u.most refl))
+        ap Some (and_from (same_ref t.ty u.ty) (meets (length u.slots) u.most l) (and_parts (same_ref t.ty u.ty) (meets (length u.slots) u.most t.limits) yes).0 (met (length u.slots) u.most refl))
 kept_fits s (MemoryOf k) (MemoryAt a) l h met = by (slice_get s.mems a) h met
   where
     by : (o : Option Memory) → option_and_then (λ u. Some (meets u.pages u.most k)) o ≡ Some true → ((size : ℕ) (most : Option ℕ) → option_and_then {T = Memory} {U = ℕ × Option ℕ} (λ u. Some (u.pages, u.most)) o ≡ Some (size, most) → meets size most l ≡ true) →
@@ -170,8 +170,8 @@ fits_kept (two_tables {t = t} {u = u} e) s th l h implied = at_thing th h
     by None h = absurd (let k = h in cc)
     by (Some v) h =
         let yes : (same_ref u.ty v.ty && meets (length v.slots) v.most l) ≡ true = cc in
-        let b = both_true (same_ref u.ty v.ty) (meets (length v.slots) v.most l) yes in
-        ap Some (true_both (same_ref t.ty v.ty) (meets (length v.slots) v.most t.limits) (ap (λ r. same_ref r v.ty) e ∙ b.0) (implied t.limits refl (length v.slots) v.most b.1))
+        let b = and_parts (same_ref u.ty v.ty) (meets (length v.slots) v.most l) yes in
+        ap Some (and_from (same_ref t.ty v.ty) (meets (length v.slots) v.most t.limits) (ap (λ r. same_ref r v.ty) e ∙ b.0) (implied t.limits refl (length v.slots) v.most b.1))
 
     at_thing : (th : Thing) → fits s (TableOf (record u { limits = l })) th ≡ Some true → fits s (TableOf t) th ≡ Some true
     at_thing (TableAt a) h = by (slice_get s.tables a) h

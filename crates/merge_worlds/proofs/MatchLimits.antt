@@ -1,11 +1,11 @@
 -- A size and a maximum meet the limits that several imports ask for together exactly where they meet those of each.
 use Rattle.std.proofs.Common.{◌≡◌, ℕ, zero, suc, List, [], ◌∷◌, Option, Some, None, Bool, true, false, cond, refl, sym, ap, ap₂, subst, ◌∙◌, arith, option_and_then, slice_get, ◌&&◌}
 use Rattle.std.specs.Prelude.{nat_le, max, min}
-use Rattle.std.proofs.lemmas.Bool.{leb-true, le-leb}
+use Rattle.std.proofs.lemmas.Bool.{leb-true, le-leb, and_parts, and_from}
 use Rattle.wasm_tree.specs.declared.types.Limits.{Limits}
 use Rattle.wasm_meaning.specs.Linking.{Part, Site, import_at, is_outside, linked_end, limits_of, consed, demands, least, met}
 use Rattle.wasm_meaning.specs.World.{meets, meets_most}
-use Rattle.merge_worlds.proofs.MatchLists.{bool_same, both_true, true_both}
+use Rattle.base_lists.proofs.Bools.{same_tests}
 
 -- ---- two limits ----
 
@@ -14,15 +14,15 @@ both_limits l k = record { min = max l.min k.min; max = least l.max k.max }
 
 least_both : (n a b : ℕ) → nat_le (max a b) n ≡ nat_le a n && nat_le b n
 least_both n a b =
-    bool_same (nat_le (max a b) n) (nat_le a n && nat_le b n)
-    (λ h. let l = leb-true (max a b) n h in true_both (nat_le a n) (nat_le b n) (le-leb a n (omega (arith, l))) (le-leb b n (omega (arith, l))))
-    (λ h. let p = both_true (nat_le a n) (nat_le b n) h in let l = leb-true a n p.0 in let k = leb-true b n p.1 in le-leb (max a b) n (omega (arith, l, k)))
+    same_tests (nat_le (max a b) n) (nat_le a n && nat_le b n)
+    (λ h. let l = leb-true (max a b) n h in and_from (nat_le a n) (nat_le b n) (le-leb a n (omega (arith, l))) (le-leb b n (omega (arith, l))))
+    (λ h. let p = and_parts (nat_le a n) (nat_le b n) h in let l = leb-true a n p.0 in let k = leb-true b n p.1 in le-leb (max a b) n (omega (arith, l, k)))
 
 most_both : (n a b : ℕ) → nat_le n (min a b) ≡ nat_le n a && nat_le n b
 most_both n a b =
-    bool_same (nat_le n (min a b)) (nat_le n a && nat_le n b)
-    (λ h. let l = leb-true n (min a b) h in true_both (nat_le n a) (nat_le n b) (le-leb n a (omega (arith, l))) (le-leb n b (omega (arith, l))))
-    (λ h. let p = both_true (nat_le n a) (nat_le n b) h in let l = leb-true n a p.0 in let k = leb-true n b p.1 in le-leb n (min a b) (omega (arith, l, k)))
+    same_tests (nat_le n (min a b)) (nat_le n a && nat_le n b)
+    (λ h. let l = leb-true n (min a b) h in and_from (nat_le n a) (nat_le n b) (le-leb n a (omega (arith, l))) (le-leb n b (omega (arith, l))))
+    (λ h. let p = and_parts (nat_le n a) (nat_le n b) h in let l = leb-true n a p.0 in let k = leb-true n b p.1 in le-leb n (min a b) (omega (arith, l, k)))
 
 only_true : (b : Bool) → b ≡ b && true
 only_true true = refl
@@ -52,16 +52,16 @@ module _ (size : ℕ) (most : Option ℕ) where
   asked_limits parts t = option_and_then (λ i. limits_of i.desc) (import_at parts t)
 
   none_met : meets size most (met []) ≡ true
-  none_met = true_both (nat_le 0 size) true (le-leb 0 size (omega arith)) refl
+  none_met = and_from (nat_le 0 size) true (le-leb 0 size (omega arith)) refl
 
   consed_met : (o : Option Limits) (ls : List Limits) → ((l : Limits) → o ≡ Some l → meets size most l ≡ true) → meets size most (met ls) ≡ true → meets size most (met (consed o ls)) ≡ true
   consed_met None ls each rest = rest
-  consed_met (Some l) ls each rest = meets_both size most l (met ls) ∙ true_both (meets size most l) (meets size most (met ls)) (each l refl) rest
+  consed_met (Some l) ls each rest = meets_both size most l (met ls) ∙ and_from (meets size most l) (meets size most (met ls)) (each l refl) rest
 
   consed_rest : (o : Option Limits) (ls : List Limits) → meets size most (met (consed o ls)) ≡ true → ((l : Limits) → o ≡ Some l → meets size most l ≡ true) × (meets size most (met ls) ≡ true)
   consed_rest None ls h = (λ l e. absurd (let k = e in cc), h)
   consed_rest (Some k) ls h =
-      let b = both_true (meets size most k) (meets size most (met ls)) (sym (meets_both size most k (met ls)) ∙ h) in
+      let b = and_parts (meets size most k) (meets size most (met ls)) (sym (meets_both size most k (met ls)) ∙ h) in
       (λ l e. let same : k ≡ l = cc in subst (λ l. meets size most l ≡ true) same b.0, b.1)
 
   -- where each demand on a staying import is met, they are together

@@ -1,47 +1,24 @@
 -- Tests, and lists by place, as matching needs them.
-use Rattle.std.proofs.Common.{◌≡◌, ℕ, zero, suc, List, [], ◌∷◌, length, Option, Some, None, Bool, true, false, cond, refl, sym, ap, ◌∙◌, option_and_then, ◌&&◌}
+use Rattle.std.proofs.Common.{◌≡◌, ℕ, zero, suc, List, [], ◌∷◌, length, Option, Some, Bool, true, refl, sym, ap, ◌∙◌, option_and_then}
 use Rattle.std.specs.Prelude.{slice_get}
-use Rattle.std.specs.List.{filter_map, cons_option}
 use Rattle.wasm_meaning.specs.Outcomes.{copies}
 use Rattle.wasm_meaning.specs.Environment.{all_of}
 use Rattle.wasm_meaning.specs.World.{all_there}
-use Rattle.merge_validity.proofs.Lists.{Has, then_is}
+use Rattle.base_lists.proofs.Options.{and_then_is}
+use Rattle.std.proofs.lemmas.Bool.{and_parts, and_from}
 
 -- ---- tests ----
 
-pub bool_same : (b c : Bool) → (b ≡ true → c ≡ true) → (c ≡ true → b ≡ true) → b ≡ c
-bool_same true c f g = sym (f refl)
-bool_same false true f g = g refl
-bool_same false false f g = refl
-
-pub both_true : (a b : Bool) → a && b ≡ true → (a ≡ true) × (b ≡ true)
-both_true true b h = (refl, h)
-both_true false b h = absurd (let k = h in cc)
-
-pub true_both : (a b : Bool) → a ≡ true → b ≡ true → a && b ≡ true
-true_both a b g h = ap (λ z. z && b) g ∙ h
-
 pub all_each : {A : Type 0} (test : A → Bool) (xs : List A) → all_of test xs ≡ true → (n : ℕ) (x : A) → slice_get xs n ≡ Some x → test x ≡ true
 all_each test [] h n x e = cc
-all_each test (y ∷ ys) h zero x e = let same : y ≡ x = cc in ap test (sym same) ∙ (both_true (test y) (all_of test ys) h).0
-all_each test (y ∷ ys) h (suc n) x e = all_each test ys (both_true (test y) (all_of test ys) h).1 n x e
+all_each test (y ∷ ys) h zero x e = let same : y ≡ x = cc in ap test (sym same) ∙ (and_parts (test y) (all_of test ys) h).0
+all_each test (y ∷ ys) h (suc n) x e = all_each test ys (and_parts (test y) (all_of test ys) h).1 n x e
 
 pub each_all : {A : Type 0} (test : A → Bool) (xs : List A) → ((n : ℕ) (x : A) → slice_get xs n ≡ Some x → test x ≡ true) → all_of test xs ≡ true
 each_all test [] h = refl
-each_all test (y ∷ ys) h = true_both (test y) (all_of test ys) (h 0 y refl) (each_all test ys (λ n. h (suc n)))
+each_all test (y ∷ ys) h = and_from (test y) (all_of test ys) (h 0 y refl) (each_all test ys (λ n. h (suc n)))
 
 -- ---- lists ----
-
--- what is chosen of something stands among all that is chosen
-pub has_chosen : {A B : Type 0} (f : A → Option B) (xs : List A) (n : ℕ) (x : A) (y : B) → slice_get xs n ≡ Some x → f x ≡ Some y → Has (filter_map f xs) y
-has_chosen f [] n x y h e = cc
-has_chosen {A} {B} f (z ∷ xs) n x y h e = by (f z) refl n h (λ n h. has_chosen f xs n x y h e)
-  where
-    by : (o : Option B) → f z ≡ o → (n : ℕ) → slice_get (z ∷ xs) n ≡ Some x → ((n : ℕ) → slice_get xs n ≡ Some x → Has (filter_map f xs) y) → Has (cons_option o (filter_map f xs)) y
-    by None is zero h on = let same : z ≡ x = cc in absurd (let k : None ≡ Some y = sym is ∙ ap f same ∙ e in cc)
-    by None is (suc n) h on = on n h
-    by (Some w) is zero h on = let same : z ≡ x = cc in (0, sym is ∙ ap f same ∙ e)
-    by (Some w) is (suc n) h on = let r = on n h in (suc r.0, r.1)
 
 -- where all are there, each stands at its place
 pub all_places : {A B : Type 0} (f : A → Option B) (xs : List A) (ys : List B) → all_there f xs ≡ Some ys → (n : ℕ) (x : A) → slice_get xs n ≡ Some x → (y : B) × (slice_get ys n ≡ Some y) × (f x ≡ Some y)
@@ -49,10 +26,10 @@ all_places f [] ys h n x e = absurd (let k = e in cc)
 all_places {A} {B} f (z ∷ xs) ys h n x e = by (λ n. all_places f xs tail.0 tail.1 n x) n e
   where
     head : (y : B) × (f z ≡ Some y) × (option_and_then (λ ys. Some (y ∷ ys)) (all_there f xs) ≡ Some ys)
-    head = then_is (f z) (λ y. option_and_then (λ ys. Some (y ∷ ys)) (all_there f xs)) ys h
+    head = and_then_is (f z) (λ y. option_and_then (λ ys. Some (y ∷ ys)) (all_there f xs)) ys h
 
     tail : (zs : List B) × (all_there f xs ≡ Some zs) × (Some (head.0 ∷ zs) ≡ Some ys)
-    tail = then_is (all_there f xs) (λ ys. Some (head.0 ∷ ys)) ys head.2
+    tail = and_then_is (all_there f xs) (λ ys. Some (head.0 ∷ ys)) ys head.2
 
     are : head.0 ∷ tail.0 ≡ ys
     are = let k = tail.2 in cc

@@ -1,5 +1,5 @@
 -- An import of the merged module, and the import of a part that stays as it: both stand for the same, and the merged one has the limits that are asked for together.
-use Rattle.std.proofs.Common.{◌≡◌, ℕ, List, [], ◌∷◌, length, Option, Some, None, true, refl, sym, ap, ◌∙◌, option_and_then, slice_get, unwrap_or}
+use Rattle.std.proofs.Common.{◌≡◌, ℕ, List, [], ◌∷◌, length, Option, Some, None, true, refl, sym, ap, ◌∙◌, option_and_then, slice_get, unwrap_or, false}
 use Rattle.std.specs.Prelude.{slice_index}
 use Rattle.std.specs.List.{filter, filter_map}
 use Rattle.wasm_tree.specs.declared.types.FuncType.{FuncType}
@@ -17,18 +17,18 @@ use Rattle.export_names.specs.Names.{new_names}
 use Rattle.merge_terms.specs.Faults.{External, FuncOf, TableOf, MemoryOf, GlobalOf, asked, asked_at, stays}
 use Rattle.merge_terms.specs.Merged.{merged, merged_types, map_of, merged_import, merged_desc, staying, export_names}
 use Rattle.merge_terms.specs.Joined.{joined_module}
-use Rattle.merge_validity.proofs.Lists.{place_get, then_is, kept_is, is_kept, chosen_from}
 use Rattle.merge_worlds.specs.Stores.{StoresAlike}
 use Rattle.permuted_worlds.specs.Alone.{one, site, key_in, thing_in, ImportsStandForTheEnvironments}
 use Rattle.merge_validity.specs.Ended.{TypesHavePlaces}
-use Rattle.merge_worlds.proofs.MatchLists.{has_chosen}
 use Rattle.merge_worlds.proofs.MatchFits.{fits, fitting, match_fits, kept}
 use Rattle.merge_worlds.proofs.MatchAlike.{IsAmong, own_among, fits_same}
+use Rattle.base_lists.proofs.Filtered.{kept_is, is_kept, chosen_from, has_chosen}
+use Rattle.base_lists.proofs.Options.{and_then_is}
 
 -- ---- an import by its site ----
 
 pub import_site : (parts : List Part) (t : Site) (i : Import) → import_at parts t ≡ Some i → (m : Module) × (module_at parts t.part ≡ Some m) × (slice_get m.imports t.import ≡ Some i)
-import_site parts t i h = then_is (module_at parts t.part) (λ m. slice_get m.imports t.import) i h
+import_site parts t i h = and_then_is (module_at parts t.part) (λ m. slice_get m.imports t.import) i h
 
 -- what is asked for by a module's import
 pub asks_by : (parts : List Part) (t : Site) (m : Module) (i : Import) (x : External) → module_at parts t.part ≡ Some m → slice_get m.imports t.import ≡ Some i → asked_at parts t ≡ Some x → asked m i.desc ≡ Some x
@@ -39,7 +39,7 @@ pub matched_is : (env : Environment) (parts : List Part) (s : Store) (t : Site) 
     is_matched env parts s t ≡ fitting s x (imported_thing env parts t)
 matched_is env parts s t m i x is at asks =
     ap (λ o. unwrap_or (option_and_then (λ m. option_and_then (λ i. option_and_then (is_match s m i.desc) (imported_thing env parts t)) (import_at parts t)) o) false) is
-    ∙ ap (λ o. unwrap_or (option_and_then (λ i. option_and_then (is_match s m i.desc) (imported_thing env parts t)) o) false) at ∙ ap unwrap_or (by (imported_thing env parts t)) false
+    ∙ ap (λ o. unwrap_or (option_and_then (λ i. option_and_then (is_match s m i.desc) (imported_thing env parts t)) o) false) at ∙ ap (λ o. unwrap_or o false) (by (imported_thing env parts t))
   where
     by : (o : Option Thing) → option_and_then (is_match s m i.desc) o ≡ option_and_then (fits s x) o
     by None = refl
@@ -55,7 +55,7 @@ outside_is owned parts u m j is at =
 
 pub outside_among : (env : Environment) (parts : List Part) (u : Site) (m : Module) (j : Import) (th : Thing) → module_at parts u.part ≡ Some m → import_at parts u ≡ Some j → outside_thing (owned_of env) parts u ≡ Some th → IsAmong (length (own_funcs env)) th
 outside_among env parts u m j th is at h =
-    let key = then_is (own_key m j) (λ key. given (owned_at (owned_of env) key)) th (sym (outside_is (owned_of env) parts u m j is at) ∙ h) in
+    let key = and_then_is (own_key m j) (λ key. given (owned_at (owned_of env) key)) th (sym (outside_is (owned_of env) parts u m j is at) ∙ h) in
     own_among env key.0 th key.2
 
 -- ---- the merged module ----
@@ -88,8 +88,8 @@ import_is parts u m j is at =
 import_back : (parts : List Part) (u : Site) (x : Import) → merged_import parts u ≡ Some x → (m : Module) × (j : Import) × (module_at parts u.part ≡ Some m) × (import_at parts u ≡ Some j) × (x ≡ moved parts u m j)
 unfolding merged_import
 import_back parts u x h =
-    let m = then_is (module_at parts u.part) (λ m. option_and_then (λ j. Some (moved parts u m j)) (import_at parts u)) x h in
-    let j = then_is (import_at parts u) (λ j. Some (moved parts u m.0 j)) x m.2 in
+    let m = and_then_is (module_at parts u.part) (λ m. option_and_then (λ j. Some (moved parts u m j)) (import_at parts u)) x h in
+    let j = and_then_is (import_at parts u) (λ j. Some (moved parts u m.0 j)) x m.2 in
     let last = j.2 in
     let same : moved parts u m.0 j.0 ≡ x = cc in
     (m.0, j.0, m.1, j.1, sym same)
@@ -109,19 +109,19 @@ pub record IsStaying (parts : List Part) (x : Import) : Type 0 where
 pub is_staying : (parts : List Part) (mode : Mode) (n : ℕ) (x : Import) → slice_get (joined_module parts mode).imports n ≡ Some x → IsStaying parts x
 unfolding staying
 is_staying parts mode n x h =
-    let c = chosen_from (merged_import parts) (filter (stays parts) (sites parts)) n x (sym (place_get (filter_map (merged_import parts) (filter (stays parts) (sites parts))) n) ∙ ap (λ is. slice_get is n) (sym (whole_imports parts mode)) ∙ h) in
+    let c = chosen_from (merged_import parts) (filter (stays parts) (sites parts)) n x (ap (λ is. slice_get is n) (sym (whole_imports parts mode)) ∙ h) in
     let k = kept_is (stays parts) (sites parts) c.1.0 c.0 c.1.1 in
     let b = import_back parts c.0 x c.2 in
-    record { site = c.0; remains = k.0; place_in = k.1.0; stands = place_get (sites parts) k.1.0 ∙ k.1.1; of = b.0; import = b.1; is_part = b.2; at = b.3; is = b.4 }
+    record { site = c.0; remains = k.0; place_in = k.1.0; stands = k.1.1; of = b.0; import = b.1; is_part = b.2; at = b.3; is = b.4 }
 
 -- one that stays is an import of the merged module
 pub stays_in : (parts : List Part) (mode : Mode) (u : Site) (m : Module) (j : Import) (k : ℕ) → module_at parts u.part ≡ Some m → import_at parts u ≡ Some j → slice_get (sites parts) k ≡ Some u → stays parts u ≡ true →
     (n : ℕ) × (slice_get (joined_module parts mode).imports n ≡ Some (moved parts u m j))
 unfolding staying
 stays_in parts mode u m j k is at stands remains =
-    let a = is_kept (stays parts) (sites parts) k u (sym (place_get (sites parts) k) ∙ stands) remains in
+    let a = is_kept (stays parts) (sites parts) k u (stands) remains in
     let c = has_chosen (merged_import parts) (filter (stays parts) (sites parts)) a.0 u (moved parts u m j) a.1 (import_is parts u m j is at) in
-    (c.0, ap (λ is. slice_get is c.0) (whole_imports parts mode) ∙ place_get (filter_map (merged_import parts) (filter (stays parts) (sites parts))) c.0 ∙ c.1)
+    (c.0, ap (λ is. slice_get is c.0) (whole_imports parts mode) ∙ c.1)
 
 module _ (types_law : TypesHavePlaces) (parts : List Part) (mode : Mode) (u : Site) (m : Module) (is : module_at parts u.part ≡ Some m) where
   abbrev whole : Module
@@ -133,7 +133,7 @@ module _ (types_law : TypesHavePlaces) (parts : List Part) (mode : Mode) (u : Si
   -- it asks for the same, with the limits that are asked for together
   moved_asks : (d : ImportDesc) (y : External) → asked m d ≡ Some y → asked whole (merged_desc parts u m d) ≡ Some (kept y (met_limits parts u))
   moved_asks (im.Func ty) y h =
-      let t = then_is (slice_get m.types ty) (λ t. Some (FuncOf t)) y h in
+      let t = and_then_is (slice_get m.types ty) (λ t. Some (FuncOf t)) y h in
       let e = t.2 in
       let same : FuncOf t.0 ≡ y = cc in
       ap (λ o. option_and_then (λ t. Some (FuncOf t)) o) (type_there ty t.0 t.1) ∙ ap (λ y. Some (kept y (met_limits parts u))) same
@@ -143,7 +143,7 @@ module _ (types_law : TypesHavePlaces) (parts : List Part) (mode : Mode) (u : Si
 
   moved_key : (pair : Pair) (d : ImportDesc) (y : External) → asked m d ≡ Some y → key_in whole.types pair (merged_desc parts u m d) ≡ own_key_of m pair d
   moved_key pair (im.Func ty) y h =
-      let t = then_is (slice_get m.types ty) (λ t. Some (FuncOf t)) y h in
+      let t = and_then_is (slice_get m.types ty) (λ t. Some (FuncOf t)) y h in
       ap (λ o. option_and_then (λ t. Some (FuncKey pair t)) o) (type_there ty t.0 t.1) ∙ sym (ap (λ o. option_and_then (λ t. Some (FuncKey pair t)) o) t.1)
   moved_key pair (im.Table t) y h = refl
   moved_key pair (im.Memory l) y h = refl
@@ -163,4 +163,4 @@ module _ (types_law : TypesHavePlaces) (parts : List Part) (mode : Mode) (u : Si
       where
         by : (o : Option Thing) → outside_thing (owned_of env) parts u ≡ o → fitting z (kept y (met_limits parts u)) o ≡ fitting s (kept y (met_limits parts u)) o
         by None e = refl
-        by (Some th) e = ap unwrap_or (sym (fits_same env parts like (kept y (met_limits parts u)) th (outside_among env parts u m j th is at e))) false
+        by (Some th) e = ap (λ o. unwrap_or o false) (sym (fits_same env parts like (kept y (met_limits parts u)) th (outside_among env parts u m j th is at e)))

@@ -12,7 +12,7 @@ use Rattle.wasm_meaning.specs.Linking.{Part, module_at}
 use Rattle.wasm_meaning.specs.Environment.{Environment}
 use Rattle.wasm_meaning.specs.World.{defined_count, defined_before, base, all_there, new_func, new_global, elem_of, part_store, joined_stores, own_store, stores_from}
 use Rattle.permuted_worlds.proofs.Places.{within, place_left, place_right, append_length, map_length, all_length}
-use Rattle.merge_validity.proofs.Lists.{then_is}
+use Rattle.base_lists.proofs.Options.{and_then_is}
 
 -- ---- what one part adds ----
 
@@ -47,9 +47,9 @@ module _ (env : Environment) (all : List Part) (insts : List Inst) where
 
   pub adds : (p : ℕ) (m : Module) (i : Inst) (t : Store) → part_store env all insts p m i ≡ Some t → Adds env all insts p m i t
   adds p m i t h =
-      let f = then_is (all_there (new_func i) m.funcs) (λ funcs. option_and_then (λ globals. option_and_then (λ elems. Some (with_elems m funcs globals elems)) (all_there (elem_of env all insts p) m.elems)) (all_there (new_global env all insts p) m.globals)) t h in
-      let g = then_is (all_there (new_global env all insts p) m.globals) (λ globals. option_and_then (λ elems. Some (with_elems m f.0 globals elems)) (all_there (elem_of env all insts p) m.elems)) t f.2 in
-      let e = then_is (all_there (elem_of env all insts p) m.elems) (λ elems. Some (with_elems m f.0 g.0 elems)) t g.2 in
+      let f = and_then_is (all_there (new_func i) m.funcs) (λ funcs. option_and_then (λ globals. option_and_then (λ elems. Some (with_elems m funcs globals elems)) (all_there (elem_of env all insts p) m.elems)) (all_there (new_global env all insts p) m.globals)) t h in
+      let g = and_then_is (all_there (new_global env all insts p) m.globals) (λ globals. option_and_then (λ elems. Some (with_elems m f.0 globals elems)) (all_there (elem_of env all insts p) m.elems)) t f.2 in
+      let e = and_then_is (all_there (elem_of env all insts p) m.elems) (λ elems. Some (with_elems m f.0 g.0 elems)) t g.2 in
       let last = e.2 in
       let same : with_elems m f.0 g.0 e.0 ≡ t = cc in
       subst (Adds env all insts p m i) same (record { funcs = f.1; tables = refl; mems = refl; globals = g.1 })
@@ -62,14 +62,14 @@ module _ (env : Environment) (all : List Part) (insts : List Inst) where
     keeps p [] is s z h n x e = let same : s ≡ z = cc in ap (λ s. slice_get (get s) n) (sym same) ∙ e
     keeps p (part ∷ rest) [] s z h n x e = let same : s ≡ z = cc in ap (λ s. slice_get (get s) n) (sym same) ∙ e
     keeps p (part ∷ rest) (i ∷ is) s z h n x e =
-        let t = then_is (part_store env all insts p part.«module» i) (λ t. stores_from env all insts (joined_stores s t) (suc p) rest is) z h in
+        let t = and_then_is (part_store env all insts p part.«module» i) (λ t. stores_from env all insts (joined_stores s t) (suc p) rest is) z h in
         keeps (suc p) rest is (joined_stores s t.0) z t.2 n x (ap (λ l. slice_get l n) (joins s t.0) ∙ place_left (get s) (get t.0) n (within (get s) n x e) ∙ e)
 
     stands : (p : ℕ) (rest : List Part) (is : List Inst) (s z : Store) → stores_from env all insts s p rest is ≡ Some z → (q : ℕ) (m : Module) (i : Inst) → module_at rest q ≡ Some m → slice_get is q ≡ Some i → Stands env all insts get z (length (get s) + defined_before k rest q) (p + q) m i
     stands p [] is s z h q m i e f = cc
     stands p (part ∷ rest) [] s z h q m i e f = cc
     stands p (part ∷ rest) (j ∷ is) s z h zero m i e f =
-        let t = then_is (part_store env all insts p part.«module» j) (λ t. stores_from env all insts (joined_stores s t) (suc p) rest is) z h in
+        let t = and_then_is (part_store env all insts p part.«module» j) (λ t. stores_from env all insts (joined_stores s t) (suc p) rest is) z h in
         let same : part.«module» ≡ m = cc in
         let same_inst : j ≡ i = cc in
         let n : p + 0 ≡ p = omega arith in
@@ -81,7 +81,7 @@ module _ (env : Environment) (all : List Part) (insts : List Inst) where
               ap (slice_get (get _)) z ∙ keeps (suc p) rest is (joined_stores s t.0) _ t.2 (length (get s) + n) x (ap (λ l. slice_get l (length (get s) + n)) (joins s t.0) ∙ place_right (get s) (get t.0) n ∙ g);
         }
     stands p (part ∷ rest) (j ∷ is) s z h (suc q) m i e f =
-        let t = then_is (part_store env all insts p part.«module» j) (λ t. stores_from env all insts (joined_stores s t) (suc p) rest is) z h in
+        let t = and_then_is (part_store env all insts p part.«module» j) (λ t. stores_from env all insts (joined_stores s t) (suc p) rest is) z h in
         let r = stands (suc p) rest is (joined_stores s t.0) z t.2 q m i e f in
         let n : p + suc q ≡ suc p + q = omega arith in
         let size : length (get (joined_stores s t.0)) ≡ length (get s) + defined_count k part.«module» = ap length (joins s t.0) ∙ append_length (get s) (get t.0) ∙ ap (λ n. length (get s) + n) (many p part.«module» j t.0 t.1) in

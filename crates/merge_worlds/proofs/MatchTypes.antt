@@ -11,7 +11,7 @@ use Rattle.wasm_tree.specs.declared.types.GlobalType.{GlobalType}
 use Rattle.wasm_meaning.specs.Values.{same_ref, same_type, same_types, same_func_type}
 use Rattle.wasm_meaning.specs.World.{same_bool}
 use Rattle.merge_terms.specs.Faults.{External, FuncOf, TableOf, MemoryOf, GlobalOf, same_but_limits}
-use Rattle.merge_worlds.proofs.MatchLists.{both_true}
+use Rattle.std.proofs.lemmas.Bool.{and_parts}
 
 ref_is : (r s : RefType) → same_ref r s ≡ true → r ≡ s
 ref_is reft.Func reft.Func h = refl
@@ -34,11 +34,11 @@ types_are : (ss ts : List ValType) → same_types ss ts ≡ true → ss ≡ ts
 types_are [] [] h = refl
 types_are [] (t ∷ ts) h = cc
 types_are (s ∷ ss) [] h = cc
-types_are (s ∷ ss) (t ∷ ts) h = let b = both_true (same_type s t) (same_types ss ts) h in ap₂ (λ x y. x ∷ y) (type_is s t b.0) (types_are ss ts b.1)
+types_are (s ∷ ss) (t ∷ ts) h = let b = and_parts (same_type s t) (same_types ss ts) h in ap₂ (λ x y. x ∷ y) (type_is s t b.0) (types_are ss ts b.1)
 
 func_type_is : (s t : FuncType) → same_func_type s t ≡ true → s ≡ t
 func_type_is s t h =
-    let b = both_true (same_types s.params t.params) (same_types s.results t.results) h in
+    let b = and_parts (same_types s.params t.params) (same_types s.results t.results) h in
     ap₂ (λ x y. record { params = x; results = y }) (types_are s.params t.params b.0) (types_are s.results t.results b.1)
 
 bool_is : (a b : Bool) → same_bool a b ≡ true → a ≡ b
@@ -49,7 +49,7 @@ bool_is false true h = cc
 
 global_is : (s t : GlobalType) → same_but_limits (GlobalOf s) (GlobalOf t) ≡ true → s ≡ t
 global_is s t h =
-    let b = both_true (same_type s.ty t.ty) (same_bool s.mutable t.mutable) h in
+    let b = and_parts (same_type s.ty t.ty) (same_bool s.mutable t.mutable) h in
     ap₂ (λ x y. record { ty = x; mutable = y }) (type_is s.ty t.ty b.0) (bool_is s.mutable t.mutable b.1)
 
 -- of one kind, and with one type

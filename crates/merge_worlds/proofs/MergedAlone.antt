@@ -1,9 +1,9 @@
 -- The merged module alone: its imports are those that stay, and stand for what these stand for in the parts' world; then comes what the parts define.
-use Rattle.std.proofs.Common.{◌≡◌, ◌∙◌, ap, ap₂, sym, refl, ℕ, ◌+◌, List, [], ◌∷◌, ◌++◌, map, length, Option, Some, None, true, arith, option_and_then, slice_get, unwrap_or}
+use Rattle.std.proofs.Common.{◌≡◌, ◌∙◌, ap, ap₂, sym, refl, ℕ, ◌+◌, List, [], ◌∷◌, ◌++◌, map, length, Option, Some, None, true, arith, option_and_then, slice_get, unwrap_or, append-nil, false}
 use Rattle.wasm_tree.specs.declared.space.Space.{Space}
-use Rattle.wasm_tree.specs.declared.space.Space.TheVariants.{Functions, Tables, Memories, Globals, DataSegments, ElementSegments}
+use Rattle.wasm_tree.specs.declared.space.Space.TheVariants.{Functions, Tables, Memories, Globals, DataSegments, ElementSegments, Types}
 use Rattle.wasm_tree.specs.Operands.{same_space}
-use Rattle.std.specs.List.{filter, filter_map}
+use Rattle.std.specs.List.{filter_map}
 use Rattle.wasm_tree.specs.declared.types.FuncType.{FuncType}
 use Rattle.wasm_tree.specs.declared.module.Import.{Import}
 use Rattle.wasm_tree.specs.declared.module.ImportDesc.{ImportDesc}
@@ -11,7 +11,8 @@ use Rattle.wasm_tree.specs.declared.module.ImportDesc.TheVariants as im
 use Rattle.wasm_tree.specs.declared.module.ElemSeg.{ElemSeg}
 use Rattle.wasm_tree.specs.declared.module.Module.{Module}
 use Rattle.wasm_meaning.specs.State.{Text, Pair}
-use Rattle.wasm_meaning.specs.Linking.{Part, Site, has_kind, kind_of_import, pair_of, module_at, import_at, sites}
+use Rattle.wasm_meaning.specs.Linking.{Part, Site, has_kind, pair_of, module_at, import_at, sites}
+use Rattle.wasm_tree.specs.Spaces.{space_of_import}
 use Rattle.wasm_meaning.specs.Environment.{Environment, FuncKey, OwnKey, owned_of, owned_at}
 use Rattle.wasm_meaning.specs.World.{given, own_count, defined_count, defined_before, address_of, own_key, own_key_of, outside_thing, all_there, numbers, space}
 use Rattle.index_remap.specs.References.{with_declared, declared_refs}
@@ -20,14 +21,14 @@ use Rattle.export_names.specs.Names.{new_names}
 use Rattle.merge_terms.specs.Faults.{External, FuncOf, asked, asked_at, link_fault, stays}
 use Rattle.merge_terms.specs.Merged.{merged, merged_types, merged_import, merged_desc, merged_elem, merged_data, map_of, staying, staying_of, imports_kind, export_names}
 use Rattle.merge_terms.specs.Joined.{joined_module}
-use Rattle.merge_validity.specs.Ended.{Ended, inside, outside, added_count}
-use Rattle.merge_validity.proofs.Lists.{then_is, place_get, kept_is}
+use Rattle.merge_validity.specs.Ended.{Ended, inside, outside, added_count, is_external}
 use Rattle.merge_validity.proofs.ByPart.{elems_is, datas_is, by_part_many}
 use Rattle.permuted_worlds.specs.Alone.{one, key_in, thing_in, address_in, addresses}
 use Rattle.permuted_worlds.proofs.Places.{map_length}
-use Rattle.merge_worlds.proofs.Chosen.{at_places, of_chosen}
 use Rattle.merge_worlds.proofs.SpaceLaws.{SpaceLaws}
 use Rattle.merge_worlds.proofs.Standing.{site_address}
+use Rattle.base_lists.proofs.Filtered.{kept_is, at_places, of_chosen}
+use Rattle.base_lists.proofs.Options.{and_then_is}
 
 -- ---- with references declared ----
 
@@ -45,12 +46,8 @@ pub record Keeps (m n : Module) : Type 0 where
   pub more : List ElemSeg
   pub elems : n.elems ≡ m.elems ++ more
 
-no_more : {A : Type 0} (xs : List A) → xs ≡ xs ++ []
-no_more [] = refl
-no_more (x ∷ xs) = ap (λ z. x ∷ z) (no_more xs)
-
 keeps : (m : Module) (fs : List ℕ) → Keeps m (with_declared m fs)
-keeps m [] = record { types = refl; imports = refl; funcs = refl; tables = refl; mems = refl; globals = refl; exports = refl; start = refl; datas = refl; more = []; elems = no_more m.elems }
+keeps m [] = record { types = refl; imports = refl; funcs = refl; tables = refl; mems = refl; globals = refl; exports = refl; start = refl; datas = refl; more = []; elems = sym (append-nil m.elems) }
 keeps m (f ∷ fs) = record { types = refl; imports = refl; funcs = refl; tables = refl; mems = refl; globals = refl; exports = refl; start = refl; datas = refl; more = _; elems = refl }
 
 -- the names of the merged module's exports
@@ -61,11 +58,14 @@ pub joined_keeps : (parts : List Part) (mode : Mode) → Keeps (merged parts (na
 unfolding joined_module
 joined_keeps parts mode = keeps (merged parts (names_of parts mode)) (declared_refs (merged parts (names_of parts mode)))
 
-pub count_kept : {m n : Module} → Keeps m n → (k : Space) → defined_count k n ≡ defined_count k m
-count_kept q Functions = ap length q.funcs
-count_kept q Tables = ap length q.tables
-count_kept q Memories = ap length q.mems
-count_kept q Globals = ap length q.globals
+pub count_kept : {m n : Module} → Keeps m n → (k : Space) → is_external k ≡ true → defined_count k n ≡ defined_count k m
+count_kept q Functions e = ap length q.funcs
+count_kept q Tables e = ap length q.tables
+count_kept q Memories e = ap length q.mems
+count_kept q Globals e = ap length q.globals
+count_kept q Types e = cc
+count_kept q ElementSegments e = cc
+count_kept q DataSegments e = cc
 
 pub merged_types_are : (parts : List Part) (names : List (Option Text)) → (merged parts names).types ≡ merged_types parts
 unfolding merged
@@ -96,26 +96,26 @@ pub record IsStaying (parts : List Part) (s : Site) : Type 0 where
 pub staying_is : SpaceLaws → (parts : List Part) (n : ℕ) (s : Site) → slice_get (staying parts) n ≡ Some s → IsStaying parts s
 unfolding staying
 staying_is laws parts n s h =
-    let k = kept_is (stays parts) (sites parts) n s (sym (place_get (filter (stays parts) (sites parts)) n) ∙ h) in
-    let i = (laws.sites parts s).0 k.1.0 (place_get (sites parts) k.1.0 ∙ k.1.1) in
-    let m = then_is (module_at parts s.part) (λ m. slice_get m.imports s.import) i.0 i.1 in
+    let k = kept_is (stays parts) (sites parts) n s (h) in
+    let i = (laws.sites parts s).0 k.1.0 (k.1.1) in
+    let m = and_then_is (module_at parts s.part) (λ m. slice_get m.imports s.import) i.0 i.1 in
     record { import = i.0; at = i.1; remains = k.0; of = m.0; is_part = m.1; stands = m.2 }
 
 -- those of one kind
 pub staying_kind : SpaceLaws → (parts : List Part) (k : Space) (n : ℕ) (s : Site) → slice_get (staying_of parts k) n ≡ Some s → (w : IsStaying parts s) × (has_kind k w.import ≡ true)
 unfolding staying_of
 staying_kind laws parts k n s h =
-    let r = kept_is (imports_kind parts k) (staying parts) n s (sym (place_get (filter (imports_kind parts k) (staying parts)) n) ∙ h) in
-    let w = staying_is laws parts r.1.0 s (place_get (staying parts) r.1.0 ∙ r.1.1) in
+    let r = kept_is (imports_kind parts k) (staying parts) n s (h) in
+    let w = staying_is laws parts r.1.0 s (r.1.1) in
     (w, sym (ap (λ o. unwrap_or (option_and_then (λ i. Some (has_kind k i)) o) false) w.at) ∙ r.0)
 
 moved_import : (parts : List Part) (s : Site) (m : Module) (i : Import) → module_at parts s.part ≡ Some m → import_at parts s ≡ Some i → merged_import parts s ≡ Some (record i { desc = merged_desc parts s m i.desc })
 unfolding merged_import
 moved_import parts s m i is at =
-    ap {A = Option Module} {B = Option Import} (λ o. option_and_then (λ m. option_and_then (λ i. Some (record i { desc = merged_desc parts s m i.desc })) (import_at parts s)) o) is
-    ∙ ap {A = Option Import} {B = Option Import} (λ o. option_and_then (λ i. Some (record i { desc = merged_desc parts s m i.desc })) o) at
+    ap {A = Option Module} {B = Option Import} (λ o. option_and_then (λ m. option_and_then {T = Import} {U = Import} (λ i. Some (record i { desc = merged_desc parts s m i.desc })) (import_at parts s)) o) is
+    ∙ ap {A = Option Import} {B = Option Import} (λ o. option_and_then {T = Import} {U = Import} (λ i. Some (record i { desc = merged_desc parts s m i.desc })) o) at
 
-moved_kind : (parts : List Part) (s : Site) (m : Module) (d : ImportDesc) → kind_of_import (merged_desc parts s m d) ≡ kind_of_import d
+moved_kind : (parts : List Part) (s : Site) (m : Module) (d : ImportDesc) → space_of_import (merged_desc parts s m d) ≡ space_of_import d
 moved_kind parts s m (im.Func ty) = refl
 moved_kind parts s m (im.Table t) = refl
 moved_kind parts s m (im.Memory l) = refl
@@ -124,7 +124,7 @@ moved_kind parts s m (im.Global t) = refl
 -- it names the same of the environment's own
 moved_key : SpaceLaws → (parts : List Part) (s : Site) (m : Module) → module_at parts s.part ≡ Some m → (pair : Pair) (d : ImportDesc) (x : External) → asked m d ≡ Some x → key_in (merged_types parts) pair (merged_desc parts s m d) ≡ own_key_of m pair d
 moved_key laws parts s m is pair (im.Func ty) x h =
-    let t = then_is (slice_get m.types ty) (λ t. Some (FuncOf t)) x h in
+    let t = and_then_is (slice_get m.types ty) (λ t. Some (FuncOf t)) x h in
     ap (λ o. option_and_then {T = FuncType} {U = OwnKey} (λ t. Some (FuncKey pair t)) o) (laws.types parts s.part m ty t.0 is t.1 ∙ sym t.1)
 moved_key laws parts s m is pair (im.Table t) x h = refl
 moved_key laws parts s m is pair (im.Memory l) x h = refl
@@ -167,11 +167,11 @@ module _ (laws : SpaceLaws) (env : Environment) (parts : List Part) (linked : li
           )
 
   -- its index spaces
-  pub merged_space : (mode : Mode) (k : Space) →
+  pub merged_space : (mode : Mode) (k : Space) → is_external k ≡ true →
       space env (one (joined_module parts mode)) k 0 (joined_module parts mode) ≡ option_and_then (λ l. Some (l ++ numbers (own_count k env) (defined_before k parts (length parts) + added_count parts k))) (all_there (site_address env parts k) (staying_of parts k))
-  merged_space mode k =
+  merged_space mode k e =
       let q = joined_keeps parts mode in
       laws.spaces env (joined_module parts mode) k
       ∙ ap₂ (λ o n. option_and_then (λ l. Some (l ++ numbers (own_count k env) n)) o)
       (ap₂ (λ t i. addresses env t i k) (q.types ∙ merged_types_are parts (names_of parts mode)) (q.imports ∙ merged_imports_are parts (names_of parts mode)) ∙ chosen_addresses k)
-      (count_kept q k ∙ laws.counts parts (names_of parts mode) k)
+      (count_kept q k e ∙ laws.counts parts (names_of parts mode) k e)

@@ -14,7 +14,6 @@ use Rattle.wasm_meaning.specs.World.{address_in}
 use Rattle.index_remap.specs.declared.remap.Remap.{Remap}
 use Rattle.index_remap.specs.Renumbered.{all_true, fits_tree, fits_import, fits_func, fits_global, fits_export, fits_export_desc, fits_start, new_export_desc}
 use Rattle.index_remap.specs.Related.{OptRel, some, ListRel, nil, cons}
-use Rattle.index_remap.specs.Related as to
 use Rattle.index_remap.specs.RelatedRuns.{ThingRel, a_func, a_table, a_memory, a_global}
 use Rattle.index_remap.proofs.Rel.{append_rel}
 use Rattle.merge_terms.specs.Merged.{map_of, by_part_from}

@@ -25,21 +25,19 @@ use Rattle.merge_terms.specs.Joined.{over_limit, repeated_name}
 use Rattle.merge_validity.specs.Joinable.{EachPart, CanBeJoined}
 use Rattle.merge_worlds.specs.Laws.{BehavesAs}
 use Rattle.merge_worlds.proofs.WrongMerges.{f, g, nothing, from_i32, empty, code, own_func, part, starting, two_starts, two_starts_merged, two_starts_have_no_fault, two_starts_join, second_dropped, first_alone, second_first, dropped_starts_are_refused, first_starts_alone_are_refused, starts_in_reverse_are_refused, calling, two_types, two_types_with, two_types_have_no_fault, two_types_join, kept_type_indices_are_refused, own_memory, one_memory, one_memory_from, one_memory_has_no_fault, one_memory_joins, first_limits_are_refused}
+use Rattle.std.proofs.lemmas.Option.{same_Some}
 
 -- ---- what is common ----
 
-some_same : {A : Type 0} {x y : A} → Some x ≡ Some y → x ≡ y
-some_same e = cc
-
 -- what holds of two modules holds of each part of the two
 of_both : (P : Module → Type 0) (x y : Module) → P x → P y → EachPart P (part x ∷ (part y ∷ []))
-of_both P x y first second zero m e = subst P (some_same e) first
-of_both P x y first second (suc zero) m e = subst P (some_same e) second
+of_both P x y first second zero m e = subst P (same_Some _ _ e) first
+of_both P x y first second (suc zero) m e = subst P (same_Some _ _ e) second
 of_both P x y first second (suc (suc p)) m e = cc
 
 -- the locals of one function
 of_one : (types : List FuncType) (x : Func) → local_count types x < 2 ^ 32 → (n : ℕ) (y : Func) → slice_get (x ∷ []) n ≡ Some y → local_count types y < 2 ^ 32
-of_one types x few zero y e = subst (λ (z : Func). local_count types z < 2 ^ 32) (some_same e) few
+of_one types x few zero y e = subst (λ (z : Func). local_count types z < 2 ^ 32) (same_Some _ _ e) few
 of_one types x few (suc n) y e = cc
 
 -- how many entries the lists and the index spaces have together
@@ -158,7 +156,7 @@ calling_is_typed = (
 
 -- what its table is filled with is a function
 calling_items : (n : ℕ) (e : ConstExpr) → slice_get (const.Func 0 ∷ []) n ≡ Some e → const_type calling e ≡ Some (valt.Ref reft.Func)
-calling_items zero e is = subst (λ (x : ConstExpr). const_type calling x ≡ Some (valt.Ref reft.Func)) (some_same is) refl
+calling_items zero e is = subst (λ (x : ConstExpr). const_type calling x ≡ Some (valt.Ref reft.Func)) (same_Some _ _ is) refl
 calling_items (suc n) e is = cc
 
 -- its import, its function, its table, its start, its element segment and the body of the function

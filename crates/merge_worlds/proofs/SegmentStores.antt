@@ -11,7 +11,7 @@ use Rattle.index_remap.proofs.Rel.{put_rel, length_rel}
 use Rattle.permuted_worlds.proofs.Places.{put_length}
 use Rattle.merge_worlds.specs.Shared.{sharing}
 use Rattle.merge_worlds.specs.Stores.{StoresAlike, FilledAlike}
-use Rattle.merge_worlds.proofs.SegmentLists.{put_front}
+use Rattle.std.proofs.lemmas.List.{set-append_left}
 
 module _ (env : Environment) (parts : List Part) where
   abbrev R : Pairing
@@ -47,7 +47,7 @@ module _ (env : Environment) (parts : List Part) where
     globals = like.globals;
     shared_elems = slice_set like.shared_elems n no_items;
     more_elems = like.more_elems;
-    all_elems = ap (λ es. slice_set es n no_items) like.all_elems ∙ put_front like.shared_elems like.more_elems n no_items (let e = length_rel like.elems in omega (arith, lt, e));
+    all_elems = ap (λ es. slice_set es n no_items) like.all_elems ∙ set-append_left like.shared_elems like.more_elems n no_items (let e = length_rel like.elems in omega (arith, lt, e));
     elems = put_rel {v = no_items} {w = no_items} like.elems n (record { items = nil });
     datas = like.datas;
     func_count = like.func_count;

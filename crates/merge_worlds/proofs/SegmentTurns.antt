@@ -8,8 +8,9 @@ use Rattle.wasm_meaning.specs.Environment.{Environment}
 use Rattle.wasm_meaning.specs.World.{Filled, Task, tasks_in, elem_tasks, data_tasks, in_turn, defined_before}
 use Rattle.merge_terms.specs.Merged.{by_part_from}
 use Rattle.merge_worlds.specs.Stores.{StoresAlike, FilledAlike}
-use Rattle.merge_worlds.proofs.SegmentLists.{place_past, past_past}
 use Rattle.merge_worlds.proofs.SegmentStores.{and_then_alike}
+use Rattle.base_lists.proofs.Places.{drop_at}
+use Rattle.std.proofs.lemmas.List.{drop-drop}
 
 -- ---- segments by part ----
 
@@ -114,10 +115,10 @@ module _ (env : Environment) (parts : List Part) {A : Type 0} (f g : Store → T
         let same : d.inst ≡ i = cc in
         let later : (s z : Store) → StoresAlike env parts s z → FilledAlike env parts (in_turn f s (tasks_by segs adds (suc p) rest is)) (in_turn g z (tasks_in 0 j (drop (length (segs m)) (drop (before p) (adds j))) (by_part_from (λ p m. map (new p m) (segs m)) (suc p) rest ++ more))) = λ s z like.
         subst (λ ns. FilledAlike env parts (in_turn f s (tasks_by segs adds (suc p) rest is)) (in_turn g z (tasks_in 0 j ns (by_part_from (λ p m. map (new p m) (segs m)) (suc p) rest ++ more))))
-        (sym (past_past (adds j) (before p) (length (segs m)) ∙ ap (λ i. drop i (adds j)) (sym (next p m at_p))))
+        (sym (drop-drop (length (segs m)) (before p) (adds j) ∙ ap (λ i. drop i (adds j)) (sym (next p m at_p))))
         (by_parts does (suc p) rest is (λ q. modules (suc q) ∙ (let e : p + suc q ≡ suc p + q = omega arith in ap (module_at parts) e)) (λ q. places (suc q) ∙ (let e : p + suc q ≡ suc p + q = omega arith in ap (slice_get insts) e)) s z like) in
         subst (λ xs. FilledAlike env parts (in_turn f s (tasks_in p i (adds i) (segs m) ++ tasks_by segs adds (suc p) rest is)) (in_turn g z (tasks_in 0 j (drop (before p) (adds j)) xs)))
         (sym (append_assoc (map (new p m) (segs m)) (by_part_from (λ p m. map (new p m) (segs m)) (suc p) rest) more))
         (in_part p i (new p m) (adds i) (drop (before p) (adds j)) (segs m) (tasks_by segs adds (suc p) rest is) (by_part_from (λ p m. map (new p m) (segs m)) (suc p) rest ++ more)
-        (λ x l. let o = d.same x l in record { address = o.address; first = ap (λ i. slice_get (adds i) x) (sym same) ∙ o.first; second = place_past (adds j) (before p) x ∙ o.second })
+        (λ x l. let o = d.same x l in record { address = o.address; first = ap (λ i. slice_get (adds i) x) (sym same) ∙ o.first; second = drop_at (adds j) (before p) x ∙ o.second })
         (λ x a e h k. subst (λ i. DoAlike env parts f g (task p i a e) (task 0 j a (new p m e))) same (d.each x a e h (ap (λ i. slice_get (adds i) x) same ∙ k))) later s z like)

@@ -1,5 +1,5 @@
 -- The active segments of the parts and those of the merged module are copied to the same places of both stores.
-use Rattle.std.proofs.Common.{◌≡◌, ℕ, ◌+◌, ◌<◌, List, [], ◌∷◌, ◌++◌, map, length, Option, Some, true, false, refl, sym, ap, subst, ◌∙◌, arith, drop, option_and_then}
+use Rattle.std.proofs.Common.{◌≡◌, ℕ, ◌+◌, ◌<◌, List, [], ◌∷◌, ◌++◌, map, length, Option, Some, true, false, refl, sym, ap, subst, ◌∙◌, arith, drop, option_and_then, append-nil}
 use Rattle.wasm_tree.specs.declared.space.Space.TheVariants.{ElementSegments, DataSegments}
 use Rattle.std.specs.Prelude.{slice_get, slice_index}
 use Rattle.wasm_tree.specs.declared.types.ValType.{ValType}
@@ -34,13 +34,14 @@ use Rattle.export_names.specs.Names.{new_names}
 use Rattle.merge_terms.specs.Merged.{by_part, map_of, merged, merged_const, merged_elem, merged_elem_mode, merged_data, merged_data_mode, export_names}
 use Rattle.merge_terms.specs.Joined.{joined_module}
 use Rattle.merge_validity.specs.Joinable.{CanBeJoined}
-use Rattle.merge_validity.proofs.Lists.{place_get, map_back, within}
 use Rattle.merge_worlds.specs.Shared.{shared_count, sharing}
 use Rattle.merge_worlds.specs.Instances.{PartAgrees, InstancesAgree}
 use Rattle.merge_worlds.specs.Stores.{StoresAlike, FilledAlike}
 use Rattle.merge_worlds.proofs.SegmentLists.{equal_rel}
 use Rattle.merge_worlds.proofs.SegmentStores.{goes_on, and_then_alike, or_trapped_alike, fill_table_alike, fill_memory_alike}
 use Rattle.merge_worlds.proofs.SegmentTurns.{tasks_by, elems_by, datas_by, elems_start, datas_start, elems_next, datas_next, task, PartDoes, by_parts}
+use Rattle.std.proofs.lemmas.Option.{slice_get_within}
+use Rattle.base_lists.proofs.Places.{map_from}
 
 -- constant expressions of the parts and what they become have the same values
 abbrev pub ValuesAgree : Environment → List Part → Mode → List Inst → List Inst → Type 0
@@ -63,10 +64,6 @@ record JoinedElems (parts : List Part) (mode : Mode) : Type 0 where
   declares : Declares more
   are : (joined_module parts mode).elems ≡ by_part (λ p m. map (merged_elem parts p (map_of parts p m)) m.elems) parts ++ more
 
-nothing_after : {A : Type 0} (xs : List A) → xs ≡ xs ++ []
-nothing_after [] = refl
-nothing_after (x ∷ xs) = ap (λ ys. x ∷ ys) (nothing_after xs)
-
 joined_elems : (parts : List Part) (mode : Mode) → JoinedElems parts mode
 unfolding joined_module merged
 joined_elems parts mode = let r = go (declared_refs (merged parts (new_names mode (export_names parts)))) in record { more = r.0; declares = r.1; are = r.2 }
@@ -75,7 +72,7 @@ joined_elems parts mode = let r = go (declared_refs (merged parts (new_names mod
     all = by_part (λ p m. map (merged_elem parts p (map_of parts p m)) m.elems) parts
 
     go : (fs : List ℕ) → (more : List ElemSeg) × Declares more × ((with_declared (merged parts (new_names mode (export_names parts))) fs).elems ≡ all ++ more)
-    go [] = ([], nothing_more, nothing_after all)
+    go [] = ([], nothing_more, sym (append-nil all))
     go (f ∷ fs) = (declaring (f ∷ fs) ∷ [], one_more (f ∷ fs), refl)
 
 joined_datas : (parts : List Part) (mode : Mode) → (joined_module parts mode).datas ≡ by_part (λ p m. map (merged_data parts p (map_of parts p m)) m.datas) parts
@@ -173,8 +170,8 @@ module _ (env : Environment) (parts : List Part) (mode : Mode) where
 
     elem_holds : (p : ℕ) (m : Module) (x : ℕ) (e : ElemSeg) → module_at parts p ≡ Some m → slice_get m.elems x ≡ Some e → ElemModeHolds m e.ty e.mode
     elem_holds p m x e is h =
-        let got : slice_get m.elems x ≡ Some e = sym (place_get m.elems x) ∙ h in
-        let z = items m (can.valid p m is) kind.Elem x (within m.elems x e got) in
+        let got : slice_get m.elems x ≡ Some e = h in
+        let z = items m (can.valid p m is) kind.Elem x (slice_get_within m.elems x e got) in
         let both : Some z.0 ≡ Some e = sym z.1 ∙ got in
         let same : z.0 ≡ e = cc in
         subst (λ (e : ElemSeg). ElemModeHolds m e.ty e.mode) same z.3
@@ -186,8 +183,8 @@ module _ (env : Environment) (parts : List Part) (mode : Mode) where
         go : (mode : ElemMode) → ElemModeHolds m e.ty mode →
             FilledAlike env parts (run_elem_mode env parts insts s (task p i a e) mode) (run_elem_mode env M js z (task 0 j a (merged_elem parts p (map_of parts p m) e)) (merged_elem_mode parts p (map_of parts p m) mode))
         go (elem.Active x offset) h =
-            let t = map_back (λ t. t.ty) (tables_of m) x e.ty h.0 in
-            let there = within (tables_of m) x t.0 t.1 in
+            let t = map_from (λ t. t.ty) (tables_of m) x e.ty h.0 in
+            let there = slice_get_within (tables_of m) x t.0 t.1 in
             let many = tables_many parts p m in
             let o = k.tables.each x (omega (arith, there, many)) in
             let count = like.elem_count in
@@ -208,7 +205,7 @@ module _ (env : Environment) (parts : List Part) (mode : Mode) where
               let o = i.2.elems.each x (omega (arith, l, size)) in
               record { address = o.address; first = o.first; second = ap (slice_get j.elems) (sym (entry_is (map_of parts p m).elems (defined_before ElementSegments parts p) (length m.elems) x (elem_places parts p m) l)) ∙ o.second };
           each = λ x a e h at s z like.
-              let l = within m.elems x e (sym (place_get m.elems x) ∙ h) in
+              let l = slice_get_within m.elems x e (h) in
               let o = i.2.elems.each x (omega (arith, l, size)) in
               let both : Some o.address ≡ Some a = sym o.first ∙ at in
               let same : o.address ≡ a = cc in
@@ -232,7 +229,7 @@ module _ (env : Environment) (parts : List Part) (mode : Mode) where
         elems_do 0 parts insts (λ q. ap (module_at parts) (zero_more q)) (λ q. ap (slice_get insts) (zero_more q)) s z like in
         let first : tasks_in 0 j (drop (defined_before ElementSegments parts 0) j.elems) (by_part (λ p m. map (merged_elem parts p (map_of parts p m)) m.elems) parts ++ e.more) ≡ elem_tasks 0 M js =
         ap (λ n. tasks_in 0 j (drop n j.elems) (by_part (λ p m. map (merged_elem parts p (map_of parts p m)) m.elems) parts ++ e.more)) (elems_start parts)
-        ∙ ap (tasks_in 0 j j.elems) (sym e.are) ∙ nothing_after (tasks_in 0 j j.elems whole.elems) ∙ ap (elem_tasks 0 M) (sym agree.alone) in
+        ∙ ap (tasks_in 0 j j.elems) (sym e.are) ∙ sym (append-nil (tasks_in 0 j j.elems whole.elems)) ∙ ap (elem_tasks 0 M) (sym agree.alone) in
         subst (λ ts. FilledAlike env parts (in_turn (run_elem env parts insts) s ts) (in_turn (run_elem env M js) z (elem_tasks 0 M js))) (sym (elems_by 0 parts insts))
         (subst (λ ts. FilledAlike env parts (in_turn (run_elem env parts insts) s (tasks_by (λ m. m.elems) (λ i. i.elems) 0 parts insts)) (in_turn (run_elem env M js) z ts)) first all)
 
@@ -240,8 +237,8 @@ module _ (env : Environment) (parts : List Part) (mode : Mode) where
 
     data_holds : (p : ℕ) (m : Module) (x : ℕ) (d : DataSeg) → module_at parts p ≡ Some m → slice_get m.datas x ≡ Some d → DataModeHolds m d.mode
     data_holds p m x d is h =
-        let got : slice_get m.datas x ≡ Some d = sym (place_get m.datas x) ∙ h in
-        let z = items m (can.valid p m is) kind.Segment x (within m.datas x d got) in
+        let got : slice_get m.datas x ≡ Some d = h in
+        let z = items m (can.valid p m is) kind.Segment x (slice_get_within m.datas x d got) in
         let both : Some z.0 ≡ Some d = sym z.1 ∙ got in
         let same : z.0 ≡ d = cc in
         subst (λ (d : DataSeg). DataModeHolds m d.mode) same z.2
@@ -281,7 +278,7 @@ module _ (env : Environment) (parts : List Part) (mode : Mode) where
         datas_do 0 parts insts (λ q. ap (module_at parts) (zero_more q)) (λ q. ap (slice_get insts) (zero_more q)) s z like in
         let first : tasks_in 0 j (drop (defined_before DataSegments parts 0) j.datas) (by_part (λ p m. map (merged_data parts p (map_of parts p m)) m.datas) parts ++ []) ≡ data_tasks 0 M js =
         ap (λ n. tasks_in 0 j (drop n j.datas) (by_part (λ p m. map (merged_data parts p (map_of parts p m)) m.datas) parts ++ [])) (datas_start parts)
-        ∙ ap (tasks_in 0 j j.datas) (sym (nothing_after _) ∙ sym (joined_datas parts mode)) ∙ nothing_after (tasks_in 0 j j.datas whole.datas) ∙ ap (data_tasks 0 M) (sym agree.alone) in
+        ∙ ap (tasks_in 0 j j.datas) (sym (sym (append-nil _)) ∙ sym (joined_datas parts mode)) ∙ sym (append-nil (tasks_in 0 j j.datas whole.datas)) ∙ ap (data_tasks 0 M) (sym agree.alone) in
         subst (λ ts. FilledAlike env parts (in_turn (run_data env parts insts) s ts) (in_turn (run_data env M js) z (data_tasks 0 M js))) (sym (datas_by 0 parts insts))
         (subst (λ ts. FilledAlike env parts (in_turn (run_data env parts insts) s (tasks_by (λ m. m.datas) (λ i. i.datas) 0 parts insts)) (in_turn (run_data env M js) z ts)) first all)
       where

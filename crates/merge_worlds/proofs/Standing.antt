@@ -2,50 +2,48 @@
 -- definitions, or for an import that stays.
 use Rattle.std.proofs.Common.{◌≡◌, ◌∙◌, sym, ap, ap₂, subst, refl, ℕ, zero, suc, ◌+◌, ◌-◌, ◌<◌, ◌≤◌, List, [], ◌∷◌, length, Option, Some, None, Bool, true, cond, false, arith, option_and_then, slice_get, ◌&&◌}
 use Rattle.wasm_tree.specs.declared.space.Space.{Space}
-use Rattle.wasm_tree.specs.declared.space.Space.TheVariants.{Functions, Tables, Memories, Globals}
+use Rattle.wasm_tree.specs.declared.space.Space.TheVariants.{Functions, Tables, Memories, Globals, Types, ElementSegments, DataSegments}
 use Rattle.std.specs.Prelude.{nat_eq, nat_lt}
 use Rattle.std.proofs.lemmas.Bool.{ltb-true, lt-ltb, eq-eqb}
 use Rattle.wasm_tree.specs.declared.module.Import.{Import}
 use Rattle.wasm_tree.specs.declared.module.Module.{Module}
 use Rattle.wasm_meaning.specs.Outcomes.{Gives}
-use Rattle.wasm_meaning.specs.Linking.{Part, Site, Defined, Outside, has_kind, kind_of_import, kind_of_export, index_of_export, module_at, import_at, imports_of}
+use Rattle.wasm_meaning.specs.Linking.{Part, Site, Defined, Outside, has_kind, module_at, import_at, imports_of}
+use Rattle.wasm_tree.specs.declared.module.ImportDesc.{ImportDesc}
+use Rattle.wasm_tree.specs.declared.module.ImportDesc.TheVariants as im
+use Rattle.wasm_tree.specs.Spaces.{index_of_export, space_of_export, space_of_import}
 use Rattle.wasm_meaning.specs.Environment.{Environment, OwnKey, Thing, Owned, owned_of, look_up, same_key}
 use Rattle.wasm_meaning.specs.World.{given, own_count, defined_count, defined_before, base, thing_at, address_of, own_key, outside_thing, defined_thing, thing_of, imported_thing}
 use Rattle.index_remap.specs.Related.{Pairing, OptRel, none, some, ListRel}
-use Rattle.index_remap.specs.Related as to
 use Rattle.index_remap.specs.RelatedRuns.{ThingRel, a_func, a_table, a_memory, a_global, KeyRel}
 use Rattle.merge_terms.specs.Faults.{link_fault}
-use Rattle.merge_terms.specs.Merged.{staying_of, entry_of, new_index}
-use Rattle.merge_validity.specs.Ended.{EndsInside, EndsOutside, Ended, inside, outside}
-use Rattle.merge_validity.proofs.Lists.{then_is}
+use Rattle.merge_terms.specs.Merged.{staying_of, new_index}
+use Rattle.merge_validity.specs.Ended.{EndsInside, EndsOutside, Ended, inside, outside, is_external}
 use Rattle.merge_validity.proofs.ByPart.{before, defined_is}
 use Rattle.merge_validity.proofs.Same.{kind_is}
 use Rattle.permuted_worlds.specs.Owned.{SharesOwn, OwnEntitiesCorrespond}
 use Rattle.permuted_worlds.proofs.Defined.{defined_at}
 use Rattle.permuted_worlds.proofs.Places.{place_rel, opt_self}
 use Rattle.merge_worlds.specs.Shared.{shared_count, is_shared, sharing}
-use Rattle.merge_worlds.proofs.Chosen.{place_back, past_end}
 use Rattle.merge_worlds.proofs.SpaceLaws.{SpaceLaws}
+use Rattle.base_lists.proofs.Options.{and_then_is}
+use Rattle.base_lists.proofs.Filtered.{place_back}
+use Rattle.std.proofs.lemmas.Option.{slice_get_past}
 
--- ---- kinds ----
+address_at : (k : Space) (a : ℕ) → is_external k ≡ true → option_and_then (address_of k) (thing_at k a) ≡ Some a
+address_at Functions a e = refl
+address_at Tables a e = refl
+address_at Memories a e = refl
+address_at Globals a e = refl
+address_at Types a e = cc
+address_at ElementSegments a e = cc
+address_at DataSegments a e = cc
 
-abbrev pub kind_in : Space → Space
-kind_in Functions = Functions
-kind_in Tables = Tables
-kind_in Memories = Memories
-kind_in Globals = Globals
-
-entry_index : (k : Space) (x : ℕ) → index_of_export (entry_of k x) ≡ x
-entry_index Functions x = refl
-entry_index Tables x = refl
-entry_index Memories x = refl
-entry_index Globals x = refl
-
-address_at : (k : Space) (a : ℕ) → address_of k (thing_at k a) ≡ Some a
-address_at Functions a = refl
-address_at Tables a = refl
-address_at Memories a = refl
-address_at Globals a = refl
+import_external : (d : ImportDesc) → is_external (space_of_import d) ≡ true
+import_external (im.Func t) = refl
+import_external (im.Table t) = refl
+import_external (im.Memory l) = refl
+import_external (im.Global t) = refl
 
 -- ---- counting by part ----
 
@@ -67,13 +65,13 @@ defined_low k parts p m e =
 pub record IsImport (k : Space) (m : Module) (n : ℕ) : Type 0 where
   pub import : Import
   pub at : slice_get m.imports n ≡ Some import
-  pub kind : kind_of_import import.desc ≡ k
+  pub kind : space_of_import import.desc ≡ k
 
 pub import_there : (k : Space) (m : Module) (x n : ℕ) → slice_get (imports_of k m) x ≡ Some n → IsImport k m n
 import_there k m x n h =
     let r = place_back (has_kind k) m.imports 0 x n h in
     let same : n ≡ r.0 = (let d = r.2 in omega (arith, d)) in
-    record { import = r.1; at = ap (slice_get m.imports) same ∙ r.3; kind = sym (kind_is k (kind_of_import r.1.desc) r.4) }
+    record { import = r.1; at = ap (slice_get m.imports) same ∙ r.3; kind = sym (kind_is k (space_of_import r.1.desc) r.4) }
 
 -- ---- the environment's own ----
 
@@ -91,7 +89,7 @@ thing_self R xs r is x h =
     let k : KeyRel R (f.1, x) (f.1, x) = opt_self (place_rel r f.0) f.2 in
     k.thing
 
-address_rel : (R : Pairing) (k : Space) {x y : Thing} → ThingRel R x y → OptRel (R.of (kind_in k)) (address_of k x) (address_of k y)
+address_rel : (R : Pairing) (k : Space) {x y : Thing} → ThingRel R x y → OptRel (R.of k) (address_of k x) (address_of k y)
 address_rel R Functions (a_func p) = some p
 address_rel R Tables (a_table p) = some p
 address_rel R Memories (a_memory p) = some p
@@ -102,12 +100,6 @@ module _ (env : Environment) (parts : List Part) where
   -- all that parts define of a kind
   abbrev pub total : Space → ℕ
   total k = defined_before k parts (length parts)
-
-  pub shared_is : (k : Space) → shared_count env parts (kind_in k) ≡ own_count k env + total k
-  shared_is Functions = refl
-  shared_is Tables = refl
-  shared_is Memories = refl
-  shared_is Globals = refl
 
   pub is_shared_at : (k : Space) (a : ℕ) → a < shared_count env parts k → is_shared env parts k a a ≡ true
   is_shared_at k a l = ap₂ (λ b c. b && c) (eq-eqb a a refl) (lt-ltb a (shared_count env parts k) l)
@@ -138,15 +130,15 @@ module _ (env : Environment) (parts : List Part) where
   site_address k s = option_and_then (address_of k) (outside_thing (owned_of env) parts s)
 
   -- which is one of the first
-  pub site_low : OwnEntitiesCorrespond → (k : Space) (s : Site) (a : ℕ) → site_address k s ≡ Some a → a < shared_count env parts (kind_in k)
+  pub site_low : OwnEntitiesCorrespond → (k : Space) (s : Site) (a : ℕ) → site_address k s ≡ Some a → a < shared_count env parts k
   site_low law k s a h =
-      let x = then_is (outside_thing (owned_of env) parts s) (address_of k) a h in
-      let m = then_is (module_at parts s.part) _ x.0 x.1 in
-      let i = then_is (import_at parts s) _ x.0 m.2 in
-      let key = then_is (own_key m.0 i.0) _ x.0 i.2 in
+      let x = and_then_is (outside_thing (owned_of env) parts s) (address_of k) a h in
+      let m = and_then_is (module_at parts s.part) _ x.0 x.1 in
+      let i = and_then_is (import_at parts s) _ x.0 m.2 in
+      let key = and_then_is (own_key m.0 i.0) _ x.0 i.2 in
       let r = thing_self (sharing env parts) (owned_of env) (law (is_shared env parts) env shares_own).owned (same_key key.0) x.0 key.2 in
-      let b : is_shared env parts (kind_in k) a a ≡ true = opt_self (address_rel (sharing env parts) k r) x.2 in
-      shared_low (kind_in k) a a b
+      let b : is_shared env parts k a a ≡ true = opt_self (address_rel (sharing env parts) k r) x.2 in
+      shared_low k a a b
 
   -- an address in the parts' world, and an index of the merged module, of one entity
   pub data Stands (k : Space) (address : Option ℕ) (index : ℕ) : Type 0 where
@@ -154,7 +146,7 @@ module _ (env : Environment) (parts : List Part) where
     stays : (u : Site) → slice_get (staying_of parts k) index ≡ Some u → address ≡ site_address k u → Stands k address index
 
   module _ (laws : SpaceLaws) (linked : link_fault parts ≡ None) where
-    inside_stands : (k : Space) (p : ℕ) (m : Module) (x n : ℕ) (i : Import) → module_at parts p ≡ Some m → slice_get (imports_of k m) x ≡ Some n → kind_of_import i.desc ≡ k → EndsInside parts (record { part = p; import = n }) i → Stands k (import_address k p n) (new_index parts p k x)
+    inside_stands : (k : Space) (p : ℕ) (m : Module) (x n : ℕ) (i : Import) → module_at parts p ≡ Some m → slice_get (imports_of k m) x ≡ Some n → space_of_import i.desc ≡ k → EndsInside parts (record { part = p; import = n }) i → Stands k (import_address k p n) (new_index parts p k x)
     inside_stands k p m x n i is h kind w =
         let e = w.entity in
         let j = index_of_export e.what - length (imports_of k w.of) in
@@ -162,17 +154,17 @@ module _ (env : Environment) (parts : List Part) where
         let follows = subst (λ k. length (imports_of k w.of) ≤ index_of_export e.what) kind w.follows in
         let within = subst (λ k. index_of_export e.what < length (imports_of k w.of) + defined_count k w.of) kind w.within in
         let low = defined_low k parts e.part w.of w.is_part in
-        let same : kind_of_export e.what ≡ k = w.kind ∙ kind in
+        let same : space_of_export e.what ≡ k = w.kind ∙ kind in
         let thing : option_and_then (address_of k) (defined_thing env parts e) ≡ Some (base env parts k e.part + j) =
         ap (λ o. option_and_then (address_of k) o) (defined_at env parts e w.of w.is_part (subst (λ l. index_of_export e.what - length (imports_of l w.of) < defined_count l w.of) (sym same) (omega (arith, follows, within))))
-        ∙ ap (λ l. address_of k (thing_at l (base env parts l e.part + (index_of_export e.what - length (imports_of l w.of))))) same
-        ∙ address_at k (base env parts k e.part + j) in
+        ∙ ap (λ l. option_and_then (address_of k) (thing_at l (base env parts l e.part + (index_of_export e.what - length (imports_of l w.of))))) same
+        ∙ address_at k (base env parts k e.part + j) (ap is_external (sym kind) ∙ import_external i.desc) in
         let number : base env parts k e.part + j ≡ own_count k env + d = omega arith in
         own d (omega (arith, follows, within, low))
         (ap (λ o. option_and_then (address_of k) (option_and_then (thing_of env parts) o)) w.end ∙ thing ∙ ap Some number)
         ((laws.indices parts p m k x is).0 n (Defined e) h w.linked ∙ laws.defined parts e w.of k w.is_part)
 
-    outside_stands : (k : Space) (p : ℕ) (m : Module) (x n : ℕ) (i : Import) → module_at parts p ≡ Some m → slice_get (imports_of k m) x ≡ Some n → kind_of_import i.desc ≡ k → EndsOutside parts (record { part = p; import = n }) i → Stands k (import_address k p n) (new_index parts p k x)
+    outside_stands : (k : Space) (p : ℕ) (m : Module) (x n : ℕ) (i : Import) → module_at parts p ≡ Some m → slice_get (imports_of k m) x ≡ Some n → space_of_import i.desc ≡ k → EndsOutside parts (record { part = p; import = n }) i → Stands k (import_address k p n) (new_index parts p k x)
     outside_stands k p m x n i is h kind w =
         stays w.to (ap (slice_get (staying_of parts k)) ((laws.indices parts p m k x is).0 n (Outside w.to) h w.linked) ∙ laws.places parts w.to w.import w.at w.remains k (w.kind ∙ kind))
         (ap (λ o. option_and_then (address_of k) (option_and_then (thing_of env parts) o)) w.end ∙ ap (λ o. option_and_then (address_of k) o) (w.same_thing (owned_of env)))
@@ -183,7 +175,7 @@ module _ (env : Environment) (parts : List Part) where
         let i = import_there k m x n h in
         by i.import i.kind (laws.ends parts linked (record { part = p; import = n }) i.import (ap (λ o. option_and_then (λ m. slice_get m.imports n) o) is ∙ i.at))
       where
-        by : (i : Import) → kind_of_import i.desc ≡ k → Ended parts (record { part = p; import = n }) i → Stands k (import_address k p n) (new_index parts p k x)
+        by : (i : Import) → space_of_import i.desc ≡ k → Ended parts (record { part = p; import = n }) i → Stands k (import_address k p n) (new_index parts p k x)
         by i kind (inside w) = inside_stands k p m x n i is h kind w
         by i kind (outside w) = outside_stands k p m x n i is h kind w
 
@@ -193,7 +185,7 @@ module _ (env : Environment) (parts : List Part) where
         let low = defined_low k parts p m is in
         let d = defined_before k parts p + j in
         let number : base env parts k p + j ≡ own_count k env + d = omega arith in
-        let back : index_of_export (entry_of k x) - length (imports_of k m) ≡ j = (let e = entry_index k x in omega (arith, e, at)) in
+        let back : x - length (imports_of k m) ≡ j = omega (arith, at) in
         own d (omega (arith, low, l)) (ap Some number)
-        ((laws.indices parts p m k x is).1 (past_end (imports_of k m) x (omega (arith, at))) ∙ laws.defined parts (record { part = p; what = entry_of k x }) m k is
+        ((laws.indices parts p m k x is).1 (slice_get_past (imports_of k m) x (omega (arith, at)))
         ∙ ap (λ j. length (staying_of parts k) + (defined_before k parts p + j)) back)

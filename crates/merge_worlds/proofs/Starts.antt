@@ -17,7 +17,6 @@ use Rattle.merge_terms.specs.Faults.{link_fault}
 use Rattle.merge_terms.specs.Merged.{merged, map_of, new_index, start_of, starts, start_among, staying_of, by_part_from, start_calls}
 use Rattle.merge_terms.specs.Joined.{joined_module}
 use Rattle.merge_validity.specs.Ended.{added_count}
-use Rattle.merge_validity.proofs.Lists.{then_is}
 use Rattle.permuted_worlds.specs.Alone.{one}
 use Rattle.permuted_worlds.proofs.Places.{map_length, numbers_length, place_numbers, place_right, all_length}
 use Rattle.merge_worlds.specs.Shared.{shared_count, sharing}
@@ -28,6 +27,7 @@ use Rattle.merge_worlds.proofs.Standing.{site_address, is_shared_at}
 use Rattle.merge_worlds.proofs.MergedAlone.{joined_keeps, names_of}
 use Rattle.merge_worlds.proofs.Instances.{map_entry, map_funcs, merged_part}
 use Rattle.merge_worlds.proofs.Named.{AllFit, start_fits}
+use Rattle.base_lists.proofs.Options.{and_then_is}
 
 -- an address, and the index by which the merged module's instance names it
 pub record IsNamed (env : Environment) (parts : List Part) (j : Inst) (a f : ℕ) : Type 0 where
@@ -99,12 +99,12 @@ module _ (laws : SpaceLaws) (env : Environment) (parts : List Part) (linked : li
   -- where the merged module has a function more, the instance names it by its last index
   pub last_named : insts_from env (one J) 0 (one J) ≡ Some js → (f g : ℕ) (fs : List ℕ) → starts parts ≡ f ∷ g ∷ fs → slice_get agree.merged.funcs (length (staying_of parts Functions) + defined_before Functions parts (length parts)) ≡ Some (shared_count env parts Functions)
   last_named there f g fs e =
-      let j = then_is (inst_of env (one J) 0 J) _ js there in
+      let j = and_then_is (inst_of env (one J) 0 J) _ js there in
       let q = j.2 in
       let both : j.0 ∷ [] ≡ js = cc in
       let lists : j.0 ∷ [] ≡ agree.merged ∷ [] = both ∙ agree.alone in
       let same : j.0 ≡ agree.merged = cc in
-      let s = merged_part laws env parts linked mode Functions j.0.funcs (inst_is env (one J) 0 J j.0 j.1).funcs in
+      let s = merged_part laws env parts linked mode Functions refl j.0.funcs (inst_is env (one J) 0 J j.0 j.1).funcs in
       let many = all_length (site_address env parts Functions) (staying_of parts Functions) s.imported s.are in
       let total = defined_before Functions parts (length parts) in
       let more : added_count parts Functions ≡ 1 = ap (λ fs. length (start_calls parts fs)) e in

@@ -10,16 +10,16 @@ use Rattle.wasm_tree.specs.declared.module.ImportDesc.{ImportDesc}
 use Rattle.wasm_tree.specs.declared.module.ImportDesc.TheVariants as im
 use Rattle.wasm_tree.specs.declared.module.ConstExpr.TheVariants as const
 use Rattle.wasm_tree.specs.declared.module.Module.{Module}
-use Rattle.wasm_tree.specs.Spaces.{func_of, imported_funcs, funcs_of}
+use Rattle.wasm_tree.specs.Spaces.{func_of, imported_funcs, funcs_of, space_of_import}
 use Rattle.wasm_meaning.specs.State.{Inst}
-use Rattle.wasm_meaning.specs.Linking.{Read, places, has_kind, kind_of_import, imports_of, space_index}
+use Rattle.wasm_meaning.specs.Linking.{Read, places, has_kind, imports_of, space_index}
 use Rattle.wasm_meaning.specs.Environment.{Environment, own_globals}
 use Rattle.wasm_meaning.specs.World.{numbers, own_count, defined_count, space, inst_of, insts_from, value_of_read, value_of}
 use Rattle.permuted_worlds.specs.Alone.{one, address_in, import_places, addresses, read_in, SpacesAreImportsAndOwn, ReadsStay}
 use Rattle.permuted_worlds.proofs.Places.{found, place_right, append_length, map_length, numbers_length, all_length}
-use Rattle.merge_validity.proofs.Lists.{then_is}
-use Rattle.merge_worlds.proofs.Chosen.{past_end}
 use Rattle.merge_worlds.proofs.Instancing.{IsInst, inst_is}
+use Rattle.base_lists.proofs.Options.{and_then_is}
+use Rattle.std.proofs.lemmas.Option.{slice_get_past}
 
 number_past : (c n z a : ℕ) → slice_get (numbers c n) z ≡ Some a → c ≤ a
 number_past c zero z a h = cc
@@ -56,7 +56,7 @@ funcs_counted : (is : List Import) (n : ℕ) → length (places (has_kind Functi
 funcs_counted [] n = refl
 funcs_counted (i ∷ is) n = go i.desc (funcs_counted is (suc n))
   where
-    go : (d : ImportDesc) → length (places (has_kind Functions) is (suc n)) ≡ length (imported_funcs is) → length (cond (same_space Functions (kind_of_import d)) (n ∷ places (has_kind Functions) is (suc n)) (places (has_kind Functions) is (suc n))) ≡ length (cons_option (func_of d) (imported_funcs is))
+    go : (d : ImportDesc) → length (places (has_kind Functions) is (suc n)) ≡ length (imported_funcs is) → length (cond (same_space Functions (space_of_import d)) (n ∷ places (has_kind Functions) is (suc n)) (places (has_kind Functions) is (suc n))) ≡ length (cons_option (func_of d) (imported_funcs is))
     go (im.Func x) h = ap suc h
     go (im.Table x) h = h
     go (im.Memory x) h = h
@@ -78,7 +78,7 @@ read_here is y lt =
 
 -- and there is none where it is no import
 read_past : (is : List Import) (y : ℕ) → length (import_places Globals is) ≤ y → read_in is (const.Global y) ≡ None
-read_past is y h = ap (λ o. option_and_then {U = Read} (λ y. Some (record { part = 0; expr = const.Global y })) (option_and_then (λ n. option_and_then (λ i. Some (space_index is n Globals)) (slice_get is n)) o)) (past_end (import_places Globals is) y h)
+read_past is y h = ap (λ o. option_and_then {U = Read} (λ y. Some (record { part = 0; expr = const.Global y })) (option_and_then (λ n. option_and_then (λ i. Some (space_index is n Globals)) (slice_get is n)) o)) (slice_get_past (import_places Globals is) y h)
 
 -- ---- its instance ----
 
@@ -99,7 +99,7 @@ module _ (reads : ReadsStay) (spaces : SpacesAreImportsAndOwn) (env : Environmen
   -- the addresses of the imports, then those after all that is the environment's
   space_at : (k : Space) (xs : List ℕ) → space env (one u) k 0 u ≡ Some xs → (l : List ℕ) × (length l ≡ length (imports_of k u)) × (xs ≡ l ++ numbers (own_count k env) (defined_count k u))
   space_at k xs e =
-      let x = then_is (addresses env u.types u.imports k) _ xs (sym (spaces env u k) ∙ e) in
+      let x = and_then_is (addresses env u.types u.imports k) _ xs (sym (spaces env u k) ∙ e) in
       let h = x.2 in
       let same : x.0 ++ numbers (own_count k env) (defined_count k u) ≡ xs = cc in
       (x.0, all_length (address_in env u.types u.imports k) (import_places k u.imports) x.0 x.1, sym same)
@@ -128,4 +128,4 @@ module _ (reads : ReadsStay) (spaces : SpacesAreImportsAndOwn) (env : Environmen
           let back : length l.0 + z ≡ y = omega (arith, n) in
           let at : slice_get (numbers (own_count Globals env) (length u.globals)) z ≡ Some a = sym (ap (λ xs. slice_get xs y) l.2 ∙ ap (slice_get (l.0 ++ numbers (own_count Globals env) (length u.globals))) (sym back) ∙ place_right l.0 (numbers (own_count Globals env) (length u.globals)) z) ∙ h in
           ap (λ o. option_and_then (value_of_read (own_globals env) (j ∷ [])) o) (read_past u.imports y past)
-          ∙ sym (ap (λ o. option_and_then (λ g. Some g.value) o) (past_end (own_globals env) a (number_past (length (own_globals env)) (length u.globals) z a at)))
+          ∙ sym (ap (λ o. option_and_then (λ g. Some g.value) o) (slice_get_past (own_globals env) a (number_past (length (own_globals env)) (length u.globals) z a at)))

@@ -1,9 +1,9 @@
 -- The addresses that both worlds have: each stands for itself, and those of the environment's own entities are among them.
-use Rattle.std.proofs.Common.{◌≡◌, ℕ, ◌<◌, List, Bool, true, false, cond, refl, sym, ◌∙◌, arith, ◌&&◌}
+use Rattle.std.proofs.Common.{◌≡◌, ℕ, ◌<◌, List, refl, sym, ◌∙◌, arith}
 use Rattle.wasm_tree.specs.declared.space.Space.{Space}
 use Rattle.wasm_tree.specs.declared.space.Space.TheVariants.{Functions, Tables, Memories, Globals}
 use Rattle.std.specs.Prelude.{nat_eq, nat_lt}
-use Rattle.std.proofs.lemmas.Bool.{eqb-true, eq-eqb, ltb-true, lt-ltb}
+use Rattle.std.proofs.lemmas.Bool.{eqb-true, eq-eqb, ltb-true, lt-ltb, and_from}
 use Rattle.wasm_tree.specs.declared.types.RefType.{RefType}
 use Rattle.wasm_tree.specs.declared.types.RefType.TheVariants as reft
 use Rattle.wasm_meaning.specs.Values.{null_of}
@@ -14,28 +14,17 @@ use Rattle.permuted_worlds.specs.Owned.{SharesOwn, OwnCorrespond, OwnEntitiesCor
 use Rattle.permuted_worlds.proofs.Owned.{flat_rel}
 use Rattle.permuted_worlds.proofs.Places.{self_rel, maps_rel}
 use Rattle.merge_worlds.specs.Shared.{shared_count, is_shared, sharing}
-
-both_true : (b c : Bool) → b ≡ true → c ≡ true → b && c ≡ true
-both_true true c e h = h
-both_true false c e h = cc
-
-first_true : (b c : Bool) → b && c ≡ true → b ≡ true
-first_true true c h = refl
-first_true false c h = cc
-
-second_true : (b c : Bool) → b && c ≡ true → c ≡ true
-second_true true c h = h
-second_true false c h = cc
+use Rattle.base_lists.proofs.Bools.{left_true, right_true}
 
 module _ (env : Environment) (parts : List Part) where
   abbrev R : Pairing
   R = sharing env parts
 
   pub shares : (k : Space) (a : ℕ) → a < shared_count env parts k → R.of k a a
-  shares k a h = both_true (nat_eq a a) (nat_lt a (shared_count env parts k)) (eq-eqb a a refl) (lt-ltb a (shared_count env parts k) h)
+  shares k a h = and_from (nat_eq a a) (nat_lt a (shared_count env parts k)) (eq-eqb a a refl) (lt-ltb a (shared_count env parts k) h)
 
   pub is_same : (k : Space) (a b : ℕ) → R.of k a b → (a ≡ b) × (a < shared_count env parts k)
-  is_same k a b h = (eqb-true a b (first_true (nat_eq a b) (nat_lt a (shared_count env parts k)) h), ltb-true a (shared_count env parts k) (second_true (nat_eq a b) (nat_lt a (shared_count env parts k)) h))
+  is_same k a b h = (eqb-true a b (left_true (nat_eq a b) (nat_lt a (shared_count env parts k)) h), ltb-true a (shared_count env parts k) (right_true (nat_eq a b) (nat_lt a (shared_count env parts k)) h))
 
   pub one_to_one : OneToOne R
   one_to_one = record { right = λ {k} a b c p q. sym (is_same k a b p).0 ∙ (is_same k a c q).0; left = λ {k} a b c p q. (is_same k a c p).0 ∙ sym (is_same k b c q).0 }

@@ -1,5 +1,5 @@
 -- The world of linked parts and that of their merged module: both are instantiated or neither, and then they show the same.
-use Rattle.std.proofs.Common.{◌≡◌, ◌∙◌, ap, sym, subst, refl, ℕ, ◌+◌, ◌≤◌, List, [], ◌∷◌, ◌++◌, length, Option, Some, None, Bool, true, false, cond, arith, option_and_then}
+use Rattle.std.proofs.Common.{◌≡◌, ◌∙◌, ap, sym, subst, refl, ℕ, ◌+◌, ◌≤◌, List, [], ◌∷◌, length, Option, Some, None, Bool, true, false, cond, arith, option_and_then, append-nil}
 use Rattle.wasm_tree.specs.declared.space.Space.TheVariants.{Functions}
 use Rattle.wasm_tree.specs.declared.module.Module.{Module}
 use Rattle.wasm_meaning.specs.Outcomes.{Gives, bind, at}
@@ -23,7 +23,6 @@ use Rattle.merge_terms.specs.Joined.{joined_module}
 use Rattle.merge_terms.specs.View.{merge_view, linked_world}
 use Rattle.merge_validity.specs.Joinable.{CanBeJoined}
 use Rattle.merge_validity.specs.Started.{StartsTakeNothing}
-use Rattle.merge_validity.proofs.Lists.{then_is}
 use Rattle.merge_worlds.specs.Shared.{shared_count, is_shared, sharing}
 use Rattle.merge_worlds.specs.Instances.{InstancesAgree}
 use Rattle.merge_worlds.specs.Stores.{StoresAlike, FilledAlike}
@@ -41,6 +40,7 @@ use Rattle.merge_worlds.proofs.Segments.{segments_alike}
 use Rattle.merge_worlds.proofs.MatchAll.{all_matched}
 use Rattle.merge_worlds.proofs.Starts.{StartsAgree, starts_agree}
 use Rattle.merge_worlds.proofs.Called.{segments_keep_funcs, caller_code, starts_typed}
+use Rattle.base_lists.proofs.Options.{and_then_is}
 
 -- the second starts what the first does, or one function that calls these
 data StartsAlike (c : Begun) (several : List ℕ) : Type 0 where
@@ -73,7 +73,7 @@ module _ (spaces : SpaceLaws) (laws : Laws) (nothing : StartsTakeNothing) (env :
 
   is_inst : (j : Inst) → insts_from env (one J) 0 (one J) ≡ Some (j ∷ []) → IsInst env (one J) 0 J j
   is_inst j h =
-      let k = then_is (inst_of env (one J) 0 J) _ (j ∷ []) h in
+      let k = and_then_is (inst_of env (one J) 0 J) _ (j ∷ []) h in
       let q = k.2 in
       let same : k.0 ≡ j = cc in
       inst_is env (one J) 0 J j (k.1 ∙ ap Some same)
@@ -161,12 +161,8 @@ abbrev ShowInFourMore : Environment → List Move → Option Begun → Option Be
 ShowInFourMore env moves b c n =
     IsPrefix (events_of tick (fresh_run env b moves) n) (events_of tick (fresh_run env c moves) (n + 4)) × IsPrefix (events_of tick (fresh_run env c moves) n) (events_of tick (fresh_run env b moves) (n + 4))
 
-nothing_after : {A : Type 0} (xs : List A) → xs ++ [] ≡ xs
-nothing_after [] = refl
-nothing_after (x ∷ xs) = ap (λ ys. x ∷ ys) (nothing_after xs)
-
 all_of_it : {A : Type 0} {xs ys : List A} → xs ≡ ys → IsPrefix xs ys
-all_of_it {xs = xs} e = ([], nothing_after xs ∙ e)
+all_of_it {xs = xs} e = ([], append-nil xs ∙ e)
 
 module _ (env : Environment) (moves : List Move) where
   equal_show : (b c : Option Begun) → ((n : ℕ) → events_of tick (fresh_run env b moves) n ≡ events_of tick (fresh_run env c moves) n) → (n : ℕ) → ShowInFourMore env moves b c n

@@ -7,7 +7,6 @@ use Rattle.wasm_tree.specs.declared.module.Module.{Module}
 use Rattle.wasm_meaning.specs.State.{Inst}
 use Rattle.wasm_meaning.specs.Linking.{Part, module_at}
 use Rattle.wasm_meaning.specs.Environment.{Environment}
-use Rattle.index_remap.specs.Related as to
 use Rattle.merge_terms.specs.Merged.{map_of}
 use Rattle.merge_worlds.specs.Shared.{shared_count}
 

@@ -1,23 +1,16 @@
 -- The addresses that parts which are linked by name and their merged module both have: those of the environment's entities, and of what the parts define.
 -- They are the same numbers, since both allocate what the parts define by part.
-use Rattle.std.specs.Prelude.{ℕ, length, List, [], Bool, false, cond, nat_eq, nat_lt, ◌&&◌}
+use Rattle.std.specs.Prelude.{ℕ, length, List, [], Bool, nat_eq, nat_lt, ◌&&◌}
 use Rattle.wasm_tree.specs.declared.space.Space.{Space}
-use Rattle.wasm_tree.specs.declared.space.Space.TheVariants.{Functions, Tables, Memories, Globals, ElementSegments, DataSegments}
 use Rattle.wasm_meaning.specs.Linking.{Part}
 use Rattle.wasm_meaning.specs.Environment.{Environment}
-use Rattle.wasm_meaning.specs.World.{base, defined_before}
+use Rattle.wasm_meaning.specs.World.{base}
 use Rattle.index_remap.specs.Related.{Pairing}
-use Rattle.index_remap.specs.Related as to
 use Rattle.index_remap.specs.Laws.{passed}
 
 -- how many there are
 abbrev pub shared_count : Environment → List Part → Space → ℕ
-shared_count env parts Functions = base env parts Functions (length parts)
-shared_count env parts Tables = base env parts Tables (length parts)
-shared_count env parts Memories = base env parts Memories (length parts)
-shared_count env parts Globals = base env parts Globals (length parts)
-shared_count env parts ElementSegments = defined_before ElementSegments parts (length parts)
-shared_count env parts DataSegments = defined_before DataSegments parts (length parts)
+shared_count env parts k = base env parts k (length parts)
 
 -- an address and itself, where both have it
 abbrev pub is_shared : Environment → List Part → Space → ℕ → ℕ → Bool

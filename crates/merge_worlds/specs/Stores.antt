@@ -7,7 +7,6 @@ use Rattle.wasm_meaning.specs.Linking.{Part}
 use Rattle.wasm_meaning.specs.Environment.{Environment}
 use Rattle.wasm_meaning.specs.World.{Filled}
 use Rattle.index_remap.specs.Related.{ListRel, FuncRel, TableRel, GlobalRel, ElemRel}
-use Rattle.index_remap.specs.Related as to
 use Rattle.merge_worlds.specs.Shared.{shared_count, sharing}
 
 pub record StoresAlike (env : Environment) (parts : List Part) (s z : Store) : Type 0 where

@@ -10,10 +10,10 @@ use Rattle.wasm_tree.specs.declared.module.ConstExpr.{ConstExpr}
 use Rattle.wasm_tree.specs.declared.module.ConstExpr.TheVariants as const
 use Rattle.wasm_tree.specs.declared.module.Module.{Module}
 use Rattle.std.specs.List.{cons_option}
-use Rattle.wasm_tree.specs.Spaces.{func_of, table_of, memory_of, global_of, imported_funcs, imported_tables, imported_memories, imported_globals}
+use Rattle.wasm_tree.specs.Spaces.{func_of, table_of, memory_of, global_of, imported_funcs, imported_tables, imported_memories, imported_globals, space_of_import}
 use Rattle.wasm_meaning.specs.State.{Pair}
 use Rattle.wasm_meaning.specs.Paths.{walk, walk_on}
-use Rattle.wasm_meaning.specs.Linking.{kind_of_import, sites, joined, joined_step, import_step, read_step, initials_from, Outside, Read, places, has_kind, imports_of, pair_of, end_of, global_import, end_step, read_of, space_index}
+use Rattle.wasm_meaning.specs.Linking.{sites, joined, joined_step, import_step, read_step, initials_from, Outside, Read, places, has_kind, imports_of, pair_of, end_of, global_import, end_step, read_of, space_index}
 use Rattle.wasm_meaning.specs.Environment.{Environment, owned_of, owned_at}
 use Rattle.wasm_meaning.specs.World.{given, own_key_of, outside_thing, imported_thing, thing_of, address_of, numbers, own_count, defined_count, space}
 use Rattle.permuted_worlds.specs.Alone.{one, site, key_in, thing_in, addresses, read_in}
@@ -68,7 +68,7 @@ pub funcs_counted : (is : List Import) (n : ℕ) → length (places (has_kind Fu
 funcs_counted [] n = refl
 funcs_counted (i ∷ is) n = go i.desc (funcs_counted is (suc n))
   where
-    go : (d : ImportDesc) → length (places (has_kind Functions) is (suc n)) ≡ length (imported_funcs is) → length (cond (same_space Functions (kind_of_import d)) (n ∷ places (has_kind Functions) is (suc n)) (places (has_kind Functions) is (suc n))) ≡ length (cons_option (func_of d) (imported_funcs is))
+    go : (d : ImportDesc) → length (places (has_kind Functions) is (suc n)) ≡ length (imported_funcs is) → length (cond (same_space Functions (space_of_import d)) (n ∷ places (has_kind Functions) is (suc n)) (places (has_kind Functions) is (suc n))) ≡ length (cons_option (func_of d) (imported_funcs is))
     go (im.Func x) h = ap suc h
     go (im.Table x) h = h
     go (im.Memory x) h = h
@@ -78,7 +78,7 @@ pub tables_counted : (is : List Import) (n : ℕ) → length (places (has_kind T
 tables_counted [] n = refl
 tables_counted (i ∷ is) n = go i.desc (tables_counted is (suc n))
   where
-    go : (d : ImportDesc) → length (places (has_kind Tables) is (suc n)) ≡ length (imported_tables is) → length (cond (same_space Tables (kind_of_import d)) (n ∷ places (has_kind Tables) is (suc n)) (places (has_kind Tables) is (suc n))) ≡ length (cons_option (table_of d) (imported_tables is))
+    go : (d : ImportDesc) → length (places (has_kind Tables) is (suc n)) ≡ length (imported_tables is) → length (cond (same_space Tables (space_of_import d)) (n ∷ places (has_kind Tables) is (suc n)) (places (has_kind Tables) is (suc n))) ≡ length (cons_option (table_of d) (imported_tables is))
     go (im.Func x) h = h
     go (im.Table x) h = ap suc h
     go (im.Memory x) h = h
@@ -88,7 +88,7 @@ pub memories_counted : (is : List Import) (n : ℕ) → length (places (has_kind
 memories_counted [] n = refl
 memories_counted (i ∷ is) n = go i.desc (memories_counted is (suc n))
   where
-    go : (d : ImportDesc) → length (places (has_kind Memories) is (suc n)) ≡ length (imported_memories is) → length (cond (same_space Memories (kind_of_import d)) (n ∷ places (has_kind Memories) is (suc n)) (places (has_kind Memories) is (suc n))) ≡ length (cons_option (memory_of d) (imported_memories is))
+    go : (d : ImportDesc) → length (places (has_kind Memories) is (suc n)) ≡ length (imported_memories is) → length (cond (same_space Memories (space_of_import d)) (n ∷ places (has_kind Memories) is (suc n)) (places (has_kind Memories) is (suc n))) ≡ length (cons_option (memory_of d) (imported_memories is))
     go (im.Func x) h = h
     go (im.Table x) h = h
     go (im.Memory x) h = ap suc h
@@ -98,7 +98,7 @@ pub globals_counted : (is : List Import) (n : ℕ) → length (places (has_kind 
 globals_counted [] n = refl
 globals_counted (i ∷ is) n = go i.desc (globals_counted is (suc n))
   where
-    go : (d : ImportDesc) → length (places (has_kind Globals) is (suc n)) ≡ length (imported_globals is) → length (cond (same_space Globals (kind_of_import d)) (n ∷ places (has_kind Globals) is (suc n)) (places (has_kind Globals) is (suc n))) ≡ length (cons_option (global_of d) (imported_globals is))
+    go : (d : ImportDesc) → length (places (has_kind Globals) is (suc n)) ≡ length (imported_globals is) → length (cond (same_space Globals (space_of_import d)) (n ∷ places (has_kind Globals) is (suc n)) (places (has_kind Globals) is (suc n))) ≡ length (cons_option (global_of d) (imported_globals is))
     go (im.Func x) h = h
     go (im.Table x) h = h
     go (im.Memory x) h = h

@@ -1,6 +1,7 @@
 -- What is spelled in a body is in range.
 use Rattle.std.proofs.Common.{◌≡◌, ℕ, List, [], ◌∷◌, ◌++◌, map, Bool, true, false, cond, ◌&&◌, Option, Some, None, refl, sym, subst, rules}
 use Rattle.std.specs.Prelude.{nat_eq, ◌==◌, ◌||◌, nat_le}
+use Rattle.std.specs.List.{list_all}
 use Rattle.wasm_bytes.specs.Joins.{U32, Each}
 use Rattle.wasm_tree.specs.declared.types.ValType.{ValType}
 use Rattle.wasm_tree.specs.declared.types.BlockType.{BlockType}
@@ -17,18 +18,20 @@ use Rattle.wasm_format.specs.declared.token.Opener.{Opener}
 use Rattle.wasm_format.specs.declared.token.Opener.TheVariants as opener
 use Rattle.wasm_format.specs.declared.token.Token.{Token}
 use Rattle.wasm_format.specs.declared.token.Token.TheVariants.{Open, Else, End, Plain}
-use Rattle.wasm_format.specs.Words.{Every}
+use Rattle.base_lists.specs.Every.{Every}
 use Rattle.wasm_format.specs.Values.{SpellsBlockType}
 use Rattle.wasm_format.specs.Operations.{un_of, bin_of, load_of, store_of}
 use Rattle.wasm_format.specs.Tokens.{Form, plain, number, numbers, const32, const64, table, typed, access, memory, memories, with_memory, null, open', else', end', prefixed, unsupported, unknown, or_else, the_form, rest_form, sub_form, arg_form, SpellsMemArg, SpellsMemory, Simple, Follows, SpellsToken}
 use Rattle.wasm_format.specs.Bodies.{Nests, no_more, one_plain, one_block, one_loop, one_if, one_if_else, SpellsBody}
-use Rattle.plain_law.specs.Ranges.{small, small_type, small_arg, all_true, in_range, all_in_range, IsU32}
+use Rattle.wasm_tree.specs.Operands.{block_operands}
+use Rattle.plain_law.specs.Ranges.{small, in_range, all_in_range, IsU32}
+use Rattle.plain_law.proofs.Inside.{Small, block_in, loop_in, if_in, more_in}
 use Rattle.plain_law.proofs.NumberRanges.{u32_in, signed_in, is_small, is_small_32, is_small_64, is_index, both, says_vector}
 
 -- what is known of a token
 abbrev Right : Token → Type 0
 Right (Plain i) = in_range i ≡ true
-Right (Open k ty) = small_type ty ≡ true
+Right (Open k ty) = Small (block_operands ty)
 Right Else = Unit {0}
 Right End = Unit {0}
 
@@ -51,10 +54,10 @@ plain_sound i h text t s = subst Right (sym s.1) h
 number_sound : (f : ℕ → Instr) → ((x : ℕ) → small x ≡ true → in_range (f x) ≡ true) → Sound (number f)
 number_sound f h text t s = subst Right (sym s.2) (h s.0 (is_small s.0 (u32_in text s.0 s.1)))
 
-numbers_sound : (f : ℕ → ℕ → Instr) → ((x y : ℕ) → small x && small y ≡ true → in_range (f x y) ≡ true) → Sound (numbers f)
+numbers_sound : (f : ℕ → ℕ → Instr) → ((x y : ℕ) → small x ≡ true → small y ≡ true → in_range (f x y) ≡ true) → Sound (numbers f)
 numbers_sound f h text t s =
     let p = s.1 in
-    subst Right (sym s.2) (h s.0.0 s.0.1 (both (small s.0.0) (small s.0.1) (is_small s.0.0 (u32_in p.0 s.0.0 p.2)) (is_small s.0.1 (u32_in p.1 s.0.1 p.3))))
+    subst Right (sym s.2) (h s.0.0 s.0.1 (is_small s.0.0 (u32_in p.0 s.0.0 p.2)) (is_small s.0.1 (u32_in p.1 s.0.1 p.3)))
 
 const32_sound : Sound const32
 const32_sound text t s = let k = is_small_32 s.0 (signed_in 32 text s.0 s.1) in let in_it : in_range (I32Const s.0) ≡ true = search (rules, the_lemmas, k) in subst Right (sym s.2) in_it
@@ -62,17 +65,17 @@ const32_sound text t s = let k = is_small_32 s.0 (signed_in 32 text s.0 s.1) in 
 const64_sound : Sound const64
 const64_sound text t s = let k = is_small_64 s.0 (signed_in 64 text s.0 s.1) in let in_it : in_range (I64Const s.0) ≡ true = search (rules, the_lemmas, k) in subst Right (sym s.2) in_it
 
-labels_in : (xs : List ℕ) → Every IsU32 xs → all_true (map small xs) ≡ true
+labels_in : (xs : List ℕ) → Every IsU32 xs → list_all small xs ≡ true
 labels_in [] h = refl
-labels_in (x ∷ xs) h = both (small x) (all_true (map small xs)) (is_small x h.0) (labels_in xs h.1)
+labels_in (x ∷ xs) h = both (small x) (list_all small xs) (is_small x h.0) (labels_in xs h.1)
 
-table_in : (xs : List ℕ) (y : ℕ) → all_true (map small xs) && small y ≡ true → in_range (BrTable xs y) ≡ true
+table_in : (xs : List ℕ) (y : ℕ) → list_all small xs && small y ≡ true → in_range (BrTable xs y) ≡ true
 table_in xs y k = search (rules, the_lemmas, k)
 
 table_sound : Sound table
 table_sound text t s =
     let p = s.1 in
-    subst Right (sym s.2) (table_in s.0.0 s.0.1 (both (all_true (map small s.0.0)) (small s.0.1) (labels_in s.0.0 (says_vector IsU32 U32 u32_in p.0 s.0.0 p.2)) (is_small s.0.1 (u32_in p.1 s.0.1 p.3))))
+    subst Right (sym s.2) (table_in s.0.0 s.0.1 (both (list_all small s.0.0) (small s.0.1) (labels_in s.0.0 (says_vector IsU32 U32 u32_in p.0 s.0.0 p.2)) (is_small s.0.1 (u32_in p.1 s.0.1 p.3))))
 
 types_in : (ts : List ValType) → in_range (SelectTyped ts) ≡ true
 types_in ts = search (rules, the_lemmas)
@@ -80,16 +83,19 @@ types_in ts = search (rules, the_lemmas)
 typed_sound : Sound typed
 typed_sound text t s = subst Right (sym s.2) (types_in s.0)
 
-arg_in : (text : List ℕ) (m : MemArg) → SpellsMemArg false text m → small_arg m ≡ true
+abbrev ArgIn : MemArg → Type 0
+ArgIn m = (small m.align && small m.offset ≡ true) × (nat_eq m.memory 0 ≡ true)
+
+arg_in : (text : List ℕ) (m : MemArg) → SpellsMemArg false text m → ArgIn m
 unfolding arg_form
 arg_in text m h =
     let made = h.1.3 in
     let a = is_small h.0 (u32_in h.1.0 h.0 h.1.2) in
     let o = is_small made.0 (u32_in h.1.1 made.0 made.1) in
-    subst (λ x. small_arg x ≡ true) (sym made.2) (both (small h.0) (small made.0 && true) a (both (small made.0) true o refl))
+    subst ArgIn (sym made.2) (both (small h.0) (small made.0) a o, refl)
 
-access_sound : (f : MemArg → Instr) → ((m : MemArg) → small_arg m ≡ true → in_range (f m) ≡ true) → Sound (access f)
-access_sound f h text t s = subst Right (sym s.2) (h s.0 (arg_in text s.0 s.1))
+access_sound : (f : MemArg → Instr) → ((m : MemArg) → small m.align && small m.offset ≡ true → nat_eq m.memory 0 ≡ true → in_range (f m) ≡ true) → Sound (access f)
+access_sound f h text t s = let a = arg_in text s.0 s.1 in subst Right (sym s.2) (h s.0 a.0 a.1)
 
 zero_in : (text : List ℕ) (x : ℕ) → SpellsMemory false text x → nat_eq x 0 ≡ true
 zero_in text x h = rw h.1.1
@@ -97,13 +103,13 @@ zero_in text x h = rw h.1.1
 memory_sound : (f : ℕ → Instr) → ((x : ℕ) → nat_eq x 0 ≡ true → in_range (f x) ≡ true) → Sound (memory f)
 memory_sound f h text t s = subst Right (sym s.2) (h s.0 (zero_in text s.0 s.1))
 
-memories_sound : (f : ℕ → ℕ → Instr) → ((x y : ℕ) → nat_eq x 0 && nat_eq y 0 ≡ true → in_range (f x y) ≡ true) → Sound (memories f)
+memories_sound : (f : ℕ → ℕ → Instr) → ((x y : ℕ) → nat_eq x 0 ≡ true → nat_eq y 0 ≡ true → in_range (f x y) ≡ true) → Sound (memories f)
 memories_sound f h text t s =
-    let p = s.1 in subst Right (sym s.2) (h s.0.0 s.0.1 (both (nat_eq s.0.0 0) (nat_eq s.0.1 0) (zero_in p.0 s.0.0 p.2) (zero_in p.1 s.0.1 p.3)))
+    let p = s.1 in subst Right (sym s.2) (h s.0.0 s.0.1 (zero_in p.0 s.0.0 p.2) (zero_in p.1 s.0.1 p.3))
 
-with_memory_sound : (f : ℕ → ℕ → Instr) → ((x y : ℕ) → small x && nat_eq y 0 ≡ true → in_range (f x y) ≡ true) → Sound (with_memory f)
+with_memory_sound : (f : ℕ → ℕ → Instr) → ((x y : ℕ) → small x ≡ true → nat_eq y 0 ≡ true → in_range (f x y) ≡ true) → Sound (with_memory f)
 with_memory_sound f h text t s =
-    let p = s.1 in subst Right (sym s.2) (h s.0.0 s.0.1 (both (small s.0.0) (nat_eq s.0.1 0) (is_small s.0.0 (u32_in p.0 s.0.0 p.2)) (zero_in p.1 s.0.1 p.3)))
+    let p = s.1 in subst Right (sym s.2) (h s.0.0 s.0.1 (is_small s.0.0 (u32_in p.0 s.0.0 p.2)) (zero_in p.1 s.0.1 p.3))
 
 null_in : (r : RefType) → in_range (RefNull r) ≡ true
 null_in r = search (rules, the_lemmas)
@@ -111,10 +117,10 @@ null_in r = search (rules, the_lemmas)
 null_sound : Sound null
 null_sound text t s = subst Right (sym s.2) (null_in s.0)
 
-type_in : (text : List ℕ) (ty : BlockType) → SpellsBlockType text ty → small_type ty ≡ true
-type_in text block.Empty h = refl
-type_in text (block.Value v) h = refl
-type_in text (block.Index n) h = is_index text n h
+type_in : (text : List ℕ) (ty : BlockType) → SpellsBlockType text ty → Small (block_operands ty)
+type_in text block.Empty h = tt
+type_in text (block.Value v) h = tt
+type_in text (block.Index n) h = (is_index text n h, tt)
 
 open_sound : (k : Opener) → Sound (open' k)
 open_sound k text t s = subst Right (sym s.2) (type_in text s.0 s.1)
@@ -136,11 +142,11 @@ un_in op = search (rules, the_lemmas)
 bin_in : (op : BinOp) → in_range (Bin op) ≡ true
 bin_in op = search (rules, the_lemmas)
 
-load_in : (op : LoadOp) (m : MemArg) → small_arg m ≡ true → in_range (Load op m) ≡ true
-load_in op m k = search (rules, the_lemmas, k)
+load_in : (op : LoadOp) (m : MemArg) → small m.align && small m.offset ≡ true → nat_eq m.memory 0 ≡ true → in_range (Load op m) ≡ true
+load_in op m k z = search (rules, the_lemmas, k, z)
 
-store_in : (op : StoreOp) (m : MemArg) → small_arg m ≡ true → in_range (Store op m) ≡ true
-store_in op m k = search (rules, the_lemmas, k)
+store_in : (op : StoreOp) (m : MemArg) → small m.align && small m.offset ≡ true → nat_eq m.memory 0 ≡ true → in_range (Store op m) ≡ true
+store_in op m k z = search (rules, the_lemmas, k, z)
 
 in_Unreachable : in_range Unreachable ≡ true
 in_Unreachable = search (rules, the_lemmas)
@@ -217,20 +223,20 @@ in_MemoryGrow x k = search (rules, the_lemmas, k)
 in_MemoryFill : (x : ℕ) → nat_eq x 0 ≡ true → in_range (MemoryFill x) ≡ true
 in_MemoryFill x k = search (rules, the_lemmas, k)
 
-in_CallIndirect : (x y : ℕ) → small x && small y ≡ true → in_range (CallIndirect x y) ≡ true
-in_CallIndirect x y k = search (rules, the_lemmas, k)
+in_CallIndirect : (x y : ℕ) → small x ≡ true → small y ≡ true → in_range (CallIndirect x y) ≡ true
+in_CallIndirect x y h k = search (rules, the_lemmas, h, k)
 
-in_TableInit : (x y : ℕ) → small x && small y ≡ true → in_range (TableInit x y) ≡ true
-in_TableInit x y k = search (rules, the_lemmas, k)
+in_TableInit : (x y : ℕ) → small x ≡ true → small y ≡ true → in_range (TableInit x y) ≡ true
+in_TableInit x y h k = search (rules, the_lemmas, h, k)
 
-in_TableCopy : (x y : ℕ) → small x && small y ≡ true → in_range (TableCopy x y) ≡ true
-in_TableCopy x y k = search (rules, the_lemmas, k)
+in_TableCopy : (x y : ℕ) → small x ≡ true → small y ≡ true → in_range (TableCopy x y) ≡ true
+in_TableCopy x y h k = search (rules, the_lemmas, h, k)
 
-in_MemoryInit : (x y : ℕ) → small x && nat_eq y 0 ≡ true → in_range (MemoryInit x y) ≡ true
-in_MemoryInit x y k = search (rules, the_lemmas, k)
+in_MemoryInit : (x y : ℕ) → small x ≡ true → nat_eq y 0 ≡ true → in_range (MemoryInit x y) ≡ true
+in_MemoryInit x y h k = search (rules, the_lemmas, h, k)
 
-in_MemoryCopy : (x y : ℕ) → nat_eq x 0 && nat_eq y 0 ≡ true → in_range (MemoryCopy x y) ≡ true
-in_MemoryCopy x y k = search (rules, the_lemmas, k)
+in_MemoryCopy : (x y : ℕ) → nat_eq x 0 ≡ true → nat_eq y 0 ≡ true → in_range (MemoryCopy x y) ≡ true
+in_MemoryCopy x y h k = search (rules, the_lemmas, h, k)
 
 sub_sound : (n : ℕ) → Sound (sub_form n)
 unfolding sub_form
@@ -329,32 +335,19 @@ every_right : {A : Type 0} (P : A → Type 0) (a b : List A) → Every P (a ++ b
 every_right P [] b h = h
 every_right P (x ∷ xs) b h = every_right P xs b h.1
 
-block_in : (ty : BlockType) (body : List Instr) → small_type ty && all_in_range body ≡ true → in_range (Block ty body) ≡ true
-block_in ty body k = search (rules, the_lemmas, k)
-
-loop_in : (ty : BlockType) (body : List Instr) → small_type ty && all_in_range body ≡ true → in_range (Loop ty body) ≡ true
-loop_in ty body k = search (rules, the_lemmas, k)
-
-if_in : (ty : BlockType) (body other : List Instr) → small_type ty && (all_in_range body && all_in_range other) ≡ true → in_range (If ty body other) ≡ true
-if_in ty body other k = search (rules, the_lemmas, k)
-
 nests_in : {ts : List Token} {is : List Instr} → Nests ts is → Every Right ts → all_in_range is ≡ true
 nests_in no_more h = refl
-nests_in (one_plain {is = is} i r) h = both (in_range i) (all_in_range is) h.0 (nests_in r h.1)
+nests_in (one_plain {is = is} i r) h = more_in i is h.0 (nests_in r h.1)
 nests_in (one_block {inner = inner} {ts = ts} {body = body} {is = is} ty a r) h =
-    both (in_range (Block ty body)) (all_in_range is)
-    (block_in ty body (both (small_type ty) (all_in_range body) h.0 (nests_in a (every_left Right inner (End ∷ ts) h.1)))) (nests_in r (every_right Right inner (End ∷ ts) h.1).1)
+    more_in (Block ty body) is (block_in ty body h.0 (nests_in a (every_left Right inner (End ∷ ts) h.1))) (nests_in r (every_right Right inner (End ∷ ts) h.1).1)
 nests_in (one_loop {inner = inner} {ts = ts} {body = body} {is = is} ty a r) h =
-    both (in_range (Loop ty body)) (all_in_range is)
-    (loop_in ty body (both (small_type ty) (all_in_range body) h.0 (nests_in a (every_left Right inner (End ∷ ts) h.1)))) (nests_in r (every_right Right inner (End ∷ ts) h.1).1)
+    more_in (Loop ty body) is (loop_in ty body h.0 (nests_in a (every_left Right inner (End ∷ ts) h.1))) (nests_in r (every_right Right inner (End ∷ ts) h.1).1)
 nests_in (one_if {inner = inner} {ts = ts} {body = body} {is = is} ty a r) h =
-    both (in_range (If ty body [])) (all_in_range is)
-    (if_in ty body [] (both (small_type ty) (all_in_range body && true) h.0 (both (all_in_range body) true (nests_in a (every_left Right inner (End ∷ ts) h.1)) refl))) (nests_in r (every_right Right inner (End ∷ ts) h.1).1)
+    more_in (If ty body []) is (if_in ty body [] h.0 (nests_in a (every_left Right inner (End ∷ ts) h.1)) refl) (nests_in r (every_right Right inner (End ∷ ts) h.1).1)
 nests_in (one_if_else {inner = inner} {other = other} {ts = ts} {body = body} {otherwise = otherwise} {is = is} ty a b r) h =
     let rest = (every_right Right inner (Else ∷ (other ++ End ∷ ts)) h.1).1 in
-    both (in_range (If ty body otherwise)) (all_in_range is)
-    (if_in ty body otherwise (both (small_type ty) (all_in_range body && all_in_range otherwise) h.0 (both (all_in_range body) (all_in_range otherwise)
-    (nests_in a (every_left Right inner (Else ∷ (other ++ End ∷ ts)) h.1)) (nests_in b (every_left Right other (End ∷ ts) rest)))))
+    more_in (If ty body otherwise) is
+    (if_in ty body otherwise h.0 (nests_in a (every_left Right inner (Else ∷ (other ++ End ∷ ts)) h.1)) (nests_in b (every_left Right other (End ∷ ts) rest)))
     (nests_in r (every_right Right other (End ∷ ts) rest).1)
 
 pub body_in : (bytes : List ℕ) (is : List Instr) → SpellsBody false bytes is → all_in_range is ≡ true

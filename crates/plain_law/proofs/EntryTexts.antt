@@ -1,14 +1,12 @@
 -- The plain texts of code entries spell them, and data is used in them as in the functions.
-use Rattle.std.proofs.Common.{◌≡◌, ◌<◌, ◌^◌, List, [], ◌∷◌, map, length, length-append, Bool, false, ◌||◌, refl, ap, ap₂, ◌∙◌, arith}
+use Rattle.std.proofs.Common.{◌≡◌, ◌<◌, ◌^◌, List, [], ◌∷◌, map, length, length-append, Bool, false, ◌||◌, refl, ap, ◌∙◌, arith}
 use Rattle.wasm_bytes.specs.Writing.{u32_text}
-use Rattle.wasm_tree.specs.declared.instr.Instr.{Instr, fold-Instr}
-use Rattle.wasm_tree.specs.declared.instr.Instr.TheOpen.{Instr-F}
 use Rattle.wasm_tree.specs.declared.module.LocalGroup.{LocalGroup}
 use Rattle.wasm_tree.specs.declared.module.Func.{Func}
-use Rattle.wasm_format.specs.Bodies.{SpellsGroup, SpellsCode, SpellsEntry, any_true, data_step, uses_data_in, uses_data, any_uses_data}
+use Rattle.wasm_format.specs.Bodies.{SpellsGroup, SpellsCode, SpellsEntry}
+use Rattle.wasm_tree.specs.DataUse.{uses_data, any_uses_data}
 use Rattle.wasm_plain.specs.PlainValues.{vector_text, val_text}
 use Rattle.wasm_plain.specs.PlainCode.{group_text, body_text, code_text, entry_text}
-use Rattle.wasm_plain.specs.PlainCode.{any_true as any_plain, data_step as plain_step, uses_data_in as plain_uses_in, uses_data as plain_uses, any_uses_data as any_plain_uses}
 use Rattle.plain_law.specs.Ranges.{IsU32, FuncInRange}
 use Rattle.plain_law.proofs.Parts.{u32_some, u32_spells, sized_spells, vector_spells, every_with}
 use Rattle.plain_law.proofs.ItemTexts.{val_spells}
@@ -53,64 +51,6 @@ entry_some f = omega (arith, u32_some (length (code_text f)), length-append (u32
 
 -- ---- memory.init and data.drop
 
-any_same : (bs : List Bool) → any_plain bs ≡ any_true bs
-any_same [] = refl
-any_same (b ∷ bs) = ap (λ c. b || c) (any_same bs)
-
-step_same : (y : Instr-F Bool) → plain_step y ≡ data_step y
-step_same Instr-F.Unreachable = refl
-step_same Instr-F.Nop = refl
-step_same (Instr-F.Block ty body) = any_same body
-step_same (Instr-F.Loop ty body) = any_same body
-step_same (Instr-F.If ty body other) = ap₂ (λ a b. a || b) (any_same body) (any_same other)
-step_same (Instr-F.Br x) = refl
-step_same (Instr-F.BrIf x) = refl
-step_same (Instr-F.BrTable xs y) = refl
-step_same Instr-F.Return = refl
-step_same (Instr-F.Call x) = refl
-step_same (Instr-F.CallIndirect x y) = refl
-step_same Instr-F.Drop = refl
-step_same Instr-F.Select = refl
-step_same (Instr-F.SelectTyped ts) = refl
-step_same (Instr-F.LocalGet x) = refl
-step_same (Instr-F.LocalSet x) = refl
-step_same (Instr-F.LocalTee x) = refl
-step_same (Instr-F.GlobalGet x) = refl
-step_same (Instr-F.GlobalSet x) = refl
-step_same (Instr-F.TableGet x) = refl
-step_same (Instr-F.TableSet x) = refl
-step_same (Instr-F.Load op a) = refl
-step_same (Instr-F.Store op a) = refl
-step_same (Instr-F.MemorySize x) = refl
-step_same (Instr-F.MemoryGrow x) = refl
-step_same (Instr-F.I32Const x) = refl
-step_same (Instr-F.I64Const x) = refl
-step_same (Instr-F.Un x) = refl
-step_same (Instr-F.Bin x) = refl
-step_same (Instr-F.RefNull x) = refl
-step_same Instr-F.RefIsNull = refl
-step_same (Instr-F.RefFunc x) = refl
-step_same (Instr-F.MemoryInit x m) = refl
-step_same (Instr-F.DataDrop x) = refl
-step_same (Instr-F.MemoryCopy x y) = refl
-step_same (Instr-F.MemoryFill x) = refl
-step_same (Instr-F.TableInit x y) = refl
-step_same (Instr-F.ElemDrop x) = refl
-step_same (Instr-F.TableCopy x y) = refl
-step_same (Instr-F.TableGrow x) = refl
-step_same (Instr-F.TableSize x) = refl
-step_same (Instr-F.TableFill x) = refl
-
-uses_same : (i : Instr) → plain_uses_in i ≡ uses_data_in i
-uses_same i = ap (λ step. fold-Instr Bool step i) (λ j y. step_same y j)
-
-map_same : (is : List Instr) → map plain_uses_in is ≡ map uses_data_in is
-map_same [] = refl
-map_same (i ∷ is) = ap₂ (λ b bs. b ∷ bs) (uses_same i) (map_same is)
-
-pub body_uses_same : (is : List Instr) → plain_uses is ≡ uses_data is
-body_uses_same is = ap any_plain (map_same is) ∙ any_same (map uses_data_in is)
-
-pub funcs_use_same : (fs : List Func) → any_plain_uses fs ≡ any_uses_data (map untyped fs)
+pub funcs_use_same : (fs : List Func) → any_uses_data fs ≡ any_uses_data (map untyped fs)
 funcs_use_same [] = refl
-funcs_use_same (f ∷ fs) = ap₂ (λ a b. a || b) (body_uses_same f.body) (funcs_use_same fs)
+funcs_use_same (f ∷ fs) = ap (λ b. uses_data f.body || b) (funcs_use_same fs)

@@ -16,14 +16,14 @@ use Rattle.wasm_tree.specs.declared.module.ElemSeg.{ElemSeg}
 use Rattle.wasm_tree.specs.declared.module.DataSeg.{DataSeg}
 use Rattle.wasm_tree.specs.declared.module.Module.{Module}
 use Rattle.wasm_format.specs.declared.parts.Parts.{Parts}
-use Rattle.wasm_format.specs.Words.{Every}
+use Rattle.base_lists.specs.Every.{Every}
 use Rattle.wasm_format.specs.Values.{SpellsFuncType, SpellsTable, SpellsLimits}
 use Rattle.wasm_format.specs.Sections.{SpellsImport, SpellsGlobalDef, SpellsExport, SpellsElem, SpellsData}
-use Rattle.wasm_format.specs.Bodies.{SpellsEntry, any_uses_data}
+use Rattle.wasm_format.specs.Bodies.{SpellsEntry}
+use Rattle.wasm_tree.specs.DataUse.{any_uses_data}
 use Rattle.wasm_format.specs.Files.{nothing, with_types, with_imports, with_func_types, with_tables, with_mems, with_globals, with_exports, with_elems, with_codes, with_datas, section_form, Contents, Counted, Rules, typed, tree_of, Spells}
 use Rattle.wasm_plain.specs.PlainValues.{each_text, vector_text, func_type_text, import_text, table_text, limits_text, global_text, export_text, elem_text, data_text}
 use Rattle.wasm_plain.specs.PlainCode.{entry_text}
-use Rattle.wasm_plain.specs.PlainCode.{any_uses_data as any_plain_uses}
 use Rattle.wasm_plain.specs.Plain.{section_text, list_section, start_section, count_section, plain}
 use Rattle.plain_law.specs.Ranges.{IsU32, MaxInRange, LimitsInRange, ConstInRange, ImportInRange, ExportInRange, ElemInRange, DataModeInRange, FuncInRange, InRange}
 use Rattle.plain_law.proofs.Parts.{u32_some, u32_spells, sized_spells, vector_mapped, length_map, every_with, every_of, every_short, count_below}
@@ -86,7 +86,7 @@ abbrev set_start : Parts → Option ℕ → Parts
 set_start p s = record p { start = s }
 
 abbrev counted : Module → Option ℕ
-counted m = if any_plain_uses m.funcs then Some (length m.datas) else None
+counted m = if any_uses_data m.funcs then Some (length m.datas) else None
 
 abbrev set_count : Parts → Option ℕ → Parts
 set_count p s = record p { data_count = s }
@@ -328,7 +328,7 @@ all_sections m r few =
     let s12 = parted (list_section 11 data_text m.datas) [] s11.1 in
     let r12 = datas_more m (p12 m) [] r s12.0 (done 12 (p12 m)) in
     let r11 = codes_more m (p12 m) (t12 m) r s11.0 r12 in
-    let r10 = count_more (p9 m) (p12 m) (any_plain_uses m.funcs) (length m.datas) (t11 m) refl (datas_few m.datas s12.0) r11 in
+    let r10 = count_more (p9 m) (p12 m) (any_uses_data m.funcs) (length m.datas) (t11 m) refl (datas_few m.datas s12.0) r11 in
     let r9 = elems_more m (p12 m) (t10 m) r s9.0 r10 in
     let r8 = start_more (p7 m) (p12 m) m.start (t9 m) refl r.start r9 in
     let r7 = exports_more m (p12 m) (t8 m) r s7.0 r8 in
@@ -383,7 +383,7 @@ counted_right false n p uses count = uses
 rules : (m : Module) → Rules (p12 m)
 rules m = record {
   functions = length_map (λ (f : Func). f.ty) m.funcs ∙ sym (length_map untyped m.funcs);
-  counted = counted_right (any_plain_uses m.funcs) (length m.datas) (p12 m) (sym (funcs_use_same m.funcs)) (sym (length_map (λ (x : DataSeg). x) m.datas));
+  counted = counted_right (any_uses_data m.funcs) (length m.datas) (p12 m) (sym (funcs_use_same m.funcs)) (sym (length_map (λ (x : DataSeg). x) m.datas));
 }
 
 module_of : (ts ts' : List FuncType) (is is' : List Import) (fs fs' : List Func) (bs bs' : List TableType) (ms ms' : List Limits) (gs gs' : List GlobalDef) (es es' : List Export) (s : Option ℕ) (ls ls' : List ElemSeg) (ds ds' : List DataSeg) →

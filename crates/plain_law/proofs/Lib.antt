@@ -8,3 +8,4 @@ pub mod NumberRanges
 pub mod BodyRanges
 pub mod TreeRanges
 pub mod SizeLaws
+pub mod Inside

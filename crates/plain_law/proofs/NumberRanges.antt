@@ -6,7 +6,8 @@ use Rattle.std.proofs.lemmas.Nat.{pow_pos}
 use Rattle.wasm_bytes.specs.Numbers.{Unsigned, Signed, IsWithin, last_unsigned, last_signed}
 use Rattle.wasm_bytes.specs.Joins.{U32, Each, Vector}
 use Rattle.wasm_bytes.proofs.Sizes.{joined, joined_signed}
-use Rattle.wasm_format.specs.Words.{Every, Made, When, Never}
+use Rattle.base_lists.specs.Every.{Every}
+use Rattle.wasm_format.specs.Words.{Made, When, Never}
 use Rattle.plain_law.specs.Ranges.{small, small_signed, IsU32}
 
 last_in : (bits b n : ℕ) → last_unsigned bits b ≡ Some n → n < 2 ^ bits

@@ -8,7 +8,7 @@ use Rattle.wasm_bytes.specs.Joins.{U32, Each, Vector, Sized}
 use Rattle.wasm_bytes.proofs.Shortest.{u32_shortest}
 use Rattle.wasm_bytes.proofs.SignedShortest.{signed_spells}
 use Rattle.wasm_plain.specs.PlainValues.{each_text, vector_text}
-use Rattle.wasm_format.specs.Words.{Every}
+use Rattle.base_lists.specs.Every.{Every}
 use Rattle.plain_law.specs.Ranges.{small, small_signed}
 
 pub left : (a b : Bool) → a && b ≡ true → a ≡ true

@@ -1,5 +1,7 @@
 -- Where the plain spelling of a module has fewer than 2^32 bytes, each vector and each written size is below 2^32.
 use Rattle.std.proofs.Common.{◌≡◌, ℕ, suc, ◌+◌, ◌<◌, ◌^◌, List, [], ◌∷◌, ◌++◌, map, length, length-append, Bool, true, refl, ap, ◌∙◌, subst, arith, append-nil, ⊎_elim}
+use Rattle.std.specs.List.{list_all}
+use Rattle.std.proofs.lemmas.List.Folds.{list_all-map}
 use Rattle.wasm_bytes.specs.Writing.{u32_text, unsigned_text, sized_text}
 use Rattle.wasm_tree.specs.declared.types.FuncType.{FuncType}
 use Rattle.wasm_tree.specs.declared.instr.Instr.{Instr, map-Instr, ind-Instr, fold-roll-Instr, roll-Instr}
@@ -10,7 +12,8 @@ use Rattle.wasm_tree.specs.declared.module.ElemSeg.{ElemSeg}
 use Rattle.wasm_tree.specs.declared.module.DataSeg.{DataSeg}
 use Rattle.wasm_tree.specs.declared.module.Func.{Func}
 use Rattle.wasm_tree.specs.declared.module.Module.{Module}
-use Rattle.wasm_format.specs.Words.{Every, Any}
+use Rattle.base_lists.specs.Every.{Every}
+use Rattle.wasm_format.specs.Words.{Any}
 use Rattle.wasm_plain.specs.PlainValues.{vector_text, val_text, block_type_text, func_type_text, import_desc_text, import_text, table_text, limits_text, global_text, export_desc_text, export_text, const_text, func_of, by_index, index_items, const_items, elem_text, data_mode_text, data_text}
 use Rattle.wasm_plain.specs.PlainCode.{instr_step, instr_text, instrs_text, body_text, group_text, code_text, entry_text}
 use Rattle.wasm_plain.specs.Plain.{list_section, plain}
@@ -39,6 +42,9 @@ body_short (e ∷ es) few =
     let sizes = length-append (instr_text e.0) (instrs_text (trees es)) in
     both (has_short_lists e.0) (all_have_short_lists (trees es)) (e.1 (omega (arith, few, sizes))) (body_short es (omega (arith, few, sizes)))
 
+whole_short : (es : List Such) → length (instrs_text (trees es)) < 2 ^ 32 → list_all (λ b. b) (map has_short_lists (trees es)) ≡ true
+whole_short es few = list_all-map (λ b. b) has_short_lists (trees es) ∙ body_short es few
+
 inside : (a b c : List ℕ) → length (a ++ b ++ c) < 2 ^ 32 → length b < 2 ^ 32
 inside a b c h = omega (arith, h, length-append (a ++ b) c, length-append a b)
 
@@ -46,12 +52,12 @@ node : (y : Instr-F Such) → length (instr_step (map-Instr Instr (List ℕ) ins
     lists_step (map-Instr Instr Bool has_short_lists (map-Instr Such Instr (λ e. e.0) y)) ≡ true
 node Instr-F.Unreachable k = refl
 node Instr-F.Nop k = refl
-node (Instr-F.Block ty body) k = body_short body (inside (0x02 ∷ block_type_text ty) (instrs_text (trees body)) (0x0B ∷ []) k)
-node (Instr-F.Loop ty body) k = body_short body (inside (0x03 ∷ block_type_text ty) (instrs_text (trees body)) (0x0B ∷ []) k)
+node (Instr-F.Block ty body) k = whole_short body (inside (0x02 ∷ block_type_text ty) (instrs_text (trees body)) (0x0B ∷ []) k)
+node (Instr-F.Loop ty body) k = whole_short body (inside (0x03 ∷ block_type_text ty) (instrs_text (trees body)) (0x0B ∷ []) k)
 node (Instr-F.If ty body []) k =
     let begin = 0x04 ∷ block_type_text ty in
     let none : (begin ++ instrs_text (trees body) ++ []) ++ 0x0B ∷ [] ≡ begin ++ instrs_text (trees body) ++ 0x0B ∷ [] = ap (λ x. x ++ 0x0B ∷ []) (append-nil (begin ++ instrs_text (trees body))) in
-    both (all_have_short_lists (trees body)) true (body_short body (inside begin (instrs_text (trees body)) (0x0B ∷ []) (subst (λ t. length t < 2 ^ 32) none k))) refl
+    both (list_all (λ b. b) (map has_short_lists (trees body))) true (whole_short body (inside begin (instrs_text (trees body)) (0x0B ∷ []) (subst (λ t. length t < 2 ^ 32) none k))) refl
 node (Instr-F.If ty body (e ∷ es)) k =
     let begin = 0x04 ∷ block_type_text ty in
     let inner = instrs_text (trees body) in
@@ -59,7 +65,7 @@ node (Instr-F.If ty body (e ∷ es)) k =
     let all : length ((begin ++ inner ++ (0x05 ∷ other)) ++ 0x0B ∷ []) < 2 ^ 32 = k in
     let sizes : length ((begin ++ inner ++ (0x05 ∷ other)) ++ 0x0B ∷ []) ≡ length begin + length inner + (1 + length other) + 1 =
     length-append (begin ++ inner ++ (0x05 ∷ other)) (0x0B ∷ []) ∙ ap (λ n. n + 1) (length-append (begin ++ inner) (0x05 ∷ other) ∙ ap (λ n. n + suc (length other)) (length-append begin inner)) ∙ omega arith in
-    both (all_have_short_lists (trees body)) (all_have_short_lists (trees (e ∷ es))) (body_short body (omega (arith, all, sizes))) (body_short (e ∷ es) (omega (arith, all, sizes)))
+    both (list_all (λ b. b) (map has_short_lists (trees body))) (list_all (λ b. b) (map has_short_lists (trees (e ∷ es)))) (whole_short body (omega (arith, all, sizes))) (whole_short (e ∷ es) (omega (arith, all, sizes)))
 node (Instr-F.Br x) k = refl
 node (Instr-F.BrIf x) k = refl
 node (Instr-F.BrTable xs y) k =

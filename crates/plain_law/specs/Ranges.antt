@@ -1,12 +1,12 @@
 -- What is so of each tree that a program holds, for its numbers have types and its names are text: each number is in the range
 -- of its type, and each name is UTF-8. Besides, each memory index in a body is 0.
-use Rattle.std.specs.Prelude.{ℕ, ◌^◌, ◌<◌, List, [], ◌∷◌, map, Bool, true, ◌&&◌, nat_lt, nat_eq, Option, Some, None, ℤ, pos, negsuc, IsTrue, IsUtf8}
+use Rattle.std.specs.Prelude.{ℕ, ◌^◌, ◌<◌, List, Bool, true, ◌&&◌, if◌then◌else◌, nat_lt, nat_eq, Option, Some, None, ℤ, pos, negsuc, IsTrue, IsUtf8}
+use Rattle.std.specs.List.{list_all}
 use Rattle.wasm_bytes.specs.Numbers.{IsWithin}
 use Rattle.wasm_tree.specs.declared.types.Limits.{Limits}
 use Rattle.wasm_tree.specs.declared.types.TableType.{TableType}
-use Rattle.wasm_tree.specs.declared.types.BlockType.{BlockType}
-use Rattle.wasm_tree.specs.declared.types.BlockType.TheVariants as block
-use Rattle.wasm_tree.specs.declared.instr.MemArg.{MemArg}
+use Rattle.wasm_tree.specs.declared.space.Space.TheVariants.{Memories}
+use Rattle.wasm_tree.specs.declared.space.Operand.{Operand}
 use Rattle.wasm_tree.specs.declared.instr.Instr.{Instr, fold-Instr}
 use Rattle.wasm_tree.specs.declared.instr.Instr.TheOpen.{Instr-F}
 use Rattle.wasm_tree.specs.declared.module.ImportDesc.{ImportDesc}
@@ -27,7 +27,8 @@ use Rattle.wasm_tree.specs.declared.module.DataSeg.{DataSeg}
 use Rattle.wasm_tree.specs.declared.module.LocalGroup.{LocalGroup}
 use Rattle.wasm_tree.specs.declared.module.Func.{Func}
 use Rattle.wasm_tree.specs.declared.module.Module.{Module}
-use Rattle.wasm_format.specs.Words.{Every}
+use Rattle.wasm_tree.specs.Operands.{same_space, held, operands_pass, all_operands_pass}
+use Rattle.base_lists.specs.Every.{Every}
 
 -- ---- bodies, by tests
 
@@ -38,58 +39,69 @@ abbrev pub small_signed : ℕ → ℤ → Bool
 small_signed bits (pos n) = nat_lt n (2 ^ bits)
 small_signed bits (negsuc n) = nat_lt n (2 ^ bits)
 
-abbrev pub small_type : BlockType → Bool
-small_type block.Empty = true
-small_type (block.Value t) = true
-small_type (block.Index n) = small n
+-- an operand is below 2^32, and 0 in the space of memories
+abbrev pub small_operand : Operand → Bool
+small_operand o = if same_space o.space Memories then nat_eq o.index 0 else small o.index
 
-abbrev pub small_arg : MemArg → Bool
-small_arg a = small a.align && (small a.offset && nat_eq a.memory 0)
+-- the numbers of a layer that are no operands: labels, locals, constants, alignments and offsets
+abbrev pub small_numbers : {X : Type 0} → Instr-F X → Bool
+small_numbers Instr-F.Unreachable = true
+small_numbers Instr-F.Nop = true
+small_numbers (Instr-F.Block ty body) = true
+small_numbers (Instr-F.Loop ty body) = true
+small_numbers (Instr-F.If ty body other) = true
+small_numbers (Instr-F.Br label) = small label
+small_numbers (Instr-F.BrIf label) = small label
+small_numbers (Instr-F.BrTable labels last) = list_all small labels && small last
+small_numbers Instr-F.Return = true
+small_numbers (Instr-F.Call func) = true
+small_numbers (Instr-F.CallIndirect ty table) = true
+small_numbers Instr-F.Drop = true
+small_numbers Instr-F.Select = true
+small_numbers (Instr-F.SelectTyped types) = true
+small_numbers (Instr-F.LocalGet local) = small local
+small_numbers (Instr-F.LocalSet local) = small local
+small_numbers (Instr-F.LocalTee local) = small local
+small_numbers (Instr-F.GlobalGet global) = true
+small_numbers (Instr-F.GlobalSet global) = true
+small_numbers (Instr-F.TableGet table) = true
+small_numbers (Instr-F.TableSet table) = true
+small_numbers (Instr-F.Load op arg) = small arg.align && small arg.offset
+small_numbers (Instr-F.Store op arg) = small arg.align && small arg.offset
+small_numbers (Instr-F.MemorySize memory) = true
+small_numbers (Instr-F.MemoryGrow memory) = true
+small_numbers (Instr-F.I32Const value) = small_signed 31 value
+small_numbers (Instr-F.I64Const value) = small_signed 63 value
+small_numbers (Instr-F.Un op) = true
+small_numbers (Instr-F.Bin op) = true
+small_numbers (Instr-F.RefNull ty) = true
+small_numbers Instr-F.RefIsNull = true
+small_numbers (Instr-F.RefFunc func) = true
+small_numbers (Instr-F.MemoryInit segment memory) = true
+small_numbers (Instr-F.DataDrop segment) = true
+small_numbers (Instr-F.MemoryCopy to from) = true
+small_numbers (Instr-F.MemoryFill memory) = true
+small_numbers (Instr-F.TableInit segment table) = true
+small_numbers (Instr-F.ElemDrop segment) = true
+small_numbers (Instr-F.TableCopy to from) = true
+small_numbers (Instr-F.TableGrow table) = true
+small_numbers (Instr-F.TableSize table) = true
+small_numbers (Instr-F.TableFill table) = true
 
-abbrev pub all_true : List Bool → Bool
-all_true [] = true
-all_true (b ∷ bs) = b && all_true bs
+abbrev pub number_step : Instr-F Bool → Bool
+number_step layer = small_numbers layer && list_all (λ b. b) (held layer)
 
-abbrev pub range_step : Instr-F Bool → Bool
-range_step (Instr-F.Block ty body) = small_type ty && all_true body
-range_step (Instr-F.Loop ty body) = small_type ty && all_true body
-range_step (Instr-F.If ty body other) = small_type ty && (all_true body && all_true other)
-range_step (Instr-F.Br x) = small x
-range_step (Instr-F.BrIf x) = small x
-range_step (Instr-F.BrTable xs y) = all_true (map small xs) && small y
-range_step (Instr-F.Call x) = small x
-range_step (Instr-F.CallIndirect x y) = small x && small y
-range_step (Instr-F.LocalGet x) = small x
-range_step (Instr-F.LocalSet x) = small x
-range_step (Instr-F.LocalTee x) = small x
-range_step (Instr-F.GlobalGet x) = small x
-range_step (Instr-F.GlobalSet x) = small x
-range_step (Instr-F.TableGet x) = small x
-range_step (Instr-F.TableSet x) = small x
-range_step (Instr-F.Load op arg) = small_arg arg
-range_step (Instr-F.Store op arg) = small_arg arg
-range_step (Instr-F.MemorySize memory) = nat_eq memory 0
-range_step (Instr-F.MemoryGrow memory) = nat_eq memory 0
-range_step (Instr-F.I32Const z) = small_signed 31 z
-range_step (Instr-F.I64Const z) = small_signed 63 z
-range_step (Instr-F.RefFunc x) = small x
-range_step (Instr-F.MemoryInit x memory) = small x && nat_eq memory 0
-range_step (Instr-F.DataDrop x) = small x
-range_step (Instr-F.MemoryCopy to from) = nat_eq to 0 && nat_eq from 0
-range_step (Instr-F.MemoryFill memory) = nat_eq memory 0
-range_step (Instr-F.TableInit x y) = small x && small y
-range_step (Instr-F.ElemDrop x) = small x
-range_step (Instr-F.TableCopy x y) = small x && small y
-range_step (Instr-F.TableGrow x) = small x
-range_step (Instr-F.TableSize x) = small x
-range_step (Instr-F.TableFill x) = small x
-range_step _ = true
+abbrev pub numbers_in : Instr → Bool
+numbers_in = fold-Instr Bool number_step
+
+abbrev pub all_numbers_in : List Instr → Bool
+all_numbers_in = list_all numbers_in
 
 abbrev pub in_range : Instr → Bool
-in_range = fold-Instr Bool range_step
+in_range i = operands_pass small_operand i && numbers_in i
 
 abbrev pub all_in_range : List Instr → Bool
-all_in_range is = all_true (map in_range is)
+all_in_range is = all_operands_pass small_operand is && all_numbers_in is
 
 -- ---- what the sections hold
 

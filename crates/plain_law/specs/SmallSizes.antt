@@ -1,5 +1,6 @@
 -- Each vector of a module and each size that its plain spelling writes is below 2^32 (Core 2.0, 5.1.3 and 5.5.2).
-use Rattle.std.specs.Prelude.{ℕ, ◌^◌, ◌<◌, List, length, map, Bool, true, ◌&&◌, IsTrue}
+use Rattle.std.specs.Prelude.{ℕ, ◌^◌, ◌<◌, List, length, Bool, true, ◌&&◌, IsTrue}
+use Rattle.std.specs.List.{list_all}
 use Rattle.wasm_tree.specs.declared.types.FuncType.{FuncType}
 use Rattle.wasm_tree.specs.declared.instr.Instr.{Instr, fold-Instr}
 use Rattle.wasm_tree.specs.declared.instr.Instr.TheOpen.{Instr-F}
@@ -9,29 +10,65 @@ use Rattle.wasm_tree.specs.declared.module.ElemSeg.{ElemSeg}
 use Rattle.wasm_tree.specs.declared.module.DataSeg.{DataSeg}
 use Rattle.wasm_tree.specs.declared.module.Func.{Func}
 use Rattle.wasm_tree.specs.declared.module.Module.{Module}
-use Rattle.wasm_format.specs.Words.{Every}
+use Rattle.base_lists.specs.Every.{Every}
 use Rattle.wasm_bytes.specs.Writing.{u32_text}
 use Rattle.wasm_plain.specs.PlainValues.{vector_text, func_type_text, import_text, table_text, limits_text, global_text, export_text, elem_text, data_text}
 use Rattle.wasm_plain.specs.PlainCode.{code_text, entry_text}
-use Rattle.plain_law.specs.Ranges.{small, all_true}
+use Rattle.plain_law.specs.Ranges.{small}
 
 abbrev pub IsShort : {A : Type 0} → List A → Type 0
 IsShort xs = length xs < 2 ^ 32
 
 -- the labels of each br_table and the types of each typed select are fewer than 2^32
 abbrev pub lists_step : Instr-F Bool → Bool
-lists_step (Instr-F.Block ty body) = all_true body
-lists_step (Instr-F.Loop ty body) = all_true body
-lists_step (Instr-F.If ty body other) = all_true body && all_true other
-lists_step (Instr-F.BrTable xs y) = small (length xs)
-lists_step (Instr-F.SelectTyped ts) = small (length ts)
-lists_step _ = true
+lists_step Instr-F.Unreachable = true
+lists_step Instr-F.Nop = true
+lists_step (Instr-F.Block ty body) = list_all (λ b. b) body
+lists_step (Instr-F.Loop ty body) = list_all (λ b. b) body
+lists_step (Instr-F.If ty body other) = list_all (λ b. b) body && list_all (λ b. b) other
+lists_step (Instr-F.Br label) = true
+lists_step (Instr-F.BrIf label) = true
+lists_step (Instr-F.BrTable labels last) = small (length labels)
+lists_step Instr-F.Return = true
+lists_step (Instr-F.Call func) = true
+lists_step (Instr-F.CallIndirect ty table) = true
+lists_step Instr-F.Drop = true
+lists_step Instr-F.Select = true
+lists_step (Instr-F.SelectTyped types) = small (length types)
+lists_step (Instr-F.LocalGet local) = true
+lists_step (Instr-F.LocalSet local) = true
+lists_step (Instr-F.LocalTee local) = true
+lists_step (Instr-F.GlobalGet global) = true
+lists_step (Instr-F.GlobalSet global) = true
+lists_step (Instr-F.TableGet table) = true
+lists_step (Instr-F.TableSet table) = true
+lists_step (Instr-F.Load op arg) = true
+lists_step (Instr-F.Store op arg) = true
+lists_step (Instr-F.MemorySize memory) = true
+lists_step (Instr-F.MemoryGrow memory) = true
+lists_step (Instr-F.I32Const value) = true
+lists_step (Instr-F.I64Const value) = true
+lists_step (Instr-F.Un op) = true
+lists_step (Instr-F.Bin op) = true
+lists_step (Instr-F.RefNull ty) = true
+lists_step Instr-F.RefIsNull = true
+lists_step (Instr-F.RefFunc func) = true
+lists_step (Instr-F.MemoryInit segment memory) = true
+lists_step (Instr-F.DataDrop segment) = true
+lists_step (Instr-F.MemoryCopy to from) = true
+lists_step (Instr-F.MemoryFill memory) = true
+lists_step (Instr-F.TableInit segment table) = true
+lists_step (Instr-F.ElemDrop segment) = true
+lists_step (Instr-F.TableCopy to from) = true
+lists_step (Instr-F.TableGrow table) = true
+lists_step (Instr-F.TableSize table) = true
+lists_step (Instr-F.TableFill table) = true
 
 abbrev pub has_short_lists : Instr → Bool
 has_short_lists = fold-Instr Bool lists_step
 
 abbrev pub all_have_short_lists : List Instr → Bool
-all_have_short_lists is = all_true (map has_short_lists is)
+all_have_short_lists = list_all has_short_lists
 
 -- a section of items: how many they are, and the size of its content
 pub record SmallSection {A : Type 0} (text : A → List ℕ) (xs : List A) : Type 0 where

@@ -5,7 +5,7 @@ use Rattle.std.specs.Str.{bytes_eq}
 use Rattle.std.proofs.lemmas.List.{map-append, take-append-drop, get_or_default}
 use Rattle.std.proofs.lemmas.List.Folds.{list_any-append}
 use Rattle.std.proofs.Math.Seq.{drop-cons}
-use Rattle.wasm_bytes.proofs.Walk.{mapped_more}
+use Rattle.base_lists.proofs.Walk.{mapped_more}
 use Rattle.wasm_valid.proofs.Repeats.{swapped}
 use Rattle.std.proofs.lemmas.Slice.Eq.{bytes_eq-Decides}
 use Rattle.export_names.specs.Names.{AreDistinct}

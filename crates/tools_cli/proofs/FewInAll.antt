@@ -1,11 +1,13 @@
 -- What stands in the parts of a merge together.
 use Rattle.std.proofs.Common.{◌≡◌, refl, ap, subst, ℕ, zero, suc, ◌*◌, ◌≤◌, List, [], ◌∷◌, length, length-append, Some, None, Ok, Result, cond, ltb, true, false, Bool, arith}
 use Rattle.wasm_tree.specs.declared.space.Space.{Space}
-use Rattle.wasm_tree.specs.declared.space.Space.TheVariants.{Functions, Tables, Memories, Globals, DataSegments, ElementSegments}
+use Rattle.wasm_tree.specs.declared.space.Space.TheVariants.{Types, Functions, Tables, Memories, Globals, ElementSegments, DataSegments}
+use Rattle.wasm_tree.specs.declared.which.Which.TheVariants as which
+use Rattle.wasm_tree.specs.Limits.{limit}
 use Rattle.std.specs.List.{flat_map}
 use Rattle.std.proofs.lemmas.Bool.Decides.{nat_tests}
 use Rattle.wasm_tree.specs.declared.module.Module.{Module}
-use Rattle.wasm_format.specs.Words.{Every}
+use Rattle.base_lists.specs.Every.{Every}
 use Rattle.wasm_meaning.specs.World.{defined_count, defined_before}
 use Rattle.wasm_meaning.specs.Linking.{Part, sites_in, sites_from}
 use Rattle.merge_terms.specs.Joined as joined
@@ -19,7 +21,7 @@ use Rattle.tools_cli.proofs.Limits.{IsWithinLimits, read_within}
 abbrev pub EachWithin : List Part → Type 0
 EachWithin = Every (λ (p : Part). IsWithinLimits p.«module»)
 
-types_few : (ps : List Part) → EachWithin ps → length (flat_map (λ (p : Part). p.«module».types) ps) ≤ 1000000 * length ps
+types_few : (ps : List Part) → EachWithin ps → length (flat_map (λ (p : Part). p.«module».types) ps) ≤ limit which.Types * length ps
 types_few [] h = omega arith
 types_few (p ∷ ps) h = let whole = length-append p.«module».types (flat_map (λ (p : Part). p.«module».types) ps) in omega (arith, whole, h.0.types, types_few ps h.1)
 
@@ -27,40 +29,53 @@ length_sites_in : (p n k : ℕ) → length (sites_in p n k) ≡ n
 length_sites_in p zero k = refl
 length_sites_in p (suc n) k = ap suc (length_sites_in p n (suc k))
 
-sites_few : (n : ℕ) (ps : List Part) → EachWithin ps → length (sites_from n ps) ≤ 1000000 * length ps
+sites_few : (n : ℕ) (ps : List Part) → EachWithin ps → length (sites_from n ps) ≤ limit which.Imports * length ps
 sites_few n [] h = omega arith
 sites_few n (p ∷ ps) h =
     let whole = length-append (sites_in n (length p.«module».imports) 0) (sites_from (suc n) ps) in
     omega (arith, whole, length_sites_in n (length p.«module».imports) 0, h.0.imports, sites_few (suc n) ps h.1)
 
-count_few : (k : Space) (m : Module) → IsWithinLimits m → defined_count k m ≤ 1000000
+-- the most that a module defines of an index space
+abbrev most_defined : Space → ℕ
+most_defined Types = limit which.Types
+most_defined Functions = limit which.Functions
+most_defined Tables = limit which.Tables
+most_defined Memories = limit which.Memories
+most_defined Globals = limit which.Globals
+most_defined ElementSegments = limit which.ElementSegments
+most_defined DataSegments = limit which.DataSegments
+
+count_few : (k : Space) (m : Module) → IsWithinLimits m → defined_count k m ≤ most_defined k
+count_few Types m h = h.types
 count_few Functions m h = h.funcs
 count_few Tables m h = h.tables
 count_few Memories m h = h.mems
 count_few Globals m h = h.globals
+count_few ElementSegments m h = h.elems
+count_few DataSegments m h = h.datas
 
-defined_few : (k : Space) (ps : List Part) (n : ℕ) → EachWithin ps → defined_before k ps n ≤ 1000000 * length ps
+-- and that is a million at most
+most_few : (k : Space) → most_defined k ≤ limit which.Functions
+most_few Types = omega arith
+most_few Functions = omega arith
+most_few Tables = omega arith
+most_few Memories = omega arith
+most_few Globals = omega arith
+most_few ElementSegments = omega arith
+most_few DataSegments = omega arith
+
+defined_few : (k : Space) (ps : List Part) (n : ℕ) → EachWithin ps → defined_before k ps n ≤ limit which.Functions * length ps
 defined_few k [] n h = omega arith
 defined_few k (p ∷ ps) zero h = omega arith
-defined_few k (p ∷ ps) (suc n) h = omega (arith, count_few k p.«module» h.0, defined_few k ps n h.1)
+defined_few k (p ∷ ps) (suc n) h = omega (arith, count_few k p.«module» h.0, most_few k, defined_few k ps n h.1)
 
-elems_few : (ps : List Part) (n : ℕ) → EachWithin ps → defined_before ElementSegments ps n ≤ 1000000 * length ps
-elems_few [] n h = omega arith
-elems_few (p ∷ ps) zero h = omega arith
-elems_few (p ∷ ps) (suc n) h = omega (arith, h.0.elems, elems_few ps n h.1)
-
-datas_few : (ps : List Part) (n : ℕ) → EachWithin ps → defined_before DataSegments ps n ≤ 1000000 * length ps
-datas_few [] n h = omega arith
-datas_few (p ∷ ps) zero h = omega arith
-datas_few (p ∷ ps) (suc n) h = omega (arith, h.0.datas, datas_few ps n h.1)
-
-few_in_all : (ps : List Part) → length ps ≤ 1000 → EachWithin ps → joined.FewInAll ps
+few_in_all : (ps : List Part) → length ps ≤ limit which.Parts → EachWithin ps → joined.FewInAll ps
 few_in_all ps few h = record {
   parts_few = omega arith;
   types = omega (arith, types_few ps h);
   entities = λ k. omega (arith, sites_few 0 ps h, defined_few k ps (length ps) h);
-  elems = omega (arith, elems_few ps (length ps) h);
-  datas = omega (arith, datas_few ps (length ps) h);
+  elems = omega (arith, defined_few ElementSegments ps (length ps) h);
+  datas = omega (arith, defined_few DataSegments ps (length ps) h);
 }
 
 -- ---- the parts of a merge

@@ -13,7 +13,7 @@ use Rattle.tools_cli.specs.Kept.{HoldModules, TaskKeeps, Keeps, EndsKept}
 use Rattle.wasm_tree.specs.declared.module.Module.{Module}
 use Rattle.wasm_tree.specs.Bounds.{IsBounded}
 use Rattle.wasm_valid.specs.Validity.{IsValid, IsSingle}
-use Rattle.wasm_format.specs.Words.{Every}
+use Rattle.base_lists.specs.Every.{Every}
 use Rattle.wasm_format.specs.Files.{Spells, Within}
 use Rattle.wasm_meaning.specs.Linking.{Part, module_at}
 use Rattle.merge_validity.specs.Joinable.{CanBeJoined}

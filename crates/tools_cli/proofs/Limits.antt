@@ -2,35 +2,38 @@
 use Rattle.std.proofs.Common.{ℕ, ◌≤◌, List, [], ◌∷◌, length, Bool, true, false, sym, subst, arith}
 use Rattle.std.specs.Prelude.{◌==◌}
 use Rattle.wasm_bytes.specs.Frames.{Section}
+use Rattle.wasm_tree.specs.declared.which.Which.TheVariants.{Types, Imports, Functions, Tables, Memories, Globals, ElementSegments, DataSegments}
+use Rattle.wasm_tree.specs.Limits.{limit}
 use Rattle.wasm_tree.specs.declared.module.Func.{Func}
 use Rattle.wasm_tree.specs.declared.module.Module.{Module}
 use Rattle.wasm_format.specs.declared.parts.Parts.{Parts}
-use Rattle.wasm_format.specs.Words.{Never, Made, When, Any, Every, Limited, WhenSmall}
+use Rattle.base_lists.specs.Every.{Every}
+use Rattle.wasm_format.specs.Words.{Never, Made, When, Any, Limited, WhenSmall}
 use Rattle.wasm_format.specs.Files.{nothing, with_types, with_imports, with_func_types, with_tables, with_mems, with_globals, with_exports, with_start, with_elems, with_codes, with_datas, with_count, SpellsCustom, section_form, small_form, SmallSection, Contents, typed, tree_of}
 use Rattle.tools_cli.specs.Words.{Text}
 use Rattle.tools_cli.specs.Job.{IsRead}
 
 -- the lists of the sections
 record FewParts (p : Parts) : Type 0 where
-  pub types : length p.types ≤ 1000000
-  pub imports : length p.imports ≤ 1000000
-  pub func_types : length p.func_types ≤ 1000000
-  pub tables : length p.tables ≤ 1000000
-  pub mems : length p.mems ≤ 1000000
-  pub globals : length p.globals ≤ 1000000
-  pub elems : length p.elems ≤ 1000000
-  pub datas : length p.datas ≤ 1000000
+  pub types : length p.types ≤ limit Types
+  pub imports : length p.imports ≤ limit Imports
+  pub func_types : length p.func_types ≤ limit Functions
+  pub tables : length p.tables ≤ limit Tables
+  pub mems : length p.mems ≤ limit Memories
+  pub globals : length p.globals ≤ limit Globals
+  pub elems : length p.elems ≤ limit ElementSegments
+  pub datas : length p.datas ≤ limit DataSegments
 
--- no list of the tree has more than a million entries
+-- no list of the tree has more entries than its limit
 pub record IsWithinLimits (m : Module) : Type 0 where
-  pub types : length m.types ≤ 1000000
-  pub imports : length m.imports ≤ 1000000
-  pub funcs : length m.funcs ≤ 1000000
-  pub tables : length m.tables ≤ 1000000
-  pub mems : length m.mems ≤ 1000000
-  pub globals : length m.globals ≤ 1000000
-  pub elems : length m.elems ≤ 1000000
-  pub datas : length m.datas ≤ 1000000
+  pub types : length m.types ≤ limit Types
+  pub imports : length m.imports ≤ limit Imports
+  pub funcs : length m.funcs ≤ limit Functions
+  pub tables : length m.tables ≤ limit Tables
+  pub mems : length m.mems ≤ limit Memories
+  pub globals : length m.globals ≤ limit Globals
+  pub elems : length m.elems ≤ limit ElementSegments
+  pub datas : length m.datas ≤ limit DataSegments
 
 -- a section keeps them so
 record Keeps (P : List ℕ → Parts → Type 0) (S : List ℕ → Type 0) : Type 0 where
@@ -59,14 +62,14 @@ section_keeps p id s =
     (keep_when (id == 1) (keep_put (with_types p) (λ x k. record { types = k.0; imports = s.imports; func_types = s.func_types; tables = s.tables; mems = s.mems; globals = s.globals; elems = s.elems; datas = s.datas }))
     (keep_when (id == 2) (keep_put (with_imports p) (λ x k. record { types = s.types; imports = k.0; func_types = s.func_types; tables = s.tables; mems = s.mems; globals = s.globals; elems = s.elems; datas = s.datas }))
     (keep_when (id == 3) (keep_put (with_func_types p) (λ x k. record { types = s.types; imports = s.imports; func_types = k.0; tables = s.tables; mems = s.mems; globals = s.globals; elems = s.elems; datas = s.datas }))
-    (keep_when (id == 4) (keep_put (with_tables p) (λ x k. record { types = s.types; imports = s.imports; func_types = s.func_types; tables = omega (arith, k.0); mems = s.mems; globals = s.globals; elems = s.elems; datas = s.datas }))
-    (keep_when (id == 5) (keep_put (with_mems p) (λ x k. record { types = s.types; imports = s.imports; func_types = s.func_types; tables = s.tables; mems = omega (arith, k.0); globals = s.globals; elems = s.elems; datas = s.datas }))
+    (keep_when (id == 4) (keep_put (with_tables p) (λ x k. record { types = s.types; imports = s.imports; func_types = s.func_types; tables = k.0; mems = s.mems; globals = s.globals; elems = s.elems; datas = s.datas }))
+    (keep_when (id == 5) (keep_put (with_mems p) (λ x k. record { types = s.types; imports = s.imports; func_types = s.func_types; tables = s.tables; mems = k.0; globals = s.globals; elems = s.elems; datas = s.datas }))
     (keep_when (id == 6) (keep_put (with_globals p) (λ x k. record { types = s.types; imports = s.imports; func_types = s.func_types; tables = s.tables; mems = s.mems; globals = k.0; elems = s.elems; datas = s.datas }))
     (keep_when (id == 7) (keep_put (with_exports p) (λ x k. record { types = s.types; imports = s.imports; func_types = s.func_types; tables = s.tables; mems = s.mems; globals = s.globals; elems = s.elems; datas = s.datas }))
     (keep_when (id == 8) (keep_free (with_start p) (λ x. record { types = s.types; imports = s.imports; func_types = s.func_types; tables = s.tables; mems = s.mems; globals = s.globals; elems = s.elems; datas = s.datas }))
-    (keep_when (id == 9) (keep_put (with_elems p) (λ x k. record { types = s.types; imports = s.imports; func_types = s.func_types; tables = s.tables; mems = s.mems; globals = s.globals; elems = omega (arith, k.0); datas = s.datas }))
+    (keep_when (id == 9) (keep_put (with_elems p) (λ x k. record { types = s.types; imports = s.imports; func_types = s.func_types; tables = s.tables; mems = s.mems; globals = s.globals; elems = k.0; datas = s.datas }))
     (keep_when (id == 10) (keep_put (with_codes p) (λ x k. record { types = s.types; imports = s.imports; func_types = s.func_types; tables = s.tables; mems = s.mems; globals = s.globals; elems = s.elems; datas = s.datas }))
-    (keep_when (id == 11) (keep_put (with_datas p) (λ x k. record { types = s.types; imports = s.imports; func_types = s.func_types; tables = s.tables; mems = s.mems; globals = s.globals; elems = s.elems; datas = omega (arith, k.0) }))
+    (keep_when (id == 11) (keep_put (with_datas p) (λ x k. record { types = s.types; imports = s.imports; func_types = s.func_types; tables = s.tables; mems = s.mems; globals = s.globals; elems = s.elems; datas = k.0 }))
     (keep_when (id == 12) (keep_free (with_count p) (λ x. record { types = s.types; imports = s.imports; func_types = s.func_types; tables = s.tables; mems = s.mems; globals = s.globals; elems = s.elems; datas = s.datas }))
     keep_never))))))))))))
 

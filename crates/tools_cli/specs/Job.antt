@@ -13,7 +13,8 @@ use Rattle.merge_terms.specs.Joined.{Joins}
 use Rattle.tools_cli.specs.Effects.{Entry}
 use Rattle.tools_cli.specs.Texts.{fault_text, invalid_text, link_text, join_text, over_limit, parts_over_limit, output_over_limit}
 use Rattle.wasm_tree.specs.declared.module.Module.{Module}
-use Rattle.wasm_tree.specs.declared.which.Which.TheVariants.{InputBytes, OutputBytes}
+use Rattle.wasm_tree.specs.declared.which.Which.TheVariants.{InputBytes, Parts, OutputBytes}
+use Rattle.wasm_tree.specs.Limits.{limit}
 use Rattle.wasm_format.specs.declared.fault.ReadFault.{ReadFault}
 use Rattle.wasm_format.specs.Files.{Spells, Within}
 use Rattle.wasm_format.specs.Contents.{read_fault}
@@ -24,15 +25,15 @@ use Rattle.wasm_plain.specs.Plain.{plain}
 
 -- The most parts of a merge.
 abbrev pub most_parts : ℕ
-most_parts = 1000
+most_parts = limit Parts
 
 -- The most bytes that all input files of a command have together.
 abbrev pub most_input : ℕ
-most_input = 16777216
+most_input = limit InputBytes
 
 -- The most bytes of one output.
 abbrev pub most_output : ℕ
-most_output = 268435456
+most_output = limit OutputBytes
 
 -- What a command line comes to: it asks for no task; a file is missing when its turn comes; it is refused with a text; or it is done, with
 -- these writes in order and then these lines on standard output.

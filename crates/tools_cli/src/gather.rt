@@ -11,9 +11,6 @@ use std::alloc::Global;
 use tool_io::{Files, IoFault};
 use wasm_tree::Which;
 
-/// The most bytes that all input files of a command have together.
-pub(crate) const MOST_INPUT: usize = 16_777_216;
-
 /// A file that was read.
 #[derive(Drop)]
 pub(crate) struct Input<'a> {

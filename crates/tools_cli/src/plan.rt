@@ -21,12 +21,9 @@ use std::alloc::{AllocError, Global};
 use std::mem::forget;
 use wasm_bytes::{Items, Name, NoMemory};
 use wasm_read::read;
-use wasm_tree::{Module, Which};
+use wasm_tree::{MOST_OUTPUT_BYTES, Module, Which};
 use wasm_valid::{Rejected, Valid, validate};
 use wasm_write::{fits, write};
-
-/// The most bytes of one output.
-const MOST_OUTPUT: u32 = 268_435_456;
 
 /// What is to be written, and the lines for standard output.
 #[derive(Drop)]
@@ -93,7 +90,7 @@ fn encode<'a>(alloc: Global, tree: &Module, output: &str) -> Result<Plan, Stop<'
     ensures outputs { IfOk result (λ plan. written_names (output_entries plan.outputs.items) ≡ output.now ∷ []) }
     ensures stops { IfErr result (StopsEncoding output.now tree.now) }
 {
-    if !fits(tree, MOST_OUTPUT) {
+    if !fits(tree, MOST_OUTPUT_BYTES) {
         return Err(Stop::Refused(Refusal::TooMany {
             which: Which::OutputBytes,
         }));

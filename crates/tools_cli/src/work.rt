@@ -8,7 +8,7 @@ ghost use Rattle.tools_cli.specs.Causes.{AreOutputs, StopsPreparing, StopsFinish
 ghost use Rattle.tools_cli.specs.Run.{ChangesByTheJob, PrintsForTheJob, EndsDone, IsUsage, StopsWork};
 ghost use Rattle.tools_cli.specs.Words.{task_of};
 
-use crate::gather::{MOST_INPUT, gather};
+use crate::gather::gather;
 use crate::merge::Merge;
 use crate::perform::perform;
 use crate::plan::{Plan, decide};
@@ -17,9 +17,7 @@ use crate::stop::Stop;
 use crate::words::{parse, usage};
 use std::alloc::Global;
 use tool_io::{Files, IoFault, Sink};
-
-/// The most parts of a merge.
-const MOST_PARTS: usize = 1000;
+use wasm_tree::{MOST_INPUT_BYTES, MOST_PARTS};
 
 // Reads the inputs, and decides over them.
 fn prepare<'a, F: Files>(alloc: Global, merge: &Merge<'a>, files: &mut F) -> Result<Plan, Stop<'a>>
@@ -30,13 +28,13 @@ fn prepare<'a, F: Files>(alloc: Global, merge: &Merge<'a>, files: &mut F) -> Res
     ensures outputs { IfOk result (λ plan. AreOutputs (task merge.now) (output_entries plan.outputs.items)) }
     ensures stops { IfErr result (StopsPreparing (F.contents files.old) (F.read_faults files.old) (F.read_faults files.new) (task merge.now)) }
 {
-    if merge.sources.len() > MOST_PARTS {
+    if merge.sources.len() > MOST_PARTS as usize {
         return Err(Stop::Refused(Refusal::TooManyParts));
     }
     let Ok(names) = merge.inputs(alloc) else {
         return Err(Stop::NoMemory);
     };
-    match gather(alloc, files, names.as_slice(), MOST_INPUT) {
+    match gather(alloc, files, names.as_slice(), MOST_INPUT_BYTES as usize) {
         Ok(inputs) => decide(alloc, merge, inputs.as_slice()),
         Err(stop) => Err(stop),
     }

@@ -8,4 +8,3 @@ pub mod Sized
 pub mod Shortest
 pub mod SignedShortest
 pub mod Sizes
-pub mod Walk

@@ -9,6 +9,7 @@ use Rattle.wasm_tree.specs.declared.types.BlockType.{BlockType}
 use Rattle.wasm_tree.specs.declared.instr.Instr.{Instr}
 use Rattle.wasm_tree.specs.declared.instr.Instr.TheVariants.{Block, Loop, If}
 use Rattle.wasm_tree.specs.declared.which.Which.TheVariants.{Nesting}
+use Rattle.wasm_tree.specs.Limits.{limit}
 use Rattle.wasm_format.specs.declared.fault.Fault.{Fault}
 use Rattle.wasm_format.specs.declared.fault.Fault.TheVariants.{Malformed, Limit}
 use Rattle.wasm_format.specs.declared.token.Opener.{Opener}
@@ -266,15 +267,15 @@ module _ (many : Bool) where
   abbrev pub BodyIn : ℕ → List ℕ → List Instr → Type 0
   BodyIn d bytes is = (ts : List Token) × NestsIn d ts is × Each (SpellsToken many) bytes (ts ++ End ∷ [])
 
-  pub body_sound : (bytes : List ℕ) (is : List Instr) → IsBytes bytes → body_at many bytes ≡ Ok is → BodyIn 1000 bytes is
+  pub body_sound : (bytes : List ℕ) (is : List Instr) → IsBytes bytes → body_at many bytes ≡ Ok is → BodyIn (limit Nesting) bytes is
   unfolding body_at
   body_sound bytes is small e =
-      let r = bind_ok (sequence_at many (length bytes) 1000 bytes) whole is e in
+      let r = bind_ok (sequence_at many (length bytes) (limit Nesting) bytes) whole is e in
       let w = ended_all r.0.0 r.0.1 is r.2 in
-      let f = sequence_sound (length bytes) 1000 bytes r.0.0 r.0.1 small r.1 in
-      let t = ended 1000 bytes r.0.0 r.0.1 false f w.0 in
+      let f = sequence_sound (length bytes) (limit Nesting) bytes r.0.0 r.0.1 small r.1 in
+      let t = ended (limit Nesting) bytes r.0.0 r.0.1 false f w.0 in
       let all : bytes ≡ t.0 = t.2 ∙ ap (λ xs. t.0 ++ xs) w.1 ∙ append-nil t.0 in
-      (f.0, subst (NestsIn 1000 f.0) w.2 f.1, subst (λ x. Each (SpellsToken many) x (f.0 ++ End ∷ [])) (sym all) t.1)
+      (f.0, subst (NestsIn (limit Nesting) f.0) w.2 f.1, subst (λ x. Each (SpellsToken many) x (f.0 ++ End ∷ [])) (sym all) t.1)
 
   -- a spelled body is read, whatever follows it
   pub body_reads : (d : ℕ) (bytes rest : List ℕ) (is : List Instr) → BodyIn d bytes is → sequence_at many (length (bytes ++ rest)) d (bytes ++ rest) ≡ Ok (record { items = is; by_else = false }, rest)
@@ -286,8 +287,8 @@ module _ (many : Bool) where
       let read = reads_to_end d s.0 is w.0 rest (sequence_complete h.1 s.0 (w.0 ++ rest) s.2) w.2 (length (bytes ++ rest)) (omega arith) in
       ap (sequence_at many (length (bytes ++ rest)) d) e ∙ read
 
-  pub body_complete : (bytes : List ℕ) (is : List Instr) → BodyIn 1000 bytes is → body_at many bytes ≡ Ok is
+  pub body_complete : (bytes : List ℕ) (is : List Instr) → BodyIn (limit Nesting) bytes is → body_at many bytes ≡ Ok is
   unfolding body_at
   body_complete bytes is h =
-      let read = subst (λ z. sequence_at many (length z) 1000 z ≡ Ok (record { items = is; by_else = false }, [])) (append-nil bytes) (body_reads 1000 bytes [] is h) in
+      let read = subst (λ z. sequence_at many (length z) (limit Nesting) z ≡ Ok (record { items = is; by_else = false }, [])) (append-nil bytes) (body_reads (limit Nesting) bytes [] is h) in
       rw read

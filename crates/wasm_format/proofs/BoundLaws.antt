@@ -10,27 +10,31 @@ use Rattle.wasm_tree.specs.declared.module.Func.{Func}
 use Rattle.wasm_tree.specs.declared.module.Module.{Module}
 use Rattle.wasm_tree.specs.Spaces.{func_of, table_of, memory_of, global_of, imported_funcs, imported_tables, imported_memories, imported_globals}
 use Rattle.wasm_tree.specs.Bounds.{param_count, declared_count, IsBounded}
+use Rattle.wasm_tree.specs.OperandLaws.{BlockPasses, LoopPasses, IfPasses}
 use Rattle.wasm_tree.specs.MemoryZero.{memory_zero_all, memory_zero_funcs}
-use Rattle.wasm_tree.proofs.Places.{filter_map_most}
+use Rattle.base_lists.proofs.Found.{filter_map_most}
+use Rattle.wasm_tree.specs.Limits.{limit}
+use Rattle.wasm_tree.specs.declared.which.Which.TheVariants.{Types, Imports, Functions, Tables, Memories, Globals, Exports, ElementSegments, DataSegments, Locals, Parameters}
 use Rattle.wasm_format.specs.declared.parts.Parts.{Parts}
-use Rattle.wasm_format.specs.Words.{Never, Made, When, Any, Every, Few, Limited, WhenSmall}
+use Rattle.base_lists.specs.Every.{Every}
+use Rattle.wasm_format.specs.Words.{Never, Made, When, Any, Few, Limited, WhenSmall}
 use Rattle.wasm_format.specs.Values.{SmallFuncType}
-use Rattle.wasm_format.specs.Bodies.{SpellsEntry, SmallCode, declared}
+use Rattle.wasm_format.specs.Bodies.{SpellsEntry, SmallCode}
 use Rattle.wasm_format.specs.Files.{nothing, with_types, with_imports, with_func_types, with_tables, with_mems, with_globals, with_exports, with_start, with_elems, with_codes, with_datas, with_count, SpellsCustom, section_form, small_form, SmallSection, Contents, typed, tree_of, Spells, Within}
 use Rattle.wasm_format.proofs.NestLaws.{body_zero}
 
 -- each list of the parts is within its limit
 pub record Small (p : Parts) : Type 0 where
-  pub types : Few 1000000 SmallFuncType p.types
-  pub imports : length p.imports ≤ 1000000
-  pub func_types : length p.func_types ≤ 1000000
-  pub tables : length p.tables ≤ 10000
-  pub mems : length p.mems ≤ 10000
-  pub globals : length p.globals ≤ 1000000
-  pub exports : length p.exports ≤ 1000000
-  pub elems : length p.elems ≤ 300000
-  pub codes : Few 1000000 SmallCode p.codes
-  pub datas : length p.datas ≤ 300000
+  pub types : Few (limit Types) SmallFuncType p.types
+  pub imports : length p.imports ≤ limit Imports
+  pub func_types : length p.func_types ≤ limit Functions
+  pub tables : length p.tables ≤ limit Tables
+  pub mems : length p.mems ≤ limit Memories
+  pub globals : length p.globals ≤ limit Globals
+  pub exports : length p.exports ≤ limit Exports
+  pub elems : length p.elems ≤ limit ElementSegments
+  pub codes : Few (limit Functions) SmallCode p.codes
+  pub datas : length p.datas ≤ limit DataSegments
 
 -- the sections keep what is known of the parts
 record Keeps (K : Parts → Type 0) (P : List ℕ → Parts → Type 0) (S : List ℕ → Type 0) : Type 0 where
@@ -90,7 +94,7 @@ length_typed (t ∷ ts) [] = omega arith
 length_typed (t ∷ ts) (f ∷ fs) = let k = length_typed ts fs in omega (arith, k)
 
 few_declared : List Func → Type 0
-few_declared fs = Every (λ (f : Func). declared f.locals ≤ 50000) fs
+few_declared fs = Every (λ (f : Func). declared_count f.locals ≤ limit Locals) fs
 
 typed_few : (ts : List ℕ) (fs : List Func) → Every SmallCode fs → few_declared (typed ts fs)
 unfolding few_declared
@@ -103,15 +107,7 @@ every_at P [] i x h e = cc
 every_at P (y ∷ ys) zero x h e = let same : y ≡ x = cc in subst P same h.0
 every_at P (y ∷ ys) (suc i) x h e = every_at P ys i x h.1 e
 
-sum_from : (a : ℕ) (xs : List ℕ) → fold ◌+◌ a xs ≡ a + sum xs
-sum_from a [] = omega arith
-sum_from a (x ∷ xs) = omega (arith, sum_from (a + x) xs, sum_from (0 + x) xs)
-
-declared_same : (gs : List LocalGroup) → declared_count gs ≡ declared gs
-declared_same [] = refl
-declared_same (g ∷ gs) = sum_from (0 + g.count) (map (λ (h : LocalGroup). h.count) gs) ∙ ap (λ n. (0 + g.count) + n) (declared_same gs) ∙ (omega arith)
-
-few_params : (types : List FuncType) (ty : ℕ) (o : Option FuncType) → Every SmallFuncType types → slice_get types ty ≡ o → param_count o ≤ 1000
+few_params : (types : List FuncType) (ty : ℕ) (o : Option FuncType) → Every SmallFuncType types → slice_get types ty ≡ o → param_count o ≤ limit Parameters
 few_params types ty None h e = omega arith
 few_params types ty (Some t) h e = (every_at SmallFuncType types ty t h e).0.0
 
@@ -129,8 +125,8 @@ module _ (p : Parts) (s : Small p) where
     elems = omega (arith, s.elems);
     datas = omega (arith, s.datas);
     locals = λ i f e.
-        let few = every_at (λ (g : Func). declared g.locals ≤ 50000) (typed p.func_types p.codes) i f (typed_few p.func_types p.codes s.codes.1) e in
-        omega (arith, few, declared_same f.locals, few_params p.types f.ty (slice_get p.types f.ty) s.types.1 refl);
+        let few = every_at (λ (g : Func). declared_count g.locals ≤ limit Locals) (typed p.func_types p.codes) i f (typed_few p.func_types p.codes s.codes.1) e in
+        omega (arith, few, few_params p.types f.ty (slice_get p.types f.ty) s.types.1 refl);
   }
 
 pub tree_bounded : (many : Bool) (bytes : List ℕ) (m : Module) → Spells bytes m many → Within bytes many → IsBounded m
@@ -144,9 +140,9 @@ Zeros p = memory_zero_funcs p.codes ≡ true
 both : (a b : Bool) → a ≡ true → b ≡ true → a && b ≡ true
 both a b h k = rw (h, k)
 
-entries_zero : (fs : List Func) (bytes : List ℕ) → Each (SpellsEntry false) bytes fs → memory_zero_funcs fs ≡ true
-entries_zero [] bytes h = refl
-entries_zero (f ∷ fs) bytes h = both (memory_zero_all f.body) (memory_zero_funcs fs) (body_zero h.2.2.0.1 f.body h.2.2.0.3) (entries_zero fs h.1 h.3)
+entries_zero : (blocks : BlockPasses) (loops : LoopPasses) (ifs : IfPasses) (fs : List Func) (bytes : List ℕ) → Each (SpellsEntry false) bytes fs → memory_zero_funcs fs ≡ true
+entries_zero blocks loops ifs [] bytes h = refl
+entries_zero blocks loops ifs (f ∷ fs) bytes h = both (memory_zero_all f.body) (memory_zero_funcs fs) (body_zero blocks loops ifs h.2.2.0.1 f.body h.2.2.0.3) (entries_zero blocks loops ifs fs h.1 h.3)
 
 -- without limits
 record Keeps' (K : Parts → Type 0) (P : List ℕ → Parts → Type 0) : Type 0 where
@@ -165,9 +161,9 @@ same_keeps {K} p k = record { keep = λ c q h. subst K (sym h.1) k }
 never_keeps : {K : Parts → Type 0} → Keeps' K Never
 never_keeps = record { keep = λ c q h. absurd h }
 
-zeros_kept : (p : Parts) (id : ℕ) → Zeros p → Keeps' Zeros (section_form false p id)
+zeros_kept : (blocks : BlockPasses) (loops : LoopPasses) (ifs : IfPasses) (p : Parts) (id : ℕ) → Zeros p → Keeps' Zeros (section_form false p id)
 unfolding section_form Zeros
-zeros_kept p id z =
+zeros_kept blocks loops ifs p id z =
     when_keeps (id == 0) (same_keeps p z)
     (when_keeps (id == 1) (put_keeps (with_types p) (λ c x h. z))
     (when_keeps (id == 2) (put_keeps (with_imports p) (λ c x h. z))
@@ -178,14 +174,14 @@ zeros_kept p id z =
     (when_keeps (id == 7) (put_keeps (with_exports p) (λ c x h. z))
     (when_keeps (id == 8) (put_keeps (with_start p) (λ c x h. z))
     (when_keeps (id == 9) (put_keeps (with_elems p) (λ c x h. z))
-    (when_keeps (id == 10) (put_keeps (with_codes p) (λ c x h. entries_zero x h.1 h.3))
+    (when_keeps (id == 10) (put_keeps (with_codes p) (λ c x h. entries_zero blocks loops ifs x h.1 h.3))
     (when_keeps (id == 11) (put_keeps (with_datas p) (λ c x h. z))
     (when_keeps (id == 12) (put_keeps (with_count p) (λ c x h. z))
     never_keeps))))))))))))
 
-zeros_contents : (p : Parts) (ss : List Section) (q : Parts) → Zeros p → Contents false p ss q → Zeros q
-zeros_contents p [] q z h = subst Zeros h z
-zeros_contents p (t ∷ ss) q z h = zeros_contents h.0 ss q ((zeros_kept p t.0 z).keep t.1 h.0 h.1) h.2
+zeros_contents : (blocks : BlockPasses) (loops : LoopPasses) (ifs : IfPasses) (p : Parts) (ss : List Section) (q : Parts) → Zeros p → Contents false p ss q → Zeros q
+zeros_contents blocks loops ifs p [] q z h = subst Zeros h z
+zeros_contents blocks loops ifs p (t ∷ ss) q z h = zeros_contents blocks loops ifs h.0 ss q ((zeros_kept blocks loops ifs p t.0 z).keep t.1 h.0 h.1) h.2
 
 split_true : (a b : Bool) → a && b ≡ true → (a ≡ true) × (b ≡ true)
 split_true true b h = (refl, h)
@@ -196,6 +192,6 @@ typed_zero [] fs h = refl
 typed_zero (t ∷ ts) [] h = refl
 typed_zero (t ∷ ts) (f ∷ fs) h = let k = split_true (memory_zero_all f.body) (memory_zero_funcs fs) h in both (memory_zero_all f.body) (memory_zero_funcs (typed ts fs)) k.0 (typed_zero ts fs k.1)
 
-pub tree_zero : (bytes : List ℕ) (m : Module) → Spells bytes m false → memory_zero_funcs m.funcs ≡ true
+pub tree_zero : (blocks : BlockPasses) (loops : LoopPasses) (ifs : IfPasses) (bytes : List ℕ) (m : Module) → Spells bytes m false → memory_zero_funcs m.funcs ≡ true
 unfolding Zeros
-tree_zero bytes m h = ap (λ (t : Module). memory_zero_funcs t.funcs) h.5 ∙ typed_zero h.1.func_types h.1.codes (zeros_contents nothing h.0 h.1 refl h.3)
+tree_zero blocks loops ifs bytes m h = ap (λ (t : Module). memory_zero_funcs t.funcs) h.5 ∙ typed_zero h.1.func_types h.1.codes (zeros_contents blocks loops ifs nothing h.0 h.1 refl h.3)

@@ -10,12 +10,13 @@ use Rattle.wasm_tree.specs.declared.which.Which.{Which}
 use Rattle.wasm_tree.specs.declared.which.Which.TheVariants.{Types, Imports, Functions, Tables, Memories, Globals, Exports, ElementSegments, DataSegments}
 use Rattle.wasm_tree.specs.declared.module.Func.{Func}
 use Rattle.wasm_tree.specs.Spaces.{imported_funcs}
+use Rattle.wasm_tree.specs.Limits.{limit as most}
 use Rattle.wasm_format.specs.declared.fault.Fault.{Fault}
 use Rattle.wasm_format.specs.declared.fault.Fault.TheVariants as fault
 use Rattle.wasm_format.specs.declared.fault.ReadFault.{ReadFault}
 use Rattle.wasm_format.specs.declared.fault.ReadFault.TheVariants.{NoMemory, Malformed, MalformedBody, Unsupported, Limit}
 use Rattle.wasm_format.specs.declared.parts.Parts.{Parts}
-use Rattle.wasm_format.specs.Words.{Every}
+use Rattle.base_lists.specs.Every.{Every}
 use Rattle.wasm_format.specs.Bodies.{SpellsCode, SpellsEntry, SmallCode}
 use Rattle.wasm_format.specs.Files.{nothing, with_types, with_imports, with_func_types, with_tables, with_mems, with_globals, with_exports, with_start, with_elems, with_datas, with_count, SmallSection, Contents}
 use Rattle.wasm_format.specs.Reading.{u32_at, sized_at, each_from, vector_at, whole_at, func_type_at, import_at, table_at, limits_at, global_def_at, export_at, elem_at, data_at}
@@ -180,7 +181,7 @@ module _ (many : Bool) (n : ℕ) where
       (λ left. let same : Malformed n ≡ e = (let q = left.1 in cc) in subst (Naming n _) same malformed)
       (chosen (length ok.0.1 == 0) _ _ _ ok.2))
       (bind_err (each_from (entry_at many n) next_func k.0 func k.1) _ e few.1))
-      (chosen (nat_lt 1000000 k.0) _ _ _ good.2))
+      (chosen (nat_lt (most Functions) k.0) _ _ _ good.2))
       (bind_err (in_place n None (u32_at c)) _ e h)
 
 -- ---- sections
@@ -200,20 +201,20 @@ module _ (many : Bool) (n : ℕ) (p : Parts) (s : Section) (small : IsBytes s.1)
   unfolding section_at InCode
   section_naming e h =
       either (s.0 == 0) (λ t r. put (λ u. p) (custom_at s.1) e r)
-      (either (s.0 == 1) (λ t r. put (with_types p) (whole_at (vector_at Types 1000000 func_type_at) s.1) e r)
-      (either (s.0 == 2) (λ t r. put (with_imports p) (whole_at (vector_at Imports 1000000 import_at) s.1) e r)
-      (either (s.0 == 3) (λ t r. put (with_func_types p) (whole_at (vector_at Functions 1000000 u32_at) s.1) e r)
-      (either (s.0 == 4) (λ t r. put (with_tables p) (whole_at (vector_at Tables 10000 table_at) s.1) e r)
-      (either (s.0 == 5) (λ t r. put (with_mems p) (whole_at (vector_at Memories 10000 limits_at) s.1) e r)
-      (either (s.0 == 6) (λ t r. put (with_globals p) (whole_at (vector_at Globals 1000000 global_def_at) s.1) e r)
-      (either (s.0 == 7) (λ t r. put (with_exports p) (whole_at (vector_at Exports 1000000 export_at) s.1) e r)
+      (either (s.0 == 1) (λ t r. put (with_types p) (whole_at (vector_at Types func_type_at) s.1) e r)
+      (either (s.0 == 2) (λ t r. put (with_imports p) (whole_at (vector_at Imports import_at) s.1) e r)
+      (either (s.0 == 3) (λ t r. put (with_func_types p) (whole_at (vector_at Functions u32_at) s.1) e r)
+      (either (s.0 == 4) (λ t r. put (with_tables p) (whole_at (vector_at Tables table_at) s.1) e r)
+      (either (s.0 == 5) (λ t r. put (with_mems p) (whole_at (vector_at Memories limits_at) s.1) e r)
+      (either (s.0 == 6) (λ t r. put (with_globals p) (whole_at (vector_at Globals global_def_at) s.1) e r)
+      (either (s.0 == 7) (λ t r. put (with_exports p) (whole_at (vector_at Exports export_at) s.1) e r)
       (either (s.0 == 8) (λ t r. put (with_start p) (whole_at u32_at s.1) e r)
-      (either (s.0 == 9) (λ t r. put (with_elems p) (whole_at (vector_at ElementSegments 300000 elem_at) s.1) e r)
+      (either (s.0 == 9) (λ t r. put (with_elems p) (whole_at (vector_at ElementSegments elem_at) s.1) e r)
       (either (s.0 == 10) (λ t r. ⊎_elim
       (λ bad. naming_map (λ f w. (eqb-true s.0 10 t, w)) (codes_naming many n (length (imported_funcs p.imports)) s.1 e small bad))
       (λ ok. absurd (ok_err _ e ok.2))
       (bind_err (codes_at many n (length (imported_funcs p.imports)) s.1) _ e r))
-      (either (s.0 == 11) (λ t r. put (with_datas p) (whole_at (vector_at DataSegments 300000 data_at) s.1) e r)
+      (either (s.0 == 11) (λ t r. put (with_datas p) (whole_at (vector_at DataSegments data_at) s.1) e r)
       (either (s.0 == 12) (λ t r. put (with_count p) (whole_at u32_at s.1) e r)
       (λ r. let same : Malformed n ≡ e = cc in subst (Naming n InCode) same malformed))))))))))))) h
 

@@ -11,15 +11,17 @@ use Rattle.wasm_tree.specs.declared.which.Which.{Which}
 use Rattle.wasm_tree.specs.declared.which.Which.TheVariants.{Functions}
 use Rattle.wasm_tree.specs.declared.module.LocalGroup.{LocalGroup}
 use Rattle.wasm_tree.specs.declared.module.Func.{Func}
+use Rattle.wasm_tree.specs.Limits.{limit}
 use Rattle.wasm_format.specs.declared.fault.Fault.{Fault}
 use Rattle.wasm_format.specs.declared.fault.ReadFault.{ReadFault}
 use Rattle.wasm_format.specs.declared.fault.ReadFault.TheVariants.{Malformed, Limit}
-use Rattle.wasm_format.specs.Words.{Any, Every, Few}
+use Rattle.base_lists.specs.Every.{Every}
+use Rattle.wasm_format.specs.Words.{Any, Few}
 use Rattle.wasm_format.specs.Bodies.{SpellsGroup, SpellsCode, SpellsEntry, SmallCode}
 use Rattle.wasm_format.specs.Reading.{u32_at, sized_at, locals_at, each_from}
 use Rattle.wasm_format.specs.BodyReading.{body_at, code_of, code_at}
 use Rattle.wasm_format.specs.Contents.{in_place, entry_at, next_func, codes_at}
-use Rattle.wasm_format.proofs.Exact.{Exact, took_then, split, u32_exact, sized_exact, both_exact, mapped_exact, one_value, Along, each_sound, each_complete}
+use Rattle.wasm_format.proofs.Exact.{Exact, took_then, split, u32_exact, sized_exact, both_exact, mapped_exact, one_value, Along, each_sound, each_complete, within_most}
 use Rattle.wasm_format.proofs.ItemLaws.{val_exact, locals_exact}
 use Rattle.wasm_format.proofs.NestLaws.{body_found, body_read, body_clear}
 
@@ -124,30 +126,27 @@ module _ (many : Bool) where
   every_along state [] h = tt
   every_along state (f ∷ fs) h = (h.0, every_along (state + 1) fs h.1)
 
-  within_most : {B : Type 0} (which : Which) (most n : ℕ) (r : Result B ReadFault) (y : B) → cond (nat_lt most n) (Err (Limit which)) r ≡ Ok y → (n ≤ most) × (r ≡ Ok y)
-  within_most which most n r y e = ⊎_elim (λ lt. let bad = rw (lt-ltb most n lt) at e in cc) (λ le. (le, rw (le-ltb most n le) at e)) (cases_lt most n)
-
   ends : {A : Type 0} (n : ℕ) (r : List ℕ) (xs ys : A) → cond (length r == 0) (Ok xs) (Err (Malformed n)) ≡ Ok ys → (r ≡ []) × (xs ≡ ys)
   ends n [] xs ys e = let same : xs ≡ ys = cc in (refl, same)
   ends n (b ∷ bs) xs ys e = absurd (let bad = rw (eqb-suc-zero (length bs)) at e in cc)
 
-  pub codes_sound : (n func : ℕ) (c : List ℕ) (fs : List Func) → IsBytes c → codes_at many n func c ≡ Ok fs → Vector (SpellsEntry many) c fs × Few 1000000 SmallCode fs
+  pub codes_sound : (n func : ℕ) (c : List ℕ) (fs : List Func) → IsBytes c → codes_at many n func c ≡ Ok fs → Vector (SpellsEntry many) c fs × Few (limit Functions) SmallCode fs
   unfolding codes_at
   codes_sound n func c fs small e =
       let k = bind_ok (in_place n None (u32_at c)) _ _ e in
       let count = (u32_exact.sound c k.0.0 k.0.1 small (in_ok n None _ k.0 k.1)).0 in
-      let few = within_most Functions 1000000 k.0.0 _ _ k.2 in
+      let few = within_most (Limit Functions) (limit Functions) k.0.0 _ _ k.2 in
       let r = bind_ok (each_from (entry_at many n) next_func k.0.0 func k.0.1) _ _ few.1 in
       let later = each_sound (SpellsEntry many) (λ s. SmallCode) (entry_at many n) next_func (entry_exact n) k.0.0 func k.0.1 r.0.0 r.0.1 (small_rest _ c k.0.1 small count) r.1 in
       let done = ends n r.0.1 r.0.0 fs r.2 in
       let all = took_then (λ b. U32 b (length r.0.0)) (λ b. Each (SpellsEntry many) b r.0.0) c k.0.1 r.0.1 (subst (λ z. Took (λ b. U32 b z) c k.0.1) later.1 count) later.0 in
       let whole : c ≡ all.0 = all.2 ∙ ap (λ z. all.0 ++ z) done.0 ∙ append-nil all.0 in
-      subst (λ z. Vector (SpellsEntry many) c z × Few 1000000 SmallCode z) done.1
-      (subst (λ b. Vector (SpellsEntry many) b r.0.0) (sym whole) all.1, (subst (λ z. z ≤ 1000000) later.1 few.0, along_every func r.0.0 later.2))
+      subst (λ z. Vector (SpellsEntry many) c z × Few (limit Functions) SmallCode z) done.1
+      (subst (λ b. Vector (SpellsEntry many) b r.0.0) (sym whole) all.1, (subst (λ z. z ≤ limit Functions) later.1 few.0, along_every func r.0.0 later.2))
 
-  pub codes_complete : (n func : ℕ) (c : List ℕ) (fs : List Func) → Vector (SpellsEntry many) c fs → Few 1000000 SmallCode fs → codes_at many n func c ≡ Ok fs
+  pub codes_complete : (n func : ℕ) (c : List ℕ) (fs : List Func) → Vector (SpellsEntry many) c fs → Few (limit Functions) SmallCode fs → codes_at many n func c ≡ Ok fs
   unfolding codes_at
   codes_complete n func c fs h k =
       let items : each_from (entry_at many n) next_func (length fs) func h.1 ≡ Ok (fs, []) =
       subst (λ z. each_from (entry_at many n) next_func (length fs) func z ≡ Ok (fs, [])) (append-nil h.1) (each_complete (SpellsEntry many) (λ s. SmallCode) (entry_at many n) next_func (entry_exact n) fs func h.1 [] h.3 (every_along func fs k.1)) in
-      rw (h.4, u32_exact.complete h.0 h.1 (length fs) h.2 tt, le-ltb 1000000 (length fs) k.0, items)
+      rw (h.4, u32_exact.complete h.0 h.1 (length fs) h.2 tt, le-ltb (limit Functions) (length fs) k.0, items)

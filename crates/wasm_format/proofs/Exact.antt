@@ -13,9 +13,11 @@ use Rattle.wasm_bytes.proofs.NumberLaws.{reading_of_spelled, spelled_of_reading,
 use Rattle.wasm_bytes.proofs.Lists.{Took, small_rest}
 use Rattle.wasm_bytes.proofs.Sized.{bind_ok, ok_pair, u32_sound, u32_complete, sized_sound, sized_complete}
 use Rattle.wasm_tree.specs.declared.which.Which.{Which}
+use Rattle.wasm_tree.specs.Limits.{limit}
 use Rattle.wasm_format.specs.declared.fault.Fault.{Fault}
 use Rattle.wasm_format.specs.declared.fault.Fault.TheVariants.{Malformed, Limit}
-use Rattle.wasm_format.specs.Words.{S32, S64, Byte, Coded, Just, Never, Both, Made, Chosen, When, After, Closed, Any, Every, Few}
+use Rattle.base_lists.specs.Every.{Every}
+use Rattle.wasm_format.specs.Words.{S32, S64, Byte, Coded, Just, Never, Both, Made, Chosen, When, After, Closed, Any, Few}
 use Rattle.wasm_format.specs.Reading.{Reader, or_malformed, byte_at, u32_at, s32_at, s64_at, name_at, sized_at, just_at, fault_at, pair_at, mapped_at, chosen_at, when_at, coded_at, tag_at, tagged_at, closed_at, each_from, each_at, list_at, vector_at}
 
 -- ---- tools
@@ -273,8 +275,8 @@ pub every_any : {A : Type 0} (xs : List A) → Every {A = A} Any xs
 every_any [] = tt
 every_any (x ∷ xs) = (tt, every_any xs)
 
-within_most : {B : Type 0} (which : Which) (most n : ℕ) (r : Result B Fault) (y : B) → cond (nat_lt most n) (Err (Limit which)) r ≡ Ok y → (n ≤ most) × (r ≡ Ok y)
-within_most which most n r y e = ⊎_elim (λ lt. let bad = rw (lt-ltb most n lt) at e in cc) (λ le. (le, rw (le-ltb most n le) at e)) (cases_lt most n)
+pub within_most : {B E : Type 0} (fault : E) (most n : ℕ) (r : Result B E) (y : B) → cond (nat_lt most n) (Err fault) r ≡ Ok y → (n ≤ most) × (r ≡ Ok y)
+within_most fault most n r y e = ⊎_elim (λ lt. let bad = rw (lt-ltb most n lt) at e in cc) (λ le. (le, rw (le-ltb most n le) at e)) (cases_lt most n)
 
 module _ {A : Type 0} (P : List ℕ → A → Type 0) (S : A → Type 0) (item : Reader A) (exact : Exact P S item) where
   same_sound : (n : ℕ) (bytes : List ℕ) (xs : List A) (rest : List ℕ) → IsBytes bytes → each_at item n bytes ≡ Ok (xs, rest) → Took (λ b. Each P b xs) bytes rest × (n ≡ length xs) × Every S xs
@@ -297,19 +299,19 @@ module _ {A : Type 0} (P : List ℕ → A → Type 0) (S : A → Type 0) (item :
   }
 
   -- a vector with one
-  vector_exact_at : (which : Which) (most : ℕ) → Exact (Vector P) (Few most S) (vector_at which most item)
+  vector_exact_at : (which : Which) → Exact (Vector P) (Few (limit which) S) (vector_at which item)
   unfolding vector_at
-  vector_exact_at which most = record {
+  vector_exact_at which = record {
     sound = λ bytes xs rest small e.
         let n = bind_ok (u32_at bytes) _ _ e in
         let count = (u32_exact.sound bytes n.0.0 n.0.1 small n.1).0 in
-        let few = within_most which most n.0.0 _ _ n.2 in
+        let few = within_most (Limit which) (limit which) n.0.0 _ _ n.2 in
         let later = same_sound n.0.0 n.0.1 xs rest (small_rest _ bytes n.0.1 small count) few.1 in (
           took_then (λ b. U32 b (length xs)) (λ b. Each P b xs) bytes n.0.1 rest (subst (λ k. Took (λ b. U32 b k) bytes n.0.1) later.1 count) later.0,
-          (subst (λ k. k ≤ most) later.1 few.0, later.2),
+          (subst (λ k. k ≤ limit which) later.1 few.0, later.2),
         );
     complete = λ text rest xs h k.
-        rw (split _ _ text rest h, u32_exact.complete h.0 (h.1 ++ rest) (length xs) h.2 tt, le-ltb most (length xs) k.0, same_complete xs h.1 rest h.3 k.1);
+        rw (split _ _ text rest h, u32_exact.complete h.0 (h.1 ++ rest) (length xs) h.2 tt, le-ltb (limit which) (length xs) k.0, same_complete xs h.1 rest h.3 k.1);
   }
 
 pub list_exact : {A : Type 0} {P : List ℕ → A → Type 0} {item : Reader A} → Exact P Any item → Exact (Vector P) Any (list_at item)
@@ -318,8 +320,8 @@ list_exact {A} {P} {item} exact = other_small (λ xs h. tt) (λ xs h. every_any 
 pub every_exact : {A : Type 0} {P : List ℕ → A → Type 0} {S : A → Type 0} {item : Reader A} → Exact P S item → Exact (Vector P) (Every S) (list_at item)
 every_exact {A} {P} {S} {item} exact = list_exact_at P S item exact
 
-pub vector_exact : {A : Type 0} {P : List ℕ → A → Type 0} {S : A → Type 0} {item : Reader A} (which : Which) (most : ℕ) → Exact P S item → Exact (Vector P) (Few most S) (vector_at which most item)
-vector_exact {A} {P} {S} {item} which most exact = vector_exact_at P S item exact which most
+pub vector_exact : {A : Type 0} {P : List ℕ → A → Type 0} {S : A → Type 0} {item : Reader A} (which : Which) → Exact P S item → Exact (Vector P) (Few (limit which) S) (vector_at which item)
+vector_exact {A} {P} {S} {item} which exact = vector_exact_at P S item exact which
 
 -- ---- one value
 

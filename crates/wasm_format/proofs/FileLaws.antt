@@ -7,11 +7,11 @@ use Rattle.wasm_bytes.specs.Frames.{Section, after, Frames, Framed}
 use Rattle.wasm_bytes.proofs.Lists.{bytes_rest}
 use Rattle.wasm_bytes.proofs.Sized.{bind_ok}
 use Rattle.wasm_tree.specs.declared.module.Module.{Module}
+use Rattle.wasm_tree.specs.DataUse.{any_uses_data}
 use Rattle.wasm_format.specs.declared.fault.ReadFault.{ReadFault}
 use Rattle.wasm_format.specs.declared.fault.ReadFault.TheVariants.{NoMemory, NotModule, Malformed, MalformedBody, Unsupported, Limit}
 use Rattle.wasm_format.specs.declared.parts.Parts.{Parts}
-use Rattle.wasm_format.specs.Words.{Every}
-use Rattle.wasm_format.specs.Bodies.{any_uses_data}
+use Rattle.base_lists.specs.Every.{Every}
 use Rattle.wasm_format.specs.Files.{nothing, Contents, Counted, Rules, tree_of, Spells, SmallSection, Within}
 use Rattle.wasm_format.specs.Contents.{Fails, GivesAll, section_at, contents_at, counted, agrees, framed_at, parts_at, read_at, fault_of, read_fault}
 use Rattle.wasm_format.proofs.Framing.{framed_reads, framed_sound}

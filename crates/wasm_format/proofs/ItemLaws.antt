@@ -1,7 +1,8 @@
 -- The readers of types, constant expressions and what the sections hold find what is spelled and small, and nothing else.
-use Rattle.std.proofs.Common.{◌≡◌, ℕ, ◌+◌, ◌-◌, ◌≤◌, List, [], ◌∷◌, ◌++◌, length, Result, Ok, Err, cond, ⊎_elim, refl, subst, arith, lt-ltb, le-ltb}
+use Rattle.std.proofs.Common.{◌≡◌, ℕ, ◌+◌, ◌-◌, ◌≤◌, List, [], ◌∷◌, ◌++◌, length, Result, Ok, Err, cond, ⊎_elim, refl, subst, arith, lt-ltb, le-ltb, ◌∙◌, ap, sym}
 use Rattle.std.proofs.lemmas.Bool.{cases_lt}
 use Rattle.std.specs.Prelude.{◌==◌, nat_lt}
+use Rattle.std.proofs.lemmas.List.Sums.{sum-map, sum_by-cons}
 use Rattle.wasm_bytes.specs.Joins.{U32, Vector}
 use Rattle.wasm_bytes.proofs.Lists.{Took, small_rest}
 use Rattle.wasm_bytes.proofs.Sized.{bind_ok, ok_pair}
@@ -10,14 +11,16 @@ use Rattle.wasm_tree.specs.declared.module.ConstExpr.TheVariants as const
 use Rattle.wasm_tree.specs.declared.module.ImportDesc.TheVariants as import
 use Rattle.wasm_tree.specs.declared.module.ExportDesc.TheVariants as export
 use Rattle.wasm_tree.specs.declared.module.LocalGroup.{LocalGroup}
+use Rattle.wasm_tree.specs.Limits.{limit}
+use Rattle.wasm_tree.specs.Bounds.{declared_count}
 use Rattle.wasm_format.specs.declared.fault.Fault.{Fault}
 use Rattle.wasm_format.specs.declared.fault.Fault.TheVariants.{Malformed, Limit}
 use Rattle.wasm_format.specs.Words.{Any}
 use Rattle.wasm_format.specs.Values.{val_code, SpellsVal, ref_code, SpellsRef, SpellsFuncType, SmallFuncType, at_least, between, limits_form, SpellsLimits, SpellsTable, mut_code, SpellsGlobal, const_form, SpellsConst}
 use Rattle.wasm_format.specs.Sections.{import_form, SpellsImport, SpellsGlobalDef, export_form, SpellsExport, FuncItems, ConstItems, elem0, elem1, elem2, elem3, elem5, elem6, elem7, elem_form, SpellsElem, data0, data1, data2, data_form, SpellsData}
-use Rattle.wasm_format.specs.Bodies.{SpellsGroup, declared}
+use Rattle.wasm_format.specs.Bodies.{SpellsGroup}
 use Rattle.wasm_format.specs.Reading.{u32_at, val_at, ref_at, func_type_of, func_type_at, limits_at, table_of, table_at, mut_at, global_of, global_at, const_fault, const_at, import_desc_at, import_of, import_at, global_def_of, global_def_at, export_desc_at, export_of, export_at, func_items_at, const_items_at, elem_at, data_at, local_at, with_group, locals_at}
-use Rattle.wasm_format.proofs.Exact.{Exact, took_then, split, byte_exact, u32_exact, s32_exact, s64_exact, sized_exact, name_exact, never_exact, pair_exact, both_exact, mapped_exact, made_exact, chosen_exact, when_exact, coded_exact, tagged_exact, closed_exact, list_exact, vector_exact, Along, each_sound, each_complete}
+use Rattle.wasm_format.proofs.Exact.{Exact, took_then, split, byte_exact, u32_exact, s32_exact, s64_exact, sized_exact, name_exact, never_exact, pair_exact, both_exact, mapped_exact, made_exact, chosen_exact, when_exact, coded_exact, tagged_exact, closed_exact, list_exact, vector_exact, Along, each_sound, each_complete, within_most}
 
 -- ---- types
 
@@ -31,7 +34,7 @@ ref_exact = coded_exact ref_code
 
 pub func_type_exact : Exact SpellsFuncType SmallFuncType func_type_at
 unfolding func_type_at
-func_type_exact = tagged_exact 0x60 (mapped_exact func_type_of (λ t. (t.params, t.results)) (λ x. refl) (λ y. refl) (pair_exact (vector_exact Parameters 1000 val_exact) (vector_exact Results 1000 val_exact)))
+func_type_exact = tagged_exact 0x60 (mapped_exact func_type_of (λ t. (t.params, t.results)) (λ x. refl) (λ y. refl) (pair_exact (vector_exact Parameters val_exact) (vector_exact Results val_exact)))
 
 pub limits_exact : Exact SpellsLimits Any limits_at
 unfolding limits_at limits_form
@@ -112,10 +115,7 @@ data_exact = chosen_exact u32_exact (λ n.
 -- ---- locals
 
 abbrev small_group : ℕ → LocalGroup → Type 0
-small_group sum g = g.count ≤ 50000 - sum
-
-few_locals : (most n : ℕ) (r : Result (LocalGroup × List ℕ) Fault) (y : LocalGroup × List ℕ) → cond (nat_lt most n) (Err (Limit Locals)) r ≡ Ok y → (n ≤ most) × (r ≡ Ok y)
-few_locals most n r y e = ⊎_elim (λ lt. let bad = rw (lt-ltb most n lt) at e in cc) (λ le. (le, rw (le-ltb most n le) at e)) (cases_lt most n)
+small_group sum g = g.count ≤ limit Locals - sum
 
 group_exact : (sum : ℕ) → Exact SpellsGroup (small_group sum) (local_at sum)
 unfolding local_at
@@ -123,25 +123,28 @@ group_exact sum = record {
   sound = λ bytes g rest small e.
       let n = bind_ok (u32_at bytes) _ _ e in
       let one = (u32_exact.sound bytes n.0.0 n.0.1 small n.1).0 in
-      let few = few_locals (50000 - sum) n.0.0 _ _ n.2 in
+      let few = within_most (Limit Locals) (limit Locals - sum) n.0.0 _ _ n.2 in
       let t = bind_ok (val_at n.0.1) _ _ few.1 in
       let two = (val_exact.sound n.0.1 t.0.0 t.0.1 (small_rest _ bytes n.0.1 small one) t.1).0 in
       let p = ok_pair {E = Fault} (record { count = n.0.0; ty = t.0.0 }) g t.0.1 rest t.2 in
       let both = took_then (λ b. U32 b n.0.0) (λ b. SpellsVal b t.0.0) bytes n.0.1 t.0.1 one two in
       (subst (Took (λ b. SpellsGroup b g) bytes) p.1 (subst (λ (z : LocalGroup). Took (λ b. SpellsGroup b z) bytes t.0.1) p.0 both), subst (small_group sum) p.0 few.0);
-  complete = λ text rest g h k. rw (split _ _ text rest h, u32_exact.complete h.0 (h.1 ++ rest) g.count h.2 tt, le-ltb (50000 - sum) g.count k, val_exact.complete h.1 rest g.ty h.3 tt);
+  complete = λ text rest g h k. rw (split _ _ text rest h, u32_exact.complete h.0 (h.1 ++ rest) g.count h.2 tt, le-ltb (limit Locals - sum) g.count k, val_exact.complete h.1 rest g.ty h.3 tt);
 }
 
-along_sum : (sum : ℕ) (gs : List LocalGroup) → sum ≤ 50000 → Along small_group with_group sum gs → sum + declared gs ≤ 50000
-along_sum sum [] le h = omega arith
-along_sum sum (g ∷ gs) le h = let k = along_sum (sum + g.count) gs (omega (arith, h.0)) h.1 in omega (arith, k)
+declared_more : (g : LocalGroup) (gs : List LocalGroup) → declared_count (g ∷ gs) ≡ g.count + declared_count gs
+declared_more g gs = sum-map (λ (h : LocalGroup). h.count) (g ∷ gs) ∙ sum_by-cons (λ (h : LocalGroup). h.count) g gs ∙ ap (λ n. g.count + n) (sym (sum-map (λ (h : LocalGroup). h.count) gs))
 
-sum_along : (sum : ℕ) (gs : List LocalGroup) → sum + declared gs ≤ 50000 → Along small_group with_group sum gs
+along_sum : (sum : ℕ) (gs : List LocalGroup) → sum ≤ limit Locals → Along small_group with_group sum gs → sum + declared_count gs ≤ limit Locals
+along_sum sum [] le h = omega arith
+along_sum sum (g ∷ gs) le h = let k = along_sum (sum + g.count) gs (omega (arith, h.0)) h.1 in omega (arith, k, declared_more g gs)
+
+sum_along : (sum : ℕ) (gs : List LocalGroup) → sum + declared_count gs ≤ limit Locals → Along small_group with_group sum gs
 sum_along sum [] h = tt
-sum_along sum (g ∷ gs) h = (omega (arith, h), sum_along (sum + g.count) gs (omega (arith, h)))
+sum_along sum (g ∷ gs) h = let e = declared_more g gs in (omega (arith, h, e), sum_along (sum + g.count) gs (omega (arith, h, e)))
 
 abbrev pub SmallLocals : List LocalGroup → Type 0
-SmallLocals gs = declared gs ≤ 50000
+SmallLocals gs = declared_count gs ≤ limit Locals
 
 pub locals_exact : Exact (Vector SpellsGroup) SmallLocals locals_at
 unfolding locals_at

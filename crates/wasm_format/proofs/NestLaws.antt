@@ -7,7 +7,13 @@ use Rattle.wasm_bytes.proofs.Sized.{ok_pair}
 use Rattle.wasm_tree.specs.declared.types.BlockType.{BlockType}
 use Rattle.wasm_tree.specs.declared.instr.Instr.{Instr, the_lemmas}
 use Rattle.wasm_tree.specs.declared.instr.Instr.TheVariants.{Block, Loop, If}
-use Rattle.wasm_tree.specs.MemoryZero.{memory_zero, memory_zero_all}
+use Rattle.wasm_tree.specs.declared.types.BlockType.TheVariants as block
+use Rattle.wasm_tree.specs.MemoryZero.{is_memory_zero, memory_zero, memory_zero_all}
+use Rattle.wasm_tree.specs.OperandLaws.{BlockPasses, LoopPasses, IfPasses}
+use Rattle.wasm_tree.specs.Operands.{block_operands}
+use Rattle.std.specs.List.{list_all}
+use Rattle.wasm_tree.specs.Limits.{limit}
+use Rattle.wasm_tree.specs.declared.which.Which.TheVariants.{Nesting}
 use Rattle.wasm_format.specs.declared.fault.Fault.{Fault}
 use Rattle.wasm_format.specs.declared.token.Token.{Token}
 use Rattle.wasm_format.specs.declared.token.Token.TheVariants.{Open, Else, End, Plain}
@@ -54,14 +60,14 @@ from_in (if_else_in {body = body} {otherwise = otherwise} ty inner other r) =
 -- ---- whole bodies
 
 module _ (many : Bool) where
-  pub body_found : (bytes : List ℕ) (is : List Instr) → IsBytes bytes → body_at many bytes ≡ Ok is → SpellsBody many bytes is × (depth is ≤ 1000)
+  pub body_found : (bytes : List ℕ) (is : List Instr) → IsBytes bytes → body_at many bytes ≡ Ok is → SpellsBody many bytes is × (depth is ≤ limit Nesting)
   body_found bytes is small e =
       let b = body_sound many bytes is small e in
       let n = from_in b.1 in
       ((b.0, n.0, b.2), n.1)
 
-  pub body_read : (bytes : List ℕ) (is : List Instr) → SpellsBody many bytes is → depth is ≤ 1000 → body_at many bytes ≡ Ok is
-  body_read bytes is h k = body_complete many bytes is (h.0, to_in h.1 1000 k, h.2)
+  pub body_read : (bytes : List ℕ) (is : List Instr) → SpellsBody many bytes is → depth is ≤ limit Nesting → body_at many bytes ≡ Ok is
+  body_read bytes is h k = body_complete many bytes is (h.0, to_in h.1 (limit Nesting) k, h.2)
 
   -- no spelling of a body goes on as that of another
   pub body_clear : (one other rest more : List ℕ) (is js : List Instr) → one ++ rest ≡ other ++ more → SpellsBody many one is → SpellsBody many other js → (is ≡ js) × (rest ≡ more)
@@ -110,14 +116,11 @@ module _ (Q : Instr → Type 0) where
   plains_of many each (Else ∷ ts) bytes h = plains_of many each ts h.1 h.3
   plains_of many each (End ∷ ts) bytes h = plains_of many each ts h.1 h.3
 
-zero_block : (ty : BlockType) (body : List Instr) → memory_zero (Block ty body) ≡ memory_zero_all body
-zero_block ty body = search (rules, the_lemmas)
-
-zero_loop : (ty : BlockType) (body : List Instr) → memory_zero (Loop ty body) ≡ memory_zero_all body
-zero_loop ty body = search (rules, the_lemmas)
-
-zero_if : (ty : BlockType) (body other : List Instr) → memory_zero (If ty body other) ≡ memory_zero_all body && memory_zero_all other
-zero_if ty body other = search (rules, the_lemmas)
+-- a block type names no memory
+no_memory : (ty : BlockType) → list_all is_memory_zero (block_operands ty) ≡ true
+no_memory block.Empty = refl
+no_memory (block.Value t) = refl
+no_memory (block.Index ty) = refl
 
 Zero : Instr → Type 0
 Zero i = memory_zero i ≡ true
@@ -125,22 +128,32 @@ Zero i = memory_zero i ≡ true
 both : (a b : Bool) → a ≡ true → b ≡ true → a && b ≡ true
 both a b h k = rw (h, k)
 
-zero_nests : {ts : List Token} {is : List Instr} → Nests ts is → Plains Zero ts → memory_zero_all is ≡ true
-unfolding Plains Zero
-zero_nests no_more h = refl
-zero_nests (one_plain {is = is} i r) h = both (memory_zero i) (memory_zero_all is) h.0 (zero_nests r h.1)
-zero_nests (one_block {inner = inner} {ts = ts} {body = body} {is = is} ty a r) h =
-    both (memory_zero (Block ty body)) (memory_zero_all is) (zero_block ty body ∙ zero_nests a (plains_left Zero inner (End ∷ ts) h)) (zero_nests r (plains_right Zero inner (End ∷ ts) h))
-zero_nests (one_loop {inner = inner} {ts = ts} {body = body} {is = is} ty a r) h =
-    both (memory_zero (Loop ty body)) (memory_zero_all is) (zero_loop ty body ∙ zero_nests a (plains_left Zero inner (End ∷ ts) h)) (zero_nests r (plains_right Zero inner (End ∷ ts) h))
-zero_nests (one_if {inner = inner} {ts = ts} {body = body} {is = is} ty a r) h =
-    both (memory_zero (If ty body [])) (memory_zero_all is) (zero_if ty body [] ∙ both (memory_zero_all body) true (zero_nests a (plains_left Zero inner (End ∷ ts) h)) refl) (zero_nests r (plains_right Zero inner (End ∷ ts) h))
-zero_nests (one_if_else {inner = inner} {other = other} {ts = ts} {body = body} {otherwise = otherwise} {is = is} ty a b r) h =
-    let rest = plains_right Zero inner (Else ∷ (other ++ End ∷ ts)) h in
-    both (memory_zero (If ty body otherwise)) (memory_zero_all is)
-    (zero_if ty body otherwise ∙ both (memory_zero_all body) (memory_zero_all otherwise) (zero_nests a (plains_left Zero inner (Else ∷ (other ++ End ∷ ts)) h)) (zero_nests b (plains_left Zero other (End ∷ ts) rest)))
-    (zero_nests r (plains_right Zero other (End ∷ ts) rest))
+module _ (blocks : BlockPasses) (loops : LoopPasses) (ifs : IfPasses) where
+  zero_block : (ty : BlockType) (body : List Instr) → memory_zero (Block ty body) ≡ memory_zero_all body
+  zero_block ty body = blocks is_memory_zero ty body ∙ ap (λ b. b && memory_zero_all body) (no_memory ty)
 
-pub body_zero : (bytes : List ℕ) (is : List Instr) → SpellsBody false bytes is → memory_zero_all is ≡ true
-unfolding Zero
-body_zero bytes is h = zero_nests h.1 (plains_left Zero h.0 (End ∷ []) (plains_of Zero false (λ text i k. of_token false Zero zero_memory text i k) (h.0 ++ End ∷ []) bytes h.2))
+  zero_loop : (ty : BlockType) (body : List Instr) → memory_zero (Loop ty body) ≡ memory_zero_all body
+  zero_loop ty body = loops is_memory_zero ty body ∙ ap (λ b. b && memory_zero_all body) (no_memory ty)
+
+  zero_if : (ty : BlockType) (body other : List Instr) → memory_zero (If ty body other) ≡ memory_zero_all body && memory_zero_all other
+  zero_if ty body other = ifs is_memory_zero ty body other ∙ ap (λ b. b && (memory_zero_all body && memory_zero_all other)) (no_memory ty)
+
+  zero_nests : {ts : List Token} {is : List Instr} → Nests ts is → Plains Zero ts → memory_zero_all is ≡ true
+  unfolding Plains Zero
+  zero_nests no_more h = refl
+  zero_nests (one_plain {is = is} i r) h = both (memory_zero i) (memory_zero_all is) h.0 (zero_nests r h.1)
+  zero_nests (one_block {inner = inner} {ts = ts} {body = body} {is = is} ty a r) h =
+      both (memory_zero (Block ty body)) (memory_zero_all is) (zero_block ty body ∙ zero_nests a (plains_left Zero inner (End ∷ ts) h)) (zero_nests r (plains_right Zero inner (End ∷ ts) h))
+  zero_nests (one_loop {inner = inner} {ts = ts} {body = body} {is = is} ty a r) h =
+      both (memory_zero (Loop ty body)) (memory_zero_all is) (zero_loop ty body ∙ zero_nests a (plains_left Zero inner (End ∷ ts) h)) (zero_nests r (plains_right Zero inner (End ∷ ts) h))
+  zero_nests (one_if {inner = inner} {ts = ts} {body = body} {is = is} ty a r) h =
+      both (memory_zero (If ty body [])) (memory_zero_all is) (zero_if ty body [] ∙ both (memory_zero_all body) true (zero_nests a (plains_left Zero inner (End ∷ ts) h)) refl) (zero_nests r (plains_right Zero inner (End ∷ ts) h))
+  zero_nests (one_if_else {inner = inner} {other = other} {ts = ts} {body = body} {otherwise = otherwise} {is = is} ty a b r) h =
+      let rest = plains_right Zero inner (Else ∷ (other ++ End ∷ ts)) h in
+      both (memory_zero (If ty body otherwise)) (memory_zero_all is)
+      (zero_if ty body otherwise ∙ both (memory_zero_all body) (memory_zero_all otherwise) (zero_nests a (plains_left Zero inner (Else ∷ (other ++ End ∷ ts)) h)) (zero_nests b (plains_left Zero other (End ∷ ts) rest)))
+      (zero_nests r (plains_right Zero other (End ∷ ts) rest))
+
+  pub body_zero : (bytes : List ℕ) (is : List Instr) → SpellsBody false bytes is → memory_zero_all is ≡ true
+  unfolding Zero
+  body_zero bytes is h = zero_nests h.1 (plains_left Zero h.0 (End ∷ []) (plains_of Zero false (λ text i k. of_token false Zero zero_memory text i k) (h.0 ++ End ∷ []) bytes h.2))

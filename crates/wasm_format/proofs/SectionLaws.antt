@@ -8,6 +8,7 @@ use Rattle.wasm_bytes.proofs.Sized.{bind_ok}
 use Rattle.wasm_tree.specs.declared.which.Which.TheVariants.{Types, Imports, Functions, Tables, Memories, Globals, Exports, ElementSegments, DataSegments}
 use Rattle.wasm_tree.specs.declared.types.FuncType.{FuncType}
 use Rattle.wasm_tree.specs.Spaces.{imported_funcs}
+use Rattle.wasm_tree.specs.Limits.{limit}
 use Rattle.wasm_format.specs.declared.fault.Fault.{Fault}
 use Rattle.wasm_format.specs.declared.fault.Fault.TheVariants as fault
 use Rattle.wasm_format.specs.declared.fault.ReadFault.{ReadFault}
@@ -113,13 +114,13 @@ right_custom n p = record {
   one = λ c q r h k. h.1 ∙ sym k.1;
 }
 
-right_codes : (many : Bool) (n func : ℕ) (p : Parts) → Right (Made (with_codes p) (Vector (SpellsEntry many))) (Limited (Vector (SpellsEntry many)) (Few 1000000 SmallCode)) (λ c. codes_at many n func c >>= (λ xs. Ok (with_codes p xs)))
+right_codes : (many : Bool) (n func : ℕ) (p : Parts) → Right (Made (with_codes p) (Vector (SpellsEntry many))) (Limited (Vector (SpellsEntry many)) (Few (limit Functions) SmallCode)) (λ c. codes_at many n func c >>= (λ xs. Ok (with_codes p xs)))
 right_codes many n func p = record {
   sound = λ c q small e.
       let w = bind_ok (codes_at many n func c) _ _ e in
       let s = codes_sound many n func c w.0 small w.1 in
       let same : with_codes p w.0 ≡ q = (let k = w.2 in cc) in
-      ((w.0, s.0, sym same), λ x h. subst (Few 1000000 SmallCode) (one_whole _ (vector_clear (entry_clear many)) c w.0 x s.0 h) s.1);
+      ((w.0, s.0, sym same), λ x h. subst (Few (limit Functions) SmallCode) (one_whole _ (vector_clear (entry_clear many)) c w.0 x s.0 h) s.1);
   complete = λ c q h k. rw (codes_complete many n func c h.0 h.1 (k h.0 h.1), h.2);
   one = λ c q t h k. h.2 ∙ ap (with_codes p) (one_whole _ (vector_clear (entry_clear many)) c h.0 k.0 h.1 k.1) ∙ sym k.2;
 }
@@ -132,16 +133,16 @@ pub section_right : (many : Bool) (n : ℕ) (p : Parts) (id : ℕ) → Right (se
 unfolding section_form small_form section_at
 section_right many n p id =
     right_when (id == 0) (right_custom n p)
-    (right_when (id == 1) (right_put n (with_types p) (vector_exact Types 1000000 func_type_exact) (vector_clear type_clear))
-    (right_when (id == 2) (right_put n (with_imports p) (vector_exact Imports 1000000 import_exact) (vector_clear (clear_of import_exact)))
-    (right_when (id == 3) (right_put n (with_func_types p) (vector_exact Functions 1000000 u32_exact) (vector_clear (clear_of u32_exact)))
-    (right_when (id == 4) (right_put n (with_tables p) (vector_exact Tables 10000 table_exact) (vector_clear (clear_of table_exact)))
-    (right_when (id == 5) (right_put n (with_mems p) (vector_exact Memories 10000 limits_exact) (vector_clear (clear_of limits_exact)))
-    (right_when (id == 6) (right_put n (with_globals p) (vector_exact Globals 1000000 global_def_exact) (vector_clear (clear_of global_def_exact)))
-    (right_when (id == 7) (right_put n (with_exports p) (vector_exact Exports 1000000 export_exact) (vector_clear (clear_of export_exact)))
+    (right_when (id == 1) (right_put n (with_types p) (vector_exact Types func_type_exact) (vector_clear type_clear))
+    (right_when (id == 2) (right_put n (with_imports p) (vector_exact Imports import_exact) (vector_clear (clear_of import_exact)))
+    (right_when (id == 3) (right_put n (with_func_types p) (vector_exact Functions u32_exact) (vector_clear (clear_of u32_exact)))
+    (right_when (id == 4) (right_put n (with_tables p) (vector_exact Tables table_exact) (vector_clear (clear_of table_exact)))
+    (right_when (id == 5) (right_put n (with_mems p) (vector_exact Memories limits_exact) (vector_clear (clear_of limits_exact)))
+    (right_when (id == 6) (right_put n (with_globals p) (vector_exact Globals global_def_exact) (vector_clear (clear_of global_def_exact)))
+    (right_when (id == 7) (right_put n (with_exports p) (vector_exact Exports export_exact) (vector_clear (clear_of export_exact)))
     (right_when (id == 8) (right_free n (with_start p) u32_exact (clear_of u32_exact))
-    (right_when (id == 9) (right_put n (with_elems p) (vector_exact ElementSegments 300000 elem_exact) (vector_clear (clear_of elem_exact)))
+    (right_when (id == 9) (right_put n (with_elems p) (vector_exact ElementSegments elem_exact) (vector_clear (clear_of elem_exact)))
     (right_when (id == 10) (right_codes many n (length (imported_funcs p.imports)) p)
-    (right_when (id == 11) (right_put n (with_datas p) (vector_exact DataSegments 300000 data_exact) (vector_clear (clear_of data_exact)))
+    (right_when (id == 11) (right_put n (with_datas p) (vector_exact DataSegments data_exact) (vector_clear (clear_of data_exact)))
     (right_when (id == 12) (right_free n (with_count p) u32_exact (clear_of u32_exact))
     (right_never n)))))))))))))

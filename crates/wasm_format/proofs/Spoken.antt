@@ -5,12 +5,13 @@ use Rattle.wasm_bytes.specs.declared.cursor.Wrong.{Wrong}
 use Rattle.wasm_bytes.specs.Reading.{◌>>=◌, signed_at}
 use Rattle.wasm_bytes.specs.Frames.{Section, frames_at, header}
 use Rattle.wasm_tree.specs.declared.which.Which.{Which}
-use Rattle.wasm_tree.specs.declared.which.Which.TheVariants.{Types, Imports, Functions, Tables, Memories, Globals, Exports, ElementSegments, DataSegments, Parameters, Results}
+use Rattle.wasm_tree.specs.declared.which.Which.TheVariants.{Types, Imports, Functions, Tables, Memories, Globals, Exports, ElementSegments, DataSegments, Parameters, Results, Nesting, Locals}
 use Rattle.wasm_tree.specs.declared.types.BlockType.{BlockType}
 use Rattle.wasm_tree.specs.declared.types.BlockType.TheVariants as bt
 use Rattle.wasm_tree.specs.declared.instr.Instr.{Instr}
 use Rattle.wasm_tree.specs.declared.instr.Instr.TheVariants.{Block, Loop, If}
 use Rattle.wasm_tree.specs.Spaces.{imported_funcs}
+use Rattle.wasm_tree.specs.Limits.{limit}
 use Rattle.wasm_format.specs.declared.fault.Fault.{Fault}
 use Rattle.wasm_format.specs.declared.fault.Fault.TheVariants as fault
 use Rattle.wasm_format.specs.declared.fault.ReadFault.{ReadFault}
@@ -113,9 +114,9 @@ list : {A : Type 0} {item : Reader A} → Spoken item → Spoken (list_at item)
 unfolding list_at
 list {item = item} a = record { never = λ bs. bind_not _ (u32_at bs) _ (u32.never bs) (λ n. each_not _ (λ s. item) (λ s x. 0) (λ s. a.never) n.0 0 n.1) }
 
-vector : {A : Type 0} {item : Reader A} (which : Which) (most : ℕ) → Spoken item → Spoken (vector_at which most item)
+vector : {A : Type 0} {item : Reader A} (which : Which) → Spoken item → Spoken (vector_at which item)
 unfolding vector_at
-vector {item = item} which most a = record { never = λ bs. bind_not _ (u32_at bs) _ (u32.never bs) (λ n. if_not _ (nat_lt most n.0) _ _ (λ h. cc) (each_not _ (λ s. item) (λ s x. 0) (λ s. a.never) n.0 0 n.1)) }
+vector {item = item} which a = record { never = λ bs. bind_not _ (u32_at bs) _ (u32.never bs) (λ n. if_not _ (nat_lt (limit which) n.0) _ _ (λ h. cc) (each_not _ (λ s. item) (λ s x. 0) (λ s. a.never) n.0 0 n.1)) }
 
 all : {A : Type 0} {r : Reader A} → Spoken r → Spoken (whole_at r)
 unfolding whole_at
@@ -133,7 +134,7 @@ ref = coded (λ b. if_not _ (b == 0x70) _ _ (ok_not _ _) (if_not _ (b == 0x6F) _
 
 func_type : Spoken func_type_at
 unfolding func_type_at
-func_type = tagged 0x60 (mapped _ (pair (vector Parameters 1000 val) (vector Results 1000 val)))
+func_type = tagged 0x60 (mapped _ (pair (vector Parameters val) (vector Results val)))
 
 limits : Spoken limits_at
 unfolding limits_at
@@ -207,7 +208,7 @@ segment = chosen u32 (λ n. when (n == 0) (mapped _ (pair const sized)) (when (n
 
 group : (sum : ℕ) → Spoken (local_at sum)
 unfolding local_at
-group sum = record { never = λ bs. bind_not _ (u32_at bs) _ (u32.never bs) (λ n. if_not _ (nat_lt (50000 - sum) n.0) _ _ (λ h. cc) (bind_not _ (val_at n.1) _ (val.never n.1) (λ t. ok_not _ _))) }
+group sum = record { never = λ bs. bind_not _ (u32_at bs) _ (u32.never bs) (λ n. if_not _ (nat_lt (limit Locals - sum) n.0) _ _ (λ h. cc) (bind_not _ (val_at n.1) _ (val.never n.1) (λ t. ok_not _ _))) }
 
 locals : Spoken locals_at
 unfolding locals_at
@@ -321,7 +322,7 @@ whole_not (s, rest) = if_not _ s.by_else _ _ (λ h. cc) (if_not _ (length rest =
 
 code : (many : Bool) → Spoken (code_at many)
 unfolding code_at body_at
-code many = record { never = λ bs. bind_not _ (locals_at bs) _ (locals.never bs) (λ ls. bind_not _ (body_at many ls.1) _ (bind_not _ (sequence_at many (length ls.1) 1000 ls.1) whole (sequence_not many (length ls.1) 1000 ls.1) whole_not) (λ is. ok_not _ _)) }
+code many = record { never = λ bs. bind_not _ (locals_at bs) _ (locals.never bs) (λ ls. bind_not _ (body_at many ls.1) _ (bind_not _ (sequence_at many (length ls.1) (limit Nesting) ls.1) whole (sequence_not many (length ls.1) (limit Nesting) ls.1) whole_not) (λ is. ok_not _ _)) }
 
 -- ---- in their places
 
@@ -348,7 +349,7 @@ entry_not many n f bs = bind_not _ (in_place n None (sized_at bs)) _ (in_place_n
 codes_not : (many : Bool) (n f : ℕ) (bs : List ℕ) → Not NoMemory (codes_at many n f bs)
 unfolding codes_at
 codes_not many n f bs = bind_not _ (in_place n None (u32_at bs)) _ (in_place_not n None (u32_at bs) (u32.never bs))
-    (λ k. if_not _ (nat_lt 1000000 k.0) _ _ (λ h. cc) (bind_not _ (each_from (entry_at many n) next_func k.0 f k.1) _ (each_not _ (entry_at many n) next_func (entry_not many n) k.0 f k.1) (λ r. if_not _ (length r.1 == 0) _ _ (ok_not _ _) (λ h. cc))))
+    (λ k. if_not _ (nat_lt (limit Functions) k.0) _ _ (λ h. cc) (bind_not _ (each_from (entry_at many n) next_func k.0 f k.1) _ (each_not _ (entry_at many n) next_func (entry_not many n) k.0 f k.1) (λ r. if_not _ (length r.1 == 0) _ _ (ok_not _ _) (λ h. cc))))
 
 put_not : {A : Type 0} (n : ℕ) (make : A → Parts) (r : Result A Fault) → Not fault.NoMemory r → Not NoMemory (put_at n make r)
 put_not n make r a = bind_not _ (in_place n None r) _ (in_place_not n None r a) (λ x. ok_not _ _)
@@ -357,17 +358,17 @@ section_not : (many : Bool) (n : ℕ) (p : Parts) (s : Section) → Not NoMemory
 unfolding section_at
 section_not many n p s =
     if_not _ (s.0 == 0) _ _ (put_not n _ _ (bind_not _ (name_at s.1) _ (name.never s.1) (λ x. ok_not _ _)))
-    (if_not _ (s.0 == 1) _ _ (put_not n _ _ ((all (vector Types 1000000 func_type)).never s.1))
-    (if_not _ (s.0 == 2) _ _ (put_not n _ _ ((all (vector Imports 1000000 import')).never s.1))
-    (if_not _ (s.0 == 3) _ _ (put_not n _ _ ((all (vector Functions 1000000 u32)).never s.1))
-    (if_not _ (s.0 == 4) _ _ (put_not n _ _ ((all (vector Tables 10000 table_type)).never s.1))
-    (if_not _ (s.0 == 5) _ _ (put_not n _ _ ((all (vector Memories 10000 limits)).never s.1))
-    (if_not _ (s.0 == 6) _ _ (put_not n _ _ ((all (vector Globals 1000000 global_def)).never s.1))
-    (if_not _ (s.0 == 7) _ _ (put_not n _ _ ((all (vector Exports 1000000 export)).never s.1))
+    (if_not _ (s.0 == 1) _ _ (put_not n _ _ ((all (vector Types func_type)).never s.1))
+    (if_not _ (s.0 == 2) _ _ (put_not n _ _ ((all (vector Imports import')).never s.1))
+    (if_not _ (s.0 == 3) _ _ (put_not n _ _ ((all (vector Functions u32)).never s.1))
+    (if_not _ (s.0 == 4) _ _ (put_not n _ _ ((all (vector Tables table_type)).never s.1))
+    (if_not _ (s.0 == 5) _ _ (put_not n _ _ ((all (vector Memories limits)).never s.1))
+    (if_not _ (s.0 == 6) _ _ (put_not n _ _ ((all (vector Globals global_def)).never s.1))
+    (if_not _ (s.0 == 7) _ _ (put_not n _ _ ((all (vector Exports export)).never s.1))
     (if_not _ (s.0 == 8) _ _ (put_not n _ _ ((all u32).never s.1))
-    (if_not _ (s.0 == 9) _ _ (put_not n _ _ ((all (vector ElementSegments 300000 elem)).never s.1))
+    (if_not _ (s.0 == 9) _ _ (put_not n _ _ ((all (vector ElementSegments elem)).never s.1))
     (if_not _ (s.0 == 10) _ _ (bind_not _ (codes_at many n (length (imported_funcs p.imports)) s.1) _ (codes_not many n (length (imported_funcs p.imports)) s.1) (λ x. ok_not _ _))
-    (if_not _ (s.0 == 11) _ _ (put_not n _ _ ((all (vector DataSegments 300000 segment)).never s.1))
+    (if_not _ (s.0 == 11) _ _ (put_not n _ _ ((all (vector DataSegments segment)).never s.1))
     (if_not _ (s.0 == 12) _ _ (put_not n _ _ ((all u32).never s.1))
     (λ h. cc)))))))))))))
 

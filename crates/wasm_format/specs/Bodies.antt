@@ -1,5 +1,5 @@
 -- Tokens and trees, and code entries (Core 2.0, 5.4.1, 5.4.9 and 5.5.13).
-use Rattle.std.specs.Prelude.{◌≡◌, ℕ, suc, ◌+◌, ◌≤◌, max, List, [], ◌∷◌, ◌++◌, map, Bool, true, false, ◌||◌}
+use Rattle.std.specs.Prelude.{◌≡◌, ℕ, suc, ◌≤◌, max, List, [], ◌∷◌, ◌++◌, map, Bool}
 use Rattle.wasm_bytes.specs.Joins.{U32, Each, Vector, Sized}
 use Rattle.wasm_tree.specs.declared.types.BlockType.{BlockType}
 use Rattle.wasm_tree.specs.declared.instr.Instr.{Instr, fold-Instr}
@@ -7,6 +7,9 @@ use Rattle.wasm_tree.specs.declared.instr.Instr.TheOpen.{Instr-F}
 use Rattle.wasm_tree.specs.declared.instr.Instr.TheVariants.{Block, Loop, If}
 use Rattle.wasm_tree.specs.declared.module.LocalGroup.{LocalGroup}
 use Rattle.wasm_tree.specs.declared.module.Func.{Func}
+use Rattle.wasm_tree.specs.Limits.{limit}
+use Rattle.wasm_tree.specs.declared.which.Which.TheVariants.{Locals, Nesting}
+use Rattle.wasm_tree.specs.Bounds.{declared_count}
 use Rattle.wasm_format.specs.declared.token.Opener.TheVariants as opener
 use Rattle.wasm_format.specs.declared.token.Token.{Token}
 use Rattle.wasm_format.specs.declared.token.Token.TheVariants.{Open, Else, End, Plain}
@@ -51,7 +54,45 @@ abbrev pub depth_step : Instr-F ℕ → ℕ
 depth_step (Instr-F.Block ty body) = suc (deepest body)
 depth_step (Instr-F.Loop ty body) = suc (deepest body)
 depth_step (Instr-F.If ty body other) = suc (max (deepest body) (deepest other))
-depth_step _ = 0
+depth_step Instr-F.Unreachable = 0
+depth_step Instr-F.Nop = 0
+depth_step (Instr-F.Br label) = 0
+depth_step (Instr-F.BrIf label) = 0
+depth_step (Instr-F.BrTable labels last) = 0
+depth_step Instr-F.Return = 0
+depth_step (Instr-F.Call func) = 0
+depth_step (Instr-F.CallIndirect ty table) = 0
+depth_step Instr-F.Drop = 0
+depth_step Instr-F.Select = 0
+depth_step (Instr-F.SelectTyped types) = 0
+depth_step (Instr-F.LocalGet local) = 0
+depth_step (Instr-F.LocalSet local) = 0
+depth_step (Instr-F.LocalTee local) = 0
+depth_step (Instr-F.GlobalGet global) = 0
+depth_step (Instr-F.GlobalSet global) = 0
+depth_step (Instr-F.TableGet table) = 0
+depth_step (Instr-F.TableSet table) = 0
+depth_step (Instr-F.Load op arg) = 0
+depth_step (Instr-F.Store op arg) = 0
+depth_step (Instr-F.MemorySize memory) = 0
+depth_step (Instr-F.MemoryGrow memory) = 0
+depth_step (Instr-F.I32Const value) = 0
+depth_step (Instr-F.I64Const value) = 0
+depth_step (Instr-F.Un op) = 0
+depth_step (Instr-F.Bin op) = 0
+depth_step (Instr-F.RefNull ty) = 0
+depth_step Instr-F.RefIsNull = 0
+depth_step (Instr-F.RefFunc func) = 0
+depth_step (Instr-F.MemoryInit segment memory) = 0
+depth_step (Instr-F.DataDrop segment) = 0
+depth_step (Instr-F.MemoryCopy to from) = 0
+depth_step (Instr-F.MemoryFill memory) = 0
+depth_step (Instr-F.TableInit segment table) = 0
+depth_step (Instr-F.ElemDrop segment) = 0
+depth_step (Instr-F.TableCopy to from) = 0
+depth_step (Instr-F.TableGrow table) = 0
+depth_step (Instr-F.TableSize table) = 0
+depth_step (Instr-F.TableFill table) = 0
 
 abbrev pub depth_of : Instr → ℕ
 depth_of = fold-Instr ℕ depth_step
@@ -59,35 +100,5 @@ depth_of = fold-Instr ℕ depth_step
 abbrev pub depth : List Instr → ℕ
 depth is = deepest (map depth_of is)
 
--- how many locals are declared
-abbrev pub declared : List LocalGroup → ℕ
-declared [] = 0
-declared (g ∷ gs) = g.count + declared gs
-
 abbrev pub SmallCode : Func → Type 0
-SmallCode f = (declared f.locals ≤ 50000) × (depth f.body ≤ 1000)
-
--- ---- what bodies use
-
-abbrev pub any_true : List Bool → Bool
-any_true [] = false
-any_true (b ∷ bs) = b || any_true bs
-
--- whether memory.init or data.drop stands in it
-abbrev pub data_step : Instr-F Bool → Bool
-data_step (Instr-F.Block ty body) = any_true body
-data_step (Instr-F.Loop ty body) = any_true body
-data_step (Instr-F.If ty body other) = any_true body || any_true other
-data_step (Instr-F.MemoryInit segment memory) = true
-data_step (Instr-F.DataDrop segment) = true
-data_step _ = false
-
-abbrev pub uses_data_in : Instr → Bool
-uses_data_in = fold-Instr Bool data_step
-
-abbrev pub uses_data : List Instr → Bool
-uses_data is = any_true (map uses_data_in is)
-
-abbrev pub any_uses_data : List Func → Bool
-any_uses_data [] = false
-any_uses_data (f ∷ fs) = uses_data f.body || any_uses_data fs
+SmallCode f = (declared_count f.locals ≤ limit Locals) × (depth f.body ≤ limit Nesting)

@@ -8,6 +8,7 @@ use Rattle.wasm_tree.specs.declared.instr.Instr.{Instr}
 use Rattle.wasm_tree.specs.declared.instr.Instr.TheVariants.{Block, Loop, If, BrTable, SelectTyped, I32Const, I64Const, RefNull}
 use Rattle.wasm_tree.specs.declared.module.LocalGroup.{LocalGroup}
 use Rattle.wasm_tree.specs.declared.module.Func.{Func}
+use Rattle.wasm_tree.specs.Limits.{limit}
 use Rattle.wasm_format.specs.declared.fault.Fault.{Fault}
 use Rattle.wasm_format.specs.declared.fault.Fault.TheVariants.{Malformed, Unsupported, Limit}
 use Rattle.wasm_format.specs.declared.token.Opener.{Opener}
@@ -107,7 +108,7 @@ abbrev pub whole : Sequence × List ℕ → Result (List Instr) Fault
 whole (s, rest) = if s.by_else then Err Malformed else (if length rest == 0 then Ok s.items else Err Malformed)
 
 unfoldable pub body_at : Bool → List ℕ → Result (List Instr) Fault
-body_at many bs = sequence_at many (length bs) 1000 bs >>= whole
+body_at many bs = sequence_at many (length bs) (limit Nesting) bs >>= whole
 
 -- ---- what is inside an entry
 

@@ -7,7 +7,7 @@ use Rattle.wasm_tree.specs.Spaces.{imported_funcs}
 use Rattle.wasm_format.specs.declared.fault.ReadFault.{ReadFault}
 use Rattle.wasm_format.specs.declared.fault.ReadFault.TheVariants.{NoMemory, NotModule, Malformed, MalformedBody, Unsupported, Limit}
 use Rattle.wasm_format.specs.declared.parts.Parts.{Parts}
-use Rattle.wasm_format.specs.Words.{Every}
+use Rattle.base_lists.specs.Every.{Every}
 use Rattle.wasm_format.specs.Bodies.{SpellsCode, SpellsEntry, SmallCode}
 use Rattle.wasm_format.specs.Files.{nothing, SpellsSection, SmallSection, Contents, Rules}
 

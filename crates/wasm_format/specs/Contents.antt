@@ -6,12 +6,13 @@ use Rattle.wasm_tree.specs.declared.which.Which.TheVariants.{Types, Imports, Fun
 use Rattle.wasm_tree.specs.declared.module.Func.{Func}
 use Rattle.wasm_tree.specs.declared.module.Module.{Module}
 use Rattle.wasm_tree.specs.Spaces.{imported_funcs}
+use Rattle.wasm_tree.specs.Limits.{limit}
+use Rattle.wasm_tree.specs.DataUse.{any_uses_data}
 use Rattle.wasm_format.specs.declared.fault.Fault.{Fault}
 use Rattle.wasm_format.specs.declared.fault.Fault.TheVariants as fault
 use Rattle.wasm_format.specs.declared.fault.ReadFault.{ReadFault}
 use Rattle.wasm_format.specs.declared.fault.ReadFault.TheVariants.{NoMemory, NotModule, Malformed, MalformedBody, Unsupported, Limit}
 use Rattle.wasm_format.specs.declared.parts.Parts.{Parts}
-use Rattle.wasm_format.specs.Bodies.{any_uses_data}
 use Rattle.wasm_format.specs.Files.{nothing, with_types, with_imports, with_func_types, with_tables, with_mems, with_globals, with_exports, with_start, with_elems, with_codes, with_datas, with_count, tree_of}
 use Rattle.wasm_format.specs.Reading.{u32_at, name_at, sized_at, each_from, vector_at, whole_at, func_type_at, import_at, table_at, limits_at, global_def_at, export_at, elem_at, data_at}
 use Rattle.wasm_format.specs.BodyReading.{code_at}
@@ -60,7 +61,7 @@ next_func func f = func + 1
 
 unfoldable pub codes_at : Bool → ℕ → ℕ → List ℕ → Result (List Func) ReadFault
 codes_at many section func bs = in_place section None (u32_at bs) >>= (λ n.
-    if nat_lt 1000000 n.0 then Err (Limit Functions)
+    if nat_lt (limit Functions) n.0 then Err (Limit Functions)
     else (each_from (entry_at many section) next_func n.0 func n.1 >>= (λ r. if length r.1 == 0 then Ok r.0 else Err (Malformed section))))
 
 -- ---- a section
@@ -75,17 +76,17 @@ put_at n make read = in_place n None read >>= (λ x. Ok (make x))
 unfoldable pub section_at : Bool → ℕ → Parts → Section → Result Parts ReadFault
 section_at many n p s =
     if s.0 == 0 then put_at n (λ u. p) (custom_at s.1)
-    else (if s.0 == 1 then put_at n (with_types p) (whole_at (vector_at Types 1000000 func_type_at) s.1)
-    else (if s.0 == 2 then put_at n (with_imports p) (whole_at (vector_at Imports 1000000 import_at) s.1)
-    else (if s.0 == 3 then put_at n (with_func_types p) (whole_at (vector_at Functions 1000000 u32_at) s.1)
-    else (if s.0 == 4 then put_at n (with_tables p) (whole_at (vector_at Tables 10000 table_at) s.1)
-    else (if s.0 == 5 then put_at n (with_mems p) (whole_at (vector_at Memories 10000 limits_at) s.1)
-    else (if s.0 == 6 then put_at n (with_globals p) (whole_at (vector_at Globals 1000000 global_def_at) s.1)
-    else (if s.0 == 7 then put_at n (with_exports p) (whole_at (vector_at Exports 1000000 export_at) s.1)
+    else (if s.0 == 1 then put_at n (with_types p) (whole_at (vector_at Types func_type_at) s.1)
+    else (if s.0 == 2 then put_at n (with_imports p) (whole_at (vector_at Imports import_at) s.1)
+    else (if s.0 == 3 then put_at n (with_func_types p) (whole_at (vector_at Functions u32_at) s.1)
+    else (if s.0 == 4 then put_at n (with_tables p) (whole_at (vector_at Tables table_at) s.1)
+    else (if s.0 == 5 then put_at n (with_mems p) (whole_at (vector_at Memories limits_at) s.1)
+    else (if s.0 == 6 then put_at n (with_globals p) (whole_at (vector_at Globals global_def_at) s.1)
+    else (if s.0 == 7 then put_at n (with_exports p) (whole_at (vector_at Exports export_at) s.1)
     else (if s.0 == 8 then put_at n (with_start p) (whole_at u32_at s.1)
-    else (if s.0 == 9 then put_at n (with_elems p) (whole_at (vector_at ElementSegments 300000 elem_at) s.1)
+    else (if s.0 == 9 then put_at n (with_elems p) (whole_at (vector_at ElementSegments elem_at) s.1)
     else (if s.0 == 10 then (codes_at many n (length (imported_funcs p.imports)) s.1 >>= (λ xs. Ok (with_codes p xs)))
-    else (if s.0 == 11 then put_at n (with_datas p) (whole_at (vector_at DataSegments 300000 data_at) s.1)
+    else (if s.0 == 11 then put_at n (with_datas p) (whole_at (vector_at DataSegments data_at) s.1)
     else (if s.0 == 12 then put_at n (with_count p) (whole_at u32_at s.1)
     else Err (Malformed n)))))))))))))
 

@@ -12,11 +12,15 @@ use Rattle.wasm_tree.specs.declared.module.ElemSeg.{ElemSeg}
 use Rattle.wasm_tree.specs.declared.module.DataSeg.{DataSeg}
 use Rattle.wasm_tree.specs.declared.module.Func.{Func}
 use Rattle.wasm_tree.specs.declared.module.Module.{Module}
+use Rattle.wasm_tree.specs.Limits.{limit}
+use Rattle.wasm_tree.specs.declared.which.Which.TheVariants.{Types, Imports, Functions, Tables, Memories, Globals, Exports, ElementSegments, DataSegments}
+use Rattle.wasm_tree.specs.DataUse.{any_uses_data}
 use Rattle.wasm_format.specs.declared.parts.Parts.{Parts}
-use Rattle.wasm_format.specs.Words.{Never, Made, When, Any, Every, Few, Limited, WhenSmall}
+use Rattle.base_lists.specs.Every.{Every}
+use Rattle.wasm_format.specs.Words.{Never, Made, When, Any, Few, Limited, WhenSmall}
 use Rattle.wasm_format.specs.Values.{SpellsFuncType, SmallFuncType, SpellsTable, SpellsLimits}
 use Rattle.wasm_format.specs.Sections.{SpellsImport, SpellsGlobalDef, SpellsExport, SpellsElem, SpellsData}
-use Rattle.wasm_format.specs.Bodies.{SpellsEntry, SmallCode, any_uses_data}
+use Rattle.wasm_format.specs.Bodies.{SpellsEntry, SmallCode}
 
 -- ---- sections
 
@@ -120,17 +124,17 @@ Spells bytes tree many = (ss : List Section) × (p : Parts) × Framed bytes ss �
 unfoldable pub small_form : Bool → ℕ → List ℕ → Type 0
 small_form many id =
     WhenSmall (id == 0) Any
-    (WhenSmall (id == 1) (Limited (Vector SpellsFuncType) (Few 1000000 SmallFuncType))
-    (WhenSmall (id == 2) (Limited (Vector SpellsImport) (Few 1000000 Any))
-    (WhenSmall (id == 3) (Limited (Vector U32) (Few 1000000 Any))
-    (WhenSmall (id == 4) (Limited (Vector SpellsTable) (Few 10000 Any))
-    (WhenSmall (id == 5) (Limited (Vector SpellsLimits) (Few 10000 Any))
-    (WhenSmall (id == 6) (Limited (Vector SpellsGlobalDef) (Few 1000000 Any))
-    (WhenSmall (id == 7) (Limited (Vector SpellsExport) (Few 1000000 Any))
+    (WhenSmall (id == 1) (Limited (Vector SpellsFuncType) (Few (limit Types) SmallFuncType))
+    (WhenSmall (id == 2) (Limited (Vector SpellsImport) (Few (limit Imports) Any))
+    (WhenSmall (id == 3) (Limited (Vector U32) (Few (limit Functions) Any))
+    (WhenSmall (id == 4) (Limited (Vector SpellsTable) (Few (limit Tables) Any))
+    (WhenSmall (id == 5) (Limited (Vector SpellsLimits) (Few (limit Memories) Any))
+    (WhenSmall (id == 6) (Limited (Vector SpellsGlobalDef) (Few (limit Globals) Any))
+    (WhenSmall (id == 7) (Limited (Vector SpellsExport) (Few (limit Exports) Any))
     (WhenSmall (id == 8) Any
-    (WhenSmall (id == 9) (Limited (Vector SpellsElem) (Few 300000 Any))
-    (WhenSmall (id == 10) (Limited (Vector (SpellsEntry many)) (Few 1000000 SmallCode))
-    (WhenSmall (id == 11) (Limited (Vector SpellsData) (Few 300000 Any))
+    (WhenSmall (id == 9) (Limited (Vector SpellsElem) (Few (limit ElementSegments) Any))
+    (WhenSmall (id == 10) (Limited (Vector (SpellsEntry many)) (Few (limit Functions) SmallCode))
+    (WhenSmall (id == 11) (Limited (Vector SpellsData) (Few (limit DataSegments) Any))
     (WhenSmall (id == 12) Any
     Any))))))))))))
 

@@ -25,6 +25,7 @@ use Rattle.wasm_tree.specs.declared.module.GlobalDef.{GlobalDef}
 use Rattle.wasm_tree.specs.declared.module.ElemSeg.{ElemSeg}
 use Rattle.wasm_tree.specs.declared.module.DataSeg.{DataSeg}
 use Rattle.wasm_tree.specs.declared.module.LocalGroup.{LocalGroup}
+use Rattle.wasm_tree.specs.Limits.{limit}
 use Rattle.wasm_format.specs.declared.fault.Fault.{Fault}
 use Rattle.wasm_format.specs.declared.fault.Fault.TheVariants.{NoMemory, Malformed, Unsupported, Limit}
 use Rattle.wasm_format.specs.Values.{val_code, ref_code, mut_code, at_least, between}
@@ -128,8 +129,8 @@ unfoldable pub list_at : {A : Type 0} → Reader A → Reader (List A)
 list_at item bs = u32_at bs >>= (λ n. each_at item n.0 n.1)
 
 -- a count, which is compared with its limit before any item, and the items
-unfoldable pub vector_at : {A : Type 0} → Which → ℕ → Reader A → Reader (List A)
-vector_at which most item bs = u32_at bs >>= (λ n. if nat_lt most n.0 then Err (Limit which) else each_at item n.0 n.1)
+unfoldable pub vector_at : {A : Type 0} → Which → Reader A → Reader (List A)
+vector_at which item bs = u32_at bs >>= (λ n. if nat_lt (limit which) n.0 then Err (Limit which) else each_at item n.0 n.1)
 
 -- nothing may follow
 unfoldable pub whole_at : {A : Type 0} → Reader A → List ℕ → Result A Fault
@@ -152,7 +153,7 @@ abbrev pub func_type_of : List ValType × List ValType → FuncType
 func_type_of p = record { params = p.0; results = p.1 }
 
 unfoldable pub func_type_at : Reader FuncType
-func_type_at = tagged_at 0x60 (mapped_at func_type_of (pair_at (vector_at Parameters 1000 val_at) (vector_at Results 1000 val_at)))
+func_type_at = tagged_at 0x60 (mapped_at func_type_of (pair_at (vector_at Parameters val_at) (vector_at Results val_at)))
 
 abbrev pub limits_from : ℕ → Reader Limits
 limits_from b = when_at (b == 0x00) (mapped_at at_least u32_at) (when_at (b == 0x01) (mapped_at between (pair_at u32_at u32_at)) (fault_at Malformed))
@@ -283,7 +284,7 @@ data_at = chosen_at u32_at data_from
 
 -- a group of locals where so many came before
 unfoldable pub local_at : ℕ → Reader LocalGroup
-local_at sum bs = u32_at bs >>= (λ n. if nat_lt (50000 - sum) n.0 then Err (Limit Locals) else (val_at n.1 >>= (λ t. Ok (record { count = n.0; ty = t.0 }, t.1))))
+local_at sum bs = u32_at bs >>= (λ n. if nat_lt (limit Locals - sum) n.0 then Err (Limit Locals) else (val_at n.1 >>= (λ t. Ok (record { count = n.0; ty = t.0 }, t.1))))
 
 abbrev pub with_group : ℕ → LocalGroup → ℕ
 with_group sum g = sum + g.count

@@ -14,6 +14,8 @@ use Rattle.wasm_tree.specs.declared.types.BlockType.{BlockType}
 use Rattle.wasm_tree.specs.declared.types.BlockType.TheVariants as bt
 use Rattle.wasm_tree.specs.declared.module.ConstExpr.{ConstExpr}
 use Rattle.wasm_tree.specs.declared.module.ConstExpr.TheVariants as const
+use Rattle.wasm_tree.specs.Limits.{limit}
+use Rattle.wasm_tree.specs.declared.which.Which.TheVariants.{Parameters, Results}
 use Rattle.wasm_format.specs.declared.fault.Fault.{Fault}
 use Rattle.wasm_format.specs.declared.fault.Fault.TheVariants.{Malformed, Unsupported}
 use Rattle.wasm_format.specs.Words.{S32, S64, Byte, Coded, Never, Both, Made, Chosen, When, After, Closed, Few, Any}
@@ -43,7 +45,7 @@ abbrev pub SpellsFuncType : List ℕ → FuncType → Type 0
 SpellsFuncType bytes t = After 0x60 (Both (Vector SpellsVal) (Vector SpellsVal)) bytes (t.params, t.results)
 
 abbrev pub SmallFuncType : FuncType → Type 0
-SmallFuncType t = Few 1000 Any t.params × Few 1000 Any t.results
+SmallFuncType t = Few (limit Parameters) Any t.params × Few (limit Results) Any t.results
 
 -- limits (5.3.7)
 abbrev pub at_least : ℕ → Limits

@@ -1,5 +1,6 @@
 -- Words for spellings that are made of others, besides those of wasm_bytes: relations between a whole list of bytes and a value.
 use Rattle.std.specs.Prelude.{◌≡◌, ℕ, ◌≤◌, List, [], ◌∷◌, length, Bool, true, false, Result, Ok, ℤ}
+use Rattle.base_lists.specs.Every.{Every}
 use Rattle.wasm_bytes.specs.Numbers.{Signed}
 use Rattle.wasm_bytes.specs.Joins.{Then}
 use Rattle.wasm_format.specs.declared.fault.Fault.{Fault}
@@ -54,10 +55,6 @@ Closed tag P bytes x = Then (λ b. P b x) (λ b. b ≡ tag ∷ []) bytes
 
 abbrev pub Any : {A : Type 0} → A → Type 0
 Any x = Unit {0}
-
-abbrev pub Every : {A : Type 0} → (A → Type 0) → List A → Type 0
-Every P [] = Unit {0}
-Every P (x ∷ xs) = P x × Every P xs
 
 -- at most so many, each of them small
 abbrev pub Few : {A : Type 0} → ℕ → (A → Type 0) → List A → Type 0

@@ -12,6 +12,8 @@ ghost use Rattle.wasm_format.specs.Files.{Spells, Within};
 ghost use Rattle.wasm_format.specs.Contents.{read_fault};
 ghost use Rattle.wasm_format.specs.Causes.{Cause};
 
+use wasm_tree::operands_pass_layer_by_layer;
+
 /// Some bytes spell at most one tree.
 pub fn one_tree()
     ensures { (many : Bool) (bytes : List ℕ) (m n : ModuleTree) → Spells bytes m many → Spells bytes n many → m ≡ n }
@@ -42,4 +44,6 @@ pub fn spelled_trees_are_bounded()
 /// Where memories have no indices, a body names no memory but memory 0.
 pub fn spelled_bodies_name_memory_zero()
     ensures { (bytes : List ℕ) (m : ModuleTree) → Spells bytes m false → memory_zero_funcs m.funcs ≡ true }
-{}
+{
+    operands_pass_layer_by_layer();
+}

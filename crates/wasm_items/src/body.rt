@@ -6,7 +6,7 @@ use crate::tokens::read_token;
 use std::alloc::Global;
 use wasm_bytes::{Cursor, Items};
 use wasm_format::{Fault, Opener, Sequence, Token};
-use wasm_tree::{BlockType, Instr, Which};
+use wasm_tree::{BlockType, Instr, MOST_NESTING, Which};
 
 /// Reads up to the `end` or `else` that ends the sequence. So many more blocks may be opened in it. Its instructions lie on the pile until it ends.
 #[cycle(read)]
@@ -102,7 +102,7 @@ pub fn read_body(
 ) -> Result<Items<Instr>, Fault>
     ensures { GivesAll result (body_at many cursor.old) }
 {
-    let body = read_sequence(alloc, cursor, many, 1000, pile)?;
+    let body = read_sequence(alloc, cursor, many, MOST_NESTING, pile)?;
     if body.by_else {
         return Err(Fault::Malformed);
     }

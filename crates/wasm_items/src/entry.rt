@@ -1,24 +1,26 @@
 ghost use Rattle.std.specs.Prelude.{◌≡◌, ◌<◌, ◌≤◌, ◌+◌, length, OnOk, IfOk};
 ghost use Rattle.wasm_format.specs.Reading.{Gives, GivesAll, local_at, locals_at, each_from, with_group};
 ghost use Rattle.wasm_format.specs.BodyReading.{code_at};
+ghost use Rattle.wasm_tree.specs.Limits.{limit};
+ghost use Rattle.wasm_tree.specs.declared.which.Which.TheVariants.{Locals};
 
 use crate::body::read_body;
 use crate::vectors::Spelled;
 use std::alloc::Global;
 use wasm_bytes::{Cursor, Items};
 use wasm_format::Fault;
-use wasm_tree::{Func, Instr, LocalGroup, ValType, Which};
+use wasm_tree::{Func, Instr, LocalGroup, MOST_LOCALS, ValType, Which};
 
 /// A group of locals where so many came before.
 #[tactic(auto, unfolding(wasm_format::specs::Reading::local_at))]
 fn read_group(alloc: Global, cursor: &mut Cursor<'_>, sum: u32) -> Result<LocalGroup, Fault>
-    requires { sum ≤ 50000 }
+    requires { sum ≤ limit Locals }
     ensures gives { Gives result cursor.new (local_at sum cursor.old) }
-    ensures few { IfOk result (λ g. sum + g.count ≤ 50000) }
+    ensures few { IfOk result (λ g. sum + g.count ≤ limit Locals) }
     ensures shorter { OnOk result (length cursor.new < length cursor.old) }
 {
     let count = cursor.u32()?;
-    if count > 50000 - sum {
+    if count > MOST_LOCALS - sum {
         return Err(Fault::Limit {
             which: Which::Locals,
         });
@@ -27,7 +29,7 @@ fn read_group(alloc: Global, cursor: &mut Cursor<'_>, sum: u32) -> Result<LocalG
     Ok(LocalGroup { count, ty })
 }
 
-/// So many groups, with at most 50,000 locals together; the sum is compared at each group.
+/// So many groups; the locals together are compared with their limit at each group.
 #[tactic(auto, unfolding(wasm_format::specs::Reading::each_from))]
 fn read_groups(
     alloc: Global,

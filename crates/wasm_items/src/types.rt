@@ -101,8 +101,8 @@ impl Spelled for FuncType {
     #[tactic(auto, unfolding(wasm_format::specs::Reading::func_type_at))]
     fn read(alloc: Global, cursor: &mut Cursor<'_>) -> Result<FuncType, Fault> {
         read_tag(cursor, 0x60)?;
-        let params = read_vector(alloc, cursor, Which::Parameters, 1000)?;
-        let results = read_vector(alloc, cursor, Which::Results, 1000)?;
+        let params = read_vector(alloc, cursor, Which::Parameters)?;
+        let results = read_vector(alloc, cursor, Which::Results)?;
         Ok(FuncType { params, results })
     }
 }

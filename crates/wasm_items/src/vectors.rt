@@ -1,6 +1,7 @@
 ghost use Rattle.std.specs.Prelude.{◌≡◌, ◌<◌, ◌≤◌, ℕ, List, Result, length, OnOk, IfOk};
 ghost use Rattle.wasm_format.specs.declared.fault.Fault.{Fault as AFault};
 ghost use Rattle.wasm_format.specs.Reading.{Gives, GivesAll, each_at, list_at, vector_at, whole_at};
+ghost use Rattle.wasm_tree.specs.Limits.{limit};
 
 use std::alloc::Global;
 use wasm_bytes::{Cursor, Items};
@@ -45,20 +46,19 @@ pub fn read_list<T: Spelled>(alloc: Global, cursor: &mut Cursor<'_>) -> Result<I
     read_each(alloc, cursor, count)
 }
 
-/// A vector with at most so many items; the count is compared before any item.
+/// A vector with at most as many items as there may be of that quantity; the count is compared before any item.
 #[tactic(auto, unfolding(wasm_format::specs::Reading::vector_at))]
 pub fn read_vector<T: Spelled>(
     alloc: Global,
     cursor: &mut Cursor<'_>,
     which: Which,
-    most: u32,
 ) -> Result<Items<T>, Fault>
-    ensures gives { Gives result cursor.new (vector_at which most T.reading cursor.old) }
-    ensures few { IfOk result (λ xs. length xs ≤ most) }
+    ensures gives { Gives result cursor.new (vector_at which T.reading cursor.old) }
+    ensures few { IfOk result (λ xs. length xs ≤ limit which) }
     ensures shorter { OnOk result (length cursor.new < length cursor.old) }
 {
     let count = cursor.u32()?;
-    if count > most {
+    if count > which.limit() {
         return Err(Fault::Limit { which });
     }
     read_each(alloc, cursor, count)
@@ -70,13 +70,12 @@ pub fn read_whole<T: Spelled>(
     alloc: Global,
     bytes: &[u8],
     which: Which,
-    most: u32,
 ) -> Result<Items<T>, Fault>
-    ensures gives { GivesAll result (whole_at (vector_at which most T.reading) bytes.now) }
-    ensures few { IfOk result (λ xs. length xs ≤ most) }
+    ensures gives { GivesAll result (whole_at (vector_at which T.reading) bytes.now) }
+    ensures few { IfOk result (λ xs. length xs ≤ limit which) }
 {
     let mut cursor = Cursor::new(bytes);
-    let items = read_vector(alloc, &mut cursor, which, most)?;
+    let items = read_vector(alloc, &mut cursor, which)?;
     if cursor.left() != 0 {
         return Err(Fault::Malformed);
     }

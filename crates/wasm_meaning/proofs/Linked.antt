@@ -7,7 +7,8 @@ use Rattle.wasm_tree.specs.declared.module.ConstExpr.{ConstExpr}
 use Rattle.wasm_tree.specs.declared.module.ConstExpr.TheVariants as const
 use Rattle.wasm_tree.specs.declared.module.Module.{Module}
 use Rattle.wasm_meaning.specs.Paths.{Next, Ends, Goes, In, here, there}
-use Rattle.wasm_meaning.specs.Linking.{Part, Site, End, Defined, Outside, Entity, Read, places, module_at, import_at, imports_of, has_kind, kind_of_export, index_of_export, joined, imported_as, entity_step, joined_step, import_step, Leads, sites_in, sites_from, sites, end_of, initial, outside_read, global_import, end_step, expr_step, read_step, Reads, initials_from, read_of}
+use Rattle.wasm_meaning.specs.Linking.{Part, Site, End, Defined, Outside, Entity, Read, places, module_at, import_at, imports_of, has_kind, joined, imported_as, entity_step, joined_step, import_step, Leads, sites_in, sites_from, sites, end_of, initial, outside_read, global_import, end_step, expr_step, read_step, Reads, initials_from, read_of}
+use Rattle.wasm_tree.specs.Spaces.{index_of_export, space_of_export}
 use Rattle.wasm_meaning.proofs.Walks.{walk_is}
 
 in_front : {A : Type 0} {x : A} {xs : List A} (ys : List A) → In x xs → In x (xs ++ ys)
@@ -58,18 +59,18 @@ in_sites (part ∷ parts) first (suc p) m n h l =
 import_in : (parts : List Part) (e : Entity) (t : Site) → imported_as parts e ≡ Some t → In t (sites parts)
 import_in parts e t h = by (module_at parts e.part) refl h
   where
-    inner : (m : Module) → module_at parts e.part ≡ Some m → (o : Option ℕ) → slice_get (imports_of (kind_of_export e.what) m) (index_of_export e.what) ≡ o →
+    inner : (m : Module) → module_at parts e.part ≡ Some m → (o : Option ℕ) → slice_get (imports_of (space_of_export e.what) m) (index_of_export e.what) ≡ o →
         option_and_then {U = Site} (λ n. Some (record { part = e.part; import = n })) o ≡ Some t → In t (sites parts)
     inner m is None at k = cc
     inner m is (Some n) at k =
         let same : record { part = e.part; import = n } ≡ t = cc in
-        let b = placed (has_kind (kind_of_export e.what)) m.imports 0 (index_of_export e.what) n at in
+        let b = placed (has_kind (space_of_export e.what)) m.imports 0 (index_of_export e.what) n at in
         let from_0 : 0 + e.part ≡ e.part = omega arith in
         subst (λ t. In t (sites parts)) (ap (λ p. record { part = p; import = n }) from_0 ∙ same) (in_sites parts 0 e.part m n is (omega (arith, b.most)))
 
-    by : (o : Option Module) → module_at parts e.part ≡ o → option_and_then (λ m. option_and_then (λ n. Some (record { part = e.part; import = n })) (slice_get (imports_of (kind_of_export e.what) m) (index_of_export e.what))) o ≡ Some t → In t (sites parts)
+    by : (o : Option Module) → module_at parts e.part ≡ o → option_and_then (λ m. option_and_then (λ n. Some (record { part = e.part; import = n })) (slice_get (imports_of (space_of_export e.what) m) (index_of_export e.what))) o ≡ Some t → In t (sites parts)
     by None is k = cc
-    by (Some m) is k = inner m is (slice_get (imports_of (kind_of_export e.what) m) (index_of_export e.what)) refl k
+    by (Some m) is k = inner m is (slice_get (imports_of (space_of_export e.what) m) (index_of_export e.what)) refl k
 
 goes_to_import : (parts : List Part) (s t : Site) → import_step parts s ≡ Some (Goes t) → In t (sites parts)
 goes_to_import parts s t h = by (import_at parts s) h

@@ -17,6 +17,7 @@ use Rattle.wasm_tree.specs.declared.module.ExportDesc.TheVariants as ex
 use Rattle.wasm_tree.specs.declared.module.ConstExpr.{ConstExpr}
 use Rattle.wasm_tree.specs.declared.module.ConstExpr.TheVariants as const
 use Rattle.wasm_tree.specs.declared.module.Module.{Module}
+use Rattle.wasm_tree.specs.Spaces.{space_of_import, space_of_export, index_of_export}
 use Rattle.wasm_meaning.specs.State.{Text, Pair}
 use Rattle.wasm_meaning.specs.Paths.{Next, Ends, Goes, Path, walk}
 
@@ -42,26 +43,8 @@ same_pair p q = same_text p.0 q.0 && same_text p.1 q.1
 
 -- ---- kinds ----
 
-abbrev pub kind_of_import : ImportDesc → Space
-kind_of_import (im.Func t) = Functions
-kind_of_import (im.Table t) = Tables
-kind_of_import (im.Memory l) = Memories
-kind_of_import (im.Global t) = Globals
-
-abbrev pub kind_of_export : ExportDesc → Space
-kind_of_export (ex.Func i) = Functions
-kind_of_export (ex.Table i) = Tables
-kind_of_export (ex.Memory i) = Memories
-kind_of_export (ex.Global i) = Globals
-
-abbrev pub index_of_export : ExportDesc → ℕ
-index_of_export (ex.Func i) = i
-index_of_export (ex.Table i) = i
-index_of_export (ex.Memory i) = i
-index_of_export (ex.Global i) = i
-
 abbrev pub has_kind : Space → Import → Bool
-has_kind k i = same_space k (kind_of_import i.desc)
+has_kind k i = same_space k (space_of_import i.desc)
 
 -- the places in the import section of the imports of one kind, which come first in that kind's index space
 abbrev pub imports_of : Space → Module → List ℕ
@@ -110,7 +93,7 @@ joined parts i =
 -- the import that an entity is, or none where its part defines it
 abbrev pub imported_as : List Part → Entity → Option Site
 imported_as parts e =
-    module_at parts e.part >>= λ m. slice_get (imports_of (kind_of_export e.what) m) (index_of_export e.what) >>= λ n. Some (record { part = e.part; import = n })
+    module_at parts e.part >>= λ m. slice_get (imports_of (space_of_export e.what) m) (index_of_export e.what) >>= λ n. Some (record { part = e.part; import = n })
 
 -- ---- where an import ends ----
 

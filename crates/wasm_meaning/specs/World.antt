@@ -28,10 +28,12 @@ use Rattle.wasm_tree.specs.declared.module.Module.{Module}
 use Rattle.wasm_num.specs.Operations.{W32, W64, wrapped}
 use Rattle.wasm_meaning.specs.Outcomes.{Outcome, Gives, overwrite, copies}
 use Rattle.wasm_meaning.specs.State.{Text, Pair, RefVal, FuncRef, Val, Num, Ref, Inst, Func, Code, Table, Memory, Global, Elem, Store, DropElem, DropData, SetTable, SetMemory}
-use Rattle.wasm_meaning.specs.Values.{same_ref, same_type, same_func_type, null_of, declared, ref_of, num_of}
+use Rattle.wasm_meaning.specs.Values.{null_of, declared, ref_of, num_of}
+use Rattle.wasm_tree.specs.SameTypes.{same_func_type, same_ref, same_type}
 use Rattle.wasm_meaning.specs.Control.{type_at}
 use Rattle.wasm_meaning.specs.Step.{changed, no_items}
-use Rattle.wasm_meaning.specs.Linking.{Part, Site, End, Defined, Outside, Entity, Read, module_at, import_at, imports_of, pair_of, kind_of_export, index_of_export, end_of, read_of, sites}
+use Rattle.wasm_meaning.specs.Linking.{Part, Site, End, Defined, Outside, Entity, Read, module_at, import_at, imports_of, pair_of, end_of, read_of, sites}
+use Rattle.wasm_tree.specs.Spaces.{index_of_export, space_of_export}
 use Rattle.wasm_meaning.specs.Environment.{Environment, Thing, FuncAt, TableAt, MemoryAt, GlobalAt, OwnKey, FuncKey, TableKey, MemoryKey, GlobalKey, Owned, owned_of, owned_at, own_funcs, own_tables, own_memories, own_globals, all_of}
 
 -- modules with names, whose imports are joined by name, and what the embedder may use: names, each with the entity for which it stands
@@ -78,7 +80,7 @@ defined_before k (part ∷ parts) (suc p) = defined_count k part.«module» + de
 abbrev pub base : Environment → List Part → Space → ℕ → ℕ
 base env parts k p = own_count k env + defined_before k parts p
 
--- the external value at an address; types and segments are none (section 4.2.11)
+-- the external value at an address; types and segments are none (section 4.2.13)
 abbrev pub thing_at : Space → ℕ → Option Thing
 thing_at Types a = None
 thing_at Functions a = Some (FuncAt a)
@@ -122,7 +124,7 @@ defined_addresses env parts k p m = numbers (base env parts k p) (defined_count 
 
 abbrev pub defined_thing : Environment → List Part → Entity → Option Thing
 defined_thing env parts e =
-    module_at parts e.part >>= λ m. let k = kind_of_export e.what in slice_get (defined_addresses env parts k e.part m) (index_of_export e.what - length (imports_of k m)) >>= thing_at k
+    module_at parts e.part >>= λ m. let k = space_of_export e.what in slice_get (defined_addresses env parts k e.part m) (index_of_export e.what - length (imports_of k m)) >>= thing_at k
 
 abbrev pub thing_of : Environment → List Part → End → Option Thing
 thing_of env parts (Defined e) = defined_thing env parts e

@@ -26,9 +26,11 @@ use Rattle.wasm_tree.specs.declared.module.DataMode.{DataMode}
 use Rattle.wasm_tree.specs.declared.module.DataMode.TheVariants as segment
 use Rattle.wasm_tree.specs.declared.module.DataSeg.{DataSeg}
 use Rattle.wasm_tree.specs.declared.module.Module.{Module}
+use Rattle.wasm_tree.specs.Operands.{any_pass_step}
+use Rattle.wasm_tree.specs.DataUse.{names_data}
 use Rattle.wasm_bytes.specs.Writing.{u32_text, unsigned_text, signed_text}
 use Rattle.wasm_plain.specs.PlainValues.{ref_code, val_code, func_type_text, limits_text, table_text, global_type_text, global_text, block_type_text, const_text, import_text, import_desc_text, export_text, export_desc_text, is_func, func_of, is_funcref, index_items, const_items, elem_text, data_text}
-use Rattle.wasm_plain.specs.PlainCode.{un_code, bin_code, load_code, store_code, group_text, instr_step, data_step, instrs_text, entry_text}
+use Rattle.wasm_plain.specs.PlainCode.{un_code, bin_code, load_code, store_code, group_text, instr_step, instrs_text, entry_text}
 use Rattle.wasm_plain.specs.Plain.{plain}
 
 -- ---- what is spelled ----
@@ -69,7 +71,7 @@ a_module_without_parts = refl
 a_function_that_is_exported : plain (record empty { types = record { params = []; results = valt.I32 ∷ [] } ∷ []; funcs = func 0 (num 5 ∷ []) ∷ []; exports = record { name = 0x66 ∷ []; desc = export.Func 0 } ∷ [] }) ≡
     0x00 ∷ 0x61 ∷ 0x73 ∷ 0x6D ∷ 0x01 ∷ 0x00 ∷ 0x00 ∷ 0x00 ∷ 0x01 ∷ 0x05 ∷ 0x01 ∷ 0x60 ∷ 0x00 ∷ 0x01 ∷ 0x7F ∷ 0x03 ∷ 0x02 ∷ 0x01 ∷ 0x00 ∷ 0x07 ∷ 0x05 ∷ 0x01 ∷ 0x01 ∷ 0x66 ∷ 0x00 ∷ 0x00 ∷ 0x0A ∷ 0x06 ∷ 0x01 ∷ 0x04 ∷ 0x00 ∷ 0x41 ∷ 0x05 ∷ 0x0B ∷ []
 unfolding plain func_type_text val_code export_text export_desc_text entry_text unsigned_text signed_text out-Instr denote.Hole.Carrier.out
-a_function_that_is_exported = simp (fold_out-Instr (List ℕ) instr_step, fold_out-Instr Bool data_step) refl
+a_function_that_is_exported = simp (fold_out-Instr (List ℕ) instr_step, fold_out-Instr Bool (any_pass_step names_data)) refl
 
 -- types, imports, a table, a memory, globals, an export and a start, in the order of the sections
 what_is_not_code : plain (record empty {
@@ -88,17 +90,17 @@ what_is_not_code = refl
 a_count_where_a_body_has_memory_init : plain (with_data (num 0 ∷ num 0 ∷ num 2 ∷ i.MemoryInit 0 0 ∷ [])) ≡
     0x00 ∷ 0x61 ∷ 0x73 ∷ 0x6D ∷ 0x01 ∷ 0x00 ∷ 0x00 ∷ 0x00 ∷ 0x01 ∷ 0x04 ∷ 0x01 ∷ 0x60 ∷ 0x00 ∷ 0x00 ∷ 0x03 ∷ 0x02 ∷ 0x01 ∷ 0x00 ∷ 0x0C ∷ 0x01 ∷ 0x01 ∷ 0x0A ∷ 0x0E ∷ 0x01 ∷ 0x0C ∷ 0x00 ∷ 0x41 ∷ 0x00 ∷ 0x41 ∷ 0x00 ∷ 0x41 ∷ 0x02 ∷ 0xFC ∷ 0x08 ∷ 0x00 ∷ 0x00 ∷ 0x0B ∷ 0x0B ∷ 0x05 ∷ 0x01 ∷ 0x01 ∷ 0x02 ∷ 0x68 ∷ 0x69 ∷ []
 unfolding plain func_type_text entry_text data_text unsigned_text signed_text out-Instr denote.Hole.Carrier.out
-a_count_where_a_body_has_memory_init = simp (fold_out-Instr (List ℕ) instr_step, fold_out-Instr Bool data_step) refl
+a_count_where_a_body_has_memory_init = simp (fold_out-Instr (List ℕ) instr_step, fold_out-Instr Bool (any_pass_step names_data)) refl
 
 a_count_where_a_block_has_data_drop : plain (with_data (i.Block bt.Empty (i.DataDrop 0 ∷ []) ∷ [])) ≡
     0x00 ∷ 0x61 ∷ 0x73 ∷ 0x6D ∷ 0x01 ∷ 0x00 ∷ 0x00 ∷ 0x00 ∷ 0x01 ∷ 0x04 ∷ 0x01 ∷ 0x60 ∷ 0x00 ∷ 0x00 ∷ 0x03 ∷ 0x02 ∷ 0x01 ∷ 0x00 ∷ 0x0C ∷ 0x01 ∷ 0x01 ∷ 0x0A ∷ 0x0A ∷ 0x01 ∷ 0x08 ∷ 0x00 ∷ 0x02 ∷ 0x40 ∷ 0xFC ∷ 0x09 ∷ 0x00 ∷ 0x0B ∷ 0x0B ∷ 0x0B ∷ 0x05 ∷ 0x01 ∷ 0x01 ∷ 0x02 ∷ 0x68 ∷ 0x69 ∷ []
 unfolding plain func_type_text entry_text data_text block_type_text unsigned_text signed_text
-a_count_where_a_block_has_data_drop = simp (fold_out-Instr (List ℕ) instr_step, fold_out-Instr Bool data_step, i.outs-Block, i.outs-DataDrop) refl
+a_count_where_a_block_has_data_drop = simp (fold_out-Instr (List ℕ) instr_step, fold_out-Instr Bool (any_pass_step names_data), i.outs-Block, i.outs-DataDrop) refl
 
 no_count_where_a_body_drops_elements : plain (with_data (i.ElemDrop 0 ∷ [])) ≡
     0x00 ∷ 0x61 ∷ 0x73 ∷ 0x6D ∷ 0x01 ∷ 0x00 ∷ 0x00 ∷ 0x00 ∷ 0x01 ∷ 0x04 ∷ 0x01 ∷ 0x60 ∷ 0x00 ∷ 0x00 ∷ 0x03 ∷ 0x02 ∷ 0x01 ∷ 0x00 ∷ 0x0A ∷ 0x07 ∷ 0x01 ∷ 0x05 ∷ 0x00 ∷ 0xFC ∷ 0x0D ∷ 0x00 ∷ 0x0B ∷ 0x0B ∷ 0x05 ∷ 0x01 ∷ 0x01 ∷ 0x02 ∷ 0x68 ∷ 0x69 ∷ []
 unfolding plain func_type_text entry_text data_text unsigned_text signed_text out-Instr denote.Hole.Carrier.out
-no_count_where_a_body_drops_elements = simp (fold_out-Instr (List ℕ) instr_step, fold_out-Instr Bool data_step) refl
+no_count_where_a_body_drops_elements = simp (fold_out-Instr (List ℕ) instr_step, fold_out-Instr Bool (any_pass_step names_data)) refl
 
 -- ---- numbers ----
 

@@ -4,8 +4,9 @@ use Rattle.std.specs.Prelude.{ℕ, List, [], ◌∷◌, ◌++◌, length, Option
 use Rattle.wasm_bytes.specs.Writing.{u32_text, sized_text}
 use Rattle.wasm_bytes.specs.Frames.{header}
 use Rattle.wasm_tree.specs.declared.module.Module.{Module}
+use Rattle.wasm_tree.specs.DataUse.{any_uses_data}
 use Rattle.wasm_plain.specs.PlainValues.{vector_text, func_type_text, import_text, table_text, limits_text, global_text, export_text, elem_text, data_text}
-use Rattle.wasm_plain.specs.PlainCode.{entry_text, any_uses_data}
+use Rattle.wasm_plain.specs.PlainCode.{entry_text}
 
 -- an id, and a content after its length
 abbrev pub section_text : ℕ → List ℕ → List ℕ

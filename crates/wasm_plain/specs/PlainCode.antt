@@ -1,5 +1,5 @@
 -- The plain spelling of bodies and code entries (Core 2.0, 5.4 and 5.5.13).
-use Rattle.std.specs.Prelude.{ℕ, ◌+◌, List, [], ◌∷◌, ◌++◌, map, Bool, true, false, ◌||◌, ◌==◌, if◌then◌else◌}
+use Rattle.std.specs.Prelude.{ℕ, ◌+◌, List, [], ◌∷◌, ◌++◌, map, ◌==◌, if◌then◌else◌}
 use Rattle.wasm_bytes.specs.Writing.{u32_text, s32_text, s64_text, sized_text}
 use Rattle.wasm_num.specs.declared.UnOp.{UnOp}
 use Rattle.wasm_num.specs.declared.UnOp.TheVariants as un
@@ -187,27 +187,3 @@ code_text f = vector_text group_text f.locals ++ body_text f.body
 
 unfoldable pub entry_text : Func → List ℕ
 entry_text f = sized_text (code_text f)
-
--- ---- what bodies use
-
-abbrev pub any_true : List Bool → Bool
-any_true [] = false
-any_true (b ∷ bs) = b || any_true bs
-
--- whether memory.init or data.drop stands in it
-abbrev pub data_step : Instr-F Bool → Bool
-data_step (Instr-F.Block ty body) = any_true body
-data_step (Instr-F.Loop ty body) = any_true body
-data_step (Instr-F.If ty body other) = any_true body || any_true other
-data_step (Instr-F.MemoryInit segment memory) = true
-data_step (Instr-F.DataDrop segment) = true
-data_step _ = false
-
-abbrev pub uses_data_in : Instr → Bool
-uses_data_in = fold-Instr Bool data_step
-
-abbrev pub uses_data : List Instr → Bool
-uses_data is = any_true (map uses_data_in is)
-
-abbrev pub any_uses_data : List Func → Bool
-any_uses_data fs = any_true (map (λ f. uses_data f.body) fs)

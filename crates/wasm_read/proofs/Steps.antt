@@ -1,13 +1,10 @@
--- Steps of the loops over frames, instructions and functions.
+-- Steps of the loops over frames and functions.
 use Rattle.std.proofs.Common.{◌≡◌, ℕ, zero, suc, ◌+◌, ◌<◌, ◌≤◌, List, [], ◌∷◌, length, drop, set, get_or, slice_get, slice_index, Bool, true, false, Result, Ok, Some, refl, sym, ap, ◌∙◌, subst, arith, add-one}
-use Rattle.std.specs.Prelude.{◌||◌}
 use Rattle.wasm_bytes.specs.declared.framing.Frame.{Frame as Place}
 use Rattle.wasm_bytes.specs.FrameViews.{framed, framed_all}
-use Rattle.wasm_tree.specs.declared.instr.Instr.{Instr}
 use Rattle.wasm_tree.specs.declared.module.Func.{Func}
 use Rattle.wasm_format.specs.declared.fault.ReadFault.{ReadFault}
 use Rattle.wasm_format.specs.declared.parts.Parts.{Parts}
-use Rattle.wasm_format.specs.Bodies.{uses_data_in, uses_data, any_uses_data}
 use Rattle.wasm_format.specs.Contents.{Fails, section_at, contents_at}
 use Rattle.wasm_format.specs.Files.{typed}
 use Rattle.wasm_format.proofs.Loops.{fails_in_through}
@@ -39,26 +36,6 @@ module _ (many : Bool) (bytes : List ℕ) (fs : List Place) (whole : Result Part
   pub contents_end : (i : ℕ) (p : Parts) → length fs ≤ i → whole ≡ contents_at many i p (framed_all bytes (drop i fs)) → whole ≡ Ok p
   unfolding contents_at
   contents_end i p le h = h ∙ rw (drop_none fs i le)
-
--- ---- what bodies use
-
-pub uses_more : (is : List Instr) (i : ℕ) (x : Instr) → i < length is → x ≡ get_or is i x → uses_data_in x ≡ false → uses_data (drop i is) ≡ uses_data (drop (i + 1) is)
-uses_more is i x lt at clean = ap uses_data (drop_some is i x lt) ∙ ap (λ b. b || uses_data (drop (i + 1) is)) (ap uses_data_in (sym at) ∙ clean)
-
-pub uses_here : (is : List Instr) (i : ℕ) (x : Instr) → i < length is → x ≡ get_or is i x → uses_data_in x ≡ true → uses_data (drop i is) ≡ true
-uses_here is i x lt at used = ap uses_data (drop_some is i x lt) ∙ ap (λ b. b || uses_data (drop (i + 1) is)) (ap uses_data_in (sym at) ∙ used)
-
-pub uses_end : (is : List Instr) (i : ℕ) → length is ≤ i → uses_data (drop i is) ≡ false
-uses_end is i le = ap uses_data (drop_none is i le)
-
-pub any_more : (fs : List Func) (i : ℕ) (x : Func) → i < length fs → x ≡ get_or fs i x → uses_data x.body ≡ false → any_uses_data (drop i fs) ≡ any_uses_data (drop (i + 1) fs)
-any_more fs i x lt at clean = ap any_uses_data (drop_some fs i x lt) ∙ ap (λ b. b || any_uses_data (drop (i + 1) fs)) (ap (λ f. uses_data f.body) (sym at) ∙ clean)
-
-pub any_here : (fs : List Func) (i : ℕ) (x : Func) → i < length fs → x ≡ get_or fs i x → uses_data x.body ≡ true → any_uses_data (drop i fs) ≡ true
-any_here fs i x lt at used = ap any_uses_data (drop_some fs i x lt) ∙ ap (λ b. b || any_uses_data (drop (i + 1) fs)) (ap (λ f. uses_data f.body) (sym at) ∙ used)
-
-pub any_end : (fs : List Func) (i : ℕ) → length fs ≤ i → any_uses_data (drop i fs) ≡ false
-any_end fs i le = ap any_uses_data (drop_none fs i le)
 
 -- ---- types of functions
 

@@ -1,4 +1,6 @@
 ghost use Rattle.std.specs.Prelude.{◌≡◌, ◌<◌, ◌≤◌, ◌+◌, ◌^◌, length, OnOk, IfOk};
+ghost use Rattle.wasm_tree.specs.Limits.{limit};
+ghost use Rattle.wasm_tree.specs.declared.which.Which.TheVariants.{Imports};
 ghost use Rattle.wasm_format.specs.Reading.{each_from};
 ghost use Rattle.wasm_format.specs.Contents.{placed, Gives, GivesAll, entry_at, next_func, codes_at};
 
@@ -6,7 +8,7 @@ use std::alloc::Global;
 use wasm_bytes::{Cursor, Items};
 use wasm_format::{Fault, ReadFault};
 use wasm_items::{read_code, read_sized};
-use wasm_tree::{Func, Instr, Which};
+use wasm_tree::{Func, Instr, MOST_FUNCTIONS, Which};
 
 /// The fault of a section, or of a function's entry in it.
 pub fn place(section: u32, func: Option<u32>, fault: Fault) -> ReadFault
@@ -81,7 +83,7 @@ pub fn read_codes(
     section: u32,
     first: u32,
 ) -> Result<Items<Func>, ReadFault>
-    requires { first ≤ 1000000 }
+    requires { first ≤ limit Imports }
     ensures { GivesAll result (codes_at many section first content.now) }
 {
     let mut cursor = Cursor::new(content);
@@ -89,7 +91,7 @@ pub fn read_codes(
         Ok(count) => count,
         Err(_) => return Err(ReadFault::Malformed { section }),
     };
-    if count > 1_000_000 {
+    if count > MOST_FUNCTIONS {
         return Err(ReadFault::Limit {
             which: Which::Functions,
         });

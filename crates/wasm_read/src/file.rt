@@ -13,7 +13,9 @@ use crate::rules::{agree, set_types};
 use crate::sections::read_section;
 use std::alloc::Global;
 use wasm_bytes::{Frame, FrameFault, Items, frames};
-use wasm_format::{Parts, ReadFault};
+use wasm_format::{
+    Parts, ReadFault, spelled_bodies_name_memory_zero, spelled_trees_are_bounded,
+};
 use wasm_tree::Module;
 
 /// The frames of the file, or the fault where they have one.
@@ -125,5 +127,7 @@ pub fn read(alloc: Global, bytes: &[u8]) -> Result<Module, ReadFault>
     ensures bounded { IfOk result (λ m. IsBounded m) }
     ensures memory { IfOk result (λ m. IsTrue (memory_zero_funcs m.funcs)) }
 {
+    spelled_trees_are_bounded();
+    spelled_bodies_name_memory_zero();
     read_file(alloc, bytes, false)
 }

@@ -1,5 +1,7 @@
 ghost use Rattle.std.specs.Prelude.{◌≡◌, ◌≤◌, length, OnOk};
 ghost use Rattle.wasm_tree.specs.Spaces.{imported_funcs};
+ghost use Rattle.wasm_tree.specs.Limits.{limit};
+ghost use Rattle.wasm_tree.specs.declared.which.Which.TheVariants.{Imports};
 ghost use Rattle.wasm_format.specs.Reading.{GivesAll as GivesWhole, whole_at, u32_at};
 ghost use Rattle.wasm_format.specs.Contents.{GivesAfter, custom_at, section_at};
 
@@ -35,11 +37,11 @@ fn read_number(content: &[u8]) -> Result<u32, Fault>
 }
 
 /// How many functions are imported.
-#[tactic(auto, using(wasm_tree::proofs::Places::filter_map_most))]
+#[tactic(auto, using(base_lists::proofs::Found::filter_map_most))]
 fn imported_funcs(imports: &[Import]) -> u32
-    requires { length imports.now ≤ 1000000 }
+    requires { length imports.now ≤ limit Imports }
     ensures value { result ≡ length (imported_funcs imports.now) }
-    ensures few { result ≤ 1000000 }
+    ensures few { result ≤ limit Imports }
 {
     let count = imports
         .iter()
@@ -58,58 +60,58 @@ pub fn read_section(
     id: u8,
     content: &[u8],
 ) -> Result<(), ReadFault>
-    requires { length parts.old.imports ≤ 1000000 }
+    requires { length parts.old.imports ≤ limit Imports }
     ensures gives { GivesAfter result parts.new (section_at many section parts.old (id, content.now)) }
-    ensures few { OnOk result (length parts.new.imports ≤ 1000000) }
+    ensures few { OnOk result (length parts.new.imports ≤ limit Imports) }
 {
     match id {
         0 => match read_custom(content) {
             Ok(()) => Ok(()),
             Err(fault) => Err(place(section, None, fault)),
         },
-        1 => match read_whole(alloc, content, Which::Types, 1_000_000) {
+        1 => match read_whole(alloc, content, Which::Types) {
             Ok(types) => {
                 parts.types = types;
                 Ok(())
             }
             Err(fault) => Err(place(section, None, fault)),
         },
-        2 => match read_whole(alloc, content, Which::Imports, 1_000_000) {
+        2 => match read_whole(alloc, content, Which::Imports) {
             Ok(imports) => {
                 parts.imports = imports;
                 Ok(())
             }
             Err(fault) => Err(place(section, None, fault)),
         },
-        3 => match read_whole(alloc, content, Which::Functions, 1_000_000) {
+        3 => match read_whole(alloc, content, Which::Functions) {
             Ok(func_types) => {
                 parts.func_types = func_types;
                 Ok(())
             }
             Err(fault) => Err(place(section, None, fault)),
         },
-        4 => match read_whole(alloc, content, Which::Tables, 10_000) {
+        4 => match read_whole(alloc, content, Which::Tables) {
             Ok(tables) => {
                 parts.tables = tables;
                 Ok(())
             }
             Err(fault) => Err(place(section, None, fault)),
         },
-        5 => match read_whole(alloc, content, Which::Memories, 10_000) {
+        5 => match read_whole(alloc, content, Which::Memories) {
             Ok(mems) => {
                 parts.mems = mems;
                 Ok(())
             }
             Err(fault) => Err(place(section, None, fault)),
         },
-        6 => match read_whole(alloc, content, Which::Globals, 1_000_000) {
+        6 => match read_whole(alloc, content, Which::Globals) {
             Ok(globals) => {
                 parts.globals = globals;
                 Ok(())
             }
             Err(fault) => Err(place(section, None, fault)),
         },
-        7 => match read_whole(alloc, content, Which::Exports, 1_000_000) {
+        7 => match read_whole(alloc, content, Which::Exports) {
             Ok(exports) => {
                 parts.exports = exports;
                 Ok(())
@@ -123,7 +125,7 @@ pub fn read_section(
             }
             Err(fault) => Err(place(section, None, fault)),
         },
-        9 => match read_whole(alloc, content, Which::ElementSegments, 300_000) {
+        9 => match read_whole(alloc, content, Which::ElementSegments) {
             Ok(elems) => {
                 parts.elems = elems;
                 Ok(())
@@ -136,7 +138,7 @@ pub fn read_section(
             parts.codes = codes;
             Ok(())
         }
-        11 => match read_whole(alloc, content, Which::DataSegments, 300_000) {
+        11 => match read_whole(alloc, content, Which::DataSegments) {
             Ok(datas) => {
                 parts.datas = datas;
                 Ok(())

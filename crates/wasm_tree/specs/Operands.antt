@@ -27,7 +27,7 @@ same_space _ _ = false
 
 -- ---- what an instruction names ----
 
--- an index of a space, named by anything but a call
+-- an index of a space, named by anything but a `call`
 abbrev pub named : Space → ℕ → Operand
 named space index = record { space = space; index = index; called = false }
 

@@ -7,8 +7,32 @@ use Rattle.wasm_tree.specs.declared.types.TableType.{TableType}
 use Rattle.wasm_tree.specs.declared.types.GlobalType.{GlobalType}
 use Rattle.wasm_tree.specs.declared.module.ImportDesc.{ImportDesc}
 use Rattle.wasm_tree.specs.declared.module.ImportDesc.TheVariants.{Func, Table, Memory, Global}
+use Rattle.wasm_tree.specs.declared.module.ExportDesc.{ExportDesc}
+use Rattle.wasm_tree.specs.declared.module.ExportDesc.TheVariants as export
+use Rattle.wasm_tree.specs.declared.space.Space.{Space}
+use Rattle.wasm_tree.specs.declared.space.Space.TheVariants.{Functions, Tables, Memories, Globals}
 use Rattle.wasm_tree.specs.declared.module.Import.{Import}
 use Rattle.wasm_tree.specs.declared.module.Module.{Module}
+
+-- the index space to which an import adds, and the one of which an export names an entry
+abbrev pub space_of_import : ImportDesc → Space
+space_of_import (Func ty) = Functions
+space_of_import (Table ty) = Tables
+space_of_import (Memory limits) = Memories
+space_of_import (Global ty) = Globals
+
+abbrev pub space_of_export : ExportDesc → Space
+space_of_export (export.Func i) = Functions
+space_of_export (export.Table i) = Tables
+space_of_export (export.Memory i) = Memories
+space_of_export (export.Global i) = Globals
+
+-- the entry that an export names
+abbrev pub index_of_export : ExportDesc → ℕ
+index_of_export (export.Func i) = i
+index_of_export (export.Table i) = i
+index_of_export (export.Memory i) = i
+index_of_export (export.Global i) = i
 
 -- what an import adds to each of the four spaces: a function its place in the types, the others their type
 abbrev pub func_of : ImportDesc → Option ℕ

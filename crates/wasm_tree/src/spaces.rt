@@ -1,7 +1,11 @@
 // The index spaces of a module: what is imported, in order, and then what is defined (WebAssembly Core 2.0, section 2.5.1).
 
 ghost use Rattle.std.specs.Prelude.{◌≡◌, ◌<◌, ◌≤◌, ◌^◌, ◌↔◌, ◌⊎◌, ℕ, Some, length, IsNone, option_copied, slice_get};
+ghost use Rattle.wasm_tree.specs.Operands.{same_space};
 ghost use Rattle.wasm_tree.specs.Spaces.{
+  space_of_import,
+  space_of_export,
+  index_of_export,
   func_of,
   table_of,
   memory_of,
@@ -17,10 +21,35 @@ ghost use Rattle.wasm_tree.specs.Spaces.{
   type_of_func,
 };
 
-use crate::module::{ImportDesc, Module};
+use crate::module::{ExportDesc, ImportDesc, Module};
+use crate::space::Space;
 use crate::types::{FuncType, GlobalType, Limits, TableType};
 
 impl ImportDesc {
+    /// The index space to which the import adds.
+    pub fn space(&self) -> Space
+        ensures { result ≡ space_of_import self.now }
+    {
+        match self {
+            ImportDesc::Func(_) => Space::Functions,
+            ImportDesc::Table(_) => Space::Tables,
+            ImportDesc::Memory(_) => Space::Memories,
+            ImportDesc::Global(_) => Space::Globals,
+        }
+    }
+
+    /// Whether the import adds to this index space.
+    pub fn is_in(&self, space: Space) -> bool
+        ensures { result ≡ same_space space (space_of_import self.now) }
+    {
+        match self {
+            ImportDesc::Func(_) => space == Space::Functions,
+            ImportDesc::Table(_) => space == Space::Tables,
+            ImportDesc::Memory(_) => space == Space::Memories,
+            ImportDesc::Global(_) => space == Space::Globals,
+        }
+    }
+
     /// A function's place in the types; None for another kind.
     pub fn func(&self) -> Option<u32>
         ensures { result ≡ func_of self.now }
@@ -62,9 +91,35 @@ impl ImportDesc {
     }
 }
 
+impl ExportDesc {
+    /// The index space of what is exported.
+    pub fn space(&self) -> Space
+        ensures { result ≡ space_of_export self.now }
+    {
+        match self {
+            ExportDesc::Func(_) => Space::Functions,
+            ExportDesc::Table(_) => Space::Tables,
+            ExportDesc::Memory(_) => Space::Memories,
+            ExportDesc::Global(_) => Space::Globals,
+        }
+    }
+
+    /// The index of what is exported in its index space.
+    pub fn index(&self) -> u32
+        ensures { result ≡ index_of_export self.now }
+    {
+        match self {
+            ExportDesc::Func(index)
+            | ExportDesc::Table(index)
+            | ExportDesc::Memory(index)
+            | ExportDesc::Global(index) => *index,
+        }
+    }
+}
+
 impl Module {
     /// How many functions the module imports.
-    #[tactic(auto, using(crate::proofs::Places::filter_map_most))]
+    #[tactic(auto, using(base_lists::proofs::Found::filter_map_most))]
     pub fn imported_funcs(&self) -> usize
         ensures value { result ≡ length (imported_funcs self.now.imports) }
         // so that it can be added to the number of those defined
@@ -75,7 +130,7 @@ impl Module {
     }
 
     /// How many tables the module imports.
-    #[tactic(auto, using(crate::proofs::Places::filter_map_most))]
+    #[tactic(auto, using(base_lists::proofs::Found::filter_map_most))]
     pub fn imported_tables(&self) -> usize
         ensures value { result ≡ length (imported_tables self.now.imports) }
         // so that it can be added to the number of those defined
@@ -86,7 +141,7 @@ impl Module {
     }
 
     /// How many memories the module imports.
-    #[tactic(auto, using(crate::proofs::Places::filter_map_most))]
+    #[tactic(auto, using(base_lists::proofs::Found::filter_map_most))]
     pub fn imported_memories(&self) -> usize
         ensures value { result ≡ length (imported_memories self.now.imports) }
         // so that it can be added to the number of those defined
@@ -97,7 +152,7 @@ impl Module {
     }
 
     /// How many globals the module imports.
-    #[tactic(auto, using(crate::proofs::Places::filter_map_most))]
+    #[tactic(auto, using(base_lists::proofs::Found::filter_map_most))]
     pub fn imported_globals(&self) -> usize
         ensures value { result ≡ length (imported_globals self.now.imports) }
         // so that it can be added to the number of those defined

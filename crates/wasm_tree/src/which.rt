@@ -38,7 +38,7 @@ pub const MOST_TRAMPOLINES: u32 = 4_000_000;
 /// The most bytes of one output, a name section not counted.
 pub const MOST_OUTPUT_BYTES: u32 = 268_435_456;
 
-/// A quantity that has a limit, in an input file or in an output.
+/// A quantity that has a limit. What a module may have, it may have in an input file and in an output.
 #[derive(Clone, Copy, Debug, PartialEq, Eq)]
 pub enum Which {
     InputBytes,

@@ -1,10 +1,9 @@
 -- Steps of a loop that writes, measures or tests one item at a time.
 use Rattle.std.proofs.Common.{◌≡◌, ℕ, zero, suc, ◌+◌, ◌<◌, ◌≤◌, List, [], ◌∷◌, ◌++◌, Bool, true, false, true≢false, ◌&&◌, ◌||◌, map, take, get_or, Result, Ok, Err, OnErr, length, length-append, append_assoc, append-nil, refl, sym, ap, ◌∙◌, arith}
 use Rattle.std.proofs.lemmas.List.{take_more}
-use Rattle.wasm_bytes.proofs.Walk.{mapped_more}
+use Rattle.base_lists.proofs.Walk.{mapped_more}
 use Rattle.wasm_plain.specs.PlainValues.{joined, each_text, is_func, all_funcs}
 use Rattle.wasm_tree.specs.declared.module.ConstExpr.{ConstExpr}
-use Rattle.wasm_plain.specs.PlainCode.{any_true}
 
 joined_push : (ts : List (List ℕ)) (t : List ℕ) → joined (ts ++ t ∷ []) ≡ joined ts ++ t
 joined_push [] t = append-nil t
@@ -35,16 +34,6 @@ pub measured_stop : {A : Type 0} (f : A → List ℕ) (xs : List A) (i : ℕ) (x
 measured_stop f xs i x first old lt is a b =
     let h = front_length f xs (i + 1) in omega (arith, h, a, b, ap length (joined_more f xs i x lt is), length-append (each_text f (take i xs)) (f x))
 
-or_true : (b : Bool) → b || true ≡ true
-or_true true = refl
-or_true false = refl
-
--- one of the items passes
-pub any_found : {A : Type 0} (f : A → Bool) (xs : List A) (i : ℕ) (x : A) → i < length xs → x ≡ get_or xs i x → f x ≡ true → any_true (map f xs) ≡ true
-any_found f [] i x lt is h = absurd (omega arith)
-any_found f (y ∷ ys) zero x lt is h = let e : f y ≡ true = ap f (sym is) ∙ h in rw e
-any_found f (y ∷ ys) (suc i) x lt is h = let r = any_found f ys i x (omega arith) is h in rw r (or_true (f y))
-
 -- what holds anyway
 pub on_err : {T E : Type 0} (r : Result T E) (P : Type 0) → P → OnErr r P
 on_err (Ok x) P p = tt
@@ -59,15 +48,6 @@ pub all_lost : (xs : List ConstExpr) (i : ℕ) (x : ConstExpr) → i < length xs
 all_lost [] i x lt is h = absurd (omega arith)
 all_lost (y ∷ ys) zero x lt is h = let e : is_func y ≡ false = ap is_func (sym is) ∙ h in rw e
 all_lost (y ∷ ys) (suc i) x lt is h = let r = all_lost ys i x (omega arith) is h in rw r (and_false (is_func y))
-
-any_push : (bs : List Bool) (b : Bool) → any_true bs ≡ false → b ≡ false → any_true (bs ++ b ∷ []) ≡ false
-any_push [] b h k = rw k
-any_push (true ∷ bs) b h k = h
-any_push (false ∷ bs) b h k = any_push bs b h k
-
--- one more item does not pass
-pub any_none : {A : Type 0} (f : A → Bool) (xs : List A) (i : ℕ) (x : A) → i < length xs → x ≡ get_or xs i x → any_true (map f (take i xs)) ≡ false → f x ≡ false → any_true (map f (take (i + 1) xs)) ≡ false
-any_none f xs i x lt is h k = ap any_true (mapped_more f xs i x lt is) ∙ any_push (map f (take i xs)) (f x) h k
 
 -- an item that is there does not hang on what stands for one that is not
 pub get_or_any : {A : Type 0} (xs : List A) (i : ℕ) (d e : A) → i < length xs → get_or xs i d ≡ get_or xs i e

@@ -4,7 +4,6 @@
 ghost use Rattle.std.specs.Prelude.{◌≡◌, ◌≤◌, length, IfOk, IsTrue, ◌↔◌};
 ghost use Rattle.wasm_plain.specs.Plain.{plain};
 
-mod data_use;
 mod fit_code;
 mod opcodes;
 mod plain;

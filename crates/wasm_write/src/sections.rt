@@ -4,14 +4,13 @@ ghost use Rattle.wasm_plain.specs.PlainValues.{each_text, vector_text, func_type
 ghost use Rattle.wasm_plain.specs.PlainCode.{group_text, code_text, entry_text};
 ghost use Rattle.wasm_plain.specs.Plain.{section_text, list_section, start_section, count_section, plain};
 
-use crate::data_use::any_uses_data;
 use crate::fit_code::fit_instrs;
 use crate::plain::{Plain, fit_vector, put_number, put_sized, put_vector};
 use crate::put_code::put_instrs;
 use crate::room::{Room, TooLong};
 use std::alloc::Global;
 use wasm_bytes::{NoMemory, Out};
-use wasm_tree::{Func, LocalGroup, Module};
+use wasm_tree::{Func, LocalGroup, Module, any_uses_data};
 
 /// The magic number and the version (WebAssembly Core 2.0, section 5.5.16).
 const HEADER: [u8; 8] = [0x00, 0x61, 0x73, 0x6D, 0x01, 0x00, 0x00, 0x00];

@@ -20,7 +20,6 @@ use Rattle.permuted_worlds.specs.Owned.{OwnEntitiesCorrespond}
 use Rattle.merge_validity.proofs.Same.{func_type_is}
 use Rattle.permuted_worlds.specs.Silent.{BudgetedTurnsShowTheSame}
 use Rattle.worlds_in_turn.specs.Laws.{TurnsAreNotSeen}
-use Rattle.worlds_in_turn.proofs.Things.{then_is, some_is}
 use Rattle.worlds_in_turn.proofs.Making.{nothing_to_nothing}
 use Rattle.worlds_in_turn.proofs.Given.{IsGiven}
 use Rattle.worlds_in_turn.proofs.Started.{func_there}
@@ -29,13 +28,15 @@ use Rattle.worlds_in_turn.proofs.FillSegments.{FilledUpto, none_active}
 use Rattle.worlds_in_turn.proofs.FillGiven.{laid, store_same, sites_there}
 use Rattle.worlds_in_turn.proofs.FillValid.{valid_constants, valid_exports}
 use Rattle.worlds_in_turn.proofs.FillWorld.{fill_laws}
+use Rattle.base_lists.proofs.Options.{and_then_is}
+use Rattle.std.proofs.lemmas.Option.{same_Some}
 
 insts_size : (env : Environment) (all : List Part) (p : ℕ) (ps : List Part) (is : List Inst) → insts_from env all p ps ≡ Some is → length is ≡ length ps
-insts_size env all p [] is h = ap length (sym (some_is h))
+insts_size env all p [] is h = ap length (sym (same_Some _ _ h))
 insts_size env all p (part ∷ ps) is h =
-    let a = then_is (inst_of env all p part.«module») _ is h in
-    let b = then_is (insts_from env all (suc p) ps) _ is a.2 in
-    ap length (sym (some_is b.2)) ∙ ap suc (insts_size env all (suc p) ps b.0 b.1)
+    let a = and_then_is (inst_of env all p part.«module») _ is h in
+    let b = and_then_is (insts_from env all (suc p) ps) _ is a.2 in
+    ap length (sym (same_Some _ _ b.2)) ∙ ap suc (insts_size env all (suc p) ps b.0 b.1)
 
 -- a type with nothing on either side
 plain_type : (t : FuncType) → t.params ≡ [] → t.results ≡ [] → t ≡ nothing_to_nothing
@@ -54,14 +55,14 @@ record Instantiated (env : Environment) (w : World) (b : Begun) : Type 0 where
 
 instantiated : (env : Environment) (w : World) (b : Begun) → instantiate env w ≡ Some b → Instantiated env w b
 instantiated env w b h =
-    let i = then_is (insts_from env w.parts 0 w.parts) _ b h in
-    let s = then_is (stores_from env w.parts i.0 (own_store env) 0 w.parts i.0) _ b i.2 in
-    let v = then_is (all_there (seen_as i.0) w.view) _ b s.2 in
+    let i = and_then_is (insts_from env w.parts 0 w.parts) _ b h in
+    let s = and_then_is (stores_from env w.parts i.0 (own_store env) 0 w.parts i.0) _ b i.2 in
+    let v = and_then_is (all_there (seen_as i.0) w.view) _ b s.2 in
     go i.0 s.0 v.0 i.1 s.1 v.1 (all_of (is_matched env w.parts s.0) (sites w.parts)) refl v.2
   where
     go : (insts : List Inst) (allocated : Store) (view : List (Text × Thing)) → insts_from env w.parts 0 w.parts ≡ Some insts → stores_from env w.parts insts (own_store env) 0 w.parts insts ≡ Some allocated → all_there (seen_as insts) w.view ≡ Some view → (c : Bool) → all_of (is_matched env w.parts allocated) (sites w.parts) ≡ c →
         cond c (Some (begun env w insts view (segments env w.parts insts allocated))) None ≡ Some b → Instantiated env w b
-    go insts allocated view a s v true m e = record { insts = insts; allocated = allocated; view = view; are = a; stores_are = s; view_is = v; matched = m; is = some_is e }
+    go insts allocated view a s v true m e = record { insts = insts; allocated = allocated; view = view; are = a; stores_are = s; view_is = v; matched = m; is = same_Some _ _ e }
     go insts allocated view a s v false m e = cc
 
 module _ (items : (m : Module) → IsValid m ↔ ((k : ItemKind) (i : ℕ) → i < count_of m true k → HoldsAt m k i)) (below : BelowIsNotSeen) (itself : CodeIsRelatedToItself) (ticks : RelatedTicksAgree) (others : OthersStay) (own : OwnEntitiesCorrespond) (budget : BudgetedTurnsShowTheSame) where
@@ -69,7 +70,7 @@ module _ (items : (m : Module) → IsValid m ↔ ((k : ItemKind) (i : ℕ) → i
   start_type : (m : Module) (x : ℕ) → IsValid m → m.start ≡ Some x → type_of_func m x ≡ Some nothing_to_nothing
   start_type m x valid e =
       let h = (items m).0 valid kind.Start 0 (let c = ap start_count e in omega (arith, c)) in
-      let same : h.0 ≡ x = some_is (sym h.2 ∙ e) in
+      let same : h.0 ≡ x = same_Some _ _ (sym h.2 ∙ e) in
       ap (type_of_func m) (sym same) ∙ h.3 ∙ ap Some (plain_type h.1 h.4 h.5)
 
   pub turns_not_seen : TurnsAreNotSeen

@@ -17,7 +17,7 @@ use Rattle.index_remap.specs.Related as to
 use Rattle.index_remap.specs.Laws.{CodeIsRelatedToItself, RelatedTicksAgree, OthersStay}
 use Rattle.index_remap.proofs.Rel.{append_rel}
 use Rattle.permuted_worlds.specs.Owned.{OwnCorrespond}
-use Rattle.worlds_in_turn.proofs.Extends.{TableExtends, MemoryExtends, GlobalExtends, EachExtends, Extends, stays, append_length}
+use Rattle.worlds_in_turn.proofs.Extends.{TableExtends, MemoryExtends, GlobalExtends, EachExtends, Extends, stays}
 use Rattle.worlds_in_turn.proofs.Extends as extends
 use Rattle.worlds_in_turn.proofs.Joined.{made_upto}
 use Rattle.worlds_in_turn.proofs.Reached.{is_reached, reaching, shares_own}
@@ -27,6 +27,7 @@ use Rattle.worlds_in_turn.proofs.Beside.{at_low, at_high, both_list, Beside, sto
 use Rattle.worlds_in_turn.proofs.Filling.{own_fill, all_fill}
 use Rattle.worlds_in_turn.proofs.Given.{IsGiven, IsTurn, starts_from, filled_in, turned}
 use Rattle.worlds_in_turn.proofs.Waiting.{within, adds_closed, adds_sound}
+use Rattle.std.proofs.lemmas.List.{length-append}
 
 -- ---- joined stores ----
 
@@ -44,7 +45,7 @@ each_joined {A} P xs ys zs same size h a x e = go (cases_lt a (length xs))
         (x, ap (at (ys ++ zs)) (sym m) ∙ at_high ys zs j ∙ sym (at_high xs zs j) ∙ ap (at (xs ++ zs)) n ∙ e, same x)
 
 joined_length : {A : Type 0} (xs ys zs : List A) → length ys ≡ length xs → length (ys ++ zs) ≡ length (xs ++ zs)
-joined_length xs ys zs e = let a = append_length xs zs in let b = append_length ys zs in omega (arith, a, b, e)
+joined_length xs ys zs e = let a = length-append xs zs in let b = length-append ys zs in omega (arith, a, b, e)
 
 joined_extends : (s t u : Store) → Extends s t → Extends (joined_stores s u) (joined_stores t u)
 joined_extends s t u h = record {

@@ -14,9 +14,10 @@ use Rattle.wasm_meaning.specs.World.{own_store, base, joined_stores, part_store,
 use Rattle.index_remap.specs.Related.{Pairing, BothRel, both, ResRel, done, ListRel, nil, cons, FuncRel, TableRel, GlobalRel, ElemRel, StoreRel}
 use Rattle.index_remap.specs.Related as to
 use Rattle.index_remap.specs.Laws.{CodeIsRelatedToItself}
-use Rattle.worlds_in_turn.proofs.Reached.{count_upto, is_reached, reaching, reached_at, reached_is}
+use Rattle.worlds_in_turn.proofs.Reached.{count_upto, is_reached, reaching, reached_at, reached_is, defined_next}
 use Rattle.worlds_in_turn.proofs.Turn.{Sized}
 use Rattle.worlds_in_turn.proofs.Closed.{table_more, global_more, elem_more, Closed, Sound, own_func, code, Reaches, func_self}
+use Rattle.std.proofs.lemmas.List.{length-append}
 
 -- ---- lists by place ----
 
@@ -92,14 +93,14 @@ pub record Beside (env : Environment) (parts : List Part) (p : ℕ) (allocated t
   pub all_funcs : s.funcs ≡ allocated.funcs
   pub untouched : Untouched env parts p allocated s
 
-reaches_more : (env : Environment) (parts : List Part) (p q : ℕ) (i : Inst) → ((k : Rattle.wasm_meaning.specs.Linking.Kind) → base env parts k p ≤ base env parts k q) → defined_before ElementSegments parts p ≤ defined_before ElementSegments parts q → defined_before DataSegments parts p ≤ defined_before DataSegments parts q → Reaches env parts p i → Reaches env parts q i
+reaches_more : (env : Environment) (parts : List Part) (p q : ℕ) (i : Inst) → ((k : Space) → base env parts k p ≤ base env parts k q) → defined_before ElementSegments parts p ≤ defined_before ElementSegments parts q → defined_before DataSegments parts p ≤ defined_before DataSegments parts q → Reaches env parts p i → Reaches env parts q i
 reaches_more env parts p q i b e d r = record {
   spaces = λ k n a h. let l = r.spaces k n a h in let m = b k in omega (arith, l, m);
   elems = λ n a h. let l = r.elems n a h in omega (arith, l, e);
   datas = λ n a h. let l = r.datas n a h in omega (arith, l, d);
 }
 
-sound_more : (env : Environment) (parts : List Part) (p q : ℕ) (f : Func) → ((k : Rattle.wasm_meaning.specs.Linking.Kind) → base env parts k p ≤ base env parts k q) → defined_before ElementSegments parts p ≤ defined_before ElementSegments parts q → defined_before DataSegments parts p ≤ defined_before DataSegments parts q → Sound env parts p f → Sound env parts q f
+sound_more : (env : Environment) (parts : List Part) (p q : ℕ) (f : Func) → ((k : Space) → base env parts k p ≤ base env parts k q) → defined_before ElementSegments parts p ≤ defined_before ElementSegments parts q → defined_before DataSegments parts p ≤ defined_before DataSegments parts q → Sound env parts p f → Sound env parts q f
 sound_more env parts p q f b e d own_func = own_func
 sound_more env parts p q f b e d (code {i = i} r) = code (reaches_more env parts p q i b e d r)
 
@@ -130,8 +131,8 @@ stores_related env parts p t s f ta me g e d = record {
   tables = λ {a} {b} r. let x = reached_is env parts p Tables a b r in subst (λ b. BothRel (TableRel (reaching env parts p)) (at t.tables a) (at s.tables b)) x.0 (ta a x.1);
   mems = λ {a} {b} r. let x = reached_is env parts p Memories a b r in subst (λ b. BothRel (λ (x y : Memory). x ≡ y) (at t.mems a) (at s.mems b)) x.0 (me a x.1);
   globals = λ {a} {b} r. let x = reached_is env parts p Globals a b r in subst (λ b. BothRel (GlobalRel (reaching env parts p)) (at t.globals a) (at s.globals b)) x.0 (g a x.1);
-  elems = λ {a} {b} r. let x = reached_is env parts p ElementSegments a b r in subst (λ b. BothRel (ElemRel (reaching env parts p)) (at t.elems a) (at s.elems b)) x.0 (e a x.1);
-  datas = λ {a} {b} r. let x = reached_is env parts p DataSegments a b r in subst (λ b. BothRel (λ (x y : Data). x.bytes ≡ y.bytes) (at t.datas a) (at s.datas b)) x.0 (d a x.1);
+  elems = λ {a} {b} r. let x = reached_is env parts p ElementSegments a b r in subst (λ b. BothRel (ElemRel (reaching env parts p)) (at t.elems a) (at s.elems b)) x.0 (let l = x.1 in e a (omega (arith, l)));
+  datas = λ {a} {b} r. let x = reached_is env parts p DataSegments a b r in subst (λ b. BothRel (λ (x y : Data). x.bytes ≡ y.bytes) (at t.datas a) (at s.datas b)) x.0 (let l = x.1 in d a (omega (arith, l)));
 }
 
 both_more : {A B : Type 0} {P Q : A → B → Type 0} {o : Outcome A} {p : Outcome B} → ((a : A) (b : B) → P a b → Q a b) → BothRel P o p → BothRel Q o p
@@ -147,7 +148,7 @@ module _ (law : CodeIsRelatedToItself) (env : Environment) (parts : List Part) (
   next_sizes = subst (Sized env parts (suc p)) (laid.first_next p m is_part) (laid.first_sized (suc p) within)
 
   lengths : {A : Type 0} (xs ys : List A) {n k : ℕ} → length xs ≡ n → length (xs ++ ys) ≡ k → k ≡ n + length ys
-  lengths xs ys a b = let c = Rattle.worlds_in_turn.proofs.Extends.append_length xs ys in omega (arith, a, b, c)
+  lengths xs ys a b = let c = length-append xs ys in omega (arith, a, b, c)
 
   pub func_count : base env parts Functions (suc p) ≡ base env parts Functions p + length (laid.adds p).funcs
   func_count = lengths (laid.first p).funcs (laid.adds p).funcs sizes.funcs next_sizes.funcs
@@ -178,11 +179,8 @@ module _ (law : CodeIsRelatedToItself) (env : Environment) (parts : List Part) (
   tail : laid.rest p ≡ joined_stores (laid.adds p) (laid.rest (suc p))
   tail = laid.rest_next p m is_part
 
-  base_more : (k : Rattle.wasm_meaning.specs.Linking.Kind) → base env parts k p ≤ base env parts k (suc p)
-  base_more Functions = omega (arith, func_count)
-  base_more Tables = omega (arith, table_count)
-  base_more Memories = omega (arith, memory_count)
-  base_more Globals = omega (arith, global_count)
+  base_more : (k : Space) → base env parts k p ≤ base env parts k (suc p)
+  base_more k = let n = defined_next k parts p m is_part in omega (arith, n)
 
   elems_more : defined_before ElementSegments parts p ≤ defined_before ElementSegments parts (suc p)
   elems_more = omega (arith, elem_count)
@@ -191,12 +189,7 @@ module _ (law : CodeIsRelatedToItself) (env : Environment) (parts : List Part) (
   datas_more = omega (arith, data_count)
 
   pub count_more : (k : Space) → count_upto env parts p k ≤ count_upto env parts (suc p) k
-  count_more Functions = base_more Functions
-  count_more Tables = base_more Tables
-  count_more Memories = base_more Memories
-  count_more Globals = base_more Globals
-  count_more ElementSegments = elems_more
-  count_more DataSegments = datas_more
+  count_more k = base_more k
 
   pub more : (k : Space) (a b : ℕ) → is_reached env parts p k a b ≡ true → is_reached env parts (suc p) k a b ≡ true
   more k a b h =
@@ -242,9 +235,9 @@ module _ (law : CodeIsRelatedToItself) (env : Environment) (parts : List Part) (
           (λ j k. h.untouched.mems (base env parts Memories p + j) (omega arith) ∙ stands allocated.mems (laid.first p).mems (laid.adds p).mems (laid.rest p).mems (laid.rest (suc p)).mems (base env parts Memories p) (ap (λ s. s.mems) whole) (ap (λ s. s.mems) tail) sizes.mems j k) a (let c = memory_count in omega (arith, l, c)))
           (λ a l. joined_both (GlobalRel (reaching env parts (suc p))) t.globals (laid.adds p).globals s.globals (base env parts Globals p) h.sized.globals (λ a l. both_more (global_more (reaching env parts p) (reaching env parts (suc p)) more) (h.related.globals (reached_at env parts p Globals a l))) closed.globals
           (λ j k. h.untouched.globals (base env parts Globals p + j) (omega arith) ∙ stands allocated.globals (laid.first p).globals (laid.adds p).globals (laid.rest p).globals (laid.rest (suc p)).globals (base env parts Globals p) (ap (λ s. s.globals) whole) (ap (λ s. s.globals) tail) sizes.globals j k) a (let c = global_count in omega (arith, l, c)))
-          (λ a l. joined_both (ElemRel (reaching env parts (suc p))) t.elems (laid.adds p).elems s.elems (defined_before ElementSegments parts p) h.sized.elems (λ a l. both_more (elem_more (reaching env parts p) (reaching env parts (suc p)) more) (h.related.elems (reached_at env parts p ElementSegments a l))) closed.elems
+          (λ a l. joined_both (ElemRel (reaching env parts (suc p))) t.elems (laid.adds p).elems s.elems (defined_before ElementSegments parts p) h.sized.elems (λ a l. both_more (elem_more (reaching env parts p) (reaching env parts (suc p)) more) (h.related.elems (reached_at env parts p ElementSegments a (omega (arith, l))))) closed.elems
           (λ j k. h.untouched.elems (defined_before ElementSegments parts p + j) (omega arith) ∙ stands allocated.elems (laid.first p).elems (laid.adds p).elems (laid.rest p).elems (laid.rest (suc p)).elems (defined_before ElementSegments parts p) (ap (λ s. s.elems) whole) (ap (λ s. s.elems) tail) sizes.elems j k) a (let c = elem_count in omega (arith, l, c)))
-          (λ a l. joined_both (λ (x y : Data). x.bytes ≡ y.bytes) t.datas (laid.adds p).datas s.datas (defined_before DataSegments parts p) h.sized.datas (λ a l. h.related.datas (reached_at env parts p DataSegments a l)) (bytes_list (laid.adds p).datas)
+          (λ a l. joined_both (λ (x y : Data). x.bytes ≡ y.bytes) t.datas (laid.adds p).datas s.datas (defined_before DataSegments parts p) h.sized.datas (λ a l. h.related.datas (reached_at env parts p DataSegments a (omega (arith, l)))) (bytes_list (laid.adds p).datas)
           (λ j k. h.untouched.datas (defined_before DataSegments parts p + j) (omega arith) ∙ stands allocated.datas (laid.first p).datas (laid.adds p).datas (laid.rest p).datas (laid.rest (suc p)).datas (defined_before DataSegments parts p) (ap (λ s. s.datas) whole) (ap (λ s. s.datas) tail) sizes.datas j k) a (let c = data_count in omega (arith, l, c)));
       sized = record {
         funcs = grown t.funcs (laid.adds p).funcs h.sized.funcs func_count;
@@ -271,7 +264,7 @@ module _ (law : CodeIsRelatedToItself) (env : Environment) (parts : List Part) (
         bytes_list (d ∷ ds) = cons refl (bytes_list ds)
 
         grown : {A : Type 0} (xs ys : List A) {n k : ℕ} → length xs ≡ n → k ≡ n + length ys → length (xs ++ ys) ≡ k
-        grown xs ys a b = let c = Rattle.worlds_in_turn.proofs.Extends.append_length xs ys in omega (arith, a, b, c)
+        grown xs ys a b = let c = length-append xs ys in omega (arith, a, b, c)
 
         same_at : (a : ℕ) → a < base env parts Functions (suc p) → (a < base env parts Functions p) ⊎ (base env parts Functions p ≤ a) → at (t.funcs ++ (laid.adds p).funcs) a ≡ at allocated.funcs a
         same_at a l (inl low) = at_low t.funcs (laid.adds p).funcs a (let z = h.sized.funcs in omega (arith, low, z)) ∙ h.same_funcs a low

@@ -20,12 +20,13 @@ use Rattle.wasm_meaning.specs.Values.{null_of, ref_of}
 use Rattle.wasm_meaning.specs.Linking.{Part}
 use Rattle.wasm_meaning.specs.Environment.{Environment}
 use Rattle.wasm_meaning.specs.World.{given, all_there, new_func, global_with, new_elem, elem_with, store_with, const_value}
-use Rattle.index_remap.specs.Related.{Pairing, OptRel, none, some, ListRel, nil, cons, RefRel, func, extern, ValRel, number, reference, CodeRel, FuncRel, defined, own, TableRel, GlobalRel, ElemRel}
-use Rattle.index_remap.specs.Related as to
+use Rattle.index_remap.specs.Related.{Pairing, none, some, ListRel, nil, cons, RefRel, func, extern, ValRel, number, reference, FuncRel, defined, own, TableRel, GlobalRel, ElemRel}
 use Rattle.index_remap.specs.Laws.{NamesItself, CodeIsRelatedToItself}
 use Rattle.index_remap.proofs.Rel.{copies_rel}
-use Rattle.worlds_in_turn.proofs.Things.{then_is, some_is, space_in}
+use Rattle.worlds_in_turn.proofs.Things.{space_in}
 use Rattle.worlds_in_turn.proofs.Reached.{count_upto, is_reached, reaching, reached_at}
+use Rattle.base_lists.proofs.Options.{and_then_is}
+use Rattle.std.proofs.lemmas.Option.{same_Some}
 
 -- ---- more is reached later ----
 
@@ -76,11 +77,11 @@ map_self f (x ∷ xs) h = cons (h x) (map_self f xs h)
 
 -- each of what is all there
 all_self : {A B : Type 0} {P : B → B → Type 0} (f : A → Option B) (xs : List A) (ys : List B) → all_there f xs ≡ Some ys → ((x : A) (y : B) → f x ≡ Some y → P y y) → ListRel P ys ys
-all_self {P = P} f [] ys h g = subst (λ l. ListRel P l l) (some_is h) nil
+all_self {P = P} f [] ys h g = subst (λ l. ListRel P l l) (same_Some _ _ h) nil
 all_self {P = P} f (x ∷ xs) ys h g =
-    let a = then_is (f x) _ ys h in
-    let b = then_is (all_there f xs) _ ys a.2 in
-    subst (λ l. ListRel P l l) (some_is b.2) (cons (g x a.0 a.1) (all_self f xs b.0 b.1 g))
+    let a = and_then_is (f x) _ ys h in
+    let b = and_then_is (all_there f xs) _ ys a.2 in
+    subst (λ l. ListRel P l l) (same_Some _ _ b.2) (cons (g x a.0 a.1) (all_self f xs b.0 b.1 g))
 
 pub null_self : (R : Pairing) (t : RefType) → RefRel R (null_of t) (null_of t)
 null_self R reft.Func = func none
@@ -88,7 +89,7 @@ null_self R reft.Extern = extern
 
 -- addresses that an instance has are reached
 pub record Reaches (env : Environment) (parts : List Part) (p : ℕ) (i : Inst) : Type 0 where
-  pub spaces : (k : Rattle.wasm_meaning.specs.Linking.Kind) (n a : ℕ) → slice_get (space_in i k) n ≡ Some a → a < Rattle.wasm_meaning.specs.World.base env parts k p
+  pub spaces : (k : Space) (n a : ℕ) → slice_get (space_in i k) n ≡ Some a → a < Rattle.wasm_meaning.specs.World.base env parts k p
   pub elems : (n a : ℕ) → slice_get i.elems n ≡ Some a → a < count_upto env parts p ElementSegments
   pub datas : (n a : ℕ) → slice_get i.datas n ≡ Some a → a < count_upto env parts p DataSegments
 
@@ -99,7 +100,7 @@ at_is_place (y ∷ ys) (suc n) x e = at_is_place ys n x e
 
 place_is_at : {A : Type 0} (xs : List A) (n : ℕ) (x : A) → slice_get xs n ≡ Some x → at xs n ≡ Gives x
 place_is_at [] n x e = cc
-place_is_at (y ∷ ys) zero x e = ap Gives (some_is e)
+place_is_at (y ∷ ys) zero x e = ap Gives (same_Some _ _ e)
 place_is_at (y ∷ ys) (suc n) x e = place_is_at ys n x e
 
 pub names_itself : (env : Environment) (parts : List Part) (p : ℕ) (i : Inst) → Reaches env parts p i → NamesItself (reaching env parts p) i
@@ -126,35 +127,35 @@ module _ (law : CodeIsRelatedToItself) (env : Environment) (parts : List Part) (
   R = reaching env parts p
 
   value_self : (e : ConstExpr) (v : Val) → const_value globals i e ≡ Some v → ValRel (reaching env parts p) v v
-  value_self (const.I32 z) v h = subst (λ v. ValRel (reaching env parts p) v v) (some_is h) number
-  value_self (const.I64 z) v h = subst (λ v. ValRel (reaching env parts p) v v) (some_is h) number
-  value_self (const.Null t) v h = subst (λ v. ValRel (reaching env parts p) v v) (some_is h) (reference (null_self (reaching env parts p) t))
+  value_self (const.I32 z) v h = subst (λ v. ValRel (reaching env parts p) v v) (same_Some _ _ h) number
+  value_self (const.I64 z) v h = subst (λ v. ValRel (reaching env parts p) v v) (same_Some _ _ h) number
+  value_self (const.Null t) v h = subst (λ v. ValRel (reaching env parts p) v v) (same_Some _ _ h) (reference (null_self (reaching env parts p) t))
   value_self (const.Func f) v h =
-      let a = then_is (slice_get i.funcs f) _ v h in
-      subst (λ v. ValRel (reaching env parts p) v v) (some_is a.2) (reference (func (some (reached_at env parts p Functions a.0 (reaches.spaces Functions f a.0 a.1)))))
+      let a = and_then_is (slice_get i.funcs f) _ v h in
+      subst (λ v. ValRel (reaching env parts p) v v) (same_Some _ _ a.2) (reference (func (some (reached_at env parts p Functions a.0 (reaches.spaces Functions f a.0 a.1)))))
   value_self (const.Global x) v h =
-      let a = then_is (slice_get i.globals x) _ v h in
-      let g = then_is (slice_get globals a.0) _ v a.2 in
-      subst (λ v. ValRel (reaching env parts p) v v) (some_is g.2) (values a.0 g.0 g.1)
+      let a = and_then_is (slice_get i.globals x) _ v h in
+      let g = and_then_is (slice_get globals a.0) _ v a.2 in
+      subst (λ v. ValRel (reaching env parts p) v v) (same_Some _ _ g.2) (values a.0 g.0 g.1)
 
   global_self : (g : GlobalDef) (h : Global) → global_with (const_value globals i) g ≡ Some h → GlobalRel (reaching env parts p) h h
   global_self g h e =
-      let v = then_is (const_value globals i g.init) _ h e in
-      subst (λ h. GlobalRel (reaching env parts p) h h) (some_is v.2) (record { type = refl; value = value_self g.init v.0 v.1 })
+      let v = and_then_is (const_value globals i g.init) _ h e in
+      subst (λ h. GlobalRel (reaching env parts p) h h) (same_Some _ _ v.2) (record { type = refl; value = value_self g.init v.0 v.1 })
 
   item_self : (e : ConstExpr) (r : RefVal) → option_and_then (λ v. given (ref_of v)) (const_value globals i e) ≡ Some r → RefRel (reaching env parts p) r r
   item_self e r h =
-      let v = then_is (const_value globals i e) _ r h in
+      let v = and_then_is (const_value globals i e) _ r h in
       go v.0 (value_self e v.0 v.1) v.2
     where
       go : (v : Val) → ValRel (reaching env parts p) v v → given (ref_of v) ≡ Some r → RefRel (reaching env parts p) r r
       go (Num w n) k h = cc
-      go (Ref s) (reference k) h = subst (λ r. RefRel (reaching env parts p) r r) (some_is h) k
+      go (Ref s) (reference k) h = subst (λ r. RefRel (reaching env parts p) r r) (same_Some _ _ h) k
 
   elem_self : (s : ElemSeg) (e : Elem) → elem_with (const_value globals i) s ≡ Some e → ElemRel (reaching env parts p) e e
   elem_self s e h =
-      let a = then_is (all_there (λ x. option_and_then (λ v. given (ref_of v)) (const_value globals i x)) s.items) _ e h in
-      subst (λ e. ElemRel (reaching env parts p) e e) (some_is a.2) (go s.mode (all_self (λ x. option_and_then (λ v. given (ref_of v)) (const_value globals i x)) s.items a.0 a.1 item_self))
+      let a = and_then_is (all_there (λ x. option_and_then (λ v. given (ref_of v)) (const_value globals i x)) s.items) _ e h in
+      subst (λ e. ElemRel (reaching env parts p) e e) (same_Some _ _ a.2) (go s.mode (all_self (λ x. option_and_then (λ v. given (ref_of v)) (const_value globals i x)) s.items a.0 a.1 item_self))
     where
       go : (mode : ElemMode) {items : List RefVal} → ListRel (RefRel (reaching env parts p)) items items → ElemRel (reaching env parts p) (new_elem mode items) (new_elem mode items)
       go (elem.Active x y) k = record { items = k }
@@ -163,16 +164,16 @@ module _ (law : CodeIsRelatedToItself) (env : Environment) (parts : List Part) (
 
   new_sound : (f : tree.Func) (g : Func) → new_func i f ≡ Some g → Sound env parts p g
   new_sound f g h =
-      let t = then_is (slice_get i.types f.ty) _ g h in
-      subst (λ g. Sound env parts p g) (some_is t.2) (code reaches)
+      let t = and_then_is (slice_get i.types f.ty) _ g h in
+      subst (λ g. Sound env parts p g) (same_Some _ _ t.2) (code reaches)
 
   -- what a part adds refers to nothing beyond
   pub added_closed : (t : Store) → store_with (const_value globals i) m i ≡ Some t → Closed (reaching env parts p) t
   added_closed t h =
-      let f = then_is (all_there (new_func i) m.funcs) _ t h in
-      let g = then_is (all_there (global_with (const_value globals i)) m.globals) _ t f.2 in
-      let e = then_is (all_there (elem_with (const_value globals i)) m.elems) _ t g.2 in
-      subst (Closed (reaching env parts p)) (some_is e.2) (record {
+      let f = and_then_is (all_there (new_func i) m.funcs) _ t h in
+      let g = and_then_is (all_there (global_with (const_value globals i)) m.globals) _ t f.2 in
+      let e = and_then_is (all_there (elem_with (const_value globals i)) m.elems) _ t g.2 in
+      subst (Closed (reaching env parts p)) (same_Some _ _ e.2) (record {
         funcs = all_self (new_func i) m.funcs f.0 f.1 (λ x y k. func_self law env parts p y (new_sound x y k));
         tables = map_self (λ t. record { ty = t.ty; most = t.limits.max; slots = copies t.limits.min (null_of t.ty) }) m.tables (λ t. record { type = refl; most = refl; slots = copies_rel _ _ t.limits.min (null_self (reaching env parts p) t.ty) });
         globals = all_self (global_with (const_value globals i)) m.globals g.0 g.1 global_self;
@@ -181,8 +182,8 @@ module _ (law : CodeIsRelatedToItself) (env : Environment) (parts : List Part) (
 
   pub added_sound : (t : Store) → store_with (const_value globals i) m i ≡ Some t → (n : ℕ) (f : Func) → slice_get t.funcs n ≡ Some f → Sound env parts p f
   added_sound t h n f e =
-      let fs = then_is (all_there (new_func i) m.funcs) _ t h in
-      let g = then_is (all_there (global_with (const_value globals i)) m.globals) _ t fs.2 in
-      let es = then_is (all_there (elem_with (const_value globals i)) m.elems) _ t g.2 in
-      let b = Rattle.worlds_in_turn.proofs.Low.all_back (new_func i) m.funcs fs.0 fs.1 n f (ap (λ t. slice_get t.funcs n) (some_is es.2) ∙ e) in
+      let fs = and_then_is (all_there (new_func i) m.funcs) _ t h in
+      let g = and_then_is (all_there (global_with (const_value globals i)) m.globals) _ t fs.2 in
+      let es = and_then_is (all_there (elem_with (const_value globals i)) m.elems) _ t g.2 in
+      let b = Rattle.worlds_in_turn.proofs.Low.all_back (new_func i) m.funcs fs.0 fs.1 n f (ap (λ t. slice_get t.funcs n) (same_Some _ _ es.2) ∙ e) in
       new_sound b.0 f b.2

@@ -4,6 +4,7 @@ use native.Mathlib.Decide.{ℕ_discrete}
 use Rattle.wasm_meaning.specs.Outcomes.{Outcome, Gives, Traps, IllTyped, bind, at, split_at, overwrite}
 use Rattle.wasm_meaning.specs.State.{Table, Memory, Global, Store, Change, Keep, SetGlobal, SetMemory, SetTable, DropElem, DropData}
 use Rattle.wasm_meaning.specs.Step.{changed, no_items, no_bytes}
+use Rattle.std.proofs.lemmas.List.{length-set, length-append}
 
 pub record TableExtends (t u : Table) : Type 0 where
   pub type : u.ty ≡ t.ty
@@ -79,11 +80,6 @@ and_then s t u h k = record {
 
 -- ---- a change ----
 
-put_length : {A : Type 0} (xs : List A) (n : ℕ) (v : A) → length (slice_set xs n v) ≡ length xs
-put_length [] n v = refl
-put_length (x ∷ xs) zero v = refl
-put_length (x ∷ xs) (suc n) v = ap suc (put_length xs n v)
-
 put_here : {A : Type 0} (xs : List A) (n : ℕ) (v w : A) → at xs n ≡ Gives w → at (slice_set xs n v) n ≡ Gives v
 put_here [] n v w e = cc
 put_here (x ∷ xs) zero v w e = refl
@@ -121,15 +117,15 @@ pub data Extending (s : Store) : Change → Type 0 where
 pub changed_extends : {s : Store} {c : Change} → Extending s c → Extends s (changed s c)
 changed_extends {s} keeps = stays s
 changed_extends {s} (global {a = a} {g = g} {h = h} e p) = let k = stays s in
-    record { funcs = refl; tables = k.tables; mems = k.mems; globals = each_put GlobalExtends s.globals a g h global_stays e p; table_count = refl; memory_count = refl; global_count = put_length s.globals a h; elem_count = refl; data_count = refl }
+    record { funcs = refl; tables = k.tables; mems = k.mems; globals = each_put GlobalExtends s.globals a g h global_stays e p; table_count = refl; memory_count = refl; global_count = length-set s.globals a h; elem_count = refl; data_count = refl }
 changed_extends {s} (memory {a = a} {m = m} {n = n} e p) = let k = stays s in
-    record { funcs = refl; tables = k.tables; mems = each_put MemoryExtends s.mems a m n memory_stays e p; globals = k.globals; table_count = refl; memory_count = put_length s.mems a n; global_count = refl; elem_count = refl; data_count = refl }
+    record { funcs = refl; tables = k.tables; mems = each_put MemoryExtends s.mems a m n memory_stays e p; globals = k.globals; table_count = refl; memory_count = length-set s.mems a n; global_count = refl; elem_count = refl; data_count = refl }
 changed_extends {s} (table {a = a} {t = t} {u = u} e p) = let k = stays s in
-    record { funcs = refl; tables = each_put TableExtends s.tables a t u table_stays e p; mems = k.mems; globals = k.globals; table_count = put_length s.tables a u; memory_count = refl; global_count = refl; elem_count = refl; data_count = refl }
+    record { funcs = refl; tables = each_put TableExtends s.tables a t u table_stays e p; mems = k.mems; globals = k.globals; table_count = length-set s.tables a u; memory_count = refl; global_count = refl; elem_count = refl; data_count = refl }
 changed_extends {s} (elem_drops {a = a}) = let k = stays s in
-    record { funcs = refl; tables = k.tables; mems = k.mems; globals = k.globals; table_count = refl; memory_count = refl; global_count = refl; elem_count = put_length s.elems a no_items; data_count = refl }
+    record { funcs = refl; tables = k.tables; mems = k.mems; globals = k.globals; table_count = refl; memory_count = refl; global_count = refl; elem_count = length-set s.elems a no_items; data_count = refl }
 changed_extends {s} (data_drops {a = a}) = let k = stays s in
-    record { funcs = refl; tables = k.tables; mems = k.mems; globals = k.globals; table_count = refl; memory_count = refl; global_count = refl; elem_count = refl; data_count = put_length s.datas a no_bytes }
+    record { funcs = refl; tables = k.tables; mems = k.mems; globals = k.globals; table_count = refl; memory_count = refl; global_count = refl; elem_count = refl; data_count = length-set s.datas a no_bytes }
 
 -- ---- lists that are written in part ----
 
@@ -146,10 +142,6 @@ split_lengths {A} (suc n) (x ∷ xs) p e = go (split_at n xs) (split_lengths n x
         let k = h q refl in
         rw (← i) (ap suc k.0, omega (arith, k.1))
 
-pub append_length : {A : Type 0} (xs ys : List A) → length (xs ++ ys) ≡ length xs + length ys
-append_length [] ys = omega arith
-append_length (x ∷ xs) ys = let e = append_length xs ys in omega (arith, e)
-
 pub overwritten_length : {A : Type 0} (xs : List A) (n : ℕ) (ys zs : List A) → overwrite xs n ys ≡ Gives zs → length zs ≡ length xs
 overwritten_length {A} xs n ys zs e = go (split_at n xs) (split_lengths n xs) e
   where
@@ -159,8 +151,8 @@ overwritten_length {A} xs n ys zs e = go (split_at n xs) (split_lengths n xs) e
     inner p k (Gives q) h e =
         let i : p.0 ++ (ys ++ q.1) ≡ zs = cc in
         let j = h q refl in
-        let a = append_length p.0 (ys ++ q.1) in
-        let b = append_length ys q.1 in
+        let a = length-append p.0 (ys ++ q.1) in
+        let b = length-append ys q.1 in
         rw (← i) (omega (arith, j.0, j.1, a, b, k))
 
     go : (o : Outcome (List A × List A)) → ((p : List A × List A) → o ≡ Gives p → (length p.0 ≡ n) × (length p.0 + length p.1 ≡ length xs)) → bind o (λ p. bind (split_at (length ys) p.1) (λ q. Gives (p.0 ++ (ys ++ q.1)))) ≡ Gives zs → length zs ≡ length xs

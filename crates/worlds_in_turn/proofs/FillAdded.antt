@@ -14,9 +14,9 @@ use Rattle.wasm_meaning.specs.Linking.{Part, module_at, sites}
 use Rattle.wasm_meaning.specs.Environment.{Environment, all_of}
 use Rattle.wasm_meaning.specs.World.{all_there, given, is_matched, insts_from, own_store, stores_from, part_store, store_with, new_func, global_with, elem_with, new_elem, const_value, value_of}
 use Rattle.wasm_meaning.specs.InTurn.{JoinsEarlier}
-use Rattle.worlds_in_turn.proofs.Things.{then_is}
 use Rattle.worlds_in_turn.proofs.Joined.{ExportsThere}
 use Rattle.worlds_in_turn.proofs.FillValues.{Constant, HoldsFixed, value_given}
+use Rattle.base_lists.proofs.Options.{and_then_is}
 
 -- the constant expressions of a module
 pub record Constants (m : Module) : Type 0 where
@@ -28,8 +28,8 @@ pub record Constants (m : Module) : Type 0 where
 all_given : {A B : Type 0} (f g : A → Option B) (xs : List A) (ys : List B) → ((n : ℕ) (x : A) (y : B) → slice_get xs n ≡ Some x → f x ≡ Some y → g x ≡ Some y) → all_there f xs ≡ Some ys → all_there g xs ≡ Some ys
 all_given f g [] ys h e = e
 all_given f g (x ∷ xs) ys h e =
-    let a = then_is (f x) _ ys e in
-    let b = then_is (all_there f xs) _ ys a.2 in
+    let a = and_then_is (f x) _ ys e in
+    let b = and_then_is (all_there f xs) _ ys a.2 in
     ap (λ o. option_and_then (λ y. option_and_then (λ ys. Some (y ∷ ys)) (all_there g xs)) o) (h 0 x a.0 refl a.1) ∙ ap (λ o. option_and_then (λ ys. Some (a.0 ∷ ys)) o) (all_given f g xs b.0 (λ n x y p q. h (suc n) x y p q) b.1) ∙ b.2
 
 module _ (v w : ConstExpr → Option Val) (m : Module) (i : Inst) where
@@ -39,13 +39,13 @@ module _ (v w : ConstExpr → Option Val) (m : Module) (i : Inst) where
 
   global_given : (g : GlobalDef) (y : Global) → Gives g.init → global_with v g ≡ Some y → global_with w g ≡ Some y
   global_given g y h e =
-      let u = then_is (v g.init) _ y e in
+      let u = and_then_is (v g.init) _ y e in
       ap (λ o. option_and_then (λ v. Some (record { ty = g.ty; value = v })) o) (h u.0 u.1) ∙ u.2
 
   elem_given : (s : ElemSeg) (y : Elem) → ((l : ℕ) (e : ConstExpr) → slice_get s.items l ≡ Some e → Gives e) → elem_with v s ≡ Some y → elem_with w s ≡ Some y
   elem_given s y h e =
-      let u = then_is (all_there (λ x. option_and_then (λ v. given (ref_of v)) (v x)) s.items) _ y e in
-      let same = all_given (λ x. option_and_then (λ v. given (ref_of v)) (v x)) (λ x. option_and_then (λ v. given (ref_of v)) (w x)) s.items u.0 (λ n x r at f. let a = then_is (v x) _ r f in ap (λ o. option_and_then (λ v. given (ref_of v)) o) (h n x at a.0 a.1) ∙ a.2) u.1 in
+      let u = and_then_is (all_there (λ x. option_and_then (λ v. given (ref_of v)) (v x)) s.items) _ y e in
+      let same = all_given (λ x. option_and_then (λ v. given (ref_of v)) (v x)) (λ x. option_and_then (λ v. given (ref_of v)) (w x)) s.items u.0 (λ n x r at f. let a = and_then_is (v x) _ r f in ap (λ o. option_and_then (λ v. given (ref_of v)) o) (h n x at a.0 a.1) ∙ a.2) u.1 in
       ap (λ o. option_and_then (λ items. Some (new_elem s.mode items)) o) same ∙ u.2
 
   -- the rest of the store, from its globals and element segments
@@ -62,9 +62,9 @@ module _ (v w : ConstExpr → Option Val) (m : Module) (i : Inst) where
 
   pub store_given : ((n : ℕ) (g : GlobalDef) → slice_get m.globals n ≡ Some g → Gives g.init) → ((n : ℕ) (s : ElemSeg) → slice_get m.elems n ≡ Some s → (l : ℕ) (e : ConstExpr) → slice_get s.items l ≡ Some e → Gives e) → (t : Store) → store_with v m i ≡ Some t → store_with w m i ≡ Some t
   store_given hg he t e =
-      let f = then_is (all_there (new_func i) m.funcs) _ t e in
-      let g = then_is (all_there (global_with v) m.globals) _ t f.2 in
-      let s = then_is (all_there (elem_with v) m.elems) _ t g.2 in
+      let f = and_then_is (all_there (new_func i) m.funcs) _ t e in
+      let g = and_then_is (all_there (global_with v) m.globals) _ t f.2 in
+      let s = and_then_is (all_there (elem_with v) m.elems) _ t g.2 in
       let gs = all_given (global_with v) (global_with w) m.globals g.0 (λ n x y at h. global_given x y (hg n x at) h) g.1 in
       let es = all_given (elem_with v) (elem_with w) m.elems s.0 (λ n x y at h. elem_given x y (he n x at) h) s.1 in
       ap₂ (λ gs es. option_and_then (added_with gs es) (all_there (new_func i) m.funcs)) (gs ∙ sym g.1) (es ∙ sym s.1) ∙ e

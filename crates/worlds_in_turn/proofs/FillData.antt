@@ -12,9 +12,9 @@ use Rattle.wasm_meaning.specs.Step.{no_bytes}
 use Rattle.wasm_meaning.specs.Environment.{any_of}
 use Rattle.wasm_meaning.specs.World.{Filled, Task, given, tasks_in, fill_memory, run_data_with, and_then, in_turn}
 use Rattle.wasm_meaning.specs.InTurn.{is_active_data}
-use Rattle.worlds_in_turn.proofs.Things.{then_is}
 use Rattle.worlds_in_turn.proofs.FillRuns.{Job, Skip, Fill, run, runs, LowJob, low_skip, low_fill, LowJobs, low_none, low_more, Kept, kept_skip, kept_fill, KeptAll, kept_none, kept_more}
 use Rattle.worlds_in_turn.proofs.FillTurns.{Turned, goes_on, stops, or_turned}
+use Rattle.base_lists.proofs.Options.{and_then_is}
 
 abbrev pub memory_fill : Memory → Data → ℕ → Option Memory
 memory_fill t e n = option_and_then (λ bytes. Some (record t { bytes = bytes })) (given (overwrite t.bytes n e.bytes))
@@ -87,5 +87,5 @@ datas_kept v w i (n ∷ ns) [] h = kept_none
 datas_kept v w i (n ∷ ns) (e ∷ es) h = kept_more (one e.mode refl) (datas_kept v w i ns es (λ n s x e at m u k. h (suc n) s x e at m u k))
   where
     one : (mode : DataMode) → e.mode ≡ mode → Kept (data_job v i n mode) (data_job w i n mode)
-    one (data'.Active x offset) m = kept_fill (λ a k. let u = then_is (v offset) _ a k in ap (λ o. option_and_then (λ v. given (num_of W32 v)) o) (h 0 e x offset refl m u.0 u.1) ∙ u.2)
+    one (data'.Active x offset) m = kept_fill (λ a k. let u = and_then_is (v offset) _ a k in ap (λ o. option_and_then (λ v. given (num_of W32 v)) o) (h 0 e x offset refl m u.0 u.1) ∙ u.2)
     one data'.Passive m = kept_skip

@@ -10,12 +10,11 @@ use Rattle.wasm_meaning.specs.Environment.{Environment, all_of}
 use Rattle.wasm_meaning.specs.World.{given, is_matched, insts_from, own_store, stores_from, part_store, joined_stores, store_with, const_value, value_of, segments}
 use Rattle.wasm_meaning.specs.InTurn.{JoinsEarlier}
 use Rattle.worlds_in_turn.proofs.Extends.{TableExtends, MemoryExtends, EachExtends, each_then, each_put, each_stays, table_stays, memory_stays, global_stays, overwritten_length}
-use Rattle.worlds_in_turn.proofs.Things.{then_is, some_is, place_front, place_behind}
 use Rattle.worlds_in_turn.proofs.Joined.{ExportsThere}
 use Rattle.worlds_in_turn.proofs.Turn.{Sized, Holds, SitesThere, place_at, at_place}
 use Rattle.worlds_in_turn.proofs.Beside.{Laid, at_low}
 use Rattle.worlds_in_turn.proofs.FillStores.{or_no_store, added_at, added_is, rest_for, rest_from, rest_last, first_stores, first_parts, part_adds, Lengths, module_low}
-use Rattle.worlds_in_turn.proofs.FillValues.{place_low, Constant, HoldsFixed, value_same}
+use Rattle.worlds_in_turn.proofs.FillValues.{Constant, HoldsFixed, value_same}
 use Rattle.worlds_in_turn.proofs.FillAdded.{Constants, added_same}
 use Rattle.worlds_in_turn.proofs.FillRuns.{Job, Skip, Fill, run, runs}
 use Rattle.worlds_in_turn.proofs.FillTurns.{table_fill}
@@ -23,6 +22,9 @@ use Rattle.worlds_in_turn.proofs.FillData.{memory_fill}
 use Rattle.worlds_in_turn.proofs.FillSegments.{FilledUpto, first_elems, first_datas}
 use Rattle.worlds_in_turn.proofs.FillNext
 use Rattle.worlds_in_turn.proofs.FillNext.{Next}
+use Rattle.std.proofs.lemmas.Option.{slice_get_within, same_Some}
+use Rattle.base_lists.proofs.Options.{and_then_is}
+use Rattle.base_lists.proofs.Places.{append_at_left, append_right}
 
 -- ---- the sites are the imports ----
 
@@ -34,19 +36,19 @@ in_sites p (suc count) from (suc n) l = let z : suc from + n ≡ from + suc n = 
 in_parts : (p : ℕ) (ps : List Part) (q : ℕ) (m : Module) (n : ℕ) → module_at ps q ≡ Some m → n < length m.imports → (j : ℕ) × (slice_get (sites_from p ps) j ≡ Some (record { part = p + q; import = n }))
 in_parts p [] q m n e l = absurd (let k = e in cc)
 in_parts p (part ∷ ps) zero m n e l =
-    let low : n < length part.«module».imports = subst (λ m. n < length m.imports) (sym (some_is e)) l in
+    let low : n < length part.«module».imports = subst (λ m. n < length m.imports) (sym (same_Some _ _ e)) l in
     let z : p ≡ p + 0 = omega arith in
     let y : 0 + n ≡ n = omega arith in
-    (n, place_front (sites_in p (length part.«module».imports) 0) (sites_from (suc p) ps) n _ (in_sites p (length part.«module».imports) 0 n low) ∙ ap₂ (λ p n. Some (record { part = p; import = n })) z y)
+    (n, append_at_left (sites_in p (length part.«module».imports) 0) (sites_from (suc p) ps) n _ (in_sites p (length part.«module».imports) 0 n low) ∙ ap₂ (λ p n. Some (record { part = p; import = n })) z y)
 in_parts p (part ∷ ps) (suc q) m n e l =
     let r = in_parts (suc p) ps q m n e l in
     let z : suc p + q ≡ p + suc q = omega arith in
-    (length (sites_in p (length part.«module».imports) 0) + r.0, place_behind (sites_in p (length part.«module».imports) 0) (sites_from (suc p) ps) r.0 ∙ r.1 ∙ ap (λ p. Some (record { part = p; import = n })) z)
+    (length (sites_in p (length part.«module».imports) 0) + r.0, append_right (sites_in p (length part.«module».imports) 0) (sites_from (suc p) ps) r.0 ∙ r.1 ∙ ap (λ p. Some (record { part = p; import = n })) z)
 
 pub sites_there : (parts : List Part) → SitesThere parts
 sites_there parts s i e =
-    let m = then_is (module_at parts s.part) _ i e in
-    let r = in_parts 0 parts s.part m.0 s.import m.1 (place_low m.0.imports s.import i m.2) in
+    let m = and_then_is (module_at parts s.part) _ i e in
+    let r = in_parts 0 parts s.part m.0 s.import m.1 (slice_get_within m.0.imports s.import i m.2) in
     let z : 0 + s.part ≡ s.part = omega arith in
     (r.0, r.1 ∙ ap (λ p. Some (record { part = p; import = s.import })) z)
 
@@ -54,33 +56,33 @@ sites_there parts s i e =
 
 module _ (X Y : Type 0) (fill : X → Y → ℕ → Option X) (empty : Y) (P : X → X → Type 0) (same : (x : X) → P x x) (trans : (x y z : X) → P x y → P y z → P x z) (fills : (x : X) (y : Y) (n : ℕ) (z : X) → fill x y n ≡ Some z → P x z) where
   run_extends : (j : Job) (c d : List X × List Y) → run X Y fill empty j c ≡ Some d → EachExtends P c.0 d.0
-  run_extends Skip c d h = subst (λ d. EachExtends P c.0 d.0) (some_is h) (each_stays P c.0 same)
+  run_extends Skip c d h = subst (λ d. EachExtends P c.0 d.0) (same_Some _ _ h) (each_stays P c.0 same)
   run_extends (Fill n target offset) c d h =
-      let o = then_is offset _ d h in
-      let a = then_is target _ d o.2 in
-      let x = then_is (slice_get c.0 a.0) _ d a.2 in
-      let y = then_is (slice_get c.1 n) _ d x.2 in
-      let z = then_is (fill x.0 y.0 o.0) _ d y.2 in
-      subst (λ d. EachExtends P c.0 d.0) (some_is z.2) (each_put P c.0 a.0 x.0 z.0 same (place_at c.0 a.0 x.0 x.1) (fills x.0 y.0 o.0 z.0 z.1))
+      let o = and_then_is offset _ d h in
+      let a = and_then_is target _ d o.2 in
+      let x = and_then_is (slice_get c.0 a.0) _ d a.2 in
+      let y = and_then_is (slice_get c.1 n) _ d x.2 in
+      let z = and_then_is (fill x.0 y.0 o.0) _ d y.2 in
+      subst (λ d. EachExtends P c.0 d.0) (same_Some _ _ z.2) (each_put P c.0 a.0 x.0 z.0 same (place_at c.0 a.0 x.0 x.1) (fills x.0 y.0 o.0 z.0 z.1))
 
   runs_extend : (js : List Job) (c d : List X × List Y) → runs X Y fill empty js c ≡ Some d → EachExtends P c.0 d.0
-  runs_extend [] c d h = subst (λ d. EachExtends P c.0 d.0) (some_is h) (each_stays P c.0 same)
+  runs_extend [] c d h = subst (λ d. EachExtends P c.0 d.0) (same_Some _ _ h) (each_stays P c.0 same)
   runs_extend (j ∷ js) c d h =
-      let b = then_is (run X Y fill empty j c) _ d h in
+      let b = and_then_is (run X Y fill empty j c) _ d h in
       each_then P c.0 b.0.0 d.0 trans (run_extends j c b.0 b.1) (runs_extend js b.0 d b.2)
 
 table_filled : (t : Table) (e : Elem) (n : ℕ) (u : Table) → table_fill t e n ≡ Some u → TableExtends t u
 table_filled t e n u h = go (overwrite t.slots n e.items) refl h
   where
     go : (o : Outcome (List RefVal)) → overwrite t.slots n e.items ≡ o → option_and_then (λ slots. Some (record t { slots = slots })) (given o) ≡ Some u → TableExtends t u
-    go (Gives slots) w h = let l = overwritten_length t.slots n e.items slots w in subst (TableExtends t) (some_is h) (record { type = refl; most = refl; size = omega (arith, l) })
+    go (Gives slots) w h = let l = overwritten_length t.slots n e.items slots w in subst (TableExtends t) (same_Some _ _ h) (record { type = refl; most = refl; size = omega (arith, l) })
     go Traps w h = absurd (let k = h in cc)
     go IllTyped w h = absurd (let k = h in cc)
 
 memory_filled : (m : Memory) (d : Data) (n : ℕ) (u : Memory) → memory_fill m d n ≡ Some u → MemoryExtends m u
 memory_filled m d n u h =
-    let b = then_is (given (overwrite m.bytes n d.bytes)) _ u h in
-    subst (MemoryExtends m) (some_is b.2) (record { most = refl; size = omega arith })
+    let b = and_then_is (given (overwrite m.bytes n d.bytes)) _ u h in
+    subst (MemoryExtends m) (same_Some _ _ b.2) (record { most = refl; size = omega arith })
 
 -- ---- stores in turn ----
 

@@ -5,7 +5,7 @@ use Rattle.wasm_tree.specs.declared.space.Space.TheVariants.{Functions, Tables, 
 use Rattle.wasm_meaning.specs.Outcomes.{Outcome, Gives, Traps, IllTyped}
 use Rattle.wasm_meaning.specs.Environment.{Environment, Offer, OwnKey, FuncKey, TableKey, MemoryKey, GlobalKey, Thing, FuncAt, TableAt, MemoryAt, GlobalAt, Owned, same_key, look_up, owned_at, owned_of, addressed, flat, one_if}
 use Rattle.wasm_meaning.specs.World.{own_count, thing_at, given}
-use Rattle.worlds_in_turn.proofs.Extends.{append_length}
+use Rattle.std.proofs.lemmas.List.{length-append}
 
 abbrev pub kind_of_key : OwnKey → Space
 kind_of_key (FuncKey p t) = Functions
@@ -55,8 +55,8 @@ each_one k f h (Some a) = key_more (h a) no_keys
 flat_length : {B C : Type 0} (f : Offer → List B) (g : Offer → List C) → ((o : Offer) → length (f o) ≡ length (g o)) → (os : List Offer) → length (flat f os) ≡ length (flat g os)
 flat_length f g h [] = refl
 flat_length f g h (o ∷ os) =
-    let a = append_length (f o) (flat f os) in
-    let b = append_length (g o) (flat g os) in
+    let a = length-append (f o) (flat f os) in
+    let b = length-append (g o) (flat g os) in
     let c = h o in
     let d = flat_length f g h os in
     omega (arith, a, b, c, d)
@@ -101,14 +101,18 @@ look_addressed key thing k n (y ∷ ys) (key_more h hs) x e = go (same_key key y
 -- the address of the environment's own entity
 pub record OwnAt (env : Environment) (key : OwnKey) (x : Thing) : Type 0 where
   pub address : ℕ
-  pub is : x ≡ thing_at (kind_of_key key) address
+  pub is : Some x ≡ thing_at (kind_of_key key) address
   pub low : address < own_count (kind_of_key key) env
 
-own_found : (env : Environment) (key : OwnKey) (k : Space) (count : ℕ) (x : Thing) → count ≡ own_count k env → Found key (thing_at k) 0 k count x → OwnAt env key x
-own_found env key k count x c f =
+own_found : (env : Environment) (key : OwnKey) (k : Space) (thing : ℕ → Thing) → ((n : ℕ) → thing_at k n ≡ Some (thing n)) → (count : ℕ) (x : Thing) → count ≡ own_count k env → Found key thing 0 k count x → OwnAt env key x
+own_found env key k thing same count x c f =
     let z : 0 + f.place ≡ f.place = omega arith in
     let l : f.place < own_count k env = subst (λ n. f.place < n) c f.low in
-    record { address = f.place; is = f.is ∙ ap (thing_at k) z ∙ ap (λ k. thing_at k f.place) (sym f.kind); low = subst (λ k. f.place < own_count k env) (sym f.kind) l }
+    record {
+      address = f.place;
+      is = ap Some (f.is ∙ ap thing z) ∙ sym (same f.place) ∙ ap (λ k. thing_at k f.place) (sym f.kind);
+      low = subst (λ k. f.place < own_count k env) (sym f.kind) l;
+    }
 
 abbrev funcs : Environment → List OwnKey
 funcs = flat (λ o. map (FuncKey o.pair) o.funcs)
@@ -131,13 +135,13 @@ own_at env key x e = first (look_either (same_key key) _ _ x (gives (owned_at (o
     gives IllTyped e = cc
 
     third : (look_up (same_key key) (addressed MemoryAt 0 (memories env)) ≡ Gives x) ⊎ (look_up (same_key key) (addressed GlobalAt 0 (globals env)) ≡ Gives x) → OwnAt env key x
-    third (inl h) = own_found env key Memories _ x (flat_length _ _ (λ o. one_same_length _ _ o.memory) env) (look_addressed key MemoryAt Memories 0 (memories env) (each_flat Memories _ (λ o. each_one Memories _ (λ a. refl) o.memory) env) x h)
-    third (inr h) = own_found env key Globals _ x (flat_length _ _ (λ o. one_same_length _ _ o.global) env) (look_addressed key GlobalAt Globals 0 (globals env) (each_flat Globals _ (λ o. each_one Globals _ (λ a. refl) o.global) env) x h)
+    third (inl h) = own_found env key Memories MemoryAt (λ n. refl) _ x (flat_length _ _ (λ o. one_same_length _ _ o.memory) env) (look_addressed key MemoryAt Memories 0 (memories env) (each_flat Memories _ (λ o. each_one Memories _ (λ a. refl) o.memory) env) x h)
+    third (inr h) = own_found env key Globals GlobalAt (λ n. refl) _ x (flat_length _ _ (λ o. one_same_length _ _ o.global) env) (look_addressed key GlobalAt Globals 0 (globals env) (each_flat Globals _ (λ o. each_one Globals _ (λ a. refl) o.global) env) x h)
 
     second : (look_up (same_key key) (addressed TableAt 0 (tables env)) ≡ Gives x) ⊎ (look_up (same_key key) (addressed MemoryAt 0 (memories env) ++ addressed GlobalAt 0 (globals env)) ≡ Gives x) → OwnAt env key x
-    second (inl h) = own_found env key Tables _ x (flat_length _ _ (λ o. one_same_length _ _ o.table) env) (look_addressed key TableAt Tables 0 (tables env) (each_flat Tables _ (λ o. each_one Tables _ (λ a. refl) o.table) env) x h)
+    second (inl h) = own_found env key Tables TableAt (λ n. refl) _ x (flat_length _ _ (λ o. one_same_length _ _ o.table) env) (look_addressed key TableAt Tables 0 (tables env) (each_flat Tables _ (λ o. each_one Tables _ (λ a. refl) o.table) env) x h)
     second (inr h) = third (look_either (same_key key) _ _ x h)
 
     first : (look_up (same_key key) (addressed FuncAt 0 (funcs env)) ≡ Gives x) ⊎ (look_up (same_key key) (addressed TableAt 0 (tables env) ++ (addressed MemoryAt 0 (memories env) ++ addressed GlobalAt 0 (globals env))) ≡ Gives x) → OwnAt env key x
-    first (inl h) = own_found env key Functions _ x (flat_length _ _ (λ o. map_same_length _ _ o.funcs) env) (look_addressed key FuncAt Functions 0 (funcs env) (each_flat Functions _ (λ o. each_map Functions _ (λ a. refl) o.funcs) env) x h)
+    first (inl h) = own_found env key Functions FuncAt (λ n. refl) _ x (flat_length _ _ (λ o. map_same_length _ _ o.funcs) env) (look_addressed key FuncAt Functions 0 (funcs env) (each_flat Functions _ (λ o. each_map Functions _ (λ a. refl) o.funcs) env) x h)
     first (inr h) = second (look_either (same_key key) _ _ x h)

@@ -1,8 +1,10 @@
 -- Segments that are copied in turn, as a matter of two lists alone: what is written to, and the segments, which are dropped.
 -- What stands behind all that is written stays, and does not matter.
 use Rattle.std.proofs.Common.{◌≡◌, ◌∙◌, refl, sym, ap, ap₂, subst, ℕ, zero, suc, ◌-◌, ◌<◌, ◌≤◌, List, [], ◌∷◌, ◌++◌, length, Option, Some, None, append_assoc, arith, option_and_then, slice_get, slice_set}
-use Rattle.worlds_in_turn.proofs.Things.{then_is, some_is}
-use Rattle.worlds_in_turn.proofs.FillValues.{place_within}
+use Rattle.std.proofs.lemmas.List.{length-set, set-append_left}
+use Rattle.base_lists.proofs.Places.{append_left}
+use Rattle.base_lists.proofs.Options.{and_then_is}
+use Rattle.std.proofs.lemmas.Option.{same_Some}
 
 -- a segment, where it goes and from where on; or one that is not copied
 pub data Job : Type 0 where
@@ -26,16 +28,6 @@ pub data Kept : Job → Job → Type 0 where
 pub data KeptAll : List Job → List Job → Type 0 where
   kept_none : KeptAll [] []
   kept_more : {j k : Job} {js ks : List Job} → Kept j k → KeptAll js ks → KeptAll (j ∷ js) (k ∷ ks)
-
-put_length : {A : Type 0} (xs : List A) (n : ℕ) (v : A) → length (slice_set xs n v) ≡ length xs
-put_length [] n v = refl
-put_length (x ∷ xs) zero v = refl
-put_length (x ∷ xs) (suc n) v = ap suc (put_length xs n v)
-
-put_within : {A : Type 0} (xs ys : List A) (n : ℕ) (v : A) → n < length xs → slice_set (xs ++ ys) n v ≡ slice_set xs n v ++ ys
-put_within [] ys n v l = absurd (omega (arith, l))
-put_within (x ∷ xs) ys zero v l = refl
-put_within (x ∷ xs) ys (suc n) v l = ap (λ l. x ∷ l) (put_within xs ys n v (omega (arith, l)))
 
 module _ (X Y : Type 0) (fill : X → Y → ℕ → Option X) (empty : Y) where
   abbrev pub run : Job → List X × List Y → Option (List X × List Y)
@@ -65,31 +57,31 @@ module _ (X Y : Type 0) (fill : X → Y → ℕ → Option X) (empty : Y) where
     pub segment_count : length segments ≡ length ys
 
   run_front : (xs us : List X) (ys vs : List Y) (j : Job) → LowJob (length xs) (length ys) j → (d : List X × List Y) → run j (xs ++ us, ys ++ vs) ≡ Some d → Front xs us ys vs (run j (xs, ys)) d
-  run_front xs us ys vs Skip low_skip d h = record { targets = xs; segments = ys; is = refl; whole = sym (some_is h); target_count = refl; segment_count = refl }
+  run_front xs us ys vs Skip low_skip d h = record { targets = xs; segments = ys; is = refl; whole = sym (same_Some _ _ h); target_count = refl; segment_count = refl }
   run_front xs us ys vs (Fill n target offset) (low_fill l f) d h =
-      let o = then_is offset _ d h in
-      let a = then_is target _ d o.2 in
-      let x = then_is (slice_get (xs ++ us) a.0) _ d a.2 in
-      let y = then_is (slice_get (ys ++ vs) n) _ d x.2 in
-      let z = then_is (fill x.0 y.0 o.0) _ d y.2 in
-      let at_target = sym (place_within xs us a.0 (f a.0 a.1)) ∙ x.1 in
-      let at_segment = sym (place_within ys vs n l) ∙ y.1 in
+      let o = and_then_is offset _ d h in
+      let a = and_then_is target _ d o.2 in
+      let x = and_then_is (slice_get (xs ++ us) a.0) _ d a.2 in
+      let y = and_then_is (slice_get (ys ++ vs) n) _ d x.2 in
+      let z = and_then_is (fill x.0 y.0 o.0) _ d y.2 in
+      let at_target = sym (append_left xs us a.0 (f a.0 a.1)) ∙ x.1 in
+      let at_segment = sym (append_left ys vs n l) ∙ y.1 in
       record {
         targets = slice_set xs a.0 z.0;
         segments = slice_set ys n empty;
         is = front o.0 a.0 x.0 y.0 z.0 o.1 a.1 at_target at_segment z.1;
-        whole = sym (some_is z.2) ∙ ap₂ (λ xs ys. (xs, ys)) (put_within xs us a.0 z.0 (f a.0 a.1)) (put_within ys vs n empty l);
-        target_count = put_length xs a.0 z.0;
-        segment_count = put_length ys n empty;
+        whole = sym (same_Some _ _ z.2) ∙ ap₂ (λ xs ys. (xs, ys)) (set-append_left xs us a.0 z.0 (f a.0 a.1)) (set-append_left ys vs n empty l);
+        target_count = length-set xs a.0 z.0;
+        segment_count = length-set ys n empty;
       }
     where
       front : (o a : ℕ) (x : X) (y : Y) (z : X) → offset ≡ Some o → target ≡ Some a → slice_get xs a ≡ Some x → slice_get ys n ≡ Some y → fill x y o ≡ Some z → run (Fill n target offset) (xs, ys) ≡ Some (slice_set xs a z, slice_set ys n empty)
       front o a x y z e f g h k = rw (e, f, g, h, k) refl
 
   pub runs_front : (us : List X) (vs : List Y) (js : List Job) (targets segments : ℕ) → LowJobs targets segments js → (xs : List X) (ys : List Y) → length xs ≡ targets → length ys ≡ segments → (d : List X × List Y) → runs js (xs ++ us, ys ++ vs) ≡ Some d → Front xs us ys vs (runs js (xs, ys)) d
-  runs_front us vs [] targets segments low_none xs ys e f d h = record { targets = xs; segments = ys; is = refl; whole = sym (some_is h); target_count = refl; segment_count = refl }
+  runs_front us vs [] targets segments low_none xs ys e f d h = record { targets = xs; segments = ys; is = refl; whole = sym (same_Some _ _ h); target_count = refl; segment_count = refl }
   runs_front us vs (j ∷ js) targets segments (low_more l ls) xs ys e f d h =
-      let c = then_is (run j (xs ++ us, ys ++ vs)) (runs js) d h in
+      let c = and_then_is (run j (xs ++ us, ys ++ vs)) (runs js) d h in
       let first = run_front xs us ys vs j (subst (λ n. LowJob n (length ys) j) (sym e) (subst (λ n. LowJob targets n j) (sym f) l)) c.0 c.1 in
       let rest = runs_front us vs js targets segments ls first.targets first.segments (first.target_count ∙ e) (first.segment_count ∙ f) d (ap (runs js) (sym first.whole) ∙ c.2) in
       record {
@@ -106,13 +98,13 @@ module _ (X Y : Type 0) (fill : X → Y → ℕ → Option X) (empty : Y) where
   run_kept : {j k : Job} → Kept j k → (c d : List X × List Y) → run j c ≡ Some d → run k c ≡ Some d
   run_kept kept_skip c d h = h
   run_kept (kept_fill {n = n} {target = target} {o = o} {p = p} f) c d h =
-      let a = then_is o _ d h in
+      let a = and_then_is o _ d h in
       ap (λ o. option_and_then (λ o. option_and_then (λ a. option_and_then (λ x. option_and_then (λ y. option_and_then (λ z. Some (slice_set c.0 a z, slice_set c.1 n empty)) (fill x y o)) (slice_get c.1 n)) (slice_get c.0 a)) target) o) (f a.0 a.1) ∙ a.2
 
   pub runs_kept : {js ks : List Job} → KeptAll js ks → (c d : List X × List Y) → runs js c ≡ Some d → runs ks c ≡ Some d
   runs_kept kept_none c d h = h
   runs_kept (kept_more {j = j} {k = k} {js = js} {ks = ks} e es) c d h =
-      let a = then_is (run j c) (runs js) d h in
+      let a = and_then_is (run j c) (runs js) d h in
       ap (λ o. option_and_then (runs ks) o) (run_kept e c a.0 a.1) ∙ runs_kept es a.0 d a.2
 
   -- ---- by part ----
@@ -146,7 +138,7 @@ module _ (X Y : Type 0) (fill : X → Y → ℕ → Option X) (empty : Y) where
         let e : n - k ≡ suc (n - suc k) = omega (arith, l) in
         let split = jobs_split n k (omega (arith, l)) ∙ ap (λ c. first_jobs k ++ rest_jobs c k) e in
         let all : runs (jobs_of k ++ rest_jobs (n - suc k) (suc k)) c ≡ Some d = sym (ap (λ o. option_and_then (runs (jobs_of k ++ rest_jobs (n - suc k) (suc k))) o) first) ∙ sym (runs_both (first_jobs k) (jobs_of k ++ rest_jobs (n - suc k) (suc k)) a) ∙ ap (λ js. runs js a) (sym split) ∙ h in
-        let b = then_is (runs (jobs_of k) c) (runs (rest_jobs (n - suc k) (suc k))) d (sym (runs_both (jobs_of k) (rest_jobs (n - suc k) (suc k)) c) ∙ all) in
+        let b = and_then_is (runs (jobs_of k) c) (runs (rest_jobs (n - suc k) (suc k))) d (sym (runs_both (jobs_of k) (rest_jobs (n - suc k) (suc k)) c) ∙ all) in
         (b.0, b.1, runs_both (first_jobs k) (jobs_of k) a ∙ ap (λ o. option_and_then (runs (jobs_of k)) o) first ∙ b.1)
 
     -- all are done, where the rest do nothing

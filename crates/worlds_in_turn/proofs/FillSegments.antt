@@ -12,10 +12,11 @@ use Rattle.wasm_meaning.specs.Environment.{Environment}
 use Rattle.wasm_meaning.specs.World.{Filled, Task, own_store, stores_from, joined_stores, value_of, tasks_in, elem_tasks, data_tasks, and_then, in_turn, segments}
 use Rattle.wasm_meaning.specs.InTurn.{HasNoActive, own_segments}
 use Rattle.worlds_in_turn.proofs.FillStores.{rest_from, Lengths, lengths_first, allocated_whole}
-use Rattle.worlds_in_turn.proofs.FillValues.{place_within, HoldsFixed}
+use Rattle.worlds_in_turn.proofs.FillValues.{HoldsFixed}
 use Rattle.worlds_in_turn.proofs.FillRuns.{Job, first_jobs, rest_jobs, all_runs}
 use Rattle.worlds_in_turn.proofs.FillTurns.{Turned, goes_on, stops, turned_some, turned_not, table_fill, with_tables, elem_runs, elem_jobs, elem_task_job, elem_turn, elems_turned, elem_tasks_jobs, elems_skip}
 use Rattle.worlds_in_turn.proofs.FillData.{memory_fill, data_runs, data_jobs, data_task_job, data_turn, datas_turned, data_tasks_jobs, datas_skip}
+use Rattle.base_lists.proofs.Places.{append_left}
 
 -- ---- elements, then data ----
 
@@ -117,7 +118,7 @@ module _ (env : Environment) (parts : List Part) (insts : List Inst) where
   pub filled_holds : (allocated : Store) (k : ℕ) (t : Store) → FilledUpto allocated k t → HoldsFixed env parts allocated k t
   filled_holds allocated k t h a g low at fixed =
       let n = h.lengths.globals in
-      (g, sym (place_within t.globals (rest_from env parts insts k).globals a (omega (arith, low, n))) ∙ ap (λ l. slice_get l a) (sym h.globals) ∙ at, refl)
+      (g, sym (append_left t.globals (rest_from env parts insts k).globals a (omega (arith, low, n))) ∙ ap (λ l. slice_get l a) (sym h.globals) ∙ at, refl)
 
   module _ (allocated : Store) (stores_are : stores_from env parts insts (own_store env) 0 parts insts ≡ Some allocated) (size : length insts ≡ length parts) where
     pub filled_none : FilledUpto allocated 0 (own_store env)

@@ -1,5 +1,5 @@
 -- The store of all parts at once is what the first of them add, then what the rest add.
-use Rattle.std.proofs.Common.{◌≡◌, ◌∙◌, refl, sym, ap, ap₂, subst, ℕ, zero, suc, ◌+◌, ◌-◌, ◌<◌, ◌≤◌, List, [], ◌∷◌, ◌++◌, map, length, Option, Some, None, append_assoc, arith, option_and_then, slice_get}
+use Rattle.std.proofs.Common.{◌≡◌, ◌∙◌, refl, sym, ap, ap₂, subst, ℕ, zero, suc, ◌+◌, ◌-◌, ◌<◌, ◌≤◌, List, [], ◌∷◌, ◌++◌, length, Option, Some, None, append_assoc, arith, option_and_then, slice_get, append-nil}
 use Rattle.wasm_tree.specs.declared.space.Space.{Space}
 use Rattle.wasm_tree.specs.declared.space.Space.TheVariants.{Functions, Tables, Memories, Globals, DataSegments, ElementSegments}
 use Rattle.wasm_tree.specs.declared.module.ConstExpr.{ConstExpr}
@@ -8,10 +8,11 @@ use Rattle.wasm_meaning.specs.State.{Val, Inst, Store}
 use Rattle.wasm_meaning.specs.Linking.{Part, module_at}
 use Rattle.wasm_meaning.specs.Environment.{Environment}
 use Rattle.wasm_meaning.specs.World.{base, defined_before, all_there, new_func, global_with, elem_with, store_with, part_store, joined_stores, own_store, stores_from}
-use Rattle.worlds_in_turn.proofs.Extends.{append_length}
-use Rattle.worlds_in_turn.proofs.Things.{then_is, some_is, all_length}
 use Rattle.worlds_in_turn.proofs.Reached.{elems_next, datas_next}
 use Rattle.worlds_in_turn.proofs.FillAddresses.{base_next}
+use Rattle.std.proofs.lemmas.List.{length-append, length-map}
+use Rattle.base_lists.proofs.Options.{and_then_is, all_there_length}
+use Rattle.std.proofs.lemmas.Option.{same_Some}
 
 abbrev pub no_store : Store
 no_store = record { funcs = []; tables = []; mems = []; globals = []; elems = []; datas = [] }
@@ -20,19 +21,11 @@ abbrev pub or_no_store : Option Store → Store
 or_no_store None = no_store
 or_no_store (Some s) = s
 
-append_none : {A : Type 0} (xs : List A) → xs ++ [] ≡ xs
-append_none [] = refl
-append_none (x ∷ xs) = ap (λ l. x ∷ l) (append_none xs)
-
 pub joined_none : (s : Store) → joined_stores s no_store ≡ s
-joined_none s = rw (append_none s.funcs, append_none s.tables, append_none s.mems, append_none s.globals, append_none s.elems, append_none s.datas) refl
+joined_none s = rw (append-nil s.funcs, append-nil s.tables, append-nil s.mems, append-nil s.globals, append-nil s.elems, append-nil s.datas) refl
 
 pub joined_twice : (s t u : Store) → joined_stores (joined_stores s t) u ≡ joined_stores s (joined_stores t u)
 joined_twice s t u = rw (append_assoc s.funcs t.funcs u.funcs, append_assoc s.tables t.tables u.tables, append_assoc s.mems t.mems u.mems, append_assoc s.globals t.globals u.globals, append_assoc s.elems t.elems u.elems, append_assoc s.datas t.datas u.datas) refl
-
-pub map_length : {A B : Type 0} (f : A → B) (xs : List A) → length (map f xs) ≡ length xs
-map_length f [] = refl
-map_length f (x ∷ xs) = ap suc (map_length f xs)
 
 pub module_low : (parts : List Part) (p : ℕ) (m : Module) → module_at parts p ≡ Some m → p < length parts
 module_low [] p m e = absurd (let f = e in cc)
@@ -50,16 +43,16 @@ pub record Adds (m : Module) (t : Store) : Type 0 where
 
 pub adds : (value : ConstExpr → Option Val) (m : Module) (i : Inst) (t : Store) → store_with value m i ≡ Some t → Adds m t
 adds value m i t h =
-    let f = then_is (all_there (new_func i) m.funcs) _ t h in
-    let g = then_is (all_there (global_with value) m.globals) _ t f.2 in
-    let e = then_is (all_there (elem_with value) m.elems) _ t g.2 in
-    rw (← some_is e.2) (record {
-      funcs = all_length (new_func i) m.funcs f.0 f.1;
-      tables = map_length _ m.tables;
-      mems = map_length _ m.mems;
-      globals = all_length (global_with value) m.globals g.0 g.1;
-      elems = all_length (elem_with value) m.elems e.0 e.1;
-      datas = map_length _ m.datas;
+    let f = and_then_is (all_there (new_func i) m.funcs) _ t h in
+    let g = and_then_is (all_there (global_with value) m.globals) _ t f.2 in
+    let e = and_then_is (all_there (elem_with value) m.elems) _ t g.2 in
+    rw (← same_Some _ _ e.2) (record {
+      funcs = all_there_length (new_func i) m.funcs f.0 f.1;
+      tables = length-map m.tables _;
+      mems = length-map m.mems _;
+      globals = all_there_length (global_with value) m.globals g.0 g.1;
+      elems = all_there_length (elem_with value) m.elems e.0 e.1;
+      datas = length-map m.datas _;
     })
 
 module _ (env : Environment) (parts : List Part) (insts : List Inst) where
@@ -116,7 +109,7 @@ module _ (env : Environment) (parts : List Part) (insts : List Inst) where
         }
       where
         counted : {A : Type 0} (xs ys : List A) (b c d : ℕ) → length xs ≡ b → length ys ≡ c → d ≡ b + c → length (xs ++ ys) ≡ d
-        counted xs ys b c d e f g = let l = append_length xs ys in omega (arith, e, f, g, l)
+        counted xs ys b c d e f g = let l = length-append xs ys in omega (arith, e, f, g, l)
 
   pub rest_last : rest_from (length parts) ≡ no_store
   rest_last = let n : length parts - length parts ≡ 0 = omega arith in ap (λ n. rest_for n (length parts)) n
@@ -151,11 +144,11 @@ module _ (env : Environment) (parts : List Part) (insts : List Inst) where
     whole : u ≡ joined_stores s (rest_for (length ps) p)
 
   from : (s : Store) (p : ℕ) (ps : List Part) (is : List Inst) (u : Store) → ((q : ℕ) (m : Module) → module_at ps q ≡ Some m → module_at parts (p + q) ≡ Some m) → ((q : ℕ) → slice_get is q ≡ slice_get insts (p + q)) → length is ≡ length ps → stores_from env parts insts s p ps is ≡ Some u → From s p ps is u
-  from s p [] [] u f g e h = record { each = λ q m i a b. absurd (let k = a in cc); whole = sym (some_is h) ∙ sym (joined_none s) }
+  from s p [] [] u f g e h = record { each = λ q m i a b. absurd (let k = a in cc); whole = sym (same_Some _ _ h) ∙ sym (joined_none s) }
   from s p [] (i ∷ is) u f g e h = absurd (omega (arith, e))
   from s p (part ∷ ps) [] u f g e h = absurd (omega (arith, e))
   from s p (part ∷ ps) (i ∷ is) u f g e h =
-      let t = then_is (part_store env parts insts p part.«module» i) _ u h in
+      let t = and_then_is (part_store env parts insts p part.«module» i) _ u h in
       let z : p + 0 ≡ p = omega arith in
       let more = from (joined_stores s t.0) (suc p) ps is u (λ q m h. ap (module_at parts) (let n : suc p + q ≡ p + suc q = omega arith in n) ∙ f (suc q) m h) (λ q. g (suc q) ∙ ap (slice_get insts) (let n : p + suc q ≡ suc p + q = omega arith in n)) (omega (arith, e)) t.2 in
       let is_part : module_at parts p ≡ Some part.«module» = ap (module_at parts) (sym z) ∙ f 0 part.«module» refl in
@@ -169,7 +162,7 @@ module _ (env : Environment) (parts : List Part) (insts : List Inst) where
       at : (t : Store) → part_store env parts insts p part.«module» i ≡ Some t → ((q : ℕ) (m : Module) (j : Inst) → module_at ps q ≡ Some m → slice_get is q ≡ Some j → (a : Store) × (part_store env parts insts (suc p + q) m j ≡ Some a)) → (q : ℕ) (m : Module) (j : Inst) → module_at (part ∷ ps) q ≡ Some m → slice_get (i ∷ is) q ≡ Some j → (a : Store) × (part_store env parts insts (p + q) m j ≡ Some a)
       at t h more zero m j a b =
           let z : p + 0 ≡ p = omega arith in
-          (t, ap (λ n. part_store env parts insts n m j) z ∙ ap₂ (part_store env parts insts p) (sym (some_is a)) (sym (some_is b)) ∙ h)
+          (t, ap (λ n. part_store env parts insts n m j) z ∙ ap₂ (part_store env parts insts p) (sym (same_Some _ _ a)) (sym (same_Some _ _ b)) ∙ h)
       at t h more (suc q) m j a b =
           let r = more q m j a b in
           let z : p + suc q ≡ suc p + q = omega arith in

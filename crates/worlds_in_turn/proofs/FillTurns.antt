@@ -12,8 +12,9 @@ use Rattle.wasm_meaning.specs.Step.{no_items}
 use Rattle.wasm_meaning.specs.Environment.{any_of}
 use Rattle.wasm_meaning.specs.World.{Filled, Task, given, tasks_in, or_trapped, fill_table, run_elem_with, and_then, in_turn}
 use Rattle.wasm_meaning.specs.InTurn.{is_active_elem}
-use Rattle.worlds_in_turn.proofs.Things.{then_is, some_is}
 use Rattle.worlds_in_turn.proofs.FillRuns.{Job, Skip, Fill, run, runs, LowJob, low_skip, low_fill, LowJobs, low_none, low_more, Kept, kept_skip, kept_fill, KeptAll, kept_none, kept_more}
+use Rattle.base_lists.proofs.Options.{and_then_is}
+use Rattle.std.proofs.lemmas.Option.{same_Some}
 
 -- with the lists that come out set into the store; or a segment was out of bounds
 pub data Turned {X Y : Type 0} (set : List X × List Y → Store) : Option (List X × List Y) → Filled → Type 0 where
@@ -21,7 +22,7 @@ pub data Turned {X Y : Type 0} (set : List X × List Y → Store) : Option (List
   stops : {u : Store} → Turned set None (record { store = u; trapped = true })
 
 pub turned_some : {X Y : Type 0} {set : List X × List Y → Store} {o : Option (List X × List Y)} {f : Filled} → Turned set o f → (c : List X × List Y) → o ≡ Some c → f ≡ record { store = set c; trapped = false }
-turned_some {set = set} (goes_on {c = d}) c e = ap (λ c. record { store = set c; trapped = false }) (some_is e)
+turned_some {set = set} (goes_on {c = d}) c e = ap (λ c. record { store = set c; trapped = false }) (same_Some _ _ e)
 turned_some stops c e = absurd (let k = e in cc)
 
 pub turned_not : {X Y : Type 0} {set : List X × List Y → Store} {o : Option (List X × List Y)} {f : Filled} → Turned set o f → f.trapped ≡ false → (c : List X × List Y) × (o ≡ Some c)
@@ -109,6 +110,6 @@ elems_kept v w i (n ∷ ns) [] h = kept_none
 elems_kept v w i (n ∷ ns) (e ∷ es) h = kept_more (one e.mode refl) (elems_kept v w i ns es (λ n s x e at m u k. h (suc n) s x e at m u k))
   where
     one : (mode : ElemMode) → e.mode ≡ mode → Kept (elem_job v i n mode) (elem_job w i n mode)
-    one (elem.Active x offset) m = kept_fill (λ a k. let u = then_is (v offset) _ a k in ap (λ o. option_and_then (λ v. given (num_of W32 v)) o) (h 0 e x offset refl m u.0 u.1) ∙ u.2)
+    one (elem.Active x offset) m = kept_fill (λ a k. let u = and_then_is (v offset) _ a k in ap (λ o. option_and_then (λ v. given (num_of W32 v)) o) (h 0 e x offset refl m u.0 u.1) ∙ u.2)
     one elem.Passive m = kept_skip
     one elem.Declarative m = kept_skip

@@ -5,7 +5,7 @@ use Rattle.wasm_tree.specs.declared.space.Space.TheVariants.{Functions, Tables, 
 use Rattle.wasm_tree.specs.Operands.{same_space}
 use Rattle.std.specs.Prelude.{◌↔◌, ◌&&◌, not, nat_lt, slice_get}
 use Rattle.std.specs.List.{filter_map, cons_option}
-use Rattle.std.proofs.lemmas.Bool.{ltb-true}
+use Rattle.std.proofs.lemmas.Bool.{ltb-true, and_parts, not-true}
 use Rattle.wasm_tree.specs.declared.types.ValType.{ValType}
 use Rattle.wasm_tree.specs.declared.types.ValType.TheVariants.{Ref}
 use Rattle.wasm_tree.specs.declared.types.GlobalType.{GlobalType}
@@ -20,21 +20,20 @@ use Rattle.wasm_tree.specs.declared.module.GlobalDef.{GlobalDef}
 use Rattle.wasm_tree.specs.declared.module.ElemSeg.{ElemSeg}
 use Rattle.wasm_tree.specs.declared.module.DataSeg.{DataSeg}
 use Rattle.wasm_tree.specs.declared.module.Module.{Module}
-use Rattle.wasm_tree.specs.Spaces.{func_of, table_of, memory_of, global_of, imported_globals, globals_of}
+use Rattle.wasm_tree.specs.Spaces.{func_of, table_of, memory_of, global_of, imported_globals, globals_of, index_of_export, space_of_export, space_of_import}
 use Rattle.wasm_typing.specs.Typing.{only}
 use Rattle.wasm_valid.specs.declared.kinds.ItemKind.{ItemKind}
 use Rattle.wasm_valid.specs.declared.kinds.ItemKind.TheVariants as kind
 use Rattle.wasm_valid.specs.Constants.{const_type}
 use Rattle.wasm_valid.specs.Validity.{IsValid, HoldsAt, count_of, InSpace, ElemModeHolds, DataModeHolds}
 use Rattle.wasm_meaning.specs.State.{Text}
-use Rattle.wasm_meaning.specs.Linking.{Part, places, has_kind, same_text, kind_of_import, kind_of_export, index_of_export, imports_of, module_at, export_named}
+use Rattle.wasm_meaning.specs.Linking.{Part, places, has_kind, same_text, imports_of, module_at, export_named}
 use Rattle.wasm_meaning.specs.World.{is_there, defined_count}
-use Rattle.worlds_in_turn.proofs.Extends.{append_length}
-use Rattle.worlds_in_turn.proofs.Things.{some_is}
 use Rattle.worlds_in_turn.proofs.Joined.{ExportsThere}
-use Rattle.worlds_in_turn.proofs.FillStores.{map_length}
-use Rattle.worlds_in_turn.proofs.FillValues.{place_low, ReadsImport, Constant}
+use Rattle.worlds_in_turn.proofs.FillValues.{ReadsImport, Constant}
 use Rattle.worlds_in_turn.proofs.FillAdded.{Constants}
+use Rattle.std.proofs.lemmas.List.{length-append, length-map}
+use Rattle.std.proofs.lemmas.Option.{slice_get_within, same_Some}
 
 -- ---- lists ----
 
@@ -43,19 +42,9 @@ place_get [] n = refl
 place_get (x ∷ xs) zero = refl
 place_get (x ∷ xs) (suc n) = place_get xs n
 
-both_true : (b c : Bool) → b && c ≡ true → (b ≡ true) × (c ≡ true)
-both_true true true e = (refl, refl)
-both_true true false e = cc
-both_true false true e = cc
-both_true false false e = cc
-
-not_true : (b : Bool) → not b ≡ true → b ≡ false
-not_true true e = cc
-not_true false e = refl
-
 -- ---- imports of a kind, and what they add to its space ----
 
-same_many : {A : Type 0} (k : Space) (f : ImportDesc → Option A) → ((d : ImportDesc) → is_there (f d) ≡ same_space k (kind_of_import d)) → (is : List Import) (off : ℕ) → length (filter_map (λ i. f i.desc) is) ≡ length (places (has_kind k) is off)
+same_many : {A : Type 0} (k : Space) (f : ImportDesc → Option A) → ((d : ImportDesc) → is_there (f d) ≡ same_space k (space_of_import d)) → (is : List Import) (off : ℕ) → length (filter_map (λ i. f i.desc) is) ≡ length (places (has_kind k) is off)
 same_many k f h [] off = refl
 same_many {A} k f h (i ∷ is) off = go (f i.desc) (has_kind k i) (h i.desc) (same_many k f h is (suc off))
   where
@@ -65,25 +54,25 @@ same_many {A} k f h (i ∷ is) off = go (f i.desc) (has_kind k i) (h i.desc) (sa
     go (Some a) true e r = ap suc r
     go (Some a) false e r = absurd (let k = e in cc)
 
-funcs_many : (d : ImportDesc) → is_there (func_of d) ≡ same_space Functions (kind_of_import d)
+funcs_many : (d : ImportDesc) → is_there (func_of d) ≡ same_space Functions (space_of_import d)
 funcs_many (im.Func t) = refl
 funcs_many (im.Table t) = refl
 funcs_many (im.Memory l) = refl
 funcs_many (im.Global t) = refl
 
-tables_many : (d : ImportDesc) → is_there (table_of d) ≡ same_space Tables (kind_of_import d)
+tables_many : (d : ImportDesc) → is_there (table_of d) ≡ same_space Tables (space_of_import d)
 tables_many (im.Func t) = refl
 tables_many (im.Table t) = refl
 tables_many (im.Memory l) = refl
 tables_many (im.Global t) = refl
 
-memories_many : (d : ImportDesc) → is_there (memory_of d) ≡ same_space Memories (kind_of_import d)
+memories_many : (d : ImportDesc) → is_there (memory_of d) ≡ same_space Memories (space_of_import d)
 memories_many (im.Func t) = refl
 memories_many (im.Table t) = refl
 memories_many (im.Memory l) = refl
 memories_many (im.Global t) = refl
 
-globals_many : (d : ImportDesc) → is_there (global_of d) ≡ same_space Globals (kind_of_import d)
+globals_many : (d : ImportDesc) → is_there (global_of d) ≡ same_space Globals (space_of_import d)
 globals_many (im.Func t) = refl
 globals_many (im.Table t) = refl
 globals_many (im.Memory l) = refl
@@ -104,7 +93,7 @@ imported [] off x rest l = absurd (omega (arith, l))
 imported (i ∷ is) off x rest l = go i.desc refl x l (imported is (suc off))
   where
     abbrev_found : ImportDesc → List ℕ
-    abbrev_found d = cond (same_space Globals (kind_of_import d)) (off ∷ places (has_kind Globals) is (suc off)) (places (has_kind Globals) is (suc off))
+    abbrev_found d = cond (same_space Globals (space_of_import d)) (off ∷ places (has_kind Globals) is (suc off)) (places (has_kind Globals) is (suc off))
 
     past : (d : ImportDesc) → i.desc ≡ d → (y : ℕ) → Imported is (suc off) y rest → (x : ℕ) → ((at : ℕ) → slice_get (places (has_kind Globals) is (suc off)) y ≡ Some at → slice_get (abbrev_found d) x ≡ Some at) → ((t : GlobalType) → slice_get (imported_globals is ++ rest) y ≡ Some t → slice_get (cons_option (global_of d) (imported_globals is) ++ rest) x ≡ Some t) → Imported (i ∷ is) off x rest
     past d e y r x f g =
@@ -150,9 +139,9 @@ constant_typed m e ty h x is = go (slice_get (globals_of m) x) refl (ap (const_t
     go : (o : Option GlobalType) → slice_get (globals_of m) x ≡ o → option_and_then (λ g. only (nat_lt x (length (imported_globals m.imports)) && not g.mutable) (Some g.ty)) o ≡ Some ty → ReadsImport m x
     go None at e = absurd (let k = e in cc)
     go (Some g) at e =
-        let both = both_true (nat_lt x (length (imported_globals m.imports))) (not g.mutable) (only_is _ (Some g.ty) ty e) in
+        let both = and_parts (nat_lt x (length (imported_globals m.imports))) (not g.mutable) (only_is _ (Some g.ty) ty e) in
         let r = imported m.imports 0 x (map (λ g. g.ty) m.globals) (ltb-true _ _ both.0) in
-        let same : r.type ≡ g = some_is (sym r.in_space ∙ at) in
+        let same : r.type ≡ g = same_Some _ _ (sym r.in_space ∙ at) in
         let z : 0 + r.at ≡ r.at = omega arith in
         record {
           at = r.at;
@@ -161,7 +150,7 @@ constant_typed m e ty h x is = go (slice_get (globals_of m) x) refl (ap (const_t
           is_import = r.is_import;
           type = r.type;
           is_global = r.is_global;
-          fixed = ap (λ t. t.mutable) same ∙ not_true g.mutable both.1;
+          fixed = ap (λ t. t.mutable) same ∙ not-true g.mutable both.1;
         }
 
 module _ (items : (m : Module) → IsValid m ↔ ((k : ItemKind) (i : ℕ) → i < count_of m true k → HoldsAt m k i)) where
@@ -175,20 +164,20 @@ module _ (items : (m : Module) → IsValid m ↔ ((k : ItemKind) (i : ℕ) → i
     where
       global_typed : (n : ℕ) (g : GlobalDef) → slice_get m.globals n ≡ Some g → const_type m g.init ≡ Some g.ty.ty
       global_typed n g h =
-          let z = (items m).0 valid kind.Global n (place_low m.globals n g h) in
-          let same : z.0 ≡ g = some_is (sym z.1 ∙ sym (place_get m.globals n) ∙ h) in
+          let z = (items m).0 valid kind.Global n (slice_get_within m.globals n g h) in
+          let same : z.0 ≡ g = same_Some _ _ (sym z.1 ∙ sym (place_get m.globals n) ∙ h) in
           subst (λ (g : GlobalDef). const_type m g.init ≡ Some g.ty.ty) same z.2
 
       elem_holds : (n : ℕ) (s : ElemSeg) → slice_get m.elems n ≡ Some s → ((l : ℕ) (e : ConstExpr) → slice_get s.items l ≡ Some e → const_type m e ≡ Some (Ref s.ty)) × ElemModeHolds m s.ty s.mode
       elem_holds n s h =
-          let z = (items m).0 valid kind.Elem n (place_low m.elems n s h) in
-          let same : z.0 ≡ s = some_is (sym z.1 ∙ sym (place_get m.elems n) ∙ h) in
+          let z = (items m).0 valid kind.Elem n (slice_get_within m.elems n s h) in
+          let same : z.0 ≡ s = same_Some _ _ (sym z.1 ∙ sym (place_get m.elems n) ∙ h) in
           subst (λ (s : ElemSeg). ((l : ℕ) (e : ConstExpr) → slice_get s.items l ≡ Some e → const_type m e ≡ Some (Ref s.ty)) × ElemModeHolds m s.ty s.mode) same (z.2, z.3)
 
       data_holds : (n : ℕ) (s : DataSeg) → slice_get m.datas n ≡ Some s → DataModeHolds m s.mode
       data_holds n s h =
-          let z = (items m).0 valid kind.Segment n (place_low m.datas n s h) in
-          let same : z.0 ≡ s = some_is (sym z.1 ∙ sym (place_get m.datas n) ∙ h) in
+          let z = (items m).0 valid kind.Segment n (slice_get_within m.datas n s h) in
+          let same : z.0 ≡ s = same_Some _ _ (sym z.1 ∙ sym (place_get m.datas n) ∙ h) in
           subst (λ (s : DataSeg). DataModeHolds m s.mode) same z.2
 
   -- ---- exports ----
@@ -198,32 +187,32 @@ module _ (items : (m : Module) → IsValid m ↔ ((k : ItemKind) (i : ℕ) → i
   export_found (e ∷ es) field d h = go (same_text e.name field) h (export_found es field d)
     where
       go : (b : Bool) → cond b (Some e.desc) (export_named es field) ≡ Some d → (export_named es field ≡ Some d → (n : ℕ) × (e : Export) × (slice_get es n ≡ Some e) × (e.desc ≡ d)) → (n : ℕ) × (f : Export) × (slice_get (e ∷ es) n ≡ Some f) × (f.desc ≡ d)
-      go true h more = (0, e, refl, some_is h)
+      go true h more = (0, e, refl, same_Some _ _ h)
       go false h more = let r = more h in (suc r.0, r.1, r.2, r.3)
 
-  in_space : (m : Module) (d : ExportDesc) → InSpace m d → index_of_export d < length (imports_of (kind_of_export d) m) + defined_count (kind_of_export d) m
+  in_space : (m : Module) (d : ExportDesc) → InSpace m d → index_of_export d < length (imports_of (space_of_export d) m) + defined_count (space_of_export d) m
   in_space m (ex.Func x) h =
-      let a = append_length (filter_map (λ i. func_of i.desc) m.imports) (map (λ f. f.ty) m.funcs) in
+      let a = length-append (filter_map (λ i. func_of i.desc) m.imports) (map (λ f. f.ty) m.funcs) in
       let b = same_many Functions func_of funcs_many m.imports 0 in
-      let c = map_length (λ f. f.ty) m.funcs in
+      let c = length-map m.funcs (λ f. f.ty) in
       omega (arith, h, a, b, c)
   in_space m (ex.Table x) h =
-      let a = append_length (filter_map (λ i. table_of i.desc) m.imports) m.tables in
+      let a = length-append (filter_map (λ i. table_of i.desc) m.imports) m.tables in
       let b = same_many Tables table_of tables_many m.imports 0 in
       omega (arith, h, a, b)
   in_space m (ex.Memory x) h =
-      let a = append_length (filter_map (λ i. memory_of i.desc) m.imports) m.mems in
+      let a = length-append (filter_map (λ i. memory_of i.desc) m.imports) m.mems in
       let b = same_many Memories memory_of memories_many m.imports 0 in
       omega (arith, h, a, b)
   in_space m (ex.Global x) h =
-      let a = append_length (filter_map (λ i. global_of i.desc) m.imports) (map (λ g. g.ty) m.globals) in
+      let a = length-append (filter_map (λ i. global_of i.desc) m.imports) (map (λ g. g.ty) m.globals) in
       let b = same_many Globals global_of globals_many m.imports 0 in
-      let c = map_length (λ g. g.ty) m.globals in
+      let c = length-map m.globals (λ g. g.ty) in
       omega (arith, h, a, b, c)
 
   pub valid_exports : (parts : List Part) → ((p : ℕ) (m : Module) → module_at parts p ≡ Some m → IsValid m) → ExportsThere parts
   valid_exports parts valid p m field d is_part named =
       let e = export_found m.exports field d named in
-      let z = (items m).0 (valid p m is_part) kind.Export e.0 (place_low m.exports e.0 e.1 e.2) in
-      let same : z.0 ≡ e.1 = some_is (sym z.1 ∙ sym (place_get m.exports e.0) ∙ e.2) in
+      let z = (items m).0 (valid p m is_part) kind.Export e.0 (slice_get_within m.exports e.0 e.1 e.2) in
+      let same : z.0 ≡ e.1 = same_Some _ _ (sym z.1 ∙ sym (place_get m.exports e.0) ∙ e.2) in
       in_space m d (subst (InSpace m) (ap (λ e. e.desc) same ∙ e.3) z.2)

@@ -1,7 +1,7 @@
 -- A constant expression of a part has one value, whether it is read from the store as the part's turn comes or along its path through joined globals.
 use Rattle.std.proofs.Common.{◌≡◌, ◌∙◌, refl, sym, ap, ap₂, subst, ℕ, zero, suc, ◌+◌, ◌-◌, ◌<◌, List, [], ◌∷◌, ◌++◌, length, Option, Some, None, Bool, true, false, cond, ◌⊎◌, inl, inr, arith, option_and_then, slice_get, unwrap_or, ◌&&◌}
 use Rattle.wasm_tree.specs.declared.space.Space.{Space}
-use Rattle.wasm_tree.specs.declared.space.Space.TheVariants.{Functions, Tables, Memories, Globals}
+use Rattle.wasm_tree.specs.declared.space.Space.TheVariants.{Functions, Tables, Memories, Globals, Types, ElementSegments, DataSegments}
 use Rattle.wasm_tree.specs.Operands.{same_space}
 use Rattle.wasm_tree.specs.declared.types.GlobalType.{GlobalType}
 use Rattle.wasm_tree.specs.declared.module.Import.{Import}
@@ -12,27 +12,21 @@ use Rattle.wasm_tree.specs.declared.module.Module.{Module}
 use Rattle.wasm_meaning.specs.State.{Val, Inst, Global, Store}
 use Rattle.wasm_meaning.specs.Values.{same_type}
 use Rattle.wasm_meaning.specs.Paths.{Next, Ends, Goes, walk, walk_on}
-use Rattle.wasm_meaning.specs.Linking.{Part, Site, End, Defined, Outside, Read, places, has_kind, kind_of_import, space_index, index_of_export, imports_of, module_at, import_at, sites_in, sites_from, sites, end_of, global_import, initial, outside_read, end_step, read_step, initials_from, read_of}
+use Rattle.wasm_meaning.specs.Linking.{Part, Site, End, Defined, Outside, Read, places, has_kind, space_index, imports_of, module_at, import_at, sites_in, sites_from, sites, end_of, global_import, initial, outside_read, end_step, read_step, initials_from, read_of}
+use Rattle.wasm_tree.specs.Spaces.{index_of_export, space_of_import}
 use Rattle.wasm_meaning.specs.Environment.{Environment, GlobalAt, own_globals, all_of}
 use Rattle.wasm_meaning.specs.World.{all_there, base, same_bool, is_match, is_matched, imported_thing, insts_from, inst_of, own_store, stores_from, global_with, new_func, elem_with, const_value, value_of_read, value_of, address_of, joined_stores}
 use Rattle.wasm_meaning.specs.InTurn.{JoinsEarlier}
-use Rattle.worlds_in_turn.proofs.Things.{then_is, some_is, IsInst, inst_is, inst_at, walk_more, thing_has, place_behind}
+use Rattle.worlds_in_turn.proofs.Things.{IsInst, inst_is, inst_at, walk_more, thing_has}
 use Rattle.worlds_in_turn.proofs.Joined.{ExportsThere}
 use Rattle.worlds_in_turn.proofs.FillAddresses.{AtDefined, AtOwn, HasAddress, import_address, imported_at, imported_low}
 use Rattle.worlds_in_turn.proofs.Low.{all_back}
 use Rattle.worlds_in_turn.proofs.FillStores.{adds, rest_from, rest_next, first_stores, part_adds, inst_there, allocated_whole, first_parts, module_low}
+use Rattle.std.proofs.lemmas.Option.{slice_get_within, same_Some}
+use Rattle.base_lists.proofs.Places.{append_left, append_right}
+use Rattle.base_lists.proofs.Options.{and_then_is}
 
 -- ---- lists ----
-
-pub place_low : {A : Type 0} (xs : List A) (n : ℕ) (x : A) → slice_get xs n ≡ Some x → n < length xs
-place_low [] n x e = absurd (let k = e in cc)
-place_low (z ∷ zs) zero x e = omega arith
-place_low (z ∷ zs) (suc n) x e = let l = place_low zs n x e in omega (arith, l)
-
-pub place_within : {A : Type 0} (xs ys : List A) (n : ℕ) → n < length xs → slice_get (xs ++ ys) n ≡ slice_get xs n
-place_within [] ys n l = absurd (omega (arith, l))
-place_within (z ∷ zs) ys zero l = refl
-place_within (z ∷ zs) ys (suc n) l = place_within zs ys n (omega (arith, l))
 
 -- the place of an import among those of its kind
 same_kind_self : (k : Space) → same_space k k ≡ true
@@ -40,11 +34,14 @@ same_kind_self Functions = refl
 same_kind_self Tables = refl
 same_kind_self Memories = refl
 same_kind_self Globals = refl
+same_kind_self Types = refl
+same_kind_self ElementSegments = refl
+same_kind_self DataSegments = refl
 
-index_place : (k : Space) (is : List Import) (n off : ℕ) (i : Import) → slice_get is n ≡ Some i → kind_of_import i.desc ≡ k → slice_get (places (has_kind k) is off) (space_index is n k) ≡ Some (off + n)
+index_place : (k : Space) (is : List Import) (n off : ℕ) (i : Import) → slice_get is n ≡ Some i → space_of_import i.desc ≡ k → slice_get (places (has_kind k) is off) (space_index is n k) ≡ Some (off + n)
 index_place k [] n off i e h = absurd (let f = e in cc)
 index_place k (j ∷ js) zero off i e h =
-    let same : same_space k (kind_of_import j.desc) ≡ true = ap (λ i. same_space k (kind_of_import i.desc)) (some_is e) ∙ ap (same_space k) h ∙ same_kind_self k in
+    let same : same_space k (space_of_import j.desc) ≡ true = ap (λ i. same_space k (space_of_import i.desc)) (same_Some _ _ e) ∙ ap (same_space k) h ∙ same_kind_self k in
     let z : off ≡ off + 0 = omega arith in
     ap (λ b. slice_get (cond b (off ∷ places (has_kind k) js (suc off)) (places (has_kind k) js (suc off))) 0) same ∙ ap Some z
 index_place k (j ∷ js) (suc n) off i e h = go (has_kind k j) (index_place k js n (suc off) i e h)
@@ -81,7 +78,7 @@ all_from test p (part ∷ ps) e q m h n l = go q h (all_both test (sites_in p (l
     go zero h both more =
         let z : p + 0 ≡ p = omega arith in
         let y : n ≡ 0 + n = omega arith in
-        let l : n < length part.«module».imports = subst (λ m. n < length m.imports) (sym (some_is h)) l in
+        let l : n < length part.«module».imports = subst (λ m. n < length m.imports) (sym (same_Some _ _ h)) l in
         ap₂ (λ p n. test (record { part = p; import = n })) z y ∙ all_in test p (length part.«module».imports) 0 n both.0 l
     go (suc q) h both more = let z : p + suc q ≡ suc p + q = omega arith in ap (λ p. test (record { part = p; import = n })) z ∙ more both.1 q m h n l
 
@@ -138,7 +135,7 @@ module _ (env : Environment) (parts : List Part) (insts : List Inst) (are : inst
     defined_value p m j g is_part low at =
         let l = module_low parts p m is_part in
         let t = inst_there env parts insts allocated stores_are size p l in
-        let same : t.0 ≡ m = some_is (sym t.2 ∙ is_part) in
+        let same : t.0 ≡ m = same_Some _ _ (sym t.2 ∙ is_part) in
         let a = part_adds env parts insts allocated stores_are size p m t.1 is_part t.3 in
         let first = first_parts env parts insts allocated stores_are size p (omega (arith, l)) in
         let n = first.lengths.globals in
@@ -146,17 +143,17 @@ module _ (env : Environment) (parts : List Part) (insts : List Inst) (are : inst
         let whole = first.whole ∙ ap (joined_stores (first_stores env parts insts p)) next in
         let count = (adds _ m t.1 a.0 a.1).globals in
         let here : slice_get a.0.globals j ≡ Some g =
-        sym (place_within a.0.globals (rest_from env parts insts (suc p)).globals j (omega (arith, low, count)))
-        ∙ sym (place_behind (first_stores env parts insts p).globals (a.0.globals ++ (rest_from env parts insts (suc p)).globals) j)
+        sym (append_left a.0.globals (rest_from env parts insts (suc p)).globals j (omega (arith, low, count)))
+        ∙ sym (append_right (first_stores env parts insts p).globals (a.0.globals ++ (rest_from env parts insts (suc p)).globals) j)
         ∙ ap (λ n. slice_get ((first_stores env parts insts p).globals ++ (a.0.globals ++ (rest_from env parts insts (suc p)).globals)) (n + j)) n
         ∙ ap (λ s. slice_get s.globals (base env parts Globals p + j)) (sym whole)
         ∙ at in
-        let f = then_is (all_there (new_func t.1) m.funcs) _ a.0 a.1 in
-        let gs = then_is (all_there (global_with (value_of env parts insts p)) m.globals) _ a.0 f.2 in
-        let es = then_is (all_there (elem_with (value_of env parts insts p)) m.elems) _ a.0 gs.2 in
-        let back = all_back (global_with (value_of env parts insts p)) m.globals gs.0 gs.1 j g (ap (λ s. slice_get s.globals j) (some_is es.2) ∙ here) in
-        let v = then_is (value_of env parts insts p back.0.init) _ g back.2 in
-        (back.0.init, ap (λ o. option_and_then (λ d. Some d.init) o) back.1, v.1 ∙ ap (λ g. Some g.value) (some_is v.2))
+        let f = and_then_is (all_there (new_func t.1) m.funcs) _ a.0 a.1 in
+        let gs = and_then_is (all_there (global_with (value_of env parts insts p)) m.globals) _ a.0 f.2 in
+        let es = and_then_is (all_there (elem_with (value_of env parts insts p)) m.elems) _ a.0 gs.2 in
+        let back = all_back (global_with (value_of env parts insts p)) m.globals gs.0 gs.1 j g (ap (λ s. slice_get s.globals j) (same_Some _ _ es.2) ∙ here) in
+        let v = and_then_is (value_of env parts insts p back.0.init) _ g back.2 in
+        (back.0.init, ap (λ o. option_and_then (λ d. Some d.init) o) back.1, v.1 ∙ ap (λ g. Some g.value) (same_Some _ _ v.2))
 
     module _ (k : ℕ) (m : Module) (i : Inst) (is_part : module_at parts k ≡ Some m) (is_inst : slice_get insts k ≡ Some i) (t : Store) (holds : HoldsFixed env parts allocated k t) where
       -- through an import
@@ -172,10 +169,10 @@ module _ (env : Environment) (parts : List Part) (insts : List Inst) (are : inst
           matches : unwrap_or (is_match allocated m (im.Global c.type) (GlobalAt d.address)) false ≡ true
           matches =
               let z : 0 + k ≡ k = omega arith in
-              let at = all_from (is_matched env parts allocated) 0 parts matched k m is_part c.at (place_low m.imports c.at c.import c.is_import) in
+              let at = all_from (is_matched env parts allocated) 0 parts matched k m is_part c.at (slice_get_within m.imports c.at c.import c.is_import) in
               let import_is : import_at parts (record { part = k; import = c.at }) ≡ Some c.import = ap (λ o. option_and_then (λ m. slice_get m.imports c.at) o) is_part ∙ c.is_import in
               let unfolded = ap₂ (λ o q. unwrap_or (option_and_then (λ m. option_and_then (λ i. option_and_then (is_match allocated m i.desc) (imported_thing env parts (record { part = k; import = c.at }))) q) o) false) is_part import_is in
-              let thing : imported_thing env parts (record { part = k; import = c.at }) ≡ Some (GlobalAt d.address) = d.is ∙ ap Some (sym (thing_has Globals d.thing d.address d.has)) in
+              let thing : imported_thing env parts (record { part = k; import = c.at }) ≡ Some (GlobalAt d.address) = d.is ∙ sym (thing_has Globals d.thing d.address d.has) in
               ap₂ (λ e o. unwrap_or (option_and_then (is_match allocated m e) o) false) (sym c.is_global) (sym thing) ∙ sym unfolded ∙ ap (λ n. is_matched env parts allocated (record { part = n; import = c.at })) (sym z) ∙ at
 
           fixed : Fixed d.address
@@ -210,15 +207,15 @@ module _ (env : Environment) (parts : List Part) (insts : List Inst) (are : inst
               let y = space_index w.of.imports w.last.import Globals in
               let last : outside_read parts w.last ≡ Some (record { part = w.last.part; expr = const.Global y }) = ap (λ o. option_and_then (λ m. Some (record { part = w.last.part; expr = const.Global (space_index m.imports w.last.import Globals) })) o) w.is_part in
               let step = step_is (Outside w.last) w.end ∙ ap (λ o. option_and_then (λ r. Some (Ends r)) o) last in
-              let r_is : record { part = w.last.part; expr = const.Global y } ≡ r = some_is (at_end (Ends (record { part = w.last.part; expr = const.Global y })) step) in
+              let r_is : record { part = w.last.part; expr = const.Global y } ≡ r = same_Some _ _ (at_end (Ends (record { part = w.last.part; expr = const.Global y })) step) in
               let j = inst_there env parts insts allocated stores_are size w.last.part (module_low parts w.last.part w.of w.is_part) in
               let z : 0 + w.last.import ≡ w.last.import = omega arith in
               let stands = index_place Globals w.of.imports w.last.import 0 w.import w.is_import w.kind ∙ ap Some z in
               let a = import_address env parts w.last.part w.of j.1 (part_inst w.last.part w.of j.1 w.is_part j.3) Globals y w.last.import stands in
-              let same : a.address ≡ d.address = some_is (sym a.has ∙ ap (λ o. option_and_then (address_of Globals) o) (sym a.is ∙ w.thing)) in
+              let same : a.address ≡ d.address = same_Some _ _ (sym a.has ∙ ap (λ o. option_and_then (address_of Globals) o) (sym a.is ∙ w.thing)) in
               let whole = ap (λ s. s.globals) (allocated_whole env parts insts allocated stores_are size) in
               let here : slice_get (own_globals env) a.address ≡ Some fixed.global =
-              ap (slice_get (own_globals env)) same ∙ sym (place_within (own_globals env) (rest_from env parts insts 0).globals d.address w.low) ∙ ap (λ l. slice_get l d.address) (sym whole) ∙ fixed.is in
+              ap (slice_get (own_globals env)) same ∙ sym (append_left (own_globals env) (rest_from env parts insts 0).globals d.address w.low) ∙ ap (λ l. slice_get l d.address) (sym whole) ∙ fixed.is in
               ap (λ o. option_and_then (value_of_read (own_globals env) insts) o) (reads ∙ ap Some (sym r_is))
               ∙ ap (λ o. option_and_then (λ i. const_value (own_globals env) i (const.Global y)) o) j.3
               ∙ ap (λ o. option_and_then (λ a. option_and_then (λ g. Some g.value) (slice_get (own_globals env) a)) o) a.at
@@ -238,5 +235,5 @@ module _ (env : Environment) (parts : List Part) (insts : List Inst) (are : inst
 
       pub value_given : (e : ConstExpr) → Constant m e → (v : Val) → value_of env parts insts k e ≡ Some v → const_value t.globals i e ≡ Some v
       value_given e c v h =
-          let r = then_is (read_of parts k e) (value_of_read (own_globals env) insts) v h in
+          let r = and_then_is (read_of parts k e) (value_of_read (own_globals env) insts) v h in
           value_same e c r.0 r.1 ∙ h

@@ -1,5 +1,5 @@
 -- What is known of a world whose parts are to be instantiated in turn, and what its next part's turn comes to.
-use Rattle.std.proofs.Common.{◌≡◌, ◌∙◌, refl, sym, ap, ap₂, ℕ, zero, suc, ◌<◌, List, [], ◌∷◌, ◌++◌, map, length, Option, Some, None, true, false, cond, arith, drop, option_and_then, slice_get}
+use Rattle.std.proofs.Common.{◌≡◌, ◌∙◌, refl, sym, ap, ap₂, ℕ, zero, suc, List, [], ◌∷◌, ◌++◌, map, length, Option, Some, None, true, false, cond, arith, drop, option_and_then, slice_get}
 use Rattle.wasm_tree.specs.declared.module.ConstExpr.{ConstExpr}
 use Rattle.wasm_tree.specs.declared.module.Module.{Module}
 use Rattle.wasm_meaning.specs.Outcomes.{Gives, at}
@@ -11,11 +11,11 @@ use Rattle.wasm_meaning.specs.World.{World, Filled, store_with, const_value, joi
 use Rattle.wasm_meaning.specs.Run.{InstanceTrapped}
 use Rattle.wasm_meaning.specs.InTurn.{Made, next_inst, closed_by, added, added_as, thing_for, own_segments, InTurn, goes_on, part_added, turn_at, tick_in_turn, JoinsEarlier, HasNoActive, NoLateSegments}
 use Rattle.permuted_worlds.specs.Owned.{OwnEntitiesCorrespond}
-use Rattle.worlds_in_turn.proofs.Things.{some_is}
 use Rattle.worlds_in_turn.proofs.Joined.{ExportsThere, made_upto}
 use Rattle.worlds_in_turn.proofs.Turn.{Sized, Holds, SitesThere, comes}
 use Rattle.worlds_in_turn.proofs.Beside.{Laid}
 use Rattle.worlds_in_turn.proofs.Making.{nothing_to_nothing}
+use Rattle.std.proofs.lemmas.Option.{same_Some}
 
 pub record IsGiven (env : Environment) (w : World) (insts : List Inst) (allocated : Store) : Type 0 where
   pub laid : Laid env w.parts insts allocated
@@ -37,7 +37,7 @@ pub record IsGiven (env : Environment) (w : World) (insts : List Inst) (allocate
 
 pub past_at : {A : Type 0} (xs : List A) (k : ℕ) (x : A) → slice_get xs k ≡ Some x → drop k xs ≡ x ∷ drop (suc k) xs
 past_at [] k x e = absurd (let z = e in cc)
-past_at (y ∷ ys) zero x e = ap (λ z. z ∷ ys) (some_is e)
+past_at (y ∷ ys) zero x e = ap (λ z. z ∷ ys) (same_Some _ _ e)
 past_at (y ∷ ys) (suc k) x e = past_at ys k x e
 
 pub past_all : {A : Type 0} (xs : List A) → drop (length xs) xs ≡ []
@@ -47,7 +47,7 @@ past_all (x ∷ xs) = past_all xs
 pub made_next : (k : ℕ) (ps : List Part) (is : List Inst) (part : Part) (i : Inst) → slice_get ps k ≡ Some part → slice_get is k ≡ Some i → made_upto (suc k) ps is ≡ made_upto k ps is ++ record { part = part; inst = i } ∷ []
 made_next k [] is part i e h = absurd (let z = e in cc)
 made_next k (p ∷ ps) [] part i e h = absurd (let z = h in cc)
-made_next zero (p ∷ ps) (j ∷ js) part i e h = ap₂ {A = Part} {B = Inst} {C = List Made} (λ p j. record { part = p; inst = j } ∷ []) (some_is e) (some_is h)
+made_next zero (p ∷ ps) (j ∷ js) part i e h = ap₂ {A = Part} {B = Inst} {C = List Made} (λ p j. record { part = p; inst = j } ∷ []) (same_Some _ _ e) (same_Some _ _ h)
 made_next (suc k) (p ∷ ps) (j ∷ js) part i e h = ap (λ l. record { part = p; inst = j } ∷ l) (made_next k ps js part i e h)
 
 pub made_all : (ps : List Part) (is : List Inst) → length is ≡ length ps → map (λ x. x.inst) (made_upto (length ps) ps is) ≡ is
@@ -55,11 +55,6 @@ made_all [] [] e = refl
 made_all [] (i ∷ is) e = absurd (omega arith)
 made_all (p ∷ ps) [] e = absurd (omega arith)
 made_all (p ∷ ps) (i ∷ is) e = ap (λ l. i ∷ l) (made_all ps is (omega (arith, e)))
-
-pub part_there : {A : Type 0} (xs : List A) (k : ℕ) → k < length xs → (x : A) × (slice_get xs k ≡ Some x)
-part_there [] k l = absurd (omega (arith, l))
-part_there (x ∷ xs) zero l = (x, refl)
-part_there (x ∷ xs) (suc k) l = part_there xs k (omega (arith, l))
 
 -- ---- the next part's turn ----
 

@@ -4,11 +4,14 @@ use Rattle.wasm_tree.specs.declared.module.Import.{Import}
 use Rattle.wasm_tree.specs.declared.module.ExportDesc.{ExportDesc}
 use Rattle.wasm_tree.specs.declared.module.Module.{Module}
 use Rattle.wasm_meaning.specs.State.{Text, Inst}
-use Rattle.wasm_meaning.specs.Linking.{Part, Site, Entity, End, Defined, Outside, kind_of_export, index_of_export, imports_of, module_at, import_at, is_named, export_named, first_place, source_of, joined, imported_as, entity_step, joined_step, import_step, end_of}
+use Rattle.wasm_meaning.specs.Linking.{Part, Site, Entity, End, Defined, Outside, imports_of, module_at, import_at, is_named, export_named, first_place, source_of, joined, imported_as, entity_step, joined_step, import_step, end_of}
+use Rattle.wasm_tree.specs.Spaces.{index_of_export, space_of_export}
 use Rattle.wasm_meaning.specs.Environment.{Environment, Thing, owned_of, owned_at}
 use Rattle.wasm_meaning.specs.World.{defined_count, given, own_key, thing_of, imported_thing, insts_from, inst_of, address_in}
 use Rattle.wasm_meaning.specs.InTurn.{Made, made_named, exported_by, thing_or_own, thing_for, JoinsEarlier}
-use Rattle.worlds_in_turn.proofs.Things.{then_is, some_is, inst_is, inst_at, goes_to, ends_at, defined_is, imported_is}
+use Rattle.worlds_in_turn.proofs.Things.{inst_is, inst_at, goes_to, ends_at, defined_is, imported_is}
+use Rattle.base_lists.proofs.Options.{and_then_is}
+use Rattle.std.proofs.lemmas.Option.{same_Some}
 
 -- the first parts, each with its instance
 abbrev pub made_upto : ℕ → List Part → List Inst → List Made
@@ -25,7 +28,7 @@ first_high test [] off q e = absurd (let k = e in cc)
 first_high test (x ∷ xs) off q e = go (test x) e (λ e. first_high test xs (suc off) q e)
   where
     go : (b : Bool) → cond b (Some off) (first_place test xs (suc off)) ≡ Some q → (first_place test xs (suc off) ≡ Some q → suc off ≤ q) → off ≤ q
-    go true e more = let same : off ≡ q = some_is e in omega (arith, same)
+    go true e more = let same : off ≡ q = same_Some _ _ e in omega (arith, same)
     go false e more = let l = more e in omega (arith, l)
 
 named : (name : Text) (k off : ℕ) (ps : List Part) (is : List Inst) → length is ≡ length ps → Named name k off ps is
@@ -53,7 +56,7 @@ named name (suc k) off (p ∷ ps) (i ∷ is) e = go (is_named name p) refl (name
 
 -- what parts export is there
 abbrev pub ExportsThere : List Part → Type 0
-ExportsThere parts = (p : ℕ) (m : Module) (field : Text) (d : ExportDesc) → module_at parts p ≡ Some m → export_named m.exports field ≡ Some d → index_of_export d < length (imports_of (kind_of_export d) m) + defined_count (kind_of_export d) m
+ExportsThere parts = (p : ℕ) (m : Module) (field : Text) (d : ExportDesc) → module_at parts p ≡ Some m → export_named m.exports field ≡ Some d → index_of_export d < length (imports_of (space_of_export d) m) + defined_count (space_of_export d) m
 
 pub module_is : (parts : List Part) (p : ℕ) (part : Part) → slice_get parts p ≡ Some part → module_at parts p ≡ Some part.«module»
 module_is parts p part e = ap (λ o. option_and_then (λ part. Some part.«module») o) e
@@ -81,7 +84,7 @@ module _ (env : Environment) (parts : List Part) (insts : List Inst) (are : inst
     -- not joined: the environment's own
     pub stays_own : (x : Thing) (o : Option (Made × ExportDesc)) → joined parts i ≡ None → o ≡ None → imported_thing env parts (record { part = p; import = n }) ≡ Some x → thing_or_own (owned_of env) m i o ≡ Some x
     stays_own x o j none h =
-        let e = then_is (end_of parts (record { part = p; import = n })) (thing_of env parts) x h in
+        let e = and_then_is (end_of parts (record { part = p; import = n })) (thing_of env parts) x h in
         let end = ends_at parts (record { part = p; import = n }) e.0 (Outside (record { part = p; import = n })) (step_is ∙ ap (λ o. Some (joined_step parts (record { part = p; import = n }) o)) j) e.1 in
         let thing = ap (thing_of env parts) end ∙ e.2 in
         let own = ap₂ (λ o q. option_and_then (λ m. option_and_then (λ i. option_and_then (λ key. given (owned_at (owned_of env) key)) (own_key m i)) q) o) is_part import_is in
@@ -91,7 +94,7 @@ module _ (env : Environment) (parts : List Part) (insts : List Inst) (are : inst
     pub joins : (x : Thing) (q : ℕ) (part : Part) (inst : Inst) (d : ExportDesc) → joined parts i ≡ Some (record { part = q; what = d }) → slice_get parts q ≡ Some part → slice_get insts q ≡ Some inst → export_named part.«module».exports i.field ≡ Some d →
         imported_thing env parts (record { part = p; import = n }) ≡ Some x → address_in inst d ≡ Some x
     joins x q part inst d j at_part at_inst named h =
-        let e = then_is (end_of parts (record { part = p; import = n })) (thing_of env parts) x h in
+        let e = and_then_is (end_of parts (record { part = p; import = n })) (thing_of env parts) x h in
         let is_source = module_is parts q part at_part in
         let is_inst = inst_is env parts q part.«module» inst (inst_of_part q part.«module» inst is_source at_inst) in
         go e.0 e.1 e.2 (imported_as parts (record { part = q; what = d })) refl (defined_is env parts q part.«module» is_source inst is_inst d) (imported_is env parts q part.«module» is_source inst is_inst d)
@@ -124,10 +127,10 @@ module _ (env : Environment) (parts : List Part) (insts : List Inst) (are : inst
         not_before : ((q : ℕ) → source_of parts i ≡ Some q → p ≤ q) → made_named (made p) i.«module» ≡ None → (o : Option Entity) → joined parts i ≡ o → thing_for (owned_of env) (made p) m i ≡ Some x
         not_before l c None j = stays_own x (exported_by (made p) i) j (ap (λ o. option_and_then (λ x. option_and_then (λ d. Some (x, d)) (export_named x.part.«module».exports i.field)) o) c) h
         not_before l c (Some e) j =
-            let s = then_is (source_of parts i) _ e j in
-            let a = then_is (module_at parts s.0) _ e s.2 in
-            let b = then_is (export_named a.0.exports i.field) _ e a.2 in
-            let same : s.0 ≡ e.part = ap (λ z. z.part) (some_is b.2) in
+            let s = and_then_is (source_of parts i) _ e j in
+            let a = and_then_is (module_at parts s.0) _ e s.2 in
+            let b = and_then_is (export_named a.0.exports i.field) _ e a.2 in
+            let same : s.0 ≡ e.part = ap (λ z. z.part) (same_Some _ _ b.2) in
             let low = earlier p n m i e is_part is_import j in
             let high = l s.0 s.1 in
             absurd (omega (arith, low, high, same))

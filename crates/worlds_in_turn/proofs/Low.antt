@@ -1,19 +1,22 @@
 -- A part's instance has addresses of the environment's entities and of what parts up to it define, where each joined import leads to an earlier part.
 use Rattle.std.proofs.Common.{◌≡◌, ◌∙◌, refl, sym, ap, subst, ℕ, zero, suc, ◌+◌, ◌<◌, ◌≤◌, List, [], ◌∷◌, ◌++◌, length, Option, Some, None, ◌⊎◌, inl, inr, arith, option_and_then, slice_get}
 use Rattle.wasm_tree.specs.declared.space.Space.{Space}
-use Rattle.wasm_tree.specs.declared.space.Space.TheVariants.{Functions, Tables, Memories, Globals}
+use Rattle.wasm_tree.specs.declared.space.Space.TheVariants.{Functions, Tables, Memories, Globals, Types, ElementSegments, DataSegments}
 use Rattle.wasm_tree.specs.declared.module.Import.{Import}
 use Rattle.wasm_tree.specs.declared.module.Module.{Module}
 use Rattle.wasm_meaning.specs.State.{Inst}
 use Rattle.wasm_meaning.specs.Paths.{walk, walk_on}
-use Rattle.wasm_meaning.specs.Linking.{Part, Entity, kind_of_export, index_of_export, imports_of, module_at, import_at, export_named, source_of, joined, joined_step, import_step, sites, end_of}
+use Rattle.wasm_meaning.specs.Linking.{Part, Entity, imports_of, module_at, import_at, export_named, source_of, joined, joined_step, import_step, sites, end_of}
+use Rattle.wasm_tree.specs.Spaces.{index_of_export, space_of_export}
 use Rattle.wasm_meaning.specs.Environment.{Environment, Thing, owned_of, owned_at}
 use Rattle.wasm_meaning.specs.World.{given, own_key, defined_count, base, thing_at, address_of, imported_thing, thing_of, all_there, numbers, insts_from, address_in}
 use Rattle.wasm_meaning.specs.InTurn.{JoinsEarlier}
 use Rattle.permuted_worlds.specs.Owned.{OwnEntitiesCorrespond}
-use Rattle.worlds_in_turn.proofs.Things.{then_is, some_is, inst_is, inst_at, space_is, space_in, in_space, address_is}
+use Rattle.worlds_in_turn.proofs.Things.{inst_is, inst_at, space_is, space_in, in_space, address_is, held_external}
 use Rattle.worlds_in_turn.proofs.Joined.{stays_own, joins, inst_of_part}
 use Rattle.worlds_in_turn.proofs.Reached.{defined_next, defined_more, own_low}
+use Rattle.base_lists.proofs.Options.{and_then_is}
+use Rattle.std.proofs.lemmas.Option.{same_Some}
 
 -- ---- lists ----
 
@@ -24,15 +27,15 @@ append_back (z ∷ zs) ys (suc n) x e = append_back zs ys n x e
 
 pub numbers_back : (from count j a : ℕ) → slice_get (numbers from count) j ≡ Some a → (a ≡ from + j) × (j < count)
 numbers_back from zero j a e = absurd (let k = e in cc)
-numbers_back from (suc count) zero a e = let s = some_is e in (omega (arith, s), omega arith)
+numbers_back from (suc count) zero a e = let s = same_Some _ _ e in (omega (arith, s), omega arith)
 numbers_back from (suc count) (suc j) a e = let r = numbers_back (suc from) count j a e in (omega (arith, r.0), omega (arith, r.1))
 
 pub all_back : {A B : Type 0} (f : A → Option B) (xs : List A) (ys : List B) → all_there f xs ≡ Some ys → (n : ℕ) (y : B) → slice_get ys n ≡ Some y → (x : A) × (slice_get xs n ≡ Some x) × (f x ≡ Some y)
-all_back f [] ys h n y e = absurd (let k = some_is h in let p = ap (λ l. slice_get l n) k ∙ e in cc)
+all_back f [] ys h n y e = absurd (let k = same_Some _ _ h in let p = ap (λ l. slice_get l n) k ∙ e in cc)
 all_back {A} {B} f (x ∷ xs) ys h n y e =
-    let a = then_is (f x) _ ys h in
-    let b = then_is (all_there f xs) _ ys a.2 in
-    go a.0 b.0 a.1 n (ap (λ l. slice_get l n) (some_is b.2) ∙ e) (λ n e. all_back f xs b.0 b.1 n y e)
+    let a = and_then_is (f x) _ ys h in
+    let b = and_then_is (all_there f xs) _ ys a.2 in
+    go a.0 b.0 a.1 n (ap (λ l. slice_get l n) (same_Some _ _ b.2) ∙ e) (λ n e. all_back f xs b.0 b.1 n y e)
   where
     go : (z : B) (zs : List B) → f x ≡ Some z → (n : ℕ) → slice_get (z ∷ zs) n ≡ Some y → ((n : ℕ) → slice_get zs n ≡ Some y → (x : A) × (slice_get xs n ≡ Some x) × (f x ≡ Some y)) → (v : A) × (slice_get (x ∷ xs) n ≡ Some v) × (f v ≡ Some y)
     go z zs is zero e more = (x, refl, is ∙ e)
@@ -40,23 +43,18 @@ all_back {A} {B} f (x ∷ xs) ys h n y e =
 
 -- ---- kinds ----
 
-pub same_thing : (k l : Space) (a b : ℕ) → address_of k (thing_at l a) ≡ Some b → (l ≡ k) × (a ≡ b)
-same_thing Functions Functions a b e = (refl, some_is e)
-same_thing Tables Tables a b e = (refl, some_is e)
-same_thing Memories Memories a b e = (refl, some_is e)
-same_thing Globals Globals a b e = (refl, some_is e)
-same_thing Functions Tables a b e = cc
-same_thing Functions Memories a b e = cc
-same_thing Functions Globals a b e = cc
-same_thing Tables Functions a b e = cc
-same_thing Tables Memories a b e = cc
-same_thing Tables Globals a b e = cc
-same_thing Memories Functions a b e = cc
-same_thing Memories Tables a b e = cc
-same_thing Memories Globals a b e = cc
-same_thing Globals Functions a b e = cc
-same_thing Globals Tables a b e = cc
-same_thing Globals Memories a b e = cc
+pub same_thing : (k l : Space) (a b : ℕ) → option_and_then (address_of k) (thing_at l a) ≡ Some b → (l ≡ k) × (a ≡ b)
+same_thing Functions Functions a b e = (refl, same_Some _ _ e)
+same_thing Tables Tables a b e = (refl, same_Some _ _ e)
+same_thing Memories Memories a b e = (refl, same_Some _ _ e)
+same_thing Globals Globals a b e = (refl, same_Some _ _ e)
+same_thing _ Types a b e = cc
+same_thing _ Functions a b e = cc
+same_thing _ Tables a b e = cc
+same_thing _ Memories a b e = cc
+same_thing _ Globals a b e = cc
+same_thing _ ElementSegments a b e = cc
+same_thing _ DataSegments a b e = cc
 
 module _ (env : Environment) (parts : List Part) (insts : List Inst) (are : insts_from env parts 0 parts ≡ Some insts) (size : length insts ≡ length parts) (earlier : JoinsEarlier parts) (own : OwnEntitiesCorrespond) where
   more : (k : Space) (p q : ℕ) → p ≤ q → base env parts k p ≤ base env parts k q
@@ -69,7 +67,7 @@ module _ (env : Environment) (parts : List Part) (insts : List Inst) (are : inst
       go : (o : Option Import) → slice_get m.imports n ≡ o → (i : Import) × (slice_get m.imports n ≡ Some i)
       go (Some i) e = (i, e)
       go None e =
-          let s = then_is (end_of parts (record { part = p; import = n })) (thing_of env parts) x h in
+          let s = and_then_is (end_of parts (record { part = p; import = n })) (thing_of env parts) x h in
           let none : import_at parts (record { part = p; import = n }) ≡ None = ap (λ o. option_and_then (λ m. slice_get m.imports n) o) is ∙ e in
           let step : import_step parts (record { part = p; import = n }) ≡ None = ap (λ o. option_and_then (λ i. Some (joined_step parts (record { part = p; import = n }) (joined parts i))) o) none in
           let lost : None ≡ Some s.0 = sym (ap (walk_on (walk (import_step parts) (length (sites parts)))) step) ∙ s.1 in
@@ -86,7 +84,7 @@ module _ (env : Environment) (parts : List Part) (insts : List Inst) (are : inst
 
   inst_by : (p : ℕ) → LowThing p → LowInst p
   inst_by p low m i is at k n a h =
-      let s = space_is env parts k p m (space_in i k) (in_space env parts p m i (inst_is env parts p m i (inst_of_part env parts insts are size earlier p m i is at)) k) in
+      let s = space_is env parts k p m (space_in i k) (in_space env parts p m i (inst_is env parts p m i (inst_of_part env parts insts are size earlier p m i is at)) k (held_external i k n a h)) in
       let next = defined_next k parts p m is in
       go s.0 s.1 next (append_back s.0 (numbers (base env parts k p) (defined_count k m)) n a (ap (λ l. slice_get l n) s.2 ∙ h))
     where
@@ -94,7 +92,7 @@ module _ (env : Environment) (parts : List Part) (insts : List Inst) (are : inst
           (slice_get l n ≡ Some a) ⊎ ((j : ℕ) × (slice_get (numbers (base env parts k p) (defined_count k m)) j ≡ Some a)) → a < base env parts k (suc p)
       go l all next (inl e) =
           let b = all_back (λ n. option_and_then (address_of k) (imported_thing env parts (record { part = p; import = n }))) (imports_of k m) l all n a e in
-          let x = then_is (imported_thing env parts (record { part = p; import = b.0 })) (address_of k) a b.2 in
+          let x = and_then_is (imported_thing env parts (record { part = p; import = b.0 })) (address_of k) a b.2 in
           let r = low b.0 m x.0 is x.1 k a x.2 in
           omega (arith, r, next)
       go l all next (inr (j, e)) = let r = numbers_back (base env parts k p) (defined_count k m) j a e in omega (arith, r.0, r.1, next)
@@ -105,22 +103,22 @@ module _ (env : Environment) (parts : List Part) (insts : List Inst) (are : inst
       go : (i : Import) → slice_get m.imports n ≡ Some i → (o : Option Entity) → joined parts i ≡ o → a < base env parts k p
       go i at None j =
           let o = stays_own env parts insts are size earlier p n m i is at x None j refl h in
-          let key = then_is (own_key m i) (λ key. given (owned_at (owned_of env) key)) x o in
+          let key = and_then_is (own_key m i) (λ key. given (owned_at (owned_of env) key)) x o in
           own_low own env parts p key.0 x key.2 k a has
       go i at (Some e) j =
-          let s = then_is (source_of parts i) _ e j in
-          let b = then_is (module_at parts s.0) _ e s.2 in
-          let c = then_is (export_named b.0.exports i.field) _ e b.2 in
-          let part = then_is (slice_get parts s.0) (λ part. Some part.«module») b.0 b.1 in
+          let s = and_then_is (source_of parts i) _ e j in
+          let b = and_then_is (module_at parts s.0) _ e s.2 in
+          let c = and_then_is (export_named b.0.exports i.field) _ e b.2 in
+          let part = and_then_is (slice_get parts s.0) (λ part. Some part.«module») b.0 b.1 in
           let inst = inst_there s.0 b.0 b.1 in
-          let same = some_is part.2 in
+          let same = same_Some _ _ part.2 in
           let named : export_named part.0.«module».exports i.field ≡ Some c.0 = ap (λ m. export_named m.exports i.field) same ∙ c.1 in
           let j' : joined parts i ≡ Some (record { part = s.0; what = c.0 }) = j ∙ sym c.2 in
           let address = joins env parts insts are size earlier p n m i is at x s.0 part.0 inst.0 c.0 j' part.1 inst.1 named h in
           let low : s.0 < p = earlier p n m i (record { part = s.0; what = c.0 }) is at j' in
-          let at_place = then_is (slice_get (space_in inst.0 (kind_of_export c.0)) (index_of_export c.0)) (λ a. Some (thing_at (kind_of_export c.0) a)) x (sym (address_is inst.0 c.0) ∙ address) in
-          let is_thing = same_thing k (kind_of_export c.0) at_place.0 a (ap (address_of k) (some_is at_place.2) ∙ has) in
-          let r = before s.0 low b.0 inst.0 b.1 inst.1 (kind_of_export c.0) (index_of_export c.0) at_place.0 at_place.1 in
+          let at_place = and_then_is (slice_get (space_in inst.0 (space_of_export c.0)) (index_of_export c.0)) (thing_at (space_of_export c.0)) x (sym (address_is inst.0 c.0) ∙ address) in
+          let is_thing = same_thing k (space_of_export c.0) at_place.0 a (ap (option_and_then (address_of k)) at_place.2 ∙ has) in
+          let r = before s.0 low b.0 inst.0 b.1 inst.1 (space_of_export c.0) (index_of_export c.0) at_place.0 at_place.1 in
           let t : at_place.0 < base env parts k (suc s.0) = subst (λ k. at_place.0 < base env parts k (suc s.0)) is_thing.0 r in
           let l = more k (suc s.0) p low in
           omega (arith, t, l, is_thing.1)

@@ -20,12 +20,13 @@ use Rattle.index_remap.specs.Related as to
 use Rattle.index_remap.specs.RelatedRuns.{pending, RunRel, OutRel, KeepsOthers, HasNoPartner}
 use Rattle.index_remap.specs.Laws.{EntryByEntry, RelatedTicksAgree, OthersStay}
 use Rattle.index_remap.proofs.Rel.{length_rel}
-use Rattle.worlds_in_turn.proofs.Extends.{Extends, and_then, append_length}
+use Rattle.worlds_in_turn.proofs.Extends.{Extends, and_then}
 use Rattle.worlds_in_turn.proofs.TickExtends.{Kept, tick_extends}
 use Rattle.worlds_in_turn.proofs.Reached.{is_reached, reaching, reached_at, reached_is, one_to_one}
 use Rattle.worlds_in_turn.proofs.Turn.{Sized}
 use Rattle.worlds_in_turn.proofs.Closed.{Sound, own_func, code}
 use Rattle.worlds_in_turn.proofs.Beside.{Untouched, Beside}
+use Rattle.std.proofs.lemmas.List.{length-append}
 
 -- ---- the opening of a start ----
 
@@ -104,8 +105,8 @@ module _ (below : BelowIsNotSeen) (ticks : RelatedTicksAgree) (others : OthersSt
     tables = λ a l. k.tables a (no_partner Tables a l) ∙ h.tables a l;
     mems = λ a l. k.mems a (no_partner Memories a l) ∙ h.mems a l;
     globals = λ a l. k.globals a (no_partner Globals a l) ∙ h.globals a l;
-    elems = λ a l. k.elems a (no_partner ElementSegments a l) ∙ h.elems a l;
-    datas = λ a l. k.datas a (no_partner DataSegments a l) ∙ h.datas a l;
+    elems = λ a l. k.elems a (no_partner ElementSegments a (omega (arith, l))) ∙ h.elems a l;
+    datas = λ a l. k.datas a (no_partner DataSegments a (omega (arith, l))) ∙ h.datas a l;
   }
 
   sized_on : {s t : Store} → Extends s t → Sized env parts p s → Sized env parts p t
@@ -147,11 +148,11 @@ module _ (below : BelowIsNotSeen) (ticks : RelatedTicksAgree) (others : OthersSt
         (on es' fs' k k' (abreast_on es fs es' fs' r u _ _ h out.run (kept_run kr) (kept_run ku) keeps) refl refl refl refl)
     both_step _ _ (ended rr f) _ _ (ended uu f') out keeps kr ku = done (abreast_on es fs [] [] r u _ _ h out.run (kept_run kr) (kept_run ku) keeps) refl refl refl refl
     both_step _ _ (trapped rr) _ _ (trapped uu) out keeps kr ku = stopped out.run refl refl refl refl
-    both_step _ _ (goes_on rr es' f k) _ _ (ended uu f') out keeps kr ku = absurd (let n = length_rel out.run.entries in let a = append_length es' (Opening [] ∷ []) in let l = some_entries es' k in omega (arith, n, a, l))
-    both_step _ _ (goes_on rr es' f k) _ _ (trapped uu) out keeps kr ku = absurd (let n = length_rel out.run.entries in let a = append_length es' (Opening [] ∷ []) in let l = some_entries es' k in omega (arith, n, a, l))
-    both_step _ _ (ended rr f) _ _ (goes_on uu fs' f' k') out keeps kr ku = absurd (let n = length_rel out.run.entries in let a = append_length fs' (Opening [] ∷ []) in let l = some_entries fs' k' in omega (arith, n, a, l))
+    both_step _ _ (goes_on rr es' f k) _ _ (ended uu f') out keeps kr ku = absurd (let n = length_rel out.run.entries in let a = length-append es' (Opening [] ∷ []) in let l = some_entries es' k in omega (arith, n, a, l))
+    both_step _ _ (goes_on rr es' f k) _ _ (trapped uu) out keeps kr ku = absurd (let n = length_rel out.run.entries in let a = length-append es' (Opening [] ∷ []) in let l = some_entries es' k in omega (arith, n, a, l))
+    both_step _ _ (ended rr f) _ _ (goes_on uu fs' f' k') out keeps kr ku = absurd (let n = length_rel out.run.entries in let a = length-append fs' (Opening [] ∷ []) in let l = some_entries fs' k' in omega (arith, n, a, l))
     both_step _ _ (ended rr f) _ _ (trapped uu) out keeps kr ku = absurd (let n = length_rel out.run.entries in omega (arith, n))
-    both_step _ _ (trapped rr) _ _ (goes_on uu fs' f' k') out keeps kr ku = absurd (let n = length_rel out.run.entries in let a = append_length fs' (Opening [] ∷ []) in let l = some_entries fs' k' in omega (arith, n, a, l))
+    both_step _ _ (trapped rr) _ _ (goes_on uu fs' f' k') out keeps kr ku = absurd (let n = length_rel out.run.entries in let a = length-append fs' (Opening [] ∷ []) in let l = some_entries fs' k' in omega (arith, n, a, l))
     both_step _ _ (trapped rr) _ _ (ended uu f') out keeps kr ku = absurd (let n = length_rel out.run.entries in omega (arith, n))
 
     run_is : (r : Run) (es : List Entry) (q : Phase) → r.entries ≡ es → r.phase ≡ q → record r { entries = es; phase = q } ≡ r

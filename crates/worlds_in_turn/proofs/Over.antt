@@ -8,18 +8,20 @@ use Rattle.wasm_meaning.specs.Outcomes.{Outcome, Gives, Traps, IllTyped, at, ove
 use Rattle.wasm_meaning.specs.State.{Text, Inst}
 use Rattle.wasm_meaning.specs.Memory.{memory_may_grow}
 use Rattle.wasm_meaning.specs.Tables.{table_may_grow}
-use Rattle.wasm_meaning.specs.Linking.{Part, Entity, module_at}
+use Rattle.wasm_meaning.specs.Linking.{Part, Entity}
 use Rattle.wasm_meaning.specs.Environment.{Environment, Thing, FuncAt, TableAt, MemoryAt, GlobalAt, Shown, received, received_ref}
 use Rattle.wasm_meaning.specs.World.{base, all_there, address_in, seen_as}
 use Rattle.wasm_meaning.specs.Run
 use Rattle.wasm_meaning.specs.Run.{Event, Move, Call, Invoke, Take, Answer, Refuse, Grant, Deny, Get, Size, Set, Extend, Place, Phase, Closed, Run, Out, place_at, shows, got, size_of, does, byte_of, set, extended, moved, or_bad, is_taken_closed, closed_move, tick_at, tick}
-use Rattle.index_remap.specs.Related.{Pairing, ListRel, nil, cons}
-use Rattle.index_remap.specs.Related as to
+use Rattle.index_remap.specs.Related.{ListRel, nil, cons}
 use Rattle.index_remap.specs.RelatedRuns.{ThingRel, a_func, a_table, a_memory, a_global, KeyRel}
 use Rattle.index_remap.proofs.Rel.{OptAll, nothing, just}
 use Rattle.worlds_in_turn.proofs.StepExtends.{with_is, cond_all}
-use Rattle.worlds_in_turn.proofs.Things.{then_is, some_is, space_in}
+use Rattle.worlds_in_turn.proofs.Things.{space_in}
 use Rattle.worlds_in_turn.proofs.Reached.{reaching, reached_at}
+use Rattle.base_lists.proofs.Options.{and_then_is}
+use Rattle.std.proofs.lemmas.Option.{same_Some}
+use Rattle.wasm_tree.specs.declared.space.Space.{Space}
 
 -- ---- a closed run ----
 
@@ -92,19 +94,19 @@ closed_stays r e f = subst (Idle r) (sym (ap (tick_at r) e ∙ ap (Rattle.wasm_m
 -- ---- the view ----
 
 -- what the embedder may use is what the parts reach
-pub view_self : (env : Environment) (parts : List Part) (p : ℕ) (insts : List Inst) → ((q : ℕ) (i : Inst) → slice_get insts q ≡ Some i → (k : Rattle.wasm_meaning.specs.Linking.Kind) (n a : ℕ) → slice_get (space_in i k) n ≡ Some a → a < base env parts k p) →
+pub view_self : (env : Environment) (parts : List Part) (p : ℕ) (insts : List Inst) → ((q : ℕ) (i : Inst) → slice_get insts q ≡ Some i → (k : Space) (n a : ℕ) → slice_get (space_in i k) n ≡ Some a → a < base env parts k p) →
     (vs : List (Text × Entity)) (view : List (Text × Thing)) → all_there (seen_as insts) vs ≡ Some view → ListRel (KeyRel (reaching env parts p)) view view
-view_self env parts p insts low [] view h = subst (λ l. ListRel (KeyRel (reaching env parts p)) l l) (some_is h) nil
+view_self env parts p insts low [] view h = subst (λ l. ListRel (KeyRel (reaching env parts p)) l l) (same_Some _ _ h) nil
 view_self env parts p insts low (v ∷ vs) view h =
-    let a = then_is (seen_as insts v) _ view h in
-    let b = then_is (all_there (seen_as insts) vs) _ view a.2 in
-    let i = then_is (slice_get insts v.1.part) (λ i. option_and_then (λ thing. Some (v.0, thing)) (address_in i v.1.what)) a.0 a.1 in
-    let x = then_is (address_in i.0 v.1.what) (λ thing. Some (v.0, thing)) a.0 i.2 in
+    let a = and_then_is (seen_as insts v) _ view h in
+    let b = and_then_is (all_there (seen_as insts) vs) _ view a.2 in
+    let i = and_then_is (slice_get insts v.1.part) (λ i. option_and_then (λ thing. Some (v.0, thing)) (address_in i v.1.what)) a.0 a.1 in
+    let x = and_then_is (address_in i.0 v.1.what) (λ thing. Some (v.0, thing)) a.0 i.2 in
     let thing : ThingRel (reaching env parts p) x.0 x.0 = thing_of i.0 (low v.1.part i.0 i.1) v.1.what x.0 x.1 in
-    subst (λ l. ListRel (KeyRel (reaching env parts p)) l l) (some_is b.2) (cons (subst (λ y. KeyRel (reaching env parts p) y y) (some_is x.2) (record { key = refl; thing = thing })) (view_self env parts p insts low vs b.0 b.1))
+    subst (λ l. ListRel (KeyRel (reaching env parts p)) l l) (same_Some _ _ b.2) (cons (subst (λ y. KeyRel (reaching env parts p) y y) (same_Some _ _ x.2) (record { key = refl; thing = thing })) (view_self env parts p insts low vs b.0 b.1))
   where
-    thing_of : (i : Inst) → ((k : Rattle.wasm_meaning.specs.Linking.Kind) (n a : ℕ) → slice_get (space_in i k) n ≡ Some a → a < base env parts k p) → (d : ExportDesc) (x : Thing) → address_in i d ≡ Some x → ThingRel (reaching env parts p) x x
-    thing_of i low (ex.Func n) x e = let a = then_is (slice_get i.funcs n) (λ a. Some (FuncAt a)) x e in subst (λ x. ThingRel (reaching env parts p) x x) (some_is a.2) (a_func (reached_at env parts p Functions a.0 (low Functions n a.0 a.1)))
-    thing_of i low (ex.Table n) x e = let a = then_is (slice_get i.tables n) (λ a. Some (TableAt a)) x e in subst (λ x. ThingRel (reaching env parts p) x x) (some_is a.2) (a_table (reached_at env parts p Tables a.0 (low Tables n a.0 a.1)))
-    thing_of i low (ex.Memory n) x e = let a = then_is (slice_get i.mems n) (λ a. Some (MemoryAt a)) x e in subst (λ x. ThingRel (reaching env parts p) x x) (some_is a.2) (a_memory (reached_at env parts p Memories a.0 (low Memories n a.0 a.1)))
-    thing_of i low (ex.Global n) x e = let a = then_is (slice_get i.globals n) (λ a. Some (GlobalAt a)) x e in subst (λ x. ThingRel (reaching env parts p) x x) (some_is a.2) (a_global (reached_at env parts p Globals a.0 (low Globals n a.0 a.1)))
+    thing_of : (i : Inst) → ((k : Space) (n a : ℕ) → slice_get (space_in i k) n ≡ Some a → a < base env parts k p) → (d : ExportDesc) (x : Thing) → address_in i d ≡ Some x → ThingRel (reaching env parts p) x x
+    thing_of i low (ex.Func n) x e = let a = and_then_is (slice_get i.funcs n) (λ a. Some (FuncAt a)) x e in subst (λ x. ThingRel (reaching env parts p) x x) (same_Some _ _ a.2) (a_func (reached_at env parts p Functions a.0 (low Functions n a.0 a.1)))
+    thing_of i low (ex.Table n) x e = let a = and_then_is (slice_get i.tables n) (λ a. Some (TableAt a)) x e in subst (λ x. ThingRel (reaching env parts p) x x) (same_Some _ _ a.2) (a_table (reached_at env parts p Tables a.0 (low Tables n a.0 a.1)))
+    thing_of i low (ex.Memory n) x e = let a = and_then_is (slice_get i.mems n) (λ a. Some (MemoryAt a)) x e in subst (λ x. ThingRel (reaching env parts p) x x) (same_Some _ _ a.2) (a_memory (reached_at env parts p Memories a.0 (low Memories n a.0 a.1)))
+    thing_of i low (ex.Global n) x e = let a = and_then_is (slice_get i.globals n) (λ a. Some (GlobalAt a)) x e in subst (λ x. ThingRel (reaching env parts p) x x) (same_Some _ _ a.2) (a_global (reached_at env parts p Globals a.0 (low Globals n a.0 a.1)))

@@ -7,23 +7,16 @@ use Rattle.std.proofs.lemmas.Bool.{ltb-true, lt-ltb, eq-eqb, eqb-true}
 use Rattle.wasm_tree.specs.declared.module.Module.{Module}
 use Rattle.wasm_meaning.specs.Outcomes.{Gives}
 use Rattle.wasm_meaning.specs.Linking.{Part, module_at}
-use Rattle.wasm_meaning.specs.Linking as linking
 use Rattle.wasm_meaning.specs.Environment.{Environment, OwnKey, Owned, owned_of, owned_at, look_up, same_key, Thing, FuncAt, TableAt, MemoryAt, GlobalAt}
 use Rattle.wasm_meaning.specs.World.{given, defined_count, defined_before, base, address_of}
 use Rattle.index_remap.specs.Related.{Pairing, OneToOne, ListRel, nil, cons}
-use Rattle.index_remap.specs.Related as to
 use Rattle.index_remap.specs.RelatedRuns.{ThingRel, a_func, a_table, a_memory, a_global, KeyRel}
 use Rattle.index_remap.specs.Laws.{passed}
 use Rattle.permuted_worlds.specs.Owned.{SharesOwn, OwnEntitiesCorrespond}
-use Rattle.worlds_in_turn.proofs.Things.{some_is}
+use Rattle.std.proofs.lemmas.Option.{same_Some}
 
 abbrev pub count_upto : Environment → List Part → ℕ → Space → ℕ
-count_upto env parts p Functions = base env parts Functions p
-count_upto env parts p Tables = base env parts Tables p
-count_upto env parts p Memories = base env parts Memories p
-count_upto env parts p Globals = base env parts Globals p
-count_upto env parts p ElementSegments = defined_before ElementSegments parts p
-count_upto env parts p DataSegments = defined_before DataSegments parts p
+count_upto env parts p k = base env parts k p
 
 abbrev pub is_reached : Environment → List Part → ℕ → Space → ℕ → ℕ → Bool
 is_reached env parts p k a b = nat_eq a b && nat_lt a (count_upto env parts p k)
@@ -51,7 +44,7 @@ one_to_one env parts p = record {
 
 pub defined_next : (k : Space) (parts : List Part) (p : ℕ) (m : Module) → module_at parts p ≡ Some m → defined_before k parts (suc p) ≡ defined_before k parts p + defined_count k m
 defined_next k [] p m e = absurd (let z = e in cc)
-defined_next k (part ∷ parts) zero m e = let same = ap (defined_count k) (some_is e) in let z = none k parts in omega (arith, same, z)
+defined_next k (part ∷ parts) zero m e = let same = ap (defined_count k) (same_Some _ _ e) in let z = none k parts in omega (arith, same, z)
   where
     none : (k : Space) (parts : List Part) → defined_before k parts 0 ≡ 0
     none k [] = refl
@@ -66,7 +59,7 @@ defined_more k (part ∷ parts) (suc p) (suc q) l = let r = defined_more k parts
 
 pub elems_next : (parts : List Part) (p : ℕ) (m : Module) → module_at parts p ≡ Some m → defined_before ElementSegments parts (suc p) ≡ defined_before ElementSegments parts p + length m.elems
 elems_next [] p m e = absurd (let z = e in cc)
-elems_next (part ∷ parts) zero m e = let same = ap (λ m. length m.elems) (some_is e) in let z = none parts in omega (arith, same, z)
+elems_next (part ∷ parts) zero m e = let same = ap (λ m. length m.elems) (same_Some _ _ e) in let z = none parts in omega (arith, same, z)
   where
     none : (parts : List Part) → defined_before ElementSegments parts 0 ≡ 0
     none [] = refl
@@ -75,7 +68,7 @@ elems_next (part ∷ parts) (suc p) m e = let r = elems_next parts p m e in omeg
 
 pub datas_next : (parts : List Part) (p : ℕ) (m : Module) → module_at parts p ≡ Some m → defined_before DataSegments parts (suc p) ≡ defined_before DataSegments parts p + length m.datas
 datas_next [] p m e = absurd (let z = e in cc)
-datas_next (part ∷ parts) zero m e = let same = ap (λ m. length m.datas) (some_is e) in let z = none parts in omega (arith, same, z)
+datas_next (part ∷ parts) zero m e = let same = ap (λ m. length m.datas) (same_Some _ _ e) in let z = none parts in omega (arith, same, z)
   where
     none : (parts : List Part) → defined_before DataSegments parts 0 ≡ 0
     none [] = refl
@@ -97,33 +90,16 @@ thing_self R [] nil is x h = absurd (let k = h in cc)
 thing_self R (y ∷ ys) (cons r rs) is x h = by (is y.0) h (λ h. thing_self R ys rs is x h)
   where
     by : (b : Bool) → given (cond b (Gives y.1) (look_up is ys)) ≡ Some x → (given (look_up is ys) ≡ Some x → ThingRel R x x) → ThingRel R x x
-    by true h on = subst (λ z. ThingRel R z z) (some_is h) r.thing
+    by true h on = subst (λ z. ThingRel R z z) (same_Some _ _ h) r.thing
     by false h on = on h
-
-kind_in : Space → Space
-kind_in Functions = Functions
-kind_in Tables = Tables
-kind_in Memories = Memories
-kind_in Globals = Globals
 
 -- none of the parts: what is the environment's has an address below its count
 pub own_low : OwnEntitiesCorrespond → (env : Environment) (parts : List Part) (p : ℕ) (key : OwnKey) (x : Thing) → given (owned_at (owned_of env) key) ≡ Some x → (k : Space) (a : ℕ) → address_of k x ≡ Some a → a < base env parts k p
 own_low law env parts p key x h k a e = go x k e (thing_self (reaching env parts p) (owned_of env) (law (is_reached env parts p) env (shares_own env parts p)).owned (same_key key) x h)
   where
     go : (x : Thing) (k : Space) → address_of k x ≡ Some a → ThingRel (reaching env parts p) x x → a < base env parts k p
-    go (FuncAt b) Functions e (a_func r) = let l = (reached_is env parts p Functions b b r).1 in let s = some_is e in omega (arith, l, s)
-    go (TableAt b) Tables e (a_table r) = let l = (reached_is env parts p Tables b b r).1 in let s = some_is e in omega (arith, l, s)
-    go (MemoryAt b) Memories e (a_memory r) = let l = (reached_is env parts p Memories b b r).1 in let s = some_is e in omega (arith, l, s)
-    go (GlobalAt b) Globals e (a_global r) = let l = (reached_is env parts p Globals b b r).1 in let s = some_is e in omega (arith, l, s)
-    go (FuncAt b) Tables e r = cc
-    go (FuncAt b) Memories e r = cc
-    go (FuncAt b) Globals e r = cc
-    go (TableAt b) Functions e r = cc
-    go (TableAt b) Memories e r = cc
-    go (TableAt b) Globals e r = cc
-    go (MemoryAt b) Functions e r = cc
-    go (MemoryAt b) Tables e r = cc
-    go (MemoryAt b) Globals e r = cc
-    go (GlobalAt b) Functions e r = cc
-    go (GlobalAt b) Tables e r = cc
-    go (GlobalAt b) Memories e r = cc
+    go (FuncAt b) Functions e (a_func r) = let l = (reached_is env parts p Functions b b r).1 in let s = same_Some _ _ e in omega (arith, l, s)
+    go (TableAt b) Tables e (a_table r) = let l = (reached_is env parts p Tables b b r).1 in let s = same_Some _ _ e in omega (arith, l, s)
+    go (MemoryAt b) Memories e (a_memory r) = let l = (reached_is env parts p Memories b b r).1 in let s = same_Some _ _ e in omega (arith, l, s)
+    go (GlobalAt b) Globals e (a_global r) = let l = (reached_is env parts p Globals b b r).1 in let s = same_Some _ _ e in omega (arith, l, s)
+    go _ _ e r = cc

@@ -21,9 +21,11 @@ use Rattle.worlds_in_turn.proofs.Joined.{made_upto}
 use Rattle.worlds_in_turn.proofs.Reached.{is_reached, reaching, one_to_one, defined_more}
 use Rattle.worlds_in_turn.proofs.Low.{inst_low}
 use Rattle.worlds_in_turn.proofs.Making.{nothing_to_nothing, opening_bottom, Abreast, Stepped, on, done, stopped, step, open_both}
-use Rattle.worlds_in_turn.proofs.Given.{IsGiven, IsTurn, part_there, made_all, starts_from, starts_next, starts_end, filled_in, turned, next_turn}
+use Rattle.worlds_in_turn.proofs.Given.{IsGiven, IsTurn, made_all, starts_from, starts_next, starts_end, filled_in, turned, next_turn}
 use Rattle.worlds_in_turn.proofs.Waiting.{holds_of, abreast_next, within}
 use Rattle.worlds_in_turn.proofs.Over.{closed_stays, view_self}
+use Rattle.base_lists.proofs.Places.{slice_get_there}
+use Rattle.wasm_tree.specs.declared.space.Space.{Space}
 
 -- a start that is being made keeps its part's turn
 turn_runs : (q : InTurn) (es cs : List Entry) → GivesNothing es → q.run.entries ≡ es ++ cs → tick_in_turn q ≡ with_run q (tick q.run)
@@ -157,10 +159,10 @@ module _ (env : Environment) (w : World) (insts : List Inst) (allocated : Store)
 
   -- ---- the view opens ----
 
-  all_low : (q : ℕ) (i : Inst) → slice_get insts q ≡ Some i → (k : Rattle.wasm_meaning.specs.Linking.Kind) (n a : ℕ) → slice_get (space_in i k) n ≡ Some a → a < base env w.parts k (length w.parts)
+  all_low : (q : ℕ) (i : Inst) → slice_get insts q ≡ Some i → (k : Space) (n a : ℕ) → slice_get (space_in i k) n ≡ Some a → a < base env w.parts k (length w.parts)
   all_low q i e k n a h =
       let l = place_low insts q i e in
-      let part = part_there w.parts q (let s = g.size in omega (arith, l, s)) in
+      let part = slice_get_there w.parts q (let s = g.size in omega (arith, l, s)) in
       let is_part : module_at w.parts q ≡ Some part.0.«module» = ap (λ o. option_and_then (λ part. Some part.«module») o) part.1 in
       let r = inst_low env w.parts insts g.are g.size g.earlier g.own q part.0.«module» i is_part e k n a h in
       let m = defined_more k w.parts (suc q) (length w.parts) (let s = g.size in omega (arith, l, s)) in
@@ -178,7 +180,7 @@ module _ (env : Environment) (w : World) (insts : List Inst) (allocated : Store)
   open_view k d r q all h =
       let none : starts_from w insts k ≡ [] = ap (starts_from w insts) all ∙ starts_end w insts in
       let rest : q.rest ≡ [] = h.turn.rest ∙ ap (λ i. drop i w.parts) all ∙ Rattle.worlds_in_turn.proofs.Given.past_all w.parts in
-      let made : view_over (made_upto k w.parts insts) w.view ≡ view = ap (λ k. view_over (made_upto k w.parts insts) w.view) all ∙ ap (λ is. unwrap_or (all_there (seen_as is) w.view) []) (made_all w.parts insts g.size) ∙ ap unwrap_or view_is [] in
+      let made : view_over (made_upto k w.parts insts) w.view ≡ view = ap (λ k. view_over (made_upto k w.parts insts) w.view) all ∙ ap (λ is. unwrap_or (all_there (seen_as is) w.view) []) (made_all w.parts insts g.size) ∙ ap (λ o. unwrap_or o []) view_is in
       let a = opened_run r view (h.first ∙ ap (λ xs. Opening xs ∷ []) none) h.phase in
       let b = opened_run q.run view h.second_entries (h.second_phase ∙ ap Pending made) in
       let c = h.abreast.related in
@@ -206,8 +208,8 @@ module _ (env : Environment) (w : World) (insts : List Inst) (allocated : Store)
       add : (d : ℕ) → length w.parts ≤ k + d → k < length w.parts → Next d r q
       add zero l low = absurd (omega (arith, l, low))
       add (suc d) l low =
-          let part = part_there w.parts k low in
-          let i = part_there insts k (let s = g.size in omega (arith, low, s)) in
+          let part = slice_get_there w.parts k low in
+          let i = slice_get_there insts k (let s = g.size in omega (arith, low, s)) in
           add_part k d r q h part.0 i.0 part.1 i.1 l
 
       go : (k < length w.parts) ⊎ (length w.parts ≤ k) → Next d r q

@@ -1,8 +1,8 @@
 -- What the imports of a part stand for is the same whether all parts are instantiated at once or the part's turn has come, where each joined import leads to
 -- an earlier part.
-use Rattle.std.proofs.Common.{◌≡◌, ◌∙◌, refl, sym, ap, ap₂, ℕ, zero, suc, ◌+◌, ◌-◌, ◌<◌, ◌≤◌, List, [], ◌∷◌, ◌++◌, length, Option, Some, None, cond, arith, option_and_then, slice_get}
+use Rattle.std.proofs.Common.{◌≡◌, ◌∙◌, refl, sym, ap, ap₂, ℕ, zero, suc, ◌+◌, ◌-◌, List, [], ◌∷◌, ◌++◌, length, Option, Some, None, cond, arith, option_and_then, slice_get, true}
 use Rattle.wasm_tree.specs.declared.space.Space.{Space}
-use Rattle.wasm_tree.specs.declared.space.Space.TheVariants.{Functions, Tables, Memories, Globals, DataSegments, ElementSegments}
+use Rattle.wasm_tree.specs.declared.space.Space.TheVariants.{Functions, Tables, Memories, Globals, DataSegments, ElementSegments, Types}
 use Rattle.wasm_tree.specs.Operands.{same_space}
 use Rattle.wasm_tree.specs.declared.module.Import.{Import}
 use Rattle.wasm_tree.specs.declared.module.ImportDesc.{ImportDesc}
@@ -12,19 +12,17 @@ use Rattle.wasm_tree.specs.declared.module.ExportDesc.TheVariants as ex
 use Rattle.wasm_tree.specs.declared.module.Module.{Module}
 use Rattle.wasm_meaning.specs.State.{Inst}
 use Rattle.wasm_meaning.specs.Paths.{Next, Ends, Goes, walk, walk_on}
-use Rattle.wasm_meaning.specs.Linking.{kind_of_import, Part, Site, Entity, End, places, has_kind, kind_of_export, index_of_export, imports_of, module_at, imported_as, import_step, sites, end_of}
+use Rattle.wasm_meaning.specs.Linking.{Part, Site, Entity, End, places, has_kind, imports_of, module_at, imported_as, import_step, sites, end_of}
+use Rattle.wasm_tree.specs.Spaces.{index_of_export, space_of_export, space_of_import}
 use Rattle.wasm_meaning.specs.Environment.{Environment, Thing, FuncAt, TableAt, MemoryAt, GlobalAt}
 use Rattle.wasm_meaning.specs.World.{defined_count, base, thing_at, address_of, defined_addresses, defined_thing, imported_thing, all_there, numbers, space, inst_of, insts_from, address_in, defined_before}
 use Rattle.wasm_meaning.specs.InTurn.{addresses_of}
+use Rattle.base_lists.proofs.Options.{and_then_is, all_there_at, all_there_length}
+use Rattle.std.proofs.lemmas.Option.{same_Some}
+use Rattle.base_lists.proofs.Places.{append_at_left, append_right, slice_get_none}
+use Rattle.merge_validity.specs.Ended.{is_external}
 
 -- ---- options ----
-
-pub then_is : {A B : Type 0} (o : Option A) (f : A → Option B) (b : B) → option_and_then f o ≡ Some b → (a : A) × (o ≡ Some a) × (f a ≡ Some b)
-then_is None f b e = cc
-then_is (Some a) f b e = (a, refl, e)
-
-pub some_is : {A : Type 0} {a b : A} → Some a ≡ Some b → a ≡ b
-some_is e = cc
 
 -- ---- instances ----
 
@@ -40,24 +38,24 @@ pub record IsInst (env : Environment) (parts : List Part) (p : ℕ) (m : Module)
 
 pub inst_is : (env : Environment) (parts : List Part) (p : ℕ) (m : Module) (i : Inst) → inst_of env parts p m ≡ Some i → IsInst env parts p m i
 inst_is env parts p m i h =
-    let f = then_is (space env parts Functions p m) _ i h in
-    let t = then_is (space env parts Tables p m) _ i f.2 in
-    let s = then_is (space env parts Memories p m) _ i t.2 in
-    let g = then_is (space env parts Globals p m) _ i s.2 in
-    let e = some_is g.2 in
+    let f = and_then_is (space env parts Functions p m) _ i h in
+    let t = and_then_is (space env parts Tables p m) _ i f.2 in
+    let s = and_then_is (space env parts Memories p m) _ i t.2 in
+    let g = and_then_is (space env parts Globals p m) _ i s.2 in
+    let e = same_Some _ _ g.2 in
     rw (← e) (record { types = refl; funcs = f.1; tables = t.1; mems = s.1; globals = g.1; elems = refl; datas = refl })
 
 pub inst_at : (env : Environment) (all : List Part) (p : ℕ) (ps : List Part) (is : List Inst) → insts_from env all p ps ≡ Some is → (q : ℕ) (m : Module) → module_at ps q ≡ Some m → (i : Inst) × (slice_get is q ≡ Some i) × (inst_of env all (p + q) m ≡ Some i)
 inst_at env all p [] is h q m e = absurd (let k = e in cc)
 inst_at env all p (part ∷ ps) is h q m e =
-    let a = then_is (inst_of env all p part.«module») _ is h in
-    let b = then_is (insts_from env all (suc p) ps) _ is a.2 in
-    go a.0 b.0 a.1 (some_is b.2) q e (λ q e. inst_at env all (suc p) ps b.0 b.1 q m e)
+    let a = and_then_is (inst_of env all p part.«module») _ is h in
+    let b = and_then_is (insts_from env all (suc p) ps) _ is a.2 in
+    go a.0 b.0 a.1 (same_Some _ _ b.2) q e (λ q e. inst_at env all (suc p) ps b.0 b.1 q m e)
   where
     go : (i : Inst) (js : List Inst) → inst_of env all p part.«module» ≡ Some i → i ∷ js ≡ is → (q : ℕ) → module_at (part ∷ ps) q ≡ Some m →
         ((q : ℕ) → module_at ps q ≡ Some m → (i : Inst) × (slice_get js q ≡ Some i) × (inst_of env all (suc p + q) m ≡ Some i)) → (i : Inst) × (slice_get is q ≡ Some i) × (inst_of env all (p + q) m ≡ Some i)
     go i js a b zero e more =
-        let same : part.«module» ≡ m = some_is e in
+        let same : part.«module» ≡ m = same_Some _ _ e in
         let n : p + 0 ≡ p = omega arith in
         (i, ap (λ l. slice_get l 0) (sym b), ap₂ (λ n m. inst_of env all n m) n (sym same) ∙ a)
     go i js a b (suc q) e more =
@@ -68,8 +66,8 @@ inst_at env all p (part ∷ ps) is h q m e =
 pub space_is : (env : Environment) (parts : List Part) (k : Space) (p : ℕ) (m : Module) (xs : List ℕ) → space env parts k p m ≡ Some xs →
     (l : List ℕ) × (all_there (λ n. option_and_then (address_of k) (imported_thing env parts (record { part = p; import = n }))) (imports_of k m) ≡ Some l) × (l ++ numbers (base env parts k p) (defined_count k m) ≡ xs)
 space_is env parts k p m xs h =
-    let l = then_is (all_there (λ n. option_and_then (address_of k) (imported_thing env parts (record { part = p; import = n }))) (imports_of k m)) _ xs h in
-    (l.0, l.1, some_is l.2)
+    let l = and_then_is (all_there (λ n. option_and_then (address_of k) (imported_thing env parts (record { part = p; import = n }))) (imports_of k m)) _ xs h in
+    (l.0, l.1, same_Some _ _ l.2)
 
 -- ---- the things that a list of imports stands for ----
 
@@ -91,28 +89,28 @@ pub record Gathered (g : ℕ → Option Thing) (is : List Import) (n : ℕ) (fs 
 
 -- a thing that has an address of a kind is of that kind
 pub func_is : (x : Thing) (a : ℕ) → address_of Functions x ≡ Some a → x ≡ FuncAt a
-func_is (FuncAt b) a e = ap FuncAt (some_is e)
+func_is (FuncAt b) a e = ap FuncAt (same_Some _ _ e)
 func_is (TableAt b) a e = cc
 func_is (MemoryAt b) a e = cc
 func_is (GlobalAt b) a e = cc
 
 table_is : (x : Thing) (a : ℕ) → address_of Tables x ≡ Some a → x ≡ TableAt a
 table_is (FuncAt b) a e = cc
-table_is (TableAt b) a e = ap TableAt (some_is e)
+table_is (TableAt b) a e = ap TableAt (same_Some _ _ e)
 table_is (MemoryAt b) a e = cc
 table_is (GlobalAt b) a e = cc
 
 memory_is : (x : Thing) (a : ℕ) → address_of Memories x ≡ Some a → x ≡ MemoryAt a
 memory_is (FuncAt b) a e = cc
 memory_is (TableAt b) a e = cc
-memory_is (MemoryAt b) a e = ap MemoryAt (some_is e)
+memory_is (MemoryAt b) a e = ap MemoryAt (same_Some _ _ e)
 memory_is (GlobalAt b) a e = cc
 
 global_is : (x : Thing) (a : ℕ) → address_of Globals x ≡ Some a → x ≡ GlobalAt a
 global_is (FuncAt b) a e = cc
 global_is (TableAt b) a e = cc
 global_is (MemoryAt b) a e = cc
-global_is (GlobalAt b) a e = ap GlobalAt (some_is e)
+global_is (GlobalAt b) a e = ap GlobalAt (same_Some _ _ e)
 
 -- the first of these, and the rest
 record Split (g : ℕ → Option Thing) (k : Space) (n : ℕ) (rest : Option (List ℕ)) (xs : List ℕ) : Type 0 where
@@ -126,19 +124,19 @@ record Split (g : ℕ → Option Thing) (k : Space) (n : ℕ) (rest : Option (Li
 
 split : (g : ℕ → Option Thing) (k : Space) (n : ℕ) (rest : Option (List ℕ)) (xs : List ℕ) → option_and_then (λ y. option_and_then (λ ys. Some (y ∷ ys)) rest) (option_and_then (address_of k) (g n)) ≡ Some xs → Split g k n rest xs
 split g k n rest xs h =
-    let a = then_is (option_and_then (address_of k) (g n)) _ xs h in
-    let b = then_is (g n) (address_of k) a.0 a.1 in
-    let c = then_is rest _ xs a.2 in
-    record { address = a.0; thing = b.0; is = b.1; has = b.2; others = c.0; rest_is = c.1; whole = some_is c.2 }
+    let a = and_then_is (option_and_then (address_of k) (g n)) _ xs h in
+    let b = and_then_is (g n) (address_of k) a.0 a.1 in
+    let c = and_then_is rest _ xs a.2 in
+    record { address = a.0; thing = b.0; is = b.1; has = b.2; others = c.0; rest_is = c.1; whole = same_Some _ _ c.2 }
 
 cons_each : (g : ℕ → Option Thing) (i : Import) (is : List Import) (n : ℕ) (x : Thing) (xs : List Thing) → g n ≡ Some x → each_from g is (suc n) ≡ Some xs → each_from g (i ∷ is) n ≡ Some (x ∷ xs)
 cons_each g i is n x xs e h = rw (e, h) refl
 
 abbrev AtDesc : (ℕ → Option Thing) → List Import → ℕ → ImportDesc → Space → Option (List ℕ)
-AtDesc g is n d k = all_there (λ j. option_and_then (address_of k) (g j)) (cond (same_space k (kind_of_import d)) (n ∷ places (has_kind k) is (suc n)) (places (has_kind k) is (suc n)))
+AtDesc g is n d k = all_there (λ j. option_and_then (address_of k) (g j)) (cond (same_space k (space_of_import d)) (n ∷ places (has_kind k) is (suc n)) (places (has_kind k) is (suc n)))
 
 pub gathered : (g : ℕ → Option Thing) (is : List Import) (n : ℕ) (fs ts ms gs : List ℕ) → of_kind g Functions is n ≡ Some fs → of_kind g Tables is n ≡ Some ts → of_kind g Memories is n ≡ Some ms → of_kind g Globals is n ≡ Some gs → Gathered g is n fs ts ms gs
-gathered g [] n fs ts ms gs f t m h = record { things = []; each = refl; funcs = some_is f; tables = some_is t; mems = some_is m; globals = some_is h }
+gathered g [] n fs ts ms gs f t m h = record { things = []; each = refl; funcs = same_Some _ _ f; tables = same_Some _ _ t; mems = same_Some _ _ m; globals = same_Some _ _ h }
 gathered g (i ∷ is) n fs ts ms gs f t m h = go i.desc f t m h (gathered g is (suc n))
   where
     go : (d : ImportDesc) → AtDesc g is n d Functions ≡ Some fs → AtDesc g is n d Tables ≡ Some ts → AtDesc g is n d Memories ≡ Some ms → AtDesc g is n d Globals ≡ Some gs →
@@ -180,75 +178,62 @@ pub goes_to : (parts : List Part) (s t : Site) (x : End) → import_step parts s
 goes_to parts s t x e h = walk_more (import_step parts) (length (sites parts)) t x (ap (walk_on (walk (import_step parts) (length (sites parts)))) (sym e) ∙ h)
 
 pub ends_at : (parts : List Part) (s : Site) (x y : End) → import_step parts s ≡ Some (Ends y) → end_of parts s ≡ Some x → y ≡ x
-ends_at parts s x y e h = some_is (ap (walk_on (walk (import_step parts) (length (sites parts)))) (sym e) ∙ h)
+ends_at parts s x y e h = same_Some _ _ (ap (walk_on (walk (import_step parts) (length (sites parts)))) (sym e) ∙ h)
 
 -- ---- what an entity of a part is, by its instance ----
 
+-- the addresses of the entities that an instance has
 abbrev pub space_in : Inst → Space → List ℕ
 space_in i Functions = i.funcs
 space_in i Tables = i.tables
 space_in i Memories = i.mems
 space_in i Globals = i.globals
+space_in i Types = []
+space_in i ElementSegments = []
+space_in i DataSegments = []
 
-pub address_is : (i : Inst) (d : ExportDesc) → address_in i d ≡ option_and_then (λ a. Some (thing_at (kind_of_export d) a)) (slice_get (space_in i (kind_of_export d)) (index_of_export d))
+pub address_is : (i : Inst) (d : ExportDesc) → address_in i d ≡ option_and_then (thing_at (space_of_export d)) (slice_get (space_in i (space_of_export d)) (index_of_export d))
 address_is i (ex.Func x) = refl
 address_is i (ex.Table x) = refl
 address_is i (ex.Memory x) = refl
 address_is i (ex.Global x) = refl
 
-pub in_space : (env : Environment) (parts : List Part) (p : ℕ) (m : Module) (i : Inst) → IsInst env parts p m i → (k : Space) → space env parts k p m ≡ Some (space_in i k)
-in_space env parts p m i h Functions = h.funcs
-in_space env parts p m i h Tables = h.tables
-in_space env parts p m i h Memories = h.mems
-in_space env parts p m i h Globals = h.globals
+pub held_external : (i : Inst) (k : Space) (x a : ℕ) → slice_get (space_in i k) x ≡ Some a → is_external k ≡ true
+held_external i Functions x a h = refl
+held_external i Tables x a h = refl
+held_external i Memories x a h = refl
+held_external i Globals x a h = refl
+held_external i Types x a h = cc
+held_external i ElementSegments x a h = cc
+held_external i DataSegments x a h = cc
 
-pub thing_has : (k : Space) (x : Thing) (a : ℕ) → address_of k x ≡ Some a → thing_at k a ≡ x
-thing_has Functions x a h = sym (func_is x a h)
-thing_has Tables x a h = sym (table_is x a h)
-thing_has Memories x a h = sym (memory_is x a h)
-thing_has Globals x a h = sym (global_is x a h)
+pub export_external : (d : ExportDesc) → is_external (space_of_export d) ≡ true
+export_external (ex.Func x) = refl
+export_external (ex.Table x) = refl
+export_external (ex.Memory x) = refl
+export_external (ex.Global x) = refl
 
--- places of lists that are all there
-pub all_place : {A B : Type 0} (f : A → Option B) (xs : List A) (ys : List B) → all_there f xs ≡ Some ys → (n : ℕ) (x : A) → slice_get xs n ≡ Some x → (y : B) × (f x ≡ Some y) × (slice_get ys n ≡ Some y)
-all_place f [] ys h n x e = absurd (let k = e in cc)
-all_place f (z ∷ zs) ys h n x e =
-    let a = then_is (f z) _ ys h in
-    let b = then_is (all_there f zs) _ ys a.2 in
-    go a.0 b.0 a.1 (some_is b.2) n e (λ n e. all_place f zs b.0 b.1 n x e)
-  where
-    go : (y : _) (rest : List _) → f z ≡ Some y → y ∷ rest ≡ ys → (n : ℕ) → slice_get (z ∷ zs) n ≡ Some x → ((n : ℕ) → slice_get zs n ≡ Some x → (y : _) × (f x ≡ Some y) × (slice_get rest n ≡ Some y)) → (y : _) × (f x ≡ Some y) × (slice_get ys n ≡ Some y)
-    go y rest a b zero e more = (y, ap f (sym (some_is e)) ∙ a, ap (λ l. slice_get l 0) (sym b))
-    go y rest a b (suc n) e more = let r = more n e in (r.0, r.1, ap (λ l. slice_get l (suc n)) (sym b) ∙ r.2)
+pub in_space : (env : Environment) (parts : List Part) (p : ℕ) (m : Module) (i : Inst) → IsInst env parts p m i → (k : Space) → is_external k ≡ true → space env parts k p m ≡ Some (space_in i k)
+in_space env parts p m i h Functions e = h.funcs
+in_space env parts p m i h Tables e = h.tables
+in_space env parts p m i h Memories e = h.mems
+in_space env parts p m i h Globals e = h.globals
+in_space env parts p m i h Types e = cc
+in_space env parts p m i h ElementSegments e = cc
+in_space env parts p m i h DataSegments e = cc
 
-pub all_length : {A B : Type 0} (f : A → Option B) (xs : List A) (ys : List B) → all_there f xs ≡ Some ys → length ys ≡ length xs
-all_length f [] ys h = ap length (sym (some_is h))
-all_length f (z ∷ zs) ys h =
-    let a = then_is (f z) _ ys h in
-    let b = then_is (all_there f zs) _ ys a.2 in
-    ap length (sym (some_is b.2)) ∙ ap suc (all_length f zs b.0 b.1)
-
-pub place_front : {A : Type 0} (xs ys : List A) (n : ℕ) (x : A) → slice_get xs n ≡ Some x → slice_get (xs ++ ys) n ≡ Some x
-place_front [] ys n x e = absurd (let k = e in cc)
-place_front (z ∷ zs) ys zero x e = e
-place_front (z ∷ zs) ys (suc n) x e = place_front zs ys n x e
-
-pub place_behind : {A : Type 0} (xs ys : List A) (n : ℕ) → slice_get (xs ++ ys) (length xs + n) ≡ slice_get ys n
-place_behind [] ys n = let e : 0 + n ≡ n = omega arith in ap (slice_get ys) e
-place_behind (x ∷ xs) ys n = let e : suc (length xs) + n ≡ suc (length xs + n) = omega arith in ap (slice_get (x ∷ (xs ++ ys))) e ∙ place_behind xs ys n
-
-pub numbers_place : (from count n : ℕ) → n < count → slice_get (numbers from count) n ≡ Some (from + n)
-numbers_place from zero n l = absurd (omega (arith, l))
-numbers_place from (suc count) zero l = let e : from ≡ from + 0 = omega arith in ap Some e
-numbers_place from (suc count) (suc n) l = let e : suc from + n ≡ from + suc n = omega arith in numbers_place (suc from) count n (omega (arith, l)) ∙ ap Some e
-
-past_none : {A : Type 0} (xs : List A) (n : ℕ) → slice_get xs n ≡ None → length xs ≤ n
-past_none [] n e = omega arith
-past_none (x ∷ xs) zero e = absurd (let k = e in cc)
-past_none (x ∷ xs) (suc n) e = let l = past_none xs n e in omega (arith, l)
+pub thing_has : (k : Space) (x : Thing) (a : ℕ) → address_of k x ≡ Some a → thing_at k a ≡ Some x
+thing_has Functions x a h = ap Some (sym (func_is x a h))
+thing_has Tables x a h = ap Some (sym (table_is x a h))
+thing_has Memories x a h = ap Some (sym (memory_is x a h))
+thing_has Globals x a h = ap Some (sym (global_is x a h))
+thing_has Types x a h = cc
+thing_has ElementSegments x a h = cc
+thing_has DataSegments x a h = cc
 
 module _ (env : Environment) (parts : List Part) (p : ℕ) (m : Module) (is_part : module_at parts p ≡ Some m) (i : Inst) (inst : IsInst env parts p m i) (d : ExportDesc) where
   abbrev k : Space
-  k = kind_of_export d
+  k = space_of_export d
 
   abbrev entity : Entity
   entity = record { part = p; what = d }
@@ -259,13 +244,13 @@ module _ (env : Environment) (parts : List Part) (p : ℕ) (m : Module) (is_part
   -- what a part defines
   pub defined_is : imported_as parts entity ≡ None → address_in i d ≡ defined_thing env parts entity
   defined_is none =
-      let s = space_is env parts k p m (space_in i k) (in_space env parts p m i inst k) in
-      let high = past_none (imports_of k m) (index_of_export d) (then_none _ _ (sym as_import ∙ none)) in
-      let l = all_length _ (imports_of k m) s.0 s.1 in
+      let s = space_is env parts k p m (space_in i k) (in_space env parts p m i inst k (export_external d)) in
+      let high = slice_get_none (imports_of k m) (index_of_export d) (then_none _ _ (sym as_import ∙ none)) in
+      let l = all_there_length _ (imports_of k m) s.0 s.1 in
       let y = index_of_export d - length (imports_of k m) in
       let e : length s.0 + y ≡ index_of_export d = omega (arith, high, l) in
-      let at = ap (λ xs. slice_get xs (index_of_export d)) (sym s.2) ∙ ap (slice_get (s.0 ++ numbers (base env parts k p) (defined_count k m))) (sym e) ∙ place_behind s.0 _ y in
-      address_is i d ∙ ap (λ o. option_and_then (λ a. Some (thing_at k a)) o) at ∙ sym (ap (λ o. option_and_then (λ m. let k = kind_of_export d in option_and_then (λ a. Some (thing_at k a)) (slice_get (defined_addresses env parts k p m) (index_of_export d - length (imports_of k m)))) o) is_part)
+      let at = ap (λ xs. slice_get xs (index_of_export d)) (sym s.2) ∙ ap (slice_get (s.0 ++ numbers (base env parts k p) (defined_count k m))) (sym e) ∙ append_right s.0 _ y in
+      address_is i d ∙ ap (λ o. option_and_then (thing_at k) o) at ∙ sym (ap (λ o. option_and_then (λ m. let k = space_of_export d in option_and_then (thing_at k) (slice_get (defined_addresses env parts k p m) (index_of_export d - length (imports_of k m)))) o) is_part)
     where
       then_none : {A B : Type 0} (o : Option A) (f : A → B) → option_and_then (λ a. Some (f a)) o ≡ None → o ≡ None
       then_none None f e = refl
@@ -274,10 +259,10 @@ module _ (env : Environment) (parts : List Part) (p : ℕ) (m : Module) (is_part
   -- what it imports
   pub imported_is : (t : Site) (x : Thing) → imported_as parts entity ≡ Some t → imported_thing env parts t ≡ Some x → address_in i d ≡ Some x
   imported_is t x e h =
-      let s = space_is env parts k p m (space_in i k) (in_space env parts p m i inst k) in
-      let n = then_is (slice_get (imports_of k m) (index_of_export d)) _ t (sym as_import ∙ e) in
-      let a = all_place (λ n. option_and_then (address_of k) (imported_thing env parts (record { part = p; import = n }))) (imports_of k m) s.0 s.1 (index_of_export d) n.0 n.1 in
-      let site : record { part = p; import = n.0 } ≡ t = some_is n.2 in
-      let at = ap (λ xs. slice_get xs (index_of_export d)) (sym s.2) ∙ place_front s.0 _ (index_of_export d) a.0 a.2 in
+      let s = space_is env parts k p m (space_in i k) (in_space env parts p m i inst k (export_external d)) in
+      let n = and_then_is (slice_get (imports_of k m) (index_of_export d)) _ t (sym as_import ∙ e) in
+      let a = all_there_at (λ n. option_and_then (address_of k) (imported_thing env parts (record { part = p; import = n }))) (imports_of k m) s.0 s.1 (index_of_export d) n.0 n.1 in
+      let site : record { part = p; import = n.0 } ≡ t = same_Some _ _ n.2 in
+      let at = ap (λ xs. slice_get xs (index_of_export d)) (sym s.2) ∙ append_at_left s.0 _ (index_of_export d) a.0 a.2 in
       let has : address_of k x ≡ Some a.0 = sym (ap (λ o. option_and_then (address_of k) o) (ap (imported_thing env parts) site ∙ h)) ∙ a.1 in
-      address_is i d ∙ ap (λ o. option_and_then (λ a. Some (thing_at k a)) o) at ∙ ap Some (thing_has k x a.0 has)
+      address_is i d ∙ ap (λ o. option_and_then (thing_at k) o) at ∙ thing_has k x a.0 has

@@ -11,8 +11,9 @@ use Rattle.wasm_meaning.specs.Step.{changed, give_levels, give, enter, enter_at,
 use Rattle.wasm_meaning.specs.Environment.{Shown, Thing, FuncAt, TableAt, MemoryAt, GlobalAt, func_of, received, received_ref, received_all}
 use Rattle.wasm_meaning.specs.Run.{Move, Call, Invoke, Take, Answer, Refuse, Grant, Deny, Get, Size, Set, Extend, Phase, Fresh, Pending, Opened, Closed, Run, Out, viewed_at, place_at, trapped_to, after, called, is_mark, delivered, answered, refused, grown_memory, grown_table, with_change, granted, decided, shows, got, size_of, does, byte_of, set, extended, moved, at_entries, or_bad, or_closed, next_move, nothing_in, open_next, is_taken_closed, closed_move, in_phase, tick_at, tick}
 use Rattle.index_remap.proofs.Rel.{OptAll, nothing, stopped, just}
-use Rattle.worlds_in_turn.proofs.Extends.{TableExtends, MemoryExtends, Extends, stays, and_then, Extending, global, memory, table, changed_extends, overwritten_length, append_length}
+use Rattle.worlds_in_turn.proofs.Extends.{TableExtends, MemoryExtends, Extends, stays, and_then, Extending, global, memory, table, changed_extends, overwritten_length}
 use Rattle.worlds_in_turn.proofs.StepExtends.{Grows, act_all, with_is, cond_all}
+use Rattle.std.proofs.lemmas.List.{length-append}
 
 -- the store that is left
 abbrev pub store_of : Next → Store
@@ -118,7 +119,7 @@ module _ (r : Run) where
   memory_grown m n = record { most = refl; size = omega arith }
 
   table_grown : (t : Table) (n : ℕ) (v : RefVal) → TableExtends t (grown_table t n v)
-  table_grown t n v = let l = append_length t.slots (copies n v) in record { type = refl; most = refl; size = omega (arith, l) }
+  table_grown t n v = let l = length-append t.slots (copies n v) in record { type = refl; most = refl; size = omega (arith, l) }
 
   -- what is delivered after a change
   after_change : (c : Change) (vs : List Val) (es : List Entry) → Extending r.store c → Kept r (delivered (with_change r c) vs es)

@@ -1,8 +1,8 @@
 -- When a part's turn comes its imports are there and match, and its instance is the one that it has at once.
-use Rattle.std.proofs.Common.{◌≡◌, ◌∙◌, refl, sym, ap, ap₂, ℕ, zero, suc, ◌+◌, ◌<◌, ◌≤◌, List, [], ◌∷◌, ◌++◌, length, Option, Some, None, Bool, true, false, cond, arith, option_and_then, slice_get, unwrap_or, ◌&&◌}
+use Rattle.std.proofs.Common.{◌≡◌, ◌∙◌, refl, sym, ap, ap₂, ℕ, zero, suc, ◌+◌, ◌<◌, ◌≤◌, List, [], ◌∷◌, ◌++◌, length, Option, Some, None, Bool, true, false, arith, option_and_then, slice_get, unwrap_or, ◌&&◌}
 use Rattle.wasm_tree.specs.declared.space.Space.TheVariants.{Functions, Tables, Memories, Globals, DataSegments, ElementSegments}
 use Rattle.std.specs.Prelude.{nat_le}
-use Rattle.std.proofs.lemmas.Bool.{leb-true, le-leb}
+use Rattle.std.proofs.lemmas.Bool.{leb-true, le-leb, and_parts}
 use Rattle.wasm_tree.specs.declared.types.Limits.{Limits}
 use Rattle.wasm_tree.specs.declared.module.Import.{Import}
 use Rattle.wasm_tree.specs.declared.module.ImportDesc.{ImportDesc}
@@ -17,9 +17,11 @@ use Rattle.wasm_meaning.specs.World.{given, defined_count, base, imported_thing,
 use Rattle.wasm_meaning.specs.InTurn.{next_inst, all_match, thing_for, JoinsEarlier}
 use Rattle.permuted_worlds.specs.Owned.{OwnEntitiesCorrespond}
 use Rattle.worlds_in_turn.proofs.Extends.{TableExtends, MemoryExtends, GlobalExtends}
-use Rattle.worlds_in_turn.proofs.Things.{then_is, some_is, inst_is, space_is, each_from, gathered}
+use Rattle.worlds_in_turn.proofs.Things.{inst_is, space_is, each_from, gathered}
 use Rattle.worlds_in_turn.proofs.Joined.{ExportsThere, made_upto, thing_same, inst_of_part}
 use Rattle.worlds_in_turn.proofs.Low.{thing_low}
+use Rattle.base_lists.proofs.Options.{and_then_is}
+use Rattle.std.proofs.lemmas.Option.{same_Some}
 
 -- as many as the environment and the first parts have
 pub record Sized (env : Environment) (parts : List Part) (p : ℕ) (t : Store) : Type 0 where
@@ -42,7 +44,7 @@ inst_eq i j a b c d e f g = rw (← a, ← b, ← c, ← d, ← e, ← f, ← g)
 
 pub place_at : {A : Type 0} (xs : List A) (n : ℕ) (x : A) → slice_get xs n ≡ Some x → at xs n ≡ Gives x
 place_at [] n x e = cc
-place_at (y ∷ ys) zero x e = ap Gives (some_is e)
+place_at (y ∷ ys) zero x e = ap Gives (same_Some _ _ e)
 place_at (y ∷ ys) (suc n) x e = place_at ys n x e
 
 pub at_place : {A : Type 0} (xs : List A) (n : ℕ) (x : A) → at xs n ≡ Gives x → slice_get xs n ≡ Some x
@@ -59,10 +61,6 @@ meets_more n m most l le h = go (nat_le l.min n) refl h
     go false e h = cc
     go true e h = let low = leb-true l.min n e in ap (λ b. b && meets_most most l.max) (le-leb l.min m (omega (arith, low, le))) ∙ h
 
-cond_left : (a b : Bool) → a && b ≡ true → (a ≡ true) × (b ≡ true)
-cond_left true b h = (refl, h)
-cond_left false b h = cc
-
 module _ (env : Environment) (parts : List Part) (p : ℕ) (s t : Store) (holds : Holds env parts p s t) (m : Module) where
   match_stays : (d : ImportDesc) (x : Thing) → ((a : ℕ) → x ≡ FuncAt a → a < base env parts Functions p) → ((a : ℕ) → x ≡ TableAt a → a < base env parts Tables p) → ((a : ℕ) → x ≡ MemoryAt a → a < base env parts Memories p) → ((a : ℕ) → x ≡ GlobalAt a → a < base env parts Globals p) →
       unwrap_or (is_match s m d x) false ≡ true → unwrap_or (is_match t m d x) false ≡ true
@@ -73,7 +71,7 @@ module _ (env : Environment) (parts : List Part) (p : ℕ) (s t : Store) (holds 
       go None e h = cc
       go (Some u) e h =
           let y = holds.tables a u (ta a refl) (place_at s.tables a u e) in
-          let c = cond_left _ _ h in
+          let c = and_parts _ _ h in
           let ty_same : Rattle.wasm_meaning.specs.Values.same_ref ty.ty y.0.ty ≡ true = ap (Rattle.wasm_meaning.specs.Values.same_ref ty.ty) y.2.type ∙ c.0 in
           let size : meets (length y.0.slots) y.0.most ty.limits ≡ true = meets_more (length u.slots) (length y.0.slots) y.0.most ty.limits y.2.size (ap (λ q. meets (length u.slots) q ty.limits) y.2.most ∙ c.1) in
           ap (λ o. unwrap_or (option_and_then (λ u. Some (Rattle.wasm_meaning.specs.Values.same_ref ty.ty u.ty && meets (length u.slots) u.most ty.limits)) o) false) (at_place t.tables a y.0 y.1) ∙ ap₂ (λ b c. b && c) ty_same size
@@ -108,8 +106,8 @@ module _ (env : Environment) (parts : List Part) (p : ℕ) (s t : Store) (holds 
 
 pub all_is : {A : Type 0} (test : A → Bool) (xs : List A) → all_of test xs ≡ true → (n : ℕ) (x : A) → slice_get xs n ≡ Some x → test x ≡ true
 all_is test [] h n x e = absurd (let k = e in cc)
-all_is test (y ∷ ys) h zero x e = ap test (sym (some_is e)) ∙ (cond_left (test y) (all_of test ys) h).0
-all_is test (y ∷ ys) h (suc n) x e = all_is test ys (cond_left (test y) (all_of test ys) h).1 n x e
+all_is test (y ∷ ys) h zero x e = ap test (sym (same_Some _ _ e)) ∙ (and_parts (test y) (all_of test ys) h).0
+all_is test (y ∷ ys) h (suc n) x e = all_is test ys (and_parts (test y) (all_of test ys) h).1 n x e
 
 -- the sites are the imports
 abbrev pub SitesThere : List Part → Type 0
@@ -123,17 +121,17 @@ module _ (env : Environment) (parts : List Part) (insts : List Inst) (are : inst
     -- from a place of the imports on
     things_for : (is : List Import) (n : ℕ) (xs : List Thing) → ((j : ℕ) (i : Import) → slice_get is j ≡ Some i → slice_get m.imports (n + j) ≡ Some i) → each_from imported is n ≡ Some xs →
         (all_there (thing_for (owned_of env) (made_upto p parts insts) m) is ≡ Some xs) × (all_match t m is xs ≡ true)
-    things_for [] n xs at h = (h, ap (all_match t m []) (sym (some_is h)))
+    things_for [] n xs at h = (h, ap (all_match t m []) (sym (same_Some _ _ h)))
     things_for (im ∷ is) n xs at h =
-        let a = then_is (imported n) _ xs h in
-        let b = then_is (each_from imported is (suc n)) _ xs a.2 in
+        let a = and_then_is (imported n) _ xs h in
+        let b = and_then_is (each_from imported is (suc n)) _ xs a.2 in
         let z : n + 0 ≡ n = omega arith in
         let here : slice_get m.imports n ≡ Some im = ap (slice_get m.imports) (sym z) ∙ at 0 im refl in
         let r = things_for is (suc n) b.0 (λ j i e. ap (slice_get m.imports) (let s : suc n + j ≡ n + suc j = omega arith in s) ∙ at (suc j) i e) b.1 in
         let thing = thing_same env parts insts are size earlier p n m im is_part here a.0 a.1 in
         let first = matches n im a.0 here a.1 in (
           ap₂ (λ o q. option_and_then (λ y. option_and_then (λ ys. Some (y ∷ ys)) q) o) thing r.0 ∙ b.2,
-          ap (all_match t m (im ∷ is)) (sym (some_is b.2)) ∙ ap₂ (λ b c. b && c) first r.1,
+          ap (all_match t m (im ∷ is)) (sym (same_Some _ _ b.2)) ∙ ap₂ (λ b c. b && c) first r.1,
         )
       where
         matches : (n : ℕ) (im : Import) (x : Thing) → slice_get m.imports n ≡ Some im → imported n ≡ Some x → unwrap_or (is_match t m im.desc x) false ≡ true

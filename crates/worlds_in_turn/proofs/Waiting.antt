@@ -9,8 +9,7 @@ use Rattle.wasm_meaning.specs.World.{World, joined_stores, defined_before}
 use Rattle.wasm_meaning.specs.Run.{Run}
 use Rattle.wasm_meaning.specs.Below.{BelowIsNotSeen}
 use Rattle.wasm_meaning.specs.InTurn.{InTurn, goes_on}
-use Rattle.index_remap.specs.Related.{Pairing, BothRel, both, OptRel, none, some, RefRel, func, extern, ValRel, number, reference, ListRel, nil, cons, opening, TableRel, GlobalRel}
-use Rattle.index_remap.specs.Related as to
+use Rattle.index_remap.specs.Related.{BothRel, both, none, some, RefRel, func, extern, ValRel, number, reference, nil, cons, opening, TableRel, GlobalRel}
 use Rattle.index_remap.specs.RelatedRuns.{ThingRel, a_func, a_table, a_memory, a_global, KeyRel, pending}
 use Rattle.index_remap.specs.Laws.{CodeIsRelatedToItself, RelatedTicksAgree, OthersStay}
 use Rattle.index_remap.proofs.Rel.{length_rel}

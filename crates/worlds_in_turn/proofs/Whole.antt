@@ -20,11 +20,12 @@ use Rattle.worlds_in_turn.proofs.Joined.{made_upto}
 use Rattle.worlds_in_turn.proofs.Reached.{reaching}
 use Rattle.worlds_in_turn.proofs.Closed.{self_by, func_self}
 use Rattle.worlds_in_turn.proofs.Filling.{all_fill}
-use Rattle.worlds_in_turn.proofs.Given.{IsGiven, IsTurn, part_there, starts_from, starts_next, next_turn}
+use Rattle.worlds_in_turn.proofs.Given.{IsGiven, IsTurn, starts_from, starts_next, next_turn}
 use Rattle.worlds_in_turn.proofs.Waiting.{within}
 use Rattle.worlds_in_turn.proofs.Stages.{Waits, Stage, added_stage}
 use Rattle.worlds_in_turn.proofs.Stages as stages
 use Rattle.worlds_in_turn.proofs.Begins.{FillLaws, Fills, Advances, advances, beside_after, own_related, own_sound}
+use Rattle.base_lists.proofs.Places.{slice_get_there}
 
 -- a view over no parts is empty
 no_view : (vs : List (Text × Entity)) → unwrap_or (all_there (seen_as []) vs) [] ≡ []
@@ -166,8 +167,8 @@ module _ (env : Environment) (w : World) (insts : List Inst) (allocated : Store)
   -- the next part, by its place
   part_at : (k : ℕ) → k < length w.parts → (part : Part) × (i : Inst) × (slice_get w.parts k ≡ Some part) × (slice_get insts k ≡ Some i)
   part_at k less =
-      let part = part_there w.parts k less in
-      let i = part_there insts k (let s = g.size in omega (arith, less, s)) in
+      let part = slice_get_there w.parts k less in
+      let i = slice_get_there insts k (let s = g.size in omega (arith, less, s)) in
       (part.0, i.0, part.1, i.1)
 
   step_of : (k d : ℕ) (r : Run) (q : InTurn) → (h : Filling k r q) → length w.parts ≤ suc k + d → (q' : InTurn) × (tick_in_turn q ≡ (q', None)) × Early d r q'

@@ -1,6 +1,6 @@
 use Rattle.std.proofs.Common.{◌++◌, [], ◌∷◌, sym, ap₂, ◌∙◌, rules, IsTrue}
 use Rattle.wasm_tree.specs.declared.instr.Instr.{the_lemmas}
-use Rattle.wasm_bytes.proofs.Walk.{mapped_more}
+use Rattle.base_lists.proofs.Walk.{mapped_more}
 use Rattle.index_remap.proofs.Fits.{fits_at, fits_block, fits_loop, fits_then, fits_else}
 use Rattle.index_remap.specs.Renumbered.{renumbered, fits, fits_all}
 use Rattle.index_remap.proofs.body.+renumber.Goals as goal

@@ -3,8 +3,7 @@ use Rattle.wasm_meaning.specs.World.{numbers}
 use Rattle.wasm_meaning.specs.Linking.{places, has_kind}
 use Rattle.merge_terms.specs.Parts.{named_modules}
 use Rattle.merge_terms.specs.Merged.{new_index}
-use Rattle.merge_join.specs.Words.{the_kind}
 use Rattle.merge_join.proofs.maps.imported_map.Given as goal
 
 abbrev pub invariant-loop-place : goal.invariant-loop-place
-invariant-loop-place l = l.map ≡ map (new_index (named_modules l.space.parts.now) l.part (the_kind l.space.kind)) (numbers 0 (length (places (has_kind (the_kind l.space.kind)) (take l.place l.imports) 0)))
+invariant-loop-place l = l.map ≡ map (new_index (named_modules l.into.parts.now) l.part l.into.space) (numbers 0 (length (places (has_kind l.into.space) (take l.place l.imports) 0)))

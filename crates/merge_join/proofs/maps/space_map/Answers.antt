@@ -3,7 +3,6 @@ use Rattle.wasm_meaning.specs.World.{numbers, defined_before, defined_count}
 use Rattle.wasm_meaning.specs.Linking.{imports_of}
 use Rattle.merge_terms.specs.Parts.{named_modules}
 use Rattle.merge_terms.specs.Merged.{new_index, staying_of}
-use Rattle.merge_join.specs.Words.{the_kind}
 use Rattle.merge_join.specs.Spaces.{first_of}
 use Rattle.merge_join.proofs.ByPart.{each_within, each_index, module_exists}
 use Rattle.merge_join.proofs.Counts.{staying_few, defined_room}
@@ -12,25 +11,25 @@ use Rattle.merge_join.proofs.maps.space_map.Goals as goal
 
 pub number_at-first-requires : goal.number_at-first-requires
 number_at-first-requires c =
-    let s = c.args.space.now in
+    let s = c.args.into.now in
     let ps = named_modules s.parts.now in
     let (m, at) = module_exists s.parts.now c.args.part c.requires.there in
-    each_within (first_of ps (the_kind s.kind)) ps s.firsts c.args.part m s.is.firsts_are at
+    each_within (first_of ps s.space) ps s.firsts c.args.part m s.is.firsts_are at
 
 pub add_numbers-requires : goal.add_numbers-requires
 add_numbers-requires c =
-    let s = c.args.space.now in
+    let s = c.args.into.now in
     let ps = named_modules s.parts.now in
-    let k = the_kind s.kind in
+    let k = s.space in
     let m = c.module_of.result.now in
     let at = c.module_of.ensures.at in
-    omega (arith, c.number_at-first.ensures, each_index (first_of ps k) ps s.firsts c.args.part m s.is.firsts_are at, c.defined_count-defined.ensures, defined_room k ps c.args.part m at, staying_few ps k, c.requires.linked.few.entities k)
+    omega (arith, c.number_at-first.ensures, each_index (first_of ps k) ps s.firsts c.args.part m s.is.firsts_are at, c.defined_count-defined.ensures, defined_room k ps c.args.part m at, staying_few ps k, c.requires.linked.few.entries k)
 
 pub returns : goal.returns
 returns c = λ m at.
-    let s = c.args.space.now in
+    let s = c.args.into.now in
     let ps = named_modules s.parts.now in
-    let k = the_kind s.kind in
+    let k = s.space in
     let p = c.args.part in
     let there : Some c.module_of.result.now ≡ Some m = sym c.module_of.ensures.at ∙ at in
     let same : c.module_of.result.now ≡ m = cc in

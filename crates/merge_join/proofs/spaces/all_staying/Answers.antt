@@ -1,19 +1,18 @@
 use Rattle.std.proofs.Common.{◌∙◌, sym, ap, ◌++◌, ◌∷◌, [], length, map}
 use Rattle.wasm_meaning.specs.Linking.{sites_in}
 use Rattle.merge_terms.specs.Parts.{named_modules}
-use Rattle.merge_join.specs.Words.{the_kind}
 use Rattle.merge_join.specs.Spaces.{staying_place}
 use Rattle.merge_join.proofs.ByPart.{part_more, part_all, by_import_is, module_exists}
 use Rattle.merge_join.proofs.Counts.{count_all, count_none}
 use Rattle.merge_join.proofs.spaces.all_staying.Goals as goal
 
 pub loop-part-init : goal.loop-part-init
-loop-part-init c = record { staying_are = c.new-staying.ensures; count_is = sym (count_none (named_modules c.args.parts.now) (the_kind c.args.kind)) }
+loop-part-init c = record { staying_are = c.new-staying.ensures; count_is = sym (count_none (named_modules c.args.parts.now) c.args.space) }
 
 pub loop-part-preserved : goal.loop-part-preserved
 loop-part-preserved c =
     let ps = named_modules c.args.parts.now in
-    let k = the_kind c.args.kind in
+    let k = c.args.space in
     let p = c.loop-part.part in
     let (m, at) = module_exists c.args.parts.now p c.loop-part-test.true in
     record {
@@ -25,7 +24,7 @@ loop-part-preserved c =
 pub returns : goal.returns
 returns c =
     let ps = named_modules c.args.parts.now in
-    let k = the_kind c.args.kind in
+    let k = c.args.space in
     let p = c.loop-part.part in
     record {
       staying = part_all (λ p m. map (staying_place ps k) (sites_in p (length m.imports) 0) ∷ []) c.args.parts.now p c.loop-part.staying c.loop-part-test.false c.loop-part.invariant.staying_are ∙ sym (by_import_is (staying_place ps k) ps);

@@ -1,18 +1,17 @@
 use Rattle.std.proofs.Common.{◌≡◌, ◌∙◌, sym, ap, ◌+◌, ◌++◌, ◌∷◌, [], length, arith}
 use Rattle.wasm_meaning.specs.World.{defined_before}
 use Rattle.merge_terms.specs.Parts.{named_modules}
-use Rattle.merge_join.specs.Words.{the_kind}
 use Rattle.merge_join.proofs.ByPart.{part_more, part_all, named_length}
 use Rattle.merge_join.proofs.Counts.{defined_none, defined_more, defined_room}
 use Rattle.merge_join.proofs.spaces.firsts_of.Goals as goal
 
 pub loop-part-init : goal.loop-part-init
-loop-part-init c = record { firsts_are = c.new-firsts.ensures; first_is = omega (arith, defined_none (the_kind c.args.kind) (named_modules c.args.parts.now)) }
+loop-part-init c = record { firsts_are = c.new-firsts.ensures; first_is = omega (arith, defined_none c.args.space (named_modules c.args.parts.now)) }
 
 pub loop-part-preserved : goal.loop-part-preserved
 loop-part-preserved c =
     let ps = named_modules c.args.parts.now in
-    let k = the_kind c.args.kind in
+    let k = c.args.space in
     let p = c.loop-part.part in
     let m = c.module_of.result.now in
     let i = c.loop-part.invariant in
@@ -25,7 +24,7 @@ loop-part-preserved c =
 pub overflow_add-first : goal.overflow_add-first
 overflow_add-first c =
     let ps = named_modules c.args.parts.now in
-    let k = the_kind c.args.kind in
+    let k = c.args.space in
     let m = c.module_of.result.now in
     let all : defined_before k ps (length c.args.parts.now) ≡ defined_before k ps (length ps) = ap (defined_before k ps) (sym (named_length c.args.parts.now)) in
     omega (arith, all, c.loop-part.invariant.first_is, c.defined_count.ensures, defined_room k ps c.loop-part.part m c.module_of.ensures.at, c.requires.few)
@@ -33,7 +32,7 @@ overflow_add-first c =
 pub overflow_cast-first : goal.overflow_cast-first
 overflow_cast-first c =
     let ps = named_modules c.args.parts.now in
-    let k = the_kind c.args.kind in
+    let k = c.args.space in
     let m = c.module_of.result.now in
     let all : defined_before k ps (length c.args.parts.now) ≡ defined_before k ps (length ps) = ap (defined_before k ps) (sym (named_length c.args.parts.now)) in
     omega (arith, all, c.defined_count.ensures, defined_room k ps c.loop-part.part m c.module_of.ensures.at, c.requires.few)
@@ -41,7 +40,7 @@ overflow_cast-first c =
 pub returns : goal.returns
 returns c =
     let ps = named_modules c.args.parts.now in
-    let k = the_kind c.args.kind in
+    let k = c.args.space in
     let end : c.loop-part.part ≡ length c.args.parts.now = omega arith in
     record {
       firsts = part_all (λ p m. (c.args.staying + defined_before k ps p) ∷ []) c.args.parts.now c.loop-part.part c.loop-part.firsts (omega arith) c.loop-part.invariant.firsts_are;

@@ -1,9 +1,8 @@
 use Rattle.std.proofs.Common.{◌≡◌, ◌∷◌, [], take}
 use Rattle.merge_terms.specs.Parts.{named_modules}
 use Rattle.merge_terms.specs.Merged.{by_part_from}
-use Rattle.merge_join.specs.Words.{the_kind}
 use Rattle.merge_join.specs.Spaces.{imported_in}
 use Rattle.merge_join.proofs.spaces.imported_of.Given as goal
 
 abbrev pub invariant-loop-part : goal.invariant-loop-part
-invariant-loop-part l = l.imported ≡ by_part_from (λ p m. imported_in (named_modules l.parts) (the_kind l.kind) p m ∷ []) 0 (take l.part (named_modules l.parts))
+invariant-loop-part l = l.imported ≡ by_part_from (λ p m. imported_in (named_modules l.parts) l.space p m ∷ []) 0 (take l.part (named_modules l.parts))

@@ -3,7 +3,7 @@ use Rattle.std.proofs.lemmas.Result.{IfErr-weaker}
 use Rattle.merge_terms.specs.Parts.{named_modules}
 use Rattle.merge_terms.specs.Joined.{FewInAll}
 use Rattle.tools_cli.specs.Command.{task, source_values, input_entries}
-use Rattle.tools_cli.specs.Job.{parts_of}
+use Rattle.tools_cli.specs.Job.{parts_of, most_parts}
 use Rattle.tools_cli.specs.Causes.{StopsMerging, StopsDeciding}
 use Rattle.tools_cli.proofs.Deciding.{length_once, inputs_once, loading_stops, merging_stops}
 use Rattle.tools_cli.specs.Words.{are_apart}
@@ -32,7 +32,7 @@ merge_parts-requires-clause-few c =
     let named : named_modules c.in-Ok-name_parts.parts ≡ parts_of (source_values xs) trees = c.in-Ok-name_parts.ensures ∙ ap (λ l. parts_of (source_values l) trees) c.as_slice.ensures.value in
     let same = length_once xs in
     let few = c.requires.few in
-    let short : length (source_values xs) ≤ 1000 = omega arith in
+    let short : length (source_values xs) ≤ most_parts = omega arith in
     subst FewInAll (sym named) (parts_few (source_values xs) (input_entries c.args.inputs.now) trees short c.in-Ok.ensures.loaded)
 
 pub merge_parts-requires-clause-names : goal.merge_parts-requires-clause-names

@@ -16,7 +16,7 @@ pub returns-clause-first : goal.returns-clause-first
 returns-clause-first c = call_first false _ c.read_file.ensures.bytes _ c.read_file.ensures.gives
 
 pub returns-clause-bounded : goal.returns-clause-bounded
-returns-clause-bounded c = found_bounded _ _ (call_found false _ c.read_file.ensures.bytes _ c.read_file.ensures.gives)
+returns-clause-bounded c = found_bounded c.spelled_trees_are_bounded.ensures _ _ (call_found false _ c.read_file.ensures.bytes _ c.read_file.ensures.gives)
 
 pub returns-clause-memory : goal.returns-clause-memory
-returns-clause-memory c = found_zero _ _ (call_found false _ c.read_file.ensures.bytes _ c.read_file.ensures.gives)
+returns-clause-memory c = found_zero c.spelled_bodies_name_memory_zero.ensures _ _ (call_found false _ c.read_file.ensures.bytes _ c.read_file.ensures.gives)

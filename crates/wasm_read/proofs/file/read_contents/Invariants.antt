@@ -1,5 +1,7 @@
 use Rattle.std.proofs.Common.{◌≡◌, ◌≤◌, length, drop}
 use Rattle.wasm_bytes.specs.FrameViews.{framed_all}
+use Rattle.wasm_tree.specs.Limits.{limit}
+use Rattle.wasm_tree.specs.declared.which.Which.TheVariants.{Imports}
 use Rattle.wasm_format.specs.Files.{nothing}
 use Rattle.wasm_format.specs.Contents.{contents_at}
 use Rattle.wasm_read.proofs.file.read_contents.Given as goal
@@ -8,5 +10,5 @@ abbrev pub invariant-loop-frame : goal.invariant-loop-frame
 invariant-loop-frame l = record {
   goes_on : contents_at l.many 0 nothing (framed_all l.bytes l.all) ≡ contents_at l.many l.frame-index l.parts (framed_all l.bytes (drop l.frame-index l.all));
   number : l.section ≡ l.frame-index;
-  few : length l.parts.imports ≤ 1000000;
+  few : length l.parts.imports ≤ limit Imports;
 }

@@ -1,6 +1,6 @@
 use Rattle.std.proofs.Common.{ap, length, Some, None, arith}
 use Rattle.wasm_tree.specs.Spaces.{func_of}
-use Rattle.wasm_tree.proofs.Places.{found_behind}
+use Rattle.base_lists.proofs.Found.{found_behind}
 use Rattle.wasm_tree.proofs.module.Module.type_index.Goals as goal
 
 pub returns-in-Some : goal.returns-in-Some
