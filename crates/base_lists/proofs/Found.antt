@@ -5,6 +5,7 @@ use Rattle.std.specs.Option.{option_copied}
 use Rattle.std.specs.Borrow.{Bor}
 use Rattle.std.specs.List.{filter_map, cons_option}
 use Rattle.std.proofs.lemmas.List.{drop_all}
+use Rattle.std.proofs.lemmas.Option.{slice_get-map}
 
 is_some_copied : {T : Type 0} (r : Option (Bor T)) → is_some (option_copied r) ≡ is_some r
 is_some_copied None = refl
@@ -41,13 +42,16 @@ no_type r ts is i e =
     let at = no_type_at ts is i (slice_get is i) refl in
     (λ h. at.0 (sym same ∙ h), λ l. same ∙ at.1 l)
 
-pub slice_get_map : {A B : Type 0} (f : A → B) (xs : List A) (i : ℕ) → slice_get (map f xs) i ≡ option_map f (slice_get xs i)
-slice_get_map f [] i = refl
-slice_get_map f (x ∷ xs) zero = refl
-slice_get_map f (x ∷ xs) (suc i) = slice_get_map f xs i
-
 -- once what was filtered has been passed, what is found is what is found behind it
 pub found_behind : {X Y A : Type 0} (h : X → Option Y) (xs : List X) (n : ℕ) (f : A → Y) (ys : List A) (i : ℕ) (m : Option Y) (r : Option (Bor A)) →
     m ≡ slice_get (filter_map h (drop n xs) ++ map f ys) i → length xs ≤ n → option_copied r ≡ slice_get ys i → option_map f (option_copied r) ≡ m
 found_behind h xs n f ys i m r at past e =
-    sym (at ∙ ap (λ zs. slice_get (filter_map h zs ++ map f ys) i) (drop_all n xs past) ∙ slice_get_map f ys i ∙ ap (option_map f) (sym e))
+    sym (at ∙ ap (λ zs. slice_get (filter_map h zs ++ map f ys) i) (drop_all n xs past) ∙ slice_get-map f ys i ∙ ap (option_map f) (sym e))
+
+length_option : {B : Type 0} (y : Option B) (ys : List B) → length (cons_option y ys) ≤ length ys + 1
+length_option None ys = omega arith
+length_option (Some y) ys = omega arith
+
+pub filter_map_most : {A B : Type 0} (h : A → Option B) (xs : List A) → length (filter_map h xs) ≤ length xs
+filter_map_most h [] = omega arith
+filter_map_most h (x ∷ xs) = omega (arith, length_option (h x) (filter_map h xs), filter_map_most h xs)
