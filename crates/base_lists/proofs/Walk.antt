@@ -1,5 +1,5 @@
 -- Steps of a loop that goes over a list and makes, or writes, one item at a time.
-use Rattle.std.proofs.Common.{◌≡◌, ℕ, zero, suc, ◌+◌, ◌<◌, ◌≤◌, arith, List, [], ◌∷◌, ◌++◌, map, take, drop, set, get_or, slice_get, Some, None, refl, sym, ap, ◌∙◌, add-one, length}
+use Rattle.std.proofs.Common.{◌≡◌, ℕ, zero, suc, ◌+◌, ◌<◌, ◌≤◌, arith, List, [], ◌∷◌, ◌++◌, map, take, drop, set, get_or, slice_get, Some, None, refl, sym, ap, ◌∙◌, add-one, length, Result, Ok, Err, OnErr}
 use Rattle.std.proofs.lemmas.List.{take_more, map_push}
 use denote.Param.Weighed.{most}
 
@@ -38,3 +38,8 @@ pub none_past : {A : Type 0} (xs : List A) (i : ℕ) → None ≡ slice_get xs i
 none_past [] i e = omega arith
 none_past (x ∷ xs) zero e = cc
 none_past (x ∷ xs) (suc i) e = omega (arith, none_past xs i e)
+
+-- what holds anyway
+pub on_err : {T E : Type 0} (r : Result T E) (P : Type 0) → P → OnErr r P
+on_err (Ok x) P p = tt
+on_err (Err e) P p = p

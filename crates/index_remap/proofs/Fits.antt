@@ -1,30 +1,52 @@
--- What holds of a whole list holds of each item.
-use Rattle.std.proofs.Common.{◌≡◌, ℕ, zero, suc, ◌<◌, List, [], ◌∷◌, map, length, get_or, Bool, true, false, ◌&&◌, IsTrue, Some, slice_get, true≢false, refl, sym}
+-- What holds of a whole list holds of each item, and of a block what holds of what it holds.
+use Rattle.std.proofs.Common.{◌≡◌, ℕ, ◌<◌, List, [], ◌∷◌, length, get_or, Bool, true, ◌&&◌, IsTrue, refl, sym, ap, ap₂, ◌∙◌}
+use Rattle.std.specs.List.{list_all}
+use Rattle.std.specs.Prelude.{map}
 use Rattle.std.proofs.lemmas.Option.{slice_get_read}
-use Rattle.wasm_tree.specs.declared.instr.Instr.{Instr}
+use Rattle.std.proofs.lemmas.List.Folds.{list_all-append, list_all-map}
+use Rattle.base_lists.proofs.Bools.{left_true, right_true}
+use Rattle.base_lists.proofs.Each.{list_all_each}
+use Rattle.wasm_tree.specs.declared.types.BlockType.{BlockType}
+use Rattle.wasm_tree.specs.declared.instr.Instr.{Instr, fold_out-Instr, map-Instr}
+use Rattle.wasm_tree.specs.declared.instr.Instr.TheOpen.{Instr-F}
+use Rattle.wasm_tree.specs.declared.instr.Instr.TheVariants.{Block, Loop, If, outs-Block, outs-Loop, outs-If}
+use Rattle.wasm_tree.specs.Operands.{all_pass_step}
 use Rattle.wasm_tree.specs.declared.types.FuncType.{FuncType}
 use Rattle.index_remap.specs.declared.remap.Remap.{Remap}
-use Rattle.index_remap.specs.Renumbered.{fits, fits_all, all_true, any_type}
+use Rattle.index_remap.specs.Renumbered.{has_entry, fits_type, fits, fits_all, any_type}
 
-left : (a b : Bool) → IsTrue (a && b) → IsTrue a
-left true b h = refl
-left false b h = h
-
-right : (a b : Bool) → IsTrue (a && b) → IsTrue b
-right true b h = h
-right false b h = absurd (true≢false (sym h))
-
-each_get : {A : Type 0} (test : A → Bool) (xs : List A) (i : ℕ) (x : A) → IsTrue (all_true (map test xs)) → Some x ≡ slice_get xs i → IsTrue (test x)
-each_get test [] i x h e = cc
-each_get test (y ∷ ys) zero x h e = let same : x ≡ y = cc in rw same (left _ _ h)
-each_get test (y ∷ ys) (suc i) x h e = each_get test ys i x (right (test y) _ h) e
-
-pub each_at : {A : Type 0} (test : A → Bool) (xs : List A) (i : ℕ) (x : A) → IsTrue (all_true (map test xs)) → i < length xs → x ≡ get_or xs i x → IsTrue (test x)
-each_at test xs i x h lt is = each_get test xs i x h (sym (slice_get_read xs _ i x refl lt is))
+pub each_at : {A : Type 0} (test : A → Bool) (xs : List A) (i : ℕ) (x : A) → IsTrue (list_all test xs) → i < length xs → x ≡ get_or xs i x → IsTrue (test x)
+each_at test xs i x h lt is = list_all_each test xs h i x (slice_get_read xs _ i x refl lt is)
 
 pub fits_at : (m : Remap) (body : List Instr) (i : ℕ) (x : Instr) → IsTrue (fits_all m body) → i < length body → x ≡ get_or body i x → IsTrue (fits m x)
 fits_at m = each_at (fits m)
 
-pub any_types : (m : Remap) (xs : List FuncType) → IsTrue (all_true (map (any_type m) xs))
+pub any_types : (m : Remap) (xs : List FuncType) → IsTrue (list_all (any_type m) xs)
 any_types m [] = refl
 any_types m (x ∷ xs) = any_types m xs
+
+module _ (m : Remap) where
+  abbrev step : Instr-F Instr → Bool
+  step l = all_pass_step (has_entry m) (map-Instr Instr Bool (fits m) l)
+
+  each : (is : List Instr) → list_all (λ b. b) (map (fits m) is) ≡ fits_all m is
+  each is = list_all-map (λ b. b) (fits m) is
+
+  pub fits_block : (ty : BlockType) (is : List Instr) → IsTrue (fits m (Block ty is)) → IsTrue (fits_all m is)
+  fits_block ty is h =
+      right_true (fits_type m ty) (fits_all m is) (sym (fold_out-Instr Bool (all_pass_step (has_entry m)) (Block ty is) ∙ ap step (outs-Block ty is) ∙ ap (λ b. fits_type m ty && b) (each is)) ∙ h)
+
+  pub fits_loop : (ty : BlockType) (is : List Instr) → IsTrue (fits m (Loop ty is)) → IsTrue (fits_all m is)
+  fits_loop ty is h =
+      right_true (fits_type m ty) (fits_all m is) (sym (fold_out-Instr Bool (all_pass_step (has_entry m)) (Loop ty is) ∙ ap step (outs-Loop ty is) ∙ ap (λ b. fits_type m ty && b) (each is)) ∙ h)
+
+  fits_both : (ty : BlockType) (is os : List Instr) → IsTrue (fits m (If ty is os)) → IsTrue (fits_all m is && fits_all m os)
+  fits_both ty is os h =
+      let held = list_all-append (λ b. b) (map (fits m) is) (map (fits m) os) ∙ ap₂ (λ a b. a && b) (each is) (each os) in
+      right_true (fits_type m ty) (fits_all m is && fits_all m os) (sym (fold_out-Instr Bool (all_pass_step (has_entry m)) (If ty is os) ∙ ap step (outs-If ty is os) ∙ ap (λ b. fits_type m ty && b) held) ∙ h)
+
+  pub fits_then : (ty : BlockType) (is os : List Instr) → IsTrue (fits m (If ty is os)) → IsTrue (fits_all m is)
+  fits_then ty is os h = left_true (fits_all m is) (fits_all m os) (fits_both ty is os h)
+
+  pub fits_else : (ty : BlockType) (is os : List Instr) → IsTrue (fits m (If ty is os)) → IsTrue (fits_all m os)
+  fits_else ty is os h = right_true (fits_all m is) (fits_all m os) (fits_both ty is os h)

@@ -8,11 +8,13 @@ use Rattle.wasm_tree.specs.declared.types.BlockType.TheVariants as bt
 use Rattle.wasm_tree.specs.declared.instr.MemArg.{MemArg}
 use Rattle.wasm_tree.specs.declared.instr.Instr.{Instr, fold_out-Instr, map-Instr, out-Instr}
 use Rattle.wasm_tree.specs.declared.instr.Instr.TheVariants.{Block', Loop', If', Return, Call, CallIndirect, LocalGet, LocalSet, LocalTee, GlobalGet, GlobalSet, TableGet, TableSet, Load, Store, MemorySize, MemoryGrow, RefFunc, MemoryInit, DataDrop, MemoryCopy, MemoryFill, TableInit, ElemDrop, TableCopy, TableGrow, TableSize, TableFill}
+use Rattle.base_lists.specs.Every.{Every}
+use Rattle.wasm_tree.specs.Operands.{block_operands, map_operands}
 use Rattle.wasm_typing.specs.Ops.{load_width, store_width}
 use Rattle.wasm_typing.specs.Typing.{Stack, Effect, Gives, Leaves, Acts, Context, signature_of, fits_memory, effect_of, Fits}
 use Rattle.index_remap.specs.declared.remap.Remap.{Remap}
-use Rattle.index_remap.specs.Renumbered.{new_type, new_memarg, renumber_step, renumbered}
-use Rattle.index_remap.specs.Agreement.{Keeps, BlockAgrees, FuncAgrees, LayerAgrees, MemoryAgrees, DataAgrees, labelled}
+use Rattle.index_remap.specs.Renumbered.{entry, new_type, new_memarg, renumbered}
+use Rattle.index_remap.specs.Agreement.{Keeps, FuncAgrees, OperandAgrees, LayerAgrees, MemoryAgrees, DataAgrees, labelled}
 use Rattle.index_remap.proofs.Keeping.{keeps_map, keeps_then, keeps_only, keeps_signature, and_keeps, both_keeps, named_keeps, then_is}
 
 -- an instruction without a body fits where its type acts
@@ -37,43 +39,43 @@ module _ (m : Remap) (c d : Context) (locals : c.locals ≡ d.locals) (results :
   call_keeps x k y h = then_is (slice_get d.funcs (slice_index m.funcs x)) (slice_get d.types) ∙ k y (sym (then_is (slice_get c.funcs x) (slice_get c.types)) ∙ h)
 
   effect_at : (ls : List (List ValType)) (i : Instr) → LayerAgrees m c d (out-Instr i) → (e : Effect) → effect_of (labelled c ls) i ≡ Some e →
-      effect_of (labelled d ls) (renumber_step m (map-Instr Instr Instr (renumbered m) (out-Instr i))) ≡ Some e
+      effect_of (labelled d ls) (map_operands (entry m) (map-Instr Instr Instr (renumbered m) (out-Instr i))) ≡ Some e
   unfolding out-Instr denote.Hole.Carrier.out
   effect_at ls (Block' bt n body) q e h = cc
   effect_at ls (Loop' bt n body) q e h = cc
   effect_at ls (If' bt n body k other) q e h = cc
   effect_at ls Return q e h = subst (λ z. Some (Leaves z) ≡ Some e) results h
-  effect_at ls (Call x) q e h = keeps_map _ _ _ (keeps_signature _ _ (call_keeps x q)) e h
-  effect_at ls (CallIndirect ty table) q e h = keeps_then _ _ _ _ q.1 (λ r. keeps_only _ _ _ _ (λ b. b) (keeps_map _ _ _ (keeps_signature _ _ q.0))) e h
+  effect_at ls (Call x) q e h = keeps_map _ _ _ (keeps_signature _ _ (call_keeps x q.0)) e h
+  effect_at ls (CallIndirect ty table) q e h = keeps_then _ _ _ _ q.1.0 (λ r. keeps_only _ _ _ _ (λ b. b) (keeps_map _ _ _ (keeps_signature _ _ q.0))) e h
   effect_at ls (LocalGet x) q e h = subst (λ z. option_map (λ t. Gives [] (t ∷ [])) (slice_get z x) ≡ Some e) locals h
   effect_at ls (LocalSet x) q e h = subst (λ z. option_map (λ t. Gives (t ∷ []) []) (slice_get z x) ≡ Some e) locals h
   effect_at ls (LocalTee x) q e h = subst (λ z. option_map (λ t. Gives (t ∷ []) (t ∷ [])) (slice_get z x) ≡ Some e) locals h
-  effect_at ls (GlobalGet x) q e h = keeps_map _ _ _ q e h
-  effect_at ls (GlobalSet x) q e h = keeps_then _ _ _ _ q (λ g z p. p) e h
-  effect_at ls (TableGet x) q e h = keeps_map _ _ _ q e h
-  effect_at ls (TableSet x) q e h = keeps_map _ _ _ q e h
-  effect_at ls (Load op a) q e h = keeps_only (fits_memory (labelled c ls) (load_width op) a) (fits_memory (labelled d ls) (load_width op) (new_memarg m a)) _ _ (aligned_keeps ls (load_width op) a q) (λ z p. p) e h
-  effect_at ls (Store op a) q e h = keeps_only (fits_memory (labelled c ls) (store_width op) a) (fits_memory (labelled d ls) (store_width op) (new_memarg m a)) _ _ (aligned_keeps ls (store_width op) a q) (λ z p. p) e h
-  effect_at ls (MemorySize x) q e h = keeps_only _ _ _ _ (memory_keeps x q) (λ z p. p) e h
-  effect_at ls (MemoryGrow x) q e h = keeps_only _ _ _ _ (memory_keeps x q) (λ z p. p) e h
-  effect_at ls (RefFunc x) q e h = named_keeps _ _ q e h
-  effect_at ls (MemoryInit x y) q e h = keeps_only _ _ _ _ (and_keeps _ _ _ _ (data_keeps x q.0) (memory_keeps y q.1)) (λ z p. p) e h
-  effect_at ls (DataDrop x) q e h = keeps_only _ _ _ _ (data_keeps x q) (λ z p. p) e h
-  effect_at ls (MemoryCopy x y) q e h = keeps_only _ _ _ _ (and_keeps _ _ _ _ (memory_keeps x q.0) (memory_keeps y q.1)) (λ z p. p) e h
-  effect_at ls (MemoryFill x) q e h = keeps_only _ _ _ _ (memory_keeps x q) (λ z p. p) e h
-  effect_at ls (TableInit x y) q e h = keeps_only _ _ _ _ (both_keeps _ _ _ _ q.0 q.1) (λ z p. p) e h
-  effect_at ls (ElemDrop x) q e h = keeps_map _ _ _ q e h
-  effect_at ls (TableCopy x y) q e h = keeps_only _ _ _ _ (both_keeps _ _ _ _ q.0 q.1) (λ z p. p) e h
-  effect_at ls (TableGrow x) q e h = keeps_map _ _ _ q e h
-  effect_at ls (TableSize x) q e h = keeps_map _ _ _ q e h
-  effect_at ls (TableFill x) q e h = keeps_map _ _ _ q e h
+  effect_at ls (GlobalGet x) q e h = keeps_map _ _ _ q.0 e h
+  effect_at ls (GlobalSet x) q e h = keeps_then _ _ _ _ q.0 (λ g z p. p) e h
+  effect_at ls (TableGet x) q e h = keeps_map _ _ _ q.0 e h
+  effect_at ls (TableSet x) q e h = keeps_map _ _ _ q.0 e h
+  effect_at ls (Load op a) q e h = keeps_only (fits_memory (labelled c ls) (load_width op) a) (fits_memory (labelled d ls) (load_width op) (new_memarg m a)) _ _ (aligned_keeps ls (load_width op) a q.0) (λ z p. p) e h
+  effect_at ls (Store op a) q e h = keeps_only (fits_memory (labelled c ls) (store_width op) a) (fits_memory (labelled d ls) (store_width op) (new_memarg m a)) _ _ (aligned_keeps ls (store_width op) a q.0) (λ z p. p) e h
+  effect_at ls (MemorySize x) q e h = keeps_only _ _ _ _ (memory_keeps x q.0) (λ z p. p) e h
+  effect_at ls (MemoryGrow x) q e h = keeps_only _ _ _ _ (memory_keeps x q.0) (λ z p. p) e h
+  effect_at ls (RefFunc x) q e h = named_keeps _ _ q.0 e h
+  effect_at ls (MemoryInit x y) q e h = keeps_only _ _ _ _ (and_keeps _ _ _ _ (data_keeps x q.0) (memory_keeps y q.1.0)) (λ z p. p) e h
+  effect_at ls (DataDrop x) q e h = keeps_only _ _ _ _ (data_keeps x q.0) (λ z p. p) e h
+  effect_at ls (MemoryCopy x y) q e h = keeps_only _ _ _ _ (and_keeps _ _ _ _ (memory_keeps x q.0) (memory_keeps y q.1.0)) (λ z p. p) e h
+  effect_at ls (MemoryFill x) q e h = keeps_only _ _ _ _ (memory_keeps x q.0) (λ z p. p) e h
+  effect_at ls (TableInit x y) q e h = keeps_only _ _ _ _ (both_keeps _ _ _ _ q.0 q.1.0) (λ z p. p) e h
+  effect_at ls (ElemDrop x) q e h = keeps_map _ _ _ q.0 e h
+  effect_at ls (TableCopy x y) q e h = keeps_only _ _ _ _ (both_keeps _ _ _ _ q.0 q.1.0) (λ z p. p) e h
+  effect_at ls (TableGrow x) q e h = keeps_map _ _ _ q.0 e h
+  effect_at ls (TableSize x) q e h = keeps_map _ _ _ q.0 e h
+  effect_at ls (TableFill x) q e h = keeps_map _ _ _ q.0 e h
   effect_at ls _ q e h = h
 
-  pub type_kept : (b : BlockType) → BlockAgrees m c d b → Keeps (signature_of c.types b) (signature_of d.types (new_type m b))
+  pub type_kept : (b : BlockType) → Every (λ o. OperandAgrees m c d o.space o.called o.index) (block_operands b) → Keeps (signature_of c.types b) (signature_of d.types (new_type m b))
   type_kept bt.Empty q f h = h
   type_kept (bt.Value t) q f h = h
-  type_kept (bt.Index i) q f h = keeps_signature _ _ q f h
+  type_kept (bt.Index i) q f h = keeps_signature _ _ q.0 f h
 
   pub plain_kept : (ls : List (List ValType)) (i : Instr) (s t : Stack) → LayerAgrees m c d (out-Instr i) → (e : Effect) → effect_of (labelled c ls) i ≡ Some e → Acts e s t → Fits (labelled d ls) (renumbered m i) s t
   plain_kept ls i s t q e h a =
-      fits_plain (labelled d ls) (renumbered m i) s t e (ap (effect_of (labelled d ls)) (fold_out-Instr Instr (renumber_step m) i) ∙ effect_at ls i q e h) a
+      fits_plain (labelled d ls) (renumbered m i) s t e (ap (effect_of (labelled d ls)) (fold_out-Instr Instr (map_operands (entry m)) i) ∙ effect_at ls i q e h) a

@@ -1,5 +1,5 @@
 -- Code with other indices, in which code stands in place of calls of listed functions, is related to what it was.
-use Rattle.std.proofs.Common.{◌≡◌, ℕ, List, [], ◌∷◌, ◌++◌, Bool, true, false, refl, sym, subst}
+use Rattle.std.proofs.Common.{◌≡◌, ℕ, List, [], ◌∷◌, ◌++◌, Bool, true, false, ◌&&◌, refl, sym, subst}
 use Rattle.wasm_tree.specs.declared.types.FuncType.{FuncType}
 use Rattle.wasm_tree.specs.declared.types.BlockType.{BlockType}
 use Rattle.wasm_tree.specs.declared.types.BlockType.TheVariants as bt
@@ -9,21 +9,21 @@ use Rattle.wasm_tree.specs.declared.instr.Instr.TheOpen.{Instr-F}
 use Rattle.wasm_tree.specs.declared.instr.Instr.TheVariants as i
 use Rattle.wasm_tree.specs.declared.instr.Instr.TheVariants.{Block, Block', Loop, Loop', If, If', Call}
 use Rattle.wasm_meaning.specs.State.{Inst}
+use Rattle.base_lists.specs.Every.{Every}
+use Rattle.wasm_tree.specs.declared.space.Space.{Space}
+use Rattle.wasm_tree.specs.declared.space.Space.TheVariants.{Functions}
+use Rattle.wasm_tree.specs.Operands.{block_operands, map_operands}
 use Rattle.index_remap.specs.declared.remap.Remap.{Remap}
 use Rattle.index_remap.specs.Related
 use Rattle.index_remap.specs.Related.{Pairing, BlockRel, empty, value, indexed, OpRel, CodeRel, end, then, instead}
-use Rattle.index_remap.specs.Renumbered.{new_type, renumber_step, renumbered, renumbered_all}
+use Rattle.index_remap.specs.Renumbered.{entry, new_type, renumbered, renumbered_all}
 use Rattle.index_remap.specs.References.{is_among}
-use Rattle.index_remap.specs.CodeNames.{BlockNames, LayerNames, Layers, RowLayers, ListLayers}
-use Rattle.index_remap.specs.Replaced.{Labels, Codes, CallReplaced, StandsFor, RowReplaced, Replaced, CallNamed, OthersNamed}
-use Rattle.index_remap.proofs.Unlisted.{all_follow, unlisted_renumbered}
+use Rattle.index_remap.specs.CodeNames.{EntryNames, LayerNames}
+use Rattle.wasm_tree.specs.Layers.{Layers, RowLayers, ListLayers}
+use Rattle.index_remap.specs.Replaced.{Labels, Codes, CallReplaced, StandsFor, RowReplaced, Replaced, is_listed_call, OtherNamed, OthersNamed}
+use Rattle.index_remap.proofs.Unlisted.{operands_follow, unlisted_renumbered}
 
 module _ (R : Pairing) (m : Remap) (x y : Inst) where
-  block_rel : (b : BlockType) → BlockNames m x y b → BlockRel x y b (new_type m b)
-  block_rel bt.Empty n = empty
-  block_rel (bt.Value t) n = value
-  block_rel (bt.Index k) n = indexed n
-
   -- it holds no other instructions
   abbrev HoldsNone : Instr-F Instr → Type 0
   HoldsNone (Instr-F.Block b c) = ⊥
@@ -31,7 +31,7 @@ module _ (R : Pairing) (m : Remap) (x y : Inst) where
   HoldsNone (Instr-F.If b c d) = ⊥
   HoldsNone _ = Unit {0}
 
-  layer_rel : (l : Instr-F Instr) → HoldsNone l → LayerNames R m x y l → OpRel R x y false l (out-Instr (renumber_step m (map-Instr Instr Instr (renumbered m) l)))
+  layer_rel : (l : Instr-F Instr) → HoldsNone l → LayerNames R m x y l → OpRel R x y false l (out-Instr (map_operands (entry m) (map-Instr Instr Instr (renumbered m) l)))
   unfolding out-Instr denote.Hole.Carrier.out
   layer_rel Instr-F.Unreachable h n = Related.unreachable
   layer_rel Instr-F.Nop h n = Related.nop
@@ -42,54 +42,59 @@ module _ (R : Pairing) (m : Remap) (x y : Inst) where
   layer_rel (Instr-F.BrIf x0) h n = Related.br_if
   layer_rel (Instr-F.BrTable x0 x1) h n = Related.br_table
   layer_rel Instr-F.Return h n = Related.return
-  layer_rel (Instr-F.Call x0) h n = Related.call n
-  layer_rel (Instr-F.CallIndirect x0 x1) h n = Related.call_indirect n.0 n.1
+  layer_rel (Instr-F.Call x0) h n = Related.call n.0
+  layer_rel (Instr-F.CallIndirect x0 x1) h n = Related.call_indirect n.0 n.1.0
   layer_rel Instr-F.Drop h n = Related.drop
   layer_rel Instr-F.Select h n = Related.select
   layer_rel (Instr-F.SelectTyped x0) h n = Related.select_typed
   layer_rel (Instr-F.LocalGet x0) h n = Related.local_get
   layer_rel (Instr-F.LocalSet x0) h n = Related.local_set
   layer_rel (Instr-F.LocalTee x0) h n = Related.local_tee
-  layer_rel (Instr-F.GlobalGet x0) h n = Related.global_get n
-  layer_rel (Instr-F.GlobalSet x0) h n = Related.global_set n
-  layer_rel (Instr-F.TableGet x0) h n = Related.table_get n
-  layer_rel (Instr-F.TableSet x0) h n = Related.table_set n
-  layer_rel (Instr-F.Load x0 x1) h n = Related.load (record { offset = refl; memory = n })
-  layer_rel (Instr-F.Store x0 x1) h n = Related.store (record { offset = refl; memory = n })
-  layer_rel (Instr-F.MemorySize x0) h n = Related.memory_size n
-  layer_rel (Instr-F.MemoryGrow x0) h n = Related.memory_grow n
+  layer_rel (Instr-F.GlobalGet x0) h n = Related.global_get n.0
+  layer_rel (Instr-F.GlobalSet x0) h n = Related.global_set n.0
+  layer_rel (Instr-F.TableGet x0) h n = Related.table_get n.0
+  layer_rel (Instr-F.TableSet x0) h n = Related.table_set n.0
+  layer_rel (Instr-F.Load x0 x1) h n = Related.load (record { offset = refl; memory = n.0 })
+  layer_rel (Instr-F.Store x0 x1) h n = Related.store (record { offset = refl; memory = n.0 })
+  layer_rel (Instr-F.MemorySize x0) h n = Related.memory_size n.0
+  layer_rel (Instr-F.MemoryGrow x0) h n = Related.memory_grow n.0
   layer_rel (Instr-F.I32Const x0) h n = Related.i32_const
   layer_rel (Instr-F.I64Const x0) h n = Related.i64_const
   layer_rel (Instr-F.Un x0) h n = Related.un
   layer_rel (Instr-F.Bin x0) h n = Related.bin
   layer_rel (Instr-F.RefNull x0) h n = Related.ref_null
   layer_rel Instr-F.RefIsNull h n = Related.ref_is_null
-  layer_rel (Instr-F.RefFunc x0) h n = Related.ref_func n
-  layer_rel (Instr-F.MemoryInit x0 x1) h n = Related.memory_init n.0 n.1
-  layer_rel (Instr-F.DataDrop x0) h n = Related.data_drop n
-  layer_rel (Instr-F.MemoryCopy x0 x1) h n = Related.memory_copy n.0 n.1
-  layer_rel (Instr-F.MemoryFill x0) h n = Related.memory_fill n
-  layer_rel (Instr-F.TableInit x0 x1) h n = Related.table_init n.0 n.1
-  layer_rel (Instr-F.ElemDrop x0) h n = Related.elem_drop n
-  layer_rel (Instr-F.TableCopy x0 x1) h n = Related.table_copy n.0 n.1
-  layer_rel (Instr-F.TableGrow x0) h n = Related.table_grow n
-  layer_rel (Instr-F.TableSize x0) h n = Related.table_size n
-  layer_rel (Instr-F.TableFill x0) h n = Related.table_fill n
+  layer_rel (Instr-F.RefFunc x0) h n = Related.ref_func n.0
+  layer_rel (Instr-F.MemoryInit x0 x1) h n = Related.memory_init n.0 n.1.0
+  layer_rel (Instr-F.DataDrop x0) h n = Related.data_drop n.0
+  layer_rel (Instr-F.MemoryCopy x0 x1) h n = Related.memory_copy n.0 n.1.0
+  layer_rel (Instr-F.MemoryFill x0) h n = Related.memory_fill n.0
+  layer_rel (Instr-F.TableInit x0 x1) h n = Related.table_init n.0 n.1.0
+  layer_rel (Instr-F.ElemDrop x0) h n = Related.elem_drop n.0
+  layer_rel (Instr-F.TableCopy x0 x1) h n = Related.table_copy n.0 n.1.0
+  layer_rel (Instr-F.TableGrow x0) h n = Related.table_grow n.0
+  layer_rel (Instr-F.TableSize x0) h n = Related.table_size n.0
+  layer_rel (Instr-F.TableFill x0) h n = Related.table_fill n.0
 
   plain_rel : (o : Instr) → HoldsNone (out-Instr o) → LayerNames R m x y (out-Instr o) → OpRel R x y false (out-Instr o) (out-Instr (renumbered m o))
-  plain_rel o h n = rw (fold_out-Instr Instr (renumber_step m) o) (layer_rel (out-Instr o) h n)
+  plain_rel o h n = rw (fold_out-Instr Instr (map_operands (entry m)) o) (layer_rel (out-Instr o) h n)
 
   -- one instruction before the rest
   one_rel : (o p : Instr) (code c d : List Instr) → code ≡ p ∷ [] → OpRel R x y false (out-Instr o) (out-Instr p) → CodeRel R x y c d → CodeRel R x y (o ∷ c) (code ++ d)
   one_rel o p code c d e h k = subst (λ z. CodeRel R x y (o ∷ c) (z ++ d)) (sym e) (then h k)
 
   module _ (types : List FuncType) (listed : List ℕ) (codes : Codes) where
+    block_rel : (b : BlockType) → Every (λ o. OtherNamed R m (is_listed_call listed o) x y o.space o.index) (block_operands b) → BlockRel x y b (new_type m b)
+    block_rel bt.Empty n = empty
+    block_rel (bt.Value t) n = value
+    block_rel (bt.Index k) n = indexed n.0
+
     -- a call of a function that is on the list, or not
-    call_rel : (b : Bool) (labels : Labels) (f : ℕ) (code c d : List Instr) → CallNamed R m b x y f → CallReplaced m b codes labels f code → CodeRel R x y c d →
+    call_rel : (b : Bool) (labels : Labels) (f : ℕ) (code c d : List Instr) → OtherNamed R m b x y Functions f → CallReplaced m b codes labels f code → CodeRel R x y c d →
         CodeRel R x y (Call f ∷ c) (code ++ d)
     unfolding out-Instr denote.Hole.Carrier.out
     call_rel true labels f code c d (a, found, free) k h = instead code refl found free h
-    call_rel false labels f code c d q k h = one_rel (Call f) (renumbered m (Call f)) code c d k (plain_rel (Call f) tt q) h
+    call_rel false labels f code c d q k h = one_rel (Call f) (renumbered m (Call f)) code c d k (plain_rel (Call f) tt (q, tt)) h
 
     mutual
       unfolding out-Instr denote.Hole.Carrier.out
@@ -105,7 +110,7 @@ module _ (R : Pairing) (m : Remap) (x y : Inst) where
           let held : CodeRel R x y (shown-the_row-Instr-0 n body) b = rw (items_shown-the_row-Instr-0 n body) (row_rel _ body b q.1 k) in
           let others : CodeRel R x y (shown-the_row-Instr-0 l other) o = rw (items_shown-the_row-Instr-0 l other) (row_rel _ other o q.2 z) in
           one_rel (If' ty n body l other) (If (new_type m ty) b o) code c d e (rw (i.outs-If (new_type m ty) b o) (Related.if_else (block_rel ty q.0) held others)) h
-      stands_rel labels (Call f) code c d q k h = call_rel (is_among listed f) labels f code c d q k h
+      stands_rel labels (Call f) code c d q k h = call_rel (is_among listed f) labels f code c d q.0 k h
       stands_rel labels o code c d q k h = one_rel o (renumbered m o) code c d k (plain_rel o tt q) h
 
       row_rel : {n : _} (labels : Labels) (r : Row_of-Instr n) (js : List Instr) → RowLayers (OthersNamed R m listed x y) r → RowReplaced types m listed codes labels r js → CodeRel R x y (items-the_row-Instr n r) js
@@ -117,11 +122,11 @@ module _ (R : Pairing) (m : Remap) (x y : Inst) where
     replaced_rel labels [] js q k = subst (CodeRel R x y []) (sym k) end
     replaced_rel labels (o ∷ os) js q (code, rest, k, z, e) = subst (CodeRel R x y (o ∷ os)) (sym e) (stands_rel labels o code os rest q.0 k (replaced_rel labels os rest q.1 z))
 
--- with no function on the list each layer names what it named
-named_others : (R : Pairing) (m : Remap) (x y : Inst) (l : Instr-F Instr) → LayerNames R m x y l → OthersNamed R m [] x y l
-named_others R m x y (Instr-F.Call f) n = n
-named_others R m x y l n = n
+-- with no function on the list each index names what it named
+named_other : (R : Pairing) (m : Remap) (x y : Inst) (called : Bool) (space : Space) (n : ℕ) → EntryNames R m x y space n → OtherNamed R m (called && is_among [] n) x y space n
+named_other R m x y true space n h = h
+named_other R m x y false space n h = h
 
 pub renumbered_rel : (R : Pairing) (m : Remap) (x y : Inst) (os : List Instr) → ListLayers (LayerNames R m x y) os → CodeRel R x y os (renumbered_all m os)
 renumbered_rel R m x y os h =
-    replaced_rel R m x y [] [] (λ labels f. []) [] os (renumbered_all m os) (all_follow (LayerNames R m x y) (OthersNamed R m [] x y) (named_others R m x y) os h) (unlisted_renumbered [] m (λ labels f. []) [] os)
+    replaced_rel R m x y [] [] (λ labels f. []) [] os (renumbered_all m os) (operands_follow (λ o. EntryNames R m x y o.space o.index) (λ o. OtherNamed R m (is_listed_call [] o) x y o.space o.index) (λ o. named_other R m x y o.called o.space o.index) os h) (unlisted_renumbered [] m (λ labels f. []) [] os)

@@ -9,7 +9,7 @@ use Rattle.wasm_tree.specs.declared.instr.Instr.TheVariants.{Block, Block', Br, 
 use Rattle.wasm_typing.specs.Typing.{Gives, Leaves, Context, WellTyped}
 use Rattle.index_remap.specs.declared.remap.Remap.{Remap}
 use Rattle.index_remap.specs.Renumbered.{renumbered}
-use Rattle.index_remap.specs.CodeNames.{ListLayers}
+use Rattle.wasm_tree.specs.Layers.{ListLayers}
 use Rattle.index_remap.specs.Agreement.{func_type, LayerAgrees, labelled}
 use Rattle.index_remap.specs.Replaced.{Labels, Codes, Replaced, OthersAgree, CodesHaveTypes}
 use Rattle.index_remap.proofs.Replacing.{replaced_typed}

@@ -1,9 +1,11 @@
 -- Bodies stay well typed where code of the same type stands in place of calls of listed functions.
-use Rattle.std.proofs.Common.{◌≡◌, ℕ, Bool, true, false, List, [], ◌∷◌, ◌++◌, reverse, Option, Some, None, refl, sym, ◌∙◌, subst, option_and_then}
+use Rattle.std.proofs.Common.{◌≡◌, ℕ, Bool, true, false, ◌||◌, List, [], ◌∷◌, ◌++◌, reverse, Option, Some, None, refl, sym, ap, ◌∙◌, subst, option_and_then}
 use Rattle.std.specs.Prelude.{slice_get}
 use Rattle.wasm_tree.specs.declared.types.ValType.{ValType}
 use Rattle.wasm_tree.specs.declared.types.FuncType.{FuncType}
+use Rattle.std.specs.List.{list_any}
 use Rattle.wasm_tree.specs.declared.types.BlockType.{BlockType}
+use Rattle.wasm_tree.specs.declared.types.BlockType.TheVariants as bt
 use Rattle.wasm_tree.specs.declared.instr.Instr.{Instr, out-Instr, Row_of-Instr, end_of-Instr, more_of-Instr}
 use Rattle.wasm_tree.specs.declared.instr.Instr.TheBlock.{hidden-the_row-Instr-0}
 use Rattle.wasm_tree.specs.declared.instr.Instr.TheViews.{outs-Block', outs-Loop', outs-If'}
@@ -12,10 +14,12 @@ use Rattle.wasm_typing.specs.Typing.{Stack, operands, AllMatch, Signature, signa
 use Rattle.index_remap.specs.declared.remap.Remap.{Remap}
 use Rattle.index_remap.specs.Renumbered.{new_type, renumbered}
 use Rattle.index_remap.specs.References.{is_among}
-use Rattle.index_remap.specs.CodeNames.{Layers, RowLayers, ListLayers}
+use Rattle.base_lists.specs.Every.{Every}
+use Rattle.wasm_tree.specs.Operands.{block_operands}
+use Rattle.wasm_tree.specs.Layers.{Layers, RowLayers, ListLayers}
 use Rattle.index_remap.proofs.Rel.{append_rel}
-use Rattle.index_remap.specs.Agreement.{BlockAgrees, LayerAgrees, SameFrame, labelled}
-use Rattle.index_remap.specs.Replaced.{Labels, Codes, CallReplaced, block_label, loop_label, StandsFor, RowReplaced, Replaced, OthersAgree, CodesHaveTypes}
+use Rattle.index_remap.specs.Agreement.{OperandAgrees, LayerAgrees, SameFrame, labelled}
+use Rattle.index_remap.specs.Replaced.{Labels, Codes, CallReplaced, block_label, loop_label, StandsFor, RowReplaced, Replaced, is_listed_call, OthersAgree, CodesHaveTypes}
 use Rattle.index_remap.proofs.Instructions.{plain_kept, type_kept}
 use Rattle.index_remap.proofs.Keeping.{then_is}
 use Rattle.index_remap.proofs.Lower.{Lower, lower_self, lower_on, lower_match, match_lower, fits_lower, leads_lower, leads_over, leads_on}
@@ -51,6 +55,12 @@ row_ends : {n : _} (c d : Context) (is : Row_of-Instr n) (js : List Instr) (ps r
     Ends (Leads c is) ps rs → Ends (Leads d (hidden-the_row-Instr-0 js)) ps rs
 row_ends c d is js ps rs k (last, l, a) = row_typed d js ps rs (lower_ends d js last ps rs a (k (operands ps) last (operands ps) l (lower_self (operands ps))))
 
+-- a block itself calls nothing
+calls_none : (listed : List ℕ) (ty : BlockType) → list_any (is_listed_call listed) (block_operands ty) ≡ false
+calls_none listed bt.Empty = refl
+calls_none listed (bt.Value t) = refl
+calls_none listed (bt.Index i) = refl
+
 module _ (m : Remap) (listed : List ℕ) (codes : Codes) (c d : Context) (locals : c.locals ≡ d.locals) (results : c.results ≡ d.results) (typed : CodesHaveTypes listed codes c d) where
   -- what stands under the label of a block, where the block has this type
   under_block : {n : _} (ls : Labels) (f : Signature) (ty : BlockType) → signature_of c.types ty ≡ Some f → (is : Row_of-Instr n) (js : List Instr) →
@@ -73,19 +83,19 @@ module _ (m : Remap) (listed : List ℕ) (codes : Codes) (c d : Context) (locals
     stands : (ls : Labels) (i : Instr) (code : List Instr) (s t r : Stack) → Layers (OthersAgree m listed c d) i → StandsFor c.types m listed codes ls i code → Fits (labelled c ls) i s t → Lower r s →
         (u : Stack) × LeadsAll (labelled d ls) code r u × Lower u t
     stands ls (Block' ty n body) code s t r q (b, k, e) (f, g, w, a) l =
-        let here : BlockAgrees m c d ty = subst (LayerAgrees m c d) (outs-Block' ty n body) (q.0 refl) in
+        let here : Every (λ o. OperandAgrees m c d o.space o.called o.index) (block_operands ty) = subst (LayerAgrees m c d) (outs-Block' ty n body) (q.0 (calls_none listed ty)) in
         let inner = row_ends (labelled c (f.results ∷ ls)) (labelled d (f.results ∷ ls)) body b f.params f.results (λ s t r. row_leads (f.results ∷ ls) body b s t r q.1 (under_block ls f ty g body b k)) w in
         one_leads (labelled d ls) (Block (new_type m ty) b) code s t r e (f, type_kept m c d locals results ty here f g, inner, a) l
     stands ls (Loop' ty n body) code s t r q (b, k, e) (f, g, w, a) l =
-        let here : BlockAgrees m c d ty = subst (LayerAgrees m c d) (outs-Loop' ty n body) (q.0 refl) in
+        let here : Every (λ o. OperandAgrees m c d o.space o.called o.index) (block_operands ty) = subst (LayerAgrees m c d) (outs-Loop' ty n body) (q.0 (calls_none listed ty)) in
         let inner = row_ends (labelled c (f.params ∷ ls)) (labelled d (f.params ∷ ls)) body b f.params f.results (λ s t r. row_leads (f.params ∷ ls) body b s t r q.1 (subst (λ o. RowReplaced c.types m listed codes (loop_label o ∷ ls) body b) g k)) w in
         one_leads (labelled d ls) (Loop (new_type m ty) b) code s t r e (f, type_kept m c d locals results ty here f g, inner, a) l
     stands ls (If' ty n body j other) code s t r q (b, o, k, x, e) (f, g, w, y, a) l =
-        let here : BlockAgrees m c d ty = subst (LayerAgrees m c d) (outs-If' ty n body j other) (q.0 refl) in
+        let here : Every (λ o. OperandAgrees m c d o.space o.called o.index) (block_operands ty) = subst (LayerAgrees m c d) (outs-If' ty n body j other) (q.0 (calls_none listed ty)) in
         let first = row_ends (labelled c (f.results ∷ ls)) (labelled d (f.results ∷ ls)) body b f.params f.results (λ s t r. row_leads (f.results ∷ ls) body b s t r q.1 (under_block ls f ty g body b k)) w in
         let second = row_ends (labelled c (f.results ∷ ls)) (labelled d (f.results ∷ ls)) other o f.params f.results (λ s t r. row_leads (f.results ∷ ls) other o s t r q.2 (under_block ls f ty g other o x)) y in
         one_leads (labelled d ls) (If (new_type m ty) b o) code s t r e (f, type_kept m c d locals results ty here f g, first, second, a) l
-    stands ls (Call f) code s t r q k h l = call_stands (is_among listed f) ls f code s t r refl q k h l
+    stands ls (Call f) code s t r q k h l = call_stands (is_among listed f) ls f code s t r refl (λ e. q (ap (λ b. b || false) e)) k h l
     stands ls i code s t r q k h l = one_leads (labelled d ls) (renumbered m i) code s t r k (plain_kept m c d locals results ls i s t (q refl) h.0 h.1 h.2) l
 
     row_leads : {n : _} (ls : Labels) (is : Row_of-Instr n) (js : List Instr) (s t r : Stack) → RowLayers (OthersAgree m listed c d) is → RowReplaced c.types m listed codes ls is js → Leads (labelled c ls) is s t → Lower r s →

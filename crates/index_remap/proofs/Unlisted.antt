@@ -6,7 +6,10 @@ use Rattle.wasm_tree.specs.declared.instr.Instr.TheOpen.{Instr-F}
 use Rattle.wasm_tree.specs.declared.instr.Instr.TheVariants.{Block', Loop', If', Call}
 use Rattle.index_remap.specs.declared.remap.Remap.{Remap}
 use Rattle.index_remap.specs.Renumbered.{renumbered, renumbered_all}
-use Rattle.index_remap.specs.CodeNames.{Layers, RowLayers, ListLayers}
+use Rattle.base_lists.specs.Every.{Every}
+use Rattle.wasm_tree.specs.declared.space.Operand.{Operand}
+use Rattle.wasm_tree.specs.Operands.{operands}
+use Rattle.wasm_tree.specs.Layers.{Layers, RowLayers, ListLayers}
 use Rattle.index_remap.specs.Replaced.{Labels, Codes, StandsFor, RowReplaced, Replaced}
 use Rattle.index_remap.proofs.Rows.{block_renumbered, loop_renumbered, if_renumbered}
 
@@ -43,3 +46,11 @@ module _ (P Q : Instr-F Instr → Type 0) (k : (l : Instr-F Instr) → P l → Q
   pub all_follow : (os : List Instr) → ListLayers P os → ListLayers Q os
   all_follow [] h = tt
   all_follow (o ∷ os) h = (layers_follow o h.0, all_follow os h.1)
+
+-- the same of what is so of each operand
+pub operands_follow : (P Q : Operand → Type 0) → ((o : Operand) → P o → Q o) → (os : List Instr) → ListLayers (λ l. Every P (operands l)) os → ListLayers (λ l. Every Q (operands l)) os
+operands_follow P Q k = all_follow (λ l. Every P (operands l)) (λ l. Every Q (operands l)) (λ l. each (operands l))
+  where
+    each : (xs : List Operand) → Every P xs → Every Q xs
+    each [] h = tt
+    each (x ∷ xs) h = (k x h.0, each xs h.1)

@@ -1,7 +1,9 @@
 -- When two contexts have the same at an index and at its entry in a map (WebAssembly Core 2.0, section 3.1.1).
-use Rattle.std.specs.Prelude.{◌≡◌, ℕ, ◌<◌, true, List, Option, Some, slice_get, slice_index, option_and_then}
-use Rattle.wasm_tree.specs.declared.types.BlockType.{BlockType}
-use Rattle.wasm_tree.specs.declared.types.BlockType.TheVariants as bt
+use Rattle.std.specs.Prelude.{◌≡◌, ℕ, ◌<◌, Bool, true, false, List, Option, Some, slice_get, slice_index, option_and_then}
+use Rattle.base_lists.specs.Every.{Every}
+use Rattle.wasm_tree.specs.declared.space.Space.{Space}
+use Rattle.wasm_tree.specs.declared.space.Space.TheVariants.{Types, Functions, Tables, Memories, Globals, ElementSegments, DataSegments}
+use Rattle.wasm_tree.specs.Operands.{operands}
 use Rattle.wasm_tree.specs.declared.types.ValType.{ValType}
 use Rattle.wasm_tree.specs.declared.types.FuncType.{FuncType}
 use Rattle.wasm_tree.specs.declared.instr.Instr.{Instr}
@@ -59,35 +61,17 @@ labelled c ls = record c { labels = ls }
 
 -- ---- the indices that one instruction names ----
 
-abbrev pub BlockAgrees : Remap → Context → Context → BlockType → Type 0
-BlockAgrees m c d bt.Empty = Unit {0}
-BlockAgrees m c d (bt.Value t) = Unit {0}
-BlockAgrees m c d (bt.Index i) = TypeAgrees m c d i
+-- the index agrees with its entry: of a function that is called the type, of one that `ref.func` names whether it may
+abbrev pub OperandAgrees : Remap → Context → Context → (space : Space) → (called : Bool) → (index : ℕ) → Type 0
+OperandAgrees m c d Types called i = TypeAgrees m c d i
+OperandAgrees m c d Functions true i = FuncAgrees m c d i
+OperandAgrees m c d Functions false i = RefAgrees m c d i
+OperandAgrees m c d Tables called i = TableAgrees m c d i
+OperandAgrees m c d Memories called i = MemoryAgrees m c d i
+OperandAgrees m c d Globals called i = GlobalAgrees m c d i
+OperandAgrees m c d ElementSegments called i = ElemAgrees m c d i
+OperandAgrees m c d DataSegments called i = DataAgrees m c d i
 
 -- each index that the layer itself names agrees with its entry
 abbrev pub LayerAgrees : Remap → Context → Context → Instr-F Instr → Type 0
-LayerAgrees m c d (Instr-F.Block ty body) = BlockAgrees m c d ty
-LayerAgrees m c d (Instr-F.Loop ty body) = BlockAgrees m c d ty
-LayerAgrees m c d (Instr-F.If ty body other) = BlockAgrees m c d ty
-LayerAgrees m c d (Instr-F.Call func) = FuncAgrees m c d func
-LayerAgrees m c d (Instr-F.CallIndirect ty table) = TypeAgrees m c d ty × TableAgrees m c d table
-LayerAgrees m c d (Instr-F.GlobalGet global) = GlobalAgrees m c d global
-LayerAgrees m c d (Instr-F.GlobalSet global) = GlobalAgrees m c d global
-LayerAgrees m c d (Instr-F.TableGet table) = TableAgrees m c d table
-LayerAgrees m c d (Instr-F.TableSet table) = TableAgrees m c d table
-LayerAgrees m c d (Instr-F.Load op arg) = MemoryAgrees m c d arg.memory
-LayerAgrees m c d (Instr-F.Store op arg) = MemoryAgrees m c d arg.memory
-LayerAgrees m c d (Instr-F.MemorySize memory) = MemoryAgrees m c d memory
-LayerAgrees m c d (Instr-F.MemoryGrow memory) = MemoryAgrees m c d memory
-LayerAgrees m c d (Instr-F.RefFunc func) = RefAgrees m c d func
-LayerAgrees m c d (Instr-F.MemoryInit segment memory) = DataAgrees m c d segment × MemoryAgrees m c d memory
-LayerAgrees m c d (Instr-F.DataDrop segment) = DataAgrees m c d segment
-LayerAgrees m c d (Instr-F.MemoryCopy to from) = MemoryAgrees m c d to × MemoryAgrees m c d from
-LayerAgrees m c d (Instr-F.MemoryFill memory) = MemoryAgrees m c d memory
-LayerAgrees m c d (Instr-F.TableInit segment table) = ElemAgrees m c d segment × TableAgrees m c d table
-LayerAgrees m c d (Instr-F.ElemDrop segment) = ElemAgrees m c d segment
-LayerAgrees m c d (Instr-F.TableCopy to from) = TableAgrees m c d to × TableAgrees m c d from
-LayerAgrees m c d (Instr-F.TableGrow table) = TableAgrees m c d table
-LayerAgrees m c d (Instr-F.TableSize table) = TableAgrees m c d table
-LayerAgrees m c d (Instr-F.TableFill table) = TableAgrees m c d table
-LayerAgrees m c d _ = Unit {0}
+LayerAgrees m c d layer = Every (λ o. OperandAgrees m c d o.space o.called o.index) (operands layer)

@@ -16,7 +16,8 @@ use Rattle.wasm_tree.specs.declared.instr.Instr.{Instr}
 use Rattle.wasm_typing.specs.Typing.{Context, WellTyped}
 use Rattle.index_remap.specs.declared.remap.Remap.{Remap}
 use Rattle.index_remap.specs.Renumbered.{renumbered_all}
-use Rattle.index_remap.specs.CodeNames.{LayerNames, ListLayers}
+use Rattle.index_remap.specs.CodeNames.{LayerNames}
+use Rattle.wasm_tree.specs.Layers.{ListLayers}
 use Rattle.index_remap.specs.Agreement.{SameFrame}
 use Rattle.index_remap.specs.Replaced.{Labels, Codes, Replaced, OthersAgree, OthersNamed, CodesHaveTypes}
 use Rattle.index_remap.specs.Related.{CodeRel, Pairing, OneToOne, OneToOneWhereWritten, ResRel, ListRel, ValRel, StoreRel, EntryRel, NextRel, TopSkips, TopKnown}

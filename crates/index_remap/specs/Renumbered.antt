@@ -1,13 +1,15 @@
 -- A tree in which each index is replaced by its entry in the map of its index space (WebAssembly Core 2.0, section 2.5.1). Labels and locals are no such
 -- indices and stay, as do the order and the length of every list.
-use Rattle.std.specs.Prelude.{ℕ, List, [], ◌∷◌, map, length, slice_index, Option, Some, None, Bool, true, ◌&&◌, nat_lt}
+use Rattle.std.specs.Prelude.{ℕ, List, map, length, slice_index, Option, Some, None, Bool, true, ◌&&◌, nat_lt}
+use Rattle.std.specs.List.{list_all}
+use Rattle.wasm_tree.specs.declared.space.Space.{Space}
+use Rattle.wasm_tree.specs.declared.space.Space.TheVariants.{Types, Functions, Tables, Memories, Globals, ElementSegments, DataSegments}
+use Rattle.wasm_tree.specs.declared.space.Operand.{Operand}
+use Rattle.wasm_tree.specs.Operands.{block_operands, map_arg, map_block, mapped, mapped_all, operands_pass, all_operands_pass}
 use Rattle.wasm_tree.specs.declared.types.BlockType.{BlockType}
-use Rattle.wasm_tree.specs.declared.types.BlockType.TheVariants as bt
 use Rattle.wasm_tree.specs.declared.types.FuncType.{FuncType}
 use Rattle.wasm_tree.specs.declared.instr.MemArg.{MemArg}
-use Rattle.wasm_tree.specs.declared.instr.Instr.{Instr, fold-Instr}
-use Rattle.wasm_tree.specs.declared.instr.Instr.TheOpen.{Instr-F}
-use Rattle.wasm_tree.specs.declared.instr.Instr.TheVariants.{Unreachable, Nop, Block, Loop, If, Br, BrIf, BrTable, Return, Call, CallIndirect, Drop, Select, SelectTyped, LocalGet, LocalSet, LocalTee, GlobalGet, GlobalSet, TableGet, TableSet, Load, Store, MemorySize, MemoryGrow, I32Const, I64Const, Un, Bin, RefNull, RefIsNull, RefFunc, MemoryInit, DataDrop, MemoryCopy, MemoryFill, TableInit, ElemDrop, TableCopy, TableGrow, TableSize, TableFill}
+use Rattle.wasm_tree.specs.declared.instr.Instr.{Instr}
 use Rattle.wasm_tree.specs.declared.module.Import.{Import}
 use Rattle.wasm_tree.specs.declared.module.ImportDesc.{ImportDesc}
 use Rattle.wasm_tree.specs.declared.module.ImportDesc.TheVariants as im
@@ -27,73 +29,36 @@ use Rattle.wasm_tree.specs.declared.module.DataSeg.{DataSeg}
 use Rattle.wasm_tree.specs.declared.module.Module.{Module}
 use Rattle.index_remap.specs.declared.remap.Remap.{Remap}
 
-abbrev pub has : List ℕ → ℕ → Bool
-has entries i = nat_lt i (length entries)
+-- the map of an index space
+abbrev pub entries : Remap → Space → List ℕ
+entries m Types = m.types
+entries m Functions = m.funcs
+entries m Tables = m.tables
+entries m Memories = m.mems
+entries m Globals = m.globals
+entries m ElementSegments = m.elems
+entries m DataSegments = m.datas
 
-abbrev pub all_true : List Bool → Bool
-all_true [] = true
-all_true (b ∷ bs) = b && all_true bs
+-- the new index of an old one
+abbrev pub entry : Remap → Space → ℕ → ℕ
+entry m s i = slice_index (entries m s) i
+
+abbrev pub has : List ℕ → ℕ → Bool
+has list i = nat_lt i (length list)
 
 -- ---- bodies ----
 
 abbrev pub new_type : Remap → BlockType → BlockType
-new_type m bt.Empty = bt.Empty
-new_type m (bt.Value v) = bt.Value v
-new_type m (bt.Index i) = bt.Index (slice_index m.types i)
+new_type m = map_block (entry m)
 
 abbrev pub new_memarg : Remap → MemArg → MemArg
-new_memarg m a = record a { memory = slice_index m.mems a.memory }
-
--- one layer with other indices; what it holds has them
-abbrev pub renumber_step : Remap → Instr-F Instr → Instr
-renumber_step m Instr-F.Unreachable = Unreachable
-renumber_step m Instr-F.Nop = Nop
-renumber_step m (Instr-F.Block x0 x1) = Block (new_type m x0) x1
-renumber_step m (Instr-F.Loop x0 x1) = Loop (new_type m x0) x1
-renumber_step m (Instr-F.If x0 x1 x2) = If (new_type m x0) x1 x2
-renumber_step m (Instr-F.Br x0) = Br x0
-renumber_step m (Instr-F.BrIf x0) = BrIf x0
-renumber_step m (Instr-F.BrTable x0 x1) = BrTable x0 x1
-renumber_step m Instr-F.Return = Return
-renumber_step m (Instr-F.Call x0) = Call (slice_index m.funcs x0)
-renumber_step m (Instr-F.CallIndirect ty table) = CallIndirect (slice_index m.types ty) (slice_index m.tables table)
-renumber_step m Instr-F.Drop = Drop
-renumber_step m Instr-F.Select = Select
-renumber_step m (Instr-F.SelectTyped x0) = SelectTyped x0
-renumber_step m (Instr-F.LocalGet x0) = LocalGet x0
-renumber_step m (Instr-F.LocalSet x0) = LocalSet x0
-renumber_step m (Instr-F.LocalTee x0) = LocalTee x0
-renumber_step m (Instr-F.GlobalGet x0) = GlobalGet (slice_index m.globals x0)
-renumber_step m (Instr-F.GlobalSet x0) = GlobalSet (slice_index m.globals x0)
-renumber_step m (Instr-F.TableGet x0) = TableGet (slice_index m.tables x0)
-renumber_step m (Instr-F.TableSet x0) = TableSet (slice_index m.tables x0)
-renumber_step m (Instr-F.Load x0 x1) = Load x0 (new_memarg m x1)
-renumber_step m (Instr-F.Store x0 x1) = Store x0 (new_memarg m x1)
-renumber_step m (Instr-F.MemorySize x0) = MemorySize (slice_index m.mems x0)
-renumber_step m (Instr-F.MemoryGrow x0) = MemoryGrow (slice_index m.mems x0)
-renumber_step m (Instr-F.I32Const x0) = I32Const x0
-renumber_step m (Instr-F.I64Const x0) = I64Const x0
-renumber_step m (Instr-F.Un x0) = Un x0
-renumber_step m (Instr-F.Bin x0) = Bin x0
-renumber_step m (Instr-F.RefNull x0) = RefNull x0
-renumber_step m Instr-F.RefIsNull = RefIsNull
-renumber_step m (Instr-F.RefFunc x0) = RefFunc (slice_index m.funcs x0)
-renumber_step m (Instr-F.MemoryInit segment memory) = MemoryInit (slice_index m.datas segment) (slice_index m.mems memory)
-renumber_step m (Instr-F.DataDrop x0) = DataDrop (slice_index m.datas x0)
-renumber_step m (Instr-F.MemoryCopy to from) = MemoryCopy (slice_index m.mems to) (slice_index m.mems from)
-renumber_step m (Instr-F.MemoryFill x0) = MemoryFill (slice_index m.mems x0)
-renumber_step m (Instr-F.TableInit segment table) = TableInit (slice_index m.elems segment) (slice_index m.tables table)
-renumber_step m (Instr-F.ElemDrop x0) = ElemDrop (slice_index m.elems x0)
-renumber_step m (Instr-F.TableCopy to from) = TableCopy (slice_index m.tables to) (slice_index m.tables from)
-renumber_step m (Instr-F.TableGrow x0) = TableGrow (slice_index m.tables x0)
-renumber_step m (Instr-F.TableSize x0) = TableSize (slice_index m.tables x0)
-renumber_step m (Instr-F.TableFill x0) = TableFill (slice_index m.tables x0)
+new_memarg m = map_arg (entry m)
 
 abbrev pub renumbered : Remap → Instr → Instr
-renumbered m = fold-Instr Instr (renumber_step m)
+renumbered m = mapped (entry m)
 
 abbrev pub renumbered_all : Remap → List Instr → List Instr
-renumbered_all m = map (renumbered m)
+renumbered_all m = mapped_all (entry m)
 
 -- ---- the parts of a module ----
 
@@ -165,63 +130,18 @@ renumbered_tree m t =
 
 -- ---- an entry for every index that is named ----
 
+-- the map of its space has an entry for the index
+abbrev pub has_entry : Remap → Operand → Bool
+has_entry m o = has (entries m o.space) o.index
+
 abbrev pub fits_type : Remap → BlockType → Bool
-fits_type m bt.Empty = true
-fits_type m (bt.Value v) = true
-fits_type m (bt.Index i) = has m.types i
-
-abbrev pub fits_memarg : Remap → MemArg → Bool
-fits_memarg m a = has m.mems a.memory
-
-abbrev pub fits_step : Remap → Instr-F Bool → Bool
-fits_step m Instr-F.Unreachable = true
-fits_step m Instr-F.Nop = true
-fits_step m (Instr-F.Block x0 x1) = fits_type m x0 && all_true x1
-fits_step m (Instr-F.Loop x0 x1) = fits_type m x0 && all_true x1
-fits_step m (Instr-F.If x0 x1 x2) = fits_type m x0 && all_true x1 && all_true x2
-fits_step m (Instr-F.Br x0) = true
-fits_step m (Instr-F.BrIf x0) = true
-fits_step m (Instr-F.BrTable x0 x1) = true
-fits_step m Instr-F.Return = true
-fits_step m (Instr-F.Call x0) = has m.funcs x0
-fits_step m (Instr-F.CallIndirect ty table) = has m.types ty && has m.tables table
-fits_step m Instr-F.Drop = true
-fits_step m Instr-F.Select = true
-fits_step m (Instr-F.SelectTyped x0) = true
-fits_step m (Instr-F.LocalGet x0) = true
-fits_step m (Instr-F.LocalSet x0) = true
-fits_step m (Instr-F.LocalTee x0) = true
-fits_step m (Instr-F.GlobalGet x0) = has m.globals x0
-fits_step m (Instr-F.GlobalSet x0) = has m.globals x0
-fits_step m (Instr-F.TableGet x0) = has m.tables x0
-fits_step m (Instr-F.TableSet x0) = has m.tables x0
-fits_step m (Instr-F.Load x0 x1) = fits_memarg m x1
-fits_step m (Instr-F.Store x0 x1) = fits_memarg m x1
-fits_step m (Instr-F.MemorySize x0) = has m.mems x0
-fits_step m (Instr-F.MemoryGrow x0) = has m.mems x0
-fits_step m (Instr-F.I32Const x0) = true
-fits_step m (Instr-F.I64Const x0) = true
-fits_step m (Instr-F.Un x0) = true
-fits_step m (Instr-F.Bin x0) = true
-fits_step m (Instr-F.RefNull x0) = true
-fits_step m Instr-F.RefIsNull = true
-fits_step m (Instr-F.RefFunc x0) = has m.funcs x0
-fits_step m (Instr-F.MemoryInit segment memory) = has m.datas segment && has m.mems memory
-fits_step m (Instr-F.DataDrop x0) = has m.datas x0
-fits_step m (Instr-F.MemoryCopy to from) = has m.mems to && has m.mems from
-fits_step m (Instr-F.MemoryFill x0) = has m.mems x0
-fits_step m (Instr-F.TableInit segment table) = has m.elems segment && has m.tables table
-fits_step m (Instr-F.ElemDrop x0) = has m.elems x0
-fits_step m (Instr-F.TableCopy to from) = has m.tables to && has m.tables from
-fits_step m (Instr-F.TableGrow x0) = has m.tables x0
-fits_step m (Instr-F.TableSize x0) = has m.tables x0
-fits_step m (Instr-F.TableFill x0) = has m.tables x0
+fits_type m ty = list_all (has_entry m) (block_operands ty)
 
 abbrev pub fits : Remap → Instr → Bool
-fits m = fold-Instr Bool (fits_step m)
+fits m = operands_pass (has_entry m)
 
 abbrev pub fits_all : Remap → List Instr → Bool
-fits_all m is = all_true (map (fits m) is)
+fits_all m = all_operands_pass (has_entry m)
 
 abbrev pub fits_const : Remap → ConstExpr → Bool
 fits_const m (const.I32 v) = true
@@ -260,7 +180,7 @@ fits_elem_mode m elem.Passive = true
 fits_elem_mode m elem.Declarative = true
 
 abbrev pub fits_elem : Remap → ElemSeg → Bool
-fits_elem m e = fits_elem_mode m e.mode && all_true (map (fits_const m) e.items)
+fits_elem m e = fits_elem_mode m e.mode && list_all (fits_const m) e.items
 
 abbrev pub fits_data_mode : Remap → DataMode → Bool
 fits_data_mode m (data'.Active memory offset) = has m.mems memory && fits_const m offset
@@ -279,5 +199,5 @@ any_type m t = true
 -- the map has an entry for every index that the tree names
 abbrev pub fits_tree : Remap → Module → Bool
 fits_tree m t =
-    all_true (map (fits_import m) t.imports) && (all_true (map (fits_func m) t.funcs) && (all_true (map (fits_global m) t.globals) && (all_true (map (fits_export m) t.exports)
-    && (fits_start m t.start && (all_true (map (fits_elem m) t.elems) && all_true (map (fits_data m) t.datas))))))
+    list_all (fits_import m) t.imports && (list_all (fits_func m) t.funcs && (list_all (fits_global m) t.globals && (list_all (fits_export m) t.exports
+    && (fits_start m t.start && (list_all (fits_elem m) t.elems && list_all (fits_data m) t.datas)))))

@@ -1,5 +1,10 @@
 -- Code in which each index is replaced by its entry in a map, but where a function of a list is called: there stands other code.
-use Rattle.std.specs.Prelude.{◌≡◌, ℕ, Bool, true, false, IsTrue, List, [], ◌∷◌, ◌++◌, Option, Some, None, Contains}
+use Rattle.std.specs.Prelude.{◌≡◌, ℕ, Bool, true, false, ◌&&◌, IsTrue, List, [], ◌∷◌, ◌++◌, Option, Some, None, Contains}
+use Rattle.std.specs.List.{list_any}
+use Rattle.base_lists.specs.Every.{Every}
+use Rattle.wasm_tree.specs.declared.space.Space.{Space}
+use Rattle.wasm_tree.specs.declared.space.Operand.{Operand}
+use Rattle.wasm_tree.specs.Operands.{operands}
 use Rattle.wasm_tree.specs.declared.types.ValType.{ValType}
 use Rattle.wasm_tree.specs.declared.types.FuncType.{FuncType}
 use Rattle.wasm_tree.specs.declared.instr.Instr.{Instr, Row_of-Instr, end_of-Instr, more_of-Instr}
@@ -11,7 +16,7 @@ use Rattle.wasm_meaning.specs.State.{Inst}
 use Rattle.index_remap.specs.declared.remap.Remap.{Remap}
 use Rattle.index_remap.specs.Renumbered.{new_type, renumbered}
 use Rattle.index_remap.specs.References.{is_among}
-use Rattle.index_remap.specs.CodeNames.{LayerNames}
+use Rattle.index_remap.specs.CodeNames.{EntryNames}
 use Rattle.index_remap.specs.Related.{Pairing}
 use Rattle.index_remap.specs.Agreement.{LayerAgrees, func_type, labelled}
 
@@ -64,25 +69,23 @@ module _ (types : List FuncType) (m : Remap) (listed : List ℕ) (codes : Codes)
 
 -- ---- the other instructions ----
 
-abbrev pub calls_listed : List ℕ → Instr-F Instr → Bool
-calls_listed listed (Instr-F.Call f) = is_among listed f
-calls_listed listed _ = false
+-- a call of a function of the list
+abbrev pub is_listed_call : List ℕ → Operand → Bool
+is_listed_call listed o = o.called && is_among listed o.index
 
 -- each index that the layer itself names agrees with its entry, but the function of a call that is replaced, which needs none
 abbrev pub OthersAgree : Remap → List ℕ → Context → Context → Instr-F Instr → Type 0
-OthersAgree m listed c d l = calls_listed listed l ≡ false → LayerAgrees m c d l
+OthersAgree m listed c d l = list_any (is_listed_call listed) (operands l) ≡ false → LayerAgrees m c d l
 
--- a call that is replaced is of a function at an address of the list; the function of another and its entry stand for addresses that code may name as
--- one, or neither is there
-abbrev pub CallNamed : Pairing → Remap → Bool → Inst → Inst → ℕ → Type 0
-CallNamed R m true i j f = (a : ℕ) × (at i.funcs f ≡ Gives a) × R.listed a
-CallNamed R m false i j f = LayerNames R m i j (Instr-F.Call f)
+-- the function of a call that is replaced is at an address of the list; any other index and its entry stand for addresses that code may name as one, or for
+-- equal types, or neither is there
+abbrev pub OtherNamed : Pairing → Remap → Bool → Inst → Inst → Space → ℕ → Type 0
+OtherNamed R m true i j space x = (a : ℕ) × (at i.funcs x ≡ Gives a) × R.listed a
+OtherNamed R m false i j space x = EntryNames R m i j space x
 
--- each index that the layer itself names and its entry stand for addresses that code may name as one, or for equal types, or neither is there; but for the
--- function of a call that is replaced
+-- so does each index that the layer itself names
 abbrev pub OthersNamed : Pairing → Remap → List ℕ → Inst → Inst → Instr-F Instr → Type 0
-OthersNamed R m listed i j (Instr-F.Call f) = CallNamed R m (is_among listed f) i j f
-OthersNamed R m listed i j l = LayerNames R m i j l
+OthersNamed R m listed i j layer = Every (λ o. OtherNamed R m (is_listed_call listed o) i j o.space o.index) (operands layer)
 
 -- ---- what it needs to stay well typed ----
 

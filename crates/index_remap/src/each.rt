@@ -1,8 +1,9 @@
 // Lists of what has indices, with other indices.
 
-ghost use Rattle.std.specs.Prelude.{◌≡◌, IfOk, IsTrue, List, Bool, map};
+ghost use Rattle.std.specs.Prelude.{◌≡◌, IfOk, IsTrue, Bool, map};
+ghost use Rattle.std.specs.List.{list_all};
 ghost use Rattle.index_remap.specs.declared.remap.Remap.{Remap as Maps};
-ghost use Rattle.index_remap.specs.Renumbered.{all_true, new_const, new_import, new_func, new_global, new_export, new_elem, new_data, any_type, fits_const, fits_import, fits_func, fits_global, fits_export, fits_elem, fits_data};
+ghost use Rattle.index_remap.specs.Renumbered.{new_const, new_import, new_func, new_global, new_export, new_elem, new_data, any_type, fits_const, fits_import, fits_func, fits_global, fits_export, fits_elem, fits_data};
 
 use crate::body::renumber_all;
 use crate::remap::{
@@ -32,7 +33,7 @@ pub(crate) fn renumber_each<T: Renumber>(
     items: &[T],
     entries: &Remap,
 ) -> Result<Items<T>, NoMemory>
-    requires fits { IsTrue (all_true (map (T.has_entries entries.now) items.now)) }
+    requires fits { IsTrue (list_all (T.has_entries entries.now) items.now) }
     ensures { IfOk result (λ new. new ≡ map (T.renewed entries.now) items.now) }
 {
     let mut all = Items::new(alloc);

@@ -1,7 +1,7 @@
 // The maps of indices, and what has few of them.
 
 ghost use Rattle.std.specs.Prelude.{◌≡◌, ◌<◌, length, slice_index, IsTrue};
-ghost use Rattle.index_remap.specs.Renumbered.{new_type, new_memarg, new_const, new_import_desc, new_export_desc, new_elem_mode, new_data_mode, new_start, fits_type, fits_memarg, fits_const, fits_import_desc, fits_export_desc, fits_elem_mode, fits_data_mode, fits_start};
+ghost use Rattle.index_remap.specs.Renumbered.{new_type, new_memarg, new_const, new_import_desc, new_export_desc, new_elem_mode, new_data_mode, new_start, fits_type, has, fits_const, fits_import_desc, fits_export_desc, fits_elem_mode, fits_data_mode, fits_start};
 
 use wasm_bytes::Items;
 use wasm_tree::{BlockType, ConstExpr, DataMode, ElemMode, ExportDesc, ImportDesc, MemArg};
@@ -37,7 +37,7 @@ pub(crate) fn renumber_type(ty: BlockType, map: &Remap) -> BlockType
 }
 
 pub(crate) fn renumber_memarg(arg: MemArg, map: &Remap) -> MemArg
-    requires { IsTrue (fits_memarg map.now arg) }
+    requires { IsTrue (has map.now.mems arg.memory) }
     ensures { result ≡ new_memarg map.now arg }
 {
     MemArg {

@@ -1,5 +1,6 @@
-ghost use Rattle.std.specs.Prelude.{◌<◌, length, map as each, IfOk, IsTrue};
-ghost use Rattle.index_remap.specs.Renumbered.{all_true, fits_export, fits_func, fits_tree};
+ghost use Rattle.std.specs.Prelude.{◌<◌, length, IfOk, IsTrue};
+ghost use Rattle.std.specs.List.{list_all};
+ghost use Rattle.index_remap.specs.Renumbered.{fits_export, fits_func, fits_tree};
 ghost use Rattle.index_remap.specs.declared.remap.Remap.{Remap as Maps};
 
 use crate::{Remap, renumber};
@@ -19,7 +20,7 @@ fn types(alloc: Global) -> Result<Items<FuncType>, NoMemory> {
 }
 
 fn funcs(alloc: Global) -> Result<Items<Func>, NoMemory>
-    ensures { IfOk result (λ fs. (map : Maps) → 0 < length map.types → IsTrue (all_true (each (fits_func map) fs))) }
+    ensures { IfOk result (λ fs. (map : Maps) → 0 < length map.types → IsTrue (list_all (fits_func map) fs)) }
 {
     let mut body = Items::new(alloc);
     body.keep(Instr::I32Const(7))?;
@@ -33,7 +34,7 @@ fn funcs(alloc: Global) -> Result<Items<Func>, NoMemory>
 }
 
 fn exports(alloc: Global) -> Result<Items<Export>, NoMemory>
-    ensures { IfOk result (λ es. (map : Maps) → 0 < length map.funcs → IsTrue (all_true (each (fits_export map) es))) }
+    ensures { IfOk result (λ es. (map : Maps) → 0 < length map.funcs → IsTrue (list_all (fits_export map) es)) }
 {
     let name = Name::from_text(alloc, "f")?;
     let mut exports = Items::new(alloc);

@@ -2,6 +2,8 @@
 use Rattle.std.proofs.Common.{◌≡◌, ◌∙◌, sym, ap, refl, ℕ, zero, suc, ◌+◌, ◌<◌, ◌≤◌, List, [], ◌∷◌, ◌++◌, length, take, arith, Bool, true, false, cond, Some, append_assoc, append-nil, option_and_then, unwrap_or}
 use Rattle.wasm_tree.specs.declared.space.Space.{Space}
 use Rattle.std.specs.Prelude.{filter}
+use Rattle.std.specs.List.{flat_map}
+use Rattle.wasm_tree.specs.declared.space.Space.TheVariants.{Types}
 use Rattle.std.proofs.lemmas.List.{length-append, take_all}
 use Rattle.std.proofs.lemmas.List.Elements.{filter-append}
 use Rattle.wasm_tree.specs.declared.module.Module.{Module}
@@ -9,7 +11,9 @@ use Rattle.wasm_meaning.specs.World.{defined_count, defined_before}
 use Rattle.wasm_meaning.specs.Linking.{Part, Site, module_at, imports_of, sites_in, sites_from, sites}
 use Rattle.merge_terms.specs.declared.parts.Part as declared
 use Rattle.merge_terms.specs.Parts.{named_modules}
-use Rattle.merge_terms.specs.Merged.{staying_of, imported_count}
+use Rattle.merge_terms.specs.Faults.{stays}
+use Rattle.merge_terms.specs.Merged.{staying, staying_of, imports_kind, imported_count}
+use Rattle.base_lists.specs.Places.{count_of}
 use Rattle.merge_join.specs.Words.{site}
 use Rattle.merge_join.specs.Spaces.{picked, sites_before, count_before}
 use Rattle.merge_join.proofs.ByPart.{named_length, part_more}
@@ -45,23 +49,40 @@ count_all parts k p end =
     let ps = named_modules parts in
     ap (λ xs. length (filter (picked ps k) xs)) (append-nil (sites_from 0 (take p ps)) ∙ ap (sites_from 0) (take_all p ps (omega (arith, named_length parts)))) ∙ ap length (sym (staying_is ps k))
 
-pub filter_short : (q : Site → Bool) (xs : List Site) → length (filter q xs) ≤ length xs
-filter_short q [] = omega arith
-filter_short q (x ∷ xs) = case (q x) (filter_short q xs)
-  where
-    case : (b : Bool) → length (filter q xs) ≤ length xs → length (cond b (x ∷ filter q xs) (filter q xs)) ≤ suc (length xs)
-    case true h = omega arith
-    case false h = omega arith
-
--- fewer come before an import than there are imports
-pub count_few : (ps : List Part) (k : Space) (p n : ℕ) (m : Module) → module_at ps p ≡ Some m → n < length m.imports → count_before ps k p n + 1 ≤ length (sites ps)
+-- those that come before an import, and it, are not more than all that stay
+pub count_few : (ps : List Part) (k : Space) (p n : ℕ) (m : Module) → module_at ps p ≡ Some m → n < length m.imports → count_before ps k p n + cond (picked ps k (site p n)) 1 0 ≤ length (staying_of ps k)
 unfolding count_before
 count_few ps k p n m at h =
+    let q = picked ps k in
+    let s = site p n in
+    let before = sites_before ps p n in
     let (rest, is) = sites_split ps p n m at h in
-    omega (arith, filter_short (picked ps k) (sites_before ps p n), ap length is, length-append (sites_before ps p n) (site p n ∷ rest))
+    let all = ap length (staying_is ps k ∙ ap (filter q) is ∙ filter-append q before (s ∷ rest)) ∙ length-append (filter q before) (filter q (s ∷ rest)) in
+    omega (arith, all, here (q s) (filter q rest))
+  where
+    here : (b : Bool) (ss : List Site) → cond b 1 0 ≤ length (cond b (site p n ∷ ss) ss)
+    here true ss = omega arith
+    here false ss = omega arith
 
-pub staying_few : (ps : List Part) (k : Space) → length (staying_of ps k) ≤ length (sites ps)
-staying_few ps k = omega (arith, ap length (staying_is ps k), filter_short (picked ps k) (sites ps))
+both_few : {A : Type 0} (f g : A → Bool) (xs : List A) → length (filter f (filter g xs)) ≤ count_of f xs
+both_few f g [] = omega arith
+both_few {A} f g (x ∷ xs) = by (g x) (both_few f g xs)
+  where
+    kept : (b : Bool) (ys : List A) (n : ℕ) → length ys ≤ n → length (cond b (x ∷ ys) ys) ≤ cond b (suc n) n
+    kept true ys n h = omega arith
+    kept false ys n h = h
+
+    left : (b : Bool) (l n : ℕ) → l ≤ n → l ≤ cond b (suc n) n
+    left true l n h = omega arith
+    left false l n h = h
+
+    by : (b : Bool) → length (filter f (filter g xs)) ≤ count_of f xs → length (filter f (cond b (x ∷ filter g xs) (filter g xs))) ≤ cond (f x) (suc (count_of f xs)) (count_of f xs)
+    by true h = kept (f x) (filter f (filter g xs)) (count_of f xs) h
+    by false h = left (f x) (length (filter f (filter g xs))) (count_of f xs) h
+
+pub staying_few : (ps : List Part) (k : Space) → length (staying_of ps k) ≤ count_of (imports_kind ps k) (sites ps)
+unfolding staying_of staying
+staying_few ps k = both_few (imports_kind ps k) (stays ps) (sites ps)
 
 -- ---- what is defined ----
 
@@ -98,3 +119,9 @@ imported_is ps k p m at = ap (λ o. unwrap_or (option_and_then (λ x. Some (leng
 pub count_none : (ps : List Part) (k : Space) → count_before ps k 0 0 ≡ 0
 unfolding count_before
 count_none ps k = refl
+
+-- ---- types ----
+
+pub types_count : (ps : List Part) → length (flat_map (λ p. p.«module».types) ps) ≡ defined_before Types ps (length ps)
+types_count [] = refl
+types_count (part ∷ ps) = length-append part.«module».types (flat_map (λ p. p.«module».types) ps) ∙ ap (λ n. length part.«module».types + n) (types_count ps)

@@ -9,7 +9,8 @@ use Rattle.wasm_tree.specs.Spaces.{funcs_of}
 use Rattle.wasm_meaning.specs.World.{numbers}
 use Rattle.wasm_meaning.specs.Linking.{Part}
 use Rattle.index_remap.specs.declared.remap.Remap.{Remap}
-use Rattle.index_remap.specs.Renumbered.{all_true, fits_import, fits_func, fits_global, fits_export, fits_start, fits_elem, fits_data, fits_tree}
+use Rattle.std.specs.List.{list_all}
+use Rattle.index_remap.specs.Renumbered.{fits_import, fits_func, fits_global, fits_export, fits_start, fits_elem, fits_data, fits_tree}
 use Rattle.merge_terms.specs.Merged.{map_of, new_index, start_of}
 
 numbers_length : (from count : ℕ) → length (numbers from count) ≡ count
@@ -41,16 +42,16 @@ below i n h = grind (arith, nat_tests, h)
 
 -- the exports, the start, and what comes after
 abbrev exports_on : Remap → Module → Bool
-exports_on r m = all_true (map (fits_export r) m.exports) && (fits_start r m.start && (all_true (map (fits_elem r) m.elems) && all_true (map (fits_data r) m.datas)))
+exports_on r m = list_all (fits_export r) m.exports && (fits_start r m.start && (list_all (fits_elem r) m.elems && list_all (fits_data r) m.datas))
 
 from_exports : (r : Remap) (m : Module) → IsTrue (fits_tree r m) → IsTrue (exports_on r m)
-from_exports r m h = right (all_true (map (fits_global r) m.globals)) (exports_on r m) (right (all_true (map (fits_func r) m.funcs)) _ (right (all_true (map (fits_import r) m.imports)) _ h))
+from_exports r m h = right (list_all (fits_global r) m.globals) (exports_on r m) (right (list_all (fits_func r) m.funcs) _ (right (list_all (fits_import r) m.imports) _ h))
 
-pub exports_fit : (r : Remap) (m : Module) → IsTrue (fits_tree r m) → IsTrue (all_true (map (fits_export r) m.exports))
-exports_fit r m h = left (all_true (map (fits_export r) m.exports)) _ (from_exports r m h)
+pub exports_fit : (r : Remap) (m : Module) → IsTrue (fits_tree r m) → IsTrue (list_all (fits_export r) m.exports)
+exports_fit r m h = left (list_all (fits_export r) m.exports) _ (from_exports r m h)
 
 pub start_fits : (r : Remap) (m : Module) (f : ℕ) → IsTrue (fits_tree r m) → m.start ≡ Some f → f < length r.funcs
-start_fits r m f h is = below f (length r.funcs) (subst (λ s. IsTrue (fits_start r s)) is (left (fits_start r m.start) _ (right (all_true (map (fits_export r) m.exports)) _ (from_exports r m h))))
+start_fits r m f h is = below f (length r.funcs) (subst (λ s. IsTrue (fits_start r s)) is (left (fits_start r m.start) _ (right (list_all (fits_export r) m.exports) _ (from_exports r m h))))
 
 funcs_many : (ps : List Part) (p : ℕ) (m : Module) → length (map_of ps p m).funcs ≡ length (funcs_of m)
 unfolding map_of

@@ -13,6 +13,7 @@ use Rattle.wasm_tree.specs.declared.module.ExportDesc.{ExportDesc}
 use Rattle.wasm_tree.specs.declared.module.ExportDesc.TheVariants as ex
 use Rattle.wasm_tree.specs.declared.module.Module.{Module}
 use Rattle.wasm_tree.specs.Spaces.{funcs_of, tables_of, memories_of, globals_of, type_of_func, index_of_export, space_of_export, space_of_import}
+use Rattle.base_lists.proofs.Bools.{left_true, right_true}
 use Rattle.wasm_meaning.specs.Linking as linking
 use Rattle.wasm_meaning.specs.Linking.{Part, Site, Entity, module_at, import_at, has_kind, sites, end_of, linked_end, gathered, gathered_at, first_site, stays_as, same_memory, same_pair, pair_of, is_outside}
 use Rattle.merge_terms.specs.declared.links.End.{End}
@@ -177,18 +178,18 @@ first_is is (s ∷ ss) other = case (is s) refl (first_is is ss other)
     case true e rest = inr e
     case false e rest = rest
 
+pub kind_from : (a b : Space) → same_space a b ≡ true → a ≡ b
+kind_from a b h = grind arith
+
 same_memory_kind : (j : Import) (o : Option Import) → same_memory j o ≡ true → (l : Import) × (o ≡ Some l) × (space_of_import l.desc ≡ space_of_import j.desc)
 same_memory_kind j None h = cc
-same_memory_kind j (Some l) h = (l, refl, case (space_of_import j.desc) (space_of_import l.desc) h)
-  where
-    case : (a b : Space) → same_space Memories a && (same_space Memories b && same_pair (pair_of j) (pair_of l)) ≡ true → b ≡ a
-    case Memories Memories h = refl
-    case Memories Functions h = cc
-    case Memories Tables h = cc
-    case Memories Globals h = cc
-    case Functions b h = cc
-    case Tables b h = cc
-    case Globals b h = cc
+same_memory_kind j (Some l) h =
+    let a = space_of_import j.desc in
+    let b = space_of_import l.desc in
+    let more = right_true (same_space Memories a) (same_space Memories b && same_pair (pair_of j) (pair_of l)) h in
+    let first : Memories ≡ a = kind_from Memories a (left_true (same_space Memories a) (same_space Memories b && same_pair (pair_of j) (pair_of l)) h) in
+    let second : Memories ≡ b = kind_from Memories b (left_true (same_space Memories b) (same_pair (pair_of j) (pair_of l)) more) in
+    (l, refl, sym second ∙ first)
 
 stays_same : (ps : List Part) (j : Import) (t : Site) → stays_as ps j t ≡ true → same_memory j (import_at ps t) ≡ true
 stays_same ps j t h = case (is_outside t (end_of ps t)) (same_memory j (import_at ps t)) h
@@ -231,6 +232,3 @@ entry_there ps p n m i e none at here ends =
     let (end, first, last) = some_of (end_of ps (site p n)) (λ end. Some (gathered ps end)) linked is in
     let gathers : gathered ps end ≡ linked = cc in
     subst (IsEnd ps (space_of_import i.desc)) (ap end_entry gathers ∙ entry) (written ps (space_of_import i.desc) (gathered ps end) (gather_there ps (space_of_import i.desc) end (end_there ps p n m i end none at here first)))
-
-pub kind_from : (a b : Space) → same_space a b ≡ true → a ≡ b
-kind_from a b h = grind arith

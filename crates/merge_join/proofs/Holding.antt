@@ -1,7 +1,7 @@
 -- What the parts hold, as their validity gives it.
 use Rattle.std.proofs.Common.{◌≡◌, ◌∙◌, sym, ap, subst, refl, ℕ, zero, suc, ◌<◌, List, [], ◌∷◌, ◌++◌, map, length, Option, Some, true, IsTrue, arith, slice_get, get_or, ◌↔◌}
 use Rattle.wasm_tree.specs.declared.space.Space.TheVariants.{Tables, Memories}
-use Rattle.std.specs.List.{flat_map}
+use Rattle.std.specs.List.{flat_map, list_all}
 use Rattle.std.proofs.lemmas.List.{length-map}
 use Rattle.std.proofs.lemmas.Option.{slice_get_within}
 use Rattle.wasm_tree.specs.declared.types.RefType.{RefType}
@@ -23,7 +23,7 @@ use Rattle.wasm_valid.specs.Validity.{HoldsAt, IsValid, ElemModeHolds, DataModeH
 use Rattle.wasm_meaning.specs.World.{numbers}
 use Rattle.wasm_meaning.specs.Linking.{Part, module_at}
 use Rattle.index_remap.specs.declared.remap.Remap.{Remap}
-use Rattle.index_remap.specs.Renumbered.{all_true, fits_func, fits_tree, fits_import, fits_import_desc}
+use Rattle.index_remap.specs.Renumbered.{fits_func, fits_tree, fits_import, fits_import_desc}
 use Rattle.index_remap.proofs.Fits.{each_at}
 use Rattle.remap_typing.proofs.Lists.{left_true, right_true}
 use Rattle.merge_terms.specs.Merged.{by_part_from, by_part, map_of, new_index}
@@ -108,16 +108,16 @@ memory_within ps p m memory offset r mems holds is same =
 
 -- so much of a tree as has entries
 pub record Fitting (r : Remap) (m : Module) : Type 0 where
-  pub imports : IsTrue (all_true (map (fits_import r) m.imports))
-  pub funcs : IsTrue (all_true (map (fits_func r) m.funcs))
+  pub imports : IsTrue (list_all (fits_import r) m.imports)
+  pub funcs : IsTrue (list_all (fits_func r) m.funcs)
 
 pub fitting : (r : Remap) (m : Module) → IsTrue (fits_tree r m) → Fitting r m
 fitting r m h =
-    let rest = right_true (all_true (map (fits_import r) m.imports)) _ h in
+    let rest = right_true (list_all (fits_import r) m.imports) _ h in
     record { imports = left_true _ _ h; funcs = left_true _ _ rest }
 
 pub import_fits : (r : Remap) (m : Module) (is : List Import) (n : ℕ) (i : Import) → IsTrue (fits_tree r m) → is ≡ m.imports → n < length is → i ≡ get_or is n i → IsTrue (fits_import_desc r i.desc)
-import_fits r m is n i h same lt here = each_at (fits_import r) is n i (subst (λ (is : List Import). IsTrue (all_true (map (fits_import r) is))) (sym same) (fitting r m h).imports) lt here
+import_fits r m is n i h same lt here = each_at (fits_import r) is n i (subst (λ (is : List Import). IsTrue (list_all (fits_import r) is)) (sym same) (fitting r m h).imports) lt here
 
 -- ---- lists of parts ----
 

@@ -5,7 +5,7 @@ use Rattle.wasm_tree.specs.declared.module.Module.{Module}
 use Rattle.wasm_tree.specs.Spaces.{funcs_of, tables_of, memories_of, globals_of}
 use Rattle.wasm_meaning.specs.World.{numbers, defined_before}
 use Rattle.wasm_meaning.specs.Linking.{Part, module_at, first_place}
-use Rattle.wasm_meaning.specs.Values.{same_func_type}
+use Rattle.wasm_tree.specs.SameTypes.{same_func_type}
 use Rattle.index_remap.specs.declared.remap.Remap.{Remap}
 use Rattle.merge_terms.specs.declared.parts.Part as declared
 use Rattle.merge_terms.specs.Parts.{named_modules}

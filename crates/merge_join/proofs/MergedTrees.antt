@@ -1,5 +1,5 @@
 -- The merged module, from its lists.
-use Rattle.std.proofs.Common.{◌≡◌, ◌∙◌, ap, refl, ℕ, suc, ◌+◌, ◌<◌, ◌≤◌, ◌^◌, List, [], ◌∷◌, ◌++◌, length, map, arith, Option, Some, None}
+use Rattle.std.proofs.Common.{◌≡◌, ◌∙◌, ap, refl, ℕ, suc, ◌+◌, ◌<◌, ◌≤◌, ◌^◌, List, [], ◌∷◌, ◌++◌, length, map, arith, Option, Some, None, false, is_some, option_and_then, unwrap_or, slice_get}
 use Rattle.wasm_tree.specs.declared.space.Space.TheVariants.{Functions}
 use Rattle.std.specs.List.{flat_map, filter_map, cons_option}
 use Rattle.std.proofs.lemmas.List.{length-append, length-map}
@@ -13,16 +13,19 @@ use Rattle.wasm_tree.specs.declared.module.Export.{Export}
 use Rattle.wasm_tree.specs.declared.module.ElemSeg.{ElemSeg}
 use Rattle.wasm_tree.specs.declared.module.DataSeg.{DataSeg}
 use Rattle.wasm_tree.specs.declared.module.Module.{Module}
-use Rattle.wasm_tree.specs.Spaces.{func_of, imported_funcs, funcs_of}
+use Rattle.wasm_tree.specs.declared.module.ImportDesc.{ImportDesc}
+use Rattle.wasm_tree.specs.declared.module.ImportDesc.TheVariants as im
+use Rattle.wasm_tree.specs.Operands.{same_space}
+use Rattle.wasm_tree.specs.Spaces.{func_of, imported_funcs, funcs_of, space_of_import}
+use Rattle.base_lists.proofs.Filtered.{as_many, chosen_twice}
 use Rattle.wasm_meaning.specs.State.{Text}
 use Rattle.wasm_meaning.specs.World.{defined_before}
-use Rattle.wasm_meaning.specs.Linking.{Part, sites}
+use Rattle.wasm_meaning.specs.Linking.{Part, Site, has_kind, module_at}
 use Rattle.index_remap.specs.Renumbered.{new_func}
-use Rattle.merge_terms.specs.Merged.{staying, merged_types, merged_import, by_part_from, by_part, defined_funcs, map_of, merged_global, merged_elem, merged_data, starts, start_calls, start_among, all_exports, named_exports, merged}
-use Rattle.merge_terms.specs.Faults.{stays}
+use Rattle.merge_terms.specs.Merged.{staying, staying_of, imports_kind, merged_desc, merged_types, merged_import, by_part_from, by_part, defined_funcs, map_of, merged_global, merged_elem, merged_data, starts, start_calls, start_among, all_exports, named_exports, merged}
 use Rattle.merge_terms.specs.Joined.{FewInAll}
 use Rattle.merge_join.specs.Words.{funcs_before_calls}
-use Rattle.merge_join.proofs.Counts.{filter_short}
+use Rattle.merge_join.proofs.Counts.{staying_few}
 
 abbrev pub built : List FuncType → List Import → List Func → List TableType → List Limits → List GlobalDef → List Export → Option ℕ → List ElemSeg → List DataSeg → Module
 built types imports funcs tables mems globals exports start elems datas = record {
@@ -68,14 +71,6 @@ merged_is ps names m a =
 
 -- ---- its functions are few ----
 
-kept_short : {A B : Type 0} (f : A → Option B) (xs : List A) → length (filter_map f xs) ≤ length xs
-kept_short f [] = omega arith
-kept_short {A} {B} f (x ∷ xs) = case (f x) (kept_short f xs)
-  where
-    case : (o : Option B) → length (filter_map f xs) ≤ length xs → length (cons_option o (filter_map f xs)) ≤ suc (length xs)
-    case None h = omega arith
-    case (Some b) h = omega arith
-
 defined_from : (g : ℕ → Module → Func → Func) (q : ℕ) (ps : List Part) → length (by_part_from (λ p m. map (g p m) m.funcs) q ps) ≡ defined_before Functions ps (length ps)
 defined_from g q [] = refl
 defined_from g q (part ∷ ps) =
@@ -88,8 +83,35 @@ calls_few ps [] = omega arith
 calls_few ps (f ∷ []) = omega arith
 calls_few ps (f ∷ g ∷ fs) = omega arith
 
+-- an import of the merged module adds a function where the part's import does
+func_there : (ps : List Part) (s : Site) → is_some (option_and_then (λ i. func_of i.desc) (merged_import ps s)) ≡ imports_kind ps Functions s
+unfolding merged_import
+func_there ps s = at_part (module_at ps s.part)
+  where
+    kind : (m : Module) (d : ImportDesc) → is_some (func_of (merged_desc ps s m d)) ≡ same_space Functions (space_of_import d)
+    kind m (im.Func t) = refl
+    kind m (im.Table t) = refl
+    kind m (im.Memory l) = refl
+    kind m (im.Global t) = refl
+
+    at_import : (m : Module) (o : Option Import) → is_some (option_and_then (λ i. func_of i.desc) (option_and_then {T = Import} {U = Import} (λ i. Some (record i { desc = merged_desc ps s m i.desc })) o)) ≡ unwrap_or (option_and_then (λ i. Some (has_kind Functions i)) o) false
+    at_import m None = refl
+    at_import m (Some i) = kind m i.desc
+
+    at_part : (o : Option Module)
+        → is_some (option_and_then (λ i. func_of i.desc) (option_and_then (λ m. option_and_then {T = Import} {U = Import} (λ i. Some (record i { desc = merged_desc ps s m i.desc })) (option_and_then (λ m. slice_get m.imports s.import) o)) o))
+        ≡ unwrap_or (option_and_then (λ i. Some (has_kind Functions i)) (option_and_then (λ m. slice_get m.imports s.import) o)) false
+    at_part None = refl
+    at_part (Some m) = at_import m (slice_get m.imports s.import)
+
+funcs_stay : (ps : List Part) → length (imported_funcs (filter_map (merged_import ps) (staying ps))) ≡ length (staying_of ps Functions)
+unfolding staying_of
+funcs_stay ps =
+    ap length (chosen_twice (merged_import ps) (λ i. func_of i.desc) (staying ps))
+    ∙ as_many (imports_kind ps Functions) (λ s. option_and_then (λ i. func_of i.desc) (merged_import ps s)) (staying ps) (func_there ps)
+
 pub funcs_few : (ps : List Part) (names : List (Option Text)) → FewInAll ps → length (funcs_of (merged ps names)) < 2 ^ 32
-unfolding merged staying defined_funcs
+unfolding merged defined_funcs
 funcs_few ps names few =
     let imports = filter_map (merged_import ps) (staying ps) in
     let funcs = defined_funcs ps ++ start_calls ps (starts ps) in
@@ -100,8 +122,7 @@ funcs_few ps names few =
       length-append (defined_funcs ps) (start_calls ps (starts ps)),
       defined_from (λ p m. new_func (map_of ps p m)) 0 ps,
       calls_few ps (starts ps),
-      kept_short (λ (i : Import). func_of i.desc) imports,
-      kept_short (merged_import ps) (staying ps),
-      filter_short (stays ps) (sites ps),
-      few.entities Functions,
+      funcs_stay ps,
+      staying_few ps Functions,
+      few.entries Functions,
     )

@@ -6,7 +6,7 @@ use Rattle.wasm_tree.specs.declared.types.RefType.TheVariants as reft
 use Rattle.wasm_tree.specs.declared.types.ValType.{ValType}
 use Rattle.wasm_tree.specs.declared.types.ValType.TheVariants as valt
 use Rattle.wasm_tree.specs.declared.types.FuncType.{FuncType}
-use Rattle.wasm_meaning.specs.Values.{same_type, same_types, same_func_type}
+use Rattle.wasm_tree.specs.SameTypes.{same_func_type, same_type, same_types}
 use Rattle.merge_join.specs.Texts.{letter_of, text_of_type}
 
 letters_differ : (s t : ValType) → letter_of s ≡ letter_of t → s ≡ t

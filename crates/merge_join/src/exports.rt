@@ -2,7 +2,8 @@
 
 ghost use Rattle.std.specs.Prelude.{◌≡◌, ◌<◌, ◌≤◌, ◌+◌, ◌++◌, ◌∷◌, [], List, map, length, slice_get, None, IfOk, IfErr, OnOk, IsOk, IsTrue};
 ghost use Rattle.wasm_tree.specs.declared.module.Export as tree;
-ghost use Rattle.index_remap.specs.Renumbered.{all_true, fits_export, new_export};
+ghost use Rattle.std.specs.List.{list_all};
+ghost use Rattle.index_remap.specs.Renumbered.{fits_export, new_export};
 ghost use Rattle.export_names.specs.Given.{texts};
 ghost use Rattle.export_names.specs.Names as chosen;
 ghost use Rattle.merge_terms.specs.Parts.{named_modules};
@@ -103,7 +104,7 @@ fn add_exports(
     entries: &Remap,
 ) -> Result<(), NoMemory>
     requires named { first + length exports.now ≤ length names.now }
-    requires fits { IsTrue (all_true (map (fits_export entries.now) exports.now)) }
+    requires fits { IsTrue (list_all (fits_export entries.now) exports.now) }
     ensures { OnOk result ((before : List tree.Export) → length before ≡ first → all.old ≡ named_exports before names.now → all.new ≡ named_exports (before ++ map (new_export entries.now) exports.now) names.now) }
 {
     for at in 0..exports.len() {

@@ -1,10 +1,10 @@
 // What the parts define, by part.
 
 ghost use Rattle.std.specs.Prelude.{◌≡◌, ◌<◌, ◌++◌, length, map, IfOk, OnOk, IsTrue, Some};
-ghost use Rattle.std.specs.List.{flat_map};
+ghost use Rattle.std.specs.List.{flat_map, list_all};
 ghost use Rattle.wasm_tree.specs.declared.module.Module.{Module};
 ghost use Rattle.wasm_meaning.specs.Linking.{module_at};
-ghost use Rattle.index_remap.specs.Renumbered.{all_true, fits_func, new_func};
+ghost use Rattle.index_remap.specs.Renumbered.{fits_func, new_func};
 ghost use Rattle.merge_terms.specs.Parts.{named_modules};
 ghost use Rattle.merge_terms.specs.Merged.{by_part, defined_funcs, merged_global};
 ghost use Rattle.merge_join.specs.Reads.{AreReads};
@@ -26,7 +26,7 @@ fn add_funcs(
     funcs: &[Func],
     entries: &Remap,
 ) -> Result<(), NoMemory>
-    requires fits { IsTrue (all_true (map (fits_func entries.now) funcs.now)) }
+    requires fits { IsTrue (list_all (fits_func entries.now) funcs.now) }
     ensures { OnOk result (all.new ≡ all.old ++ map (new_func entries.now) funcs.now) }
 {
     for func in funcs {

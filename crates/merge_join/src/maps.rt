@@ -4,7 +4,7 @@ ghost use Rattle.std.specs.Prelude.{◌≡◌, ◌+◌, ◌<◌, ◌≤◌, ◌^
 ghost use Rattle.wasm_tree.specs.declared.space.Space.TheVariants.{DataSegments, ElementSegments};
 ghost use Rattle.wasm_tree.specs.declared.module.Module.{Module as Tree};
 ghost use Rattle.wasm_meaning.specs.Linking.{module_at, imports_of, first_place};
-ghost use Rattle.wasm_meaning.specs.Values.{same_func_type};
+ghost use Rattle.wasm_tree.specs.SameTypes.{same_func_type};
 ghost use Rattle.wasm_meaning.specs.World as world;
 ghost use Rattle.merge_terms.specs.Parts.{named_modules};
 ghost use Rattle.merge_terms.specs.Merged as merged;

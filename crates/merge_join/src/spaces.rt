@@ -80,7 +80,7 @@ fn is_picked(parts: &[Part], links: &Links, part: usize, import: usize, space: S
 
 // The next place, where one is taken.
 fn next_place(count: &mut u32, taken: bool) -> Option<u32>
-    requires { count.old + 1 < 2 ^ 32 }
+    requires { count.old + cond taken 1 0 < 2 ^ 32 }
     ensures place { result ≡ cond taken (Some count.old) None }
     ensures count { count.new ≡ count.old + cond taken 1 0 }
 {

@@ -5,7 +5,7 @@ ghost use Rattle.std.specs.List.{flat_map};
 ghost use Rattle.std.specs.BTreeMap.{get_by_text};
 ghost use Rattle.std.specs.Str.{bytes_eq};
 ghost use Rattle.wasm_meaning.specs.Linking.{first_place};
-ghost use Rattle.wasm_meaning.specs.Values.{same_func_type};
+ghost use Rattle.wasm_tree.specs.SameTypes.{same_func_type};
 ghost use Rattle.merge_terms.specs.Parts.{named_modules};
 ghost use Rattle.merge_terms.specs.Merged.{with_type, with_types, merged_types};
 ghost use Rattle.merge_join.specs.Texts.{text_of_type};

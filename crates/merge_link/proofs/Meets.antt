@@ -24,7 +24,6 @@ use Rattle.merge_link.specs.Joining.{the_end}
 use Rattle.merge_link.proofs.Found.{lengths_same, same_at}
 use Rattle.merge_link.proofs.Joins.{table_at}
 use Rattle.merge_link.proofs.Numbers.{site_at, site_of}
-use Rattle.merge_link.proofs.Places.{place_is}
 use Rattle.merge_link.proofs.Steps.{entry, lists_same}
 
 -- ---- numbers of places ----
@@ -39,7 +38,7 @@ part_there lp s i h = by (linking.module_at lp s.part) refl h
   where
     by : (o : Option Module) → linking.module_at lp s.part ≡ o → option_and_then (λ m. slice_get m.imports s.import) o ≡ Some i → (m : Module) × (linking.module_at lp s.part ≡ Some m) × (s.import < length m.imports)
     by None at k = absurd (cc)
-    by (Some m) at k = (m, at, slice_get_within m.imports s.import i (sym (place_is m.imports s.import) ∙ k))
+    by (Some m) at k = (m, at, slice_get_within m.imports s.import i k)
 
 pub number_at : (lp : List linking.Part) (ts : List Table) (s : linking.Site) (i : Import) (t : Table) → AreTables lp ts → linking.import_at lp s ≡ Some i → slice_get ts s.part ≡ Some t
     → slice_get (linking.sites lp) (t.first_import + s.import) ≡ Some s

@@ -10,7 +10,6 @@ use Rattle.wasm_meaning.specs.World.{defined_before}
 use Rattle.merge_terms.specs.Faults.{own_globals_in, own_globals_from}
 use Rattle.merge_link.specs.Tables.{imports_before}
 use Rattle.path_ends.proofs.Lists.{there}
-use Rattle.merge_link.proofs.Places.{place_is}
 
 pub length-sites_in : (p count n : ℕ) → length (linking.sites_in p count n) ≡ count
 length-sites_in p zero n = refl
@@ -146,4 +145,4 @@ site_there lp n s h =
     let p : r.place ≡ s.part = omega (arith, r.part) in
     let at : linking.module_at lp s.part ≡ Some r.tree = ap (linking.module_at lp) (sym p) ∙ r.at in
     let i = there r.tree.imports s.import r.within in
-    (i.0, rw at (place_is r.tree.imports s.import ∙ i.1))
+    (i.0, rw at i.1)

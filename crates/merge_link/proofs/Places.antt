@@ -1,6 +1,14 @@
 -- Places in lists, and what is looked up by name.
 use Rattle.std.proofs.Common.{◌≡◌, ◌∙◌, sym, ap, refl, ℕ, zero, suc, ◌+◌, ◌-◌, ◌<◌, ◌≤◌, List, [], ◌∷◌, ◌++◌, Some, Bool, true, false, cond, length, drop, get_or, slice_get, nat_eq, arith, inl, inr}
 use Rattle.wasm_tree.specs.declared.space.Space.{Space}
+use Rattle.wasm_tree.specs.declared.space.Space.TheVariants.{Types, Functions, Tables, Memories, Globals, ElementSegments, DataSegments}
+use Rattle.wasm_tree.specs.Operands.{same_space}
+use Rattle.wasm_tree.specs.Spaces.{space_of_import}
+use Rattle.wasm_tree.specs.declared.module.ImportDesc.{ImportDesc}
+use Rattle.wasm_tree.specs.declared.module.ImportDesc.TheVariants as im
+use Rattle.wasm_tree.specs.declared.module.Module.{Module}
+use Rattle.merge_link.specs.declared.tables.Table.{Table}
+use Rattle.merge_link.specs.Tables.{HasPlaces}
 use Rattle.std.specs.Option.{option_map}
 use Rattle.std.specs.Str.{bytes_eq}
 use Rattle.std.proofs.lemmas.List.{drop_more}
@@ -12,11 +20,6 @@ use Rattle.wasm_tree.specs.declared.module.Import.{Import}
 use Rattle.wasm_meaning.specs.Linking as linking
 use Rattle.merge_terms.specs.declared.parts.Part.{Part}
 use Rattle.merge_terms.specs.Parts.{named_modules}
-
-pub place_is : {A : Type 0} (xs : List A) (n : ℕ) → slice_get xs n ≡ slice_get xs n
-place_is [] n = refl
-place_is (x ∷ xs) zero = refl
-place_is (x ∷ xs) (suc n) = place_is xs n
 
 pub module_named : (ps : List Part) (p : ℕ) → linking.module_at (named_modules ps) p ≡ option_map (λ (x : Part). x.«module») (slice_get ps p)
 module_named [] p = refl
@@ -99,3 +102,26 @@ named_step x ps n name = ap (λ b. cond b (Some n) (linking.first_place (linking
 
 pub nothing_at : {A : Type 0} (xs : List A) (n : ℕ) (x : A) → xs ≡ [] → slice_get xs n ≡ Some x → ⊥
 nothing_at xs n x e h = let k = ap (λ ys. slice_get ys n) e in absurd (cc)
+
+-- no import adds to these
+no_import_in : (d : ImportDesc) → (same_space Types (space_of_import d) ≡ false) × (same_space ElementSegments (space_of_import d) ≡ false) × (same_space DataSegments (space_of_import d) ≡ false)
+no_import_in (im.Func t) = (refl, refl, refl)
+no_import_in (im.Table t) = (refl, refl, refl)
+no_import_in (im.Memory l) = (refl, refl, refl)
+no_import_in (im.Global t) = (refl, refl, refl)
+
+no_places : (k : Space) → ((d : ImportDesc) → same_space k (space_of_import d) ≡ false) → (imports : List Import) (n : ℕ) → [] ≡ linking.places (linking.has_kind k) imports n
+no_places k none [] n = refl
+no_places k none (i ∷ imports) n =
+    let rest = linking.places (linking.has_kind k) imports (suc n) in
+    no_places k none imports (suc n) ∙ ap (λ b. cond b (n ∷ rest) rest) (sym (none i.desc))
+
+-- the places of a module's imports, by index space
+pub all_places : (m : Module) (t : Table) → t.funcs.items ≡ linking.imports_of Functions m → t.tables.items ≡ linking.imports_of Tables m → t.memories.items ≡ linking.imports_of Memories m → t.globals.items ≡ linking.imports_of Globals m → HasPlaces m t
+all_places m t funcs tables memories globals Functions = funcs
+all_places m t funcs tables memories globals Tables = tables
+all_places m t funcs tables memories globals Memories = memories
+all_places m t funcs tables memories globals Globals = globals
+all_places m t funcs tables memories globals Types = no_places Types (λ d. (no_import_in d).0) m.imports 0
+all_places m t funcs tables memories globals ElementSegments = no_places ElementSegments (λ d. (no_import_in d).1) m.imports 0
+all_places m t funcs tables memories globals DataSegments = no_places DataSegments (λ d. (no_import_in d).2) m.imports 0

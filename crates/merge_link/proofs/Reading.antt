@@ -29,7 +29,6 @@ use Rattle.merge_link.proofs.Found.{known_at, same_at}
 use Rattle.merge_link.proofs.Joins.{module_past}
 use Rattle.merge_link.proofs.Meets.{part_there}
 use Rattle.merge_link.proofs.Numbers.{got_behind, got_front, length-own_in}
-use Rattle.merge_link.proofs.Places.{place_is}
 use Rattle.merge_link.proofs.Steps.{entry}
 use Rattle.merge_link.proofs.Types.{count_globals}
 use Rattle.wasm_tree.specs.Spaces.{globals_of, imported_globals, index_of_export}
@@ -78,7 +77,7 @@ own_some lp ts e t m are at tree within =
     let z : 0 + e.part ≡ e.part = omega arith in
     let r : faults.OwnGlobal = record { part = 0 + e.part; index = own.0; init = g.0.init } in
     let count : index_of_export e.what - length (linking.imports_of Globals m) ≡ own_place t e = ap (λ (ns : List ℕ). index_of_export e.what - length ns) (sym (x.places Globals)) in
-    let init : linking.initial lp e ≡ Some g.0.init = rw (tree, count) (ap (λ o. option_and_then (λ d. Some d.init) o) (place_is m.globals (own_place t e) ∙ g.1)) in
+    let init : linking.initial lp e ≡ Some g.0.init = rw (tree, count) (ap (λ o. option_and_then (λ d. Some d.init) o) g.1) in
     (r, ap (λ k. slice_get (faults.own_globals lp) (k + own_place t e)) x.first_global ∙ own.1, z, init)
 
 pub own_none : (lp : List linking.Part) (ts : List Table) (e : linking.Entity) (t : Table) (m : Module) → AreTables lp ts → slice_get ts e.part ≡ Some t → linking.module_at lp e.part ≡ Some m
@@ -86,7 +85,7 @@ pub own_none : (lp : List linking.Part) (ts : List Table) (e : linking.Entity) (
 own_none lp ts e t m are at tree past =
     let x = are.right e.part m t tree at in
     let count : index_of_export e.what - length (linking.imports_of Globals m) ≡ own_place t e = ap (λ (ns : List ℕ). index_of_export e.what - length ns) (sym (x.places Globals)) in
-    rw (tree, count) (ap (λ o. option_and_then (λ d. Some d.init) o) (place_is m.globals (own_place t e) ∙ slice_get_past m.globals (own_place t e) past))
+    rw (tree, count) (ap (λ o. option_and_then (λ d. Some d.init) o) (slice_get_past m.globals (own_place t e) past))
 
 pub own_past : (lp : List linking.Part) (ts : List Table) (e : linking.Entity) → AreTables lp ts → length ts ≤ e.part → linking.initial lp e ≡ None
 own_past lp ts e are h = rw (module_past lp e.part (omega (arith, are.one_each))) refl

@@ -24,7 +24,6 @@ use Rattle.merge_link.specs.Globals.{IsOwn, the_read}
 use Rattle.merge_link.specs.Reads.{AreValues, fixed_desc, fixed_read, own_value, read_past}
 use Rattle.merge_link.proofs.Found.{lengths_same, same_at}
 use Rattle.merge_link.proofs.Meets.{part_there}
-use Rattle.merge_link.proofs.Places.{place_is}
 
 -- the value of a defined global that has a number
 pub value_numbered : (ps : List Part) (values : List (Option Read)) (e : linking.Entity) (n : ℕ) (o : Option Read) → AreValues ps values → IsOwn (named_modules ps) e (Some n) → slice_get values n ≡ Some o
@@ -119,7 +118,7 @@ through lp law s i m e at there is end =
     one_step lp law s.part (const.Global x) ∙ ap (λ o. told lp (linking.end_step lp (option_and_then (linking.end_of lp) o))) site ∙ ap (λ o. told lp (linking.end_step lp o)) end ∙ past_end lp e
 
 tree_at : (lp : List linking.Part) (s : linking.Site) (i : Import) (m : Module) → linking.module_at lp s.part ≡ Some m → linking.import_at lp s ≡ Some i → slice_get m.imports s.import ≡ Some i
-tree_at lp s i m at there = sym (place_is m.imports s.import) ∙ sym (ap (λ o. option_and_then (λ t. slice_get t.imports s.import) o) at) ∙ there
+tree_at lp s i m at there = sym (ap (λ o. option_and_then (λ t. slice_get t.imports s.import) o) at) ∙ there
 
 pub fixed_is : (lp : List linking.Part) → ((p : ℕ) (x : ConstExpr) (r : linking.Read) → linking.Reads lp (record { part = p; expr = x }) r ↔ (linking.read_of lp p x ≡ Some r))
     → (s : linking.Site) (i : Import) (e : linking.End) → linking.import_at lp s ≡ Some i → linking.end_of lp s ≡ Some e → fixed_read lp s e ≡ read_at lp s

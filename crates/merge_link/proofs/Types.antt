@@ -19,11 +19,11 @@ use Rattle.wasm_tree.specs.declared.module.GlobalDef.{GlobalDef}
 use Rattle.wasm_tree.specs.declared.module.Module.{Module}
 use Rattle.wasm_tree.specs.Spaces.{func_of, table_of, memory_of, global_of, imported_funcs, imported_tables, imported_memories, imported_globals, funcs_of, index_of_export, space_of_export, space_of_import}
 use Rattle.wasm_meaning.specs.Linking as linking
-use Rattle.wasm_meaning.specs.Values as values
+use Rattle.wasm_tree.specs.SameTypes as types
 use Rattle.merge_terms.specs.Faults as faults
 use Rattle.merge_link.specs.Externals.{own_func, own_table, own_memory, own_global}
 
-pub type_same : (a b : ValType) → (ValTypePartialEq.TheImpl.ghosts).eq a b ≡ values.same_type a b
+pub type_same : (a b : ValType) → (ValTypePartialEq.TheImpl.ghosts).eq a b ≡ types.same_type a b
 type_same valt.I32 valt.I32 = refl
 type_same valt.I32 valt.I64 = refl
 type_same valt.I32 (valt.Ref r) = refl
@@ -37,13 +37,13 @@ type_same (valt.Ref reft.Func) (valt.Ref reft.Extern) = refl
 type_same (valt.Ref reft.Extern) (valt.Ref reft.Func) = refl
 type_same (valt.Ref reft.Extern) (valt.Ref reft.Extern) = refl
 
-pub types_same : (E : ValType → ValType → Bool) → ((a b : ValType) → E a b ≡ values.same_type a b) → (xs ys : List ValType) → pointwise E xs ys ≡ values.same_types xs ys
+pub types_same : (E : ValType → ValType → Bool) → ((a b : ValType) → E a b ≡ types.same_type a b) → (xs ys : List ValType) → pointwise E xs ys ≡ types.same_types xs ys
 types_same E same [] [] = refl
 types_same E same [] (y ∷ ys) = refl
 types_same E same (x ∷ xs) [] = refl
-types_same E same (x ∷ xs) (y ∷ ys) = by (E x y) (values.same_type x y) (same x y) (types_same E same xs ys)
+types_same E same (x ∷ xs) (y ∷ ys) = by (E x y) (types.same_type x y) (same x y) (types_same E same xs ys)
   where
-    by : (a b : Bool) → a ≡ b → pointwise E xs ys ≡ values.same_types xs ys → a && pointwise E xs ys ≡ b && values.same_types xs ys
+    by : (a b : Bool) → a ≡ b → pointwise E xs ys ≡ types.same_types xs ys → a && pointwise E xs ys ≡ b && types.same_types xs ys
     by true true e rest = rest
     by true false e rest = absurd (cc)
     by false true e rest = absurd (cc)

@@ -5,7 +5,7 @@ ghost use Rattle.merge_terms.specs.Faults as faults;
 ghost use Rattle.merge_terms.specs.Parts.{named_modules};
 ghost use Rattle.wasm_tree.specs.Spaces.{index_of_export, space_of_export};
 ghost use Rattle.wasm_meaning.specs.Linking as linking;
-ghost use Rattle.wasm_meaning.specs.Values as values;
+ghost use Rattle.wasm_tree.specs.SameTypes as types;
 ghost use Rattle.wasm_meaning.specs.World as world;
 ghost use Rattle.merge_link.specs.Sites.{IsThere, the_site};
 ghost use Rattle.merge_link.specs.Tables.{HasPlaces};
@@ -29,13 +29,13 @@ pub enum External<'a> {
 }
 
 fn same_types(a: &[ValType], b: &[ValType]) -> bool
-    ensures { result ≡ values.same_types a.now b.now }
+    ensures { result ≡ types.same_types a.now b.now }
 {
     a == b
 }
 
 fn same_func_type(a: &FuncType, b: &FuncType) -> bool
-    ensures { result ≡ values.same_func_type a.now b.now }
+    ensures { result ≡ types.same_func_type a.now b.now }
 {
     same_types(a.params.as_slice(), b.params.as_slice())
         && same_types(a.results.as_slice(), b.results.as_slice())

@@ -1,4 +1,5 @@
-// What is asked of the tables and memories that stay (WebAssembly Core 2.0, section 3.4.12, for several imports of one).
+// What is asked of the tables and memories that stay: limits that all their imports accept (import subtyping, WebAssembly Core 2.0, section 3.2.8, for several
+// imports of one).
 
 ghost use Rattle.std.specs.Prelude.{IfOk, None, Some, map, max, replicate, slice_get, ◌≡◌};
 ghost use Rattle.merge_terms.specs.Faults as faults;

@@ -1,8 +1,10 @@
 // Linking as a whole: the links of parts, or the first fault.
 
 ghost use Rattle.std.specs.Prelude.{IfErr, IfOk, Some, None, length, map, ◌<◌, ◌^◌, ◌≡◌, ◌⊎◌};
+ghost use Rattle.wasm_tree.specs.declared.space.Space.TheVariants.{Globals};
+ghost use Rattle.wasm_meaning.specs.Linking as linking;
+ghost use Rattle.wasm_meaning.specs.World.{defined_before};
 ghost use Rattle.merge_terms.specs.Faults as faults;
-ghost use Rattle.merge_terms.specs.Joined.{FewInAll};
 ghost use Rattle.merge_terms.specs.Linked.{AreLinks};
 ghost use Rattle.merge_terms.specs.Parts.{HaveDistinctNames, named_modules};
 ghost use Rattle.merge_terms.specs.declared.faults.LinkFault.{LinkFault};
@@ -137,7 +139,9 @@ impl<'a> Joining<'a> {
 }
 
 fn link(alloc: Global, parts: &[Part]) -> Result<Result<Links, LinkFault>, AllocError>
-    requires { FewInAll (named_modules parts.now) }
+    requires parts { length parts.now < 2 ^ 32 }
+    requires imports { length (linking.sites (named_modules parts.now)) < 2 ^ 32 }
+    requires globals { defined_before Globals (named_modules parts.now) (length parts.now) < 2 ^ 32 }
     ensures { IfOk result (IsOutcome (named_modules parts.now)) }
 {
     let sites = all_sites(alloc, parts)?;
@@ -158,7 +162,9 @@ fn link(alloc: Global, parts: &[Part]) -> Result<Result<Links, LinkFault>, Alloc
 /// globals that have no end.
 pub fn resolve(alloc: Global, parts: &Items<Part>) -> Result<Links, LinkFault>
     requires names { HaveDistinctNames parts.now }
-    requires few { FewInAll (named_modules parts.now) }
+    requires parts { length parts.now < 2 ^ 32 }
+    requires imports { length (linking.sites (named_modules parts.now)) < 2 ^ 32 }
+    requires globals { defined_before Globals (named_modules parts.now) (length parts.now) < 2 ^ 32 }
     ensures links { IfOk result (AreLinks (named_modules parts.now)) }
     ensures linked { IfOk result (λ links. faults.link_fault (named_modules parts.now) ≡ None) }
     ensures fault { IfErr result (λ f. (f ≡ LinkFault.NoMemory) ⊎ (faults.link_fault (named_modules parts.now) ≡ Some f)) }

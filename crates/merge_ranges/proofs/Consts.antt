@@ -1,5 +1,7 @@
 -- The constant expressions of a merged module have numbers that stand in some part.
 use Rattle.std.proofs.Common.{◌≡◌, ℕ, zero, suc, ◌-◌, List, length, Option, Some, None, refl, subst, option_and_then, slice_get, unwrap_or}
+use Rattle.base_lists.proofs.Options.{and_then_is}
+use Rattle.base_lists.proofs.Each.{every_at}
 use Rattle.wasm_tree.specs.declared.space.Space.TheVariants.{Globals}
 use Rattle.wasm_tree.specs.declared.module.ConstExpr.{ConstExpr}
 use Rattle.wasm_tree.specs.declared.module.ConstExpr.TheVariants as const
@@ -19,7 +21,7 @@ use Rattle.index_remap.specs.Renumbered.{new_const}
 use Rattle.merge_terms.specs.Merged.{map_of, merged_read, merged_const, merged_global, merged_elem_mode, merged_elem, merged_data_mode, merged_data}
 use Rattle.plain_law.specs.Ranges.{ConstInRange, ElemModeInRange, ElemInRange, DataModeInRange, InRange}
 use Rattle.merge_ranges.proofs.Numbers.{ConstNumberInRange, ElemOffsetInRange, ElemNumbersInRange, DataOffsetInRange}
-use Rattle.merge_ranges.proofs.Lists.{every_map, every_place, from_some, at_part}
+use Rattle.merge_ranges.proofs.Lists.{every_map, at_part}
 use Rattle.merge_ranges.proofs.Limits.{PartsInRange}
 
 pub number_of : (e : ConstExpr) → ConstInRange e → ConstNumberInRange e
@@ -43,15 +45,15 @@ StepIn (Some (Ends r)) = ConstNumberInRange r.expr
 StepIn (Some (Goes r)) = ConstNumberInRange r.expr
 
 initial_in : (parts : List Part) → PartsInRange parts → (e : Entity) (expr : ConstExpr) → initial parts e ≡ Some expr → ConstNumberInRange expr
-initial_in parts h e expr is = in_module (from_some (module_at parts e.part) _ expr is)
+initial_in parts h e expr is = in_module (and_then_is (module_at parts e.part) _ expr is)
   where
     in_module : (m : Module) × (module_at parts e.part ≡ Some m) × (option_and_then (λ (g : GlobalDef). Some g.init) (slice_get m.globals (index_of_export e.what - length (imports_of Globals m))) ≡ Some expr) → ConstNumberInRange expr
-    in_module (m, there, f) = in_globals (from_some (slice_get m.globals (index_of_export e.what - length (imports_of Globals m))) (λ (g : GlobalDef). Some g.init) expr f)
+    in_module (m, there, f) = in_globals (and_then_is (slice_get m.globals (index_of_export e.what - length (imports_of Globals m))) (λ (g : GlobalDef). Some g.init) expr f)
       where
         in_globals : (g : GlobalDef) × (slice_get m.globals (index_of_export e.what - length (imports_of Globals m)) ≡ Some g) × (◌≡◌ {A = Option ConstExpr} (Some g.init) (Some expr)) → ConstNumberInRange expr
         in_globals (g, at, same) =
             let is_it : g.init ≡ expr = cc in
-            number_of expr (subst ConstInRange is_it (every_place (λ (x : GlobalDef). ConstInRange x.init) m.globals _ g (at_part InRange parts e.part m h there).globals at))
+            number_of expr (subst ConstInRange is_it (every_at (λ (x : GlobalDef). ConstInRange x.init) m.globals _ g (at_part InRange parts e.part m h there).globals at))
 
 goes_in : (part : ℕ) (o : Option ConstExpr) → ((expr : ConstExpr) → o ≡ Some expr → ConstNumberInRange expr) → StepIn (option_and_then (λ expr. Some (Goes (record { part = part; expr = expr }))) o)
 goes_in part None f = tt

@@ -2,6 +2,9 @@
 use Rattle.std.proofs.Common.{◌≡◌, ℕ, zero, suc, ◌<◌, ◌^◌, Bool, true, false, IsTrue, nat_lt, List, [], ◌∷◌, map, length, Option, Some, None, refl, sym, ap, ◌∙◌, subst, arith}
 use Rattle.std.specs.Prelude.{slice_get, option_and_then, IsUtf8}
 use Rattle.std.proofs.lemmas.Bool.Decides.{nat_tests}
+use Rattle.std.proofs.lemmas.Option.{slice_get_within}
+use Rattle.std.proofs.lemmas.List.{length-map}
+use Rattle.std.proofs.lemmas.Bool.{and_from}
 use Rattle.wasm_tree.specs.declared.types.FuncType.{FuncType}
 use Rattle.wasm_tree.specs.declared.types.TableType.{TableType}
 use Rattle.wasm_tree.specs.declared.types.ValType.{ValType}
@@ -24,6 +27,8 @@ use Rattle.wasm_tree.specs.declared.module.Func.{Func}
 use Rattle.wasm_tree.specs.declared.module.Module.{Module}
 use Rattle.wasm_tree.specs.Spaces.{funcs_of, tables_of, globals_of}
 use Rattle.wasm_tree.specs.Bounds.{IsBounded}
+use Rattle.wasm_tree.specs.OperandLaws.{PassesLayerByLayer}
+use Rattle.wasm_tree.specs.Operands.{all_operands_pass}
 use Rattle.wasm_typing.specs.Typing.{only}
 use Rattle.wasm_valid.specs.declared.kinds.ItemKind.{ItemKind}
 use Rattle.wasm_valid.specs.declared.kinds.ItemKind.TheVariants as kind
@@ -33,32 +38,23 @@ use Rattle.wasm_valid.specs.Named.{refs_of, named_from, named_of}
 use Rattle.wasm_valid.specs.Validity.{ImportHolds, InSpace, ElemModeHolds, DataModeHolds, IsSingle, HoldsAt, start_count, count_of, body_context}
 use Rattle.base_lists.specs.Every.{Every}
 use Rattle.wasm_tree.specs.declared.types.ValType.TheVariants.{Ref}
-use Rattle.plain_law.specs.Ranges.{all_in_range, MaxInRange, ConstInRange, ImportDescInRange, ImportInRange, ExportDescInRange, ExportInRange, ElemModeInRange, ElemInRange, DataModeInRange, FuncInRange, InRange}
-use Rattle.merge_ranges.proofs.Numbers.{all_numbers_in, ConstNumberInRange, ImportLimitsInRange, ImportNumbersInRange, FuncNumbersInRange, ElemOffsetInRange, ElemNumbersInRange, DataOffsetInRange, NumbersInRange}
-use Rattle.merge_ranges.proofs.BodyRanges.{IsSmall, body_in}
+use Rattle.plain_law.specs.Ranges.{small_operand, all_numbers_in, MaxInRange, ConstInRange, ImportDescInRange, ImportInRange, ExportDescInRange, ExportInRange, ElemModeInRange, ElemInRange, DataModeInRange, FuncInRange, InRange}
+use Rattle.merge_ranges.proofs.Numbers.{ConstNumberInRange, ImportLimitsInRange, ImportNumbersInRange, FuncNumbersInRange, ElemOffsetInRange, ElemNumbersInRange, DataOffsetInRange, NumbersInRange}
+use Rattle.merge_ranges.proofs.BodyRanges.{IsSmall, body_small}
 
 -- each item holds
 abbrev pub ItemsHold : Module → Type 0
 ItemsHold m = (k : ItemKind) (i : ℕ) → i < count_of m true k → HoldsAt m k i
 
-there : {A : Type 0} (xs : List A) (n : ℕ) (x : A) → slice_get xs n ≡ Some x → n < length xs
-there [] n x e = cc
-there (y ∷ ys) zero x e = omega arith
-there (y ∷ ys) (suc n) x e = omega (arith, there ys n x e)
-
 -- what is so of each, at its place, is so of every one
-pub every_at : {A : Type 0} (P Q : A → Type 0) (xs : List A) → Every P xs → ((i : ℕ) (x : A) → slice_get xs i ≡ Some x → P x → Q x) → Every Q xs
-every_at P Q [] h f = tt
-every_at P Q (x ∷ xs) h f = (f 0 x refl h.0, every_at P Q xs h.1 (λ i y e p. f (suc i) y e p))
-
-as_long : {A B : Type 0} (f : A → B) (xs : List A) → length (map f xs) ≡ length xs
-as_long f [] = refl
-as_long f (x ∷ xs) = ap suc (as_long f xs)
+pub every_from : {A : Type 0} (P Q : A → Type 0) (xs : List A) → Every P xs → ((i : ℕ) (x : A) → slice_get xs i ≡ Some x → P x → Q x) → Every Q xs
+every_from P Q [] h f = tt
+every_from P Q (x ∷ xs) h f = (f 0 x refl h.0, every_from P Q xs h.1 (λ i y e p. f (suc i) y e p))
 
 some_is : {A : Type 0} (x y : A) → Some x ≡ Some y → x ≡ y
 some_is x y e = cc
 
-module _ (m : Module) (holds : ItemsHold m) (single : IsSingle m) (few : IsBounded m) where
+module _ (layers : PassesLayerByLayer) (m : Module) (holds : ItemsHold m) (single : IsSingle m) (few : IsBounded m) where
   -- ---- constant expressions
 
   func_there : (f : ℕ) (o : Option ValType) (t : ValType) → only (nat_lt f (length (funcs_of m))) o ≡ Some t → f < 2 ^ 32
@@ -73,7 +69,7 @@ module _ (m : Module) (holds : ItemsHold m) (single : IsSingle m) (few : IsBound
     where
       by_case : (o : Option _) → slice_get xs n ≡ o → option_and_then f o ≡ Some t → n < 2 ^ 32
       by_case None is k = absurd (cc)
-      by_case (Some x) is k = let less : n < length xs = there xs n x is in omega arith
+      by_case (Some x) is k = let less : n < length xs = slice_get_within xs n x is in omega arith
 
   const_in : (e : ConstExpr) (t : ValType) → const_type m e ≡ Some t → ConstNumberInRange e → ConstInRange e
   const_in (const.I32 z) t h n = n
@@ -91,7 +87,7 @@ module _ (m : Module) (holds : ItemsHold m) (single : IsSingle m) (few : IsBound
   desc_in (import.Global g) h n = tt
 
   import_in : (i : ℕ) (x : Import) → slice_get m.imports i ≡ Some x → ImportNumbersInRange x → ImportInRange x
-  import_in i x e n = (n.0, n.1, from_held (holds kind.Import i (there m.imports i x e)))
+  import_in i x e n = (n.0, n.1, from_held (holds kind.Import i (slice_get_within m.imports i x e)))
     where
       from_held : HoldsAt m kind.Import i → ImportDescInRange x.desc
       from_held (y, f, h) = desc_in x.desc (subst (λ z. ImportHolds m z.desc) (some_is y x (sym f ∙ e)) h) n.2
@@ -103,7 +99,7 @@ module _ (m : Module) (holds : ItemsHold m) (single : IsSingle m) (few : IsBound
   space_in (export.Global x) h = omega (arith, few.globals)
 
   export_in : (i : ℕ) (x : Export) → slice_get m.exports i ≡ Some x → IsUtf8 x.name → ExportInRange x
-  export_in i x e n = (n, from_held (holds kind.Export i (there m.exports i x e)))
+  export_in i x e n = (n, from_held (holds kind.Export i (slice_get_within m.exports i x e)))
     where
       from_held : HoldsAt m kind.Export i → ExportDescInRange x.desc
       from_held (y, f, space, new) = space_in x.desc (subst (λ z. InSpace m z.desc) (some_is y x (sym f ∙ e)) space)
@@ -111,7 +107,7 @@ module _ (m : Module) (holds : ItemsHold m) (single : IsSingle m) (few : IsBound
   -- ---- globals and segments
 
   global_in : (i : ℕ) (x : GlobalDef) → slice_get m.globals i ≡ Some x → ConstNumberInRange x.init → ConstInRange x.init
-  global_in i x e n = from_held (holds kind.Global i (there m.globals i x e))
+  global_in i x e n = from_held (holds kind.Global i (slice_get_within m.globals i x e))
     where
       from_held : HoldsAt m kind.Global i → ConstInRange x.init
       from_held (y, f, typed) = const_in x.init x.ty.ty (subst (λ z. const_type m z.init ≡ Some z.ty.ty) (some_is y x (sym f ∙ e)) typed) n
@@ -119,8 +115,8 @@ module _ (m : Module) (holds : ItemsHold m) (single : IsSingle m) (few : IsBound
   table_there : (table : ℕ) (o : Option _) → slice_get (table_types m) table ≡ o → (o ≡ None → ⊥) → table < 2 ^ 32
   table_there table None e some = absurd (some refl)
   table_there table (Some ty) e some =
-      let less : table < length (table_types m) = there (table_types m) table ty e in
-      let same : length (table_types m) ≡ length (tables_of m) = as_long (λ (t : TableType). t.ty) (tables_of m) in
+      let less : table < length (table_types m) = slice_get_within (table_types m) table ty e in
+      let same : length (table_types m) ≡ length (tables_of m) = length-map (tables_of m) (λ (t : TableType). t.ty) in
       omega (arith, few.tables)
 
   elem_mode_in : (ty : _) (mode : ElemMode) → ElemModeHolds m ty mode → ElemOffsetInRange mode → ElemModeInRange mode
@@ -129,20 +125,20 @@ module _ (m : Module) (holds : ItemsHold m) (single : IsSingle m) (few : IsBound
   elem_mode_in ty elem.Declarative h n = tt
 
   elem_in : (i : ℕ) (x : ElemSeg) → slice_get m.elems i ≡ Some x → ElemNumbersInRange x → ElemInRange x
-  elem_in i x e n = from_held (holds kind.Elem i (there m.elems i x e))
+  elem_in i x e n = from_held (holds kind.Elem i (slice_get_within m.elems i x e))
     where
       from_held : HoldsAt m kind.Elem i → ElemInRange x
       from_held (y, f, items, mode) =
           let same = some_is y x (sym f ∙ e) in
           let items' = subst (λ (z : ElemSeg). (j : ℕ) (e : ConstExpr) → slice_get z.items j ≡ Some e → const_type m e ≡ Some (Ref z.ty)) same items in
-          (elem_mode_in x.ty x.mode (subst (λ (z : ElemSeg). ElemModeHolds m z.ty z.mode) same mode) n.0, every_at ConstNumberInRange ConstInRange x.items n.1 (λ j c g k. const_in c _ (items' j c g) k))
+          (elem_mode_in x.ty x.mode (subst (λ (z : ElemSeg). ElemModeHolds m z.ty z.mode) same mode) n.0, every_from ConstNumberInRange ConstInRange x.items n.1 (λ j c g k. const_in c _ (items' j c g) k))
 
   data_mode_in : (mode : DataMode) → DataModeHolds m mode → DataOffsetInRange mode → DataModeInRange mode
   data_mode_in (segment.Active memory offset) h n = (omega (arith, few.memories, h.0), const_in offset _ h.1 n)
   data_mode_in segment.Passive h n = tt
 
   data_in : (i : ℕ) (x : DataSeg) → slice_get m.datas i ≡ Some x → DataOffsetInRange x.mode → DataModeInRange x.mode
-  data_in i x e n = from_held (holds kind.Segment i (there m.datas i x e))
+  data_in i x e n = from_held (holds kind.Segment i (slice_get_within m.datas i x e))
     where
       from_held : HoldsAt m kind.Segment i → DataModeInRange x.mode
       from_held (y, f, mode) = data_mode_in x.mode (subst (λ z. DataModeHolds m z.mode) (some_is y x (sym f ∙ e)) mode) n
@@ -151,7 +147,7 @@ module _ (m : Module) (holds : ItemsHold m) (single : IsSingle m) (few : IsBound
 
   func_type_there : (f : ℕ) (o : Option ℕ) (t : FuncType) → slice_get (funcs_of m) f ≡ o → option_and_then (slice_get m.types) o ≡ Some t → f < 2 ^ 32
   func_type_there f None t e h = absurd (cc)
-  func_type_there f (Some ty) t e h = let less : f < length (funcs_of m) = there (funcs_of m) f ty e in omega (arith, few.funcs)
+  func_type_there f (Some ty) t e h = let less : f < length (funcs_of m) = slice_get_within (funcs_of m) f ty e in omega (arith, few.funcs)
 
   start_in : (start : Option ℕ) → m.start ≡ start → MaxInRange start
   start_in None e = tt
@@ -171,33 +167,33 @@ module _ (m : Module) (holds : ItemsHold m) (single : IsSingle m) (few : IsBound
   small_context f t = record {
     types = few.types;
     funcs = few.funcs;
-    tables = let same : length (table_types m) ≡ length (tables_of m) = as_long (λ (t : TableType). t.ty) (tables_of m) in omega (arith, few.tables);
+    tables = let same : length (table_types m) ≡ length (tables_of m) = length-map (tables_of m) (λ (t : TableType). t.ty) in omega (arith, few.tables);
     memories = single;
     globals = few.globals;
-    elems = let same : length (elem_types m.elems) ≡ length m.elems = as_long (λ (s : ElemSeg). s.ty) m.elems in omega (arith, few.elems);
+    elems = let same : length (elem_types m.elems) ≡ length m.elems = length-map m.elems (λ (s : ElemSeg). s.ty) in omega (arith, few.elems);
     datas = few.datas;
     named = let same : length (named_of m) ≡ length (funcs_of m) = length_named (refs_of m) 0 (length (funcs_of m)) in omega (arith, few.funcs);
   }
 
   func_in : (i : ℕ) (x : Func) → slice_get m.funcs i ≡ Some x → FuncNumbersInRange x → FuncInRange x
-  func_in i x e n = from_held (holds kind.Body i (there m.funcs i x e))
+  func_in i x e n = from_held (holds kind.Body i (slice_get_within m.funcs i x e))
     where
       from_held : HoldsAt m kind.Body i → FuncInRange x
       from_held (y, t, f, type_is, (last, l, matched)) =
           let same = some_is y x (sym f ∙ e) in
-          let less : y.ty < length m.types = there m.types y.ty t type_is in
+          let less : y.ty < length m.types = slice_get_within m.types y.ty t type_is in
           let bounded : y.ty < 2 ^ 32 = omega (arith, few.types) in
-          (subst (λ (z : Func). z.ty < 2 ^ 32) same bounded, n.0, subst (λ (z : Func). IsTrue (all_in_range z.body)) same (body_in (body_context m y t) (small_context y t) y.body _ last l (subst (λ (z : Func). IsTrue (all_numbers_in z.body)) (sym same) n.1)))
+          (subst (λ (z : Func). z.ty < 2 ^ 32) same bounded, n.0, and_from (all_operands_pass small_operand x.body) (all_numbers_in x.body) (subst (λ (z : Func). all_operands_pass small_operand z.body ≡ true) same (body_small layers (body_context m y t) (small_context y t) y.body _ last l)) n.1)
 
   pub tree_in : NumbersInRange m → InRange m
   tree_in n = record {
-    imports = every_at ImportNumbersInRange ImportInRange m.imports n.imports import_in;
-    funcs = every_at FuncNumbersInRange FuncInRange m.funcs n.funcs func_in;
+    imports = every_from ImportNumbersInRange ImportInRange m.imports n.imports import_in;
+    funcs = every_from FuncNumbersInRange FuncInRange m.funcs n.funcs func_in;
     tables = n.tables;
     mems = n.mems;
-    globals = every_at (λ (g : GlobalDef). ConstNumberInRange g.init) (λ (g : GlobalDef). ConstInRange g.init) m.globals n.globals global_in;
-    exports = every_at (λ (e : Export). IsUtf8 e.name) ExportInRange m.exports n.exports export_in;
+    globals = every_from (λ (g : GlobalDef). ConstNumberInRange g.init) (λ (g : GlobalDef). ConstInRange g.init) m.globals n.globals global_in;
+    exports = every_from (λ (e : Export). IsUtf8 e.name) ExportInRange m.exports n.exports export_in;
     start = start_in m.start refl;
-    elems = every_at ElemNumbersInRange ElemInRange m.elems n.elems elem_in;
-    datas = every_at (λ (s : DataSeg). DataOffsetInRange s.mode) (λ (s : DataSeg). DataModeInRange s.mode) m.datas n.datas data_in;
+    elems = every_from ElemNumbersInRange ElemInRange m.elems n.elems elem_in;
+    datas = every_from (λ (s : DataSeg). DataOffsetInRange s.mode) (λ (s : DataSeg). DataModeInRange s.mode) m.datas n.datas data_in;
   }

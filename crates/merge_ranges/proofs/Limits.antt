@@ -1,5 +1,7 @@
 -- The limits of what stays imported are in range.
 use Rattle.std.proofs.Common.{◌≡◌, ℕ, ◌<◌, ◌^◌, Bool, true, false, cond, List, [], ◌∷◌, Option, Some, None, refl, subst, arith, max, min, option_and_then, slice_get}
+use Rattle.base_lists.proofs.Options.{and_then_is}
+use Rattle.base_lists.proofs.Each.{every_at}
 use Rattle.wasm_tree.specs.declared.types.Limits.{Limits}
 use Rattle.wasm_tree.specs.declared.module.ImportDesc.{ImportDesc}
 use Rattle.wasm_tree.specs.declared.module.ImportDesc.TheVariants as im
@@ -8,16 +10,16 @@ use Rattle.wasm_tree.specs.declared.module.Module.{Module}
 use Rattle.base_lists.specs.Every.{Every}
 use Rattle.wasm_meaning.specs.Linking.{Part, Site, module_at, import_at, sites, linked_end, is_outside, limits_of, consed, demands, least, met, met_limits}
 use Rattle.plain_law.specs.Ranges.{MaxInRange, LimitsInRange, ImportDescInRange, ImportInRange, InRange}
-use Rattle.merge_ranges.proofs.Lists.{every_place, from_some, at_part}
+use Rattle.merge_ranges.proofs.Lists.{at_part}
 
 abbrev pub PartsInRange : List Part → Type 0
 PartsInRange = Every (λ (p : Part). InRange p.«module»)
 
 pub import_in : (parts : List Part) → PartsInRange parts → (s : Site) (i : Import) → import_at parts s ≡ Some i → ImportInRange i
-import_in parts h s i e = found (from_some (module_at parts s.part) (λ (m : Module). slice_get m.imports s.import) i e)
+import_in parts h s i e = found (and_then_is (module_at parts s.part) (λ (m : Module). slice_get m.imports s.import) i e)
   where
     found : (m : Module) × (module_at parts s.part ≡ Some m) × (slice_get m.imports s.import ≡ Some i) → ImportInRange i
-    found (m, there, is) = every_place ImportInRange m.imports s.import i (at_part InRange parts s.part m h there).imports is
+    found (m, there, is) = every_at ImportInRange m.imports s.import i (at_part InRange parts s.part m h there).imports is
 
 limits_in : (d : ImportDesc) (l : Limits) → limits_of d ≡ Some l → ImportDescInRange d → LimitsInRange l
 limits_in (im.Func t) l e h = absurd (cc)
@@ -26,7 +28,7 @@ limits_in (im.Memory k) l e h = let same : k ≡ l = cc in subst LimitsInRange s
 limits_in (im.Global g) l e h = absurd (cc)
 
 demanded_in : (parts : List Part) → PartsInRange parts → (t : Site) (l : Limits) → option_and_then (λ (i : Import). limits_of i.desc) (import_at parts t) ≡ Some l → LimitsInRange l
-demanded_in parts h t l e = found (from_some (import_at parts t) (λ (i : Import). limits_of i.desc) l e)
+demanded_in parts h t l e = found (and_then_is (import_at parts t) (λ (i : Import). limits_of i.desc) l e)
   where
     found : (i : Import) × (import_at parts t ≡ Some i) × (limits_of i.desc ≡ Some l) → LimitsInRange l
     found (i, there, is) = limits_in i.desc l is (import_in parts h t i there).2

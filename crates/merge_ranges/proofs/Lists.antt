@@ -1,6 +1,8 @@
 -- What is so of each part is so of what is looked up in the parts.
 use Rattle.std.proofs.Common.{◌≡◌, ℕ, zero, suc, List, [], ◌∷◌, ◌++◌, map, Option, Some, None, refl, subst, option_and_then, slice_get}
 use Rattle.std.specs.List.{filter_map, flat_map, cons_option}
+use Rattle.base_lists.proofs.Options.{and_then_is}
+use Rattle.base_lists.proofs.Each.{every_at}
 use Rattle.wasm_tree.specs.declared.module.Module.{Module}
 use Rattle.base_lists.specs.Every.{Every}
 use Rattle.wasm_meaning.specs.Linking.{Part, module_at}
@@ -22,21 +24,11 @@ every_some Q f keep (x ∷ xs) = with_first Q f xs (f x) (λ y e. keep x y e) (e
     with_first Q f xs None keep h = h
     with_first Q f xs (Some y) keep h = (keep y refl, h)
 
-pub every_place : {A : Type 0} (P : A → Type 0) (xs : List A) (n : ℕ) (x : A) → Every P xs → slice_get xs n ≡ Some x → P x
-every_place P [] n x h e = absurd (cc)
-every_place P (y ∷ ys) zero x h e = let same : y ≡ x = cc in subst P same h.0
-every_place P (y ∷ ys) (suc n) x h e = every_place P ys n x h.1 e
-
--- what comes of a look-up has a first step
-pub from_some : {A B : Type 0} (o : Option A) (f : A → Option B) (y : B) → option_and_then f o ≡ Some y → (x : A) × (o ≡ Some x) × (f x ≡ Some y)
-from_some None f y e = absurd (cc)
-from_some (Some x) f y e = (x, refl, e)
-
 pub at_part : (P : Module → Type 0) (parts : List Part) (p : ℕ) (m : Module) → Every (λ (q : Part). P q.«module») parts → module_at parts p ≡ Some m → P m
-at_part P parts p m h e = found (from_some (slice_get parts p) (λ (q : Part). Some q.«module») m e)
+at_part P parts p m h e = found (and_then_is (slice_get parts p) (λ (q : Part). Some q.«module») m e)
   where
     found : (q : Part) × (slice_get parts p ≡ Some q) × (◌≡◌ {A = Option Module} (Some q.«module») (Some m)) → P m
-    found (q, there, is) = let same : q.«module» ≡ m = cc in subst P same (every_place (λ (r : Part). P r.«module») parts p q h there)
+    found (q, there, is) = let same : q.«module» ≡ m = cc in subst P same (every_at (λ (r : Part). P r.«module») parts p q h there)
 
 pub every_by_part : {A : Type 0} (P : Module → Type 0) (Q : A → Type 0) (f : ℕ → Module → List A) → ((p : ℕ) (m : Module) → P m → Every Q (f p m)) → (n : ℕ) (parts : List Part)
     → Every (λ (q : Part). P q.«module») parts → Every Q (by_part_from f n parts)

@@ -1,6 +1,7 @@
 -- The merged module keeps the numbers of its parts.
 use Rattle.std.proofs.Common.{◌≡◌, ℕ, List, [], ◌∷◌, map, Option, Some, subst, option_and_then}
 use Rattle.std.specs.Prelude.{IsUtf8}
+use Rattle.base_lists.proofs.Options.{and_then_is}
 use Rattle.wasm_tree.specs.declared.types.TableType.{TableType}
 use Rattle.wasm_tree.specs.declared.module.ConstExpr.TheVariants as const
 use Rattle.wasm_tree.specs.declared.module.ImportDesc.{ImportDesc}
@@ -22,13 +23,13 @@ use Rattle.merge_terms.specs.Merged.{staying, map_of, merged_desc, merged_import
 use Rattle.merge_terms.specs.Joined.{joined_module}
 use Rattle.plain_law.specs.Ranges.{LimitsInRange, ConstInRange, ExportInRange, ElemInRange, DataModeInRange, FuncInRange, InRange}
 use Rattle.merge_ranges.proofs.Numbers.{ConstNumberInRange, ImportLimitsInRange, ImportNumbersInRange, FuncNumbersInRange, ElemNumbersInRange, DataOffsetInRange, NumbersInRange}
-use Rattle.merge_ranges.proofs.Bodies.{body_keeps, calls_in}
-use Rattle.merge_ranges.proofs.Lists.{every_append, every_map, every_some, from_some, every_by_part, every_flat}
+use Rattle.merge_ranges.proofs.Bodies.{NumbersStay, body_keeps, calls_in}
+use Rattle.merge_ranges.proofs.Lists.{every_append, every_map, every_some, every_by_part, every_flat}
 use Rattle.merge_ranges.proofs.Limits.{PartsInRange, import_in, met_limits_in}
 use Rattle.merge_ranges.proofs.Consts.{global_in, elem_in, data_in}
 use Rattle.merge_ranges.proofs.Names.{new_names_in, named_in}
 
-module _ (parts : List Part) (h : PartsInRange parts) where
+module _ (stay : NumbersStay) (parts : List Part) (h : PartsInRange parts) where
   -- ---- imports
 
   desc_in : (s : Site) (m : Module) (d : ImportDesc) → ImportLimitsInRange (merged_desc parts s m d)
@@ -39,10 +40,10 @@ module _ (parts : List Part) (h : PartsInRange parts) where
 
   import_numbers : (s : Site) (x : Import) → merged_import parts s ≡ Some x → ImportNumbersInRange x
   unfolding merged_import
-  import_numbers s x e = in_module (from_some (module_at parts s.part) _ x e)
+  import_numbers s x e = in_module (and_then_is (module_at parts s.part) _ x e)
     where
       in_module : (m : Module) × (module_at parts s.part ≡ Some m) × (option_and_then (λ i. Some (record i { desc = merged_desc parts s m i.desc })) (import_at parts s) ≡ Some x) → ImportNumbersInRange x
-      in_module (m, there, f) = in_import (from_some (import_at parts s) (λ i. Some (record i { desc = merged_desc parts s m i.desc })) x f)
+      in_module (m, there, f) = in_import (and_then_is (import_at parts s) (λ i. Some (record i { desc = merged_desc parts s m i.desc })) x f)
         where
           in_import : (i : Import) × (import_at parts s ≡ Some i) × (◌≡◌ {A = Option Import} (Some (record i { desc = merged_desc parts s m i.desc })) (Some x)) → ImportNumbersInRange x
           in_import (i, at, is) =
@@ -53,7 +54,7 @@ module _ (parts : List Part) (h : PartsInRange parts) where
   -- ---- functions
 
   func_numbers : (r : Remap) (f : Func) → FuncInRange f → FuncNumbersInRange (new_func r f)
-  func_numbers r f k = (k.1, body_keeps r f.body k.2)
+  func_numbers r f k = (k.1, body_keeps stay r f.body k.2)
 
   defined_numbers : Every FuncNumbersInRange (defined_funcs parts)
   unfolding defined_funcs
@@ -108,6 +109,6 @@ declared_numbers m (f ∷ fs) k = record {
   datas = k.datas;
 }
 
-pub joined_numbers : (parts : List Part) (mode : Mode) → PartsInRange parts → NumbersInRange (joined_module parts mode)
+pub joined_numbers : NumbersStay → (parts : List Part) (mode : Mode) → PartsInRange parts → NumbersInRange (joined_module parts mode)
 unfolding joined_module
-joined_numbers parts mode h = declared_numbers (merged parts (new_names mode (export_names parts))) (declared_refs (merged parts (new_names mode (export_names parts)))) (merged_numbers parts h mode)
+joined_numbers stay parts mode h = declared_numbers (merged parts (new_names mode (export_names parts))) (declared_refs (merged parts (new_names mode (export_names parts)))) (merged_numbers stay parts h mode)

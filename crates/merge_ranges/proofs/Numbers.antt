@@ -1,9 +1,6 @@
 -- What validity does not bound: the numbers of a tree that are no indices of its index spaces, and its names.
-use Rattle.std.specs.Prelude.{List, map, Bool, true, ◌&&◌, IsTrue, IsUtf8}
+use Rattle.std.specs.Prelude.{IsTrue, IsUtf8}
 use Rattle.wasm_bytes.specs.Numbers.{IsWithin}
-use Rattle.wasm_tree.specs.declared.instr.MemArg.{MemArg}
-use Rattle.wasm_tree.specs.declared.instr.Instr.{Instr, fold-Instr}
-use Rattle.wasm_tree.specs.declared.instr.Instr.TheOpen.{Instr-F}
 use Rattle.wasm_tree.specs.declared.types.TableType.{TableType}
 use Rattle.wasm_tree.specs.declared.module.ImportDesc.{ImportDesc}
 use Rattle.wasm_tree.specs.declared.module.ImportDesc.TheVariants as import
@@ -22,33 +19,7 @@ use Rattle.wasm_tree.specs.declared.module.LocalGroup.{LocalGroup}
 use Rattle.wasm_tree.specs.declared.module.Func.{Func}
 use Rattle.wasm_tree.specs.declared.module.Module.{Module}
 use Rattle.base_lists.specs.Every.{Every}
-use Rattle.plain_law.specs.Ranges.{small, small_signed, all_true, IsU32, LimitsInRange}
-
--- labels, locals, constants, alignments and offsets
-abbrev pub small_access : MemArg → Bool
-small_access a = small a.align && small a.offset
-
-abbrev pub number_step : Instr-F Bool → Bool
-number_step (Instr-F.Block ty body) = all_true body
-number_step (Instr-F.Loop ty body) = all_true body
-number_step (Instr-F.If ty body other) = all_true body && all_true other
-number_step (Instr-F.Br x) = small x
-number_step (Instr-F.BrIf x) = small x
-number_step (Instr-F.BrTable xs y) = all_true (map small xs) && small y
-number_step (Instr-F.LocalGet x) = small x
-number_step (Instr-F.LocalSet x) = small x
-number_step (Instr-F.LocalTee x) = small x
-number_step (Instr-F.Load op arg) = small_access arg
-number_step (Instr-F.Store op arg) = small_access arg
-number_step (Instr-F.I32Const z) = small_signed 31 z
-number_step (Instr-F.I64Const z) = small_signed 63 z
-number_step _ = true
-
-abbrev pub numbers_in : Instr → Bool
-numbers_in = fold-Instr Bool number_step
-
-abbrev pub all_numbers_in : List Instr → Bool
-all_numbers_in is = all_true (map numbers_in is)
+use Rattle.plain_law.specs.Ranges.{all_numbers_in, IsU32, LimitsInRange}
 
 abbrev pub ConstNumberInRange : ConstExpr → Type 0
 ConstNumberInRange (const.I32 z) = IsWithin 32 z

@@ -10,6 +10,8 @@ ghost use Rattle.export_names.specs.declared.mode.Mode.{Mode};
 ghost use Rattle.merge_terms.specs.Joined.{joined_module};
 ghost use Rattle.plain_law.specs.Ranges.{InRange};
 
+use plain_law::other_numbers_stay;
+use wasm_tree::operands_pass_layer_by_layer;
 use wasm_valid::valid_where_items_hold;
 
 /// Where the parts of a merge have their numbers in range and their names in UTF-8, so has the merged module, if it is valid and has at
@@ -20,4 +22,6 @@ pub fn merged_modules_are_in_range()
         → InRange (joined_module parts mode) }
 {
     valid_where_items_hold();
+    operands_pass_layer_by_layer();
+    other_numbers_stay();
 }

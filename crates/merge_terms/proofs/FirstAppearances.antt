@@ -10,9 +10,10 @@ use Rattle.wasm_tree.specs.declared.types.ValType.{ValType}
 use Rattle.wasm_tree.specs.declared.types.ValType.TheVariants as valt
 use Rattle.wasm_tree.specs.declared.types.RefType.TheVariants as reft
 use Rattle.wasm_tree.specs.declared.module.Module.{Module}
-use Rattle.wasm_meaning.specs.Values.{same_type, same_types, same_func_type}
+use Rattle.wasm_tree.specs.SameTypes.{same_func_type, same_type, same_types}
 use Rattle.index_remap.specs.References.{declared, declared_refs, with_declared}
-use Rattle.merge_terms.specs.Merged.{merged, merged_types, with_type, with_types}
+use Rattle.export_names.specs.Names.{new_names}
+use Rattle.merge_terms.specs.Merged.{merged, merged_types, with_type, with_types, export_names}
 use Rattle.merge_terms.specs.Joined.{joined_module}
 use Rattle.merge_terms.specs.Types.{AreFirstAppearances, MergedTypesAreDistinct, part_types}
 
@@ -163,7 +164,6 @@ none = record {
 }
 
 declared_types : (m : Module) → (declared m).types ≡ m.types
-unfolding declared
 declared_types m = by (declared_refs m)
   where
     by : (fs : List ℕ) → (with_declared m fs).types ≡ m.types
@@ -172,4 +172,4 @@ declared_types m = by (declared_refs m)
 
 pub types_are_distinct : MergedTypesAreDistinct
 unfolding joined_module merged merged_types
-types_are_distinct parts mode = subst (AreFirstAppearances (part_types parts)) (sym (declared_types _)) (all_more (part_types parts) [] [] none)
+types_are_distinct parts mode = subst (AreFirstAppearances (part_types parts)) (sym (declared_types (merged parts (new_names mode (export_names parts))))) (all_more (part_types parts) [] [] none)

@@ -1,5 +1,5 @@
 -- Small merges, computed: the definitions give the faults and the modules that the rules ask for.
-use Rattle.std.proofs.Common.{◌≡◌, refl, ℕ, zero, suc, List, [], ◌∷◌, Option, Some, None, false, slice_get, arith}
+use Rattle.std.proofs.Common.{◌≡◌, refl, ℕ, zero, suc, List, [], ◌∷◌, Option, Some, None, false, slice_get, length, ap, arith}
 use Rattle.std.specs.Prelude.{pos}
 use Rattle.wasm_tree.specs.declared.types.ValType.{ValType}
 use Rattle.wasm_tree.specs.declared.types.ValType.TheVariants as valt
@@ -162,8 +162,11 @@ a_type_left_out : AreFirstAppearances (gives ∷ takes ∷ []) (gives ∷ []) �
 a_type_left_out h = by (h.kept 1 takes refl)
   where
     by : (n : ℕ) × (slice_get (gives ∷ []) n ≡ Some takes) → ⊥
-    by (zero, e) = cc
-    by (suc n, e) = cc
+    by (zero, e) =
+        let same : gives ≡ takes = cc in
+        let many : 0 ≡ 1 = ap (λ (t : FuncType). length t.params) same in
+        omega (arith, many)
+    by (suc n, e) = absurd (cc)
 
 both_exports : (merged calling (Some f ∷ Some g ∷ [])).exports ≡ export f (ex.Func 0) ∷ export g (ex.Func 1) ∷ []
 unfolding merged all_exports map_of staying staying_of place_of_end new_index stays

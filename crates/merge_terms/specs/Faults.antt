@@ -15,7 +15,7 @@ use Rattle.wasm_tree.specs.declared.module.ConstExpr.{ConstExpr}
 use Rattle.wasm_tree.specs.declared.module.GlobalDef.{GlobalDef}
 use Rattle.wasm_tree.specs.declared.module.Module.{Module}
 use Rattle.wasm_tree.specs.Spaces.{type_of_func, tables_of, memories_of, globals_of}
-use Rattle.wasm_meaning.specs.Values.{same_ref, same_type, same_func_type}
+use Rattle.wasm_tree.specs.SameTypes.{same_func_type, same_ref, same_type}
 use Rattle.wasm_meaning.specs.World.{same_bool, meets, defined_before}
 use Rattle.wasm_meaning.specs.Linking.{Part, Site, End, Defined, Outside, count_of, has_kind, module_at, import_at, imports_of, sites, end_of, is_outside, linked_end, limits_of, met_limits, Read, read_of}
 use Rattle.merge_terms.specs.declared.faults.LinkFault.{LinkFault}

@@ -1,9 +1,8 @@
 -- What joining parts gives: the merged module with its references declared, or why there is none.
 use Rattle.std.specs.Prelude.{◌≡◌, ℕ, ◌+◌, ◌<◌, ◌^◌, List, length, Option, Some, None, cond, nat_lt, Result, Ok, Err, slice_get}
-use Rattle.wasm_tree.specs.declared.space.Space.TheVariants.{DataSegments, ElementSegments}
+use Rattle.wasm_tree.specs.declared.space.Space.TheVariants.{Types, Functions, Tables, Memories, Globals, ElementSegments, DataSegments}
 use Rattle.wasm_tree.specs.declared.space.Space.{Space}
 use Rattle.base_lists.specs.Options.{◌>>=◌}
-use Rattle.std.specs.List.{flat_map}
 use Rattle.wasm_tree.specs.declared.which.Which.{Which}
 use Rattle.wasm_tree.specs.declared.which.Which.TheVariants as which
 use Rattle.wasm_tree.specs.Limits.{limit}
@@ -11,10 +10,11 @@ use Rattle.wasm_tree.specs.declared.module.Module.{Module}
 use Rattle.wasm_meaning.specs.State.{Text}
 use Rattle.wasm_meaning.specs.World.{defined_before}
 use Rattle.wasm_meaning.specs.Linking.{Part, sites}
+use Rattle.base_lists.specs.Places.{count_of}
 use Rattle.index_remap.specs.References.{declared}
 use Rattle.export_names.specs.declared.mode.Mode.{Mode}
 use Rattle.export_names.specs.Names.{new_names, conflict}
-use Rattle.merge_terms.specs.Merged.{merged, export_names}
+use Rattle.merge_terms.specs.Merged.{merged, export_names, imports_kind}
 use Rattle.merge_terms.specs.declared.faults.JoinFault.{JoinFault}
 use Rattle.merge_terms.specs.declared.faults.JoinFault.TheVariants.{ExportConflict, TooMany}
 
@@ -56,10 +56,17 @@ join_of parts mode = outcome (repeated_name parts mode) (over_limit (joined_modu
 abbrev pub Joins : List Part → Mode → Result Module JoinFault → Type 0
 Joins parts mode result = join_of parts mode ≡ result
 
--- A u32 can name all that stands in the parts together: all types, for each kind all imports and what is defined of it and one more, all segments.
+-- what joining may add to what the parts define: a function that calls their starts
+abbrev pub most_added : Space → ℕ
+most_added Types = 0
+most_added Functions = 1
+most_added Tables = 0
+most_added Memories = 0
+most_added Globals = 0
+most_added ElementSegments = 0
+most_added DataSegments = 0
+
+-- A u32 can name each part, and in each index space all that the parts import and define, and what joining adds.
 pub record FewInAll (parts : List Part) : Type 0 where
   pub parts_few : length parts < 2 ^ 32
-  pub types : length (flat_map (λ p. p.«module».types) parts) < 2 ^ 32
-  pub entities : (k : Space) → length (sites parts) + (defined_before k parts (length parts) + 1) < 2 ^ 32
-  pub elems : defined_before ElementSegments parts (length parts) < 2 ^ 32
-  pub datas : defined_before DataSegments parts (length parts) < 2 ^ 32
+  pub entries : (k : Space) → count_of (imports_kind parts k) (sites parts) + (defined_before k parts (length parts) + most_added k) < 2 ^ 32

@@ -22,7 +22,7 @@ use Rattle.wasm_tree.specs.declared.module.Module.{Module}
 use Rattle.wasm_tree.specs.declared.instr.Instr.TheVariants.{Call}
 use Rattle.wasm_tree.specs.Spaces.{funcs_of, tables_of, memories_of, globals_of, index_of_export}
 use Rattle.wasm_meaning.specs.State.{Text}
-use Rattle.wasm_meaning.specs.Values.{same_func_type}
+use Rattle.wasm_tree.specs.SameTypes.{same_func_type}
 use Rattle.wasm_meaning.specs.World.{defined_before, numbers}
 use Rattle.wasm_meaning.specs.Linking.{Part, Site, End, Defined, Outside, Read, first_place, has_kind, module_at, import_at, imports_of, same_site, sites, linked_end, met_limits, read_of}
 use Rattle.index_remap.specs.declared.remap.Remap.{Remap}

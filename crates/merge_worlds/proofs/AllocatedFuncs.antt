@@ -1,7 +1,7 @@
 -- The functions that a part defines, and those that they become in the merged module.
 use Rattle.std.proofs.Common.{◌≡◌, ℕ, ◌<◌, List, [], length, Some, true, sym, ap, ◌∙◌, arith, option_and_then, slice_get}
 use Rattle.wasm_tree.specs.declared.space.Space.{Space}
-use Rattle.wasm_tree.specs.declared.space.Space.TheVariants.{Functions, Tables, Memories, Globals, ElementSegments, DataSegments}
+use Rattle.wasm_tree.specs.declared.space.Space.TheVariants.{Types, Functions, Tables, Memories, Globals, ElementSegments, DataSegments}
 use Rattle.std.specs.Prelude.{slice_index}
 use Rattle.std.proofs.lemmas.Bool.{ltb-true}
 use Rattle.wasm_tree.specs.declared.instr.Instr.{Instr}
@@ -45,15 +45,13 @@ module _ (laws : Laws) (env : Environment) (parts : List Part) (p : ℕ) (m : Mo
   type_below x h = let l = ltb-true _ _ h in omega (arith, l, type_entries parts p m)
 
   entries_name : EntriesName R r (with_entry r) i j
-  entries_name = record {
-    types = λ x h. let t = found m.types x (type_below x h) in at_is i.types x t.0 (ap (λ ts. slice_get ts x) k.own_types ∙ t.1) ∙ sym (at_is j.types (slice_index r.types x) t.0 (k.types x t.0 t.1));
-    funcs = λ x h. names_of i.funcs j.funcs x _ (space_names Functions i.funcs j.funcs r.funcs k.funcs x h);
-    tables = λ x h. names_of i.tables j.tables x _ (space_names Tables i.tables j.tables r.tables k.tables x h);
-    mems = λ x h. names_of i.mems j.mems x _ (space_names Memories i.mems j.mems r.mems k.mems x h);
-    globals = λ x h. names_of i.globals j.globals x _ (space_names Globals i.globals j.globals r.globals k.globals x h);
-    elems = λ x h. names_of i.elems j.elems x _ (space_names ElementSegments i.elems j.elems r.elems k.elems x h);
-    datas = λ x h. names_of i.datas j.datas x _ (space_names DataSegments i.datas j.datas r.datas k.datas x h);
-  }
+  entries_name Types x h = let t = found m.types x (type_below x h) in at_is i.types x t.0 (ap (λ ts. slice_get ts x) k.own_types ∙ t.1) ∙ sym (at_is j.types (slice_index r.types x) t.0 (k.types x t.0 t.1))
+  entries_name Functions x h = names_of i.funcs j.funcs x _ (space_names Functions i.funcs j.funcs r.funcs k.funcs x h)
+  entries_name Tables x h = names_of i.tables j.tables x _ (space_names Tables i.tables j.tables r.tables k.tables x h)
+  entries_name Memories x h = names_of i.mems j.mems x _ (space_names Memories i.mems j.mems r.mems k.mems x h)
+  entries_name Globals x h = names_of i.globals j.globals x _ (space_names Globals i.globals j.globals r.globals k.globals x h)
+  entries_name ElementSegments x h = names_of i.elems j.elems x _ (space_names ElementSegments i.elems j.elems r.elems k.elems x h)
+  entries_name DataSegments x h = names_of i.datas j.datas x _ (space_names DataSegments i.datas j.datas r.datas k.datas x h)
 
   code_rel : (body : List Instr) → fits_all r body ≡ true → CodeRel R i j body (renumbered_all r body)
   code_rel body h = laws.code (is_shared env parts) (is_shared env parts) [] r i j body (laws.named (is_shared env parts) (is_shared env parts) [] r i j entries_name body h)

@@ -2,7 +2,7 @@
 use Rattle.std.proofs.Common.{◌≡◌, ℕ, suc, ◌+◌, ◌*◌, List, [], ◌∷◌, ◌++◌, map, length, Option, Some, true, false, refl, sym, ap, ap₂, subst, ◌∙◌, append_assoc, arith, option_and_then, append-nil}
 use Rattle.wasm_tree.specs.declared.space.Space.TheVariants.{Functions, Tables, Memories, Globals, DataSegments, ElementSegments}
 use Rattle.std.specs.Prelude.{slice_get}
-use Rattle.std.specs.List.{flat_map}
+use Rattle.std.specs.List.{flat_map, list_all}
 use Rattle.std.proofs.lemmas.List.{map-append}
 use Rattle.wasm_tree.specs.declared.types.Limits.{Limits}
 use Rattle.wasm_tree.specs.declared.types.TableType.{TableType}
@@ -25,7 +25,7 @@ use Rattle.wasm_meaning.specs.Linking.{Part, module_at}
 use Rattle.wasm_meaning.specs.Environment.{Environment}
 use Rattle.wasm_meaning.specs.World.{all_there, defined_before, new_func, new_global, new_elem, elem_of, insts_from, part_store, joined_stores, stores_from}
 use Rattle.index_remap.specs.declared.remap.Remap.{Remap}
-use Rattle.index_remap.specs.Renumbered.{all_true, fits_import, fits_func, fits_tree}
+use Rattle.index_remap.specs.Renumbered.{fits_import, fits_func, fits_tree}
 use Rattle.index_remap.specs.Renumbered as renumbered
 use Rattle.index_remap.specs.Related.{Pairing, OptRel, some, ListRel, nil, RefRel, FuncRel, GlobalRel, ElemRel}
 use Rattle.index_remap.proofs.Rel.{append_rel}
@@ -89,8 +89,8 @@ module _ (laws : Laws) (m : Module) (valid : IsValid m) where
       let typed = subst (λ (s : ElemSeg). (l : ℕ) (e : ConstExpr) → slice_get s.items l ≡ Some e → const_type m e ≡ Some (Ref s.ty)) same z.2 in
       typed l e (at)
 
-  funcs_fit : (parts : List Part) (p : ℕ) → all_true (map (fits_func (map_of parts p m)) m.funcs) ≡ true
-  funcs_fit parts p = left_true _ _ (right_true (all_true (map (fits_import (map_of parts p m)) m.imports)) _ (laws.entries parts p m valid))
+  funcs_fit : (parts : List Part) (p : ℕ) → list_all (fits_func (map_of parts p m)) m.funcs ≡ true
+  funcs_fit parts p = left_true _ _ (right_true (list_all (fits_import (map_of parts p m)) m.imports) _ (laws.entries parts p m valid))
 
 -- ---- by part ----
 

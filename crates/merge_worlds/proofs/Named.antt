@@ -12,7 +12,8 @@ use Rattle.wasm_meaning.specs.Linking.{Part, module_at}
 use Rattle.wasm_meaning.specs.Environment.{Environment, Thing, FuncAt, TableAt, MemoryAt, GlobalAt}
 use Rattle.wasm_meaning.specs.World.{address_in}
 use Rattle.index_remap.specs.declared.remap.Remap.{Remap}
-use Rattle.index_remap.specs.Renumbered.{all_true, fits_tree, fits_import, fits_func, fits_global, fits_export, fits_export_desc, fits_start, new_export_desc}
+use Rattle.std.specs.List.{list_all}
+use Rattle.index_remap.specs.Renumbered.{fits_tree, fits_import, fits_func, fits_global, fits_export, fits_export_desc, fits_start, new_export_desc}
 use Rattle.index_remap.specs.Related.{OptRel, some, ListRel, nil, cons}
 use Rattle.index_remap.specs.RelatedRuns.{ThingRel, a_func, a_table, a_memory, a_global}
 use Rattle.index_remap.proofs.Rel.{append_rel}
@@ -26,12 +27,12 @@ use Rattle.merge_worlds.proofs.Standing.{is_shared_at}
 abbrev pub AllFit : List Part → Type 0
 AllFit parts = (p : ℕ) (m : Module) → module_at parts p ≡ Some m → IsTrue (fits_tree (map_of parts p m) m)
 
-pub exports_fit : (r : Remap) (m : Module) → IsTrue (fits_tree r m) → all_true (map (fits_export r) m.exports) ≡ true
-exports_fit r m h = left_true _ _ (right_true (all_true (map (fits_global r) m.globals)) _ (right_true (all_true (map (fits_func r) m.funcs)) _ (right_true (all_true (map (fits_import r) m.imports)) _ h)))
+pub exports_fit : (r : Remap) (m : Module) → IsTrue (fits_tree r m) → list_all (fits_export r) m.exports ≡ true
+exports_fit r m h = left_true _ _ (right_true (list_all (fits_global r) m.globals) _ (right_true (list_all (fits_func r) m.funcs) _ (right_true (list_all (fits_import r) m.imports) _ h)))
 
 pub start_fits : (r : Remap) (m : Module) → IsTrue (fits_tree r m) → fits_start r m.start ≡ true
 start_fits r m h =
-    left_true _ _ (right_true (all_true (map (fits_export r) m.exports)) _ (right_true (all_true (map (fits_global r) m.globals)) _ (right_true (all_true (map (fits_func r) m.funcs)) _ (right_true (all_true (map (fits_import r) m.imports)) _ h))))
+    left_true _ _ (right_true (list_all (fits_export r) m.exports) _ (right_true (list_all (fits_global r) m.globals) _ (right_true (list_all (fits_func r) m.funcs) _ (right_true (list_all (fits_import r) m.imports) _ h))))
 
 -- ---- lists by part ----
 
@@ -43,7 +44,7 @@ by_part_rel {P = P} f g first (part ∷ parts) h =
     append_rel (subst (λ n. ListRel P (f n part.«module») (g n part.«module»)) here (h 0 part.«module» refl))
     (by_part_rel f g (suc first) parts (λ q m e. let n : first + suc q ≡ suc first + q = omega arith in subst (λ n. ListRel P (f n m) (g n m)) n (h (suc q) m e)))
 
-pub tested_maps : {A B C : Type 0} {P : B → C → Type 0} (test : A → Bool) (f : A → B) (g : A → C) (xs : List A) → all_true (map test xs) ≡ true → ((x : A) → test x ≡ true → P (f x) (g x)) → ListRel P (map f xs) (map g xs)
+pub tested_maps : {A B C : Type 0} {P : B → C → Type 0} (test : A → Bool) (f : A → B) (g : A → C) (xs : List A) → list_all test xs ≡ true → ((x : A) → test x ≡ true → P (f x) (g x)) → ListRel P (map f xs) (map g xs)
 tested_maps test f g [] t h = nil
 tested_maps test f g (x ∷ xs) t h = cons (h x (left_true _ _ t)) (tested_maps test f g xs (right_true (test x) _ t) h)
 

@@ -21,7 +21,8 @@ use Rattle.wasm_meaning.specs.World.{alone}
 use Rattle.wasm_meaning.specs.Run.{Event, Linked, LinkFault, InstanceTrapped, Asked, BadMove, Move, Answer, IsPrefix, events}
 use Rattle.index_remap.specs.declared.remap.Remap.{Remap}
 use Rattle.index_remap.specs.References.{refs_step}
-use Rattle.index_remap.specs.Renumbered.{renumber_step}
+use Rattle.index_remap.specs.Renumbered.{entry}
+use Rattle.wasm_tree.specs.Operands.{map_operands}
 use Rattle.export_names.specs.declared.mode.Mode.TheVariants as mode
 use Rattle.merge_terms.specs.Faults.{link_fault, import_fault, stays, kept_limits, clash_fault, memory_count, memory_fault, own_globals, global_fault}
 use Rattle.merge_terms.specs.Merged.{staying, staying_of, place_of_end, new_index, merged_types, place_of_type, map_of, merged_const, merged_import, starts, defined_funcs, all_exports, merged}
@@ -98,21 +99,21 @@ second_is is (e ∷ es) = first_is is es
 
 -- ---- renumbered instructions ----
 
-new_call : (m : Remap) (n : ℕ) → fold-Instr Instr (renumber_step m) (i.Call n) ≡ i.Call (slice_index m.funcs n)
+new_call : (m : Remap) (n : ℕ) → fold-Instr Instr (map_operands (entry m)) (i.Call n) ≡ i.Call (slice_index m.funcs n)
 unfolding out-Instr denote.Hole.Carrier.out
-new_call m n = fold_out-Instr Instr (renumber_step m) (i.Call n)
+new_call m n = fold_out-Instr Instr (map_operands (entry m)) (i.Call n)
 
-new_indirect : (m : Remap) (n k : ℕ) → fold-Instr Instr (renumber_step m) (i.CallIndirect n k) ≡ i.CallIndirect (slice_index m.types n) (slice_index m.tables k)
+new_indirect : (m : Remap) (n k : ℕ) → fold-Instr Instr (map_operands (entry m)) (i.CallIndirect n k) ≡ i.CallIndirect (slice_index m.types n) (slice_index m.tables k)
 unfolding out-Instr denote.Hole.Carrier.out
-new_indirect m n k = fold_out-Instr Instr (renumber_step m) (i.CallIndirect n k)
+new_indirect m n k = fold_out-Instr Instr (map_operands (entry m)) (i.CallIndirect n k)
 
-new_number : (m : Remap) (n : ℕ) → fold-Instr Instr (renumber_step m) (i.I32Const (pos n)) ≡ i.I32Const (pos n)
+new_number : (m : Remap) (n : ℕ) → fold-Instr Instr (map_operands (entry m)) (i.I32Const (pos n)) ≡ i.I32Const (pos n)
 unfolding out-Instr denote.Hole.Carrier.out
-new_number m n = fold_out-Instr Instr (renumber_step m) (i.I32Const (pos n))
+new_number m n = fold_out-Instr Instr (map_operands (entry m)) (i.I32Const (pos n))
 
-new_drop : (m : Remap) → fold-Instr Instr (renumber_step m) i.Drop ≡ i.Drop
+new_drop : (m : Remap) → fold-Instr Instr (map_operands (entry m)) i.Drop ≡ i.Drop
 unfolding out-Instr denote.Hole.Carrier.out
-new_drop m = fold_out-Instr Instr (renumber_step m) i.Drop
+new_drop m = fold_out-Instr Instr (map_operands (entry m)) i.Drop
 
 call_refs : (n : ℕ) → fold-Instr (List ℕ) refs_step (i.Call n) ≡ []
 unfolding out-Instr denote.Hole.Carrier.out

@@ -25,7 +25,8 @@ use Rattle.index_remap.specs.Related.{Pairing, OptRel, none, some, BothRel, both
 use Rattle.index_remap.specs.Related as to
 use Rattle.index_remap.proofs.Rel.{append_rel, copies_rel}
 use Rattle.permuted_worlds.specs.Permuted.{moving, IsOrder, permuted}
-use Rattle.permuted_worlds.proofs.Places.{left_true, right_true, found, within, place_left, place_right, map_length, append_length, number_at, Moves, stays, goes, moves_by, some_then, then_rel, then_rel_is, then_same, opt_self, opt_at, place_rel, self_rel, tested_rel, map_rel, maps_rel, all_rel, all_length, AllThere, each_there, tested_at, both_at, both_in}
+use Rattle.base_lists.proofs.Each.{list_all_each}
+use Rattle.permuted_worlds.proofs.Places.{left_true, right_true, found, within, place_left, place_right, map_length, append_length, number_at, Moves, stays, goes, moves_by, some_then, then_rel, then_rel_is, then_same, opt_self, opt_at, place_rel, self_rel, tested_rel, map_rel, maps_rel, all_rel, all_length, AllThere, each_there, both_at, both_in}
 use Rattle.permuted_worlds.specs.Alone.{one, read_in, read_place}
 use Rattle.permuted_worlds.proofs.Alone.{read_is}
 use Rattle.permuted_worlds.proofs.Partners.{related, pairing, partner, shares_own}
@@ -140,7 +141,7 @@ module _ (env : Environment) (places : List ℕ) (t : Module) where
     func_there inst e f lt = let ty = found t.types f.ty lt in (Code ty.0 inst (declared f.locals) f.body, ap (λ o. option_and_then (λ x. Some (Code x inst (declared f.locals) f.body)) o) (ap (λ ts. slice_get ts f.ty) e ∙ ty.1))
 
     type_there : (n : ℕ) (f : tree.Func) → slice_get t.funcs n ≡ Some f → has m.types f.ty ≡ true
-    type_there n f h = left_true _ _ (tested_at (fits_func m) t.funcs n f fit.funcs h)
+    type_there n f h = left_true _ _ (list_all_each (fits_func m) t.funcs fit.funcs n f h)
 
     pub first_funcs : AllThere (world.new_func i) t.funcs
     first_funcs = each_there (world.new_func i) t.funcs (λ n f h. func_there i k.left_types f (below _ f.ty (type_there n f h)))
@@ -160,7 +161,7 @@ module _ (env : Environment) (places : List ℕ) (t : Module) where
         func_there j k.right_types g (subst (λ n. n < length t.types) same (below _ f.0.ty fits)))
 
     body_rel : (f : tree.Func) (n : ℕ) → slice_get t.funcs n ≡ Some f → CodeRel R i j f.body (renumbered_all m f.body)
-    body_rel f n h = code (related env places t) (related env places t) [] m i j (entries_name env places t k) f.body (right_true (has m.types f.ty) _ (tested_at (fits_func m) t.funcs n f fit.funcs h))
+    body_rel f n h = code (related env places t) (related env places t) [] m i j (entries_name env places t k) f.body (right_true (has m.types f.ty) _ (list_all_each (fits_func m) t.funcs fit.funcs n f h))
 
     own_rel : ListRel (FuncRel R) (own_funcs env) (own_funcs env)
     own_rel = flat_rel _ (λ o. maps_rel _ _ (self_rel o.funcs (λ ty. own))) env

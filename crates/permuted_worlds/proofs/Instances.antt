@@ -1,8 +1,9 @@
 -- The instances of the module and of the one with its functions in another order.
 use Rattle.std.proofs.Common.{◌≡◌, ℕ, ◌+◌, ◌-◌, ◌<◌, ◌≤◌, List, [], ◌∷◌, ◌++◌, map, length, Some, true, ◌⊎◌, inl, inr, refl, sym, ap, ap₂, subst, ◌∙◌, arith, option_and_then, slice_get}
 use Rattle.wasm_tree.specs.declared.space.Space.{Space}
-use Rattle.wasm_tree.specs.declared.space.Space.TheVariants.{Functions, Tables, Memories, Globals, ElementSegments, DataSegments}
+use Rattle.wasm_tree.specs.declared.space.Space.TheVariants.{Types, Functions, Tables, Memories, Globals, ElementSegments, DataSegments}
 use Rattle.std.specs.Prelude.{slice_index}
+use Rattle.std.specs.List.{list_all}
 use Rattle.std.proofs.lemmas.Bool.{cases_lt, ltb-true}
 use Rattle.wasm_tree.specs.declared.module.Func as tree
 use Rattle.wasm_tree.specs.declared.module.Import.{Import}
@@ -14,7 +15,7 @@ use Rattle.wasm_meaning.specs.State.{Inst}
 use Rattle.wasm_meaning.specs.Environment.{Environment, own_funcs}
 use Rattle.wasm_meaning.specs.World.{numbers, own_count, defined_count, space, inst_of}
 use Rattle.index_remap.specs.declared.remap.Remap.{Remap}
-use Rattle.index_remap.specs.Renumbered.{has, all_true, new_import, new_import_desc, new_func, fits_import, fits_import_desc, fits_func, fits_global, fits_export, fits_start, fits_elem, fits_data, fits_tree}
+use Rattle.index_remap.specs.Renumbered.{has, new_import, new_import_desc, new_func, fits_import, fits_import_desc, fits_func, fits_global, fits_export, fits_start, fits_elem, fits_data, fits_tree}
 use Rattle.index_remap.specs.Related.{Pairing, OptRel, some, ListRel}
 use Rattle.index_remap.proofs.Rel.{append_rel}
 use Rattle.remap_typing.specs.Indices.{with_entry}
@@ -27,22 +28,22 @@ use Rattle.permuted_worlds.proofs.Partners.{pairing, func_moves, same_table, sam
 
 -- every index that the tree names has an entry
 pub record Fits (m : Remap) (t : Module) : Type 0 where
-  pub imports : all_true (map (fits_import m) t.imports) ≡ true
-  pub funcs : all_true (map (fits_func m) t.funcs) ≡ true
-  pub globals : all_true (map (fits_global m) t.globals) ≡ true
-  pub exports : all_true (map (fits_export m) t.exports) ≡ true
+  pub imports : list_all (fits_import m) t.imports ≡ true
+  pub funcs : list_all (fits_func m) t.funcs ≡ true
+  pub globals : list_all (fits_global m) t.globals ≡ true
+  pub exports : list_all (fits_export m) t.exports ≡ true
   pub start : fits_start m t.start ≡ true
-  pub elems : all_true (map (fits_elem m) t.elems) ≡ true
-  pub datas : all_true (map (fits_data m) t.datas) ≡ true
+  pub elems : list_all (fits_elem m) t.elems ≡ true
+  pub datas : list_all (fits_data m) t.datas ≡ true
 
 pub fits_parts : (m : Remap) (t : Module) → fits_tree m t ≡ true → Fits m t
 fits_parts m t h =
-    let a = right_true (all_true (map (fits_import m) t.imports)) _ h in
-    let b = right_true (all_true (map (fits_func m) t.funcs)) _ a in
-    let c = right_true (all_true (map (fits_global m) t.globals)) _ b in
-    let d = right_true (all_true (map (fits_export m) t.exports)) _ c in
+    let a = right_true (list_all (fits_import m) t.imports) _ h in
+    let b = right_true (list_all (fits_func m) t.funcs) _ a in
+    let c = right_true (list_all (fits_global m) t.globals) _ b in
+    let d = right_true (list_all (fits_export m) t.exports) _ c in
     let e = right_true (fits_start m t.start) _ d in
-    record { imports = left_true _ _ h; funcs = left_true _ _ a; globals = left_true _ _ b; exports = left_true _ _ c; start = left_true _ _ d; elems = left_true _ _ e; datas = right_true (all_true (map (fits_elem m) t.elems)) _ e }
+    record { imports = left_true _ _ h; funcs = left_true _ _ a; globals = left_true _ _ b; exports = left_true _ _ c; start = left_true _ _ d; elems = left_true _ _ e; datas = right_true (list_all (fits_elem m) t.elems) _ e }
 
 -- what a list of the map with an entry is: the entry is the index itself
 pub stays_at : (n x : ℕ) → has (numbers 0 n) x ≡ true → slice_index (numbers 0 n) x ≡ x
@@ -66,7 +67,7 @@ module _ (env : Environment) (places : List ℕ) (t : Module) where
   desc_stays (im.Memory l) h = refl
   desc_stays (im.Global u) h = refl
 
-  all_stay : (is : List Import) → all_true (map (fits_import m) is) ≡ true → map (new_import m) is ≡ is
+  all_stay : (is : List Import) → list_all (fits_import m) is ≡ true → map (new_import m) is ≡ is
   all_stay [] h = refl
   all_stay (i ∷ is) h = ap₂ (λ x xs. x ∷ xs) (ap (λ d. record i { desc = d }) (desc_stays i.desc (left_true _ _ h))) (all_stay is (right_true (fits_import m i) _ h))
 
@@ -151,12 +152,10 @@ module _ (env : Environment) (places : List ℕ) (t : Module) where
   row_names {P = P} n xs ys r x h = subst (λ z. OptRel P (slice_get xs x) (slice_get ys z)) (sym (stays_at n x h)) (place_rel r x)
 
   pub entries_name : {i j : Inst} → InstRel i j → EntriesName R m (with_entry m) i j
-  entries_name {i} {j} k = record {
-    types = λ x h. rw (k.left_types, k.right_types, stays_at (length t.types) x h) refl;
-    funcs = λ x h. names_of i.funcs j.funcs x _ (k.funcs x (ltb-true _ _ h));
-    tables = λ x h. names_of i.tables j.tables x _ (row_names _ _ _ k.tables x h);
-    mems = λ x h. names_of i.mems j.mems x _ (row_names _ _ _ k.mems x h);
-    globals = λ x h. names_of i.globals j.globals x _ (row_names _ _ _ k.globals x h);
-    elems = λ x h. names_of i.elems j.elems x _ (row_names _ _ _ k.elems x h);
-    datas = λ x h. names_of i.datas j.datas x _ (row_names _ _ _ k.datas x h);
-  }
+  entries_name {i} {j} k Types x h = rw (k.left_types, k.right_types, stays_at (length t.types) x h) refl
+  entries_name {i} {j} k Functions x h = names_of i.funcs j.funcs x _ (k.funcs x (ltb-true _ _ h))
+  entries_name {i} {j} k Tables x h = names_of i.tables j.tables x _ (row_names _ _ _ k.tables x h)
+  entries_name {i} {j} k Memories x h = names_of i.mems j.mems x _ (row_names _ _ _ k.mems x h)
+  entries_name {i} {j} k Globals x h = names_of i.globals j.globals x _ (row_names _ _ _ k.globals x h)
+  entries_name {i} {j} k ElementSegments x h = names_of i.elems j.elems x _ (row_names _ _ _ k.elems x h)
+  entries_name {i} {j} k DataSegments x h = names_of i.datas j.datas x _ (row_names _ _ _ k.datas x h)

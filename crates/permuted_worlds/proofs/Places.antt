@@ -4,17 +4,10 @@ use Rattle.std.specs.Prelude.{slice_index}
 use Rattle.std.proofs.lemmas.Bool.{cases_lt}
 use Rattle.wasm_meaning.specs.Outcomes.{Outcome, Gives, IllTyped, at}
 use Rattle.wasm_meaning.specs.World.{numbers, all_there}
-use Rattle.index_remap.specs.Renumbered.{all_true}
+pub use Rattle.base_lists.proofs.Bools.{left_true, right_true}
+use Rattle.std.specs.List.{list_all}
 use Rattle.index_remap.specs.Related.{OptRel, none, some, ResRel, done, wrong, BothRel, both, ListRel, nil, cons}
 use Rattle.permuted_worlds.specs.Permuted.{moved}
-
-pub left_true : (a b : Bool) → a && b ≡ true → a ≡ true
-left_true false b h = cc
-left_true true b h = refl
-
-pub right_true : (a b : Bool) → a && b ≡ true → b ≡ true
-right_true false b h = cc
-right_true true b h = h
 
 -- ---- places ----
 
@@ -155,7 +148,7 @@ pub map_rel : {A B : Type 0} {P : A → B → Type 0} (f : A → B) (xs : List A
 map_rel f [] h = nil
 map_rel f (x ∷ xs) h = cons (h x) (map_rel f xs h)
 
-pub tested_rel : {A B : Type 0} {P : A → B → Type 0} (test : A → Bool) (f : A → B) (xs : List A) → all_true (map test xs) ≡ true → ((x : A) → test x ≡ true → P x (f x)) → ListRel P xs (map f xs)
+pub tested_rel : {A B : Type 0} {P : A → B → Type 0} (test : A → Bool) (f : A → B) (xs : List A) → list_all test xs ≡ true → ((x : A) → test x ≡ true → P x (f x)) → ListRel P xs (map f xs)
 tested_rel test f [] t h = nil
 tested_rel test f (x ∷ xs) t h = cons (h x (left_true _ _ t)) (tested_rel test f xs (right_true (test x) _ t) h)
 
@@ -203,11 +196,6 @@ each_there {B = B} f (x ∷ xs) h =
     at_place : (y : B) → f x ≡ Some y → (ys : List B) → ((n : ℕ) → slice_get ys n ≡ option_and_then f (slice_get xs n)) → (n : ℕ) → slice_get (y ∷ ys) n ≡ option_and_then f (slice_get (x ∷ xs) n)
     at_place y e ys ih zero = sym e
     at_place y e ys ih (suc n) = ih n
-
-pub tested_at : {A : Type 0} (test : A → Bool) (xs : List A) (n : ℕ) (x : A) → all_true (map test xs) ≡ true → slice_get xs n ≡ Some x → test x ≡ true
-tested_at test [] n x t h = cc
-tested_at test (y ∷ xs) zero x t h = let e : y ≡ x = cc in subst (λ z. test z ≡ true) e (left_true _ _ t)
-tested_at test (y ∷ xs) (suc n) x t h = tested_at test xs n x (right_true (test y) _ t) h
 
 -- ---- places as the steps look them up ----
 

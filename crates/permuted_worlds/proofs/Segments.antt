@@ -1,4 +1,5 @@
 -- The active segments of the module and of its reordering.
+use Rattle.std.specs.List.{list_all}
 use Rattle.std.proofs.Common.{◌≡◌, ℕ, List, [], ◌∷◌, ◌++◌, map, Option, Bool, true, false, cond, refl, sym, ap, ap₂, subst, ◌∙◌, option_and_then, slice_get, slice_set}
 use Rattle.wasm_tree.specs.declared.space.Space.TheVariants.{Tables, Memories, ElementSegments, DataSegments}
 use Rattle.std.specs.Prelude.{slice_index}
@@ -16,7 +17,7 @@ use Rattle.wasm_meaning.specs.Step.{no_items, no_bytes}
 use Rattle.wasm_meaning.specs.Environment.{Environment}
 use Rattle.wasm_meaning.specs.World.{Filled, tasks_in, or_trapped, fill_table, copy_elem, run_elem_mode, run_elem, fill_memory, copy_data, run_data_mode, run_data, and_then, in_turn, segments, number_value}
 use Rattle.index_remap.specs.declared.remap.Remap.{Remap}
-use Rattle.index_remap.specs.Renumbered.{all_true, new_elem_mode, new_elem, new_data_mode, new_data, fits_elem, fits_elem_mode, fits_data, fits_data_mode}
+use Rattle.index_remap.specs.Renumbered.{new_elem_mode, new_elem, new_data_mode, new_data, fits_elem, fits_elem_mode, fits_data, fits_data_mode}
 use Rattle.index_remap.specs.Related.{Pairing, OptRel, none, some, ResRel, done, trap, wrong, ListRel, nil, cons, RefRel, TableRel, ElemRel}
 use Rattle.index_remap.proofs.Rel.{put_rel, overwrite_rel}
 use Rattle.permuted_worlds.specs.Permuted.{moving, IsOrder, permuted}
@@ -115,7 +116,7 @@ module _ (env : Environment) (places : List ℕ) (t : Module) where
         go elem.Passive f = record { store = like; trapped = refl }
         go elem.Declarative f = record { store = like; trapped = refl }
 
-    elems_turn : {ns ls : List ℕ} {s z : Store} (es : List ElemSeg) → all_true (map (fits_elem m) es) ≡ true → ListRel (R.of ElementSegments) ns ls → Alike env places t s z →
+    elems_turn : {ns ls : List ℕ} {s z : Store} (es : List ElemSeg) → list_all (fits_elem m) es ≡ true → ListRel (R.of ElementSegments) ns ls → Alike env places t s z →
         FilledRel (in_turn (run_elem env (one t) (i ∷ [])) s (tasks_in 0 i ns es ++ [])) (in_turn (run_elem env (one u) (j ∷ [])) z (tasks_in 0 j ls (map (new_elem m) es) ++ []))
     elems_turn es h nil like = record { store = like; trapped = refl }
     elems_turn [] h (cons p r) like = record { store = like; trapped = refl }
@@ -136,7 +137,7 @@ module _ (env : Environment) (places : List ℕ) (t : Module) where
             (subst (λ y. FilledRel (copy_data s n i x (number_value env (one t) (i ∷ []) 0 offset)) (copy_data z l j y (number_value env (one t) (i ∷ []) 0 offset))) (sym (stays_at _ x (left_true _ _ f))) (copy_data_rel x _ like same))
         go data'.Passive f = record { store = like; trapped = refl }
 
-    datas_turn : {ns ls : List ℕ} {s z : Store} (ds : List DataSeg) → all_true (map (fits_data m) ds) ≡ true → ListRel (R.of DataSegments) ns ls → Alike env places t s z →
+    datas_turn : {ns ls : List ℕ} {s z : Store} (ds : List DataSeg) → list_all (fits_data m) ds ≡ true → ListRel (R.of DataSegments) ns ls → Alike env places t s z →
         FilledRel (in_turn (run_data env (one t) (i ∷ [])) s (tasks_in 0 i ns ds ++ [])) (in_turn (run_data env (one u) (j ∷ [])) z (tasks_in 0 j ls (map (new_data m) ds) ++ []))
     datas_turn ds h nil like = record { store = like; trapped = refl }
     datas_turn [] h (cons p r) like = record { store = like; trapped = refl }

@@ -2,6 +2,7 @@
 use Rattle.std.proofs.Common.{◌≡◌, ℕ, List, [], ◌∷◌, ◌++◌, map, Bool, true, false, cond, ◌&&◌, Option, Some, None, refl, sym, subst, rules}
 use Rattle.std.specs.Prelude.{nat_eq, ◌==◌, ◌||◌, nat_le}
 use Rattle.std.specs.List.{list_all}
+use Rattle.std.proofs.lemmas.Bool.{and_from}
 use Rattle.wasm_bytes.specs.Joins.{U32, Each}
 use Rattle.wasm_tree.specs.declared.types.ValType.{ValType}
 use Rattle.wasm_tree.specs.declared.types.BlockType.{BlockType}
@@ -26,7 +27,7 @@ use Rattle.wasm_format.specs.Bodies.{Nests, no_more, one_plain, one_block, one_l
 use Rattle.wasm_tree.specs.Operands.{block_operands}
 use Rattle.plain_law.specs.Ranges.{small, in_range, all_in_range, IsU32}
 use Rattle.plain_law.proofs.Inside.{Small, block_in, loop_in, if_in, more_in}
-use Rattle.plain_law.proofs.NumberRanges.{u32_in, signed_in, is_small, is_small_32, is_small_64, is_index, both, says_vector}
+use Rattle.plain_law.proofs.NumberRanges.{u32_in, signed_in, is_small, is_small_32, is_small_64, is_index, says_vector}
 
 -- what is known of a token
 abbrev Right : Token → Type 0
@@ -67,7 +68,7 @@ const64_sound text t s = let k = is_small_64 s.0 (signed_in 64 text s.0 s.1) in 
 
 labels_in : (xs : List ℕ) → Every IsU32 xs → list_all small xs ≡ true
 labels_in [] h = refl
-labels_in (x ∷ xs) h = both (small x) (list_all small xs) (is_small x h.0) (labels_in xs h.1)
+labels_in (x ∷ xs) h = and_from (small x) (list_all small xs) (is_small x h.0) (labels_in xs h.1)
 
 table_in : (xs : List ℕ) (y : ℕ) → list_all small xs && small y ≡ true → in_range (BrTable xs y) ≡ true
 table_in xs y k = search (rules, the_lemmas, k)
@@ -75,7 +76,7 @@ table_in xs y k = search (rules, the_lemmas, k)
 table_sound : Sound table
 table_sound text t s =
     let p = s.1 in
-    subst Right (sym s.2) (table_in s.0.0 s.0.1 (both (list_all small s.0.0) (small s.0.1) (labels_in s.0.0 (says_vector IsU32 U32 u32_in p.0 s.0.0 p.2)) (is_small s.0.1 (u32_in p.1 s.0.1 p.3))))
+    subst Right (sym s.2) (table_in s.0.0 s.0.1 (and_from (list_all small s.0.0) (small s.0.1) (labels_in s.0.0 (says_vector IsU32 U32 u32_in p.0 s.0.0 p.2)) (is_small s.0.1 (u32_in p.1 s.0.1 p.3))))
 
 types_in : (ts : List ValType) → in_range (SelectTyped ts) ≡ true
 types_in ts = search (rules, the_lemmas)
@@ -92,7 +93,7 @@ arg_in text m h =
     let made = h.1.3 in
     let a = is_small h.0 (u32_in h.1.0 h.0 h.1.2) in
     let o = is_small made.0 (u32_in h.1.1 made.0 made.1) in
-    subst ArgIn (sym made.2) (both (small h.0) (small made.0) a o, refl)
+    subst ArgIn (sym made.2) (and_from (small h.0) (small made.0) a o, refl)
 
 access_sound : (f : MemArg → Instr) → ((m : MemArg) → small m.align && small m.offset ≡ true → nat_eq m.memory 0 ≡ true → in_range (f m) ≡ true) → Sound (access f)
 access_sound f h text t s = let a = arg_in text s.0 s.1 in subst Right (sym s.2) (h s.0 a.0 a.1)

@@ -3,6 +3,7 @@ use Rattle.std.proofs.Common.{◌≡◌, ℕ, suc, ◌+◌, ◌<◌, ◌^◌, Li
 use Rattle.std.specs.Prelude.{nat_eq, ◌&&◌}
 use Rattle.std.specs.List.{list_all}
 use Rattle.std.proofs.lemmas.Bool.{eqb-true}
+use Rattle.base_lists.proofs.Bools.{left_true, right_true}
 use Rattle.wasm_bytes.specs.Writing.{u32_text, s32_text, s64_text, unsigned_text}
 use Rattle.wasm_bytes.specs.Joins.{U32, Each, Vector}
 use Rattle.wasm_num.specs.declared.UnOp.{UnOp}
@@ -29,7 +30,7 @@ use Rattle.wasm_plain.specs.PlainCode.{un_code, bin_code, load_code, store_code,
 use Rattle.wasm_tree.specs.Operands.{operands, block_operands, held}
 use Rattle.plain_law.specs.Ranges.{small, small_operand, small_numbers, in_range, all_in_range}
 use Rattle.plain_law.proofs.Inside.{Small, LayerInRange, layer_of, first_in, rest_in, front_in, back_in}
-use Rattle.plain_law.proofs.Parts.{left, right, below, u32_some, u32_spells, s32_spells, s64_spells, within_32, within_64, flag_spells, vector_spells, each_join}
+use Rattle.plain_law.proofs.Parts.{below, u32_some, u32_spells, s32_spells, s64_spells, within_32, within_64, flag_spells, vector_spells, each_join}
 use Rattle.plain_law.proofs.ItemTexts.{ref_spells, vals_spell, block_type_spells}
 
 -- ---- opcodes
@@ -146,11 +147,11 @@ unfolding arg_form
 arg_spells a o m h k e = let z : m ≡ 0 = eqb-true m 0 e in rw z (a, (u32_text a, u32_text o, u32_spells a (below a h), (o, u32_spells o (below o k), refl), refl))
 
 mem_arg_spells : (a : MemArg) → nat_eq a.memory 0 ≡ true → small a.align && small a.offset ≡ true → SpellsMemArg false (mem_arg_text a) a
-mem_arg_spells a z h = arg_spells a.align a.offset a.memory (left (small a.align) _ h) (right (small a.align) _ h) z
+mem_arg_spells a z h = arg_spells a.align a.offset a.memory (left_true (small a.align) _ h) (right_true (small a.align) _ h) z
 
 labels_each : (xs : List ℕ) → list_all small xs ≡ true → Every (λ x. U32 (u32_text x) x) xs
 labels_each [] h = tt
-labels_each (x ∷ xs) h = (u32_spells x (below x (left (small x) _ h)), labels_each xs (right (small x) _ h))
+labels_each (x ∷ xs) h = (u32_spells x (below x (left_true (small x) _ h)), labels_each xs (right_true (small x) _ h))
 
 labels_spell : (xs : List ℕ) → list_all small xs ≡ true → length (vector_text u32_text xs) < 2 ^ 32 → Vector U32 (vector_text u32_text xs) xs
 labels_spell xs h few = vector_spells U32 u32_text xs u32_some few (labels_each xs h)
@@ -270,7 +271,7 @@ node (Instr-F.BrIf x) h k = rw rolls-BrIf (leaf (BrIf x) 0x0D (u32_text x) (x, u
 node (Instr-F.BrTable xs y) h k =
     let labels = vector_text u32_text xs in
     rw rolls-BrTable (leaf (BrTable xs y) 0x0E (labels ++ u32_text y)
-    ((xs, y), (labels, u32_text y, labels_spell xs (left (list_all small xs) _ h.1) (omega (arith, k, length-append labels (u32_text y))), u32_spells y (below y (right (list_all small xs) _ h.1)), refl), refl))
+    ((xs, y), (labels, u32_text y, labels_spell xs (left_true (list_all small xs) _ h.1) (omega (arith, k, length-append labels (u32_text y))), u32_spells y (below y (right_true (list_all small xs) _ h.1)), refl), refl))
 node Instr-F.Return h k = rw rolls-Return (leaf Return 0x0F [] (refl, refl))
 node (Instr-F.Call x) h k = rw rolls-Call (leaf (Call x) 0x10 (u32_text x) (x, u32_spells x (below x h.0.0), refl))
 node (Instr-F.CallIndirect x y) h k = rw rolls-CallIndirect (leaf (CallIndirect x y) 0x11 (u32_text x ++ u32_text y) ((x, y), (u32_text x, u32_text y, u32_spells x (below x h.0.0), u32_spells y (below y h.0.1.0), refl), refl))

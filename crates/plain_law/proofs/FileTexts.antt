@@ -2,6 +2,7 @@
 use Rattle.std.proofs.Common.{◌≡◌, ℕ, zero, suc, ◌/◌, ◌<◌, ◌≤◌, ◌^◌, List, [], ◌∷◌, ◌++◌, map, length, length-append, Bool, true, false, Option, Some, None, refl, sym, ap, ◌∙◌, subst, arith, append_assoc, append-nil, ⊎_elim}
 use Rattle.std.specs.Prelude.{if◌then◌else◌}
 use Rattle.std.proofs.lemmas.Bool.{lt-ltb, le-ltb, cases_lt}
+use Rattle.std.proofs.lemmas.List.{length-map}
 use Rattle.wasm_bytes.specs.Writing.{u32_text, unsigned_text, sized_text}
 use Rattle.wasm_bytes.specs.Joins.{U32, Vector}
 use Rattle.wasm_bytes.specs.Frames.{Section, header, may_follow, after, Frames}
@@ -26,7 +27,7 @@ use Rattle.wasm_plain.specs.PlainValues.{each_text, vector_text, func_type_text,
 use Rattle.wasm_plain.specs.PlainCode.{entry_text}
 use Rattle.wasm_plain.specs.Plain.{section_text, list_section, start_section, count_section, plain}
 use Rattle.plain_law.specs.Ranges.{IsU32, MaxInRange, LimitsInRange, ConstInRange, ImportInRange, ExportInRange, ElemInRange, DataModeInRange, FuncInRange, InRange}
-use Rattle.plain_law.proofs.Parts.{u32_some, u32_spells, sized_spells, vector_mapped, length_map, every_with, every_of, every_short, count_below}
+use Rattle.plain_law.proofs.Parts.{u32_some, u32_spells, sized_spells, vector_mapped, every_with, every_of, every_short, count_below}
 use Rattle.plain_law.proofs.ItemTexts.{func_type_spells, func_type_some, table_spells, table_some, limits_spells, limits_some, import_spells, import_some, global_spells, global_some, export_spells, export_some}
 use Rattle.plain_law.proofs.SegmentTexts.{elem_spells, elem_some, data_spells, data_some}
 use Rattle.plain_law.proofs.EntryTexts.{untyped, entry_spells, entry_some, funcs_use_same}
@@ -382,8 +383,8 @@ counted_right false n p uses count = uses
 
 rules : (m : Module) → Rules (p12 m)
 rules m = record {
-  functions = length_map (λ (f : Func). f.ty) m.funcs ∙ sym (length_map untyped m.funcs);
-  counted = counted_right (any_uses_data m.funcs) (length m.datas) (p12 m) (sym (funcs_use_same m.funcs)) (sym (length_map (λ (x : DataSeg). x) m.datas));
+  functions = length-map m.funcs (λ (f : Func). f.ty) ∙ sym (length-map m.funcs untyped);
+  counted = counted_right (any_uses_data m.funcs) (length m.datas) (p12 m) (sym (funcs_use_same m.funcs)) (sym (length-map m.datas (λ (x : DataSeg). x)));
 }
 
 module_of : (ts ts' : List FuncType) (is is' : List Import) (fs fs' : List Func) (bs bs' : List TableType) (ms ms' : List Limits) (gs gs' : List GlobalDef) (es es' : List Export) (s : Option ℕ) (ls ls' : List ElemSeg) (ds ds' : List DataSeg) →

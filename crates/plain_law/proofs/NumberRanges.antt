@@ -63,9 +63,6 @@ is_small_64 (negsuc n) h = let k = h.0 in let lt : n < 2 ^ 63 = omega (arith, in
 pub is_index : (text : List ℕ) (n : ℕ) → Signed 33 text (pos n) → small n ≡ true
 is_index text n h = let k = (signed_in 33 text (pos n) h).1 in let lt : n < 2 ^ 32 = omega (arith, ints) in lt-ltb n (2 ^ 32) lt
 
-pub both : (a b : Bool) → a ≡ true → b ≡ true → a && b ≡ true
-both a b h k = rw (h, k)
-
 -- ---- what spellings say of their values
 
 abbrev pub Says : {A : Type 0} → (A → Type 0) → (List ℕ → A → Type 0) → Type 0

@@ -2,6 +2,7 @@
 use Rattle.std.proofs.Common.{◌≡◌, ℕ, suc, ◌<◌, ◌≤◌, ◌^◌, List, [], ◌∷◌, ◌++◌, map, length, length-append, Bool, true, false, true≢false, ◌&&◌, ℤ, pos, negsuc, refl, sym, ap, ◌∙◌, subst, arith, append_assoc, ⊎_elim}
 use Rattle.std.proofs.lemmas.Bool.{ltb-true, lt-ltb, le-ltb, cases_lt}
 use Rattle.std.proofs.lemmas.Int.{ints}
+use Rattle.std.proofs.lemmas.List.{length-map}
 use Rattle.wasm_bytes.specs.Numbers.{Signed, IsWithin}
 use Rattle.wasm_bytes.specs.Writing.{u32_text, s32_text, s33_text, s64_text, sized_text, unsigned_text}
 use Rattle.wasm_bytes.specs.Joins.{U32, Each, Vector, Sized}
@@ -10,14 +11,6 @@ use Rattle.wasm_bytes.proofs.SignedShortest.{signed_spells}
 use Rattle.wasm_plain.specs.PlainValues.{each_text, vector_text}
 use Rattle.base_lists.specs.Every.{Every}
 use Rattle.plain_law.specs.Ranges.{small, small_signed}
-
-pub left : (a b : Bool) → a && b ≡ true → a ≡ true
-left true b h = refl
-left false b h = h
-
-pub right : (a b : Bool) → a && b ≡ true → b ≡ true
-right true b h = h
-right false b h = absurd (true≢false (sym h))
 
 pub below : (n : ℕ) → small n ≡ true → n < 2 ^ 32
 below n h = ltb-true n (2 ^ 32) h
@@ -79,14 +72,10 @@ pub vector_spells : {A : Type 0} (spells : List ℕ → A → Type 0) (text : A 
     Every (λ x. spells (text x) x) xs → Vector spells (vector_text text xs) xs
 vector_spells spells text xs some few h = (u32_text (length xs), each_text text xs, u32_spells (length xs) (vector_count text xs some few), each_spells spells text xs h, refl)
 
-pub length_map : {A B : Type 0} (f : A → B) (xs : List A) → length (map f xs) ≡ length xs
-length_map f [] = refl
-length_map f (x ∷ xs) = ap suc (length_map f xs)
-
 pub vector_mapped : {A B : Type 0} (f : A → B) (spells : List ℕ → B → Type 0) (text : A → List ℕ) (xs : List A) → ((x : A) → 0 < length (text x)) → length (vector_text text xs) < 2 ^ 32 →
     Every (λ x. spells (text x) (f x)) xs → Vector spells (vector_text text xs) (map f xs)
 vector_mapped f spells text xs some few h =
-    (u32_text (length xs), each_text text xs, subst (U32 (u32_text (length xs))) (sym (length_map f xs)) (u32_spells (length xs) (vector_count text xs some few)), each_mapped f spells text xs h, refl)
+    (u32_text (length xs), each_text text xs, subst (U32 (u32_text (length xs))) (sym (length-map xs f)) (u32_spells (length xs) (vector_count text xs some few)), each_mapped f spells text xs h, refl)
 
 -- ---- what holds of every item
 

@@ -1,7 +1,8 @@
 -- The plain texts of element and data segments spell them.
 use Rattle.std.proofs.Common.{◌≡◌, ℕ, ◌<◌, ◌≤◌, ◌^◌, List, [], ◌∷◌, ◌++◌, length, length-append, Bool, true, false, true≢false, ◌&&◌, ◌⊎◌, inl, inr, ⊎_elim, refl, sym, arith, append_assoc}
 use Rattle.std.specs.Prelude.{◌==◌}
-use Rattle.std.proofs.lemmas.Bool.{eqb-true}
+use Rattle.std.proofs.lemmas.Bool.{eqb-true, cases_Bool}
+use Rattle.base_lists.proofs.Bools.{left_true, right_true}
 use Rattle.wasm_bytes.specs.Writing.{u32_text, sized_text}
 use Rattle.wasm_bytes.specs.Joins.{U32, Sized}
 use Rattle.wasm_tree.specs.declared.types.RefType.{RefType}
@@ -20,12 +21,8 @@ use Rattle.wasm_format.specs.Values.{SpellsConst}
 use Rattle.wasm_format.specs.Sections.{FuncItems, ConstItems, elem_of, elem_form, SpellsElem, data_form, SpellsData}
 use Rattle.wasm_plain.specs.PlainValues.{ref_code, ref_text, const_text, is_func, func_of, is_funcref, all_funcs, by_index, index_items, const_items, active_by_index, active_by_const, mode_by_index, mode_by_const, elem_text, data_mode_text, data_text}
 use Rattle.plain_law.specs.Ranges.{IsU32, ConstInRange, ElemModeInRange, ElemInRange, DataModeInRange}
-use Rattle.plain_law.proofs.Parts.{u32_some, u32_spells, flag_spells, sized_spells, vector_spells, every_with, left, right}
+use Rattle.plain_law.proofs.Parts.{u32_some, u32_spells, flag_spells, sized_spells, vector_spells, every_with}
 use Rattle.plain_law.proofs.ItemTexts.{ref_spells, const_spells, const_some}
-
-pub two_cases : (b : Bool) → (b ≡ true) ⊎ (b ≡ false)
-two_cases true = inl refl
-two_cases false = inr refl
 
 -- ---- items
 
@@ -39,7 +36,7 @@ func_item (const.Global x) f h = absurd (true≢false (sym f))
 
 func_each : (cs : List ConstExpr) → all_funcs cs ≡ true → Every ConstInRange cs → Every (λ c. Made const.Func U32 (u32_text (func_of c)) c) cs
 func_each [] f h = tt
-func_each (c ∷ cs) f h = (func_item c (left (is_func c) _ f) h.0, func_each cs (right (is_func c) _ f) h.1)
+func_each (c ∷ cs) f h = (func_item c (left_true (is_func c) _ f) h.0, func_each cs (right_true (is_func c) _ f) h.1)
 
 func_items : (cs : List ConstExpr) → all_funcs cs ≡ true → Every ConstInRange cs → length (index_items cs) < 2 ^ 32 → FuncItems (index_items cs) cs
 unfolding index_items
@@ -77,7 +74,7 @@ index_active table offset cs h k items = ⊎_elim
         refl,
       ),
     ))
-    (two_cases (table == 0))
+    (cases_Bool (table == 0))
 
 index_mode : (m : ElemMode) (cs : List ConstExpr) → ElemModeInRange m → FuncItems (index_items cs) cs → SpellsElem (mode_by_index m cs) (elem_of m ref.Func cs)
 unfolding elem_form
@@ -116,11 +113,11 @@ const_active table offset ref.Func cs h k items = ⊎_elim
     (λ yes. let e : table ≡ 0 = eqb-true table 0 yes in rw e
     (4, (0x04 ∷ [], const_text offset ++ const_items cs, flag_spells 4 (omega arith), ((offset, cs), (const_text offset, const_items cs, const_spells offset k, items, refl), refl), refl)))
     (λ no. rw no (const_active_6 table offset ref.Func cs h k items))
-    (two_cases (table == 0))
+    (cases_Bool (table == 0))
 const_active table offset ref.Extern cs h k items = ⊎_elim
     (λ yes. rw yes (const_active_6 table offset ref.Extern cs h k items))
     (λ no. rw no (const_active_6 table offset ref.Extern cs h k items))
-    (two_cases (table == 0))
+    (cases_Bool (table == 0))
 
 const_mode : (m : ElemMode) (ty : RefType) (cs : List ConstExpr) → ElemModeInRange m → ConstItems (const_items cs) cs → SpellsElem (mode_by_const m ty cs) (elem_of m ty cs)
 unfolding elem_form
@@ -137,7 +134,7 @@ pub index_long : (m : ElemMode) (cs : List ConstExpr) → length (index_items cs
 index_long (elem.Active table offset) cs = ⊎_elim
     (λ yes. rw yes (ends (0x00 ∷ const_text offset) (index_items cs) (length (index_items cs)) (omega arith)))
     (λ no. rw no (ends ((0x02 ∷ u32_text table) ++ const_text offset) (0x00 ∷ index_items cs) (length (index_items cs)) (omega arith)))
-    (two_cases (table == 0))
+    (cases_Bool (table == 0))
 index_long elem.Passive cs = omega arith
 index_long elem.Declarative cs = omega arith
 
@@ -145,7 +142,7 @@ pub const_long : (m : ElemMode) (ty : RefType) (cs : List ConstExpr) → length 
 const_long (elem.Active table offset) ty cs = ⊎_elim
     (λ yes. rw yes (ends (0x04 ∷ const_text offset) (const_items cs) (length (const_items cs)) (omega arith)))
     (λ no. rw no (ends ((0x06 ∷ u32_text table) ++ const_text offset) (ref_code ty ∷ const_items cs) (length (const_items cs)) (omega arith)))
-    (two_cases ((table == 0) && is_funcref ty))
+    (cases_Bool ((table == 0) && is_funcref ty))
 const_long elem.Passive ty cs = omega arith
 const_long elem.Declarative ty cs = omega arith
 
@@ -159,25 +156,25 @@ unfolding elem_text is_funcref
 elem_of_spells m ref.Func cs h few = ⊎_elim
     (λ yes. let short = rw yes at few in let k = index_long m cs in rw yes (index_mode m cs h.0 (func_items cs yes h.1 (omega (arith, short, k)))))
     (λ no. let short = rw no at few in rw no (const_elem m ref.Func cs h short))
-    (two_cases (all_funcs cs))
+    (cases_Bool (all_funcs cs))
 elem_of_spells m ref.Extern cs h few = const_elem m ref.Extern cs h few
 
 pub elem_spells : (s : ElemSeg) → ElemInRange s → length (elem_text s) < 2 ^ 32 → SpellsElem (elem_text s) s
 elem_spells s h few = elem_of_spells s.mode s.ty s.items h few
 
 mode_index_some : (m : ElemMode) (cs : List ConstExpr) → 0 < length (mode_by_index m cs)
-mode_index_some (elem.Active table offset) cs = ⊎_elim (λ yes. rw yes (omega arith)) (λ no. rw no (omega arith)) (two_cases (table == 0))
+mode_index_some (elem.Active table offset) cs = ⊎_elim (λ yes. rw yes (omega arith)) (λ no. rw no (omega arith)) (cases_Bool (table == 0))
 mode_index_some elem.Passive cs = omega arith
 mode_index_some elem.Declarative cs = omega arith
 
 mode_const_some : (m : ElemMode) (ty : RefType) (cs : List ConstExpr) → 0 < length (mode_by_const m ty cs)
-mode_const_some (elem.Active table offset) ty cs = ⊎_elim (λ yes. rw yes (omega arith)) (λ no. rw no (omega arith)) (two_cases ((table == 0) && is_funcref ty))
+mode_const_some (elem.Active table offset) ty cs = ⊎_elim (λ yes. rw yes (omega arith)) (λ no. rw no (omega arith)) (cases_Bool ((table == 0) && is_funcref ty))
 mode_const_some elem.Passive ty cs = omega arith
 mode_const_some elem.Declarative ty cs = omega arith
 
 pub elem_some : (s : ElemSeg) → 0 < length (elem_text s)
 unfolding elem_text
-elem_some s = ⊎_elim (λ yes. rw yes (mode_index_some s.mode s.items)) (λ no. rw no (mode_const_some s.mode s.ty s.items)) (two_cases (by_index s))
+elem_some s = ⊎_elim (λ yes. rw yes (mode_index_some s.mode s.items)) (λ no. rw no (mode_const_some s.mode s.ty s.items)) (cases_Bool (by_index s))
 
 -- ---- data segments
 
@@ -206,7 +203,7 @@ data_mode_spells (segment.Active memory offset) bytes h content = ⊎_elim
         refl,
       ),
     ))
-    (two_cases (memory == 0))
+    (cases_Bool (memory == 0))
 data_mode_spells segment.Passive bytes h content = (1, (0x01 ∷ [], sized_text bytes, flag_spells 1 (omega arith), (bytes, content, refl), refl))
 
 pub data_spells : (s : DataSeg) → DataModeInRange s.mode → length (data_text s) < 2 ^ 32 → SpellsData (data_text s) s

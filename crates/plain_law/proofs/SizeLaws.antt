@@ -2,6 +2,7 @@
 use Rattle.std.proofs.Common.{◌≡◌, ℕ, suc, ◌+◌, ◌<◌, ◌^◌, List, [], ◌∷◌, ◌++◌, map, length, length-append, Bool, true, refl, ap, ◌∙◌, subst, arith, append-nil, ⊎_elim}
 use Rattle.std.specs.List.{list_all}
 use Rattle.std.proofs.lemmas.List.Folds.{list_all-map}
+use Rattle.std.proofs.lemmas.Bool.{and_from, cases_Bool}
 use Rattle.wasm_bytes.specs.Writing.{u32_text, unsigned_text, sized_text}
 use Rattle.wasm_tree.specs.declared.types.FuncType.{FuncType}
 use Rattle.wasm_tree.specs.declared.instr.Instr.{Instr, map-Instr, ind-Instr, fold-roll-Instr, roll-Instr}
@@ -19,19 +20,19 @@ use Rattle.wasm_plain.specs.PlainCode.{instr_step, instr_text, instrs_text, body
 use Rattle.wasm_plain.specs.Plain.{list_section, plain}
 use Rattle.plain_law.specs.SmallSizes.{IsShort, lists_step, has_short_lists, all_have_short_lists, SmallSection, FuncTypeIsSmall, ImportIsSmall, FuncIsSmall, SmallSizes}
 use Rattle.plain_law.proofs.Parts.{u32_some, vector_count, every_of, every_short}
-use Rattle.plain_law.proofs.NumberRanges.{is_small, both}
+use Rattle.plain_law.proofs.NumberRanges.{is_small}
 use Rattle.plain_law.proofs.ItemTexts.{val_some, func_type_some, import_some, table_some, limits_some, global_some, export_some, const_some}
-use Rattle.plain_law.proofs.SegmentTexts.{two_cases, index_long, const_long, elem_some, data_some}
+use Rattle.plain_law.proofs.SegmentTexts.{index_long, const_long, elem_some, data_some}
 use Rattle.plain_law.proofs.EntryTexts.{group_some, entry_some}
 use Rattle.plain_law.proofs.FileTexts.{each_short, section_short, section_lengths}
 
 -- ---- lists in bodies
 
-abbrev Good : Instr → Type 0
-Good i = length (instr_text i) < 2 ^ 32 → has_short_lists i ≡ true
+abbrev Short : Instr → Type 0
+Short i = length (instr_text i) < 2 ^ 32 → has_short_lists i ≡ true
 
 abbrev Such : Type 0
-Such = (i : Instr) × Good i
+Such = (i : Instr) × Short i
 
 abbrev trees : List Such → List Instr
 trees = map (λ e. e.0)
@@ -40,7 +41,7 @@ body_short : (es : List Such) → length (instrs_text (trees es)) < 2 ^ 32 → a
 body_short [] few = refl
 body_short (e ∷ es) few =
     let sizes = length-append (instr_text e.0) (instrs_text (trees es)) in
-    both (has_short_lists e.0) (all_have_short_lists (trees es)) (e.1 (omega (arith, few, sizes))) (body_short es (omega (arith, few, sizes)))
+    and_from (has_short_lists e.0) (all_have_short_lists (trees es)) (e.1 (omega (arith, few, sizes))) (body_short es (omega (arith, few, sizes)))
 
 whole_short : (es : List Such) → length (instrs_text (trees es)) < 2 ^ 32 → list_all (λ b. b) (map has_short_lists (trees es)) ≡ true
 whole_short es few = list_all-map (λ b. b) has_short_lists (trees es) ∙ body_short es few
@@ -57,7 +58,7 @@ node (Instr-F.Loop ty body) k = whole_short body (inside (0x03 ∷ block_type_te
 node (Instr-F.If ty body []) k =
     let begin = 0x04 ∷ block_type_text ty in
     let none : (begin ++ instrs_text (trees body) ++ []) ++ 0x0B ∷ [] ≡ begin ++ instrs_text (trees body) ++ 0x0B ∷ [] = ap (λ x. x ++ 0x0B ∷ []) (append-nil (begin ++ instrs_text (trees body))) in
-    both (list_all (λ b. b) (map has_short_lists (trees body))) true (whole_short body (inside begin (instrs_text (trees body)) (0x0B ∷ []) (subst (λ t. length t < 2 ^ 32) none k))) refl
+    and_from (list_all (λ b. b) (map has_short_lists (trees body))) true (whole_short body (inside begin (instrs_text (trees body)) (0x0B ∷ []) (subst (λ t. length t < 2 ^ 32) none k))) refl
 node (Instr-F.If ty body (e ∷ es)) k =
     let begin = 0x04 ∷ block_type_text ty in
     let inner = instrs_text (trees body) in
@@ -65,7 +66,7 @@ node (Instr-F.If ty body (e ∷ es)) k =
     let all : length ((begin ++ inner ++ (0x05 ∷ other)) ++ 0x0B ∷ []) < 2 ^ 32 = k in
     let sizes : length ((begin ++ inner ++ (0x05 ∷ other)) ++ 0x0B ∷ []) ≡ length begin + length inner + (1 + length other) + 1 =
     length-append (begin ++ inner ++ (0x05 ∷ other)) (0x0B ∷ []) ∙ ap (λ n. n + 1) (length-append (begin ++ inner) (0x05 ∷ other) ∙ ap (λ n. n + suc (length other)) (length-append begin inner)) ∙ omega arith in
-    both (list_all (λ b. b) (map has_short_lists (trees body))) (list_all (λ b. b) (map has_short_lists (trees (e ∷ es)))) (whole_short body (omega (arith, all, sizes))) (whole_short (e ∷ es) (omega (arith, all, sizes)))
+    and_from (list_all (λ b. b) (map has_short_lists (trees body))) (list_all (λ b. b) (map has_short_lists (trees (e ∷ es)))) (whole_short body (omega (arith, all, sizes))) (whole_short (e ∷ es) (omega (arith, all, sizes)))
 node (Instr-F.Br x) k = refl
 node (Instr-F.BrIf x) k = refl
 node (Instr-F.BrTable xs y) k =
@@ -106,8 +107,8 @@ node (Instr-F.TableGrow x) k = refl
 node (Instr-F.TableSize x) k = refl
 node (Instr-F.TableFill x) k = refl
 
-good : (i : Instr) → Good i
-good = ind-Instr Good (λ x y is. subst (λ z. Good (roll-Instr z)) is (λ k.
+good : (i : Instr) → Short i
+good = ind-Instr Short (λ x y is. subst (λ z. Short (roll-Instr z)) is (λ k.
     let z = map-Instr Such Instr (λ e. e.0) y in
     fold-roll-Instr Bool lists_step z ∙ node y (subst (λ t. length t < 2 ^ 32) (fold-roll-Instr (List ℕ) instr_step z) k)))
 
@@ -115,7 +116,7 @@ instrs_short : (is : List Instr) → length (instrs_text is) < 2 ^ 32 → all_ha
 instrs_short [] few = refl
 instrs_short (i ∷ is) few =
     let sizes = length-append (instr_text i) (instrs_text is) in
-    both (has_short_lists i) (all_have_short_lists is) (good i (omega (arith, few, sizes))) (instrs_short is (omega (arith, few, sizes)))
+    and_from (has_short_lists i) (all_have_short_lists is) (good i (omega (arith, few, sizes))) (instrs_short is (omega (arith, few, sizes)))
 
 -- ---- items
 
@@ -149,7 +150,7 @@ unfolding elem_text index_items const_items
 elem_small s few = ⊎_elim
     (λ yes. let short = rw yes at few in let k = index_long s.mode s.items in vector_count (λ c. u32_text (func_of c)) s.items (λ c. u32_some (func_of c)) (omega (arith, short, k)))
     (λ no. let short = rw no at few in let k = const_long s.mode s.ty s.items in vector_count const_text s.items const_some (omega (arith, short, k)))
-    (two_cases (by_index s))
+    (cases_Bool (by_index s))
 
 data_small : (s : DataSeg) → length (data_text s) < 2 ^ 32 → IsShort s.bytes
 unfolding data_text

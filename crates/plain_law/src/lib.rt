@@ -1,11 +1,14 @@
 //! The plain spelling of a module spells it.
 #![tactic(auto)]
 
-ghost use Rattle.std.specs.Prelude.{ℕ, List, ◌<◌, ◌^◌, length, false};
+ghost use Rattle.std.specs.Prelude.{◌≡◌, ℕ, List, ◌<◌, ◌^◌, length, false};
 ghost use Rattle.wasm_tree.specs.declared.module.Module.{Module as Tree};
+ghost use Rattle.wasm_tree.specs.declared.instr.Instr.{Instr as Code};
+ghost use Rattle.wasm_tree.specs.declared.space.Space.{Space as IndexSpace};
+ghost use Rattle.wasm_tree.specs.Operands.{mapped_all};
 ghost use Rattle.wasm_format.specs.Files.{Spells};
 ghost use Rattle.wasm_plain.specs.Plain.{plain};
-ghost use Rattle.plain_law.specs.Ranges.{InRange};
+ghost use Rattle.plain_law.specs.Ranges.{InRange, all_numbers_in};
 ghost use Rattle.plain_law.specs.SmallSizes.{SmallSizes};
 
 /// The plain spelling of a tree, of fewer than 2^32 bytes, spells the tree. The premise holds of each tree that a program holds
@@ -24,4 +27,9 @@ pub fn spelled_trees_are_in_range()
 /// size that is written is below 2^32.
 pub fn trees_that_fit_have_small_sizes()
     ensures { (m : Tree) → length (plain m) < 2 ^ 32 → SmallSizes m }
+{}
+
+/// With other indices code keeps its other numbers: labels, locals, constants, alignments and offsets.
+pub fn other_numbers_stay()
+    ensures { (f : IndexSpace → ℕ → ℕ) (code : List Code) → all_numbers_in (mapped_all f code) ≡ all_numbers_in code }
 {}

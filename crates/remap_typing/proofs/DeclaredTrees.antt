@@ -34,9 +34,10 @@ use Rattle.wasm_valid.specs.Validity.{HoldsAt, ImportHolds, InSpace, ElemModeHol
 use Rattle.index_remap.specs.References.{refs_all, body_refs, offset_func, offset_refs, outside_refs, is_among, declared_refs, declaring, with_declared, declared}
 use Rattle.index_remap.specs.Agreement.{Keeps}
 use Rattle.remap_typing.specs.ButForReferences.{any_named, HoldsButForReferences, IsValidButForReferences}
-use Rattle.remap_typing.proofs.Lists.{two_cases, both_true, found, get_front, get_last, get_each, each_within, among_left, among_right, among_either, among_joined, joined_among, chosen_among, marked, is_marked, named_within, left_either, right_either}
+use Rattle.remap_typing.proofs.Lists.{two_cases, both_true, among_left, among_right, among_either, among_joined, joined_among, chosen_among, marked, is_marked, named_within, left_either, right_either}
+use Rattle.base_lists.proofs.Places.{slice_get_there, map_from, append_at_left, push_from, replicate_at, replicate_within}
 use Rattle.remap_typing.proofs.NamedFuncs.{typed_named, typed_wider}
-use Rattle.remap_typing.proofs.WholeTrees.{ValidWhereItemsHold, got_back}
+use Rattle.remap_typing.proofs.WholeTrees.{ValidWhereItemsHold}
 
 -- ---- filtered numbers ----
 
@@ -182,7 +183,7 @@ module _ (t : Module) where
     data_mode_same «data».Passive h = tt
 
     elem_same : (i : ℕ) → HoldsAt t kind.Elem i → HoldsAt (with_segment s) kind.Elem i
-    elem_same i (z, at, items, mode) = (z, get_front t.elems s i z at, (λ j e g. const_same e ∙ items j e g), elem_mode_same z.ty z.mode mode)
+    elem_same i (z, at, items, mode) = (z, append_at_left t.elems (s ∷ []) i z at, (λ j e g. const_same e ∙ items j e g), elem_mode_same z.ty z.mode mode)
 
   -- a segment of functions of the space holds
   declaring_holds : (rs : List ℕ) (i : ℕ) → ((j x : ℕ) → slice_get rs j ≡ Some x → x < space) → slice_get (t.elems ++ declaring rs ∷ []) i ≡ Some (declaring rs) → HoldsAt (with_segment (declaring rs)) kind.Elem i
@@ -190,14 +191,14 @@ module _ (t : Module) where
     where
       each : (j : ℕ) (e : ConstExpr) → slice_get (map const.Func rs) j ≡ Some e → const_type (with_segment (declaring rs)) e ≡ Some (Ref func_ref)
       each j e g =
-          let r = got_back const.Func rs j e g in
+          let r = map_from const.Func rs j e g in
           ap (const_type (with_segment (declaring rs))) (sym r.2) ∙ ap (λ b. only b (Some (Ref func_ref))) (lt-ltb _ _ (within j r.0 r.1))
 
   elems_hold : (rs : List ℕ) → ((j x : ℕ) → slice_get rs j ≡ Some x → x < space) → ElemsHold → (i : ℕ) → i < length (t.elems ++ declaring rs ∷ []) → HoldsAt (with_segment (declaring rs)) kind.Elem i
-  elems_hold rs within holds i lt = here (found (t.elems ++ declaring rs ∷ []) i lt)
+  elems_hold rs within holds i lt = here (slice_get_there (t.elems ++ declaring rs ∷ []) i lt)
     where
       here : (z : ElemSeg) × (slice_get (t.elems ++ declaring rs ∷ []) i ≡ Some z) → HoldsAt (with_segment (declaring rs)) kind.Elem i
-      here (z, e) = there (get_last t.elems (declaring rs) i z e)
+      here (z, e) = there (push_from t.elems (declaring rs) i z e)
         where
           there : (slice_get t.elems i ≡ Some z) ⊎ (z ≡ declaring rs) → HoldsAt (with_segment (declaring rs)) kind.Elem i
           there (inl f) = elem_same (declaring rs) i (holds i (slice_get_within t.elems i z f))
@@ -222,13 +223,13 @@ module _ (t : Module) where
   body_same : NamesHold t → (i : ℕ) → HoldsButForReferences t kind.Body i → HoldsAt t kind.Body i
   body_same names i (f, ft, at, ty, w) =
       let c = any_named (body_context t f ft) in
-      (f, ft, at, ty, typed_wider c (elem_types t.elems) (named_of t) (λ j v q. q) f.body [] ft.results (λ x k n. names x (each_within true true space x n) (body_named i f at x k)) w)
+      (f, ft, at, ty, typed_wider c (elem_types t.elems) (named_of t) (λ j v q. q) f.body [] ft.results (λ x k n. names x (replicate_within true true space x n) (body_named i f at x k)) w)
 
   body_more : (s : ElemSeg) → NamesHold (with_segment s) → (i : ℕ) → HoldsButForReferences t kind.Body i → HoldsAt (with_segment s) kind.Body i
   body_more s names i (f, ft, at, ty, w) =
       let c = any_named (body_context t f ft) in
-      let more : (j : ℕ) → Keeps (slice_get (elem_types t.elems) j) (slice_get (elem_types (t.elems ++ s ∷ [])) j) = λ j v q. ap (λ zs. slice_get zs j) (map-append (λ z. z.ty) t.elems (s ∷ [])) ∙ get_front (elem_types t.elems) s.ty j v q in
-      (f, ft, at, ty, typed_wider c (elem_types (t.elems ++ s ∷ [])) (named_of (with_segment s)) more f.body [] ft.results (λ x k n. names x (each_within true true space x n) (body_named i f at x k)) w)
+      let more : (j : ℕ) → Keeps (slice_get (elem_types t.elems) j) (slice_get (elem_types (t.elems ++ s ∷ [])) j) = λ j v q. ap (λ zs. slice_get zs j) (map-append (λ z. z.ty) t.elems (s ∷ [])) ∙ append_at_left (elem_types t.elems) (s.ty ∷ []) j v q in
+      (f, ft, at, ty, typed_wider c (elem_types (t.elems ++ s ∷ [])) (named_of (with_segment s)) more f.body [] ft.results (λ x k n. names x (replicate_within true true space x n) (body_named i f at x k)) w)
 
   -- ---- the tree ----
 
@@ -314,7 +315,7 @@ declared_stays law t valid =
 weaker_item : (t : Module) (k : ItemKind) (i : ℕ) → HoldsAt t k i → HoldsButForReferences t k i
 weaker_item t kind.Body i (f, ft, at, ty, w) =
     let c = body_context t f ft in
-    (f, ft, at, ty, typed_wider c (elem_types t.elems) (replicate (length (funcs_of t)) true) (λ j v q. q) f.body [] ft.results (λ x k n. get_each true (length (funcs_of t)) x (named_within (refs_of t) 0 (length (funcs_of t)) x true n)) w)
+    (f, ft, at, ty, typed_wider c (elem_types t.elems) (replicate (length (funcs_of t)) true) (λ j v q. q) f.body [] ft.results (λ x k n. replicate_at true (length (funcs_of t)) x (named_within (refs_of t) 0 (length (funcs_of t)) x true n)) w)
 weaker_item t k i h = h
 
 pub valid_weaker : ValidWhereItemsHold → (t : Module) → IsValid t → IsValidButForReferences t

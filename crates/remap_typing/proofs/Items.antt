@@ -1,6 +1,6 @@
 -- Items that stand for others hold where those hold.
-use Rattle.std.proofs.Common.{◌≡◌, ℕ, ◌<◌, ◌≤◌, true, ◌&&◌, not, nat_lt, List, [], length, Some, refl, sym, ap, ◌∙◌, subst, arith, IsTrue}
-use Rattle.std.specs.Prelude.{slice_get, slice_index}
+use Rattle.std.proofs.Common.{◌≡◌, ℕ, ◌<◌, ◌≤◌, Bool, true, false, ◌&&◌, not, nat_lt, List, [], length, Some, refl, sym, ap, ◌∙◌, subst, arith, IsTrue}
+use Rattle.std.specs.Prelude.{slice_get, slice_index, replicate}
 use Rattle.std.proofs.lemmas.Bool.{ltb-true, lt-ltb}
 use Rattle.std.proofs.lemmas.List.{length-map}
 use Rattle.wasm_tree.specs.declared.types.RefType.{RefType}
@@ -15,6 +15,8 @@ use Rattle.wasm_tree.specs.declared.module.ExportDesc.TheVariants as ex
 use Rattle.wasm_tree.specs.declared.module.ElemMode.{ElemMode}
 use Rattle.wasm_tree.specs.declared.module.ElemSeg.{ElemSeg}
 use Rattle.wasm_tree.specs.declared.module.DataMode.{DataMode}
+use Rattle.wasm_tree.specs.declared.space.Space.{Space}
+use Rattle.wasm_tree.specs.declared.space.Space.TheVariants.{Types, Functions, Tables, Memories, Globals, ElementSegments, DataSegments}
 use Rattle.wasm_tree.specs.declared.module.ConstExpr.{ConstExpr}
 use Rattle.wasm_tree.specs.declared.module.ConstExpr.TheVariants as const
 use Rattle.wasm_tree.specs.declared.module.Func.{Func}
@@ -24,17 +26,19 @@ use Rattle.wasm_typing.specs.Typing.{Context, WellTyped}
 use Rattle.wasm_valid.specs.declared.kinds.ItemKind.{ItemKind}
 use Rattle.wasm_valid.specs.declared.kinds.ItemKind.TheVariants as kind
 use Rattle.wasm_valid.specs.Constants.{const_type}
-use Rattle.wasm_valid.specs.Named.{refs_of}
+use Rattle.wasm_valid.specs.Named.{named_of, refs_of}
 use Rattle.wasm_valid.specs.SpaceTypes.{table_types}
 use Rattle.wasm_valid.specs.Validity.{HoldsAt, ImportHolds, InSpace, ElemModeHolds, DataModeHolds, body_context}
 use Rattle.index_remap.specs.declared.remap.Remap.{Remap}
 use Rattle.index_remap.specs.Renumbered.{new_const, new_func, new_import_desc, new_export_desc, renumbered_all}
-use Rattle.index_remap.specs.CodeNames.{ListLayers}
+use Rattle.wasm_tree.specs.Layers.{ListLayers}
+use Rattle.index_remap.specs.Agreement.{OperandAgrees}
 use Rattle.remap_typing.specs.Indices.{Indices, LayerNamesOnly, ConstNamesOnly, ImportNamesOnly, ExportNamesOnly}
 use Rattle.remap_typing.specs.Along.{AgreesAlong}
 use Rattle.remap_typing.specs.Trees.{TreesAgree, RefsAgree, ReadsImport, ConstStands, ElemModeStands, DataModeStands, ItemStands, active, passive, declarative}
 use Rattle.remap_typing.specs.ButForReferences.{any_named, HoldsButForReferences}
-use Rattle.remap_typing.proofs.Lists.{place_kept, get_each, named_within}
+use Rattle.remap_typing.proofs.Lists.{place_kept, named_within}
+use Rattle.base_lists.proofs.Places.{replicate_at}
 use Rattle.index_remap.proofs.Keeping.{keeps_then, keeps_only, and_keeps}
 
 -- bodies stay well typed
@@ -53,17 +57,17 @@ module _ (m : Remap) (kept : Indices) (t u : Module) (k : TreesAgree m kept t u)
       (λ z. keeps_only (nat_lt g (length (imported_globals t.imports)) && not z.mutable) (nat_lt (slice_index m.globals g) (length (imported_globals u.imports)) && not z.mutable) _ _
       (and_keeps (nat_lt g (length (imported_globals t.imports))) (nat_lt (slice_index m.globals g) (length (imported_globals u.imports))) (not z.mutable) (not z.mutable) (λ b. lt-ltb _ _ r) (λ b. b)) (λ y p. p)) ty e
 
-  types_within : (i : ℕ) → IsTrue (kept.types i) → i < length t.types → slice_index m.types i < length u.types
+  types_within : (i : ℕ) → IsTrue (kept Types i) → i < length t.types → slice_index m.types i < length u.types
   types_within i h lt = place_kept t.types u.types i (slice_index m.types i) (k.types i h) lt
 
-  tables_within : (i : ℕ) → IsTrue (kept.tables i) → i < length (tables_of t) → slice_index m.tables i < length (tables_of u)
+  tables_within : (i : ℕ) → IsTrue (kept Tables i) → i < length (tables_of t) → slice_index m.tables i < length (tables_of u)
   tables_within i h lt =
       let a = length-map (tables_of t) (λ x. x.ty) in
       let b = length-map (tables_of u) (λ x. x.ty) in
       let there : slice_index m.tables i < length (table_types u) = place_kept (table_types t) (table_types u) i (slice_index m.tables i) (k.tables i h) (omega (arith, a)) in
       omega (arith, b, there)
 
-  globals_within : (i : ℕ) → IsTrue (kept.globals i) → i < length (globals_of t) → slice_index m.globals i < length (globals_of u)
+  globals_within : (i : ℕ) → IsTrue (kept Globals i) → i < length (globals_of t) → slice_index m.globals i < length (globals_of u)
   globals_within i h lt = place_kept (globals_of t) (globals_of u) i (slice_index m.globals i) (k.globals i h) lt
 
   import_kept : (d : ImportDesc) → ImportNamesOnly kept d → ImportHolds t d → ImportHolds u (new_import_desc m d)
@@ -87,30 +91,24 @@ module _ (m : Remap) (kept : Indices) (t u : Module) (k : TreesAgree m kept t u)
   data_mode_kept a b (active {memory} h c) p = (k.memories memory h p.0, c _ p.1)
   data_mode_kept a b passive p = tt
 
-  -- the contexts of a function's body agree
+  -- the contexts of a function's body agree, where these functions may be named in the second
+  entries_agree : (f : Func) (ft : FuncType) (bs : List Bool) → ((i : ℕ) → IsTrue (kept Functions i) → slice_get (named_of t) i ≡ Some true → slice_get bs (slice_index m.funcs i) ≡ Some true) →
+      (space : Space) (called : Bool) (i : ℕ) → IsTrue (kept space i) → OperandAgrees m (body_context t f ft) (record (body_context u (new_func m f) ft) { named = bs }) space called i
+  entries_agree f ft bs r Types called = k.types
+  entries_agree f ft bs r Functions true = k.funcs
+  entries_agree f ft bs r Functions false = r
+  entries_agree f ft bs r Tables called = k.tables
+  entries_agree f ft bs r Memories called = k.memories
+  entries_agree f ft bs r Globals called = k.globals
+  entries_agree f ft bs r ElementSegments called = k.elems
+  entries_agree f ft bs r DataSegments called = k.datas
+
   agrees : (f : Func) (ft : FuncType) → RefsAgree m kept t u → AgreesAlong m kept (body_context t f ft) (body_context u (new_func m f) ft)
-  agrees f ft r = record {
-    types = k.types;
-    funcs = k.funcs;
-    tables = k.tables;
-    memories = k.memories;
-    globals = k.globals;
-    elems = k.elems;
-    datas = k.datas;
-    refs = r;
-    frame = record { locals = refl; results = refl; labels = refl };
-  }
+  agrees f ft r = record { entries = entries_agree f ft (named_of u) r; frame = record { locals = refl; results = refl; labels = refl } }
 
   any_agrees : (f : Func) (ft : FuncType) → AgreesAlong m kept (body_context t f ft) (any_named (body_context u (new_func m f) ft))
   any_agrees f ft = record {
-    types = k.types;
-    funcs = k.funcs;
-    tables = k.tables;
-    memories = k.memories;
-    globals = k.globals;
-    elems = k.elems;
-    datas = k.datas;
-    refs = λ i h e. get_each true (length (funcs_of u)) (slice_index m.funcs i) (k.func_space i h (named_within (refs_of t) 0 (length (funcs_of t)) i true e));
+    entries = entries_agree f ft (replicate (length (funcs_of u)) true) (λ i h e. replicate_at true (length (funcs_of u)) (slice_index m.funcs i) (k.func_space i h (named_within (refs_of t) 0 (length (funcs_of t)) i true e)));
     frame = record { locals = refl; results = refl; labels = refl };
   }
 

@@ -1,5 +1,4 @@
 pub mod Lists
-pub mod Rows
 pub mod Along
 pub mod Entries
 pub mod Items

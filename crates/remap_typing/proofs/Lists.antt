@@ -7,18 +7,12 @@ use Rattle.std.proofs.lemmas.Bool.Decides.{nat_tests}
 use Rattle.std.proofs.lemmas.List.Folds.{list_any-append}
 use Rattle.std.proofs.lemmas.Option.{slice_get_within}
 use Rattle.wasm_typing.specs.Typing.{only}
-use Rattle.index_remap.specs.Renumbered.{all_true, has}
+use Rattle.index_remap.specs.Renumbered.{has}
+pub use Rattle.base_lists.proofs.Bools.{left_true, right_true}
+use Rattle.base_lists.proofs.Places.{slice_get_there}
 use Rattle.index_remap.specs.References.{is_among}
 use Rattle.wasm_valid.specs.Named.{named_from}
 use Rattle.index_remap.specs.Agreement.{Keeps}
-
-pub left_true : (a b : Bool) → a && b ≡ true → a ≡ true
-left_true false b h = cc
-left_true true b h = refl
-
-pub right_true : (a b : Bool) → a && b ≡ true → b ≡ true
-right_true false b h = cc
-right_true true b h = h
 
 pub both_true : (a b : Bool) → a ≡ true → b ≡ true → a && b ≡ true
 both_true a b g h = ap (λ z. z && b) g ∙ h
@@ -40,53 +34,12 @@ right_either false b h = h
 
 -- ---- places ----
 
-pub found : {A : Type 0} (xs : List A) (i : ℕ) → i < length xs → (x : A) × (slice_get xs i ≡ Some x)
-found [] i lt = absurd (omega arith)
-found (x ∷ xs) zero lt = (x, refl)
-found (x ∷ xs) (suc i) lt = found xs i (omega arith)
-
 -- where what is at one place is at another, the other is there as well
 pub place_kept : {A : Type 0} (xs ys : List A) (i j : ℕ) → Keeps (slice_get xs i) (slice_get ys j) → i < length xs → j < length ys
-place_kept xs ys i j k lt = let x = found xs i lt in slice_get_within ys j x.0 (k x.0 x.1)
+place_kept xs ys i j k lt = let x = slice_get_there xs i lt in slice_get_within ys j x.0 (k x.0 x.1)
 
 pub has_at : {A : Type 0} (xs : List A) (ys : List ℕ) (i : ℕ) (x : A) → length xs ≤ length ys → slice_get xs i ≡ Some x → has ys i ≡ true
 has_at xs ys i x le e = let lt = slice_get_within xs i x e in lt-ltb _ _ (omega arith)
-
-pub get_map : {A B : Type 0} (f : A → B) (xs : List A) (i : ℕ) (x : A) → slice_get xs i ≡ Some x → slice_get (map f xs) i ≡ Some (f x)
-get_map f [] i x e = cc
-get_map f (y ∷ ys) zero x e = let same : y ≡ x = cc in ap (λ z. Some (f z)) same
-get_map f (y ∷ ys) (suc i) x e = get_map f ys i x e
-
-pub get_front : {A : Type 0} (xs : List A) (y : A) (i : ℕ) (x : A) → slice_get xs i ≡ Some x → slice_get (xs ++ y ∷ []) i ≡ Some x
-get_front [] y i x e = cc
-get_front (z ∷ zs) y zero x e = e
-get_front (z ∷ zs) y (suc i) x e = get_front zs y i x e
-
--- a place in a list with one more item is a place of the list, or the last
-pub get_last : {A : Type 0} (xs : List A) (y : A) (i : ℕ) (x : A) → slice_get (xs ++ y ∷ []) i ≡ Some x → (slice_get xs i ≡ Some x) ⊎ (x ≡ y)
-get_last [] y zero x e = inr (let same : x ≡ y = cc in same)
-get_last [] y (suc i) x e = cc
-get_last (z ∷ zs) y zero x e = inl e
-get_last (z ∷ zs) y (suc i) x e = get_last zs y i x e
-
-pub get_each : {A : Type 0} (a : A) (n i : ℕ) → i < n → slice_get (replicate n a) i ≡ Some a
-get_each a zero i lt = absurd (omega arith)
-get_each a (suc n) zero lt = refl
-get_each a (suc n) (suc i) lt = get_each a n i (omega arith)
-
-pub each_within : {A : Type 0} (a b : A) (n i : ℕ) → slice_get (replicate n a) i ≡ Some b → i < n
-each_within a b zero i e = cc
-each_within a b (suc n) zero e = omega arith
-each_within a b (suc n) (suc i) e = let lt = each_within a b n i e in omega arith
-
-pub all_get : {A : Type 0} (test : A → Bool) (xs : List A) (i : ℕ) (x : A) → all_true (map test xs) ≡ true → slice_get xs i ≡ Some x → test x ≡ true
-all_get test [] i x h e = cc
-all_get test (y ∷ ys) zero x h e = let same : y ≡ x = cc in subst (λ z. test z ≡ true) same (left_true (test y) (all_true (map test ys)) h)
-all_get test (y ∷ ys) (suc i) x h e = all_get test ys i x (right_true (test y) (all_true (map test ys)) h) e
-
-pub all_got : {A : Type 0} (test : A → Bool) (xs : List A) → ((i : ℕ) (x : A) → slice_get xs i ≡ Some x → test x ≡ true) → all_true (map test xs) ≡ true
-all_got test [] h = refl
-all_got test (x ∷ xs) h = both_true (test x) (all_true (map test xs)) (h 0 x refl) (all_got test xs (λ i. h (suc i)))
 
 -- ---- what is there by the words of types ----
 

@@ -1,6 +1,7 @@
 -- A function may be gone from the middle of a valid tree, with no function of its type left: what is left is valid by the law.
 use Rattle.std.proofs.Common.{◌≡◌, ℕ, zero, suc, ◌<◌, Bool, true, false, IsTrue, List, [], ◌∷◌, Option, Some, None, ap, refl, true≢false, sym, arith, rules}
 use Rattle.std.specs.Prelude.{slice_get, slice_index, pos}
+use Rattle.wasm_tree.specs.declared.space.Space.TheVariants.{Types, Functions}
 use Rattle.wasm_tree.specs.declared.types.ValType.{ValType}
 use Rattle.wasm_tree.specs.declared.types.ValType.TheVariants.{I32}
 use Rattle.wasm_tree.specs.declared.types.FuncType.{FuncType}
@@ -16,7 +17,7 @@ use Rattle.wasm_valid.specs.declared.kinds.ItemKind.TheVariants as kind
 use Rattle.wasm_valid.specs.Validity.{IsValid}
 use Rattle.index_remap.specs.declared.remap.Remap.{Remap}
 use Rattle.index_remap.specs.Renumbered.{renumbered}
-use Rattle.index_remap.specs.CodeNames.{Layers}
+use Rattle.wasm_tree.specs.Layers.{Layers}
 use Rattle.index_remap.specs.Agreement.{Keeps}
 use Rattle.remap_typing.specs.Indices.{Indices, LayerNamesOnly}
 use Rattle.remap_typing.specs.Trees.{TreesAgree, RefsAgree, EachStands}
@@ -57,7 +58,8 @@ kept_func (suc zero) = false
 kept_func (suc (suc i)) = true
 
 abbrev kept : Indices
-kept = record { types = λ i. true; funcs = kept_func; tables = λ i. true; mems = λ i. true; globals = λ i. true; elems = λ i. true; datas = λ i. true }
+kept Functions = kept_func
+kept space = λ i. true
 
 apart : Some gives_nothing ≡ Some gives_number → ⊥
 apart e = absurd (let k = ap count e in cc)
@@ -72,18 +74,18 @@ none_agrees zero h = apart (h gives_number refl)
 none_agrees (suc zero) h = apart (h gives_number refl)
 none_agrees (suc (suc x)) h = absurd (let k = h gives_number refl in cc)
 
-types_agree : (i : ℕ) → IsTrue (kept.types i) → Keeps (slice_get before.types i) (slice_get after.types (slice_index map.types i))
+types_agree : (i : ℕ) → IsTrue (kept Types i) → Keeps (slice_get before.types i) (slice_get after.types (slice_index map.types i))
 types_agree zero h t e = e
 types_agree (suc zero) h t e = e
 types_agree (suc (suc i)) h t e = absurd (let k = e in cc)
 
-funcs_agree : (i : ℕ) → IsTrue (kept.funcs i) → Keeps (type_of_func before i) (type_of_func after (slice_index map.funcs i))
+funcs_agree : (i : ℕ) → IsTrue (kept Functions i) → Keeps (type_of_func before i) (type_of_func after (slice_index map.funcs i))
 funcs_agree zero h t e = e
 funcs_agree (suc zero) h t e = absurd (true≢false (sym h))
 funcs_agree (suc (suc zero)) h t e = e
 funcs_agree (suc (suc (suc i))) h t e = absurd (let k = e in cc)
 
-funcs_within : (i : ℕ) → IsTrue (kept.funcs i) → i < 3 → slice_index map.funcs i < 2
+funcs_within : (i : ℕ) → IsTrue (kept Functions i) → i < 3 → slice_index map.funcs i < 2
 funcs_within zero h lt = omega arith
 funcs_within (suc zero) h lt = absurd (true≢false (sym h))
 funcs_within (suc (suc zero)) h lt = omega arith
@@ -110,7 +112,7 @@ refs_agree (suc (suc (suc i))) h e = absurd (let k = e in cc)
 
 call_named : Layers (LayerNamesOnly kept) (Call 2)
 unfolding out-Instr denote.Hole.Carrier.out
-call_named = refl
+call_named = (refl, tt)
 
 call_renumbered : renumbered map (Call 2) ≡ Call 1
 call_renumbered = search (rules, the_lemmas)

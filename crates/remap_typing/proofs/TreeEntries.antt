@@ -33,9 +33,11 @@ use Rattle.wasm_valid.specs.SpaceTypes.{table_types}
 use Rattle.wasm_valid.specs.Validity.{HoldsAt, ImportHolds, InSpace, ElemModeHolds, DataModeHolds, IsValid, body_context, count_of, start_count}
 use Rattle.index_remap.specs.declared.remap.Remap.{Remap}
 use Rattle.index_remap.specs.Renumbered.{has, fits_const, fits_func, fits_import, fits_import_desc, fits_global, fits_export, fits_export_desc, fits_elem, fits_elem_mode, fits_data, fits_data_mode, fits_start, fits_tree}
+use Rattle.wasm_tree.specs.OperandLaws.{PassesLayerByLayer}
 use Rattle.remap_typing.specs.Along.{CoversContext}
 use Rattle.remap_typing.specs.Trees.{Covers}
-use Rattle.remap_typing.proofs.Lists.{both_true, has_at, all_got, then_there, only_true}
+use Rattle.remap_typing.proofs.Lists.{both_true, has_at, then_there, only_true}
+use Rattle.base_lists.proofs.Each.{list_all_from}
 use Rattle.remap_typing.proofs.Entries.{body_fits}
 use Rattle.remap_typing.proofs.WholeTrees.{ValidWhereItemsHold}
 
@@ -50,7 +52,7 @@ func_there t x ft h = here (slice_get (funcs_of t) x) refl h
     here None e k = absurd (let z = k in cc)
     here (Some y) e k = slice_get_within (funcs_of t) x y e
 
-module _ (m : Remap) (t : Module) (k : Covers m t) where
+module _ (law : PassesLayerByLayer) (m : Remap) (t : Module) (k : Covers m t) where
   has_here : (ys : List ℕ) (n x : ℕ) → n ≤ length ys → x < n → has ys x ≡ true
   has_here ys n x le lt = lt-ltb _ _ (omega arith)
 
@@ -117,7 +119,7 @@ module _ (m : Remap) (t : Module) (k : Covers m t) where
         here : HoldsAt t kind.Body i → fits_func m f ≡ true
         here (g, ft, at, ty, w) =
             let same : g ≡ f = cc in
-            subst (λ z. fits_func m z ≡ true) same (both_true _ _ (has_at t.types m.types g.ty ft k.types ty) (body_fits m (body_context t g ft) (covers_context g ft) g.body [] ft.results w))
+            subst (λ z. fits_func m z ≡ true) same (both_true _ _ (has_at t.types m.types g.ty ft k.types ty) (body_fits m (body_context t g ft) (covers_context g ft) law g.body [] ft.results w))
 
     globals_fit : (i : ℕ) (g : GlobalDef) → slice_get t.globals i ≡ Some g → fits_global m g ≡ true
     globals_fit i g e = here (each kind.Global i (slice_get_within t.globals i g e))
@@ -144,7 +146,7 @@ module _ (m : Remap) (t : Module) (k : Covers m t) where
         here : HoldsAt t kind.Elem i → fits_elem m s ≡ true
         here (z, at, items, mode) =
             let same : z ≡ s = cc in
-            subst (λ w. fits_elem m w ≡ true) same (both_true _ _ (elem_mode_fits z.ty z.mode mode) (all_got (fits_const m) z.items (λ j d g. const_fits d _ (items j d g))))
+            subst (λ w. fits_elem m w ≡ true) same (both_true _ _ (elem_mode_fits z.ty z.mode mode) (list_all_from (fits_const m) z.items (λ j d g. const_fits d _ (items j d g))))
 
     datas_fit : (i : ℕ) (s : DataSeg) → slice_get t.datas i ≡ Some s → fits_data m s ≡ true
     datas_fit i s e = here (each kind.Segment i (slice_get_within t.datas i s e))
@@ -154,8 +156,8 @@ module _ (m : Remap) (t : Module) (k : Covers m t) where
 
     all_fit : fits_tree m t ≡ true
     all_fit =
-        both_true _ _ (all_got (fits_import m) t.imports imports_fit) (both_true _ _ (all_got (fits_func m) t.funcs funcs_fit) (both_true _ _ (all_got (fits_global m) t.globals globals_fit)
-        (both_true _ _ (all_got (fits_export m) t.exports exports_fit) (both_true _ _ (start_fits t.start refl) (both_true _ _ (all_got (fits_elem m) t.elems elems_fit) (all_got (fits_data m) t.datas datas_fit))))))
+        both_true _ _ (list_all_from (fits_import m) t.imports imports_fit) (both_true _ _ (list_all_from (fits_func m) t.funcs funcs_fit) (both_true _ _ (list_all_from (fits_global m) t.globals globals_fit)
+        (both_true _ _ (list_all_from (fits_export m) t.exports exports_fit) (both_true _ _ (start_fits t.start refl) (both_true _ _ (list_all_from (fits_elem m) t.elems elems_fit) (list_all_from (fits_data m) t.datas datas_fit))))))
 
   pub tree_fits : ValidWhereItemsHold → IsValid t → IsTrue (fits_tree m t)
-  tree_fits law valid = all_fit ((law t).0 valid)
+  tree_fits items valid = all_fit ((items t).0 valid)

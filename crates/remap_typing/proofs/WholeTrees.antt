@@ -26,13 +26,16 @@ use Rattle.wasm_valid.specs.Constants.{const_type}
 use Rattle.wasm_valid.specs.Named.{const_func, export_func, elem_refs, global_refs, export_refs, refs_of}
 use Rattle.wasm_valid.specs.Validity.{HoldsAt, IsValid, count_of, start_count}
 use Rattle.index_remap.specs.declared.remap.Remap.{Remap}
-use Rattle.index_remap.specs.Renumbered.{all_true, has, fits_const, fits_func, fits_import, fits_import_desc, fits_global, fits_export, fits_export_desc, fits_elem, fits_elem_mode, fits_data, fits_data_mode, fits_start, fits_tree, new_const, new_func, new_import, new_global, new_export, new_export_desc, new_elem, new_elem_mode, new_data, new_data_mode, new_start, renumbered_tree}
+use Rattle.index_remap.specs.Renumbered.{has, has_entry, fits_const, fits_func, fits_import, fits_import_desc, fits_global, fits_export, fits_export_desc, fits_elem, fits_elem_mode, fits_data, fits_data_mode, fits_start, fits_tree, new_const, new_func, new_import, new_global, new_export, new_export_desc, new_elem, new_elem_mode, new_data, new_data_mode, new_start, renumbered_tree}
 use Rattle.index_remap.specs.References.{is_among}
 use Rattle.remap_typing.specs.Indices.{Indices, with_entry, ConstNamesOnly, ImportNamesOnly, ExportNamesOnly, ElemModeNamesOnly, DataModeNamesOnly, FuncNamesOnly, TreeNamesOnly}
 use Rattle.remap_typing.specs.Trees.{TreesAgree, RefsAgree, ImportsAgree, ReadsImport, ConstStands, ElemModeStands, DataModeStands, ItemsStand, ItemStands, EachStands, active, passive, declarative}
 use Rattle.remap_typing.specs.ButForReferences.{IsValidButForReferences}
-use Rattle.remap_typing.proofs.Lists.{left_true, right_true, found, get_map, all_get, among_map, marked, is_marked, named_within, then_there, only_true}
-use Rattle.remap_typing.proofs.Along.{all_named}
+use Rattle.remap_typing.proofs.Lists.{left_true, right_true, among_map, marked, is_marked, named_within, then_there, only_true}
+use Rattle.base_lists.proofs.Places.{slice_get_there, map_at, map_from}
+use Rattle.base_lists.proofs.Each.{list_all_each}
+use Rattle.std.specs.List.{list_all}
+use Rattle.wasm_tree.specs.OperandLaws.{PassesLayerByLayer}
 use Rattle.remap_typing.proofs.Items.{BodiesAreKept, const_kept, items_kept, items_weakly}
 
 -- a tree is valid exactly where each item holds
@@ -48,12 +51,7 @@ names_stay m (suc n) (x ∷ xs) = ap (λ zs. x.name ∷ zs) (names_stay m n xs)
 
 -- a place of a list with other indices is a place of the list
 got : {A B : Type 0} (f : A → B) (xs : List A) (i : ℕ) → i < length (map f xs) → (x : A) × (slice_get xs i ≡ Some x)
-got f xs i lt = let e = length-map xs f in found xs i (omega (arith, e))
-
-pub got_back : {A B : Type 0} (f : A → B) (xs : List A) (i : ℕ) (y : B) → slice_get (map f xs) i ≡ Some y → (x : A) × (slice_get xs i ≡ Some x) × (f x ≡ y)
-got_back f [] i y e = absurd (let k = e in cc)
-got_back f (x ∷ xs) zero y e = (x, refl, (let same : f x ≡ y = cc in same))
-got_back f (x ∷ xs) (suc i) y e = got_back f xs i y e
+got f xs i lt = let e = length-map xs f in slice_get_there xs i (omega (arith, e))
 
 -- ---- what is named outside the bodies ----
 
@@ -121,7 +119,7 @@ seven a b c d e f g h =
 
 -- ---- a tree that fits a map names only indices with an entry ----
 
-module _ (m : Remap) where
+module _ (law : PassesLayerByLayer) (m : Remap) where
   const_named : (e : ConstExpr) → fits_const m e ≡ true → ConstNamesOnly (with_entry m) e
   const_named (const.I32 v) h = tt
   const_named (const.I64 v) h = tt
@@ -151,22 +149,22 @@ module _ (m : Remap) where
   data_mode_named «data».Passive h = tt
 
   func_named : (f : Func) → fits_func m f ≡ true → FuncNamesOnly (with_entry m) f
-  func_named f h = (left_true _ _ h, all_named m f.body (right_true (has m.types f.ty) _ h))
+  func_named f h = (left_true _ _ h, (law (has_entry m) f.body).0 (right_true (has m.types f.ty) _ h))
 
   pub tree_named : (t : Module) → fits_tree m t ≡ true → TreeNamesOnly (with_entry m) t
   tree_named t fit =
       let parts =
-      seven (all_true (map (fits_import m) t.imports)) (all_true (map (fits_func m) t.funcs)) (all_true (map (fits_global m) t.globals)) (all_true (map (fits_export m) t.exports)) (fits_start m t.start) (all_true (map (fits_elem m) t.elems))
-      (all_true (map (fits_data m) t.datas)) fit in
+      seven (list_all (fits_import m) t.imports) (list_all (fits_func m) t.funcs) (list_all (fits_global m) t.globals) (list_all (fits_export m) t.exports) (fits_start m t.start) (list_all (fits_elem m) t.elems)
+      (list_all (fits_data m) t.datas) fit in
       record {
-        imports = λ i x at. import_named x.desc (all_get (fits_import m) t.imports i x parts.0 at);
-        funcs = λ i f at. func_named f (all_get (fits_func m) t.funcs i f parts.1 at);
-        globals = λ i g at. const_named g.init (all_get (fits_global m) t.globals i g parts.2 at);
-        exports = λ i e at. export_named e.desc (all_get (fits_export m) t.exports i e parts.3 at);
+        imports = λ i x at. import_named x.desc (list_all_each (fits_import m) t.imports parts.0 i x at);
+        funcs = λ i f at. func_named f (list_all_each (fits_func m) t.funcs parts.1 i f at);
+        globals = λ i g at. const_named g.init (list_all_each (fits_global m) t.globals parts.2 i g at);
+        exports = λ i e at. export_named e.desc (list_all_each (fits_export m) t.exports parts.3 i e at);
         start = λ f at. subst (λ o. fits_start m o ≡ true) at parts.4;
-        items = λ i p a e at got. const_named e (all_get (fits_const m) a.items p e (right_true (fits_elem_mode m a.mode) _ (all_get (fits_elem m) t.elems i a parts.5 at)) got);
-        elem_modes = λ i a at. elem_mode_named a.mode (left_true (fits_elem_mode m a.mode) _ (all_get (fits_elem m) t.elems i a parts.5 at));
-        data_modes = λ i a at. data_mode_named a.mode (all_get (fits_data m) t.datas i a parts.6 at);
+        items = λ i p a e at got. const_named e (list_all_each (fits_const m) a.items (right_true (fits_elem_mode m a.mode) _ (list_all_each (fits_elem m) t.elems parts.5 i a at)) p e got);
+        elem_modes = λ i a at. elem_mode_named a.mode (left_true (fits_elem_mode m a.mode) _ (list_all_each (fits_elem m) t.elems parts.5 i a at));
+        data_modes = λ i a at. data_mode_named a.mode (list_all_each (fits_data m) t.datas parts.6 i a at);
       }
 
 -- ---- a tree each of whose items stands for one of a valid tree ----
@@ -213,34 +211,34 @@ module _ (m : Remap) (kept : Indices) (t : Module) (k : TreesAgree m kept t (ren
 
   items_stand : (i : ℕ) (a : ElemSeg) → slice_get t.elems i ≡ Some a → ItemsStand t u a (new_elem m a)
   items_stand i a at p d e =
-      let r = got_back (new_const m) a.items p d e in
+      let r = map_from (new_const m) a.items p d e in
       (p, r.0, r.1, subst (ConstStands t u r.0) r.2 (const_stands r.0 (names.items i p a r.0 at r.1)))
 
   stands : (n : ItemKind) (i : ℕ) → i < count_of u true n → HoldsAt t n i → ItemStands m kept t u n i i
   stands kind.Import i lt p =
       let x = got (new_import m) t.imports i lt in
-      (x.0, new_import m x.0, x.1, get_map (new_import m) t.imports i x.0 x.1, names.imports i x.0 x.1, refl)
+      (x.0, new_import m x.0, x.1, map_at (new_import m) t.imports i x.0 x.1, names.imports i x.0 x.1, refl)
   stands kind.Memories i lt p = absurd (omega arith)
   stands kind.Func i lt p =
       let f = got (new_func m) t.funcs i lt in
-      (f.0, new_func m f.0, f.1, get_map (new_func m) t.funcs i f.0 f.1, (names.funcs i f.0 f.1).0, refl)
+      (f.0, new_func m f.0, f.1, map_at (new_func m) t.funcs i f.0 f.1, (names.funcs i f.0 f.1).0, refl)
   stands kind.Table i lt p = refl
   stands kind.Memory i lt p = refl
   stands kind.Global i lt p =
       let g = got (new_global m) t.globals i lt in
-      (g.0, new_global m g.0, g.1, get_map (new_global m) t.globals i g.0 g.1, refl, const_stands g.0.init (names.globals i g.0 g.1))
+      (g.0, new_global m g.0, g.1, map_at (new_global m) t.globals i g.0 g.1, refl, const_stands g.0.init (names.globals i g.0 g.1))
   stands kind.Export i lt (e, at, within, fresh) =
-      (e, new_export m e, at, get_map (new_export m) t.exports i e at, names.exports i e at, refl, (λ c. fresh (subst (λ ns. Contains ns e.name) (names_stay m i t.exports) c)))
+      (e, new_export m e, at, map_at (new_export m) t.exports i e at, names.exports i e at, refl, (λ c. fresh (subst (λ ns. Contains ns e.name) (names_stay m i t.exports) c)))
   stands kind.Start i lt (x, ft, at, ty, ps, rs) = (x, at, names.start x at, ap (new_start m) at)
   stands kind.Elem i lt p =
       let a = got (new_elem m) t.elems i lt in
-      (a.0, new_elem m a.0, a.1, get_map (new_elem m) t.elems i a.0 a.1, refl, items_stand i a.0 a.1, elem_mode_stands a.0.mode (names.elem_modes i a.0 a.1))
+      (a.0, new_elem m a.0, a.1, map_at (new_elem m) t.elems i a.0 a.1, refl, items_stand i a.0 a.1, elem_mode_stands a.0.mode (names.elem_modes i a.0 a.1))
   stands kind.Segment i lt p =
       let a = got (new_data m) t.datas i lt in
-      (a.0, new_data m a.0, a.1, get_map (new_data m) t.datas i a.0 a.1, data_mode_stands a.0.mode (names.data_modes i a.0 a.1))
+      (a.0, new_data m a.0, a.1, map_at (new_data m) t.datas i a.0 a.1, data_mode_stands a.0.mode (names.data_modes i a.0 a.1))
   stands kind.Body i lt p =
       let f = got (new_func m) t.funcs i lt in
-      (f.0, f.1, names.funcs i f.0 f.1, get_map (new_func m) t.funcs i f.0 f.1)
+      (f.0, f.1, names.funcs i f.0 f.1, map_at (new_func m) t.funcs i f.0 f.1)
 
   pub tree_valid : ValidWhereItemsHold → BodiesAreKept → IsValid t → IsValid u
   tree_valid law bodies valid =

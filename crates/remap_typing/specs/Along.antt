@@ -1,20 +1,14 @@
 -- When two contexts have the same along a map of indices: at each index of a set, and at its entry (WebAssembly Core 2.0, section 3.1.1).
-use Rattle.std.specs.Prelude.{ℕ, ◌≤◌, IsTrue, length}
+use Rattle.std.specs.Prelude.{ℕ, ◌≤◌, Bool, IsTrue, length}
+use Rattle.wasm_tree.specs.declared.space.Space.{Space}
 use Rattle.wasm_typing.specs.Typing.{Context}
 use Rattle.index_remap.specs.declared.remap.Remap.{Remap}
-use Rattle.index_remap.specs.Agreement.{TypeAgrees, FuncAgrees, TableAgrees, MemoryAgrees, GlobalAgrees, ElemAgrees, DataAgrees, RefAgrees, SameFrame}
+use Rattle.index_remap.specs.Agreement.{OperandAgrees, SameFrame}
 use Rattle.remap_typing.specs.Indices.{Indices}
 
 -- each index that is kept agrees with its entry; of other indices nothing is said
 pub record AgreesAlong (m : Remap) (kept : Indices) (c d : Context) : Type 0 where
-  pub types : (i : ℕ) → IsTrue (kept.types i) → TypeAgrees m c d i
-  pub funcs : (i : ℕ) → IsTrue (kept.funcs i) → FuncAgrees m c d i
-  pub tables : (i : ℕ) → IsTrue (kept.tables i) → TableAgrees m c d i
-  pub memories : (i : ℕ) → IsTrue (kept.mems i) → MemoryAgrees m c d i
-  pub globals : (i : ℕ) → IsTrue (kept.globals i) → GlobalAgrees m c d i
-  pub elems : (i : ℕ) → IsTrue (kept.elems i) → ElemAgrees m c d i
-  pub datas : (i : ℕ) → IsTrue (kept.datas i) → DataAgrees m c d i
-  pub refs : (i : ℕ) → IsTrue (kept.funcs i) → RefAgrees m c d i
+  pub entries : (space : Space) (called : Bool) (i : ℕ) → IsTrue (kept space i) → OperandAgrees m c d space called i
   pub frame : SameFrame c d
 
 -- the lists of the map are at least as long as the spaces of the context

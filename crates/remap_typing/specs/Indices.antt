@@ -1,7 +1,9 @@
 -- Sets of indices, and what names only indices of a set.
 use Rattle.std.specs.Prelude.{◌≡◌, ℕ, Bool, IsTrue, Some, slice_get}
-use Rattle.wasm_tree.specs.declared.types.BlockType.{BlockType}
-use Rattle.wasm_tree.specs.declared.types.BlockType.TheVariants as bt
+use Rattle.base_lists.specs.Every.{Every}
+use Rattle.wasm_tree.specs.declared.space.Space.{Space}
+use Rattle.wasm_tree.specs.declared.space.Space.TheVariants.{Types, Functions, Tables, Memories, Globals}
+use Rattle.wasm_tree.specs.Operands.{operands}
 use Rattle.wasm_tree.specs.declared.instr.Instr.{Instr}
 use Rattle.wasm_tree.specs.declared.instr.Instr.TheOpen.{Instr-F}
 use Rattle.wasm_tree.specs.declared.module.ConstExpr.{ConstExpr}
@@ -22,65 +24,22 @@ use Rattle.wasm_tree.specs.declared.module.DataMode.TheVariants as «data»
 use Rattle.wasm_tree.specs.declared.module.DataSeg.{DataSeg}
 use Rattle.wasm_tree.specs.declared.module.Module.{Module}
 use Rattle.index_remap.specs.declared.remap.Remap.{Remap}
-use Rattle.index_remap.specs.Renumbered.{has}
-use Rattle.index_remap.specs.CodeNames.{ListLayers}
+use Rattle.index_remap.specs.Renumbered.{entries, has}
+use Rattle.wasm_tree.specs.Layers.{ListLayers}
 
 -- a set of indices of each space
-pub record Indices : Type 0 where
-  pub types : ℕ → Bool
-  pub funcs : ℕ → Bool
-  pub tables : ℕ → Bool
-  pub mems : ℕ → Bool
-  pub globals : ℕ → Bool
-  pub elems : ℕ → Bool
-  pub datas : ℕ → Bool
+abbrev pub Indices : Type 0
+Indices = Space → ℕ → Bool
 
 -- those that have an entry in the map
 abbrev pub with_entry : Remap → Indices
-with_entry m = record {
-  types = has m.types;
-  funcs = has m.funcs;
-  tables = has m.tables;
-  mems = has m.mems;
-  globals = has m.globals;
-  elems = has m.elems;
-  datas = has m.datas;
-}
+with_entry m space = has (entries m space)
 
 -- ---- code ----
 
-abbrev pub BlockNamesOnly : Indices → BlockType → Type 0
-BlockNamesOnly kept bt.Empty = Unit {0}
-BlockNamesOnly kept (bt.Value t) = Unit {0}
-BlockNamesOnly kept (bt.Index i) = IsTrue (kept.types i)
-
 -- each index that the layer itself names is of the set
 abbrev pub LayerNamesOnly : Indices → Instr-F Instr → Type 0
-LayerNamesOnly kept (Instr-F.Block ty body) = BlockNamesOnly kept ty
-LayerNamesOnly kept (Instr-F.Loop ty body) = BlockNamesOnly kept ty
-LayerNamesOnly kept (Instr-F.If ty body other) = BlockNamesOnly kept ty
-LayerNamesOnly kept (Instr-F.Call func) = IsTrue (kept.funcs func)
-LayerNamesOnly kept (Instr-F.CallIndirect ty table) = IsTrue (kept.types ty) × IsTrue (kept.tables table)
-LayerNamesOnly kept (Instr-F.GlobalGet global) = IsTrue (kept.globals global)
-LayerNamesOnly kept (Instr-F.GlobalSet global) = IsTrue (kept.globals global)
-LayerNamesOnly kept (Instr-F.TableGet table) = IsTrue (kept.tables table)
-LayerNamesOnly kept (Instr-F.TableSet table) = IsTrue (kept.tables table)
-LayerNamesOnly kept (Instr-F.Load op arg) = IsTrue (kept.mems arg.memory)
-LayerNamesOnly kept (Instr-F.Store op arg) = IsTrue (kept.mems arg.memory)
-LayerNamesOnly kept (Instr-F.MemorySize memory) = IsTrue (kept.mems memory)
-LayerNamesOnly kept (Instr-F.MemoryGrow memory) = IsTrue (kept.mems memory)
-LayerNamesOnly kept (Instr-F.RefFunc func) = IsTrue (kept.funcs func)
-LayerNamesOnly kept (Instr-F.MemoryInit segment memory) = IsTrue (kept.datas segment) × IsTrue (kept.mems memory)
-LayerNamesOnly kept (Instr-F.DataDrop segment) = IsTrue (kept.datas segment)
-LayerNamesOnly kept (Instr-F.MemoryCopy to from) = IsTrue (kept.mems to) × IsTrue (kept.mems from)
-LayerNamesOnly kept (Instr-F.MemoryFill memory) = IsTrue (kept.mems memory)
-LayerNamesOnly kept (Instr-F.TableInit segment table) = IsTrue (kept.elems segment) × IsTrue (kept.tables table)
-LayerNamesOnly kept (Instr-F.ElemDrop segment) = IsTrue (kept.elems segment)
-LayerNamesOnly kept (Instr-F.TableCopy to from) = IsTrue (kept.tables to) × IsTrue (kept.tables from)
-LayerNamesOnly kept (Instr-F.TableGrow table) = IsTrue (kept.tables table)
-LayerNamesOnly kept (Instr-F.TableSize table) = IsTrue (kept.tables table)
-LayerNamesOnly kept (Instr-F.TableFill table) = IsTrue (kept.tables table)
-LayerNamesOnly kept _ = Unit {0}
+LayerNamesOnly kept layer = Every (λ o. IsTrue (kept o.space o.index)) (operands layer)
 
 -- ---- the parts of a tree ----
 
@@ -88,31 +47,31 @@ abbrev pub ConstNamesOnly : Indices → ConstExpr → Type 0
 ConstNamesOnly kept (const.I32 v) = Unit {0}
 ConstNamesOnly kept (const.I64 v) = Unit {0}
 ConstNamesOnly kept (const.Null ty) = Unit {0}
-ConstNamesOnly kept (const.Func func) = IsTrue (kept.funcs func)
-ConstNamesOnly kept (const.Global global) = IsTrue (kept.globals global)
+ConstNamesOnly kept (const.Func func) = IsTrue (kept Functions func)
+ConstNamesOnly kept (const.Global global) = IsTrue (kept Globals global)
 
 abbrev pub ImportNamesOnly : Indices → ImportDesc → Type 0
-ImportNamesOnly kept (im.Func ty) = IsTrue (kept.types ty)
+ImportNamesOnly kept (im.Func ty) = IsTrue (kept Types ty)
 ImportNamesOnly kept (im.Table ty) = Unit {0}
 ImportNamesOnly kept (im.Memory limits) = Unit {0}
 ImportNamesOnly kept (im.Global ty) = Unit {0}
 
 abbrev pub FuncNamesOnly : Indices → Func → Type 0
-FuncNamesOnly kept f = IsTrue (kept.types f.ty) × ListLayers (LayerNamesOnly kept) f.body
+FuncNamesOnly kept f = IsTrue (kept Types f.ty) × ListLayers (LayerNamesOnly kept) f.body
 
 abbrev pub ExportNamesOnly : Indices → ExportDesc → Type 0
-ExportNamesOnly kept (ex.Func func) = IsTrue (kept.funcs func)
-ExportNamesOnly kept (ex.Table table) = IsTrue (kept.tables table)
-ExportNamesOnly kept (ex.Memory memory) = IsTrue (kept.mems memory)
-ExportNamesOnly kept (ex.Global global) = IsTrue (kept.globals global)
+ExportNamesOnly kept (ex.Func func) = IsTrue (kept Functions func)
+ExportNamesOnly kept (ex.Table table) = IsTrue (kept Tables table)
+ExportNamesOnly kept (ex.Memory memory) = IsTrue (kept Memories memory)
+ExportNamesOnly kept (ex.Global global) = IsTrue (kept Globals global)
 
 abbrev pub ElemModeNamesOnly : Indices → ElemMode → Type 0
-ElemModeNamesOnly kept (elem.Active table offset) = IsTrue (kept.tables table) × ConstNamesOnly kept offset
+ElemModeNamesOnly kept (elem.Active table offset) = IsTrue (kept Tables table) × ConstNamesOnly kept offset
 ElemModeNamesOnly kept elem.Passive = Unit {0}
 ElemModeNamesOnly kept elem.Declarative = Unit {0}
 
 abbrev pub DataModeNamesOnly : Indices → DataMode → Type 0
-DataModeNamesOnly kept («data».Active memory offset) = IsTrue (kept.mems memory) × ConstNamesOnly kept offset
+DataModeNamesOnly kept («data».Active memory offset) = IsTrue (kept Memories memory) × ConstNamesOnly kept offset
 DataModeNamesOnly kept «data».Passive = Unit {0}
 
 -- each index that the tree names is of the set
@@ -121,7 +80,7 @@ pub record TreeNamesOnly (kept : Indices) (t : Module) : Type 0 where
   pub funcs : (i : ℕ) (f : Func) → slice_get t.funcs i ≡ Some f → FuncNamesOnly kept f
   pub globals : (i : ℕ) (g : GlobalDef) → slice_get t.globals i ≡ Some g → ConstNamesOnly kept g.init
   pub exports : (i : ℕ) (e : Export) → slice_get t.exports i ≡ Some e → ExportNamesOnly kept e.desc
-  pub start : (f : ℕ) → t.start ≡ Some f → IsTrue (kept.funcs f)
+  pub start : (f : ℕ) → t.start ≡ Some f → IsTrue (kept Functions f)
   pub items : (i p : ℕ) (a : ElemSeg) (e : ConstExpr) → slice_get t.elems i ≡ Some a → slice_get a.items p ≡ Some e → ConstNamesOnly kept e
   pub elem_modes : (i : ℕ) (a : ElemSeg) → slice_get t.elems i ≡ Some a → ElemModeNamesOnly kept a.mode
   pub data_modes : (i : ℕ) (a : DataSeg) → slice_get t.datas i ≡ Some a → DataModeNamesOnly kept a.mode

@@ -1,5 +1,6 @@
 -- When two trees have the same along a map of indices, and when an item of one stands for an item of the other.
 use Rattle.std.specs.Prelude.{◌≡◌, ℕ, ◌<◌, ◌≤◌, true, IsTrue, length, map, take, Contains, Some, slice_get, slice_index}
+use Rattle.wasm_tree.specs.declared.space.Space.TheVariants.{Types, Functions, Tables, Memories, Globals, ElementSegments, DataSegments}
 use Rattle.wasm_tree.specs.declared.module.ConstExpr.{ConstExpr}
 use Rattle.wasm_tree.specs.declared.module.ConstExpr.TheVariants as const
 use Rattle.wasm_tree.specs.declared.module.Import.{Import}
@@ -27,22 +28,22 @@ use Rattle.remap_typing.specs.Indices.{Indices, ImportNamesOnly, ExportNamesOnly
 
 -- each index of t that is kept stands in u, by its entry, for what has the same type; of other indices nothing is said
 pub record TreesAgree (m : Remap) (kept : Indices) (t u : Module) : Type 0 where
-  pub types : (i : ℕ) → IsTrue (kept.types i) → Keeps (slice_get t.types i) (slice_get u.types (slice_index m.types i))
-  pub funcs : (i : ℕ) → IsTrue (kept.funcs i) → Keeps (type_of_func t i) (type_of_func u (slice_index m.funcs i))
-  pub func_space : (i : ℕ) → IsTrue (kept.funcs i) → i < length (funcs_of t) → slice_index m.funcs i < length (funcs_of u)
-  pub tables : (i : ℕ) → IsTrue (kept.tables i) → Keeps (slice_get (table_types t) i) (slice_get (table_types u) (slice_index m.tables i))
-  pub memories : (i : ℕ) → IsTrue (kept.mems i) → i < length (memories_of t) → slice_index m.mems i < length (memories_of u)
-  pub globals : (i : ℕ) → IsTrue (kept.globals i) → Keeps (slice_get (globals_of t) i) (slice_get (globals_of u) (slice_index m.globals i))
-  pub elems : (i : ℕ) → IsTrue (kept.elems i) → Keeps (slice_get (elem_types t.elems) i) (slice_get (elem_types u.elems) (slice_index m.elems i))
-  pub datas : (i : ℕ) → IsTrue (kept.datas i) → i < length t.datas → slice_index m.datas i < length u.datas
+  pub types : (i : ℕ) → IsTrue (kept Types i) → Keeps (slice_get t.types i) (slice_get u.types (slice_index m.types i))
+  pub funcs : (i : ℕ) → IsTrue (kept Functions i) → Keeps (type_of_func t i) (type_of_func u (slice_index m.funcs i))
+  pub func_space : (i : ℕ) → IsTrue (kept Functions i) → i < length (funcs_of t) → slice_index m.funcs i < length (funcs_of u)
+  pub tables : (i : ℕ) → IsTrue (kept Tables i) → Keeps (slice_get (table_types t) i) (slice_get (table_types u) (slice_index m.tables i))
+  pub memories : (i : ℕ) → IsTrue (kept Memories i) → i < length (memories_of t) → slice_index m.mems i < length (memories_of u)
+  pub globals : (i : ℕ) → IsTrue (kept Globals i) → Keeps (slice_get (globals_of t) i) (slice_get (globals_of u) (slice_index m.globals i))
+  pub elems : (i : ℕ) → IsTrue (kept ElementSegments i) → Keeps (slice_get (elem_types t.elems) i) (slice_get (elem_types u.elems) (slice_index m.elems i))
+  pub datas : (i : ℕ) → IsTrue (kept DataSegments i) → i < length t.datas → slice_index m.datas i < length u.datas
 
 -- what is kept and `ref.func` may name in a body of t, it may name by its entry in a body of u
 abbrev pub RefsAgree : Remap → Indices → Module → Module → Type 0
-RefsAgree m kept t u = (i : ℕ) → IsTrue (kept.funcs i) → slice_get (named_of t) i ≡ Some true → slice_get (named_of u) (slice_index m.funcs i) ≡ Some true
+RefsAgree m kept t u = (i : ℕ) → IsTrue (kept Functions i) → slice_get (named_of t) i ≡ Some true → slice_get (named_of u) (slice_index m.funcs i) ≡ Some true
 
 -- the entry of an imported global that is kept is an imported global
 abbrev pub ImportsAgree : Remap → Indices → Module → Module → Type 0
-ImportsAgree m kept t u = (i : ℕ) → IsTrue (kept.globals i) → i < length (imported_globals t.imports) → slice_index m.globals i < length (imported_globals u.imports)
+ImportsAgree m kept t u = (i : ℕ) → IsTrue (kept Globals i) → i < length (imported_globals t.imports) → slice_index m.globals i < length (imported_globals u.imports)
 
 -- the lists of the map are at least as long as the spaces of the tree
 pub record Covers (m : Remap) (t : Module) : Type 0 where
@@ -71,12 +72,12 @@ ConstStands t u e d = Keeps (const_type t e) (const_type u d)
 -- ---- items ----
 
 pub data ElemModeStands (m : Remap) (kept : Indices) (t u : Module) : ElemMode → ElemMode → Type 0 where
-  active : {table : ℕ} {e d : ConstExpr} → IsTrue (kept.tables table) → ConstStands t u e d → ElemModeStands m kept t u (elem.Active table e) (elem.Active (slice_index m.tables table) d)
+  active : {table : ℕ} {e d : ConstExpr} → IsTrue (kept Tables table) → ConstStands t u e d → ElemModeStands m kept t u (elem.Active table e) (elem.Active (slice_index m.tables table) d)
   passive : ElemModeStands m kept t u elem.Passive elem.Passive
   declarative : ElemModeStands m kept t u elem.Declarative elem.Declarative
 
 pub data DataModeStands (m : Remap) (kept : Indices) (t u : Module) : DataMode → DataMode → Type 0 where
-  active : {memory : ℕ} {e d : ConstExpr} → IsTrue (kept.mems memory) → ConstStands t u e d → DataModeStands m kept t u («data».Active memory e) («data».Active (slice_index m.mems memory) d)
+  active : {memory : ℕ} {e d : ConstExpr} → IsTrue (kept Memories memory) → ConstStands t u e d → DataModeStands m kept t u («data».Active memory e) («data».Active (slice_index m.mems memory) d)
   passive : DataModeStands m kept t u «data».Passive «data».Passive
 
 -- each item of the second has the type of an item of the first, if that has one
@@ -92,14 +93,14 @@ ItemStands m kept t u kind.Import i j =
     (x y : Import) × (slice_get t.imports i ≡ Some x) × (slice_get u.imports j ≡ Some y) × ImportNamesOnly kept x.desc × (y.desc ≡ new_import_desc m x.desc)
 ItemStands m kept t u kind.Memories i j = length (memories_of u) ≤ length (memories_of t)
 ItemStands m kept t u kind.Func i j =
-    (f g : Func) × (slice_get t.funcs i ≡ Some f) × (slice_get u.funcs j ≡ Some g) × IsTrue (kept.types f.ty) × (g.ty ≡ slice_index m.types f.ty)
+    (f g : Func) × (slice_get t.funcs i ≡ Some f) × (slice_get u.funcs j ≡ Some g) × IsTrue (kept Types f.ty) × (g.ty ≡ slice_index m.types f.ty)
 ItemStands m kept t u kind.Table i j = slice_get u.tables j ≡ slice_get t.tables i
 ItemStands m kept t u kind.Memory i j = slice_get u.mems j ≡ slice_get t.mems i
 ItemStands m kept t u kind.Global i j =
     (g h : GlobalDef) × (slice_get t.globals i ≡ Some g) × (slice_get u.globals j ≡ Some h) × (h.ty.ty ≡ g.ty.ty) × ConstStands t u g.init h.init
 ItemStands m kept t u kind.Export i j =
     (e f : Export) × (slice_get t.exports i ≡ Some e) × (slice_get u.exports j ≡ Some f) × ExportNamesOnly kept e.desc × (f.desc ≡ new_export_desc m e.desc) × (Contains (map (λ x. x.name) (take j u.exports)) f.name → ⊥)
-ItemStands m kept t u kind.Start i j = (x : ℕ) × (t.start ≡ Some x) × IsTrue (kept.funcs x) × (u.start ≡ Some (slice_index m.funcs x))
+ItemStands m kept t u kind.Start i j = (x : ℕ) × (t.start ≡ Some x) × IsTrue (kept Functions x) × (u.start ≡ Some (slice_index m.funcs x))
 ItemStands m kept t u kind.Elem i j =
     (a b : ElemSeg) × (slice_get t.elems i ≡ Some a) × (slice_get u.elems j ≡ Some b) × (b.ty ≡ a.ty) × ItemsStand t u a b × ElemModeStands m kept t u a.mode b.mode
 ItemStands m kept t u kind.Segment i j = (a b : DataSeg) × (slice_get t.datas i ≡ Some a) × (slice_get u.datas j ≡ Some b) × DataModeStands m kept t u a.mode b.mode

@@ -13,7 +13,7 @@ ghost use Rattle.wasm_valid.specs.declared.kinds.ItemKind.{ItemKind};
 ghost use Rattle.wasm_valid.specs.Validity.{HoldsAt, IsSingle, IsValid};
 ghost use Rattle.index_remap.specs.declared.remap.Remap.{Remap};
 ghost use Rattle.index_remap.specs.Renumbered.{renumbered_all, renumbered_tree, new_const, fits_all, fits_tree};
-ghost use Rattle.index_remap.specs.CodeNames.{ListLayers};
+ghost use Rattle.wasm_tree.specs.Layers.{ListLayers};
 ghost use Rattle.index_remap.specs.References.{declared};
 ghost use Rattle.index_remap.specs.Agreement.{LayerAgrees, SameFrame};
 ghost use Rattle.remap_typing.specs.Indices.{ConstNamesOnly, Indices, LayerNamesOnly, TreeNamesOnly, with_entry};
@@ -22,6 +22,7 @@ ghost use Rattle.remap_typing.specs.Trees.{ConstStands, Covers, EachStands, Impo
 ghost use Rattle.remap_typing.specs.ButForReferences.{HoldsButForReferences, IsValidButForReferences};
 
 use index_remap::steps_agree;
+use wasm_tree::operands_pass_layer_by_layer;
 use wasm_valid::valid_where_items_hold;
 
 /// A body that is well typed stays so over the same locals, results and labels where each index is replaced by its entry (WebAssembly Core 2.0, section 3.3):
@@ -39,6 +40,7 @@ pub fn renumbering_keeps_typing()
     ensures named { (m : Remap) (is : List Instr) → IsTrue (fits_all m is) → ListLayers (LayerNamesOnly (with_entry m)) is }
     ensures tree_named { (m : Remap) (t : Module) → IsTrue (fits_tree m t) → TreeNamesOnly (with_entry m) t }
 {
+    operands_pass_layer_by_layer();
     steps_agree();
     valid_where_items_hold();
 }

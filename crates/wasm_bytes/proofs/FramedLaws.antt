@@ -10,7 +10,7 @@ use Rattle.wasm_bytes.specs.FrameViews.{framed_all, frames_behind, GivesFrames}
 use Rattle.wasm_bytes.proofs.Lists.{halves, bytes_drop}
 use Rattle.wasm_bytes.proofs.FrameLaws.{frames_sound, frames_complete, bad_sound, bad_complete}
 
-header_split : (bytes : List ℕ) → HasHeader bytes → bytes ≡ header ++ drop 8 bytes
+pub header_split : (bytes : List ℕ) → HasHeader bytes → bytes ≡ header ++ drop 8 bytes
 header_split bytes h = halves 8 bytes ∙ ap (λ t. t ++ drop 8 bytes) h
 
 -- what stands behind the header
@@ -19,7 +19,7 @@ behind bytes front back h e =
     let whole : bytes ≡ header ++ back = e ∙ ap (λ t. t ++ back) h in
     (ap (drop 8) whole, omega (arith, ap length whole, length-append header back))
 
-shorter : (n : ℕ) (bytes : List ℕ) → length (drop n bytes) ≤ length bytes
+pub shorter : (n : ℕ) (bytes : List ℕ) → length (drop n bytes) ≤ length bytes
 shorter zero bytes = omega arith
 shorter (suc n) [] = omega arith
 shorter (suc n) (b ∷ bs) = let h = shorter n bs in omega arith

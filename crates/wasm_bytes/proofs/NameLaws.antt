@@ -1,6 +1,6 @@
 -- A name is read exactly where one is spelled.
 use Rattle.std.proofs.Common.{◌≡◌, ℕ, ◌≤◌, List, ◌++◌, length, take, drop, Result, Ok, Err, Bool, true, false, ◌⊎◌, inl, inr, ⊎_elim, refl, sym, ap, ◌∙◌, subst, arith, append_assoc}
-use Rattle.std.proofs.lemmas.Bool.{cases_lt, lt-ltb, le-ltb}
+use Rattle.std.proofs.lemmas.Bool.{cases_lt, lt-ltb, le-ltb, cases_Bool}
 use Rattle.std.proofs.lemmas.Str.{IsUtf8-from_is_utf8, is_utf8-from_IsUtf8}
 use Rattle.std.specs.Prelude.{IsUtf8}
 use Rattle.std.specs.Str.{is_utf8}
@@ -12,10 +12,6 @@ use Rattle.wasm_bytes.specs.Joins.{U32, Named, IsNameShort, IsNameMisspelled, Is
 use Rattle.wasm_bytes.proofs.NumberLaws.{reading_of_cut, cut_of_reading, unsigned_ends}
 use Rattle.wasm_bytes.proofs.Lists.{halves, taken}
 use Rattle.wasm_bytes.proofs.Sized.{u32_sound, u32_complete, sized_complete}
-
-two_cases : (b : Bool) → (b ≡ true) ⊎ (b ≡ false)
-two_cases true = inl refl
-two_cases false = inr refl
 
 u32_cut : (old : List ℕ) → IsCut U32 old → unsigned_at 32 old ≡ Err Short
 unfolding unsigned_at
@@ -54,7 +50,7 @@ shows_text old n rest t le = ⊎_elim
     let size = subst (U32 t.0) (sym (taken n rest le)) t.1 in
     (t.0 ++ take n rest, (IsUtf8-from_is_utf8 (take n rest) yes, (t.0, size, refl)), e)))
     (λ no. rw no (inr (n, rest, t, le, (λ u. let k = sym no ∙ is_utf8-from_IsUtf8 (take n rest) u in cc))))
-    (two_cases (is_utf8 (take n rest)))
+    (cases_Bool (is_utf8 (take n rest)))
 
 shows : (old : List ℕ) → IsBytes old → (u : Result (ℕ × List ℕ) Wrong) → unsigned_at 32 old ≡ u → Shows old (name_at old)
 unfolding name_at Shows
@@ -79,7 +75,7 @@ name_of_short old h = ⊎_elim
     h
 
 not_text : (text : List ℕ) → (IsUtf8 text → ⊥) → is_utf8 text ≡ false
-not_text text never = ⊎_elim (λ yes. absurd (never (IsUtf8-from_is_utf8 text yes))) (λ e. e) (two_cases (is_utf8 text))
+not_text text never = ⊎_elim (λ yes. absurd (never (IsUtf8-from_is_utf8 text yes))) (λ e. e) (cases_Bool (is_utf8 text))
 
 name_of_misspelled : (old : List ℕ) → IsBytes old → IsNameMisspelled old → name_at old ≡ Err Spelling
 unfolding name_at

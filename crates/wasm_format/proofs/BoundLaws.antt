@@ -2,6 +2,9 @@
 use Rattle.std.proofs.Common.{◌≡◌, ℕ, zero, suc, ◌+◌, ◌≤◌, List, [], ◌∷◌, length, map, sum, slice_get, Bool, true, false, Option, Some, None, refl, sym, ap, ◌∙◌, subst, arith, length-append}
 use Rattle.std.specs.Prelude.{◌==◌, ◌&&◌}
 use Rattle.std.specs.List.{fold}
+use Rattle.std.proofs.lemmas.Bool.{and_parts, and_from}
+use Rattle.std.proofs.lemmas.List.{length-map}
+use Rattle.base_lists.proofs.Each.{every_at}
 use Rattle.wasm_bytes.specs.Joins.{Each}
 use Rattle.wasm_bytes.specs.Frames.{Section}
 use Rattle.wasm_tree.specs.declared.types.FuncType.{FuncType}
@@ -84,10 +87,6 @@ small_nothing = record { types = (omega arith, tt); imports = omega arith; func_
 
 -- ---- the tree
 
-length_map : {A B : Type 0} (f : A → B) (xs : List A) → length (map f xs) ≡ length xs
-length_map f [] = refl
-length_map f (x ∷ xs) = ap suc (length_map f xs)
-
 length_typed : (ts : List ℕ) (fs : List Func) → length (typed ts fs) ≤ length ts
 length_typed [] fs = omega arith
 length_typed (t ∷ ts) [] = omega arith
@@ -102,11 +101,6 @@ typed_few [] fs h = tt
 typed_few (t ∷ ts) [] h = tt
 typed_few (t ∷ ts) (f ∷ fs) h = (h.0.0, typed_few ts fs h.1)
 
-every_at : {A : Type 0} (P : A → Type 0) (xs : List A) (i : ℕ) (x : A) → Every P xs → slice_get xs i ≡ Some x → P x
-every_at P [] i x h e = cc
-every_at P (y ∷ ys) zero x h e = let same : y ≡ x = cc in subst P same h.0
-every_at P (y ∷ ys) (suc i) x h e = every_at P ys i x h.1 e
-
 few_params : (types : List FuncType) (ty : ℕ) (o : Option FuncType) → Every SmallFuncType types → slice_get types ty ≡ o → param_count o ≤ limit Parameters
 few_params types ty None h e = omega arith
 few_params types ty (Some t) h e = (every_at SmallFuncType types ty t h e).0.0
@@ -117,10 +111,10 @@ module _ (p : Parts) (s : Small p) where
   bounded_parts = record {
     types = omega (arith, s.types.0);
     imports = omega (arith, s.imports);
-    funcs = omega (arith, s.imports, s.func_types, length-append (imported_funcs p.imports) (map (λ (f : Func). f.ty) (typed p.func_types p.codes)), length_map (λ (f : Func). f.ty) (typed p.func_types p.codes), length_typed p.func_types p.codes, filter_map_most (λ i. func_of i.desc) p.imports);
+    funcs = omega (arith, s.imports, s.func_types, length-append (imported_funcs p.imports) (map (λ (f : Func). f.ty) (typed p.func_types p.codes)), length-map (typed p.func_types p.codes) (λ (f : Func). f.ty), length_typed p.func_types p.codes, filter_map_most (λ i. func_of i.desc) p.imports);
     tables = omega (arith, s.imports, s.tables, length-append (imported_tables p.imports) p.tables, filter_map_most (λ i. table_of i.desc) p.imports);
     memories = omega (arith, s.imports, s.mems, length-append (imported_memories p.imports) p.mems, filter_map_most (λ i. memory_of i.desc) p.imports);
-    globals = omega (arith, s.imports, s.globals, length-append (imported_globals p.imports) (map (λ g. g.ty) p.globals), length_map (λ g. g.ty) p.globals, filter_map_most (λ i. global_of i.desc) p.imports);
+    globals = omega (arith, s.imports, s.globals, length-append (imported_globals p.imports) (map (λ g. g.ty) p.globals), length-map p.globals (λ g. g.ty), filter_map_most (λ i. global_of i.desc) p.imports);
     exports = omega (arith, s.exports);
     elems = omega (arith, s.elems);
     datas = omega (arith, s.datas);
@@ -137,12 +131,9 @@ tree_bounded many bytes m h k = subst IsBounded (sym h.5) (bounded_parts h.1 (sm
 Zeros : Parts → Type 0
 Zeros p = memory_zero_funcs p.codes ≡ true
 
-both : (a b : Bool) → a ≡ true → b ≡ true → a && b ≡ true
-both a b h k = rw (h, k)
-
 entries_zero : (blocks : BlockPasses) (loops : LoopPasses) (ifs : IfPasses) (fs : List Func) (bytes : List ℕ) → Each (SpellsEntry false) bytes fs → memory_zero_funcs fs ≡ true
 entries_zero blocks loops ifs [] bytes h = refl
-entries_zero blocks loops ifs (f ∷ fs) bytes h = both (memory_zero_all f.body) (memory_zero_funcs fs) (body_zero blocks loops ifs h.2.2.0.1 f.body h.2.2.0.3) (entries_zero blocks loops ifs fs h.1 h.3)
+entries_zero blocks loops ifs (f ∷ fs) bytes h = and_from (memory_zero_all f.body) (memory_zero_funcs fs) (body_zero blocks loops ifs h.2.2.0.1 f.body h.2.2.0.3) (entries_zero blocks loops ifs fs h.1 h.3)
 
 -- without limits
 record Keeps' (K : Parts → Type 0) (P : List ℕ → Parts → Type 0) : Type 0 where
@@ -183,14 +174,10 @@ zeros_contents : (blocks : BlockPasses) (loops : LoopPasses) (ifs : IfPasses) (p
 zeros_contents blocks loops ifs p [] q z h = subst Zeros h z
 zeros_contents blocks loops ifs p (t ∷ ss) q z h = zeros_contents blocks loops ifs h.0 ss q ((zeros_kept blocks loops ifs p t.0 z).keep t.1 h.0 h.1) h.2
 
-split_true : (a b : Bool) → a && b ≡ true → (a ≡ true) × (b ≡ true)
-split_true true b h = (refl, h)
-split_true false b h = cc
-
 typed_zero : (ts : List ℕ) (fs : List Func) → memory_zero_funcs fs ≡ true → memory_zero_funcs (typed ts fs) ≡ true
 typed_zero [] fs h = refl
 typed_zero (t ∷ ts) [] h = refl
-typed_zero (t ∷ ts) (f ∷ fs) h = let k = split_true (memory_zero_all f.body) (memory_zero_funcs fs) h in both (memory_zero_all f.body) (memory_zero_funcs (typed ts fs)) k.0 (typed_zero ts fs k.1)
+typed_zero (t ∷ ts) (f ∷ fs) h = let k = and_parts (memory_zero_all f.body) (memory_zero_funcs fs) h in and_from (memory_zero_all f.body) (memory_zero_funcs (typed ts fs)) k.0 (typed_zero ts fs k.1)
 
 pub tree_zero : (blocks : BlockPasses) (loops : LoopPasses) (ifs : IfPasses) (bytes : List ℕ) (m : Module) → Spells bytes m false → memory_zero_funcs m.funcs ≡ true
 unfolding Zeros

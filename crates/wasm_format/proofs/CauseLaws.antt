@@ -2,6 +2,7 @@
 use Rattle.std.proofs.Common.{◌≡◌, ℕ, zero, suc, ◌+◌, List, [], ◌∷◌, ◌++◌, length, Result, Ok, Err, Bool, true, false, cond, Option, Some, None, ◌⊎◌, inl, inr, ⊎_elim, refl, sym, ap, ◌∙◌, subst, arith, append_assoc}
 use Rattle.std.proofs.lemmas.Bool.{eqb-true}
 use Rattle.std.specs.Prelude.{nat_lt, ◌==◌}
+use Rattle.base_lists.proofs.Bools.{cond_is}
 use Rattle.wasm_bytes.specs.Joins.{U32, Each, Sized}
 use Rattle.wasm_bytes.specs.Reading.{◌>>=◌, IsBytes}
 use Rattle.wasm_bytes.specs.Frames.{Section, Framed}
@@ -28,7 +29,7 @@ use Rattle.wasm_format.proofs.Framing.{framed_sound, framed_fault}
 use Rattle.wasm_format.proofs.EntryLaws.{code_complete, entry_exact, in_ok}
 use Rattle.wasm_format.proofs.SectionLaws.{section_right}
 use Rattle.wasm_format.proofs.Spoken.{never_no_memory}
-use Rattle.wasm_format.proofs.FileLaws.{AreBytes, framed_bytes, contents_sound, of_rules}
+use Rattle.wasm_format.proofs.FileLaws.{AreBytes, framed_bytes, contents_sound, of_rules, told}
 
 bind_err : {A B E : Type 0} (r : Result A E) (f : A → Result B E) (e : E) → (r >>= f) ≡ Err e → (r ≡ Err e) ⊎ ((x : A) × (r ≡ Ok x) × (f x ≡ Err e))
 bind_err (Ok x) f e h = inr (x, refl, h)
@@ -36,10 +37,6 @@ bind_err (Err w) f e h = let same : w ≡ e = cc in inl (ap Err same)
 
 ok_err : {A E : Type 0} (x : A) (e : E) → ◌≡◌ {A = Result A E} (Ok x) (Err e) → ⊥
 ok_err x e h = cc
-
-chosen : {A : Type 0} (b : Bool) (x y z : A) → cond b x y ≡ z → ((b ≡ true) × (x ≡ z)) ⊎ ((b ≡ false) × (y ≡ z))
-chosen true x y z e = inl (refl, e)
-chosen false x y z e = inr (refl, e)
 
 -- ---- which place a fault names
 
@@ -179,9 +176,9 @@ module _ (many : Bool) (n : ℕ) where
       (λ ok. ⊎_elim
       (λ done. absurd (ok_err _ e done.1))
       (λ left. let same : Malformed n ≡ e = (let q = left.1 in cc) in subst (Naming n _) same malformed)
-      (chosen (length ok.0.1 == 0) _ _ _ ok.2))
+      (cond_is (length ok.0.1 == 0) _ _ _ ok.2))
       (bind_err (each_from (entry_at many n) next_func k.0 func k.1) _ e few.1))
-      (chosen (nat_lt (most Functions) k.0) _ _ _ good.2))
+      (cond_is (nat_lt (most Functions) k.0) _ _ _ good.2))
       (bind_err (in_place n None (u32_at c)) _ e h)
 
 -- ---- sections
@@ -287,10 +284,6 @@ module _ (bytes : List ℕ) (many : Bool) (ss : List Section) (framed : Framed b
   cause_of _ some (malformed_in f h) = (0 + length w.front, func_cause f h)
   cause_of _ some (unsupported_in f h) = func_cause f h
 
-told : {A : Type 0} (r : Result A ReadFault) (e : ReadFault) → fault_of r ≡ Some e → r ≡ Err e
-told (Ok x) e h = cc
-told (Err w) e h = let same : w ≡ e = cc in ap Err same
-
 pub cause : (bytes : List ℕ) (many : Bool) (e : ReadFault) → IsBytes bytes → read_fault bytes many ≡ Some e → Cause bytes many e
 unfolding read_at parts_at
 cause bytes many e small h = ⊎_elim
@@ -319,7 +312,7 @@ cause bytes many e small h = ⊎_elim
       within = c.1;
       faulty = λ r. (let t = sym not.0 ∙ of_rules all.0 r in cc);
     }))))
-    (chosen (agrees all.0) _ _ _ all.2))
+    (cond_is (agrees all.0) _ _ _ all.2))
     (bind_err (contents_at many 0 nothing good.0) _ e good.2))
     (bind_err (framed_at bytes) _ e parts))
     (λ ok. absurd (ok_err _ e ok.2))

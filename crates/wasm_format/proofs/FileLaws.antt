@@ -1,6 +1,6 @@
 -- A file is read exactly where it spells a tree, within the limits.
 use Rattle.std.proofs.Common.{◌≡◌, ℕ, zero, suc, ◌+◌, List, [], ◌∷◌, ◌++◌, length, Result, Ok, Err, Bool, true, false, cond, Option, Some, None, ◌⊎◌, inl, inr, ⊎_elim, refl, sym, ap, ◌∙◌, subst, arith}
-use Rattle.std.proofs.lemmas.Bool.{eqb-true}
+use Rattle.std.proofs.lemmas.Bool.{eqb-true, and_parts}
 use Rattle.std.specs.Prelude.{◌==◌, ◌&&◌, ◌↔◌, IfOk, IfErr}
 use Rattle.wasm_bytes.specs.Reading.{IsBytes}
 use Rattle.wasm_bytes.specs.Frames.{Section, after, Frames, Framed}
@@ -71,10 +71,6 @@ module _ (many : Bool) where
 
 -- ---- the rules on the whole file
 
-both_true : (a b : Bool) → a && b ≡ true → (a ≡ true) × (b ≡ true)
-both_true true b h = (refl, h)
-both_true false b h = cc
-
 not_used : (b : Bool) → cond b false true ≡ true → b ≡ false
 not_used true h = cc
 not_used false h = refl
@@ -90,7 +86,7 @@ of_counted p (Some n) h = let same : length p.datas == length p.datas ≡ true =
 pub rules_of : (p : Parts) → agrees p ≡ true → Rules p
 unfolding agrees
 rules_of p h =
-    let b = both_true (length p.func_types == length p.codes) (counted p p.data_count) h in
+    let b = and_parts (length p.func_types == length p.codes) (counted p p.data_count) h in
     record { functions = eqb-true (length p.func_types) (length p.codes) b.0; counted = counted_of p p.data_count b.1 }
 
 pub of_rules : (p : Parts) → Rules p → agrees p ≡ true
@@ -147,7 +143,7 @@ fault_is (MalformedBody f) r h = inr h
 fault_is (Unsupported s f) r h = inr h
 fault_is (Limit w) r h = inr h
 
-told : {A : Type 0} (r : Result A ReadFault) (e : ReadFault) → fault_of r ≡ Some e → r ≡ Err e
+pub told : {A : Type 0} (r : Result A ReadFault) (e : ReadFault) → fault_of r ≡ Some e → r ≡ Err e
 told (Ok x) e h = cc
 told (Err w) e h = let same : w ≡ e = cc in ap Err same
 

@@ -1,7 +1,8 @@
 -- What is read of the frames of a whole file is what it frames.
 use Rattle.std.proofs.Common.{◌≡◌, ℕ, zero, suc, ◌≤◌, List, [], ◌∷◌, ◌++◌, length, take, drop, Result, Ok, Err, Bool, true, false, cond, ◌⊎◌, inl, inr, ⊎_elim, refl, sym, ap, ◌∙◌, subst, arith, length-append}
-use Rattle.std.proofs.lemmas.Bool.{eqb-true}
+use Rattle.std.proofs.lemmas.Bool.{eqb-true, and_parts, cases_Bool}
 use Rattle.std.specs.Prelude.{◌==◌, ◌&&◌}
+use Rattle.wasm_bytes.proofs.FramedLaws.{header_split, shorter}
 use Rattle.wasm_bytes.specs.Reading.{IsBytes}
 use Rattle.wasm_bytes.specs.Frames.{Section, header, HasHeader, Framed, FirstBad, frames_at}
 use Rattle.wasm_bytes.proofs.Lists.{halves, bytes_drop}
@@ -10,35 +11,23 @@ use Rattle.wasm_format.specs.declared.fault.ReadFault.{ReadFault}
 use Rattle.wasm_format.specs.declared.fault.ReadFault.TheVariants.{NotModule, Malformed}
 use Rattle.wasm_format.specs.Contents.{same_list, numbered, framed_at}
 
-both_true : (a b : Bool) → a && b ≡ true → (a ≡ true) × (b ≡ true)
-both_true true b h = (refl, h)
-both_true false b h = cc
-
 same_is : (xs ys : List ℕ) → same_list xs ys ≡ true → xs ≡ ys
 same_is [] [] h = refl
 same_is [] (y ∷ ys) h = cc
 same_is (x ∷ xs) [] h = cc
 same_is (x ∷ xs) (y ∷ ys) h =
-    let k = both_true (x == y) (same_list xs ys) h in
+    let k = and_parts (x == y) (same_list xs ys) h in
     ap (λ z. z ∷ xs) (eqb-true x y k.0) ∙ ap (λ zs. y ∷ zs) (same_is xs ys k.1)
 
 is_same : (xs : List ℕ) → same_list xs xs ≡ true
 is_same [] = refl
 is_same (x ∷ xs) = let same : x == x ≡ true = grind arith in rw (same, is_same xs)
 
-header_split : (bytes : List ℕ) → HasHeader bytes → bytes ≡ header ++ drop 8 bytes
-header_split bytes h = halves 8 bytes ∙ ap (λ t. t ++ drop 8 bytes) h
-
 -- what stands behind the header
 behind : (bytes front back : List ℕ) → front ≡ header → bytes ≡ front ++ back → HasHeader bytes × (drop 8 bytes ≡ back) × (length back ≤ length bytes)
 behind bytes front back h e =
     let whole : bytes ≡ header ++ back = e ∙ ap (λ t. t ++ back) h in
     (ap (take 8) whole, ap (drop 8) whole, omega (arith, ap length whole, length-append header back))
-
-shorter : (n : ℕ) (bytes : List ℕ) → length (drop n bytes) ≤ length bytes
-shorter zero bytes = omega arith
-shorter (suc n) [] = omega arith
-shorter (suc n) (b ∷ bs) = let h = shorter n bs in omega arith
 
 pick : {A : Type 0} (b : Bool) (x y : A) → b ≡ true → cond b x y ≡ x
 pick true x y e = refl
@@ -52,13 +41,9 @@ with_header : (bytes : List ℕ) → HasHeader bytes → framed_at bytes ≡ num
 unfolding framed_at
 with_header bytes h = pick (same_list (take 8 bytes) header) _ _ (ap (λ z. same_list z header) h ∙ is_same header)
 
-two : (b : Bool) → (b ≡ true) ⊎ (b ≡ false)
-two true = inl refl
-two false = inr refl
-
 pub header_reads : (bytes : List ℕ) → (HasHeader bytes → ⊥) → framed_at bytes ≡ Err NotModule
 unfolding framed_at
-header_reads bytes never = ⊎_elim (λ h. absurd (never (same_is _ _ h))) (λ h. pick_other (same_list (take 8 bytes) header) _ _ h) (two (same_list (take 8 bytes) header))
+header_reads bytes never = ⊎_elim (λ h. absurd (never (same_is _ _ h))) (λ h. pick_other (same_list (take 8 bytes) header) _ _ h) (cases_Bool (same_list (take 8 bytes) header))
 
 pub framed_reads : (bytes : List ℕ) (ss : List Section) → Framed bytes ss → framed_at bytes ≡ Ok ss
 framed_reads bytes ss f =
@@ -88,7 +73,7 @@ framed_sound bytes ss small e = ⊎_elim
     let r = numbered_ok _ ss (sym (with_header bytes head) ∙ e) in
     (header, drop 8 bytes, refl, frames_sound (length bytes) 0 0 (drop 8 bytes) ss (bytes_drop 8 bytes small) r, header_split bytes head))
     (λ h. absurd (let bad = sym (pick_other (same_list (take 8 bytes) header) (numbered (frames_at (length bytes) 0 0 (drop 8 bytes))) (Err NotModule) h) ∙ e in cc))
-    (two (same_list (take 8 bytes) header))
+    (cases_Bool (same_list (take 8 bytes) header))
 
 pub framed_fault : (bytes : List ℕ) (e : ReadFault) → IsBytes bytes → framed_at bytes ≡ Err e → ((e ≡ NotModule) × (HasHeader bytes → ⊥)) ⊎ ((n : ℕ) × (e ≡ Malformed n) × FirstBad bytes n)
 unfolding framed_at
@@ -103,4 +88,4 @@ framed_fault bytes e small k = ⊎_elim
     let bad : ◌≡◌ {A = Result (List Section) ReadFault} (Err NotModule) (Err e) = sym (pick_other (same_list (take 8 bytes) header) (numbered (frames_at (length bytes) 0 0 (drop 8 bytes))) (Err NotModule) h) ∙ k in
     let same : NotModule ≡ e = cc in
     inl (sym same, λ head. let t = ap (λ z. same_list z header) head ∙ is_same header in absurd (let no_way = sym h ∙ t in cc)))
-    (two (same_list (take 8 bytes) header))
+    (cases_Bool (same_list (take 8 bytes) header))

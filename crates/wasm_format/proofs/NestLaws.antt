@@ -12,6 +12,7 @@ use Rattle.wasm_tree.specs.MemoryZero.{is_memory_zero, memory_zero, memory_zero_
 use Rattle.wasm_tree.specs.OperandLaws.{BlockPasses, LoopPasses, IfPasses}
 use Rattle.wasm_tree.specs.Operands.{block_operands}
 use Rattle.std.specs.List.{list_all}
+use Rattle.std.proofs.lemmas.Bool.{and_from}
 use Rattle.wasm_tree.specs.Limits.{limit}
 use Rattle.wasm_tree.specs.declared.which.Which.TheVariants.{Nesting}
 use Rattle.wasm_format.specs.declared.fault.Fault.{Fault}
@@ -125,9 +126,6 @@ no_memory (block.Index ty) = refl
 Zero : Instr → Type 0
 Zero i = memory_zero i ≡ true
 
-both : (a b : Bool) → a ≡ true → b ≡ true → a && b ≡ true
-both a b h k = rw (h, k)
-
 module _ (blocks : BlockPasses) (loops : LoopPasses) (ifs : IfPasses) where
   zero_block : (ty : BlockType) (body : List Instr) → memory_zero (Block ty body) ≡ memory_zero_all body
   zero_block ty body = blocks is_memory_zero ty body ∙ ap (λ b. b && memory_zero_all body) (no_memory ty)
@@ -141,17 +139,17 @@ module _ (blocks : BlockPasses) (loops : LoopPasses) (ifs : IfPasses) where
   zero_nests : {ts : List Token} {is : List Instr} → Nests ts is → Plains Zero ts → memory_zero_all is ≡ true
   unfolding Plains Zero
   zero_nests no_more h = refl
-  zero_nests (one_plain {is = is} i r) h = both (memory_zero i) (memory_zero_all is) h.0 (zero_nests r h.1)
+  zero_nests (one_plain {is = is} i r) h = and_from (memory_zero i) (memory_zero_all is) h.0 (zero_nests r h.1)
   zero_nests (one_block {inner = inner} {ts = ts} {body = body} {is = is} ty a r) h =
-      both (memory_zero (Block ty body)) (memory_zero_all is) (zero_block ty body ∙ zero_nests a (plains_left Zero inner (End ∷ ts) h)) (zero_nests r (plains_right Zero inner (End ∷ ts) h))
+      and_from (memory_zero (Block ty body)) (memory_zero_all is) (zero_block ty body ∙ zero_nests a (plains_left Zero inner (End ∷ ts) h)) (zero_nests r (plains_right Zero inner (End ∷ ts) h))
   zero_nests (one_loop {inner = inner} {ts = ts} {body = body} {is = is} ty a r) h =
-      both (memory_zero (Loop ty body)) (memory_zero_all is) (zero_loop ty body ∙ zero_nests a (plains_left Zero inner (End ∷ ts) h)) (zero_nests r (plains_right Zero inner (End ∷ ts) h))
+      and_from (memory_zero (Loop ty body)) (memory_zero_all is) (zero_loop ty body ∙ zero_nests a (plains_left Zero inner (End ∷ ts) h)) (zero_nests r (plains_right Zero inner (End ∷ ts) h))
   zero_nests (one_if {inner = inner} {ts = ts} {body = body} {is = is} ty a r) h =
-      both (memory_zero (If ty body [])) (memory_zero_all is) (zero_if ty body [] ∙ both (memory_zero_all body) true (zero_nests a (plains_left Zero inner (End ∷ ts) h)) refl) (zero_nests r (plains_right Zero inner (End ∷ ts) h))
+      and_from (memory_zero (If ty body [])) (memory_zero_all is) (zero_if ty body [] ∙ and_from (memory_zero_all body) true (zero_nests a (plains_left Zero inner (End ∷ ts) h)) refl) (zero_nests r (plains_right Zero inner (End ∷ ts) h))
   zero_nests (one_if_else {inner = inner} {other = other} {ts = ts} {body = body} {otherwise = otherwise} {is = is} ty a b r) h =
       let rest = plains_right Zero inner (Else ∷ (other ++ End ∷ ts)) h in
-      both (memory_zero (If ty body otherwise)) (memory_zero_all is)
-      (zero_if ty body otherwise ∙ both (memory_zero_all body) (memory_zero_all otherwise) (zero_nests a (plains_left Zero inner (Else ∷ (other ++ End ∷ ts)) h)) (zero_nests b (plains_left Zero other (End ∷ ts) rest)))
+      and_from (memory_zero (If ty body otherwise)) (memory_zero_all is)
+      (zero_if ty body otherwise ∙ and_from (memory_zero_all body) (memory_zero_all otherwise) (zero_nests a (plains_left Zero inner (Else ∷ (other ++ End ∷ ts)) h)) (zero_nests b (plains_left Zero other (End ∷ ts) rest)))
       (zero_nests r (plains_right Zero other (End ∷ ts) rest))
 
   pub body_zero : (bytes : List ℕ) (is : List Instr) → SpellsBody false bytes is → memory_zero_all is ≡ true

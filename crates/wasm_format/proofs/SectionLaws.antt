@@ -2,6 +2,7 @@
 use Rattle.std.proofs.Common.{◌≡◌, ℕ, List, [], ◌∷◌, ◌++◌, length, Result, Ok, Err, Bool, true, false, cond, None, ◌⊎◌, inl, inr, ⊎_elim, refl, sym, ap, ◌∙◌, subst, append-nil}
 use Rattle.std.proofs.Math.Dec.{eqb-suc-zero}
 use Rattle.std.specs.Prelude.{◌==◌, if◌then◌else◌}
+use Rattle.base_lists.proofs.Bools.{cond_is}
 use Rattle.wasm_bytes.specs.Joins.{Vector}
 use Rattle.wasm_bytes.specs.Reading.{◌>>=◌, IsBytes}
 use Rattle.wasm_bytes.proofs.Sized.{bind_ok}
@@ -30,10 +31,6 @@ none_left : (bs : List ℕ) → (length bs == 0) ≡ true → bs ≡ []
 none_left [] e = refl
 none_left (b ∷ bs) e = absurd (let bad = sym (eqb-suc-zero (length bs)) ∙ e in cc)
 
-chosen : {A : Type 0} (b : Bool) (x y z : A) → cond b x y ≡ z → ((b ≡ true) × (x ≡ z)) ⊎ ((b ≡ false) × (y ≡ z))
-chosen true x y z e = inl (refl, e)
-chosen false x y z e = inr (refl, e)
-
 module _ {A : Type 0} (P : List ℕ → A → Type 0) (S : A → Type 0) (r : Reader A) (exact : Exact P S r) where
   whole_sound : (bs : List ℕ) (x : A) → IsBytes bs → whole_at r bs ≡ Ok x → P bs x × S x
   unfolding whole_at
@@ -47,7 +44,7 @@ module _ {A : Type 0} (P : List ℕ → A → Type 0) (S : A → Type 0) (r : Re
       let same : w.0.0 ≡ x = (let k = h.1 in cc) in
       (subst (P bs) same (subst (λ z. P z w.0.0) (sym all) t.0.1), subst S same t.1))
       (λ h. absurd (err_ok fault.Malformed _ h.1))
-      (chosen _ _ _ _ w.2)
+      (cond_is _ _ _ _ w.2)
 
   whole_complete : (bs : List ℕ) (x : A) → P bs x → S x → whole_at r bs ≡ Ok x
   unfolding whole_at

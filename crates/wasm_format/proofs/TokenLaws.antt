@@ -3,6 +3,7 @@ use Rattle.std.proofs.Common.{◌≡◌, ℕ, ◌<◌, ◌≤◌, List, [], ◌�
 use Rattle.std.proofs.lemmas.Int.{ints}
 use Rattle.std.proofs.lemmas.Bool.{cases_lt, eqb-true, ne_eqb}
 use Rattle.std.specs.Prelude.{◌&&◌, nat_lt}
+use Rattle.base_lists.proofs.Bools.{and_false, cond_is}
 use Rattle.wasm_bytes.specs.Numbers.{Signed}
 use Rattle.wasm_bytes.specs.Reading.{◌>>=◌, IsBytes, signed_at}
 use Rattle.wasm_bytes.proofs.Lists.{Took}
@@ -33,14 +34,6 @@ none_some x h = cc
 
 leb_no : (a b : ℕ) → b < a → leb a b ≡ false
 leb_no a b h = grind arith
-
-and_no : (a : Bool) → a && false ≡ false
-and_no true = refl
-and_no false = refl
-
-chosen : {A : Type 0} (b : Bool) (x y z : A) → cond b x y ≡ z → ((b ≡ true) × (x ≡ z)) ⊎ ((b ≡ false) × (y ≡ z))
-chosen true x y z e = inl (refl, e)
-chosen false x y z e = inr (refl, e)
 
 -- a value type read as a block type
 value_sound : (bytes : List ℕ) (ty : BlockType) (rest : List ℕ) → IsBytes bytes → mapped_at Value val_at bytes ≡ Ok (ty, rest) → Took (λ t. SpellsBlockType t ty) bytes rest
@@ -76,7 +69,7 @@ unfolding block_type_at
 block_type_sound [] ty rest small e = cc
 block_type_sound (b ∷ bs) ty rest small e = ⊎_elim (λ h. empty_sound b bs rest ty h.0 h.1)
     (λ h. either_sound (leb 0x7B b && leb b 0x7F) b bs rest ty _ small (λ k. either_sound (leb 0x6F b && leb b 0x70) b bs rest ty _ small (λ l. number_sound b bs rest ty small l) k) h.1)
-    (chosen _ _ _ _ e)
+    (cond_is _ _ _ _ e)
 
 -- the first byte of a number that isn't negative is none of the others
 no_negative : (b n : ℕ) → b < 128 → pos b -ℤ pos 128 ≡ pos n → ⊥
@@ -86,14 +79,14 @@ first_index : (b : ℕ) (bs : List ℕ) (n : ℕ) → Signed 33 (b ∷ bs) (pos 
 first_index b (c ∷ bs) n h = inr h.0
 first_index b [] n h = ⊎_elim inl
     (λ le. let e = rw (le-ltb b 64 le) at h.1 in
-    absurd (⊎_elim (λ k. no_negative b n h.0 (some_same _ _ k.1)) (λ k. none_some _ k.1) (chosen _ _ _ _ e)))
+    absurd (⊎_elim (λ k. no_negative b n h.0 (some_same _ _ k.1)) (λ k. none_some _ k.1) (cond_is _ _ _ _ e)))
     (cases_lt b 64)
 
 not_at : (b k : ℕ) → (b < 64) ⊎ (128 ≤ b) → 64 ≤ k → k < 128 → eqb b k ≡ false
 not_at b k first low high = ne_eqb b k (λ e. ⊎_elim (λ h. omega arith) (λ h. omega arith) first)
 
 not_between : (low high b : ℕ) → 64 ≤ low → high < 128 → (b < 64) ⊎ (128 ≤ b) → leb low b && leb b high ≡ false
-not_between low high b le lt first = ⊎_elim (λ h. rw (leb_no low b (omega arith))) (λ h. rw (leb_no b high (omega arith)) (and_no (leb low b))) first
+not_between low high b le lt first = ⊎_elim (λ h. rw (leb_no low b (omega arith))) (λ h. rw (leb_no b high (omega arith)) (and_false (leb low b))) first
 
 -- a byte that is a value type's is none of an index, and is read as one
 val_bytes : (b : ℕ) (t : ValType) → val_code b ≡ Ok t → (b ≡ 0x7F) ⊎ ((b ≡ 0x7E) ⊎ ((b ≡ 0x70) ⊎ (b ≡ 0x6F)))
@@ -102,8 +95,8 @@ val_bytes b t e = ⊎_elim (λ h. inl (eqb-true b 0x7F h.0))
     (λ h. ⊎_elim (λ h. inr (inl (eqb-true b 0x7E h.0)))
     (λ h. ⊎_elim (λ h. inr (inr (inl (eqb-true b 0x70 h.0))))
     (λ h. ⊎_elim (λ h. inr (inr (inr (eqb-true b 0x6F h.0))))
-    (λ h. absurd (⊎_elim (λ k. err_ok Unsupported t k.1) (λ k. err_ok Malformed t k.1) (chosen _ _ _ _ h.1)))
-    (chosen _ _ _ _ h.1)) (chosen _ _ _ _ h.1)) (chosen _ _ _ _ h.1)) (chosen _ _ _ _ e)
+    (λ h. absurd (⊎_elim (λ k. err_ok Unsupported t k.1) (λ k. err_ok Malformed t k.1) (cond_is _ _ _ _ h.1)))
+    (cond_is _ _ _ _ h.1)) (cond_is _ _ _ _ h.1)) (cond_is _ _ _ _ h.1)) (cond_is _ _ _ _ e)
 
 -- what a byte of a value type makes of reading a block type
 val_first : (b : ℕ) (bs : List ℕ) → (b ≡ 0x7F) ⊎ ((b ≡ 0x7E) ⊎ ((b ≡ 0x70) ⊎ (b ≡ 0x6F))) → block_type_at (b ∷ bs) ≡ mapped_at Value val_at (b ∷ bs)

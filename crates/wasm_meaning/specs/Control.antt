@@ -10,7 +10,8 @@ use Rattle.wasm_tree.specs.declared.instr.Instr.TheVariants as i
 use Rattle.wasm_meaning.specs.Outcomes.{Outcome, Gives, Traps, IllTyped, trapping, or_trap, or_other, bind, at, onto, split_at}
 use Rattle.wasm_num.specs.Operations.{W32}
 use Rattle.wasm_meaning.specs.State.{Pair, RefVal, FuncRef, ExternRef, Val, Inst, Func, Code, Own, Placeholder, Table, Store, Level, Env, Body, Act, Calls, Ends}
-use Rattle.wasm_meaning.specs.Values.{same_func_type, pop_num, pop_typed, go, with_values}
+use Rattle.wasm_meaning.specs.Values.{pop_num, pop_typed, go, with_values}
+use Rattle.wasm_tree.specs.SameTypes.{same_func_type}
 use Rattle.wasm_meaning.specs.Tables.{with_table}
 
 abbrev pub type_of_func : Func → FuncType

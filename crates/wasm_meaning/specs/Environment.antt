@@ -11,7 +11,8 @@ use Rattle.wasm_tree.specs.declared.types.GlobalType.{GlobalType}
 use Rattle.wasm_num.specs.Operations.{W32, W64}
 use Rattle.wasm_meaning.specs.Outcomes.{Outcome, Gives, IllTyped, bind, at}
 use Rattle.wasm_meaning.specs.State.{Pair, RefVal, FuncRef, ExternRef, Val, Num, Ref, Func, Own, Table, Memory, Global}
-use Rattle.wasm_meaning.specs.Values.{same_func_type, ref_of}
+use Rattle.wasm_meaning.specs.Values.{ref_of}
+use Rattle.wasm_tree.specs.SameTypes.{same_func_type}
 use Rattle.wasm_meaning.specs.Linking.{same_pair}
 
 -- a value as the embedder sees it: a number, null, a function of its own, a number of its own, or a function that was shown to it, by its number in the order

@@ -9,7 +9,7 @@ use Rattle.wasm_tree.specs.declared.module.ExportDesc.{ExportDesc}
 use Rattle.wasm_tree.specs.declared.module.Module.{Module}
 use Rattle.wasm_meaning.specs.Outcomes.{Outcome, Gives, Traps, bind, at}
 use Rattle.wasm_meaning.specs.State.{Text, Pair, Val, Inst, Func, Placeholder, Store, Entry, Next, CallsPlaceholder}
-use Rattle.wasm_meaning.specs.Values.{same_func_type}
+use Rattle.wasm_tree.specs.SameTypes.{same_func_type}
 use Rattle.wasm_meaning.specs.Tables.{with_table}
 use Rattle.wasm_meaning.specs.Control.{type_at, func_ref}
 use Rattle.wasm_meaning.specs.Step.{enter_at, step}

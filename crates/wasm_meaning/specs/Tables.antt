@@ -4,7 +4,8 @@ use Rattle.std.specs.Prelude.{nat_lt}
 use Rattle.wasm_meaning.specs.Outcomes.{Outcome, Gives, IllTyped, trapping, bind, at, slice, overwrite, copies}
 use Rattle.wasm_num.specs.Operations.{W32}
 use Rattle.wasm_meaning.specs.State.{Val, Num, Ref, RefVal, Table, Env, Body, GrowTable, SetTable, DropElem, Act, Goes, AsksGrow}
-use Rattle.wasm_meaning.specs.Values.{pop_num, pop_ref, type_of_ref, same_ref, with_values, pushes}
+use Rattle.wasm_meaning.specs.Values.{pop_num, pop_ref, type_of_ref, with_values, pushes}
+use Rattle.wasm_tree.specs.SameTypes.{same_ref}
 use Rattle.wasm_meaning.specs.Memory.{below_most, pop_three}
 
 abbrev pub with_table : {B : Type 0} → Env → ℕ → (ℕ → Table → Outcome B) → Outcome B

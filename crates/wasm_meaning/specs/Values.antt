@@ -1,5 +1,5 @@
 -- Instructions on values, locals and globals (WebAssembly Core 2.0, sections 4.4.1, 4.4.2, 4.4.4 and 4.4.5).
-use Rattle.std.proofs.Common.{ℕ, List, [], ◌∷◌, ◌++◌, Some, None, Bool, true, false, cond, slice_set, ◌&&◌}
+use Rattle.std.proofs.Common.{ℕ, List, [], ◌∷◌, ◌++◌, Some, None, Bool, true, false, cond, slice_set}
 use Rattle.std.specs.Prelude.{nat_eq}
 use Rattle.wasm_tree.specs.declared.types.RefType.{RefType}
 use Rattle.wasm_tree.specs.declared.types.RefType.TheVariants as reft
@@ -7,6 +7,7 @@ use Rattle.wasm_tree.specs.declared.types.ValType.{ValType}
 use Rattle.wasm_tree.specs.declared.types.ValType.TheVariants as valt
 use Rattle.wasm_tree.specs.declared.types.FuncType.{FuncType}
 use Rattle.wasm_tree.specs.declared.module.LocalGroup.{LocalGroup}
+pub use Rattle.wasm_tree.specs.SameTypes.{same_ref, same_type, same_types, same_func_type}
 use Rattle.wasm_num.specs.declared.UnOp.{UnOp}
 use Rattle.wasm_num.specs.declared.BinOp.{BinOp}
 use Rattle.wasm_num.specs.Operations.{Width, W32, W64, un_from, un_to, un_value, bin_from, bin_to, bin_value}
@@ -23,25 +24,6 @@ abbrev pub type_of : Val → ValType
 type_of (Num W32 n) = valt.I32
 type_of (Num W64 n) = valt.I64
 type_of (Ref r) = valt.Ref (type_of_ref r)
-
-abbrev pub same_ref : RefType → RefType → Bool
-same_ref reft.Func reft.Func = true
-same_ref reft.Extern reft.Extern = true
-same_ref _ _ = false
-
-abbrev pub same_type : ValType → ValType → Bool
-same_type valt.I32 valt.I32 = true
-same_type valt.I64 valt.I64 = true
-same_type (valt.Ref r) (valt.Ref s) = same_ref r s
-same_type _ _ = false
-
-abbrev pub same_types : List ValType → List ValType → Bool
-same_types [] [] = true
-same_types (s ∷ ss) (t ∷ ts) = same_type s t && same_types ss ts
-same_types _ _ = false
-
-abbrev pub same_func_type : FuncType → FuncType → Bool
-same_func_type s t = same_types s.params t.params && same_types s.results t.results
 
 -- a value, where it has the type
 abbrev pub typed : ValType → Val → Outcome Val

@@ -28,7 +28,8 @@ use Rattle.wasm_tree.specs.declared.module.Module.{Module}
 use Rattle.wasm_num.specs.Operations.{W32, W64, wrapped}
 use Rattle.wasm_meaning.specs.Outcomes.{Outcome, Gives, overwrite, copies}
 use Rattle.wasm_meaning.specs.State.{Text, Pair, RefVal, FuncRef, Val, Num, Ref, Inst, Func, Code, Table, Memory, Global, Elem, Store, DropElem, DropData, SetTable, SetMemory}
-use Rattle.wasm_meaning.specs.Values.{same_ref, same_type, same_func_type, null_of, declared, ref_of, num_of}
+use Rattle.wasm_meaning.specs.Values.{null_of, declared, ref_of, num_of}
+use Rattle.wasm_tree.specs.SameTypes.{same_func_type, same_ref, same_type}
 use Rattle.wasm_meaning.specs.Control.{type_at}
 use Rattle.wasm_meaning.specs.Step.{changed, no_items}
 use Rattle.wasm_meaning.specs.Linking.{Part, Site, End, Defined, Outside, Entity, Read, module_at, import_at, imports_of, pair_of, end_of, read_of, sites}

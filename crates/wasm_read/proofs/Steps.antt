@@ -1,5 +1,6 @@
 -- Steps of the loops over frames and functions.
 use Rattle.std.proofs.Common.{◌≡◌, ℕ, zero, suc, ◌+◌, ◌<◌, ◌≤◌, List, [], ◌∷◌, length, drop, set, get_or, slice_get, slice_index, Bool, true, false, Result, Ok, Some, refl, sym, ap, ◌∙◌, subst, arith, add-one}
+use Rattle.std.proofs.lemmas.List.{drop_all}
 use Rattle.wasm_bytes.specs.declared.framing.Frame.{Frame as Place}
 use Rattle.wasm_bytes.specs.FrameViews.{framed, framed_all}
 use Rattle.wasm_tree.specs.declared.module.Func.{Func}
@@ -13,12 +14,6 @@ pub drop_some : {A : Type 0} (xs : List A) (i : ℕ) (d : A) → i < length xs �
 drop_some [] i d lt = absurd (omega arith)
 drop_some (y ∷ ys) zero d lt = refl
 drop_some (y ∷ ys) (suc i) d lt = let j : suc i + 1 ≡ suc (i + 1) = omega arith in rw j (drop_some ys i d (omega arith))
-
-pub drop_none : {A : Type 0} (xs : List A) (i : ℕ) → length xs ≤ i → drop i xs ≡ []
-drop_none [] zero le = refl
-drop_none [] (suc i) le = refl
-drop_none (y ∷ ys) zero le = absurd (omega arith)
-drop_none (y ∷ ys) (suc i) le = drop_none ys i (omega arith)
 
 -- ---- frames
 
@@ -35,7 +30,7 @@ module _ (many : Bool) (bytes : List ℕ) (fs : List Place) (whole : Result Part
 
   pub contents_end : (i : ℕ) (p : Parts) → length fs ≤ i → whole ≡ contents_at many i p (framed_all bytes (drop i fs)) → whole ≡ Ok p
   unfolding contents_at
-  contents_end i p le h = h ∙ rw (drop_none fs i le)
+  contents_end i p le h = h ∙ rw (drop_all i fs le)
 
 -- ---- types of functions
 

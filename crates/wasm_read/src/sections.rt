@@ -37,7 +37,7 @@ fn read_number(content: &[u8]) -> Result<u32, Fault>
 }
 
 /// How many functions are imported.
-#[tactic(auto, using(base_lists::proofs::Found::filter_map_most))]
+#[tactic(auto, using(base_lists::proofs::Filtered::filter_map_most))]
 fn imported_funcs(imports: &[Import]) -> u32
     requires { length imports.now ≤ limit Imports }
     ensures value { result ≡ length (imported_funcs imports.now) }

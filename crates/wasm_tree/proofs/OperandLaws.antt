@@ -3,12 +3,13 @@ use Rattle.std.proofs.Common.{◌≡◌, ℕ, Bool, true, false, ◌&&◌, ◌||
 use Rattle.std.specs.List.{list_all, list_any}
 use Rattle.std.proofs.lemmas.List.{map-append}
 use Rattle.std.proofs.lemmas.List.Folds.{list_all-append, list_all-map}
+use Rattle.std.proofs.lemmas.Bool.{and_from, and_parts}
 use Rattle.base_lists.specs.Every.{Every}
 use Rattle.wasm_tree.specs.declared.space.Space.{Space}
 use Rattle.wasm_tree.specs.declared.space.Operand.{Operand}
 use Rattle.wasm_tree.specs.declared.types.BlockType.{BlockType}
 use Rattle.wasm_tree.specs.declared.types.BlockType.TheVariants as block
-use Rattle.wasm_tree.specs.declared.instr.Instr.{Instr, fold_out-Instr, map-Instr, out-Instr, Row_of-Instr, end_of-Instr, more_of-Instr, items-the_row-Instr, items_shown-the_row-Instr-0}
+use Rattle.wasm_tree.specs.declared.instr.Instr.{Instr, fold-Instr, fold_out-Instr, map-Instr, out-Instr, Row_of-Instr, end_of-Instr, more_of-Instr, items-the_row-Instr, items_shown-the_row-Instr-0, ind-Instr, roll-Instr, out-roll-Instr}
 use Rattle.wasm_tree.specs.declared.instr.Instr.TheBlock.{shown-the_row-Instr-0}
 use Rattle.wasm_tree.specs.declared.instr.Instr.TheOpen.{Instr-F}
 use Rattle.wasm_tree.specs.declared.instr.Instr.TheVariants.{Block, Block', Loop, Loop', If, If', outs-Block, outs-Loop, outs-If}
@@ -16,19 +17,12 @@ use Rattle.wasm_tree.specs.Layers.{Layers, RowLayers, ListLayers}
 use Rattle.wasm_tree.specs.Operands.{operands, operands_of, block_operands, held, map_block, map_operands, mapped, mapped_all, all_pass_step, operands_pass, all_operands_pass, any_pass_step, operand_passes, any_operand_passes}
 use Rattle.wasm_tree.specs.OperandLaws.{moved}
 
-both : (a b : Bool) → a ≡ true → b ≡ true → a && b ≡ true
-both a b g h = ap (λ z. z && b) g ∙ h
-
-both_of : (a b : Bool) → a && b ≡ true → (a ≡ true) × (b ≡ true)
-both_of true b h = (refl, h)
-both_of false b h = cc
-
 -- what a layer holds does not matter to what it names
-operands_map : {X Y : Type 0} (g : X → Y) (layer : Instr-F X) → operands (map-Instr X Y g layer) ≡ operands layer
+pub operands_map : {X Y : Type 0} (g : X → Y) (layer : Instr-F X) → operands (map-Instr X Y g layer) ≡ operands layer
 operands_map g (Instr-F.Block ty body) = refl
 operands_map g layer = refl
 
-held_map : {X Y : Type 0} (g : X → Y) (layer : Instr-F X) → held (map-Instr X Y g layer) ≡ map g (held layer)
+pub held_map : {X Y : Type 0} (g : X → Y) (layer : Instr-F X) → held (map-Instr X Y g layer) ≡ map g (held layer)
 held_map g (Instr-F.If ty body other) = sym (map-append g body other)
 held_map g layer = refl
 
@@ -67,13 +61,21 @@ any_map : {X : Type 0} (p : X → Bool) (xs : List X) → list_any (λ b. b) (ma
 any_map p [] = refl
 any_map p (x ∷ xs) = ap (λ b. p x || b) (any_map p xs)
 
+-- a test of each layer that does not look at what the layer holds
+module _ (step : Instr-F Bool → Bool) (own : Instr-F Instr → Bool) (kept : (g : Instr → Bool) (layer : Instr-F Instr) → step (map-Instr Instr Bool g layer) ≡ own layer) where
+  abbrev Whole : Instr → Bool
+  Whole = fold-Instr Bool (λ layer. step layer && list_all (λ b. b) (held layer))
+
+  pub tested_inside : (i : Instr) → Whole i ≡ own (out-Instr i) && list_all Whole (held (out-Instr i))
+  tested_inside i =
+      let layer : Instr-F Bool = map-Instr Instr Bool Whole (out-Instr i) in
+      fold_out-Instr Bool (λ l. step l && list_all (λ b. b) (held l)) i
+      ∙ ap (λ b. b && list_all (λ p. p) (held layer)) (kept Whole (out-Instr i))
+      ∙ ap (λ bs. own (out-Instr i) && list_all (λ p. p) bs) (held_map Whole (out-Instr i))
+      ∙ ap (λ b. own (out-Instr i) && b) (list_all-map (λ p. p) Whole (held (out-Instr i)))
+
 pub passes_inside : (test : Operand → Bool) (i : Instr) → operands_pass test i ≡ list_all test (operands_of i) && all_operands_pass test (held (out-Instr i))
-passes_inside test i =
-    let layer : Instr-F Bool = map-Instr Instr Bool (operands_pass test) (out-Instr i) in
-    fold_out-Instr Bool (all_pass_step test) i
-    ∙ ap (λ os. list_all test os && list_all (λ b. b) (held layer)) (operands_map (operands_pass test) (out-Instr i))
-    ∙ ap (λ bs. list_all test (operands_of i) && list_all (λ b. b) bs) (held_map (operands_pass test) (out-Instr i))
-    ∙ ap (λ b. list_all test (operands_of i) && b) (list_all-map (λ b. b) (operands_pass test) (held (out-Instr i)))
+passes_inside test i = tested_inside (λ l. list_all test (operands l)) (λ l. list_all test (operands l)) (λ g l. ap (list_all test) (operands_map g l)) i
 
 pub any_inside : (test : Operand → Bool) (i : Instr) → operand_passes test i ≡ (list_any test (operands_of i) || any_operand_passes test (held (out-Instr i)))
 any_inside test i =
@@ -98,11 +100,11 @@ if_passes test ty body other =
 
 every_of : (test : Operand → Bool) (os : List Operand) → list_all test os ≡ true → Every (λ o. test o ≡ true) os
 every_of test [] h = tt
-every_of test (o ∷ os) h = let s = both_of (test o) (list_all test os) h in (s.0, every_of test os s.1)
+every_of test (o ∷ os) h = let s = and_parts (test o) (list_all test os) h in (s.0, every_of test os s.1)
 
 all_of : (test : Operand → Bool) (os : List Operand) → Every (λ o. test o ≡ true) os → list_all test os ≡ true
 all_of test [] h = refl
-all_of test (o ∷ os) h = both (test o) (list_all test os) h.0 (all_of test os h.1)
+all_of test (o ∷ os) h = and_from (test o) (list_all test os) h.0 (all_of test os h.1)
 
 module _ (test : Operand → Bool) where
   abbrev Passed : Instr-F Instr → Type 0
@@ -130,106 +132,103 @@ module _ (test : Operand → Bool) where
       ∙ ap (λ b. list_all test (block_operands ty) && b) (all_append (items-the_row-Instr _ row) (items-the_row-Instr _ other))
 
   plain_layers : (i : Instr) → operands_pass test i ≡ true → Passed (out-Instr i)
-  plain_layers i h = every_of test (operands_of i) (both_of (list_all test (operands_of i)) (all_operands_pass test (held (out-Instr i))) (sym (passes_inside test i) ∙ h)).0
+  plain_layers i h = every_of test (operands_of i) (and_parts (list_all test (operands_of i)) (all_operands_pass test (held (out-Instr i))) (sym (passes_inside test i) ∙ h)).0
 
   plain_passes : (i : Instr) → all_operands_pass test (held (out-Instr i)) ≡ true → Passed (out-Instr i) → operands_pass test i ≡ true
-  plain_passes i none q = passes_inside test i ∙ both (list_all test (operands_of i)) (all_operands_pass test (held (out-Instr i))) (all_of test (operands_of i) q) none
+  plain_passes i none q = passes_inside test i ∙ and_from (list_all test (operands_of i)) (all_operands_pass test (held (out-Instr i))) (all_of test (operands_of i) q) none
 
   mutual
     unfolding out-Instr denote.Hole.Carrier.out
 
     layers_of : (i : Instr) → operands_pass test i ≡ true → Layers Passed i
     layers_of (Block' ty n row) h =
-        let s = both_of (list_all test (block_operands ty)) (all_operands_pass test (items-the_row-Instr _ row)) (sym (in_block ty n row) ∙ h) in (every_of test (block_operands ty) s.0, row_layers_of _ row s.1)
+        let s = and_parts (list_all test (block_operands ty)) (all_operands_pass test (items-the_row-Instr _ row)) (sym (in_block ty n row) ∙ h) in (every_of test (block_operands ty) s.0, row_layers_of _ row s.1)
     layers_of (Loop' ty n row) h =
-        let s = both_of (list_all test (block_operands ty)) (all_operands_pass test (items-the_row-Instr _ row)) (sym (in_loop ty n row) ∙ h) in (every_of test (block_operands ty) s.0, row_layers_of _ row s.1)
+        let s = and_parts (list_all test (block_operands ty)) (all_operands_pass test (items-the_row-Instr _ row)) (sym (in_loop ty n row) ∙ h) in (every_of test (block_operands ty) s.0, row_layers_of _ row s.1)
     layers_of (If' ty n row k other) h =
-        let s = both_of (list_all test (block_operands ty)) (all_operands_pass test (items-the_row-Instr _ row) && all_operands_pass test (items-the_row-Instr _ other)) (sym (in_if ty n row k other) ∙ h) in
-        let t = both_of (all_operands_pass test (items-the_row-Instr _ row)) (all_operands_pass test (items-the_row-Instr _ other)) s.1 in
+        let s = and_parts (list_all test (block_operands ty)) (all_operands_pass test (items-the_row-Instr _ row) && all_operands_pass test (items-the_row-Instr _ other)) (sym (in_if ty n row k other) ∙ h) in
+        let t = and_parts (all_operands_pass test (items-the_row-Instr _ row)) (all_operands_pass test (items-the_row-Instr _ other)) s.1 in
         (every_of test (block_operands ty) s.0, row_layers_of _ row t.0, row_layers_of _ other t.1)
     layers_of i h = plain_layers i h
 
     row_layers_of : (n : _) (row : Row_of-Instr n) → all_operands_pass test (items-the_row-Instr _ row) ≡ true → RowLayers Passed row
     row_layers_of _ end_of-Instr h = tt
-    row_layers_of _ (more_of-Instr i row) h = let s = both_of (operands_pass test i) (all_operands_pass test (items-the_row-Instr _ row)) h in (layers_of i s.0, row_layers_of _ row s.1)
+    row_layers_of _ (more_of-Instr i row) h = let s = and_parts (operands_pass test i) (all_operands_pass test (items-the_row-Instr _ row)) h in (layers_of i s.0, row_layers_of _ row s.1)
 
   mutual
     unfolding out-Instr denote.Hole.Carrier.out
 
     passes_of : (i : Instr) → Layers Passed i → operands_pass test i ≡ true
-    passes_of (Block' ty n row) q = in_block ty n row ∙ both (list_all test (block_operands ty)) (all_operands_pass test (items-the_row-Instr _ row)) (all_of test (block_operands ty) q.0) (row_passes_of _ row q.1)
-    passes_of (Loop' ty n row) q = in_loop ty n row ∙ both (list_all test (block_operands ty)) (all_operands_pass test (items-the_row-Instr _ row)) (all_of test (block_operands ty) q.0) (row_passes_of _ row q.1)
+    passes_of (Block' ty n row) q = in_block ty n row ∙ and_from (list_all test (block_operands ty)) (all_operands_pass test (items-the_row-Instr _ row)) (all_of test (block_operands ty) q.0) (row_passes_of _ row q.1)
+    passes_of (Loop' ty n row) q = in_loop ty n row ∙ and_from (list_all test (block_operands ty)) (all_operands_pass test (items-the_row-Instr _ row)) (all_of test (block_operands ty) q.0) (row_passes_of _ row q.1)
     passes_of (If' ty n row k other) q =
         in_if ty n row k other
-        ∙ both (list_all test (block_operands ty)) (all_operands_pass test (items-the_row-Instr _ row) && all_operands_pass test (items-the_row-Instr _ other)) (all_of test (block_operands ty) q.0)
-        (both (all_operands_pass test (items-the_row-Instr _ row)) (all_operands_pass test (items-the_row-Instr _ other)) (row_passes_of _ row q.1) (row_passes_of _ other q.2))
+        ∙ and_from (list_all test (block_operands ty)) (all_operands_pass test (items-the_row-Instr _ row) && all_operands_pass test (items-the_row-Instr _ other)) (all_of test (block_operands ty) q.0)
+        (and_from (all_operands_pass test (items-the_row-Instr _ row)) (all_operands_pass test (items-the_row-Instr _ other)) (row_passes_of _ row q.1) (row_passes_of _ other q.2))
     passes_of i q = plain_passes i refl q
 
     row_passes_of : (n : _) (row : Row_of-Instr n) → RowLayers Passed row → all_operands_pass test (items-the_row-Instr _ row) ≡ true
     row_passes_of _ end_of-Instr q = refl
-    row_passes_of _ (more_of-Instr i row) q = both (operands_pass test i) (all_operands_pass test (items-the_row-Instr _ row)) (passes_of i q.0) (row_passes_of _ row q.1)
+    row_passes_of _ (more_of-Instr i row) q = and_from (operands_pass test i) (all_operands_pass test (items-the_row-Instr _ row)) (passes_of i q.0) (row_passes_of _ row q.1)
 
   list_layers_of : (code : List Instr) → all_operands_pass test code ≡ true → ListLayers Passed code
   list_layers_of [] h = tt
-  list_layers_of (i ∷ is) h = let s = both_of (operands_pass test i) (all_operands_pass test is) h in (layers_of i s.0, list_layers_of is s.1)
+  list_layers_of (i ∷ is) h = let s = and_parts (operands_pass test i) (all_operands_pass test is) h in (layers_of i s.0, list_layers_of is s.1)
 
   list_passes_of : (code : List Instr) → ListLayers Passed code → all_operands_pass test code ≡ true
   list_passes_of [] q = refl
-  list_passes_of (i ∷ is) q = both (operands_pass test i) (all_operands_pass test is) (passes_of i q.0) (list_passes_of is q.1)
+  list_passes_of (i ∷ is) q = and_from (operands_pass test i) (all_operands_pass test is) (passes_of i q.0) (list_passes_of is q.1)
 
   pub layer_by_layer : (code : List Instr) → (all_operands_pass test code ≡ true) ↔ ListLayers Passed code
   layer_by_layer code = (list_layers_of code, list_passes_of code)
 
 -- ---- code with other indices ----
 
-module _ (f : Space → ℕ → ℕ) (test : Operand → Bool) where
-  abbrev Then : Operand → Bool
-  Then o = test (moved f o)
+-- what is so of an instruction where it is so of each that it holds is so of all
+module _ (P : Instr → Type 0) (inside : (i : Instr) → Every P (held (out-Instr i)) → P i) where
+  abbrev Such : Type 0
+  Such = (i : Instr) × P i
 
-  -- of an instruction, where it is known of each that it holds
+  each : (es : List Such) → Every P (map (λ e. e.0) es)
+  each [] = tt
+  each (e ∷ es) = (e.1, each es)
+
+  pub by_held : (i : Instr) → P i
+  by_held = ind-Instr P (λ x y is. subst (λ z. P (roll-Instr z)) is (
+    let z = map-Instr Such Instr (λ e. e.0) y in
+    inside (roll-Instr z) (subst (λ l. Every P (held l)) (sym (out-roll-Instr z)) (subst (Every P) (sym (held_map (λ e. e.0) y)) (each (held y))))))
+
+-- two tests, layer by layer, where a layer passes the first with other indices exactly where it passes the second
+module _
+    (f : Space → ℕ → ℕ) (first second : Instr → Bool) (one other : Instr-F Instr → Bool)
+    (first_inside : (i : Instr) → first i ≡ one (out-Instr i) && list_all first (held (out-Instr i)))
+    (second_inside : (i : Instr) → second i ≡ other (out-Instr i) && list_all second (held (out-Instr i)))
+    (own : (i : Instr) → one (out-Instr (mapped f i)) ≡ other (out-Instr i))
+    where
   abbrev Same : Instr → Type 0
-  Same i = operands_pass test (mapped f i) ≡ operands_pass Then i
+  Same i = first (mapped f i) ≡ second i
 
-  own_same : (i : Instr) → list_all test (operands_of (mapped f i)) ≡ list_all Then (operands_of i)
-  own_same i = ap (list_all test) (instr_moved f i) ∙ list_all-map test (moved f) (operands_of i)
+  all_same : (xs : List Instr) → Every Same xs → list_all first (mapped_all f xs) ≡ list_all second xs
+  all_same [] q = refl
+  all_same (x ∷ xs) q = ap (λ b. b && list_all first (mapped_all f xs)) q.0 ∙ ap (λ b. second x && b) (all_same xs q.1)
 
-  same_inside : (i : Instr) → all_operands_pass test (mapped_all f (held (out-Instr i))) ≡ all_operands_pass Then (held (out-Instr i)) → Same i
+  same_inside : (i : Instr) → Every Same (held (out-Instr i)) → Same i
   same_inside i q =
-      passes_inside test (mapped f i)
-      ∙ ap (λ b. b && all_operands_pass test (held (out-Instr (mapped f i)))) (own_same i)
-      ∙ ap (λ xs. list_all Then (operands_of i) && all_operands_pass test xs) (held_mapped f i)
-      ∙ ap (λ b. list_all Then (operands_of i) && b) q
-      ∙ sym (passes_inside Then i)
+      first_inside (mapped f i)
+      ∙ ap (λ b. b && list_all first (held (out-Instr (mapped f i)))) (own i)
+      ∙ ap (λ xs. other (out-Instr i) && list_all first xs) (held_mapped f i)
+      ∙ ap (λ b. other (out-Instr i) && b) (all_same (held (out-Instr i)) q)
+      ∙ sym (second_inside i)
 
-  abbrev SameAll : List Instr → Type 0
-  SameAll xs = all_operands_pass test (mapped_all f xs) ≡ all_operands_pass Then xs
+  same_all : (xs : List Instr) → Every Same xs
+  same_all [] = tt
+  same_all (x ∷ xs) = (by_held Same same_inside x, same_all xs)
 
-  more : (x : Instr) (xs : List Instr) → Same x → SameAll xs → SameAll (x ∷ xs)
-  more x xs h q = ap (λ b. b && all_operands_pass test (mapped_all f xs)) h ∙ ap (λ b. operands_pass Then x && b) q
+  pub mapped_all_same : (code : List Instr) → list_all first (mapped_all f code) ≡ list_all second code
+  mapped_all_same code = all_same code (same_all code)
 
-  joined : (xs ys : List Instr) → SameAll xs → SameAll ys → SameAll (xs ++ ys)
-  joined xs ys h q =
-      ap (all_operands_pass test) (map-append (mapped f) xs ys)
-      ∙ list_all-append (operands_pass test) (mapped_all f xs) (mapped_all f ys)
-      ∙ ap (λ b. b && all_operands_pass test (mapped_all f ys)) h
-      ∙ ap (λ b. all_operands_pass Then xs && b) q
-      ∙ sym (list_all-append (operands_pass Then) xs ys)
-
-  mutual
-    unfolding out-Instr denote.Hole.Carrier.out
-
-    same_of : (i : Instr) → Same i
-    same_of (Block' ty n row) = same_inside (Block' ty n row) (subst SameAll (sym (items_shown-the_row-Instr-0 n row)) (same_row _ row))
-    same_of (Loop' ty n row) = same_inside (Loop' ty n row) (subst SameAll (sym (items_shown-the_row-Instr-0 n row)) (same_row _ row))
-    same_of (If' ty n row k other) =
-        same_inside (If' ty n row k other)
-        (joined (shown-the_row-Instr-0 n row) (shown-the_row-Instr-0 k other) (subst SameAll (sym (items_shown-the_row-Instr-0 n row)) (same_row _ row)) (subst SameAll (sym (items_shown-the_row-Instr-0 k other)) (same_row _ other)))
-    same_of i = same_inside i refl
-
-    same_row : (n : _) (row : Row_of-Instr n) → SameAll (items-the_row-Instr _ row)
-    same_row _ end_of-Instr = refl
-    same_row _ (more_of-Instr i row) = more i (items-the_row-Instr _ row) (same_of i) (same_row _ row)
-
-  pub mapped_code_passes : (code : List Instr) → SameAll code
-  mapped_code_passes [] = refl
-  mapped_code_passes (x ∷ xs) = more x xs (same_of x) (mapped_code_passes xs)
+pub mapped_code_passes : (f : Space → ℕ → ℕ) (test : Operand → Bool) (code : List Instr) → all_operands_pass test (mapped_all f code) ≡ all_operands_pass (λ o. test (moved f o)) code
+mapped_code_passes f test =
+    let then : Operand → Bool = λ o. test (moved f o) in
+    mapped_all_same f (operands_pass test) (operands_pass then) (λ l. list_all test (operands l)) (λ l. list_all then (operands l)) (passes_inside test) (passes_inside then)
+    (λ i. ap (list_all test) (instr_moved f i) ∙ list_all-map test (moved f) (operands_of i))

@@ -119,7 +119,7 @@ impl ExportDesc {
 
 impl Module {
     /// How many functions the module imports.
-    #[tactic(auto, using(base_lists::proofs::Found::filter_map_most))]
+    #[tactic(auto, using(base_lists::proofs::Filtered::filter_map_most))]
     pub fn imported_funcs(&self) -> usize
         ensures value { result ≡ length (imported_funcs self.now.imports) }
         // so that it can be added to the number of those defined
@@ -130,7 +130,7 @@ impl Module {
     }
 
     /// How many tables the module imports.
-    #[tactic(auto, using(base_lists::proofs::Found::filter_map_most))]
+    #[tactic(auto, using(base_lists::proofs::Filtered::filter_map_most))]
     pub fn imported_tables(&self) -> usize
         ensures value { result ≡ length (imported_tables self.now.imports) }
         // so that it can be added to the number of those defined
@@ -141,7 +141,7 @@ impl Module {
     }
 
     /// How many memories the module imports.
-    #[tactic(auto, using(base_lists::proofs::Found::filter_map_most))]
+    #[tactic(auto, using(base_lists::proofs::Filtered::filter_map_most))]
     pub fn imported_memories(&self) -> usize
         ensures value { result ≡ length (imported_memories self.now.imports) }
         // so that it can be added to the number of those defined
@@ -152,7 +152,7 @@ impl Module {
     }
 
     /// How many globals the module imports.
-    #[tactic(auto, using(base_lists::proofs::Found::filter_map_most))]
+    #[tactic(auto, using(base_lists::proofs::Filtered::filter_map_most))]
     pub fn imported_globals(&self) -> usize
         ensures value { result ≡ length (imported_globals self.now.imports) }
         // so that it can be added to the number of those defined

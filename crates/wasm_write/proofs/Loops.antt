@@ -1,6 +1,7 @@
 -- Steps of a loop that writes, measures or tests one item at a time.
 use Rattle.std.proofs.Common.{◌≡◌, ℕ, zero, suc, ◌+◌, ◌<◌, ◌≤◌, List, [], ◌∷◌, ◌++◌, Bool, true, false, true≢false, ◌&&◌, ◌||◌, map, take, get_or, Result, Ok, Err, OnErr, length, length-append, append_assoc, append-nil, refl, sym, ap, ◌∙◌, arith}
 use Rattle.std.proofs.lemmas.List.{take_more}
+use Rattle.base_lists.proofs.Bools.{and_false, left_true, right_true}
 use Rattle.base_lists.proofs.Walk.{mapped_more}
 use Rattle.wasm_plain.specs.PlainValues.{joined, each_text, is_func, all_funcs}
 use Rattle.wasm_tree.specs.declared.module.ConstExpr.{ConstExpr}
@@ -34,15 +35,6 @@ pub measured_stop : {A : Type 0} (f : A → List ℕ) (xs : List A) (i : ℕ) (x
 measured_stop f xs i x first old lt is a b =
     let h = front_length f xs (i + 1) in omega (arith, h, a, b, ap length (joined_more f xs i x lt is), length-append (each_text f (take i xs)) (f x))
 
--- what holds anyway
-pub on_err : {T E : Type 0} (r : Result T E) (P : Type 0) → P → OnErr r P
-on_err (Ok x) P p = tt
-on_err (Err e) P p = p
-
-and_false : (b : Bool) → b && false ≡ false
-and_false true = refl
-and_false false = refl
-
 -- one of the items is no `ref.func`
 pub all_lost : (xs : List ConstExpr) (i : ℕ) (x : ConstExpr) → i < length xs → x ≡ get_or xs i x → is_func x ≡ false → all_funcs xs ≡ false
 all_lost [] i x lt is h = absurd (omega arith)
@@ -55,17 +47,9 @@ get_or_any [] i d e lt = absurd (omega arith)
 get_or_any (x ∷ xs) zero d e lt = refl
 get_or_any (x ∷ xs) (suc i) d e lt = get_or_any xs i d e (omega arith)
 
-and_left : (a b : Bool) → a && b ≡ true → a ≡ true
-and_left true b h = refl
-and_left false b h = h
-
-and_right : (a b : Bool) → a && b ≡ true → b ≡ true
-and_right true b h = h
-and_right false b h = absurd (true≢false (sym h))
-
 funcs_push : (cs : List ConstExpr) (c : ConstExpr) → all_funcs cs ≡ true → is_func c ≡ true → all_funcs (cs ++ c ∷ []) ≡ true
 funcs_push [] c h k = rw k
-funcs_push (d ∷ ds) c h k = let a = and_left (is_func d) (all_funcs ds) h in let b = funcs_push ds c (and_right (is_func d) (all_funcs ds) h) k in rw (a, b)
+funcs_push (d ∷ ds) c h k = let a = left_true (is_func d) (all_funcs ds) h in let b = funcs_push ds c (right_true (is_func d) (all_funcs ds) h) k in rw (a, b)
 
 -- one more item is `ref.func`
 pub funcs_more : (xs : List ConstExpr) (i : ℕ) (x : ConstExpr) → i < length xs → x ≡ get_or xs i x → all_funcs (take i xs) ≡ true → is_func x ≡ true → all_funcs (take (i + 1) xs) ≡ true

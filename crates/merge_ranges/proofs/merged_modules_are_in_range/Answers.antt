@@ -6,4 +6,4 @@ use Rattle.merge_ranges.proofs.merged_modules_are_in_range.Goals as goal
 pub returns : goal.returns
 returns c parts mode h valid single few =
     let m = joined_module parts mode in
-    tree_in m ((c.valid_where_items_hold.ensures m).0 valid) single few (joined_numbers parts mode h)
+    tree_in c.operands_pass_layer_by_layer.ensures.layers m ((c.valid_where_items_hold.ensures m).0 valid) single few (joined_numbers c.other_numbers_stay.ensures parts mode h)

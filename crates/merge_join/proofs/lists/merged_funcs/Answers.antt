@@ -1,6 +1,7 @@
 use Rattle.std.proofs.Common.{◌∙◌, sym, ap, subst, IsTrue, map, List, ◌++◌, arith}
 use Rattle.wasm_tree.specs.declared.module.Func.{Func}
-use Rattle.index_remap.specs.Renumbered.{all_true, fits_func, new_func}
+use Rattle.std.specs.List.{list_all}
+use Rattle.index_remap.specs.Renumbered.{fits_func, new_func}
 use Rattle.merge_terms.specs.Parts.{named_modules}
 use Rattle.merge_terms.specs.Merged.{map_of, defined_funcs}
 use Rattle.merge_join.proofs.ByPart.{part_more, part_all}
@@ -11,7 +12,7 @@ pub add_funcs-requires : goal.add_funcs-requires
 add_funcs-requires c =
     let m = c.module_of.result.now in
     let fits = fitting c.map.result.now m (c.map.ensures.fits m c.module_of.ensures.at) in
-    record { fits = subst (λ (fs : List Func). IsTrue (all_true (map (fits_func c.map.result.now) fs))) (sym c.as_slice-funcs.ensures) fits.funcs }
+    record { fits = subst (λ (fs : List Func). IsTrue (list_all (fits_func c.map.result.now) fs)) (sym c.as_slice-funcs.ensures) fits.funcs }
 
 pub loop-part-preserved : goal.loop-part-preserved
 loop-part-preserved c =

@@ -23,7 +23,7 @@ add_numbers-requires c =
     let k = s.space in
     let m = c.module_of.result.now in
     let at = c.module_of.ensures.at in
-    omega (arith, c.number_at-first.ensures, each_index (first_of ps k) ps s.firsts c.args.part m s.is.firsts_are at, c.defined_count-defined.ensures, defined_room k ps c.args.part m at, staying_few ps k, c.requires.linked.few.entities k)
+    omega (arith, c.number_at-first.ensures, each_index (first_of ps k) ps s.firsts c.args.part m s.is.firsts_are at, c.defined_count-defined.ensures, defined_room k ps c.args.part m at, staying_few ps k, c.requires.linked.few.entries k)
 
 pub returns : goal.returns
 returns c = λ m at.

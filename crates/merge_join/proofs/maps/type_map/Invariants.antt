@@ -1,6 +1,6 @@
 use Rattle.std.proofs.Common.{◌≡◌, map, take, unwrap_or}
 use Rattle.wasm_meaning.specs.Linking.{first_place}
-use Rattle.wasm_meaning.specs.Values.{same_func_type}
+use Rattle.wasm_tree.specs.SameTypes.{same_func_type}
 use Rattle.merge_join.proofs.maps.type_map.Given as goal
 
 abbrev pub invariant-loop-ty : goal.invariant-loop-ty

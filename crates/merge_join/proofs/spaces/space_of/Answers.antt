@@ -10,4 +10,4 @@ firsts_of-requires c =
     let ps = named_modules c.args.parts.now in
     let k = c.args.space in
     let all = ap (defined_before k ps) (named_length c.args.parts.now) in
-    record { few = omega (arith, all, c.in_ok-staying.ensures.count, staying_few ps k, c.requires.few.entities k) }
+    record { few = omega (arith, all, c.in_ok-staying.ensures.count, staying_few ps k, c.requires.few.entries k) }

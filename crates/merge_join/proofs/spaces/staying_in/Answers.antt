@@ -5,7 +5,7 @@ use Rattle.wasm_meaning.specs.Linking.{sites_in}
 use Rattle.merge_terms.specs.Parts.{named_modules}
 use Rattle.merge_join.specs.Words.{site}
 use Rattle.merge_join.specs.Spaces.{staying_place, picked, count_before}
-use Rattle.merge_join.proofs.Counts.{count_more, count_part, count_few}
+use Rattle.merge_join.proofs.Counts.{count_more, count_part, count_few, staying_few}
 use Rattle.merge_join.proofs.Sites.{sites_in_more, staying_place_is}
 use Rattle.merge_join.proofs.spaces.staying_in.Goals as goal
 
@@ -13,8 +13,11 @@ pub next_place-requires : goal.next_place-requires
 next_place-requires c =
     let ps = named_modules c.args.parts.now in
     let k = c.args.space in
+    let p = c.args.part in
+    let n = c.loop-import.import in
     let m = c.module_of.result.now in
-    omega (arith, c.len-import-end.ensures, c.loop-import.invariant.count_is, c.requires.linked.few.entities k, count_few ps k c.args.part c.loop-import.import m c.module_of.ensures.at (omega (arith, c.len-import-end.ensures)))
+    let taken : cond c.is_picked-taken.result 1 0 ≡ cond (picked ps k (site p n)) 1 0 = ap (λ (b : Bool). cond b 1 0) c.is_picked-taken.ensures in
+    omega (arith, taken, c.loop-import.invariant.count_is, count_few ps k p n m c.module_of.ensures.at (omega (arith, c.len-import-end.ensures)), staying_few ps k, c.requires.linked.few.entries k)
 
 pub loop-import-preserved : goal.loop-import-preserved
 loop-import-preserved c =

@@ -1,10 +1,7 @@
 use Rattle.std.proofs.Common.{Result, Ok, Err, OnErr, ◌≡◌, ◌++◌, List, ℕ, ◌∙◌, length, arith}
+use Rattle.base_lists.proofs.Walk.{on_err}
 use Rattle.wasm_bytes.specs.Writing.{u32_text}
 use Rattle.wasm_bytes.proofs.out.push_sized.Goals as goal
-
-on_err : {T E : Type 0} (r : Result T E) (P : Type 0) → P → OnErr r P
-on_err (Ok x) P p = tt
-on_err (Err e) P p = p
 
 pub returns-in_err-extend_from_slice-clause-err : goal.returns-in_err-extend_from_slice-clause-err
 returns-in_err-extend_from_slice-clause-err c =

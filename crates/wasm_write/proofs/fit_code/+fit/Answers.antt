@@ -1,5 +1,6 @@
+use Rattle.base_lists.proofs.Walk.{on_err}
 use Rattle.wasm_plain.specs.PlainCode.{instr_text}
-use Rattle.wasm_write.proofs.Loops.{measured_more, measured_stop, on_err}
+use Rattle.wasm_write.proofs.Loops.{measured_more, measured_stop}
 use Rattle.wasm_write.proofs.fit_code.+fit.Goals as goal
 
 pub fit_instrs-loop-instr-preserved : goal.fit_instrs-loop-instr-preserved

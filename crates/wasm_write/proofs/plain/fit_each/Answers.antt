@@ -1,4 +1,5 @@
-use Rattle.wasm_write.proofs.Loops.{measured_more, measured_stop, on_err}
+use Rattle.base_lists.proofs.Walk.{on_err}
+use Rattle.wasm_write.proofs.Loops.{measured_more, measured_stop}
 use Rattle.wasm_write.proofs.plain.fit_each.Goals as goal
 
 pub loop-item-preserved : goal.loop-item-preserved

@@ -1,5 +1,6 @@
+use Rattle.base_lists.proofs.Walk.{on_err}
 use Rattle.wasm_plain.specs.PlainCode.{entry_text}
-use Rattle.wasm_write.proofs.Loops.{measured_more, measured_stop, on_err}
+use Rattle.wasm_write.proofs.Loops.{measured_more, measured_stop}
 use Rattle.wasm_write.proofs.sections.fit_entries.Goals as goal
 
 pub loop-func-preserved : goal.loop-func-preserved

@@ -1,6 +1,7 @@
+use Rattle.base_lists.proofs.Walk.{on_err}
 use Rattle.wasm_bytes.specs.Writing.{u32_text}
 use Rattle.wasm_tree.specs.declared.module.Func.{Func}
-use Rattle.wasm_write.proofs.Loops.{measured_more, measured_stop, on_err}
+use Rattle.wasm_write.proofs.Loops.{measured_more, measured_stop}
 use Rattle.wasm_write.proofs.sections.fit_func_types.Goals as goal
 
 pub loop-func-preserved : goal.loop-func-preserved

@@ -1,9 +1,10 @@
 use Rattle.std.proofs.Common.{get_or, pos}
+use Rattle.base_lists.proofs.Walk.{on_err}
 use Rattle.wasm_tree.specs.declared.module.ConstExpr.TheVariants as const
 use Rattle.wasm_bytes.specs.Writing.{u32_text}
 use Rattle.wasm_tree.specs.declared.module.ConstExpr.{ConstExpr}
 use Rattle.wasm_plain.specs.PlainValues.{func_of}
-use Rattle.wasm_write.proofs.Loops.{measured_more, measured_stop, on_err, get_or_any}
+use Rattle.wasm_write.proofs.Loops.{measured_more, measured_stop, get_or_any}
 use Rattle.wasm_write.proofs.segments.fit_funcs.Goals as goal
 
 pub loop-item-preserved : goal.loop-item-preserved

@@ -1,7 +1,7 @@
 use Rattle.std.proofs.Common.{◌≡◌, ◌∙◌, ap}
 use Rattle.std.specs.Option.{unwrap_or}
 use Rattle.wasm_meaning.specs.Linking.{first_place}
-use Rattle.wasm_meaning.specs.Values.{same_func_type}
+use Rattle.wasm_tree.specs.SameTypes.{same_func_type}
 use Rattle.merge_join.specs.Texts.{text_of_type}
 use Rattle.merge_join.proofs.Ends.{or_zero}
 use Rattle.merge_join.proofs.Interning.{place_by_text, has_text}

@@ -21,7 +21,7 @@ overflow_add-result c =
     let table : slice_get ts e.part ≡ Some t = read_at ts c.deref.result.now e.part t c.deref.ensures.value c.in-Some.ensures.lookup.3.0 c.in-Some.ensures.lookup.1 in
     let within : e.part < length ps = omega (arith, c.in-Some.ensures.lookup.3.0, ap length c.deref.ensures.value, c.requires.tables.one_each, length-map ps named_module) in
     let at : linking.module_at lp e.part ≡ Some m = module_read ps e.part c.index-self-entity.result m within c.index-self-entity.is (c.module.ensures.value ∙ ap (λ x. x.«module») (sym c.index-self-entity.is)) in
-    let place : c.saturating_sub-place.result ≡ own_place t e = omega (arith, c.saturating_sub-place.ensures, c.index.ensures, c.imported.ensures) in
+    let place : c.saturating_sub-place.result ≡ own_place t e = omega (arith, c.saturating_sub-place.ensures, c.index-index.ensures, c.imported.ensures) in
     let own = own_some lp ts e t m c.requires.tables table at (omega (arith, place, c.if-place-globals.true, ap length c.as_slice-globals.ensures)) in
     omega (arith, place, slice_get_within (faults.own_globals lp) (t.first_global + own_place t e) own.0 own.1, c.requires.globals, c.first_global.ensures)
 
@@ -36,7 +36,7 @@ returns-then-place-globals c =
     let table : slice_get ts e.part ≡ Some t = read_at ts c.deref.result.now e.part t c.deref.ensures.value c.in-Some.ensures.lookup.3.0 c.in-Some.ensures.lookup.1 in
     let within : e.part < length ps = omega (arith, c.in-Some.ensures.lookup.3.0, ap length c.deref.ensures.value, c.requires.tables.one_each, length-map ps named_module) in
     let at : linking.module_at lp e.part ≡ Some m = module_read ps e.part c.index-self-entity.result m within c.index-self-entity.is (c.module.ensures.value ∙ ap (λ x. x.«module») (sym c.index-self-entity.is)) in
-    let place : c.saturating_sub-place.result ≡ own_place t e = omega (arith, c.saturating_sub-place.ensures, c.index.ensures, c.imported.ensures) in
+    let place : c.saturating_sub-place.result ≡ own_place t e = omega (arith, c.saturating_sub-place.ensures, c.index-index.ensures, c.imported.ensures) in
     let number : t.first_global + own_place t e ≡ c.first_global.result + c.saturating_sub-place.result = omega (arith, place, c.first_global.ensures) in
     subst (λ (n : ℕ). IsOwn lp e (Some n)) number (own_some lp ts e t m c.requires.tables table at (omega (arith, place, c.if-place-globals.true, ap length c.as_slice-globals.ensures)))
 
@@ -51,7 +51,7 @@ returns-else-place-globals c =
     let table : slice_get ts e.part ≡ Some t = read_at ts c.deref.result.now e.part t c.deref.ensures.value c.in-Some.ensures.lookup.3.0 c.in-Some.ensures.lookup.1 in
     let within : e.part < length ps = omega (arith, c.in-Some.ensures.lookup.3.0, ap length c.deref.ensures.value, c.requires.tables.one_each, length-map ps named_module) in
     let at : linking.module_at lp e.part ≡ Some m = module_read ps e.part c.index-self-entity.result m within c.index-self-entity.is (c.module.ensures.value ∙ ap (λ x. x.«module») (sym c.index-self-entity.is)) in
-    let place : c.saturating_sub-place.result ≡ own_place t e = omega (arith, c.saturating_sub-place.ensures, c.index.ensures, c.imported.ensures) in
+    let place : c.saturating_sub-place.result ≡ own_place t e = omega (arith, c.saturating_sub-place.ensures, c.index-index.ensures, c.imported.ensures) in
     own_none lp ts e t m c.requires.tables table at (omega (arith, place, c.if-place-globals.false, ap length c.as_slice-globals.ensures))
 
 pub returns-in-None : goal.returns-in-None
