@@ -152,6 +152,14 @@ has_chosen {A} {B} f (z ∷ xs) n x y h e = by (f z) refl n h (λ n h. has_chose
     by (Some w) is zero h on = let same : z ≡ x = cc in (0, sym is ∙ ap f same ∙ e)
     by (Some w) is (suc n) h on = let r = on n h in (suc r.0, r.1)
 
+length_option : {B : Type 0} (y : Option B) (ys : List B) → length (cons_option y ys) ≤ length ys + 1
+length_option None ys = omega arith
+length_option (Some y) ys = omega arith
+
+pub filter_map_most : {A B : Type 0} (h : A → Option B) (xs : List A) → length (filter_map h xs) ≤ length xs
+filter_map_most h [] = omega arith
+filter_map_most h (x ∷ xs) = omega (arith, length_option (h x) (filter_map h xs), filter_map_most h xs)
+
 -- at the places whose elements pass a test stand those that are kept
 pub at_places : {A B : Type 0} (test : A → Bool) (g : A → Option B) (ys : List A) (from : ℕ) (f : ℕ → Option B) → ((i : ℕ) (y : A) → slice_get ys i ≡ Some y → f (from + i) ≡ g y) → all_there f (places test ys from) ≡ all_there g (filter test ys)
 at_places test g [] from f h = refl

@@ -47,11 +47,3 @@ pub found_behind : {X Y A : Type 0} (h : X → Option Y) (xs : List X) (n : ℕ)
     m ≡ slice_get (filter_map h (drop n xs) ++ map f ys) i → length xs ≤ n → option_copied r ≡ slice_get ys i → option_map f (option_copied r) ≡ m
 found_behind h xs n f ys i m r at past e =
     sym (at ∙ ap (λ zs. slice_get (filter_map h zs ++ map f ys) i) (drop_all n xs past) ∙ slice_get-map f ys i ∙ ap (option_map f) (sym e))
-
-length_option : {B : Type 0} (y : Option B) (ys : List B) → length (cons_option y ys) ≤ length ys + 1
-length_option None ys = omega arith
-length_option (Some y) ys = omega arith
-
-pub filter_map_most : {A B : Type 0} (h : A → Option B) (xs : List A) → length (filter_map h xs) ≤ length xs
-filter_map_most h [] = omega arith
-filter_map_most h (x ∷ xs) = omega (arith, length_option (h x) (filter_map h xs), filter_map_most h xs)

@@ -15,7 +15,7 @@ use Rattle.wasm_tree.specs.Spaces.{func_of, table_of, memory_of, global_of, impo
 use Rattle.wasm_tree.specs.Bounds.{param_count, declared_count, IsBounded}
 use Rattle.wasm_tree.specs.OperandLaws.{BlockPasses, LoopPasses, IfPasses}
 use Rattle.wasm_tree.specs.MemoryZero.{memory_zero_all, memory_zero_funcs}
-use Rattle.base_lists.proofs.Found.{filter_map_most}
+use Rattle.base_lists.proofs.Filtered.{filter_map_most}
 use Rattle.wasm_tree.specs.Limits.{limit}
 use Rattle.wasm_tree.specs.declared.which.Which.TheVariants.{Types, Imports, Functions, Tables, Memories, Globals, Exports, ElementSegments, DataSegments, Locals, Parameters}
 use Rattle.wasm_format.specs.declared.parts.Parts.{Parts}
