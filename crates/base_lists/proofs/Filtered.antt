@@ -1,5 +1,5 @@
 -- Filtered lists: what is kept and what is chosen, how much, and the places of what passes a test.
-use Rattle.std.proofs.Common.{◌≡◌, ◌∙◌, ap, ap₂, sym, subst, refl, ℕ, zero, suc, ◌+◌, List, [], ◌∷◌, length, Option, Some, None, is_some, Bool, true, false, cond, ◌&&◌, arith, option_and_then, filter, filter_map, slice_get}
+use Rattle.std.proofs.Common.{◌≡◌, ◌∙◌, ap, ap₂, sym, subst, refl, ℕ, zero, suc, ◌+◌, ◌≤◌, List, [], ◌∷◌, length, Option, Some, None, is_some, Bool, true, false, cond, ◌&&◌, arith, option_and_then, filter, filter_map, slice_get}
 use Rattle.std.specs.List.{cons_option}
 use Rattle.base_lists.specs.Places.{first_place, places, count_of}
 use Rattle.base_lists.specs.Options.{all_there}

@@ -1,9 +1,9 @@
 -- What is found at a place of a list, and how many a filter leaves.
-use Rattle.std.proofs.Common.{◌≡◌, ℕ, zero, suc, ◌+◌, ◌≤◌, ◌↔◌, arith, List, [], ◌∷◌, ◌++◌, length, Option, Some, None, IsNone, is_some, true, false, slice_get, drop, map, refl, sym, ap, subst, inl, inr, ◌⊎◌, ◌∙◌}
+use Rattle.std.proofs.Common.{◌≡◌, ℕ, zero, suc, ◌≤◌, ◌↔◌, arith, List, [], ◌∷◌, ◌++◌, length, Option, Some, None, IsNone, is_some, true, false, slice_get, drop, map, refl, sym, ap, subst, inl, inr, ◌⊎◌, ◌∙◌}
 use Rattle.std.specs.Prelude.{option_and_then, option_map}
 use Rattle.std.specs.Option.{option_copied}
 use Rattle.std.specs.Borrow.{Bor}
-use Rattle.std.specs.List.{filter_map, cons_option}
+use Rattle.std.specs.List.{filter_map}
 use Rattle.std.proofs.lemmas.List.{drop_all}
 use Rattle.std.proofs.lemmas.Option.{slice_get-map}
 
