@@ -1,8 +1,8 @@
 -- The items of a valid module, whose other numbers are in range, are in range.
-use Rattle.std.proofs.Common.{◌≡◌, ℕ, zero, suc, ◌<◌, ◌^◌, Bool, true, false, IsTrue, nat_lt, List, [], ◌∷◌, map, length, Option, Some, None, refl, sym, ap, ◌∙◌, subst, arith}
+use Rattle.std.proofs.Common.{◌≡◌, ℕ, zero, suc, ◌<◌, ◌^◌, Bool, true, false, nat_lt, List, [], ◌∷◌, length, Option, Some, None, refl, sym, ap, ◌∙◌, subst, arith}
 use Rattle.std.specs.Prelude.{slice_get, option_and_then, IsUtf8}
 use Rattle.std.proofs.lemmas.Bool.Decides.{nat_tests}
-use Rattle.std.proofs.lemmas.Option.{slice_get_within}
+use Rattle.std.proofs.lemmas.Option.{slice_get_within, same_Some}
 use Rattle.std.proofs.lemmas.List.{length-map}
 use Rattle.std.proofs.lemmas.Bool.{and_from}
 use Rattle.wasm_tree.specs.declared.types.FuncType.{FuncType}
@@ -51,9 +51,6 @@ pub every_from : {A : Type 0} (P Q : A → Type 0) (xs : List A) → Every P xs 
 every_from P Q [] h f = tt
 every_from P Q (x ∷ xs) h f = (f 0 x refl h.0, every_from P Q xs h.1 (λ i y e p. f (suc i) y e p))
 
-some_is : {A : Type 0} (x y : A) → Some x ≡ Some y → x ≡ y
-some_is x y e = cc
-
 module _ (layers : PassesLayerByLayer) (m : Module) (holds : ItemsHold m) (single : IsSingle m) (few : IsBounded m) where
   -- ---- constant expressions
 
@@ -90,7 +87,7 @@ module _ (layers : PassesLayerByLayer) (m : Module) (holds : ItemsHold m) (singl
   import_in i x e n = (n.0, n.1, from_held (holds kind.Import i (slice_get_within m.imports i x e)))
     where
       from_held : HoldsAt m kind.Import i → ImportDescInRange x.desc
-      from_held (y, f, h) = desc_in x.desc (subst (λ z. ImportHolds m z.desc) (some_is y x (sym f ∙ e)) h) n.2
+      from_held (y, f, h) = desc_in x.desc (subst (λ z. ImportHolds m z.desc) (same_Some y x (sym f ∙ e)) h) n.2
 
   space_in : (d : ExportDesc) → InSpace m d → ExportDescInRange d
   space_in (export.Func x) h = omega (arith, few.funcs)
@@ -102,7 +99,7 @@ module _ (layers : PassesLayerByLayer) (m : Module) (holds : ItemsHold m) (singl
   export_in i x e n = (n, from_held (holds kind.Export i (slice_get_within m.exports i x e)))
     where
       from_held : HoldsAt m kind.Export i → ExportDescInRange x.desc
-      from_held (y, f, space, new) = space_in x.desc (subst (λ z. InSpace m z.desc) (some_is y x (sym f ∙ e)) space)
+      from_held (y, f, space, new) = space_in x.desc (subst (λ z. InSpace m z.desc) (same_Some y x (sym f ∙ e)) space)
 
   -- ---- globals and segments
 
@@ -110,7 +107,7 @@ module _ (layers : PassesLayerByLayer) (m : Module) (holds : ItemsHold m) (singl
   global_in i x e n = from_held (holds kind.Global i (slice_get_within m.globals i x e))
     where
       from_held : HoldsAt m kind.Global i → ConstInRange x.init
-      from_held (y, f, typed) = const_in x.init x.ty.ty (subst (λ z. const_type m z.init ≡ Some z.ty.ty) (some_is y x (sym f ∙ e)) typed) n
+      from_held (y, f, typed) = const_in x.init x.ty.ty (subst (λ z. const_type m z.init ≡ Some z.ty.ty) (same_Some y x (sym f ∙ e)) typed) n
 
   table_there : (table : ℕ) (o : Option _) → slice_get (table_types m) table ≡ o → (o ≡ None → ⊥) → table < 2 ^ 32
   table_there table None e some = absurd (some refl)
@@ -129,7 +126,7 @@ module _ (layers : PassesLayerByLayer) (m : Module) (holds : ItemsHold m) (singl
     where
       from_held : HoldsAt m kind.Elem i → ElemInRange x
       from_held (y, f, items, mode) =
-          let same = some_is y x (sym f ∙ e) in
+          let same = same_Some y x (sym f ∙ e) in
           let items' = subst (λ (z : ElemSeg). (j : ℕ) (e : ConstExpr) → slice_get z.items j ≡ Some e → const_type m e ≡ Some (Ref z.ty)) same items in
           (elem_mode_in x.ty x.mode (subst (λ (z : ElemSeg). ElemModeHolds m z.ty z.mode) same mode) n.0, every_from ConstNumberInRange ConstInRange x.items n.1 (λ j c g k. const_in c _ (items' j c g) k))
 
@@ -141,7 +138,7 @@ module _ (layers : PassesLayerByLayer) (m : Module) (holds : ItemsHold m) (singl
   data_in i x e n = from_held (holds kind.Segment i (slice_get_within m.datas i x e))
     where
       from_held : HoldsAt m kind.Segment i → DataModeInRange x.mode
-      from_held (y, f, mode) = data_mode_in x.mode (subst (λ z. DataModeHolds m z.mode) (some_is y x (sym f ∙ e)) mode) n
+      from_held (y, f, mode) = data_mode_in x.mode (subst (λ z. DataModeHolds m z.mode) (same_Some y x (sym f ∙ e)) mode) n
 
   -- ---- the start and the functions
 
@@ -157,7 +154,7 @@ module _ (layers : PassesLayerByLayer) (m : Module) (holds : ItemsHold m) (singl
       one = let same : count_of m true kind.Start ≡ 1 = ap start_count e in omega arith
 
       from_held : HoldsAt m kind.Start 0 → x < 2 ^ 32
-      from_held (y, t, f, typed, params, results) = subst (λ z. z < 2 ^ 32) (some_is y x (sym f ∙ e)) (func_type_there y (slice_get (funcs_of m) y) t refl typed)
+      from_held (y, t, f, typed, params, results) = subst (λ z. z < 2 ^ 32) (same_Some y x (sym f ∙ e)) (func_type_there y (slice_get (funcs_of m) y) t refl typed)
 
   length_named : (refs : List ℕ) (first n : ℕ) → length (named_from refs first n) ≡ n
   length_named refs first zero = refl
@@ -180,7 +177,7 @@ module _ (layers : PassesLayerByLayer) (m : Module) (holds : ItemsHold m) (singl
     where
       from_held : HoldsAt m kind.Body i → FuncInRange x
       from_held (y, t, f, type_is, (last, l, matched)) =
-          let same = some_is y x (sym f ∙ e) in
+          let same = same_Some y x (sym f ∙ e) in
           let less : y.ty < length m.types = slice_get_within m.types y.ty t type_is in
           let bounded : y.ty < 2 ^ 32 = omega (arith, few.types) in
           (subst (λ (z : Func). z.ty < 2 ^ 32) same bounded, n.0, and_from (all_operands_pass small_operand x.body) (all_numbers_in x.body) (subst (λ (z : Func). all_operands_pass small_operand z.body ≡ true) same (body_small layers (body_context m y t) (small_context y t) y.body _ last l)) n.1)

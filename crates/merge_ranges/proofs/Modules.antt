@@ -42,8 +42,8 @@ module _ (stay : NumbersStay) (parts : List Part) (h : PartsInRange parts) where
   unfolding merged_import
   import_numbers s x e = in_module (and_then_is (module_at parts s.part) _ x e)
     where
-      in_module : (m : Module) × (module_at parts s.part ≡ Some m) × (option_and_then (λ i. Some (record i { desc = merged_desc parts s m i.desc })) (import_at parts s) ≡ Some x) → ImportNumbersInRange x
-      in_module (m, there, f) = in_import (and_then_is (import_at parts s) (λ i. Some (record i { desc = merged_desc parts s m i.desc })) x f)
+      in_module : (m : Module) × (module_at parts s.part ≡ Some m) × (option_and_then {T = Import} {U = Import} (λ i. Some (record i { desc = merged_desc parts s m i.desc })) (import_at parts s) ≡ Some x) → ImportNumbersInRange x
+      in_module (m, there, f) = in_import (and_then_is (import_at parts s) (λ (i : Import). Some (record i { desc = merged_desc parts s m i.desc })) x f)
         where
           in_import : (i : Import) × (import_at parts s ≡ Some i) × (◌≡◌ {A = Option Import} (Some (record i { desc = merged_desc parts s m i.desc })) (Some x)) → ImportNumbersInRange x
           in_import (i, at, is) =

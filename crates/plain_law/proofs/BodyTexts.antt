@@ -1,5 +1,5 @@
 -- The plain texts of bodies spell them.
-use Rattle.std.proofs.Common.{◌≡◌, ℕ, suc, ◌+◌, ◌<◌, ◌^◌, List, [], ◌∷◌, ◌++◌, map, length, length-append, Bool, true, false, refl, sym, ap, ◌∙◌, subst, arith, append_assoc, append-nil}
+use Rattle.std.proofs.Common.{◌≡◌, ℕ, suc, ◌+◌, ◌<◌, ◌^◌, List, [], ◌∷◌, ◌++◌, map, length, length-append, true, false, refl, sym, ap, ◌∙◌, subst, arith, append_assoc, append-nil}
 use Rattle.std.specs.Prelude.{nat_eq, ◌&&◌}
 use Rattle.std.specs.List.{list_all}
 use Rattle.std.proofs.lemmas.Bool.{eqb-true}
@@ -27,9 +27,8 @@ use Rattle.wasm_format.specs.Tokens.{plain, access, the_form, rest_form, sub_for
 use Rattle.wasm_format.specs.Bodies.{Nests, no_more, one_plain, one_block, one_loop, one_if, one_if_else, SpellsBody}
 use Rattle.wasm_plain.specs.PlainValues.{vector_text, ref_text, val_text, block_type_text}
 use Rattle.wasm_plain.specs.PlainCode.{un_code, bin_code, load_code, store_code, mem_arg_text, instr_step, instr_text, instrs_text, body_text}
-use Rattle.wasm_tree.specs.Operands.{operands, block_operands, held}
-use Rattle.plain_law.specs.Ranges.{small, small_operand, small_numbers, in_range, all_in_range}
-use Rattle.plain_law.proofs.Inside.{Small, LayerInRange, layer_of, first_in, rest_in, front_in, back_in}
+use Rattle.plain_law.specs.Ranges.{small, in_range, all_in_range}
+use Rattle.plain_law.proofs.Inside.{LayerInRange, layer_of, first_in, rest_in, front_in, back_in}
 use Rattle.plain_law.proofs.Parts.{below, u32_some, u32_spells, s32_spells, s64_spells, within_32, within_64, flag_spells, vector_spells, each_join}
 use Rattle.plain_law.proofs.ItemTexts.{ref_spells, vals_spell, block_type_spells}
 

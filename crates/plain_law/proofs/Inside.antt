@@ -1,20 +1,18 @@
 -- What is in range in an instruction: its operands, its other numbers, and what it holds.
-use Rattle.std.proofs.Common.{◌≡◌, ℕ, Bool, true, false, ◌&&◌, List, [], ◌∷◌, ◌++◌, map, refl, sym, ap, ◌∙◌, subst}
+use Rattle.std.proofs.Common.{◌≡◌, ℕ, true, ◌&&◌, List, [], ◌∷◌, ◌++◌, refl, sym, ap, ◌∙◌, subst}
 use Rattle.std.specs.List.{list_all}
-use Rattle.std.proofs.lemmas.List.{map-append}
-use Rattle.std.proofs.lemmas.List.Folds.{list_all-append, list_all-map}
 use Rattle.std.proofs.lemmas.Bool.{and_from}
 use Rattle.base_lists.proofs.Bools.{left_true, right_true}
 use Rattle.base_lists.specs.Every.{Every}
 use Rattle.wasm_tree.specs.declared.space.Space.{Space}
 use Rattle.wasm_tree.specs.declared.space.Operand.{Operand}
 use Rattle.wasm_tree.specs.declared.types.BlockType.{BlockType}
-use Rattle.wasm_tree.specs.declared.instr.Instr.{Instr, fold-Instr, fold_out-Instr, map-Instr, out-Instr}
+use Rattle.wasm_tree.specs.declared.instr.Instr.{Instr, fold_out-Instr, map-Instr, out-Instr}
 use Rattle.wasm_tree.specs.declared.instr.Instr.TheOpen.{Instr-F}
 use Rattle.wasm_tree.specs.declared.instr.Instr.TheVariants.{Block, Loop, If, outs-Block, outs-Loop, outs-If}
-use Rattle.wasm_tree.specs.Operands.{operands, operands_of, block_operands, held, map_block, map_operands, mapped, mapped_all, all_pass_step, operands_pass, all_operands_pass}
+use Rattle.wasm_tree.specs.Operands.{operands, operands_of, block_operands, held, map_block, map_operands, mapped, mapped_all, operands_pass, all_operands_pass}
 use Rattle.wasm_tree.proofs.OperandLaws.{tested_inside, passes_inside, mapped_all_same}
-use Rattle.plain_law.specs.Ranges.{small_operand, small_numbers, number_step, numbers_in, all_numbers_in, in_range, all_in_range}
+use Rattle.plain_law.specs.Ranges.{small_operand, small_numbers, numbers_in, all_numbers_in, in_range, all_in_range}
 
 numbers_map : {X Y : Type 0} (g : X → Y) (layer : Instr-F X) → small_numbers (map-Instr X Y g layer) ≡ small_numbers layer
 numbers_map g (Instr-F.Block ty body) = refl
@@ -92,8 +90,7 @@ pub layer_of : (i : Instr) → in_range i ≡ true → LayerInRange (out-Instr i
 layer_of i h =
     let xs = held (out-Instr i) in
     let o = sym (passes_inside small_operand i) ∙ left_true (operands_pass small_operand i) _ h in
-    let n = sym (numbers_inside i) ∙ right_true (operands_pass small_operand i) _ h in
-    (
+    let n = sym (numbers_inside i) ∙ right_true (operands_pass small_operand i) _ h in (
       each_small (operands_of i) (left_true (list_all small_operand (operands_of i)) _ o),
       left_true (small_numbers (out-Instr i)) _ n,
       and_from (all_operands_pass small_operand xs) (all_numbers_in xs) (right_true (list_all small_operand (operands_of i)) _ o) (right_true (small_numbers (out-Instr i)) _ n),

@@ -22,7 +22,7 @@ use Rattle.wasm_format.specs.Bodies.{SpellsCode, SpellsEntry, SmallCode}
 use Rattle.wasm_format.specs.Files.{nothing, with_types, with_imports, with_func_types, with_tables, with_mems, with_globals, with_exports, with_start, with_elems, with_datas, with_count, SmallSection, Contents}
 use Rattle.wasm_format.specs.Reading.{u32_at, sized_at, each_from, vector_at, whole_at, func_type_at, import_at, table_at, limits_at, global_def_at, export_at, elem_at, data_at}
 use Rattle.wasm_format.specs.BodyReading.{code_at}
-use Rattle.wasm_format.specs.Contents.{placed, in_place, entry_at, next_func, codes_at, put_at, custom_at, section_at, contents_at, agrees, framed_at, parts_at, read_at, fault_of, read_fault}
+use Rattle.wasm_format.specs.Contents.{placed, in_place, entry_at, next_func, codes_at, put_at, custom_at, section_at, contents_at, agrees, framed_at, parts_at, read_at, read_fault}
 use Rattle.wasm_format.specs.Causes.{UpTo, FaultySection, FaultyFunc, Cause}
 use Rattle.wasm_format.proofs.Exact.{err_ok, u32_exact, sized_exact}
 use Rattle.wasm_format.proofs.Framing.{framed_sound, framed_fault}

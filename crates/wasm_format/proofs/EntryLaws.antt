@@ -1,13 +1,12 @@
 -- Code entries: what is read is what is spelled and small.
-use Rattle.std.proofs.Common.{◌≡◌, ℕ, zero, suc, ◌+◌, ◌≤◌, List, [], ◌∷◌, ◌++◌, length, Result, Ok, Err, Bool, cond, Option, Some, None, ⊎_elim, refl, sym, ap, ◌∙◌, subst, arith, append-nil}
-use Rattle.std.proofs.lemmas.Bool.{cases_lt, lt-ltb, le-ltb}
+use Rattle.std.proofs.Common.{◌≡◌, ℕ, zero, suc, ◌+◌, ◌≤◌, List, [], ◌∷◌, ◌++◌, length, Result, Ok, Err, Bool, cond, Option, Some, None, refl, sym, ap, ◌∙◌, subst, arith, append-nil}
+use Rattle.std.proofs.lemmas.Bool.{le-ltb}
 use Rattle.std.proofs.Math.Dec.{eqb-suc-zero}
-use Rattle.std.specs.Prelude.{nat_lt, ◌==◌}
+use Rattle.std.specs.Prelude.{◌==◌}
 use Rattle.wasm_bytes.specs.Joins.{U32, Each, Vector, Sized}
 use Rattle.wasm_bytes.specs.Reading.{IsBytes}
 use Rattle.wasm_bytes.proofs.Lists.{Took, small_rest}
 use Rattle.wasm_bytes.proofs.Sized.{bind_ok, ok_pair}
-use Rattle.wasm_tree.specs.declared.which.Which.{Which}
 use Rattle.wasm_tree.specs.declared.which.Which.TheVariants.{Functions}
 use Rattle.wasm_tree.specs.declared.module.LocalGroup.{LocalGroup}
 use Rattle.wasm_tree.specs.declared.module.Func.{Func}

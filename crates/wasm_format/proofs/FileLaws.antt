@@ -1,7 +1,7 @@
 -- A file is read exactly where it spells a tree, within the limits.
 use Rattle.std.proofs.Common.{◌≡◌, ℕ, zero, suc, ◌+◌, List, [], ◌∷◌, ◌++◌, length, Result, Ok, Err, Bool, true, false, cond, Option, Some, None, ◌⊎◌, inl, inr, ⊎_elim, refl, sym, ap, ◌∙◌, subst, arith}
 use Rattle.std.proofs.lemmas.Bool.{eqb-true, and_parts}
-use Rattle.std.specs.Prelude.{◌==◌, ◌&&◌, ◌↔◌, IfOk, IfErr}
+use Rattle.std.specs.Prelude.{◌==◌, ◌↔◌, IfOk, IfErr}
 use Rattle.wasm_bytes.specs.Reading.{IsBytes}
 use Rattle.wasm_bytes.specs.Frames.{Section, after, Frames, Framed}
 use Rattle.wasm_bytes.proofs.Lists.{bytes_rest}

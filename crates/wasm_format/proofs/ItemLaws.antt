@@ -1,7 +1,6 @@
 -- The readers of types, constant expressions and what the sections hold find what is spelled and small, and nothing else.
-use Rattle.std.proofs.Common.{◌≡◌, ℕ, ◌+◌, ◌-◌, ◌≤◌, List, [], ◌∷◌, ◌++◌, length, Result, Ok, Err, cond, ⊎_elim, refl, subst, arith, lt-ltb, le-ltb, ◌∙◌, ap, sym}
-use Rattle.std.proofs.lemmas.Bool.{cases_lt}
-use Rattle.std.specs.Prelude.{◌==◌, nat_lt}
+use Rattle.std.proofs.Common.{◌≡◌, ℕ, ◌+◌, ◌-◌, ◌≤◌, List, [], ◌∷◌, ◌++◌, length, refl, subst, arith, le-ltb, ◌∙◌, ap, sym}
+use Rattle.std.specs.Prelude.{◌==◌}
 use Rattle.std.proofs.lemmas.List.Sums.{sum-map, sum_by-cons}
 use Rattle.wasm_bytes.specs.Joins.{U32, Vector}
 use Rattle.wasm_bytes.proofs.Lists.{Took, small_rest}

@@ -66,11 +66,7 @@ pub fn read_vector<T: Spelled>(
 
 /// A vector that is all of the bytes.
 #[tactic(auto, unfolding(wasm_format::specs::Reading::whole_at))]
-pub fn read_whole<T: Spelled>(
-    alloc: Global,
-    bytes: &[u8],
-    which: Which,
-) -> Result<Items<T>, Fault>
+pub fn read_whole<T: Spelled>(alloc: Global, bytes: &[u8], which: Which) -> Result<Items<T>, Fault>
     ensures gives { GivesAll result (whole_at (vector_at which T.reading) bytes.now) }
     ensures few { IfOk result (λ xs. length xs ≤ limit which) }
 {

@@ -13,9 +13,7 @@ use crate::rules::{agree, set_types};
 use crate::sections::read_section;
 use std::alloc::Global;
 use wasm_bytes::{Frame, FrameFault, Items, frames};
-use wasm_format::{
-    Parts, ReadFault, spelled_bodies_name_memory_zero, spelled_trees_are_bounded,
-};
+use wasm_format::{Parts, ReadFault, spelled_bodies_name_memory_zero, spelled_trees_are_bounded};
 use wasm_tree::Module;
 
 /// The frames of the file, or the fault where they have one.

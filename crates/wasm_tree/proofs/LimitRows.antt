@@ -1,5 +1,5 @@
 -- The limits as numbers: each constant of the program is the number that is told of it.
-use Rattle.std.proofs.Common.{◌≡◌, ℕ, refl}
+use Rattle.std.proofs.Common.{◌≡◌, refl}
 use Rattle.wasm_tree.specs.declared.which.Which.TheVariants.{InputBytes, Parts, Types, Imports, Functions, Tables, Memories, Globals, Exports, ElementSegments, DataSegments, Nesting, Locals, Parameters, Results, Trampolines, OutputBytes}
 use Rattle.wasm_tree.specs.Limits.{limit}
 

@@ -1,5 +1,5 @@
 -- Laws of what an instruction names.
-use Rattle.std.proofs.Common.{◌≡◌, ℕ, Bool, true, false, ◌&&◌, ◌||◌, List, [], ◌∷◌, ◌++◌, map, refl, sym, ap, ◌∙◌, ◌↔◌, subst}
+use Rattle.std.proofs.Common.{◌≡◌, ℕ, Bool, true, ◌&&◌, ◌||◌, List, [], ◌∷◌, ◌++◌, map, refl, sym, ap, ◌∙◌, ◌↔◌, subst}
 use Rattle.std.specs.List.{list_all, list_any}
 use Rattle.std.proofs.lemmas.List.{map-append}
 use Rattle.std.proofs.lemmas.List.Folds.{list_all-append, list_all-map}
@@ -14,7 +14,7 @@ use Rattle.wasm_tree.specs.declared.instr.Instr.TheBlock.{shown-the_row-Instr-0}
 use Rattle.wasm_tree.specs.declared.instr.Instr.TheOpen.{Instr-F}
 use Rattle.wasm_tree.specs.declared.instr.Instr.TheVariants.{Block, Block', Loop, Loop', If, If', outs-Block, outs-Loop, outs-If}
 use Rattle.wasm_tree.specs.Layers.{Layers, RowLayers, ListLayers}
-use Rattle.wasm_tree.specs.Operands.{operands, operands_of, block_operands, held, map_block, map_operands, mapped, mapped_all, all_pass_step, operands_pass, all_operands_pass, any_pass_step, operand_passes, any_operand_passes}
+use Rattle.wasm_tree.specs.Operands.{operands, operands_of, block_operands, held, map_block, map_operands, mapped, mapped_all, operands_pass, all_operands_pass, any_pass_step, operand_passes, any_operand_passes}
 use Rattle.wasm_tree.specs.OperandLaws.{moved}
 
 -- what a layer holds does not matter to what it names
@@ -195,8 +195,8 @@ module _ (P : Instr → Type 0) (inside : (i : Instr) → Every P (held (out-Ins
 
   pub by_held : (i : Instr) → P i
   by_held = ind-Instr P (λ x y is. subst (λ z. P (roll-Instr z)) is (
-    let z = map-Instr Such Instr (λ e. e.0) y in
-    inside (roll-Instr z) (subst (λ l. Every P (held l)) (sym (out-roll-Instr z)) (subst (Every P) (sym (held_map (λ e. e.0) y)) (each (held y))))))
+      let z = map-Instr Such Instr (λ e. e.0) y in
+      inside (roll-Instr z) (subst (λ l. Every P (held l)) (sym (out-roll-Instr z)) (subst (Every P) (sym (held_map (λ e. e.0) y)) (each (held y))))))
 
 -- two tests, layer by layer, where a layer passes the first with other indices exactly where it passes the second
 module _
@@ -204,28 +204,28 @@ module _
     (first_inside : (i : Instr) → first i ≡ one (out-Instr i) && list_all first (held (out-Instr i)))
     (second_inside : (i : Instr) → second i ≡ other (out-Instr i) && list_all second (held (out-Instr i)))
     (own : (i : Instr) → one (out-Instr (mapped f i)) ≡ other (out-Instr i))
-    where
-  abbrev Same : Instr → Type 0
-  Same i = first (mapped f i) ≡ second i
+  where
+    abbrev Same : Instr → Type 0
+    Same i = first (mapped f i) ≡ second i
 
-  all_same : (xs : List Instr) → Every Same xs → list_all first (mapped_all f xs) ≡ list_all second xs
-  all_same [] q = refl
-  all_same (x ∷ xs) q = ap (λ b. b && list_all first (mapped_all f xs)) q.0 ∙ ap (λ b. second x && b) (all_same xs q.1)
+    all_same : (xs : List Instr) → Every Same xs → list_all first (mapped_all f xs) ≡ list_all second xs
+    all_same [] q = refl
+    all_same (x ∷ xs) q = ap (λ b. b && list_all first (mapped_all f xs)) q.0 ∙ ap (λ b. second x && b) (all_same xs q.1)
 
-  same_inside : (i : Instr) → Every Same (held (out-Instr i)) → Same i
-  same_inside i q =
-      first_inside (mapped f i)
-      ∙ ap (λ b. b && list_all first (held (out-Instr (mapped f i)))) (own i)
-      ∙ ap (λ xs. other (out-Instr i) && list_all first xs) (held_mapped f i)
-      ∙ ap (λ b. other (out-Instr i) && b) (all_same (held (out-Instr i)) q)
-      ∙ sym (second_inside i)
+    same_inside : (i : Instr) → Every Same (held (out-Instr i)) → Same i
+    same_inside i q =
+        first_inside (mapped f i)
+        ∙ ap (λ b. b && list_all first (held (out-Instr (mapped f i)))) (own i)
+        ∙ ap (λ xs. other (out-Instr i) && list_all first xs) (held_mapped f i)
+        ∙ ap (λ b. other (out-Instr i) && b) (all_same (held (out-Instr i)) q)
+        ∙ sym (second_inside i)
 
-  same_all : (xs : List Instr) → Every Same xs
-  same_all [] = tt
-  same_all (x ∷ xs) = (by_held Same same_inside x, same_all xs)
+    same_all : (xs : List Instr) → Every Same xs
+    same_all [] = tt
+    same_all (x ∷ xs) = (by_held Same same_inside x, same_all xs)
 
-  pub mapped_all_same : (code : List Instr) → list_all first (mapped_all f code) ≡ list_all second code
-  mapped_all_same code = all_same code (same_all code)
+    pub mapped_all_same : (code : List Instr) → list_all first (mapped_all f code) ≡ list_all second code
+    mapped_all_same code = all_same code (same_all code)
 
 pub mapped_code_passes : (f : Space → ℕ → ℕ) (test : Operand → Bool) (code : List Instr) → all_operands_pass test (mapped_all f code) ≡ all_operands_pass (λ o. test (moved f o)) code
 mapped_code_passes f test =

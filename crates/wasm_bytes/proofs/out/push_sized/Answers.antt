@@ -1,4 +1,4 @@
-use Rattle.std.proofs.Common.{Result, Ok, Err, OnErr, ◌≡◌, ◌++◌, List, ℕ, ◌∙◌, length, arith}
+use Rattle.std.proofs.Common.{◌≡◌, ◌++◌, List, ℕ, ◌∙◌, length, arith}
 use Rattle.base_lists.proofs.Walk.{on_err}
 use Rattle.wasm_bytes.specs.Writing.{u32_text}
 use Rattle.wasm_bytes.proofs.out.push_sized.Goals as goal

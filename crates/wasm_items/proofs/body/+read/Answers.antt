@@ -83,15 +83,16 @@ read_sequence-returns-in-Else-clause-pile t c =
 pub read_sequence-tokens-preserved-in_ok-keep-in-Plain : goal.read_sequence-tokens-preserved-in_ok-keep-in-Plain
 read_sequence-tokens-preserved-in_ok-keep-in-Plain t c =
     let items = c.tokens.invariant.0 in
-    let i = c.in-Plain.instr in
-    ( items ++ i ∷ []
-    , c.in_ok-keep-in-Plain.ensures.ok ∙ ap (λ p. p ++ i ∷ []) c.tokens.invariant.1 ∙ append_assoc c.args.pile.now items (i ∷ [])
-    , c.tokens.invariant.2
-    , (λ n enough.
-        let so = c.tokens.invariant.3 n enough in
-        let step = seq_plain c.args.many c.args.deeper so.0 c.tokens.cursor _ i so.1 (rw c.in-Plain.is at c.in_ok-read_token.ensures.gives) c.in_ok-read_token.ensures.shorter in
-        (step.0, step.1, so.2 ∙ ap (behind items) step.2 ∙ behind_behind items (i ∷ []) _))
-    , omega (arith, c.tokens.invariant.4, c.in_ok-read_token.ensures.shorter))
+    let i = c.in-Plain.instr in (
+      items ++ i ∷ [],
+      c.in_ok-keep-in-Plain.ensures.ok ∙ ap (λ p. p ++ i ∷ []) c.tokens.invariant.1 ∙ append_assoc c.args.pile.now items (i ∷ []),
+      c.tokens.invariant.2,
+      (λ n enough.
+          let so = c.tokens.invariant.3 n enough in
+          let step = seq_plain c.args.many c.args.deeper so.0 c.tokens.cursor _ i so.1 (rw c.in-Plain.is at c.in_ok-read_token.ensures.gives) c.in_ok-read_token.ensures.shorter in
+          (step.0, step.1, so.2 ∙ ap (behind items) step.2 ∙ behind_behind items (i ∷ []) _)),
+      omega (arith, c.tokens.invariant.4, c.in_ok-read_token.ensures.shorter),
+    )
 
 pub read_sequence-returns-in_err-block-in-Open-clause-reads : goal.read_sequence-returns-in_err-block-in-Open-clause-reads
 read_sequence-returns-in_err-block-in-Open-clause-reads t c = λ fuel enough.
@@ -103,12 +104,13 @@ read_sequence-returns-in_err-block-in-Open-clause-reads t c = λ fuel enough.
 pub read_sequence-tokens-preserved : goal.read_sequence-tokens-preserved
 read_sequence-tokens-preserved t c =
     let items = c.tokens.invariant.0 in
-    let i = c.in_ok-block-in-Open.block in
-    ( items ++ i ∷ []
-    , c.in_ok-keep-in-Open.ensures.ok ∙ ap (λ p. p ++ i ∷ []) (c.in_ok-block-in-Open.ensures.pile ∙ c.tokens.invariant.1) ∙ append_assoc c.args.pile.now items (i ∷ [])
-    , c.tokens.invariant.2
-    , (λ n enough.
-        let so = c.tokens.invariant.3 n enough in
-        let step = seq_open c.args.many c.args.deeper so.0 c.tokens.cursor _ _ c.in-Open.opener c.in-Open.ty i so.1 (rw c.in-Open.is at c.in_ok-read_token.ensures.gives) c.in_ok-read_token.ensures.shorter c.in_ok-block-in-Open.ensures.reads (omega (arith, c.in_ok-block-in-Open.ensures.shorter)) in
-        (step.0, step.1, so.2 ∙ ap (behind items) step.2 ∙ behind_behind items (i ∷ []) _))
-    , omega (arith, c.tokens.invariant.4, c.in_ok-read_token.ensures.shorter, c.in_ok-block-in-Open.ensures.shorter))
+    let i = c.in_ok-block-in-Open.block in (
+      items ++ i ∷ [],
+      c.in_ok-keep-in-Open.ensures.ok ∙ ap (λ p. p ++ i ∷ []) (c.in_ok-block-in-Open.ensures.pile ∙ c.tokens.invariant.1) ∙ append_assoc c.args.pile.now items (i ∷ []),
+      c.tokens.invariant.2,
+      (λ n enough.
+          let so = c.tokens.invariant.3 n enough in
+          let step = seq_open c.args.many c.args.deeper so.0 c.tokens.cursor _ _ c.in-Open.opener c.in-Open.ty i so.1 (rw c.in-Open.is at c.in_ok-read_token.ensures.gives) c.in_ok-read_token.ensures.shorter c.in_ok-block-in-Open.ensures.reads (omega (arith, c.in_ok-block-in-Open.ensures.shorter)) in
+          (step.0, step.1, so.2 ∙ ap (behind items) step.2 ∙ behind_behind items (i ∷ []) _)),
+      omega (arith, c.tokens.invariant.4, c.in_ok-read_token.ensures.shorter, c.in_ok-block-in-Open.ensures.shorter),
+    )
