@@ -1,5 +1,5 @@
 -- Where all that is kept agrees with its entry and a body names only what is kept, what the body names agrees.
-use Rattle.std.proofs.Common.{◌≡◌, Bool, true, true≢false, IsTrue, List, [], sym}
+use Rattle.std.proofs.Common.{true≢false, IsTrue, List, [], sym}
 use Rattle.wasm_tree.specs.declared.types.ValType.{ValType}
 use Rattle.wasm_tree.specs.declared.instr.Instr.{Instr}
 use Rattle.wasm_tree.specs.Layers.{ListLayers}

@@ -1,5 +1,5 @@
 -- What is well typed, or valid, names only indices of its spaces, so that a map with as many entries has one for each.
-use Rattle.std.proofs.Common.{◌≡◌, ℕ, Bool, true, nat_lt, List, [], ◌∷◌, Option, Some, None, refl, sym, arith, true≢false}
+use Rattle.std.proofs.Common.{◌≡◌, ℕ, true, nat_lt, List, [], ◌∷◌, Option, Some, None, refl, sym, arith, true≢false}
 use Rattle.std.specs.Prelude.{slice_get}
 use Rattle.std.proofs.lemmas.Bool.{ltb-true, lt-ltb}
 use Rattle.wasm_tree.specs.declared.types.RefType.{RefType}
