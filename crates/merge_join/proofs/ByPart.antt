@@ -137,9 +137,3 @@ each_within f ps all p m is at = slice_get_within all p (f p m) (ap (λ x. slice
 
 pub each_index : (f : ℕ → Module → ℕ) (ps : List Part) (all : List ℕ) (p : ℕ) (m : Module) → all ≡ each_part f ps → module_at ps p ≡ Some m → slice_index all p ≡ f p m
 each_index f ps all p m is at = get_or_from_slice_get all p (f p m) 0 (ap (λ x. slice_get x p) is ∙ each_at f ps p m at)
-
-pub place_is_get : {A : Type 0} (xs : List A) (n : ℕ) → slice_get xs n ≡ slice_get xs n
-place_is_get [] zero = refl
-place_is_get [] (suc n) = refl
-place_is_get (x ∷ xs) zero = refl
-place_is_get (x ∷ xs) (suc n) = place_is_get xs n

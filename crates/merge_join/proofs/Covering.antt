@@ -1,5 +1,6 @@
 -- The map of a part has an entry for each index of the part's index spaces.
 use Rattle.std.proofs.Common.{◌≡◌, ◌∙◌, sym, ap, refl, subst, ℕ, zero, suc, ◌+◌, ◌<◌, List, [], ◌∷◌, length, map, arith, Some, Bool, true, false, ◌&&◌, true≢false}
+use Rattle.base_lists.proofs.Numbers.{length-numbers, map_numbers_index}
 use Rattle.wasm_tree.specs.declared.space.Space.TheVariants.{Functions}
 use Rattle.std.specs.Prelude.{slice_index, IsTrue, nat_lt}
 use Rattle.std.proofs.lemmas.Bool.Decides.{nat_tests}
@@ -13,19 +14,10 @@ use Rattle.std.specs.List.{list_all}
 use Rattle.index_remap.specs.Renumbered.{fits_import, fits_func, fits_global, fits_export, fits_start, fits_elem, fits_data, fits_tree}
 use Rattle.merge_terms.specs.Merged.{map_of, new_index, start_of}
 
-numbers_length : (from count : ℕ) → length (numbers from count) ≡ count
-numbers_length from zero = refl
-numbers_length from (suc count) = ap suc (numbers_length (suc from) count)
-
-mapped_at : (f : ℕ → ℕ) (from count i : ℕ) → i < count → slice_index (map f (numbers from count)) i ≡ f (from + i)
-mapped_at f from zero i h = absurd (omega arith)
-mapped_at f from (suc count) zero h = ap f (omega arith)
-mapped_at f from (suc count) (suc i) h = mapped_at f (suc from) count i (omega arith) ∙ ap f (omega arith)
-
 -- the new index of a function of the part
 pub func_entry : (ps : List Part) (p : ℕ) (m : Module) (f : ℕ) → f < length (funcs_of m) → slice_index (map_of ps p m).funcs f ≡ new_index ps p Functions f
 unfolding map_of
-func_entry ps p m f h = mapped_at (new_index ps p Functions) 0 (length (funcs_of m)) f h ∙ ap (new_index ps p Functions) (omega arith)
+func_entry ps p m f h = map_numbers_index (new_index ps p Functions) 0 (length (funcs_of m)) f h ∙ ap (new_index ps p Functions) (omega arith)
 
 -- ---- what a map that fits has an entry for ----
 
@@ -55,7 +47,7 @@ start_fits r m f h is = below f (length r.funcs) (subst (λ s. IsTrue (fits_star
 
 funcs_many : (ps : List Part) (p : ℕ) (m : Module) → length (map_of ps p m).funcs ≡ length (funcs_of m)
 unfolding map_of
-funcs_many ps p m = length-map (numbers 0 (length (funcs_of m))) (new_index ps p Functions) ∙ numbers_length 0 (length (funcs_of m))
+funcs_many ps p m = length-map (numbers 0 (length (funcs_of m))) (new_index ps p Functions) ∙ length-numbers 0 (length (funcs_of m))
 
 -- the new index of the start
 pub start_entry : (ps : List Part) (p : ℕ) (m : Module) (r : Remap) (f : ℕ) → r ≡ map_of ps p m → f < length r.funcs → m.start ≡ Some f → slice_index r.funcs f ∷ [] ≡ start_of ps p m.start

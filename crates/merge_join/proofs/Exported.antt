@@ -18,11 +18,6 @@ use Rattle.merge_join.proofs.ByPart.{part_push}
 abbrev pub new_exports : List Part → ℕ → Module → List Export
 new_exports ps p m = map (new_export (map_of ps p m)) m.exports
 
-pub place_is_get : {A : Type 0} (xs : List A) (n : ℕ) → slice_get xs n ≡ slice_get xs n
-place_is_get [] n = refl
-place_is_get (x ∷ xs) zero = refl
-place_is_get (x ∷ xs) (suc n) = place_is_get xs n
-
 -- ---- names ----
 
 same_names : (r : Remap) (es : List Export) → map (λ e. e.name) (map (new_export r) es) ≡ map (λ e. e.name) es
@@ -53,7 +48,7 @@ none_repeated ps mode names same none = ap (λ o. option_and_then (slice_get (ex
 pub repeated_at : (ps : List Part) (mode : Mode) (names : List Text) (n : ℕ) → names ≡ export_names ps → conflict mode names ≡ Some n → slice_get names n ≡ repeated_name ps mode
 unfolding repeated_name
 repeated_at ps mode names n same at =
-    ap (λ x. slice_get x n) same ∙ sym (ap (λ o. option_and_then (slice_get (export_names ps)) o) (ap (conflict mode) (sym same) ∙ at) ∙ place_is_get (export_names ps) n)
+    ap (λ x. slice_get x n) same ∙ sym (ap (λ o. option_and_then (slice_get (export_names ps)) o) (ap (conflict mode) (sym same) ∙ at))
 
 -- ---- exports with names ----
 

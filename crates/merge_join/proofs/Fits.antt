@@ -1,5 +1,6 @@
 -- Where linking finds no fault, each import's end is there, and of the import's kind.
 use Rattle.std.proofs.Common.{◌≡◌, ◌∙◌, sym, ap, refl, subst, inl, inr, ◌⊎◌, ℕ, zero, suc, ◌<◌, List, [], ◌∷◌, ◌++◌, length, arith, slice_get, Bool, true, false, cond, Option, Some, None, unwrap_or, ◌&&◌}
+use Rattle.base_lists.proofs.Options.{and_then_is, unwrap_or_false_is}
 use Rattle.wasm_tree.specs.declared.space.Space.{Space}
 use Rattle.wasm_tree.specs.declared.space.Space.TheVariants.{Functions, Tables, Memories, Globals}
 use Rattle.wasm_tree.specs.Operands.{same_space}
@@ -34,16 +35,8 @@ kind_of_external (TableOf t) = Tables
 kind_of_external (MemoryOf l) = Memories
 kind_of_external (GlobalOf t) = Globals
 
-some_of : {A B : Type 0} (o : Option A) (f : A → Option B) (b : B) → option_and_then f o ≡ Some b → (a : A) × (o ≡ Some a) × (f a ≡ Some b)
-some_of None f b h = cc
-some_of (Some a) f b h = (a, refl, h)
-
-true_of : (o : Option Bool) → unwrap_or o false ≡ true → o ≡ Some true
-true_of None h = cc
-true_of (Some b) h = ap Some h
-
 asked_kind : (m : Module) (d : ImportDesc) (x : External) → asked m d ≡ Some x → kind_of_external x ≡ space_of_import d
-asked_kind m (im.Func ty) x h = let (t, a, b) = some_of (slice_get m.types ty) (λ t. Some (FuncOf t)) x h in let e : FuncOf t ≡ x = cc in sym (ap kind_of_external e)
+asked_kind m (im.Func ty) x h = let (t, a, b) = and_then_is (slice_get m.types ty) (λ t. Some (FuncOf t)) x h in let e : FuncOf t ≡ x = cc in sym (ap kind_of_external e)
 asked_kind m (im.Table t) x h = let e : TableOf t ≡ x = cc in sym (ap kind_of_external e)
 asked_kind m (im.Memory l) x h = let e : MemoryOf l ≡ x = cc in sym (ap kind_of_external e)
 asked_kind m (im.Global t) x h = let e : GlobalOf t ≡ x = cc in sym (ap kind_of_external e)
@@ -73,20 +66,20 @@ then_within (Some a) f b h = (a, refl)
 -- an entry that is there has its kind and is in its space
 external_there : (m : Module) (d : ExportDesc) (x : External) → external_of m d ≡ Some x → (kind_of_external x ≡ space_of_export d) × (index_of_export d < space_size (space_of_export d) m)
 external_there m (ex.Func i) x h =
-    let (t, a, b) = some_of (type_of_func m i) (λ t. Some (FuncOf t)) x h in
+    let (t, a, b) = and_then_is (type_of_func m i) (λ t. Some (FuncOf t)) x h in
     let e : FuncOf t ≡ x = cc in
     let (ty, got) = then_within (slice_get (funcs_of m) i) (slice_get m.types) t a in
     (sym (ap kind_of_external e), omega (arith, slice_get_within (funcs_of m) i ty got, funcs_size m))
 external_there m (ex.Table i) x h =
-    let (t, got, b) = some_of (slice_get (tables_of m) i) (λ t. Some (TableOf t)) x h in
+    let (t, got, b) = and_then_is (slice_get (tables_of m) i) (λ t. Some (TableOf t)) x h in
     let e : TableOf t ≡ x = cc in
     (sym (ap kind_of_external e), omega (arith, slice_get_within (tables_of m) i t got, tables_size m))
 external_there m (ex.Memory i) x h =
-    let (l, got, b) = some_of (slice_get (memories_of m) i) (λ l. Some (MemoryOf l)) x h in
+    let (l, got, b) = and_then_is (slice_get (memories_of m) i) (λ l. Some (MemoryOf l)) x h in
     let e : MemoryOf l ≡ x = cc in
     (sym (ap kind_of_external e), omega (arith, slice_get_within (memories_of m) i l got, memories_size m))
 external_there m (ex.Global i) x h =
-    let (t, got, b) = some_of (slice_get (globals_of m) i) (λ t. Some (GlobalOf t)) x h in
+    let (t, got, b) = and_then_is (slice_get (globals_of m) i) (λ t. Some (GlobalOf t)) x h in
     let e : GlobalOf t ≡ x = cc in
     (sym (ap kind_of_external e), omega (arith, slice_get_within (globals_of m) i t got, globals_size m))
 
@@ -112,11 +105,6 @@ suited ps s (Some x) end h e = let same : x ≡ end = cc in ap (is_suited ps s) 
     case true h = refl
     case false h = cc
 
-pub place_within : {A : Type 0} (xs : List A) (n : ℕ) (x : A) → slice_get xs n ≡ Some x → n < length xs
-place_within [] n x h = cc
-place_within (y ∷ ys) zero x h = omega arith
-place_within (y ∷ ys) (suc n) x h = omega (arith, place_within ys n x h)
-
 -- ---- ends ----
 
 -- the end is there, and of this kind
@@ -134,26 +122,26 @@ suits_same d (linking.Outside s) x h = h
 
 found_there : (ps : List Part) (end : linking.End) (x : External) → found ps end ≡ Some x → EndThere ps (kind_of_external x) end
 found_there ps (linking.Defined e) x h =
-    let (m, at, ext) = some_of (module_at ps e.part) (λ m. external_of m e.what) x h in
+    let (m, at, ext) = and_then_is (module_at ps e.part) (λ m. external_of m e.what) x h in
     let (k, within) = external_there m e.what x ext in
     (m, at, sym k, subst (λ z. index_of_export e.what < space_size z m) (sym k) within)
 found_there ps (linking.Outside s) x h =
-    let (m, at, rest) = some_of (module_at ps s.part) (λ m. option_and_then (λ i. asked m i.desc) (slice_get m.imports s.import)) x h in
-    let (j, here, ext) = some_of (slice_get m.imports s.import) (λ i. asked m i.desc) x rest in
+    let (m, at, rest) = and_then_is (module_at ps s.part) (λ m. option_and_then (λ i. asked m i.desc) (slice_get m.imports s.import)) x h in
+    let (j, here, ext) = and_then_is (slice_get m.imports s.import) (λ i. asked m i.desc) x rest in
     (j, ap (λ o. option_and_then (λ m. slice_get m.imports s.import) o) at ∙ here, sym (asked_kind m j.desc x ext))
 
 import_of : (ps : List Part) (s : Site) (d : External) (i : Import) → asked_at ps s ≡ Some d → import_at ps s ≡ Some i → kind_of_external d ≡ space_of_import i.desc
 import_of ps s d i h here =
-    let (m, at, rest) = some_of (module_at ps s.part) (λ m. option_and_then (λ i. asked m i.desc) (slice_get m.imports s.import)) d h in
-    let (j, there, ext) = some_of (slice_get m.imports s.import) (λ i. asked m i.desc) d rest in
+    let (m, at, rest) = and_then_is (module_at ps s.part) (λ m. option_and_then (λ i. asked m i.desc) (slice_get m.imports s.import)) d h in
+    let (j, there, ext) = and_then_is (slice_get m.imports s.import) (λ i. asked m i.desc) d rest in
     let e : Some i ≡ Some j = sym here ∙ ap (λ o. option_and_then (λ m. slice_get m.imports s.import) o) at ∙ there in
     let same : i ≡ j = cc in
     asked_kind m j.desc d ext ∙ ap (λ (x : Import). space_of_import x.desc) (sym same)
 
 suited_there : (ps : List Part) (s : Site) (end : linking.End) (i : Import) → import_at ps s ≡ Some i → is_suited ps s end ≡ true → EndThere ps (space_of_import i.desc) end
 suited_there ps s end i here h =
-    let (d, asks, rest) = some_of (asked_at ps s) (λ d. option_and_then (λ x. Some (suits d end x)) (found ps end)) true (true_of (option_and_then (λ d. option_and_then (λ x. Some (suits d end x)) (found ps end)) (asked_at ps s)) h) in
-    let (x, finds, last) = some_of (found ps end) (λ x. Some (suits d end x)) true rest in
+    let (d, asks, rest) = and_then_is (asked_at ps s) (λ d. option_and_then (λ x. Some (suits d end x)) (found ps end)) true (unwrap_or_false_is (option_and_then (λ d. option_and_then (λ x. Some (suits d end x)) (found ps end)) (asked_at ps s)) h) in
+    let (x, finds, last) = and_then_is (found ps end) (λ x. Some (suits d end x)) true rest in
     let fits : suits d end x ≡ true = cc in
     let k : kind_of_external x ≡ space_of_import i.desc = sym (same_kinds d x (suits_same d end x fits)) ∙ import_of ps s d i asks here in
     subst (λ z. EndThere ps z end) k (found_there ps end x finds)
@@ -163,7 +151,7 @@ pub end_there : (ps : List Part) (p n : ℕ) (m : Module) (i : Import) (end : li
 unfolding link_fault import_fault
 end_there ps p n m i end none at here ends =
     let s = site p n in
-    let (rest, is) = sites_split ps p n m at (place_within m.imports n i here) in
+    let (rest, is) = sites_split ps p n m at (slice_get_within m.imports n i here) in
     let first : first_fault (import_fault ps) (sites ps) ≡ None = none_first (first_fault (import_fault ps) (sites ps)) _ none in
     let mine : import_fault ps s ≡ None = none_at (import_fault ps) (sites_before ps p n) s rest (ap (first_fault (import_fault ps)) (sym is) ∙ first) in
     suited_there ps s end i (ap (λ o. option_and_then (λ m. slice_get m.imports n) o) at ∙ here) (suited ps s (end_of ps s) end mine ends)
@@ -218,8 +206,8 @@ gather_there ps k (linking.Outside t) (j, at, is) = gathered_there ps k t (impor
 written : (ps : List Part) (k : Space) (end : linking.End) → EndThere ps k end → IsEnd ps k (end_entry end)
 written ps k (linking.Defined e) (m, at, kind, within) = (m, at, within)
 written ps k (linking.Outside t) (j, at, kind) =
-    let (m, there, here) = some_of (module_at ps t.part) (λ m. slice_get m.imports t.import) j at in
-    (m, there, place_within m.imports t.import j here)
+    let (m, there, here) = and_then_is (module_at ps t.part) (λ m. slice_get m.imports t.import) j at in
+    (m, there, slice_get_within m.imports t.import j here)
 
 entry_from : (o : Option linking.End) (e : End) → option_map end_entry o ≡ Some e → (end : linking.End) × (o ≡ Some end) × (end_entry end ≡ e)
 entry_from None e h = cc
@@ -229,6 +217,6 @@ entry_from (Some end) e h = let same : end_entry end ≡ e = cc in (end, refl, s
 pub entry_there : (ps : List Part) (p n : ℕ) (m : Module) (i : Import) (e : End) → link_fault ps ≡ None → module_at ps p ≡ Some m → slice_get m.imports n ≡ Some i → option_map end_entry (linked_end ps (site p n)) ≡ Some e → IsEnd ps (space_of_import i.desc) e
 entry_there ps p n m i e none at here ends =
     let (linked, is, entry) = entry_from (linked_end ps (site p n)) e ends in
-    let (end, first, last) = some_of (end_of ps (site p n)) (λ end. Some (gathered ps end)) linked is in
+    let (end, first, last) = and_then_is (end_of ps (site p n)) (λ end. Some (gathered ps end)) linked is in
     let gathers : gathered ps end ≡ linked = cc in
     subst (IsEnd ps (space_of_import i.desc)) (ap end_entry gathers ∙ entry) (written ps (space_of_import i.desc) (gathered ps end) (gather_there ps (space_of_import i.desc) end (end_there ps p n m i end none at here first)))

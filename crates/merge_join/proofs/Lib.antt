@@ -11,7 +11,6 @@ pub mod Interning
 pub mod MapParts
 pub mod MergedTrees
 pub mod NewIndex
-pub mod NumberLists
 pub mod Outcomes
 pub mod PartMaps
 pub mod Reading

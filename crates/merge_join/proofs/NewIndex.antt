@@ -1,5 +1,6 @@
 -- The new index of an entry of a part's index space.
 use Rattle.std.proofs.Common.{◌≡◌, ◌∙◌, sym, ap, refl, ℕ, zero, suc, ◌+◌, ◌≤◌, List, [], ◌∷◌, ◌++◌, length, map, take, arith, slice_get, Bool, true, false, cond, Option, Some, None, option_and_then, unwrap_or}
+use Rattle.base_lists.proofs.Numbers.{numbers_append}
 use Rattle.wasm_tree.specs.declared.space.Space.{Space}
 use Rattle.std.specs.Option.{option_map}
 use Rattle.std.proofs.lemmas.List.{map-append}
@@ -13,7 +14,6 @@ use Rattle.merge_terms.specs.Merged.{staying_of, place_of_end, place_of_entry, n
 use Rattle.merge_join.specs.Words.{site, place_at}
 use Rattle.merge_join.proofs.Counts.{imported_is}
 use Rattle.merge_join.proofs.Ends.{place_is}
-use Rattle.merge_join.proofs.NumberLists.{numbers_split}
 
 -- by the import that the entry is, if it is one
 index_is : (ps : List Part) (p : ℕ) (k : Space) (i : ℕ) (m : Module) (o : Option ℕ) → module_at ps p ≡ Some m → slice_get (imports_of k m) i ≡ o → new_index ps p k i ≡ unwrap_or (place_of_entry ps p k i o) 0
@@ -79,4 +79,4 @@ all_indices ps p k m n at =
     let z : 0 + length (imports_of k m) ≡ length (imports_of k m) = omega arith in
     ap (λ x. map (new_index ps p k) (numbers 0 (length (imports_of k m))) ++ x) (sym (own_indices ps p k m n at))
     ∙ sym (map-append (new_index ps p k) (numbers 0 (length (imports_of k m))) (numbers (length (imports_of k m)) n))
-    ∙ ap (map (new_index ps p k)) (ap (λ x. numbers 0 (length (imports_of k m)) ++ numbers x n) (sym z) ∙ sym (numbers_split 0 (length (imports_of k m)) n))
+    ∙ ap (map (new_index ps p k)) (ap (λ x. numbers 0 (length (imports_of k m)) ++ numbers x n) (sym z) ∙ sym (numbers_append 0 (length (imports_of k m)) n))

@@ -11,12 +11,6 @@ use Rattle.merge_join.specs.declared.joining.Joining.{Joining}
 use Rattle.merge_join.specs.Words.{AreJoined}
 use Rattle.merge_join.proofs.ByPart.{named_length, each_at, each_length}
 
--- the module of a part
-pub module_here : (parts : List declared.Part) (p : ℕ) → p < length parts → (m : Module) × (module_at (named_modules parts) p ≡ Some m)
-module_here [] p lt = absurd (omega (arith, lt))
-module_here (part ∷ parts) zero lt = (part.«module», refl)
-module_here (part ∷ parts) (suc p) lt = module_here parts p (omega (arith, lt))
-
 pub maps_length : (j : Joining) → AreJoined j → length j.maps.now ≡ length j.parts.now
 maps_length j is = ap length is.maps ∙ each_length (map_of (named_modules j.parts.now)) (named_modules j.parts.now) ∙ named_length j.parts.now
 

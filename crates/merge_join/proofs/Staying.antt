@@ -2,6 +2,7 @@
 use Rattle.std.proofs.Common.{◌≡◌, ◌∙◌, sym, ap, refl, ℕ, zero, suc, ◌+◌, ◌<◌, List, [], ◌∷◌, ◌++◌, length, Option, Some, None, Bool, true, false, cond, arith, slice_get, get_or, append_assoc, append-nil, option_and_then}
 use Rattle.std.specs.List.{filter, filter_map, cons_option}
 use Rattle.std.proofs.lemmas.List.Elements.{filter-append, filter_map-append}
+use Rattle.merge_join.proofs.Sites.{sites_in_more}
 use Rattle.wasm_tree.specs.declared.types.Limits.{Limits}
 use Rattle.wasm_tree.specs.declared.module.Import.{Import}
 use Rattle.wasm_tree.specs.declared.module.ImportDesc.{ImportDesc}
@@ -33,7 +34,7 @@ kept_is ps s i yes-stays at =
 import_is : (ps : List Part) (s : Site) (m : Module) (i : Import) → module_at ps s.part ≡ Some m → import_at ps s ≡ Some i → merged_import ps s ≡ Some (record i { desc = merged_desc ps s m i.desc })
 unfolding merged_import
 import_is ps s m i at there =
-    ap (λ o. option_and_then {T = Module} {U = Import} (λ m. option_and_then (λ i. Some (record i { desc = merged_desc ps s m i.desc })) (import_at ps s)) o) at
+    ap (λ o. option_and_then {T = Module} {U = Import} (λ m. option_and_then {T = Import} {U = Import} (λ i. Some (record i { desc = merged_desc ps s m i.desc })) (import_at ps s)) o) at
     ∙ ap (λ o. option_and_then {T = Import} {U = Import} (λ i. Some (record i { desc = merged_desc ps s m i.desc })) o) there
 
 abbrev import_of : Text → Text → ImportDesc → Import
@@ -52,19 +53,9 @@ import_made ps s m r kept is i a b d stay at same lt here map limits p q e =
 
 -- ---- the imports of one part ----
 
-sites_push : (p n q : ℕ) → sites_in p (suc n) q ≡ sites_in p n q ++ site p (q + n) ∷ []
-sites_push p zero q = let z : q ≡ q + 0 = omega arith in ap (λ k. site p k ∷ []) z
-sites_push p (suc n) q = let z : suc q + n ≡ q + suc n = omega arith in ap (λ rest. site p q ∷ rest) (sites_push p n (suc q) ∙ ap (λ k. sites_in p n (suc q) ++ site p k ∷ []) z)
-
-sites_next : (p n : ℕ) → sites_in p (n + 1) 0 ≡ sites_in p n 0 ++ site p n ∷ []
-sites_next p n =
-    let next : n + 1 ≡ suc n = omega arith in
-    let z : 0 + n ≡ n = omega arith in
-    ap (λ k. sites_in p k 0) next ∙ sites_push p n 0 ∙ ap (λ k. sites_in p n 0 ++ site p k ∷ []) z
-
 module _ {A : Type 0} (test : Site → Bool) (f : Site → Option A) where
   kept_next : (p n : ℕ) → filter_map f (filter test (sites_in p (n + 1) 0)) ≡ filter_map f (filter test (sites_in p n 0)) ++ filter_map f (cond (test (site p n)) (site p n ∷ []) [])
-  kept_next p n = ap (λ l. filter_map f (filter test l)) (sites_next p n) ∙ ap (filter_map f) (filter-append test (sites_in p n 0) (site p n ∷ [])) ∙ filter_map-append f (filter test (sites_in p n 0)) (cond (test (site p n)) (site p n ∷ []) [])
+  kept_next p n = ap (λ l. filter_map f (filter test l)) (sites_in_more p n) ∙ ap (filter_map f) (filter-append test (sites_in p n 0) (site p n ∷ [])) ∙ filter_map-append f (filter test (sites_in p n 0)) (cond (test (site p n)) (site p n ∷ []) [])
 
   -- one import more that stays
   pub import_more : (p n : ℕ) (first old new : List A) (x : A) → test (site p n) ≡ true → f (site p n) ≡ Some x → old ≡ first ++ filter_map f (filter test (sites_in p n 0)) → new ≡ old ++ x ∷ [] → new ≡ first ++ filter_map f (filter test (sites_in p (n + 1) 0))

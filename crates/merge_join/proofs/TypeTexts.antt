@@ -2,6 +2,7 @@
 use Rattle.std.proofs.Common.{◌≡◌, ◌∙◌, sym, ap, refl, List, [], ◌∷◌, ◌++◌, map, Bool, true, false, cond, arith, ◌&&◌}
 use Rattle.std.specs.Str.{bytes_eq}
 use Rattle.std.proofs.lemmas.Slice.Eq.{bytes_eq-Decides}
+use Rattle.base_lists.proofs.Bools.{same_tests}
 use Rattle.wasm_tree.specs.declared.types.RefType.TheVariants as reft
 use Rattle.wasm_tree.specs.declared.types.ValType.{ValType}
 use Rattle.wasm_tree.specs.declared.types.ValType.TheVariants as valt
@@ -112,14 +113,8 @@ funcs_same t u e =
 pub func_self : (t : FuncType) → same_func_type t t ≡ true
 func_self t = ap (λ (b : Bool). b && same_types t.results t.results) (types_self t.params) ∙ types_self t.results
 
-equal_tests : (a b : Bool) → (a ≡ true → b ≡ true) → (b ≡ true → a ≡ true) → a ≡ b
-equal_tests false false f g = refl
-equal_tests false true f g = g refl
-equal_tests true false f g = sym (f refl)
-equal_tests true true f g = refl
-
 -- types are the same exactly where their texts are
 pub same_by_text : (t u : FuncType) → same_func_type t u ≡ bytes_eq (text_of_type t) (text_of_type u)
-same_by_text t u = equal_tests (same_func_type t u) (bytes_eq (text_of_type t) (text_of_type u))
+same_by_text t u = same_tests (same_func_type t u) (bytes_eq (text_of_type t) (text_of_type u))
     (λ e. (bytes_eq-Decides (text_of_type t) (text_of_type u)).1 (ap text_of_type (funcs_same t u e)))
     (λ e. ap (same_func_type t) (sym (texts_differ t u ((bytes_eq-Decides (text_of_type t) (text_of_type u)).0 e))) ∙ func_self t)

@@ -6,6 +6,7 @@ ghost use Rattle.wasm_tree.specs.declared.module.Module.{Module as Tree};
 ghost use Rattle.wasm_meaning.specs.Linking.{module_at, imports_of, first_place};
 ghost use Rattle.wasm_tree.specs.SameTypes.{same_func_type};
 ghost use Rattle.wasm_meaning.specs.World as world;
+ghost use Rattle.wasm_meaning.specs.World.{defined_before};
 ghost use Rattle.merge_terms.specs.Parts.{named_modules};
 ghost use Rattle.merge_terms.specs.Merged as merged;
 ghost use Rattle.merge_terms.specs.Merged.{new_index, merged_types};

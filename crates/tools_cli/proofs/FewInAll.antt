@@ -1,15 +1,16 @@
 -- What stands in the parts of a merge together.
-use Rattle.std.proofs.Common.{◌≡◌, refl, ap, subst, ℕ, zero, suc, ◌*◌, ◌≤◌, List, [], ◌∷◌, length, length-append, Some, None, Ok, Result, cond, ltb, true, false, Bool, arith}
+use Rattle.std.proofs.Common.{◌≡◌, refl, ap, subst, ℕ, zero, suc, ◌*◌, ◌≤◌, ◌<◌, ◌^◌, List, [], ◌∷◌, length, length-append, Some, None, Ok, Result, cond, ltb, true, false, Bool, arith}
 use Rattle.wasm_tree.specs.declared.space.Space.{Space}
 use Rattle.wasm_tree.specs.declared.space.Space.TheVariants.{Types, Functions, Tables, Memories, Globals, ElementSegments, DataSegments}
 use Rattle.wasm_tree.specs.declared.which.Which.TheVariants as which
 use Rattle.wasm_tree.specs.Limits.{limit}
-use Rattle.std.specs.List.{flat_map}
 use Rattle.std.proofs.lemmas.Bool.Decides.{nat_tests}
 use Rattle.wasm_tree.specs.declared.module.Module.{Module}
 use Rattle.base_lists.specs.Every.{Every}
 use Rattle.wasm_meaning.specs.World.{defined_count, defined_before}
-use Rattle.wasm_meaning.specs.Linking.{Part, sites_in, sites_from}
+use Rattle.wasm_meaning.specs.Linking.{Part, sites_in, sites_from, sites}
+use Rattle.base_lists.specs.Places.{count_of}
+use Rattle.merge_terms.specs.Merged.{imports_kind}
 use Rattle.merge_terms.specs.Joined as joined
 use Rattle.tools_cli.specs.Words.{Text, Source, Merge}
 use Rattle.tools_cli.specs.Effects.{Entry}
@@ -20,10 +21,6 @@ use Rattle.tools_cli.proofs.Limits.{IsWithinLimits, read_within}
 
 abbrev pub EachWithin : List Part → Type 0
 EachWithin = Every (λ (p : Part). IsWithinLimits p.«module»)
-
-types_few : (ps : List Part) → EachWithin ps → length (flat_map (λ (p : Part). p.«module».types) ps) ≤ limit which.Types * length ps
-types_few [] h = omega arith
-types_few (p ∷ ps) h = let whole = length-append p.«module».types (flat_map (λ (p : Part). p.«module».types) ps) in omega (arith, whole, h.0.types, types_few ps h.1)
 
 length_sites_in : (p n k : ℕ) → length (sites_in p n k) ≡ n
 length_sites_in p zero k = refl
@@ -69,13 +66,27 @@ defined_few k [] n h = omega arith
 defined_few k (p ∷ ps) zero h = omega arith
 defined_few k (p ∷ ps) (suc n) h = omega (arith, count_few k p.«module» h.0, most_few k, defined_few k ps n h.1)
 
+count_most : {A : Type 0} (test : A → Bool) (xs : List A) → count_of test xs ≤ length xs
+count_most test [] = omega arith
+count_most test (x ∷ xs) = by (test x) (count_most test xs)
+  where
+    by : (b : Bool) → count_of test xs ≤ length xs → cond b (suc (count_of test xs)) (count_of test xs) ≤ suc (length xs)
+    by true h = omega (arith, h)
+    by false h = omega (arith, h)
+
+added_few : (k : Space) → joined.most_added k ≤ 1
+added_few Types = omega arith
+added_few Functions = omega arith
+added_few Tables = omega arith
+added_few Memories = omega arith
+added_few Globals = omega arith
+added_few ElementSegments = omega arith
+added_few DataSegments = omega arith
+
 few_in_all : (ps : List Part) → length ps ≤ limit which.Parts → EachWithin ps → joined.FewInAll ps
 few_in_all ps few h = record {
   parts_few = omega arith;
-  types = omega (arith, types_few ps h);
-  entities = λ k. omega (arith, sites_few 0 ps h, defined_few k ps (length ps) h);
-  elems = omega (arith, defined_few ElementSegments ps (length ps) h);
-  datas = omega (arith, defined_few DataSegments ps (length ps) h);
+  entries = λ k. omega (arith, count_most (imports_kind ps k) (sites ps), sites_few 0 ps h, defined_few k ps (length ps) h, added_few k);
 }
 
 -- ---- the parts of a merge
@@ -98,6 +109,9 @@ parts_count (s ∷ sources) (tree ∷ trees) = omega (arith, parts_count sources
 
 pub parts_few : (sources : List Source) (files : List Entry) (trees : List Module) → length sources ≤ most_parts → AllLoad files trees → joined.FewInAll (parts_of sources trees)
 parts_few sources files trees few h = few_in_all (parts_of sources trees) (omega (arith, parts_count sources trees)) (parts_within sources files trees h)
+
+pub imports_few : (sources : List Source) (files : List Entry) (trees : List Module) → length sources ≤ most_parts → AllLoad files trees → length (sites (parts_of sources trees)) < 2 ^ 32
+imports_few sources files trees few h = let within = sites_few 0 (parts_of sources trees) (parts_within sources files trees h) in omega (arith, parts_count sources trees, within)
 
 pub as_many : (files : List Entry) (trees : List Module) → AllLoad files trees → length trees ≡ length files
 as_many [] [] h = refl

@@ -8,6 +8,7 @@ ghost use Rattle.tools_cli.specs.Job.{Decides, Done, Loads, AllLoad, Writes, Are
 ghost use Rattle.tools_cli.specs.Causes.{total, StopsLoading, StopsLoadingAll, StopsValidating, StopsEncoding, StopsDeciding, StopsMerging, LoadAndMerge, IsRefusal, AreOutputs};
 ghost use Rattle.merge_terms.specs.Parts.{named_modules, HaveDistinctNames};
 ghost use Rattle.merge_terms.specs.Joined.{FewInAll};
+ghost use Rattle.wasm_meaning.specs.Linking.{sites};
 
 use crate::gather::Input;
 use crate::merge::{Merge, Source};
@@ -144,6 +145,7 @@ fn name_parts(
 // The module that parts are merged into.
 fn merge_parts<'a>(alloc: Global, merge: &Merge<'a>, parts: Items<Part>) -> Result<Valid, Stop<'a>>
     requires names { HaveDistinctNames parts }
+    requires imports { length (sites (named_modules parts)) < 2 ^ 32 }
     requires few { FewInAll (named_modules parts) }
     ensures merged { IfOk result (λ tree. AreMerged (named_modules parts) merge.now.mode tree) }
     ensures stops { IfErr result (StopsMerging (source_values merge.now.sources.items) merge.now.mode (named_modules parts)) }

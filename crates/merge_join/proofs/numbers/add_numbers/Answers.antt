@@ -1,6 +1,6 @@
 use Rattle.std.proofs.Common.{◌∙◌, sym, ap, ◌+◌, ◌++◌, ◌∷◌, [], append_assoc}
+use Rattle.base_lists.proofs.Numbers.{numbers_more}
 use Rattle.wasm_meaning.specs.World.{numbers}
-use Rattle.merge_join.proofs.NumberLists.{numbers_more}
 use Rattle.merge_join.proofs.numbers.add_numbers.Goals as goal
 
 pub loop-at-preserved : goal.loop-at-preserved

@@ -1,12 +1,11 @@
 use Rattle.std.proofs.Common.{map}
 use Rattle.merge_terms.specs.Parts.{named_modules}
 use Rattle.merge_terms.specs.Merged.{map_of, merged_data}
-use Rattle.merge_join.proofs.ByPart.{part_more}
-use Rattle.merge_join.proofs.PartMaps.{module_here}
+use Rattle.merge_join.proofs.ByPart.{part_more, module_exists}
 use Rattle.merge_join.proofs.segments.merged_datas.Goals as goal
 
 pub loop-part-preserved : goal.loop-part-preserved
 loop-part-preserved c =
     let ps = named_modules c.args.joining.now.parts.now in
-    let m = module_here c.args.joining.now.parts.now c.loop-part.part c.loop-part-test.true in
+    let m = module_exists c.args.joining.now.parts.now c.loop-part.part c.loop-part-test.true in
     part_more (λ p m. map (merged_data ps p (map_of ps p m)) m.datas) ps c.loop-part.part m.0 c.loop-part.all c.add_datas.new.all m.1 c.loop-part.invariant (c.in_ok-add_datas.ensures m.0 m.1)

@@ -16,7 +16,7 @@ next_place-requires c =
     let p = c.args.part in
     let n = c.loop-import.import in
     let m = c.module_of.result.now in
-    let taken : cond c.is_picked-taken.result 1 0 ≡ cond (picked ps k (site p n)) 1 0 = ap (λ (b : Bool). cond b 1 0) c.is_picked-taken.ensures in
+    let taken = ap (λ (b : Bool). c.loop-import.count + cond b 1 0) c.is_picked-taken.ensures in
     omega (arith, taken, c.loop-import.invariant.count_is, count_few ps k p n m c.module_of.ensures.at (omega (arith, c.len-import-end.ensures)), staying_few ps k, c.requires.linked.few.entries k)
 
 pub loop-import-preserved : goal.loop-import-preserved

@@ -1,4 +1,5 @@
-use Rattle.std.proofs.Common.{◌≡◌, ◌≤◌, ◌∙◌, sym, ap, subst, length, arith}
+use Rattle.std.proofs.Common.{◌≡◌, ◌<◌, ◌≤◌, ◌^◌, ◌∙◌, sym, ap, subst, List, length, arith}
+use Rattle.wasm_meaning.specs.Linking.{Part, sites}
 use Rattle.std.proofs.lemmas.Result.{IfErr-weaker}
 use Rattle.merge_terms.specs.Parts.{named_modules}
 use Rattle.merge_terms.specs.Joined.{FewInAll}
@@ -9,7 +10,7 @@ use Rattle.tools_cli.proofs.Deciding.{length_once, inputs_once, loading_stops, m
 use Rattle.tools_cli.specs.Words.{are_apart}
 use Rattle.tools_cli.proofs.Lines.{names_once}
 use Rattle.tools_cli.proofs.Apart.{parts_apart}
-use Rattle.tools_cli.proofs.FewInAll.{parts_few, as_many}
+use Rattle.tools_cli.proofs.FewInAll.{parts_few, imports_few, as_many}
 use Rattle.tools_cli.proofs.plan.merge_inputs.Goals as goal
 
 pub returns-in-Err-clause-stops : goal.returns-in-Err-clause-stops
@@ -34,6 +35,16 @@ merge_parts-requires-clause-few c =
     let few = c.requires.few in
     let short : length (source_values xs) ≤ most_parts = omega arith in
     subst FewInAll (sym named) (parts_few (source_values xs) (input_entries c.args.inputs.now) trees short c.in-Ok.ensures.loaded)
+
+pub merge_parts-requires-clause-imports : goal.merge_parts-requires-clause-imports
+merge_parts-requires-clause-imports c =
+    let xs = c.args.merge.now.sources.items in
+    let trees = c.in-Ok.modules.items in
+    let named : named_modules c.in-Ok-name_parts.parts ≡ parts_of (source_values xs) trees = c.in-Ok-name_parts.ensures ∙ ap (λ l. parts_of (source_values l) trees) c.as_slice.ensures.value in
+    let same = length_once xs in
+    let few = c.requires.few in
+    let short : length (source_values xs) ≤ most_parts = omega arith in
+    subst (λ (ps : List Part). length (sites ps) < 2 ^ 32) (sym named) (imports_few (source_values xs) (input_entries c.args.inputs.now) trees short c.in-Ok.ensures.loaded)
 
 pub merge_parts-requires-clause-names : goal.merge_parts-requires-clause-names
 merge_parts-requires-clause-names c =
