@@ -48,6 +48,7 @@ use Rattle.base_lists.proofs.Places.{map_from, append_right}
 use Rattle.base_lists.proofs.Filtered.{place_of}
 use Rattle.base_lists.proofs.Options.{and_then_is, unwrap_or_false_is, all_there_at}
 use Rattle.std.proofs.lemmas.Option.{same_Some}
+use Rattle.merge_worlds.proofs.AllocatedLists.{at_is}
 
 -- ---- segments leave the functions as they are ----
 
@@ -105,11 +106,6 @@ segments_keep_funcs env parts insts s =
     (λ t. in_turn_keeps (run_data env parts insts) (data_keeps env parts insts) t (data_tasks 0 parts insts))
 
 -- ---- look-ups ----
-
-pub at_is : {A : Type 0} (xs : List A) (n : ℕ) (x : A) → slice_get xs n ≡ Some x → at xs n ≡ Gives x
-at_is [] n x h = absurd (let k = h in cc)
-at_is (y ∷ xs) zero x h = let same : y ≡ x = cc in ap Gives same
-at_is (y ∷ xs) (suc n) x h = at_is xs n x h
 
 given_is : {A : Type 0} (o : Outcome A) (a : A) → given o ≡ Some a → o ≡ Gives a
 given_is (Gives b) a h = let same : b ≡ a = cc in ap Gives same

@@ -55,11 +55,11 @@ map_globals : (parts : List Part) (p : ℕ) (m : Module) → (map_of parts p m).
 unfolding map_of
 map_globals parts p m = refl
 
-map_elems : (parts : List Part) (p : ℕ) (m : Module) → (map_of parts p m).elems ≡ numbers (defined_before ElementSegments parts p) (length m.elems)
+pub map_elems : (parts : List Part) (p : ℕ) (m : Module) → (map_of parts p m).elems ≡ numbers (defined_before ElementSegments parts p) (length m.elems)
 unfolding map_of
 map_elems parts p m = refl
 
-map_datas : (parts : List Part) (p : ℕ) (m : Module) → (map_of parts p m).datas ≡ numbers (defined_before DataSegments parts p) (length m.datas)
+pub map_datas : (parts : List Part) (p : ℕ) (m : Module) → (map_of parts p m).datas ≡ numbers (defined_before DataSegments parts p) (length m.datas)
 unfolding map_of
 map_datas parts p m = refl
 

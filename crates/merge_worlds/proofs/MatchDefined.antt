@@ -1,5 +1,5 @@
 -- An entity that a part defines fits what is asked for, where its type and its limits do: what is allocated for it has its type, its least size and its maximum.
-use Rattle.std.proofs.Common.{◌≡◌, ℕ, zero, suc, ◌+◌, ◌-◌, ◌≤◌, List, [], ◌∷◌, ◌++◌, map, length, Option, Some, None, true, refl, sym, ap, ap₂, ◌∙◌, arith, ◌&&◌, is_some}
+use Rattle.std.proofs.Common.{◌≡◌, ℕ, ◌+◌, ◌-◌, ◌≤◌, List, ◌++◌, map, length, Option, Some, None, true, refl, sym, ap, ap₂, ◌∙◌, arith, ◌&&◌, is_some}
 use Rattle.wasm_tree.specs.declared.space.Space.{Space}
 use Rattle.wasm_tree.specs.declared.space.Space.TheVariants.{Functions, Tables, Memories, Globals}
 use Rattle.wasm_tree.specs.Operands.{same_space}
@@ -14,7 +14,7 @@ use Rattle.wasm_tree.specs.declared.module.ExportDesc.{ExportDesc}
 use Rattle.wasm_tree.specs.declared.module.ExportDesc.TheVariants as ex
 use Rattle.wasm_tree.specs.declared.module.Module.{Module}
 use Rattle.wasm_tree.specs.Spaces.{func_of, table_of, memory_of, global_of, imported_funcs, imported_tables, imported_memories, imported_globals, funcs_of, tables_of, memories_of, globals_of, type_of_func, index_of_export, space_of_export, space_of_import}
-use Rattle.wasm_meaning.specs.Outcomes.{Gives, bind, at}
+use Rattle.wasm_meaning.specs.Outcomes.{Gives, bind}
 use Rattle.wasm_meaning.specs.State.{Inst, Code, Global, Store}
 use Rattle.wasm_meaning.specs.Values.{same_ref, same_type, same_func_type, null_of, declared}
 use Rattle.wasm_meaning.specs.Control as control
@@ -31,6 +31,7 @@ use Rattle.base_lists.proofs.Places.{map_from, append_right}
 use Rattle.base_lists.proofs.Filtered.{places_many}
 use Rattle.base_lists.proofs.Options.{and_then_is}
 use Rattle.std.proofs.lemmas.Bool.{and_from}
+use Rattle.merge_worlds.proofs.AllocatedLists.{at_is}
 
 -- ---- how many are imported ----
 
@@ -77,11 +78,6 @@ own_global : (m : Module) (i : ℕ) (t : GlobalType) → length (imports_of Glob
 own_global m i t = after (imported_globals m.imports) (map (λ g. g.ty) m.globals) (length (imports_of Globals m)) i t (places_many (has_kind Globals) (λ x. global_of x.desc) m.imports (λ x. global_kind x.desc) 0)
 
 -- ---- what fits ----
-
-at_is : {A : Type 0} (xs : List A) (n : ℕ) (x : A) → slice_get xs n ≡ Some x → at xs n ≡ Gives x
-at_is [] n x h = cc
-at_is (y ∷ xs) zero x h = let same : y ≡ x = cc in ap Gives same
-at_is (y ∷ xs) (suc n) x h = at_is xs n x h
 
 func_fits : (s : Store) (a : ℕ) (d : External) (t : FuncType) → type_at s a ≡ Gives t → same_but_limits d (FuncOf t) ≡ true → fits s d (FuncAt a) ≡ Some true
 func_fits s a (FuncOf u) t e h = ap (λ o. option_and_then (λ v. Some (same_func_type u v)) (given o)) e ∙ ap Some h

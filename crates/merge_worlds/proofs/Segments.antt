@@ -42,6 +42,7 @@ use Rattle.merge_worlds.proofs.SegmentStores.{goes_on, and_then_alike, or_trappe
 use Rattle.merge_worlds.proofs.SegmentTurns.{tasks_by, elems_by, datas_by, elems_start, datas_start, elems_next, datas_next, task, PartDoes, by_parts}
 use Rattle.std.proofs.lemmas.Option.{slice_get_within}
 use Rattle.base_lists.proofs.Places.{map_from}
+use Rattle.merge_worlds.proofs.Instances.{map_elems, map_datas}
 
 -- constant expressions of the parts and what they become have the same values
 abbrev pub ValuesAgree : Environment → List Part → Mode → List Inst → List Inst → Type 0
@@ -92,14 +93,6 @@ tables_many parts p m = map_length _ (numbers 0 (length (tables_of m))) ∙ numb
 mems_many : (parts : List Part) (p : ℕ) (m : Module) → length (map_of parts p m).mems ≡ length (memories_of m)
 unfolding map_of
 mems_many parts p m = map_length _ (numbers 0 (length (memories_of m))) ∙ numbers_length 0 (length (memories_of m))
-
-elem_places : (parts : List Part) (p : ℕ) (m : Module) → (map_of parts p m).elems ≡ numbers (defined_before ElementSegments parts p) (length m.elems)
-unfolding map_of
-elem_places parts p m = refl
-
-data_places : (parts : List Part) (p : ℕ) (m : Module) → (map_of parts p m).datas ≡ numbers (defined_before DataSegments parts p) (length m.datas)
-unfolding map_of
-data_places parts p m = refl
 
 -- the entry of a segment is its place among all
 entry_is : (entries : List ℕ) (n count x : ℕ) → entries ≡ numbers n count → x < count → slice_index entries x ≡ n + x
@@ -197,13 +190,13 @@ module _ (env : Environment) (parts : List Part) (mode : Mode) where
         PartDoes env parts (run_elem env parts insts) (run_elem env M js) insts j (λ m. m.elems) (λ i. i.elems) (λ p m. merged_elem parts p (map_of parts p m)) (defined_before ElementSegments parts) p m
     elems_do p m is =
         let i = agree.each p m is in
-        let size : length (map_of parts p m).elems ≡ length m.elems = entries_many (map_of parts p m).elems (defined_before ElementSegments parts p) (length m.elems) (elem_places parts p m) in
+        let size : length (map_of parts p m).elems ≡ length m.elems = entries_many (map_of parts p m).elems (defined_before ElementSegments parts p) (length m.elems) (map_elems parts p m) in
         record {
           inst = i.0;
           is = i.1;
           same = λ x l.
               let o = i.2.elems.each x (omega (arith, l, size)) in
-              record { address = o.address; first = o.first; second = ap (slice_get j.elems) (sym (entry_is (map_of parts p m).elems (defined_before ElementSegments parts p) (length m.elems) x (elem_places parts p m) l)) ∙ o.second };
+              record { address = o.address; first = o.first; second = ap (slice_get j.elems) (sym (entry_is (map_of parts p m).elems (defined_before ElementSegments parts p) (length m.elems) x (map_elems parts p m) l)) ∙ o.second };
           each = λ x a e h at s z like.
               let l = slice_get_within m.elems x e (h) in
               let o = i.2.elems.each x (omega (arith, l, size)) in
@@ -261,13 +254,13 @@ module _ (env : Environment) (parts : List Part) (mode : Mode) where
         PartDoes env parts (run_data env parts insts) (run_data env M js) insts j (λ m. m.datas) (λ i. i.datas) (λ p m. merged_data parts p (map_of parts p m)) (defined_before DataSegments parts) p m
     datas_do p m is =
         let i = agree.each p m is in
-        let size : length (map_of parts p m).datas ≡ length m.datas = entries_many (map_of parts p m).datas (defined_before DataSegments parts p) (length m.datas) (data_places parts p m) in
+        let size : length (map_of parts p m).datas ≡ length m.datas = entries_many (map_of parts p m).datas (defined_before DataSegments parts p) (length m.datas) (map_datas parts p m) in
         record {
           inst = i.0;
           is = i.1;
           same = λ x l.
               let o = i.2.datas.each x (omega (arith, l, size)) in
-              record { address = o.address; first = o.first; second = ap (slice_get j.datas) (sym (entry_is (map_of parts p m).datas (defined_before DataSegments parts p) (length m.datas) x (data_places parts p m) l)) ∙ o.second };
+              record { address = o.address; first = o.first; second = ap (slice_get j.datas) (sym (entry_is (map_of parts p m).datas (defined_before DataSegments parts p) (length m.datas) x (map_datas parts p m) l)) ∙ o.second };
           each = λ x a d h at s z like. data_alike p m i.0 a d is i.2 (data_holds p m x d is h) like;
         }
 

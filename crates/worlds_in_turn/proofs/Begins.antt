@@ -21,13 +21,14 @@ use Rattle.worlds_in_turn.proofs.Extends.{TableExtends, MemoryExtends, GlobalExt
 use Rattle.worlds_in_turn.proofs.Extends as extends
 use Rattle.worlds_in_turn.proofs.Joined.{made_upto}
 use Rattle.worlds_in_turn.proofs.Reached.{is_reached, reaching, shares_own}
-use Rattle.worlds_in_turn.proofs.Turn.{Sized, Holds, place_at}
+use Rattle.worlds_in_turn.proofs.Turn.{Sized, Holds}
 use Rattle.worlds_in_turn.proofs.Closed.{table_more, global_more, elem_more, val_more, list_more, self_by, Closed, Sound, own_func, func_self}
 use Rattle.worlds_in_turn.proofs.Beside.{at_low, at_high, both_list, Beside, stores_related, sound_joined, more}
 use Rattle.worlds_in_turn.proofs.Filling.{own_fill, all_fill}
 use Rattle.worlds_in_turn.proofs.Given.{IsGiven, IsTurn, starts_from, filled_in, turned}
 use Rattle.worlds_in_turn.proofs.Waiting.{within, adds_closed, adds_sound}
 use Rattle.std.proofs.lemmas.List.{length-append}
+use Rattle.worlds_in_turn.proofs.Things.{place_at}
 
 -- ---- joined stores ----
 

@@ -206,7 +206,7 @@ module _ (law : CodeIsRelatedToItself) (env : Environment) (parts : List Part) (
       go (inr high) =
           let j = a - length fs in
           let n : length fs + j ≡ a = omega (arith, high) in
-          new j f (Rattle.worlds_in_turn.proofs.Turn.at_place (laid.adds p).funcs j f (sym (at_high fs (laid.adds p).funcs j) ∙ ap (at (fs ++ (laid.adds p).funcs)) n ∙ e))
+          new j f (Rattle.worlds_in_turn.proofs.Things.at_place (laid.adds p).funcs j f (sym (at_high fs (laid.adds p).funcs j) ∙ ap (at (fs ++ (laid.adds p).funcs)) n ∙ e))
 
   pub at_allocated_funcs : (j : ℕ) → j < length (laid.adds p).funcs → at allocated.funcs (base env parts Functions p + j) ≡ at (laid.adds p).funcs j
   at_allocated_funcs = stands allocated.funcs (laid.first p).funcs (laid.adds p).funcs (laid.rest p).funcs (laid.rest (suc p)).funcs (base env parts Functions p) (ap (λ s. s.funcs) whole) (ap (λ s. s.funcs) tail) sizes.funcs

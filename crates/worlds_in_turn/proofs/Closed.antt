@@ -1,5 +1,5 @@
 -- A store that refers to nothing beyond what the environment and the first parts have, and what a part adds to it.
-use Rattle.std.proofs.Common.{◌≡◌, ◌∙◌, refl, ap, subst, ℕ, zero, suc, ◌<◌, List, [], ◌∷◌, map, Option, Some, option_and_then, slice_get}
+use Rattle.std.proofs.Common.{◌≡◌, ◌∙◌, refl, ap, subst, ℕ, suc, ◌<◌, List, [], ◌∷◌, map, Option, Some, option_and_then, slice_get}
 use Rattle.wasm_tree.specs.declared.space.Space.{Space}
 use Rattle.wasm_tree.specs.declared.space.Space.TheVariants.{Functions, Tables, Memories, Globals, ElementSegments, DataSegments}
 use Rattle.wasm_tree.specs.declared.types.RefType.{RefType}
@@ -23,7 +23,7 @@ use Rattle.wasm_meaning.specs.World.{given, all_there, new_func, global_with, ne
 use Rattle.index_remap.specs.Related.{Pairing, none, some, ListRel, nil, cons, RefRel, func, extern, ValRel, number, reference, FuncRel, defined, own, TableRel, GlobalRel, ElemRel}
 use Rattle.index_remap.specs.Laws.{NamesItself, CodeIsRelatedToItself}
 use Rattle.index_remap.proofs.Rel.{copies_rel}
-use Rattle.worlds_in_turn.proofs.Things.{space_in}
+use Rattle.worlds_in_turn.proofs.Things.{space_in, at_place}
 use Rattle.worlds_in_turn.proofs.Reached.{count_upto, is_reached, reaching, reached_at}
 use Rattle.base_lists.proofs.Options.{and_then_is}
 use Rattle.std.proofs.lemmas.Option.{same_Some}
@@ -93,24 +93,14 @@ pub record Reaches (env : Environment) (parts : List Part) (p : ℕ) (i : Inst) 
   pub elems : (n a : ℕ) → slice_get i.elems n ≡ Some a → a < count_upto env parts p ElementSegments
   pub datas : (n a : ℕ) → slice_get i.datas n ≡ Some a → a < count_upto env parts p DataSegments
 
-at_is_place : {A : Type 0} (xs : List A) (n : ℕ) (x : A) → at xs n ≡ Gives x → slice_get xs n ≡ Some x
-at_is_place [] n x e = cc
-at_is_place (y ∷ ys) zero x e = let s : y ≡ x = cc in ap Some s
-at_is_place (y ∷ ys) (suc n) x e = at_is_place ys n x e
-
-place_is_at : {A : Type 0} (xs : List A) (n : ℕ) (x : A) → slice_get xs n ≡ Some x → at xs n ≡ Gives x
-place_is_at [] n x e = cc
-place_is_at (y ∷ ys) zero x e = ap Gives (same_Some _ _ e)
-place_is_at (y ∷ ys) (suc n) x e = place_is_at ys n x e
-
 pub names_itself : (env : Environment) (parts : List Part) (p : ℕ) (i : Inst) → Reaches env parts p i → NamesItself (reaching env parts p) i
 names_itself env parts p i r = record {
-  funcs = λ n a e. reached_at env parts p Functions a (r.spaces Functions n a (at_is_place i.funcs n a e));
-  tables = λ n a e. reached_at env parts p Tables a (r.spaces Tables n a (at_is_place i.tables n a e));
-  mems = λ n a e. reached_at env parts p Memories a (r.spaces Memories n a (at_is_place i.mems n a e));
-  globals = λ n a e. reached_at env parts p Globals a (r.spaces Globals n a (at_is_place i.globals n a e));
-  elems = λ n a e. reached_at env parts p ElementSegments a (r.elems n a (at_is_place i.elems n a e));
-  datas = λ n a e. reached_at env parts p DataSegments a (r.datas n a (at_is_place i.datas n a e));
+  funcs = λ n a e. reached_at env parts p Functions a (r.spaces Functions n a (at_place i.funcs n a e));
+  tables = λ n a e. reached_at env parts p Tables a (r.spaces Tables n a (at_place i.tables n a e));
+  mems = λ n a e. reached_at env parts p Memories a (r.spaces Memories n a (at_place i.mems n a e));
+  globals = λ n a e. reached_at env parts p Globals a (r.spaces Globals n a (at_place i.globals n a e));
+  elems = λ n a e. reached_at env parts p ElementSegments a (r.elems n a (at_place i.elems n a e));
+  datas = λ n a e. reached_at env parts p DataSegments a (r.datas n a (at_place i.datas n a e));
 }
 
 -- functions of the environment's own, and code over an instance that reaches no further

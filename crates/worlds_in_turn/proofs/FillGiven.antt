@@ -11,7 +11,7 @@ use Rattle.wasm_meaning.specs.World.{given, is_matched, insts_from, own_store, s
 use Rattle.wasm_meaning.specs.InTurn.{JoinsEarlier}
 use Rattle.worlds_in_turn.proofs.Extends.{TableExtends, MemoryExtends, EachExtends, each_then, each_put, each_stays, table_stays, memory_stays, global_stays, overwritten_length}
 use Rattle.worlds_in_turn.proofs.Joined.{ExportsThere}
-use Rattle.worlds_in_turn.proofs.Turn.{Sized, Holds, SitesThere, place_at, at_place}
+use Rattle.worlds_in_turn.proofs.Turn.{Sized, Holds, SitesThere}
 use Rattle.worlds_in_turn.proofs.Beside.{Laid, at_low}
 use Rattle.worlds_in_turn.proofs.FillStores.{or_no_store, added_at, added_is, rest_for, rest_from, rest_last, first_stores, first_parts, part_adds, Lengths, module_low}
 use Rattle.worlds_in_turn.proofs.FillValues.{Constant, HoldsFixed, value_same}
@@ -25,6 +25,7 @@ use Rattle.worlds_in_turn.proofs.FillNext.{Next}
 use Rattle.std.proofs.lemmas.Option.{slice_get_within, same_Some}
 use Rattle.base_lists.proofs.Options.{and_then_is}
 use Rattle.base_lists.proofs.Places.{append_at_left, append_right}
+use Rattle.worlds_in_turn.proofs.Things.{place_at, at_place}
 
 -- ---- the sites are the imports ----
 

@@ -37,11 +37,6 @@ use Rattle.std.proofs.lemmas.Option.{slice_get_within, same_Some}
 
 -- ---- lists ----
 
-place_get : {A : Type 0} (xs : List A) (n : ℕ) → slice_get xs n ≡ slice_get xs n
-place_get [] n = refl
-place_get (x ∷ xs) zero = refl
-place_get (x ∷ xs) (suc n) = place_get xs n
-
 -- ---- imports of a kind, and what they add to its space ----
 
 same_many : {A : Type 0} (k : Space) (f : ImportDesc → Option A) → ((d : ImportDesc) → is_there (f d) ≡ same_space k (space_of_import d)) → (is : List Import) (off : ℕ) → length (filter_map (λ i. f i.desc) is) ≡ length (places (has_kind k) is off)
@@ -157,7 +152,7 @@ module _ (items : (m : Module) → IsValid m ↔ ((k : ItemKind) (i : ℕ) → i
   pub valid_constants : (m : Module) → IsValid m → Constants m
   valid_constants m valid = record {
     globals = λ n g at. constant_typed m g.init g.ty.ty (global_typed n g at);
-    items = λ n s at l e here. constant_typed m e (Ref s.ty) (((elem_holds n s at).0) l e (sym (place_get s.items l) ∙ here));
+    items = λ n s at l e here. constant_typed m e (Ref s.ty) (((elem_holds n s at).0) l e (here));
     tables = λ n s x e at mode. let h = subst (ElemModeHolds m s.ty) mode (elem_holds n s at).1 in constant_typed m e _ h.1;
     memories = λ n s x e at mode. let h = subst (DataModeHolds m) mode (data_holds n s at) in constant_typed m e _ h.1;
   }
@@ -165,19 +160,19 @@ module _ (items : (m : Module) → IsValid m ↔ ((k : ItemKind) (i : ℕ) → i
       global_typed : (n : ℕ) (g : GlobalDef) → slice_get m.globals n ≡ Some g → const_type m g.init ≡ Some g.ty.ty
       global_typed n g h =
           let z = (items m).0 valid kind.Global n (slice_get_within m.globals n g h) in
-          let same : z.0 ≡ g = same_Some _ _ (sym z.1 ∙ sym (place_get m.globals n) ∙ h) in
+          let same : z.0 ≡ g = same_Some _ _ (sym z.1 ∙ h) in
           subst (λ (g : GlobalDef). const_type m g.init ≡ Some g.ty.ty) same z.2
 
       elem_holds : (n : ℕ) (s : ElemSeg) → slice_get m.elems n ≡ Some s → ((l : ℕ) (e : ConstExpr) → slice_get s.items l ≡ Some e → const_type m e ≡ Some (Ref s.ty)) × ElemModeHolds m s.ty s.mode
       elem_holds n s h =
           let z = (items m).0 valid kind.Elem n (slice_get_within m.elems n s h) in
-          let same : z.0 ≡ s = same_Some _ _ (sym z.1 ∙ sym (place_get m.elems n) ∙ h) in
+          let same : z.0 ≡ s = same_Some _ _ (sym z.1 ∙ h) in
           subst (λ (s : ElemSeg). ((l : ℕ) (e : ConstExpr) → slice_get s.items l ≡ Some e → const_type m e ≡ Some (Ref s.ty)) × ElemModeHolds m s.ty s.mode) same (z.2, z.3)
 
       data_holds : (n : ℕ) (s : DataSeg) → slice_get m.datas n ≡ Some s → DataModeHolds m s.mode
       data_holds n s h =
           let z = (items m).0 valid kind.Segment n (slice_get_within m.datas n s h) in
-          let same : z.0 ≡ s = same_Some _ _ (sym z.1 ∙ sym (place_get m.datas n) ∙ h) in
+          let same : z.0 ≡ s = same_Some _ _ (sym z.1 ∙ h) in
           subst (λ (s : DataSeg). DataModeHolds m s.mode) same z.2
 
   -- ---- exports ----
@@ -214,5 +209,5 @@ module _ (items : (m : Module) → IsValid m ↔ ((k : ItemKind) (i : ℕ) → i
   valid_exports parts valid p m field d is_part named =
       let e = export_found m.exports field d named in
       let z = (items m).0 (valid p m is_part) kind.Export e.0 (slice_get_within m.exports e.0 e.1 e.2) in
-      let same : z.0 ≡ e.1 = same_Some _ _ (sym z.1 ∙ sym (place_get m.exports e.0) ∙ e.2) in
+      let same : z.0 ≡ e.1 = same_Some _ _ (sym z.1 ∙ e.2) in
       in_space m d (subst (InSpace m) (ap (λ e. e.desc) same ∙ e.3) z.2)

@@ -22,7 +22,7 @@ use Rattle.index_remap.proofs.Rel.{put_rel, overwrite_rel, at_rel}
 use Rattle.worlds_in_turn.proofs.Extends
 use Rattle.worlds_in_turn.proofs.Extends.{TableExtends, MemoryExtends, Extends, stays, Extending, table, memory, elem_drops, data_drops, changed_extends, overwritten_length}
 use Rattle.worlds_in_turn.proofs.Closed.{Closed}
-use Rattle.worlds_in_turn.proofs.Turn.{place_at}
+use Rattle.worlds_in_turn.proofs.Things.{place_at}
 
 pub record Fills (R : Pairing) (s : Store) (f : Filled) : Type 0 where
   pub extends : Extends s f.store

@@ -21,9 +21,9 @@ use Rattle.wasm_meaning.specs.World.{given, base, address_of, import_type, impor
 use Rattle.wasm_meaning.specs.InTurn.{JoinsEarlier}
 use Rattle.index_remap.specs.Laws.{CodeIsRelatedToItself}
 use Rattle.std.proofs.lemmas.Option.{slice_get_within, same_Some}
-use Rattle.worlds_in_turn.proofs.Things.{IsInst, inst_is, space_is, func_is}
+use Rattle.worlds_in_turn.proofs.Things.{IsInst, inst_is, space_is, func_is, place_at}
 use Rattle.worlds_in_turn.proofs.Joined.{ExportsThere, inst_of_part}
-use Rattle.worlds_in_turn.proofs.Turn.{SitesThere, all_is, place_at}
+use Rattle.worlds_in_turn.proofs.Turn.{SitesThere, all_is}
 use Rattle.worlds_in_turn.proofs.Beside.{Laid, at_allocated_funcs}
 use Rattle.base_lists.proofs.Places.{map_from, append_from, slice_get_there, append_at_left, append_right}
 use Rattle.base_lists.proofs.Filtered.{place_of, places_many}

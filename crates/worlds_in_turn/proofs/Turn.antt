@@ -17,7 +17,7 @@ use Rattle.wasm_meaning.specs.World.{given, defined_count, base, imported_thing,
 use Rattle.wasm_meaning.specs.InTurn.{next_inst, all_match, thing_for, JoinsEarlier}
 use Rattle.permuted_worlds.specs.Owned.{OwnEntitiesCorrespond}
 use Rattle.worlds_in_turn.proofs.Extends.{TableExtends, MemoryExtends, GlobalExtends}
-use Rattle.worlds_in_turn.proofs.Things.{inst_is, space_is, each_from, gathered}
+use Rattle.worlds_in_turn.proofs.Things.{inst_is, space_is, each_from, gathered, place_at, at_place}
 use Rattle.worlds_in_turn.proofs.Joined.{ExportsThere, made_upto, thing_same, inst_of_part}
 use Rattle.worlds_in_turn.proofs.Low.{thing_low}
 use Rattle.base_lists.proofs.Options.{and_then_is}
@@ -41,16 +41,6 @@ pub record Holds (env : Environment) (parts : List Part) (p : ℕ) (s t : Store)
 
 inst_eq : (i j : Inst) → i.types ≡ j.types → i.funcs ≡ j.funcs → i.tables ≡ j.tables → i.mems ≡ j.mems → i.globals ≡ j.globals → i.elems ≡ j.elems → i.datas ≡ j.datas → i ≡ j
 inst_eq i j a b c d e f g = rw (← a, ← b, ← c, ← d, ← e, ← f, ← g) refl
-
-pub place_at : {A : Type 0} (xs : List A) (n : ℕ) (x : A) → slice_get xs n ≡ Some x → at xs n ≡ Gives x
-place_at [] n x e = cc
-place_at (y ∷ ys) zero x e = ap Gives (same_Some _ _ e)
-place_at (y ∷ ys) (suc n) x e = place_at ys n x e
-
-pub at_place : {A : Type 0} (xs : List A) (n : ℕ) (x : A) → at xs n ≡ Gives x → slice_get xs n ≡ Some x
-at_place [] n x e = cc
-at_place (y ∷ ys) zero x e = let s : y ≡ x = cc in ap Some s
-at_place (y ∷ ys) (suc n) x e = at_place ys n x e
 
 -- ---- matching ----
 

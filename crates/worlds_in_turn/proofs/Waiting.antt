@@ -14,11 +14,11 @@ use Rattle.index_remap.specs.RelatedRuns.{ThingRel, a_func, a_table, a_memory, a
 use Rattle.index_remap.specs.Laws.{CodeIsRelatedToItself, RelatedTicksAgree, OthersStay}
 use Rattle.index_remap.proofs.Rel.{length_rel}
 use Rattle.worlds_in_turn.proofs.Extends.{TableExtends, MemoryExtends, GlobalExtends, Extends}
-use Rattle.worlds_in_turn.proofs.Things.{inst_is}
+use Rattle.worlds_in_turn.proofs.Things.{inst_is, place_at}
 use Rattle.worlds_in_turn.proofs.Joined.{inst_of_part}
 use Rattle.worlds_in_turn.proofs.Reached.{reaching, reached_at, reached_is, elems_next, datas_next}
 use Rattle.worlds_in_turn.proofs.Low.{inst_low, numbers_back}
-use Rattle.worlds_in_turn.proofs.Turn.{Holds, place_at}
+use Rattle.worlds_in_turn.proofs.Turn.{Holds}
 use Rattle.worlds_in_turn.proofs.Closed.{val_more, Closed, Sound, Reaches, added_closed, added_sound}
 use Rattle.worlds_in_turn.proofs.Beside.{Beside, beside_next, more}
 use Rattle.worlds_in_turn.proofs.Making.{Abreast}
