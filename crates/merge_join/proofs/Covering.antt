@@ -1,5 +1,5 @@
 -- The map of a part has an entry for each index of the part's index spaces.
-use Rattle.std.proofs.Common.{◌≡◌, ◌∙◌, sym, ap, refl, subst, ℕ, zero, suc, ◌+◌, ◌<◌, List, [], ◌∷◌, length, map, arith, Some, Bool, true, false, ◌&&◌, true≢false}
+use Rattle.std.proofs.Common.{◌≡◌, ◌∙◌, sym, ap, refl, subst, ℕ, ◌<◌, List, [], ◌∷◌, length, map, arith, Some, Bool, true, false, ◌&&◌, true≢false}
 use Rattle.base_lists.proofs.Numbers.{length-numbers, map_numbers_index}
 use Rattle.wasm_tree.specs.declared.space.Space.TheVariants.{Functions}
 use Rattle.std.specs.Prelude.{slice_index, IsTrue, nat_lt}

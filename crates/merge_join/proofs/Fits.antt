@@ -1,5 +1,5 @@
 -- Where linking finds no fault, each import's end is there, and of the import's kind.
-use Rattle.std.proofs.Common.{◌≡◌, ◌∙◌, sym, ap, refl, subst, inl, inr, ◌⊎◌, ℕ, zero, suc, ◌<◌, List, [], ◌∷◌, ◌++◌, length, arith, slice_get, Bool, true, false, cond, Option, Some, None, unwrap_or, ◌&&◌}
+use Rattle.std.proofs.Common.{◌≡◌, ◌∙◌, sym, ap, refl, subst, inl, inr, ◌⊎◌, ℕ, ◌<◌, List, [], ◌∷◌, ◌++◌, arith, slice_get, Bool, true, false, cond, Option, Some, None, ◌&&◌}
 use Rattle.base_lists.proofs.Options.{and_then_is, unwrap_or_false_is}
 use Rattle.wasm_tree.specs.declared.space.Space.{Space}
 use Rattle.wasm_tree.specs.declared.space.Space.TheVariants.{Functions, Tables, Memories, Globals}

@@ -1,7 +1,7 @@
 -- The merged module, from its lists.
 use Rattle.std.proofs.Common.{◌≡◌, ◌∙◌, ap, refl, ℕ, suc, ◌+◌, ◌<◌, ◌≤◌, ◌^◌, List, [], ◌∷◌, ◌++◌, length, map, arith, Option, Some, None, false, is_some, option_and_then, unwrap_or, slice_get}
 use Rattle.wasm_tree.specs.declared.space.Space.TheVariants.{Functions}
-use Rattle.std.specs.List.{flat_map, filter_map, cons_option}
+use Rattle.std.specs.List.{flat_map, filter_map}
 use Rattle.std.proofs.lemmas.List.{length-append, length-map}
 use Rattle.wasm_tree.specs.declared.types.FuncType.{FuncType}
 use Rattle.wasm_tree.specs.declared.types.TableType.{TableType}

@@ -1,5 +1,5 @@
 -- The merged index space of a kind, as it is written down.
-use Rattle.std.specs.Prelude.{◌≡◌, ℕ, ◌+◌, List, ◌++◌, filter, length, Option, Bool, false, cond, take, ◌&&◌}
+use Rattle.std.specs.Prelude.{◌≡◌, ℕ, ◌+◌, List, ◌++◌, filter, length, Option, Bool, take, ◌&&◌}
 use Rattle.wasm_tree.specs.declared.space.Space.{Space}
 use Rattle.wasm_tree.specs.declared.module.Module.{Module}
 use Rattle.wasm_meaning.specs.World.{defined_before}
