@@ -1,5 +1,5 @@
 -- Instructions on memories and data segments (WebAssembly Core 2.0, section 4.4.7).
-use Rattle.std.proofs.Common.{ℕ, suc, ◌+◌, ◌%◌, List, ◌∷◌, Option, Some, None, Bool, true, false, cond, ◌&&◌}
+use Rattle.std.proofs.Common.{ℕ, suc, ◌+◌, ◌%◌, List, ◌∷◌, Option, Some, None, Bool, true, cond, ◌&&◌}
 use Rattle.std.specs.Prelude.{nat_lt}
 use Rattle.wasm_tree.specs.declared.instr.LoadOp.{LoadOp}
 use Rattle.wasm_tree.specs.declared.instr.StoreOp.{StoreOp}

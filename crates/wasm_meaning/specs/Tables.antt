@@ -1,5 +1,5 @@
 -- Instructions on tables and element segments (WebAssembly Core 2.0, section 4.4.6).
-use Rattle.std.proofs.Common.{ℕ, ◌+◌, ◌^◌, List, [], ◌∷◌, length, Bool, false, cond, ◌&&◌}
+use Rattle.std.proofs.Common.{ℕ, ◌+◌, ◌^◌, List, [], ◌∷◌, length, Bool, cond, ◌&&◌}
 use Rattle.std.specs.Prelude.{nat_lt}
 use Rattle.wasm_meaning.specs.Outcomes.{Outcome, Gives, IllTyped, trapping, bind, at, slice, overwrite, copies}
 use Rattle.wasm_num.specs.Operations.{W32}

@@ -5,7 +5,6 @@ use Rattle.wasm_tree.specs.declared.types.RefType.{RefType}
 use Rattle.wasm_tree.specs.declared.types.RefType.TheVariants as reft
 use Rattle.wasm_tree.specs.declared.types.ValType.{ValType}
 use Rattle.wasm_tree.specs.declared.types.ValType.TheVariants as valt
-use Rattle.wasm_tree.specs.declared.types.FuncType.{FuncType}
 use Rattle.wasm_tree.specs.declared.module.LocalGroup.{LocalGroup}
 pub use Rattle.wasm_tree.specs.SameTypes.{same_ref, same_type, same_types, same_func_type}
 use Rattle.wasm_num.specs.declared.UnOp.{UnOp}
