@@ -38,8 +38,8 @@ pub returns-clause-stops : goal.returns-clause-stops
 returns-clause-stops g c =
     preparing_from_names _ _ _ (task c.args.merge.now) _ c.in-Err.stop (few_parts c.args.merge.now.sources.items c.args.merge.now.output.now c.args.merge.now.mode (search rules)) (ap names_of c.as_slice.ensures.value ∙ c.in-Ok.ensures) c.in-Err.ensures.stops
 
-pub returns-then-len-gt-MOST_PARTS-clause-stops : goal.returns-then-len-gt-MOST_PARTS-clause-stops
-returns-then-len-gt-MOST_PARTS-clause-stops g c =
+pub returns-then-len-clause-stops : goal.returns-then-len-clause-stops
+returns-then-len-clause-stops g c =
     not_begun_at _ (task c.args.merge.now) parts_over_limit (many_parts c.args.merge.now.sources.items c.args.merge.now.output.now c.args.merge.now.mode (search rules))
 
 pub decide-requires-clause-named : goal.decide-requires-clause-named
