@@ -21,7 +21,34 @@ def of_bodies(bodies, exports=b""):
     return HEADER + NOTHING_TO_NOTHING + section(3, count + b"\0" * len(bodies)) + exports + section(10, count + code)
 
 
+WIDE = 1000
+BLOCK, END, NOP, DROP, CALL = b"\x02", b"\x0b", b"\x01", b"\x1a", b"\x10"
+
+
+def of_wide_type(instruction):
+    """One MiB of an instruction of the type [i32 * 1,000] to [i32 * 1,000]; function 1 is of that type."""
+    ints = leb(WIDE) + b"\x7f" * WIDE
+    types = section(1, b"\x02\x60\0\0\x60" + ints + ints)
+    passed_on = b"".join(b"\x20" + leb(local) for local in range(WIDE))
+    wide = b"\x00" + passed_on + END
+    body = b"\x00" + b"\x41\x00" * WIDE + instruction * ((1 << 20) // len(instruction)) + DROP * WIDE + END
+    code = section(10, b"\x02" + leb(len(body)) + body + leb(len(wide)) + wide)
+    return HEADER + types + section(3, b"\x02\x00\x01") + code
+
+
+def of_instructions(text):
+    """One MiB of these instructions, again and again, in one body."""
+    return of_bodies([b"\x00" + text * ((1 << 20) // len(text)) + END])
+
+
 def shapes():
+    yield "blocks of a type of 1,000 parameters and results", of_wide_type(BLOCK + b"\x01" + END)
+    yield "calls of a type of 1,000 parameters and results", of_wide_type(CALL + b"\x01")
+    yield "`block` `block` `end` `end`, again and again", of_instructions((BLOCK + b"\x40") * 2 + END * 2)
+    yield "blocks 999 deep, again and again", of_instructions((BLOCK + b"\x40") * 999 + END * 999)
+    yield "`block` `nop` `end`, again and again", of_instructions(BLOCK + b"\x40" + NOP + END)
+    yield "a million `nop`", of_instructions(NOP)
+    yield "one name of 16,000,000 bytes", of_bodies([b"\x00" + END], section(7, b"\x01" + leb(16000000) + b"n" * 16000000 + b"\0\0"))
     yield "one `br_table` of a million labels", of_bodies([b"\x00\x02\x40\x41\x00\x0e" + leb(1000000) + b"\x00" * 1000001 + b"\x0b\x0b"])
     many_locals = b"\x02" + leb(25000) + b"\x7f" + leb(25000) + b"\x7e\x20" + leb(49999) + b"\x1a\x0b"
     yield "100,000 functions of 50,000 locals each", of_bodies([many_locals] * 100000)
