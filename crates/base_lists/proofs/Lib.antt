@@ -7,3 +7,4 @@ pub mod Filtered
 pub mod Pigeons
 pub mod Walk
 pub mod Found
+pub mod Same

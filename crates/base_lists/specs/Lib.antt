@@ -1,3 +1,4 @@
 pub mod Options
 pub mod Every
 pub mod Places
+pub mod Same

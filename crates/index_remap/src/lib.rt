@@ -9,11 +9,6 @@ mod renumbering;
 
 ghost use Rattle.index_remap.specs.Laws.{CodeIsRelatedToItself, NamedAreKnown, OthersStay, RelatedRunsShowTheSame, RelatedTicksAgree, RenumberedCodeIsRelated, ReplacedCodeIsRelated, ShownAgree, StepsAgree, TrapsAgree, TypingIsKept, UnlistedAreRenumbered};
 
-#[cfg(test)]
-mod declaring_tests;
-#[cfg(test)]
-mod tests;
-
 pub use declaring::declare_refs;
 pub use each::renumber_func;
 pub use remap::{Remap, renumber_const, renumber_export_desc};

@@ -16,6 +16,3 @@ pub use items::Items;
 pub use laws::{shortest_spellings, spellings_end_themselves};
 pub use name::{Name, NoMemory};
 pub use out::Out;
-
-#[cfg(test)]
-mod tests;

@@ -4,6 +4,7 @@ use Rattle.wasm_tree.specs.declared.space.Space.TheVariants.{Memories, Globals}
 use Rattle.std.proofs.Common.{ℕ, zero, suc, ◌-◌, List, [], ◌∷◌, ◌++◌, map, length, Option, Some, None, Bool, true, false, cond, slice_get, ◌&&◌}
 use Rattle.wasm_tree.specs.declared.space.Space.{Space}
 use Rattle.wasm_tree.specs.Operands.{same_space}
+use Rattle.base_lists.specs.Same.{each_same}
 use Rattle.base_lists.specs.Options.{◌>>=◌}
 pub use Rattle.base_lists.specs.Places.{first_place, places, count_of}
 use Rattle.std.specs.Prelude.{nat_eq, max, min}
@@ -34,9 +35,7 @@ pub record Site : Type 0 where
 -- ---- look-ups, none where nothing is there ----
 
 abbrev pub same_text : Text → Text → Bool
-same_text [] [] = true
-same_text (x ∷ xs) (y ∷ ys) = nat_eq x y && same_text xs ys
-same_text _ _ = false
+same_text = each_same nat_eq
 
 abbrev pub same_pair : Pair → Pair → Bool
 same_pair p q = same_text p.0 q.0 && same_text p.1 q.1

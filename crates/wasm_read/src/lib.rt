@@ -8,10 +8,3 @@ mod sections;
 
 pub use file::read;
 pub use wasm_format::ReadFault;
-
-#[cfg(test)]
-mod body_cases;
-#[cfg(test)]
-mod section_cases;
-#[cfg(test)]
-mod tests;

@@ -1,5 +1,6 @@
--- When two types are the same, as a test (WebAssembly Core 2.0, sections 2.3.2 to 2.3.6).
-use Rattle.std.specs.Prelude.{Bool, true, false, ◌&&◌, List, [], ◌∷◌}
+-- When two types are the same, as a test (WebAssembly Core 2.0, section 2.3).
+use Rattle.std.specs.Prelude.{Bool, true, false, ◌&&◌, List}
+use Rattle.base_lists.specs.Same.{each_same}
 use Rattle.wasm_tree.specs.declared.types.RefType.{RefType}
 use Rattle.wasm_tree.specs.declared.types.RefType.TheVariants.{Func, Extern}
 use Rattle.wasm_tree.specs.declared.types.ValType.{ValType}
@@ -24,10 +25,7 @@ same_type (Ref r) I64 = false
 same_type (Ref r) (Ref q) = same_ref r q
 
 abbrev pub same_types : List ValType → List ValType → Bool
-same_types [] [] = true
-same_types [] (t ∷ ts) = false
-same_types (s ∷ ss) [] = false
-same_types (s ∷ ss) (t ∷ ts) = same_type s t && same_types ss ts
+same_types = each_same same_type
 
 abbrev pub same_func_type : FuncType → FuncType → Bool
 same_func_type s t = same_types s.params t.params && same_types s.results t.results

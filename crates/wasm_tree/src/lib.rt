@@ -12,8 +12,6 @@ mod laws;
 mod module;
 mod space;
 mod spaces;
-#[cfg(test)]
-mod tests;
 mod types;
 mod which;
 

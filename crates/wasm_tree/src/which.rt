@@ -7,9 +7,9 @@ ghost use Rattle.wasm_tree.specs.Limits.{limit};
 pub const MOST_INPUT_BYTES: u32 = 16_777_216;
 /// The most parts of one merge.
 pub const MOST_PARTS: u32 = 1_000;
-/// The most types of a module, in a file or in an output; so for those that follow.
+/// The most types of a module, in an input file and in an output; so for the quantities of a module that follow.
 pub const MOST_TYPES: u32 = 1_000_000;
-
+/// The most imports of a module.
 pub const MOST_IMPORTS: u32 = 1_000_000;
 /// The most functions that a module defines.
 pub const MOST_FUNCTIONS: u32 = 1_000_000;
@@ -19,11 +19,11 @@ pub const MOST_TABLES: u32 = 10_000;
 pub const MOST_MEMORIES: u32 = 10_000;
 /// The most globals that a module defines.
 pub const MOST_GLOBALS: u32 = 1_000_000;
-
+/// The most exports of a module.
 pub const MOST_EXPORTS: u32 = 1_000_000;
-
+/// The most element segments of a module.
 pub const MOST_ELEMENT_SEGMENTS: u32 = 300_000;
-
+/// The most data segments of a module.
 pub const MOST_DATA_SEGMENTS: u32 = 300_000;
 /// The most blocks, loops and ifs that are open at once in a body.
 pub const MOST_NESTING: u32 = 1_000;

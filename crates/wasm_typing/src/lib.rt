@@ -12,8 +12,6 @@ mod operands;
 mod plain;
 mod scope;
 mod tables;
-#[cfg(test)]
-mod tests;
 mod types;
 mod variables;
 

@@ -2,4 +2,3 @@ pub mod Order
 pub mod Marked
 pub mod Repeats
 pub mod OneMemory
-pub mod Empty

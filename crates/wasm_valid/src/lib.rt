@@ -11,8 +11,6 @@ mod laws;
 mod named;
 mod repeated;
 mod spaces;
-#[cfg(test)]
-mod tests;
 mod validation;
 mod written;
 

@@ -38,6 +38,3 @@ pub fn fits(module: &Module, most: u32) -> bool
     let mut room = Room { left: most };
     fit_module(&mut room, module).is_ok()
 }
-
-#[cfg(test)]
-mod tests;

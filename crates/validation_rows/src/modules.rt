@@ -1,6 +1,6 @@
-use crate::{Invalid, ItemKind, Rejected, Valid, validate};
 use std::test::Fail;
 use wasm_tree::Module;
+use wasm_valid::{Invalid, ItemKind, Rejected, Valid, validate};
 
 #[test]
 #[tactic(auto, using(crate::proofs::Empty::empty_bounded))]

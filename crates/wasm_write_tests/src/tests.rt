@@ -1,4 +1,3 @@
-use crate::{fits, write};
 use std::alloc::Global;
 use std::test::Fail;
 use wasm_bytes::{Items, Name, NoMemory};
@@ -8,6 +7,7 @@ use wasm_tree::{
     GlobalDef, GlobalType, Import, ImportDesc, Instr, Limits, LoadOp, MemArg, Module, RefType,
     StoreOp, TableType, ValType,
 };
+use wasm_write::{fits, write};
 
 /// Whether these bytes are written, which fit their number and no fewer.
 fn is_written(alloc: Global, module: &Module, expected: &[u8]) -> Result<bool, NoMemory> {

@@ -1,8 +1,8 @@
-use crate::{Locals, Scope, is_well_typed_body};
 use std::alloc::Global;
 use std::test::Fail;
 use wasm_bytes::{Items, NoMemory};
 use wasm_tree::{BlockType, Instr, LocalGroup, ValType};
+use wasm_typing::{Locals, Scope, is_well_typed_body};
 
 // A body of one block that leaves the local of this number, of type i64 where it is declared.
 fn block_of_local(alloc: Global, local: u32) -> Result<Items<Instr>, NoMemory> {

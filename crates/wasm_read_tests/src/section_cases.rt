@@ -1,6 +1,6 @@
 // Files without their header, and what the reader refuses of them: their sections, segments and counts.
 
-use crate::ReadFault;
+use wasm_read::ReadFault;
 use wasm_tree::Which;
 
 pub const SECTIONS: [(&[u8], Option<ReadFault>); 41] = [

@@ -1,10 +1,10 @@
-use crate::{
-    BlockType, ConstExpr, Export, ExportDesc, Func, FuncType, GlobalDef, GlobalType, Instr, Limits,
-    Module, Operand, RefType, Space, TableType, ValType, Which, any_uses_data,
-};
 use std::alloc::Global;
 use std::test::Fail;
 use wasm_bytes::{Items, Name, NoMemory};
+use wasm_tree::{
+    BlockType, ConstExpr, Export, ExportDesc, Func, FuncType, GlobalDef, GlobalType, Instr, Limits,
+    Module, Operand, RefType, Space, TableType, ValType, Which, any_uses_data,
+};
 
 fn types(alloc: Global) -> Result<Items<FuncType>, NoMemory> {
     let results = Items::from_slice(alloc, &[ValType::I32])?;

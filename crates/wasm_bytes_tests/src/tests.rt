@@ -1,5 +1,5 @@
-use crate::{Cursor, Frame, FrameFault, Items, Name, Out, Wrong, frames};
 use std::test::Fail;
+use wasm_bytes::{Cursor, Frame, FrameFault, Items, Name, Out, Wrong, frames};
 
 const U32: [(&[u8], Result<(u32, usize), Wrong>); 8] = [
     (b"\xE5\x8E\x26\x00", Ok((624_485, 1))),

@@ -1,9 +1,9 @@
 use crate::body_cases::{BODIES, ORDER, SMALL, TOKENS};
 use crate::section_cases::{LIMITS, SECTIONS, SEGMENTS};
-use crate::{ReadFault, read};
 use std::alloc::Global;
 use std::test::Fail;
 use wasm_bytes::Out;
+use wasm_read::{ReadFault, read};
 use wasm_tree::{ConstExpr, ExportDesc, Instr, Which};
 
 const HEADER: &[u8] = b"\x00\x61\x73\x6D\x01\x00\x00\x00";

@@ -3,7 +3,7 @@ ghost use Rattle.std.specs.List.{list_all};
 ghost use Rattle.index_remap.specs.Renumbered.{fits_export, fits_func, fits_tree};
 ghost use Rattle.index_remap.specs.declared.remap.Remap.{Remap as Maps};
 
-use crate::{Remap, renumber};
+use index_remap::{Remap, renumber};
 use std::alloc::Global;
 use std::test::Fail;
 use wasm_bytes::{Items, Name, NoMemory};

@@ -1,6 +1,6 @@
 // Files without their header, and what the reader refuses of them: bodies, the order of faults, small changes; and tokens.
 
-use crate::ReadFault;
+use wasm_read::ReadFault;
 use wasm_tree::Which;
 
 pub const BODIES: [(&[u8], Option<ReadFault>); 44] = [

@@ -1,0 +1,7 @@
+//! Tests of renumbering and of declared references.
+#![tactic(auto)]
+
+#[cfg(test)]
+mod declaring_tests;
+#[cfg(test)]
+mod tests;
