@@ -6,7 +6,7 @@ ghost use Rattle.wasm_typing.specs.Typing.{effect_of, fits_memory};
 ghost use Rattle.wasm_typing.specs.Kept.{Answers};
 ghost use Rattle.wasm_typing.specs.ScopeWords.{context_of};
 
-use crate::operands::Kept;
+use crate::kept::Kept;
 use crate::scope::Scope;
 use crate::types::{load_type, load_width, store_type, store_width};
 use std::alloc::AllocError;

@@ -5,7 +5,7 @@ use Rattle.wasm_typing.specs.Kept.{stack_of}
 use Rattle.wasm_typing.specs.Labels.{label_list}
 use Rattle.wasm_typing.proofs.Branching.{allowed_at}
 use Rattle.wasm_typing.proofs.Places.{marked_by}
-use Rattle.wasm_typing.proofs.operands.Kept.allows_each.Goals as goal
+use Rattle.wasm_typing.proofs.kept.Kept.allows_each.Goals as goal
 
 pub loop-label-preserved : goal.loop-label-preserved
 loop-label-preserved c = record {

@@ -3,7 +3,7 @@ use Rattle.std.specs.Prelude.{slice_get}
 use Rattle.wasm_typing.specs.Tracking.{allows_types, allows_all}
 use Rattle.wasm_typing.specs.Kept.{stack_of}
 use Rattle.wasm_typing.specs.Labels.{label_list}
-use Rattle.wasm_typing.proofs.operands.Kept.allows_each.Given as goal
+use Rattle.wasm_typing.proofs.kept.Kept.allows_each.Given as goal
 
 abbrev pub invariant-loop-label : goal.invariant-loop-label
 invariant-loop-label l = record {
