@@ -30,63 +30,35 @@ fn step<'a>(
 {
     match instr {
         Instr::Block(block, body) => {
+            let body = body.as_slice();
             let Some(shape) = shape_of(scope.types, block) else {
                 return Ok(false);
             };
-            if !is_well_typed(
-                alloc,
-                scope,
-                labels,
-                kept,
-                shape.results,
-                shape,
-                body.as_slice(),
-            )? {
+            if !is_well_typed(alloc, scope, labels, kept, shape.results, shape, body)? {
                 return Ok(false);
             }
             kept.gives(shape.params, shape.results)
         }
         Instr::Loop(block, body) => {
+            let body = body.as_slice();
             let Some(shape) = shape_of(scope.types, block) else {
                 return Ok(false);
             };
-            if !is_well_typed(
-                alloc,
-                scope,
-                labels,
-                kept,
-                shape.params,
-                shape,
-                body.as_slice(),
-            )? {
+            if !is_well_typed(alloc, scope, labels, kept, shape.params, shape, body)? {
                 return Ok(false);
             }
             kept.gives(shape.params, shape.results)
         }
         Instr::If(block, body, other) => {
+            let body = body.as_slice();
+            let other = other.as_slice();
             let Some(shape) = shape_of(scope.types, block) else {
                 return Ok(false);
             };
-            if !is_well_typed(
-                alloc,
-                scope,
-                labels,
-                kept,
-                shape.results,
-                shape,
-                body.as_slice(),
-            )? {
+            if !is_well_typed(alloc, scope, labels, kept, shape.results, shape, body)? {
                 return Ok(false);
             }
-            if !is_well_typed(
-                alloc,
-                scope,
-                labels,
-                kept,
-                shape.results,
-                shape,
-                other.as_slice(),
-            )? {
+            if !is_well_typed(alloc, scope, labels, kept, shape.results, shape, other)? {
                 return Ok(false);
             }
             kept.gives_over(shape.params, ValType::I32, shape.results)
