@@ -44,7 +44,11 @@ pub fn load(
     ensures { IfOk result (λ ok. Answers (effect_of (context_of scope.now []) (Load op arg.now)) kept.old kept.new ok) }
 {
     let fits = fits_memory(scope, load_width(op), arg);
-    kept.gives_where(fits, &[ValType::I32], &[load_type(op)])
+    if fits {
+        kept.turns(ValType::I32, load_type(op))
+    } else {
+        Ok(false)
+    }
 }
 
 /// The stores.

@@ -198,6 +198,49 @@ impl Kept {
         Ok(())
     }
 
+    /// Puts one operand on.
+    pub fn puts(&mut self, ty: ValType) -> Result<bool, AllocError>
+        ensures { IfOk result (λ ok. Answers (Some (Gives [] (ty ∷ []))) self.old self.new ok) }
+    {
+        self.push(ty)?;
+        Ok(true)
+    }
+
+    /// Takes one operand off.
+    pub fn takes(&mut self, ty: ValType) -> bool
+        ensures { Answers (Some (Gives (ty ∷ []) [])) self.old self.new result }
+    {
+        if !self.pop_type(ty) {
+            return false;
+        }
+        true
+    }
+
+    /// Takes one operand off and puts one on.
+    pub fn turns(&mut self, from: ValType, to: ValType) -> Result<bool, AllocError>
+        ensures { IfOk result (λ ok. Answers (Some (Gives (from ∷ []) (to ∷ []))) self.old self.new ok) }
+    {
+        if !self.pop_type(from) {
+            return Ok(false);
+        }
+        self.push(to)?;
+        Ok(true)
+    }
+
+    /// Takes two operands of one type off and puts one on.
+    pub fn joins(&mut self, from: ValType, to: ValType) -> Result<bool, AllocError>
+        ensures { IfOk result (λ ok. Answers (Some (Gives (from ∷ from ∷ []) (to ∷ []))) self.old self.new ok) }
+    {
+        if !self.pop_type(from) {
+            return Ok(false);
+        }
+        if !self.pop_type(from) {
+            return Ok(false);
+        }
+        self.push(to)?;
+        Ok(true)
+    }
+
     /// Takes operands of the types `takes` off, and puts operands of the types `pushes` on.
     pub fn gives(&mut self, takes: &[ValType], pushes: &[ValType]) -> Result<bool, AllocError>
         ensures { IfOk result (λ ok. Answers (Some (Gives takes.now pushes.now)) self.old self.new ok) }

@@ -56,14 +56,11 @@ pub fn plain(
         Instr::Store(op, arg) => store(scope, kept, *op, arg),
         Instr::MemorySize(memory) => memory_size(scope, kept, *memory),
         Instr::MemoryGrow(memory) => memory_grow(scope, kept, *memory),
-        Instr::I32Const(_) => kept.gives(&[], &[ValType::I32]),
-        Instr::I64Const(_) => kept.gives(&[], &[ValType::I64]),
-        Instr::Un(op) => kept.gives(&[un_operand(*op)], &[un_result(*op)]),
-        Instr::Bin(op) => {
-            let operand = bin_operand(*op);
-            kept.gives(&[operand, operand], &[bin_result(*op)])
-        }
-        Instr::RefNull(ty) => kept.gives(&[], &[ValType::Ref(*ty)]),
+        Instr::I32Const(_) => kept.puts(ValType::I32),
+        Instr::I64Const(_) => kept.puts(ValType::I64),
+        Instr::Un(op) => kept.turns(un_operand(*op), un_result(*op)),
+        Instr::Bin(op) => kept.joins(bin_operand(*op), bin_result(*op)),
+        Instr::RefNull(ty) => kept.puts(ValType::Ref(*ty)),
         Instr::RefIsNull => kept.tests_null(),
         Instr::RefFunc(func) => ref_func(scope, kept, *func),
         Instr::MemoryInit { segment, memory } => memory_init(scope, kept, *segment, *memory),
