@@ -1,18 +1,11 @@
 -- What is spelled before a content that was spelled already.
-use Rattle.std.proofs.Common.{◌≡◌, ℕ, zero, suc, ◌+◌, ◌-◌, ◌/◌, ◌%◌, ◌<◌, ◌≤◌, List, [], ◌∷◌, ◌++◌, length, take, drop, length-append, length-take, append_assoc, refl, sym, ap, ◌∙◌, arith}
+use Rattle.std.proofs.Common.{◌≡◌, ℕ, zero, suc, ◌+◌, ◌-◌, ◌/◌, ◌%◌, ◌<◌, ◌≤◌, List, [], ◌∷◌, ◌++◌, length, take, drop, length-append, length-take, append_assoc, sym, ap, ◌∙◌, arith}
+use Rattle.std.proofs.Math.Seq.{take-append_seam, drop-append_seam, take-append-add, drop-append-add}
 use Rattle.std.proofs.lemmas.Bool.{lt-ltb, le-ltb}
 use Rattle.wasm_bytes.specs.Writing.{unsigned_text}
 
-take_front : (b c : List ℕ) → take (length b) (b ++ c) ≡ b
-take_front [] c = refl
-take_front (x ∷ b) c = ap (λ r. x ∷ r) (take_front b c)
-
-drop_front : (b c : List ℕ) → drop (length b) (b ++ c) ≡ c
-drop_front [] c = refl
-drop_front (x ∷ b) c = drop_front b c
-
 pub inserted : (before content text : List ℕ) → take (length before) (before ++ content) ++ text ++ drop (length before) (before ++ content) ≡ before ++ (text ++ content)
-inserted before content text = rw (take_front before content, drop_front before content) (append_assoc before text content)
+inserted before content text = rw (take-append_seam before content, drop-append_seam before content) (append_assoc before text content)
 
 pub size_of : (before content : List ℕ) → length (before ++ content) - length before ≡ length content
 size_of before content = omega (arith, length-append before content)
@@ -24,21 +17,13 @@ unfolding unsigned_text
 inserted_small zero n front back pos lt = absurd (omega arith)
 inserted_small (suc most) n front back pos lt = rw (lt-ltb n 128 lt) (append_assoc front (n ∷ []) back)
 
-take_past : (front : List ℕ) (b : ℕ) (back : List ℕ) → take (suc (length front)) (front ++ b ∷ back) ≡ front ++ b ∷ []
-take_past [] b back = refl
-take_past (x ∷ front) b back = ap (λ r. x ∷ r) (take_past front b back)
-
-drop_past : (front : List ℕ) (b : ℕ) (back : List ℕ) → drop (suc (length front)) (front ++ b ∷ back) ≡ back
-drop_past [] b back = refl
-drop_past (x ∷ front) b back = drop_past front b back
-
 pub inserted_large : (most n at : ℕ) (old mid : List ℕ) → 0 < most → 128 ≤ n → at ≤ length old → mid ≡ take at old ++ (n % 128 + 128) ∷ drop at old →
     take at old ++ unsigned_text most n ++ drop at old ≡ take (at + 1) mid ++ unsigned_text (most - 1) (n / 128) ++ drop (at + 1) mid
 unfolding unsigned_text
 inserted_large zero n at old mid pos le here is = absurd (omega arith)
 inserted_large (suc most) n at old mid pos le here is =
-    let long : at + 1 ≡ suc (length (take at old)) = omega (arith, length-take at old) in
-    let first : take (at + 1) mid ≡ take at old ++ (n % 128 + 128) ∷ [] = ap (take (at + 1)) is ∙ ap (λ k. take k (take at old ++ (n % 128 + 128) ∷ drop at old)) long ∙ take_past (take at old) (n % 128 + 128) (drop at old) in
-    let rest : drop (at + 1) mid ≡ drop at old = ap (drop (at + 1)) is ∙ ap (λ k. drop k (take at old ++ (n % 128 + 128) ∷ drop at old)) long ∙ drop_past (take at old) (n % 128 + 128) (drop at old) in
+    let long : at + 1 ≡ length (take at old) + 1 = omega (arith, length-take at old) in
+    let first : take (at + 1) mid ≡ take at old ++ (n % 128 + 128) ∷ [] = ap (take (at + 1)) is ∙ ap (λ k. take k (take at old ++ (n % 128 + 128) ∷ drop at old)) long ∙ take-append-add (take at old) ((n % 128 + 128) ∷ drop at old) 1 in
+    let rest : drop (at + 1) mid ≡ drop at old = ap (drop (at + 1)) is ∙ ap (λ k. drop k (take at old ++ (n % 128 + 128) ∷ drop at old)) long ∙ drop-append-add (take at old) ((n % 128 + 128) ∷ drop at old) 1 in
     let less : suc most - 1 ≡ most = omega arith in
     rw (le-ltb n 128 le, first, rest, less) (ap (λ t. t ++ drop at old) (sym (append_assoc (take at old) ((n % 128 + 128) ∷ []) (unsigned_text most (n / 128)))))

@@ -1,5 +1,5 @@
 -- The laws of what a spelling is spelled to, of a buffer and of a size.
-use Rattle.std.proofs.Common.{◌≡◌, ℕ, ◌+◌, ◌^◌, ◌-◌, ◌≤◌, List, ◌++◌, length, length-append, min, max, arith}
+use Rattle.std.proofs.Common.{◌≡◌, ℕ, ◌≤◌, List, ◌++◌, length, length-append, arith}
 use Rattle.wasm_write.specs.Sizes.{counted}
 
 pub longer : (b s : List ℕ) → length b ≤ length (b ++ s)

@@ -99,11 +99,6 @@ impl Target for Buffer {
         self.bytes.len() as u64
     }
 
-    #[tactic(auto, using(crate::proofs::Places::inserted))]
-    fn number_before(&mut self, from: u64, value: u64) -> Result<(), NoMemory> {
-        insert_unsigned(&mut self.bytes, from as usize, 5, value)
-    }
-
     #[tactic(auto, using(crate::proofs::Places::inserted, crate::proofs::Places::size_of))]
     fn size_before(&mut self, from: u64) -> Result<(), NoMemory> {
         let size = self.bytes.len() as u64 - from;

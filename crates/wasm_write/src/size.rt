@@ -59,7 +59,7 @@ fn unsigned_size(most: u32, value: u64) -> u64
 }
 
 /// How many bytes the shortest spelling of a length has.
-pub(crate) fn number_size(value: u64) -> u64
+fn number_size(value: u64) -> u64
     ensures { result ≡ length (u32_text value) }
 {
     unsigned_size(5, value)
@@ -90,12 +90,6 @@ impl Target for Size {
         self.bytes
     }
 
-    #[tactic(auto)]
-    fn number_before(&mut self, from: u64, value: u64) -> Result<(), Infallible> {
-        self.count(number_size(value))
-    }
-
-    #[tactic(auto)]
     fn size_before(&mut self, from: u64) -> Result<(), Infallible> {
         self.count(number_size(self.bytes - from))
     }

@@ -1,12 +1,12 @@
 ghost use Rattle.std.specs.Prelude.{◌≡◌, ℕ, List, [], ◌∷◌, ◌++◌, ◌≤◌, OnOk};
-ghost use Rattle.wasm_bytes.specs.Writing.{u32_text, sized_text};
+ghost use Rattle.wasm_bytes.specs.Writing.{sized_text};
 
-/// What a plain spelling is written to, or measured by.
+/// What a plain spelling is spelled to: a file, or a count of its bytes. The code that spells is the same for both.
 pub(crate) trait Target {
     /// Why it takes no more.
     type Refusal;
 
-    // what it is when this text too was spelled
+    // what it is once this text too is spelled
     ghost after: { Self → List ℕ → Self };
 
     // how far it has come
@@ -24,12 +24,7 @@ pub(crate) trait Target {
     fn place(&self) -> u64
         ensures { result ≡ place self.now };
 
-    /// Spells a number before what was spelled since it had come so far.
-    fn number_before(&mut self, from: u64, value: u64) -> Result<(), Self::Refusal>
-        requires { from ≤ place self.old }
-        ensures { OnOk result ((before : Self) (content : List ℕ) → from ≡ place before → self.old ≡ after before content → self.new ≡ after before (u32_text value ++ content)) };
-
-    /// Spells the size of what was spelled since it had come so far before that.
+    /// Spells the size of what was spelled since it had come so far, before that.
     fn size_before(&mut self, from: u64) -> Result<(), Self::Refusal>
         requires { from ≤ place self.old }
         ensures { OnOk result ((before : Self) (content : List ℕ) → from ≡ place before → self.old ≡ after before content → self.new ≡ after before (sized_text content)) };
