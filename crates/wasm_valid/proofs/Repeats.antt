@@ -16,7 +16,7 @@ use Rattle.wasm_valid.specs.declared.kinds.ItemKind.TheVariants as kind
 use Rattle.wasm_valid.specs.Names.{repeats_after}
 use Rattle.wasm_valid.specs.Validity.{InSpace, HoldsAt}
 
-equivalence : IsEquivalence bytes_eq
+pub equivalence : IsEquivalence bytes_eq
 equivalence = record {
   refl = λ x. (bytes_eq-Decides x x).1 refl;
   symm = λ x y. same_tests (bytes_eq x y) (bytes_eq y x) (λ e. (bytes_eq-Decides y x).1 (sym ((bytes_eq-Decides x y).0 e))) (λ e. (bytes_eq-Decides x y).1 (sym ((bytes_eq-Decides y x).0 e)));
