@@ -1,1 +1,2 @@
 mod Piles
+mod Forms

@@ -1,11 +1,11 @@
 -- What is known of a token that was told, and which code names data segments.
-use Rattle.std.proofs.Common.{◌≡◌, ℕ, Bool, ◌||◌, List, [], ◌++◌, Result, Ok, Err, sym, ap, ◌∙◌}
+use Rattle.std.proofs.Common.{◌≡◌, ℕ, Bool, ◌||◌, List, [], ◌++◌, Option, Some, None, Result, Ok, Err, sym, ap, ◌∙◌}
 use Rattle.std.proofs.Math.Bool.{or-false, or_assoc}
 use Rattle.std.proofs.lemmas.List.Folds.{list_any-append}
 use Rattle.wasm_tree.specs.declared.types.BlockType.{BlockType}
 use Rattle.wasm_tree.specs.declared.types.BlockType.TheVariants as block
 use Rattle.wasm_tree.specs.declared.instr.Instr.{Instr, out-Instr}
-use Rattle.wasm_tree.specs.declared.instr.Instr.TheVariants.{Block, Loop, If, Nop, outs-Block, outs-Loop, outs-If}
+use Rattle.wasm_tree.specs.declared.instr.Instr.TheVariants.{Block, Loop, If, outs-Block, outs-Loop, outs-If}
 use Rattle.wasm_tree.specs.DataUse.{names_data, uses_data_in, uses_data}
 use Rattle.wasm_tree.specs.Operands.{operands, operands_of, block_operands, held}
 use Rattle.wasm_tree.proofs.OperandLaws.{any_inside}
@@ -13,62 +13,38 @@ use Rattle.wasm_format.specs.declared.fault.Fault.{Fault}
 use Rattle.wasm_format.specs.declared.token.Opener.{Opener}
 use Rattle.wasm_format.specs.declared.token.Token.{Token}
 use Rattle.wasm_format.specs.declared.token.Token.TheVariants.{Open, Else, End, Plain}
+use Rattle.wasm_format.specs.Reading.{Fails, mapped_at, block_type_at}
+use Rattle.wasm_format.proofs.Loops.{fails_through}
 use Rattle.wasm_items.specs.declared.pile.Pile.{Pile}
-use Rattle.wasm_items.specs.declared.pile.Kind.{Kind}
-use Rattle.wasm_items.specs.declared.pile.Kind.TheVariants as kind
-use Rattle.wasm_items.specs.Piled.{with_instr, told_at}
+use Rattle.wasm_items.specs.Piled.{with_instr, piled}
 
 -- ---- the token of which was told
 
-abbrev Telling : Type 0
-Telling = Result ((Kind × Pile) × List ℕ) Fault
+abbrev number : Option (Pile × List ℕ) → ℕ
+number None = 0
+number (Some x) = 1
 
-abbrev number : Telling → ℕ
-number (Ok ((kind.Open k ty, p), rest)) = 0
-number (Ok ((kind.Else, p), rest)) = 1
-number (Ok ((kind.End, p), rest)) = 2
-number (Ok ((kind.Plain, p), rest)) = 3
-number (Err e) = 4
+abbrev pile : Pile → Option (Pile × List ℕ) → Pile
+pile other None = other
+pile other (Some x) = x.0
 
-abbrev token : Instr → Telling → Result (Token × List ℕ) Fault
-token i (Ok ((kind.Open k ty, p), rest)) = Ok (Open k ty, rest)
-token i (Ok ((kind.Else, p), rest)) = Ok (Else, rest)
-token i (Ok ((kind.End, p), rest)) = Ok (End, rest)
-token i (Ok ((kind.Plain, p), rest)) = Ok (Plain i, rest)
-token i (Err e) = Err e
+abbrev token : Instr → Option (Pile × List ℕ) → Result (Token × List ℕ) Fault
+token i None = Ok (Plain i, [])
+token i (Some x) = Ok (Plain i, x.1)
 
-abbrev pile : Pile → Telling → Pile
-pile other (Ok x) = x.0.1
-pile other (Err e) = other
+pub told_plain : (p q : Pile) (rest : List ℕ) (r : Result (Token × List ℕ) Fault) → piled p r ≡ Some (q, rest) → (i : Instr) × (r ≡ Ok (Plain i, rest)) × (q ≡ with_instr p i)
+told_plain p q rest (Ok (Plain i, after)) h = (i, ap (token i) h, sym (ap (pile p) h))
+told_plain p q rest (Ok (Open k ty, after)) h = absurd (let e : 0 ≡ 1 = ap number h in cc)
+told_plain p q rest (Ok (Else, after)) h = absurd (let e : 0 ≡ 1 = ap number h in cc)
+told_plain p q rest (Ok (End, after)) h = absurd (let e : 0 ≡ 1 = ap number h in cc)
+told_plain p q rest (Err e) h = absurd (let e : 0 ≡ 1 = ap number h in cc)
 
-module _ (p q : Pile) (rest : List ℕ) where
-  pub told_plain : (r : Result (Token × List ℕ) Fault) → told_at p r ≡ Ok ((kind.Plain, q), rest) → (i : Instr) × (r ≡ Ok (Plain i, rest)) × (q ≡ with_instr p i)
-  told_plain (Ok (Plain i, after)) h = (i, ap (token i) h, sym (ap (pile p) h))
-  told_plain (Ok (Open k' ty', after)) h = absurd (let e : 0 ≡ 3 = ap number h in cc)
-  told_plain (Ok (Else, after)) h = absurd (let e : 1 ≡ 3 = ap number h in cc)
-  told_plain (Ok (End, after)) h = absurd (let e : 2 ≡ 3 = ap number h in cc)
-  told_plain (Err e) h = absurd (let e : 4 ≡ 3 = ap number h in cc)
+-- of a token that opens a block, where the block's type was read
+pub told_open : (k : Opener) (ty : BlockType) (bs rest : List ℕ) (r : Result (Token × List ℕ) Fault) → r ≡ mapped_at (λ t. Open k t) block_type_at bs → block_type_at bs ≡ Ok (ty, rest) → r ≡ Ok (Open k ty, rest)
+told_open k ty bs rest r h e = h ∙ rw e
 
-  pub told_open : (k : Opener) (ty : BlockType) (r : Result (Token × List ℕ) Fault) → told_at p r ≡ Ok ((kind.Open k ty, q), rest) → (r ≡ Ok (Open k ty, rest)) × (q ≡ p)
-  told_open k ty (Ok (Plain i, after)) h = absurd (let e : 3 ≡ 0 = ap number h in cc)
-  told_open k ty (Ok (Open k' ty', after)) h = (ap (token Nop) h, sym (ap (pile p) h))
-  told_open k ty (Ok (Else, after)) h = absurd (let e : 1 ≡ 0 = ap number h in cc)
-  told_open k ty (Ok (End, after)) h = absurd (let e : 2 ≡ 0 = ap number h in cc)
-  told_open k ty (Err e) h = absurd (let e : 4 ≡ 0 = ap number h in cc)
-
-  pub told_else : (r : Result (Token × List ℕ) Fault) → told_at p r ≡ Ok ((kind.Else, q), rest) → (r ≡ Ok (Else, rest)) × (q ≡ p)
-  told_else (Ok (Plain i, after)) h = absurd (let e : 3 ≡ 1 = ap number h in cc)
-  told_else (Ok (Open k' ty', after)) h = absurd (let e : 0 ≡ 1 = ap number h in cc)
-  told_else (Ok (Else, after)) h = (ap (token Nop) h, sym (ap (pile p) h))
-  told_else (Ok (End, after)) h = absurd (let e : 2 ≡ 1 = ap number h in cc)
-  told_else (Err e) h = absurd (let e : 4 ≡ 1 = ap number h in cc)
-
-  pub told_end : (r : Result (Token × List ℕ) Fault) → told_at p r ≡ Ok ((kind.End, q), rest) → (r ≡ Ok (End, rest)) × (q ≡ p)
-  told_end (Ok (Plain i, after)) h = absurd (let e : 3 ≡ 2 = ap number h in cc)
-  told_end (Ok (Open k' ty', after)) h = absurd (let e : 0 ≡ 2 = ap number h in cc)
-  told_end (Ok (Else, after)) h = absurd (let e : 1 ≡ 2 = ap number h in cc)
-  told_end (Ok (End, after)) h = (ap (token Nop) h, sym (ap (pile p) h))
-  told_end (Err e) h = absurd (let e : 4 ≡ 2 = ap number h in cc)
+pub told_open_fails : (k : Opener) (e : Fault) (bs : List ℕ) (r : Result (Token × List ℕ) Fault) → r ≡ mapped_at (λ t. Open k t) block_type_at bs → Fails e (block_type_at bs) → Fails e r
+told_open_fails k e bs r h bad = rw h (fails_through e (block_type_at bs) _ bad)
 
 -- ---- whether one names a data segment, of those before and of these
 

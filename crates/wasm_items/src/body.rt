@@ -5,6 +5,7 @@ ghost use Rattle.wasm_format.specs.BodyReading.{sequence_at, block_at, body_at};
 
 use crate::pile::{Kind, Pile};
 use crate::tokens::read_token;
+use crate::types::read_block_type;
 use std::alloc::Global;
 use wasm_bytes::{Cursor, Items};
 use wasm_format::{Fault, Opener, Sequence};
@@ -40,7 +41,8 @@ fn read_sequence(
                 });
             }
             Kind::Plain => (),
-            Kind::Open(opener, ty) => {
+            Kind::Open(opener) => {
+                let ty = read_block_type(alloc, cursor)?;
                 let block = read_block(alloc, cursor, many, deeper, opener, ty, pile)?;
                 pile.instrs.keep(block)?
             }

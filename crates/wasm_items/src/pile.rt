@@ -6,12 +6,12 @@ ghost use Rattle.wasm_items.specs.Piled.{Tells};
 use std::alloc::Global;
 use wasm_bytes::Items;
 use wasm_format::{Fault, Opener};
-use wasm_tree::{BlockType, Instr};
+use wasm_tree::Instr;
 
-/// What kind of token was read (WebAssembly Core 2.0, section 5.4). A plain instruction lies on the pile.
+/// What kind of token was read (WebAssembly Core 2.0, section 5.4). A plain instruction lies on the pile; where a block is opened its type is left.
 #[derive(Clone, Copy)]
 pub enum Kind {
-    Open(Opener, BlockType),
+    Open(Opener),
     Else,
     End,
     Plain,

@@ -6,7 +6,7 @@ ghost use Rattle.wasm_format.specs.BodyReading.{arg_at, memory_at, simple_of, pr
 
 use crate::operations::{bin_of, load_of, store_of, un_of};
 use crate::pile::{Kind, Pile};
-use crate::types::{read_block_type, read_s32, read_s64, read_tag, read_u32};
+use crate::types::{read_s32, read_s64, read_tag, read_u32};
 use crate::vectors::{Spelled, read_list};
 use std::alloc::Global;
 use wasm_bytes::Cursor;
@@ -115,30 +115,7 @@ fn read_prefixed(cursor: &mut Cursor<'_>, many: bool, pile: &mut Pile) -> Result
     }
 }
 
-/// The rest of a token that begins a block or an else, or is unreachable or nop (WebAssembly Core 2.0, section 5.4.1).
-#[tactic(auto, unfolding(wasm_format::specs::BodyReading::simple_of, wasm_format::specs::Tokens::rest_form))]
-fn read_opening(
-    alloc: Global,
-    cursor: &mut Cursor<'_>,
-    opcode: u8,
-    pile: &mut Pile,
-) -> Result<Kind, Fault>
-    requires most { opcode ≤ 0x05 }
-    ensures gives { (many : Bool) → Tells result cursor.new pile.old pile.new (token_of many (rest_form opcode) cursor.old) }
-    ensures shorter { OnOk result (length cursor.new ≤ length cursor.old) }
-{
-    match opcode {
-        0x00 => pile.plain(Instr::Unreachable),
-        0x01 => pile.plain(Instr::Nop),
-        0x02 => Ok(Kind::Open(Opener::Block, read_block_type(alloc, cursor)?)),
-        0x03 => Ok(Kind::Open(Opener::Loop, read_block_type(alloc, cursor)?)),
-        0x04 => Ok(Kind::Open(Opener::If, read_block_type(alloc, cursor)?)),
-        0x05 => Ok(Kind::Else),
-        _ => unreachable!(),
-    }
-}
-
-/// The rest of a token that ends a block, branches or calls (WebAssembly Core 2.0, section 5.4.1).
+/// The rest of an instruction that branches or calls (WebAssembly Core 2.0, section 5.4.1).
 #[tactic(auto, unfolding(wasm_format::specs::BodyReading::simple_of, wasm_format::specs::Tokens::rest_form))]
 fn read_branch(
     alloc: Global,
@@ -146,13 +123,12 @@ fn read_branch(
     opcode: u8,
     pile: &mut Pile,
 ) -> Result<Kind, Fault>
-    requires least { 0x0B ≤ opcode }
+    requires least { 0x0C ≤ opcode }
     requires most { opcode ≤ 0x11 }
     ensures gives { (many : Bool) → Tells result cursor.new pile.old pile.new (token_of many (rest_form opcode) cursor.old) }
     ensures shorter { OnOk result (length cursor.new ≤ length cursor.old) }
 {
     match opcode {
-        0x0B => Ok(Kind::End),
         0x0C => pile.plain(Instr::Br(read_u32(cursor)?)),
         0x0D => pile.plain(Instr::BrIf(read_u32(cursor)?)),
         0x0E => {
@@ -268,8 +244,14 @@ fn read_control(
     ensures shorter { OnOk result (length cursor.new ≤ length cursor.old) }
 {
     match opcode {
-        0x00..=0x05 => read_opening(alloc, cursor, opcode, pile),
-        0x0B..=0x11 => read_branch(alloc, cursor, opcode, pile),
+        0x00 => pile.plain(Instr::Unreachable),
+        0x01 => pile.plain(Instr::Nop),
+        0x02 => Ok(Kind::Open(Opener::Block)),
+        0x03 => Ok(Kind::Open(Opener::Loop)),
+        0x04 => Ok(Kind::Open(Opener::If)),
+        0x05 => Ok(Kind::Else),
+        0x0B => Ok(Kind::End),
+        0x0C..=0x11 => read_branch(alloc, cursor, opcode, pile),
         0x1A..=0x1C => read_parametric(alloc, cursor, opcode, pile),
         _ => Err(Fault::Malformed),
     }
@@ -317,6 +299,9 @@ pub fn read_token(
     ensures shorter { OnOk result (length cursor.new < length cursor.old) }
 {
     let opcode = cursor.byte()?;
+    if let 0x20..=0x26 = opcode {
+        return read_variable(cursor, opcode, pile);
+    }
     if let Some(op) = un_of(opcode) {
         return pile.plain(Instr::Un(op));
     }
