@@ -299,6 +299,7 @@ pub fn read_token(
     ensures shorter { OnOk result (length cursor.new < length cursor.old) }
 {
     let opcode = cursor.byte()?;
+    // most are instructions on variables
     if let 0x20..=0x26 = opcode {
         return read_variable(cursor, opcode, pile);
     }
