@@ -1,5 +1,8 @@
 -- Steps of the loops that read so many items.
-use Rattle.std.proofs.Common.{◌≡◌, ℕ, suc, ◌+◌, ◌-◌, ◌<◌, ◌≤◌, List, [], ◌∷◌, ◌++◌, append-nil, Result, Ok, Err, refl, sym, ap, ◌∙◌, arith, append_assoc}
+use Rattle.std.proofs.Common.{◌≡◌, ℕ, suc, ◌+◌, ◌-◌, ◌<◌, ◌≤◌, Bool, ◌||◌, List, [], ◌∷◌, ◌++◌, append-nil, Result, Ok, Err, refl, sym, ap, ◌∙◌, arith, append_assoc}
+use Rattle.std.specs.List.{list_any}
+use Rattle.std.proofs.Math.Bool.{or-false, or_assoc}
+use Rattle.std.proofs.lemmas.List.Folds.{list_any-append}
 use Rattle.wasm_bytes.specs.Reading.{◌>>=◌}
 use Rattle.wasm_format.specs.declared.fault.Fault.{Fault}
 use Rattle.wasm_format.specs.declared.fault.Fault.TheVariants as fault
@@ -71,3 +74,11 @@ each_stop_in item next whole n i state items bs (Malformed s) lt bad h = each_er
 each_stop_in item next whole n i state items bs (MalformedBody f) lt bad h = each_err item next whole n i state items bs (MalformedBody f) lt bad h
 each_stop_in item next whole n i state items bs (Unsupported s f) lt bad h = each_err item next whole n i state items bs (Unsupported s f) lt bad h
 each_stop_in item next whole n i state items bs (Limit w) lt bad h = each_err item next whole n i state items bs (Limit w) lt bad h
+
+-- ---- a test of the items that were read
+
+-- whether one passes of those before and of these, with one item more
+pub any_more : {A : Type 0} (test : A → Bool) (before after last : Bool) (items : List A) (x : A) → after ≡ (before || list_any test items) → last ≡ (after || test x) → last ≡ (before || list_any test (items ++ x ∷ []))
+any_more test before after last items x h g =
+    g ∙ ap (λ b. b || test x) h ∙ or_assoc before (list_any test items) (test x)
+    ∙ ap (λ b. before || b) (sym (list_any-append test items (x ∷ []) ∙ ap (λ b. list_any test items || b) (or-false (test x))))

@@ -1,0 +1,2 @@
+mod Piles
+mod Forms

@@ -1,11 +1,14 @@
-ghost use Rattle.std.specs.Prelude.{◌≡◌, ◌≤◌, ◌<◌, ℕ, length, OnOk};
+ghost use Rattle.std.specs.Prelude.{◌≡◌, ◌≤◌, ◌<◌, ◌||◌, ℕ, length, OnOk, IfOk};
+ghost use Rattle.wasm_tree.specs.DataUse.{uses_data_in, uses_data};
 ghost use Rattle.wasm_format.specs.Reading.{Gives, GivesAll};
 ghost use Rattle.wasm_format.specs.BodyReading.{sequence_at, block_at, body_at};
 
+use crate::pile::{Kind, Pile};
 use crate::tokens::read_token;
+use crate::types::read_block_type;
 use std::alloc::Global;
 use wasm_bytes::{Cursor, Items};
-use wasm_format::{Fault, Opener, Sequence, Token};
+use wasm_format::{Fault, Opener, Sequence};
 use wasm_tree::{BlockType, Instr, MOST_NESTING, Which};
 
 /// Reads up to the `end` or `else` that ends the sequence. So many more blocks may be opened in it. Its instructions lie on the pile until it ends.
@@ -15,31 +18,33 @@ fn read_sequence(
     cursor: &mut Cursor<'_>,
     many: bool,
     deeper: u32,
-    pile: &mut Items<Instr>,
+    pile: &mut Pile,
 ) -> Result<Sequence, Fault>
     ensures reads { (fuel : ℕ) → length cursor.old ≤ fuel → Gives result cursor.new (sequence_at many fuel deeper cursor.old) }
     ensures shorter { OnOk result (length cursor.new < length cursor.old) }
-    ensures pile { OnOk result (pile.new ≡ pile.old) }
+    ensures pile { OnOk result (pile.new.instrs ≡ pile.old.instrs) }
+    ensures uses { IfOk result (λ s. pile.new.uses_data ≡ (pile.old.uses_data || uses_data s.items)) }
 {
-    let start = pile.len();
+    let start = pile.instrs.len();
     'tokens: loop {
-        match read_token(alloc, cursor, many)? {
-            Token::End => {
+        match read_token(alloc, cursor, many, pile)? {
+            Kind::End => {
                 return Ok(Sequence {
-                    items: pile.split_off(start)?,
+                    items: pile.instrs.split_off(start)?,
                     by_else: false,
                 });
             }
-            Token::Else => {
+            Kind::Else => {
                 return Ok(Sequence {
-                    items: pile.split_off(start)?,
+                    items: pile.instrs.split_off(start)?,
                     by_else: true,
                 });
             }
-            Token::Plain(instr) => pile.keep(instr)?,
-            Token::Open(opener, ty) => {
+            Kind::Plain => (),
+            Kind::Open(opener) => {
+                let ty = read_block_type(alloc, cursor)?;
                 let block = read_block(alloc, cursor, many, deeper, opener, ty, pile)?;
-                pile.keep(block)?
+                pile.instrs.keep(block)?
             }
         }
     }
@@ -54,11 +59,12 @@ fn read_block(
     deeper: u32,
     opener: Opener,
     ty: BlockType,
-    pile: &mut Items<Instr>,
+    pile: &mut Pile,
 ) -> Result<Instr, Fault>
     ensures reads { (fuel : ℕ) → length cursor.old ≤ fuel → Gives result cursor.new (block_at (sequence_at many fuel) deeper opener ty cursor.old) }
     ensures shorter { OnOk result (length cursor.new < length cursor.old) }
-    ensures pile { OnOk result (pile.new ≡ pile.old) }
+    ensures pile { OnOk result (pile.new.instrs ≡ pile.old.instrs) }
+    ensures uses { IfOk result (λ i. pile.new.uses_data ≡ (pile.old.uses_data || uses_data_in i)) }
 {
     if deeper == 0 {
         return Err(Fault::Limit {
@@ -98,9 +104,10 @@ pub fn read_body(
     alloc: Global,
     cursor: &mut Cursor<'_>,
     many: bool,
-    pile: &mut Items<Instr>,
+    pile: &mut Pile,
 ) -> Result<Items<Instr>, Fault>
-    ensures { GivesAll result (body_at many cursor.old) }
+    ensures gives { GivesAll result (body_at many cursor.old) }
+    ensures uses { IfOk result (λ is. pile.new.uses_data ≡ (pile.old.uses_data || uses_data is)) }
 {
     let body = read_sequence(alloc, cursor, many, MOST_NESTING, pile)?;
     if body.by_else {

@@ -1,15 +1,17 @@
-ghost use Rattle.std.specs.Prelude.{◌≡◌, ◌<◌, ◌≤◌, ◌+◌, length, OnOk, IfOk};
+ghost use Rattle.std.specs.Prelude.{◌≡◌, ◌<◌, ◌≤◌, ◌+◌, ◌||◌, length, OnOk, IfOk};
+ghost use Rattle.wasm_tree.specs.DataUse.{uses_data};
 ghost use Rattle.wasm_format.specs.Reading.{Gives, GivesAll, local_at, locals_at, each_from, with_group};
 ghost use Rattle.wasm_format.specs.BodyReading.{code_at};
 ghost use Rattle.wasm_tree.specs.Limits.{limit};
 ghost use Rattle.wasm_tree.specs.declared.which.Which.TheVariants.{Locals};
 
 use crate::body::read_body;
+use crate::pile::Pile;
 use crate::vectors::Spelled;
 use std::alloc::Global;
 use wasm_bytes::{Cursor, Items};
 use wasm_format::Fault;
-use wasm_tree::{Func, Instr, LocalGroup, MOST_LOCALS, ValType, Which};
+use wasm_tree::{Func, LocalGroup, MOST_LOCALS, ValType, Which};
 
 /// A group of locals where so many came before.
 #[tactic(auto, unfolding(wasm_format::specs::Reading::local_at))]
@@ -62,13 +64,9 @@ fn read_locals(alloc: Global, cursor: &mut Cursor<'_>) -> Result<Items<LocalGrou
 /// What is inside a code entry: the locals and the body (WebAssembly Core 2.0, section 5.5.13). A function's type stands
 /// elsewhere, and is 0 here. `many` says that memories have indices. It answers the first fault, or want of memory.
 #[tactic(auto, unfolding(wasm_format::specs::BodyReading::code_at))]
-pub fn read_code(
-    alloc: Global,
-    bytes: &[u8],
-    many: bool,
-    pile: &mut Items<Instr>,
-) -> Result<Func, Fault>
-    ensures { GivesAll result (code_at many bytes.now) }
+pub fn read_code(alloc: Global, bytes: &[u8], many: bool, pile: &mut Pile) -> Result<Func, Fault>
+    ensures gives { GivesAll result (code_at many bytes.now) }
+    ensures uses { IfOk result (λ f. pile.new.uses_data ≡ (pile.old.uses_data || uses_data f.body)) }
 {
     let mut cursor = Cursor::new(bytes);
     let locals = read_locals(alloc, &mut cursor)?;

@@ -6,6 +6,7 @@ mod constants;
 mod entry;
 mod imports;
 mod operations;
+mod pile;
 mod segments;
 mod tokens;
 mod types;
@@ -13,5 +14,6 @@ mod vectors;
 
 pub use entry::read_code;
 pub use imports::read_name;
+pub use pile::Pile;
 pub use segments::read_sized;
 pub use vectors::{Spelled, read_whole};

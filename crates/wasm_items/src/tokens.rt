@@ -1,14 +1,16 @@
 ghost use Rattle.std.specs.Prelude.{◌≡◌, ◌<◌, ◌≤◌, Bool, length, OnOk};
 ghost use Rattle.wasm_format.specs.Reading.{Gives};
+ghost use Rattle.wasm_items.specs.Piled.{Tells};
 ghost use Rattle.wasm_format.specs.Tokens.{rest_form, sub_form};
 ghost use Rattle.wasm_format.specs.BodyReading.{arg_at, memory_at, simple_of, prefixed_at, token_of, token_at};
 
 use crate::operations::{bin_of, load_of, store_of, un_of};
-use crate::types::{read_block_type, read_tag, read_u32};
+use crate::pile::{Kind, Pile};
+use crate::types::{read_s32, read_s64, read_tag, read_u32};
 use crate::vectors::{Spelled, read_list};
 use std::alloc::Global;
 use wasm_bytes::Cursor;
-use wasm_format::{Fault, Opener, Token};
+use wasm_format::{Fault, Opener};
 use wasm_tree::{Instr, MemArg, RefType};
 
 /// A memory argument (WebAssembly Core 2.0, section 5.4.6).
@@ -62,97 +64,83 @@ fn read_memory(cursor: &mut Cursor<'_>, many: bool) -> Result<u32, Fault>
 
 /// The rest of a token that begins with `FC`, and has a number of an instruction that there is.
 #[tactic(auto, unfolding(wasm_format::specs::BodyReading::simple_of, wasm_format::specs::Tokens::sub_form))]
-fn read_bulk(cursor: &mut Cursor<'_>, many: bool, code: u32) -> Result<Token, Fault>
+fn read_bulk(cursor: &mut Cursor<'_>, many: bool, code: u32, pile: &mut Pile) -> Result<Kind, Fault>
     requires least { 8 ≤ code }
     requires most { code ≤ 17 }
-    ensures gives { Gives result cursor.new (simple_of many (sub_form code) cursor.old) }
+    ensures gives { Tells result cursor.new pile.old pile.new (simple_of many (sub_form code) cursor.old) }
     ensures shorter { OnOk result (length cursor.new ≤ length cursor.old) }
 {
     match code {
         8 => {
             let segment = read_u32(cursor)?;
             let memory = read_memory(cursor, many)?;
-            Ok(Token::Plain(Instr::MemoryInit { segment, memory }))
+            pile.plain_with_data(Instr::MemoryInit { segment, memory })
         }
-        9 => Ok(Token::Plain(Instr::DataDrop(read_u32(cursor)?))),
+        9 => pile.plain_with_data(Instr::DataDrop(read_u32(cursor)?)),
         10 => {
             let to = read_memory(cursor, many)?;
             let from = read_memory(cursor, many)?;
-            Ok(Token::Plain(Instr::MemoryCopy { to, from }))
+            pile.plain(Instr::MemoryCopy { to, from })
         }
-        11 => Ok(Token::Plain(Instr::MemoryFill(read_memory(cursor, many)?))),
+        11 => pile.plain(Instr::MemoryFill(read_memory(cursor, many)?)),
         12 => {
             let segment = read_u32(cursor)?;
             let table = read_u32(cursor)?;
-            Ok(Token::Plain(Instr::TableInit { segment, table }))
+            pile.plain(Instr::TableInit { segment, table })
         }
-        13 => Ok(Token::Plain(Instr::ElemDrop(read_u32(cursor)?))),
+        13 => pile.plain(Instr::ElemDrop(read_u32(cursor)?)),
         14 => {
             let to = read_u32(cursor)?;
             let from = read_u32(cursor)?;
-            Ok(Token::Plain(Instr::TableCopy { to, from }))
+            pile.plain(Instr::TableCopy { to, from })
         }
-        15 => Ok(Token::Plain(Instr::TableGrow(read_u32(cursor)?))),
-        16 => Ok(Token::Plain(Instr::TableSize(read_u32(cursor)?))),
-        17 => Ok(Token::Plain(Instr::TableFill(read_u32(cursor)?))),
+        15 => pile.plain(Instr::TableGrow(read_u32(cursor)?)),
+        16 => pile.plain(Instr::TableSize(read_u32(cursor)?)),
+        17 => pile.plain(Instr::TableFill(read_u32(cursor)?)),
         _ => unreachable!(),
     }
 }
 
 /// The rest of a token that begins with `FC` (WebAssembly Core 2.0, sections 5.4.5 and 5.4.6).
 #[tactic(auto, unfolding(wasm_format::specs::BodyReading::prefixed_at, wasm_format::specs::BodyReading::simple_of, wasm_format::specs::Tokens::sub_form))]
-fn read_prefixed(cursor: &mut Cursor<'_>, many: bool) -> Result<Token, Fault>
-    ensures gives { Gives result cursor.new (prefixed_at many cursor.old) }
+fn read_prefixed(cursor: &mut Cursor<'_>, many: bool, pile: &mut Pile) -> Result<Kind, Fault>
+    ensures gives { Tells result cursor.new pile.old pile.new (prefixed_at many cursor.old) }
     ensures shorter { OnOk result (length cursor.new < length cursor.old) }
 {
     let code = read_u32(cursor)?;
     match code {
         0..=7 => Err(Fault::Unsupported),
-        8..=17 => read_bulk(cursor, many, code),
+        8..=17 => read_bulk(cursor, many, code, pile),
         _ => Err(Fault::Malformed),
     }
 }
 
-/// The rest of a token that begins a block or an else, or is unreachable or nop (WebAssembly Core 2.0, section 5.4.1).
+/// The rest of an instruction that branches or calls (WebAssembly Core 2.0, section 5.4.1).
 #[tactic(auto, unfolding(wasm_format::specs::BodyReading::simple_of, wasm_format::specs::Tokens::rest_form))]
-fn read_opening(alloc: Global, cursor: &mut Cursor<'_>, opcode: u8) -> Result<Token, Fault>
-    requires most { opcode ≤ 0x05 }
-    ensures gives { (many : Bool) → Gives result cursor.new (token_of many (rest_form opcode) cursor.old) }
-    ensures shorter { OnOk result (length cursor.new ≤ length cursor.old) }
-{
-    match opcode {
-        0x00 => Ok(Token::Plain(Instr::Unreachable)),
-        0x01 => Ok(Token::Plain(Instr::Nop)),
-        0x02 => Ok(Token::Open(Opener::Block, read_block_type(alloc, cursor)?)),
-        0x03 => Ok(Token::Open(Opener::Loop, read_block_type(alloc, cursor)?)),
-        0x04 => Ok(Token::Open(Opener::If, read_block_type(alloc, cursor)?)),
-        0x05 => Ok(Token::Else),
-        _ => unreachable!(),
-    }
-}
-
-/// The rest of a token that ends a block, branches or calls (WebAssembly Core 2.0, section 5.4.1).
-#[tactic(auto, unfolding(wasm_format::specs::BodyReading::simple_of, wasm_format::specs::Tokens::rest_form))]
-fn read_branch(alloc: Global, cursor: &mut Cursor<'_>, opcode: u8) -> Result<Token, Fault>
-    requires least { 0x0B ≤ opcode }
+fn read_branch(
+    alloc: Global,
+    cursor: &mut Cursor<'_>,
+    opcode: u8,
+    pile: &mut Pile,
+) -> Result<Kind, Fault>
+    requires least { 0x0C ≤ opcode }
     requires most { opcode ≤ 0x11 }
-    ensures gives { (many : Bool) → Gives result cursor.new (token_of many (rest_form opcode) cursor.old) }
+    ensures gives { (many : Bool) → Tells result cursor.new pile.old pile.new (token_of many (rest_form opcode) cursor.old) }
     ensures shorter { OnOk result (length cursor.new ≤ length cursor.old) }
 {
     match opcode {
-        0x0B => Ok(Token::End),
-        0x0C => Ok(Token::Plain(Instr::Br(read_u32(cursor)?))),
-        0x0D => Ok(Token::Plain(Instr::BrIf(read_u32(cursor)?))),
+        0x0C => pile.plain(Instr::Br(read_u32(cursor)?)),
+        0x0D => pile.plain(Instr::BrIf(read_u32(cursor)?)),
         0x0E => {
             let labels = read_list(alloc, cursor)?;
-            Ok(Token::Plain(Instr::BrTable(labels, read_u32(cursor)?)))
+            pile.plain(Instr::BrTable(labels, read_u32(cursor)?))
         }
-        0x0F => Ok(Token::Plain(Instr::Return)),
-        0x10 => Ok(Token::Plain(Instr::Call(read_u32(cursor)?))),
+        0x0F => pile.plain(Instr::Return),
+        0x10 => pile.plain(Instr::Call(read_u32(cursor)?)),
         0x11 => {
             let ty = read_u32(cursor)?;
             let table = read_u32(cursor)?;
-            Ok(Token::Plain(Instr::CallIndirect { ty, table }))
+            pile.plain(Instr::CallIndirect { ty, table })
         }
         _ => unreachable!(),
     }
@@ -160,101 +148,133 @@ fn read_branch(alloc: Global, cursor: &mut Cursor<'_>, opcode: u8) -> Result<Tok
 
 /// The rest of a parametric instruction (WebAssembly Core 2.0, section 5.4.3).
 #[tactic(auto, unfolding(wasm_format::specs::BodyReading::simple_of, wasm_format::specs::Tokens::rest_form))]
-fn read_parametric(alloc: Global, cursor: &mut Cursor<'_>, opcode: u8) -> Result<Token, Fault>
+fn read_parametric(
+    alloc: Global,
+    cursor: &mut Cursor<'_>,
+    opcode: u8,
+    pile: &mut Pile,
+) -> Result<Kind, Fault>
     requires least { 0x1A ≤ opcode }
     requires most { opcode ≤ 0x1C }
-    ensures gives { (many : Bool) → Gives result cursor.new (token_of many (rest_form opcode) cursor.old) }
+    ensures gives { (many : Bool) → Tells result cursor.new pile.old pile.new (token_of many (rest_form opcode) cursor.old) }
     ensures shorter { OnOk result (length cursor.new ≤ length cursor.old) }
 {
     match opcode {
-        0x1A => Ok(Token::Plain(Instr::Drop)),
-        0x1B => Ok(Token::Plain(Instr::Select)),
-        0x1C => Ok(Token::Plain(Instr::SelectTyped(read_list(alloc, cursor)?))),
+        0x1A => pile.plain(Instr::Drop),
+        0x1B => pile.plain(Instr::Select),
+        0x1C => pile.plain(Instr::SelectTyped(read_list(alloc, cursor)?)),
         _ => unreachable!(),
     }
 }
 
 /// The rest of an instruction on a variable or an item of a table (WebAssembly Core 2.0, sections 5.4.4 and 5.4.5).
 #[tactic(auto, unfolding(wasm_format::specs::BodyReading::simple_of, wasm_format::specs::Tokens::rest_form))]
-fn read_variable(cursor: &mut Cursor<'_>, opcode: u8) -> Result<Token, Fault>
+fn read_variable(cursor: &mut Cursor<'_>, opcode: u8, pile: &mut Pile) -> Result<Kind, Fault>
     requires least { 0x20 ≤ opcode }
     requires most { opcode ≤ 0x26 }
-    ensures gives { (many : Bool) → Gives result cursor.new (token_of many (rest_form opcode) cursor.old) }
+    ensures gives { (many : Bool) → Tells result cursor.new pile.old pile.new (token_of many (rest_form opcode) cursor.old) }
     ensures shorter { OnOk result (length cursor.new ≤ length cursor.old) }
 {
     let index = read_u32(cursor)?;
     match opcode {
-        0x20 => Ok(Token::Plain(Instr::LocalGet(index))),
-        0x21 => Ok(Token::Plain(Instr::LocalSet(index))),
-        0x22 => Ok(Token::Plain(Instr::LocalTee(index))),
-        0x23 => Ok(Token::Plain(Instr::GlobalGet(index))),
-        0x24 => Ok(Token::Plain(Instr::GlobalSet(index))),
-        0x25 => Ok(Token::Plain(Instr::TableGet(index))),
-        0x26 => Ok(Token::Plain(Instr::TableSet(index))),
+        0x20 => pile.plain(Instr::LocalGet(index)),
+        0x21 => pile.plain(Instr::LocalSet(index)),
+        0x22 => pile.plain(Instr::LocalTee(index)),
+        0x23 => pile.plain(Instr::GlobalGet(index)),
+        0x24 => pile.plain(Instr::GlobalSet(index)),
+        0x25 => pile.plain(Instr::TableGet(index)),
+        0x26 => pile.plain(Instr::TableSet(index)),
         _ => unreachable!(),
     }
 }
 
 /// The rest of an instruction on a memory's size, or of a constant (WebAssembly Core 2.0, sections 5.4.6 and 5.4.7).
 #[tactic(auto, unfolding(wasm_format::specs::BodyReading::simple_of, wasm_format::specs::Tokens::rest_form))]
-fn read_size(cursor: &mut Cursor<'_>, many: bool, opcode: u8) -> Result<Token, Fault>
+fn read_size(
+    cursor: &mut Cursor<'_>,
+    many: bool,
+    opcode: u8,
+    pile: &mut Pile,
+) -> Result<Kind, Fault>
     requires least { 0x3F ≤ opcode }
     requires most { opcode ≤ 0x42 }
-    ensures gives { Gives result cursor.new (token_of many (rest_form opcode) cursor.old) }
+    ensures gives { Tells result cursor.new pile.old pile.new (token_of many (rest_form opcode) cursor.old) }
     ensures shorter { OnOk result (length cursor.new ≤ length cursor.old) }
 {
     match opcode {
-        0x3F => Ok(Token::Plain(Instr::MemorySize(read_memory(cursor, many)?))),
-        0x40 => Ok(Token::Plain(Instr::MemoryGrow(read_memory(cursor, many)?))),
-        0x41 => Ok(Token::Plain(Instr::I32Const(cursor.s32()?))),
-        0x42 => Ok(Token::Plain(Instr::I64Const(cursor.s64()?))),
+        0x3F => pile.plain(Instr::MemorySize(read_memory(cursor, many)?)),
+        0x40 => pile.plain(Instr::MemoryGrow(read_memory(cursor, many)?)),
+        0x41 => pile.plain(Instr::I32Const(read_s32(cursor)?)),
+        0x42 => pile.plain(Instr::I64Const(read_s64(cursor)?)),
         _ => unreachable!(),
     }
 }
 
 /// The rest of an instruction on references (WebAssembly Core 2.0, section 5.4.2).
 #[tactic(auto, unfolding(wasm_format::specs::BodyReading::simple_of, wasm_format::specs::Tokens::rest_form))]
-fn read_reference(alloc: Global, cursor: &mut Cursor<'_>, opcode: u8) -> Result<Token, Fault>
+fn read_reference(
+    alloc: Global,
+    cursor: &mut Cursor<'_>,
+    opcode: u8,
+    pile: &mut Pile,
+) -> Result<Kind, Fault>
     requires least { 0xD0 ≤ opcode }
     requires most { opcode ≤ 0xD2 }
-    ensures gives { (many : Bool) → Gives result cursor.new (token_of many (rest_form opcode) cursor.old) }
+    ensures gives { (many : Bool) → Tells result cursor.new pile.old pile.new (token_of many (rest_form opcode) cursor.old) }
     ensures shorter { OnOk result (length cursor.new ≤ length cursor.old) }
 {
     match opcode {
-        0xD0 => Ok(Token::Plain(Instr::RefNull(RefType::read(alloc, cursor)?))),
-        0xD1 => Ok(Token::Plain(Instr::RefIsNull)),
-        0xD2 => Ok(Token::Plain(Instr::RefFunc(read_u32(cursor)?))),
+        0xD0 => pile.plain(Instr::RefNull(RefType::read(alloc, cursor)?)),
+        0xD1 => pile.plain(Instr::RefIsNull),
+        0xD2 => pile.plain(Instr::RefFunc(read_u32(cursor)?)),
         _ => unreachable!(),
     }
 }
 
 /// The rest of a token that opens or ends a block, branches, calls, is unreachable or nop, or is parametric (WebAssembly Core 2.0, sections 5.4.1 and 5.4.3).
 #[tactic(auto, unfolding(wasm_format::specs::BodyReading::simple_of, wasm_format::specs::Tokens::rest_form))]
-fn read_control(alloc: Global, cursor: &mut Cursor<'_>, opcode: u8) -> Result<Token, Fault>
+fn read_control(
+    alloc: Global,
+    cursor: &mut Cursor<'_>,
+    opcode: u8,
+    pile: &mut Pile,
+) -> Result<Kind, Fault>
     requires most { opcode ≤ 0x1F }
-    ensures gives { (many : Bool) → Gives result cursor.new (token_of many (rest_form opcode) cursor.old) }
+    ensures gives { (many : Bool) → Tells result cursor.new pile.old pile.new (token_of many (rest_form opcode) cursor.old) }
     ensures shorter { OnOk result (length cursor.new ≤ length cursor.old) }
 {
     match opcode {
-        0x00..=0x05 => read_opening(alloc, cursor, opcode),
-        0x0B..=0x11 => read_branch(alloc, cursor, opcode),
-        0x1A..=0x1C => read_parametric(alloc, cursor, opcode),
+        0x00 => pile.plain(Instr::Unreachable),
+        0x01 => pile.plain(Instr::Nop),
+        0x02 => Ok(Kind::Open(Opener::Block)),
+        0x03 => Ok(Kind::Open(Opener::Loop)),
+        0x04 => Ok(Kind::Open(Opener::If)),
+        0x05 => Ok(Kind::Else),
+        0x0B => Ok(Kind::End),
+        0x0C..=0x11 => read_branch(alloc, cursor, opcode, pile),
+        0x1A..=0x1C => read_parametric(alloc, cursor, opcode, pile),
         _ => Err(Fault::Malformed),
     }
 }
 
 /// The rest of a token whose opcode is no operation, load or store (WebAssembly Core 2.0, section 5.4).
 #[tactic(auto, unfolding(wasm_format::specs::BodyReading::simple_of, wasm_format::specs::Tokens::rest_form))]
-fn read_rest(alloc: Global, cursor: &mut Cursor<'_>, many: bool, opcode: u8) -> Result<Token, Fault>
-    ensures gives { Gives result cursor.new (token_of many (rest_form opcode) cursor.old) }
+fn read_rest(
+    alloc: Global,
+    cursor: &mut Cursor<'_>,
+    many: bool,
+    opcode: u8,
+    pile: &mut Pile,
+) -> Result<Kind, Fault>
+    ensures gives { Tells result cursor.new pile.old pile.new (token_of many (rest_form opcode) cursor.old) }
     ensures shorter { OnOk result (length cursor.new ≤ length cursor.old) }
 {
     match opcode {
-        0x00..=0x1F => read_control(alloc, cursor, opcode),
-        0x20..=0x26 => read_variable(cursor, opcode),
-        0x3F..=0x42 => read_size(cursor, many, opcode),
-        0xD0..=0xD2 => read_reference(alloc, cursor, opcode),
-        0xFC => read_prefixed(cursor, many),
+        0x00..=0x1F => read_control(alloc, cursor, opcode, pile),
+        0x20..=0x26 => read_variable(cursor, opcode, pile),
+        0x3F..=0x42 => read_size(cursor, many, opcode, pile),
+        0xD0..=0xD2 => read_reference(alloc, cursor, opcode, pile),
+        0xFC => read_prefixed(cursor, many, pile),
         0x2A..=0x2B
         | 0x38..=0x39
         | 0x43..=0x44
@@ -269,22 +289,31 @@ fn read_rest(alloc: Global, cursor: &mut Cursor<'_>, many: bool, opcode: u8) -> 
 
 /// An opcode with its immediates (WebAssembly Core 2.0, section 5.4). `many` says that memories have indices.
 #[tactic(auto, unfolding(wasm_format::specs::BodyReading::simple_of, wasm_format::specs::BodyReading::token_at, wasm_format::specs::Tokens::the_form))]
-pub fn read_token(alloc: Global, cursor: &mut Cursor<'_>, many: bool) -> Result<Token, Fault>
-    ensures gives { Gives result cursor.new (token_at many cursor.old) }
+pub fn read_token(
+    alloc: Global,
+    cursor: &mut Cursor<'_>,
+    many: bool,
+    pile: &mut Pile,
+) -> Result<Kind, Fault>
+    ensures gives { Tells result cursor.new pile.old pile.new (token_at many cursor.old) }
     ensures shorter { OnOk result (length cursor.new < length cursor.old) }
 {
     let opcode = cursor.byte()?;
+    // most are instructions on variables
+    if let 0x20..=0x26 = opcode {
+        return read_variable(cursor, opcode, pile);
+    }
     if let Some(op) = un_of(opcode) {
-        return Ok(Token::Plain(Instr::Un(op)));
+        return pile.plain(Instr::Un(op));
     }
     if let Some(op) = bin_of(opcode) {
-        return Ok(Token::Plain(Instr::Bin(op)));
+        return pile.plain(Instr::Bin(op));
     }
     if let Some(op) = load_of(opcode) {
-        return Ok(Token::Plain(Instr::Load(op, read_arg(cursor, many)?)));
+        return pile.plain(Instr::Load(op, read_arg(cursor, many)?));
     }
     if let Some(op) = store_of(opcode) {
-        return Ok(Token::Plain(Instr::Store(op, read_arg(cursor, many)?)));
+        return pile.plain(Instr::Store(op, read_arg(cursor, many)?));
     }
-    read_rest(alloc, cursor, many, opcode)
+    read_rest(alloc, cursor, many, opcode, pile)
 }

@@ -1,5 +1,5 @@
 ghost use Rattle.std.specs.Prelude.{◌≡◌, ◌<◌, length, OnOk};
-ghost use Rattle.wasm_format.specs.Reading.{Gives, u32_at, tag_at, val_at, ref_at, block_type_at, func_type_at, limits_at, table_at, mut_at, global_at};
+ghost use Rattle.wasm_format.specs.Reading.{Gives, u32_at, s32_at, s64_at, tag_at, val_at, ref_at, block_type_at, func_type_at, limits_at, table_at, mut_at, global_at};
 
 use crate::vectors::{Spelled, read_vector};
 use std::alloc::Global;
@@ -17,6 +17,26 @@ pub fn read_u32(cursor: &mut Cursor<'_>) -> Result<u32, Fault>
         Some(0x00..=0x7F) => Ok(u32::from(cursor.byte()?)),
         _ => Ok(cursor.u32()?),
     }
+}
+
+/// An s32 (WebAssembly Core 2.0, section 5.2.2). Many are at least 0 and below 64, which one byte spells.
+#[tactic(auto, unfolding(wasm_bytes::specs::Reading::signed_at))]
+pub fn read_s32(cursor: &mut Cursor<'_>) -> Result<i32, Fault>
+    ensures gives { Gives result cursor.new (s32_at cursor.old) }
+    ensures shorter { OnOk result (length cursor.new < length cursor.old) }
+{
+    match cursor.peek() {
+        Some(0x00..=0x3F) => Ok(i32::from(cursor.byte()?)),
+        _ => Ok(cursor.s32()?),
+    }
+}
+
+/// An s64 (WebAssembly Core 2.0, section 5.2.2).
+pub fn read_s64(cursor: &mut Cursor<'_>) -> Result<i64, Fault>
+    ensures gives { Gives result cursor.new (s64_at cursor.old) }
+    ensures shorter { OnOk result (length cursor.new < length cursor.old) }
+{
+    Ok(cursor.s64()?)
 }
 
 impl Spelled for u32 {

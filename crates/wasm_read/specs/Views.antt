@@ -1,10 +1,16 @@
--- What the frames of a file are to the reader.
+-- What the frames of a file and their contents are to the reader.
 use Rattle.std.specs.Prelude.{◌≡◌, ℕ, List, Result, Ok, Err}
 use Rattle.wasm_bytes.specs.declared.framing.Frame.{Frame as Place}
 use Rattle.wasm_bytes.specs.FrameViews.{framed_all}
 use Rattle.wasm_format.specs.declared.fault.ReadFault.{ReadFault}
+use Rattle.wasm_format.specs.declared.parts.Parts.{Parts}
 use Rattle.wasm_format.specs.Contents.{Fails, framed_at}
+use Rattle.wasm_read.specs.declared.sections.Found.{Found}
 
 abbrev pub GivesFramed : List ℕ → Result (List Place) ReadFault → Type 0
 GivesFramed bytes (Ok fs) = framed_at bytes ≡ Ok (framed_all bytes fs)
 GivesFramed bytes (Err e) = Fails e (framed_at bytes)
+
+abbrev pub GivesParts : Result Found ReadFault → Result Parts ReadFault → Type 0
+GivesParts (Ok c) read = read ≡ Ok c.parts
+GivesParts (Err e) read = Fails e read

@@ -1,4 +1,5 @@
-ghost use Rattle.std.specs.Prelude.{◌≡◌, ◌<◌, ◌≤◌, ◌+◌, ◌^◌, length, OnOk, IfOk};
+ghost use Rattle.std.specs.Prelude.{◌≡◌, ◌<◌, ◌≤◌, ◌+◌, ◌^◌, ◌||◌, length, OnOk, IfOk};
+ghost use Rattle.wasm_tree.specs.DataUse.{uses_data, any_uses_data};
 ghost use Rattle.wasm_tree.specs.Limits.{limit};
 ghost use Rattle.wasm_tree.specs.declared.which.Which.TheVariants.{Imports};
 ghost use Rattle.wasm_format.specs.Reading.{each_from};
@@ -7,8 +8,8 @@ ghost use Rattle.wasm_format.specs.Contents.{placed, Gives, GivesAll, entry_at, 
 use std::alloc::Global;
 use wasm_bytes::{Cursor, Items};
 use wasm_format::{Fault, ReadFault};
-use wasm_items::{read_code, read_sized};
-use wasm_tree::{Func, Instr, MOST_FUNCTIONS, Which};
+use wasm_items::{Pile, read_code, read_sized};
+use wasm_tree::{Func, MOST_FUNCTIONS, Which};
 
 /// The fault of a section, or of a function's entry in it.
 pub fn place(section: u32, func: Option<u32>, fault: Fault) -> ReadFault
@@ -33,9 +34,10 @@ fn read_entry(
     many: bool,
     section: u32,
     func: u32,
-    pile: &mut Items<Instr>,
+    pile: &mut Pile,
 ) -> Result<Func, ReadFault>
     ensures gives { Gives result cursor.new (entry_at many section func cursor.old) }
+    ensures uses { IfOk result (λ f. pile.new.uses_data ≡ (pile.old.uses_data || uses_data f.body)) }
 {
     let content = match read_sized(cursor) {
         Ok(content) => content,
@@ -56,15 +58,16 @@ fn read_entries(
     section: u32,
     count: u32,
     first: u32,
+    pile: &mut Pile,
 ) -> Result<Items<Func>, ReadFault>
     requires { first + count < 2 ^ 32 }
     ensures gives { Gives result cursor.new (each_from (entry_at many section) next_func count first cursor.old) }
+    ensures uses { IfOk result (λ fs. pile.new.uses_data ≡ (pile.old.uses_data || any_uses_data fs)) }
 {
     let mut codes = Items::new(alloc);
-    let mut pile = Items::new(alloc);
     let mut func = first;
     for _i in 0..count {
-        let code = read_entry(alloc, cursor, many, section, func, &mut pile)?;
+        let code = read_entry(alloc, cursor, many, section, func, pile)?;
         match codes.keep(code) {
             Ok(()) => (),
             Err(_) => return Err(ReadFault::NoMemory),
@@ -82,9 +85,11 @@ pub fn read_codes(
     many: bool,
     section: u32,
     first: u32,
+    pile: &mut Pile,
 ) -> Result<Items<Func>, ReadFault>
     requires { first ≤ limit Imports }
-    ensures { GivesAll result (codes_at many section first content.now) }
+    ensures gives { GivesAll result (codes_at many section first content.now) }
+    ensures uses { IfOk result (λ fs. pile.new.uses_data ≡ (pile.old.uses_data || any_uses_data fs)) }
 {
     let mut cursor = Cursor::new(content);
     let count = match cursor.u32() {
@@ -96,7 +101,7 @@ pub fn read_codes(
             which: Which::Functions,
         });
     }
-    let codes = read_entries(alloc, &mut cursor, many, section, count, first)?;
+    let codes = read_entries(alloc, &mut cursor, many, section, count, first, pile)?;
     if cursor.left() != 0 {
         return Err(ReadFault::Malformed { section });
     }

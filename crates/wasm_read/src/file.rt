@@ -3,14 +3,15 @@ ghost use Rattle.wasm_bytes.specs.Reading.{IsBytes};
 ghost use Rattle.wasm_bytes.specs.FrameViews.{Inside, framed, framed_all};
 ghost use Rattle.wasm_tree.specs.declared.module.Module.{Module as ModuleTree};
 ghost use Rattle.wasm_tree.specs.Bounds.{IsBounded};
+ghost use Rattle.wasm_tree.specs.DataUse.{any_uses_data};
 ghost use Rattle.wasm_tree.specs.MemoryZero.{memory_zero_funcs};
 ghost use Rattle.wasm_format.specs.declared.fault.ReadFault.{ReadFault as SomeFault};
 ghost use Rattle.wasm_format.specs.Files.{nothing, tree_of, Spells, Within};
 ghost use Rattle.wasm_format.specs.Contents.{GivesAll, contents_at, read_at, read_fault};
-ghost use Rattle.wasm_read.specs.Views.{GivesFramed};
+ghost use Rattle.wasm_read.specs.Views.{GivesFramed, GivesParts};
 
 use crate::rules::{agree, set_types};
-use crate::sections::read_section;
+use crate::sections::{Found, read_section};
 use std::alloc::Global;
 use wasm_bytes::{Frame, FrameFault, Items, frames};
 use wasm_format::{Parts, ReadFault, spelled_bodies_name_memory_zero, spelled_trees_are_bounded};
@@ -58,19 +59,23 @@ fn no_parts(alloc: Global) -> Parts
 }
 
 /// What the frames hold, or the first fault inside one.
-fn read_contents(alloc: Global, bytes: &[u8], many: bool, all: &[Frame]) -> Result<Parts, ReadFault>
+fn read_contents(alloc: Global, bytes: &[u8], many: bool, all: &[Frame]) -> Result<Found, ReadFault>
     requires inside { Inside bytes.now all.now }
     requires small { length bytes.now < 2 ^ 32 }
-    ensures { GivesAll result (contents_at many 0 nothing (framed_all bytes.now all.now)) }
+    ensures gives { GivesParts result (contents_at many 0 nothing (framed_all bytes.now all.now)) }
+    ensures uses { IfOk result (λ c. c.uses_data ≡ any_uses_data c.parts.codes) }
 {
-    let mut parts = no_parts(alloc);
+    let mut found = Found {
+        parts: no_parts(alloc),
+        uses_data: false,
+    };
     let mut section = 0u32;
     for frame in all {
         let content = content_of(bytes, *frame);
-        read_section(alloc, many, section, &mut parts, frame.id, content)?;
+        read_section(alloc, many, section, &mut found, frame.id, content)?;
         section += 1;
     }
-    Ok(parts)
+    Ok(found)
 }
 
 /// The tree of parts that agree.
@@ -103,11 +108,11 @@ fn read_file(alloc: Global, bytes: &[u8], many: bool) -> Result<Module, ReadFaul
 {
     let all = frame_list(alloc, bytes)?;
     let count = all.len() as u32;
-    let parts = read_contents(alloc, bytes, many, all.as_slice())?;
-    if !agree(&parts) {
+    let found = read_contents(alloc, bytes, many, all.as_slice())?;
+    if !agree(&found.parts, found.uses_data) {
         return Err(ReadFault::Malformed { section: count });
     }
-    Ok(tree(parts))
+    Ok(tree(found.parts))
 }
 
 /// The tree that a module file spells (WebAssembly Core 2.0, chapter 5), within the limits on counts, nesting and locals.

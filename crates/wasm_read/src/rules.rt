@@ -1,14 +1,16 @@
 ghost use Rattle.std.specs.Prelude.{◌≡◌, ◌≤◌, length, IsTrue};
+ghost use Rattle.wasm_tree.specs.DataUse.{any_uses_data};
 ghost use Rattle.wasm_format.specs.Contents.{agrees};
 ghost use Rattle.wasm_format.specs.Files.{typed};
 
 use wasm_bytes::Items;
 use wasm_format::Parts;
-use wasm_tree::{Func, any_uses_data};
+use wasm_tree::Func;
 
-/// Whether the sections agree with one another (WebAssembly Core 2.0, section 5.5.16).
+/// Whether the sections agree with one another (WebAssembly Core 2.0, section 5.5.16). It is told whether a body names a data segment.
 #[tactic(auto, unfolding(wasm_format::specs::Contents::agrees))]
-pub fn agree(parts: &Parts) -> bool
+pub fn agree(parts: &Parts, uses_data: bool) -> bool
+    requires { uses_data ≡ any_uses_data parts.now.codes }
     ensures value { result ≡ agrees parts.now }
     ensures lengths { IsTrue result → length parts.now.func_types ≡ length parts.now.codes }
 {
@@ -16,7 +18,7 @@ pub fn agree(parts: &Parts) -> bool
         return false;
     }
     match parts.data_count {
-        None => !any_uses_data(parts.codes.as_slice()),
+        None => !uses_data,
         Some(count) => count as usize == parts.datas.len(),
     }
 }

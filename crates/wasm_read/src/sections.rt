@@ -1,5 +1,6 @@
 ghost use Rattle.std.specs.Prelude.{◌≡◌, ◌≤◌, length, OnOk};
 ghost use Rattle.wasm_tree.specs.Spaces.{imported_funcs};
+ghost use Rattle.wasm_tree.specs.DataUse.{any_uses_data};
 ghost use Rattle.wasm_tree.specs.Limits.{limit};
 ghost use Rattle.wasm_tree.specs.declared.which.Which.TheVariants.{Imports};
 ghost use Rattle.wasm_format.specs.Reading.{GivesAll as GivesWhole, whole_at, u32_at};
@@ -9,8 +10,16 @@ use crate::codes::{place, read_codes};
 use std::alloc::Global;
 use wasm_bytes::Cursor;
 use wasm_format::{Fault, Parts, ReadFault};
-use wasm_items::{read_name, read_whole};
+use wasm_items::{Pile, read_name, read_whole};
 use wasm_tree::{Import, Which};
+
+/// What the sections hold that were read so far.
+#[derive(Drop)]
+pub struct Found {
+    pub parts: Parts,
+    /// Whether a body names a data segment.
+    pub uses_data: bool,
+}
 
 /// A custom section begins with a name (WebAssembly Core 2.0, section 5.5.3).
 fn read_custom(content: &[u8]) -> Result<(), Fault>
@@ -56,13 +65,15 @@ pub fn read_section(
     alloc: Global,
     many: bool,
     section: u32,
-    parts: &mut Parts,
+    found: &mut Found,
     id: u8,
     content: &[u8],
 ) -> Result<(), ReadFault>
-    requires { length parts.old.imports ≤ limit Imports }
-    ensures gives { GivesAfter result parts.new (section_at many section parts.old (id, content.now)) }
-    ensures few { OnOk result (length parts.new.imports ≤ limit Imports) }
+    requires few { length found.old.parts.imports ≤ limit Imports }
+    requires uses { found.old.uses_data ≡ any_uses_data found.old.parts.codes }
+    ensures gives { GivesAfter result found.new.parts (section_at many section found.old.parts (id, content.now)) }
+    ensures few { OnOk result (length found.new.parts.imports ≤ limit Imports) }
+    ensures uses { OnOk result (found.new.uses_data ≡ any_uses_data found.new.parts.codes) }
 {
     match id {
         0 => match read_custom(content) {
@@ -71,83 +82,85 @@ pub fn read_section(
         },
         1 => match read_whole(alloc, content, Which::Types) {
             Ok(types) => {
-                parts.types = types;
+                found.parts.types = types;
                 Ok(())
             }
             Err(fault) => Err(place(section, None, fault)),
         },
         2 => match read_whole(alloc, content, Which::Imports) {
             Ok(imports) => {
-                parts.imports = imports;
+                found.parts.imports = imports;
                 Ok(())
             }
             Err(fault) => Err(place(section, None, fault)),
         },
         3 => match read_whole(alloc, content, Which::Functions) {
             Ok(func_types) => {
-                parts.func_types = func_types;
+                found.parts.func_types = func_types;
                 Ok(())
             }
             Err(fault) => Err(place(section, None, fault)),
         },
         4 => match read_whole(alloc, content, Which::Tables) {
             Ok(tables) => {
-                parts.tables = tables;
+                found.parts.tables = tables;
                 Ok(())
             }
             Err(fault) => Err(place(section, None, fault)),
         },
         5 => match read_whole(alloc, content, Which::Memories) {
             Ok(mems) => {
-                parts.mems = mems;
+                found.parts.mems = mems;
                 Ok(())
             }
             Err(fault) => Err(place(section, None, fault)),
         },
         6 => match read_whole(alloc, content, Which::Globals) {
             Ok(globals) => {
-                parts.globals = globals;
+                found.parts.globals = globals;
                 Ok(())
             }
             Err(fault) => Err(place(section, None, fault)),
         },
         7 => match read_whole(alloc, content, Which::Exports) {
             Ok(exports) => {
-                parts.exports = exports;
+                found.parts.exports = exports;
                 Ok(())
             }
             Err(fault) => Err(place(section, None, fault)),
         },
         8 => match read_number(content) {
             Ok(start) => {
-                parts.start = Some(start);
+                found.parts.start = Some(start);
                 Ok(())
             }
             Err(fault) => Err(place(section, None, fault)),
         },
         9 => match read_whole(alloc, content, Which::ElementSegments) {
             Ok(elems) => {
-                parts.elems = elems;
+                found.parts.elems = elems;
                 Ok(())
             }
             Err(fault) => Err(place(section, None, fault)),
         },
         10 => {
-            let first = imported_funcs(parts.imports.as_slice());
-            let codes = read_codes(alloc, content, many, section, first)?;
-            parts.codes = codes;
+            let first = imported_funcs(found.parts.imports.as_slice());
+            let mut pile = Pile::new(alloc);
+            let codes = read_codes(alloc, content, many, section, first, &mut pile)?;
+            found.parts.codes = codes;
+            found.uses_data = pile.uses_data;
             Ok(())
         }
         11 => match read_whole(alloc, content, Which::DataSegments) {
             Ok(datas) => {
-                parts.datas = datas;
+                found.parts.datas = datas;
                 Ok(())
             }
             Err(fault) => Err(place(section, None, fault)),
         },
         12 => match read_number(content) {
             Ok(count) => {
-                parts.data_count = Some(count);
+                found.parts.data_count = Some(count);
                 Ok(())
             }
             Err(fault) => Err(place(section, None, fault)),

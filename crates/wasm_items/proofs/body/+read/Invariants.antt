@@ -1,5 +1,6 @@
-use Rattle.std.proofs.Common.{◌≡◌, ℕ, List, ◌+◌, ◌*◌, ◌≤◌, ◌++◌, length}
+use Rattle.std.proofs.Common.{◌≡◌, ◌||◌, ℕ, List, ◌+◌, ◌*◌, ◌≤◌, ◌++◌, length}
 use Rattle.wasm_tree.specs.declared.instr.Instr.{Instr}
+use Rattle.wasm_tree.specs.DataUse.{uses_data}
 use Rattle.wasm_format.specs.BodyReading.{sequence_at, behind}
 use Rattle.wasm_items.proofs.body.+read.Given as goal
 
@@ -13,10 +14,11 @@ decreases-read_sequence l = 2 * l.deeper + 1
 abbrev pub invariant-read_sequence-tokens : goal.invariant-read_sequence-tokens
 invariant-read_sequence-tokens l =
     (items : List Instr)
-    × (l.pile ≡ l.initial.pile ++ items)
-    × (l.start ≡ length l.initial.pile)
+    × (l.pile.instrs ≡ l.initial.pile.instrs ++ items)
+    × (l.start ≡ length l.initial.pile.instrs)
     × ((n : ℕ) → length l.initial.cursor ≤ n → (m : ℕ) × (length l.cursor ≤ m) × (sequence_at l.many n l.deeper l.initial.cursor ≡ behind items (sequence_at l.many m l.deeper l.cursor)))
     × (length l.cursor ≤ length l.initial.cursor)
+    × (l.pile.uses_data ≡ (l.initial.pile.uses_data || uses_data items))
 
 abbrev pub decreases-read_sequence-tokens : goal.decreases-read_sequence-tokens
 decreases-read_sequence-tokens l = length l.cursor

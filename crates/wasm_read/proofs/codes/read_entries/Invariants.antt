@@ -1,4 +1,5 @@
-use Rattle.std.proofs.Common.{◌≡◌, ◌-◌, ◌+◌}
+use Rattle.std.proofs.Common.{◌≡◌, ◌||◌, ◌-◌, ◌+◌}
+use Rattle.wasm_tree.specs.DataUse.{any_uses_data}
 use Rattle.wasm_format.specs.Reading.{each_from, with_front}
 use Rattle.wasm_format.specs.Contents.{entry_at, next_func}
 use Rattle.wasm_read.proofs.codes.read_entries.Given as goal
@@ -7,4 +8,5 @@ abbrev pub invariant-loop-i : goal.invariant-loop-i
 invariant-loop-i l = record {
   reads : each_from (entry_at l.many l.section) next_func l.count l.first l.initial.cursor ≡ with_front l.codes (each_from (entry_at l.many l.section) next_func (l.count - l._i) l.func l.cursor);
   number : l.func ≡ l.first + l._i;
+  uses : l.pile.uses_data ≡ (l.initial.pile.uses_data || any_uses_data l.codes);
 }
