@@ -2,7 +2,7 @@ use std::alloc::Global;
 use std::test::Fail;
 use wasm_bytes::{Items, NoMemory};
 use wasm_tree::{BlockType, Instr, LocalGroup, ValType};
-use wasm_typing::{Locals, Scope, is_well_typed_body};
+use wasm_typing::{Locals, Scope, Stacks, is_well_typed_body};
 
 // A body of one block that leaves the local of this number, of type i64 where it is declared.
 fn block_of_local(alloc: Global, local: u32) -> Result<Items<Instr>, NoMemory> {
@@ -40,12 +40,13 @@ fn bodies_are_checked(rt: HostRuntime) -> Result<(), Fail> {
         elems: &[],
         datas: 0,
         named: &[],
-        locals: &locals,
+        locals,
         results: &[ValType::I64],
     };
     for (local, expected) in [(0, false), (1, true), (2, true), (3, false), (4, false)] {
         let body = block_of_local(alloc, local)?;
-        let found = is_well_typed_body(alloc, &scope, body.as_slice())?;
+        let mut stacks = Stacks::new(alloc);
+        let found = is_well_typed_body(alloc, &scope, &mut stacks, body.as_slice())?;
         assert_eq!(rt; found, expected, "local {local}");
     }
     Ok(())

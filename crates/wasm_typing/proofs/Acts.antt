@@ -1,21 +1,15 @@
 -- What an instruction does to the kept stack is what it does to the stacks that it stands for.
-use Rattle.std.proofs.Common.{◌≡◌, ℕ, suc, Bool, true, false, cond, ◌&&◌, nat_eq, is_some, List, [], ◌∷◌, ◌++◌, map, reverse, length, Option, Some, None, refl, sym, ap, ◌∙◌, subst, eq-eqb, option_and_then, option_map}
+use Rattle.std.proofs.Common.{arith, ◌≡◌, ℕ, suc, Bool, true, false, cond, ◌&&◌, nat_eq, is_some, List, [], ◌∷◌, ◌++◌, map, reverse, length, Option, Some, None, refl, sym, ap, ◌∙◌, subst, eq-eqb, option_and_then, option_map}
 use Rattle.std.proofs.lemmas.List.{length-reverse}
-use Rattle.std.proofs.lemmas.Bool.{eqb-true}
+use Rattle.std.proofs.lemmas.Bool.{eqb-true, and_parts}
+use Rattle.std.proofs.lemmas.Option.{cond_some}
+use Rattle.base_lists.proofs.Options.{option_map_is, and_then_is, is_some_there}
 use Rattle.wasm_tree.specs.declared.types.ValType.{ValType}
 use Rattle.wasm_tree.specs.declared.types.ValType.TheVariants.{I32, I64, Ref}
 use Rattle.wasm_typing.specs.Typing.{Operand, Stack, Matches, AllMatch, EachMatches, operands, IsNumber, IsReference, Effect, Gives, Leaves, Drops, Selects, TestsNull, Branches, Acts}
 use Rattle.wasm_tree.specs.SameTypes.{same_type}
 use Rattle.wasm_typing.specs.Tracking.{IsInstance, Instance, Concrete, fits_type, pop_one, below_type, pop_type, pop_all, is_number, is_reference, join, number_of, chosen, all_pop, arity, select_rest, select_two, test_top, act}
-use Rattle.wasm_typing.proofs.Pops.{fits-matches, same_type-refl, same_type-true, pop_type-on, pop_all-on, pop_all-back, padded}
-
-map_option-some : {A B : Type 0} (f : A → B) (m : Option A) (r : B) → option_map f m ≡ Some r → (x : A) × (m ≡ Some x) × (f x ≡ r)
-map_option-some f None r h = cc
-map_option-some f (Some x) r h = (x, refl, cc)
-
-then_option-some : {A B : Type 0} (f : A → Option B) (m : Option A) (r : B) → option_and_then f m ≡ Some r → (x : A) × (m ≡ Some x) × (f x ≡ Some r)
-then_option-some f None r h = cc
-then_option-some f (Some x) r h = (x, refl, h)
+use Rattle.wasm_typing.proofs.Pops.{fits-matches, pop_type-on, pop_all-on, pop_all-back, padded}
 
 pushed : (ts : List ValType) (xs : Stack) (o : Bool) (s : Stack) → Instance xs o s → Instance (map Some ts ++ xs) o (map Some ts ++ s)
 pushed [] xs o s i = i
@@ -49,7 +43,8 @@ join-on (Some t) (Some w) b a u ix iy mb ma =
     let e = kept_type t b u ix mb in
     let f = kept_type w a u iy ma in
     let g : t ≡ w = cc in
-    let h : same_type t w ≡ true = subst (λ z. same_type t z ≡ true) g (same_type-refl t) in
+    let own : same_type t t ≡ true = grind arith in
+    let h : same_type t w ≡ true = subst (λ z. same_type t z ≡ true) g own in
     (Some t, ap (λ c. cond c (Some (Some t)) None) h, e)
 
 number-type : (t : ValType) → IsNumber (Some t) → is_number (Some t) ≡ true
@@ -136,28 +131,21 @@ pop_one-back (x ∷ xs) o p h s k =
     let e : ◌≡◌ {A = Operand × Stack} (x, xs) p = cc in
     (sym (ap (λ q. q.0) e), subst (λ zs. Concrete zs o s) (sym (ap (λ q. q.1) e)) k)
 
-cond-some : {A : Type 0} (b : Bool) (x r : A) → cond b (Some x) None ≡ Some r → (b ≡ true) × (x ≡ r)
-cond-some false x r h = cc
-cond-some true x r h = (refl, cc)
-
 below_type-some : (t : ValType) (m : Option (Operand × Stack)) (ys : Stack) → below_type t m ≡ Some ys → (p : Operand × Stack) × (m ≡ Some p) × Matches p.0 (Some t) × (p.1 ≡ ys)
 below_type-some t None ys h = cc
-below_type-some t (Some p) ys h = let c = cond-some (fits_type p.0 t) p.1 ys h in (p, refl, fits-matches p.0 t c.0, c.1)
+below_type-some t (Some p) ys h = let c = cond_some (fits_type p.0 t) p.1 ys h in (p, refl, fits-matches p.0 t c.0, c.1)
 
 pop_type-back : (xs : Stack) (o : Bool) (t : ValType) (ys : Stack) → pop_type xs o t ≡ Some ys → (x : Operand) × Matches x (Some t) × ((s : Stack) → Concrete ys o s → Concrete xs o (x ∷ s))
 pop_type-back xs o t ys h =
     let p = below_type-some t (pop_one xs o) ys h in
     (p.0.0, p.2, λ s k. pop_one-back xs o p.0 p.1 s (subst (λ zs. Concrete zs o s) (sym p.3) k))
 
-matches-self : (x : Operand) → Matches x x
-matches-self None = tt
-matches-self (Some t) = refl
-
 join-back : (b a u : Operand) → join b a ≡ Some u → Matches b u × Matches a u
-join-back None a u h = let e : a ≡ u = cc in (tt, subst (λ z. Matches a z) e (matches-self a))
+join-back None None u h = (tt, tt)
+join-back None (Some t) u h = (tt, cc)
 join-back (Some t) None u h = (cc, tt)
 join-back (Some t) (Some w) u h =
-    let c = cond-some (same_type t w) (Some t) u h in let e = same_type-true t w c.0 in (c.1, sym (ap Some e) ∙ c.1)
+    let c = cond_some (same_type t w) (Some t) u h in let same : same_type t w ≡ true = c.0 in let e : t ≡ w = grind arith in (c.1, sym (ap Some e) ∙ c.1)
 
 is_number-true : (u : Operand) → is_number u ≡ true → IsNumber u
 is_number-true None h = tt
@@ -173,8 +161,8 @@ is_reference-true (Some (Ref r)) h = tt
 
 chosen-back : (b a u : Operand) → chosen b a ≡ Some u → Matches b u × Matches a u × IsNumber u
 chosen-back b a u h =
-    let j = then_option-some number_of (join b a) u h in
-    let c = cond-some (is_number j.0) j.0 u j.2 in
+    let j = and_then_is (join b a) number_of u h in
+    let c = cond_some (is_number j.0) j.0 u j.2 in
     let m = join-back b a u (j.1 ∙ ap Some c.1) in
     (m.0, m.1, subst IsNumber c.1 (is_number-true j.0 c.0))
 
@@ -190,27 +178,19 @@ select_two-some o (Some p) r h = (p, refl, h)
 select_rest-some : (o : Bool) (b : Operand) (m : Option (Operand × Stack)) (r : Stack × Bool) → select_rest o b m ≡ Some r → (q : Operand × Stack) × (u : Operand) × (m ≡ Some q) × (chosen b q.0 ≡ Some u) × (◌≡◌ {A = Stack × Bool} (u ∷ q.1, o) r)
 select_rest-some o b None r h = cc
 select_rest-some o b (Some q) r h =
-    let e = map_option-some (λ u. (u ∷ q.1, o)) (chosen b q.0) r h in (q, e.0, refl, e.1, e.2)
+    let e = option_map_is (λ u. (u ∷ q.1, o)) (chosen b q.0) r h in (q, e.0, refl, e.1, e.2)
 
 test_top-some : (o : Bool) (m : Option (Operand × Stack)) (r : Stack × Bool) → test_top o m ≡ Some r → (p : Operand × Stack) × (m ≡ Some p) × IsReference p.0 × (◌≡◌ {A = Stack × Bool} (Some I32 ∷ p.1, o) r)
 test_top-some o None r h = cc
 test_top-some o (Some p) r h =
-    let c = cond-some {A = Stack × Bool} (is_reference p.0) (Some I32 ∷ p.1, o) r h in (p, refl, is_reference-true p.0 c.0, c.1)
-
-and-true : (a b : Bool) → a && b ≡ true → (a ≡ true) × (b ≡ true)
-and-true false b h = cc
-and-true true b h = (refl, h)
-
-is_some-true : {A : Type 0} (m : Option A) → is_some m ≡ true → (x : A) × (m ≡ Some x)
-is_some-true None h = cc
-is_some-true (Some x) h = (x, refl)
+    let c = cond_some {A = Stack × Bool} (is_reference p.0) (Some I32 ∷ p.1, o) r h in (p, refl, is_reference-true p.0 c.0, c.1)
 
 all_pop-back : (ls : List (List ValType)) (xs : Stack) (o : Bool) (n : ℕ) → all_pop xs o n ls ≡ true → EachMatches (padded n xs) ls
 all_pop-back [] xs o n h = tt
 all_pop-back (l ∷ ls) xs o n h =
-    let a = and-true (nat_eq (length l) n && is_some (pop_all xs o (reverse l))) (all_pop xs o n ls) h in
-    let b = and-true (nat_eq (length l) n) (is_some (pop_all xs o (reverse l))) a.0 in
-    let p = is_some-true (pop_all xs o (reverse l)) b.1 in
+    let a = and_parts (nat_eq (length l) n && is_some (pop_all xs o (reverse l))) (all_pop xs o n ls) h in
+    let b = and_parts (nat_eq (length l) n) (is_some (pop_all xs o (reverse l))) a.0 in
+    let p = is_some_there (pop_all xs o (reverse l)) b.1 in
     let long : length (reverse l) ≡ n = length-reverse l ∙ eqb-true (length l) n b.0 in
     (subst (λ k. AllMatch (padded k xs) (reverse l)) long (pop_all-back xs o (reverse l) p.0 p.1).0, all_pop-back ls xs o n a.1)
 
@@ -218,9 +198,9 @@ all_pop-back (l ∷ ls) xs o n h =
 branch-back : (ls : List (List ValType)) (xs : Stack) (o : Bool) → all_pop xs o (arity ls) ls ≡ true → (rest : Stack) × Concrete xs o (padded (arity ls) xs ++ rest)
 branch-back [] xs o h = (xs, self xs o)
 branch-back (l ∷ ls) xs o h =
-    let a = and-true (nat_eq (length l) (length l) && is_some (pop_all xs o (reverse l))) (all_pop xs o (length l) ls) h in
-    let b = and-true (nat_eq (length l) (length l)) (is_some (pop_all xs o (reverse l))) a.0 in
-    let p = is_some-true (pop_all xs o (reverse l)) b.1 in
+    let a = and_parts (nat_eq (length l) (length l) && is_some (pop_all xs o (reverse l))) (all_pop xs o (length l) ls) h in
+    let b = and_parts (nat_eq (length l) (length l)) (is_some (pop_all xs o (reverse l))) a.0 in
+    let p = is_some_there (pop_all xs o (reverse l)) b.1 in
     let k = (pop_all-back xs o (reverse l) p.0 p.1).1 p.0 (self p.0 o) in
     (p.0, subst (λ n. Concrete xs o (padded n xs ++ p.0)) (length-reverse l) k)
 
@@ -229,21 +209,21 @@ Backs e xs o t = (s : Stack) × Concrete xs o s × Acts e s t
 
 pub act-back : (e : Effect) (xs : Stack) (o : Bool) (r : Stack × Bool) (t : Stack) → act e xs o ≡ Some r → Concrete r.0 r.1 t → Backs e xs o t
 act-back (Gives ps rs) xs o r t h k =
-    let e = map_option-some {B = Stack × Bool} (λ ys. (operands rs ++ ys, o)) (pop_all xs o (reverse ps)) r h in
+    let e = option_map_is {B = Stack × Bool} (λ ys. (operands rs ++ ys, o)) (pop_all xs o (reverse ps)) r h in
     let k2 = subst (λ (z : Stack × Bool). Concrete z.0 z.1 t) (sym e.2) k in
     let u = unpushed (reverse rs) e.0 o t k2 in
     let b = pop_all-back xs o (reverse ps) e.0 e.1 in
     (padded (length (reverse ps)) xs ++ u.0, b.1 u.0 u.2, (padded (length (reverse ps)) xs, u.0, refl, b.0, u.1))
 act-back (Leaves ps) xs o r t h k =
-    let e = map_option-some {B = Stack × Bool} (λ ys. ([], true)) (pop_all xs o (reverse ps)) r h in
+    let e = option_map_is {B = Stack × Bool} (λ ys. ([], true)) (pop_all xs o (reverse ps)) r h in
     let b = pop_all-back xs o (reverse ps) e.0 e.1 in
     (padded (length (reverse ps)) xs ++ e.0, b.1 e.0 (self e.0 o), (padded (length (reverse ps)) xs, e.0, refl, b.0))
 act-back Drops xs o r t h k =
-    let e = map_option-some {B = Stack × Bool} (λ p. (p.1, o)) (pop_one xs o) r h in
+    let e = option_map_is {B = Stack × Bool} (λ p. (p.1, o)) (pop_one xs o) r h in
     let k2 = subst (λ (z : Stack × Bool). Concrete z.0 z.1 t) (sym e.2) k in
     (e.0.0 ∷ t, pop_one-back xs o e.0 e.1 t k2, (e.0.0, refl))
 act-back Selects xs o r t h k =
-    let a = then_option-some {B = Stack × Bool} (λ ys. select_two o (pop_one ys o)) (pop_type xs o I32) r h in
+    let a = and_then_is {B = Stack × Bool} (pop_type xs o I32) (λ ys. select_two o (pop_one ys o)) r h in
     let x = pop_type-back xs o I32 a.0 a.1 in
     let p = select_two-some o (pop_one a.0 o) r a.2 in
     let q = select_rest-some o p.0.0 (pop_one p.0.1 o) r p.2 in
@@ -259,8 +239,8 @@ act-back TestsNull xs o r t h k =
     let f = first (Some I32) p.0.1 o t k2 in
     (p.0.0 ∷ f.0, pop_one-back xs o p.0 p.1 f.0 f.2, (p.0.0, f.0, refl, p.2, f.1))
 act-back (Branches ls) xs o r t h k =
-    let a = then_option-some {B = Stack × Bool} (λ ys. cond (all_pop ys o (arity ls) ls) (Some ([], true)) None) (pop_type xs o I32) r h in
+    let a = and_then_is {B = Stack × Bool} (pop_type xs o I32) (λ ys. cond (all_pop ys o (arity ls) ls) (Some ([], true)) None) r h in
     let x = pop_type-back xs o I32 a.0 a.1 in
-    let c = cond-some {A = Stack × Bool} (all_pop a.0 o (arity ls) ls) ([], true) r a.2 in
+    let c = cond_some {A = Stack × Bool} (all_pop a.0 o (arity ls) ls) ([], true) r a.2 in
     let b = branch-back ls a.0 o c.0 in
     (x.0 ∷ (padded (arity ls) a.0 ++ b.0), x.2 _ b.1, (x.0, padded (arity ls) a.0, b.0, refl, x.1, all_pop-back ls a.0 o (arity ls) c.0))

@@ -2,6 +2,7 @@
 use Rattle.std.proofs.Common.{◌≡◌, ℕ, suc, ◌<◌, Bool, true, false, cond, ◌&&◌, nat_eq, is_some, List, [], ◌∷◌, reverse, length, drop, get_or, Option, Some, None, refl, sym, ap, ◌∙◌, subst, arith, ◌≤◌, drop-cons, length-drop, add-one, ◌+◌, option_and_then, option_map}
 use Rattle.std.proofs.lemmas.List.{nil_from_length}
 use Rattle.std.specs.Prelude.{slice_get}
+use Rattle.base_lists.proofs.Bools.{right_true, and_false}
 use Rattle.wasm_tree.specs.declared.types.ValType.{ValType}
 use Rattle.wasm_tree.specs.declared.types.ValType.TheVariants.{I32}
 use Rattle.wasm_typing.specs.Typing.{Stack, labels_at, Branches}
@@ -27,13 +28,9 @@ labels_there labels xs o n (l ∷ ls) h = here (slice_get labels l) (allows_all 
     there : (t : List ValType) (r : Option (List (List ValType))) → (us : List (List ValType)) × (r ≡ Some us) → (ts : List (List ValType)) × (option_map (λ us. t ∷ us) r ≡ Some ts)
     there t r (us, e) = (t ∷ us, ap (option_map (λ us. t ∷ us)) e)
 
-    second : (a b : Bool) → a && b ≡ true → b ≡ true
-    second false b g = cc
-    second true b g = g
-
     here : (m : Option (List ValType)) (b : Bool) → allows_types xs o n m && b ≡ true → (b ≡ true → (us : List (List ValType)) × (labels_at labels ls ≡ Some us)) → (ts : List (List ValType)) × (option_and_then (λ t. option_map (λ us. t ∷ us) (labels_at labels ls)) m ≡ Some ts)
     here None b g ih = cc
-    here (Some t) b g ih = there t (labels_at labels ls) (ih (second (nat_eq (length t) n && is_some (pop_all xs o (reverse t))) b g))
+    here (Some t) b g ih = there t (labels_at labels ls) (ih (right_true (nat_eq (length t) n && is_some (pop_all xs o (reverse t))) b g))
 
 abbrev answer : List (List ValType) → Stack → Bool → List ℕ → Option (Stack × Bool)
 answer labels xs o ls = answer_of (option_map Branches (labels_at labels ls)) xs o
@@ -62,12 +59,8 @@ branches_yes labels xs ys o p l ls t h g e a b =
 pub branches_no : (labels : List (List ValType)) (xs ys : Stack) (o p : Bool) (l : ℕ) (ls : List ℕ) (t : List ValType) → slice_get labels l ≡ Some t → pop_type xs o I32 ≡ Some ys → p ≡ o → allows_all labels ys p (length t) ls ≡ false → answer labels xs o (l ∷ ls) ≡ None
 branches_no labels xs ys o p l ls t h g e b = here (labels_at labels (l ∷ ls)) refl
   where
-    no : (a : Bool) → a && false ≡ false
-    no false = refl
-    no true = refl
-
     all_o : allows_all labels ys o (length t) (l ∷ ls) ≡ false
-    all_o = ap (λ z. allows_types ys o (length t) (slice_get labels l) && z) (subst (λ q. allows_all labels ys q (length t) ls ≡ false) e b) ∙ no (allows_types ys o (length t) (slice_get labels l))
+    all_o = ap (λ z. allows_types ys o (length t) (slice_get labels l) && z) (subst (λ q. allows_all labels ys q (length t) ls ≡ false) e b) ∙ and_false (allows_types ys o (length t) (slice_get labels l))
 
     here : (m : Option (List (List ValType))) → labels_at labels (l ∷ ls) ≡ m → answer labels xs o (l ∷ ls) ≡ None
     here None k = ap (λ m. answer_of (option_map Branches m) xs o) k

@@ -3,6 +3,8 @@ pub mod Grouped
 pub mod Rows
 pub mod Pops
 pub mod Acts
+pub mod Known
 pub mod Turns
 pub mod Branching
 pub mod Runs
+pub mod Around

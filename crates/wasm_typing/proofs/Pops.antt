@@ -1,48 +1,19 @@
 -- Operands are taken off the kept stack exactly where they can be taken off the stacks that it stands for.
-use Rattle.std.proofs.Common.{◌≡◌, ℕ, zero, suc, Bool, true, false, cond, List, [], ◌∷◌, ◌++◌, length, Some, None, refl, sym, ap, ◌∙◌, subst, option_and_then}
-use Rattle.wasm_tree.specs.declared.types.RefType.{RefType}
-use Rattle.wasm_tree.specs.declared.types.RefType.TheVariants.{Func, Extern}
+use Rattle.std.proofs.Common.{arith, ◌≡◌, ℕ, zero, suc, Bool, true, false, cond, List, [], ◌∷◌, ◌++◌, length, Some, None, refl, sym, ap, ◌∙◌, subst, option_and_then}
 use Rattle.wasm_tree.specs.declared.types.ValType.{ValType}
-use Rattle.wasm_tree.specs.declared.types.ValType.TheVariants.{I32, I64, Ref}
-use Rattle.wasm_tree.specs.SameTypes.{same_ref, same_type}
+use Rattle.wasm_tree.specs.SameTypes.{same_type}
 use Rattle.wasm_typing.specs.Typing.{Operand, Stack, Matches, AllMatch}
 use Rattle.wasm_typing.specs.Tracking.{IsInstance, Instance, Concrete, fits_type, pop_type, pop_all}
-
-pub same_ref-refl : (r : RefType) → same_ref r r ≡ true
-same_ref-refl Func = refl
-same_ref-refl Extern = refl
-
-pub same_type-refl : (t : ValType) → same_type t t ≡ true
-same_type-refl I32 = refl
-same_type-refl I64 = refl
-same_type-refl (Ref r) = same_ref-refl r
-
-pub same_ref-true : (r q : RefType) → same_ref r q ≡ true → r ≡ q
-same_ref-true Func Func h = refl
-same_ref-true Func Extern h = cc
-same_ref-true Extern Func h = cc
-same_ref-true Extern Extern h = refl
-
-pub same_type-true : (t u : ValType) → same_type t u ≡ true → t ≡ u
-same_type-true I32 I32 h = refl
-same_type-true I32 I64 h = cc
-same_type-true I32 (Ref r) h = cc
-same_type-true I64 I32 h = cc
-same_type-true I64 I64 h = refl
-same_type-true I64 (Ref r) h = cc
-same_type-true (Ref r) I32 h = cc
-same_type-true (Ref r) I64 h = cc
-same_type-true (Ref r) (Ref q) h = ap Ref (same_ref-true r q h)
 
 pub fits-instance : (x a : Operand) (t : ValType) → IsInstance x a → Matches a (Some t) → fits_type x t ≡ true
 fits-instance None a t i m = refl
 fits-instance (Some u) None t i m = cc
 fits-instance (Some u) (Some v) t i m =
-    let e : u ≡ t = cc in subst (λ w. same_type u w ≡ true) e (same_type-refl u)
+    let e : u ≡ t = cc in let own : same_type u u ≡ true = grind arith in subst (λ w. same_type u w ≡ true) e own
 
 pub fits-matches : (x : Operand) (t : ValType) → fits_type x t ≡ true → Matches x (Some t)
 fits-matches None t h = tt
-fits-matches (Some u) t h = ap Some (same_type-true u t h)
+fits-matches (Some u) t h = let e : u ≡ t = grind arith in ap Some e
 
 -- one operand
 pub pop_type-on : (xs : Stack) (o : Bool) (a : Operand) (s : Stack) (t : ValType) → Instance xs o (a ∷ s) → Matches a (Some t) → (ys : Stack) × (pop_type xs o t ≡ Some ys) × Instance ys o s

@@ -11,7 +11,7 @@ use Rattle.std.proofs.lemmas.Result.{IfOk-weaker}
 use Rattle.std.specs.Bool.{OnTrue}
 use Rattle.std.specs.Prelude.{Ok, Err}
 use Rattle.std.specs.declared.alloc.AllocError.{AllocError}
-use Rattle.wasm_typing.specs.Typing.{Stack, AllMatch, operands, Effect, Gives, Acts, Signature, Context, under, signature_of, effect_of, Ends, Fits, Leads, LeadsAll, WellTyped}
+use Rattle.wasm_typing.specs.Typing.{Stack, AllMatch, operands, Effect, Gives, Acts, Signature, Context, under, signature_of, effect_of, Ends, ActsAs, Fits, Leads, LeadsAll, WellTyped}
 use Rattle.wasm_typing.specs.Tracking.{Instance, Concrete, StepsTo, Fails, Follows, pop_all, act, answer_of}
 use Rattle.wasm_typing.specs.Kept.{when}
 use Rattle.wasm_typing.proofs.Rows.{to_list, to_row}
@@ -45,14 +45,11 @@ follows_map F G to from xs o ys p true h = record {
 }
 
 -- an instruction with no body
-abbrev ByEffect : Option Effect → Relation
-ByEffect m s t = (e : Effect) × (m ≡ Some e) × Acts e s t
-
-by_effect : (m : Option Effect) (xs : Stack) (o : Bool) (ys : Stack) (p ok : Bool) → answer_of m xs o ≡ when ok (ys, p) → Follows (ByEffect m) xs o ys p ok
+by_effect : (m : Option Effect) (xs : Stack) (o : Bool) (ys : Stack) (p ok : Bool) → answer_of m xs o ≡ when ok (ys, p) → Follows (ActsAs m) xs o ys p ok
 by_effect None xs o ys p false h = λ s t i (e, g, a). cc
 by_effect None xs o ys p true h = cc
 by_effect (Some e) xs o ys p ok h =
-    follows_map (Acts e) (ByEffect (Some e)) (λ s t a. (e, refl, a)) (λ s t (f, g, a). let q : f ≡ e = cc in subst (λ z. Acts z s t) q a) xs o ys p ok (follows_acts e xs o ys p ok h)
+    follows_map (Acts e) (ActsAs (Some e)) (λ s t a. (e, refl, a)) (λ s t (f, g, a). let q : f ≡ e = cc in subst (λ z. Acts z s t) q a) xs o ys p ok (follows_acts e xs o ys p ok h)
 
 abbrev pub IsPlain : Instr → Type 0
 IsPlain (Block' bt n body) = ⊥
@@ -102,27 +99,25 @@ pub record Rest (c : Context) (is : List Instr) (ps : List ValType) (xs : Stack)
   pub on : (t : Stack) → LeadsAll c is (operands ps) t → (s : Stack) × Instance xs o s × LeadsAll c rest s t
   pub back : (s t : Stack) → Concrete xs o s → LeadsAll c rest s t → LeadsAll c is (operands ps) t
 
-own_instance : (ts : List ValType) → Instance (map Some ts ++ []) false (map Some ts)
+own_instance : (ts : List ValType) → Instance (map Some ts) false (map Some ts)
 own_instance [] = tt
 own_instance (t ∷ ts) = (refl, own_instance ts)
 
-own_concrete : (ts : List ValType) (s : Stack) → Concrete (map Some ts ++ []) false s → s ≡ map Some ts
+own_concrete : (ts : List ValType) (s : Stack) → Concrete (map Some ts) false s → s ≡ map Some ts
 own_concrete [] [] k = refl
 own_concrete [] (y ∷ s) k = absurd k
 own_concrete (t ∷ ts) [] k = absurd k
 own_concrete (t ∷ ts) (y ∷ s) k = ap (λ z. z ∷ s) k.0 ∙ ap (λ z. Some t ∷ z) (own_concrete ts s k.1)
 
-start : (c : Context) (is : List Instr) (ps : List ValType) → Rest c is ps (operands ps ++ []) false is
+start : (c : Context) (is : List Instr) (ps : List ValType) → Rest c is ps (operands ps) false is
 start c is ps = record {
   on = λ t h. (operands ps, own_instance (reverse ps), h);
   back = λ s t k h. subst (λ z. LeadsAll c is z t) (own_concrete (reverse ps) s k) h;
 }
 
-pub rest_start : (c : Context) (is : List Instr) (ps : List ValType) (xs ys : Stack) (o p : Bool) → xs ≡ operands ps ++ ys → ys ≡ [] → o ≡ p → p ≡ false → Rest c is ps xs o (drop 0 is)
-rest_start c is ps xs ys o p e n d f =
-    let a : operands ps ++ [] ≡ xs = ap (λ z. operands ps ++ z) (sym n) ∙ sym e in
-    let b : false ≡ o = sym f ∙ sym d in
-    subst (λ z. Rest c is ps z o is) a (subst (λ z. Rest c is ps (operands ps ++ []) z is) b (start c is ps))
+pub rest_start : (c : Context) (is : List Instr) (ps : List ValType) (xs : Stack) (o : Bool) → xs ≡ operands ps → o ≡ false → Rest c is ps xs o (drop 0 is)
+rest_start c is ps xs o e f =
+    subst (λ z. Rest c is ps z o is) (sym e) (subst (λ z. Rest c is ps (operands ps) z is) (sym f) (start c is ps))
 
 step_on : (c : Context) (is : List Instr) (ps : List ValType) (xs : Stack) (o : Bool) (ys : Stack) (p : Bool) (i : Instr) (rest : List Instr) → Rest c is ps xs o (i ∷ rest) → StepsTo (Fits c i) xs o ys p → Rest c is ps ys p rest
 step_on c is ps xs o ys p i rest r f = record {

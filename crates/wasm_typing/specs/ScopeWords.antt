@@ -16,7 +16,7 @@ context_of s labels = record {
   elems = s.elems.now;
   datas = s.datas;
   named = s.named.now;
-  locals = local_types s.locals.now;
+  locals = local_types s.locals;
   results = s.results.now;
   labels = labels;
 }

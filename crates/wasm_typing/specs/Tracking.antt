@@ -1,6 +1,7 @@
 -- The stack that the checker keeps: a list of operands, and whether any operands may lie below it.
 use Rattle.std.specs.Prelude.{◌≡◌, ℕ, Bool, true, false, cond, ◌&&◌, nat_eq, is_some, List, [], ◌∷◌, ◌++◌, reverse, length, Option, Some, None, slice_get, option_map}
 use Rattle.base_lists.specs.Options.{◌>>=◌}
+use Rattle.wasm_tree.specs.declared.types.RefType.TheVariants.{Func, Extern}
 use Rattle.wasm_tree.specs.declared.types.ValType.{ValType}
 use Rattle.wasm_tree.specs.declared.types.ValType.TheVariants.{I32, I64, Ref}
 use Rattle.wasm_typing.specs.Typing.{Operand, Stack, operands, Effect, Gives, Leaves, Drops, Selects, TestsNull, Branches}
@@ -39,6 +40,13 @@ Fails F xs o = (s t : Stack) → Instance xs o s → F s t → ⊥
 abbrev pub Follows : (Stack → Stack → Type 0) → Stack → Bool → Stack → Bool → Bool → Type 0
 Follows F xs o ys p false = Fails F xs o
 Follows F xs o ys p true = StepsTo F xs o ys p
+
+-- one number for each value type
+abbrev pub letter : ValType → ℕ
+letter I32 = 0
+letter I64 = 1
+letter (Ref Func) = 2
+letter (Ref Extern) = 3
 
 abbrev pub fits_type : Operand → ValType → Bool
 fits_type None t = true

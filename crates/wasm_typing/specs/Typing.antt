@@ -1,6 +1,6 @@
 -- When a body is well typed: there is a list of stacks, one before, between and after its instructions (WebAssembly Core 2.0,
 -- sections 3.3.8 and 3.3.9).
-use Rattle.std.specs.Prelude.{◌≡◌, ℕ, ◌^◌, Bool, true, false, ◌&&◌, nat_lt, nat_le, List, [], ◌∷◌, ◌++◌, map, reverse, Option, Some, None, slice_get, option_map}
+use Rattle.std.specs.Prelude.{◌≡◌, ℕ, ◌^◌, Bool, true, false, cond, ◌&&◌, nat_lt, nat_le, List, [], ◌∷◌, ◌++◌, map, reverse, Option, Some, None, slice_get, option_map}
 use Rattle.base_lists.specs.Options.{◌>>=◌}
 use Rattle.wasm_tree.specs.declared.types.RefType.{RefType}
 use Rattle.wasm_tree.specs.declared.types.RefType.TheVariants.{Func, Extern}
@@ -149,8 +149,7 @@ is_func Extern = false
 
 -- only where the test holds
 abbrev pub only : {A : Type 0} → Bool → Option A → Option A
-only false m = None
-only true m = m
+only b m = cond b m None
 
 abbrev pub both : Option RefType → Option RefType → Bool
 both None b = false
@@ -214,6 +213,10 @@ effect_of c (If' bt n body m other) = None
 abbrev pub Ends : (Stack → Stack → Type 0) → List ValType → List ValType → Type 0
 Ends leads ps rs = (last : Stack) × leads (operands ps) last × AllMatch last (reverse rs)
 
+-- what an instruction of this type does, if it has one
+abbrev pub ActsAs : Option Effect → Stack → Stack → Type 0
+ActsAs m s t = (e : Effect) × (m ≡ Some e) × Acts e s t
+
 abbrev mutual
   -- an instruction fits the stack before it and the stack after it; a block's body has one more label (section 3.3.8)
   pub Fits : Context → Instr → Stack → Stack → Type 0
@@ -223,7 +226,45 @@ abbrev mutual
       (f : Signature) × (signature_of c.types bt ≡ Some f) × Ends (Leads (under c f.params) body) f.params f.results × Acts (Gives f.params f.results) s t
   Fits c (If' bt n body m other) s t =
       (f : Signature) × (signature_of c.types bt ≡ Some f) × Ends (Leads (under c f.results) body) f.params f.results × Ends (Leads (under c f.results) other) f.params f.results × Acts (Gives (f.params ++ I32 ∷ []) f.results) s t
-  Fits c i s t = (e : Effect) × (effect_of c i ≡ Some e) × Acts e s t
+  Fits c Unreachable s t = ActsAs (effect_of c Unreachable) s t
+  Fits c Nop s t = ActsAs (effect_of c Nop) s t
+  Fits c (Br l) s t = ActsAs (effect_of c (Br l)) s t
+  Fits c (BrIf l) s t = ActsAs (effect_of c (BrIf l)) s t
+  Fits c (BrTable ls l) s t = ActsAs (effect_of c (BrTable ls l)) s t
+  Fits c Return s t = ActsAs (effect_of c Return) s t
+  Fits c (Call f) s t = ActsAs (effect_of c (Call f)) s t
+  Fits c (CallIndirect ty table) s t = ActsAs (effect_of c (CallIndirect ty table)) s t
+  Fits c Drop s t = ActsAs (effect_of c Drop) s t
+  Fits c Select s t = ActsAs (effect_of c Select) s t
+  Fits c (SelectTyped ts) s t = ActsAs (effect_of c (SelectTyped ts)) s t
+  Fits c (LocalGet x) s t = ActsAs (effect_of c (LocalGet x)) s t
+  Fits c (LocalSet x) s t = ActsAs (effect_of c (LocalSet x)) s t
+  Fits c (LocalTee x) s t = ActsAs (effect_of c (LocalTee x)) s t
+  Fits c (GlobalGet x) s t = ActsAs (effect_of c (GlobalGet x)) s t
+  Fits c (GlobalSet x) s t = ActsAs (effect_of c (GlobalSet x)) s t
+  Fits c (TableGet x) s t = ActsAs (effect_of c (TableGet x)) s t
+  Fits c (TableSet x) s t = ActsAs (effect_of c (TableSet x)) s t
+  Fits c (Load op m) s t = ActsAs (effect_of c (Load op m)) s t
+  Fits c (Store op m) s t = ActsAs (effect_of c (Store op m)) s t
+  Fits c (MemorySize m) s t = ActsAs (effect_of c (MemorySize m)) s t
+  Fits c (MemoryGrow m) s t = ActsAs (effect_of c (MemoryGrow m)) s t
+  Fits c (I32Const n) s t = ActsAs (effect_of c (I32Const n)) s t
+  Fits c (I64Const n) s t = ActsAs (effect_of c (I64Const n)) s t
+  Fits c (Un op) s t = ActsAs (effect_of c (Un op)) s t
+  Fits c (Bin op) s t = ActsAs (effect_of c (Bin op)) s t
+  Fits c (RefNull r) s t = ActsAs (effect_of c (RefNull r)) s t
+  Fits c RefIsNull s t = ActsAs (effect_of c RefIsNull) s t
+  Fits c (RefFunc x) s t = ActsAs (effect_of c (RefFunc x)) s t
+  Fits c (MemoryInit segment memory) s t = ActsAs (effect_of c (MemoryInit segment memory)) s t
+  Fits c (DataDrop x) s t = ActsAs (effect_of c (DataDrop x)) s t
+  Fits c (MemoryCopy to from) s t = ActsAs (effect_of c (MemoryCopy to from)) s t
+  Fits c (MemoryFill m) s t = ActsAs (effect_of c (MemoryFill m)) s t
+  Fits c (TableInit segment table) s t = ActsAs (effect_of c (TableInit segment table)) s t
+  Fits c (ElemDrop x) s t = ActsAs (effect_of c (ElemDrop x)) s t
+  Fits c (TableCopy to from) s t = ActsAs (effect_of c (TableCopy to from)) s t
+  Fits c (TableGrow x) s t = ActsAs (effect_of c (TableGrow x)) s t
+  Fits c (TableSize x) s t = ActsAs (effect_of c (TableSize x)) s t
+  Fits c (TableFill x) s t = ActsAs (effect_of c (TableFill x)) s t
 
   -- the same for the instructions of a block
   pub Leads : {n : _} → Context → Row_of-Instr n → Stack → Stack → Type 0

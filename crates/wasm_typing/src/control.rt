@@ -7,8 +7,8 @@ ghost use Rattle.wasm_typing.specs.Kept.{Answers};
 ghost use Rattle.wasm_typing.specs.Labels.{label_list};
 ghost use Rattle.wasm_typing.specs.ScopeWords.{context_of};
 
+use crate::kept::Kept;
 use crate::labels::Labels;
-use crate::operands::Kept;
 use crate::scope::Scope;
 use std::alloc::AllocError;
 use wasm_tree::{RefType, ValType};
@@ -33,7 +33,7 @@ pub fn branch_if(
     ensures { IfOk result (λ ok. Answers (effect_of (context_of scope.now (label_list labels.now)) (BrIf label)) kept.old kept.new ok) }
 {
     match labels.types_at(label) {
-        Some(types) => kept.gives(types, &[ValType::I32], types),
+        Some(types) => kept.gives_over(types, ValType::I32, types),
         None => Ok(false),
     }
 }
@@ -43,7 +43,7 @@ pub fn call(scope: &Scope<'_>, kept: &mut Kept, func: u32) -> Result<bool, Alloc
     ensures { IfOk result (λ ok. Answers (effect_of (context_of scope.now []) (Call func)) kept.old kept.new ok) }
 {
     match scope.type_of_func(func) {
-        Some(ty) => kept.gives(&[], ty.params.as_slice(), ty.results.as_slice()),
+        Some(ty) => kept.gives(ty.params.as_slice(), ty.results.as_slice()),
         None => Ok(false),
     }
 }
@@ -61,7 +61,7 @@ pub fn call_indirect(
         return Ok(false);
     };
     match scope.types.get(ty as usize) {
-        Some(ty) => kept.gives(ty.params.as_slice(), &[ValType::I32], ty.results.as_slice()),
+        Some(ty) => kept.gives_over(ty.params.as_slice(), ValType::I32, ty.results.as_slice()),
         None => Ok(false),
     }
 }

@@ -37,6 +37,13 @@ impl<'a> Labels<'a> {
         Ok(())
     }
 
+    /// Closes all labels.
+    pub fn clear(&mut self)
+        ensures { label_list self.new ≡ [] }
+    {
+        self.open.clear();
+    }
+
     /// Closes the innermost label.
     pub fn close(&mut self)
         ensures { label_list self.new ≡ drop 1 (label_list self.old) }

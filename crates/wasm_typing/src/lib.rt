@@ -5,6 +5,7 @@
 mod branch;
 mod check;
 mod control;
+mod kept;
 mod labels;
 mod locals;
 mod memories;
@@ -15,6 +16,6 @@ mod tables;
 mod types;
 mod variables;
 
-pub use check::is_well_typed_body;
+pub use check::{Stacks, is_well_typed_body};
 pub use locals::Locals;
 pub use scope::Scope;

@@ -6,7 +6,7 @@ ghost use Rattle.wasm_typing.specs.Typing.{effect_of, fits_memory};
 ghost use Rattle.wasm_typing.specs.Kept.{Answers};
 ghost use Rattle.wasm_typing.specs.ScopeWords.{context_of};
 
-use crate::operands::Kept;
+use crate::kept::Kept;
 use crate::scope::Scope;
 use crate::types::{load_type, load_width, store_type, store_width};
 use std::alloc::AllocError;
@@ -44,7 +44,11 @@ pub fn load(
     ensures { IfOk result (λ ok. Answers (effect_of (context_of scope.now []) (Load op arg.now)) kept.old kept.new ok) }
 {
     let fits = fits_memory(scope, load_width(op), arg);
-    kept.gives_where(fits, &[ValType::I32], &[load_type(op)])
+    if fits {
+        kept.turns(ValType::I32, load_type(op))
+    } else {
+        Ok(false)
+    }
 }
 
 /// The stores.

@@ -1,68 +1,167 @@
-// The operands that the checker keeps.
+// What is done with the operands that the checker keeps.
 
-ghost use Rattle.std.specs.Prelude.{◌≡◌, ◌↔◌, ◌++◌, ◌∷◌, [], false, map, reverse, IfOk, OnOk, IsTrue, Some, option_map};
-ghost use Rattle.wasm_tree.specs.SameTypes.{same_type};
+ghost use Rattle.std.specs.Prelude.{◌≡◌, ◌↔◌, ◌≤◌, ◌++◌, ◌∷◌, [], ◌||◌, nat_le, length, drop, reverse, is_some, IfOk, OnOk, IsTrue, Some, None, option_map};
+ghost use Rattle.wasm_tree.specs.SameTypes.{same_type, same_types};
 ghost use Rattle.wasm_typing.specs.Typing.{operands, only, Gives, Leaves, Drops, Selects, TestsNull};
-ghost use Rattle.wasm_typing.specs.Tracking.{fits_type, pop_one, pop_type, pop_all, chosen};
-ghost use Rattle.wasm_typing.specs.Kept.{stack_of, when, Answers};
+ghost use Rattle.wasm_typing.specs.Tracking.{pop_one, pop_type, pop_all, chosen, letter};
+ghost use Rattle.wasm_typing.specs.Kept.{lowest, stack_of, beneath, when, Answers, IsInside};
 
+use crate::kept::{Kept, Outer};
 use std::alloc::{AllocError, Global};
 use wasm_tree::{RefType, ValType};
 
-/// The types of the operands, the topmost last, where None is the bottom. Below them lie any operands where it has `any_below`.
-#[derive(Drop)]
-pub struct Kept {
-    pub types: Vec<Option<ValType>>,
-    pub any_below: bool,
-}
-
-pub fn is_same(a: ValType, b: ValType) -> bool
-    ensures { result ≡ same_type a b }
+fn letter(ty: ValType) -> u8
+    ensures { result ≡ letter ty }
 {
-    match (a, b) {
-        (ValType::I32, ValType::I32) => true,
-        (ValType::I64, ValType::I64) => true,
-        (ValType::Ref(RefType::Func), ValType::Ref(RefType::Func)) => true,
-        (ValType::Ref(RefType::Extern), ValType::Ref(RefType::Extern)) => true,
-        _ => false,
+    match ty {
+        ValType::I32 => 0,
+        ValType::I64 => 1,
+        ValType::Ref(RefType::Func) => 2,
+        ValType::Ref(RefType::Extern) => 3,
     }
 }
 
+fn is_same(a: ValType, b: ValType) -> bool
+    ensures { result ≡ same_type a b }
+{
+    letter(a) == letter(b)
+}
+
+// Whether two lists of as many types are the same. The loop has one way out, so that it can become vector code.
+fn are_same(left: &[ValType], right: &[ValType]) -> bool
+    requires { length left.now ≡ length right.now }
+    ensures { result ≡ same_types left.now right.now }
+{
+    let mut same = true;
+    for i in 0..left.len() {
+        same = is_same(left[i], right[i]) && same;
+    }
+    same
+}
+
 impl Kept {
-    /// No operands.
-    pub fn new(alloc: Global) -> Kept
-        ensures value { stack_of result ≡ [] }
-        ensures any_below { result.any_below ≡ false }
-    {
+    /// No operands. It takes no memory.
+    pub fn new(alloc: Global) -> Kept {
         Kept {
             types: Vec::new(alloc),
+            base: 0,
+            bottom: false,
             any_below: false,
         }
     }
 
+    /// Begins a block inside the others, on operands of these types.
+    pub fn enter(&mut self, params: &[ValType]) -> Result<Outer, AllocError>
+        ensures { IfOk result (λ outer. IsInside params.now self.old outer self.new) }
+    {
+        let outer = Outer {
+            base: self.base,
+            bottom: self.bottom,
+            any_below: self.any_below,
+        };
+        self.base = self.types.len();
+        self.bottom = false;
+        self.any_below = false;
+        self.push_all(params)?;
+        Ok(outer)
+    }
+
+    /// Ends the innermost block. What stood there before it stands there again.
+    pub fn leave(&mut self, outer: Outer)
+        requires { outer.base ≤ length (beneath self.old) }
+        ensures items { self.new.types.items ≡ beneath self.old }
+        ensures base { self.new.base ≡ outer.base }
+        ensures bottom { self.new.bottom ≡ outer.bottom }
+        ensures any_below { self.new.any_below ≡ outer.any_below }
+    {
+        self.types.truncate(self.base);
+        self.base = outer.base;
+        self.bottom = outer.bottom;
+        self.any_below = outer.any_below;
+    }
+
+    /// Ends all blocks.
+    pub fn clear(&mut self) {
+        self.base = 0;
+        self.types.clear();
+    }
+
+    // Whether so many operands of any types can be taken off below the known ones.
+    fn has_below(&self, count: usize) -> bool
+        ensures { result ≡ (self.now.any_below || nat_le count (length (lowest self.now.bottom))) }
+    {
+        self.any_below || count == 0 || (self.bottom && count == 1)
+    }
+
+    // Whether operands of these types can be taken off.
+    pub fn can_pop(&self, ts: &[ValType]) -> bool
+        ensures { result ≡ is_some (pop_all (stack_of self.now) self.now.any_below (reverse ts.now)) }
+    {
+        let known = self.types.len() - self.base;
+        if ts.len() <= known {
+            return are_same(&self.types[self.types.len() - ts.len()..], ts);
+        }
+        let missing = ts.len() - known;
+        self.has_below(missing) && are_same(&self.types[self.base..], &ts[missing..])
+    }
+
+    // Takes the topmost operands off.
+    fn take_off(&mut self, count: usize)
+        ensures value { stack_of self.new ≡ drop count (stack_of self.old) }
+        ensures any_below { self.new.any_below ≡ self.old.any_below }
+        ensures beneath { beneath self.new ≡ beneath self.old }
+    {
+        if count <= self.types.len() - self.base {
+            self.types.truncate(self.types.len() - count);
+        } else {
+            self.types.truncate(self.base);
+            self.bottom = false;
+        }
+    }
+
+    pub fn pop_all(&mut self, ts: &[ValType]) -> bool
+        ensures value { pop_all (stack_of self.old) self.old.any_below (reverse ts.now) ≡ when result (stack_of self.new) }
+        ensures any_below { self.new.any_below ≡ self.old.any_below }
+        ensures beneath { beneath self.new ≡ beneath self.old }
+    {
+        if !self.can_pop(ts) {
+            return false;
+        }
+        self.take_off(ts.len());
+        true
+    }
+
     /// Whether exactly operands of these types stand there. It takes them off.
     pub fn ends(&mut self, ts: &[ValType]) -> bool
-        ensures { IsTrue result ↔ (pop_all (stack_of self.old) self.old.any_below (reverse ts.now) ≡ Some []) }
+        ensures value { IsTrue result ↔ (pop_all (stack_of self.old) self.old.any_below (reverse ts.now) ≡ Some []) }
+        ensures beneath { beneath self.new ≡ beneath self.old }
     {
         if !self.pop_all(ts) {
             return false;
         }
-        self.types.is_empty()
+        self.types.len() == self.base && !self.bottom
     }
 
     pub fn pop_one(&mut self) -> Option<Option<ValType>>
         ensures value { pop_one (stack_of self.old) self.old.any_below ≡ option_map (λ x. (x, stack_of self.new)) result }
+        ensures bottom { result ≡ Some None → stack_of self.new ≡ [] }
         ensures any_below { self.new.any_below ≡ self.old.any_below }
+        ensures beneath { beneath self.new ≡ beneath self.old }
     {
-        match self.types.pop() {
-            Some(x) => Some(x),
-            None => { if self.any_below { Some(None) } else { None } }
+        if self.base < self.types.len() {
+            return Some(self.types.pop());
         }
+        if self.bottom || self.any_below {
+            self.bottom = false;
+            return Some(None);
+        }
+        None
     }
 
     pub fn pop_type(&mut self, t: ValType) -> bool
         ensures value { pop_type (stack_of self.old) self.old.any_below t ≡ when result (stack_of self.new) }
         ensures any_below { self.new.any_below ≡ self.old.any_below }
+        ensures beneath { beneath self.new ≡ beneath self.old }
     {
         match self.pop_one() {
             None => false,
@@ -71,46 +170,98 @@ impl Kept {
         }
     }
 
-    pub fn pop_all(&mut self, ts: &[ValType]) -> bool
-        ensures value { pop_all (stack_of self.old) self.old.any_below (reverse ts.now) ≡ when result (stack_of self.new) }
+    pub fn push(&mut self, t: ValType) -> Result<(), AllocError>
+        ensures value { OnOk result (stack_of self.new ≡ Some t ∷ stack_of self.old) }
         ensures any_below { self.new.any_below ≡ self.old.any_below }
+        ensures beneath { OnOk result (beneath self.new ≡ beneath self.old) }
     {
-        for i in (0..ts.len()).rev() {
-            if !self.pop_type(ts[i]) {
-                return false;
-            }
-        }
-        true
+        self.types.push(t)?;
+        Ok(())
     }
 
-    pub fn push(&mut self, x: Option<ValType>) -> Result<(), AllocError>
-        ensures value { OnOk result (stack_of self.new ≡ x ∷ stack_of self.old) }
+    // Puts a bottom on where no operand stands.
+    fn push_bottom(&mut self)
+        requires { stack_of self.old ≡ [] }
+        ensures value { stack_of self.new ≡ None ∷ stack_of self.old }
         ensures any_below { self.new.any_below ≡ self.old.any_below }
+        ensures beneath { beneath self.new ≡ beneath self.old }
     {
-        self.types.push(x)?;
-        Ok(())
+        self.bottom = true;
     }
 
     pub fn push_all(&mut self, ts: &[ValType]) -> Result<(), AllocError>
         ensures value { OnOk result (stack_of self.new ≡ operands ts.now ++ stack_of self.old) }
         ensures any_below { self.new.any_below ≡ self.old.any_below }
+        ensures beneath { OnOk result (beneath self.new ≡ beneath self.old) }
     {
-        for t in ts {
-            self.push(Some(*t))?;
-        }
+        self.types.extend_from_slice(ts)?;
         Ok(())
     }
 
+    /// Puts one operand on.
+    pub fn puts(&mut self, ty: ValType) -> Result<bool, AllocError>
+        ensures { IfOk result (λ ok. Answers (Some (Gives [] (ty ∷ []))) self.old self.new ok) }
+    {
+        self.push(ty)?;
+        Ok(true)
+    }
+
+    /// Takes one operand off.
+    pub fn takes(&mut self, ty: ValType) -> bool
+        ensures { Answers (Some (Gives (ty ∷ []) [])) self.old self.new result }
+    {
+        if !self.pop_type(ty) {
+            return false;
+        }
+        true
+    }
+
+    /// Takes one operand off and puts one on.
+    pub fn turns(&mut self, from: ValType, to: ValType) -> Result<bool, AllocError>
+        ensures { IfOk result (λ ok. Answers (Some (Gives (from ∷ []) (to ∷ []))) self.old self.new ok) }
+    {
+        if !self.pop_type(from) {
+            return Ok(false);
+        }
+        self.push(to)?;
+        Ok(true)
+    }
+
+    /// Takes two operands of one type off and puts one on.
+    pub fn joins(&mut self, from: ValType, to: ValType) -> Result<bool, AllocError>
+        ensures { IfOk result (λ ok. Answers (Some (Gives (from ∷ from ∷ []) (to ∷ []))) self.old self.new ok) }
+    {
+        if !self.pop_type(from) {
+            return Ok(false);
+        }
+        if !self.pop_type(from) {
+            return Ok(false);
+        }
+        self.push(to)?;
+        Ok(true)
+    }
+
+    /// Takes operands of the types `takes` off, and puts operands of the types `pushes` on.
+    pub fn gives(&mut self, takes: &[ValType], pushes: &[ValType]) -> Result<bool, AllocError>
+        ensures { IfOk result (λ ok. Answers (Some (Gives takes.now pushes.now)) self.old self.new ok) }
+    {
+        if !self.pop_all(takes) {
+            return Ok(false);
+        }
+        self.push_all(pushes)?;
+        Ok(true)
+    }
+
     /// Takes operands of the types `under` and `top` off, `top` first, and puts operands of the types `pushes` on.
-    pub fn gives(
+    pub fn gives_over(
         &mut self,
         under: &[ValType],
-        top: &[ValType],
+        top: ValType,
         pushes: &[ValType],
     ) -> Result<bool, AllocError>
-        ensures { IfOk result (λ ok. Answers (Some (Gives (under.now ++ top.now) pushes.now)) self.old self.new ok) }
+        ensures { IfOk result (λ ok. Answers (Some (Gives (under.now ++ top ∷ []) pushes.now)) self.old self.new ok) }
     {
-        if !self.pop_all(top) {
+        if !self.pop_type(top) {
             return Ok(false);
         }
         if !self.pop_all(under) {
@@ -130,21 +281,31 @@ impl Kept {
         ensures { IfOk result (λ ok. Answers (only holds (Some (Gives takes.now pushes.now))) self.old self.new ok) }
     {
         if holds {
-            self.gives(&[], takes, pushes)
+            self.gives(takes, pushes)
         } else {
             Ok(false)
         }
+    }
+
+    // Takes all operands off, after which any stack stands there.
+    pub fn forgets(&mut self)
+        ensures value { stack_of self.new ≡ [] }
+        ensures any_below { IsTrue self.new.any_below }
+        ensures beneath { beneath self.new ≡ beneath self.old }
+    {
+        self.types.truncate(self.base);
+        self.bottom = false;
+        self.any_below = true;
     }
 
     /// Takes operands off, after which any stack stands there.
     pub fn leaves(&mut self, ts: &[ValType]) -> bool
         ensures { Answers (Some (Leaves ts.now)) self.old self.new result }
     {
-        if !self.pop_all(ts) {
+        if !self.can_pop(ts) {
             return false;
         }
-        self.types.clear();
-        self.any_below = true;
+        self.forgets();
         true
     }
 
@@ -165,11 +326,11 @@ impl Kept {
             Some(Some(ValType::I32)) => Ok(false),
             Some(Some(ValType::I64)) => Ok(false),
             Some(Some(ValType::Ref(_))) => {
-                self.push(Some(ValType::I32))?;
+                self.push(ValType::I32)?;
                 Ok(true)
             }
             Some(None) => {
-                self.push(Some(ValType::I32))?;
+                self.push(ValType::I32)?;
                 Ok(true)
             }
         }
@@ -189,7 +350,11 @@ impl Kept {
         };
         match choose(b, a) {
             None => Ok(false),
-            Some(u) => {
+            Some(None) => {
+                self.push_bottom();
+                Ok(true)
+            }
+            Some(Some(u)) => {
                 self.push(u)?;
                 Ok(true)
             }
@@ -199,7 +364,8 @@ impl Kept {
 
 // What both operands of an untyped select can be.
 fn choose(b: Option<ValType>, a: Option<ValType>) -> Option<Option<ValType>>
-    ensures { result ≡ chosen b a }
+    ensures value { result ≡ chosen b a }
+    ensures bottom { result ≡ Some None → a ≡ None }
 {
     let both = match (b, a) {
         (None, _) => a,

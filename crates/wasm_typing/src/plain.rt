@@ -7,11 +7,11 @@ ghost use Rattle.wasm_typing.specs.Labels.{label_list};
 ghost use Rattle.wasm_typing.specs.ScopeWords.{context_of};
 
 use crate::control::{branch, branch_if, call, call_indirect};
+use crate::kept::Kept;
 use crate::labels::Labels;
 use crate::memories::{
     load, memory_copy, memory_fill, memory_grow, memory_init, memory_size, store,
 };
-use crate::operands::Kept;
 use crate::scope::Scope;
 use crate::tables::{
     elem_drop, table_copy, table_fill, table_get, table_grow, table_init, table_set, table_size,
@@ -35,7 +35,7 @@ pub fn plain(
 {
     match instr {
         Instr::Unreachable => Ok(kept.leaves(&[])),
-        Instr::Nop => kept.gives(&[], &[], &[]),
+        Instr::Nop => kept.gives(&[], &[]),
         Instr::Br(label) => Ok(branch(scope, labels, kept, *label)),
         Instr::BrIf(label) => branch_if(scope, labels, kept, *label),
         Instr::BrTable(others, last) => kept.branches(alloc, labels, *last, others.as_slice()),
@@ -56,14 +56,11 @@ pub fn plain(
         Instr::Store(op, arg) => store(scope, kept, *op, arg),
         Instr::MemorySize(memory) => memory_size(scope, kept, *memory),
         Instr::MemoryGrow(memory) => memory_grow(scope, kept, *memory),
-        Instr::I32Const(_) => kept.gives(&[], &[], &[ValType::I32]),
-        Instr::I64Const(_) => kept.gives(&[], &[], &[ValType::I64]),
-        Instr::Un(op) => kept.gives(&[], &[un_operand(*op)], &[un_result(*op)]),
-        Instr::Bin(op) => {
-            let operand = bin_operand(*op);
-            kept.gives(&[], &[operand, operand], &[bin_result(*op)])
-        }
-        Instr::RefNull(ty) => kept.gives(&[], &[], &[ValType::Ref(*ty)]),
+        Instr::I32Const(_) => kept.puts(ValType::I32),
+        Instr::I64Const(_) => kept.puts(ValType::I64),
+        Instr::Un(op) => kept.turns(un_operand(*op), un_result(*op)),
+        Instr::Bin(op) => kept.joins(bin_operand(*op), bin_result(*op)),
+        Instr::RefNull(ty) => kept.puts(ValType::Ref(*ty)),
         Instr::RefIsNull => kept.tests_null(),
         Instr::RefFunc(func) => ref_func(scope, kept, *func),
         Instr::MemoryInit { segment, memory } => memory_init(scope, kept, *segment, *memory),

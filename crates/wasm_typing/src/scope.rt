@@ -25,7 +25,7 @@ pub struct Scope<'a> {
     pub datas: usize,
     /// For each function, whether `ref.func` may name it in a body.
     pub named: &'a [bool],
-    pub locals: &'a Locals<'a>,
+    pub locals: Locals<'a>,
     /// The results of the function.
     pub results: &'a [ValType],
 }

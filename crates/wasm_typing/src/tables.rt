@@ -6,7 +6,7 @@ ghost use Rattle.wasm_typing.specs.Typing.{both, effect_of};
 ghost use Rattle.wasm_typing.specs.Kept.{Answers};
 ghost use Rattle.wasm_typing.specs.ScopeWords.{context_of};
 
-use crate::operands::Kept;
+use crate::kept::Kept;
 use crate::scope::Scope;
 use std::alloc::AllocError;
 use wasm_tree::{RefType, ValType};
@@ -27,7 +27,7 @@ pub fn table_get(scope: &Scope<'_>, kept: &mut Kept, table: u32) -> Result<bool,
     ensures { IfOk result (λ ok. Answers (effect_of (context_of scope.now []) (TableGet table)) kept.old kept.new ok) }
 {
     match scope.tables.get(table as usize) {
-        Some(ty) => kept.gives(&[], &[ValType::I32], &[ValType::Ref(*ty)]),
+        Some(ty) => kept.gives(&[ValType::I32], &[ValType::Ref(*ty)]),
         None => Ok(false),
     }
 }
@@ -37,7 +37,7 @@ pub fn table_set(scope: &Scope<'_>, kept: &mut Kept, table: u32) -> Result<bool,
     ensures { IfOk result (λ ok. Answers (effect_of (context_of scope.now []) (TableSet table)) kept.old kept.new ok) }
 {
     match scope.tables.get(table as usize) {
-        Some(ty) => kept.gives(&[], &[ValType::I32, ValType::Ref(*ty)], &[]),
+        Some(ty) => kept.gives(&[ValType::I32, ValType::Ref(*ty)], &[]),
         None => Ok(false),
     }
 }
@@ -47,7 +47,7 @@ pub fn table_size(scope: &Scope<'_>, kept: &mut Kept, table: u32) -> Result<bool
     ensures { IfOk result (λ ok. Answers (effect_of (context_of scope.now []) (TableSize table)) kept.old kept.new ok) }
 {
     match scope.tables.get(table as usize) {
-        Some(_) => kept.gives(&[], &[], &[ValType::I32]),
+        Some(_) => kept.gives(&[], &[ValType::I32]),
         None => Ok(false),
     }
 }
@@ -57,7 +57,7 @@ pub fn table_grow(scope: &Scope<'_>, kept: &mut Kept, table: u32) -> Result<bool
     ensures { IfOk result (λ ok. Answers (effect_of (context_of scope.now []) (TableGrow table)) kept.old kept.new ok) }
 {
     match scope.tables.get(table as usize) {
-        Some(ty) => kept.gives(&[], &[ValType::Ref(*ty), ValType::I32], &[ValType::I32]),
+        Some(ty) => kept.gives(&[ValType::Ref(*ty), ValType::I32], &[ValType::I32]),
         None => Ok(false),
     }
 }
@@ -67,7 +67,7 @@ pub fn table_fill(scope: &Scope<'_>, kept: &mut Kept, table: u32) -> Result<bool
     ensures { IfOk result (λ ok. Answers (effect_of (context_of scope.now []) (TableFill table)) kept.old kept.new ok) }
 {
     match scope.tables.get(table as usize) {
-        Some(ty) => kept.gives(&[], &[ValType::I32, ValType::Ref(*ty), ValType::I32], &[]),
+        Some(ty) => kept.gives(&[ValType::I32, ValType::Ref(*ty), ValType::I32], &[]),
         None => Ok(false),
     }
 }
@@ -109,7 +109,7 @@ pub fn elem_drop(scope: &Scope<'_>, kept: &mut Kept, segment: u32) -> Result<boo
     ensures { IfOk result (λ ok. Answers (effect_of (context_of scope.now []) (ElemDrop segment)) kept.old kept.new ok) }
 {
     match scope.elems.get(segment as usize) {
-        Some(_) => kept.gives(&[], &[], &[]),
+        Some(_) => kept.gives(&[], &[]),
         None => Ok(false),
     }
 }

@@ -6,7 +6,7 @@ ghost use Rattle.wasm_typing.specs.Typing.{effect_of};
 ghost use Rattle.wasm_typing.specs.Kept.{Answers};
 ghost use Rattle.wasm_typing.specs.ScopeWords.{context_of};
 
-use crate::operands::Kept;
+use crate::kept::Kept;
 use crate::scope::Scope;
 use std::alloc::AllocError;
 use wasm_bytes::Items;
@@ -21,7 +21,7 @@ pub fn select_typed(
     ensures { IfOk result (λ ok. Answers (effect_of (context_of scope.now []) (SelectTyped types.now)) kept.old kept.new ok) }
 {
     match types.as_slice() {
-        [ty] => kept.gives(&[], &[*ty, *ty, ValType::I32], &[*ty]),
+        [ty] => kept.gives(&[*ty, *ty, ValType::I32], &[*ty]),
         _ => Ok(false),
     }
 }
@@ -31,7 +31,7 @@ pub fn local_get(scope: &Scope<'_>, kept: &mut Kept, local: u32) -> Result<bool,
     ensures { IfOk result (λ ok. Answers (effect_of (context_of scope.now []) (LocalGet local)) kept.old kept.new ok) }
 {
     match scope.locals.type_at(local) {
-        Some(ty) => kept.gives(&[], &[], &[ty]),
+        Some(ty) => kept.puts(ty),
         None => Ok(false),
     }
 }
@@ -41,7 +41,7 @@ pub fn local_set(scope: &Scope<'_>, kept: &mut Kept, local: u32) -> Result<bool,
     ensures { IfOk result (λ ok. Answers (effect_of (context_of scope.now []) (LocalSet local)) kept.old kept.new ok) }
 {
     match scope.locals.type_at(local) {
-        Some(ty) => kept.gives(&[], &[ty], &[]),
+        Some(ty) => Ok(kept.takes(ty)),
         None => Ok(false),
     }
 }
@@ -51,7 +51,7 @@ pub fn local_tee(scope: &Scope<'_>, kept: &mut Kept, local: u32) -> Result<bool,
     ensures { IfOk result (λ ok. Answers (effect_of (context_of scope.now []) (LocalTee local)) kept.old kept.new ok) }
 {
     match scope.locals.type_at(local) {
-        Some(ty) => kept.gives(&[], &[ty], &[ty]),
+        Some(ty) => kept.turns(ty, ty),
         None => Ok(false),
     }
 }
@@ -61,7 +61,7 @@ pub fn global_get(scope: &Scope<'_>, kept: &mut Kept, global: u32) -> Result<boo
     ensures { IfOk result (λ ok. Answers (effect_of (context_of scope.now []) (GlobalGet global)) kept.old kept.new ok) }
 {
     match scope.globals.get(global as usize) {
-        Some(global) => kept.gives(&[], &[], &[global.ty]),
+        Some(global) => kept.puts(global.ty),
         None => Ok(false),
     }
 }

@@ -1,8 +1,8 @@
 -- Code that is well typed where there is at most one memory names memory 0 alone.
-use Rattle.std.proofs.Common.{◌≡◌, ℕ, ◌≤◌, Bool, true, false, IsTrue, nat_eq, nat_lt, List, [], ◌∷◌, Option, Some, refl, subst, arith}
+use Rattle.std.proofs.Common.{◌≡◌, ℕ, ◌≤◌, true, IsTrue, nat_eq, nat_lt, List, [], ◌∷◌, Some, refl, subst, arith}
 use Rattle.std.specs.Prelude.{slice_get}
 use Rattle.std.proofs.lemmas.Bool.Decides.{nat_tests}
-use Rattle.std.proofs.lemmas.Option.{slice_get_within}
+use Rattle.std.proofs.lemmas.Option.{slice_get_within, cond_some}
 use Rattle.base_lists.specs.Every.{Every}
 use Rattle.base_lists.proofs.Bools.{left_true, right_true}
 use Rattle.base_lists.proofs.Each.{list_all_from}
@@ -18,14 +18,10 @@ use Rattle.wasm_tree.specs.Layers.{Layers, RowLayers, ListLayers}
 use Rattle.wasm_tree.specs.MemoryZero.{is_memory_zero, memory_zero_all, memory_zero_funcs}
 use Rattle.wasm_tree.specs.OperandLaws.{PassesLayerByLayer}
 use Rattle.wasm_tree.specs.Operands.{operands, block_operands}
-use Rattle.wasm_typing.specs.Typing.{Stack, Effect, Context, under, only, effect_of, Fits, Leads, LeadsAll}
+use Rattle.wasm_typing.specs.Typing.{Stack, Effect, Context, under, effect_of, Fits, Leads, LeadsAll}
 use Rattle.wasm_valid.specs.declared.kinds.ItemKind.TheVariants as kind
 use Rattle.wasm_valid.specs.Validity.{HoldsAt, IsValid, IsSingle}
 use Rattle.wasm_valid.proofs.Order.{each_item}
-
-only_true : {A : Type 0} (b : Bool) (m : Option A) (e : A) → only b m ≡ Some e → b ≡ true
-only_true false m e h = cc
-only_true true m e h = refl
 
 -- the one memory
 zero_at : (c : Context) → c.memories ≤ 1 → (memory : ℕ) → nat_lt memory c.memories ≡ true → nat_eq memory 0 ≡ true
@@ -40,13 +36,13 @@ NamesZero layer = AllZero (operands layer)
 
 effect_zero : (c : Context) → c.memories ≤ 1 → (i : Instr) (e : Effect) → effect_of c i ≡ Some e → NamesZero (out-Instr i)
 unfolding out-Instr denote.Hole.Carrier.out
-effect_zero c few (Load x y) e h = (zero_at c few y.memory (left_true _ _ (only_true _ _ e h)), tt)
-effect_zero c few (Store x y) e h = (zero_at c few y.memory (left_true _ _ (only_true _ _ e h)), tt)
-effect_zero c few (MemorySize x) e h = (zero_at c few x (only_true _ _ e h), tt)
-effect_zero c few (MemoryGrow x) e h = (zero_at c few x (only_true _ _ e h), tt)
-effect_zero c few (MemoryInit x y) e h = (refl, (zero_at c few y (right_true _ _ (only_true _ _ e h)), tt))
-effect_zero c few (MemoryCopy x y) e h = (zero_at c few x (left_true _ _ (only_true _ _ e h)), (zero_at c few y (right_true _ _ (only_true _ _ e h)), tt))
-effect_zero c few (MemoryFill x) e h = (zero_at c few x (only_true _ _ e h), tt)
+effect_zero c few (Load x y) e h = (zero_at c few y.memory (left_true _ _ (cond_some _ _ e h).0), tt)
+effect_zero c few (Store x y) e h = (zero_at c few y.memory (left_true _ _ (cond_some _ _ e h).0), tt)
+effect_zero c few (MemorySize x) e h = (zero_at c few x (cond_some _ _ e h).0, tt)
+effect_zero c few (MemoryGrow x) e h = (zero_at c few x (cond_some _ _ e h).0, tt)
+effect_zero c few (MemoryInit x y) e h = (refl, (zero_at c few y (right_true _ _ (cond_some _ _ e h).0), tt))
+effect_zero c few (MemoryCopy x y) e h = (zero_at c few x (left_true _ _ (cond_some _ _ e h).0), (zero_at c few y (right_true _ _ (cond_some _ _ e h).0), tt))
+effect_zero c few (MemoryFill x) e h = (zero_at c few x (cond_some _ _ e h).0, tt)
 effect_zero c few (Call x) e h = (refl, tt)
 effect_zero c few (CallIndirect x y) e h = (refl, (refl, tt))
 effect_zero c few (GlobalGet x) e h = (refl, tt)

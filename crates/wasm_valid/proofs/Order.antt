@@ -94,18 +94,16 @@ apart m h =
     let rest = each_right m imports _ h in
     (each_append m imports _ (each_left m imports _ h) rest.1, rest.0)
 
-together : (m : Module) → IsValid m → IsSingle m → EachHolds m (items m false)
-together m valid single =
-    let imports = span kind.Import 0 (count_of m true kind.Import) in
-    each_append m imports _ (each_left m imports _ valid) (single, each_right m imports _ valid)
-
 each_among : (m : Module) (front after : List Item) (x : Item) → EachHolds m (front ++ x ∷ after) → HoldsAt m x.kind x.place
 each_among m [] after x h = h.0
 each_among m (y ∷ front) after x h = each_among m front after x h.1
 
 -- no item is the first that does not hold, where all do
 pub none_first : (m : Module) (e : Invalid) → IsValid m → IsSingle m → IsFirstOf m (items m false) e → ⊥
-none_first m e valid single (x, front, after, f, hold, bad, k, n) = bad (each_among m front after x (subst (EachHolds m) f (together m valid single)))
+none_first m e valid single (x, front, after, f, hold, bad, k, n) =
+    let imports = span kind.Import 0 (count_of m true kind.Import) in
+    let all : EachHolds m (items m false) = each_append m imports _ (each_left m imports _ valid) (single, each_right m imports _ valid) in
+    bad (each_among m front after x (subst (EachHolds m) f all))
 
 -- each item of a kind holds
 kind_holds : (m : Module) (ks : List ItemKind) (p : ℕ) (k : ItemKind) → slice_get ks p ≡ Some k → EachHolds m (all_of m true ks) → EachHolds m (span k 0 (count_of m true k))

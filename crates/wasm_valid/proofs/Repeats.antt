@@ -7,6 +7,7 @@ use Rattle.std.specs.Cmp.{IsEquivalence}
 use Rattle.std.proofs.lemmas.Slice.Eq.{bytes_eq-Decides}
 use Rattle.std.proofs.lemmas.Map.Views.{list_any-from_Contains, Contains-from_any}
 use Rattle.std.proofs.lemmas.List.{take-map, at_drop_more}
+use Rattle.base_lists.proofs.Bools.{same_tests}
 use Rattle.base_lists.proofs.Walk.{mapped_more}
 use Rattle.std.proofs.lemmas.List.Folds.{list_any-append}
 use Rattle.wasm_tree.specs.declared.module.Export.{Export}
@@ -15,30 +16,15 @@ use Rattle.wasm_valid.specs.declared.kinds.ItemKind.TheVariants as kind
 use Rattle.wasm_valid.specs.Names.{repeats_after}
 use Rattle.wasm_valid.specs.Validity.{InSpace, HoldsAt}
 
-same_true : (x y : List ℕ) → x ≡ y → bytes_eq x y ≡ true
-same_true x y e = (bytes_eq-Decides x y).1 e
-
-pub true_same : (x y : List ℕ) → bytes_eq x y ≡ true → x ≡ y
-true_same x y e = (bytes_eq-Decides x y).0 e
-
-false_unless : (a b : Bool) → (a ≡ true → b ≡ true) → (b ≡ true → a ≡ true) → a ≡ b
-false_unless false false f g = refl
-false_unless false true f g = g refl
-false_unless true false f g = sym (f refl)
-false_unless true true f g = refl
-
-pub swapped : (x y : List ℕ) → bytes_eq x y ≡ bytes_eq y x
-swapped x y = false_unless (bytes_eq x y) (bytes_eq y x) (λ e. same_true y x (sym (true_same x y e))) (λ e. same_true x y (sym (true_same y x e)))
-
 equivalence : IsEquivalence bytes_eq
 equivalence = record {
-  refl = λ x. same_true x x refl;
-  symm = swapped;
-  congr = λ x y z e. ap (λ w. bytes_eq w z) (true_same x y e);
+  refl = λ x. (bytes_eq-Decides x x).1 refl;
+  symm = λ x y. same_tests (bytes_eq x y) (bytes_eq y x) (λ e. (bytes_eq-Decides y x).1 (sym ((bytes_eq-Decides x y).0 e))) (λ e. (bytes_eq-Decides x y).1 (sym ((bytes_eq-Decides y x).0 e)));
+  congr = λ x y z e. ap (λ w. bytes_eq w z) ((bytes_eq-Decides x y).0 e);
 }
 
 among : (before : List (List ℕ)) (n : List ℕ) → list_any (bytes_eq n) before ≡ true → Contains before n
-among before n e = Contains-from_any true_same n before e
+among before n e = Contains-from_any (λ x y. (bytes_eq-Decides x y).0) n before e
 
 not_among : (before : List (List ℕ)) (n : List ℕ) → list_any (bytes_eq n) before ≡ false → Contains before n → ⊥
 not_among before n e h = let yes : list_any (bytes_eq n) before ≡ true = list_any-from_Contains equivalence n before h in cc
@@ -100,7 +86,7 @@ joined_more all new b es i e lt is n h =
 pub known_more : (f : List ℕ → Bool) (g : List ℕ → Bool) (before : List (List ℕ)) (n : List ℕ) → ((text : List ℕ) → f text ≡ list_any (bytes_eq text) before) → ((text : List ℕ) → g text ≡ (bytes_eq n text || f text)) → (text : List ℕ) → g text ≡ list_any (bytes_eq text) (before ++ n ∷ [])
 known_more f g before n h k text =
     k text ∙ ap (λ b. bytes_eq n text || b) (h text) ∙ swap (bytes_eq n text) (list_any (bytes_eq text) before)
-    ∙ ap (λ b. list_any (bytes_eq text) before || (b || false)) (swapped n text) ∙ sym (list_any-append (bytes_eq text) before (n ∷ []))
+    ∙ ap (λ b. list_any (bytes_eq text) before || (b || false)) (equivalence.symm n text) ∙ sym (list_any-append (bytes_eq text) before (n ∷ []))
   where
     swap : (a b : Bool) → (a || b) ≡ (b || (a || false))
     swap false false = refl

@@ -10,6 +10,7 @@ use crate::kinds::{Invalid, ItemKind};
 use crate::spaces::Spaces;
 use std::alloc::{AllocError, Global};
 use wasm_tree::Module;
+use wasm_typing::Stacks;
 
 const ORDER: [ItemKind; 11] = [
     ItemKind::Import,
@@ -26,9 +27,10 @@ const ORDER: [ItemKind; 11] = [
 ];
 
 // The first item of one kind that does not hold, if one does not.
-fn first_of_kind(
+fn first_of_kind<'a>(
     alloc: Global,
-    spaces: &Spaces<'_>,
+    spaces: &'a Spaces<'a>,
+    stacks: &mut Stacks<'a>,
     many: bool,
     kind: ItemKind,
 ) -> Result<Option<Invalid>, AllocError>
@@ -36,7 +38,7 @@ fn first_of_kind(
     ensures { IfOk result (λ found. IsAnswer spaces.now.module.now (span kind 0 (count_of spaces.now.module.now many kind)) found) }
 {
     for place in 0..count_of(spaces.module, many, kind) {
-        if !holds_at(alloc, spaces, kind, place)? {
+        if !holds_at(alloc, spaces, stacks, kind, place)? {
             let index = index_of(spaces.module, many, kind, place);
             return Ok(Some(Invalid { kind, index }));
         }
@@ -55,8 +57,9 @@ pub fn first_invalid(
     ensures { IfOk result (λ found. IsAnswer «module».now (items «module».now many) found) }
 {
     let spaces = Spaces::new(alloc, module)?;
+    let mut stacks = Stacks::new(alloc);
     for kind in &ORDER {
-        if let Some(invalid) = first_of_kind(alloc, &spaces, many, *kind)? {
+        if let Some(invalid) = first_of_kind(alloc, &spaces, &mut stacks, many, *kind)? {
             return Ok(Some(invalid));
         }
     }

@@ -13,11 +13,13 @@ use crate::kinds::ItemKind;
 use crate::spaces::Spaces;
 use std::alloc::{AllocError, Global};
 use wasm_tree::Module;
+use wasm_typing::Stacks;
 
-/// Whether an item holds.
-pub fn holds_at(
+/// Whether an item holds. The stacks are for bodies, and what they hold before has no meaning.
+pub fn holds_at<'a>(
     alloc: Global,
-    spaces: &Spaces<'_>,
+    spaces: &'a Spaces<'a>,
+    stacks: &mut Stacks<'a>,
     kind: ItemKind,
     place: usize,
 ) -> Result<bool, AllocError>
@@ -35,7 +37,7 @@ pub fn holds_at(
         ItemKind::Start => Ok(start_holds(spaces.module)),
         ItemKind::Elem => Ok(elem_holds(spaces, place)),
         ItemKind::Segment => Ok(segment_holds(spaces, place)),
-        ItemKind::Body => body_holds(alloc, spaces, place),
+        ItemKind::Body => body_holds(alloc, spaces, stacks, place),
     }
 }
 

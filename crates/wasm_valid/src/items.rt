@@ -14,7 +14,7 @@ use std::alloc::{AllocError, Global};
 use wasm_tree::{
     ConstExpr, DataMode, ElemMode, ExportDesc, ImportDesc, Limits, Module, RefType, ValType,
 };
-use wasm_typing::{Locals, Scope, is_well_typed_body};
+use wasm_typing::{Locals, Scope, Stacks, is_well_typed_body};
 
 const MOST_PAGES: u32 = 65_536;
 
@@ -194,7 +194,12 @@ pub fn segment_holds(spaces: &Spaces<'_>, place: usize) -> bool
 }
 
 /// Whether the body is well typed.
-pub fn body_holds(alloc: Global, spaces: &Spaces<'_>, place: usize) -> Result<bool, AllocError>
+pub fn body_holds<'a>(
+    alloc: Global,
+    spaces: &'a Spaces<'a>,
+    stacks: &mut Stacks<'a>,
+    place: usize,
+) -> Result<bool, AllocError>
     requires { IsBounded spaces.now.module.now }
     ensures { IfOk result (λ ok. IsTrue ok ↔ HoldsAt spaces.now.module.now ItemKind.Body place) }
 {
@@ -215,8 +220,8 @@ pub fn body_holds(alloc: Global, spaces: &Spaces<'_>, place: usize) -> Result<bo
         elems: &spaces.elems,
         datas: module.datas.len(),
         named: &spaces.named,
-        locals: &locals,
+        locals,
         results: ty.results.as_slice(),
     };
-    is_well_typed_body(alloc, &scope, func.body.as_slice())
+    is_well_typed_body(alloc, &scope, stacks, func.body.as_slice())
 }

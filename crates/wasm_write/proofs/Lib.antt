@@ -1,2 +1,3 @@
-pub mod Lengths
 pub mod Loops
+pub mod Parts
+pub mod Places

@@ -1,5 +1,5 @@
--- Steps of a loop that writes, measures or tests one item at a time.
-use Rattle.std.proofs.Common.{◌≡◌, ℕ, zero, suc, ◌+◌, ◌<◌, ◌≤◌, List, [], ◌∷◌, ◌++◌, true, false, map, take, get_or, length, length-append, append_assoc, append-nil, refl, sym, ap, ◌∙◌, arith}
+-- Steps of a loop that spells or tests one item at a time.
+use Rattle.std.proofs.Common.{◌≡◌, ℕ, zero, suc, ◌+◌, ◌<◌, List, [], ◌∷◌, ◌++◌, true, false, map, take, get_or, length, append_assoc, append-nil, refl, sym, ap, ◌∙◌, arith}
 use Rattle.std.proofs.lemmas.List.{take_more}
 use Rattle.base_lists.proofs.Bools.{and_false, left_true, right_true}
 use Rattle.base_lists.proofs.Walk.{mapped_more}
@@ -10,30 +10,14 @@ joined_push : (ts : List (List ℕ)) (t : List ℕ) → joined (ts ++ t ∷ []) 
 joined_push [] t = append-nil t
 joined_push (x ∷ xs) t = ap (λ r. x ++ r) (joined_push xs t) ∙ sym (append_assoc x (joined xs) t)
 
-pub joined_more : {A : Type 0} (f : A → List ℕ) (xs : List A) (i : ℕ) (x : A) → i < length xs → x ≡ get_or xs i x → each_text f (take (i + 1) xs) ≡ each_text f (take i xs) ++ f x
+joined_more : {A : Type 0} (f : A → List ℕ) (xs : List A) (i : ℕ) (x : A) → i < length xs → x ≡ get_or xs i x → each_text f (take (i + 1) xs) ≡ each_text f (take i xs) ++ f x
 joined_more f xs i x lt is = ap joined (mapped_more f xs i x lt is) ∙ joined_push (map f (take i xs)) (f x)
 
--- the text of one more item is written
-pub written_more : {A : Type 0} (f : A → List ℕ) (xs : List A) (i : ℕ) (x : A) (first old new : List ℕ) → i < length xs → x ≡ get_or xs i x →
-    old ≡ first ++ each_text f (take i xs) → new ≡ old ++ f x → new ≡ first ++ each_text f (take (i + 1) xs)
-written_more f xs i x first old new lt is a b = b ∙ ap (λ o. o ++ f x) a ∙ append_assoc first _ _ ∙ ap (λ t. first ++ t) (sym (joined_more f xs i x lt is))
-
--- room for one more item is taken
-pub measured_more : {A : Type 0} (f : A → List ℕ) (xs : List A) (i : ℕ) (x : A) (first old new : ℕ) → i < length xs → x ≡ get_or xs i x →
-    first ≡ old + length (each_text f (take i xs)) → old ≡ new + length (f x) → first ≡ new + length (each_text f (take (i + 1) xs))
-measured_more f xs i x first old new lt is a b = omega (arith, a, b, ap length (joined_more f xs i x lt is), length-append (each_text f (take i xs)) (f x))
-
--- so many items are no longer than all
-front_length : {A : Type 0} (f : A → List ℕ) (xs : List A) (i : ℕ) → length (each_text f (take i xs)) ≤ length (each_text f xs)
-front_length f xs zero = omega arith
-front_length f [] (suc i) = omega arith
-front_length f (x ∷ xs) (suc i) = let h = front_length f xs i in omega (arith, h, length-append (f x) (each_text f (take i xs)), length-append (f x) (each_text f xs))
-
--- where there is no room for one more item, there is none for all
-pub measured_stop : {A : Type 0} (f : A → List ℕ) (xs : List A) (i : ℕ) (x : A) (first old : ℕ) → i < length xs → x ≡ get_or xs i x →
-    first ≡ old + length (each_text f (take i xs)) → old < length (f x) → first < length (each_text f xs)
-measured_stop f xs i x first old lt is a b =
-    let h = front_length f xs (i + 1) in omega (arith, h, a, b, ap length (joined_more f xs i x lt is), length-append (each_text f (take i xs)) (f x))
+-- the text of one more item is spelled
+pub spelled_more : {S : Type 0} {A : Type 0} (after : S → List ℕ → S) → ((t : S) (a b : List ℕ) → after (after t a) b ≡ after t (a ++ b)) →
+    (f : A → List ℕ) (xs : List A) (i : ℕ) (x : A) (first old new : S) → i < length xs → x ≡ get_or xs i x →
+    old ≡ after first (each_text f (take i xs)) → new ≡ after old (f x) → new ≡ after first (each_text f (take (i + 1) xs))
+spelled_more after both f xs i x first old new lt is a b = b ∙ ap (λ o. after o (f x)) a ∙ both first _ _ ∙ ap (after first) (sym (joined_more f xs i x lt is))
 
 -- one of the items is no `ref.func`
 pub all_lost : (xs : List ConstExpr) (i : ℕ) (x : ConstExpr) → i < length xs → x ≡ get_or xs i x → is_func x ≡ false → all_funcs xs ≡ false

@@ -1,12 +1,15 @@
--- How long spellings are.
-use Rattle.std.specs.Prelude.{ℕ, zero, suc, ◌+◌, ◌/◌, nat_lt, if◌then◌else◌, ℤ, pos, negsuc}
+-- Counting bytes.
+use Rattle.std.specs.Prelude.{ℕ, ◌+◌, ◌-◌, ◌^◌, min, max, Bool, true, false, ℤ, pos, negsuc}
 
--- how far a number is from 0, or below -1
-abbrev pub magnitude : ℤ → ℕ
-magnitude (pos n) = n
-magnitude (negsuc n) = n
+-- so many bytes more, where no number is greater than the greatest u64
+abbrev pub counted : ℕ → ℕ → ℕ
+counted bytes more = max bytes (min (bytes + more) (2 ^ 64 - 1))
 
--- how many bytes the shortest spelling of a number of this magnitude has
-abbrev pub signed_length : ℕ → ℕ → ℕ
-signed_length zero n = 0
-signed_length (suc most) n = if nat_lt n 64 then 1 else (1 + signed_length most (n / 128))
+-- a number by how far it is from 0, or below -1
+abbrev pub with_sign : Bool → ℕ → ℤ
+with_sign false n = pos n
+with_sign true n = negsuc n
+
+abbrev pub is_negative : ℤ → Bool
+is_negative (pos n) = false
+is_negative (negsuc n) = true

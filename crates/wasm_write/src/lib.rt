@@ -4,18 +4,20 @@
 ghost use Rattle.std.specs.Prelude.{◌≡◌, ◌≤◌, length, IfOk, IsTrue, ◌↔◌};
 ghost use Rattle.wasm_plain.specs.Plain.{plain};
 
-mod fit_code;
+mod buffer;
+mod code;
+mod numbers;
 mod opcodes;
 mod plain;
-mod put_code;
-mod room;
 mod sections;
 mod segments;
 mod size;
+mod target;
 mod types;
 
-use crate::room::Room;
-use crate::sections::{fit_module, put_module};
+use crate::buffer::Buffer;
+use crate::sections::spell_module;
+use crate::size::Size;
 use std::alloc::Global;
 use wasm_bytes::NoMemory;
 use wasm_tree::Module;
@@ -27,14 +29,18 @@ use wasm_tree::Module;
 pub fn write(alloc: Global, module: &Module) -> Result<Vec<u8>, NoMemory>
     ensures { IfOk result (λ bytes. bytes.items ≡ plain «module».now) }
 {
-    let out = put_module(alloc, module)?;
-    Ok(out.into_bytes())
+    let mut file = Buffer::new(alloc);
+    spell_module(&mut file, module)?;
+    Ok(file.into_bytes())
 }
 
 /// Whether the plain spelling of the module has at most `most` bytes. It takes no memory.
 pub fn fits(module: &Module, most: u32) -> bool
     ensures { IsTrue result ↔ (length (plain «module».now) ≤ most) }
 {
-    let mut room = Room { left: most };
-    fit_module(&mut room, module).is_ok()
+    let mut size = Size::new();
+    match spell_module(&mut size, module) {
+        Ok(()) => size.get() <= u64::from(most),
+        Err(never) => match never {},
+    }
 }

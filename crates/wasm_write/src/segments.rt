@@ -1,11 +1,11 @@
-ghost use Rattle.std.specs.Prelude.{◌≡◌, ℕ, List, [], ◌∷◌, ◌+◌, ◌++◌, ◌<◌, length, OnOk, OnErr, IsTrue};
+ghost use Rattle.std.specs.Prelude.{◌≡◌, ℕ, List, [], ◌∷◌, ◌+◌, ◌++◌, OnOk};
 ghost use Rattle.wasm_bytes.specs.Writing.{u32_text, sized_text};
 ghost use Rattle.wasm_plain.specs.PlainValues.{joined, each_text, vector_text, is_func, func_of, is_funcref, all_funcs, by_index, index_items, const_items, active_by_index, active_by_const, mode_by_index, mode_by_const, elem_text, data_mode_text, data_text};
 
-use crate::plain::{Plain, fit_vector, put_number, put_sized, put_vector};
-use crate::room::{Room, TooLong};
+use crate::numbers::{spell_number, spell_u32};
+use crate::plain::{Plain, spell_sized, spell_vector};
+use crate::target::Target;
 use crate::types::ref_code;
-use wasm_bytes::{NoMemory, Out};
 use wasm_tree::{ConstExpr, DataMode, DataSeg, ElemMode, ElemSeg, RefType};
 
 /// Whether an item is `ref.func`.
@@ -65,173 +65,98 @@ fn by_index(segment: &ElemSeg) -> bool
     is_funcref(segment.ty) && all_funcs(segment.items.as_slice())
 }
 
-/// Appends the functions of items that are all `ref.func`.
-fn put_funcs(out: &mut Out, items: &[ConstExpr]) -> Result<(), NoMemory>
-    ensures { OnOk result (out.new ≡ out.old ++ each_text (λ c. u32_text (func_of c)) items.now) }
+/// Spells the functions of items that are all `ref.func`.
+fn spell_funcs<T: Target>(target: &mut T, items: &[ConstExpr]) -> Result<(), T::Refusal>
+    ensures { OnOk result (target.new ≡ T.after target.old (each_text (λ c. u32_text (func_of c)) items.now)) }
 {
     for item in items {
-        out.u32(func_of(*item))?;
-    }
-    Ok(())
-}
-
-/// Takes room for the functions of items that are all `ref.func`.
-fn fit_funcs(room: &mut Room, items: &[ConstExpr]) -> Result<(), TooLong>
-    ensures ok { OnOk result (room.old.left ≡ room.new.left + length (each_text (λ c. u32_text (func_of c)) items.now)) }
-    ensures err { OnErr result (room.old.left < length (each_text (λ c. u32_text (func_of c)) items.now)) }
-{
-    for item in items {
-        room.u32(func_of(*item))?;
+        spell_u32(target, func_of(*item))?;
     }
     Ok(())
 }
 
 #[tactic(auto, unfolding(wasm_plain::specs::PlainValues::index_items))]
-fn put_index_items(out: &mut Out, items: &[ConstExpr]) -> Result<(), NoMemory>
-    ensures { OnOk result (out.new ≡ out.old ++ index_items items.now) }
+fn spell_index_items<T: Target>(target: &mut T, items: &[ConstExpr]) -> Result<(), T::Refusal>
+    ensures { OnOk result (target.new ≡ T.after target.old (index_items items.now)) }
 {
-    put_number(out, items.len() as u64)?;
-    put_funcs(out, items)
-}
-
-#[tactic(auto, unfolding(wasm_plain::specs::PlainValues::index_items))]
-fn fit_index_items(room: &mut Room, items: &[ConstExpr]) -> Result<(), TooLong>
-    ensures ok { OnOk result (room.old.left ≡ room.new.left + length (index_items items.now)) }
-    ensures err { OnErr result (room.old.left < length (index_items items.now)) }
-{
-    room.number(items.len() as u64)?;
-    fit_funcs(room, items)
+    spell_number(target, items.len() as u64)?;
+    spell_funcs(target, items)
 }
 
 #[tactic(auto, unfolding(wasm_plain::specs::PlainValues::const_items))]
-fn put_const_items(out: &mut Out, items: &[ConstExpr]) -> Result<(), NoMemory>
-    ensures { OnOk result (out.new ≡ out.old ++ const_items items.now) }
+fn spell_const_items<T: Target>(target: &mut T, items: &[ConstExpr]) -> Result<(), T::Refusal>
+    ensures { OnOk result (target.new ≡ T.after target.old (const_items items.now)) }
 {
-    put_vector(out, items)
+    spell_vector(target, items)
 }
 
-#[tactic(auto, unfolding(wasm_plain::specs::PlainValues::const_items))]
-fn fit_const_items(room: &mut Room, items: &[ConstExpr]) -> Result<(), TooLong>
-    ensures ok { OnOk result (room.old.left ≡ room.new.left + length (const_items items.now)) }
-    ensures err { OnErr result (room.old.left < length (const_items items.now)) }
-{
-    fit_vector(room, items)
-}
-
-/// Appends a segment whose items are all `ref.func`, as function indices.
-fn put_by_index(out: &mut Out, mode: ElemMode, items: &[ConstExpr]) -> Result<(), NoMemory>
-    ensures { OnOk result (out.new ≡ out.old ++ mode_by_index mode items.now) }
+/// Spells a segment whose items are all `ref.func`, as function indices.
+fn spell_by_index<T: Target>(
+    target: &mut T,
+    mode: ElemMode,
+    items: &[ConstExpr],
+) -> Result<(), T::Refusal>
+    ensures { OnOk result (target.new ≡ T.after target.old (mode_by_index mode items.now)) }
 {
     match mode {
         ElemMode::Active { table, offset } => {
             if table == 0 {
-                out.byte(0x00)?;
-                offset.put(out)?;
-                put_index_items(out, items)
+                target.byte(0x00)?;
+                offset.spell(target)?;
+                spell_index_items(target, items)
             } else {
-                out.byte(0x02)?;
-                out.u32(table)?;
-                offset.put(out)?;
-                out.byte(0x00)?;
-                put_index_items(out, items)
+                target.byte(0x02)?;
+                spell_u32(target, table)?;
+                offset.spell(target)?;
+                target.byte(0x00)?;
+                spell_index_items(target, items)
             }
         }
         ElemMode::Passive => {
-            out.byte(0x01)?;
-            out.byte(0x00)?;
-            put_index_items(out, items)
+            target.byte(0x01)?;
+            target.byte(0x00)?;
+            spell_index_items(target, items)
         }
         ElemMode::Declarative => {
-            out.byte(0x03)?;
-            out.byte(0x00)?;
-            put_index_items(out, items)
+            target.byte(0x03)?;
+            target.byte(0x00)?;
+            spell_index_items(target, items)
         }
     }
 }
 
-/// Takes room for a segment whose items are written as function indices.
-fn fit_by_index(room: &mut Room, mode: ElemMode, items: &[ConstExpr]) -> Result<(), TooLong>
-    ensures ok { OnOk result (room.old.left ≡ room.new.left + length (mode_by_index mode items.now)) }
-    ensures err { OnErr result (room.old.left < length (mode_by_index mode items.now)) }
-{
-    match mode {
-        ElemMode::Active { table, offset } => {
-            if table == 0 {
-                room.take(1)?;
-            } else {
-                room.take(2)?;
-                room.u32(table)?;
-            }
-            offset.fit(room)?;
-            fit_index_items(room, items)
-        }
-        ElemMode::Passive | ElemMode::Declarative => {
-            room.take(2)?;
-            fit_index_items(room, items)
-        }
-    }
-}
-
-/// Appends a segment with its items as constant expressions.
-fn put_by_const(
-    out: &mut Out,
+/// Spells a segment with its items as constant expressions.
+fn spell_by_const<T: Target>(
+    target: &mut T,
     mode: ElemMode,
     ty: RefType,
     items: &[ConstExpr],
-) -> Result<(), NoMemory>
-    ensures { OnOk result (out.new ≡ out.old ++ mode_by_const mode ty items.now) }
+) -> Result<(), T::Refusal>
+    ensures { OnOk result (target.new ≡ T.after target.old (mode_by_const mode ty items.now)) }
 {
     match mode {
         ElemMode::Active { table, offset } => {
             if table == 0 && is_funcref(ty) {
-                out.byte(0x04)?;
-                offset.put(out)?;
-                put_const_items(out, items)
+                target.byte(0x04)?;
+                offset.spell(target)?;
+                spell_const_items(target, items)
             } else {
-                out.byte(0x06)?;
-                out.u32(table)?;
-                offset.put(out)?;
-                out.byte(ref_code(ty))?;
-                put_const_items(out, items)
+                target.byte(0x06)?;
+                spell_u32(target, table)?;
+                offset.spell(target)?;
+                target.byte(ref_code(ty))?;
+                spell_const_items(target, items)
             }
         }
         ElemMode::Passive => {
-            out.byte(0x05)?;
-            out.byte(ref_code(ty))?;
-            put_const_items(out, items)
+            target.byte(0x05)?;
+            target.byte(ref_code(ty))?;
+            spell_const_items(target, items)
         }
         ElemMode::Declarative => {
-            out.byte(0x07)?;
-            out.byte(ref_code(ty))?;
-            put_const_items(out, items)
-        }
-    }
-}
-
-/// Takes room for a segment with its items as constant expressions.
-fn fit_by_const(
-    room: &mut Room,
-    mode: ElemMode,
-    ty: RefType,
-    items: &[ConstExpr],
-) -> Result<(), TooLong>
-    ensures ok { OnOk result (room.old.left ≡ room.new.left + length (mode_by_const mode ty items.now)) }
-    ensures err { OnErr result (room.old.left < length (mode_by_const mode ty items.now)) }
-{
-    match mode {
-        ElemMode::Active { table, offset } => {
-            if table == 0 && is_funcref(ty) {
-                room.take(1)?;
-            } else {
-                room.take(2)?;
-                room.u32(table)?;
-            }
-            offset.fit(room)?;
-            fit_const_items(room, items)
-        }
-        ElemMode::Passive | ElemMode::Declarative => {
-            room.take(2)?;
-            fit_const_items(room, items)
+            target.byte(0x07)?;
+            target.byte(ref_code(ty))?;
+            spell_const_items(target, items)
         }
     }
 }
@@ -240,20 +165,11 @@ impl Plain for ElemSeg {
     ghost text = { elem_text };
 
     #[tactic(auto, unfolding(wasm_plain::specs::PlainValues::elem_text))]
-    fn put(&self, out: &mut Out) -> Result<(), NoMemory> {
+    fn spell<T: Target>(&self, target: &mut T) -> Result<(), T::Refusal> {
         if by_index(self) {
-            put_by_index(out, self.mode, self.items.as_slice())
+            spell_by_index(target, self.mode, self.items.as_slice())
         } else {
-            put_by_const(out, self.mode, self.ty, self.items.as_slice())
-        }
-    }
-
-    #[tactic(auto, unfolding(wasm_plain::specs::PlainValues::elem_text))]
-    fn fit(&self, room: &mut Room) -> Result<(), TooLong> {
-        if by_index(self) {
-            fit_by_index(room, self.mode, self.items.as_slice())
-        } else {
-            fit_by_const(room, self.mode, self.ty, self.items.as_slice())
+            spell_by_const(target, self.mode, self.ty, self.items.as_slice())
         }
     }
 }
@@ -261,32 +177,19 @@ impl Plain for ElemSeg {
 impl Plain for DataMode {
     ghost text = { data_mode_text };
 
-    fn put(&self, out: &mut Out) -> Result<(), NoMemory> {
+    fn spell<T: Target>(&self, target: &mut T) -> Result<(), T::Refusal> {
         match self {
             DataMode::Active { memory, offset } => {
                 if *memory == 0 {
-                    out.byte(0x00)?;
-                    offset.put(out)
+                    target.byte(0x00)?;
+                    offset.spell(target)
                 } else {
-                    out.byte(0x02)?;
-                    out.u32(*memory)?;
-                    offset.put(out)
+                    target.byte(0x02)?;
+                    spell_u32(target, *memory)?;
+                    offset.spell(target)
                 }
             }
-            DataMode::Passive => out.byte(0x01),
-        }
-    }
-
-    fn fit(&self, room: &mut Room) -> Result<(), TooLong> {
-        match self {
-            DataMode::Active { memory, offset } => {
-                room.take(1)?;
-                if *memory != 0 {
-                    room.u32(*memory)?;
-                }
-                offset.fit(room)
-            }
-            DataMode::Passive => room.take(1),
+            DataMode::Passive => target.byte(0x01),
         }
     }
 }
@@ -295,14 +198,8 @@ impl Plain for DataSeg {
     ghost text = { data_text };
 
     #[tactic(auto, unfolding(wasm_plain::specs::PlainValues::data_text))]
-    fn put(&self, out: &mut Out) -> Result<(), NoMemory> {
-        self.mode.put(out)?;
-        put_sized(out, self.bytes.as_slice())
-    }
-
-    #[tactic(auto, unfolding(wasm_plain::specs::PlainValues::data_text))]
-    fn fit(&self, room: &mut Room) -> Result<(), TooLong> {
-        self.mode.fit(room)?;
-        room.sized(self.bytes.len())
+    fn spell<T: Target>(&self, target: &mut T) -> Result<(), T::Refusal> {
+        self.mode.spell(target)?;
+        spell_sized(target, self.bytes.as_slice())
     }
 }

@@ -1,10 +1,51 @@
-ghost use Rattle.std.specs.Prelude.{◌≡◌, ◌≤◌, ◌<◌, ◌^◌, ◌-◌, ℤ, pos, negsuc, length};
-ghost use Rattle.wasm_bytes.specs.Writing.{unsigned_text};
-ghost use Rattle.wasm_write.specs.Sizes.{signed_length, magnitude};
+ghost use Rattle.std.specs.Prelude.{◌≡◌, ◌≤◌, ◌+◌, ◌-◌, ◌^◌, ℕ, List, length, min, max, OnOk};
+ghost use Rattle.wasm_bytes.specs.Writing.{unsigned_text, u32_text};
+ghost use Rattle.wasm_write.specs.Sizes.{counted};
+ghost use Rattle.wasm_write.specs.Laws.{no_more, added, not_less};
+
+use crate::target::Target;
+use std::convert::Infallible;
+use std::marker::Model;
+
+/// How many bytes a spelling has; from the greatest u64 on it says no more.
+#[derive(Drop)]
+pub(crate) struct Size {
+    bytes: u64,
+}
+
+impl Model for Size {
+    ghost use Rattle.std.specs.Prelude.{ℕ};
+
+    ghost Value = { ℕ };
+
+    ghost view = { λ s. s.bytes };
+}
+
+impl Size {
+    pub(crate) fn new() -> Size
+        ensures { result ≡ 0 }
+    {
+        Size { bytes: 0 }
+    }
+
+    pub(crate) fn get(&self) -> u64
+        ensures { result ≡ self.now }
+    {
+        self.bytes
+    }
+
+    /// Counts so many bytes more.
+    fn count(&mut self, more: u64) -> Result<(), Infallible>
+        ensures { OnOk result (self.new ≡ counted self.old more) }
+    {
+        self.bytes = self.bytes.saturating_add(more);
+        Ok(())
+    }
+}
 
 /// How many bytes the shortest spelling has, of at most `most`.
 #[tactic(auto, unfolding(wasm_bytes::specs::Writing::unsigned_text))]
-pub(crate) fn unsigned_size(most: u32, value: u64) -> u32
+fn unsigned_size(most: u32, value: u64) -> u64
     ensures value { result ≡ length (unsigned_text most value) }
     ensures few { result ≤ most }
 {
@@ -17,27 +58,39 @@ pub(crate) fn unsigned_size(most: u32, value: u64) -> u32
     }
 }
 
-/// How far a number is from 0, or below -1.
-pub(crate) fn magnitude_of(value: i64) -> u64
-    ensures { result ≡ magnitude value }
+/// How many bytes the shortest spelling of a length has.
+fn number_size(value: u64) -> u64
+    ensures { result ≡ length (u32_text value) }
 {
-    if value >= 0 {
-        value as u64
-    } else {
-        (-(value + 1)) as u64
-    }
+    unsigned_size(5, value)
 }
 
-/// How many bytes the shortest spelling of a number with a sign has, of at most `most`, by its magnitude.
-pub(crate) fn signed_size(most: u32, magnitude: u64) -> u32
-    ensures value { result ≡ signed_length most magnitude }
-    ensures few { result ≤ most }
-{
-    if most == 0 {
-        0
-    } else if magnitude < 64 {
-        1
-    } else {
-        1 + signed_size(most - 1, magnitude / 128)
+impl Target for Size {
+    type Refusal = Infallible;
+
+    ghost after = { λ s text. counted s (length text) };
+
+    ghost place = { λ s. s };
+
+    ghost nothing = { λ s. no_more s };
+
+    ghost joined = { λ s a b. added s a b };
+
+    ghost farther = { λ s a. not_less s a };
+
+    fn byte(&mut self, value: u8) -> Result<(), Infallible> {
+        self.count(1)
+    }
+
+    fn bytes(&mut self, more: &[u8]) -> Result<(), Infallible> {
+        self.count(more.len() as u64)
+    }
+
+    fn place(&self) -> u64 {
+        self.bytes
+    }
+
+    fn size_before(&mut self, from: u64) -> Result<(), Infallible> {
+        self.count(number_size(self.bytes - from))
     }
 }

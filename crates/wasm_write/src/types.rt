@@ -1,10 +1,11 @@
-ghost use Rattle.std.specs.Prelude.{◌≡◌, ℕ, List, [], ◌∷◌, ◌+◌, ◌++◌, ◌<◌, length, OnOk, OnErr, pos};
+ghost use Rattle.std.specs.Prelude.{◌≡◌, ℕ, List, [], ◌∷◌, ◌+◌, ◌++◌, OnOk, pos};
 ghost use Rattle.wasm_bytes.specs.Writing.{u32_text, sized_text};
 ghost use Rattle.wasm_plain.specs.PlainValues.{ref_code, val_code, ref_text, val_text, func_type_text, limits_text, table_text, global_type_text, block_type_text, const_text, import_desc_text, import_text, global_text, export_desc_text, export_text};
 
-use crate::plain::{Plain, fit_vector, put_sized, put_vector};
-use crate::room::{Room, TooLong};
-use wasm_bytes::{Name, NoMemory, Out};
+use crate::numbers::{spell_s32, spell_s33, spell_s64, spell_u32};
+use crate::plain::{Plain, spell_sized, spell_vector};
+use crate::target::Target;
+use wasm_bytes::Name;
 use wasm_tree::{
     BlockType, ConstExpr, Export, ExportDesc, FuncType, GlobalDef, GlobalType, Import, ImportDesc,
     Limits, RefType, TableType, ValType,
@@ -36,36 +37,24 @@ fn val_code(ty: ValType) -> u8
 impl Plain for u32 {
     ghost text = { u32_text };
 
-    fn put(&self, out: &mut Out) -> Result<(), NoMemory> {
-        out.u32(*self)
-    }
-
-    fn fit(&self, room: &mut Room) -> Result<(), TooLong> {
-        room.u32(*self)
+    fn spell<T: Target>(&self, target: &mut T) -> Result<(), T::Refusal> {
+        spell_u32(target, *self)
     }
 }
 
 impl Plain for Name {
     ghost text = { sized_text };
 
-    fn put(&self, out: &mut Out) -> Result<(), NoMemory> {
-        put_sized(out, self.as_str().as_bytes())
-    }
-
-    fn fit(&self, room: &mut Room) -> Result<(), TooLong> {
-        room.sized(self.as_str().len())
+    fn spell<T: Target>(&self, target: &mut T) -> Result<(), T::Refusal> {
+        spell_sized(target, self.as_str().as_bytes())
     }
 }
 
 impl Plain for ValType {
     ghost text = { val_text };
 
-    fn put(&self, out: &mut Out) -> Result<(), NoMemory> {
-        out.byte(val_code(*self))
-    }
-
-    fn fit(&self, room: &mut Room) -> Result<(), TooLong> {
-        room.take(1)
+    fn spell<T: Target>(&self, target: &mut T) -> Result<(), T::Refusal> {
+        target.byte(val_code(*self))
     }
 }
 
@@ -73,17 +62,10 @@ impl Plain for FuncType {
     ghost text = { func_type_text };
 
     #[tactic(auto, unfolding(wasm_plain::specs::PlainValues::func_type_text))]
-    fn put(&self, out: &mut Out) -> Result<(), NoMemory> {
-        out.byte(0x60)?;
-        put_vector(out, self.params.as_slice())?;
-        put_vector(out, self.results.as_slice())
-    }
-
-    #[tactic(auto, unfolding(wasm_plain::specs::PlainValues::func_type_text))]
-    fn fit(&self, room: &mut Room) -> Result<(), TooLong> {
-        room.take(1)?;
-        fit_vector(room, self.params.as_slice())?;
-        fit_vector(room, self.results.as_slice())
+    fn spell<T: Target>(&self, target: &mut T) -> Result<(), T::Refusal> {
+        target.byte(0x60)?;
+        spell_vector(target, self.params.as_slice())?;
+        spell_vector(target, self.results.as_slice())
     }
 }
 
@@ -91,27 +73,17 @@ impl Plain for Limits {
     ghost text = { limits_text };
 
     #[tactic(auto, unfolding(wasm_plain::specs::PlainValues::limits_text))]
-    fn put(&self, out: &mut Out) -> Result<(), NoMemory> {
+    fn spell<T: Target>(&self, target: &mut T) -> Result<(), T::Refusal> {
         match self.max {
             None => {
-                out.byte(0x00)?;
-                out.u32(self.min)
+                target.byte(0x00)?;
+                spell_u32(target, self.min)
             }
             Some(max) => {
-                out.byte(0x01)?;
-                out.u32(self.min)?;
-                out.u32(max)
+                target.byte(0x01)?;
+                spell_u32(target, self.min)?;
+                spell_u32(target, max)
             }
-        }
-    }
-
-    #[tactic(auto, unfolding(wasm_plain::specs::PlainValues::limits_text))]
-    fn fit(&self, room: &mut Room) -> Result<(), TooLong> {
-        room.take(1)?;
-        room.u32(self.min)?;
-        match self.max {
-            None => Ok(()),
-            Some(max) => room.u32(max),
         }
     }
 }
@@ -120,15 +92,9 @@ impl Plain for TableType {
     ghost text = { table_text };
 
     #[tactic(auto, unfolding(wasm_plain::specs::PlainValues::table_text))]
-    fn put(&self, out: &mut Out) -> Result<(), NoMemory> {
-        out.byte(ref_code(self.ty))?;
-        self.limits.put(out)
-    }
-
-    #[tactic(auto, unfolding(wasm_plain::specs::PlainValues::table_text))]
-    fn fit(&self, room: &mut Room) -> Result<(), TooLong> {
-        room.take(1)?;
-        self.limits.fit(room)
+    fn spell<T: Target>(&self, target: &mut T) -> Result<(), T::Refusal> {
+        target.byte(ref_code(self.ty))?;
+        self.limits.spell(target)
     }
 }
 
@@ -136,18 +102,13 @@ impl Plain for GlobalType {
     ghost text = { global_type_text };
 
     #[tactic(auto, unfolding(wasm_plain::specs::PlainValues::global_type_text))]
-    fn put(&self, out: &mut Out) -> Result<(), NoMemory> {
-        out.byte(val_code(self.ty))?;
+    fn spell<T: Target>(&self, target: &mut T) -> Result<(), T::Refusal> {
+        target.byte(val_code(self.ty))?;
         if self.mutable {
-            out.byte(0x01)
+            target.byte(0x01)
         } else {
-            out.byte(0x00)
+            target.byte(0x00)
         }
-    }
-
-    #[tactic(auto, unfolding(wasm_plain::specs::PlainValues::global_type_text))]
-    fn fit(&self, room: &mut Room) -> Result<(), TooLong> {
-        room.take(2)
     }
 }
 
@@ -155,20 +116,11 @@ impl Plain for BlockType {
     ghost text = { block_type_text };
 
     #[tactic(auto, unfolding(wasm_plain::specs::PlainValues::block_type_text))]
-    fn put(&self, out: &mut Out) -> Result<(), NoMemory> {
+    fn spell<T: Target>(&self, target: &mut T) -> Result<(), T::Refusal> {
         match self {
-            BlockType::Empty => out.byte(0x40),
-            BlockType::Value(ty) => ty.put(out),
-            BlockType::Index(index) => out.s33(i64::from(*index)),
-        }
-    }
-
-    #[tactic(auto, unfolding(wasm_plain::specs::PlainValues::block_type_text))]
-    fn fit(&self, room: &mut Room) -> Result<(), TooLong> {
-        match self {
-            BlockType::Empty => room.take(1),
-            BlockType::Value(ty) => ty.fit(room),
-            BlockType::Index(index) => room.s33(i64::from(*index)),
+            BlockType::Empty => target.byte(0x40),
+            BlockType::Value(ty) => ty.spell(target),
+            BlockType::Index(index) => spell_s33(target, i64::from(*index)),
         }
     }
 }
@@ -177,45 +129,33 @@ impl Plain for ConstExpr {
     ghost text = { const_text };
 
     #[tactic(auto, unfolding(wasm_plain::specs::PlainValues::const_text))]
-    fn put(&self, out: &mut Out) -> Result<(), NoMemory> {
+    fn spell<T: Target>(&self, target: &mut T) -> Result<(), T::Refusal> {
         match self {
             ConstExpr::I32(value) => {
-                out.byte(0x41)?;
-                out.s32(*value)?;
-                out.byte(0x0B)
+                target.byte(0x41)?;
+                spell_s32(target, *value)?;
+                target.byte(0x0B)
             }
             ConstExpr::I64(value) => {
-                out.byte(0x42)?;
-                out.s64(*value)?;
-                out.byte(0x0B)
+                target.byte(0x42)?;
+                spell_s64(target, *value)?;
+                target.byte(0x0B)
             }
             ConstExpr::Null(ty) => {
-                out.byte(0xD0)?;
-                out.byte(ref_code(*ty))?;
-                out.byte(0x0B)
+                target.byte(0xD0)?;
+                target.byte(ref_code(*ty))?;
+                target.byte(0x0B)
             }
             ConstExpr::Func(func) => {
-                out.byte(0xD2)?;
-                out.u32(*func)?;
-                out.byte(0x0B)
+                target.byte(0xD2)?;
+                spell_u32(target, *func)?;
+                target.byte(0x0B)
             }
             ConstExpr::Global(global) => {
-                out.byte(0x23)?;
-                out.u32(*global)?;
-                out.byte(0x0B)
+                target.byte(0x23)?;
+                spell_u32(target, *global)?;
+                target.byte(0x0B)
             }
-        }
-    }
-
-    #[tactic(auto, unfolding(wasm_plain::specs::PlainValues::const_text))]
-    fn fit(&self, room: &mut Room) -> Result<(), TooLong> {
-        room.take(2)?;
-        match self {
-            ConstExpr::I32(value) => room.s32(*value),
-            ConstExpr::I64(value) => room.s64(*value),
-            ConstExpr::Null(_) => room.take(1),
-            ConstExpr::Func(func) => room.u32(*func),
-            ConstExpr::Global(global) => room.u32(*global),
         }
     }
 }
@@ -224,35 +164,24 @@ impl Plain for ImportDesc {
     ghost text = { import_desc_text };
 
     #[tactic(auto, unfolding(wasm_plain::specs::PlainValues::import_desc_text))]
-    fn put(&self, out: &mut Out) -> Result<(), NoMemory> {
+    fn spell<T: Target>(&self, target: &mut T) -> Result<(), T::Refusal> {
         match self {
             ImportDesc::Func(ty) => {
-                out.byte(0x00)?;
-                out.u32(*ty)
+                target.byte(0x00)?;
+                spell_u32(target, *ty)
             }
             ImportDesc::Table(table) => {
-                out.byte(0x01)?;
-                table.put(out)
+                target.byte(0x01)?;
+                table.spell(target)
             }
             ImportDesc::Memory(limits) => {
-                out.byte(0x02)?;
-                limits.put(out)
+                target.byte(0x02)?;
+                limits.spell(target)
             }
             ImportDesc::Global(global) => {
-                out.byte(0x03)?;
-                global.put(out)
+                target.byte(0x03)?;
+                global.spell(target)
             }
-        }
-    }
-
-    #[tactic(auto, unfolding(wasm_plain::specs::PlainValues::import_desc_text))]
-    fn fit(&self, room: &mut Room) -> Result<(), TooLong> {
-        room.take(1)?;
-        match self {
-            ImportDesc::Func(ty) => room.u32(*ty),
-            ImportDesc::Table(table) => table.fit(room),
-            ImportDesc::Memory(limits) => limits.fit(room),
-            ImportDesc::Global(global) => global.fit(room),
         }
     }
 }
@@ -261,17 +190,10 @@ impl Plain for Import {
     ghost text = { import_text };
 
     #[tactic(auto, unfolding(wasm_plain::specs::PlainValues::import_text))]
-    fn put(&self, out: &mut Out) -> Result<(), NoMemory> {
-        self.module.put(out)?;
-        self.field.put(out)?;
-        self.desc.put(out)
-    }
-
-    #[tactic(auto, unfolding(wasm_plain::specs::PlainValues::import_text))]
-    fn fit(&self, room: &mut Room) -> Result<(), TooLong> {
-        self.module.fit(room)?;
-        self.field.fit(room)?;
-        self.desc.fit(room)
+    fn spell<T: Target>(&self, target: &mut T) -> Result<(), T::Refusal> {
+        self.module.spell(target)?;
+        self.field.spell(target)?;
+        self.desc.spell(target)
     }
 }
 
@@ -279,15 +201,9 @@ impl Plain for GlobalDef {
     ghost text = { global_text };
 
     #[tactic(auto, unfolding(wasm_plain::specs::PlainValues::global_text))]
-    fn put(&self, out: &mut Out) -> Result<(), NoMemory> {
-        self.ty.put(out)?;
-        self.init.put(out)
-    }
-
-    #[tactic(auto, unfolding(wasm_plain::specs::PlainValues::global_text))]
-    fn fit(&self, room: &mut Room) -> Result<(), TooLong> {
-        self.ty.fit(room)?;
-        self.init.fit(room)
+    fn spell<T: Target>(&self, target: &mut T) -> Result<(), T::Refusal> {
+        self.ty.spell(target)?;
+        self.init.spell(target)
     }
 }
 
@@ -295,35 +211,24 @@ impl Plain for ExportDesc {
     ghost text = { export_desc_text };
 
     #[tactic(auto, unfolding(wasm_plain::specs::PlainValues::export_desc_text))]
-    fn put(&self, out: &mut Out) -> Result<(), NoMemory> {
+    fn spell<T: Target>(&self, target: &mut T) -> Result<(), T::Refusal> {
         match self {
             ExportDesc::Func(func) => {
-                out.byte(0x00)?;
-                out.u32(*func)
+                target.byte(0x00)?;
+                spell_u32(target, *func)
             }
             ExportDesc::Table(table) => {
-                out.byte(0x01)?;
-                out.u32(*table)
+                target.byte(0x01)?;
+                spell_u32(target, *table)
             }
             ExportDesc::Memory(memory) => {
-                out.byte(0x02)?;
-                out.u32(*memory)
+                target.byte(0x02)?;
+                spell_u32(target, *memory)
             }
             ExportDesc::Global(global) => {
-                out.byte(0x03)?;
-                out.u32(*global)
+                target.byte(0x03)?;
+                spell_u32(target, *global)
             }
-        }
-    }
-
-    #[tactic(auto, unfolding(wasm_plain::specs::PlainValues::export_desc_text))]
-    fn fit(&self, room: &mut Room) -> Result<(), TooLong> {
-        room.take(1)?;
-        match self {
-            ExportDesc::Func(index)
-            | ExportDesc::Table(index)
-            | ExportDesc::Memory(index)
-            | ExportDesc::Global(index) => room.u32(*index),
         }
     }
 }
@@ -332,14 +237,8 @@ impl Plain for Export {
     ghost text = { export_text };
 
     #[tactic(auto, unfolding(wasm_plain::specs::PlainValues::export_text))]
-    fn put(&self, out: &mut Out) -> Result<(), NoMemory> {
-        self.name.put(out)?;
-        self.desc.put(out)
-    }
-
-    #[tactic(auto, unfolding(wasm_plain::specs::PlainValues::export_text))]
-    fn fit(&self, room: &mut Room) -> Result<(), TooLong> {
-        self.name.fit(room)?;
-        self.desc.fit(room)
+    fn spell<T: Target>(&self, target: &mut T) -> Result<(), T::Refusal> {
+        self.name.spell(target)?;
+        self.desc.spell(target)
     }
 }

@@ -1,5 +1,5 @@
 use Rattle.std.proofs.Common.{◌≡◌, ◌∷◌, drop}
-use Rattle.wasm_typing.specs.Kept.{stack_of}
+use Rattle.wasm_typing.specs.Kept.{stack_of, beneath}
 use Rattle.wasm_typing.specs.Labels.{label_list}
 use Rattle.wasm_typing.specs.ScopeWords.{context_of}
 use Rattle.wasm_typing.proofs.Runs.{Rest}
@@ -9,4 +9,5 @@ abbrev pub invariant-is_well_typed-loop-instr : goal.invariant-is_well_typed-loo
 invariant-is_well_typed-loop-instr l = record {
   rest : Rest (context_of l.scope (l.label ∷ label_list l.fn.labels)) l.body l.fn.shape.params.now (stack_of l.kept) l.kept.any_below (drop l.instr-index l.body);
   labels : label_list l.labels ≡ l.label ∷ label_list l.fn.labels;
+  beneath : beneath l.kept ≡ l.fn.kept.types.items;
 }

@@ -1,4 +1,0 @@
-use Rattle.wasm_write.proofs.plain.+put_unsigned.Given as goal
-
-abbrev pub decreases-put_unsigned : goal.decreases-put_unsigned
-decreases-put_unsigned l = l.most

@@ -1,8 +1,0 @@
-use Rattle.std.proofs.Common.{◌≡◌, ◌++◌, take}
-use Rattle.wasm_bytes.specs.Writing.{u32_text}
-use Rattle.wasm_tree.specs.declared.module.Func.{Func}
-use Rattle.wasm_plain.specs.PlainValues.{each_text}
-use Rattle.wasm_write.proofs.sections.put_func_types.Given as goal
-
-abbrev pub invariant-loop-func : goal.invariant-loop-func
-invariant-loop-func l = l.out ≡ l.initial.out ++ each_text (λ (f : Func). u32_text f.ty) (take l.func-index l.funcs)

@@ -1,9 +1,0 @@
-use Rattle.std.proofs.Common.{◌≡◌, ◌++◌, take}
-use Rattle.wasm_bytes.specs.Writing.{u32_text}
-use Rattle.wasm_tree.specs.declared.module.ConstExpr.{ConstExpr}
-use Rattle.wasm_plain.specs.PlainValues.{func_of}
-use Rattle.wasm_plain.specs.PlainValues.{each_text}
-use Rattle.wasm_write.proofs.segments.put_funcs.Given as goal
-
-abbrev pub invariant-loop-item : goal.invariant-loop-item
-invariant-loop-item l = l.out ≡ l.initial.out ++ each_text (λ (x : ConstExpr). u32_text (func_of x)) (take l.item-index l.items)

@@ -1,0 +1,24 @@
+-- Parts of the plain spelling of a module.
+use Rattle.std.specs.Prelude.{ℕ, List, ◌++◌}
+use Rattle.wasm_bytes.specs.Writing.{u32_text}
+use Rattle.wasm_bytes.specs.Frames.{header}
+use Rattle.wasm_tree.specs.declared.module.Module.{Module}
+use Rattle.wasm_plain.specs.PlainValues.{func_type_text, import_text, table_text, limits_text, global_text, export_text, elem_text}
+use Rattle.wasm_plain.specs.Plain.{list_section, start_section}
+
+-- the header, and the sections up to that of globals
+unfoldable pub types_text : Module → List ℕ
+types_text m = header
+    ++ list_section 1 func_type_text m.types
+    ++ list_section 2 import_text m.imports
+    ++ list_section 3 (λ f. u32_text f.ty) m.funcs
+    ++ list_section 4 table_text m.tables
+    ++ list_section 5 limits_text m.mems
+    ++ list_section 6 global_text m.globals
+
+-- what stands before the data count and the code
+unfoldable pub text_before_code : Module → List ℕ
+text_before_code m = types_text m
+    ++ list_section 7 export_text m.exports
+    ++ start_section m.start
+    ++ list_section 9 elem_text m.elems

@@ -1,0 +1,187 @@
+ghost use Rattle.std.specs.Prelude.{◌≡◌, ℕ, List, [], ◌∷◌, ◌+◌, ◌++◌, OnOk, map};
+ghost use Rattle.wasm_bytes.specs.Writing.{u32_text, s32_text, s64_text};
+ghost use Rattle.wasm_plain.specs.PlainValues.{joined, each_text, vector_text, ref_text, val_text, block_type_text};
+ghost use Rattle.wasm_plain.specs.PlainCode.{mem_arg_text, instr_text, instrs_text, else_text};
+
+use crate::numbers::{spell_number, spell_s32, spell_s64, spell_u32};
+use crate::opcodes::{bin_code, load_code, store_code, un_code};
+use crate::plain::{Plain, spell_vector};
+use crate::target::Target;
+use crate::types::ref_code;
+use wasm_tree::{BlockType, Instr, MemArg, ValType};
+
+/// Spells where a load or a store goes (WebAssembly Core 2.0, section 5.4.6). A memory other than memory 0 is named.
+fn spell_mem_arg<T: Target>(target: &mut T, arg: &MemArg) -> Result<(), T::Refusal>
+    ensures { OnOk result (target.new ≡ T.after target.old (mem_arg_text arg.now)) }
+{
+    if arg.memory == 0 {
+        spell_u32(target, arg.align)?;
+        spell_u32(target, arg.offset)
+    } else {
+        spell_number(target, u64::from(arg.align) + 64)?;
+        spell_u32(target, arg.memory)?;
+        spell_u32(target, arg.offset)
+    }
+}
+
+/// Spells an opcode and an index.
+#[inline]
+fn spell_index<T: Target>(target: &mut T, opcode: u8, index: u32) -> Result<(), T::Refusal>
+    ensures { OnOk result (target.new ≡ T.after target.old (opcode ∷ u32_text index)) }
+{
+    target.byte(opcode)?;
+    spell_u32(target, index)
+}
+
+/// Spells an opcode that `FC` begins, and an index.
+fn spell_prefixed<T: Target>(target: &mut T, opcode: u8, index: u32) -> Result<(), T::Refusal>
+    ensures { OnOk result (target.new ≡ T.after target.old (0xFC ∷ opcode ∷ u32_text index)) }
+{
+    target.byte(0xFC)?;
+    spell_index(target, opcode, index)
+}
+
+/// Spells an opcode that `FC` begins, and two indices.
+fn spell_prefixed_pair<T: Target>(
+    target: &mut T,
+    opcode: u8,
+    first: u32,
+    second: u32,
+) -> Result<(), T::Refusal>
+    ensures { OnOk result (target.new ≡ T.after target.old ((0xFC ∷ opcode ∷ u32_text first) ++ u32_text second)) }
+{
+    spell_prefixed(target, opcode, first)?;
+    spell_u32(target, second)
+}
+
+/// Spells the opcode of a load or a store, and where it goes.
+fn spell_access<T: Target>(target: &mut T, opcode: u8, arg: &MemArg) -> Result<(), T::Refusal>
+    ensures { OnOk result (target.new ≡ T.after target.old (opcode ∷ mem_arg_text arg.now)) }
+{
+    target.byte(opcode)?;
+    spell_mem_arg(target, arg)
+}
+
+/// Spells the opcode of a block, and its type.
+fn spell_opener<T: Target>(target: &mut T, opcode: u8, ty: &BlockType) -> Result<(), T::Refusal>
+    ensures { OnOk result (target.new ≡ T.after target.old (opcode ∷ block_type_text ty.now)) }
+{
+    target.byte(opcode)?;
+    ty.spell(target)
+}
+
+/// Spells a branch to one of several labels.
+fn spell_branches<T: Target>(target: &mut T, labels: &[u32], other: u32) -> Result<(), T::Refusal>
+    ensures { OnOk result (target.new ≡ T.after target.old ((0x0E ∷ vector_text u32_text labels.now) ++ u32_text other)) }
+{
+    target.byte(0x0E)?;
+    spell_vector(target, labels)?;
+    spell_u32(target, other)
+}
+
+/// Spells a selection with its type.
+fn spell_typed<T: Target>(target: &mut T, types: &[ValType]) -> Result<(), T::Refusal>
+    ensures { OnOk result (target.new ≡ T.after target.old (0x1C ∷ vector_text val_text types.now)) }
+{
+    target.byte(0x1C)?;
+    spell_vector(target, types)
+}
+
+/// Spells an instruction.
+#[cycle(spell)]
+fn spell_instr<T: Target>(target: &mut T, instr: &Instr) -> Result<(), T::Refusal>
+    ensures { OnOk result (target.new ≡ T.after target.old (instr_text instr.now)) }
+{
+    match instr {
+        Instr::Unreachable => target.byte(0x00),
+        Instr::Nop => target.byte(0x01),
+        Instr::Block(ty, body) => {
+            spell_opener(target, 0x02, ty)?;
+            spell_instrs(target, body.as_slice())?;
+            target.byte(0x0B)
+        }
+        Instr::Loop(ty, body) => {
+            spell_opener(target, 0x03, ty)?;
+            spell_instrs(target, body.as_slice())?;
+            target.byte(0x0B)
+        }
+        Instr::If(ty, body, other) => {
+            spell_opener(target, 0x04, ty)?;
+            spell_instrs(target, body.as_slice())?;
+            spell_else(target, other.as_slice())?;
+            target.byte(0x0B)
+        }
+        Instr::Br(x) => spell_index(target, 0x0C, *x),
+        Instr::BrIf(x) => spell_index(target, 0x0D, *x),
+        Instr::BrTable(labels, other) => spell_branches(target, labels.as_slice(), *other),
+        Instr::Return => target.byte(0x0F),
+        Instr::Call(x) => spell_index(target, 0x10, *x),
+        Instr::CallIndirect { ty, table } => {
+            spell_index(target, 0x11, *ty)?;
+            spell_u32(target, *table)
+        }
+        Instr::Drop => target.byte(0x1A),
+        Instr::Select => target.byte(0x1B),
+        Instr::SelectTyped(types) => spell_typed(target, types.as_slice()),
+        Instr::LocalGet(x) => spell_index(target, 0x20, *x),
+        Instr::LocalSet(x) => spell_index(target, 0x21, *x),
+        Instr::LocalTee(x) => spell_index(target, 0x22, *x),
+        Instr::GlobalGet(x) => spell_index(target, 0x23, *x),
+        Instr::GlobalSet(x) => spell_index(target, 0x24, *x),
+        Instr::TableGet(x) => spell_index(target, 0x25, *x),
+        Instr::TableSet(x) => spell_index(target, 0x26, *x),
+        Instr::Load(op, arg) => spell_access(target, load_code(*op), arg),
+        Instr::Store(op, arg) => spell_access(target, store_code(*op), arg),
+        Instr::MemorySize(x) => spell_index(target, 0x3F, *x),
+        Instr::MemoryGrow(x) => spell_index(target, 0x40, *x),
+        Instr::I32Const(value) => {
+            target.byte(0x41)?;
+            spell_s32(target, *value)
+        }
+        Instr::I64Const(value) => {
+            target.byte(0x42)?;
+            spell_s64(target, *value)
+        }
+        Instr::Un(op) => target.byte(un_code(*op)),
+        Instr::Bin(op) => target.byte(bin_code(*op)),
+        Instr::RefNull(ty) => {
+            target.byte(0xD0)?;
+            target.byte(ref_code(*ty))
+        }
+        Instr::RefIsNull => target.byte(0xD1),
+        Instr::RefFunc(x) => spell_index(target, 0xD2, *x),
+        Instr::MemoryInit { segment, memory } => spell_prefixed_pair(target, 8, *segment, *memory),
+        Instr::DataDrop(x) => spell_prefixed(target, 9, *x),
+        Instr::MemoryCopy { to, from } => spell_prefixed_pair(target, 10, *to, *from),
+        Instr::MemoryFill(x) => spell_prefixed(target, 11, *x),
+        Instr::TableInit { segment, table } => spell_prefixed_pair(target, 12, *segment, *table),
+        Instr::ElemDrop(x) => spell_prefixed(target, 13, *x),
+        Instr::TableCopy { to, from } => spell_prefixed_pair(target, 14, *to, *from),
+        Instr::TableGrow(x) => spell_prefixed(target, 15, *x),
+        Instr::TableSize(x) => spell_prefixed(target, 16, *x),
+        Instr::TableFill(x) => spell_prefixed(target, 17, *x),
+    }
+}
+
+/// Spells instructions, one after another.
+#[cycle(spell)]
+pub(crate) fn spell_instrs<T: Target>(target: &mut T, instrs: &[Instr]) -> Result<(), T::Refusal>
+    ensures { OnOk result (target.new ≡ T.after target.old (instrs_text instrs.now)) }
+{
+    for instr in instrs {
+        spell_instr(target, instr)?;
+    }
+    Ok(())
+}
+
+/// Spells what an `if` has besides its first list, if there is any.
+#[cycle(spell)]
+fn spell_else<T: Target>(target: &mut T, other: &[Instr]) -> Result<(), T::Refusal>
+    ensures { OnOk result (target.new ≡ T.after target.old (else_text (map instr_text other.now))) }
+{
+    if other.len() == 0 {
+        return Ok(());
+    }
+    target.byte(0x05)?;
+    spell_instrs(target, other)
+}
