@@ -12,19 +12,11 @@ use Rattle.std.proofs.lemmas.Map.Text.{is_eq-slice_cmp}
 use Rattle.std.proofs.lemmas.Fmt.{decimal_injective}
 use Rattle.std.proofs.lemmas.List.{append_cancel_left, length-map}
 use Rattle.std.proofs.lemmas.Option.{slice_get-map}
+use Rattle.base_lists.proofs.Each.{list_any_there}
 use Rattle.export_names.specs.Names.{numbered, among}
 use Rattle.export_names.proofs.Among.{same_from}
 use Rattle.base_lists.proofs.Pigeons.{pigeons}
 use Rattle.base_lists.proofs.Places.{Has}
-
--- what a test finds
-found : {A : Type 0} (test : A → Bool) (xs : List A) → list_any test xs ≡ true → (x : A) × Has xs x × (test x ≡ true)
-found test [] h = cc
-found test (x ∷ xs) h = here test x xs (test x) refl (λ k. let r = found test xs k in (r.0, (suc r.1.0, r.1.1), r.2)) h
-  where
-    here : {A : Type 0} (test : A → Bool) (x : A) (xs : List A) (b : Bool) → test x ≡ b → (list_any test xs ≡ true → (y : A) × Has (x ∷ xs) y × (test y ≡ true)) → list_any test (x ∷ xs) ≡ true → (y : A) × Has (x ∷ xs) y × (test y ≡ true)
-    here test x xs true e r h = (x, (0, refl), e)
-    here test x xs false e r h = r (rw e at h)
 
 -- names with different numbers differ
 numbered_differ : (name : List ℕ) (i j : ℕ) → i < 2 ^ 64 → j < 2 ^ 64 → numbered name i ≡ numbered name j → i ≡ j
@@ -44,13 +36,13 @@ few_stand xs taken name k stands fits from tried =
 -- of the names of a list
 pub few_among : (xs : List (List ℕ)) (name : List ℕ) (k : ℕ) → k < 2 ^ 64 → 1 ≤ k → ((j : ℕ) → 1 ≤ j → j < k → among xs (numbered name j) ≡ true) → k ≤ length xs + 1
 few_among xs name k = few_stand xs (among xs) name k (λ q h.
-    let f = found (λ n. bytes_eq n q) xs h in
+    let f = list_any_there (λ n. bytes_eq n q) xs h in
     (f.1.0, f.1.1 ∙ ap Some (same_from f.0 q f.2)))
 
 -- what a set of texts has stands among its keys
 stands : {Y : Type 0} (s : BTreeSet (String Y)) (q : List ℕ) → contains_text s q ≡ true → Has (map string_bytes s.keys) q
 stands s q h =
-    let f = found (is_at (λ k. slice_cmp nat_cmp q (string_bytes k))) s.keys h in
+    let f = list_any_there (is_at (λ k. slice_cmp nat_cmp q (string_bytes k))) s.keys h in
     let eq : bytes_eq q (string_bytes f.0) ≡ true = sym (is_eq-slice_cmp q (string_bytes f.0)) ∙ f.2 in
     (f.1.0, slice_get-map string_bytes s.keys f.1.0 ∙ ap (option_map string_bytes) f.1.1 ∙ ap Some (sym (same_from q (string_bytes f.0) eq)))
 

@@ -6,6 +6,7 @@ use Rattle.std.specs.Option.{option_map}
 use Rattle.std.specs.List.{cons_option}
 use Rattle.std.proofs.lemmas.Bool.{ltb-true}
 use Rattle.std.proofs.lemmas.Option.{slice_get-map, slice_get_within, get_or_from_slice_get}
+use Rattle.base_lists.proofs.Options.{and_then_is}
 use Rattle.wasm_tree.specs.declared.types.ValType.{ValType}
 use Rattle.wasm_tree.specs.declared.types.GlobalType.{GlobalType}
 use Rattle.wasm_tree.specs.declared.module.Import.{Import}
@@ -21,7 +22,7 @@ use Rattle.wasm_valid.specs.Validity.{IsValid}
 use Rattle.wasm_meaning.specs.Linking as linking
 use Rattle.wasm_meaning.specs.Linking.{Part, Site, places, has_kind, space_index, module_at, import_at, imports_of, read_of}
 use Rattle.index_remap.specs.Renumbered.{new_const}
-use Rattle.remap_typing.proofs.Lists.{left_true, right_true, then_there, only_true}
+use Rattle.remap_typing.proofs.Lists.{left_true, right_true, only_true}
 use Rattle.merge_terms.specs.declared.links.Read.{Read}
 use Rattle.merge_terms.specs.Parts.{named_modules}
 use Rattle.merge_terms.specs.Faults.{link_fault}
@@ -109,7 +110,7 @@ not_true false h = refl
 
 reads_global : (m : Module) (x : ℕ) (ty : ValType) → const_type m (const.Global x) ≡ Some ty → ReadsGlobal m x
 reads_global m x ty h =
-    let g = then_there (slice_get (globals_of m) x) (λ g. only (nat_lt x (length (imported_globals m.imports)) && not g.mutable) (Some g.ty)) ty h in
+    let g = and_then_is (slice_get (globals_of m) x) (λ g. only (nat_lt x (length (imported_globals m.imports)) && not g.mutable) (Some g.ty)) ty h in
     let b = only_true (nat_lt x (length (imported_globals m.imports)) && not g.0.mutable) (Some g.0.ty) ty g.2 in
     let lt = ltb-true _ _ (left_true _ _ b) in
     record { global = g.0; at = front_only (imported_globals m.imports) _ x g.0 lt g.1; fixed = not_true g.0.mutable (right_true (nat_lt x (length (imported_globals m.imports))) _ b) }

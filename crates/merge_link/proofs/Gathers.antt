@@ -14,13 +14,10 @@ use Rattle.merge_link.specs.Sites.{AreSites, IsThere, the_site}
 use Rattle.merge_link.specs.Gathering.{first_memory, is_memory_of, is_of_pair, is_memory_at, linked_at, EndsThere}
 use Rattle.merge_link.proofs.Found.{there_at}
 use Rattle.std.proofs.lemmas.Bool.{cases_eq}
-use Rattle.path_ends.proofs.Lists.{got_last, got_before}
+use Rattle.base_lists.proofs.Bools.{and_false}
+use Rattle.base_lists.proofs.Places.{push_last, push_before}
 use Rattle.merge_link.specs.declared.joining.Ending.{Ending}
 use Rattle.merge_link.proofs.Places.{same_text_is, same_text_back}
-
-cond_false : (b : Bool) → b && false ≡ false
-cond_false true = refl
-cond_false false = refl
 
 -- ---- what is no memory ends where it stays ----
 
@@ -31,7 +28,7 @@ not_same i is_no (Some j) = rw is_no refl
 alone : (lp : List linking.Part) (i : Import) (ss : List linking.Site) (other : linking.Site) → linking.has_kind Memories i ≡ false → linking.first_site (linking.stays_as lp i) ss other ≡ other
 alone lp i [] other is_no = refl
 alone lp i (s ∷ ss) other is_no =
-    let here : linking.stays_as lp i s ≡ false = ap (λ b. linking.is_outside s (linking.end_of lp s) && b) (not_same i is_no (linking.import_at lp s)) ∙ cond_false (linking.is_outside s (linking.end_of lp s)) in
+    let here : linking.stays_as lp i s ≡ false = ap (λ b. linking.is_outside s (linking.end_of lp s) && b) (not_same i is_no (linking.import_at lp s)) ∙ and_false (linking.is_outside s (linking.end_of lp s)) in
     ap (λ b. cond b s (linking.first_site (linking.stays_as lp i) ss other)) here ∙ alone lp i ss other is_no
 
 pub gathered_other : (ps : List Part) (s : linking.Site) (i : Import) → linking.import_at (named_modules ps) s ≡ Some i → linking.has_kind Memories i ≡ false
@@ -133,8 +130,8 @@ first_there ps pair sites t are h = let r = first_place ps pair sites t h in the
 
 pub there_more : (ps : List Part) (ends : List Ending) (e : Ending) → ((n : ℕ) (f : Ending) → slice_get ends n ≡ Some f → EndsThere ps f) → EndsThere ps e → (n : ℕ) (f : Ending) → slice_get (ends ++ e ∷ []) n ≡ Some f → EndsThere ps f
 there_more ps ends e all here n f h = elim (cases_eq n (length ends)) [
-  | inl same ↦ let is : e ≡ f = let l : slice_get (ends ++ e ∷ []) n ≡ Some e = ap (slice_get (ends ++ e ∷ [])) same ∙ got_last ends e in cc in subst (EndsThere ps) is here
-  | inr other ↦ all n f (got_before ends e n f other h)
+  | inl same ↦ let is : e ≡ f = let l : slice_get (ends ++ e ∷ []) n ≡ Some e = ap (slice_get (ends ++ e ∷ [])) same ∙ push_last ends e in cc in subst (EndsThere ps) is here
+  | inr other ↦ all n f (push_before ends e n f other h)
 ]
 
 pub there_none : (ps : List Part) (ends : List Ending) → ends ≡ [] → (n : ℕ) (f : Ending) → slice_get ends n ≡ Some f → EndsThere ps f

@@ -5,7 +5,7 @@ use Rattle.std.proofs.lemmas.Bool.{cases_eq}
 use Rattle.std.proofs.lemmas.Bool.Decides.{nat_tests}
 use Rattle.std.proofs.lemmas.List.{length-map, length-set}
 use Rattle.std.proofs.lemmas.Option.{slice_get-map, slice_get_within}
-use Rattle.path_ends.proofs.Lists.{got_same, got_other}
+use Rattle.base_lists.proofs.Places.{set_at, set_other, slice_get_there}
 use Rattle.wasm_tree.specs.declared.types.Limits.{Limits}
 use Rattle.wasm_tree.specs.declared.module.Import.{Import}
 use Rattle.wasm_tree.specs.declared.module.Module.{Module}
@@ -24,7 +24,7 @@ use Rattle.merge_link.specs.Joining.{the_end}
 use Rattle.merge_link.proofs.Found.{lengths_same, same_at}
 use Rattle.merge_link.proofs.Joins.{table_at}
 use Rattle.merge_link.proofs.Numbers.{site_at, site_of}
-use Rattle.merge_link.proofs.Steps.{entry, lists_same}
+use Rattle.merge_link.proofs.Steps.{lists_same}
 
 -- ---- numbers of places ----
 
@@ -112,7 +112,7 @@ all_set ps sites ts t (linking.Outside u) m l new all are h d is old at new_is =
     let size : length all ≡ length sites = ap length is ∙ length-map sites (met_of ps ts) in
     lists_same (set all m new) (map (met_of ps (t ∷ ts)) sites) (length-set all m new ∙ size ∙ sym (length-map sites (met_of ps (t ∷ ts)))) (λ k within.
     let short : k < length sites = omega (arith, length-set all m new, size) in
-    let s = entry sites k short in
+    let s = slice_get_there sites k short in
     let site : slice_get (linking.sites (named_modules ps)) k ≡ Some (the_site s.0) = ap (λ xs. slice_get xs k) (sym are) ∙ slice_get-map the_site sites k ∙ ap (option_map the_site) s.1 in
     let was : slice_get all k ≡ Some (met_of ps ts s.0) = ap (λ xs. slice_get xs k) is ∙ slice_get-map (met_of ps ts) sites k ∙ ap (option_map (met_of ps ts)) s.1 in
     let then : slice_get (map (met_of ps (t ∷ ts)) sites) k ≡ Some (met_of ps (t ∷ ts) s.0) = slice_get-map (met_of ps (t ∷ ts)) sites k ∙ ap (option_map (met_of ps (t ∷ ts))) s.1 in
@@ -122,10 +122,10 @@ all_set ps sites ts t (linking.Outside u) m l new all are h d is old at new_is =
           let out : linking.is_outside (the_site s.0) (linked_at ps t) ≡ true = ap (linking.is_outside (the_site s.0)) h ∙ ap (linking.same_site (the_site s.0)) (sym same) ∙ same_self (the_site s.0) in
           let old_is : old ≡ met_of ps ts s.0 = let a : slice_get all k ≡ Some old = ap (slice_get all) here ∙ at in cc in
           let now : new ≡ met_of ps (t ∷ ts) s.0 = new_is ∙ ap (λ (o : Limits). let r : Limits = record { min = max l.min o.min; max = linking.least l.max o.max } in r) old_is ∙ sym (met_here ps ts t s.0 l out d.1) in
-          ap (slice_get (set all m new)) here ∙ got_same all m new (slice_get_within all m old at) ∙ ap Some now ∙ sym then
+          ap (slice_get (set all m new)) here ∙ set_at all m new (slice_get_within all m old at) ∙ ap Some now ∙ sym then
       | inr other ↦
           let out : linking.is_outside (the_site s.0) (linked_at ps t) ≡ false = ap (linking.is_outside (the_site s.0)) h ∙ apart (named_modules ps) k m (the_site s.0) u site d.0 other in
-          got_other all m k new other ∙ was ∙ ap Some (sym (same_elsewhere ps ts t s.0 out)) ∙ sym then
+          set_other all m k new other ∙ was ∙ ap Some (sym (same_elsewhere ps ts t s.0 out)) ∙ sym then
     ])
 
 pub met_all : (ps : List Part) (sites : List Site) (s : Site) → AreSites ps sites → met_of ps sites s ≡ met_at ps s

@@ -2,6 +2,7 @@
 use Rattle.std.proofs.Common.{◌≡◌, ◌∙◌, sym, ap, refl, ℕ, zero, suc, ◌+◌, ◌-◌, ◌<◌, ◌≤◌, List, [], ◌∷◌, ◌++◌, Option, Some, length, slice_get, arith, inl, inr, ◌⊎◌}
 use Rattle.wasm_tree.specs.declared.space.Space.TheVariants.{Globals}
 use Rattle.std.proofs.lemmas.List.{length-append}
+use Rattle.base_lists.proofs.Places.{slice_get_there, append_right, append_at_left}
 use Rattle.wasm_tree.specs.declared.module.Import.{Import}
 use Rattle.wasm_tree.specs.declared.module.GlobalDef.{GlobalDef}
 use Rattle.wasm_tree.specs.declared.module.Module.{Module}
@@ -9,7 +10,6 @@ use Rattle.wasm_meaning.specs.Linking as linking
 use Rattle.wasm_meaning.specs.World.{defined_before}
 use Rattle.merge_terms.specs.Faults.{own_globals_in, own_globals_from}
 use Rattle.merge_link.specs.Tables.{imports_before}
-use Rattle.path_ends.proofs.Lists.{there}
 
 pub length-sites_in : (p count n : ℕ) → length (linking.sites_in p count n) ≡ count
 length-sites_in p zero n = refl
@@ -18,15 +18,6 @@ length-sites_in p (suc count) n = ap suc (length-sites_in p count (suc n))
 pub length-own_in : (p n : ℕ) (gs : List GlobalDef) → length (own_globals_in p n gs) ≡ length gs
 length-own_in p n [] = refl
 length-own_in p n (g ∷ gs) = ap suc (length-own_in p (suc n) gs)
-
-pub got_front : {A : Type 0} (xs ys : List A) (i : ℕ) (x : A) → slice_get xs i ≡ Some x → slice_get (xs ++ ys) i ≡ Some x
-got_front [] ys i x h = cc
-got_front (z ∷ xs) ys zero x h = h
-got_front (z ∷ xs) ys (suc i) x h = got_front xs ys i x h
-
-pub got_behind : {A : Type 0} (xs ys : List A) (i : ℕ) → slice_get (xs ++ ys) (length xs + i) ≡ slice_get ys i
-got_behind [] ys i = let e : 0 + i ≡ i = omega arith in ap (slice_get ys) e
-got_behind (z ∷ xs) ys i = let e : suc (length xs) + i ≡ suc (length xs + i) = omega arith in ap (slice_get (z ∷ xs ++ ys)) e ∙ got_behind xs ys i
 
 site_in : (p count n i : ℕ) → i < count → slice_get (linking.sites_in p count n) i ≡ Some (record { part = p; import = n + i })
 site_in p zero n i h = absurd (omega arith)
@@ -54,7 +45,7 @@ pub globals_none : (lp : List linking.Part) → defined_before Globals lp 0 ≡ 
 globals_none [] = refl
 globals_none (x ∷ lp) = refl
 
--- they are no more than there are
+-- they are no more than slice_get_there are
 pub imports_most : (lp : List linking.Part) (first p : ℕ) (m : Module) → linking.module_at lp p ≡ Some m → imports_before lp p + length m.imports ≤ length (linking.sites_from first lp)
 imports_most [] first p m h = cc
 imports_most (x ∷ lp) first zero m h =
@@ -93,13 +84,13 @@ site_at (x ∷ lp) first zero i m h l =
     let z : first + 0 ≡ first = omega arith in
     let n : 0 + i ≡ i = omega arith in
     ap (slice_get (linking.sites_from first (x ∷ lp))) n ∙
-    got_front (linking.sites_in first (length x.«module».imports) 0) (linking.sites_from (suc first) lp) i _ (site_in first (length x.«module».imports) 0 i k)
+    append_at_left (linking.sites_in first (length x.«module».imports) 0) (linking.sites_from (suc first) lp) i _ (site_in first (length x.«module».imports) 0 i k)
     ∙ site_same first (first + 0) (0 + i) i (sym z) n
 site_at (x ∷ lp) first (suc p) i m h l =
     let q : suc first + p ≡ first + suc p = omega arith in
     let j : length x.«module».imports + imports_before lp p + i ≡ length (linking.sites_in first (length x.«module».imports) 0) + (imports_before lp p + i) = omega (arith, length-sites_in first (length x.«module».imports) 0) in
     ap (slice_get (linking.sites_from first (x ∷ lp))) j
-    ∙ got_behind (linking.sites_in first (length x.«module».imports) 0) (linking.sites_from (suc first) lp) (imports_before lp p + i)
+    ∙ append_right (linking.sites_in first (length x.«module».imports) 0) (linking.sites_from (suc first) lp) (imports_before lp p + i)
     ∙ site_at lp (suc first) p i m h l
     ∙ ap (λ r. let s : linking.Site = record { part = r; import = i } in Some s) q
 
@@ -138,11 +129,11 @@ site_of (x ∷ lp) first n s h = elim (split (linking.sites_in first (length x.�
       record { place = suc r.place; tree = r.tree; at = r.at; part = omega (arith, r.part); within = r.within; number = omega (arith, r.number, k.0, length-sites_in first (length x.«module».imports) 0) }
 ]
 
--- there is an import at each place
+-- slice_get_there is an import at each place
 pub site_there : (lp : List linking.Part) (n : ℕ) (s : linking.Site) → slice_get (linking.sites lp) n ≡ Some s → (i : Import) × (linking.import_at lp s ≡ Some i)
 site_there lp n s h =
     let r = site_of lp 0 n s h in
     let p : r.place ≡ s.part = omega (arith, r.part) in
     let at : linking.module_at lp s.part ≡ Some r.tree = ap (linking.module_at lp) (sym p) ∙ r.at in
-    let i = there r.tree.imports s.import r.within in
+    let i = slice_get_there r.tree.imports s.import r.within in
     (i.0, rw at i.1)

@@ -14,8 +14,9 @@ use Rattle.std.specs.Str.{bytes_eq}
 use Rattle.std.proofs.lemmas.List.{drop_more}
 use Rattle.std.proofs.lemmas.Bool.{cases_eq}
 use Rattle.std.proofs.lemmas.Bool.Decides.{nat_tests}
+use Rattle.base_lists.proofs.Places.{push_last}
 use Rattle.wasm_tree.specs.declared.module.Export.{Export}
-use Rattle.path_ends.proofs.Lists.{got_last, got_left}
+use Rattle.path_ends.proofs.Lists.{got_left}
 use Rattle.wasm_tree.specs.declared.module.Import.{Import}
 use Rattle.wasm_meaning.specs.Linking as linking
 use Rattle.merge_terms.specs.declared.parts.Part.{Part}
@@ -87,7 +88,7 @@ space_same imports n k i h is e = let s : n + 1 ≡ suc n = omega arith in ap (�
 -- one more entry of a list whose entries are said by their places
 pub grown : {A : Type 0} (xs : List A) (y : A) (i : ℕ) (f : ℕ → A) → length xs ≡ i → ((n : ℕ) → n < i → slice_get xs n ≡ Some (f n)) → y ≡ f i → (n : ℕ) → n < i + 1 → slice_get (xs ++ y ∷ []) n ≡ Some (f n)
 grown xs y i f size all here n h = elim (cases_eq n i) [
-  | inl e ↦ ap (slice_get (xs ++ y ∷ [])) (e ∙ sym size) ∙ got_last xs y ∙ ap Some (here ∙ ap f (sym e))
+  | inl e ↦ ap (slice_get (xs ++ y ∷ [])) (e ∙ sym size) ∙ push_last xs y ∙ ap Some (here ∙ ap f (sym e))
   | inr ne ↦ got_left xs y n (f n) (all n (omega arith))
 ]
 

@@ -4,6 +4,7 @@ use Rattle.wasm_tree.specs.declared.space.Space.TheVariants.{Globals}
 use Rattle.std.specs.Option.{option_map}
 use Rattle.std.proofs.lemmas.List.{length-append, length-map, drop_more}
 use Rattle.std.proofs.lemmas.Option.{slice_get-map, slice_get_within, slice_get_past}
+use Rattle.base_lists.proofs.Places.{slice_get_there, append_right, append_at_left}
 use Rattle.wasm_tree.specs.declared.module.ConstExpr.TheVariants as const
 use Rattle.wasm_tree.specs.declared.module.GlobalDef.{GlobalDef}
 use Rattle.wasm_tree.specs.declared.module.Import.{Import}
@@ -28,8 +29,7 @@ use Rattle.merge_link.specs.Globals.{IsEndStep, IsOwn, own_read, own_reads, the_
 use Rattle.merge_link.proofs.Found.{known_at, same_at}
 use Rattle.merge_link.proofs.Joins.{module_past}
 use Rattle.merge_link.proofs.Meets.{part_there}
-use Rattle.merge_link.proofs.Numbers.{got_behind, got_front, length-own_in}
-use Rattle.merge_link.proofs.Steps.{entry}
+use Rattle.merge_link.proofs.Numbers.{length-own_in}
 use Rattle.merge_link.proofs.Types.{count_globals}
 use Rattle.wasm_tree.specs.Spaces.{globals_of, imported_globals, index_of_export}
 
@@ -49,7 +49,7 @@ own_from (x ∷ lp) first zero i m g h l =
     let n : 0 + i ≡ i = omega arith in (
       here.0,
       ap (slice_get (faults.own_globals_from first (x ∷ lp))) n
-          ∙ got_front (faults.own_globals_in first (length (linking.imports_of Globals x.«module»)) x.«module».globals) (faults.own_globals_from (suc first) lp) i _ here.1
+          ∙ append_at_left (faults.own_globals_in first (length (linking.imports_of Globals x.«module»)) x.«module».globals) (faults.own_globals_from (suc first) lp) i _ here.1
           ∙ ap (λ q. let r : faults.OwnGlobal = record { part = q; index = here.0; init = g.init } in Some r) (sym z),
     )
 own_from (x ∷ lp) first (suc p) i m g h l =
@@ -59,7 +59,7 @@ own_from (x ∷ lp) first (suc p) i m g h l =
     omega (arith, length-own_in first (length (linking.imports_of Globals x.«module»)) x.«module».globals) in
     let rest = own_from lp (suc first) p i m g h l in (
       rest.0,
-      ap (slice_get (faults.own_globals_from first (x ∷ lp))) j ∙ got_behind front (faults.own_globals_from (suc first) lp) (defined_before Globals lp p + i) ∙ rest.1
+      ap (slice_get (faults.own_globals_from first (x ∷ lp))) j ∙ append_right front (faults.own_globals_from (suc first) lp) (defined_before Globals lp p + i) ∙ rest.1
           ∙ ap (λ r. let s : faults.OwnGlobal = record { part = r; index = rest.0; init = g.init } in Some s) q,
     )
 
@@ -72,7 +72,7 @@ pub own_some : (lp : List linking.Part) (ts : List Table) (e : linking.Entity) (
 unfolding faults.own_globals
 own_some lp ts e t m are at tree within =
     let x = are.right e.part m t tree at in
-    let g = entry m.globals (own_place t e) within in
+    let g = slice_get_there m.globals (own_place t e) within in
     let own = own_from lp 0 e.part (own_place t e) m g.0 tree g.1 in
     let z : 0 + e.part ≡ e.part = omega arith in
     let r : faults.OwnGlobal = record { part = 0 + e.part; index = own.0; init = g.0.init } in
@@ -123,7 +123,7 @@ pub end_numbered : (ps : List Part) (sites : List Site) (ends : List Ending) (n 
     → linking.end_of (named_modules ps) s ≡ Some (the_end e)
 end_numbered ps sites ends n s e are known h k =
     let within : n < length sites = let w = slice_get_within (linking.sites (named_modules ps)) n s h in omega (arith, w, ap length are, length-map sites the_site) in
-    let x = entry sites n within in
+    let x = slice_get_there sites n within in
     let same : the_site x.0 ≡ s = let a : slice_get (linking.sites (named_modules ps)) n ≡ Some (the_site x.0) = ap (λ xs. slice_get xs n) (sym are) ∙ slice_get-map the_site sites n ∙ ap (option_map the_site) x.1 in cc in
     ap (linking.end_of (named_modules ps)) (sym same) ∙ known_at ps sites ends n x.0 e known x.1 k
 

@@ -1,7 +1,6 @@
 -- From steps between numbers to paths between what is numbered.
 use Rattle.std.proofs.Common.{◌≡◌, ◌∙◌, sym, ap, refl, subst, ℕ, zero, suc, ◌<◌, List, [], ◌∷◌, Option, Some, None, length, map, slice_get, arith, ◌↔◌, ◌++◌, inl, inr}
 use Rattle.std.proofs.lemmas.Bool.{cases_eq}
-use Rattle.path_ends.proofs.Lists.{got_last, got_before}
 use Rattle.std.specs.Option.{option_map}
 use Rattle.wasm_meaning.specs.Paths as paths
 use Rattle.wasm_meaning.specs.Paths.Path.{ends, goes}
@@ -11,12 +10,8 @@ use Rattle.path_ends.specs.Steps.{LeadsTo, AreEndings, AreNamed}
 use Rattle.path_ends.specs.Steps.LeadsTo.{there, on}
 use Rattle.std.proofs.lemmas.Option.{slice_get_within, slice_get-map}
 use Rattle.std.proofs.lemmas.List.{length-map}
+use Rattle.base_lists.proofs.Places.{push_last, push_before, slice_get_there}
 use Rattle.merge_link.specs.Joining.{IsStep, AreSteps}
-
-pub entry : {A : Type 0} (xs : List A) (n : ℕ) → n < length xs → (x : A) × (slice_get xs n ≡ Some x)
-entry [] n h = absurd (omega arith)
-entry (x ∷ xs) zero h = (x, refl)
-entry (x ∷ xs) (suc n) h = entry xs n (omega arith)
 
 pub lists_same : {A : Type 0} (xs ys : List A) → length xs ≡ length ys → ((n : ℕ) → n < length xs → slice_get xs n ≡ slice_get ys n) → xs ≡ ys
 lists_same [] [] h all = refl
@@ -32,7 +27,7 @@ step_at : {A E F : Type 0} (next : A → Option (paths.Next A E)) (points : List
     → (n : ℕ) (a : A) → slice_get points n ≡ Some a → (s : Step F) × (slice_get steps n ≡ Some s) × IsStep next points meaning a s
 step_at next points meaning steps are n a h =
     let within : n < length points = slice_get_within points n a h in
-    let s = entry steps n (omega (arith, are.one_each)) in
+    let s = slice_get_there steps n (omega (arith, are.one_each)) in
     (s.0, s.1, are.right n a s.0 h s.1)
 
 to_path : {A E F : Type 0} (next : A → Option (paths.Next A E)) (points : List A) (meaning : F → E) (steps : List (Step F)) → AreSteps next points meaning points steps
@@ -82,8 +77,8 @@ endings_told next points meaning steps all are endings tell law =
     lists_same (map (option_map meaning) all) (map tell points)
     (length-map all (option_map meaning) ∙ endings.one_each ∙ are.one_each ∙ sym (length-map points tell))
     (λ n h.
-    let o = entry all n (omega (arith, length-map all (option_map meaning))) in
-    let a = entry points n (omega (arith, length-map all (option_map meaning), endings.one_each, are.one_each)) in
+    let o = slice_get_there all n (omega (arith, length-map all (option_map meaning))) in
+    let a = slice_get_there points n (omega (arith, length-map all (option_map meaning), endings.one_each, are.one_each)) in
     slice_get-map (option_map meaning) all n ∙ ap (option_map (option_map meaning)) o.1
     ∙ ap Some (ending_told next points meaning steps all are endings tell law n a.0 o.0 a.1 o.1)
     ∙ sym (slice_get-map tell points n ∙ ap (option_map tell) a.1))
@@ -91,7 +86,7 @@ endings_told next points meaning steps all are endings tell law =
 -- each number that is named is there
 pub steps_named : {A E F : Type 0} (next : A → Option (paths.Next A E)) (points : List A) (meaning : F → E) (steps : List (Step F)) → AreSteps next points meaning points steps → AreNamed steps
 steps_named next points meaning steps are n m h =
-    let a = entry points n (let k = slice_get_within steps n (Goes m) h in omega (arith, are.one_each)) in
+    let a = slice_get_there points n (let k = slice_get_within steps n (Goes m) h in omega (arith, are.one_each)) in
     let is = are.right n a.0 (Goes m) a.1 h in
     let k = slice_get_within points m is.0 is.1 in
     omega (arith, are.one_each)
@@ -103,10 +98,10 @@ pub steps_more : {A E F : Type 0} (next : A → Option (paths.Next A E)) (points
     → (n : ℕ) (b : A) (t : Step F) → slice_get froms n ≡ Some b → slice_get (steps ++ s ∷ []) n ≡ Some t → IsStep next points meaning b t
 steps_more {A = A} next points meaning froms steps i a s size at is all n b t h k = elim (cases_eq n (length steps)) [
   | inl e ↦
-      let same : s ≡ t = let l : slice_get (steps ++ s ∷ []) n ≡ Some s = ap (slice_get (steps ++ s ∷ [])) e ∙ got_last steps s in cc in
+      let same : s ≡ t = let l : slice_get (steps ++ s ∷ []) n ≡ Some s = ap (slice_get (steps ++ s ∷ [])) e ∙ push_last steps s in cc in
       let from : a ≡ b = let l : slice_get froms n ≡ Some a = ap (slice_get froms) (e ∙ size) ∙ at in cc in
       subst (λ (x : A). IsStep next points meaning x t) from (subst (IsStep next points meaning a) same is)
-  | inr ne ↦ all n b t h (got_before steps s n t ne k)
+  | inr ne ↦ all n b t h (push_before steps s n t ne k)
 ]
 
 -- what a path ends with, some point ends with at once
@@ -124,9 +119,5 @@ pub ending_stops : {A E F : Type 0} (next : A → Option (paths.Next A E)) (poin
     → AreSteps next points meaning points steps → AreEndings steps all
     → (n : ℕ) (f : F) → slice_get all n ≡ Some (Some f) → (b : A) × (next b ≡ Some (paths.Ends (meaning f)))
 ending_stops next points meaning steps all are endings n f h =
-    let a = entry points n (let k = slice_get_within all n (Some f) h in omega (arith, endings.one_each, are.one_each)) in
+    let a = slice_get_there points n (let k = slice_get_within all n (Some f) h in omega (arith, endings.one_each, are.one_each)) in
     last_step next a.0 (meaning f) (to_path next points meaning steps are n a.0 f a.1 (endings.right n (Some f) h))
-
-pub map_twice : {A B C : Type 0} (f : B → C) (g : A → B) (xs : List A) → map f (map g xs) ≡ map (λ x. f (g x)) xs
-map_twice f g [] = refl
-map_twice f g (x ∷ xs) = ap (λ ys. f (g x) ∷ ys) (map_twice f g xs)

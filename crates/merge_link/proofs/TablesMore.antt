@@ -2,7 +2,7 @@
 use Rattle.std.proofs.Common.{◌≡◌, ◌∙◌, sym, ap, subst, inl, inr, ℕ, List, [], ◌∷◌, ◌++◌, Some, length, slice_get}
 use Rattle.wasm_tree.specs.declared.space.Space.TheVariants.{Globals}
 use Rattle.std.proofs.lemmas.Bool.{cases_eq}
-use Rattle.path_ends.proofs.Lists.{got_last, got_before}
+use Rattle.base_lists.proofs.Places.{push_last, push_before}
 use Rattle.wasm_tree.specs.declared.module.Module.{Module}
 use Rattle.wasm_meaning.specs.Linking as linking
 use Rattle.wasm_meaning.specs.World.{defined_before}
@@ -15,10 +15,10 @@ pub tables_more : (lp : List linking.Part) (ts : List Table) (t : Table) (m : Mo
     → (p : ℕ) (q : Module) (u : Table) → linking.module_at lp p ≡ Some q → slice_get (ts ++ t ∷ []) p ≡ Some u → IsTableOf (imports_before lp p) (defined_before Globals lp p) q u
 tables_more lp ts t m n count at table all p q u h k = elim (cases_eq p (length ts)) [
   | inl e ↦
-      let same : t ≡ u = let l : slice_get (ts ++ t ∷ []) p ≡ Some t = ap (slice_get (ts ++ t ∷ [])) e ∙ got_last ts t in cc in
+      let same : t ≡ u = let l : slice_get (ts ++ t ∷ []) p ≡ Some t = ap (slice_get (ts ++ t ∷ [])) e ∙ push_last ts t in cc in
       let here : p ≡ n = e ∙ count in
       let module_is : m ≡ q = let l : linking.module_at lp p ≡ Some m = ap (linking.module_at lp) here ∙ at in cc in
       let P : ℕ → Module → Table → Type 0 = λ x y z. IsTableOf (imports_before lp x) (defined_before Globals lp x) y z in
       subst (P p q) same (subst (λ (y : Module). P p y t) module_is (subst (λ (x : ℕ). P x m t) (sym here) table))
-  | inr ne ↦ all p q u h (got_before ts t p u ne k)
+  | inr ne ↦ all p q u h (push_before ts t p u ne k)
 ]

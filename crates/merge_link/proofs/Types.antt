@@ -6,6 +6,7 @@ use Rattle.std.specs.Option.{option_map, option_and_then}
 use Rattle.std.specs.List.{cons_option}
 use lib.Pointwise.{pointwise}
 use Rattle.std.proofs.lemmas.Option.{slice_get-map}
+use Rattle.base_lists.proofs.Places.{slice_get_none}
 use Rattle.wasm_tree.specs.declared.types.ValType.{ValType}
 use Rattle.wasm_tree.specs.declared.types.ValType.TheVariants as valt
 use Rattle.wasm_tree.specs.declared.types.RefType.TheVariants as reft
@@ -127,15 +128,10 @@ external_global m i n e h =
     by None = refl
     by (Some g) = refl
 
-pub past_none : {A : Type 0} (xs : List A) (i : ℕ) → slice_get xs i ≡ None → length xs ≤ i
-past_none [] i h = omega arith
-past_none (x ∷ xs) zero h = absurd (cc)
-past_none (x ∷ xs) (suc i) h = omega (arith, past_none xs i h)
-
 -- what is no import has an index behind those of the imports
 pub not_imported : (lp : List linking.Part) (e : linking.Entity) (m : Module) → linking.module_at lp e.part ≡ Some m → linking.imported_as lp e ≡ None
     → length (linking.imports_of (space_of_export e.what) m) ≤ index_of_export e.what
-not_imported lp e m at none = past_none (linking.imports_of (space_of_export e.what) m) (index_of_export e.what) (by (slice_get (linking.imports_of (space_of_export e.what) m) (index_of_export e.what)) (rw at at none))
+not_imported lp e m at none = slice_get_none (linking.imports_of (space_of_export e.what) m) (index_of_export e.what) (by (slice_get (linking.imports_of (space_of_export e.what) m) (index_of_export e.what)) (rw at at none))
   where
     by : (o : Option ℕ) → option_and_then (λ n. let s : linking.Site = record { part = e.part; import = n } in Some s) o ≡ None → o ≡ None
     by None h = refl

@@ -4,6 +4,7 @@ use Rattle.wasm_tree.specs.declared.space.Space.TheVariants.{Globals}
 use Rattle.std.specs.Option.{option_map}
 use Rattle.std.proofs.lemmas.List.{length-append}
 use Rattle.std.proofs.lemmas.Option.{slice_get-map, slice_get_within}
+use Rattle.base_lists.proofs.Places.{slice_get_there, map_twice}
 use Rattle.wasm_tree.specs.declared.types.Limits.{Limits}
 use Rattle.wasm_meaning.specs.Linking as linking
 use Rattle.wasm_meaning.specs.World.{defined_before}
@@ -29,7 +30,6 @@ use Rattle.merge_link.proofs.Cuts.{cut_map, cut_sites}
 use Rattle.merge_link.proofs.Firsts.{first_map}
 use Rattle.merge_link.proofs.Found.{fault_at, lengths_same}
 use Rattle.merge_link.proofs.Numbers.{length-own_in}
-use Rattle.merge_link.proofs.Steps.{entry, map_twice}
 
 -- ---- the faults of a stage, over the lists of the code ----
 
@@ -59,7 +59,7 @@ pub all_end : (ps : List Part) (sites : List Site) (ends : List (Option Ending))
     → first_fault (λ s. faults.import_fault (named_modules ps) (the_site s)) sites ≡ None → (n : ℕ) → slice_get ends n ≡ Some None → ⊥
 all_end ps sites ends same none n h =
     let within = lengths_same (option_map the_end) (end_at ps) ends sites same in
-    let s = entry sites n (let w = slice_get_within ends n None h in omega arith) in
+    let s = slice_get_there sites n (let w = slice_get_within ends n None h in omega arith) in
     let a = none_each (λ t. faults.import_fault (named_modules ps) (the_site t)) sites n s.0 none s.1 in
     let b = fault_at ps sites ends n s.0 None same s.1 h in
     apart (faults.import_fault (named_modules ps) (the_site s.0)) (ImportCycle (the_site s.0).part (the_site s.0).import) a b

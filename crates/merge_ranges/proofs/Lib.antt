@@ -7,3 +7,4 @@ pub mod Limits
 pub mod Consts
 pub mod Names
 pub mod Modules
+mod Rows

@@ -2,7 +2,8 @@
 use Rattle.std.proofs.Common.{◌≡◌, ◌∙◌, sym, ap, ap₂, subst, refl, ℕ, zero, suc, ◌+◌, ◌<◌, List, [], ◌∷◌, ◌++◌, length, Some, Bool, true, false, cond, ◌||◌, ◌&&◌, slice_get, arith, ◌⊎◌, inl, inr, append_assoc, append-nil}
 use Rattle.std.specs.List.{list_any}
 use Rattle.std.proofs.lemmas.Option.{slice_get_within}
-use Rattle.base_lists.proofs.Bools.{left_true, right_true}
+use Rattle.std.proofs.lemmas.Bool.{and_parts, and_from}
+use Rattle.base_lists.proofs.Same.{each_same_is, each_same_self}
 use Rattle.base_lists.proofs.Each.{list_any_there}
 use Rattle.base_lists.proofs.Places.{Has, append_at_left, append_from, has_left, push_last}
 use Rattle.wasm_tree.specs.declared.types.FuncType.{FuncType}
@@ -19,34 +20,15 @@ use Rattle.merge_terms.specs.Types.{AreFirstAppearances, MergedTypesAreDistinct,
 
 -- ---- equal types ----
 
-type_is : (s t : ValType) → same_type s t ≡ true → s ≡ t
-type_is s t h = grind arith
-
-type_self : (t : ValType) → same_type t t ≡ true
-type_self valt.I32 = refl
-type_self valt.I64 = refl
-type_self (valt.Ref reft.Func) = refl
-type_self (valt.Ref reft.Extern) = refl
-
-types_are : (ss ts : List ValType) → same_types ss ts ≡ true → ss ≡ ts
-types_are [] [] h = refl
-types_are [] (t ∷ ts) h = cc
-types_are (s ∷ ss) [] h = cc
-types_are (s ∷ ss) (t ∷ ts) h =
-    ap₂ {A = ValType} {B = List ValType} {C = List ValType} (λ a b. a ∷ b) (type_is s t (left_true (same_type s t) (same_types ss ts) h)) (types_are ss ts (right_true (same_type s t) (same_types ss ts) h))
-
-types_self : (ts : List ValType) → same_types ts ts ≡ true
-types_self [] = refl
-types_self (t ∷ ts) = ap (λ b. b && same_types ts ts) (type_self t) ∙ types_self ts
-
 func_type_is : (s t : FuncType) → same_func_type s t ≡ true → s ≡ t
 func_type_is s t h =
-    let params = types_are s.params t.params (left_true (same_types s.params t.params) (same_types s.results t.results) h) in
-    let results = types_are s.results t.results (right_true (same_types s.params t.params) (same_types s.results t.results) h) in
-    ap₂ {A = List ValType} {B = List ValType} {C = FuncType} (λ a b. record { params = a; results = b }) params results
+    let b = and_parts (same_types s.params t.params) (same_types s.results t.results) h in
+    let is = each_same_is same_type (λ a b e. grind arith) in
+    ap₂ {A = List ValType} {B = List ValType} {C = FuncType} (λ x y. record { params = x; results = y }) (is s.params t.params b.0) (is s.results t.results b.1)
 
 func_type_self : (t : FuncType) → same_func_type t t ≡ true
-func_type_self t = ap (λ b. b && same_types t.results t.results) (types_self t.params) ∙ types_self t.results
+func_type_self t =
+    let self = each_same_self same_type (λ a. grind arith) in and_from (same_types t.params t.params) (same_types t.results t.results) (self t.params) (self t.results)
 
 -- ---- what is among types ----
 

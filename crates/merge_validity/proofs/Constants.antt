@@ -26,7 +26,7 @@ use Rattle.index_remap.specs.declared.remap.Remap.{Remap}
 use Rattle.index_remap.specs.Renumbered.{fits_const, new_const}
 use Rattle.remap_typing.specs.Indices.{Indices, with_entry, ConstNamesOnly}
 use Rattle.remap_typing.specs.Trees.{TreesAgree, ReadsImport, ConstStands}
-use Rattle.remap_typing.proofs.Lists.{left_true, right_true, then_there, only_true, only_rest}
+use Rattle.remap_typing.proofs.Lists.{left_true, right_true, only_true, only_rest}
 use Rattle.merge_terms.specs.Merged.{merged, map_of, merged_read, merged_const, staying_of, place_of_end, new_index}
 use Rattle.merge_validity.specs.Entries.{HasEntry}
 use Rattle.merge_validity.proofs.Entities.{of_import, own, imported, space, import_kind, GlobalTy, type_of, asked_type}
@@ -52,7 +52,7 @@ record ReadsGlobal (m : Module) (x : ℕ) (ty : ValType) : Type 0 where
 
 reads_global : (m : Module) (x : ℕ) (ty : ValType) → const_type m (const.Global x) ≡ Some ty → ReadsGlobal m x ty
 reads_global m x ty h =
-    let g = then_there (slice_get (globals_of m) x) (λ g. only (nat_lt x (length (imported_globals m.imports)) && not g.mutable) (Some g.ty)) ty h in
+    let g = and_then_is (slice_get (globals_of m) x) (λ g. only (nat_lt x (length (imported_globals m.imports)) && not g.mutable) (Some g.ty)) ty h in
     let b = only_true (nat_lt x (length (imported_globals m.imports)) && not g.0.mutable) (Some g.0.ty) ty g.2 in
     let s = only_rest (nat_lt x (length (imported_globals m.imports)) && not g.0.mutable) (Some g.0.ty) ty g.2 in
     let same : g.0.ty ≡ ty = cc in

@@ -15,3 +15,4 @@ pub mod Exports
 pub mod Bounds
 pub mod Items
 pub mod Whole
+mod Rows

@@ -4,6 +4,7 @@ use Rattle.wasm_tree.specs.declared.space.Space.{Space}
 use Rattle.wasm_tree.specs.declared.space.Space.TheVariants.{Types, Functions, Tables, Memories, Globals, ElementSegments, DataSegments}
 use Rattle.std.specs.Prelude.{slice_index}
 use Rattle.std.proofs.lemmas.Bool.{ltb-true}
+use Rattle.base_lists.proofs.Places.{slice_get_there}
 use Rattle.wasm_tree.specs.declared.instr.Instr.{Instr}
 use Rattle.wasm_tree.specs.declared.module.Func as tree
 use Rattle.wasm_tree.specs.declared.module.Module.{Module}
@@ -18,7 +19,7 @@ use Rattle.index_remap.specs.Renumbered as renumbered
 use Rattle.index_remap.specs.Related.{Pairing, OptRel, some, CodeRel, FuncRel, defined}
 use Rattle.remap_typing.specs.Indices.{with_entry}
 use Rattle.permuted_worlds.specs.Named.{EntriesName}
-use Rattle.permuted_worlds.proofs.Places.{left_true, right_true, found, map_length, opt_at, names_of}
+use Rattle.permuted_worlds.proofs.Places.{left_true, right_true, map_length, opt_at, names_of}
 use Rattle.merge_terms.specs.Merged.{map_of}
 use Rattle.merge_worlds.specs.Instances.{SpaceAgrees, PartAgrees}
 use Rattle.merge_worlds.specs.Shared.{is_shared, sharing}
@@ -45,7 +46,7 @@ module _ (laws : Laws) (env : Environment) (parts : List Part) (p : ℕ) (m : Mo
   type_below x h = let l = ltb-true _ _ h in omega (arith, l, type_entries parts p m)
 
   entries_name : EntriesName R r (with_entry r) i j
-  entries_name Types x h = let t = found m.types x (type_below x h) in at_is i.types x t.0 (ap (λ ts. slice_get ts x) k.own_types ∙ t.1) ∙ sym (at_is j.types (slice_index r.types x) t.0 (k.types x t.0 t.1))
+  entries_name Types x h = let t = slice_get_there m.types x (type_below x h) in at_is i.types x t.0 (ap (λ ts. slice_get ts x) k.own_types ∙ t.1) ∙ sym (at_is j.types (slice_index r.types x) t.0 (k.types x t.0 t.1))
   entries_name Functions x h = names_of i.funcs j.funcs x _ (space_names Functions i.funcs j.funcs r.funcs k.funcs x h)
   entries_name Tables x h = names_of i.tables j.tables x _ (space_names Tables i.tables j.tables r.tables k.tables x h)
   entries_name Memories x h = names_of i.mems j.mems x _ (space_names Memories i.mems j.mems r.mems k.mems x h)
@@ -58,7 +59,7 @@ module _ (laws : Laws) (env : Environment) (parts : List Part) (p : ℕ) (m : Mo
 
   pub func_rel : (f : tree.Func) → fits_func r f ≡ true → OptRel (FuncRel R) (new_func i f) (new_func j (renumbered.new_func r f))
   func_rel f h =
-      let t = found m.types f.ty (type_below f.ty (left_true _ _ h)) in
+      let t = slice_get_there m.types f.ty (type_below f.ty (left_true _ _ h)) in
       opt_at (ap (λ o. option_and_then (λ t. Some (Code t i (declared f.locals) f.body)) o) (ap (λ ts. slice_get ts f.ty) k.own_types ∙ t.1))
       (ap (λ o. option_and_then (λ t. Some (Code t j (declared f.locals) (renumbered_all r f.body))) o) (k.types f.ty t.0 t.1))
       (some (defined (code_rel f.body (right_true (has r.types f.ty) _ h))))

@@ -2,6 +2,9 @@
 use Rattle.std.proofs.Common.{◌≡◌, ℕ, zero, suc, ◌+◌, ◌<◌, List, [], ◌∷◌, ◌++◌, map, length, Some, ◌&&◌, refl, sym, ap, ap₂, subst, ◌∙◌, arith, option_and_then, append-nil}
 use Rattle.std.specs.Prelude.{not, slice_get}
 use Rattle.std.specs.List.{flat_map, range_with_len}
+use Rattle.std.proofs.lemmas.Option.{slice_get_within}
+use Rattle.base_lists.proofs.Options.{all_there_from}
+use Rattle.base_lists.proofs.Places.{slice_get_there, append_right}
 use Rattle.wasm_tree.specs.declared.module.ConstExpr.TheVariants as const
 use Rattle.wasm_tree.specs.declared.module.ElemMode.TheVariants as elem
 use Rattle.wasm_tree.specs.declared.module.ElemSeg.{ElemSeg}
@@ -17,7 +20,7 @@ use Rattle.wasm_meaning.specs.Environment.{Environment}
 use Rattle.wasm_meaning.specs.World.{given, all_there, new_func, new_elem, ref_value, elem_of}
 use Rattle.index_remap.specs.References.{is_among, body_refs, outside_refs, declared_refs, with_declared, declaring}
 use Rattle.permuted_worlds.specs.Alone.{one}
-use Rattle.permuted_worlds.proofs.Places.{found, within, place_right, AllThere, each_there}
+use Rattle.base_lists.proofs.Options.{AllThere}
 use Rattle.export_names.specs.declared.mode.Mode.{Mode}
 use Rattle.export_names.specs.Names.{new_names}
 use Rattle.merge_terms.specs.Joined.{joined_module}
@@ -90,7 +93,7 @@ module _ (env : Environment) (u : Module) (j : Inst) where
   refs_there : (fs : List ℕ) → ((n f : ℕ) → slice_get fs n ≡ Some f → f < length j.funcs) → (xs : List RefVal) × (all_there (ref_value env (one u) (j ∷ []) 0) (map const.Func fs) ≡ Some xs)
   refs_there [] h = ([], refl)
   refs_there (f ∷ fs) h =
-      let a = found j.funcs f (h zero f refl) in
+      let a = slice_get_there j.funcs f (h zero f refl) in
       let rest = refs_there fs (λ n. h (suc n)) in
       let first : ref_value env (one u) (j ∷ []) 0 (const.Func f) ≡ Some (FuncRef (Some a.0)) = ap (λ o. option_and_then (λ v. given (ref_of v)) (option_and_then (λ a. Some (Ref (FuncRef (Some a)))) o)) a.1 in
       (FuncRef (Some a.0) ∷ rest.0, ap₂ (λ o p. option_and_then (λ y. option_and_then (λ ys. Some (y ∷ ys)) p) o) first rest.1)
@@ -115,18 +118,18 @@ abbrev calls : List Part → List tree.Func
 calls parts = start_calls parts (starts parts)
 
 pub call_at : (parts : List Part) (mode : Mode) (n : ℕ) (f : tree.Func) → slice_get (start_calls parts (starts parts)) n ≡ Some f → slice_get (joined_module parts mode).funcs (length (by_part_from (part_funcs parts) 0 parts) + n) ≡ Some f
-call_at parts mode n f h = ap (λ fs. slice_get fs (length (before_calls parts) + n)) (by_part_is parts mode).funcs ∙ place_right (before_calls parts) (calls parts) n ∙ h
+call_at parts mode n f h = ap (λ fs. slice_get fs (length (before_calls parts) + n)) (by_part_is parts mode).funcs ∙ append_right (before_calls parts) (calls parts) n ∙ h
 
 func_typed : (laws : Laws) (m : Module) → IsValid m → (n : ℕ) (f : tree.Func) → slice_get m.funcs n ≡ Some f → f.ty < length m.types
 func_typed laws m valid n f h =
-    let z = (laws.items m).0 valid kind.Func n (within m.funcs n f h) in
+    let z = (laws.items m).0 valid kind.Func n (slice_get_within m.funcs n f h) in
     let both : Some z.0 ≡ Some f = sym z.1 ∙ h in
     let same : z.0 ≡ f = cc in
     subst (λ (f : tree.Func). f.ty < length m.types) same z.2
 
 -- it is allocated
 pub last_funcs : (laws : Laws) (parts : List Part) (mode : Mode) (j : Inst) → IsValid (joined_module parts mode) → j.types ≡ (joined_module parts mode).types → AllThere (new_func j) (start_calls parts (starts parts))
-last_funcs laws parts mode j valid types = each_there (new_func j) (calls parts) (λ n f h.
+last_funcs laws parts mode j valid types = all_there_from (new_func j) (calls parts) (λ n f h.
     let lt = func_typed laws (joined_module parts mode) valid (length (before_calls parts) + n) f (call_at parts mode n f h) in
-    let t = found j.types f.ty (subst (λ ts. f.ty < length ts) (sym types) lt) in
+    let t = slice_get_there j.types f.ty (subst (λ ts. f.ty < length ts) (sym types) lt) in
     (Code t.0 j (declared f.locals) f.body, ap (λ o. option_and_then (λ t. Some (Code t j (declared f.locals) f.body)) o) t.1))

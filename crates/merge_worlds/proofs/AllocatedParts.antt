@@ -3,7 +3,9 @@ use Rattle.std.proofs.Common.{◌≡◌, ℕ, suc, ◌+◌, ◌*◌, List, [], �
 use Rattle.wasm_tree.specs.declared.space.Space.TheVariants.{Functions, Tables, Memories, Globals, DataSegments, ElementSegments}
 use Rattle.std.specs.Prelude.{slice_get}
 use Rattle.std.specs.List.{flat_map, list_all}
-use Rattle.std.proofs.lemmas.List.{map-append}
+use Rattle.std.proofs.lemmas.List.{map-append, length-append}
+use Rattle.std.proofs.lemmas.Option.{slice_get_within}
+use Rattle.base_lists.proofs.Options.{all_there_length}
 use Rattle.wasm_tree.specs.declared.types.Limits.{Limits}
 use Rattle.wasm_tree.specs.declared.types.TableType.{TableType}
 use Rattle.wasm_tree.specs.declared.types.ValType.TheVariants.{Ref}
@@ -30,7 +32,7 @@ use Rattle.index_remap.specs.Renumbered as renumbered
 use Rattle.index_remap.specs.Related.{Pairing, OptRel, some, ListRel, nil, RefRel, FuncRel, GlobalRel, ElemRel}
 use Rattle.index_remap.proofs.Rel.{append_rel}
 use Rattle.permuted_worlds.specs.Alone.{one}
-use Rattle.permuted_worlds.proofs.Places.{left_true, right_true, within, append_length, map_length, then_rel, then_rel_is, opt_at, tested_rel, all_rel, all_length}
+use Rattle.permuted_worlds.proofs.Places.{left_true, right_true, map_length, then_rel, then_rel_is, opt_at, tested_rel, all_rel}
 use Rattle.export_names.specs.declared.mode.Mode.{Mode}
 use Rattle.merge_terms.specs.Joined.{joined_module}
 use Rattle.merge_terms.specs.Merged.{map_of, by_part_from, merged_const, merged_global, merged_elem, merged_elem_mode, merged_data}
@@ -76,14 +78,14 @@ datas_same parts p r (d ∷ ds) = ap (λ xs. data_of d ∷ xs) (datas_same parts
 module _ (laws : Laws) (m : Module) (valid : IsValid m) where
   global_typed : (n : ℕ) (g : GlobalDef) → slice_get m.globals n ≡ Some g → const_type m g.init ≡ Some g.ty.ty
   global_typed n g h =
-      let z = (laws.items m).0 valid kind.Global n (within m.globals n g h) in
+      let z = (laws.items m).0 valid kind.Global n (slice_get_within m.globals n g h) in
       let both : Some z.0 ≡ Some g = sym z.1 ∙ h in
       let same : z.0 ≡ g = cc in
       subst (λ (g : GlobalDef). const_type m g.init ≡ Some g.ty.ty) same z.2
 
   item_typed : (n : ℕ) (s : ElemSeg) → slice_get m.elems n ≡ Some s → (l : ℕ) (e : ConstExpr) → slice_get s.items l ≡ Some e → const_type m e ≡ Some (Ref s.ty)
   item_typed n s h l e at =
-      let z = (laws.items m).0 valid kind.Elem n (within m.elems n s h) in
+      let z = (laws.items m).0 valid kind.Elem n (slice_get_within m.elems n s h) in
       let both : Some z.0 ≡ Some s = sym z.1 ∙ h in
       let same : z.0 ≡ s = cc in
       let typed = subst (λ (s : ElemSeg). (l : ℕ) (e : ConstExpr) → slice_get s.items l ≡ Some e → const_type m e ≡ Some (Ref s.ty)) same z.2 in
@@ -138,9 +140,9 @@ module _ (laws : Laws) (env : Environment) (parts : List Part) (mode : Mode) (ca
         tables = refl;
         mems = refl;
         datas = refl;
-        func_count = all_length (new_func i) m.funcs fs fs_are;
-        global_count = all_length (new_global env parts insts p) m.globals gs gs_are;
-        elem_count = all_length (elem_of env parts insts p) m.elems es es_are;
+        func_count = all_there_length (new_func i) m.funcs fs fs_are;
+        global_count = all_there_length (new_global env parts insts p) m.globals gs gs_are;
+        elem_count = all_there_length (elem_of env parts insts p) m.elems es es_are;
       }))))
 
   -- ---- one part after the other ----
@@ -214,7 +216,7 @@ module _ (laws : Laws) (env : Environment) (parts : List Part) (mode : Mode) (ca
   mapped_twice f xs ys vs ws e h = twice xs ys (map f ws) h ∙ ap (λ l. xs ++ (l ++ map f ws)) e ∙ ap (λ l. xs ++ l) (sym (map-append f vs ws))
 
   counted : {A : Type 0} (xs ys zs : List A) (k n : ℕ) → length zs ≡ length (xs ++ ys) + k → length ys ≡ n → length zs ≡ length xs + (n + k)
-  counted xs ys zs k n e h = let a = append_length xs ys in omega (arith, a, e, h)
+  counted xs ys zs k n e h = let a = length-append xs ys in omega (arith, a, e, h)
 
   grown_more : (s t u : Store) (p : ℕ) (part : Part) (ps : List Part) (a b : Added) → PartAdds part.«module» t a → Grown (joined_stores s t) (suc p) ps u b → Grown s p (part ∷ ps) u (and_added a b)
   grown_more s t u p part ps a b k r =

@@ -33,10 +33,10 @@ use Rattle.merge_terms.specs.Merged.{merged, map_of, defined_funcs, start_calls,
 use Rattle.merge_terms.specs.Joined.{joined_module}
 use Rattle.merge_validity.specs.Joinable.{CanBeJoined}
 use Rattle.merge_validity.specs.Started.{StartsTakeNothing}
-use Rattle.merge_validity.proofs.Same.{func_type_is}
+use Rattle.merge_worlds.proofs.MatchTypes.{func_type_is}
 use Rattle.merge_validity.proofs.ByPart.{by_part_many, defined_is}
 use Rattle.permuted_worlds.specs.Alone.{one, site}
-use Rattle.permuted_worlds.proofs.Places.{found, within, place_left, place_right, map_length, numbers_length, place_numbers, all_length}
+use Rattle.permuted_worlds.proofs.Places.{map_length}
 use Rattle.permuted_worlds.proofs.Alone.{funcs_counted}
 use Rattle.merge_worlds.specs.Shared.{shared_count}
 use Rattle.merge_worlds.proofs.SpaceLaws.{SpaceLaws}
@@ -44,10 +44,11 @@ use Rattle.merge_worlds.proofs.Instancing.{IsInst}
 use Rattle.merge_worlds.proofs.Standing.{import_address}
 use Rattle.merge_worlds.proofs.MergedAlone.{Keeps, joined_keeps, names_of, merged_types_are}
 use Rattle.merge_worlds.proofs.Starts.{IsNamed}
-use Rattle.base_lists.proofs.Places.{map_from, append_right}
+use Rattle.base_lists.proofs.Places.{map_from, append_right, slice_get_there, append_left}
 use Rattle.base_lists.proofs.Filtered.{place_of}
-use Rattle.base_lists.proofs.Options.{and_then_is, unwrap_or_false_is, all_there_at}
-use Rattle.std.proofs.lemmas.Option.{same_Some}
+use Rattle.base_lists.proofs.Options.{and_then_is, unwrap_or_false_is, all_there_at, all_there_length}
+use Rattle.std.proofs.lemmas.Option.{same_Some, slice_get_within}
+use Rattle.base_lists.proofs.Numbers.{length-numbers, numbers_at}
 use Rattle.merge_worlds.proofs.AllocatedLists.{at_is}
 
 -- ---- segments leave the functions as they are ----
@@ -170,7 +171,7 @@ module _ (laws : SpaceLaws) (env : Environment) (t : Module) (j : Inst) (inst : 
       let s = has_funcs in
       let r = all_there_at (new_func j) t.funcs s.funcs s.are n f h in
       let is : new_func j f ≡ Some (Code ty j (declared f.locals) f.body) = ap (λ o. option_and_then {T = FuncType} {U = Func} (λ ty. Some (Code ty j (declared f.locals) f.body)) o) (ap (λ l. slice_get l f.ty) inst.types ∙ e) in
-      ap (λ l. slice_get l (own_count Functions env + n)) s.all ∙ place_right (own_funcs env) s.funcs n ∙ r.2 ∙ sym r.1 ∙ is
+      ap (λ l. slice_get l (own_count Functions env + n)) s.all ∙ append_right (own_funcs env) s.funcs n ∙ r.2 ∙ sym r.1 ∙ is
 
   own_typed : (x n a : ℕ) (ty : FuncType) → x ≡ length (imports_of Functions t) + n → a ≡ own_count Functions env + n → type_of_func t x ≡ Some ty → type_at z a ≡ Gives ty
   own_typed x n a ty e d h =
@@ -190,9 +191,9 @@ module _ (laws : SpaceLaws) (env : Environment) (t : Module) (j : Inst) (inst : 
       let k : n ≡ r.0 = (let d = r.2 in omega (arith, d)) in
       let i : slice_get t.imports n ≡ Some r.1 = ap (slice_get t.imports) k ∙ r.3 in
       let many = funcs_counted t.imports 0 in
-      let low : x < length (imported_funcs t.imports) = (let l = within (imports_of Functions t) x n e in omega (arith, l, many)) in
+      let low : x < length (imported_funcs t.imports) = (let l = slice_get_within (imports_of Functions t) x n e in omega (arith, l, many)) in
       let got : func_of r.1.desc ≡ Some y.0 =
-      sym r.5 ∙ sym (place_left (imported_funcs t.imports) (map (λ f. f.ty) t.funcs) x low) ∙ y.1 in
+      sym r.5 ∙ sym (append_left (imported_funcs t.imports) (map (λ f. f.ty) t.funcs) x low) ∙ y.1 in
       let desc = func_desc r.1.desc y.0 got in
       let s = (laws.sites (one t) (site n)).1 r.1 i in
       let c = and_then_is (import_at (one t) (site n)) _ true (unwrap_or_false_is _ (all_of_at (is_matched env (one t) z) (sites (one t)) s.0 (site n) matched s.1)) in
@@ -219,23 +220,23 @@ module _ (laws : SpaceLaws) (env : Environment) (t : Module) (j : Inst) (inst : 
       all = let q = s.2 in let same : s.0 ++ numbers (base env (one t) Functions 0) (defined_count Functions t) ≡ j.funcs = cc in sym same
 
       many : length s.0 ≡ length (imports_of Functions t)
-      many = all_length (import_address env (one t) Functions 0) (imports_of Functions t) s.0 s.1
+      many = all_there_length (import_address env (one t) Functions 0) (imports_of Functions t) s.0 s.1
 
       go : (x < length (imports_of Functions t)) ⊎ (length (imports_of Functions t) ≤ x) → type_at z a ≡ Gives ty
       go (inl low) =
-          let n = found (imports_of Functions t) x low in
+          let n = slice_get_there (imports_of Functions t) x low in
           let r = all_there_at (import_address env (one t) Functions 0) (imports_of Functions t) s.0 s.1 x n.0 n.1 in
-          let both : Some a ≡ Some r.0 = sym h ∙ ap (λ l. slice_get l x) all ∙ place_left s.0 _ x (within s.0 x r.0 r.2) ∙ r.2 in
+          let both : Some a ≡ Some r.0 = sym h ∙ ap (λ l. slice_get l x) all ∙ append_left s.0 _ x (slice_get_within s.0 x r.0 r.2) ∙ r.2 in
           import_typed matched x n.0 a ty n.1 (r.1 ∙ sym both) e
       go (inr high) =
           let n = x - length (imports_of Functions t) in
           let at : x ≡ length (imports_of Functions t) + n = omega (arith, high) in
-          let l = within j.funcs x a h in
+          let l = slice_get_within j.funcs x a h in
           let size = ap length all ∙ length-append s.0 _ in
-          let count = numbers_length (base env (one t) Functions 0) (defined_count Functions t) in
+          let count = length-numbers (base env (one t) Functions 0) (defined_count Functions t) in
           let back : x ≡ length s.0 + n = omega (arith, at, many) in
           let low : n < defined_count Functions t = omega (arith, at, l, size, count, many) in
-          let both : Some a ≡ Some (base env (one t) Functions 0 + n) = sym h ∙ ap₂ (λ l x. slice_get l x) all back ∙ place_right s.0 _ n ∙ place_numbers (base env (one t) Functions 0) (defined_count Functions t) n low in
+          let both : Some a ≡ Some (base env (one t) Functions 0 + n) = sym h ∙ ap₂ (λ l x. slice_get l x) all back ∙ append_right s.0 _ n ∙ numbers_at (base env (one t) Functions 0) (defined_count Functions t) n low in
           let same : a ≡ base env (one t) Functions 0 + n = cc in
           own_typed x n a ty at (omega (arith, same)) e
 
@@ -272,7 +273,7 @@ module _ (laws : SpaceLaws) (nothing : StartsTakeNothing) (env : Environment) (p
       let total = defined_before Functions parts (length parts) in
       let last : total ≡ length (defined_funcs parts) + 0 = omega (arith, many) in
       let func : slice_get J.funcs total ≡ Some (record { ty = place_of_type parts nullary; locals = []; body = map Call (f ∷ g ∷ fs) }) =
-      ap₂ (λ l n. slice_get l n) (q.funcs ∙ merged_funcs_are parts (names_of parts mode)) last ∙ place_right (defined_funcs parts) (start_calls parts (starts parts)) 0 ∙ ap (λ l. slice_get (start_calls parts l) 0) e in
+      ap₂ (λ l n. slice_get l n) (q.funcs ∙ merged_funcs_are parts (names_of parts mode)) last ∙ append_right (defined_funcs parts) (start_calls parts (starts parts)) 0 ∙ ap (λ l. slice_get (start_calls parts l) 0) e in
       at_is z.funcs (shared_count env parts Functions) _ (own_func_at laws env J j inst z there total _ nullary func type)
       ∙ ap (λ l. Gives (Code nullary j [] (map Call l))) (sym e)
 

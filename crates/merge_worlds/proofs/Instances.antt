@@ -4,6 +4,10 @@ use Rattle.wasm_tree.specs.declared.space.Space.{Space}
 use Rattle.wasm_tree.specs.declared.space.Space.TheVariants.{Functions, Tables, Memories, Globals, ElementSegments, DataSegments, Types}
 use Rattle.std.specs.Prelude.{slice_index}
 use Rattle.std.proofs.lemmas.Bool.{cases_lt}
+use Rattle.std.proofs.lemmas.Option.{slice_get_within}
+use Rattle.std.proofs.lemmas.List.{length-append}
+use Rattle.base_lists.proofs.Numbers.{length-numbers, numbers_at}
+use Rattle.base_lists.proofs.Places.{slice_get_there, append_left, append_right, slice_index_is}
 use Rattle.wasm_tree.specs.declared.module.Module.{Module}
 use Rattle.wasm_tree.specs.Spaces.{funcs_of, tables_of, memories_of, globals_of, imported_funcs, imported_tables, imported_memories, imported_globals}
 use Rattle.wasm_meaning.specs.State.{Inst}
@@ -19,7 +23,7 @@ use Rattle.merge_validity.specs.Joinable.{CanBeJoined}
 use Rattle.merge_validity.specs.Ended.{added_count, is_external}
 use Rattle.merge_validity.proofs.ByPart.{elems_is, datas_is}
 use Rattle.permuted_worlds.specs.Alone.{one}
-use Rattle.permuted_worlds.proofs.Places.{found, within, place_left, place_right, map_length, append_length, numbers_length, place_numbers, index_at, place_map, all_length, each_there}
+use Rattle.permuted_worlds.proofs.Places.{map_length, place_map}
 use Rattle.permuted_worlds.proofs.Alone.{funcs_counted, tables_counted, memories_counted, globals_counted}
 use Rattle.merge_worlds.specs.Shared.{shared_count}
 use Rattle.merge_worlds.specs.Instances.{SameAddress, SpaceAgrees, PartAgrees, InstancesAgree}
@@ -27,7 +31,7 @@ use Rattle.merge_worlds.proofs.SpaceLaws.{SpaceLaws}
 use Rattle.merge_worlds.proofs.Instancing.{IsInst, inst_is, inst_there, insts_are, insts_there}
 use Rattle.merge_worlds.proofs.Standing.{before_low, total, import_address, site_address, site_low, Stands, own, stays, import_stands, own_stands}
 use Rattle.merge_worlds.proofs.MergedAlone.{joined_keeps, staying_kind, names_of, merged_types_are, merged_space, elems_many, datas_many}
-use Rattle.base_lists.proofs.Options.{and_then_is, all_there_at}
+use Rattle.base_lists.proofs.Options.{and_then_is, all_there_at, all_there_length, all_there_from}
 use Rattle.base_lists.proofs.Filtered.{place_there}
 
 -- ---- the entries of a part's map ----
@@ -36,8 +40,8 @@ use Rattle.base_lists.proofs.Filtered.{place_there}
 pub map_entry : (parts : List Part) (p : ℕ) (k : Space) (entries : List ℕ) (size : ℕ) → entries ≡ map (new_index parts p k) (numbers 0 size) → (x : ℕ) → x < size → slice_index entries x ≡ new_index parts p k x
 map_entry parts p k entries size e x l =
     let from_0 : 0 + x ≡ x = omega arith in
-    index_at entries x (new_index parts p k x)
-    (ap (λ l. slice_get l x) e ∙ place_map (new_index parts p k) (numbers 0 size) x ∙ ap (λ o. option_and_then (λ x. Some (new_index parts p k x)) o) (place_numbers 0 size x l ∙ ap Some from_0))
+    slice_index_is entries x (new_index parts p k x)
+    (ap (λ l. slice_get l x) e ∙ place_map (new_index parts p k) (numbers 0 size) x ∙ ap (λ o. option_and_then (λ x. Some (new_index parts p k x)) o) (numbers_at 0 size x l ∙ ap Some from_0))
 
 pub map_funcs : (parts : List Part) (p : ℕ) (m : Module) → (map_of parts p m).funcs ≡ map (new_index parts p Functions) (numbers 0 (length (funcs_of m)))
 unfolding map_of
@@ -64,7 +68,7 @@ unfolding map_of
 map_datas parts p m = refl
 
 size_of : {A : Type 0} (xs ys : List A) (a b : ℕ) → length xs ≡ a → length ys ≡ b → length (xs ++ ys) ≡ a + b
-size_of xs ys a b e f = append_length xs ys ∙ ap₂ (λ a b. a + b) e f
+size_of xs ys a b e f = length-append xs ys ∙ ap₂ (λ a b. a + b) e f
 
 funcs_size : (m : Module) → length (funcs_of m) ≡ length (imports_of Functions m) + defined_count Functions m
 funcs_size m = size_of (imported_funcs m.imports) (map (λ f. f.ty) m.funcs) _ _ (sym (funcs_counted m.imports 0)) (map_length (λ f. f.ty) m.funcs)
@@ -114,34 +118,34 @@ module _ (laws : SpaceLaws) (env : Environment) (parts : List Part) (linked : li
     where
       go : (x < length (imports_of k m)) ⊎ (length (imports_of k m) ≤ x) → (a : ℕ) × (slice_get xs x ≡ Some a) × Stands env parts k (Some a) (new_index parts p k x)
       go (inl low) =
-          let n = found (imports_of k m) x low in
+          let n = slice_get_there (imports_of k m) x low in
           let a = all_there_at (import_address env parts k p) (imports_of k m) s.imported s.are x n.0 n.1 in
-          (a.0, ap (λ l. slice_get l x) s.all ∙ place_left s.imported _ x (within s.imported x a.0 a.2) ∙ a.2, subst (λ o. Stands env parts k o (new_index parts p k x)) a.1 (import_stands env parts laws linked k p m x n.0 is n.1))
+          (a.0, ap (λ l. slice_get l x) s.all ∙ append_left s.imported _ x (slice_get_within s.imported x a.0 a.2) ∙ a.2, subst (λ o. Stands env parts k o (new_index parts p k x)) a.1 (import_stands env parts laws linked k p m x n.0 is n.1))
       go (inr high) =
           let j = x - length (imports_of k m) in
           let at : x ≡ length (imports_of k m) + j = omega (arith, high) in
-          let many = all_length (import_address env parts k p) (imports_of k m) s.imported s.are in
+          let many = all_there_length (import_address env parts k p) (imports_of k m) s.imported s.are in
           let back : x ≡ length s.imported + j = omega (arith, at, many) in
           let lt : j < defined_count k m = omega (arith, at, l) in
-          (base env parts k p + j, ap₂ (λ l x. slice_get l x) s.all back ∙ place_right s.imported _ j ∙ place_numbers (base env parts k p) (defined_count k m) j lt, own_stands env parts laws linked k p m x j is at lt)
+          (base env parts k p + j, ap₂ (λ l x. slice_get l x) s.all back ∙ append_right s.imported _ j ∙ numbers_at (base env parts k p) (defined_count k m) j lt, own_stands env parts laws linked k p m x j is at lt)
 
   -- the merged module's index names the same
   names_same : (k : Space) (ys : List ℕ) → MergedSpace k ys → (a index : ℕ) → Stands env parts k (Some a) index → (slice_get ys index ≡ Some a) × (a < shared_count env parts k)
   names_same k ys s a index (own d l e i) =
-      let many = all_length (site_address env parts k) (staying_of parts k) s.imported s.are in
+      let many = all_there_length (site_address env parts k) (staying_of parts k) s.imported s.are in
       let same : a ≡ own_count k env + d = cc in
       let at : index ≡ length s.imported + d = omega (arith, many, i) in
-      (ap₂ (λ l x. slice_get l x) s.all at ∙ place_right s.imported _ d ∙ place_numbers (own_count k env) (total env parts k + added_count parts k) d (omega (arith, l)) ∙ sym e, omega (arith, same, l))
+      (ap₂ (λ l x. slice_get l x) s.all at ∙ append_right s.imported _ d ∙ numbers_at (own_count k env) (total env parts k + added_count parts k) d (omega (arith, l)) ∙ sym e, omega (arith, same, l))
   names_same k ys s a index (stays u h e) =
       let r = all_there_at (site_address env parts k) (staying_of parts k) s.imported s.are index u h in
-      (ap (λ l. slice_get l index) s.all ∙ place_left s.imported _ index (within s.imported index r.0 r.2) ∙ r.2 ∙ sym r.1 ∙ sym e, site_low env parts laws.own k u a (sym e))
+      (ap (λ l. slice_get l index) s.all ∙ append_left s.imported _ index (slice_get_within s.imported index r.0 r.2) ∙ r.2 ∙ sym r.1 ∙ sym e, site_low env parts laws.own k u a (sym e))
 
   space_agrees : (k : Space) (p : ℕ) (m : Module) (xs ys entries : List ℕ) (size : ℕ) → module_at parts p ≡ Some m → PartSpace k p m xs → MergedSpace k ys → entries ≡ map (new_index parts p k) (numbers 0 size) → size ≡ length (imports_of k m) + defined_count k m →
       SpaceAgrees env parts k xs ys entries
   space_agrees k p m xs ys entries size is s t e n =
-      let many = all_length (import_address env parts k p) (imports_of k m) s.imported s.are in
-      let entries_many : length entries ≡ size = ap length e ∙ map_length (new_index parts p k) (numbers 0 size) ∙ numbers_length 0 size in
-      let xs_many : length xs ≡ length (imports_of k m) + defined_count k m = ap length s.all ∙ size_of s.imported _ _ _ many (numbers_length (base env parts k p) (defined_count k m)) in
+      let many = all_there_length (import_address env parts k p) (imports_of k m) s.imported s.are in
+      let entries_many : length entries ≡ size = ap length e ∙ map_length (new_index parts p k) (numbers 0 size) ∙ length-numbers 0 size in
+      let xs_many : length xs ≡ length (imports_of k m) + defined_count k m = ap length s.all ∙ size_of s.imported _ _ _ many (length-numbers (base env parts k p) (defined_count k m)) in
       record { size = xs_many ∙ sym n ∙ sym entries_many; each = λ x l. each x (omega (arith, l, entries_many)) }
     where
       each : (x : ℕ) → x < size → SameAddress env parts k xs ys entries x
@@ -152,23 +156,23 @@ module _ (laws : SpaceLaws) (env : Environment) (parts : List Part) (linked : li
 
   -- segments
   segments_agree : (k : Space) (xs ys entries : List ℕ) (first count n : ℕ) → xs ≡ numbers first count → ys ≡ numbers 0 n → entries ≡ numbers first count → first + count ≤ shared_count env parts k → shared_count env parts k ≤ n → SpaceAgrees env parts k xs ys entries
-  segments_agree k xs ys entries first count n e f g l h = record { size = ap length (e ∙ sym g); each = λ x low. let many : length entries ≡ count = ap length g ∙ numbers_length first count in each x (omega (arith, low, many)) }
+  segments_agree k xs ys entries first count n e f g l h = record { size = ap length (e ∙ sym g); each = λ x low. let many : length entries ≡ count = ap length g ∙ length-numbers first count in each x (omega (arith, low, many)) }
     where
       each : (x : ℕ) → x < count → SameAddress env parts k xs ys entries x
       each x low =
-          let at : (zs : List ℕ) → zs ≡ numbers first count → slice_get zs x ≡ Some (first + x) = λ zs e. ap (λ l. slice_get l x) e ∙ place_numbers first count x low in
+          let at : (zs : List ℕ) → zs ≡ numbers first count → slice_get zs x ≡ Some (first + x) = λ zs e. ap (λ l. slice_get l x) e ∙ numbers_at first count x low in
           let from_0 : 0 + (first + x) ≡ first + x = omega arith in
           record {
             address = first + x;
             first = at xs e;
-            second = ap₂ (λ l x. slice_get l x) f (index_at entries x (first + x) (at entries g)) ∙ place_numbers 0 n (first + x) (omega (arith, low, l, h)) ∙ ap Some from_0;
+            second = ap₂ (λ l x. slice_get l x) f (slice_index_is entries x (first + x) (at entries g)) ∙ numbers_at 0 n (first + x) (omega (arith, low, l, h)) ∙ ap Some from_0;
             shared = omega (arith, low, l);
           }
 
   joined_elems : shared_count env parts ElementSegments ≤ length J.elems
   joined_elems =
       let q = joined_keeps parts mode in
-      let a = ap length q.elems ∙ append_length _ q.more in
+      let a = ap length q.elems ∙ length-append _ q.more in
       let b = elems_many parts (names_of parts mode) in
       omega (arith, a, b)
 
@@ -228,7 +232,7 @@ module _ (laws : SpaceLaws) (env : Environment) (parts : List Part) (linked : li
 
   merged_there : (k : Space) → is_external k ≡ true → Present k → (ys : List ℕ) × (space env (one J) k 0 J ≡ Some ys)
   merged_there k ext present =
-      let r = each_there (site_address env parts k) (staying_of parts k) present in
+      let r = all_there_from (site_address env parts k) (staying_of parts k) present in
       (_, merged_space laws env parts linked mode k ext ∙ ap (λ o. option_and_then (λ l. Some (l ++ numbers (own_count k env) (total env parts k + added_count parts k))) o) r.are)
 
   import_present : (k : Space) → Present k → (o : Option ℕ) (index : ℕ) → Stands env parts k o index → (a : ℕ) × (o ≡ Some a)
@@ -237,7 +241,7 @@ module _ (laws : SpaceLaws) (env : Environment) (parts : List Part) (linked : li
 
   part_there : (k : Space) → Present k → (p : ℕ) (m : Module) → module_at parts p ≡ Some m → (xs : List ℕ) × (space env parts k p m ≡ Some xs)
   part_there k present p m is =
-      let r = each_there (import_address env parts k p) (imports_of k m) (λ x n h. import_present k present (import_address env parts k p n) (new_index parts p k x) (import_stands env parts laws linked k p m x n is h)) in
+      let r = all_there_from (import_address env parts k p) (imports_of k m) (λ x n h. import_present k present (import_address env parts k p n) (new_index parts p k x) (import_stands env parts laws linked k p m x n is h)) in
       (_, ap (λ o. option_and_then (λ l. Some (l ++ numbers (base env parts k p) (defined_count k m))) o) r.are)
 
   -- an import that stays is one of its part

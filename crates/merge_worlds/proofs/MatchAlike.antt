@@ -1,5 +1,6 @@
 -- The environment's own entities fit what is asked for in both stores or in none.
 use Rattle.std.proofs.Common.{◌≡◌, ℕ, zero, suc, ◌+◌, ◌<◌, List, [], ◌∷◌, ◌++◌, map, length, Some, Bool, true, false, cond, refl, sym, ap, ap₂, subst, ◌∙◌, arith, option_and_then, slice_get, ◌&&◌}
+use Rattle.std.proofs.lemmas.List.{length-append}
 use Rattle.wasm_tree.specs.declared.types.TableType.{TableType}
 use Rattle.wasm_meaning.specs.Outcomes.{Outcome, Gives, bind, at}
 use Rattle.wasm_meaning.specs.State.{Func, Own, Table, Store}
@@ -11,7 +12,7 @@ use Rattle.wasm_meaning.specs.World.{given, same_bool, meets}
 use Rattle.index_remap.specs.Related.{Pairing, ResRel, done, trap, wrong, FuncRel, defined, own, TableRel}
 use Rattle.index_remap.specs.Related as to
 use Rattle.index_remap.proofs.Rel.{at_rel, length_rel}
-use Rattle.permuted_worlds.proofs.Places.{append_length, map_length, then_eq, place_rel}
+use Rattle.permuted_worlds.proofs.Places.{map_length, then_eq, place_rel}
 use Rattle.merge_terms.specs.Faults.{External, FuncOf, TableOf, MemoryOf, GlobalOf}
 use Rattle.merge_worlds.specs.Shared.{sharing}
 use Rattle.merge_worlds.specs.Stores.{StoresAlike}
@@ -47,8 +48,8 @@ looked_up n is (x ∷ xs) th h e = by (is x.0) e (looked_up n is xs th h.1)
 funcs_many : (env : Environment) → length (flat (λ o. map (FuncKey o.pair) o.funcs) env) ≡ length (own_funcs env)
 funcs_many [] = refl
 funcs_many (o ∷ env) =
-    append_length (map (FuncKey o.pair) o.funcs) (flat (λ o. map (FuncKey o.pair) o.funcs) env)
-    ∙ ap₂ (λ a b. a + b) (map_length (FuncKey o.pair) o.funcs ∙ sym (map_length (Own o.pair) o.funcs)) (funcs_many env) ∙ sym (append_length (map (Own o.pair) o.funcs) (own_funcs env))
+    length-append (map (FuncKey o.pair) o.funcs) (flat (λ o. map (FuncKey o.pair) o.funcs) env)
+    ∙ ap₂ (λ a b. a + b) (map_length (FuncKey o.pair) o.funcs ∙ sym (map_length (Own o.pair) o.funcs)) (funcs_many env) ∙ sym (length-append (map (Own o.pair) o.funcs) (own_funcs env))
 
 pub own_among : (env : Environment) (key : OwnKey) (th : Thing) → given (owned_at (owned_of env) key) ≡ Some th → IsAmong (length (own_funcs env)) th
 own_among env key th h =

@@ -1,5 +1,8 @@
 -- What a part adds to the store stands there at the addresses of the part.
 use Rattle.std.proofs.Common.{◌≡◌, ℕ, zero, suc, ◌+◌, ◌*◌, false, List, [], ◌∷◌, ◌++◌, map, length, Some, refl, sym, ap, ap₂, subst, ◌∙◌, arith, option_and_then, slice_get}
+use Rattle.std.proofs.lemmas.Option.{slice_get_within}
+use Rattle.std.proofs.lemmas.List.{length-append}
+use Rattle.base_lists.proofs.Places.{append_left, append_right}
 use Rattle.wasm_tree.specs.declared.space.Space.{Space}
 use Rattle.wasm_tree.specs.declared.space.Space.TheVariants.{Functions, Tables, Memories, Globals}
 use Rattle.wasm_tree.specs.declared.types.Limits.{Limits}
@@ -11,8 +14,8 @@ use Rattle.wasm_meaning.specs.Values.{null_of}
 use Rattle.wasm_meaning.specs.Linking.{Part, module_at}
 use Rattle.wasm_meaning.specs.Environment.{Environment}
 use Rattle.wasm_meaning.specs.World.{defined_count, defined_before, base, all_there, new_func, new_global, elem_of, part_store, joined_stores, own_store, stores_from}
-use Rattle.permuted_worlds.proofs.Places.{within, place_left, place_right, append_length, map_length, all_length}
-use Rattle.base_lists.proofs.Options.{and_then_is}
+use Rattle.permuted_worlds.proofs.Places.{map_length}
+use Rattle.base_lists.proofs.Options.{and_then_is, all_there_length}
 
 -- ---- what one part adds ----
 
@@ -63,7 +66,7 @@ module _ (env : Environment) (all : List Part) (insts : List Inst) where
     keeps p (part ∷ rest) [] s z h n x e = let same : s ≡ z = cc in ap (λ s. slice_get (get s) n) (sym same) ∙ e
     keeps p (part ∷ rest) (i ∷ is) s z h n x e =
         let t = and_then_is (part_store env all insts p part.«module» i) (λ t. stores_from env all insts (joined_stores s t) (suc p) rest is) z h in
-        keeps (suc p) rest is (joined_stores s t.0) z t.2 n x (ap (λ l. slice_get l n) (joins s t.0) ∙ place_left (get s) (get t.0) n (within (get s) n x e) ∙ e)
+        keeps (suc p) rest is (joined_stores s t.0) z t.2 n x (ap (λ l. slice_get l n) (joins s t.0) ∙ append_left (get s) (get t.0) n (slice_get_within (get s) n x e) ∙ e)
 
     stands : (p : ℕ) (rest : List Part) (is : List Inst) (s z : Store) → stores_from env all insts s p rest is ≡ Some z → (q : ℕ) (m : Module) (i : Inst) → module_at rest q ≡ Some m → slice_get is q ≡ Some i → Stands env all insts get z (length (get s) + defined_before k rest q) (p + q) m i
     stands p [] is s z h q m i e f = cc
@@ -78,13 +81,13 @@ module _ (env : Environment) (all : List Part) (insts : List Inst) where
           made = ap (λ p. part_store env all insts p m i) n ∙ ap₂ (part_store env all insts p) (sym same) (sym same_inst) ∙ t.1;
           at = λ n x g.
               let z : (length (get s) + 0) + n ≡ length (get s) + n = omega arith in
-              ap (slice_get (get _)) z ∙ keeps (suc p) rest is (joined_stores s t.0) _ t.2 (length (get s) + n) x (ap (λ l. slice_get l (length (get s) + n)) (joins s t.0) ∙ place_right (get s) (get t.0) n ∙ g);
+              ap (slice_get (get _)) z ∙ keeps (suc p) rest is (joined_stores s t.0) _ t.2 (length (get s) + n) x (ap (λ l. slice_get l (length (get s) + n)) (joins s t.0) ∙ append_right (get s) (get t.0) n ∙ g);
         }
     stands p (part ∷ rest) (j ∷ is) s z h (suc q) m i e f =
         let t = and_then_is (part_store env all insts p part.«module» j) (λ t. stores_from env all insts (joined_stores s t) (suc p) rest is) z h in
         let r = stands (suc p) rest is (joined_stores s t.0) z t.2 q m i e f in
         let n : p + suc q ≡ suc p + q = omega arith in
-        let size : length (get (joined_stores s t.0)) ≡ length (get s) + defined_count k part.«module» = ap length (joins s t.0) ∙ append_length (get s) (get t.0) ∙ ap (λ n. length (get s) + n) (many p part.«module» j t.0 t.1) in
+        let size : length (get (joined_stores s t.0)) ≡ length (get s) + defined_count k part.«module» = ap length (joins s t.0) ∙ length-append (get s) (get t.0) ∙ ap (λ n. length (get s) + n) (many p part.«module» j t.0 t.1) in
         record {
           added = r.added;
           made = ap (λ p. part_store env all insts p m i) n ∙ r.made;
@@ -101,7 +104,7 @@ module _ (env : Environment) (all : List Part) (insts : List Inst) where
 
     pub funcs_stand : Stands env all insts (λ s. s.funcs) s (base env all Functions q) q m i
     funcs_stand =
-        from_none (λ s. s.funcs) (base env all Functions q) (stands Functions (λ s. s.funcs) (λ s t. refl) (λ p m i t h. all_length (new_func i) m.funcs t.funcs (adds p m i t h).funcs) 0 all insts (own_store env) s made q m i is there)
+        from_none (λ s. s.funcs) (base env all Functions q) (stands Functions (λ s. s.funcs) (λ s t. refl) (λ p m i t h. all_there_length (new_func i) m.funcs t.funcs (adds p m i t h).funcs) 0 all insts (own_store env) s made q m i is there)
 
     pub tables_stand : Stands env all insts (λ s. s.tables) s (base env all Tables q) q m i
     tables_stand =
@@ -114,4 +117,4 @@ module _ (env : Environment) (all : List Part) (insts : List Inst) where
     pub globals_stand : Stands env all insts (λ s. s.globals) s (base env all Globals q) q m i
     globals_stand =
         from_none (λ s. s.globals) (base env all Globals q)
-        (stands Globals (λ s. s.globals) (λ s t. refl) (λ p m i t h. all_length (new_global env all insts p) m.globals t.globals (adds p m i t h).globals) 0 all insts (own_store env) s made q m i is there)
+        (stands Globals (λ s. s.globals) (λ s t. refl) (λ p m i t h. all_there_length (new_global env all insts p) m.globals t.globals (adds p m i t h).globals) 0 all insts (own_store env) s made q m i is there)

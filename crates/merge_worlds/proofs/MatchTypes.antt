@@ -12,45 +12,20 @@ use Rattle.wasm_meaning.specs.Values.{same_ref, same_type, same_types, same_func
 use Rattle.wasm_meaning.specs.World.{same_bool}
 use Rattle.merge_terms.specs.Faults.{External, FuncOf, TableOf, MemoryOf, GlobalOf, same_but_limits}
 use Rattle.std.proofs.lemmas.Bool.{and_parts}
+use Rattle.base_lists.proofs.Same.{each_same_is}
 
-ref_is : (r s : RefType) → same_ref r s ≡ true → r ≡ s
-ref_is reft.Func reft.Func h = refl
-ref_is reft.Extern reft.Extern h = refl
-ref_is reft.Func reft.Extern h = cc
-ref_is reft.Extern reft.Func h = cc
-
-type_is : (s t : ValType) → same_type s t ≡ true → s ≡ t
-type_is valt.I32 valt.I32 h = refl
-type_is valt.I64 valt.I64 h = refl
-type_is (valt.Ref r) (valt.Ref s) h = ap valt.Ref (ref_is r s h)
-type_is valt.I32 valt.I64 h = cc
-type_is valt.I32 (valt.Ref s) h = cc
-type_is valt.I64 valt.I32 h = cc
-type_is valt.I64 (valt.Ref s) h = cc
-type_is (valt.Ref r) valt.I32 h = cc
-type_is (valt.Ref r) valt.I64 h = cc
-
-types_are : (ss ts : List ValType) → same_types ss ts ≡ true → ss ≡ ts
-types_are [] [] h = refl
-types_are [] (t ∷ ts) h = cc
-types_are (s ∷ ss) [] h = cc
-types_are (s ∷ ss) (t ∷ ts) h = let b = and_parts (same_type s t) (same_types ss ts) h in ap₂ (λ x y. x ∷ y) (type_is s t b.0) (types_are ss ts b.1)
-
-func_type_is : (s t : FuncType) → same_func_type s t ≡ true → s ≡ t
+pub func_type_is : (s t : FuncType) → same_func_type s t ≡ true → s ≡ t
 func_type_is s t h =
     let b = and_parts (same_types s.params t.params) (same_types s.results t.results) h in
-    ap₂ (λ x y. record { params = x; results = y }) (types_are s.params t.params b.0) (types_are s.results t.results b.1)
-
-bool_is : (a b : Bool) → same_bool a b ≡ true → a ≡ b
-bool_is true true h = refl
-bool_is false false h = refl
-bool_is true false h = cc
-bool_is false true h = cc
+    let is = each_same_is same_type (λ x y e. grind arith) in
+    ap₂ (λ x y. record { params = x; results = y }) (is s.params t.params b.0) (is s.results t.results b.1)
 
 global_is : (s t : GlobalType) → same_but_limits (GlobalOf s) (GlobalOf t) ≡ true → s ≡ t
 global_is s t h =
     let b = and_parts (same_type s.ty t.ty) (same_bool s.mutable t.mutable) h in
-    ap₂ (λ x y. record { ty = x; mutable = y }) (type_is s.ty t.ty b.0) (bool_is s.mutable t.mutable b.1)
+    let first : s.ty ≡ t.ty = let e = b.0 in grind arith in
+    let second : s.mutable ≡ t.mutable = let e = b.1 in grind arith in
+    ap₂ (λ x y. record { ty = x; mutable = y }) first second
 
 -- of one kind, and with one type
 pub data AlikeButLimits : External → External → Type 0 where
@@ -61,7 +36,7 @@ pub data AlikeButLimits : External → External → Type 0 where
 
 pub alike_is : (x y : External) → same_but_limits x y ≡ true → AlikeButLimits x y
 alike_is (FuncOf t) (FuncOf u) h = subst (λ u. AlikeButLimits (FuncOf t) (FuncOf u)) (func_type_is t u h) two_funcs
-alike_is (TableOf t) (TableOf u) h = two_tables (ref_is t.ty u.ty h)
+alike_is (TableOf t) (TableOf u) h = two_tables (grind arith)
 alike_is (MemoryOf l) (MemoryOf k) h = two_memories
 alike_is (GlobalOf t) (GlobalOf u) h = subst (λ u. AlikeButLimits (GlobalOf t) (GlobalOf u)) (global_is t u h) two_globals
 alike_is (FuncOf t) (TableOf u) h = absurd (let k = h in cc)

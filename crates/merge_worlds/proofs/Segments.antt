@@ -28,7 +28,7 @@ use Rattle.index_remap.specs.Related.{Pairing, OptRel, none, some, ElemRel, ValR
 use Rattle.index_remap.specs.References.{declaring, with_declared, declared_refs}
 use Rattle.index_remap.proofs.Rel.{length_rel, overwrite_rel}
 use Rattle.permuted_worlds.specs.Alone.{one}
-use Rattle.permuted_worlds.proofs.Places.{index_at, place_left, place_numbers, map_length, numbers_length, then_rel, then_same, opt_at, place_rel}
+use Rattle.permuted_worlds.proofs.Places.{map_length, then_rel, then_same, opt_at, place_rel}
 use Rattle.export_names.specs.declared.mode.Mode.{Mode}
 use Rattle.export_names.specs.Names.{new_names}
 use Rattle.merge_terms.specs.Merged.{by_part, map_of, merged, merged_const, merged_elem, merged_elem_mode, merged_data, merged_data_mode, export_names}
@@ -41,7 +41,8 @@ use Rattle.merge_worlds.proofs.SegmentLists.{equal_rel}
 use Rattle.merge_worlds.proofs.SegmentStores.{goes_on, and_then_alike, or_trapped_alike, fill_table_alike, fill_memory_alike}
 use Rattle.merge_worlds.proofs.SegmentTurns.{tasks_by, elems_by, datas_by, elems_start, datas_start, elems_next, datas_next, task, PartDoes, by_parts}
 use Rattle.std.proofs.lemmas.Option.{slice_get_within}
-use Rattle.base_lists.proofs.Places.{map_from}
+use Rattle.base_lists.proofs.Numbers.{numbers_at, length-numbers}
+use Rattle.base_lists.proofs.Places.{map_from, slice_index_is, append_left}
 use Rattle.merge_worlds.proofs.Instances.{map_elems, map_datas}
 
 -- constant expressions of the parts and what they become have the same values
@@ -88,18 +89,18 @@ joined_datas parts mode = go (declared_refs (merged parts (new_names mode (expor
 
 tables_many : (parts : List Part) (p : ℕ) (m : Module) → length (map_of parts p m).tables ≡ length (tables_of m)
 unfolding map_of
-tables_many parts p m = map_length _ (numbers 0 (length (tables_of m))) ∙ numbers_length 0 (length (tables_of m))
+tables_many parts p m = map_length _ (numbers 0 (length (tables_of m))) ∙ length-numbers 0 (length (tables_of m))
 
 mems_many : (parts : List Part) (p : ℕ) (m : Module) → length (map_of parts p m).mems ≡ length (memories_of m)
 unfolding map_of
-mems_many parts p m = map_length _ (numbers 0 (length (memories_of m))) ∙ numbers_length 0 (length (memories_of m))
+mems_many parts p m = map_length _ (numbers 0 (length (memories_of m))) ∙ length-numbers 0 (length (memories_of m))
 
 -- the entry of a segment is its place among all
 entry_is : (entries : List ℕ) (n count x : ℕ) → entries ≡ numbers n count → x < count → slice_index entries x ≡ n + x
-entry_is entries n count x e lt = ap (λ l. slice_index l x) e ∙ index_at (numbers n count) x (n + x) (place_numbers n count x lt)
+entry_is entries n count x e lt = ap (λ l. slice_index l x) e ∙ slice_index_is (numbers n count) x (n + x) (numbers_at n count x lt)
 
 entries_many : (entries : List ℕ) (n count : ℕ) → entries ≡ numbers n count → length entries ≡ count
-entries_many entries n count e = ap length e ∙ numbers_length n count
+entries_many entries n count e = ap length e ∙ length-numbers n count
 
 -- ---- a segment of a part ----
 
@@ -127,7 +128,7 @@ module _ (env : Environment) (parts : List Part) (mode : Mode) where
       segment : OptRel (ElemRel R) (slice_get s.elems n) (slice_get z.elems n)
       segment =
           let m = length_rel like.elems in
-          opt_at refl (ap (λ es. slice_get es n) like.all_elems ∙ place_left like.shared_elems like.more_elems n (omega (arith, lt, m))) (place_rel like.elems n)
+          opt_at refl (ap (λ es. slice_get es n) like.all_elems ∙ append_left like.shared_elems like.more_elems n (omega (arith, lt, m))) (place_rel like.elems n)
 
       here : (q : ℕ) → OptRel (FilledAlike env parts) (table_at s n q a) (table_at z n q a)
       here q = then_rel (place_rel like.tables a) (λ _ _ t. then_rel segment (λ _ _ e. some (fill_table_alike env parts n a like lt t (overwrite_rel q t.slots e.items))))

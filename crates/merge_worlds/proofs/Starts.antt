@@ -3,6 +3,8 @@ use Rattle.std.proofs.Common.{◌≡◌, ◌∙◌, ap, ap₂, sym, subst, refl,
 use Rattle.wasm_tree.specs.declared.space.Space.TheVariants.{Functions}
 use Rattle.std.specs.Prelude.{slice_index}
 use Rattle.std.proofs.lemmas.Bool.{ltb-true}
+use Rattle.base_lists.proofs.Places.{append_right}
+use Rattle.base_lists.proofs.Numbers.{length-numbers, numbers_at}
 use Rattle.wasm_tree.specs.declared.module.Module.{Module}
 use Rattle.wasm_tree.specs.Spaces.{funcs_of}
 use Rattle.wasm_meaning.specs.State.{Text, Inst}
@@ -18,7 +20,7 @@ use Rattle.merge_terms.specs.Merged.{merged, map_of, new_index, start_of, starts
 use Rattle.merge_terms.specs.Joined.{joined_module}
 use Rattle.merge_validity.specs.Ended.{added_count}
 use Rattle.permuted_worlds.specs.Alone.{one}
-use Rattle.permuted_worlds.proofs.Places.{map_length, numbers_length, place_numbers, place_right, all_length}
+use Rattle.permuted_worlds.proofs.Places.{map_length}
 use Rattle.merge_worlds.specs.Shared.{shared_count, sharing}
 use Rattle.merge_worlds.specs.Instances.{PartAgrees, InstancesAgree}
 use Rattle.merge_worlds.proofs.SpaceLaws.{SpaceLaws}
@@ -27,7 +29,7 @@ use Rattle.merge_worlds.proofs.Standing.{site_address, is_shared_at}
 use Rattle.merge_worlds.proofs.MergedAlone.{joined_keeps, names_of}
 use Rattle.merge_worlds.proofs.Instances.{map_entry, map_funcs, merged_part}
 use Rattle.merge_worlds.proofs.Named.{AllFit, start_fits}
-use Rattle.base_lists.proofs.Options.{and_then_is}
+use Rattle.base_lists.proofs.Options.{and_then_is, all_there_length}
 
 -- an address, and the index by which the merged module's instance names it
 pub record IsNamed (env : Environment) (parts : List Part) (j : Inst) (a f : ℕ) : Type 0 where
@@ -81,7 +83,7 @@ module _ (laws : SpaceLaws) (env : Environment) (parts : List Part) (linked : li
   one_named p m i agrees (Some f) h =
       let low = ltb-true _ _ h in
       let s = agrees.funcs.each f low in
-      let many : length (map_of parts p m).funcs ≡ length (funcs_of m) = ap length (map_funcs parts p m) ∙ map_length (new_index parts p Functions) (numbers 0 (length (funcs_of m))) ∙ numbers_length 0 (length (funcs_of m)) in
+      let many : length (map_of parts p m).funcs ≡ length (funcs_of m) = ap length (map_funcs parts p m) ∙ map_length (new_index parts p Functions) (numbers 0 (length (funcs_of m))) ∙ length-numbers 0 (length (funcs_of m)) in
       let entry : slice_index (map_of parts p m).funcs f ≡ new_index parts p Functions f = map_entry parts p Functions (map_of parts p m).funcs (length (funcs_of m)) (map_funcs parts p m) f (omega (arith, low, many)) in
       subst (λ o. ListRel (IsNamed env parts agree.merged) (one_place o) (new_index parts p Functions f ∷ [])) (sym s.first)
       (cons (record { names = ap (slice_get agree.merged.funcs) (sym entry) ∙ s.second; shared = s.shared }) nil)
@@ -105,12 +107,12 @@ module _ (laws : SpaceLaws) (env : Environment) (parts : List Part) (linked : li
       let lists : j.0 ∷ [] ≡ agree.merged ∷ [] = both ∙ agree.alone in
       let same : j.0 ≡ agree.merged = cc in
       let s = merged_part laws env parts linked mode Functions refl j.0.funcs (inst_is env (one J) 0 J j.0 j.1).funcs in
-      let many = all_length (site_address env parts Functions) (staying_of parts Functions) s.imported s.are in
+      let many = all_there_length (site_address env parts Functions) (staying_of parts Functions) s.imported s.are in
       let total = defined_before Functions parts (length parts) in
       let more : added_count parts Functions ≡ 1 = ap (λ fs. length (start_calls parts fs)) e in
       let at : length (staying_of parts Functions) + total ≡ length s.imported + total = omega (arith, many) in
       ap (λ (i : Inst). slice_get i.funcs (length (staying_of parts Functions) + total)) (sym same)
-      ∙ ap₂ (λ l n. slice_get l n) s.all at ∙ place_right s.imported _ total ∙ place_numbers (own_count Functions env) (total + added_count parts Functions) total (omega (arith, more))
+      ∙ ap₂ (λ l n. slice_get l n) s.all at ∙ append_right s.imported _ total ∙ numbers_at (own_count Functions env) (total + added_count parts Functions) total (omega (arith, more))
 
   pub starts_agree : insts_from env (one J) 0 (one J) ≡ Some js → StartsAgree env parts agree.merged (starts_of parts insts) (starts_of (one J) js)
   starts_agree there = record {

@@ -16,10 +16,13 @@ use Rattle.wasm_meaning.specs.Linking.{Read, places, has_kind, imports_of, space
 use Rattle.wasm_meaning.specs.Environment.{Environment, own_globals}
 use Rattle.wasm_meaning.specs.World.{numbers, own_count, defined_count, space, inst_of, insts_from, value_of_read, value_of}
 use Rattle.permuted_worlds.specs.Alone.{one, address_in, import_places, addresses, read_in, SpacesAreImportsAndOwn, ReadsStay}
-use Rattle.permuted_worlds.proofs.Places.{found, place_right, append_length, map_length, numbers_length, all_length}
+use Rattle.permuted_worlds.proofs.Places.{map_length}
 use Rattle.merge_worlds.proofs.Instancing.{IsInst, inst_is}
-use Rattle.base_lists.proofs.Options.{and_then_is}
+use Rattle.base_lists.proofs.Options.{and_then_is, all_there_length}
 use Rattle.std.proofs.lemmas.Option.{slice_get_past}
+use Rattle.std.proofs.lemmas.List.{length-append}
+use Rattle.base_lists.proofs.Numbers.{length-numbers}
+use Rattle.base_lists.proofs.Places.{slice_get_there, append_right}
 
 number_past : (c n z a : ℕ) → slice_get (numbers c n) z ≡ Some a → c ≤ a
 number_past c zero z a h = cc
@@ -65,7 +68,7 @@ funcs_counted (i ∷ is) n = go i.desc (funcs_counted is (suc n))
 -- the global.get of an import reads that import
 read_here : (is : List Import) (y : ℕ) → y < length (import_places Globals is) → read_in is (const.Global y) ≡ Some (record { part = 0; expr = const.Global y })
 read_here is y lt =
-    let n = found (import_places Globals is) y lt in
+    let n = slice_get_there (import_places Globals is) y lt in
     let r = import_at Globals is 0 y n.0 n.1 in
     let d = r.is in
     let at : n.0 ≡ r.at = omega (arith, d) in
@@ -102,14 +105,14 @@ module _ (reads : ReadsStay) (spaces : SpacesAreImportsAndOwn) (env : Environmen
       let x = and_then_is (addresses env u.types u.imports k) _ xs (sym (spaces env u k) ∙ e) in
       let h = x.2 in
       let same : x.0 ++ numbers (own_count k env) (defined_count k u) ≡ xs = cc in
-      (x.0, all_length (address_in env u.types u.imports k) (import_places k u.imports) x.0 x.1, sym same)
+      (x.0, all_there_length (address_in env u.types u.imports k) (import_places k u.imports) x.0 x.1, sym same)
 
   pub func_count : length j.funcs ≡ length (funcs_of u)
   func_count =
       let l = space_at Functions j.funcs own_spaces.funcs in
-      let a = ap length l.2 ∙ append_length l.0 (numbers (own_count Functions env) (length u.funcs)) in
-      let b = numbers_length (own_count Functions env) (length u.funcs) in
-      let c = append_length (imported_funcs u.imports) (map (λ f. f.ty) u.funcs) in
+      let a = ap length l.2 ∙ length-append l.0 (numbers (own_count Functions env) (length u.funcs)) in
+      let b = length-numbers (own_count Functions env) (length u.funcs) in
+      let c = length-append (imported_funcs u.imports) (map (λ f. f.ty) u.funcs) in
       let d = map_length (λ f. f.ty) u.funcs in
       let e = funcs_counted u.imports 0 in
       let f = l.1 in
@@ -126,6 +129,6 @@ module _ (reads : ReadsStay) (spaces : SpacesAreImportsAndOwn) (env : Environmen
           let n = l.1 in
           let z = y - length l.0 in
           let back : length l.0 + z ≡ y = omega (arith, n) in
-          let at : slice_get (numbers (own_count Globals env) (length u.globals)) z ≡ Some a = sym (ap (λ xs. slice_get xs y) l.2 ∙ ap (slice_get (l.0 ++ numbers (own_count Globals env) (length u.globals))) (sym back) ∙ place_right l.0 (numbers (own_count Globals env) (length u.globals)) z) ∙ h in
+          let at : slice_get (numbers (own_count Globals env) (length u.globals)) z ≡ Some a = sym (ap (λ xs. slice_get xs y) l.2 ∙ ap (slice_get (l.0 ++ numbers (own_count Globals env) (length u.globals))) (sym back) ∙ append_right l.0 (numbers (own_count Globals env) (length u.globals)) z) ∙ h in
           ap (λ o. option_and_then (value_of_read (own_globals env) (j ∷ [])) o) (read_past u.imports y past)
           ∙ sym (ap (λ o. option_and_then (λ g. Some g.value) o) (slice_get_past (own_globals env) a (number_past (length (own_globals env)) (length u.globals) z a at)))

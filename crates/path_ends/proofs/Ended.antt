@@ -3,9 +3,8 @@ use Rattle.std.proofs.lemmas.Option.{slice_get_within}
 use Rattle.std.proofs.lemmas.Bool.{cases_eq}
 use Rattle.path_ends.specs.Paths.{Reaches, IsEnd, by_step, followed, the_end}
 use Rattle.path_ends.specs.Paths.Reaches.{stop, go}
-use Rattle.path_ends.proofs.Lists.{there}
 use Rattle.base_lists.proofs.Pigeons.{pigeons}
-use Rattle.base_lists.proofs.Places.{Has}
+use Rattle.base_lists.proofs.Places.{Has, slice_get_there}
 
 -- after k steps the path ends at e
 abbrev pub EndsIn : List (Option ℕ) → ℕ → ℕ → ℕ → Type 0
@@ -60,7 +59,7 @@ has_number (suc n) k h = elim (cases_eq k n) [
   | inr ne ↦ let r : Has (numbers n) k = has_number n k (omega arith) in (suc r.0, r.1)
 ]
 
--- a path that ends has no more places than there are
+-- a path that ends has no more places than slice_get_there are
 short : (steps : List (Option ℕ)) (k n e : ℕ) → EndsIn steps k n e → suc k ≤ length steps
 short steps k n e r =
     let most = pigeons (suc k) (λ i. node steps i n) (numbers (length steps))
@@ -108,5 +107,5 @@ one_end steps n (Some d) (Some e) h k =
 pub ends_told : (steps ends : List (Option ℕ)) → length ends ≡ length steps → ((n : ℕ) (end : Option ℕ) → slice_get ends n ≡ Some end → IsEnd steps n end)
     → (n : ℕ) → n < length steps → slice_get ends n ≡ Some (the_end steps n)
 ends_told steps ends size right n h =
-    let x = there ends n (omega arith) in
+    let x = slice_get_there ends n (omega arith) in
     x.1 ∙ ap Some (one_end steps n x.0 (the_end steps n) (right n x.0 x.1) (the_end_right steps n))

@@ -1,9 +1,10 @@
 use Rattle.std.proofs.Common.{◌≡◌, ◌⊎◌, inl, inr, ℕ, ◌+◌, ◌<◌, ◌≤◌, List, [], ◌∷◌, ◌++◌, Option, Some, None, length, set, slice_get, refl, sym, ◌∙◌, ap, subst, arith, length-set}
 use Rattle.std.proofs.lemmas.Option.{slice_get_within}
 use Rattle.std.proofs.lemmas.Bool.{cases_eq}
+use Rattle.base_lists.proofs.Places.{set_at, set_other, push_last, push_before}
 use Rattle.path_ends.specs.Paths.{Reaches, IsEnd, Marked, Keeps}
 use Rattle.path_ends.specs.Paths.Reaches.{stop, go}
-use Rattle.path_ends.proofs.Lists.{got_same, got_other, got_left, got_last, got_before}
+use Rattle.path_ends.proofs.Lists.{got_left}
 
 -- what a place reaches, the place after it reaches
 pub after : (steps : List (Option ℕ)) (n e m : ℕ) → slice_get steps n ≡ Some (Some m) → Reaches steps n e → Reaches steps m e
@@ -37,22 +38,22 @@ pub record Walking (steps old marks answers : List (Option ℕ)) (start at : ℕ
 -- a write at a place that had no mark keeps the marks
 pub marked_more : (marks : List (Option ℕ)) (at w n v : ℕ) → at < length marks → slice_get marks n ≡ Some (Some v) → IsMarked (set marks at (Some w)) n
 marked_more marks at w n v inside h = elim (cases_eq n at) [
-  | inl e ↦ (w, subst (λ (x : ℕ). slice_get (set marks at (Some w)) x ≡ Some (Some w)) (sym e) (got_same marks at (Some w) inside))
-  | inr ne ↦ (v, got_other marks at n (Some w) ne ∙ h)
+  | inl e ↦ (w, subst (λ (x : ℕ). slice_get (set marks at (Some w)) x ≡ Some (Some w)) (sym e) (set_at marks at (Some w) inside))
+  | inr ne ↦ (v, set_other marks at n (Some w) ne ∙ h)
 ]
 
 pub keeps_more : (old marks : List (Option ℕ)) (at w : ℕ) → at < length marks → Keeps old marks → Keeps old (set marks at (Some w))
 keeps_more old marks at w inside k n v h = let b : IsMarked marks n = k n v h in marked_more marks at w n b.0 inside b.1
 
 pub begun_more : (marks : List (Option ℕ)) (at w start : ℕ) → at < length marks → (at ≡ start) ⊎ IsMarked marks start → IsMarked (set marks at (Some w)) start
-begun_more marks at w start inside (inl e) = (w, subst (λ (x : ℕ). slice_get (set marks at (Some w)) x ≡ Some (Some w)) e (got_same marks at (Some w) inside))
+begun_more marks at w start inside (inl e) = (w, subst (λ (x : ℕ). slice_get (set marks at (Some w)) x ≡ Some (Some w)) e (set_at marks at (Some w) inside))
 begun_more marks at w start inside (inr b) = marked_more marks at w start b.0 inside b.1
 
 -- the mark at a place after a write at `at`
 mark_after : (marks : List (Option ℕ)) (at w n : ℕ) → at < length marks → (slice_get marks n ≡ Some (Some w)) ⊎ (n ≡ at) → slice_get (set marks at (Some w)) n ≡ Some (Some w)
 mark_after marks at w n inside h = elim (cases_eq n at) [
-  | inl e ↦ subst (λ (x : ℕ). slice_get (set marks at (Some w)) x ≡ Some (Some w)) (sym e) (got_same marks at (Some w) inside)
-  | inr ne ↦ got_other marks at n (Some w) ne ∙ elim h [ inl was ↦ was | inr e ↦ absurd (ne e) ]
+  | inl e ↦ subst (λ (x : ℕ). slice_get (set marks at (Some w)) x ≡ Some (Some w)) (sym e) (set_at marks at (Some w) inside)
+  | inr ne ↦ set_other marks at n (Some w) ne ∙ elim h [ inl was ↦ was | inr e ↦ absurd (ne e) ]
 ]
 
 -- one step on
@@ -76,7 +77,7 @@ walk_on steps old marks answers start at m w step there =
               from = λ x l. after steps at x m step (subst (λ (y : ℕ). Reaches steps y x) e l);
               next = (m, ap (slice_get steps) e ∙ step, inr refl);
             })
-        | inr ne ↦ elim (w.known n v (sym (got_other marks at n (Some number) ne) ∙ h)) [
+        | inr ne ↦ elim (w.known n v (sym (set_other marks at n (Some number) ne) ∙ h)) [
           | inl a ↦ inl a
           | inr p ↦ inr (record {
             this = p.this;
@@ -94,7 +95,7 @@ answered : (steps old marks answers : List (Option ℕ)) (start at : ℕ) (answe
     → Marked steps marks (answers ++ answer ∷ [])
 answered steps old marks answers start at answer w passed n v h = elim (w.known n v h) [
   | inl a ↦ (a.answer, got_left answers answer v a.answer a.stands, a.right)
-  | inr p ↦ (answer, ap (slice_get (answers ++ answer ∷ [])) p.this ∙ got_last answers answer, passed n v h p)
+  | inr p ↦ (answer, ap (slice_get (answers ++ answer ∷ [])) p.this ∙ push_last answers answer, passed n v h p)
 ]
 
 same_end : (steps : List (Option ℕ)) (n at : ℕ) (end : Option ℕ) → ((e : ℕ) → Reaches steps at e → Reaches steps n e) → ((e : ℕ) → Reaches steps n e → Reaches steps at e) → IsEnd steps at end → IsEnd steps n end
@@ -111,10 +112,10 @@ walk_stop steps old marks answers start at w step n v h =
     elim (cases_eq n at) [
       | inl e ↦
           let same : v ≡ number = let k = mark_after marks at number n inside (inr e) in cc in
-          (Some at, ap (slice_get (answers ++ Some at ∷ [])) same ∙ got_last answers (Some at), subst (λ (x : ℕ). Reaches steps x at) (sym e) (stop at step))
-      | inr ne ↦ elim (w.known n v (sym (got_other marks at n (Some number) ne) ∙ h)) [
+          (Some at, ap (slice_get (answers ++ Some at ∷ [])) same ∙ push_last answers (Some at), subst (λ (x : ℕ). Reaches steps x at) (sym e) (stop at step))
+      | inr ne ↦ elim (w.known n v (sym (set_other marks at n (Some number) ne) ∙ h)) [
         | inl a ↦ (a.answer, got_left answers (Some at) v a.answer a.stands, a.right)
-        | inr p ↦ (Some at, ap (slice_get (answers ++ Some at ∷ [])) p.this ∙ got_last answers (Some at), p.to at (stop at step))
+        | inr p ↦ (Some at, ap (slice_get (answers ++ Some at ∷ [])) p.this ∙ push_last answers (Some at), p.to at (stop at step))
       ]
     ]
 
@@ -167,10 +168,10 @@ pub ends_more : (steps ends : List (Option ℕ)) (end : Option ℕ) (i : ℕ) �
     → (n : ℕ) (a : Option ℕ) → slice_get (ends ++ end ∷ []) n ≡ Some a → IsEnd steps n a
 ends_more steps ends end i count all here n a h = elim (cases_eq n (length ends)) [
   | inl e ↦
-      let same : end ≡ a = let l : slice_get (ends ++ end ∷ []) n ≡ Some end = ap (slice_get (ends ++ end ∷ [])) e ∙ got_last ends end in cc in
+      let same : end ≡ a = let l : slice_get (ends ++ end ∷ []) n ≡ Some end = ap (slice_get (ends ++ end ∷ [])) e ∙ push_last ends end in cc in
       let P : ℕ → Type 0 = λ x. IsEnd steps x a in
       subst P (sym (e ∙ count)) (subst (IsEnd steps i) same here)
-  | inr ne ↦ all n a (got_before ends end n a ne h)
+  | inr ne ↦ all n a (push_before ends end n a ne h)
 ]
 
 -- what is marked has the answer of its walk

@@ -2,6 +2,11 @@
 use Rattle.std.proofs.Common.{◌≡◌, ℕ, ◌+◌, ◌<◌, List, [], ◌∷◌, ◌++◌, map, length, Option, Some, None, true, refl, sym, ap, ap₂, subst, ◌∙◌, arith, option_and_then, slice_get}
 use Rattle.wasm_tree.specs.declared.space.Space.TheVariants.{Functions, Tables, Memories, Globals, ElementSegments, DataSegments}
 use Rattle.std.proofs.lemmas.Bool.{ltb-true}
+use Rattle.std.proofs.lemmas.Option.{slice_get_within}
+use Rattle.std.proofs.lemmas.List.{length-append}
+use Rattle.base_lists.proofs.Options.{AllThere, all_there_length, all_there_from}
+use Rattle.base_lists.proofs.Numbers.{numbers_is}
+use Rattle.base_lists.proofs.Places.{slice_get_there, append_left, append_right}
 use Rattle.wasm_tree.specs.declared.types.FuncType.{FuncType}
 use Rattle.wasm_tree.specs.declared.module.Func as tree
 use Rattle.wasm_tree.specs.declared.module.ConstExpr.{ConstExpr}
@@ -26,7 +31,7 @@ use Rattle.index_remap.specs.Related as to
 use Rattle.index_remap.proofs.Rel.{append_rel, copies_rel}
 use Rattle.permuted_worlds.specs.Permuted.{moving, IsOrder, permuted}
 use Rattle.base_lists.proofs.Each.{list_all_each}
-use Rattle.permuted_worlds.proofs.Places.{left_true, right_true, found, within, place_left, place_right, map_length, append_length, number_at, Moves, stays, goes, moves_by, some_then, then_rel, then_rel_is, then_same, opt_self, opt_at, place_rel, self_rel, tested_rel, map_rel, maps_rel, all_rel, all_length, AllThere, each_there, both_at, both_in}
+use Rattle.permuted_worlds.proofs.Places.{left_true, right_true, map_length, Moves, stays, goes, moves_by, some_then, then_rel, then_rel_is, then_same, opt_self, opt_at, place_rel, self_rel, tested_rel, map_rel, maps_rel, all_rel, both_at, both_in}
 use Rattle.permuted_worlds.specs.Alone.{one, read_in, read_place}
 use Rattle.permuted_worlds.proofs.Alone.{read_is}
 use Rattle.permuted_worlds.proofs.Partners.{related, pairing, partner, shares_own}
@@ -68,7 +73,7 @@ module _ (env : Environment) (places : List ℕ) (t : Module) where
 
   in_lists : {A B : Type 0} {P : A → B → Type 0} {xs : List A} {ys : List B} (n : ℕ) → ListRel P xs ys → length xs ≡ n → (a b : ℕ) → slice_get (numbers 0 n) a ≡ Some b → BothRel P (at xs a) (at ys b)
   in_lists {P = P} {xs = xs} {ys = ys} n r e a b h =
-      let x = number_at n a b h in
+      let x = numbers_is n a b h in
       subst (λ c. BothRel P (at xs a) (at ys c)) x.1 (both_in r a (omega (arith, e, x.0)))
 
   pub stores_rel : {s z : Store} → Alike s z → StoreRel R s z
@@ -91,7 +96,7 @@ module _ (env : Environment) (places : List ℕ) (t : Module) where
 
     global_value : (a b : ℕ) → R.of Globals a b → OptRel (ValRel R) (option_and_then (λ g. Some g.value) (slice_get (own_globals env) a)) (option_and_then (λ g. Some g.value) (slice_get (own_globals env) b))
     global_value a b h =
-        let same = (number_at (length (own_globals env) + length t.globals) a b (partner env places t Globals a b h)).1 in
+        let same = (numbers_is (length (own_globals env) + length t.globals) a b (partner env places t Globals a b h)).1 in
         subst (λ c. OptRel (ValRel R) (option_and_then (λ g. Some g.value) (slice_get (own_globals env) a)) (option_and_then (λ g. Some g.value) (slice_get (own_globals env) c))) same
         (then_rel (place_rel (own_globals_rel (pairing env places t) env (shares_own env places t)) a) (λ _ _ g. some g.value))
 
@@ -138,23 +143,23 @@ module _ (env : Environment) (places : List ℕ) (t : Module) where
     -- ---- functions ----
 
     func_there : (inst : Inst) → inst.types ≡ t.types → (f : tree.Func) → f.ty < length t.types → (x : Func) × (world.new_func inst f ≡ Some x)
-    func_there inst e f lt = let ty = found t.types f.ty lt in (Code ty.0 inst (declared f.locals) f.body, ap (λ o. option_and_then (λ x. Some (Code x inst (declared f.locals) f.body)) o) (ap (λ ts. slice_get ts f.ty) e ∙ ty.1))
+    func_there inst e f lt = let ty = slice_get_there t.types f.ty lt in (Code ty.0 inst (declared f.locals) f.body, ap (λ o. option_and_then (λ x. Some (Code x inst (declared f.locals) f.body)) o) (ap (λ ts. slice_get ts f.ty) e ∙ ty.1))
 
     type_there : (n : ℕ) (f : tree.Func) → slice_get t.funcs n ≡ Some f → has m.types f.ty ≡ true
     type_there n f h = left_true _ _ (list_all_each (fits_func m) t.funcs fit.funcs n f h)
 
     pub first_funcs : AllThere (world.new_func i) t.funcs
-    first_funcs = each_there (world.new_func i) t.funcs (λ n f h. func_there i k.left_types f (below _ f.ty (type_there n f h)))
+    first_funcs = all_there_from (world.new_func i) t.funcs (λ n f h. func_there i k.left_types f (below _ f.ty (type_there n f h)))
 
     -- the function that stands at a place
     pub stands_for : (n : ℕ) (g : tree.Func) → slice_get funcs n ≡ Some g → (f : tree.Func) × (x : ℕ) × (slice_get t.funcs x ≡ Some f) × (renumbered.new_func m f ≡ g)
     stands_for n g h =
-        let x = order.filled n (within funcs n g h) in
+        let x = order.filled n (slice_get_within funcs n g h) in
         let f = some_then (slice_get t.funcs x.0) (renumbered.new_func m) g (sym (order.stands x.0 n x.1) ∙ h) in
         (f.0, x.0, f.1, f.2)
 
     pub second_funcs : AllThere (world.new_func j) funcs
-    second_funcs = each_there (world.new_func j) funcs (λ n g h.
+    second_funcs = all_there_from (world.new_func j) funcs (λ n g h.
         let f = stands_for n g h in
         let fits = type_there f.1 f.0 f.2 in
         let same : f.0.ty ≡ g.ty = sym (stays_at _ f.0.ty fits) ∙ ap (λ z. z.ty) f.3 in
@@ -168,9 +173,9 @@ module _ (env : Environment) (places : List ℕ) (t : Module) where
 
     stays_rel : (a b : ℕ) → a < length (own_funcs env) → a ≡ b → BothRel (FuncRel R) (at (own_funcs env ++ first_funcs.results) a) (at (own_funcs env ++ second_funcs.results) b)
     stays_rel a b l e =
-        let x = found (own_funcs env) a l in
-        let f = place_left (own_funcs env) first_funcs.results a l ∙ x.1 in
-        let g = place_left (own_funcs env) second_funcs.results a l ∙ x.1 in
+        let x = slice_get_there (own_funcs env) a l in
+        let f = append_left (own_funcs env) first_funcs.results a l ∙ x.1 in
+        let g = append_left (own_funcs env) second_funcs.results a l ∙ x.1 in
         both_at (own_funcs env ++ first_funcs.results) (own_funcs env ++ second_funcs.results) a b x.0 x.0 f (ap (slice_get (own_funcs env ++ second_funcs.results)) (sym e) ∙ g) (opt_self (place_rel own_rel a) x.1)
 
     first_at : (x : ℕ) (f : tree.Func) (ty : FuncType) → slice_get t.funcs x ≡ Some f → slice_get t.types f.ty ≡ Some ty → slice_get first_funcs.results x ≡ Some (Code ty i (declared f.locals) f.body)
@@ -192,12 +197,12 @@ module _ (env : Environment) (places : List ℕ) (t : Module) where
         go : Moves (length (own_funcs env)) places a b → BothRel (FuncRel R) (at (own_funcs env ++ first_funcs.results) a) (at (own_funcs env ++ second_funcs.results) b)
         go (stays l e) = stays_rel a b l e
         go (goes x p d e g) =
-            let l = within places x p g in
-            let f = found t.funcs x (omega (arith, l, order.size)) in
-            let ty = found t.types f.0.ty (below _ f.0.ty (type_there x f.0 f.1)) in
+            let l = slice_get_within places x p g in
+            let f = slice_get_there t.funcs x (omega (arith, l, order.size)) in
+            let ty = slice_get_there t.types f.0.ty (below _ f.0.ty (type_there x f.0 f.1)) in
             both_at (own_funcs env ++ first_funcs.results) (own_funcs env ++ second_funcs.results) a b _ _
-            (ap (slice_get (own_funcs env ++ first_funcs.results)) d ∙ place_right (own_funcs env) first_funcs.results x ∙ first_at x f.0 ty.0 f.1 ty.1)
-            (ap (slice_get (own_funcs env ++ second_funcs.results)) e ∙ place_right (own_funcs env) second_funcs.results p ∙ second_at x p f.0 ty.0 g f.1 ty.1)
+            (ap (slice_get (own_funcs env ++ first_funcs.results)) d ∙ append_right (own_funcs env) first_funcs.results x ∙ first_at x f.0 ty.0 f.1 ty.1)
+            (ap (slice_get (own_funcs env ++ second_funcs.results)) e ∙ append_right (own_funcs env) second_funcs.results p ∙ second_at x p f.0 ty.0 g f.1 ty.1)
             (defined (body_rel f.0 x f.1))
 
     -- ---- what else is allocated ----
@@ -228,9 +233,9 @@ module _ (env : Environment) (places : List ℕ) (t : Module) where
               globals = append_rel (own_globals_rel (pairing env places t) env (shares_own env places t)) g;
               elems = x;
               datas = maps_rel _ _ (map_rel _ t.datas (λ d. refl));
-              table_count = append_length (own_tables env) _ ∙ ap (λ n. length (own_tables env) + n) (map_length _ t.tables);
-              memory_count = append_length (own_memories env) _ ∙ ap (λ n. length (own_memories env) + n) (map_length _ t.mems);
-              global_count = append_length (own_globals env) gs ∙ ap (λ n. length (own_globals env) + n) (all_length (new_global env (one t) (i ∷ []) 0) t.globals gs gs_are);
-              elem_count = all_length (elem_of env (one t) (i ∷ []) 0) t.elems es es_are;
+              table_count = length-append (own_tables env) _ ∙ ap (λ n. length (own_tables env) + n) (map_length _ t.tables);
+              memory_count = length-append (own_memories env) _ ∙ ap (λ n. length (own_memories env) + n) (map_length _ t.mems);
+              global_count = length-append (own_globals env) gs ∙ ap (λ n. length (own_globals env) + n) (all_there_length (new_global env (one t) (i ∷ []) 0) t.globals gs gs_are);
+              elem_count = all_there_length (elem_of env (one t) (i ∷ []) 0) t.elems es es_are;
               data_count = map_length _ t.datas;
             }))))

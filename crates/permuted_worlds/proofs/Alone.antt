@@ -10,6 +10,7 @@ use Rattle.wasm_tree.specs.declared.module.ConstExpr.{ConstExpr}
 use Rattle.wasm_tree.specs.declared.module.ConstExpr.TheVariants as const
 use Rattle.wasm_tree.specs.declared.module.Module.{Module}
 use Rattle.std.specs.List.{cons_option}
+use Rattle.base_lists.proofs.Options.{all_there_same}
 use Rattle.wasm_tree.specs.Spaces.{func_of, table_of, memory_of, global_of, imported_funcs, imported_tables, imported_memories, imported_globals, space_of_import}
 use Rattle.wasm_meaning.specs.State.{Pair}
 use Rattle.wasm_meaning.specs.Paths.{walk, walk_on}
@@ -17,7 +18,6 @@ use Rattle.wasm_meaning.specs.Linking.{sites, joined, joined_step, import_step, 
 use Rattle.wasm_meaning.specs.Environment.{Environment, owned_of, owned_at}
 use Rattle.wasm_meaning.specs.World.{given, own_key_of, outside_thing, imported_thing, thing_of, address_of, numbers, own_count, defined_count, space}
 use Rattle.permuted_worlds.specs.Alone.{one, site, key_in, thing_in, addresses, read_in}
-use Rattle.permuted_worlds.proofs.Places.{all_same}
 
 -- ---- what an import stands for ----
 
@@ -60,7 +60,7 @@ thing_is env t n =
 pub space_is : (env : Environment) (t : Module) (k : Space) → space env (one t) k 0 t ≡ option_and_then (λ l. Some (l ++ numbers (own_count k env) (defined_count k t))) (addresses env t.types t.imports k)
 space_is env t k =
     let e : own_count k env + 0 ≡ own_count k env = omega arith in
-    ap₂ (λ o b. option_and_then (λ l. Some (l ++ numbers b (defined_count k t))) o) (all_same (λ n. ap (λ x. option_and_then (address_of k) x) (thing_is env t n)) (imports_of k t)) e
+    ap₂ (λ o b. option_and_then (λ l. Some (l ++ numbers b (defined_count k t))) o) (all_there_same (λ n. ap (λ x. option_and_then (address_of k) x) (thing_is env t n)) (imports_of k t)) e
 
 -- ---- how many are imported ----
 

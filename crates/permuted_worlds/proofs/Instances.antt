@@ -5,6 +5,10 @@ use Rattle.wasm_tree.specs.declared.space.Space.TheVariants.{Types, Functions, T
 use Rattle.std.specs.Prelude.{slice_index}
 use Rattle.std.specs.List.{list_all}
 use Rattle.std.proofs.lemmas.Bool.{cases_lt, ltb-true}
+use Rattle.std.proofs.lemmas.Option.{slice_get_within}
+use Rattle.base_lists.proofs.Options.{all_there_length}
+use Rattle.base_lists.proofs.Numbers.{length-numbers, numbers_at, numbers_index}
+use Rattle.base_lists.proofs.Places.{slice_index_is, slice_get_there, append_left, append_right}
 use Rattle.wasm_tree.specs.declared.module.Func as tree
 use Rattle.wasm_tree.specs.declared.module.Import.{Import}
 use Rattle.wasm_tree.specs.declared.module.ImportDesc.{ImportDesc}
@@ -21,7 +25,7 @@ use Rattle.index_remap.proofs.Rel.{append_rel}
 use Rattle.remap_typing.specs.Indices.{with_entry}
 use Rattle.permuted_worlds.specs.Named.{EntriesName}
 use Rattle.permuted_worlds.specs.Permuted.{moving, IsOrder, permuted}
-use Rattle.permuted_worlds.proofs.Places.{left_true, right_true, index_at, found, within, place_left, place_right, map_length, numbers_length, place_numbers, index_numbers, moved_low, moved_high, moved_length, then_rel, then_same, opt_self, opt_at, place_rel, numbers_rel, all_length, names_of}
+use Rattle.permuted_worlds.proofs.Places.{left_true, right_true, map_length, moved_low, moved_high, moved_length, then_rel, then_same, opt_self, opt_at, place_rel, numbers_rel, names_of}
 use Rattle.permuted_worlds.specs.Alone.{one, import_places, addresses, address_in}
 use Rattle.permuted_worlds.proofs.Alone.{space_is, funcs_counted}
 use Rattle.permuted_worlds.proofs.Partners.{pairing, func_moves, same_table, same_memory, same_global, same_elem, same_data, addresses_rel}
@@ -47,10 +51,10 @@ fits_parts m t h =
 
 -- what a list of the map with an entry is: the entry is the index itself
 pub stays_at : (n x : ℕ) → has (numbers 0 n) x ≡ true → slice_index (numbers 0 n) x ≡ x
-stays_at n x h = let l = ltb-true _ _ h in index_numbers n x (omega (arith, l, numbers_length 0 n))
+stays_at n x h = let l = ltb-true _ _ h in numbers_index n x (omega (arith, l, length-numbers 0 n))
 
 pub below : (n x : ℕ) → has (numbers 0 n) x ≡ true → x < n
-below n x h = let l = ltb-true _ _ h in omega (arith, l, numbers_length 0 n)
+below n x h = let l = ltb-true _ _ h in omega (arith, l, length-numbers 0 n)
 
 module _ (env : Environment) (places : List ℕ) (t : Module) where
   abbrev m : Remap
@@ -91,7 +95,7 @@ module _ (env : Environment) (places : List ℕ) (t : Module) where
     pub datas : ListRel (R.of DataSegments) i.datas j.datas
 
   behind : (l xs : List ℕ) (k n : ℕ) → length l ≡ k → slice_get (l ++ xs) (k + n) ≡ slice_get xs n
-  behind l xs k n e = subst (λ z. slice_get (l ++ xs) (z + n) ≡ slice_get xs n) e (place_right l xs n)
+  behind l xs k n e = subst (λ z. slice_get (l ++ xs) (z + n) ≡ slice_get xs n) e (append_right l xs n)
 
   module _ (funcs : List tree.Func) (order : IsOrder places funcs t) (fit : Fits m t) where
     abbrev u : Module
@@ -105,19 +109,19 @@ module _ (env : Environment) (places : List ℕ) (t : Module) where
 
         go : (x < length (imported_funcs t.imports)) ⊎ (length (imported_funcs t.imports) ≤ x) → OptRel (R.of Functions) (slice_get (l ++ numbers (length (own_funcs env)) (length t.funcs)) x) (slice_get (l ++ numbers (length (own_funcs env)) (length funcs)) (slice_index m.funcs x))
         go (inl low) =
-            let same : slice_index m.funcs x ≡ x = index_at m.funcs x x (moved_low (length (imported_funcs t.imports)) places x low) in
+            let same : slice_index m.funcs x ≡ x = slice_index_is m.funcs x x (moved_low (length (imported_funcs t.imports)) places x low) in
             let lt : x < length l = omega (arith, low, size) in
-            opt_at (place_left l _ x lt) (ap (slice_get (l ++ numbers (length (own_funcs env)) (length funcs))) same ∙ place_left l _ x lt) (place_rel r x)
+            opt_at (append_left l _ x lt) (ap (slice_get (l ++ numbers (length (own_funcs env)) (length funcs))) same ∙ append_left l _ x lt) (place_rel r x)
         go (inr high) =
             let y = x - length (imported_funcs t.imports) in
             let back : length (imported_funcs t.imports) + y ≡ x = omega arith in
             let lt : y < length places = omega (arith, h, moved_length (length (imported_funcs t.imports)) places) in
-            let p = found places y lt in
-            let f = found t.funcs y (omega (arith, lt, order.size)) in
+            let p = slice_get_there places y lt in
+            let f = slice_get_there t.funcs y (omega (arith, lt, order.size)) in
             let moves : slice_get m.funcs x ≡ Some (length (imported_funcs t.imports) + p.0) = ap (slice_get m.funcs) (sym back) ∙ moved_high (length (imported_funcs t.imports)) places y ∙ ap (λ o. option_and_then (λ p. Some (length (imported_funcs t.imports) + p)) o) p.1 in
-            let there = within funcs p.0 _ (order.stands y p.0 p.1 ∙ ap (λ o. option_and_then (λ f. Some (new_func m f)) o) f.1) in
-            opt_at (ap (slice_get (l ++ numbers (length (own_funcs env)) (length t.funcs))) (sym back) ∙ behind l _ (length (imported_funcs t.imports)) y size ∙ place_numbers (length (own_funcs env)) (length t.funcs) y (omega (arith, lt, order.size)))
-            (ap (slice_get (l ++ numbers (length (own_funcs env)) (length funcs))) (index_at m.funcs x _ moves) ∙ behind l _ (length (imported_funcs t.imports)) p.0 size ∙ place_numbers (length (own_funcs env)) (length funcs) p.0 there)
+            let there = slice_get_within funcs p.0 _ (order.stands y p.0 p.1 ∙ ap (λ o. option_and_then (λ f. Some (new_func m f)) o) f.1) in
+            opt_at (ap (slice_get (l ++ numbers (length (own_funcs env)) (length t.funcs))) (sym back) ∙ behind l _ (length (imported_funcs t.imports)) y size ∙ numbers_at (length (own_funcs env)) (length t.funcs) y (omega (arith, lt, order.size)))
+            (ap (slice_get (l ++ numbers (length (own_funcs env)) (length funcs))) (slice_index_is m.funcs x _ moves) ∙ behind l _ (length (imported_funcs t.imports)) p.0 size ∙ numbers_at (length (own_funcs env)) (length funcs) p.0 there)
             (some (func_moves env places t y p.0 p.1))
 
     count_stays : (k : Space) (n : ℕ) → defined_count k u ≡ n → space env (one u) k 0 u ≡ option_and_then (λ l. Some (l ++ numbers (own_count k env) n)) (addresses env t.types t.imports k)
@@ -130,7 +134,7 @@ module _ (env : Environment) (places : List ℕ) (t : Module) where
     func_space : OptRel FuncsRel (space env (one t) Functions 0 t) (space env (one u) Functions 0 u)
     func_space =
         opt_at (space_is env t Functions) (count_stays Functions (length funcs) refl) (then_same (addresses env t.types t.imports Functions) (λ l is.
-        some (func_row l (opt_self (addresses_rel env places t t.types t.imports Functions) is) (all_length (address_in env t.types t.imports Functions) (import_places Functions t.imports) l is ∙ funcs_counted t.imports 0))))
+        some (func_row l (opt_self (addresses_rel env places t t.types t.imports Functions) is) (all_there_length (address_in env t.types t.imports Functions) (import_places Functions t.imports) l is ∙ funcs_counted t.imports 0))))
 
     pub insts_rel : OptRel InstRel (inst_of env (one t) 0 t) (inst_of env (one u) 0 u)
     insts_rel =

@@ -1,5 +1,6 @@
 -- Every import of the module matches where every one of its reordering does.
 use Rattle.std.proofs.Common.{◌≡◌, ℕ, zero, suc, List, [], ◌++◌, length, Some, false, refl, sym, ap, ap₂, ◌∙◌, option_and_then, slice_get, unwrap_or, ◌&&◌}
+use Rattle.base_lists.proofs.Numbers.{numbers_is}
 use Rattle.wasm_tree.specs.declared.space.Space.TheVariants.{Tables, Memories, Globals}
 use Rattle.wasm_tree.specs.declared.types.TableType.{TableType}
 use Rattle.wasm_tree.specs.declared.module.Func as tree
@@ -17,16 +18,13 @@ use Rattle.index_remap.specs.Renumbered.{new_import}
 use Rattle.index_remap.specs.Related.{Pairing, BothRel, both, TableRel}
 use Rattle.index_remap.specs.RelatedRuns.{ThingRel, a_func, a_table, a_memory, a_global}
 use Rattle.permuted_worlds.specs.Permuted.{moving, permuted}
-use Rattle.index_remap.proofs.Rel.{length_rel}
-use Rattle.permuted_worlds.proofs.Places.{map_length, number_at, then_eq, place_rel}
+use Rattle.index_remap.proofs.Rel.{length_rel, same_there}
+use Rattle.permuted_worlds.proofs.Places.{map_length, then_eq, place_rel}
 use Rattle.permuted_worlds.specs.Alone.{one, site, thing_in}
 use Rattle.permuted_worlds.proofs.Alone.{thing_is, on_some}
 use Rattle.permuted_worlds.proofs.Partners.{pairing, partner, thing_rel}
 use Rattle.permuted_worlds.proofs.Instances.{Fits, imports_stay}
 use Rattle.permuted_worlds.proofs.Allocated.{Alike, stores_rel}
-
-both_same : {A : Type 0} {o p : Outcome A} → BothRel (◌≡◌ {A = A}) o p → o ≡ p
-both_same (both e) = ap Gives e
 
 module _ (env : Environment) (places : List ℕ) (t : Module) (funcs : List tree.Func) (fit : Fits (moving places t) t) (s z : Store) (like : Alike env places t s z) where
   abbrev m : Remap
@@ -43,14 +41,14 @@ module _ (env : Environment) (places : List ℕ) (t : Module) (funcs : List tree
       ap (λ ty. same_ref l.ty ty && meets (length v.slots) v.most l.limits) r.type ∙ ap₂ (λ n most. same_ref l.ty w.ty && meets n most l.limits) (length_rel r.slots) r.most
 
   match_same : (d : ImportDesc) {x y : Thing} → ThingRel R x y → is_match s t d x ≡ is_match z u d y
-  match_same (im.Func ty) (a_func p) = on_some (slice_get t.types ty) (λ v. ap (λ o. option_and_then (λ w. Some (same_func_type v w)) (given o)) (both_same ((stores_rel env places t like).types p)))
+  match_same (im.Func ty) (a_func p) = on_some (slice_get t.types ty) (λ v. ap (λ o. option_and_then (λ w. Some (same_func_type v w)) (given o)) (same_there ((stores_rel env places t like).types p)))
   match_same (im.Table l) (a_table {a = a} {b = b} p) =
-      then_eq (place_rel like.tables a) (λ _ _ r. ap Some (table_same l r)) ∙ ap (λ c. option_and_then (λ w. Some (same_ref l.ty w.ty && meets (length w.slots) w.most l.limits)) (slice_get z.tables c)) (number_at _ a b (partner env places t Tables a b p)).1
+      then_eq (place_rel like.tables a) (λ _ _ r. ap Some (table_same l r)) ∙ ap (λ c. option_and_then (λ w. Some (same_ref l.ty w.ty && meets (length w.slots) w.most l.limits)) (slice_get z.tables c)) (numbers_is _ a b (partner env places t Tables a b p)).1
   match_same (im.Memory l) (a_memory {a = a} {b = b} p) =
-      then_eq (place_rel like.mems a) (λ _ _ r. ap (λ w. Some (meets w.pages w.most l)) r) ∙ ap (λ c. option_and_then (λ w. Some (meets w.pages w.most l)) (slice_get z.mems c)) (number_at _ a b (partner env places t Memories a b p)).1
+      then_eq (place_rel like.mems a) (λ _ _ r. ap (λ w. Some (meets w.pages w.most l)) r) ∙ ap (λ c. option_and_then (λ w. Some (meets w.pages w.most l)) (slice_get z.mems c)) (numbers_is _ a b (partner env places t Memories a b p)).1
   match_same (im.Global l) (a_global {a = a} {b = b} p) =
       then_eq (place_rel like.globals a) (λ _ _ r. ap (λ ty. Some (same_type l.ty ty.ty && same_bool l.mutable ty.mutable)) r.type)
-      ∙ ap (λ c. option_and_then (λ w. Some (same_type l.ty w.ty.ty && same_bool l.mutable w.ty.mutable)) (slice_get z.globals c)) (number_at _ a b (partner env places t Globals a b p)).1
+      ∙ ap (λ c. option_and_then (λ w. Some (same_type l.ty w.ty.ty && same_bool l.mutable w.ty.mutable)) (slice_get z.globals c)) (numbers_is _ a b (partner env places t Globals a b p)).1
   match_same _ _ = refl
 
   matched_same : (n : ℕ) → is_matched env (one t) s (site n) ≡ is_matched env (one u) z (site n)

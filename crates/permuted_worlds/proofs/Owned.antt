@@ -1,6 +1,7 @@
 -- The environment's own entities, where each has its address in both worlds.
 use Rattle.std.proofs.Common.{◌≡◌, ℕ, suc, ◌+◌, ◌^◌, ◌<◌, ◌≤◌, List, [], ◌∷◌, map, length, Option, Some, None, Bool, true, false, cond, refl, sym, ap₂, subst, ◌∙◌, arith}
 use Rattle.std.specs.Prelude.{nat_lt}
+use Rattle.std.proofs.lemmas.List.{length-append}
 use Rattle.wasm_tree.specs.declared.types.RefType.{RefType}
 use Rattle.wasm_tree.specs.declared.types.RefType.TheVariants as reft
 use Rattle.wasm_tree.specs.declared.types.ValType.{ValType}
@@ -15,7 +16,7 @@ use Rattle.index_remap.specs.Related.{Pairing, OptRel, none, some, ResRel, done,
 use Rattle.index_remap.specs.RelatedRuns.{ThingRel, a_func, a_table, a_memory, a_global, KeyRel}
 use Rattle.index_remap.proofs.Rel.{append_rel}
 use Rattle.permuted_worlds.specs.Owned.{SharesOwn, OwnCorrespond}
-use Rattle.permuted_worlds.proofs.Places.{append_length, map_length, opt_self, self_rel, maps_rel}
+use Rattle.permuted_worlds.proofs.Places.{map_length, opt_self, self_rel, maps_rel}
 
 pub null_rel : (R : Pairing) (ty : RefType) → RefRel R (null_of ty) (null_of ty)
 null_rel R reft.Func = func none
@@ -34,7 +35,7 @@ module _ (R : Pairing) (env : Environment) (own : SharesOwn R env) where
 
   flat_length : {A B C : Type 0} (f : A → List B) (g : A → List C) → ((a : A) → length (f a) ≡ length (g a)) → (xs : List A) → length (flat f xs) ≡ length (flat g xs)
   flat_length f g h [] = refl
-  flat_length f g h (x ∷ xs) = append_length (f x) (flat f xs) ∙ ap₂ (λ a b. a + b) (h x) (flat_length f g h xs) ∙ sym (append_length (g x) (flat g xs))
+  flat_length f g h (x ∷ xs) = length-append (f x) (flat f xs) ∙ ap₂ (λ a b. a + b) (h x) (flat_length f g h xs) ∙ sym (length-append (g x) (flat g xs))
 
   one_length : {A B C : Type 0} (f : A → B) (g : A → C) (o : Option A) → length (one_if f o) ≡ length (one_if g o)
   one_length f g None = refl

@@ -4,6 +4,7 @@ use Rattle.wasm_tree.specs.declared.space.Space.{Space}
 use Rattle.wasm_tree.specs.declared.space.Space.TheVariants.{Types, Functions, Tables, Memories, Globals, ElementSegments, DataSegments}
 use Rattle.std.specs.Prelude.{nat_eq}
 use Rattle.std.proofs.lemmas.Bool.{eqb-true, eq-eqb}
+use Rattle.base_lists.proofs.Numbers.{numbers_at, numbers_is}
 use Rattle.wasm_tree.specs.declared.types.FuncType.{FuncType}
 use Rattle.wasm_tree.specs.declared.module.Func as tree
 use Rattle.wasm_tree.specs.declared.module.Import.{Import}
@@ -16,7 +17,7 @@ use Rattle.index_remap.specs.Related.{Pairing, OneToOne, OptRel, none, some, Lis
 use Rattle.index_remap.specs.RelatedRuns.{ThingRel, a_func, a_table, a_memory, a_global}
 use Rattle.index_remap.specs.Laws.{passed}
 use Rattle.permuted_worlds.specs.Permuted.{moved, IsOrder}
-use Rattle.permuted_worlds.proofs.Places.{place_numbers, number_at, moved_low, moved_high, Moves, stays, goes, moves_by, then_rel, then_same, self_rel, all_rel}
+use Rattle.permuted_worlds.proofs.Places.{moved_low, moved_high, Moves, stays, goes, moves_by, then_rel, then_same, self_rel, all_rel}
 use Rattle.permuted_worlds.proofs.Owned.{given_rel, owned_rel}
 use Rattle.permuted_worlds.specs.Owned.{SharesOwn}
 use Rattle.permuted_worlds.specs.Alone.{key_in, thing_in, addresses}
@@ -60,7 +61,7 @@ module _ (env : Environment) (places : List ℕ) (t : Module) where
   stands k a b h = entry_is _ b h
 
   in_row : (n a : ℕ) → a < n → slice_get (numbers 0 n) a ≡ Some a
-  in_row n a h = place_numbers 0 n a h ∙ (let e : 0 + a ≡ a = omega arith in ap Some e)
+  in_row n a h = numbers_at 0 n a h ∙ (let e : 0 + a ≡ a = omega arith in ap Some e)
 
   pub func_moves : (i p : ℕ) → slice_get places i ≡ Some p → R.of Functions (length (own_funcs env) + i) (length (own_funcs env) + p)
   func_moves i p h = stands Functions _ _ (moved_high (length (own_funcs env)) places i ∙ ap (λ o. option_and_then (λ p. Some (length (own_funcs env) + p)) o) h)
@@ -89,7 +90,7 @@ module _ (env : Environment) (places : List ℕ) (t : Module) where
   row_right n a b c p q = let e : Some b ≡ Some c = sym p ∙ q in cc
 
   row_left : (n a b c : ℕ) → slice_get (numbers 0 n) a ≡ Some c → slice_get (numbers 0 n) b ≡ Some c → a ≡ b
-  row_left n a b c p q = (number_at n a c p).1 ∙ sym (number_at n b c q).1
+  row_left n a b c p q = (numbers_is n a c p).1 ∙ sym (numbers_is n b c q).1
 
   moves_left : {funcs : List tree.Func} → IsOrder places funcs t → (k a b c : ℕ) → Moves k places a c → Moves k places b c → a ≡ b
   moves_left o k a b c (stays l e) (stays m f) = e ∙ sym f

@@ -6,34 +6,13 @@ use Rattle.wasm_meaning.specs.Outcomes.{Outcome, Gives, IllTyped, at}
 use Rattle.wasm_meaning.specs.World.{numbers, all_there}
 pub use Rattle.base_lists.proofs.Bools.{left_true, right_true}
 use Rattle.std.specs.List.{list_all}
+use Rattle.std.proofs.lemmas.List.{length-append}
+use Rattle.base_lists.proofs.Numbers.{length-numbers, numbers_at}
+use Rattle.base_lists.proofs.Places.{append_left, append_right}
 use Rattle.index_remap.specs.Related.{OptRel, none, some, ResRel, done, wrong, BothRel, both, ListRel, nil, cons}
 use Rattle.permuted_worlds.specs.Permuted.{moved}
 
 -- ---- places ----
-
-pub index_at : (xs : List ℕ) (n v : ℕ) → slice_get xs n ≡ Some v → slice_index xs n ≡ v
-index_at [] n v h = cc
-index_at (x ∷ xs) zero v h = cc
-index_at (x ∷ xs) (suc n) v h = index_at xs n v h
-
-pub found : {A : Type 0} (xs : List A) (n : ℕ) → n < length xs → (x : A) × (slice_get xs n ≡ Some x)
-found [] n h = absurd (omega arith)
-found (x ∷ xs) zero h = (x, refl)
-found (x ∷ xs) (suc n) h = found xs n (omega arith)
-
-pub within : {A : Type 0} (xs : List A) (n : ℕ) (x : A) → slice_get xs n ≡ Some x → n < length xs
-within [] n x h = cc
-within (y ∷ xs) zero x h = omega arith
-within (y ∷ xs) (suc n) x h = let l = within xs n x h in omega (arith, l)
-
-pub place_left : {A : Type 0} (xs ys : List A) (n : ℕ) → n < length xs → slice_get (xs ++ ys) n ≡ slice_get xs n
-place_left [] ys n h = absurd (omega arith)
-place_left (x ∷ xs) ys zero h = refl
-place_left (x ∷ xs) ys (suc n) h = place_left xs ys n (omega arith)
-
-pub place_right : {A : Type 0} (xs ys : List A) (n : ℕ) → slice_get (xs ++ ys) (length xs + n) ≡ slice_get ys n
-place_right [] ys n = let e : zero + n ≡ n = omega arith in ap (slice_get ys) e
-place_right (x ∷ xs) ys n = let e : suc (length xs) + n ≡ suc (length xs + n) = omega arith in ap (slice_get (x ∷ (xs ++ ys))) e ∙ place_right xs ys n
 
 pub place_map : {A B : Type 0} (f : A → B) (xs : List A) (n : ℕ) → slice_get (map f xs) n ≡ option_and_then (λ x. Some (f x)) (slice_get xs n)
 place_map f [] n = refl
@@ -44,45 +23,21 @@ pub map_length : {A B : Type 0} (f : A → B) (xs : List A) → length (map f xs
 map_length f [] = refl
 map_length f (x ∷ xs) = ap suc (map_length f xs)
 
-pub append_length : {A : Type 0} (xs ys : List A) → length (xs ++ ys) ≡ length xs + length ys
-append_length [] ys = omega arith
-append_length (x ∷ xs) ys = let e = append_length xs ys in omega (arith, e)
-
 -- ---- numbers in a row ----
-
-pub numbers_length : (k n : ℕ) → length (numbers k n) ≡ n
-numbers_length k zero = refl
-numbers_length k (suc n) = ap suc (numbers_length (suc k) n)
-
-pub place_numbers : (k n i : ℕ) → i < n → slice_get (numbers k n) i ≡ Some (k + i)
-place_numbers k zero i h = absurd (omega arith)
-place_numbers k (suc n) zero h = let e : k ≡ k + zero = omega arith in ap Some e
-place_numbers k (suc n) (suc i) h = place_numbers (suc k) n i (omega arith) ∙ (let e : suc k + i ≡ k + suc i = omega arith in ap Some e)
-
-pub index_numbers : (n i : ℕ) → i < n → slice_index (numbers 0 n) i ≡ i
-index_numbers n i h = index_at (numbers 0 n) i i (place_numbers 0 n i h ∙ (let e : 0 + i ≡ i = omega arith in ap Some e))
-
-pub number_at : (n i v : ℕ) → slice_get (numbers 0 n) i ≡ Some v → (i < n) × (i ≡ v)
-number_at n i v h =
-    let l = within (numbers 0 n) i v h in
-    let m : i < n = omega (arith, l, numbers_length 0 n) in
-    let e : Some (0 + i) ≡ Some v = sym (place_numbers 0 n i m) ∙ h in
-    let same : 0 + i ≡ v = cc in
-    (m, omega (arith, same))
 
 -- ---- moved places ----
 
 pub moved_low : (k : ℕ) (places : List ℕ) (i : ℕ) → i < k → slice_get (moved k places) i ≡ Some i
 moved_low k places i h =
-    let l : i < length (numbers 0 k) = omega (arith, numbers_length 0 k) in
-    place_left (numbers 0 k) (map (λ p. k + p) places) i l ∙ place_numbers 0 k i h ∙ (let e : 0 + i ≡ i = omega arith in ap Some e)
+    let l : i < length (numbers 0 k) = omega (arith, length-numbers 0 k) in
+    append_left (numbers 0 k) (map (λ p. k + p) places) i l ∙ numbers_at 0 k i h ∙ (let e : 0 + i ≡ i = omega arith in ap Some e)
 
 pub moved_high : (k : ℕ) (places : List ℕ) (i : ℕ) → slice_get (moved k places) (k + i) ≡ option_and_then (λ p. Some (k + p)) (slice_get places i)
 moved_high k places i =
-    ap (λ n. slice_get (moved k places) (n + i)) (sym (numbers_length 0 k)) ∙ place_right (numbers 0 k) (map (λ p. k + p) places) i ∙ place_map (λ p. k + p) places i
+    ap (λ n. slice_get (moved k places) (n + i)) (sym (length-numbers 0 k)) ∙ append_right (numbers 0 k) (map (λ p. k + p) places) i ∙ place_map (λ p. k + p) places i
 
 pub moved_length : (k : ℕ) (places : List ℕ) → length (moved k places) ≡ k + length places
-moved_length k places = append_length (numbers 0 k) (map (λ p. k + p) places) ∙ ap₂ (λ a b. a + b) (numbers_length 0 k) (map_length (λ p. k + p) places)
+moved_length k places = length-append (numbers 0 k) (map (λ p. k + p) places) ∙ ap₂ (λ a b. a + b) (length-numbers 0 k) (map_length (λ p. k + p) places)
 
 -- it stays, or its place goes to another
 pub data Moves (k : ℕ) (places : List ℕ) (a b : ℕ) : Type 0 where
@@ -165,37 +120,6 @@ maps_rel f g nil = nil
 maps_rel f g (cons p r) = cons p (maps_rel f g r)
 
 -- ---- where all are there ----
-
-pub all_same : {A B : Type 0} {f g : A → Option B} → ((x : A) → f x ≡ g x) → (xs : List A) → all_there f xs ≡ all_there g xs
-all_same h [] = refl
-all_same h (x ∷ xs) = ap₂ (λ o p. option_and_then (λ y. option_and_then (λ ys. Some (y ∷ ys)) p) o) (h x) (all_same h xs)
-
-pub all_length : {A B : Type 0} (f : A → Option B) (xs : List A) (ys : List B) → all_there f xs ≡ Some ys → length ys ≡ length xs
-all_length f [] ys h = let e : [] ≡ ys = cc in ap length (sym e)
-all_length f (x ∷ xs) ys h = go (f x) (all_there f xs) (all_length f xs) h
-  where
-    go : (o : Option _) (p : Option (List _)) → ((zs : List _) → p ≡ Some zs → length zs ≡ length xs) → option_and_then (λ y. option_and_then (λ zs. Some (y ∷ zs)) p) o ≡ Some ys → length ys ≡ suc (length xs)
-    go None p ih e = cc
-    go (Some y) None ih e = cc
-    go (Some y) (Some zs) ih e = let same : y ∷ zs ≡ ys = cc in ap length (sym same) ∙ ap suc (ih zs refl)
-
--- each is there, and what is there stands at its place
-pub record AllThere {A B : Type 0} (f : A → Option B) (xs : List A) : Type 0 where
-  pub results : List B
-  pub are : all_there f xs ≡ Some results
-  pub places : (n : ℕ) → slice_get results n ≡ option_and_then f (slice_get xs n)
-
-pub each_there : {A B : Type 0} (f : A → Option B) (xs : List A) → ((n : ℕ) (x : A) → slice_get xs n ≡ Some x → (y : B) × (f x ≡ Some y)) → AllThere f xs
-each_there f [] h = record { results = []; are = refl; places = λ n. refl }
-each_there {B = B} f (x ∷ xs) h =
-    let y = h zero x refl in
-    let rest = each_there f xs (λ n. h (suc n)) in
-    let are : all_there f (x ∷ xs) ≡ Some (y.0 ∷ rest.results) = ap₂ (λ o p. option_and_then (λ y. option_and_then (λ ys. Some (y ∷ ys)) p) o) y.1 rest.are in
-    record { results = y.0 ∷ rest.results; are = are; places = at_place y.0 y.1 rest.results rest.places }
-  where
-    at_place : (y : B) → f x ≡ Some y → (ys : List B) → ((n : ℕ) → slice_get ys n ≡ option_and_then f (slice_get xs n)) → (n : ℕ) → slice_get (y ∷ ys) n ≡ option_and_then f (slice_get (x ∷ xs) n)
-    at_place y e ys ih zero = sym e
-    at_place y e ys ih (suc n) = ih n
 
 -- ---- places as the steps look them up ----
 

@@ -3,6 +3,7 @@ use Rattle.std.specs.List.{list_all}
 use Rattle.std.proofs.Common.{◌≡◌, ℕ, List, [], ◌∷◌, ◌++◌, map, Option, Bool, true, false, cond, refl, sym, ap, ap₂, subst, ◌∙◌, option_and_then, slice_get, slice_set}
 use Rattle.wasm_tree.specs.declared.space.Space.TheVariants.{Tables, Memories, ElementSegments, DataSegments}
 use Rattle.std.specs.Prelude.{slice_index}
+use Rattle.base_lists.proofs.Numbers.{numbers_is}
 use Rattle.wasm_tree.specs.declared.module.Func as tree
 use Rattle.wasm_tree.specs.declared.module.ElemSeg.{ElemSeg}
 use Rattle.wasm_tree.specs.declared.module.ElemMode.{ElemMode}
@@ -22,7 +23,7 @@ use Rattle.index_remap.specs.Related.{Pairing, OptRel, none, some, ResRel, done,
 use Rattle.index_remap.proofs.Rel.{put_rel, overwrite_rel}
 use Rattle.permuted_worlds.specs.Permuted.{moving, IsOrder, permuted}
 use Rattle.permuted_worlds.proofs.Named.{FittingCodeIsRelated}
-use Rattle.permuted_worlds.proofs.Places.{left_true, right_true, number_at, then_rel, then_same, place_rel, put_length}
+use Rattle.permuted_worlds.proofs.Places.{left_true, right_true, then_rel, then_same, place_rel, put_length}
 use Rattle.permuted_worlds.specs.Alone.{one}
 use Rattle.permuted_worlds.proofs.Partners.{pairing, partner}
 use Rattle.permuted_worlds.proofs.Instances.{Fits, stays_at, InstRel}
@@ -102,7 +103,7 @@ module _ (env : Environment) (places : List ℕ) (t : Module) where
 
     copy_elem_rel : {s z : Store} {n l : ℕ} (x : ℕ) (o : Option ℕ) → Alike env places t s z → n ≡ l → FilledRel (copy_elem s n i x o) (copy_elem z l j x o)
     copy_elem_rel x o like e = or_trapped_rel like (then_same o (λ q _. then_rel (place_rel k.tables x) (λ a b h.
-        let d = (number_at _ a b (partner env places t Tables a b h)).1 in
+        let d = (numbers_is _ a b (partner env places t Tables a b h)).1 in
         same_place like.tables d (λ v w r. same_place like.elems e (λ _ _ y. some (fill_table_rel like e d r (overwrite_rel q r.slots y.items)))))))
 
     elem_rel : {s z : Store} {n l : ℕ} (e : ElemSeg) → fits_elem m e ≡ true → Alike env places t s z → n ≡ l →
@@ -120,11 +121,11 @@ module _ (env : Environment) (places : List ℕ) (t : Module) where
         FilledRel (in_turn (run_elem env (one t) (i ∷ [])) s (tasks_in 0 i ns es ++ [])) (in_turn (run_elem env (one u) (j ∷ [])) z (tasks_in 0 j ls (map (new_elem m) es) ++ []))
     elems_turn es h nil like = record { store = like; trapped = refl }
     elems_turn [] h (cons p r) like = record { store = like; trapped = refl }
-    elems_turn (e ∷ es) h (cons {a = n} {b = l} p r) like = and_then_rel (elem_rel e (left_true _ _ h) like (number_at _ n l (partner env places t ElementSegments n l p)).1) (λ s z like. elems_turn es (right_true (fits_elem m e) _ h) r like)
+    elems_turn (e ∷ es) h (cons {a = n} {b = l} p r) like = and_then_rel (elem_rel e (left_true _ _ h) like (numbers_is _ n l (partner env places t ElementSegments n l p)).1) (λ s z like. elems_turn es (right_true (fits_elem m e) _ h) r like)
 
     copy_data_rel : {s z : Store} {n l : ℕ} (x : ℕ) (o : Option ℕ) → Alike env places t s z → n ≡ l → FilledRel (copy_data s n i x o) (copy_data z l j x o)
     copy_data_rel {s} {z} {n} {l} x o like e = or_trapped_rel like (then_same o (λ q _. then_rel (place_rel k.mems x) (λ a b h.
-        let d = (number_at _ a b (partner env places t Memories a b h)).1 in
+        let d = (numbers_is _ a b (partner env places t Memories a b h)).1 in
         same_place like.mems d (λ v w r. same_place like.datas e (λ x y same. some (subst (λ p. FilledRel (fill_memory s n a v (overwrite v.bytes q x.bytes)) (fill_memory z l b w p)) (ap₂ (λ c bytes. overwrite (Memory.bytes c) q bytes) r same) (fill_memory_rel (overwrite v.bytes q x.bytes) like e d r)))))))
 
     data_rel : {s z : Store} {n l : ℕ} (d : DataSeg) → fits_data m d ≡ true → Alike env places t s z → n ≡ l →
@@ -141,7 +142,7 @@ module _ (env : Environment) (places : List ℕ) (t : Module) where
         FilledRel (in_turn (run_data env (one t) (i ∷ [])) s (tasks_in 0 i ns ds ++ [])) (in_turn (run_data env (one u) (j ∷ [])) z (tasks_in 0 j ls (map (new_data m) ds) ++ []))
     datas_turn ds h nil like = record { store = like; trapped = refl }
     datas_turn [] h (cons p r) like = record { store = like; trapped = refl }
-    datas_turn (d ∷ ds) h (cons {a = n} {b = l} p r) like = and_then_rel (data_rel d (left_true _ _ h) like (number_at _ n l (partner env places t DataSegments n l p)).1) (λ s z like. datas_turn ds (right_true (fits_data m d) _ h) r like)
+    datas_turn (d ∷ ds) h (cons {a = n} {b = l} p r) like = and_then_rel (data_rel d (left_true _ _ h) like (numbers_is _ n l (partner env places t DataSegments n l p)).1) (λ s z like. datas_turn ds (right_true (fits_data m d) _ h) r like)
 
     pub segments_rel : {s z : Store} → Alike env places t s z → FilledRel (segments env (one t) (i ∷ []) s) (segments env (one u) (j ∷ []) z)
     segments_rel like = and_then_rel (elems_turn t.elems fit.elems k.elems like) (λ s z like. datas_turn t.datas fit.datas k.datas like)

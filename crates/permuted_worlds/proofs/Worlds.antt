@@ -2,6 +2,8 @@
 use Rattle.std.proofs.Common.{◌≡◌, ℕ, ◌≤◌, List, [], ◌∷◌, ◌++◌, map, length, Option, Some, None, Bool, true, false, cond, refl, ap, subst, ◌∙◌, arith, option_and_then}
 use Rattle.wasm_tree.specs.declared.space.Space.TheVariants.{Functions}
 use Rattle.std.proofs.lemmas.Bool.{ltb-true}
+use Rattle.std.proofs.lemmas.List.{length-append}
+use Rattle.base_lists.proofs.Numbers.{length-numbers}
 use Rattle.wasm_tree.specs.declared.module.Func as tree
 use Rattle.wasm_tree.specs.declared.module.Export.{Export}
 use Rattle.wasm_tree.specs.declared.module.ExportDesc.{ExportDesc}
@@ -22,7 +24,7 @@ use Rattle.index_remap.proofs.Rel.{append_rel}
 use Rattle.remap_typing.specs.Trees.{Covers}
 use Rattle.permuted_worlds.specs.Permuted.{moving, IsOrder, permuted}
 use Rattle.permuted_worlds.proofs.Named.{FittingCodeIsRelated}
-use Rattle.permuted_worlds.proofs.Places.{map_length, append_length, numbers_length, moved_length, then_rel, tested_rel, maps_rel, all_rel}
+use Rattle.permuted_worlds.proofs.Places.{map_length, moved_length, then_rel, tested_rel, maps_rel, all_rel}
 use Rattle.permuted_worlds.specs.Alone.{one}
 use Rattle.permuted_worlds.proofs.Partners.{pairing, shares_own}
 use Rattle.permuted_worlds.proofs.Owned.{owned_rel}
@@ -35,7 +37,7 @@ use Rattle.permuted_worlds.proofs.Segments.{segments_rel}
 pub covers : (places : List ℕ) (funcs : List tree.Func) (t : Module) → IsOrder places funcs t → Covers (moving places t) t
 covers places funcs t order = record {
   types = row _;
-  funcs = let a = append_length (imported_funcs t.imports) (map (λ f. f.ty) t.funcs) in
+  funcs = let a = length-append (imported_funcs t.imports) (map (λ f. f.ty) t.funcs) in
       let b = map_length (λ f. f.ty) t.funcs in
       let c = moved_length (length (imported_funcs t.imports)) places in
       omega (arith, a, b, c, order.size);
@@ -47,7 +49,7 @@ covers places funcs t order = record {
 }
   where
     row : (n : ℕ) → n ≤ length (numbers 0 n)
-    row n = omega (arith, numbers_length 0 n)
+    row n = omega (arith, length-numbers 0 n)
 
 module _ (env : Environment) (places : List ℕ) (t : Module) (funcs : List tree.Func) (order : IsOrder places funcs t) (fit : Fits (moving places t) t) (code : FittingCodeIsRelated) where
   abbrev m : Remap

@@ -9,3 +9,4 @@ pub mod BodyRanges
 pub mod TreeRanges
 pub mod SizeLaws
 pub mod Inside
+mod Rows

@@ -2,6 +2,7 @@
 use Rattle.std.proofs.Common.{◌≡◌, ℕ, true, nat_lt, List, [], ◌∷◌, Option, Some, None, refl, sym, arith, true≢false}
 use Rattle.std.specs.Prelude.{slice_get}
 use Rattle.std.proofs.lemmas.Bool.{ltb-true, lt-ltb}
+use Rattle.base_lists.proofs.Options.{and_then_is}
 use Rattle.wasm_tree.specs.declared.types.RefType.{RefType}
 use Rattle.wasm_tree.specs.declared.types.ValType.{ValType}
 use Rattle.wasm_tree.specs.declared.types.FuncType.{FuncType}
@@ -20,7 +21,7 @@ use Rattle.index_remap.specs.declared.remap.Remap.{Remap}
 use Rattle.index_remap.specs.Renumbered.{has, has_entry, fits_all}
 use Rattle.remap_typing.specs.Along.{CoversContext}
 use Rattle.index_remap.specs.Agreement.{labelled}
-use Rattle.remap_typing.proofs.Lists.{left_true, right_true, has_at, map_there, then_there, only_true, only_rest}
+use Rattle.remap_typing.proofs.Lists.{left_true, right_true, has_at, map_there, only_true, only_rest}
 
 both_there : (a b : Option RefType) → both a b ≡ true → (r : RefType) × (q : RefType) × (a ≡ Some r) × (b ≡ Some q)
 both_there None b h = absurd (true≢false (sym h))
@@ -59,22 +60,22 @@ module _ (m : Remap) (c : Context) (k : CoversContext m c) where
   plain_fits ls (Call x) e h =
       let s = map_there _ _ e h in
       let t = signature_there _ s.0 s.1 in
-      let f = then_there (slice_get c.funcs x) _ t.0 t.1 in
+      let f = and_then_is (slice_get c.funcs x) _ t.0 t.1 in
       (has_at c.funcs m.funcs x f.0 k.funcs f.1, tt)
   plain_fits ls (CallIndirect x y) e h =
-      let r = then_there (slice_get c.tables y) _ e h in
+      let r = and_then_is (slice_get c.tables y) _ e h in
       let s = map_there _ _ e (only_rest _ _ e r.2) in
       let t = signature_there _ s.0 s.1 in
       (type_has x t.0 t.1, (table_has y r.0 r.1, tt))
   plain_fits ls (GlobalGet x) e h = let g = map_there _ (slice_get c.globals x) e h in (has_at c.globals m.globals x g.0 k.globals g.1, tt)
-  plain_fits ls (GlobalSet x) e h = let g = then_there (slice_get c.globals x) _ e h in (has_at c.globals m.globals x g.0 k.globals g.1, tt)
+  plain_fits ls (GlobalSet x) e h = let g = and_then_is (slice_get c.globals x) _ e h in (has_at c.globals m.globals x g.0 k.globals g.1, tt)
   plain_fits ls (TableGet x) e h = let r = map_there _ (slice_get c.tables x) e h in (table_has x r.0 r.1, tt)
   plain_fits ls (TableSet x) e h = let r = map_there _ (slice_get c.tables x) e h in (table_has x r.0 r.1, tt)
   plain_fits ls (Load op a) e h = (memory_has a.memory (left_true _ _ (only_true _ _ e h)), tt)
   plain_fits ls (Store op a) e h = (memory_has a.memory (left_true _ _ (only_true _ _ e h)), tt)
   plain_fits ls (MemorySize x) e h = (memory_has x (only_true _ _ e h), tt)
   plain_fits ls (MemoryGrow x) e h = (memory_has x (only_true _ _ e h), tt)
-  plain_fits ls (RefFunc x) e h = let b = then_there (slice_get c.named x) _ e h in (has_at c.named m.funcs x b.0 k.refs b.1, tt)
+  plain_fits ls (RefFunc x) e h = let b = and_then_is (slice_get c.named x) _ e h in (has_at c.named m.funcs x b.0 k.refs b.1, tt)
   plain_fits ls (MemoryInit x y) e h = let b = only_true _ _ e h in (data_has x (left_true _ _ b), (memory_has y (right_true _ _ b), tt))
   plain_fits ls (DataDrop x) e h = (data_has x (only_true _ _ e h), tt)
   plain_fits ls (MemoryCopy x y) e h = let b = only_true _ _ e h in (memory_has x (left_true _ _ b), (memory_has y (right_true _ _ b), tt))

@@ -47,10 +47,6 @@ pub map_there : {A B : Type 0} (f : A → B) (o : Option A) (e : B) → option_m
 map_there f None e h = cc
 map_there f (Some x) e h = (x, refl)
 
-pub then_there : {A B : Type 0} (o : Option A) (f : A → Option B) (e : B) → option_and_then f o ≡ Some e → (x : A) × (o ≡ Some x) × (f x ≡ Some e)
-then_there None f e h = cc
-then_there (Some x) f e h = (x, refl, h)
-
 pub only_true : {A : Type 0} (b : Bool) (m : Option A) (e : A) → only b m ≡ Some e → b ≡ true
 only_true false m e h = cc
 only_true true m e h = refl

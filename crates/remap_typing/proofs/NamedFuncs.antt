@@ -1,6 +1,7 @@
 -- What `ref.func` names in well typed code, and code that stays well typed where other functions may be named and there are more element segments.
 use Rattle.std.proofs.Common.{◌≡◌, ℕ, Bool, true, false, nat_eq, List, [], ◌∷◌, ◌++◌, Some, refl, sym, ap, ◌∙◌, eq-eqb, ◌⊎◌, inl, inr, ⊎_elim, rules}
 use Rattle.std.specs.Prelude.{slice_get}
+use Rattle.base_lists.proofs.Options.{and_then_is}
 use Rattle.wasm_tree.specs.declared.types.RefType.{RefType}
 use Rattle.wasm_tree.specs.declared.types.ValType.{ValType}
 use Rattle.wasm_tree.specs.declared.types.BlockType.{BlockType}
@@ -10,7 +11,7 @@ use Rattle.wasm_typing.specs.Typing.{Stack, Effect, Context, effect_of, Ends, Fi
 use Rattle.index_remap.specs.References.{refs, refs_all, refs_step, is_among}
 use Rattle.index_remap.specs.Agreement.{Keeps, labelled}
 use Rattle.index_remap.proofs.Keeping.{keeps_map, keeps_only, both_keeps, named_keeps}
-use Rattle.remap_typing.proofs.Lists.{then_there, only_true, either_true, left_either, same_number, among_left, among_right, among_either}
+use Rattle.remap_typing.proofs.Lists.{only_true, either_true, left_either, same_number, among_left, among_right, among_either}
 use Rattle.index_remap.proofs.Rows.{block_is, loop_is, if_is}
 
 ends_map : (f g : Stack → Stack → Type 0) (ps rs : List ValType) → ((s t : Stack) → f s t → g s t) → Ends f ps rs → Ends g ps rs
@@ -48,7 +49,7 @@ module _ (c : Context) where
   plain_named ls (RefFunc y) e h x k = here (either_true (nat_eq x y) false k)
     where
       here : (nat_eq x y ≡ true) ⊎ (false ≡ true) → slice_get c.named x ≡ Some true
-      here (inl q) = let b = then_there (slice_get c.named y) _ e h in ap (slice_get c.named) (same_number x y q) ∙ b.1 ∙ ap Some (only_true b.0 _ e b.2)
+      here (inl q) = let b = and_then_is (slice_get c.named y) _ e h in ap (slice_get c.named) (same_number x y q) ∙ b.1 ∙ ap Some (only_true b.0 _ e b.2)
       here (inr q) = cc
   plain_named ls _ e h x k = cc
 

@@ -4,6 +4,7 @@ use Rattle.std.specs.Prelude.{slice_get, option_and_then}
 use Rattle.std.proofs.lemmas.Bool.{ltb-true, lt-ltb}
 use Rattle.std.proofs.lemmas.List.{length-map}
 use Rattle.std.proofs.lemmas.Option.{slice_get_within}
+use Rattle.base_lists.proofs.Options.{and_then_is}
 use Rattle.wasm_tree.specs.declared.types.ValType.{ValType}
 use Rattle.wasm_tree.specs.declared.types.RefType.{RefType}
 use Rattle.wasm_tree.specs.declared.types.FuncType.{FuncType}
@@ -36,7 +37,7 @@ use Rattle.index_remap.specs.Renumbered.{has, fits_const, fits_func, fits_import
 use Rattle.wasm_tree.specs.OperandLaws.{PassesLayerByLayer}
 use Rattle.remap_typing.specs.Along.{CoversContext}
 use Rattle.remap_typing.specs.Trees.{Covers}
-use Rattle.remap_typing.proofs.Lists.{both_true, has_at, then_there, only_true}
+use Rattle.remap_typing.proofs.Lists.{both_true, has_at, only_true}
 use Rattle.base_lists.proofs.Each.{list_all_from}
 use Rattle.remap_typing.proofs.Entries.{body_fits}
 use Rattle.remap_typing.proofs.WholeTrees.{ValidWhereItemsHold}
@@ -77,7 +78,7 @@ module _ (law : PassesLayerByLayer) (m : Remap) (t : Module) (k : Covers m t) wh
   const_fits (const.I64 v) ty h = refl
   const_fits (const.Null q) ty h = refl
   const_fits (const.Func f) ty h = has_here m.funcs (length (funcs_of t)) f k.funcs (ltb-true _ _ (only_true _ _ ty h))
-  const_fits (const.Global g) ty h = let z = then_there (slice_get (globals_of t) g) _ ty h in has_at (globals_of t) m.globals g z.0 k.globals z.1
+  const_fits (const.Global g) ty h = let z = and_then_is (slice_get (globals_of t) g) _ ty h in has_at (globals_of t) m.globals g z.0 k.globals z.1
 
   import_fits : (d : ImportDesc) → ImportHolds t d → fits_import_desc m d ≡ true
   import_fits (im.Func ty) h = has_here m.types (length t.types) ty k.types h

@@ -31,10 +31,11 @@ use Rattle.index_remap.specs.References.{is_among}
 use Rattle.remap_typing.specs.Indices.{Indices, with_entry, ConstNamesOnly, ImportNamesOnly, ExportNamesOnly, ElemModeNamesOnly, DataModeNamesOnly, FuncNamesOnly, TreeNamesOnly}
 use Rattle.remap_typing.specs.Trees.{TreesAgree, RefsAgree, ImportsAgree, ReadsImport, ConstStands, ElemModeStands, DataModeStands, ItemsStand, ItemStands, EachStands, active, passive, declarative}
 use Rattle.remap_typing.specs.ButForReferences.{IsValidButForReferences}
-use Rattle.remap_typing.proofs.Lists.{left_true, right_true, among_map, marked, is_marked, named_within, then_there, only_true}
+use Rattle.remap_typing.proofs.Lists.{left_true, right_true, among_map, marked, is_marked, named_within, only_true}
 use Rattle.base_lists.proofs.Places.{slice_get_there, map_at, map_from}
 use Rattle.base_lists.proofs.Each.{list_all_each}
 use Rattle.std.specs.List.{list_all}
+use Rattle.base_lists.proofs.Options.{and_then_is}
 use Rattle.wasm_tree.specs.OperandLaws.{PassesLayerByLayer}
 use Rattle.remap_typing.proofs.Items.{BodiesAreKept, const_kept, items_kept, items_weakly}
 
@@ -194,7 +195,7 @@ module _ (m : Remap) (kept : Indices) (t : Module) (k : TreesAgree m kept t (ren
   reads (const.Null q) ty h e = tt
   reads (const.Func f) ty h e = tt
   reads (const.Global g) ty h e =
-      let z = then_there (slice_get (globals_of t) g) _ ty e in
+      let z = and_then_is (slice_get (globals_of t) g) _ ty e in
       imports g h (ltb-true _ _ (left_true _ _ (only_true _ _ ty z.2)))
 
   const_stands : (e : ConstExpr) → ConstNamesOnly kept e → ConstStands t u e (new_const m e)

@@ -13,3 +13,4 @@ pub mod FileLaws
 pub mod BoundLaws
 pub mod Spoken
 pub mod CauseLaws
+mod Rows

@@ -1,4 +1,5 @@
 use Rattle.std.proofs.Common.{length, map, subst, sym, ap, arith, List, ◌∙◌}
+use Rattle.base_lists.proofs.Places.{map_twice}
 use Rattle.path_ends.specs.declared.follow.Step.{Step}
 use Rattle.path_ends.specs.Steps.{AreNamed, AreEndings}
 use Rattle.wasm_meaning.specs.Linking as linking
@@ -6,7 +7,7 @@ use Rattle.merge_terms.specs.Parts.{named_modules}
 use Rattle.merge_link.specs.declared.joining.Ending.{Ending}
 use Rattle.merge_link.specs.Sites.{the_site}
 use Rattle.merge_link.specs.Joining.{AreSteps, end_at, the_end}
-use Rattle.merge_link.proofs.Steps.{steps_named, endings_told, ending_stops, map_twice}
+use Rattle.merge_link.proofs.Steps.{steps_named, endings_told, ending_stops}
 use Rattle.merge_link.proofs.joining.Joining.ends.Goals as goal
 
 pub endings-requires-clause-there : goal.endings-requires-clause-there

@@ -1,5 +1,6 @@
 use Rattle.std.proofs.Common.{length, map, subst, sym, ap, arith, List, ◌≡◌, ◌∙◌}
 use Rattle.std.proofs.lemmas.List.{length-map}
+use Rattle.base_lists.proofs.Places.{map_twice}
 use Rattle.path_ends.specs.declared.follow.Step.{Step}
 use Rattle.path_ends.specs.Steps.{AreNamed, AreEndings}
 use Rattle.wasm_meaning.specs.Linking as linking
@@ -8,7 +9,7 @@ use Rattle.merge_terms.specs.Parts.{named_modules}
 use Rattle.merge_link.specs.declared.globals.OwnGlobal.{OwnGlobal}
 use Rattle.merge_link.specs.Globals.{own_read, own_reads, the_own, the_read, value_at}
 use Rattle.merge_link.specs.Joining.{AreSteps}
-use Rattle.merge_link.proofs.Steps.{steps_named, endings_told, map_twice}
+use Rattle.merge_link.proofs.Steps.{steps_named, endings_told}
 use Rattle.merge_link.proofs.joining.Joining.values.Goals as goal
 
 pub endings-requires-clause-there : goal.endings-requires-clause-there

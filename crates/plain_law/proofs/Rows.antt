@@ -1,0 +1,35 @@
+-- Numbers in range and past it, computed, and modules that are in range and out of it.
+use Rattle.std.proofs.Common.{◌≡◌, refl, sym, ◌∙◌, ℕ, List, [], ◌∷◌, Bool, true, false, Some, None, arith}
+use Rattle.std.specs.Prelude.{Result, pos}
+use Rattle.wasm_tree.specs.declared.instr.Instr.{Instr, fold_out-Instr}
+use Rattle.wasm_tree.specs.declared.instr.Instr.TheVariants.{Br, I32Const, MemorySize}
+use Rattle.wasm_tree.specs.declared.module.Module.{Module}
+use Rattle.wasm_tree.specs.Operands.{all_pass_step}
+use Rattle.plain_law.specs.Ranges.{InRange, all_in_range, number_step, small_operand}
+
+-- a module with a type of no parameters and no results, and a function of it
+abbrev with_body : List Instr → Module
+with_body body = record { types = record { params = []; results = [] } ∷ []; imports = []; funcs = record { ty = 0; locals = []; body = body } ∷ []; tables = []; mems = []; globals = []; exports = []; start = None; elems = []; datas = [] }
+
+-- a label is below 2^32, and an i32 constant below 2^31
+greatest_numbers : all_in_range (I32Const (pos 2147483647) ∷ Br 4294967295 ∷ []) ≡ true
+unfolding out-Instr denote.Hole.Carrier.out
+greatest_numbers = simp (fold_out-Instr Bool (all_pass_step small_operand), fold_out-Instr Bool number_step) refl
+
+a_greater_label : all_in_range (Br 4294967296 ∷ []) ≡ false
+unfolding out-Instr denote.Hole.Carrier.out
+a_greater_label = simp (fold_out-Instr Bool (all_pass_step small_operand), fold_out-Instr Bool number_step) refl
+
+a_greater_constant : all_in_range (I32Const (pos 2147483648) ∷ []) ≡ false
+unfolding out-Instr denote.Hole.Carrier.out
+a_greater_constant = simp (fold_out-Instr Bool (all_pass_step small_operand), fold_out-Instr Bool number_step) refl
+
+another_memory : all_in_range (MemorySize 1 ∷ []) ≡ false
+unfolding out-Instr denote.Hole.Carrier.out
+another_memory = simp (fold_out-Instr Bool (all_pass_step small_operand), fold_out-Instr Bool number_step) refl
+
+in_range : InRange (with_body (I32Const (pos 2147483647) ∷ Br 4294967295 ∷ []))
+in_range = record { imports = tt; funcs = ((omega arith, tt, greatest_numbers), tt); tables = tt; mems = tt; globals = tt; exports = tt; start = tt; elems = tt; datas = tt }
+
+out_of_range : InRange (with_body (Br 4294967296 ∷ [])) → true ≡ false
+out_of_range r = sym r.funcs.0.2 ∙ a_greater_label
