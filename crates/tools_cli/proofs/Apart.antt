@@ -6,7 +6,7 @@ use Rattle.std.proofs.lemmas.List.{map-append, take-append-drop, get_or_default}
 use Rattle.std.proofs.lemmas.List.Folds.{list_any-append}
 use Rattle.std.proofs.Math.Seq.{drop-cons}
 use Rattle.base_lists.proofs.Walk.{mapped_more}
-use Rattle.wasm_valid.proofs.Repeats.{swapped}
+use Rattle.wasm_valid.proofs.Repeats.{equivalence}
 use Rattle.std.proofs.lemmas.Slice.Eq.{bytes_eq-Decides}
 use Rattle.export_names.specs.Names.{AreDistinct}
 use Rattle.merge_terms.specs.Parts.{named_module, named_modules, HaveDistinctNames}
@@ -33,7 +33,7 @@ and_false true b e = refl
 and_false false b e = e
 
 any_one_more : (x y : Text) (ys rest : List Text) → list_any (bytes_eq y) (ys ++ x ∷ rest) ≡ (list_any (bytes_eq y) ys || (bytes_eq x y || list_any (bytes_eq y) rest))
-any_one_more x y ys rest = list_any-append (bytes_eq y) ys (x ∷ rest) ∙ ap (λ b. list_any (bytes_eq y) ys || (b || list_any (bytes_eq y) rest)) (swapped y x)
+any_one_more x y ys rest = list_any-append (bytes_eq y) ys (x ∷ rest) ∙ ap (λ b. list_any (bytes_eq y) ys || (b || list_any (bytes_eq y) rest)) (equivalence.symm y x)
 
 -- one name more, unlike those before it
 apart_one_more : (xs : List Text) (x : Text) → are_apart xs ≡ true → list_any (bytes_eq x) xs ≡ false → are_apart (xs ++ x ∷ []) ≡ true
