@@ -1,7 +1,7 @@
 -- What the law of merged modules asks of the parts holds of some, and not of all.
 use Rattle.std.proofs.Common.{◌≡◌, refl, sym, ◌∙◌, ℕ, [], ◌∷◌, List, None, Bool, true, false, ◌&&◌, arith}
 use Rattle.base_lists.specs.Every.{Every}
-use Rattle.wasm_tree.specs.declared.instr.Instr.{fold_out-Instr}
+use Rattle.wasm_tree.specs.declared.instr.Instr.{out-Instr, fold_out-Instr}
 use Rattle.wasm_tree.specs.declared.instr.Instr.TheVariants.{Br}
 use Rattle.wasm_tree.specs.declared.module.Module.{Module}
 use Rattle.wasm_meaning.specs.Linking.{Part}

@@ -1,7 +1,7 @@
 -- Numbers in range and past it, computed, and modules that are in range and out of it.
 use Rattle.std.proofs.Common.{◌≡◌, refl, sym, ◌∙◌, ℕ, List, [], ◌∷◌, Bool, true, false, Some, None, arith}
-use Rattle.std.specs.Prelude.{Result, pos}
-use Rattle.wasm_tree.specs.declared.instr.Instr.{Instr, fold_out-Instr}
+use Rattle.std.specs.Prelude.{pos}
+use Rattle.wasm_tree.specs.declared.instr.Instr.{Instr, out-Instr, fold_out-Instr}
 use Rattle.wasm_tree.specs.declared.instr.Instr.TheVariants.{Br, I32Const, MemorySize}
 use Rattle.wasm_tree.specs.declared.module.Module.{Module}
 use Rattle.wasm_tree.specs.Operands.{all_pass_step}
