@@ -99,8 +99,8 @@ PARTS = [
     ("reading sections", "wasm_read::sections::read_section"),
     ("typing bodies", "wasm_typing::check::is_well_typed"),
     ("joining", "merge_join::tree::joined_tree"),
-    ("renumbering bodies, in joining", "index_remap::body::renumber_all"),
-    ("measuring the code section", "wasm_write::sections::fit_code_section"),
+    ("renumbering bodies, in joining", "index_remap::in_place::renumber_all_in_place"),
+    ("measuring", "wasm_write::fits"),
     ("writing", "wasm_write::write"),
 ]
 
