@@ -112,15 +112,6 @@ impl Renumber for Func {
     }
 }
 
-/// A function with other indices (WebAssembly Core 2.0, section 2.5.3). The map needs an entry for each index that it names. Its body is walked by a recursion
-/// as deep as its blocks are nested.
-pub fn renumber_func(alloc: Global, func: &Func, map: &Remap) -> Result<Func, NoMemory>
-    requires fits { IsTrue (fits_func map.now func.now) }
-    ensures { IfOk result (λ new. new ≡ new_func map.now func.now) }
-{
-    func.renumber(alloc, map)
-}
-
 impl Renumber for GlobalDef {
     ghost renewed = { new_global };
 
