@@ -6,6 +6,7 @@ ghost use Rattle.index_remap.specs.declared.remap.Remap.{Remap as Maps};
 ghost use Rattle.index_remap.specs.Renumbered.{new_const, new_import, new_func, new_global, new_export, new_elem, new_data, any_type, fits_const, fits_import, fits_func, fits_global, fits_export, fits_elem, fits_data};
 
 use crate::body::renumber_all;
+use crate::in_place::{rewrite_all, rewrite_each};
 use crate::remap::{
     Remap, entry, renumber_const, renumber_data_mode, renumber_elem_mode, renumber_export_desc,
     renumber_import_desc,
@@ -25,6 +26,11 @@ pub(crate) trait Renumber: Drop {
     fn renumber(&self, alloc: Global, map: &Remap) -> Result<Self, NoMemory>
         requires fits { IsTrue (has_entries map.now self.now) }
         ensures ok { IfOk result (λ new. new ≡ renewed map.now self.now) };
+
+    /// Gives it other indices where it stands.
+    fn rewrite(&mut self, map: &Remap)
+        requires fits { IsTrue (has_entries map.now self.old) }
+        ensures { self.new ≡ renewed map.now self.old };
 }
 
 /// All of them, in order.
@@ -51,6 +57,8 @@ impl Renumber for FuncType {
     fn renumber(&self, alloc: Global, _map: &Remap) -> Result<FuncType, NoMemory> {
         self.copy(alloc)
     }
+
+    fn rewrite(&mut self, _map: &Remap) {}
 }
 
 impl Renumber for ConstExpr {
@@ -60,6 +68,10 @@ impl Renumber for ConstExpr {
 
     fn renumber(&self, _alloc: Global, map: &Remap) -> Result<ConstExpr, NoMemory> {
         Ok(renumber_const(*self, map))
+    }
+
+    fn rewrite(&mut self, map: &Remap) {
+        *self = renumber_const(*self, map);
     }
 }
 
@@ -75,6 +87,10 @@ impl Renumber for Import {
             desc: renumber_import_desc(self.desc, map),
         })
     }
+
+    fn rewrite(&mut self, map: &Remap) {
+        self.desc = renumber_import_desc(self.desc, map);
+    }
 }
 
 impl Renumber for Func {
@@ -89,15 +105,11 @@ impl Renumber for Func {
             body: renumber_all(alloc, self.body.as_slice(), map)?,
         })
     }
-}
 
-/// A function with other indices (WebAssembly Core 2.0, section 2.5.3). The map needs an entry for each index that it names. Its body is walked by a recursion
-/// as deep as its blocks are nested.
-pub fn renumber_func(alloc: Global, func: &Func, map: &Remap) -> Result<Func, NoMemory>
-    requires fits { IsTrue (fits_func map.now func.now) }
-    ensures { IfOk result (λ new. new ≡ new_func map.now func.now) }
-{
-    func.renumber(alloc, map)
+    fn rewrite(&mut self, map: &Remap) {
+        self.ty = entry(&map.types, self.ty);
+        rewrite_all(&mut self.body, map);
+    }
 }
 
 impl Renumber for GlobalDef {
@@ -111,6 +123,10 @@ impl Renumber for GlobalDef {
             init: renumber_const(self.init, map),
         })
     }
+
+    fn rewrite(&mut self, map: &Remap) {
+        self.init = renumber_const(self.init, map);
+    }
 }
 
 impl Renumber for Export {
@@ -123,6 +139,10 @@ impl Renumber for Export {
             name: self.name.copy(alloc)?,
             desc: renumber_export_desc(self.desc, map),
         })
+    }
+
+    fn rewrite(&mut self, map: &Remap) {
+        self.desc = renumber_export_desc(self.desc, map);
     }
 }
 
@@ -138,6 +158,11 @@ impl Renumber for ElemSeg {
             items: renumber_each(alloc, self.items.as_slice(), map)?,
         })
     }
+
+    fn rewrite(&mut self, map: &Remap) {
+        self.mode = renumber_elem_mode(self.mode, map);
+        rewrite_each(&mut self.items, map);
+    }
 }
 
 impl Renumber for DataSeg {
@@ -150,5 +175,9 @@ impl Renumber for DataSeg {
             mode: renumber_data_mode(self.mode, map),
             bytes: Items::from_slice(alloc, self.bytes.as_slice())?,
         })
+    }
+
+    fn rewrite(&mut self, map: &Remap) {
+        self.mode = renumber_data_mode(self.mode, map);
     }
 }

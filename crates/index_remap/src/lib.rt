@@ -4,13 +4,14 @@
 mod body;
 mod declaring;
 mod each;
+mod in_place;
 mod remap;
 mod renumbering;
 
 ghost use Rattle.index_remap.specs.Laws.{CodeIsRelatedToItself, NamedAreKnown, OthersStay, RelatedRunsShowTheSame, RelatedTicksAgree, RenumberedCodeIsRelated, ReplacedCodeIsRelated, ShownAgree, StepsAgree, TrapsAgree, TypingIsKept, UnlistedAreRenumbered};
 
 pub use declaring::declare_refs;
-pub use each::renumber_func;
+pub use in_place::{renumber_funcs_in_place, renumber_in_place};
 pub use remap::{Remap, renumber_const, renumber_export_desc};
 pub use renumbering::renumber;
 

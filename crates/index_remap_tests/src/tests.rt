@@ -3,7 +3,7 @@ ghost use Rattle.std.specs.List.{list_all};
 ghost use Rattle.index_remap.specs.Renumbered.{fits_export, fits_func, fits_tree};
 ghost use Rattle.index_remap.specs.declared.remap.Remap.{Remap as Maps};
 
-use index_remap::{Remap, renumber};
+use index_remap::{Remap, renumber, renumber_in_place};
 use std::alloc::Global;
 use std::test::Fail;
 use wasm_bytes::{Items, Name, NoMemory};
@@ -129,5 +129,23 @@ fn only_the_export_names_another_function(rt: HostRuntime) -> Result<(), Fail> {
     assert_eq!(rt; type_shown(&new), Some((0, 1, Some(ValType::I32))));
     assert_eq!(rt; func_shown(&new), Some((0, 0, 1, 7)));
     assert_eq!(rt; counts(&new), (1, 1, 1, 0));
+    Ok(())
+}
+
+#[test]
+fn in_place_it_becomes_what_the_copy_is(rt: HostRuntime) -> Result<(), Fail> {
+    let alloc = rt.alloc();
+    let (Ok(mut module), Ok(map)) = (seven(alloc), moved(alloc)) else {
+        return Err(Fail::new("no memory"));
+    };
+    let Ok(new) = renumber(alloc, &module, &map) else {
+        return Err(Fail::new("no memory"));
+    };
+    renumber_in_place(&mut module, &map);
+    assert_eq!(rt; export_shown(&module), Some(("f", ExportDesc::Func(1))));
+    assert_eq!(rt; export_shown(&module), export_shown(&new));
+    assert_eq!(rt; type_shown(&module), type_shown(&new));
+    assert_eq!(rt; func_shown(&module), func_shown(&new));
+    assert_eq!(rt; counts(&module), counts(&new));
     Ok(())
 }

@@ -1,5 +1,5 @@
 -- The map of a part has an entry for each index of the part's index spaces.
-use Rattle.std.proofs.Common.{◌≡◌, ◌∙◌, sym, ap, refl, subst, ℕ, ◌<◌, List, [], ◌∷◌, length, map, arith, Some, Bool, true, false, ◌&&◌, true≢false}
+use Rattle.std.proofs.Common.{◌≡◌, ◌∙◌, sym, ap, subst, ℕ, ◌<◌, List, [], ◌∷◌, length, arith, Some}
 use Rattle.base_lists.proofs.Numbers.{length-numbers, map_numbers_index}
 use Rattle.wasm_tree.specs.declared.space.Space.TheVariants.{Functions}
 use Rattle.std.specs.Prelude.{slice_index, IsTrue, nat_lt}
@@ -10,9 +10,9 @@ use Rattle.wasm_tree.specs.Spaces.{funcs_of}
 use Rattle.wasm_meaning.specs.World.{numbers}
 use Rattle.wasm_meaning.specs.Linking.{Part}
 use Rattle.index_remap.specs.declared.remap.Remap.{Remap}
-use Rattle.std.specs.List.{list_all}
-use Rattle.index_remap.specs.Renumbered.{fits_import, fits_func, fits_global, fits_export, fits_start, fits_elem, fits_data, fits_tree}
+use Rattle.index_remap.specs.Renumbered.{fits_start, fits_tree}
 use Rattle.merge_terms.specs.Merged.{map_of, new_index, start_of}
+use Rattle.merge_join.proofs.Holding.{fitting}
 
 -- the new index of a function of the part
 pub func_entry : (ps : List Part) (p : ℕ) (m : Module) (f : ℕ) → f < length (funcs_of m) → slice_index (map_of ps p m).funcs f ≡ new_index ps p Functions f
@@ -21,29 +21,11 @@ func_entry ps p m f h = map_numbers_index (new_index ps p Functions) 0 (length (
 
 -- ---- what a map that fits has an entry for ----
 
-left : (a b : Bool) → IsTrue (a && b) → IsTrue a
-left true b h = refl
-left false b h = h
-
-right : (a b : Bool) → IsTrue (a && b) → IsTrue b
-right true b h = h
-right false b h = absurd (true≢false (sym h))
-
 below : (i n : ℕ) → IsTrue (nat_lt i n) → i < n
 below i n h = grind (arith, nat_tests, h)
 
--- the exports, the start, and what comes after
-abbrev exports_on : Remap → Module → Bool
-exports_on r m = list_all (fits_export r) m.exports && (fits_start r m.start && (list_all (fits_elem r) m.elems && list_all (fits_data r) m.datas))
-
-from_exports : (r : Remap) (m : Module) → IsTrue (fits_tree r m) → IsTrue (exports_on r m)
-from_exports r m h = right (list_all (fits_global r) m.globals) (exports_on r m) (right (list_all (fits_func r) m.funcs) _ (right (list_all (fits_import r) m.imports) _ h))
-
-pub exports_fit : (r : Remap) (m : Module) → IsTrue (fits_tree r m) → IsTrue (list_all (fits_export r) m.exports)
-exports_fit r m h = left (list_all (fits_export r) m.exports) _ (from_exports r m h)
-
 pub start_fits : (r : Remap) (m : Module) (f : ℕ) → IsTrue (fits_tree r m) → m.start ≡ Some f → f < length r.funcs
-start_fits r m f h is = below f (length r.funcs) (subst (λ s. IsTrue (fits_start r s)) is (left (fits_start r m.start) _ (right (list_all (fits_export r) m.exports) _ (from_exports r m h))))
+start_fits r m f h is = below f (length r.funcs) (subst (λ s. IsTrue (fits_start r s)) is (fitting r m h).start)
 
 funcs_many : (ps : List Part) (p : ℕ) (m : Module) → length (map_of ps p m).funcs ≡ length (funcs_of m)
 unfolding map_of

@@ -10,6 +10,7 @@ pub mod Holding
 pub mod Interning
 pub mod MapParts
 pub mod MergedTrees
+pub mod MovedParts
 pub mod NewIndex
 pub mod Outcomes
 pub mod PartMaps
@@ -20,3 +21,4 @@ pub mod Sites
 pub mod SpaceSizes
 pub mod Staying
 pub mod TypeTexts
+pub mod Values

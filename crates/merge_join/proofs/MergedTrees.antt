@@ -1,7 +1,7 @@
 -- The merged module, from its lists.
-use Rattle.std.proofs.Common.{◌≡◌, ◌∙◌, ap, refl, ℕ, suc, ◌+◌, ◌<◌, ◌≤◌, ◌^◌, List, [], ◌∷◌, ◌++◌, length, map, arith, Option, Some, None, false, is_some, option_and_then, unwrap_or, slice_get}
+use Rattle.std.proofs.Common.{◌≡◌, ◌∙◌, ap, ap₂, refl, ℕ, suc, ◌+◌, ◌<◌, ◌≤◌, ◌^◌, List, [], ◌∷◌, ◌++◌, length, map, arith, Option, Some, None, false, is_some, option_and_then, unwrap_or, slice_get}
 use Rattle.wasm_tree.specs.declared.space.Space.TheVariants.{Functions}
-use Rattle.std.specs.List.{flat_map, filter_map}
+use Rattle.std.specs.List.{filter_map}
 use Rattle.std.proofs.lemmas.List.{length-append, length-map}
 use Rattle.wasm_tree.specs.declared.types.FuncType.{FuncType}
 use Rattle.wasm_tree.specs.declared.types.TableType.{TableType}
@@ -22,9 +22,9 @@ use Rattle.wasm_meaning.specs.State.{Text}
 use Rattle.wasm_meaning.specs.World.{defined_before}
 use Rattle.wasm_meaning.specs.Linking.{Part, Site, has_kind, module_at}
 use Rattle.index_remap.specs.Renumbered.{new_func}
-use Rattle.merge_terms.specs.Merged.{staying, staying_of, imports_kind, merged_desc, merged_types, merged_import, by_part_from, by_part, defined_funcs, map_of, merged_global, merged_elem, merged_data, starts, start_calls, start_among, all_exports, named_exports, merged}
+use Rattle.merge_terms.specs.Merged.{staying, staying_of, imports_kind, merged_desc, merged_import, by_part_from, defined_funcs, map_of, starts, start_calls, merged}
 use Rattle.merge_terms.specs.Joined.{FewInAll}
-use Rattle.merge_join.specs.Words.{funcs_before_calls}
+use Rattle.merge_join.specs.Planned.{IsFrame, IsMoved}
 use Rattle.merge_join.proofs.Counts.{staying_few}
 
 abbrev pub built : List FuncType → List Import → List Func → List TableType → List Limits → List GlobalDef → List Export → Option ℕ → List ElemSeg → List DataSeg → Module
@@ -41,33 +41,25 @@ built types imports funcs tables mems globals exports start elems datas = record
   datas = datas;
 }
 
--- the lists of the merged module
-pub record AreLists (ps : List Part) (names : List (Option Text)) (m : Module) : Type 0 where
-  pub types_are : m.types ≡ merged_types ps
-  pub imports_are : m.imports ≡ filter_map (merged_import ps) (staying ps)
-  pub funcs_are : m.funcs ≡ defined_funcs ps ++ start_calls ps (starts ps)
-  pub tables_are : m.tables ≡ flat_map (λ p. p.«module».tables) ps
-  pub mems_are : m.mems ≡ flat_map (λ p. p.«module».mems) ps
-  pub globals_are : m.globals ≡ by_part (λ p m. map (merged_global ps p) m.globals) ps
-  pub exports_are : m.exports ≡ named_exports (all_exports ps) names
-  pub start_is : m.start ≡ start_among (funcs_before_calls ps) (starts ps)
-  pub elems_are : m.elems ≡ by_part (λ p m. map (merged_elem ps p (map_of ps p m)) m.elems) ps
-  pub datas_are : m.datas ≡ by_part (λ p m. map (merged_data ps p (map_of ps p m)) m.datas) ps
+-- what the parts define, with what is made of them together round it
+abbrev pub framed : Module → Module → Module
+framed f t = record t { types = f.types; imports = f.imports; funcs = t.funcs ++ f.funcs; exports = f.exports; start = f.start }
 
-pub merged_is : (ps : List Part) (names : List (Option Text)) (m : Module) → AreLists ps names m → m ≡ merged ps names
+pub merged_is : (ps : List Part) (names : List (Option Text)) (f t : Module) → IsFrame ps names f → IsMoved ps t → framed f t ≡ merged ps names
 unfolding merged
-merged_is ps names m a =
-    let t = merged ps names in
+merged_is ps names f t a b =
+    let m = framed f t in
+    let n = merged ps names in
     ap (λ x. built x m.imports m.funcs m.tables m.mems m.globals m.exports m.start m.elems m.datas) a.types_are
-    ∙ ap (λ x. built t.types x m.funcs m.tables m.mems m.globals m.exports m.start m.elems m.datas) a.imports_are
-    ∙ ap (λ x. built t.types t.imports x m.tables m.mems m.globals m.exports m.start m.elems m.datas) a.funcs_are
-    ∙ ap (λ x. built t.types t.imports t.funcs x m.mems m.globals m.exports m.start m.elems m.datas) a.tables_are
-    ∙ ap (λ x. built t.types t.imports t.funcs t.tables x m.globals m.exports m.start m.elems m.datas) a.mems_are
-    ∙ ap (λ x. built t.types t.imports t.funcs t.tables t.mems x m.exports m.start m.elems m.datas) a.globals_are
-    ∙ ap (λ x. built t.types t.imports t.funcs t.tables t.mems t.globals x m.start m.elems m.datas) a.exports_are
-    ∙ ap (λ x. built t.types t.imports t.funcs t.tables t.mems t.globals t.exports x m.elems m.datas) a.start_is
-    ∙ ap (λ x. built t.types t.imports t.funcs t.tables t.mems t.globals t.exports t.start x m.datas) a.elems_are
-    ∙ ap (λ x. built t.types t.imports t.funcs t.tables t.mems t.globals t.exports t.start t.elems x) a.datas_are
+    ∙ ap (λ x. built n.types x m.funcs m.tables m.mems m.globals m.exports m.start m.elems m.datas) a.imports_are
+    ∙ ap₂ (λ x y. built n.types n.imports (x ++ y) m.tables m.mems m.globals m.exports m.start m.elems m.datas) b.funcs_are a.calls_are
+    ∙ ap (λ x. built n.types n.imports n.funcs x m.mems m.globals m.exports m.start m.elems m.datas) b.tables_are
+    ∙ ap (λ x. built n.types n.imports n.funcs n.tables x m.globals m.exports m.start m.elems m.datas) b.mems_are
+    ∙ ap (λ x. built n.types n.imports n.funcs n.tables n.mems x m.exports m.start m.elems m.datas) b.globals_are
+    ∙ ap (λ x. built n.types n.imports n.funcs n.tables n.mems n.globals x m.start m.elems m.datas) a.exports_are
+    ∙ ap (λ x. built n.types n.imports n.funcs n.tables n.mems n.globals n.exports x m.elems m.datas) a.start_is
+    ∙ ap (λ x. built n.types n.imports n.funcs n.tables n.mems n.globals n.exports n.start x m.datas) b.elems_are
+    ∙ ap (λ x. built n.types n.imports n.funcs n.tables n.mems n.globals n.exports n.start n.elems x) b.datas_are
 
 -- ---- its functions are few ----
 

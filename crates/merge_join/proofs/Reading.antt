@@ -99,16 +99,16 @@ found (i ∷ is) from x g h = by (λ x h. found is (suc from) x g h) (global_of 
     by more (Some c) true e k t (suc x) h = let f = more x h in on x (suc x) true k f refl (ap suc f.index)
 
 -- an imported immutable global
-record ReadsGlobal (m : Module) (x : ℕ) : Type 0 where
-  global : GlobalType
-  at : slice_get (imported_globals m.imports) x ≡ Some global
-  fixed : global.mutable ≡ false
+pub record ReadsGlobal (m : Module) (x : ℕ) : Type 0 where
+  pub global : GlobalType
+  pub at : slice_get (imported_globals m.imports) x ≡ Some global
+  pub fixed : global.mutable ≡ false
 
 not_true : (b : Bool) → not b ≡ true → b ≡ false
 not_true true h = cc
 not_true false h = refl
 
-reads_global : (m : Module) (x : ℕ) (ty : ValType) → const_type m (const.Global x) ≡ Some ty → ReadsGlobal m x
+pub reads_global : (m : Module) (x : ℕ) (ty : ValType) → const_type m (const.Global x) ≡ Some ty → ReadsGlobal m x
 reads_global m x ty h =
     let g = and_then_is (slice_get (globals_of m) x) (λ g. only (nat_lt x (length (imported_globals m.imports)) && not g.mutable) (Some g.ty)) ty h in
     let b = only_true (nat_lt x (length (imported_globals m.imports)) && not g.0.mutable) (Some g.0.ty) ty g.2 in

@@ -1,5 +1,7 @@
 pub mod AllSpaces
 pub mod Kept
+pub mod Moved
+pub mod Planned
 pub mod Reads
 pub mod Repeats
 pub mod Spaces

@@ -1,14 +1,10 @@
 -- What is read through the imported globals of a part, and constant expressions that have a type in a part.
 use Rattle.std.specs.Prelude.{◌≡◌, ℕ, List, map, Option, Some}
 use Rattle.wasm_tree.specs.declared.space.Space.TheVariants.{Globals}
-use Rattle.wasm_tree.specs.declared.types.RefType.{RefType}
 use Rattle.wasm_tree.specs.declared.types.ValType.{ValType}
 use Rattle.wasm_tree.specs.declared.module.ConstExpr.{ConstExpr}
-use Rattle.wasm_tree.specs.declared.module.ElemMode.{ElemMode}
-use Rattle.wasm_tree.specs.declared.module.DataMode.{DataMode}
 use Rattle.wasm_tree.specs.declared.module.Module.{Module}
 use Rattle.wasm_valid.specs.Constants.{const_type}
-use Rattle.wasm_valid.specs.Validity.{ElemModeHolds, DataModeHolds}
 use Rattle.wasm_meaning.specs.Linking.{Part, module_at, imports_of}
 use Rattle.merge_terms.specs.declared.links.Read.{Read}
 use Rattle.merge_terms.specs.Linked.{read_at}
@@ -21,10 +17,3 @@ AreReads ps p reads = (m : Module) → module_at ps p ≡ Some m → reads ≡ m
 -- the expression has a type in the module of the part
 abbrev pub HasType : List Part → ℕ → ConstExpr → Type 0
 HasType ps p expr = (m : Module) × (ty : ValType) × (module_at ps p ≡ Some m) × (const_type m expr ≡ Some ty)
-
--- the mode of an element segment, and of a data segment, holds in the module of the part
-abbrev pub ElemModeFits : List Part → ℕ → ElemMode → Type 0
-ElemModeFits ps p mode = (m : Module) × (ty : RefType) × (module_at ps p ≡ Some m) × ElemModeHolds m ty mode
-
-abbrev pub DataModeFits : List Part → ℕ → DataMode → Type 0
-DataModeFits ps p mode = (m : Module) × (module_at ps p ≡ Some m) × DataModeHolds m mode

@@ -1,8 +1,10 @@
 // Constant expressions, which read through joined globals.
 
-ghost use Rattle.std.specs.Prelude.{◌≡◌, ◌<◌, length, IfOk};
+ghost use Rattle.std.specs.Prelude.{◌≡◌, ◌<◌, length, false, IfOk};
+ghost use Rattle.wasm_tree.specs.declared.module.ConstExpr.TheVariants as const;
 ghost use Rattle.merge_terms.specs.Parts.{named_modules};
 ghost use Rattle.merge_terms.specs.Merged as merged;
+ghost use Rattle.merge_join.specs.Moved.{AreValues, AreAllValues};
 ghost use Rattle.merge_join.specs.Reads.{AreReads, HasType};
 ghost use Rattle.merge_join.specs.Words.{AreJoined};
 
@@ -13,7 +15,7 @@ use merge_terms::Read;
 use merge_validity::maps_have_entries;
 use std::alloc::Global;
 use wasm_bytes::{Items, NoMemory};
-use wasm_tree::{ConstExpr, Space};
+use wasm_tree::{ConstExpr, ImportDesc, Space};
 
 /// What is read through each imported global of a part.
 pub(crate) fn reads_of(
@@ -56,4 +58,60 @@ pub(crate) fn merged_const(
         },
         _ => renumber_const(expr, joining.map(part)),
     }
+}
+
+// What stands for a global that a part imports: what is read through it. It stays where it may change, since no constant expression names it then.
+fn value_of(
+    global: u32,
+    mutable: bool,
+    joining: &Joining<'_>,
+    part: usize,
+    reads: &[Option<Read>],
+) -> ConstExpr
+    requires joined { AreJoined joining.now }
+    requires reads { AreReads (named_modules joining.now.parts.now) part reads.now }
+    requires typed { mutable ≡ false → HasType (named_modules joining.now.parts.now) part (const.Global global) }
+    ensures { mutable ≡ false → result ≡ merged.merged_const (named_modules joining.now.parts.now) part (const.Global global) }
+{
+    if mutable {
+        return ConstExpr::Global(global);
+    }
+    merged_const(ConstExpr::Global(global), joining, part, reads)
+}
+
+// What stands for each global that a part imports.
+fn values_of(
+    alloc: Global,
+    joining: &Joining<'_>,
+    part: usize,
+) -> Result<Items<ConstExpr>, NoMemory>
+    requires joined { AreJoined joining.now }
+    requires there { part < length joining.now.parts.now }
+    ensures { IfOk result (AreValues (named_modules joining.now.parts.now) part) }
+{
+    let reads = reads_of(alloc, joining, part)?;
+    let mut values = Items::new(alloc);
+    let mut global = 0;
+    for import in module_of(joining.parts, part).imports.as_slice() {
+        if let ImportDesc::Global(ty) = import.desc {
+            values.keep(value_of(global, ty.mutable, joining, part, reads.as_slice()))?;
+            global += 1;
+        }
+    }
+    Ok(values)
+}
+
+/// For each part what stands for each global that it imports.
+pub(crate) fn all_values(
+    alloc: Global,
+    joining: &Joining<'_>,
+) -> Result<Items<Items<ConstExpr>>, NoMemory>
+    requires { AreJoined joining.now }
+    ensures { IfOk result (AreAllValues (named_modules joining.now.parts.now)) }
+{
+    let mut all = Items::new(alloc);
+    for part in 0..joining.parts.len() {
+        all.keep(values_of(alloc, joining, part)?)?;
+    }
+    Ok(all)
 }

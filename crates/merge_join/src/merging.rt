@@ -21,24 +21,6 @@ use wasm_bytes::Items;
 use wasm_valid::Valid;
 use worlds_in_turn::turns_are_not_seen;
 
-// Joins parts in a slice.
-fn join_parts(alloc: Global, parts: &[Part], links: &Links, mode: Mode) -> Result<Valid, JoinFault>
-    requires links { AreLinks (named_modules parts.now) links.now }
-    requires linked { link_fault (named_modules parts.now) ≡ None }
-    requires few { FewInAll (named_modules parts.now) }
-    ensures joined { IfOk result (λ valid. Joins (named_modules parts.now) mode (Ok valid)) }
-    ensures same { IfOk result (λ valid. BehavesAs (named_modules parts.now) mode valid) }
-    ensures in_turn { IfOk result (λ valid. MayComeInTurn (linked_world (named_modules parts.now) mode)) }
-    ensures fault { IfErr result (λ f. (f ≡ OutOfMemory) ⊎ Joins (named_modules parts.now) mode (Err f)) }
-{
-    merged_modules_are_valid();
-    merged_modules_show_the_same();
-    turns_are_not_seen();
-    parts_hold(parts);
-    let tree = joined_tree(alloc, parts, links, mode)?;
-    Ok(Valid::known(tree))
-}
-
 /// The one module that parts whose imports are linked make together.
 ///
 /// Its types are the distinct ones of the parts, its imports those that stay, and its functions, tables, memories, globals and segments what the parts
@@ -66,5 +48,10 @@ pub fn join(
     ensures in_turn { IfOk result (λ valid. MayComeInTurn (linked_world (named_modules parts) mode)) }
     ensures fault { IfErr result (λ f. (f ≡ OutOfMemory) ⊎ Joins (named_modules parts) mode (Err f)) }
 {
-    join_parts(alloc, parts.as_slice(), links, mode)
+    merged_modules_are_valid();
+    merged_modules_show_the_same();
+    turns_are_not_seen();
+    parts_hold(parts.as_slice());
+    let tree = joined_tree(alloc, parts, links, mode)?;
+    Ok(Valid::known(tree))
 }

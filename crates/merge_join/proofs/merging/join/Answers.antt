@@ -1,10 +1,65 @@
-use Rattle.std.proofs.Common.{subst}
-use Rattle.std.specs.Result.{IfOk}
+use Rattle.std.proofs.Common.{◌≡◌, ◌∙◌, sym, subst, List, None, Ok}
+use Rattle.wasm_tree.specs.declared.module.Module.{Module}
+use Rattle.wasm_tree.specs.Bounds.{IsBounded}
+use Rattle.wasm_valid.specs.Validity.{IsValid}
+use Rattle.wasm_meaning.specs.Linking.{Part}
+use Rattle.export_names.specs.declared.mode.Mode.{Mode}
+use Rattle.merge_terms.specs.declared.parts.Part as declared
+use Rattle.merge_terms.specs.Faults.{link_fault}
 use Rattle.merge_terms.specs.Parts.{named_modules}
 use Rattle.merge_terms.specs.View.{linked_world}
-use Rattle.worlds_in_turn.specs.Laws.{MayComeInTurn}
+use Rattle.merge_terms.specs.Joined.{joined_module, over_limit, repeated_name, Joins}
+use Rattle.merge_validity.specs.Joinable.{CanBeJoined}
+use Rattle.merge_worlds.specs.Laws.{BehavesAs}
+use Rattle.merge_join.specs.Words.{PartsHold}
+use Rattle.merge_join.proofs.Outcomes.{joined_from}
 use Rattle.merge_join.proofs.merging.join.Goals as goal
+
+-- where joining gives a tree, the parts can be joined, and the tree is their merged module
+can_join : (ps : List Part) (mode : Mode) (tree : Module) → PartsHold ps → link_fault ps ≡ None → Joins ps mode (Ok tree) → CanBeJoined ps mode × (joined_module ps mode ≡ tree)
+can_join ps mode tree hold linked joins =
+    let is = joined_from (repeated_name ps mode) (over_limit (joined_module ps mode)) (joined_module ps mode) tree joins in (
+      record {
+        valid = λ p m at. (hold p m at).0;
+        bounded = λ p m at. (hold p m at).1;
+        linked = linked;
+        names = is.no_name;
+        sizes = is.no_count;
+      },
+      is.same,
+    )
+
+held : (parts lent : List declared.Part) → lent ≡ parts → PartsHold (named_modules lent) → PartsHold (named_modules parts)
+held parts lent is hold = subst (λ (ps : List declared.Part). PartsHold (named_modules ps)) is hold
+
+pub joined_tree-requires : goal.joined_tree-requires
+joined_tree-requires c = record {
+  linked = record {
+    links_are = c.requires.links;
+    no_fault = c.requires.linked;
+    few = c.requires.few;
+    hold = held c.args.parts c.as_slice.result.now c.as_slice.ensures c.parts_hold.ensures;
+  };
+}
+
+pub known-requires : goal.known-requires
+known-requires c =
+    let ps = named_modules c.args.parts in
+    let mode = c.args.mode in
+    let can = can_join ps mode c.in_ok-tree.tree (held c.args.parts c.as_slice.result.now c.as_slice.ensures c.parts_hold.ensures) c.requires.linked c.in_ok-tree.ensures.joined in
+    record {
+      valid = subst IsValid can.1 (c.merged_modules_are_valid.ensures.valid ps mode can.0);
+      bounded = subst IsBounded can.1 (c.merged_modules_are_valid.ensures.bounded ps mode can.0);
+    }
+
+pub returns-clause-same : goal.returns-clause-same
+returns-clause-same c =
+    let ps = named_modules c.args.parts in
+    let mode = c.args.mode in
+    let can = can_join ps mode c.in_ok-tree.tree (held c.args.parts c.as_slice.result.now c.as_slice.ensures c.parts_hold.ensures) c.requires.linked c.in_ok-tree.ensures.joined in
+    subst (BehavesAs ps mode) (can.1 ∙ sym c.known.ensures) (c.merged_modules_show_the_same.ensures.same ps mode can.0)
 
 pub returns-clause-in_turn : goal.returns-clause-in_turn
 returns-clause-in_turn c =
-    subst (λ parts. IfOk c.join_parts.result (λ valid. MayComeInTurn (linked_world (named_modules parts) c.args.mode))) c.as_slice.ensures c.join_parts.ensures.in_turn
+    let hold = held c.args.parts c.as_slice.result.now c.as_slice.ensures c.parts_hold.ensures in
+    c.turns_are_not_seen.ensures.turns (linked_world (named_modules c.args.parts) c.args.mode) (λ p m at. (hold p m at).0)

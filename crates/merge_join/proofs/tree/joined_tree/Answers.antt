@@ -1,8 +1,7 @@
-use Rattle.std.proofs.Common.{◌≡◌, ◌∙◌, sym, ap, inr, refl}
+use Rattle.std.proofs.Common.{◌≡◌, ◌∙◌, sym, ap, inr, refl, List, Option, None}
 use Rattle.wasm_tree.specs.declared.module.Module.{Module}
 use Rattle.wasm_meaning.specs.State.{Text}
-use Rattle.wasm_meaning.specs.Linking.{Part}
-use Rattle.std.proofs.Common.{List, Option}
+use Rattle.merge_terms.specs.declared.parts.Part as parts
 use Rattle.index_remap.specs.References.{declared}
 use Rattle.export_names.specs.declared.mode.Mode.{Mode}
 use Rattle.export_names.specs.Names as names
@@ -12,23 +11,28 @@ use Rattle.merge_terms.specs.Joined.{joined_module, over_limit, repeated_name}
 use Rattle.merge_join.proofs.Outcomes.{many_is, module_is}
 use Rattle.merge_join.proofs.tree.joined_tree.Goals as goal
 
-is_joined : (ps : List Part) (mode : Mode) (news lent : List (Option Text)) (tree now : Module) →
-    now ≡ declared tree → tree ≡ merged ps lent → lent ≡ news → news ≡ names.new_names mode (export_names ps) → now ≡ joined_module ps mode
+is_joined : (ps qs : List parts.Part) (mode : Mode) (news lent : List (Option Text)) (tree now : Module) →
+    now ≡ declared tree → tree ≡ merged (named_modules ps) lent → lent ≡ news → news ≡ names.new_names mode (export_names (named_modules qs)) → qs ≡ ps → now ≡ joined_module (named_modules ps) mode
 unfolding joined_module
-is_joined ps mode news lent tree now a b d e = a ∙ ap declared (b ∙ ap (merged ps) (d ∙ e))
+is_joined ps qs mode news lent tree now a b d e same = a ∙ ap declared (b ∙ ap (merged (named_modules ps)) (d ∙ e ∙ ap (λ (xs : List parts.Part). names.new_names mode (export_names (named_modules xs))) same))
+
+none_twice : (ps qs : List parts.Part) (mode : Mode) → qs ≡ ps → repeated_name (named_modules qs) mode ≡ None → repeated_name (named_modules ps) mode ≡ None
+none_twice ps qs mode same h = sym (ap (λ (xs : List parts.Part). repeated_name (named_modules xs) mode) same) ∙ h
 
 pub returns-in-Some-clause-fault : goal.returns-in-Some-clause-fault
 returns-in-Some-clause-fault c =
-    let ps = named_modules c.args.parts.now in
+    let ps = named_modules c.args.parts in
     let mode = c.args.mode in
-    let e = is_joined ps mode c.in_ok-names.names c.as_slice.result.now c.in_ok-module.module c.declare_refs.new.module c.in_ok-declare_refs.ensures.ok c.in_ok-module.ensures.is c.as_slice.ensures c.in_ok-names.ensures.names in
-    inr (many_is (repeated_name ps mode) (over_limit (joined_module ps mode)) c.in-Some.which (joined_module ps mode) (c.in_ok-names.ensures.none refl)
+    let e = is_joined c.args.parts c.as_slice.result.now mode c.in_ok-names.names c.as_slice-2.result.now c.in_ok-module.module c.declare_refs.new.module
+    c.in_ok-declare_refs.ensures.ok c.in_ok-module.ensures.is c.as_slice-2.ensures c.in_ok-names.ensures.names c.as_slice.ensures in
+    inr (many_is (repeated_name ps mode) (over_limit (joined_module ps mode)) c.in-Some.which (joined_module ps mode) (none_twice c.args.parts c.as_slice.result.now mode c.as_slice.ensures (c.in_ok-names.ensures.none refl))
     (ap over_limit (sym e) ∙ sym c.over_limit.ensures ∙ c.in-Some.is))
 
 pub returns-clause-joined : goal.returns-clause-joined
 returns-clause-joined c =
-    let ps = named_modules c.args.parts.now in
+    let ps = named_modules c.args.parts in
     let mode = c.args.mode in
-    let e = is_joined ps mode c.in_ok-names.names c.as_slice.result.now c.in_ok-module.module c.declare_refs.new.module c.in_ok-declare_refs.ensures.ok c.in_ok-module.ensures.is c.as_slice.ensures c.in_ok-names.ensures.names in
-    module_is (repeated_name ps mode) (over_limit (joined_module ps mode)) (joined_module ps mode) c.declare_refs.new.module (c.in_ok-names.ensures.none refl)
+    let e = is_joined c.args.parts c.as_slice.result.now mode c.in_ok-names.names c.as_slice-2.result.now c.in_ok-module.module c.declare_refs.new.module
+    c.in_ok-declare_refs.ensures.ok c.in_ok-module.ensures.is c.as_slice-2.ensures c.in_ok-names.ensures.names c.as_slice.ensures in
+    module_is (repeated_name ps mode) (over_limit (joined_module ps mode)) (joined_module ps mode) c.declare_refs.new.module (none_twice c.args.parts c.as_slice.result.now mode c.as_slice.ensures (c.in_ok-names.ensures.none refl))
     (ap over_limit (sym e) ∙ sym c.over_limit.ensures ∙ c.in-None.is) (sym e)

@@ -1,16 +1,37 @@
-use Rattle.std.proofs.Common.{◌≡◌, sym, subst, ◌<◌, ◌^◌, length, Result, Ok, Err, IfOk}
+use Rattle.std.proofs.Common.{◌≡◌, ◌∙◌, sym, subst, ◌<◌, ◌^◌, length, List, Option}
 use Rattle.wasm_tree.specs.declared.module.Module.{Module}
 use Rattle.wasm_tree.specs.Spaces.{funcs_of}
+use Rattle.wasm_meaning.specs.State.{Text}
+use Rattle.merge_terms.specs.declared.parts.Part.{Part}
 use Rattle.merge_terms.specs.Parts.{named_modules}
-use Rattle.merge_terms.specs.Merged.{merged}
-use Rattle.merge_join.proofs.MergedTrees.{funcs_few}
+use Rattle.merge_join.specs.declared.tree.Plan.{Plan}
+use Rattle.merge_join.specs.Moved.{AreAllValues}
+use Rattle.merge_join.specs.Planned.{IsPlan}
+use Rattle.merge_join.specs.Words.{AreMaps}
+use Rattle.merge_join.proofs.MergedTrees.{funcs_few, merged_is}
 use Rattle.merge_join.proofs.tree.merged.Goals as goal
 
-few_from : {E : Type 0} (r : Result Module E) (m : Module) → IfOk r (λ t. t ≡ m) → length (funcs_of m) < 2 ^ 32 → IfOk r (λ t. length (funcs_of t) < 2 ^ 32)
-few_from (Ok t) m is few = subst (λ (x : Module). length (funcs_of x) < 2 ^ 32) (sym is) few
-few_from (Err e) m is few = tt
+planned : (parts lent : List Part) (names : List (Option Text)) (plan : Plan) → lent ≡ parts → IsPlan (named_modules lent) names plan → IsPlan (named_modules parts) names plan
+planned parts lent names plan is made = subst (λ (xs : List Part). IsPlan (named_modules xs) names plan) is made
+
+pub moved_parts-requires : goal.moved_parts-requires
+moved_parts-requires c =
+    let ps = named_modules c.args.parts in
+    let plan = planned c.args.parts c.as_slice.result.now c.args.names.now c.in_ok-plan.plan c.as_slice.ensures c.in_ok-plan.ensures in
+    record {
+      hold = c.requires.linked.hold;
+      maps = subst (AreMaps ps) (sym c.as_slice-2.ensures) plan.maps;
+      values = subst (AreAllValues ps) (sym c.as_slice-3.ensures) plan.values;
+    }
+
+pub returns-clause-is : goal.returns-clause-is
+returns-clause-is c =
+    let plan = planned c.args.parts c.as_slice.result.now c.args.names.now c.in_ok-plan.plan c.as_slice.ensures c.in_ok-plan.ensures in
+    c.in_ok-put_frame.ensures ∙ merged_is (named_modules c.args.parts) c.args.names.now c.in_ok-plan.plan.frame c.in_ok-tree.tree plan.frame c.in_ok-tree.ensures
 
 pub returns-clause-few : goal.returns-clause-few
 returns-clause-few c =
-    let ps = named_modules c.args.parts.now in
-    few_from c.merged_over.result (merged ps c.args.names.now) c.merged_over.ensures (funcs_few ps c.args.names.now c.requires.linked.few)
+    let ps = named_modules c.args.parts in
+    let plan = planned c.args.parts c.as_slice.result.now c.args.names.now c.in_ok-plan.plan c.as_slice.ensures c.in_ok-plan.ensures in
+    let is = c.in_ok-put_frame.ensures ∙ merged_is ps c.args.names.now c.in_ok-plan.plan.frame c.in_ok-tree.tree plan.frame c.in_ok-tree.ensures in
+    subst (λ (m : Module). length (funcs_of m) < 2 ^ 32) (sym is) (funcs_few ps c.args.names.now c.requires.linked.few)

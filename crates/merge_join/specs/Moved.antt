@@ -1,0 +1,63 @@
+-- What is moved from a part into the merged module: its lists, with the indices of a map, and with what stands there for the part's imported globals.
+use Rattle.std.specs.Prelude.{◌≡◌, ℕ, List, ◌++◌, map, Some, slice_get, slice_index, unwrap_or}
+use Rattle.wasm_tree.specs.declared.module.ConstExpr.{ConstExpr}
+use Rattle.wasm_tree.specs.declared.module.ConstExpr.TheVariants as const
+use Rattle.wasm_tree.specs.declared.module.GlobalDef.{GlobalDef}
+use Rattle.wasm_tree.specs.declared.module.ElemMode.{ElemMode}
+use Rattle.wasm_tree.specs.declared.module.ElemMode.TheVariants as elem
+use Rattle.wasm_tree.specs.declared.module.ElemSeg.{ElemSeg}
+use Rattle.wasm_tree.specs.declared.module.DataMode.{DataMode}
+use Rattle.wasm_tree.specs.declared.module.DataMode.TheVariants as data'
+use Rattle.wasm_tree.specs.declared.module.DataSeg.{DataSeg}
+use Rattle.wasm_tree.specs.declared.module.Module.{Module}
+use Rattle.wasm_meaning.specs.Linking.{Part, module_at}
+use Rattle.index_remap.specs.declared.remap.Remap.{Remap}
+use Rattle.index_remap.specs.Renumbered.{new_const, new_func}
+use Rattle.merge_terms.specs.Merged.{merged_const}
+use Rattle.merge_join.specs.Reads.{HasType}
+
+-- a constant expression with other indices, where these stand for the imported globals, in order
+abbrev pub moved_const : Remap → List ConstExpr → ConstExpr → ConstExpr
+moved_const m values (const.I32 v) = new_const m (const.I32 v)
+moved_const m values (const.I64 v) = new_const m (const.I64 v)
+moved_const m values (const.Null t) = new_const m (const.Null t)
+moved_const m values (const.Func f) = new_const m (const.Func f)
+moved_const m values (const.Global g) = unwrap_or (slice_get values g) (const.Global g)
+
+abbrev pub moved_global : Remap → List ConstExpr → GlobalDef → GlobalDef
+moved_global m values g = record g { init = moved_const m values g.init }
+
+abbrev pub moved_elem_mode : Remap → List ConstExpr → ElemMode → ElemMode
+moved_elem_mode m values (elem.Active table offset) = elem.Active (slice_index m.tables table) (moved_const m values offset)
+moved_elem_mode m values elem.Passive = elem.Passive
+moved_elem_mode m values elem.Declarative = elem.Declarative
+
+abbrev pub moved_elem : Remap → List ConstExpr → ElemSeg → ElemSeg
+moved_elem m values e = record e { mode = moved_elem_mode m values e.mode; items = map (moved_const m values) e.items }
+
+abbrev pub moved_data_mode : Remap → List ConstExpr → DataMode → DataMode
+moved_data_mode m values (data'.Active memory offset) = data'.Active (slice_index m.mems memory) (moved_const m values offset)
+moved_data_mode m values data'.Passive = data'.Passive
+
+abbrev pub moved_data : Remap → List ConstExpr → DataSeg → DataSeg
+moved_data m values d = record d { mode = moved_data_mode m values d.mode }
+
+-- the tree, with what another defines behind its own
+abbrev pub with_moved : Remap → List ConstExpr → Module → Module → Module
+with_moved m values new t =
+    record t {
+      funcs = t.funcs ++ map (new_func m) new.funcs;
+      tables = t.tables ++ new.tables;
+      mems = t.mems ++ new.mems;
+      globals = t.globals ++ map (moved_global m values) new.globals;
+      elems = t.elems ++ map (moved_elem m values) new.elems;
+      datas = t.datas ++ map (moved_data m values) new.datas;
+    }
+
+-- what stands for each imported global of a part that a constant expression may name
+abbrev pub AreValues : List Part → ℕ → List ConstExpr → Type 0
+AreValues ps p values = (x : ℕ) → HasType ps p (const.Global x) → slice_get values x ≡ Some (merged_const ps p (const.Global x))
+
+-- there are such for each part
+abbrev pub AreAllValues : List Part → List (List ConstExpr) → Type 0
+AreAllValues ps all = (p : ℕ) (m : Module) → module_at ps p ≡ Some m → (values : List ConstExpr) × (slice_get all p ≡ Some values) × AreValues ps p values
