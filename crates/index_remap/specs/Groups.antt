@@ -43,7 +43,21 @@ group_of (Instr-F.MemoryFill n) = Memories
 group_of (Instr-F.MemoryCopy n m) = Memories
 group_of (Instr-F.MemoryInit s n) = Memories
 group_of (Instr-F.DataDrop n) = Memories
-group_of _ = Values
+group_of Instr-F.Drop = Values
+group_of Instr-F.Select = Values
+group_of (Instr-F.SelectTyped types) = Values
+group_of (Instr-F.LocalGet local) = Values
+group_of (Instr-F.LocalSet local) = Values
+group_of (Instr-F.LocalTee local) = Values
+group_of (Instr-F.GlobalGet global) = Values
+group_of (Instr-F.GlobalSet global) = Values
+group_of (Instr-F.I32Const value) = Values
+group_of (Instr-F.I64Const value) = Values
+group_of (Instr-F.Un op) = Values
+group_of (Instr-F.Bin op) = Values
+group_of (Instr-F.RefNull ty) = Values
+group_of Instr-F.RefIsNull = Values
+group_of (Instr-F.RefFunc func) = Values
 
 -- The law of steps of a group: over stores that correspond and from related bodies, an instruction of the group and a related one come to related acts, or both
 -- trap, or both are ill typed.

@@ -9,7 +9,7 @@ use Rattle.wasm_tree.specs.declared.types.ValType.{ValType}
 use Rattle.wasm_tree.specs.declared.types.FuncType.{FuncType}
 use Rattle.wasm_tree.specs.declared.instr.Instr.{Instr, Row_of-Instr, end_of-Instr, more_of-Instr}
 use Rattle.wasm_tree.specs.declared.instr.Instr.TheOpen.{Instr-F}
-use Rattle.wasm_tree.specs.declared.instr.Instr.TheVariants.{Block, Block', Loop, Loop', If, If', Call}
+use Rattle.wasm_tree.specs.declared.instr.Instr.TheVariants.{Block, Block', Loop, Loop', If, If', Call, Unreachable, Nop, Br, BrIf, BrTable, Return, CallIndirect, Drop, Select, SelectTyped, LocalGet, LocalSet, LocalTee, GlobalGet, GlobalSet, TableGet, TableSet, Load, Store, MemorySize, MemoryGrow, I32Const, I64Const, Un, Bin, RefNull, RefIsNull, RefFunc, MemoryInit, DataDrop, MemoryCopy, MemoryFill, TableInit, ElemDrop, TableCopy, TableGrow, TableSize, TableFill}
 use Rattle.wasm_typing.specs.Typing.{Signature, signature_of, Context, WellTyped}
 use Rattle.wasm_meaning.specs.Outcomes.{Gives, at}
 use Rattle.wasm_meaning.specs.State.{Inst}
@@ -54,7 +54,44 @@ module _ (types : List FuncType) (m : Remap) (listed : List ℕ) (codes : Codes)
     StandsFor labels (If' ty n body k other) code =
         (b o : List Instr) × RowReplaced (block_label (signature_of types ty) ∷ labels) body b × RowReplaced (block_label (signature_of types ty) ∷ labels) other o × (code ≡ If (new_type m ty) b o ∷ [])
     StandsFor labels (Call f) code = CallReplaced m (is_among listed f) codes labels f code
-    StandsFor labels i code = code ≡ renumbered m i ∷ []
+    StandsFor labels Unreachable code = code ≡ renumbered m Unreachable ∷ []
+    StandsFor labels Nop code = code ≡ renumbered m Nop ∷ []
+    StandsFor labels (Br target) code = code ≡ renumbered m (Br target) ∷ []
+    StandsFor labels (BrIf target) code = code ≡ renumbered m (BrIf target) ∷ []
+    StandsFor labels (BrTable targets last) code = code ≡ renumbered m (BrTable targets last) ∷ []
+    StandsFor labels Return code = code ≡ renumbered m Return ∷ []
+    StandsFor labels (CallIndirect ty table) code = code ≡ renumbered m (CallIndirect ty table) ∷ []
+    StandsFor labels Drop code = code ≡ renumbered m Drop ∷ []
+    StandsFor labels Select code = code ≡ renumbered m Select ∷ []
+    StandsFor labels (SelectTyped tys) code = code ≡ renumbered m (SelectTyped tys) ∷ []
+    StandsFor labels (LocalGet local) code = code ≡ renumbered m (LocalGet local) ∷ []
+    StandsFor labels (LocalSet local) code = code ≡ renumbered m (LocalSet local) ∷ []
+    StandsFor labels (LocalTee local) code = code ≡ renumbered m (LocalTee local) ∷ []
+    StandsFor labels (GlobalGet global) code = code ≡ renumbered m (GlobalGet global) ∷ []
+    StandsFor labels (GlobalSet global) code = code ≡ renumbered m (GlobalSet global) ∷ []
+    StandsFor labels (TableGet table) code = code ≡ renumbered m (TableGet table) ∷ []
+    StandsFor labels (TableSet table) code = code ≡ renumbered m (TableSet table) ∷ []
+    StandsFor labels (Load op arg) code = code ≡ renumbered m (Load op arg) ∷ []
+    StandsFor labels (Store op arg) code = code ≡ renumbered m (Store op arg) ∷ []
+    StandsFor labels (MemorySize memory) code = code ≡ renumbered m (MemorySize memory) ∷ []
+    StandsFor labels (MemoryGrow memory) code = code ≡ renumbered m (MemoryGrow memory) ∷ []
+    StandsFor labels (I32Const value) code = code ≡ renumbered m (I32Const value) ∷ []
+    StandsFor labels (I64Const value) code = code ≡ renumbered m (I64Const value) ∷ []
+    StandsFor labels (Un op) code = code ≡ renumbered m (Un op) ∷ []
+    StandsFor labels (Bin op) code = code ≡ renumbered m (Bin op) ∷ []
+    StandsFor labels (RefNull ty) code = code ≡ renumbered m (RefNull ty) ∷ []
+    StandsFor labels RefIsNull code = code ≡ renumbered m RefIsNull ∷ []
+    StandsFor labels (RefFunc func) code = code ≡ renumbered m (RefFunc func) ∷ []
+    StandsFor labels (MemoryInit segment memory) code = code ≡ renumbered m (MemoryInit segment memory) ∷ []
+    StandsFor labels (DataDrop segment) code = code ≡ renumbered m (DataDrop segment) ∷ []
+    StandsFor labels (MemoryCopy to from) code = code ≡ renumbered m (MemoryCopy to from) ∷ []
+    StandsFor labels (MemoryFill memory) code = code ≡ renumbered m (MemoryFill memory) ∷ []
+    StandsFor labels (TableInit segment table) code = code ≡ renumbered m (TableInit segment table) ∷ []
+    StandsFor labels (ElemDrop segment) code = code ≡ renumbered m (ElemDrop segment) ∷ []
+    StandsFor labels (TableCopy to from) code = code ≡ renumbered m (TableCopy to from) ∷ []
+    StandsFor labels (TableGrow table) code = code ≡ renumbered m (TableGrow table) ∷ []
+    StandsFor labels (TableSize table) code = code ≡ renumbered m (TableSize table) ∷ []
+    StandsFor labels (TableFill table) code = code ≡ renumbered m (TableFill table) ∷ []
 
     -- the same for the instructions of a block
     pub RowReplaced : {n : _} → Labels → Row_of-Instr n → List Instr → Type 0

@@ -24,7 +24,44 @@ fn mark_instr(marks: &mut Vec<bool>, instr: &Instr)
             mark_body(marks, other.as_slice());
         }
         Instr::RefFunc(func) => mark(marks, *func),
-        _ => (),
+        Instr::Unreachable
+        | Instr::Nop
+        | Instr::Br(_)
+        | Instr::BrIf(_)
+        | Instr::BrTable(_, _)
+        | Instr::Return
+        | Instr::Call(_)
+        | Instr::CallIndirect { .. }
+        | Instr::Drop
+        | Instr::Select
+        | Instr::SelectTyped(_)
+        | Instr::LocalGet(_)
+        | Instr::LocalSet(_)
+        | Instr::LocalTee(_)
+        | Instr::GlobalGet(_)
+        | Instr::GlobalSet(_)
+        | Instr::TableGet(_)
+        | Instr::TableSet(_)
+        | Instr::Load(_, _)
+        | Instr::Store(_, _)
+        | Instr::MemorySize(_)
+        | Instr::MemoryGrow(_)
+        | Instr::I32Const(_)
+        | Instr::I64Const(_)
+        | Instr::Un(_)
+        | Instr::Bin(_)
+        | Instr::RefNull(_)
+        | Instr::RefIsNull
+        | Instr::MemoryInit { .. }
+        | Instr::DataDrop(_)
+        | Instr::MemoryCopy { .. }
+        | Instr::MemoryFill(_)
+        | Instr::TableInit { .. }
+        | Instr::ElemDrop(_)
+        | Instr::TableCopy { .. }
+        | Instr::TableGrow(_)
+        | Instr::TableSize(_)
+        | Instr::TableFill(_) => (),
     }
 }
 
