@@ -32,7 +32,11 @@ pub fn words_of(alloc: Global, line: &str) -> Result<Vec<String>, Fail> {
 }
 
 // What a line comes to over the files, and what is put on standard error.
-pub fn run_line(alloc: Global, files: &mut MemFiles, line: &str) -> Result<(Status, MemSink), Fail> {
+pub fn run_line(
+    alloc: Global,
+    files: &mut MemFiles,
+    line: &str,
+) -> Result<(Status, MemSink), Fail> {
     let words = words_of(alloc, line)?;
     let mut out = MemSink::new(alloc);
     let mut err = MemSink::new(alloc);
@@ -57,7 +61,12 @@ pub fn module_of(alloc: Global, sections: &str) -> Result<Vec<u8>, Fail> {
 
 // A module of so many tables of functions, each empty: `head` is the table section up to its count,
 // and `tail` the sections behind it.
-pub fn module_of_tables(alloc: Global, head: &str, count: usize, tail: &str) -> Result<Vec<u8>, Fail> {
+pub fn module_of_tables(
+    alloc: Global,
+    head: &str,
+    count: usize,
+    tail: &str,
+) -> Result<Vec<u8>, Fail> {
     let mut bytes = module_of(alloc, head)?;
     for _ in 0..count {
         add_bytes(&mut bytes, "70 00 00")?;
@@ -67,7 +76,7 @@ pub fn module_of_tables(alloc: Global, head: &str, count: usize, tail: &str) -> 
 }
 
 // Two files, for the parts `a` and `b`.
-pub fn two_files(alloc: Global, a: &str, b: &str) -> Result<MemFiles, Fail> {
+fn two_files(alloc: Global, a: &str, b: &str) -> Result<MemFiles, Fail> {
     let a = module_of(alloc, a)?;
     let b = module_of(alloc, b)?;
     let mut files = MemFiles::new(alloc);
@@ -76,5 +85,20 @@ pub fn two_files(alloc: Global, a: &str, b: &str) -> Result<MemFiles, Fail> {
     Ok(files)
 }
 
+// Merges the parts `a` and `b` into o.wasm, with a flag or none: what it comes to, what is put on
+// standard error, and the files.
+pub fn merge_two(
+    alloc: Global,
+    a: &str,
+    b: &str,
+    flag: &str,
+) -> Result<(Status, MemSink, MemFiles), Fail> {
+    let mut files = two_files(alloc, a, b)?;
+    let line = format!(in alloc; "merge a.wasm a b.wasm b -o o.wasm {flag}")?;
+    let (ended, err) = run_line(alloc, &mut files, line.as_str())?;
+    Ok((ended, err, files))
+}
+
 // One function, exported as f, that gives 7.
-pub const GIVES: &str = "01 05 01 60 00 01 7F 03 02 01 00 07 05 01 01 66 00 00 0A 06 01 04 00 41 07 0B";
+pub const GIVES: &str =
+    "01 05 01 60 00 01 7F 03 02 01 00 07 05 01 01 66 00 00 0A 06 01 04 00 41 07 0B";

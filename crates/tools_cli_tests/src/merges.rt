@@ -1,8 +1,8 @@
-use crate::given::{GIVES, module_of, module_of_tables, run_line, two_files, words_of};
+use crate::given::{GIVES, merge_two, module_of, module_of_tables, run_line};
 use std::alloc::Global;
 use std::test::Fail;
 use tool_io::{MemFiles, MemSink};
-use tools_cli::{Status, run};
+use tools_cli::Status;
 
 // One function, exported as f and as f_1, that gives 7.
 const GIVES_TWICE: &str =
@@ -50,9 +50,7 @@ fn two_parts_are_merged_into_one_module(rt: HostRuntime) -> Result<(), Fail> {
             "01 04 01 60 00 00 03 04 03 00 00 00 08 01 02 0A 0E 03 02 00 0B 02 00 0B 06 00 10 00 10 01 0B",
         ),
     ] {
-        let mut files = two_files(alloc, a, b)?;
-        let line = format!(in alloc; "merge a.wasm a b.wasm b -o o.wasm {flag}")?;
-        let (ended, err) = run_line(alloc, &mut files, line.as_str())?;
+        let (ended, err, files) = merge_two(alloc, a, b, flag)?;
         let merged = module_of(alloc, merged)?;
         assert_eq!(rt; err.text(), b"".as_slice());
         assert_eq!(rt; ended, Status::Done);
@@ -83,9 +81,7 @@ fn memories_and_globals_are_joined(rt: HostRuntime) -> Result<(), Fail> {
             "06 0B 02 7F 00 41 05 0B 7F 00 41 05 0B 07 05 01 01 78 03 00",
         ),
     ] {
-        let mut files = two_files(alloc, a, b)?;
-        let line = "merge a.wasm a b.wasm b -o o.wasm";
-        let (ended, err) = run_line(alloc, &mut files, line)?;
+        let (ended, err, files) = merge_two(alloc, a, b, "")?;
         let merged = module_of(alloc, merged)?;
         assert_eq!(rt; err.text(), b"".as_slice());
         assert_eq!(rt; ended, Status::Done);
@@ -94,21 +90,20 @@ fn memories_and_globals_are_joined(rt: HostRuntime) -> Result<(), Fail> {
     Ok(())
 }
 
-// Merges the two parts into o.wasm, and o.wasm alone into p.wasm. What the second run comes to,
-// what both put on standard error, and the files.
-fn merge_twice(alloc: Global, a: &str, b: &str, flag: &str) -> Result<(Status, MemSink, MemFiles), Fail> {
-    let mut files = two_files(alloc, a, b)?;
-    let line = format!(in alloc; "merge a.wasm a b.wasm b -o o.wasm {flag}")?;
-    let first = words_of(alloc, line.as_str())?;
-    let second = words_of(alloc, "merge o.wasm o -o p.wasm")?;
-    let mut out = MemSink::new(alloc);
-    let mut err = MemSink::new(alloc);
-    run(alloc, first.as_slice(), &mut files, &mut out, &mut err);
-    let ended = run(alloc, second.as_slice(), &mut files, &mut out, &mut err);
+// The same merge, and then that of o.wasm alone into p.wasm: what the second comes to, what the
+// first puts on standard error, and the files.
+fn merge_twice(
+    alloc: Global,
+    a: &str,
+    b: &str,
+    flag: &str,
+) -> Result<(Status, MemSink, MemFiles), Fail> {
+    let (_, err, mut files) = merge_two(alloc, a, b, flag)?;
+    let (ended, _) = run_line(alloc, &mut files, "merge o.wasm o -o p.wasm")?;
     Ok((ended, err, files))
 }
 
-// Part a passes the calls of g to its own f, which gives 7.
+// Part a imports its own f, which gives 7, and its g calls that import.
 const OWN_IMPORT: &str =
     "01 05 01 60 00 01 7F 02 07 01 01 61 01 66 00 00 03 03 02 00 00 07 09 02 01 66 00 02 01 67 00 01 0A 0B 02 04 00 10 00 0B 04 00 41 07 0B";
 
@@ -163,6 +158,35 @@ fn of_what_stays_memories_alone_become_one(rt: HostRuntime) -> Result<(), Fail> 
     Ok(())
 }
 
+// A function of the second of two equal types, and of the one type.
+const OF_SECOND_TYPE: &str = "01 07 02 60 00 00 60 00 00 03 02 01 01 0A 04 01 02 00 0B";
+
+const OF_ONE_TYPE: &str = "01 04 01 60 00 00 03 02 01 00 0A 04 01 02 00 0B";
+
+// The type [i32] to [], which nothing uses.
+const UNUSED_TYPE: &str = "01 05 01 60 01 7F 00";
+
+#[test]
+fn equal_types_stand_once_and_unused_ones_stay(rt: HostRuntime) -> Result<(), Fail> {
+    let alloc = rt.alloc();
+    for (a, b, merged) in [
+        (OF_SECOND_TYPE, "", OF_ONE_TYPE),
+        (
+            UNUSED_TYPE,
+            OF_SECOND_TYPE,
+            "01 08 02 60 01 7F 00 60 00 00 03 02 01 01 0A 04 01 02 00 0B",
+        ),
+    ] {
+        let (ended, err, files) = merge_twice(alloc, a, b, "")?;
+        let merged = module_of(alloc, merged)?;
+        assert_eq!(rt; err.text(), b"".as_slice(), "{a}");
+        assert_eq!(rt; ended, Status::Done, "{a}");
+        assert_eq!(rt; files.contents("o.wasm"), Some(merged.as_slice()), "{a}");
+        assert_eq!(rt; files.contents("p.wasm"), Some(merged.as_slice()), "{a}");
+    }
+    Ok(())
+}
+
 // A start that does nothing, exported as s, and a part that starts a.s.
 const STARTS_OWN: &str =
     "01 04 01 60 00 00 03 02 01 00 07 05 01 01 73 00 00 08 01 00 0A 04 01 02 00 0B";
@@ -189,7 +213,8 @@ const Y_READS_B_X: &str =
     "02 0F 02 01 65 01 68 03 7F 00 01 62 01 78 03 7F 00 06 06 01 7F 00 23 01 0B 07 05 01 01 79 03 02";
 
 // The global x of part b, which reads e.g, and which is e.g.
-const X_READS_E_G: &str = "02 08 01 01 65 01 67 03 7F 00 06 06 01 7F 00 23 00 0B 07 05 01 01 78 03 01";
+const X_READS_E_G: &str =
+    "02 08 01 01 65 01 67 03 7F 00 06 06 01 7F 00 23 00 0B 07 05 01 01 78 03 01";
 
 const X_IS_E_G: &str = "02 08 01 01 65 01 67 03 7F 00 07 05 01 01 78 03 00";
 
@@ -270,15 +295,19 @@ fn as_many_tables_as_the_limit_are_written(rt: HostRuntime) -> Result<(), Fail> 
 
 // A module as a linker leaves it, with padded indices, a name section and a producers section. All
 // but the code and these two sections comes out as it is.
-const BEFORE_CODE: &str = "01 0D 03 60 00 00 60 01 7F 01 7F 60 01 7F 00 02 0B 01 03 65 6E 76 03 6C 6F 67 00 02 03 05 04 00 00 01 01 04 05 01 70 01 05 05 05 03 01 00 02 06 08 01 7F 01 41 90 88 04 0B 07 24 03 06 6D 65 6D 6F 72 79 02 00 11 5F 5F 77 61 73 6D 5F 63 61 6C 6C 5F 63 74 6F 72 73 00 01 03 72 75 6E 00 04 09 07 01 00 41 01 0B 01 03";
+const BEFORE_CODE: &str =
+    "01 0D 03 60 00 00 60 01 7F 01 7F 60 01 7F 00 02 0B 01 03 65 6E 76 03 6C 6F 67 00 02 03 05 04 00 00 01 01 04 05 01 70 01 05 05 05 03 01 00 02 06 08 01 7F 01 41 90 88 04 0B 07 24 03 06 6D 65 6D 6F 72 79 02 00 11 5F 5F 77 61 73 6D 5F 63 61 6C 6C 5F 63 74 6F 72 73 00 01 03 72 75 6E 00 04 09 07 01 00 41 01 0B 01 03";
 
-const PADDED_CODE: &str = "0A 33 04 08 00 10 82 80 80 80 00 0B 0A 00 41 00 41 2A 36 02 84 08 0B 07 00 20 00 41 01 74 0B 15 00 20 00 10 80 80 80 80 00 20 00 41 01 11 81 80 80 80 00 00 0B";
+const PADDED_CODE: &str =
+    "0A 33 04 08 00 10 82 80 80 80 00 0B 0A 00 41 00 41 2A 36 02 84 08 0B 07 00 20 00 41 01 74 0B 15 00 20 00 10 80 80 80 80 00 20 00 41 01 11 81 80 80 80 00 00 0B";
 
-const SHORT_CODE: &str = "0A 27 04 04 00 10 02 0B 0A 00 41 00 41 2A 36 02 84 08 0B 07 00 20 00 41 01 74 0B 0D 00 20 00 10 00 20 00 41 01 11 01 00 0B";
+const SHORT_CODE: &str =
+    "0A 27 04 04 00 10 02 0B 0A 00 41 00 41 2A 36 02 84 08 0B 07 00 20 00 41 01 74 0B 0D 00 20 00 10 00 20 00 41 01 11 01 00 0B";
 
 const DATA: &str = "0B 09 01 00 41 80 08 0B 02 68 69";
 
-const CUSTOM: &str = "00 32 04 6E 61 6D 65 01 2B 05 00 03 6C 6F 67 01 11 5F 5F 77 61 73 6D 5F 63 61 6C 6C 5F 63 74 6F 72 73 02 04 69 6E 69 74 03 05 74 77 69 63 65 04 03 72 75 6E 00 0B 09 70 72 6F 64 75 63 65 72 73 00";
+const CUSTOM: &str =
+    "00 32 04 6E 61 6D 65 01 2B 05 00 03 6C 6F 67 01 11 5F 5F 77 61 73 6D 5F 63 61 6C 6C 5F 63 74 6F 72 73 02 04 69 6E 69 74 03 05 74 77 69 63 65 04 03 72 75 6E 00 0B 09 70 72 6F 64 75 63 65 72 73 00";
 
 #[test]
 fn a_module_as_a_linker_leaves_it_is_spelled_plainly(rt: HostRuntime) -> Result<(), Fail> {

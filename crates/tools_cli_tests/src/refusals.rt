@@ -1,4 +1,4 @@
-use crate::given::{GIVES, module_of_tables, run_line, two_files};
+use crate::given::{GIVES, merge_two, module_of_tables, run_line};
 use std::test::Fail;
 use tool_io::MemFiles;
 use tools_cli::Status;
@@ -41,9 +41,7 @@ fn parts_that_do_not_fit_are_refused_with_their_text(rt: HostRuntime) -> Result<
         ),
         (READS_B, READS_A, "binkit: a.wasm: global 1 has no value\n"),
     ] {
-        let mut files = two_files(alloc, a, b)?;
-        let line = "merge a.wasm a b.wasm b -o o.wasm";
-        let (ended, err) = run_line(alloc, &mut files, line)?;
+        let (ended, err, files) = merge_two(alloc, a, b, "")?;
         assert_eq!(rt; err.text(), text.as_bytes(), "{text}");
         assert_eq!(rt; ended, Status::Refused, "{text}");
         assert_eq!(rt; files.contents("o.wasm"), None, "{text}");
@@ -51,16 +49,31 @@ fn parts_that_do_not_fit_are_refused_with_their_text(rt: HostRuntime) -> Result<
     Ok(())
 }
 
+// A global that reads b.x, whose value is not read.
+const LEADS_TO_B: &str = "02 08 01 01 62 01 78 03 7F 00 06 06 01 7F 00 23 00 0B";
+
+#[test]
+fn the_first_global_that_leads_into_a_cycle_is_told(rt: HostRuntime) -> Result<(), Fail> {
+    let alloc = rt.alloc();
+    // as part b, READS_B reads itself
+    let (ended, err, files) = merge_two(alloc, LEADS_TO_B, READS_B, "")?;
+    let text = "binkit: a.wasm: global 1 has no value\n";
+    assert_eq!(rt; err.text(), text.as_bytes());
+    assert_eq!(rt; ended, Status::Refused);
+    assert_eq!(rt; files.contents("o.wasm"), None);
+    Ok(())
+}
+
 // Part a asks for e.m of 6 pages or more and exports the i32 global x. Part b asks for e.m of at
 // most 5 pages, and for a.x as an i64.
-const ASKS_FOR_6: &str = "02 08 01 01 65 01 6D 02 00 06 06 06 01 7F 00 41 05 0B 07 05 01 01 78 03 00";
+const ASKS_FOR_6: &str =
+    "02 08 01 01 65 01 6D 02 00 06 06 06 01 7F 00 41 05 0B 07 05 01 01 78 03 00";
 
 const ASKS_FOR_5_AND_I64: &str = "02 10 02 01 65 01 6D 02 01 01 05 01 61 01 78 03 7E 00";
 
 // Part a passes on e.t of 6 entries or more, and part b asks for it with at most 5. Each has a
 // memory.
-const TABLE_FROM_6: &str =
-    "02 09 01 01 65 01 74 01 70 00 06 05 03 01 00 01 07 05 01 01 74 01 00";
+const TABLE_FROM_6: &str = "02 09 01 01 65 01 74 01 70 00 06 05 03 01 00 01 07 05 01 01 74 01 00";
 
 const TABLE_TO_5: &str = "02 0A 01 01 61 01 74 01 70 01 01 05 05 03 01 00 01";
 
@@ -96,9 +109,7 @@ fn of_two_faults_the_earlier_in_the_order_is_told(rt: HostRuntime) -> Result<(),
         // before two exports of the name x
         (READS_B, READS_A, "binkit: a.wasm: global 1 has no value\n"),
     ] {
-        let mut files = two_files(alloc, a, b)?;
-        let line = "merge a.wasm a b.wasm b -o o.wasm";
-        let (ended, err) = run_line(alloc, &mut files, line)?;
+        let (ended, err, files) = merge_two(alloc, a, b, "")?;
         assert_eq!(rt; err.text(), text.as_bytes(), "{text}");
         assert_eq!(rt; ended, Status::Refused, "{text}");
         assert_eq!(rt; files.contents("o.wasm"), None, "{text}");
@@ -141,9 +152,7 @@ fn of_the_imports_with_a_fault_the_first_is_told(rt: HostRuntime) -> Result<(), 
             "binkit: a.wasm: import 1 does not match\n",
         ),
     ] {
-        let mut files = two_files(alloc, a, b)?;
-        let line = "merge a.wasm a b.wasm b -o o.wasm";
-        let (ended, err) = run_line(alloc, &mut files, line)?;
+        let (ended, err, files) = merge_two(alloc, a, b, "")?;
         assert_eq!(rt; err.text(), text.as_bytes(), "{text}");
         assert_eq!(rt; ended, Status::Refused, "{text}");
         assert_eq!(rt; files.contents("o.wasm"), None, "{text}");
@@ -157,10 +166,11 @@ const E_M_TWICE: &str = "02 0F 02 01 65 01 6D 02 00 01 01 65 01 6D 02 00 01";
 #[test]
 fn one_part_has_one_memory_even_where_two_are_of_one_name(rt: HostRuntime) -> Result<(), Fail> {
     let alloc = rt.alloc();
-    let mut files = two_files(alloc, E_M_TWICE, "")?;
-    let line = "merge a.wasm a b.wasm b -o o.wasm";
-    let (ended, err) = run_line(alloc, &mut files, line)?;
-    assert_eq!(rt; err.text(), b"binkit: a.wasm: invalid memories 2\n".as_slice());
+    let (ended, err, files) = merge_two(alloc, E_M_TWICE, "", "")?;
+    assert_eq!(rt;
+        err.text(),
+        b"binkit: a.wasm: invalid memories 2\n".as_slice()
+    );
     assert_eq!(rt; ended, Status::Refused);
     assert_eq!(rt; files.contents("o.wasm"), None);
     Ok(())

@@ -241,4 +241,3 @@ fn each_module_is_written_or_refused_with_its_text(rt: HostRuntime) -> Result<()
     }
     Ok(())
 }
-
