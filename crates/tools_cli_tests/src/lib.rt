@@ -2,4 +2,12 @@
 #![tactic(auto)]
 
 #[cfg(test)]
+mod given;
+#[cfg(test)]
+mod merges;
+#[cfg(test)]
+mod outside;
+#[cfg(test)]
+mod refusals;
+#[cfg(test)]
 mod tests;

@@ -1,0 +1,208 @@
+use crate::given::{GIVES, merge_two, module_of_tables, run_line};
+use std::test::Fail;
+use tool_io::MemFiles;
+use tools_cli::Status;
+
+// The memory env.memory, with a minimum of 6, and with 1 to 5.
+const FROM_6: &str = "02 0F 01 03 65 6E 76 06 6D 65 6D 6F 72 79 02 00 06";
+
+const FROM_1_TO_5: &str = "02 10 01 03 65 6E 76 06 6D 65 6D 6F 72 79 02 01 01 05";
+
+// A function that the other part is to give, exported as x.
+const FROM_B: &str = "01 04 01 60 00 00 02 07 01 01 62 01 78 00 00 07 05 01 01 78 00 00";
+
+const FROM_A: &str = "01 04 01 60 00 00 02 07 01 01 61 01 78 00 00 07 05 01 01 78 00 00";
+
+// A global that reads one which the other part is to give, exported as x.
+const READS_B: &str = "02 08 01 01 62 01 78 03 7F 00 06 06 01 7F 00 23 00 0B 07 05 01 01 78 03 01";
+
+const READS_A: &str = "02 08 01 01 61 01 78 03 7F 00 06 06 01 7F 00 23 00 0B 07 05 01 01 78 03 01";
+
+#[test]
+fn parts_that_do_not_fit_are_refused_with_their_text(rt: HostRuntime) -> Result<(), Fail> {
+    let alloc = rt.alloc();
+    for (a, b, text) in [
+        (GIVES, GIVES, "binkit: export f stands twice\n"),
+        (FROM_B, FROM_A, "binkit: a.wasm: import 0 has no end\n"),
+        (
+            FROM_6,
+            FROM_1_TO_5,
+            "binkit: a.wasm: import 0 has limits that clash\n",
+        ),
+        (
+            "05 03 01 00 01",
+            "05 03 01 00 01",
+            "binkit: more than one memory\n",
+        ),
+        (
+            GIVES,
+            "01 04 01 60 00 00 02 07 01 01 61 01 66 00 00",
+            "binkit: b.wasm: import 0 does not match\n",
+        ),
+        (READS_B, READS_A, "binkit: a.wasm: global 1 has no value\n"),
+    ] {
+        let (ended, err, files) = merge_two(alloc, a, b, "")?;
+        assert_eq!(rt; err.text(), text.as_bytes(), "{text}");
+        assert_eq!(rt; ended, Status::Refused, "{text}");
+        assert_eq!(rt; files.contents("o.wasm"), None, "{text}");
+    }
+    Ok(())
+}
+
+// A global that reads b.x, whose value is not read.
+const LEADS_TO_B: &str = "02 08 01 01 62 01 78 03 7F 00 06 06 01 7F 00 23 00 0B";
+
+#[test]
+fn the_first_global_that_leads_into_a_cycle_is_told(rt: HostRuntime) -> Result<(), Fail> {
+    let alloc = rt.alloc();
+    // as part b, READS_B reads itself
+    let (ended, err, files) = merge_two(alloc, LEADS_TO_B, READS_B, "")?;
+    let text = "binkit: a.wasm: global 1 has no value\n";
+    assert_eq!(rt; err.text(), text.as_bytes());
+    assert_eq!(rt; ended, Status::Refused);
+    assert_eq!(rt; files.contents("o.wasm"), None);
+    Ok(())
+}
+
+// Part a asks for e.m of 6 pages or more and exports the i32 global x. Part b asks for e.m of at
+// most 5 pages, and for a.x as an i64.
+const ASKS_FOR_6: &str =
+    "02 08 01 01 65 01 6D 02 00 06 06 06 01 7F 00 41 05 0B 07 05 01 01 78 03 00";
+
+const ASKS_FOR_5_AND_I64: &str = "02 10 02 01 65 01 6D 02 01 01 05 01 61 01 78 03 7E 00";
+
+// Part a passes on e.t of 6 entries or more, and part b asks for it with at most 5. Each has a
+// memory.
+const TABLE_FROM_6: &str = "02 09 01 01 65 01 74 01 70 00 06 05 03 01 00 01 07 05 01 01 74 01 00";
+
+const TABLE_TO_5: &str = "02 0A 01 01 61 01 74 01 70 01 01 05 05 03 01 00 01";
+
+// The parts whose globals read each other, each with a memory.
+const MEMORY_READS_B: &str =
+    "02 08 01 01 62 01 78 03 7F 00 05 03 01 00 01 06 06 01 7F 00 23 00 0B 07 05 01 01 78 03 01";
+
+const MEMORY_READS_A: &str =
+    "02 08 01 01 61 01 78 03 7F 00 05 03 01 00 01 06 06 01 7F 00 23 00 0B 07 05 01 01 78 03 01";
+
+#[test]
+fn of_two_faults_the_earlier_in_the_order_is_told(rt: HostRuntime) -> Result<(), Fail> {
+    let alloc = rt.alloc();
+    for (a, b, text) in [
+        // before limits that clash
+        (
+            ASKS_FOR_6,
+            ASKS_FOR_5_AND_I64,
+            "binkit: b.wasm: import 1 does not match\n",
+        ),
+        // before two memories
+        (
+            TABLE_FROM_6,
+            TABLE_TO_5,
+            "binkit: a.wasm: import 0 has limits that clash\n",
+        ),
+        // before a global without a value
+        (
+            MEMORY_READS_B,
+            MEMORY_READS_A,
+            "binkit: more than one memory\n",
+        ),
+        // before two exports of the name x
+        (READS_B, READS_A, "binkit: a.wasm: global 1 has no value\n"),
+    ] {
+        let (ended, err, files) = merge_two(alloc, a, b, "")?;
+        assert_eq!(rt; err.text(), text.as_bytes(), "{text}");
+        assert_eq!(rt; ended, Status::Refused, "{text}");
+        assert_eq!(rt; files.contents("o.wasm"), None, "{text}");
+    }
+    Ok(())
+}
+
+// Part a asks itself for the i32 global y as an i64, and for x, which is this very import; and the
+// same two in the other order.
+const MISMATCH_AND_CYCLE: &str =
+    "02 0F 02 01 61 01 79 03 7E 00 01 61 01 78 03 7F 00 06 06 01 7F 00 41 05 0B 07 09 02 01 79 03 02 01 78 03 01";
+
+const CYCLE_AND_MISMATCH: &str =
+    "02 0F 02 01 61 01 78 03 7F 00 01 61 01 79 03 7E 00 06 06 01 7F 00 41 05 0B 07 09 02 01 79 03 02 01 78 03 00";
+
+// Part a asks for e.g, and for b.y as an i64. Part b asks itself for x, which is this very import,
+// and its global y is an i32.
+const MISMATCH_BEHIND: &str = "02 0F 02 01 65 01 67 03 7F 00 01 62 01 79 03 7E 00";
+
+const CYCLE_IN_FRONT: &str =
+    "02 08 01 01 62 01 78 03 7F 00 06 06 01 7F 00 41 05 0B 07 09 02 01 79 03 01 01 78 03 00";
+
+#[test]
+fn of_the_imports_with_a_fault_the_first_is_told(rt: HostRuntime) -> Result<(), Fail> {
+    let alloc = rt.alloc();
+    for (a, b, text) in [
+        (
+            MISMATCH_AND_CYCLE,
+            "",
+            "binkit: a.wasm: import 0 does not match\n",
+        ),
+        (
+            CYCLE_AND_MISMATCH,
+            "",
+            "binkit: a.wasm: import 0 has no end\n",
+        ),
+        (
+            MISMATCH_BEHIND,
+            CYCLE_IN_FRONT,
+            "binkit: a.wasm: import 1 does not match\n",
+        ),
+    ] {
+        let (ended, err, files) = merge_two(alloc, a, b, "")?;
+        assert_eq!(rt; err.text(), text.as_bytes(), "{text}");
+        assert_eq!(rt; ended, Status::Refused, "{text}");
+        assert_eq!(rt; files.contents("o.wasm"), None, "{text}");
+    }
+    Ok(())
+}
+
+// The memory e.m, twice.
+const E_M_TWICE: &str = "02 0F 02 01 65 01 6D 02 00 01 01 65 01 6D 02 00 01";
+
+#[test]
+fn one_part_has_one_memory_even_where_two_are_of_one_name(rt: HostRuntime) -> Result<(), Fail> {
+    let alloc = rt.alloc();
+    let (ended, err, files) = merge_two(alloc, E_M_TWICE, "", "")?;
+    assert_eq!(rt;
+        err.text(),
+        b"binkit: a.wasm: invalid memories 2\n".as_slice()
+    );
+    assert_eq!(rt; ended, Status::Refused);
+    assert_eq!(rt; files.contents("o.wasm"), None);
+    Ok(())
+}
+
+#[test]
+fn too_many_tables_are_told_after_a_conflict_of_names(rt: HostRuntime) -> Result<(), Fail> {
+    let alloc = rt.alloc();
+    let export = "07 05 01 01 74 01 00";
+    let a = module_of_tables(alloc, "04 9A 75 88 27", 5000, export)?;
+    let b = module_of_tables(alloc, "04 9D 75 89 27", 5001, export)?;
+    for (line, text) in [
+        (
+            "merge a.wasm a b.wasm b -o o.wasm",
+            "binkit: export t stands twice\n",
+        ),
+        (
+            "merge a.wasm a b.wasm b -o o.wasm --skip-export-conflicts",
+            "binkit: output exceeds the limit on tables\n",
+        ),
+        (
+            "merge a.wasm a b.wasm b -o o.wasm --rename-export-conflicts",
+            "binkit: output exceeds the limit on tables\n",
+        ),
+    ] {
+        let mut files = MemFiles::new(alloc);
+        files.add("a.wasm", a.as_slice())?;
+        files.add("b.wasm", b.as_slice())?;
+        let (ended, err) = run_line(alloc, &mut files, line)?;
+        assert_eq!(rt; err.text(), text.as_bytes(), "{line}");
+        assert_eq!(rt; ended, Status::Refused, "{line}");
+        assert_eq!(rt; files.contents("o.wasm"), None, "{line}");
+    }
+    Ok(())
+}
