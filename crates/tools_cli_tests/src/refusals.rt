@@ -49,7 +49,7 @@ fn parts_that_do_not_fit_are_refused_with_their_text(rt: HostRuntime) -> Result<
     Ok(())
 }
 
-// A global that reads b.x, whose value is not read.
+// A global that reads b.x, and that nothing reads.
 const LEADS_TO_B: &str = "02 08 01 01 62 01 78 03 7F 00 06 06 01 7F 00 23 00 0B";
 
 #[test]
@@ -150,6 +150,51 @@ fn of_the_imports_with_a_fault_the_first_is_told(rt: HostRuntime) -> Result<(), 
             MISMATCH_BEHIND,
             CYCLE_IN_FRONT,
             "binkit: a.wasm: import 1 does not match\n",
+        ),
+    ] {
+        let (ended, err, files) = merge_two(alloc, a, b, "")?;
+        assert_eq!(rt; err.text(), text.as_bytes(), "{text}");
+        assert_eq!(rt; ended, Status::Refused, "{text}");
+        assert_eq!(rt; files.contents("o.wasm"), None, "{text}");
+    }
+    Ok(())
+}
+
+// The parts of the two tests above, each with the fault mended that is told there.
+#[test]
+fn where_the_earlier_fault_is_mended_the_later_is_told(rt: HostRuntime) -> Result<(), Fail> {
+    let alloc = rt.alloc();
+    for (a, b, text) in [
+        (
+            ASKS_FOR_6,
+            "02 10 02 01 65 01 6D 02 01 01 05 01 61 01 78 03 7F 00",
+            "binkit: a.wasm: import 0 has limits that clash\n",
+        ),
+        (
+            TABLE_FROM_6,
+            "02 09 01 01 61 01 74 01 70 00 01 05 03 01 00 01",
+            "binkit: more than one memory\n",
+        ),
+        (READS_B, READS_A, "binkit: a.wasm: global 1 has no value\n"),
+        (
+            READS_B,
+            "06 06 01 7F 00 41 05 0B 07 05 01 01 78 03 00",
+            "binkit: export x stands twice\n",
+        ),
+        (
+            "02 0F 02 01 61 01 79 03 7F 00 01 61 01 78 03 7F 00 06 06 01 7F 00 41 05 0B 07 09 02 01 79 03 02 01 78 03 01",
+            "",
+            "binkit: a.wasm: import 1 has no end\n",
+        ),
+        (
+            "02 0F 02 01 61 01 78 03 7F 00 01 61 01 79 03 7E 00 06 06 01 7F 00 41 05 0B 07 09 02 01 79 03 02 01 78 03 02",
+            "",
+            "binkit: a.wasm: import 1 does not match\n",
+        ),
+        (
+            "02 0F 02 01 65 01 67 03 7F 00 01 62 01 79 03 7F 00",
+            CYCLE_IN_FRONT,
+            "binkit: b.wasm: import 0 has no end\n",
         ),
     ] {
         let (ended, err, files) = merge_two(alloc, a, b, "")?;
