@@ -1,16 +1,14 @@
 -- What the parts hold, as their validity gives it, and what has entries in a map that fits.
-use Rattle.std.proofs.Common.{◌≡◌, sym, ap, subst, refl, ℕ, zero, suc, ◌<◌, arith, slice_get, Some, List, [], ◌∷◌, ◌++◌, length, true, IsTrue, get_or, ◌↔◌}
-use Rattle.std.specs.List.{flat_map, list_all}
+use Rattle.std.proofs.Common.{◌≡◌, sym, subst, refl, ℕ, zero, suc, ◌<◌, arith, slice_get, Some, List, [], ◌∷◌, length, true, IsTrue, get_or, ◌↔◌}
+use Rattle.std.specs.List.{list_all}
 use Rattle.wasm_tree.specs.declared.module.Import.{Import}
 use Rattle.wasm_tree.specs.declared.module.Module.{Module}
 use Rattle.wasm_valid.specs.declared.kinds.ItemKind.{ItemKind}
 use Rattle.wasm_valid.specs.Validity.{HoldsAt, IsValid, count_of}
-use Rattle.wasm_meaning.specs.Linking.{Part}
 use Rattle.index_remap.specs.declared.remap.Remap.{Remap}
 use Rattle.index_remap.specs.Renumbered.{fits_func, fits_tree, fits_import, fits_import_desc, fits_global, fits_export, fits_start, fits_elem, fits_data}
 use Rattle.index_remap.proofs.Fits.{each_at}
 use Rattle.remap_typing.proofs.Lists.{left_true, right_true}
-use Rattle.merge_terms.specs.Merged.{by_part_from, by_part}
 
 abbrev pub ItemsHold : Module → Type 0
 ItemsHold m = (k : ItemKind) (i : ℕ) → i < count_of m true k → HoldsAt m k i
@@ -54,12 +52,3 @@ fitting r m h =
 
 pub import_fits : (r : Remap) (m : Module) (is : List Import) (n : ℕ) (i : Import) → IsTrue (fits_tree r m) → is ≡ m.imports → n < length is → i ≡ get_or is n i → IsTrue (fits_import_desc r i.desc)
 import_fits r m is n i h same lt here = each_at (fits_import r) is n i (subst (λ (is : List Import). IsTrue (list_all (fits_import r) is)) (sym same) (fitting r m h).imports) lt here
-
--- ---- lists of parts ----
-
-flat_from : {A : Type 0} (f : Module → List A) (q : ℕ) (ps : List Part) → by_part_from (λ p m. f m) q ps ≡ flat_map (λ (p : Part). f p.«module») ps
-flat_from f q [] = refl
-flat_from f q (part ∷ ps) = ap (λ rest. f part.«module» ++ rest) (flat_from f (suc q) ps)
-
-pub flat_parts : {A : Type 0} (f : Module → List A) (ps : List Part) → by_part (λ p m. f m) ps ≡ flat_map (λ (p : Part). f p.«module») ps
-flat_parts f ps = flat_from f 0 ps

@@ -31,8 +31,8 @@ use Rattle.merge_terms.specs.Merged.{by_part_from, map_of, defined_funcs, merged
 use Rattle.merge_join.specs.Reads.{HasType}
 use Rattle.merge_join.specs.Moved.{moved_const, moved_global, moved_elem_mode, moved_elem, moved_data_mode, moved_data, with_moved, AreValues}
 use Rattle.merge_join.specs.Planned.{IsMoved}
-use Rattle.merge_join.proofs.ByPart.{named_length, part_more}
-use Rattle.merge_join.proofs.Holding.{ValidIsHeld, flat_parts}
+use Rattle.merge_join.proofs.ByPart.{named_length, part_more, flat_is}
+use Rattle.merge_join.proofs.Holding.{ValidIsHeld}
 use Rattle.merge_join.proofs.Reading.{becomes_new}
 
 map_alike : {A B : Type 0} (f g : A → B) (xs : List A) → ((i : ℕ) (x : A) → slice_get xs i ≡ Some x → f x ≡ g x) → map f xs ≡ map g xs
@@ -171,8 +171,8 @@ moved_all parts p tree end is =
     let all : tree ≡ filled ps ps = is ∙ ap (filled ps) (take_all p ps (omega (arith, end, named_length parts))) in
     record {
       funcs_are = ap (λ (m : Module). m.funcs) all;
-      tables_are = ap (λ (m : Module). m.tables) all ∙ flat_parts (λ m. m.tables) ps;
-      mems_are = ap (λ (m : Module). m.mems) all ∙ flat_parts (λ m. m.mems) ps;
+      tables_are = ap (λ (m : Module). m.tables) all ∙ sym (flat_is (λ m. m.tables) ps);
+      mems_are = ap (λ (m : Module). m.mems) all ∙ sym (flat_is (λ m. m.mems) ps);
       globals_are = ap (λ (m : Module). m.globals) all;
       elems_are = ap (λ (m : Module). m.elems) all;
       datas_are = ap (λ (m : Module). m.datas) all;

@@ -1,8 +1,10 @@
 -- Two function types are equal exactly where their texts are.
-use Rattle.std.proofs.Common.{◌≡◌, ◌∙◌, sym, ap, refl, List, [], ◌∷◌, ◌++◌, map, Bool, true, false, arith, ◌&&◌}
+use Rattle.std.proofs.Common.{◌≡◌, ◌∙◌, sym, ap, refl, List, [], ◌∷◌, ◌++◌, map, true, arith}
 use Rattle.std.specs.Str.{bytes_eq}
 use Rattle.std.proofs.lemmas.Slice.Eq.{bytes_eq-Decides}
+use Rattle.std.proofs.lemmas.Bool.{and_parts, and_from}
 use Rattle.base_lists.proofs.Bools.{same_tests}
+use Rattle.base_lists.proofs.Same.{each_same_is, each_same_self}
 use Rattle.wasm_tree.specs.declared.types.RefType.TheVariants as reft
 use Rattle.wasm_tree.specs.declared.types.ValType.{ValType}
 use Rattle.wasm_tree.specs.declared.types.ValType.TheVariants as valt
@@ -67,51 +69,16 @@ texts_differ : (t u : FuncType) → text_of_type t ≡ text_of_type u → t ≡ 
 unfolding text_of_type
 texts_differ t u e = let s = split t.params u.params t.results u.results e in ap (λ ps. typed ps t.results) s.params ∙ ap (typed u.params) s.results
 
-refs_same : (s t : ValType) → same_type s t ≡ true → s ≡ t
-refs_same valt.I32 valt.I32 e = refl
-refs_same valt.I32 valt.I64 e = cc
-refs_same valt.I32 (valt.Ref r) e = cc
-refs_same valt.I64 valt.I32 e = cc
-refs_same valt.I64 valt.I64 e = refl
-refs_same valt.I64 (valt.Ref r) e = cc
-refs_same (valt.Ref r) valt.I32 e = cc
-refs_same (valt.Ref r) valt.I64 e = cc
-refs_same (valt.Ref reft.Func) (valt.Ref reft.Func) e = refl
-refs_same (valt.Ref reft.Func) (valt.Ref reft.Extern) e = cc
-refs_same (valt.Ref reft.Extern) (valt.Ref reft.Func) e = cc
-refs_same (valt.Ref reft.Extern) (valt.Ref reft.Extern) e = refl
-
-type_self : (s : ValType) → same_type s s ≡ true
-type_self valt.I32 = refl
-type_self valt.I64 = refl
-type_self (valt.Ref reft.Func) = refl
-type_self (valt.Ref reft.Extern) = refl
-
-both_true : (a b : Bool) → a && b ≡ true → (a ≡ true) × (b ≡ true)
-both_true true true e = (refl, refl)
-both_true true false e = cc
-both_true false b e = cc
-
-types_same : (ss ts : List ValType) → same_types ss ts ≡ true → ss ≡ ts
-types_same [] [] e = refl
-types_same [] (t ∷ ts) e = cc
-types_same (s ∷ ss) [] e = cc
-types_same (s ∷ ss) (t ∷ ts) e =
-    let both = both_true (same_type s t) (same_types ss ts) e in
-    let a = refs_same s t both.0 in
-    let b = types_same ss ts both.1 in cc
-
-types_self : (ss : List ValType) → same_types ss ss ≡ true
-types_self [] = refl
-types_self (s ∷ ss) = ap (λ (b : Bool). b && same_types ss ss) (type_self s) ∙ types_self ss
-
 pub funcs_same : (t u : FuncType) → same_func_type t u ≡ true → t ≡ u
 funcs_same t u e =
-    let both = both_true (same_types t.params u.params) (same_types t.results u.results) e in
-    ap (λ ps. typed ps t.results) (types_same t.params u.params both.0) ∙ ap (typed u.params) (types_same t.results u.results both.1)
+    let same = each_same_is same_type (λ x y h. grind arith) in
+    let both = and_parts (same_types t.params u.params) (same_types t.results u.results) e in
+    ap (λ ps. typed ps t.results) (same t.params u.params both.0) ∙ ap (typed u.params) (same t.results u.results both.1)
 
 pub func_self : (t : FuncType) → same_func_type t t ≡ true
-func_self t = ap (λ (b : Bool). b && same_types t.results t.results) (types_self t.params) ∙ types_self t.results
+func_self t =
+    let self = each_same_self same_type (λ x. grind arith) in
+    and_from (same_types t.params t.params) (same_types t.results t.results) (self t.params) (self t.results)
 
 -- types are the same exactly where their texts are
 pub same_by_text : (t u : FuncType) → same_func_type t u ≡ bytes_eq (text_of_type t) (text_of_type u)
