@@ -99,7 +99,7 @@ PARTS = [
     ("reading sections", "wasm_read::sections::read_section"),
     ("typing bodies", "wasm_typing::check::is_well_typed"),
     ("joining", "merge_join::tree::joined_tree"),
-    ("renumbering bodies, in joining", "index_remap::in_place::renumber_all_in_place"),
+    ("renumbering bodies, in joining", "index_remap::in_place::rewrite_all"),
     ("measuring", "wasm_write::fits"),
     ("writing", "wasm_write::write"),
 ]
