@@ -41,37 +41,56 @@ def of_instructions(text):
     return of_bodies([b"\x00" + text * ((1 << 20) // len(text)) + END])
 
 
-def shapes():
-    yield "blocks of a type of 1,000 parameters and results", of_wide_type(BLOCK + b"\x01" + END)
-    yield "calls of a type of 1,000 parameters and results", of_wide_type(CALL + b"\x01")
-    yield "`block` `block` `end` `end`, again and again", of_instructions((BLOCK + b"\x40") * 2 + END * 2)
-    yield "blocks 999 deep, again and again", of_instructions((BLOCK + b"\x40") * 999 + END * 999)
-    yield "`block` `nop` `end`, again and again", of_instructions(BLOCK + b"\x40" + NOP + END)
-    yield "a million `nop`", of_instructions(NOP)
-    yield "one name of 16,000,000 bytes", of_bodies([b"\x00" + END], section(7, b"\x01" + leb(16000000) + b"n" * 16000000 + b"\0\0"))
-    yield "one `br_table` of a million labels", of_bodies([b"\x00\x02\x40\x41\x00\x0e" + leb(1000000) + b"\x00" * 1000001 + b"\x0b\x0b"])
-    many_locals = b"\x02" + leb(25000) + b"\x7f" + leb(25000) + b"\x7e\x20" + leb(49999) + b"\x1a\x0b"
-    yield "100,000 functions of 50,000 locals each", of_bodies([many_locals] * 100000)
+def of_many_locals():
+    groups = b"\x02" + leb(25000) + b"\x7f" + leb(25000) + b"\x7e\x20" + leb(49999) + b"\x1a\x0b"
+    return of_bodies([groups] * 100000)
+
+
+def of_exports():
     names = [b"n%d" % number for number in range(500000)]
     exports = section(7, leb(len(names)) + b"".join(leb(len(name)) + name + b"\0\0" for name in names))
-    yield "500,000 exports", of_bodies([b"\x00\x0b"], exports)
-    yield "a million empty functions", of_bodies([b"\x00\x0b"] * 1000000)
+    return of_bodies([b"\x00\x0b"], exports)
+
+
+SHAPES = [
+    ("blocks of a type of 1,000 parameters and results", lambda: of_wide_type(BLOCK + b"\x01" + END)),
+    ("calls of a type of 1,000 parameters and results", lambda: of_wide_type(CALL + b"\x01")),
+    ("`block` `block` `end` `end`, again and again", lambda: of_instructions((BLOCK + b"\x40") * 2 + END * 2)),
+    ("blocks 999 deep, again and again", lambda: of_instructions((BLOCK + b"\x40") * 999 + END * 999)),
+    ("`block` `nop` `end`, again and again", lambda: of_instructions(BLOCK + b"\x40" + NOP + END)),
+    ("a million `nop`", lambda: of_instructions(NOP)),
+    ("one name of 16,000,000 bytes", lambda: of_bodies([b"\x00" + END], section(7, b"\x01" + leb(16000000) + b"n" * 16000000 + b"\0\0"))),
+    ("one `br_table` of a million labels", lambda: of_bodies([b"\x00\x02\x40\x41\x00\x0e" + leb(1000000) + b"\x00" * 1000001 + b"\x0b\x0b"])),
+    ("100,000 functions of 50,000 locals each", of_many_locals),
+    ("500,000 exports", of_exports),
+    ("a million empty functions", lambda: of_bodies([b"\x00\x0b"] * 1000000)),
+]
+
+
+def write_apart(make, name):
+    """Writes a shape in a process of its own: what a tool takes is measured from the memory of the process that starts it."""
+    maker = os.fork()
+    if maker == 0:
+        with open(name, "wb") as file:
+            file.write(make())
+        os._exit(0)
+    os.waitpid(maker, 0)
 
 
 def main():
     print("| shape | MiB | tool | seconds | MiB of memory |\n|---|---|---|---|---|")
     with tempfile.TemporaryDirectory() as folder:
         name, out = os.path.join(folder, "in.wasm"), os.path.join(folder, "out.wasm")
-        for shape, content in shapes():
-            with open(name, "wb") as file:
-                file.write(content)
+        for shape, make in SHAPES:
+            write_apart(make, name)
+            size = os.path.getsize(name) / (1 << 20)
             for tool, command in ("binkit merge", [PROGRAM, "merge", name, "m", "-o", out]), ("wasm-validate", ["wasm-validate", name]):
                 if not shutil.which(command[0]):
                     print(f"| {shape} | | {tool} | skipped: not installed | |")
                     continue
                 runs = [timed(command) for _ in range(3)]
                 ended = "failed" if any(run[2] for run in runs) else f"{min(run[0] for run in runs):.2f}"
-                print(f"| {shape} | {len(content) / (1 << 20):.1f} | {tool} | {ended} | {max(run[1] for run in runs):.0f} |", flush=True)
+                print(f"| {shape} | {size:.1f} | {tool} | {ended} | {max(run[1] for run in runs):.0f} |", flush=True)
 
 
 if __name__ == "__main__":
