@@ -1,4 +1,5 @@
 use crate::given::{A, CUT, HEADER, run_line, words_of};
+use std::alloc::Global;
 use std::test::Fail;
 use tool_io::{MemFiles, MemSink};
 use tools_cli::{Status, run};
@@ -54,6 +55,38 @@ fn faults_of_files_and_of_standard_error_are_told(rt: HostRuntime) -> Result<(),
         assert_eq!(rt; ended.code(), 3);
         assert_eq!(rt; err.text(), text.as_bytes(), "{text}");
         assert_eq!(rt; files.contents("o.wasm"), half, "{text}");
+    }
+    Ok(())
+}
+
+// So many bytes, each of them 0.
+fn zeros(alloc: Global, count: usize) -> Result<Vec<u8>, Fail> {
+    let mut bytes = Vec::new(alloc);
+    for _ in 0..count {
+        bytes.push(0)?;
+    }
+    Ok(bytes)
+}
+
+#[test]
+fn input_files_have_16_mib_at_most_together(rt: HostRuntime) -> Result<(), Fail> {
+    let alloc = rt.alloc();
+    let half = zeros(alloc, 8_388_608)?;
+    let more = zeros(alloc, 8_388_609)?;
+    for (second, text) in [
+        (
+            half.as_slice(),
+            "binkit: a.wasm: not a WebAssembly module\n",
+        ),
+        (more.as_slice(), "binkit: b.wasm: limit on input bytes\n"),
+    ] {
+        let mut files = MemFiles::new(alloc);
+        files.add("a.wasm", half.as_slice())?;
+        files.add("b.wasm", second)?;
+        let (ended, err) = run_line(alloc, &mut files, "merge a.wasm a b.wasm b -o o.wasm")?;
+        assert_eq!(rt; err.text(), text.as_bytes());
+        assert_eq!(rt; ended, Status::Refused, "{text}");
+        assert_eq!(rt; files.contents("o.wasm"), None, "{text}");
     }
     Ok(())
 }
