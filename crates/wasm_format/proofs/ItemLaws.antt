@@ -113,10 +113,10 @@ data_exact = chosen_exact u32_exact (λ n.
 
 -- ---- locals
 
-abbrev small_group : ℕ → LocalGroup → Type 0
+abbrev pub small_group : ℕ → LocalGroup → Type 0
 small_group sum g = g.count ≤ limit Locals - sum
 
-group_exact : (sum : ℕ) → Exact SpellsGroup (small_group sum) (local_at sum)
+pub group_exact : (sum : ℕ) → Exact SpellsGroup (small_group sum) (local_at sum)
 unfolding local_at
 group_exact sum = record {
   sound = λ bytes g rest small e.
@@ -131,14 +131,14 @@ group_exact sum = record {
   complete = λ text rest g h k. rw (split _ _ text rest h, u32_exact.complete h.0 (h.1 ++ rest) g.count h.2 tt, le-ltb (limit Locals - sum) g.count k, val_exact.complete h.1 rest g.ty h.3 tt);
 }
 
-declared_more : (g : LocalGroup) (gs : List LocalGroup) → declared_count (g ∷ gs) ≡ g.count + declared_count gs
+pub declared_more : (g : LocalGroup) (gs : List LocalGroup) → declared_count (g ∷ gs) ≡ g.count + declared_count gs
 declared_more g gs = sum-map (λ (h : LocalGroup). h.count) (g ∷ gs) ∙ sum_by-cons (λ (h : LocalGroup). h.count) g gs ∙ ap (λ n. g.count + n) (sym (sum-map (λ (h : LocalGroup). h.count) gs))
 
-along_sum : (sum : ℕ) (gs : List LocalGroup) → sum ≤ limit Locals → Along small_group with_group sum gs → sum + declared_count gs ≤ limit Locals
+pub along_sum : (sum : ℕ) (gs : List LocalGroup) → sum ≤ limit Locals → Along small_group with_group sum gs → sum + declared_count gs ≤ limit Locals
 along_sum sum [] le h = omega arith
 along_sum sum (g ∷ gs) le h = let k = along_sum (sum + g.count) gs (omega (arith, h.0)) h.1 in omega (arith, k, declared_more g gs)
 
-sum_along : (sum : ℕ) (gs : List LocalGroup) → sum + declared_count gs ≤ limit Locals → Along small_group with_group sum gs
+pub sum_along : (sum : ℕ) (gs : List LocalGroup) → sum + declared_count gs ≤ limit Locals → Along small_group with_group sum gs
 sum_along sum [] h = tt
 sum_along sum (g ∷ gs) h = let e = declared_more g gs in (omega (arith, h, e), sum_along (sum + g.count) gs (omega (arith, h, e)))
 

@@ -3,6 +3,8 @@ pub mod Blocks
 pub mod Exact
 pub mod Framing
 pub mod ItemLaws
+pub mod Stopping
+pub mod ItemStops
 pub mod TokenLaws
 pub mod Leaves
 pub mod BodyLaws

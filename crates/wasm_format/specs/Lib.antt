@@ -8,4 +8,5 @@ pub mod Files
 pub mod Reading
 pub mod BodyReading
 pub mod Contents
+pub mod Stops
 pub mod Causes
