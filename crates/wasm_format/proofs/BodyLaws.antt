@@ -49,10 +49,10 @@ module _ (many : Bool) where
   tokens_join (t ∷ a) b front back h k =
       (h.0, h.1 ++ back, h.2, tokens_join a b h.1 back h.3 k, ap (λ xs. xs ++ back) h.4 ∙ append_assoc h.0 h.1 back)
 
-  long : (text : List ℕ) (t : Token) → SpellsToken many text t → 0 < length text
+  pub long : (text : List ℕ) (t : Token) → SpellsToken many text t → 0 < length text
   long text t h = omega (arith, ap length (h.1.4 ∙ ap (λ z. z ++ h.1.1) h.1.2))
 
-  flat_token : (d : ℕ) (text : List ℕ) (i : Instr) → SpellsToken many text (Plain i) → depth_of i ≤ d
+  pub flat_token : (d : ℕ) (text : List ℕ) (i : Instr) → SpellsToken many text (Plain i) → depth_of i ≤ d
   flat_token d text i h = let e = of_token many (λ j. depth_of j ≡ 0) (flat many) text i h in omega (arith, e)
 
   four : (a b c : List Token) → ((a ++ Else ∷ []) ++ (b ++ End ∷ [])) ++ c ≡ a ++ Else ∷ (b ++ End ∷ c)
@@ -60,16 +60,16 @@ module _ (many : Bool) where
 
   -- ---- what is spelled is read
 
-  abbrev Reads : ℕ → List ℕ → List Instr → List ℕ → Type 0
+  abbrev pub Reads : ℕ → List ℕ → List Instr → List ℕ → Type 0
   Reads d text is tail = (n : ℕ) → length (text ++ tail) ≤ n → (m : ℕ) × (length tail ≤ m) × (sequence_at many n d (text ++ tail) ≡ behind is (sequence_at many m d tail))
 
-  reads_to_end : (d : ℕ) (text : List ℕ) (is : List Instr) (last rest : List ℕ) → Reads d text is (last ++ rest) → SpellsToken many last End →
+  pub reads_to_end : (d : ℕ) (text : List ℕ) (is : List Instr) (last rest : List ℕ) → Reads d text is (last ++ rest) → SpellsToken many last End →
       (n : ℕ) → length (text ++ (last ++ rest)) ≤ n → sequence_at many n d (text ++ (last ++ rest)) ≡ Ok (record { items = is; by_else = false }, rest)
   reads_to_end d text is last rest r s n enough =
       let q = r n enough in
       q.2 ∙ ap (behind is) (seq_end many d q.0 (last ++ rest) rest q.1 (token_complete many last End rest s)) ∙ rw append-nil
 
-  reads_to_else : (d : ℕ) (text : List ℕ) (is : List Instr) (last rest : List ℕ) → Reads d text is (last ++ rest) → SpellsToken many last Else →
+  pub reads_to_else : (d : ℕ) (text : List ℕ) (is : List Instr) (last rest : List ℕ) → Reads d text is (last ++ rest) → SpellsToken many last Else →
       (n : ℕ) → length (text ++ (last ++ rest)) ≤ n → sequence_at many n d (text ++ (last ++ rest)) ≡ Ok (record { items = is; by_else = true }, rest)
   reads_to_else d text is last rest r s n enough =
       let q = r n enough in
@@ -166,7 +166,7 @@ module _ (many : Bool) where
   Found d bytes s rest = (ts : List Token) × NestsIn d ts s.items × Took (λ text. Each (SpellsToken many) text (ts ++ ender s.by_else ∷ [])) bytes rest
 
   -- the bytes begin with tokens that with an opening one before them are the instruction, whatever follows
-  abbrev Node : ℕ → Opener → BlockType → Instr → List ℕ → List ℕ → Type 0
+  abbrev pub Node : ℕ → Opener → BlockType → Instr → List ℕ → List ℕ → Type 0
   Node d k ty i bytes rest = (mid : List Token) × ((ts : List Token) (is : List Instr) → NestsIn d ts is → NestsIn d (Open k ty ∷ (mid ++ ts)) (i ∷ is)) × Took (λ text. Each (SpellsToken many) text mid) bytes rest
 
   behind_ok : (a : List Instr) (r : Read Sequence) (s : Sequence) (rest : List ℕ) → behind a r ≡ Ok (s, rest) → (t : Sequence) × (r ≡ Ok (t, rest)) × (record { items = a ++ t.items; by_else = t.by_else } ≡ s)
@@ -177,25 +177,25 @@ module _ (many : Bool) where
   closed_by true x i mid rest e = absurd (err_ok Malformed _ e)
   closed_by false x i mid rest e = let q = ok_pair {E = Fault} x i mid rest e in (refl, q.0, q.1)
 
-  armed : {A : Type 0} (b : Bool) (x y z : A) → cond b x y ≡ z → ((b ≡ true) × (x ≡ z)) ⊎ ((b ≡ false) × (y ≡ z))
+  pub armed : {A : Type 0} (b : Bool) (x y z : A) → cond b x y ≡ z → ((b ≡ true) × (x ≡ z)) ⊎ ((b ≡ false) × (y ≡ z))
   armed true x y z e = inl (refl, e)
   armed false x y z e = inr (refl, e)
 
   -- the tokens and the end
-  ended : (d : ℕ) (bytes : List ℕ) (s : Sequence) (rest : List ℕ) (b : Bool) (f : Found d bytes s rest) → s.by_else ≡ b → Took (λ text. Each (SpellsToken many) text (f.0 ++ ender b ∷ [])) bytes rest
+  pub ended : (d : ℕ) (bytes : List ℕ) (s : Sequence) (rest : List ℕ) (b : Bool) (f : Found d bytes s rest) → s.by_else ≡ b → Took (λ text. Each (SpellsToken many) text (f.0 ++ ender b ∷ [])) bytes rest
   ended d bytes s rest b f e = subst (λ c. Took (λ text. Each (SpellsToken many) text (f.0 ++ ender c ∷ [])) bytes rest) e f.2
 
-  took_join : (a b : List Token) (bytes mid rest : List ℕ) → Took (λ t. Each (SpellsToken many) t a) bytes mid → Took (λ t. Each (SpellsToken many) t b) mid rest → Took (λ t. Each (SpellsToken many) t (a ++ b)) bytes rest
+  pub took_join : (a b : List Token) (bytes mid rest : List ℕ) → Took (λ t. Each (SpellsToken many) t a) bytes mid → Took (λ t. Each (SpellsToken many) t b) mid rest → Took (λ t. Each (SpellsToken many) t (a ++ b)) bytes rest
   took_join a b bytes mid rest p q = (p.0 ++ q.0, tokens_join a b p.0 q.0 p.1 q.1, p.2 ∙ ap (λ xs. p.0 ++ xs) q.2 ∙ sym (append_assoc p.0 q.0 rest))
 
   place : (d : ℕ) (k : Opener) (ty : BlockType) (x i : Instr) (a b : List Token) (is : List Instr) → a ≡ b → x ≡ i → NestsIn d (Open k ty ∷ b) (x ∷ is) → NestsIn d (Open k ty ∷ a) (i ∷ is)
   place d k ty x i a b is p q n = rw (p, ← q) n
 
-  one_token : (t : Token) (bytes rest : List ℕ) → Took (λ x. SpellsToken many x t) bytes rest → Took (λ x. Each (SpellsToken many) x (t ∷ [])) bytes rest
+  pub one_token : (t : Token) (bytes rest : List ℕ) → Took (λ x. SpellsToken many x t) bytes rest → Took (λ x. Each (SpellsToken many) x (t ∷ [])) bytes rest
   one_token t bytes rest k = (k.0, (k.0, [], k.1, refl, sym (append-nil k.0)), k.2)
 
   module _ (next : ℕ → List ℕ → Read Sequence) (ih : (d : ℕ) (bytes : List ℕ) (s : Sequence) (rest : List ℕ) → IsBytes bytes → next d bytes ≡ Ok (s, rest) → Found d bytes s rest) where
-    block_sound : (d : ℕ) (k : Opener) (ty : BlockType) (bytes : List ℕ) (i : Instr) (rest : List ℕ) → IsBytes bytes → block_at next d k ty bytes ≡ Ok (i, rest) → Node d k ty i bytes rest
+    pub block_sound : (d : ℕ) (k : Opener) (ty : BlockType) (bytes : List ℕ) (i : Instr) (rest : List ℕ) → IsBytes bytes → block_at next d k ty bytes ≡ Ok (i, rest) → Node d k ty i bytes rest
     unfolding block_at
     block_sound zero k ty bytes i rest small e = absurd (err_ok (Limit Nesting) _ e)
     block_sound (suc d) opener.Block ty bytes i rest small e =

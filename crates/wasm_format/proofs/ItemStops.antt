@@ -88,33 +88,33 @@ mut_coding b = code_if _ (b == 0x00) _ _ (λ t. value false) (λ n. code_if _ (b
 only_first : {A B : Type 0} {P : List ℕ → A → Type 0} {S : A → Type 0} {T : Stop → List ℕ → Type 0} {r : Reader B} → Tells (BothStops P S T NoStop) r → Tells T r
 only_first = other_stops (λ s b h. ⊎_elim (λ k. k) (λ k. absurd k.2.3) h) (λ s b h. inl h)
 
-nothing_then : {A B : Type 0} {P : List ℕ → A → Type 0} {S : A → Type 0} {r : Reader A} {q : Reader B} → Exact P S r → Tells NoStop r → Tells NoStop q → Tells NoStop (pair_at r q)
+pub nothing_then : {A B : Type 0} {P : List ℕ → A → Type 0} {S : A → Type 0} {r : Reader A} {q : Reader B} → Exact P S r → Tells NoStop r → Tells NoStop q → Tells NoStop (pair_at r q)
 nothing_then exact a b = only_first (pair_tells exact a b)
 
-nothing_when : {A : Type 0} {r q : Reader A} (test : Bool) → Tells NoStop r → Tells NoStop q → Tells NoStop (when_at test r q)
+pub nothing_when : {A : Type 0} {r q : Reader A} (test : Bool) → Tells NoStop r → Tells NoStop q → Tells NoStop (when_at test r q)
 nothing_when true a b = record { found = a.found; met = a.met }
 nothing_when false a b = record { found = b.found; met = b.met }
 
-nothing_chosen : {K A : Type 0} {P : List ℕ → K → Type 0} {first : Reader K} {next : K → Reader A} → Exact P Any first → Tells NoStop first → ((k : K) → Tells NoStop (next k)) → Tells NoStop (chosen_at first next)
+pub nothing_chosen : {K A : Type 0} {P : List ℕ → K → Type 0} {first : Reader K} {next : K → Reader A} → Exact P Any first → Tells NoStop first → ((k : K) → Tells NoStop (next k)) → Tells NoStop (chosen_at first next)
 nothing_chosen exact a b = other_stops (λ s b h. h.1.3) (λ s b h. absurd h) (chosen_tells exact a b)
 
-byte_tells : Tells NoStop byte_at
+pub byte_tells : Tells NoStop byte_at
 byte_tells = or_tells _
 
-name_tells : Tells NoStop name_at
+pub name_tells : Tells NoStop name_at
 name_tells = or_tells _
 
-s32_tells : Tells NoStop s32_at
+pub s32_tells : Tells NoStop s32_at
 s32_tells = or_tells _
 
-s64_tells : Tells NoStop s64_at
+pub s64_tells : Tells NoStop s64_at
 s64_tells = or_tells _
 
 -- behind a value that never stops
 behind : {K A : Type 0} {P : List ℕ → K → Type 0} {T : Stop → List ℕ → Type 0} {first : Reader K} {next : Reader A} → Exact P Any first → Tells NoStop first → Tells T next → Tells (BehindStops P T) (pair_at first next)
 behind exact a b = other_stops (λ s b h. ⊎_elim (λ k. absurd k) (λ k. (k.0, k.2)) h) (λ s b h. inr (h.0, tt, h.1)) (pair_tells exact a b)
 
-nothing_tagged : {A : Type 0} {r : Reader A} (tag : ℕ) → Tells NoStop r → Tells NoStop (tagged_at tag r)
+pub nothing_tagged : {A : Type 0} {r : Reader A} (tag : ℕ) → Tells NoStop r → Tells NoStop (tagged_at tag r)
 nothing_tagged tag a = other_stops (λ s b h. h.2) (λ s b h. absurd h) (tagged_tells tag a)
 
 sized_tells : Tells NoStop sized_at
@@ -134,7 +134,7 @@ pub func_type_tells : Tells FuncTypeStops func_type_at
 unfolding func_type_at
 func_type_tells = tagged_tells 0x60 (mapped_tells func_type_of (pair_tells (vector_exact Parameters val_exact) (vector_tells Parameters val_exact val_tells) (vector_tells Results val_exact val_tells)))
 
-limits_tells : Tells NoStop limits_at
+pub limits_tells : Tells NoStop limits_at
 unfolding limits_at
 limits_tells = nothing_chosen byte_exact byte_tells (λ b. nothing_when (b == 0x00) (mapped_tells _ u32_tells) (nothing_when (b == 0x01) (mapped_tells _ (nothing_then u32_exact u32_tells u32_tells)) malformed_tells))
 

@@ -5,10 +5,12 @@ pub mod Framing
 pub mod ItemLaws
 pub mod Stopping
 pub mod ItemStops
+pub mod TokenStops
 pub mod TokenLaws
 pub mod Leaves
 pub mod BodyLaws
 pub mod NestLaws
+pub mod BodyStops
 pub mod EntryLaws
 pub mod SectionLaws
 pub mod FileLaws

@@ -124,12 +124,12 @@ block_type_exact = record {
 
 -- ---- tokens
 
-arg_exact : (many : Bool) → Exact (SpellsMemArg many) Any (arg_at many)
+pub arg_exact : (many : Bool) → Exact (SpellsMemArg many) Any (arg_at many)
 unfolding arg_at arg_form
 arg_exact false = chosen_exact u32_exact (λ a. made_exact (arg_of a) u32_exact)
 arg_exact true = chosen_exact u32_exact (λ a. when_exact (nat_lt a 64) (made_exact (arg_of a) u32_exact) (when_exact (nat_lt a 128) (made_exact (arg_in a) (both_exact u32_exact u32_exact)) (never_exact Malformed)))
 
-memory_exact : (many : Bool) → Exact (SpellsMemory many) Any (memory_at many)
+pub memory_exact : (many : Bool) → Exact (SpellsMemory many) Any (memory_at many)
 unfolding memory_at
 memory_exact false = tagged_exact 0x00 (just_exact 0)
 memory_exact true = u32_exact
