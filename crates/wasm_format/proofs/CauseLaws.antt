@@ -1,219 +1,45 @@
--- The first fault of a file has its cause.
-use Rattle.std.proofs.Common.{◌≡◌, ℕ, zero, suc, ◌+◌, List, [], ◌∷◌, ◌++◌, length, Result, Ok, Err, Bool, true, false, cond, Option, Some, None, ◌⊎◌, inl, inr, ⊎_elim, refl, sym, ap, ◌∙◌, subst, arith, append_assoc}
-use Rattle.std.proofs.lemmas.Bool.{eqb-true}
-use Rattle.std.specs.Prelude.{nat_lt, ◌==◌}
+-- The first fault of a file is that which has its cause.
+use Rattle.std.proofs.Common.{◌≡◌, ℕ, zero, suc, ◌+◌, List, [], ◌∷◌, ◌++◌, length, Result, Ok, Err, Bool, true, false, cond, Option, Some, None, ◌⊎◌, inl, inr, ⊎_elim, refl, sym, ap, ◌∙◌, subst, arith}
+use Rattle.std.proofs.lemmas.Bool.{cases_Bool}
+use Rattle.std.specs.Prelude.{◌==◌, ◌↔◌}
+use Rattle.base_lists.specs.Every.{Every}
 use Rattle.base_lists.proofs.Bools.{cond_is}
-use Rattle.wasm_bytes.specs.Joins.{U32, Each, Sized}
 use Rattle.wasm_bytes.specs.Reading.{◌>>=◌, IsBytes}
 use Rattle.wasm_bytes.specs.Frames.{Section, Framed}
-use Rattle.wasm_bytes.proofs.Lists.{small_rest}
-use Rattle.wasm_tree.specs.declared.which.Which.{Which}
-use Rattle.wasm_tree.specs.declared.which.Which.TheVariants.{Types, Imports, Functions, Tables, Memories, Globals, Exports, ElementSegments, DataSegments}
-use Rattle.wasm_tree.specs.declared.module.Func.{Func}
+use Rattle.wasm_bytes.proofs.Lists.{bytes_rest}
 use Rattle.wasm_tree.specs.Spaces.{imported_funcs}
-use Rattle.wasm_tree.specs.Limits.{limit as most}
+use Rattle.wasm_tree.specs.declared.module.Func.{Func}
+use Rattle.wasm_tree.specs.declared.module.Module.{Module}
 use Rattle.wasm_format.specs.declared.fault.Fault.{Fault}
 use Rattle.wasm_format.specs.declared.fault.Fault.TheVariants as fault
 use Rattle.wasm_format.specs.declared.fault.ReadFault.{ReadFault}
-use Rattle.wasm_format.specs.declared.fault.ReadFault.TheVariants.{NoMemory, Malformed, MalformedBody, Unsupported, Limit}
+use Rattle.wasm_format.specs.declared.fault.ReadFault.TheVariants.{NoMemory, NotModule, Malformed, MalformedBody, Unsupported, Limit}
 use Rattle.wasm_format.specs.declared.parts.Parts.{Parts}
-use Rattle.base_lists.specs.Every.{Every}
-use Rattle.wasm_format.specs.Bodies.{SpellsCode, SpellsEntry, SmallCode}
-use Rattle.wasm_format.specs.Files.{nothing, with_types, with_imports, with_func_types, with_tables, with_mems, with_globals, with_exports, with_start, with_elems, with_datas, with_count, SmallSection, Contents}
-use Rattle.wasm_format.specs.Reading.{u32_at, sized_at, each_from, vector_at, whole_at, func_type_at, import_at, table_at, limits_at, global_def_at, export_at, elem_at, data_at}
+use Rattle.wasm_format.specs.Bodies.{SpellsCode, SmallCode}
+use Rattle.wasm_format.specs.Files.{nothing, tree_of, SpellsSection, SmallSection, Contents, Rules}
+use Rattle.wasm_format.specs.Stops.{Stop, NotSupported, Over, CodeStops, section_stops}
 use Rattle.wasm_format.specs.BodyReading.{code_at}
-use Rattle.wasm_format.specs.Contents.{placed, in_place, entry_at, next_func, codes_at, put_at, custom_at, section_at, contents_at, agrees, framed_at, parts_at, read_at, read_fault}
-use Rattle.wasm_format.specs.Causes.{UpTo, FaultySection, FaultyFunc, Cause}
-use Rattle.wasm_format.proofs.Exact.{err_ok, u32_exact, sized_exact}
-use Rattle.wasm_format.proofs.Framing.{framed_sound, framed_fault}
-use Rattle.wasm_format.proofs.EntryLaws.{code_complete, entry_exact, in_ok}
+use Rattle.wasm_format.specs.Contents.{placed, codes_at, section_at, contents_at, agrees, framed_at, parts_at, read_at, fault_of as told_fault, read_fault}
+use Rattle.wasm_format.specs.Causes.{UpTo, EntryOf, InEntry, SectionStops, EntryStops, IsCode, MalformedContent, MalformedSection, FaultyWhole, Cause}
+use Rattle.wasm_format.proofs.Exact.{err_ok}
+use Rattle.wasm_format.proofs.Framing.{framed_reads, framed_sound, framed_fault, header_reads, bad_reads}
+use Rattle.wasm_format.proofs.EntryLaws.{code_sound, code_complete, content_bytes}
 use Rattle.wasm_format.proofs.SectionLaws.{section_right}
-use Rattle.wasm_format.proofs.Spoken.{never_no_memory}
-use Rattle.wasm_format.proofs.FileLaws.{AreBytes, framed_bytes, contents_sound, of_rules, told}
+use Rattle.wasm_format.proofs.FileLaws.{AreBytes, framed_bytes, contents_sound, contents_complete, of_rules, rules_of, told}
+use Rattle.wasm_format.proofs.Stopping.{bind_err, ok_err, same_err, fault_of}
+use Rattle.wasm_format.proofs.BodyStops.{code_tells}
+use Rattle.wasm_format.proofs.SectionStops.{InnerFault, SectionFault, section_tells, entry_met}
 
-bind_err : {A B E : Type 0} (r : Result A E) (f : A → Result B E) (e : E) → (r >>= f) ≡ Err e → (r ≡ Err e) ⊎ ((x : A) × (r ≡ Ok x) × (f x ≡ Err e))
-bind_err (Ok x) f e h = inr (x, refl, h)
-bind_err (Err w) f e h = let same : w ≡ e = cc in inl (ap Err same)
+-- ---- the contents of the sections, one of which has a fault
 
-ok_err : {A E : Type 0} (x : A) (e : E) → ◌≡◌ {A = Result A E} (Ok x) (Err e) → ⊥
-ok_err x e h = cc
-
--- ---- which place a fault names
-
--- a fault of section n; F holds of the function that it names
-data Naming (n : ℕ) (F : ℕ → Type 0) : ReadFault → Type 0 where
-  nowhere : Naming n F NoMemory
-  malformed : Naming n F (Malformed n)
-  unsupported : Naming n F (Unsupported n None)
-  limit : (w : Which) → Naming n F (Limit w)
-  malformed_in : (f : ℕ) → F f → Naming n F (MalformedBody f)
-  unsupported_in : (f : ℕ) → F f → Naming n F (Unsupported n (Some f))
-
-naming_map : {n : ℕ} {F G : ℕ → Type 0} {e : ReadFault} → ((f : ℕ) → F f → G f) → Naming n F e → Naming n G e
-naming_map g nowhere = nowhere
-naming_map g malformed = malformed
-naming_map g unsupported = unsupported
-naming_map g (limit w) = limit w
-naming_map g (malformed_in f h) = malformed_in f (g f h)
-naming_map g (unsupported_in f h) = unsupported_in f (g f h)
-
-naming_placed : (n : ℕ) (F : ℕ → Type 0) (w : Fault) → Naming n F (placed n None w)
-naming_placed n F fault.NoMemory = nowhere
-naming_placed n F fault.Malformed = malformed
-naming_placed n F fault.Unsupported = unsupported
-naming_placed n F (fault.Limit w) = limit w
-
-naming_inside : (n f : ℕ) (F : ℕ → Type 0) (w : Fault) → F f → Naming n F (placed n (Some f) w)
-naming_inside n f F fault.NoMemory h = nowhere
-naming_inside n f F fault.Malformed h = malformed_in f h
-naming_inside n f F fault.Unsupported h = unsupported_in f h
-naming_inside n f F (fault.Limit w) h = limit w
-
-place_err : {A : Type 0} (n : ℕ) (o : Option ℕ) (r : Result A Fault) (e : ReadFault) → in_place n o r ≡ Err e → (w : Fault) × (r ≡ Err w) × (placed n o w ≡ e)
-place_err n o (Ok x) e h = absurd (ok_err x e h)
-place_err n o (Err w) e h = let same : placed n o w ≡ e = cc in (w, refl, same)
-
-put_naming : {A : Type 0} (n : ℕ) (F : ℕ → Type 0) (make : A → Parts) (r : Result A Fault) (e : ReadFault) → put_at n make r ≡ Err e → Naming n F e
-put_naming n F make r e h = ⊎_elim
-    (λ bad. let w = place_err n None r e bad in subst (Naming n F) w.2 (naming_placed n F w.0))
-    (λ good. absurd (ok_err _ e good.2))
-    (bind_err (in_place n None r) _ e h)
-
--- ---- the code section
-
--- the entries before it are spelled and within the limits, and what is inside the next one is not
-record FaultyEntry (many : Bool) (func : ℕ) (bytes : List ℕ) (f : ℕ) : Type 0 where
-  front : List ℕ
-  entry : List ℕ
-  back : List ℕ
-  text : bytes ≡ front ++ (entry ++ back)
-  codes : List Func
-  spelled : Each (SpellsEntry many) front codes
-  within : Every SmallCode codes
-  content : List ℕ
-  sized : Sized entry content
-  number : f ≡ func + length codes
-  faulty : (g : Func) → SpellsCode many content g → SmallCode g → ⊥
-
-module _ (many : Bool) (n : ℕ) where
-  entry_naming : (func : ℕ) (bytes : List ℕ) (e : ReadFault) → IsBytes bytes → entry_at many n func bytes ≡ Err e → Naming n (FaultyEntry many func bytes) e
-  unfolding entry_at
-  entry_naming func bytes e small h = ⊎_elim
-      (λ bad. let w = place_err n None (sized_at bytes) e bad in subst (Naming n _) w.2 (naming_placed n _ w.0))
-      (λ good.
-      let s = good.0 in
-      let one = (sized_exact.sound bytes s.0 s.1 small (in_ok many n None _ s good.1)).0 in
-      ⊎_elim
-      (λ bad.
-      let w = place_err n (Some func) (code_at many s.0) e bad in
-      let here : FaultyEntry many func bytes func = record {
-        front = [];
-        entry = one.0;
-        back = s.1;
-        text = one.2;
-        codes = [];
-        spelled = refl;
-        within = tt;
-        content = s.0;
-        sized = one.1;
-        number = omega arith;
-        faulty = λ g h k. err_ok w.0 g (sym w.1 ∙ code_complete many s.0 g h k);
-      } in
-      subst (Naming n _) w.2 (naming_inside n func _ w.0 here))
-      (λ ok. absurd (ok_err _ e ok.2))
-      (bind_err (in_place n (Some func) (code_at many s.0)) _ e good.2))
-      (bind_err (in_place n None (sized_at bytes)) _ e h)
-
-  later : (func : ℕ) (bytes text rest : List ℕ) (x : Func) (f : ℕ) → SpellsEntry many text x → SmallCode x → bytes ≡ text ++ rest → FaultyEntry many (func + 1) rest f → FaultyEntry many func bytes f
-  later func bytes text rest x f spelled small is h = record {
-    front = text ++ h.front;
-    entry = h.entry;
-    back = h.back;
-    text = is ∙ ap (λ z. text ++ z) h.text ∙ sym (append_assoc text h.front (h.entry ++ h.back));
-    codes = x ∷ h.codes;
-    spelled = (text, h.front, spelled, h.spelled, refl);
-    within = (small, h.within);
-    content = h.content;
-    sized = h.sized;
-    number = omega (arith, h.number);
-    faulty = h.faulty;
-  }
-
-  entries_naming : (k func : ℕ) (bytes : List ℕ) (e : ReadFault) → IsBytes bytes → each_from (entry_at many n) next_func k func bytes ≡ Err e → Naming n (FaultyEntry many func bytes) e
-  unfolding each_from
-  entries_naming zero func bytes e small h = absurd (ok_err _ e h)
-  entries_naming (suc k) func bytes e small h = ⊎_elim
-      (λ bad. entry_naming func bytes e small bad)
-      (λ good.
-      let x = good.0 in
-      let t = (entry_exact many n func).sound bytes x.0 x.1 small good.1 in
-      ⊎_elim
-      (λ bad. naming_map (λ f w. later func bytes t.0.0 x.1 x.0 f t.0.1 t.1 t.0.2 w) (entries_naming k (func + 1) x.1 e (small_rest _ bytes x.1 small t.0) bad))
-      (λ ok. absurd (ok_err _ e ok.2))
-      (bind_err (each_from (entry_at many n) next_func k (func + 1) x.1) _ e good.2))
-      (bind_err (entry_at many n func bytes) _ e h)
-
-  -- in the content of the code section
-  record FaultyCode (func : ℕ) (c : List ℕ) (f : ℕ) : Type 0 where
-    count : List ℕ
-    total : ℕ
-    rest : List ℕ
-    text : c ≡ count ++ rest
-    counted : U32 count total
-    entry : FaultyEntry many func rest f
-
-  codes_naming : (func : ℕ) (c : List ℕ) (e : ReadFault) → IsBytes c → codes_at many n func c ≡ Err e → Naming n (FaultyCode func c) e
-  unfolding codes_at
-  codes_naming func c e small h = ⊎_elim
-      (λ bad. let w = place_err n None (u32_at c) e bad in subst (Naming n _) w.2 (naming_placed n _ w.0))
-      (λ good.
-      let k = good.0 in
-      let count = (u32_exact.sound c k.0 k.1 small (in_ok many n None _ k good.1)).0 in
-      ⊎_elim
-      (λ over. let same : Limit Functions ≡ e = (let q = over.1 in cc) in subst (Naming n _) same (limit Functions))
-      (λ few. ⊎_elim
-      (λ bad. naming_map (λ f w. record { count = count.0; total = k.0; rest = k.1; text = count.2; counted = count.1; entry = w }) (entries_naming k.0 func k.1 e (small_rest _ c k.1 small count) bad))
-      (λ ok. ⊎_elim
-      (λ done. absurd (ok_err _ e done.1))
-      (λ left. let same : Malformed n ≡ e = (let q = left.1 in cc) in subst (Naming n _) same malformed)
-      (cond_is (length ok.0.1 == 0) _ _ _ ok.2))
-      (bind_err (each_from (entry_at many n) next_func k.0 func k.1) _ e few.1))
-      (cond_is (nat_lt (most Functions) k.0) _ _ _ good.2))
-      (bind_err (in_place n None (u32_at c)) _ e h)
-
--- ---- sections
-
-either : {r q z : Result Parts ReadFault} {N : Type 0} (test : Bool) → (test ≡ true → r ≡ z → N) → (q ≡ z → N) → cond test r q ≡ z → N
-either true a b h = a refl h
-either false a b h = b h
-
-module _ (many : Bool) (n : ℕ) (p : Parts) (s : Section) (small : IsBytes s.1) where
-  InCode : ℕ → Type 0
-  InCode f = (s.0 ≡ 10) × FaultyCode many n (length (imported_funcs p.imports)) s.1 f
-
-  put : {A : Type 0} (make : A → Parts) (r : Result A Fault) (e : ReadFault) → put_at n make r ≡ Err e → Naming n InCode e
-  put make r e h = put_naming n InCode make r e h
-
-  section_naming : (e : ReadFault) → section_at many n p s ≡ Err e → Naming n InCode e
-  unfolding section_at InCode
-  section_naming e h =
-      either (s.0 == 0) (λ t r. put (λ u. p) (custom_at s.1) e r)
-      (either (s.0 == 1) (λ t r. put (with_types p) (whole_at (vector_at Types func_type_at) s.1) e r)
-      (either (s.0 == 2) (λ t r. put (with_imports p) (whole_at (vector_at Imports import_at) s.1) e r)
-      (either (s.0 == 3) (λ t r. put (with_func_types p) (whole_at (vector_at Functions u32_at) s.1) e r)
-      (either (s.0 == 4) (λ t r. put (with_tables p) (whole_at (vector_at Tables table_at) s.1) e r)
-      (either (s.0 == 5) (λ t r. put (with_mems p) (whole_at (vector_at Memories limits_at) s.1) e r)
-      (either (s.0 == 6) (λ t r. put (with_globals p) (whole_at (vector_at Globals global_def_at) s.1) e r)
-      (either (s.0 == 7) (λ t r. put (with_exports p) (whole_at (vector_at Exports export_at) s.1) e r)
-      (either (s.0 == 8) (λ t r. put (with_start p) (whole_at u32_at s.1) e r)
-      (either (s.0 == 9) (λ t r. put (with_elems p) (whole_at (vector_at ElementSegments elem_at) s.1) e r)
-      (either (s.0 == 10) (λ t r. ⊎_elim
-      (λ bad. naming_map (λ f w. (eqb-true s.0 10 t, w)) (codes_naming many n (length (imported_funcs p.imports)) s.1 e small bad))
-      (λ ok. absurd (ok_err _ e ok.2))
-      (bind_err (codes_at many n (length (imported_funcs p.imports)) s.1) _ e r))
-      (either (s.0 == 11) (λ t r. put (with_datas p) (whole_at (vector_at DataSegments data_at) s.1) e r)
-      (either (s.0 == 12) (λ t r. put (with_count p) (whole_at u32_at s.1) e r)
-      (λ r. let same : Malformed n ≡ e = cc in subst (Naming n InCode) same malformed))))))))))))) h
+contents_met : (many : Bool) (front : List Section) (n : ℕ) (p q : Parts) (s : Section) (back : List Section) (e : ReadFault) → Contents many p front q → Every (SmallSection many) front → section_at many (n + length front) q s ≡ Err e →
+    contents_at many n p (front ++ s ∷ back) ≡ Err e
+unfolding contents_at
+contents_met many [] n p q s back e h k bad = let same : n + 0 ≡ n = omega arith in rw h (rw (← same, bad))
+contents_met many (t ∷ front) n p q s back e h k bad =
+    let one : section_at many n p t ≡ Ok h.0 = (section_right many n p t.0).complete t.1 h.0 h.1 k.0 in
+    let same : n + suc (length front) ≡ (n + 1) + length front = omega arith in
+    rw one (contents_met many front (n + 1) h.0 q s back e h.2 k.1 (rw (← same) bad))
 
 -- the first section that is not read
 record Stopped (many : Bool) (n : ℕ) (p : Parts) (ss : List Section) (e : ReadFault) : Type 0 where
@@ -239,81 +65,218 @@ stopped many n p (s ∷ ss) e small h = ⊎_elim
     record { front = s ∷ w.front; here = w.here; back = w.back; parts = w.parts; all = ap (λ t. s ∷ t) w.all; spelled = (good.0, one.0, w.spelled); within = (one.1, w.within); bytes = w.bytes; stops = rw k w.stops })
     (bind_err (section_at many n p s) _ e h)
 
--- ---- files
+module _ (bytes : List ℕ) (many : Bool) (small : IsBytes bytes) where
+  -- ---- what has a cause is read
 
-module _ (bytes : List ℕ) (many : Bool) (ss : List Section) (framed : Framed bytes ss) (e : ReadFault) (w : Stopped many 0 nothing ss e) where
-  up_to : UpTo bytes many (0 + length w.front) w.here w.parts
-  up_to = record { front = w.front; back = w.back; framed = subst (Framed bytes) w.all framed; number = omega arith; spelled = w.spelled; within = w.within }
+  read_err : (e : ReadFault) → parts_at many bytes ≡ Err e → read_fault bytes many ≡ Some e
+  unfolding read_at
+  read_err e h = rw h
 
-  section_cause : FaultySection bytes many (0 + length w.front)
-  section_cause = record {
-    here = w.here;
-    parts = w.parts;
-    before = up_to;
-    faulty = λ q h k. err_ok e q (sym w.stops ∙ (section_right many (0 + length w.front) w.parts w.here.0).complete w.here.1 q h k);
-  }
+  framed_err : (e : ReadFault) → framed_at bytes ≡ Err e → read_fault bytes many ≡ Some e
+  unfolding parts_at
+  framed_err e h = read_err e (rw h)
 
-  func_cause : (f : ℕ) → (w.here.0 ≡ 10) × FaultyCode many (0 + length w.front) (length (imported_funcs w.parts.imports)) w.here.1 f → FaultyFunc bytes many (0 + length w.front) f
-  func_cause f (ten, h) = record {
-    here = w.here;
-    parts = w.parts;
-    before = up_to;
-    code = ten;
-    count = h.count;
-    front = h.entry.front;
-    entry = h.entry.entry;
-    back = h.entry.back;
-    total = h.total;
-    text = h.text ∙ ap (λ z. h.count ++ z) h.entry.text;
-    counted = h.counted;
-    codes = h.entry.codes;
-    spelled = h.entry.spelled;
-    within = h.entry.within;
-    content = h.entry.content;
-    sized = h.entry.sized;
-    number = h.entry.number;
-    faulty = h.entry.faulty;
-  }
+  section_err : (n : ℕ) (s : Section) (p : Parts) (e : ReadFault) → UpTo bytes many n s p → section_at many n p s ≡ Err e → read_fault bytes many ≡ Some e
+  unfolding parts_at
+  section_err n s p e u h =
+      let here : section_at many (0 + length u.front) p s ≡ Err e = (let k : 0 + length u.front ≡ n = omega (arith, u.number) in rw k h) in
+      read_err e (rw (framed_reads bytes (u.front ++ s ∷ u.back) u.framed, contents_met many u.front 0 nothing p s u.back e u.spelled u.within here))
 
-  cause_of : (g : ReadFault) → (g ≡ NoMemory → ⊥) → Naming (0 + length w.front) (InCode many (0 + length w.front) w.parts w.here w.bytes) g → Cause bytes many g
-  unfolding InCode
-  cause_of _ some nowhere = absurd (some refl)
-  cause_of _ some malformed = inr (inl section_cause)
-  cause_of _ some unsupported = section_cause
-  cause_of _ some (limit x) = (0 + length w.front, section_cause)
-  cause_of _ some (malformed_in f h) = (0 + length w.front, func_cause f h)
-  cause_of _ some (unsupported_in f h) = func_cause f h
+  -- the content of a section is made of bytes
+  here_bytes : (n : ℕ) (s : Section) (p : Parts) → UpTo bytes many n s p → IsBytes s.1
+  here_bytes n s p u = at u.front (framed_bytes bytes (u.front ++ s ∷ u.back) small u.framed)
+    where
+      at : (front : List Section) → AreBytes (front ++ s ∷ u.back) → IsBytes s.1
+      at [] h = h.0
+      at (t ∷ front) h = at front h.1
 
-pub cause : (bytes : List ℕ) (many : Bool) (e : ReadFault) → IsBytes bytes → read_fault bytes many ≡ Some e → Cause bytes many e
-unfolding read_at parts_at
-cause bytes many e small h = ⊎_elim
-    (λ parts. ⊎_elim
-    (λ bad. ⊎_elim
-    (λ none. subst (Cause bytes many) (sym none.0) none.1)
-    (λ frame. subst (Cause bytes many) (sym frame.1) (inl frame.2))
-    (framed_fault bytes e small bad))
-    (λ good.
-    let framed = framed_sound bytes good.0 small good.1 in
-    let are = framed_bytes bytes good.0 small framed in
-    ⊎_elim
-    (λ bad. let w = stopped many 0 nothing good.0 e are bad in
-    cause_of bytes many good.0 framed e w e (λ k. never_no_memory bytes many (h ∙ ap Some k)) (section_naming many (0 + length w.front) w.parts w.here w.bytes e w.stops))
-    (λ all.
-    let c = contents_sound many 0 nothing good.0 all.0 are all.1 in
-    ⊎_elim
-    (λ agree. absurd (ok_err _ e agree.1))
-    (λ not. let same : Malformed (length good.0) ≡ e = (let q = not.1 in cc) in
-    subst (Cause bytes many) same (inr (inr (record {
-      sections = good.0;
-      parts = all.0;
-      framed = framed;
-      number = refl;
-      spelled = c.0;
-      within = c.1;
-      faulty = λ r. (let t = sym not.0 ∙ of_rules all.0 r in cc);
-    }))))
-    (cond_is (agrees all.0) _ _ _ all.2))
-    (bind_err (contents_at many 0 nothing good.0) _ e good.2))
-    (bind_err (framed_at bytes) _ e parts))
-    (λ ok. absurd (ok_err _ e ok.2))
-    (bind_err (parts_at many bytes) _ e (told (read_at many bytes) e h))
+  stop_err : (n : ℕ) (stop : Stop) → SectionStops bytes many n stop → read_fault bytes many ≡ Some (placed n None (fault_of stop))
+  stop_err n stop h = section_err n h.here h.parts _ h.before ((section_tells many n h.parts h.here.0).met h.here.1 stop h.stops)
+
+  -- the code section
+  code_section : (n : ℕ) (p : Parts) (s : Section) (e : ReadFault) → s.0 ≡ 10 → codes_at many n (length (imported_funcs p.imports)) s.1 ≡ Err e → section_at many n p s ≡ Err e
+  unfolding section_at
+  code_section n p s e ten h = rw (ten, h)
+
+  inner_err : (n f : ℕ) (content : List ℕ) (w : Fault) → InEntry bytes many n f content → code_at many content ≡ Err w → read_fault bytes many ≡ Some (placed n (Some f) w)
+  inner_err n f content w h bad =
+      section_err n h.here h.parts _ h.before (code_section n h.parts h.here _ h.code (entry_met many n (length (imported_funcs h.parts.imports)) h.here.1 f content w h.entry bad))
+
+  entry_err : (n f : ℕ) (stop : Stop) → EntryStops bytes many n f stop → read_fault bytes many ≡ Some (placed n (Some f) (fault_of stop))
+  entry_err n f stop h = inner_err n f h.0 (fault_of stop) h.1 ((code_tells many).met h.0 stop h.2)
+
+  -- the content of an entry is made of bytes
+  entry_bytes : (func : ℕ) (c : List ℕ) (f : ℕ) (content : List ℕ) → IsBytes c → EntryOf many func c f content → IsBytes content
+  entry_bytes func c f content ok h =
+      let behind_count : IsBytes (h.front ++ (h.entry ++ h.back)) = bytes_rest h.count _ (subst IsBytes h.text ok) in
+      let behind_front : IsBytes (h.entry ++ h.back) = bytes_rest h.front _ behind_count in
+      content_bytes many (h.entry ++ h.back) content h.back behind_front (h.entry, h.sized, refl)
+
+  -- ---- what an entry's content comes to
+
+  either_way : {A E : Type 0} (r : Result A E) → ((x : A) × (r ≡ Ok x)) ⊎ ((e : E) × (r ≡ Err e))
+  either_way (Ok x) = inl (x, refl)
+  either_way (Err e) = inr (e, refl)
+
+  code_or_not : (content : List ℕ) → IsBytes content → IsCode many content ⊎ ((w : Fault) × (code_at many content ≡ Err w))
+  code_or_not content ok = ⊎_elim (λ k. let t = code_sound many content k.0 ok k.1 in inl (k.0, t.0, t.1)) inr (either_way (code_at many content))
+
+  code_not : (content : List ℕ) (w : Fault) → IsCode many content → code_at many content ≡ Err w → ⊥
+  code_not content w g bad = ok_err g.0 w (sym (code_complete many content g.0 g.1 g.2) ∙ bad)
+
+  malformed_met : (n : ℕ) → MalformedSection bytes many n → read_fault bytes many ≡ Some (Malformed n)
+  malformed_met n m = ⊎_elim
+      (λ good. let t = (section_right many n m.parts m.here.0).sound m.here.1 good.0 ok good.1 in absurd (m.unspelled good.0 t.0 t.1))
+      (λ bad. ⊎_elim
+      (λ is. section_err n m.here m.parts (Malformed n) m.before (bad.1 ∙ ap Err is))
+      (λ k. ⊎_elim
+      (λ stop. absurd (m.no_stop stop.0 stop.2))
+      (λ inner. let t = inner.1 in absurd (code_not t.1 t.2 (m.entries inner.0 t.0 t.1 t.3) t.4))
+      k)
+      ((section_tells many n m.parts m.here.0).found m.here.1 bad.0 ok bad.1))
+      (either_way (section_at many n m.parts m.here))
+    where
+      ok : IsBytes m.here.1
+      ok = here_bytes n m.here m.parts m.before
+
+  told_broken : (b : Bool) (p : Parts) (n : ℕ) → b ≡ false → ◌≡◌ {A = Result Parts ReadFault} (cond b (Ok p) (Err (Malformed n))) (Err (Malformed n))
+  told_broken true p n h = cc
+  told_broken false p n h = refl
+
+  whole_met : (n : ℕ) → FaultyWhole bytes many n → read_fault bytes many ≡ Some (Malformed n)
+  unfolding parts_at
+  whole_met n h = ⊎_elim
+      (λ yes. absurd (h.faulty (rules_of h.parts yes)))
+      (λ broken. read_err (Malformed n) (rw (framed_reads bytes h.sections h.framed, contents_complete many 0 nothing h.sections h.parts h.spelled h.within) (told_broken (agrees h.parts) h.parts (length h.sections) broken ∙ ap (λ z. Err (Malformed z)) h.number)))
+      (cases_Bool (agrees h.parts))
+
+  body_met : (n f : ℕ) (content : List ℕ) → InEntry bytes many n f content → MalformedContent many content → read_fault bytes many ≡ Some (MalformedBody f)
+  body_met n f content h m = ⊎_elim
+      (λ good. absurd (m.unspelled good))
+      (λ bad. ⊎_elim
+      (λ is. inner_err n f content fault.Malformed h (bad.1 ∙ ap Err is))
+      (λ stop. absurd (m.no_stop stop.0 stop.2))
+      ((code_tells many).found content bad.0 ok bad.1))
+      (code_or_not content ok)
+    where
+      ok : IsBytes content
+      ok = entry_bytes (length (imported_funcs h.parts.imports)) h.here.1 f content (here_bytes n h.here h.parts h.before) h.entry
+
+  pub cause_met : (e : ReadFault) → Cause bytes many e → read_fault bytes many ≡ Some e
+  cause_met NoMemory h = absurd h
+  cause_met NotModule h = framed_err NotModule (header_reads bytes h)
+  cause_met (Malformed n) h = ⊎_elim (λ bad. framed_err (Malformed n) (bad_reads bytes n small bad)) (λ k. ⊎_elim (malformed_met n) (whole_met n) k) h
+  cause_met (MalformedBody f) h = body_met h.0 f h.1 h.2 h.3
+  cause_met (Unsupported n None) h = stop_err n NotSupported h
+  cause_met (Unsupported n (Some f)) h = entry_err n f NotSupported h
+  cause_met (Limit w) h = ⊎_elim (λ k. stop_err h.0 (Over w) k) (λ k. entry_err h.0 k.0 (Over w) k.1) h.1
+
+  -- ---- what is read has a cause
+
+  -- a stop or a fault inside an entry is no malformed section
+  stop_not : (n : ℕ) (s : Stop) → placed n None (fault_of s) ≡ Malformed n → ⊥
+  stop_not n NotSupported h = cc
+  stop_not n (Over w) h = cc
+
+  inner_not : (n f : ℕ) (w : Fault) → placed n (Some f) w ≡ Malformed n → ⊥
+  inner_not n f fault.NoMemory h = cc
+  inner_not n f fault.Malformed h = cc
+  inner_not n f fault.Unsupported h = cc
+  inner_not n f (fault.Limit w) h = cc
+
+  section_stop_cause : (n : ℕ) (s : Stop) → SectionStops bytes many n s → Cause bytes many (placed n None (fault_of s))
+  section_stop_cause n NotSupported h = h
+  section_stop_cause n (Over w) h = (n, inl h)
+
+  entry_stop_cause : (n f : ℕ) (s : Stop) → EntryStops bytes many n f s → Cause bytes many (placed n (Some f) (fault_of s))
+  entry_stop_cause n f NotSupported h = h
+  entry_stop_cause n f (Over w) h = (n, inr (f, h))
+
+  module _ (ss : List Section) (framed : Framed bytes ss) (e : ReadFault) (w : Stopped many 0 nothing ss e) where
+    place : ℕ
+    place = 0 + length w.front
+
+    up_to : UpTo bytes many place w.here w.parts
+    unfolding place
+    up_to = record { front = w.front; back = w.back; framed = subst (Framed bytes) w.all framed; number = omega arith; spelled = w.spelled; within = w.within }
+
+    malformed_cause : section_at many place w.parts w.here ≡ Err (Malformed place) → MalformedSection bytes many place
+    malformed_cause bad = record {
+      here = w.here;
+      parts = w.parts;
+      before = up_to;
+      unspelled = λ q h k. ok_err q (Malformed place) (sym ((section_right many place w.parts w.here.0).complete w.here.1 q h k) ∙ bad);
+      no_stop = λ s h. stop_not place s (same_err {A = Parts} _ _ (sym ((section_tells many place w.parts w.here.0).met w.here.1 s h) ∙ bad));
+      entries = λ ten f content h. ⊎_elim
+          (λ good. good)
+          (λ k. absurd (inner_not place f k.0 (same_err {A = Parts} _ _ (sym (code_section place w.parts w.here _ ten (entry_met many place (length (imported_funcs w.parts.imports)) w.here.1 f content k.0 h k.1)) ∙ bad))))
+          (code_or_not content (entry_bytes (length (imported_funcs w.parts.imports)) w.here.1 f content w.bytes h));
+    }
+
+    inner_cause : (w.here.0 ≡ 10) × InnerFault many place (length (imported_funcs w.parts.imports)) w.here.1 e → Cause bytes many e
+    inner_cause h =
+        let t = h.1 in
+        let func = length (imported_funcs w.parts.imports) in
+        let ok = entry_bytes func w.here.1 t.0 t.1 w.bytes t.3 in
+        let inside : InEntry bytes many place t.0 t.1 = record { here = w.here; parts = w.parts; before = up_to; code = h.0; entry = t.3 } in
+        ⊎_elim
+        (λ is.
+        let bad : code_at many t.1 ≡ Err fault.Malformed = t.4 ∙ ap Err is in
+        let malformed : MalformedContent many t.1 = record {
+          unspelled = λ g. code_not t.1 fault.Malformed g bad;
+          no_stop = λ s k. never s (same_err {A = Func} _ _ (sym ((code_tells many).met t.1 s k) ∙ bad));
+        } in
+        subst (Cause bytes many) (sym (t.5 ∙ ap (placed place (Some t.0)) is)) (place, t.1, inside, malformed))
+        (λ k. subst (Cause bytes many) (sym (t.5 ∙ ap (placed place (Some t.0)) k.1)) (entry_stop_cause place t.0 k.0 (t.1, inside, k.2)))
+        ((code_tells many).found t.1 t.2 ok t.4)
+      where
+        never : (s : Stop) → fault_of s ≡ fault.Malformed → ⊥
+        never NotSupported h = cc
+        never (Over w) h = cc
+
+    section_cause : Cause bytes many e
+    unfolding place
+    section_cause = ⊎_elim
+        (λ is. subst (Cause bytes many) (sym is) (inr (inl (malformed_cause (w.stops ∙ ap Err is)))))
+        (λ k. ⊎_elim
+        (λ s. subst (Cause bytes many) (sym s.1) (section_stop_cause place s.0 (record { here = w.here; parts = w.parts; before = up_to; stops = s.2 })))
+        inner_cause
+        k)
+        ((section_tells many place w.parts w.here.0).found w.here.1 e w.bytes w.stops)
+
+  pub cause_found : (e : ReadFault) → read_fault bytes many ≡ Some e → Cause bytes many e
+  unfolding read_at parts_at
+  cause_found e h = ⊎_elim
+      (λ parts. ⊎_elim
+      (λ bad. ⊎_elim
+      (λ none. subst (Cause bytes many) (sym none.0) none.1)
+      (λ frame. subst (Cause bytes many) (sym frame.1) (inl frame.2))
+      (framed_fault bytes e small bad))
+      (λ good.
+      let framed = framed_sound bytes good.0 small good.1 in
+      let are = framed_bytes bytes good.0 small framed in
+      ⊎_elim
+      (λ bad. section_cause good.0 framed e (stopped many 0 nothing good.0 e are bad))
+      (λ all.
+      let c = contents_sound many 0 nothing good.0 all.0 are all.1 in
+      ⊎_elim
+      (λ agree. absurd (ok_err _ e agree.1))
+      (λ not.
+      let whole : FaultyWhole bytes many (length good.0) = record {
+        sections = good.0;
+        parts = all.0;
+        framed = framed;
+        number = refl;
+        spelled = c.0;
+        within = c.1;
+        faulty = λ r. (let t = sym not.0 ∙ of_rules all.0 r in cc);
+      } in
+      subst (Cause bytes many) (same_err {A = Parts} (Malformed (length good.0)) e not.1) (inr (inr whole)))
+      (cond_is (agrees all.0) _ _ _ all.2))
+      (bind_err (contents_at many 0 nothing good.0) _ e good.2))
+      (bind_err (framed_at bytes) _ e parts))
+      (λ ok. absurd (ok_err _ e ok.2))
+      (bind_err (parts_at many bytes) _ e (told (read_at many bytes) e h))
+
+pub causes : (bytes : List ℕ) (many : Bool) (e : ReadFault) → IsBytes bytes → (read_fault bytes many ≡ Some e) ↔ Cause bytes many e
+causes bytes many e small = (cause_found bytes many small e, cause_met bytes many small e)

@@ -87,14 +87,14 @@ module _ (many : Bool) where
   in_ok n f (Ok y) x e = let same : y ≡ x = cc in ap Ok same
   in_ok n f (Err w) x e = cc
 
-  bytes_front : (a b : List ℕ) → IsBytes (a ++ b) → IsBytes a
+  pub bytes_front : (a b : List ℕ) → IsBytes (a ++ b) → IsBytes a
   bytes_front [] b h zero = omega arith
   bytes_front [] b h (suc i) = omega arith
   bytes_front (x ∷ a) b h zero = h zero
   bytes_front (x ∷ a) b h (suc i) = bytes_front a b (λ j. h (suc j)) i
 
   -- the content of a size is made of bytes, as the whole is
-  content_bytes : (bytes content rest : List ℕ) → IsBytes bytes → Took (λ t. Sized t content) bytes rest → IsBytes content
+  pub content_bytes : (bytes content rest : List ℕ) → IsBytes bytes → Took (λ t. Sized t content) bytes rest → IsBytes content
   content_bytes bytes content rest small t =
       let text = bytes_front t.0 rest (subst IsBytes t.2 small) in
       small_rest (λ z. U32 z (length content)) t.0 content text (t.1.0, t.1.1, t.1.2)

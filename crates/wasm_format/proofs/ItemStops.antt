@@ -117,7 +117,7 @@ behind exact a b = other_stops (λ s b h. ⊎_elim (λ k. absurd k) (λ k. (k.0,
 pub nothing_tagged : {A : Type 0} {r : Reader A} (tag : ℕ) → Tells NoStop r → Tells NoStop (tagged_at tag r)
 nothing_tagged tag a = other_stops (λ s b h. h.2) (λ s b h. absurd h) (tagged_tells tag a)
 
-sized_tells : Tells NoStop sized_at
+pub sized_tells : Tells NoStop sized_at
 sized_tells = or_tells _
 
 -- ---- types

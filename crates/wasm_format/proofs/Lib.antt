@@ -13,6 +13,7 @@ pub mod NestLaws
 pub mod BodyStops
 pub mod EntryLaws
 pub mod SectionLaws
+pub mod SectionStops
 pub mod FileLaws
 pub mod BoundLaws
 pub mod Spoken

@@ -204,4 +204,5 @@ section_stops many id =
     (WhenStops (id == 9) (VectorStops ElementSegments SpellsElem Any ElemStops)
     (WhenStops (id == 10) (VectorStops Functions (SpellsEntry many) SmallCode NoStop)
     (WhenStops (id == 11) (VectorStops DataSegments SpellsData Any DataStops)
-    NoStop)))))))))))
+    (WhenStops (id == 12) NoStop
+    NoStop))))))))))))

@@ -30,10 +30,11 @@ pub fn no_fault_where_spelled()
     ensures { (many : Bool) (bytes : List ℕ) → IsBytes bytes → (read_fault bytes many ≡ None) ↔ ((m : ModuleTree) × Spells bytes m many × Within bytes many) }
 {}
 
-/// Where the first fault of a file names a section or a function, everything before that place is spelled and within the
-/// limits, and that place is not; a fault of the whole file comes only where all contents are spelled and within them.
+/// The first fault of a file is the one that has its cause, and the other way round: so at most one fault has its cause, with its place.
+/// Everything before the place that it names is spelled and within the limits. `Limit` and `Unsupported` tell what stands there, whatever
+/// follows; `Malformed` and `MalformedBody` that neither does, and that the place is not spelled within the limits.
 pub fn faults_have_causes()
-    ensures { (bytes : List ℕ) (many : Bool) (e : SomeFault) → IsBytes bytes → read_fault bytes many ≡ Some e → Cause bytes many e }
+    ensures { (bytes : List ℕ) (many : Bool) (e : SomeFault) → IsBytes bytes → (read_fault bytes many ≡ Some e) ↔ Cause bytes many e }
 {}
 
 /// A tree that is spelled within the limits has so few things of each kind that a u32 names each.
