@@ -280,3 +280,6 @@ module _ (bytes : List ℕ) (many : Bool) (small : IsBytes bytes) where
 
 pub causes : (bytes : List ℕ) (many : Bool) (e : ReadFault) → IsBytes bytes → (read_fault bytes many ≡ Some e) ↔ Cause bytes many e
 causes bytes many e small = (cause_found bytes many small e, cause_met bytes many small e)
+
+pub one_cause : (bytes : List ℕ) (many : Bool) (e f : ReadFault) → IsBytes bytes → Cause bytes many e → Cause bytes many f → e ≡ f
+one_cause bytes many e f small h k = let same = sym (cause_met bytes many small e h) ∙ cause_met bytes many small f k in (let t : ◌≡◌ {A = Option ReadFault} (Some e) (Some f) = same in cc)

@@ -16,6 +16,6 @@ pub mod SectionLaws
 pub mod SectionStops
 pub mod FileLaws
 pub mod BoundLaws
-pub mod Spoken
 pub mod CauseLaws
 mod Rows
+mod FaultRows

@@ -34,7 +34,8 @@ pub fn no_fault_where_spelled()
 /// Everything before the place that it names is spelled and within the limits. `Limit` and `Unsupported` tell what stands there, whatever
 /// follows; `Malformed` and `MalformedBody` that neither does, and that the place is not spelled within the limits.
 pub fn faults_have_causes()
-    ensures { (bytes : List ℕ) (many : Bool) (e : SomeFault) → IsBytes bytes → (read_fault bytes many ≡ Some e) ↔ Cause bytes many e }
+    ensures causes { (bytes : List ℕ) (many : Bool) (e : SomeFault) → IsBytes bytes → (read_fault bytes many ≡ Some e) ↔ Cause bytes many e }
+    ensures one { (bytes : List ℕ) (many : Bool) (e f : SomeFault) → IsBytes bytes → Cause bytes many e → Cause bytes many f → e ≡ f }
 {}
 
 /// A tree that is spelled within the limits has so few things of each kind that a u32 names each.
