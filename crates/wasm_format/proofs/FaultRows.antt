@@ -91,6 +91,10 @@ blocks_enough : code_at false (0x00 ∷ blocks 1000 []) ≡ Err fault.Malformed
 unfolding each_from code_at locals_at local_at body_at sequence_at block_at block_type_at token_at the_form un_of bin_of load_of store_of rest_form simple_of val_at unsigned_at
 blocks_enough = refl
 
+a_misspelled_block_too_many : code_at false (0x00 ∷ blocks 1000 (0x02 ∷ 0xFF ∷ 0x7F ∷ [])) ≡ Err fault.Malformed
+unfolding each_from code_at locals_at local_at body_at sequence_at block_at block_type_at token_at the_form un_of bin_of load_of store_of rest_form simple_of val_at unsigned_at signed_at
+a_misspelled_block_too_many = refl
+
 -- ---- what is not supported, and what is misspelled
 
 -- f32 as a parameter, and as a type of tables; f32.const, v128.const and f32.add, as an initialiser and in a body

@@ -15,6 +15,7 @@ pub mod EntryLaws
 pub mod SectionLaws
 pub mod SectionStops
 pub mod FileLaws
+pub mod CutLaws
 pub mod BoundLaws
 pub mod CauseLaws
 mod Rows

@@ -10,3 +10,4 @@ pub mod BodyReading
 pub mod Contents
 pub mod Stops
 pub mod Causes
+pub mod Cut

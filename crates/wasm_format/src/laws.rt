@@ -11,6 +11,7 @@ ghost use Rattle.wasm_format.specs.Bodies.{SpellsBody};
 ghost use Rattle.wasm_format.specs.Files.{Spells, Within};
 ghost use Rattle.wasm_format.specs.Contents.{read_fault};
 ghost use Rattle.wasm_format.specs.Causes.{Cause};
+ghost use Rattle.wasm_format.specs.Cut.{CutFiles};
 
 use wasm_tree::operands_pass_layer_by_layer;
 
@@ -36,6 +37,11 @@ pub fn no_fault_where_spelled()
 pub fn faults_have_causes()
     ensures causes { (bytes : List ℕ) (many : Bool) (e : SomeFault) → IsBytes bytes → (read_fault bytes many ≡ Some e) ↔ Cause bytes many e }
     ensures one { (bytes : List ℕ) (many : Bool) (e f : SomeFault) → IsBytes bytes → Cause bytes many e → Cause bytes many f → e ≡ f }
+{}
+
+/// Where a file spells a tree, and so does a proper prefix of it, the prefix is the header alone or ends where a frame of the file ends.
+pub fn cut_files_end_with_a_frame()
+    ensures { CutFiles }
 {}
 
 /// A tree that is spelled within the limits has so few things of each kind that a u32 names each.

@@ -8,7 +8,7 @@ mod token;
 
 pub use fault::{Fault, ReadFault};
 pub use laws::{
-    bodies_end_themselves, faults_have_causes, no_fault_where_spelled, one_tree,
+    bodies_end_themselves, cut_files_end_with_a_frame, faults_have_causes, no_fault_where_spelled, one_tree,
     spelled_bodies_name_memory_zero, spelled_trees_are_bounded,
 };
 pub use parts::Parts;
