@@ -166,7 +166,7 @@ module _ (bytes : List ℕ) (many : Bool) (small : IsBytes bytes) where
   cause_met NoMemory h = absurd h
   cause_met NotModule h = framed_err NotModule (header_reads bytes h)
   cause_met (Malformed n) h = ⊎_elim (λ bad. framed_err (Malformed n) (bad_reads bytes n small bad)) (λ k. ⊎_elim (malformed_met n) (whole_met n) k) h
-  cause_met (MalformedBody f) h = body_met h.0 f h.1 h.2 h.3
+  cause_met (MalformedBody f) h = let t = h.1 in body_met h.0 f t.0 t.1 t.2
   cause_met (Unsupported n None) h = stop_err n NotSupported h
   cause_met (Unsupported n (Some f)) h = entry_err n f NotSupported h
   cause_met (Limit w) h = ⊎_elim (λ k. stop_err h.0 (Over w) k) (λ k. entry_err h.0 k.0 (Over w) k.1) h.1
@@ -226,7 +226,7 @@ module _ (bytes : List ℕ) (many : Bool) (small : IsBytes bytes) where
           unspelled = λ g. code_not t.1 fault.Malformed g bad;
           no_stop = λ s k. never s (same_err {A = Func} _ _ (sym ((code_tells many).met t.1 s k) ∙ bad));
         } in
-        subst (Cause bytes many) (sym (t.5 ∙ ap (placed place (Some t.0)) is)) (place, t.1, inside, malformed))
+        subst (Cause bytes many) (sym (t.5 ∙ ap (placed place (Some t.0)) is)) (place, (t.1, inside, malformed)))
         (λ k. subst (Cause bytes many) (sym (t.5 ∙ ap (placed place (Some t.0)) k.1)) (entry_stop_cause place t.0 k.0 (t.1, inside, k.2)))
         ((code_tells many).found t.1 t.2 ok t.4)
       where

@@ -74,6 +74,9 @@ pub record MalformedContent (many : Bool) (content : List ℕ) : Type 0 where
   pub unspelled : IsCode many content → ⊥
   pub no_stop : (stop : Stop) → CodeStops many stop content → ⊥
 
+abbrev pub MalformedEntry : List ℕ → Bool → ℕ → ℕ → Type 0
+MalformedEntry bytes many n f = (content : List ℕ) × InEntry bytes many n f content × MalformedContent many content
+
 -- Section n is not spelled within the limits, and comes to no stop; and where it is the code section, each entry whose content is reached is spelled within them, so that a count or a size is misspelled
 -- or too great, or bytes are left over.
 pub record MalformedSection (bytes : List ℕ) (many : Bool) (n : ℕ) : Type 0 where
@@ -101,7 +104,7 @@ abbrev pub Cause : List ℕ → Bool → ReadFault → Type 0
 Cause bytes many NoMemory = ⊥
 Cause bytes many NotModule = HasHeader bytes → ⊥
 Cause bytes many (Malformed n) = FirstBad bytes n ⊎ (MalformedSection bytes many n ⊎ FaultyWhole bytes many n)
-Cause bytes many (MalformedBody f) = (n : ℕ) × (content : List ℕ) × InEntry bytes many n f content × MalformedContent many content
+Cause bytes many (MalformedBody f) = (n : ℕ) × MalformedEntry bytes many n f
 Cause bytes many (Unsupported n None) = SectionStops bytes many n NotSupported
 Cause bytes many (Unsupported n (Some f)) = EntryStops bytes many n f NotSupported
 Cause bytes many (Limit w) = (n : ℕ) × (SectionStops bytes many n (Over w) ⊎ ((f : ℕ) × EntryStops bytes many n f (Over w)))

@@ -1,10 +1,17 @@
 -- What is known besides of a tree that is found.
-use Rattle.std.proofs.Common.{◌≡◌, ℕ, List, Bool, true, false, Result, Ok, Err, IfOk, IsTrue}
+use Rattle.std.proofs.Common.{◌≡◌, ℕ, List, Bool, true, false, Option, Some, Result, Ok, Err, IfOk, IsTrue, ◌⊎◌, inl, inr, ⊎_elim, subst}
+use Rattle.std.specs.Prelude.{IfErr, ◌↔◌}
+use Rattle.wasm_bytes.specs.Reading.{IsBytes}
 use Rattle.wasm_tree.specs.declared.module.Module.{Module}
 use Rattle.wasm_tree.specs.Bounds.{IsBounded}
 use Rattle.wasm_tree.specs.MemoryZero.{memory_zero_funcs}
 use Rattle.wasm_format.specs.declared.fault.ReadFault.{ReadFault}
+use Rattle.wasm_format.specs.declared.fault.ReadFault.TheVariants.{NoMemory}
 use Rattle.wasm_format.specs.Files.{Spells, Within}
+use Rattle.wasm_format.specs.Contents.{GivesAll, read_at, read_fault}
+use Rattle.wasm_format.specs.Causes.{Cause}
+use Rattle.wasm_format.proofs.FileLaws.{call_fault, call_first}
+use Rattle.wasm_read.specs.Told.{Told}
 
 pub found_bounded : ((many : Bool) (bytes : List ℕ) (m : Module) → Spells bytes m many → Within bytes many → IsBounded m) →
     (bytes : List ℕ) (r : Result Module ReadFault) → IfOk r (λ m. Spells bytes m false × Within bytes false) → IfOk r (λ m. IsBounded m)
@@ -15,3 +22,15 @@ pub found_zero : ((bytes : List ℕ) (m : Module) → Spells bytes m false → m
     (bytes : List ℕ) (r : Result Module ReadFault) → IfOk r (λ m. Spells bytes m false × Within bytes false) → IfOk r (λ m. IsTrue (memory_zero_funcs m.funcs))
 found_zero law bytes (Ok m) h = law bytes m h.0
 found_zero law bytes (Err e) h = tt
+
+-- a fault is answered exactly where its cause holds
+pub told_by : (bytes : List ℕ) (r : Result Module ReadFault) → IsBytes bytes → ((bytes : List ℕ) (many : Bool) (e : ReadFault) → IsBytes bytes → (read_fault bytes many ≡ Some e) ↔ Cause bytes many e) →
+    GivesAll r (read_at false bytes) → (e : ReadFault) → (e ≡ NoMemory → ⊥) → Told r e (Cause bytes false e)
+told_by bytes r small law gives e some = (
+  λ h. ⊎_elim (λ none. absurd (some none)) (λ f. (law bytes false e small).0 f) (of_err r h (call_fault false bytes small r gives)),
+  λ h. call_first false bytes small r gives e ((law bytes false e small).1 h),
+)
+  where
+    of_err : (q : Result Module ReadFault) → q ≡ Err e → IfErr q (λ w. (w ≡ NoMemory) ⊎ (read_fault bytes false ≡ Some w)) → (e ≡ NoMemory) ⊎ (read_fault bytes false ≡ Some e)
+    of_err (Ok m) h k = cc
+    of_err (Err w) h k = let same : w ≡ e = cc in subst (λ z. (z ≡ NoMemory) ⊎ (read_fault bytes false ≡ Some z)) same k

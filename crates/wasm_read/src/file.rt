@@ -1,4 +1,5 @@
-ghost use Rattle.std.specs.Prelude.{◌≡◌, ◌<◌, ◌≤◌, ◌+◌, ◌^◌, ◌⊎◌, length, IfOk, IfErr, IsTrue, Ok, Err, Some, false};
+ghost use Rattle.std.specs.Prelude.{◌≡◌, ◌<◌, ◌≤◌, ◌+◌, ◌^◌, ◌⊎◌, ℕ, length, IfOk, IfErr, IsTrue, Ok, Err, Some, None, false};
+ghost use Rattle.wasm_bytes.specs.Frames.{HasHeader, FirstBad};
 ghost use Rattle.wasm_bytes.specs.Reading.{IsBytes};
 ghost use Rattle.wasm_bytes.specs.FrameViews.{Inside, framed, framed_all};
 ghost use Rattle.wasm_tree.specs.declared.module.Module.{Module as ModuleTree};
@@ -6,15 +7,20 @@ ghost use Rattle.wasm_tree.specs.Bounds.{IsBounded};
 ghost use Rattle.wasm_tree.specs.DataUse.{any_uses_data};
 ghost use Rattle.wasm_tree.specs.MemoryZero.{memory_zero_funcs};
 ghost use Rattle.wasm_format.specs.declared.fault.ReadFault.{ReadFault as SomeFault};
+ghost use Rattle.wasm_format.specs.declared.fault.ReadFault.TheVariants as fault;
+ghost use Rattle.wasm_tree.specs.declared.which.Which.{Which as SomeWhich};
+ghost use Rattle.wasm_format.specs.Stops.{NotSupported, Over};
+ghost use Rattle.wasm_format.specs.Causes.{SectionStops, EntryStops, MalformedSection, MalformedEntry, FaultyWhole};
 ghost use Rattle.wasm_format.specs.Files.{nothing, tree_of, Spells, Within};
 ghost use Rattle.wasm_format.specs.Contents.{GivesAll, contents_at, read_at, read_fault};
 ghost use Rattle.wasm_read.specs.Views.{GivesFramed, GivesParts};
+ghost use Rattle.wasm_read.specs.Told.{Told};
 
 use crate::rules::{agree, set_types};
 use crate::sections::{Found, read_section};
 use std::alloc::Global;
 use wasm_bytes::{Frame, FrameFault, Items, frames};
-use wasm_format::{Parts, ReadFault, spelled_bodies_name_memory_zero, spelled_trees_are_bounded};
+use wasm_format::{Parts, ReadFault, faults_have_causes, spelled_bodies_name_memory_zero, spelled_trees_are_bounded};
 use wasm_tree::Module;
 
 /// The frames of the file, or the fault where they have one.
@@ -127,9 +133,17 @@ pub fn read(alloc: Global, bytes: &[u8]) -> Result<Module, ReadFault>
     ensures only { (m : ModuleTree) → Spells bytes.now m false → Within bytes.now false → (result ≡ Ok m) ⊎ (result ≡ Err ReadFault.NoMemory) }
     ensures fault { IfErr result (λ e. (e ≡ ReadFault.NoMemory) ⊎ (read_fault bytes.now false ≡ Some e)) }
     ensures first { (e : SomeFault) → read_fault bytes.now false ≡ Some e → (result ≡ Err e) ⊎ (result ≡ Err ReadFault.NoMemory) }
+    // What each fault means, with its place: it is answered exactly where this is so, unless memory runs out.
+    ensures not_module { Told result fault.NotModule (HasHeader bytes.now → ⊥) }
+    ensures malformed { (n : ℕ) → Told result (fault.Malformed n) (FirstBad bytes.now n ⊎ (MalformedSection bytes.now false n ⊎ FaultyWhole bytes.now false n)) }
+    ensures malformed_body { (f : ℕ) → Told result (fault.MalformedBody f) ((n : ℕ) × MalformedEntry bytes.now false n f) }
+    ensures unsupported { (n : ℕ) → Told result (fault.Unsupported n None) (SectionStops bytes.now false n NotSupported) }
+    ensures unsupported_body { (n f : ℕ) → Told result (fault.Unsupported n (Some f)) (EntryStops bytes.now false n f NotSupported) }
+    ensures limit { (which : SomeWhich) → Told result (fault.Limit which) ((n : ℕ) × (SectionStops bytes.now false n (Over which) ⊎ ((f : ℕ) × EntryStops bytes.now false n f (Over which)))) }
     ensures bounded { IfOk result (λ m. IsBounded m) }
     ensures memory { IfOk result (λ m. IsTrue (memory_zero_funcs m.funcs)) }
 {
+    faults_have_causes();
     spelled_trees_are_bounded();
     spelled_bodies_name_memory_zero();
     read_file(alloc, bytes, false)

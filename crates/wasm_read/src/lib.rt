@@ -3,8 +3,10 @@
 
 mod codes;
 mod file;
+mod laws;
 mod rules;
 mod sections;
 
 pub use file::read;
+pub use laws::cut_files;
 pub use wasm_format::ReadFault;

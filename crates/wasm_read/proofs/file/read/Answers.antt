@@ -1,5 +1,7 @@
 use Rattle.std.proofs.Common.{false}
-use Rattle.wasm_read.proofs.Calls.{found_bounded, found_zero}
+use Rattle.std.specs.Prelude.{Some, None}
+use Rattle.wasm_format.specs.declared.fault.ReadFault.TheVariants as fault
+use Rattle.wasm_read.proofs.Calls.{found_bounded, found_zero, told_by}
 use Rattle.wasm_format.proofs.FileLaws.{call_found, call_only, call_fault, call_first}
 use Rattle.wasm_read.proofs.file.read.Goals as goal
 
@@ -14,6 +16,24 @@ returns-clause-fault c = call_fault false _ c.read_file.ensures.bytes _ c.read_f
 
 pub returns-clause-first : goal.returns-clause-first
 returns-clause-first c = call_first false _ c.read_file.ensures.bytes _ c.read_file.ensures.gives
+
+pub returns-clause-not_module : goal.returns-clause-not_module
+returns-clause-not_module c = told_by _ _ (c.read_file.ensures.bytes) c.faults_have_causes.ensures.causes c.read_file.ensures.gives fault.NotModule (λ h. cc)
+
+pub returns-clause-malformed : goal.returns-clause-malformed
+returns-clause-malformed c = λ n. told_by _ _ (c.read_file.ensures.bytes) c.faults_have_causes.ensures.causes c.read_file.ensures.gives (fault.Malformed n) (λ h. cc)
+
+pub returns-clause-malformed_body : goal.returns-clause-malformed_body
+returns-clause-malformed_body c = λ f. told_by _ _ (c.read_file.ensures.bytes) c.faults_have_causes.ensures.causes c.read_file.ensures.gives (fault.MalformedBody f) (λ h. cc)
+
+pub returns-clause-unsupported : goal.returns-clause-unsupported
+returns-clause-unsupported c = λ n. told_by _ _ (c.read_file.ensures.bytes) c.faults_have_causes.ensures.causes c.read_file.ensures.gives (fault.Unsupported n None) (λ h. cc)
+
+pub returns-clause-unsupported_body : goal.returns-clause-unsupported_body
+returns-clause-unsupported_body c = λ n f. told_by _ _ (c.read_file.ensures.bytes) c.faults_have_causes.ensures.causes c.read_file.ensures.gives (fault.Unsupported n (Some f)) (λ h. cc)
+
+pub returns-clause-limit : goal.returns-clause-limit
+returns-clause-limit c = λ which. told_by _ _ (c.read_file.ensures.bytes) c.faults_have_causes.ensures.causes c.read_file.ensures.gives (fault.Limit which) (λ h. cc)
 
 pub returns-clause-bounded : goal.returns-clause-bounded
 returns-clause-bounded c = found_bounded c.spelled_trees_are_bounded.ensures _ _ (call_found false _ c.read_file.ensures.bytes _ c.read_file.ensures.gives)
