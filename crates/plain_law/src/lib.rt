@@ -6,15 +6,18 @@ ghost use Rattle.wasm_tree.specs.declared.module.Module.{Module as Tree};
 ghost use Rattle.wasm_tree.specs.declared.instr.Instr.{Instr as Code};
 ghost use Rattle.wasm_tree.specs.declared.space.Space.{Space as IndexSpace};
 ghost use Rattle.wasm_tree.specs.Operands.{mapped_all};
-ghost use Rattle.wasm_format.specs.Files.{Spells};
+ghost use Rattle.wasm_format.specs.Files.{Spells, Within};
 ghost use Rattle.wasm_plain.specs.Plain.{plain};
 ghost use Rattle.plain_law.specs.Ranges.{InRange, all_numbers_in};
 ghost use Rattle.plain_law.specs.SmallSizes.{SmallSizes};
+ghost use Rattle.plain_law.specs.TreeLimits.{WithinLimits};
 
-/// The plain spelling of a tree, of fewer than 2^32 bytes, spells the tree. The premise holds of each tree that a program holds
-/// and whose bodies name no memory but memory 0.
+/// The plain spelling of a tree spells the tree, where its vectors and the sizes that are written are below 2^32, each number is in the range of
+/// its type and its bodies name no memory but memory 0 (`spells`); and where its counts, its nesting and its locals are within the limits
+/// besides, so is the spelling (`within`). So `read` gives the tree back, where the spelling has fewer than 2^32 bytes.
 pub fn plain_spells()
-    ensures { (m : Tree) → InRange m → length (plain m) < 2 ^ 32 → Spells (plain m) m false }
+    ensures spells { (m : Tree) → InRange m → SmallSizes m → Spells (plain m) m false }
+    ensures within { (m : Tree) → InRange m → SmallSizes m → WithinLimits m → Within (plain m) false }
 {}
 
 /// The tree that some bytes spell has each number in the range of its type and each name in UTF-8, and its bodies name no memory

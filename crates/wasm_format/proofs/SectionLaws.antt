@@ -51,7 +51,7 @@ module _ {A : Type 0} (P : List ℕ → A → Type 0) (S : A → Type 0) (r : Re
   whole_complete bs x h k =
       let e : r bs ≡ Ok (x, []) = subst (λ z. r z ≡ Ok (x, [])) (append-nil bs) (exact.complete bs [] x h k) in rw e
 
-one_whole : {A : Type 0} (P : List ℕ → A → Type 0) → Clear P → (c : List ℕ) (x y : A) → P c x → P c y → x ≡ y
+pub one_whole : {A : Type 0} (P : List ℕ → A → Type 0) → Clear P → (c : List ℕ) (x y : A) → P c x → P c y → x ≡ y
 one_whole P clear c x y h k = (clear c c [] [] x y refl h k).0
 
 -- ---- sections
@@ -123,7 +123,7 @@ right_codes many n func p = record {
 }
 
 -- function types without their limits
-type_clear : Clear SpellsFuncType
+pub type_clear : Clear SpellsFuncType
 type_clear = clear_of (tagged_exact 0x60 (mapped_exact func_type_of (λ (t : FuncType). (t.params, t.results)) (λ x. refl) (λ y. refl) (both_exact (list_exact val_exact) (list_exact val_exact))))
 
 pub section_right : (many : Bool) (n : ℕ) (p : Parts) (id : ℕ) → Right (section_form many p id) (small_form many id) (λ c. section_at many n p (id, c))
