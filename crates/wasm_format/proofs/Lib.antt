@@ -16,6 +16,7 @@ pub mod SectionLaws
 pub mod SectionStops
 pub mod FileLaws
 pub mod CutLaws
+pub mod LimitLaws
 pub mod BoundLaws
 pub mod CauseLaws
 mod Rows

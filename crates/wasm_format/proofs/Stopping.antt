@@ -134,7 +134,7 @@ unfolding tag_at
 tag_took tag [] u rest h = cc
 tag_took tag (b ∷ bs) u rest h = let k = tag_ok (b == tag) bs rest u h in let same : b ≡ tag = grind (arith, k.0) in rw (same, k.1)
 
-tag_reads : (tag : ℕ) (bs : List ℕ) → tag_at tag (tag ∷ bs) ≡ Ok (tt, bs)
+pub tag_reads : (tag : ℕ) (bs : List ℕ) → tag_at tag (tag ∷ bs) ≡ Ok (tt, bs)
 unfolding tag_at
 tag_reads tag bs = let same : tag == tag ≡ true = grind arith in rw same
 
