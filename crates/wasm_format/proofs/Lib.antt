@@ -19,5 +19,6 @@ pub mod CutLaws
 pub mod LimitLaws
 pub mod BoundLaws
 pub mod CauseLaws
+pub mod WithinLaws
 mod Rows
 mod FaultRows

@@ -6,7 +6,9 @@ ghost use Rattle.wasm_tree.specs.declared.instr.Instr.{Instr as Tree};
 ghost use Rattle.wasm_tree.specs.declared.module.Module.{Module as ModuleTree};
 ghost use Rattle.wasm_tree.specs.Bounds.{IsBounded};
 ghost use Rattle.wasm_tree.specs.MemoryZero.{memory_zero_funcs};
+ghost use Rattle.wasm_tree.specs.declared.which.Which.{Which as SomeWhich};
 ghost use Rattle.wasm_format.specs.declared.fault.ReadFault.{ReadFault as SomeFault};
+ghost use Rattle.wasm_format.specs.declared.fault.ReadFault.TheVariants as fault;
 ghost use Rattle.wasm_format.specs.Bodies.{SpellsBody};
 ghost use Rattle.wasm_format.specs.Files.{Spells, Within};
 ghost use Rattle.wasm_format.specs.Contents.{read_fault};
@@ -37,6 +39,12 @@ pub fn no_fault_where_spelled()
 pub fn faults_have_causes()
     ensures causes { (bytes : List ℕ) (many : Bool) (e : SomeFault) → IsBytes bytes → (read_fault bytes many ≡ Some e) ↔ Cause bytes many e }
     ensures one { (bytes : List ℕ) (many : Bool) (e f : SomeFault) → IsBytes bytes → Cause bytes many e → Cause bytes many f → e ≡ f }
+{}
+
+/// A file that spells a tree is within the limits exactly where no count that is written in it, no nesting and no sum of locals is over its
+/// limit. (`Within` is said of what is spelled; `Limit`, of what is written, also where the items do not follow.)
+pub fn spelled_files_are_within_where_nothing_is_over()
+    ensures { (bytes : List ℕ) (many : Bool) (m : ModuleTree) → IsBytes bytes → Spells bytes m many → Within bytes many ↔ ((which : SomeWhich) → Cause bytes many (fault.Limit which) → ⊥) }
 {}
 
 /// Where a file spells a tree, and so does a proper prefix of it, the prefix is the header alone or ends where a frame of the file ends.
