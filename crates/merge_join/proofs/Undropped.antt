@@ -1,7 +1,10 @@
 -- Only a dropped export can leave a function undeclared that `ref.func` names in a body of the merged module: a part is valid, so what its bodies name it names outside
 -- them too, and there the merged module names it as well.
-use Rattle.std.proofs.Common.{◌≡◌, ◌∙◌, refl, sym, ap, subst, ℕ, zero, suc, ◌+◌, ◌<◌, ◌≤◌, Bool, true, false, ◌&&◌, ◌||◌, not, nat_eq, nat_lt, List, [], ◌∷◌, ◌++◌, map, length, Option, Some, None, ◌⊎◌, inl, inr, ⊎_elim, arith, option_map, unwrap_or, slice_get, slice_index, length-append, length-map}
+use Rattle.std.proofs.Common.{◌≡◌, ◌∙◌, refl, sym, ap, subst, ℕ, zero, suc, ◌+◌, ◌<◌, ◌≤◌, Bool, true, false, ◌&&◌, ◌||◌, not, nat_eq, nat_lt, List, [], ◌∷◌, ◌++◌, map, length, Option, Some, None, ◌⊎◌, inl, inr, ⊎_elim, arith, option_map, unwrap_or, slice_get, slice_index, length-append}
 use Rattle.std.specs.List.{filter, filter_map, flat_map, list_all, range_with_len}
+use Rattle.std.proofs.lemmas.List.{length-map}
+use Rattle.std.proofs.lemmas.List.FromFn.{get_or-range_with_len, length-range_with_len}
+use Rattle.std.proofs.lemmas.Option.{slice_get-get_or}
 use Rattle.std.proofs.lemmas.Bool.{eqb-true, eq-eqb, ltb-true}
 use Rattle.base_lists.proofs.Bools.{left_true, right_true}
 use Rattle.base_lists.proofs.Each.{list_all_each, list_all_from, list_any_there}
@@ -10,6 +13,7 @@ use Rattle.base_lists.specs.Places.{numbers}
 use Rattle.base_lists.proofs.Numbers.{length-numbers}
 use Rattle.base_lists.proofs.Places.{Has, map_at, map_from, append_from, has_left, has_right}
 use Rattle.wasm_tree.specs.declared.space.Space.TheVariants.{Functions}
+use Rattle.wasm_tree.specs.declared.instr.Instr.{fold_out-Instr, out-Instr}
 use Rattle.wasm_tree.specs.declared.instr.Instr.TheVariants.{Call}
 use Rattle.wasm_tree.specs.declared.module.ConstExpr.{ConstExpr}
 use Rattle.wasm_tree.specs.declared.module.ConstExpr.TheVariants as const
@@ -28,14 +32,15 @@ use Rattle.wasm_valid.specs.Validity.{IsValid}
 use Rattle.wasm_meaning.specs.State.{Text}
 use Rattle.wasm_meaning.specs.Linking.{Part, module_at}
 use Rattle.index_remap.specs.Renumbered.{has, fits_all, fits_func, fits_import, fits_tree, new_func, new_export, new_export_desc, renumbered_all}
-use Rattle.index_remap.specs.References.{refs_all, body_refs, offset_func, offset_refs, outside_refs, is_among, declared_refs, declaring, with_declared, declared}
+use Rattle.index_remap.specs.References.{refs, refs_step, refs_all, body_refs, offset_func, offset_refs, outside_refs, is_among, declared_refs, declaring, with_declared, declared}
 use Rattle.merge_terms.specs.Merged.{by_part, by_part_from, map_of, new_index, merged_elem_mode, merged_const, merged_global, merged_elem, start_calls, starts, defined_funcs, all_exports, named_exports, merged}
+use Rattle.merge_join.specs.Words.{PartsHold}
 use Rattle.merge_join.proofs.Reading.{becomes_new}
 use Rattle.merge_join.proofs.RefOperands.{refs_kept}
 
 -- ---- lists ----
 
-nothing : (x : ℕ) → Has {ℕ} [] x → ⊥
+nothing : (x : ℕ) → Has {A = ℕ} [] x → ⊥
 nothing x (n, h) = cc
 
 filter_none : {A : Type 0} (test : A → Bool) (xs : List A) → ((x : A) → test x ≡ false) → filter test xs ≡ []
@@ -75,11 +80,11 @@ either_has xs ys x (n, h) = by (append_from xs ys n x h)
 
 flat_from : {A B : Type 0} (f : A → List B) (xs : List A) (y : B) → Has (flat_map f xs) y → (x : A) × Has xs x × Has (f x) y
 flat_from f [] y (n, h) = cc
-flat_from f (z ∷ zs) y h = by (either_has (f z) (flat_map f zs) y h)
-  where
-    by : Has (f z) y ⊎ Has (flat_map f zs) y → (x : _) × Has (z ∷ zs) x × Has (f x) y
-    by (inl a) = (z, (0, refl), a)
-    by (inr b) = let r = flat_from f zs y b in (r.0, (suc r.1.0, r.1.1), r.2)
+flat_from f (z ∷ zs) y h =
+    ⊎_elim
+    (λ a. (z, (0, refl), a))
+    (λ b. let r = flat_from f zs y b in (r.0, (suc r.1.0, r.1.1), r.2))
+    (either_has (f z) (flat_map f zs) y h)
 
 -- what a part has is among what all have
 part_has : {A : Type 0} (f : ℕ → Module → List A) (q : ℕ) (ps : List Part) (p : ℕ) (m : Module) (x : A) → module_at ps p ≡ Some m → Has (f (q + p) m) x → Has (by_part_from f q ps) x
@@ -97,11 +102,11 @@ OfPart f q ps x = (p : ℕ) × (m : Module) × (module_at ps p ≡ Some m) × Ha
 
 part_from : {A : Type 0} (f : ℕ → Module → List A) (q : ℕ) (ps : List Part) (x : A) → Has (by_part_from f q ps) x → OfPart f q ps x
 part_from f q [] x (n, h) = cc
-part_from f q (part ∷ ps) x h = by (either_has (f q part.«module») (by_part_from f (suc q) ps) x h)
-  where
-    by : Has (f q part.«module») x ⊎ Has (by_part_from f (suc q) ps) x → OfPart f q (part ∷ ps) x
-    by (inl a) = let here : q ≡ q + 0 = omega arith in (0, part.«module», refl, subst (λ k. Has (f k part.«module») x) here a)
-    by (inr b) = let r = part_from f (suc q) ps x b in let here : suc q + r.0 ≡ q + suc r.0 = omega arith in (suc r.0, r.1, r.2, subst (λ k. Has (f k r.1) x) here r.3)
+part_from f q (part ∷ ps) x h =
+    ⊎_elim
+    (λ a. let here : q ≡ q + 0 = omega arith in (0, part.«module», refl, subst (λ k. Has (f k part.«module») x) here a))
+    (λ b. let r = part_from f (suc q) ps x b in let here : suc q + r.0 ≡ q + suc r.0 = omega arith in (suc r.0, r.1, r.2, subst (λ k. Has (f k r.1) x) here r.3))
+    (either_has (f q part.«module») (by_part_from f (suc q) ps) x h)
 
 -- ---- what a valid part names outside its bodies ----
 
@@ -109,10 +114,8 @@ none_declared : (m : Module) (rs : List ℕ) → with_declared m rs ≡ m → rs
 none_declared m [] e = refl
 none_declared m (f ∷ fs) e = absurd (omega (arith, ap (λ (t : Module). length t.elems) e, length-append m.elems (declaring (f ∷ fs) ∷ [])))
 
-range_has : (a n i : ℕ) → i < n → Has (range_with_len a n) (a + i)
-range_has a zero i lt = absurd (omega arith)
-range_has a (suc n) zero lt = let e : a ≡ a + 0 = omega arith in (0, ap Some e)
-range_has a (suc n) (suc i) lt = let r = range_has (suc a) n i (omega arith) in let e : suc a + i ≡ a + suc i = omega arith in (suc r.0, r.1 ∙ ap Some e)
+range_has : (n i : ℕ) → i < n → Has (range_with_len 0 n) i
+range_has n i lt = (i, slice_get-get_or (range_with_len 0 n) i 0 (omega (arith, lt, length-range_with_len 0 n)) ∙ ap Some (get_or-range_with_len 0 n i 0 lt ∙ omega arith))
 
 -- what a function of the space is named by in a body, where nothing is to be declared, it is named by outside
 named_outside : (m : Module) → declared m ≡ m → (f : ℕ) → f < length (funcs_of m) → is_among (body_refs m.funcs) f ≡ true → is_among (outside_refs m) f ≡ true
@@ -121,10 +124,10 @@ named_outside m stays f lt h = by (is_among (outside_refs m) f) refl
     by : (b : Bool) → is_among (outside_refs m) f ≡ b → is_among (outside_refs m) f ≡ true
     by true e = e
     by false e =
-        let at = range_has 0 (length (funcs_of m)) f lt in
+        let at = range_has (length (funcs_of m)) f lt in
         let test : is_among (body_refs m.funcs) f && not (is_among (outside_refs m) f) ≡ true = rw (h, e) refl in
         let kept = is_kept (λ f. is_among (body_refs m.funcs) f && not (is_among (outside_refs m) f)) (range_with_len 0 (length (funcs_of m))) at.0 f at.1 test in
-        let none : Has {ℕ} [] f = subst (λ xs. Has xs f) (none_declared m (declared_refs m) stays) kept in
+        let none : Has {A = ℕ} [] f = subst (λ xs. Has xs f) (none_declared m (declared_refs m) stays) kept in
         absurd (nothing f none)
 
 -- ---- the merged module names it outside its bodies too ----
@@ -216,12 +219,12 @@ module _ (ps : List Part) (names : List (Option Text)) (many : length names ≡ 
         let elems = elem_refs Whole.elems in let globals = global_refs Whole.globals in let exports = export_refs Whole.exports in let offsets = offset_refs Whole.elems in
         ⊎_elim
         (λ a. has_left (elems ++ (globals ++ exports)) offsets (new f) (⊎_elim
-            (λ b. has_left elems (globals ++ exports) (new f) (elems_named f b))
-            (λ b. has_right elems (globals ++ exports) (new f) (⊎_elim
-                (λ c. has_left globals exports (new f) (globals_named f c))
-                (λ c. has_right globals exports (new f) (exports_named f c))
-                (either_has (global_refs m.globals) (export_refs m.exports) f b)))
-            (either_has (elem_refs m.elems) (global_refs m.globals ++ export_refs m.exports) f a)))
+        (λ b. has_left elems (globals ++ exports) (new f) (elems_named f b))
+        (λ b. has_right elems (globals ++ exports) (new f) (⊎_elim
+        (λ c. has_left globals exports (new f) (globals_named f c))
+        (λ c. has_right globals exports (new f) (exports_named f c))
+        (either_has (global_refs m.globals) (export_refs m.exports) f b)))
+        (either_has (elem_refs m.elems) (global_refs m.globals ++ export_refs m.exports) f a)))
         (λ a. has_right (elems ++ (globals ++ exports)) offsets (new f) (offsets_named f a))
         (either_has (refs_of m) (offset_refs m.elems) f h)
 
@@ -259,9 +262,13 @@ module _ (ps : List Part) (names : List (Option Text)) (many : length names ≡ 
           refs_kept (map_of ps p m) old (is_among (outside_refs Whole)) new_kept g.body body_fits
           (list_all_from old (refs_all g.body) (λ n f e. old_at f (has_among (body_refs m.funcs) f (flat_has (λ (x : Func). refs_all x.body) m.funcs g f (k, here) (n, e)))))
 
+  no_call : (f : ℕ) → refs (Call f) ≡ []
+  unfolding out-Instr denote.Hole.Carrier.out
+  no_call f = fold_out-Instr (List ℕ) refs_step (Call f)
+
   no_calls : (fs : List ℕ) → refs_all (map Call fs) ≡ []
   no_calls [] = refl
-  no_calls (f ∷ fs) = no_calls fs
+  no_calls (f ∷ fs) = ap (λ xs. xs ++ refs_all (map Call fs)) (no_call f) ∙ no_calls fs
 
   calls_name_none : (fs : List ℕ) (g : Func) → Has (start_calls ps fs) g → refs_all g.body ≡ []
   calls_name_none [] g (n, h) = cc
@@ -286,6 +293,7 @@ module _ (ps : List Part) (names : List (Option Text)) (many : length names ≡ 
             let named = body_named p m at (stay p m at) (fit p m at) there.0 func.0 func.1 in
             let there = subst (λ (f : Func). Has (refs_all f.body) x) (sym func.2) inside in
             list_all_each (is_among (outside_refs Whole)) (refs_all (renumbered_all (map_of ps p m) func.0.body)) named there.0 x there.1
+
         of_call : (g : Func) → Has (refs_all g.body) x → Has (start_calls ps (starts ps)) g → is_among (outside_refs Whole) x ≡ true
         of_call g inside c = absurd (nothing x (subst (λ xs. Has xs x) (calls_name_none (starts ps) g c) inside))
 
@@ -294,5 +302,24 @@ module _ (ps : List Part) (names : List (Option Text)) (many : length names ≡ 
     undeclared_none = filter_none (λ f. is_among (body_refs Whole.funcs) f && not (is_among (outside_refs Whole) f)) (range_with_len 0 (length (funcs_of Whole)))
         (λ x. refused (is_among (body_refs Whole.funcs) x) (is_among (outside_refs Whole) x) (named_once x))
 
-    pub all_declared : declared Whole ≡ Whole
+    all_declared : declared Whole ≡ Whole
     all_declared = ap (with_declared Whole) undeclared_none
+
+exports_are : (ps : List Part) (names : List (Option Text)) → (merged ps names).exports ≡ named_exports (all_exports ps) names
+unfolding merged
+exports_are ps names = refl
+
+-- a valid module has no function to be declared
+abbrev pub ValidIsDeclared : Type 0
+ValidIsDeclared = (m : Module) → IsValid m → declared m ≡ m
+
+-- the map of a part has an entry for each index that its valid module names
+abbrev pub ValidHasEntries : Type 0
+ValidHasEntries = (ps : List Part) (p : ℕ) (m : Module) → IsValid m → fits_tree (map_of ps p m) m ≡ true
+
+-- where no export is dropped, the merged module has no function to be declared
+pub none_undeclared : (ps : List Part) (names : List (Option Text)) (tree : Module) → ValidIsDeclared → ValidHasEntries → PartsHold ps → tree ≡ merged ps names → length names ≡ length (all_exports ps) → length names ≤ length tree.exports → declared tree ≡ tree
+none_undeclared ps names tree stays entries hold is many all =
+    let same : length tree.exports ≡ length (named_exports (all_exports ps) names) = ap (λ (t : Module). length t.exports) is ∙ ap length (exports_are ps names) in
+    subst (λ t. declared t ≡ t) (sym is)
+    (all_declared ps names many (omega (arith, all, same)) (λ p m at. stays m (hold p m at).0) (λ p m at. entries ps p m (hold p m at).0))
