@@ -1,7 +1,6 @@
 //! Trees with other indices or with their references declared: the calls that make them, and the laws that related steps agree and related runs show the same.
 #![tactic(auto)]
 
-mod body;
 mod declaring;
 mod each;
 mod in_place;

@@ -15,10 +15,12 @@ pub mod NewIndex
 pub mod Outcomes
 pub mod PartMaps
 pub mod Reading
+pub mod RefOperands
 pub mod Results
 pub mod Rows
 pub mod Sites
 pub mod SpaceSizes
 pub mod Staying
 pub mod TypeTexts
+pub mod Undropped
 pub mod Values

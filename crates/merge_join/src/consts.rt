@@ -38,25 +38,17 @@ pub(crate) fn reads_of(
     Ok(reads)
 }
 
-/// What stands for a constant expression of a part in the merged module.
-pub(crate) fn merged_const(
-    expr: ConstExpr,
-    joining: &Joining<'_>,
-    part: usize,
-    reads: &[Option<Read>],
-) -> ConstExpr
+// What stands in the merged module for a constant expression that reads a global which a part imports.
+fn merged_read(global: u32, joining: &Joining<'_>, part: usize, reads: &[Option<Read>]) -> ConstExpr
     requires joined { AreJoined joining.now }
     requires reads { AreReads (named_modules joining.now.parts.now) part reads.now }
-    requires typed { HasType (named_modules joining.now.parts.now) part expr }
-    ensures { result ≡ merged.merged_const (named_modules joining.now.parts.now) part expr }
+    requires typed { HasType (named_modules joining.now.parts.now) part (const.Global global) }
+    ensures { result ≡ merged.merged_const (named_modules joining.now.parts.now) part (const.Global global) }
 {
     maps_have_entries();
-    match expr {
-        ConstExpr::Global(global) => match reads[global as usize] {
-            Some(read) => renumber_const(read.expr, joining.map(read.part as usize)),
-            None => expr,
-        },
-        _ => renumber_const(expr, joining.map(part)),
+    match reads[global as usize] {
+        Some(read) => renumber_const(read.expr, joining.map(read.part as usize)),
+        None => ConstExpr::Global(global),
     }
 }
 
@@ -76,7 +68,7 @@ fn value_of(
     if mutable {
         return ConstExpr::Global(global);
     }
-    merged_const(ConstExpr::Global(global), joining, part, reads)
+    merged_read(global, joining, part, reads)
 }
 
 // What stands for each global that a part imports.

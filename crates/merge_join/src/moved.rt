@@ -12,14 +12,15 @@ use index_remap::{Remap, renumber_const};
 use wasm_bytes::Items;
 use wasm_tree::{ConstExpr, DataMode, DataSeg, ElemMode, ElemSeg, GlobalDef};
 
-/// What a part defines and what has constant expressions in it.
+/// What has constant expressions in it, of what a part defines: globals, segments, and the items of element segments.
 pub(crate) trait Moved: Drop {
-    /// It in the merged module.
+    /// What it is in the merged module.
     ghost renewed: { Maps → List Constant → Self → Self };
 
     /// The map has an entry for each index that it names.
     ghost has_entries: { Maps → Self → Bool };
 
+    /// Makes it what it is in the merged module, where it stands. The values stand for the globals that the part imports, in order.
     fn rewrite(&mut self, map: &Remap, values: &[ConstExpr])
         requires fits { IsTrue (has_entries map.now self.old) }
         ensures { self.new ≡ renewed map.now values.now self.old };

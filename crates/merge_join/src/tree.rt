@@ -1,8 +1,9 @@
 // The merged module.
 
-ghost use Rattle.std.specs.Prelude.{◌≡◌, ◌⊎◌, ◌<◌, ◌^◌, ◌++◌, Ok, Err, length, IfOk, IfErr, OnOk};
+ghost use Rattle.std.specs.Prelude.{◌≡◌, ◌⊎◌, ◌<◌, ◌≤◌, ◌^◌, ◌++◌, Ok, Err, length, IfOk, IfErr, OnOk};
 ghost use Rattle.std.specs.List.{filter_map};
 ghost use Rattle.wasm_tree.specs.Spaces.{funcs_of};
+ghost use Rattle.index_remap.specs.References.{declared};
 ghost use Rattle.merge_terms.specs.Parts.{named_modules};
 ghost use Rattle.merge_terms.specs.Merged as terms;
 ghost use Rattle.merge_terms.specs.Joined as joined;
@@ -24,6 +25,8 @@ use crate::types::{Types, all_types};
 use export_names::Mode;
 use index_remap::{Remap, declare_refs};
 use merge_terms::{JoinFault, Links, Part};
+use merge_validity::maps_have_entries;
+use remap_typing::declared_trees_are_valid;
 use std::alloc::Global;
 use wasm_bytes::{Items, Name, NoMemory};
 use wasm_tree::{ConstExpr, Module};
@@ -179,6 +182,20 @@ fn merged(
     Ok(tree)
 }
 
+// Declares the functions that `ref.func` names in bodies and that are named in no other place, where the parts have so many exports. While all of these are there,
+// there is no such function.
+fn declare_references(alloc: Global, module: &mut Module, exports: usize) -> Result<(), NoMemory>
+    requires few { length (funcs_of «module».old) < 2 ^ 32 }
+    requires kept { exports ≤ length «module».old.exports → declared «module».old ≡ «module».old }
+    ensures { OnOk result («module».new ≡ declared «module».old) }
+{
+    if module.exports.len() < exports {
+        declare_refs(alloc, module)
+    } else {
+        Ok(())
+    }
+}
+
 /// The merged module with its references declared, or why there is none.
 pub(crate) fn joined_tree(
     alloc: Global,
@@ -190,9 +207,11 @@ pub(crate) fn joined_tree(
     ensures joined { IfOk result (λ tree. joined.Joins (named_modules parts) mode (Ok tree)) }
     ensures fault { IfErr result (λ f. (f ≡ OutOfMemory) ⊎ joined.Joins (named_modules parts) mode (Err f)) }
 {
+    declared_trees_are_valid();
+    maps_have_entries();
     let names = new_names(alloc, parts.as_slice(), mode)?;
     let mut module = merged(alloc, parts, links, names.as_slice())?;
-    declare_refs(alloc, &mut module)?;
+    declare_references(alloc, &mut module, names.len())?;
     match over_limit(&module) {
         Some(which) => Err(JoinFault::TooMany { which }),
         None => Ok(module),

@@ -1,5 +1,5 @@
-//! Tests of validation over whole files: a well typed and an ill typed body for each instruction, code that is not reached, and a file for each
-//! kind of item. The expected answers are the standard's (WebAssembly Core 2.0, chapter 3).
+//! Tests of validation over whole files: tables of well typed and of ill typed bodies, code that is not reached, and files whose items do not hold, by kind. The
+//! expected answers are the standard's (WebAssembly Core 2.0, chapter 3).
 #![tactic(auto)]
 
 #[cfg(test)]

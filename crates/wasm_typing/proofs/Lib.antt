@@ -4,6 +4,7 @@ pub mod Rows
 pub mod Pops
 pub mod Acts
 pub mod Known
+pub mod Letters
 pub mod Turns
 pub mod Branching
 pub mod Runs

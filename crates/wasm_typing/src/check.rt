@@ -104,8 +104,11 @@ pub struct Stacks<'a> {
 }
 
 impl<'a> Stacks<'a> {
-    /// It takes no memory.
-    pub fn new(alloc: Global) -> Stacks<'a> {
+    /// Stacks with no label and no operand. Memory is taken only when bodies are checked.
+    pub fn new(alloc: Global) -> Stacks<'a>
+        ensures labels { label_list result.labels ≡ [] }
+        ensures operands { stack_of result.kept ≡ [] }
+    {
         Stacks {
             labels: Labels::new(alloc),
             kept: Kept::new(alloc),

@@ -1,6 +1,6 @@
 // What is done with the operands that the checker keeps.
 
-ghost use Rattle.std.specs.Prelude.{◌≡◌, ◌↔◌, ◌≤◌, ◌++◌, ◌∷◌, [], ◌||◌, nat_le, length, drop, reverse, is_some, IfOk, OnOk, IsTrue, Some, None, option_map};
+ghost use Rattle.std.specs.Prelude.{◌≡◌, false, min, nat_eq, ◌↔◌, ◌≤◌, ◌++◌, ◌∷◌, [], ◌||◌, nat_le, length, drop, reverse, is_some, IfOk, OnOk, IsTrue, Some, None, option_map};
 ghost use Rattle.wasm_tree.specs.SameTypes.{same_type, same_types};
 ghost use Rattle.wasm_typing.specs.Typing.{operands, only, Gives, Leaves, Drops, Selects, TestsNull};
 ghost use Rattle.wasm_typing.specs.Tracking.{pop_one, pop_type, pop_all, chosen, letter};
@@ -10,15 +10,33 @@ use crate::kept::{Kept, Outer};
 use std::alloc::{AllocError, Global};
 use wasm_tree::{RefType, ValType};
 
-fn letter(ty: ValType) -> u8
-    ensures { result ≡ letter ty }
+// Whether it is `externref`, whose letter is the last.
+fn is_last(ty: ValType) -> bool
+    ensures { result ≡ nat_eq (letter ty) 3 }
+{
+    match ty {
+        ValType::Ref(RefType::Extern) => true,
+        ValType::I32 | ValType::I64 | ValType::Ref(RefType::Func) => false,
+    }
+}
+
+// The letter, if it is not the last.
+fn kind(ty: ValType) -> u8
+    ensures { result ≡ min (letter ty) 2 }
 {
     match ty {
         ValType::I32 => 0,
         ValType::I64 => 1,
-        ValType::Ref(RefType::Func) => 2,
-        ValType::Ref(RefType::Extern) => 3,
+        ValType::Ref(_) => 2,
     }
+}
+
+// In two steps, each without a branch in machine code, so that the loop of `are_same` has none.
+#[tactic(auto, using(crate::proofs::Letters::last_letter, crate::proofs::Letters::other_letter))]
+fn letter(ty: ValType) -> u8
+    ensures { result ≡ letter ty }
+{
+    if is_last(ty) { 3 } else { kind(ty) }
 }
 
 fn is_same(a: ValType, b: ValType) -> bool
@@ -27,21 +45,25 @@ fn is_same(a: ValType, b: ValType) -> bool
     letter(a) == letter(b)
 }
 
-// Whether two lists of as many types are the same. The loop has one way out, so that it can become vector code.
+// Whether two lists of types, of one length, are the same. Each type is compared, also behind a difference: the loop has no branch.
 fn are_same(left: &[ValType], right: &[ValType]) -> bool
     requires { length left.now ≡ length right.now }
     ensures { result ≡ same_types left.now right.now }
 {
     let mut same = true;
     for i in 0..left.len() {
-        same = is_same(left[i], right[i]) && same;
+        same = same & is_same(left[i], right[i]);
     }
     same
 }
 
 impl Kept {
-    /// No operands. It takes no memory.
-    pub fn new(alloc: Global) -> Kept {
+    /// No operands, in no block. Memory is taken only when operands are put on.
+    pub fn new(alloc: Global) -> Kept
+        ensures operands { stack_of result ≡ [] }
+        ensures any_below { result.any_below ≡ false }
+        ensures beneath { beneath result ≡ [] }
+    {
         Kept {
             types: Vec::new(alloc),
             base: 0,
@@ -80,9 +102,15 @@ impl Kept {
         self.any_below = outer.any_below;
     }
 
-    /// Ends all blocks.
-    pub fn clear(&mut self) {
+    /// Takes off all operands of all open blocks, and what any of them had below.
+    pub fn clear(&mut self)
+        ensures operands { stack_of self.new ≡ [] }
+        ensures any_below { self.new.any_below ≡ false }
+        ensures beneath { beneath self.new ≡ [] }
+    {
         self.base = 0;
+        self.bottom = false;
+        self.any_below = false;
         self.types.clear();
     }
 
@@ -198,7 +226,7 @@ impl Kept {
         Ok(())
     }
 
-    /// Puts one operand on.
+    /// Puts one operand of this type on.
     pub fn puts(&mut self, ty: ValType) -> Result<bool, AllocError>
         ensures { IfOk result (λ ok. Answers (Some (Gives [] (ty ∷ []))) self.old self.new ok) }
     {
@@ -206,8 +234,8 @@ impl Kept {
         Ok(true)
     }
 
-    /// Takes one operand off.
-    pub fn takes(&mut self, ty: ValType) -> bool
+    /// Takes one operand of this type off.
+    pub fn consumes(&mut self, ty: ValType) -> bool
         ensures { Answers (Some (Gives (ty ∷ []) [])) self.old self.new result }
     {
         if !self.pop_type(ty) {
@@ -216,7 +244,7 @@ impl Kept {
         true
     }
 
-    /// Takes one operand off and puts one on.
+    /// Takes one operand of the type `from` off, and puts one of the type `to` on.
     pub fn turns(&mut self, from: ValType, to: ValType) -> Result<bool, AllocError>
         ensures { IfOk result (λ ok. Answers (Some (Gives (from ∷ []) (to ∷ []))) self.old self.new ok) }
     {
@@ -227,7 +255,7 @@ impl Kept {
         Ok(true)
     }
 
-    /// Takes two operands of one type off and puts one on.
+    /// Takes two operands of the type `from` off, and puts one of the type `to` on.
     pub fn joins(&mut self, from: ValType, to: ValType) -> Result<bool, AllocError>
         ensures { IfOk result (λ ok. Answers (Some (Gives (from ∷ from ∷ []) (to ∷ []))) self.old self.new ok) }
     {
@@ -241,25 +269,25 @@ impl Kept {
         Ok(true)
     }
 
-    /// Takes operands of the types `takes` off, and puts operands of the types `pushes` on.
-    pub fn gives(&mut self, takes: &[ValType], pushes: &[ValType]) -> Result<bool, AllocError>
-        ensures { IfOk result (λ ok. Answers (Some (Gives takes.now pushes.now)) self.old self.new ok) }
+    /// Takes operands of the types `params` off, and puts operands of the types `results` on.
+    pub fn gives(&mut self, params: &[ValType], results: &[ValType]) -> Result<bool, AllocError>
+        ensures { IfOk result (λ ok. Answers (Some (Gives params.now results.now)) self.old self.new ok) }
     {
-        if !self.pop_all(takes) {
+        if !self.pop_all(params) {
             return Ok(false);
         }
-        self.push_all(pushes)?;
+        self.push_all(results)?;
         Ok(true)
     }
 
-    /// Takes operands of the types `under` and `top` off, `top` first, and puts operands of the types `pushes` on.
+    /// Takes an operand of the type `top` off, then operands of the types `under`, and puts operands of the types `results` on.
     pub fn gives_over(
         &mut self,
         under: &[ValType],
         top: ValType,
-        pushes: &[ValType],
+        results: &[ValType],
     ) -> Result<bool, AllocError>
-        ensures { IfOk result (λ ok. Answers (Some (Gives (under.now ++ top ∷ []) pushes.now)) self.old self.new ok) }
+        ensures { IfOk result (λ ok. Answers (Some (Gives (under.now ++ top ∷ []) results.now)) self.old self.new ok) }
     {
         if !self.pop_type(top) {
             return Ok(false);
@@ -267,7 +295,7 @@ impl Kept {
         if !self.pop_all(under) {
             return Ok(false);
         }
-        self.push_all(pushes)?;
+        self.push_all(results)?;
         Ok(true)
     }
 
@@ -275,19 +303,19 @@ impl Kept {
     pub fn gives_where(
         &mut self,
         holds: bool,
-        takes: &[ValType],
-        pushes: &[ValType],
+        params: &[ValType],
+        results: &[ValType],
     ) -> Result<bool, AllocError>
-        ensures { IfOk result (λ ok. Answers (only holds (Some (Gives takes.now pushes.now))) self.old self.new ok) }
+        ensures { IfOk result (λ ok. Answers (only holds (Some (Gives params.now results.now))) self.old self.new ok) }
     {
         if holds {
-            self.gives(takes, pushes)
+            self.gives(params, results)
         } else {
             Ok(false)
         }
     }
 
-    // Takes all operands off, after which any stack stands there.
+    // Takes the operands of the innermost block off, as before code that is not reached: from here on operands of any types can be taken off.
     pub fn forgets(&mut self)
         ensures value { stack_of self.new ≡ [] }
         ensures any_below { IsTrue self.new.any_below }
@@ -298,7 +326,7 @@ impl Kept {
         self.any_below = true;
     }
 
-    /// Takes operands off, after which any stack stands there.
+    /// Takes operands of these types off, and then all others of the innermost block: the code that follows is not reached, and can take operands of any types off.
     pub fn leaves(&mut self, ts: &[ValType]) -> bool
         ensures { Answers (Some (Leaves ts.now)) self.old self.new result }
     {

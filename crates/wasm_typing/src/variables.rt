@@ -41,7 +41,7 @@ pub fn local_set(scope: &Scope<'_>, kept: &mut Kept, local: u32) -> Result<bool,
     ensures { IfOk result (λ ok. Answers (effect_of (context_of scope.now []) (LocalSet local)) kept.old kept.new ok) }
 {
     match scope.locals.type_at(local) {
-        Some(ty) => Ok(kept.takes(ty)),
+        Some(ty) => Ok(kept.consumes(ty)),
         None => Ok(false),
     }
 }

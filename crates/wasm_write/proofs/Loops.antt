@@ -1,5 +1,6 @@
 -- Steps of a loop that spells or tests one item at a time.
-use Rattle.std.proofs.Common.{◌≡◌, ℕ, zero, suc, ◌+◌, ◌<◌, List, [], ◌∷◌, ◌++◌, true, false, map, take, get_or, length, append_assoc, append-nil, refl, sym, ap, ◌∙◌, arith}
+use Rattle.std.specs.List.{list_any}
+use Rattle.std.proofs.Common.{◌≡◌, ◌||◌, Bool, ℕ, zero, suc, ◌+◌, ◌<◌, List, [], ◌∷◌, ◌++◌, true, false, map, take, get_or, length, append_assoc, append-nil, refl, sym, ap, ◌∙◌, arith}
 use Rattle.std.proofs.lemmas.List.{take_more}
 use Rattle.base_lists.proofs.Bools.{and_false, left_true, right_true}
 use Rattle.base_lists.proofs.Walk.{mapped_more}
@@ -38,3 +39,29 @@ funcs_push (d ∷ ds) c h k = let a = left_true (is_func d) (all_funcs ds) h in 
 -- one more item is `ref.func`
 pub funcs_more : (xs : List ConstExpr) (i : ℕ) (x : ConstExpr) → i < length xs → x ≡ get_or xs i x → all_funcs (take i xs) ≡ true → is_func x ≡ true → all_funcs (take (i + 1) xs) ≡ true
 funcs_more xs i x lt is h k = ap all_funcs (take_more xs i x lt) ∙ ap (λ y. all_funcs (take i xs ++ y ∷ [])) (sym is) ∙ funcs_push (take i xs) x h k
+
+-- ---- whether data is used
+
+any_push : {A : Type 0} (p : A → Bool) (xs : List A) (x : A) (b : Bool) → (list_any p (xs ++ x ∷ []) || b) ≡ (p x || (list_any p xs || b))
+any_push p [] x b = or_once (p x) b
+  where
+    or_once : (a b : Bool) → ((a || false) || b) ≡ (a || b)
+    or_once true b = refl
+    or_once false b = refl
+any_push p (y ∷ ys) x b = ap (λ c. c) (or_under (p y) (list_any p (ys ++ x ∷ [])) b) ∙ ap (λ c. p y || c) (any_push p ys x b) ∙ or_swap (p y) (p x) (list_any p ys) b
+  where
+    or_under : (a b c : Bool) → ((a || b) || c) ≡ (a || (b || c))
+    or_under true b c = refl
+    or_under false b c = refl
+
+    or_swap : (a b c d : Bool) → (a || (b || (c || d))) ≡ (b || ((a || c) || d))
+    or_swap true true c d = refl
+    or_swap true false c d = refl
+    or_swap false b c d = refl
+
+-- one more item is looked at
+pub any_more : {A : Type 0} (p : A → Bool) (xs : List A) (i : ℕ) (x : A) (first old new : Bool) → i < length xs → x ≡ get_or xs i x →
+    old ≡ (list_any p (take i xs) || first) → new ≡ (p x || old) → new ≡ (list_any p (take (i + 1) xs) || first)
+any_more p xs i x first old new lt is was now =
+    now ∙ ap (λ b. p x || b) was ∙ sym (any_push p (take i xs) x first)
+    ∙ sym (ap (λ ys. list_any p ys || first) (take_more xs i x lt ∙ ap (λ y. take i xs ++ y ∷ []) (sym is)))

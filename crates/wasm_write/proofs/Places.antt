@@ -1,29 +1,19 @@
--- What is spelled before a content that was spelled already.
-use Rattle.std.proofs.Common.{◌≡◌, ℕ, zero, suc, ◌+◌, ◌-◌, ◌/◌, ◌%◌, ◌<◌, ◌≤◌, List, [], ◌∷◌, ◌++◌, length, take, drop, length-append, length-take, append_assoc, sym, ap, ◌∙◌, arith}
-use Rattle.std.proofs.Math.Seq.{take-append_seam, drop-append_seam, take-append-add, drop-append-add}
-use Rattle.std.proofs.lemmas.Bool.{lt-ltb, le-ltb}
-use Rattle.wasm_bytes.specs.Writing.{unsigned_text}
+-- What is spelled behind a content, to be put before it: some text, an id, and the size of the content.
+use Rattle.std.proofs.Common.{◌≡◌, ◌∙◌, ap, ap₂, ℕ, ◌-◌, List, [], ◌∷◌, ◌++◌, length, append_assoc}
+use Rattle.wasm_bytes.specs.Writing.{u32_text}
 
-pub inserted : (before content text : List ℕ) → take (length before) (before ++ content) ++ text ++ drop (length before) (before ++ content) ≡ before ++ (text ++ content)
-inserted before content text = rw (take-append_seam before content, drop-append_seam before content) (append_assoc before text content)
-
-pub size_of : (before content : List ℕ) → length (before ++ content) - length before ≡ length content
-size_of before content = omega (arith, length-append before content)
-
--- ---- a number that is inserted byte by byte
-
-pub inserted_small : (most n : ℕ) (front back : List ℕ) → 0 < most → n < 128 → front ++ unsigned_text most n ++ back ≡ front ++ n ∷ back
-unfolding unsigned_text
-inserted_small zero n front back pos lt = absurd (omega arith)
-inserted_small (suc most) n front back pos lt = rw (lt-ltb n 128 lt) (append_assoc front (n ∷ []) back)
-
-pub inserted_large : (most n at : ℕ) (old mid : List ℕ) → 0 < most → 128 ≤ n → at ≤ length old → mid ≡ take at old ++ (n % 128 + 128) ∷ drop at old →
-    take at old ++ unsigned_text most n ++ drop at old ≡ take (at + 1) mid ++ unsigned_text (most - 1) (n / 128) ++ drop (at + 1) mid
-unfolding unsigned_text
-inserted_large zero n at old mid pos le here is = absurd (omega arith)
-inserted_large (suc most) n at old mid pos le here is =
-    let long : at + 1 ≡ length (take at old) + 1 = omega (arith, length-take at old) in
-    let first : take (at + 1) mid ≡ take at old ++ (n % 128 + 128) ∷ [] = ap (take (at + 1)) is ∙ ap (λ k. take k (take at old ++ (n % 128 + 128) ∷ drop at old)) long ∙ take-append-add (take at old) ((n % 128 + 128) ∷ drop at old) 1 in
-    let rest : drop (at + 1) mid ≡ drop at old = ap (drop (at + 1)) is ∙ ap (λ k. drop k (take at old ++ (n % 128 + 128) ∷ drop at old)) long ∙ drop-append-add (take at old) ((n % 128 + 128) ∷ drop at old) 1 in
-    let less : suc most - 1 ≡ most = omega arith in
-    rw (le-ltb n 128 le, first, rest, less) (ap (λ t. t ++ drop at old) (sym (append_assoc (take at old) ((n % 128 + 128) ∷ []) (unsigned_text most (n / 128)))))
+module _
+    {S : Type 0} (after : S → List ℕ → S) (place : S → ℕ) (both : (t : S) (a b : List ℕ) → after (after t a) b ≡ after t (a ++ b))
+    (told : (t : S) (a : List ℕ) (f : ℕ → List ℕ) → after (after t a) (f (place (after t a) - place t)) ≡ after (after t a) (f (length a)))
+  where
+    pub spelled_behind : (before old one two three : S) (content first : List ℕ) (id from middle : ℕ) → from ≡ place before → old ≡ after before content → middle ≡ place old →
+        one ≡ after old first → two ≡ after one (id ∷ []) → three ≡ after two (u32_text (middle - from)) → three ≡ after (after before content) (first ++ id ∷ u32_text (length content))
+    spelled_behind before old one two three content first id from middle here was mid a b c =
+        let whole = after before content in
+        let size = place whole - place before in
+        let same : middle - from ≡ size = ap₂ (λ m n. m - n) (mid ∙ ap place was) here in
+        c ∙ ap₂ after (b ∙ ap (λ t. after t (id ∷ [])) (a ∙ ap (λ t. after t first) was)) (ap u32_text same)
+        ∙ ap (λ t. after t (u32_text size)) (both whole first (id ∷ []))
+        ∙ both whole (first ++ id ∷ []) (u32_text size)
+        ∙ ap (after whole) (append_assoc first (id ∷ []) (u32_text size))
+        ∙ told before content (λ n. first ++ id ∷ u32_text n)

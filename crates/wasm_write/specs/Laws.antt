@@ -1,9 +1,13 @@
 -- The laws of what a spelling is spelled to, of a buffer and of a size.
-use Rattle.std.proofs.Common.{◌≡◌, ℕ, ◌≤◌, List, ◌++◌, length, length-append, arith}
+use Rattle.std.proofs.Common.{◌≡◌, ap, ◌⊎◌, inl, inr, ℕ, ◌+◌, ◌-◌, ◌^◌, ◌<◌, ◌≤◌, List, ◌++◌, length, length-append, arith}
+use Rattle.std.proofs.lemmas.Bool.{cases_lt}
 use Rattle.wasm_write.specs.Sizes.{counted}
 
 pub longer : (b s : List ℕ) → length b ≤ length (b ++ s)
 longer b s = omega (arith, length-append b s)
+
+pub as_long : (b s : List ℕ) (f : ℕ → List ℕ) → (b ++ s) ++ f (length (b ++ s) - length b) ≡ (b ++ s) ++ f (length s)
+as_long b s f = let e : length (b ++ s) - length b ≡ length s = omega (arith, length-append b s) in ap (λ n. (b ++ s) ++ f n) e
 
 pub no_more : (s : ℕ) → counted s 0 ≡ s
 no_more s = omega arith
@@ -13,3 +17,11 @@ added s a b = omega (arith, length-append a b)
 
 pub not_less : (s : ℕ) (a : List ℕ) → s ≤ counted s (length a)
 not_less s a = omega arith
+
+-- where it counts no further, all sizes are the same
+pub told : (s : ℕ) (a : List ℕ) (f : ℕ → List ℕ) → counted (counted s (length a)) (length (f (counted s (length a) - s))) ≡ counted (counted s (length a)) (length (f (length a)))
+told s a f = by_room (cases_lt (s + length a) (2 ^ 64))
+  where
+    by_room : (s + length a < 2 ^ 64) ⊎ (2 ^ 64 ≤ s + length a) → counted (counted s (length a)) (length (f (counted s (length a) - s))) ≡ counted (counted s (length a)) (length (f (length a)))
+    by_room (inl small) = let e : counted s (length a) - s ≡ length a = omega (arith, small) in ap (λ n. counted (counted s (length a)) (length (f n))) e
+    by_room (inr full) = omega (arith, full)

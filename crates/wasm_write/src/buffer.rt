@@ -1,7 +1,6 @@
-ghost use Rattle.std.specs.Prelude.{◌≡◌, ℕ, List, [], ◌∷◌, ◌++◌, ◌≤◌, length, take, drop, OnOk};
+ghost use Rattle.std.specs.Prelude.{◌≡◌, ℕ, List, [], ◌∷◌, ◌++◌, ◌-◌, ◌≤◌, length, OnOk};
 ghost use Rattle.std.proofs.Common.{append_assoc, append-nil};
-ghost use Rattle.wasm_bytes.specs.Writing.{unsigned_text};
-ghost use Rattle.wasm_write.specs.Laws.{longer};
+ghost use Rattle.wasm_write.specs.Laws.{longer, as_long};
 
 use crate::target::Target;
 use std::alloc::Global;
@@ -41,33 +40,6 @@ impl Buffer {
     }
 }
 
-/// Inserts the shortest spelling of a number, cut to so many bytes.
-#[tactic(auto, unfolding(wasm_bytes::specs::Writing::unsigned_text))]
-fn insert_unsigned(bytes: &mut Vec<u8>, at: usize, most: u32, value: u64) -> Result<(), NoMemory>
-    requires { at ≤ length bytes.old.items }
-    ensures { OnOk result (bytes.new.items ≡ take at bytes.old.items ++ unsigned_text most value ++ drop at bytes.old.items) }
-{
-    if most == 0 {
-        Ok(())
-    } else if value < 128 {
-        insert_byte(bytes, at, value as u8)
-    } else {
-        insert_byte(bytes, at, (value % 128 + 128) as u8)?;
-        insert_unsigned(bytes, at + 1, most - 1, value / 128)
-    }
-}
-
-/// Inserts a byte.
-fn insert_byte(bytes: &mut Vec<u8>, at: usize, value: u8) -> Result<(), NoMemory>
-    requires { at ≤ length bytes.old.items }
-    ensures { OnOk result (bytes.new.items ≡ take at bytes.old.items ++ value ∷ drop at bytes.old.items) }
-{
-    match bytes.insert(at, value) {
-        Ok(()) => Ok(()),
-        Err(_) => Err(NoMemory),
-    }
-}
-
 impl Target for Buffer {
     type Refusal = NoMemory;
 
@@ -80,6 +52,8 @@ impl Target for Buffer {
     ghost joined = { λ b s t. append_assoc b s t };
 
     ghost farther = { λ b s. longer b s };
+
+    ghost told = { λ b s f. as_long b s f };
 
     fn byte(&mut self, value: u8) -> Result<(), NoMemory> {
         match self.bytes.push(value) {
@@ -99,9 +73,8 @@ impl Target for Buffer {
         self.bytes.len() as u64
     }
 
-    #[tactic(auto, using(crate::proofs::Places::inserted, crate::proofs::Places::size_of))]
-    fn size_before(&mut self, from: u64) -> Result<(), NoMemory> {
-        let size = self.bytes.len() as u64 - from;
-        insert_unsigned(&mut self.bytes, from as usize, 5, size)
+    fn turn(&mut self, from: u64, middle: u64) {
+        let last = self.bytes.len() - middle as usize;
+        self.bytes[from as usize..].rotate_right(last);
     }
 }

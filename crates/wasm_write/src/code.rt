@@ -1,4 +1,5 @@
-ghost use Rattle.std.specs.Prelude.{◌≡◌, ℕ, List, [], ◌∷◌, ◌+◌, ◌++◌, OnOk, map};
+ghost use Rattle.std.specs.Prelude.{◌≡◌, ℕ, List, [], ◌∷◌, ◌+◌, ◌++◌, ◌||◌, OnOk, map};
+ghost use Rattle.wasm_tree.specs.DataUse.{uses_data_in, uses_data};
 ghost use Rattle.wasm_bytes.specs.Writing.{u32_text, s32_text, s64_text};
 ghost use Rattle.wasm_plain.specs.PlainValues.{joined, each_text, vector_text, ref_text, val_text, block_type_text};
 ghost use Rattle.wasm_plain.specs.PlainCode.{mem_arg_text, instr_text, instrs_text, else_text};
@@ -87,28 +88,30 @@ fn spell_typed<T: Target>(target: &mut T, types: &[ValType]) -> Result<(), T::Re
     spell_vector(target, types)
 }
 
-/// Spells an instruction.
+/// Spells an instruction. Where it names a data segment, `uses` becomes true.
+#[tactic(auto, using(wasm_tree::proofs::DataUse::uses_block, wasm_tree::proofs::DataUse::uses_loop, wasm_tree::proofs::DataUse::uses_if))]
 #[cycle(spell)]
-fn spell_instr<T: Target>(target: &mut T, instr: &Instr) -> Result<(), T::Refusal>
-    ensures { OnOk result (target.new ≡ T.after target.old (instr_text instr.now)) }
+fn spell_instr<T: Target>(target: &mut T, instr: &Instr, uses: &mut bool) -> Result<(), T::Refusal>
+    ensures text { OnOk result (target.new ≡ T.after target.old (instr_text instr.now)) }
+    ensures uses { OnOk result (uses.new ≡ (uses_data_in instr.now || uses.old)) }
 {
     match instr {
         Instr::Unreachable => target.byte(0x00),
         Instr::Nop => target.byte(0x01),
         Instr::Block(ty, body) => {
             spell_opener(target, 0x02, ty)?;
-            spell_instrs(target, body.as_slice())?;
+            spell_instrs(target, body.as_slice(), uses)?;
             target.byte(0x0B)
         }
         Instr::Loop(ty, body) => {
             spell_opener(target, 0x03, ty)?;
-            spell_instrs(target, body.as_slice())?;
+            spell_instrs(target, body.as_slice(), uses)?;
             target.byte(0x0B)
         }
         Instr::If(ty, body, other) => {
             spell_opener(target, 0x04, ty)?;
-            spell_instrs(target, body.as_slice())?;
-            spell_else(target, other.as_slice())?;
+            spell_instrs(target, body.as_slice(), uses)?;
+            spell_else(target, other.as_slice(), uses)?;
             target.byte(0x0B)
         }
         Instr::Br(x) => spell_index(target, 0x0C, *x),
@@ -150,8 +153,14 @@ fn spell_instr<T: Target>(target: &mut T, instr: &Instr) -> Result<(), T::Refusa
         }
         Instr::RefIsNull => target.byte(0xD1),
         Instr::RefFunc(x) => spell_index(target, 0xD2, *x),
-        Instr::MemoryInit { segment, memory } => spell_prefixed_pair(target, 8, *segment, *memory),
-        Instr::DataDrop(x) => spell_prefixed(target, 9, *x),
+        Instr::MemoryInit { segment, memory } => {
+            *uses = true;
+            spell_prefixed_pair(target, 8, *segment, *memory)
+        }
+        Instr::DataDrop(x) => {
+            *uses = true;
+            spell_prefixed(target, 9, *x)
+        }
         Instr::MemoryCopy { to, from } => spell_prefixed_pair(target, 10, *to, *from),
         Instr::MemoryFill(x) => spell_prefixed(target, 11, *x),
         Instr::TableInit { segment, table } => spell_prefixed_pair(target, 12, *segment, *table),
@@ -163,25 +172,31 @@ fn spell_instr<T: Target>(target: &mut T, instr: &Instr) -> Result<(), T::Refusa
     }
 }
 
-/// Spells instructions, one after another.
+/// Spells instructions, one after another. Where one names a data segment, `uses` becomes true.
 #[cycle(spell)]
-pub(crate) fn spell_instrs<T: Target>(target: &mut T, instrs: &[Instr]) -> Result<(), T::Refusal>
-    ensures { OnOk result (target.new ≡ T.after target.old (instrs_text instrs.now)) }
+pub(crate) fn spell_instrs<T: Target>(
+    target: &mut T,
+    instrs: &[Instr],
+    uses: &mut bool,
+) -> Result<(), T::Refusal>
+    ensures text { OnOk result (target.new ≡ T.after target.old (instrs_text instrs.now)) }
+    ensures uses { OnOk result (uses.new ≡ (uses_data instrs.now || uses.old)) }
 {
     for instr in instrs {
-        spell_instr(target, instr)?;
+        spell_instr(target, instr, uses)?;
     }
     Ok(())
 }
 
 /// Spells what an `if` has besides its first list, if there is any.
 #[cycle(spell)]
-fn spell_else<T: Target>(target: &mut T, other: &[Instr]) -> Result<(), T::Refusal>
-    ensures { OnOk result (target.new ≡ T.after target.old (else_text (map instr_text other.now))) }
+fn spell_else<T: Target>(target: &mut T, other: &[Instr], uses: &mut bool) -> Result<(), T::Refusal>
+    ensures text { OnOk result (target.new ≡ T.after target.old (else_text (map instr_text other.now))) }
+    ensures uses { OnOk result (uses.new ≡ (uses_data other.now || uses.old)) }
 {
     if other.len() == 0 {
         return Ok(());
     }
     target.byte(0x05)?;
-    spell_instrs(target, other)
+    spell_instrs(target, other, uses)
 }

@@ -1,4 +1,4 @@
-ghost use Rattle.std.specs.Prelude.{◌≡◌, ℕ, List, ◌++◌, OnOk};
+ghost use Rattle.std.specs.Prelude.{◌≡◌, ◌≤◌, ℕ, List, ◌++◌, OnOk};
 ghost use Rattle.wasm_bytes.specs.Writing.{u32_text, sized_text};
 ghost use Rattle.wasm_plain.specs.PlainValues.{each_text, vector_text};
 
@@ -41,4 +41,15 @@ pub(crate) fn spell_vector<T: Target, P: Plain>(
 {
     spell_number(target, items.len() as u64)?;
     spell_each(target, items)
+}
+
+/// Spells the size of what was spelled since the target had come to `from`, before that.
+pub(crate) fn spell_size_before<T: Target>(target: &mut T, from: u64) -> Result<(), T::Refusal>
+    requires { from ≤ T.place target.old }
+    ensures { OnOk result ((before : T) (content : List ℕ) → from ≡ T.place before → target.old ≡ T.after before content → target.new ≡ T.after before (sized_text content)) }
+{
+    let middle = target.place();
+    spell_number(target, middle - from)?;
+    target.turn(from, middle);
+    Ok(())
 }

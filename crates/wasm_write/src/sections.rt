@@ -1,5 +1,6 @@
-ghost use Rattle.std.specs.Prelude.{◌≡◌, ℕ, List, [], ◌∷◌, ◌++◌, OnOk};
+ghost use Rattle.std.specs.Prelude.{◌≡◌, ℕ, List, [], ◌∷◌, ◌++◌, ◌||◌, ◌≤◌, if◌then◌else◌, OnOk};
 ghost use Rattle.wasm_bytes.specs.Writing.{u32_text, sized_text};
+ghost use Rattle.wasm_tree.specs.DataUse.{uses_data, any_uses_data};
 ghost use Rattle.wasm_plain.specs.PlainValues.{each_text, vector_text, func_type_text, import_text, table_text, limits_text, global_text, export_text, elem_text, data_text};
 ghost use Rattle.wasm_plain.specs.PlainCode.{group_text, code_text, entry_text};
 ghost use Rattle.wasm_plain.specs.Plain.{section_text, list_section, start_section, count_section, plain};
@@ -7,9 +8,9 @@ ghost use Rattle.wasm_write.specs.Parts.{types_text, text_before_code};
 
 use crate::code::spell_instrs;
 use crate::numbers::{spell_number, spell_u32};
-use crate::plain::{Plain, spell_vector};
+use crate::plain::{Plain, spell_size_before, spell_vector};
 use crate::target::Target;
-use wasm_tree::{Func, LocalGroup, Module, any_uses_data};
+use wasm_tree::{Func, LocalGroup, Module};
 
 /// The magic number and the version (WebAssembly Core 2.0, section 5.5.16).
 const HEADER: [u8; 8] = [0x00, 0x61, 0x73, 0x6D, 0x01, 0x00, 0x00, 0x00];
@@ -24,24 +25,40 @@ impl Plain for LocalGroup {
     }
 }
 
-/// Spells what is inside a code entry (WebAssembly Core 2.0, section 5.5.13).
-fn spell_code<T: Target>(target: &mut T, func: &Func) -> Result<(), T::Refusal>
-    ensures { OnOk result (target.new ≡ T.after target.old (code_text func.now)) }
+/// Spells what is inside a code entry (WebAssembly Core 2.0, section 5.5.13). Where the body names a data segment, `uses` becomes true.
+fn spell_code<T: Target>(target: &mut T, func: &Func, uses: &mut bool) -> Result<(), T::Refusal>
+    ensures text { OnOk result (target.new ≡ T.after target.old (code_text func.now)) }
+    ensures uses { OnOk result (uses.new ≡ (uses_data func.now.body || uses.old)) }
 {
     spell_vector(target, func.locals.as_slice())?;
-    spell_instrs(target, func.body.as_slice())?;
+    spell_instrs(target, func.body.as_slice(), uses)?;
     target.byte(0x0B)
 }
 
-impl Plain for Func {
-    ghost text = { entry_text };
+/// Spells a code entry. Where the body names a data segment, `uses` becomes true.
+#[tactic(auto, unfolding(wasm_plain::specs::PlainCode::entry_text))]
+fn spell_entry<T: Target>(target: &mut T, func: &Func, uses: &mut bool) -> Result<(), T::Refusal>
+    ensures text { OnOk result (target.new ≡ T.after target.old (entry_text func.now)) }
+    ensures uses { OnOk result (uses.new ≡ (uses_data func.now.body || uses.old)) }
+{
+    let from = target.place();
+    spell_code(target, func, uses)?;
+    spell_size_before(target, from)
+}
 
-    #[tactic(auto, unfolding(wasm_plain::specs::PlainCode::entry_text))]
-    fn spell<T: Target>(&self, target: &mut T) -> Result<(), T::Refusal> {
-        let from = target.place();
-        spell_code(target, self)?;
-        target.size_before(from)
+/// Spells code entries, one after another. Where a body names a data segment, `uses` becomes true.
+fn spell_entries<T: Target>(
+    target: &mut T,
+    funcs: &[Func],
+    uses: &mut bool,
+) -> Result<(), T::Refusal>
+    ensures text { OnOk result (target.new ≡ T.after target.old (each_text entry_text funcs.now)) }
+    ensures uses { OnOk result (uses.new ≡ (any_uses_data funcs.now || uses.old)) }
+{
+    for func in funcs {
+        spell_entry(target, func, uses)?;
     }
+    Ok(())
 }
 
 /// Spells the types of functions, one after another.
@@ -64,7 +81,7 @@ fn spell_list<T: Target, P: Plain>(target: &mut T, id: u8, items: &[P]) -> Resul
     target.byte(id)?;
     let from = target.place();
     spell_vector(target, items)?;
-    target.size_before(from)
+    spell_size_before(target, from)
 }
 
 /// Spells the function section, if there are functions.
@@ -78,7 +95,7 @@ fn spell_func_section<T: Target>(target: &mut T, funcs: &[Func]) -> Result<(), T
     let from = target.place();
     spell_number(target, funcs.len() as u64)?;
     spell_func_types(target, funcs)?;
-    target.size_before(from)
+    spell_size_before(target, from)
 }
 
 /// Spells a section of one number.
@@ -88,7 +105,7 @@ fn spell_one<T: Target>(target: &mut T, id: u8, value: u64) -> Result<(), T::Ref
     target.byte(id)?;
     let from = target.place();
     spell_number(target, value)?;
-    target.size_before(from)
+    spell_size_before(target, from)
 }
 
 /// Spells the start section, if there is a start.
@@ -101,15 +118,48 @@ fn spell_start<T: Target>(target: &mut T, start: Option<u32>) -> Result<(), T::R
     }
 }
 
-/// Spells the data count section, if a body has `memory.init` or `data.drop`.
-fn spell_count<T: Target>(target: &mut T, module: &Module) -> Result<(), T::Refusal>
-    ensures { OnOk result (target.new ≡ T.after target.old (count_section «module».now)) }
+/// Spells the data count section, if bodies use data.
+fn spell_count<T: Target>(target: &mut T, count: usize, uses: bool) -> Result<(), T::Refusal>
+    ensures { OnOk result (target.new ≡ T.after target.old (if uses then section_text 12 (u32_text count) else [])) }
 {
-    if any_uses_data(module.funcs.as_slice()) {
-        spell_one(target, 12, module.datas.len() as u64)
+    if uses {
+        spell_one(target, 12, count as u64)
     } else {
         Ok(())
     }
+}
+
+/// Spells what stands before the content of the code section, which was spelled since `from`: the data count section, if bodies use data, and the id and the size.
+fn spell_before_content<T: Target>(
+    target: &mut T,
+    from: u64,
+    count: usize,
+    uses: bool,
+) -> Result<(), T::Refusal>
+    requires { from ≤ T.place target.old }
+    ensures { OnOk result ((before : T) (content : List ℕ) → from ≡ T.place before → target.old ≡ T.after before content →
+        target.new ≡ T.after before ((if uses then section_text 12 (u32_text count) else []) ++ section_text 10 content)) }
+{
+    let middle = target.place();
+    spell_count(target, count, uses)?;
+    target.byte(10)?;
+    spell_number(target, middle - from)?;
+    target.turn(from, middle);
+    Ok(())
+}
+
+/// Spells the data count section and the code section. Whether there is a data count is known once the bodies are spelled.
+fn spell_code_section<T: Target>(target: &mut T, module: &Module) -> Result<(), T::Refusal>
+    ensures { OnOk result (target.new ≡ T.after target.old (count_section «module».now ++ list_section 10 entry_text «module».now.funcs)) }
+{
+    if module.funcs.len() == 0 {
+        return Ok(());
+    }
+    let from = target.place();
+    let mut uses = false;
+    spell_number(target, module.funcs.len() as u64)?;
+    spell_entries(target, module.funcs.as_slice(), &mut uses)?;
+    spell_before_content(target, from, module.datas.len(), uses)
 }
 
 /// Spells the header, and the sections up to that of globals.
@@ -143,7 +193,6 @@ pub(crate) fn spell_module<T: Target>(target: &mut T, module: &Module) -> Result
     ensures { OnOk result (target.new ≡ T.after target.old (plain «module».now)) }
 {
     spell_before_code(target, module)?;
-    spell_count(target, module)?;
-    spell_list(target, 10, module.funcs.as_slice())?;
+    spell_code_section(target, module)?;
     spell_list(target, 11, module.datas.as_slice())
 }

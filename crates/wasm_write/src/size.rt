@@ -1,13 +1,12 @@
 ghost use Rattle.std.specs.Prelude.{◌≡◌, ◌≤◌, ◌+◌, ◌-◌, ◌^◌, ℕ, List, length, min, max, OnOk};
-ghost use Rattle.wasm_bytes.specs.Writing.{unsigned_text, u32_text};
 ghost use Rattle.wasm_write.specs.Sizes.{counted};
-ghost use Rattle.wasm_write.specs.Laws.{no_more, added, not_less};
+ghost use Rattle.wasm_write.specs.Laws.{no_more, added, not_less, told};
 
 use crate::target::Target;
 use std::convert::Infallible;
 use std::marker::Model;
 
-/// How many bytes a spelling has; from the greatest u64 on it says no more.
+/// How many bytes a spelling has. The count stops at the greatest u64.
 #[derive(Drop)]
 pub(crate) struct Size {
     bytes: u64,
@@ -43,28 +42,6 @@ impl Size {
     }
 }
 
-/// How many bytes the shortest spelling has, of at most `most`.
-#[tactic(auto, unfolding(wasm_bytes::specs::Writing::unsigned_text))]
-fn unsigned_size(most: u32, value: u64) -> u64
-    ensures value { result ≡ length (unsigned_text most value) }
-    ensures few { result ≤ most }
-{
-    if most == 0 {
-        0
-    } else if value < 128 {
-        1
-    } else {
-        1 + unsigned_size(most - 1, value / 128)
-    }
-}
-
-/// How many bytes the shortest spelling of a length has.
-fn number_size(value: u64) -> u64
-    ensures { result ≡ length (u32_text value) }
-{
-    unsigned_size(5, value)
-}
-
 impl Target for Size {
     type Refusal = Infallible;
 
@@ -78,6 +55,8 @@ impl Target for Size {
 
     ghost farther = { λ s a. not_less s a };
 
+    ghost told = { λ s a f. told s a f };
+
     fn byte(&mut self, value: u8) -> Result<(), Infallible> {
         self.count(1)
     }
@@ -90,7 +69,5 @@ impl Target for Size {
         self.bytes
     }
 
-    fn size_before(&mut self, from: u64) -> Result<(), Infallible> {
-        self.count(number_size(self.bytes - from))
-    }
+    fn turn(&mut self, _from: u64, _middle: u64) {}
 }

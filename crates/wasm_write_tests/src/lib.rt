@@ -1,4 +1,4 @@
-//! Tests of writing and measuring: modules whose bytes were written by hand, and each instruction.
+//! Tests of writing and measuring: small modules beside bytes that were written by hand.
 #![tactic(auto)]
 
 #[cfg(test)]

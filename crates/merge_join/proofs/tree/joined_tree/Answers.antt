@@ -1,4 +1,4 @@
-use Rattle.std.proofs.Common.{◌≡◌, ◌∙◌, sym, ap, inr, refl, List, Option, None}
+use Rattle.std.proofs.Common.{◌≡◌, ◌∙◌, sym, ap, inr, refl, arith, length, List, Option, None}
 use Rattle.wasm_tree.specs.declared.module.Module.{Module}
 use Rattle.wasm_meaning.specs.State.{Text}
 use Rattle.merge_terms.specs.declared.parts.Part as parts
@@ -6,9 +6,10 @@ use Rattle.index_remap.specs.References.{declared}
 use Rattle.export_names.specs.declared.mode.Mode.{Mode}
 use Rattle.export_names.specs.Names as names
 use Rattle.merge_terms.specs.Parts.{named_modules}
-use Rattle.merge_terms.specs.Merged.{merged, export_names}
+use Rattle.merge_terms.specs.Merged.{all_exports, merged, export_names}
 use Rattle.merge_terms.specs.Joined.{joined_module, over_limit, repeated_name}
 use Rattle.merge_join.proofs.Outcomes.{many_is, module_is}
+use Rattle.merge_join.proofs.Undropped.{none_undeclared}
 use Rattle.merge_join.proofs.tree.joined_tree.Goals as goal
 
 is_joined : (ps qs : List parts.Part) (mode : Mode) (news lent : List (Option Text)) (tree now : Module) →
@@ -19,12 +20,22 @@ is_joined ps qs mode news lent tree now a b d e same = a ∙ ap declared (b ∙ 
 none_twice : (ps qs : List parts.Part) (mode : Mode) → qs ≡ ps → repeated_name (named_modules qs) mode ≡ None → repeated_name (named_modules ps) mode ≡ None
 none_twice ps qs mode same h = sym (ap (λ (xs : List parts.Part). repeated_name (named_modules xs) mode) same) ∙ h
 
+pub declare_references-requires : goal.declare_references-requires
+declare_references-requires c =
+    let ps = named_modules c.args.parts in
+    let lent = c.as_slice-2.result.now in
+    let many : length lent ≡ length (all_exports ps) = ap length c.as_slice-2.ensures ∙ c.in_ok-names.ensures.many ∙ ap (λ (xs : List parts.Part). length (all_exports (named_modules xs))) c.as_slice.ensures in
+    record {
+      few = c.in_ok-module.ensures.few;
+      kept = λ le. none_undeclared ps lent c.in_ok-module.module c.declared_trees_are_valid.ensures.stays c.maps_have_entries.ensures.entries c.requires.linked.hold c.in_ok-module.ensures.is many (omega (arith, le, c.len.ensures, ap length c.as_slice-2.ensures));
+    }
+
 pub returns-in-Some-clause-fault : goal.returns-in-Some-clause-fault
 returns-in-Some-clause-fault c =
     let ps = named_modules c.args.parts in
     let mode = c.args.mode in
-    let e = is_joined c.args.parts c.as_slice.result.now mode c.in_ok-names.names c.as_slice-2.result.now c.in_ok-module.module c.declare_refs.new.module
-    c.in_ok-declare_refs.ensures.ok c.in_ok-module.ensures.is c.as_slice-2.ensures c.in_ok-names.ensures.names c.as_slice.ensures in
+    let e = is_joined c.args.parts c.as_slice.result.now mode c.in_ok-names.names c.as_slice-2.result.now c.in_ok-module.module c.declare_references.new.module
+    c.in_ok-declare_references.ensures c.in_ok-module.ensures.is c.as_slice-2.ensures c.in_ok-names.ensures.names c.as_slice.ensures in
     inr (many_is (repeated_name ps mode) (over_limit (joined_module ps mode)) c.in-Some.which (joined_module ps mode) (none_twice c.args.parts c.as_slice.result.now mode c.as_slice.ensures (c.in_ok-names.ensures.none refl))
     (ap over_limit (sym e) ∙ sym c.over_limit.ensures ∙ c.in-Some.is))
 
@@ -32,7 +43,7 @@ pub returns-clause-joined : goal.returns-clause-joined
 returns-clause-joined c =
     let ps = named_modules c.args.parts in
     let mode = c.args.mode in
-    let e = is_joined c.args.parts c.as_slice.result.now mode c.in_ok-names.names c.as_slice-2.result.now c.in_ok-module.module c.declare_refs.new.module
-    c.in_ok-declare_refs.ensures.ok c.in_ok-module.ensures.is c.as_slice-2.ensures c.in_ok-names.ensures.names c.as_slice.ensures in
-    module_is (repeated_name ps mode) (over_limit (joined_module ps mode)) (joined_module ps mode) c.declare_refs.new.module (none_twice c.args.parts c.as_slice.result.now mode c.as_slice.ensures (c.in_ok-names.ensures.none refl))
+    let e = is_joined c.args.parts c.as_slice.result.now mode c.in_ok-names.names c.as_slice-2.result.now c.in_ok-module.module c.declare_references.new.module
+    c.in_ok-declare_references.ensures c.in_ok-module.ensures.is c.as_slice-2.ensures c.in_ok-names.ensures.names c.as_slice.ensures in
+    module_is (repeated_name ps mode) (over_limit (joined_module ps mode)) (joined_module ps mode) c.declare_references.new.module (none_twice c.args.parts c.as_slice.result.now mode c.as_slice.ensures (c.in_ok-names.ensures.none refl))
     (ap over_limit (sym e) ∙ sym c.over_limit.ensures ∙ c.in-None.is) (sym e)
