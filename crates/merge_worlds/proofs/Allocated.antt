@@ -7,8 +7,8 @@ use Rattle.wasm_meaning.specs.Environment.{Environment, own_funcs, own_tables, o
 use Rattle.wasm_meaning.specs.World.{all_there, new_func, new_global, elem_of, insts_from, joined_stores, own_store, stores_from}
 use Rattle.index_remap.specs.Related.{Pairing, OptRel, ListRel, FuncRel, TableRel, GlobalRel, ElemRel}
 use Rattle.index_remap.proofs.Rel.{append_rel, copies_rel}
-use Rattle.permuted_worlds.specs.Alone.{one}
-use Rattle.permuted_worlds.proofs.Places.{self_rel, maps_rel, opt_at}
+use Rattle.world_simulation.specs.Alone.{one}
+use Rattle.world_simulation.proofs.Places.{self_rel, maps_rel, opt_at}
 use Rattle.export_names.specs.declared.mode.Mode.{Mode}
 use Rattle.merge_terms.specs.Joined.{joined_module}
 use Rattle.merge_terms.specs.Merged.{by_part_from, starts, start_calls}

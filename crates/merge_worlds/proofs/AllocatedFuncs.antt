@@ -18,8 +18,8 @@ use Rattle.index_remap.specs.Renumbered.{has, renumbered_all, fits_all, fits_fun
 use Rattle.index_remap.specs.Renumbered as renumbered
 use Rattle.index_remap.specs.Related.{Pairing, OptRel, some, CodeRel, FuncRel, defined}
 use Rattle.remap_typing.specs.Indices.{with_entry}
-use Rattle.permuted_worlds.specs.Named.{EntriesName}
-use Rattle.permuted_worlds.proofs.Places.{left_true, right_true, map_length, opt_at, names_of}
+use Rattle.world_simulation.specs.Named.{EntriesName}
+use Rattle.world_simulation.proofs.Places.{left_true, right_true, map_length, opt_at, names_of}
 use Rattle.merge_terms.specs.Merged.{map_of}
 use Rattle.merge_worlds.specs.Instances.{SpaceAgrees, PartAgrees}
 use Rattle.merge_worlds.specs.Shared.{is_shared, sharing}

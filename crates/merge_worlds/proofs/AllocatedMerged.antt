@@ -19,7 +19,7 @@ use Rattle.wasm_meaning.specs.Linking.{Part}
 use Rattle.wasm_meaning.specs.Environment.{Environment}
 use Rattle.wasm_meaning.specs.World.{given, all_there, new_func, new_elem, ref_value, elem_of}
 use Rattle.index_remap.specs.References.{is_among, body_refs, outside_refs, declared_refs, with_declared, declaring}
-use Rattle.permuted_worlds.specs.Alone.{one}
+use Rattle.world_simulation.specs.Alone.{one}
 use Rattle.base_lists.proofs.Options.{AllThere}
 use Rattle.export_names.specs.declared.mode.Mode.{Mode}
 use Rattle.export_names.specs.Names.{new_names}

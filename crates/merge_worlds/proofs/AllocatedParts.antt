@@ -31,8 +31,8 @@ use Rattle.index_remap.specs.Renumbered.{fits_import, fits_func, fits_tree}
 use Rattle.index_remap.specs.Renumbered as renumbered
 use Rattle.index_remap.specs.Related.{Pairing, OptRel, some, ListRel, nil, RefRel, FuncRel, GlobalRel, ElemRel}
 use Rattle.index_remap.proofs.Rel.{append_rel}
-use Rattle.permuted_worlds.specs.Alone.{one}
-use Rattle.permuted_worlds.proofs.Places.{left_true, right_true, map_length, then_rel, then_rel_is, opt_at, tested_rel, all_rel}
+use Rattle.world_simulation.specs.Alone.{one}
+use Rattle.world_simulation.proofs.Places.{left_true, right_true, map_length, then_rel, then_rel_is, opt_at, tested_rel, all_rel}
 use Rattle.export_names.specs.declared.mode.Mode.{Mode}
 use Rattle.merge_terms.specs.Joined.{joined_module}
 use Rattle.merge_terms.specs.Merged.{map_of, by_part_from, merged_const, merged_global, merged_elem, merged_elem_mode, merged_data}

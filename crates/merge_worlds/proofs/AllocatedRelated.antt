@@ -10,7 +10,7 @@ use Rattle.wasm_meaning.specs.Linking.{Part}
 use Rattle.wasm_meaning.specs.Environment.{Environment, owned_of}
 use Rattle.index_remap.specs.Related.{Pairing, BothRel, both, ListRel, nil, cons, FuncRel, defined, own, slot, StoreRel}
 use Rattle.index_remap.specs.RelatedRuns.{KeyRel}
-use Rattle.permuted_worlds.specs.Owned.{OwnEntitiesCorrespond}
+use Rattle.world_simulation.specs.Owned.{OwnEntitiesCorrespond}
 use Rattle.merge_worlds.specs.Shared.{shared_count, sharing}
 use Rattle.merge_worlds.specs.Stores.{StoresAlike}
 use Rattle.merge_worlds.proofs.ValueShared.{is_same, own_entities}

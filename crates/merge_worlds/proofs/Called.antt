@@ -35,9 +35,9 @@ use Rattle.merge_validity.specs.Joinable.{CanBeJoined}
 use Rattle.merge_validity.specs.Started.{StartsTakeNothing}
 use Rattle.merge_worlds.proofs.MatchTypes.{func_type_is}
 use Rattle.merge_validity.proofs.ByPart.{by_part_many, defined_is}
-use Rattle.permuted_worlds.specs.Alone.{one, site}
-use Rattle.permuted_worlds.proofs.Places.{map_length}
-use Rattle.permuted_worlds.proofs.Alone.{funcs_counted}
+use Rattle.world_simulation.specs.Alone.{one, site}
+use Rattle.world_simulation.proofs.Places.{map_length}
+use Rattle.world_simulation.proofs.Alone.{funcs_counted}
 use Rattle.merge_worlds.specs.Shared.{shared_count}
 use Rattle.merge_worlds.proofs.SpaceLaws.{SpaceLaws}
 use Rattle.merge_worlds.proofs.Instancing.{IsInst}

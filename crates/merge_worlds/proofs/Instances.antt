@@ -22,9 +22,9 @@ use Rattle.merge_terms.specs.Joined.{joined_module}
 use Rattle.merge_validity.specs.Joinable.{CanBeJoined}
 use Rattle.merge_validity.specs.Ended.{added_count, is_external}
 use Rattle.merge_validity.proofs.ByPart.{elems_is, datas_is}
-use Rattle.permuted_worlds.specs.Alone.{one}
-use Rattle.permuted_worlds.proofs.Places.{map_length, place_map}
-use Rattle.permuted_worlds.proofs.Alone.{funcs_counted, tables_counted, memories_counted, globals_counted}
+use Rattle.world_simulation.specs.Alone.{one}
+use Rattle.world_simulation.proofs.Places.{map_length, place_map}
+use Rattle.world_simulation.proofs.Alone.{funcs_counted, tables_counted, memories_counted, globals_counted}
 use Rattle.merge_worlds.specs.Shared.{shared_count}
 use Rattle.merge_worlds.specs.Instances.{SameAddress, SpaceAgrees, PartAgrees, InstancesAgree}
 use Rattle.merge_worlds.proofs.SpaceLaws.{SpaceLaws}

@@ -12,7 +12,7 @@ use Rattle.wasm_meaning.specs.World.{given, same_bool, meets}
 use Rattle.index_remap.specs.Related.{Pairing, ResRel, done, trap, wrong, FuncRel, defined, own, TableRel}
 use Rattle.index_remap.specs.Related as to
 use Rattle.index_remap.proofs.Rel.{at_rel, length_rel}
-use Rattle.permuted_worlds.proofs.Places.{map_length, then_eq, place_rel}
+use Rattle.world_simulation.proofs.Places.{map_length, then_eq, place_rel}
 use Rattle.merge_terms.specs.Faults.{External, FuncOf, TableOf, MemoryOf, GlobalOf}
 use Rattle.merge_worlds.specs.Shared.{sharing}
 use Rattle.merge_worlds.specs.Stores.{StoresAlike}

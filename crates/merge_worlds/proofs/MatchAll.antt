@@ -17,8 +17,8 @@ use Rattle.merge_terms.specs.Joined.{joined_module}
 use Rattle.merge_validity.specs.Joinable.{CanBeJoined}
 use Rattle.merge_worlds.specs.Instances.{InstancesAgree}
 use Rattle.merge_worlds.specs.Stores.{StoresAlike}
-use Rattle.permuted_worlds.proofs.Defined.{defined_at}
-use Rattle.permuted_worlds.specs.Alone.{one, site, ImportsStandForTheEnvironments}
+use Rattle.world_simulation.proofs.Defined.{defined_at}
+use Rattle.world_simulation.specs.Alone.{one, site, ImportsStandForTheEnvironments}
 use Rattle.merge_validity.specs.Ended.{EndsInside, EndsOutside, Ended, inside, outside, LinkedImportsEnd, StayingImportsEndThere, SitesAreImports, TypesHavePlaces}
 use Rattle.merge_worlds.proofs.MatchLists.{all_each, each_all}
 use Rattle.merge_worlds.proofs.MatchTypes.{alike_is}

@@ -22,7 +22,7 @@ use Rattle.wasm_meaning.specs.Control.{type_at}
 use Rattle.wasm_meaning.specs.Linking.{Part, has_kind, imports_of, module_at}
 use Rattle.wasm_meaning.specs.Environment.{Environment, FuncAt, TableAt, MemoryAt, GlobalAt}
 use Rattle.wasm_meaning.specs.World.{given, same_bool, meets, base, thing_at, new_func, new_global, value_of, own_store, stores_from}
-use Rattle.permuted_worlds.proofs.Places.{place_map}
+use Rattle.world_simulation.proofs.Places.{place_map}
 use Rattle.merge_terms.specs.Faults.{External, FuncOf, TableOf, MemoryOf, GlobalOf, external_of, same_but_limits, meets_limits}
 use Rattle.merge_worlds.proofs.MatchLists.{all_places, copies_length}
 use Rattle.merge_worlds.proofs.MatchFits.{fits}

@@ -18,7 +18,7 @@ use Rattle.merge_terms.specs.Faults.{External, FuncOf, TableOf, MemoryOf, Global
 use Rattle.merge_terms.specs.Merged.{merged, merged_types, map_of, merged_import, merged_desc, staying, export_names}
 use Rattle.merge_terms.specs.Joined.{joined_module}
 use Rattle.merge_worlds.specs.Stores.{StoresAlike}
-use Rattle.permuted_worlds.specs.Alone.{one, site, key_in, thing_in, ImportsStandForTheEnvironments}
+use Rattle.world_simulation.specs.Alone.{one, site, key_in, thing_in, ImportsStandForTheEnvironments}
 use Rattle.merge_validity.specs.Ended.{TypesHavePlaces}
 use Rattle.merge_worlds.proofs.MatchFits.{fits, fitting, match_fits, kept}
 use Rattle.merge_worlds.proofs.MatchAlike.{IsAmong, own_among, fits_same}

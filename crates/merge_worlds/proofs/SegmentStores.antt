@@ -8,7 +8,7 @@ use Rattle.wasm_meaning.specs.Environment.{Environment}
 use Rattle.wasm_meaning.specs.World.{Filled, and_then, or_trapped, fill_table, fill_memory}
 use Rattle.index_remap.specs.Related.{Pairing, OptRel, none, some, ResRel, done, trap, wrong, ListRel, nil, RefRel, TableRel}
 use Rattle.index_remap.proofs.Rel.{put_rel, length_rel}
-use Rattle.permuted_worlds.proofs.Places.{put_length}
+use Rattle.world_simulation.proofs.Places.{put_length}
 use Rattle.merge_worlds.specs.Shared.{sharing}
 use Rattle.merge_worlds.specs.Stores.{StoresAlike, FilledAlike}
 use Rattle.std.proofs.lemmas.List.{set-append_left}

@@ -27,8 +27,8 @@ use Rattle.wasm_meaning.specs.World.{Filled, given, numbers, value_of, number_va
 use Rattle.index_remap.specs.Related.{Pairing, OptRel, none, some, ElemRel, ValRel, number, reference}
 use Rattle.index_remap.specs.References.{declaring, with_declared, declared_refs}
 use Rattle.index_remap.proofs.Rel.{length_rel, overwrite_rel}
-use Rattle.permuted_worlds.specs.Alone.{one}
-use Rattle.permuted_worlds.proofs.Places.{map_length, then_rel, then_same, opt_at, place_rel}
+use Rattle.world_simulation.specs.Alone.{one}
+use Rattle.world_simulation.proofs.Places.{map_length, then_rel, then_same, opt_at, place_rel}
 use Rattle.export_names.specs.declared.mode.Mode.{Mode}
 use Rattle.export_names.specs.Names.{new_names}
 use Rattle.merge_terms.specs.Merged.{by_part, map_of, merged, merged_const, merged_elem, merged_elem_mode, merged_data, merged_data_mode, export_names}

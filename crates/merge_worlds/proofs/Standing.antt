@@ -21,9 +21,9 @@ use Rattle.merge_terms.specs.Merged.{staying_of, new_index}
 use Rattle.merge_validity.specs.Ended.{EndsInside, EndsOutside, Ended, inside, outside, is_external}
 use Rattle.merge_validity.proofs.ByPart.{before, defined_is}
 use Rattle.merge_validity.proofs.Same.{kind_is}
-use Rattle.permuted_worlds.specs.Owned.{SharesOwn, OwnEntitiesCorrespond}
-use Rattle.permuted_worlds.proofs.Defined.{defined_at}
-use Rattle.permuted_worlds.proofs.Places.{place_rel, opt_self}
+use Rattle.world_simulation.specs.Owned.{SharesOwn, OwnEntitiesCorrespond}
+use Rattle.world_simulation.proofs.Defined.{defined_at}
+use Rattle.world_simulation.proofs.Places.{place_rel, opt_self}
 use Rattle.merge_worlds.specs.Shared.{shared_count, is_shared, sharing}
 use Rattle.merge_worlds.proofs.SpaceLaws.{SpaceLaws}
 use Rattle.base_lists.proofs.Options.{and_then_is}

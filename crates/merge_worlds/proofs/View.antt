@@ -13,7 +13,7 @@ use Rattle.export_names.specs.declared.mode.Mode.{Mode}
 use Rattle.merge_terms.specs.Merged.{merged, map_of, all_exports, named_exports}
 use Rattle.merge_terms.specs.Joined.{joined_module}
 use Rattle.merge_terms.specs.View.{all_entities, named_entities, merge_view}
-use Rattle.permuted_worlds.proofs.Places.{then_rel, opt_at, all_rel}
+use Rattle.world_simulation.proofs.Places.{then_rel, opt_at, all_rel}
 use Rattle.merge_worlds.specs.Shared.{sharing}
 use Rattle.merge_worlds.specs.Instances.{InstancesAgree}
 use Rattle.merge_worlds.proofs.MergedAlone.{joined_keeps, names_of}

@@ -13,10 +13,10 @@ use Rattle.wasm_meaning.proofs.Prefixes.{prefix_trans, later}
 use Rattle.index_remap.specs.Related.{Pairing, OptRel, none, some, ListRel, nil, cons, opening}
 use Rattle.index_remap.specs.RelatedRuns.{KeyRel, BegunRel}
 use Rattle.index_remap.specs.Laws.{EntryByEntry}
-use Rattle.permuted_worlds.specs.Alone.{one}
-use Rattle.permuted_worlds.specs.Instances.{RelatedBegunShowTheSame}
-use Rattle.permuted_worlds.specs.Starts.{NamesStart, CallsEach, OneStartMayCallSeveral}
-use Rattle.permuted_worlds.proofs.Places.{then_rel}
+use Rattle.world_simulation.specs.Alone.{one}
+use Rattle.world_simulation.specs.Instances.{RelatedBegunShowTheSame}
+use Rattle.world_simulation.specs.Starts.{NamesStart, CallsEach, OneStartMayCallSeveral}
+use Rattle.world_simulation.proofs.Places.{then_rel}
 use Rattle.export_names.specs.declared.mode.Mode.{Mode}
 use Rattle.merge_terms.specs.Merged.{starts}
 use Rattle.merge_terms.specs.Joined.{joined_module}

@@ -7,7 +7,7 @@ use index_remap::steps_agree;
 use merge_validity::{
     linked_imports_have_ends, maps_have_entries, merged_modules_are_valid, starts_take_nothing,
 };
-use permuted_worlds::{
+use world_simulation::{
     code_that_fits_is_named, imports_of_one_module_stay, one_start_may_call_several,
     own_entities_correspond, related_instances_show_the_same,
 };

@@ -16,9 +16,9 @@ use Rattle.wasm_meaning.specs.Run.{IsPrefix, fresh_run, tick, events_of}
 use Rattle.wasm_meaning.specs.Below.{BelowIsNotSeen}
 use Rattle.wasm_meaning.specs.InTurn.{events_in_turn}
 use Rattle.index_remap.specs.Laws.{CodeIsRelatedToItself, RelatedTicksAgree, OthersStay}
-use Rattle.permuted_worlds.specs.Owned.{OwnEntitiesCorrespond}
+use Rattle.world_simulation.specs.Owned.{OwnEntitiesCorrespond}
 use Rattle.merge_validity.proofs.Same.{func_type_is}
-use Rattle.permuted_worlds.specs.Silent.{BudgetedTurnsShowTheSame}
+use Rattle.world_simulation.specs.Silent.{BudgetedTurnsShowTheSame}
 use Rattle.worlds_in_turn.specs.Laws.{TurnsAreNotSeen}
 use Rattle.worlds_in_turn.proofs.Making.{nothing_to_nothing}
 use Rattle.worlds_in_turn.proofs.Given.{IsGiven}

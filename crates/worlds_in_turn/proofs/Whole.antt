@@ -13,8 +13,8 @@ use Rattle.wasm_meaning.proofs.Prefixes.{Prefix, prefix_trans, later}
 use Rattle.index_remap.specs.Related.{nil, cons, opening}
 use Rattle.index_remap.specs.RelatedRuns.{pending}
 use Rattle.index_remap.specs.Laws.{CodeIsRelatedToItself, RelatedTicksAgree, OthersStay}
-use Rattle.permuted_worlds.specs.Silent.{BudgetedTurnsShowTheSame}
-use Rattle.permuted_worlds.proofs.Led.{Leads, both, second, led}
+use Rattle.world_simulation.specs.Silent.{BudgetedTurnsShowTheSame}
+use Rattle.world_simulation.proofs.Led.{Leads, both, second, led}
 use Rattle.worlds_in_turn.proofs.Extends.{Extends, stays}
 use Rattle.worlds_in_turn.proofs.Joined.{made_upto}
 use Rattle.worlds_in_turn.proofs.Reached.{reaching}

@@ -1,0 +1,15 @@
+pub mod Between
+pub mod Led
+mod Starts
+pub mod FirstStep
+pub mod Places
+pub mod Defined
+pub mod Named
+pub mod Alone
+pub mod Owned
+pub mod Instancing
+pub mod Allocated
+pub mod Stored
+pub mod Copied
+pub mod Ordered
+pub mod Simulated
