@@ -28,7 +28,7 @@ use Rattle.world_simulation.proofs.Alone.{funcs_counted, tables_counted, memorie
 use Rattle.merge_worlds.specs.Shared.{shared_count}
 use Rattle.merge_worlds.specs.Instances.{SameAddress, SpaceAgrees, PartAgrees, InstancesAgree}
 use Rattle.merge_worlds.proofs.SpaceLaws.{SpaceLaws}
-use Rattle.merge_worlds.proofs.Instancing.{IsInst, inst_is, inst_there, insts_are, insts_there}
+use Rattle.world_simulation.proofs.Instancing.{IsInst, inst_is, inst_there, insts_are, insts_there}
 use Rattle.merge_worlds.proofs.Standing.{before_low, total, import_address, site_address, site_low, Stands, own, stays, import_stands, own_stands}
 use Rattle.merge_worlds.proofs.MergedAlone.{joined_keeps, staying_kind, names_of, merged_types_are, merged_space, elems_many, datas_many}
 use Rattle.base_lists.proofs.Options.{and_then_is, all_there_at, all_there_length, all_there_from}

@@ -24,7 +24,7 @@ use Rattle.world_simulation.proofs.Places.{map_length}
 use Rattle.merge_worlds.specs.Shared.{shared_count, sharing}
 use Rattle.merge_worlds.specs.Instances.{PartAgrees, InstancesAgree}
 use Rattle.merge_worlds.proofs.SpaceLaws.{SpaceLaws}
-use Rattle.merge_worlds.proofs.Instancing.{inst_is}
+use Rattle.world_simulation.proofs.Instancing.{inst_is}
 use Rattle.merge_worlds.proofs.Standing.{site_address, is_shared_at}
 use Rattle.merge_worlds.proofs.MergedAlone.{joined_keeps, names_of}
 use Rattle.merge_worlds.proofs.Instances.{map_entry, map_funcs, merged_part}

@@ -17,7 +17,7 @@ use Rattle.wasm_meaning.specs.Environment.{Environment, own_globals}
 use Rattle.wasm_meaning.specs.World.{numbers, own_count, defined_count, space, inst_of, insts_from, value_of_read, value_of}
 use Rattle.world_simulation.specs.Alone.{one, address_in, import_places, addresses, read_in, SpacesAreImportsAndOwn, ReadsStay}
 use Rattle.world_simulation.proofs.Places.{map_length}
-use Rattle.merge_worlds.proofs.Instancing.{IsInst, inst_is}
+use Rattle.world_simulation.proofs.Instancing.{IsInst, inst_is}
 use Rattle.base_lists.proofs.Options.{and_then_is, all_there_length}
 use Rattle.std.proofs.lemmas.Option.{slice_get_past}
 use Rattle.std.proofs.lemmas.List.{length-append}

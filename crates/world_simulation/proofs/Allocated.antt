@@ -16,7 +16,7 @@ use Rattle.wasm_meaning.specs.Outcomes.{copies}
 use Rattle.wasm_meaning.specs.State.{Inst, Func, Table, Memory, Global, Elem, Data, Store}
 use Rattle.wasm_meaning.specs.Values.{null_of}
 use Rattle.wasm_meaning.specs.Linking.{Part, module_at}
-use Rattle.wasm_meaning.specs.Environment.{Environment, own_funcs, own_tables, own_memories, own_globals}
+use Rattle.wasm_meaning.specs.Environment.{Environment}
 use Rattle.wasm_meaning.specs.World.{defined_count, defined_before, base, all_there, new_func, new_global, elem_of, part_store, joined_stores, own_store, stores_from}
 use Rattle.world_simulation.proofs.Places.{map_length}
 use Rattle.base_lists.proofs.Options.{and_then_is, all_there_length, all_there_from}

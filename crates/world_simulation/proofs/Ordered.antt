@@ -1,24 +1,23 @@
 -- Segments of two worlds, partners in the same order, are copied to related stores, and trap in both or neither.
-use Rattle.std.proofs.Common.{◌≡◌, ℕ, zero, suc, ◌+◌, ◌<◌, List, [], ◌∷◌, ◌++◌, length, Option, Some, None, Bool, true, false, cond, ◌⊎◌, inl, inr, refl, sym, ap, subst, ◌∙◌, arith, option_and_then, slice_get}
-use Rattle.base_lists.proofs.Numbers.{length-numbers, numbers_at}
+use Rattle.std.proofs.Common.{◌≡◌, ℕ, zero, suc, ◌+◌, List, [], ◌∷◌, ◌++◌, length, Option, Some, Bool, true, false, cond, ◌⊎◌, inl, inr, refl, sym, ap, subst, ◌∙◌, arith, slice_get}
+use Rattle.base_lists.proofs.Numbers.{numbers_at}
 use Rattle.base_lists.proofs.Places.{append_from}
 use Rattle.std.proofs.lemmas.Option.{slice_get_within}
 use Rattle.wasm_tree.specs.declared.space.Space.{Space}
-use Rattle.wasm_tree.specs.declared.space.Space.TheVariants.{Functions, Tables, Memories, Globals, ElementSegments, DataSegments}
+use Rattle.wasm_tree.specs.declared.space.Space.TheVariants.{Tables, Memories, ElementSegments, DataSegments}
 use Rattle.wasm_tree.specs.declared.module.ConstExpr.{ConstExpr}
 use Rattle.wasm_tree.specs.declared.module.ElemMode.{ElemMode}
 use Rattle.wasm_tree.specs.declared.module.ElemSeg.{ElemSeg}
 use Rattle.wasm_tree.specs.declared.module.DataMode.{DataMode}
 use Rattle.wasm_tree.specs.declared.module.DataSeg.{DataSeg}
 use Rattle.wasm_tree.specs.declared.module.Module.{Module}
-use Rattle.wasm_meaning.specs.Outcomes.{Outcome, Gives, Traps, IllTyped, bind, at, overwrite}
-use Rattle.wasm_meaning.specs.State.{RefVal, Val, Inst, Table, Memory, Elem, Data, Store}
-use Rattle.wasm_meaning.specs.Control.{type_of_func, own_of}
+use Rattle.wasm_meaning.specs.Outcomes.{Outcome, Gives, Traps, IllTyped, overwrite}
+use Rattle.wasm_meaning.specs.State.{RefVal, Val, Inst, Table, Memory, Store}
 use Rattle.wasm_meaning.specs.Linking.{Part, module_at}
 use Rattle.wasm_meaning.specs.Environment.{Environment}
 use Rattle.wasm_meaning.specs.World.{Filled, Task, numbers, base, defined_before, insts_from, own_store, stores_from, tasks_in, elem_tasks, data_tasks, or_trapped, fill_table, copy_elem, run_elem_with, run_elem, fill_memory, copy_data, run_data_with, run_data, and_then, in_turn}
 use Rattle.wasm_meaning.specs.World as world
-use Rattle.index_remap.specs.Related.{Pairing, OneToOne, OptRel, none, some, ResRel, done, trap, wrong, BothRel, ListRel, RefRel, TableRel, ElemRel, StoreRel, set_table, set_memory, drop_elem, drop_data}
+use Rattle.index_remap.specs.Related.{Pairing, OneToOne, OptRel, none, some, ResRel, done, trap, wrong, ListRel, RefRel, TableRel, StoreRel, set_table, set_memory, drop_elem, drop_data}
 use Rattle.index_remap.specs.RelatedRuns.{HasNoPartner}
 use Rattle.index_remap.proofs.Rel.{written, overwrite_rel}
 use Rattle.index_remap.proofs.StepsAgree.{changed_rel}

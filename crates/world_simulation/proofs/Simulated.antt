@@ -1,8 +1,8 @@
 -- Two worlds that correspond are instantiated to what is related.
-use Rattle.std.proofs.Common.{◌≡◌, ℕ, zero, suc, ◌*◌, ◌≤◌, List, [], length, Option, Some, None, Bool, true, false, cond, refl, sym, ap, subst, ◌∙◌, arith, option_and_then, slice_get}
+use Rattle.std.proofs.Common.{◌≡◌, ℕ, zero, suc, ◌*◌, ◌≤◌, List, length, Option, Some, None, Bool, true, false, cond, refl, ap, subst, arith, option_and_then}
 use Rattle.base_lists.proofs.Options.{and_then_is, all_there_length}
-use Rattle.wasm_tree.specs.declared.space.Space.TheVariants.{Functions, ElementSegments}
-use Rattle.wasm_meaning.specs.State.{Text, Inst, Elem, Store, RefVal}
+use Rattle.wasm_tree.specs.declared.space.Space.TheVariants.{Functions}
+use Rattle.wasm_meaning.specs.State.{Elem, Store, RefVal}
 use Rattle.wasm_tree.specs.declared.module.ElemMode.{ElemMode}
 use Rattle.wasm_tree.specs.declared.module.ElemMode.TheVariants as elem
 use Rattle.wasm_tree.specs.declared.module.ElemSeg.{ElemSeg}
@@ -11,10 +11,10 @@ use Rattle.wasm_meaning.specs.State.{Val}
 use Rattle.wasm_meaning.specs.Values.{ref_of, null_of}
 use Rattle.wasm_meaning.specs.Outcomes.{copies}
 use Rattle.wasm_meaning.specs.Linking.{sites}
-use Rattle.wasm_meaning.specs.Environment.{Environment, Thing, all_of}
-use Rattle.wasm_meaning.specs.World.{World, Begun, Filled, given, insts_from, stores_from, own_store, all_there, seen_as, is_matched, new_elem, elem_with, elem_tasks, data_tasks, run_elem, run_data, in_turn, and_then, segments, starts_of, begun, instantiate, is_there, links}
-use Rattle.index_remap.specs.Related.{Pairing, OneToOne, OptRel, none, some, ListRel, nil, cons, opening, StoreRel}
-use Rattle.index_remap.specs.RelatedRuns.{KeyRel, BegunRel}
+use Rattle.wasm_meaning.specs.Environment.{Environment, all_of}
+use Rattle.wasm_meaning.specs.World.{World, Begun, given, insts_from, stores_from, own_store, all_there, seen_as, is_matched, new_elem, elem_with, segments, starts_of, begun, instantiate, is_there, links}
+use Rattle.index_remap.specs.Related.{Pairing, OneToOne, OptRel, none, some, ListRel, nil, cons, opening}
+use Rattle.index_remap.specs.RelatedRuns.{BegunRel}
 use Rattle.index_remap.specs.Laws.{EntryByEntry}
 use Rattle.world_simulation.specs.Definitions.{Instantiated, values_in}
 use Rattle.world_simulation.specs.Simulation.{IsInstantiated, in_world, WorldsCorrespond, AreSimilar, StartAlike, BegunAlike}

@@ -1,5 +1,5 @@
 -- What stands at the addresses of allocated stores; stores of which the definitions correspond are related.
-use Rattle.std.proofs.Common.{◌≡◌, ℕ, zero, suc, ◌+◌, ◌<◌, List, [], ◌∷◌, map, length, Option, Some, None, refl, sym, ap, subst, ◌∙◌, option_and_then, slice_get}
+use Rattle.std.proofs.Common.{◌≡◌, ℕ, ◌<◌, List, [], length, Option, Some, refl, sym, ap, subst, ◌∙◌, option_and_then, slice_get}
 use Rattle.wasm_tree.specs.declared.space.Space.{Space}
 use Rattle.wasm_tree.specs.declared.space.Space.TheVariants.{Functions, Tables, Memories, Globals, ElementSegments, DataSegments}
 use Rattle.base_lists.proofs.Options.{all_there_at, all_there_length}
@@ -17,7 +17,7 @@ use Rattle.wasm_meaning.specs.State.{RefVal, Val, Inst, Func, Code, Global, Elem
 use Rattle.wasm_meaning.specs.Values.{ref_of, declared}
 use Rattle.wasm_meaning.specs.Control.{type_of_func, own_of}
 use Rattle.wasm_meaning.specs.Environment.{Environment, own_funcs, own_tables, own_memories, own_globals}
-use Rattle.wasm_meaning.specs.World.{given, all_there, own_count, new_func, new_global, global_with, new_elem, elem_with, elem_of, own_store, stores_from, defined_count, part_store}
+use Rattle.wasm_meaning.specs.World.{given, own_count, new_func, new_global, global_with, new_elem, elem_with, elem_of, own_store, stores_from}
 use Rattle.index_remap.specs.Related.{Pairing, OptRel, none, some, BothRel, both, ListRel, nil, RefRel, ValRel, number, reference, FuncRel, defined, own, TableRel, GlobalRel, ElemRel, StoreRel}
 use Rattle.index_remap.specs.Related as to
 use Rattle.index_remap.proofs.Rel.{copies_rel}

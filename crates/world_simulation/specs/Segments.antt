@@ -12,7 +12,7 @@ use Rattle.wasm_tree.specs.declared.module.DataMode.{DataMode}
 use Rattle.wasm_tree.specs.declared.module.DataMode.TheVariants as data'
 use Rattle.wasm_tree.specs.declared.module.DataSeg.{DataSeg}
 use Rattle.wasm_num.specs.Operations.{W32}
-use Rattle.wasm_meaning.specs.State.{Val, Inst}
+use Rattle.wasm_meaning.specs.State.{Val}
 use Rattle.wasm_meaning.specs.Values.{num_of}
 use Rattle.wasm_meaning.specs.Environment.{Environment}
 use Rattle.wasm_meaning.specs.World.{Task, given, elem_tasks, data_tasks}

@@ -1,5 +1,5 @@
 -- The functions that a part defines, and those that they become in the merged module.
-use Rattle.std.proofs.Common.{◌≡◌, ℕ, ◌<◌, List, [], length, Some, true, sym, ap, ◌∙◌, arith, option_and_then, slice_get}
+use Rattle.std.proofs.Common.{◌≡◌, ℕ, ◌<◌, List, [], length, true, refl, sym, ap, ◌∙◌, arith, slice_get}
 use Rattle.wasm_tree.specs.declared.space.Space.{Space}
 use Rattle.wasm_tree.specs.declared.space.Space.TheVariants.{Types, Functions, Tables, Memories, Globals, ElementSegments, DataSegments}
 use Rattle.std.specs.Prelude.{slice_index}
@@ -8,15 +8,13 @@ use Rattle.base_lists.proofs.Places.{slice_get_there}
 use Rattle.wasm_tree.specs.declared.instr.Instr.{Instr}
 use Rattle.wasm_tree.specs.declared.module.Func as tree
 use Rattle.wasm_tree.specs.declared.module.Module.{Module}
-use Rattle.wasm_meaning.specs.State.{Inst, Code}
-use Rattle.wasm_meaning.specs.Values.{declared}
+use Rattle.wasm_meaning.specs.State.{Inst}
 use Rattle.wasm_meaning.specs.Linking.{Part}
 use Rattle.wasm_meaning.specs.Environment.{Environment}
-use Rattle.wasm_meaning.specs.World.{new_func}
 use Rattle.index_remap.specs.declared.remap.Remap.{Remap}
 use Rattle.index_remap.specs.Renumbered.{has, renumbered_all, fits_all, fits_func}
 use Rattle.index_remap.specs.Renumbered as renumbered
-use Rattle.index_remap.specs.Related.{Pairing, OptRel, some, CodeRel, FuncRel, defined}
+use Rattle.index_remap.specs.Related.{Pairing, OptRel, some, CodeRel}
 use Rattle.remap_typing.specs.Indices.{with_entry}
 use Rattle.world_simulation.specs.Named.{EntriesName}
 use Rattle.world_simulation.proofs.Places.{left_true, right_true, map_length, opt_at, names_of}
@@ -25,7 +23,8 @@ use Rattle.merge_worlds.specs.Instances.{SpaceAgrees, PartAgrees}
 use Rattle.merge_worlds.specs.Shared.{is_shared, sharing}
 use Rattle.merge_worlds.proofs.ValueShared.{shares}
 use Rattle.merge_worlds.proofs.ValueGiven.{Laws}
-use Rattle.merge_worlds.proofs.AllocatedLists.{at_is}
+use Rattle.merge_worlds.proofs.Lists.{at_is}
+use Rattle.world_simulation.specs.Definitions.{FuncsCorrespond}
 
 type_entries : (parts : List Part) (p : ℕ) (m : Module) → length (map_of parts p m).types ≡ length m.types
 unfolding map_of
@@ -57,9 +56,7 @@ module _ (laws : Laws) (env : Environment) (parts : List Part) (p : ℕ) (m : Mo
   code_rel : (body : List Instr) → fits_all r body ≡ true → CodeRel R i j body (renumbered_all r body)
   code_rel body h = laws.code (is_shared env parts) (is_shared env parts) [] r i j body (laws.named (is_shared env parts) (is_shared env parts) [] r i j entries_name body h)
 
-  pub func_rel : (f : tree.Func) → fits_func r f ≡ true → OptRel (FuncRel R) (new_func i f) (new_func j (renumbered.new_func r f))
-  func_rel f h =
+  pub funcs_correspond : (f : tree.Func) → fits_func r f ≡ true → FuncsCorrespond R i j f (renumbered.new_func r f)
+  funcs_correspond f h =
       let t = slice_get_there m.types f.ty (type_below f.ty (left_true _ _ h)) in
-      opt_at (ap (λ o. option_and_then (λ t. Some (Code t i (declared f.locals) f.body)) o) (ap (λ ts. slice_get ts f.ty) k.own_types ∙ t.1))
-      (ap (λ o. option_and_then (λ t. Some (Code t j (declared f.locals) (renumbered_all r f.body))) o) (k.types f.ty t.0 t.1))
-      (some (defined (code_rel f.body (right_true (has r.types f.ty) _ h))))
+      record { type = ap (λ ts. slice_get ts f.ty) k.own_types ∙ t.1 ∙ sym (k.types f.ty t.0 t.1); locals = refl; code = code_rel f.body (right_true (has r.types f.ty) _ h) }

@@ -24,10 +24,26 @@ use Rattle.base_lists.proofs.Options.{AllThere}
 use Rattle.export_names.specs.declared.mode.Mode.{Mode}
 use Rattle.export_names.specs.Names.{new_names}
 use Rattle.merge_terms.specs.Joined.{joined_module}
-use Rattle.merge_terms.specs.Merged.{by_part_from, starts, start_calls, defined_funcs, export_names, merged}
+use Rattle.index_remap.specs.Renumbered as renumbered
+use Rattle.wasm_tree.specs.declared.module.GlobalDef.{GlobalDef}
+use Rattle.wasm_tree.specs.declared.module.DataSeg.{DataSeg}
+use Rattle.merge_terms.specs.Merged.{map_of, by_part_from, starts, start_calls, defined_funcs, export_names, merged, merged_global, merged_elem, merged_data}
 use Rattle.merge_worlds.proofs.ValueGiven.{Laws}
-use Rattle.merge_worlds.proofs.AllocatedParts.{part_funcs, part_globals, part_elems, part_datas}
 use Rattle.base_lists.proofs.Filtered.{kept_is}
+
+-- ---- a part's definitions in the merged module ----
+
+abbrev pub part_funcs : List Part → ℕ → Module → List tree.Func
+part_funcs parts p m = map (renumbered.new_func (map_of parts p m)) m.funcs
+
+abbrev pub part_globals : List Part → ℕ → Module → List GlobalDef
+part_globals parts p m = map (merged_global parts p) m.globals
+
+abbrev pub part_elems : List Part → ℕ → Module → List ElemSeg
+part_elems parts p m = map (merged_elem parts p (map_of parts p m)) m.elems
+
+abbrev pub part_datas : List Part → ℕ → Module → List DataSeg
+part_datas parts p m = map (merged_data parts p (map_of parts p m)) m.datas
 
 -- ---- one more segment ----
 
