@@ -9,7 +9,7 @@ use Rattle.wasm_meaning.specs.Linking.{Part, sites}
 use Rattle.wasm_meaning.specs.Environment.{Environment, Thing, all_of}
 use Rattle.wasm_meaning.specs.World.{Begun, alone, inst_of, insts_from, own_store, stores_from, all_there, is_matched, segments, seen_as, starts_of, begun, instantiate}
 use Rattle.wasm_meaning.specs.Run.{Event, Move, tick, events_of, IsPrefix, fresh_run}
-use Rattle.wasm_meaning.proofs.Prefixes.{prefix_trans, later}
+use Rattle.base_simulation.proofs.Prefixes.{prefix_trans, later}
 use Rattle.index_remap.specs.Related.{Pairing, OptRel, none, some, ListRel, nil, cons, opening}
 use Rattle.index_remap.specs.RelatedRuns.{KeyRel, BegunRel}
 use Rattle.index_remap.specs.Laws.{EntryByEntry}

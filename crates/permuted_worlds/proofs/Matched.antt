@@ -7,7 +7,6 @@ use Rattle.wasm_tree.specs.declared.module.Func as tree
 use Rattle.wasm_tree.specs.declared.module.ImportDesc.{ImportDesc}
 use Rattle.wasm_tree.specs.declared.module.ImportDesc.TheVariants as im
 use Rattle.wasm_tree.specs.declared.module.Module.{Module}
-use Rattle.wasm_meaning.specs.Outcomes.{Outcome, Gives}
 use Rattle.wasm_meaning.specs.State.{Table, Store}
 use Rattle.wasm_meaning.specs.Values.{same_ref, same_type, same_func_type}
 use Rattle.wasm_meaning.specs.Linking.{sites_in, sites}
@@ -15,7 +14,7 @@ use Rattle.wasm_meaning.specs.Environment.{Environment, Thing, all_of}
 use Rattle.wasm_meaning.specs.World.{given, meets, same_bool, is_match, is_matched}
 use Rattle.index_remap.specs.declared.remap.Remap.{Remap}
 use Rattle.index_remap.specs.Renumbered.{new_import}
-use Rattle.index_remap.specs.Related.{Pairing, BothRel, both, TableRel}
+use Rattle.index_remap.specs.Related.{Pairing, TableRel}
 use Rattle.index_remap.specs.RelatedRuns.{ThingRel, a_func, a_table, a_memory, a_global}
 use Rattle.permuted_worlds.specs.Permuted.{moving, permuted}
 use Rattle.index_remap.proofs.Rel.{length_rel, same_there}

@@ -3,5 +3,4 @@ pub mod Owned
 pub mod Instances
 pub mod Named
 pub mod Permuted
-pub mod Silent
 pub mod Starts

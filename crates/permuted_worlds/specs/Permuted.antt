@@ -6,7 +6,7 @@ use Rattle.wasm_tree.specs.declared.module.Module.{Module}
 use Rattle.wasm_tree.specs.Spaces.{imported_funcs, tables_of, memories_of, globals_of}
 use Rattle.wasm_valid.specs.Validity.{IsValid}
 use Rattle.wasm_meaning.specs.World.{alone, numbers}
-use Rattle.wasm_meaning.specs.Run.{Same}
+use Rattle.wasm_meaning.specs.Run.{Same, events}
 use Rattle.index_remap.specs.declared.remap.Remap.{Remap}
 use Rattle.index_remap.specs.Renumbered.{new_func, renumbered_tree}
 
@@ -40,4 +40,4 @@ permuted places funcs t = record (renumbered_tree (moving places t) t) { funcs =
 
 -- in every environment, by all moves, each shows in n steps what the other shows in n
 abbrev pub OrderIsNotSeen : Type 0
-OrderIsNotSeen = (t : Module) (places : List ℕ) (funcs : List Func) → IsValid t → IsOrder places funcs t → Same (λ env. Unit {0}) (alone t) (alone (permuted places funcs t)) (λ n. n) (λ n. n)
+OrderIsNotSeen = (t : Module) (places : List ℕ) (funcs : List Func) → IsValid t → IsOrder places funcs t → Same (λ env. Unit {0}) (events (alone t)) (events (alone (permuted places funcs t))) (λ n. n) (λ n. n)

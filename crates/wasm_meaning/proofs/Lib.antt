@@ -1,4 +1,3 @@
-pub mod Prefixes
 mod SmallRuns
 mod MoreRuns
 mod EmbedderRuns
