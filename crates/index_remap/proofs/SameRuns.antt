@@ -24,7 +24,7 @@ needs [] (Act.Calls a vs h) = tt
 needs (e ∷ es) (Act.AsksGrow g m n h) = tt
 needs [] (Act.AsksGrow g m n h) = tt
 
-touches : (s : Store) (es : List Entry) → Touches s es [] []
+pub touches : (s : Store) (es : List Entry) → Touches s es [] []
 touches s [] = (refl, refl)
 touches s (Running f ∷ es) = λ x _. needs es x
 touches s (Mark ∷ es) = tt
@@ -37,10 +37,10 @@ module _ (of : Space → ℕ → ℕ → Bool) where
   abbrev R : Pairing
   R = passed of of []
 
-  none_listed : (a : ℕ) → ¬ R.listed a
+  pub none_listed : (a : ℕ) → ¬ R.listed a
   none_listed a p = true≢false (sym p)
 
-  skips : (s : Store) (es : List Entry) → TopSkips R s es
+  pub skips : (s : Store) (es : List Entry) → TopSkips R s es
   skips s (Running f ∷ es) = λ x _. none_called R none_listed x
   skips s [] = tt
   skips s (Mark ∷ es) = tt

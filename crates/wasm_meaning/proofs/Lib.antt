@@ -3,6 +3,7 @@ mod MoreRuns
 mod EmbedderRuns
 mod IllTypedRuns
 mod FurtherRuns
+mod EnvironmentRows
 mod TurnRuns
 mod LoaderRuns
 mod TellingRuns

@@ -6,7 +6,7 @@ use Rattle.wasm_meaning.specs.State.{Text, Inst, Store, Opening}
 use Rattle.wasm_meaning.specs.Linking.{Part, Entity, module_at}
 use Rattle.wasm_meaning.specs.Environment.{Environment, Thing, owned_of}
 use Rattle.wasm_meaning.specs.World.{World, Begun, own_store, begun, all_there, start_in, starts_of, seen_as, segments}
-use Rattle.wasm_meaning.specs.Run.{Event, InstanceTrapped, Pending, Closed, Move, Run, IsPrefix, fresh_run, tick, events_of}
+use Rattle.wasm_meaning.specs.Run.{InstanceTrapped, Pending, Closed, Move, Run, IsPrefix, fresh_run, tick, events_of}
 use Rattle.wasm_meaning.specs.Below.{BelowIsNotSeen}
 use Rattle.wasm_meaning.specs.InTurn.{InTurn, view_over, goes_on, before_turns, tick_in_turn, events_in_turn, HasNoActive}
 use Rattle.base_simulation.proofs.Prefixes.{in_more_steps}

@@ -1,5 +1,5 @@
 -- That parts which are instantiated one after the other show what they show at once.
-use Rattle.std.specs.Prelude.{◌≡◌, ℕ, ◌+◌, ◌*◌, ◌<◌, List, length, Some}
+use Rattle.std.specs.Prelude.{◌≡◌, ℕ, ◌+◌, ◌*◌, ◌<◌, length, Some}
 use Rattle.wasm_tree.specs.declared.module.Module.{Module}
 use Rattle.wasm_valid.specs.Validity.{IsValid}
 use Rattle.wasm_meaning.specs.Linking.{module_at}
