@@ -9,7 +9,7 @@ use Rattle.wasm_meaning.specs.Linking.{Part, sites}
 use Rattle.wasm_meaning.specs.Environment.{Environment, all_of}
 use Rattle.wasm_meaning.specs.World.{Begun, alone, inst_of, insts_from, own_store, stores_from, is_matched, segments, starts_of, begun, instantiate, is_there, links}
 use Rattle.wasm_meaning.specs.Run.{Event, Move, tick, events_of, IsPrefix, fresh_run}
-use Rattle.wasm_meaning.proofs.Prefixes.{prefix_trans, later}
+use Rattle.base_simulation.proofs.Prefixes.{prefix_trans, later}
 use Rattle.index_remap.specs.Related.{Pairing, OptRel, none, some, ListRel, nil, cons, opening}
 use Rattle.index_remap.specs.RelatedRuns.{BegunRel}
 use Rattle.index_remap.specs.Laws.{EntryByEntry}

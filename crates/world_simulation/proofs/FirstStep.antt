@@ -4,7 +4,8 @@ use Rattle.wasm_tree.specs.declared.space.Space.{Space}
 use Rattle.wasm_meaning.specs.State.{Opening}
 use Rattle.wasm_meaning.specs.Environment.{Environment}
 use Rattle.wasm_meaning.specs.World.{Begun}
-use Rattle.wasm_meaning.specs.Run.{Event, InstanceTrapped, Move, Pending, Closed, Out, tick, noted, events_of, fresh_run}
+use Rattle.wasm_meaning.specs.Run.{Event, InstanceTrapped, Move, Pending, Closed, Out, tick, events_of, fresh_run}
+use Rattle.base_simulation.specs.Machines.{noted}
 use Rattle.index_remap.specs.Related.{Pairing, OneToOne, OptRel, none, some, nil}
 use Rattle.index_remap.specs.RelatedRuns.{BegunRel, pending, closed}
 use Rattle.index_remap.specs.Laws.{passed, EntryByEntry, RelatedRunsShowTheSame}

@@ -1,5 +1,3 @@
-pub mod Between
-pub mod Led
 mod Starts
 pub mod FirstStep
 pub mod Places

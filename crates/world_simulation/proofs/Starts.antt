@@ -11,9 +11,8 @@ use Rattle.wasm_meaning.specs.World.{Begun}
 use Rattle.wasm_meaning.specs.Run.{InstanceTrapped, Phase, Pending, Closed, Move, Run, Out, after, tick, events_of, IsPrefix, fresh_run}
 use Rattle.wasm_meaning.specs.Below.{IsBottom, GivesNothing, a_frame, a_call, Unseen, goes_on, ended, trapped, BelowIsNotSeen}
 use Rattle.index_remap.specs.Related.{ListRel, nil, cons}
-use Rattle.world_simulation.specs.Silent.{BudgetedRunsShowTheSame}
 use Rattle.world_simulation.specs.Starts.{from_nothing_to_nothing, NamesStart, CallsEach}
-use Rattle.world_simulation.proofs.Led.{Leads, both, second, led}
+use Rattle.base_simulation.proofs.Led.{Leads, both, second, led_show_the_same}
 
 -- the frame of the one start, with these calls left
 abbrev pub starter : Inst → List ℕ → Frame
@@ -116,12 +115,12 @@ module _ (below : BelowIsNotSeen) where
   next d e r q (between x xs ns j (cons {a = n} {b = a} {xs = ms} {ys = ys} y l)) = agreed (opens x ys ms j n a y l)
   next d e r q (inside x es xs ns j g l) = agreed (unseen xs ns j l (below (openings xs) (calls j ns) es x.phase x.phase x (openings_low xs) (calls_low j ns) g))
 
-  pub one_start : BudgetedRunsShowTheSame → (env : Environment) (b : Begun) (a : ℕ) → CallsEach b.store a b.starts → (moves : List Move) (n : ℕ) →
+  pub one_start : (env : Environment) (b : Begun) (a : ℕ) → CallsEach b.store a b.starts → (moves : List Move) (n : ℕ) →
       IsPrefix (events_of tick (fresh_run env (Some b) moves) n) (events_of tick (fresh_run env (Some (record b { starts = a ∷ [] })) moves) (n + 2))
       × IsPrefix (events_of tick (fresh_run env (Some (record b { starts = a ∷ [] })) moves) n) (events_of tick (fresh_run env (Some b) moves) n)
-  one_start budget env b a c moves n =
+  one_start env b a c moves n =
       let r = fresh_run env (Some b) moves in
       let q = fresh_run env (Some (record b { starts = a ∷ [] })) moves in
-      let both_ways = budget tick tick 2 0 r q (λ steps. led tick tick Alike next steps 2 0 r q (fresh env b a moves c)) n in
+      let both_ways = led_show_the_same tick tick Alike next 2 0 r q (fresh env b a moves c) n in
       let as_many : n + 0 ≡ n = omega arith in
       (both_ways.0, subst (λ m. IsPrefix (events_of tick q n) (events_of tick r m)) as_many both_ways.1)

@@ -2,7 +2,6 @@ pub mod Alone
 pub mod Owned
 pub mod Instances
 pub mod Named
-pub mod Silent
 pub mod Starts
 pub mod Definitions
 pub mod Segments

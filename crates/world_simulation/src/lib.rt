@@ -1,5 +1,5 @@
-//! What the laws of steps give of whole worlds: the order of a module's functions is not seen, machines that make silent steps of their own show the same, and
-//! one start may call several functions.
+//! Simulation of worlds: two worlds of which definitions, segments, starts and views correspond show the same to each embedder; and one start may call several
+//! functions.
 #![tactic(auto)]
 
 ghost use Rattle.world_simulation.specs.Alone.{
@@ -18,13 +18,12 @@ ghost use Rattle.world_simulation.specs.Simulation.{
   SimilarWorldsShowTheSame,
   WhatIsInstantiated,
 };
-ghost use Rattle.world_simulation.specs.Silent.{
-  BudgetedLoadersShowTheSame,
-  BudgetedRunsShowTheSame,
-  BudgetedTurnsShowTheSame,
-  SlowerLoadersShowTheSame,
-  SlowerRunsShowTheSame,
-  SlowerTurnsShowTheSame,
+ghost use Rattle.world_simulation.specs.Simulation.{
+  AllocatedStoresCorrespond,
+  SimilarWorldsAreInstantiatedAlike,
+  SimilarWorldsBeginAlike,
+  SimilarWorldsShowTheSame,
+  WhatIsInstantiated,
 };
 ghost use Rattle.world_simulation.specs.Starts.{OneStartMayCallSeveral};
 
@@ -80,24 +79,10 @@ pub fn code_that_fits_is_named()
     renumbering_keeps_typing();
 }
 
-/// What one machine shows in n steps another shows in so many more as it may make silently alone (`budget`); where the second answers each step of the first by one to
-/// c that show the same, in c times n, and the other way round in n (`slower`). Both are said of two machines over runs; of one over runs and one over runs under a
-/// loader (`budget_loaded`, `slower_loaded`); and of one over runs and one over runs whose parts come in turn (`budget_in_turn`, `slower_in_turn`); of these, either
-/// may be the first.
-pub fn silent_steps_may_come_between()
-    ensures budget { BudgetedRunsShowTheSame }
-    ensures budget_loaded { BudgetedLoadersShowTheSame }
-    ensures budget_in_turn { BudgetedTurnsShowTheSame }
-    ensures slower { SlowerRunsShowTheSame }
-    ensures slower_loaded { SlowerLoadersShowTheSame }
-    ensures slower_in_turn { SlowerTurnsShowTheSame }
-{}
-
 /// One start that calls several functions that take and give nothing shows the same as these as starts one after the other, in two silent steps more; the other way
 /// round in no step more.
 pub fn one_start_may_call_several()
     ensures calls { OneStartMayCallSeveral }
 {
     what_stands_below_is_not_seen();
-    silent_steps_may_come_between();
 }

@@ -1,6 +1,6 @@
 -- What a machine shows: events of fewer steps come first in those of more.
 use Rattle.std.proofs.Common.{◌≡◌, ℕ, zero, suc, ◌+◌, ◌-◌, ◌≤◌, List, [], ◌++◌, Option, Some, None, refl, sym, ap, subst, ◌∙◌, arith, append_assoc}
-use Rattle.wasm_meaning.specs.Run.{noted, events_of, state_after}
+use Rattle.base_simulation.specs.Machines.{Machine, noted, events_of, state_after, IsPrefix, ShorterRunsArePrefixes}
 
 -- ---- prefixes ----
 
@@ -24,9 +24,12 @@ prefix_noted {xs = xs} e p = record { rest = p.rest; is = noted_append e xs p.re
 pub prefix_append : {E : Type 0} {xs ys : List E} (zs : List E) → Prefix xs ys → Prefix (zs ++ xs) (zs ++ ys)
 prefix_append {xs = xs} zs p = record { rest = p.rest; is = append_assoc zs xs p.rest ∙ ap (λ l. zs ++ l) p.is }
 
+pub is_prefix : {E : Type 0} {xs ys : List E} → Prefix xs ys → IsPrefix xs ys
+is_prefix p = (p.rest, p.is)
+
 -- ---- one machine ----
 
-module _ {S E : Type 0} (t : S → S × Option E) where
+module _ {S E : Type 0} (t : Machine S E) where
   pub events_add : (n m : ℕ) (s : S) → events_of t s (n + m) ≡ events_of t s n ++ events_of t (state_after t s n) m
   events_add zero m s = let e : zero + m ≡ m = omega arith in ap (events_of t s) e
   events_add (suc n) m s =
@@ -38,3 +41,10 @@ module _ {S E : Type 0} (t : S → S × Option E) where
 
   pub later : (n m : ℕ) (s : S) → n ≤ m → Prefix (events_of t s n) (events_of t s m)
   later n m s h = let e : n + (m - n) ≡ m = omega arith in subst (λ k. Prefix (events_of t s n) (events_of t s k)) e (more_events n (m - n) s)
+
+  pub shorter : ShorterRunsArePrefixes t
+  shorter s n k = is_prefix (more_events n k s)
+
+  -- what is seen in some steps is seen in more
+  pub in_more_steps : (xs : List E) (n m : ℕ) (s : S) → n ≤ m → IsPrefix xs (events_of t s n) → IsPrefix xs (events_of t s m)
+  in_more_steps xs n m s h p = is_prefix (prefix_trans (record { rest = p.0; is = p.1 }) (later n m s h))
