@@ -19,29 +19,16 @@ use Rattle.wasm_meaning.specs.Step.{changed, no_items, no_bytes}
 use Rattle.wasm_meaning.specs.Environment.{Environment}
 use Rattle.wasm_meaning.specs.World.{Filled, Task, or_trapped, fill_table, copy_elem, run_elem_with, fill_memory, copy_data, run_data_with}
 use Rattle.index_remap.specs.Related.{OptRel, some, BothRel, both}
-use Rattle.index_remap.proofs.Rel.{at_put_there}
+use Rattle.index_remap.proofs.Rel.{there, at_put_there}
 use Rattle.world_simulation.specs.Definitions.{Instantiated, DefinedAt, values_in}
 use Rattle.world_simulation.specs.Segments.{InOrder, ElemsPartner, ElemAlone, DatasPartner, DataAlone, alone_in_first, offset_in}
 use Rattle.world_simulation.specs.Segments as segments
-use Rattle.world_simulation.proofs.Places.{opt_at}
+use Rattle.world_simulation.proofs.Places.{res_placed}
 
 -- ---- lists ----
 
--- what stands at a place, as an option
-pub place_is : {A : Type 0} (xs : List A) (n : ℕ) (x : A) → at xs n ≡ Gives x → slice_get xs n ≡ Some x
-place_is [] n x h = cc
-place_is (y ∷ xs) zero x h = let same : y ≡ x = cc in ap Some same
-place_is (y ∷ xs) (suc n) x h = place_is xs n x h
-
 pub both_placed : {A B : Type 0} {P : A → B → Type 0} (xs : List A) (ys : List B) (n k : ℕ) → BothRel P (at xs n) (at ys k) → OptRel P (slice_get xs n) (slice_get ys k)
-both_placed {A} {B} {P} xs ys n k r = go (at xs n) (at ys k) refl refl r
-  where
-    go : (o : Outcome A) (p : Outcome B) → at xs n ≡ o → at ys k ≡ p → BothRel P o p → OptRel P (slice_get xs n) (slice_get ys k)
-    go (Gives x) (Gives y) e f (both r) = opt_at (place_is xs n x e) (place_is ys k y f) (some r)
-    go (Gives x) Traps e f r = elim r [ ]
-    go (Gives x) IllTyped e f r = elim r [ ]
-    go Traps p e f r = elim r [ ]
-    go IllTyped p e f r = elim r [ ]
+both_placed xs ys n k r = res_placed xs ys n k (there r)
 
 -- where the others fit, they are written, and the list is as long as it was
 split_fits : {A : Type 0} (n : ℕ) (xs : List A) → n ≤ length xs → (p : List A × List A) × (split_at n xs ≡ Gives p) × (length p.0 ≡ n) × (length p.0 + length p.1 ≡ length xs)

@@ -11,3 +11,7 @@ pub mod Stored
 pub mod Copied
 pub mod Ordered
 pub mod Simulated
+pub mod Renamed
+pub mod Declared
+pub mod Single
+pub mod Unreachable

@@ -107,6 +107,16 @@ res_of (some r) = done r
 pub names_of : {A B : Type 0} {P : A → B → Type 0} (xs : List A) (ys : List B) (n m : ℕ) → OptRel P (slice_get xs n) (slice_get ys m) → ResRel P (at xs n) (at ys m)
 names_of xs ys n m r = rw (at_place xs n, at_place ys m) (res_of r)
 
+-- what a step looks up, as options
+pub res_placed : {A B : Type 0} {P : A → B → Type 0} (xs : List A) (ys : List B) (n m : ℕ) → ResRel P (at xs n) (at ys m) → OptRel P (slice_get xs n) (slice_get ys m)
+res_placed {A} {B} {P} xs ys n m r = go (slice_get xs n) (slice_get ys m) (subst (λ o. ResRel P o (or_ill (slice_get ys m))) (at_place xs n) (subst (ResRel P (at xs n)) (at_place ys m) r))
+  where
+    go : (o : Option A) (p : Option B) → ResRel P (or_ill o) (or_ill p) → OptRel P o p
+    go None None r = none
+    go (Some a) (Some b) (done r) = some r
+    go None (Some b) r = elim r [ ]
+    go (Some a) None r = elim r [ ]
+
 pub both_at : {A B : Type 0} {P : A → B → Type 0} (xs : List A) (ys : List B) (n m : ℕ) (x : A) (y : B) → slice_get xs n ≡ Some x → slice_get ys m ≡ Some y → P x y → BothRel P (at xs n) (at ys m)
 both_at xs ys n m x y e f r = rw (at_place xs n, at_place ys m, e, f) (both r)
 

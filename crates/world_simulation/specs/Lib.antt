@@ -6,3 +6,4 @@ pub mod Starts
 pub mod Definitions
 pub mod Segments
 pub mod Simulation
+pub mod Unreachable
