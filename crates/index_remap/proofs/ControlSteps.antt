@@ -1,5 +1,5 @@
 -- Calls, ends, branches and blocks agree.
-use Rattle.std.proofs.Common.{◌≡◌, ℕ, zero, suc, List, [], ◌∷◌, ◌++◌, length, refl, sym, subst, append_assoc}
+use Rattle.std.proofs.Common.{◌≡◌, ℕ, zero, suc, List, [], ◌∷◌, ◌++◌, length, refl, sym, subst, append_assoc, slice_get, unwrap_or}
 use Rattle.wasm_tree.specs.declared.space.Space.TheVariants.{Functions, Tables}
 use Rattle.std.specs.Prelude.{nat_eq}
 use Rattle.wasm_tree.specs.declared.types.ValType.{ValType}
@@ -7,11 +7,11 @@ use Rattle.wasm_tree.specs.declared.types.BlockType.{BlockType}
 use Rattle.wasm_tree.specs.declared.instr.Instr.{Instr}
 use Rattle.wasm_tree.specs.declared.instr.Instr.TheVariants as i
 use Rattle.wasm_tree.specs.declared.instr.Instr.TheVariants.{outs-Loop}
-use Rattle.wasm_meaning.specs.Outcomes.{or_other, bind, at, split_at}
+use Rattle.wasm_meaning.specs.Outcomes.{bind, at, split_at}
 use Rattle.wasm_num.specs.Operations.{W32}
 use Rattle.wasm_meaning.specs.State.{RefVal, Val, Inst, Level, Env, Body}
 use Rattle.wasm_meaning.specs.Values.{same_func_type}
-use Rattle.wasm_meaning.specs.Control.{call, func_ref, call_indirect, finish, resume, end_level, level_here, branch, branch_if, branches, branch_table, shape_of, open_level, open_block, open_loop, open_if}
+use Rattle.wasm_meaning.specs.Control.{call, func_ref, call_indirect, finish, resume, end_level, level_here, branch, branch_if, branch_table, shape_of, open_level, open_block, open_loop, open_if}
 use Rattle.index_remap.specs.Related
 use Rattle.index_remap.specs.Related.{Pairing, OptRel, none, some, ResRel, done, trap, wrong, ListRel, nil, cons, RefRel, func, extern, ValRel, Names, StoreRel, SameType, BlockRel, empty, value, indexed, OpRel, CodeRel, end, then, instead, TableRel, LevelRel, BodyRel, keep, ActRel, goes, calls, ends}
 use Rattle.index_remap.proofs.Rel.{same_there, bind_rel, bind_eq, cond_rel, cond_two, at_rel, onto_rel, append_rel, past_rel, split_rel, trapping_rel, or_trap_rel}
@@ -62,21 +62,10 @@ module _ (R : Pairing) (ev ew : Env) (st : StoreRel R ev.store ew.store) where
 
   pub branch_if_rel : {h k : Body} (n : ℕ) → BodyRel R ev.inst ew.inst h k → ResRel (ActRel R ev.inst ew.inst) (branch_if h n) (branch_if k n)
   branch_if_rel n r =
-      bind_num R W32 _ _ r.values (λ i _ _ v. bind_rel (branch_rel n (values_rel R ev ew st r v)) (λ _ _ taken. done (cond_two (ActRel R ev.inst ew.inst) (nat_eq i 0) (goes keep (values_rel R ev ew st r v)) taken)))
+      bind_num R W32 _ _ r.values (λ i _ _ v. cond_rel (nat_eq i 0) (done (goes keep (values_rel R ev ew st r v))) (branch_rel n (values_rel R ev ew st r v)))
 
-  branches_rel : {h k : Body} (ns : List ℕ) → BodyRel R ev.inst ew.inst h k → ResRel (ListRel (ActRel R ev.inst ew.inst)) (branches h ns) (branches k ns)
-  branches_rel [] r = done nil
-  branches_rel (n ∷ ns) r = bind_rel (branch_rel n r) (λ _ _ a. bind_rel (branches_rel ns r) (λ _ _ rest. done (cons a rest)))
-
-  -- of two lists that are related, what stands at a place, or what else there is
-  chosen_rel : {A : Type 0} {P : A → A → Type 0} {xs ys : List A} {x y : A} (n : ℕ) → ListRel P xs ys → P x y → P (or_other (at xs n) x) (or_other (at ys n) y)
-  chosen_rel n nil p = p
-  chosen_rel zero (cons q r) p = q
-  chosen_rel (suc n) (cons q r) p = chosen_rel n r p
-
-  pub branch_table_rel : {h k : Body} (ns : List ℕ) (n : ℕ) → BodyRel R ev.inst ew.inst h k → ResRel (ActRel R ev.inst ew.inst) (branch_table h ns n) (branch_table k ns n)
-  branch_table_rel ns n r =
-      bind_num R W32 _ _ r.values (λ i _ _ v. bind_rel (branch_rel n (values_rel R ev ew st r v)) (λ _ _ last. bind_rel (branches_rel ns (values_rel R ev ew st r v)) (λ _ _ taken. done (chosen_rel i taken last))))
+  pub branch_table_rel : {h k : Body} (ns : List ℕ) (last : ℕ) → BodyRel R ev.inst ew.inst h k → ResRel (ActRel R ev.inst ew.inst) (branch_table h ns last) (branch_table k ns last)
+  branch_table_rel ns last r = bind_num R W32 _ _ r.values (λ i _ _ v. branch_rel (unwrap_or (slice_get ns i) last) (values_rel R ev ew st r v))
 
   -- ---- blocks ----
 

@@ -25,3 +25,4 @@ pub mod RenumberedCode
 pub mod Others
 pub mod ItselfCode
 mod ReplacedRows
+mod LawRows

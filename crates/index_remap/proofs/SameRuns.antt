@@ -1,10 +1,11 @@
 -- Runs from related states, where the list is empty, show the same events: by the law of steps, where all is related and nothing stands below.
-use Rattle.std.proofs.Common.{◌≡◌, ℕ, zero, suc, List, [], ◌∷◌, Bool, refl, sym, ap₂}
+use Rattle.std.proofs.Common.{◌≡◌, ℕ, List, [], ◌∷◌, Bool, refl, sym}
 use Rattle.wasm_tree.specs.declared.space.Space.{Space}
 use Rattle.std.proofs.lemmas.Bool.{true≢false}
 use Rattle.wasm_meaning.specs.State.{Store, Entry, Running, Mark, Opening, Waiting, Ended, Growing, Act}
 use Rattle.wasm_meaning.specs.Step.{step}
-use Rattle.wasm_meaning.specs.Run.{Run, tick, noted, events_of}
+use Rattle.wasm_meaning.specs.Run.{Run, tick, events_of}
+use Rattle.base_simulation.proofs.Lockstep.{lockstep}
 use Rattle.index_remap.specs.Related.{Pairing, OneToOne, ResRel, ListRel, StoreRel, EntryRel, NextRel, TopSkips}
 use Rattle.index_remap.specs.RelatedRuns.{RunRel, OutRel}
 use Rattle.index_remap.specs.Laws.{passed, Above, NeedsBelow, Touches, StepsAgree, NamedAreKnown}
@@ -23,7 +24,7 @@ needs [] (Act.Calls a vs h) = tt
 needs (e ∷ es) (Act.AsksGrow g m n h) = tt
 needs [] (Act.AsksGrow g m n h) = tt
 
-touches : (s : Store) (es : List Entry) → Touches s es [] []
+pub touches : (s : Store) (es : List Entry) → Touches s es [] []
 touches s [] = (refl, refl)
 touches s (Running f ∷ es) = λ x _. needs es x
 touches s (Mark ∷ es) = tt
@@ -36,10 +37,10 @@ module _ (of : Space → ℕ → ℕ → Bool) where
   abbrev R : Pairing
   R = passed of of []
 
-  none_listed : (a : ℕ) → ¬ R.listed a
+  pub none_listed : (a : ℕ) → ¬ R.listed a
   none_listed a p = true≢false (sym p)
 
-  skips : (s : Store) (es : List Entry) → TopSkips R s es
+  pub skips : (s : Store) (es : List Entry) → TopSkips R s es
   skips s (Running f ∷ es) = λ x _. none_called R none_listed x
   skips s [] = tt
   skips s (Mark ∷ es) = tt
@@ -59,5 +60,4 @@ module _ (of : Space → ℕ → ℕ → Bool) where
         still_rel R apart (Entries R (written apart)) (Entries R (written apart)) (stacks R (written apart) none_listed) (Entries R (written apart)) (λ s t es fs e. e) h (λ e. e) (λ e. e) (view R (written apart) h.entries) (step_rel r.store q.store r.entries q.entries h.store h.entries)
 
     pub same_events : (n : ℕ) (r q : Run) → RunRel R (Entries R (written apart)) (Entries R (written apart)) r q → events_of tick r n ≡ events_of tick q n
-    same_events zero r q h = refl
-    same_events (suc n) r q h = let o = ticks_agree r q h in ap₂ noted o.event (same_events n _ _ o.run)
+    same_events n r q h = lockstep tick tick (RunRel R (Entries R (written apart)) (Entries R (written apart))) (λ r q h. let o = ticks_agree r q h in record { event = o.event; states = o.run }) r q h n

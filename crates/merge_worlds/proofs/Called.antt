@@ -35,12 +35,12 @@ use Rattle.merge_validity.specs.Joinable.{CanBeJoined}
 use Rattle.merge_validity.specs.Started.{StartsTakeNothing}
 use Rattle.merge_worlds.proofs.MatchTypes.{func_type_is}
 use Rattle.merge_validity.proofs.ByPart.{by_part_many, defined_is}
-use Rattle.permuted_worlds.specs.Alone.{one, site}
-use Rattle.permuted_worlds.proofs.Places.{map_length}
-use Rattle.permuted_worlds.proofs.Alone.{funcs_counted}
+use Rattle.world_simulation.specs.Alone.{one, site}
+use Rattle.world_simulation.proofs.Places.{map_length}
+use Rattle.world_simulation.proofs.Alone.{funcs_counted}
 use Rattle.merge_worlds.specs.Shared.{shared_count}
 use Rattle.merge_worlds.proofs.SpaceLaws.{SpaceLaws}
-use Rattle.merge_worlds.proofs.Instancing.{IsInst}
+use Rattle.world_simulation.proofs.Instancing.{IsInst}
 use Rattle.merge_worlds.proofs.Standing.{import_address}
 use Rattle.merge_worlds.proofs.MergedAlone.{Keeps, joined_keeps, names_of, merged_types_are}
 use Rattle.merge_worlds.proofs.Starts.{IsNamed}
@@ -49,7 +49,7 @@ use Rattle.base_lists.proofs.Filtered.{place_of}
 use Rattle.base_lists.proofs.Options.{and_then_is, unwrap_or_false_is, all_there_at, all_there_length}
 use Rattle.std.proofs.lemmas.Option.{same_Some, slice_get_within}
 use Rattle.base_lists.proofs.Numbers.{length-numbers, numbers_at}
-use Rattle.merge_worlds.proofs.AllocatedLists.{at_is}
+use Rattle.merge_worlds.proofs.Lists.{at_is}
 
 -- ---- segments leave the functions as they are ----
 

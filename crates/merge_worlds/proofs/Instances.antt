@@ -22,13 +22,13 @@ use Rattle.merge_terms.specs.Joined.{joined_module}
 use Rattle.merge_validity.specs.Joinable.{CanBeJoined}
 use Rattle.merge_validity.specs.Ended.{added_count, is_external}
 use Rattle.merge_validity.proofs.ByPart.{elems_is, datas_is}
-use Rattle.permuted_worlds.specs.Alone.{one}
-use Rattle.permuted_worlds.proofs.Places.{map_length, place_map}
-use Rattle.permuted_worlds.proofs.Alone.{funcs_counted, tables_counted, memories_counted, globals_counted}
+use Rattle.world_simulation.specs.Alone.{one}
+use Rattle.world_simulation.proofs.Places.{map_length, place_map}
+use Rattle.world_simulation.proofs.Alone.{funcs_counted, tables_counted, memories_counted, globals_counted}
 use Rattle.merge_worlds.specs.Shared.{shared_count}
 use Rattle.merge_worlds.specs.Instances.{SameAddress, SpaceAgrees, PartAgrees, InstancesAgree}
 use Rattle.merge_worlds.proofs.SpaceLaws.{SpaceLaws}
-use Rattle.merge_worlds.proofs.Instancing.{IsInst, inst_is, inst_there, insts_are, insts_there}
+use Rattle.world_simulation.proofs.Instancing.{IsInst, inst_is, inst_there, insts_are, insts_there}
 use Rattle.merge_worlds.proofs.Standing.{before_low, total, import_address, site_address, site_low, Stands, own, stays, import_stands, own_stands}
 use Rattle.merge_worlds.proofs.MergedAlone.{joined_keeps, staying_kind, names_of, merged_types_are, merged_space, elems_many, datas_many}
 use Rattle.base_lists.proofs.Options.{and_then_is, all_there_at, all_there_length, all_there_from}

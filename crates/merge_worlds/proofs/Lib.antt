@@ -1,5 +1,4 @@
 pub mod SpaceLaws
-pub mod Instancing
 pub mod Standing
 pub mod MergedAlone
 pub mod Instances
@@ -10,15 +9,11 @@ pub mod ValueShared
 pub mod ValueAlone
 pub mod ValueGiven
 pub mod Values
-pub mod AllocatedLists
-pub mod AllocatedFuncs
-pub mod AllocatedParts
-pub mod AllocatedMerged
-pub mod Allocated
-pub mod AllocatedRelated
+pub mod Lists
+pub mod Funcs
+pub mod MergedLists
+pub mod Definitions
 pub mod Called
-pub mod SegmentLists
-pub mod SegmentStores
 pub mod SegmentTurns
 pub mod Segments
 pub mod MatchLists
@@ -26,7 +21,6 @@ pub mod MatchTypes
 pub mod MatchLimits
 pub mod MatchFits
 pub mod MatchAlike
-pub mod MatchStores
 pub mod MatchDefined
 pub mod MatchMerged
 pub mod MatchAll

@@ -16,9 +16,11 @@ use Rattle.merge_terms.specs.Faults.{External, asked_at, stays}
 use Rattle.merge_terms.specs.Joined.{joined_module}
 use Rattle.merge_validity.specs.Joinable.{CanBeJoined}
 use Rattle.merge_worlds.specs.Instances.{InstancesAgree}
-use Rattle.merge_worlds.specs.Stores.{StoresAlike}
-use Rattle.permuted_worlds.proofs.Defined.{defined_at}
-use Rattle.permuted_worlds.specs.Alone.{one, site, ImportsStandForTheEnvironments}
+use Rattle.index_remap.specs.Related.{StoreRel}
+use Rattle.world_simulation.specs.Owned.{OwnEntitiesCorrespond}
+use Rattle.merge_worlds.specs.Shared.{sharing}
+use Rattle.world_simulation.proofs.Defined.{defined_at}
+use Rattle.world_simulation.specs.Alone.{one, site, ImportsStandForTheEnvironments}
 use Rattle.merge_validity.specs.Ended.{EndsInside, EndsOutside, Ended, inside, outside, LinkedImportsEnd, StayingImportsEndThere, SitesAreImports, TypesHavePlaces}
 use Rattle.merge_worlds.proofs.MatchLists.{all_each, each_all}
 use Rattle.merge_worlds.proofs.MatchTypes.{alike_is}
@@ -55,7 +57,7 @@ asks_of : (parts : List Part) (t : Site) (i : Import) → Ended parts t i → (x
 asks_of parts t i (inside w) = (w.demand, w.asks)
 asks_of parts t i (outside w) = (w.demand, w.asks)
 
-module _ (ends_law : LinkedImportsEnd) (stays_law : StayingImportsEndThere) (sites_law : SitesAreImports) (types_law : TypesHavePlaces) (alone_law : ImportsStandForTheEnvironments) (env : Environment) (parts : List Part) (mode : Mode) (can : CanBeJoined parts mode) where
+module _ (ends_law : LinkedImportsEnd) (stays_law : StayingImportsEndThere) (sites_law : SitesAreImports) (types_law : TypesHavePlaces) (alone_law : ImportsStandForTheEnvironments) (own_law : OwnEntitiesCorrespond) (env : Environment) (parts : List Part) (mode : Mode) (can : CanBeJoined parts mode) where
   abbrev whole : Module
   whole = joined_module parts mode
 
@@ -101,7 +103,7 @@ module _ (ends_law : LinkedImportsEnd) (stays_law : StayingImportsEndThere) (sit
   limits_demand : (t : Site) (i : Import) (x : External) (l : Limits) → import_at parts t ≡ Some i → asked_at parts t ≡ Some x → limits_in x ≡ Some l → option_and_then (λ i. limits_of i.desc) (import_at parts t) ≡ Some l
   limits_demand t i x l at asks h = let m = import_site parts t i at in ap (λ o. option_and_then (λ i. limits_of i.desc) o) at ∙ asked_limits m.0 i.desc x (asks_by parts t m.0 i x m.1 m.2 asks) ∙ h
 
-  module _ {s z : Store} (like : StoresAlike env parts s z) where
+  module _ {s z : Store} (like : StoreRel (sharing env parts) s z) where
     -- what an import fits that is matched
     fits_at : (t : Site) (i : Import) (x : External) (th : Thing) → import_at parts t ≡ Some i → asked_at parts t ≡ Some x → imported_thing env parts t ≡ Some th → is_matched env parts s t ≡ true → fits s x th ≡ Some true
     fits_at t i x th at asks is h =
@@ -129,7 +131,7 @@ module _ (ends_law : LinkedImportsEnd) (stays_law : StayingImportsEndThere) (sit
         let own_is = staying_thing_is u j w.at w.remains in
         let r = fitting_there s y.0 (imported_thing env parts u) (sym (matched_at env parts s u j y.0 w.at y.1) ∙ all_each (is_matched env parts s) (sites parts) all w.place_in u w.stands) in
         let th_is : own u ≡ Some r.0 = sym own_is ∙ r.1 in
-        moved_matched types_law parts mode u m.0 m.1 alone_law env j y.0 w.at asks n (h ∙ ap Some w.is ∙ ap (λ m. Some (moved parts u m j)) same) like
+        moved_matched types_law parts mode u m.0 m.1 alone_law own_law env j y.0 w.at asks n (h ∙ ap Some w.is ∙ ap (λ m. Some (moved parts u m j)) same) like
         ∙ there_fitting s (kept y.0 (met_limits parts u)) (own u) r.0 th_is (there all u j y.0 r.0 th_is r.2)
 
     all_merged_match : all_of (is_matched env parts s) (sites parts) ≡ true → all_of (is_matched env (one whole) z) (sites (one whole)) ≡ true
@@ -150,7 +152,7 @@ module _ (ends_law : LinkedImportsEnd) (stays_law : StayingImportsEndThere) (sit
         let c = stays_in parts mode u m.0 j in_sites.0 m.1 w.at in_sites.1 w.remains in
         let there = (sites_law (one whole) (site c.0)).1 (moved parts u m.0 j) c.1 in
         let matched : is_matched env (one whole) z (site c.0) ≡ true = all_each (is_matched env (one whole) z) (sites (one whole)) all there.0 (site c.0) there.1 in
-        let r = fitting_there s (kept w.thing (met_limits parts u)) (own u) (sym (moved_matched types_law parts mode u m.0 m.1 alone_law env j w.thing w.at asks c.0 c.1 like) ∙ matched) in
+        let r = fitting_there s (kept w.thing (met_limits parts u)) (own u) (sym (moved_matched types_law parts mode u m.0 m.1 alone_law own_law env j w.thing w.at asks c.0 c.1 like) ∙ matched) in
         let ends_here : is_outside u (linked_end parts t) ≡ true = ap (is_outside u) w.linked ∙ site_same u in
         matched_at env parts s t i w.demand at w.asks
         ∙ there_fitting s w.demand (imported_thing env parts t) r.0 (outside_thing_is t i w ∙ r.1) (fits_kept (alike_is w.demand w.thing w.same) s r.0 (met_limits parts u) r.2

@@ -22,16 +22,16 @@ use Rattle.wasm_meaning.specs.Control.{type_at}
 use Rattle.wasm_meaning.specs.Linking.{Part, has_kind, imports_of, module_at}
 use Rattle.wasm_meaning.specs.Environment.{Environment, FuncAt, TableAt, MemoryAt, GlobalAt}
 use Rattle.wasm_meaning.specs.World.{given, same_bool, meets, base, thing_at, new_func, new_global, value_of, own_store, stores_from}
-use Rattle.permuted_worlds.proofs.Places.{place_map}
+use Rattle.world_simulation.proofs.Places.{place_map}
 use Rattle.merge_terms.specs.Faults.{External, FuncOf, TableOf, MemoryOf, GlobalOf, external_of, same_but_limits, meets_limits}
 use Rattle.merge_worlds.proofs.MatchLists.{all_places, copies_length}
 use Rattle.merge_worlds.proofs.MatchFits.{fits}
-use Rattle.merge_worlds.proofs.MatchStores.{new_table, new_memory, adds, funcs_stand, tables_stand, mems_stand, globals_stand}
+use Rattle.world_simulation.proofs.Allocated.{new_table, new_memory, adds, funcs_stand, tables_stand, mems_stand, globals_stand}
 use Rattle.base_lists.proofs.Places.{map_from, append_right}
 use Rattle.base_lists.proofs.Filtered.{places_many}
 use Rattle.base_lists.proofs.Options.{and_then_is}
 use Rattle.std.proofs.lemmas.Bool.{and_from}
-use Rattle.merge_worlds.proofs.AllocatedLists.{at_is}
+use Rattle.merge_worlds.proofs.Lists.{at_is}
 
 -- ---- how many are imported ----
 

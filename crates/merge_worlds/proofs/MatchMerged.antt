@@ -1,5 +1,5 @@
 -- An import of the merged module, and the import of a part that stays as it: both stand for the same, and the merged one has the limits that are asked for together.
-use Rattle.std.proofs.Common.{◌≡◌, ℕ, List, [], ◌∷◌, length, Option, Some, None, true, refl, sym, ap, ◌∙◌, option_and_then, slice_get, unwrap_or, false}
+use Rattle.std.proofs.Common.{◌≡◌, ℕ, List, [], ◌∷◌, Option, Some, None, true, refl, sym, ap, ◌∙◌, option_and_then, slice_get, unwrap_or, false}
 use Rattle.std.specs.Prelude.{slice_index}
 use Rattle.std.specs.List.{filter, filter_map}
 use Rattle.wasm_tree.specs.declared.types.FuncType.{FuncType}
@@ -9,7 +9,7 @@ use Rattle.wasm_tree.specs.declared.module.ImportDesc.TheVariants as im
 use Rattle.wasm_tree.specs.declared.module.Module.{Module}
 use Rattle.wasm_meaning.specs.State.{Pair, Store}
 use Rattle.wasm_meaning.specs.Linking.{Part, Site, module_at, import_at, pair_of, sites, met_limits}
-use Rattle.wasm_meaning.specs.Environment.{Environment, FuncKey, Thing, owned_of, owned_at, own_funcs}
+use Rattle.wasm_meaning.specs.Environment.{Environment, FuncKey, Thing, same_key, owned_of, owned_at}
 use Rattle.wasm_meaning.specs.World.{given, own_key, own_key_of, outside_thing, imported_thing, is_match, is_matched}
 use Rattle.index_remap.specs.References.{with_declared, declared_refs}
 use Rattle.export_names.specs.declared.mode.Mode.{Mode}
@@ -17,11 +17,15 @@ use Rattle.export_names.specs.Names.{new_names}
 use Rattle.merge_terms.specs.Faults.{External, FuncOf, TableOf, MemoryOf, GlobalOf, asked, asked_at, stays}
 use Rattle.merge_terms.specs.Merged.{merged, merged_types, map_of, merged_import, merged_desc, staying, export_names}
 use Rattle.merge_terms.specs.Joined.{joined_module}
-use Rattle.merge_worlds.specs.Stores.{StoresAlike}
-use Rattle.permuted_worlds.specs.Alone.{one, site, key_in, thing_in, ImportsStandForTheEnvironments}
+use Rattle.index_remap.specs.Related.{StoreRel}
+use Rattle.index_remap.specs.RelatedRuns.{ThingRel}
+use Rattle.world_simulation.specs.Owned.{OwnEntitiesCorrespond}
+use Rattle.merge_worlds.specs.Shared.{is_shared, sharing}
+use Rattle.merge_worlds.proofs.Standing.{thing_self, shares_own}
+use Rattle.world_simulation.specs.Alone.{one, site, key_in, thing_in, ImportsStandForTheEnvironments}
 use Rattle.merge_validity.specs.Ended.{TypesHavePlaces}
 use Rattle.merge_worlds.proofs.MatchFits.{fits, fitting, match_fits, kept}
-use Rattle.merge_worlds.proofs.MatchAlike.{IsAmong, own_among, fits_same}
+use Rattle.merge_worlds.proofs.MatchAlike.{fits_same}
 use Rattle.base_lists.proofs.Filtered.{kept_is, is_kept, chosen_from, has_chosen}
 use Rattle.base_lists.proofs.Options.{and_then_is}
 
@@ -53,10 +57,11 @@ pub outside_is : (owned : _) (parts : List Part) (u : Site) (m : Module) (j : Im
 outside_is owned parts u m j is at =
     ap (λ o. option_and_then (λ m. option_and_then (λ i. option_and_then (λ key. given (owned_at owned key)) (own_key m i)) (import_at parts u)) o) is ∙ ap (λ o. option_and_then (λ i. option_and_then (λ key. given (owned_at owned key)) (own_key m i)) o) at
 
-pub outside_among : (env : Environment) (parts : List Part) (u : Site) (m : Module) (j : Import) (th : Thing) → module_at parts u.part ≡ Some m → import_at parts u ≡ Some j → outside_thing (owned_of env) parts u ≡ Some th → IsAmong (length (own_funcs env)) th
-outside_among env parts u m j th is at h =
+-- it is related to itself
+outside_rel : OwnEntitiesCorrespond → (env : Environment) (parts : List Part) (u : Site) (m : Module) (j : Import) (th : Thing) → module_at parts u.part ≡ Some m → import_at parts u ≡ Some j → outside_thing (owned_of env) parts u ≡ Some th → ThingRel (sharing env parts) th th
+outside_rel own env parts u m j th is at h =
     let key = and_then_is (own_key m j) (λ key. given (owned_at (owned_of env) key)) th (sym (outside_is (owned_of env) parts u m j is at) ∙ h) in
-    own_among env key.0 th key.2
+    thing_self (sharing env parts) (owned_of env) (own (is_shared env parts) env (shares_own env parts)).owned (same_key key.0) th key.2
 
 -- ---- the merged module ----
 
@@ -149,18 +154,18 @@ module _ (types_law : TypesHavePlaces) (parts : List Part) (mode : Mode) (u : Si
   moved_key pair (im.Memory l) y h = refl
   moved_key pair (im.Global t) y h = refl
 
-  module _ (alone_law : ImportsStandForTheEnvironments) (env : Environment) (j : Import) (y : External) (at : import_at parts u ≡ Some j) (asks : asked m j.desc ≡ Some y) (n : ℕ) (stands : slice_get whole.imports n ≡ Some (moved parts u m j)) where
+  module _ (alone_law : ImportsStandForTheEnvironments) (own_law : OwnEntitiesCorrespond) (env : Environment) (j : Import) (y : External) (at : import_at parts u ≡ Some j) (asks : asked m j.desc ≡ Some y) (n : ℕ) (stands : slice_get whole.imports n ≡ Some (moved parts u m j)) where
     moved_thing : imported_thing env (one whole) (site n) ≡ outside_thing (owned_of env) parts u
     moved_thing =
         alone_law env whole n ∙ ap (thing_in env whole.types) stands ∙ ap (λ o. option_and_then (λ key. given (owned_at (owned_of env) key)) o) (moved_key (pair_of j) j.desc y asks)
         ∙ sym (outside_is (owned_of env) parts u m j is at)
 
     -- it is matched where what it stands for fits in the store of the parts
-    pub moved_matched : {s z : Store} → StoresAlike env parts s z → is_matched env (one whole) z (site n) ≡ fitting s (kept y (met_limits parts u)) (outside_thing (owned_of env) parts u)
+    pub moved_matched : {s z : Store} → StoreRel (sharing env parts) s z → is_matched env (one whole) z (site n) ≡ fitting s (kept y (met_limits parts u)) (outside_thing (owned_of env) parts u)
     moved_matched {s} {z} like =
         matched_is env (one whole) z (site n) whole (moved parts u m j) (kept y (met_limits parts u)) refl stands (moved_asks j.desc y asks) ∙ ap (fitting z (kept y (met_limits parts u))) moved_thing
         ∙ by (outside_thing (owned_of env) parts u) refl
       where
         by : (o : Option Thing) → outside_thing (owned_of env) parts u ≡ o → fitting z (kept y (met_limits parts u)) o ≡ fitting s (kept y (met_limits parts u)) o
         by None e = refl
-        by (Some th) e = ap (λ o. unwrap_or o false) (sym (fits_same env parts like (kept y (met_limits parts u)) th (outside_among env parts u m j th is at e)))
+        by (Some th) e = ap (λ o. unwrap_or o false) (sym (fits_same (sharing env parts) like (kept y (met_limits parts u)) (outside_rel own_law env parts u m j th is at e)))

@@ -23,8 +23,8 @@ use Rattle.merge_terms.specs.Merged.{merged, merged_types, merged_import, merged
 use Rattle.merge_terms.specs.Joined.{joined_module}
 use Rattle.merge_validity.specs.Ended.{Ended, inside, outside, added_count, is_external}
 use Rattle.merge_validity.proofs.ByPart.{elems_is, datas_is, by_part_many}
-use Rattle.permuted_worlds.specs.Alone.{one, key_in, thing_in, address_in, addresses}
-use Rattle.permuted_worlds.proofs.Places.{map_length}
+use Rattle.world_simulation.specs.Alone.{one, key_in, thing_in, address_in, addresses}
+use Rattle.world_simulation.proofs.Places.{map_length}
 use Rattle.merge_worlds.proofs.SpaceLaws.{SpaceLaws}
 use Rattle.merge_worlds.proofs.Standing.{site_address}
 use Rattle.base_lists.proofs.Filtered.{kept_is, at_places, of_chosen}

@@ -18,7 +18,7 @@ use Rattle.index_remap.specs.Related.{OptRel, some, ListRel, nil, cons}
 use Rattle.index_remap.specs.RelatedRuns.{ThingRel, a_func, a_table, a_memory, a_global}
 use Rattle.index_remap.proofs.Rel.{append_rel}
 use Rattle.merge_terms.specs.Merged.{map_of, by_part_from}
-use Rattle.permuted_worlds.proofs.Places.{left_true, right_true, opt_at}
+use Rattle.world_simulation.proofs.Places.{left_true, right_true, opt_at}
 use Rattle.merge_worlds.specs.Shared.{sharing}
 use Rattle.merge_worlds.specs.Instances.{SameAddress, PartAgrees}
 use Rattle.merge_worlds.proofs.Standing.{is_shared_at}

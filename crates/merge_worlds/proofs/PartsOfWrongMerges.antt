@@ -16,21 +16,30 @@ use Rattle.wasm_typing.specs.Typing.{Stack, WellTyped, Gives, Drops}
 use Rattle.wasm_valid.specs.Constants.{const_type}
 use Rattle.wasm_valid.specs.Validity.{IsValid, body_context}
 use Rattle.wasm_meaning.specs.State.{Text}
-use Rattle.wasm_meaning.specs.Linking.{Part}
+use Rattle.wasm_meaning.specs.Linking.{Part, sites, count_of}
+use Rattle.wasm_meaning.specs.World.{defined_before}
+use Rattle.wasm_tree.specs.declared.space.Space.{Space}
+use Rattle.wasm_tree.specs.declared.space.Space.TheVariants.{Types, Functions, Tables, Memories, Globals, ElementSegments, DataSegments}
 use Rattle.export_names.specs.declared.mode.Mode.{Mode}
 use Rattle.export_names.specs.declared.mode.Mode.TheVariants as mode
 use Rattle.export_names.specs.Names.{conflict_behind}
-use Rattle.merge_terms.specs.Merged.{all_exports}
-use Rattle.merge_terms.specs.Joined.{over_limit, repeated_name}
+use Rattle.merge_terms.specs.Merged.{all_exports, imports_kind}
+use Rattle.merge_terms.specs.Joined.{over_limit, repeated_name, most_added, FewInAll}
+use Rattle.merge_terms.specs.declared.parts.Part as given
+use Rattle.merge_terms.specs.declared.links.End.TheVariants.{Outside}
+use Rattle.merge_terms.specs.declared.links.Links.{Links}
+use Rattle.merge_terms.specs.Faults.{link_fault, kept_limits, stays}
+use Rattle.merge_terms.specs.Linked.{AreLinks}
+use Rattle.merge_terms.specs.Parts.{named_modules}
 use Rattle.merge_validity.specs.Joinable.{EachPart, CanBeJoined}
 use Rattle.merge_worlds.specs.Laws.{BehavesAs}
-use Rattle.merge_worlds.proofs.WrongMerges.{f, g, nothing, from_i32, empty, code, own_func, part, starting, two_starts, two_starts_merged, two_starts_have_no_fault, two_starts_join, second_dropped, first_alone, second_first, dropped_starts_are_refused, first_starts_alone_are_refused, starts_in_reverse_are_refused, calling, two_types, two_types_with, two_types_have_no_fault, two_types_join, kept_type_indices_are_refused, own_memory, one_memory, one_memory_from, one_memory_has_no_fault, one_memory_joins, first_limits_are_refused}
+use Rattle.merge_worlds.proofs.WrongMerges.{f, g, nothing, from_i32, empty, code, own_func, two_given, two_parts, starting, two_starts, two_starts_merged, two_starts_have_no_fault, two_starts_join, second_dropped, first_alone, second_first, dropped_starts_are_refused, first_starts_alone_are_refused, starts_in_reverse_are_refused, calling, two_types, two_types_with, two_types_have_no_fault, two_types_join, kept_type_indices_are_refused, own_memory, one_memory, one_memory_from, one_memory_has_no_fault, one_memory_joins, first_limits_are_refused}
 use Rattle.std.proofs.lemmas.Option.{same_Some}
 
 -- ---- what is common ----
 
 -- what holds of two modules holds of each part of the two
-of_both : (P : Module → Type 0) (x y : Module) → P x → P y → EachPart P (part x ∷ (part y ∷ []))
+of_both : (P : Module → Type 0) (x y : Module) → P x → P y → EachPart P (two_parts x y)
 of_both P x y first second zero m e = subst P (same_Some _ _ e) first
 of_both P x y first second (suc zero) m e = subst P (same_Some _ _ e) second
 of_both P x y first second (suc (suc p)) m e = cc
@@ -69,6 +78,19 @@ BreaksTheLaw parts wrong = (merge : List Part → Mode → Module) → merge par
 
 breaks_the_law : (parts : List Part) (wrong : Module) → CanBeJoined parts mode.Refuse → (BehavesAs parts mode.Refuse wrong → ⊥) → BreaksTheLaw parts wrong
 breaks_the_law parts wrong joinable refused merge gives law = refused (subst (BehavesAs parts mode.Refuse) gives (law parts mode.Refuse joinable))
+
+-- What `join` asks of parts and their links, and that it gives a module for them. No body meets its clause `same` that gives this one, of which not the same is seen.
+record BreaksTheClause (given : List given.Part) (wrong : Module) : Type 0 where
+  joinable : CanBeJoined (named_modules given) mode.Refuse
+  links : Links
+  are : AreLinks (named_modules given) links
+  linked : link_fault (named_modules given) ≡ None
+  few : FewInAll (named_modules given)
+  refused : BehavesAs (named_modules given) mode.Refuse wrong → ⊥
+
+-- for each of two parts with one import that stays: itself, without limits and with nothing read
+abbrev own_links : Links
+own_links = record { ends = (Outside 0 0 ∷ []) ∷ ((Outside 1 0 ∷ []) ∷ []); limits = (None ∷ []) ∷ ((None ∷ []) ∷ []); reads = (None ∷ []) ∷ ((None ∷ []) ∷ []) }
 
 -- ---- two starts ----
 
@@ -117,6 +139,31 @@ first_starts_alone_break_the_law = breaks_the_law two_starts first_alone two_sta
 
 starts_in_reverse_break_the_law : BreaksTheLaw two_starts second_first
 starts_in_reverse_break_the_law = breaks_the_law two_starts second_first two_starts_can_be_joined starts_in_reverse_are_refused
+
+two_starts_are_few_in_all : FewInAll two_starts
+two_starts_are_few_in_all = record { parts_few = omega arith; entries = entries }
+  where
+    entries : (k : Space) → count_of (imports_kind two_starts k) (sites two_starts) + (defined_before k two_starts 2 + most_added k) < 2 ^ 32
+    entries Types = omega arith
+    entries Functions = omega arith
+    entries Tables = omega arith
+    entries Memories = omega arith
+    entries Globals = omega arith
+    entries ElementSegments = omega arith
+    entries DataSegments = omega arith
+
+two_starts_are_linked : AreLinks two_starts own_links
+unfolding kept_limits stays
+two_starts_are_linked = record { ends = refl; limits = refl; reads = refl }
+
+dropped_starts_break_the_clause : BreaksTheClause (two_given (starting f) (starting g)) second_dropped
+dropped_starts_break_the_clause = record { joinable = two_starts_can_be_joined; links = own_links; are = two_starts_are_linked; linked = two_starts_have_no_fault; few = two_starts_are_few_in_all; refused = dropped_starts_are_refused }
+
+first_starts_alone_break_the_clause : BreaksTheClause (two_given (starting f) (starting g)) first_alone
+first_starts_alone_break_the_clause = record { joinable = two_starts_can_be_joined; links = own_links; are = two_starts_are_linked; linked = two_starts_have_no_fault; few = two_starts_are_few_in_all; refused = first_starts_alone_are_refused }
+
+starts_in_reverse_break_the_clause : BreaksTheClause (two_given (starting f) (starting g)) second_first
+starts_in_reverse_break_the_clause = record { joinable = two_starts_can_be_joined; links = own_links; are = two_starts_are_linked; linked = two_starts_have_no_fault; few = two_starts_are_few_in_all; refused = starts_in_reverse_are_refused }
 
 -- ---- an indirect call ----
 
@@ -201,6 +248,29 @@ two_types_can_be_joined = record {
 kept_type_indices_break_the_law : BreaksTheLaw two_types (two_types_with 0)
 kept_type_indices_break_the_law = breaks_the_law two_types (two_types_with 0) two_types_can_be_joined kept_type_indices_are_refused
 
+two_types_are_few_in_all : FewInAll two_types
+two_types_are_few_in_all = record { parts_few = omega arith; entries = entries }
+  where
+    entries : (k : Space) → count_of (imports_kind two_types k) (sites two_types) + (defined_before k two_types 2 + most_added k) < 2 ^ 32
+    entries Types = omega arith
+    entries Functions = omega arith
+    entries Tables = omega arith
+    entries Memories = omega arith
+    entries Globals = omega arith
+    entries ElementSegments = omega arith
+    entries DataSegments = omega arith
+
+-- the import of the second part stays, and the first has none
+abbrev second_links : Links
+second_links = record { ends = [] ∷ ((Outside 1 0 ∷ []) ∷ []); limits = [] ∷ ((None ∷ []) ∷ []); reads = [] ∷ ((None ∷ []) ∷ []) }
+
+two_types_are_linked : AreLinks two_types second_links
+unfolding kept_limits stays
+two_types_are_linked = record { ends = refl; limits = refl; reads = refl }
+
+kept_type_indices_break_the_clause : BreaksTheClause (two_given one_type calling) (two_types_with 0)
+kept_type_indices_break_the_clause = record { joinable = two_types_can_be_joined; links = second_links; are = two_types_are_linked; linked = two_types_have_no_fault; few = two_types_are_few_in_all; refused = kept_type_indices_are_refused }
+
 -- ---- the limits of a memory ----
 
 one_memory_repeats_no_name : repeated_name one_memory mode.Refuse ≡ None
@@ -222,3 +292,26 @@ one_memory_can_be_joined = record {
 
 first_limits_break_the_law : BreaksTheLaw one_memory (one_memory_from 0)
 first_limits_break_the_law = breaks_the_law one_memory (one_memory_from 0) one_memory_can_be_joined first_limits_are_refused
+
+one_memory_is_few_in_all : FewInAll one_memory
+one_memory_is_few_in_all = record { parts_few = omega arith; entries = entries }
+  where
+    entries : (k : Space) → count_of (imports_kind one_memory k) (sites one_memory) + (defined_before k one_memory 2 + most_added k) < 2 ^ 32
+    entries Types = omega arith
+    entries Functions = omega arith
+    entries Tables = omega arith
+    entries Memories = omega arith
+    entries Globals = omega arith
+    entries ElementSegments = omega arith
+    entries DataSegments = omega arith
+
+-- both imports end at the first, which keeps the greater minimum
+abbrev met_links : Links
+met_links = record { ends = (Outside 0 0 ∷ []) ∷ ((Outside 0 0 ∷ []) ∷ []); limits = (Some (record { min = 1; max = None }) ∷ []) ∷ ((None ∷ []) ∷ []); reads = (None ∷ []) ∷ ((None ∷ []) ∷ []) }
+
+one_memory_is_linked : AreLinks one_memory met_links
+unfolding kept_limits stays
+one_memory_is_linked = record { ends = refl; limits = refl; reads = refl }
+
+first_limits_break_the_clause : BreaksTheClause (two_given (one_memory_from 0) (one_memory_from 1)) (one_memory_from 0)
+first_limits_break_the_clause = record { joinable = one_memory_can_be_joined; links = met_links; are = one_memory_is_linked; linked = one_memory_has_no_fault; few = one_memory_is_few_in_all; refused = first_limits_are_refused }

@@ -1,33 +1,15 @@
 -- Segments by part, one after the other, and the same segments of one module.
-use Rattle.std.proofs.Common.{◌≡◌, ℕ, zero, suc, ◌+◌, ◌<◌, List, [], ◌∷◌, ◌++◌, map, length, Some, false, refl, sym, ap, subst, ◌∙◌, arith, append_assoc, drop, slice_get}
+use Rattle.std.proofs.Common.{◌≡◌, ℕ, zero, suc, ◌+◌, ◌<◌, List, [], ◌∷◌, ◌++◌, map, length, Some, refl, sym, ap, subst, ◌∙◌, arith, append_assoc, drop, slice_get}
 use Rattle.wasm_tree.specs.declared.space.Space.TheVariants.{DataSegments, ElementSegments}
 use Rattle.wasm_tree.specs.declared.module.Module.{Module}
-use Rattle.wasm_meaning.specs.State.{Inst, Store}
+use Rattle.wasm_meaning.specs.State.{Inst}
 use Rattle.wasm_meaning.specs.Linking.{Part, module_at}
-use Rattle.wasm_meaning.specs.Environment.{Environment}
-use Rattle.wasm_meaning.specs.World.{Filled, Task, tasks_in, elem_tasks, data_tasks, in_turn, defined_before}
+use Rattle.wasm_meaning.specs.World.{Task, tasks_in, defined_before}
 use Rattle.merge_terms.specs.Merged.{by_part_from}
-use Rattle.merge_worlds.specs.Stores.{StoresAlike, FilledAlike}
-use Rattle.merge_worlds.proofs.SegmentStores.{and_then_alike}
+use Rattle.world_simulation.specs.Segments.{InOrder, both}
+use Rattle.world_simulation.proofs.Ordered.{tasks_by}
 use Rattle.base_lists.proofs.Places.{drop_at}
 use Rattle.std.proofs.lemmas.List.{drop-drop}
-
--- ---- segments by part ----
-
--- the segments of one kind, by part
-abbrev pub tasks_by : {A : Type 0} → (Module → List A) → (Inst → List ℕ) → ℕ → List Part → List Inst → List (Task A)
-tasks_by segs adds p (part ∷ parts) (i ∷ is) = tasks_in p i (adds i) (segs part.«module») ++ tasks_by segs adds (suc p) parts is
-tasks_by segs adds p _ _ = []
-
-pub elems_by : (p : ℕ) (parts : List Part) (is : List Inst) → elem_tasks p parts is ≡ tasks_by (λ m. m.elems) (λ i. i.elems) p parts is
-elems_by p [] is = refl
-elems_by p (part ∷ parts) [] = refl
-elems_by p (part ∷ parts) (i ∷ is) = ap (λ ts. tasks_in p i i.elems part.«module».elems ++ ts) (elems_by (suc p) parts is)
-
-pub datas_by : (p : ℕ) (parts : List Part) (is : List Inst) → data_tasks p parts is ≡ tasks_by (λ m. m.datas) (λ i. i.datas) p parts is
-datas_by p [] is = refl
-datas_by p (part ∷ parts) [] = refl
-datas_by p (part ∷ parts) (i ∷ is) = ap (λ ts. tasks_in p i i.datas part.«module».datas ++ ts) (datas_by (suc p) parts is)
 
 pub elems_start : (parts : List Part) → defined_before ElementSegments parts 0 ≡ 0
 elems_start [] = refl
@@ -66,59 +48,54 @@ pub record OneAddress (xs ys : List ℕ) (n k : ℕ) : Type 0 where
 abbrev pub task : {A : Type 0} → ℕ → Inst → ℕ → A → Task A
 task p i a x = record { part = p; inst = i; address = a; segment = x }
 
--- both do the same with a segment at an address
-abbrev pub DoAlike : {A : Type 0} → Environment → List Part → (f g : Store → Task A → Filled) → Task A → Task A → Type 0
-DoAlike env parts f g x y = (s z : Store) → StoresAlike env parts s z → FilledAlike env parts (f s x) (g z y)
-
--- A part's segments stand in the merged module from a place on, with the addresses that they have, and both do the same with each.
-pub record PartDoes (env : Environment) (parts : List Part) {A : Type 0} (f g : Store → Task A → Filled) (insts : List Inst) (j : Inst) (segs : Module → List A) (adds : Inst → List ℕ) (new : ℕ → Module → A → A) (before : ℕ → ℕ) (p : ℕ) (m : Module) : Type 0 where
+-- A part's segments stand in the merged module from a place on, with the addresses that they have, and each has its partner there.
+pub record PartStands {A : Type 0} (partners : Task A → Task A → Type 0) (insts : List Inst) (j : Inst) (segs : Module → List A) (adds : Inst → List ℕ) (new : ℕ → Module → A → A) (before : ℕ → ℕ) (p : ℕ) (m : Module) : Type 0 where
   pub inst : Inst
   pub is : slice_get insts p ≡ Some inst
   pub same : (x : ℕ) → x < length (segs m) → OneAddress (adds inst) (adds j) x (before p + x)
-  pub each : (x a : ℕ) (e : A) → slice_get (segs m) x ≡ Some e → slice_get (adds inst) x ≡ Some a → DoAlike env parts f g (task p inst a e) (task 0 j a (new p m e))
+  pub each : (x a : ℕ) (e : A) → slice_get (segs m) x ≡ Some e → slice_get (adds inst) x ≡ Some a → partners (task p inst a e) (task 0 j a (new p m e))
 
-module _ (env : Environment) (parts : List Part) {A : Type 0} (f g : Store → Task A → Filled) (j : Inst) where
+module _ {A : Type 0} (partners : Task A → Task A → Type 0) (first second : Task A → Type 0) (j : Inst) where
   -- the segments of one part, and then others
   in_part : (p : ℕ) (i : Inst) (new : A → A) (xs ys : List ℕ) (es : List A) (rest : List (Task A)) (more : List A) →
-      ((x : ℕ) → x < length es → OneAddress xs ys x x) → ((x a : ℕ) (e : A) → slice_get es x ≡ Some e → slice_get xs x ≡ Some a → DoAlike env parts f g (task p i a e) (task 0 j a (new e))) →
-      ((s z : Store) → StoresAlike env parts s z → FilledAlike env parts (in_turn f s rest) (in_turn g z (tasks_in 0 j (drop (length es) ys) more))) →
-      (s z : Store) → StoresAlike env parts s z → FilledAlike env parts (in_turn f s (tasks_in p i xs es ++ rest)) (in_turn g z (tasks_in 0 j ys (map new es ++ more)))
-  in_part p i new [] ys [] rest more same each then s z like = then s z like
-  in_part p i new (x ∷ xs) ys [] rest more same each then s z like = then s z like
-  in_part p i new [] ys (e ∷ es) rest more same each then s z like = let o = same 0 (omega arith) in let k = o.first in cc
-  in_part p i new (x ∷ xs) [] (e ∷ es) rest more same each then s z like = let o = same 0 (omega arith) in let k = o.second in cc
-  in_part p i new (x ∷ xs) (y ∷ ys) (e ∷ es) rest more same each then s z like =
+      ((x : ℕ) → x < length es → OneAddress xs ys x x) → ((x a : ℕ) (e : A) → slice_get es x ≡ Some e → slice_get xs x ≡ Some a → partners (task p i a e) (task 0 j a (new e))) →
+      InOrder partners first second rest (tasks_in 0 j (drop (length es) ys) more) → InOrder partners first second (tasks_in p i xs es ++ rest) (tasks_in 0 j ys (map new es ++ more))
+  in_part p i new [] ys [] rest more same each then = then
+  in_part p i new (x ∷ xs) ys [] rest more same each then = then
+  in_part p i new [] ys (e ∷ es) rest more same each then = let o = same 0 (omega arith) in let k = o.first in cc
+  in_part p i new (x ∷ xs) [] (e ∷ es) rest more same each then = let o = same 0 (omega arith) in let k = o.second in cc
+  in_part p i new (x ∷ xs) (y ∷ ys) (e ∷ es) rest more same each then =
       let o = same 0 (omega arith) in
       let first = o.first in
       let second = o.second in
       let is : x ≡ y = cc in
-      and_then_alike env parts (subst (λ a. FilledAlike env parts (f s (task p i x e)) (g z (task 0 j a (new e)))) is (each 0 x e refl refl s z like))
-      (λ s z like. in_part p i new xs ys es rest more (λ n l. let o = same (suc n) (omega (arith, l)) in record { address = o.address; first = o.first; second = o.second }) (λ n a e h k. each (suc n) a e h k) then s z like)
+      both (subst (λ a. partners (task p i x e) (task 0 j a (new e))) is (each 0 x e refl refl))
+      (in_part p i new xs ys es rest more (λ n l. let o = same (suc n) (omega (arith, l)) in record { address = o.address; first = o.first; second = o.second }) (λ n a e h k. each (suc n) a e h k) then)
 
-  module _ (insts : List Inst) (segs : Module → List A) (adds : Inst → List ℕ) (new : ℕ → Module → A → A) (before : ℕ → ℕ) (next : (p : ℕ) (m : Module) → module_at parts p ≡ Some m → before (suc p) ≡ before p + length (segs m))
-      (more : List A) (nothing : (ns : List ℕ) (s z : Store) → StoresAlike env parts s z → FilledAlike env parts (record { store = s; trapped = false }) (in_turn g z (tasks_in 0 j ns more))) where
-    pub by_parts : ((p : ℕ) (m : Module) → module_at parts p ≡ Some m → PartDoes env parts f g insts j segs adds new before p m) →
-        (p : ℕ) (rest : List Part) (is : List Inst) → ((q : ℕ) → module_at rest q ≡ module_at parts (p + q)) → ((q : ℕ) → slice_get is q ≡ slice_get insts (p + q)) → (s z : Store) → StoresAlike env parts s z →
-        FilledAlike env parts (in_turn f s (tasks_by segs adds p rest is)) (in_turn g z (tasks_in 0 j (drop (before p) (adds j)) (by_part_from (λ p m. map (new p m) (segs m)) p rest ++ more)))
-    by_parts does p [] is modules places s z like = nothing _ s z like
-    by_parts does p (part ∷ rest) [] modules places s z like =
+  module _ (parts : List Part) (insts : List Inst) (segs : Module → List A) (adds : Inst → List ℕ) (new : ℕ → Module → A → A) (before : ℕ → ℕ) (next : (p : ℕ) (m : Module) → module_at parts p ≡ Some m → before (suc p) ≡ before p + length (segs m))
+      (more : List A) (nothing : (ns : List ℕ) → InOrder partners first second [] (tasks_in 0 j ns more)) where
+    pub by_parts : ((p : ℕ) (m : Module) → module_at parts p ≡ Some m → PartStands partners insts j segs adds new before p m) →
+        (p : ℕ) (rest : List Part) (is : List Inst) → ((q : ℕ) → module_at rest q ≡ module_at parts (p + q)) → ((q : ℕ) → slice_get is q ≡ slice_get insts (p + q)) →
+        InOrder partners first second (tasks_by segs adds p rest is) (tasks_in 0 j (drop (before p) (adds j)) (by_part_from (λ p m. map (new p m) (segs m)) p rest ++ more))
+    by_parts stands p [] is modules places = nothing _
+    by_parts stands p (part ∷ rest) [] modules places =
         let zero_more : p + 0 ≡ p = omega arith in
-        let d = does p part.«module» (ap (module_at parts) (sym zero_more) ∙ sym (modules 0)) in
+        let d = stands p part.«module» (ap (module_at parts) (sym zero_more) ∙ sym (modules 0)) in
         let h = places 0 ∙ ap (slice_get insts) zero_more ∙ d.is in
         cc
-    by_parts does p (part ∷ rest) (i ∷ is) modules places s z like =
+    by_parts stands p (part ∷ rest) (i ∷ is) modules places =
         let m = part.«module» in
         let zero_more : p + 0 ≡ p = omega arith in
         let at_p : module_at parts p ≡ Some m = ap (module_at parts) (sym zero_more) ∙ sym (modules 0) in
-        let d = does p m at_p in
+        let d = stands p m at_p in
         let h : Some i ≡ Some d.inst = places 0 ∙ ap (slice_get insts) zero_more ∙ d.is in
         let same : d.inst ≡ i = cc in
-        let later : (s z : Store) → StoresAlike env parts s z → FilledAlike env parts (in_turn f s (tasks_by segs adds (suc p) rest is)) (in_turn g z (tasks_in 0 j (drop (length (segs m)) (drop (before p) (adds j))) (by_part_from (λ p m. map (new p m) (segs m)) (suc p) rest ++ more))) = λ s z like.
-        subst (λ ns. FilledAlike env parts (in_turn f s (tasks_by segs adds (suc p) rest is)) (in_turn g z (tasks_in 0 j ns (by_part_from (λ p m. map (new p m) (segs m)) (suc p) rest ++ more))))
+        let later : InOrder partners first second (tasks_by segs adds (suc p) rest is) (tasks_in 0 j (drop (length (segs m)) (drop (before p) (adds j))) (by_part_from (λ p m. map (new p m) (segs m)) (suc p) rest ++ more)) =
+        subst (λ ns. InOrder partners first second (tasks_by segs adds (suc p) rest is) (tasks_in 0 j ns (by_part_from (λ p m. map (new p m) (segs m)) (suc p) rest ++ more)))
         (sym (drop-drop (length (segs m)) (before p) (adds j) ∙ ap (λ i. drop i (adds j)) (sym (next p m at_p))))
-        (by_parts does (suc p) rest is (λ q. modules (suc q) ∙ (let e : p + suc q ≡ suc p + q = omega arith in ap (module_at parts) e)) (λ q. places (suc q) ∙ (let e : p + suc q ≡ suc p + q = omega arith in ap (slice_get insts) e)) s z like) in
-        subst (λ xs. FilledAlike env parts (in_turn f s (tasks_in p i (adds i) (segs m) ++ tasks_by segs adds (suc p) rest is)) (in_turn g z (tasks_in 0 j (drop (before p) (adds j)) xs)))
+        (by_parts stands (suc p) rest is (λ q. modules (suc q) ∙ (let e : p + suc q ≡ suc p + q = omega arith in ap (module_at parts) e)) (λ q. places (suc q) ∙ (let e : p + suc q ≡ suc p + q = omega arith in ap (slice_get insts) e))) in
+        subst (λ xs. InOrder partners first second (tasks_in p i (adds i) (segs m) ++ tasks_by segs adds (suc p) rest is) (tasks_in 0 j (drop (before p) (adds j)) xs))
         (sym (append_assoc (map (new p m) (segs m)) (by_part_from (λ p m. map (new p m) (segs m)) (suc p) rest) more))
         (in_part p i (new p m) (adds i) (drop (before p) (adds j)) (segs m) (tasks_by segs adds (suc p) rest is) (by_part_from (λ p m. map (new p m) (segs m)) (suc p) rest ++ more)
         (λ x l. let o = d.same x l in record { address = o.address; first = ap (λ i. slice_get (adds i) x) (sym same) ∙ o.first; second = drop_at (adds j) (before p) x ∙ o.second })
-        (λ x a e h k. subst (λ i. DoAlike env parts f g (task p i a e) (task 0 j a (new p m e))) same (d.each x a e h (ap (λ i. slice_get (adds i) x) same ∙ k))) later s z like)
+        (λ x a e h k. subst (λ i. partners (task p i a e) (task 0 j a (new p m e))) same (d.each x a e h (ap (λ i. slice_get (adds i) x) same ∙ k))) later)

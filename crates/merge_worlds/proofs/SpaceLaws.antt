@@ -1,6 +1,6 @@
 -- What is taken from the crates below.
-use Rattle.permuted_worlds.specs.Alone.{ImportsStandForTheEnvironments, SpacesAreImportsAndOwn}
-use Rattle.permuted_worlds.specs.Owned.{OwnEntitiesCorrespond}
+use Rattle.world_simulation.specs.Alone.{ImportsStandForTheEnvironments, SpacesAreImportsAndOwn}
+use Rattle.world_simulation.specs.Owned.{OwnEntitiesCorrespond}
 use Rattle.merge_validity.specs.Ended.{LinkedImportsEnd, StayingImportsEndThere, SitesAreImports, StayingImportsHavePlaces, NewIndicesArePlaces, DefinedEntitiesHavePlaces, TypesHavePlaces, MergedModulesDefineAll}
 
 pub record SpaceLaws : Type 0 where

@@ -21,9 +21,9 @@ use Rattle.merge_terms.specs.Merged.{staying_of, new_index}
 use Rattle.merge_validity.specs.Ended.{EndsInside, EndsOutside, Ended, inside, outside, is_external}
 use Rattle.merge_validity.proofs.ByPart.{before, defined_is}
 use Rattle.merge_validity.proofs.Same.{kind_is}
-use Rattle.permuted_worlds.specs.Owned.{SharesOwn, OwnEntitiesCorrespond}
-use Rattle.permuted_worlds.proofs.Defined.{defined_at}
-use Rattle.permuted_worlds.proofs.Places.{place_rel, opt_self}
+use Rattle.world_simulation.specs.Owned.{SharesOwn, OwnEntitiesCorrespond}
+use Rattle.world_simulation.proofs.Defined.{defined_at}
+use Rattle.world_simulation.proofs.Places.{place_rel, opt_self}
 use Rattle.merge_worlds.specs.Shared.{shared_count, is_shared, sharing}
 use Rattle.merge_worlds.proofs.SpaceLaws.{SpaceLaws}
 use Rattle.base_lists.proofs.Options.{and_then_is}
@@ -83,7 +83,7 @@ found_at is (y ∷ xs) x h = by (is y.0) h (λ h. found_at is xs x h)
     by true h on = let same : y.1 ≡ x = cc in (0, y.0, ap {A = Thing} {B = Option (OwnKey × Thing)} (λ z. Some (y.0, z)) same)
     by false h on = let r = on h in (suc r.0, r.1, r.2)
 
-thing_self : (R : Pairing) (xs : Owned) → ListRel (KeyRel R) xs xs → (is : OwnKey → Bool) (x : Thing) → given (look_up is xs) ≡ Some x → ThingRel R x x
+pub thing_self : (R : Pairing) (xs : Owned) → ListRel (KeyRel R) xs xs → (is : OwnKey → Bool) (x : Thing) → given (look_up is xs) ≡ Some x → ThingRel R x x
 thing_self R xs r is x h =
     let f = found_at is xs x h in
     let k : KeyRel R (f.1, x) (f.1, x) = opt_self (place_rel r f.0) f.2 in

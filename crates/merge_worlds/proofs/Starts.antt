@@ -19,12 +19,12 @@ use Rattle.merge_terms.specs.Faults.{link_fault}
 use Rattle.merge_terms.specs.Merged.{merged, map_of, new_index, start_of, starts, start_among, staying_of, by_part_from, start_calls}
 use Rattle.merge_terms.specs.Joined.{joined_module}
 use Rattle.merge_validity.specs.Ended.{added_count}
-use Rattle.permuted_worlds.specs.Alone.{one}
-use Rattle.permuted_worlds.proofs.Places.{map_length}
+use Rattle.world_simulation.specs.Alone.{one}
+use Rattle.world_simulation.proofs.Places.{map_length}
 use Rattle.merge_worlds.specs.Shared.{shared_count, sharing}
 use Rattle.merge_worlds.specs.Instances.{PartAgrees, InstancesAgree}
 use Rattle.merge_worlds.proofs.SpaceLaws.{SpaceLaws}
-use Rattle.merge_worlds.proofs.Instancing.{inst_is}
+use Rattle.world_simulation.proofs.Instancing.{inst_is}
 use Rattle.merge_worlds.proofs.Standing.{site_address, is_shared_at}
 use Rattle.merge_worlds.proofs.MergedAlone.{joined_keeps, names_of}
 use Rattle.merge_worlds.proofs.Instances.{map_entry, map_funcs, merged_part}

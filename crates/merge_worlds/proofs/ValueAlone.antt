@@ -15,9 +15,9 @@ use Rattle.wasm_meaning.specs.State.{Inst}
 use Rattle.wasm_meaning.specs.Linking.{Read, places, has_kind, imports_of, space_index}
 use Rattle.wasm_meaning.specs.Environment.{Environment, own_globals}
 use Rattle.wasm_meaning.specs.World.{numbers, own_count, defined_count, space, inst_of, insts_from, value_of_read, value_of}
-use Rattle.permuted_worlds.specs.Alone.{one, address_in, import_places, addresses, read_in, SpacesAreImportsAndOwn, ReadsStay}
-use Rattle.permuted_worlds.proofs.Places.{map_length}
-use Rattle.merge_worlds.proofs.Instancing.{IsInst, inst_is}
+use Rattle.world_simulation.specs.Alone.{one, address_in, import_places, addresses, read_in, SpacesAreImportsAndOwn, ReadsStay}
+use Rattle.world_simulation.proofs.Places.{map_length}
+use Rattle.world_simulation.proofs.Instancing.{IsInst, inst_is}
 use Rattle.base_lists.proofs.Options.{and_then_is, all_there_length}
 use Rattle.std.proofs.lemmas.Option.{slice_get_past}
 use Rattle.std.proofs.lemmas.List.{length-append}

@@ -11,9 +11,9 @@ use Rattle.wasm_meaning.specs.Linking.{Part, Read, module_at, read_of}
 use Rattle.wasm_meaning.specs.Environment.{Environment}
 use Rattle.index_remap.specs.Renumbered.{fits_tree}
 use Rattle.index_remap.specs.Laws.{RenumberedCodeIsRelated}
-use Rattle.permuted_worlds.specs.Alone.{SpacesAreImportsAndOwn, ReadsStay}
-use Rattle.permuted_worlds.specs.Named.{FittingCodeIsNamed}
-use Rattle.permuted_worlds.specs.Owned.{OwnEntitiesCorrespond}
+use Rattle.world_simulation.specs.Alone.{SpacesAreImportsAndOwn, ReadsStay}
+use Rattle.world_simulation.specs.Named.{FittingCodeIsNamed}
+use Rattle.world_simulation.specs.Owned.{OwnEntitiesCorrespond}
 use Rattle.export_names.specs.declared.mode.Mode.{Mode}
 use Rattle.merge_terms.specs.Faults.{link_fault}
 use Rattle.merge_terms.specs.Joined.{joined_module}
@@ -30,7 +30,7 @@ pub record Laws : Type 0 where
   pub entries : (parts : List Part) (p : ℕ) (m : Module) → IsValid m → IsTrue (fits_tree (map_of parts p m) m)
   pub reads : (parts : List Part) (p : ℕ) (m : Module) (e : ConstExpr) (ty : ValType) (r : Read) → EachPart IsValid parts → link_fault parts ≡ None → module_at parts p ≡ Some m → const_type m e ≡ Some ty → read_of parts p e ≡ Some r → HasEntry parts r
   pub there : (parts : List Part) (p : ℕ) (m : Module) (e : ConstExpr) (ty : ValType) → EachPart IsValid parts → link_fault parts ≡ None → module_at parts p ≡ Some m → const_type m e ≡ Some ty → (r : Read) × (read_of parts p e ≡ Some r)
-  -- of permuted_worlds
+  -- of world_simulation
   pub alone_reads : ReadsStay
   pub alone_spaces : SpacesAreImportsAndOwn
   pub own : OwnEntitiesCorrespond

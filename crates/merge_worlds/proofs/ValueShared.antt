@@ -10,9 +10,9 @@ use Rattle.wasm_meaning.specs.Values.{null_of}
 use Rattle.wasm_meaning.specs.Linking.{Part}
 use Rattle.wasm_meaning.specs.Environment.{Environment, own_funcs}
 use Rattle.index_remap.specs.Related.{Pairing, OneToOne, none, ListRel, RefRel, func, extern, FuncRel, own}
-use Rattle.permuted_worlds.specs.Owned.{SharesOwn, OwnCorrespond, OwnEntitiesCorrespond}
-use Rattle.permuted_worlds.proofs.Owned.{flat_rel}
-use Rattle.permuted_worlds.proofs.Places.{self_rel, maps_rel}
+use Rattle.world_simulation.specs.Owned.{SharesOwn, OwnCorrespond, OwnEntitiesCorrespond}
+use Rattle.world_simulation.proofs.Owned.{flat_rel}
+use Rattle.world_simulation.proofs.Places.{self_rel, maps_rel}
 use Rattle.merge_worlds.specs.Shared.{shared_count, is_shared, sharing}
 use Rattle.base_lists.proofs.Bools.{left_true, right_true}
 

@@ -16,8 +16,8 @@ use Rattle.wasm_meaning.specs.Environment.{Environment, own_globals}
 use Rattle.wasm_meaning.specs.World.{given, insts_from, const_value, value_of_read, value_of, ref_value, number_value}
 use Rattle.index_remap.specs.Renumbered.{new_const, fits_const}
 use Rattle.index_remap.specs.Related.{Pairing, OptRel, none, some, RefRel, func, ValRel, number, reference}
-use Rattle.permuted_worlds.specs.Alone.{one}
-use Rattle.permuted_worlds.proofs.Places.{then_rel, opt_at, place_rel}
+use Rattle.world_simulation.specs.Alone.{one}
+use Rattle.world_simulation.proofs.Places.{then_rel, opt_at, place_rel}
 use Rattle.export_names.specs.declared.mode.Mode.{Mode}
 use Rattle.merge_terms.specs.Joined.{joined_module}
 use Rattle.merge_terms.specs.Merged.{map_of, merged_read, merged_const}

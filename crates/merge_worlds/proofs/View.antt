@@ -5,7 +5,7 @@ use Rattle.wasm_tree.specs.declared.module.Module.{Module}
 use Rattle.wasm_meaning.specs.State.{Text, Inst}
 use Rattle.wasm_meaning.specs.Linking.{Part, Entity, module_at}
 use Rattle.wasm_meaning.specs.Environment.{Environment}
-use Rattle.wasm_meaning.specs.World.{address_in, seen_as, all_there, alone}
+use Rattle.wasm_meaning.specs.World.{address_in, seen_as, alone}
 use Rattle.index_remap.specs.Renumbered.{fits_export, new_export}
 use Rattle.index_remap.specs.Related.{OptRel, some, ListRel, nil, cons}
 use Rattle.index_remap.specs.RelatedRuns.{KeyRel}
@@ -13,7 +13,7 @@ use Rattle.export_names.specs.declared.mode.Mode.{Mode}
 use Rattle.merge_terms.specs.Merged.{merged, map_of, all_exports, named_exports}
 use Rattle.merge_terms.specs.Joined.{joined_module}
 use Rattle.merge_terms.specs.View.{all_entities, named_entities, merge_view}
-use Rattle.permuted_worlds.proofs.Places.{then_rel, opt_at, all_rel}
+use Rattle.world_simulation.proofs.Places.{then_rel, opt_at}
 use Rattle.merge_worlds.specs.Shared.{sharing}
 use Rattle.merge_worlds.specs.Instances.{InstancesAgree}
 use Rattle.merge_worlds.proofs.MergedAlone.{joined_keeps, names_of}
@@ -53,9 +53,9 @@ module _ (env : Environment) (parts : List Part) (fit : AllFit parts) (insts js 
       subst (λ q. ListRel (Sees env parts insts js) (map (λ e. record { part = q; what = e.desc }) m.exports) (map (new_export (map_of parts q m)) m.exports)) (sym from_0)
       (tested_maps (fits_export (map_of parts p m)) (λ e. record { part = p; what = e.desc }) (new_export (map_of parts p m)) m.exports (exports_fit (map_of parts p m) m (fit p m is)) (entity_seen p m is)))
 
-  pub view_agrees : (mode : Mode) → OptRel (ListRel (KeyRel (sharing env parts))) (all_there (seen_as insts) (merge_view parts mode)) (all_there (seen_as js) (alone (joined_module parts mode)).view)
+  pub view_agrees : (mode : Mode) → ListRel (λ x y. OptRel (KeyRel (sharing env parts)) (seen_as insts x) (seen_as js y)) (merge_view parts mode) (alone (joined_module parts mode)).view
   unfolding merge_view
   view_agrees mode =
       let exports = (joined_keeps parts mode).exports ∙ merged_exports_are parts (names_of parts mode) in
-      subst (λ es. OptRel (ListRel (KeyRel (sharing env parts))) (all_there (seen_as insts) (named_entities (all_entities parts) (names_of parts mode))) (all_there (seen_as js) (map seen_export es))) (sym exports)
-      (all_rel (named_rel env parts insts js entities_seen (names_of parts mode)))
+      subst (λ es. ListRel (λ x y. OptRel (KeyRel (sharing env parts)) (seen_as insts x) (seen_as js y)) (named_entities (all_entities parts) (names_of parts mode)) (map seen_export es)) (sym exports)
+      (named_rel env parts insts js entities_seen (names_of parts mode))

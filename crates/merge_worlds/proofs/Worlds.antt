@@ -1,42 +1,43 @@
 -- The world of linked parts and that of their merged module: both are instantiated or neither, and then they show the same.
-use Rattle.std.proofs.Common.{◌≡◌, ◌∙◌, ap, sym, subst, refl, ℕ, ◌+◌, ◌≤◌, List, [], ◌∷◌, length, Option, Some, None, Bool, true, false, cond, arith, option_and_then, append-nil}
+use Rattle.std.proofs.Common.{◌≡◌, ◌∙◌, ap, sym, subst, refl, ℕ, ◌+◌, ◌≤◌, List, [], ◌∷◌, length, Option, Some, None, Bool, true, false, cond, arith, append-nil}
 use Rattle.wasm_tree.specs.declared.space.Space.TheVariants.{Functions}
 use Rattle.wasm_tree.specs.declared.module.Module.{Module}
 use Rattle.wasm_meaning.specs.Outcomes.{Gives, bind, at}
-use Rattle.wasm_meaning.specs.State.{Text, Inst, Store}
+use Rattle.wasm_meaning.specs.State.{Inst, Store}
 use Rattle.wasm_meaning.specs.Control.{type_of_func}
 use Rattle.wasm_meaning.specs.Linking.{Part, sites}
-use Rattle.wasm_meaning.specs.Environment.{Environment, Thing, all_of}
-use Rattle.wasm_meaning.specs.World.{Begun, alone, inst_of, insts_from, own_store, stores_from, all_there, is_matched, segments, seen_as, starts_of, begun, instantiate}
+use Rattle.wasm_meaning.specs.Environment.{Environment, all_of}
+use Rattle.wasm_meaning.specs.World.{Begun, alone, inst_of, insts_from, own_store, stores_from, is_matched, segments, starts_of, begun, instantiate, is_there, links}
 use Rattle.wasm_meaning.specs.Run.{Event, Move, tick, events_of, IsPrefix, fresh_run}
-use Rattle.wasm_meaning.proofs.Prefixes.{prefix_trans, later}
+use Rattle.base_simulation.proofs.Prefixes.{prefix_trans, later}
 use Rattle.index_remap.specs.Related.{Pairing, OptRel, none, some, ListRel, nil, cons, opening}
-use Rattle.index_remap.specs.RelatedRuns.{KeyRel, BegunRel}
+use Rattle.index_remap.specs.RelatedRuns.{BegunRel}
 use Rattle.index_remap.specs.Laws.{EntryByEntry}
-use Rattle.permuted_worlds.specs.Alone.{one}
-use Rattle.permuted_worlds.specs.Instances.{RelatedBegunShowTheSame}
-use Rattle.permuted_worlds.specs.Starts.{NamesStart, CallsEach, OneStartMayCallSeveral}
-use Rattle.permuted_worlds.proofs.Places.{then_rel}
+use Rattle.world_simulation.specs.Alone.{one}
+use Rattle.world_simulation.specs.Instances.{RelatedBegunShowTheSame}
+use Rattle.world_simulation.specs.Starts.{NamesStart, CallsEach, OneStartMayCallSeveral}
+use Rattle.world_simulation.proofs.Places.{then_rel, opt_both, all_rel}
 use Rattle.export_names.specs.declared.mode.Mode.{Mode}
 use Rattle.merge_terms.specs.Merged.{starts}
 use Rattle.merge_terms.specs.Joined.{joined_module}
-use Rattle.merge_terms.specs.View.{merge_view, linked_world}
+use Rattle.merge_terms.specs.View.{linked_world}
 use Rattle.merge_validity.specs.Joinable.{CanBeJoined}
 use Rattle.merge_validity.specs.Started.{StartsTakeNothing}
 use Rattle.merge_worlds.specs.Shared.{shared_count, is_shared, sharing}
 use Rattle.merge_worlds.specs.Instances.{InstancesAgree}
-use Rattle.merge_worlds.specs.Stores.{StoresAlike, FilledAlike}
 use Rattle.merge_worlds.proofs.SpaceLaws.{SpaceLaws}
 use Rattle.merge_worlds.proofs.ValueShared.{one_to_one}
 use Rattle.merge_worlds.proofs.ValueGiven.{Laws}
-use Rattle.merge_worlds.proofs.Values.{value_rel}
-use Rattle.merge_worlds.proofs.Instancing.{IsInst, inst_is}
-use Rattle.merge_worlds.proofs.Instances.{BothAre, both_are, instances_agree}
-use Rattle.merge_worlds.proofs.Allocated.{stores_alike}
-use Rattle.merge_worlds.proofs.AllocatedRelated.{stores_rel, owned_rel}
+use Rattle.merge_worlds.proofs.Values.{are_one}
+use Rattle.world_simulation.proofs.Instancing.{IsInst, inst_is}
+use Rattle.merge_worlds.proofs.Instances.{both_are, instances_agree}
 use Rattle.merge_worlds.proofs.Named.{AllFit}
 use Rattle.merge_worlds.proofs.View.{view_agrees}
-use Rattle.merge_worlds.proofs.Segments.{segments_alike}
+use Rattle.merge_worlds.proofs.Segments.{elems_in_order, datas_in_order}
+use Rattle.merge_worlds.proofs.Definitions.{definitions_correspond, stores_both}
+use Rattle.merge_worlds.proofs.Standing.{shares_own}
+use Rattle.world_simulation.specs.Definitions.{DefinitionsCorrespond}
+use Rattle.world_simulation.specs.Simulation.{IsInstantiated, WhatIsInstantiated, AreSimilar, AllocatedStoresCorrespond, SimilarWorldsBeginAlike}
 use Rattle.merge_worlds.proofs.MatchAll.{all_matched}
 use Rattle.merge_worlds.proofs.Starts.{StartsAgree, starts_agree}
 use Rattle.merge_worlds.proofs.Called.{segments_keep_funcs, caller_code, starts_typed}
@@ -52,21 +53,29 @@ record BegunAgree (R : Pairing) (b c : Begun) : Type 0 where
   related : BegunRel R (EntryByEntry R) b (record c { starts = b.starts })
   starts : StartsAlike c b.starts
 
-linked : (R : Pairing) (b c : Bool) {x y : Begun} → b ≡ c → (c ≡ true → BegunAgree R x y) → OptRel (BegunAgree R) (cond b (Some x) None) (cond c (Some y) None)
-linked R b c {x} {y} e r = subst (λ b. OptRel (BegunAgree R) (cond b (Some x) None) (cond c (Some y) None)) (sym e) (go c r)
+-- both are there or neither
+there_same : {A B : Type 0} {P : A → B → Type 0} {o : Option A} {p : Option B} → OptRel P o p → is_there o ≡ is_there p
+there_same none = refl
+there_same (some r) = refl
+
+both_linked : {A B : Type 0} (b c : Bool) (x : A) (y : B) → b ≡ c → OptRel (λ x y. Unit {0}) (cond b (Some x) None) (cond c (Some y) None)
+both_linked b c x y e = subst (λ b. OptRel (λ x y. Unit {0}) (cond b (Some x) None) (cond c (Some y) None)) (sym e) (go c)
   where
-    go : (c : Bool) → (c ≡ true → BegunAgree R x y) → OptRel (BegunAgree R) (cond c (Some x) None) (cond c (Some y) None)
-    go true r = some (r refl)
-    go false r = none
+    go : (c : Bool) → OptRel (λ x y. Unit {0}) (cond c (Some x) None) (cond c (Some y) None)
+    go true = some tt
+    go false = none
 
 -- ---- instantiation ----
 
-module _ (spaces : SpaceLaws) (laws : Laws) (nothing : StartsTakeNothing) (env : Environment) (parts : List Part) (mode : Mode) (can : CanBeJoined parts mode) where
+module _ (spaces : SpaceLaws) (laws : Laws) (nothing : StartsTakeNothing) (similar_law : SimilarWorldsBeginAlike) (made_law : WhatIsInstantiated) (allocated_law : AllocatedStoresCorrespond) (env : Environment) (parts : List Part) (mode : Mode) (can : CanBeJoined parts mode) where
   abbrev R : Pairing
   R = sharing env parts
 
   abbrev J : Module
   J = joined_module parts mode
+
+  abbrev M : List Part
+  M = one (joined_module parts mode)
 
   fit : AllFit parts
   fit p m is = laws.entries parts p m (can.valid p m is)
@@ -78,78 +87,113 @@ module _ (spaces : SpaceLaws) (laws : Laws) (nothing : StartsTakeNothing) (env :
       let same : k.0 ≡ j = cc in
       inst_is env (one J) 0 J j (k.1 ∙ ap Some same)
 
-  module _ (insts js : List Inst) (i : BothAre (InstancesAgree env parts) (insts_from env parts 0 parts) (insts_from env (one (joined_module parts mode)) 0 (one (joined_module parts mode))) insts js) (s z : Store) (k : BothAre (StoresAlike env parts) (stores_from env parts insts (own_store env) 0 parts insts) (stores_from env (one (joined_module parts mode)) js (own_store env) 0 (one (joined_module parts mode)) js) s z) where
+  agree : (insts js : List Inst) → insts_from env parts 0 parts ≡ Some insts → insts_from env M 0 M ≡ Some js → InstancesAgree env parts insts js
+  agree insts js f g = opt_both (instances_agree spaces env parts mode can) f g
+
+  -- ---- the worlds correspond ----
+
+  definitions : (insts js : List Inst) → InstancesAgree env parts insts js → insts_from env M 0 M ≡ Some js → DefinitionsCorrespond R env (record { parts = parts; insts = insts }) (record { parts = M; insts = js })
+  definitions insts js k are =
+      subst (λ js. DefinitionsCorrespond R env (record { parts = parts; insts = insts }) (record { parts = M; insts = js })) (sym k.alone)
+      (definitions_correspond laws env parts mode can insts k.merged k.each (are_one laws env parts mode can insts js k are))
+
+  stores : (insts js : List Inst) → InstancesAgree env parts insts js → insts_from env M 0 M ≡ Some js → OptRel (λ s z. Unit {0}) (stores_from env parts insts (own_store env) 0 parts insts) (stores_from env M js (own_store env) 0 M js)
+  stores insts js k are =
+      subst (λ js. OptRel (λ s z. Unit {0}) (stores_from env parts insts (own_store env) 0 parts insts) (stores_from env M js (own_store env) 0 M js)) (sym k.alone)
+      (stores_both laws env parts mode can insts k.merged k.each (are_one laws env parts mode can insts js k are))
+
+  similar : AreSimilar R env (linked_world parts mode) (alone J)
+  similar insts js f g =
+      let k = agree insts js f g in
+      record {
+        own = shares_own env parts;
+        definitions = definitions insts js k g;
+        elems = elems_in_order laws env parts mode can (λ m valid. (laws.items m).0 valid) insts js k g;
+        datas = datas_in_order laws env parts mode can (λ m valid. (laws.items m).0 valid) insts js k g;
+        view = view_agrees env parts fit insts js k mode;
+      }
+
+  -- ---- the environment links both or neither ----
+
+  matched : (insts js : List Inst) (s z : Store) → insts_from env parts 0 parts ≡ Some insts → insts_from env M 0 M ≡ Some js → stores_from env parts insts (own_store env) 0 parts insts ≡ Some s → stores_from env M js (own_store env) 0 M js ≡ Some z →
+      all_of (is_matched env parts s) (sites parts) ≡ all_of (is_matched env M z) (sites M)
+  matched insts js s z f g h i =
+      let k = agree insts js f g in
+      all_matched spaces.ends spaces.stays spaces.sites spaces.types spaces.things spaces.own env parts mode can
+      (allocated_law (is_shared env parts) env (linked_world parts mode) (alone J) insts js s z (shares_own env parts) (definitions insts js k g) h i) insts js k h
+
+  linked : links env (linked_world parts mode) ≡ links env (alone J)
+  linked = there_same {P = λ x y. Unit {0}} (then_rel (both_are (instances_agree spaces env parts mode can)) (λ insts js i. then_rel (both_are (stores insts js i.related i.second)) (λ s z k. then_rel (all_rel (view_agrees env parts fit insts js i.related mode)) (λ xs ys view.
+      both_linked _ _ _ _ (matched insts js s z i.first i.second k.first k.second)))))
+
+  -- ---- the starts ----
+
+  module _ (b c : Begun) (x : IsInstantiated env (linked_world parts mode) b) (y : IsInstantiated env (alone (joined_module parts mode)) c) where
+    k : InstancesAgree env parts x.insts y.insts
+    k = agree x.insts y.insts x.are_insts y.are_insts
+
     abbrev j : Inst
-    j = i.related.merged
+    j = k.merged
 
     abbrev several : List ℕ
-    several = starts_of parts insts
-
-    filled : FilledAlike env parts (segments env parts insts s) (segments env (one J) js z)
-    filled = segments_alike env parts mode can (λ m valid. (laws.items m).0 valid) insts js i.related (λ p m e ty. value_rel laws env parts mode can insts js i.related i.second p m e ty) k.related
+    several = starts_of parts x.insts
 
     -- the store that segments were copied into has the functions that were allocated
     abbrev after : Store
-    after = (segments env (one J) js z).store
+    after = (segments env M y.insts y.allocated).store
 
-    same_funcs : after.funcs ≡ z.funcs
-    same_funcs = segments_keep_funcs env (one J) js z
+    same_funcs : after.funcs ≡ y.allocated.funcs
+    same_funcs = segments_keep_funcs env M y.insts y.allocated
 
-    agreed : StartsAgree env parts j several (starts_of (one J) js)
-    agreed = starts_agree spaces env parts can.linked mode fit insts js i.related i.second
+    agreed : StartsAgree env parts j several (starts_of M y.insts)
+    agreed = starts_agree spaces env parts can.linked mode fit x.insts y.insts k y.are_insts
 
-    calls_each : all_of (is_matched env (one J) z) (sites (one J)) ≡ true → (f g : ℕ) (fs : List ℕ) → starts parts ≡ f ∷ g ∷ fs → CallsEach after (shared_count env parts Functions) several
-    calls_each matched f g fs e =
-        let inst = is_inst j (i.second ∙ ap Some i.related.alone) in
-        let there : stores_from env (one J) (j ∷ []) (own_store env) 0 (one J) (j ∷ []) ≡ Some z = subst (λ js. stores_from env (one J) js (own_store env) 0 (one J) js ≡ Some z) i.related.alone k.second in
+    calls_each : (f g : ℕ) (fs : List ℕ) → starts parts ≡ f ∷ g ∷ fs → CallsEach after (shared_count env parts Functions) several
+    calls_each f g fs e =
+        let inst = is_inst j (y.are_insts ∙ ap Some k.alone) in
+        let there : stores_from env M (j ∷ []) (own_store env) 0 M (j ∷ []) ≡ Some y.allocated = subst (λ js. stores_from env M js (own_store env) 0 M js ≡ Some y.allocated) k.alone y.is_allocated in
         record {
           inst = j;
           calls = starts parts;
-          code = ap (λ fs. at fs (shared_count env parts Functions)) same_funcs ∙ caller_code spaces nothing env parts mode can j z inst there f g fs e;
-          each = starts_typed spaces nothing env parts mode can j z inst there matched several agreed.named (NamesStart after j)
+          code = ap (λ fs. at fs (shared_count env parts Functions)) same_funcs ∙ caller_code spaces nothing env parts mode can j y.allocated inst there f g fs e;
+          each = starts_typed spaces nothing env parts mode can j y.allocated inst there y.matched several agreed.named (NamesStart after j)
               (λ f a named typed. record { named = named; typed = ap (λ fs. bind (at fs a) (λ f. Gives (type_of_func f))) same_funcs ∙ typed });
         }
 
-    starts_alike : all_of (is_matched env (one J) z) (sites (one J)) ≡ true → (ys : List (Text × Thing)) → StartsAlike (begun env (alone J) js ys (segments env (one J) js z)) several
-    starts_alike matched ys = go (starts parts) refl
+    starts_alike : StartsAlike (begun env (alone J) y.insts y.view (segments env M y.insts y.allocated)) several
+    starts_alike = go (starts parts) refl
       where
-        go : (l : List ℕ) → starts parts ≡ l → StartsAlike (begun env (alone J) js ys (segments env (one J) js z)) several
+        go : (l : List ℕ) → starts parts ≡ l → StartsAlike (begun env (alone J) y.insts y.view (segments env M y.insts y.allocated)) several
         go [] e = the_same (agreed.few (let m = ap length e in omega (arith, m)))
         go (f ∷ []) e = the_same (agreed.few (let m = ap length e in omega (arith, m)))
-        go (f ∷ g ∷ fs) e = through_one (shared_count env parts Functions) (agreed.calls f g fs e) (calls_each matched f g fs e)
+        go (f ∷ g ∷ fs) e = through_one (shared_count env parts Functions) (agreed.calls f g fs e) (calls_each f g fs e)
 
-    begun_agrees : all_of (is_matched env (one J) z) (sites (one J)) ≡ true → (xs ys : List (Text × Thing)) → ListRel (KeyRel R) xs ys →
-        BegunAgree R (begun env (linked_world parts mode) insts xs (segments env parts insts s)) (begun env (alone J) js ys (segments env (one J) js z))
-    begun_agrees matched xs ys view = record {
-      related = record {
-        store = stores_rel env parts (segments env parts insts s).store after filled.store;
-        entries = cons (opening agreed.shared) nil;
-        closed = nil;
-        trapped = filled.trapped;
-        view = view;
-        owned = owned_rel spaces.own env parts;
-      };
-      starts = starts_alike matched ys;
-    }
+    starts_are : several ≡ b.starts
+    starts_are = ap (λ (b : Begun). b.starts) x.is
 
-    abbrev M : List Part
-    M = one J
+    begun_starts : StartsAlike c b.starts
+    begun_starts = subst (StartsAlike c) starts_are (subst (λ c. StartsAlike c several) y.is starts_alike)
 
-    rest : OptRel (BegunAgree R)
-        (option_and_then (λ view. cond (all_of (is_matched env parts s) (sites parts)) (Some (begun env (linked_world parts mode) insts view (segments env parts insts s))) None) (all_there (seen_as insts) (merge_view parts mode)))
-        (option_and_then (λ view. cond (all_of (is_matched env M z) (sites M)) (Some (begun env (alone J) js view (segments env M js z))) None) (all_there (seen_as js) (alone J).view))
-    rest =
-        then_rel (view_agrees env parts fit insts js i.related mode) (λ xs ys view.
-        linked R _ _ (all_matched spaces.ends spaces.stays spaces.sites spaces.types spaces.things env parts mode can k.related insts js i.related k.first) (λ matched. begun_agrees matched xs ys view))
+    shared_starts : ListRel (R.of Functions) b.starts b.starts
+    shared_starts = subst (λ l. ListRel (R.of Functions) l l) starts_are agreed.shared
+
+  -- ---- both are instantiated or neither ----
 
   begun_or_none : OptRel (BegunAgree R) (instantiate env (linked_world parts mode)) (instantiate env (alone J))
-  begun_or_none = then_rel (both_are (instances_agree spaces env parts mode can)) (λ insts js i. stores insts js i)
+  begun_or_none = go (instantiate env (linked_world parts mode)) (instantiate env (alone J)) refl refl linked
     where
-      stores : (insts js : List Inst) (i : BothAre (InstancesAgree env parts) (insts_from env parts 0 parts) (insts_from env (one J) 0 (one J)) insts js) →
-          OptRel (BegunAgree R)
-          (option_and_then (λ s. option_and_then (λ view. cond (all_of (is_matched env parts s) (sites parts)) (Some (begun env (linked_world parts mode) insts view (segments env parts insts s))) None) (all_there (seen_as insts) (merge_view parts mode))) (stores_from env parts insts (own_store env) 0 parts insts))
-          (option_and_then (λ s. option_and_then (λ view. cond (all_of (is_matched env (one J) s) (sites (one J))) (Some (begun env (alone J) js view (segments env (one J) js s))) None) (all_there (seen_as js) (alone J).view)) (stores_from env (one J) js (own_store env) 0 (one J) js))
-      stores insts js i = then_rel (both_are (stores_alike laws env parts mode can insts js i.related i.second)) (λ s z k. rest insts js i s z k)
+      go : (o p : Option Begun) → instantiate env (linked_world parts mode) ≡ o → instantiate env (alone J) ≡ p → is_there o ≡ is_there p → OptRel (BegunAgree R) o p
+      go None None f g e = none
+      go None (Some c) f g e = cc
+      go (Some b) None f g e = cc
+      go (Some b) (Some c) f g e =
+          let x = made_law env (linked_world parts mode) b f in
+          let y = made_law env (alone J) c g in
+          let q = similar_law (is_shared env parts) (one_to_one env parts) env (linked_world parts mode) (alone J) similar b c f g in
+          some (record {
+            related = record { store = q.store; entries = cons (opening (shared_starts b c x y)) nil; closed = nil; trapped = q.trapped; view = q.view; owned = q.owned };
+            starts = begun_starts b c x y;
+          })
 
 -- ---- what is seen ----
 
@@ -196,7 +240,7 @@ module _ (alike : RelatedBegunShowTheSame) (several : OneStartMayCallSeveral) (e
   agreeing_show none n = equal_show env moves None None (λ n. refl) n
   agreeing_show (some r) n = both_show _ _ r n
 
-pub show_the_same : SpaceLaws → Laws → StartsTakeNothing → RelatedBegunShowTheSame → OneStartMayCallSeveral → (env : Environment) (parts : List Part) (mode : Mode) → CanBeJoined parts mode → (moves : List Move) (n : ℕ) →
+pub show_the_same : SpaceLaws → Laws → StartsTakeNothing → SimilarWorldsBeginAlike → WhatIsInstantiated → AllocatedStoresCorrespond → RelatedBegunShowTheSame → OneStartMayCallSeveral → (env : Environment) (parts : List Part) (mode : Mode) → CanBeJoined parts mode → (moves : List Move) (n : ℕ) →
     ShowInFourMore env moves (instantiate env (linked_world parts mode)) (instantiate env (alone (joined_module parts mode))) n
-show_the_same spaces laws nothing alike several env parts mode can moves =
-    agreeing_show alike several env parts moves (begun_or_none spaces laws nothing env parts mode can)
+show_the_same spaces laws nothing similar made allocated alike several env parts mode can moves =
+    agreeing_show alike several env parts moves (begun_or_none spaces laws nothing similar made allocated env parts mode can)

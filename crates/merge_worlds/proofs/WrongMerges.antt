@@ -1,11 +1,12 @@
--- Three merges that are wrong, of small parts each: what is seen of the parts is not seen of such a module, by computation.
+-- Merges that are wrong, of two small parts each, with names: what is seen of the parts is not seen of such a module, by computation.
 use Rattle.std.proofs.Common.{◌≡◌, refl, ap, ◌∙◌, subst, ℕ, List, [], ◌∷◌, Bool, true, false, Some, None}
 use Rattle.std.specs.Prelude.{pos, ◌+◌, slice_index, IsTrue}
 use Rattle.wasm_tree.specs.declared.types.RefType.TheVariants as reft
 use Rattle.wasm_tree.specs.declared.types.ValType.TheVariants as valt
 use Rattle.wasm_tree.specs.declared.types.FuncType.{FuncType}
+use Rattle.wasm_tree.specs.declared.types.BlockType.TheVariants as bt
 use Rattle.wasm_tree.specs.declared.types.Limits.{Limits}
-use Rattle.wasm_tree.specs.declared.instr.Instr.{Instr, fold-Instr, fold_out-Instr, out-Instr}
+use Rattle.wasm_tree.specs.declared.instr.Instr.{Instr, fold-Instr, fold_out-Instr, out-Instr, the_lemmas}
 use Rattle.wasm_tree.specs.declared.instr.Instr.TheVariants as i
 use Rattle.wasm_tree.specs.declared.module.Func.{Func}
 use Rattle.wasm_tree.specs.declared.module.Import.{Import}
@@ -27,14 +28,22 @@ use Rattle.export_names.specs.declared.mode.Mode.TheVariants as mode
 use Rattle.merge_terms.specs.Faults.{link_fault, import_fault, stays, kept_limits, clash_fault, memory_count, memory_fault, own_globals, global_fault}
 use Rattle.merge_terms.specs.Merged.{staying, staying_of, place_of_end, new_index, merged_types, place_of_type, map_of, merged_const, merged_import, starts, defined_funcs, all_exports, merged}
 use Rattle.merge_terms.specs.Joined.{joined_module}
+use Rattle.merge_terms.specs.declared.parts.Part as given
+use Rattle.merge_terms.specs.Parts.{named_modules}
 use Rattle.merge_terms.specs.View.{linked_world, all_entities, merge_view}
 use Rattle.merge_worlds.specs.Laws.{BehavesAs}
 
 -- ---- what is common ----
 
--- the names own, f, g and m
+-- the names own, a, b, f, g and m
 abbrev own : Text
 own = 111 ∷ (119 ∷ (110 ∷ []))
+
+abbrev a : Text
+a = 97 ∷ []
+
+abbrev b : Text
+b = 98 ∷ []
 
 abbrev pub f : Text
 f = 102 ∷ []
@@ -63,8 +72,12 @@ own_func field ty = record { «module» = own; field = field; desc = im.Func ty 
 abbrev offered : Text → Offer
 offered field = record { pair = (own, field); funcs = nothing ∷ []; table = None; memory = None; global = None }
 
-abbrev pub part : Module → Part
-part x = record { name = None; «module» = x }
+-- the parts a and b, as `join` is given them, and as linking by name speaks of them
+abbrev pub two_given : Module → Module → List given.Part
+two_given x y = record { name = a; «module» = x } ∷ (record { name = b; «module» = y } ∷ [])
+
+abbrev pub two_parts : Module → Module → List Part
+two_parts x y = named_modules (two_given x y)
 
 abbrev asks : Text → Event
 asks field = Asked (own, field) nothing []
@@ -80,6 +93,12 @@ refused : (parts : List Part) (wrong : Module) (env : Environment) (moves : List
     events (linked_world parts mode.Refuse) env moves n ≡ xs → events (alone wrong) env moves (n + 4) ≡ ys → (IsPrefix xs ys → ⊥) → BehavesAs parts mode.Refuse wrong → ⊥
 refused parts wrong env moves n xs ys fit seen shown apart same =
     apart (subst (λ es. IsPrefix es ys) seen (subst (IsPrefix (events (linked_world parts mode.Refuse) env moves n)) shown (same env fit tt moves n).0))
+
+-- The other way round: where what is seen of a module does not begin what is seen of the parts, in four steps more.
+refused_by_more : (parts : List Part) (wrong : Module) (env : Environment) (moves : List Move) (n : ℕ) (xs ys : List Event) → IsTrue (is_environment env) →
+    events (alone wrong) env moves n ≡ xs → events (linked_world parts mode.Refuse) env moves (n + 4) ≡ ys → (IsPrefix xs ys → ⊥) → BehavesAs parts mode.Refuse wrong → ⊥
+refused_by_more parts wrong env moves n xs ys fit seen shown apart same =
+    apart (subst (λ es. IsPrefix es ys) seen (subst (IsPrefix (events (alone wrong) env moves n)) shown (same env fit tt moves n).1))
 
 abbrev asked_field : Event → Text
 asked_field (Asked pair ty xs) = pair.1
@@ -138,7 +157,7 @@ abbrev pub starting : Text → Module
 starting field = record empty { types = nothing ∷ []; imports = own_func field 0 ∷ []; funcs = code 0 (i.Call 0 ∷ []) ∷ []; start = Some 1 }
 
 abbrev pub two_starts : List Part
-two_starts = part (starting f) ∷ (part (starting g) ∷ [])
+two_starts = two_parts (starting f) (starting g)
 
 abbrev pub two_starts_merged : Module
 two_starts_merged = record empty {
@@ -224,7 +243,7 @@ calling = record empty {
 
 -- the first part has another type
 abbrev pub two_types : List Part
-two_types = part (record empty { types = from_i32 ∷ [] }) ∷ (part calling ∷ [])
+two_types = two_parts (record empty { types = from_i32 ∷ [] }) calling
 
 -- with this type index in the indirect call
 abbrev pub two_types_with : ℕ → Module
@@ -274,7 +293,7 @@ abbrev pub own_memory : ℕ → Import
 own_memory n = record { «module» = own; field = m; desc = im.Memory (pages_from n) }
 
 abbrev pub one_memory : List Part
-one_memory = part (record empty { imports = own_memory 0 ∷ [] }) ∷ (part (record empty { imports = own_memory 1 ∷ [] }) ∷ [])
+one_memory = two_parts (record empty { imports = own_memory 0 ∷ [] }) (record empty { imports = own_memory 1 ∷ [] })
 
 -- with this minimum
 abbrev pub one_memory_from : ℕ → Module
@@ -308,3 +327,46 @@ the_first_limits_ask_for_no_page = refl
 -- a merge that keeps the first limits of a memory that two parts import is refused
 pub first_limits_are_refused : BehavesAs one_memory mode.Refuse (one_memory_from 0) → ⊥
 first_limits_are_refused = refused one_memory (one_memory_from 0) no_page [] 2 _ _ refl the_parts_find_no_page the_first_limits_ask_for_no_page (λ p. let h : true ≡ false = ap (first_is is_fault) p.1 in cc)
+
+-- ---- a start that does not end ----
+
+-- its start begins again and again
+abbrev begins_again : List Instr
+begins_again = i.Loop bt.Empty (i.Br 0 ∷ []) ∷ []
+
+abbrev pub never_ending : Module
+never_ending = record empty { types = nothing ∷ []; funcs = code 0 begins_again ∷ []; start = Some 0 }
+
+abbrev pub no_end : List Part
+no_end = two_parts never_ending empty
+
+-- the module without the start
+abbrev pub without_start : Module
+without_start = record never_ending { start = None }
+
+new_branch : (m : Remap) (n : ℕ) → fold-Instr Instr (map_operands (entry m)) (i.Br n) ≡ i.Br n
+unfolding out-Instr denote.Hole.Carrier.out
+new_branch m n = fold_out-Instr Instr (map_operands (entry m)) (i.Br n)
+
+branch_refs : (n : ℕ) → fold-Instr (List ℕ) refs_step (i.Br n) ≡ []
+unfolding out-Instr denote.Hole.Carrier.out
+branch_refs n = fold_out-Instr (List ℕ) refs_step (i.Br n)
+
+pub no_end_has_no_fault : link_fault no_end ≡ None
+unfolding link_fault import_fault stays kept_limits clash_fault memory_count memory_fault own_globals global_fault
+no_end_has_no_fault = refl
+
+pub no_end_joins : joined_module no_end mode.Refuse ≡ never_ending
+unfolding joined_module merged staying staying_of place_of_end new_index merged_types place_of_type map_of merged_const merged_import starts defined_funcs all_exports stays
+no_end_joins = simp (new_branch, branch_refs, the_lemmas) refl
+
+without_the_start_it_links : events (alone without_start) [] [] 2 ≡ Linked ∷ []
+without_the_start_it_links = refl
+
+the_parts_do_not_link : events (linked_world no_end mode.Refuse) [] [] 6 ≡ []
+unfolding all_entities merge_view
+the_parts_do_not_link = simp (i.outs-Loop, i.outs-Br) refl
+
+-- a merge that leaves out a start which does not end is refused, since it shows what the parts do not
+pub starts_without_end_are_not_left_out : BehavesAs no_end mode.Refuse without_start → ⊥
+starts_without_end_are_not_left_out = refused_by_more no_end without_start [] [] 2 _ _ refl without_the_start_it_links the_parts_do_not_link (λ p. cc)

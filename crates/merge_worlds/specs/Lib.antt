@@ -1,4 +1,3 @@
 pub mod Shared
 pub mod Instances
-pub mod Stores
 pub mod Laws

@@ -69,19 +69,34 @@ surplus_values_are_dropped = simp (i.outs-Block, i.outs-I32Const, i.outs-Bin) re
 -- ---- labels that are not taken ----
 
 -- what a branch would take is missing, and the branch is not taken
-a_branch_not_taken_wants_its_values : f_gives (gives (num 0 ∷ (i.BrIf 0 ∷ (num 6 ∷ [])))) 25 ≡ Linked ∷ (Trapped ∷ [])
+a_branch_not_taken_takes_nothing : f_gives (gives (num 0 ∷ (i.BrIf 0 ∷ (num 6 ∷ [])))) 25 ≡ returns (Number 6 ∷ [])
 unfolding out-Instr denote.Hole.Carrier.out wrapped un_from un_to un_value bin_from bin_to bin_value load_to load_width loaded store_from stored
-a_branch_not_taken_wants_its_values = refl
+a_branch_not_taken_takes_nothing = refl
 
 -- the label is missing, and the branch is not taken
-a_branch_not_taken_wants_its_label : f_gives (gives (num 5 ∷ (num 0 ∷ (i.BrIf 1 ∷ [])))) 25 ≡ Linked ∷ (Trapped ∷ [])
+a_branch_not_taken_wants_no_label : f_gives (gives (num 5 ∷ (num 0 ∷ (i.BrIf 1 ∷ [])))) 25 ≡ returns (Number 5 ∷ [])
 unfolding out-Instr denote.Hole.Carrier.out wrapped un_from un_to un_value bin_from bin_to bin_value load_to load_width loaded store_from stored
-a_branch_not_taken_wants_its_label = refl
+a_branch_not_taken_wants_no_label = refl
 
--- a label that is not chosen is missing
-each_label_of_a_table_is_wanted : f_gives (gives (num 5 ∷ (num 0 ∷ (i.BrTable (0 ∷ (1 ∷ [])) 0 ∷ [])))) 25 ≡ Linked ∷ (Trapped ∷ [])
+-- the same label is missing, and the branch is taken
+a_branch_that_is_taken_wants_its_label : f_gives (gives (num 5 ∷ (num 1 ∷ (i.BrIf 1 ∷ [])))) 25 ≡ Linked ∷ (Trapped ∷ [])
 unfolding out-Instr denote.Hole.Carrier.out wrapped un_from un_to un_value bin_from bin_to bin_value load_to load_width loaded store_from stored
-each_label_of_a_table_is_wanted = refl
+a_branch_that_is_taken_wants_its_label = refl
+
+-- so is what it takes
+a_branch_that_is_taken_wants_its_values : f_gives (gives (num 1 ∷ (i.BrIf 0 ∷ (num 6 ∷ [])))) 25 ≡ Linked ∷ (Trapped ∷ [])
+unfolding out-Instr denote.Hole.Carrier.out wrapped un_from un_to un_value bin_from bin_to bin_value load_to load_width loaded store_from stored
+a_branch_that_is_taken_wants_its_values = refl
+
+-- a label of a table that is not chosen is missing, and so is the last
+a_label_that_is_not_chosen_is_not_wanted : f_gives (gives (num 5 ∷ (num 0 ∷ (i.BrTable (0 ∷ (1 ∷ [])) 1 ∷ [])))) 25 ≡ returns (Number 5 ∷ [])
+unfolding out-Instr denote.Hole.Carrier.out wrapped un_from un_to un_value bin_from bin_to bin_value load_to load_width loaded store_from stored
+a_label_that_is_not_chosen_is_not_wanted = refl
+
+-- the label that is chosen is missing
+the_label_that_is_chosen_is_wanted : f_gives (gives (num 5 ∷ (num 1 ∷ (i.BrTable (0 ∷ (1 ∷ [])) 0 ∷ [])))) 25 ≡ Linked ∷ (Trapped ∷ [])
+unfolding out-Instr denote.Hole.Carrier.out wrapped un_from un_to un_value bin_from bin_to bin_value load_to load_width loaded store_from stored
+the_label_that_is_chosen_is_wanted = refl
 
 -- ---- values that enter a block, a loop or an if ----
 

@@ -1,9 +1,9 @@
-pub mod Prefixes
 mod SmallRuns
 mod MoreRuns
 mod EmbedderRuns
 mod IllTypedRuns
 mod FurtherRuns
+mod EnvironmentRows
 mod TurnRuns
 mod LoaderRuns
 mod TellingRuns

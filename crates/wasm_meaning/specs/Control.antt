@@ -1,5 +1,5 @@
 -- Calls, ends, branches and blocks (WebAssembly Core 2.0, sections 4.4.8 to 4.4.10).
-use Rattle.std.proofs.Common.{ℕ, List, [], ◌∷◌, ◌++◌, length, cond, drop}
+use Rattle.std.proofs.Common.{ℕ, List, [], ◌∷◌, ◌++◌, length, cond, drop, slice_get, unwrap_or}
 use Rattle.std.specs.Prelude.{nat_eq}
 use Rattle.wasm_tree.specs.declared.types.ValType.{ValType}
 use Rattle.wasm_tree.specs.declared.types.FuncType.{FuncType}
@@ -7,7 +7,7 @@ use Rattle.wasm_tree.specs.declared.types.BlockType.{BlockType}
 use Rattle.wasm_tree.specs.declared.types.BlockType.TheVariants as bt
 use Rattle.wasm_tree.specs.declared.instr.Instr.{Instr}
 use Rattle.wasm_tree.specs.declared.instr.Instr.TheVariants as i
-use Rattle.wasm_meaning.specs.Outcomes.{Outcome, Gives, Traps, IllTyped, trapping, or_trap, or_other, bind, at, onto, split_at}
+use Rattle.wasm_meaning.specs.Outcomes.{Outcome, Gives, Traps, IllTyped, trapping, or_trap, bind, at, onto, split_at}
 use Rattle.wasm_num.specs.Operations.{W32}
 use Rattle.wasm_meaning.specs.State.{Pair, RefVal, FuncRef, ExternRef, Val, Inst, Func, Code, Own, Placeholder, Table, Store, Level, Env, Body, Act, Calls, Ends}
 use Rattle.wasm_meaning.specs.Values.{pop_num, pop_typed, go, with_values}
@@ -71,19 +71,13 @@ level_here h = record { values = h.values; code = h.rest; gives = h.gives; takes
 abbrev pub branch : Body → ℕ → Outcome Act
 branch h n = bind (at (level_here h ∷ h.outer) n) (λ t. bind (split_at t.takes h.values) (λ p. resume h p.0 t.back (drop n h.outer)))
 
--- the label and what a branch to it takes have to be there, also where it is not taken
+-- a branch where the number on top is not 0; where it is, the label is not looked at
 abbrev pub branch_if : Body → ℕ → Outcome Act
-branch_if h n = bind (pop_num W32 h.values) (λ p. bind (branch (with_values h p.1) n) (λ taken. Gives (cond (nat_eq p.0 0) (go (with_values h p.1)) taken)))
+branch_if h n = bind (pop_num W32 h.values) (λ p. cond (nat_eq p.0 0) (Gives (go (with_values h p.1))) (branch (with_values h p.1) n))
 
--- what a branch to each of these labels comes to
-abbrev pub branches : Body → List ℕ → Outcome (List Act)
-branches h [] = Gives []
-branches h (n ∷ ns) = bind (branch h n) (λ a. bind (branches h ns) (λ rest. Gives (a ∷ rest)))
-
--- each label and what a branch to it takes have to be there, also those that are not chosen
-abbrev pub branch_table : Body → List ℕ → ℕ → Outcome Act
-branch_table h ns n =
-    bind (pop_num W32 h.values) (λ p. bind (branch (with_values h p.1) n) (λ last. bind (branches (with_values h p.1) ns) (λ taken. Gives (or_other (at taken p.0) last))))
+-- a branch to the label at the place that is on top, or past their end to the last one; the others are not looked at
+abbrev pub branch_table : Body → List ℕ → (last : ℕ) → Outcome Act
+branch_table h ns last = bind (pop_num W32 h.values) (λ p. branch (with_values h p.1) (unwrap_or (slice_get ns p.0) last))
 
 -- ---- blocks ----
 

@@ -1,7 +1,7 @@
 -- Imports that are joined by name: where they end, what is asked of what stays, and what constant expressions read through them.
 -- An import whose module is a part's name is joined with that part's export of the field's name, if there is one; otherwise it stays an import.
 use Rattle.wasm_tree.specs.declared.space.Space.TheVariants.{Memories, Globals}
-use Rattle.std.proofs.Common.{ℕ, zero, suc, ◌-◌, List, [], ◌∷◌, ◌++◌, map, length, Option, Some, None, Bool, true, false, cond, slice_get, ◌&&◌}
+use Rattle.std.proofs.Common.{ℕ, zero, suc, ◌-◌, List, [], ◌∷◌, ◌++◌, map, length, Option, Some, None, Bool, false, cond, slice_get, ◌&&◌}
 use Rattle.wasm_tree.specs.declared.space.Space.{Space}
 use Rattle.wasm_tree.specs.Operands.{same_space}
 use Rattle.base_lists.specs.Same.{each_same}

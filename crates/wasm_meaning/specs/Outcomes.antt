@@ -24,12 +24,6 @@ abbrev pub or_trap : {A : Type 0} → Option A → Outcome A
 or_trap None = Traps
 or_trap (Some a) = Gives a
 
--- what is given, or the other where nothing is
-abbrev pub or_other : {A : Type 0} → Outcome A → A → A
-or_other (Gives a) b = a
-or_other Traps b = b
-or_other IllTyped b = b
-
 -- the element at a place; ill typed where there is no such place
 abbrev pub at : {A : Type 0} → List A → ℕ → Outcome A
 at [] n = IllTyped

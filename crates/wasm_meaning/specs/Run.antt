@@ -1,6 +1,7 @@
 -- The embedder's moves, and runs. A run instantiates its world, opens the starts and the view, and then makes steps and takes moves; what others see of it are its events.
-use Rattle.std.proofs.Common.{◌≡◌, ℕ, zero, suc, ◌+◌, ◌*◌, List, [], ◌∷◌, ◌++◌, length, Option, Some, None, Bool, true, false, cond}
+use Rattle.std.proofs.Common.{ℕ, suc, ◌+◌, ◌*◌, List, [], ◌∷◌, ◌++◌, length, Option, Some, None, Bool, true, false, cond}
 use Rattle.wasm_tree.specs.declared.space.Space.{Space}
+pub use Rattle.base_simulation.specs.Machines.{events_of, IsPrefix}
 use Rattle.wasm_tree.specs.declared.space.Space.TheVariants.{Tables, Memories}
 use Rattle.std.specs.Prelude.{nat_lt, nat_eq, IsTrue}
 use Rattle.wasm_tree.specs.declared.types.ValType.{ValType}
@@ -321,23 +322,6 @@ tick r = tick_at r r.entries
 
 -- ---- runs ----
 
-abbrev pub noted : {E : Type 0} → Option E → List E → List E
-noted None es = es
-noted (Some e) es = e ∷ es
-
--- the events of the first n steps of a machine
-abbrev pub events_of : {S E : Type 0} → (S → S × Option E) → S → ℕ → List E
-events_of t s zero = []
-events_of t s (suc n) = let o = t s in noted o.1 (events_of t o.0 n)
-
--- its state after n steps
-abbrev pub state_after : {S E : Type 0} → (S → S × Option E) → S → ℕ → S
-state_after t s zero = s
-state_after t s (suc n) = state_after t (t s).0 n
-
-abbrev pub IsPrefix : {E : Type 0} → List E → List E → Type 0
-IsPrefix {E} xs ys = (rest : List E) × (xs ++ rest ≡ ys)
-
 -- a run that is about to enter what was instantiated; the environment's own entities are there also where nothing is
 abbrev pub fresh_run : Environment → Option Begun → List Move → Run
 fresh_run env b moves =
@@ -355,8 +339,9 @@ fresh_run env b moves =
 abbrev pub events : World → Environment → List Move → ℕ → List Event
 events w env moves n = events_of tick (fresh_run env (instantiate env w) moves) n
 
--- In each environment of those named, by each list of moves, whatever is seen of the one in n steps is seen of the other in f n, and the other way round in g n.
-abbrev pub Same : (Environment → Type 0) → World → World → (ℕ → ℕ) → (ℕ → ℕ) → Type 0
+-- Of two ways to run, as of a world at once, in turn or under a loader, each with the events of its first n steps: in each environment of those named, by each
+-- list of moves, whatever is seen of the one in n steps is seen of the other in f n, and the other way round in g n.
+abbrev pub Same : (named : Environment → Type 0) → (v w : Environment → List Move → ℕ → List Event) → (f g : ℕ → ℕ) → Type 0
 Same named v w f g =
     (env : Environment) → IsTrue (is_environment env) → named env → (moves : List Move) (n : ℕ) →
-    IsPrefix (events v env moves n) (events w env moves (f n)) × IsPrefix (events w env moves n) (events v env moves (g n))
+    IsPrefix (v env moves n) (w env moves (f n)) × IsPrefix (w env moves n) (v env moves (g n))

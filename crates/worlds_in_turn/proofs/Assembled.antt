@@ -16,9 +16,8 @@ use Rattle.wasm_meaning.specs.Run.{IsPrefix, fresh_run, tick, events_of}
 use Rattle.wasm_meaning.specs.Below.{BelowIsNotSeen}
 use Rattle.wasm_meaning.specs.InTurn.{events_in_turn}
 use Rattle.index_remap.specs.Laws.{CodeIsRelatedToItself, RelatedTicksAgree, OthersStay}
-use Rattle.permuted_worlds.specs.Owned.{OwnEntitiesCorrespond}
+use Rattle.world_simulation.specs.Owned.{OwnEntitiesCorrespond}
 use Rattle.merge_validity.proofs.Same.{func_type_is}
-use Rattle.permuted_worlds.specs.Silent.{BudgetedTurnsShowTheSame}
 use Rattle.worlds_in_turn.specs.Laws.{TurnsAreNotSeen}
 use Rattle.worlds_in_turn.proofs.Making.{nothing_to_nothing}
 use Rattle.worlds_in_turn.proofs.Given.{IsGiven}
@@ -65,7 +64,7 @@ instantiated env w b h =
     go insts allocated view a s v true m e = record { insts = insts; allocated = allocated; view = view; are = a; stores_are = s; view_is = v; matched = m; is = same_Some _ _ e }
     go insts allocated view a s v false m e = cc
 
-module _ (items : (m : Module) → IsValid m ↔ ((k : ItemKind) (i : ℕ) → i < count_of m true k → HoldsAt m k i)) (below : BelowIsNotSeen) (itself : CodeIsRelatedToItself) (ticks : RelatedTicksAgree) (others : OthersStay) (own : OwnEntitiesCorrespond) (budget : BudgetedTurnsShowTheSame) where
+module _ (items : (m : Module) → IsValid m ↔ ((k : ItemKind) (i : ℕ) → i < count_of m true k → HoldsAt m k i)) (below : BelowIsNotSeen) (itself : CodeIsRelatedToItself) (ticks : RelatedTicksAgree) (others : OthersStay) (own : OwnEntitiesCorrespond) where
   -- the start of a valid module
   start_type : (m : Module) (x : ℕ) → IsValid m → m.start ≡ Some x → type_of_func m x ≡ Some nothing_to_nothing
   start_type m x valid e =
@@ -98,6 +97,6 @@ module _ (items : (m : Module) → IsValid m ↔ ((k : ItemKind) (i : ℕ) → i
         no_segments = none_active;
       } in
       let laws = fill_laws env w k.insts k.allocated given k.stores_are fine (λ p m is_part. valid_constants items m (valid p m is_part)) itself below ticks others k.view k.view_is in
-      let seen = seen_the_same env w k.insts k.allocated given itself below ticks others k.view k.view_is (FilledUpto env w.parts k.insts k.allocated) laws fine moves budget some n in
+      let seen = seen_the_same env w k.insts k.allocated given itself below ticks others k.view k.view_is (FilledUpto env w.parts k.insts k.allocated) laws fine moves some n in
       let at_once = λ (n : ℕ). ap (λ o. events_of tick (fresh_run env o moves) n) (begins.1 ∙ ap Some (sym k.is)) in
       (subst (λ l. IsPrefix l (events_in_turn w env moves (n + 4 * length w.parts))) (sym (at_once n)) seen.0, subst (λ l. IsPrefix (events_in_turn w env moves n) l) (sym (at_once (n + 4 * length w.parts))) seen.1)

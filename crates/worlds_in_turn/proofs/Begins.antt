@@ -16,7 +16,7 @@ use Rattle.index_remap.specs.Related.{Pairing, BothRel, both, ListRel, nil, cons
 use Rattle.index_remap.specs.Related as to
 use Rattle.index_remap.specs.Laws.{CodeIsRelatedToItself, RelatedTicksAgree, OthersStay}
 use Rattle.index_remap.proofs.Rel.{append_rel}
-use Rattle.permuted_worlds.specs.Owned.{OwnCorrespond}
+use Rattle.world_simulation.specs.Owned.{OwnCorrespond}
 use Rattle.worlds_in_turn.proofs.Extends.{TableExtends, MemoryExtends, GlobalExtends, EachExtends, Extends, stays}
 use Rattle.worlds_in_turn.proofs.Extends as extends
 use Rattle.worlds_in_turn.proofs.Joined.{made_upto}

@@ -12,7 +12,7 @@ use Rattle.wasm_tree.specs.Spaces.{index_of_export, space_of_export, space_of_im
 use Rattle.wasm_meaning.specs.Environment.{Environment, Thing, OwnKey}
 use Rattle.wasm_meaning.specs.World.{all_there, defined_count, own_count, base, thing_at, address_of, import_type, own_key_of, own_key, thing_of, imported_thing, numbers}
 use Rattle.wasm_meaning.specs.InTurn.{JoinsEarlier}
-use Rattle.permuted_worlds.proofs.Defined.{defined_at}
+use Rattle.world_simulation.proofs.Defined.{defined_at}
 use Rattle.worlds_in_turn.proofs.Things.{IsInst, space_in, in_space, space_is, held_external}
 use Rattle.worlds_in_turn.proofs.Joined.{ExportsThere}
 use Rattle.worlds_in_turn.proofs.Reached.{defined_next, defined_more}

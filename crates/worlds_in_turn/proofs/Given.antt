@@ -10,7 +10,7 @@ use Rattle.wasm_meaning.specs.Environment.{Environment, owned_of, all_of}
 use Rattle.wasm_meaning.specs.World.{World, Filled, store_with, const_value, joined_stores, all_there, insts_from, is_matched, start_in, starts_of}
 use Rattle.wasm_meaning.specs.Run.{InstanceTrapped}
 use Rattle.wasm_meaning.specs.InTurn.{Made, next_inst, closed_by, added, added_as, thing_for, own_segments, InTurn, goes_on, part_added, turn_at, tick_in_turn, JoinsEarlier, HasNoActive, NoLateSegments}
-use Rattle.permuted_worlds.specs.Owned.{OwnEntitiesCorrespond}
+use Rattle.world_simulation.specs.Owned.{OwnEntitiesCorrespond}
 use Rattle.worlds_in_turn.proofs.Joined.{ExportsThere, made_upto}
 use Rattle.worlds_in_turn.proofs.Turn.{Sized, Holds, SitesThere, comes}
 use Rattle.worlds_in_turn.proofs.Beside.{Laid}

@@ -32,3 +32,4 @@ mod FillGiven
 mod FillWorld
 mod Started
 mod Assembled
+mod Examples

@@ -11,7 +11,7 @@ use Rattle.wasm_tree.specs.Spaces.{index_of_export, space_of_export}
 use Rattle.wasm_meaning.specs.Environment.{Environment, Thing, owned_of, owned_at}
 use Rattle.wasm_meaning.specs.World.{given, own_key, defined_count, base, thing_at, address_of, imported_thing, thing_of, all_there, numbers, insts_from, address_in}
 use Rattle.wasm_meaning.specs.InTurn.{JoinsEarlier}
-use Rattle.permuted_worlds.specs.Owned.{OwnEntitiesCorrespond}
+use Rattle.world_simulation.specs.Owned.{OwnEntitiesCorrespond}
 use Rattle.worlds_in_turn.proofs.Things.{inst_is, inst_at, space_is, space_in, in_space, address_is, held_external}
 use Rattle.worlds_in_turn.proofs.Joined.{stays_own, joins, inst_of_part}
 use Rattle.worlds_in_turn.proofs.Reached.{defined_next, defined_more, own_low}

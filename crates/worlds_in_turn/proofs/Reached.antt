@@ -12,7 +12,7 @@ use Rattle.wasm_meaning.specs.World.{given, defined_count, defined_before, base,
 use Rattle.index_remap.specs.Related.{Pairing, OneToOne, ListRel, nil, cons}
 use Rattle.index_remap.specs.RelatedRuns.{ThingRel, a_func, a_table, a_memory, a_global, KeyRel}
 use Rattle.index_remap.specs.Laws.{passed}
-use Rattle.permuted_worlds.specs.Owned.{SharesOwn, OwnEntitiesCorrespond}
+use Rattle.world_simulation.specs.Owned.{SharesOwn, OwnEntitiesCorrespond}
 use Rattle.std.proofs.lemmas.Option.{same_Some}
 
 abbrev pub count_upto : Environment → List Part → ℕ → Space → ℕ

@@ -15,7 +15,7 @@ use Rattle.wasm_meaning.specs.InTurn.{InTurn, view_over, goes_on, with_run, turn
 use Rattle.index_remap.specs.Related.{ListRel, nil}
 use Rattle.index_remap.specs.RelatedRuns.{opened, RunRel, OutRel}
 use Rattle.index_remap.specs.Laws.{CodeIsRelatedToItself, EntryByEntry, RelatedTicksAgree, OthersStay}
-use Rattle.permuted_worlds.proofs.Led.{Leads, both, second}
+use Rattle.base_simulation.proofs.Led.{Leads, both, second}
 use Rattle.worlds_in_turn.proofs.Things.{space_in}
 use Rattle.worlds_in_turn.proofs.Joined.{made_upto}
 use Rattle.worlds_in_turn.proofs.Reached.{is_reached, reaching, one_to_one, defined_more}

@@ -6,12 +6,12 @@ use Rattle.wasm_tree.specs.declared.instr.Instr.TheOpen.{Instr-F}
 use Rattle.wasm_tree.specs.declared.types.ValType.{ValType}
 use Rattle.wasm_tree.specs.declared.types.BlockType.{BlockType}
 use Rattle.wasm_num.specs.Operations.{W32}
-use Rattle.wasm_meaning.specs.Outcomes.{Outcome, Gives, Traps, IllTyped, or_other, trapping, bind, at, split_at, slice, overwrite, copies}
+use Rattle.wasm_meaning.specs.Outcomes.{Outcome, Gives, Traps, IllTyped, trapping, bind, at, split_at, slice, overwrite, copies}
 use Rattle.wasm_meaning.specs.State.{Val, RefVal, Table, Memory, Global, Store, Level, Frame, Env, Body, SetGlobal, Act, Goes}
 use Rattle.wasm_meaning.specs.Values.{typed, pop, pop_num, pop_ref, pop_typed, pushes, on_values, with_values, local_put, global_put, unary, binary, ref_is_null, select_any, select_typed}
 use Rattle.wasm_meaning.specs.Memory.{written, writes, store_into, load_from, grow_memory, memory_may_grow, init_memory, fill_memory, pop_three, with_memory}
 use Rattle.wasm_meaning.specs.Tables.{fits, writes_table, get_slot, set_slot, grow_table, table_may_grow, fill_table, init_table, with_table}
-use Rattle.wasm_meaning.specs.Control.{call_slot, func_ref, type_at, resume, end_level, branch, branches, level_here, open_level, shape_of, open_block}
+use Rattle.wasm_meaning.specs.Control.{call_slot, func_ref, type_at, resume, end_level, branch, level_here, open_level, shape_of, open_block}
 use Rattle.wasm_meaning.specs.Step.{exec, step_code, step_levels, act}
 use Rattle.index_remap.proofs.Rel.{OptAll, nothing, stopped, just, bind_all}
 use Rattle.worlds_in_turn.proofs.Extends.{Extending, keeps, global, memory, table, elem_drops, data_drops, overwritten_length}
@@ -20,10 +20,6 @@ use Rattle.worlds_in_turn.proofs.Extends.{Extending, keeps, global, memory, tabl
 abbrev pub Grows : Store → Act → Type 0
 Grows s (Goes c h) = Extending s c
 Grows s _ = Unit {0}
-
-either : {A : Type 0} (P : A → Type 0) (b : Bool) {x y : A} → P x → P y → P (cond b x y)
-either P true p q = p
-either P false p q = q
 
 pub cond_all : {A : Type 0} {P : A → Type 0} (b : Bool) {x y : Outcome A} → OptAll P x → OptAll P y → OptAll P (cond b x y)
 cond_all true p q = p
@@ -123,19 +119,6 @@ module _ (env : Env) where
   branch_all : (h : Body) (n : ℕ) → All (branch h n)
   branch_all h n = with_is (at (level_here h ∷ h.outer) n) _ (λ t _. with_is (split_at t.takes h.values) _ (λ p _. resume_all h p.0 t.back (drop n h.outer)))
 
-  abbrev EachGrows : List Act → Type 0
-  EachGrows [] = Unit {0}
-  EachGrows (a ∷ rest) = Grows env.store a × EachGrows rest
-
-  branches_all : (h : Body) (ns : List ℕ) → OptAll EachGrows (branches h ns)
-  branches_all h [] = just tt
-  branches_all h (n ∷ ns) = bind_all (branch_all h n) (λ a _ g. bind_all (branches_all h ns) (λ rest _ gs. just (g, gs)))
-
-  chosen_all : (n : ℕ) (acts : List Act) (a : Act) → EachGrows acts → Grows env.store a → Grows env.store (or_other (at acts n) a)
-  chosen_all n [] a gs g = g
-  chosen_all zero (x ∷ xs) a gs g = gs.0
-  chosen_all (suc n) (x ∷ xs) a gs g = chosen_all n xs a gs.1 g
-
   open_level_all : (h : Body) (vs : List Val) (params : List ValType) (gives takes : ℕ) (body back : List Instr) → All (open_level h vs params gives takes body back)
   open_level_all h vs params gives takes body back = with_is (pop_typed params vs) _ (λ p _. just keeps)
 
@@ -151,9 +134,8 @@ module _ (env : Env) where
   exec_all (Instr-F.Loop b c) h = with_is (shape_of env.inst b) _ (λ t _. open_level_all h h.values t.params (length t.results) (length t.params) c _)
   exec_all (Instr-F.If b c d) h = with_is (pop_num W32 h.values) _ (λ p _. open_block_all h p.1 b _)
   exec_all (Instr-F.Br n) h = branch_all h n
-  exec_all (Instr-F.BrIf n) h = with_is (pop_num W32 h.values) _ (λ p _. bind_all (branch_all (with_values h p.1) n) (λ a _ g. just (either (Grows env.store) (nat_eq p.0 0) keeps g)))
-  exec_all (Instr-F.BrTable ns n) h =
-      with_is (pop_num W32 h.values) _ (λ p _. bind_all (branch_all (with_values h p.1) n) (λ last _ g. bind_all (branches_all (with_values h p.1) ns) (λ taken _ gs. just (chosen_all p.0 taken last gs g))))
+  exec_all (Instr-F.BrIf n) h = with_is (pop_num W32 h.values) _ (λ p _. cond_all (nat_eq p.0 0) (just keeps) (branch_all (with_values h p.1) n))
+  exec_all (Instr-F.BrTable ns last) h = with_is (pop_num W32 h.values) _ (λ p _. branch_all (with_values h p.1) _)
   exec_all Instr-F.Return h = just tt
   exec_all (Instr-F.Call n) h = with_is (at env.inst.funcs n) _ (λ a _. just tt)
   exec_all (Instr-F.CallIndirect t n) h = with_table_all n _ (λ a u _. call_slot_all h t u)

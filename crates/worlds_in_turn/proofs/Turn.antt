@@ -15,7 +15,7 @@ use Rattle.wasm_meaning.specs.Linking.{Part, Site, module_at, import_at, sites}
 use Rattle.wasm_meaning.specs.Environment.{Environment, Thing, FuncAt, TableAt, MemoryAt, GlobalAt, owned_of, all_of}
 use Rattle.wasm_meaning.specs.World.{given, defined_count, base, imported_thing, all_there, numbers, insts_from, is_match, is_matched, meets, meets_most, defined_before}
 use Rattle.wasm_meaning.specs.InTurn.{next_inst, all_match, thing_for, JoinsEarlier}
-use Rattle.permuted_worlds.specs.Owned.{OwnEntitiesCorrespond}
+use Rattle.world_simulation.specs.Owned.{OwnEntitiesCorrespond}
 use Rattle.worlds_in_turn.proofs.Extends.{TableExtends, MemoryExtends, GlobalExtends}
 use Rattle.worlds_in_turn.proofs.Things.{inst_is, space_is, each_from, gathered, place_at, at_place}
 use Rattle.worlds_in_turn.proofs.Joined.{ExportsThere, made_upto, thing_same, inst_of_part}

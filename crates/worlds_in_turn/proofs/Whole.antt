@@ -6,15 +6,14 @@ use Rattle.wasm_meaning.specs.State.{Text, Inst, Store, Opening}
 use Rattle.wasm_meaning.specs.Linking.{Part, Entity, module_at}
 use Rattle.wasm_meaning.specs.Environment.{Environment, Thing, owned_of}
 use Rattle.wasm_meaning.specs.World.{World, Begun, own_store, begun, all_there, start_in, starts_of, seen_as, segments}
-use Rattle.wasm_meaning.specs.Run.{Event, InstanceTrapped, Pending, Closed, Move, Run, IsPrefix, fresh_run, tick, events_of}
+use Rattle.wasm_meaning.specs.Run.{InstanceTrapped, Pending, Closed, Move, Run, IsPrefix, fresh_run, tick, events_of}
 use Rattle.wasm_meaning.specs.Below.{BelowIsNotSeen}
 use Rattle.wasm_meaning.specs.InTurn.{InTurn, view_over, goes_on, before_turns, tick_in_turn, events_in_turn, HasNoActive}
-use Rattle.wasm_meaning.proofs.Prefixes.{Prefix, prefix_trans, later}
+use Rattle.base_simulation.proofs.Prefixes.{in_more_steps}
 use Rattle.index_remap.specs.Related.{nil, cons, opening}
 use Rattle.index_remap.specs.RelatedRuns.{pending}
 use Rattle.index_remap.specs.Laws.{CodeIsRelatedToItself, RelatedTicksAgree, OthersStay}
-use Rattle.permuted_worlds.specs.Silent.{BudgetedTurnsShowTheSame}
-use Rattle.permuted_worlds.proofs.Led.{Leads, both, second, led}
+use Rattle.base_simulation.proofs.Led.{Leads, both, second, led_show_the_same}
 use Rattle.worlds_in_turn.proofs.Extends.{Extends, stays}
 use Rattle.worlds_in_turn.proofs.Joined.{made_upto}
 use Rattle.worlds_in_turn.proofs.Reached.{reaching}
@@ -208,16 +207,11 @@ module _ (env : Environment) (w : World) (insts : List Inst) (allocated : Store)
       on (both p i) = both p (refl, i)
       on (second p i) = second p (refl, i)
 
-  further : (xs ys zs : List Event) → IsPrefix xs ys → Prefix ys zs → IsPrefix xs zs
-  further xs ys zs p q =
-      let first : Prefix xs ys = record { rest = p.0; is = p.1 } in
-      let r = prefix_trans first q in (r.rest, r.is)
-
-  pub seen_the_same : BudgetedTurnsShowTheSame → 0 < length w.parts → (n : ℕ) → IsPrefix (events_of tick (fresh_run env (Some instance) moves) n) (events_in_turn w env moves (n + 4 * length w.parts)) × IsPrefix (events_in_turn w env moves n) (events_of tick (fresh_run env (Some instance) moves) (n + 4 * length w.parts))
-  seen_the_same budget some n =
+  pub seen_the_same : 0 < length w.parts → (n : ℕ) → IsPrefix (events_of tick (fresh_run env (Some instance) moves) n) (events_in_turn w env moves (n + 4 * length w.parts)) × IsPrefix (events_in_turn w env moves n) (events_of tick (fresh_run env (Some instance) moves) (n + 4 * length w.parts))
+  seen_the_same some n =
       let k = length w.parts in
       let r = fresh_run env (Some instance) moves in
       let q = before_turns env w moves in
       let start : Early k r q = fresh refl refl some (omega arith) in
-      let seen = budget.0 tick tick_in_turn k 0 r q (λ steps. led tick tick_in_turn Credit credited steps k 0 r q (refl, start)) n in
-      (further _ _ _ seen.0 (later tick_in_turn (n + k) (n + 4 * k) q (omega arith)), further _ _ _ seen.1 (later tick (n + 0) (n + 4 * k) r (omega arith)))
+      let seen = led_show_the_same tick tick_in_turn Credit credited k 0 r q (refl, start) n in
+      (in_more_steps tick_in_turn _ (n + k) (n + 4 * k) q (omega arith) seen.0, in_more_steps tick _ (n + 0) (n + 4 * k) r (omega arith) seen.1)

@@ -4,7 +4,7 @@
 ghost use Rattle.worlds_in_turn.specs.Laws.{TurnsAreNotSeen};
 
 use index_remap::{related_runs_show_the_same, steps_agree};
-use permuted_worlds::{own_entities_correspond, silent_steps_may_come_between};
+use world_simulation::own_entities_correspond;
 use wasm_meaning::what_stands_below_is_not_seen;
 use wasm_valid::valid_where_items_hold;
 
@@ -19,5 +19,4 @@ pub fn turns_are_not_seen()
     steps_agree();
     related_runs_show_the_same();
     own_entities_correspond();
-    silent_steps_may_come_between();
 }

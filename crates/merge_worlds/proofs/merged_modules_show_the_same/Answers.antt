@@ -9,6 +9,7 @@ returns c =
     let own = c.own_entities_correspond.ensures.own in
     let ends = c.linked_imports_have_ends.ensures in
     let maps = c.maps_have_entries.ensures in
+    let worlds = c.similar_worlds_show_the_same.ensures in
     let spaces : SpaceLaws = record {
       ends = ends.ends;
       stays = ends.stays;
@@ -36,5 +37,5 @@ returns c =
     } in
     record {
       same = λ parts mode can env offers named moves n.
-          show_the_same spaces laws c.starts_take_nothing.ensures.starts c.related_instances_show_the_same.ensures.begun c.one_start_may_call_several.ensures.calls env parts mode can moves n;
+          show_the_same spaces laws c.starts_take_nothing.ensures.starts worlds.begin worlds.made worlds.allocated c.related_instances_show_the_same.ensures.begun c.one_start_may_call_several.ensures.calls env parts mode can moves n;
     }

@@ -1,0 +1,5 @@
+pub mod Prefixes
+pub mod Lockstep
+pub mod Stuttering
+pub mod Led
+mod Examples

@@ -1,5 +1,0 @@
-use Rattle.permuted_worlds.proofs.Alone.{ends_outside, thing_is, space_is, read_is}
-use Rattle.permuted_worlds.proofs.imports_of_one_module_stay.Goals as goal
-
-pub returns : goal.returns
-returns c = record { ends = ends_outside; things = thing_is; spaces = space_is; reads = read_is }

@@ -1,7 +1,0 @@
-pub mod Alone
-pub mod Owned
-pub mod Instances
-pub mod Named
-pub mod Permuted
-pub mod Silent
-pub mod Starts

@@ -1,0 +1,133 @@
+-- A module alone: its imports all stay, so what they stand for and what is read through them is a matter of its types and imports.
+use Rattle.std.proofs.Common.{◌≡◌, ℕ, suc, ◌+◌, List, [], ◌∷◌, ◌++◌, length, Option, Some, None, cond, refl, ap, ap₂, ◌∙◌, arith, option_and_then, slice_get}
+use Rattle.wasm_tree.specs.declared.space.Space.{Space}
+use Rattle.wasm_tree.specs.declared.space.Space.TheVariants.{Functions, Tables, Memories, Globals}
+use Rattle.wasm_tree.specs.Operands.{same_space}
+use Rattle.wasm_tree.specs.declared.module.Import.{Import}
+use Rattle.wasm_tree.specs.declared.module.ImportDesc.{ImportDesc}
+use Rattle.wasm_tree.specs.declared.module.ImportDesc.TheVariants as im
+use Rattle.wasm_tree.specs.declared.module.ConstExpr.{ConstExpr}
+use Rattle.wasm_tree.specs.declared.module.ConstExpr.TheVariants as const
+use Rattle.wasm_tree.specs.declared.module.Module.{Module}
+use Rattle.std.specs.List.{cons_option}
+use Rattle.base_lists.proofs.Options.{all_there_same}
+use Rattle.wasm_tree.specs.Spaces.{func_of, table_of, memory_of, global_of, imported_funcs, imported_tables, imported_memories, imported_globals, space_of_import}
+use Rattle.wasm_meaning.specs.State.{Pair}
+use Rattle.wasm_meaning.specs.Paths.{walk, walk_on}
+use Rattle.wasm_meaning.specs.Linking.{sites, joined, joined_step, import_step, read_step, initials_from, Outside, Read, places, has_kind, imports_of, pair_of, end_of, global_import, end_step, read_of, space_index}
+use Rattle.wasm_meaning.specs.Environment.{Environment, owned_of, owned_at}
+use Rattle.wasm_meaning.specs.World.{given, own_key_of, outside_thing, imported_thing, thing_of, address_of, numbers, own_count, defined_count, space}
+use Rattle.world_simulation.specs.Alone.{one, site, key_in, thing_in, addresses, read_in}
+
+-- ---- what an import stands for ----
+
+key_is : (t : Module) (pair : Pair) (d : ImportDesc) → own_key_of t pair d ≡ key_in t.types pair d
+key_is t pair (im.Func ty) = refl
+key_is t pair (im.Table u) = refl
+key_is t pair (im.Memory l) = refl
+key_is t pair (im.Global u) = refl
+
+pub ends_outside : (t : Module) (n : ℕ) → end_of (one t) (site n) ≡ option_and_then (λ i. Some (Outside (site n))) (slice_get t.imports n)
+ends_outside t n = go (slice_get t.imports n)
+  where
+    go : (o : Option Import) → walk_on (walk (import_step (one t)) (length (sites (one t)))) (option_and_then (λ i. Some (joined_step (one t) (site n) (joined (one t) i))) o) ≡ option_and_then (λ i. Some (Outside (site n))) o
+    go None = refl
+    go (Some i) = refl
+
+-- what comes after an import that is there
+pub twice : {A B : Type 0} (o : Option A) (f : A → Option B) → option_and_then (λ a. option_and_then f o) o ≡ option_and_then f o
+twice None f = refl
+twice (Some a) f = refl
+
+nested : {A B C : Type 0} (o : Option A) (b : B) (f : B → Option C) → option_and_then f (option_and_then (λ a. Some b) o) ≡ option_and_then (λ a. f b) o
+nested None b f = refl
+nested (Some a) b f = refl
+
+pub on_some : {A B : Type 0} (o : Option A) {f g : A → Option B} → ((a : A) → f a ≡ g a) → option_and_then f o ≡ option_and_then g o
+on_some None h = refl
+on_some (Some a) h = h a
+
+outside_is : (env : Environment) (t : Module) (n : ℕ) → outside_thing (owned_of env) (one t) (site n) ≡ thing_in env t.types (slice_get t.imports n)
+outside_is env t n = on_some (slice_get t.imports n) (λ i. ap (λ k. option_and_then (λ key. given (owned_at (owned_of env) key)) k) (key_is t (pair_of i) i.desc))
+
+pub thing_is : (env : Environment) (t : Module) (n : ℕ) → imported_thing env (one t) (site n) ≡ thing_in env t.types (slice_get t.imports n)
+thing_is env t n =
+    ap (λ e. option_and_then (thing_of env (one t)) e) (ends_outside t n) ∙ nested (slice_get t.imports n) (Outside (site n)) (thing_of env (one t))
+    ∙ on_some (slice_get t.imports n) (λ i. outside_is env t n) ∙ twice (slice_get t.imports n) (λ i. option_and_then (λ key. given (owned_at (owned_of env) key)) (key_in t.types (pair_of i) i.desc))
+
+-- ---- index spaces ----
+
+pub space_is : (env : Environment) (t : Module) (k : Space) → space env (one t) k 0 t ≡ option_and_then (λ l. Some (l ++ numbers (own_count k env) (defined_count k t))) (addresses env t.types t.imports k)
+space_is env t k =
+    let e : own_count k env + 0 ≡ own_count k env = omega arith in
+    ap₂ (λ o b. option_and_then (λ l. Some (l ++ numbers b (defined_count k t))) o) (all_there_same (λ n. ap (λ x. option_and_then (address_of k) x) (thing_is env t n)) (imports_of k t)) e
+
+-- ---- how many are imported ----
+
+pub funcs_counted : (is : List Import) (n : ℕ) → length (places (has_kind Functions) is n) ≡ length (imported_funcs is)
+funcs_counted [] n = refl
+funcs_counted (i ∷ is) n = go i.desc (funcs_counted is (suc n))
+  where
+    go : (d : ImportDesc) → length (places (has_kind Functions) is (suc n)) ≡ length (imported_funcs is) → length (cond (same_space Functions (space_of_import d)) (n ∷ places (has_kind Functions) is (suc n)) (places (has_kind Functions) is (suc n))) ≡ length (cons_option (func_of d) (imported_funcs is))
+    go (im.Func x) h = ap suc h
+    go (im.Table x) h = h
+    go (im.Memory x) h = h
+    go (im.Global x) h = h
+
+pub tables_counted : (is : List Import) (n : ℕ) → length (places (has_kind Tables) is n) ≡ length (imported_tables is)
+tables_counted [] n = refl
+tables_counted (i ∷ is) n = go i.desc (tables_counted is (suc n))
+  where
+    go : (d : ImportDesc) → length (places (has_kind Tables) is (suc n)) ≡ length (imported_tables is) → length (cond (same_space Tables (space_of_import d)) (n ∷ places (has_kind Tables) is (suc n)) (places (has_kind Tables) is (suc n))) ≡ length (cons_option (table_of d) (imported_tables is))
+    go (im.Func x) h = h
+    go (im.Table x) h = ap suc h
+    go (im.Memory x) h = h
+    go (im.Global x) h = h
+
+pub memories_counted : (is : List Import) (n : ℕ) → length (places (has_kind Memories) is n) ≡ length (imported_memories is)
+memories_counted [] n = refl
+memories_counted (i ∷ is) n = go i.desc (memories_counted is (suc n))
+  where
+    go : (d : ImportDesc) → length (places (has_kind Memories) is (suc n)) ≡ length (imported_memories is) → length (cond (same_space Memories (space_of_import d)) (n ∷ places (has_kind Memories) is (suc n)) (places (has_kind Memories) is (suc n))) ≡ length (cons_option (memory_of d) (imported_memories is))
+    go (im.Func x) h = h
+    go (im.Table x) h = h
+    go (im.Memory x) h = ap suc h
+    go (im.Global x) h = h
+
+pub globals_counted : (is : List Import) (n : ℕ) → length (places (has_kind Globals) is n) ≡ length (imported_globals is)
+globals_counted [] n = refl
+globals_counted (i ∷ is) n = go i.desc (globals_counted is (suc n))
+  where
+    go : (d : ImportDesc) → length (places (has_kind Globals) is (suc n)) ≡ length (imported_globals is) → length (cond (same_space Globals (space_of_import d)) (n ∷ places (has_kind Globals) is (suc n)) (places (has_kind Globals) is (suc n))) ≡ length (cons_option (global_of d) (imported_globals is))
+    go (im.Func x) h = h
+    go (im.Table x) h = h
+    go (im.Memory x) h = h
+    go (im.Global x) h = ap suc h
+
+-- ---- what is read ----
+
+import_of_global : (t : Module) (x : ℕ) → option_and_then (end_of (one t)) (global_import (one t) 0 x) ≡ option_and_then (λ n. option_and_then (λ i. Some (Outside (site n))) (slice_get t.imports n)) (slice_get (imports_of Globals t) x)
+import_of_global t x = go (slice_get (imports_of Globals t) x)
+  where
+    go : (o : Option ℕ) → option_and_then (end_of (one t)) (option_and_then (λ n. Some (site n)) o) ≡ option_and_then (λ n. option_and_then (λ i. Some (Outside (site n))) (slice_get t.imports n)) o
+    go None = refl
+    go (Some n) = ends_outside t n
+
+pub read_is : (t : Module) (e : ConstExpr) → read_of (one t) 0 e ≡ read_in t.imports e
+read_is t (const.I32 v) = refl
+read_is t (const.I64 v) = refl
+read_is t (const.Null ty) = refl
+read_is t (const.Func f) = refl
+read_is t (const.Global x) = ap (λ o. walk_on more (end_step (one t) o)) (import_of_global t x) ∙ go (slice_get (imports_of Globals t) x)
+  where
+    more : Read → Option Read
+    more = walk (read_step (one t)) (length (initials_from 0 (one t)))
+
+    go : (o : Option ℕ) → walk_on more (end_step (one t) (option_and_then (λ n. option_and_then (λ i. Some (Outside (site n))) (slice_get t.imports n)) o))
+        ≡ option_and_then (λ y. Some (record { part = 0; expr = const.Global y })) (option_and_then (λ n. option_and_then (λ i. Some (space_index t.imports n Globals)) (slice_get t.imports n)) o)
+    go None = refl
+    go (Some n) = at_site (slice_get t.imports n)
+      where
+        at_site : (o : Option Import) → walk_on more (end_step (one t) (option_and_then (λ i. Some (Outside (site n))) o)) ≡ option_and_then (λ y. Some (record { part = 0; expr = const.Global y })) (option_and_then (λ i. Some (space_index t.imports n Globals)) o)
+        at_site None = refl
+        at_site (Some i) = refl

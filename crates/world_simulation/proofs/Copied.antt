@@ -1,0 +1,251 @@
+-- Segments are copied into two related stores.
+use Rattle.std.proofs.Common.{◌≡◌, ℕ, zero, suc, ◌+◌, ◌*◌, ◌≤◌, List, [], ◌∷◌, ◌++◌, length, Option, Some, None, true, false, refl, sym, ap, ap₂, subst, ◌∙◌, arith, option_and_then, slice_get, slice_set}
+use native.Mathlib.Decide.{ℕ_discrete}
+use Rattle.std.proofs.lemmas.Option.{slice_get_within}
+use Rattle.std.proofs.lemmas.List.{length-append}
+use Rattle.base_lists.proofs.Places.{set_at, set_other}
+use Rattle.wasm_tree.specs.declared.space.Space.{Space}
+use Rattle.wasm_tree.specs.declared.space.Space.TheVariants.{Tables, Memories, ElementSegments, DataSegments}
+use Rattle.wasm_tree.specs.declared.module.ConstExpr.{ConstExpr}
+use Rattle.wasm_tree.specs.declared.module.ElemMode.{ElemMode}
+use Rattle.wasm_tree.specs.declared.module.ElemMode.TheVariants as elem
+use Rattle.wasm_tree.specs.declared.module.ElemSeg.{ElemSeg}
+use Rattle.wasm_tree.specs.declared.module.DataMode.{DataMode}
+use Rattle.wasm_tree.specs.declared.module.DataMode.TheVariants as data'
+use Rattle.wasm_tree.specs.declared.module.DataSeg.{DataSeg}
+use Rattle.wasm_meaning.specs.Outcomes.{Outcome, Gives, Traps, IllTyped, bind, at, split_at, overwrite}
+use Rattle.wasm_meaning.specs.State.{RefVal, Val, Inst, Table, Memory, Elem, Data, Store, SetTable, SetMemory, DropElem, DropData}
+use Rattle.wasm_meaning.specs.Step.{changed, no_items, no_bytes}
+use Rattle.wasm_meaning.specs.Environment.{Environment}
+use Rattle.wasm_meaning.specs.World.{Filled, Task, or_trapped, fill_table, copy_elem, run_elem_with, fill_memory, copy_data, run_data_with}
+use Rattle.index_remap.specs.Related.{OptRel, some, BothRel, both}
+use Rattle.index_remap.proofs.Rel.{there, at_put_there}
+use Rattle.world_simulation.specs.Definitions.{Instantiated, DefinedAt, values_in}
+use Rattle.world_simulation.specs.Segments.{InOrder, ElemsPartner, ElemAlone, DatasPartner, DataAlone, alone_in_first, offset_in}
+use Rattle.world_simulation.specs.Segments as segments
+use Rattle.world_simulation.proofs.Places.{res_placed}
+
+-- ---- lists ----
+
+pub both_placed : {A B : Type 0} {P : A → B → Type 0} (xs : List A) (ys : List B) (n k : ℕ) → BothRel P (at xs n) (at ys k) → OptRel P (slice_get xs n) (slice_get ys k)
+both_placed xs ys n k r = res_placed xs ys n k (there r)
+
+-- where the others fit, they are written, and the list is as long as it was
+split_fits : {A : Type 0} (n : ℕ) (xs : List A) → n ≤ length xs → (p : List A × List A) × (split_at n xs ≡ Gives p) × (length p.0 ≡ n) × (length p.0 + length p.1 ≡ length xs)
+split_fits zero xs h = (([], xs), refl, refl, omega arith)
+split_fits (suc n) [] h = absurd (omega (arith, h))
+split_fits (suc n) (x ∷ xs) h =
+    let r = split_fits n xs (omega (arith, h)) in
+    ((x ∷ r.0.0, r.0.1), ap (λ o. bind o (λ p. Gives (x ∷ p.0, p.1))) r.1, ap suc r.2, let e = r.3 in omega (arith, e))
+
+split_within : {A : Type 0} (n : ℕ) (xs : List A) (p : List A × List A) → split_at n xs ≡ Gives p → n ≤ length xs
+split_within zero xs p h = omega arith
+split_within (suc n) [] p h = cc
+split_within {A} (suc n) (x ∷ xs) p h = go (split_at n xs) (λ q e. split_within n xs q e) h
+  where
+    go : (o : Outcome (List A × List A)) → ((q : List A × List A) → o ≡ Gives q → n ≤ length xs) → bind o (λ p. Gives (x ∷ p.0, p.1)) ≡ Gives p → suc n ≤ suc (length xs)
+    go (Gives q) on h = let l = on q refl in omega (arith, l)
+    go Traps on h = cc
+    go IllTyped on h = cc
+
+pub overwrite_fits : {A : Type 0} (xs ys : List A) (n : ℕ) → n + length ys ≤ length xs → (zs : List A) × (overwrite xs n ys ≡ Gives zs) × (length zs ≡ length xs)
+overwrite_fits {A} xs ys n h =
+    let p = split_fits n xs (omega (arith, h)) in
+    let e = p.2 in
+    let f = p.3 in
+    let q = split_fits (length ys) p.0.1 (omega (arith, h, e, f)) in
+    let a = length-append p.0.0 (ys ++ q.0.1) in
+    let b = length-append ys q.0.1 in
+    let g = q.2 in
+    let k = q.3 in
+    (p.0.0 ++ (ys ++ q.0.1), ap (λ o. bind o (λ p. bind (split_at (length ys) p.1) (λ q. Gives (p.0 ++ (ys ++ q.1))))) p.1 ∙ ap (λ o. bind o (λ q. Gives (p.0.0 ++ (ys ++ q.1)))) q.1, omega (arith, a, b, e, f, g, k))
+
+overwrite_within : {A : Type 0} (xs ys zs : List A) (n : ℕ) → overwrite xs n ys ≡ Gives zs → n + length ys ≤ length xs
+overwrite_within {A} xs ys zs n h = go (split_at n xs) refl h
+  where
+    inner : (p : List A × List A) → split_at n xs ≡ Gives p → (o : Outcome (List A × List A)) → split_at (length ys) p.1 ≡ o → bind o (λ q. Gives (p.0 ++ (ys ++ q.1))) ≡ Gives zs → n + length ys ≤ length xs
+    inner p e (Gives q) f h =
+        let l = split_within n xs p e in
+        let r = split_fits n xs l in
+        let both : Gives p ≡ Gives r.0 = sym e ∙ r.1 in
+        let same : p ≡ r.0 = cc in
+        let a : length p.0 ≡ n = ap (λ (p : List A × List A). length p.0) same ∙ r.2 in
+        let b : length p.0 + length p.1 ≡ length xs = ap (λ (p : List A × List A). length p.0 + length p.1) same ∙ r.3 in
+        let k = split_within (length ys) p.1 q f in
+        omega (arith, a, b, k)
+    inner p e Traps f h = cc
+    inner p e IllTyped f h = cc
+
+    go : (o : Outcome (List A × List A)) → split_at n xs ≡ o → bind o (λ p. bind (split_at (length ys) p.1) (λ q. Gives (p.0 ++ (ys ++ q.1)))) ≡ Gives zs → n + length ys ≤ length xs
+    go (Gives p) e h = inner p e (split_at (length ys) p.1) refl h
+    go Traps e h = cc
+    go IllTyped e h = cc
+
+pub overwrite_length : {A : Type 0} (xs ys zs : List A) (n : ℕ) → overwrite xs n ys ≡ Gives zs → length zs ≡ length xs
+overwrite_length xs ys zs n h =
+    let r = overwrite_fits xs ys n (overwrite_within xs ys zs n h) in
+    let both : Gives zs ≡ Gives r.0 = sym h ∙ r.1 in
+    let same : zs ≡ r.0 = cc in
+    ap length same ∙ r.2
+
+-- what holds of what stands at a place holds still, where it holds of what is written there
+abbrev Holds : {A : Type 0} → (A → Type 0) → List A → ℕ → Type 0
+Holds {A} P xs n = (x : A) × (slice_get xs n ≡ Some x) × P x
+
+set_holds : {A : Type 0} (P : A → Type 0) (xs : List A) (n : ℕ) (v : A) → ((x : A) → slice_get xs n ≡ Some x → P x → P v) → (m : ℕ) → Holds P xs m → Holds P (slice_set xs n v) m
+set_holds P xs n v h m k = go (ℕ_discrete n m)
+  where
+    go : Dec (n ≡ m) → Holds P (slice_set xs n v) m
+    go (yes e) = let here : slice_get xs n ≡ Some k.0 = ap (slice_get xs) e ∙ k.1 in (v, ap (slice_get (slice_set xs n v)) (sym e) ∙ set_at xs n v (slice_get_within xs n k.0 here), h k.0 here k.2)
+    go (no e) = (k.0, set_other xs n m v (λ f. e (sym f)) ∙ k.1, k.2)
+
+-- ---- segments leave room ----
+
+-- tables and memories are at least as large as their definitions say, and segments hold no more than theirs
+pub record HasRoom (env : Environment) (w : Instantiated) (s : Store) : Type 0 where
+  pub tables : (a : ℕ) (d : DefinedAt env w Tables (λ m. m.tables) a) → Holds (λ t. d.definition.limits.min ≤ length t.slots) s.tables a
+  pub mems : (a : ℕ) (d : DefinedAt env w Memories (λ m. m.mems) a) → Holds (λ m. 65536 * d.definition.min ≤ length m.bytes) s.mems a
+  pub elems : (a : ℕ) (d : DefinedAt env w ElementSegments (λ m. m.elems) a) → Holds (λ e. length e.items ≤ length d.definition.items) s.elems a
+  pub datas : (a : ℕ) (d : DefinedAt env w DataSegments (λ m. m.datas) a) → Holds (λ e. length e.bytes ≤ length d.definition.bytes) s.datas a
+
+-- what each way through look-ups comes to
+then_holds : {A : Type 0} (Q : Filled → Type 0) (s : Store) (o : Option A) (f : A → Option Filled) → Q (record { store = s; trapped = true }) → ((a : A) → o ≡ Some a → Q (or_trapped s (f a))) → Q (or_trapped s (option_and_then f o))
+then_holds Q s None f t h = t
+then_holds Q s (Some a) f t h = h a refl
+
+module _ (env : Environment) (w : Instantiated) where
+  abbrev Room : Filled → Type 0
+  Room f = HasRoom env w f.store
+
+  fill_table_room : {s : Store} (n a : ℕ) (t : Table) (e : Elem) (q : ℕ) → HasRoom env w s → slice_get s.tables a ≡ Some t → (o : Outcome (List RefVal)) → overwrite t.slots q e.items ≡ o → Room (fill_table s n a t o)
+  fill_table_room {s} n a t e q room there (Gives slots) is = record {
+    tables = λ b d. set_holds (λ t. d.definition.limits.min ≤ length t.slots) s.tables a (record t { slots = slots }) (λ x h l.
+        let both : Some x ≡ Some t = sym h ∙ there in
+        let same : x ≡ t = cc in
+        let size = overwrite_length t.slots e.items slots q is in
+        let k : d.definition.limits.min ≤ length t.slots = subst (λ (x : Table). d.definition.limits.min ≤ length x.slots) same l in
+        omega (arith, size, k)) b (room.tables b d);
+    mems = room.mems;
+    elems = λ b d. set_holds (λ (e : Elem). length e.items ≤ length d.definition.items) s.elems n no_items (λ x h l. omega arith) b (room.elems b d);
+    datas = room.datas;
+  }
+  fill_table_room n a t e q room there Traps is = room
+  fill_table_room n a t e q room there IllTyped is = room
+
+  copy_elem_room : {s : Store} (n : ℕ) (i : Inst) (x : ℕ) (o : Option ℕ) → HasRoom env w s → Room (copy_elem s n i x o)
+  copy_elem_room {s} n i x o room =
+      then_holds Room s o _ room (λ q _. then_holds Room s (slice_get i.tables x) _ room (λ a _. then_holds Room s (slice_get s.tables a) _ room (λ t there. then_holds Room s (slice_get s.elems n) _ room (λ e _.
+      fill_table_room n a t e q room there (overwrite t.slots q e.items) refl))))
+
+  fill_memory_room : {s : Store} (n a : ℕ) (m : Memory) (e : Data) (q : ℕ) → HasRoom env w s → slice_get s.mems a ≡ Some m → (o : Outcome (List ℕ)) → overwrite m.bytes q e.bytes ≡ o → Room (fill_memory s n a m o)
+  fill_memory_room {s} n a m e q room there (Gives bytes) is = record {
+    tables = room.tables;
+    mems = λ b d. set_holds (λ m. 65536 * d.definition.min ≤ length m.bytes) s.mems a (record m { bytes = bytes }) (λ x h l.
+        let both : Some x ≡ Some m = sym h ∙ there in
+        let same : x ≡ m = cc in
+        let size = overwrite_length m.bytes e.bytes bytes q is in
+        let k : 65536 * d.definition.min ≤ length m.bytes = subst (λ (x : Memory). 65536 * d.definition.min ≤ length x.bytes) same l in
+        omega (arith, size, k)) b (room.mems b d);
+    elems = room.elems;
+    datas = λ b d. set_holds (λ (e : Data). length e.bytes ≤ length d.definition.bytes) s.datas n no_bytes (λ x h l. omega arith) b (room.datas b d);
+  }
+  fill_memory_room n a m e q room there Traps is = room
+  fill_memory_room n a m e q room there IllTyped is = room
+
+  copy_data_room : {s : Store} (n : ℕ) (i : Inst) (x : ℕ) (o : Option ℕ) → HasRoom env w s → Room (copy_data s n i x o)
+  copy_data_room {s} n i x o room =
+      then_holds Room s o _ room (λ q _. then_holds Room s (slice_get i.mems x) _ room (λ a _. then_holds Room s (slice_get s.mems a) _ room (λ m there. then_holds Room s (slice_get s.datas n) _ room (λ e _.
+      fill_memory_room n a m e q room there (overwrite m.bytes q e.bytes) refl))))
+
+  pub run_elem_room : {s : Store} (value : ConstExpr → Option Val) (x : Task ElemSeg) (mode : ElemMode) → HasRoom env w s → Room (run_elem_with value s x mode)
+  run_elem_room value x (elem.Active t e) room = copy_elem_room x.address x.inst t (offset_in value e) room
+  run_elem_room value x elem.Passive room = room
+  run_elem_room value x elem.Declarative room = room
+
+  pub run_data_room : {s : Store} (value : ConstExpr → Option Val) (x : Task DataSeg) (mode : DataMode) → HasRoom env w s → Room (run_data_with value s x mode)
+  run_data_room value x (data'.Active t e) room = copy_data_room x.address x.inst t (offset_in value e) room
+  run_data_room value x data'.Passive room = room
+
+-- ---- a segment without partner ----
+
+-- the store is as it was where it is related
+pub record Kept (related : Space → ℕ → Type 0) (s t : Store) : Type 0 where
+  pub funcs : t.funcs ≡ s.funcs
+  pub globals : t.globals ≡ s.globals
+  pub tables : (a : ℕ) → related Tables a → at t.tables a ≡ at s.tables a
+  pub mems : (a : ℕ) → related Memories a → at t.mems a ≡ at s.mems a
+  pub elems : (a : ℕ) → related ElementSegments a → at t.elems a ≡ at s.elems a
+  pub datas : (a : ℕ) → related DataSegments a → at t.datas a ≡ at s.datas a
+
+pub nothing_kept : (related : Space → ℕ → Type 0) (s : Store) → Kept related s s
+nothing_kept related s = record { funcs = refl; globals = refl; tables = λ a r. refl; mems = λ a r. refl; elems = λ a r. refl; datas = λ a r. refl }
+
+-- an active segment whose table is there and large enough is copied
+pub record Copies (related : Space → ℕ → Type 0) (s : Store) (f : Filled) : Type 0 where
+  pub store : Store
+  pub is : f ≡ record { store = store; trapped = false }
+  pub kept : Kept related s store
+
+module _ (related alone : Space → ℕ → Type 0) (never : (k : Space) (a : ℕ) → alone k a → related k a → ⊥) where
+  apart : (k : Space) (a c : ℕ) → alone k a → related k c → a ≡ c → ⊥
+  apart k a c lone r e = never k a lone (subst (related k) (sym e) r)
+
+  table_kept : (s : Store) (n a : ℕ) (t : Table) → alone Tables a → alone ElementSegments n → Kept related s (changed (changed s (SetTable a t)) (DropElem n))
+  table_kept s n a t lone by_itself = record {
+    funcs = refl;
+    globals = refl;
+    tables = λ c r. at_put_there s.tables a c t (apart Tables a c lone r);
+    mems = λ c r. refl;
+    elems = λ c r. at_put_there s.elems n c no_items (apart ElementSegments n c by_itself r);
+    datas = λ c r. refl;
+  }
+
+  memory_kept : (s : Store) (n a : ℕ) (m : Memory) → alone Memories a → alone DataSegments n → Kept related s (changed (changed s (SetMemory a m)) (DropData n))
+  memory_kept s n a m lone by_itself = record {
+    funcs = refl;
+    globals = refl;
+    tables = λ c r. refl;
+    mems = λ c r. at_put_there s.mems a c m (apart Memories a c lone r);
+    elems = λ c r. refl;
+    datas = λ c r. at_put_there s.datas n c no_bytes (apart DataSegments n c by_itself r);
+  }
+
+  module _ (env : Environment) (w : Instantiated) where
+    pub elem_copied : (s : Store) (x : Task ElemSeg) → HasRoom env w s → (d : DefinedAt env w ElementSegments (λ m. m.elems) x.address) → d.definition ≡ x.segment → (mode : ElemMode) → ElemAlone alone env w x mode →
+        Copies related s (run_elem_with (values_in env w x.part) s x mode)
+    elem_copied s x room d is _ segments.ElemAlone.passive = record { store = s; is = refl; kept = nothing_kept related s }
+    elem_copied s x room d is _ segments.ElemAlone.declarative = record { store = s; is = refl; kept = nothing_kept related s }
+    elem_copied s x room d is _ (segments.ElemAlone.active {t = t} {n = q} {a = a} {e = e} there lone table by_itself offset fits) =
+        let u = room.tables a table in
+        let i = room.elems x.address d in
+        let large = u.2 in
+        let few = i.2 in
+        let size : length d.definition.items ≡ length x.segment.items = ap (λ (e : ElemSeg). length e.items) is in
+        let o = overwrite_fits u.0.slots i.0.items q (omega (arith, large, few, size, fits)) in
+        record {
+          store = changed (changed s (SetTable a (record u.0 { slots = o.0 }))) (DropElem x.address);
+          is = ap (copy_elem s x.address x.inst t) offset
+              ∙ ap (λ o. or_trapped s (option_and_then (λ a. option_and_then (λ t. option_and_then (λ e. Some (fill_table s x.address a t (overwrite t.slots q e.items))) (slice_get s.elems x.address)) (slice_get s.tables a)) o)) there
+              ∙ ap₂ (λ o p. or_trapped s (option_and_then (λ t. option_and_then (λ e. Some (fill_table s x.address a t (overwrite t.slots q e.items))) p) o)) u.1 i.1
+              ∙ ap (fill_table s x.address a u.0) o.1;
+          kept = table_kept s x.address a (record u.0 { slots = o.0 }) lone by_itself;
+        }
+
+    pub data_copied : (s : Store) (x : Task DataSeg) → HasRoom env w s → (d : DefinedAt env w DataSegments (λ m. m.datas) x.address) → d.definition ≡ x.segment → (mode : DataMode) → DataAlone alone env w x mode →
+        Copies related s (run_data_with (values_in env w x.part) s x mode)
+    data_copied s x room d is _ segments.DataAlone.passive = record { store = s; is = refl; kept = nothing_kept related s }
+    data_copied s x room d is _ (segments.DataAlone.active {t = t} {n = q} {a = a} {e = e} there lone memory by_itself offset fits) =
+        let u = room.mems a memory in
+        let i = room.datas x.address d in
+        let large = u.2 in
+        let few = i.2 in
+        let size : length d.definition.bytes ≡ length x.segment.bytes = ap (λ (e : DataSeg). length e.bytes) is in
+        let o = overwrite_fits u.0.bytes i.0.bytes q (omega (arith, large, few, size, fits)) in
+        record {
+          store = changed (changed s (SetMemory a (record u.0 { bytes = o.0 }))) (DropData x.address);
+          is = ap (copy_data s x.address x.inst t) offset
+              ∙ ap (λ o. or_trapped s (option_and_then (λ a. option_and_then (λ m. option_and_then (λ d. Some (fill_memory s x.address a m (overwrite m.bytes q d.bytes))) (slice_get s.datas x.address)) (slice_get s.mems a)) o)) there
+              ∙ ap₂ (λ o p. or_trapped s (option_and_then (λ m. option_and_then (λ d. Some (fill_memory s x.address a m (overwrite m.bytes q d.bytes))) p) o)) u.1 i.1
+              ∙ ap (fill_memory s x.address a u.0) o.1;
+          kept = memory_kept s x.address a (record u.0 { bytes = o.0 }) lone by_itself;
+        }

@@ -1,0 +1,42 @@
+-- The first step of a run, which instantiates its world.
+use Rattle.std.proofs.Common.{◌≡◌, ℕ, zero, suc, List, [], ◌∷◌, Option, Some, None, Bool, true, false, cond, refl, sym, ap, subst}
+use Rattle.wasm_tree.specs.declared.space.Space.{Space}
+use Rattle.wasm_meaning.specs.State.{Opening}
+use Rattle.wasm_meaning.specs.Environment.{Environment}
+use Rattle.wasm_meaning.specs.World.{Begun}
+use Rattle.wasm_meaning.specs.Run.{Event, InstanceTrapped, Move, Pending, Closed, Out, tick, events_of, fresh_run}
+use Rattle.base_simulation.specs.Machines.{noted}
+use Rattle.index_remap.specs.Related.{Pairing, OneToOne, OptRel, none, some, nil}
+use Rattle.index_remap.specs.RelatedRuns.{BegunRel, pending, closed}
+use Rattle.index_remap.specs.Laws.{passed, EntryByEntry, RelatedRunsShowTheSame}
+
+module _ (law : RelatedRunsShowTheSame) (of : Space → ℕ → ℕ → Bool) (apart : OneToOne (passed of of [])) (env : Environment) (moves : List Move) where
+  abbrev R : Pairing
+  R = passed of of []
+
+  after_step : {b c : Begun} (n : ℕ) → BegunRel R (EntryByEntry R) b c → events_of tick (fresh_run env (Some b) moves) (suc n) ≡ events_of tick (fresh_run env (Some c) moves) (suc n)
+  after_step {b} {c} n g = subst (λ x. shown (cond x trapped_first begun_first) ≡ shown (cond c.trapped trapped_second begun_second)) (sym g.trapped) (go c.trapped)
+    where
+      shown : Out → List Event
+      shown o = noted o.1 (events_of tick o.0 n)
+
+      trapped_first : Out
+      trapped_first = (record (fresh_run env (Some b) moves) { store = b.store; phase = Closed; owned = b.owned }, Some InstanceTrapped)
+
+      trapped_second : Out
+      trapped_second = (record (fresh_run env (Some c) moves) { store = c.store; phase = Closed; owned = c.owned }, Some InstanceTrapped)
+
+      begun_first : Out
+      begun_first = (record (fresh_run env (Some b) moves) { store = b.store; entries = Opening b.starts ∷ []; phase = Pending b.view; owned = b.owned }, None)
+
+      begun_second : Out
+      begun_second = (record (fresh_run env (Some c) moves) { store = c.store; entries = Opening c.starts ∷ []; phase = Pending c.view; owned = c.owned }, None)
+
+      go : (x : Bool) → shown (cond x trapped_first begun_first) ≡ shown (cond x trapped_second begun_second)
+      go true = ap (λ es. InstanceTrapped ∷ es) (law of apart trapped_first.0 trapped_second.0 (record { store = g.store; entries = g.closed; phase = closed; shown = nil; view = nil; owned = g.owned; moves = refl }) n)
+      go false = law of apart begun_first.0 begun_second.0 (record { store = g.store; entries = g.entries; phase = pending g.view; shown = nil; view = nil; owned = g.owned; moves = refl }) n
+
+  pub runs_same : {b c : Option Begun} (n : ℕ) → OptRel (BegunRel R (EntryByEntry R)) b c → events_of tick (fresh_run env b moves) n ≡ events_of tick (fresh_run env c moves) n
+  runs_same zero r = refl
+  runs_same (suc n) none = refl
+  runs_same (suc n) (some g) = after_step n g

@@ -1,0 +1,120 @@
+-- The environment's own entities, where each has its address in both worlds.
+use Rattle.std.proofs.Common.{◌≡◌, ℕ, suc, ◌+◌, ◌^◌, ◌<◌, ◌≤◌, List, [], ◌∷◌, map, length, Option, Some, None, Bool, true, false, cond, refl, sym, ap₂, subst, ◌∙◌, arith}
+use Rattle.std.specs.Prelude.{nat_lt}
+use Rattle.std.proofs.lemmas.List.{length-append}
+use Rattle.wasm_tree.specs.declared.types.RefType.{RefType}
+use Rattle.wasm_tree.specs.declared.types.RefType.TheVariants as reft
+use Rattle.wasm_tree.specs.declared.types.ValType.{ValType}
+use Rattle.wasm_tree.specs.declared.types.ValType.TheVariants as valt
+use Rattle.wasm_meaning.specs.Outcomes.{Outcome, Gives, Traps, IllTyped, bind}
+use Rattle.wasm_num.specs.Operations.{Width, W32, W64}
+use Rattle.wasm_meaning.specs.State.{Val, Num, Own}
+use Rattle.wasm_meaning.specs.Values.{ref_of, null_of}
+use Rattle.wasm_meaning.specs.Environment.{Environment, Shown, Number, Null, OwnFunc, ExternNumber, OwnKey, FuncKey, TableKey, MemoryKey, GlobalKey, Thing, FuncAt, TableAt, MemoryAt, GlobalAt, Owned, owned_of, owned_at, look_up, same_key, func_of, func_value, received, or_null, or_zero, addressed, flat, one_if, own_funcs, own_tables, own_memories, own_globals}
+use Rattle.wasm_meaning.specs.World.{given}
+use Rattle.index_remap.specs.Related.{Pairing, OptRel, none, some, ResRel, done, trap, wrong, ListRel, nil, cons, RefRel, func, extern, ValRel, number, reference, FuncRel, TableRel, GlobalRel}
+use Rattle.index_remap.specs.Related as related
+use Rattle.index_remap.specs.RelatedRuns.{ThingRel, a_func, a_table, a_memory, a_global, KeyRel}
+use Rattle.index_remap.proofs.Rel.{append_rel}
+use Rattle.world_simulation.specs.Owned.{SharesOwn, OwnCorrespond}
+use Rattle.world_simulation.proofs.Places.{map_length, opt_self, self_rel, maps_rel}
+
+pub null_rel : (R : Pairing) (ty : RefType) → RefRel R (null_of ty) (null_of ty)
+null_rel R reft.Func = func none
+null_rel R reft.Extern = extern
+
+pub flat_rel : {A B : Type 0} {P : B → B → Type 0} (f : A → List B) → ((a : A) → ListRel P (f a) (f a)) → (xs : List A) → ListRel P (flat f xs) (flat f xs)
+flat_rel f h [] = nil
+flat_rel f h (x ∷ xs) = append_rel (h x) (flat_rel f h xs)
+
+pub own_funcs_rel : (R : Pairing) (env : Environment) → ListRel (FuncRel R) (own_funcs env) (own_funcs env)
+own_funcs_rel R env = flat_rel _ (λ o. maps_rel _ _ (self_rel o.funcs (λ ty. related.own))) env
+
+module _ (R : Pairing) (env : Environment) (own : SharesOwn R env) where
+  -- ---- by key ----
+
+  addressed_rel : (thing : ℕ → Thing) (n : ℕ) (keys : List OwnKey) → ((a : ℕ) → n ≤ a → a < n + length keys → ThingRel R (thing a) (thing a)) → ListRel (KeyRel R) (addressed thing n keys) (addressed thing n keys)
+  addressed_rel thing n [] h = nil
+  addressed_rel thing n (key ∷ keys) h = cons (record { key = refl; thing = h n (omega arith) (omega arith) }) (addressed_rel thing (suc n) keys (λ a l m. h a (omega arith) (omega arith)))
+
+  flat_length : {A B C : Type 0} (f : A → List B) (g : A → List C) → ((a : A) → length (f a) ≡ length (g a)) → (xs : List A) → length (flat f xs) ≡ length (flat g xs)
+  flat_length f g h [] = refl
+  flat_length f g h (x ∷ xs) = length-append (f x) (flat f xs) ∙ ap₂ (λ a b. a + b) (h x) (flat_length f g h xs) ∙ sym (length-append (g x) (flat g xs))
+
+  one_length : {A B C : Type 0} (f : A → B) (g : A → C) (o : Option A) → length (one_if f o) ≡ length (one_if g o)
+  one_length f g None = refl
+  one_length f g (Some a) = refl
+
+  pub owned_rel : ListRel (KeyRel R) (owned_of env) (owned_of env)
+  owned_rel =
+      let funcs : length (flat (λ o. map (FuncKey o.pair) o.funcs) env) ≡ length (own_funcs env) = flat_length _ _ (λ o. map_length (FuncKey o.pair) o.funcs ∙ sym (map_length (Own o.pair) o.funcs)) env in
+      let tables : length (flat (λ o. one_if (λ t. TableKey o.pair) o.table) env) ≡ length (own_tables env) = flat_length _ _ (λ o. one_length _ _ o.table) env in
+      let mems : length (flat (λ o. one_if (λ m. MemoryKey o.pair) o.memory) env) ≡ length (own_memories env) = flat_length _ _ (λ o. one_length _ _ o.memory) env in
+      let globals : length (flat (λ o. one_if (λ g. GlobalKey o.pair) o.global) env) ≡ length (own_globals env) = flat_length _ _ (λ o. one_length _ _ o.global) env in
+      append_rel (addressed_rel FuncAt 0 _ (λ a l m. a_func (own.funcs a (omega (arith, m, funcs)))))
+      (append_rel (addressed_rel TableAt 0 _ (λ a l m. a_table (own.tables a (omega (arith, m, tables)))))
+      (append_rel (addressed_rel MemoryAt 0 _ (λ a l m. a_memory (own.mems a (omega (arith, m, mems))))) (addressed_rel GlobalAt 0 _ (λ a l m. a_global (own.globals a (omega (arith, m, globals)))))))
+
+  either : (b : Bool) {x y : Thing} (o p : Outcome Thing) → ThingRel R x y → OptRel (ThingRel R) (given o) (given p) → OptRel (ThingRel R) (given (cond b (Gives x) o)) (given (cond b (Gives y) p))
+  either true o p x r = some x
+  either false o p x r = r
+
+  pub given_rel : (is : OwnKey → Bool) {xs ys : Owned} → ListRel (KeyRel R) xs ys → OptRel (ThingRel R) (given (look_up is xs)) (given (look_up is ys))
+  given_rel is nil = none
+  given_rel is (cons {a = x} {b = y} {xs = xs} {ys = ys} p r) =
+      subst (λ k. OptRel (ThingRel R) (given (look_up is (x ∷ xs))) (given (cond (is k) (Gives y.1) (look_up is ys)))) p.key (either (is x.0) (look_up is xs) (look_up is ys) p.thing (given_rel is r))
+
+  -- ---- their values ----
+
+  func_value_rel : (o : Outcome Thing) → OptRel (ThingRel R) (given o) (given o) → ResRel (ValRel R) (bind o (λ thing. func_value (func_of thing))) (bind o (λ thing. func_value (func_of thing)))
+  func_value_rel Traps h = trap
+  func_value_rel IllTyped h = wrong
+  func_value_rel (Gives x) h = go (opt_self h refl)
+    where
+      go : {x : Thing} → ThingRel R x x → ResRel (ValRel R) (func_value (func_of x)) (func_value (func_of x))
+      go (a_func p) = done (reference (func (some p)))
+      go (a_table p) = wrong
+      go (a_memory p) = wrong
+      go (a_global p) = wrong
+
+  number_rel : (w : Width) (n : ℕ) (b : Bool) → ResRel (ValRel R) (cond b (Gives (Num w n)) IllTyped) (cond b (Gives (Num w n)) IllTyped)
+  number_rel w n true = done number
+  number_rel w n false = wrong
+
+  received_rel : (ty : ValType) (x : Shown) → ResRel (ValRel R) (received (owned_of env) [] ty x) (received (owned_of env) [] ty x)
+  received_rel valt.I32 (Number n) = number_rel W32 n (nat_lt n (2 ^ 32))
+  received_rel valt.I64 (Number n) = number_rel W64 n (nat_lt n (2 ^ 64))
+  received_rel (valt.Ref reft.Func) Null = done (reference (func none))
+  received_rel (valt.Ref reft.Func) (OwnFunc pair ty) = func_value_rel (owned_at (owned_of env) (FuncKey pair ty)) (given_rel (same_key (FuncKey pair ty)) owned_rel)
+  received_rel (valt.Ref reft.Extern) Null = done (reference extern)
+  received_rel (valt.Ref reft.Extern) (ExternNumber n) = done (reference extern)
+  received_rel _ _ = wrong
+
+  received_ref_rel : (ty : RefType) {o p : Outcome Val} → ResRel (ValRel R) o p → RefRel R (or_null ty (bind o ref_of)) (or_null ty (bind p ref_of))
+  received_ref_rel ty (done (reference r)) = r
+  received_ref_rel reft.Func (done number) = func none
+  received_ref_rel reft.Func trap = func none
+  received_ref_rel reft.Func wrong = func none
+  received_ref_rel reft.Extern (done number) = extern
+  received_ref_rel reft.Extern trap = extern
+  received_ref_rel reft.Extern wrong = extern
+
+  zero_rel : (ty : ValType) {o p : Outcome Val} → ResRel (ValRel R) o p → ValRel R (or_zero ty o) (or_zero ty p)
+  zero_rel ty (done v) = v
+  zero_rel valt.I32 h = number
+  zero_rel valt.I64 h = number
+  zero_rel (valt.Ref reft.Func) h = reference (func none)
+  zero_rel (valt.Ref reft.Extern) h = reference extern
+
+  one_rel : {A B : Type 0} {P : B → B → Type 0} (f : A → B) → ((a : A) → P (f a) (f a)) → (o : Option A) → ListRel P (one_if f o) (one_if f o)
+  one_rel f h None = nil
+  one_rel f h (Some a) = cons (h a) nil
+
+  pub own_tables_rel : ListRel (TableRel R) (own_tables env) (own_tables env)
+  own_tables_rel = flat_rel _ (λ o. one_rel _ (λ u. record { type = refl; most = refl; slots = maps_rel _ _ (self_rel u.entries (λ x. received_ref_rel u.ty (received_rel (valt.Ref u.ty) x))) }) o.table) env
+
+  pub own_globals_rel : ListRel (GlobalRel R) (own_globals env) (own_globals env)
+  own_globals_rel = flat_rel _ (λ o. one_rel _ (λ g. record { type = refl; value = zero_rel g.ty.ty (received_rel g.ty.ty g.value) }) o.global) env
+
+  pub own_correspond : OwnCorrespond R env
+  own_correspond = record { owned = owned_rel; tables = own_tables_rel; globals = own_globals_rel }

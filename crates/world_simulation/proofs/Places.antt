@@ -1,0 +1,131 @@
+-- Lists by place, numbers in a row, and lists that are related place by place.
+use Rattle.std.proofs.Common.{◌≡◌, ℕ, zero, suc, ◌+◌, ◌<◌, ◌≤◌, List, [], ◌∷◌, map, length, Option, Some, None, Bool, true, refl, sym, ap, subst, arith, option_and_then, slice_get, slice_set}
+use Rattle.wasm_meaning.specs.Outcomes.{Outcome, Gives, IllTyped, at}
+use Rattle.wasm_meaning.specs.World.{numbers, all_there}
+pub use Rattle.base_lists.proofs.Bools.{left_true, right_true}
+use Rattle.std.specs.List.{list_all}
+use Rattle.index_remap.specs.Related.{OptRel, none, some, ResRel, done, wrong, BothRel, both, ListRel, nil, cons}
+
+-- ---- places ----
+
+pub place_map : {A B : Type 0} (f : A → B) (xs : List A) (n : ℕ) → slice_get (map f xs) n ≡ option_and_then (λ x. Some (f x)) (slice_get xs n)
+place_map f [] n = refl
+place_map f (x ∷ xs) zero = refl
+place_map f (x ∷ xs) (suc n) = place_map f xs n
+
+pub map_length : {A B : Type 0} (f : A → B) (xs : List A) → length (map f xs) ≡ length xs
+map_length f [] = refl
+map_length f (x ∷ xs) = ap suc (map_length f xs)
+
+pub some_then : {A B : Type 0} (o : Option A) (f : A → B) (b : B) → option_and_then (λ a. Some (f a)) o ≡ Some b → (a : A) × (o ≡ Some a) × (f a ≡ b)
+some_then None f b h = cc
+some_then (Some a) f b h = (a, refl, cc)
+
+-- ---- options ----
+
+pub then_rel : {A B C D : Type 0} {P : A → B → Type 0} {Q : C → D → Type 0} {o : Option A} {p : Option B} {f : A → Option C} {g : B → Option D} → OptRel P o p → ((a : A) (b : B) → P a b → OptRel Q (f a) (g b)) → OptRel Q (option_and_then f o) (option_and_then g p)
+then_rel none h = none
+then_rel (some q) h = h _ _ q
+
+-- with what the first came to
+pub then_rel_is : {A B C D : Type 0} {P : A → B → Type 0} {Q : C → D → Type 0} {o : Option A} {p : Option B} {f : A → Option C} {g : B → Option D} → OptRel P o p → ((a : A) (b : B) → o ≡ Some a → P a b → OptRel Q (f a) (g b)) → OptRel Q (option_and_then f o) (option_and_then g p)
+then_rel_is none h = none
+then_rel_is (some q) h = h _ _ refl q
+
+pub then_same : {A C D : Type 0} {Q : C → D → Type 0} {f : A → Option C} {g : A → Option D} (o : Option A) → ((a : A) → o ≡ Some a → OptRel Q (f a) (g a)) → OptRel Q (option_and_then f o) (option_and_then g o)
+then_same None h = none
+then_same (Some a) h = h a refl
+
+-- the same follows from what is related
+pub then_eq : {A B C : Type 0} {P : A → B → Type 0} {o : Option A} {p : Option B} {f : A → Option C} {g : B → Option C} → OptRel P o p → ((a : A) (b : B) → P a b → f a ≡ g b) → option_and_then f o ≡ option_and_then g p
+then_eq none h = refl
+then_eq (some q) h = h _ _ q
+
+pub opt_self : {A : Type 0} {P : A → A → Type 0} {o : Option A} {a : A} → OptRel P o o → o ≡ Some a → P a a
+opt_self {P = P} {o = o} r e = go (subst (λ x. OptRel P x x) e r)
+  where
+    go : {b : _} → OptRel P (Some b) (Some b) → P b b
+    go (some p) = p
+
+pub opt_both : {A B : Type 0} {P : A → B → Type 0} {o : Option A} {p : Option B} {a : A} {b : B} → OptRel P o p → o ≡ Some a → p ≡ Some b → P a b
+opt_both {B = B} {P = P} {p = p} {a = a} r e f = go (subst (λ y. OptRel P (Some a) y) f (subst (λ x. OptRel P x p) e r))
+  where
+    go : {b : B} → OptRel P (Some a) (Some b) → P a b
+    go (some p) = p
+
+pub opt_at : {A B : Type 0} {P : A → B → Type 0} {o p : Option A} {q r : Option B} → o ≡ p → q ≡ r → OptRel P p r → OptRel P o q
+opt_at {P = P} {o = o} {r = r} e f h = subst (λ y. OptRel P o y) (sym f) (subst (λ x. OptRel P x r) (sym e) h)
+
+-- ---- lists that are related ----
+
+pub place_rel : {A B : Type 0} {P : A → B → Type 0} {xs : List A} {ys : List B} → ListRel P xs ys → (n : ℕ) → OptRel P (slice_get xs n) (slice_get ys n)
+place_rel nil n = none
+place_rel (cons p r) zero = some p
+place_rel (cons p r) (suc n) = place_rel r n
+
+pub self_rel : {A : Type 0} {P : A → A → Type 0} (xs : List A) → ((x : A) → P x x) → ListRel P xs xs
+self_rel [] h = nil
+self_rel (x ∷ xs) h = cons (h x) (self_rel xs h)
+
+pub map_rel : {A B : Type 0} {P : A → B → Type 0} (f : A → B) (xs : List A) → ((x : A) → P x (f x)) → ListRel P xs (map f xs)
+map_rel f [] h = nil
+map_rel f (x ∷ xs) h = cons (h x) (map_rel f xs h)
+
+pub tested_rel : {A B : Type 0} {P : A → B → Type 0} (test : A → Bool) (f : A → B) (xs : List A) → list_all test xs ≡ true → ((x : A) → test x ≡ true → P x (f x)) → ListRel P xs (map f xs)
+tested_rel test f [] t h = nil
+tested_rel test f (x ∷ xs) t h = cons (h x (left_true _ _ t)) (tested_rel test f xs (right_true (test x) _ t) h)
+
+pub numbers_rel : {P : ℕ → ℕ → Type 0} (k n : ℕ) → ((i : ℕ) → k ≤ i → i < k + n → P i i) → ListRel P (numbers k n) (numbers k n)
+numbers_rel k zero h = nil
+numbers_rel k (suc n) h = cons (h k (omega arith) (omega arith)) (numbers_rel (suc k) n (λ i a b. h i (omega arith) (omega arith)))
+
+pub all_rel : {A B C D : Type 0} {P : C → D → Type 0} {f : A → Option C} {g : B → Option D} {xs : List A} {ys : List B} → ListRel (λ x y. OptRel P (f x) (g y)) xs ys → OptRel (ListRel P) (all_there f xs) (all_there g ys)
+all_rel nil = some nil
+all_rel (cons p r) = then_rel p (λ _ _ a. then_rel (all_rel r) (λ _ _ b. some (cons a b)))
+
+pub maps_rel : {A B C D : Type 0} {P : C → D → Type 0} (f : A → C) (g : B → D) {xs : List A} {ys : List B} → ListRel (λ x y. P (f x) (g y)) xs ys → ListRel P (map f xs) (map g ys)
+maps_rel f g nil = nil
+maps_rel f g (cons p r) = cons p (maps_rel f g r)
+
+-- ---- where all are there ----
+
+-- ---- places as the steps look them up ----
+
+abbrev or_ill : {A : Type 0} → Option A → Outcome A
+or_ill None = IllTyped
+or_ill (Some a) = Gives a
+
+at_place : {A : Type 0} (xs : List A) (n : ℕ) → at xs n ≡ or_ill (slice_get xs n)
+at_place [] n = refl
+at_place (x ∷ xs) zero = refl
+at_place (x ∷ xs) (suc n) = at_place xs n
+
+res_of : {A B : Type 0} {P : A → B → Type 0} {o : Option A} {p : Option B} → OptRel P o p → ResRel P (or_ill o) (or_ill p)
+res_of none = wrong
+res_of (some r) = done r
+
+pub names_of : {A B : Type 0} {P : A → B → Type 0} (xs : List A) (ys : List B) (n m : ℕ) → OptRel P (slice_get xs n) (slice_get ys m) → ResRel P (at xs n) (at ys m)
+names_of xs ys n m r = rw (at_place xs n, at_place ys m) (res_of r)
+
+-- what a step looks up, as options
+pub res_placed : {A B : Type 0} {P : A → B → Type 0} (xs : List A) (ys : List B) (n m : ℕ) → ResRel P (at xs n) (at ys m) → OptRel P (slice_get xs n) (slice_get ys m)
+res_placed {A} {B} {P} xs ys n m r = go (slice_get xs n) (slice_get ys m) (subst (λ o. ResRel P o (or_ill (slice_get ys m))) (at_place xs n) (subst (ResRel P (at xs n)) (at_place ys m) r))
+  where
+    go : (o : Option A) (p : Option B) → ResRel P (or_ill o) (or_ill p) → OptRel P o p
+    go None None r = none
+    go (Some a) (Some b) (done r) = some r
+    go None (Some b) r = elim r [ ]
+    go (Some a) None r = elim r [ ]
+
+pub both_at : {A B : Type 0} {P : A → B → Type 0} (xs : List A) (ys : List B) (n m : ℕ) (x : A) (y : B) → slice_get xs n ≡ Some x → slice_get ys m ≡ Some y → P x y → BothRel P (at xs n) (at ys m)
+both_at xs ys n m x y e f r = rw (at_place xs n, at_place ys m, e, f) (both r)
+
+pub both_in : {A B : Type 0} {P : A → B → Type 0} {xs : List A} {ys : List B} → ListRel P xs ys → (n : ℕ) → n < length xs → BothRel P (at xs n) (at ys n)
+both_in nil n h = absurd (omega arith)
+both_in (cons p r) zero h = both p
+both_in (cons p r) (suc n) h = both_in r n (omega arith)
+
+pub put_length : {A : Type 0} (xs : List A) (n : ℕ) (v : A) → length (slice_set xs n v) ≡ length xs
+put_length [] n v = refl
+put_length (x ∷ xs) zero v = refl
+put_length (x ∷ xs) (suc n) v = ap suc (put_length xs n v)

@@ -1,0 +1,112 @@
+-- A module's items with other indices, where each index of a set names what its entry names: exports, starts, functions, constant expressions, and the modes of segments.
+use Rattle.std.proofs.Common.{◌≡◌, ℕ, zero, suc, List, [], ◌∷◌, map, Option, Some, None, refl, sym, ap, subst, ◌∙◌, option_and_then, slice_get}
+use Rattle.std.specs.Prelude.{slice_index, IsTrue, Bool}
+use Rattle.wasm_tree.specs.declared.space.Space.{Space}
+use Rattle.wasm_tree.specs.declared.space.Space.TheVariants.{Types, Functions, Tables, Memories, Globals, ElementSegments, DataSegments}
+use Rattle.wasm_tree.specs.declared.module.ConstExpr.{ConstExpr}
+use Rattle.wasm_tree.specs.declared.module.ExportDesc.{ExportDesc}
+use Rattle.wasm_tree.specs.declared.module.ExportDesc.TheVariants as ex
+use Rattle.wasm_tree.specs.declared.module.ElemMode.{ElemMode}
+use Rattle.wasm_tree.specs.declared.module.ElemMode.TheVariants as elem
+use Rattle.wasm_tree.specs.declared.module.ElemSeg.{ElemSeg}
+use Rattle.wasm_tree.specs.declared.module.DataMode.{DataMode}
+use Rattle.wasm_tree.specs.declared.module.DataMode.TheVariants as data'
+use Rattle.wasm_tree.specs.declared.module.DataSeg.{DataSeg}
+use Rattle.wasm_tree.specs.declared.module.Func as tree
+use Rattle.wasm_num.specs.Operations.{W32}
+use Rattle.wasm_meaning.specs.Outcomes.{Outcome, Gives, IllTyped, at}
+use Rattle.wasm_meaning.specs.State.{Val, Inst}
+use Rattle.wasm_meaning.specs.Values.{num_of}
+use Rattle.wasm_meaning.specs.World.{Task, given, one_place, start_in, address_in}
+use Rattle.index_remap.specs.declared.remap.Remap.{Remap}
+use Rattle.index_remap.specs.Renumbered.{new_func, new_const, new_elem, new_elem_mode, new_data_mode, new_export_desc, new_start}
+use Rattle.index_remap.specs.Related.{Pairing, OptRel, none, some, ListRel, nil, cons, ResRel, ValRel, number, reference}
+use Rattle.index_remap.specs.RelatedRuns.{ThingRel, a_func, a_table, a_memory, a_global}
+use Rattle.index_remap.specs.Laws.{passed, RenumberedCodeIsRelated}
+use Rattle.remap_typing.specs.Indices.{Indices, ConstNamesOnly, FuncNamesOnly, ExportNamesOnly, ElemModeNamesOnly, DataModeNamesOnly}
+use Rattle.world_simulation.specs.Named.{EntriesName}
+use Rattle.world_simulation.specs.Definitions.{FuncsCorrespond, is_declarative, ElemsCorrespond}
+use Rattle.world_simulation.specs.Segments.{offset_in, ElemsPartner, DatasPartner}
+use Rattle.world_simulation.specs.Segments as segments
+use Rattle.world_simulation.proofs.Places.{then_rel, res_placed}
+use Rattle.world_simulation.proofs.Named.{all_named}
+
+-- equal look-ups, as options
+same_placed : {A : Type 0} (xs ys : List A) (n k : ℕ) → at xs n ≡ at ys k → slice_get xs n ≡ slice_get ys k
+same_placed {A} xs ys n k e = go (res_placed {P = λ x y. x ≡ y} xs ys n k (subst (ResRel (λ x y. x ≡ y) (at xs n)) e (self (at xs n))))
+  where
+    self : (o : Outcome A) → ResRel (λ x y. x ≡ y) o o
+    self (Gives x) = ResRel.done refl
+    self IllTyped = ResRel.wrong
+    self _ = ResRel.trap
+
+    go : {o p : Option A} → OptRel (λ x y. x ≡ y) o p → o ≡ p
+    go none = refl
+    go (some e) = ap Some e
+
+-- the offset of a segment, by values that are related
+pub offset_same : (R : Pairing) {o p : Option Val} → OptRel (ValRel R) o p → option_and_then (λ v. given (num_of W32 v)) o ≡ option_and_then (λ v. given (num_of W32 v)) p
+offset_same R none = refl
+offset_same R (some number) = refl
+offset_same R (some (reference r)) = refl
+
+module _ (of : Space → ℕ → ℕ → Bool) (m : Remap) (kept : Indices) (i j : Inst) (names : EntriesName (passed of of []) m kept i j) where
+  abbrev R : Pairing
+  R = passed of of []
+
+  pub func_named : (x : ℕ) → IsTrue (kept Functions x) → OptRel (R.of Functions) (slice_get i.funcs x) (slice_get j.funcs (slice_index m.funcs x))
+  func_named x h = res_placed i.funcs j.funcs x _ (names Functions x h)
+
+  pub table_named : (x : ℕ) → IsTrue (kept Tables x) → OptRel (R.of Tables) (slice_get i.tables x) (slice_get j.tables (slice_index m.tables x))
+  table_named x h = res_placed i.tables j.tables x _ (names Tables x h)
+
+  pub memory_named : (x : ℕ) → IsTrue (kept Memories x) → OptRel (R.of Memories) (slice_get i.mems x) (slice_get j.mems (slice_index m.mems x))
+  memory_named x h = res_placed i.mems j.mems x _ (names Memories x h)
+
+  pub global_named : (x : ℕ) → IsTrue (kept Globals x) → OptRel (R.of Globals) (slice_get i.globals x) (slice_get j.globals (slice_index m.globals x))
+  global_named x h = res_placed i.globals j.globals x _ (names Globals x h)
+
+  pub export_named : (d : ExportDesc) → ExportNamesOnly kept d → OptRel (ThingRel R) (address_in i d) (address_in j (new_export_desc m d))
+  export_named (ex.Func x) h = then_rel (func_named x h) (λ _ _ r. some (a_func r))
+  export_named (ex.Table x) h = then_rel (table_named x h) (λ _ _ r. some (a_table r))
+  export_named (ex.Memory x) h = then_rel (memory_named x h) (λ _ _ r. some (a_memory r))
+  export_named (ex.Global x) h = then_rel (global_named x h) (λ _ _ r. some (a_global r))
+
+  pub start_named : (start : Option ℕ) → ((f : ℕ) → start ≡ Some f → IsTrue (kept Functions f)) → ListRel (R.of Functions) (start_in i start) (start_in j (new_start m start))
+  start_named None h = nil
+  start_named (Some f) h = go (func_named f (h f refl))
+    where
+      go : {o p : Option ℕ} → OptRel (R.of Functions) o p → ListRel (R.of Functions) (one_place o) (one_place p)
+      go none = nil
+      go (some r) = cons r nil
+
+  pub funcs_correspond : RenumberedCodeIsRelated → (f : tree.Func) → FuncNamesOnly kept f → FuncsCorrespond R i j f (new_func m f)
+  funcs_correspond law f h = record { type = same_placed i.types j.types f.ty _ (names Types f.ty h.0); locals = refl; code = law of of [] m i j f.body (all_named R m kept i j names f.body h.1) }
+
+  -- ---- by values that are related ----
+
+  module _ (value worth : ConstExpr → Option Val) (consts : (e : ConstExpr) → ConstNamesOnly kept e → OptRel (ValRel R) (value e) (worth (new_const m e))) where
+    pub elem_mode_named : (x y : Task ElemSeg) → x.inst ≡ i → y.inst ≡ j → R.of ElementSegments x.address y.address → (mode : ElemMode) → ElemModeNamesOnly kept mode → ElemsPartner R value worth x y mode (new_elem_mode m mode)
+    elem_mode_named x y e f r (elem.Active t d) h =
+        segments.ElemsPartner.active r (subst (λ i. OptRel (R.of Tables) (slice_get i.tables t) (slice_get y.inst.tables (slice_index m.tables t))) (sym e) (subst (λ j. OptRel (R.of Tables) (slice_get i.tables t) (slice_get j.tables (slice_index m.tables t))) (sym f) (table_named t h.0)))
+        (offset_same R (consts d h.1))
+    elem_mode_named x y e f r elem.Passive h = segments.ElemsPartner.passive
+    elem_mode_named x y e f r elem.Declarative h = segments.ElemsPartner.declarative
+
+    pub data_mode_named : (x y : Task DataSeg) → x.inst ≡ i → y.inst ≡ j → R.of DataSegments x.address y.address → (mode : DataMode) → DataModeNamesOnly kept mode → DatasPartner R value worth x y mode (new_data_mode m mode)
+    data_mode_named x y e f r (data'.Active t d) h =
+        segments.DatasPartner.active r (subst (λ i. OptRel (R.of Memories) (slice_get i.mems t) (slice_get y.inst.mems (slice_index m.mems t))) (sym e) (subst (λ j. OptRel (R.of Memories) (slice_get i.mems t) (slice_get j.mems (slice_index m.mems t))) (sym f) (memory_named t h.0)))
+        (offset_same R (consts d h.1))
+    data_mode_named x y e f r data'.Passive h = segments.DatasPartner.passive
+
+    pub elems_correspond : (e : ElemSeg) → ((p : ℕ) (x : ConstExpr) → slice_get e.items p ≡ Some x → ConstNamesOnly kept x) → ElemsCorrespond R value worth e (new_elem m e)
+    elems_correspond e h = record { declarative = same e.mode; items = items e.items h }
+      where
+        same : (mode : ElemMode) → is_declarative mode ≡ is_declarative (new_elem_mode m mode)
+        same (elem.Active t d) = refl
+        same elem.Passive = refl
+        same elem.Declarative = refl
+
+        items : (xs : List ConstExpr) → ((p : ℕ) (x : ConstExpr) → slice_get xs p ≡ Some x → ConstNamesOnly kept x) → ListRel (λ x y. OptRel (ValRel R) (value x) (worth y)) xs (map (new_const m) xs)
+        items [] h = nil
+        items (x ∷ xs) h = cons (consts x (h 0 x refl)) (items xs (λ p. h (suc p)))

@@ -1,0 +1,121 @@
+-- Two worlds that correspond are instantiated to what is related.
+use Rattle.std.proofs.Common.{◌≡◌, ℕ, zero, suc, ◌*◌, ◌≤◌, List, length, Option, Some, None, Bool, true, false, cond, refl, ap, subst, arith, option_and_then}
+use Rattle.base_lists.proofs.Options.{and_then_is, all_there_length}
+use Rattle.wasm_tree.specs.declared.space.Space.TheVariants.{Functions}
+use Rattle.wasm_meaning.specs.State.{Elem, Store, RefVal}
+use Rattle.wasm_tree.specs.declared.module.ElemMode.{ElemMode}
+use Rattle.wasm_tree.specs.declared.module.ElemMode.TheVariants as elem
+use Rattle.wasm_tree.specs.declared.module.ElemSeg.{ElemSeg}
+use Rattle.wasm_tree.specs.declared.module.ConstExpr.{ConstExpr}
+use Rattle.wasm_meaning.specs.State.{Val}
+use Rattle.wasm_meaning.specs.Values.{ref_of, null_of}
+use Rattle.wasm_meaning.specs.Outcomes.{copies}
+use Rattle.wasm_meaning.specs.Linking.{sites}
+use Rattle.wasm_meaning.specs.Environment.{Environment, all_of}
+use Rattle.wasm_meaning.specs.World.{World, Begun, given, insts_from, stores_from, own_store, all_there, seen_as, is_matched, new_elem, elem_with, segments, starts_of, begun, instantiate, is_there, links}
+use Rattle.index_remap.specs.Related.{Pairing, OneToOne, OptRel, none, some, ListRel, nil, cons, opening}
+use Rattle.index_remap.specs.RelatedRuns.{BegunRel}
+use Rattle.index_remap.specs.Laws.{EntryByEntry}
+use Rattle.world_simulation.specs.Definitions.{Instantiated, values_in}
+use Rattle.world_simulation.specs.Simulation.{IsInstantiated, in_world, WorldsCorrespond, AreSimilar, StartAlike, BegunAlike}
+use Rattle.world_simulation.proofs.Places.{all_rel, opt_both}
+use Rattle.world_simulation.proofs.Owned.{owned_rel}
+use Rattle.world_simulation.proofs.Stored.{table_placed, memory_placed, elem_placed, data_placed, stores_rel}
+use Rattle.world_simulation.proofs.Copied.{HasRoom}
+use Rattle.world_simulation.proofs.Ordered.{Stores, FilledAlike, and_then_alike, elems_defined, datas_defined, elems_in_order, datas_in_order}
+
+-- ---- what instantiation made ----
+
+matched_is : {A : Type 0} (b : Bool) (x : A) (y : A) → cond b (Some x) None ≡ Some y → (b ≡ true) × (x ≡ y)
+matched_is true x y h = (refl, cc)
+matched_is false x y h = cc
+
+pub what_is_made : (env : Environment) (w : World) (b : Begun) → instantiate env w ≡ Some b → IsInstantiated env w b
+what_is_made env w b h =
+    let i = and_then_is (insts_from env w.parts 0 w.parts) _ b h in
+    let s = and_then_is (stores_from env w.parts i.0 (own_store env) 0 w.parts i.0) _ b i.2 in
+    let v = and_then_is (all_there (seen_as i.0) w.view) _ b s.2 in
+    let m = matched_is (all_of (is_matched env w.parts s.0) (sites w.parts)) (begun env w i.0 v.0 (segments env w.parts i.0 s.0)) b v.2 in
+    record { insts = i.0; are_insts = i.1; allocated = s.0; is_allocated = s.1; view = v.0; is_view = v.1; matched = m.0; is = m.1 }
+
+-- ---- what is allocated has room ----
+
+pub copies_length : {A : Type 0} (n : ℕ) (v : A) → length (copies n v) ≡ n
+copies_length zero v = refl
+copies_length (suc n) v = ap suc (copies_length n v)
+
+elem_few : (value : ConstExpr → Option Val) (d : ElemSeg) (e : Elem) → elem_with value d ≡ Some e → length e.items ≤ length d.items
+elem_few value d e h =
+    let i = and_then_is (all_there (λ x. option_and_then (λ v. given (ref_of v)) (value x)) d.items) _ e h in
+    let many = all_there_length (λ x. option_and_then (λ v. given (ref_of v)) (value x)) d.items i.0 i.1 in
+    let last = i.2 in
+    let same : new_elem d.mode i.0 ≡ e = cc in
+    subst (λ (e : Elem). length e.items ≤ length d.items) same (few d.mode i.0 many)
+  where
+    few : (mode : ElemMode) (xs : List RefVal) → length xs ≡ length d.items → length (new_elem mode xs).items ≤ length d.items
+    few (elem.Active x offset) xs n = omega (arith, n)
+    few elem.Passive xs n = omega (arith, n)
+    few elem.Declarative xs n = omega arith
+
+pub allocated_room : (env : Environment) (w : Instantiated) (s : Store) → stores_from env w.parts w.insts (own_store env) 0 w.parts w.insts ≡ Some s → HasRoom env w s
+allocated_room env w s made = record {
+  tables = λ a d. (_, table_placed env w s made d, let n = copies_length d.definition.limits.min (null_of d.definition.ty) in omega (arith, n));
+  mems = λ a d. (_, memory_placed env w s made d, let n = copies_length {A = ℕ} (65536 * d.definition.min) 0 in omega (arith, n));
+  elems = λ a d. let x = elem_placed env w s made d in (x.0, x.1, elem_few (values_in env w d.part) d.definition x.0 x.2);
+  datas = λ a d. (_, data_placed env w s made d, omega arith);
+}
+
+-- ---- both ----
+
+module _ (R : Pairing) (apart : OneToOne R) (env : Environment) (v w : World) (similar : AreSimilar R env v w) where
+  -- what both are instantiated to
+  module _ (b c : Begun) (x : IsInstantiated env v b) (y : IsInstantiated env w c) where
+    abbrev first : Instantiated
+    first = in_world v x.insts
+
+    abbrev second : Instantiated
+    second = in_world w y.insts
+
+    correspond : WorldsCorrespond R env v w x.insts y.insts
+    correspond = similar x.insts y.insts x.are_insts y.are_insts
+
+    allocated : Stores R apart env first second x.allocated y.allocated
+    allocated = record {
+      related = stores_rel R env first second correspond.own correspond.definitions x.allocated y.allocated x.is_allocated y.is_allocated;
+      first = allocated_room env first x.allocated x.is_allocated;
+      second = allocated_room env second y.allocated y.is_allocated;
+    }
+
+    filled : FilledAlike R apart env first second (segments env v.parts x.insts x.allocated) (segments env w.parts y.insts y.allocated)
+    filled = and_then_alike R apart env first second
+        (elems_in_order R apart env first second correspond.elems (elems_defined env first x.are_insts) (elems_defined env second y.are_insts) x.allocated y.allocated allocated)
+        (λ s z like. datas_in_order R apart env first second correspond.datas (datas_defined env first x.are_insts) (datas_defined env second y.are_insts) s z like)
+
+    begun_alike : BegunAlike R (begun env v x.insts x.view (segments env v.parts x.insts x.allocated)) (begun env w y.insts y.view (segments env w.parts y.insts y.allocated))
+    begun_alike = record { store = filled.stores.related; trapped = filled.trapped; view = opt_both (all_rel correspond.view) x.is_view y.is_view; owned = owned_rel R env correspond.own }
+
+  pub begin_alike : (b c : Begun) → instantiate env v ≡ Some b → instantiate env w ≡ Some c → BegunAlike R b c
+  begin_alike b c f g =
+      let x = what_is_made env v b f in
+      let y = what_is_made env w c g in
+      subst (λ c. BegunAlike R b c) y.is (subst (λ b. BegunAlike R b (begun env w y.insts y.view (segments env w.parts y.insts y.allocated))) x.is (begun_alike b c x y))
+
+  begun_rel : StartAlike R env v w → (b c : Begun) → instantiate env v ≡ Some b → instantiate env w ≡ Some c → BegunRel R (EntryByEntry R) b c
+  begun_rel starts b c f g =
+      let x = what_is_made env v b f in
+      let y = what_is_made env w c g in
+      let k = begin_alike b c f g in
+      let first : starts_of v.parts x.insts ≡ b.starts = ap (λ (b : Begun). b.starts) x.is in
+      let second : starts_of w.parts y.insts ≡ c.starts = ap (λ (c : Begun). c.starts) y.is in
+      let related : ListRel (R.of Functions) b.starts c.starts = subst (λ l. ListRel (R.of Functions) b.starts l) second (subst (λ l. ListRel (R.of Functions) l (starts_of w.parts y.insts)) first (starts x.insts y.insts x.are_insts y.are_insts)) in
+      record { store = k.store; entries = cons (opening related) nil; closed = nil; trapped = k.trapped; view = k.view; owned = k.owned }
+
+  -- both or neither
+  pub instances_rel : StartAlike R env v w → links env v ≡ links env w → OptRel (BegunRel R (EntryByEntry R)) (instantiate env v) (instantiate env w)
+  instances_rel starts linked = go (instantiate env v) (instantiate env w) refl refl linked
+    where
+      go : (o p : Option Begun) → instantiate env v ≡ o → instantiate env w ≡ p → is_there o ≡ is_there p → OptRel (BegunRel R (EntryByEntry R)) o p
+      go None None f g e = none
+      go (Some b) (Some c) f g e = some (begun_rel starts b c f g)
+      go None (Some c) f g e = cc
+      go (Some b) None f g e = cc

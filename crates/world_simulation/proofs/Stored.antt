@@ -1,0 +1,158 @@
+-- What stands at the addresses of allocated stores; stores of which the definitions correspond are related.
+use Rattle.std.proofs.Common.{◌≡◌, ℕ, ◌<◌, List, [], length, Option, Some, refl, sym, ap, subst, ◌∙◌, option_and_then, slice_get}
+use Rattle.wasm_tree.specs.declared.space.Space.{Space}
+use Rattle.wasm_tree.specs.declared.space.Space.TheVariants.{Functions, Tables, Memories, Globals, ElementSegments, DataSegments}
+use Rattle.base_lists.proofs.Options.{all_there_at, all_there_length}
+use Rattle.base_lists.proofs.Places.{slice_get_there, map_at}
+use Rattle.wasm_tree.specs.declared.types.FuncType.{FuncType}
+use Rattle.wasm_tree.specs.declared.module.ConstExpr.{ConstExpr}
+use Rattle.wasm_tree.specs.declared.module.ElemMode.{ElemMode}
+use Rattle.wasm_tree.specs.declared.module.ElemMode.TheVariants as elem
+use Rattle.wasm_tree.specs.declared.module.ElemSeg.{ElemSeg}
+use Rattle.wasm_tree.specs.declared.module.Func as tree
+use Rattle.wasm_tree.specs.declared.module.GlobalDef.{GlobalDef}
+use Rattle.wasm_tree.specs.declared.module.Module.{Module}
+use Rattle.wasm_meaning.specs.Outcomes.{Outcome, Gives, bind, at}
+use Rattle.wasm_meaning.specs.State.{RefVal, Val, Inst, Func, Code, Global, Elem, Store}
+use Rattle.wasm_meaning.specs.Values.{ref_of, declared}
+use Rattle.wasm_meaning.specs.Control.{type_of_func, own_of}
+use Rattle.wasm_meaning.specs.Environment.{Environment, own_funcs, own_tables, own_memories, own_globals}
+use Rattle.wasm_meaning.specs.World.{given, own_count, new_func, new_global, global_with, new_elem, elem_with, elem_of, own_store, stores_from}
+use Rattle.index_remap.specs.Related.{Pairing, OptRel, none, some, BothRel, both, ListRel, nil, RefRel, ValRel, number, reference, FuncRel, defined, own, TableRel, GlobalRel, ElemRel, StoreRel}
+use Rattle.index_remap.specs.Related as to
+use Rattle.index_remap.proofs.Rel.{copies_rel}
+use Rattle.world_simulation.specs.Owned.{SharesOwn}
+use Rattle.world_simulation.specs.Definitions.{Instantiated, DefinedAt, values_in, FuncsCorrespond, GlobalsCorrespond, is_declarative, ElemsCorrespond, Partners, DefinitionsCorrespond}
+use Rattle.world_simulation.specs.Definitions as partners
+use Rattle.world_simulation.proofs.Allocated.{new_table, new_memory, new_data, adds, keeps, funcs_stand, tables_stand, mems_stand, globals_stand, elems_stand, datas_stand}
+use Rattle.world_simulation.proofs.Owned.{null_rel, own_funcs_rel, own_tables_rel, own_globals_rel}
+use Rattle.world_simulation.proofs.Places.{map_length, then_rel, then_same, opt_both, place_rel, self_rel, all_rel, both_at}
+
+-- ---- what stands at an address ----
+
+module _ (env : Environment) (w : Instantiated) (s : Store) (made : stores_from env w.parts w.insts (own_store env) 0 w.parts w.insts ≡ Some s) where
+  pub func_placed : {a : ℕ} (d : DefinedAt env w Functions (λ m. m.funcs) a) → (f : Func) × (slice_get s.funcs a ≡ Some f) × (new_func d.inst d.definition ≡ Some f)
+  func_placed d =
+      let r = funcs_stand env w.parts w.insts s made d.part d.of d.inst d.is_part d.is_inst in
+      let x = all_there_at (new_func d.inst) d.of.funcs r.added.funcs (adds env w.parts w.insts d.part d.of d.inst r.added r.made).funcs d.place d.definition d.stands in
+      (x.0, ap (slice_get s.funcs) d.address ∙ r.at d.place x.0 x.2, x.1)
+
+  pub global_placed : {a : ℕ} (d : DefinedAt env w Globals (λ m. m.globals) a) → (g : Global) × (slice_get s.globals a ≡ Some g) × (new_global env w.parts w.insts d.part d.definition ≡ Some g)
+  global_placed d =
+      let r = globals_stand env w.parts w.insts s made d.part d.of d.inst d.is_part d.is_inst in
+      let x = all_there_at (new_global env w.parts w.insts d.part) d.of.globals r.added.globals (adds env w.parts w.insts d.part d.of d.inst r.added r.made).globals d.place d.definition d.stands in
+      (x.0, ap (slice_get s.globals) d.address ∙ r.at d.place x.0 x.2, x.1)
+
+  pub elem_placed : {a : ℕ} (d : DefinedAt env w ElementSegments (λ m. m.elems) a) → (e : Elem) × (slice_get s.elems a ≡ Some e) × (elem_of env w.parts w.insts d.part d.definition ≡ Some e)
+  elem_placed d =
+      let r = elems_stand env w.parts w.insts s made d.part d.of d.inst d.is_part d.is_inst in
+      let x = all_there_at (elem_of env w.parts w.insts d.part) d.of.elems r.added.elems (adds env w.parts w.insts d.part d.of d.inst r.added r.made).elems d.place d.definition d.stands in
+      (x.0, ap (slice_get s.elems) d.address ∙ r.at d.place x.0 x.2, x.1)
+
+  pub table_placed : {a : ℕ} (d : DefinedAt env w Tables (λ m. m.tables) a) → slice_get s.tables a ≡ Some (new_table d.definition)
+  table_placed d =
+      let r = tables_stand env w.parts w.insts s made d.part d.of d.inst d.is_part d.is_inst in
+      ap (slice_get s.tables) d.address ∙ r.at d.place _ (ap (λ l. slice_get l d.place) (adds env w.parts w.insts d.part d.of d.inst r.added r.made).tables ∙ map_at new_table d.of.tables d.place d.definition d.stands)
+
+  pub memory_placed : {a : ℕ} (d : DefinedAt env w Memories (λ m. m.mems) a) → slice_get s.mems a ≡ Some (new_memory d.definition)
+  memory_placed d =
+      let r = mems_stand env w.parts w.insts s made d.part d.of d.inst d.is_part d.is_inst in
+      ap (slice_get s.mems) d.address ∙ r.at d.place _ (ap (λ l. slice_get l d.place) (adds env w.parts w.insts d.part d.of d.inst r.added r.made).mems ∙ map_at new_memory d.of.mems d.place d.definition d.stands)
+
+  pub data_placed : {a : ℕ} (d : DefinedAt env w DataSegments (λ m. m.datas) a) → slice_get s.datas a ≡ Some (new_data d.definition)
+  data_placed d =
+      let r = datas_stand env w.parts w.insts s made d.part d.of d.inst d.is_part d.is_inst in
+      ap (slice_get s.datas) d.address ∙ r.at d.place _ (ap (λ l. slice_get l d.place) (adds env w.parts w.insts d.part d.of d.inst r.added r.made).datas ∙ map_at new_data d.of.datas d.place d.definition d.stands)
+
+  -- what is the environment's own is as the environment has it
+  pub own_func_placed : (a : ℕ) (f : Func) → slice_get (own_funcs env) a ≡ Some f → slice_get s.funcs a ≡ Some f
+  own_func_placed = keeps env w.parts w.insts Functions (λ s. s.funcs) (λ s t. refl) (λ p m i t h. all_there_length (new_func i) m.funcs t.funcs (adds env w.parts w.insts p m i t h).funcs) 0 w.parts w.insts (own_store env) s made
+
+  pub own_table_placed : (a : ℕ) (t : _) → slice_get (own_tables env) a ≡ Some t → slice_get s.tables a ≡ Some t
+  own_table_placed = keeps env w.parts w.insts Tables (λ s. s.tables) (λ s t. refl) (λ p m i t h. ap length (adds env w.parts w.insts p m i t h).tables ∙ map_length new_table m.tables) 0 w.parts w.insts (own_store env) s made
+
+  pub own_memory_placed : (a : ℕ) (m : _) → slice_get (own_memories env) a ≡ Some m → slice_get s.mems a ≡ Some m
+  own_memory_placed = keeps env w.parts w.insts Memories (λ s. s.mems) (λ s t. refl) (λ p m i t h. ap length (adds env w.parts w.insts p m i t h).mems ∙ map_length new_memory m.mems) 0 w.parts w.insts (own_store env) s made
+
+  pub own_global_placed : (a : ℕ) (g : Global) → slice_get (own_globals env) a ≡ Some g → slice_get s.globals a ≡ Some g
+  own_global_placed = keeps env w.parts w.insts Globals (λ s. s.globals) (λ s t. refl) (λ p m i t h. all_there_length (new_global env w.parts w.insts p) m.globals t.globals (adds env w.parts w.insts p m i t h).globals) 0 w.parts w.insts (own_store env) s made
+
+-- ---- what corresponds is related ----
+
+module _ (R : Pairing) where
+  pub func_rel : {i j : Inst} {f g : tree.Func} → FuncsCorrespond R i j f g → OptRel (FuncRel R) (new_func i f) (new_func j g)
+  func_rel {i} {j} {f} {g} k =
+      subst (λ o. OptRel (FuncRel R) (new_func i f) (option_and_then (λ t. Some (Code t j (declared g.locals) g.body)) o)) k.type
+      (then_same (slice_get i.types f.ty) (λ t _. some (subst (λ ls. FuncRel R (Code t i (declared f.locals) f.body) (Code t j (declared ls) g.body)) k.locals (defined k.code))))
+
+  pub ref_rel : {v w : Val} → ValRel R v w → OptRel (RefRel R) (given (ref_of v)) (given (ref_of w))
+  ref_rel number = none
+  ref_rel (reference r) = some r
+
+  module _ (value worth : ConstExpr → Option Val) where
+    pub global_rel : {g h : GlobalDef} → GlobalsCorrespond R value worth g h → OptRel (GlobalRel R) (global_with value g) (global_with worth h)
+    global_rel k = then_rel k.init (λ _ _ v. some (record { type = k.type; value = v }))
+
+    elem_is : (m n : ElemMode) {xs ys : List RefVal} → is_declarative m ≡ is_declarative n → ListRel (RefRel R) xs ys → ElemRel R (new_elem m xs) (new_elem n ys)
+    elem_is (elem.Active x e) (elem.Active y f) d k = record { items = k }
+    elem_is (elem.Active x e) elem.Passive d k = record { items = k }
+    elem_is (elem.Active x e) elem.Declarative d k = cc
+    elem_is elem.Passive (elem.Active y f) d k = record { items = k }
+    elem_is elem.Passive elem.Passive d k = record { items = k }
+    elem_is elem.Passive elem.Declarative d k = cc
+    elem_is elem.Declarative (elem.Active y f) d k = cc
+    elem_is elem.Declarative elem.Passive d k = cc
+    elem_is elem.Declarative elem.Declarative d k = record { items = nil }
+
+    refs_rel : {xs ys : List ConstExpr} → ListRel (λ x y. OptRel (ValRel R) (value x) (worth y)) xs ys → ListRel (λ x y. OptRel (RefRel R) (option_and_then (λ v. given (ref_of v)) (value x)) (option_and_then (λ v. given (ref_of v)) (worth y))) xs ys
+    refs_rel nil = nil
+    refs_rel (to.cons p r) = to.cons (then_rel p (λ _ _ v. ref_rel v)) (refs_rel r)
+
+    pub elem_rel : {d e : ElemSeg} → ElemsCorrespond R value worth d e → OptRel (ElemRel R) (elem_with value d) (elem_with worth e)
+    elem_rel {d} {e} k = then_rel (all_rel (refs_rel k.items)) (λ _ _ r. some (elem_is d.mode e.mode k.declarative r))
+
+  type_same : {o p : Outcome Func} → BothRel (FuncRel R) o p → BothRel (◌≡◌ {A = FuncType}) (bind o (λ f. Gives (type_of_func f))) (bind p (λ f. Gives (type_of_func f)))
+  type_same (both (defined c)) = both refl
+  type_same (both own) = both refl
+  type_same (both to.slot) = both refl
+
+  own_same : {o p : Outcome Func} → BothRel (FuncRel R) o p → bind o own_of ≡ bind p own_of
+  own_same (both (defined c)) = refl
+  own_same (both own) = refl
+  own_same (both to.slot) = refl
+
+  -- ---- related stores ----
+
+  module _ (env : Environment) (v w : Instantiated) where
+    -- what stands at the addresses of partners
+    stand : {A B : Type 0} {P : B → B → Type 0} (k : Space) (definitions : Module → List A) (correspond : ℕ → Inst → A → ℕ → Inst → A → Type 0) (owned xs ys : List B) → own_count k env ≡ length owned → ListRel P owned owned →
+        ((a : ℕ) (x : B) → slice_get owned a ≡ Some x → slice_get xs a ≡ Some x) → ((a : ℕ) (x : B) → slice_get owned a ≡ Some x → slice_get ys a ≡ Some x) →
+        ((a b : ℕ) (d : DefinedAt env v k definitions a) (e : DefinedAt env w k definitions b) → correspond d.part d.inst d.definition e.part e.inst e.definition → (x y : B) × (slice_get xs a ≡ Some x) × (slice_get ys b ≡ Some y) × P x y) →
+        (a b : ℕ) → Partners env v w k definitions correspond a b → BothRel P (at xs a) (at ys b)
+    stand {P = P} k definitions correspond owned xs ys size rel first second at_defined a b (partners.own same low) =
+        let x = slice_get_there owned a (subst (λ n. a < n) size low) in
+        both_at xs ys a b x.0 x.0 (first a x.0 x.1) (second b x.0 (ap (slice_get owned) (sym same) ∙ x.1)) (opt_both (place_rel rel a) x.1 x.1)
+    stand k definitions correspond owned xs ys size rel first second at_defined a b (partners.defined d e c) =
+        let x = at_defined a b d e c in
+        both_at xs ys a b x.0 x.1 x.2 x.3 x.4
+
+    pub stores_rel : SharesOwn R env → DefinitionsCorrespond R env v w → (s z : Store) → stores_from env v.parts v.insts (own_store env) 0 v.parts v.insts ≡ Some s → stores_from env w.parts w.insts (own_store env) 0 w.parts w.insts ≡ Some z → StoreRel R s z
+    stores_rel shares defs s z s_is z_is = record {
+      types = λ {a} {b} r. type_same (funcs a b r);
+      owns = λ {a} {b} r. own_same (funcs a b r);
+      funcs = λ {a} {b} r _. funcs a b r;
+      tables = λ {a} {b} r. stand Tables _ _ (own_tables env) s.tables z.tables refl (own_tables_rel R env shares) (own_table_placed env v s s_is) (own_table_placed env w z z_is)
+          (λ a b d e c. (new_table d.definition, new_table e.definition, table_placed env v s s_is d, table_placed env w z z_is e, subst (λ t. TableRel R (new_table d.definition) (new_table t)) c (record { type = refl; most = refl; slots = copies_rel _ _ d.definition.limits.min (null_rel R d.definition.ty) }))) a b (defs.tables a b r);
+      mems = λ {a} {b} r. stand Memories _ _ (own_memories env) s.mems z.mems refl (self_rel (own_memories env) (λ x. refl)) (own_memory_placed env v s s_is) (own_memory_placed env w z z_is)
+          (λ a b d e c. (new_memory d.definition, new_memory e.definition, memory_placed env v s s_is d, memory_placed env w z z_is e, ap new_memory c)) a b (defs.mems a b r);
+      globals = λ {a} {b} r. stand Globals _ _ (own_globals env) s.globals z.globals refl (own_globals_rel R env shares) (own_global_placed env v s s_is) (own_global_placed env w z z_is)
+          (λ a b d e c. let x = global_placed env v s s_is d in let y = global_placed env w z z_is e in (x.0, y.0, x.1, y.1, opt_both (global_rel (values_in env v d.part) (values_in env w e.part) c) x.2 y.2)) a b (defs.globals a b r);
+      elems = λ {a} {b} r. stand ElementSegments _ _ [] s.elems z.elems refl nil (λ a x h. cc) (λ a x h. cc)
+          (λ a b d e c. let x = elem_placed env v s s_is d in let y = elem_placed env w z z_is e in (x.0, y.0, x.1, y.1, opt_both (elem_rel (values_in env v d.part) (values_in env w e.part) c) x.2 y.2)) a b (defs.elems a b r);
+      datas = λ {a} {b} r. stand DataSegments _ _ [] s.datas z.datas refl nil (λ a x h. cc) (λ a x h. cc)
+          (λ a b d e c. (new_data d.definition, new_data e.definition, data_placed env v s s_is d, data_placed env w z z_is e, c)) a b (defs.datas a b r);
+    }
+      where
+        funcs : (a b : ℕ) → R.of Functions a b → BothRel (FuncRel R) (at s.funcs a) (at z.funcs b)
+        funcs a b r = stand Functions _ _ (own_funcs env) s.funcs z.funcs refl (own_funcs_rel R env) (own_func_placed env v s s_is) (own_func_placed env w z z_is)
+            (λ a b d e c. let x = func_placed env v s s_is d in let y = func_placed env w z z_is e in (x.0, y.0, x.1, y.1, opt_both (func_rel c) x.2 y.2)) a b (defs.funcs a b r)

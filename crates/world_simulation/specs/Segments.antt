@@ -1,0 +1,73 @@
+-- The segments of two instantiated worlds in the order in which they are copied (WebAssembly Core 2.0, section 4.5.4): partners stand in the same order, and an active
+-- segment without partner is in bounds and writes only what has no partner.
+use Rattle.std.specs.Prelude.{◌≡◌, ℕ, ◌+◌, ◌*◌, ◌≤◌, List, [], ◌∷◌, length, Option, Some, slice_get}
+use Rattle.base_lists.specs.Options.{◌>>=◌}
+use Rattle.wasm_tree.specs.declared.space.Space.{Space}
+use Rattle.wasm_tree.specs.declared.space.Space.TheVariants.{Tables, Memories, ElementSegments, DataSegments}
+use Rattle.wasm_tree.specs.declared.module.ConstExpr.{ConstExpr}
+use Rattle.wasm_tree.specs.declared.module.ElemMode.{ElemMode}
+use Rattle.wasm_tree.specs.declared.module.ElemMode.TheVariants as elem
+use Rattle.wasm_tree.specs.declared.module.ElemSeg.{ElemSeg}
+use Rattle.wasm_tree.specs.declared.module.DataMode.{DataMode}
+use Rattle.wasm_tree.specs.declared.module.DataMode.TheVariants as data'
+use Rattle.wasm_tree.specs.declared.module.DataSeg.{DataSeg}
+use Rattle.wasm_num.specs.Operations.{W32}
+use Rattle.wasm_meaning.specs.State.{Val}
+use Rattle.wasm_meaning.specs.Values.{num_of}
+use Rattle.wasm_meaning.specs.Environment.{Environment}
+use Rattle.wasm_meaning.specs.World.{Task, given, elem_tasks, data_tasks}
+use Rattle.index_remap.specs.Related.{Pairing, OptRel}
+use Rattle.index_remap.specs.RelatedRuns.{HasNoPartner}
+use Rattle.world_simulation.specs.Definitions.{Instantiated, DefinedAt, values_in}
+
+-- partners stand in the same order, with other items alone between them
+pub data InOrder {A B : Type 0} (partners : A → B → Type 0) (first : A → Type 0) (second : B → Type 0) : List A → List B → Type 0 where
+  ends : InOrder partners first second [] []
+  both : {x : A} {y : B} {xs : List A} {ys : List B} → partners x y → InOrder partners first second xs ys → InOrder partners first second (x ∷ xs) (y ∷ ys)
+  only_first : {x : A} {xs : List A} {ys : List B} → first x → InOrder partners first second xs ys → InOrder partners first second (x ∷ xs) ys
+  only_second : {y : B} {xs : List A} {ys : List B} → second y → InOrder partners first second xs ys → InOrder partners first second xs (y ∷ ys)
+
+abbrev pub offset_in : (ConstExpr → Option Val) → ConstExpr → Option ℕ
+offset_in value e = value e >>= λ v. given (num_of W32 v)
+
+-- ---- element segments ----
+
+-- Both are active, and copied to related tables at equal offsets; or neither is active.
+pub data ElemsPartner (R : Pairing) (value worth : ConstExpr → Option Val) (x y : Task ElemSeg) : ElemMode → ElemMode → Type 0 where
+  active : {t u : ℕ} {d e : ConstExpr} → R.of ElementSegments x.address y.address → OptRel (R.of Tables) (slice_get x.inst.tables t) (slice_get y.inst.tables u) → offset_in value d ≡ offset_in worth e → ElemsPartner R value worth x y (elem.Active t d) (elem.Active u e)
+  passive : ElemsPartner R value worth x y elem.Passive elem.Passive
+  declarative : ElemsPartner R value worth x y elem.Declarative elem.Declarative
+
+-- Active in bounds of a defined table: neither the table nor the segment has a partner. Or it is not active.
+pub data ElemAlone (alone : Space → ℕ → Type 0) (env : Environment) (w : Instantiated) (x : Task ElemSeg) : ElemMode → Type 0 where
+  active : {t n a : ℕ} {e : ConstExpr} → slice_get x.inst.tables t ≡ Some a → alone Tables a → (table : DefinedAt env w Tables (λ m. m.tables) a) → alone ElementSegments x.address →
+      offset_in (values_in env w x.part) e ≡ Some n → n + length x.segment.items ≤ table.definition.limits.min → ElemAlone alone env w x (elem.Active t e)
+  passive : ElemAlone alone env w x elem.Passive
+  declarative : ElemAlone alone env w x elem.Declarative
+
+-- ---- data segments ----
+
+pub data DatasPartner (R : Pairing) (value worth : ConstExpr → Option Val) (x y : Task DataSeg) : DataMode → DataMode → Type 0 where
+  active : {t u : ℕ} {d e : ConstExpr} → R.of DataSegments x.address y.address → OptRel (R.of Memories) (slice_get x.inst.mems t) (slice_get y.inst.mems u) → offset_in value d ≡ offset_in worth e → DatasPartner R value worth x y (data'.Active t d) (data'.Active u e)
+  passive : DatasPartner R value worth x y data'.Passive data'.Passive
+
+pub data DataAlone (alone : Space → ℕ → Type 0) (env : Environment) (w : Instantiated) (x : Task DataSeg) : DataMode → Type 0 where
+  active : {t n a : ℕ} {e : ConstExpr} → slice_get x.inst.mems t ≡ Some a → alone Memories a → (memory : DefinedAt env w Memories (λ m. m.mems) a) → alone DataSegments x.address →
+      offset_in (values_in env w x.part) e ≡ Some n → n + length x.segment.bytes ≤ 65536 * memory.definition.min → DataAlone alone env w x (data'.Active t e)
+  passive : DataAlone alone env w x data'.Passive
+
+-- ---- all of them ----
+
+-- related to no address of the second world
+abbrev pub alone_in_first : Pairing → Space → ℕ → Type 0
+alone_in_first R k a = (b : ℕ) → R.of k a b → ⊥
+
+abbrev pub ElemsInOrder : Pairing → Environment → Instantiated → Instantiated → Type 0
+ElemsInOrder R env v w =
+    InOrder (λ x y. ElemsPartner R (values_in env v x.part) (values_in env w y.part) x y x.segment.mode y.segment.mode) (λ x. ElemAlone (alone_in_first R) env v x x.segment.mode) (λ y. ElemAlone (HasNoPartner R) env w y y.segment.mode)
+    (elem_tasks 0 v.parts v.insts) (elem_tasks 0 w.parts w.insts)
+
+abbrev pub DatasInOrder : Pairing → Environment → Instantiated → Instantiated → Type 0
+DatasInOrder R env v w =
+    InOrder (λ x y. DatasPartner R (values_in env v x.part) (values_in env w y.part) x y x.segment.mode y.segment.mode) (λ x. DataAlone (alone_in_first R) env v x x.segment.mode) (λ y. DataAlone (HasNoPartner R) env w y y.segment.mode)
+    (data_tasks 0 v.parts v.insts) (data_tasks 0 w.parts w.insts)

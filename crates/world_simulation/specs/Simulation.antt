@@ -1,0 +1,90 @@
+-- One law for two worlds: each embedder sees the same of both, where what their parts define corresponds under a one-to-one relation of addresses, their segments,
+-- starts and views stand in the same order, and the environment links one exactly where it links the other.
+use Rattle.std.specs.Prelude.{◌≡◌, ℕ, Bool, List, [], Some}
+use Rattle.wasm_tree.specs.declared.space.Space.{Space}
+use Rattle.wasm_tree.specs.declared.space.Space.TheVariants.{Functions}
+use Rattle.wasm_meaning.specs.State.{Inst, Store}
+use Rattle.wasm_meaning.specs.Environment.{Environment, Thing, all_of}
+use Rattle.wasm_meaning.specs.State.{Text}
+use Rattle.wasm_meaning.specs.Linking.{sites}
+use Rattle.wasm_meaning.specs.World.{World, Begun, insts_from, stores_from, own_store, all_there, seen_as, starts_of, is_matched, segments, begun, instantiate, links}
+use Rattle.wasm_meaning.specs.Run.{Move, events}
+use Rattle.index_remap.specs.Related.{Pairing, OneToOne, OptRel, ListRel, StoreRel}
+use Rattle.index_remap.specs.RelatedRuns.{KeyRel, BegunRel}
+use Rattle.index_remap.specs.Laws.{passed, EntryByEntry}
+use Rattle.world_simulation.specs.Owned.{SharesOwn}
+use Rattle.world_simulation.specs.Definitions.{Instantiated, DefinitionsCorrespond}
+use Rattle.world_simulation.specs.Segments.{ElemsInOrder, DatasInOrder}
+use Rattle.std.specs.Prelude.{true}
+
+-- ---- a world that is instantiated ----
+
+-- What instantiation made of a world: the instances of its parts, the store that is allocated for these, what the names of its view stand for, and imports that all
+-- match; then the segments were copied.
+pub record IsInstantiated (env : Environment) (w : World) (b : Begun) : Type 0 where
+  pub insts : List Inst
+  pub are_insts : insts_from env w.parts 0 w.parts ≡ Some insts
+  pub allocated : Store
+  pub is_allocated : stores_from env w.parts insts (own_store env) 0 w.parts insts ≡ Some allocated
+  pub view : List (Text × Thing)
+  pub is_view : all_there (seen_as insts) w.view ≡ Some view
+  pub matched : all_of (is_matched env w.parts allocated) (sites w.parts) ≡ true
+  pub is : begun env w insts view (segments env w.parts insts allocated) ≡ b
+
+abbrev pub WhatIsInstantiated : Type 0
+WhatIsInstantiated = (env : Environment) (w : World) (b : Begun) → instantiate env w ≡ Some b → IsInstantiated env w b
+
+abbrev pub in_world : World → List Inst → Instantiated
+in_world w insts = record { parts = w.parts; insts = insts }
+
+-- ---- what has to correspond ----
+
+-- two worlds whose parts have these instances in an environment
+pub record WorldsCorrespond (R : Pairing) (env : Environment) (v w : World) (is js : List Inst) : Type 0 where
+  -- each of the environment's own entities stands for itself
+  pub own : SharesOwn R env
+  pub definitions : DefinitionsCorrespond R env (in_world v is) (in_world w js)
+  pub elems : ElemsInOrder R env (in_world v is) (in_world w js)
+  pub datas : DatasInOrder R env (in_world v is) (in_world w js)
+  -- the same names, in the same order, for what is related
+  pub view : ListRel (λ x y. OptRel (KeyRel R) (seen_as is x) (seen_as js y)) v.view w.view
+
+-- wherever the environment instantiates both
+abbrev pub AreSimilar : Pairing → Environment → World → World → Type 0
+AreSimilar R env v w = (is js : List Inst) → insts_from env v.parts 0 v.parts ≡ Some is → insts_from env w.parts 0 w.parts ≡ Some js → WorldsCorrespond R env v w is js
+
+-- and the same functions are started, in the same order
+abbrev pub StartAlike : Pairing → Environment → World → World → Type 0
+StartAlike R env v w = (is js : List Inst) → insts_from env v.parts 0 v.parts ≡ Some is → insts_from env w.parts 0 w.parts ≡ Some js → ListRel (R.of Functions) (starts_of v.parts is) (starts_of w.parts js)
+
+-- ---- the laws ----
+
+-- what two worlds are instantiated to, but for what they start: related stores, trapped both or neither, and the same names for what is related
+pub record BegunAlike (R : Pairing) (b c : Begun) : Type 0 where
+  pub store : StoreRel R b.store c.store
+  pub trapped : b.trapped ≡ c.trapped
+  pub view : ListRel (KeyRel R) b.view c.view
+  pub owned : ListRel (KeyRel R) b.owned c.owned
+
+-- Before segments are copied, the allocated stores are related.
+abbrev pub AllocatedStoresCorrespond : Type 0
+AllocatedStoresCorrespond =
+    (of : Space → ℕ → ℕ → Bool) (env : Environment) (v w : World) (is js : List Inst) (s z : Store) → SharesOwn (passed of of []) env → DefinitionsCorrespond (passed of of []) env (in_world v is) (in_world w js) →
+    stores_from env v.parts is (own_store env) 0 v.parts is ≡ Some s → stores_from env w.parts js (own_store env) 0 w.parts js ≡ Some z → StoreRel (passed of of []) s z
+
+-- Where both are instantiated, it is to what is alike.
+abbrev pub SimilarWorldsBeginAlike : Type 0
+SimilarWorldsBeginAlike =
+    (of : Space → ℕ → ℕ → Bool) → OneToOne (passed of of []) → (env : Environment) (v w : World) → AreSimilar (passed of of []) env v w →
+    (b c : Begun) → instantiate env v ≡ Some b → instantiate env w ≡ Some c → BegunAlike (passed of of []) b c
+
+-- Both show `LinkFault`, or both are instantiated, to related states, trapped both or neither; and so they show the same events, step by step.
+abbrev pub SimilarWorldsAreInstantiatedAlike : Type 0
+SimilarWorldsAreInstantiatedAlike =
+    (of : Space → ℕ → ℕ → Bool) → OneToOne (passed of of []) → (env : Environment) (v w : World) → links env v ≡ links env w → AreSimilar (passed of of []) env v w → StartAlike (passed of of []) env v w →
+    OptRel (BegunRel (passed of of []) (EntryByEntry (passed of of []))) (instantiate env v) (instantiate env w)
+
+abbrev pub SimilarWorldsShowTheSame : Type 0
+SimilarWorldsShowTheSame =
+    (of : Space → ℕ → ℕ → Bool) → OneToOne (passed of of []) → (env : Environment) (v w : World) → links env v ≡ links env w → AreSimilar (passed of of []) env v w → StartAlike (passed of of []) env v w →
+    (moves : List Move) (n : ℕ) → events v env moves n ≡ events w env moves n

@@ -1,0 +1,54 @@
+-- A module without one function that nothing else of it names (WebAssembly Core 2.0, section 2.5.1): the functions behind it move down by one, and references are
+-- declared where they have to be.
+use Rattle.std.specs.Prelude.{◌≡◌, ℕ, zero, suc, ◌+◌, ◌-◌, ◌<◌, Bool, ◌&&◌, not, nat_eq, IsTrue, List, [], ◌∷◌, ◌++◌, length}
+use Rattle.wasm_tree.specs.declared.space.Space.TheVariants.{Functions}
+use Rattle.wasm_tree.specs.declared.module.Module.{Module}
+use Rattle.wasm_tree.specs.Spaces.{imported_funcs, tables_of, memories_of, globals_of}
+use Rattle.wasm_meaning.specs.World.{alone, numbers, links}
+use Rattle.wasm_meaning.specs.Run.{Same, events}
+use Rattle.index_remap.specs.declared.remap.Remap.{Remap}
+use Rattle.index_remap.specs.Renumbered.{renumbered_tree}
+use Rattle.index_remap.specs.References.{declared}
+use Rattle.remap_typing.specs.Indices.{Indices, with_entry, TreeNamesOnly}
+
+-- the list without what stands at the place
+abbrev pub without : {A : Type 0} → ℕ → List A → List A
+without n [] = []
+without zero (x ∷ xs) = xs
+without (suc n) (x ∷ xs) = x ∷ without n xs
+
+-- the index of the function that stands at the place among those that the module defines
+abbrev pub function_index : ℕ → Module → ℕ
+function_index n t = length (imported_funcs t.imports) + n
+
+-- indices stay up to that of the function, and go down by one behind it
+abbrev pub closing : ℕ → Module → Remap
+closing n t = record {
+  types = numbers 0 (length t.types);
+  funcs = numbers 0 (suc (function_index n t)) ++ numbers (function_index n t) (length t.funcs - suc n);
+  tables = numbers 0 (length (tables_of t));
+  mems = numbers 0 (length (memories_of t));
+  globals = numbers 0 (length (globals_of t));
+  elems = numbers 0 (length t.elems);
+  datas = numbers 0 (length t.datas);
+}
+
+-- all indices that the module has, but that of the function
+abbrev pub others : ℕ → Module → Indices
+others n t Functions x = with_entry (closing n t) Functions x && not (nat_eq x (function_index n t))
+others n t space x = with_entry (closing n t) space x
+
+abbrev pub rest : ℕ → Module → Module
+rest n t = record t { funcs = without n t.funcs }
+
+-- nothing else of the module names the function, or what is not there
+abbrev pub IsUnreachable : ℕ → Module → Type 0
+IsUnreachable n t = TreeNamesOnly (others n t) (rest n t)
+
+abbrev pub removed : ℕ → Module → Module
+removed n t = declared (renumbered_tree (closing n t) (rest n t))
+
+-- Each embedder whose environment links the module sees the same of it without the function, step by step.
+abbrev pub UnreachableFunctionsAreNotSeen : Type 0
+UnreachableFunctionsAreNotSeen =
+    (t : Module) (n : ℕ) → n < length t.funcs → IsUnreachable n t → Same (λ env. IsTrue (links env (alone t))) (events (alone t)) (events (alone (removed n t))) (λ n. n) (λ n. n)

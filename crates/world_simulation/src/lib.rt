@@ -1,0 +1,88 @@
+//! Simulation of worlds: two worlds of which definitions, segments, starts and views correspond show the same to each embedder; and one start may call several
+//! functions.
+#![tactic(auto)]
+
+ghost use Rattle.world_simulation.specs.Alone.{
+  ImportsStandForTheEnvironments,
+  ImportsStay,
+  ReadsStay,
+  SpacesAreImportsAndOwn,
+};
+ghost use Rattle.world_simulation.specs.Instances.{RelatedBegunShowTheSame, RelatedInstancesShowTheSame};
+ghost use Rattle.world_simulation.specs.Named.{FittingCodeIsNamed, KeptCodeIsNamed};
+ghost use Rattle.world_simulation.specs.Owned.{OwnEntitiesCorrespond};
+ghost use Rattle.world_simulation.specs.Simulation.{
+  AllocatedStoresCorrespond,
+  SimilarWorldsAreInstantiatedAlike,
+  SimilarWorldsBeginAlike,
+  SimilarWorldsShowTheSame,
+  WhatIsInstantiated,
+};
+ghost use Rattle.world_simulation.specs.Simulation.{
+  AllocatedStoresCorrespond,
+  SimilarWorldsAreInstantiatedAlike,
+  SimilarWorldsBeginAlike,
+  SimilarWorldsShowTheSame,
+  WhatIsInstantiated,
+};
+ghost use Rattle.world_simulation.specs.Starts.{OneStartMayCallSeveral};
+
+use index_remap::related_runs_show_the_same;
+use remap_typing::renumbering_keeps_typing;
+use wasm_meaning::what_stands_below_is_not_seen;
+
+/// In the world of a module alone each import is its own end (`ends`) and stands for what the environment offers of its name, and of its type if it is a function,
+/// or for nothing (`things`); the index spaces are these, then what the module defines, or none where an import stands for nothing (`spaces`); and what a constant
+/// expression reads is the expression itself, or the `global.get` of the import that it names, or nothing (`reads`).
+pub fn imports_of_one_module_stay()
+    ensures ends { ImportsStay }
+    ensures things { ImportsStandForTheEnvironments }
+    ensures spaces { SpacesAreImportsAndOwn }
+    ensures reads { ReadsStay }
+{}
+
+/// Where each address of the environment's own entities stands for itself, their keys correspond, and the tables and globals that are allocated for them do.
+pub fn own_entities_correspond()
+    ensures own { OwnEntitiesCorrespond }
+{}
+
+/// Two worlds show the same events, step by step, where neither can be instantiated, or both to what corresponds under a one-to-one relation, with no function set
+/// apart (WebAssembly Core 2.0, section 4.5.4): of worlds (`same`), and of what they are instantiated to (`begun`).
+pub fn related_instances_show_the_same()
+    ensures same { RelatedInstancesShowTheSame }
+    ensures begun { RelatedBegunShowTheSame }
+{
+    related_runs_show_the_same();
+}
+
+/// Two worlds in an environment that links one exactly where it links the other (WebAssembly Core 2.0, section 4.5.4): where what they define corresponds under a
+/// one-to-one relation of addresses and partnered segments, starts and views stand in the same order, an active segment without partner being in bounds and writing only
+/// what has no partner, both show `LinkFault`, or both are instantiated to related states (`instantiated`), and each embedder sees the same of both, step by step (`same`).
+/// Without a word on starts, what both are instantiated to is alike but for these (`begin`); before segments are copied the stores are related (`allocated`); and what
+/// instantiation made of a world is told piece by piece (`made`).
+pub fn similar_worlds_show_the_same()
+    ensures made { WhatIsInstantiated }
+    ensures allocated { AllocatedStoresCorrespond }
+    ensures begin { SimilarWorldsBeginAlike }
+    ensures instantiated { SimilarWorldsAreInstantiatedAlike }
+    ensures same { SimilarWorldsShowTheSame }
+{
+    related_instances_show_the_same();
+}
+
+/// Where each index of a set and its entry in a map name addresses that code may name as one, or equal types, or nothing, so do each index of a body and its entry,
+/// if the body names only indices of the set (`kept`); if the set is that of the indices with an entry, such is each body that the map has entries for (`fitting`).
+pub fn code_that_fits_is_named()
+    ensures kept { KeptCodeIsNamed }
+    ensures fitting { FittingCodeIsNamed }
+{
+    renumbering_keeps_typing();
+}
+
+/// One start that calls several functions that take and give nothing shows the same as these as starts one after the other, in two silent steps more; the other way
+/// round in no step more.
+pub fn one_start_may_call_several()
+    ensures calls { OneStartMayCallSeveral }
+{
+    what_stands_below_is_not_seen();
+}
