@@ -1,8 +1,12 @@
 //! The writer: the plain spelling of a module, and whether it fits a number of bytes.
 #![tactic(auto)]
 
-ghost use Rattle.std.specs.Prelude.{◌≡◌, ◌≤◌, length, IfOk, IsTrue, ◌↔◌};
+ghost use Rattle.std.specs.Prelude.{◌≡◌, ◌≤◌, length, false, IfOk, IsTrue, ◌↔◌};
+ghost use Rattle.wasm_format.specs.Files.{Spells, Within};
 ghost use Rattle.wasm_plain.specs.Plain.{plain};
+ghost use Rattle.plain_law.specs.Ranges.{InRange};
+ghost use Rattle.plain_law.specs.SmallSizes.{SmallSizes};
+ghost use Rattle.plain_law.specs.TreeLimits.{WithinLimits};
 
 mod buffer;
 mod code;
@@ -18,6 +22,7 @@ mod types;
 use crate::buffer::Buffer;
 use crate::sections::spell_module;
 use crate::size::Size;
+use plain_law::plain_spells;
 use std::alloc::Global;
 use wasm_bytes::NoMemory;
 use wasm_tree::Module;
@@ -25,10 +30,15 @@ use wasm_tree::Module;
 /// The plain spelling of the module (WebAssembly Core 2.0, section 5.5.16): no empty and no custom section, each number in
 /// its shortest spelling, and a data count exactly where a body has `memory.init` or `data.drop`.
 ///
-/// Where each vector and each encoded size is below 2^32, it spells the module; a greater one has no spelling.
+/// Where each vector and each encoded size is below 2^32, and no body names a memory but memory 0, it spells the module; a greater size has
+/// no spelling. Where besides the module's counts, its nesting and its locals are within the limits, so are the bytes: `read` gives the
+/// module back, where they are fewer than 2^32. (Each number is in the range of its type, and each name is UTF-8.)
 pub fn write(alloc: Global, module: &Module) -> Result<Vec<u8>, NoMemory>
-    ensures { IfOk result (λ bytes. bytes.items ≡ plain «module».now) }
+    ensures plain { IfOk result (λ bytes. bytes.items ≡ plain «module».now) }
+    ensures spells { IfOk result (λ bytes. InRange «module».now → SmallSizes «module».now → Spells bytes.items «module».now false) }
+    ensures within { IfOk result (λ bytes. InRange «module».now → SmallSizes «module».now → WithinLimits «module».now → Within bytes.items false) }
 {
+    plain_spells();
     let mut file = Buffer::new(alloc);
     spell_module(&mut file, module)?;
     Ok(file.into_bytes())
