@@ -37,7 +37,7 @@ use Rattle.wasm_format.proofs.SectionLaws.{one_whole, type_clear}
 use Rattle.wasm_format.proofs.FileLaws.{one_framing}
 use Rattle.plain_law.specs.SmallSizes.{SmallSizes}
 use Rattle.plain_law.specs.TreeLimits.{WithinLimits}
-use Rattle.plain_law.proofs.Parts.{u32_some, u32_spells, sized_spells, vector_mapped, every_with, every_of, every_short, count_below}
+use Rattle.plain_law.proofs.Parts.{u32_some, u32_spells, sized_spells, vector_mapped, every_with, every_of, every_short}
 use Rattle.plain_law.proofs.ItemTexts.{func_type_spells, func_type_some, table_spells, table_some, limits_spells, limits_some, import_spells, import_some, global_spells, global_some, export_spells, export_some}
 use Rattle.plain_law.proofs.SegmentTexts.{elem_spells, elem_some, data_spells, data_some}
 use Rattle.plain_law.proofs.EntryTexts.{untyped, entry_spells, entry_some, funcs_use_same}

@@ -1,5 +1,5 @@
 -- Numbers in range and past it, computed, and modules that are in range and out of it.
-use Rattle.std.proofs.Common.{◌≡◌, refl, sym, ◌∙◌, ℕ, List, [], ◌∷◌, Bool, true, false, Some, None, arith}
+use Rattle.std.proofs.Common.{◌≡◌, refl, sym, ◌∙◌, List, [], ◌∷◌, Bool, true, false, None, arith}
 use Rattle.std.specs.Prelude.{pos}
 use Rattle.wasm_tree.specs.declared.instr.Instr.{Instr, out-Instr, fold_out-Instr}
 use Rattle.wasm_tree.specs.declared.instr.Instr.TheVariants.{Br, I32Const, MemorySize}

@@ -1,5 +1,5 @@
 -- Reading a body tells the stops of its bytes, and no others; and so does reading what is inside an entry.
-use Rattle.std.proofs.Common.{◌≡◌, ℕ, zero, suc, ◌<◌, ◌≤◌, List, [], ◌∷◌, ◌++◌, length, Result, Ok, Err, Bool, true, false, cond, ◌⊎◌, inl, inr, ⊎_elim, refl, sym, ap, ◌∙◌, subst, arith, append_assoc, append-nil, length-append}
+use Rattle.std.proofs.Common.{◌≡◌, ℕ, zero, suc, ◌≤◌, List, [], ◌∷◌, ◌++◌, length, Result, Ok, Err, Bool, true, false, cond, ◌⊎◌, inl, inr, ⊎_elim, refl, sym, ap, ◌∙◌, subst, arith, append_assoc, length-append}
 use Rattle.std.specs.Prelude.{◌==◌}
 use Rattle.base_lists.proofs.Bools.{cond_is}
 use Rattle.wasm_bytes.specs.Joins.{Then, Each}
@@ -10,7 +10,6 @@ use Rattle.wasm_tree.specs.declared.instr.Instr.{Instr}
 use Rattle.wasm_tree.specs.declared.instr.Instr.TheVariants.{Block, Loop, If}
 use Rattle.wasm_tree.specs.declared.which.Which.TheVariants.{Nesting}
 use Rattle.wasm_tree.specs.Limits.{limit}
-use Rattle.wasm_tree.specs.declared.module.Func.{Func}
 use Rattle.wasm_format.specs.declared.fault.Fault.{Fault}
 use Rattle.wasm_format.specs.declared.fault.Fault.TheVariants.{Malformed, Limit}
 use Rattle.wasm_format.specs.declared.token.Opener.{Opener}
@@ -18,15 +17,13 @@ use Rattle.wasm_format.specs.declared.token.Opener.TheVariants as opener
 use Rattle.wasm_format.specs.declared.token.Token.{Token}
 use Rattle.wasm_format.specs.declared.token.Token.TheVariants.{Open, Else, End, Plain}
 use Rattle.wasm_format.specs.declared.token.Sequence.{Sequence}
-use Rattle.wasm_format.specs.Words.{Any}
 use Rattle.wasm_format.specs.Tokens.{SpellsToken}
 use Rattle.wasm_format.specs.Stops.{Stop, Over, LocalsStop, TokenStops, LeaveOpen, nested, in_block, in_else, NestingStops, BodyStops, CodeStops}
-use Rattle.wasm_format.specs.BodyReading.{Read, behind, token_at, block_at, after_token, sequence_at, whole, body_at, closed, two_armed, enclosed, code_at, code_of}
+use Rattle.wasm_format.specs.BodyReading.{Read, behind, token_at, block_at, after_token, sequence_at, whole, body_at, closed, enclosed, code_at, code_of}
 use Rattle.wasm_format.specs.Reading.{locals_at}
-use Rattle.wasm_format.proofs.Blocks.{behind_behind}
 use Rattle.wasm_format.proofs.TokenLaws.{token_sound, token_complete}
 use Rattle.wasm_format.proofs.NestLaws.{to_in, from_in}
-use Rattle.wasm_format.proofs.BodyLaws.{NestsIn, no_more, one_plain, tokens_split, tokens_join, long, flat_token, Reads, reads_to_else, sequence_complete, ender, Found, Node, ended, took_join, one_token, block_sound, sequence_sound}
+use Rattle.wasm_format.proofs.BodyLaws.{NestsIn, no_more, one_plain, tokens_split, tokens_join, long, flat_token, reads_to_else, sequence_complete, ended, took_join, one_token, block_sound, sequence_sound}
 use Rattle.wasm_format.proofs.ItemLaws.{locals_exact}
 use Rattle.wasm_format.proofs.Stopping.{bind_err, ok_err, same_err, fault_of, Known, known_as, Tells}
 use Rattle.wasm_format.proofs.ItemStops.{locals_tell}

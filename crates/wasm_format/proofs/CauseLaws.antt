@@ -1,34 +1,31 @@
 -- The first fault of a file is that which has its cause.
-use Rattle.std.proofs.Common.{◌≡◌, ℕ, zero, suc, ◌+◌, List, [], ◌∷◌, ◌++◌, length, Result, Ok, Err, Bool, true, false, cond, Option, Some, None, ◌⊎◌, inl, inr, ⊎_elim, refl, sym, ap, ◌∙◌, subst, arith}
+use Rattle.std.proofs.Common.{◌≡◌, ℕ, suc, ◌+◌, List, [], ◌∷◌, ◌++◌, length, Result, Ok, Err, Bool, true, false, cond, Option, Some, None, ◌⊎◌, inl, inr, ⊎_elim, refl, sym, ap, ◌∙◌, subst, arith}
 use Rattle.std.proofs.lemmas.Bool.{cases_Bool}
-use Rattle.std.specs.Prelude.{◌==◌, ◌↔◌}
+use Rattle.std.specs.Prelude.{◌↔◌}
 use Rattle.base_lists.specs.Every.{Every}
 use Rattle.base_lists.proofs.Bools.{cond_is}
-use Rattle.wasm_bytes.specs.Reading.{◌>>=◌, IsBytes}
+use Rattle.wasm_bytes.specs.Reading.{IsBytes}
 use Rattle.wasm_bytes.specs.Frames.{Section, Framed}
 use Rattle.wasm_bytes.proofs.Lists.{bytes_rest}
 use Rattle.wasm_tree.specs.Spaces.{imported_funcs}
 use Rattle.wasm_tree.specs.declared.module.Func.{Func}
-use Rattle.wasm_tree.specs.declared.module.Module.{Module}
 use Rattle.wasm_format.specs.declared.fault.Fault.{Fault}
 use Rattle.wasm_format.specs.declared.fault.Fault.TheVariants as fault
 use Rattle.wasm_format.specs.declared.fault.ReadFault.{ReadFault}
 use Rattle.wasm_format.specs.declared.fault.ReadFault.TheVariants.{NoMemory, NotModule, Malformed, MalformedBody, Unsupported, Limit}
 use Rattle.wasm_format.specs.declared.parts.Parts.{Parts}
-use Rattle.wasm_format.specs.Bodies.{SpellsCode, SmallCode}
-use Rattle.wasm_format.specs.Files.{nothing, tree_of, SpellsSection, SmallSection, Contents, Rules}
-use Rattle.wasm_format.specs.Stops.{Stop, NotSupported, Over, CodeStops, section_stops}
+use Rattle.wasm_format.specs.Files.{nothing, SmallSection, Contents}
+use Rattle.wasm_format.specs.Stops.{Stop, NotSupported, Over}
 use Rattle.wasm_format.specs.BodyReading.{code_at}
-use Rattle.wasm_format.specs.Contents.{placed, codes_at, section_at, contents_at, agrees, framed_at, parts_at, read_at, fault_of as told_fault, read_fault}
+use Rattle.wasm_format.specs.Contents.{placed, codes_at, section_at, contents_at, agrees, framed_at, parts_at, read_at, read_fault}
 use Rattle.wasm_format.specs.Causes.{UpTo, EntryOf, InEntry, SectionStops, EntryStops, IsCode, MalformedContent, MalformedSection, FaultyWhole, Cause}
-use Rattle.wasm_format.proofs.Exact.{err_ok}
 use Rattle.wasm_format.proofs.Framing.{framed_reads, framed_sound, framed_fault, header_reads, bad_reads}
 use Rattle.wasm_format.proofs.EntryLaws.{code_sound, code_complete, content_bytes}
 use Rattle.wasm_format.proofs.SectionLaws.{section_right}
 use Rattle.wasm_format.proofs.FileLaws.{AreBytes, framed_bytes, contents_sound, contents_complete, of_rules, rules_of, told}
 use Rattle.wasm_format.proofs.Stopping.{bind_err, ok_err, same_err, fault_of}
 use Rattle.wasm_format.proofs.BodyStops.{code_tells}
-use Rattle.wasm_format.proofs.SectionStops.{InnerFault, SectionFault, section_tells, entry_met}
+use Rattle.wasm_format.proofs.SectionStops.{InnerFault, section_tells, entry_met}
 
 -- ---- the contents of the sections, one of which has a fault
 

@@ -1,16 +1,16 @@
 -- The first fault of small files, computed: for each kind of fault and each limit a file, and which fault comes first where there are several.
-use Rattle.std.proofs.Common.{◌≡◌, refl, ℕ, zero, suc, ◌+◌, List, [], ◌∷◌, ◌++◌, map, length, Bool, false, true, Option, Some, None}
+use Rattle.std.proofs.Common.{◌≡◌, refl, ℕ, zero, suc, List, [], ◌∷◌, ◌++◌, map, length, false, Option, Some, None}
 use Rattle.wasm_tree.specs.declared.which.Which.TheVariants.{Types, Imports, Functions, Tables, Memories, Globals, Exports, ElementSegments, DataSegments, Nesting, Locals, Parameters, Results}
 use Rattle.wasm_bytes.specs.Frames.{header, frame_at, frames_at}
 use Rattle.wasm_bytes.specs.Reading.{unsigned_at, signed_at, name_at as text_at}
-use Rattle.std.specs.Prelude.{Result, Err}
+use Rattle.std.specs.Prelude.{Err}
 use Rattle.wasm_format.specs.declared.fault.Fault.TheVariants as fault
 use Rattle.wasm_format.specs.declared.fault.ReadFault.{ReadFault}
-use Rattle.wasm_format.specs.declared.fault.ReadFault.TheVariants.{NotModule, Malformed, MalformedBody, Unsupported, Limit}
+use Rattle.wasm_format.specs.declared.fault.ReadFault.TheVariants.{Malformed, MalformedBody, Unsupported, Limit}
 use Rattle.wasm_format.specs.Values.{val_code, ref_code, mut_code}
 use Rattle.wasm_format.specs.Tokens.{rest_form, sub_form, the_form}
 use Rattle.wasm_format.specs.Operations.{un_of, bin_of, load_of, store_of}
-use Rattle.wasm_format.specs.Reading.{each_from, func_type_at, list_at, local_at, locals_at, tag_at, val_at, ref_at, mut_at, limits_at, table_at, global_at, const_at, import_at, import_desc_at, global_def_at, export_at, export_desc_at, elem_at, data_at, func_items_at, block_type_at, vector_at, whole_at}
+use Rattle.wasm_format.specs.Reading.{each_from, func_type_at, list_at, local_at, locals_at, tag_at, val_at, ref_at, mut_at, limits_at, table_at, global_at, const_at, import_at, import_desc_at, global_def_at, elem_at, data_at, block_type_at, vector_at, whole_at}
 use Rattle.wasm_format.specs.BodyReading.{arg_at, memory_at, block_at, body_at, code_at, prefixed_at, sequence_at, simple_of, token_at}
 use Rattle.wasm_format.specs.Contents.{agrees, codes_at, contents_at, entry_at, framed_at, parts_at, read_at, read_fault, section_at}
 

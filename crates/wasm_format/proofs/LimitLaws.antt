@@ -1,25 +1,20 @@
 -- What is spelled is read, or a quantity in it is over its limit.
-use Rattle.std.proofs.Common.{◌≡◌, ℕ, zero, suc, ◌+◌, ◌-◌, ◌<◌, ◌≤◌, List, [], ◌∷◌, ◌++◌, length, max, Result, Ok, Err, Bool, true, false, cond, Option, Some, None, ◌⊎◌, inl, inr, ⊎_elim, refl, sym, ap, ◌∙◌, subst, arith, append-nil}
+use Rattle.std.proofs.Common.{◌≡◌, ℕ, zero, suc, ◌-◌, ◌≤◌, List, [], ◌∷◌, ◌++◌, length, max, Result, Ok, Err, Bool, true, false, cond, ◌⊎◌, inl, inr, ⊎_elim, refl, sym, ap, subst, arith, append-nil}
 use Rattle.std.proofs.lemmas.Bool.{cases_lt, lt-ltb, le-ltb}
-use Rattle.std.specs.Prelude.{nat_lt, ◌==◌, ◌↔◌}
-use Rattle.wasm_bytes.specs.Joins.{Then, U32, Each, Vector}
-use Rattle.wasm_bytes.specs.Reading.{◌>>=◌, IsBytes}
+use Rattle.std.specs.Prelude.{nat_lt}
+use Rattle.wasm_bytes.specs.Joins.{U32, Each, Vector}
+use Rattle.wasm_bytes.specs.Reading.{◌>>=◌}
 use Rattle.wasm_tree.specs.declared.types.BlockType.{BlockType}
 use Rattle.wasm_tree.specs.declared.types.FuncType.{FuncType}
 use Rattle.wasm_tree.specs.declared.instr.Instr.{Instr}
-use Rattle.wasm_tree.specs.declared.instr.Instr.TheVariants.{Block, Loop, If}
+use Rattle.wasm_tree.specs.declared.instr.Instr.TheVariants.{If}
 use Rattle.wasm_tree.specs.declared.which.Which.{Which}
-use Rattle.wasm_tree.specs.declared.which.Which.TheVariants.{Types, Imports, Functions, Tables, Memories, Globals, Exports, ElementSegments, DataSegments, Nesting, Locals, Parameters, Results}
+use Rattle.wasm_tree.specs.declared.which.Which.TheVariants.{Nesting, Locals, Parameters, Results}
 use Rattle.wasm_tree.specs.declared.module.LocalGroup.{LocalGroup}
 use Rattle.wasm_tree.specs.declared.module.Func.{Func}
-use Rattle.wasm_tree.specs.declared.module.Module.{Module}
-use Rattle.wasm_tree.specs.Spaces.{imported_funcs}
 use Rattle.wasm_tree.specs.Limits.{limit}
 use Rattle.wasm_format.specs.declared.fault.Fault.{Fault}
 use Rattle.wasm_format.specs.declared.fault.Fault.TheVariants as fault
-use Rattle.wasm_format.specs.declared.fault.ReadFault.{ReadFault}
-use Rattle.wasm_format.specs.declared.fault.ReadFault.TheVariants.{Limit, Malformed}
-use Rattle.wasm_format.specs.declared.parts.Parts.{Parts}
 use Rattle.wasm_format.specs.declared.token.Opener.{Opener}
 use Rattle.wasm_format.specs.declared.token.Opener.TheVariants as opener
 use Rattle.wasm_format.specs.declared.token.Token.{Token}
@@ -27,11 +22,10 @@ use Rattle.wasm_format.specs.declared.token.Token.TheVariants.{Open, Else, End, 
 use Rattle.wasm_format.specs.declared.token.Sequence.{Sequence}
 use Rattle.wasm_format.specs.Words.{Any, Both, After}
 use Rattle.wasm_format.specs.Values.{SpellsVal, SpellsFuncType}
-use Rattle.wasm_format.specs.Bodies.{SpellsGroup, SpellsBody, SpellsCode, SpellsEntry, depth}
-use Rattle.wasm_format.specs.Reading.{Reader, tag_at, u32_at, val_at, pair_at, mapped_at, tagged_at, each_from, each_at, vector_at, whole_at, func_type_of, func_type_at, local_at, with_group, locals_at}
-use Rattle.wasm_format.specs.BodyReading.{Read, behind, token_at, block_at, after_token, sequence_at, whole, body_at, closed, two_armed, enclosed, code_at, code_of}
-use Rattle.wasm_format.specs.Contents.{in_place, entry_at, next_func, codes_at}
-use Rattle.wasm_format.proofs.Exact.{Exact, split, u32_exact, sized_exact}
+use Rattle.wasm_format.specs.Bodies.{SpellsGroup, SpellsBody, SpellsCode, depth}
+use Rattle.wasm_format.specs.Reading.{Reader, tag_at, u32_at, val_at, pair_at, mapped_at, tagged_at, each_from, vector_at, func_type_of, func_type_at, local_at, with_group, locals_at}
+use Rattle.wasm_format.specs.BodyReading.{Read, behind, token_at, block_at, after_token, sequence_at, whole, body_at, closed, enclosed, code_at, code_of}
+use Rattle.wasm_format.proofs.Exact.{Exact, split, u32_exact}
 use Rattle.wasm_format.proofs.ItemLaws.{val_exact}
 use Rattle.wasm_format.proofs.NestLaws.{to_in}
 use Rattle.wasm_format.proofs.BodyLaws.{body_reads}

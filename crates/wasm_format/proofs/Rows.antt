@@ -1,9 +1,8 @@
 -- Small files, computed: the tree that their bytes spell, or their first fault. So what the laws ask for does hold somewhere, and each
 -- fault comes of some file: one of each kind, and one that spells a tree above a limit.
-use Rattle.std.proofs.Common.{◌≡◌, refl, ℕ, List, [], ◌∷◌, ◌++◌, Bool, false, Option, Some, None}
-use Rattle.std.specs.Prelude.{Result, Ok, Err}
+use Rattle.std.proofs.Common.{◌≡◌, refl, ℕ, List, [], ◌∷◌, ◌++◌, false, Some, None}
+use Rattle.std.specs.Prelude.{Ok}
 use Rattle.wasm_tree.specs.declared.types.FuncType.{FuncType}
-use Rattle.wasm_tree.specs.declared.module.Func.{Func}
 use Rattle.wasm_tree.specs.declared.module.Module.{Module}
 use Rattle.wasm_tree.specs.declared.which.Which.TheVariants.{Types, Locals}
 use Rattle.wasm_bytes.specs.Frames.{header, frame_at, frames_at}
@@ -14,7 +13,7 @@ use Rattle.wasm_format.specs.Tokens.{rest_form, the_form}
 use Rattle.wasm_format.specs.Operations.{un_of, bin_of, load_of, store_of}
 use Rattle.wasm_format.specs.Files.{nothing, tree_of}
 use Rattle.wasm_format.specs.Reading.{each_from, func_type_at, list_at, local_at, locals_at, tag_at, val_at, vector_at, whole_at}
-use Rattle.wasm_format.specs.BodyReading.{block_at, body_at, code_at, prefixed_at, sequence_at, simple_of, token_at}
+use Rattle.wasm_format.specs.BodyReading.{body_at, code_at, sequence_at, simple_of, token_at}
 use Rattle.wasm_format.specs.Contents.{agrees, codes_at, contents_at, entry_at, framed_at, parts_at, read_at, read_fault, section_at}
 
 -- a type of no parameters and no results, and a function of it

@@ -1,13 +1,12 @@
 -- Reading a section tells the stops of its content, and the code section besides the faults inside its entries.
-use Rattle.std.proofs.Common.{◌≡◌, ℕ, zero, suc, ◌+◌, ◌<◌, ◌≤◌, List, [], ◌∷◌, ◌++◌, length, Result, Ok, Err, Bool, true, false, cond, Option, Some, None, ◌⊎◌, inl, inr, ⊎_elim, refl, sym, ap, ◌∙◌, subst, arith, append_assoc}
+use Rattle.std.proofs.Common.{◌≡◌, ℕ, zero, suc, ◌+◌, ◌<◌, List, [], ◌∷◌, ◌++◌, length, Result, Ok, Err, Bool, true, false, cond, Option, Some, None, ◌⊎◌, inl, inr, ⊎_elim, refl, sym, ap, ◌∙◌, arith, append_assoc}
 use Rattle.std.proofs.lemmas.Bool.{eqb-true, lt-ltb, le-ltb, cases_lt}
-use Rattle.std.specs.Prelude.{nat_lt, ◌==◌}
+use Rattle.std.specs.Prelude.{◌==◌}
 use Rattle.base_lists.specs.Every.{Every}
 use Rattle.base_lists.proofs.Bools.{cond_is}
-use Rattle.wasm_bytes.specs.Joins.{U32, Each, Sized}
+use Rattle.wasm_bytes.specs.Joins.{Each, Sized}
 use Rattle.wasm_bytes.specs.Reading.{◌>>=◌, IsBytes}
-use Rattle.wasm_bytes.specs.Frames.{Section}
-use Rattle.wasm_bytes.proofs.Lists.{Took, small_rest}
+use Rattle.wasm_bytes.proofs.Lists.{small_rest}
 use Rattle.wasm_tree.specs.declared.which.Which.TheVariants.{Types, Imports, Functions, Tables, Memories, Globals, Exports, ElementSegments, DataSegments}
 use Rattle.wasm_tree.specs.declared.module.Func.{Func}
 use Rattle.wasm_tree.specs.Spaces.{imported_funcs}
@@ -17,12 +16,11 @@ use Rattle.wasm_format.specs.declared.fault.Fault.TheVariants as fault
 use Rattle.wasm_format.specs.declared.fault.ReadFault.{ReadFault}
 use Rattle.wasm_format.specs.declared.fault.ReadFault.TheVariants.{Malformed, Limit}
 use Rattle.wasm_format.specs.declared.parts.Parts.{Parts}
-use Rattle.wasm_format.specs.Words.{Any}
 use Rattle.wasm_format.specs.Bodies.{SpellsEntry, SmallCode}
 use Rattle.wasm_format.specs.Files.{with_types, with_imports, with_func_types, with_tables, with_mems, with_globals, with_exports, with_start, with_elems, with_codes, with_datas, with_count}
 use Rattle.wasm_format.specs.Stops.{Stop, Over, NoStop, WhenStops, VectorStops, section_stops}
 use Rattle.wasm_format.specs.Causes.{EntryOf}
-use Rattle.wasm_format.specs.Reading.{Reader, u32_at, name_at, sized_at, each_from, vector_at, whole_at, func_type_at, import_at, table_at, limits_at, global_def_at, export_at, elem_at, data_at}
+use Rattle.wasm_format.specs.Reading.{Reader, u32_at, name_at, sized_at, each_from, whole_at}
 use Rattle.wasm_format.specs.BodyReading.{code_at}
 use Rattle.wasm_format.specs.Contents.{placed, in_place, entry_at, next_func, codes_at, put_at, custom_at, section_at}
 use Rattle.wasm_format.proofs.Exact.{split, u32_exact, sized_exact}
@@ -67,8 +65,21 @@ module _ (many : Bool) (n : ℕ) where
       let one = (sized_exact.sound bytes s.0 s.1 small (in_ok many n None _ s good.1)).0 in
       ⊎_elim
       (λ bad. let w = place_err n (Some func) (code_at many s.0) e bad in
-      inr (record { front = []; entry = one.0; back = s.1; text = one.2; codes = []; more = omega arith; spelled = refl; within = tt; content = s.0; sized = one.1; why = w.0; fails = w.1;
-        told = (let k : func + 0 ≡ func = omega arith in sym w.2 ∙ ap (λ z. placed n (Some z) w.0) (sym k)) }))
+      inr (record {
+        front = [];
+        entry = one.0;
+        back = s.1;
+        text = one.2;
+        codes = [];
+        more = omega arith;
+        spelled = refl;
+        within = tt;
+        content = s.0;
+        sized = one.1;
+        why = w.0;
+        fails = w.1;
+        told = (let k : func + 0 ≡ func = omega arith in sym w.2 ∙ ap (λ z. placed n (Some z) w.0) (sym k));
+      }))
       (λ ok. absurd (ok_err _ e ok.2))
       (bind_err (in_place n (Some func) (code_at many s.0)) _ e good.2))
       (bind_err (in_place n None (sized_at bytes)) _ e h)
@@ -125,10 +136,29 @@ module _ (many : Bool) (n : ℕ) where
       let within = rw (le-ltb (limit Functions) k.0 le) at good.2 in
       ⊎_elim
       (λ bad. ⊎_elim inl
-      (λ w. inr (inr (func + length w.codes, w.content, w.why, record {
-        count = count.0; front = w.front; entry = w.entry; back = w.back; total = k.0; text = count.2 ∙ ap (λ z. count.0 ++ z) w.text; counted = count.1; few = le; codes = w.codes; more = w.more;
-        spelled = w.spelled; within = w.within; sized = w.sized; number = refl;
-      }, w.fails, w.told)))
+      (λ w. inr (inr (
+        func + length w.codes,
+        w.content,
+        w.why,
+        record {
+          count = count.0;
+          front = w.front;
+          entry = w.entry;
+          back = w.back;
+          total = k.0;
+          text = count.2 ∙ ap (λ z. count.0 ++ z) w.text;
+          counted = count.1;
+          few = le;
+          codes = w.codes;
+          more = w.more;
+          spelled = w.spelled;
+          within = w.within;
+          sized = w.sized;
+          number = refl;
+        },
+        w.fails,
+        w.told,
+      )))
       (entries_found k.0 func k.1 e (small_rest _ c k.1 small count) bad))
       (λ ok. ⊎_elim
       (λ done. absurd (ok_err _ e done.1))
@@ -244,6 +274,7 @@ section_tells many n p id =
   where
     func : ℕ
     func = length (imported_funcs p.imports)
+
     section_codes : (id == 10) ≡ true → TellsSection n (VectorStops Functions (SpellsEntry many) SmallCode NoStop) (λ c e. (id ≡ 10) × InnerFault many n func c e) (λ c. codes_at many n func c >>= (λ xs. Ok (with_codes p xs)))
     section_codes t = record {
       found = λ c e small h. ⊎_elim

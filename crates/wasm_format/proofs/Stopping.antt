@@ -1,13 +1,12 @@
 -- A reader that tells the stops of its bytes, and no others; and how such readers are put together.
-use Rattle.std.proofs.Common.{◌≡◌, ℕ, zero, suc, ◌+◌, ◌<◌, ◌≤◌, List, [], ◌∷◌, ◌++◌, length, Result, Ok, Err, Bool, true, false, cond, ◌⊎◌, inl, inr, ⊎_elim, refl, sym, ap, ◌∙◌, subst, arith}
+use Rattle.std.proofs.Common.{◌≡◌, ℕ, zero, suc, ◌<◌, List, [], ◌∷◌, ◌++◌, length, Result, Ok, Err, Bool, true, false, cond, ◌⊎◌, inl, inr, ⊎_elim, refl, sym, ap, subst, arith}
 use Rattle.std.proofs.lemmas.Bool.{cases_lt, lt-ltb, le-ltb}
 use Rattle.std.specs.Prelude.{nat_lt, ◌==◌}
 use Rattle.base_lists.specs.Every.{Every}
-use Rattle.base_lists.proofs.Bools.{cond_is}
 use Rattle.wasm_bytes.specs.declared.cursor.Wrong.{Wrong}
-use Rattle.wasm_bytes.specs.Joins.{Then, U32, Each}
+use Rattle.wasm_bytes.specs.Joins.{Then, Each}
 use Rattle.wasm_bytes.specs.Reading.{◌>>=◌, IsBytes}
-use Rattle.wasm_bytes.proofs.Lists.{Took, small_rest}
+use Rattle.wasm_bytes.proofs.Lists.{small_rest}
 use Rattle.wasm_bytes.proofs.Sized.{ok_pair}
 use Rattle.wasm_tree.specs.declared.which.Which.{Which}
 use Rattle.wasm_tree.specs.Limits.{limit}

@@ -1,19 +1,16 @@
 -- The readers of tokens tell the stops of their bytes, and no others.
-use Rattle.std.proofs.Common.{◌≡◌, ℕ, List, [], ◌∷◌, ◌++◌, Result, Ok, Err, Bool, true, false, cond, ◌⊎◌, inl, inr, ⊎_elim, refl, sym, ap, ◌∙◌, arith, ℤ, pos, negsuc}
+use Rattle.std.proofs.Common.{◌≡◌, ℕ, List, [], ◌∷◌, Err, Bool, true, false, inl, ⊎_elim, refl, sym, ap, ◌∙◌, arith, ℤ, pos, negsuc}
 use Rattle.std.proofs.lemmas.Bool.{and_parts}
 use Rattle.std.specs.Prelude.{nat_lt, nat_le, ◌==◌, ◌&&◌}
 use Rattle.base_lists.proofs.Bools.{cond_is}
 use Rattle.wasm_bytes.specs.Reading.{◌>>=◌, IsBytes, signed_at}
-use Rattle.wasm_tree.specs.declared.types.BlockType.{BlockType}
-use Rattle.wasm_tree.specs.declared.types.BlockType.TheVariants.{Empty, Value, Index}
-use Rattle.wasm_tree.specs.declared.instr.Instr.TheVariants.{BrTable, SelectTyped, I32Const, I64Const, RefNull}
+use Rattle.wasm_tree.specs.declared.types.BlockType.TheVariants.{Value}
 use Rattle.wasm_format.specs.declared.fault.Fault.{Fault}
-use Rattle.wasm_format.specs.declared.fault.Fault.TheVariants.{Malformed, Unsupported}
-use Rattle.wasm_format.specs.declared.token.Token.{Token}
-use Rattle.wasm_format.specs.declared.token.Token.TheVariants.{Open, Else, End, Plain}
+use Rattle.wasm_format.specs.declared.fault.Fault.TheVariants.{Malformed}
+use Rattle.wasm_format.specs.declared.token.Token.TheVariants.{Else, End, Plain}
 use Rattle.wasm_format.specs.Tokens.{Form, plain, number, numbers, const32, const64, table, typed, access, memory, memories, with_memory, null, open', else', end', prefixed, unsupported, unknown, the_form, sub_form}
-use Rattle.wasm_format.specs.Stops.{Stop, NotSupported, NoStop, is_unsupported_val, ValStops, SimpleStops, FollowsStop, TokenStops}
-use Rattle.wasm_format.specs.Reading.{Reader, or_malformed, u32_at, list_at, val_at, index_of, mapped_at, block_type_at}
+use Rattle.wasm_format.specs.Stops.{NoStop, is_unsupported_val, ValStops, SimpleStops, FollowsStop, TokenStops}
+use Rattle.wasm_format.specs.Reading.{or_malformed, u32_at, list_at, val_at, index_of, mapped_at, block_type_at}
 use Rattle.wasm_format.specs.BodyReading.{arg_at, memory_at, simple_of, prefixed_at, token_of, token_at}
 use Rattle.wasm_format.proofs.Exact.{byte_exact, u32_exact, list_exact}
 use Rattle.wasm_format.proofs.ItemLaws.{val_exact}

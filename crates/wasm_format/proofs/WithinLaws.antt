@@ -1,7 +1,7 @@
 -- A file that spells a tree is read, or a quantity in it is over its limit; so it is within the limits where none is.
-use Rattle.std.proofs.Common.{◌≡◌, ℕ, zero, suc, ◌+◌, List, [], ◌∷◌, ◌++◌, length, Result, Ok, Err, Bool, true, false, cond, Option, Some, None, ◌⊎◌, inl, inr, ⊎_elim, refl, sym, ap, ◌∙◌, subst, append-nil}
+use Rattle.std.proofs.Common.{◌≡◌, ℕ, ◌+◌, List, [], ◌∷◌, ◌++◌, length, Result, Ok, Err, Bool, true, false, cond, Option, Some, None, inl, inr, refl, sym, ap, ◌∙◌, subst, append-nil}
 use Rattle.std.specs.Prelude.{◌==◌, ◌↔◌}
-use Rattle.wasm_bytes.specs.Joins.{U32, Each, Vector, Sized}
+use Rattle.wasm_bytes.specs.Joins.{Vector}
 use Rattle.wasm_bytes.specs.Reading.{◌>>=◌, IsBytes}
 use Rattle.wasm_bytes.specs.Frames.{Section}
 use Rattle.wasm_tree.specs.declared.which.Which.{Which}
@@ -15,14 +15,14 @@ use Rattle.wasm_format.specs.declared.fault.Fault.TheVariants as fault
 use Rattle.wasm_format.specs.declared.fault.ReadFault.{ReadFault}
 use Rattle.wasm_format.specs.declared.fault.ReadFault.TheVariants.{Limit, Malformed}
 use Rattle.wasm_format.specs.declared.parts.Parts.{Parts}
-use Rattle.wasm_format.specs.Words.{Never, Made, When}
+use Rattle.wasm_format.specs.Words.{Made, When}
 use Rattle.wasm_format.specs.Bodies.{SpellsEntry}
-use Rattle.wasm_format.specs.Files.{nothing, tree_of, with_types, with_imports, with_func_types, with_tables, with_mems, with_globals, with_exports, with_start, with_elems, with_codes, with_datas, with_count, SpellsCustom, section_form, Contents, Spells, Within}
-use Rattle.wasm_format.specs.Reading.{Reader, u32_at, name_at, sized_at, each_from, whole_at}
+use Rattle.wasm_format.specs.Files.{nothing, with_types, with_imports, with_func_types, with_tables, with_mems, with_globals, with_exports, with_start, with_elems, with_codes, with_datas, with_count, SpellsCustom, section_form, Contents, Spells, Within}
+use Rattle.wasm_format.specs.Reading.{Reader, u32_at, sized_at, each_from, whole_at}
 use Rattle.wasm_format.specs.BodyReading.{code_at}
-use Rattle.wasm_format.specs.Contents.{in_place, entry_at, next_func, codes_at, custom_at, put_at, section_at, contents_at, framed_at, agrees, parts_at, read_at, fault_of as told_fault, read_fault}
+use Rattle.wasm_format.specs.Contents.{in_place, entry_at, next_func, codes_at, custom_at, put_at, section_at, contents_at, framed_at, agrees, parts_at, read_at, fault_of as told_fault}
 use Rattle.wasm_format.specs.Causes.{Cause}
-use Rattle.wasm_format.proofs.Exact.{Exact, split, u32_exact, sized_exact, name_exact}
+use Rattle.wasm_format.proofs.Exact.{u32_exact, sized_exact, name_exact}
 use Rattle.wasm_format.proofs.ItemLaws.{import_exact, table_exact, limits_exact, global_def_exact, export_exact, elem_exact, data_exact}
 use Rattle.wasm_format.proofs.Framing.{framed_reads}
 use Rattle.wasm_format.proofs.FileLaws.{of_rules, tree_found, tree_read}
@@ -118,6 +118,7 @@ within_where_nothing_is_over bytes many m small h = (
   where
     none_some : {w : ReadFault} → ◌≡◌ {A = Option ReadFault} None (Some w) → ⊥
     none_some k = cc
+
     within_of : ((w : Which) → Cause bytes many (Limit w) → ⊥) → Got Limit (read_at many bytes) m → Within bytes many
     within_of none (inl e) = (tree_found many bytes small m e).1
     within_of none (inr e) = absurd (none e.0 (cause_found bytes many small (Limit e.0) (ap told_fault e.1)))

@@ -1,6 +1,6 @@
 -- What bytes come to that are neither spelled nor malformed: the first bytes of a form that is known but not supported, or a quantity over its limit. All that stands
 -- before is spelled and within the limits, and leaves the item open; what follows is not looked at.
-use Rattle.std.specs.Prelude.{◌≡◌, ℕ, suc, ◌+◌, ◌<◌, ◌≤◌, ◌⊎◌, List, [], ◌∷◌, ◌++◌, length, Bool, true, false, IsTrue, nat_le, ◌==◌, ◌&&◌, ◌||◌}
+use Rattle.std.specs.Prelude.{◌≡◌, ℕ, suc, ◌+◌, ◌<◌, ◌≤◌, ◌⊎◌, List, ◌∷◌, ◌++◌, length, Bool, true, false, IsTrue, nat_le, ◌==◌, ◌&&◌, ◌||◌}
 use Rattle.base_lists.specs.Every.{Every}
 use Rattle.wasm_bytes.specs.Joins.{Then, U32, Each, Vector, Named}
 use Rattle.wasm_tree.specs.declared.which.Which.{Which}
@@ -13,7 +13,7 @@ use Rattle.wasm_tree.specs.Bounds.{declared_count}
 use Rattle.wasm_format.specs.declared.token.Opener.{Opener}
 use Rattle.wasm_format.specs.declared.token.Opener.TheVariants as opener
 use Rattle.wasm_format.specs.declared.token.Token.{Token}
-use Rattle.wasm_format.specs.declared.token.Token.TheVariants.{Open, Else, End}
+use Rattle.wasm_format.specs.declared.token.Token.TheVariants.{Open, Else}
 use Rattle.wasm_format.specs.Words.{Byte, Any, Few}
 use Rattle.wasm_format.specs.Values.{SpellsVal, SpellsRef, SpellsFuncType, SmallFuncType, SpellsTable, SpellsLimits, SpellsConst, SpellsGlobal}
 use Rattle.wasm_format.specs.Sections.{SpellsImport, SpellsGlobalDef, SpellsExport, SpellsElem, SpellsData}

@@ -8,8 +8,8 @@ mod token;
 
 pub use fault::{Fault, ReadFault};
 pub use laws::{
-    bodies_end_themselves, cut_files_end_with_a_frame, faults_have_causes, no_fault_where_spelled, one_tree,
-    spelled_bodies_name_memory_zero, spelled_files_are_within_where_nothing_is_over,
+    bodies_end_themselves, cut_files_end_with_a_frame, faults_have_causes, no_fault_where_spelled,
+    one_tree, spelled_bodies_name_memory_zero, spelled_files_are_within_where_nothing_is_over,
     spelled_trees_are_bounded,
 };
 pub use parts::Parts;

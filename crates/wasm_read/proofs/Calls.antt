@@ -1,5 +1,5 @@
 -- What is known besides of a tree that is found.
-use Rattle.std.proofs.Common.{◌≡◌, ℕ, List, Bool, true, false, Option, Some, Result, Ok, Err, IfOk, IsTrue, ◌⊎◌, inl, inr, ⊎_elim, subst}
+use Rattle.std.proofs.Common.{◌≡◌, ℕ, List, Bool, true, false, Some, Result, Ok, Err, IfOk, IsTrue, ◌⊎◌, ⊎_elim, subst}
 use Rattle.std.specs.Prelude.{IfErr, ◌↔◌}
 use Rattle.wasm_bytes.specs.Reading.{IsBytes}
 use Rattle.wasm_tree.specs.declared.module.Module.{Module}

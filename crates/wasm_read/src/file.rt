@@ -20,7 +20,10 @@ use crate::rules::{agree, set_types};
 use crate::sections::{Found, read_section};
 use std::alloc::Global;
 use wasm_bytes::{Frame, FrameFault, Items, frames};
-use wasm_format::{Parts, ReadFault, faults_have_causes, spelled_bodies_name_memory_zero, spelled_trees_are_bounded};
+use wasm_format::{
+    Parts, ReadFault, faults_have_causes, spelled_bodies_name_memory_zero,
+    spelled_trees_are_bounded,
+};
 use wasm_tree::Module;
 
 /// The frames of the file, or the fault where they have one.
