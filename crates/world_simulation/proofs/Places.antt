@@ -47,6 +47,14 @@ opt_self {P = P} {o = o} r e = go (subst (λ x. OptRel P x x) e r)
     go : {b : _} → OptRel P (Some b) (Some b) → P b b
     go (some p) = p
 
+pub right_there : {A B : Type 0} {P : A → B → Type 0} {o : Option A} {p : Option B} {a : A} → OptRel P o p → o ≡ Some a → (b : B) × (p ≡ Some b)
+right_there none e = cc
+right_there (some {b = b} r) e = (b, refl)
+
+pub left_there : {A B : Type 0} {P : A → B → Type 0} {o : Option A} {p : Option B} {b : B} → OptRel P o p → p ≡ Some b → (a : A) × (o ≡ Some a)
+left_there none e = cc
+left_there (some {a = a} r) e = (a, refl)
+
 pub opt_both : {A B : Type 0} {P : A → B → Type 0} {o : Option A} {p : Option B} {a : A} {b : B} → OptRel P o p → o ≡ Some a → p ≡ Some b → P a b
 opt_both {B = B} {P = P} {p = p} {a = a} r e f = go (subst (λ y. OptRel P (Some a) y) f (subst (λ x. OptRel P x p) e r))
   where

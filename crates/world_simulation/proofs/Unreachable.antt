@@ -32,6 +32,44 @@ use Rattle.remap_typing.specs.Indices.{Indices, ImportNamesOnly, FuncNamesOnly}
 use Rattle.world_simulation.specs.Unreachable.{IsUnreachable}
 use Rattle.world_simulation.specs.Segments.{InOrder, both}
 use Rattle.world_simulation.proofs.Declared.{Keeps, keeps}
+use Rattle.std.proofs.lemmas.List.{map-id}
+use Rattle.base_lists.proofs.Options.{all_there_at}
+use Rattle.base_lists.proofs.Places.{append_from}
+use Rattle.wasm_tree.specs.declared.module.GlobalDef.{GlobalDef}
+use Rattle.wasm_tree.specs.Spaces.{funcs_of}
+use Rattle.wasm_meaning.specs.State.{Text, Func, Global, Elem, Store}
+use Rattle.wasm_meaning.specs.Linking.{Entity, sites}
+use Rattle.wasm_meaning.specs.Environment.{Thing, all_of}
+use Rattle.wasm_meaning.specs.World.{Begun, insts_from, stores_from, own_store, joined_stores, part_store, all_there, is_matched, segments, begun, instantiate, is_there, links}
+use Rattle.wasm_meaning.specs.World as world
+use Rattle.wasm_meaning.specs.Run.{Move, events}
+use Rattle.world_simulation.specs.Instances.{RelatedInstancesShowTheSame}
+use Rattle.world_simulation.specs.Simulation.{AreSimilar, StartAlike}
+use Rattle.world_simulation.proofs.Alone.{space_is}
+use Rattle.world_simulation.proofs.Allocated.{Adds, adds, part_there}
+use Rattle.world_simulation.proofs.Declared.{last_elems}
+use Rattle.world_simulation.proofs.Instancing.{inst_is, inst_there}
+use Rattle.world_simulation.proofs.Simulated.{what_is_made, instances_rel}
+use Rattle.world_simulation.proofs.Single.{all_matched}
+use Rattle.world_simulation.proofs.Stored.{func_rel, global_rel, elem_rel, stores_rel}
+use Rattle.world_simulation.proofs.Places.{right_there, all_rel}
+use Rattle.wasm_tree.specs.declared.module.Export.{Export}
+use Rattle.wasm_tree.specs.declared.module.ElemSeg.{ElemSeg}
+use Rattle.wasm_tree.specs.declared.module.DataSeg.{DataSeg}
+use Rattle.base_lists.proofs.Places.{append_at_left}
+use Rattle.wasm_meaning.specs.World.{alone, elem_tasks, data_tasks, seen_as, start_in, starts_of}
+use Rattle.index_remap.specs.Related.{cons}
+use Rattle.index_remap.specs.RelatedRuns.{KeyRel, HasNoPartner}
+use Rattle.index_remap.specs.Laws.{RenumberedCodeIsRelated}
+use Rattle.index_remap.specs.Renumbered.{new_export}
+use Rattle.index_remap.proofs.Rel.{append_rel}
+use Rattle.remap_typing.specs.Indices.{ExportNamesOnly}
+use Rattle.world_simulation.specs.Definitions.{FuncsCorrespond, GlobalsCorrespond, ElemsCorrespond, Partners, DefinitionsCorrespond}
+use Rattle.world_simulation.specs.Definitions as partners
+use Rattle.world_simulation.specs.Segments.{ends, only_second, ElemsPartner, ElemAlone, DatasPartner, DataAlone, alone_in_first, ElemsInOrder, DatasInOrder}
+use Rattle.world_simulation.specs.Segments as order
+use Rattle.world_simulation.specs.Simulation.{WorldsCorrespond}
+use Rattle.world_simulation.proofs.Renamed.{funcs_correspond, elems_correspond, elem_mode_named, data_mode_named, export_named, start_named}
 use Rattle.world_simulation.proofs.Places.{map_length, names_of, then_rel, then_same}
 use Rattle.wasm_tree.specs.declared.module.ConstExpr.{ConstExpr}
 use Rattle.wasm_tree.specs.declared.module.ConstExpr.TheVariants as const
@@ -160,6 +198,26 @@ in_step {A} partners first second i j new more from extra (e ∷ es) nothing eac
     subst (λ c. InOrder partners first second (tasks_in 0 i (numbers from (suc (length es))) (e ∷ es) ++ []) (tasks_in 0 j (numbers from c) (new e ∷ (map new es ++ more)) ++ [])) (sym size)
     (both (subst (λ a. partners (abbreviated a i e) (abbreviated a j (new e))) here (each 0 e refl))
     (in_step partners first second i j new more (suc from) extra es nothing (λ x d h. let n : from + suc x ≡ suc from + x = omega arith in subst (λ a. partners (abbreviated a i d) (abbreviated a j (new d))) n (each (suc x) d h))))
+
+-- the one instance of a module alone
+one_inst : (env : Environment) (t : Module) (is : List Inst) → insts_from env (one t) 0 (one t) ≡ Some is → (i : Inst) × (is ≡ i ∷ []) × IsInst env (one t) 0 t i
+one_inst env t is h =
+    let i = and_then_is (world.inst_of env (one t) 0 t) _ is h in
+    let q = i.2 in
+    let same : i.0 ∷ [] ≡ is = cc in
+    (i.0, sym same, inst_is env (one t) 0 t i.0 i.1)
+
+there_is : {A : Type 0} (o : Option A) → is_there o ≡ true → (x : A) × (o ≡ Some x)
+there_is None h = cc
+there_is (Some x) h = (x, refl)
+
+made_there : (env : Environment) (t : Module) (is : List Inst) (s : Store) (view : List (Text × Thing)) → insts_from env (one t) 0 (one t) ≡ Some is → stores_from env (one t) is (own_store env) 0 (one t) is ≡ Some s → all_there (seen_as is) (alone t).view ≡ Some view →
+    all_of (is_matched env (one t) s) (sites (one t)) ≡ true → links env (alone t) ≡ true
+made_there env t is s view e f g h =
+    let matched : List Inst → List (Text × Thing) → Store → Bool → Option Begun = λ is view s b. cond b (Some (begun env (alone t) is view (segments env (one t) is s))) None in
+    ap is_there (ap (λ o. option_and_then (λ is. option_and_then (λ s. option_and_then (λ view. matched is view s (all_of (is_matched env (one t) s) (sites (one t)))) (all_there (seen_as is) (alone t).view)) (stores_from env (one t) is (own_store env) 0 (one t) is)) o) e
+    ∙ ap (λ o. option_and_then (λ s. option_and_then (λ view. matched is view s (all_of (is_matched env (one t) s) (sites (one t)))) (all_there (seen_as is) (alone t).view)) o) f
+    ∙ ap₂ (λ o b. option_and_then (λ view. matched is view s b) o) g h)
 
 -- ---- the module and what is left of it ----
 
@@ -376,3 +434,230 @@ module _ (t : Module) (n : ℕ) (there : n < length t.funcs) (reach : IsUnreacha
           go : (o : Option ℕ) → OptRel (ValRel R) (option_and_then (value_of_read (own_globals env) (i ∷ [])) (option_and_then (λ y. Some (record { part = 0; expr = const.Global y })) o)) (option_and_then (value_of_read (own_globals env) (j ∷ [])) (option_and_then (λ y. Some (record { part = 0; expr = const.Global y })) o))
           go None = none
           go (Some y) = value y
+
+      -- ---- the records ----
+
+      placed : {A : Type 0} (k : Space) (definitions : Module → List A) (new : A → A) (gap : ℕ) → hole k ≡ own_count k env + gap → ((c : Module) → defined_count k c ≡ length (definitions c)) →
+          ((x y : ℕ) (d : A) → slice_get (definitions t) x ≡ Some d → Moved gap x y → slice_get (definitions u) y ≡ Some (new d)) → (correspond : ℕ → Inst → A → ℕ → Inst → A → Type 0) →
+          ((x : ℕ) (d : A) → slice_get (definitions t) x ≡ Some d → (x ≡ gap → ⊥) → correspond 0 i d 0 j (new d)) → (c d : ℕ) → R.of k c d → Partners env v w k definitions correspond c d
+      placed k definitions new gap hole_is counts second correspond alike c d r = by (cases_lt c (own_count k env)) (subst (λ h. Down h (own_count k env + defined_count k t) c d) hole_is (down_is (hole k) _ c d r))
+        where
+          by : (c < own_count k env) ⊎ (own_count k env ≤ c) → Down (own_count k env + gap) (own_count k env + defined_count k t) c d → Partners env v w k definitions correspond c d
+          by (inl l) (low h e f) = partners.own f l
+          by (inl l) (high h e f) = absurd (omega (arith, l, h))
+          by (inr l) move = at (c - own_count k env) (d - own_count k env) (omega (arith, l)) (shift move) (below move)
+            where
+              shift : Down (own_count k env + gap) (own_count k env + defined_count k t) c d → (d ≡ own_count k env + (d - own_count k env)) × Moved gap (c - own_count k env) (d - own_count k env)
+              shift (low h e f) = (omega (arith, l, f), stays (omega (arith, l, h)) (ap (λ z. z - own_count k env) f))
+              shift (high h e f) = (omega (arith, h, f), falls (omega (arith, l, h)) (omega (arith, h, f)))
+
+              below : Down (own_count k env + gap) (own_count k env + defined_count k t) c d → c - own_count k env < defined_count k t
+              below (low h e f) = omega (arith, l, e)
+              below (high h e f) = omega (arith, l, e)
+
+              at : (x y : ℕ) → c ≡ own_count k env + x → (d ≡ own_count k env + y) × Moved gap x y → x < defined_count k t → Partners env v w k definitions correspond c d
+              at x y first second_is within =
+                  let e = slice_get_there (definitions t) x (subst (λ n. x < n) (counts t) within) in
+                  let d_is = second_is.0 in
+                  partners.defined (record { part = 0; of = t; is_part = refl; inst = i; is_inst = refl; place = x; definition = e.0; stands = e.1; address = omega (arith, first) })
+                  (record { part = 0; of = u; is_part = refl; inst = j; is_inst = refl; place = y; definition = new e.0; stands = second x y e.0 e.1 second_is.1; address = omega (arith, d_is) })
+                  (alike x e.0 e.1 (never second_is.1))
+                where
+                  never : Moved gap x y → x ≡ gap → ⊥
+                  never (stays h f) g = absurd (omega (arith, h, g))
+                  never (falls h f) g = absurd (omega (arith, h, g))
+
+      -- where nothing is removed the entry at a place is the new one
+      kept_place : {A : Type 0} (xs : List A) (new : A → A) (more : List A) (x y : ℕ) (d : A) → slice_get xs x ≡ Some d → Moved (length xs) x y → slice_get (map new xs ++ more) y ≡ Some (new d)
+      kept_place xs new more x y d h (stays l e) = ap (slice_get (map new xs ++ more)) (sym e) ∙ append_at_left (map new xs) more x (new d) (map_at new xs x d h)
+      kept_place xs new more x y d h (falls l e) = absurd (let k = slice_get_within xs x d h in omega (arith, k, l))
+
+      func_place : (x y : ℕ) (f : tree.Func) → slice_get t.funcs x ≡ Some f → Moved n x y → slice_get u.funcs y ≡ Some (new_func m f)
+      func_place x y f h move = ap (λ l. slice_get l y) same.funcs ∙ map_at (new_func m) (without n t.funcs) y f (by move)
+        where
+          by : Moved n x y → slice_get (without n t.funcs) y ≡ Some f
+          by (stays l e) = without_low n t.funcs y (omega (arith, l, e)) ∙ ap (slice_get t.funcs) (sym e) ∙ h
+          by (falls l e) = without_high n t.funcs y (omega (arith, l, e)) ∙ ap (slice_get t.funcs) (sym e) ∙ h
+
+      definitions : RenumberedCodeIsRelated → DefinitionsCorrespond R env v w
+      definitions code = record {
+        funcs = placed Functions (λ c. c.funcs) (new_func m) n refl (λ c. refl) func_place (λ p i f q j g. FuncsCorrespond R i j f g) (λ x f h other. funcs_correspond of m kept i j names code f (rest_names x f h other));
+        tables = placed Tables (λ c. c.tables) (λ x. x) (length t.tables) refl (λ c. refl) (λ x y d h move. ap (λ l. slice_get l y) (same.tables ∙ sym (map-id t.tables) ∙ sym (append-nil _)) ∙ kept_place t.tables (λ x. x) [] x y d h move) (λ p i x q j y. x ≡ y) (λ x d h other. refl);
+        mems = placed Memories (λ c. c.mems) (λ x. x) (length t.mems) refl (λ c. refl) (λ x y d h move. ap (λ l. slice_get l y) (same.mems ∙ sym (map-id t.mems) ∙ sym (append-nil _)) ∙ kept_place t.mems (λ x. x) [] x y d h move) (λ p i x q j y. x ≡ y) (λ x d h other. refl);
+        globals = placed Globals (λ c. c.globals) (new_global m) (length t.globals) refl (λ c. refl) (λ x y d h move. ap (λ l. slice_get l y) (same.globals ∙ sym (append-nil _)) ∙ kept_place t.globals (new_global m) [] x y d h move)
+            (λ p i g q j h. GlobalsCorrespond R (values_in env v p) (values_in env w q) g h) (λ x g h other. record { type = refl; init = consts g.init (reach.globals x g h) });
+        elems = placed ElementSegments (λ c. c.elems) (new_elem m) (length t.elems) refl (λ c. refl) (λ x y d h move. ap (λ l. slice_get l y) same.elems ∙ kept_place t.elems (new_elem m) (last_segments fs) x y d h move)
+            (λ p i d q j e. ElemsCorrespond R (values_in env v p) (values_in env w q) d e) (λ x e h other. elems_correspond of m kept i j names (values_in env v 0) (values_in env w 0) consts e (λ l c k. reach.items x l e c h k));
+        datas = placed DataSegments (λ c. c.datas) (new_data m) (length t.datas) refl (λ c. refl) (λ x y d h move. ap (λ l. slice_get l y) (same.datas ∙ sym (append-nil _)) ∙ kept_place t.datas (new_data m) [] x y d h move)
+            (λ p i d q j e. d.bytes ≡ e.bytes) (λ x d h other. refl);
+      }
+
+      same_seg : (k : Space) (x : ℕ) → hole k ≡ own_count k env + defined_count k t → x < own_count k env + defined_count k t → R.of k x x
+      same_seg k x e l = is_down (hole k) (own_count k env + defined_count k t) x x (low (omega (arith, e, l)) l refl)
+
+      abbrev ElemPartners : Task ElemSeg → Task ElemSeg → Type 0
+      ElemPartners x y = ElemsPartner R (values_in env v x.part) (values_in env w y.part) x y x.segment.mode y.segment.mode
+
+      abbrev FirstElem : Task ElemSeg → Type 0
+      FirstElem x = ElemAlone (alone_in_first R) env v x x.segment.mode
+
+      abbrev SecondElem : Task ElemSeg → Type 0
+      SecondElem y = ElemAlone (HasNoPartner R) env w y y.segment.mode
+
+      abbrev DataPartners : Task DataSeg → Task DataSeg → Type 0
+      DataPartners x y = DatasPartner R (values_in env v x.part) (values_in env w y.part) x y x.segment.mode y.segment.mode
+
+      abbrev FirstData : Task DataSeg → Type 0
+      FirstData x = DataAlone (alone_in_first R) env v x x.segment.mode
+
+      abbrev SecondData : Task DataSeg → Type 0
+      SecondData y = DataAlone (HasNoPartner R) env w y y.segment.mode
+
+      elems_in_order : ElemsInOrder R env v w
+      elems_in_order =
+          subst (λ l. InOrder ElemPartners FirstElem SecondElem (elem_tasks 0 (one t) (i ∷ [])) l) (ap₂ (λ ns es. tasks_in 0 j ns es ++ []) (ap (λ c. numbers 0 c) size ∙ sym b.elems) (sym same.elems))
+          (subst (λ l. InOrder ElemPartners FirstElem SecondElem (tasks_in 0 i l t.elems ++ []) (tasks_in 0 j (numbers 0 (length t.elems + length (last_segments fs))) (map (new_elem m) t.elems ++ last_segments fs) ++ [])) (sym a.elems)
+          (in_step ElemPartners FirstElem SecondElem i j (new_elem m) (last_segments fs) 0 (length (last_segments fs)) t.elems (declared_alone fs)
+          (λ x e h. elem_mode_named of m kept i j names (values_in env v 0) (values_in env w 0) consts _ _ refl refl (same_seg ElementSegments (0 + x) refl (let l = slice_get_within t.elems x e h in omega (arith, l))) e.mode (reach.elem_modes x e h))))
+        where
+          size : length t.elems + length (last_segments fs) ≡ length u.elems
+          size = let e = length-append (map (new_elem m) t.elems) (last_segments fs) in let c = map_length (new_elem m) t.elems in let d = ap length same.elems in omega (arith, e, c, d)
+
+          declared_alone : (fs : List ℕ) (ns : List ℕ) → InOrder ElemPartners FirstElem SecondElem [] (tasks_in 0 j ns (last_segments fs) ++ [])
+          declared_alone [] [] = ends
+          declared_alone [] (n ∷ ns) = ends
+          declared_alone (f ∷ fs) [] = ends
+          declared_alone (f ∷ fs) (n ∷ ns) = only_second order.ElemAlone.declarative (nothing ns)
+            where
+              nothing : (ns : List ℕ) → InOrder ElemPartners FirstElem SecondElem [] (tasks_in 0 j ns [] ++ [])
+              nothing [] = ends
+              nothing (n ∷ ns) = ends
+
+      datas_in_order : DatasInOrder R env v w
+      datas_in_order =
+          subst (λ l. InOrder DataPartners FirstData SecondData (data_tasks 0 (one t) (i ∷ [])) l) (ap₂ (λ ns ds. tasks_in 0 j ns ds ++ []) (ap (λ c. numbers 0 c) size ∙ sym b.datas) (append-nil _ ∙ sym same.datas))
+          (subst (λ l. InOrder DataPartners FirstData SecondData (tasks_in 0 i l t.datas ++ []) (tasks_in 0 j (numbers 0 (length t.datas + 0)) (map (new_data m) t.datas ++ []) ++ [])) (sym a.datas)
+          (in_step DataPartners FirstData SecondData i j (new_data m) [] 0 0 t.datas nothing
+          (λ x d h. data_mode_named of m kept i j names (values_in env v 0) (values_in env w 0) consts _ _ refl refl (same_seg DataSegments (0 + x) refl (let l = slice_get_within t.datas x d h in omega (arith, l))) d.mode (reach.data_modes x d h))))
+        where
+          size : length t.datas + 0 ≡ length u.datas
+          size = omega (arith, datas_many)
+
+          nothing : (ns : List ℕ) → InOrder DataPartners FirstData SecondData [] (tasks_in 0 j ns [] ++ [])
+          nothing [] = ends
+          nothing (n ∷ ns) = ends
+
+      view : ListRel (λ x y. OptRel (KeyRel R) (seen_as (i ∷ []) x) (seen_as (j ∷ []) y)) (alone t).view (alone u).view
+      view = subst (λ es. ListRel (λ x y. OptRel (KeyRel R) (seen_as (i ∷ []) x) (seen_as (j ∷ []) y)) (alone t).view (map seen es)) (sym same.exports) (each t.exports reach.exports)
+        where
+          seen : Export → Text × Entity
+          seen e = (e.name, record { part = 0; what = e.desc })
+
+          each : (es : List Export) → ((x : ℕ) (e : Export) → slice_get es x ≡ Some e → ExportNamesOnly kept e.desc) → ListRel (λ x y. OptRel (KeyRel R) (seen_as (i ∷ []) x) (seen_as (j ∷ []) y)) (map seen es) (map seen (map (new_export m) es))
+          each [] h = nil
+          each (e ∷ es) h = cons (then_rel (export_named of m kept i j names e.desc (h 0 e refl)) (λ _ _ r. some (record { key = refl; thing = r }))) (each es (λ x. h (suc x)))
+
+      starts : ListRel (R.of Functions) (starts_of (one t) (i ∷ [])) (starts_of (one u) (j ∷ []))
+      starts = append_rel (subst (λ o. ListRel (R.of Functions) (start_in i t.start) (start_in j o)) (sym same.start) (start_named of m kept i j names t.start reach.start)) nil
+
+      worlds : RenumberedCodeIsRelated → WorldsCorrespond R env (alone t) (alone u) (i ∷ []) (j ∷ [])
+      worlds code = record { own = own; definitions = definitions code; elems = elems_in_order; datas = datas_in_order; view = view }
+
+    -- ---- the environment links both ----
+
+    similar : RenumberedCodeIsRelated → AreSimilar R env (alone t) (alone u)
+    similar code is js f g =
+        let i = one_inst env t is f in
+        let j = one_inst env u js g in
+        subst (λ is. WorldsCorrespond R env (alone t) (alone u) is js) (sym i.1) (subst (λ js. WorldsCorrespond R env (alone t) (alone u) (i.0 ∷ []) js) (sym j.1) (worlds i.0 j.0 i.2 j.2 code))
+
+    start_alike : StartAlike R env (alone t) (alone u)
+    start_alike is js f g =
+        let i = one_inst env t is f in
+        let j = one_inst env u js g in
+        subst (λ is. ListRel (R.of Functions) (starts_of (one t) is) (starts_of (one u) js)) (sym i.1) (subst (λ js. ListRel (R.of Functions) (starts_of (one t) (i.0 ∷ [])) (starts_of (one u) js)) (sym j.1) (starts i.0 j.0 i.2 j.2))
+
+    space_there : (k : Space) (xs : List ℕ) → space env (one t) k 0 t ≡ Some xs → (ys : List ℕ) × (space env (one u) k 0 u ≡ Some ys)
+    space_there k xs h =
+        let sx = space_at R env own t k xs h in
+        (_, space_is env u k ∙ ap (λ o. option_and_then (λ l. Some (l ++ numbers (own_count k env) (defined_count k u))) o) (ap₂ (λ ts is. addresses env ts is k) types_are imports_are ∙ sx.are))
+
+    module _ (code : RenumberedCodeIsRelated) (i j : Inst) (a : IsInst env (one t) 0 t i) (b : IsInst env (one (removed n t)) 0 (removed n t) j) (added : Store) (made : part_store env (one t) (i ∷ []) 0 t i ≡ Some added) where
+      adds_t : Adds env (one t) (i ∷ []) 0 t i added
+      adds_t = adds env (one t) (i ∷ []) 0 t i added made
+
+      abbrev kept_names : EntriesName R m kept i j
+      kept_names = names i j a b
+
+      func_there : (y : ℕ) (f : tree.Func) → slice_get u.funcs y ≡ Some f → (x : Func) × (world.new_func j f ≡ Some x)
+      func_there y f h =
+          let g = map_from (new_func m) (without n t.funcs) y f (ap (λ l. slice_get l y) (sym same.funcs) ∙ h) in
+          let z = from_all g.0 g.1 in
+          let r = all_there_at (world.new_func i) t.funcs added.funcs adds_t.funcs z.0 g.0 z.1 in
+          let q = right_there (func_rel R (funcs_correspond of m kept i j kept_names code g.0 (reach.funcs y g.0 g.1))) r.1 in
+          (q.0, ap (world.new_func j) (sym g.2) ∙ q.1)
+        where
+          from_all : (x : tree.Func) → slice_get (without n t.funcs) y ≡ Some x → (z : ℕ) × (slice_get t.funcs z ≡ Some x)
+          from_all x e = by (cases_lt y n)
+            where
+              by : (y < n) ⊎ (n ≤ y) → (z : ℕ) × (slice_get t.funcs z ≡ Some x)
+              by (inl l) = (y, sym (without_low n t.funcs y l) ∙ e)
+              by (inr l) = (suc y, sym (without_high n t.funcs y l) ∙ e)
+
+      global_there : (y : ℕ) (g : GlobalDef) → slice_get u.globals y ≡ Some g → (x : Global) × (world.new_global env (one u) (j ∷ []) 0 g ≡ Some x)
+      global_there y g h =
+          let d = map_from (new_global m) t.globals y g (ap (λ l. slice_get l y) (sym same.globals) ∙ h) in
+          let r = all_there_at (world.new_global env (one t) (i ∷ []) 0) t.globals added.globals adds_t.globals y d.0 d.1 in
+          let q = right_there (global_rel R (values_in env (v i j a b) 0) (values_in env (w i j a b) 0) {g = d.0} {h = new_global m d.0} (record { type = refl; init = consts i j a b d.0.init (reach.globals y d.0 d.1) })) r.1 in
+          (q.0, ap (world.new_global env (one u) (j ∷ []) 0) (sym d.2) ∙ q.1)
+
+      func_space : length j.funcs ≡ length (funcs_of plain)
+      func_space =
+          let sy = space_at R env own u Functions j.funcs b.funcs in
+          let l = ap length sy.all ∙ length-append sy.imported _ in
+          let c = length-numbers (own_count Functions env) (length u.funcs) in
+          let d = sy.many in
+          let e = funcs_counted u.imports 0 in
+          let f = length-append (imported_funcs u.imports) (map (λ f. f.ty) u.funcs) in
+          let g = map_length (λ f. f.ty) u.funcs in
+          let h = ap length same.func_space in
+          omega (arith, l, c, d, e, f, g, h)
+
+      elem_there : (y : ℕ) (e : ElemSeg) → slice_get u.elems y ≡ Some e → (x : Elem) × (world.elem_of env (one u) (j ∷ []) 0 e ≡ Some x)
+      elem_there y e h = by (append_from (map (new_elem m) t.elems) (last_segments fs) y e (ap (λ l. slice_get l y) (sym same.elems) ∙ h))
+        where
+          by : (slice_get (map (new_elem m) t.elems) y ≡ Some e) ⊎ ((l : ℕ) × (y ≡ length (map (new_elem m) t.elems) + l) × (slice_get (last_segments fs) l ≡ Some e)) → (x : Elem) × (world.elem_of env (one u) (j ∷ []) 0 e ≡ Some x)
+          by (inl g) =
+              let d = map_from (new_elem m) t.elems y e g in
+              let r = all_there_at (world.elem_of env (one t) (i ∷ []) 0) t.elems added.elems adds_t.elems y d.0 d.1 in
+              let q = right_there (elem_rel R (values_in env (v i j a b) 0) (values_in env (w i j a b) 0) (elems_correspond of m kept i j kept_names (values_in env (v i j a b) 0) (values_in env (w i j a b) 0) (consts i j a b) d.0 (λ l c k. reach.items y l d.0 c d.1 k))) r.1 in
+              (q.0, ap (world.elem_of env (one u) (j ∷ []) 0) (sym d.2) ∙ q.1)
+          by (inr l) =
+              let r = last_elems env u j plain func_space in
+              let x = all_there_at (world.elem_of env (one u) (j ∷ []) 0) (last_segments fs) r.0 r.1 l.0 e l.2 in
+              (x.0, x.1)
+
+  linked : RenumberedCodeIsRelated → (env : Environment) → links env (alone t) ≡ true → links env (alone u) ≡ true
+  linked code env h =
+      let o = there_is (instantiate env (alone t)) h in
+      let x = what_is_made env (alone t) o.0 o.1 in
+      let i = one_inst env t x.insts x.are_insts in
+      let a = i.2 in
+      let f = space_there env Functions i.0.funcs a.funcs in
+      let ts = space_there env Tables i.0.tables a.tables in
+      let ms = space_there env Memories i.0.mems a.mems in
+      let gs = space_there env Globals i.0.globals a.globals in
+      let j = inst_there env (one u) 0 u f.0 ts.0 ms.0 gs.0 f.1 ts.1 ms.1 gs.1 in
+      let b = inst_is env (one u) 0 u j.0 j.1 in
+      let first : stores_from env (one t) (i.0 ∷ []) (own_store env) 0 (one t) (i.0 ∷ []) ≡ Some x.allocated = subst (λ is. stores_from env (one t) is (own_store env) 0 (one t) is ≡ Some x.allocated) i.1 x.is_allocated in
+      let p = and_then_is (part_store env (one t) (i.0 ∷ []) 0 t i.0) _ x.allocated first in
+      let q = part_there env (one u) (j.0 ∷ []) 0 u j.0 (func_there env code i.0 j.0 a b p.0 p.1) (global_there env code i.0 j.0 a b p.0 p.1) (elem_there env code i.0 j.0 a b p.0 p.1) in
+      let second : stores_from env (one u) (j.0 ∷ []) (own_store env) 0 (one u) (j.0 ∷ []) ≡ Some (joined_stores (own_store env) q.0) = ap (λ o. option_and_then (λ s. Some (joined_stores (own_store env) s)) o) q.1 in
+      let like = stores_rel (R env) env (v env i.0 j.0 a b) (w env i.0 j.0 a b) (own env) (definitions env i.0 j.0 a b code) x.allocated (joined_stores (own_store env) q.0) first second in
+      let seen = right_there (all_rel (view env i.0 j.0 a b)) (ap (λ is. all_there (seen_as is) (alone t).view) (sym i.1) ∙ x.is_view) in
+      let matched = sym (all_matched (R env) env (own env) x.allocated (joined_stores (own_store env) q.0) like t u types_are imports_are) ∙ x.matched in
+      made_there env u (j.0 ∷ []) (joined_stores (own_store env) q.0) seen.0 (ap (λ o. option_and_then (λ i. Some (i ∷ [])) o) j.1) second seen.1 matched
+
+  pub shows_the_same : RelatedInstancesShowTheSame → RenumberedCodeIsRelated → (env : Environment) → links env (alone t) ≡ true → (moves : List Move) (k : ℕ) → events (alone t) env moves k ≡ events (alone u) env moves k
+  shows_the_same law code env h moves k =
+      law (of env) (one_to_one env) (alone t) (alone u) env (instances_rel (R env) (one_to_one env) env (alone t) (alone u) (similar env code) (start_alike env) (h ∙ sym (linked code env h))) moves k

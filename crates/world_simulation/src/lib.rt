@@ -26,8 +26,9 @@ ghost use Rattle.world_simulation.specs.Simulation.{
   WhatIsInstantiated,
 };
 ghost use Rattle.world_simulation.specs.Starts.{OneStartMayCallSeveral};
+ghost use Rattle.world_simulation.specs.Unreachable.{UnreachableFunctionsAreNotSeen};
 
-use index_remap::related_runs_show_the_same;
+use index_remap::{related_runs_show_the_same, steps_agree};
 use remap_typing::renumbering_keeps_typing;
 use wasm_meaning::what_stands_below_is_not_seen;
 
@@ -85,4 +86,13 @@ pub fn one_start_may_call_several()
     ensures calls { OneStartMayCallSeveral }
 {
     what_stands_below_is_not_seen();
+}
+
+/// A module without one function that nothing else of it names, with the functions behind it moved down by one and references declared where they have to be, shows what
+/// the module shows, step by step, to each embedder whose environment links the module (WebAssembly Core 2.0, section 2.5.1).
+pub fn unreachable_functions_are_not_seen()
+    ensures same { UnreachableFunctionsAreNotSeen }
+{
+    steps_agree();
+    related_instances_show_the_same();
 }
