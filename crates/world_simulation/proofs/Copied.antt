@@ -18,7 +18,7 @@ use Rattle.wasm_meaning.specs.State.{RefVal, Val, Inst, Table, Memory, Elem, Dat
 use Rattle.wasm_meaning.specs.Step.{changed, no_items, no_bytes}
 use Rattle.wasm_meaning.specs.Environment.{Environment}
 use Rattle.wasm_meaning.specs.World.{Filled, Task, or_trapped, fill_table, copy_elem, run_elem_with, fill_memory, copy_data, run_data_with}
-use Rattle.index_remap.specs.Related.{OptRel, some, BothRel, both}
+use Rattle.index_remap.specs.Related.{OptRel, BothRel}
 use Rattle.index_remap.proofs.Rel.{there, at_put_there}
 use Rattle.world_simulation.specs.Definitions.{Instantiated, DefinedAt, values_in}
 use Rattle.world_simulation.specs.Segments.{InOrder, ElemsPartner, ElemAlone, DatasPartner, DataAlone, alone_in_first, offset_in}

@@ -14,4 +14,6 @@ pub mod Simulated
 pub mod Renamed
 pub mod Declared
 pub mod Single
+pub mod Holes
+pub mod SameItems
 pub mod Unreachable
