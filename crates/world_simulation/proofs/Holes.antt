@@ -5,16 +5,20 @@ use Rattle.std.proofs.lemmas.Bool.{cases_lt, ltb-true, lt-ltb, eqb-true, eq-eqb,
 use Rattle.std.proofs.lemmas.Option.{slice_get_within}
 use Rattle.base_lists.proofs.Bools.{left_true, right_true}
 use Rattle.base_lists.proofs.Numbers.{length-numbers, numbers_at, numbers_index}
-use Rattle.base_lists.proofs.Places.{append_left, append_right, map_at}
-use Rattle.wasm_meaning.specs.World.{numbers}
+use Rattle.base_lists.proofs.Places.{append_left, append_right, map_at, append_at_left, slice_get_there}
+use Rattle.wasm_meaning.specs.World.{numbers, Task, tasks_in, own_count, defined_count}
 use Rattle.index_remap.specs.Related.{OptRel, some, ListRel}
 use Rattle.world_simulation.specs.Unreachable.{without}
 use Rattle.world_simulation.proofs.Places.{place_rel, opt_at}
 use Rattle.wasm_meaning.specs.State.{Inst}
-use Rattle.wasm_meaning.specs.World.{Task, tasks_in}
 use Rattle.index_remap.specs.Renumbered.{has}
 use Rattle.world_simulation.specs.Segments.{InOrder, both}
-use Rattle.base_lists.proofs.Places.{append_at_left}
+use Rattle.wasm_tree.specs.declared.space.Space.{Space}
+use Rattle.wasm_meaning.specs.Environment.{Environment}
+use Rattle.wasm_tree.specs.declared.module.Module.{Module}
+use Rattle.world_simulation.specs.Definitions.{FuncsCorrespond, GlobalsCorrespond, ElemsCorrespond, Partners, DefinitionsCorrespond, Instantiated, values_in}
+use Rattle.world_simulation.specs.Definitions as partners
+use Rattle.world_simulation.specs.Alone.{one}
 
 -- ---- the relation of addresses ----
 
@@ -129,3 +133,43 @@ stays_at size x h = let l = ltb-true _ _ h in let c = length-numbers 0 size in (
 pub kept_place : {A : Type 0} (xs : List A) (new : A → A) (more : List A) (x y : ℕ) (d : A) → slice_get xs x ≡ Some d → Moved (length xs) x y → slice_get (map new xs ++ more) y ≡ Some (new d)
 kept_place xs new more x y d h (stays l e) = ap (slice_get (map new xs ++ more)) (sym e) ∙ append_at_left (map new xs) more x (new d) (map_at new xs x d h)
 kept_place xs new more x y d h (falls l e) = absurd (let k = slice_get_within xs x d h in omega (arith, k, l))
+
+-- ---- partners ----
+
+-- two modules alone, of which the second lacks one definition of a space
+module _ (env : Environment) (t u : Module) (i j : Inst) where
+  abbrev v : Instantiated
+  v = record { parts = one t; insts = i ∷ [] }
+
+  abbrev w : Instantiated
+  w = record { parts = one u; insts = j ∷ [] }
+
+  pub placed : {A : Type 0} (k : Space) (definitions : Module → List A) (new : A → A) (gap : ℕ) → ((c : Module) → defined_count k c ≡ length (definitions c)) →
+      ((x y : ℕ) (d : A) → slice_get (definitions t) x ≡ Some d → Moved gap x y → slice_get (definitions u) y ≡ Some (new d)) → (correspond : ℕ → Inst → A → ℕ → Inst → A → Type 0) →
+      ((x : ℕ) (d : A) → slice_get (definitions t) x ≡ Some d → (x ≡ gap → ⊥) → correspond 0 i d 0 j (new d)) → (c d : ℕ) → Down (own_count k env + gap) (own_count k env + defined_count k t) c d → Partners env v w k definitions correspond c d
+  placed k definitions new gap counts second correspond alike c d r = by (cases_lt c (own_count k env)) r
+    where
+      by : (c < own_count k env) ⊎ (own_count k env ≤ c) → Down (own_count k env + gap) (own_count k env + defined_count k t) c d → Partners env v w k definitions correspond c d
+      by (inl l) (low h e f) = partners.own f l
+      by (inl l) (high h e f) = absurd (omega (arith, l, h))
+      by (inr l) move = at (c - own_count k env) (d - own_count k env) (omega (arith, l)) (shift move) (below move)
+        where
+          shift : Down (own_count k env + gap) (own_count k env + defined_count k t) c d → (d ≡ own_count k env + (d - own_count k env)) × Moved gap (c - own_count k env) (d - own_count k env)
+          shift (low h e f) = (omega (arith, l, f), stays (omega (arith, l, h)) (ap (λ z. z - own_count k env) f))
+          shift (high h e f) = (omega (arith, h, f), falls (omega (arith, l, h)) (omega (arith, h, f)))
+
+          below : Down (own_count k env + gap) (own_count k env + defined_count k t) c d → c - own_count k env < defined_count k t
+          below (low h e f) = omega (arith, l, e)
+          below (high h e f) = omega (arith, l, e)
+
+          at : (x y : ℕ) → c ≡ own_count k env + x → (d ≡ own_count k env + y) × Moved gap x y → x < defined_count k t → Partners env v w k definitions correspond c d
+          at x y first second_is within =
+              let e = slice_get_there (definitions t) x (subst (λ n. x < n) (counts t) within) in
+              let d_is = second_is.0 in
+              partners.defined (record { part = 0; of = t; is_part = refl; inst = i; is_inst = refl; place = x; definition = e.0; stands = e.1; address = omega (arith, first) })
+              (record { part = 0; of = u; is_part = refl; inst = j; is_inst = refl; place = y; definition = new e.0; stands = second x y e.0 e.1 second_is.1; address = omega (arith, d_is) })
+              (alike x e.0 e.1 (never second_is.1))
+            where
+              never : Moved gap x y → x ≡ gap → ⊥
+              never (stays h f) g = absurd (omega (arith, h, g))
+              never (falls h f) g = absurd (omega (arith, h, g))

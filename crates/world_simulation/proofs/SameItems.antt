@@ -1,77 +1,53 @@
 -- Two modules, each alone, of which the second has the items of the first with other indices, but for functions, tables and memories, and perhaps a segment that declares
 -- references: constant expressions, segments, views and starts; and an environment that links the first links the second.
-use Rattle.std.proofs.Common.{◌≡◌, ℕ, suc, ◌+◌, ◌<◌, List, [], ◌∷◌, ◌++◌, map, length, Option, Some, None, Bool, true, ◌⊎◌, inl, inr, refl, sym, ap, ap₂, subst, ◌∙◌, arith, option_and_then, append-nil}
+use Rattle.std.proofs.Common.{◌≡◌, ℕ, suc, ◌+◌, ◌<◌, List, [], ◌∷◌, ◌++◌, map, length, Option, Some, None, Bool, true, ◌⊎◌, inl, inr, refl, sym, ap, ap₂, subst, ◌∙◌, arith, option_and_then, append-nil, ◌≤◌}
 use Rattle.std.specs.Prelude.{slice_get, slice_index, IsTrue}
 use Rattle.std.proofs.lemmas.List.{length-append}
 use Rattle.std.proofs.lemmas.Option.{slice_get_within}
 use Rattle.base_lists.proofs.Numbers.{length-numbers}
-use Rattle.base_lists.proofs.Options.{and_then_is}
-use Rattle.base_lists.proofs.Places.{map_from}
+use Rattle.base_lists.proofs.Options.{and_then_is, all_there_at}
+use Rattle.base_lists.proofs.Places.{map_from, append_from}
 use Rattle.wasm_tree.specs.declared.space.Space.{Space}
 use Rattle.wasm_tree.specs.declared.space.Space.TheVariants.{Functions, Globals, ElementSegments, DataSegments}
-use Rattle.wasm_meaning.specs.Environment.{Environment}
-use Rattle.wasm_meaning.specs.World.{own_count, defined_count, numbers}
-use Rattle.index_remap.specs.Related.{Pairing, OptRel, none, some, ListRel}
+use Rattle.wasm_meaning.specs.Environment.{Environment, own_globals}
+use Rattle.wasm_meaning.specs.World.{own_count, defined_count, numbers, Task, tasks_in, Begun, insts_from, stores_from, own_store, joined_stores, part_store, all_there, is_matched, segments, begun, instantiate, is_there, links, alone, elem_tasks, data_tasks, seen_as, start_in, starts_of, space, value_of, value_of_read}
+use Rattle.index_remap.specs.Related.{Pairing, OptRel, none, some, ListRel, cons, nil, ValRel, number, reference, func}
 use Rattle.index_remap.specs.Laws.{passed}
 use Rattle.wasm_tree.specs.declared.module.Module.{Module}
-use Rattle.world_simulation.proofs.Places.{place_rel, opt_at}
+use Rattle.world_simulation.proofs.Places.{place_rel, opt_at, right_there, all_rel, map_length, then_rel, then_same}
 use Rattle.wasm_tree.specs.declared.module.Func as tree
-use Rattle.wasm_tree.specs.Spaces.{imported_funcs}
-use Rattle.wasm_meaning.specs.State.{Inst}
-use Rattle.wasm_meaning.specs.World.{Task, tasks_in}
+use Rattle.wasm_tree.specs.Spaces.{imported_funcs, funcs_of}
+use Rattle.wasm_meaning.specs.State.{Inst, Text, Func, Global, Elem, Store, Val}
 use Rattle.index_remap.specs.declared.remap.Remap.{Remap}
-use Rattle.remap_typing.specs.Indices.{Indices}
-use Rattle.world_simulation.specs.Segments.{InOrder, both}
-use Rattle.world_simulation.proofs.Holes.{in_step}
-use Rattle.base_lists.proofs.Options.{all_there_at}
-use Rattle.base_lists.proofs.Places.{append_from}
+use Rattle.remap_typing.specs.Indices.{Indices, ExportNamesOnly, ConstNamesOnly, TreeNamesOnly}
+use Rattle.world_simulation.specs.Segments.{InOrder, both, ends, only_second, ElemsPartner, ElemAlone, DatasPartner, DataAlone, alone_in_first, ElemsInOrder, DatasInOrder}
+use Rattle.world_simulation.proofs.Holes.{in_step, Down, Moved, stays, space_moves, stays_at}
 use Rattle.wasm_tree.specs.declared.module.GlobalDef.{GlobalDef}
-use Rattle.wasm_tree.specs.Spaces.{funcs_of}
-use Rattle.wasm_meaning.specs.State.{Text, Func, Global, Elem, Store}
-use Rattle.wasm_meaning.specs.Linking.{Entity}
-use Rattle.wasm_meaning.specs.World.{Begun, insts_from, stores_from, own_store, joined_stores, part_store, all_there, is_matched, segments, begun, instantiate, is_there, links}
+use Rattle.wasm_meaning.specs.Linking.{Entity, imports_of}
 use Rattle.wasm_meaning.specs.World as world
-use Rattle.world_simulation.proofs.Alone.{space_is}
+use Rattle.world_simulation.proofs.Alone.{space_is, funcs_counted, read_is}
 use Rattle.world_simulation.proofs.Allocated.{Adds, adds, part_there}
-use Rattle.world_simulation.proofs.Single.{all_matched}
+use Rattle.world_simulation.proofs.Single.{all_matched, space_at, made_there}
 use Rattle.world_simulation.proofs.Stored.{func_rel, global_rel, elem_rel, stores_rel}
-use Rattle.world_simulation.proofs.Places.{right_there, all_rel}
 use Rattle.wasm_tree.specs.declared.module.Export.{Export}
 use Rattle.wasm_tree.specs.declared.module.ElemSeg.{ElemSeg}
 use Rattle.wasm_tree.specs.declared.module.DataSeg.{DataSeg}
-use Rattle.wasm_meaning.specs.World.{alone, elem_tasks, data_tasks, seen_as, start_in, starts_of}
-use Rattle.index_remap.specs.Related.{cons}
 use Rattle.index_remap.specs.RelatedRuns.{KeyRel, HasNoPartner}
-use Rattle.index_remap.specs.Renumbered.{new_export}
+use Rattle.index_remap.specs.Renumbered.{new_export, new_elem, new_data, new_global, new_const, new_start, has}
 use Rattle.index_remap.proofs.Rel.{append_rel}
-use Rattle.remap_typing.specs.Indices.{ExportNamesOnly}
-use Rattle.world_simulation.specs.Definitions.{FuncsCorrespond, DefinitionsCorrespond}
-use Rattle.world_simulation.specs.Segments.{ends, only_second, ElemsPartner, ElemAlone, DatasPartner, DataAlone, alone_in_first, ElemsInOrder, DatasInOrder}
+use Rattle.world_simulation.specs.Definitions.{FuncsCorrespond, DefinitionsCorrespond, Instantiated, values_in}
 use Rattle.world_simulation.specs.Segments as order
-use Rattle.world_simulation.proofs.Renamed.{elems_correspond, elem_mode_named, data_mode_named, export_named, start_named}
-use Rattle.world_simulation.proofs.Places.{map_length, then_rel, then_same}
+use Rattle.world_simulation.proofs.Renamed.{elems_correspond, elem_mode_named, data_mode_named, export_named, start_named, func_named}
 use Rattle.wasm_tree.specs.declared.module.ConstExpr.{ConstExpr}
 use Rattle.wasm_tree.specs.declared.module.ConstExpr.TheVariants as const
-use Rattle.wasm_meaning.specs.State.{Val}
-use Rattle.wasm_meaning.specs.Environment.{own_globals}
-use Rattle.wasm_meaning.specs.World.{space, value_of, value_of_read}
-use Rattle.index_remap.specs.Related.{nil, ValRel, number, reference, func}
-use Rattle.index_remap.specs.Renumbered.{new_elem, new_data, new_global, new_const}
-use Rattle.remap_typing.specs.Indices.{ConstNamesOnly}
 use Rattle.world_simulation.specs.Alone.{one, addresses, read_in, read_place}
 use Rattle.world_simulation.specs.Owned.{SharesOwn}
 use Rattle.world_simulation.specs.Named.{EntriesName}
-use Rattle.world_simulation.specs.Definitions.{Instantiated, values_in}
-use Rattle.world_simulation.proofs.Alone.{funcs_counted, read_is}
 use Rattle.world_simulation.proofs.Declared.{last_segments}
 use Rattle.world_simulation.proofs.Instancing.{IsInst}
 use Rattle.world_simulation.proofs.Owned.{null_rel, own_globals_rel}
-use Rattle.world_simulation.proofs.Renamed.{func_named}
-use Rattle.world_simulation.proofs.Single.{space_at}
-use Rattle.world_simulation.proofs.Single.{made_there}
-use Rattle.index_remap.specs.Renumbered.{new_start}
-use Rattle.remap_typing.specs.Indices.{TreeNamesOnly}
 use Rattle.world_simulation.specs.Simulation.{IsInstantiated}
+use Rattle.wasm_tree.specs.declared.module.Func as tree
 
 -- what the second has of the first; each index that it names is of a set, and globals keep theirs
 pub record SameItems (m : Remap) (kept : Indices) (t u : Module) (fs : List ℕ) : Type 0 where
@@ -93,6 +69,35 @@ module _ (of : Space → ℕ → ℕ → Bool) (m : Remap) (kept : Indices) (t u
   space_there k xs h =
       let sx = space_at R env own t k xs h in
       (_, space_is env u k ∙ ap (λ o. option_and_then (λ l. Some (l ++ numbers (own_count k env) (defined_count k u))) o) (ap₂ (λ ts is. addresses env ts is k) same.types same.imports ∙ sx.are))
+
+  module _ (i j : Inst) (a : IsInst env (one t) 0 t i) (b : IsInst env (one u) 0 u j) where
+    pub space_rel : (k : Space) (xs ys : List ℕ) (gap : ℕ) → space env (one t) k 0 t ≡ Some xs → space env (one u) k 0 u ≡ Some ys → ((c d : ℕ) → Down (own_count k env + gap) (own_count k env + defined_count k t) c d → R.of k c d) → gap ≤ defined_count k t →
+        (gap < defined_count k t → suc (defined_count k u) ≡ defined_count k t) → (gap ≡ defined_count k t → defined_count k t ≤ defined_count k u) →
+        (x y : ℕ) → x < length (imports_of k t) + defined_count k t → Moved (length (imports_of k t) + gap) x y → OptRel (R.of k) (slice_get xs x) (slice_get ys y)
+    space_rel k xs ys gap hx hy related within smaller equal x y h move =
+        let sx = space_at R env own t k xs hx in
+        let sy = space_at R env own u k ys hy in
+        let both : Some sy.imported ≡ Some sx.imported = sym sy.are ∙ ap₂ (λ ts is. addresses env ts is k) same.types same.imports ∙ sx.are in
+        let imported : sy.imported ≡ sx.imported = cc in
+        let many = sx.many in
+        opt_at (ap (λ l. slice_get l x) sx.all) (ap (λ l. slice_get l y) (sy.all ∙ ap (λ l. l ++ numbers (own_count k env) (defined_count k u)) imported))
+        (space_moves (R.of k) sx.imported (own_count k env) gap (defined_count k t) (defined_count k u) sx.shared within smaller equal related x y (omega (arith, h, many)) (subst (λ c. Moved (c + gap) x y) (sym many) move))
+
+    -- a space of which nothing is removed
+    pub plain_rel : (k : Space) (xs ys : List ℕ) (size : ℕ) → space env (one t) k 0 t ≡ Some xs → space env (one u) k 0 u ≡ Some ys → ((c d : ℕ) → Down (own_count k env + defined_count k t) (own_count k env + defined_count k t) c d → R.of k c d) → defined_count k u ≡ defined_count k t → size ≡ length (imports_of k t) + defined_count k t →
+        (x : ℕ) → has (numbers 0 size) x ≡ true → OptRel (R.of k) (slice_get xs x) (slice_get ys (slice_index (numbers 0 size) x))
+    plain_rel k xs ys size hx hy related counts size_is x h =
+        let s = stays_at size x h in
+        let l = s.1 in
+        space_rel k xs ys (defined_count k t) hx hy related (omega arith) (λ c. absurd (omega (arith, c))) (λ e. omega (arith, counts)) x _ (omega (arith, l, size_is)) (stays (omega (arith, l, size_is)) (sym s.0))
+
+    pub segments_rel : (k : Space) (xs ys : List ℕ) (count fewer : ℕ) → xs ≡ numbers 0 count → ys ≡ numbers 0 fewer → count ≤ fewer → ((a b : ℕ) → Down (0 + count) (0 + count) a b → R.of k a b) →
+        (x : ℕ) → has (numbers 0 count) x ≡ true → OptRel (R.of k) (slice_get xs x) (slice_get ys (slice_index (numbers 0 count) x))
+    segments_rel k xs ys count fewer hx hy more related x h =
+        let s = stays_at count x h in
+        let l = s.1 in
+        opt_at (ap (λ l. slice_get l x) hx) (ap (λ l. slice_get l (slice_index (numbers 0 count) x)) hy)
+        (space_moves (R.of k) [] 0 count count fewer nil (omega arith) (λ c. absurd (omega (arith, c))) (λ e. more) related x _ (omega (arith, l)) (stays (omega (arith, l)) (sym s.0)))
 
   module _ (i j : Inst) (a : IsInst env (one t) 0 t i) (b : IsInst env (one u) 0 u j) (names : EntriesName (passed of of []) m kept i j) where
     abbrev v : Instantiated

@@ -9,12 +9,12 @@ use Rattle.wasm_tree.specs.declared.module.Import.{Import}
 use Rattle.wasm_tree.specs.declared.module.ImportDesc.{ImportDesc}
 use Rattle.wasm_tree.specs.declared.module.ImportDesc.TheVariants as im
 use Rattle.wasm_tree.specs.declared.module.Module.{Module}
-use Rattle.wasm_meaning.specs.State.{Inst, Table, Store}
+use Rattle.wasm_meaning.specs.State.{Inst, Table, Store, Text}
 use Rattle.wasm_meaning.specs.Values.{same_ref, same_type, same_func_type}
-use Rattle.wasm_meaning.specs.Linking.{Site, has_kind, pair_of, places, sites, imports_of}
+use Rattle.wasm_meaning.specs.Linking.{Site, has_kind, pair_of, places, sites, imports_of, Entity}
 use Rattle.wasm_meaning.specs.Linking as linking
 use Rattle.wasm_meaning.specs.Environment.{Environment, Thing, same_key, all_of}
-use Rattle.wasm_meaning.specs.World.{given, meets, same_bool, numbers, own_count, defined_count, address_of, space, is_match, is_matched}
+use Rattle.wasm_meaning.specs.World.{given, meets, same_bool, numbers, own_count, defined_count, address_of, space, is_match, is_matched, Begun, insts_from, stores_from, own_store, joined_stores, part_store, all_there, segments, begun, instantiate, is_there, links, alone, elem_tasks, data_tasks, seen_as, start_in, starts_of}
 use Rattle.index_remap.specs.Related.{Pairing, OptRel, none, some, ListRel, TableRel, StoreRel}
 use Rattle.index_remap.specs.RelatedRuns.{ThingRel, a_func, a_table, a_memory, a_global}
 use Rattle.index_remap.proofs.Rel.{length_rel, same_there}
@@ -24,13 +24,8 @@ use Rattle.world_simulation.proofs.Alone.{space_is, thing_is, on_some}
 use Rattle.world_simulation.proofs.Owned.{owned_rel, given_rel}
 use Rattle.world_simulation.proofs.Places.{then_rel, then_same, then_eq, opt_self, self_rel, all_rel}
 use Rattle.world_simulation.proofs.Copied.{both_placed}
-use Rattle.wasm_meaning.specs.State.{Text, Store}
-use Rattle.wasm_meaning.specs.Linking.{Entity, sites}
-use Rattle.wasm_meaning.specs.Environment.{Thing, all_of}
-use Rattle.wasm_meaning.specs.World.{Begun, insts_from, stores_from, own_store, joined_stores, part_store, all_there, is_matched, segments, begun, instantiate, is_there, links}
 use Rattle.wasm_meaning.specs.World as world
 use Rattle.world_simulation.proofs.Instancing.{IsInst, inst_is}
-use Rattle.wasm_meaning.specs.World.{alone, elem_tasks, data_tasks, seen_as, start_in, starts_of}
 
 pub address_rel : (R : Pairing) (k : Space) {x y : Thing} → ThingRel R x y → OptRel (R.of k) (address_of k x) (address_of k y)
 address_rel R Functions (a_func p) = some p

@@ -1,64 +1,46 @@
 -- A module without one function that nothing else of it names shows what the module shows: its records of the law for two worlds.
-use Rattle.std.proofs.Common.{◌≡◌, ℕ, zero, suc, ◌+◌, ◌-◌, ◌<◌, ◌≤◌, List, [], ◌∷◌, ◌++◌, map, length, Some, Bool, true, false, ◌⊎◌, inl, inr, refl, sym, ap, ap₂, subst, ◌∙◌, arith, option_and_then, append-nil}
+use Rattle.std.proofs.Common.{◌≡◌, ℕ, zero, suc, ◌+◌, ◌-◌, ◌<◌, ◌≤◌, List, [], ◌∷◌, map, length, Some, Bool, true, false, ◌⊎◌, inl, inr, refl, sym, ap, ap₂, subst, ◌∙◌, arith, option_and_then, append-nil}
 use Rattle.std.specs.Prelude.{slice_get, slice_index, IsTrue, nat_eq, not}
 use Rattle.std.proofs.lemmas.Bool.{cases_lt, ltb-true, eq-eqb}
-use Rattle.std.proofs.lemmas.List.{length-append}
+use Rattle.std.proofs.lemmas.List.{length-append, map-id}
 use Rattle.base_lists.proofs.Bools.{left_true, right_true}
 use Rattle.base_lists.proofs.Numbers.{length-numbers, numbers_at}
-use Rattle.base_lists.proofs.Places.{slice_get_there, slice_index_is, append_left, append_right, map_at, map_from}
+use Rattle.base_lists.proofs.Places.{slice_index_is, append_left, append_right, map_at, map_from}
 use Rattle.wasm_tree.specs.declared.space.Space.{Space}
 use Rattle.wasm_tree.specs.declared.space.Space.TheVariants.{Types, Functions, Tables, Memories, Globals, ElementSegments, DataSegments}
 use Rattle.wasm_meaning.specs.Environment.{Environment}
-use Rattle.wasm_meaning.specs.World.{own_count, defined_count, numbers}
-use Rattle.index_remap.specs.Related.{Pairing, OptRel, OneToOne, ListRel}
-use Rattle.index_remap.specs.Laws.{passed}
+use Rattle.wasm_meaning.specs.World.{own_count, defined_count, numbers, instantiate, links, alone, starts_of}
+use Rattle.index_remap.specs.Related.{Pairing, OneToOne, ListRel}
+use Rattle.index_remap.specs.Laws.{passed, RenumberedCodeIsRelated}
 use Rattle.wasm_tree.specs.declared.module.Module.{Module}
-use Rattle.world_simulation.specs.Unreachable.{without, function_index, closing, others, rest, removed}
-use Rattle.world_simulation.proofs.Places.{opt_at}
+use Rattle.world_simulation.specs.Unreachable.{without, function_index, closing, others, rest, removed, IsUnreachable}
+use Rattle.world_simulation.proofs.Places.{map_length, names_of}
 use Rattle.wasm_tree.specs.declared.module.Func as tree
 use Rattle.wasm_tree.specs.declared.module.Import.{Import}
 use Rattle.wasm_tree.specs.declared.module.ImportDesc.{ImportDesc}
 use Rattle.wasm_tree.specs.declared.module.ImportDesc.TheVariants as im
-use Rattle.wasm_tree.specs.Spaces.{imported_funcs}
+use Rattle.wasm_tree.specs.Spaces.{imported_funcs, imported_tables, imported_memories, imported_globals, tables_of, memories_of, globals_of}
 use Rattle.wasm_meaning.specs.State.{Inst}
 use Rattle.index_remap.specs.declared.remap.Remap.{Remap}
-use Rattle.index_remap.specs.Renumbered.{has, new_func, new_import, new_import_desc, renumbered_tree}
+use Rattle.index_remap.specs.Renumbered.{has, new_func, new_import, new_import_desc, renumbered_tree, new_elem, new_data, new_global}
 use Rattle.index_remap.specs.References.{declared_refs}
 use Rattle.remap_typing.specs.Indices.{Indices, ImportNamesOnly, FuncNamesOnly}
-use Rattle.world_simulation.specs.Unreachable.{IsUnreachable}
-use Rattle.world_simulation.proofs.Declared.{Keeps, keeps}
-use Rattle.std.proofs.lemmas.List.{map-id}
-use Rattle.wasm_meaning.specs.World.{instantiate, links}
+use Rattle.world_simulation.proofs.Declared.{Keeps, keeps, last_elems, last_segments}
 use Rattle.wasm_meaning.specs.Run.{Move, events}
 use Rattle.world_simulation.specs.Instances.{RelatedInstancesShowTheSame}
-use Rattle.world_simulation.specs.Simulation.{AreSimilar, StartAlike}
-use Rattle.world_simulation.proofs.Declared.{last_elems}
-use Rattle.world_simulation.proofs.Instancing.{inst_is, inst_there}
+use Rattle.world_simulation.specs.Simulation.{AreSimilar, StartAlike, WorldsCorrespond}
+use Rattle.world_simulation.proofs.Instancing.{inst_is, inst_there, IsInst}
 use Rattle.world_simulation.proofs.Simulated.{what_is_made, instances_rel}
-use Rattle.wasm_meaning.specs.World.{alone, starts_of}
-use Rattle.index_remap.specs.Laws.{RenumberedCodeIsRelated}
-use Rattle.world_simulation.specs.Definitions.{FuncsCorrespond, GlobalsCorrespond, ElemsCorrespond, Partners, DefinitionsCorrespond}
-use Rattle.world_simulation.specs.Definitions as partners
-use Rattle.world_simulation.specs.Simulation.{WorldsCorrespond}
+use Rattle.world_simulation.specs.Definitions.{FuncsCorrespond, GlobalsCorrespond, ElemsCorrespond, Partners, DefinitionsCorrespond, Instantiated, values_in}
 use Rattle.world_simulation.proofs.Renamed.{funcs_correspond, elems_correspond}
-use Rattle.world_simulation.proofs.Places.{map_length, names_of}
 use Rattle.wasm_meaning.specs.Outcomes.{at}
-use Rattle.wasm_meaning.specs.Linking.{imports_of}
-use Rattle.wasm_meaning.specs.World.{space}
-use Rattle.wasm_tree.specs.Spaces.{imported_tables, imported_memories, imported_globals, tables_of, memories_of, globals_of}
-use Rattle.index_remap.specs.Related.{nil}
-use Rattle.index_remap.specs.Renumbered.{new_elem, new_data, new_global}
-use Rattle.world_simulation.specs.Alone.{one, addresses}
+use Rattle.world_simulation.specs.Alone.{one}
 use Rattle.world_simulation.specs.Owned.{SharesOwn}
 use Rattle.world_simulation.specs.Named.{EntriesName}
-use Rattle.world_simulation.specs.Definitions.{Instantiated, values_in}
 use Rattle.world_simulation.proofs.Alone.{funcs_counted, tables_counted, memories_counted, globals_counted}
-use Rattle.world_simulation.proofs.Declared.{last_segments}
-use Rattle.world_simulation.proofs.Instancing.{IsInst}
-use Rattle.world_simulation.proofs.Single.{space_at}
-use Rattle.world_simulation.proofs.Holes.{moved_down, Down, low, high, down_is, is_down, down_right, down_left, without_low, without_high, without_many, Moved, stays, falls, space_moves, stays_at, kept_place}
-use Rattle.world_simulation.proofs.SameItems.{SameItems, space_there, consts, elems_in_order, datas_in_order, view, starts, FuncsFrom, linked_with}
 use Rattle.world_simulation.proofs.Single.{one_inst, there_is}
+use Rattle.world_simulation.proofs.Holes.{moved_down, Down, low, down_is, is_down, down_right, down_left, without_low, without_high, without_many, Moved, stays, falls, placed, stays_at, kept_place}
+use Rattle.world_simulation.proofs.SameItems.{SameItems, space_there, space_rel, plain_rel, segments_rel, consts, elems_in_order, datas_in_order, view, starts, FuncsFrom, linked_with}
 
 -- ---- the module and what is left of it ----
 
@@ -189,35 +171,6 @@ module _ (t : Module) (n : ℕ) (there : n < length t.funcs) (reach : IsUnreacha
     }
 
     module _ (i j : Inst) (a : IsInst env (one t) 0 t i) (b : IsInst env (one (removed n t)) 0 (removed n t) j) where
-      space_rel : (k : Space) (xs ys : List ℕ) (gap : ℕ) → space env (one t) k 0 t ≡ Some xs → space env (one u) k 0 u ≡ Some ys → hole k ≡ own_count k env + gap → gap ≤ defined_count k t →
-          (gap < defined_count k t → suc (defined_count k u) ≡ defined_count k t) → (gap ≡ defined_count k t → defined_count k t ≤ defined_count k u) →
-          (x y : ℕ) → x < length (imports_of k t) + defined_count k t → Moved (length (imports_of k t) + gap) x y → OptRel (R.of k) (slice_get xs x) (slice_get ys y)
-      space_rel k xs ys gap hx hy hole_is within smaller equal x y h move =
-          let sx = space_at R env own t k xs hx in
-          let sy = space_at R env own u k ys hy in
-          let both : Some sy.imported ≡ Some sx.imported = sym sy.are ∙ ap₂ (λ ts is. addresses env ts is k) types_are imports_are ∙ sx.are in
-          let imported : sy.imported ≡ sx.imported = cc in
-          let many = sx.many in
-          opt_at (ap (λ l. slice_get l x) sx.all) (ap (λ l. slice_get l y) (sy.all ∙ ap (λ l. l ++ numbers (own_count k env) (defined_count k u)) imported))
-          (space_moves (R.of k) sx.imported (own_count k env) gap (defined_count k t) (defined_count k u) sx.shared within smaller equal
-          (λ a b d. is_down (hole k) (own_count k env + defined_count k t) a b (subst (λ h. Down h (own_count k env + defined_count k t) a b) (sym hole_is) d)) x y (omega (arith, h, many)) (subst (λ c. Moved (c + gap) x y) (sym many) move))
-
-      -- a space of which nothing is removed
-      plain_rel : (k : Space) (xs ys : List ℕ) (size : ℕ) → space env (one t) k 0 t ≡ Some xs → space env (one u) k 0 u ≡ Some ys → hole k ≡ own_count k env + defined_count k t → defined_count k u ≡ defined_count k t → size ≡ length (imports_of k t) + defined_count k t →
-          (x : ℕ) → has (numbers 0 size) x ≡ true → OptRel (R.of k) (slice_get xs x) (slice_get ys (slice_index (numbers 0 size) x))
-      plain_rel k xs ys size hx hy hole_is counts size_is x h =
-          let s = stays_at size x h in
-          let l = s.1 in
-          space_rel k xs ys (defined_count k t) hx hy hole_is (omega arith) (λ c. absurd (omega (arith, c))) (λ e. omega (arith, counts)) x _ (omega (arith, l, size_is)) (stays (omega (arith, l, size_is)) (sym s.0))
-
-      segments_rel : (k : Space) (xs ys : List ℕ) (count fewer : ℕ) → xs ≡ numbers 0 count → ys ≡ numbers 0 fewer → count ≤ fewer → ((a b : ℕ) → Down (0 + count) (0 + count) a b → R.of k a b) →
-          (x : ℕ) → has (numbers 0 count) x ≡ true → OptRel (R.of k) (slice_get xs x) (slice_get ys (slice_index (numbers 0 count) x))
-      segments_rel k xs ys count fewer hx hy more related x h =
-          let s = stays_at count x h in
-          let l = s.1 in
-          opt_at (ap (λ l. slice_get l x) hx) (ap (λ l. slice_get l (slice_index (numbers 0 count) x)) hy)
-          (space_moves (R.of k) [] 0 count count fewer nil (omega arith) (λ c. absurd (omega (arith, c))) (λ e. more) related x _ (omega (arith, l)) (stays (omega (arith, l)) (sym s.0)))
-
       elems_more : length t.elems ≤ length u.elems
       elems_more = let e = ap length same.elems ∙ length-append (map (new_elem m) t.elems) (last_segments fs) in let c = map_length (new_elem m) t.elems in omega (arith, e, c)
 
@@ -233,22 +186,22 @@ module _ (t : Module) (n : ℕ) (there : n < length t.funcs) (reach : IsUnreacha
           let f = func_moves x h in
           let counted = funcs_counted t.imports 0 in
           let l = f.0 in
-          names_of i.funcs j.funcs x _ (space_rel Functions i.funcs j.funcs n a.funcs b.funcs refl (omega (arith, there)) (λ c. funcs_many) (λ e. absurd (omega (arith, there, e))) x _ (omega (arith, l, counted)) (subst (λ c. Moved (c + n) x (slice_index m.funcs x)) (sym counted) f.1))
+          names_of i.funcs j.funcs x _ (space_rel of m kept t u fs items env own i j a b Functions i.funcs j.funcs n a.funcs b.funcs (λ c d e. is_down _ _ c d e) (omega (arith, there)) (λ c. funcs_many) (λ e. absurd (omega (arith, there, e))) x _ (omega (arith, l, counted)) (subst (λ c. Moved (c + n) x (slice_index m.funcs x)) (sym counted) f.1))
       names Tables x h =
           let counted = tables_counted t.imports 0 in
           let size = length-append (imported_tables t.imports) t.tables in
-          names_of i.tables j.tables x _ (plain_rel Tables i.tables j.tables (length (tables_of t)) a.tables b.tables refl (ap length same.tables) (omega (arith, counted, size)) x h)
+          names_of i.tables j.tables x _ (plain_rel of m kept t u fs items env own i j a b Tables i.tables j.tables (length (tables_of t)) a.tables b.tables (λ c d e. is_down _ _ c d e) (ap length same.tables) (omega (arith, counted, size)) x h)
       names Memories x h =
           let counted = memories_counted t.imports 0 in
           let size = length-append (imported_memories t.imports) t.mems in
-          names_of i.mems j.mems x _ (plain_rel Memories i.mems j.mems (length (memories_of t)) a.mems b.mems refl (ap length same.mems) (omega (arith, counted, size)) x h)
+          names_of i.mems j.mems x _ (plain_rel of m kept t u fs items env own i j a b Memories i.mems j.mems (length (memories_of t)) a.mems b.mems (λ c d e. is_down _ _ c d e) (ap length same.mems) (omega (arith, counted, size)) x h)
       names Globals x h =
           let counted = globals_counted t.imports 0 in
           let size = length-append (imported_globals t.imports) (map (λ g. g.ty) t.globals) in
           let defined = map_length (λ g. g.ty) t.globals in
-          names_of i.globals j.globals x _ (plain_rel Globals i.globals j.globals (length (globals_of t)) a.globals b.globals refl globals_many (omega (arith, counted, size, defined)) x h)
-      names ElementSegments x h = names_of i.elems j.elems x _ (segments_rel ElementSegments i.elems j.elems (length t.elems) (length u.elems) a.elems b.elems elems_more (λ a b d. is_down _ _ a b d) x h)
-      names DataSegments x h = names_of i.datas j.datas x _ (segments_rel DataSegments i.datas j.datas (length t.datas) (length u.datas) a.datas b.datas (omega (arith, datas_many)) (λ a b d. is_down _ _ a b d) x h)
+          names_of i.globals j.globals x _ (plain_rel of m kept t u fs items env own i j a b Globals i.globals j.globals (length (globals_of t)) a.globals b.globals (λ c d e. is_down _ _ c d e) globals_many (omega (arith, counted, size, defined)) x h)
+      names ElementSegments x h = names_of i.elems j.elems x _ (segments_rel of m kept t u fs items env own i j a b ElementSegments i.elems j.elems (length t.elems) (length u.elems) a.elems b.elems elems_more (λ a b d. is_down _ _ a b d) x h)
+      names DataSegments x h = names_of i.datas j.datas x _ (segments_rel of m kept t u fs items env own i j a b DataSegments i.datas j.datas (length t.datas) (length u.datas) a.datas b.datas (omega (arith, datas_many)) (λ a b d. is_down _ _ a b d) x h)
 
       abbrev v : Instantiated
       v = record { parts = one t; insts = i ∷ [] }
@@ -258,36 +211,6 @@ module _ (t : Module) (n : ℕ) (there : n < length t.funcs) (reach : IsUnreacha
 
       -- ---- the records ----
 
-      placed : {A : Type 0} (k : Space) (definitions : Module → List A) (new : A → A) (gap : ℕ) → hole k ≡ own_count k env + gap → ((c : Module) → defined_count k c ≡ length (definitions c)) →
-          ((x y : ℕ) (d : A) → slice_get (definitions t) x ≡ Some d → Moved gap x y → slice_get (definitions u) y ≡ Some (new d)) → (correspond : ℕ → Inst → A → ℕ → Inst → A → Type 0) →
-          ((x : ℕ) (d : A) → slice_get (definitions t) x ≡ Some d → (x ≡ gap → ⊥) → correspond 0 i d 0 j (new d)) → (c d : ℕ) → R.of k c d → Partners env v w k definitions correspond c d
-      placed k definitions new gap hole_is counts second correspond alike c d r = by (cases_lt c (own_count k env)) (subst (λ h. Down h (own_count k env + defined_count k t) c d) hole_is (down_is (hole k) _ c d r))
-        where
-          by : (c < own_count k env) ⊎ (own_count k env ≤ c) → Down (own_count k env + gap) (own_count k env + defined_count k t) c d → Partners env v w k definitions correspond c d
-          by (inl l) (low h e f) = partners.own f l
-          by (inl l) (high h e f) = absurd (omega (arith, l, h))
-          by (inr l) move = at (c - own_count k env) (d - own_count k env) (omega (arith, l)) (shift move) (below move)
-            where
-              shift : Down (own_count k env + gap) (own_count k env + defined_count k t) c d → (d ≡ own_count k env + (d - own_count k env)) × Moved gap (c - own_count k env) (d - own_count k env)
-              shift (low h e f) = (omega (arith, l, f), stays (omega (arith, l, h)) (ap (λ z. z - own_count k env) f))
-              shift (high h e f) = (omega (arith, h, f), falls (omega (arith, l, h)) (omega (arith, h, f)))
-
-              below : Down (own_count k env + gap) (own_count k env + defined_count k t) c d → c - own_count k env < defined_count k t
-              below (low h e f) = omega (arith, l, e)
-              below (high h e f) = omega (arith, l, e)
-
-              at : (x y : ℕ) → c ≡ own_count k env + x → (d ≡ own_count k env + y) × Moved gap x y → x < defined_count k t → Partners env v w k definitions correspond c d
-              at x y first second_is within =
-                  let e = slice_get_there (definitions t) x (subst (λ n. x < n) (counts t) within) in
-                  let d_is = second_is.0 in
-                  partners.defined (record { part = 0; of = t; is_part = refl; inst = i; is_inst = refl; place = x; definition = e.0; stands = e.1; address = omega (arith, first) })
-                  (record { part = 0; of = u; is_part = refl; inst = j; is_inst = refl; place = y; definition = new e.0; stands = second x y e.0 e.1 second_is.1; address = omega (arith, d_is) })
-                  (alike x e.0 e.1 (never second_is.1))
-                where
-                  never : Moved gap x y → x ≡ gap → ⊥
-                  never (stays h f) g = absurd (omega (arith, h, g))
-                  never (falls h f) g = absurd (omega (arith, h, g))
-
       func_place : (x y : ℕ) (f : tree.Func) → slice_get t.funcs x ≡ Some f → Moved n x y → slice_get u.funcs y ≡ Some (new_func m f)
       func_place x y f h move = ap (λ l. slice_get l y) same.funcs ∙ map_at (new_func m) (without n t.funcs) y f (by move)
         where
@@ -295,16 +218,21 @@ module _ (t : Module) (n : ℕ) (there : n < length t.funcs) (reach : IsUnreacha
           by (stays l e) = without_low n t.funcs y (omega (arith, l, e)) ∙ ap (slice_get t.funcs) (sym e) ∙ h
           by (falls l e) = without_high n t.funcs y (omega (arith, l, e)) ∙ ap (slice_get t.funcs) (sym e) ∙ h
 
+      with_hole : {A : Type 0} (k : Space) (definitions : Module → List A) (new : A → A) (gap : ℕ) → hole k ≡ own_count k env + gap → ((c : Module) → defined_count k c ≡ length (definitions c)) →
+          ((x y : ℕ) (d : A) → slice_get (definitions t) x ≡ Some d → Moved gap x y → slice_get (definitions u) y ≡ Some (new d)) → (correspond : ℕ → Inst → A → ℕ → Inst → A → Type 0) →
+          ((x : ℕ) (d : A) → slice_get (definitions t) x ≡ Some d → (x ≡ gap → ⊥) → correspond 0 i d 0 j (new d)) → (c d : ℕ) → R.of k c d → Partners env v w k definitions correspond c d
+      with_hole k definitions new gap e counts second correspond alike c d r = placed env t u i j k definitions new gap counts second correspond alike c d (subst (λ h. Down h (own_count k env + defined_count k t) c d) e (down_is (hole k) _ c d r))
+
       definitions : RenumberedCodeIsRelated → DefinitionsCorrespond R env v w
       definitions code = record {
-        funcs = placed Functions (λ c. c.funcs) (new_func m) n refl (λ c. refl) func_place (λ p i f q j g. FuncsCorrespond R i j f g) (λ x f h other. funcs_correspond of m kept i j names code f (rest_names x f h other));
-        tables = placed Tables (λ c. c.tables) (λ x. x) (length t.tables) refl (λ c. refl) (λ x y d h move. ap (λ l. slice_get l y) (same.tables ∙ sym (map-id t.tables) ∙ sym (append-nil _)) ∙ kept_place t.tables (λ x. x) [] x y d h move) (λ p i x q j y. x ≡ y) (λ x d h other. refl);
-        mems = placed Memories (λ c. c.mems) (λ x. x) (length t.mems) refl (λ c. refl) (λ x y d h move. ap (λ l. slice_get l y) (same.mems ∙ sym (map-id t.mems) ∙ sym (append-nil _)) ∙ kept_place t.mems (λ x. x) [] x y d h move) (λ p i x q j y. x ≡ y) (λ x d h other. refl);
-        globals = placed Globals (λ c. c.globals) (new_global m) (length t.globals) refl (λ c. refl) (λ x y d h move. ap (λ l. slice_get l y) (same.globals ∙ sym (append-nil _)) ∙ kept_place t.globals (new_global m) [] x y d h move)
+        funcs = with_hole Functions (λ c. c.funcs) (new_func m) n refl (λ c. refl) func_place (λ p i f q j g. FuncsCorrespond R i j f g) (λ x f h other. funcs_correspond of m kept i j names code f (rest_names x f h other));
+        tables = with_hole Tables (λ c. c.tables) (λ x. x) (length t.tables) refl (λ c. refl) (λ x y d h move. ap (λ l. slice_get l y) (same.tables ∙ sym (map-id t.tables) ∙ sym (append-nil _)) ∙ kept_place t.tables (λ x. x) [] x y d h move) (λ p i x q j y. x ≡ y) (λ x d h other. refl);
+        mems = with_hole Memories (λ c. c.mems) (λ x. x) (length t.mems) refl (λ c. refl) (λ x y d h move. ap (λ l. slice_get l y) (same.mems ∙ sym (map-id t.mems) ∙ sym (append-nil _)) ∙ kept_place t.mems (λ x. x) [] x y d h move) (λ p i x q j y. x ≡ y) (λ x d h other. refl);
+        globals = with_hole Globals (λ c. c.globals) (new_global m) (length t.globals) refl (λ c. refl) (λ x y d h move. ap (λ l. slice_get l y) (same.globals ∙ sym (append-nil _)) ∙ kept_place t.globals (new_global m) [] x y d h move)
             (λ p i g q j h. GlobalsCorrespond R (values_in env v p) (values_in env w q) g h) (λ x g h other. record { type = refl; init = consts of m kept t u fs items env own i j a b names g.init (reach.globals x g h) });
-        elems = placed ElementSegments (λ c. c.elems) (new_elem m) (length t.elems) refl (λ c. refl) (λ x y d h move. ap (λ l. slice_get l y) same.elems ∙ kept_place t.elems (new_elem m) (last_segments fs) x y d h move)
+        elems = with_hole ElementSegments (λ c. c.elems) (new_elem m) (length t.elems) refl (λ c. refl) (λ x y d h move. ap (λ l. slice_get l y) same.elems ∙ kept_place t.elems (new_elem m) (last_segments fs) x y d h move)
             (λ p i d q j e. ElemsCorrespond R (values_in env v p) (values_in env w q) d e) (λ x e h other. elems_correspond of m kept i j names (values_in env v 0) (values_in env w 0) (consts of m kept t u fs items env own i j a b names) e (λ l c k. reach.items x l e c h k));
-        datas = placed DataSegments (λ c. c.datas) (new_data m) (length t.datas) refl (λ c. refl) (λ x y d h move. ap (λ l. slice_get l y) (same.datas ∙ sym (append-nil _)) ∙ kept_place t.datas (new_data m) [] x y d h move)
+        datas = with_hole DataSegments (λ c. c.datas) (new_data m) (length t.datas) refl (λ c. refl) (λ x y d h move. ap (λ l. slice_get l y) (same.datas ∙ sym (append-nil _)) ∙ kept_place t.datas (new_data m) [] x y d h move)
             (λ p i d q j e. d.bytes ≡ e.bytes) (λ x d h other. refl);
       }
 
