@@ -21,7 +21,9 @@ use Rattle.index_remap.specs.Related.{StoreRel}
 use Rattle.index_remap.specs.RelatedRuns.{ThingRel}
 use Rattle.world_simulation.specs.Owned.{OwnEntitiesCorrespond}
 use Rattle.merge_worlds.specs.Shared.{is_shared, sharing}
-use Rattle.merge_worlds.proofs.Standing.{thing_self, shares_own}
+use Rattle.merge_worlds.proofs.Standing.{shares_own}
+use Rattle.world_simulation.proofs.Owned.{given_rel}
+use Rattle.world_simulation.proofs.Places.{opt_self}
 use Rattle.world_simulation.specs.Alone.{one, site, key_in, thing_in, ImportsStandForTheEnvironments}
 use Rattle.merge_validity.specs.Ended.{TypesHavePlaces}
 use Rattle.merge_worlds.proofs.MatchFits.{fits, fitting, match_fits, kept}
@@ -61,7 +63,7 @@ outside_is owned parts u m j is at =
 outside_rel : OwnEntitiesCorrespond → (env : Environment) (parts : List Part) (u : Site) (m : Module) (j : Import) (th : Thing) → module_at parts u.part ≡ Some m → import_at parts u ≡ Some j → outside_thing (owned_of env) parts u ≡ Some th → ThingRel (sharing env parts) th th
 outside_rel own env parts u m j th is at h =
     let key = and_then_is (own_key m j) (λ key. given (owned_at (owned_of env) key)) th (sym (outside_is (owned_of env) parts u m j is at) ∙ h) in
-    thing_self (sharing env parts) (owned_of env) (own (is_shared env parts) env (shares_own env parts)).owned (same_key key.0) th key.2
+    opt_self (given_rel (sharing env parts) env (shares_own env parts) (same_key key.0) (own (is_shared env parts) env (shares_own env parts)).owned) key.2
 
 -- ---- the merged module ----
 
