@@ -17,3 +17,4 @@ pub mod Single
 pub mod Holes
 pub mod SameItems
 pub mod Unreachable
+pub mod Added

@@ -2,6 +2,7 @@
 //! functions.
 #![tactic(auto)]
 
+ghost use Rattle.world_simulation.specs.Added.{AddedToTheFirstStayRelated, AddedToTheSecondStayRelated};
 ghost use Rattle.world_simulation.specs.Alone.{
   ImportsStandForTheEnvironments,
   ImportsStay,
@@ -96,3 +97,10 @@ pub fn unreachable_functions_are_not_seen()
     steps_agree();
     related_instances_show_the_same();
 }
+
+/// Two related stores stay related where a module is added to one of them, as a loader adds one (WebAssembly Core 2.0, section 4.5.4), and its active segments are copied
+/// into tables and memories that are related to nothing: to the second (`second`), and to the first (`first`). Whether a segment traps makes no difference.
+pub fn stores_stay_related_where_a_module_is_added()
+    ensures second { AddedToTheSecondStayRelated }
+    ensures first { AddedToTheFirstStayRelated }
+{}
