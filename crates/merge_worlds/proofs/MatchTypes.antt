@@ -1,14 +1,10 @@
 -- External types that are the same but for limits.
-use Rattle.std.proofs.Common.{◌≡◌, List, [], ◌∷◌, Bool, true, false, refl, ap, ap₂, subst, arith}
-use Rattle.wasm_tree.specs.declared.types.RefType.{RefType}
-use Rattle.wasm_tree.specs.declared.types.RefType.TheVariants as reft
-use Rattle.wasm_tree.specs.declared.types.ValType.{ValType}
-use Rattle.wasm_tree.specs.declared.types.ValType.TheVariants as valt
+use Rattle.std.proofs.Common.{◌≡◌, true, ap₂, subst, arith}
 use Rattle.wasm_tree.specs.declared.types.FuncType.{FuncType}
 use Rattle.wasm_tree.specs.declared.types.Limits.{Limits}
 use Rattle.wasm_tree.specs.declared.types.TableType.{TableType}
 use Rattle.wasm_tree.specs.declared.types.GlobalType.{GlobalType}
-use Rattle.wasm_meaning.specs.Values.{same_ref, same_type, same_types, same_func_type}
+use Rattle.wasm_meaning.specs.Values.{same_type, same_types, same_func_type}
 use Rattle.wasm_meaning.specs.World.{same_bool}
 use Rattle.merge_terms.specs.Faults.{External, FuncOf, TableOf, MemoryOf, GlobalOf, same_but_limits}
 use Rattle.std.proofs.lemmas.Bool.{and_parts}

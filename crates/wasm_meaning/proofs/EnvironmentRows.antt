@@ -1,5 +1,5 @@
 -- What an environment is and is not, and which it links with which world, computed.
-use Rattle.std.proofs.Common.{◌≡◌, refl, sym, ap, subst, ◌∙◌, ℕ, zero, suc, ◌+◌, ◌*◌, ◌<◌, ◌≤◌, List, [], ◌∷◌, length, Some, None, Bool, true, false, ◌&&◌, arith}
+use Rattle.std.proofs.Common.{◌≡◌, refl, ap, ◌∙◌, ℕ, zero, suc, ◌*◌, List, [], ◌∷◌, length, Some, None, Bool, true, false, ◌&&◌}
 use Rattle.std.specs.Prelude.{pos, nat_le, nat_eq, nat_lt}
 use Rattle.std.proofs.lemmas.Bool.{eq-eqb}
 use Rattle.wasm_tree.specs.declared.types.RefType.TheVariants as reft
@@ -13,10 +13,10 @@ use Rattle.wasm_tree.specs.declared.module.DataMode.TheVariants as data'
 use Rattle.wasm_tree.specs.declared.module.ElemMode.TheVariants as elem
 use Rattle.wasm_tree.specs.declared.module.Module.{Module}
 use Rattle.wasm_meaning.specs.Outcomes.{copies}
-use Rattle.wasm_meaning.specs.State.{Text, Pair}
-use Rattle.wasm_meaning.specs.Environment.{Environment, Offer, Shown, Number, Null, OwnFunc, ExternNumber, Function, OwnTable, OwnMemory, OwnGlobal, all_of, where_there, is_within, is_environment, is_memory}
-use Rattle.wasm_meaning.specs.World.{World, links}
-use Rattle.wasm_meaning.proofs.SmallRuns.{f, g, a, b, e, m, i32, to_i32, nothing, empty, code, num, gives, page, three, plain}
+use Rattle.wasm_meaning.specs.State.{Text}
+use Rattle.wasm_meaning.specs.Environment.{Offer, Shown, Number, Null, OwnFunc, ExternNumber, Function, OwnTable, OwnMemory, all_of, where_there, is_within, is_environment, is_memory}
+use Rattle.wasm_meaning.specs.World.{links}
+use Rattle.wasm_meaning.proofs.SmallRuns.{f, g, a, e, m, i32, to_i32, nothing, empty, code, num, gives, three, plain}
 
 -- ---- what is offered ----
 
