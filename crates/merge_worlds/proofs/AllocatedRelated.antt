@@ -1,9 +1,9 @@
 -- Stores that are alike correspond by the addresses that both worlds have.
-use Rattle.std.proofs.Common.{◌≡◌, ℕ, zero, suc, ◌<◌, List, [], ◌∷◌, ◌++◌, length, refl, sym, subst, arith, append-nil}
+use Rattle.std.proofs.Common.{◌≡◌, ℕ, zero, suc, ◌<◌, List, [], ◌∷◌, ◌++◌, length, refl, sym, subst, arith, append-nil, option_and_then}
 use Rattle.wasm_tree.specs.declared.space.Space.{Space}
 use Rattle.wasm_tree.specs.declared.space.Space.TheVariants.{Functions, Tables, Memories, Globals, ElementSegments, DataSegments}
 use Rattle.wasm_tree.specs.declared.types.FuncType.{FuncType}
-use Rattle.wasm_meaning.specs.Outcomes.{Outcome, Gives, bind, at}
+use Rattle.wasm_meaning.specs.Outcomes.{given, Outcome, Gives, bind, at}
 use Rattle.wasm_meaning.specs.State.{Func, Store}
 use Rattle.wasm_meaning.specs.Control.{type_of_func, own_of}
 use Rattle.wasm_meaning.specs.Linking.{Part}
@@ -35,7 +35,7 @@ module _ (env : Environment) (parts : List Part) where
   type_same (both own) = both refl
   type_same (both slot) = both refl
 
-  own_same : {o p : Outcome Func} → BothRel (FuncRel R) o p → bind o own_of ≡ bind p own_of
+  own_same : {o p : Outcome Func} → BothRel (FuncRel R) o p → option_and_then own_of (given o) ≡ option_and_then own_of (given p)
   own_same (both (defined c)) = refl
   own_same (both own) = refl
   own_same (both slot) = refl

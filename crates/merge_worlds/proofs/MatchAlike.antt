@@ -37,11 +37,11 @@ addressed_among : (n from : ℕ) (thing : ℕ → Thing) (keys : List OwnKey) �
 addressed_among n from thing [] h = tt
 addressed_among n from thing (key ∷ keys) h = (h from (omega arith), addressed_among n (suc from) thing keys (λ a l. h a (omega (arith, l))))
 
-looked_up : (n : ℕ) (is : OwnKey → Bool) (xs : Owned) (th : Thing) → AllAmong n xs → given (look_up is xs) ≡ Some th → IsAmong n th
+looked_up : (n : ℕ) (is : OwnKey → Bool) (xs : Owned) (th : Thing) → AllAmong n xs → look_up is xs ≡ Some th → IsAmong n th
 looked_up n is [] th h e = absurd (let k = e in cc)
 looked_up n is (x ∷ xs) th h e = by (is x.0) e (looked_up n is xs th h.1)
   where
-    by : (b : Bool) → given (cond b (Gives x.1) (look_up is xs)) ≡ Some th → (given (look_up is xs) ≡ Some th → IsAmong n th) → IsAmong n th
+    by : (b : Bool) → cond b (Some x.1) (look_up is xs) ≡ Some th → (look_up is xs ≡ Some th → IsAmong n th) → IsAmong n th
     by true e on = let same : x.1 ≡ th = cc in subst (IsAmong n) same h.0
     by false e on = on e
 
@@ -51,7 +51,7 @@ funcs_many (o ∷ env) =
     length-append (map (FuncKey o.pair) o.funcs) (flat (λ o. map (FuncKey o.pair) o.funcs) env)
     ∙ ap₂ (λ a b. a + b) (map_length (FuncKey o.pair) o.funcs ∙ sym (map_length (Own o.pair) o.funcs)) (funcs_many env) ∙ sym (length-append (map (Own o.pair) o.funcs) (own_funcs env))
 
-pub own_among : (env : Environment) (key : OwnKey) (th : Thing) → given (owned_at (owned_of env) key) ≡ Some th → IsAmong (length (own_funcs env)) th
+pub own_among : (env : Environment) (key : OwnKey) (th : Thing) → owned_at (owned_of env) key ≡ Some th → IsAmong (length (own_funcs env)) th
 own_among env key th h =
     let n = length (own_funcs env) in
     let many = funcs_many env in

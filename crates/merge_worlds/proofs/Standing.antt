@@ -75,15 +75,15 @@ import_there k m x n h =
 
 -- ---- the environment's own ----
 
-found_at : (is : OwnKey → Bool) (xs : Owned) (x : Thing) → given (look_up is xs) ≡ Some x → (n : ℕ) × (key : OwnKey) × (slice_get xs n ≡ Some (key, x))
+found_at : (is : OwnKey → Bool) (xs : Owned) (x : Thing) → look_up is xs ≡ Some x → (n : ℕ) × (key : OwnKey) × (slice_get xs n ≡ Some (key, x))
 found_at is [] x h = absurd (let k = h in cc)
 found_at is (y ∷ xs) x h = by (is y.0) h (λ h. found_at is xs x h)
   where
-    by : (b : Bool) → given (cond b (Gives y.1) (look_up is xs)) ≡ Some x → (given (look_up is xs) ≡ Some x → (n : ℕ) × (key : OwnKey) × (slice_get xs n ≡ Some (key, x))) → (n : ℕ) × (key : OwnKey) × (slice_get (y ∷ xs) n ≡ Some (key, x))
+    by : (b : Bool) → cond b (Some y.1) (look_up is xs) ≡ Some x → (look_up is xs ≡ Some x → (n : ℕ) × (key : OwnKey) × (slice_get xs n ≡ Some (key, x))) → (n : ℕ) × (key : OwnKey) × (slice_get (y ∷ xs) n ≡ Some (key, x))
     by true h on = let same : y.1 ≡ x = cc in (0, y.0, ap {A = Thing} {B = Option (OwnKey × Thing)} (λ z. Some (y.0, z)) same)
     by false h on = let r = on h in (suc r.0, r.1, r.2)
 
-thing_self : (R : Pairing) (xs : Owned) → ListRel (KeyRel R) xs xs → (is : OwnKey → Bool) (x : Thing) → given (look_up is xs) ≡ Some x → ThingRel R x x
+thing_self : (R : Pairing) (xs : Owned) → ListRel (KeyRel R) xs xs → (is : OwnKey → Bool) (x : Thing) → look_up is xs ≡ Some x → ThingRel R x x
 thing_self R xs r is x h =
     let f = found_at is xs x h in
     let k : KeyRel R (f.1, x) (f.1, x) = opt_self (place_rel r f.0) f.2 in

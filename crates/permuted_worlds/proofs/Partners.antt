@@ -18,7 +18,7 @@ use Rattle.index_remap.specs.RelatedRuns.{ThingRel, a_func, a_table, a_memory, a
 use Rattle.index_remap.specs.Laws.{passed}
 use Rattle.permuted_worlds.specs.Permuted.{moved, IsOrder}
 use Rattle.permuted_worlds.proofs.Places.{moved_low, moved_high, Moves, stays, goes, moves_by, then_rel, then_same, self_rel, all_rel}
-use Rattle.permuted_worlds.proofs.Owned.{given_rel, owned_rel}
+use Rattle.permuted_worlds.proofs.Owned.{look_rel, owned_rel}
 use Rattle.permuted_worlds.specs.Owned.{SharesOwn}
 use Rattle.permuted_worlds.specs.Alone.{key_in, thing_in, addresses}
 
@@ -127,7 +127,7 @@ module _ (env : Environment) (places : List ℕ) (t : Module) where
   }
 
   pub thing_rel : (types : List FuncType) (o : Option Import) → OptRel (ThingRel R) (thing_in env types o) (thing_in env types o)
-  thing_rel types o = then_same o (λ i _. then_same (key_in types (pair_of i) i.desc) (λ key _. given_rel R env shares_own (same_key key) (owned_rel R env shares_own)))
+  thing_rel types o = then_same o (λ i _. then_same (key_in types (pair_of i) i.desc) (λ key _. look_rel R env shares_own (same_key key) (owned_rel R env shares_own)))
 
   address_rel : (k : Space) {x y : Thing} → ThingRel R x y → OptRel (R.of k) (address_of k x) (address_of k y)
   address_rel Functions (a_func p) = some p

@@ -8,6 +8,7 @@ use Rattle.std.specs.List.{list_all}
 use Rattle.std.proofs.lemmas.List.{length-append}
 use Rattle.base_lists.proofs.Numbers.{length-numbers, numbers_at}
 use Rattle.base_lists.proofs.Places.{append_left, append_right}
+pub use Rattle.index_remap.proofs.Rel.{then_rel, then_rel_is}
 use Rattle.index_remap.specs.Related.{OptRel, none, some, ResRel, done, wrong, BothRel, both, ListRel, nil, cons}
 use Rattle.permuted_worlds.specs.Permuted.{moved}
 
@@ -59,15 +60,6 @@ moves_by k places a b h = go (cases_lt a k)
         goes i x.0 (sym e) (sym x.2) x.1
 
 -- ---- options ----
-
-pub then_rel : {A B C D : Type 0} {P : A → B → Type 0} {Q : C → D → Type 0} {o : Option A} {p : Option B} {f : A → Option C} {g : B → Option D} → OptRel P o p → ((a : A) (b : B) → P a b → OptRel Q (f a) (g b)) → OptRel Q (option_and_then f o) (option_and_then g p)
-then_rel none h = none
-then_rel (some q) h = h _ _ q
-
--- with what the first came to
-pub then_rel_is : {A B C D : Type 0} {P : A → B → Type 0} {Q : C → D → Type 0} {o : Option A} {p : Option B} {f : A → Option C} {g : B → Option D} → OptRel P o p → ((a : A) (b : B) → o ≡ Some a → P a b → OptRel Q (f a) (g b)) → OptRel Q (option_and_then f o) (option_and_then g p)
-then_rel_is none h = none
-then_rel_is (some q) h = h _ _ refl q
 
 pub then_same : {A C D : Type 0} {Q : C → D → Type 0} {f : A → Option C} {g : A → Option D} (o : Option A) → ((a : A) → o ≡ Some a → OptRel Q (f a) (g a)) → OptRel Q (option_and_then f o) (option_and_then g o)
 then_same None h = none

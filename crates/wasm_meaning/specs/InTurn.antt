@@ -84,7 +84,7 @@ exported_by made i = made_named made i.«module» >>= λ x. export_named x.part.
 
 -- the environment's own entity for it
 abbrev pub own_thing : Owned → Module → Import → Option Thing
-own_thing owned m i = own_key m i >>= λ key. given (owned_at owned key)
+own_thing owned m i = own_key m i >>= λ key. owned_at owned key
 
 -- that, or where there is no such part or export the environment's own. A part whose turn has not come is not there, so that the environment is asked.
 abbrev pub thing_or_own : Owned → Module → Import → Option (Made × ExportDesc) → Option Thing
