@@ -198,7 +198,7 @@ same_there (both e) = ap Gives e
 
 -- ---- a write at related addresses ----
 
-at_put_here : {A : Type 0} (xs : List A) (n : ℕ) (v : A) → at (slice_set xs n v) n ≡ bind (at xs n) (λ old. Gives v)
+pub at_put_here : {A : Type 0} (xs : List A) (n : ℕ) (v : A) → at (slice_set xs n v) n ≡ bind (at xs n) (λ old. Gives v)
 at_put_here [] n v = refl
 at_put_here (x ∷ xs) zero v = refl
 at_put_here (x ∷ xs) (suc n) v = at_put_here xs n v

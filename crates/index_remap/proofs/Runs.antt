@@ -17,7 +17,7 @@ use Rattle.wasm_meaning.specs.Step.{give, enter_at, step}
 use Rattle.wasm_meaning.specs.Linking.{same_text}
 use Rattle.wasm_meaning.specs.Environment.{Shown, Number, Null, OwnFunc, ExternNumber, Function, Thing, FuncKey, TableKey, MemoryKey, GlobalKey, Owned, same_key, look_up, owned_at, func_of, func_value, received, received_ref, received_all}
 use Rattle.wasm_meaning.specs.World.{Begun}
-use Rattle.wasm_meaning.specs.Run.{Event, InstanceTrapped, Returned, Asked, Got, Place, TableOf, MemoryOf, GlobalOf, Named, Move, Call, Invoke, Take, Answer, Refuse, Grant, Deny, Get, Size, Set, Extend, Phase, Pending, Closed, Run, Out, Transition, Steps, Makes, made, place_at, trapped_at, trapped_to, showing, after, called, is_mark, delivered, grown_table, answered, refused, with_change, granted, decided, shows, got, size_of, does, byte_of, set, extended, moved, at_entries, or_bad, or_closed, next_move, began, view_of, nothing_in, started, open_next, is_taken_closed, closed_move, in_phase, transition_at, transition, tick}
+use Rattle.wasm_meaning.specs.Run.{Event, InstanceTrapped, Returned, Asked, Got, Place, TableOf, MemoryOf, GlobalOf, Named, Move, Call, Invoke, Take, Answer, Refuse, Grant, Deny, Get, Size, Set, Extend, Phase, Pending, Closed, Run, Out, Transition, Steps, Makes, made, place_at, trapped_at, trapped_to, showing, after, called, is_mark, delivered, grown_table, answered, refused, with_change, granted, decided, shows, got, size_of, does, byte_of, set, extended, moved, at_entries, or_bad, or_closed, next_move, began, view_of, nothing_in, started, open_next, is_taken_closed, closed_move, in_phase, transition_at}
 use Rattle.index_remap.specs.Related.{Pairing, OneToOne, OptRel, none, some, ResRel, done, trap, wrong, ListRel, nil, cons, RefRel, func, extern, ValRel, number, reference, TableRel, StoreRel, mark, opening, waiting, ended, growing, ChangeRel, set_global, set_memory, set_table, GrowthRel, memory_grows, table_grows, NextRel, ran, asked, asked_grow, loads, returned}
 use Rattle.index_remap.specs.RelatedRuns.{ThingRel, a_func, a_table, a_memory, a_global, KeyRel, BegunRel, PhaseRel, fresh, pending, opened, closed, RunRel, OutRel}
 use Rattle.index_remap.proofs.Rel.{written, there, then_rel, then_rel_is, then_same, given_rel, given_is, either_rel, PairRel, IfThere, absent, present, then_all, any_there, all_there, get_rel, append_rel, length_rel, copies_rel, overwrite_rel}

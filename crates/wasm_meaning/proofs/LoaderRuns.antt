@@ -235,4 +235,3 @@ a_secondary_may_load_another = refl
 a_failed_load_leaves_the_others : shown (under_two (secondary (code 0 (num 7 ∷ []) ∷ []) (puts 2 0 ∷ [])) (counting_from 20 1)) (call f ∷ (call g ∷ (call f ∷ []))) ≡ Linked ∷ (Trapped ∷ (number 21 ∷ (Trapped ∷ [])))
 unfolding out-Instr denote.Hole.Carrier.out wrapped un_from un_to un_value bin_from bin_to bin_value load_to load_width loaded store_from stored
 a_failed_load_leaves_the_others = refl
-

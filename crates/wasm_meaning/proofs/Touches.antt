@@ -10,13 +10,13 @@ use Rattle.wasm_tree.specs.declared.types.BlockType.{BlockType}
 use Rattle.wasm_num.specs.Operations.{W32}
 use Rattle.wasm_meaning.specs.Outcomes.{Outcome, Gives, Traps, IllTyped, trapping, bind, at, split_at, slice, overwrite, copies}
 use Rattle.wasm_meaning.specs.Access.{store_from, stored, little_bytes}
-use Rattle.wasm_meaning.specs.State.{Val, Num, Ref, FuncRef, RefVal, Table, Memory, Global, Store, Level, Frame, Env, Body, Keep, Act, Goes}
+use Rattle.wasm_meaning.specs.State.{Val, Num, Ref, FuncRef, RefVal, Table, Memory, Global, Level, Env, Body, Keep, Act}
 use Rattle.wasm_meaning.specs.Values.{typed, pop, pop_num, pop_ref, pop_typed, pushes, on_values, with_values, local_put, global_put, unary, binary, ref_is_null, select_any, select_typed}
 use Rattle.wasm_meaning.specs.Memory.{written, writes, store_into, load_from, grow_memory, memory_may_grow, init_memory, fill_memory, pop_three, with_memory}
 use Rattle.wasm_meaning.specs.Tables.{fits, writes_table, get_slot, set_slot, grow_table, table_may_grow, fill_table, init_table, with_table}
 use Rattle.wasm_meaning.specs.Control.{call_slot, func_ref, type_at, resume, end_level, branch, level_here, open_level, shape_of, open_block}
-use Rattle.wasm_meaning.specs.Step.{exec, step_code, step_levels, act}
-use Rattle.wasm_meaning.specs.Touched.{Touched, Nothing, Bytes, Slots, OneGlobal, OneElem, OneData, store_width, store_touches, range_touches, slot_touches, fill_touches, touched_by, touched_next, touched_levels, Writes, nothing, a_global, bytes, slots, an_elem, a_data, WritesTold, ActWrites, StepsWriteWhatTheyTouch}
+use Rattle.wasm_meaning.specs.Step.{exec, step_code, step_levels}
+use Rattle.wasm_meaning.specs.Touched.{Touched, Nothing, Bytes, Slots, OneGlobal, OneElem, OneData, store_width, store_touches, range_touches, slot_touches, fill_touches, touched_by, touched_next, touched_levels, nothing, a_global, bytes, slots, an_elem, a_data, WritesTold, ActWrites, StepsWriteWhatTheyTouch}
 use Rattle.wasm_meaning.proofs.Slices.{slice_length, copies_length}
 
 -- P of what is there

@@ -1,5 +1,5 @@
 -- What a step writes into the store, told with its place and length, from what stands on top before the step.
-use Rattle.std.proofs.Common.{◌≡◌, ℕ, ◌+◌, List, [], ◌∷◌, length, Option, Some, None}
+use Rattle.std.proofs.Common.{◌≡◌, ℕ, ◌+◌, List, [], ◌∷◌, length}
 use Rattle.wasm_tree.specs.declared.instr.Instr.{Instr, out-Instr}
 use Rattle.wasm_tree.specs.declared.instr.Instr.TheOpen.{Instr-F}
 use Rattle.wasm_tree.specs.declared.instr.StoreOp.{StoreOp}
@@ -7,7 +7,7 @@ use Rattle.wasm_tree.specs.declared.instr.StoreOp.TheVariants as op
 use Rattle.wasm_num.specs.Operations.{W32}
 use Rattle.wasm_meaning.specs.Outcomes.{Outcome, Gives, IllTyped, bind, at, overwrite}
 use Rattle.wasm_meaning.specs.Access.{store_from}
-use Rattle.wasm_meaning.specs.State.{Val, RefVal, Table, Memory, Global, Store, Level, Frame, Env, Body, Change, Keep, SetGlobal, SetMemory, SetTable, DropElem, DropData, Act, Goes, Calls, AsksGrow, Ends}
+use Rattle.wasm_meaning.specs.State.{Val, RefVal, Table, Memory, Global, Store, Level, Frame, Env, Change, Keep, SetGlobal, SetMemory, SetTable, DropElem, DropData, Act, Goes}
 use Rattle.wasm_meaning.specs.Values.{pop_num, pop_ref}
 use Rattle.wasm_meaning.specs.Memory.{pop_three}
 use Rattle.wasm_meaning.specs.Step.{act}
