@@ -125,9 +125,9 @@ module _ (laws : SpaceLaws) (env : Environment) (parts : List Part) (linked : li
   moved_thing : (s : Site) (w : IsStaying parts s) → thing_in env (merged_types parts) (Some (record w.import { desc = merged_desc parts s w.of w.import.desc })) ≡ outside_thing (owned_of env) parts s
   moved_thing s w =
       let x = asked_there s w in
-      ap (λ o. option_and_then (λ key. given (owned_at (owned_of env) key)) o) (moved_key laws parts s w.of w.is_part (pair_of w.import) w.import.desc x.0 x.1)
-      ∙ sym (ap (λ o. option_and_then (λ m. option_and_then (λ i. option_and_then (λ key. given (owned_at (owned_of env) key)) (own_key m i)) (import_at parts s)) o) w.is_part
-      ∙ ap (λ o. option_and_then (λ i. option_and_then (λ key. given (owned_at (owned_of env) key)) (own_key w.of i)) o) w.at)
+      ap (λ o. option_and_then (λ key. owned_at (owned_of env) key) o) (moved_key laws parts s w.of w.is_part (pair_of w.import) w.import.desc x.0 x.1)
+      ∙ sym (ap (λ o. option_and_then (λ m. option_and_then (λ i. option_and_then (λ key. owned_at (owned_of env) key) (own_key m i)) (import_at parts s)) o) w.is_part
+      ∙ ap (λ o. option_and_then (λ i. option_and_then (λ key. owned_at (owned_of env) key) (own_key w.of i)) o) w.at)
 
   chosen_addresses : (k : Space) → addresses env (merged_types parts) (filter_map (merged_import parts) (staying parts)) k ≡ all_there (site_address env parts k) (staying_of parts k)
   unfolding staying_of

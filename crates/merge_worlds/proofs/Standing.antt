@@ -18,7 +18,7 @@ use Rattle.merge_terms.specs.Merged.{staying_of, new_index}
 use Rattle.merge_validity.specs.Ended.{EndsInside, EndsOutside, Ended, inside, outside, is_external}
 use Rattle.merge_validity.proofs.ByPart.{before, defined_is}
 use Rattle.merge_validity.proofs.Same.{kind_is}
-use Rattle.world_simulation.proofs.Owned.{given_rel}
+use Rattle.world_simulation.proofs.Owned.{look_rel}
 use Rattle.world_simulation.proofs.Single.{address_rel}
 use Rattle.world_simulation.specs.Owned.{SharesOwn, OwnEntitiesCorrespond}
 use Rattle.world_simulation.proofs.Defined.{defined_at}
@@ -114,7 +114,7 @@ module _ (env : Environment) (parts : List Part) where
       let m = and_then_is (module_at parts s.part) _ x.0 x.1 in
       let i = and_then_is (import_at parts s) _ x.0 m.2 in
       let key = and_then_is (own_key m.0 i.0) _ x.0 i.2 in
-      let r = opt_self (given_rel (sharing env parts) env shares_own (same_key key.0) (law (is_shared env parts) env shares_own).owned) key.2 in
+      let r = opt_self (look_rel (sharing env parts) env shares_own (same_key key.0) (law (is_shared env parts) env shares_own).owned) key.2 in
       let b : is_shared env parts k a a ≡ true = opt_self (address_rel (sharing env parts) k r) x.2 in
       shared_low k a a b
 

@@ -48,12 +48,12 @@ on_some None h = refl
 on_some (Some a) h = h a
 
 outside_is : (env : Environment) (t : Module) (n : ℕ) → outside_thing (owned_of env) (one t) (site n) ≡ thing_in env t.types (slice_get t.imports n)
-outside_is env t n = on_some (slice_get t.imports n) (λ i. ap (λ k. option_and_then (λ key. given (owned_at (owned_of env) key)) k) (key_is t (pair_of i) i.desc))
+outside_is env t n = on_some (slice_get t.imports n) (λ i. ap (λ k. option_and_then (λ key. owned_at (owned_of env) key) k) (key_is t (pair_of i) i.desc))
 
 pub thing_is : (env : Environment) (t : Module) (n : ℕ) → imported_thing env (one t) (site n) ≡ thing_in env t.types (slice_get t.imports n)
 thing_is env t n =
     ap (λ e. option_and_then (thing_of env (one t)) e) (ends_outside t n) ∙ nested (slice_get t.imports n) (Outside (site n)) (thing_of env (one t))
-    ∙ on_some (slice_get t.imports n) (λ i. outside_is env t n) ∙ twice (slice_get t.imports n) (λ i. option_and_then (λ key. given (owned_at (owned_of env) key)) (key_in t.types (pair_of i) i.desc))
+    ∙ on_some (slice_get t.imports n) (λ i. outside_is env t n) ∙ twice (slice_get t.imports n) (λ i. option_and_then (λ key. owned_at (owned_of env) key) (key_in t.types (pair_of i) i.desc))
 
 -- ---- index spaces ----
 

@@ -3,6 +3,7 @@ use Rattle.std.proofs.Common.{◌≡◌, ℕ, zero, suc, ◌+◌, ◌<◌, ◌�
 use Rattle.wasm_meaning.specs.Outcomes.{Outcome, Gives, IllTyped, at}
 use Rattle.wasm_meaning.specs.World.{numbers, all_there}
 pub use Rattle.base_lists.proofs.Bools.{left_true, right_true}
+pub use Rattle.index_remap.proofs.Rel.{then_rel, then_rel_is}
 use Rattle.std.specs.List.{list_all}
 use Rattle.index_remap.specs.Related.{OptRel, none, some, ResRel, done, wrong, BothRel, both, ListRel, nil, cons}
 
@@ -22,15 +23,6 @@ some_then None f b h = cc
 some_then (Some a) f b h = (a, refl, cc)
 
 -- ---- options ----
-
-pub then_rel : {A B C D : Type 0} {P : A → B → Type 0} {Q : C → D → Type 0} {o : Option A} {p : Option B} {f : A → Option C} {g : B → Option D} → OptRel P o p → ((a : A) (b : B) → P a b → OptRel Q (f a) (g b)) → OptRel Q (option_and_then f o) (option_and_then g p)
-then_rel none h = none
-then_rel (some q) h = h _ _ q
-
--- with what the first came to
-pub then_rel_is : {A B C D : Type 0} {P : A → B → Type 0} {Q : C → D → Type 0} {o : Option A} {p : Option B} {f : A → Option C} {g : B → Option D} → OptRel P o p → ((a : A) (b : B) → o ≡ Some a → P a b → OptRel Q (f a) (g b)) → OptRel Q (option_and_then f o) (option_and_then g p)
-then_rel_is none h = none
-then_rel_is (some q) h = h _ _ refl q
 
 pub then_same : {A C D : Type 0} {Q : C → D → Type 0} {f : A → Option C} {g : A → Option D} (o : Option A) → ((a : A) → o ≡ Some a → OptRel Q (f a) (g a)) → OptRel Q (option_and_then f o) (option_and_then g o)
 then_same None h = none

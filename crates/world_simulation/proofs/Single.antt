@@ -21,7 +21,7 @@ use Rattle.index_remap.proofs.Rel.{length_rel, same_there}
 use Rattle.world_simulation.specs.Alone.{one, site, key_in, thing_in, import_places, addresses}
 use Rattle.world_simulation.specs.Owned.{SharesOwn}
 use Rattle.world_simulation.proofs.Alone.{space_is, thing_is, on_some}
-use Rattle.world_simulation.proofs.Owned.{owned_rel, given_rel}
+use Rattle.world_simulation.proofs.Owned.{owned_rel, look_rel}
 use Rattle.world_simulation.proofs.Places.{then_rel, then_same, then_eq, opt_self, self_rel, all_rel}
 use Rattle.world_simulation.proofs.Copied.{both_placed}
 use Rattle.wasm_meaning.specs.World as world
@@ -36,7 +36,7 @@ address_rel R k p = none
 
 module _ (R : Pairing) (env : Environment) (own : SharesOwn R env) where
   thing_rel : (types : List FuncType) (o : Option Import) → OptRel (ThingRel R) (thing_in env types o) (thing_in env types o)
-  thing_rel types o = then_same o (λ i _. then_same (key_in types (pair_of i) i.desc) (λ key _. given_rel R env own (same_key key) (owned_rel R env own)))
+  thing_rel types o = then_same o (λ i _. then_same (key_in types (pair_of i) i.desc) (λ key _. look_rel R env own (same_key key) (owned_rel R env own)))
 
   addresses_rel : (types : List FuncType) (imports : List Import) (k : Space) → OptRel (ListRel (R.of k)) (addresses env types imports k) (addresses env types imports k)
   addresses_rel types imports k = all_rel (self_rel (places (has_kind k) imports 0) (λ n. then_rel (thing_rel types (slice_get imports n)) (λ _ _ p. address_rel R k p)))

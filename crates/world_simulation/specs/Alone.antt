@@ -32,7 +32,7 @@ key_in types pair (im.Memory l) = Some (MemoryKey pair)
 key_in types pair (im.Global t) = Some (GlobalKey pair)
 
 abbrev pub thing_in : Environment → List FuncType → Option Import → Option Thing
-thing_in env types o = o >>= λ i. key_in types (pair_of i) i.desc >>= λ key. given (owned_at (owned_of env) key)
+thing_in env types o = o >>= λ i. key_in types (pair_of i) i.desc >>= λ key. owned_at (owned_of env) key
 
 -- each import is its own end
 abbrev pub ImportsStay : Type 0
