@@ -3,7 +3,7 @@
 // Reads the theorems of the files named below, builds the modules of each as bytes, makes the embedder's moves, and compares what is seen with the
 // events that the theorem states. Of a module under a loader it is the loader, too. A run that the engine can't show (a growth that is denied, a move
 // while a growth waits, a run that doesn't end in its steps, imports in a circle, what several parts do at once, two memories, a load while the
-// primary starts, a placeholder that a move calls) is named with its reason. A run is shown in part where a move isn't taken, which is then left out,
+// primary starts) is named with its reason. A run is shown in part where a move isn't taken, which is then left out,
 // or a growth is granted, whose request no engine tells. Ends with 1 where the engine shows something else, or nothing was read.
 //
 //     node scripts/small_runs.mjs [FILE.antt..]     (a later file uses the names of the ones before it)
@@ -516,15 +516,15 @@ class Embedder {
 
 const SLOTS = "its slots";
 
-// a primary whose placeholders are functions of the loader: the first call of one instantiates the secondary
+// a primary whose placeholders are functions of the loader: the first call of one instantiates the secondary that has its slot
 class Loader extends Embedder {
-  constructor({ primary, secondary, placeholders, slot_table, view }, environment, moves, expected) {
+  constructor({ primary, secondaries, slot_table, view }, environment, moves, expected) {
     const slots = { pair: [[...Buffer.from(SLOTS)], made("Table", slot_table)] };
     const entities = [...view, slots].map(({ pair: [name, what] }) => ({ pair: [name, { part: 0n, what }] }));
     super({ parts: [{ name: made("None"), module: primary }], view: entities }, environment, moves, expected);
-    this.secondary = { ...secondary, start: made("None") };
-    this.placeholders = placeholders.map(({ pair: [{ pair }, type] }, slot) => ({ pair, type, callee: asEngineHas(type, (...args) => this.called(slot, args)) }));
-    this.isLoaded = false;
+    this.secondaries = secondaries.map(({ module }) => ({ module: { ...module, start: made("None") }, isLoaded: false }));
+    const slotted = secondaries.flatMap(({ placeholders }, at) => placeholders.map(({ pair: [{ pair }, type] }) => ({ pair, type, secondary: this.secondaries[at] })));
+    this.placeholders = slotted.map((one, slot) => ({ ...one, callee: asEngineHas(one.type, (...args) => this.called(slot, args)) }));
   }
 
   supplied(module, i) {
@@ -536,23 +536,19 @@ class Loader extends Embedder {
   called(slot, args) {
     const { instance } = this.parts[0];
     if (!instance) throw new NotShown("a load while the primary starts");
-    if (!this.isLoaded) this.load(instance.exports);
+    const { type, secondary } = this.placeholders[slot];
+    if (!secondary.isLoaded) this.load(secondary, instance.exports);
     const slots = instance.exports[`view ${SLOTS}`];
     if (this.placeholders.some(({ callee }) => callee === slots.get(slot))) throw new Refusal();
-    return throughSlot(slots, slot, this.placeholders[slot].type)(...args);
+    return throughSlot(slots, slot, type)(...args);
   }
 
-  calls(callee, type, args) {
-    if (this.placeholders.some((one) => one.callee === callee)) throw new NotShown("a placeholder that a move calls");
-    return super.calls(callee, type, args);
-  }
-
-  load(exports) {
-    this.isLoaded = true;
+  load(secondary, exports) {
+    secondary.isLoaded = true;
     const objects = {};
-    for (const i of this.secondary.imports) (objects[string(i.module)] ??= {})[string(i.field)] = exports[string(i.field)];
+    for (const i of secondary.module.imports) (objects[string(i.module)] ??= {})[string(i.field)] = exports[string(i.field)];
     try {
-      new WebAssembly.Instance(new WebAssembly.Module(moduleBytes(this.secondary)), objects);
+      new WebAssembly.Instance(new WebAssembly.Module(moduleBytes(secondary.module)), objects);
     } catch (error) {
       throw error instanceof WebAssembly.LinkError ? new Refusal() : error;
     }

@@ -1,5 +1,5 @@
 -- Calls, ends, branches and blocks agree.
-use Rattle.std.proofs.Common.{◌≡◌, ℕ, zero, suc, List, [], ◌∷◌, ◌++◌, length, refl, sym, subst, append_assoc, slice_get, unwrap_or}
+use Rattle.std.proofs.Common.{◌≡◌, ℕ, List, [], ◌∷◌, ◌++◌, length, refl, sym, subst, append_assoc, slice_get, unwrap_or}
 use Rattle.wasm_tree.specs.declared.space.Space.TheVariants.{Functions, Tables}
 use Rattle.std.specs.Prelude.{nat_eq}
 use Rattle.wasm_tree.specs.declared.types.ValType.{ValType}
@@ -7,7 +7,7 @@ use Rattle.wasm_tree.specs.declared.types.BlockType.{BlockType}
 use Rattle.wasm_tree.specs.declared.instr.Instr.{Instr}
 use Rattle.wasm_tree.specs.declared.instr.Instr.TheVariants as i
 use Rattle.wasm_tree.specs.declared.instr.Instr.TheVariants.{outs-Loop}
-use Rattle.wasm_meaning.specs.Outcomes.{bind, at, split_at}
+use Rattle.wasm_meaning.specs.Outcomes.{bind, split_at}
 use Rattle.wasm_num.specs.Operations.{W32}
 use Rattle.wasm_meaning.specs.State.{RefVal, Val, Inst, Level, Env, Body}
 use Rattle.wasm_meaning.specs.Values.{same_func_type}

@@ -9,8 +9,8 @@ use Rattle.wasm_tree.specs.declared.types.FuncType.{FuncType}
 use Rattle.wasm_tree.specs.declared.instr.Instr.{Instr, out-Instr}
 use Rattle.wasm_tree.specs.declared.instr.Instr.TheVariants as i
 use Rattle.wasm_num.specs.Operations.{W32}
-use Rattle.wasm_meaning.specs.Outcomes.{Outcome, Gives, Traps, IllTyped, at}
-use Rattle.wasm_meaning.specs.State.{FuncRef, Val, Num, Ref, Inst, Func, Code, Elem, Data, Store, Entry, Running, Act, Next, Ran}
+use Rattle.wasm_meaning.specs.Outcomes.{Outcome, Gives, Traps, at}
+use Rattle.wasm_meaning.specs.State.{FuncRef, Val, Num, Ref, Inst, Func, Code, Store, Entry, Running, Act, Ran}
 use Rattle.wasm_meaning.specs.Control.{type_at, own_at}
 use Rattle.wasm_meaning.specs.Step.{step}
 use Rattle.index_remap.specs.Related

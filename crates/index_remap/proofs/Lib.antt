@@ -24,5 +24,6 @@ pub mod Unlisted
 pub mod RenumberedCode
 pub mod Others
 pub mod ItselfCode
+mod Unknown
 mod ReplacedRows
 mod LawRows

@@ -1,11 +1,12 @@
 -- Options, lists and stores that correspond.
-use Rattle.std.proofs.Common.{◌≡◌, ℕ, zero, suc, List, [], ◌∷◌, ◌++◌, length, Option, Bool, true, false, cond, refl, sym, ap, subst, drop, slice_set}
+use Rattle.std.proofs.Common.{◌≡◌, ℕ, zero, suc, List, [], ◌∷◌, ◌++◌, length, Option, Some, None, Bool, true, false, cond, option_and_then, slice_get, refl, sym, ap, subst, drop, slice_set}
 use Rattle.wasm_tree.specs.declared.space.Space.{Space}
 use native.Mathlib.Decide.{ℕ_discrete}
-use Rattle.wasm_meaning.specs.Outcomes.{Outcome, Gives, Traps, IllTyped, trapping, or_trap, bind, at, onto, split_at, slice, overwrite, copies}
+use Rattle.std.proofs.lemmas.Option.{same_Some}
+use Rattle.wasm_meaning.specs.Outcomes.{Outcome, Gives, Traps, IllTyped, trapping, or_trap, given, bind, at, onto, split_at, slice, overwrite, copies}
 use Rattle.index_remap.specs.Related.{Pairing, OneToOne, OneToOneWhereWritten, is_written, OptRel, none, some, BothRel, both, ResRel, done, trap, wrong, ListRel, nil, cons}
 
--- ---- options ----
+-- ---- outcomes ----
 
 pub bind_rel : {A B C D : Type 0} {P : A → B → Type 0} {Q : C → D → Type 0} {o : Outcome A} {p : Outcome B} {f : A → Outcome C} {g : B → Outcome D} → ResRel P o p → ((a : A) (b : B) → P a b → ResRel Q (f a) (g b)) → ResRel Q (bind o f) (bind p g)
 bind_rel trap h = trap
@@ -70,6 +71,68 @@ pub cond_two : {A B : Type 0} (P : A → B → Type 0) (b : Bool) {x y : A} {u v
 cond_two P true p q = p
 cond_two P false p q = q
 
+-- ---- options ----
+
+pub then_rel : {A B C D : Type 0} {P : A → B → Type 0} {Q : C → D → Type 0} {o : Option A} {p : Option B} {f : A → Option C} {g : B → Option D} → OptRel P o p → ((a : A) (b : B) → P a b → OptRel Q (f a) (g b)) → OptRel Q (option_and_then f o) (option_and_then g p)
+then_rel none h = none
+then_rel (some q) h = h _ _ q
+
+-- with what the first came to
+pub then_rel_is : {A B C D : Type 0} {P : A → B → Type 0} {Q : C → D → Type 0} {o : Option A} {p : Option B} {f : A → Option C} {g : B → Option D} → OptRel P o p → ((a : A) (b : B) → o ≡ Some a → P a b → OptRel Q (f a) (g b)) → OptRel Q (option_and_then f o) (option_and_then g p)
+then_rel_is none h = none
+then_rel_is (some q) h = h _ _ refl q
+
+-- the same on both sides
+pub then_same : {A C D : Type 0} {Q : C → D → Type 0} {f : A → Option C} {g : A → Option D} (o : Option A) → ((a : A) → OptRel Q (f a) (g a)) → OptRel Q (option_and_then f o) (option_and_then g o)
+then_same None h = none
+then_same (Some a) h = h a
+
+pub given_rel : {A B : Type 0} {P : A → B → Type 0} {o : Outcome A} {p : Outcome B} → ResRel P o p → OptRel P (given o) (given p)
+given_rel trap = none
+given_rel wrong = none
+given_rel (done p) = some p
+
+pub given_is : {A : Type 0} (o : Outcome A) (a : A) → given o ≡ Some a → o ≡ Gives a
+given_is (Gives b) a e = ap Gives (same_Some _ _ e)
+given_is Traps a e = cc
+given_is IllTyped a e = cc
+
+pub either_rel : {A B : Type 0} {P : A → B → Type 0} (b : Bool) {x y : Option A} {u v : Option B} → OptRel P x u → OptRel P y v → OptRel P (cond b x y) (cond b u v)
+either_rel true p q = p
+either_rel false p q = q
+
+-- P of what is there
+pub data IfThere {A : Type 0} (P : A → Type 0) : Option A → Type 0 where
+  absent : IfThere P None
+  present : {a : A} → P a → IfThere P (Some a)
+
+pub then_all : {A C : Type 0} {P : A → Type 0} {Q : C → Type 0} {o : Option A} {f : A → Option C} → IfThere P o → ((a : A) → P a → IfThere Q (f a)) → IfThere Q (option_and_then f o)
+then_all absent h = absent
+then_all (present p) h = h _ p
+
+pub any_there : {A : Type 0} (o : Option A) → IfThere (λ a. Unit {0}) o
+any_there None = absent
+any_there (Some a) = present tt
+
+pub all_there : {A : Type 0} {P : A → Type 0} {o : Option A} {a : A} → IfThere P o → o ≡ Some a → P a
+all_there {P = P} h e = go (subst (IfThere P) e h)
+  where
+    go : {b : _} → IfThere P (Some b) → P b
+    go (present p) = p
+
+pub with_there : {A C : Type 0} {Q : C → Type 0} (o : Option A) (f : A → Option C) → ((a : A) → o ≡ Some a → IfThere Q (f a)) → IfThere Q (option_and_then f o)
+with_there None f h = absent
+with_there (Some a) f h = h a refl
+
+pub with_given : {A C : Type 0} {Q : C → Type 0} (o : Outcome A) (f : A → Option C) → ((a : A) → o ≡ Gives a → IfThere Q (f a)) → IfThere Q (option_and_then f (given o))
+with_given Traps f h = absent
+with_given IllTyped f h = absent
+with_given (Gives a) f h = h a refl
+
+pub either_all : {A : Type 0} {P : A → Type 0} (b : Bool) {x y : Option A} → IfThere P x → IfThere P y → IfThere P (cond b x y)
+either_all true p q = p
+either_all false p q = q
+
 -- a pair of what is taken and what is left
 pub record PairRel {A B C D : Type 0} (P : A → B → Type 0) (Q : C → D → Type 0) (a : A × C) (b : B × D) : Type 0 where
   pub first : P a.0 b.0
@@ -81,6 +144,11 @@ pub at_rel : {A B : Type 0} {P : A → B → Type 0} {xs : List A} {ys : List B}
 at_rel nil n = wrong
 at_rel (cons p r) zero = done p
 at_rel (cons p r) (suc n) = at_rel r n
+
+pub get_rel : {A B : Type 0} {P : A → B → Type 0} {xs : List A} {ys : List B} → ListRel P xs ys → (n : ℕ) → OptRel P (slice_get xs n) (slice_get ys n)
+get_rel nil n = none
+get_rel (cons p r) zero = some p
+get_rel (cons p r) (suc n) = get_rel r n
 
 pub put_rel : {A B : Type 0} {P : A → B → Type 0} {xs : List A} {ys : List B} {v : A} {w : B} → ListRel P xs ys → (n : ℕ) → P v w → ListRel P (slice_set xs n v) (slice_set ys n w)
 put_rel nil n q = nil
@@ -130,7 +198,7 @@ same_there (both e) = ap Gives e
 
 -- ---- a write at related addresses ----
 
-at_put_here : {A : Type 0} (xs : List A) (n : ℕ) (v : A) → at (slice_set xs n v) n ≡ bind (at xs n) (λ old. Gives v)
+pub at_put_here : {A : Type 0} (xs : List A) (n : ℕ) (v : A) → at (slice_set xs n v) n ≡ bind (at xs n) (λ old. Gives v)
 at_put_here [] n v = refl
 at_put_here (x ∷ xs) zero v = refl
 at_put_here (x ∷ xs) (suc n) v = at_put_here xs n v

@@ -1,5 +1,5 @@
 -- Related runs show the same events.
-use Rattle.std.proofs.Common.{◌≡◌, ℕ, ◌^◌, List, [], ◌∷◌, Option, Some, None, Bool, true, false, cond, refl, ap, subst}
+use Rattle.std.proofs.Common.{◌≡◌, ℕ, ◌^◌, List, [], ◌∷◌, Option, Some, None, Bool, true, false, cond, option_and_then, slice_get, refl, ap, subst}
 use Rattle.wasm_tree.specs.declared.space.Space.TheVariants.{Functions, Memories}
 use Rattle.std.specs.Prelude.{nat_eq, nat_lt}
 use Rattle.wasm_tree.specs.declared.types.RefType.{RefType}
@@ -7,19 +7,20 @@ use Rattle.wasm_tree.specs.declared.types.RefType.TheVariants as reft
 use Rattle.wasm_tree.specs.declared.types.ValType.{ValType}
 use Rattle.wasm_tree.specs.declared.types.ValType.TheVariants as valt
 use Rattle.wasm_num.specs.Operations.{W32}
-use Rattle.wasm_meaning.specs.Outcomes.{Outcome, Gives, IllTyped, bind, at, overwrite}
+use Rattle.wasm_meaning.specs.Outcomes.{Outcome, Gives, given, at, overwrite}
 use Rattle.wasm_meaning.specs.State.{RefVal, Val, Num, Table, Memory, Store, Change, SetTable, Growth, Entry, Caller, Host, Starter, Opening, Ended, Next}
 use Rattle.wasm_meaning.specs.Values.{typed, null_of, ref_of}
 use Rattle.wasm_meaning.specs.Memory.{memory_may_grow}
 use Rattle.wasm_meaning.specs.Tables.{table_may_grow}
-use Rattle.wasm_meaning.specs.Step.{give, step}
+use Rattle.wasm_meaning.specs.Control.{type_at}
+use Rattle.wasm_meaning.specs.Step.{give, enter_at, step}
 use Rattle.wasm_meaning.specs.Linking.{same_text}
 use Rattle.wasm_meaning.specs.Environment.{Shown, Number, Null, OwnFunc, ExternNumber, Function, Thing, FuncKey, TableKey, MemoryKey, GlobalKey, Owned, same_key, look_up, owned_at, func_of, func_value, received, received_ref, received_all}
 use Rattle.wasm_meaning.specs.World.{Begun}
-use Rattle.wasm_meaning.specs.Run.{Event, InstanceTrapped, Returned, Asked, Got, Place, TableOf, MemoryOf, GlobalOf, Named, Move, Call, Invoke, Take, Answer, Refuse, Grant, Deny, Get, Size, Set, Extend, Phase, Pending, Closed, Run, Out, place_at, trapped_at, trapped_to, showing, after, called, is_mark, delivered, grown_table, answered, refused, with_change, granted, decided, shows, got, size_of, does, byte_of, set, extended, moved, at_entries, or_bad, or_closed, next_move, began, view_of, nothing_in, started, open_next, is_taken_closed, closed_move, in_phase, tick_at}
+use Rattle.wasm_meaning.specs.Run.{Event, InstanceTrapped, Returned, Asked, Got, Place, TableOf, MemoryOf, GlobalOf, Named, Move, Call, Invoke, Take, Answer, Refuse, Grant, Deny, Get, Size, Set, Extend, Phase, Pending, Closed, Run, Out, Transition, Steps, Makes, made, place_at, trapped_at, trapped_to, showing, after, called, is_mark, delivered, grown_table, answered, refused, with_change, granted, decided, shows, got, size_of, does, byte_of, set, extended, moved, at_entries, or_bad, or_closed, next_move, began, view_of, nothing_in, started, open_next, is_taken_closed, closed_move, in_phase, transition_at}
 use Rattle.index_remap.specs.Related.{Pairing, OneToOne, OptRel, none, some, ResRel, done, trap, wrong, ListRel, nil, cons, RefRel, func, extern, ValRel, number, reference, TableRel, StoreRel, mark, opening, waiting, ended, growing, ChangeRel, set_global, set_memory, set_table, GrowthRel, memory_grows, table_grows, NextRel, ran, asked, asked_grow, loads, returned}
 use Rattle.index_remap.specs.RelatedRuns.{ThingRel, a_func, a_table, a_memory, a_global, KeyRel, BegunRel, PhaseRel, fresh, pending, opened, closed, RunRel, OutRel}
-use Rattle.index_remap.proofs.Rel.{written, there, same_there, bind_rel, bind_rel_is, bind_is, bind_same, bind_eq, cond_rel, PairRel, OptAll, nothing, just, bind_all, all_at, any, at_rel, append_rel, length_rel, copies_rel, overwrite_rel}
+use Rattle.index_remap.proofs.Rel.{written, there, then_rel, then_rel_is, then_same, given_rel, given_is, either_rel, PairRel, IfThere, absent, present, then_all, any_there, all_there, get_rel, append_rel, length_rel, copies_rel, overwrite_rel}
 use Rattle.index_remap.proofs.ValueSteps.{Fits}
 use Rattle.index_remap.proofs.Shown.{show_rel, show_all_rel}
 use Rattle.index_remap.proofs.TableSteps.{may_rel}
@@ -39,41 +40,41 @@ module _ (R : Pairing) (apart : OneToOne R) (B C : Store → Store → List Entr
 
   -- ---- values received ----
 
-  look_rel : {K : Type 0} (is : K → Bool) {xs ys : List (K × Thing)} → ListRel (KeyRel R) xs ys → ResRel (ThingRel R) (look_up is xs) (look_up is ys)
-  look_rel is nil = wrong
-  look_rel is (cons {b = b} o os) = rw o.key (cond_rel (is b.0) (done o.thing) (look_rel is os))
+  look_rel : {K : Type 0} (is : K → Bool) {xs ys : List (K × Thing)} → ListRel (KeyRel R) xs ys → OptRel (ThingRel R) (look_up is xs) (look_up is ys)
+  look_rel is nil = none
+  look_rel is (cons {b = b} o os) = rw o.key (either_rel (is b.0) (some o.thing) (look_rel is os))
 
-  func_of_rel : {x y : Thing} → ThingRel R x y → ResRel (R.of Functions) (func_of x) (func_of y)
-  func_of_rel (a_func n) = done n
-  func_of_rel (a_table n) = wrong
-  func_of_rel (a_memory n) = wrong
-  func_of_rel (a_global n) = wrong
+  func_of_rel : {x y : Thing} → ThingRel R x y → OptRel (R.of Functions) (func_of x) (func_of y)
+  func_of_rel (a_func n) = some n
+  func_of_rel (a_table n) = none
+  func_of_rel (a_memory n) = none
+  func_of_rel (a_global n) = none
 
-  value_rel : {o p : Outcome ℕ} → ResRel (R.of Functions) o p → ResRel (ValRel R) (func_value o) (func_value p)
-  value_rel o = bind_rel o (λ _ _ p. done (reference (func (some p))))
+  value_rel : {o p : Option ℕ} → OptRel (R.of Functions) o p → OptRel (ValRel R) (option_and_then (λ a. Some (func_value a)) o) (option_and_then (λ a. Some (func_value a)) p)
+  value_rel o = then_rel o (λ _ _ p. some (reference (func (some p))))
 
-  received_rel : {o p : Owned} {xs ys : List ℕ} (t : ValType) (x : Shown) → ListRel (KeyRel R) o p → ListRel (R.of Functions) xs ys → ResRel (ValRel R) (received o xs t x) (received p ys t x)
-  received_rel valt.I32 (Number n) o s = cond_rel (nat_lt n (2 ^ 32)) (done number) wrong
-  received_rel valt.I64 (Number n) o s = cond_rel (nat_lt n (2 ^ 64)) (done number) wrong
-  received_rel (valt.Ref reft.Func) Null o s = done (reference (func none))
-  received_rel (valt.Ref reft.Func) (OwnFunc p t) o s = bind_rel (look_rel (same_key (FuncKey p t)) o) (λ _ _ x. value_rel (func_of_rel x))
-  received_rel (valt.Ref reft.Func) (Function k) o s = value_rel (at_rel s k)
-  received_rel (valt.Ref reft.Extern) Null o s = done (reference extern)
-  received_rel (valt.Ref reft.Extern) (ExternNumber n) o s = done (reference extern)
-  received_rel _ _ o s = wrong
+  received_rel : {o p : Owned} {xs ys : List ℕ} (t : ValType) (x : Shown) → ListRel (KeyRel R) o p → ListRel (R.of Functions) xs ys → OptRel (ValRel R) (received o xs t x) (received p ys t x)
+  received_rel valt.I32 (Number n) o s = either_rel (nat_lt n (2 ^ 32)) (some number) none
+  received_rel valt.I64 (Number n) o s = either_rel (nat_lt n (2 ^ 64)) (some number) none
+  received_rel (valt.Ref reft.Func) Null o s = some (reference (func none))
+  received_rel (valt.Ref reft.Func) (OwnFunc p t) o s = value_rel (then_rel (look_rel (same_key (FuncKey p t)) o) (λ _ _ x. func_of_rel x))
+  received_rel (valt.Ref reft.Func) (Function k) o s = value_rel (get_rel s k)
+  received_rel (valt.Ref reft.Extern) Null o s = some (reference extern)
+  received_rel (valt.Ref reft.Extern) (ExternNumber n) o s = some (reference extern)
+  received_rel _ _ o s = none
 
   ref_of_rel : {v w : Val} → ValRel R v w → ResRel (RefRel R) (ref_of v) (ref_of w)
   ref_of_rel number = wrong
   ref_of_rel (reference p) = done p
 
-  received_ref_rel : {o p : Owned} {xs ys : List ℕ} (t : RefType) (x : Shown) → ListRel (KeyRel R) o p → ListRel (R.of Functions) xs ys → ResRel (RefRel R) (received_ref o xs t x) (received_ref p ys t x)
-  received_ref_rel t x o s = bind_rel (received_rel (valt.Ref t) x o s) (λ _ _ v. ref_of_rel v)
+  received_ref_rel : {o p : Owned} {xs ys : List ℕ} (t : RefType) (x : Shown) → ListRel (KeyRel R) o p → ListRel (R.of Functions) xs ys → OptRel (RefRel R) (received_ref o xs t x) (received_ref p ys t x)
+  received_ref_rel t x o s = then_rel (received_rel (valt.Ref t) x o s) (λ _ _ v. given_rel (ref_of_rel v))
 
-  received_all_rel : {o p : Owned} {ms ns : List ℕ} (ts : List ValType) (xs : List Shown) → ListRel (KeyRel R) o p → ListRel (R.of Functions) ms ns → ResRel (ListRel (ValRel R)) (received_all o ms ts xs) (received_all p ns ts xs)
-  received_all_rel [] [] o s = done nil
-  received_all_rel (t ∷ ts) (x ∷ xs) o s = bind_rel (received_rel t x o s) (λ _ _ v. bind_rel (received_all_rel ts xs o s) (λ _ _ vs. done (cons v vs)))
-  received_all_rel [] (x ∷ xs) o s = wrong
-  received_all_rel (t ∷ ts) [] o s = wrong
+  received_all_rel : {o p : Owned} {ms ns : List ℕ} (ts : List ValType) (xs : List Shown) → ListRel (KeyRel R) o p → ListRel (R.of Functions) ms ns → OptRel (ListRel (ValRel R)) (received_all o ms ts xs) (received_all p ns ts xs)
+  received_all_rel [] [] o s = some nil
+  received_all_rel (t ∷ ts) (x ∷ xs) o s = then_rel (received_rel t x o s) (λ _ _ v. then_rel (received_all_rel ts xs o s) (λ _ _ vs. some (cons v vs)))
+  received_all_rel [] (x ∷ xs) o s = none
+  received_all_rel (t ∷ ts) [] o s = none
 
   -- ---- what follows a step ----
 
@@ -100,57 +101,68 @@ module _ (R : Pairing) (apart : OneToOne R) (B C : Store → Store → List Entr
   after_rel h (done (loads v s e)) = trapped_rel (state_rel h s e) (stacks.marks e)
   after_rel h (done (returned v s e)) = showing_rel Returned h s e v
 
+  -- ---- transitions ----
+
+  -- a step of the machine over both, or steps that the runs make
+  data TransitionRel : Transition → Transition → Type 0 where
+    steps : {r q : Run} {o p : Outcome Next} → RunRel R B F r q → ResRel (NextRel R B) o p → TransitionRel (Steps r o) (Steps q p)
+    makes : {o p : Out} → OutRel R B F o p → TransitionRel (Makes o) (Makes p)
+
+  made_rel : {t u : Transition} → TransitionRel t u → OutRel R B F (made t) (made u)
+  made_rel (steps h s) = after_rel h s
+  made_rel (makes o) = o
+
   -- ---- moves ----
 
-  all_cond : {A : Type 0} {P : A → Type 0} (a : A) (b : Bool) → P a → OptAll P (cond b (Gives a) IllTyped)
-  all_cond a true p = just p
-  all_cond a false p = nothing
+  all_cond : {A : Type 0} {P : A → Type 0} (a : A) (b : Bool) → P a → IfThere P (cond b (Some a) None)
+  all_cond a true p = present p
+  all_cond a false p = absent
 
   -- what is received has the type
-  received_type : (o : Owned) (ms : List ℕ) (t : ValType) (x : Shown) → OptAll (λ v. typed t v ≡ Gives v) (received o ms t x)
+  received_type : (o : Owned) (ms : List ℕ) (t : ValType) (x : Shown) → IfThere (λ v. typed t v ≡ Gives v) (received o ms t x)
   received_type o ms valt.I32 (Number n) = all_cond _ (nat_lt n (2 ^ 32)) refl
   received_type o ms valt.I64 (Number n) = all_cond _ (nat_lt n (2 ^ 64)) refl
-  received_type o ms (valt.Ref reft.Func) Null = just refl
-  received_type o ms (valt.Ref reft.Func) (OwnFunc p t) = bind_all (any (owned_at o (FuncKey p t))) (λ thing _ _. bind_all (any (func_of thing)) (λ a _ _. just refl))
-  received_type o ms (valt.Ref reft.Func) (Function k) = bind_all (any (at ms k)) (λ a _ _. just refl)
-  received_type o ms (valt.Ref reft.Extern) Null = just refl
-  received_type o ms (valt.Ref reft.Extern) (ExternNumber n) = just refl
-  received_type o ms _ _ = nothing
+  received_type o ms (valt.Ref reft.Func) Null = present refl
+  received_type o ms (valt.Ref reft.Func) (OwnFunc p t) = then_all (any_there (option_and_then func_of (owned_at o (FuncKey p t)))) (λ a _. present refl)
+  received_type o ms (valt.Ref reft.Func) (Function k) = then_all (any_there (slice_get ms k)) (λ a _. present refl)
+  received_type o ms (valt.Ref reft.Extern) Null = present refl
+  received_type o ms (valt.Ref reft.Extern) (ExternNumber n) = present refl
+  received_type o ms _ _ = absent
 
-  fits_received : (o : Owned) (ms : List ℕ) (ts : List ValType) (xs : List Shown) → OptAll (Fits ts) (received_all o ms ts xs)
-  fits_received o ms [] [] = just nil
-  fits_received o ms (t ∷ ts) (x ∷ xs) = bind_all (received_type o ms t x) (λ v _ e. bind_all (fits_received o ms ts xs) (λ vs _ f. just (cons e f)))
-  fits_received o ms [] (x ∷ xs) = nothing
-  fits_received o ms (t ∷ ts) [] = nothing
+  fits_received : (o : Owned) (ms : List ℕ) (ts : List ValType) (xs : List Shown) → IfThere (Fits ts) (received_all o ms ts xs)
+  fits_received o ms [] [] = present nil
+  fits_received o ms (t ∷ ts) (x ∷ xs) = then_all (received_type o ms t x) (λ v e. then_all (fits_received o ms ts xs) (λ vs f. present (cons e f)))
+  fits_received o ms [] (x ∷ xs) = absent
+  fits_received o ms (t ∷ ts) [] = absent
 
-  called_rel : {r q : Run} {es fs : List Entry} {a b : ℕ} (xs : List Shown) → RunRel R B F r q → C r.store q.store es fs → R.of Functions a b → ResRel (OutRel R B F) (called r es xs a) (called q fs xs b)
-  called_rel {r} xs h e n =
-      bind_is (same_there (h.store.types n)) (λ t is. bind_rel_is (received_all_rel t.params xs h.owned h.shown) (λ vs _ got v. done (after_rel h (stacks.enters h.store n is (all_at (fits_received r.owned r.shown t.params xs) got) v e))))
+  called_rel : {r q : Run} {es fs : List Entry} {a b : ℕ} (xs : List Shown) → RunRel R B F r q → C r.store q.store es fs → R.of Functions a b → OptRel TransitionRel (called r es xs a) (called q fs xs b)
+  called_rel {r} {q} {es} {fs} {a} {b} xs h e n =
+      then_rel_is (given_rel (there (h.store.types n))) (λ t u is same. subst (λ y. OptRel TransitionRel (option_and_then (λ vs. Some (Steps r (enter_at r.store a vs es))) (received_all r.owned r.shown t.params xs)) (option_and_then (λ vs. Some (Steps q (enter_at q.store b vs fs))) (received_all q.owned q.shown y.params xs))) same (then_rel_is (received_all_rel t.params xs h.owned h.shown) (λ vs _ got v. some (steps h (stacks.enters h.store n (given_is (type_at r.store a) t is) (all_there (fits_received r.owned r.shown t.params xs) got) v e)))))
 
-  delivered_rel : {r q : Run} {vs ws : List Val} {es fs : List Entry} → RunRel R B F r q → ListRel (ValRel R) vs ws → C r.store q.store es fs → OutRel R B F (delivered r vs es) (delivered q ws fs)
+  delivered_rel : {r q : Run} {vs ws : List Val} {es fs : List Entry} → RunRel R B F r q → ListRel (ValRel R) vs ws → C r.store q.store es fs → TransitionRel (delivered r vs es) (delivered q ws fs)
   delivered_rel {r} {q} {vs} {ws} {es} {fs} h v e = rw (stacks.marked e) (either (is_mark fs))
     where
-      either : (b : Bool) → OutRel R B F (cond b (record r { entries = Ended vs ∷ es }, None) (after r (give r.store vs es))) (cond b (record q { entries = Ended ws ∷ fs }, None) (after q (give q.store ws fs)))
-      either true = record { event = refl; run = state_rel h h.store (stacks.steady (stacks.push (ended v) e)) }
-      either false = after_rel h (stacks.gives h.store v e)
+      either : (b : Bool) → TransitionRel (cond b (Makes (record r { entries = Ended vs ∷ es }, None)) (Steps r (give r.store vs es))) (cond b (Makes (record q { entries = Ended ws ∷ fs }, None)) (Steps q (give q.store ws fs)))
+      either true = makes (record { event = refl; run = state_rel h h.store (stacks.steady (stacks.push (ended v) e)) })
+      either false = steps h (stacks.gives h.store v e)
 
-  answered_rel : {r q : Run} {es fs : List Entry} (xs : List Shown) → RunRel R B F r q → TopView R (written apart) C r.store q.store es fs → ResRel (OutRel R B F) (answered r xs es) (answered q xs fs)
-  answered_rel xs h (top_waiting {ts = ts} e) = bind_rel (received_all_rel ts xs h.owned h.shown) (λ _ _ v. done (delivered_rel h v e))
-  answered_rel xs h (top_none e) = wrong
-  answered_rel xs h (top_mark e) = wrong
-  answered_rel xs h (top_opening x e) = wrong
-  answered_rel xs h top_running = wrong
-  answered_rel xs h (top_growing n e) = wrong
-  answered_rel xs h (top_ended v e) = wrong
+  answered_rel : {r q : Run} {es fs : List Entry} (xs : List Shown) → RunRel R B F r q → TopView R (written apart) C r.store q.store es fs → OptRel TransitionRel (answered r xs es) (answered q xs fs)
+  answered_rel xs h (top_waiting {ts = ts} e) = then_rel (received_all_rel ts xs h.owned h.shown) (λ _ _ v. some (delivered_rel h v e))
+  answered_rel xs h (top_none e) = none
+  answered_rel xs h (top_mark e) = none
+  answered_rel xs h (top_opening x e) = none
+  answered_rel xs h top_running = none
+  answered_rel xs h (top_growing n e) = none
+  answered_rel xs h (top_ended v e) = none
 
-  refused_rel : {r q : Run} {es fs : List Entry} → RunRel R B F r q → TopView R (written apart) C r.store q.store es fs → ResRel (OutRel R B F) (refused r es) (refused q fs)
-  refused_rel h (top_waiting e) = done (after_rel h trap)
-  refused_rel h (top_none e) = wrong
-  refused_rel h (top_mark e) = wrong
-  refused_rel h (top_opening x e) = wrong
-  refused_rel h top_running = wrong
-  refused_rel h (top_growing n e) = wrong
-  refused_rel h (top_ended v e) = wrong
+  refused_rel : {r q : Run} {es fs : List Entry} → RunRel R B F r q → TopView R (written apart) C r.store q.store es fs → OptRel TransitionRel (refused r es) (refused q fs)
+  refused_rel h (top_waiting e) = some (steps h trap)
+  refused_rel h (top_none e) = none
+  refused_rel h (top_mark e) = none
+  refused_rel h (top_opening x e) = none
+  refused_rel h top_running = none
+  refused_rel h (top_growing n e) = none
+  refused_rel h (top_ended v e) = none
 
   change_rel : {r q : Run} {c d : Change} → RunRel R B F r q → ChangeRel R c d → RunRel R B F (with_change r c) (with_change q d)
   change_rel h c = state_rel h (changed_rel R (written apart) h.store c) (stacks.changes_all c h.entries)
@@ -161,79 +173,79 @@ module _ (R : Pairing) (apart : OneToOne R) (B C : Store → Store → List Entr
   table_grown : {t u : Table} {v w : RefVal} (n : ℕ) → TableRel R t u → RefRel R v w → TableRel R (grown_table t n v) (grown_table u n w)
   table_grown {v = v} {w = w} n t x = record { type = t.type; most = t.most; slots = append_rel t.slots (copies_rel v w n x) }
 
-  bind_memory_at : {A C : Type 0} {Q : A → C → Type 0} {r q : Run} {a b : ℕ} {f : Memory → Outcome A} {g : Memory → Outcome C} → RunRel R B F r q → R.of Memories a b → ((m : Memory) → ResRel Q (f m) (g m)) → ResRel Q (bind (at r.store.mems a) f) (bind (at q.store.mems b) g)
-  bind_memory_at {Q = Q} {f = f} {g = g} h p k = bind_rel (there (h.store.mems p)) (λ x y e. subst (λ z. ResRel Q (f x) (g z)) e (k x))
+  then_memory_at : {A C : Type 0} {Q : A → C → Type 0} {r q : Run} {a b : ℕ} {f : Memory → Option A} {g : Memory → Option C} → RunRel R B F r q → R.of Memories a b → ((m : Memory) → OptRel Q (f m) (g m)) → OptRel Q (option_and_then f (given (at r.store.mems a))) (option_and_then g (given (at q.store.mems b)))
+  then_memory_at {Q = Q} {f = f} {g = g} h p k = then_rel (given_rel (there (h.store.mems p))) (λ x y e. subst (λ z. OptRel Q (f x) (g z)) e (k x))
 
-  granted_rel : {r q : Run} {x y : Growth} {es fs : List Entry} → RunRel R B F r q → GrowthRel R x y → C r.store q.store es fs → ResRel (OutRel R B F) (granted r x es) (granted q y fs)
-  granted_rel h (memory_grows {n = n} p) e = bind_memory_at h p (λ m. done (delivered_rel (change_rel h (set_memory p)) (cons number nil) (stacks.changes (set_memory p) e)))
-  granted_rel h (table_grows {n = n} p v) e = bind_rel (there (h.store.tables p)) (λ _ _ t. let c = set_table p (table_grown n t v) in done (delivered_rel (change_rel h c) (cons (num_eq (length_rel t.slots)) nil) (stacks.changes c e)))
+  granted_rel : {r q : Run} {x y : Growth} {es fs : List Entry} → RunRel R B F r q → GrowthRel R x y → C r.store q.store es fs → OptRel TransitionRel (granted r x es) (granted q y fs)
+  granted_rel h (memory_grows {n = n} p) e = then_memory_at h p (λ m. some (delivered_rel (change_rel h (set_memory p)) (cons number nil) (stacks.changes (set_memory p) e)))
+  granted_rel h (table_grows {n = n} p v) e = then_rel (given_rel (there (h.store.tables p))) (λ _ _ t. let c = set_table p (table_grown n t v) in some (delivered_rel (change_rel h c) (cons (num_eq (length_rel t.slots)) nil) (stacks.changes c e)))
 
-  decided_rel : {r q : Run} {x y : Growth} {es fs : List Entry} (m : Move) → RunRel R B F r q → GrowthRel R x y → C r.store q.store es fs → ResRel (OutRel R B F) (decided r m x es) (decided q m y fs)
+  decided_rel : {r q : Run} {x y : Growth} {es fs : List Entry} (m : Move) → RunRel R B F r q → GrowthRel R x y → C r.store q.store es fs → OptRel TransitionRel (decided r m x es) (decided q m y fs)
   decided_rel Grant h p e = granted_rel h p e
-  decided_rel Deny h p e = done (delivered_rel h (cons number nil) e)
-  decided_rel (Call i xs) h p e = wrong
-  decided_rel _ h p e = wrong
+  decided_rel Deny h p e = some (delivered_rel h (cons number nil) e)
+  decided_rel (Call i xs) h p e = none
+  decided_rel _ h p e = none
 
-  shows_rel : {r q : Run} {v w : Val} → RunRel R B F r q → ValRel R v w → ResRel (OutRel R B F) (shows r v) (shows q w)
-  shows_rel h v = let x = show_rel R apart h.store h.shown v in done (record { event = ap (λ s. Some (Got s)) x.same; run = shown_rel h x.shown })
+  shows_rel : {r q : Run} {v w : Val} → RunRel R B F r q → ValRel R v w → OptRel TransitionRel (shows r v) (shows q w)
+  shows_rel h v = let x = show_rel R apart h.store h.shown v in some (makes (record { event = ap (λ s. Some (Got s)) x.same; run = shown_rel h x.shown }))
 
-  got_rel : {r q : Run} {x y : Thing} (n : ℕ) → RunRel R B F r q → ThingRel R x y → ResRel (OutRel R B F) (got r x n) (got q y n)
-  got_rel n h (a_func p) = wrong
-  got_rel n h (a_table p) = bind_rel (there (h.store.tables p)) (λ _ _ t. bind_rel (at_rel t.slots n) (λ _ _ v. shows_rel h (reference v)))
-  got_rel n h (a_memory p) = bind_memory_at h p (λ m. bind_same (at m.bytes n) (λ b. shows_rel h (number {w = W32})))
-  got_rel n h (a_global p) = bind_rel (there (h.store.globals p)) (λ _ _ g. cond_rel (nat_eq n 0) (shows_rel h g.value) wrong)
+  got_rel : {r q : Run} {x y : Thing} (n : ℕ) → RunRel R B F r q → ThingRel R x y → OptRel TransitionRel (got r x n) (got q y n)
+  got_rel n h (a_func p) = none
+  got_rel n h (a_table p) = then_rel (given_rel (there (h.store.tables p))) (λ _ _ t. then_rel (get_rel t.slots n) (λ _ _ v. shows_rel h (reference v)))
+  got_rel n h (a_memory p) = then_memory_at h p (λ m. then_same (slice_get m.bytes n) (λ b. shows_rel h (number {w = W32})))
+  got_rel n h (a_global p) = then_rel (given_rel (there (h.store.globals p))) (λ _ _ g. either_rel (nat_eq n 0) (shows_rel h g.value) none)
 
-  size_rel : {r q : Run} {x y : Thing} → RunRel R B F r q → ThingRel R x y → ResRel (OutRel R B F) (size_of r x) (size_of q y)
-  size_rel h (a_func p) = wrong
-  size_rel h (a_table p) = bind_rel (there (h.store.tables p)) (λ _ _ t. shows_rel h (num_eq (length_rel t.slots)))
-  size_rel h (a_memory p) = bind_memory_at h p (λ m. shows_rel h (number {w = W32}))
-  size_rel h (a_global p) = bind_rel (there (h.store.globals p)) (λ _ _ g. shows_rel h (number {w = W32}))
+  size_rel : {r q : Run} {x y : Thing} → RunRel R B F r q → ThingRel R x y → OptRel TransitionRel (size_of r x) (size_of q y)
+  size_rel h (a_func p) = none
+  size_rel h (a_table p) = then_rel (given_rel (there (h.store.tables p))) (λ _ _ t. shows_rel h (num_eq (length_rel t.slots)))
+  size_rel h (a_memory p) = then_memory_at h p (λ m. shows_rel h (number {w = W32}))
+  size_rel h (a_global p) = then_rel (given_rel (there (h.store.globals p))) (λ _ _ g. shows_rel h (number {w = W32}))
 
-  does_rel : {r q : Run} {c d : Change} → RunRel R B F r q → ChangeRel R c d → ResRel (OutRel R B F) (does r c) (does q d)
-  does_rel h c = done (record { event = refl; run = change_rel h c })
+  does_rel : {r q : Run} {c d : Change} → RunRel R B F r q → ChangeRel R c d → OptRel TransitionRel (does r c) (does q d)
+  does_rel h c = some (makes (record { event = refl; run = change_rel h c }))
 
-  set_rel : {r q : Run} {x y : Thing} (n : ℕ) (v : Shown) → RunRel R B F r q → ThingRel R x y → ResRel (OutRel R B F) (set r x n v) (set q y n v)
-  set_rel n v h (a_func p) = wrong
+  set_rel : {r q : Run} {x y : Thing} (n : ℕ) (v : Shown) → RunRel R B F r q → ThingRel R x y → OptRel TransitionRel (set r x n v) (set q y n v)
+  set_rel n v h (a_func p) = none
   set_rel {r} {q} n v h (a_table p) =
-      bind_rel (there (h.store.tables p)) (λ t u x. bind_rel (at_type x.type (received_ref_rel u.ty v h.owned h.shown)) (λ _ _ v. bind_rel (overwrite_rel n x.slots (cons v nil)) (λ _ _ s.
+      then_rel (given_rel (there (h.store.tables p))) (λ t u x. then_rel (at_type x.type (received_ref_rel u.ty v h.owned h.shown)) (λ _ _ v. then_rel (given_rel (overwrite_rel n x.slots (cons v nil))) (λ _ _ s.
       does_rel h (set_table p (record { type = x.type; most = x.most; slots = s })))))
     where
-      at_type : {s t : RefType} → s ≡ t → ResRel (RefRel R) (received_ref r.owned r.shown t v) (received_ref q.owned q.shown t v) → ResRel (RefRel R) (received_ref r.owned r.shown s v) (received_ref q.owned q.shown t v)
+      at_type : {s t : RefType} → s ≡ t → OptRel (RefRel R) (received_ref r.owned r.shown t v) (received_ref q.owned q.shown t v) → OptRel (RefRel R) (received_ref r.owned r.shown s v) (received_ref q.owned q.shown t v)
       at_type {t = t} e o = rw e o
-  set_rel n v h (a_memory p) = bind_memory_at h p (λ m. bind_same (byte_of v) (λ b. bind_same (overwrite m.bytes n (b ∷ [])) (λ bytes. does_rel h (set_memory p))))
+  set_rel n v h (a_memory p) = then_memory_at h p (λ m. then_same (byte_of v) (λ b. then_same (given (overwrite m.bytes n (b ∷ []))) (λ bytes. does_rel h (set_memory p))))
   set_rel n v h (a_global p) =
-      bind_rel (there (h.store.globals p)) (λ _ e g. rw g.type (cond_rel (nat_eq n 0) (cond_rel e.ty.mutable (bind_rel (received_rel e.ty.ty v h.owned h.shown) (λ _ _ w. does_rel h (set_global p (record { type = refl; value = w })))) wrong) wrong))
+      then_rel (given_rel (there (h.store.globals p))) (λ _ e g. rw g.type (either_rel (nat_eq n 0) (either_rel e.ty.mutable (then_rel (received_rel e.ty.ty v h.owned h.shown) (λ _ _ w. does_rel h (set_global p (record { type = refl; value = w })))) none) none))
 
   null_rel : (t : RefType) → RefRel R (null_of t) (null_of t)
   null_rel reft.Func = func none
   null_rel reft.Extern = extern
 
-  extended_rel : {r q : Run} {x y : Thing} (n : ℕ) → RunRel R B F r q → ThingRel R x y → ResRel (OutRel R B F) (extended r x n) (extended q y n)
-  extended_rel n h (a_func p) = wrong
-  extended_rel {r} {q} n h (a_table {a = a1} {b = b1} p) = bind_rel (there (h.store.tables p)) (λ t u x. subst (λ b. ResRel (OutRel R B F) (cond (table_may_grow t n) (does r (SetTable a1 (grown_table t n (null_of t.ty)))) IllTyped) (cond b (does q (SetTable b1 (grown_table u n (null_of u.ty)))) IllTyped)) (may_rel R n x) (cond_rel (table_may_grow t n) (does_rel h (set_table p (table_grown n x (subst (λ z. RefRel R (null_of t.ty) (null_of z)) x.type (null_rel t.ty))))) wrong))
-  extended_rel n h (a_memory p) = bind_memory_at h p (λ m. cond_rel (memory_may_grow m n) (does_rel h (set_memory p)) wrong)
-  extended_rel n h (a_global p) = wrong
+  extended_rel : {r q : Run} {x y : Thing} (n : ℕ) → RunRel R B F r q → ThingRel R x y → OptRel TransitionRel (extended r x n) (extended q y n)
+  extended_rel n h (a_func p) = none
+  extended_rel {r} {q} n h (a_table {a = a1} {b = b1} p) = then_rel (given_rel (there (h.store.tables p))) (λ t u x. subst (λ b. OptRel TransitionRel (cond (table_may_grow t n) (does r (SetTable a1 (grown_table t n (null_of t.ty)))) None) (cond b (does q (SetTable b1 (grown_table u n (null_of u.ty)))) None)) (may_rel R n x) (either_rel (table_may_grow t n) (does_rel h (set_table p (table_grown n x (subst (λ z. RefRel R (null_of t.ty) (null_of z)) x.type (null_rel t.ty))))) none))
+  extended_rel n h (a_memory p) = then_memory_at h p (λ m. either_rel (memory_may_grow m n) (does_rel h (set_memory p)) none)
+  extended_rel n h (a_global p) = none
 
-  place_at_rel : {r q : Run} (p : Place) → RunRel R B F r q → ResRel (ThingRel R) (place_at r p) (place_at q p)
+  place_at_rel : {r q : Run} (p : Place) → RunRel R B F r q → OptRel (ThingRel R) (place_at r p) (place_at q p)
   place_at_rel (TableOf p) h = look_rel (same_key (TableKey p)) h.owned
   place_at_rel (MemoryOf p) h = look_rel (same_key (MemoryKey p)) h.owned
   place_at_rel (GlobalOf p) h = look_rel (same_key (GlobalKey p)) h.owned
   place_at_rel (Named n) h = look_rel (same_text n) h.view
 
-  moved_rel : {r q : Run} (m : Move) → RunRel R B F r q → C r.store q.store r.entries q.entries → TopView R (written apart) C r.store q.store r.entries q.entries → ResRel (OutRel R B F) (moved r m) (moved q m)
-  moved_rel (Call i xs) h c w = bind_rel (look_rel (same_text i) h.view) (λ _ _ x. bind_rel (func_of_rel x) (λ _ _ n. called_rel xs h (stacks.push mark c) n))
-  moved_rel (Invoke k xs) h c w = bind_rel (at_rel h.shown k) (λ _ _ n. called_rel xs h (stacks.push mark c) n)
-  moved_rel (Take i) h c w = bind_rel (look_rel (same_text i) h.view) (λ _ _ x. bind_rel (func_of_rel x) (λ _ _ n. shows_rel h (reference (func (some n)))))
+  moved_rel : {r q : Run} (m : Move) → RunRel R B F r q → C r.store q.store r.entries q.entries → TopView R (written apart) C r.store q.store r.entries q.entries → OptRel TransitionRel (moved r m) (moved q m)
+  moved_rel (Call i xs) h c w = then_rel (look_rel (same_text i) h.view) (λ _ _ x. then_rel (func_of_rel x) (λ _ _ n. called_rel xs h (stacks.push mark c) n))
+  moved_rel (Invoke k xs) h c w = then_rel (get_rel h.shown k) (λ _ _ n. called_rel xs h (stacks.push mark c) n)
+  moved_rel (Take i) h c w = then_rel (look_rel (same_text i) h.view) (λ _ _ x. then_rel (func_of_rel x) (λ _ _ n. shows_rel h (reference (func (some n)))))
   moved_rel (Answer xs) h c w = answered_rel xs h w
   moved_rel Refuse h c w = refused_rel h w
-  moved_rel Grant h c w = wrong
-  moved_rel Deny h c w = wrong
-  moved_rel (Get p n) h c w = bind_rel (place_at_rel p h) (λ _ _ x. got_rel n h x)
-  moved_rel (Size p) h c w = bind_rel (place_at_rel p h) (λ _ _ x. size_rel h x)
-  moved_rel (Set p n v) h c w = bind_rel (place_at_rel p h) (λ _ _ x. set_rel n v h x)
-  moved_rel (Extend p n) h c w = bind_rel (place_at_rel p h) (λ _ _ x. extended_rel n h x)
+  moved_rel Grant h c w = none
+  moved_rel Deny h c w = none
+  moved_rel (Get p n) h c w = then_rel (place_at_rel p h) (λ _ _ x. got_rel n h x)
+  moved_rel (Size p) h c w = then_rel (place_at_rel p h) (λ _ _ x. size_rel h x)
+  moved_rel (Set p n v) h c w = then_rel (place_at_rel p h) (λ _ _ x. set_rel n v h x)
+  moved_rel (Extend p n) h c w = then_rel (place_at_rel p h) (λ _ _ x. extended_rel n h x)
 
-  at_entries_rel : {r q : Run} {es fs : List Entry} (m : Move) → RunRel R B F r q → C r.store q.store r.entries q.entries → TopView R (written apart) C r.store q.store r.entries q.entries → TopView R (written apart) C r.store q.store es fs → ResRel (OutRel R B F) (at_entries r m es) (at_entries q m fs)
+  at_entries_rel : {r q : Run} {es fs : List Entry} (m : Move) → RunRel R B F r q → C r.store q.store r.entries q.entries → TopView R (written apart) C r.store q.store r.entries q.entries → TopView R (written apart) C r.store q.store es fs → OptRel TransitionRel (at_entries r m es) (at_entries q m fs)
   at_entries_rel m h c w (top_growing p e) = decided_rel m h p e
   at_entries_rel m h c w (top_none e) = moved_rel m h c w
   at_entries_rel m h c w (top_mark e) = moved_rel m h c w
@@ -242,27 +254,26 @@ module _ (R : Pairing) (apart : OneToOne R) (B C : Store → Store → List Entr
   at_entries_rel m h c w (top_waiting e) = moved_rel m h c w
   at_entries_rel m h c w (top_ended v e) = moved_rel m h c w
 
-  or_bad_rel : {r q : Run} {o p : Outcome Out} → RunRel R B F r q → ResRel (OutRel R B F) o p → OutRel R B F (or_bad r o) (or_bad q p)
-  or_bad_rel h wrong = record { event = refl; run = h }
-  or_bad_rel h trap = record { event = refl; run = h }
-  or_bad_rel h (done o) = o
+  or_bad_rel : {r q : Run} {o p : Option Transition} → RunRel R B F r q → OptRel TransitionRel o p → TransitionRel (or_bad r o) (or_bad q p)
+  or_bad_rel h none = makes (record { event = refl; run = h })
+  or_bad_rel h (some o) = o
 
   moves_rel : {r q : Run} (ms : List Move) → RunRel R B F r q → RunRel R B F (record r { moves = ms }) (record q { moves = ms })
   moves_rel ms h = record { store = h.store; entries = h.entries; phase = h.phase; shown = h.shown; view = h.view; owned = h.owned; moves = refl }
 
-  next_move_rel : {r q : Run} (ms : List Move) → RunRel R B F r q → C r.store q.store r.entries q.entries → TopView R (written apart) C r.store q.store r.entries q.entries → OutRel R B F (next_move r ms) (next_move q ms)
-  next_move_rel [] h c w = record { event = refl; run = h }
+  next_move_rel : {r q : Run} (ms : List Move) → RunRel R B F r q → C r.store q.store r.entries q.entries → TopView R (written apart) C r.store q.store r.entries q.entries → TransitionRel (next_move r ms) (next_move q ms)
+  next_move_rel [] h c w = makes (record { event = refl; run = h })
   next_move_rel (m ∷ ms) h c w = let k = moves_rel ms h in or_bad_rel k (at_entries_rel m k c w w)
 
-  due_move_rel : {r q : Run} {ms ns : List Move} → ms ≡ ns → RunRel R B F r q → C r.store q.store r.entries q.entries → TopView R (written apart) C r.store q.store r.entries q.entries → OutRel R B F (next_move r ms) (next_move q ns)
-  due_move_rel {r} {q} {ms} e h c w = subst (λ x. OutRel R B F (next_move r ms) (next_move q x)) e (next_move_rel ms h c w)
+  due_move_rel : {r q : Run} {ms ns : List Move} → ms ≡ ns → RunRel R B F r q → C r.store q.store r.entries q.entries → TopView R (written apart) C r.store q.store r.entries q.entries → TransitionRel (next_move r ms) (next_move q ns)
+  due_move_rel {r} {q} {ms} e h c w = subst (λ x. TransitionRel (next_move r ms) (next_move q x)) e (next_move_rel ms h c w)
 
-  closed_move_rel : {r q : Run} {ms ns : List Move} → ms ≡ ns → RunRel R B F r q → C r.store q.store r.entries q.entries → TopView R (written apart) C r.store q.store r.entries q.entries → OutRel R B F (closed_move r ms) (closed_move q ns)
-  closed_move_rel {r} {q} {ms} e h c w = subst (λ x. OutRel R B F (closed_move r ms) (closed_move q x)) e (go ms)
+  closed_move_rel : {r q : Run} {ms ns : List Move} → ms ≡ ns → RunRel R B F r q → C r.store q.store r.entries q.entries → TopView R (written apart) C r.store q.store r.entries q.entries → TransitionRel (closed_move r ms) (closed_move q ns)
+  closed_move_rel {r} {q} {ms} e h c w = subst (λ x. TransitionRel (closed_move r ms) (closed_move q x)) e (go ms)
     where
-      go : (ms : List Move) → OutRel R B F (closed_move r ms) (closed_move q ms)
-      go [] = record { event = refl; run = h }
-      go (m ∷ ms) = let k = moves_rel ms h in or_bad_rel k (cond_rel (is_taken_closed m) (moved_rel m k c w) wrong)
+      go : (ms : List Move) → TransitionRel (closed_move r ms) (closed_move q ms)
+      go [] = makes (record { event = refl; run = h })
+      go (m ∷ ms) = let k = moves_rel ms h in or_bad_rel k (either_rel (is_taken_closed m) (moved_rel m k c w) none)
 
   -- ---- one step of a run ----
 
@@ -274,14 +285,13 @@ module _ (R : Pairing) (apart : OneToOne R) (B C : Store → Store → List Entr
       either true = record { event = refl; run = record { store = g.store; entries = begins _ _ _ _ g.closed; phase = closed; shown = h.shown; view = h.view; owned = g.owned; moves = h.moves } }
       either false = record { event = refl; run = record { store = g.store; entries = begins _ _ _ _ g.entries; phase = pending g.view; shown = h.shown; view = h.view; owned = g.owned; moves = h.moves } }
 
-  pub or_closed_rel : {r q : Run} {o p : Outcome Out} → RunRel R B F r q → ResRel (OutRel R B F) o p → OutRel R B F (or_closed r o) (or_closed q p)
-  or_closed_rel h wrong = record { event = refl; run = phase_rel (state_rel h h.store (stacks.steady (stacks.cleared h.entries))) closed }
-  or_closed_rel h trap = record { event = refl; run = phase_rel (state_rel h h.store (stacks.steady (stacks.cleared h.entries))) closed }
-  or_closed_rel h (done o) = o
+  or_closed_rel : {r q : Run} {o p : Option Transition} → RunRel R B F r q → OptRel TransitionRel o p → TransitionRel (or_closed r o) (or_closed q p)
+  or_closed_rel h none = makes (record { event = refl; run = phase_rel (state_rel h h.store (stacks.steady (stacks.cleared h.entries))) closed })
+  or_closed_rel h (some o) = o
 
-  in_phase_rel : {r q : Run} {p o : Phase} → RunRel R B F r q → C r.store q.store r.entries q.entries → TopView R (written apart) C r.store q.store r.entries q.entries → PhaseRel R F p o → OutRel R B F (in_phase r p) (in_phase q o)
-  in_phase_rel h c w (fresh b) = began_rel h b
-  in_phase_rel h c w (pending v) = record { event = refl; run = h }
+  in_phase_rel : {r q : Run} {p o : Phase} → RunRel R B F r q → C r.store q.store r.entries q.entries → TopView R (written apart) C r.store q.store r.entries q.entries → PhaseRel R F p o → TransitionRel (in_phase r p) (in_phase q o)
+  in_phase_rel h c w (fresh b) = makes (began_rel h b)
+  in_phase_rel h c w (pending v) = steps h wrong
   in_phase_rel h c w opened = due_move_rel h.moves h c w
   in_phase_rel h c w closed = closed_move_rel h.moves h c w
 
@@ -291,19 +301,23 @@ module _ (R : Pairing) (apart : OneToOne R) (B C : Store → Store → List Entr
   view_of_rel h opened = h.view
   view_of_rel h closed = h.view
 
-  started_rel : {r q : Run} {xs ys : List ℕ} {es fs : List Entry} {a b : ℕ} → RunRel R B F r q → ListRel (R.of Functions) xs ys → C r.store q.store es fs → R.of Functions a b → ResRel (OutRel R B F) (started r xs es a) (started q ys fs b)
-  started_rel h x e n = bind_eq (same_there (h.store.types n)) (λ t. bind_same (nothing_in t.results) (λ u. called_rel [] h (stacks.push (opening x) e) n))
+  started_rel : {r q : Run} {xs ys : List ℕ} {es fs : List Entry} {a b : ℕ} → RunRel R B F r q → ListRel (R.of Functions) xs ys → C r.store q.store es fs → R.of Functions a b → OptRel TransitionRel (started r xs es a) (started q ys fs b)
+  started_rel {r} {q} {xs} {ys} {es} {fs} {a} {b} h x e n =
+      then_rel (given_rel (there (h.store.types n))) (λ t u same. subst (λ y. OptRel TransitionRel (option_and_then (λ v. called r (Opening xs ∷ es) [] a) (nothing_in t.results)) (option_and_then (λ v. called q (Opening ys ∷ fs) [] b) (nothing_in y.results))) same (then_same (nothing_in t.results) (λ v. called_rel [] h (stacks.push (opening x) e) n)))
 
-  pub open_next_rel : {r q : Run} {xs ys : List ℕ} {es fs : List Entry} → RunRel R B F r q → ListRel (R.of Functions) xs ys → C r.store q.store es fs → OutRel R B F (open_next r xs es) (open_next q ys fs)
-  open_next_rel h nil e = record { event = refl; run = record { store = h.store; entries = stacks.steady e; phase = opened; shown = h.shown; view = view_of_rel h h.phase; owned = h.owned; moves = h.moves } }
+  open_next_rel : {r q : Run} {xs ys : List ℕ} {es fs : List Entry} → RunRel R B F r q → ListRel (R.of Functions) xs ys → C r.store q.store es fs → TransitionRel (open_next r xs es) (open_next q ys fs)
+  open_next_rel h nil e = makes (record { event = refl; run = record { store = h.store; entries = stacks.steady e; phase = opened; shown = h.shown; view = view_of_rel h h.phase; owned = h.owned; moves = h.moves } })
   open_next_rel h (cons n x) e = or_closed_rel h (started_rel h x e n)
 
   -- a step of each, given what a step of the top frames comes to
-  pub still_rel : {r q : Run} {es fs : List Entry} → RunRel R B F r q → (C r.store q.store es fs → C r.store q.store r.entries q.entries) → (TopView R (written apart) C r.store q.store es fs → TopView R (written apart) C r.store q.store r.entries q.entries) → TopView R (written apart) C r.store q.store es fs → ResRel (NextRel R B) (step r.store r.entries) (step q.store q.entries) → OutRel R B F (tick_at r es) (tick_at q fs)
-  still_rel h whole views (top_none e) s = in_phase_rel h (whole e) (views (top_none e)) h.phase
-  still_rel h whole views (top_mark e) s = record { event = refl; run = h }
-  still_rel h whole views (top_opening x e) s = open_next_rel h x e
-  still_rel h whole views (top_waiting e) s = due_move_rel h.moves h (whole (stacks.push waiting e)) (views (top_waiting e))
-  still_rel h whole views (top_ended v e) s = after_rel h (stacks.gives h.store v e)
-  still_rel h whole views (top_growing n e) s = due_move_rel h.moves h (whole (stacks.push (growing n) e)) (views (top_growing n e))
-  still_rel h whole views top_running s = after_rel h s
+  between_rel : {r q : Run} {es fs : List Entry} → RunRel R B F r q → (C r.store q.store es fs → C r.store q.store r.entries q.entries) → (TopView R (written apart) C r.store q.store es fs → TopView R (written apart) C r.store q.store r.entries q.entries) → TopView R (written apart) C r.store q.store es fs → ResRel (NextRel R B) (step r.store r.entries) (step q.store q.entries) → TransitionRel (transition_at r es) (transition_at q fs)
+  between_rel h whole views (top_none e) s = in_phase_rel h (whole e) (views (top_none e)) h.phase
+  between_rel h whole views (top_mark e) s = steps h wrong
+  between_rel h whole views (top_opening x e) s = open_next_rel h x e
+  between_rel h whole views (top_waiting e) s = due_move_rel h.moves h (whole (stacks.push waiting e)) (views (top_waiting e))
+  between_rel h whole views (top_ended v e) s = steps h (stacks.gives h.store v e)
+  between_rel h whole views (top_growing n e) s = due_move_rel h.moves h (whole (stacks.push (growing n) e)) (views (top_growing n e))
+  between_rel h whole views top_running s = steps h s
+
+  pub still_rel : {r q : Run} {es fs : List Entry} → RunRel R B F r q → (C r.store q.store es fs → C r.store q.store r.entries q.entries) → (TopView R (written apart) C r.store q.store es fs → TopView R (written apart) C r.store q.store r.entries q.entries) → TopView R (written apart) C r.store q.store es fs → ResRel (NextRel R B) (step r.store r.entries) (step q.store q.entries) → OutRel R B F (made (transition_at r es)) (made (transition_at q fs))
+  still_rel h whole views w s = made_rel (between_rel h whole views w s)

@@ -1,10 +1,9 @@
 -- What is shown of related values is the same.
-use Rattle.std.proofs.Common.{◌≡◌, ℕ, List, [], ◌∷◌, ◌++◌, Some, None, true, false, ◌⊎◌, inl, inr, refl, sym, ap, subst, ◌∙◌}
+use Rattle.std.proofs.Common.{◌≡◌, ℕ, List, [], ◌∷◌, ◌++◌, Option, Some, None, true, false, ◌⊎◌, inl, inr, refl, sym, ap, subst, ◌∙◌}
 use Rattle.wasm_tree.specs.declared.space.Space.TheVariants.{Functions}
 use Rattle.std.proofs.lemmas.Bool.Decides.{eqb_tells}
 use Rattle.std.specs.Prelude.{nat_eq}
 use Rattle.wasm_tree.specs.declared.types.FuncType.{FuncType}
-use Rattle.wasm_meaning.specs.Outcomes.{Outcome, Gives, Traps, IllTyped}
 use Rattle.wasm_meaning.specs.State.{Pair, Val, Store}
 use Rattle.wasm_meaning.specs.Control.{own_at}
 use Rattle.wasm_meaning.specs.Environment.{Function}
@@ -31,15 +30,13 @@ module _ (R : Pairing) (apart : OneToOne R) where
   snoc_rel nil p = cons p nil
   snoc_rel (cons q r) p = cons q (snoc_rel r p)
 
-  numbered_rel : {xs ys : List ℕ} {a b : ℕ} (o : Outcome ℕ) → ListRel (R.of Functions) xs ys → R.of Functions a b → ShowRel R (numbered xs a o) (numbered ys b o)
-  numbered_rel (Gives k) r p = record { same = refl; shown = r }
-  numbered_rel IllTyped r p = record { same = ap Function (length_rel r); shown = snoc_rel r p }
-  numbered_rel Traps r p = record { same = ap Function (length_rel r); shown = snoc_rel r p }
+  numbered_rel : {xs ys : List ℕ} {a b : ℕ} (o : Option ℕ) → ListRel (R.of Functions) xs ys → R.of Functions a b → ShowRel R (numbered xs a o) (numbered ys b o)
+  numbered_rel (Some k) r p = record { same = refl; shown = r }
+  numbered_rel None r p = record { same = ap Function (length_rel r); shown = snoc_rel r p }
 
-  show_func_rel : {xs ys : List ℕ} {a b : ℕ} (o : Outcome (Pair × FuncType)) → ListRel (R.of Functions) xs ys → R.of Functions a b → ShowRel R (show_func xs a o) (show_func ys b o)
-  show_func_rel (Gives p) r q = record { same = refl; shown = r }
-  show_func_rel {xs} {a = a} IllTyped r q = rw (← (place_rel r q)) (numbered_rel (place_of xs a) r q)
-  show_func_rel {xs} {a = a} Traps r q = rw (← (place_rel r q)) (numbered_rel (place_of xs a) r q)
+  show_func_rel : {xs ys : List ℕ} {a b : ℕ} (o : Option (Pair × FuncType)) → ListRel (R.of Functions) xs ys → R.of Functions a b → ShowRel R (show_func xs a o) (show_func ys b o)
+  show_func_rel (Some p) r q = record { same = refl; shown = r }
+  show_func_rel {xs} {a = a} None r q = rw (← (place_rel r q)) (numbered_rel (place_of xs a) r q)
 
   pub show_rel : {s t : Store} {xs ys : List ℕ} {v w : Val} → StoreRel R s t → ListRel (R.of Functions) xs ys → ValRel R v w → ShowRel R (show s xs v) (show t ys w)
   show_rel s r number = record { same = refl; shown = r }

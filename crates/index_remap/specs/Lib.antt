@@ -7,3 +7,4 @@ pub mod RelatedRuns
 pub mod Agreement
 pub mod Replaced
 pub mod Laws
+pub mod Unknown

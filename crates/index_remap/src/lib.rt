@@ -8,6 +8,7 @@ mod remap;
 mod renumbering;
 
 ghost use Rattle.index_remap.specs.Laws.{CodeIsRelatedToItself, NamedAreKnown, OthersStay, RelatedRunsShowTheSame, RelatedTicksAgree, RenumberedCodeIsRelated, ReplacedCodeIsRelated, ShownAgree, StepsAgree, TrapsAgree, TypingIsKept, UnlistedAreRenumbered};
+ghost use Rattle.index_remap.specs.Unknown.{NothingUnknown, SetGlobalsAreKnown};
 
 pub use declaring::declare_refs;
 pub use in_place::{renumber_funcs_in_place, renumber_in_place};
@@ -53,3 +54,10 @@ pub fn related_runs_show_the_same()
 {
     steps_agree();
 }
+
+/// Of stores that correspond but for places of which nothing is known: where there are no such places, they correspond (`nothing`); a related global that is set to
+/// a related value is known from then on (`set`).
+pub fn set_globals_are_known()
+    ensures nothing { NothingUnknown }
+    ensures set { SetGlobalsAreKnown }
+{}

@@ -102,17 +102,17 @@ memory_key m pair (im.Func t) e = absurd (let z = e in cc)
 memory_key m pair (im.Table t) e = absurd (let z = e in cc)
 memory_key m pair (im.Global t) e = absurd (let z = e in cc)
 
-memory_thing : (owned : Owned) (parts : List Part) (u : Site) (j : Import) → import_at parts u ≡ Some j → space_of_import j.desc ≡ Memories → outside_thing owned parts u ≡ given (owned_at owned (MemoryKey (pair_of j)))
+memory_thing : (owned : Owned) (parts : List Part) (u : Site) (j : Import) → import_at parts u ≡ Some j → space_of_import j.desc ≡ Memories → outside_thing owned parts u ≡ owned_at owned (MemoryKey (pair_of j))
 memory_thing owned parts u j at e =
     let m = import_site parts u j at in
-    ap (λ o. option_and_then (λ m. option_and_then (λ i. option_and_then (λ key. given (owned_at owned key)) (own_key m i)) (import_at parts u)) o) m.1
-    ∙ ap (λ o. option_and_then (λ i. option_and_then (λ key. given (owned_at owned key)) (own_key m.0 i)) o) at
-    ∙ ap (λ o. option_and_then (λ key. given (owned_at owned key)) o) (memory_key m.0 (pair_of j) j.desc e)
+    ap (λ o. option_and_then (λ m. option_and_then (λ i. option_and_then (λ key. owned_at owned key) (own_key m i)) (import_at parts u)) o) m.1
+    ∙ ap (λ o. option_and_then (λ i. option_and_then (λ key. owned_at owned key) (own_key m.0 i)) o) at
+    ∙ ap (λ o. option_and_then (λ key. owned_at owned key) o) (memory_key m.0 (pair_of j) j.desc e)
 
 -- what is gathered is one of the environment's own
 gathered_thing : (owned : Owned) (parts : List Part) (t : Site) (i : Import) → import_at parts t ≡ Some i → (g : Gathers parts t i) (b : Bool) → has_kind Memories i ≡ b → outside_thing owned parts t ≡ outside_thing owned parts g.to
 gathered_thing owned parts t i at g true e =
-    memory_thing owned parts t i at (sym (kind_is Memories (space_of_import i.desc) e)) ∙ ap (λ p. given (owned_at owned (MemoryKey p))) g.pair
+    memory_thing owned parts t i at (sym (kind_is Memories (space_of_import i.desc) e)) ∙ ap (λ p. owned_at owned (MemoryKey p)) g.pair
     ∙ sym (memory_thing owned parts g.to g.stays.import g.stays.at (sym (kind_is Memories (space_of_import g.stays.import.desc) (g.memory e))))
 gathered_thing owned parts t i at g false e = ap (outside_thing owned parts) (sym (g.other e))
 

@@ -42,8 +42,9 @@ use Rattle.merge_worlds.specs.Shared.{shared_count}
 use Rattle.merge_worlds.proofs.SpaceLaws.{SpaceLaws}
 use Rattle.world_simulation.proofs.Instancing.{IsInst}
 use Rattle.merge_worlds.proofs.Standing.{import_address}
-use Rattle.merge_worlds.proofs.MergedAlone.{Keeps, joined_keeps, names_of, merged_types_are}
+use Rattle.merge_worlds.proofs.MergedAlone.{joined_keeps, names_of, merged_types_are}
 use Rattle.merge_worlds.proofs.Starts.{IsNamed}
+use Rattle.world_simulation.proofs.Declared.{Keeps}
 use Rattle.base_lists.proofs.Places.{map_from, append_right, slice_get_there, append_left}
 use Rattle.base_lists.proofs.Filtered.{place_of}
 use Rattle.base_lists.proofs.Options.{and_then_is, unwrap_or_false_is, all_there_at, all_there_length}
@@ -242,7 +243,7 @@ module _ (laws : SpaceLaws) (env : Environment) (t : Module) (j : Inst) (inst : 
 
 -- ---- the merged module's ----
 
-kept_type : {m n : Module} → Keeps m n → (x : ℕ) → type_of_func n x ≡ type_of_func m x
+kept_type : {m n : Module} {fs : List ℕ} → Keeps m n fs → (x : ℕ) → type_of_func n x ≡ type_of_func m x
 kept_type q x = ap₂ (λ ts fs. option_and_then (slice_get ts) (slice_get fs x)) q.types (ap₂ (λ is fs. imported_funcs is ++ map (λ f. f.ty) fs) q.imports q.funcs)
 
 merged_funcs_are : (parts : List Part) (names : List (Option Text)) → (merged parts names).funcs ≡ defined_funcs parts ++ start_calls parts (starts parts)

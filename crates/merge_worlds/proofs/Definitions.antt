@@ -30,14 +30,14 @@ use Rattle.index_remap.specs.Related.{Pairing, OptRel, none, some}
 use Rattle.world_simulation.specs.Alone.{one}
 use Rattle.world_simulation.specs.Definitions.{Instantiated, DefinedAt, values_in, FuncsCorrespond, GlobalsCorrespond, ElemsCorrespond, is_declarative, Partners, DefinitionsCorrespond}
 use Rattle.world_simulation.specs.Definitions as partners
-use Rattle.world_simulation.proofs.Places.{left_true, right_true, map_length}
+use Rattle.world_simulation.proofs.Places.{left_true, right_true, map_length, right_there, left_there}
 use Rattle.world_simulation.proofs.Defined.{Stands, stands}
 use Rattle.world_simulation.proofs.Defined as stand
 use Rattle.world_simulation.proofs.Stored.{func_placed, global_placed, elem_placed, func_rel, global_rel, elem_rel}
 use Rattle.world_simulation.proofs.Allocated.{stores_there, part_there}
 use Rattle.export_names.specs.declared.mode.Mode.{Mode}
 use Rattle.merge_terms.specs.Joined.{joined_module}
-use Rattle.merge_terms.specs.Merged.{map_of, by_part_from, start_calls, starts, merged_const, merged_global, merged_elem, merged_elem_mode, merged_data}
+use Rattle.merge_terms.specs.Merged.{map_of, by_part_from, start_calls, starts, merged_const, merged_global, merged_elem, merged_elem_mode, merged_data, merged}
 use Rattle.merge_validity.specs.Joinable.{CanBeJoined}
 use Rattle.merge_validity.proofs.ByPart.{defined_is, by_part_at, by_part_back, by_part_flat, by_part_same, map_self}
 use Rattle.merge_worlds.specs.Instances.{PartAgrees}
@@ -48,7 +48,9 @@ use Rattle.merge_worlds.proofs.ValueGiven.{Laws, EachAgrees}
 use Rattle.merge_worlds.proofs.Values.{const_rel}
 use Rattle.merge_worlds.proofs.Lists.{placed_rel}
 use Rattle.merge_worlds.proofs.Funcs.{funcs_correspond}
-use Rattle.merge_worlds.proofs.MergedLists.{last_segments, declared_in, by_part_is, last_elems, last_funcs}
+use Rattle.merge_worlds.proofs.MergedLists.{declared_in, by_part_is, last_funcs}
+use Rattle.merge_worlds.proofs.MergedAlone.{joined_keeps, names_of}
+use Rattle.world_simulation.proofs.Declared.{last_segments, last_elems}
 
 -- ---- what holds of a valid module's items ----
 
@@ -81,14 +83,6 @@ same_kind : (parts : List Part) (p : ℕ) (r : Remap) (mode : ElemMode) → is_d
 same_kind parts p r (elem.Active x e) = refl
 same_kind parts p r elem.Passive = refl
 same_kind parts p r elem.Declarative = refl
-
-right_there : {A B : Type 0} {P : A → B → Type 0} {o : Option A} {p : Option B} {a : A} → OptRel P o p → o ≡ Some a → (b : B) × (p ≡ Some b)
-right_there none e = cc
-right_there (some {b = b} r) e = (b, refl)
-
-left_there : {A B : Type 0} {P : A → B → Type 0} {o : Option A} {p : Option B} {b : B} → OptRel P o p → p ≡ Some b → (a : A) × (o ≡ Some a)
-left_there none e = cc
-left_there (some {a = a} r) e = (a, refl)
 
 module _ (laws : Laws) (env : Environment) (parts : List Part) (mode : Mode) (can : CanBeJoined parts mode) (insts : List Inst) (j : Inst) (each : EachAgrees env parts insts j) (are : insts_from env (one (joined_module parts mode)) 0 (one (joined_module parts mode)) ≡ Some (j ∷ [])) where
   abbrev J : Module
@@ -238,7 +232,7 @@ module _ (laws : Laws) (env : Environment) (parts : List Part) (mode : Mode) (ca
 
       more_elems_there : (n : ℕ) (e : ElemSeg) → slice_get more_elems n ≡ Some e → (x : Elem) × (elem_of env M (j ∷ []) 0 e ≡ Some x)
       more_elems_there n e h =
-          let l = last_elems env parts mode j (func_count laws.alone_reads laws.alone_spaces env J j are) in
+          let l = last_elems env J j (merged parts (names_of parts mode)) (func_count laws.alone_reads laws.alone_spaces env J j are ∙ ap length (joined_keeps parts mode).func_space) in
           let r = all_there_at (elem_of env M (j ∷ []) 0) more_elems l.0 l.1 n e h in
           (r.0, r.1)
 

@@ -17,7 +17,9 @@ use Rattle.wasm_meaning.specs.World.{own_count, defined_count, base, thing_of, a
 use Rattle.index_remap.specs.Related.{OptRel, none, some}
 use Rattle.export_names.specs.declared.mode.Mode.{Mode}
 use Rattle.merge_terms.specs.Faults.{link_fault}
-use Rattle.merge_terms.specs.Merged.{map_of, staying_of, new_index}
+use Rattle.index_remap.specs.References.{declared_refs}
+use Rattle.world_simulation.proofs.Declared.{last_segments}
+use Rattle.merge_terms.specs.Merged.{merged, map_of, staying_of, new_index}
 use Rattle.merge_terms.specs.Joined.{joined_module}
 use Rattle.merge_validity.specs.Joinable.{CanBeJoined}
 use Rattle.merge_validity.specs.Ended.{added_count, is_external}
@@ -172,7 +174,8 @@ module _ (laws : SpaceLaws) (env : Environment) (parts : List Part) (linked : li
   joined_elems : shared_count env parts ElementSegments ≤ length J.elems
   joined_elems =
       let q = joined_keeps parts mode in
-      let a = ap length q.elems ∙ length-append _ q.more in
+      let m = merged parts (names_of parts mode) in
+      let a = ap length q.elems ∙ length-append m.elems (last_segments (declared_refs m)) in
       let b = elems_many parts (names_of parts mode) in
       omega (arith, a, b)
 

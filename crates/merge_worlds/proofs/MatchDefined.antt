@@ -24,12 +24,12 @@ use Rattle.wasm_meaning.specs.Environment.{Environment, FuncAt, TableAt, MemoryA
 use Rattle.wasm_meaning.specs.World.{given, same_bool, meets, base, thing_at, new_func, new_global, value_of, own_store, stores_from}
 use Rattle.world_simulation.proofs.Places.{place_map}
 use Rattle.merge_terms.specs.Faults.{External, FuncOf, TableOf, MemoryOf, GlobalOf, external_of, same_but_limits, meets_limits}
-use Rattle.merge_worlds.proofs.MatchLists.{all_places, copies_length}
+use Rattle.base_lists.proofs.Options.{all_there_at, and_then_is}
+use Rattle.world_simulation.proofs.Simulated.{copies_length}
 use Rattle.merge_worlds.proofs.MatchFits.{fits}
 use Rattle.world_simulation.proofs.Allocated.{new_table, new_memory, adds, funcs_stand, tables_stand, mems_stand, globals_stand}
 use Rattle.base_lists.proofs.Places.{map_from, append_right}
 use Rattle.base_lists.proofs.Filtered.{places_many}
-use Rattle.base_lists.proofs.Options.{and_then_is}
 use Rattle.std.proofs.lemmas.Bool.{and_from}
 use Rattle.merge_worlds.proofs.Lists.{at_is}
 
@@ -122,11 +122,11 @@ module _ (env : Environment) (parts : List Part) (insts : List Inst) (s : Store)
       stood ty e g =
           let f = map_from (λ f. f.ty) m.funcs k ty (own_func m n ty le e) in
           let r = funcs_stand env parts insts s made q m i is there in
-          let x = all_places (new_func i) m.funcs r.added.funcs (adds env parts insts q m i r.added r.made).funcs k f.0 (f.1) in
+          let x = all_there_at (new_func i) m.funcs r.added.funcs (adds env parts insts q m i r.added r.made).funcs k f.0 (f.1) in
           let type_is : slice_get i.types f.0.ty ≡ Some t = ap₂ slice_get types f.2 ∙ g in
-          let code : Some (Code t i (declared f.0.locals) f.0.body) ≡ Some x.0 = sym (ap (λ o. option_and_then (λ t. Some (Code t i (declared f.0.locals) f.0.body)) o) type_is) ∙ x.2 in
+          let code : Some (Code t i (declared f.0.locals) f.0.body) ≡ Some x.0 = sym (ap (λ o. option_and_then (λ t. Some (Code t i (declared f.0.locals) f.0.body)) o) type_is) ∙ x.1 in
           let same : Code t i (declared f.0.locals) f.0.body ≡ x.0 = cc in
-          ap (λ o. bind o (λ f. Gives (control.type_of_func f))) (at_is s.funcs (address Functions n) x.0 (r.at k x.0 x.1)) ∙ ap (λ f. Gives (control.type_of_func f)) (sym same)
+          ap (λ o. bind o (λ f. Gives (control.type_of_func f))) (at_is s.funcs (address Functions n) x.0 (r.at k x.0 x.2)) ∙ ap (λ f. Gives (control.type_of_func f)) (sym same)
 
       by : (o : Option ℕ) → slice_get (funcs_of m) n ≡ o → option_and_then (slice_get m.types) o ≡ Some t → type_at s (address Functions n) ≡ Gives t
       by None e h = absurd (let z = h in cc)
@@ -149,11 +149,11 @@ module _ (env : Environment) (parts : List Part) (insts : List Inst) (s : Store)
       let k = n - length (imports_of Globals m) in
       let g = map_from (λ g. g.ty) m.globals k t (own_global m n t le h) in
       let r = globals_stand env parts insts s made q m i is there in
-      let x = all_places (new_global env parts insts q) m.globals r.added.globals (adds env parts insts q m i r.added r.made).globals k g.0 (g.1) in
-      let v = and_then_is (value_of env parts insts q g.0.init) (λ v. Some (record { ty = g.0.ty; value = v })) x.0 x.2 in
+      let x = all_there_at (new_global env parts insts q) m.globals r.added.globals (adds env parts insts q m i r.added r.made).globals k g.0 (g.1) in
+      let v = and_then_is (value_of env parts insts q g.0.init) (λ v. Some (record { ty = g.0.ty; value = v })) x.0 x.1 in
       let last = v.2 in
       let same : record { ty = g.0.ty; value = v.0 } ≡ x.0 = cc in
-      (x.0, r.at k x.0 x.1, ap (λ (g : Global). g.ty) (sym same) ∙ g.2)
+      (x.0, r.at k x.0 x.2, ap (λ (g : Global). g.ty) (sym same) ∙ g.2)
 
   pub defined_fits : (what : ExportDesc) (d x : External) → external_of m what ≡ Some x → length (imports_of (space_of_export what) m) ≤ index_of_export what → same_but_limits d x ≡ true → meets_limits d x ≡ true →
       option_and_then (fits s d) (thing_at (space_of_export what) (address (space_of_export what) (index_of_export what))) ≡ Some true

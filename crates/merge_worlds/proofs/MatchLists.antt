@@ -1,10 +1,7 @@
 -- Tests, and lists by place, as matching needs them.
-use Rattle.std.proofs.Common.{◌≡◌, ℕ, zero, suc, List, [], ◌∷◌, length, Option, Some, Bool, true, refl, sym, ap, ◌∙◌, option_and_then}
+use Rattle.std.proofs.Common.{◌≡◌, ℕ, zero, suc, List, [], ◌∷◌, Some, Bool, true, refl, sym, ap, ◌∙◌}
 use Rattle.std.specs.Prelude.{slice_get}
-use Rattle.wasm_meaning.specs.Outcomes.{copies}
 use Rattle.wasm_meaning.specs.Environment.{all_of}
-use Rattle.wasm_meaning.specs.World.{all_there}
-use Rattle.base_lists.proofs.Options.{and_then_is}
 use Rattle.std.proofs.lemmas.Bool.{and_parts, and_from}
 
 -- ---- tests ----
@@ -21,23 +18,3 @@ each_all test (y ∷ ys) h = and_from (test y) (all_of test ys) (h 0 y refl) (ea
 -- ---- lists ----
 
 -- where all are there, each stands at its place
-pub all_places : {A B : Type 0} (f : A → Option B) (xs : List A) (ys : List B) → all_there f xs ≡ Some ys → (n : ℕ) (x : A) → slice_get xs n ≡ Some x → (y : B) × (slice_get ys n ≡ Some y) × (f x ≡ Some y)
-all_places f [] ys h n x e = absurd (let k = e in cc)
-all_places {A} {B} f (z ∷ xs) ys h n x e = by (λ n. all_places f xs tail.0 tail.1 n x) n e
-  where
-    head : (y : B) × (f z ≡ Some y) × (option_and_then (λ ys. Some (y ∷ ys)) (all_there f xs) ≡ Some ys)
-    head = and_then_is (f z) (λ y. option_and_then (λ ys. Some (y ∷ ys)) (all_there f xs)) ys h
-
-    tail : (zs : List B) × (all_there f xs ≡ Some zs) × (Some (head.0 ∷ zs) ≡ Some ys)
-    tail = and_then_is (all_there f xs) (λ ys. Some (head.0 ∷ ys)) ys head.2
-
-    are : head.0 ∷ tail.0 ≡ ys
-    are = let k = tail.2 in cc
-
-    by : ((n : ℕ) → slice_get xs n ≡ Some x → (y : B) × (slice_get tail.0 n ≡ Some y) × (f x ≡ Some y)) → (n : ℕ) → slice_get (z ∷ xs) n ≡ Some x → (y : B) × (slice_get ys n ≡ Some y) × (f x ≡ Some y)
-    by on zero e = let same : z ≡ x = cc in (head.0, ap (λ l. slice_get l 0) (sym are), ap f (sym same) ∙ head.1)
-    by on (suc n) e = let r = on n e in (r.0, ap (λ l. slice_get l (suc n)) (sym are) ∙ r.1, r.2)
-
-pub copies_length : {A : Type 0} (n : ℕ) (v : A) → length (copies n v) ≡ n
-copies_length zero v = refl
-copies_length (suc n) v = ap suc (copies_length n v)

@@ -10,7 +10,7 @@ use Rattle.wasm_tree.specs.declared.module.Module.{Module}
 use Rattle.wasm_meaning.specs.State.{Pair, Store}
 use Rattle.wasm_meaning.specs.Linking.{Part, Site, module_at, import_at, pair_of, sites, met_limits}
 use Rattle.wasm_meaning.specs.Environment.{Environment, FuncKey, Thing, same_key, owned_of, owned_at}
-use Rattle.wasm_meaning.specs.World.{given, own_key, own_key_of, outside_thing, imported_thing, is_match, is_matched}
+use Rattle.wasm_meaning.specs.World.{own_key, own_key_of, outside_thing, imported_thing, is_match, is_matched}
 use Rattle.index_remap.specs.References.{with_declared, declared_refs}
 use Rattle.export_names.specs.declared.mode.Mode.{Mode}
 use Rattle.export_names.specs.Names.{new_names}
@@ -21,7 +21,9 @@ use Rattle.index_remap.specs.Related.{StoreRel}
 use Rattle.index_remap.specs.RelatedRuns.{ThingRel}
 use Rattle.world_simulation.specs.Owned.{OwnEntitiesCorrespond}
 use Rattle.merge_worlds.specs.Shared.{is_shared, sharing}
-use Rattle.merge_worlds.proofs.Standing.{thing_self, shares_own}
+use Rattle.merge_worlds.proofs.Standing.{shares_own}
+use Rattle.world_simulation.proofs.Owned.{look_rel}
+use Rattle.world_simulation.proofs.Places.{opt_self}
 use Rattle.world_simulation.specs.Alone.{one, site, key_in, thing_in, ImportsStandForTheEnvironments}
 use Rattle.merge_validity.specs.Ended.{TypesHavePlaces}
 use Rattle.merge_worlds.proofs.MatchFits.{fits, fitting, match_fits, kept}
@@ -53,15 +55,15 @@ pub matched_at : (env : Environment) (parts : List Part) (s : Store) (t : Site) 
 matched_at env parts s t i x at asks = let m = import_site parts t i at in matched_is env parts s t m.0 i x m.1 at (asks_by parts t m.0 i x m.1 m.2 asks)
 
 -- what an import that stays stands for
-pub outside_is : (owned : _) (parts : List Part) (u : Site) (m : Module) (j : Import) → module_at parts u.part ≡ Some m → import_at parts u ≡ Some j → outside_thing owned parts u ≡ option_and_then (λ key. given (owned_at owned key)) (own_key m j)
+pub outside_is : (owned : _) (parts : List Part) (u : Site) (m : Module) (j : Import) → module_at parts u.part ≡ Some m → import_at parts u ≡ Some j → outside_thing owned parts u ≡ option_and_then (λ key. owned_at owned key) (own_key m j)
 outside_is owned parts u m j is at =
-    ap (λ o. option_and_then (λ m. option_and_then (λ i. option_and_then (λ key. given (owned_at owned key)) (own_key m i)) (import_at parts u)) o) is ∙ ap (λ o. option_and_then (λ i. option_and_then (λ key. given (owned_at owned key)) (own_key m i)) o) at
+    ap (λ o. option_and_then (λ m. option_and_then (λ i. option_and_then (λ key. owned_at owned key) (own_key m i)) (import_at parts u)) o) is ∙ ap (λ o. option_and_then (λ i. option_and_then (λ key. owned_at owned key) (own_key m i)) o) at
 
 -- it is related to itself
 outside_rel : OwnEntitiesCorrespond → (env : Environment) (parts : List Part) (u : Site) (m : Module) (j : Import) (th : Thing) → module_at parts u.part ≡ Some m → import_at parts u ≡ Some j → outside_thing (owned_of env) parts u ≡ Some th → ThingRel (sharing env parts) th th
 outside_rel own env parts u m j th is at h =
-    let key = and_then_is (own_key m j) (λ key. given (owned_at (owned_of env) key)) th (sym (outside_is (owned_of env) parts u m j is at) ∙ h) in
-    thing_self (sharing env parts) (owned_of env) (own (is_shared env parts) env (shares_own env parts)).owned (same_key key.0) th key.2
+    let key = and_then_is (own_key m j) (λ key. owned_at (owned_of env) key) th (sym (outside_is (owned_of env) parts u m j is at) ∙ h) in
+    opt_self (look_rel (sharing env parts) env (shares_own env parts) (same_key key.0) (own (is_shared env parts) env (shares_own env parts)).owned) key.2
 
 -- ---- the merged module ----
 
@@ -157,7 +159,7 @@ module _ (types_law : TypesHavePlaces) (parts : List Part) (mode : Mode) (u : Si
   module _ (alone_law : ImportsStandForTheEnvironments) (own_law : OwnEntitiesCorrespond) (env : Environment) (j : Import) (y : External) (at : import_at parts u ≡ Some j) (asks : asked m j.desc ≡ Some y) (n : ℕ) (stands : slice_get whole.imports n ≡ Some (moved parts u m j)) where
     moved_thing : imported_thing env (one whole) (site n) ≡ outside_thing (owned_of env) parts u
     moved_thing =
-        alone_law env whole n ∙ ap (thing_in env whole.types) stands ∙ ap (λ o. option_and_then (λ key. given (owned_at (owned_of env) key)) o) (moved_key (pair_of j) j.desc y asks)
+        alone_law env whole n ∙ ap (thing_in env whole.types) stands ∙ ap (λ o. option_and_then (λ key. owned_at (owned_of env) key) o) (moved_key (pair_of j) j.desc y asks)
         ∙ sym (outside_is (owned_of env) parts u m j is at)
 
     -- it is matched where what it stands for fits in the store of the parts

@@ -1,5 +1,5 @@
 -- The merged module alone: its imports are those that stay, and stand for what these stand for in the parts' world; then comes what the parts define.
-use Rattle.std.proofs.Common.{◌≡◌, ◌∙◌, ap, ap₂, sym, refl, ℕ, ◌+◌, List, [], ◌∷◌, ◌++◌, map, length, Option, Some, None, true, arith, option_and_then, slice_get, unwrap_or, append-nil, false}
+use Rattle.std.proofs.Common.{◌≡◌, ◌∙◌, ap, ap₂, sym, refl, ℕ, ◌+◌, List, ◌++◌, map, length, Option, Some, None, true, arith, option_and_then, slice_get, unwrap_or, false}
 use Rattle.wasm_tree.specs.declared.space.Space.{Space}
 use Rattle.wasm_tree.specs.declared.space.Space.TheVariants.{Functions, Tables, Memories, Globals, DataSegments, ElementSegments, Types}
 use Rattle.wasm_tree.specs.Operands.{same_space}
@@ -8,14 +8,14 @@ use Rattle.wasm_tree.specs.declared.types.FuncType.{FuncType}
 use Rattle.wasm_tree.specs.declared.module.Import.{Import}
 use Rattle.wasm_tree.specs.declared.module.ImportDesc.{ImportDesc}
 use Rattle.wasm_tree.specs.declared.module.ImportDesc.TheVariants as im
-use Rattle.wasm_tree.specs.declared.module.ElemSeg.{ElemSeg}
 use Rattle.wasm_tree.specs.declared.module.Module.{Module}
 use Rattle.wasm_meaning.specs.State.{Text, Pair}
 use Rattle.wasm_meaning.specs.Linking.{Part, Site, has_kind, pair_of, module_at, import_at, sites}
 use Rattle.wasm_tree.specs.Spaces.{space_of_import}
 use Rattle.wasm_meaning.specs.Environment.{Environment, FuncKey, OwnKey, owned_of, owned_at}
-use Rattle.wasm_meaning.specs.World.{given, own_count, defined_count, defined_before, address_of, own_key, own_key_of, outside_thing, all_there, numbers, space}
-use Rattle.index_remap.specs.References.{with_declared, declared_refs}
+use Rattle.wasm_meaning.specs.World.{own_count, defined_count, defined_before, address_of, own_key, own_key_of, outside_thing, all_there, numbers, space}
+use Rattle.index_remap.specs.References.{declared_refs}
+use Rattle.world_simulation.proofs.Declared.{Keeps, keeps}
 use Rattle.export_names.specs.declared.mode.Mode.{Mode}
 use Rattle.export_names.specs.Names.{new_names}
 use Rattle.merge_terms.specs.Faults.{External, FuncOf, asked, asked_at, link_fault, stays}
@@ -32,33 +32,15 @@ use Rattle.base_lists.proofs.Options.{and_then_is}
 
 -- ---- with references declared ----
 
--- the second is the first, perhaps with more element segments
-pub record Keeps (m n : Module) : Type 0 where
-  pub types : n.types ≡ m.types
-  pub imports : n.imports ≡ m.imports
-  pub funcs : n.funcs ≡ m.funcs
-  pub tables : n.tables ≡ m.tables
-  pub mems : n.mems ≡ m.mems
-  pub globals : n.globals ≡ m.globals
-  pub exports : n.exports ≡ m.exports
-  pub start : n.start ≡ m.start
-  pub datas : n.datas ≡ m.datas
-  pub more : List ElemSeg
-  pub elems : n.elems ≡ m.elems ++ more
-
-keeps : (m : Module) (fs : List ℕ) → Keeps m (with_declared m fs)
-keeps m [] = record { types = refl; imports = refl; funcs = refl; tables = refl; mems = refl; globals = refl; exports = refl; start = refl; datas = refl; more = []; elems = sym (append-nil m.elems) }
-keeps m (f ∷ fs) = record { types = refl; imports = refl; funcs = refl; tables = refl; mems = refl; globals = refl; exports = refl; start = refl; datas = refl; more = _; elems = refl }
-
 -- the names of the merged module's exports
 abbrev pub names_of : List Part → Mode → List (Option Text)
 names_of parts mode = new_names mode (export_names parts)
 
-pub joined_keeps : (parts : List Part) (mode : Mode) → Keeps (merged parts (names_of parts mode)) (joined_module parts mode)
+pub joined_keeps : (parts : List Part) (mode : Mode) → Keeps (merged parts (names_of parts mode)) (joined_module parts mode) (declared_refs (merged parts (names_of parts mode)))
 unfolding joined_module
 joined_keeps parts mode = keeps (merged parts (names_of parts mode)) (declared_refs (merged parts (names_of parts mode)))
 
-pub count_kept : {m n : Module} → Keeps m n → (k : Space) → is_external k ≡ true → defined_count k n ≡ defined_count k m
+pub count_kept : {m n : Module} {fs : List ℕ} → Keeps m n fs → (k : Space) → is_external k ≡ true → defined_count k n ≡ defined_count k m
 count_kept q Functions e = ap length q.funcs
 count_kept q Tables e = ap length q.tables
 count_kept q Memories e = ap length q.mems
@@ -143,9 +125,9 @@ module _ (laws : SpaceLaws) (env : Environment) (parts : List Part) (linked : li
   moved_thing : (s : Site) (w : IsStaying parts s) → thing_in env (merged_types parts) (Some (record w.import { desc = merged_desc parts s w.of w.import.desc })) ≡ outside_thing (owned_of env) parts s
   moved_thing s w =
       let x = asked_there s w in
-      ap (λ o. option_and_then (λ key. given (owned_at (owned_of env) key)) o) (moved_key laws parts s w.of w.is_part (pair_of w.import) w.import.desc x.0 x.1)
-      ∙ sym (ap (λ o. option_and_then (λ m. option_and_then (λ i. option_and_then (λ key. given (owned_at (owned_of env) key)) (own_key m i)) (import_at parts s)) o) w.is_part
-      ∙ ap (λ o. option_and_then (λ i. option_and_then (λ key. given (owned_at (owned_of env) key)) (own_key w.of i)) o) w.at)
+      ap (λ o. option_and_then (λ key. owned_at (owned_of env) key) o) (moved_key laws parts s w.of w.is_part (pair_of w.import) w.import.desc x.0 x.1)
+      ∙ sym (ap (λ o. option_and_then (λ m. option_and_then (λ i. option_and_then (λ key. owned_at (owned_of env) key) (own_key m i)) (import_at parts s)) o) w.is_part
+      ∙ ap (λ o. option_and_then (λ i. option_and_then (λ key. owned_at (owned_of env) key) (own_key w.of i)) o) w.at)
 
   chosen_addresses : (k : Space) → addresses env (merged_types parts) (filter_map (merged_import parts) (staying parts)) k ≡ all_there (site_address env parts k) (staying_of parts k)
   unfolding staying_of

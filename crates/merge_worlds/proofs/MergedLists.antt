@@ -1,35 +1,29 @@
 -- The lists of the merged module, by part; and what comes after these in it: a function that calls starts, and a segment that declares references.
-use Rattle.std.proofs.Common.{◌≡◌, ℕ, zero, suc, ◌+◌, ◌<◌, List, [], ◌∷◌, ◌++◌, map, length, Some, ◌&&◌, refl, sym, ap, ap₂, subst, ◌∙◌, arith, option_and_then, append-nil}
-use Rattle.std.specs.Prelude.{not, slice_get}
-use Rattle.std.specs.List.{flat_map, range_with_len}
+use Rattle.std.proofs.Common.{◌≡◌, ℕ, ◌+◌, ◌<◌, List, ◌++◌, map, length, Some, sym, ap, subst, ◌∙◌, option_and_then}
+use Rattle.std.specs.Prelude.{slice_get}
+use Rattle.std.specs.List.{flat_map}
 use Rattle.std.proofs.lemmas.Option.{slice_get_within}
-use Rattle.base_lists.proofs.Options.{all_there_from}
+use Rattle.base_lists.proofs.Options.{all_there_from, AllThere}
 use Rattle.base_lists.proofs.Places.{slice_get_there, append_right}
-use Rattle.wasm_tree.specs.declared.module.ConstExpr.TheVariants as const
-use Rattle.wasm_tree.specs.declared.module.ElemMode.TheVariants as elem
 use Rattle.wasm_tree.specs.declared.module.ElemSeg.{ElemSeg}
 use Rattle.wasm_tree.specs.declared.module.Func as tree
 use Rattle.wasm_tree.specs.declared.module.Module.{Module}
-use Rattle.wasm_tree.specs.Spaces.{funcs_of}
 use Rattle.wasm_valid.specs.declared.kinds.ItemKind.TheVariants as kind
 use Rattle.wasm_valid.specs.Validity.{IsValid}
-use Rattle.wasm_meaning.specs.State.{RefVal, FuncRef, Ref, Inst, Code, Elem}
-use Rattle.wasm_meaning.specs.Values.{ref_of, declared}
+use Rattle.wasm_meaning.specs.State.{Inst, Code}
+use Rattle.wasm_meaning.specs.Values.{declared}
 use Rattle.wasm_meaning.specs.Linking.{Part}
-use Rattle.wasm_meaning.specs.Environment.{Environment}
-use Rattle.wasm_meaning.specs.World.{given, all_there, new_func, new_elem, ref_value, elem_of}
-use Rattle.index_remap.specs.References.{is_among, body_refs, outside_refs, declared_refs, with_declared, declaring}
-use Rattle.world_simulation.specs.Alone.{one}
-use Rattle.base_lists.proofs.Options.{AllThere}
+use Rattle.wasm_meaning.specs.World.{new_func}
+use Rattle.index_remap.specs.References.{declared_refs}
 use Rattle.export_names.specs.declared.mode.Mode.{Mode}
-use Rattle.export_names.specs.Names.{new_names}
 use Rattle.merge_terms.specs.Joined.{joined_module}
 use Rattle.index_remap.specs.Renumbered as renumbered
 use Rattle.wasm_tree.specs.declared.module.GlobalDef.{GlobalDef}
 use Rattle.wasm_tree.specs.declared.module.DataSeg.{DataSeg}
-use Rattle.merge_terms.specs.Merged.{map_of, by_part_from, starts, start_calls, defined_funcs, export_names, merged, merged_global, merged_elem, merged_data}
+use Rattle.merge_terms.specs.Merged.{map_of, by_part_from, starts, start_calls, defined_funcs, merged, merged_global, merged_elem, merged_data}
 use Rattle.merge_worlds.proofs.ValueGiven.{Laws}
-use Rattle.base_lists.proofs.Filtered.{kept_is}
+use Rattle.merge_worlds.proofs.MergedAlone.{joined_keeps, names_of}
+use Rattle.world_simulation.proofs.Declared.{last_segments}
 
 -- ---- a part's definitions in the merged module ----
 
@@ -45,36 +39,9 @@ part_elems parts p m = map (merged_elem parts p (map_of parts p m)) m.elems
 abbrev pub part_datas : List Part → ℕ → Module → List DataSeg
 part_datas parts p m = map (merged_data parts p (map_of parts p m)) m.datas
 
--- ---- one more segment ----
-
-abbrev pub last_segments : List ℕ → List ElemSeg
-last_segments [] = []
-last_segments (f ∷ fs) = declaring (f ∷ fs) ∷ []
-
--- a module with its references declared has one more segment, and all else as it was
-record Declared (m u : Module) (fs : List ℕ) : Type 0 where
-  funcs : u.funcs ≡ m.funcs
-  tables : u.tables ≡ m.tables
-  mems : u.mems ≡ m.mems
-  globals : u.globals ≡ m.globals
-  elems : u.elems ≡ m.elems ++ last_segments fs
-  datas : u.datas ≡ m.datas
-  space : funcs_of u ≡ funcs_of m
-
-declared_is : (m : Module) (fs : List ℕ) → Declared m (with_declared m fs) fs
-declared_is m [] = record { funcs = refl; tables = refl; mems = refl; globals = refl; elems = sym (append-nil m.elems); datas = refl; space = refl }
-declared_is m (f ∷ fs) = record { funcs = refl; tables = refl; mems = refl; globals = refl; elems = refl; datas = refl; space = refl }
-
--- the merged module before its references are declared
-abbrev undeclared : List Part → Mode → Module
-undeclared parts mode = merged parts (new_names mode (export_names parts))
-
+-- the functions that it declares
 abbrev pub declared_in : List Part → Mode → List ℕ
-declared_in parts mode = declared_refs (undeclared parts mode)
-
-joined_is : (parts : List Part) (mode : Mode) → Declared (undeclared parts mode) (joined_module parts mode) (declared_in parts mode)
-unfolding joined_module
-joined_is parts mode = declared_is (undeclared parts mode) (declared_refs (undeclared parts mode))
+declared_in parts mode = declared_refs (merged parts (names_of parts mode))
 
 -- ---- the lists ----
 
@@ -88,42 +55,7 @@ pub record ByPart (parts : List Part) (mode : Mode) : Type 0 where
 
 pub by_part_is : (parts : List Part) (mode : Mode) → ByPart parts mode
 unfolding merged defined_funcs
-by_part_is parts mode = let d = joined_is parts mode in record { funcs = d.funcs; tables = d.tables; mems = d.mems; globals = d.globals; elems = d.elems; datas = d.datas }
-
--- ---- what they add to the store ----
-
-range_below : (a n k x : ℕ) → slice_get (range_with_len a n) k ≡ Some x → x < a + n
-range_below a zero k x h = cc
-range_below a (suc n) zero x h = let same : a ≡ x = cc in omega (arith, same)
-range_below a (suc n) (suc k) x h = let l = range_below (a + 1) n k x h in omega (arith, l)
-
-declared_below : (parts : List Part) (mode : Mode) (n f : ℕ) → slice_get (declared_in parts mode) n ≡ Some f → f < length (funcs_of (joined_module parts mode))
-declared_below parts mode n f h =
-    let m = undeclared parts mode in
-    let k = kept_is (λ f. is_among (body_refs m.funcs) f && not (is_among (outside_refs m) f)) (range_with_len 0 (length (funcs_of m))) n f (h) in
-    let l = range_below 0 (length (funcs_of m)) k.1.0 f k.1.1 in
-    let e = ap length (joined_is parts mode).space in
-    omega (arith, l, e)
-
-module _ (env : Environment) (u : Module) (j : Inst) where
-  refs_there : (fs : List ℕ) → ((n f : ℕ) → slice_get fs n ≡ Some f → f < length j.funcs) → (xs : List RefVal) × (all_there (ref_value env (one u) (j ∷ []) 0) (map const.Func fs) ≡ Some xs)
-  refs_there [] h = ([], refl)
-  refs_there (f ∷ fs) h =
-      let a = slice_get_there j.funcs f (h zero f refl) in
-      let rest = refs_there fs (λ n. h (suc n)) in
-      let first : ref_value env (one u) (j ∷ []) 0 (const.Func f) ≡ Some (FuncRef (Some a.0)) = ap (λ o. option_and_then (λ v. given (ref_of v)) (option_and_then (λ a. Some (Ref (FuncRef (Some a)))) o)) a.1 in
-      (FuncRef (Some a.0) ∷ rest.0, ap₂ (λ o p. option_and_then (λ y. option_and_then (λ ys. Some (y ∷ ys)) p) o) first rest.1)
-
-  segments_there : (fs : List ℕ) → ((n f : ℕ) → slice_get fs n ≡ Some f → f < length j.funcs) → (es : List Elem) × (all_there (elem_of env (one u) (j ∷ []) 0) (last_segments fs) ≡ Some es)
-  segments_there [] h = ([], refl)
-  segments_there (f ∷ fs) h =
-      let r = refs_there (f ∷ fs) h in
-      (new_elem elem.Declarative r.0 ∷ [], ap (λ o. option_and_then (λ e. Some (e ∷ [])) (option_and_then (λ items. Some (new_elem elem.Declarative items)) o)) r.1)
-
--- the segment that declares references is allocated
-pub last_elems : (env : Environment) (parts : List Part) (mode : Mode) (j : Inst) → length j.funcs ≡ length (funcs_of (joined_module parts mode)) →
-    (es : List Elem) × (all_there (elem_of env (one (joined_module parts mode)) (j ∷ []) 0) (last_segments (declared_in parts mode)) ≡ Some es)
-last_elems env parts mode j e = segments_there env (joined_module parts mode) j (declared_in parts mode) (λ n f h. let l = declared_below parts mode n f h in omega (arith, l, e))
+by_part_is parts mode = let d = joined_keeps parts mode in record { funcs = d.funcs; tables = d.tables; mems = d.mems; globals = d.globals; elems = d.elems; datas = d.datas }
 
 -- ---- the function that calls starts ----
 

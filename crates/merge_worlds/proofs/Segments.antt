@@ -25,18 +25,18 @@ use Rattle.wasm_meaning.specs.Linking.{Part, module_at}
 use Rattle.wasm_meaning.specs.Environment.{Environment}
 use Rattle.wasm_meaning.specs.World.{Task, given, numbers, insts_from, tasks_in, elem_tasks, data_tasks, defined_before}
 use Rattle.index_remap.specs.Related.{Pairing, OptRel, none, some, ValRel, number, reference}
-use Rattle.index_remap.specs.References.{declaring, with_declared, declared_refs}
 use Rattle.world_simulation.specs.Alone.{one}
 use Rattle.world_simulation.proofs.Places.{map_length, opt_at}
 use Rattle.export_names.specs.declared.mode.Mode.{Mode}
-use Rattle.export_names.specs.Names.{new_names}
-use Rattle.merge_terms.specs.Merged.{by_part, map_of, merged, merged_const, merged_elem, merged_elem_mode, merged_data, merged_data_mode, export_names}
+use Rattle.merge_terms.specs.Merged.{by_part, map_of, merged_const, merged_elem, merged_elem_mode, merged_data, merged_data_mode}
 use Rattle.merge_terms.specs.Joined.{joined_module}
 use Rattle.merge_validity.specs.Joinable.{CanBeJoined}
 use Rattle.merge_worlds.specs.Shared.{shared_count, sharing}
 use Rattle.merge_worlds.specs.Instances.{SameAddress, PartAgrees, InstancesAgree}
 use Rattle.merge_worlds.proofs.SegmentTurns.{elems_start, datas_start, elems_next, datas_next, task, PartStands, by_parts}
 use Rattle.merge_worlds.proofs.ValueShared.{shares}
+use Rattle.merge_worlds.proofs.MergedLists.{declared_in, by_part_is}
+use Rattle.world_simulation.proofs.Declared.{last_segments}
 use Rattle.merge_worlds.proofs.Values.{value_rel}
 use Rattle.merge_worlds.proofs.ValueGiven.{Laws}
 use Rattle.world_simulation.specs.Definitions.{Instantiated, values_in}
@@ -52,36 +52,6 @@ use Rattle.merge_worlds.proofs.Instances.{map_elems, map_datas}
 -- each item of a valid module holds
 abbrev pub ValidItemsHold : Type 0
 ValidItemsHold = (m : Module) → IsValid m → (k : ItemKind) (i : ℕ) → i < count_of m true k → HoldsAt m k i
-
--- ---- the segments of the merged module ----
-
-data Declares : List ElemSeg → Type 0 where
-  nothing_more : Declares []
-  one_more : (fs : List ℕ) → Declares (declaring fs ∷ [])
-
-record JoinedElems (parts : List Part) (mode : Mode) : Type 0 where
-  more : List ElemSeg
-  declares : Declares more
-  are : (joined_module parts mode).elems ≡ by_part (λ p m. map (merged_elem parts p (map_of parts p m)) m.elems) parts ++ more
-
-joined_elems : (parts : List Part) (mode : Mode) → JoinedElems parts mode
-unfolding joined_module merged
-joined_elems parts mode = let r = go (declared_refs (merged parts (new_names mode (export_names parts)))) in record { more = r.0; declares = r.1; are = r.2 }
-  where
-    all : List ElemSeg
-    all = by_part (λ p m. map (merged_elem parts p (map_of parts p m)) m.elems) parts
-
-    go : (fs : List ℕ) → (more : List ElemSeg) × Declares more × ((with_declared (merged parts (new_names mode (export_names parts))) fs).elems ≡ all ++ more)
-    go [] = ([], nothing_more, sym (append-nil all))
-    go (f ∷ fs) = (declaring (f ∷ fs) ∷ [], one_more (f ∷ fs), refl)
-
-joined_datas : (parts : List Part) (mode : Mode) → (joined_module parts mode).datas ≡ by_part (λ p m. map (merged_data parts p (map_of parts p m)) m.datas) parts
-unfolding joined_module merged
-joined_datas parts mode = go (declared_refs (merged parts (new_names mode (export_names parts))))
-  where
-    go : (fs : List ℕ) → (with_declared (merged parts (new_names mode (export_names parts))) fs).datas ≡ by_part (λ p m. map (merged_data parts p (map_of parts p m)) m.datas) parts
-    go [] = refl
-    go (f ∷ fs) = refl
 
 -- ---- what the map of a part says of segments ----
 
@@ -196,22 +166,22 @@ module _ (laws : Laws) (env : Environment) (parts : List Part) (mode : Mode) (ca
       }
 
   -- a declarative segment has no partner
-  declared_alone : {more : List ElemSeg} → Declares more → (ns : List ℕ) → InOrder ElemPartners FirstElem SecondElem [] (tasks_in 0 j ns more)
-  declared_alone nothing_more [] = ends
-  declared_alone nothing_more (n ∷ ns) = ends
-  declared_alone (one_more fs) [] = ends
-  declared_alone (one_more fs) (n ∷ []) = only_second segments.ElemAlone.declarative ends
-  declared_alone (one_more fs) (n ∷ k ∷ ns) = only_second segments.ElemAlone.declarative ends
+  declared_alone : (fs ns : List ℕ) → InOrder ElemPartners FirstElem SecondElem [] (tasks_in 0 j ns (last_segments fs))
+  declared_alone [] [] = ends
+  declared_alone [] (n ∷ ns) = ends
+  declared_alone (f ∷ fs) [] = ends
+  declared_alone (f ∷ fs) (n ∷ []) = only_second segments.ElemAlone.declarative ends
+  declared_alone (f ∷ fs) (n ∷ k ∷ ns) = only_second segments.ElemAlone.declarative ends
 
   pub elems_in_order : ElemsInOrder R env v w
   elems_in_order =
-      let e = joined_elems parts mode in
+      let more = last_segments (declared_in parts mode) in
       let zero_more : (q : ℕ) → q ≡ 0 + q = λ q. omega arith in
-      let all = by_parts ElemPartners FirstElem SecondElem j parts insts (λ m. m.elems) (λ i. i.elems) (λ p m. merged_elem parts p (map_of parts p m)) (defined_before ElementSegments parts) (elems_next parts) e.more (declared_alone e.declares)
+      let all = by_parts ElemPartners FirstElem SecondElem j parts insts (λ m. m.elems) (λ i. i.elems) (λ p m. merged_elem parts p (map_of parts p m)) (defined_before ElementSegments parts) (elems_next parts) more (declared_alone (declared_in parts mode))
       elems_stand 0 parts insts (λ q. ap (module_at parts) (zero_more q)) (λ q. ap (slice_get insts) (zero_more q)) in
-      let first : tasks_in 0 j (drop (defined_before ElementSegments parts 0) j.elems) (by_part (λ p m. map (merged_elem parts p (map_of parts p m)) m.elems) parts ++ e.more) ≡ elem_tasks 0 M js =
-      ap (λ n. tasks_in 0 j (drop n j.elems) (by_part (λ p m. map (merged_elem parts p (map_of parts p m)) m.elems) parts ++ e.more)) (elems_start parts)
-      ∙ ap (tasks_in 0 j j.elems) (sym e.are) ∙ sym (append-nil (tasks_in 0 j j.elems whole.elems)) ∙ ap (elem_tasks 0 M) (sym agree.alone) in
+      let first : tasks_in 0 j (drop (defined_before ElementSegments parts 0) j.elems) (by_part (λ p m. map (merged_elem parts p (map_of parts p m)) m.elems) parts ++ more) ≡ elem_tasks 0 M js =
+      ap (λ n. tasks_in 0 j (drop n j.elems) (by_part (λ p m. map (merged_elem parts p (map_of parts p m)) m.elems) parts ++ more)) (elems_start parts)
+      ∙ ap (tasks_in 0 j j.elems) (sym (by_part_is parts mode).elems) ∙ sym (append-nil (tasks_in 0 j j.elems whole.elems)) ∙ ap (elem_tasks 0 M) (sym agree.alone) in
       subst (λ ts. InOrder ElemPartners FirstElem SecondElem ts (elem_tasks 0 M js)) (sym (elems_by 0 parts insts))
       (subst (λ ts. InOrder ElemPartners FirstElem SecondElem (tasks_by (λ m. m.elems) (λ i. i.elems) 0 parts insts) ts) first all)
 
@@ -265,6 +235,6 @@ module _ (laws : Laws) (env : Environment) (parts : List Part) (mode : Mode) (ca
       datas_stand 0 parts insts (λ q. ap (module_at parts) (zero_more q)) (λ q. ap (slice_get insts) (zero_more q)) in
       let first : tasks_in 0 j (drop (defined_before DataSegments parts 0) j.datas) (by_part (λ p m. map (merged_data parts p (map_of parts p m)) m.datas) parts ++ []) ≡ data_tasks 0 M js =
       ap (λ n. tasks_in 0 j (drop n j.datas) (by_part (λ p m. map (merged_data parts p (map_of parts p m)) m.datas) parts ++ [])) (datas_start parts)
-      ∙ ap (tasks_in 0 j j.datas) (append-nil _ ∙ sym (joined_datas parts mode)) ∙ sym (append-nil (tasks_in 0 j j.datas whole.datas)) ∙ ap (data_tasks 0 M) (sym agree.alone) in
+      ∙ ap (tasks_in 0 j j.datas) (append-nil _ ∙ sym (by_part_is parts mode).datas) ∙ sym (append-nil (tasks_in 0 j j.datas whole.datas)) ∙ ap (data_tasks 0 M) (sym agree.alone) in
       subst (λ ts. InOrder DataPartners FirstData SecondData ts (data_tasks 0 M js)) (sym (datas_by 0 parts insts))
       (subst (λ ts. InOrder DataPartners FirstData SecondData (tasks_by (λ m. m.datas) (λ i. i.datas) 0 parts insts) ts) first all)

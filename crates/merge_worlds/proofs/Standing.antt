@@ -1,29 +1,28 @@
 -- For what each entry of a part's index space stands, in the parts' world and in the merged module: for what a part defines, with its number among all
 -- definitions, or for an import that stays.
-use Rattle.std.proofs.Common.{◌≡◌, ◌∙◌, sym, ap, ap₂, subst, refl, ℕ, zero, suc, ◌+◌, ◌-◌, ◌<◌, ◌≤◌, List, [], ◌∷◌, length, Option, Some, None, Bool, true, cond, false, arith, option_and_then, slice_get, ◌&&◌}
+use Rattle.std.proofs.Common.{◌≡◌, ◌∙◌, sym, ap, ap₂, subst, refl, ℕ, zero, suc, ◌+◌, ◌-◌, ◌<◌, ◌≤◌, List, [], ◌∷◌, length, Option, Some, None, Bool, true, false, arith, option_and_then, slice_get, ◌&&◌}
 use Rattle.wasm_tree.specs.declared.space.Space.{Space}
 use Rattle.wasm_tree.specs.declared.space.Space.TheVariants.{Functions, Tables, Memories, Globals, Types, ElementSegments, DataSegments}
 use Rattle.std.specs.Prelude.{nat_eq, nat_lt}
 use Rattle.std.proofs.lemmas.Bool.{ltb-true, lt-ltb, eq-eqb}
 use Rattle.wasm_tree.specs.declared.module.Import.{Import}
 use Rattle.wasm_tree.specs.declared.module.Module.{Module}
-use Rattle.wasm_meaning.specs.Outcomes.{Gives}
 use Rattle.wasm_meaning.specs.Linking.{Part, Site, Defined, Outside, has_kind, module_at, import_at, imports_of}
 use Rattle.wasm_tree.specs.declared.module.ImportDesc.{ImportDesc}
 use Rattle.wasm_tree.specs.declared.module.ImportDesc.TheVariants as im
 use Rattle.wasm_tree.specs.Spaces.{index_of_export, space_of_export, space_of_import}
-use Rattle.wasm_meaning.specs.Environment.{Environment, OwnKey, Thing, Owned, owned_of, look_up, same_key}
-use Rattle.wasm_meaning.specs.World.{given, own_count, defined_count, defined_before, base, thing_at, address_of, own_key, outside_thing, defined_thing, thing_of, imported_thing}
-use Rattle.index_remap.specs.Related.{Pairing, OptRel, none, some, ListRel}
-use Rattle.index_remap.specs.RelatedRuns.{ThingRel, a_func, a_table, a_memory, a_global, KeyRel}
+use Rattle.wasm_meaning.specs.Environment.{Environment, owned_of, same_key}
+use Rattle.wasm_meaning.specs.World.{own_count, defined_count, defined_before, base, thing_at, address_of, own_key, outside_thing, defined_thing, thing_of, imported_thing}
 use Rattle.merge_terms.specs.Faults.{link_fault}
 use Rattle.merge_terms.specs.Merged.{staying_of, new_index}
 use Rattle.merge_validity.specs.Ended.{EndsInside, EndsOutside, Ended, inside, outside, is_external}
 use Rattle.merge_validity.proofs.ByPart.{before, defined_is}
 use Rattle.merge_validity.proofs.Same.{kind_is}
+use Rattle.world_simulation.proofs.Owned.{look_rel}
+use Rattle.world_simulation.proofs.Single.{address_rel}
 use Rattle.world_simulation.specs.Owned.{SharesOwn, OwnEntitiesCorrespond}
 use Rattle.world_simulation.proofs.Defined.{defined_at}
-use Rattle.world_simulation.proofs.Places.{place_rel, opt_self}
+use Rattle.world_simulation.proofs.Places.{opt_self}
 use Rattle.merge_worlds.specs.Shared.{shared_count, is_shared, sharing}
 use Rattle.merge_worlds.proofs.SpaceLaws.{SpaceLaws}
 use Rattle.base_lists.proofs.Options.{and_then_is}
@@ -75,27 +74,6 @@ import_there k m x n h =
 
 -- ---- the environment's own ----
 
-found_at : (is : OwnKey → Bool) (xs : Owned) (x : Thing) → given (look_up is xs) ≡ Some x → (n : ℕ) × (key : OwnKey) × (slice_get xs n ≡ Some (key, x))
-found_at is [] x h = absurd (let k = h in cc)
-found_at is (y ∷ xs) x h = by (is y.0) h (λ h. found_at is xs x h)
-  where
-    by : (b : Bool) → given (cond b (Gives y.1) (look_up is xs)) ≡ Some x → (given (look_up is xs) ≡ Some x → (n : ℕ) × (key : OwnKey) × (slice_get xs n ≡ Some (key, x))) → (n : ℕ) × (key : OwnKey) × (slice_get (y ∷ xs) n ≡ Some (key, x))
-    by true h on = let same : y.1 ≡ x = cc in (0, y.0, ap {A = Thing} {B = Option (OwnKey × Thing)} (λ z. Some (y.0, z)) same)
-    by false h on = let r = on h in (suc r.0, r.1, r.2)
-
-pub thing_self : (R : Pairing) (xs : Owned) → ListRel (KeyRel R) xs xs → (is : OwnKey → Bool) (x : Thing) → given (look_up is xs) ≡ Some x → ThingRel R x x
-thing_self R xs r is x h =
-    let f = found_at is xs x h in
-    let k : KeyRel R (f.1, x) (f.1, x) = opt_self (place_rel r f.0) f.2 in
-    k.thing
-
-address_rel : (R : Pairing) (k : Space) {x y : Thing} → ThingRel R x y → OptRel (R.of k) (address_of k x) (address_of k y)
-address_rel R Functions (a_func p) = some p
-address_rel R Tables (a_table p) = some p
-address_rel R Memories (a_memory p) = some p
-address_rel R Globals (a_global p) = some p
-address_rel R k p = none
-
 module _ (env : Environment) (parts : List Part) where
   -- all that parts define of a kind
   abbrev pub total : Space → ℕ
@@ -136,7 +114,7 @@ module _ (env : Environment) (parts : List Part) where
       let m = and_then_is (module_at parts s.part) _ x.0 x.1 in
       let i = and_then_is (import_at parts s) _ x.0 m.2 in
       let key = and_then_is (own_key m.0 i.0) _ x.0 i.2 in
-      let r = thing_self (sharing env parts) (owned_of env) (law (is_shared env parts) env shares_own).owned (same_key key.0) x.0 key.2 in
+      let r = opt_self (look_rel (sharing env parts) env shares_own (same_key key.0) (law (is_shared env parts) env shares_own).owned) key.2 in
       let b : is_shared env parts k a a ≡ true = opt_self (address_rel (sharing env parts) k r) x.2 in
       shared_low k a a b
 

@@ -2,19 +2,16 @@
 use Rattle.std.proofs.Common.{◌≡◌, ℕ, zero, suc, ◌+◌, ◌-◌, ◌<◌, ◌≤◌, List, [], ◌∷◌, ◌++◌, map, length, Option, Some, None, Bool, true, false, cond, ◌⊎◌, inl, inr, refl, sym, ap, ◌∙◌, arith, option_and_then, slice_get}
 use Rattle.wasm_tree.specs.declared.space.Space.{Space}
 use Rattle.wasm_tree.specs.declared.space.Space.TheVariants.{Functions, Globals}
-use Rattle.wasm_tree.specs.Operands.{same_space}
 use Rattle.std.proofs.lemmas.Bool.{cases_lt}
-use Rattle.std.specs.List.{cons_option}
 use Rattle.wasm_tree.specs.declared.module.Import.{Import}
-use Rattle.wasm_tree.specs.declared.module.ImportDesc.{ImportDesc}
-use Rattle.wasm_tree.specs.declared.module.ImportDesc.TheVariants as im
 use Rattle.wasm_tree.specs.declared.module.ConstExpr.TheVariants as const
 use Rattle.wasm_tree.specs.declared.module.Module.{Module}
-use Rattle.wasm_tree.specs.Spaces.{func_of, imported_funcs, funcs_of, space_of_import}
+use Rattle.wasm_tree.specs.Spaces.{imported_funcs, funcs_of}
 use Rattle.wasm_meaning.specs.State.{Inst}
 use Rattle.wasm_meaning.specs.Linking.{Read, places, has_kind, imports_of, space_index}
 use Rattle.wasm_meaning.specs.Environment.{Environment, own_globals}
 use Rattle.wasm_meaning.specs.World.{numbers, own_count, defined_count, space, inst_of, insts_from, value_of_read, value_of}
+use Rattle.world_simulation.proofs.Alone.{funcs_counted}
 use Rattle.world_simulation.specs.Alone.{one, address_in, import_places, addresses, read_in, SpacesAreImportsAndOwn, ReadsStay}
 use Rattle.world_simulation.proofs.Places.{map_length}
 use Rattle.world_simulation.proofs.Instancing.{IsInst, inst_is}
@@ -54,16 +51,6 @@ import_at k (i ∷ is) from y n h = by (λ y h. import_at k is (suc from) y n h)
         let r = on y h in
         let d = r.is in
         record { at = suc r.at; import = r.import; is = omega (arith, d); got = r.got; index = ap (λ b. cond b (suc (space_index is r.at k)) (space_index is r.at k)) e ∙ r.index }
-
-funcs_counted : (is : List Import) (n : ℕ) → length (places (has_kind Functions) is n) ≡ length (imported_funcs is)
-funcs_counted [] n = refl
-funcs_counted (i ∷ is) n = go i.desc (funcs_counted is (suc n))
-  where
-    go : (d : ImportDesc) → length (places (has_kind Functions) is (suc n)) ≡ length (imported_funcs is) → length (cond (same_space Functions (space_of_import d)) (n ∷ places (has_kind Functions) is (suc n)) (places (has_kind Functions) is (suc n))) ≡ length (cons_option (func_of d) (imported_funcs is))
-    go (im.Func x) h = ap suc h
-    go (im.Table x) h = h
-    go (im.Memory x) h = h
-    go (im.Global x) h = h
 
 -- the global.get of an import reads that import
 read_here : (is : List Import) (y : ℕ) → y < length (import_places Globals is) → read_in is (const.Global y) ≡ Some (record { part = 0; expr = const.Global y })

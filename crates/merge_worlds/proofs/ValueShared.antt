@@ -4,15 +4,10 @@ use Rattle.wasm_tree.specs.declared.space.Space.{Space}
 use Rattle.wasm_tree.specs.declared.space.Space.TheVariants.{Functions, Tables, Memories, Globals}
 use Rattle.std.specs.Prelude.{nat_eq, nat_lt}
 use Rattle.std.proofs.lemmas.Bool.{eqb-true, eq-eqb, ltb-true, lt-ltb, and_from}
-use Rattle.wasm_tree.specs.declared.types.RefType.{RefType}
-use Rattle.wasm_tree.specs.declared.types.RefType.TheVariants as reft
-use Rattle.wasm_meaning.specs.Values.{null_of}
 use Rattle.wasm_meaning.specs.Linking.{Part}
-use Rattle.wasm_meaning.specs.Environment.{Environment, own_funcs}
-use Rattle.index_remap.specs.Related.{Pairing, OneToOne, none, ListRel, RefRel, func, extern, FuncRel, own}
+use Rattle.wasm_meaning.specs.Environment.{Environment}
+use Rattle.index_remap.specs.Related.{Pairing, OneToOne}
 use Rattle.world_simulation.specs.Owned.{SharesOwn, OwnCorrespond, OwnEntitiesCorrespond}
-use Rattle.world_simulation.proofs.Owned.{flat_rel}
-use Rattle.world_simulation.proofs.Places.{self_rel, maps_rel}
 use Rattle.merge_worlds.specs.Shared.{shared_count, is_shared, sharing}
 use Rattle.base_lists.proofs.Bools.{left_true, right_true}
 
@@ -31,7 +26,7 @@ module _ (env : Environment) (parts : List Part) where
 
   -- ---- the environment's own entities ----
 
-  shares_own : SharesOwn R env
+  pub shares_own : SharesOwn R env
   shares_own = record {
     funcs = λ a h. shares Functions a (omega arith);
     tables = λ a h. shares Tables a (omega arith);
@@ -41,10 +36,3 @@ module _ (env : Environment) (parts : List Part) where
 
   pub own_entities : OwnEntitiesCorrespond → OwnCorrespond R env
   own_entities law = law (is_shared env parts) env shares_own
-
-  pub own_funcs_rel : ListRel (FuncRel R) (own_funcs env) (own_funcs env)
-  own_funcs_rel = flat_rel _ (λ o. maps_rel _ _ (self_rel o.funcs (λ ty. own))) env
-
-  pub null_rel : (ty : RefType) → RefRel R (null_of ty) (null_of ty)
-  null_rel reft.Func = func none
-  null_rel reft.Extern = extern

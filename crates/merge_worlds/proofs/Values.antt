@@ -1,5 +1,5 @@
 -- A constant expression of a part and what it becomes in the merged module have related values.
-use Rattle.std.proofs.Common.{◌≡◌, ℕ, List, [], ◌∷◌, Option, Some, true, refl, sym, ap, subst, ◌∙◌, option_and_then, slice_get, unwrap_or}
+use Rattle.std.proofs.Common.{◌≡◌, ℕ, List, [], ◌∷◌, Some, true, sym, ap, subst, ◌∙◌, option_and_then, slice_get, unwrap_or}
 use Rattle.wasm_tree.specs.declared.space.Space.TheVariants.{Functions}
 use Rattle.std.specs.Prelude.{slice_index}
 use Rattle.std.proofs.lemmas.Bool.{ltb-true}
@@ -8,14 +8,12 @@ use Rattle.wasm_tree.specs.declared.module.ConstExpr.{ConstExpr}
 use Rattle.wasm_tree.specs.declared.module.ConstExpr.TheVariants as const
 use Rattle.wasm_tree.specs.declared.module.Module.{Module}
 use Rattle.wasm_valid.specs.Constants.{const_type}
-use Rattle.wasm_num.specs.Operations.{Width, W32, W64}
-use Rattle.wasm_meaning.specs.State.{FuncRef, Val, Ref, Inst}
-use Rattle.wasm_meaning.specs.Values.{ref_of, num_of}
+use Rattle.wasm_meaning.specs.State.{FuncRef, Ref, Inst}
 use Rattle.wasm_meaning.specs.Linking.{Part, Read, module_at, read_of}
 use Rattle.wasm_meaning.specs.Environment.{Environment, own_globals}
-use Rattle.wasm_meaning.specs.World.{given, insts_from, const_value, value_of_read, value_of, ref_value, number_value}
+use Rattle.wasm_meaning.specs.World.{insts_from, const_value, value_of_read, value_of}
 use Rattle.index_remap.specs.Renumbered.{new_const, fits_const}
-use Rattle.index_remap.specs.Related.{Pairing, OptRel, none, some, RefRel, func, ValRel, number, reference}
+use Rattle.index_remap.specs.Related.{Pairing, OptRel, some, func, ValRel, number, reference}
 use Rattle.world_simulation.specs.Alone.{one}
 use Rattle.world_simulation.proofs.Places.{then_rel, opt_at, place_rel}
 use Rattle.export_names.specs.declared.mode.Mode.{Mode}
@@ -24,7 +22,8 @@ use Rattle.merge_terms.specs.Merged.{map_of, merged_read, merged_const}
 use Rattle.merge_validity.specs.Joinable.{CanBeJoined}
 use Rattle.merge_worlds.specs.Instances.{PartAgrees, InstancesAgree}
 use Rattle.merge_worlds.specs.Shared.{sharing}
-use Rattle.merge_worlds.proofs.ValueShared.{shares, null_rel, own_entities}
+use Rattle.world_simulation.proofs.Owned.{null_rel}
+use Rattle.merge_worlds.proofs.ValueShared.{shares, own_entities}
 use Rattle.merge_worlds.proofs.ValueAlone.{global_value}
 use Rattle.merge_worlds.proofs.ValueGiven.{Laws, EachAgrees}
 
@@ -40,21 +39,12 @@ module _ (laws : Laws) (env : Environment) (parts : List Part) (mode : Mode) whe
   abbrev R : Pairing
   R = sharing env parts
 
-  ref_rel : {v w : Val} → ValRel R v w → OptRel (RefRel R) (given (ref_of v)) (given (ref_of w))
-  ref_rel number = none
-  ref_rel (reference r) = some r
-
-  number_same : (w : Width) {v z : Val} → ValRel R v z → given (num_of w v) ≡ given (num_of w z)
-  number_same w number = refl
-  number_same W32 (reference r) = refl
-  number_same W64 (reference r) = refl
-
   module _ (can : CanBeJoined parts mode) (insts : List Inst) (j : Inst) (each : EachAgrees env parts insts j) (are : insts_from env (one (joined_module parts mode)) 0 (one (joined_module parts mode)) ≡ Some (j ∷ [])) where
     -- what is read
     read_rel : (q : ℕ) (m : Module) (i : Inst) → PartAgrees env parts q m i j → (x : ConstExpr) → fits_const (map_of parts q m) x ≡ true → OptRel (ValRel R) (const_value (own_globals env) i x) (value_of env M (j ∷ []) 0 (new_const (map_of parts q m) x))
     read_rel q m i k (const.I32 v) h = some number
     read_rel q m i k (const.I64 v) h = some number
-    read_rel q m i k (const.Null ty) h = some (reference (null_rel env parts ty))
+    read_rel q m i k (const.Null ty) h = some (reference (null_rel R ty))
     read_rel q m i k (const.Func f) h =
         let a = k.funcs.each f (ltb-true _ _ h) in
         opt_at (ap (λ o. option_and_then (λ a. Some (Ref (FuncRef (Some a)))) o) a.first) (ap (λ o. option_and_then (λ a. Some (Ref (FuncRef (Some a)))) o) a.second) (some (reference (func (some (shares env parts Functions a.address a.shared)))))
@@ -72,16 +62,6 @@ module _ (laws : Laws) (env : Environment) (parts : List Part) (mode : Mode) whe
         opt_at (ap (λ o. option_and_then (value_of_read (own_globals env) insts) o) r.1 ∙ ap (λ o. option_and_then (λ i. const_value (own_globals env) i r.0.expr) o) i.1)
         (ap (value_of env M (j ∷ []) 0) (const_is parts p e r.0 h.of r.1 h.is_part))
         (read_rel r.0.part h.of i.0 i.2 r.0.expr h.fits)
-
-    pub reference_rel : (p : ℕ) (m : Module) (e : ConstExpr) (ty : ValType) → module_at parts p ≡ Some m → const_type m e ≡ Some ty → OptRel (RefRel R) (ref_value env parts insts p e) (ref_value env M (j ∷ []) 0 (merged_const parts p e))
-    reference_rel p m e ty is t = then_rel (const_rel p m e ty is t) (λ _ _ v. ref_rel v)
-
-    pub offset_same : (p : ℕ) (m : Module) (e : ConstExpr) (ty : ValType) → module_at parts p ≡ Some m → const_type m e ≡ Some ty → number_value env parts insts p e ≡ number_value env M (j ∷ []) 0 (merged_const parts p e)
-    offset_same p m e ty is t = go (const_rel p m e ty is t)
-      where
-        go : {o p : Option Val} → OptRel (ValRel R) o p → option_and_then (λ v. given (num_of W32 v)) o ≡ option_and_then (λ v. given (num_of W32 v)) p
-        go none = refl
-        go (some v) = number_same W32 v
 
   -- ---- for instances that agree ----
 

@@ -1,10 +1,10 @@
 -- A start does not see what it stands on.
-use Rattle.std.proofs.Common.{◌≡◌, ℕ, List, [], ◌∷◌, ◌++◌, length, Some, Bool, true, false, cond, refl, ap}
+use Rattle.std.proofs.Common.{◌≡◌, ℕ, List, [], ◌∷◌, ◌++◌, length, Option, Some, None, Bool, true, false, cond, option_and_then, slice_get, refl, ap, subst}
 use Rattle.std.specs.Prelude.{nat_eq}
 use Rattle.wasm_tree.specs.declared.types.ValType.{ValType}
 use Rattle.wasm_tree.specs.declared.types.FuncType.{FuncType}
 use Rattle.wasm_num.specs.Operations.{W32}
-use Rattle.wasm_meaning.specs.Outcomes.{Outcome, Gives, Traps, IllTyped, bind, at, overwrite}
+use Rattle.wasm_meaning.specs.Outcomes.{Outcome, Gives, Traps, IllTyped, given, bind, at, overwrite}
 use Rattle.wasm_meaning.specs.State.{Pair, FuncRef, Val, Num, Ref, Func, Code, Own, Placeholder, Store, Change, Keep, SetGlobal, SetMemory, SetTable, DropElem, DropData, Growth, GrowMemory, GrowTable, Level, Frame, Entry, Running, Caller, Host, Starter, Mark, Opening, Waiting, Ended, Growing, Act, Goes, Calls, AsksGrow, Ends, Next, Ran, CallsOwn, WaitsGrowth, CallsPlaceholder, EndsCall}
 use Rattle.wasm_meaning.specs.Values.{pop_typed, null_of, with_values}
 use Rattle.wasm_meaning.specs.Memory.{memory_may_grow}
@@ -12,7 +12,7 @@ use Rattle.wasm_meaning.specs.Tables.{table_may_grow}
 use Rattle.wasm_meaning.specs.Control.{type_at}
 use Rattle.wasm_meaning.specs.Step.{act, frame_of, give_levels, give, enter, enter_at, changed, perform, to_mark}
 use Rattle.wasm_meaning.specs.Environment.{Shown, Thing, FuncAt, TableAt, MemoryAt, GlobalAt, func_of, received, received_ref, received_all}
-use Rattle.wasm_meaning.specs.Run.{Move, Call, Invoke, Take, Answer, Refuse, Grant, Deny, Get, Size, Set, Extend, Phase, Run, Out, viewed_at, place_at, show_all, show, trapped_to, after, called, is_mark, delivered, answered, refused, grown_memory, grown_table, granted, decided, shows, got, size_of, does, byte_of, set, extended, moved, at_entries, or_bad, next_move, tick}
+use Rattle.wasm_meaning.specs.Run.{Move, Call, Invoke, Take, Answer, Refuse, Grant, Deny, Get, Size, Set, Extend, Phase, Run, Out, Transition, Steps, Makes, made, viewed_at, place_at, show_all, show, trapped_to, after, called, is_mark, delivered, answered, refused, grown_memory, grown_table, granted, decided, shows, got, size_of, does, byte_of, set, extended, moved, at_entries, or_bad, next_move, tick}
 use Rattle.wasm_meaning.specs.Below.{IsBottom, GivesNothing, a_frame, a_call, over, Unseen, goes_on, ended, trapped}
 
 -- ---- outcomes ----
@@ -27,7 +27,17 @@ bind_same (Gives a) h = h a
 bind_same Traps h = traps
 bind_same IllTyped h = ill_typed
 
-cond_same : {A B : Type 0} {P : A → B → Type 0} {o p : Outcome A} {u v : Outcome B} (b : Bool) → OutcomeRel P o u → OutcomeRel P p v → OutcomeRel P (cond b o p) (cond b u v)
+-- ---- moves, which may not be taken ----
+
+data OptRel {A B : Type 0} (P : A → B → Type 0) : Option A → Option B → Type 0 where
+  some : {a : A} {b : B} → P a b → OptRel P (Some a) (Some b)
+  none : OptRel P None None
+
+then_same : {A B C : Type 0} {P : B → C → Type 0} {f : A → Option B} {g : A → Option C} (o : Option A) → ((a : A) → OptRel P (f a) (g a)) → OptRel P (option_and_then f o) (option_and_then g o)
+then_same (Some a) h = h a
+then_same None h = none
+
+cond_same : {A B : Type 0} {P : A → B → Type 0} {o p : Option A} {u v : Option B} (b : Bool) → OptRel P o u → OptRel P p v → OptRel P (cond b o p) (cond b u v)
 cond_same true h k = h
 cond_same false h k = k
 
@@ -155,101 +165,110 @@ module _ (cs ds : List Entry) (low : IsBottom cs) (other : IsBottom ds) (p q : P
 
   -- ---- moves ----
 
-  abbrev Moved : Run → Outcome Out → Outcome Out → Type 0
-  Moved r = OutcomeRel (Alike r.store.funcs)
+  -- a step of the machine over both, or steps that the runs make
+  data Turn (funcs : List Func) : Transition → Transition → Type 0 where
+    steps : {o u : Outcome Next} (r : Run) (es : List Entry) → r.store.funcs ≡ funcs → GivesNothing es → OutcomeRel (NextRel r.store.funcs) o u → Turn funcs (Steps (first r es) o) (Steps (second r es) u)
+    makes : {o u : Out} → Alike funcs o u → Turn funcs (Makes o) (Makes u)
+
+  made_below : {funcs : List Func} {t u : Transition} → Turn funcs t u → Alike funcs (made t) (made u)
+  made_below (steps {o = o} {u = u} r es n g x) = subst (λ fs. Alike fs (after (first r es) o) (after (second r es) u)) n (after_below r es g x)
+  made_below (makes x) = x
+
+  abbrev Moved : Run → Option Transition → Option Transition → Type 0
+  Moved r = OptRel (Turn r.store.funcs)
 
   called_below : (r : Run) (es fs : List Entry) → GivesNothing es → GivesNothing fs → (xs : List Shown) (a : ℕ) → Moved r (called (first r es) (fs ++ cs) xs a) (called (second r es) (fs ++ ds) xs a)
-  called_below r es fs g h xs a = bind_same (type_at r.store a) (λ t. bind_same (received_all r.owned r.shown t.params xs) (λ vs. gives (after_below r es g (enter_at_below r.store a vs fs h))))
+  called_below r es fs g h xs a = then_same (given (type_at r.store a)) (λ t. then_same (received_all r.owned r.shown t.params xs) (λ vs. some (steps r es refl g (enter_at_below r.store a vs fs h))))
 
-  delivered_low : (r : Run) (es : List Entry) → GivesNothing es → Alike r.store.funcs (delivered (first r es) [] cs) (delivered (second r es) [] ds)
-  delivered_low r es g = rw (unmarked cs low.traps, unmarked ds other.traps, low.gives r.store, other.gives r.store) (after_below r es g (gives (ran_out refl)))
+  delivered_low : (r : Run) (es : List Entry) → GivesNothing es → Turn r.store.funcs (delivered (first r es) [] cs) (delivered (second r es) [] ds)
+  delivered_low r es g = rw (unmarked cs low.traps, unmarked ds other.traps, low.gives r.store, other.gives r.store) (steps r es refl g (gives (ran_out refl)))
 
-  delivered_below : (r : Run) (es : List Entry) → GivesNothing es → (vs : List Val) {fs : List Entry} → GivesNothing fs → Alike r.store.funcs (delivered (first r es) vs (fs ++ cs)) (delivered (second r es) vs (fs ++ ds))
-  delivered_below r es g vs (a_frame n) = after_below r es g (give_below r.store vs (a_frame n))
-  delivered_below r es g vs a_call = after_below r es g ill_typed
-  delivered_below r es g vs (over {e = Running f} o h) = after_below r es g (give_below r.store vs (over {e = Running f} refl h))
-  delivered_below r es g vs (over {e = Mark} {es = fs} o h) = goes_on r (Ended vs ∷ Mark ∷ fs) refl (over refl (over refl h))
+  delivered_below : (r : Run) (es : List Entry) → GivesNothing es → (vs : List Val) {fs : List Entry} → GivesNothing fs → Turn r.store.funcs (delivered (first r es) vs (fs ++ cs)) (delivered (second r es) vs (fs ++ ds))
+  delivered_below r es g vs (a_frame n) = steps r es refl g (give_below r.store vs (a_frame n))
+  delivered_below r es g vs a_call = steps r es refl g ill_typed
+  delivered_below r es g vs (over {e = Running f} o h) = steps r es refl g (give_below r.store vs (over {e = Running f} refl h))
+  delivered_below r es g vs (over {e = Mark} {es = fs} o h) = makes (goes_on r (Ended vs ∷ Mark ∷ fs) refl (over refl (over refl h)))
   delivered_below r es g vs (over {e = Opening xs} o h) = cc
-  delivered_below r es g vs (over {e = Waiting ts} o h) = after_below r es g ill_typed
-  delivered_below r es g vs (over {e = Ended ws} o h) = after_below r es g ill_typed
-  delivered_below r es g vs (over {e = Growing x} o h) = after_below r es g ill_typed
+  delivered_below r es g vs (over {e = Waiting ts} o h) = steps r es refl g ill_typed
+  delivered_below r es g vs (over {e = Ended ws} o h) = steps r es refl g ill_typed
+  delivered_below r es g vs (over {e = Growing x} o h) = steps r es refl g ill_typed
 
   answered_lowest : (r : Run) (es : List Entry) → GivesNothing es → (xs : List Shown) → Moved r (answered (first r es) xs (Waiting [] ∷ cs)) (answered (second r es) xs (Waiting [] ∷ ds))
-  answered_lowest r es g [] = gives (delivered_low r es g)
-  answered_lowest r es g (x ∷ xs) = ill_typed
+  answered_lowest r es g [] = some (delivered_low r es g)
+  answered_lowest r es g (x ∷ xs) = none
 
   answered_below : (r : Run) (es : List Entry) → GivesNothing es → (xs : List Shown) {fs : List Entry} → GivesNothing fs → Moved r (answered (first r es) xs (fs ++ cs)) (answered (second r es) xs (fs ++ ds))
-  answered_below r es g xs (a_frame n) = ill_typed
+  answered_below r es g xs (a_frame n) = none
   answered_below r es g xs a_call = answered_lowest r es g xs
-  answered_below r es g xs (over {e = Running f} o h) = ill_typed
-  answered_below r es g xs (over {e = Mark} o h) = ill_typed
-  answered_below r es g xs (over {e = Opening ys} o h) = ill_typed
-  answered_below r es g xs (over {e = Waiting ts} o h) = bind_same (received_all r.owned r.shown ts xs) (λ vs. gives (delivered_below r es g vs h))
-  answered_below r es g xs (over {e = Ended ws} o h) = ill_typed
-  answered_below r es g xs (over {e = Growing x} o h) = ill_typed
+  answered_below r es g xs (over {e = Running f} o h) = none
+  answered_below r es g xs (over {e = Mark} o h) = none
+  answered_below r es g xs (over {e = Opening ys} o h) = none
+  answered_below r es g xs (over {e = Waiting ts} o h) = then_same (received_all r.owned r.shown ts xs) (λ vs. some (delivered_below r es g vs h))
+  answered_below r es g xs (over {e = Ended ws} o h) = none
+  answered_below r es g xs (over {e = Growing x} o h) = none
 
   refused_below : (r : Run) (es : List Entry) → GivesNothing es → {fs : List Entry} → GivesNothing fs → Moved r (refused (first r es) (fs ++ cs)) (refused (second r es) (fs ++ ds))
-  refused_below r es g (a_frame n) = ill_typed
-  refused_below r es g a_call = gives (after_below r es g traps)
-  refused_below r es g (over {e = Running f} o h) = ill_typed
-  refused_below r es g (over {e = Mark} o h) = ill_typed
-  refused_below r es g (over {e = Opening ys} o h) = ill_typed
-  refused_below r es g (over {e = Waiting ts} o h) = gives (after_below r es g traps)
-  refused_below r es g (over {e = Ended ws} o h) = ill_typed
-  refused_below r es g (over {e = Growing x} o h) = ill_typed
+  refused_below r es g (a_frame n) = none
+  refused_below r es g a_call = some (steps r es refl g traps)
+  refused_below r es g (over {e = Running f} o h) = none
+  refused_below r es g (over {e = Mark} o h) = none
+  refused_below r es g (over {e = Opening ys} o h) = none
+  refused_below r es g (over {e = Waiting ts} o h) = some (steps r es refl g traps)
+  refused_below r es g (over {e = Ended ws} o h) = none
+  refused_below r es g (over {e = Growing x} o h) = none
 
   granted_below : (r : Run) (es : List Entry) → GivesNothing es → (x : Growth) {fs : List Entry} → GivesNothing fs → Moved r (granted (first r es) x (fs ++ cs)) (granted (second r es) x (fs ++ ds))
-  granted_below r es g (GrowMemory a n) h = bind_same (at r.store.mems a) (λ m. gives (delivered_below (record r { store = changed r.store (SetMemory a (grown_memory m n)) }) es g (Num W32 m.pages ∷ []) h))
-  granted_below r es g (GrowTable a n v) h = bind_same (at r.store.tables a) (λ t. gives (delivered_below (record r { store = changed r.store (SetTable a (grown_table t n v)) }) es g (Num W32 (length t.slots) ∷ []) h))
+  granted_below r es g (GrowMemory a n) h = then_same (given (at r.store.mems a)) (λ m. some (delivered_below (record r { store = changed r.store (SetMemory a (grown_memory m n)) }) es g (Num W32 m.pages ∷ []) h))
+  granted_below r es g (GrowTable a n v) h = then_same (given (at r.store.tables a)) (λ t. some (delivered_below (record r { store = changed r.store (SetTable a (grown_table t n v)) }) es g (Num W32 (length t.slots) ∷ []) h))
 
   decided_below : (r : Run) (es : List Entry) → GivesNothing es → (m : Move) (x : Growth) {fs : List Entry} → GivesNothing fs → Moved r (decided (first r es) m x (fs ++ cs)) (decided (second r es) m x (fs ++ ds))
   decided_below r es g Grant x h = granted_below r es g x h
-  decided_below r es g Deny x h = gives (delivered_below r es g (Num W32 4294967295 ∷ []) h)
-  decided_below r es g (Call name xs) x h = ill_typed
-  decided_below r es g _ x h = ill_typed
+  decided_below r es g Deny x h = some (delivered_below r es g (Num W32 4294967295 ∷ []) h)
+  decided_below r es g (Call name xs) x h = none
+  decided_below r es g _ x h = none
 
   shows_below : (r : Run) (es : List Entry) → GivesNothing es → (v : Val) → Moved r (shows (first r es) v) (shows (second r es) v)
-  shows_below r es g v = gives (goes_on (record r { shown = (show r.store r.shown v).1 }) es refl g)
+  shows_below r es g v = some (makes (goes_on (record r { shown = (show r.store r.shown v).1 }) es refl g))
 
   got_below : (r : Run) (es : List Entry) → GivesNothing es → (x : Thing) (n : ℕ) → Moved r (got (first r es) x n) (got (second r es) x n)
-  got_below r es g (FuncAt a) n = ill_typed
-  got_below r es g (TableAt a) n = bind_same (at r.store.tables a) (λ t. bind_same (at t.slots n) (λ v. shows_below r es g (Ref v)))
-  got_below r es g (MemoryAt a) n = bind_same (at r.store.mems a) (λ m. bind_same (at m.bytes n) (λ b. shows_below r es g (Num W32 b)))
-  got_below r es g (GlobalAt a) n = bind_same (at r.store.globals a) (λ v. cond_same (nat_eq n 0) (shows_below r es g v.value) ill_typed)
+  got_below r es g (FuncAt a) n = none
+  got_below r es g (TableAt a) n = then_same (given (at r.store.tables a)) (λ t. then_same (slice_get t.slots n) (λ v. shows_below r es g (Ref v)))
+  got_below r es g (MemoryAt a) n = then_same (given (at r.store.mems a)) (λ m. then_same (slice_get m.bytes n) (λ b. shows_below r es g (Num W32 b)))
+  got_below r es g (GlobalAt a) n = then_same (given (at r.store.globals a)) (λ v. cond_same (nat_eq n 0) (shows_below r es g v.value) none)
 
   size_below : (r : Run) (es : List Entry) → GivesNothing es → (x : Thing) → Moved r (size_of (first r es) x) (size_of (second r es) x)
-  size_below r es g (FuncAt a) = ill_typed
-  size_below r es g (TableAt a) = bind_same (at r.store.tables a) (λ t. shows_below r es g (Num W32 (length t.slots)))
-  size_below r es g (MemoryAt a) = bind_same (at r.store.mems a) (λ m. shows_below r es g (Num W32 m.pages))
-  size_below r es g (GlobalAt a) = bind_same (at r.store.globals a) (λ v. shows_below r es g (Num W32 1))
+  size_below r es g (FuncAt a) = none
+  size_below r es g (TableAt a) = then_same (given (at r.store.tables a)) (λ t. shows_below r es g (Num W32 (length t.slots)))
+  size_below r es g (MemoryAt a) = then_same (given (at r.store.mems a)) (λ m. shows_below r es g (Num W32 m.pages))
+  size_below r es g (GlobalAt a) = then_same (given (at r.store.globals a)) (λ v. shows_below r es g (Num W32 1))
 
   does_below : (r : Run) (es : List Entry) → GivesNothing es → (c : Change) → Moved r (does (first r es) c) (does (second r es) c)
-  does_below r es g c = gives (goes_on (record r { store = changed r.store c }) es (funcs_stay r.store c) g)
+  does_below r es g c = some (makes (goes_on (record r { store = changed r.store c }) es (funcs_stay r.store c) g))
 
   set_below : (r : Run) (es : List Entry) → GivesNothing es → (x : Thing) (n : ℕ) (v : Shown) → Moved r (set (first r es) x n v) (set (second r es) x n v)
-  set_below r es g (FuncAt a) n v = ill_typed
-  set_below r es g (TableAt a) n v = bind_same (at r.store.tables a) (λ t. bind_same (received_ref r.owned r.shown t.ty v) (λ w. bind_same (overwrite t.slots n (w ∷ [])) (λ slots. does_below r es g (SetTable a (record t { slots = slots })))))
-  set_below r es g (MemoryAt a) n v = bind_same (at r.store.mems a) (λ m. bind_same (byte_of v) (λ b. bind_same (overwrite m.bytes n (b ∷ [])) (λ bytes. does_below r es g (SetMemory a (record m { bytes = bytes })))))
-  set_below r es g (GlobalAt a) n v = bind_same (at r.store.globals a) (λ x. cond_same (nat_eq n 0) (cond_same x.ty.mutable (bind_same (received r.owned r.shown x.ty.ty v) (λ w. does_below r es g (SetGlobal a (record x { value = w })))) ill_typed) ill_typed)
+  set_below r es g (FuncAt a) n v = none
+  set_below r es g (TableAt a) n v = then_same (given (at r.store.tables a)) (λ t. then_same (received_ref r.owned r.shown t.ty v) (λ w. then_same (given (overwrite t.slots n (w ∷ []))) (λ slots. does_below r es g (SetTable a (record t { slots = slots })))))
+  set_below r es g (MemoryAt a) n v = then_same (given (at r.store.mems a)) (λ m. then_same (byte_of v) (λ b. then_same (given (overwrite m.bytes n (b ∷ []))) (λ bytes. does_below r es g (SetMemory a (record m { bytes = bytes })))))
+  set_below r es g (GlobalAt a) n v = then_same (given (at r.store.globals a)) (λ x. cond_same (nat_eq n 0) (cond_same x.ty.mutable (then_same (received r.owned r.shown x.ty.ty v) (λ w. does_below r es g (SetGlobal a (record x { value = w })))) none) none)
 
   extended_below : (r : Run) (es : List Entry) → GivesNothing es → (x : Thing) (n : ℕ) → Moved r (extended (first r es) x n) (extended (second r es) x n)
-  extended_below r es g (FuncAt a) n = ill_typed
-  extended_below r es g (TableAt a) n = bind_same (at r.store.tables a) (λ t. cond_same (table_may_grow t n) (does_below r es g (SetTable a (grown_table t n (null_of t.ty)))) ill_typed)
-  extended_below r es g (MemoryAt a) n = bind_same (at r.store.mems a) (λ m. cond_same (memory_may_grow m n) (does_below r es g (SetMemory a (grown_memory m n))) ill_typed)
-  extended_below r es g (GlobalAt a) n = ill_typed
+  extended_below r es g (FuncAt a) n = none
+  extended_below r es g (TableAt a) n = then_same (given (at r.store.tables a)) (λ t. cond_same (table_may_grow t n) (does_below r es g (SetTable a (grown_table t n (null_of t.ty)))) none)
+  extended_below r es g (MemoryAt a) n = then_same (given (at r.store.mems a)) (λ m. cond_same (memory_may_grow m n) (does_below r es g (SetMemory a (grown_memory m n))) none)
+  extended_below r es g (GlobalAt a) n = none
 
   moved_below : (r : Run) (es : List Entry) → GivesNothing es → (m : Move) → Moved r (moved (first r es) m) (moved (second r es) m)
-  moved_below r es g (Call name xs) = bind_same (viewed_at r name) (λ x. bind_same (func_of x) (called_below r es (Mark ∷ es) g (over refl g) xs))
-  moved_below r es g (Invoke number xs) = bind_same (at r.shown number) (called_below r es (Mark ∷ es) g (over refl g) xs)
-  moved_below r es g (Take name) = bind_same (viewed_at r name) (λ x. bind_same (func_of x) (λ a. shows_below r es g (Ref (FuncRef (Some a)))))
+  moved_below r es g (Call name xs) = then_same (viewed_at r name) (λ x. then_same (func_of x) (called_below r es (Mark ∷ es) g (over refl g) xs))
+  moved_below r es g (Invoke number xs) = then_same (slice_get r.shown number) (called_below r es (Mark ∷ es) g (over refl g) xs)
+  moved_below r es g (Take name) = then_same (viewed_at r name) (λ x. then_same (func_of x) (λ a. shows_below r es g (Ref (FuncRef (Some a)))))
   moved_below r es g (Answer xs) = answered_below r es g xs g
   moved_below r es g Refuse = refused_below r es g g
-  moved_below r es g Grant = ill_typed
-  moved_below r es g Deny = ill_typed
-  moved_below r es g (Get x n) = bind_same (place_at r x) (λ t. got_below r es g t n)
-  moved_below r es g (Size x) = bind_same (place_at r x) (size_below r es g)
-  moved_below r es g (Set x n v) = bind_same (place_at r x) (λ t. set_below r es g t n v)
-  moved_below r es g (Extend x n) = bind_same (place_at r x) (λ t. extended_below r es g t n)
+  moved_below r es g Grant = none
+  moved_below r es g Deny = none
+  moved_below r es g (Get x n) = then_same (place_at r x) (λ t. got_below r es g t n)
+  moved_below r es g (Size x) = then_same (place_at r x) (size_below r es g)
+  moved_below r es g (Set x n v) = then_same (place_at r x) (λ t. set_below r es g t n v)
+  moved_below r es g (Extend x n) = then_same (place_at r x) (λ t. extended_below r es g t n)
 
   at_entries_below : (r : Run) (es : List Entry) → GivesNothing es → (m : Move) {fs : List Entry} → GivesNothing fs → Moved r (at_entries (first r es) m (fs ++ cs)) (at_entries (second r es) m (fs ++ ds))
   at_entries_below r es g m (a_frame n) = moved_below r es g m
@@ -261,13 +280,12 @@ module _ (cs ds : List Entry) (low : IsBottom cs) (other : IsBottom ds) (p q : P
   at_entries_below r es g m (over {e = Ended ws} o h) = moved_below r es g m
   at_entries_below r es g m (over {e = Growing x} o h) = decided_below r es g m x h
 
-  or_bad_below : {o u : Outcome Out} (r : Run) (es : List Entry) → GivesNothing es → Moved r o u → Alike r.store.funcs (or_bad (first r es) o) (or_bad (second r es) u)
-  or_bad_below r es g (gives x) = x
-  or_bad_below r es g traps = goes_on r es refl g
-  or_bad_below r es g ill_typed = goes_on r es refl g
+  or_bad_below : {o u : Option Transition} (r : Run) (es : List Entry) → GivesNothing es → Moved r o u → Turn r.store.funcs (or_bad (first r es) o) (or_bad (second r es) u)
+  or_bad_below r es g (some x) = x
+  or_bad_below r es g none = makes (goes_on r es refl g)
 
-  next_move_below : (r : Run) (es : List Entry) → GivesNothing es → (ms : List Move) → Alike r.store.funcs (next_move (first r es) ms) (next_move (second r es) ms)
-  next_move_below r es g [] = goes_on r es refl g
+  next_move_below : (r : Run) (es : List Entry) → GivesNothing es → (ms : List Move) → Turn r.store.funcs (next_move (first r es) ms) (next_move (second r es) ms)
+  next_move_below r es g [] = makes (goes_on r es refl g)
   next_move_below r es g (m ∷ ms) = let x = record r { moves = ms } in or_bad_below x es g (at_entries_below x es g m g)
 
   -- ---- one step of a run ----
@@ -277,10 +295,10 @@ module _ (cs ds : List Entry) (low : IsBottom cs) (other : IsBottom ds) (p q : P
 
   pub tick_below : (r : Run) {es : List Entry} → GivesNothing es → Alike r.store.funcs (tick (first r es)) (tick (second r es))
   tick_below r (a_frame {f = f} n) = step_below r f [] (a_frame n)
-  tick_below r a_call = next_move_below r (Waiting [] ∷ []) a_call r.moves
+  tick_below r a_call = made_below (next_move_below r (Waiting [] ∷ []) a_call r.moves)
   tick_below r (over {e = Running f} {es = es} o g) = step_below r f es (over refl g)
-  tick_below r (over {e = Mark} {es = es} o g) = goes_on r (Mark ∷ es) refl (over refl g)
+  tick_below r (over {e = Mark} {es = es} o g) = after_below r (Mark ∷ es) (over refl g) ill_typed
   tick_below r (over {e = Opening xs} o g) = cc
-  tick_below r (over {e = Waiting ts} {es = es} o g) = next_move_below r (Waiting ts ∷ es) (over refl g) r.moves
+  tick_below r (over {e = Waiting ts} {es = es} o g) = made_below (next_move_below r (Waiting ts ∷ es) (over refl g) r.moves)
   tick_below r (over {e = Ended vs} {es = es} o g) = after_below r (Ended vs ∷ es) (over refl g) (give_below r.store vs g)
-  tick_below r (over {e = Growing x} {es = es} o g) = next_move_below r (Growing x ∷ es) (over refl g) r.moves
+  tick_below r (over {e = Growing x} {es = es} o g) = made_below (next_move_below r (Growing x ∷ es) (over refl g) r.moves)

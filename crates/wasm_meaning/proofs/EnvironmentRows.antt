@@ -1,5 +1,5 @@
 -- What an environment is and is not, and which it links with which world, computed.
-use Rattle.std.proofs.Common.{◌≡◌, refl, sym, ap, subst, ◌∙◌, ℕ, zero, suc, ◌+◌, ◌*◌, ◌<◌, ◌≤◌, List, [], ◌∷◌, length, Some, None, Bool, true, false, ◌&&◌, arith}
+use Rattle.std.proofs.Common.{◌≡◌, refl, ap, ◌∙◌, ℕ, zero, suc, ◌*◌, List, [], ◌∷◌, length, Some, None, Bool, true, false, ◌&&◌}
 use Rattle.std.specs.Prelude.{pos, nat_le, nat_eq, nat_lt}
 use Rattle.std.proofs.lemmas.Bool.{eq-eqb}
 use Rattle.wasm_tree.specs.declared.types.RefType.TheVariants as reft
@@ -13,10 +13,11 @@ use Rattle.wasm_tree.specs.declared.module.DataMode.TheVariants as data'
 use Rattle.wasm_tree.specs.declared.module.ElemMode.TheVariants as elem
 use Rattle.wasm_tree.specs.declared.module.Module.{Module}
 use Rattle.wasm_meaning.specs.Outcomes.{copies}
-use Rattle.wasm_meaning.specs.State.{Text, Pair}
-use Rattle.wasm_meaning.specs.Environment.{Environment, Offer, Shown, Number, Null, OwnFunc, ExternNumber, Function, OwnTable, OwnMemory, OwnGlobal, all_of, where_there, is_within, is_environment, is_memory}
-use Rattle.wasm_meaning.specs.World.{World, links}
-use Rattle.wasm_meaning.proofs.SmallRuns.{f, g, a, b, e, m, i32, to_i32, nothing, empty, code, num, gives, page, three, plain}
+use Rattle.wasm_meaning.specs.State.{Text}
+use Rattle.wasm_meaning.specs.Environment.{Offer, Shown, Number, Null, OwnFunc, ExternNumber, Function, OwnTable, OwnMemory, all_of, where_there, is_within, is_environment, is_memory}
+use Rattle.wasm_meaning.specs.World.{links}
+use Rattle.wasm_meaning.proofs.Slices.{copies_length}
+use Rattle.wasm_meaning.proofs.SmallRuns.{f, g, a, e, m, i32, to_i32, nothing, empty, code, num, gives, three, plain}
 
 -- ---- what is offered ----
 
@@ -71,10 +72,6 @@ all_kinds_under_one_pair = refl
 
 -- ---- memories of several pages ----
 
-so_many_copies : (n : ℕ) → length (copies {A = ℕ} n 0) ≡ n
-so_many_copies zero = refl
-so_many_copies (suc n) = ap suc (so_many_copies n)
-
 zeros_are_bytes : (n : ℕ) → all_of (λ b. nat_lt b 256) (copies n 0) ≡ true
 zeros_are_bytes zero = refl
 zeros_are_bytes (suc n) = zeros_are_bytes n
@@ -85,7 +82,7 @@ both e f = rw e f
 -- a memory of so many pages of zeros, where its limits let it have them
 zeros_are_a_memory : (limits : Limits) (n : ℕ) → is_within n limits ≡ true → where_there (λ most. nat_le most 65536) limits.max ≡ true → nat_le n 65536 ≡ true → is_memory (pages_of_zeros limits n) ≡ true
 zeros_are_a_memory limits n size most few =
-    both size (both most (both few (both (ap (λ k. nat_eq k (65536 * n)) (so_many_copies (65536 * n)) ∙ eq-eqb (65536 * n) (65536 * n) refl) (zeros_are_bytes (65536 * n)))))
+    both size (both most (both few (both (ap (λ k. nat_eq k (65536 * n)) (copies_length (65536 * n) 0) ∙ eq-eqb (65536 * n) (65536 * n) refl) (zeros_are_bytes (65536 * n)))))
 
 -- and none with other bytes than these pages have
 no : (x : Bool) {y : Bool} → y ≡ false → (x && y) ≡ false
@@ -94,7 +91,7 @@ no false e = refl
 
 other_sizes_are_none : (limits : Limits) (n k : ℕ) → nat_eq k (65536 * n) ≡ false → is_memory (record { limits = limits; pages = n; bytes = copies k 0 }) ≡ false
 other_sizes_are_none limits n k e =
-    no (is_within n limits) (no (where_there (λ most. nat_le most 65536) limits.max) (no (nat_le n 65536) (ap (λ x. x && all_of (λ b. nat_lt b 256) (copies k 0)) (ap (λ j. nat_eq j (65536 * n)) (so_many_copies k) ∙ e))))
+    no (is_within n limits) (no (where_there (λ most. nat_le most 65536) limits.max) (no (nat_le n 65536) (ap (λ x. x && all_of (λ b. nat_lt b 256) (copies k 0)) (ap (λ j. nat_eq j (65536 * n)) (copies_length k 0) ∙ e))))
 
 a_great_byte_is_none : (limits : Limits) (n k : ℕ) → is_memory (record { limits = limits; pages = n; bytes = 256 ∷ copies k 0 }) ≡ false
 a_great_byte_is_none limits n k = no (is_within n limits) (no (where_there (λ most. nat_le most 65536) limits.max) (no (nat_le n 65536) (no (nat_eq (length (256 ∷ copies k 0)) (65536 * n)) refl)))

@@ -11,3 +11,5 @@ mod TellingWorlds
 pub mod Walks
 pub mod Linked
 mod Below
+pub mod Slices
+mod Touches

@@ -1,5 +1,5 @@
 -- Small runs under a loader, computed.
-use Rattle.std.proofs.Common.{◌≡◌, refl, ℕ, List, [], ◌∷◌, ◌++◌, Some, true}
+use Rattle.std.proofs.Common.{◌≡◌, refl, ℕ, List, [], ◌∷◌, ◌++◌, Some, None, true}
 use Rattle.std.specs.Prelude.{pos}
 use Rattle.wasm_num.specs.declared.BinOp.TheVariants as bin
 use Rattle.wasm_tree.specs.declared.types.RefType.TheVariants as reft
@@ -15,8 +15,8 @@ use Rattle.wasm_tree.specs.declared.module.ElemMode.TheVariants as elem
 use Rattle.wasm_tree.specs.declared.module.Module.{Module}
 use Rattle.wasm_num.specs.Operations.{wrapped, un_from, un_to, un_value, bin_from, bin_to, bin_value}
 use Rattle.wasm_meaning.specs.Access.{load_to, load_width, loaded, store_from, stored}
-use Rattle.wasm_meaning.specs.Environment.{Number, Function}
-use Rattle.wasm_meaning.specs.Run.{Event, Move, Linked, LinkFault, InstanceTrapped, Asked, Returned, Trapped, Got, BadMove, Call, Answer, Get, Named}
+use Rattle.wasm_meaning.specs.Environment.{Environment, Number, Function}
+use Rattle.wasm_meaning.specs.Run.{Event, Move, Linked, LinkFault, InstanceTrapped, Asked, Returned, Trapped, Got, BadMove, Call, Invoke, Answer, Get, Named}
 use Rattle.wasm_meaning.specs.Loader.{LoaderWorld, events_loaded}
 use Rattle.wasm_meaning.proofs.SmallRuns.{f, g, a, b, e, m, i32, to_i32, nothing, empty, code, num, own}
 
@@ -62,8 +62,7 @@ counting = record (secondary (code 0 (i.GlobalGet 0 ∷ (num 1 ∷ (i.Bin bin.I3
 abbrev under : Module → Module → LoaderWorld
 under first second = record {
   primary = first;
-  secondary = second;
-  placeholders = ((b, g), to_i32) ∷ [];
+  secondaries = record { «module» = second; placeholders = ((b, g), to_i32) ∷ [] } ∷ [];
   slot_table = 0;
   view = (f, ex.Func 2) ∷ ((g, ex.Func 3) ∷ ((m, ex.Func 4) ∷ ((a, ex.Table 0) ∷ [])));
 }
@@ -120,6 +119,119 @@ a_function_of_another_type_is_not_called : shown (under primary (secondary (code
 unfolding out-Instr denote.Hole.Carrier.out wrapped un_from un_to un_value bin_from bin_to bin_value load_to load_width loaded store_from stored
 a_function_of_another_type_is_not_called = refl
 
-a_placeholder_of_another_type_is_no_match : shown (record (under primary moved) { placeholders = ((b, g), nothing) ∷ [] }) (call f ∷ []) ≡ LinkFault ∷ (BadMove ∷ [])
+a_placeholder_of_another_type_is_no_match : shown (record (under primary moved) { secondaries = record { «module» = moved; placeholders = ((b, g), nothing) ∷ [] } ∷ [] }) (call f ∷ []) ≡ LinkFault ∷ (BadMove ∷ [])
 unfolding out-Instr denote.Hole.Carrier.out wrapped un_from un_to un_value bin_from bin_to bin_value load_to load_width loaded store_from stored
 a_placeholder_of_another_type_is_no_match = refl
+
+-- ---- calls that moves and starts make ----
+
+-- its placeholder is what the view's f stands for, and no code calls it
+abbrev seen_placeholder : Module
+seen_placeholder = record empty {
+  imports = record { «module» = b; field = g; desc = im.Func 0 } ∷ [];
+  tables = two_entries ∷ [];
+  exports = record { name = f; desc = ex.Func 0 } ∷ (record { name = a; desc = ex.Table 0 } ∷ []);
+  elems = puts 0 0 ∷ [];
+}
+
+abbrev under_view : Module → Module → LoaderWorld
+under_view first second = record (under first second) { view = (f, ex.Func 0) ∷ ((a, ex.Table 0) ∷ []) }
+
+a_move_may_call_a_placeholder : shown (under_view seen_placeholder counting) (call f ∷ (call f ∷ [])) ≡ Linked ∷ (number 1 ∷ (number 2 ∷ []))
+unfolding out-Instr denote.Hole.Carrier.out wrapped un_from un_to un_value bin_from bin_to bin_value load_to load_width loaded store_from stored
+a_move_may_call_a_placeholder = refl
+
+-- the placeholder is shown as function 0 before it is loaded; the slot then holds another
+a_move_may_invoke_a_placeholder : shown (under_view seen_placeholder counting) (Get (Named a) 0 ∷ (Invoke 0 [] ∷ (Invoke 0 [] ∷ (Get (Named a) 0 ∷ [])))) ≡ Linked ∷ (Got (Function 0) ∷ (number 1 ∷ (number 2 ∷ (Got (Function 1) ∷ []))))
+unfolding out-Instr denote.Hole.Carrier.out wrapped un_from un_to un_value bin_from bin_to bin_value load_to load_width loaded store_from stored
+a_move_may_invoke_a_placeholder = refl
+
+-- while a call of the environment's function waits
+a_move_may_call_a_placeholder_while_another_waits : shown (record (under primary counting) { view = (g, ex.Func 3) ∷ ((f, ex.Func 1) ∷ []) }) (call g ∷ (call f ∷ (Answer (Number 1 ∷ []) ∷ []))) ≡ Linked ∷ (Asked (e, g) to_i32 [] ∷ (number 1 ∷ (number 2 ∷ [])))
+unfolding out-Instr denote.Hole.Carrier.out wrapped un_from un_to un_value bin_from bin_to bin_value load_to load_width loaded store_from stored
+a_move_may_call_a_placeholder_while_another_waits = refl
+
+-- with a value of another type it is not called, and nothing is loaded
+a_move_with_other_values_is_not_taken : shown (under_view seen_placeholder counting) (Call f (Number 1 ∷ []) ∷ (call f ∷ [])) ≡ Linked ∷ (BadMove ∷ (number 1 ∷ []))
+unfolding out-Instr denote.Hole.Carrier.out wrapped un_from un_to un_value bin_from bin_to bin_value load_to load_width loaded store_from stored
+a_move_with_other_values_is_not_taken = refl
+
+-- a placeholder that is still in its slot after the load traps, whoever calls it
+a_placeholder_that_stays_traps_for_a_move : shown (under_view seen_placeholder empty) (call f ∷ (call f ∷ [])) ≡ Linked ∷ (Trapped ∷ (Trapped ∷ []))
+unfolding out-Instr denote.Hole.Carrier.out wrapped un_from un_to un_value bin_from bin_to bin_value load_to load_width loaded store_from stored
+a_placeholder_that_stays_traps_for_a_move = refl
+
+-- the start is the placeholder, of type [] to []
+abbrev placeholder_starts : Module
+placeholder_starts = record seen_placeholder {
+  imports = record { «module» = e; field = m; desc = im.Func 2 } ∷ (record { «module» = b; field = g; desc = im.Func 2 } ∷ []);
+  exports = record { name = m; desc = ex.Func 0 } ∷ (record { name = a; desc = ex.Table 0 } ∷ []);
+  start = Some 1;
+  elems = puts 0 1 ∷ [];
+}
+
+abbrev under_start : Module → LoaderWorld
+under_start second = record { primary = placeholder_starts; secondaries = record { «module» = second; placeholders = ((b, g), nothing) ∷ [] } ∷ []; slot_table = 0; view = (a, ex.Table 0) ∷ [] }
+
+-- the environment has the function m of e
+abbrev own_nothing : Environment
+own_nothing = record { pair = (e, m); funcs = nothing ∷ []; table = None; memory = None; global = None } ∷ []
+
+-- what was moved calls it, by the primary's export
+abbrev asks_more : Module
+asks_more = record empty {
+  imports = record { «module» = b; field = m; desc = im.Func 2 } ∷ (record { «module» = b; field = a; desc = im.Table two_entries } ∷ []);
+  funcs = code 2 (i.Call 0 ∷ []) ∷ [];
+  elems = puts 0 1 ∷ [];
+}
+
+a_start_may_be_a_placeholder : events_loaded (under_start asks_more) own_nothing (Answer [] ∷ (Get (Named a) 0 ∷ [])) 60 ≡ Asked (e, m) nothing [] ∷ (Linked ∷ (Got (Function 0) ∷ []))
+unfolding out-Instr denote.Hole.Carrier.out wrapped un_from un_to un_value bin_from bin_to bin_value load_to load_width loaded store_from stored
+a_start_may_be_a_placeholder = refl
+
+a_start_that_stays_a_placeholder_traps : events_loaded (under_start empty) own_nothing [] 60 ≡ InstanceTrapped ∷ []
+unfolding out-Instr denote.Hole.Carrier.out wrapped un_from un_to un_value bin_from bin_to bin_value load_to load_width loaded store_from stored
+a_start_that_stays_a_placeholder_traps = refl
+
+-- ---- several secondaries ----
+
+-- function 0 is the placeholder of slot 0 and function 1 that of slot 1; f calls through slot 0, g through slot 1, and m calls the first placeholder itself
+abbrev two_placeholders : Module
+two_placeholders = record empty {
+  imports = record { «module» = b; field = f; desc = im.Func 0 } ∷ (record { «module» = b; field = g; desc = im.Func 0 } ∷ []);
+  funcs = code 0 (num 0 ∷ (i.CallIndirect 0 0 ∷ [])) ∷ (code 0 (num 1 ∷ (i.CallIndirect 0 0 ∷ [])) ∷ (code 0 (i.Call 0 ∷ []) ∷ []));
+  tables = two_entries ∷ [];
+  exports = record { name = a; desc = ex.Table 0 } ∷ [];
+  elems = puts 0 0 ∷ (puts 1 1 ∷ []);
+}
+
+abbrev under_two : Module → Module → LoaderWorld
+under_two first second = record {
+  primary = two_placeholders;
+  secondaries = record { «module» = first; placeholders = ((b, f), to_i32) ∷ [] } ∷ (record { «module» = second; placeholders = ((b, g), to_i32) ∷ [] } ∷ []);
+  slot_table = 0;
+  view = (f, ex.Func 2) ∷ ((g, ex.Func 3) ∷ ((m, ex.Func 4) ∷ ((a, ex.Table 0) ∷ [])));
+}
+
+-- what was moved counts its calls from this number on, and fills this slot
+abbrev counting_from : ℕ → ℕ → Module
+counting_from n slot = record (secondary (code 0 (i.GlobalGet 0 ∷ (num 1 ∷ (i.Bin bin.I32Add ∷ (i.GlobalSet 0 ∷ (i.GlobalGet 0 ∷ []))))) ∷ []) (puts slot 0 ∷ [])) {
+  globals = record { ty = record { ty = i32; mutable = true }; init = const.I32 (pos n) } ∷ [];
+}
+
+each_secondary_is_loaded_once_and_alone : shown (under_two (counting_from 10 0) (counting_from 20 1)) (call g ∷ (Get (Named a) 0 ∷ (Get (Named a) 1 ∷ (call f ∷ (call g ∷ (call m ∷ [])))))) ≡ Linked ∷ (number 21 ∷ (Got (Function 0) ∷ (Got (Function 1) ∷ (number 11 ∷ (number 22 ∷ (number 12 ∷ []))))))
+unfolding out-Instr denote.Hole.Carrier.out wrapped un_from un_to un_value bin_from bin_to bin_value load_to load_width loaded store_from stored
+each_secondary_is_loaded_once_and_alone = refl
+
+-- a moved function of the first calls through the slot of the second
+abbrev calls_the_other : Module
+calls_the_other = secondary (code 0 (num 1 ∷ (i.CallIndirect 0 0 ∷ [])) ∷ []) (puts 0 0 ∷ [])
+
+a_secondary_may_load_another : shown (under_two calls_the_other (counting_from 20 1)) (call f ∷ (call g ∷ [])) ≡ Linked ∷ (number 21 ∷ (number 22 ∷ []))
+unfolding out-Instr denote.Hole.Carrier.out wrapped un_from un_to un_value bin_from bin_to bin_value load_to load_width loaded store_from stored
+a_secondary_may_load_another = refl
+
+-- the first secondary fails to load, and the second is loaded all the same
+a_failed_load_leaves_the_others : shown (under_two (secondary (code 0 (num 7 ∷ []) ∷ []) (puts 2 0 ∷ [])) (counting_from 20 1)) (call f ∷ (call g ∷ (call f ∷ []))) ≡ Linked ∷ (Trapped ∷ (number 21 ∷ (Trapped ∷ [])))
+unfolding out-Instr denote.Hole.Carrier.out wrapped un_from un_to un_value bin_from bin_to bin_value load_to load_width loaded store_from stored
+a_failed_load_leaves_the_others = refl

@@ -501,7 +501,7 @@ abbrev secondary : ℕ → List ConstExpr → List Func → Module
 secondary slots items funcs = record pairs { imports = of_b a (im.Table (func_table slots)) ∷ []; funcs = funcs; elems = put_at 0 0 items ∷ [] }
 
 abbrev loaded_by : Module → Module → List (Pair × FuncType) → List (Text × ExportDesc) → LoaderWorld
-loaded_by first second placeholders view = record { primary = first; secondary = second; placeholders = placeholders; slot_table = 0; view = view }
+loaded_by first second placeholders view = record { primary = first; secondaries = record { «module» = second; placeholders = placeholders } ∷ []; slot_table = 0; view = view }
 
 abbrev one_slot : List (Pair × FuncType)
 one_slot = ((b, g), to_i32) ∷ []
@@ -603,8 +603,8 @@ a_placeholder_has_a_number : events_loaded (loaded_by calls_moved gives_moved on
 unfolding out-Instr denote.Hole.Carrier.out wrapped un_from un_to un_value bin_from bin_to bin_value load_to load_width loaded store_from stored
 a_placeholder_has_a_number = refl
 
--- where a move calls it nothing is loaded, and the call traps
-a_placeholder_that_a_move_calls : events_loaded (loaded_by calls_moved gives_moved one_slot (f_and a (ex.Table 0))) [] (Get (Named a) 0 ∷ (Invoke 0 [] ∷ (Get (Named a) 0 ∷ (Call f [] ∷ [])))) 60 ≡ Linked ∷ (Got (Function 0) ∷ (Trapped ∷ (Got (Function 0) ∷ (Returned (Number 7 ∷ []) ∷ []))))
+-- where a move calls it, that is answered as a call by code is, the loading included
+a_placeholder_that_a_move_calls : events_loaded (loaded_by calls_moved gives_moved one_slot (f_and a (ex.Table 0))) [] (Get (Named a) 0 ∷ (Invoke 0 [] ∷ (Get (Named a) 0 ∷ (Call f [] ∷ [])))) 60 ≡ Linked ∷ (Got (Function 0) ∷ (Returned (Number 7 ∷ []) ∷ (Got (Function 1) ∷ (Returned (Number 7 ∷ []) ∷ []))))
 unfolding out-Instr denote.Hole.Carrier.out wrapped un_from un_to un_value bin_from bin_to bin_value load_to load_width loaded store_from stored
 a_placeholder_that_a_move_calls = refl
 

@@ -1,13 +1,14 @@
 -- Calls, ends, branches and blocks (WebAssembly Core 2.0, sections 4.4.8 to 4.4.10).
-use Rattle.std.proofs.Common.{ℕ, List, [], ◌∷◌, ◌++◌, length, cond, drop, slice_get, unwrap_or}
+use Rattle.std.proofs.Common.{ℕ, List, [], ◌∷◌, ◌++◌, length, Option, Some, None, cond, drop, slice_get, unwrap_or}
 use Rattle.std.specs.Prelude.{nat_eq}
+use Rattle.base_lists.specs.Options.{◌>>=◌}
 use Rattle.wasm_tree.specs.declared.types.ValType.{ValType}
 use Rattle.wasm_tree.specs.declared.types.FuncType.{FuncType}
 use Rattle.wasm_tree.specs.declared.types.BlockType.{BlockType}
 use Rattle.wasm_tree.specs.declared.types.BlockType.TheVariants as bt
 use Rattle.wasm_tree.specs.declared.instr.Instr.{Instr}
 use Rattle.wasm_tree.specs.declared.instr.Instr.TheVariants as i
-use Rattle.wasm_meaning.specs.Outcomes.{Outcome, Gives, Traps, IllTyped, trapping, or_trap, bind, at, onto, split_at}
+use Rattle.wasm_meaning.specs.Outcomes.{Outcome, Gives, Traps, IllTyped, trapping, or_trap, given, bind, at, onto, split_at}
 use Rattle.wasm_num.specs.Operations.{W32}
 use Rattle.wasm_meaning.specs.State.{Pair, RefVal, FuncRef, ExternRef, Val, Inst, Func, Code, Own, Placeholder, Table, Store, Level, Env, Body, Act, Calls, Ends}
 use Rattle.wasm_meaning.specs.Values.{pop_num, pop_typed, go, with_values}
@@ -19,13 +20,13 @@ type_of_func (Code t i ls c) = t
 type_of_func (Own p t) = t
 type_of_func (Placeholder n t) = t
 
--- the environment's own function that stands there
-abbrev pub own_of : Func → Outcome (Pair × FuncType)
-own_of (Own p t) = Gives (p, t)
-own_of _ = IllTyped
+-- the environment's own function that stands there, if one does
+abbrev pub own_of : Func → Option (Pair × FuncType)
+own_of (Own p t) = Some (p, t)
+own_of _ = None
 
-abbrev pub own_at : Store → ℕ → Outcome (Pair × FuncType)
-own_at s a = bind (at s.funcs a) own_of
+abbrev pub own_at : Store → ℕ → Option (Pair × FuncType)
+own_at s a = given (at s.funcs a) >>= own_of
 
 abbrev pub type_at : Store → ℕ → Outcome FuncType
 type_at s a = bind (at s.funcs a) (λ f. Gives (type_of_func f))

@@ -1,5 +1,5 @@
 -- What an embedder offers to a world, and the values that it sees and passes.
-use Rattle.std.proofs.Common.{ℕ, suc, ◌*◌, ◌^◌, List, [], ◌∷◌, ◌++◌, map, length, Option, Some, None, Bool, true, false, cond, ◌&&◌}
+use Rattle.std.proofs.Common.{ℕ, suc, ◌*◌, ◌^◌, List, [], ◌∷◌, ◌++◌, map, length, Option, Some, None, Bool, true, false, cond, slice_get, ◌&&◌}
 use Rattle.std.specs.Prelude.{nat_eq, nat_lt, nat_le}
 use Rattle.wasm_tree.specs.declared.types.RefType.{RefType}
 use Rattle.wasm_tree.specs.declared.types.RefType.TheVariants as reft
@@ -9,7 +9,8 @@ use Rattle.wasm_tree.specs.declared.types.FuncType.{FuncType}
 use Rattle.wasm_tree.specs.declared.types.Limits.{Limits}
 use Rattle.wasm_tree.specs.declared.types.GlobalType.{GlobalType}
 use Rattle.wasm_num.specs.Operations.{W32, W64}
-use Rattle.wasm_meaning.specs.Outcomes.{Outcome, Gives, IllTyped, bind, at}
+use Rattle.base_lists.specs.Options.{◌>>=◌}
+use Rattle.wasm_meaning.specs.Outcomes.{given}
 use Rattle.wasm_meaning.specs.State.{Pair, RefVal, FuncRef, ExternRef, Val, Num, Ref, Func, Own, Table, Memory, Global}
 use Rattle.wasm_meaning.specs.Values.{ref_of}
 use Rattle.wasm_tree.specs.SameTypes.{same_func_type}
@@ -132,16 +133,16 @@ same_key (MemoryKey p) (MemoryKey q) = same_pair p q
 same_key (GlobalKey p) (GlobalKey q) = same_pair p q
 same_key _ _ = false
 
-abbrev pub look_up : {K : Type 0} → (K → Bool) → List (K × Thing) → Outcome Thing
-look_up is [] = IllTyped
-look_up is (x ∷ xs) = cond (is x.0) (Gives x.1) (look_up is xs)
+abbrev pub look_up : {K : Type 0} → (K → Bool) → List (K × Thing) → Option Thing
+look_up is [] = None
+look_up is (x ∷ xs) = cond (is x.0) (Some x.1) (look_up is xs)
 
-abbrev pub owned_at : Owned → OwnKey → Outcome Thing
+abbrev pub owned_at : Owned → OwnKey → Option Thing
 owned_at owned key = look_up (same_key key) owned
 
-abbrev pub func_of : Thing → Outcome ℕ
-func_of (FuncAt a) = Gives a
-func_of _ = IllTyped
+abbrev pub func_of : Thing → Option ℕ
+func_of (FuncAt a) = Some a
+func_of _ = None
 
 -- keys with addresses, counted from n
 abbrev pub addressed : (ℕ → Thing) → ℕ → List OwnKey → Owned
@@ -164,42 +165,42 @@ owned_of env =
 
 -- ---- values that the embedder passes ----
 
-abbrev pub func_value : Outcome ℕ → Outcome Val
-func_value address = bind address (λ a. Gives (Ref (FuncRef (Some a))))
+abbrev pub func_value : ℕ → Val
+func_value a = Ref (FuncRef (Some a))
 
 -- the value that is meant, where it is one of this type: own functions are those that are offered, and a function's number is its place among those shown
-abbrev pub received : Owned → (shown : List ℕ) → ValType → Shown → Outcome Val
-received owned shown valt.I32 (Number n) = cond (nat_lt n (2 ^ 32)) (Gives (Num W32 n)) IllTyped
-received owned shown valt.I64 (Number n) = cond (nat_lt n (2 ^ 64)) (Gives (Num W64 n)) IllTyped
-received owned shown (valt.Ref reft.Func) Null = Gives (Ref (FuncRef None))
-received owned shown (valt.Ref reft.Func) (OwnFunc pair ty) = bind (owned_at owned (FuncKey pair ty)) (λ thing. func_value (func_of thing))
-received owned shown (valt.Ref reft.Func) (Function number) = func_value (at shown number)
-received owned shown (valt.Ref reft.Extern) Null = Gives (Ref (ExternRef None))
-received owned shown (valt.Ref reft.Extern) (ExternNumber n) = Gives (Ref (ExternRef (Some n)))
-received owned shown _ _ = IllTyped
+abbrev pub received : Owned → (shown : List ℕ) → ValType → Shown → Option Val
+received owned shown valt.I32 (Number n) = cond (nat_lt n (2 ^ 32)) (Some (Num W32 n)) None
+received owned shown valt.I64 (Number n) = cond (nat_lt n (2 ^ 64)) (Some (Num W64 n)) None
+received owned shown (valt.Ref reft.Func) Null = Some (Ref (FuncRef None))
+received owned shown (valt.Ref reft.Func) (OwnFunc pair ty) = owned_at owned (FuncKey pair ty) >>= func_of >>= λ a. Some (func_value a)
+received owned shown (valt.Ref reft.Func) (Function number) = slice_get shown number >>= λ a. Some (func_value a)
+received owned shown (valt.Ref reft.Extern) Null = Some (Ref (ExternRef None))
+received owned shown (valt.Ref reft.Extern) (ExternNumber n) = Some (Ref (ExternRef (Some n)))
+received owned shown _ _ = None
 
-abbrev pub received_ref : Owned → (shown : List ℕ) → RefType → Shown → Outcome RefVal
-received_ref owned shown ty x = bind (received owned shown (valt.Ref ty) x) ref_of
+abbrev pub received_ref : Owned → (shown : List ℕ) → RefType → Shown → Option RefVal
+received_ref owned shown ty x = received owned shown (valt.Ref ty) x >>= λ v. given (ref_of v)
 
 -- one value for each type
-abbrev pub received_all : Owned → (shown : List ℕ) → List ValType → List Shown → Outcome (List Val)
-received_all owned shown [] [] = Gives []
-received_all owned shown (t ∷ ts) (x ∷ xs) = bind (received owned shown t x) (λ v. bind (received_all owned shown ts xs) (λ vs. Gives (v ∷ vs)))
-received_all owned shown _ _ = IllTyped
+abbrev pub received_all : Owned → (shown : List ℕ) → List ValType → List Shown → Option (List Val)
+received_all owned shown [] [] = Some []
+received_all owned shown (t ∷ ts) (x ∷ xs) = received owned shown t x >>= λ v. received_all owned shown ts xs >>= λ vs. Some (v ∷ vs)
+received_all owned shown _ _ = None
 
 -- ---- what is allocated for it ----
 
 -- where there is no such reference or value, null or zero; under is_environment there always is one
-abbrev pub or_null : RefType → Outcome RefVal → RefVal
-or_null ty (Gives r) = r
+abbrev pub or_null : RefType → Option RefVal → RefVal
+or_null ty (Some r) = r
 or_null reft.Func _ = FuncRef None
 or_null reft.Extern _ = ExternRef None
 
-abbrev pub or_zero : ValType → Outcome Val → Val
-or_zero t (Gives v) = v
+abbrev pub or_zero : ValType → Option Val → Val
+or_zero t (Some v) = v
 or_zero valt.I32 _ = Num W32 0
 or_zero valt.I64 _ = Num W64 0
-or_zero (valt.Ref ty) _ = Ref (or_null ty IllTyped)
+or_zero (valt.Ref ty) _ = Ref (or_null ty None)
 
 abbrev pub own_funcs : Environment → List Func
 own_funcs = flat (λ o. map (Own o.pair) o.funcs)

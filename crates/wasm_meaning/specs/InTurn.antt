@@ -16,7 +16,7 @@ use Rattle.wasm_tree.specs.declared.module.Module.{Module}
 use Rattle.wasm_meaning.specs.State.{Text, Val, Inst, Store, Opening, Entry}
 use Rattle.wasm_meaning.specs.Linking.{Part, Entity, is_named, export_named, module_at, joined}
 use Rattle.wasm_meaning.specs.Environment.{Environment, Thing, Owned, owned_at, any_of}
-use Rattle.wasm_meaning.specs.World.{World, Begun, Filled, given, own_key, address_of, address_in, seen_as, all_there, numbers, const_value, store_with, joined_stores, is_match, tasks_in, run_elem_with, run_data_with, in_turn, and_then, start_in, instantiate}
+use Rattle.wasm_meaning.specs.World.{World, Begun, Filled, own_key, address_of, address_in, seen_as, all_there, numbers, const_value, store_with, joined_stores, is_match, tasks_in, run_elem_with, run_data_with, in_turn, and_then, start_in, instantiate}
 use Rattle.wasm_meaning.specs.Run.{Run, Pending, Closed, Event, LinkFault, InstanceTrapped, Move, Out, fresh_run, tick, events_of}
 
 -- ---- one module in a store that has others already ----
@@ -84,7 +84,7 @@ exported_by made i = made_named made i.«module» >>= λ x. export_named x.part.
 
 -- the environment's own entity for it
 abbrev pub own_thing : Owned → Module → Import → Option Thing
-own_thing owned m i = own_key m i >>= λ key. given (owned_at owned key)
+own_thing owned m i = own_key m i >>= λ key. owned_at owned key
 
 -- that, or where there is no such part or export the environment's own. A part whose turn has not come is not there, so that the environment is asked.
 abbrev pub thing_or_own : Owned → Module → Import → Option (Made × ExportDesc) → Option Thing

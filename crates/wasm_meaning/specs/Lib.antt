@@ -6,6 +6,7 @@ pub mod Memory
 pub mod Tables
 pub mod Control
 pub mod Step
+pub mod Touched
 pub mod Paths
 pub mod Linking
 pub mod Environment

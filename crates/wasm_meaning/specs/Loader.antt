@@ -1,6 +1,8 @@
--- A module under a loader. The loader supplies some imports of a primary module as placeholders, each for a slot of one of the primary's tables. The first call
--- of a placeholder instantiates a secondary module (WebAssembly Core 2.0, section 4.5.4); each call of one goes to the function that is then in its slot.
-use Rattle.std.proofs.Common.{ℕ, suc, ◌+◌, List, [], ◌∷◌, ◌++◌, Option, Some, None, Bool, true, false, cond}
+-- A module under a loader. The loader supplies some imports of a primary module as placeholders, each for a slot of one of the primary's tables. Each slot is of
+-- one of several secondary modules: the first call of a placeholder of one's slots instantiates it (WebAssembly Core 2.0, section 4.5.4), and each call of a
+-- placeholder goes to the function that is then in its slot.
+use Rattle.std.proofs.Common.{ℕ, suc, ◌+◌, ◌-◌, List, [], ◌∷◌, ◌++◌, map, length, Option, Some, None, Bool, true, false, cond, slice_get, slice_set, unwrap_or}
+use Rattle.std.specs.Prelude.{nat_lt}
 use Rattle.wasm_tree.specs.declared.space.Space.TheVariants.{Functions}
 use Rattle.base_lists.specs.Options.{◌>>=◌}
 use Rattle.wasm_tree.specs.declared.types.FuncType.{FuncType}
@@ -12,22 +14,37 @@ use Rattle.wasm_meaning.specs.State.{Text, Pair, Val, Inst, Func, Placeholder, S
 use Rattle.wasm_tree.specs.SameTypes.{same_func_type}
 use Rattle.wasm_meaning.specs.Tables.{with_table}
 use Rattle.wasm_meaning.specs.Control.{type_at, func_ref}
-use Rattle.wasm_meaning.specs.Step.{enter_at, step}
+use Rattle.wasm_meaning.specs.Step.{enter_at}
 use Rattle.wasm_meaning.specs.Linking.{same_pair, first_place, pair_of, export_named}
-use Rattle.wasm_meaning.specs.Environment.{Environment, Thing, FuncAt, owned_of}
+use Rattle.wasm_meaning.specs.Environment.{Environment, Thing, FuncAt, owned_of, flat}
 use Rattle.wasm_meaning.specs.World.{Begun, Filled, or_trapped, own_count, own_store, all_there, address_in, start_in}
 use Rattle.wasm_meaning.specs.InTurn.{Added, added_with, own_thing}
-use Rattle.wasm_meaning.specs.Run.{Run, Event, Move, Out, fresh_run, tick, after, events_of}
+use Rattle.wasm_meaning.specs.Run.{Run, Event, Move, Out, Transition, Steps, made, transition, fresh_run, after, events_of}
+
+-- a module that is loaded, and the imports of the primary that the loader supplies for it, with their types, a slot each
+pub record Secondary : Type 0 where
+  pub «module» : Module
+  pub placeholders : List (Pair × FuncType)
 
 pub record LoaderWorld : Type 0 where
   pub primary : Module
-  pub secondary : Module
-  -- the imports of the primary that the loader supplies, with their types, by slot
-  pub placeholders : List (Pair × FuncType)
+  -- they have their slots one after the other
+  pub secondaries : List Secondary
   -- the table of slots, by its index in the primary
   pub slot_table : ℕ
   -- what the embedder may use, of the primary
   pub view : List (Text × ExportDesc)
+
+-- ---- slots ----
+
+-- all placeholders, by slot
+abbrev pub placeholders_of : LoaderWorld → List (Pair × FuncType)
+placeholders_of w = flat (λ s. s.placeholders) w.secondaries
+
+-- the secondary of a slot, by its place; none past the last slot
+abbrev pub secondary_of : List Secondary → (slot : ℕ) → Option ℕ
+secondary_of [] n = None
+secondary_of (s ∷ ss) n = cond (nat_lt n (length s.placeholders)) (Some 0) (secondary_of ss (n - length s.placeholders) >>= λ j. Some (suc j))
 
 -- ---- the primary ----
 
@@ -37,10 +54,10 @@ placeholders_from n (p ∷ ps) = Placeholder n p.1 ∷ placeholders_from (suc n)
 
 -- the environment's own entities, and the placeholders after its functions
 abbrev pub store_under : Environment → LoaderWorld → Store
-store_under env w = let s = own_store env in record s { funcs = s.funcs ++ placeholders_from 0 w.placeholders }
+store_under env w = let s = own_store env in record s { funcs = s.funcs ++ placeholders_from 0 (placeholders_of w) }
 
 abbrev pub slot_of : LoaderWorld → Import → Option ℕ
-slot_of w i = first_place (λ p. same_pair (pair_of i) p.0) w.placeholders 0
+slot_of w i = first_place (λ p. same_pair (pair_of i) p.0) (placeholders_of w) 0
 
 abbrev pub placeholder_or_own : Environment → LoaderWorld → Import → Option ℕ → Option Thing
 placeholder_or_own env w i (Some n) = Some (FuncAt (own_count Functions env + n))
@@ -61,58 +78,68 @@ begun_of env w a =
 abbrev pub begun_under : Environment → LoaderWorld → Option Begun
 begun_under env w = primary_added env w >>= (begun_of env w)
 
--- ---- the secondary ----
+-- ---- a secondary ----
 
 -- its imports are the exports of these names of the primary's instance, which are there once it is allocated
-abbrev pub secondary_added : LoaderWorld → Inst → Store → Option Added
-secondary_added w i s = added_with (λ x. export_named w.primary.exports x.field >>= (address_in i)) s w.secondary
+abbrev pub secondary_added : LoaderWorld → Inst → Module → Store → Option Added
+secondary_added w i m s = added_with (λ x. export_named w.primary.exports x.field >>= (address_in i)) s m
 
--- The store in which a placeholder's call goes on, after the secondary's segments. Its start, if it has one, is not made.
-abbrev pub store_loaded : LoaderWorld → Inst → (is_loaded : Bool) → Store → Filled
-store_loaded w i true s = record { store = s; trapped = false }
-store_loaded w i false s = or_trapped s (secondary_added w i s >>= λ a. Some a.filled)
+-- The store in which a placeholder's call goes on, after the segments of the secondary. Its start, if it has one, is not made.
+abbrev pub store_loaded : LoaderWorld → Inst → Module → (is_loaded : Bool) → Store → Filled
+store_loaded w i m true s = record { store = s; trapped = false }
+store_loaded w i m false s = or_trapped s (secondary_added w i m s >>= λ a. Some a.filled)
 
 -- a function of another type is not called
 abbrev pub called_as : FuncType → Store → ℕ → List Val → List Entry → Outcome Next
 called_as t s f vs es = bind (type_at s f) (λ u. cond (same_func_type t u) (enter_at s f vs es) Traps)
 
--- the function in the slot is called with the arguments of the placeholder
+-- the function in the slot is called with the arguments of the placeholder; it is none of a module where a placeholder still stands there
 abbrev pub slot_called : LoaderWorld → Inst → (slot : ℕ) → List Val → List Entry → Store → Outcome Next
 slot_called w i slot vs es s =
-    bind (at w.placeholders slot) (λ p. with_table (record { store = s; inst = i }) w.slot_table (λ a t. bind (at t.slots slot) (λ r. bind (func_ref r) (λ f. called_as p.1 s f vs es))))
+    bind (at (placeholders_of w) slot) (λ p. with_table (record { store = s; inst = i }) w.slot_table (λ a t. bind (at t.slots slot) (λ r. bind (func_ref r) (λ f. called_as p.1 s f vs es))))
 
 -- ---- runs ----
 
--- the run so far, the primary's instance, and whether the secondary was instantiated, or that was tried
+-- the run so far, the primary's instance, and of each secondary whether it was instantiated, or that was tried
 pub record LoaderRun : Type 0 where
   pub run : Run
   pub inst : Option Inst
-  pub is_loaded : Bool
+  pub loaded : List Bool
 
 abbrev pub loader_with : LoaderRun → Out → LoaderRun × Option Event
 loader_with q o = (record q { run = o.0 }, o.1)
 
--- Where the secondary does not link or a segment of it traps, this call traps. What was written stands.
-abbrev pub placeholder_called : LoaderWorld → LoaderRun → Inst → (slot : ℕ) → List Val → List Entry → Filled → LoaderRun × Option Event
-placeholder_called w q i slot vs es f =
-    loader_with (record q { is_loaded = true }) (after (record q.run { store = f.store }) (cond f.trapped Traps (slot_called w i slot vs es f.store)))
+-- what comes of a placeholder's call: where its secondary does not link or a segment of it traps, the call traps, and what was written stands
+abbrev pub call_answered : LoaderWorld → Inst → (slot : ℕ) → List Val → List Entry → Filled → Outcome Next
+call_answered w i slot vs es f = cond f.trapped Traps (slot_called w i slot vs es f.store)
 
-abbrev pub by_instance : LoaderWorld → LoaderRun → Option Inst → (slot : ℕ) → List Val → Store → List Entry → LoaderRun × Option Event
-by_instance w q None slot vs s es = loader_with q (after q.run Traps)
-by_instance w q (Some i) slot vs s es = placeholder_called w q i slot vs es (store_loaded w i q.is_loaded s)
+-- its secondary has been loaded, or that was tried
+abbrev pub with_loaded : LoaderRun → (secondary : ℕ) → Run → LoaderRun
+with_loaded q j r = record q { run = r; loaded = slice_set q.loaded j true }
 
-abbrev pub by_next : LoaderWorld → LoaderRun → Outcome Next → LoaderRun × Option Event
-by_next w q (Gives (CallsPlaceholder slot vs s es)) = by_instance w q q.inst slot vs s es
-by_next w q _ = loader_with q (tick q.run)
+-- over this run, which waits for the call
+abbrev pub secondary_called : LoaderWorld → LoaderRun → Run → Inst → (slot : ℕ) → List Val → List Entry → (secondary : ℕ) → Filled → LoaderRun × Option Event
+secondary_called w q r i slot vs es j f =
+    let o = after (record r { store = f.store }) (call_answered w i slot vs es f) in (with_loaded q j o.0, o.1)
 
--- Code that calls a placeholder does so in one step, the loading included. Every other step is that of a run, in which a placeholder that a move or a start
--- calls traps; where no name of the view and no start is one, and none is shown, there is no such call.
+-- None where there is no instance of the primary, or no such slot: such a call traps, and never comes.
+abbrev pub placeholder_called : LoaderWorld → LoaderRun → Run → (slot : ℕ) → List Val → Store → List Entry → Option (LoaderRun × Option Event)
+placeholder_called w q r slot vs s es =
+    q.inst >>= λ i. secondary_of w.secondaries slot >>= λ j. slice_get w.secondaries j >>= λ x. slice_get q.loaded j >>= λ is_loaded.
+    Some (secondary_called w q r i slot vs es j (store_loaded w i x.«module» is_loaded s))
+
+abbrev pub loader_made : LoaderWorld → LoaderRun → Transition → LoaderRun × Option Event
+loader_made w q (Steps r (Gives (CallsPlaceholder slot vs s es))) = unwrap_or (placeholder_called w q r slot vs s es) (loader_with q (after r Traps))
+loader_made w q t = loader_with q (made t)
+
+-- A placeholder's call is answered in the one step that makes it, the loading included: whether code makes it, a move (`Call` or `Invoke`) or a start. Every other
+-- step is that of a run.
 abbrev pub tick_loader : LoaderWorld → LoaderRun → LoaderRun × Option Event
-tick_loader w q = by_next w q (step q.run.store q.run.entries)
+tick_loader w q = loader_made w q (transition q.run)
 
 abbrev pub fresh_loader : Environment → LoaderWorld → List Move → LoaderRun
 fresh_loader env w moves =
-    record { run = fresh_run env (begun_under env w) moves; inst = primary_added env w >>= (λ a. Some a.inst); is_loaded = false }
+    record { run = fresh_run env (begun_under env w) moves; inst = primary_added env w >>= (λ a. Some a.inst); loaded = map (λ s. false) w.secondaries }
 
 -- the events of the first n steps under a loader
 abbrev pub events_loaded : LoaderWorld → Environment → List Move → ℕ → List Event

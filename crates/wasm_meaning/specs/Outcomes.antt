@@ -24,6 +24,11 @@ abbrev pub or_trap : {A : Type 0} → Option A → Outcome A
 or_trap None = Traps
 or_trap (Some a) = Gives a
 
+-- what is given, or none
+abbrev pub given : {A : Type 0} → Outcome A → Option A
+given (Gives a) = Some a
+given _ = None
+
 -- the element at a place; ill typed where there is no such place
 abbrev pub at : {A : Type 0} → List A → ℕ → Outcome A
 at [] n = IllTyped

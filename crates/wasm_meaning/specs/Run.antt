@@ -1,5 +1,5 @@
 -- The embedder's moves, and runs. A run instantiates its world, opens the starts and the view, and then makes steps and takes moves; what others see of it are its events.
-use Rattle.std.proofs.Common.{ℕ, suc, ◌+◌, ◌*◌, List, [], ◌∷◌, ◌++◌, length, Option, Some, None, Bool, true, false, cond}
+use Rattle.std.proofs.Common.{ℕ, suc, ◌+◌, ◌*◌, List, [], ◌∷◌, ◌++◌, length, Option, Some, None, Bool, true, false, cond, slice_get}
 use Rattle.wasm_tree.specs.declared.space.Space.{Space}
 pub use Rattle.base_simulation.specs.Machines.{events_of, IsPrefix}
 use Rattle.wasm_tree.specs.declared.space.Space.TheVariants.{Tables, Memories}
@@ -7,7 +7,8 @@ use Rattle.std.specs.Prelude.{nat_lt, nat_eq, IsTrue}
 use Rattle.wasm_tree.specs.declared.types.ValType.{ValType}
 use Rattle.wasm_tree.specs.declared.types.FuncType.{FuncType}
 use Rattle.wasm_num.specs.Operations.{W32}
-use Rattle.wasm_meaning.specs.Outcomes.{Outcome, Gives, Traps, IllTyped, bind, at, overwrite, copies}
+use Rattle.base_lists.specs.Options.{◌>>=◌}
+use Rattle.wasm_meaning.specs.Outcomes.{Outcome, Gives, Traps, IllTyped, given, at, overwrite, copies}
 use Rattle.wasm_meaning.specs.State.{Text, Pair, RefVal, FuncRef, ExternRef, Val, Num, Ref, Table, Memory, Store, Change, SetGlobal, SetMemory, SetTable, Growth, GrowMemory, GrowTable, Entry, Running, Caller, Host, Starter, Mark, Opening, Waiting, Ended, Growing, Next, Ran, CallsOwn, WaitsGrowth, CallsPlaceholder, EndsCall}
 use Rattle.wasm_meaning.specs.Values.{null_of}
 use Rattle.wasm_meaning.specs.Memory.{memory_may_grow}
@@ -82,10 +83,10 @@ Out = Run × Option Event
 
 -- ---- look-ups ----
 
-abbrev pub viewed_at : Run → Text → Outcome Thing
+abbrev pub viewed_at : Run → Text → Option Thing
 viewed_at r name = look_up (same_text name) r.view
 
-abbrev pub place_at : Run → Place → Outcome Thing
+abbrev pub place_at : Run → Place → Option Thing
 place_at r (TableOf pair) = owned_at r.owned (TableKey pair)
 place_at r (MemoryOf pair) = owned_at r.owned (MemoryKey pair)
 place_at r (GlobalOf pair) = owned_at r.owned (GlobalKey pair)
@@ -93,18 +94,18 @@ place_at r (Named name) = viewed_at r name
 
 -- ---- values shown ----
 
-abbrev pub place_of : List ℕ → ℕ → Outcome ℕ
-place_of [] a = IllTyped
-place_of (x ∷ xs) a = cond (nat_eq x a) (Gives 0) (bind (place_of xs a) (λ k. Gives (suc k)))
+abbrev pub place_of : List ℕ → ℕ → Option ℕ
+place_of [] a = None
+place_of (x ∷ xs) a = cond (nat_eq x a) (Some 0) (place_of xs a >>= λ k. Some (suc k))
 
 -- a function that was shown keeps its number; another gets the next one
-abbrev pub numbered : List ℕ → ℕ → Outcome ℕ → Shown × List ℕ
-numbered shown a (Gives k) = (Function k, shown)
-numbered shown a _ = (Function (length shown), shown ++ a ∷ [])
+abbrev pub numbered : List ℕ → ℕ → Option ℕ → Shown × List ℕ
+numbered shown a (Some k) = (Function k, shown)
+numbered shown a None = (Function (length shown), shown ++ a ∷ [])
 
-abbrev pub show_func : List ℕ → ℕ → Outcome (Pair × FuncType) → Shown × List ℕ
-show_func shown a (Gives own) = (OwnFunc own.0 own.1, shown)
-show_func shown a _ = numbered shown a (place_of shown a)
+abbrev pub show_func : List ℕ → ℕ → Option (Pair × FuncType) → Shown × List ℕ
+show_func shown a (Some own) = (OwnFunc own.0 own.1, shown)
+show_func shown a None = numbered shown a (place_of shown a)
 
 abbrev pub show : Store → List ℕ → Val → Shown × List ℕ
 show s shown (Num w n) = (Number n, shown)
@@ -136,7 +137,7 @@ abbrev pub kind_of_growth : Growth → Space
 kind_of_growth (GrowMemory a n) = Memories
 kind_of_growth (GrowTable a n v) = Tables
 
--- nothing supplies placeholders here: a call of one traps
+-- nothing supplies placeholders here, so that a call of one traps; so it does under a loader where one still stands in its slot
 abbrev pub after : Run → Outcome Next → Out
 after r (Gives (Ran s es)) = (record r { store = s; entries = es }, None)
 after r (Gives (CallsOwn pair ty vs s es)) = showing r s es vs (Asked pair ty)
@@ -146,27 +147,38 @@ after r (Gives (EndsCall vs s es)) = showing r s es vs Returned
 after r Traps = trapped_to r (to_mark r.entries)
 after r IllTyped = trapped_to r (to_mark r.entries)
 
--- ---- moves ----
+-- ---- transitions ----
+
+-- what a step of a run is: a step of the machine, over this run, and what it comes to; or one that the run makes itself, as where a move reads a global
+pub data Transition : Type 0 where
+  Steps : Run → Outcome Next → Transition
+  Makes : Out → Transition
+
+abbrev pub made : Transition → Out
+made (Steps r n) = after r n
+made (Makes o) = o
+
+-- ---- moves: what one comes to, or none where it is not taken ----
 
 -- a function is called over these entries, with values of its types
-abbrev pub called : Run → List Entry → List Shown → ℕ → Outcome Out
-called r es xs a = bind (type_at r.store a) (λ t. bind (received_all r.owned r.shown t.params xs) (λ vs. Gives (after r (enter_at r.store a vs es))))
+abbrev pub called : Run → List Entry → List Shown → ℕ → Option Transition
+called r es xs a = given (type_at r.store a) >>= λ t. received_all r.owned r.shown t.params xs >>= λ vs. Some (Steps r (enter_at r.store a vs es))
 
 -- the answer goes to the frame that waits; where the embedder itself made the call, that call ends with it at the next step
 abbrev pub is_mark : List Entry → Bool
 is_mark (Mark ∷ es) = true
 is_mark _ = false
 
-abbrev pub delivered : Run → List Val → List Entry → Out
-delivered r vs es = cond (is_mark es) (record r { entries = Ended vs ∷ es }, None) (after r (give r.store vs es))
+abbrev pub delivered : Run → List Val → List Entry → Transition
+delivered r vs es = cond (is_mark es) (Makes (record r { entries = Ended vs ∷ es }, None)) (Steps r (give r.store vs es))
 
-abbrev pub answered : Run → List Shown → List Entry → Outcome Out
-answered r xs (Waiting ts ∷ es) = bind (received_all r.owned r.shown ts xs) (λ vs. Gives (delivered r vs es))
-answered r xs _ = IllTyped
+abbrev pub answered : Run → List Shown → List Entry → Option Transition
+answered r xs (Waiting ts ∷ es) = received_all r.owned r.shown ts xs >>= λ vs. Some (delivered r vs es)
+answered r xs _ = None
 
-abbrev pub refused : Run → List Entry → Outcome Out
-refused r (Waiting ts ∷ es) = Gives (after r Traps)
-refused r _ = IllTyped
+abbrev pub refused : Run → List Entry → Option Transition
+refused r (Waiting ts ∷ es) = Some (Steps r Traps)
+refused r _ = None
 
 abbrev pub grown_memory : Memory → ℕ → Memory
 grown_memory m n = record m { pages = m.pages + n; bytes = m.bytes ++ copies (65536 * n) 0 }
@@ -178,81 +190,81 @@ abbrev pub with_change : Run → Change → Run
 with_change r c = record r { store = changed r.store c }
 
 -- the old size is the result
-abbrev pub granted : Run → Growth → List Entry → Outcome Out
-granted r (GrowMemory a n) es = bind (at r.store.mems a) (λ m. Gives (delivered (with_change r (SetMemory a (grown_memory m n))) (Num W32 m.pages ∷ []) es))
-granted r (GrowTable a n v) es = bind (at r.store.tables a) (λ t. Gives (delivered (with_change r (SetTable a (grown_table t n v))) (Num W32 (length t.slots) ∷ []) es))
+abbrev pub granted : Run → Growth → List Entry → Option Transition
+granted r (GrowMemory a n) es = given (at r.store.mems a) >>= λ m. Some (delivered (with_change r (SetMemory a (grown_memory m n))) (Num W32 m.pages ∷ []) es)
+granted r (GrowTable a n v) es = given (at r.store.tables a) >>= λ t. Some (delivered (with_change r (SetTable a (grown_table t n v))) (Num W32 (length t.slots) ∷ []) es)
 
 -- while a growth waits no other move is taken
-abbrev pub decided : Run → Move → Growth → List Entry → Outcome Out
+abbrev pub decided : Run → Move → Growth → List Entry → Option Transition
 decided r Grant g es = granted r g es
-decided r Deny g es = Gives (delivered r (Num W32 4294967295 ∷ []) es)
-decided r _ g es = IllTyped
+decided r Deny g es = Some (delivered r (Num W32 4294967295 ∷ []) es)
+decided r _ g es = None
 
-abbrev pub shows : Run → Val → Outcome Out
-shows r v = let x = show r.store r.shown v in Gives (record r { shown = x.1 }, Some (Got x.0))
+abbrev pub shows : Run → Val → Option Transition
+shows r v = let x = show r.store r.shown v in Some (Makes (record r { shown = x.1 }, Some (Got x.0)))
 
 -- a global has the one index 0
-abbrev pub got : Run → Thing → ℕ → Outcome Out
-got r (FuncAt a) n = IllTyped
-got r (TableAt a) n = bind (at r.store.tables a) (λ t. bind (at t.slots n) (λ v. shows r (Ref v)))
-got r (MemoryAt a) n = bind (at r.store.mems a) (λ m. bind (at m.bytes n) (λ b. shows r (Num W32 b)))
-got r (GlobalAt a) n = bind (at r.store.globals a) (λ g. cond (nat_eq n 0) (shows r g.value) IllTyped)
+abbrev pub got : Run → Thing → ℕ → Option Transition
+got r (FuncAt a) n = None
+got r (TableAt a) n = given (at r.store.tables a) >>= λ t. slice_get t.slots n >>= λ v. shows r (Ref v)
+got r (MemoryAt a) n = given (at r.store.mems a) >>= λ m. slice_get m.bytes n >>= λ b. shows r (Num W32 b)
+got r (GlobalAt a) n = given (at r.store.globals a) >>= λ g. cond (nat_eq n 0) (shows r g.value) None
 
 -- in entries, in pages, or 1
-abbrev pub size_of : Run → Thing → Outcome Out
-size_of r (FuncAt a) = IllTyped
-size_of r (TableAt a) = bind (at r.store.tables a) (λ t. shows r (Num W32 (length t.slots)))
-size_of r (MemoryAt a) = bind (at r.store.mems a) (λ m. shows r (Num W32 m.pages))
-size_of r (GlobalAt a) = bind (at r.store.globals a) (λ g. shows r (Num W32 1))
+abbrev pub size_of : Run → Thing → Option Transition
+size_of r (FuncAt a) = None
+size_of r (TableAt a) = given (at r.store.tables a) >>= λ t. shows r (Num W32 (length t.slots))
+size_of r (MemoryAt a) = given (at r.store.mems a) >>= λ m. shows r (Num W32 m.pages)
+size_of r (GlobalAt a) = given (at r.store.globals a) >>= λ g. shows r (Num W32 1)
 
-abbrev pub does : Run → Change → Outcome Out
-does r c = Gives (with_change r c, Some Done)
+abbrev pub does : Run → Change → Option Transition
+does r c = Some (Makes (with_change r c, Some Done))
 
-abbrev pub byte_of : Shown → Outcome ℕ
-byte_of (Number n) = cond (nat_lt n 256) (Gives n) IllTyped
-byte_of _ = IllTyped
+abbrev pub byte_of : Shown → Option ℕ
+byte_of (Number n) = cond (nat_lt n 256) (Some n) None
+byte_of _ = None
 
-abbrev pub set : Run → Thing → ℕ → Shown → Outcome Out
-set r (FuncAt a) n x = IllTyped
+abbrev pub set : Run → Thing → ℕ → Shown → Option Transition
+set r (FuncAt a) n x = None
 set r (TableAt a) n x =
-    bind (at r.store.tables a) (λ t. bind (received_ref r.owned r.shown t.ty x) (λ v. bind (overwrite t.slots n (v ∷ [])) (λ slots. does r (SetTable a (record t { slots = slots })))))
+    given (at r.store.tables a) >>= λ t. received_ref r.owned r.shown t.ty x >>= λ v. given (overwrite t.slots n (v ∷ [])) >>= λ slots. does r (SetTable a (record t { slots = slots }))
 set r (MemoryAt a) n x =
-    bind (at r.store.mems a) (λ m. bind (byte_of x) (λ b. bind (overwrite m.bytes n (b ∷ [])) (λ bytes. does r (SetMemory a (record m { bytes = bytes })))))
+    given (at r.store.mems a) >>= λ m. byte_of x >>= λ b. given (overwrite m.bytes n (b ∷ [])) >>= λ bytes. does r (SetMemory a (record m { bytes = bytes }))
 set r (GlobalAt a) n x =
-    bind (at r.store.globals a) (λ g. cond (nat_eq n 0) (cond g.ty.mutable (bind (received r.owned r.shown g.ty.ty x) (λ v. does r (SetGlobal a (record g { value = v })))) IllTyped) IllTyped)
+    given (at r.store.globals a) >>= λ g. cond (nat_eq n 0) (cond g.ty.mutable (received r.owned r.shown g.ty.ty x >>= λ v. does r (SetGlobal a (record g { value = v }))) None) None
 
-abbrev pub extended : Run → Thing → ℕ → Outcome Out
-extended r (FuncAt a) n = IllTyped
-extended r (TableAt a) n = bind (at r.store.tables a) (λ t. cond (table_may_grow t n) (does r (SetTable a (grown_table t n (null_of t.ty)))) IllTyped)
-extended r (MemoryAt a) n = bind (at r.store.mems a) (λ m. cond (memory_may_grow m n) (does r (SetMemory a (grown_memory m n))) IllTyped)
-extended r (GlobalAt a) n = IllTyped
+abbrev pub extended : Run → Thing → ℕ → Option Transition
+extended r (FuncAt a) n = None
+extended r (TableAt a) n = given (at r.store.tables a) >>= λ t. cond (table_may_grow t n) (does r (SetTable a (grown_table t n (null_of t.ty)))) None
+extended r (MemoryAt a) n = given (at r.store.mems a) >>= λ m. cond (memory_may_grow m n) (does r (SetMemory a (grown_memory m n))) None
+extended r (GlobalAt a) n = None
 
 -- a move where no growth waits
-abbrev pub moved : Run → Move → Outcome Out
-moved r (Call name xs) = bind (viewed_at r name) (λ x. bind (func_of x) (called r (Mark ∷ r.entries) xs))
-moved r (Invoke number xs) = bind (at r.shown number) (called r (Mark ∷ r.entries) xs)
-moved r (Take name) = bind (viewed_at r name) (λ x. bind (func_of x) (λ a. shows r (Ref (FuncRef (Some a)))))
+abbrev pub moved : Run → Move → Option Transition
+moved r (Call name xs) = viewed_at r name >>= λ x. func_of x >>= called r (Mark ∷ r.entries) xs
+moved r (Invoke number xs) = slice_get r.shown number >>= called r (Mark ∷ r.entries) xs
+moved r (Take name) = viewed_at r name >>= λ x. func_of x >>= λ a. shows r (Ref (FuncRef (Some a)))
 moved r (Answer xs) = answered r xs r.entries
 moved r Refuse = refused r r.entries
-moved r Grant = IllTyped
-moved r Deny = IllTyped
-moved r (Get p n) = bind (place_at r p) (λ x. got r x n)
-moved r (Size p) = bind (place_at r p) (size_of r)
-moved r (Set p n v) = bind (place_at r p) (λ x. set r x n v)
-moved r (Extend p n) = bind (place_at r p) (λ x. extended r x n)
+moved r Grant = None
+moved r Deny = None
+moved r (Get p n) = place_at r p >>= λ x. got r x n
+moved r (Size p) = place_at r p >>= size_of r
+moved r (Set p n v) = place_at r p >>= λ x. set r x n v
+moved r (Extend p n) = place_at r p >>= λ x. extended r x n
 
-abbrev pub at_entries : Run → Move → List Entry → Outcome Out
+abbrev pub at_entries : Run → Move → List Entry → Option Transition
 at_entries r m (Growing g ∷ es) = decided r m g es
 at_entries r m _ = moved r m
 
 -- a move that is not taken changes nothing
-abbrev pub or_bad : Run → Outcome Out → Out
-or_bad r (Gives o) = o
-or_bad r _ = (r, Some BadMove)
+abbrev pub or_bad : Run → Option Transition → Transition
+or_bad r (Some t) = t
+or_bad r None = Makes (r, Some BadMove)
 
 -- where a move is due and none is left, nothing happens
-abbrev pub next_move : Run → List Move → Out
-next_move r [] = (r, None)
+abbrev pub next_move : Run → List Move → Transition
+next_move r [] = Makes (r, None)
 next_move r (m ∷ ms) = let q = record r { moves = ms } in or_bad q (at_entries q m q.entries)
 
 -- a closed world takes moves on the environment's own entities alone
@@ -267,9 +279,9 @@ is_taken_closed (Set p n v) = is_own_place p
 is_taken_closed (Extend p n) = is_own_place p
 is_taken_closed _ = false
 
-abbrev pub closed_move : Run → List Move → Out
-closed_move r [] = (r, None)
-closed_move r (m ∷ ms) = let q = record r { moves = ms } in or_bad q (cond (is_taken_closed m) (moved q m) IllTyped)
+abbrev pub closed_move : Run → List Move → Transition
+closed_move r [] = Makes (r, None)
+closed_move r (m ∷ ms) = let q = record r { moves = ms } in or_bad q (cond (is_taken_closed m) (moved q m) None)
 
 -- ---- one step of a run ----
 
@@ -284,41 +296,45 @@ view_of r (Pending view) = view
 view_of r _ = r.view
 
 -- a start takes no arguments and gives no results; a function of another type is none
-abbrev pub nothing_in : List ValType → Outcome (List ValType)
-nothing_in [] = Gives []
-nothing_in (t ∷ ts) = IllTyped
+abbrev pub nothing_in : List ValType → Option (List ValType)
+nothing_in [] = Some []
+nothing_in (t ∷ ts) = None
 
-abbrev pub started : Run → (starts : List ℕ) → List Entry → ℕ → Outcome Out
-started r starts es a = bind (type_at r.store a) (λ t. bind (nothing_in t.results) (λ u. called r (Opening starts ∷ es) [] a))
+abbrev pub started : Run → (starts : List ℕ) → List Entry → ℕ → Option Transition
+started r starts es a = given (type_at r.store a) >>= λ t. nothing_in t.results >>= λ u. called r (Opening starts ∷ es) [] a
 
-abbrev pub or_closed : Run → Outcome Out → Out
-or_closed r (Gives o) = o
-or_closed r _ = (record r { entries = []; phase = Closed }, Some InstanceTrapped)
+abbrev pub or_closed : Run → Option Transition → Transition
+or_closed r (Some t) = t
+or_closed r None = Makes (record r { entries = []; phase = Closed }, Some InstanceTrapped)
 
 -- the next start is opened, or the view
-abbrev pub open_next : Run → (starts : List ℕ) → List Entry → Out
-open_next r [] es = (record r { entries = es; phase = Opened; view = view_of r r.phase }, Some Linked)
+abbrev pub open_next : Run → (starts : List ℕ) → List Entry → Transition
+open_next r [] es = Makes (record r { entries = es; phase = Opened; view = view_of r r.phase }, Some Linked)
 open_next r (a ∷ starts) es = or_closed r (started r starts es a)
 
--- where nothing is on the stack
-abbrev pub in_phase : Run → Phase → Out
-in_phase r (Fresh b) = began r b
-in_phase r (Pending view) = (r, None)
+-- where nothing is on the stack: while starts are made there always is something, so that the second line never comes
+abbrev pub in_phase : Run → Phase → Transition
+in_phase r (Fresh b) = Makes (began r b)
+in_phase r (Pending view) = Steps r IllTyped
 in_phase r Opened = next_move r r.moves
 in_phase r Closed = closed_move r r.moves
 
-abbrev pub tick_at : Run → List Entry → Out
-tick_at r [] = in_phase r r.phase
-tick_at r (Running f ∷ es) = after r (step r.store r.entries)
-tick_at r (Mark ∷ es) = (r, None)
-tick_at r (Opening starts ∷ es) = open_next r starts es
-tick_at r (Waiting ts ∷ es) = next_move r r.moves
-tick_at r (Ended vs ∷ es) = after r (give r.store vs es)
-tick_at r (Growing g ∷ es) = next_move r r.moves
+-- no mark is ever on top, since a call that ends there takes it away: the third line never comes
+abbrev pub transition_at : Run → List Entry → Transition
+transition_at r [] = in_phase r r.phase
+transition_at r (Running f ∷ es) = Steps r (step r.store r.entries)
+transition_at r (Mark ∷ es) = Steps r IllTyped
+transition_at r (Opening starts ∷ es) = open_next r starts es
+transition_at r (Waiting ts ∷ es) = next_move r r.moves
+transition_at r (Ended vs ∷ es) = Steps r (give r.store vs es)
+transition_at r (Growing g ∷ es) = next_move r r.moves
+
+abbrev pub transition : Run → Transition
+transition r = transition_at r r.entries
 
 -- one step of a run: the instantiation, the opening of a start or of the view, the taking of a move, or a step of the machine
 abbrev pub tick : Run → Out
-tick r = tick_at r r.entries
+tick r = made (transition r)
 
 -- ---- runs ----
 

@@ -26,6 +26,7 @@ use Rattle.wasm_tree.specs.declared.module.DataMode.TheVariants as data'
 use Rattle.wasm_tree.specs.declared.module.Func as tree
 use Rattle.wasm_tree.specs.declared.module.Module.{Module}
 use Rattle.wasm_num.specs.Operations.{W32, W64, wrapped}
+pub use Rattle.wasm_meaning.specs.Outcomes.{given}
 use Rattle.wasm_meaning.specs.Outcomes.{Outcome, Gives, overwrite, copies}
 use Rattle.wasm_meaning.specs.State.{Text, Pair, RefVal, FuncRef, Val, Num, Ref, Inst, Func, Code, Table, Memory, Global, Elem, Store, DropElem, DropData, SetTable, SetMemory}
 use Rattle.wasm_meaning.specs.Values.{null_of, declared, ref_of, num_of}
@@ -97,10 +98,6 @@ address_of Memories (MemoryAt a) = Some a
 address_of Globals (GlobalAt a) = Some a
 address_of _ _ = None
 
-abbrev pub given : {A : Type 0} → Outcome A → Option A
-given (Gives a) = Some a
-given _ = None
-
 -- the function type that an import names
 abbrev pub import_type : Module → ℕ → Option FuncType
 import_type m ty = slice_get m.types ty
@@ -116,7 +113,7 @@ abbrev pub own_key : Module → Import → Option OwnKey
 own_key m i = own_key_of m (pair_of i) i.desc
 
 abbrev pub outside_thing : Owned → List Part → Site → Option Thing
-outside_thing owned parts s = module_at parts s.part >>= λ m. import_at parts s >>= λ i. own_key m i >>= λ key. given (owned_at owned key)
+outside_thing owned parts s = module_at parts s.part >>= λ m. import_at parts s >>= λ i. own_key m i >>= λ key. owned_at owned key
 
 -- the addresses of what a part defines
 abbrev pub defined_addresses : Environment → List Part → Space → ℕ → Module → List ℕ

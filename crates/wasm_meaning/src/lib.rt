@@ -4,6 +4,7 @@
 #![tactic(auto)]
 
 ghost use Rattle.wasm_meaning.specs.Below.{BelowIsNotSeen};
+ghost use Rattle.wasm_meaning.specs.Touched.{StepsWriteWhatTheyTouch};
 ghost use Rattle.wasm_meaning.specs.Laws.{EndsArePaths, LoadedRunsAreDetermined, ReadsArePaths, RunsAreDetermined, RunsInTurnAreDetermined, ShorterLoadedRunsArePrefixes, ShorterRunsArePrefixes, ShorterRunsInTurnArePrefixes};
 
 /// A run is determined by its world, its environment, the embedder's moves and the number of steps: a run of a world, of its parts one after the other
@@ -31,4 +32,9 @@ pub fn ends_and_reads_are_paths()
 /// While a start is made, what stands below its entries is not seen, nor the phase of the run: one step over the one shows and leaves what it does over the other.
 pub fn what_stands_below_is_not_seen()
     ensures below { BelowIsNotSeen }
+{}
+
+/// What the step of a frame writes into the store is told from what stands on top before: the address, the place and the count (WebAssembly Core 2.0, section 4.4).
+pub fn steps_write_what_they_touch()
+    ensures writes { StepsWriteWhatTheyTouch }
 {}

@@ -16,7 +16,7 @@ use Rattle.wasm_meaning.specs.State.{Pair}
 use Rattle.wasm_meaning.specs.Paths.{walk, walk_on}
 use Rattle.wasm_meaning.specs.Linking.{sites, joined, joined_step, import_step, read_step, initials_from, Outside, Read, places, has_kind, imports_of, pair_of, end_of, global_import, end_step, read_of, space_index}
 use Rattle.wasm_meaning.specs.Environment.{Environment, owned_of, owned_at}
-use Rattle.wasm_meaning.specs.World.{given, own_key_of, outside_thing, imported_thing, thing_of, address_of, numbers, own_count, defined_count, space}
+use Rattle.wasm_meaning.specs.World.{own_key_of, outside_thing, imported_thing, thing_of, address_of, numbers, own_count, defined_count, space}
 use Rattle.world_simulation.specs.Alone.{one, site, key_in, thing_in, addresses, read_in}
 
 -- ---- what an import stands for ----
@@ -48,12 +48,12 @@ on_some None h = refl
 on_some (Some a) h = h a
 
 outside_is : (env : Environment) (t : Module) (n : ℕ) → outside_thing (owned_of env) (one t) (site n) ≡ thing_in env t.types (slice_get t.imports n)
-outside_is env t n = on_some (slice_get t.imports n) (λ i. ap (λ k. option_and_then (λ key. given (owned_at (owned_of env) key)) k) (key_is t (pair_of i) i.desc))
+outside_is env t n = on_some (slice_get t.imports n) (λ i. ap (λ k. option_and_then (λ key. owned_at (owned_of env) key) k) (key_is t (pair_of i) i.desc))
 
 pub thing_is : (env : Environment) (t : Module) (n : ℕ) → imported_thing env (one t) (site n) ≡ thing_in env t.types (slice_get t.imports n)
 thing_is env t n =
     ap (λ e. option_and_then (thing_of env (one t)) e) (ends_outside t n) ∙ nested (slice_get t.imports n) (Outside (site n)) (thing_of env (one t))
-    ∙ on_some (slice_get t.imports n) (λ i. outside_is env t n) ∙ twice (slice_get t.imports n) (λ i. option_and_then (λ key. given (owned_at (owned_of env) key)) (key_in t.types (pair_of i) i.desc))
+    ∙ on_some (slice_get t.imports n) (λ i. outside_is env t n) ∙ twice (slice_get t.imports n) (λ i. option_and_then (λ key. owned_at (owned_of env) key) (key_in t.types (pair_of i) i.desc))
 
 -- ---- index spaces ----
 

@@ -18,7 +18,7 @@ use Rattle.wasm_meaning.specs.State.{RefVal, Val, Inst, Table, Memory, Elem, Dat
 use Rattle.wasm_meaning.specs.Step.{changed, no_items, no_bytes}
 use Rattle.wasm_meaning.specs.Environment.{Environment}
 use Rattle.wasm_meaning.specs.World.{Filled, Task, or_trapped, fill_table, copy_elem, run_elem_with, fill_memory, copy_data, run_data_with}
-use Rattle.index_remap.specs.Related.{OptRel, some, BothRel, both}
+use Rattle.index_remap.specs.Related.{OptRel, BothRel}
 use Rattle.index_remap.proofs.Rel.{there, at_put_there}
 use Rattle.world_simulation.specs.Definitions.{Instantiated, DefinedAt, values_in}
 use Rattle.world_simulation.specs.Segments.{InOrder, ElemsPartner, ElemAlone, DatasPartner, DataAlone, alone_in_first, offset_in}
@@ -109,7 +109,7 @@ pub record HasRoom (env : Environment) (w : Instantiated) (s : Store) : Type 0 w
   pub datas : (a : ℕ) (d : DefinedAt env w DataSegments (λ m. m.datas) a) → Holds (λ e. length e.bytes ≤ length d.definition.bytes) s.datas a
 
 -- what each way through look-ups comes to
-then_holds : {A : Type 0} (Q : Filled → Type 0) (s : Store) (o : Option A) (f : A → Option Filled) → Q (record { store = s; trapped = true }) → ((a : A) → o ≡ Some a → Q (or_trapped s (f a))) → Q (or_trapped s (option_and_then f o))
+pub then_holds : {A : Type 0} (Q : Filled → Type 0) (s : Store) (o : Option A) (f : A → Option Filled) → Q (record { store = s; trapped = true }) → ((a : A) → o ≡ Some a → Q (or_trapped s (f a))) → Q (or_trapped s (option_and_then f o))
 then_holds Q s None f t h = t
 then_holds Q s (Some a) f t h = h a refl
 
@@ -190,7 +190,7 @@ module _ (related alone : Space → ℕ → Type 0) (never : (k : Space) (a : �
   apart : (k : Space) (a c : ℕ) → alone k a → related k c → a ≡ c → ⊥
   apart k a c lone r e = never k a lone (subst (related k) (sym e) r)
 
-  table_kept : (s : Store) (n a : ℕ) (t : Table) → alone Tables a → alone ElementSegments n → Kept related s (changed (changed s (SetTable a t)) (DropElem n))
+  pub table_kept : (s : Store) (n a : ℕ) (t : Table) → alone Tables a → alone ElementSegments n → Kept related s (changed (changed s (SetTable a t)) (DropElem n))
   table_kept s n a t lone by_itself = record {
     funcs = refl;
     globals = refl;
@@ -200,7 +200,7 @@ module _ (related alone : Space → ℕ → Type 0) (never : (k : Space) (a : �
     datas = λ c r. refl;
   }
 
-  memory_kept : (s : Store) (n a : ℕ) (m : Memory) → alone Memories a → alone DataSegments n → Kept related s (changed (changed s (SetMemory a m)) (DropData n))
+  pub memory_kept : (s : Store) (n a : ℕ) (m : Memory) → alone Memories a → alone DataSegments n → Kept related s (changed (changed s (SetMemory a m)) (DropData n))
   memory_kept s n a m lone by_itself = record {
     funcs = refl;
     globals = refl;

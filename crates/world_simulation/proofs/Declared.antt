@@ -1,5 +1,5 @@
 -- A module with its references declared: it has perhaps one more element segment, which is declarative and is allocated wherever the module is.
-use Rattle.std.proofs.Common.{◌≡◌, ℕ, zero, suc, ◌+◌, ◌<◌, List, [], ◌∷◌, ◌++◌, map, length, Some, ◌&&◌, refl, sym, ap, ap₂, ◌∙◌, arith, option_and_then, append-nil}
+use Rattle.std.proofs.Common.{◌≡◌, ℕ, zero, suc, ◌+◌, ◌<◌, List, [], ◌∷◌, ◌++◌, map, length, Some, ◌&&◌, refl, sym, ap, ap₂, arith, option_and_then, append-nil}
 use Rattle.std.specs.Prelude.{not, slice_get}
 use Rattle.std.specs.List.{range_with_len}
 use Rattle.base_lists.proofs.Filtered.{kept_is}

@@ -14,4 +14,7 @@ pub mod Simulated
 pub mod Renamed
 pub mod Declared
 pub mod Single
+pub mod Holes
+pub mod SameItems
 pub mod Unreachable
+pub mod Added

@@ -34,7 +34,7 @@ use Rattle.world_simulation.proofs.Copied.{both_placed, HasRoom, run_elem_room, 
 abbrev pub Defines : Environment → Instantiated → Space → {A : Type 0} → (Module → List A) → List (Task A) → Type 0
 Defines env w k {A} definitions tasks = (n : ℕ) (x : Task A) → slice_get tasks n ≡ Some x → (d : DefinedAt env w k definitions x.address) × (d.definition ≡ x.segment)
 
-task_at : {A : Type 0} (p : ℕ) (i : Inst) (ns : List ℕ) (xs : List A) (n : ℕ) (x : Task A) → slice_get (tasks_in p i ns xs) n ≡ Some x → (slice_get ns n ≡ Some x.address) × (slice_get xs n ≡ Some x.segment)
+pub task_at : {A : Type 0} (p : ℕ) (i : Inst) (ns : List ℕ) (xs : List A) (n : ℕ) (x : Task A) → slice_get (tasks_in p i ns xs) n ≡ Some x → (slice_get ns n ≡ Some x.address) × (slice_get xs n ≡ Some x.segment)
 task_at p i [] xs n x h = cc
 task_at p i (a ∷ ns) [] n x h = cc
 task_at {A} p i (a ∷ ns) (y ∷ xs) zero x h =
@@ -42,6 +42,15 @@ task_at {A} p i (a ∷ ns) (y ∷ xs) zero x h =
     let same : task ≡ x = cc in
     (ap (λ (x : Task A). Some x.address) same, ap (λ (x : Task A). Some x.segment) same)
 task_at p i (a ∷ ns) (y ∷ xs) (suc n) x h = task_at p i ns xs n x h
+
+pub task_inst : {A : Type 0} (p : ℕ) (i : Inst) (ns : List ℕ) (xs : List A) (n : ℕ) (x : Task A) → slice_get (tasks_in p i ns xs) n ≡ Some x → x.inst ≡ i
+task_inst p i [] xs n x h = cc
+task_inst p i (a ∷ ns) [] n x h = cc
+task_inst {A} p i (a ∷ ns) (y ∷ xs) zero x h =
+    let task : Task A = record { part = p; inst = i; address = a; segment = y } in
+    let same : task ≡ x = cc in
+    ap (λ (x : Task A). x.inst) (sym same)
+task_inst p i (a ∷ ns) (y ∷ xs) (suc n) x h = task_inst p i ns xs n x h
 
 -- the segments of one kind, by part
 abbrev pub tasks_by : {A : Type 0} → (Module → List A) → (Inst → List ℕ) → ℕ → List Part → List Inst → List (Task A)
@@ -106,6 +115,34 @@ elems_defined env w are = subst (Defines env w ElementSegments (λ m. m.elems)) 
 pub datas_defined : (env : Environment) (w : Instantiated) → insts_from env w.parts 0 w.parts ≡ Some w.insts → Defines env w DataSegments (λ m. m.datas) (data_tasks 0 w.parts w.insts)
 datas_defined env w are = subst (Defines env w DataSegments (λ m. m.datas)) (sym (datas_by 0 w.parts w.insts))
     (all_defined env w DataSegments (λ m. m.datas) (λ i. i.datas) (λ p m i is there. (inst_at env w are p m i is there).datas ∙ numbers_from (defined_before DataSegments w.parts p) (length m.datas)))
+
+-- ---- what is kept where it is related ----
+
+module _ (R : Pairing) where
+  -- the addresses of the first store, and of the second, that are related
+  abbrev pub in_first : Space → ℕ → Type 0
+  in_first k a = (b : ℕ) × R.of k a b
+
+  abbrev pub in_second : Space → ℕ → Type 0
+  in_second k b = (a : ℕ) × R.of k a b
+
+  pub kept_rel : {s t z y : Store} → StoreRel R s z → Kept in_first s t → Kept in_second z y → StoreRel R t y
+  kept_rel {s} {t} {z} {y} like f g = record {
+    types = λ {a} {b} r. rw (f.funcs, g.funcs) (like.types r);
+    owns = λ {a} {b} r. rw (f.funcs, g.funcs) (like.owns r);
+    funcs = λ {a} {b} r l. rw (f.funcs, g.funcs) (like.funcs r l);
+    tables = λ {a} {b} r. rw (f.tables a (b, r), g.tables b (a, r)) (like.tables r);
+    mems = λ {a} {b} r. rw (f.mems a (b, r), g.mems b (a, r)) (like.mems r);
+    globals = λ {a} {b} r. rw (f.globals, g.globals) (like.globals r);
+    elems = λ {a} {b} r. rw (f.elems a (b, r), g.elems b (a, r)) (like.elems r);
+    datas = λ {a} {b} r. rw (f.datas a (b, r), g.datas b (a, r)) (like.datas r);
+  }
+
+  pub first_apart : (k : Space) (a : ℕ) → alone_in_first R k a → in_first k a → ⊥
+  first_apart k a alone r = alone r.0 r.1
+
+  pub second_apart : (k : Space) (b : ℕ) → HasNoPartner R k b → in_second k b → ⊥
+  second_apart k b alone r = alone r.0 r.1
 
 -- ---- related stores with room ----
 
@@ -173,43 +210,18 @@ module _ (R : Pairing) (apart : OneToOne R) (env : Environment) (v w : Instantia
 
   -- ---- one without partner ----
 
-  -- the addresses of the first store, and of the second, that are related
-  abbrev in_first : Space → ℕ → Type 0
-  in_first k a = (b : ℕ) × R.of k a b
-
-  abbrev in_second : Space → ℕ → Type 0
-  in_second k b = (a : ℕ) × R.of k a b
-
-  kept_rel : {s t z y : Store} → StoreRel R s z → Kept in_first s t → Kept in_second z y → StoreRel R t y
-  kept_rel {s} {t} {z} {y} like f g = record {
-    types = λ {a} {b} r. rw (f.funcs, g.funcs) (like.types r);
-    owns = λ {a} {b} r. rw (f.funcs, g.funcs) (like.owns r);
-    funcs = λ {a} {b} r l. rw (f.funcs, g.funcs) (like.funcs r l);
-    tables = λ {a} {b} r. rw (f.tables a (b, r), g.tables b (a, r)) (like.tables r);
-    mems = λ {a} {b} r. rw (f.mems a (b, r), g.mems b (a, r)) (like.mems r);
-    globals = λ {a} {b} r. rw (f.globals, g.globals) (like.globals r);
-    elems = λ {a} {b} r. rw (f.elems a (b, r), g.elems b (a, r)) (like.elems r);
-    datas = λ {a} {b} r. rw (f.datas a (b, r), g.datas b (a, r)) (like.datas r);
-  }
-
-  first_apart : (k : Space) (a : ℕ) → alone_in_first R k a → in_first k a → ⊥
-  first_apart k a alone r = alone r.0 r.1
-
-  second_apart : (k : Space) (b : ℕ) → HasNoPartner R k b → in_second k b → ⊥
-  second_apart k b alone r = alone r.0 r.1
-
   -- what a run leaves room for, a copy does
   copied_room : (u : Instantiated) (f : Filled) (t : Store) → f ≡ record { store = t; trapped = false } → HasRoom env u f.store → HasRoom env u t
   copied_room u f t e room = subst (λ (f : Filled). HasRoom env u f.store) e room
 
   -- after it the one goes on, and the other stays
-  first_goes : {f : Filled} {h : Store → Filled} {g : Filled} {s z : Store} → Copies in_first s f → HasRoom env v f.store → Stores s z → ((s : Store) → Stores s z → FilledAlike (h s) g) → FilledAlike (and_then f h) g
+  first_goes : {f : Filled} {h : Store → Filled} {g : Filled} {s z : Store} → Copies (in_first R) s f → HasRoom env v f.store → Stores s z → ((s : Store) → Stores s z → FilledAlike (h s) g) → FilledAlike (and_then f h) g
   first_goes {f} {h} {g} {s} {z} c room like next =
-      subst (λ f. FilledAlike (and_then f h) g) (sym c.is) (next c.store (record { related = kept_rel like.related c.kept (nothing_kept in_second z); first = copied_room v f c.store c.is room; second = like.second }))
+      subst (λ f. FilledAlike (and_then f h) g) (sym c.is) (next c.store (record { related = kept_rel R like.related c.kept (nothing_kept (in_second R) z); first = copied_room v f c.store c.is room; second = like.second }))
 
-  second_goes : {f : Filled} {h : Store → Filled} {g : Filled} {s z : Store} → Copies in_second z g → HasRoom env w g.store → Stores s z → ((z : Store) → Stores s z → FilledAlike f (h z)) → FilledAlike f (and_then g h)
+  second_goes : {f : Filled} {h : Store → Filled} {g : Filled} {s z : Store} → Copies (in_second R) z g → HasRoom env w g.store → Stores s z → ((z : Store) → Stores s z → FilledAlike f (h z)) → FilledAlike f (and_then g h)
   second_goes {f} {h} {g} {s} {z} c room like next =
-      subst (λ g. FilledAlike f (and_then g h)) (sym c.is) (next c.store (record { related = kept_rel like.related (nothing_kept in_first s) c.kept; first = like.first; second = copied_room w g c.store c.is room }))
+      subst (λ g. FilledAlike f (and_then g h)) (sym c.is) (next c.store (record { related = kept_rel R like.related (nothing_kept (in_first R) s) c.kept; first = like.first; second = copied_room w g c.store c.is room }))
 
   -- ---- in order ----
 
@@ -222,10 +234,10 @@ module _ (R : Pairing) (apart : OneToOne R) (env : Environment) (v w : Instantia
       (λ s z like. elems_in_order r (λ n. d (suc n)) (λ n. e (suc n)) s z like)
   elems_in_order (segments.InOrder.only_first {x = x} p r) d e s z like =
       let i = d 0 x refl in
-      first_goes (elem_copied in_first (alone_in_first R) first_apart env v s x like.first i.0 i.1 x.segment.mode p) (run_elem_room env v (values_in env v x.part) x x.segment.mode like.first) like (λ s like. elems_in_order r (λ n. d (suc n)) e s z like)
+      first_goes (elem_copied (in_first R) (alone_in_first R) (first_apart R) env v s x like.first i.0 i.1 x.segment.mode p) (run_elem_room env v (values_in env v x.part) x x.segment.mode like.first) like (λ s like. elems_in_order r (λ n. d (suc n)) e s z like)
   elems_in_order (segments.InOrder.only_second {y = y} p r) d e s z like =
       let i = e 0 y refl in
-      second_goes (elem_copied in_second (HasNoPartner R) second_apart env w z y like.second i.0 i.1 y.segment.mode p) (run_elem_room env w (values_in env w y.part) y y.segment.mode like.second) like (λ z like. elems_in_order r d (λ n. e (suc n)) s z like)
+      second_goes (elem_copied (in_second R) (HasNoPartner R) (second_apart R) env w z y like.second i.0 i.1 y.segment.mode p) (run_elem_room env w (values_in env w y.part) y y.segment.mode like.second) like (λ z like. elems_in_order r d (λ n. e (suc n)) s z like)
 
   pub datas_in_order : {xs ys : List (Task DataSeg)} → InOrder (λ x y. DatasPartner R (values_in env v x.part) (values_in env w y.part) x y x.segment.mode y.segment.mode) (λ x. DataAlone (alone_in_first R) env v x x.segment.mode) (λ y. DataAlone (HasNoPartner R) env w y y.segment.mode) xs ys →
       Defines env v DataSegments (λ m. m.datas) xs → Defines env w DataSegments (λ m. m.datas) ys → (s z : Store) → Stores s z → FilledAlike (in_turn (run_data env v.parts v.insts) s xs) (in_turn (run_data env w.parts w.insts) z ys)
@@ -236,7 +248,7 @@ module _ (R : Pairing) (apart : OneToOne R) (env : Environment) (v w : Instantia
       (λ s z like. datas_in_order r (λ n. d (suc n)) (λ n. e (suc n)) s z like)
   datas_in_order (segments.InOrder.only_first {x = x} p r) d e s z like =
       let i = d 0 x refl in
-      first_goes (data_copied in_first (alone_in_first R) first_apart env v s x like.first i.0 i.1 x.segment.mode p) (run_data_room env v (values_in env v x.part) x x.segment.mode like.first) like (λ s like. datas_in_order r (λ n. d (suc n)) e s z like)
+      first_goes (data_copied (in_first R) (alone_in_first R) (first_apart R) env v s x like.first i.0 i.1 x.segment.mode p) (run_data_room env v (values_in env v x.part) x x.segment.mode like.first) like (λ s like. datas_in_order r (λ n. d (suc n)) e s z like)
   datas_in_order (segments.InOrder.only_second {y = y} p r) d e s z like =
       let i = e 0 y refl in
-      second_goes (data_copied in_second (HasNoPartner R) second_apart env w z y like.second i.0 i.1 y.segment.mode p) (run_data_room env w (values_in env w y.part) y y.segment.mode like.second) like (λ z like. datas_in_order r d (λ n. e (suc n)) s z like)
+      second_goes (data_copied (in_second R) (HasNoPartner R) (second_apart R) env w z y like.second i.0 i.1 y.segment.mode p) (run_data_room env w (values_in env w y.part) y y.segment.mode like.second) like (λ z like. datas_in_order r d (λ n. e (suc n)) s z like)

@@ -1,21 +1,21 @@
 -- The environment's own entities, where each has its address in both worlds.
-use Rattle.std.proofs.Common.{◌≡◌, ℕ, suc, ◌+◌, ◌^◌, ◌<◌, ◌≤◌, List, [], ◌∷◌, map, length, Option, Some, None, Bool, true, false, cond, refl, sym, ap₂, subst, ◌∙◌, arith}
+use Rattle.std.proofs.Common.{◌≡◌, ℕ, suc, ◌+◌, ◌^◌, ◌<◌, ◌≤◌, List, [], ◌∷◌, map, length, Option, Some, None, Bool, true, false, cond, option_and_then, refl, sym, ap₂, subst, ◌∙◌, arith}
 use Rattle.std.specs.Prelude.{nat_lt}
+use Rattle.wasm_tree.specs.declared.space.Space.TheVariants.{Functions}
 use Rattle.std.proofs.lemmas.List.{length-append}
 use Rattle.wasm_tree.specs.declared.types.RefType.{RefType}
 use Rattle.wasm_tree.specs.declared.types.RefType.TheVariants as reft
 use Rattle.wasm_tree.specs.declared.types.ValType.{ValType}
 use Rattle.wasm_tree.specs.declared.types.ValType.TheVariants as valt
-use Rattle.wasm_meaning.specs.Outcomes.{Outcome, Gives, Traps, IllTyped, bind}
+use Rattle.wasm_meaning.specs.Outcomes.{given}
 use Rattle.wasm_num.specs.Operations.{Width, W32, W64}
 use Rattle.wasm_meaning.specs.State.{Val, Num, Own}
 use Rattle.wasm_meaning.specs.Values.{ref_of, null_of}
 use Rattle.wasm_meaning.specs.Environment.{Environment, Shown, Number, Null, OwnFunc, ExternNumber, OwnKey, FuncKey, TableKey, MemoryKey, GlobalKey, Thing, FuncAt, TableAt, MemoryAt, GlobalAt, Owned, owned_of, owned_at, look_up, same_key, func_of, func_value, received, or_null, or_zero, addressed, flat, one_if, own_funcs, own_tables, own_memories, own_globals}
-use Rattle.wasm_meaning.specs.World.{given}
-use Rattle.index_remap.specs.Related.{Pairing, OptRel, none, some, ResRel, done, trap, wrong, ListRel, nil, cons, RefRel, func, extern, ValRel, number, reference, FuncRel, TableRel, GlobalRel}
+use Rattle.index_remap.specs.Related.{Pairing, OptRel, none, some, ListRel, nil, cons, RefRel, func, extern, ValRel, number, reference, FuncRel, TableRel, GlobalRel}
 use Rattle.index_remap.specs.Related as related
 use Rattle.index_remap.specs.RelatedRuns.{ThingRel, a_func, a_table, a_memory, a_global, KeyRel}
-use Rattle.index_remap.proofs.Rel.{append_rel}
+use Rattle.index_remap.proofs.Rel.{then_rel, append_rel}
 use Rattle.world_simulation.specs.Owned.{SharesOwn, OwnCorrespond}
 use Rattle.world_simulation.proofs.Places.{map_length, opt_self, self_rel, maps_rel}
 
@@ -55,56 +55,53 @@ module _ (R : Pairing) (env : Environment) (own : SharesOwn R env) where
       (append_rel (addressed_rel TableAt 0 _ (λ a l m. a_table (own.tables a (omega (arith, m, tables)))))
       (append_rel (addressed_rel MemoryAt 0 _ (λ a l m. a_memory (own.mems a (omega (arith, m, mems))))) (addressed_rel GlobalAt 0 _ (λ a l m. a_global (own.globals a (omega (arith, m, globals)))))))
 
-  either : (b : Bool) {x y : Thing} (o p : Outcome Thing) → ThingRel R x y → OptRel (ThingRel R) (given o) (given p) → OptRel (ThingRel R) (given (cond b (Gives x) o)) (given (cond b (Gives y) p))
+  either : (b : Bool) {x y : Thing} (o p : Option Thing) → ThingRel R x y → OptRel (ThingRel R) o p → OptRel (ThingRel R) (cond b (Some x) o) (cond b (Some y) p)
   either true o p x r = some x
   either false o p x r = r
 
-  pub given_rel : (is : OwnKey → Bool) {xs ys : Owned} → ListRel (KeyRel R) xs ys → OptRel (ThingRel R) (given (look_up is xs)) (given (look_up is ys))
-  given_rel is nil = none
-  given_rel is (cons {a = x} {b = y} {xs = xs} {ys = ys} p r) =
-      subst (λ k. OptRel (ThingRel R) (given (look_up is (x ∷ xs))) (given (cond (is k) (Gives y.1) (look_up is ys)))) p.key (either (is x.0) (look_up is xs) (look_up is ys) p.thing (given_rel is r))
+  pub look_rel : (is : OwnKey → Bool) {xs ys : Owned} → ListRel (KeyRel R) xs ys → OptRel (ThingRel R) (look_up is xs) (look_up is ys)
+  look_rel is nil = none
+  look_rel is (cons {a = x} {b = y} {xs = xs} {ys = ys} p r) =
+      subst (λ k. OptRel (ThingRel R) (look_up is (x ∷ xs)) (cond (is k) (Some y.1) (look_up is ys))) p.key (either (is x.0) (look_up is xs) (look_up is ys) p.thing (look_rel is r))
 
   -- ---- their values ----
 
-  func_value_rel : (o : Outcome Thing) → OptRel (ThingRel R) (given o) (given o) → ResRel (ValRel R) (bind o (λ thing. func_value (func_of thing))) (bind o (λ thing. func_value (func_of thing)))
-  func_value_rel Traps h = trap
-  func_value_rel IllTyped h = wrong
-  func_value_rel (Gives x) h = go (opt_self h refl)
-    where
-      go : {x : Thing} → ThingRel R x x → ResRel (ValRel R) (func_value (func_of x)) (func_value (func_of x))
-      go (a_func p) = done (reference (func (some p)))
-      go (a_table p) = wrong
-      go (a_memory p) = wrong
-      go (a_global p) = wrong
+  func_of_rel : {x : Thing} → ThingRel R x x → OptRel (R.of Functions) (func_of x) (func_of x)
+  func_of_rel (a_func p) = some p
+  func_of_rel (a_table p) = none
+  func_of_rel (a_memory p) = none
+  func_of_rel (a_global p) = none
 
-  number_rel : (w : Width) (n : ℕ) (b : Bool) → ResRel (ValRel R) (cond b (Gives (Num w n)) IllTyped) (cond b (Gives (Num w n)) IllTyped)
-  number_rel w n true = done number
-  number_rel w n false = wrong
+  func_value_rel : (o : Option Thing) → OptRel (ThingRel R) o o → OptRel (ValRel R) (option_and_then (λ a. Some (func_value a)) (option_and_then func_of o)) (option_and_then (λ a. Some (func_value a)) (option_and_then func_of o))
+  func_value_rel None h = none
+  func_value_rel (Some x) h = then_rel (func_of_rel (opt_self h refl)) (λ _ _ p. some (reference (func (some p))))
 
-  received_rel : (ty : ValType) (x : Shown) → ResRel (ValRel R) (received (owned_of env) [] ty x) (received (owned_of env) [] ty x)
+  number_rel : (w : Width) (n : ℕ) (b : Bool) → OptRel (ValRel R) (cond b (Some (Num w n)) None) (cond b (Some (Num w n)) None)
+  number_rel w n true = some number
+  number_rel w n false = none
+
+  received_rel : (ty : ValType) (x : Shown) → OptRel (ValRel R) (received (owned_of env) [] ty x) (received (owned_of env) [] ty x)
   received_rel valt.I32 (Number n) = number_rel W32 n (nat_lt n (2 ^ 32))
   received_rel valt.I64 (Number n) = number_rel W64 n (nat_lt n (2 ^ 64))
-  received_rel (valt.Ref reft.Func) Null = done (reference (func none))
-  received_rel (valt.Ref reft.Func) (OwnFunc pair ty) = func_value_rel (owned_at (owned_of env) (FuncKey pair ty)) (given_rel (same_key (FuncKey pair ty)) owned_rel)
-  received_rel (valt.Ref reft.Extern) Null = done (reference extern)
-  received_rel (valt.Ref reft.Extern) (ExternNumber n) = done (reference extern)
-  received_rel _ _ = wrong
+  received_rel (valt.Ref reft.Func) Null = some (reference (func none))
+  received_rel (valt.Ref reft.Func) (OwnFunc pair ty) = func_value_rel (owned_at (owned_of env) (FuncKey pair ty)) (look_rel (same_key (FuncKey pair ty)) owned_rel)
+  received_rel (valt.Ref reft.Extern) Null = some (reference extern)
+  received_rel (valt.Ref reft.Extern) (ExternNumber n) = some (reference extern)
+  received_rel _ _ = none
 
-  received_ref_rel : (ty : RefType) {o p : Outcome Val} → ResRel (ValRel R) o p → RefRel R (or_null ty (bind o ref_of)) (or_null ty (bind p ref_of))
-  received_ref_rel ty (done (reference r)) = r
-  received_ref_rel reft.Func (done number) = func none
-  received_ref_rel reft.Func trap = func none
-  received_ref_rel reft.Func wrong = func none
-  received_ref_rel reft.Extern (done number) = extern
-  received_ref_rel reft.Extern trap = extern
-  received_ref_rel reft.Extern wrong = extern
+  received_ref_rel : (ty : RefType) {o p : Option Val} → OptRel (ValRel R) o p → RefRel R (or_null ty (option_and_then (λ v. given (ref_of v)) o)) (or_null ty (option_and_then (λ v. given (ref_of v)) p))
+  received_ref_rel ty (some (reference r)) = r
+  received_ref_rel reft.Func (some number) = func none
+  received_ref_rel reft.Func none = func none
+  received_ref_rel reft.Extern (some number) = extern
+  received_ref_rel reft.Extern none = extern
 
-  zero_rel : (ty : ValType) {o p : Outcome Val} → ResRel (ValRel R) o p → ValRel R (or_zero ty o) (or_zero ty p)
-  zero_rel ty (done v) = v
-  zero_rel valt.I32 h = number
-  zero_rel valt.I64 h = number
-  zero_rel (valt.Ref reft.Func) h = reference (func none)
-  zero_rel (valt.Ref reft.Extern) h = reference extern
+  zero_rel : (ty : ValType) {o p : Option Val} → OptRel (ValRel R) o p → ValRel R (or_zero ty o) (or_zero ty p)
+  zero_rel ty (some v) = v
+  zero_rel valt.I32 none = number
+  zero_rel valt.I64 none = number
+  zero_rel (valt.Ref reft.Func) none = reference (func none)
+  zero_rel (valt.Ref reft.Extern) none = reference extern
 
   one_rel : {A B : Type 0} {P : B → B → Type 0} (f : A → B) → ((a : A) → P (f a) (f a)) → (o : Option A) → ListRel P (one_if f o) (one_if f o)
   one_rel f h None = nil

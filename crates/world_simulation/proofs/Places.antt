@@ -3,6 +3,7 @@ use Rattle.std.proofs.Common.{◌≡◌, ℕ, zero, suc, ◌+◌, ◌<◌, ◌�
 use Rattle.wasm_meaning.specs.Outcomes.{Outcome, Gives, IllTyped, at}
 use Rattle.wasm_meaning.specs.World.{numbers, all_there}
 pub use Rattle.base_lists.proofs.Bools.{left_true, right_true}
+pub use Rattle.index_remap.proofs.Rel.{then_rel, then_rel_is}
 use Rattle.std.specs.List.{list_all}
 use Rattle.index_remap.specs.Related.{OptRel, none, some, ResRel, done, wrong, BothRel, both, ListRel, nil, cons}
 
@@ -23,15 +24,6 @@ some_then (Some a) f b h = (a, refl, cc)
 
 -- ---- options ----
 
-pub then_rel : {A B C D : Type 0} {P : A → B → Type 0} {Q : C → D → Type 0} {o : Option A} {p : Option B} {f : A → Option C} {g : B → Option D} → OptRel P o p → ((a : A) (b : B) → P a b → OptRel Q (f a) (g b)) → OptRel Q (option_and_then f o) (option_and_then g p)
-then_rel none h = none
-then_rel (some q) h = h _ _ q
-
--- with what the first came to
-pub then_rel_is : {A B C D : Type 0} {P : A → B → Type 0} {Q : C → D → Type 0} {o : Option A} {p : Option B} {f : A → Option C} {g : B → Option D} → OptRel P o p → ((a : A) (b : B) → o ≡ Some a → P a b → OptRel Q (f a) (g b)) → OptRel Q (option_and_then f o) (option_and_then g p)
-then_rel_is none h = none
-then_rel_is (some q) h = h _ _ refl q
-
 pub then_same : {A C D : Type 0} {Q : C → D → Type 0} {f : A → Option C} {g : A → Option D} (o : Option A) → ((a : A) → o ≡ Some a → OptRel Q (f a) (g a)) → OptRel Q (option_and_then f o) (option_and_then g o)
 then_same None h = none
 then_same (Some a) h = h a refl
@@ -46,6 +38,14 @@ opt_self {P = P} {o = o} r e = go (subst (λ x. OptRel P x x) e r)
   where
     go : {b : _} → OptRel P (Some b) (Some b) → P b b
     go (some p) = p
+
+pub right_there : {A B : Type 0} {P : A → B → Type 0} {o : Option A} {p : Option B} {a : A} → OptRel P o p → o ≡ Some a → (b : B) × (p ≡ Some b)
+right_there none e = cc
+right_there (some {b = b} r) e = (b, refl)
+
+pub left_there : {A B : Type 0} {P : A → B → Type 0} {o : Option A} {p : Option B} {b : B} → OptRel P o p → p ≡ Some b → (a : A) × (o ≡ Some a)
+left_there none e = cc
+left_there (some {a = a} r) e = (a, refl)
 
 pub opt_both : {A B : Type 0} {P : A → B → Type 0} {o : Option A} {p : Option B} {a : A} {b : B} → OptRel P o p → o ≡ Some a → p ≡ Some b → P a b
 opt_both {B = B} {P = P} {p = p} {a = a} r e f = go (subst (λ y. OptRel P (Some a) y) f (subst (λ x. OptRel P x p) e r))

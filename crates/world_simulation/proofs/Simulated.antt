@@ -2,12 +2,11 @@
 use Rattle.std.proofs.Common.{◌≡◌, ℕ, zero, suc, ◌*◌, ◌≤◌, List, length, Option, Some, None, Bool, true, false, cond, refl, ap, subst, arith, option_and_then}
 use Rattle.base_lists.proofs.Options.{and_then_is, all_there_length}
 use Rattle.wasm_tree.specs.declared.space.Space.TheVariants.{Functions}
-use Rattle.wasm_meaning.specs.State.{Elem, Store, RefVal}
+use Rattle.wasm_meaning.specs.State.{Elem, Store, RefVal, Val}
 use Rattle.wasm_tree.specs.declared.module.ElemMode.{ElemMode}
 use Rattle.wasm_tree.specs.declared.module.ElemMode.TheVariants as elem
 use Rattle.wasm_tree.specs.declared.module.ElemSeg.{ElemSeg}
 use Rattle.wasm_tree.specs.declared.module.ConstExpr.{ConstExpr}
-use Rattle.wasm_meaning.specs.State.{Val}
 use Rattle.wasm_meaning.specs.Values.{ref_of, null_of}
 use Rattle.wasm_meaning.specs.Outcomes.{copies}
 use Rattle.wasm_meaning.specs.Linking.{sites}

@@ -1,5 +1,5 @@
--- Worlds of one module each: what their imports stand for is related to itself, and imports match in both or in neither.
-use Rattle.std.proofs.Common.{◌≡◌, ℕ, zero, suc, List, [], ◌∷◌, ◌++◌, length, Option, Some, None, Bool, true, false, refl, sym, ap, ap₂, subst, ◌∙◌, option_and_then, slice_get, unwrap_or, ◌&&◌}
+-- Worlds of one module each: their instances, what their imports stand for, whether these match, and that they are linked.
+use Rattle.std.proofs.Common.{◌≡◌, ℕ, zero, suc, List, [], ◌∷◌, ◌++◌, length, Option, Some, None, cond, Bool, true, false, refl, sym, ap, ap₂, ◌∙◌, option_and_then, slice_get, unwrap_or, ◌&&◌}
 use Rattle.base_lists.proofs.Options.{and_then_is, all_there_length}
 use Rattle.wasm_tree.specs.declared.space.Space.{Space}
 use Rattle.wasm_tree.specs.declared.space.Space.TheVariants.{Functions, Tables, Memories, Globals}
@@ -9,21 +9,23 @@ use Rattle.wasm_tree.specs.declared.module.Import.{Import}
 use Rattle.wasm_tree.specs.declared.module.ImportDesc.{ImportDesc}
 use Rattle.wasm_tree.specs.declared.module.ImportDesc.TheVariants as im
 use Rattle.wasm_tree.specs.declared.module.Module.{Module}
-use Rattle.wasm_meaning.specs.State.{Inst, Table, Store}
+use Rattle.wasm_meaning.specs.State.{Inst, Table, Store, Text}
 use Rattle.wasm_meaning.specs.Values.{same_ref, same_type, same_func_type}
-use Rattle.wasm_meaning.specs.Linking.{Site, has_kind, pair_of, places, sites, imports_of}
+use Rattle.wasm_meaning.specs.Linking.{Site, has_kind, pair_of, places, sites, imports_of, Entity}
 use Rattle.wasm_meaning.specs.Linking as linking
-use Rattle.wasm_meaning.specs.Environment.{Environment, Thing, same_key, owned_of, all_of}
-use Rattle.wasm_meaning.specs.World.{given, meets, same_bool, numbers, own_count, defined_count, address_of, space, is_match, is_matched}
+use Rattle.wasm_meaning.specs.Environment.{Environment, Thing, same_key, all_of}
+use Rattle.wasm_meaning.specs.World.{given, meets, same_bool, numbers, own_count, defined_count, address_of, space, is_match, is_matched, Begun, insts_from, stores_from, own_store, joined_stores, part_store, all_there, segments, begun, instantiate, is_there, links, alone, elem_tasks, data_tasks, seen_as, start_in, starts_of}
 use Rattle.index_remap.specs.Related.{Pairing, OptRel, none, some, ListRel, TableRel, StoreRel}
 use Rattle.index_remap.specs.RelatedRuns.{ThingRel, a_func, a_table, a_memory, a_global}
 use Rattle.index_remap.proofs.Rel.{length_rel, same_there}
 use Rattle.world_simulation.specs.Alone.{one, site, key_in, thing_in, import_places, addresses}
 use Rattle.world_simulation.specs.Owned.{SharesOwn}
 use Rattle.world_simulation.proofs.Alone.{space_is, thing_is, on_some}
-use Rattle.world_simulation.proofs.Owned.{owned_rel, given_rel}
+use Rattle.world_simulation.proofs.Owned.{owned_rel, look_rel}
 use Rattle.world_simulation.proofs.Places.{then_rel, then_same, then_eq, opt_self, self_rel, all_rel}
 use Rattle.world_simulation.proofs.Copied.{both_placed}
+use Rattle.wasm_meaning.specs.World as world
+use Rattle.world_simulation.proofs.Instancing.{IsInst, inst_is}
 
 pub address_rel : (R : Pairing) (k : Space) {x y : Thing} → ThingRel R x y → OptRel (R.of k) (address_of k x) (address_of k y)
 address_rel R Functions (a_func p) = some p
@@ -34,7 +36,7 @@ address_rel R k p = none
 
 module _ (R : Pairing) (env : Environment) (own : SharesOwn R env) where
   thing_rel : (types : List FuncType) (o : Option Import) → OptRel (ThingRel R) (thing_in env types o) (thing_in env types o)
-  thing_rel types o = then_same o (λ i _. then_same (key_in types (pair_of i) i.desc) (λ key _. given_rel R env own (same_key key) (owned_rel R env own)))
+  thing_rel types o = then_same o (λ i _. then_same (key_in types (pair_of i) i.desc) (λ key _. look_rel R env own (same_key key) (owned_rel R env own)))
 
   addresses_rel : (types : List FuncType) (imports : List Import) (k : Space) → OptRel (ListRel (R.of k)) (addresses env types imports k) (addresses env types imports k)
   addresses_rel types imports k = all_rel (self_rel (places (has_kind k) imports 0) (λ n. then_rel (thing_rel types (slice_get imports n)) (λ _ _ p. address_rel R k p)))
@@ -83,3 +85,23 @@ module _ (R : Pairing) (env : Environment) (own : SharesOwn R env) where
         each : (count n : ℕ) → all_of (is_matched env (one t) s) (linking.sites_in 0 count n ++ []) ≡ all_of (is_matched env (one u) z) (linking.sites_in 0 count n ++ [])
         each zero n = refl
         each (suc count) n = ap₂ (λ a b. a && b) (matched_same n) (each count (suc n))
+
+-- the one instance of a module alone
+pub one_inst : (env : Environment) (t : Module) (is : List Inst) → insts_from env (one t) 0 (one t) ≡ Some is → (i : Inst) × (is ≡ i ∷ []) × IsInst env (one t) 0 t i
+one_inst env t is h =
+    let i = and_then_is (world.inst_of env (one t) 0 t) _ is h in
+    let q = i.2 in
+    let same : i.0 ∷ [] ≡ is = cc in
+    (i.0, sym same, inst_is env (one t) 0 t i.0 i.1)
+
+pub there_is : {A : Type 0} (o : Option A) → is_there o ≡ true → (x : A) × (o ≡ Some x)
+there_is None h = cc
+there_is (Some x) h = (x, refl)
+
+pub made_there : (env : Environment) (t : Module) (is : List Inst) (s : Store) (view : List (Text × Thing)) → insts_from env (one t) 0 (one t) ≡ Some is → stores_from env (one t) is (own_store env) 0 (one t) is ≡ Some s → all_there (seen_as is) (alone t).view ≡ Some view →
+    all_of (is_matched env (one t) s) (sites (one t)) ≡ true → links env (alone t) ≡ true
+made_there env t is s view e f g h =
+    let matched : List Inst → List (Text × Thing) → Store → Bool → Option Begun = λ is view s b. cond b (Some (begun env (alone t) is view (segments env (one t) is s))) None in
+    ap is_there (ap (λ o. option_and_then (λ is. option_and_then (λ s. option_and_then (λ view. matched is view s (all_of (is_matched env (one t) s) (sites (one t)))) (all_there (seen_as is) (alone t).view)) (stores_from env (one t) is (own_store env) 0 (one t) is)) o) e
+    ∙ ap (λ o. option_and_then (λ s. option_and_then (λ view. matched is view s (all_of (is_matched env (one t) s) (sites (one t)))) (all_there (seen_as is) (alone t).view)) o) f
+    ∙ ap₂ (λ o b. option_and_then (λ view. matched is view s b) o) g h)

@@ -116,7 +116,7 @@ module _ (R : Pairing) where
   type_same (both own) = both refl
   type_same (both to.slot) = both refl
 
-  own_same : {o p : Outcome Func} → BothRel (FuncRel R) o p → bind o own_of ≡ bind p own_of
+  own_same : {o p : Outcome Func} → BothRel (FuncRel R) o p → option_and_then own_of (given o) ≡ option_and_then own_of (given p)
   own_same (both (defined c)) = refl
   own_same (both own) = refl
   own_same (both to.slot) = refl

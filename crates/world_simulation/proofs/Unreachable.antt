@@ -1,100 +1,290 @@
 -- A module without one function that nothing else of it names shows what the module shows: its records of the law for two worlds.
-use Rattle.std.proofs.Common.{◌≡◌, ℕ, zero, suc, ◌+◌, ◌-◌, ◌<◌, ◌≤◌, List, [], ◌∷◌, ◌++◌, map, length, Option, Some, None, Bool, true, false, cond, ◌&&◌, ◌⊎◌, inl, inr, refl, sym, ap, ap₂, subst, ◌∙◌, arith, option_and_then, append-nil}
-use Rattle.std.specs.Prelude.{slice_get, slice_index, IsTrue, nat_eq, nat_lt, not}
-use Rattle.std.proofs.lemmas.Bool.{cases_lt, ltb-true, lt-ltb, eqb-true, eq-eqb, and_from}
-use Rattle.std.proofs.lemmas.List.{length-append}
-use Rattle.std.proofs.lemmas.Option.{slice_get_within}
+use Rattle.std.proofs.Common.{◌≡◌, ℕ, zero, suc, ◌+◌, ◌-◌, ◌<◌, ◌≤◌, List, [], ◌∷◌, map, length, Some, Bool, true, false, ◌⊎◌, inl, inr, refl, sym, ap, ap₂, subst, ◌∙◌, arith, option_and_then, append-nil}
+use Rattle.std.specs.Prelude.{slice_get, slice_index, IsTrue, nat_eq, not}
+use Rattle.std.proofs.lemmas.Bool.{cases_lt, ltb-true, eq-eqb}
+use Rattle.std.proofs.lemmas.List.{length-append, map-id}
 use Rattle.base_lists.proofs.Bools.{left_true, right_true}
-use Rattle.base_lists.proofs.Numbers.{length-numbers, numbers_at, numbers_index}
-use Rattle.base_lists.proofs.Options.{and_then_is}
-use Rattle.base_lists.proofs.Places.{slice_get_there, slice_index_is, append_left, append_right, map_at, map_from}
+use Rattle.base_lists.proofs.Numbers.{length-numbers, numbers_at}
+use Rattle.base_lists.proofs.Places.{slice_index_is, append_left, append_right, map_at, map_from}
 use Rattle.wasm_tree.specs.declared.space.Space.{Space}
 use Rattle.wasm_tree.specs.declared.space.Space.TheVariants.{Types, Functions, Tables, Memories, Globals, ElementSegments, DataSegments}
 use Rattle.wasm_meaning.specs.Environment.{Environment}
-use Rattle.wasm_meaning.specs.World.{own_count, defined_count, numbers}
-use Rattle.index_remap.specs.Related.{Pairing, OptRel, none, some, OneToOne, ListRel}
-use Rattle.index_remap.specs.Laws.{passed}
+use Rattle.wasm_meaning.specs.World.{own_count, defined_count, numbers, instantiate, links, alone, starts_of}
+use Rattle.index_remap.specs.Related.{Pairing, OneToOne, ListRel}
+use Rattle.index_remap.specs.Laws.{passed, RenumberedCodeIsRelated}
 use Rattle.wasm_tree.specs.declared.module.Module.{Module}
-use Rattle.world_simulation.specs.Unreachable.{without, function_index, closing, others, rest, removed}
-use Rattle.world_simulation.proofs.Places.{place_rel, opt_at}
+use Rattle.world_simulation.specs.Unreachable.{without, function_index, closing, others, rest, removed, IsUnreachable}
+use Rattle.world_simulation.proofs.Places.{map_length, names_of}
+use Rattle.wasm_tree.specs.declared.module.Func as tree
+use Rattle.wasm_tree.specs.declared.module.Import.{Import}
+use Rattle.wasm_tree.specs.declared.module.ImportDesc.{ImportDesc}
+use Rattle.wasm_tree.specs.declared.module.ImportDesc.TheVariants as im
+use Rattle.wasm_tree.specs.Spaces.{imported_funcs, imported_tables, imported_memories, imported_globals, tables_of, memories_of, globals_of}
+use Rattle.wasm_meaning.specs.State.{Inst}
+use Rattle.index_remap.specs.declared.remap.Remap.{Remap}
+use Rattle.index_remap.specs.Renumbered.{has, new_func, new_import, new_import_desc, renumbered_tree, new_elem, new_data, new_global}
+use Rattle.index_remap.specs.References.{declared_refs}
+use Rattle.remap_typing.specs.Indices.{Indices, ImportNamesOnly, FuncNamesOnly}
+use Rattle.world_simulation.proofs.Declared.{Keeps, keeps, last_elems, last_segments}
+use Rattle.wasm_meaning.specs.Run.{Move, events}
+use Rattle.world_simulation.specs.Instances.{RelatedInstancesShowTheSame}
+use Rattle.world_simulation.specs.Simulation.{AreSimilar, StartAlike, WorldsCorrespond}
+use Rattle.world_simulation.proofs.Instancing.{inst_is, inst_there, IsInst}
+use Rattle.world_simulation.proofs.Simulated.{what_is_made, instances_rel}
+use Rattle.world_simulation.specs.Definitions.{FuncsCorrespond, GlobalsCorrespond, ElemsCorrespond, Partners, DefinitionsCorrespond, Instantiated, values_in}
+use Rattle.world_simulation.proofs.Renamed.{funcs_correspond, elems_correspond}
+use Rattle.wasm_meaning.specs.Outcomes.{at}
+use Rattle.world_simulation.specs.Alone.{one}
+use Rattle.world_simulation.specs.Owned.{SharesOwn}
+use Rattle.world_simulation.specs.Named.{EntriesName}
+use Rattle.world_simulation.proofs.Alone.{funcs_counted, tables_counted, memories_counted, globals_counted}
+use Rattle.world_simulation.proofs.Single.{one_inst, there_is}
+use Rattle.world_simulation.proofs.Holes.{moved_down, Down, low, down_is, is_down, down_right, down_left, without_low, without_high, without_many, Moved, stays, falls, placed, stays_at, kept_place}
+use Rattle.world_simulation.proofs.SameItems.{SameItems, space_there, space_rel, plain_rel, segments_rel, consts, elems_in_order, datas_in_order, view, starts, FuncsFrom, linked_with}
 
--- ---- the relation of addresses ----
+-- ---- the module and what is left of it ----
 
--- up to the hole the same, behind it one less, and below a bound
-abbrev pub moved_down : (hole bound a b : ℕ) → Bool
-moved_down hole bound a b = nat_lt a bound && cond (nat_lt a hole) (nat_eq a b) (nat_eq a (suc b) && nat_lt hole a)
+module _ (t : Module) (n : ℕ) (there : n < length t.funcs) (reach : IsUnreachable n t) where
+  abbrev m : Remap
+  m = closing n t
 
-data Down (hole bound a b : ℕ) : Type 0 where
-  low : a < hole → a < bound → a ≡ b → Down hole bound a b
-  high : hole < a → a < bound → a ≡ suc b → Down hole bound a b
+  abbrev kept : Indices
+  kept = others n t
 
-down_is : (hole bound a b : ℕ) → moved_down hole bound a b ≡ true → Down hole bound a b
-down_is hole bound a b h = by (nat_lt a hole) refl (right_true (nat_lt a bound) _ h)
-  where
-    l : a < bound
-    l = ltb-true a bound (left_true (nat_lt a bound) _ h)
+  -- before its references are declared
+  abbrev plain : Module
+  plain = renumbered_tree (closing n t) (rest n t)
 
-    by : (c : Bool) → nat_lt a hole ≡ c → cond c (nat_eq a b) (nat_eq a (suc b) && nat_lt hole a) ≡ true → Down hole bound a b
-    by true e k = low (ltb-true a hole e) l (eqb-true a b k)
-    by false e k = high (ltb-true hole a (right_true (nat_eq a (suc b)) _ k)) l (eqb-true a (suc b) (left_true (nat_eq a (suc b)) _ k))
+  abbrev u : Module
+  u = removed n t
 
-is_down : (hole bound a b : ℕ) → Down hole bound a b → moved_down hole bound a b ≡ true
-is_down hole bound a b (low h l e) = and_from (nat_lt a bound) _ (lt-ltb a bound l) (ap (λ c. cond c (nat_eq a b) (nat_eq a (suc b) && nat_lt hole a)) (lt-ltb a hole h) ∙ eq-eqb a b e)
-is_down hole bound a b (high h l e) = and_from (nat_lt a bound) _ (lt-ltb a bound l) (by (nat_lt a hole) refl)
-  where
-    by : (c : Bool) → nat_lt a hole ≡ c → cond c (nat_eq a b) (nat_eq a (suc b) && nat_lt hole a) ≡ true
-    by true k = absurd (let m = ltb-true a hole k in omega (arith, m, h))
-    by false k = and_from (nat_eq a (suc b)) (nat_lt hole a) (eq-eqb a (suc b) e) (lt-ltb hole a h)
+  abbrev fs : List ℕ
+  fs = declared_refs plain
 
--- ---- lists without one ----
+  same : Keeps plain u fs
+  same = keeps plain fs
 
-without_low : {A : Type 0} (n : ℕ) (xs : List A) (x : ℕ) → x < n → slice_get (without n xs) x ≡ slice_get xs x
-without_low n [] x h = refl
-without_low zero (y ∷ xs) x h = absurd (omega (arith, h))
-without_low (suc n) (y ∷ xs) zero h = refl
-without_low (suc n) (y ∷ xs) (suc x) h = without_low n xs x (omega (arith, h))
+  types_are : u.types ≡ t.types
+  types_are = same.types
 
-without_high : {A : Type 0} (n : ℕ) (xs : List A) (x : ℕ) → n ≤ x → slice_get (without n xs) x ≡ slice_get xs (suc x)
-without_high n [] x h = refl
-without_high zero (y ∷ xs) x h = refl
-without_high (suc n) (y ∷ xs) zero h = absurd (omega (arith, h))
-without_high (suc n) (y ∷ xs) (suc x) h = without_high n xs x (omega (arith, h))
+  imports_are : u.imports ≡ t.imports
+  imports_are = same.imports ∙ all_stay t.imports reach.imports
+    where
+      one_stays : (d : ImportDesc) → ImportNamesOnly kept d → new_import_desc m d ≡ d
+      one_stays (im.Func ty) h = ap im.Func (stays_at (length t.types) ty h).0
+      one_stays (im.Table l) h = refl
+      one_stays (im.Memory l) h = refl
+      one_stays (im.Global l) h = refl
 
-without_many : {A : Type 0} (n : ℕ) (xs : List A) → n < length xs → suc (length (without n xs)) ≡ length xs
-without_many n [] h = absurd (omega (arith, h))
-without_many zero (x ∷ xs) h = refl
-without_many (suc n) (x ∷ xs) h = let l = without_many n xs (omega (arith, h)) in omega (arith, l)
+      all_stay : (is : List Import) → ((i : ℕ) (x : Import) → slice_get is i ≡ Some x → ImportNamesOnly kept x.desc) → map (new_import m) is ≡ is
+      all_stay [] h = refl
+      all_stay (x ∷ is) h = ap₂ (λ x xs. x ∷ xs) (ap (λ d. record x { desc = d }) (one_stays x.desc (h 0 x refl))) (all_stay is (λ i. h (suc i)))
 
--- ---- index spaces ----
+  items : SameItems m kept t u fs
+  items = record {
+    types = types_are;
+    imports = imports_are;
+    globals = same.globals;
+    exports = same.exports;
+    start = same.start;
+    elems = same.elems;
+    datas = same.datas;
+    named = record { imports = reach.imports; funcs = λ x f h. cc; globals = reach.globals; exports = reach.exports; start = reach.start; items = reach.items; elem_modes = reach.elem_modes; data_modes = reach.data_modes };
+    stays = λ x h. (stays_at (length (globals_of t)) x h).0;
+  }
 
--- an index before the hole stays, and one behind it goes down by one
-data Moved (hole x y : ℕ) : Type 0 where
-  stays : x < hole → x ≡ y → Moved hole x y
-  falls : hole < x → x ≡ suc y → Moved hole x y
+  funcs_many : suc (length u.funcs) ≡ length t.funcs
+  funcs_many = ap (λ l. suc (length l)) same.funcs ∙ ap suc (map_length (new_func m) (without n t.funcs)) ∙ without_many n t.funcs there
 
--- imports, and then numbers from one on, with a hole at a place among these
-space_moves : (P : ℕ → ℕ → Type 0) (l : List ℕ) (from gap count fewer : ℕ) → ListRel P l l → gap ≤ count → (gap < count → suc fewer ≡ count) → (gap ≡ count → count ≤ fewer) → ((a b : ℕ) → Down (from + gap) (from + count) a b → P a b) →
-    (x y : ℕ) → x < length l + count → Moved (length l + gap) x y → OptRel P (slice_get (l ++ numbers from count) x) (slice_get (l ++ numbers from fewer) y)
-space_moves P l from gap count fewer r within smaller equal related x y h move = by (cases_lt x (length l)) move
-  where
-    by : (x < length l) ⊎ (length l ≤ x) → Moved (length l + gap) x y → OptRel P (slice_get (l ++ numbers from count) x) (slice_get (l ++ numbers from fewer) y)
-    by (inl k) (stays m e) = opt_at (append_left l _ x k) (ap (slice_get (l ++ numbers from fewer)) (sym e) ∙ append_left l _ x k) (place_rel r x)
-    by (inl k) (falls m e) = absurd (omega (arith, k, m))
-    by (inr k) (stays m e) =
-        let z = x - length l in
-        let first : x ≡ length l + z = omega (arith, k) in
-        let second : y ≡ length l + z = omega (arith, k, e) in
-        let few : z < fewer = (let c = cases_lt gap count in at c z (omega (arith, first, m)) (omega (arith, first, h))) in
-        opt_at (ap (slice_get (l ++ numbers from count)) first ∙ append_right l _ z ∙ numbers_at from count z (omega (arith, first, h))) (ap (slice_get (l ++ numbers from fewer)) second ∙ append_right l _ z ∙ numbers_at from fewer z few)
-        (some (related (from + z) (from + z) (low (omega (arith, first, m)) (omega (arith, first, h)) refl)))
+  -- a function of the rest is one of the module
+  rest_names : (x : ℕ) (f : tree.Func) → slice_get t.funcs x ≡ Some f → (x ≡ n → ⊥) → FuncNamesOnly kept f
+  rest_names x f h other = by (cases_lt x n)
+    where
+      by : (x < n) ⊎ (n ≤ x) → FuncNamesOnly kept f
+      by (inl l) = reach.funcs x f (without_low n t.funcs x l ∙ h)
+      by (inr l) = by_last x l h other
+        where
+          by_last : (x : ℕ) → n ≤ x → slice_get t.funcs x ≡ Some f → (x ≡ n → ⊥) → FuncNamesOnly kept f
+          by_last zero l h other = absurd (other (omega (arith, l)))
+          by_last (suc x) l h other = by_place (cases_lt x n)
+            where
+              by_place : (x < n) ⊎ (n ≤ x) → FuncNamesOnly kept f
+              by_place (inl k) = absurd (other (omega (arith, l, k)))
+              by_place (inr k) = reach.funcs x f (without_high n t.funcs x k ∙ h)
+
+  func_moves : (x : ℕ) → IsTrue (kept Functions x) → (x < length (imported_funcs t.imports) + length t.funcs) × Moved (function_index n t) x (slice_index m.funcs x)
+  func_moves x h = (omega (arith, within, all, there), by (cases_lt x (function_index n t)))
+    where
+      within : x < length m.funcs
+      within = ltb-true _ _ (left_true (has m.funcs x) _ h)
+
+      all : length m.funcs ≡ suc (function_index n t) + (length t.funcs - suc n)
+      all = length-append (numbers 0 (suc (function_index n t))) _ ∙ ap₂ (λ a b. a + b) (length-numbers 0 (suc (function_index n t))) (length-numbers (function_index n t) (length t.funcs - suc n))
+
+      other : x ≡ function_index n t → ⊥
+      other e = let k = right_true (has m.funcs x) _ h in let z : not (nat_eq x (function_index n t)) ≡ false = ap not (eq-eqb x (function_index n t) e) in cc
+
+      by : (x < function_index n t) ⊎ (function_index n t ≤ x) → Moved (function_index n t) x (slice_index m.funcs x)
+      by (inl l) =
+          let c = length-numbers 0 (suc (function_index n t)) in
+          stays l (sym (slice_index_is m.funcs x x (append_left (numbers 0 (suc (function_index n t))) _ x (omega (arith, l, c)) ∙ numbers_at 0 (suc (function_index n t)) x (omega (arith, l)) ∙ (let e : 0 + x ≡ x = omega arith in ap Some e))))
+      by (inr l) = behind x within l other
+        where
+          behind : (x : ℕ) → x < length m.funcs → function_index n t ≤ x → (x ≡ function_index n t → ⊥) → Moved (function_index n t) x (slice_index m.funcs x)
+          behind x k l apart_from =
+              let y = x - suc (function_index n t) in
+              let c = length-numbers 0 (suc (function_index n t)) in
+              let apart : function_index n t < x = past (cases_lt (function_index n t) x) in
+              let at : x ≡ length (numbers 0 (suc (function_index n t))) + y = omega (arith, apart, c) in
+              let is : slice_get m.funcs x ≡ Some (function_index n t + y) = ap (slice_get m.funcs) at ∙ append_right (numbers 0 (suc (function_index n t))) _ y ∙ numbers_at (function_index n t) (length t.funcs - suc n) y (omega (arith, at, k, all, c)) in
+              falls apart (let e = slice_index_is m.funcs x (function_index n t + y) is in omega (arith, e, apart))
+            where
+              past : (function_index n t < x) ⊎ (x ≤ function_index n t) → function_index n t < x
+              past (inl l) = l
+              past (inr r) = absurd (apart_from (omega (arith, l, r)))
+
+  -- ---- in an environment ----
+
+  module _ (env : Environment) where
+    abbrev hole : Space → ℕ
+    hole Functions = own_count Functions env + n
+    hole k = own_count k env + defined_count k t
+
+    abbrev of : Space → ℕ → ℕ → Bool
+    of k = moved_down (hole k) (own_count k env + defined_count k t)
+
+    abbrev R : Pairing
+    R = passed of of []
+
+    one_to_one : OneToOne R
+    one_to_one = record {
+      right = λ {k} a b c p q. down_right (down_is (hole k) _ a b p) (down_is (hole k) _ a c q);
+      left = λ {k} a b c p q. down_left (down_is (hole k) _ a c p) (down_is (hole k) _ b c q);
+    }
+
+    own : SharesOwn R env
+    own = record {
+      funcs = λ a l. is_down _ _ a a (low (omega (arith, l)) (omega (arith, l)) refl);
+      tables = λ a l. is_down _ _ a a (low (omega (arith, l)) (omega (arith, l)) refl);
+      mems = λ a l. is_down _ _ a a (low (omega (arith, l)) (omega (arith, l)) refl);
+      globals = λ a l. is_down _ _ a a (low (omega (arith, l)) (omega (arith, l)) refl);
+    }
+
+    module _ (i j : Inst) (a : IsInst env (one t) 0 t i) (b : IsInst env (one (removed n t)) 0 (removed n t) j) where
+      elems_more : length t.elems ≤ length u.elems
+      elems_more = let e = ap length same.elems ∙ length-append (map (new_elem m) t.elems) (last_segments fs) in let c = map_length (new_elem m) t.elems in omega (arith, e, c)
+
+      datas_many : length u.datas ≡ length t.datas
+      datas_many = ap length same.datas ∙ map_length (new_data m) t.datas
+
+      globals_many : length u.globals ≡ length t.globals
+      globals_many = ap length same.globals ∙ map_length (new_global m) t.globals
+
+      names : EntriesName R m kept i j
+      names Types x h = ap (λ ts. at ts x) (a.types ∙ sym types_are ∙ sym b.types) ∙ ap (at j.types) (sym (stays_at (length t.types) x h).0)
+      names Functions x h =
+          let f = func_moves x h in
+          let counted = funcs_counted t.imports 0 in
+          let l = f.0 in
+          names_of i.funcs j.funcs x _ (space_rel of m kept t u fs items env own i j a b Functions i.funcs j.funcs n a.funcs b.funcs (λ c d e. is_down _ _ c d e) (omega (arith, there)) (λ c. funcs_many) (λ e. absurd (omega (arith, there, e))) x _ (omega (arith, l, counted)) (subst (λ c. Moved (c + n) x (slice_index m.funcs x)) (sym counted) f.1))
+      names Tables x h =
+          let counted = tables_counted t.imports 0 in
+          let size = length-append (imported_tables t.imports) t.tables in
+          names_of i.tables j.tables x _ (plain_rel of m kept t u fs items env own i j a b Tables i.tables j.tables (length (tables_of t)) a.tables b.tables (λ c d e. is_down _ _ c d e) (ap length same.tables) (omega (arith, counted, size)) x h)
+      names Memories x h =
+          let counted = memories_counted t.imports 0 in
+          let size = length-append (imported_memories t.imports) t.mems in
+          names_of i.mems j.mems x _ (plain_rel of m kept t u fs items env own i j a b Memories i.mems j.mems (length (memories_of t)) a.mems b.mems (λ c d e. is_down _ _ c d e) (ap length same.mems) (omega (arith, counted, size)) x h)
+      names Globals x h =
+          let counted = globals_counted t.imports 0 in
+          let size = length-append (imported_globals t.imports) (map (λ g. g.ty) t.globals) in
+          let defined = map_length (λ g. g.ty) t.globals in
+          names_of i.globals j.globals x _ (plain_rel of m kept t u fs items env own i j a b Globals i.globals j.globals (length (globals_of t)) a.globals b.globals (λ c d e. is_down _ _ c d e) globals_many (omega (arith, counted, size, defined)) x h)
+      names ElementSegments x h = names_of i.elems j.elems x _ (segments_rel of m kept t u fs items env own i j a b ElementSegments i.elems j.elems (length t.elems) (length u.elems) a.elems b.elems elems_more (λ a b d. is_down _ _ a b d) x h)
+      names DataSegments x h = names_of i.datas j.datas x _ (segments_rel of m kept t u fs items env own i j a b DataSegments i.datas j.datas (length t.datas) (length u.datas) a.datas b.datas (omega (arith, datas_many)) (λ a b d. is_down _ _ a b d) x h)
+
+      abbrev v : Instantiated
+      v = record { parts = one t; insts = i ∷ [] }
+
+      abbrev w : Instantiated
+      w = record { parts = one (removed n t); insts = j ∷ [] }
+
+      -- ---- the records ----
+
+      func_place : (x y : ℕ) (f : tree.Func) → slice_get t.funcs x ≡ Some f → Moved n x y → slice_get u.funcs y ≡ Some (new_func m f)
+      func_place x y f h move = ap (λ l. slice_get l y) same.funcs ∙ map_at (new_func m) (without n t.funcs) y f (by move)
+        where
+          by : Moved n x y → slice_get (without n t.funcs) y ≡ Some f
+          by (stays l e) = without_low n t.funcs y (omega (arith, l, e)) ∙ ap (slice_get t.funcs) (sym e) ∙ h
+          by (falls l e) = without_high n t.funcs y (omega (arith, l, e)) ∙ ap (slice_get t.funcs) (sym e) ∙ h
+
+      with_hole : {A : Type 0} (k : Space) (definitions : Module → List A) (new : A → A) (gap : ℕ) → hole k ≡ own_count k env + gap → ((c : Module) → defined_count k c ≡ length (definitions c)) →
+          ((x y : ℕ) (d : A) → slice_get (definitions t) x ≡ Some d → Moved gap x y → slice_get (definitions u) y ≡ Some (new d)) → (correspond : ℕ → Inst → A → ℕ → Inst → A → Type 0) →
+          ((x : ℕ) (d : A) → slice_get (definitions t) x ≡ Some d → (x ≡ gap → ⊥) → correspond 0 i d 0 j (new d)) → (c d : ℕ) → R.of k c d → Partners env v w k definitions correspond c d
+      with_hole k definitions new gap e counts second correspond alike c d r = placed env t u i j k definitions new gap counts second correspond alike c d (subst (λ h. Down h (own_count k env + defined_count k t) c d) e (down_is (hole k) _ c d r))
+
+      definitions : RenumberedCodeIsRelated → DefinitionsCorrespond R env v w
+      definitions code = record {
+        funcs = with_hole Functions (λ c. c.funcs) (new_func m) n refl (λ c. refl) func_place (λ p i f q j g. FuncsCorrespond R i j f g) (λ x f h other. funcs_correspond of m kept i j names code f (rest_names x f h other));
+        tables = with_hole Tables (λ c. c.tables) (λ x. x) (length t.tables) refl (λ c. refl) (λ x y d h move. ap (λ l. slice_get l y) (same.tables ∙ sym (map-id t.tables) ∙ sym (append-nil _)) ∙ kept_place t.tables (λ x. x) [] x y d h move) (λ p i x q j y. x ≡ y) (λ x d h other. refl);
+        mems = with_hole Memories (λ c. c.mems) (λ x. x) (length t.mems) refl (λ c. refl) (λ x y d h move. ap (λ l. slice_get l y) (same.mems ∙ sym (map-id t.mems) ∙ sym (append-nil _)) ∙ kept_place t.mems (λ x. x) [] x y d h move) (λ p i x q j y. x ≡ y) (λ x d h other. refl);
+        globals = with_hole Globals (λ c. c.globals) (new_global m) (length t.globals) refl (λ c. refl) (λ x y d h move. ap (λ l. slice_get l y) (same.globals ∙ sym (append-nil _)) ∙ kept_place t.globals (new_global m) [] x y d h move)
+            (λ p i g q j h. GlobalsCorrespond R (values_in env v p) (values_in env w q) g h) (λ x g h other. record { type = refl; init = consts of m kept t u fs items env own i j a b names g.init (reach.globals x g h) });
+        elems = with_hole ElementSegments (λ c. c.elems) (new_elem m) (length t.elems) refl (λ c. refl) (λ x y d h move. ap (λ l. slice_get l y) same.elems ∙ kept_place t.elems (new_elem m) (last_segments fs) x y d h move)
+            (λ p i d q j e. ElemsCorrespond R (values_in env v p) (values_in env w q) d e) (λ x e h other. elems_correspond of m kept i j names (values_in env v 0) (values_in env w 0) (consts of m kept t u fs items env own i j a b names) e (λ l c k. reach.items x l e c h k));
+        datas = with_hole DataSegments (λ c. c.datas) (new_data m) (length t.datas) refl (λ c. refl) (λ x y d h move. ap (λ l. slice_get l y) (same.datas ∙ sym (append-nil _)) ∙ kept_place t.datas (new_data m) [] x y d h move)
+            (λ p i d q j e. d.bytes ≡ e.bytes) (λ x d h other. refl);
+      }
+
+      same_seg : (k : Space) (x : ℕ) → hole k ≡ own_count k env + defined_count k t → x < own_count k env + defined_count k t → R.of k x x
+      same_seg k x e l = is_down (hole k) (own_count k env + defined_count k t) x x (low (omega (arith, e, l)) l refl)
+
+      worlds : RenumberedCodeIsRelated → WorldsCorrespond R env (alone t) (alone u) (i ∷ []) (j ∷ [])
+      worlds code = record { own = own; definitions = definitions code; elems = elems_in_order of m kept t u fs items env own i j a b names (λ x l. same_seg ElementSegments x refl (omega (arith, l))); datas = datas_in_order of m kept t u fs items env own i j a b names (λ x l. same_seg DataSegments x refl (omega (arith, l))); view = view of m kept t u fs items env own i j a b names }
+
+    -- ---- the environment links both ----
+
+    similar : RenumberedCodeIsRelated → AreSimilar R env (alone t) (alone u)
+    similar code is js f g =
+        let i = one_inst env t is f in
+        let j = one_inst env u js g in
+        subst (λ is. WorldsCorrespond R env (alone t) (alone u) is js) (sym i.1) (subst (λ js. WorldsCorrespond R env (alone t) (alone u) (i.0 ∷ []) js) (sym j.1) (worlds i.0 j.0 i.2 j.2 code))
+
+    start_alike : StartAlike R env (alone t) (alone u)
+    start_alike is js f g =
+        let i = one_inst env t is f in
+        let j = one_inst env u js g in
+        subst (λ is. ListRel (R.of Functions) (starts_of (one t) is) (starts_of (one u) js)) (sym i.1) (subst (λ js. ListRel (R.of Functions) (starts_of (one t) (i.0 ∷ [])) (starts_of (one u) js)) (sym j.1) (starts of m kept t u fs items env own i.0 j.0 i.2 j.2 (names i.0 j.0 i.2 j.2)))
+
+    funcs_from : RenumberedCodeIsRelated → (i j : Inst) (a : IsInst env (one t) 0 t i) (b : IsInst env (one (removed n t)) 0 (removed n t) j) → FuncsFrom of m kept t u fs items env own i j a b (names i j a b)
+    funcs_from code i j a b y f h = by (cases_lt y n)
       where
-        at : (gap < count) ⊎ (count ≤ gap) → (z : ℕ) → z < gap → z < count → z < fewer
-        at (inl c) z a b = let s = smaller c in omega (arith, a, c, s)
-        at (inr c) z a b = let s = equal (omega (arith, c, within)) in omega (arith, b, s)
-    by (inr k) (falls m e) =
-        let z = y - length l in
-        let first : x ≡ length l + suc z = omega (arith, k, m, e) in
-        let second : y ≡ length l + z = omega (arith, k, m, e) in
-        let s = smaller (omega (arith, m, h)) in
-        opt_at (ap (slice_get (l ++ numbers from count)) first ∙ append_right l _ (suc z) ∙ numbers_at from count (suc z) (omega (arith, first, h))) (ap (slice_get (l ++ numbers from fewer)) second ∙ append_right l _ z ∙ numbers_at from fewer z (omega (arith, first, h, s)))
-        (some (related (from + suc z) (from + z) (high (omega (arith, first, m)) (omega (arith, first, h)) (omega arith))))
+        g : (f0 : tree.Func) × (slice_get (without n t.funcs) y ≡ Some f0) × (new_func m f0 ≡ f)
+        g = map_from (new_func m) (without n t.funcs) y f (ap (λ l. slice_get l y) (sym same.funcs) ∙ h)
+
+        alike : FuncsCorrespond R i j g.0 f
+        alike = subst (FuncsCorrespond R i j g.0) g.2 (funcs_correspond of m kept i j (names i j a b) code g.0 (reach.funcs y g.0 g.1))
+
+        by : (y < n) ⊎ (n ≤ y) → (z : ℕ) × (g : tree.Func) × (slice_get t.funcs z ≡ Some g) × FuncsCorrespond R i j g f
+        by (inl l) = (y, g.0, sym (without_low n t.funcs y l) ∙ g.1, alike)
+        by (inr l) = (suc y, g.0, sym (without_high n t.funcs y l) ∙ g.1, alike)
+
+    linked : RenumberedCodeIsRelated → links env (alone t) ≡ true → links env (alone u) ≡ true
+    linked code h =
+        let o = there_is (instantiate env (alone t)) h in
+        let x = what_is_made env (alone t) o.0 o.1 in
+        let i = one_inst env t x.insts x.are_insts in
+        let a = i.2 in
+        let space = space_there of m kept t u fs items env own in
+        let f = space Functions i.0.funcs a.funcs in
+        let ts = space Tables i.0.tables a.tables in
+        let ms = space Memories i.0.mems a.mems in
+        let gs = space Globals i.0.globals a.globals in
+        let j = inst_there env (one u) 0 u f.0 ts.0 ms.0 gs.0 f.1 ts.1 ms.1 gs.1 in
+        let b = inst_is env (one u) 0 u j.0 j.1 in
+        linked_with of m kept t u fs items env own i.0 j.0 a b (names i.0 j.0 a b) (funcs_from code i.0 j.0 a b) (λ many. last_elems env u j.0 plain (many ∙ ap length same.func_space)) (definitions i.0 j.0 a b code) o.0 x i.1
+        (ap (λ o. option_and_then (λ i. Some (i ∷ [])) o) j.1)
+
+  pub shows_the_same : RelatedInstancesShowTheSame → RenumberedCodeIsRelated → (env : Environment) → links env (alone t) ≡ true → (moves : List Move) (k : ℕ) → events (alone t) env moves k ≡ events (alone u) env moves k
+  shows_the_same law code env h moves k =
+      law (of env) (one_to_one env) (alone t) (alone u) env (instances_rel (R env) (one_to_one env) env (alone t) (alone u) (similar env code) (start_alike env) (h ∙ sym (linked env code h))) moves k

@@ -7,3 +7,4 @@ pub mod Definitions
 pub mod Segments
 pub mod Simulation
 pub mod Unreachable
+pub mod Added

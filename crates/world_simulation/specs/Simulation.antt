@@ -1,11 +1,10 @@
 -- One law for two worlds: each embedder sees the same of both, where what their parts define corresponds under a one-to-one relation of addresses, their segments,
 -- starts and views stand in the same order, and the environment links one exactly where it links the other.
-use Rattle.std.specs.Prelude.{◌≡◌, ℕ, Bool, List, [], Some}
+use Rattle.std.specs.Prelude.{◌≡◌, ℕ, Bool, List, [], Some, true}
 use Rattle.wasm_tree.specs.declared.space.Space.{Space}
 use Rattle.wasm_tree.specs.declared.space.Space.TheVariants.{Functions}
-use Rattle.wasm_meaning.specs.State.{Inst, Store}
+use Rattle.wasm_meaning.specs.State.{Inst, Store, Text}
 use Rattle.wasm_meaning.specs.Environment.{Environment, Thing, all_of}
-use Rattle.wasm_meaning.specs.State.{Text}
 use Rattle.wasm_meaning.specs.Linking.{sites}
 use Rattle.wasm_meaning.specs.World.{World, Begun, insts_from, stores_from, own_store, all_there, seen_as, starts_of, is_matched, segments, begun, instantiate, links}
 use Rattle.wasm_meaning.specs.Run.{Move, events}
@@ -15,7 +14,6 @@ use Rattle.index_remap.specs.Laws.{passed, EntryByEntry}
 use Rattle.world_simulation.specs.Owned.{SharesOwn}
 use Rattle.world_simulation.specs.Definitions.{Instantiated, DefinitionsCorrespond}
 use Rattle.world_simulation.specs.Segments.{ElemsInOrder, DatasInOrder}
-use Rattle.std.specs.Prelude.{true}
 
 -- ---- a world that is instantiated ----
 

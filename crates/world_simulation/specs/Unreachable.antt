@@ -1,6 +1,6 @@
 -- A module without one function that nothing else of it names (WebAssembly Core 2.0, section 2.5.1): the functions behind it move down by one, and references are
 -- declared where they have to be.
-use Rattle.std.specs.Prelude.{◌≡◌, ℕ, zero, suc, ◌+◌, ◌-◌, ◌<◌, Bool, ◌&&◌, not, nat_eq, IsTrue, List, [], ◌∷◌, ◌++◌, length}
+use Rattle.std.specs.Prelude.{ℕ, zero, suc, ◌+◌, ◌-◌, ◌<◌, ◌&&◌, not, nat_eq, IsTrue, List, [], ◌∷◌, ◌++◌, length}
 use Rattle.wasm_tree.specs.declared.space.Space.TheVariants.{Functions}
 use Rattle.wasm_tree.specs.declared.module.Module.{Module}
 use Rattle.wasm_tree.specs.Spaces.{imported_funcs, tables_of, memories_of, globals_of}

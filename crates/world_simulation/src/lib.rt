@@ -2,6 +2,7 @@
 //! functions.
 #![tactic(auto)]
 
+ghost use Rattle.world_simulation.specs.Added.{AddedToTheFirstStayRelated, AddedToTheSecondStayRelated};
 ghost use Rattle.world_simulation.specs.Alone.{
   ImportsStandForTheEnvironments,
   ImportsStay,
@@ -26,8 +27,9 @@ ghost use Rattle.world_simulation.specs.Simulation.{
   WhatIsInstantiated,
 };
 ghost use Rattle.world_simulation.specs.Starts.{OneStartMayCallSeveral};
+ghost use Rattle.world_simulation.specs.Unreachable.{UnreachableFunctionsAreNotSeen};
 
-use index_remap::related_runs_show_the_same;
+use index_remap::{related_runs_show_the_same, steps_agree};
 use remap_typing::renumbering_keeps_typing;
 use wasm_meaning::what_stands_below_is_not_seen;
 
@@ -86,3 +88,19 @@ pub fn one_start_may_call_several()
 {
     what_stands_below_is_not_seen();
 }
+
+/// A module without one function that nothing else of it names, with the functions behind it moved down by one and references declared where they have to be, shows what
+/// the module shows, step by step, to each embedder whose environment links the module (WebAssembly Core 2.0, section 2.5.1).
+pub fn unreachable_functions_are_not_seen()
+    ensures same { UnreachableFunctionsAreNotSeen }
+{
+    steps_agree();
+    related_instances_show_the_same();
+}
+
+/// Two related stores stay related where a module is added to one of them, as a loader adds one (WebAssembly Core 2.0, section 4.5.4), and its active segments are copied
+/// into tables and memories that are related to nothing: to the second (`second`), and to the first (`first`). Whether a segment traps makes no difference.
+pub fn stores_stay_related_where_a_module_is_added()
+    ensures second { AddedToTheSecondStayRelated }
+    ensures first { AddedToTheFirstStayRelated }
+{}

@@ -1,11 +1,11 @@
 -- The store of parts that are instantiated in turn beside the store of all parts at once: what the first parts have corresponds, and the rest is as it was allocated.
-use Rattle.std.proofs.Common.{◌≡◌, ◌∙◌, refl, sym, ap, subst, ℕ, zero, suc, ◌+◌, ◌-◌, ◌<◌, ◌≤◌, List, [], ◌∷◌, ◌++◌, length, Some, true, ◌⊎◌, inl, inr, arith, slice_get}
+use Rattle.std.proofs.Common.{◌≡◌, ◌∙◌, refl, sym, ap, subst, ℕ, zero, suc, ◌+◌, ◌-◌, ◌<◌, ◌≤◌, List, [], ◌∷◌, ◌++◌, length, Some, true, ◌⊎◌, inl, inr, arith, slice_get, option_and_then}
 use Rattle.wasm_tree.specs.declared.space.Space.{Space}
 use Rattle.wasm_tree.specs.declared.space.Space.TheVariants.{Functions, Tables, Memories, Globals, ElementSegments, DataSegments}
 use Rattle.std.proofs.lemmas.Bool.{cases_lt}
 use Rattle.wasm_tree.specs.declared.types.FuncType.{FuncType}
 use Rattle.wasm_tree.specs.declared.module.Module.{Module}
-use Rattle.wasm_meaning.specs.Outcomes.{Outcome, Gives, bind, at}
+use Rattle.wasm_meaning.specs.Outcomes.{given, Outcome, Gives, bind, at}
 use Rattle.wasm_meaning.specs.State.{Inst, Func, Memory, Data, Store}
 use Rattle.wasm_meaning.specs.Control.{type_of_func, own_of, type_at, own_at}
 use Rattle.wasm_meaning.specs.Linking.{Part, module_at}
@@ -114,7 +114,7 @@ type_same (both (to.defined c)) = both refl
 type_same (both to.own) = both refl
 type_same (both to.slot) = both refl
 
-own_same : {R : Pairing} {o p : Outcome Func} → BothRel (FuncRel R) o p → bind o own_of ≡ bind p own_of
+own_same : {R : Pairing} {o p : Outcome Func} → BothRel (FuncRel R) o p → option_and_then own_of (given o) ≡ option_and_then own_of (given p)
 own_same (both (to.defined c)) = refl
 own_same (both to.own) = refl
 own_same (both to.slot) = refl

@@ -1,5 +1,5 @@
 -- Two worlds of which the law of parts in turn speaks: all that it asks holds of them together, and what is seen of both ways to run them is computed.
-use Rattle.std.proofs.Common.{◌≡◌, refl, sym, ap, subst, ◌∙◌, ℕ, zero, suc, ◌+◌, ◌*◌, ◌<◌, List, [], ◌∷◌, length, slice_get, Option, Some, None, Bool, true, false, arith}
+use Rattle.std.proofs.Common.{◌≡◌, refl, sym, ap, subst, ◌∙◌, ℕ, zero, suc, ◌+◌, List, [], ◌∷◌, slice_get, Some, None, true, arith}
 use Rattle.std.specs.Prelude.{pos, Contains}
 use Rattle.std.proofs.lemmas.Option.{same_Some}
 use Rattle.wasm_tree.specs.declared.types.RefType.TheVariants as reft
@@ -17,9 +17,9 @@ use Rattle.wasm_tree.specs.declared.module.ConstExpr.TheVariants as const
 use Rattle.wasm_tree.specs.declared.module.ElemMode.TheVariants as elem
 use Rattle.wasm_tree.specs.declared.module.Module.{Module}
 use Rattle.wasm_num.specs.Operations.{wrapped}
-use Rattle.wasm_typing.specs.Typing.{Stack, WellTyped, Gives}
+use Rattle.wasm_typing.specs.Typing.{Stack, Gives}
 use Rattle.wasm_valid.specs.Constants.{const_type}
-use Rattle.wasm_valid.specs.Validity.{IsValid, body_context}
+use Rattle.wasm_valid.specs.Validity.{IsValid}
 use Rattle.wasm_meaning.specs.State.{Text}
 use Rattle.wasm_meaning.specs.Linking.{Part, Entity, module_at, joined}
 use Rattle.wasm_meaning.specs.Environment.{Environment, is_environment, Number}

@@ -2,6 +2,7 @@
 use Rattle.std.proofs.Common.{◌≡◌, ℕ, zero, suc, ◌+◌, ◌≤◌, List, [], ◌∷◌, ◌++◌, length, false, refl, sym, ap, subst, ◌∙◌, arith, slice_set}
 use native.Mathlib.Decide.{ℕ_discrete}
 use Rattle.wasm_meaning.specs.Outcomes.{Outcome, Gives, Traps, IllTyped, bind, at, split_at, overwrite}
+use Rattle.wasm_meaning.proofs.Slices.{split_lengths}
 use Rattle.wasm_meaning.specs.State.{Table, Memory, Global, Store, Change, Keep, SetGlobal, SetMemory, SetTable, DropElem, DropData}
 use Rattle.wasm_meaning.specs.Step.{changed, no_items, no_bytes}
 use Rattle.std.proofs.lemmas.List.{length-set, length-append}
@@ -128,19 +129,6 @@ changed_extends {s} (data_drops {a = a}) = let k = stays s in
     record { funcs = refl; tables = k.tables; mems = k.mems; globals = k.globals; table_count = refl; memory_count = refl; global_count = refl; elem_count = refl; data_count = length-set s.datas a no_bytes }
 
 -- ---- lists that are written in part ----
-
-split_lengths : {A : Type 0} (n : ℕ) (xs : List A) (p : List A × List A) → split_at n xs ≡ Gives p → (length p.0 ≡ n) × (length p.0 + length p.1 ≡ length xs)
-split_lengths zero xs p e = let i : ([], xs) ≡ p = cc in rw (← i) (refl, omega arith)
-split_lengths (suc n) [] p e = cc
-split_lengths {A} (suc n) (x ∷ xs) p e = go (split_at n xs) (split_lengths n xs) e
-  where
-    go : (o : Outcome (List A × List A)) → ((q : List A × List A) → o ≡ Gives q → (length q.0 ≡ n) × (length q.0 + length q.1 ≡ length xs)) → bind o (λ q. Gives (x ∷ q.0, q.1)) ≡ Gives p → (length p.0 ≡ suc n) × (length p.0 + length p.1 ≡ suc (length xs))
-    go Traps h e = cc
-    go IllTyped h e = cc
-    go (Gives q) h e =
-        let i : (x ∷ q.0, q.1) ≡ p = cc in
-        let k = h q refl in
-        rw (← i) (ap suc k.0, omega (arith, k.1))
 
 pub overwritten_length : {A : Type 0} (xs : List A) (n : ℕ) (ys zs : List A) → overwrite xs n ys ≡ Gives zs → length zs ≡ length xs
 overwritten_length {A} xs n ys zs e = go (split_at n xs) (split_lengths n xs) e

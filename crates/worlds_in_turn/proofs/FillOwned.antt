@@ -2,9 +2,8 @@
 use Rattle.std.proofs.Common.{◌≡◌, ◌∙◌, refl, sym, ap, subst, ℕ, suc, ◌+◌, ◌<◌, List, [], ◌∷◌, ◌++◌, map, length, Option, Some, None, Bool, true, false, cond, ◌⊎◌, inl, inr, arith}
 use Rattle.wasm_tree.specs.declared.space.Space.{Space}
 use Rattle.wasm_tree.specs.declared.space.Space.TheVariants.{Functions, Tables, Memories, Globals}
-use Rattle.wasm_meaning.specs.Outcomes.{Outcome, Gives, Traps, IllTyped}
 use Rattle.wasm_meaning.specs.Environment.{Environment, Offer, OwnKey, FuncKey, TableKey, MemoryKey, GlobalKey, Thing, FuncAt, TableAt, MemoryAt, GlobalAt, Owned, same_key, look_up, owned_at, owned_of, addressed, flat, one_if}
-use Rattle.wasm_meaning.specs.World.{own_count, thing_at, given}
+use Rattle.wasm_meaning.specs.World.{own_count, thing_at}
 use Rattle.std.proofs.lemmas.List.{length-append}
 
 abbrev pub kind_of_key : OwnKey → Space
@@ -69,11 +68,11 @@ one_same_length : {A B C : Type 0} (f : A → B) (g : A → C) (o : Option A) �
 one_same_length f g None = refl
 one_same_length f g (Some a) = refl
 
-look_either : (is : OwnKey → Bool) (xs ys : Owned) (x : Thing) → look_up is (xs ++ ys) ≡ Gives x → (look_up is xs ≡ Gives x) ⊎ (look_up is ys ≡ Gives x)
+look_either : (is : OwnKey → Bool) (xs ys : Owned) (x : Thing) → look_up is (xs ++ ys) ≡ Some x → (look_up is xs ≡ Some x) ⊎ (look_up is ys ≡ Some x)
 look_either is [] ys x e = inr e
 look_either is (z ∷ zs) ys x e = go (is z.0) e (look_either is zs ys x)
   where
-    go : (b : Bool) → cond b (Gives z.1) (look_up is (zs ++ ys)) ≡ Gives x → (look_up is (zs ++ ys) ≡ Gives x → (look_up is zs ≡ Gives x) ⊎ (look_up is ys ≡ Gives x)) → (cond b (Gives z.1) (look_up is zs) ≡ Gives x) ⊎ (look_up is ys ≡ Gives x)
+    go : (b : Bool) → cond b (Some z.1) (look_up is (zs ++ ys)) ≡ Some x → (look_up is (zs ++ ys) ≡ Some x → (look_up is zs ≡ Some x) ⊎ (look_up is ys ≡ Some x)) → (cond b (Some z.1) (look_up is zs) ≡ Some x) ⊎ (look_up is ys ≡ Some x)
     go true e h = inl e
     go false e h = h e
 
@@ -84,11 +83,11 @@ record Found (key : OwnKey) (thing : ℕ → Thing) (n : ℕ) (k : Space) (count
   low : place < count
   kind : kind_of_key key ≡ k
 
-look_addressed : (key : OwnKey) (thing : ℕ → Thing) (k : Space) (n : ℕ) (keys : List OwnKey) → Each k keys → (x : Thing) → look_up (same_key key) (addressed thing n keys) ≡ Gives x → Found key thing n k (length keys) x
+look_addressed : (key : OwnKey) (thing : ℕ → Thing) (k : Space) (n : ℕ) (keys : List OwnKey) → Each k keys → (x : Thing) → look_up (same_key key) (addressed thing n keys) ≡ Some x → Found key thing n k (length keys) x
 look_addressed key thing k n [] no_keys x e = absurd (let f = e in cc)
 look_addressed key thing k n (y ∷ ys) (key_more h hs) x e = go (same_key key y) refl e (look_addressed key thing k (suc n) ys hs x)
   where
-    go : (b : Bool) → same_key key y ≡ b → cond b (Gives (thing n)) (look_up (same_key key) (addressed thing (suc n) ys)) ≡ Gives x → (look_up (same_key key) (addressed thing (suc n) ys) ≡ Gives x → Found key thing (suc n) k (length ys) x) → Found key thing n k (suc (length ys)) x
+    go : (b : Bool) → same_key key y ≡ b → cond b (Some (thing n)) (look_up (same_key key) (addressed thing (suc n) ys)) ≡ Some x → (look_up (same_key key) (addressed thing (suc n) ys) ≡ Some x → Found key thing (suc n) k (length ys) x) → Found key thing n k (suc (length ys)) x
     go true s e more =
         let i : thing n ≡ x = cc in
         let z : n ≡ n + 0 = omega arith in
@@ -126,22 +125,17 @@ memories = flat (λ o. one_if (λ m. MemoryKey o.pair) o.memory)
 abbrev globals : Environment → List OwnKey
 globals = flat (λ o. one_if (λ g. GlobalKey o.pair) o.global)
 
-pub own_at : (env : Environment) (key : OwnKey) (x : Thing) → given (owned_at (owned_of env) key) ≡ Some x → OwnAt env key x
-own_at env key x e = first (look_either (same_key key) _ _ x (gives (owned_at (owned_of env) key) e))
+pub own_at : (env : Environment) (key : OwnKey) (x : Thing) → owned_at (owned_of env) key ≡ Some x → OwnAt env key x
+own_at env key x e = first (look_either (same_key key) _ _ x e)
   where
-    gives : (o : Outcome Thing) → given o ≡ Some x → o ≡ Gives x
-    gives (Gives y) e = cc
-    gives Traps e = cc
-    gives IllTyped e = cc
-
-    third : (look_up (same_key key) (addressed MemoryAt 0 (memories env)) ≡ Gives x) ⊎ (look_up (same_key key) (addressed GlobalAt 0 (globals env)) ≡ Gives x) → OwnAt env key x
+    third : (look_up (same_key key) (addressed MemoryAt 0 (memories env)) ≡ Some x) ⊎ (look_up (same_key key) (addressed GlobalAt 0 (globals env)) ≡ Some x) → OwnAt env key x
     third (inl h) = own_found env key Memories MemoryAt (λ n. refl) _ x (flat_length _ _ (λ o. one_same_length _ _ o.memory) env) (look_addressed key MemoryAt Memories 0 (memories env) (each_flat Memories _ (λ o. each_one Memories _ (λ a. refl) o.memory) env) x h)
     third (inr h) = own_found env key Globals GlobalAt (λ n. refl) _ x (flat_length _ _ (λ o. one_same_length _ _ o.global) env) (look_addressed key GlobalAt Globals 0 (globals env) (each_flat Globals _ (λ o. each_one Globals _ (λ a. refl) o.global) env) x h)
 
-    second : (look_up (same_key key) (addressed TableAt 0 (tables env)) ≡ Gives x) ⊎ (look_up (same_key key) (addressed MemoryAt 0 (memories env) ++ addressed GlobalAt 0 (globals env)) ≡ Gives x) → OwnAt env key x
+    second : (look_up (same_key key) (addressed TableAt 0 (tables env)) ≡ Some x) ⊎ (look_up (same_key key) (addressed MemoryAt 0 (memories env) ++ addressed GlobalAt 0 (globals env)) ≡ Some x) → OwnAt env key x
     second (inl h) = own_found env key Tables TableAt (λ n. refl) _ x (flat_length _ _ (λ o. one_same_length _ _ o.table) env) (look_addressed key TableAt Tables 0 (tables env) (each_flat Tables _ (λ o. each_one Tables _ (λ a. refl) o.table) env) x h)
     second (inr h) = third (look_either (same_key key) _ _ x h)
 
-    first : (look_up (same_key key) (addressed FuncAt 0 (funcs env)) ≡ Gives x) ⊎ (look_up (same_key key) (addressed TableAt 0 (tables env) ++ (addressed MemoryAt 0 (memories env) ++ addressed GlobalAt 0 (globals env))) ≡ Gives x) → OwnAt env key x
+    first : (look_up (same_key key) (addressed FuncAt 0 (funcs env)) ≡ Some x) ⊎ (look_up (same_key key) (addressed TableAt 0 (tables env) ++ (addressed MemoryAt 0 (memories env) ++ addressed GlobalAt 0 (globals env))) ≡ Some x) → OwnAt env key x
     first (inl h) = own_found env key Functions FuncAt (λ n. refl) _ x (flat_length _ _ (λ o. map_same_length _ _ o.funcs) env) (look_addressed key FuncAt Functions 0 (funcs env) (each_flat Functions _ (λ o. each_map Functions _ (λ a. refl) o.funcs) env) x h)
     first (inr h) = second (look_either (same_key key) _ _ x h)

@@ -87,7 +87,7 @@ module _ (env : Environment) (parts : List Part) (insts : List Inst) (are : inst
         let e = and_then_is (end_of parts (record { part = p; import = n })) (thing_of env parts) x h in
         let end = ends_at parts (record { part = p; import = n }) e.0 (Outside (record { part = p; import = n })) (step_is ∙ ap (λ o. Some (joined_step parts (record { part = p; import = n }) o)) j) e.1 in
         let thing = ap (thing_of env parts) end ∙ e.2 in
-        let own = ap₂ (λ o q. option_and_then (λ m. option_and_then (λ i. option_and_then (λ key. given (owned_at (owned_of env) key)) (own_key m i)) q) o) is_part import_is in
+        let own = ap₂ (λ o q. option_and_then (λ m. option_and_then (λ i. option_and_then (λ key. owned_at (owned_of env) key) (own_key m i)) q) o) is_part import_is in
         ap (thing_or_own (owned_of env) m i) none ∙ sym own ∙ thing
 
     -- joined: what the other part's instance says

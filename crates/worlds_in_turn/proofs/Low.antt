@@ -103,7 +103,7 @@ module _ (env : Environment) (parts : List Part) (insts : List Inst) (are : inst
       go : (i : Import) → slice_get m.imports n ≡ Some i → (o : Option Entity) → joined parts i ≡ o → a < base env parts k p
       go i at None j =
           let o = stays_own env parts insts are size earlier p n m i is at x None j refl h in
-          let key = and_then_is (own_key m i) (λ key. given (owned_at (owned_of env) key)) x o in
+          let key = and_then_is (own_key m i) (λ key. owned_at (owned_of env) key) x o in
           own_low own env parts p key.0 x key.2 k a has
       go i at (Some e) j =
           let s = and_then_is (source_of parts i) _ e j in

@@ -5,7 +5,8 @@ use Rattle.wasm_tree.specs.declared.space.Space.TheVariants.{Functions, Tables, 
 use Rattle.wasm_tree.specs.declared.types.FuncType.{FuncType}
 use Rattle.wasm_tree.specs.declared.types.ValType.{ValType}
 use Rattle.wasm_tree.specs.declared.instr.Instr.{Instr}
-use Rattle.wasm_meaning.specs.Outcomes.{Outcome, Gives, bind, at}
+use Rattle.base_lists.specs.Options.{◌>>=◌}
+use Rattle.wasm_meaning.specs.Outcomes.{Outcome, Gives, given, bind, at}
 use Rattle.wasm_meaning.specs.State.{Text, Inst, Func, Code, Own, Placeholder, Store, Entry, Running, Opening, Waiting}
 use Rattle.wasm_meaning.specs.Control.{type_of_func}
 use Rattle.wasm_meaning.specs.Values.{zeros}
@@ -13,7 +14,7 @@ use Rattle.wasm_meaning.specs.Step.{enter}
 use Rattle.wasm_meaning.specs.Linking.{Part}
 use Rattle.wasm_meaning.specs.Environment.{Environment, Thing, owned_of, received_all}
 use Rattle.wasm_meaning.specs.World.{base}
-use Rattle.wasm_meaning.specs.Run.{Event, Asked, Phase, Fresh, Pending, Closed, Run, Out, after, nothing_in, or_closed, tick_at, tick}
+use Rattle.wasm_meaning.specs.Run.{Event, Asked, Phase, Fresh, Pending, Closed, Run, Out, Steps, made, nothing_in, or_closed, transition_at, tick}
 use Rattle.wasm_meaning.specs.Below.{IsBottom, GivesNothing, a_frame, a_call, over, Unseen, goes_on, ended, trapped, BelowIsNotSeen}
 use Rattle.index_remap.specs.Related.{Pairing, ListRel, nil, cons, EntryRel, opening}
 use Rattle.index_remap.specs.Related as to
@@ -45,7 +46,7 @@ event_of f = None
 
 abbrev started_with : Run → List ℕ → Outcome Func → Out
 started_with r xs o =
-    or_closed r (bind (bind o (λ f. Gives (type_of_func f))) (λ t. bind (nothing_in t.results) (λ u. bind (bind o (λ f. Gives (type_of_func f))) (λ t. bind (received_all r.owned r.shown t.params []) (λ vs. Gives (after r (bind o (λ f. Gives (enter r.store f vs (Opening xs ∷ []))))))))))
+    made (or_closed r (given (bind o (λ f. Gives (type_of_func f))) >>= λ t. nothing_in t.results >>= λ u. given (bind o (λ f. Gives (type_of_func f))) >>= λ t. received_all r.owned r.shown t.params [] >>= λ vs. Some (Steps r (bind o (λ f. Gives (enter r.store f vs (Opening xs ∷ [])))))))
 
 opens_code : (r : Run) (xs : List ℕ) (t : FuncType) (i : Inst) (ls : List ValType) (c : List Instr) → t ≡ nothing_to_nothing → started_with r xs (Gives (Code t i ls c)) ≡ (record r { entries = entry_of (Code t i ls c) ∷ Opening xs ∷ [] }, None)
 opens_code r xs t i ls c e = subst (λ t. started_with r xs (Gives (Code t i ls c)) ≡ (record r { entries = entry_of (Code t i ls c) ∷ Opening xs ∷ [] }, None)) (sym e) refl
@@ -54,7 +55,7 @@ opens_own : (r : Run) (xs : List ℕ) (p : Text × Text) (t : FuncType) → t �
 opens_own r xs p t e = subst (λ t. started_with r xs (Gives (Own p t)) ≡ (record r { entries = Waiting t.results ∷ Opening xs ∷ [] }, Some (Asked p t []))) (sym e) refl
 
 pub opened : (env : Environment) (parts : List Part) (p : ℕ) (r : Run) (a : ℕ) (xs : List ℕ) (f : Func) → r.entries ≡ Opening (a ∷ xs) ∷ [] → at r.store.funcs a ≡ Gives f → type_of_func f ≡ nothing_to_nothing → Sound env parts p f → tick r ≡ (record r { entries = entry_of f ∷ Opening xs ∷ [] }, event_of f)
-opened env parts p r a xs f e h ty sound = ap (tick_at r) e ∙ ap (started_with r xs) h ∙ go f ty sound
+opened env parts p r a xs f e h ty sound = ap (λ es. made (transition_at r es)) e ∙ ap (started_with r xs) h ∙ go f ty sound
   where
     go : (f : Func) → type_of_func f ≡ nothing_to_nothing → Sound env parts p f → started_with r xs (Gives f) ≡ (record r { entries = entry_of f ∷ Opening xs ∷ [] }, event_of f)
     go (Own pair t) ty own_func = opens_own r xs pair t ty

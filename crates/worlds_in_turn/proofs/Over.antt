@@ -1,10 +1,10 @@
 -- After the starts: a closed run stays closed, and a view that opens shows what the parts have.
-use Rattle.std.proofs.Common.{◌≡◌, ◌∙◌, refl, sym, ap, subst, ℕ, ◌<◌, List, [], ◌∷◌, Some, Bool, true, false, cond, option_and_then, slice_get}
+use Rattle.std.proofs.Common.{◌≡◌, ◌∙◌, refl, sym, ap, subst, ℕ, ◌<◌, List, [], ◌∷◌, Option, Some, None, Bool, true, false, cond, option_and_then, slice_get}
 use Rattle.wasm_tree.specs.declared.space.Space.TheVariants.{Functions, Tables, Memories, Globals}
 use Rattle.std.specs.Prelude.{nat_eq}
 use Rattle.wasm_tree.specs.declared.module.ExportDesc.{ExportDesc}
 use Rattle.wasm_tree.specs.declared.module.ExportDesc.TheVariants as ex
-use Rattle.wasm_meaning.specs.Outcomes.{Outcome, Gives, Traps, IllTyped, at, overwrite}
+use Rattle.wasm_meaning.specs.Outcomes.{at, overwrite}
 use Rattle.wasm_meaning.specs.State.{Text, Inst}
 use Rattle.wasm_meaning.specs.Memory.{memory_may_grow}
 use Rattle.wasm_meaning.specs.Tables.{table_may_grow}
@@ -12,11 +12,10 @@ use Rattle.wasm_meaning.specs.Linking.{Part, Entity}
 use Rattle.wasm_meaning.specs.Environment.{Environment, Thing, FuncAt, TableAt, MemoryAt, GlobalAt, Shown, received, received_ref}
 use Rattle.wasm_meaning.specs.World.{base, all_there, address_in, seen_as}
 use Rattle.wasm_meaning.specs.Run
-use Rattle.wasm_meaning.specs.Run.{Event, Move, Call, Invoke, Take, Answer, Refuse, Grant, Deny, Get, Size, Set, Extend, Place, Phase, Closed, Run, Out, place_at, shows, got, size_of, does, byte_of, set, extended, moved, or_bad, is_taken_closed, closed_move, tick_at, tick}
+use Rattle.wasm_meaning.specs.Run.{Event, Move, Call, Invoke, Take, Answer, Refuse, Grant, Deny, Get, Size, Set, Extend, Place, Phase, Closed, Run, Out, Transition, made, place_at, shows, got, size_of, does, byte_of, set, extended, moved, or_bad, is_taken_closed, closed_move, transition_at, tick}
 use Rattle.index_remap.specs.Related.{ListRel, nil, cons}
 use Rattle.index_remap.specs.RelatedRuns.{ThingRel, a_func, a_table, a_memory, a_global, KeyRel}
-use Rattle.index_remap.proofs.Rel.{OptAll, nothing, just}
-use Rattle.worlds_in_turn.proofs.StepExtends.{with_is, cond_all}
+use Rattle.index_remap.proofs.Rel.{IfThere, absent, present, with_there, with_given, either_all}
 use Rattle.worlds_in_turn.proofs.Things.{space_in}
 use Rattle.worlds_in_turn.proofs.Reached.{reaching, reached_at}
 use Rattle.base_lists.proofs.Options.{and_then_is}
@@ -30,40 +29,40 @@ pub record Idle (r : Run) (o : Out) : Type 0 where
   pub entries : o.0.entries ≡ r.entries
   pub phase : o.0.phase ≡ r.phase
 
-abbrev AllIdle : Run → Outcome Out → Type 0
-AllIdle r = OptAll (Idle r)
+abbrev AllIdle : Run → Option Transition → Type 0
+AllIdle r = IfThere (λ t. Idle r (made t))
 
 module _ (r : Run) where
   got_idle : (x : Thing) (n : ℕ) → AllIdle r (got r x n)
-  got_idle (FuncAt a) n = nothing
-  got_idle (TableAt a) n = with_is (at r.store.tables a) _ (λ t _. with_is (at t.slots n) _ (λ v _. just (record { entries = refl; phase = refl })))
-  got_idle (MemoryAt a) n = with_is (at r.store.mems a) _ (λ m _. with_is (at m.bytes n) _ (λ b _. just (record { entries = refl; phase = refl })))
-  got_idle (GlobalAt a) n = with_is (at r.store.globals a) _ (λ g _. cond_all (nat_eq n 0) (just (record { entries = refl; phase = refl })) nothing)
+  got_idle (FuncAt a) n = absent
+  got_idle (TableAt a) n = with_given (at r.store.tables a) _ (λ t _. with_there (slice_get t.slots n) _ (λ v _. present (record { entries = refl; phase = refl })))
+  got_idle (MemoryAt a) n = with_given (at r.store.mems a) _ (λ m _. with_there (slice_get m.bytes n) _ (λ b _. present (record { entries = refl; phase = refl })))
+  got_idle (GlobalAt a) n = with_given (at r.store.globals a) _ (λ g _. either_all (nat_eq n 0) (present (record { entries = refl; phase = refl })) absent)
 
   size_idle : (x : Thing) → AllIdle r (size_of r x)
-  size_idle (FuncAt a) = nothing
-  size_idle (TableAt a) = with_is (at r.store.tables a) _ (λ t _. just (record { entries = refl; phase = refl }))
-  size_idle (MemoryAt a) = with_is (at r.store.mems a) _ (λ m _. just (record { entries = refl; phase = refl }))
-  size_idle (GlobalAt a) = with_is (at r.store.globals a) _ (λ g _. just (record { entries = refl; phase = refl }))
+  size_idle (FuncAt a) = absent
+  size_idle (TableAt a) = with_given (at r.store.tables a) _ (λ t _. present (record { entries = refl; phase = refl }))
+  size_idle (MemoryAt a) = with_given (at r.store.mems a) _ (λ m _. present (record { entries = refl; phase = refl }))
+  size_idle (GlobalAt a) = with_given (at r.store.globals a) _ (λ g _. present (record { entries = refl; phase = refl }))
 
   set_idle : (x : Thing) (n : ℕ) (v : Shown) → AllIdle r (set r x n v)
-  set_idle (FuncAt a) n v = nothing
-  set_idle (TableAt a) n v = with_is (at r.store.tables a) _ (λ t _. with_is (received_ref r.owned r.shown t.ty v) _ (λ w _. with_is (overwrite t.slots n (w ∷ [])) _ (λ s _. just (record { entries = refl; phase = refl }))))
-  set_idle (MemoryAt a) n v = with_is (at r.store.mems a) _ (λ m _. with_is (byte_of v) _ (λ b _. with_is (overwrite m.bytes n (b ∷ [])) _ (λ s _. just (record { entries = refl; phase = refl }))))
+  set_idle (FuncAt a) n v = absent
+  set_idle (TableAt a) n v = with_given (at r.store.tables a) _ (λ t _. with_there (received_ref r.owned r.shown t.ty v) _ (λ w _. with_given (overwrite t.slots n (w ∷ [])) _ (λ s _. present (record { entries = refl; phase = refl }))))
+  set_idle (MemoryAt a) n v = with_given (at r.store.mems a) _ (λ m _. with_there (byte_of v) _ (λ b _. with_given (overwrite m.bytes n (b ∷ [])) _ (λ s _. present (record { entries = refl; phase = refl }))))
   set_idle (GlobalAt a) n v =
-      with_is (at r.store.globals a) _ (λ g _. cond_all (nat_eq n 0) (cond_all g.ty.mutable (with_is (received r.owned r.shown g.ty.ty v) _ (λ w _. just (record { entries = refl; phase = refl }))) nothing) nothing)
+      with_given (at r.store.globals a) _ (λ g _. either_all (nat_eq n 0) (either_all g.ty.mutable (with_there (received r.owned r.shown g.ty.ty v) _ (λ w _. present (record { entries = refl; phase = refl }))) absent) absent)
 
   extended_idle : (x : Thing) (n : ℕ) → AllIdle r (extended r x n)
-  extended_idle (FuncAt a) n = nothing
-  extended_idle (TableAt a) n = with_is (at r.store.tables a) _ (λ t _. cond_all (table_may_grow t n) (just (record { entries = refl; phase = refl })) nothing)
-  extended_idle (MemoryAt a) n = with_is (at r.store.mems a) _ (λ m _. cond_all (memory_may_grow m n) (just (record { entries = refl; phase = refl })) nothing)
-  extended_idle (GlobalAt a) n = nothing
+  extended_idle (FuncAt a) n = absent
+  extended_idle (TableAt a) n = with_given (at r.store.tables a) _ (λ t _. either_all (table_may_grow t n) (present (record { entries = refl; phase = refl })) absent)
+  extended_idle (MemoryAt a) n = with_given (at r.store.mems a) _ (λ m _. either_all (memory_may_grow m n) (present (record { entries = refl; phase = refl })) absent)
+  extended_idle (GlobalAt a) n = absent
 
   closed_idle : (m : Move) → is_taken_closed m ≡ true → AllIdle r (moved r m)
-  closed_idle (Get p n) e = with_is (place_at r p) _ (λ x _. got_idle x n)
-  closed_idle (Size p) e = with_is (place_at r p) _ (λ x _. size_idle x)
-  closed_idle (Set p n v) e = with_is (place_at r p) _ (λ x _. set_idle x n v)
-  closed_idle (Extend p n) e = with_is (place_at r p) _ (λ x _. extended_idle x n)
+  closed_idle (Get p n) e = with_there (place_at r p) _ (λ x _. got_idle x n)
+  closed_idle (Size p) e = with_there (place_at r p) _ (λ x _. size_idle x)
+  closed_idle (Set p n v) e = with_there (place_at r p) _ (λ x _. set_idle x n v)
+  closed_idle (Extend p n) e = with_there (place_at r p) _ (λ x _. extended_idle x n)
   closed_idle (Call i xs) e = cc
   closed_idle (Invoke k xs) e = cc
   closed_idle (Take i) e = cc
@@ -72,24 +71,23 @@ module _ (r : Run) where
   closed_idle Grant e = cc
   closed_idle Deny e = cc
 
-  taken_idle : (m : Move) → AllIdle r (cond (is_taken_closed m) (moved r m) IllTyped)
+  taken_idle : (m : Move) → AllIdle r (cond (is_taken_closed m) (moved r m) None)
   taken_idle m = go (is_taken_closed m) refl
     where
-      go : (b : Bool) → is_taken_closed m ≡ b → AllIdle r (cond b (moved r m) IllTyped)
+      go : (b : Bool) → is_taken_closed m ≡ b → AllIdle r (cond b (moved r m) None)
       go true e = closed_idle m e
-      go false e = nothing
+      go false e = absent
 
-  or_bad_idle : (o : Outcome Out) → AllIdle r o → Idle r (or_bad r o)
-  or_bad_idle (Gives o) (just h) = h
-  or_bad_idle Traps h = record { entries = refl; phase = refl }
-  or_bad_idle IllTyped h = record { entries = refl; phase = refl }
+  or_bad_idle : (o : Option Transition) → AllIdle r o → Idle r (made (or_bad r o))
+  or_bad_idle (Some t) (present h) = h
+  or_bad_idle None h = record { entries = refl; phase = refl }
 
-move_idle : (r : Run) (ms : List Move) → Idle r (closed_move r ms)
+move_idle : (r : Run) (ms : List Move) → Idle r (made (closed_move r ms))
 move_idle r [] = record { entries = refl; phase = refl }
 move_idle r (m ∷ ms) = let h = or_bad_idle (record r { moves = ms }) _ (taken_idle (record r { moves = ms }) m) in record { entries = h.entries; phase = h.phase }
 
 pub closed_stays : (r : Run) → r.entries ≡ [] → r.phase ≡ Closed → Idle r (tick r)
-closed_stays r e f = subst (Idle r) (sym (ap (tick_at r) e ∙ ap (Rattle.wasm_meaning.specs.Run.in_phase r) f)) (move_idle r r.moves)
+closed_stays r e f = subst (Idle r) (sym (ap (λ es. made (transition_at r es)) e ∙ ap (λ p. made (Rattle.wasm_meaning.specs.Run.in_phase r p)) f)) (move_idle r r.moves)
 
 -- ---- the view ----
 

@@ -85,16 +85,16 @@ shares_own env parts p = record {
   globals = λ a l. reached_at env parts p Globals a (omega (arith, l));
 }
 
-thing_self : (R : Pairing) (xs : Owned) → ListRel (KeyRel R) xs xs → (is : OwnKey → Bool) (x : Thing) → given (look_up is xs) ≡ Some x → ThingRel R x x
+thing_self : (R : Pairing) (xs : Owned) → ListRel (KeyRel R) xs xs → (is : OwnKey → Bool) (x : Thing) → look_up is xs ≡ Some x → ThingRel R x x
 thing_self R [] nil is x h = absurd (let k = h in cc)
 thing_self R (y ∷ ys) (cons r rs) is x h = by (is y.0) h (λ h. thing_self R ys rs is x h)
   where
-    by : (b : Bool) → given (cond b (Gives y.1) (look_up is ys)) ≡ Some x → (given (look_up is ys) ≡ Some x → ThingRel R x x) → ThingRel R x x
+    by : (b : Bool) → cond b (Some y.1) (look_up is ys) ≡ Some x → (look_up is ys ≡ Some x → ThingRel R x x) → ThingRel R x x
     by true h on = subst (λ z. ThingRel R z z) (same_Some _ _ h) r.thing
     by false h on = on h
 
 -- none of the parts: what is the environment's has an address below its count
-pub own_low : OwnEntitiesCorrespond → (env : Environment) (parts : List Part) (p : ℕ) (key : OwnKey) (x : Thing) → given (owned_at (owned_of env) key) ≡ Some x → (k : Space) (a : ℕ) → address_of k x ≡ Some a → a < base env parts k p
+pub own_low : OwnEntitiesCorrespond → (env : Environment) (parts : List Part) (p : ℕ) (key : OwnKey) (x : Thing) → owned_at (owned_of env) key ≡ Some x → (k : Space) (a : ℕ) → address_of k x ≡ Some a → a < base env parts k p
 own_low law env parts p key x h k a e = go x k e (thing_self (reaching env parts p) (owned_of env) (law (is_reached env parts p) env (shares_own env parts p)).owned (same_key key) x h)
   where
     go : (x : Thing) (k : Space) → address_of k x ≡ Some a → ThingRel (reaching env parts p) x x → a < base env parts k p

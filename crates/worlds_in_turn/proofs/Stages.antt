@@ -9,7 +9,7 @@ use Rattle.wasm_meaning.specs.Control.{type_of_func}
 use Rattle.wasm_meaning.specs.Linking.{Part, module_at}
 use Rattle.wasm_meaning.specs.Environment.{Environment, Thing}
 use Rattle.wasm_meaning.specs.World.{World, Begun, base, all_there, joined_stores, start_in, starts_of, one_place, seen_as}
-use Rattle.wasm_meaning.specs.Run.{Event, Phase, Pending, Opened, Closed, Run, Out, tick_at, tick}
+use Rattle.wasm_meaning.specs.Run.{Event, Phase, Pending, Opened, Closed, Run, Out, made, transition_at, tick}
 use Rattle.wasm_meaning.specs.Below.{GivesNothing, a_frame, a_call, over, BelowIsNotSeen}
 use Rattle.wasm_meaning.specs.InTurn.{InTurn, view_over, goes_on, with_run, turn_at, tick_in_turn, HasNoActive}
 use Rattle.index_remap.specs.Related.{ListRel, nil}
@@ -174,7 +174,7 @@ module _ (env : Environment) (w : World) (insts : List Inst) (allocated : Store)
       place_low (y ∷ ys) (suc n) x e = let l = place_low ys n x e in omega (arith, l)
 
   opened_run : (r : Run) (view : List (Text × Thing)) → r.entries ≡ Opening [] ∷ [] → r.phase ≡ Pending view → tick r ≡ (record r { entries = []; phase = Opened; view = view }, Some Rattle.wasm_meaning.specs.Run.Linked)
-  opened_run r view e f = ap (tick_at r) e ∙ ap (λ p. (record r { entries = []; phase = Opened; view = Rattle.wasm_meaning.specs.Run.view_of r p }, Some Rattle.wasm_meaning.specs.Run.Linked)) f
+  opened_run r view e f = ap (λ es. made (transition_at r es)) e ∙ ap (λ p. (record r { entries = []; phase = Opened; view = Rattle.wasm_meaning.specs.Run.view_of r p }, Some Rattle.wasm_meaning.specs.Run.Linked)) f
 
   open_view : (k d : ℕ) (r : Run) (q : InTurn) → k ≡ length w.parts → Waits k [] r q → Next d r q
   open_view k d r q all h =

@@ -1,5 +1,5 @@
 -- What an instruction writes extends what stood there, and so each step of a run extends its store.
-use Rattle.std.proofs.Common.{◌≡◌, ℕ, zero, suc, length, List, [], ◌∷◌, Bool, true, false, cond, refl, sym, ◌∙◌, arith, drop}
+use Rattle.std.proofs.Common.{◌≡◌, ℕ, length, List, [], ◌∷◌, Bool, true, false, cond, refl, sym, ◌∙◌, arith, drop}
 use Rattle.std.specs.Prelude.{nat_eq}
 use Rattle.wasm_tree.specs.declared.instr.Instr.{Instr, out-Instr}
 use Rattle.wasm_tree.specs.declared.instr.Instr.TheOpen.{Instr-F}
@@ -13,7 +13,7 @@ use Rattle.wasm_meaning.specs.Memory.{written, writes, store_into, load_from, gr
 use Rattle.wasm_meaning.specs.Tables.{fits, writes_table, get_slot, set_slot, grow_table, table_may_grow, fill_table, init_table, with_table}
 use Rattle.wasm_meaning.specs.Control.{call_slot, func_ref, type_at, resume, end_level, branch, level_here, open_level, shape_of, open_block}
 use Rattle.wasm_meaning.specs.Step.{exec, step_code, step_levels, act}
-use Rattle.index_remap.proofs.Rel.{OptAll, nothing, stopped, just, bind_all}
+use Rattle.index_remap.proofs.Rel.{OptAll, nothing, stopped, just}
 use Rattle.worlds_in_turn.proofs.Extends.{Extending, keeps, global, memory, table, elem_drops, data_drops, overwritten_length}
 
 -- what the frame does extends the store

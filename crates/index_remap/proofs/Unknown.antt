@@ -1,0 +1,119 @@
+-- Stores that are related off a set of unknown places.
+use Rattle.std.proofs.Common.{◌≡◌, ◌∙◌, refl, sym, ap, subst, ℕ, suc, List, [], ◌∷◌, length, Some, Bool, true, false, cond, not, ◌⊎◌, inl, inr, slice_get, slice_set, arith}
+use native.Mathlib.Decide.{ℕ_discrete}
+use Rattle.std.specs.Prelude.{nat_eq}
+use Rattle.std.proofs.lemmas.Bool.Decides.{eqb_tells}
+use Rattle.wasm_tree.specs.declared.space.Space.TheVariants.{Globals}
+use Rattle.wasm_meaning.specs.Outcomes.{Outcome, Gives, bind, at}
+use Rattle.wasm_meaning.specs.State.{RefVal, Val, Global, Store, SetGlobal}
+use Rattle.wasm_meaning.specs.Step.{changed}
+use Rattle.index_remap.specs.Related.{Pairing, OneToOneWhereWritten, OptRel, some, BothRel, both, ListRel, nil, cons, RefRel, ValRel, StoreRel}
+use Rattle.index_remap.specs.Laws.{passed}
+use Rattle.index_remap.specs.Unknown.{Unknowns, none_unknown, is_among, without, GlobalOff, RefsOff, StoreRelOff, learnt, NothingUnknown, SetGlobalsAreKnown}
+use Rattle.index_remap.proofs.Rel.{get_rel, length_rel, at_put_here, at_put_there}
+
+both_map : {A B : Type 0} {P Q : A → B → Type 0} {o : Outcome A} {p : Outcome B} → ((a : A) (b : B) → P a b → Q a b) → BothRel P o p → BothRel Q o p
+both_map f (both r) = both (f _ _ r)
+
+-- ---- nothing is unknown ----
+
+module _ (R : Pairing) where
+  some_of : {x y : RefVal} → OptRel (RefRel R) (Some x) (Some y) → RefRel R x y
+  some_of (some p) = p
+
+  all_related : (xs ys : List RefVal) → length xs ≡ length ys → ((n : ℕ) → OptRel (RefRel R) (slice_get xs n) (slice_get ys n)) → ListRel (RefRel R) xs ys
+  all_related [] [] e h = nil
+  all_related [] (y ∷ ys) e h = absurd (omega (arith, e))
+  all_related (x ∷ xs) [] e h = absurd (omega (arith, e))
+  all_related (x ∷ xs) (y ∷ ys) e h = cons (some_of (h 0)) (all_related xs ys (omega (arith, e)) (λ n. h (suc n)))
+
+  refs_related : (xs ys : List RefVal) → RefsOff R (λ n. true) xs ys → ListRel (RefRel R) xs ys
+  refs_related xs ys r = all_related xs ys r.size (λ n. r.each n refl)
+
+  refs_off : (known : ℕ → Bool) (xs ys : List RefVal) → ListRel (RefRel R) xs ys → RefsOff R known xs ys
+  refs_off known xs ys r = record { size = length_rel r; each = λ n _. get_rel r n }
+
+  to_related : (s t : Store) → StoreRelOff R none_unknown s t → StoreRel R s t
+  to_related s t r = record {
+    types = r.types;
+    owns = r.owns;
+    funcs = r.funcs;
+    tables = λ n. both_map (λ t u x. record { type = x.type; most = x.most; slots = refs_related t.slots u.slots x.slots }) (r.tables n);
+    mems = r.mems;
+    globals = λ n. both_map (λ g h x. record { type = x.type; value = x.value refl }) (r.globals n);
+    elems = λ n. both_map (λ e f x. record { items = refs_related e.items f.items x }) (r.elems n);
+    datas = r.datas;
+  }
+
+  to_off : (s t : Store) → StoreRel R s t → StoreRelOff R none_unknown s t
+  to_off s t r = record {
+    types = r.types;
+    owns = r.owns;
+    funcs = r.funcs;
+    tables = λ n. both_map (λ t u x. record { type = x.type; most = x.most; slots = refs_off _ t.slots u.slots x.slots }) (r.tables n);
+    mems = r.mems;
+    globals = λ n. both_map (λ g h x. record { type = x.type; value = λ _. x.value }) (r.globals n);
+    elems = λ n. both_map (λ e f x. refs_off _ e.items f.items x.items) (r.elems n);
+    datas = r.datas;
+  }
+
+pub nothing_unknown : NothingUnknown
+nothing_unknown of named l s t = (to_related (passed of named l) s t, to_off (passed of named l) s t)
+
+-- ---- a global is set ----
+
+-- whether another stands in the list is as it was
+still_among : (xs : List ℕ) (a c : ℕ) → (a ≡ c → ⊥) → is_among (without xs a) c ≡ is_among xs c
+still_among [] a c n = refl
+still_among (x ∷ xs) a c n = go (eqb_tells x a) (still_among xs a c n)
+  where
+    tests : (b : Bool) → is_among (cond b (without xs a) (x ∷ without xs a)) c ≡ cond b (is_among (without xs a) c) (cond (nat_eq x c) true (is_among (without xs a) c))
+    tests true = refl
+    tests false = refl
+
+    other : (x ≡ a) → nat_eq x c ≡ false
+    other e = by (eqb_tells x c)
+      where
+        by : ((nat_eq x c ≡ true) × (x ≡ c)) ⊎ ((nat_eq x c ≡ false) × (x ≡ c → ⊥)) → nat_eq x c ≡ false
+        by (inl h) = absurd (n (sym e ∙ h.1))
+        by (inr h) = h.0
+
+    go : ((nat_eq x a ≡ true) × (x ≡ a)) ⊎ ((nat_eq x a ≡ false) × (x ≡ a → ⊥)) → is_among (without xs a) c ≡ is_among xs c → is_among (without (x ∷ xs) a) c ≡ is_among (x ∷ xs) c
+    go (inl h) more = tests (nat_eq x a) ∙ ap (λ b. cond b (is_among (without xs a) c) (cond (nat_eq x c) true (is_among (without xs a) c))) h.0 ∙ more ∙ ap (λ b. cond b true (is_among xs c)) (sym (other h.1))
+    go (inr h) more = tests (nat_eq x a) ∙ ap (λ b. cond b (is_among (without xs a) c) (cond (nat_eq x c) true (is_among (without xs a) c))) h.0 ∙ ap (λ b. cond (nat_eq x c) true b) more
+
+module _ (R : Pairing) (apart : OneToOneWhereWritten R) (u : Unknowns) (s t : Store) (a b : ℕ) (g h : Global) (v w : Val) (r : StoreRelOff R u s t) (n : R.of Globals a b) (at_g : at s.globals a ≡ Gives g) (at_h : at t.globals b ≡ Gives h) (values : ValRel R v w) where
+  abbrev first : List Global
+  first = slice_set s.globals a (record g { value = v })
+
+  abbrev second : List Global
+  second = slice_set t.globals b (record h { value = w })
+
+  same_type : BothRel (GlobalOff R (not (is_among u.globals a))) (at s.globals a) (at t.globals b) → g.ty ≡ h.ty
+  same_type x = go (subst (BothRel (GlobalOff R (not (is_among u.globals a))) (at s.globals a)) at_h x)
+    where
+      inner : BothRel (GlobalOff R (not (is_among u.globals a))) (Gives g) (Gives h) → g.ty ≡ h.ty
+      inner (both y) = y.type
+
+      go : BothRel (GlobalOff R (not (is_among u.globals a))) (at s.globals a) (Gives h) → g.ty ≡ h.ty
+      go y = inner (subst (λ o. BothRel (GlobalOff R (not (is_among u.globals a))) o (Gives h)) at_g y)
+
+  globals_off : (c d : ℕ) → R.of Globals c d → BothRel (GlobalOff R (not (is_among (without u.globals a) c))) (at first c) (at second d)
+  globals_off c d m = go (ℕ_discrete a c) (ℕ_discrete b d)
+    where
+      go : Dec (a ≡ c) → Dec (b ≡ d) → BothRel (GlobalOff R (not (is_among (without u.globals a) c))) (at first c) (at second d)
+      go (yes e) (yes f) =
+          let left : at first c ≡ Gives (record g { value = v }) = ap (at first) (sym e) ∙ at_put_here s.globals a (record g { value = v }) ∙ ap (λ o. bind o (λ old. Gives (record g { value = v }))) at_g in
+          let right : at second d ≡ Gives (record h { value = w }) = ap (at second) (sym f) ∙ at_put_here t.globals b (record h { value = w }) ∙ ap (λ o. bind o (λ old. Gives (record h { value = w }))) at_h in
+          subst (λ o. BothRel (GlobalOff R (not (is_among (without u.globals a) c))) o (at second d)) (sym left)
+          (subst (BothRel (GlobalOff R (not (is_among (without u.globals a) c))) (Gives (record g { value = v }))) (sym right) (both (record { type = same_type (r.globals n); value = λ _. values })))
+      go (yes e) (no f) = absurd (f (apart.right {k = Globals} refl a b d n (subst (λ x. R.of Globals x d) (sym e) m)))
+      go (no e) (yes f) = absurd (e (apart.left {k = Globals} refl a c b n (subst (λ x. R.of Globals c x) (sym f) m)))
+      go (no e) (no f) =
+          rw (at_put_there s.globals a c (record g { value = v }) e, at_put_there t.globals b d (record h { value = w }) f) (subst (λ k. BothRel (GlobalOff R (not k)) (at s.globals c) (at t.globals d)) (sym (still_among u.globals a c e)) (r.globals m))
+
+  off_again : StoreRelOff R (learnt u a) (changed s (SetGlobal a (record g { value = v }))) (changed t (SetGlobal b (record h { value = w })))
+  off_again = record { types = r.types; owns = r.owns; funcs = r.funcs; tables = r.tables; mems = r.mems; globals = λ {a = c} {b = d} m. globals_off c d m; elems = r.elems; datas = r.datas }
+
+pub set_globals_are_known : SetGlobalsAreKnown
+set_globals_are_known of named l apart u s t a b g h v w r n at_g at_h values = off_again (passed of named l) apart u s t a b g h v w r n at_g at_h values

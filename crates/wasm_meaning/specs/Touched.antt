@@ -1,0 +1,103 @@
+-- What a step writes into the store, told with its place and length, from what stands on top before the step.
+use Rattle.std.proofs.Common.{◌≡◌, ℕ, ◌+◌, List, [], ◌∷◌, length}
+use Rattle.wasm_tree.specs.declared.instr.Instr.{Instr, out-Instr}
+use Rattle.wasm_tree.specs.declared.instr.Instr.TheOpen.{Instr-F}
+use Rattle.wasm_tree.specs.declared.instr.StoreOp.{StoreOp}
+use Rattle.wasm_tree.specs.declared.instr.StoreOp.TheVariants as op
+use Rattle.wasm_num.specs.Operations.{W32}
+use Rattle.wasm_meaning.specs.Outcomes.{Outcome, Gives, IllTyped, bind, at, overwrite}
+use Rattle.wasm_meaning.specs.Access.{store_from}
+use Rattle.wasm_meaning.specs.State.{Val, RefVal, Table, Memory, Global, Store, Level, Frame, Env, Change, Keep, SetGlobal, SetMemory, SetTable, DropElem, DropData, Act, Goes}
+use Rattle.wasm_meaning.specs.Values.{pop_num, pop_ref}
+use Rattle.wasm_meaning.specs.Memory.{pop_three}
+use Rattle.wasm_meaning.specs.Step.{act}
+
+-- so many bytes of a memory or references of a table from a place on, a global, or a segment that is dropped
+pub data Touched : Type 0 where
+  Nothing : Touched
+  Bytes : (address place count : ℕ) → Touched
+  Slots : (address place count : ℕ) → Touched
+  OneGlobal : (address : ℕ) → Touched
+  OneElem : (address : ℕ) → Touched
+  OneData : (address : ℕ) → Touched
+
+-- how many bytes a store writes
+abbrev pub store_width : StoreOp → ℕ
+store_width op.I32Store = 4
+store_width op.I64Store = 8
+store_width op.I32Store8 = 1
+store_width op.I32Store16 = 2
+store_width op.I64Store8 = 1
+store_width op.I64Store16 = 2
+store_width op.I64Store32 = 4
+
+-- the address of an index
+abbrev pub at_address : Outcome ℕ → (ℕ → Touched) → Outcome Touched
+at_address address f = bind address (λ a. Gives (f a))
+
+-- the place under a value
+abbrev pub store_touches : ℕ → (offset : ℕ) → StoreOp → List Val → Outcome Touched
+store_touches a offset o vs = bind (pop_num (store_from o) vs) (λ v. bind (pop_num W32 v.1) (λ p. Gives (Bytes a (p.0 + offset) (store_width o))))
+
+-- the first and the last of three numbers
+abbrev pub range_touches : (place_count : ℕ → ℕ → Touched) → List Val → Outcome Touched
+range_touches f vs = bind (pop_three vs) (λ p. Gives (f p.0.0 p.0.2))
+
+-- the place under a reference
+abbrev pub slot_touches : ℕ → List Val → Outcome Touched
+slot_touches a vs = bind (pop_ref vs) (λ r. bind (pop_num W32 r.1) (λ i. Gives (Slots a i.0 1)))
+
+-- the place under a reference and a number of slots
+abbrev pub fill_touches : ℕ → List Val → Outcome Touched
+fill_touches a vs = bind (pop_num W32 vs) (λ n. bind (pop_ref n.1) (λ r. bind (pop_num W32 r.1) (λ d. Gives (Slots a d.0 n.0))))
+
+-- what an instruction writes, where it does not trap and is not ill typed
+abbrev pub touched_by : Instr-F Instr → Env → List Val → Outcome Touched
+touched_by (Instr-F.Store o arg) env vs = bind (at env.inst.mems arg.memory) (λ a. store_touches a arg.offset o vs)
+touched_by (Instr-F.MemoryInit s n) env vs = bind (at env.inst.mems n) (λ a. range_touches (Bytes a) vs)
+touched_by (Instr-F.MemoryCopy n m) env vs = bind (at env.inst.mems n) (λ a. range_touches (Bytes a) vs)
+touched_by (Instr-F.MemoryFill n) env vs = bind (at env.inst.mems n) (λ a. range_touches (Bytes a) vs)
+touched_by (Instr-F.TableSet n) env vs = bind (at env.inst.tables n) (λ a. slot_touches a vs)
+touched_by (Instr-F.TableInit s n) env vs = bind (at env.inst.tables n) (λ a. range_touches (Slots a) vs)
+touched_by (Instr-F.TableCopy n m) env vs = bind (at env.inst.tables n) (λ a. range_touches (Slots a) vs)
+touched_by (Instr-F.TableFill n) env vs = bind (at env.inst.tables n) (λ a. fill_touches a vs)
+touched_by (Instr-F.GlobalSet n) env vs = at_address (at env.inst.globals n) OneGlobal
+touched_by (Instr-F.ElemDrop n) env vs = at_address (at env.inst.elems n) OneElem
+touched_by (Instr-F.DataDrop n) env vs = at_address (at env.inst.datas n) OneData
+touched_by _ env vs = Gives Nothing
+
+abbrev pub touched_next : Env → List Val → List Instr → Outcome Touched
+touched_next env vs [] = Gives Nothing
+touched_next env vs (i ∷ is) = touched_by (out-Instr i) env vs
+
+abbrev pub touched_levels : Env → List Level → Outcome Touched
+touched_levels env [] = IllTyped
+touched_levels env (l ∷ ls) = touched_next env l.values l.code
+
+-- what the step of this frame writes
+abbrev pub touched : Store → Frame → Outcome Touched
+touched s f = touched_levels (record { store = s; inst = f.inst }) f.levels
+
+-- the change writes that and nothing else: so many bytes or references stand at the place, and the others are as they were
+pub data Writes (s : Store) : Touched → Change → Type 0 where
+  nothing : Writes s Nothing Keep
+  a_global : {a : ℕ} {g : Global} → Writes s (OneGlobal a) (SetGlobal a g)
+  bytes : {a place : ℕ} {m n : Memory} (written : List ℕ) → at s.mems a ≡ Gives m → overwrite m.bytes place written ≡ Gives n.bytes → n.pages ≡ m.pages → n.most ≡ m.most → Writes s (Bytes a place (length written)) (SetMemory a n)
+  slots : {a place : ℕ} {t u : Table} (written : List RefVal) → at s.tables a ≡ Gives t → overwrite t.slots place written ≡ Gives u.slots → u.ty ≡ t.ty → u.most ≡ t.most → Writes s (Slots a place (length written)) (SetTable a u)
+  an_elem : {a : ℕ} → Writes s (OneElem a) (DropElem a)
+  a_data : {a : ℕ} → Writes s (OneData a) (DropData a)
+
+-- something is told, and the change writes it
+pub record WritesTold (s : Store) (o : Outcome Touched) (c : Change) : Type 0 where
+  pub told : Touched
+  pub is : o ≡ Gives told
+  pub writes : Writes s told c
+
+-- what a frame's step does writes what is told of it, and where a call begins, a growth is asked for or the frame ends nothing is written
+abbrev pub ActWrites : Store → Outcome Touched → Act → Type 0
+ActWrites s o (Goes c h) = WritesTold s o c
+ActWrites s o _ = o ≡ Gives Nothing
+
+-- Where the step of a frame does something, what it writes is told from what stands on top before.
+abbrev pub StepsWriteWhatTheyTouch : Type 0
+StepsWriteWhatTheyTouch = (s : Store) (f : Frame) (x : Act) → act s f ≡ Gives x → ActWrites s (touched s f) x
