@@ -3,8 +3,8 @@ pub mod Grouped
 pub mod Rows
 pub mod Pops
 pub mod Acts
+pub mod TypeKinds
 pub mod Known
-pub mod Letters
 pub mod Turns
 pub mod Branching
 pub mod Runs

@@ -1,7 +1,7 @@
 // What is done with the operands that the checker keeps.
 
-ghost use Rattle.std.specs.Prelude.{◌≡◌, false, min, nat_eq, ◌↔◌, ◌≤◌, ◌++◌, ◌∷◌, [], ◌||◌, nat_le, length, drop, reverse, is_some, IfOk, OnOk, IsTrue, Some, None, option_map};
-ghost use Rattle.wasm_tree.specs.SameTypes.{same_type, same_types};
+ghost use Rattle.std.specs.Prelude.{◌≡◌, false, min, ◌↔◌, ◌≤◌, ◌++◌, ◌∷◌, [], ◌||◌, nat_le, length, drop, reverse, is_some, IfOk, OnOk, IsTrue, Some, None, option_map};
+ghost use Rattle.wasm_tree.specs.SameTypes.{same_ref, same_type, same_types};
 ghost use Rattle.wasm_typing.specs.Typing.{operands, only, Gives, Leaves, Drops, Selects, TestsNull};
 ghost use Rattle.wasm_typing.specs.Tracking.{pop_one, pop_type, pop_all, chosen, letter};
 ghost use Rattle.wasm_typing.specs.Kept.{lowest, stack_of, beneath, when, Answers, IsInside};
@@ -10,17 +10,16 @@ use crate::kept::{Kept, Outer};
 use std::alloc::{AllocError, Global};
 use wasm_tree::{RefType, ValType};
 
-// Whether it is `externref`, whose letter is the last.
-fn is_last(ty: ValType) -> bool
-    ensures { result ≡ nat_eq (letter ty) 3 }
+fn is_same_ref(a: RefType, b: RefType) -> bool
+    ensures { result ≡ same_ref a b }
 {
-    match ty {
-        ValType::Ref(RefType::Extern) => true,
-        ValType::I32 | ValType::I64 | ValType::Ref(RefType::Func) => false,
+    match (a, b) {
+        (RefType::Func, RefType::Func) | (RefType::Extern, RefType::Extern) => true,
+        _ => false,
     }
 }
 
-// The letter, if it is not the last.
+// The letter of a number type; one letter for all reference types.
 fn kind(ty: ValType) -> u8
     ensures { result ≡ min (letter ty) 2 }
 {
@@ -31,30 +30,31 @@ fn kind(ty: ValType) -> u8
     }
 }
 
-// In two steps, each without a branch in machine code, so that the loop of `are_same` has none.
-#[tactic(auto, using(crate::proofs::Letters::last_letter, crate::proofs::Letters::other_letter))]
-fn letter(ty: ValType) -> u8
-    ensures { result ≡ letter ty }
-{
-    if is_last(ty) { 3 } else { kind(ty) }
-}
-
+// The kinds are compared first, since that takes one step for all of them.
+#[tactic(auto, using(crate::proofs::TypeKinds::other_kinds, crate::proofs::TypeKinds::same_kinds))]
 fn is_same(a: ValType, b: ValType) -> bool
     ensures { result ≡ same_type a b }
 {
-    letter(a) == letter(b)
+    if kind(a) != kind(b) {
+        return false;
+    }
+    match (a, b) {
+        (ValType::Ref(a), ValType::Ref(b)) => is_same_ref(a, b),
+        _ => true,
+    }
 }
 
-// Whether two lists of types, of one length, are the same. Each type is compared, also behind a difference: the loop has no branch.
+// Whether two lists of types, of one length, are the same.
 fn are_same(left: &[ValType], right: &[ValType]) -> bool
     requires { length left.now ≡ length right.now }
     ensures { result ≡ same_types left.now right.now }
 {
-    let mut same = true;
     for i in 0..left.len() {
-        same = same & is_same(left[i], right[i]);
+        if !is_same(left[i], right[i]) {
+            return false;
+        }
     }
-    same
+    true
 }
 
 impl Kept {

@@ -1,4 +1,4 @@
-ghost use Rattle.std.specs.Prelude.{◌≡◌, ℕ, List, [], ◌∷◌, ◌++◌, ◌-◌, ◌≤◌, length, OnOk};
+ghost use Rattle.std.specs.Prelude.{◌≡◌, ℕ, List, [], ◌∷◌, ◌++◌, ◌-◌, ◌≤◌, length, take, drop, OnOk};
 ghost use Rattle.std.proofs.Common.{append_assoc, append-nil};
 ghost use Rattle.wasm_write.specs.Laws.{longer, as_long};
 
@@ -40,6 +40,23 @@ impl Buffer {
     }
 }
 
+/// From how many bytes on bytes are turned all at once. Of fewer, the move of each is cheaper than the room that a turn clears.
+const LONG: usize = 4096;
+
+/// Puts the last bytes, so many, before the others.
+fn put_first(bytes: &mut [u8], count: usize)
+    requires { count ≤ length bytes.old }
+    ensures { bytes.new ≡ drop (length bytes.old - count) bytes.old ++ take (length bytes.old - count) bytes.old }
+{
+    if bytes.len() < LONG {
+        for _ in 0..count {
+            bytes.rotate_right(1);
+        }
+    } else {
+        bytes.rotate_right(count);
+    }
+}
+
 impl Target for Buffer {
     type Refusal = NoMemory;
 
@@ -75,6 +92,6 @@ impl Target for Buffer {
 
     fn turn(&mut self, from: u64, middle: u64) {
         let last = self.bytes.len() - middle as usize;
-        self.bytes[from as usize..].rotate_right(last);
+        put_first(&mut self.bytes[from as usize..], last);
     }
 }
