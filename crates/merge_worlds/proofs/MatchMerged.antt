@@ -10,7 +10,7 @@ use Rattle.wasm_tree.specs.declared.module.Module.{Module}
 use Rattle.wasm_meaning.specs.State.{Pair, Store}
 use Rattle.wasm_meaning.specs.Linking.{Part, Site, module_at, import_at, pair_of, sites, met_limits}
 use Rattle.wasm_meaning.specs.Environment.{Environment, FuncKey, Thing, owned_of, owned_at, own_funcs}
-use Rattle.wasm_meaning.specs.World.{given, own_key, own_key_of, outside_thing, imported_thing, is_match, is_matched}
+use Rattle.wasm_meaning.specs.World.{own_key, own_key_of, outside_thing, imported_thing, is_match, is_matched}
 use Rattle.index_remap.specs.References.{with_declared, declared_refs}
 use Rattle.export_names.specs.declared.mode.Mode.{Mode}
 use Rattle.export_names.specs.Names.{new_names}

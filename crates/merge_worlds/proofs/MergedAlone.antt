@@ -14,7 +14,7 @@ use Rattle.wasm_meaning.specs.State.{Text, Pair}
 use Rattle.wasm_meaning.specs.Linking.{Part, Site, has_kind, pair_of, module_at, import_at, sites}
 use Rattle.wasm_tree.specs.Spaces.{space_of_import}
 use Rattle.wasm_meaning.specs.Environment.{Environment, FuncKey, OwnKey, owned_of, owned_at}
-use Rattle.wasm_meaning.specs.World.{given, own_count, defined_count, defined_before, address_of, own_key, own_key_of, outside_thing, all_there, numbers, space}
+use Rattle.wasm_meaning.specs.World.{own_count, defined_count, defined_before, address_of, own_key, own_key_of, outside_thing, all_there, numbers, space}
 use Rattle.index_remap.specs.References.{with_declared, declared_refs}
 use Rattle.export_names.specs.declared.mode.Mode.{Mode}
 use Rattle.export_names.specs.Names.{new_names}

@@ -7,13 +7,12 @@ use Rattle.std.specs.Prelude.{nat_eq, nat_lt}
 use Rattle.std.proofs.lemmas.Bool.{ltb-true, lt-ltb, eq-eqb}
 use Rattle.wasm_tree.specs.declared.module.Import.{Import}
 use Rattle.wasm_tree.specs.declared.module.Module.{Module}
-use Rattle.wasm_meaning.specs.Outcomes.{Gives}
 use Rattle.wasm_meaning.specs.Linking.{Part, Site, Defined, Outside, has_kind, module_at, import_at, imports_of}
 use Rattle.wasm_tree.specs.declared.module.ImportDesc.{ImportDesc}
 use Rattle.wasm_tree.specs.declared.module.ImportDesc.TheVariants as im
 use Rattle.wasm_tree.specs.Spaces.{index_of_export, space_of_export, space_of_import}
 use Rattle.wasm_meaning.specs.Environment.{Environment, OwnKey, Thing, Owned, owned_of, look_up, same_key}
-use Rattle.wasm_meaning.specs.World.{given, own_count, defined_count, defined_before, base, thing_at, address_of, own_key, outside_thing, defined_thing, thing_of, imported_thing}
+use Rattle.wasm_meaning.specs.World.{own_count, defined_count, defined_before, base, thing_at, address_of, own_key, outside_thing, defined_thing, thing_of, imported_thing}
 use Rattle.index_remap.specs.Related.{Pairing, OptRel, none, some, ListRel}
 use Rattle.index_remap.specs.RelatedRuns.{ThingRel, a_func, a_table, a_memory, a_global, KeyRel}
 use Rattle.merge_terms.specs.Faults.{link_fault}

@@ -16,7 +16,7 @@ use Rattle.wasm_meaning.specs.State.{Pair}
 use Rattle.wasm_meaning.specs.Paths.{walk, walk_on}
 use Rattle.wasm_meaning.specs.Linking.{sites, joined, joined_step, import_step, read_step, initials_from, Outside, Read, places, has_kind, imports_of, pair_of, end_of, global_import, end_step, read_of, space_index}
 use Rattle.wasm_meaning.specs.Environment.{Environment, owned_of, owned_at}
-use Rattle.wasm_meaning.specs.World.{given, own_key_of, outside_thing, imported_thing, thing_of, address_of, numbers, own_count, defined_count, space}
+use Rattle.wasm_meaning.specs.World.{own_key_of, outside_thing, imported_thing, thing_of, address_of, numbers, own_count, defined_count, space}
 use Rattle.permuted_worlds.specs.Alone.{one, site, key_in, thing_in, addresses, read_in}
 
 -- ---- what an import stands for ----

@@ -13,7 +13,7 @@ use Rattle.wasm_tree.specs.declared.module.Module.{Module}
 use Rattle.wasm_meaning.specs.State.{Pair}
 use Rattle.wasm_meaning.specs.Linking.{Part, Site, Outside, Read, places, has_kind, pair_of, end_of, read_of, space_index}
 use Rattle.wasm_meaning.specs.Environment.{Environment, Thing, OwnKey, FuncKey, TableKey, MemoryKey, GlobalKey, owned_of, owned_at}
-use Rattle.wasm_meaning.specs.World.{given, imported_thing, address_of, all_there, numbers, own_count, defined_count, space}
+use Rattle.wasm_meaning.specs.World.{imported_thing, address_of, all_there, numbers, own_count, defined_count, space}
 
 abbrev pub one : Module → List Part
 one t = record { name = None; «module» = t } ∷ []
