@@ -13,7 +13,7 @@ use Rattle.wasm_meaning.specs.State.{Pair}
 use Rattle.wasm_meaning.specs.Laws.{EndsArePaths}
 use Rattle.wasm_meaning.specs.Environment.{Owned, MemoryKey, owned_at}
 use Rattle.wasm_meaning.specs.Values.{same_ref, same_type, same_func_type}
-use Rattle.wasm_meaning.specs.World.{same_bool, given, own_key, own_key_of, outside_thing}
+use Rattle.wasm_meaning.specs.World.{same_bool, own_key, own_key_of, outside_thing}
 use Rattle.wasm_meaning.specs.Linking.{Part, Site, End, Defined, Outside, Entity, has_kind, import_at, imports_of, pair_of, sites_in, sites, end_of, linked_end, gathered}
 use Rattle.wasm_tree.specs.Spaces.{index_of_export, space_of_import}
 use Rattle.merge_terms.specs.Faults.{External, FuncOf, TableOf, MemoryOf, GlobalOf, asked_at, found, suits, external_of, same_but_limits, meets_limits, stays}

@@ -1,14 +1,11 @@
 -- The tests of sameness: what passes them is equal, and each passes with itself.
-use Rattle.std.proofs.Common.{◌≡◌, ap, ap₂, sym, refl, List, [], ◌∷◌, Bool, true, false, nat_eq, eq-eqb, arith}
+use Rattle.std.proofs.Common.{◌≡◌, ap₂, refl, Bool, true, nat_eq, eq-eqb, arith}
 use Rattle.wasm_tree.specs.declared.space.Space.{Space}
-use Rattle.wasm_tree.specs.declared.space.Space.TheVariants.{Types, Functions, Tables, Memories, Globals, ElementSegments, DataSegments}
 use Rattle.wasm_tree.specs.Operands.{same_space}
 use Rattle.base_lists.proofs.Same.{each_same_is, each_same_self}
 use Rattle.std.proofs.lemmas.Bool.{eqb-true, and_parts, and_from}
 use Rattle.wasm_tree.specs.declared.types.RefType.{RefType}
-use Rattle.wasm_tree.specs.declared.types.RefType.TheVariants as reft
 use Rattle.wasm_tree.specs.declared.types.ValType.{ValType}
-use Rattle.wasm_tree.specs.declared.types.ValType.TheVariants as valt
 use Rattle.wasm_tree.specs.declared.types.FuncType.{FuncType}
 use Rattle.wasm_meaning.specs.State.{Text, Pair}
 use Rattle.wasm_meaning.specs.Values.{same_ref, same_type, same_types, same_func_type}

@@ -1,5 +1,5 @@
 -- The functions that the merged module starts, as they stand in its store: those of the parts, which take and give nothing, and the one that calls several.
-use Rattle.std.proofs.Common.{◌≡◌, ◌∙◌, ap, ap₂, sym, refl, ℕ, zero, suc, ◌+◌, ◌-◌, ◌<◌, ◌≤◌, List, [], ◌∷◌, ◌++◌, map, length, Option, Some, None, Bool, true, false, cond, arith, ◌⊎◌, inl, inr, ◌&&◌, is_some}
+use Rattle.std.proofs.Common.{◌≡◌, ◌∙◌, ap, ap₂, sym, refl, ℕ, zero, suc, ◌+◌, ◌-◌, ◌<◌, ◌≤◌, List, [], ◌∷◌, ◌++◌, map, length, Option, Some, Bool, true, false, cond, arith, ◌⊎◌, inl, inr, ◌&&◌, is_some}
 use Rattle.wasm_tree.specs.declared.space.Space.TheVariants.{Functions}
 use Rattle.std.specs.Prelude.{slice_get, option_and_then}
 use Rattle.std.proofs.lemmas.Bool.{cases_lt}
@@ -19,13 +19,13 @@ use Rattle.wasm_tree.specs.declared.module.DataSeg.{DataSeg}
 use Rattle.wasm_tree.specs.declared.module.Module.{Module}
 use Rattle.wasm_tree.specs.Spaces.{func_of, imported_funcs, funcs_of, type_of_func}
 use Rattle.wasm_meaning.specs.Outcomes.{Outcome, Gives, Traps, IllTyped, bind, at, overwrite}
-use Rattle.wasm_meaning.specs.State.{Text, RefVal, Inst, Func, Code, Table, Memory, Store}
+use Rattle.wasm_meaning.specs.State.{Text, RefVal, Inst, Func, Code, Table, Memory, Store, Val}
 use Rattle.wasm_meaning.specs.Values.{declared, same_func_type}
 use Rattle.wasm_meaning.specs.Control as control
 use Rattle.wasm_meaning.specs.Control.{type_at}
 use Rattle.wasm_meaning.specs.Linking.{Part, has_kind, imports_of, import_at, sites}
-use Rattle.wasm_meaning.specs.Environment.{Environment, Thing, FuncAt, TableAt, MemoryAt, GlobalAt, own_funcs, all_of}
-use Rattle.wasm_meaning.specs.World.{given, number_value, own_count, defined_count, defined_before, base, address_of, imported_thing, all_there, numbers, new_func, new_global, elem_of, part_store, own_store, stores_from, is_match, is_matched, Filled, Task, or_trapped, fill_table, copy_elem, run_elem_mode, run_elem, fill_memory, copy_data, run_data_mode, run_data, and_then, in_turn, segments, elem_tasks, data_tasks}
+use Rattle.wasm_meaning.specs.Environment.{Environment, Thing, FuncAt, TableAt, MemoryAt, GlobalAt, all_of}
+use Rattle.wasm_meaning.specs.World.{given, own_count, defined_count, defined_before, base, address_of, imported_thing, all_there, numbers, own_store, stores_from, is_match, is_matched, Filled, Task, fill_table, run_elem, fill_memory, run_data, and_then, in_turn, segments, elem_tasks, data_tasks, value_of, run_elem_with, run_data_with}
 use Rattle.index_remap.specs.Related.{ListRel, nil, cons}
 use Rattle.index_remap.specs.Renumbered as new
 use Rattle.export_names.specs.declared.mode.Mode.{Mode}
@@ -44,7 +44,11 @@ use Rattle.world_simulation.proofs.Instancing.{IsInst}
 use Rattle.merge_worlds.proofs.Standing.{import_address}
 use Rattle.merge_worlds.proofs.MergedAlone.{joined_keeps, names_of, merged_types_are}
 use Rattle.merge_worlds.proofs.Starts.{IsNamed}
-use Rattle.world_simulation.proofs.Declared.{Keeps}
+use Rattle.world_simulation.proofs.Declared as declared_refs
+use Rattle.world_simulation.specs.Segments.{offset_in}
+use Rattle.world_simulation.proofs.Copied.{then_holds}
+use Rattle.world_simulation.proofs.Stored.{func_placed}
+use Rattle.wasm_tree.specs.declared.module.ConstExpr.{ConstExpr}
 use Rattle.base_lists.proofs.Places.{map_from, append_right, slice_get_there, append_left}
 use Rattle.base_lists.proofs.Filtered.{place_of}
 use Rattle.base_lists.proofs.Options.{and_then_is, unwrap_or_false_is, all_there_at, all_there_length}
@@ -54,58 +58,46 @@ use Rattle.merge_worlds.proofs.Lists.{at_is}
 
 -- ---- segments leave the functions as they are ----
 
-fill_table_keeps : (s : Store) (segment a : ℕ) (t : Table) (o : Outcome (List RefVal)) → (fill_table s segment a t o).store.funcs ≡ s.funcs
+abbrev Keeps : Store → Filled → Type 0
+Keeps s f = f.store.funcs ≡ s.funcs
+
+fill_table_keeps : (s : Store) (segment a : ℕ) (t : Table) (o : Outcome (List RefVal)) → Keeps s (fill_table s segment a t o)
 fill_table_keeps s segment a t (Gives slots) = refl
-fill_table_keeps s segment a t Traps = refl
-fill_table_keeps s segment a t IllTyped = refl
+fill_table_keeps s segment a t _ = refl
 
-fill_memory_keeps : (s : Store) (segment a : ℕ) (m : Memory) (o : Outcome (List ℕ)) → (fill_memory s segment a m o).store.funcs ≡ s.funcs
+fill_memory_keeps : (s : Store) (segment a : ℕ) (m : Memory) (o : Outcome (List ℕ)) → Keeps s (fill_memory s segment a m o)
 fill_memory_keeps s segment a m (Gives bytes) = refl
-fill_memory_keeps s segment a m Traps = refl
-fill_memory_keeps s segment a m IllTyped = refl
+fill_memory_keeps s segment a m _ = refl
 
-then_keeps : {A : Type 0} (s : Store) (o : Option A) (f : A → Option Filled) → ((a : A) → (or_trapped s (f a)).store.funcs ≡ s.funcs) → (or_trapped s (option_and_then f o)).store.funcs ≡ s.funcs
-then_keeps s None f h = refl
-then_keeps s (Some a) f h = h a
+elem_keeps : (value : ConstExpr → Option Val) (s : Store) (x : Task ElemSeg) (mode : ElemMode) → Keeps s (run_elem_with value s x mode)
+elem_keeps value s x (elem.Active y d) =
+    then_holds (Keeps s) s (offset_in value d) _ refl (λ n _. then_holds (Keeps s) s (slice_get x.inst.tables y) _ refl (λ a _. then_holds (Keeps s) s (slice_get s.tables a) _ refl (λ t _. then_holds (Keeps s) s (slice_get s.elems x.address) _ refl (λ e _.
+    fill_table_keeps s x.address a t (overwrite t.slots n e.items)))))
+elem_keeps value s x elem.Passive = refl
+elem_keeps value s x elem.Declarative = refl
 
-copy_elem_keeps : (s : Store) (segment : ℕ) (i : Inst) (x : ℕ) (offset : Option ℕ) → (copy_elem s segment i x offset).store.funcs ≡ s.funcs
-copy_elem_keeps s segment i x offset =
-    then_keeps s offset _ (λ n. then_keeps s (slice_get i.tables x) _ (λ a. then_keeps s (slice_get s.tables a) _ (λ t. then_keeps s (slice_get s.elems segment) _ (λ e. fill_table_keeps s segment a t (overwrite t.slots n e.items)))))
+data_keeps : (value : ConstExpr → Option Val) (s : Store) (x : Task DataSeg) (mode : DataMode) → Keeps s (run_data_with value s x mode)
+data_keeps value s x (data'.Active y d) =
+    then_holds (Keeps s) s (offset_in value d) _ refl (λ n _. then_holds (Keeps s) s (slice_get x.inst.mems y) _ refl (λ a _. then_holds (Keeps s) s (slice_get s.mems a) _ refl (λ m _. then_holds (Keeps s) s (slice_get s.datas x.address) _ refl (λ e _.
+    fill_memory_keeps s x.address a m (overwrite m.bytes n e.bytes)))))
+data_keeps value s x data'.Passive = refl
 
-copy_data_keeps : (s : Store) (segment : ℕ) (i : Inst) (x : ℕ) (offset : Option ℕ) → (copy_data s segment i x offset).store.funcs ≡ s.funcs
-copy_data_keeps s segment i x offset =
-    then_keeps s offset _ (λ n. then_keeps s (slice_get i.mems x) _ (λ a. then_keeps s (slice_get s.mems a) _ (λ m. then_keeps s (slice_get s.datas segment) _ (λ d. fill_memory_keeps s segment a m (overwrite m.bytes n d.bytes)))))
-
-elem_keeps : (env : Environment) (parts : List Part) (insts : List Inst) (s : Store) (task : Task ElemSeg) → (run_elem env parts insts s task).store.funcs ≡ s.funcs
-elem_keeps env parts insts s task = by task.segment.mode
-  where
-    by : (mode : ElemMode) → (run_elem_mode env parts insts s task mode).store.funcs ≡ s.funcs
-    by (elem.Active x offset) = copy_elem_keeps s task.address task.inst x (number_value env parts insts task.part offset)
-    by elem.Passive = refl
-    by elem.Declarative = refl
-
-data_keeps : (env : Environment) (parts : List Part) (insts : List Inst) (s : Store) (task : Task DataSeg) → (run_data env parts insts s task).store.funcs ≡ s.funcs
-data_keeps env parts insts s task = by task.segment.mode
-  where
-    by : (mode : DataMode) → (run_data_mode env parts insts s task mode).store.funcs ≡ s.funcs
-    by (data'.Active x offset) = copy_data_keeps s task.address task.inst x (number_value env parts insts task.part offset)
-    by data'.Passive = refl
-
-and_then_keeps : (s : Store) (f : Filled) (g : Store → Filled) → f.store.funcs ≡ s.funcs → ((t : Store) → (g t).store.funcs ≡ t.funcs) → (and_then f g).store.funcs ≡ s.funcs
+and_then_keeps : (s : Store) (f : Filled) (g : Store → Filled) → Keeps s f → ((t : Store) → Keeps t (g t)) → Keeps s (and_then f g)
 and_then_keeps s f g e h = by f.trapped
   where
-    by : (b : Bool) → (cond b f (g f.store)).store.funcs ≡ s.funcs
+    by : (b : Bool) → Keeps s (cond b f (g f.store))
     by true = e
     by false = h f.store ∙ e
 
-in_turn_keeps : {A : Type 0} (f : Store → A → Filled) → ((s : Store) (x : A) → (f s x).store.funcs ≡ s.funcs) → (s : Store) (xs : List A) → (in_turn f s xs).store.funcs ≡ s.funcs
+in_turn_keeps : {A : Type 0} (f : Store → A → Filled) → ((s : Store) (x : A) → Keeps s (f s x)) → (s : Store) (xs : List A) → Keeps s (in_turn f s xs)
 in_turn_keeps f h s [] = refl
 in_turn_keeps f h s (x ∷ xs) = and_then_keeps s (f s x) (λ s. in_turn f s xs) (h s x) (λ t. in_turn_keeps f h t xs)
 
 pub segments_keep_funcs : (env : Environment) (parts : List Part) (insts : List Inst) (s : Store) → (segments env parts insts s).store.funcs ≡ s.funcs
 segments_keep_funcs env parts insts s =
-    and_then_keeps s (in_turn (run_elem env parts insts) s (elem_tasks 0 parts insts)) (λ t. in_turn (run_data env parts insts) t (data_tasks 0 parts insts)) (in_turn_keeps (run_elem env parts insts) (elem_keeps env parts insts) s (elem_tasks 0 parts insts))
-    (λ t. in_turn_keeps (run_data env parts insts) (data_keeps env parts insts) t (data_tasks 0 parts insts))
+    and_then_keeps s (in_turn (run_elem env parts insts) s (elem_tasks 0 parts insts)) (λ t. in_turn (run_data env parts insts) t (data_tasks 0 parts insts))
+    (in_turn_keeps (run_elem env parts insts) (λ s x. elem_keeps (value_of env parts insts x.part) s x x.segment.mode) s (elem_tasks 0 parts insts))
+    (λ t. in_turn_keeps (run_data env parts insts) (λ s x. data_keeps (value_of env parts insts x.part) s x x.segment.mode) t (data_tasks 0 parts insts))
 
 -- ---- look-ups ----
 
@@ -150,29 +142,10 @@ func_thing (GlobalAt b) a h = absurd (let k = h in cc)
 -- ---- the functions of a module alone ----
 
 module _ (laws : SpaceLaws) (env : Environment) (t : Module) (j : Inst) (inst : IsInst env (one t) 0 t j) (z : Store) (there : stores_from env (one t) (j ∷ []) (own_store env) 0 (one t) (j ∷ []) ≡ Some z) where
-  record HasFuncs : Type 0 where
-    funcs : List Func
-    are : all_there (new_func j) t.funcs ≡ Some funcs
-    all : z.funcs ≡ own_funcs env ++ funcs
-
-  has_funcs : HasFuncs
-  has_funcs =
-      let s = and_then_is (part_store env (one t) (j ∷ []) 0 t j) _ z there in
-      let f = and_then_is (all_there (new_func j) t.funcs) _ s.0 s.1 in
-      let g = and_then_is (all_there (new_global env (one t) (j ∷ []) 0) t.globals) _ s.0 f.2 in
-      let e = and_then_is (all_there (elem_of env (one t) (j ∷ []) 0) t.elems) _ s.0 g.2 in
-      let part : Some (s.0.funcs) ≡ Some f.0 = ap (λ o. option_and_then (λ (s : Store). Some s.funcs) o) (sym e.2) in
-      let funcs : s.0.funcs ≡ f.0 = cc in
-      let all : Some (own_funcs env ++ s.0.funcs) ≡ Some z.funcs = ap (λ o. option_and_then (λ (s : Store). Some s.funcs) o) s.2 in
-      let same : own_funcs env ++ s.0.funcs ≡ z.funcs = cc in
-      record { funcs = f.0; are = f.1; all = sym same ∙ ap (λ l. own_funcs env ++ l) funcs }
-
   pub own_func_at : (n : ℕ) (f : tree.Func) (ty : FuncType) → slice_get t.funcs n ≡ Some f → slice_get t.types f.ty ≡ Some ty → slice_get z.funcs (own_count Functions env + n) ≡ Some (Code ty j (declared f.locals) f.body)
   own_func_at n f ty h e =
-      let s = has_funcs in
-      let r = all_there_at (new_func j) t.funcs s.funcs s.are n f h in
-      let is : new_func j f ≡ Some (Code ty j (declared f.locals) f.body) = ap (λ o. option_and_then {T = FuncType} {U = Func} (λ ty. Some (Code ty j (declared f.locals) f.body)) o) (ap (λ l. slice_get l f.ty) inst.types ∙ e) in
-      ap (λ l. slice_get l (own_count Functions env + n)) s.all ∙ append_right (own_funcs env) s.funcs n ∙ r.2 ∙ sym r.1 ∙ is
+      let r = func_placed env (record { parts = one t; insts = j ∷ [] }) z there (record { part = 0; of = t; is_part = refl; inst = j; is_inst = refl; place = n; definition = f; stands = h; address = omega arith }) in
+      r.1 ∙ sym r.2 ∙ ap (λ o. option_and_then {T = FuncType} {U = Func} (λ ty. Some (Code ty j (declared f.locals) f.body)) o) (ap (λ l. slice_get l f.ty) inst.types ∙ e)
 
   own_typed : (x n a : ℕ) (ty : FuncType) → x ≡ length (imports_of Functions t) + n → a ≡ own_count Functions env + n → type_of_func t x ≡ Some ty → type_at z a ≡ Gives ty
   own_typed x n a ty e d h =
@@ -243,7 +216,7 @@ module _ (laws : SpaceLaws) (env : Environment) (t : Module) (j : Inst) (inst : 
 
 -- ---- the merged module's ----
 
-kept_type : {m n : Module} {fs : List ℕ} → Keeps m n fs → (x : ℕ) → type_of_func n x ≡ type_of_func m x
+kept_type : {m n : Module} {fs : List ℕ} → declared_refs.Keeps m n fs → (x : ℕ) → type_of_func n x ≡ type_of_func m x
 kept_type q x = ap₂ (λ ts fs. option_and_then (slice_get ts) (slice_get fs x)) q.types (ap₂ (λ is fs. imported_funcs is ++ map (λ f. f.ty) fs) q.imports q.funcs)
 
 merged_funcs_are : (parts : List Part) (names : List (Option Text)) → (merged parts names).funcs ≡ defined_funcs parts ++ start_calls parts (starts parts)

@@ -4,7 +4,7 @@ use Rattle.std.specs.Prelude.{pos, ◌+◌, length, ◌<◌, ◌^◌, slice_get}
 use Rattle.wasm_tree.specs.declared.types.RefType.TheVariants as reft
 use Rattle.wasm_tree.specs.declared.types.ValType.TheVariants as valt
 use Rattle.wasm_tree.specs.declared.types.FuncType.{FuncType}
-use Rattle.wasm_tree.specs.declared.instr.Instr.{Instr, out-Instr}
+use Rattle.wasm_tree.specs.declared.instr.Instr.{Instr, out-Instr, end_of-Instr, more_of-Instr}
 use Rattle.wasm_tree.specs.declared.instr.Instr.TheVariants as i
 use Rattle.wasm_tree.specs.declared.module.Func.{Func}
 use Rattle.wasm_tree.specs.declared.module.ConstExpr.{ConstExpr}
@@ -12,7 +12,9 @@ use Rattle.wasm_tree.specs.declared.module.ConstExpr.TheVariants as const
 use Rattle.wasm_tree.specs.declared.module.Module.{Module}
 use Rattle.wasm_tree.specs.Bounds.{IsBounded, local_count}
 use Rattle.wasm_tree.specs.Spaces.{funcs_of, tables_of, memories_of, globals_of}
-use Rattle.wasm_typing.specs.Typing.{Stack, WellTyped, Gives, Drops}
+use Rattle.wasm_typing.specs.Typing.{Stack, WellTyped, Gives, Drops, Leaves}
+use Rattle.wasm_tree.specs.declared.types.BlockType.TheVariants as bt
+use Rattle.index_remap.proofs.Rows.{loop_is}
 use Rattle.wasm_valid.specs.Constants.{const_type}
 use Rattle.wasm_valid.specs.Validity.{IsValid, body_context}
 use Rattle.wasm_meaning.specs.State.{Text}
@@ -33,7 +35,7 @@ use Rattle.merge_terms.specs.Linked.{AreLinks}
 use Rattle.merge_terms.specs.Parts.{named_modules}
 use Rattle.merge_validity.specs.Joinable.{EachPart, CanBeJoined}
 use Rattle.merge_worlds.specs.Laws.{BehavesAs}
-use Rattle.merge_worlds.proofs.WrongMerges.{f, g, nothing, from_i32, empty, code, own_func, two_given, two_parts, starting, two_starts, two_starts_merged, two_starts_have_no_fault, two_starts_join, second_dropped, first_alone, second_first, dropped_starts_are_refused, first_starts_alone_are_refused, starts_in_reverse_are_refused, calling, two_types, two_types_with, two_types_have_no_fault, two_types_join, kept_type_indices_are_refused, own_memory, one_memory, one_memory_from, one_memory_has_no_fault, one_memory_joins, first_limits_are_refused}
+use Rattle.merge_worlds.proofs.WrongMerges.{f, g, nothing, from_i32, empty, code, own_func, two_given, two_parts, starting, two_starts, two_starts_merged, two_starts_have_no_fault, two_starts_join, second_dropped, first_alone, second_first, dropped_starts_are_refused, first_starts_alone_are_refused, starts_in_reverse_are_refused, calling, two_types, two_types_with, two_types_have_no_fault, two_types_join, kept_type_indices_are_refused, own_memory, one_memory, one_memory_from, one_memory_has_no_fault, one_memory_joins, first_limits_are_refused, begins_again, never_ending, no_end, without_start, no_end_has_no_fault, no_end_joins, starts_without_end_are_not_left_out}
 use Rattle.std.proofs.lemmas.Option.{same_Some}
 
 -- ---- what is common ----
@@ -315,3 +317,63 @@ one_memory_is_linked = record { ends = refl; limits = refl; reads = refl }
 
 first_limits_break_the_clause : BreaksTheClause (two_given (one_memory_from 0) (one_memory_from 1)) (one_memory_from 0)
 first_limits_break_the_clause = record { joinable = one_memory_can_be_joined; links = met_links; are = one_memory_is_linked; linked = one_memory_has_no_fault; few = one_memory_is_few_in_all; refused = first_limits_are_refused }
+
+-- ---- a start that does not end ----
+
+abbrev never_ending_row : Instr
+never_ending_row = i.Loop' bt.Empty (_ ∷ []) (more_of-Instr (i.Br 0) end_of-Instr)
+
+never_ending_is_typed : WellTyped (body_context never_ending (code 0 begins_again) nothing) begins_again [] []
+never_ending_is_typed = subst (λ x. WellTyped (body_context never_ending (code 0 begins_again) nothing) (x ∷ []) [] []) (loop_is bt.Empty (_ ∷ []) (more_of-Instr (i.Br 0) end_of-Instr)) as_a_row
+  where
+    as_a_row : WellTyped (body_context never_ending (code 0 begins_again) nothing) (never_ending_row ∷ []) [] []
+    as_a_row = ([], ([], (record { params = []; results = [] }, refl, ([], ([], (Leaves [], refl, ([], [], refl, tt)), refl), tt), ([], [], refl, tt, refl)), refl), tt)
+
+-- its function, its start and the body of the function
+never_ending_is_valid : IsValid never_ending
+never_ending_is_valid = ((code 0 begins_again, refl, omega arith), ((0, nothing, refl, refl, refl, refl), ((code 0 begins_again, nothing, refl, refl, never_ending_is_typed), tt)))
+
+never_ending_is_bounded : IsBounded never_ending
+never_ending_is_bounded = few_are_bounded never_ending (omega arith) (of_one (nothing ∷ []) (code 0 begins_again) (omega arith))
+
+no_end_repeats_no_name : repeated_name no_end mode.Refuse ≡ None
+unfolding repeated_name conflict_behind all_exports
+no_end_repeats_no_name = refl
+
+no_end_is_few : over_limit never_ending ≡ None
+unfolding over_limit
+no_end_is_few = refl
+
+no_end_can_be_joined : CanBeJoined no_end mode.Refuse
+no_end_can_be_joined = record {
+  valid = of_both IsValid never_ending empty never_ending_is_valid tt;
+  bounded = of_both IsBounded never_ending empty never_ending_is_bounded (few_are_bounded empty (omega arith) (λ n y e. cc));
+  linked = no_end_has_no_fault;
+  names = no_end_repeats_no_name;
+  sizes = ap over_limit no_end_joins ∙ no_end_is_few;
+}
+
+starts_left_out_break_the_law : BreaksTheLaw no_end without_start
+starts_left_out_break_the_law = breaks_the_law no_end without_start no_end_can_be_joined starts_without_end_are_not_left_out
+
+no_end_is_few_in_all : FewInAll no_end
+no_end_is_few_in_all = record { parts_few = omega arith; entries = entries }
+  where
+    entries : (k : Space) → count_of (imports_kind no_end k) (sites no_end) + (defined_before k no_end 2 + most_added k) < 2 ^ 32
+    entries Types = omega arith
+    entries Functions = omega arith
+    entries Tables = omega arith
+    entries Memories = omega arith
+    entries Globals = omega arith
+    entries ElementSegments = omega arith
+    entries DataSegments = omega arith
+
+abbrev no_links : Links
+no_links = record { ends = [] ∷ ([] ∷ []); limits = [] ∷ ([] ∷ []); reads = [] ∷ ([] ∷ []) }
+
+no_end_is_linked : AreLinks no_end no_links
+unfolding kept_limits stays
+no_end_is_linked = record { ends = refl; limits = refl; reads = refl }
+
+starts_left_out_break_the_clause : BreaksTheClause (two_given never_ending empty) without_start
+starts_left_out_break_the_clause = record { joinable = no_end_can_be_joined; links = no_links; are = no_end_is_linked; linked = no_end_has_no_fault; few = no_end_is_few_in_all; refused = starts_without_end_are_not_left_out }

@@ -1,5 +1,5 @@
 -- Merges that are wrong, of two small parts each, with names: what is seen of the parts is not seen of such a module, by computation.
-use Rattle.std.proofs.Common.{◌≡◌, refl, ap, ◌∙◌, subst, ℕ, List, [], ◌∷◌, Bool, true, false, Some, None}
+use Rattle.std.proofs.Common.{◌≡◌, refl, ap, ◌∙◌, subst, ℕ, zero, suc, List, [], ◌∷◌, Bool, true, false, Some, None}
 use Rattle.std.specs.Prelude.{pos, ◌+◌, slice_index, IsTrue}
 use Rattle.wasm_tree.specs.declared.types.RefType.TheVariants as reft
 use Rattle.wasm_tree.specs.declared.types.ValType.TheVariants as valt
@@ -15,11 +15,12 @@ use Rattle.wasm_tree.specs.declared.module.ConstExpr.TheVariants as const
 use Rattle.wasm_tree.specs.declared.module.ElemMode.TheVariants as elem
 use Rattle.wasm_tree.specs.declared.module.Module.{Module}
 use Rattle.wasm_num.specs.Operations.{wrapped}
-use Rattle.wasm_meaning.specs.State.{Text}
+use Rattle.wasm_meaning.specs.State.{Text, Level, Running, Opening}
 use Rattle.wasm_meaning.specs.Linking.{Part, same_text}
 use Rattle.wasm_meaning.specs.Environment.{Environment, Offer, is_environment}
-use Rattle.wasm_meaning.specs.World.{alone}
-use Rattle.wasm_meaning.specs.Run.{Event, Linked, LinkFault, InstanceTrapped, Asked, BadMove, Move, Answer, IsPrefix, events}
+use Rattle.wasm_meaning.specs.World.{alone, instantiate}
+use Rattle.base_simulation.specs.Machines.{noted, events_of, state_after}
+use Rattle.wasm_meaning.specs.Run.{Event, Linked, LinkFault, InstanceTrapped, Asked, BadMove, Move, Answer, Run, IsPrefix, fresh_run, tick, events}
 use Rattle.index_remap.specs.declared.remap.Remap.{Remap}
 use Rattle.index_remap.specs.References.{refs_step}
 use Rattle.index_remap.specs.Renumbered.{entry}
@@ -331,7 +332,7 @@ first_limits_are_refused = refused one_memory (one_memory_from 0) no_page [] 2 _
 -- ---- a start that does not end ----
 
 -- its start begins again and again
-abbrev begins_again : List Instr
+abbrev pub begins_again : List Instr
 begins_again = i.Loop bt.Empty (i.Br 0 ∷ []) ∷ []
 
 abbrev pub never_ending : Module
@@ -370,3 +371,42 @@ the_parts_do_not_link = simp (i.outs-Loop, i.outs-Br) refl
 -- a merge that leaves out a start which does not end is refused, since it shows what the parts do not
 pub starts_without_end_are_not_left_out : BehavesAs no_end mode.Refuse without_start → ⊥
 starts_without_end_are_not_left_out = refused_by_more no_end without_start [] [] 2 _ _ refl without_the_start_it_links the_parts_do_not_link (λ p. cc)
+
+-- The other half would not refuse it: by whatever moves, nothing is seen of the parts here in any number of steps.
+module _ (moves : List Move) where
+  abbrev before : Run
+  before = fresh_run [] (instantiate [] (linked_world no_end mode.Refuse)) moves
+
+  -- in the start, with these levels
+  abbrev in_start : List Level → Run
+  in_start ls = record (state_after tick before 2) { entries = Running (record { inst = record { types = nothing ∷ []; funcs = 0 ∷ []; tables = []; mems = []; globals = []; elems = []; datas = [] }; locals = []; results = []; levels = ls }) ∷ (Opening [] ∷ []) }
+
+  -- the loop is about to begin, and its branch is
+  abbrev at_loop : Run
+  at_loop = in_start (record { values = []; code = begins_again; gives = 0; takes = 0; back = [] } ∷ [])
+
+  abbrev at_branch : Run
+  at_branch = in_start (record { values = []; code = i.Br 0 ∷ []; gives = 0; takes = 0; back = begins_again } ∷ (record { values = []; code = []; gives = 0; takes = 0; back = [] } ∷ []))
+
+  begins : tick at_loop ≡ (at_branch, None)
+  unfolding all_entities merge_view
+  begins = simp (i.outs-Loop) refl
+
+  branches : tick at_branch ≡ (at_loop, None)
+  unfolding all_entities merge_view
+  branches = simp (i.outs-Br) refl
+
+  mutual
+    silent_at_loop : (n : ℕ) → events_of tick at_loop n ≡ []
+    silent_at_loop zero = refl
+    silent_at_loop (suc n) = ap (λ o. noted o.1 (events_of tick o.0 n)) begins ∙ silent_at_branch n
+
+    silent_at_branch : (n : ℕ) → events_of tick at_branch n ≡ []
+    silent_at_branch zero = refl
+    silent_at_branch (suc n) = ap (λ o. noted o.1 (events_of tick o.0 n)) branches ∙ silent_at_loop n
+
+  pub the_parts_show_nothing : (n : ℕ) → events (linked_world no_end mode.Refuse) [] moves n ≡ []
+  unfolding all_entities merge_view
+  the_parts_show_nothing zero = refl
+  the_parts_show_nothing (suc zero) = refl
+  the_parts_show_nothing (suc (suc n)) = silent_at_loop n

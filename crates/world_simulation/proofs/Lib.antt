@@ -18,3 +18,4 @@ pub mod Holes
 pub mod SameItems
 pub mod Unreachable
 pub mod Added
+mod Examples

@@ -197,16 +197,16 @@ module _ (R : Pairing) (apart : OneToOne R) (env : Environment) (v w : Instantia
       some (subst (λ u. Related (fill_memory s n a m (overwrite m.bytes q c.bytes)) (fill_memory z k b u (overwrite u.bytes q d.bytes))) same
       (subst (λ bytes. Related (fill_memory s n a m (overwrite m.bytes q c.bytes)) (fill_memory z k b m (overwrite m.bytes q bytes))) bytes (fill_memory_rel m (overwrite m.bytes q c.bytes) like e h))))))))
 
-  run_elem_rel : {s z : Store} (value worth : ConstExpr → Option Val) (x y : Task ElemSeg) {m n : ElemMode} → StoreRel R s z → ElemsPartner R value worth x y m n → Related (run_elem_with value s x m) (run_elem_with worth z y n)
-  run_elem_rel {s} {z} value worth x y like (segments.ElemsPartner.active {t = t} {u = u} {d = d} e h same) =
+  run_elem_rel : {s z : Store} (value second_value : ConstExpr → Option Val) (x y : Task ElemSeg) {m n : ElemMode} → StoreRel R s z → ElemsPartner R value second_value x y m n → Related (run_elem_with value s x m) (run_elem_with second_value z y n)
+  run_elem_rel {s} {z} value second_value x y like (segments.ElemsPartner.active {t = t} {u = u} {d = d} e h same) =
       subst (λ o. Related (copy_elem s x.address x.inst t (offset_in value d)) (copy_elem z y.address y.inst u o)) same (copy_elem_rel x.inst y.inst t u (offset_in value d) like e h)
-  run_elem_rel value worth x y like segments.ElemsPartner.passive = record { store = like; trapped = refl }
-  run_elem_rel value worth x y like segments.ElemsPartner.declarative = record { store = like; trapped = refl }
+  run_elem_rel value second_value x y like segments.ElemsPartner.passive = record { store = like; trapped = refl }
+  run_elem_rel value second_value x y like segments.ElemsPartner.declarative = record { store = like; trapped = refl }
 
-  run_data_rel : {s z : Store} (value worth : ConstExpr → Option Val) (x y : Task DataSeg) {m n : DataMode} → StoreRel R s z → DatasPartner R value worth x y m n → Related (run_data_with value s x m) (run_data_with worth z y n)
-  run_data_rel {s} {z} value worth x y like (segments.DatasPartner.active {t = t} {u = u} {d = d} e h same) =
+  run_data_rel : {s z : Store} (value second_value : ConstExpr → Option Val) (x y : Task DataSeg) {m n : DataMode} → StoreRel R s z → DatasPartner R value second_value x y m n → Related (run_data_with value s x m) (run_data_with second_value z y n)
+  run_data_rel {s} {z} value second_value x y like (segments.DatasPartner.active {t = t} {u = u} {d = d} e h same) =
       subst (λ o. Related (copy_data s x.address x.inst t (offset_in value d)) (copy_data z y.address y.inst u o)) same (copy_data_rel x.inst y.inst t u (offset_in value d) like e h)
-  run_data_rel value worth x y like segments.DatasPartner.passive = record { store = like; trapped = refl }
+  run_data_rel value second_value x y like segments.DatasPartner.passive = record { store = like; trapped = refl }
 
   -- ---- one without partner ----
 

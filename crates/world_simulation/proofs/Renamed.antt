@@ -85,21 +85,21 @@ module _ (of : Space → ℕ → ℕ → Bool) (m : Remap) (kept : Indices) (i j
 
   -- ---- by values that are related ----
 
-  module _ (value worth : ConstExpr → Option Val) (consts : (e : ConstExpr) → ConstNamesOnly kept e → OptRel (ValRel R) (value e) (worth (new_const m e))) where
-    pub elem_mode_named : (x y : Task ElemSeg) → x.inst ≡ i → y.inst ≡ j → R.of ElementSegments x.address y.address → (mode : ElemMode) → ElemModeNamesOnly kept mode → ElemsPartner R value worth x y mode (new_elem_mode m mode)
+  module _ (value second_value : ConstExpr → Option Val) (consts : (e : ConstExpr) → ConstNamesOnly kept e → OptRel (ValRel R) (value e) (second_value (new_const m e))) where
+    pub elem_mode_named : (x y : Task ElemSeg) → x.inst ≡ i → y.inst ≡ j → R.of ElementSegments x.address y.address → (mode : ElemMode) → ElemModeNamesOnly kept mode → ElemsPartner R value second_value x y mode (new_elem_mode m mode)
     elem_mode_named x y e f r (elem.Active t d) h =
         segments.ElemsPartner.active r (subst (λ i. OptRel (R.of Tables) (slice_get i.tables t) (slice_get y.inst.tables (slice_index m.tables t))) (sym e) (subst (λ j. OptRel (R.of Tables) (slice_get i.tables t) (slice_get j.tables (slice_index m.tables t))) (sym f) (table_named t h.0)))
         (offset_same R (consts d h.1))
     elem_mode_named x y e f r elem.Passive h = segments.ElemsPartner.passive
     elem_mode_named x y e f r elem.Declarative h = segments.ElemsPartner.declarative
 
-    pub data_mode_named : (x y : Task DataSeg) → x.inst ≡ i → y.inst ≡ j → R.of DataSegments x.address y.address → (mode : DataMode) → DataModeNamesOnly kept mode → DatasPartner R value worth x y mode (new_data_mode m mode)
+    pub data_mode_named : (x y : Task DataSeg) → x.inst ≡ i → y.inst ≡ j → R.of DataSegments x.address y.address → (mode : DataMode) → DataModeNamesOnly kept mode → DatasPartner R value second_value x y mode (new_data_mode m mode)
     data_mode_named x y e f r (data'.Active t d) h =
         segments.DatasPartner.active r (subst (λ i. OptRel (R.of Memories) (slice_get i.mems t) (slice_get y.inst.mems (slice_index m.mems t))) (sym e) (subst (λ j. OptRel (R.of Memories) (slice_get i.mems t) (slice_get j.mems (slice_index m.mems t))) (sym f) (memory_named t h.0)))
         (offset_same R (consts d h.1))
     data_mode_named x y e f r data'.Passive h = segments.DatasPartner.passive
 
-    pub elems_correspond : (e : ElemSeg) → ((p : ℕ) (x : ConstExpr) → slice_get e.items p ≡ Some x → ConstNamesOnly kept x) → ElemsCorrespond R value worth e (new_elem m e)
+    pub elems_correspond : (e : ElemSeg) → ((p : ℕ) (x : ConstExpr) → slice_get e.items p ≡ Some x → ConstNamesOnly kept x) → ElemsCorrespond R value second_value e (new_elem m e)
     elems_correspond e h = record { declarative = same e.mode; items = items e.items h }
       where
         same : (mode : ElemMode) → is_declarative mode ≡ is_declarative (new_elem_mode m mode)
@@ -107,6 +107,6 @@ module _ (of : Space → ℕ → ℕ → Bool) (m : Remap) (kept : Indices) (i j
         same elem.Passive = refl
         same elem.Declarative = refl
 
-        items : (xs : List ConstExpr) → ((p : ℕ) (x : ConstExpr) → slice_get xs p ≡ Some x → ConstNamesOnly kept x) → ListRel (λ x y. OptRel (ValRel R) (value x) (worth y)) xs (map (new_const m) xs)
+        items : (xs : List ConstExpr) → ((p : ℕ) (x : ConstExpr) → slice_get xs p ≡ Some x → ConstNamesOnly kept x) → ListRel (λ x y. OptRel (ValRel R) (value x) (second_value y)) xs (map (new_const m) xs)
         items [] h = nil
         items (x ∷ xs) h = cons (consts x (h 0 x refl)) (items xs (λ p. h (suc p)))

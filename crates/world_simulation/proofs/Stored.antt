@@ -89,8 +89,8 @@ module _ (R : Pairing) where
   ref_rel number = none
   ref_rel (reference r) = some r
 
-  module _ (value worth : ConstExpr → Option Val) where
-    pub global_rel : {g h : GlobalDef} → GlobalsCorrespond R value worth g h → OptRel (GlobalRel R) (global_with value g) (global_with worth h)
+  module _ (value second_value : ConstExpr → Option Val) where
+    pub global_rel : {g h : GlobalDef} → GlobalsCorrespond R value second_value g h → OptRel (GlobalRel R) (global_with value g) (global_with second_value h)
     global_rel k = then_rel k.init (λ _ _ v. some (record { type = k.type; value = v }))
 
     elem_is : (m n : ElemMode) {xs ys : List RefVal} → is_declarative m ≡ is_declarative n → ListRel (RefRel R) xs ys → ElemRel R (new_elem m xs) (new_elem n ys)
@@ -104,11 +104,11 @@ module _ (R : Pairing) where
     elem_is elem.Declarative elem.Passive d k = cc
     elem_is elem.Declarative elem.Declarative d k = record { items = nil }
 
-    refs_rel : {xs ys : List ConstExpr} → ListRel (λ x y. OptRel (ValRel R) (value x) (worth y)) xs ys → ListRel (λ x y. OptRel (RefRel R) (option_and_then (λ v. given (ref_of v)) (value x)) (option_and_then (λ v. given (ref_of v)) (worth y))) xs ys
+    refs_rel : {xs ys : List ConstExpr} → ListRel (λ x y. OptRel (ValRel R) (value x) (second_value y)) xs ys → ListRel (λ x y. OptRel (RefRel R) (option_and_then (λ v. given (ref_of v)) (value x)) (option_and_then (λ v. given (ref_of v)) (second_value y))) xs ys
     refs_rel nil = nil
     refs_rel (to.cons p r) = to.cons (then_rel p (λ _ _ v. ref_rel v)) (refs_rel r)
 
-    pub elem_rel : {d e : ElemSeg} → ElemsCorrespond R value worth d e → OptRel (ElemRel R) (elem_with value d) (elem_with worth e)
+    pub elem_rel : {d e : ElemSeg} → ElemsCorrespond R value second_value d e → OptRel (ElemRel R) (elem_with value d) (elem_with second_value e)
     elem_rel {d} {e} k = then_rel (all_rel (refs_rel k.items)) (λ _ _ r. some (elem_is d.mode e.mode k.declarative r))
 
   type_same : {o p : Outcome Func} → BothRel (FuncRel R) o p → BothRel (◌≡◌ {A = FuncType}) (bind o (λ f. Gives (type_of_func f))) (bind p (λ f. Gives (type_of_func f)))

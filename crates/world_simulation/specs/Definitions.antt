@@ -47,9 +47,9 @@ pub record FuncsCorrespond (R : Pairing) (i j : Inst) (f g : tree.Func) : Type 0
   pub code : CodeRel R i j f.body g.body
 
 -- equal types, and initial values that are related
-pub record GlobalsCorrespond (R : Pairing) (value worth : ConstExpr → Option Val) (g h : GlobalDef) : Type 0 where
+pub record GlobalsCorrespond (R : Pairing) (value second_value : ConstExpr → Option Val) (g h : GlobalDef) : Type 0 where
   pub type : g.ty ≡ h.ty
-  pub init : OptRel (ValRel R) (value g.init) (worth h.init)
+  pub init : OptRel (ValRel R) (value g.init) (second_value h.init)
 
 -- a declarative segment is dropped when it is allocated
 abbrev pub is_declarative : ElemMode → Bool
@@ -57,9 +57,9 @@ is_declarative elem.Declarative = true
 is_declarative _ = false
 
 -- items with values that are related, and both or neither are there after the allocation
-pub record ElemsCorrespond (R : Pairing) (value worth : ConstExpr → Option Val) (d e : ElemSeg) : Type 0 where
+pub record ElemsCorrespond (R : Pairing) (value second_value : ConstExpr → Option Val) (d e : ElemSeg) : Type 0 where
   pub declarative : is_declarative d.mode ≡ is_declarative e.mode
-  pub items : ListRel (λ x y. OptRel (ValRel R) (value x) (worth y)) d.items e.items
+  pub items : ListRel (λ x y. OptRel (ValRel R) (value x) (second_value y)) d.items e.items
 
 -- what stands at two addresses of a space: one entity of the environment's own, or definitions that correspond, told by their parts and instances
 pub data Partners (env : Environment) (v w : Instantiated) (k : Space) {A : Type 0} (definitions : Module → List A) (correspond : ℕ → Inst → A → ℕ → Inst → A → Type 0) (a b : ℕ) : Type 0 where

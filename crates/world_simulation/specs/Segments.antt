@@ -33,10 +33,10 @@ offset_in value e = value e >>= λ v. given (num_of W32 v)
 -- ---- element segments ----
 
 -- Both are active, and copied to related tables at equal offsets; or neither is active.
-pub data ElemsPartner (R : Pairing) (value worth : ConstExpr → Option Val) (x y : Task ElemSeg) : ElemMode → ElemMode → Type 0 where
-  active : {t u : ℕ} {d e : ConstExpr} → R.of ElementSegments x.address y.address → OptRel (R.of Tables) (slice_get x.inst.tables t) (slice_get y.inst.tables u) → offset_in value d ≡ offset_in worth e → ElemsPartner R value worth x y (elem.Active t d) (elem.Active u e)
-  passive : ElemsPartner R value worth x y elem.Passive elem.Passive
-  declarative : ElemsPartner R value worth x y elem.Declarative elem.Declarative
+pub data ElemsPartner (R : Pairing) (value second_value : ConstExpr → Option Val) (x y : Task ElemSeg) : ElemMode → ElemMode → Type 0 where
+  active : {t u : ℕ} {d e : ConstExpr} → R.of ElementSegments x.address y.address → OptRel (R.of Tables) (slice_get x.inst.tables t) (slice_get y.inst.tables u) → offset_in value d ≡ offset_in second_value e → ElemsPartner R value second_value x y (elem.Active t d) (elem.Active u e)
+  passive : ElemsPartner R value second_value x y elem.Passive elem.Passive
+  declarative : ElemsPartner R value second_value x y elem.Declarative elem.Declarative
 
 -- Active in bounds of a defined table: neither the table nor the segment has a partner. Or it is not active.
 pub data ElemAlone (alone : Space → ℕ → Type 0) (env : Environment) (w : Instantiated) (x : Task ElemSeg) : ElemMode → Type 0 where
@@ -47,9 +47,9 @@ pub data ElemAlone (alone : Space → ℕ → Type 0) (env : Environment) (w : I
 
 -- ---- data segments ----
 
-pub data DatasPartner (R : Pairing) (value worth : ConstExpr → Option Val) (x y : Task DataSeg) : DataMode → DataMode → Type 0 where
-  active : {t u : ℕ} {d e : ConstExpr} → R.of DataSegments x.address y.address → OptRel (R.of Memories) (slice_get x.inst.mems t) (slice_get y.inst.mems u) → offset_in value d ≡ offset_in worth e → DatasPartner R value worth x y (data'.Active t d) (data'.Active u e)
-  passive : DatasPartner R value worth x y data'.Passive data'.Passive
+pub data DatasPartner (R : Pairing) (value second_value : ConstExpr → Option Val) (x y : Task DataSeg) : DataMode → DataMode → Type 0 where
+  active : {t u : ℕ} {d e : ConstExpr} → R.of DataSegments x.address y.address → OptRel (R.of Memories) (slice_get x.inst.mems t) (slice_get y.inst.mems u) → offset_in value d ≡ offset_in second_value e → DatasPartner R value second_value x y (data'.Active t d) (data'.Active u e)
+  passive : DatasPartner R value second_value x y data'.Passive data'.Passive
 
 pub data DataAlone (alone : Space → ℕ → Type 0) (env : Environment) (w : Instantiated) (x : Task DataSeg) : DataMode → Type 0 where
   active : {t n a : ℕ} {e : ConstExpr} → slice_get x.inst.mems t ≡ Some a → alone Memories a → (memory : DefinedAt env w Memories (λ m. m.mems) a) → alone DataSegments x.address →

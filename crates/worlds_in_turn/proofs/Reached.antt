@@ -5,10 +5,9 @@ use Rattle.wasm_tree.specs.declared.space.Space.TheVariants.{Functions, Tables, 
 use Rattle.std.specs.Prelude.{nat_eq, nat_lt}
 use Rattle.std.proofs.lemmas.Bool.{ltb-true, lt-ltb, eq-eqb, eqb-true}
 use Rattle.wasm_tree.specs.declared.module.Module.{Module}
-use Rattle.wasm_meaning.specs.Outcomes.{Gives}
 use Rattle.wasm_meaning.specs.Linking.{Part, module_at}
 use Rattle.wasm_meaning.specs.Environment.{Environment, OwnKey, Owned, owned_of, owned_at, look_up, same_key, Thing, FuncAt, TableAt, MemoryAt, GlobalAt}
-use Rattle.wasm_meaning.specs.World.{given, defined_count, defined_before, base, address_of}
+use Rattle.wasm_meaning.specs.World.{defined_count, defined_before, base, address_of}
 use Rattle.index_remap.specs.Related.{Pairing, OneToOne, ListRel, nil, cons}
 use Rattle.index_remap.specs.RelatedRuns.{ThingRel, a_func, a_table, a_memory, a_global, KeyRel}
 use Rattle.index_remap.specs.Laws.{passed}
