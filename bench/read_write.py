@@ -101,8 +101,6 @@ PARTS = [
     ("joining", "merge_join::tree::joined_tree"),
     ("renumbering bodies, in joining", "index_remap::in_place::rewrite_all"),
     ("measuring and writing", "tools_cli::plan::encode"),
-    ("looking for data segments in bodies, in both", "wasm_tree::data_use::body_uses_data"),
-    ("looking for references to declare, in joining", "index_remap::declaring::mark_body"),
 ]
 
 
