@@ -25,7 +25,7 @@ use Rattle.wasm_meaning.specs.World.{given, same_bool, meets, base, thing_at, ne
 use Rattle.world_simulation.proofs.Places.{place_map}
 use Rattle.merge_terms.specs.Faults.{External, FuncOf, TableOf, MemoryOf, GlobalOf, external_of, same_but_limits, meets_limits}
 use Rattle.base_lists.proofs.Options.{all_there_at, and_then_is}
-use Rattle.world_simulation.proofs.Simulated.{copies_length}
+use Rattle.wasm_meaning.proofs.Slices.{copies_length}
 use Rattle.merge_worlds.proofs.MatchFits.{fits}
 use Rattle.world_simulation.proofs.Allocated.{new_table, new_memory, adds, funcs_stand, tables_stand, mems_stand, globals_stand}
 use Rattle.base_lists.proofs.Places.{map_from, append_right}

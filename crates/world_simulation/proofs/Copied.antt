@@ -24,6 +24,7 @@ use Rattle.world_simulation.specs.Definitions.{Instantiated, DefinedAt, values_i
 use Rattle.world_simulation.specs.Segments.{InOrder, ElemsPartner, ElemAlone, DatasPartner, DataAlone, alone_in_first, offset_in}
 use Rattle.world_simulation.specs.Segments as segments
 use Rattle.world_simulation.proofs.Places.{res_placed}
+use Rattle.wasm_meaning.proofs.Slices.{split_lengths}
 
 -- ---- lists ----
 
@@ -38,16 +39,6 @@ split_fits (suc n) (x ∷ xs) h =
     let r = split_fits n xs (omega (arith, h)) in
     ((x ∷ r.0.0, r.0.1), ap (λ o. bind o (λ p. Gives (x ∷ p.0, p.1))) r.1, ap suc r.2, let e = r.3 in omega (arith, e))
 
-split_within : {A : Type 0} (n : ℕ) (xs : List A) (p : List A × List A) → split_at n xs ≡ Gives p → n ≤ length xs
-split_within zero xs p h = omega arith
-split_within (suc n) [] p h = cc
-split_within {A} (suc n) (x ∷ xs) p h = go (split_at n xs) (λ q e. split_within n xs q e) h
-  where
-    go : (o : Outcome (List A × List A)) → ((q : List A × List A) → o ≡ Gives q → n ≤ length xs) → bind o (λ p. Gives (x ∷ p.0, p.1)) ≡ Gives p → suc n ≤ suc (length xs)
-    go (Gives q) on h = let l = on q refl in omega (arith, l)
-    go Traps on h = cc
-    go IllTyped on h = cc
-
 pub overwrite_fits : {A : Type 0} (xs ys : List A) (n : ℕ) → n + length ys ≤ length xs → (zs : List A) × (overwrite xs n ys ≡ Gives zs) × (length zs ≡ length xs)
 overwrite_fits {A} xs ys n h =
     let p = split_fits n xs (omega (arith, h)) in
@@ -60,33 +51,23 @@ overwrite_fits {A} xs ys n h =
     let k = q.3 in
     (p.0.0 ++ (ys ++ q.0.1), ap (λ o. bind o (λ p. bind (split_at (length ys) p.1) (λ q. Gives (p.0 ++ (ys ++ q.1))))) p.1 ∙ ap (λ o. bind o (λ q. Gives (p.0.0 ++ (ys ++ q.1)))) q.1, omega (arith, a, b, e, f, g, k))
 
-overwrite_within : {A : Type 0} (xs ys zs : List A) (n : ℕ) → overwrite xs n ys ≡ Gives zs → n + length ys ≤ length xs
-overwrite_within {A} xs ys zs n h = go (split_at n xs) refl h
+pub overwritten_length : {A : Type 0} (xs : List A) (n : ℕ) (ys zs : List A) → overwrite xs n ys ≡ Gives zs → length zs ≡ length xs
+overwritten_length {A} xs n ys zs e = go (split_at n xs) (split_lengths n xs) e
   where
-    inner : (p : List A × List A) → split_at n xs ≡ Gives p → (o : Outcome (List A × List A)) → split_at (length ys) p.1 ≡ o → bind o (λ q. Gives (p.0 ++ (ys ++ q.1))) ≡ Gives zs → n + length ys ≤ length xs
-    inner p e (Gives q) f h =
-        let l = split_within n xs p e in
-        let r = split_fits n xs l in
-        let both : Gives p ≡ Gives r.0 = sym e ∙ r.1 in
-        let same : p ≡ r.0 = cc in
-        let a : length p.0 ≡ n = ap (λ (p : List A × List A). length p.0) same ∙ r.2 in
-        let b : length p.0 + length p.1 ≡ length xs = ap (λ (p : List A × List A). length p.0 + length p.1) same ∙ r.3 in
-        let k = split_within (length ys) p.1 q f in
-        omega (arith, a, b, k)
-    inner p e Traps f h = cc
-    inner p e IllTyped f h = cc
+    inner : (p : List A × List A) → (length p.0 + length p.1 ≡ length xs) → (o : Outcome (List A × List A)) → ((q : List A × List A) → o ≡ Gives q → (length q.0 ≡ length ys) × (length q.0 + length q.1 ≡ length p.1)) → bind o (λ q. Gives (p.0 ++ (ys ++ q.1))) ≡ Gives zs → length zs ≡ length xs
+    inner p k Traps h e = cc
+    inner p k IllTyped h e = cc
+    inner p k (Gives q) h e =
+        let i : p.0 ++ (ys ++ q.1) ≡ zs = cc in
+        let j = h q refl in
+        let a = length-append p.0 (ys ++ q.1) in
+        let b = length-append ys q.1 in
+        rw (← i) (omega (arith, j.0, j.1, a, b, k))
 
-    go : (o : Outcome (List A × List A)) → split_at n xs ≡ o → bind o (λ p. bind (split_at (length ys) p.1) (λ q. Gives (p.0 ++ (ys ++ q.1)))) ≡ Gives zs → n + length ys ≤ length xs
-    go (Gives p) e h = inner p e (split_at (length ys) p.1) refl h
-    go Traps e h = cc
-    go IllTyped e h = cc
-
-pub overwrite_length : {A : Type 0} (xs ys zs : List A) (n : ℕ) → overwrite xs n ys ≡ Gives zs → length zs ≡ length xs
-overwrite_length xs ys zs n h =
-    let r = overwrite_fits xs ys n (overwrite_within xs ys zs n h) in
-    let both : Gives zs ≡ Gives r.0 = sym h ∙ r.1 in
-    let same : zs ≡ r.0 = cc in
-    ap length same ∙ r.2
+    go : (o : Outcome (List A × List A)) → ((p : List A × List A) → o ≡ Gives p → (length p.0 ≡ n) × (length p.0 + length p.1 ≡ length xs)) → bind o (λ p. bind (split_at (length ys) p.1) (λ q. Gives (p.0 ++ (ys ++ q.1)))) ≡ Gives zs → length zs ≡ length xs
+    go Traps h e = cc
+    go IllTyped h e = cc
+    go (Gives p) h e = inner p ((h p refl).1) (split_at (length ys) p.1) (split_lengths (length ys) p.1) e
 
 -- what holds of what stands at a place holds still, where it holds of what is written there
 abbrev Holds : {A : Type 0} → (A → Type 0) → List A → ℕ → Type 0
@@ -122,7 +103,7 @@ module _ (env : Environment) (w : Instantiated) where
     tables = λ b d. set_holds (λ t. d.definition.limits.min ≤ length t.slots) s.tables a (record t { slots = slots }) (λ x h l.
         let both : Some x ≡ Some t = sym h ∙ there in
         let same : x ≡ t = cc in
-        let size = overwrite_length t.slots e.items slots q is in
+        let size = overwritten_length t.slots q e.items slots is in
         let k : d.definition.limits.min ≤ length t.slots = subst (λ (x : Table). d.definition.limits.min ≤ length x.slots) same l in
         omega (arith, size, k)) b (room.tables b d);
     mems = room.mems;
@@ -143,7 +124,7 @@ module _ (env : Environment) (w : Instantiated) where
     mems = λ b d. set_holds (λ m. 65536 * d.definition.min ≤ length m.bytes) s.mems a (record m { bytes = bytes }) (λ x h l.
         let both : Some x ≡ Some m = sym h ∙ there in
         let same : x ≡ m = cc in
-        let size = overwrite_length m.bytes e.bytes bytes q is in
+        let size = overwritten_length m.bytes q e.bytes bytes is in
         let k : 65536 * d.definition.min ≤ length m.bytes = subst (λ (x : Memory). 65536 * d.definition.min ≤ length x.bytes) same l in
         omega (arith, size, k)) b (room.mems b d);
     elems = room.elems;

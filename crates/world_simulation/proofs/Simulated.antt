@@ -1,5 +1,5 @@
 -- Two worlds that correspond are instantiated to what is related.
-use Rattle.std.proofs.Common.{◌≡◌, ℕ, zero, suc, ◌*◌, ◌≤◌, List, length, Option, Some, None, Bool, true, false, cond, refl, ap, subst, arith, option_and_then}
+use Rattle.std.proofs.Common.{◌≡◌, ℕ, ◌*◌, ◌≤◌, List, length, Option, Some, None, Bool, true, false, cond, refl, ap, subst, arith, option_and_then}
 use Rattle.base_lists.proofs.Options.{and_then_is, all_there_length}
 use Rattle.wasm_tree.specs.declared.space.Space.TheVariants.{Functions}
 use Rattle.wasm_meaning.specs.State.{Elem, Store, RefVal, Val}
@@ -8,7 +8,6 @@ use Rattle.wasm_tree.specs.declared.module.ElemMode.TheVariants as elem
 use Rattle.wasm_tree.specs.declared.module.ElemSeg.{ElemSeg}
 use Rattle.wasm_tree.specs.declared.module.ConstExpr.{ConstExpr}
 use Rattle.wasm_meaning.specs.Values.{ref_of, null_of}
-use Rattle.wasm_meaning.specs.Outcomes.{copies}
 use Rattle.wasm_meaning.specs.Linking.{sites}
 use Rattle.wasm_meaning.specs.Environment.{Environment, all_of}
 use Rattle.wasm_meaning.specs.World.{World, Begun, given, insts_from, stores_from, own_store, all_there, seen_as, is_matched, new_elem, elem_with, segments, starts_of, begun, instantiate, is_there, links}
@@ -22,6 +21,7 @@ use Rattle.world_simulation.proofs.Owned.{owned_rel}
 use Rattle.world_simulation.proofs.Stored.{table_placed, memory_placed, elem_placed, data_placed, stores_rel}
 use Rattle.world_simulation.proofs.Copied.{HasRoom}
 use Rattle.world_simulation.proofs.Ordered.{Stores, FilledAlike, and_then_alike, elems_defined, datas_defined, elems_in_order, datas_in_order}
+use Rattle.wasm_meaning.proofs.Slices.{copies_length}
 
 -- ---- what instantiation made ----
 
@@ -38,10 +38,6 @@ what_is_made env w b h =
     record { insts = i.0; are_insts = i.1; allocated = s.0; is_allocated = s.1; view = v.0; is_view = v.1; matched = m.0; is = m.1 }
 
 -- ---- what is allocated has room ----
-
-pub copies_length : {A : Type 0} (n : ℕ) (v : A) → length (copies n v) ≡ n
-copies_length zero v = refl
-copies_length (suc n) v = ap suc (copies_length n v)
 
 elem_few : (value : ConstExpr → Option Val) (d : ElemSeg) (e : Elem) → elem_with value d ≡ Some e → length e.items ≤ length d.items
 elem_few value d e h =

@@ -1,11 +1,11 @@
 -- A step only extends the store: functions stay, sizes do not shrink, types and maxima stay, and so do the values of globals that are not mutable.
-use Rattle.std.proofs.Common.{◌≡◌, ℕ, zero, suc, ◌+◌, ◌≤◌, List, [], ◌∷◌, ◌++◌, length, false, refl, sym, ap, subst, ◌∙◌, arith, slice_set}
+use Rattle.std.proofs.Common.{◌≡◌, ℕ, zero, suc, ◌≤◌, List, [], ◌∷◌, length, false, refl, sym, ap, subst, ◌∙◌, arith, slice_set}
 use native.Mathlib.Decide.{ℕ_discrete}
-use Rattle.wasm_meaning.specs.Outcomes.{Outcome, Gives, Traps, IllTyped, bind, at, split_at, overwrite}
-use Rattle.wasm_meaning.proofs.Slices.{split_lengths}
+use Rattle.wasm_meaning.specs.Outcomes.{Gives, at}
 use Rattle.wasm_meaning.specs.State.{Table, Memory, Global, Store, Change, Keep, SetGlobal, SetMemory, SetTable, DropElem, DropData}
 use Rattle.wasm_meaning.specs.Step.{changed, no_items, no_bytes}
-use Rattle.std.proofs.lemmas.List.{length-set, length-append}
+use Rattle.std.proofs.lemmas.List.{length-set}
+pub use Rattle.world_simulation.proofs.Copied.{overwritten_length}
 
 pub record TableExtends (t u : Table) : Type 0 where
   pub type : u.ty ≡ t.ty
@@ -127,23 +127,3 @@ changed_extends {s} (elem_drops {a = a}) = let k = stays s in
     record { funcs = refl; tables = k.tables; mems = k.mems; globals = k.globals; table_count = refl; memory_count = refl; global_count = refl; elem_count = length-set s.elems a no_items; data_count = refl }
 changed_extends {s} (data_drops {a = a}) = let k = stays s in
     record { funcs = refl; tables = k.tables; mems = k.mems; globals = k.globals; table_count = refl; memory_count = refl; global_count = refl; elem_count = refl; data_count = length-set s.datas a no_bytes }
-
--- ---- lists that are written in part ----
-
-pub overwritten_length : {A : Type 0} (xs : List A) (n : ℕ) (ys zs : List A) → overwrite xs n ys ≡ Gives zs → length zs ≡ length xs
-overwritten_length {A} xs n ys zs e = go (split_at n xs) (split_lengths n xs) e
-  where
-    inner : (p : List A × List A) → (length p.0 + length p.1 ≡ length xs) → (o : Outcome (List A × List A)) → ((q : List A × List A) → o ≡ Gives q → (length q.0 ≡ length ys) × (length q.0 + length q.1 ≡ length p.1)) → bind o (λ q. Gives (p.0 ++ (ys ++ q.1))) ≡ Gives zs → length zs ≡ length xs
-    inner p k Traps h e = cc
-    inner p k IllTyped h e = cc
-    inner p k (Gives q) h e =
-        let i : p.0 ++ (ys ++ q.1) ≡ zs = cc in
-        let j = h q refl in
-        let a = length-append p.0 (ys ++ q.1) in
-        let b = length-append ys q.1 in
-        rw (← i) (omega (arith, j.0, j.1, a, b, k))
-
-    go : (o : Outcome (List A × List A)) → ((p : List A × List A) → o ≡ Gives p → (length p.0 ≡ n) × (length p.0 + length p.1 ≡ length xs)) → bind o (λ p. bind (split_at (length ys) p.1) (λ q. Gives (p.0 ++ (ys ++ q.1)))) ≡ Gives zs → length zs ≡ length xs
-    go Traps h e = cc
-    go IllTyped h e = cc
-    go (Gives p) h e = inner p ((h p refl).1) (split_at (length ys) p.1) (split_lengths (length ys) p.1) e

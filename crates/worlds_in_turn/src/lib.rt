@@ -4,9 +4,9 @@
 ghost use Rattle.worlds_in_turn.specs.Laws.{TurnsAreNotSeen};
 
 use index_remap::{related_runs_show_the_same, steps_agree};
-use world_simulation::own_entities_correspond;
 use wasm_meaning::what_stands_below_is_not_seen;
 use wasm_valid::valid_where_items_hold;
+use world_simulation::own_entities_correspond;
 
 /// A world of at least one part, all valid, shows the same events at once and where its parts are instantiated one after the other, each with its segments and
 /// its start before the next (WebAssembly Core 2.0, section 4.5.4), in at most four steps more for each part: in environments that link it at once, where each
