@@ -1,15 +1,17 @@
 -- Stores that are related off a set of unknown places.
 use Rattle.std.proofs.Common.{◌≡◌, ◌∙◌, refl, sym, ap, subst, ℕ, suc, List, [], ◌∷◌, length, Some, Bool, true, false, cond, not, ◌⊎◌, inl, inr, slice_get, slice_set, arith}
 use native.Mathlib.Decide.{ℕ_discrete}
-use Rattle.std.specs.Prelude.{nat_eq}
+use Rattle.std.specs.Prelude.{nat_eq, ◌||◌}
+use Rattle.std.specs.List.{filter}
 use Rattle.std.proofs.lemmas.Bool.Decides.{eqb_tells}
 use Rattle.wasm_tree.specs.declared.space.Space.TheVariants.{Globals}
 use Rattle.wasm_meaning.specs.Outcomes.{Outcome, Gives, bind, at}
 use Rattle.wasm_meaning.specs.State.{RefVal, Val, Global, Store, SetGlobal}
 use Rattle.wasm_meaning.specs.Step.{changed}
 use Rattle.index_remap.specs.Related.{Pairing, OneToOneWhereWritten, OptRel, some, BothRel, both, ListRel, nil, cons, RefRel, ValRel, StoreRel}
+use Rattle.index_remap.specs.References.{is_among}
 use Rattle.index_remap.specs.Laws.{passed}
-use Rattle.index_remap.specs.Unknown.{Unknowns, none_unknown, is_among, without, GlobalOff, RefsOff, StoreRelOff, learnt, NothingUnknown, SetGlobalsAreKnown}
+use Rattle.index_remap.specs.Unknown.{Unknowns, none_unknown, GlobalOff, RefsOff, StoreRelOff, learnt, NothingUnknown, SetGlobalsAreKnown}
 use Rattle.index_remap.proofs.Rel.{get_rel, length_rel, at_put_here, at_put_there}
 
 both_map : {A B : Type 0} {P Q : A → B → Type 0} {o : Outcome A} {p : Outcome B} → ((a : A) (b : B) → P a b → Q a b) → BothRel P o p → BothRel Q o p
@@ -62,25 +64,28 @@ nothing_unknown of named l s t = (to_related (passed of named l) s t, to_off (pa
 
 -- ---- a global is set ----
 
+abbrev without : List ℕ → ℕ → List ℕ
+without xs a = filter (λ b. not (nat_eq b a)) xs
+
 -- whether another stands in the list is as it was
 still_among : (xs : List ℕ) (a c : ℕ) → (a ≡ c → ⊥) → is_among (without xs a) c ≡ is_among xs c
 still_among [] a c n = refl
 still_among (x ∷ xs) a c n = go (eqb_tells x a) (still_among xs a c n)
   where
-    tests : (b : Bool) → is_among (cond b (without xs a) (x ∷ without xs a)) c ≡ cond b (is_among (without xs a) c) (cond (nat_eq x c) true (is_among (without xs a) c))
+    tests : (b : Bool) → is_among (cond (not b) (x ∷ without xs a) (without xs a)) c ≡ cond b (is_among (without xs a) c) (nat_eq c x || is_among (without xs a) c)
     tests true = refl
     tests false = refl
 
-    other : (x ≡ a) → nat_eq x c ≡ false
-    other e = by (eqb_tells x c)
+    other : (x ≡ a) → nat_eq c x ≡ false
+    other e = by (eqb_tells c x)
       where
-        by : ((nat_eq x c ≡ true) × (x ≡ c)) ⊎ ((nat_eq x c ≡ false) × (x ≡ c → ⊥)) → nat_eq x c ≡ false
-        by (inl h) = absurd (n (sym e ∙ h.1))
+        by : ((nat_eq c x ≡ true) × (c ≡ x)) ⊎ ((nat_eq c x ≡ false) × (c ≡ x → ⊥)) → nat_eq c x ≡ false
+        by (inl h) = absurd (n (sym (h.1 ∙ e)))
         by (inr h) = h.0
 
     go : ((nat_eq x a ≡ true) × (x ≡ a)) ⊎ ((nat_eq x a ≡ false) × (x ≡ a → ⊥)) → is_among (without xs a) c ≡ is_among xs c → is_among (without (x ∷ xs) a) c ≡ is_among (x ∷ xs) c
-    go (inl h) more = tests (nat_eq x a) ∙ ap (λ b. cond b (is_among (without xs a) c) (cond (nat_eq x c) true (is_among (without xs a) c))) h.0 ∙ more ∙ ap (λ b. cond b true (is_among xs c)) (sym (other h.1))
-    go (inr h) more = tests (nat_eq x a) ∙ ap (λ b. cond b (is_among (without xs a) c) (cond (nat_eq x c) true (is_among (without xs a) c))) h.0 ∙ ap (λ b. cond (nat_eq x c) true b) more
+    go (inl h) more = tests (nat_eq x a) ∙ ap (λ b. cond b (is_among (without xs a) c) (nat_eq c x || is_among (without xs a) c)) h.0 ∙ more ∙ ap (λ b. b || is_among xs c) (sym (other h.1))
+    go (inr h) more = tests (nat_eq x a) ∙ ap (λ b. cond b (is_among (without xs a) c) (nat_eq c x || is_among (without xs a) c)) h.0 ∙ ap (λ y. nat_eq c x || y) more
 
 module _ (R : Pairing) (apart : OneToOneWhereWritten R) (u : Unknowns) (s t : Store) (a b : ℕ) (g h : Global) (v w : Val) (r : StoreRelOff R u s t) (n : R.of Globals a b) (at_g : at s.globals a ≡ Gives g) (at_h : at t.globals b ≡ Gives h) (values : ValRel R v w) where
   abbrev first : List Global

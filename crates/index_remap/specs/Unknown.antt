@@ -1,7 +1,8 @@
 -- Places of a store of which nothing is known, beside a relation of addresses: whatever stands there, it need not be related. What is imported is no such place:
 -- it has an address that code may name as one in both stores, and is not related.
-use Rattle.std.proofs.Common.{◌≡◌, ℕ, List, [], ◌∷◌, length, Bool, true, false, not, cond, slice_get}
-use Rattle.std.specs.Prelude.{nat_eq, ◌↔◌}
+use Rattle.std.proofs.Common.{◌≡◌, ℕ, List, [], length, Bool, true, not, slice_get}
+use Rattle.std.specs.Prelude.{nat_eq, ◌↔◌, ◌&&◌}
+use Rattle.std.specs.List.{list_any, filter}
 use Rattle.wasm_tree.specs.declared.space.Space.{Space}
 use Rattle.wasm_tree.specs.declared.space.Space.TheVariants.{Functions, Tables, Memories, Globals, ElementSegments, DataSegments}
 use Rattle.wasm_tree.specs.declared.types.FuncType.{FuncType}
@@ -10,6 +11,7 @@ use Rattle.wasm_meaning.specs.State.{Val, RefVal, Table, Global, Store, SetGloba
 use Rattle.wasm_meaning.specs.Control.{type_at, own_at}
 use Rattle.wasm_meaning.specs.Step.{changed}
 use Rattle.index_remap.specs.Related.{Pairing, OneToOneWhereWritten, OptRel, BothRel, RefRel, ValRel, FuncRel, StoreRel}
+use Rattle.index_remap.specs.References.{is_among}
 use Rattle.index_remap.specs.Laws.{passed}
 
 -- by their addresses in the first store: globals that were not set yet, and slots of tables and items of element segments, each with its place
@@ -21,18 +23,9 @@ pub record Unknowns : Type 0 where
 abbrev pub none_unknown : Unknowns
 none_unknown = record { globals = []; slots = []; items = [] }
 
-abbrev pub is_among : List ℕ → ℕ → Bool
-is_among [] a = false
-is_among (x ∷ xs) a = cond (nat_eq x a) true (is_among xs a)
-
-abbrev pub without : List ℕ → ℕ → List ℕ
-without [] a = []
-without (x ∷ xs) a = cond (nat_eq x a) (without xs a) (x ∷ without xs a)
-
 -- a place of an address
 abbrev pub is_place_among : List (ℕ × ℕ) → (address place : ℕ) → Bool
-is_place_among [] a n = false
-is_place_among (x ∷ xs) a n = cond (nat_eq x.0 a) (cond (nat_eq x.1 n) true (is_place_among xs a n)) (is_place_among xs a n)
+is_place_among xs a n = list_any (λ x. nat_eq x.0 a && nat_eq x.1 n) xs
 
 -- of a global the type, and the value where it is known
 pub record GlobalOff (R : Pairing) (known : Bool) (g h : Global) : Type 0 where
@@ -62,7 +55,7 @@ pub record StoreRelOff (R : Pairing) (u : Unknowns) (s t : Store) : Type 0 where
 
 -- a global that is set is known from then on
 abbrev pub learnt : Unknowns → (address : ℕ) → Unknowns
-learnt u a = record u { globals = without u.globals a }
+learnt u a = record u { globals = filter (λ b. not (nat_eq b a)) u.globals }
 
 -- ---- laws ----
 

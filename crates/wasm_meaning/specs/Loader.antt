@@ -93,7 +93,7 @@ store_loaded w i m false s = or_trapped s (secondary_added w i m s >>= λ a. Som
 abbrev pub called_as : FuncType → Store → ℕ → List Val → List Entry → Outcome Next
 called_as t s f vs es = bind (type_at s f) (λ u. cond (same_func_type t u) (enter_at s f vs es) Traps)
 
--- the function in the slot is called with the arguments of the placeholder; it is none of a module where a placeholder still stands there
+-- the function in the slot is called with the arguments of the placeholder; where a placeholder still stands there, the call of that one traps (`after`)
 abbrev pub slot_called : LoaderWorld → Inst → (slot : ℕ) → List Val → List Entry → Store → Outcome Next
 slot_called w i slot vs es s =
     bind (at (placeholders_of w) slot) (λ p. with_table (record { store = s; inst = i }) w.slot_table (λ a t. bind (at t.slots slot) (λ r. bind (func_ref r) (λ f. called_as p.1 s f vs es))))
@@ -122,7 +122,7 @@ abbrev pub secondary_called : LoaderWorld → LoaderRun → Run → Inst → (sl
 secondary_called w q r i slot vs es j f =
     let o = after (record r { store = f.store }) (call_answered w i slot vs es f) in (with_loaded q j o.0, o.1)
 
--- None where there is no instance of the primary, or no such slot: such a call traps, and never comes.
+-- None where there is no instance of the primary or no such slot: then no placeholder is called.
 abbrev pub placeholder_called : LoaderWorld → LoaderRun → Run → (slot : ℕ) → List Val → Store → List Entry → Option (LoaderRun × Option Event)
 placeholder_called w q r slot vs s es =
     q.inst >>= λ i. secondary_of w.secondaries slot >>= λ j. slice_get w.secondaries j >>= λ x. slice_get q.loaded j >>= λ is_loaded.

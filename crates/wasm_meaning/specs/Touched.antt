@@ -1,4 +1,4 @@
--- What a step writes into the store, told with its place and length, from what stands on top before the step.
+-- What a step writes into the store, told with its place and count, from what stands on top before the step.
 use Rattle.std.proofs.Common.{◌≡◌, ℕ, ◌+◌, List, [], ◌∷◌, length}
 use Rattle.wasm_tree.specs.declared.instr.Instr.{Instr, out-Instr}
 use Rattle.wasm_tree.specs.declared.instr.Instr.TheOpen.{Instr-F}
