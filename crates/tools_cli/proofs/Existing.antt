@@ -24,7 +24,7 @@ use Rattle.merge_terms.specs.declared.faults.JoinFault.{JoinFault}
 use Rattle.merge_terms.specs.declared.faults.JoinFault.TheVariants as join
 use Rattle.tools_cli.specs.Causes.{NamesPart}
 use Rattle.tools_cli.proofs.FaultParts.{fault_names_part, fault_not_memory}
-use Rattle.tools_cli.proofs.Merging.{length_parts, length_files}
+use Rattle.tools_cli.proofs.MergeDecided.{length_parts, length_files}
 use Rattle.tools_cli.proofs.Loading.{as_many}
 use Rattle.tools_cli.proofs.Determined.{AreBytes, SpelledHasNoFault, gathered_bytes, first_are_bytes}
 

@@ -4,7 +4,7 @@ pub mod Performing
 pub mod Running
 pub mod Loading
 pub mod FaultParts
-pub mod Merging
+pub mod MergeDecided
 pub mod Deciding
 pub mod Encoding
 pub mod Determined

@@ -7,7 +7,7 @@ ghost use Rattle.tools_cli.specs.Job.{Decides, Refuses, refused_before};
 ghost use Rattle.tools_cli.specs.Causes.{IsWithinLimits, StopsWith};
 
 use crate::gather::Input;
-use crate::merge::decide_merge;
+use crate::merging::decide_merge;
 use crate::stop::Stop;
 use crate::task::Task;
 use std::alloc::Global;

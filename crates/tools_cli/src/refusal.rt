@@ -1,5 +1,5 @@
 // What is wrong with the input, and the text of it.
-ghost use Rattle.std.specs.Prelude.{◌≡◌, ◌++◌, Some, IfOk, flat_map, length, codes};
+ghost use Rattle.std.specs.Prelude.{◌≡◌, ◌++◌, Some, IfOk, flat_map, length, slice_get, codes, ◌<◌};
 ghost use Rattle.tools_cli.specs.Texts.{which_text, fault_text, kind_text, invalid_text, link_text, join_text};
 ghost use Rattle.tools_cli.specs.Stop.{refusal_text, stop_line};
 ghost use Rattle.tools_cli.specs.Command.{files_of};
@@ -97,6 +97,14 @@ pub(crate) fn refuse_item<'a>(
     })
 }
 
+// The file of a part.
+fn file_of<'a>(sources: &[Source<'a>], part: u32) -> &'a str
+    requires { part < length sources.now }
+    ensures { slice_get (files_of sources.now) part ≡ Some result.now }
+{
+    sources[part as usize].file
+}
+
 /// The refusal of parts that do not link. Want of memory is the error, also as a fault.
 pub(crate) fn refuse_link<'a>(
     alloc: Global,
@@ -108,20 +116,20 @@ pub(crate) fn refuse_link<'a>(
 {
     match fault {
         LinkFault::ImportMismatch { part, import } => Ok(Refusal::ImportMismatch {
-            file: sources[part as usize].file,
+            file: file_of(sources, part),
             import: Digits::new(alloc, import)?,
         }),
         LinkFault::ImportCycle { part, import } => Ok(Refusal::ImportCycle {
-            file: sources[part as usize].file,
+            file: file_of(sources, part),
             import: Digits::new(alloc, import)?,
         }),
         LinkFault::LimitsClash { part, import } => Ok(Refusal::LimitsClash {
-            file: sources[part as usize].file,
+            file: file_of(sources, part),
             import: Digits::new(alloc, import)?,
         }),
         LinkFault::TooManyMemories => Ok(Refusal::TooManyMemories),
         LinkFault::GlobalCycle { part, global } => Ok(Refusal::GlobalCycle {
-            file: sources[part as usize].file,
+            file: file_of(sources, part),
             global: Digits::new(alloc, global)?,
         }),
         LinkFault::NoMemory => Err(AllocError),

@@ -2,7 +2,7 @@ use Rattle.std.proofs.Common.{◌≡◌, ◌≤◌, ◌∙◌, sym, ap, length, 
 use Rattle.tools_cli.specs.Words.{modules_of}
 use Rattle.tools_cli.specs.Command.{task_value, merge_value, source_values}
 use Rattle.tools_cli.specs.Job.{refused_before}
-use Rattle.tools_cli.proofs.Merging.{length_once, length_files}
+use Rattle.tools_cli.proofs.MergeDecided.{length_once, length_files}
 use Rattle.tools_cli.proofs.FewInAll.{begun_few}
 use Rattle.tools_cli.proofs.decide.decide.Goals as goal
 

@@ -10,8 +10,8 @@ use Rattle.tools_cli.specs.Texts.{link_text, join_text}
 use Rattle.tools_cli.specs.Stop.{refusal_text}
 use Rattle.tools_cli.specs.Causes.{MergeFails}
 use Rattle.tools_cli.proofs.Loading.{refusal_stops}
-use Rattle.tools_cli.proofs.Merging.{names_one, link_fails, join_fails}
-use Rattle.tools_cli.proofs.merge.merge_parts.Goals as goal
+use Rattle.tools_cli.proofs.MergeDecided.{names_one, link_fails, join_fails}
+use Rattle.tools_cli.proofs.merging.merge_parts.Goals as goal
 
 pub resolve-requires-clause-parts : goal.resolve-requires-clause-parts
 resolve-requires-clause-parts c = omega (arith, length-map c.args.parts named_module, c.requires.few.parts_few)

@@ -9,11 +9,11 @@ use Rattle.tools_cli.specs.Command.{merge_value, source_values, decision_value}
 use Rattle.tools_cli.specs.Job.{Merges, Refuses, Makes, parts_of, most_parts}
 use Rattle.tools_cli.specs.Causes.{StopsWith, MergeFails}
 use Rattle.tools_cli.proofs.Loading.{stops_weaker}
-use Rattle.tools_cli.proofs.Merging.{length_once, length_parts, merge_refused, merge_made}
+use Rattle.tools_cli.proofs.MergeDecided.{length_once, length_parts, merge_refused, merge_made}
 use Rattle.tools_cli.proofs.Lines.{names_once}
 use Rattle.tools_cli.proofs.Apart.{parts_apart}
 use Rattle.tools_cli.proofs.FewInAll.{parts_few, imports_few}
-use Rattle.tools_cli.proofs.merge.decide_merge.Goals as goal
+use Rattle.tools_cli.proofs.merging.decide_merge.Goals as goal
 
 pub name_parts-requires : goal.name_parts-requires
 name_parts-requires c =
