@@ -1,13 +1,15 @@
 -- From the inputs of a task to its job.
-use Rattle.std.proofs.Common.{◌≡◌, ◌∙◌, sym, refl, ap, subst, Bool, true, false, cond, None, Some, map, ℕ, zero, suc, ◌+◌, ◌≤◌, List, [], ◌∷◌, ◌++◌, take, drop, length, length-append, Contains, arith}
+use Rattle.std.proofs.Common.{◌≡◌, ◌∙◌, sym, refl, ap, subst, Bool, true, false, cond, None, Some, Result, Ok, Err, IfOk, IfErr, map, ℕ, zero, suc, ◌+◌, ◌≤◌, List, [], ◌∷◌, ◌++◌, take, drop, length, length-append, Contains, arith}
 use Rattle.std.specs.List.{list_all}
-use Rattle.tools_cli.specs.Words.{Text, Task, Merge, many_of, modules_of, texts_of, inputs_of, outputs_of}
+use Rattle.tools_cli.specs.Words.{Text, MergeTask, Task, Merge, many_of, modules_of, texts_of, inputs_of, outputs_of}
 use Rattle.tools_cli.specs.Job.{Job, Usage, Missing, Refused, Done, Output, Decision, Refuses, Makes, Merges, not_linked, not_joined, merged, Decides, is_within, spelled_output, job_of, AllLoad, OneFails, module_files, text_contents, InputsJob, not_loaded, decided}
 use Rattle.tools_cli.specs.Effects.{Entry, written_names}
 use Rattle.wasm_tree.specs.declared.module.Module.{Module}
-use Rattle.tools_cli.specs.Causes.{total, AreOutputs, PrintsAsAllowed}
-use Rattle.tools_cli.specs.Command.{input_entry, input_entries, input_texts}
+use Rattle.tools_cli.specs.Causes.{total, StopsWith, AreOutputs, PrintsAsAllowed}
+use Rattle.tools_cli.specs.Command.{input_entry, input_entries, input_texts, decision_value}
 use Rattle.tools_cli.specs.declared.gather.Input.{Input}
+use Rattle.tools_cli.specs.declared.decide.Decision as code
+use Rattle.tools_cli.specs.declared.stop.Stop.{Stop}
 
 pub one_memory : (t : Task) → many_of t ≡ false
 one_memory (Merge merge) = refl
@@ -92,3 +94,12 @@ job_allowed t (Makes outputs lines) h = within_allowed t outputs lines _ (list_a
 pub inputs_job_allowed : (t : Task) (inputs : List Entry) (job : Job) → InputsJob t inputs job → JobIsAllowed t job
 inputs_job_allowed t inputs job (not_loaded text h) = tt
 inputs_job_allowed t inputs job (decided trees decision loads h) = job_allowed t decision (decision_allowed t trees (text_contents t inputs) decision h)
+
+-- a merge's decision, and why there is none
+pub merge_decided : {E : Type 0} (r : Result code.Decision E) (t : Task) (merge : MergeTask) (trees : List Module) (texts : List Text) → IfOk r (λ made. Merges merge trees (decision_value made)) → t ≡ Merge merge → IfOk r (λ made. Decides t trees texts (decision_value made))
+merge_decided (Ok made) t merge trees texts h e = subst (λ u. Decides u trees texts (decision_value made)) (sym e) h
+merge_decided (Err x) t merge trees texts h e = tt
+
+pub merge_stops : {A : Type 0} (r : Result A Stop) (t : Task) (merge : MergeTask) (trees : List Module) (texts : List Text) → IfErr r (StopsWith (λ text. Merges merge trees (Refuses text))) → t ≡ Merge merge → IfErr r (StopsWith (λ text. Decides t trees texts (Refuses text)))
+merge_stops (Ok a) t merge trees texts h e = tt
+merge_stops (Err s) t merge trees texts h e = let P : Task → Type 0 = λ u. StopsWith (λ text. Decides u trees texts (Refuses text)) s in subst P (sym e) h

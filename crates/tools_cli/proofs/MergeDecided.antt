@@ -1,5 +1,5 @@
 -- What merging the modules of a task decides.
-use Rattle.std.proofs.Common.{◌≡◌, ◌∙◌, sym, refl, ap, subst, ◌⊎◌, inl, inr, true, false, cond, ltb, None, Some, Result, Ok, Err, map, ℕ, zero, suc, ◌+◌, ◌<◌, ◌≤◌, List, [], ◌∷◌, ◌++◌, append_assoc, append-nil, add-one, drop, drop-cons, length, get_or, arith}
+use Rattle.std.proofs.Common.{◌≡◌, ◌∙◌, sym, refl, ap, subst, ◌⊎◌, inl, inr, true, false, cond, ltb, None, Some, Result, Ok, Err, map, ℕ, zero, suc, ◌+◌, ◌<◌, ◌≤◌, List, [], ◌∷◌, ◌++◌, append_assoc, append-nil, add-one, drop, drop-cons, length, get_or, slice_get, slice_index_or, arith}
 use Rattle.std.proofs.lemmas.Bool.Decides.{nat_tests}
 use Rattle.tools_cli.specs.Words.{Text, Source, MergeTask, source_files}
 use Rattle.tools_cli.specs.Job.{Decision, Output, Refuses, Makes, Merges, not_linked, not_joined, merged, AreMerged, parts_of, most_parts}
@@ -13,7 +13,7 @@ use Rattle.merge_terms.specs.declared.faults.LinkFault.TheVariants as link
 use Rattle.merge_terms.specs.declared.faults.JoinFault.{JoinFault}
 use Rattle.merge_terms.specs.declared.faults.JoinFault.TheVariants as join
 use Rattle.tools_cli.specs.Causes.{MergeFails, NamesPart}
-use Rattle.tools_cli.specs.Command.{source_values}
+use Rattle.tools_cli.specs.Command.{source_values, files_of}
 use Rattle.tools_cli.proofs.FaultParts.{fault_names_part}
 use Rattle.tools_cli.specs.declared.merge.Source as code
 
@@ -65,6 +65,11 @@ pub all_named : (done whole : List Part) (sources : List Source) (trees : List M
 all_named done whole sources [] none e = sym (append-nil done) ∙ ap (λ l. done ++ l) (sym (parts_end sources)) ∙ e
 all_named done whole sources (tree ∷ trees) none e = absurd (omega arith)
 
+
+pub file_there : (xs : List code.Source) (i : ℕ) (d : code.Source) → i < length xs → slice_get (files_of xs) i ≡ Some (slice_index_or xs i d).file.now
+file_there [] i d lt = absurd (omega arith)
+file_there (x ∷ xs) zero d lt = refl
+file_there (x ∷ xs) (suc i) d lt = file_there xs i d (omega arith)
 
 pub length_parts : (sources : List Source) (trees : List Module) → length trees ≡ length sources → length (parts_of sources trees) ≡ length sources
 length_parts [] [] e = refl

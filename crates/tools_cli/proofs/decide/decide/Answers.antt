@@ -1,18 +1,10 @@
-use Rattle.std.proofs.Common.{◌≡◌, ◌≤◌, ◌∙◌, sym, ap, length, None, arith}
-use Rattle.tools_cli.specs.Words.{modules_of}
-use Rattle.tools_cli.specs.Command.{task_value, merge_value, source_values}
-use Rattle.tools_cli.specs.Job.{refused_before}
-use Rattle.tools_cli.proofs.MergeDecided.{length_once, length_files}
-use Rattle.tools_cli.proofs.FewInAll.{begun_few}
+use Rattle.std.proofs.Common.{rules}
+use Rattle.tools_cli.specs.Command.{task_value, input_texts}
+use Rattle.tools_cli.proofs.Deciding.{merge_decided, merge_stops}
 use Rattle.tools_cli.proofs.decide.decide.Goals as goal
 
-pub decide_merge-requires-clause-each : goal.decide_merge-requires-clause-each
-decide_merge-requires-clause-each c =
-    c.requires.each ∙ ap (λ t. length (modules_of (task_value t))) c.in-Merge.is ∙ length_files (source_values c.in-Merge.merge.now.sources.items) ∙ length_once c.in-Merge.merge.now.sources.items
+pub returns-clause-decided : goal.returns-clause-decided
+returns-clause-decided c = merge_decided c.decide_merge.result (task_value c.args.task.now) _ c.args.modules.items (input_texts c.args.texts.now) c.decide_merge.ensures.decided (search rules)
 
-pub decide_merge-requires-clause-few : goal.decide_merge-requires-clause-few
-decide_merge-requires-clause-few c =
-    let xs = c.in-Merge.merge.now.sources.items in
-    let same = length_once xs in
-    let few = begun_few (merge_value c.in-Merge.merge.now) (sym (ap (λ t. refused_before (task_value t)) c.in-Merge.is) ∙ c.requires.begun) in
-    omega arith
+pub returns-clause-stops : goal.returns-clause-stops
+returns-clause-stops c = merge_stops c.decide_merge.result (task_value c.args.task.now) _ c.args.modules.items (input_texts c.args.texts.now) c.decide_merge.ensures.stops (search rules)

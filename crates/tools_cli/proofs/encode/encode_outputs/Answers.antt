@@ -5,8 +5,8 @@ use Rattle.tools_cli.proofs.encode.encode_outputs.Goals as goal
 
 pub loop-output-preserved : goal.loop-output-preserved
 loop-output-preserved c =
-    let added : c.push.new.self.items ≡ c.loop-output.writes.items ++ c.in_ok-encode_output.result ∷ [] = search rules in
-    encoded_more _ c.loop-output.writes.items c.push.new.self.items c.in_ok-encode_output.result c.in-Some.output _ _ added c.in-Some.ensures.steps.0 c.in_ok-encode_output.ensures c.loop-output.invariant
+    let added : c.push.new.self.items ≡ c.loop-output.writes.items ++ c.in_ok-write.write ∷ [] = search rules in
+    encoded_more _ c.loop-output.writes.items c.push.new.self.items c.in_ok-write.write c.in-Some.output _ _ added c.in-Some.ensures.steps.0 c.in_ok-write.ensures c.loop-output.invariant
 
 pub returns : goal.returns
 returns c =

@@ -23,8 +23,8 @@ pub refuse_link-requires : goal.refuse_link-requires
 refuse_link-requires c =
     names_one (named_modules c.args.parts) c.in-Err.fault _ (length-map c.args.parts named_module ∙ c.requires.each ∙ sym (ap length c.as_slice.ensures.value)) c.in-Err.ensures.fault
 
-pub returns-clause-stops : goal.returns-clause-stops
-returns-clause-stops c =
+pub returns-in-Err-clause-stops : goal.returns-in-Err-clause-stops
+returns-in-Err-clause-stops c =
     let m = merge_value c.args.merge.now in
     let parts = named_modules c.args.parts in
     let fault = c.in-Err.fault in
@@ -33,12 +33,12 @@ returns-clause-stops c =
     (λ x told. link_fails m parts fault (refusal_text x) c.in-Err.ensures.fault (ap (λ l. link_text (files_of l) fault) (sym c.as_slice.ensures.value) ∙ told)) c.refuse_link.ensures)
     c.refused.ensures
 
-pub returns-in-Err-join-clause-stops : goal.returns-in-Err-join-clause-stops
-returns-in-Err-join-clause-stops c =
+pub returns-clause-stops : goal.returns-clause-stops
+returns-clause-stops c =
     let m = merge_value c.args.merge.now in
     let parts = named_modules c.args.parts in
     let fault = c.in-Err-join.fault in
-    refusal_stops (MergeFails m parts) c.refuse_join.result c.refused-refuse_join.result
+    refusal_stops (MergeFails m parts) c.refuse_join.result c.refused-in-Err-join.result
     (IfOk-weaker c.refuse_join.result (λ x. join_text fault ≡ Some (refusal_text x)) (λ x. MergeFails m parts (refusal_text x))
     (λ x told. join_fails m parts fault (refusal_text x) c.in-Ok.ensures.linked c.in-Err-join.ensures.fault told) c.refuse_join.ensures)
-    c.refused-refuse_join.ensures
+    c.refused-in-Err-join.ensures
