@@ -88,19 +88,19 @@ named_text : (f : Text → Text) (o : Option Text) → SomeText o → SomeText (
 named_text f o (text, e) = (f text, ap (option_map f) e)
 
 link_told : (merge : MergeTask) (fault : LinkFault) → (fault ≡ link.NoMemory → ⊥) → NamesPart (length merge.sources) fault → SomeText (link_text (source_files merge) fault)
-link_told merge (link.ImportMismatch part import) no names = named_text (λ file. import_differs file import) (slice_get (source_files merge) part) (there_at merge.sources part names)
-link_told merge (link.ImportCycle part import) no names = named_text (λ file. import_ends_nowhere file import) (slice_get (source_files merge) part) (there_at merge.sources part names)
-link_told merge (link.LimitsClash part import) no names = named_text (λ file. import_limits_clash file import) (slice_get (source_files merge) part) (there_at merge.sources part names)
-link_told merge link.TooManyMemories no names = (too_many_memories, refl)
-link_told merge (link.GlobalCycle part global) no names = named_text (λ file. global_has_no_value file global) (slice_get (source_files merge) part) (there_at merge.sources part names)
-link_told merge link.NoMemory no names = absurd (no refl)
+link_told merge (link.ImportMismatch part import) never names = named_text (λ file. import_differs file import) (slice_get (source_files merge) part) (there_at merge.sources part names)
+link_told merge (link.ImportCycle part import) never names = named_text (λ file. import_ends_nowhere file import) (slice_get (source_files merge) part) (there_at merge.sources part names)
+link_told merge (link.LimitsClash part import) never names = named_text (λ file. import_limits_clash file import) (slice_get (source_files merge) part) (there_at merge.sources part names)
+link_told merge link.TooManyMemories never names = (too_many_memories, refl)
+link_told merge (link.GlobalCycle part global) never names = named_text (λ file. global_has_no_value file global) (slice_get (source_files merge) part) (there_at merge.sources part names)
+link_told merge link.NoMemory never names = absurd (never refl)
 
 joins_told : (merge : MergeTask) (trees : List Module) (r : Result Module JoinFault) → link_fault (parts_of merge.sources trees) ≡ None → join_of (parts_of merge.sources trees) merge.mode ≡ r → (r ≡ Err join.NoMemory → ⊥)
     → (decision : Decision) × Merges merge trees decision
-joins_told merge trees (Ok tree) linked e no = (_, merged tree (linked, e))
-joins_told merge trees (Err (join.ExportConflict name)) linked e no = (_, not_joined (join.ExportConflict name) _ linked e refl)
-joins_told merge trees (Err (join.TooMany which)) linked e no = (_, not_joined (join.TooMany which) _ linked e refl)
-joins_told merge trees (Err join.NoMemory) linked e no = absurd (no refl)
+joins_told merge trees (Ok tree) linked e never = (_, merged tree (linked, e))
+joins_told merge trees (Err (join.ExportConflict name)) linked e never = (_, not_joined (join.ExportConflict name) _ linked e refl)
+joins_told merge trees (Err (join.TooMany which)) linked e never = (_, not_joined (join.TooMany which) _ linked e refl)
+joins_told merge trees (Err join.NoMemory) linked e never = absurd (never refl)
 
 no_want : (name : Option Text) (which : _) (m : Module) → outcome name which m ≡ Err join.NoMemory → ⊥
 no_want (Some name) which m e = cc
