@@ -3,7 +3,7 @@ use Rattle.std.proofs.Common.{◌≡◌, ◌∙◌, sym, refl, ap, subst, ℕ, �
 use Rattle.std.specs.Option.{option_map_or}
 use Rattle.tool_io.specs.Outside.{Contents, Becomes, AppendsPrefix, Rose}
 use Rattle.tool_io.proofs.Steps.{rose_earlier, becomes_itself, becomes_weaker, becomes_same}
-use Rattle.tools_cli.specs.Words.{Text, Task, task_of, inputs_of, outputs_of, may_print}
+use Rattle.tools_cli.specs.Words.{Text, Task, task_of, inputs_of, outputs_of, may_print, usage_line}
 use Rattle.tools_cli.specs.Effects.{Entry, made, IsCut, written_names}
 use Rattle.tools_cli.specs.Job.{Job, Usage, Refused, Done, Whole, TooLong, gathered, most_input, InputsJob, TaskJob, refused_before, not_begun, too_long, all_read, HasJob, no_task, asked}
 use Rattle.tools_cli.specs.Stop.{IsLine, usage, fault_line, invalid_line, parts_line, link_line, join_line, output_line, cannot_read_line, cannot_write_line, cannot_print_line, no_memory_line, no_memory, stop_line, line_of, refusal_text, Says, Reports}
@@ -213,3 +213,15 @@ usage_at_stop stop.NoMemory err err' before now result h (inl p) = inr (inl p.0)
 -- a task of words that print nothing has no lines
 pub has_no_lines : (words : List Text) (t : Task) (lines : Text) → task_of words ≡ Some t → PrintsAsAllowed t lines → PrintsNothing words → lines ≡ []
 has_no_lines words t lines e allowed nothing = allowed (nothing t e)
+
+-- what is told of a stop that is no task is the usage line
+pub usage_told : (words : List Text) (old new : Outside) (s : Stop) (err err' : Option Text) (before now : ℕ) (result : Status)
+    → StopsWork words old new s → Reports s err err' before now result → result ≡ status.Usage → (task_of words ≡ None) × Gains (usage_line words) err err' × IsSame old.files new.files × IsSame old.out new.out
+usage_told words old new s err err' before now result h (inr (inl p)) is = let e = p.0 in cc
+usage_told words old new s err err' before now result h (inr (inr e)) is = cc
+usage_told words old new (stop.Usage line) err err' before now result h (inl p) is = let P : Text → Type 0 = λ text. Gains text err err' in (h.0, subst P h.1 p.1, h.2, h.3)
+usage_told words old new (stop.Refused refusal) err err' before now result h (inl p) is = let e = p.0 in cc
+usage_told words old new (stop.CannotRead name) err err' before now result h (inl p) is = let e = p.0 in cc
+usage_told words old new (stop.CannotWrite name) err err' before now result h (inl p) is = let e = p.0 in cc
+usage_told words old new stop.CannotPrint err err' before now result h (inl p) is = let e = p.0 in cc
+usage_told words old new stop.NoMemory err err' before now result h (inl p) is = let e = p.0 in cc

@@ -15,3 +15,15 @@ returns-in-NotModule c = rw c.in-NotModule.is (simp append_assoc)
 
 pub returns-in-ExportConflict : goal.returns-in-ExportConflict
 returns-in-ExportConflict c = rw (c.in-ExportConflict.is, c.as_str-in-ExportConflict.ensures.text) (simp append_assoc)
+
+pub returns-in-ImportMismatch : goal.returns-in-ImportMismatch
+returns-in-ImportMismatch c = rw (c.in-ImportMismatch.is, c.as_str-in-ImportMismatch.ensures) (simp append_assoc)
+
+pub returns-in-ImportCycle : goal.returns-in-ImportCycle
+returns-in-ImportCycle c = rw (c.in-ImportCycle.is, c.as_str-in-ImportCycle.ensures) (simp append_assoc)
+
+pub returns-in-LimitsClash : goal.returns-in-LimitsClash
+returns-in-LimitsClash c = rw (c.in-LimitsClash.is, c.as_str-in-LimitsClash.ensures) (simp append_assoc)
+
+pub returns-in-GlobalCycle : goal.returns-in-GlobalCycle
+returns-in-GlobalCycle c = rw (c.in-GlobalCycle.is, c.as_str-in-GlobalCycle.ensures) (simp append_assoc)

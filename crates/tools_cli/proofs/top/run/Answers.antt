@@ -1,7 +1,7 @@
 use Rattle.std.proofs.Common.{map, string_bytes, subst, Result}
 use Rattle.tools_cli.specs.Run.{Outside, IsUsage}
 use Rattle.tools_cli.specs.declared.stop.Stop.{Stop}
-use Rattle.tools_cli.proofs.Running.{usage_at_stop, says_nothing, says_a_line, outside_cause, complete_at_stop}
+use Rattle.tools_cli.proofs.Running.{usage_told, usage_at_stop, says_nothing, says_a_line, outside_cause, complete_at_stop}
 use Rattle.tools_cli.proofs.Kept.{end_keeps}
 use Rattle.tools_cli.proofs.top.run.Goals as goal
 
@@ -34,3 +34,9 @@ pub returns-in-Err-clause-no_task : goal.returns-in-Err-clause-no_task
 returns-in-Err-clause-no_task g c none =
     let P = λ (r : Result (Unit {0}) Stop). IsUsage r in
     usage_at_stop c.in-Err.stop _ _ _ _ c.report.result (subst P c.in-Err.is (c.run_command.ensures.no_task none)) c.report.ensures.reports
+
+pub returns-in-Err-clause-usage : goal.returns-in-Err-clause-usage
+returns-in-Err-clause-usage g c is =
+    let old : Outside = record { files = g.F.Files.contents c.args.files.now; reads = g.F.Files.read_faults c.args.files.now; writes = g.F.Files.write_faults c.args.files.now; out = g.O.Sink.bytes c.args.out.now; out_faults = g.O.Sink.faults c.args.out.now } in
+    let new : Outside = record { files = g.F.Files.contents c.run_command.new.files; reads = g.F.Files.read_faults c.run_command.new.files; writes = g.F.Files.write_faults c.run_command.new.files; out = g.O.Sink.bytes c.run_command.new.out; out_faults = g.O.Sink.faults c.run_command.new.out } in
+    usage_told (map string_bytes c.args.words.now) old new c.in-Err.stop _ _ _ _ c.report.result c.in-Err.ensures.stops c.report.ensures.reports is

@@ -30,8 +30,8 @@ decide-requires-clause-each c =
 pub decide-requires-clause-within : goal.decide-requires-clause-within
 decide-requires-clause-within c = loads_within false (input_entries c.split_at.result.0.now) c.in-Ok.modules.items c.in-Ok.ensures.loaded
 
-pub returns-clause-stops : goal.returns-clause-stops
-returns-clause-stops c =
+pub returns-in-Err-clause-stops : goal.returns-in-Err-clause-stops
+returns-in-Err-clause-stops c =
     let t = task_value c.args.task.now in
     let inputs = c.args.inputs.now in
     let files = input_entries c.split_at.result.0.now in
