@@ -1,12 +1,11 @@
 -- Outputs that are compared with the limit, and encoded, one after another.
-use Rattle.std.proofs.Common.{◌≡◌, ◌∙◌, sym, refl, ap, Bool, true, false, cond, not, ltb, ◌&&◌, map, ℕ, suc, ◌+◌, ◌<◌, ◌≤◌, List, [], ◌∷◌, ◌++◌, append_assoc, append-nil, add-one, drop, drop-cons, length, get_or, arith}
+use Rattle.std.proofs.Common.{◌≡◌, ◌∙◌, sym, refl, ap, Bool, true, false, not, ltb, ◌&&◌, map, ℕ, suc, ◌+◌, ◌<◌, ◌≤◌, List, [], ◌∷◌, ◌++◌, append-nil, add-one, drop, drop-cons, length, get_or, arith}
 use Rattle.std.specs.List.{list_all}
 use Rattle.std.proofs.lemmas.List.{drop_all}
 use Rattle.std.proofs.lemmas.Bool.Decides.{nat_tests}
 use Rattle.wasm_plain.specs.Plain.{plain}
 use Rattle.wasm_tree.specs.declared.module.Module.{Module}
 use Rattle.tools_cli.specs.Effects.{Entry}
-use Rattle.tools_cli.specs.Job as job
 use Rattle.tools_cli.specs.Job.{is_within, spelled_output, most_output}
 use Rattle.tools_cli.specs.Command.{output_value, output_values, write_entry, write_entries}
 use Rattle.tools_cli.specs.declared.decide.Output.{Output}

@@ -1,5 +1,5 @@
 -- What stands in the parts of a merge together.
-use Rattle.std.proofs.Common.{◌≡◌, refl, ap, subst, ℕ, zero, suc, ◌*◌, ◌≤◌, ◌<◌, ◌^◌, List, [], ◌∷◌, length, length-append, Some, None, Ok, Result, cond, ltb, true, false, Bool, arith}
+use Rattle.std.proofs.Common.{◌≡◌, refl, ap, ℕ, zero, suc, ◌*◌, ◌≤◌, ◌<◌, ◌^◌, List, [], ◌∷◌, length, length-append, Some, None, cond, ltb, true, false, Bool, arith}
 use Rattle.wasm_tree.specs.declared.space.Space.{Space}
 use Rattle.wasm_tree.specs.declared.space.Space.TheVariants.{Types, Functions, Tables, Memories, Globals, ElementSegments, DataSegments}
 use Rattle.wasm_tree.specs.declared.which.Which.TheVariants as which
@@ -12,7 +12,7 @@ use Rattle.wasm_meaning.specs.Linking.{Part, sites_in, sites_from, sites}
 use Rattle.base_lists.specs.Places.{count_of}
 use Rattle.merge_terms.specs.Merged.{imports_kind}
 use Rattle.merge_terms.specs.Joined as joined
-use Rattle.tools_cli.specs.Words.{Text, Source, MergeTask, Merge}
+use Rattle.tools_cli.specs.Words.{Source, MergeTask, Merge}
 use Rattle.tools_cli.specs.Texts.{parts_over_limit}
 use Rattle.tools_cli.specs.Job.{parts_of, refused_before, most_parts}
 use Rattle.tools_cli.specs.Causes.{IsWithinLimits}

@@ -1,5 +1,5 @@
 -- Files that are loaded one after another.
-use Rattle.std.proofs.Common.{◌≡◌, ◌∙◌, sym, refl, ap, subst, ◌⊎◌, inl, inr, Bool, false, None, Some, Result, Ok, Err, IfOk, ℕ, zero, suc, ◌+◌, ◌<◌, ◌≤◌, ◌^◌, List, [], ◌∷◌, ◌++◌, append_assoc, append-nil, add-one, drop, drop-cons, take, length, get_or, arith}
+use Rattle.std.proofs.Common.{◌≡◌, ◌∙◌, sym, refl, ap, subst, ◌⊎◌, inl, inr, Bool, false, Some, Result, Ok, Err, IfOk, ℕ, zero, suc, ◌+◌, ◌<◌, ◌≤◌, ◌^◌, List, [], ◌∷◌, ◌++◌, append_assoc, append-nil, add-one, drop, drop-cons, length, get_or, arith}
 use Rattle.std.proofs.lemmas.List.{drop_all}
 use Rattle.base_lists.specs.Every.{Every}
 use Rattle.tools_cli.specs.Words.{Text}
@@ -81,7 +81,6 @@ short_input (y ∷ ys) (suc i) x lt is room = short_input ys i x (omega arith) i
 pub faulty_from : (file bytes seen text : Text) (fault : ReadFault) → seen ≡ bytes → (fault ≡ NoMemory) ⊎ (read_fault seen false ≡ Some fault) → fault_text file fault ≡ Some text → Loads false file bytes (Err text)
 faulty_from file bytes seen text fault e (inl none) told = let no_text : fault_text file NoMemory ≡ Some text = ap (fault_text file) (sym none) ∙ told in cc
 faulty_from file bytes seen text fault e (inr found) told = faulty fault text (ap (λ b. read_fault b false) (sym e) ∙ found) told
-
 
 pub loaded_from : (file bytes : Text) (tree valid : Module) → IsRead false bytes tree → (valid ≡ tree) × IsAccepted false tree → Loads false file bytes (Ok valid)
 loaded_from file bytes tree valid reads (same, accepted) = rw same (loaded tree reads accepted)

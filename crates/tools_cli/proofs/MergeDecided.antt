@@ -1,8 +1,7 @@
 -- What merging the modules of a task decides.
-use Rattle.std.proofs.Common.{◌≡◌, ◌∙◌, sym, refl, ap, subst, ◌⊎◌, inl, inr, true, false, cond, ltb, None, Some, Result, Ok, Err, map, ℕ, zero, suc, ◌+◌, ◌<◌, ◌≤◌, List, [], ◌∷◌, ◌++◌, append_assoc, append-nil, add-one, drop, drop-cons, length, get_or, slice_get, slice_index_or, arith}
-use Rattle.std.proofs.lemmas.Bool.Decides.{nat_tests}
+use Rattle.std.proofs.Common.{◌≡◌, ◌∙◌, sym, refl, ap, subst, ◌⊎◌, inl, inr, None, Some, Err, map, ℕ, zero, suc, ◌+◌, ◌<◌, List, [], ◌∷◌, ◌++◌, append_assoc, append-nil, add-one, drop, drop-cons, length, get_or, slice_get, slice_index_or, arith}
 use Rattle.tools_cli.specs.Words.{Text, Source, MergeTask, source_files}
-use Rattle.tools_cli.specs.Job.{Decision, Output, Refuses, Makes, Merges, not_linked, not_joined, merged, AreMerged, parts_of, most_parts}
+use Rattle.tools_cli.specs.Job.{Decision, Refuses, Makes, Merges, not_linked, not_joined, merged, AreMerged, parts_of}
 use Rattle.tools_cli.specs.Texts.{link_text, join_text}
 use Rattle.wasm_tree.specs.declared.module.Module.{Module}
 use Rattle.wasm_meaning.specs.Linking.{Part}
@@ -64,7 +63,6 @@ parts_end (s ∷ sources) = refl
 pub all_named : (done whole : List Part) (sources : List Source) (trees : List Module) → length trees ≡ 0 → done ++ parts_of sources trees ≡ whole → done ≡ whole
 all_named done whole sources [] none e = sym (append-nil done) ∙ ap (λ l. done ++ l) (sym (parts_end sources)) ∙ e
 all_named done whole sources (tree ∷ trees) none e = absurd (omega arith)
-
 
 pub file_there : (xs : List code.Source) (i : ℕ) (d : code.Source) → i < length xs → slice_get (files_of xs) i ≡ Some (slice_index_or xs i d).file.now
 file_there [] i d lt = absurd (omega arith)

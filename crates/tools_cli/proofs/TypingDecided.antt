@@ -1,11 +1,11 @@
 -- A body is well typed or it is not.
-use Rattle.std.proofs.Common.{◌≡◌, ◌∙◌, refl, sym, ap, subst, cond, Bool, true, false, List, [], ◌∷◌, ◌++◌, append-nil, map, reverse, length, Option, Some, None, ◌⊎◌, inl, inr}
+use Rattle.std.proofs.Common.{◌≡◌, ◌∙◌, refl, sym, ap, subst, Bool, true, false, List, [], ◌∷◌, ◌++◌, append-nil, map, reverse, length, Option, Some, None, ◌⊎◌, inl, inr}
 use Rattle.wasm_tree.specs.declared.types.ValType.{ValType}
 use Rattle.wasm_tree.specs.declared.types.ValType.TheVariants.{I32}
 use Rattle.wasm_tree.specs.declared.instr.Instr.{Instr, Row_of-Instr, end_of-Instr, more_of-Instr}
 use Rattle.wasm_tree.specs.declared.instr.Instr.{Block', Loop', If'}
-use Rattle.wasm_typing.specs.Typing.{Operand, Stack, AllMatch, operands, Effect, Gives, Acts, Signature, Context, under, signature_of, effect_of, Ends, Fits, Leads, LeadsAll, WellTyped}
-use Rattle.wasm_typing.specs.Tracking.{Instance, Concrete, StepsTo, Fails, Follows, pop_all, act, answer_of}
+use Rattle.wasm_typing.specs.Typing.{Stack, operands, Effect, Gives, Acts, Signature, Context, under, signature_of, effect_of, Ends, Fits, Leads, LeadsAll, WellTyped}
+use Rattle.wasm_typing.specs.Tracking.{Instance, Concrete, StepsTo, Follows, pop_all, act, answer_of}
 use Rattle.wasm_typing.proofs.Pops.{pop_all-on, pop_all-back, padded}
 use Rattle.wasm_typing.proofs.Acts.{act-on, act-back}
 use Rattle.wasm_typing.proofs.Runs.{IsPlain, plain_arm}
@@ -19,10 +19,15 @@ IsTracked F xs o = (ys : Stack) × (p : Bool) × (ok : Bool) × Follows F xs o y
 
 acts_tracked : (e : Effect) (xs : Stack) (o : Bool) (r : Option (Stack × Bool)) → act e xs o ≡ r → IsTracked (Acts e) xs o
 acts_tracked e xs o None h = ([], false, false, λ s t i a. let r = act-on e xs o s t i a in cc)
-acts_tracked e xs o (Some r) h = (r.0, r.1, true, record {
-  back = λ t k. act-back e xs o r t h k;
-  on = λ s t i a. let q = act-on e xs o s t i a in let same : q.0 ≡ r = cc in subst (λ (z : Stack × Bool). Instance z.0 z.1 t) same q.2;
-})
+acts_tracked e xs o (Some r) h = (
+  r.0,
+  r.1,
+  true,
+  record {
+    back = λ t k. act-back e xs o r t h k;
+    on = λ s t i a. let q = act-on e xs o s t i a in let same : q.0 ≡ r = cc in subst (λ (z : Stack × Bool). Instance z.0 z.1 t) same q.2;
+  },
+)
 
 plain_tracked : (c : Context) (i : Instr) (xs : Stack) (o : Bool) → IsPlain i → (r : Option (Stack × Bool)) → answer_of (effect_of c i) xs o ≡ r → IsTracked (Fits c i) xs o
 plain_tracked c i xs o plain None h = ([], false, false, plain_arm c i xs o [] false false plain h)
@@ -59,15 +64,15 @@ ends_by L ps rs ys p f (Some []) h =
     inl (last, subst (λ z. L z last) (own_concrete (reverse ps) from.0 from.1) from.2, b.0)
 ends_by L ps rs ys p f (Some (x ∷ xs)) h =
     inr (λ (last, l, m).
-        let i = f.on (operands ps) last (own_instance (reverse ps)) l in
-        let q = pop_all-on ys p last [] (reverse rs) (subst (Instance ys p) (sym (append-nil last)) i) m in
-        let none = nothing_below q.0 p q.2 in
-        let same : ◌≡◌ {A = Option Stack} (Some []) (Some (x ∷ xs)) = ap Some (sym none) ∙ sym q.1 ∙ h in cc)
+    let i = f.on (operands ps) last (own_instance (reverse ps)) l in
+    let q = pop_all-on ys p last [] (reverse rs) (subst (Instance ys p) (sym (append-nil last)) i) m in
+    let none = nothing_below q.0 p q.2 in
+    let same : ◌≡◌ {A = Option Stack} (Some []) (Some (x ∷ xs)) = ap Some (sym none) ∙ sym q.1 ∙ h in cc)
 ends_by L ps rs ys p f None h =
     inr (λ (last, l, m).
-        let i = f.on (operands ps) last (own_instance (reverse ps)) l in
-        let q = pop_all-on ys p last [] (reverse rs) (subst (Instance ys p) (sym (append-nil last)) i) m in
-        let same : ◌≡◌ {A = Option Stack} (Some q.0) None = sym q.1 ∙ h in cc)
+    let i = f.on (operands ps) last (own_instance (reverse ps)) l in
+    let q = pop_all-on ys p last [] (reverse rs) (subst (Instance ys p) (sym (append-nil last)) i) m in
+    let same : ◌≡◌ {A = Option Stack} (Some q.0) None = sym q.1 ∙ h in cc)
 
 ends_either : (L : Relation) (ps rs : List ValType) → IsTracked L (operands ps) false → Either (Ends L ps rs)
 ends_either L ps rs (ys, p, true, f) = ends_by L ps rs ys p f _ refl
@@ -88,10 +93,15 @@ does_nothing sig IsRight effect xs o e = ([], false, false, λ s t i h. let no :
 does_so : (sig : Option Signature) (IsRight : Signature → Type 0) (effect : Signature → Effect) (xs : Stack) (o : Bool) (f : Signature) → sig ≡ Some f → Either (IsRight f) → IsTracked (Acts (effect f)) xs o → IsTracked (Does sig IsRight effect) xs o
 does_so sig IsRight effect xs o f e (inr wrong) acts = ([], false, false, λ s t i h. wrong (subst IsRight (same_signature sig f h.0 e h.1) h.2))
 does_so sig IsRight effect xs o f e (inl right) (ys, p, false, fails) = ([], false, false, λ s t i h. fails s t i (subst (λ g. Acts (effect g) s t) (same_signature sig f h.0 e h.1) h.3))
-does_so sig IsRight effect xs o f e (inl right) (ys, p, true, steps) = (ys, p, true, record {
-  back = λ t k. let b = steps.back t k in (b.0, b.1, (f, e, right, b.2));
-  on = λ s t i h. steps.on s t i (subst (λ g. Acts (effect g) s t) (same_signature sig f h.0 e h.1) h.3);
-})
+does_so sig IsRight effect xs o f e (inl right) (ys, p, true, steps) = (
+  ys,
+  p,
+  true,
+  record {
+    back = λ t k. let b = steps.back t k in (b.0, b.1, (f, e, right, b.2));
+    on = λ s t i h. steps.on s t i (subst (λ g. Acts (effect g) s t) (same_signature sig f h.0 e h.1) h.3);
+  },
+)
 
 does_tracked : (sig : Option Signature) (IsRight : Signature → Type 0) (effect : Signature → Effect) (xs : Stack) (o : Bool) → ((f : Signature) → Either (IsRight f)) → (known : Option Signature) → sig ≡ known → IsTracked (Does sig IsRight effect) xs o
 does_tracked sig IsRight effect xs o right None e = does_nothing sig IsRight effect xs o e
@@ -99,10 +109,15 @@ does_tracked sig IsRight effect xs o right (Some f) e = does_so sig IsRight effe
 
 tracked_as : (F G : Relation) → ((s t : Stack) → F s t → G s t) → ((s t : Stack) → G s t → F s t) → (xs : Stack) (o : Bool) → IsTracked F xs o → IsTracked G xs o
 tracked_as F G to from xs o (ys, p, false, fails) = (ys, p, false, λ s t i g. fails s t i (from s t g))
-tracked_as F G to from xs o (ys, p, true, steps) = (ys, p, true, record {
-  back = λ t k. let b = steps.back t k in (b.0, b.1, to b.0 t b.2);
-  on = λ s t i g. steps.on s t i (from s t g);
-})
+tracked_as F G to from xs o (ys, p, true, steps) = (
+  ys,
+  p,
+  true,
+  record {
+    back = λ t k. let b = steps.back t k in (b.0, b.1, to b.0 t b.2);
+    on = λ s t i g. steps.on s t i (from s t g);
+  },
+)
 
 both_either : (P Q : Type 0) → Either P → Either Q → Either (P × Q)
 both_either P Q (inl p) (inl q) = inl (p, q)
@@ -115,10 +130,15 @@ Then F G s t = (u : Stack) × F s u × G u t
 
 then_more : (F G : Relation) (xs : Stack) (o : Bool) (ys : Stack) (p : Bool) → StepsTo F xs o ys p → IsTracked G ys p → IsTracked (Then F G) xs o
 then_more F G xs o ys p steps (zs, q, false, fails) = ([], false, false, λ s t k h. fails h.0 t (steps.on s h.0 k h.1) h.2)
-then_more F G xs o ys p steps (zs, q, true, more) = (zs, q, true, record {
-  back = λ t k. let b = more.back t k in let a = steps.back b.0 b.1 in (a.0, a.1, (b.0, a.2, b.2));
-  on = λ s t k h. more.on h.0 t (steps.on s h.0 k h.1) h.2;
-})
+then_more F G xs o ys p steps (zs, q, true, more) = (
+  zs,
+  q,
+  true,
+  record {
+    back = λ t k. let b = more.back t k in let a = steps.back b.0 b.1 in (a.0, a.1, (b.0, a.2, b.2));
+    on = λ s t k h. more.on h.0 t (steps.on s h.0 k h.1) h.2;
+  },
+)
 
 then_tracked : (F G : Relation) (xs : Stack) (o : Bool) → IsTracked F xs o → ((ys : Stack) (p : Bool) → IsTracked G ys p) → IsTracked (Then F G) xs o
 then_tracked F G xs o (ys, p, false, fails) rest = ([], false, false, λ s t k h. fails s h.0 k h.1)

@@ -1,5 +1,5 @@
 -- A module is valid, or has a first item that does not hold.
-use Rattle.std.proofs.Common.{◌≡◌, ◌∙◌, refl, sym, ap, subst, Bool, true, false, ℕ, zero, suc, ◌<◌, ◌≤◌, nat_lt, ltb, List, [], ◌∷◌, ◌++◌, map, take, length, Option, Some, None, slice_get, Contains, ◌⊎◌, inl, inr, arith}
+use Rattle.std.proofs.Common.{◌≡◌, ◌∙◌, refl, sym, ap, subst, Bool, true, false, ℕ, zero, suc, ◌<◌, ◌≤◌, ltb, List, [], ◌∷◌, ◌++◌, map, take, length, Option, Some, None, slice_get, Contains, ◌⊎◌, inl, inr, arith}
 use Rattle.std.proofs.lemmas.Bool.Decides.{nat_tests}
 use Rattle.std.specs.Str.{bytes_eq}
 use Rattle.std.proofs.lemmas.Slice.Eq.{bytes_eq-Decides}
@@ -9,7 +9,6 @@ use Rattle.wasm_tree.specs.declared.types.ValType.{ValType}
 use Rattle.wasm_tree.specs.declared.types.ValType.TheVariants.{I32, I64, Ref}
 use Rattle.wasm_tree.specs.declared.types.FuncType.{FuncType}
 use Rattle.wasm_tree.specs.declared.types.Limits.{Limits}
-use Rattle.wasm_tree.specs.declared.types.TableType.{TableType}
 use Rattle.wasm_tree.specs.declared.module.ImportDesc.{ImportDesc}
 use Rattle.wasm_tree.specs.declared.module.ImportDesc.TheVariants as imported
 use Rattle.wasm_tree.specs.declared.module.ExportDesc.{ExportDesc}
@@ -19,12 +18,8 @@ use Rattle.wasm_tree.specs.declared.module.ElemMode.TheVariants as elem
 use Rattle.wasm_tree.specs.declared.module.DataMode.{DataMode}
 use Rattle.wasm_tree.specs.declared.module.DataMode.TheVariants as «data»
 use Rattle.wasm_tree.specs.declared.module.ConstExpr.{ConstExpr}
-use Rattle.wasm_tree.specs.declared.module.Import.{Import}
 use Rattle.wasm_tree.specs.declared.module.Func.{Func}
-use Rattle.wasm_tree.specs.declared.module.GlobalDef.{GlobalDef}
 use Rattle.wasm_tree.specs.declared.module.Export.{Export}
-use Rattle.wasm_tree.specs.declared.module.ElemSeg.{ElemSeg}
-use Rattle.wasm_tree.specs.declared.module.DataSeg.{DataSeg}
 use Rattle.wasm_tree.specs.declared.module.Module.{Module}
 use Rattle.wasm_tree.specs.Spaces.{funcs_of, tables_of, memories_of, globals_of, type_of_func}
 use Rattle.wasm_valid.specs.declared.kinds.ItemKind.{ItemKind}
@@ -33,8 +28,8 @@ use Rattle.wasm_valid.specs.declared.kinds.Invalid.{Invalid}
 use Rattle.wasm_typing.specs.Typing.{WellTyped}
 use Rattle.wasm_valid.specs.Constants.{const_type}
 use Rattle.wasm_valid.specs.SpaceTypes.{table_types}
-use Rattle.wasm_valid.specs.Validity.{MostIsAtLeast, MostIsAtMost, LimitsHold, PagesHold, ImportHolds, InSpace, ElemModeHolds, DataModeHolds, body_context, IsSingle, HoldsAt, Item, item, items, span, EachHolds, IsValid}
-use Rattle.wasm_valid.specs.First.{IsFirstOf, IsFirstInvalid, index_of}
+use Rattle.wasm_valid.specs.Validity.{MostIsAtLeast, MostIsAtMost, LimitsHold, PagesHold, ImportHolds, InSpace, ElemModeHolds, DataModeHolds, body_context, HoldsAt, Item, item, items, span, EachHolds}
+use Rattle.wasm_valid.specs.First.{IsFirstOf, index_of}
 use Rattle.tools_cli.specs.Job.{IsAccepted}
 use Rattle.tools_cli.proofs.Existing.{IsDecided}
 use Rattle.tools_cli.proofs.TypingDecided.{typed_or_not}
@@ -74,6 +69,7 @@ entry {A} xs i P either = by (slice_get xs i) refl
     at : (x : A) → slice_get xs i ≡ Some x → Either (P x) → Either ((x : A) × (slice_get xs i ≡ Some x) × P x)
     at x e (inl p) = inl (x, e, p)
     at x e (inr n) = inr (λ (y, is, p). let same : ◌≡◌ {A = Option A} (Some y) (Some x) = sym is ∙ e in let one : y ≡ x = cc in n (subst P one p))
+
     by : (o : Option A) → slice_get xs i ≡ o → Either ((x : A) × (slice_get xs i ≡ Some x) × P x)
     by None e = inr (λ (y, is, p). let same : ◌≡◌ {A = Option A} None (Some y) = sym e ∙ is in cc)
     by (Some x) e = at x e (either x)

@@ -9,7 +9,9 @@ use merge_ranges::merged_modules_are_in_range;
 use merge_validity::merged_modules_are_valid;
 use merge_worlds::merged_modules_show_the_same;
 use plain_law::{plain_spells, spelled_trees_are_in_range};
-use wasm_format::{faults_have_causes, no_fault_where_spelled, one_tree, spelled_trees_are_bounded};
+use wasm_format::{
+    faults_have_causes, no_fault_where_spelled, one_tree, spelled_trees_are_bounded,
+};
 use worlds_in_turn::turns_are_not_seen;
 
 /// A command line has at most one job over some files.

@@ -18,21 +18,58 @@ use wasm_valid::{Invalid, ItemKind};
 /// What is wrong with the input, by the names of the faults.
 #[derive(Drop)]
 pub(crate) enum Refusal<'a> {
-    NotModule { file: &'a str },
-    Malformed { file: &'a str, section: Digits },
-    MalformedBody { file: &'a str, func: Digits },
-    Unsupported { file: &'a str, section: Digits },
-    UnsupportedBody { file: &'a str, func: Digits },
-    Limit { file: &'a str, which: Which },
-    Invalid { file: &'a str, kind: ItemKind, index: Digits },
+    NotModule {
+        file: &'a str,
+    },
+    Malformed {
+        file: &'a str,
+        section: Digits,
+    },
+    MalformedBody {
+        file: &'a str,
+        func: Digits,
+    },
+    Unsupported {
+        file: &'a str,
+        section: Digits,
+    },
+    UnsupportedBody {
+        file: &'a str,
+        func: Digits,
+    },
+    Limit {
+        file: &'a str,
+        which: Which,
+    },
+    Invalid {
+        file: &'a str,
+        kind: ItemKind,
+        index: Digits,
+    },
     TooManyParts,
-    ImportMismatch { file: &'a str, import: Digits },
-    ImportCycle { file: &'a str, import: Digits },
-    LimitsClash { file: &'a str, import: Digits },
+    ImportMismatch {
+        file: &'a str,
+        import: Digits,
+    },
+    ImportCycle {
+        file: &'a str,
+        import: Digits,
+    },
+    LimitsClash {
+        file: &'a str,
+        import: Digits,
+    },
     TooManyMemories,
-    GlobalCycle { file: &'a str, global: Digits },
-    ExportConflict { name: Name },
-    TooMany { which: Which },
+    GlobalCycle {
+        file: &'a str,
+        global: Digits,
+    },
+    ExportConflict {
+        name: Name,
+    },
+    TooMany {
+        which: Which,
+    },
 }
 
 /// A refusal as a stop, or want of memory for its text.
@@ -71,7 +108,8 @@ pub(crate) fn refuse_fault<'a>(
             section: Digits::new(alloc, section)?,
         }),
         ReadFault::Unsupported {
-            func: Some(func), ..
+            func: Some(func),
+            ..
         } => Ok(Refusal::UnsupportedBody {
             file,
             func: Digits::new(alloc, func)?,

@@ -1,4 +1,4 @@
-use Rattle.std.proofs.Common.{◌≡◌, ◌∙◌, ap, ap₂, sym, true, false, rules, cond, map, List}
+use Rattle.std.proofs.Common.{◌≡◌, ◌∙◌, ap, sym, true, false, rules, cond, map, List}
 use Rattle.std.specs.List.{list_all}
 use Rattle.tools_cli.specs.Effects.{Entry}
 use Rattle.tools_cli.specs.Command.{output_values}

@@ -1,6 +1,5 @@
-use Rattle.std.proofs.Common.{inl, sym, subst, List, false, Err}
+use Rattle.std.proofs.Common.{false, Err}
 use Rattle.tools_cli.specs.Words.{Text}
-use Rattle.tools_cli.specs.Effects.{Entry}
 use Rattle.tools_cli.specs.Job.{Loads, OneFails}
 use Rattle.tools_cli.specs.Command.{input_entries}
 use Rattle.tools_cli.proofs.Loading.{short_input, all_load, stops_weaker, fails_here}

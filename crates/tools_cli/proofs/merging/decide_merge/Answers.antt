@@ -1,13 +1,12 @@
-use Rattle.std.proofs.Common.{◌≡◌, ◌<◌, ◌≤◌, ◌^◌, ◌∙◌, sym, ap, ap₂, subst, List, [], ◌∷◌, length, map, arith}
+use Rattle.std.proofs.Common.{◌≡◌, ◌<◌, ◌≤◌, ◌^◌, ◌∙◌, sym, ap, ap₂, subst, List, length, arith}
 use Rattle.std.proofs.lemmas.List.{length-map}
-use Rattle.std.proofs.lemmas.Result.{IfErr-weaker}
 use Rattle.wasm_meaning.specs.Linking.{Part, sites}
 use Rattle.merge_terms.specs.Parts.{named_module, named_modules}
 use Rattle.merge_terms.specs.Joined.{FewInAll}
 use Rattle.tools_cli.specs.Words.{Text, are_apart}
 use Rattle.tools_cli.specs.Command.{merge_value, source_values, decision_value}
 use Rattle.tools_cli.specs.Job.{Merges, Refuses, Makes, parts_of, most_parts}
-use Rattle.tools_cli.specs.Causes.{StopsWith, MergeFails}
+use Rattle.tools_cli.specs.Causes.{MergeFails}
 use Rattle.tools_cli.proofs.Loading.{stops_weaker}
 use Rattle.tools_cli.proofs.MergeDecided.{length_once, length_parts, merge_refused, merge_made}
 use Rattle.tools_cli.proofs.Lines.{names_once}

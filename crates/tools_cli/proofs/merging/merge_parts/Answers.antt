@@ -1,10 +1,9 @@
-use Rattle.std.proofs.Common.{◌≡◌, ◌∙◌, ap, sym, arith, Some, length, Err}
+use Rattle.std.proofs.Common.{◌≡◌, ◌∙◌, ap, sym, arith, Some, length}
 use Rattle.std.proofs.lemmas.List.{length-map}
 use Rattle.std.proofs.lemmas.Result.{IfOk-weaker}
 use Rattle.wasm_tree.specs.declared.space.Space.TheVariants.{Globals}
 use Rattle.wasm_meaning.specs.World.{defined_before}
 use Rattle.merge_terms.specs.Parts.{named_module, named_modules}
-use Rattle.tools_cli.specs.Words.{source_files}
 use Rattle.tools_cli.specs.Command.{merge_value, files_of}
 use Rattle.tools_cli.specs.Texts.{link_text, join_text}
 use Rattle.tools_cli.specs.Stop.{refusal_text}

@@ -1,9 +1,8 @@
-use Rattle.std.proofs.Common.{◌≡◌, ◌≤◌, ◌∙◌, sym, refl, ap, false, take, length, arith}
-use Rattle.std.proofs.lemmas.List.{length-take}
+use Rattle.std.proofs.Common.{◌≡◌, ◌∙◌, refl, ap, false, arith}
 use Rattle.std.proofs.lemmas.Result.{IfOk-weaker, IfErr-weaker}
-use Rattle.tools_cli.specs.Words.{Text, modules_of}
+use Rattle.tools_cli.specs.Words.{Text}
 use Rattle.tools_cli.specs.Command.{task_value, decision_value, input_entries, input_texts, write_entries}
-use Rattle.tools_cli.specs.Job.{Decides, Refuses, Done, Refused, OneFails, InputsJob, job_of, most_input}
+use Rattle.tools_cli.specs.Job.{Decides, Refuses, Done, Refused, OneFails, InputsJob, job_of}
 use Rattle.tools_cli.specs.Causes.{total, StopsWith}
 use Rattle.tools_cli.proofs.Loading.{stops_weaker, as_many, loads_within, inputs_once}
 use Rattle.tools_cli.proofs.Deciding.{total_first, entries_first, texts_behind, modules_there, job_made, job_not_loaded}

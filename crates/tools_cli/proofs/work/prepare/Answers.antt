@@ -1,7 +1,7 @@
-use Rattle.std.proofs.Common.{◌≡◌, ◌∙◌, sym, ap, rules, subst, map, IfSome, Some, None, List}
+use Rattle.std.proofs.Common.{◌≡◌, rules, IfSome, Some, None}
 use Rattle.std.proofs.lemmas.Result.{IfOk-weaker, IfErr-weaker}
 use Rattle.tools_cli.specs.Words.{Text, inputs_of}
-use Rattle.tools_cli.specs.Effects.{Entry, written_names}
+use Rattle.tools_cli.specs.Effects.{written_names}
 use Rattle.tools_cli.specs.Command.{task_value, input_entries, write_entries}
 use Rattle.tools_cli.specs.Job.{InputsJob, TaskJob, Done, Refused, Whole, gathered, refused_before, most_input}
 use Rattle.tools_cli.specs.Stop.{refusal_text}
