@@ -1,4 +1,5 @@
-// The real files and standard streams. They tell no contents, and one count serves every name and both kinds.
+// The real files and standard streams. They tell no contents, and one count serves every name and both kinds: it rises at
+// each error.
 ghost use Rattle.std.specs.Prelude.{◌≡◌, ◌≤◌, None};
 
 use crate::{Files, IoFault, Sink};
@@ -75,10 +76,14 @@ fn write_all<W: Write>(writer: &mut W, bytes: &[u8]) -> Result<(), IoFault> {
     Ok(())
 }
 
-// Puts all of the bytes into a new file of this name.
+// Puts all of the bytes into a new file of this name. Once the file is there, what it held is gone, so every error is a
+// failure then.
 fn write_file<R: FileAccess>(access: &R, name: &str, bytes: &[u8]) -> Result<(), IoFault> {
     match fs::create(access, name) {
-        Ok(mut file) => write_all(&mut file, bytes),
+        Ok(mut file) => match write_all(&mut file, bytes) {
+            Ok(()) => Ok(()),
+            Err(_) => Err(IoFault::Failed),
+        },
         Err(error) => Err(fault_of(&error)),
     }
 }
@@ -92,7 +97,7 @@ impl<R: FileAccess> Files for HostFiles<R> {
 
     fn read(&mut self, alloc: Global, name: &str, most: usize) -> Result<Vec<u8>, IoFault> {
         let read = read_first(&self.access, alloc, name, most);
-        if let Err(IoFault::Failed) = read {
+        if read.is_err() {
             self.faults = self.faults.saturating_add(1);
         }
         read
@@ -100,7 +105,7 @@ impl<R: FileAccess> Files for HostFiles<R> {
 
     fn write(&mut self, name: &str, bytes: &[u8]) -> Result<(), IoFault> {
         let written = write_file(&self.access, name, bytes);
-        if let Err(IoFault::Failed) = written {
+        if written.is_err() {
             self.faults = self.faults.saturating_add(1);
         }
         written
@@ -130,7 +135,7 @@ impl<W: Write> Sink for HostSink<W> {
 
     fn put(&mut self, piece: &[u8]) -> Result<(), IoFault> {
         let put = write_all(&mut self.stream, piece);
-        if let Err(IoFault::Failed) = put {
+        if put.is_err() {
             self.faults = self.faults.saturating_add(1);
         }
         put

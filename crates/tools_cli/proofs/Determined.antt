@@ -1,13 +1,13 @@
 -- A command line has one job.
-use Rattle.std.proofs.Common.{Bool, true, cond, ltb, ◌-◌, ◌↔◌, ◌≡◌, ◌∙◌, sym, refl, ap, ap₂, subst, map, inl, inr, ℕ, List, [], ◌∷◌, Option, Some, None, Result, Ok, Err, false, length, arith}
+use Rattle.std.proofs.Common.{Bool, true, cond, take, zero, suc, ltb, ◌-◌, ◌↔◌, ◌≡◌, ◌∙◌, sym, refl, ap, ap₂, subst, inl, inr, ℕ, List, [], ◌∷◌, Option, Some, None, Result, Ok, Err, false, length}
 use Rattle.std.specs.FinMap.{get}
 use Rattle.wasm_bytes.specs.Reading.{IsBytes}
 use Rattle.tool_io.specs.Outside.{Contents}
-use Rattle.tools_cli.specs.Words.{Text, Source, Task, Merge, inputs_of}
+use Rattle.tools_cli.specs.Words.{Text, MergeTask, Task, Merge, source_files, many_of, modules_of, inputs_of}
 use Rattle.tools_cli.specs.Effects.{Entry}
 use Rattle.tools_cli.specs.Texts.{fault_text, invalid_text, link_text, join_text, over_limit}
 use Rattle.wasm_tree.specs.declared.which.Which.TheVariants.{InputBytes}
-use Rattle.tools_cli.specs.Job.{IsRead, IsAccepted, invalid, Job, Refused, Gathered, add_first, add_file, HoldBytes, Whole, Lacks, TooLong, gathered, most_input, Loads, loaded, faulty, AllLoad, OneFails, Writes, too_large, written, Merges, not_loaded, not_linked, not_joined, merged, parts_of, Decides, TaskJob, not_begun, missing, too_long, decided, HasJob, no_task, asked}
+use Rattle.tools_cli.specs.Job.{IsRead, IsAccepted, invalid, Job, Refused, Gathered, add_first, add_file, HoldBytes, Whole, Lacks, TooLong, gathered, most_input, Loads, loaded, faulty, AllLoad, OneFails, Decision, Refuses, Makes, Merges, not_linked, not_joined, merged, parts_of, Decides, job_of, module_files, text_contents, InputsJob, not_loaded, decided, TaskJob, not_begun, missing, too_long, all_read, HasJob, no_task, asked}
 use Rattle.wasm_tree.specs.declared.module.Module.{Module}
 use Rattle.wasm_format.specs.declared.fault.ReadFault.{ReadFault}
 use Rattle.wasm_valid.specs.declared.kinds.Invalid.{Invalid}
@@ -16,9 +16,7 @@ use Rattle.wasm_valid.specs.First.{IsFirstInvalid}
 use Rattle.wasm_format.specs.Files.{Spells, Within}
 use Rattle.wasm_format.specs.Contents.{read_fault}
 use Rattle.wasm_meaning.specs.Linking.{Part}
-use Rattle.export_names.specs.declared.mode.Mode.{Mode}
 use Rattle.merge_terms.specs.Faults.{link_fault}
-use Rattle.merge_terms.specs.Joined.{join_of}
 use Rattle.merge_terms.specs.declared.faults.LinkFault.{LinkFault}
 use Rattle.merge_terms.specs.declared.faults.JoinFault.{JoinFault}
 
@@ -31,10 +29,10 @@ SpelledHasNoFault = (many : Bool) (bytes : List ℕ) → IsBytes bytes → (read
 
 -- there is one first item that does not hold, and none of a tree that is accepted
 abbrev pub FirstIsOne : Type 0
-FirstIsOne = (tree : Module) (one other : Invalid) → IsFirstInvalid tree false one → IsFirstInvalid tree false other → one ≡ other
+FirstIsOne = (many : Bool) (tree : Module) (one other : Invalid) → IsFirstInvalid tree many one → IsFirstInvalid tree many other → one ≡ other
 
 abbrev pub NoneIsFirst : Type 0
-NoneIsFirst = (tree : Module) (item : Invalid) → IsValid tree → IsSingle tree → IsFirstInvalid tree false item → ⊥
+NoneIsFirst = (many : Bool) (tree : Module) (item : Invalid) → IsValid tree → (many ≡ false → IsSingle tree) → IsFirstInvalid tree many item → ⊥
 
 -- what is known of reading and of validity
 pub record Known : Type 0 where
@@ -43,33 +41,33 @@ pub record Known : Type 0 where
   pub first : FirstIsOne
   pub none : NoneIsFirst
 
-same_tree : Known → (bytes : Text) (tree tree' : Module) → IsRead bytes tree → IsRead bytes tree' → tree ≡ tree'
-same_tree k bytes tree tree' h h' = k.trees false bytes tree tree' h.spelled h'.spelled
+same_tree : Known → (many : Bool) (bytes : Text) (tree tree' : Module) → IsRead many bytes tree → IsRead many bytes tree' → tree ≡ tree'
+same_tree k many bytes tree tree' h h' = k.trees many bytes tree tree' h.spelled h'.spelled
 
-no_fault : Known → (bytes : Text) → IsBytes bytes → (tree : Module) (fault : ReadFault) → IsRead bytes tree → read_fault bytes false ≡ Some fault → ⊥
-no_fault k bytes are tree fault h found = let e : None ≡ Some fault = sym ((k.faults false bytes are).1 (tree, h.spelled, h.within)) ∙ found in cc
+no_fault : Known → (many : Bool) (bytes : Text) → IsBytes bytes → (tree : Module) (fault : ReadFault) → IsRead many bytes tree → read_fault bytes many ≡ Some fault → ⊥
+no_fault k many bytes are tree fault h found = let e : None ≡ Some fault = sym ((k.faults many bytes are).1 (tree, h.spelled, h.within)) ∙ found in cc
 
-not_first : Known → (bytes : Text) (tree tree' : Module) (item : Invalid) → IsRead bytes tree → IsAccepted tree → IsRead bytes tree' → IsFirstInvalid tree' false item → ⊥
-not_first k bytes tree tree' item h accepted h' first =
-    let P : Module → Type 0 = λ t. IsFirstInvalid t false item in
-    k.none tree item accepted.valid accepted.single (subst P (same_tree k bytes tree' tree h' h) first)
+not_first : Known → (many : Bool) (bytes : Text) (tree tree' : Module) (item : Invalid) → IsRead many bytes tree → IsAccepted many tree → IsRead many bytes tree' → IsFirstInvalid tree' many item → ⊥
+not_first k many bytes tree tree' item h accepted h' first =
+    let P : Module → Type 0 = λ t. IsFirstInvalid t many item in
+    k.none many tree item accepted.valid accepted.single (subst P (same_tree k many bytes tree' tree h' h) first)
 
-loads_once : Known → (file bytes : Text) → IsBytes bytes → (one other : Result Module Text) → Loads file bytes one → Loads file bytes other → one ≡ other
-loads_once k file bytes are one other (loaded tree h accepted) (loaded tree' h' accepted') = ap Ok (same_tree k bytes tree tree' h h')
-loads_once k file bytes are one other (loaded tree h accepted) (faulty fault text found told) = absurd (no_fault k bytes are tree fault h found)
-loads_once k file bytes are one other (loaded tree h accepted) (invalid tree' item h' first) = absurd (not_first k bytes tree tree' item h accepted h' first)
-loads_once k file bytes are one other (faulty fault text found told) (loaded tree h accepted) = absurd (no_fault k bytes are tree fault h found)
-loads_once k file bytes are one other (faulty fault text found told) (faulty fault' text' found' told') =
+loads_once : Known → (many : Bool) (file bytes : Text) → IsBytes bytes → (one other : Result Module Text) → Loads many file bytes one → Loads many file bytes other → one ≡ other
+loads_once k many file bytes are one other (loaded tree h accepted) (loaded tree' h' accepted') = ap Ok (same_tree k many bytes tree tree' h h')
+loads_once k many file bytes are one other (loaded tree h accepted) (faulty fault text found told) = absurd (no_fault k many bytes are tree fault h found)
+loads_once k many file bytes are one other (loaded tree h accepted) (invalid tree' item h' first) = absurd (not_first k many bytes tree tree' item h accepted h' first)
+loads_once k many file bytes are one other (faulty fault text found told) (loaded tree h accepted) = absurd (no_fault k many bytes are tree fault h found)
+loads_once k many file bytes are one other (faulty fault text found told) (faulty fault' text' found' told') =
     let same : fault ≡ fault' = cc in
     let texts : Some text ≡ Some text' = sym told ∙ ap (fault_text file) same ∙ told' in
     let text_is : text ≡ text' = cc in
     ap Err text_is
-loads_once k file bytes are one other (faulty fault text found told) (invalid tree item h first) = absurd (no_fault k bytes are tree fault h found)
-loads_once k file bytes are one other (invalid tree item h first) (loaded tree' h' accepted) = absurd (not_first k bytes tree' tree item h' accepted h first)
-loads_once k file bytes are one other (invalid tree item h first) (faulty fault text found told) = absurd (no_fault k bytes are tree fault h found)
-loads_once k file bytes are one other (invalid tree item h first) (invalid tree' item' h' first') =
-    let P : Module → Type 0 = λ t. IsFirstInvalid t false item in
-    ap (λ i. Err (invalid_text file i)) (k.first tree' item item' (subst P (same_tree k bytes tree tree' h h') first) first')
+loads_once k many file bytes are one other (faulty fault text found told) (invalid tree item h first) = absurd (no_fault k many bytes are tree fault h found)
+loads_once k many file bytes are one other (invalid tree item h first) (loaded tree' h' accepted) = absurd (not_first k many bytes tree' tree item h' accepted h first)
+loads_once k many file bytes are one other (invalid tree item h first) (faulty fault text found told) = absurd (no_fault k many bytes are tree fault h found)
+loads_once k many file bytes are one other (invalid tree item h first) (invalid tree' item' h' first') =
+    let P : Module → Type 0 = λ t. IsFirstInvalid t many item in
+    ap (λ i. Err (invalid_text file i)) (k.first many tree' item item' (subst P (same_tree k many bytes tree tree' h h') first) first')
 
 -- the contents of the entries are bytes
 abbrev pub AreBytes : List Entry → Type 0
@@ -95,46 +93,39 @@ file_bytes name left None rest inputs are more e = absurd (cc)
 file_bytes name left (Some bytes) rest inputs are more e =
     first_bytes_are (name, bytes) (rest (left - length bytes)) inputs (are bytes refl) (λ r h. more r (left - length bytes) h) (within_left (ltb left (length bytes)) name _ inputs e)
 
-gathered_bytes : (files : Contents) → HoldBytes files → (names : List Text) (most : ℕ) (inputs : List Entry) → gathered names files most ≡ Whole inputs → AreBytes inputs
+pub gathered_bytes : (files : Contents) → HoldBytes files → (names : List Text) (most : ℕ) (inputs : List Entry) → gathered names files most ≡ Whole inputs → AreBytes inputs
 gathered_bytes files hold [] most inputs e = subst AreBytes (whole_is [] inputs e) tt
 gathered_bytes files hold (name ∷ names) most inputs e =
     file_bytes name most (get files name) (gathered names files) inputs (λ bytes h. hold name bytes h) (λ more n h. gathered_bytes files hold names n more h) e
 
-one_tree : Known → (file bytes : Text) → IsBytes bytes → (tree tree' : Module) → Loads file bytes (Ok tree) → Loads file bytes (Ok tree') → tree ≡ tree'
-one_tree reads file bytes are tree tree' h k = let same : ◌≡◌ {A = Result Module Text} (Ok tree) (Ok tree') = loads_once reads file bytes are (Ok tree) (Ok tree') h k in cc
+one_tree : Known → (many : Bool) (file bytes : Text) → IsBytes bytes → (tree tree' : Module) → Loads many file bytes (Ok tree) → Loads many file bytes (Ok tree') → tree ≡ tree'
+one_tree reads many file bytes are tree tree' h k = let same : ◌≡◌ {A = Result Module Text} (Ok tree) (Ok tree') = loads_once reads many file bytes are (Ok tree) (Ok tree') h k in cc
 
-two_ways : Known → (file bytes : Text) → IsBytes bytes → (tree : Module) (text : Text) → Loads file bytes (Ok tree) → Loads file bytes (Err text) → ⊥
-two_ways reads file bytes are tree text h k = let same : Ok tree ≡ Err text = loads_once reads file bytes are (Ok tree) (Err text) h k in cc
+two_ways : Known → (many : Bool) (file bytes : Text) → IsBytes bytes → (tree : Module) (text : Text) → Loads many file bytes (Ok tree) → Loads many file bytes (Err text) → ⊥
+two_ways reads many file bytes are tree text h k = let same : Ok tree ≡ Err text = loads_once reads many file bytes are (Ok tree) (Err text) h k in cc
 
 -- all files load as the same trees, or the same one fails
-trees_once : Known → (files : List Entry) (trees trees' : List Module) → AllLoad files trees → AllLoad files trees' → AreBytes files → trees ≡ trees'
-trees_once k [] [] [] h h' are = refl
-trees_once k (file ∷ files) (tree ∷ trees) (tree' ∷ trees') h h' are = ap₂ (λ (t : Module) (ts : List Module). t ∷ ts) (one_tree k file.0 file.1 are.0 tree tree' h.0 h'.0) (trees_once k files trees trees' h.1 h'.1 are.1)
-trees_once k [] [] (tree' ∷ trees') h h' are = absurd h'
-trees_once k [] (tree ∷ trees) trees' h h' are = absurd h
-trees_once k (file ∷ files) [] trees' h h' are = absurd h
-trees_once k (file ∷ files) (tree ∷ trees) [] h h' are = absurd h'
+trees_once : Known → (many : Bool) (files : List Entry) (trees trees' : List Module) → AllLoad many files trees → AllLoad many files trees' → AreBytes files → trees ≡ trees'
+trees_once k many [] [] [] h h' are = refl
+trees_once k many (file ∷ files) (tree ∷ trees) (tree' ∷ trees') h h' are = ap₂ (λ (t : Module) (ts : List Module). t ∷ ts) (one_tree k many file.0 file.1 are.0 tree tree' h.0 h'.0) (trees_once k many files trees trees' h.1 h'.1 are.1)
+trees_once k many [] [] (tree' ∷ trees') h h' are = absurd h'
+trees_once k many [] (tree ∷ trees) trees' h h' are = absurd h
+trees_once k many (file ∷ files) [] trees' h h' are = absurd h
+trees_once k many (file ∷ files) (tree ∷ trees) [] h h' are = absurd h'
 
-fails_once : Known → (files : List Entry) (text text' : Text) → OneFails files text → OneFails files text' → AreBytes files → text ≡ text'
-fails_once k [] text text' h h' are = absurd h
-fails_once k (file ∷ files) text text' (inl h) (inl h') are =
-    let same : ◌≡◌ {A = Result Module Text} (Err text) (Err text') = loads_once k file.0 file.1 are.0 (Err text) (Err text') h h' in cc
-fails_once k (file ∷ files) text text' (inl h) (inr (tree, loads, later)) are = absurd (two_ways k file.0 file.1 are.0 tree text loads h)
-fails_once k (file ∷ files) text text' (inr (tree, loads, later)) (inl h') are = absurd (two_ways k file.0 file.1 are.0 tree text' loads h')
-fails_once k (file ∷ files) text text' (inr (tree, loads, later)) (inr (tree', loads', later')) are = fails_once k files text text' later later' are.1
+fails_once : Known → (many : Bool) (files : List Entry) (text text' : Text) → OneFails many files text → OneFails many files text' → AreBytes files → text ≡ text'
+fails_once k many [] text text' h h' are = absurd h
+fails_once k many (file ∷ files) text text' (inl h) (inl h') are =
+    let same : ◌≡◌ {A = Result Module Text} (Err text) (Err text') = loads_once k many file.0 file.1 are.0 (Err text) (Err text') h h' in cc
+fails_once k many (file ∷ files) text text' (inl h) (inr (tree, loads, later)) are = absurd (two_ways k many file.0 file.1 are.0 tree text loads h)
+fails_once k many (file ∷ files) text text' (inr (tree, loads, later)) (inl h') are = absurd (two_ways k many file.0 file.1 are.0 tree text' loads h')
+fails_once k many (file ∷ files) text text' (inr (tree, loads, later)) (inr (tree', loads', later')) are = fails_once k many files text text' later later' are.1
 
-load_or_fail : Known → (files : List Entry) (trees : List Module) (text : Text) → AllLoad files trees → OneFails files text → AreBytes files → ⊥
-load_or_fail k [] trees text h f are = f
-load_or_fail k (file ∷ files) [] text h f are = h
-load_or_fail k (file ∷ files) (tree ∷ trees) text h (inl f) are = two_ways k file.0 file.1 are.0 tree text h.0 f
-load_or_fail k (file ∷ files) (tree ∷ trees) text h (inr (tree', loads, later)) are = load_or_fail k files trees text h.1 later are.1
-
--- a tree is written or too large
-writes_once : (output : Text) (tree : Module) (one other : Job) → Writes output tree one → Writes output tree other → one ≡ other
-writes_once output tree one other (too_large large) (too_large large') = refl
-writes_once output tree one other (too_large large) (written fits) = absurd (omega arith)
-writes_once output tree one other (written fits) (too_large large) = absurd (omega arith)
-writes_once output tree one other (written fits) (written fits') = refl
+load_or_fail : Known → (many : Bool) (files : List Entry) (trees : List Module) (text : Text) → AllLoad many files trees → OneFails many files text → AreBytes files → ⊥
+load_or_fail k many [] trees text h f are = f
+load_or_fail k many (file ∷ files) [] text h f are = h
+load_or_fail k many (file ∷ files) (tree ∷ trees) text h (inl f) are = two_ways k many file.0 file.1 are.0 tree text h.0 f
+load_or_fail k many (file ∷ files) (tree ∷ trees) text h (inr (tree', loads, later)) are = load_or_fail k many files trees text h.1 later are.1
 
 text_once : (one other : Text) → Some one ≡ Some other → one ≡ other
 text_once one other e = cc
@@ -149,39 +140,37 @@ link_text_once files parts fault fault' text text' h h' e e' =
 join_text_once : (fault fault' : JoinFault) (text text' : Text) → ◌≡◌ {A = Result Module JoinFault} (Err fault) (Err fault') → join_text fault ≡ Some text → join_text fault' ≡ Some text' → text ≡ text'
 join_text_once fault fault' text text' h e e' = let same : fault ≡ fault' = cc in text_once text text' (sym e ∙ ap join_text same ∙ e')
 
-merges_once : Known → (sources : List Source) (output : Text) (mode : Mode) (files : List Entry) (one other : Job) → Merges sources output mode files one → Merges sources output mode files other → AreBytes files → one ≡ other
-merges_once k sources output mode files one other (not_loaded text h) (not_loaded text' h') are = ap Refused (fails_once k files text text' h h' are)
-merges_once k sources output mode files one other (not_loaded text h) (not_linked trees fault text' loads found says) are = absurd (load_or_fail k files trees text loads h are)
-merges_once k sources output mode files one other (not_loaded text h) (not_joined trees fault text' loads linked found says) are = absurd (load_or_fail k files trees text loads h are)
-merges_once k sources output mode files one other (not_loaded text h) (merged trees tree job loads is writes) are = absurd (load_or_fail k files trees text loads h are)
-merges_once k sources output mode files one other (not_linked trees fault text loads found says) (not_loaded text' h) are = absurd (load_or_fail k files trees text' loads h are)
-merges_once k sources output mode files one other (not_linked trees fault text loads found says) (not_linked trees' fault' text' loads' found' says') are =
-    let same : link_fault (parts_of sources trees') ≡ Some fault = sym (ap (λ ts. link_fault (parts_of sources ts)) (trees_once k files trees trees' loads loads' are)) ∙ found in
-    ap Refused (link_text_once (map (λ s. s.file) sources) (parts_of sources trees') fault fault' text text' same found' says says')
-merges_once k sources output mode files one other (not_linked trees fault text loads found says) (not_joined trees' fault' text' loads' linked found' says') are =
-    absurd (let both : None ≡ Some fault = sym linked ∙ sym (ap (λ ts. link_fault (parts_of sources ts)) (trees_once k files trees trees' loads loads' are)) ∙ found in cc)
-merges_once k sources output mode files one other (not_linked trees fault text loads found says) (merged trees' tree job loads' is writes) are =
-    absurd (let both : None ≡ Some fault = sym is.0 ∙ sym (ap (λ ts. link_fault (parts_of sources ts)) (trees_once k files trees trees' loads loads' are)) ∙ found in cc)
-merges_once k sources output mode files one other (not_joined trees fault text loads linked found says) (not_loaded text' h) are = absurd (load_or_fail k files trees text' loads h are)
-merges_once k sources output mode files one other (not_joined trees fault text loads linked found says) (not_linked trees' fault' text' loads' found' says') are =
-    absurd (let both : None ≡ Some fault' = sym linked ∙ ap (λ ts. link_fault (parts_of sources ts)) (trees_once k files trees trees' loads loads' are) ∙ found' in cc)
-merges_once k sources output mode files one other (not_joined trees fault text loads linked found says) (not_joined trees' fault' text' loads' linked' found' says') are =
-    ap Refused (join_text_once fault fault' text text' (sym found ∙ ap (λ ts. join_of (parts_of sources ts) mode) (trees_once k files trees trees' loads loads' are) ∙ found') says says')
-merges_once k sources output mode files one other (not_joined trees fault text loads linked found says) (merged trees' tree job loads' is writes) are =
-    absurd (let both : ◌≡◌ {A = Result Module JoinFault} (Err fault) (Ok tree) = sym found ∙ ap (λ ts. join_of (parts_of sources ts) mode) (trees_once k files trees trees' loads loads' are) ∙ is.1 in cc)
-merges_once k sources output mode files one other (merged trees tree job loads is writes) (not_loaded text' h) are = absurd (load_or_fail k files trees text' loads h are)
-merges_once k sources output mode files one other (merged trees tree job loads is writes) (not_linked trees' fault' text' loads' found' says') are =
-    absurd (let both : None ≡ Some fault' = sym is.0 ∙ ap (λ ts. link_fault (parts_of sources ts)) (trees_once k files trees trees' loads loads' are) ∙ found' in cc)
-merges_once k sources output mode files one other (merged trees tree job loads is writes) (not_joined trees' fault' text' loads' linked' found' says') are =
-    absurd (let both : ◌≡◌ {A = Result Module JoinFault} (Ok tree) (Err fault') = sym is.1 ∙ ap (λ ts. join_of (parts_of sources ts) mode) (trees_once k files trees trees' loads loads' are) ∙ found' in cc)
-merges_once k sources output mode files one other (merged trees tree job loads is writes) (merged trees' tree' job' loads' is' writes') are =
-    let both : ◌≡◌ {A = Result Module JoinFault} (Ok tree) (Ok tree') = sym is.1 ∙ ap (λ ts. join_of (parts_of sources ts) mode) (trees_once k files trees trees' loads loads' are) ∙ is'.1 in
+merges_once : (merge : MergeTask) (trees : List Module) (one other : Decision) → Merges merge trees one → Merges merge trees other → one ≡ other
+merges_once merge trees one other (not_linked fault text found says) (not_linked fault' text' found' says') =
+    ap Refuses (link_text_once (source_files merge) (parts_of merge.sources trees) fault fault' text text' found found' says says')
+merges_once merge trees one other (not_linked fault text found says) (not_joined fault' text' linked found' says') = absurd (let both : None ≡ Some fault = sym linked ∙ found in cc)
+merges_once merge trees one other (not_linked fault text found says) (merged tree is) = absurd (let both : None ≡ Some fault = sym is.0 ∙ found in cc)
+merges_once merge trees one other (not_joined fault text linked found says) (not_linked fault' text' found' says') = absurd (let both : None ≡ Some fault' = sym linked ∙ found' in cc)
+merges_once merge trees one other (not_joined fault text linked found says) (not_joined fault' text' linked' found' says') = ap Refuses (join_text_once fault fault' text text' (sym found ∙ found') says says')
+merges_once merge trees one other (not_joined fault text linked found says) (merged tree is) = absurd (let both : ◌≡◌ {A = Result Module JoinFault} (Err fault) (Ok tree) = sym found ∙ is.1 in cc)
+merges_once merge trees one other (merged tree is) (not_linked fault' text' found' says') = absurd (let both : None ≡ Some fault' = sym is.0 ∙ found' in cc)
+merges_once merge trees one other (merged tree is) (not_joined fault' text' linked' found' says') = absurd (let both : ◌≡◌ {A = Result Module JoinFault} (Ok tree) (Err fault') = sym is.1 ∙ found' in cc)
+merges_once merge trees one other (merged tree is) (merged tree' is') =
+    let both : ◌≡◌ {A = Result Module JoinFault} (Ok tree) (Ok tree') = sym is.1 ∙ is'.1 in
     let same : tree ≡ tree' = cc in
-    let P : Module → Type 0 = λ t. Writes output t job in
-    writes_once output tree' job job' (subst P same writes) writes'
+    ap (λ (t : Module). Makes (record { name = merge.output; tree = t; custom = [] } ∷ []) []) same
 
-decides_once : Known → (t : Task) (inputs : List Entry) → AreBytes inputs → (one other : Job) → Decides t inputs one → Decides t inputs other → one ≡ other
-decides_once reads (Merge sources output mode) inputs are one other h k = merges_once reads sources output mode inputs one other h k are
+decides_once : (t : Task) (trees : List Module) (texts : List Text) (one other : Decision) → Decides t trees texts one → Decides t trees texts other → one ≡ other
+decides_once (Merge merge) trees texts one other h k = merges_once merge trees one other h k
+
+pub first_are_bytes : (n : ℕ) (files : List Entry) → AreBytes files → AreBytes (take n files)
+first_are_bytes zero files are = tt
+first_are_bytes (suc n) [] are = tt
+first_are_bytes (suc n) (file ∷ files) are = (are.0, first_are_bytes n files are.1)
+
+inputs_once : Known → (t : Task) (inputs : List Entry) → AreBytes inputs → (one other : Job) → InputsJob t inputs one → InputsJob t inputs other → one ≡ other
+inputs_once k t inputs are one other (not_loaded text h) (not_loaded text' h') = ap Refused (fails_once k (many_of t) (module_files t inputs) text text' h h' (first_are_bytes (length (modules_of t)) inputs are))
+inputs_once k t inputs are one other (not_loaded text h) (decided trees decision loads d) = absurd (load_or_fail k (many_of t) (module_files t inputs) trees text loads h (first_are_bytes (length (modules_of t)) inputs are))
+inputs_once k t inputs are one other (decided trees decision loads d) (not_loaded text h) = absurd (load_or_fail k (many_of t) (module_files t inputs) trees text loads h (first_are_bytes (length (modules_of t)) inputs are))
+inputs_once k t inputs are one other (decided trees decision loads d) (decided trees' decision' loads' d') =
+    let P : List Module → Type 0 = λ ts. Decides t ts (text_contents t inputs) decision in
+    let same = trees_once k (many_of t) (module_files t inputs) trees trees' loads loads' (first_are_bytes (length (modules_of t)) inputs are) in
+    ap job_of (decides_once t trees' (text_contents t inputs) decision decision' (subst P same d) d')
 
 task_jobs_once : Known → (t : Task) (files : Contents) → HoldBytes files → (one other : Job) → TaskJob t files one → TaskJob t files other → one ≡ other
 task_jobs_once reads t files hold one other (not_begun text e) (not_begun text' e') =
@@ -190,25 +179,25 @@ task_jobs_once reads t files hold one other (not_begun text e) (not_begun text' 
     ap Refused same
 task_jobs_once reads t files hold one other (not_begun text e) (missing name' b' e') = absurd (let u = sym e ∙ b' in cc)
 task_jobs_once reads t files hold one other (not_begun text e) (too_long name' b' e') = absurd (let u = sym e ∙ b' in cc)
-task_jobs_once reads t files hold one other (not_begun text e) (decided inputs' job' b' e' d') = absurd (let u = sym e ∙ b' in cc)
+task_jobs_once reads t files hold one other (not_begun text e) (all_read inputs' job' b' e' d') = absurd (let u = sym e ∙ b' in cc)
 task_jobs_once reads t files hold one other (missing name b e) (not_begun text' e') = absurd (let u = sym b ∙ e' in cc)
 task_jobs_once reads t files hold one other (missing name b e) (missing name' b' e') = refl
 task_jobs_once reads t files hold one other (missing name b e) (too_long name' b' e') = absurd (let u = sym e ∙ e' in cc)
-task_jobs_once reads t files hold one other (missing name b e) (decided inputs' job' b' e' d') = absurd (let u = sym e ∙ e' in cc)
+task_jobs_once reads t files hold one other (missing name b e) (all_read inputs' job' b' e' d') = absurd (let u = sym e ∙ e' in cc)
 task_jobs_once reads t files hold one other (too_long name b e) (not_begun text' e') = absurd (let u = sym b ∙ e' in cc)
 task_jobs_once reads t files hold one other (too_long name b e) (missing name' b' e') = absurd (let u = sym e ∙ e' in cc)
 task_jobs_once reads t files hold one other (too_long name b e) (too_long name' b' e') =
     let u = sym e ∙ e' in
     let same : name ≡ name' = cc in
     ap (λ n. Refused (over_limit n InputBytes)) same
-task_jobs_once reads t files hold one other (too_long name b e) (decided inputs' job' b' e' d') = absurd (let u = sym e ∙ e' in cc)
-task_jobs_once reads t files hold one other (decided inputs job b e d) (not_begun text' e') = absurd (let u = sym b ∙ e' in cc)
-task_jobs_once reads t files hold one other (decided inputs job b e d) (missing name' b' e') = absurd (let u = sym e ∙ e' in cc)
-task_jobs_once reads t files hold one other (decided inputs job b e d) (too_long name' b' e') = absurd (let u = sym e ∙ e' in cc)
-task_jobs_once reads t files hold one other (decided inputs job b e d) (decided inputs' job' b' e' d') =
+task_jobs_once reads t files hold one other (too_long name b e) (all_read inputs' job' b' e' d') = absurd (let u = sym e ∙ e' in cc)
+task_jobs_once reads t files hold one other (all_read inputs job b e d) (not_begun text' e') = absurd (let u = sym b ∙ e' in cc)
+task_jobs_once reads t files hold one other (all_read inputs job b e d) (missing name' b' e') = absurd (let u = sym e ∙ e' in cc)
+task_jobs_once reads t files hold one other (all_read inputs job b e d) (too_long name' b' e') = absurd (let u = sym e ∙ e' in cc)
+task_jobs_once reads t files hold one other (all_read inputs job b e d) (all_read inputs' job' b' e' d') =
     let u = sym e ∙ e' in
     let same : inputs ≡ inputs' = cc in
-    decides_once reads t inputs' (gathered_bytes files hold (inputs_of t) most_input inputs' e') job job' (let P : List Entry → Type 0 = λ l. Decides t l job in subst P same d) d'
+    inputs_once reads t inputs' (gathered_bytes files hold (inputs_of t) most_input inputs' e') job job' (let P : List Entry → Type 0 = λ l. InputsJob t l job in subst P same d) d'
 
 pub jobs_once : Known → (words : List Text) (files : Contents) → HoldBytes files → (one other : Job) → HasJob words files one → HasJob words files other → one ≡ other
 jobs_once reads words files hold one other (no_task e) (no_task e') = refl

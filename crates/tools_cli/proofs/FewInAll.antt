@@ -1,5 +1,5 @@
 -- What stands in the parts of a merge together.
-use Rattle.std.proofs.Common.{◌≡◌, refl, ap, subst, ℕ, zero, suc, ◌*◌, ◌≤◌, ◌<◌, ◌^◌, List, [], ◌∷◌, length, length-append, Some, None, Ok, Result, cond, ltb, true, false, Bool, arith}
+use Rattle.std.proofs.Common.{◌≡◌, refl, ap, ℕ, zero, suc, ◌*◌, ◌≤◌, ◌<◌, ◌^◌, List, [], ◌∷◌, length, length-append, Some, None, cond, ltb, true, false, Bool, arith}
 use Rattle.wasm_tree.specs.declared.space.Space.{Space}
 use Rattle.wasm_tree.specs.declared.space.Space.TheVariants.{Types, Functions, Tables, Memories, Globals, ElementSegments, DataSegments}
 use Rattle.wasm_tree.specs.declared.which.Which.TheVariants as which
@@ -12,12 +12,10 @@ use Rattle.wasm_meaning.specs.Linking.{Part, sites_in, sites_from, sites}
 use Rattle.base_lists.specs.Places.{count_of}
 use Rattle.merge_terms.specs.Merged.{imports_kind}
 use Rattle.merge_terms.specs.Joined as joined
-use Rattle.tools_cli.specs.Words.{Text, Source, Merge}
-use Rattle.tools_cli.specs.Effects.{Entry}
-use Rattle.export_names.specs.declared.mode.Mode.{Mode}
+use Rattle.tools_cli.specs.Words.{Source, MergeTask, Merge}
 use Rattle.tools_cli.specs.Texts.{parts_over_limit}
-use Rattle.tools_cli.specs.Job.{Loads, loaded, faulty, invalid, AllLoad, parts_of, refused_before, most_parts}
-use Rattle.tools_cli.proofs.Limits.{IsWithinLimits, read_within}
+use Rattle.tools_cli.specs.Job.{parts_of, refused_before, most_parts}
+use Rattle.tools_cli.specs.Causes.{IsWithinLimits}
 
 abbrev pub EachWithin : List Part → Type 0
 EachWithin = Every (λ (p : Part). IsWithinLimits p.«module»)
@@ -91,37 +89,25 @@ few_in_all ps few h = record {
 
 -- ---- the parts of a merge
 
-loaded_within : (file bytes : Text) (r : Result Module Text) (tree : Module) → r ≡ Ok tree → Loads file bytes r → IsWithinLimits tree
-loaded_within file bytes r tree e (loaded other h accepted) = let same : other ≡ tree = cc in subst IsWithinLimits same (read_within bytes other h)
-loaded_within file bytes r tree e (faulty fault text found told) = absurd (cc)
-loaded_within file bytes r tree e (invalid other item h first) = absurd (cc)
-
-parts_within : (sources : List Source) (files : List Entry) (trees : List Module) → AllLoad files trees → EachWithin (parts_of sources trees)
-parts_within [] files trees h = tt
-parts_within (s ∷ sources) files [] h = tt
-parts_within (s ∷ sources) [] (tree ∷ trees) h = absurd h
-parts_within (s ∷ sources) (file ∷ files) (tree ∷ trees) h = (loaded_within file.0 file.1 (Ok tree) tree refl h.0, parts_within sources files trees h.1)
+parts_within : (sources : List Source) (trees : List Module) → Every IsWithinLimits trees → EachWithin (parts_of sources trees)
+parts_within [] trees h = tt
+parts_within (s ∷ sources) [] h = tt
+parts_within (s ∷ sources) (tree ∷ trees) h = (h.0, parts_within sources trees h.1)
 
 parts_count : (sources : List Source) (trees : List Module) → length (parts_of sources trees) ≤ length sources
 parts_count [] trees = omega arith
 parts_count (s ∷ sources) [] = omega arith
 parts_count (s ∷ sources) (tree ∷ trees) = omega (arith, parts_count sources trees)
 
-pub parts_few : (sources : List Source) (files : List Entry) (trees : List Module) → length sources ≤ most_parts → AllLoad files trees → joined.FewInAll (parts_of sources trees)
-parts_few sources files trees few h = few_in_all (parts_of sources trees) (omega (arith, parts_count sources trees)) (parts_within sources files trees h)
+pub parts_few : (sources : List Source) (trees : List Module) → length sources ≤ most_parts → Every IsWithinLimits trees → joined.FewInAll (parts_of sources trees)
+parts_few sources trees few h = few_in_all (parts_of sources trees) (omega (arith, parts_count sources trees)) (parts_within sources trees h)
 
-pub imports_few : (sources : List Source) (files : List Entry) (trees : List Module) → length sources ≤ most_parts → AllLoad files trees → length (sites (parts_of sources trees)) < 2 ^ 32
-imports_few sources files trees few h = let within = sites_few 0 (parts_of sources trees) (parts_within sources files trees h) in omega (arith, parts_count sources trees, within)
-
-pub as_many : (files : List Entry) (trees : List Module) → AllLoad files trees → length trees ≡ length files
-as_many [] [] h = refl
-as_many [] (tree ∷ trees) h = absurd h
-as_many (file ∷ files) [] h = absurd h
-as_many (file ∷ files) (tree ∷ trees) h = ap suc (as_many files trees h.1)
+pub imports_few : (sources : List Source) (trees : List Module) → length sources ≤ most_parts → Every IsWithinLimits trees → length (sites (parts_of sources trees)) < 2 ^ 32
+imports_few sources trees few h = let within = sites_few 0 (parts_of sources trees) (parts_within sources trees h) in omega (arith, parts_count sources trees, within)
 
 over_or_not : (b : Bool) → cond b (Some parts_over_limit) None ≡ None → b ≡ false
 over_or_not true e = absurd (cc)
 over_or_not false e = refl
 
-pub begun_few : (sources : List Source) (output : Text) (mode : Mode) → refused_before (Merge sources output mode) ≡ None → length sources ≤ most_parts
-begun_few sources output mode e = let test = over_or_not (ltb most_parts (length sources)) e in grind (arith, nat_tests)
+pub begun_few : (merge : MergeTask) → refused_before (Merge merge) ≡ None → length merge.sources ≤ most_parts
+begun_few merge e = let test = over_or_not (ltb most_parts (length merge.sources)) e in grind (arith, nat_tests)

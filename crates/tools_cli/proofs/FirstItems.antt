@@ -1,5 +1,5 @@
 -- One item at most is the first that does not hold.
-use Rattle.std.proofs.Common.{◌≡◌, ◌∙◌, sym, ap, ap₂, subst, ℕ, List, [], ◌∷◌, ◌++◌, length, false}
+use Rattle.std.proofs.Common.{◌≡◌, ◌∙◌, sym, ap, ap₂, subst, ℕ, List, [], ◌∷◌, ◌++◌, length, Bool, true, false, refl}
 use Rattle.wasm_tree.specs.declared.module.Module.{Module}
 use Rattle.wasm_valid.specs.declared.kinds.ItemKind.{ItemKind}
 use Rattle.wasm_valid.specs.declared.kinds.ItemKind.TheVariants as kind
@@ -23,8 +23,8 @@ split_once m [] (y ∷ b') x x' a a' e h fails h' fails' = absurd (fails (subst 
 split_once m (y ∷ b) [] x x' a a' e h fails h' fails' = absurd (fails' (subst (Holds m) (heads y x' (b ++ x ∷ a) a' e) h.0))
 split_once m (y ∷ b) (z ∷ b') x x' a a' e h fails h' fails' = split_once m b b' x x' a a' (tails y z (b ++ x ∷ a) (b' ++ x' ∷ a') e) h.1 fails h'.1 fails'
 
-pub first_is_one : (m : Module) (one other : Invalid) → IsFirstInvalid m false one → IsFirstInvalid m false other → one ≡ other
-first_is_one m one other (x, before, after, split, hold, fails, kind_is, index_is) (x', before', after', split', hold', fails', kind_is', index_is') =
+pub first_is_one : (many : Bool) (m : Module) (one other : Invalid) → IsFirstInvalid m many one → IsFirstInvalid m many other → one ≡ other
+first_is_one many m one other (x, before, after, split, hold, fails, kind_is, index_is) (x', before', after', split', hold', fails', kind_is', index_is') =
     let same = split_once m before before' x x' after after' (sym split ∙ split') hold fails hold' fails' in
     let kinds : one.kind ≡ other.kind = kind_is ∙ ap (λ (i : Item). i.kind) same ∙ sym kind_is' in
     let indexes : one.index ≡ other.index = index_is ∙ ap (λ (i : Item). index_of m i.kind i.place) same ∙ sym index_is' in
@@ -39,10 +39,11 @@ each_at : (m : Module) (before after : List Item) (x : Item) → EachHolds m (be
 each_at m [] after x h = h.0
 each_at m (z ∷ before) after x h = each_at m before after x h.1
 
--- all items of an accepted module hold, the number of memories too
-all_hold : (m : Module) → IsValid m → IsSingle m → EachHolds m (items m false)
-all_hold m valid single = each_insert m (span kind.Import 0 (length m.imports)) _ (item kind.Memories 0) valid single
+-- all items of an accepted module hold, the number of memories too where it is tested
+pub all_hold : (many : Bool) (m : Module) → IsValid m → (many ≡ false → IsSingle m) → EachHolds m (items m many)
+all_hold true m valid single = valid
+all_hold false m valid single = each_insert m (span kind.Import 0 (length m.imports)) _ (item kind.Memories 0) valid (single refl)
 
-pub none_is_first : (m : Module) (e : Invalid) → IsValid m → IsSingle m → IsFirstInvalid m false e → ⊥
-none_is_first m e valid single (x, before, after, split, hold, fails, kind_is, index_is) =
-    fails (each_at m before after x (subst (EachHolds m) split (all_hold m valid single)))
+pub none_is_first : (many : Bool) (m : Module) (e : Invalid) → IsValid m → (many ≡ false → IsSingle m) → IsFirstInvalid m many e → ⊥
+none_is_first many m e valid single (x, before, after, split, hold, fails, kind_is, index_is) =
+    fails (each_at m before after x (subst (EachHolds m) split (all_hold many m valid single)))

@@ -1,13 +1,14 @@
 -- A job that is done keeps the module that it read.
-use Rattle.std.proofs.Common.{Bool, true, false, cond, ltb, ◌≡◌, ◌∙◌, refl, sym, ap, subst, map, ℕ, zero, suc, ◌-◌, List, [], ◌∷◌, length, Option, Some, None, IfSome, IfOk, Result, Ok, ◌<◌, ◌^◌, arith}
+use Rattle.std.proofs.Common.{Bool, true, false, not, ◌&&◌, cond, ltb, ◌≡◌, ◌∙◌, refl, sym, ap, subst, ℕ, zero, suc, ◌-◌, ◌≤◌, List, [], ◌∷◌, ◌++◌, append-nil, take, length, Option, Some, None, IfSome, IfOk, Result, Ok, ◌<◌, ◌^◌, arith}
+use Rattle.std.proofs.lemmas.Bool.Decides.{nat_tests}
 use Rattle.std.specs.FinMap.{get, insert, get-insert}
 use Rattle.std.specs.Cmp.{eq_by_cmp_equiv}
 use Rattle.std.proofs.lemmas.Cmp.{nat_list_cmp_total}
 use Rattle.tool_io.specs.Outside.{Contents}
-use Rattle.tools_cli.specs.Words.{Text, Source, Task, Merge, task_of}
+use Rattle.tools_cli.specs.Words.{Text, Source, MergeTask, Task, Merge, task_of, source_files, inputs_of}
 use Rattle.export_names.specs.declared.mode.Mode.{Mode}
 use Rattle.tools_cli.specs.Effects.{Entry, made}
-use Rattle.tools_cli.specs.Job.{IsRead, IsAccepted, Job, Usage, Missing, Refused, Done, Gathered, Whole, Lacks, TooLong, add_first, add_file, gathered, most_input, Loads, loaded, faulty, invalid, AllLoad, Writes, too_large, written, Merges, not_loaded, not_linked, not_joined, merged, parts_of, AreMerged, TaskJob, not_begun, missing, too_long, decided, HasJob, no_task, asked}
+use Rattle.tools_cli.specs.Job.{IsRead, IsAccepted, Job, Usage, Missing, Refused, Done, Gathered, Whole, Lacks, TooLong, add_first, add_file, gathered, most_input, most_output, Loads, loaded, faulty, invalid, AllLoad, Decision, Merges, not_linked, not_joined, merged, job_of, module_files, parts_of, AreMerged, InputsJob, not_loaded, decided, TaskJob, not_begun, missing, too_long, all_read, HasJob, no_task, asked}
 use Rattle.tools_cli.specs.Run.{EndsDone}
 use Rattle.tools_cli.specs.Kept.{HoldModules, TaskKeeps, Keeps, EndsKept}
 use Rattle.wasm_tree.specs.declared.module.Module.{Module}
@@ -53,7 +54,7 @@ joins_to (Some name) which m tree e = absurd (cc)
 joins_to None (Some which) m tree e = absurd (cc)
 joins_to None None m tree e = let same : m ≡ tree = cc in (refl, refl, same)
 
-merged_is_sound : Respelled → (parts : List Part) (mode : Mode) (tree : Module) → Every IsSound parts → Every (λ (p : Part). InRange p.«module») parts → AreMerged parts mode tree → IsAccepted tree × InRange tree × BehavesAs parts mode tree
+merged_is_sound : Respelled → (parts : List Part) (mode : Mode) (tree : Module) → Every IsSound parts → Every (λ (p : Part). InRange p.«module») parts → AreMerged parts mode tree → IsAccepted false tree × InRange tree × BehavesAs parts mode tree
 merged_is_sound k parts mode tree sound ranged is =
     let joins = joins_to (repeated_name parts mode) (over_limit (joined_module parts mode)) (joined_module parts mode) tree is.1 in
     let can : CanBeJoined parts mode = record {
@@ -65,8 +66,8 @@ merged_is_sound k parts mode tree sound ranged is =
     } in
     let valid = k.valid parts mode can in
     let single = k.single parts mode can in
-    let P : Module → Type 0 = λ m. IsAccepted m × InRange m × BehavesAs parts mode m in
-    subst P joins.2 (record { valid = valid; single = single }, k.in_range parts mode ranged valid single (k.sizes parts mode can), k.same parts mode can)
+    let P : Module → Type 0 = λ m. IsAccepted false m × InRange m × BehavesAs parts mode m in
+    subst P joins.2 (record { valid = valid; single = λ e. single }, k.in_range parts mode ranged valid single (k.sizes parts mode can), k.same parts mode can)
 
 -- what a job that is done keeps
 abbrev pub JobKeeps : List Text → Contents → Job → Type 0
@@ -75,11 +76,11 @@ JobKeeps words before Usage = Unit {0}
 JobKeeps words before Missing = Unit {0}
 JobKeeps words before (Refused text) = Unit {0}
 
-abbrev pub DecisionKeeps : Task → Contents → Job → Type 0
-DecisionKeeps task before (Done writes lines) = TaskKeeps task before (made writes before)
-DecisionKeeps task before Usage = Unit {0}
-DecisionKeeps task before Missing = Unit {0}
-DecisionKeeps task before (Refused text) = Unit {0}
+abbrev pub JobKept : Task → Contents → Job → Type 0
+JobKept task before (Done writes lines) = TaskKeeps task before (made writes before)
+JobKept task before Usage = Unit {0}
+JobKept task before Missing = Unit {0}
+JobKept task before (Refused text) = Unit {0}
 
 -- the file under a name that was just written
 written_there : (files : Contents) (name bytes : Text) → get (insert files name bytes) name ≡ Some bytes
@@ -107,77 +108,96 @@ first_file name left (Some bytes) rest files e =
     first_of_whole name bytes (left - length bytes) rest (rest (left - length bytes)) files refl (short_enough (ltb left (length bytes)) name (add_first (name, bytes) (rest (left - length bytes))) files e)
 
 -- what is loaded is read and accepted
-loaded_is : (file bytes : Text) (r : Result Module Text) → Loads file bytes r → IfOk r (λ tree. IsRead bytes tree × IsAccepted tree)
-loaded_is file bytes r (loaded tree h accepted) = (h, accepted)
-loaded_is file bytes r (faulty fault text e told) = tt
-loaded_is file bytes r (invalid tree item h first) = tt
+loaded_is : (many : Bool) (file bytes : Text) (r : Result Module Text) → Loads many file bytes r → IfOk r (λ tree. IsRead many bytes tree × IsAccepted many tree)
+loaded_is many file bytes r (loaded tree h accepted) = (h, accepted)
+loaded_is many file bytes r (faulty fault text e told) = tt
+loaded_is many file bytes r (invalid tree item h first) = tt
 
--- files that load hold the modules
-nothing_held : (before : Contents) (files : List Entry) (trees : List Module) → files ≡ [] → AllLoad files trees → HoldModules before [] trees
-nothing_held before [] [] e h = tt
-nothing_held before [] (tree ∷ trees) e h = absurd h
-nothing_held before (file ∷ files) trees e h = absurd (cc)
+-- files that load hold the modules; more files may be read behind them
+no_trees : (many : Bool) (before : Contents) (trees : List Module) → AllLoad many [] trees → HoldModules many before [] trees
+no_trees many before [] h = tt
+no_trees many before (tree ∷ trees) h = absurd h
 
-hold_first : (before : Contents) (name : Text) (names : List Text) (files : List Entry) (trees : List Module) → IsFirstFile name (get before name) (gathered names before) files → AllLoad files trees
-    → ((n : ℕ) (more : List Entry) (trees : List Module) → gathered names before n ≡ Whole more → AllLoad more trees → HoldModules before names trees) → HoldModules before (name ∷ names) trees
-hold_first before name names files [] (bytes, n, more, held, rest, is) h later = let P : List Entry → Type 0 = λ l. AllLoad l [] in absurd (subst P is h)
-hold_first before name names files (tree ∷ trees) (bytes, n, more, held, rest, is) h later =
-    let P : List Entry → Type 0 = λ l. AllLoad l (tree ∷ trees) in
-    let loads : Loads name bytes (Ok tree) × AllLoad more trees = subst P is h in
-    ((bytes, held, (loaded_is name bytes (Ok tree) loads.0).0.spelled), later n more trees rest loads.1)
+hold_first : (many : Bool) (before : Contents) (name : Text) (names more : List Text) (files : List Entry) (trees : List Module) → IsFirstFile name (get before name) (gathered (names ++ more) before) files
+    → AllLoad many (take (suc (length names)) files) trees
+    → ((n : ℕ) (rest : List Entry) (trees : List Module) → gathered (names ++ more) before n ≡ Whole rest → AllLoad many (take (length names) rest) trees → HoldModules many before names trees)
+    → HoldModules many before (name ∷ names) trees
+hold_first many before name names more files [] (bytes, n, rest, held, are, is) h later = let P : List Entry → Type 0 = λ l. AllLoad many (take (suc (length names)) l) [] in absurd (subst P is h)
+hold_first many before name names more files (tree ∷ trees) (bytes, n, rest, held, are, is) h later =
+    let P : List Entry → Type 0 = λ l. AllLoad many (take (suc (length names)) l) (tree ∷ trees) in
+    let loads : Loads many name bytes (Ok tree) × AllLoad many (take (length names) rest) trees = subst P is h in
+    ((bytes, held, (loaded_is many name bytes (Ok tree) loads.0).0.spelled), later n rest trees are loads.1)
 
-pub files_hold : (before : Contents) (names : List Text) (most : ℕ) (files : List Entry) (trees : List Module) → gathered names before most ≡ Whole files → AllLoad files trees → HoldModules before names trees
-files_hold before [] most files trees e h = nothing_held before files trees (sym (whole_is [] files e)) h
-files_hold before (name ∷ names) most files trees e h =
-    hold_first before name names files trees (first_file name most (get before name) (gathered names before) files e) h (λ n more trees e h. files_hold before names n more trees e h)
+pub files_hold : (many : Bool) (before : Contents) (names more : List Text) (most : ℕ) (files : List Entry) (trees : List Module) → gathered (names ++ more) before most ≡ Whole files → AllLoad many (take (length names) files) trees → HoldModules many before names trees
+files_hold many before [] more most files trees e h = no_trees many before trees h
+files_hold many before (name ∷ names) more most files trees e h =
+    hold_first many before name names more files trees (first_file name most (get before name) (gathered (names ++ more) before) files e) h (λ n rest trees e h. files_hold many before names more n rest trees e h)
 
 -- the parts of a merge are sound and in range
-loaded_sound : Respelled → (file bytes : Text) (tree : Module) (name : Option Text) → Loads file bytes (Ok tree) → IsSound (record { name = name; «module» = tree }) × InRange tree
+loaded_sound : Respelled → (file bytes : Text) (tree : Module) (name : Option Text) → Loads false file bytes (Ok tree) → IsSound (record { name = name; «module» = tree }) × InRange tree
 loaded_sound k file bytes tree name h =
-    let is = loaded_is file bytes (Ok tree) h in
+    let is = loaded_is false file bytes (Ok tree) h in
     ((is.1.valid, k.bounded bytes tree is.0.spelled is.0.within), k.ranges bytes tree is.0.spelled)
 
-parts_sound : Respelled → (sources : List Source) (files : List Entry) (trees : List Module) → AllLoad files trees → Every IsSound (parts_of sources trees)
+parts_sound : Respelled → (sources : List Source) (files : List Entry) (trees : List Module) → AllLoad false files trees → Every IsSound (parts_of sources trees)
 parts_sound k [] files trees h = tt
 parts_sound k (s ∷ sources) files [] h = tt
 parts_sound k (s ∷ sources) [] (tree ∷ trees) h = absurd h
 parts_sound k (s ∷ sources) (file ∷ files) (tree ∷ trees) h = ((loaded_sound k file.0 file.1 tree (Some s.name) h.0).0, parts_sound k sources files trees h.1)
 
-parts_in_range : Respelled → (sources : List Source) (files : List Entry) (trees : List Module) → AllLoad files trees → Every (λ (p : Part). InRange p.«module») (parts_of sources trees)
+parts_in_range : Respelled → (sources : List Source) (files : List Entry) (trees : List Module) → AllLoad false files trees → Every (λ (p : Part). InRange p.«module») (parts_of sources trees)
 parts_in_range k [] files trees h = tt
 parts_in_range k (s ∷ sources) files [] h = tt
 parts_in_range k (s ∷ sources) [] (tree ∷ trees) h = absurd h
 parts_in_range k (s ∷ sources) (file ∷ files) (tree ∷ trees) h = ((loaded_sound k file.0 file.1 tree (Some s.name) h.0).1, parts_in_range k sources files trees h.1)
 
-written_keeps : Respelled → (sources : List Source) (output : Text) (mode : Mode) (before : Contents) (files : List Entry) (trees : List Module) (tree : Module) (job : Job) → gathered (map (λ s. s.file) sources) before most_input ≡ Whole files → AllLoad files trees → AreMerged (parts_of sources trees) mode tree → Writes output tree job → DecisionKeeps (Merge sources output mode) before job
-written_keeps k sources output mode before files trees tree job e loads is (too_large large) = tt
-written_keeps k sources output mode before files trees tree job e loads is (written fits) =
-    let sound = merged_is_sound k (parts_of sources trees) mode tree (parts_sound k sources files trees loads) (parts_in_range k sources files trees loads) is in
+output_keeps : Respelled → (merge : MergeTask) (before : Contents) (files : List Entry) (trees : List Module) (tree : Module) (b : Bool) → gathered (inputs_of (Merge merge)) before most_input ≡ Whole files → AllLoad false (module_files (Merge merge) files) trees
+    → AreMerged (parts_of merge.sources trees) merge.mode tree → (b ≡ true → length (plain tree) ≤ most_output) → (text : Text)
+    → JobKept (Merge merge) before (cond b (Done ((merge.output, plain tree ++ []) ∷ []) []) (Refused text))
+output_keeps k merge before files trees tree false e loads is fits text = tt
+output_keeps k merge before files trees tree true e loads is fits text =
+    let parts = parts_of merge.sources trees in
+    let files' = module_files (Merge merge) files in
+    let sound = merged_is_sound k parts merge.mode tree (parts_sound k merge.sources files' trees loads) (parts_in_range k merge.sources files' trees loads) is in
+    let least = fits refl in
     let short : length (plain tree) < 2 ^ 32 = omega arith in
     record {
       trees = trees;
       tree = tree;
-      read = files_hold before (map (λ s. s.file) sources) most_input files trees e loads;
+      read = files_hold false before (source_files merge) [] most_input files trees e loads;
       merged = is;
-      written = (plain tree, written_there before output (plain tree), k.plainly tree sound.1 short);
+      written = (plain tree, written_there before merge.output (plain tree ++ []) ∙ ap Some (append-nil (plain tree)), k.plainly tree sound.1 short);
       accepted = sound.0;
       behaves = sound.2;
-      in_turn = k.turns (linked_world (parts_of sources trees) mode) (sound_at IsValid (λ p h. h.0) (parts_of sources trees) (parts_sound k sources files trees loads));
+      in_turn = k.turns (linked_world parts merge.mode) (sound_at IsValid (λ p h. h.0) parts (parts_sound k merge.sources files' trees loads));
     }
 
-merge_keeps : Respelled → (sources : List Source) (output : Text) (mode : Mode) (before : Contents) (files : List Entry) (job : Job) → gathered (map (λ s. s.file) sources) before most_input ≡ Whole files → Merges sources output mode files job → DecisionKeeps (Merge sources output mode) before job
-merge_keeps k sources output mode before files job e (not_loaded text h) = tt
-merge_keeps k sources output mode before files job e (not_linked trees fault text loads found says) = tt
-merge_keeps k sources output mode before files job e (not_joined trees fault text loads linked found says) = tt
-merge_keeps k sources output mode before files job e (merged trees tree _ loads is writes) = written_keeps k sources output mode before files trees tree job e loads is writes
+within_is : (n most : ℕ) (b : Bool) → (not (ltb most n) && true) ≡ b → b ≡ true → n ≤ most
+within_is n most true e is = let less : ltb most n ≡ false = not_true (ltb most n) e in grind (arith, nat_tests)
+  where
+    not_true : (b : Bool) → (not b && true) ≡ true → b ≡ false
+    not_true true e = cc
+    not_true false e = refl
+within_is n most false e is = cc
 
-task_keeps : Respelled → (task : Task) (before : Contents) (job : Job) → TaskJob task before job → DecisionKeeps task before job
+merge_keeps : Respelled → (merge : MergeTask) (before : Contents) (files : List Entry) (trees : List Module) (decision : Decision) → gathered (inputs_of (Merge merge)) before most_input ≡ Whole files → AllLoad false (module_files (Merge merge) files) trees
+    → Merges merge trees decision → JobKept (Merge merge) before (job_of decision)
+merge_keeps k merge before files trees decision e loads (not_linked fault text found says) = tt
+merge_keeps k merge before files trees decision e loads (not_joined fault text linked found says) = tt
+merge_keeps k merge before files trees decision e loads (merged tree is) =
+    output_keeps k merge before files trees tree (not (ltb most_output (length (plain tree))) && true) e loads is (within_is (length (plain tree)) most_output _ refl) _
+
+inputs_keep : Respelled → (task : Task) (before : Contents) (files : List Entry) (job : Job) → gathered (inputs_of task) before most_input ≡ Whole files → InputsJob task files job → JobKept task before job
+inputs_keep k task before files job e (not_loaded text h) = tt
+inputs_keep k (Merge merge) before files job e (decided trees decision loads h) = merge_keeps k merge before files trees decision e loads h
+
+task_keeps : Respelled → (task : Task) (before : Contents) (job : Job) → TaskJob task before job → JobKept task before job
 task_keeps k task before job (not_begun text e) = tt
 task_keeps k task before job (missing name begun e) = tt
 task_keeps k task before job (too_long name begun e) = tt
-task_keeps k (Merge sources output mode) before job (decided files _ begun e d) = merge_keeps k sources output mode before files job e d
+task_keeps k task before job (all_read files _ begun e h) = inputs_keep k task before files job e h
 
-words_keep : (words : List Text) (task : Task) (before : Contents) (job : Job) → task_of words ≡ Some task → DecisionKeeps task before job → JobKeeps words before job
+words_keep : (words : List Text) (task : Task) (before : Contents) (job : Job) → task_of words ≡ Some task → JobKept task before job → JobKeeps words before job
 words_keep words task before (Done writes lines) e h = (task, e, h)
 words_keep words task before Usage e h = tt
 words_keep words task before Missing e h = tt

@@ -12,6 +12,7 @@ use Rattle.wasm_format.specs.Words.{Never, Made, When, Any, Limited, WhenSmall}
 use Rattle.wasm_format.specs.Files.{nothing, with_types, with_imports, with_func_types, with_tables, with_mems, with_globals, with_exports, with_start, with_elems, with_codes, with_datas, with_count, SpellsCustom, section_form, small_form, SmallSection, Contents, typed, tree_of}
 use Rattle.tools_cli.specs.Words.{Text}
 use Rattle.tools_cli.specs.Job.{IsRead}
+use Rattle.tools_cli.specs.Causes.{IsWithinLimits}
 
 -- the lists of the sections
 record FewParts (p : Parts) : Type 0 where
@@ -23,17 +24,6 @@ record FewParts (p : Parts) : Type 0 where
   pub globals : length p.globals ≤ limit Globals
   pub elems : length p.elems ≤ limit ElementSegments
   pub datas : length p.datas ≤ limit DataSegments
-
--- no list of the tree has more entries than its limit
-pub record IsWithinLimits (m : Module) : Type 0 where
-  pub types : length m.types ≤ limit Types
-  pub imports : length m.imports ≤ limit Imports
-  pub funcs : length m.funcs ≤ limit Functions
-  pub tables : length m.tables ≤ limit Tables
-  pub mems : length m.mems ≤ limit Memories
-  pub globals : length m.globals ≤ limit Globals
-  pub elems : length m.elems ≤ limit ElementSegments
-  pub datas : length m.datas ≤ limit DataSegments
 
 -- a section keeps them so
 record Keeps (P : List ℕ → Parts → Type 0) (S : List ℕ → Type 0) : Type 0 where
@@ -55,9 +45,9 @@ keep_same p k = record { keep = λ c q h s. subst FewParts (sym h.1) k }
 keep_never : Keeps Never Any
 keep_never = record { keep = λ c q h s. absurd h }
 
-section_keeps : (p : Parts) (id : ℕ) → FewParts p → Keeps (section_form false p id) (small_form false id)
+section_keeps : (many : Bool) (p : Parts) (id : ℕ) → FewParts p → Keeps (section_form many p id) (small_form many id)
 unfolding section_form small_form
-section_keeps p id s =
+section_keeps many p id s =
     keep_when (id == 0) (keep_same p s)
     (keep_when (id == 1) (keep_put (with_types p) (λ x k. record { types = k.0; imports = s.imports; func_types = s.func_types; tables = s.tables; mems = s.mems; globals = s.globals; elems = s.elems; datas = s.datas }))
     (keep_when (id == 2) (keep_put (with_imports p) (λ x k. record { types = s.types; imports = k.0; func_types = s.func_types; tables = s.tables; mems = s.mems; globals = s.globals; elems = s.elems; datas = s.datas }))
@@ -73,9 +63,9 @@ section_keeps p id s =
     (keep_when (id == 12) (keep_free (with_count p) (λ x. record { types = s.types; imports = s.imports; func_types = s.func_types; tables = s.tables; mems = s.mems; globals = s.globals; elems = s.elems; datas = s.datas }))
     keep_never))))))))))))
 
-contents_keep : (p : Parts) (ss : List Section) (q : Parts) → FewParts p → Contents false p ss q → Every (SmallSection false) ss → FewParts q
-contents_keep p [] q s h k = subst FewParts h s
-contents_keep p (t ∷ ss) q s h k = contents_keep h.0 ss q ((section_keeps p t.0 s).keep t.1 h.0 h.1 k.0) h.2 k.1
+contents_keep : (many : Bool) (p : Parts) (ss : List Section) (q : Parts) → FewParts p → Contents many p ss q → Every (SmallSection many) ss → FewParts q
+contents_keep many p [] q s h k = subst FewParts h s
+contents_keep many p (t ∷ ss) q s h k = contents_keep many h.0 ss q ((section_keeps many p t.0 s).keep t.1 h.0 h.1 k.0) h.2 k.1
 
 none_yet : FewParts nothing
 none_yet = record { types = omega arith; imports = omega arith; func_types = omega arith; tables = omega arith; mems = omega arith; globals = omega arith; elems = omega arith; datas = omega arith }
@@ -97,5 +87,5 @@ tree_few p s = record {
   datas = s.datas;
 }
 
-pub read_within : (bytes : Text) (tree : Module) → IsRead bytes tree → IsWithinLimits tree
-read_within bytes tree r = let h = r.spelled in subst IsWithinLimits (sym h.5) (tree_few h.1 (contents_keep nothing h.0 h.1 none_yet h.3 (r.within h.0 h.2)))
+pub read_within : (many : Bool) (bytes : Text) (tree : Module) → IsRead many bytes tree → IsWithinLimits tree
+read_within many bytes tree r = let h = r.spelled in subst IsWithinLimits (sym h.5) (tree_few h.1 (contents_keep many nothing h.0 h.1 none_yet h.3 (r.within h.0 h.2)))

@@ -1,14 +1,14 @@
 -- From the parts of a run to its whole.
-use Rattle.std.proofs.Common.{◌≡◌, ◌∙◌, sym, refl, ap, subst, ℕ, ◌≤◌, List, [], ◌∷◌, Option, Some, None, IfSome, Contains, OnOk, Result, Ok, Err, string_bytes, inl, inr, ◌⊎◌}
+use Rattle.std.proofs.Common.{◌≡◌, sym, refl, ap, subst, ℕ, ◌≤◌, List, [], ◌∷◌, Option, Some, None, IfSome, Contains, OnOk, Result, Ok, Err, string_bytes, inl, inr, ◌⊎◌}
 use Rattle.std.specs.Option.{option_map_or}
 use Rattle.tool_io.specs.Outside.{Contents, Becomes, AppendsPrefix, Rose}
 use Rattle.tool_io.proofs.Steps.{rose_earlier, becomes_itself, becomes_weaker, becomes_same}
-use Rattle.tools_cli.specs.Words.{Text, Task, task_of, inputs_of, outputs_of}
+use Rattle.tools_cli.specs.Words.{Text, Task, task_of, inputs_of, outputs_of, usage_line}
 use Rattle.tools_cli.specs.Effects.{Entry, made, IsCut, written_names}
-use Rattle.tools_cli.specs.Job.{Job, Usage, Refused, Done, Whole, TooLong, gathered, most_input, Decides, TaskJob, refused_before, not_begun, too_long, decided, HasJob, no_task, asked}
-use Rattle.tools_cli.specs.Stop.{IsLine, usage, fault_line, invalid_line, parts_line, link_line, join_line, output_line, unlinked_text, cannot_read_line, cannot_write_line, cannot_print_line, no_memory_line, no_memory, stop_line, line_of, refusal_text, Says, Reports}
-use Rattle.tools_cli.specs.Causes.{StopsGathering, StopsDeciding, StopsPreparing, StopsFinishing, AreOutputs, AllWritten, PrintsAfter}
-use Rattle.tools_cli.specs.Run.{IsUsage, Outside, StopsWork, ChangesByTheJob, PrintsForTheJob, EndsDone, Gains, IsSame, HasOutsideCause, HasStatus, SomeRose}
+use Rattle.tools_cli.specs.Job.{Job, Usage, Refused, Done, Whole, TooLong, gathered, most_input, InputsJob, TaskJob, refused_before, not_begun, too_long, all_read, HasJob, no_task, asked}
+use Rattle.tools_cli.specs.Stop.{IsLine, usage, fault_line, invalid_line, parts_line, link_line, join_line, output_line, cannot_read_line, cannot_write_line, cannot_print_line, no_memory_line, no_memory, stop_line, line_of, refusal_text, Says, Reports}
+use Rattle.tools_cli.specs.Causes.{StopsWith, StopsGathering, StopsPreparing, StopsFinishing, AreOutputs, AllWritten, PrintsAfter, PrintsAsAllowed}
+use Rattle.tools_cli.specs.Run.{IsUsage, PrintsNothing, Outside, StopsWork, ChangesByTheJob, PrintsForTheJob, EndsDone, Gains, IsSame, HasOutsideCause, HasStatus, SomeRose}
 use Rattle.tools_cli.specs.declared.stop.Status.{Status}
 use Rattle.tools_cli.specs.declared.stop.Status.TheVariants as status
 use Rattle.tools_cli.specs.declared.stop.Stop.{Stop}
@@ -17,17 +17,15 @@ use Rattle.tools_cli.specs.Texts.{over_limit}
 use Rattle.wasm_tree.specs.declared.which.Which.TheVariants.{InputBytes}
 use Rattle.tools_cli.specs.declared.refusal.Refusal.{Refusal}
 use Rattle.tools_cli.specs.declared.refusal.Refusal.TheVariants as refusal
-use Rattle.tools_cli.specs.declared.refusal.Unlinked.{Unlinked}
-use Rattle.tools_cli.specs.declared.refusal.Unlinked.TheVariants as unlinked
 use Rattle.merge_terms.specs.declared.faults.LinkFault.TheVariants as link
 use Rattle.merge_terms.specs.declared.faults.JoinFault.TheVariants as join
 use Rattle.wasm_format.specs.declared.fault.ReadFault.TheVariants as fault
 use Rattle.tools_cli.proofs.Pieces.{prefix_none}
 
 -- a task's job from the contents of its inputs
-pub decided_at : (held : Option Contents) (t : Task) (inputs : List Entry) (job : Job) → refused_before t ≡ None → IfSome held (λ a. gathered (inputs_of t) a most_input ≡ Whole inputs) → Decides t inputs job → IfSome held (λ a. TaskJob t a job)
+pub decided_at : (held : Option Contents) (t : Task) (inputs : List Entry) (job : Job) → refused_before t ≡ None → IfSome held (λ a. gathered (inputs_of t) a most_input ≡ Whole inputs) → InputsJob t inputs job → IfSome held (λ a. TaskJob t a job)
 decided_at None t inputs job begun g d = tt
-decided_at (Some a) t inputs job begun g d = decided inputs job begun g d
+decided_at (Some a) t inputs job begun g d = all_read inputs job begun g d
 
 -- and from a file that is too long
 too_long_at : (held : Option Contents) (t : Task) (text : Text) → refused_before t ≡ None → IfSome held (λ a. (name : Text) × (gathered (inputs_of t) a most_input ≡ TooLong name) × (text ≡ over_limit name InputBytes)) → IfSome held (λ a. TaskJob t a (Refused text))
@@ -39,14 +37,14 @@ pub not_begun_at : (held : Option Contents) (t : Task) (text : Text) → refused
 not_begun_at None t text e = tt
 not_begun_at (Some a) t text e = not_begun text e
 
-pub preparing_from_deciding : (held : Option Contents) (before now : Text → ℕ) (t : Task) (inputs : List Entry) (s : Stop) → refused_before t ≡ None
-    → IfSome held (λ a. gathered (inputs_of t) a most_input ≡ Whole inputs) → StopsDeciding t inputs s → StopsPreparing held before now t s
-preparing_from_deciding held before now t inputs (stop.Refused refusal) begun g d = decided_at held t inputs (Refused (refusal_text refusal)) begun g d
-preparing_from_deciding held before now t inputs stop.NoMemory begun g d = tt
-preparing_from_deciding held before now t inputs (stop.Usage line) begun g d = absurd d
-preparing_from_deciding held before now t inputs (stop.CannotRead name) begun g d = absurd d
-preparing_from_deciding held before now t inputs (stop.CannotWrite name) begun g d = absurd d
-preparing_from_deciding held before now t inputs stop.CannotPrint begun g d = absurd d
+pub preparing_from_planning : (held : Option Contents) (before now : Text → ℕ) (t : Task) (inputs : List Entry) (s : Stop) → refused_before t ≡ None
+    → IfSome held (λ a. gathered (inputs_of t) a most_input ≡ Whole inputs) → StopsWith (λ text. InputsJob t inputs (Refused text)) s → StopsPreparing held before now t s
+preparing_from_planning held before now t inputs (stop.Refused refusal) begun g d = decided_at held t inputs (Refused (refusal_text refusal)) begun g d
+preparing_from_planning held before now t inputs stop.NoMemory begun g d = tt
+preparing_from_planning held before now t inputs (stop.Usage line) begun g d = absurd d
+preparing_from_planning held before now t inputs (stop.CannotRead name) begun g d = absurd d
+preparing_from_planning held before now t inputs (stop.CannotWrite name) begun g d = absurd d
+preparing_from_planning held before now t inputs stop.CannotPrint begun g d = absurd d
 
 pub preparing_from_gathering : (held : Option Contents) (before now : Text → ℕ) (t : Task) (s : Stop) → refused_before t ≡ None → StopsGathering held before now (inputs_of t) most_input s → StopsPreparing held before now t s
 preparing_from_gathering held before now t (stop.Refused refusal) begun h = too_long_at held t (refusal_text refusal) begun h
@@ -55,17 +53,6 @@ preparing_from_gathering held before now t stop.NoMemory begun h = tt
 preparing_from_gathering held before now t (stop.Usage line) begun h = absurd h
 preparing_from_gathering held before now t (stop.CannotWrite name) begun h = absurd h
 preparing_from_gathering held before now t stop.CannotPrint begun h = absurd h
-
--- the inputs of a task, by their names
-pub gathered_for : (held : Option Contents) (t : Task) (names : List Text) (found inputs : List Entry) → names ≡ inputs_of t → inputs ≡ found
-    → IfSome held (λ a. gathered names a most_input ≡ Whole found) → IfSome held (λ a. gathered (inputs_of t) a most_input ≡ Whole inputs)
-gathered_for None t names found inputs named same h = tt
-gathered_for (Some a) t names found inputs named same h = ap (λ ns. gathered ns a most_input) (sym named) ∙ h ∙ ap Whole (sym same)
-
-pub preparing_from_names : (held : Option Contents) (before now : Text → ℕ) (t : Task) (names : List Text) (s : Stop) → refused_before t ≡ None → names ≡ inputs_of t
-    → StopsGathering held before now names most_input s → StopsPreparing held before now t s
-preparing_from_names held before now t names s begun named h =
-    preparing_from_gathering held before now t s begun (let P : List Text → Type 0 = λ ns. StopsGathering held before now ns most_input s in subst P named h)
 
 -- the job of the words from the job of their task
 job_at : (words : List Text) (t : Task) (held : Option Contents) (job : Job) → task_of words ≡ Some t → IfSome held (λ a. TaskJob t a job) → IfSome held (λ a. HasJob words a job)
@@ -106,10 +93,10 @@ written_at : (words : List Text) (t : Task) (held : Option Contents) (writes : L
 written_at words t None writes lines name e h c = tt
 written_at words t (Some a) writes lines name e h c = (writes, lines, asked t (Done writes lines) e h, c)
 
-done_at : (words : List Text) (t : Task) (held : Option Contents) (writes : List Entry) (lines : Text) → task_of words ≡ Some t
-    → IfSome held (λ a. TaskJob t a (Done writes lines)) → IfSome held (λ a. (writes : List Entry) × (lines : Text) × HasJob words a (Done writes lines))
-done_at words t None writes lines e h = tt
-done_at words t (Some a) writes lines e h = (writes, lines, asked t (Done writes lines) e h)
+done_at : (words : List Text) (t : Task) (held new : Option Contents) (writes : List Entry) (lines : Text) → task_of words ≡ Some t
+    → IfSome held (λ a. TaskJob t a (Done writes lines)) → AllWritten writes held new → IfSome held (λ a. (writes : List Entry) × (lines : Text) × HasJob words a (Done writes lines) × (new ≡ Some (made writes a)))
+done_at words t None new writes lines e h all = tt
+done_at words t (Some a) new writes lines e h all = (writes, lines, asked t (Done writes lines) e h, all_is writes a new all)
 
 output_at : (words : List Text) (t : Task) (name : Text) → task_of words ≡ Some t → Contains (outputs_of t) name → Contains (option_map_or outputs_of (task_of words) []) name
 output_at words t name e c = let P : Option Task → Type 0 = λ o. Contains (option_map_or outputs_of o []) name in subst P (sym e) c
@@ -118,15 +105,15 @@ output_at words t name e c = let P : Option Task → Type 0 = λ o. Contains (op
 pub finish_stops : (words : List Text) (t : Task) (old new : Outside) (mid : Text → ℕ) (writes : List Entry) (lines : Text) (s : Stop) → task_of words ≡ Some t
     → ((name : Text) → old.writes name ≤ mid name)
     → IfSome old.files (λ a. TaskJob t a (Done writes lines))
-    → AreOutputs t writes
-    → StopsFinishing mid new.writes old.out_faults new.out_faults writes s
+    → AreOutputs t (written_names writes)
+    → StopsFinishing mid new.writes old.out_faults new.out_faults old.files new.files writes s
     → StopsWork words old new s
 finish_stops words t old new mid writes lines (stop.CannotWrite name) e later done outputs h = (
   output_at words t (string_bytes name) e (outputs (string_bytes name) h.0),
   rose_earlier _ _ _ (later (string_bytes name)) h.1,
   written_at words t old.files writes lines (string_bytes name) e done h.0,
 )
-finish_stops words t old new mid writes lines stop.CannotPrint e later done outputs h = (h, done_at words t old.files writes lines e done)
+finish_stops words t old new mid writes lines stop.CannotPrint e later done outputs h = (h.0, done_at words t old.files new.files writes lines e done h.1)
 finish_stops words t old new mid writes lines stop.NoMemory e later done outputs h = tt
 finish_stops words t old new mid writes lines (stop.Usage line) e later done outputs h = absurd h
 finish_stops words t old new mid writes lines (stop.Refused refusal) e later done outputs h = absurd h
@@ -145,26 +132,22 @@ prepare_stops words t old new (stop.Usage line) e files out h = absurd h
 prepare_stops words t old new (stop.CannotWrite name) e files out h = absurd h
 prepare_stops words t old new stop.CannotPrint e files out h = absurd h
 
--- an import or a global that is not linked
-unlinked_line : (file : Text) (cause : Unlinked) (index : ℕ) → IsLine (stop_line (unlinked_text file cause index))
-unlinked_line file unlinked.Differs index = link_line (file ∷ []) _ (link.ImportMismatch 0 index) refl
-unlinked_line file unlinked.EndsNowhere index = link_line (file ∷ []) _ (link.ImportCycle 0 index) refl
-unlinked_line file unlinked.Clashes index = link_line (file ∷ []) _ (link.LimitsClash 0 index) refl
-unlinked_line file unlinked.HasNoValue index = link_line (file ∷ []) _ (link.GlobalCycle 0 index) refl
-
 -- what is told of a refusal is one of the lines
 refusal_line : (refusal : Refusal) → IsLine (stop_line (refusal_text refusal))
 refusal_line (refusal.NotModule file) = fault_line file.now _ fault.NotModule refl
-refusal_line (refusal.MalformedSection file section) = fault_line file.now _ (fault.Malformed section.number) refl
-refusal_line (refusal.MalformedFunction file func) = fault_line file.now _ (fault.MalformedBody func.number) refl
-refusal_line (refusal.UnsupportedSection file section) = fault_line file.now _ (fault.Unsupported section.number None) refl
-refusal_line (refusal.UnsupportedFunction file func) = fault_line file.now _ (fault.Unsupported 0 (Some func.number)) refl
+refusal_line (refusal.Malformed file section) = fault_line file.now _ (fault.Malformed section.number) refl
+refusal_line (refusal.MalformedBody file func) = fault_line file.now _ (fault.MalformedBody func.number) refl
+refusal_line (refusal.Unsupported file section) = fault_line file.now _ (fault.Unsupported section.number None) refl
+refusal_line (refusal.UnsupportedBody file func) = fault_line file.now _ (fault.Unsupported 0 (Some func.number)) refl
 refusal_line (refusal.Limit file which) = fault_line file.now _ (fault.Limit which) refl
-refusal_line (refusal.InvalidItem file kind index) = invalid_line file.now (record { kind = kind; index = index.number })
+refusal_line (refusal.Invalid file kind index) = invalid_line file.now (record { kind = kind; index = index.number })
 refusal_line refusal.TooManyParts = parts_line
-refusal_line (refusal.NotLinked file cause index) = unlinked_line file.now cause index.number
-refusal_line refusal.MoreMemories = link_line [] _ link.TooManyMemories refl
-refusal_line (refusal.ExportTwice name) = join_line _ (join.ExportConflict name) refl
+refusal_line (refusal.ImportMismatch file import) = link_line (file.now ∷ []) _ (link.ImportMismatch 0 import.number) refl
+refusal_line (refusal.ImportCycle file import) = link_line (file.now ∷ []) _ (link.ImportCycle 0 import.number) refl
+refusal_line (refusal.LimitsClash file import) = link_line (file.now ∷ []) _ (link.LimitsClash 0 import.number) refl
+refusal_line refusal.TooManyMemories = link_line [] _ link.TooManyMemories refl
+refusal_line (refusal.GlobalCycle file global) = link_line (file.now ∷ []) _ (link.GlobalCycle 0 global.number) refl
+refusal_line (refusal.ExportConflict name) = join_line _ (join.ExportConflict name) refl
 refusal_line (refusal.TooMany which) = output_line which
 
 -- what is told of a stop is one of the lines
@@ -226,3 +209,19 @@ usage_at_stop (stop.CannotRead name) err err' before now result h (inl p) = absu
 usage_at_stop (stop.CannotWrite name) err err' before now result h (inl p) = absurd h
 usage_at_stop stop.CannotPrint err err' before now result h (inl p) = absurd h
 usage_at_stop stop.NoMemory err err' before now result h (inl p) = inr (inl p.0)
+
+-- a task of words that print nothing has no lines
+pub has_no_lines : (words : List Text) (t : Task) (lines : Text) → task_of words ≡ Some t → PrintsAsAllowed t lines → PrintsNothing words → lines ≡ []
+has_no_lines words t lines e allowed nothing = allowed (nothing t e)
+
+-- what is told of a stop that is no task is the usage line
+pub usage_told : (words : List Text) (old new : Outside) (s : Stop) (err err' : Option Text) (before now : ℕ) (result : Status)
+    → StopsWork words old new s → Reports s err err' before now result → result ≡ status.Usage → (task_of words ≡ None) × Gains (usage_line words) err err' × IsSame old.files new.files × IsSame old.out new.out
+usage_told words old new s err err' before now result h (inr (inl p)) is = let e = p.0 in cc
+usage_told words old new s err err' before now result h (inr (inr e)) is = cc
+usage_told words old new (stop.Usage line) err err' before now result h (inl p) is = let P : Text → Type 0 = λ text. Gains text err err' in (h.0, subst P h.1 p.1, h.2, h.3)
+usage_told words old new (stop.Refused refusal) err err' before now result h (inl p) is = let e = p.0 in cc
+usage_told words old new (stop.CannotRead name) err err' before now result h (inl p) is = let e = p.0 in cc
+usage_told words old new (stop.CannotWrite name) err err' before now result h (inl p) is = let e = p.0 in cc
+usage_told words old new stop.CannotPrint err err' before now result h (inl p) is = let e = p.0 in cc
+usage_told words old new stop.NoMemory err err' before now result h (inl p) is = let e = p.0 in cc

@@ -1,20 +1,21 @@
 -- When each stop of a command comes.
-use Rattle.std.specs.Prelude.{◌≡◌, ◌⊎◌, ℕ, ◌+◌, ◌-◌, ltb, false, if◌then◌else◌, List, [], ◌∷◌, length, map, Contains, Option, Some, None, Result, Ok, Err, IfSome, string_bytes}
+use Rattle.std.specs.Prelude.{◌≡◌, ◌⊎◌, ℕ, ◌+◌, ◌-◌, ◌<◌, ◌≤◌, ltb, false, if◌then◌else◌, List, [], ◌∷◌, length, Contains, Option, Some, None, Result, Ok, Err, IfSome, string_bytes}
 use Rattle.std.specs.FinMap.{get}
 use Rattle.tool_io.specs.Outside.{Contents, Rose, Becomes, AppendsPrefix}
-use Rattle.tools_cli.specs.Words.{Text, Source, Task, Merge, inputs_of, outputs_of}
-use Rattle.tools_cli.specs.Job.{TooLong, gathered, Job, Decides, TaskJob, Loads, AllLoad, OneFails, AreMerged, parts_of, Writes, refused_before, most_input}
-use Rattle.tools_cli.specs.Texts.{invalid_text, link_text, join_text, over_limit}
-use Rattle.wasm_tree.specs.declared.module.Module.{Module}
-use Rattle.wasm_tree.specs.declared.which.Which.TheVariants.{InputBytes}
+use Rattle.tools_cli.specs.Words.{Text, MergeTask, Task, source_files, inputs_of, outputs_of, may_print}
+use Rattle.tools_cli.specs.Job.{TooLong, gathered, TaskJob, refused_before, most_input}
+use Rattle.tools_cli.specs.Texts.{over_limit, invalid_text, link_text, join_text}
 use Rattle.wasm_valid.specs.declared.kinds.Invalid.{Invalid}
 use Rattle.wasm_valid.specs.First.{IsFirstInvalid}
 use Rattle.wasm_meaning.specs.Linking.{Part}
-use Rattle.export_names.specs.declared.mode.Mode.{Mode}
 use Rattle.merge_terms.specs.declared.faults.LinkFault.{LinkFault}
+use Rattle.merge_terms.specs.declared.faults.LinkFault.TheVariants as link
 use Rattle.merge_terms.specs.declared.faults.JoinFault.{JoinFault}
 use Rattle.merge_terms.specs.Faults.{link_fault}
 use Rattle.merge_terms.specs.Joined.{Joins}
+use Rattle.wasm_tree.specs.declared.module.Module.{Module}
+use Rattle.wasm_tree.specs.declared.which.Which.TheVariants.{InputBytes, Types, Imports, Functions, Tables, Memories, Globals, ElementSegments, DataSegments}
+use Rattle.wasm_tree.specs.Limits.{limit}
 use Rattle.tools_cli.specs.Job as job
 use Rattle.tools_cli.specs.Effects.{Entry, made, written_names}
 use Rattle.tools_cli.specs.Stop.{refusal_text}
@@ -51,53 +52,46 @@ abbrev pub total : List Entry → ℕ
 total [] = 0
 total (e ∷ es) = length e.1 + total es
 
--- Why loading a module from a file's contents stops.
-abbrev pub StopsLoading : Text → Text → Stop → Type 0
-StopsLoading file bytes (Refused refusal) = Loads file bytes (Err (refusal_text refusal))
-StopsLoading file bytes NoMemory = Unit {0}
-StopsLoading file bytes _ = ⊥
+-- Why work stops that only refuses: with a text of which this is so, or for want of memory.
+abbrev pub StopsWith : (Text → Type 0) → Stop → Type 0
+StopsWith IsText (Refused refusal) = IsText (refusal_text refusal)
+StopsWith IsText NoMemory = Unit {0}
+StopsWith IsText _ = ⊥
 
--- Why loading modules from files in order stops.
-abbrev pub StopsLoadingAll : List Entry → Stop → Type 0
-StopsLoadingAll files (Refused refusal) = OneFails files (refusal_text refusal)
-StopsLoadingAll files NoMemory = Unit {0}
-StopsLoadingAll files _ = ⊥
+-- Why validating a tree is refused.
+abbrev pub InvalidText : Text → Module → Text → Type 0
+InvalidText file tree text = (item : Invalid) × IsFirstInvalid tree false item × (text ≡ invalid_text file item)
 
--- Why merging the parts of these sources stops.
-abbrev pub StopsMerging : List Source → Mode → List Part → Stop → Type 0
-StopsMerging sources mode parts (Refused refusal) =
-    ((fault : LinkFault) × (link_fault parts ≡ Some fault) × (link_text (map (λ s. s.file) sources) fault ≡ Some (refusal_text refusal)))
-    ⊎ ((fault : JoinFault) × (link_fault parts ≡ None) × Joins parts mode (Err fault) × (join_text fault ≡ Some (refusal_text refusal)))
-StopsMerging sources mode parts NoMemory = Unit {0}
-StopsMerging sources mode parts _ = ⊥
+-- Why merging these parts is refused.
+abbrev pub MergeFails : MergeTask → List Part → Text → Type 0
+MergeFails merge parts text =
+    ((fault : LinkFault) × (link_fault parts ≡ Some fault) × (link_text (source_files merge) fault ≡ Some text))
+    ⊎ ((fault : JoinFault) × (link_fault parts ≡ None) × Joins parts merge.mode (Err fault) × (join_text fault ≡ Some text))
 
--- Why validating a tree stops.
-abbrev pub StopsValidating : Text → Module → Stop → Type 0
-StopsValidating file tree (Refused refusal) = (item : Invalid) × IsFirstInvalid tree false item × (refusal_text refusal ≡ invalid_text file item)
-StopsValidating file tree NoMemory = Unit {0}
-StopsValidating file tree _ = ⊥
-
--- Why encoding a tree as the one output stops.
-abbrev pub StopsEncoding : Text → Module → Stop → Type 0
-StopsEncoding output tree (Refused refusal) = Writes output tree (job.Refused (refusal_text refusal))
-StopsEncoding output tree NoMemory = Unit {0}
-StopsEncoding output tree _ = ⊥
+-- Where a fault of linking names a part, it is one of these many.
+abbrev pub NamesPart : ℕ → LinkFault → Type 0
+NamesPart parts (link.ImportMismatch part import) = part < parts
+NamesPart parts (link.ImportCycle part import) = part < parts
+NamesPart parts (link.LimitsClash part import) = part < parts
+NamesPart parts link.TooManyMemories = Unit {0}
+NamesPart parts (link.GlobalCycle part global) = part < parts
+NamesPart parts link.NoMemory = Unit {0}
 
 -- A refusal as a stop, or want of memory for its text.
 abbrev pub IsRefusal : Result Refusal AllocError → Stop → Type 0
-IsRefusal (Ok refusal) (Refused told) = told ≡ refusal
-IsRefusal (Err e) NoMemory = Unit {0}
-IsRefusal _ _ = ⊥
+IsRefusal (Ok refusal) stop = stop ≡ Refused refusal
+IsRefusal (Err e) stop = stop ≡ NoMemory
 
--- The files of a merge load, and this is the module that their parts are merged into.
-abbrev pub LoadAndMerge : Task → List Entry → Module → Type 0
-LoadAndMerge (Merge sources output mode) files tree = (trees : List Module) × AllLoad files trees × AreMerged (parts_of sources trees) mode tree
-
--- Why deciding over the inputs stops.
-abbrev pub StopsDeciding : Task → List Entry → Stop → Type 0
-StopsDeciding task inputs (Refused refusal) = Decides task inputs (job.Refused (refusal_text refusal))
-StopsDeciding task inputs NoMemory = Unit {0}
-StopsDeciding task inputs _ = ⊥
+-- No list of the tree has more entries than its limit.
+pub record IsWithinLimits (m : Module) : Type 0 where
+  pub types : length m.types ≤ limit Types
+  pub imports : length m.imports ≤ limit Imports
+  pub funcs : length m.funcs ≤ limit Functions
+  pub tables : length m.tables ≤ limit Tables
+  pub mems : length m.mems ≤ limit Memories
+  pub globals : length m.globals ≤ limit Globals
+  pub elems : length m.elems ≤ limit ElementSegments
+  pub datas : length m.datas ≤ limit DataSegments
 
 -- Why reading the inputs of a task and deciding over them stops.
 abbrev pub StopsPreparing : Option Contents → (Text → ℕ) → (Text → ℕ) → Task → Stop → Type 0
@@ -106,9 +100,13 @@ StopsPreparing held before now task (CannotRead file) = (refused_before task ≡
 StopsPreparing held before now task NoMemory = Unit {0}
 StopsPreparing held before now task _ = ⊥
 
--- Each of the writes is to a file that the task may write.
-abbrev pub AreOutputs : Task → List Entry → Type 0
-AreOutputs task writes = (name : Text) → Contains (written_names writes) name → Contains (outputs_of task) name
+-- Each of the names is of a file that the task may write.
+abbrev pub AreOutputs : Task → List Text → Type 0
+AreOutputs task names = (name : Text) → Contains names name → Contains (outputs_of task) name
+
+-- There are no lines, unless the task may print some.
+abbrev pub PrintsAsAllowed : Task → Text → Type 0
+PrintsAsAllowed task lines = may_print task ≡ false → lines ≡ []
 
 -- All of these were written, where this is told.
 abbrev pub AllWritten : List Entry → Option Contents → Option Contents → Type 0
@@ -124,9 +122,15 @@ StopsWriting before now writes (CannotWrite name) = Contains (written_names writ
 StopsWriting before now writes NoMemory = Unit {0}
 StopsWriting before now writes _ = ⊥
 
--- Why writing the outputs and putting the lines stops.
-abbrev pub StopsFinishing : (Text → ℕ) → (Text → ℕ) → ℕ → ℕ → List Entry → Stop → Type 0
-StopsFinishing before now put_before put_now writes (CannotWrite name) = Contains (written_names writes) (string_bytes name) × Rose (before (string_bytes name)) (now (string_bytes name))
-StopsFinishing before now put_before put_now writes CannotPrint = Rose put_before put_now
-StopsFinishing before now put_before put_now writes NoMemory = Unit {0}
-StopsFinishing before now put_before put_now writes _ = ⊥
+-- Why putting the lines stops.
+abbrev pub StopsPrinting : ℕ → ℕ → Stop → Type 0
+StopsPrinting before now CannotPrint = Rose before now
+StopsPrinting before now NoMemory = Unit {0}
+StopsPrinting before now _ = ⊥
+
+-- Why writing the outputs and putting the lines stops: lines are put only where all is written.
+abbrev pub StopsFinishing : (Text → ℕ) → (Text → ℕ) → ℕ → ℕ → Option Contents → Option Contents → List Entry → Stop → Type 0
+StopsFinishing before now put_before put_now old new writes (CannotWrite name) = Contains (written_names writes) (string_bytes name) × Rose (before (string_bytes name)) (now (string_bytes name))
+StopsFinishing before now put_before put_now old new writes CannotPrint = Rose put_before put_now × AllWritten writes old new
+StopsFinishing before now put_before put_now old new writes NoMemory = Unit {0}
+StopsFinishing before now put_before put_now old new writes _ = ⊥

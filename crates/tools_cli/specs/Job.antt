@@ -1,9 +1,10 @@
 -- What a command line comes to over the contents of the files.
-use Rattle.std.specs.Prelude.{◌≡◌, ◌⊎◌, ℕ, ◌-◌, ◌<◌, ◌≤◌, ltb, if◌then◌else◌, false, List, [], ◌∷◌, length, map, Option, Some, None, Result, Ok, Err}
+use Rattle.std.specs.Prelude.{◌≡◌, ◌⊎◌, ℕ, ◌-◌, ltb, not, if◌then◌else◌, Bool, false, List, [], ◌∷◌, ◌++◌, length, map, take, drop, Option, Some, None, Result, Ok, Err}
 use Rattle.std.specs.FinMap.{get}
+use Rattle.std.specs.List.{list_all}
 use Rattle.tool_io.specs.Outside.{Contents}
 use Rattle.wasm_bytes.specs.Reading.{IsBytes}
-use Rattle.tools_cli.specs.Words.{Text, Source, Task, Merge, task_of, inputs_of}
+use Rattle.tools_cli.specs.Words.{Text, Source, MergeTask, Task, Merge, task_of, source_files, many_of, modules_of, inputs_of}
 use Rattle.wasm_meaning.specs.Linking.{Part}
 use Rattle.export_names.specs.declared.mode.Mode.{Mode}
 use Rattle.merge_terms.specs.declared.faults.LinkFault.{LinkFault}
@@ -64,37 +65,46 @@ gathered [] files most = Whole []
 gathered (name ∷ names) files most = add_file name most (get files name) (gathered names files)
 
 -- The bytes spell the tree, within the limits.
-pub record IsRead (bytes : Text) (tree : Module) : Type 0 where
-  pub spelled : Spells bytes tree false
-  pub within : Within bytes false
+pub record IsRead (many : Bool) (bytes : Text) (tree : Module) : Type 0 where
+  pub spelled : Spells bytes tree many
+  pub within : Within bytes many
 
--- The tree is valid and has at most one memory.
-pub record IsAccepted (tree : Module) : Type 0 where
+-- The tree is valid and, unless there may be several, has at most one memory.
+pub record IsAccepted (many : Bool) (tree : Module) : Type 0 where
   pub valid : IsValid tree
-  pub single : IsSingle tree
+  pub single : many ≡ false → IsSingle tree
 
--- What a file's contents come to: the tree that they spell within the limits, where it is valid; or the text of their first fault, or of the
--- tree's first item that does not hold.
-pub data Loads (file bytes : Text) : Result Module Text → Type 0 where
-  loaded : (tree : Module) → IsRead bytes tree → IsAccepted tree → Loads file bytes (Ok tree)
-  faulty : (fault : ReadFault) (text : Text) → read_fault bytes false ≡ Some fault → fault_text file fault ≡ Some text → Loads file bytes (Err text)
-  invalid : (tree : Module) (item : Invalid) → IsRead bytes tree → IsFirstInvalid tree false item → Loads file bytes (Err (invalid_text file item))
+-- What the contents of a module's file come to: the tree that they spell within the limits, where it is valid; or the text of their first fault,
+-- or of the tree's first item that does not hold.
+pub data Loads (many : Bool) (file bytes : Text) : Result Module Text → Type 0 where
+  loaded : (tree : Module) → IsRead many bytes tree → IsAccepted many tree → Loads many file bytes (Ok tree)
+  faulty : (fault : ReadFault) (text : Text) → read_fault bytes many ≡ Some fault → fault_text file fault ≡ Some text → Loads many file bytes (Err text)
+  invalid : (tree : Module) (item : Invalid) → IsRead many bytes tree → IsFirstInvalid tree many item → Loads many file bytes (Err (invalid_text file item))
 
 -- All of the files load, as these trees in order.
-abbrev pub AllLoad : List Entry → List Module → Type 0
-AllLoad [] [] = Unit {0}
-AllLoad (file ∷ files) (tree ∷ trees) = Loads file.0 file.1 (Ok tree) × AllLoad files trees
-AllLoad _ _ = ⊥
+abbrev pub AllLoad : Bool → List Entry → List Module → Type 0
+AllLoad many [] [] = Unit {0}
+AllLoad many (file ∷ files) (tree ∷ trees) = Loads many file.0 file.1 (Ok tree) × AllLoad many files trees
+AllLoad many _ _ = ⊥
 
 -- The first of the files that does not load is refused with this text.
-abbrev pub OneFails : List Entry → Text → Type 0
-OneFails [] text = ⊥
-OneFails (file ∷ files) text = Loads file.0 file.1 (Err text) ⊎ ((tree : Module) × Loads file.0 file.1 (Ok tree) × OneFails files text)
+abbrev pub OneFails : Bool → List Entry → Text → Type 0
+OneFails many [] text = ⊥
+OneFails many (file ∷ files) text = Loads many file.0 file.1 (Err text) ⊎ ((tree : Module) × Loads many file.0 file.1 (Ok tree) × OneFails many files text)
 
--- What writing a tree as the one output comes to.
-pub data Writes (output : Text) (tree : Module) : Job → Type 0 where
-  too_large : most_output < length (plain tree) → Writes output tree (Refused (output_over_limit OutputBytes))
-  written : length (plain tree) ≤ most_output → Writes output tree (Done ((output, plain tree) ∷ []) [])
+-- ---- what a task decides ----
+
+-- An output: its name, its tree, and the custom sections that follow the plain spelling of the tree.
+pub record Output : Type 0 where
+  pub name : Text
+  pub tree : Module
+  pub custom : Text
+
+-- What a task decides over what it has read: it is refused with a text; or it makes these outputs, in the order of writing, and then these lines on
+-- standard output.
+pub data Decision : Type 0 where
+  Refuses : Text → Decision
+  Makes : List Output → Text → Decision
 
 -- The parts of a merge: these modules, under the names of the sources.
 abbrev pub parts_of : List Source → List Module → List Part
@@ -105,29 +115,54 @@ parts_of _ _ = []
 abbrev pub AreMerged : List Part → Mode → Module → Type 0
 AreMerged parts mode tree = (link_fault parts ≡ None) × Joins parts mode (Ok tree)
 
--- What a merge of the files of these sources comes to.
-pub data Merges (sources : List Source) (output : Text) (mode : Mode) (files : List Entry) : Job → Type 0 where
-  not_loaded : (text : Text) → OneFails files text → Merges sources output mode files (Refused text)
-  not_linked : (trees : List Module) (fault : LinkFault) (text : Text) → AllLoad files trees → link_fault (parts_of sources trees) ≡ Some fault → link_text (map (λ s. s.file) sources) fault ≡ Some text
-      → Merges sources output mode files (Refused text)
-  not_joined : (trees : List Module) (fault : JoinFault) (text : Text) → AllLoad files trees → link_fault (parts_of sources trees) ≡ None → Joins (parts_of sources trees) mode (Err fault) → join_text fault ≡ Some text
-      → Merges sources output mode files (Refused text)
-  merged : (trees : List Module) (tree : Module) (job : Job) → AllLoad files trees → AreMerged (parts_of sources trees) mode tree → Writes output tree job → Merges sources output mode files job
+-- What a merge of these modules decides.
+pub data Merges (merge : MergeTask) (trees : List Module) : Decision → Type 0 where
+  not_linked : (fault : LinkFault) (text : Text) → link_fault (parts_of merge.sources trees) ≡ Some fault → link_text (source_files merge) fault ≡ Some text → Merges merge trees (Refuses text)
+  not_joined : (fault : JoinFault) (text : Text) → link_fault (parts_of merge.sources trees) ≡ None → Joins (parts_of merge.sources trees) merge.mode (Err fault) → join_text fault ≡ Some text
+      → Merges merge trees (Refuses text)
+  merged : (tree : Module) → AreMerged (parts_of merge.sources trees) merge.mode tree → Merges merge trees (Makes (record { name = merge.output; tree = tree; custom = [] } ∷ []) [])
 
--- What a task's work on its input files comes to.
-abbrev pub Decides : Task → List Entry → Job → Type 0
-Decides (Merge sources output mode) = Merges sources output mode
+-- What a task decides over its modules and its other texts.
+abbrev pub Decides : Task → List Module → List Text → Decision → Type 0
+Decides (Merge merge) trees texts = Merges merge trees
 
 -- The text of a task that is refused before a file is read.
 abbrev pub refused_before : Task → Option Text
-refused_before (Merge sources output mode) = if ltb most_parts (length sources) then Some parts_over_limit else None
+refused_before (Merge merge) = if ltb most_parts (length merge.sources) then Some parts_over_limit else None
 
--- What a task comes to: it may be refused at once; its files are read in order, and then it is decided over them.
+-- ---- the job ----
+
+-- The plain spelling of an output is within the limit. What follows it is not counted.
+abbrev pub is_within : Output → Bool
+is_within output = not (ltb most_output (length (plain output.tree)))
+
+-- An output as it is written.
+abbrev pub spelled_output : Output → Entry
+spelled_output output = (output.name, plain output.tree ++ output.custom)
+
+-- The job of a decision. All outputs are compared with the limit, in the order of writing, before one is written.
+abbrev pub job_of : Decision → Job
+job_of (Refuses text) = Refused text
+job_of (Makes outputs lines) = if list_all is_within outputs then Done (map spelled_output outputs) lines else Refused (output_over_limit OutputBytes)
+
+-- The input files of a task that are modules, and the contents of the others.
+abbrev pub module_files : Task → List Entry → List Entry
+module_files task files = take (length (modules_of task)) files
+
+abbrev pub text_contents : Task → List Entry → List Text
+text_contents task files = map (λ file. file.1) (drop (length (modules_of task)) files)
+
+-- What a task comes to over its input files: its modules are read and validated in order, and then it is decided.
+pub data InputsJob (task : Task) (files : List Entry) : Job → Type 0 where
+  not_loaded : (text : Text) → OneFails (many_of task) (module_files task files) text → InputsJob task files (Refused text)
+  decided : (trees : List Module) (decision : Decision) → AllLoad (many_of task) (module_files task files) trees → Decides task trees (text_contents task files) decision → InputsJob task files (job_of decision)
+
+-- What a task comes to: it may be refused at once; its files are read in order, and then it comes to something over them.
 pub data TaskJob (task : Task) (files : Contents) : Job → Type 0 where
   not_begun : (text : Text) → refused_before task ≡ Some text → TaskJob task files (Refused text)
   missing : (name : Text) → refused_before task ≡ None → gathered (inputs_of task) files most_input ≡ Lacks name → TaskJob task files Missing
   too_long : (name : Text) → refused_before task ≡ None → gathered (inputs_of task) files most_input ≡ TooLong name → TaskJob task files (Refused (over_limit name InputBytes))
-  decided : (inputs : List Entry) (job : Job) → refused_before task ≡ None → gathered (inputs_of task) files most_input ≡ Whole inputs → Decides task inputs job → TaskJob task files job
+  all_read : (inputs : List Entry) (job : Job) → refused_before task ≡ None → gathered (inputs_of task) files most_input ≡ Whole inputs → InputsJob task inputs job → TaskJob task files job
 
 -- The job of a command line.
 pub data HasJob (words : List Text) (files : Contents) : Job → Type 0 where

@@ -1,43 +1,42 @@
 -- What a command that is done has kept of the modules that it read.
-use Rattle.std.specs.Prelude.{◌≡◌, false, List, [], ◌∷◌, map, Option, Some}
+use Rattle.std.specs.Prelude.{◌≡◌, Bool, List, [], ◌∷◌, Option, Some}
 use Rattle.std.specs.FinMap.{get}
 use Rattle.tool_io.specs.Outside.{Contents}
-use Rattle.tools_cli.specs.Words.{Text, Source, Task, Merge, task_of}
+use Rattle.tools_cli.specs.Words.{Text, MergeTask, Task, Merge, task_of, source_files, many_of}
 use Rattle.tools_cli.specs.Job.{IsAccepted, parts_of, AreMerged}
 use Rattle.wasm_tree.specs.declared.module.Module.{Module}
 use Rattle.wasm_format.specs.Files.{Spells}
-use Rattle.export_names.specs.declared.mode.Mode.{Mode}
 use Rattle.merge_terms.specs.View.{linked_world}
 use Rattle.merge_worlds.specs.Laws.{BehavesAs}
 use Rattle.worlds_in_turn.specs.Laws.{MayComeInTurn}
 
 -- The file of this name spells this module.
-abbrev pub HoldsModule : Contents → Text → Module → Type 0
-HoldsModule files name tree = (bytes : Text) × (get files name ≡ Some bytes) × Spells bytes tree false
+abbrev pub HoldsModule : Bool → Contents → Text → Module → Type 0
+HoldsModule many files name tree = (bytes : Text) × (get files name ≡ Some bytes) × Spells bytes tree many
 
 -- The files of these names spell these modules, in order.
-abbrev pub HoldModules : Contents → List Text → List Module → Type 0
-HoldModules files [] [] = Unit {0}
-HoldModules files (name ∷ names) (tree ∷ trees) = HoldsModule files name tree × HoldModules files names trees
-HoldModules files _ _ = ⊥
+abbrev pub HoldModules : Bool → Contents → List Text → List Module → Type 0
+HoldModules many files [] [] = Unit {0}
+HoldModules many files (name ∷ names) (tree ∷ trees) = HoldsModule many files name tree × HoldModules many files names trees
+HoldModules many files _ _ = ⊥
 
 -- A merge. Its files spelled modules before, and its output spells the module that these parts are merged into, which is valid and behaves as the parts do where
 -- they are linked by their NAMEs and an embedder sees their exports under the names that the mode gives: in each environment, by each list of moves, whatever is
 -- seen of the parts in some number of steps is seen of the module alone in at most four more, and the other way round. Where OUT is one of the FILEs, the parts are
 -- what stood there before.
-pub record MergeKeeps (sources : List Source) (output : Text) (mode : Mode) (before after : Contents) : Type 0 where
+pub record MergeKeeps (merge : MergeTask) (before after : Contents) : Type 0 where
   pub trees : List Module
   pub tree : Module
-  pub read : HoldModules before (map (λ s. s.file) sources) trees
-  pub merged : AreMerged (parts_of sources trees) mode tree
-  pub written : HoldsModule after output tree
-  pub accepted : IsAccepted tree
-  pub behaves : BehavesAs (parts_of sources trees) mode tree
+  pub read : HoldModules (many_of (Merge merge)) before (source_files merge) trees
+  pub merged : AreMerged (parts_of merge.sources trees) merge.mode tree
+  pub written : HoldsModule (many_of (Merge merge)) after merge.output tree
+  pub accepted : IsAccepted (many_of (Merge merge)) tree
+  pub behaves : BehavesAs (parts_of merge.sources trees) merge.mode tree
   -- where the law of worlds_in_turn lets them, the parts may be instantiated one after the other
-  pub in_turn : MayComeInTurn (linked_world (parts_of sources trees) mode)
+  pub in_turn : MayComeInTurn (linked_world (parts_of merge.sources trees) merge.mode)
 
 abbrev pub TaskKeeps : Task → Contents → Contents → Type 0
-TaskKeeps (Merge sources output mode) = MergeKeeps sources output mode
+TaskKeeps (Merge merge) = MergeKeeps merge
 
 -- The words ask for a task, and it keeps what it read.
 abbrev pub Keeps : List Text → Contents → Contents → Type 0

@@ -1,8 +1,8 @@
 -- What a run of the program does to the files and the two sinks.
-use Rattle.std.specs.Prelude.{◌≡◌, ◌⊎◌, ℕ, List, [], ◌++◌, Option, Some, None, Result, Err, IfSome, Contains, string_bytes}
+use Rattle.std.specs.Prelude.{◌≡◌, ◌⊎◌, ℕ, false, List, [], ◌++◌, Option, Some, None, Result, Err, IfSome, Contains, string_bytes}
 use Rattle.std.specs.Option.{option_map_or}
 use Rattle.tool_io.specs.Outside.{Contents, Rose, Becomes, AppendsPrefix}
-use Rattle.tools_cli.specs.Words.{Text, Task, task_of, inputs_of, outputs_of, usage_line}
+use Rattle.tools_cli.specs.Words.{Text, Task, task_of, inputs_of, outputs_of, may_print, usage_line}
 use Rattle.tools_cli.specs.Effects.{Entry, made, IsCut, written_names}
 use Rattle.tools_cli.specs.Job.{Job, Usage, Missing, Refused, Done, HasJob, refused_before, most_input}
 use Rattle.tools_cli.specs.Stop.{stop_line, refusal_text, cannot_read, cannot_write, cannot_print}
@@ -56,9 +56,14 @@ FailsToWrite words held before now name =
     Contains (outputs_named words) name × Rose (before name) (now name)
     × IfSome held (λ files. (writes : List Entry) × (lines : Text) × HasJob words files (Done writes lines) × Contains (written_names writes) name)
 
--- Standard output could not be written, and the job is done.
-abbrev pub FailsToPrint : List Text → Option Contents → ℕ → ℕ → Type 0
-FailsToPrint words held before now = Rose before now × IfSome held (λ files. (writes : List Entry) × (lines : Text) × HasJob words files (Done writes lines))
+-- Standard output could not be written, and the job is done: all its writes are made.
+abbrev pub FailsToPrint : List Text → Option Contents → Option Contents → ℕ → ℕ → Type 0
+FailsToPrint words held new before now =
+    Rose before now × IfSome held (λ files. (writes : List Entry) × (lines : Text) × HasJob words files (Done writes lines) × (new ≡ Some (made writes files)))
+
+-- The words ask for no task that may print lines.
+abbrev pub PrintsNothing : List Text → Type 0
+PrintsNothing words = (task : Task) → task_of words ≡ Some task → may_print task ≡ false
 
 -- The status of a job that no fault of the outside meets.
 abbrev pub StatusOfJob : Job → Status → Type 0
@@ -91,7 +96,7 @@ StopsWork words old new (stop.Refused refusal) =
     IfSome old.files (λ files. HasJob words files (Refused (refusal_text refusal))) × IsSame old.files new.files × IsSame old.out new.out
 StopsWork words old new (stop.CannotRead name) = FailsToRead words old.files old.reads new.reads name.now × IsSame old.files new.files × IsSame old.out new.out
 StopsWork words old new (stop.CannotWrite name) = FailsToWrite words old.files old.writes new.writes (string_bytes name)
-StopsWork words old new stop.CannotPrint = FailsToPrint words old.files old.out_faults new.out_faults
+StopsWork words old new stop.CannotPrint = FailsToPrint words old.files new.files old.out_faults new.out_faults
 StopsWork words old new stop.NoMemory = Unit {0}
 
 -- One of the four causes of a fault of the outside, and what is said of it.
@@ -100,7 +105,7 @@ HasOutsideCause words old new err err' before now =
     Rose before now
     ⊎ (((name : Text) × FailsToRead words old.files old.reads new.reads name × IsSame old.files new.files × IsSame old.out new.out × Gains (stop_line (cannot_read name)) err err')
     ⊎ (((name : Text) × FailsToWrite words old.files old.writes new.writes name × Gains (stop_line (cannot_write name)) err err')
-    ⊎ (FailsToPrint words old.files old.out_faults new.out_faults × Gains (stop_line cannot_print) err err')))
+    ⊎ (FailsToPrint words old.files new.files old.out_faults new.out_faults × Gains (stop_line cannot_print) err err')))
 
 -- A count has risen.
 abbrev pub SomeRose : Outside → Outside → ℕ → ℕ → Type 0

@@ -1,17 +1,15 @@
 -- How a command ends, and what is said of it.
-use Rattle.std.specs.Prelude.{◌≡◌, ◌⊎◌, ℕ, ◌++◌, List, Option, Some, codes, decimal, string_bytes}
+use Rattle.std.specs.Prelude.{◌≡◌, ◌⊎◌, ℕ, ◌++◌, List, Option, Some, codes, string_bytes}
 use Rattle.tool_io.specs.Outside.{Becomes, Rose, AppendsPrefix}
 use Rattle.tools_cli.specs.Words.{Text, usage_line}
-use Rattle.tools_cli.specs.Texts.{fault_text, invalid_text, link_text, join_text, too_many_memories, export_twice, not_module, malformed_section, malformed_function, unsupported_section, unsupported_function, over_limit, parts_over_limit, output_over_limit}
+use Rattle.tools_cli.specs.Texts.{fault_text, invalid_text, link_text, join_text, import_differs, import_ends_nowhere, import_limits_clash, global_has_no_value, too_many_memories, export_twice, not_module, malformed_section, malformed_function, unsupported_section, unsupported_function, over_limit, parts_over_limit, output_over_limit}
 use Rattle.wasm_tree.specs.declared.which.Which.{Which}
 use Rattle.wasm_format.specs.declared.fault.ReadFault.{ReadFault}
-use Rattle.wasm_valid.specs.declared.kinds.Invalid.{Invalid}
+use Rattle.wasm_valid.specs.declared.kinds.Invalid as first
 use Rattle.tools_cli.specs.declared.stop.Status.{Status}
 use Rattle.tools_cli.specs.declared.stop.Status.TheVariants as status
 use Rattle.tools_cli.specs.declared.refusal.Refusal.{Refusal}
-use Rattle.tools_cli.specs.declared.refusal.Refusal.TheVariants.{NotModule, MalformedSection, MalformedFunction, UnsupportedSection, UnsupportedFunction, Limit, InvalidItem, TooManyParts, NotLinked, MoreMemories, ExportTwice, TooMany}
-use Rattle.tools_cli.specs.declared.refusal.Unlinked.{Unlinked}
-use Rattle.tools_cli.specs.declared.refusal.Unlinked.TheVariants.{Differs, EndsNowhere, Clashes, HasNoValue}
+use Rattle.tools_cli.specs.declared.refusal.Refusal.TheVariants.{NotModule, Malformed, MalformedBody, Unsupported, UnsupportedBody, Limit, Invalid, TooManyParts, ImportMismatch, ImportCycle, LimitsClash, TooManyMemories, GlobalCycle, ExportConflict, TooMany}
 use Rattle.merge_terms.specs.declared.faults.LinkFault.{LinkFault}
 use Rattle.merge_terms.specs.declared.faults.JoinFault.{JoinFault}
 use Rattle.tools_cli.specs.declared.stop.Stop.{Stop}
@@ -45,7 +43,7 @@ no_memory = codes "no memory"
 pub data IsLine : Text → Type 0 where
   usage : (words : List Text) → IsLine (usage_line words)
   fault_line : (file text : Text) (fault : ReadFault) → fault_text file fault ≡ Some text → IsLine (stop_line text)
-  invalid_line : (file : Text) (item : Invalid) → IsLine (stop_line (invalid_text file item))
+  invalid_line : (file : Text) (item : first.Invalid) → IsLine (stop_line (invalid_text file item))
   parts_line : IsLine (stop_line parts_over_limit)
   link_line : (files : List Text) (text : Text) (fault : LinkFault) → link_text files fault ≡ Some text → IsLine (stop_line text)
   join_line : (text : Text) (fault : JoinFault) → join_text fault ≡ Some text → IsLine (stop_line text)
@@ -67,35 +65,22 @@ status_of (CannotWrite file) = status.Outside
 status_of CannotPrint = status.Outside
 status_of NoMemory = status.NoMemory
 
--- The text of an import or a global that is not linked, round its number.
-abbrev pub before_unlinked : Unlinked → Text
-before_unlinked Differs = codes ": import "
-before_unlinked EndsNowhere = codes ": import "
-before_unlinked Clashes = codes ": import "
-before_unlinked HasNoValue = codes ": global "
-
-abbrev pub behind_unlinked : Unlinked → Text
-behind_unlinked Differs = codes " does not match"
-behind_unlinked EndsNowhere = codes " has no end"
-behind_unlinked Clashes = codes " has limits that clash"
-behind_unlinked HasNoValue = codes " has no value"
-
-abbrev pub unlinked_text : Text → Unlinked → ℕ → Text
-unlinked_text file cause index = file ++ (before_unlinked cause ++ (decimal index ++ behind_unlinked cause))
-
 -- The text of a refusal.
 abbrev pub refusal_text : Refusal → Text
 refusal_text (NotModule file) = not_module file.now
-refusal_text (MalformedSection file section) = malformed_section file.now section.number
-refusal_text (MalformedFunction file func) = malformed_function file.now func.number
-refusal_text (UnsupportedSection file section) = unsupported_section file.now section.number
-refusal_text (UnsupportedFunction file func) = unsupported_function file.now func.number
+refusal_text (Malformed file section) = malformed_section file.now section.number
+refusal_text (MalformedBody file func) = malformed_function file.now func.number
+refusal_text (Unsupported file section) = unsupported_section file.now section.number
+refusal_text (UnsupportedBody file func) = unsupported_function file.now func.number
 refusal_text (Limit file which) = over_limit file.now which
-refusal_text (InvalidItem file kind index) = invalid_text file.now (record { kind = kind; index = index.number })
+refusal_text (Invalid file kind index) = invalid_text file.now (record { kind = kind; index = index.number })
 refusal_text TooManyParts = parts_over_limit
-refusal_text (NotLinked file cause index) = unlinked_text file.now cause index.number
-refusal_text MoreMemories = too_many_memories
-refusal_text (ExportTwice name) = export_twice name
+refusal_text (ImportMismatch file import) = import_differs file.now import.number
+refusal_text (ImportCycle file import) = import_ends_nowhere file.now import.number
+refusal_text (LimitsClash file import) = import_limits_clash file.now import.number
+refusal_text TooManyMemories = too_many_memories
+refusal_text (GlobalCycle file global) = global_has_no_value file.now global.number
+refusal_text (ExportConflict name) = export_twice name
 refusal_text (TooMany which) = output_over_limit which
 
 -- What is put on standard error.

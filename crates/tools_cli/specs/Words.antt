@@ -1,5 +1,5 @@
 -- The words of a command line, and the task that they ask for.
-use Rattle.std.specs.Prelude.{ℕ, Bool, true, false, not, ◌&&◌, ◌||◌, ◌==◌, if◌then◌else◌, List, [], ◌∷◌, map, Option, Some, None, option_map, option_and_then, bytes_eq, codes}
+use Rattle.std.specs.Prelude.{ℕ, Bool, true, false, not, ◌&&◌, ◌||◌, ◌==◌, if◌then◌else◌, List, [], ◌∷◌, ◌++◌, map, Option, Some, None, option_map, option_and_then, bytes_eq, codes}
 use Rattle.std.specs.List.{list_any}
 use Rattle.export_names.specs.declared.mode.Mode.{Mode}
 use Rattle.export_names.specs.declared.mode.Mode.TheVariants as mode
@@ -13,10 +13,16 @@ pub record Source : Type 0 where
   pub file : Text
   pub name : Text
 
--- What a command is to do.
+-- What a merge is to do: the parts of these sources are merged, in order, and the output is written; the mode says what becomes of an export whose
+-- name came before.
+pub record MergeTask : Type 0 where
+  pub sources : List Source
+  pub output : Text
+  pub mode : Mode
+
+-- What a command is to do: a case for each command.
 pub data Task : Type 0 where
-  -- merge the parts of these sources, in order, and write the output; the mode says what becomes of an export whose name came before
-  Merge : List Source → Text → Mode → Task
+  Merge : MergeTask → Task
 
 -- ---- one word ----
 
@@ -113,7 +119,7 @@ one_mode (mode ∷ []) = Some mode
 one_mode _ = None
 
 abbrev pub make_merge : Option (List Source) → Option Text → Option Mode → Option Task
-make_merge (Some sources) (Some output) (Some mode) = Some (Merge sources output mode)
+make_merge (Some sources) (Some output) (Some mode) = Some (Merge (record { sources = sources; output = output; mode = mode }))
 make_merge _ _ _ = None
 
 abbrev pub task_of_line : Line → Option Task
@@ -128,13 +134,35 @@ unfoldable pub task_of : List Text → Option Task
 task_of [] = None
 task_of (word ∷ rest) = if bytes_eq word (codes "merge") then merge_of rest else None
 
--- The files that a task reads, in order.
+-- ---- what a task reads, writes and prints ----
+
+-- The files of the parts of a merge.
+abbrev pub source_files : MergeTask → List Text
+source_files merge = map (λ s. s.file) merge.sources
+
+-- Whether the modules that a task reads and writes may have several memories.
+abbrev pub many_of : Task → Bool
+many_of (Merge merge) = false
+
+-- The files that a task reads as modules, in order.
+abbrev pub modules_of : Task → List Text
+modules_of (Merge merge) = source_files merge
+
+-- The files that it reads as other texts, in order.
+abbrev pub texts_of : Task → List Text
+texts_of (Merge merge) = []
+
+-- The files that a task reads, in order: the modules first.
 abbrev pub inputs_of : Task → List Text
-inputs_of (Merge sources output mode) = map (λ s. s.file) sources
+inputs_of task = modules_of task ++ texts_of task
 
 -- The files that a task may write.
 abbrev pub outputs_of : Task → List Text
-outputs_of (Merge sources output mode) = output ∷ []
+outputs_of (Merge merge) = merge.output ∷ []
+
+-- Whether a task may print lines.
+abbrev pub may_print : Task → Bool
+may_print (Merge merge) = false
 
 -- The line that is put where a command line asks for no task.
 abbrev pub all_usage : Text

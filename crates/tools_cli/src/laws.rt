@@ -8,8 +8,10 @@ ghost use Rattle.tools_cli.specs.Kept.{Keeps};
 use merge_ranges::merged_modules_are_in_range;
 use merge_validity::merged_modules_are_valid;
 use merge_worlds::merged_modules_show_the_same;
-use plain_law::{plain_spells, spelled_trees_are_in_range};
-use wasm_format::{no_fault_where_spelled, one_tree, spelled_trees_are_bounded};
+use plain_law::{plain_spells, spelled_trees_are_in_range, trees_that_fit_have_small_sizes};
+use wasm_format::{
+    faults_have_causes, no_fault_where_spelled, one_tree, spelled_trees_are_bounded,
+};
 use worlds_in_turn::turns_are_not_seen;
 
 /// A command line has at most one job over some files.
@@ -20,12 +22,21 @@ pub fn jobs_are_determined()
     no_fault_where_spelled();
 }
 
+/// Over files that hold bytes every command line has a job.
+pub fn command_lines_have_jobs()
+    ensures exists { (words : List (List ℕ)) (files : Contents) → HoldBytes files → (job : Job) × HasJob words files job }
+{
+    no_fault_where_spelled();
+    faults_have_causes();
+}
+
 /// A job that is done keeps the modules that it read: the output spells the module that they are merged into, it is valid, and it behaves as they do where they
 /// are linked by name.
 pub fn done_jobs_keep_the_modules()
     ensures { (words : List (List ℕ)) (before : Contents) (writes : List Entry) (lines : List ℕ) → HasJob words before (Done writes lines) → Keeps words before (made writes before) }
 {
     plain_spells();
+    trees_that_fit_have_small_sizes();
     spelled_trees_are_in_range();
     spelled_trees_are_bounded();
     merged_modules_are_valid();

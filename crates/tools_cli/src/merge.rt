@@ -1,4 +1,4 @@
-// A merge that a command line asks for.
+// What a merge is to do.
 ghost use Rattle.std.specs.Prelude.{◌≡◌, true, map, IfOk};
 ghost use Rattle.tools_cli.specs.Words.{are_apart};
 
@@ -12,22 +12,22 @@ pub(crate) struct Source<'a> {
     pub(crate) name: &'a str,
 }
 
-/// A merge that a command line asks for.
+/// What a merge is to do.
 #[derive(Drop)]
-pub(crate) struct Merge<'a> {
+pub(crate) struct MergeTask<'a> {
     pub(crate) sources: Vec<Source<'a>>,
     pub(crate) output: &'a str,
     pub(crate) mode: Mode,
     ghost apart: { are_apart (map (λ s. s.name.now) sources.items) ≡ true },
 }
 
-impl<'a> Merge<'a> {
-    ghost use Rattle.tools_cli.specs.Words.{inputs_of};
-    ghost use Rattle.tools_cli.specs.Command.{task, names_of};
+impl<'a> MergeTask<'a> {
+    ghost use Rattle.tools_cli.specs.Words.{source_files};
+    ghost use Rattle.tools_cli.specs.Command.{merge_value, names_of};
 
-    /// The files that are read, in order.
-    pub(crate) fn inputs(&self, alloc: Global) -> Result<Vec<&'a str>, AllocError>
-        ensures { IfOk result (λ names. names_of names.items ≡ inputs_of (task self.now)) }
+    /// The files of the parts, in order.
+    pub(crate) fn files(&self, alloc: Global) -> Result<Vec<&'a str>, AllocError>
+        ensures { IfOk result (λ names. names_of names.items ≡ source_files (merge_value self.now)) }
     {
         let mut names = Vec::new(alloc);
         for source in &self.sources {

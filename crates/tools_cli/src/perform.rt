@@ -2,7 +2,7 @@
 ghost use Rattle.std.specs.Prelude.{◌≡◌, OnOk, IfErr};
 ghost use Rattle.tool_io.specs.Outside.{NoneFell, Becomes};
 ghost use Rattle.tools_cli.specs.Effects.{made, IsCut};
-ghost use Rattle.tools_cli.specs.Command.{output_entries};
+ghost use Rattle.tools_cli.specs.Command.{write_entries};
 ghost use Rattle.tools_cli.specs.Causes.{StopsWriting};
 
 use crate::stop::Stop;
@@ -10,21 +10,24 @@ use tool_io::{Files, IoFault};
 
 /// A file to be written.
 #[derive(Drop)]
-pub(crate) struct Output {
+pub(crate) struct Write {
     pub(crate) name: String,
     pub(crate) bytes: Vec<u8>,
 }
 
 /// Writes files in order.
-pub(crate) fn perform<'a, F: Files>(files: &mut F, outputs: Vec<Output>) -> Result<(), Stop<'a>>
-    ensures made { OnOk result (Becomes (F.contents files.old) (F.contents files.new) (λ old new. new ≡ made (output_entries outputs.items) old)) }
-    ensures cut { Becomes (F.contents files.old) (F.contents files.new) (IsCut (output_entries outputs.items)) }
+pub(crate) fn write_outputs<'a, F: Files>(
+    files: &mut F,
+    outputs: Vec<Write>,
+) -> Result<(), Stop<'a>>
+    ensures made { OnOk result (Becomes (F.contents files.old) (F.contents files.new) (λ old new. new ≡ made (write_entries outputs.items) old)) }
+    ensures cut { Becomes (F.contents files.old) (F.contents files.new) (IsCut (write_entries outputs.items)) }
     ensures reads { NoneFell (F.read_faults files.old) (F.read_faults files.new) }
     ensures writes { NoneFell (F.write_faults files.old) (F.write_faults files.new) }
-    ensures stops { IfErr result (StopsWriting (F.write_faults files.old) (F.write_faults files.new) (output_entries outputs.items)) }
+    ensures stops { IfErr result (StopsWriting (F.write_faults files.old) (F.write_faults files.new) (write_entries outputs.items)) }
 {
     for output in outputs {
-        let Output { name, bytes } = output;
+        let Write { name, bytes } = output;
         match files.write(name.as_str(), bytes.as_slice()) {
             Ok(()) => {}
             Err(IoFault::Failed) => return Err(Stop::CannotWrite(name)),

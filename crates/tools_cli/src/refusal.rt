@@ -1,11 +1,13 @@
 // What is wrong with the input, and the text of it.
-ghost use Rattle.std.specs.Prelude.{◌≡◌, ◌++◌, Some, IfOk, flat_map, option_map, slice_get, codes};
+ghost use Rattle.std.specs.Prelude.{◌≡◌, ◌++◌, Some, IfOk, flat_map, length, slice_get, codes, ◌<◌};
 ghost use Rattle.tools_cli.specs.Texts.{which_text, fault_text, kind_text, invalid_text, link_text, join_text};
-ghost use Rattle.tools_cli.specs.Stop.{unlinked_text, before_unlinked, behind_unlinked, refusal_text, stop_line};
-ghost use Rattle.tools_cli.specs.Command.{source_files};
+ghost use Rattle.tools_cli.specs.Stop.{refusal_text, stop_line};
+ghost use Rattle.tools_cli.specs.Command.{files_of};
+ghost use Rattle.tools_cli.specs.Causes.{IsRefusal, NamesPart};
 
 use crate::digits::Digits;
 use crate::merge::Source;
+use crate::stop::Stop;
 use merge_terms::{JoinFault, LinkFault};
 use std::alloc::{AllocError, Global};
 use wasm_bytes::Name;
@@ -13,38 +15,25 @@ use wasm_read::ReadFault;
 use wasm_tree::Which;
 use wasm_valid::{Invalid, ItemKind};
 
-/// Why an import or a global is not linked.
-#[derive(Clone, Copy, Debug)]
-pub(crate) enum Unlinked {
-    /// The import does not match its end.
-    Differs,
-    /// Following the import never ends.
-    EndsNowhere,
-    /// The imports that end there ask for limits that no table or memory has.
-    Clashes,
-    /// Following the value of the global never ends.
-    HasNoValue,
-}
-
-/// What is wrong with the input.
+/// What is wrong with the input, by the names of the faults.
 #[derive(Drop)]
 pub(crate) enum Refusal<'a> {
     NotModule {
         file: &'a str,
     },
-    MalformedSection {
+    Malformed {
         file: &'a str,
         section: Digits,
     },
-    MalformedFunction {
+    MalformedBody {
         file: &'a str,
         func: Digits,
     },
-    UnsupportedSection {
+    Unsupported {
         file: &'a str,
         section: Digits,
     },
-    UnsupportedFunction {
+    UnsupportedBody {
         file: &'a str,
         func: Digits,
     },
@@ -52,19 +41,30 @@ pub(crate) enum Refusal<'a> {
         file: &'a str,
         which: Which,
     },
-    InvalidItem {
+    Invalid {
         file: &'a str,
         kind: ItemKind,
         index: Digits,
     },
     TooManyParts,
-    NotLinked {
+    ImportMismatch {
         file: &'a str,
-        cause: Unlinked,
-        index: Digits,
+        import: Digits,
     },
-    MoreMemories,
-    ExportTwice {
+    ImportCycle {
+        file: &'a str,
+        import: Digits,
+    },
+    LimitsClash {
+        file: &'a str,
+        import: Digits,
+    },
+    TooManyMemories,
+    GlobalCycle {
+        file: &'a str,
+        global: Digits,
+    },
+    ExportConflict {
         name: Name,
     },
     TooMany {
@@ -72,79 +72,75 @@ pub(crate) enum Refusal<'a> {
     },
 }
 
-impl<'a> Refusal<'a> {
-    /// The refusal of a file for its first fault. Want of memory is the error, also as a fault.
-    pub(crate) fn of_fault(
-        alloc: Global,
-        file: &'a str,
-        fault: ReadFault,
-    ) -> Result<Refusal<'a>, AllocError>
-        ensures { IfOk result (λ refusal. fault_text file.entry.now fault ≡ Some (refusal_text refusal)) }
-    {
-        match fault {
-            ReadFault::NotModule => Ok(Refusal::NotModule { file }),
-            ReadFault::Malformed { section } => Ok(Refusal::MalformedSection {
-                file,
-                section: Digits::new(alloc, section)?,
-            }),
-            ReadFault::MalformedBody { func } => Ok(Refusal::MalformedFunction {
-                file,
-                func: Digits::new(alloc, func)?,
-            }),
-            ReadFault::Unsupported {
-                section,
-                func: None,
-            } => Ok(Refusal::UnsupportedSection {
-                file,
-                section: Digits::new(alloc, section)?,
-            }),
-            ReadFault::Unsupported {
-                func: Some(func),
-                ..
-            } => Ok(Refusal::UnsupportedFunction {
-                file,
-                func: Digits::new(alloc, func)?,
-            }),
-            ReadFault::Limit { which } => Ok(Refusal::Limit { file, which }),
-            ReadFault::NoMemory => Err(AllocError),
-        }
-    }
-
-    /// The refusal of a file for an item that does not hold. Its error is want of memory.
-    pub(crate) fn of_invalid(
-        alloc: Global,
-        file: &'a str,
-        item: Invalid,
-    ) -> Result<Refusal<'a>, AllocError>
-        ensures { IfOk result (λ refusal. refusal_text refusal ≡ invalid_text file.entry.now item) }
-    {
-        let index = Digits::new(alloc, item.index)?;
-        Ok(Refusal::InvalidItem {
-            file,
-            kind: item.kind,
-            index,
-        })
+/// A refusal as a stop, or want of memory for its text.
+pub(crate) fn refused<'a>(refusal: Result<Refusal<'a>, AllocError>) -> Stop<'a>
+    ensures { IsRefusal refusal.entry result }
+{
+    match refusal {
+        Ok(refusal) => Stop::Refused(refusal),
+        Err(_) => Stop::NoMemory,
     }
 }
 
-// The refusal of one import or global of a part.
-fn not_linked<'a>(
+/// The refusal of a file for its first fault. Want of memory is the error, also as a fault.
+pub(crate) fn refuse_fault<'a>(
     alloc: Global,
-    sources: &[Source<'a>],
-    part: u32,
-    cause: Unlinked,
-    index: u32,
+    file: &'a str,
+    fault: ReadFault,
 ) -> Result<Refusal<'a>, AllocError>
-    ensures { IfOk result (λ refusal. option_map (λ file. unlinked_text file cause index) (slice_get (source_files sources.now) part) ≡ Some (refusal_text refusal)) }
+    ensures { IfOk result (λ refusal. fault_text file.entry.now fault ≡ Some (refusal_text refusal)) }
 {
-    let Some(source) = sources.get(part as usize) else {
-        return Err(AllocError);
-    };
-    Ok(Refusal::NotLinked {
-        file: source.file,
-        cause,
-        index: Digits::new(alloc, index)?,
+    match fault {
+        ReadFault::NotModule => Ok(Refusal::NotModule { file }),
+        ReadFault::Malformed { section } => Ok(Refusal::Malformed {
+            file,
+            section: Digits::new(alloc, section)?,
+        }),
+        ReadFault::MalformedBody { func } => Ok(Refusal::MalformedBody {
+            file,
+            func: Digits::new(alloc, func)?,
+        }),
+        ReadFault::Unsupported {
+            section,
+            func: None,
+        } => Ok(Refusal::Unsupported {
+            file,
+            section: Digits::new(alloc, section)?,
+        }),
+        ReadFault::Unsupported {
+            func: Some(func),
+            ..
+        } => Ok(Refusal::UnsupportedBody {
+            file,
+            func: Digits::new(alloc, func)?,
+        }),
+        ReadFault::Limit { which } => Ok(Refusal::Limit { file, which }),
+        ReadFault::NoMemory => Err(AllocError),
+    }
+}
+
+/// The refusal of a file for an item that does not hold. Its error is want of memory.
+pub(crate) fn refuse_item<'a>(
+    alloc: Global,
+    file: &'a str,
+    item: Invalid,
+) -> Result<Refusal<'a>, AllocError>
+    ensures { IfOk result (λ refusal. refusal_text refusal ≡ invalid_text file.entry.now item) }
+{
+    let index = Digits::new(alloc, item.index)?;
+    Ok(Refusal::Invalid {
+        file,
+        kind: item.kind,
+        index,
     })
+}
+
+// The file of a part.
+fn file_of<'a>(sources: &[Source<'a>], part: u32) -> &'a str
+    requires { part < length sources.now }
+    ensures { slice_get (files_of sources.now) part ≡ Some result.now }
+{
+    sources[part as usize].file
 }
 
 /// The refusal of parts that do not link. Want of memory is the error, also as a fault.
@@ -153,22 +149,27 @@ pub(crate) fn refuse_link<'a>(
     sources: &[Source<'a>],
     fault: LinkFault,
 ) -> Result<Refusal<'a>, AllocError>
-    ensures { IfOk result (λ refusal. link_text (source_files sources.now) fault ≡ Some (refusal_text refusal)) }
+    requires { NamesPart (length sources.now) fault }
+    ensures { IfOk result (λ refusal. link_text (files_of sources.now) fault ≡ Some (refusal_text refusal)) }
 {
     match fault {
-        LinkFault::ImportMismatch { part, import } => {
-            not_linked(alloc, sources, part, Unlinked::Differs, import)
-        }
-        LinkFault::ImportCycle { part, import } => {
-            not_linked(alloc, sources, part, Unlinked::EndsNowhere, import)
-        }
-        LinkFault::LimitsClash { part, import } => {
-            not_linked(alloc, sources, part, Unlinked::Clashes, import)
-        }
-        LinkFault::TooManyMemories => Ok(Refusal::MoreMemories),
-        LinkFault::GlobalCycle { part, global } => {
-            not_linked(alloc, sources, part, Unlinked::HasNoValue, global)
-        }
+        LinkFault::ImportMismatch { part, import } => Ok(Refusal::ImportMismatch {
+            file: file_of(sources, part),
+            import: Digits::new(alloc, import)?,
+        }),
+        LinkFault::ImportCycle { part, import } => Ok(Refusal::ImportCycle {
+            file: file_of(sources, part),
+            import: Digits::new(alloc, import)?,
+        }),
+        LinkFault::LimitsClash { part, import } => Ok(Refusal::LimitsClash {
+            file: file_of(sources, part),
+            import: Digits::new(alloc, import)?,
+        }),
+        LinkFault::TooManyMemories => Ok(Refusal::TooManyMemories),
+        LinkFault::GlobalCycle { part, global } => Ok(Refusal::GlobalCycle {
+            file: file_of(sources, part),
+            global: Digits::new(alloc, global)?,
+        }),
         LinkFault::NoMemory => Err(AllocError),
     }
 }
@@ -178,7 +179,7 @@ pub(crate) fn refuse_join<'a>(fault: JoinFault) -> Result<Refusal<'a>, AllocErro
     ensures { IfOk result (λ refusal. join_text fault ≡ Some (refusal_text refusal)) }
 {
     match fault {
-        JoinFault::ExportConflict { name } => Ok(Refusal::ExportTwice { name }),
+        JoinFault::ExportConflict { name } => Ok(Refusal::ExportConflict { name }),
         JoinFault::TooMany { which } => Ok(Refusal::TooMany { which }),
         JoinFault::NoMemory => Err(AllocError),
     }
@@ -228,56 +229,34 @@ fn invalid_kind<'a>(kind: ItemKind) -> &'a str
     }
 }
 
-// What stands before the number of an import or a global that is not linked.
-fn before_unlinked<'a>(cause: Unlinked) -> &'a str
-    ensures { result.now ≡ before_unlinked cause }
-{
-    match cause {
-        Unlinked::Differs | Unlinked::EndsNowhere | Unlinked::Clashes => ": import ",
-        Unlinked::HasNoValue => ": global ",
-    }
-}
-
-// And what stands behind it, to the end of the line.
-fn behind_unlinked<'a>(cause: Unlinked) -> &'a str
-    ensures { result.now ≡ behind_unlinked cause ++ codes "\n" }
-{
-    match cause {
-        Unlinked::Differs => " does not match\n",
-        Unlinked::EndsNowhere => " has no end\n",
-        Unlinked::Clashes => " has limits that clash\n",
-        Unlinked::HasNoValue => " has no value\n",
-    }
-}
-
 /// The line of a refusal, in pieces.
 pub(crate) fn refusal_pieces<'a>(refusal: &'a Refusal<'a>) -> [&'a str; 5]
     ensures { flat_map (λ p. p.now) result ≡ stop_line (refusal_text refusal.now) }
 {
     match refusal {
         Refusal::NotModule { file } => ["binkit: ", file, ": not a WebAssembly module", "", "\n"],
-        Refusal::MalformedSection { file, section } => [
+        Refusal::Malformed { file, section } => [
             "binkit: ",
             file,
             ": malformed section ",
             section.as_str(),
             "\n",
         ],
-        Refusal::MalformedFunction { file, func } => [
+        Refusal::MalformedBody { file, func } => [
             "binkit: ",
             file,
             ": malformed function ",
             func.as_str(),
             "\n",
         ],
-        Refusal::UnsupportedSection { file, section } => [
+        Refusal::Unsupported { file, section } => [
             "binkit: ",
             file,
             ": unsupported in section ",
             section.as_str(),
             "\n",
         ],
-        Refusal::UnsupportedFunction { file, func } => [
+        Refusal::UnsupportedBody { file, func } => [
             "binkit: ",
             file,
             ": unsupported in function ",
@@ -291,7 +270,7 @@ pub(crate) fn refusal_pieces<'a>(refusal: &'a Refusal<'a>) -> [&'a str; 5]
             which_name(*which),
             "\n",
         ],
-        Refusal::InvalidItem { file, kind, index } => [
+        Refusal::Invalid { file, kind, index } => [
             "binkit: ",
             file,
             invalid_kind(*kind),
@@ -299,15 +278,36 @@ pub(crate) fn refusal_pieces<'a>(refusal: &'a Refusal<'a>) -> [&'a str; 5]
             "\n",
         ],
         Refusal::TooManyParts => ["binkit: ", "limit on parts", "", "", "\n"],
-        Refusal::NotLinked { file, cause, index } => [
+        Refusal::ImportMismatch { file, import } => [
             "binkit: ",
             file,
-            before_unlinked(*cause),
-            index.as_str(),
-            behind_unlinked(*cause),
+            ": import ",
+            import.as_str(),
+            " does not match\n",
         ],
-        Refusal::MoreMemories => ["binkit: ", "more than one memory", "", "", "\n"],
-        Refusal::ExportTwice { name } => {
+        Refusal::ImportCycle { file, import } => [
+            "binkit: ",
+            file,
+            ": import ",
+            import.as_str(),
+            " has no end\n",
+        ],
+        Refusal::LimitsClash { file, import } => [
+            "binkit: ",
+            file,
+            ": import ",
+            import.as_str(),
+            " has limits that clash\n",
+        ],
+        Refusal::GlobalCycle { file, global } => [
+            "binkit: ",
+            file,
+            ": global ",
+            global.as_str(),
+            " has no value\n",
+        ],
+        Refusal::TooManyMemories => ["binkit: ", "more than one memory", "", "", "\n"],
+        Refusal::ExportConflict { name } => {
             ["binkit: ", "export ", name.as_str(), " stands twice", "\n"]
         }
         Refusal::TooMany { which } => [

@@ -4,11 +4,11 @@ ghost use Rattle.tool_io.specs.Outside.{NoneFell, Becomes, Rose};
 ghost use Rattle.tools_cli.specs.Words.{task_of, usage_line};
 ghost use Rattle.tools_cli.specs.Stop.{Says};
 ghost use Rattle.tools_cli.specs.Kept.{EndsKept};
-ghost use Rattle.tools_cli.specs.Run.{ChangesByTheJob, PrintsForTheJob, EndsDone, EndsRefused, HasStatus, HasOutsideCause, SomeRose, IsSame, Gains, Outside};
+ghost use Rattle.tools_cli.specs.Run.{ChangesByTheJob, PrintsForTheJob, PrintsNothing, EndsDone, EndsRefused, HasStatus, HasOutsideCause, SomeRose, IsSame, Gains, Outside};
 
 use crate::laws::done_jobs_keep_the_modules;
 use crate::stop::{Status, report};
-use crate::work::work;
+use crate::work::run_command;
 use std::alloc::Global;
 use tool_io::{Files, Sink};
 
@@ -31,6 +31,8 @@ pub fn run<F: Files, O: Sink, E: Sink>(
     // At every exit: some first writes of the job, a prefix of its lines after all writes, a prefix of one line.
     ensures files { Becomes (F.contents files.old) (F.contents files.new) (ChangesByTheJob (map string_bytes words.now)) }
     ensures prints { IfSome (F.contents files.old) (λ a. Becomes (O.bytes out.old) (O.bytes out.new) (PrintsForTheJob (map string_bytes words.now) a (F.contents files.new))) }
+    // A task that prints no lines leaves the output as it was, also where the files do not tell what they hold.
+    ensures no_lines { PrintsNothing (map string_bytes words.now) → IsSame (O.bytes out.old) (O.bytes out.new) }
     ensures says { Becomes (E.bytes err.old) (E.bytes err.new) Says }
 
     // Each status has its cause.
@@ -55,7 +57,7 @@ pub fn run<F: Files, O: Sink, E: Sink>(
     ensures no_task { task_of (map string_bytes words.now) ≡ None → Rose (E.faults err.old) (E.faults err.new) ⊎ ((result ≡ Status.NoMemory) ⊎ (result ≡ Status.Usage)) }
 {
     done_jobs_keep_the_modules();
-    match work(alloc, words, files, out) {
+    match run_command(alloc, words, files, out) {
         Ok(()) => Status::Done,
         Err(stop) => report(err, &stop),
     }

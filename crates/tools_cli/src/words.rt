@@ -1,10 +1,11 @@
 // The task that the words of a command line ask for.
 ghost use Rattle.std.specs.Prelude.{◌≡◌, true, map, option_map, option_and_then, string_bytes, IfOk, IfSome};
 ghost use Rattle.tools_cli.specs.Words.{task_of, merge_of, task_of_line, sources_of, some_apart, are_apart, one_output, one_mode, usage_line};
-ghost use Rattle.tools_cli.specs.Command.{task, line_value, source_values, source_names, names_of};
+ghost use Rattle.tools_cli.specs.Command.{task_value, line_value, source_values, source_names, names_of};
 
 use crate::line::{Line, read_line};
-use crate::merge::{Merge, Source};
+use crate::merge::{MergeTask, Source};
+use crate::task::Task;
 use export_names::Mode;
 use std::alloc::{AllocError, Global};
 use std::collections::BTreeMap;
@@ -77,8 +78,8 @@ fn one_mode(modes: &[Mode]) -> Option<Mode>
 }
 
 // The merge of what is said, or none.
-fn merge_of_line<'a>(alloc: Global, line: &Line<'a>) -> Result<Option<Merge<'a>>, AllocError>
-    ensures { IfOk result (λ merge. option_map task merge ≡ task_of_line (line_value line.now)) }
+fn merge_of_line<'a>(alloc: Global, line: &Line<'a>) -> Result<Option<Task<'a>>, AllocError>
+    ensures { IfOk result (λ task. option_map task_value task ≡ task_of_line (line_value line.now)) }
 {
     let Some(sources) = some_apart(alloc, line.plain.as_slice())? else {
         return Ok(None);
@@ -89,16 +90,16 @@ fn merge_of_line<'a>(alloc: Global, line: &Line<'a>) -> Result<Option<Merge<'a>>
     let Some(mode) = one_mode(line.modes.as_slice()) else {
         return Ok(None);
     };
-    Ok(Some(Merge {
+    Ok(Some(Task::Merge(MergeTask {
         sources,
         output,
         mode,
-    }))
+    })))
 }
 
 // The merge that the words after `merge` ask for, or none.
-fn parse_merge<'a>(alloc: Global, words: &'a [String]) -> Result<Option<Merge<'a>>, AllocError>
-    ensures { IfOk result (λ merge. option_map task merge ≡ merge_of (map string_bytes words.now)) }
+fn parse_merge<'a>(alloc: Global, words: &'a [String]) -> Result<Option<Task<'a>>, AllocError>
+    ensures { IfOk result (λ task. option_map task_value task ≡ merge_of (map string_bytes words.now)) }
 {
     match read_line(alloc, words)? {
         Some(line) => merge_of_line(alloc, &line),
@@ -106,10 +107,10 @@ fn parse_merge<'a>(alloc: Global, words: &'a [String]) -> Result<Option<Merge<'a
     }
 }
 
-/// The command of these words, or none.
+/// The task of a command line, or none.
 #[tactic(auto, unfolding(crate::specs::Words::task_of))]
-pub(crate) fn parse<'a>(alloc: Global, words: &'a [String]) -> Result<Option<Merge<'a>>, AllocError>
-    ensures { IfOk result (λ merge. option_map task merge ≡ task_of (map string_bytes words.now)) }
+pub(crate) fn parse<'a>(alloc: Global, words: &'a [String]) -> Result<Option<Task<'a>>, AllocError>
+    ensures { IfOk result (λ task. option_map task_value task ≡ task_of (map string_bytes words.now)) }
 {
     let Some((word, rest)) = words.split_first() else {
         return Ok(None);

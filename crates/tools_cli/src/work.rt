@@ -1,73 +1,122 @@
 // The work of a command, up to what is said of a stop.
-ghost use Rattle.std.specs.Prelude.{◌≡◌, ◌≤◌, ◌++◌, map, string_bytes, OnOk, IfOk, IfErr, IfSome, None};
-ghost use Rattle.tool_io.specs.Outside.{NoneFell, Becomes};
-ghost use Rattle.tools_cli.specs.Effects.{IsCut};
-ghost use Rattle.tools_cli.specs.Job.{TaskJob, Done};
-ghost use Rattle.tools_cli.specs.Command.{task, output_entries};
-ghost use Rattle.tools_cli.specs.Causes.{AreOutputs, StopsPreparing, StopsFinishing, AllWritten, PrintsAfter};
-ghost use Rattle.tools_cli.specs.Run.{ChangesByTheJob, PrintsForTheJob, EndsDone, IsUsage, StopsWork};
-ghost use Rattle.tools_cli.specs.Words.{task_of};
+ghost use Rattle.std.specs.Prelude.{◌≡◌, ◌≤◌, ◌++◌, [], map, string_bytes, OnOk, IfOk, IfErr, IfSome, None};
+ghost use Rattle.tool_io.specs.Outside.{NoneFell, Becomes, AppendsPrefix};
+ghost use Rattle.tools_cli.specs.Effects.{IsCut, written_names};
+ghost use Rattle.tools_cli.specs.Job.{InputsJob, TaskJob, Done, Refused, Whole, gathered, refused_before, most_input};
+ghost use Rattle.tools_cli.specs.Command.{task_value, input_entries, write_entries};
+ghost use Rattle.tools_cli.specs.Causes.{AreOutputs, PrintsAsAllowed, StopsWith, StopsGathering, StopsPreparing, StopsPrinting, StopsFinishing, AllWritten, PrintsAfter, total};
+ghost use Rattle.tools_cli.specs.Run.{ChangesByTheJob, PrintsForTheJob, PrintsNothing, EndsDone, IsSame, IsUsage, StopsWork};
+ghost use Rattle.tools_cli.specs.Words.{task_of, inputs_of};
 
-use crate::gather::gather;
-use crate::merge::Merge;
-use crate::perform::perform;
-use crate::plan::{Plan, decide};
-use crate::refusal::Refusal;
+use crate::decide::decide;
+use crate::encode::{Plan, encode};
+use crate::gather::{Input, gather};
+use crate::load::load_all;
+use crate::perform::write_outputs;
 use crate::stop::Stop;
+use crate::task::Task;
 use crate::words::{parse, usage};
 use std::alloc::Global;
 use tool_io::{Files, IoFault, Sink};
-use wasm_tree::{MOST_INPUT_BYTES, MOST_PARTS};
+use wasm_tree::MOST_INPUT_BYTES;
 
-// Reads the inputs, and decides over them.
-fn prepare<'a, F: Files>(alloc: Global, merge: &Merge<'a>, files: &mut F) -> Result<Plan, Stop<'a>>
+// Reads the files of a task, in order.
+fn read_inputs<'a, F: Files>(
+    alloc: Global,
+    task: &Task<'a>,
+    files: &mut F,
+) -> Result<Vec<Input<'a>>, Stop<'a>>
     ensures stays { F.contents files.new ≡ F.contents files.old }
     ensures reads { NoneFell (F.read_faults files.old) (F.read_faults files.new) }
     ensures writes { NoneFell (F.write_faults files.old) (F.write_faults files.new) }
-    ensures plan { IfOk result (λ plan. IfSome (F.contents files.old) (λ held. TaskJob (task merge.now) held (Done (output_entries plan.outputs.items) plan.lines.items))) }
-    ensures outputs { IfOk result (λ plan. AreOutputs (task merge.now) (output_entries plan.outputs.items)) }
-    ensures stops { IfErr result (StopsPreparing (F.contents files.old) (F.read_faults files.old) (F.read_faults files.new) (task merge.now)) }
+    ensures whole { IfOk result (λ inputs. IfSome (F.contents files.old) (λ held. gathered (inputs_of (task_value task.now)) held most_input ≡ Whole (input_entries inputs.items))) }
+    ensures names { IfOk result (λ inputs. map (λ e. e.0) (input_entries inputs.items) ≡ inputs_of (task_value task.now)) }
+    ensures room { IfOk result (λ inputs. total (input_entries inputs.items) ≤ most_input) }
+    ensures stops { IfErr result (StopsGathering (F.contents files.old) (F.read_faults files.old) (F.read_faults files.new) (inputs_of (task_value task.now)) most_input) }
 {
-    if merge.sources.len() > MOST_PARTS as usize {
-        return Err(Stop::Refused(Refusal::TooManyParts));
+    match task.inputs(alloc) {
+        Ok(names) => gather(alloc, files, names.as_slice(), MOST_INPUT_BYTES as usize),
+        Err(_) => Err(Stop::NoMemory),
     }
-    let Ok(names) = merge.inputs(alloc) else {
-        return Err(Stop::NoMemory);
+}
+
+// Loads the modules, decides over them and the other texts, and encodes what is decided.
+fn plan<'a>(alloc: Global, task: &Task<'a>, inputs: &[Input<'a>]) -> Result<Plan, Stop<'a>>
+    requires room { total (input_entries inputs.now) ≤ most_input }
+    requires names { map (λ e. e.0) (input_entries inputs.now) ≡ inputs_of (task_value task.now) }
+    requires begun { refused_before (task_value task.now) ≡ None }
+    ensures plan { IfOk result (λ plan. InputsJob (task_value task.now) (input_entries inputs.now) (Done (write_entries plan.writes.items) plan.lines.items)) }
+    ensures stops { IfErr result (StopsWith (λ text. InputsJob (task_value task.now) (input_entries inputs.now) (Refused text))) }
+{
+    let (files, texts) = inputs.split_at(task.module_count());
+    let modules = match load_all(alloc, files) {
+        Ok(modules) => modules,
+        Err(stop) => return Err(stop),
     };
-    match gather(alloc, files, names.as_slice(), MOST_INPUT_BYTES as usize) {
-        Ok(inputs) => decide(alloc, merge, inputs.as_slice()),
+    match decide(alloc, task, modules, texts) {
+        Ok(decision) => encode(alloc, decision),
         Err(stop) => Err(stop),
     }
 }
 
-// Writes the outputs, and then puts the lines.
-fn finish<'a, F: Files, O: Sink>(files: &mut F, out: &mut O, plan: Plan) -> Result<(), Stop<'a>>
-    ensures done { OnOk result (AllWritten (output_entries plan.outputs.items) (F.contents files.old) (F.contents files.new)) }
-    ensures printed { OnOk result (Becomes (O.bytes out.old) (O.bytes out.new) (λ a b. b ≡ a ++ plan.lines.items)) }
-    ensures cut { Becomes (F.contents files.old) (F.contents files.new) (IsCut (output_entries plan.outputs.items)) }
-    ensures prints { Becomes (O.bytes out.old) (O.bytes out.new) (PrintsAfter plan.lines.items (AllWritten (output_entries plan.outputs.items) (F.contents files.old) (F.contents files.new))) }
+// Comes to what a task is to write and to print.
+fn prepare<'a, F: Files>(alloc: Global, task: &Task<'a>, files: &mut F) -> Result<Plan, Stop<'a>>
+    ensures stays { F.contents files.new ≡ F.contents files.old }
     ensures reads { NoneFell (F.read_faults files.old) (F.read_faults files.new) }
     ensures writes { NoneFell (F.write_faults files.old) (F.write_faults files.new) }
-    ensures later { O.faults out.old ≤ O.faults out.new }
-    ensures stops { IfErr result (StopsFinishing (F.write_faults files.old) (F.write_faults files.new) (O.faults out.old) (O.faults out.new) (output_entries plan.outputs.items)) }
+    ensures plan { IfOk result (λ plan. IfSome (F.contents files.old) (λ held. TaskJob (task_value task.now) held (Done (write_entries plan.writes.items) plan.lines.items))) }
+    ensures outputs { IfOk result (λ plan. AreOutputs (task_value task.now) (written_names (write_entries plan.writes.items))) }
+    ensures lines { IfOk result (λ plan. PrintsAsAllowed (task_value task.now) plan.lines.items) }
+    ensures stops { IfErr result (StopsPreparing (F.contents files.old) (F.read_faults files.old) (F.read_faults files.new) (task_value task.now)) }
 {
-    let Plan { outputs, lines } = plan;
-    match perform(files, outputs) {
-        Ok(()) => {}
-        Err(stop) => return Err(stop),
+    if let Some(refusal) = task.refused_before() {
+        return Err(Stop::Refused(refusal));
     }
+    match read_inputs(alloc, task, files) {
+        Ok(inputs) => plan(alloc, task, inputs.as_slice()),
+        Err(stop) => Err(stop),
+    }
+}
+
+// Puts the lines of a command on standard output, if there are any.
+fn print_lines<'a, O: Sink>(out: &mut O, lines: &[u8]) -> Result<(), Stop<'a>>
+    ensures printed { OnOk result (Becomes (O.bytes out.old) (O.bytes out.new) (λ a b. b ≡ a ++ lines.now)) }
+    ensures prefix { Becomes (O.bytes out.old) (O.bytes out.new) (AppendsPrefix lines.now) }
+    ensures silent { lines.now ≡ [] → IsSame (O.bytes out.old) (O.bytes out.new) }
+    ensures later { O.faults out.old ≤ O.faults out.new }
+    ensures stops { IfErr result (StopsPrinting (O.faults out.old) (O.faults out.new)) }
+{
     if lines.is_empty() {
         return Ok(());
     }
-    match out.put(lines.as_slice()) {
+    match out.put(lines) {
         Ok(()) => Ok(()),
         Err(IoFault::Failed) => Err(Stop::CannotPrint),
         Err(IoFault::NoMemory) => Err(Stop::NoMemory),
     }
 }
 
-/// Does the work of a command line.
-pub(crate) fn work<'a, F: Files, O: Sink>(
+// Writes the outputs, and then prints the lines.
+fn finish<'a, F: Files, O: Sink>(files: &mut F, out: &mut O, plan: Plan) -> Result<(), Stop<'a>>
+    ensures done { OnOk result (AllWritten (write_entries plan.writes.items) (F.contents files.old) (F.contents files.new)) }
+    ensures printed { OnOk result (Becomes (O.bytes out.old) (O.bytes out.new) (λ a b. b ≡ a ++ plan.lines.items)) }
+    ensures cut { Becomes (F.contents files.old) (F.contents files.new) (IsCut (write_entries plan.writes.items)) }
+    ensures prints { Becomes (O.bytes out.old) (O.bytes out.new) (PrintsAfter plan.lines.items (AllWritten (write_entries plan.writes.items) (F.contents files.old) (F.contents files.new))) }
+    ensures silent { plan.lines.items ≡ [] → IsSame (O.bytes out.old) (O.bytes out.new) }
+    ensures reads { NoneFell (F.read_faults files.old) (F.read_faults files.new) }
+    ensures writes { NoneFell (F.write_faults files.old) (F.write_faults files.new) }
+    ensures later { O.faults out.old ≤ O.faults out.new }
+    ensures stops { IfErr result (StopsFinishing (F.write_faults files.old) (F.write_faults files.new) (O.faults out.old) (O.faults out.new) (F.contents files.old) (F.contents files.new) (write_entries plan.writes.items)) }
+{
+    let Plan { writes, lines } = plan;
+    match write_outputs(files, writes) {
+        Ok(()) => print_lines(out, lines.as_slice()),
+        Err(stop) => Err(stop),
+    }
+}
+
+/// Does what a command line asks for.
+pub(crate) fn run_command<'a, F: Files, O: Sink>(
     alloc: Global,
     words: &'a [String],
     files: &mut F,
@@ -78,18 +127,19 @@ pub(crate) fn work<'a, F: Files, O: Sink>(
     ensures later { O.faults out.old ≤ O.faults out.new }
     ensures files { Becomes (F.contents files.old) (F.contents files.new) (ChangesByTheJob (map string_bytes words.now)) }
     ensures prints { IfSome (F.contents files.old) (λ a. Becomes (O.bytes out.old) (O.bytes out.new) (PrintsForTheJob (map string_bytes words.now) a (F.contents files.new))) }
+    ensures no_lines { PrintsNothing (map string_bytes words.now) → IsSame (O.bytes out.old) (O.bytes out.new) }
     ensures done { OnOk result (IfSome (F.contents files.old) (λ a. EndsDone (map string_bytes words.now) a (F.contents files.new) (O.bytes out.old) (O.bytes out.new))) }
     ensures no_task { task_of (map string_bytes words.now) ≡ None → IsUsage result }
     ensures stops { IfErr result (StopsWork (map string_bytes words.now)
         (record { files = F.contents files.old; reads = F.read_faults files.old; writes = F.write_faults files.old; out = O.bytes out.old; out_faults = O.faults out.old })
         (record { files = F.contents files.new; reads = F.read_faults files.new; writes = F.write_faults files.new; out = O.bytes out.new; out_faults = O.faults out.new })) }
 {
-    let merge = match parse(alloc, words) {
-        Ok(Some(merge)) => merge,
+    let task = match parse(alloc, words) {
+        Ok(Some(task)) => task,
         Ok(None) => return Err(Stop::Usage(usage(words))),
         Err(_) => return Err(Stop::NoMemory),
     };
-    match prepare(alloc, &merge, files) {
+    match prepare(alloc, &task, files) {
         Ok(plan) => finish(files, out, plan),
         Err(stop) => Err(stop),
     }

@@ -5,7 +5,7 @@ use Rattle.tools_cli.proofs.laws.done_jobs_keep_the_modules.Goals as goal
 pub returns : goal.returns
 returns c words before writes lines h =
     done_keeps (record {
-      plainly = c.plain_spells.ensures;
+      plainly = λ tree range few. c.plain_spells.ensures.spells tree range (c.trees_that_fit_have_small_sizes.ensures tree few);
       ranges = c.spelled_trees_are_in_range.ensures;
       bounded = λ bytes tree s w. c.spelled_trees_are_bounded.ensures false bytes tree s w;
       valid = c.merged_modules_are_valid.ensures.valid;

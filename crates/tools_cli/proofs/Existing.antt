@@ -1,0 +1,173 @@
+-- A command line has a job.
+use Rattle.std.proofs.Common.{Bool, true, false, cond, ltb, ◌-◌, ◌≡◌, ◌∙◌, sym, refl, ap, subst, map, inl, inr, ◌⊎◌, ℕ, zero, suc, ◌<◌, ◌≤◌, take, List, [], ◌∷◌, length, length-append, Option, Some, None, Result, Ok, Err, slice_get, option_map, arith}
+use Rattle.std.specs.FinMap.{get}
+use Rattle.wasm_bytes.specs.Reading.{IsBytes}
+use Rattle.tool_io.specs.Outside.{Contents}
+use Rattle.tools_cli.specs.Words.{Text, Source, MergeTask, Task, Merge, task_of, source_files, many_of, modules_of, texts_of, inputs_of}
+use Rattle.tools_cli.specs.Effects.{Entry}
+use Rattle.tools_cli.specs.Texts.{fault_text, invalid_text, link_text, import_differs, import_ends_nowhere, import_limits_clash, global_has_no_value, too_many_memories}
+use Rattle.tools_cli.specs.Job.{IsRead, IsAccepted, invalid, Job, Gathered, add_first, add_file, HoldBytes, Whole, Lacks, TooLong, gathered, most_input, Loads, loaded, faulty, AllLoad, OneFails, Decision, Merges, not_linked, not_joined, merged, parts_of, Decides, job_of, module_files, text_contents, InputsJob, not_loaded, decided, refused_before, TaskJob, not_begun, missing, too_long, all_read, HasJob, no_task, asked}
+use Rattle.wasm_tree.specs.declared.module.Module.{Module}
+use Rattle.wasm_format.specs.declared.fault.ReadFault.{ReadFault}
+use Rattle.wasm_format.specs.declared.fault.ReadFault.TheVariants as fault
+use Rattle.wasm_valid.specs.declared.kinds.Invalid.{Invalid}
+use Rattle.wasm_valid.specs.First.{IsFirstInvalid}
+use Rattle.wasm_format.specs.Contents.{read_fault}
+use Rattle.wasm_format.specs.Causes.{Cause}
+use Rattle.merge_terms.specs.Faults.{link_fault}
+use Rattle.merge_terms.specs.Joined.{join_of, outcome, repeated_name, over_limit, joined_module}
+use Rattle.merge_terms.specs.declared.faults.LinkFault.{LinkFault}
+use Rattle.merge_terms.specs.declared.faults.LinkFault.TheVariants as link
+use Rattle.merge_terms.specs.declared.faults.JoinFault.{JoinFault}
+use Rattle.merge_terms.specs.declared.faults.JoinFault.TheVariants as join
+use Rattle.tools_cli.specs.Causes.{NamesPart}
+use Rattle.tools_cli.proofs.FaultParts.{fault_names_part, fault_not_memory}
+use Rattle.tools_cli.proofs.MergeDecided.{length_parts, length_files}
+use Rattle.tools_cli.proofs.Loading.{as_many}
+use Rattle.tools_cli.proofs.Determined.{AreBytes, SpelledHasNoFault, gathered_bytes, first_are_bytes}
+
+-- a tree is accepted, or has a first item that does not hold
+abbrev pub IsDecided : Bool → Module → Type 0
+IsDecided many tree = IsAccepted many tree ⊎ ((item : Invalid) × IsFirstInvalid tree many item)
+
+-- what is known of reading and of validity
+pub record Known : Type 0 where
+  pub faults : SpelledHasNoFault
+  pub causes : (bytes : List ℕ) (many : Bool) (fault : ReadFault) → IsBytes bytes → read_fault bytes many ≡ Some fault → Cause bytes many fault
+  pub decided : (many : Bool) (tree : Module) → IsDecided many tree
+
+abbrev SomeText : Option Text → Type 0
+SomeText o = (text : Text) × (o ≡ Some text)
+
+-- ---- one file
+
+fault_told : (many : Bool) (file bytes : Text) (fault : ReadFault) → Cause bytes many fault → SomeText (fault_text file fault)
+fault_told many file bytes fault.NotModule cause = (_, refl)
+fault_told many file bytes (fault.Malformed section) cause = (_, refl)
+fault_told many file bytes (fault.MalformedBody func) cause = (_, refl)
+fault_told many file bytes (fault.Unsupported section None) cause = (_, refl)
+fault_told many file bytes (fault.Unsupported section (Some func)) cause = (_, refl)
+fault_told many file bytes (fault.Limit which) cause = (_, refl)
+fault_told many file bytes fault.NoMemory cause = absurd cause
+
+tree_loads : (many : Bool) (file bytes : Text) (tree : Module) → IsRead many bytes tree → IsDecided many tree → (r : Result Module Text) × Loads many file bytes r
+tree_loads many file bytes tree h (inl accepted) = (Ok tree, loaded tree h accepted)
+tree_loads many file bytes tree h (inr (item, first)) = (Err (invalid_text file item), invalid tree item h first)
+
+file_loads : Known → (many : Bool) (file bytes : Text) → IsBytes bytes → (o : Option ReadFault) → read_fault bytes many ≡ o → (r : Result Module Text) × Loads many file bytes r
+file_loads k many file bytes are None e =
+    let (tree, spelled, within) = (k.faults many bytes are).0 e in
+    tree_loads many file bytes tree (record { spelled = spelled; within = within }) (k.decided many tree)
+file_loads k many file bytes are (Some fault) e =
+    let told = fault_told many file bytes fault (k.causes bytes many fault are e) in (Err told.0, faulty fault told.0 e told.1)
+
+-- ---- all files
+
+abbrev AllOrOne : Bool → List Entry → Type 0
+AllOrOne many files = ((trees : List Module) × AllLoad many files trees) ⊎ ((text : Text) × OneFails many files text)
+
+and_more : (many : Bool) (file : Entry) (files : List Entry) (r : Result Module Text) → Loads many file.0 file.1 r → AllOrOne many files → AllOrOne many (file ∷ files)
+and_more many file files (Err text) h rest = inr (text, inl h)
+and_more many file files (Ok tree) h (inl (trees, all)) = inl (tree ∷ trees, (h, all))
+and_more many file files (Ok tree) h (inr (text, fails)) = inr (text, inr (tree, h, fails))
+
+files_load : Known → (many : Bool) (files : List Entry) → AreBytes files → AllOrOne many files
+files_load k many [] are = inl ([], tt)
+files_load k many (file ∷ files) are = let first = file_loads k many file.0 file.1 are.0 _ refl in and_more many file files first.0 first.1 (files_load k many files are.1)
+
+-- ---- a merge
+
+there_at : (sources : List Source) (n : ℕ) → n < length sources → (file : Text) × (slice_get (map (λ (s : Source). s.file) sources) n ≡ Some file)
+there_at [] n lt = absurd (omega arith)
+there_at (s ∷ sources) zero lt = (s.file, refl)
+there_at (s ∷ sources) (suc n) lt = there_at sources n (omega arith)
+
+named_text : (f : Text → Text) (o : Option Text) → SomeText o → SomeText (option_map f o)
+named_text f o (text, e) = (f text, ap (option_map f) e)
+
+link_told : (merge : MergeTask) (fault : LinkFault) → (fault ≡ link.NoMemory → ⊥) → NamesPart (length merge.sources) fault → SomeText (link_text (source_files merge) fault)
+link_told merge (link.ImportMismatch part import) never names = named_text (λ file. import_differs file import) (slice_get (source_files merge) part) (there_at merge.sources part names)
+link_told merge (link.ImportCycle part import) never names = named_text (λ file. import_ends_nowhere file import) (slice_get (source_files merge) part) (there_at merge.sources part names)
+link_told merge (link.LimitsClash part import) never names = named_text (λ file. import_limits_clash file import) (slice_get (source_files merge) part) (there_at merge.sources part names)
+link_told merge link.TooManyMemories never names = (too_many_memories, refl)
+link_told merge (link.GlobalCycle part global) never names = named_text (λ file. global_has_no_value file global) (slice_get (source_files merge) part) (there_at merge.sources part names)
+link_told merge link.NoMemory never names = absurd (never refl)
+
+joins_told : (merge : MergeTask) (trees : List Module) (r : Result Module JoinFault) → link_fault (parts_of merge.sources trees) ≡ None → join_of (parts_of merge.sources trees) merge.mode ≡ r → (r ≡ Err join.NoMemory → ⊥)
+    → (decision : Decision) × Merges merge trees decision
+joins_told merge trees (Ok tree) linked e never = (_, merged tree (linked, e))
+joins_told merge trees (Err (join.ExportConflict name)) linked e never = (_, not_joined (join.ExportConflict name) _ linked e refl)
+joins_told merge trees (Err (join.TooMany which)) linked e never = (_, not_joined (join.TooMany which) _ linked e refl)
+joins_told merge trees (Err join.NoMemory) linked e never = absurd (never refl)
+
+no_want : (name : Option Text) (which : _) (m : Module) → outcome name which m ≡ Err join.NoMemory → ⊥
+no_want (Some name) which m e = cc
+no_want None (Some which) m e = cc
+no_want None None m e = cc
+
+merge_told : (merge : MergeTask) (trees : List Module) → length trees ≡ length merge.sources → (o : Option LinkFault) → link_fault (parts_of merge.sources trees) ≡ o → (decision : Decision) × Merges merge trees decision
+merge_told merge trees each None e =
+    let parts = parts_of merge.sources trees in
+    joins_told merge trees (join_of parts merge.mode) e refl (no_want (repeated_name parts merge.mode) (over_limit (joined_module parts merge.mode)) (joined_module parts merge.mode))
+merge_told merge trees each (Some fault) e =
+    let parts = parts_of merge.sources trees in
+    let there : NamesPart (length merge.sources) fault = subst (λ n. NamesPart n fault) (length_parts merge.sources trees each) (fault_names_part parts fault e) in
+    let told = link_told merge fault (λ is. fault_not_memory parts (e ∙ ap Some is)) there in
+    (_, not_linked fault told.0 e told.1)
+
+task_told : (t : Task) (trees : List Module) (texts : List Text) → length trees ≡ length (modules_of t) → (decision : Decision) × Decides t trees texts decision
+task_told (Merge merge) trees texts each = merge_told merge trees (each ∙ length_files merge.sources) _ refl
+
+-- ---- the job
+
+length_first : {A : Type 0} (n : ℕ) (xs : List A) → n ≤ length xs → length (take n xs) ≡ n
+length_first zero xs h = refl
+length_first (suc n) [] h = absurd (omega arith)
+length_first (suc n) (x ∷ xs) h = ap suc (length_first n xs (omega arith))
+
+over_inputs : (t : Task) (inputs : List Entry) → length (modules_of t) ≤ length inputs → AllOrOne (many_of t) (module_files t inputs) → (job : Job) × InputsJob t inputs job
+over_inputs t inputs enough (inr (text, fails)) = (_, not_loaded text fails)
+over_inputs t inputs enough (inl (trees, all)) =
+    let each = as_many (many_of t) (module_files t inputs) trees all ∙ length_first (length (modules_of t)) inputs enough in
+    let told = task_told t trees (text_contents t inputs) each in
+    (job_of told.0, decided trees told.0 all told.1)
+
+-- as many files as names
+first_count : (file : Entry) (g : Gathered) (inputs : List Entry) (n : ℕ) → ((rest : List Entry) → g ≡ Whole rest → length rest ≡ n) → add_first file g ≡ Whole inputs → length inputs ≡ suc n
+first_count file (Whole rest) inputs n count e = let same : file ∷ rest ≡ inputs = cc in sym (ap length same) ∙ ap suc (count rest refl)
+first_count file (Lacks name) inputs n count e = absurd (cc)
+first_count file (TooLong name) inputs n count e = absurd (cc)
+
+file_count : (name : Text) (left : ℕ) (o : Option Text) (rest : ℕ → Gathered) (inputs : List Entry) (n : ℕ) → ((more : List Entry) (left : ℕ) → rest left ≡ Whole more → length more ≡ n) → add_file name left o rest ≡ Whole inputs → length inputs ≡ suc n
+file_count name left None rest inputs n count e = absurd (cc)
+file_count name left (Some bytes) rest inputs n count e = by (ltb left (length bytes)) e
+  where
+    by : (b : Bool) → cond b (TooLong name) (add_first (name, bytes) (rest (left - length bytes))) ≡ Whole inputs → length inputs ≡ suc n
+    by true e = absurd (cc)
+    by false e = first_count (name, bytes) (rest (left - length bytes)) inputs n (λ more h. count more (left - length bytes) h) e
+
+gathered_count : (files : Contents) (names : List Text) (most : ℕ) (inputs : List Entry) → gathered names files most ≡ Whole inputs → length inputs ≡ length names
+gathered_count files [] most inputs e = let same : [] ≡ inputs = cc in ap length (sym same)
+gathered_count files (name ∷ names) most inputs e = file_count name most (get files name) (gathered names files) inputs (length names) (λ more n h. gathered_count files names n more h) e
+
+begun_job : Known → (t : Task) (files : Contents) → HoldBytes files → refused_before t ≡ None → (g : Gathered) → gathered (inputs_of t) files most_input ≡ g → (job : Job) × TaskJob t files job
+begun_job k t files hold begun (Lacks name) e = (_, missing name begun e)
+begun_job k t files hold begun (TooLong name) e = (_, too_long name begun e)
+begun_job k t files hold begun (Whole inputs) e =
+    let count = gathered_count files (inputs_of t) most_input inputs e in
+    let both = length-append (modules_of t) (texts_of t) in
+    let enough : length (modules_of t) ≤ length inputs = omega arith in
+    let are = first_are_bytes (length (modules_of t)) inputs (gathered_bytes files hold (inputs_of t) most_input inputs e) in
+    let told = over_inputs t inputs enough (files_load k (many_of t) (module_files t inputs) are) in
+    (told.0, all_read inputs told.0 begun e told.1)
+
+task_job : Known → (t : Task) (files : Contents) → HoldBytes files → (o : Option Text) → refused_before t ≡ o → (job : Job) × TaskJob t files job
+task_job k t files hold (Some text) e = (_, not_begun text e)
+task_job k t files hold None e = begun_job k t files hold e _ refl
+
+words_job : Known → (words : List Text) (files : Contents) → HoldBytes files → (o : Option Task) → task_of words ≡ o → (job : Job) × HasJob words files job
+words_job k words files hold None e = (_, no_task e)
+words_job k words files hold (Some t) e = let told = task_job k t files hold _ refl in (told.0, asked t told.0 e told.1)
+
+pub job_exists : Known → (words : List Text) (files : Contents) → HoldBytes files → (job : Job) × HasJob words files job
+job_exists k words files hold = words_job k words files hold _ refl

@@ -1,0 +1,80 @@
+-- What merging the modules of a task decides.
+use Rattle.std.proofs.Common.{◌≡◌, ◌∙◌, sym, refl, ap, subst, ◌⊎◌, inl, inr, None, Some, Err, map, ℕ, zero, suc, ◌+◌, ◌<◌, List, [], ◌∷◌, ◌++◌, append_assoc, append-nil, add-one, drop, drop-cons, length, get_or, slice_get, slice_index_or, arith}
+use Rattle.tools_cli.specs.Words.{Text, Source, MergeTask, source_files}
+use Rattle.tools_cli.specs.Job.{Decision, Refuses, Makes, Merges, not_linked, not_joined, merged, AreMerged, parts_of}
+use Rattle.tools_cli.specs.Texts.{link_text, join_text}
+use Rattle.wasm_tree.specs.declared.module.Module.{Module}
+use Rattle.wasm_meaning.specs.Linking.{Part}
+use Rattle.merge_terms.specs.Faults.{link_fault}
+use Rattle.merge_terms.specs.Joined.{Joins}
+use Rattle.merge_terms.specs.declared.faults.LinkFault.{LinkFault}
+use Rattle.merge_terms.specs.declared.faults.LinkFault.TheVariants as link
+use Rattle.merge_terms.specs.declared.faults.JoinFault.{JoinFault}
+use Rattle.merge_terms.specs.declared.faults.JoinFault.TheVariants as join
+use Rattle.tools_cli.specs.Causes.{MergeFails, NamesPart}
+use Rattle.tools_cli.specs.Command.{source_values, files_of}
+use Rattle.tools_cli.proofs.FaultParts.{fault_names_part}
+use Rattle.tools_cli.specs.declared.merge.Source as code
+
+-- the part that a fault names is there
+pub names_one : (parts : List Part) (fault : LinkFault) (n : ℕ) → length parts ≡ n → (fault ≡ link.NoMemory) ⊎ (link_fault parts ≡ Some fault) → NamesPart n fault
+names_one parts fault n same (inl none) = subst (NamesPart n) (sym none) tt
+names_one parts fault n same (inr found) = subst (λ k. NamesPart k fault) same (fault_names_part parts fault found)
+
+-- a refusal of parts that do not link or are not joined
+pub link_fails : (merge : MergeTask) (parts : List Part) (fault : LinkFault) (text : Text) → (fault ≡ link.NoMemory) ⊎ (link_fault parts ≡ Some fault) → link_text (source_files merge) fault ≡ Some text → MergeFails merge parts text
+link_fails merge parts fault text (inr found) says = inl (fault, found, says)
+link_fails merge parts fault text (inl none) says = let no_text : None ≡ Some text = ap (link_text (source_files merge)) (sym none) ∙ says in absurd (cc)
+
+pub join_fails : (merge : MergeTask) (parts : List Part) (fault : JoinFault) (text : Text) → link_fault parts ≡ None → (fault ≡ join.NoMemory) ⊎ Joins parts merge.mode (Err fault) → join_text fault ≡ Some text → MergeFails merge parts text
+join_fails merge parts fault text linked (inr found) says = inr (fault, linked, found, says)
+join_fails merge parts fault text linked (inl none) says = let no_text : None ≡ Some text = ap join_text (sym none) ∙ says in absurd (cc)
+
+pub merge_refused : (merge : MergeTask) (parts : List Part) (trees : List Module) → parts ≡ parts_of merge.sources trees → (text : Text) → MergeFails merge parts text → Merges merge trees (Refuses text)
+merge_refused merge parts trees named text (inl (fault, found, says)) = not_linked fault text (ap link_fault (sym named) ∙ found) says
+merge_refused merge parts trees named text (inr (fault, linked, found, says)) =
+    not_joined fault text (ap link_fault (sym named) ∙ linked) (let P : List Part → Type 0 = λ ps. Joins ps merge.mode (Err fault) in subst P named found) says
+
+pub merge_made : (merge : MergeTask) (parts : List Part) (trees : List Module) (tree : Module) (decision : Decision) → parts ≡ parts_of merge.sources trees → AreMerged parts merge.mode tree
+    → decision ≡ Makes (record { name = merge.output; tree = tree; custom = [] } ∷ []) [] → Merges merge trees decision
+merge_made merge parts trees tree decision named is made =
+    let P : Decision → Type 0 = Merges merge trees in
+    let Q : List Part → Type 0 = λ ps. AreMerged ps merge.mode tree in
+    subst P (sym made) (merged tree (subst Q named is))
+
+-- ---- the parts and their sources ----
+
+-- the number of parts
+pub length_once : (xs : List code.Source) → length (source_values xs) ≡ length xs
+length_once [] = refl
+length_once (x ∷ xs) = ap suc (length_once xs)
+
+pub named_one_more : (xs : List code.Source) (d : code.Source) (done : List Part) (tree : Module) (trees : List Module) → length done < length xs
+    → done ++ parts_of (source_values (drop (length done) xs)) (tree ∷ trees) ≡ (done ++ record { name = Some (get_or xs (length done) d).name.now; «module» = tree } ∷ []) ++ parts_of (source_values (drop (length done + 1) xs)) trees
+named_one_more xs d done tree trees lt =
+    ap (λ l. done ++ parts_of (source_values l) (tree ∷ trees)) (drop-cons xs (length done) d lt)
+    ∙ sym (append_assoc done (record { name = Some (get_or xs (length done) d).name.now; «module» = tree } ∷ []) (parts_of (source_values (drop (suc (length done)) xs)) trees))
+    ∙ ap (λ n. (done ++ record { name = Some (get_or xs (length done) d).name.now; «module» = tree } ∷ []) ++ parts_of (source_values (drop n xs)) trees) (sym (add-one (length done)))
+
+parts_end : (sources : List Source) → parts_of sources [] ≡ []
+parts_end [] = refl
+parts_end (s ∷ sources) = refl
+
+pub all_named : (done whole : List Part) (sources : List Source) (trees : List Module) → length trees ≡ 0 → done ++ parts_of sources trees ≡ whole → done ≡ whole
+all_named done whole sources [] none e = sym (append-nil done) ∙ ap (λ l. done ++ l) (sym (parts_end sources)) ∙ e
+all_named done whole sources (tree ∷ trees) none e = absurd (omega arith)
+
+pub file_there : (xs : List code.Source) (i : ℕ) (d : code.Source) → i < length xs → slice_get (files_of xs) i ≡ Some (slice_index_or xs i d).file.now
+file_there [] i d lt = absurd (omega arith)
+file_there (x ∷ xs) zero d lt = refl
+file_there (x ∷ xs) (suc i) d lt = file_there xs i d (omega arith)
+
+pub length_parts : (sources : List Source) (trees : List Module) → length trees ≡ length sources → length (parts_of sources trees) ≡ length sources
+length_parts [] [] e = refl
+length_parts [] (tree ∷ trees) e = absurd (omega arith)
+length_parts (s ∷ sources) [] e = absurd (omega arith)
+length_parts (s ∷ sources) (tree ∷ trees) e = ap suc (length_parts sources trees (omega arith))
+
+pub length_files : (sources : List Source) → length (map (λ (s : Source). s.file) sources) ≡ length sources
+length_files [] = refl
+length_files (s ∷ sources) = ap suc (length_files sources)

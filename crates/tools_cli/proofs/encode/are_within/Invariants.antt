@@ -1,0 +1,8 @@
+use Rattle.std.proofs.Common.{◌≡◌, drop}
+use Rattle.std.specs.List.{list_all}
+use Rattle.tools_cli.specs.Job.{is_within}
+use Rattle.tools_cli.specs.Command.{output_values}
+use Rattle.tools_cli.proofs.encode.are_within.Given as goal
+
+abbrev pub invariant-loop-output : goal.invariant-loop-output
+invariant-loop-output l = list_all is_within (output_values l.outputs) ≡ list_all is_within (output_values (drop l.output-index l.outputs))

@@ -1,0 +1,8 @@
+use Rattle.std.proofs.Common.{◌≡◌, ◌++◌, map}
+use Rattle.std.specs.Vec.Iter.{into_iter_items}
+use Rattle.tools_cli.specs.Job.{spelled_output}
+use Rattle.tools_cli.specs.Command.{output_values, write_entries}
+use Rattle.tools_cli.proofs.encode.encode_outputs.Given as goal
+
+abbrev pub invariant-loop-output : goal.invariant-loop-output
+invariant-loop-output l = write_entries l.writes.items ++ map spelled_output (output_values (into_iter_items l.output-iterator)) ≡ map spelled_output (output_values l.fn.outputs.items)

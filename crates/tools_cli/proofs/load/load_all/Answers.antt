@@ -1,0 +1,19 @@
+use Rattle.std.proofs.Common.{false, Err}
+use Rattle.tools_cli.specs.Words.{Text}
+use Rattle.tools_cli.specs.Job.{Loads, OneFails}
+use Rattle.tools_cli.specs.Command.{input_entries}
+use Rattle.tools_cli.proofs.Loading.{short_input, all_load, stops_weaker, fails_here}
+use Rattle.tools_cli.proofs.load.load_all.Goals as goal
+
+pub load-requires : goal.load-requires
+load-requires c = short_input c.args.inputs.now c.loop-input.input-index c.input-item.result c.loop-input-test.true c.input-item.is c.requires
+
+pub returns-clause-loaded : goal.returns-clause-loaded
+returns-clause-loaded c = all_load c.args.inputs.now c.loop-input.input-index c.loop-input.modules.items c.loop-input-test.false c.loop-input.invariant.load
+
+pub returns-in-Err-clause-stops : goal.returns-in-Err-clause-stops
+returns-in-Err-clause-stops c =
+    let x = c.input-item.result in
+    let P : Text → Type 0 = λ text. Loads false x.name.now x.bytes.items (Err text) in
+    let Q : Text → Type 0 = OneFails false (input_entries c.args.inputs.now) in
+    stops_weaker P Q (fails_here c.args.inputs.now c.loop-input.input-index x c.loop-input-test.true c.input-item.is c.loop-input.invariant.fail) c.in-Err.stop c.in-Err.ensures.stops

@@ -1,6 +1,0 @@
-use Rattle.std.proofs.Common.{◌≡◌, map, take}
-use Rattle.tools_cli.specs.Command.{names_of, source_values}
-use Rattle.tools_cli.proofs.merge.Merge.inputs.Given as goal
-
-abbrev pub invariant-loop-source : goal.invariant-loop-source
-invariant-loop-source l = names_of l.names.items ≡ map (λ s. s.file) (source_values (take l.source-index l.self.sources.items))

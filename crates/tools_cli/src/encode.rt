@@ -1,0 +1,77 @@
+// The outputs of a decision, as the bytes of their files.
+ghost use Rattle.std.specs.Prelude.{◌≡◌, map, IfOk, IfErr};
+ghost use Rattle.std.specs.List.{list_all};
+ghost use Rattle.tools_cli.specs.Command.{decision_value, output_value, output_values, write_entry, write_entries};
+ghost use Rattle.tools_cli.specs.Job.{Done, Refused, job_of, is_within, spelled_output};
+ghost use Rattle.tools_cli.specs.Causes.{StopsWith};
+
+use crate::decide::{Decision, Output};
+use crate::perform::Write;
+use crate::refusal::Refusal;
+use crate::stop::Stop;
+use std::alloc::{AllocError, Global};
+use std::mem::forget;
+use wasm_tree::{MOST_OUTPUT_BYTES, Which};
+use wasm_write::{fits, write};
+
+/// What is to be written, and the lines for standard output.
+#[derive(Drop)]
+pub(crate) struct Plan {
+    pub(crate) writes: Vec<Write>,
+    pub(crate) lines: Vec<u8>,
+}
+
+// Whether the plain spelling of each output is within the limit.
+fn are_within(outputs: &[Output]) -> bool
+    ensures { result ≡ list_all is_within (output_values outputs.now) }
+{
+    for output in outputs {
+        if !fits(output.tree.module(), MOST_OUTPUT_BYTES) {
+            return false;
+        }
+    }
+    true
+}
+
+// One output, encoded.
+fn encode_output(alloc: Global, output: Output) -> Result<Write, AllocError>
+    ensures { IfOk result (λ write. write_entry write ≡ spelled_output (output_value output)) }
+{
+    let Output { name, tree, custom } = output;
+    let Ok(mut bytes) = write(alloc, tree.module()) else {
+        return Err(AllocError);
+    };
+    // The process ends soon: the memory of a tree goes back at once, and not node by node.
+    forget(tree);
+    bytes.extend_from_slice(custom.as_slice())?;
+    Ok(Write { name, bytes })
+}
+
+// All outputs, encoded.
+fn encode_outputs(alloc: Global, outputs: Vec<Output>) -> Result<Vec<Write>, AllocError>
+    ensures { IfOk result (λ writes. write_entries writes.items ≡ map spelled_output (output_values outputs.items)) }
+{
+    let mut writes = Vec::new(alloc);
+    for output in outputs {
+        let write = encode_output(alloc, output)?;
+        writes.push(write)?;
+    }
+    Ok(writes)
+}
+
+/// Compares all outputs with the limit on output bytes, and then encodes them.
+pub(crate) fn encode<'a>(alloc: Global, decision: Decision) -> Result<Plan, Stop<'a>>
+    ensures plan { IfOk result (λ plan. job_of (decision_value decision) ≡ Done (write_entries plan.writes.items) plan.lines.items) }
+    ensures stops { IfErr result (StopsWith (λ text. job_of (decision_value decision) ≡ Refused text)) }
+{
+    let Decision { outputs, lines } = decision;
+    if !are_within(outputs.as_slice()) {
+        return Err(Stop::Refused(Refusal::TooMany {
+            which: Which::OutputBytes,
+        }));
+    }
+    match encode_outputs(alloc, outputs) {
+        Ok(writes) => Ok(Plan { writes, lines }),
+        Err(AllocError) => Err(Stop::NoMemory),
+    }
+}

@@ -1,0 +1,61 @@
+// Modules that are read and validated.
+ghost use Rattle.std.specs.Prelude.{◌≡◌, ◌≤◌, ◌<◌, ◌^◌, length, false, Ok, Err, IfOk, IfErr};
+ghost use Rattle.wasm_tree.specs.Bounds.{IsBounded};
+ghost use Rattle.wasm_valid.specs.declared.kinds.Invalid as items;
+ghost use Rattle.wasm_valid.specs.First.{IsFirstInvalid};
+ghost use Rattle.tools_cli.specs.Command.{input_entries};
+ghost use Rattle.tools_cli.specs.Job.{Loads, AllLoad, OneFails, IsAccepted, most_input};
+ghost use Rattle.tools_cli.specs.Causes.{total, StopsWith, InvalidText};
+
+use crate::gather::Input;
+use crate::refusal::{refuse_fault, refuse_item, refused};
+use crate::stop::Stop;
+use std::alloc::Global;
+use wasm_read::read;
+use wasm_tree::Module;
+use wasm_valid::{Rejected, Valid, validate};
+
+// The tree, known to be valid.
+fn accept<'a>(alloc: Global, file: &'a str, tree: Module) -> Result<Valid, Stop<'a>>
+    requires { IsBounded tree }
+    ensures accepted { IfOk result (λ valid. (valid ≡ tree) × IsAccepted false tree) }
+    ensures stops { IfErr result (StopsWith (InvalidText file.entry.now tree)) }
+{
+    match validate(alloc, tree) {
+        Ok(valid) => Ok(valid),
+        Err(Rejected::Invalid(_, item)) => Err(refused(refuse_item(alloc, file, item))),
+        Err(Rejected::NoMemory(_)) => Err(Stop::NoMemory),
+    }
+}
+
+// The module that a file holds.
+fn load<'a>(alloc: Global, input: &Input<'a>) -> Result<Valid, Stop<'a>>
+    requires { length input.now.bytes.items < 2 ^ 32 }
+    ensures loaded { IfOk result (λ tree. Loads false input.now.name.now input.now.bytes.items (Ok tree)) }
+    ensures stops { IfErr result (StopsWith (λ text. Loads false input.now.name.now input.now.bytes.items (Err text))) }
+{
+    match read(alloc, input.bytes.as_slice()) {
+        Ok(tree) => accept(alloc, input.name, tree),
+        Err(fault) => Err(refused(refuse_fault(alloc, input.name, fault))),
+    }
+}
+
+/// The modules that files hold, in order.
+pub(crate) fn load_all<'a>(alloc: Global, inputs: &[Input<'a>]) -> Result<Vec<Valid>, Stop<'a>>
+    requires { total (input_entries inputs.now) ≤ most_input }
+    ensures loaded { IfOk result (λ modules. AllLoad false (input_entries inputs.now) modules.items) }
+    ensures stops { IfErr result (StopsWith (OneFails false (input_entries inputs.now))) }
+{
+    let mut modules = Vec::new(alloc);
+    for input in inputs {
+        match load(alloc, input) {
+            Ok(tree) => {
+                if modules.push(tree).is_err() {
+                    return Err(Stop::NoMemory);
+                }
+            }
+            Err(stop) => return Err(stop),
+        }
+    }
+    Ok(modules)
+}

@@ -1,0 +1,99 @@
+// What a merge decides.
+ghost use Rattle.std.specs.Prelude.{◌≡◌, ◌≤◌, ◌<◌, ◌^◌, ◌∷◌, [], length, IfOk, IfErr};
+ghost use Rattle.base_lists.specs.Every.{Every};
+ghost use Rattle.merge_terms.specs.Parts.{named_modules, HaveDistinctNames};
+ghost use Rattle.merge_terms.specs.Joined.{FewInAll};
+ghost use Rattle.wasm_meaning.specs.Linking.{sites};
+ghost use Rattle.tools_cli.specs.Command.{merge_value, source_values, decision_value, output_values};
+ghost use Rattle.tools_cli.specs.Job.{Merges, Refuses, AreMerged, parts_of, most_parts};
+ghost use Rattle.tools_cli.specs.Causes.{IsWithinLimits, StopsWith, MergeFails};
+
+use crate::decide::{Decision, Output};
+use crate::merge::{MergeTask, Source};
+use crate::refusal::{refuse_join, refuse_link, refused};
+use crate::stop::Stop;
+use merge_join::join;
+use merge_link::resolve;
+use merge_terms::Part;
+use std::alloc::{AllocError, Global};
+use wasm_bytes::{Items, Name, NoMemory};
+use wasm_valid::Valid;
+
+// The parts of a merge: the modules under the names of the sources.
+fn name_parts(
+    alloc: Global,
+    sources: &[Source<'_>],
+    modules: Vec<Valid>,
+) -> Result<Items<Part>, NoMemory>
+    requires { length modules.items ≤ length sources.now }
+    ensures { IfOk result (λ parts. named_modules parts ≡ parts_of (source_values sources.now) modules.items) }
+{
+    let mut parts = Items::new(alloc);
+    for module in modules {
+        let name = Name::from_text(alloc, sources[parts.len()].name)?;
+        parts.keep(Part { name, module })?;
+    }
+    Ok(parts)
+}
+
+// The module that parts are merged into.
+fn merge_parts<'a>(
+    alloc: Global,
+    merge: &MergeTask<'a>,
+    parts: Items<Part>,
+) -> Result<Valid, Stop<'a>>
+    requires names { HaveDistinctNames parts }
+    requires each { length parts ≡ length merge.now.sources.items }
+    requires imports { length (sites (named_modules parts)) < 2 ^ 32 }
+    requires few { FewInAll (named_modules parts) }
+    ensures merged { IfOk result (λ tree. AreMerged (named_modules parts) merge.now.mode tree) }
+    ensures stops { IfErr result (StopsWith (MergeFails (merge_value merge.now) (named_modules parts))) }
+{
+    let links = match resolve(alloc, &parts) {
+        Ok(links) => links,
+        Err(fault) => return Err(refused(refuse_link(alloc, merge.sources.as_slice(), fault))),
+    };
+    match join(alloc, parts, &links, merge.mode) {
+        Ok(tree) => Ok(tree),
+        Err(fault) => Err(refused(refuse_join(fault))),
+    }
+}
+
+// One output without custom sections, and no lines.
+fn one_module(alloc: Global, name: &str, tree: Valid) -> Result<Decision, AllocError>
+    ensures outputs { IfOk result (λ decision. output_values decision.outputs.items ≡ record { name = name.now; tree = tree; custom = [] } ∷ []) }
+    ensures lines { IfOk result (λ decision. decision.lines.items ≡ []) }
+{
+    let name = String::from_str(alloc, name)?;
+    let custom = Vec::new(alloc);
+    let mut outputs = Vec::new(alloc);
+    outputs.push(Output { name, tree, custom })?;
+    let lines = Vec::new(alloc);
+    Ok(Decision { outputs, lines })
+}
+
+/// Merges modules, one for each source.
+pub(crate) fn decide_merge<'a>(
+    alloc: Global,
+    merge: &MergeTask<'a>,
+    modules: Vec<Valid>,
+) -> Result<Decision, Stop<'a>>
+    requires each { length modules.items ≡ length merge.now.sources.items }
+    requires within { Every IsWithinLimits modules.items }
+    requires few { length merge.now.sources.items ≤ most_parts }
+    ensures decided { IfOk result (λ decision. Merges (merge_value merge.now) modules.items (decision_value decision)) }
+    ensures stops { IfErr result (StopsWith (λ text. Merges (merge_value merge.now) modules.items (Refuses text))) }
+{
+    let parts = match name_parts(alloc, merge.sources.as_slice(), modules) {
+        Ok(parts) => parts,
+        Err(NoMemory) => return Err(Stop::NoMemory),
+    };
+    let tree = match merge_parts(alloc, merge, parts) {
+        Ok(tree) => tree,
+        Err(stop) => return Err(stop),
+    };
+    match one_module(alloc, merge.output, tree) {
+        Ok(decision) => Ok(decision),
+        Err(_) => Err(Stop::NoMemory),
+    }
+}

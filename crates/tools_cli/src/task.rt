@@ -1,0 +1,49 @@
+// What a command line asks for: a case for each command.
+ghost use Rattle.std.specs.Prelude.{◌≡◌, length, option_map, IfOk};
+ghost use Rattle.tools_cli.specs.Words.{inputs_of, modules_of};
+ghost use Rattle.tools_cli.specs.Job.{refused_before};
+ghost use Rattle.tools_cli.specs.Stop.{refusal_text};
+ghost use Rattle.tools_cli.specs.Command.{task_value, names_of};
+
+use crate::merge::MergeTask;
+use crate::refusal::Refusal;
+use std::alloc::{AllocError, Global};
+use wasm_tree::MOST_PARTS;
+
+/// What a command is to do.
+#[derive(Drop)]
+pub(crate) enum Task<'a> {
+    Merge(MergeTask<'a>),
+}
+
+impl<'a> Task<'a> {
+    /// The files that are read, in order: the modules first.
+    pub(crate) fn inputs(&self, alloc: Global) -> Result<Vec<&'a str>, AllocError>
+        ensures { IfOk result (λ names. names_of names.items ≡ inputs_of (task_value self.now)) }
+    {
+        match self {
+            Task::Merge(merge) => merge.files(alloc),
+        }
+    }
+
+    /// How many of the files are modules.
+    pub(crate) fn module_count(&self) -> usize
+        ensures { result ≡ length (modules_of (task_value self.now)) }
+    {
+        match self {
+            Task::Merge(merge) => merge.sources.len(),
+        }
+    }
+
+    /// The refusal of a task before any file is read.
+    pub(crate) fn refused_before(&self) -> Option<Refusal<'a>>
+        ensures { option_map refusal_text result ≡ refused_before (task_value self.now) }
+    {
+        match self {
+            Task::Merge(merge) if merge.sources.len() > MOST_PARTS as usize => {
+                Some(Refusal::TooManyParts)
+            }
+            Task::Merge(_) => None,
+        }
+    }
+}
