@@ -151,6 +151,11 @@ a_move_may_call_a_placeholder_while_another_waits : shown (record (under primary
 unfolding out-Instr denote.Hole.Carrier.out wrapped un_from un_to un_value bin_from bin_to bin_value load_to load_width loaded store_from stored
 a_move_may_call_a_placeholder_while_another_waits = refl
 
+-- while a call waits, a move whose placeholder's secondary fails to load traps alone: the answer goes to the call that waits, which calls the placeholder too
+a_failed_load_traps_the_move_alone : shown (record (under primary (secondary (code 0 (num 7 ∷ []) ∷ []) (puts 2 0 ∷ []))) { view = (g, ex.Func 3) ∷ ((f, ex.Func 1) ∷ []) }) (call g ∷ (call f ∷ (Answer (Number 1 ∷ []) ∷ []))) ≡ Linked ∷ (Asked (e, g) to_i32 [] ∷ (Trapped ∷ (Trapped ∷ [])))
+unfolding out-Instr denote.Hole.Carrier.out wrapped un_from un_to un_value bin_from bin_to bin_value load_to load_width loaded store_from stored
+a_failed_load_traps_the_move_alone = refl
+
 -- with a value of another type it is not called, and nothing is loaded
 a_move_with_other_values_is_not_taken : shown (under_view seen_placeholder counting) (Call f (Number 1 ∷ []) ∷ (call f ∷ [])) ≡ Linked ∷ (BadMove ∷ (number 1 ∷ []))
 unfolding out-Instr denote.Hole.Carrier.out wrapped un_from un_to un_value bin_from bin_to bin_value load_to load_width loaded store_from stored

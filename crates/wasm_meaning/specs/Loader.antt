@@ -117,10 +117,10 @@ call_answered w i slot vs es f = cond f.trapped Traps (slot_called w i slot vs e
 abbrev pub with_loaded : LoaderRun → (secondary : ℕ) → Run → LoaderRun
 with_loaded q j r = record q { run = r; loaded = slice_set q.loaded j true }
 
--- over this run, which waits for the call
+-- over this run, with the entries that wait for the call: where it traps, these go down to the nearest mark
 abbrev pub secondary_called : LoaderWorld → LoaderRun → Run → Inst → (slot : ℕ) → List Val → List Entry → (secondary : ℕ) → Filled → LoaderRun × Option Event
 secondary_called w q r i slot vs es j f =
-    let o = after (record r { store = f.store }) (call_answered w i slot vs es f) in (with_loaded q j o.0, o.1)
+    let o = after (record r { store = f.store; entries = es }) (call_answered w i slot vs es f) in (with_loaded q j o.0, o.1)
 
 -- None where there is no instance of the primary or no such slot: then no placeholder is called.
 abbrev pub placeholder_called : LoaderWorld → LoaderRun → Run → (slot : ℕ) → List Val → Store → List Entry → Option (LoaderRun × Option Event)
@@ -129,7 +129,7 @@ placeholder_called w q r slot vs s es =
     Some (secondary_called w q r i slot vs es j (store_loaded w i x.«module» is_loaded s))
 
 abbrev pub loader_made : LoaderWorld → LoaderRun → Transition → LoaderRun × Option Event
-loader_made w q (Steps r (Gives (CallsPlaceholder slot vs s es))) = unwrap_or (placeholder_called w q r slot vs s es) (loader_with q (after r Traps))
+loader_made w q (Steps r (Gives (CallsPlaceholder slot vs s es))) = unwrap_or (placeholder_called w q r slot vs s es) (loader_with q (after (record r { store = s; entries = es }) Traps))
 loader_made w q t = loader_with q (made t)
 
 -- A placeholder's call is answered in the one step that makes it, the loading included: whether code makes it, a move (`Call` or `Invoke`) or a start. Every other

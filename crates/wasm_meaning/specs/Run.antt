@@ -125,7 +125,7 @@ abbrev pub trapped_at : Run → Caller → List Entry → Out
 trapped_at r Host es = (record r { entries = es }, Some Trapped)
 trapped_at r Starter es = (record r { entries = []; phase = Closed }, Some InstanceTrapped)
 
--- a run always has a mark there: the second line never comes
+-- where there is a mark; no run is known to come to the second line (not proved)
 abbrev pub trapped_to : Run → Outcome (Caller × List Entry) → Out
 trapped_to r (Gives w) = trapped_at r w.0 w.1
 trapped_to r _ = (record r { entries = [] }, Some Trapped)
@@ -312,14 +312,14 @@ abbrev pub open_next : Run → (starts : List ℕ) → List Entry → Transition
 open_next r [] es = Makes (record r { entries = es; phase = Opened; view = view_of r r.phase }, Some Linked)
 open_next r (a ∷ starts) es = or_closed r (started r starts es a)
 
--- where nothing is on the stack: while starts are made there always is something, so that the second line never comes
+-- where nothing is on the stack: while starts are made there is something, so that no run is known to come to the second line (not proved)
 abbrev pub in_phase : Run → Phase → Transition
 in_phase r (Fresh b) = Makes (began r b)
 in_phase r (Pending view) = Steps r IllTyped
 in_phase r Opened = next_move r r.moves
 in_phase r Closed = closed_move r r.moves
 
--- no mark is ever on top, since a call that ends there takes it away: the third line never comes
+-- a call that ends at a mark takes it away: no run is known to come to the third line, with a mark on top (not proved)
 abbrev pub transition_at : Run → List Entry → Transition
 transition_at r [] = in_phase r r.phase
 transition_at r (Running f ∷ es) = Steps r (step r.store r.entries)

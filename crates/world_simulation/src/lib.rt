@@ -19,13 +19,6 @@ ghost use Rattle.world_simulation.specs.Simulation.{
   SimilarWorldsShowTheSame,
   WhatIsInstantiated,
 };
-ghost use Rattle.world_simulation.specs.Simulation.{
-  AllocatedStoresCorrespond,
-  SimilarWorldsAreInstantiatedAlike,
-  SimilarWorldsBeginAlike,
-  SimilarWorldsShowTheSame,
-  WhatIsInstantiated,
-};
 ghost use Rattle.world_simulation.specs.Starts.{OneStartMayCallSeveral};
 ghost use Rattle.world_simulation.specs.Unreachable.{UnreachableFunctionsAreNotSeen};
 
@@ -60,8 +53,8 @@ pub fn related_instances_show_the_same()
 /// Two worlds in an environment that links one exactly where it links the other (WebAssembly Core 2.0, section 4.5.4): where what they define corresponds under a
 /// one-to-one relation of addresses and partnered segments, starts and views stand in the same order, an active segment without partner being in bounds and writing only
 /// what has no partner, both show `LinkFault`, or both are instantiated to related states (`instantiated`), and each embedder sees the same of both, step by step (`same`).
-/// Without a word on starts, what both are instantiated to is alike but for these (`begin`); before segments are copied the stores are related (`allocated`); and what
-/// instantiation made of a world is told piece by piece (`made`).
+/// Where only starts may differ, both are instantiated to related stores, trapped both or neither, with related views (`begin`); before segments are copied the
+/// stores are related (`allocated`); and what `instantiate` gives is taken apart: instances, the allocated store, the view, matched imports (`made`).
 pub fn similar_worlds_show_the_same()
     ensures made { WhatIsInstantiated }
     ensures allocated { AllocatedStoresCorrespond }
