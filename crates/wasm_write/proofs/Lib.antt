@@ -1,3 +1,3 @@
+pub mod Backwards
 pub mod Loops
 pub mod Parts
-pub mod Places

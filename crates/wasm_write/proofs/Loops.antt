@@ -1,9 +1,8 @@
 -- Steps of a loop that spells or tests one item at a time.
-use Rattle.std.specs.List.{list_any}
+use Rattle.std.specs.List.{list_any, push}
 use Rattle.std.proofs.Common.{◌≡◌, ◌||◌, Bool, ℕ, zero, suc, ◌+◌, ◌<◌, List, [], ◌∷◌, ◌++◌, true, false, map, take, get_or, length, append_assoc, append-nil, refl, sym, ap, ◌∙◌, arith}
-use Rattle.std.proofs.lemmas.List.{take_more}
+use Rattle.std.proofs.lemmas.List.{map-append, take_more}
 use Rattle.base_lists.proofs.Bools.{and_false, left_true, right_true}
-use Rattle.base_lists.proofs.Walk.{mapped_more}
 use Rattle.wasm_plain.specs.PlainValues.{joined, each_text, is_func, all_funcs}
 use Rattle.wasm_tree.specs.declared.module.ConstExpr.{ConstExpr}
 
@@ -11,14 +10,15 @@ joined_push : (ts : List (List ℕ)) (t : List ℕ) → joined (ts ++ t ∷ []) 
 joined_push [] t = append-nil t
 joined_push (x ∷ xs) t = ap (λ r. x ++ r) (joined_push xs t) ∙ sym (append_assoc x (joined xs) t)
 
-joined_more : {A : Type 0} (f : A → List ℕ) (xs : List A) (i : ℕ) (x : A) → i < length xs → x ≡ get_or xs i x → each_text f (take (i + 1) xs) ≡ each_text f (take i xs) ++ f x
-joined_more f xs i x lt is = ap joined (mapped_more f xs i x lt is) ∙ joined_push (map f (take i xs)) (f x)
+each_push : {A : Type 0} (f : A → List ℕ) (xs : List A) (x : A) → each_text f (push xs x) ≡ each_text f xs ++ f x
+each_push f xs x = ap joined (map-append f xs (x ∷ [])) ∙ joined_push (map f xs) (f x)
 
--- the text of one more item is spelled
-pub spelled_more : {S : Type 0} {A : Type 0} (after : S → List ℕ → S) → ((t : S) (a b : List ℕ) → after (after t a) b ≡ after t (a ++ b)) →
-    (f : A → List ℕ) (xs : List A) (i : ℕ) (x : A) (first old new : S) → i < length xs → x ≡ get_or xs i x →
-    old ≡ after first (each_text f (take i xs)) → new ≡ after old (f x) → new ≡ after first (each_text f (take (i + 1) xs))
-spelled_more after both f xs i x first old new lt is a b = b ∙ ap (λ o. after o (f x)) a ∙ both first _ _ ∙ ap (after first) (sym (joined_more f xs i x lt is))
+-- the text of the last item that was left is spelled
+pub spelled_next : {S : Type 0} {A : Type 0} (preceded : S → List ℕ → S) → ((t : S) (a b : List ℕ) → preceded (preceded t b) a ≡ preceded t (a ++ b)) →
+    (f : A → List ℕ) (before now : List A) (x : A) (old new whole : S) → before ≡ push now x →
+    preceded old (each_text f before) ≡ whole → new ≡ preceded old (f x) → preceded new (each_text f now) ≡ whole
+spelled_next preceded joined f before now x old new whole left so_far next =
+    ap (λ t. preceded t (each_text f now)) next ∙ joined old (each_text f now) (f x) ∙ ap (preceded old) (sym (ap (each_text f) left ∙ each_push f now x)) ∙ so_far
 
 -- one of the items is no `ref.func`
 pub all_lost : (xs : List ConstExpr) (i : ℕ) (x : ConstExpr) → i < length xs → x ≡ get_or xs i x → is_func x ≡ false → all_funcs xs ≡ false
@@ -42,26 +42,20 @@ funcs_more xs i x lt is h k = ap all_funcs (take_more xs i x lt) ∙ ap (λ y. a
 
 -- ---- whether data is used
 
-any_push : {A : Type 0} (p : A → Bool) (xs : List A) (x : A) (b : Bool) → (list_any p (xs ++ x ∷ []) || b) ≡ (p x || (list_any p xs || b))
+any_push : {A : Type 0} (p : A → Bool) (xs : List A) (x : A) (b : Bool) → (list_any p xs || (p x || b)) ≡ (list_any p (push xs x) || b)
 any_push p [] x b = or_once (p x) b
   where
-    or_once : (a b : Bool) → ((a || false) || b) ≡ (a || b)
+    or_once : (a b : Bool) → (a || b) ≡ ((a || false) || b)
     or_once true b = refl
     or_once false b = refl
-any_push p (y ∷ ys) x b = ap (λ c. c) (or_under (p y) (list_any p (ys ++ x ∷ [])) b) ∙ ap (λ c. p y || c) (any_push p ys x b) ∙ or_swap (p y) (p x) (list_any p ys) b
+any_push p (y ∷ ys) x b = or_under (p y) (list_any p ys) (p x || b) ∙ ap (λ c. p y || c) (any_push p ys x b) ∙ sym (or_under (p y) (list_any p (push ys x)) b)
   where
     or_under : (a b c : Bool) → ((a || b) || c) ≡ (a || (b || c))
     or_under true b c = refl
     or_under false b c = refl
 
-    or_swap : (a b c d : Bool) → (a || (b || (c || d))) ≡ (b || ((a || c) || d))
-    or_swap true true c d = refl
-    or_swap true false c d = refl
-    or_swap false b c d = refl
-
--- one more item is looked at
-pub any_more : {A : Type 0} (p : A → Bool) (xs : List A) (i : ℕ) (x : A) (first old new : Bool) → i < length xs → x ≡ get_or xs i x →
-    old ≡ (list_any p (take i xs) || first) → new ≡ (p x || old) → new ≡ (list_any p (take (i + 1) xs) || first)
-any_more p xs i x first old new lt is was now =
-    now ∙ ap (λ b. p x || b) was ∙ sym (any_push p (take i xs) x first)
-    ∙ sym (ap (λ ys. list_any p ys || first) (take_more xs i x lt ∙ ap (λ y. take i xs ++ y ∷ []) (sym is)))
+-- the last item that was left is looked at
+pub any_next : {A : Type 0} (p : A → Bool) (before now : List A) (x : A) (old new whole : Bool) → before ≡ push now x →
+    (list_any p before || old) ≡ whole → new ≡ (p x || old) → (list_any p now || new) ≡ whole
+any_next p before now x old new whole left so_far next =
+    ap (λ b. list_any p now || b) next ∙ any_push p now x old ∙ sym (ap (λ xs. list_any p xs || old) left) ∙ so_far

@@ -3,16 +3,16 @@ use Rattle.std.proofs.Common.{◌≡◌, ap, ◌⊎◌, inl, inr, ℕ, ◌+◌, 
 use Rattle.std.proofs.lemmas.Bool.{cases_lt}
 use Rattle.wasm_write.specs.Sizes.{counted}
 
-pub longer : (b s : List ℕ) → length b ≤ length (b ++ s)
-longer b s = omega (arith, length-append b s)
+pub longer : (b s : List ℕ) → length b ≤ length (s ++ b)
+longer b s = omega (arith, length-append s b)
 
-pub as_long : (b s : List ℕ) (f : ℕ → List ℕ) → (b ++ s) ++ f (length (b ++ s) - length b) ≡ (b ++ s) ++ f (length s)
-as_long b s f = let e : length (b ++ s) - length b ≡ length s = omega (arith, length-append b s) in ap (λ n. (b ++ s) ++ f n) e
+pub as_long : (b s : List ℕ) (f : ℕ → List ℕ) → f (length (s ++ b) - length b) ++ (s ++ b) ≡ f (length s) ++ (s ++ b)
+as_long b s f = let e : length (s ++ b) - length b ≡ length s = omega (arith, length-append s b) in ap (λ n. f n ++ (s ++ b)) e
 
 pub no_more : (s : ℕ) → counted s 0 ≡ s
 no_more s = omega arith
 
-pub added : (s : ℕ) (a b : List ℕ) → counted (counted s (length a)) (length b) ≡ counted s (length (a ++ b))
+pub added : (s : ℕ) (a b : List ℕ) → counted (counted s (length b)) (length a) ≡ counted s (length (a ++ b))
 added s a b = omega (arith, length-append a b)
 
 pub not_less : (s : ℕ) (a : List ℕ) → s ≤ counted s (length a)

@@ -1,5 +1,5 @@
-ghost use Rattle.std.specs.Prelude.{◌≡◌, ℕ, List, [], ◌∷◌, ◌++◌, ◌-◌, ◌≤◌, length, take, drop, OnOk};
-ghost use Rattle.std.proofs.Common.{append_assoc, append-nil};
+ghost use Rattle.std.specs.Prelude.{◌≡◌, ℕ, List, [], ◌∷◌, ◌++◌, ◌-◌, ◌≤◌, length, take, drop, reverse, OnOk};
+ghost use Rattle.std.proofs.Common.{append_assoc, refl, sym};
 ghost use Rattle.wasm_write.specs.Laws.{longer, as_long};
 
 use crate::target::Target;
@@ -7,18 +7,18 @@ use std::alloc::Global;
 use std::marker::Model;
 use wasm_bytes::NoMemory;
 
-/// A file that is written. Contracts see the bytes so far.
+/// A file that is written, from its last byte to its first. Contracts see the bytes so far, in the file's order.
 #[derive(Drop)]
 pub(crate) struct Buffer {
-    bytes: Vec<u8>,
+    backwards: Vec<u8>,
 }
 
 impl Model for Buffer {
-    ghost use Rattle.std.specs.Prelude.{List, ℕ};
+    ghost use Rattle.std.specs.Prelude.{List, ℕ, reverse};
 
     ghost Value = { List ℕ };
 
-    ghost view = { λ b. b.bytes.items };
+    ghost view = { λ b. reverse b.backwards.items };
 }
 
 impl Buffer {
@@ -27,71 +27,63 @@ impl Buffer {
         ensures { result ≡ [] }
     {
         Buffer {
-            bytes: Vec::new(alloc),
+            backwards: Vec::new(alloc),
         }
     }
 
-    /// The bytes, out of it.
+    /// The bytes, out of it: each is moved once.
     pub(crate) fn into_bytes(self) -> Vec<u8>
         ensures { result.items ≡ self }
     {
-        let Buffer { bytes } = self;
-        bytes
+        let Buffer { mut backwards } = self;
+        backwards.reverse();
+        backwards
     }
 }
 
-/// From how many bytes on bytes are turned all at once. Of fewer, the move of each is cheaper than the room that a turn clears.
-const LONG: usize = 4096;
-
-/// Puts the last bytes, so many, before the others.
-fn put_first(bytes: &mut [u8], count: usize)
-    requires { count ≤ length bytes.old }
-    ensures { bytes.new ≡ drop (length bytes.old - count) bytes.old ++ take (length bytes.old - count) bytes.old }
+/// Puts the bytes from `from` on in the opposite order.
+#[tactic(auto, using(crate::proofs::Backwards::turned))]
+fn turn_from(bytes: &mut [u8], from: usize)
+    requires { from ≤ length bytes.old }
+    ensures { bytes.new ≡ take from bytes.old ++ reverse (drop from bytes.old) }
 {
-    if bytes.len() < LONG {
-        for _ in 0..count {
-            bytes.rotate_right(1);
-        }
-    } else {
-        bytes.rotate_right(count);
-    }
+    bytes[from..].reverse();
 }
 
 impl Target for Buffer {
     type Refusal = NoMemory;
 
-    ghost after = { λ b text. b ++ text };
+    ghost preceded = { λ b text. text ++ b };
 
     ghost place = { λ b. length b };
 
-    ghost nothing = { λ b. append-nil b };
+    ghost nothing = { λ b. refl };
 
-    ghost joined = { λ b s t. append_assoc b s t };
+    ghost joined = { λ b s t. sym (append_assoc s t b) };
 
     ghost farther = { λ b s. longer b s };
 
     ghost told = { λ b s f. as_long b s f };
 
     fn byte(&mut self, value: u8) -> Result<(), NoMemory> {
-        match self.bytes.push(value) {
+        match self.backwards.push(value) {
             Ok(()) => Ok(()),
             Err(_) => Err(NoMemory),
         }
     }
 
     fn bytes(&mut self, more: &[u8]) -> Result<(), NoMemory> {
-        match self.bytes.extend_from_slice(more) {
-            Ok(()) => Ok(()),
+        let from = self.backwards.len();
+        match self.backwards.extend_from_slice(more) {
+            Ok(()) => {
+                turn_from(self.backwards.as_mut_slice(), from);
+                Ok(())
+            }
             Err(_) => Err(NoMemory),
         }
     }
 
     fn place(&self) -> u64 {
-        self.bytes.len() as u64
-    }
-
-    fn turn(&mut self, from: u64, middle: u64) {
-        let last = self.bytes.len() - middle as usize;
-        put_first(&mut self.bytes[from as usize..], last);
+        self.backwards.len() as u64
     }
 }

@@ -13,33 +13,33 @@ use wasm_tree::{BlockType, Instr, MemArg, ValType};
 
 /// Spells where a load or a store goes (WebAssembly Core 2.0, section 5.4.6). A memory other than memory 0 is named.
 fn spell_mem_arg<T: Target>(target: &mut T, arg: &MemArg) -> Result<(), T::Refusal>
-    ensures { OnOk result (target.new ≡ T.after target.old (mem_arg_text arg.now)) }
+    ensures { OnOk result (target.new ≡ T.preceded target.old (mem_arg_text arg.now)) }
 {
     if arg.memory == 0 {
-        spell_u32(target, arg.align)?;
-        spell_u32(target, arg.offset)
+        spell_u32(target, arg.offset)?;
+        spell_u32(target, arg.align)
     } else {
-        spell_number(target, u64::from(arg.align) + 64)?;
+        spell_u32(target, arg.offset)?;
         spell_u32(target, arg.memory)?;
-        spell_u32(target, arg.offset)
+        spell_number(target, u64::from(arg.align) + 64)
     }
 }
 
 /// Spells an opcode and an index.
 #[inline]
 fn spell_index<T: Target>(target: &mut T, opcode: u8, index: u32) -> Result<(), T::Refusal>
-    ensures { OnOk result (target.new ≡ T.after target.old (opcode ∷ u32_text index)) }
+    ensures { OnOk result (target.new ≡ T.preceded target.old (opcode ∷ u32_text index)) }
 {
-    target.byte(opcode)?;
-    spell_u32(target, index)
+    spell_u32(target, index)?;
+    target.byte(opcode)
 }
 
 /// Spells an opcode that `FC` begins, and an index.
 fn spell_prefixed<T: Target>(target: &mut T, opcode: u8, index: u32) -> Result<(), T::Refusal>
-    ensures { OnOk result (target.new ≡ T.after target.old (0xFC ∷ opcode ∷ u32_text index)) }
+    ensures { OnOk result (target.new ≡ T.preceded target.old (0xFC ∷ opcode ∷ u32_text index)) }
 {
-    target.byte(0xFC)?;
-    spell_index(target, opcode, index)
+    spell_index(target, opcode, index)?;
+    target.byte(0xFC)
 }
 
 /// Spells an opcode that `FC` begins, and two indices.
@@ -49,70 +49,70 @@ fn spell_prefixed_pair<T: Target>(
     first: u32,
     second: u32,
 ) -> Result<(), T::Refusal>
-    ensures { OnOk result (target.new ≡ T.after target.old ((0xFC ∷ opcode ∷ u32_text first) ++ u32_text second)) }
+    ensures { OnOk result (target.new ≡ T.preceded target.old ((0xFC ∷ opcode ∷ u32_text first) ++ u32_text second)) }
 {
-    spell_prefixed(target, opcode, first)?;
-    spell_u32(target, second)
+    spell_u32(target, second)?;
+    spell_prefixed(target, opcode, first)
 }
 
 /// Spells the opcode of a load or a store, and where it goes.
 fn spell_access<T: Target>(target: &mut T, opcode: u8, arg: &MemArg) -> Result<(), T::Refusal>
-    ensures { OnOk result (target.new ≡ T.after target.old (opcode ∷ mem_arg_text arg.now)) }
+    ensures { OnOk result (target.new ≡ T.preceded target.old (opcode ∷ mem_arg_text arg.now)) }
 {
-    target.byte(opcode)?;
-    spell_mem_arg(target, arg)
+    spell_mem_arg(target, arg)?;
+    target.byte(opcode)
 }
 
 /// Spells the opcode of a block, and its type.
 fn spell_opener<T: Target>(target: &mut T, opcode: u8, ty: &BlockType) -> Result<(), T::Refusal>
-    ensures { OnOk result (target.new ≡ T.after target.old (opcode ∷ block_type_text ty.now)) }
+    ensures { OnOk result (target.new ≡ T.preceded target.old (opcode ∷ block_type_text ty.now)) }
 {
-    target.byte(opcode)?;
-    ty.spell(target)
+    ty.spell(target)?;
+    target.byte(opcode)
 }
 
 /// Spells a branch to one of several labels.
 fn spell_branches<T: Target>(target: &mut T, labels: &[u32], other: u32) -> Result<(), T::Refusal>
-    ensures { OnOk result (target.new ≡ T.after target.old ((0x0E ∷ vector_text u32_text labels.now) ++ u32_text other)) }
+    ensures { OnOk result (target.new ≡ T.preceded target.old ((0x0E ∷ vector_text u32_text labels.now) ++ u32_text other)) }
 {
-    target.byte(0x0E)?;
+    spell_u32(target, other)?;
     spell_vector(target, labels)?;
-    spell_u32(target, other)
+    target.byte(0x0E)
 }
 
 /// Spells a selection with its type.
 fn spell_typed<T: Target>(target: &mut T, types: &[ValType]) -> Result<(), T::Refusal>
-    ensures { OnOk result (target.new ≡ T.after target.old (0x1C ∷ vector_text val_text types.now)) }
+    ensures { OnOk result (target.new ≡ T.preceded target.old (0x1C ∷ vector_text val_text types.now)) }
 {
-    target.byte(0x1C)?;
-    spell_vector(target, types)
+    spell_vector(target, types)?;
+    target.byte(0x1C)
 }
 
 /// Spells an instruction. Where it names a data segment, `uses` becomes true.
 #[tactic(auto, using(wasm_tree::proofs::DataUse::uses_block, wasm_tree::proofs::DataUse::uses_loop, wasm_tree::proofs::DataUse::uses_if))]
 #[cycle(spell)]
 fn spell_instr<T: Target>(target: &mut T, instr: &Instr, uses: &mut bool) -> Result<(), T::Refusal>
-    ensures text { OnOk result (target.new ≡ T.after target.old (instr_text instr.now)) }
+    ensures text { OnOk result (target.new ≡ T.preceded target.old (instr_text instr.now)) }
     ensures uses { OnOk result (uses.new ≡ (uses_data_in instr.now || uses.old)) }
 {
     match instr {
         Instr::Unreachable => target.byte(0x00),
         Instr::Nop => target.byte(0x01),
         Instr::Block(ty, body) => {
-            spell_opener(target, 0x02, ty)?;
+            target.byte(0x0B)?;
             spell_instrs(target, body.as_slice(), uses)?;
-            target.byte(0x0B)
+            spell_opener(target, 0x02, ty)
         }
         Instr::Loop(ty, body) => {
-            spell_opener(target, 0x03, ty)?;
+            target.byte(0x0B)?;
             spell_instrs(target, body.as_slice(), uses)?;
-            target.byte(0x0B)
+            spell_opener(target, 0x03, ty)
         }
         Instr::If(ty, body, other) => {
-            spell_opener(target, 0x04, ty)?;
-            spell_instrs(target, body.as_slice(), uses)?;
+            target.byte(0x0B)?;
             spell_else(target, other.as_slice(), uses)?;
-            target.byte(0x0B)
+            spell_instrs(target, body.as_slice(), uses)?;
+            spell_opener(target, 0x04, ty)
         }
         Instr::Br(x) => spell_index(target, 0x0C, *x),
         Instr::BrIf(x) => spell_index(target, 0x0D, *x),
@@ -120,8 +120,8 @@ fn spell_instr<T: Target>(target: &mut T, instr: &Instr, uses: &mut bool) -> Res
         Instr::Return => target.byte(0x0F),
         Instr::Call(x) => spell_index(target, 0x10, *x),
         Instr::CallIndirect { ty, table } => {
-            spell_index(target, 0x11, *ty)?;
-            spell_u32(target, *table)
+            spell_u32(target, *table)?;
+            spell_index(target, 0x11, *ty)
         }
         Instr::Drop => target.byte(0x1A),
         Instr::Select => target.byte(0x1B),
@@ -138,18 +138,18 @@ fn spell_instr<T: Target>(target: &mut T, instr: &Instr, uses: &mut bool) -> Res
         Instr::MemorySize(x) => spell_index(target, 0x3F, *x),
         Instr::MemoryGrow(x) => spell_index(target, 0x40, *x),
         Instr::I32Const(value) => {
-            target.byte(0x41)?;
-            spell_s32(target, *value)
+            spell_s32(target, *value)?;
+            target.byte(0x41)
         }
         Instr::I64Const(value) => {
-            target.byte(0x42)?;
-            spell_s64(target, *value)
+            spell_s64(target, *value)?;
+            target.byte(0x42)
         }
         Instr::Un(op) => target.byte(un_code(*op)),
         Instr::Bin(op) => target.byte(bin_code(*op)),
         Instr::RefNull(ty) => {
-            target.byte(0xD0)?;
-            target.byte(ref_code(*ty))
+            target.byte(ref_code(*ty))?;
+            target.byte(0xD0)
         }
         Instr::RefIsNull => target.byte(0xD1),
         Instr::RefFunc(x) => spell_index(target, 0xD2, *x),
@@ -179,10 +179,10 @@ pub(crate) fn spell_instrs<T: Target>(
     instrs: &[Instr],
     uses: &mut bool,
 ) -> Result<(), T::Refusal>
-    ensures text { OnOk result (target.new ≡ T.after target.old (instrs_text instrs.now)) }
+    ensures text { OnOk result (target.new ≡ T.preceded target.old (instrs_text instrs.now)) }
     ensures uses { OnOk result (uses.new ≡ (uses_data instrs.now || uses.old)) }
 {
-    for instr in instrs {
+    for instr in instrs.iter().rev() {
         spell_instr(target, instr, uses)?;
     }
     Ok(())
@@ -191,12 +191,12 @@ pub(crate) fn spell_instrs<T: Target>(
 /// Spells what an `if` has besides its first list, if there is any.
 #[cycle(spell)]
 fn spell_else<T: Target>(target: &mut T, other: &[Instr], uses: &mut bool) -> Result<(), T::Refusal>
-    ensures text { OnOk result (target.new ≡ T.after target.old (else_text (map instr_text other.now))) }
+    ensures text { OnOk result (target.new ≡ T.preceded target.old (else_text (map instr_text other.now))) }
     ensures uses { OnOk result (uses.new ≡ (uses_data other.now || uses.old)) }
 {
     if other.len() == 0 {
         return Ok(());
     }
-    target.byte(0x05)?;
-    spell_instrs(target, other, uses)
+    spell_instrs(target, other, uses)?;
+    target.byte(0x05)
 }

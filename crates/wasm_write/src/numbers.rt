@@ -7,27 +7,27 @@ use crate::target::Target;
 /// Spells a number as short as can be, cut to so many bytes (WebAssembly Core 2.0, section 5.2.2).
 #[tactic(auto, unfolding(wasm_bytes::specs::Writing::unsigned_text))]
 fn spell_unsigned<T: Target>(target: &mut T, most: u32, value: u64) -> Result<(), T::Refusal>
-    ensures { OnOk result (target.new ≡ T.after target.old (unsigned_text most value)) }
+    ensures { OnOk result (target.new ≡ T.preceded target.old (unsigned_text most value)) }
 {
     if most == 0 {
         Ok(())
     } else if value < 128 {
         target.byte(value as u8)
     } else {
-        target.byte((value % 128 + 128) as u8)?;
-        spell_unsigned(target, most - 1, value / 128)
+        spell_unsigned(target, most - 1, value / 128)?;
+        target.byte((value % 128 + 128) as u8)
     }
 }
 
 /// Spells a length, which may be as great as memory.
 pub(crate) fn spell_number<T: Target>(target: &mut T, value: u64) -> Result<(), T::Refusal>
-    ensures { OnOk result (target.new ≡ T.after target.old (u32_text value)) }
+    ensures { OnOk result (target.new ≡ T.preceded target.old (u32_text value)) }
 {
     spell_unsigned(target, 5, value)
 }
 
 pub(crate) fn spell_u32<T: Target>(target: &mut T, value: u32) -> Result<(), T::Refusal>
-    ensures { OnOk result (target.new ≡ T.after target.old (u32_text value)) }
+    ensures { OnOk result (target.new ≡ T.preceded target.old (u32_text value)) }
 {
     spell_unsigned(target, 5, u64::from(value))
 }
@@ -49,15 +49,15 @@ fn spell_signed<T: Target>(
     negative: bool,
     magnitude: u64,
 ) -> Result<(), T::Refusal>
-    ensures { OnOk result (target.new ≡ T.after target.old (signed_text most (with_sign negative magnitude))) }
+    ensures { OnOk result (target.new ≡ T.preceded target.old (signed_text most (with_sign negative magnitude))) }
 {
     if most == 0 {
         Ok(())
     } else if magnitude < 64 {
         target.byte(low_bits(negative, magnitude))
     } else {
-        target.byte(low_bits(negative, magnitude) + 128)?;
-        spell_signed(target, most - 1, negative, magnitude / 128)
+        spell_signed(target, most - 1, negative, magnitude / 128)?;
+        target.byte(low_bits(negative, magnitude) + 128)
     }
 }
 
@@ -79,19 +79,19 @@ fn magnitude_of(value: i64) -> u64
 }
 
 pub(crate) fn spell_s33<T: Target>(target: &mut T, value: i64) -> Result<(), T::Refusal>
-    ensures { OnOk result (target.new ≡ T.after target.old (s33_text value)) }
+    ensures { OnOk result (target.new ≡ T.preceded target.old (s33_text value)) }
 {
     spell_signed(target, 5, is_negative(value), magnitude_of(value))
 }
 
 pub(crate) fn spell_s32<T: Target>(target: &mut T, value: i32) -> Result<(), T::Refusal>
-    ensures { OnOk result (target.new ≡ T.after target.old (s32_text value)) }
+    ensures { OnOk result (target.new ≡ T.preceded target.old (s32_text value)) }
 {
     spell_s33(target, i64::from(value))
 }
 
 pub(crate) fn spell_s64<T: Target>(target: &mut T, value: i64) -> Result<(), T::Refusal>
-    ensures { OnOk result (target.new ≡ T.after target.old (s64_text value)) }
+    ensures { OnOk result (target.new ≡ T.preceded target.old (s64_text value)) }
 {
     spell_signed(target, 10, is_negative(value), magnitude_of(value))
 }

@@ -11,22 +11,22 @@ pub(crate) trait Plain {
 
     /// Spells it.
     fn spell<T: Target>(&self, target: &mut T) -> Result<(), T::Refusal>
-        ensures { OnOk result (target.new ≡ T.after target.old (Self.text self.now)) };
+        ensures { OnOk result (target.new ≡ T.preceded target.old (Self.text self.now)) };
 }
 
 /// Spells a length and as many bytes.
 pub(crate) fn spell_sized<T: Target>(target: &mut T, content: &[u8]) -> Result<(), T::Refusal>
-    ensures { OnOk result (target.new ≡ T.after target.old (sized_text content.now)) }
+    ensures { OnOk result (target.new ≡ T.preceded target.old (sized_text content.now)) }
 {
-    spell_number(target, content.len() as u64)?;
-    target.bytes(content)
+    target.bytes(content)?;
+    spell_number(target, content.len() as u64)
 }
 
 /// Spells items, one after another.
 fn spell_each<T: Target, P: Plain>(target: &mut T, items: &[P]) -> Result<(), T::Refusal>
-    ensures { OnOk result (target.new ≡ T.after target.old (each_text P.text items.now)) }
+    ensures { OnOk result (target.new ≡ T.preceded target.old (each_text P.text items.now)) }
 {
-    for item in items {
+    for item in items.iter().rev() {
         item.spell(target)?;
     }
     Ok(())
@@ -37,19 +37,17 @@ pub(crate) fn spell_vector<T: Target, P: Plain>(
     target: &mut T,
     items: &[P],
 ) -> Result<(), T::Refusal>
-    ensures { OnOk result (target.new ≡ T.after target.old (vector_text P.text items.now)) }
+    ensures { OnOk result (target.new ≡ T.preceded target.old (vector_text P.text items.now)) }
 {
-    spell_number(target, items.len() as u64)?;
-    spell_each(target, items)
+    spell_each(target, items)?;
+    spell_number(target, items.len() as u64)
 }
 
-/// Spells the size of what was spelled since the target had come to `from`, before that.
-pub(crate) fn spell_size_before<T: Target>(target: &mut T, from: u64) -> Result<(), T::Refusal>
+/// Spells the size of what was spelled since `from` bytes were.
+pub(crate) fn spell_size<T: Target>(target: &mut T, from: u64) -> Result<(), T::Refusal>
     requires { from ≤ T.place target.old }
-    ensures { OnOk result ((before : T) (content : List ℕ) → from ≡ T.place before → target.old ≡ T.after before content → target.new ≡ T.after before (sized_text content)) }
+    ensures { OnOk result ((before : T) (content : List ℕ) → from ≡ T.place before → target.old ≡ T.preceded before content → target.new ≡ T.preceded before (sized_text content)) }
 {
-    let middle = target.place();
-    spell_number(target, middle - from)?;
-    target.turn(from, middle);
-    Ok(())
+    let size = target.place() - from;
+    spell_number(target, size)
 }

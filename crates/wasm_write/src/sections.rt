@@ -8,7 +8,7 @@ ghost use Rattle.wasm_write.specs.Parts.{types_text, text_before_code};
 
 use crate::code::spell_instrs;
 use crate::numbers::{spell_number, spell_u32};
-use crate::plain::{Plain, spell_size_before, spell_vector};
+use crate::plain::{Plain, spell_size, spell_vector};
 use crate::target::Target;
 use wasm_tree::{Func, LocalGroup, Module};
 
@@ -20,30 +20,30 @@ impl Plain for LocalGroup {
 
     #[tactic(auto, unfolding(wasm_plain::specs::PlainCode::group_text))]
     fn spell<T: Target>(&self, target: &mut T) -> Result<(), T::Refusal> {
-        spell_u32(target, self.count)?;
-        self.ty.spell(target)
+        self.ty.spell(target)?;
+        spell_u32(target, self.count)
     }
 }
 
 /// Spells what is inside a code entry (WebAssembly Core 2.0, section 5.5.13). Where the body names a data segment, `uses` becomes true.
 fn spell_code<T: Target>(target: &mut T, func: &Func, uses: &mut bool) -> Result<(), T::Refusal>
-    ensures text { OnOk result (target.new ≡ T.after target.old (code_text func.now)) }
+    ensures text { OnOk result (target.new ≡ T.preceded target.old (code_text func.now)) }
     ensures uses { OnOk result (uses.new ≡ (uses_data func.now.body || uses.old)) }
 {
-    spell_vector(target, func.locals.as_slice())?;
+    target.byte(0x0B)?;
     spell_instrs(target, func.body.as_slice(), uses)?;
-    target.byte(0x0B)
+    spell_vector(target, func.locals.as_slice())
 }
 
 /// Spells a code entry. Where the body names a data segment, `uses` becomes true.
 #[tactic(auto, unfolding(wasm_plain::specs::PlainCode::entry_text))]
 fn spell_entry<T: Target>(target: &mut T, func: &Func, uses: &mut bool) -> Result<(), T::Refusal>
-    ensures text { OnOk result (target.new ≡ T.after target.old (entry_text func.now)) }
+    ensures text { OnOk result (target.new ≡ T.preceded target.old (entry_text func.now)) }
     ensures uses { OnOk result (uses.new ≡ (uses_data func.now.body || uses.old)) }
 {
     let from = target.place();
     spell_code(target, func, uses)?;
-    spell_size_before(target, from)
+    spell_size(target, from)
 }
 
 /// Spells code entries, one after another. Where a body names a data segment, `uses` becomes true.
@@ -52,10 +52,10 @@ fn spell_entries<T: Target>(
     funcs: &[Func],
     uses: &mut bool,
 ) -> Result<(), T::Refusal>
-    ensures text { OnOk result (target.new ≡ T.after target.old (each_text entry_text funcs.now)) }
+    ensures text { OnOk result (target.new ≡ T.preceded target.old (each_text entry_text funcs.now)) }
     ensures uses { OnOk result (uses.new ≡ (any_uses_data funcs.now || uses.old)) }
 {
-    for func in funcs {
+    for func in funcs.iter().rev() {
         spell_entry(target, func, uses)?;
     }
     Ok(())
@@ -63,54 +63,78 @@ fn spell_entries<T: Target>(
 
 /// Spells the types of functions, one after another.
 fn spell_func_types<T: Target>(target: &mut T, funcs: &[Func]) -> Result<(), T::Refusal>
-    ensures { OnOk result (target.new ≡ T.after target.old (each_text (λ f. u32_text f.ty) funcs.now)) }
+    ensures { OnOk result (target.new ≡ T.preceded target.old (each_text (λ f. u32_text f.ty) funcs.now)) }
 {
-    for func in funcs {
+    for func in funcs.iter().rev() {
         spell_u32(target, func.ty)?;
     }
     Ok(())
 }
 
+/// Spells the size of a section's content, which was spelled since `from` bytes were, and the section's id.
+fn spell_section<T: Target>(target: &mut T, id: u8, from: u64) -> Result<(), T::Refusal>
+    requires { from ≤ T.place target.old }
+    ensures { OnOk result ((before : T) (content : List ℕ) → from ≡ T.place before → target.old ≡ T.preceded before content → target.new ≡ T.preceded before (section_text id content)) }
+{
+    spell_size(target, from)?;
+    target.byte(id)
+}
+
 /// Spells a section of items, if there are any.
 fn spell_list<T: Target, P: Plain>(target: &mut T, id: u8, items: &[P]) -> Result<(), T::Refusal>
-    ensures { OnOk result (target.new ≡ T.after target.old (list_section id P.text items.now)) }
+    ensures { OnOk result (target.new ≡ T.preceded target.old (list_section id P.text items.now)) }
 {
     if items.len() == 0 {
         return Ok(());
     }
-    target.byte(id)?;
     let from = target.place();
     spell_vector(target, items)?;
-    spell_size_before(target, from)
+    spell_section(target, id, from)
 }
 
 /// Spells the function section, if there are functions.
 fn spell_func_section<T: Target>(target: &mut T, funcs: &[Func]) -> Result<(), T::Refusal>
-    ensures { OnOk result (target.new ≡ T.after target.old (list_section 3 (λ f. u32_text f.ty) funcs.now)) }
+    ensures { OnOk result (target.new ≡ T.preceded target.old (list_section 3 (λ f. u32_text f.ty) funcs.now)) }
 {
     if funcs.len() == 0 {
         return Ok(());
     }
-    target.byte(3)?;
     let from = target.place();
-    spell_number(target, funcs.len() as u64)?;
     spell_func_types(target, funcs)?;
-    spell_size_before(target, from)
+    spell_number(target, funcs.len() as u64)?;
+    spell_section(target, 3, from)
+}
+
+/// Spells the code section, if there are functions. Where a body names a data segment, `uses` becomes true.
+fn spell_code_section<T: Target>(
+    target: &mut T,
+    funcs: &[Func],
+    uses: &mut bool,
+) -> Result<(), T::Refusal>
+    ensures text { OnOk result (target.new ≡ T.preceded target.old (list_section 10 entry_text funcs.now)) }
+    ensures uses { OnOk result (uses.new ≡ (any_uses_data funcs.now || uses.old)) }
+{
+    if funcs.len() == 0 {
+        return Ok(());
+    }
+    let from = target.place();
+    spell_entries(target, funcs, uses)?;
+    spell_number(target, funcs.len() as u64)?;
+    spell_section(target, 10, from)
 }
 
 /// Spells a section of one number.
 fn spell_one<T: Target>(target: &mut T, id: u8, value: u64) -> Result<(), T::Refusal>
-    ensures { OnOk result (target.new ≡ T.after target.old (section_text id (u32_text value))) }
+    ensures { OnOk result (target.new ≡ T.preceded target.old (section_text id (u32_text value))) }
 {
-    target.byte(id)?;
     let from = target.place();
     spell_number(target, value)?;
-    spell_size_before(target, from)
+    spell_section(target, id, from)
 }
 
 /// Spells the start section, if there is a start.
 fn spell_start<T: Target>(target: &mut T, start: Option<u32>) -> Result<(), T::Refusal>
-    ensures { OnOk result (target.new ≡ T.after target.old (start_section start)) }
+    ensures { OnOk result (target.new ≡ T.preceded target.old (start_section start)) }
 {
     match start {
         None => Ok(()),
@@ -118,9 +142,9 @@ fn spell_start<T: Target>(target: &mut T, start: Option<u32>) -> Result<(), T::R
     }
 }
 
-/// Spells the data count section, if bodies use data.
+/// Spells the data count section, if bodies name data segments.
 fn spell_count<T: Target>(target: &mut T, count: usize, uses: bool) -> Result<(), T::Refusal>
-    ensures { OnOk result (target.new ≡ T.after target.old (if uses then section_text 12 (u32_text count) else [])) }
+    ensures { OnOk result (target.new ≡ T.preceded target.old (if uses then section_text 12 (u32_text count) else [])) }
 {
     if uses {
         spell_one(target, 12, count as u64)
@@ -129,70 +153,46 @@ fn spell_count<T: Target>(target: &mut T, count: usize, uses: bool) -> Result<()
     }
 }
 
-/// Spells what stands before the content of the code section, which was spelled since `from`: the data count section, if bodies use data, and the id and the size.
-fn spell_before_content<T: Target>(
-    target: &mut T,
-    from: u64,
-    count: usize,
-    uses: bool,
-) -> Result<(), T::Refusal>
-    requires { from ≤ T.place target.old }
-    ensures { OnOk result ((before : T) (content : List ℕ) → from ≡ T.place before → target.old ≡ T.after before content →
-        target.new ≡ T.after before ((if uses then section_text 12 (u32_text count) else []) ++ section_text 10 content)) }
+/// Spells the data count section and the code section.
+fn spell_count_and_code<T: Target>(target: &mut T, module: &Module) -> Result<(), T::Refusal>
+    ensures { OnOk result (target.new ≡ T.preceded target.old (count_section «module».now ++ list_section 10 entry_text «module».now.funcs)) }
 {
-    let middle = target.place();
-    spell_count(target, count, uses)?;
-    target.byte(10)?;
-    spell_number(target, middle - from)?;
-    target.turn(from, middle);
-    Ok(())
-}
-
-/// Spells the data count section and the code section. Whether there is a data count is known once the bodies are spelled.
-fn spell_code_section<T: Target>(target: &mut T, module: &Module) -> Result<(), T::Refusal>
-    ensures { OnOk result (target.new ≡ T.after target.old (count_section «module».now ++ list_section 10 entry_text «module».now.funcs)) }
-{
-    if module.funcs.len() == 0 {
-        return Ok(());
-    }
-    let from = target.place();
     let mut uses = false;
-    spell_number(target, module.funcs.len() as u64)?;
-    spell_entries(target, module.funcs.as_slice(), &mut uses)?;
-    spell_before_content(target, from, module.datas.len(), uses)
+    spell_code_section(target, module.funcs.as_slice(), &mut uses)?;
+    spell_count(target, module.datas.len(), uses)
 }
 
 /// Spells the header, and the sections up to that of globals.
 #[tactic(auto, unfolding(crate::specs::Parts::types_text))]
 fn spell_types<T: Target>(target: &mut T, module: &Module) -> Result<(), T::Refusal>
-    ensures { OnOk result (target.new ≡ T.after target.old (types_text «module».now)) }
+    ensures { OnOk result (target.new ≡ T.preceded target.old (types_text «module».now)) }
 {
-    target.bytes(&HEADER)?;
-    spell_list(target, 1, module.types.as_slice())?;
-    spell_list(target, 2, module.imports.as_slice())?;
-    spell_func_section(target, module.funcs.as_slice())?;
-    spell_list(target, 4, module.tables.as_slice())?;
+    spell_list(target, 6, module.globals.as_slice())?;
     spell_list(target, 5, module.mems.as_slice())?;
-    spell_list(target, 6, module.globals.as_slice())
+    spell_list(target, 4, module.tables.as_slice())?;
+    spell_func_section(target, module.funcs.as_slice())?;
+    spell_list(target, 2, module.imports.as_slice())?;
+    spell_list(target, 1, module.types.as_slice())?;
+    target.bytes(&HEADER)
 }
 
 /// Spells what stands before the data count and the code.
 #[tactic(auto, unfolding(crate::specs::Parts::text_before_code))]
 fn spell_before_code<T: Target>(target: &mut T, module: &Module) -> Result<(), T::Refusal>
-    ensures { OnOk result (target.new ≡ T.after target.old (text_before_code «module».now)) }
+    ensures { OnOk result (target.new ≡ T.preceded target.old (text_before_code «module».now)) }
 {
-    spell_types(target, module)?;
-    spell_list(target, 7, module.exports.as_slice())?;
+    spell_list(target, 9, module.elems.as_slice())?;
     spell_start(target, module.start)?;
-    spell_list(target, 9, module.elems.as_slice())
+    spell_list(target, 7, module.exports.as_slice())?;
+    spell_types(target, module)
 }
 
 /// Spells a module.
 #[tactic(auto, using(crate::proofs::Parts::plain_parts))]
 pub(crate) fn spell_module<T: Target>(target: &mut T, module: &Module) -> Result<(), T::Refusal>
-    ensures { OnOk result (target.new ≡ T.after target.old (plain «module».now)) }
+    ensures { OnOk result (target.new ≡ T.preceded target.old (plain «module».now)) }
 {
-    spell_before_code(target, module)?;
-    spell_code_section(target, module)?;
-    spell_list(target, 11, module.datas.as_slice())
+    spell_list(target, 11, module.datas.as_slice())?;
+    spell_count_and_code(target, module)?;
+    spell_before_code(target, module)
 }

@@ -67,9 +67,9 @@ fn by_index(segment: &ElemSeg) -> bool
 
 /// Spells the functions of items that are all `ref.func`.
 fn spell_funcs<T: Target>(target: &mut T, items: &[ConstExpr]) -> Result<(), T::Refusal>
-    ensures { OnOk result (target.new ≡ T.after target.old (each_text (λ c. u32_text (func_of c)) items.now)) }
+    ensures { OnOk result (target.new ≡ T.preceded target.old (each_text (λ c. u32_text (func_of c)) items.now)) }
 {
-    for item in items {
+    for item in items.iter().rev() {
         spell_u32(target, func_of(*item))?;
     }
     Ok(())
@@ -77,15 +77,15 @@ fn spell_funcs<T: Target>(target: &mut T, items: &[ConstExpr]) -> Result<(), T::
 
 #[tactic(auto, unfolding(wasm_plain::specs::PlainValues::index_items))]
 fn spell_index_items<T: Target>(target: &mut T, items: &[ConstExpr]) -> Result<(), T::Refusal>
-    ensures { OnOk result (target.new ≡ T.after target.old (index_items items.now)) }
+    ensures { OnOk result (target.new ≡ T.preceded target.old (index_items items.now)) }
 {
-    spell_number(target, items.len() as u64)?;
-    spell_funcs(target, items)
+    spell_funcs(target, items)?;
+    spell_number(target, items.len() as u64)
 }
 
 #[tactic(auto, unfolding(wasm_plain::specs::PlainValues::const_items))]
 fn spell_const_items<T: Target>(target: &mut T, items: &[ConstExpr]) -> Result<(), T::Refusal>
-    ensures { OnOk result (target.new ≡ T.after target.old (const_items items.now)) }
+    ensures { OnOk result (target.new ≡ T.preceded target.old (const_items items.now)) }
 {
     spell_vector(target, items)
 }
@@ -96,31 +96,31 @@ fn spell_by_index<T: Target>(
     mode: ElemMode,
     items: &[ConstExpr],
 ) -> Result<(), T::Refusal>
-    ensures { OnOk result (target.new ≡ T.after target.old (mode_by_index mode items.now)) }
+    ensures { OnOk result (target.new ≡ T.preceded target.old (mode_by_index mode items.now)) }
 {
     match mode {
         ElemMode::Active { table, offset } => {
             if table == 0 {
-                target.byte(0x00)?;
+                spell_index_items(target, items)?;
                 offset.spell(target)?;
-                spell_index_items(target, items)
+                target.byte(0x00)
             } else {
-                target.byte(0x02)?;
-                spell_u32(target, table)?;
-                offset.spell(target)?;
+                spell_index_items(target, items)?;
                 target.byte(0x00)?;
-                spell_index_items(target, items)
+                offset.spell(target)?;
+                spell_u32(target, table)?;
+                target.byte(0x02)
             }
         }
         ElemMode::Passive => {
-            target.byte(0x01)?;
+            spell_index_items(target, items)?;
             target.byte(0x00)?;
-            spell_index_items(target, items)
+            target.byte(0x01)
         }
         ElemMode::Declarative => {
-            target.byte(0x03)?;
+            spell_index_items(target, items)?;
             target.byte(0x00)?;
-            spell_index_items(target, items)
+            target.byte(0x03)
         }
     }
 }
@@ -132,31 +132,31 @@ fn spell_by_const<T: Target>(
     ty: RefType,
     items: &[ConstExpr],
 ) -> Result<(), T::Refusal>
-    ensures { OnOk result (target.new ≡ T.after target.old (mode_by_const mode ty items.now)) }
+    ensures { OnOk result (target.new ≡ T.preceded target.old (mode_by_const mode ty items.now)) }
 {
     match mode {
         ElemMode::Active { table, offset } => {
             if table == 0 && is_funcref(ty) {
-                target.byte(0x04)?;
+                spell_const_items(target, items)?;
                 offset.spell(target)?;
-                spell_const_items(target, items)
+                target.byte(0x04)
             } else {
-                target.byte(0x06)?;
-                spell_u32(target, table)?;
-                offset.spell(target)?;
+                spell_const_items(target, items)?;
                 target.byte(ref_code(ty))?;
-                spell_const_items(target, items)
+                offset.spell(target)?;
+                spell_u32(target, table)?;
+                target.byte(0x06)
             }
         }
         ElemMode::Passive => {
-            target.byte(0x05)?;
+            spell_const_items(target, items)?;
             target.byte(ref_code(ty))?;
-            spell_const_items(target, items)
+            target.byte(0x05)
         }
         ElemMode::Declarative => {
-            target.byte(0x07)?;
+            spell_const_items(target, items)?;
             target.byte(ref_code(ty))?;
-            spell_const_items(target, items)
+            target.byte(0x07)
         }
     }
 }
@@ -181,12 +181,12 @@ impl Plain for DataMode {
         match self {
             DataMode::Active { memory, offset } => {
                 if *memory == 0 {
-                    target.byte(0x00)?;
-                    offset.spell(target)
+                    offset.spell(target)?;
+                    target.byte(0x00)
                 } else {
-                    target.byte(0x02)?;
+                    offset.spell(target)?;
                     spell_u32(target, *memory)?;
-                    offset.spell(target)
+                    target.byte(0x02)
                 }
             }
             DataMode::Passive => target.byte(0x01),
@@ -199,7 +199,7 @@ impl Plain for DataSeg {
 
     #[tactic(auto, unfolding(wasm_plain::specs::PlainValues::data_text))]
     fn spell<T: Target>(&self, target: &mut T) -> Result<(), T::Refusal> {
-        self.mode.spell(target)?;
-        spell_sized(target, self.bytes.as_slice())
+        spell_sized(target, self.bytes.as_slice())?;
+        self.mode.spell(target)
     }
 }

@@ -45,7 +45,7 @@ impl Size {
 impl Target for Size {
     type Refusal = Infallible;
 
-    ghost after = { λ s text. counted s (length text) };
+    ghost preceded = { λ s text. counted s (length text) };
 
     ghost place = { λ s. s };
 
@@ -68,6 +68,4 @@ impl Target for Size {
     fn place(&self) -> u64 {
         self.bytes
     }
-
-    fn turn(&mut self, _from: u64, _middle: u64) {}
 }

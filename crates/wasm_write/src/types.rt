@@ -63,9 +63,9 @@ impl Plain for FuncType {
 
     #[tactic(auto, unfolding(wasm_plain::specs::PlainValues::func_type_text))]
     fn spell<T: Target>(&self, target: &mut T) -> Result<(), T::Refusal> {
-        target.byte(0x60)?;
+        spell_vector(target, self.results.as_slice())?;
         spell_vector(target, self.params.as_slice())?;
-        spell_vector(target, self.results.as_slice())
+        target.byte(0x60)
     }
 }
 
@@ -76,13 +76,13 @@ impl Plain for Limits {
     fn spell<T: Target>(&self, target: &mut T) -> Result<(), T::Refusal> {
         match self.max {
             None => {
-                target.byte(0x00)?;
-                spell_u32(target, self.min)
+                spell_u32(target, self.min)?;
+                target.byte(0x00)
             }
             Some(max) => {
-                target.byte(0x01)?;
+                spell_u32(target, max)?;
                 spell_u32(target, self.min)?;
-                spell_u32(target, max)
+                target.byte(0x01)
             }
         }
     }
@@ -93,8 +93,8 @@ impl Plain for TableType {
 
     #[tactic(auto, unfolding(wasm_plain::specs::PlainValues::table_text))]
     fn spell<T: Target>(&self, target: &mut T) -> Result<(), T::Refusal> {
-        target.byte(ref_code(self.ty))?;
-        self.limits.spell(target)
+        self.limits.spell(target)?;
+        target.byte(ref_code(self.ty))
     }
 }
 
@@ -103,12 +103,8 @@ impl Plain for GlobalType {
 
     #[tactic(auto, unfolding(wasm_plain::specs::PlainValues::global_type_text))]
     fn spell<T: Target>(&self, target: &mut T) -> Result<(), T::Refusal> {
-        target.byte(val_code(self.ty))?;
-        if self.mutable {
-            target.byte(0x01)
-        } else {
-            target.byte(0x00)
-        }
+        target.byte(if self.mutable { 0x01 } else { 0x00 })?;
+        target.byte(val_code(self.ty))
     }
 }
 
@@ -132,29 +128,29 @@ impl Plain for ConstExpr {
     fn spell<T: Target>(&self, target: &mut T) -> Result<(), T::Refusal> {
         match self {
             ConstExpr::I32(value) => {
-                target.byte(0x41)?;
+                target.byte(0x0B)?;
                 spell_s32(target, *value)?;
-                target.byte(0x0B)
+                target.byte(0x41)
             }
             ConstExpr::I64(value) => {
-                target.byte(0x42)?;
+                target.byte(0x0B)?;
                 spell_s64(target, *value)?;
-                target.byte(0x0B)
+                target.byte(0x42)
             }
             ConstExpr::Null(ty) => {
-                target.byte(0xD0)?;
+                target.byte(0x0B)?;
                 target.byte(ref_code(*ty))?;
-                target.byte(0x0B)
+                target.byte(0xD0)
             }
             ConstExpr::Func(func) => {
-                target.byte(0xD2)?;
+                target.byte(0x0B)?;
                 spell_u32(target, *func)?;
-                target.byte(0x0B)
+                target.byte(0xD2)
             }
             ConstExpr::Global(global) => {
-                target.byte(0x23)?;
+                target.byte(0x0B)?;
                 spell_u32(target, *global)?;
-                target.byte(0x0B)
+                target.byte(0x23)
             }
         }
     }
@@ -167,20 +163,20 @@ impl Plain for ImportDesc {
     fn spell<T: Target>(&self, target: &mut T) -> Result<(), T::Refusal> {
         match self {
             ImportDesc::Func(ty) => {
-                target.byte(0x00)?;
-                spell_u32(target, *ty)
+                spell_u32(target, *ty)?;
+                target.byte(0x00)
             }
             ImportDesc::Table(table) => {
-                target.byte(0x01)?;
-                table.spell(target)
+                table.spell(target)?;
+                target.byte(0x01)
             }
             ImportDesc::Memory(limits) => {
-                target.byte(0x02)?;
-                limits.spell(target)
+                limits.spell(target)?;
+                target.byte(0x02)
             }
             ImportDesc::Global(global) => {
-                target.byte(0x03)?;
-                global.spell(target)
+                global.spell(target)?;
+                target.byte(0x03)
             }
         }
     }
@@ -191,9 +187,9 @@ impl Plain for Import {
 
     #[tactic(auto, unfolding(wasm_plain::specs::PlainValues::import_text))]
     fn spell<T: Target>(&self, target: &mut T) -> Result<(), T::Refusal> {
-        self.module.spell(target)?;
+        self.desc.spell(target)?;
         self.field.spell(target)?;
-        self.desc.spell(target)
+        self.module.spell(target)
     }
 }
 
@@ -202,8 +198,8 @@ impl Plain for GlobalDef {
 
     #[tactic(auto, unfolding(wasm_plain::specs::PlainValues::global_text))]
     fn spell<T: Target>(&self, target: &mut T) -> Result<(), T::Refusal> {
-        self.ty.spell(target)?;
-        self.init.spell(target)
+        self.init.spell(target)?;
+        self.ty.spell(target)
     }
 }
 
@@ -214,20 +210,20 @@ impl Plain for ExportDesc {
     fn spell<T: Target>(&self, target: &mut T) -> Result<(), T::Refusal> {
         match self {
             ExportDesc::Func(func) => {
-                target.byte(0x00)?;
-                spell_u32(target, *func)
+                spell_u32(target, *func)?;
+                target.byte(0x00)
             }
             ExportDesc::Table(table) => {
-                target.byte(0x01)?;
-                spell_u32(target, *table)
+                spell_u32(target, *table)?;
+                target.byte(0x01)
             }
             ExportDesc::Memory(memory) => {
-                target.byte(0x02)?;
-                spell_u32(target, *memory)
+                spell_u32(target, *memory)?;
+                target.byte(0x02)
             }
             ExportDesc::Global(global) => {
-                target.byte(0x03)?;
-                spell_u32(target, *global)
+                spell_u32(target, *global)?;
+                target.byte(0x03)
             }
         }
     }
@@ -238,7 +234,7 @@ impl Plain for Export {
 
     #[tactic(auto, unfolding(wasm_plain::specs::PlainValues::export_text))]
     fn spell<T: Target>(&self, target: &mut T) -> Result<(), T::Refusal> {
-        self.name.spell(target)?;
-        self.desc.spell(target)
+        self.desc.spell(target)?;
+        self.name.spell(target)
     }
 }

@@ -1,4 +1,4 @@
-use Rattle.std.proofs.Common.{◌≡◌, ◌||◌, take}
+use Rattle.std.proofs.Common.{◌≡◌, ◌||◌}
 use Rattle.wasm_tree.specs.DataUse.{uses_data}
 use Rattle.wasm_plain.specs.PlainCode.{instr_text}
 use Rattle.wasm_plain.specs.PlainValues.{each_text}
@@ -6,6 +6,6 @@ use Rattle.wasm_write.proofs.code.+spell.Given as goal
 
 abbrev pub invariant-spell_instrs-loop-instr : goal.invariant-spell_instrs-loop-instr
 invariant-spell_instrs-loop-instr g l = record {
-  text : l.target ≡ g.T.Target.after l.initial.target (each_text instr_text (take l.instr-index l.instrs));
-  uses : l.uses ≡ (uses_data (take l.instr-index l.instrs) || l.initial.uses);
+  text : g.T.Target.preceded l.target (each_text instr_text l.instr-iterator.iter.rest.now) ≡ g.T.Target.preceded l.initial.target (each_text instr_text l.instrs);
+  uses : (uses_data l.instr-iterator.iter.rest.now || l.uses) ≡ (uses_data l.instrs || l.initial.uses);
 }

@@ -1,6 +1,6 @@
-use Rattle.std.proofs.Common.{◌≡◌, take}
+use Rattle.std.proofs.Common.{◌≡◌}
 use Rattle.wasm_plain.specs.PlainValues.{each_text}
 use Rattle.wasm_write.proofs.plain.spell_each.Given as goal
 
 abbrev pub invariant-loop-item : goal.invariant-loop-item
-invariant-loop-item g l = l.target ≡ g.T.Target.after l.initial.target (each_text g.P.Plain.text (take l.item-index l.items))
+invariant-loop-item g l = g.T.Target.preceded l.target (each_text g.P.Plain.text l.item-iterator.iter.rest.now) ≡ g.T.Target.preceded l.initial.target (each_text g.P.Plain.text l.items)

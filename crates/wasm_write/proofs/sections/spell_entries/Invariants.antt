@@ -1,4 +1,4 @@
-use Rattle.std.proofs.Common.{◌≡◌, ◌||◌, take}
+use Rattle.std.proofs.Common.{◌≡◌, ◌||◌}
 use Rattle.wasm_tree.specs.DataUse.{any_uses_data}
 use Rattle.wasm_plain.specs.PlainCode.{entry_text}
 use Rattle.wasm_plain.specs.PlainValues.{each_text}
@@ -6,6 +6,6 @@ use Rattle.wasm_write.proofs.sections.spell_entries.Given as goal
 
 abbrev pub invariant-loop-func : goal.invariant-loop-func
 invariant-loop-func g l = record {
-  text : l.target ≡ g.T.Target.after l.initial.target (each_text entry_text (take l.func-index l.funcs));
-  uses : l.uses ≡ (any_uses_data (take l.func-index l.funcs) || l.initial.uses);
+  text : g.T.Target.preceded l.target (each_text entry_text l.func-iterator.iter.rest.now) ≡ g.T.Target.preceded l.initial.target (each_text entry_text l.funcs);
+  uses : (any_uses_data l.func-iterator.iter.rest.now || l.uses) ≡ (any_uses_data l.funcs || l.initial.uses);
 }

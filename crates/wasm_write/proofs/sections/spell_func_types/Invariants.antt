@@ -1,8 +1,8 @@
-use Rattle.std.proofs.Common.{◌≡◌, take}
+use Rattle.std.proofs.Common.{◌≡◌}
 use Rattle.wasm_bytes.specs.Writing.{u32_text}
 use Rattle.wasm_tree.specs.declared.module.Func.{Func}
 use Rattle.wasm_plain.specs.PlainValues.{each_text}
 use Rattle.wasm_write.proofs.sections.spell_func_types.Given as goal
 
 abbrev pub invariant-loop-func : goal.invariant-loop-func
-invariant-loop-func g l = l.target ≡ g.T.Target.after l.initial.target (each_text (λ (f : Func). u32_text f.ty) (take l.func-index l.funcs))
+invariant-loop-func g l = g.T.Target.preceded l.target (each_text (λ (f : Func). u32_text f.ty) l.func-iterator.iter.rest.now) ≡ g.T.Target.preceded l.initial.target (each_text (λ (f : Func). u32_text f.ty) l.funcs)
