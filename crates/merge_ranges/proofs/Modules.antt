@@ -54,7 +54,7 @@ module _ (stay : NumbersStay) (parts : List Part) (h : PartsInRange parts) where
   -- ---- functions
 
   func_numbers : (r : Remap) (f : Func) → FuncInRange f → FuncNumbersInRange (new_func r f)
-  func_numbers r f k = (k.1, body_keeps stay r f.body k.2)
+  func_numbers r f k = (k.1.0, body_keeps stay r f.body k.1.1)
 
   defined_numbers : Every FuncNumbersInRange (defined_funcs parts)
   unfolding defined_funcs

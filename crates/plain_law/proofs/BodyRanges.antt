@@ -25,13 +25,13 @@ use Rattle.wasm_format.specs.Operations.{un_of, bin_of, load_of, store_of}
 use Rattle.wasm_format.specs.Tokens.{Form, plain, number, numbers, const32, const64, table, typed, access, memory, memories, with_memory, null, open', else', end', prefixed, unsupported, unknown, or_else, the_form, rest_form, sub_form, arg_form, SpellsMemArg, SpellsMemory, Simple, Follows, SpellsToken}
 use Rattle.wasm_format.specs.Bodies.{Nests, no_more, one_plain, one_block, one_loop, one_if, one_if_else, SpellsBody}
 use Rattle.wasm_tree.specs.Operands.{block_operands}
-use Rattle.plain_law.specs.Ranges.{small, in_range, all_in_range, IsU32}
-use Rattle.plain_law.proofs.Inside.{Small, block_in, loop_in, if_in, more_in}
+use Rattle.plain_law.specs.Ranges.{small, spellable, all_spellable, all_in_range, IsU32}
+use Rattle.plain_law.proofs.Inside.{in_range_of, Small, block_in, loop_in, if_in, more_in}
 use Rattle.plain_law.proofs.NumberRanges.{u32_in, signed_in, is_small, is_small_32, is_small_64, is_index, says_vector}
 
 -- what is known of a token
 abbrev Right : Token → Type 0
-Right (Plain i) = in_range i ≡ true
+Right (Plain i) = spellable i ≡ true
 Right (Open k ty) = Small (block_operands ty)
 Right Else = Unit {0}
 Right End = Unit {0}
@@ -49,28 +49,28 @@ or_sound None f other h k = k
 
 -- ---- forms
 
-plain_sound : (i : Instr) → in_range i ≡ true → Sound (plain i)
+plain_sound : (i : Instr) → spellable i ≡ true → Sound (plain i)
 plain_sound i h text t s = subst Right (sym s.1) h
 
-number_sound : (f : ℕ → Instr) → ((x : ℕ) → small x ≡ true → in_range (f x) ≡ true) → Sound (number f)
+number_sound : (f : ℕ → Instr) → ((x : ℕ) → small x ≡ true → spellable (f x) ≡ true) → Sound (number f)
 number_sound f h text t s = subst Right (sym s.2) (h s.0 (is_small s.0 (u32_in text s.0 s.1)))
 
-numbers_sound : (f : ℕ → ℕ → Instr) → ((x y : ℕ) → small x ≡ true → small y ≡ true → in_range (f x y) ≡ true) → Sound (numbers f)
+numbers_sound : (f : ℕ → ℕ → Instr) → ((x y : ℕ) → small x ≡ true → small y ≡ true → spellable (f x y) ≡ true) → Sound (numbers f)
 numbers_sound f h text t s =
     let p = s.1 in
     subst Right (sym s.2) (h s.0.0 s.0.1 (is_small s.0.0 (u32_in p.0 s.0.0 p.2)) (is_small s.0.1 (u32_in p.1 s.0.1 p.3)))
 
 const32_sound : Sound const32
-const32_sound text t s = let k = is_small_32 s.0 (signed_in 32 text s.0 s.1) in let in_it : in_range (I32Const s.0) ≡ true = search (rules, the_lemmas, k) in subst Right (sym s.2) in_it
+const32_sound text t s = let k = is_small_32 s.0 (signed_in 32 text s.0 s.1) in let in_it : spellable (I32Const s.0) ≡ true = search (rules, the_lemmas, k) in subst Right (sym s.2) in_it
 
 const64_sound : Sound const64
-const64_sound text t s = let k = is_small_64 s.0 (signed_in 64 text s.0 s.1) in let in_it : in_range (I64Const s.0) ≡ true = search (rules, the_lemmas, k) in subst Right (sym s.2) in_it
+const64_sound text t s = let k = is_small_64 s.0 (signed_in 64 text s.0 s.1) in let in_it : spellable (I64Const s.0) ≡ true = search (rules, the_lemmas, k) in subst Right (sym s.2) in_it
 
 labels_in : (xs : List ℕ) → Every IsU32 xs → list_all small xs ≡ true
 labels_in [] h = refl
 labels_in (x ∷ xs) h = and_from (small x) (list_all small xs) (is_small x h.0) (labels_in xs h.1)
 
-table_in : (xs : List ℕ) (y : ℕ) → list_all small xs && small y ≡ true → in_range (BrTable xs y) ≡ true
+table_in : (xs : List ℕ) (y : ℕ) → list_all small xs && small y ≡ true → spellable (BrTable xs y) ≡ true
 table_in xs y k = search (rules, the_lemmas, k)
 
 table_sound : Sound table
@@ -78,7 +78,7 @@ table_sound text t s =
     let p = s.1 in
     subst Right (sym s.2) (table_in s.0.0 s.0.1 (and_from (list_all small s.0.0) (small s.0.1) (labels_in s.0.0 (says_vector IsU32 U32 u32_in p.0 s.0.0 p.2)) (is_small s.0.1 (u32_in p.1 s.0.1 p.3))))
 
-types_in : (ts : List ValType) → in_range (SelectTyped ts) ≡ true
+types_in : (ts : List ValType) → spellable (SelectTyped ts) ≡ true
 types_in ts = search (rules, the_lemmas)
 
 typed_sound : Sound typed
@@ -95,24 +95,24 @@ arg_in text m h =
     let o = is_small made.0 (u32_in h.1.1 made.0 made.1) in
     subst ArgIn (sym made.2) (and_from (small h.0) (small made.0) a o, refl)
 
-access_sound : (f : MemArg → Instr) → ((m : MemArg) → small m.align && small m.offset ≡ true → nat_eq m.memory 0 ≡ true → in_range (f m) ≡ true) → Sound (access f)
+access_sound : (f : MemArg → Instr) → ((m : MemArg) → small m.align && small m.offset ≡ true → nat_eq m.memory 0 ≡ true → spellable (f m) ≡ true) → Sound (access f)
 access_sound f h text t s = let a = arg_in text s.0 s.1 in subst Right (sym s.2) (h s.0 a.0 a.1)
 
 zero_in : (text : List ℕ) (x : ℕ) → SpellsMemory false text x → nat_eq x 0 ≡ true
 zero_in text x h = rw h.1.1
 
-memory_sound : (f : ℕ → Instr) → ((x : ℕ) → nat_eq x 0 ≡ true → in_range (f x) ≡ true) → Sound (memory f)
+memory_sound : (f : ℕ → Instr) → ((x : ℕ) → nat_eq x 0 ≡ true → spellable (f x) ≡ true) → Sound (memory f)
 memory_sound f h text t s = subst Right (sym s.2) (h s.0 (zero_in text s.0 s.1))
 
-memories_sound : (f : ℕ → ℕ → Instr) → ((x y : ℕ) → nat_eq x 0 ≡ true → nat_eq y 0 ≡ true → in_range (f x y) ≡ true) → Sound (memories f)
+memories_sound : (f : ℕ → ℕ → Instr) → ((x y : ℕ) → nat_eq x 0 ≡ true → nat_eq y 0 ≡ true → spellable (f x y) ≡ true) → Sound (memories f)
 memories_sound f h text t s =
     let p = s.1 in subst Right (sym s.2) (h s.0.0 s.0.1 (zero_in p.0 s.0.0 p.2) (zero_in p.1 s.0.1 p.3))
 
-with_memory_sound : (f : ℕ → ℕ → Instr) → ((x y : ℕ) → small x ≡ true → nat_eq y 0 ≡ true → in_range (f x y) ≡ true) → Sound (with_memory f)
+with_memory_sound : (f : ℕ → ℕ → Instr) → ((x y : ℕ) → small x ≡ true → nat_eq y 0 ≡ true → spellable (f x y) ≡ true) → Sound (with_memory f)
 with_memory_sound f h text t s =
     let p = s.1 in subst Right (sym s.2) (h s.0.0 s.0.1 (is_small s.0.0 (u32_in p.0 s.0.0 p.2)) (zero_in p.1 s.0.1 p.3))
 
-null_in : (r : RefType) → in_range (RefNull r) ≡ true
+null_in : (r : RefType) → spellable (RefNull r) ≡ true
 null_in r = search (rules, the_lemmas)
 
 null_sound : Sound null
@@ -137,106 +137,106 @@ none_sound text t s = absurd s
 
 -- ---- the table
 
-un_in : (op : UnOp) → in_range (Un op) ≡ true
+un_in : (op : UnOp) → spellable (Un op) ≡ true
 un_in op = search (rules, the_lemmas)
 
-bin_in : (op : BinOp) → in_range (Bin op) ≡ true
+bin_in : (op : BinOp) → spellable (Bin op) ≡ true
 bin_in op = search (rules, the_lemmas)
 
-load_in : (op : LoadOp) (m : MemArg) → small m.align && small m.offset ≡ true → nat_eq m.memory 0 ≡ true → in_range (Load op m) ≡ true
+load_in : (op : LoadOp) (m : MemArg) → small m.align && small m.offset ≡ true → nat_eq m.memory 0 ≡ true → spellable (Load op m) ≡ true
 load_in op m k z = search (rules, the_lemmas, k, z)
 
-store_in : (op : StoreOp) (m : MemArg) → small m.align && small m.offset ≡ true → nat_eq m.memory 0 ≡ true → in_range (Store op m) ≡ true
+store_in : (op : StoreOp) (m : MemArg) → small m.align && small m.offset ≡ true → nat_eq m.memory 0 ≡ true → spellable (Store op m) ≡ true
 store_in op m k z = search (rules, the_lemmas, k, z)
 
-in_Unreachable : in_range Unreachable ≡ true
+in_Unreachable : spellable Unreachable ≡ true
 in_Unreachable = search (rules, the_lemmas)
 
-in_Nop : in_range Nop ≡ true
+in_Nop : spellable Nop ≡ true
 in_Nop = search (rules, the_lemmas)
 
-in_Return : in_range Return ≡ true
+in_Return : spellable Return ≡ true
 in_Return = search (rules, the_lemmas)
 
-in_Drop : in_range Drop ≡ true
+in_Drop : spellable Drop ≡ true
 in_Drop = search (rules, the_lemmas)
 
-in_Select : in_range Select ≡ true
+in_Select : spellable Select ≡ true
 in_Select = search (rules, the_lemmas)
 
-in_RefIsNull : in_range RefIsNull ≡ true
+in_RefIsNull : spellable RefIsNull ≡ true
 in_RefIsNull = search (rules, the_lemmas)
 
-in_Br : (x : ℕ) → small x ≡ true → in_range (Br x) ≡ true
+in_Br : (x : ℕ) → small x ≡ true → spellable (Br x) ≡ true
 in_Br x k = search (rules, the_lemmas, k)
 
-in_BrIf : (x : ℕ) → small x ≡ true → in_range (BrIf x) ≡ true
+in_BrIf : (x : ℕ) → small x ≡ true → spellable (BrIf x) ≡ true
 in_BrIf x k = search (rules, the_lemmas, k)
 
-in_Call : (x : ℕ) → small x ≡ true → in_range (Call x) ≡ true
+in_Call : (x : ℕ) → small x ≡ true → spellable (Call x) ≡ true
 in_Call x k = search (rules, the_lemmas, k)
 
-in_LocalGet : (x : ℕ) → small x ≡ true → in_range (LocalGet x) ≡ true
+in_LocalGet : (x : ℕ) → small x ≡ true → spellable (LocalGet x) ≡ true
 in_LocalGet x k = search (rules, the_lemmas, k)
 
-in_LocalSet : (x : ℕ) → small x ≡ true → in_range (LocalSet x) ≡ true
+in_LocalSet : (x : ℕ) → small x ≡ true → spellable (LocalSet x) ≡ true
 in_LocalSet x k = search (rules, the_lemmas, k)
 
-in_LocalTee : (x : ℕ) → small x ≡ true → in_range (LocalTee x) ≡ true
+in_LocalTee : (x : ℕ) → small x ≡ true → spellable (LocalTee x) ≡ true
 in_LocalTee x k = search (rules, the_lemmas, k)
 
-in_GlobalGet : (x : ℕ) → small x ≡ true → in_range (GlobalGet x) ≡ true
+in_GlobalGet : (x : ℕ) → small x ≡ true → spellable (GlobalGet x) ≡ true
 in_GlobalGet x k = search (rules, the_lemmas, k)
 
-in_GlobalSet : (x : ℕ) → small x ≡ true → in_range (GlobalSet x) ≡ true
+in_GlobalSet : (x : ℕ) → small x ≡ true → spellable (GlobalSet x) ≡ true
 in_GlobalSet x k = search (rules, the_lemmas, k)
 
-in_TableGet : (x : ℕ) → small x ≡ true → in_range (TableGet x) ≡ true
+in_TableGet : (x : ℕ) → small x ≡ true → spellable (TableGet x) ≡ true
 in_TableGet x k = search (rules, the_lemmas, k)
 
-in_TableSet : (x : ℕ) → small x ≡ true → in_range (TableSet x) ≡ true
+in_TableSet : (x : ℕ) → small x ≡ true → spellable (TableSet x) ≡ true
 in_TableSet x k = search (rules, the_lemmas, k)
 
-in_RefFunc : (x : ℕ) → small x ≡ true → in_range (RefFunc x) ≡ true
+in_RefFunc : (x : ℕ) → small x ≡ true → spellable (RefFunc x) ≡ true
 in_RefFunc x k = search (rules, the_lemmas, k)
 
-in_DataDrop : (x : ℕ) → small x ≡ true → in_range (DataDrop x) ≡ true
+in_DataDrop : (x : ℕ) → small x ≡ true → spellable (DataDrop x) ≡ true
 in_DataDrop x k = search (rules, the_lemmas, k)
 
-in_ElemDrop : (x : ℕ) → small x ≡ true → in_range (ElemDrop x) ≡ true
+in_ElemDrop : (x : ℕ) → small x ≡ true → spellable (ElemDrop x) ≡ true
 in_ElemDrop x k = search (rules, the_lemmas, k)
 
-in_TableGrow : (x : ℕ) → small x ≡ true → in_range (TableGrow x) ≡ true
+in_TableGrow : (x : ℕ) → small x ≡ true → spellable (TableGrow x) ≡ true
 in_TableGrow x k = search (rules, the_lemmas, k)
 
-in_TableSize : (x : ℕ) → small x ≡ true → in_range (TableSize x) ≡ true
+in_TableSize : (x : ℕ) → small x ≡ true → spellable (TableSize x) ≡ true
 in_TableSize x k = search (rules, the_lemmas, k)
 
-in_TableFill : (x : ℕ) → small x ≡ true → in_range (TableFill x) ≡ true
+in_TableFill : (x : ℕ) → small x ≡ true → spellable (TableFill x) ≡ true
 in_TableFill x k = search (rules, the_lemmas, k)
 
-in_MemorySize : (x : ℕ) → nat_eq x 0 ≡ true → in_range (MemorySize x) ≡ true
+in_MemorySize : (x : ℕ) → nat_eq x 0 ≡ true → spellable (MemorySize x) ≡ true
 in_MemorySize x k = search (rules, the_lemmas, k)
 
-in_MemoryGrow : (x : ℕ) → nat_eq x 0 ≡ true → in_range (MemoryGrow x) ≡ true
+in_MemoryGrow : (x : ℕ) → nat_eq x 0 ≡ true → spellable (MemoryGrow x) ≡ true
 in_MemoryGrow x k = search (rules, the_lemmas, k)
 
-in_MemoryFill : (x : ℕ) → nat_eq x 0 ≡ true → in_range (MemoryFill x) ≡ true
+in_MemoryFill : (x : ℕ) → nat_eq x 0 ≡ true → spellable (MemoryFill x) ≡ true
 in_MemoryFill x k = search (rules, the_lemmas, k)
 
-in_CallIndirect : (x y : ℕ) → small x ≡ true → small y ≡ true → in_range (CallIndirect x y) ≡ true
+in_CallIndirect : (x y : ℕ) → small x ≡ true → small y ≡ true → spellable (CallIndirect x y) ≡ true
 in_CallIndirect x y h k = search (rules, the_lemmas, h, k)
 
-in_TableInit : (x y : ℕ) → small x ≡ true → small y ≡ true → in_range (TableInit x y) ≡ true
+in_TableInit : (x y : ℕ) → small x ≡ true → small y ≡ true → spellable (TableInit x y) ≡ true
 in_TableInit x y h k = search (rules, the_lemmas, h, k)
 
-in_TableCopy : (x y : ℕ) → small x ≡ true → small y ≡ true → in_range (TableCopy x y) ≡ true
+in_TableCopy : (x y : ℕ) → small x ≡ true → small y ≡ true → spellable (TableCopy x y) ≡ true
 in_TableCopy x y h k = search (rules, the_lemmas, h, k)
 
-in_MemoryInit : (x y : ℕ) → small x ≡ true → nat_eq y 0 ≡ true → in_range (MemoryInit x y) ≡ true
+in_MemoryInit : (x y : ℕ) → small x ≡ true → nat_eq y 0 ≡ true → spellable (MemoryInit x y) ≡ true
 in_MemoryInit x y h k = search (rules, the_lemmas, h, k)
 
-in_MemoryCopy : (x y : ℕ) → nat_eq x 0 ≡ true → nat_eq y 0 ≡ true → in_range (MemoryCopy x y) ≡ true
+in_MemoryCopy : (x y : ℕ) → nat_eq x 0 ≡ true → nat_eq y 0 ≡ true → spellable (MemoryCopy x y) ≡ true
 in_MemoryCopy x y h k = search (rules, the_lemmas, h, k)
 
 sub_sound : (n : ℕ) → Sound (sub_form n)
@@ -336,7 +336,7 @@ every_right : {A : Type 0} (P : A → Type 0) (a b : List A) → Every P (a ++ b
 every_right P [] b h = h
 every_right P (x ∷ xs) b h = every_right P xs b h.1
 
-nests_in : {ts : List Token} {is : List Instr} → Nests ts is → Every Right ts → all_in_range is ≡ true
+nests_in : {ts : List Token} {is : List Instr} → Nests ts is → Every Right ts → all_spellable is ≡ true
 nests_in no_more h = refl
 nests_in (one_plain {is = is} i r) h = more_in i is h.0 (nests_in r h.1)
 nests_in (one_block {inner = inner} {ts = ts} {body = body} {is = is} ty a r) h =
@@ -352,4 +352,4 @@ nests_in (one_if_else {inner = inner} {other = other} {ts = ts} {body = body} {o
     (nests_in r (every_right Right other (End ∷ ts) rest).1)
 
 pub body_in : (bytes : List ℕ) (is : List Instr) → SpellsBody false bytes is → all_in_range is ≡ true
-body_in bytes is h = nests_in h.1 (every_left Right h.0 (End ∷ []) (tokens_right (h.0 ++ End ∷ []) bytes h.2))
+body_in bytes is h = in_range_of is (nests_in h.1 (every_left Right h.0 (End ∷ []) (tokens_right (h.0 ++ End ∷ []) bytes h.2)))

@@ -27,7 +27,7 @@ use Rattle.wasm_format.specs.Tokens.{plain, access, the_form, rest_form, sub_for
 use Rattle.wasm_format.specs.Bodies.{Nests, no_more, one_plain, one_block, one_loop, one_if, one_if_else, SpellsBody}
 use Rattle.wasm_plain.specs.PlainValues.{vector_text, ref_text, val_text, block_type_text}
 use Rattle.wasm_plain.specs.PlainCode.{un_code, bin_code, load_code, store_code, mem_arg_text, instr_step, instr_text, instrs_text, body_text}
-use Rattle.plain_law.specs.Ranges.{small, in_range, all_in_range}
+use Rattle.plain_law.specs.Ranges.{small, spellable, all_spellable}
 use Rattle.plain_law.proofs.Inside.{LayerInRange, layer_of, first_in, rest_in, front_in, back_in}
 use Rattle.plain_law.proofs.Parts.{below, u32_some, u32_spells, s32_spells, s64_spells, within_32, within_64, flag_spells, vector_spells, each_join}
 use Rattle.plain_law.proofs.ItemTexts.{ref_spells, vals_spell, block_type_spells}
@@ -161,7 +161,7 @@ abbrev One : Instr → List ℕ → Type 0
 One i bytes = (ts : List Token) × ((us : List Token) (is : List Instr) → Nests us is → Nests (ts ++ us) (i ∷ is)) × Each (SpellsToken false) bytes ts
 
 abbrev Good : Instr → Type 0
-Good i = in_range i ≡ true → length (instr_text i) < 2 ^ 32 → One i (instr_text i)
+Good i = spellable i ≡ true → length (instr_text i) < 2 ^ 32 → One i (instr_text i)
 
 abbrev Such : Type 0
 Such = (i : Instr) × Good i
@@ -175,7 +175,7 @@ Body is = (ts : List Token) × Nests ts is × Each (SpellsToken false) (instrs_t
 tokens_join : (ts us : List Token) (a b : List ℕ) → Each (SpellsToken false) a ts → Each (SpellsToken false) b us → Each (SpellsToken false) (a ++ b) (ts ++ us)
 tokens_join ts us a b = each_join (SpellsToken false) ts us a b
 
-body_of : (es : List Such) → all_in_range (trees es) ≡ true → length (instrs_text (trees es)) < 2 ^ 32 → Body (trees es)
+body_of : (es : List Such) → all_spellable (trees es) ≡ true → length (instrs_text (trees es)) < 2 ^ 32 → Body (trees es)
 body_of [] h few = ([], no_more, refl)
 body_of (e ∷ es) h few =
     let both = length-append (instr_text e.0) (instrs_text (trees es)) in
@@ -311,7 +311,7 @@ good = ind-Instr Good (λ x y is. subst (λ z. Good (roll-Instr z)) is (λ h k.
     let z = map-Instr Such Instr (λ e. e.0) y in
     rw (fold-roll-Instr (List ℕ) instr_step z) (node y (subst LayerInRange (out-roll-Instr z) (layer_of (roll-Instr z) h)) (subst (λ t. length t < 2 ^ 32) (fold-roll-Instr (List ℕ) instr_step z) k))))
 
-all_spelled : (is : List Instr) → all_in_range is ≡ true → length (instrs_text is) < 2 ^ 32 → Body is
+all_spelled : (is : List Instr) → all_spellable is ≡ true → length (instrs_text is) < 2 ^ 32 → Body is
 all_spelled [] h few = ([], no_more, refl)
 all_spelled (i ∷ is) h few =
     let both = length-append (instr_text i) (instrs_text is) in
@@ -319,7 +319,7 @@ all_spelled (i ∷ is) h few =
     let r = all_spelled is (rest_in i is h) (omega (arith, few, both)) in
     (o.0 ++ r.0, o.1 r.0 is r.1, tokens_join o.0 r.0 (instr_text i) (instrs_text is) o.2 r.2)
 
-pub body_spells : (is : List Instr) → all_in_range is ≡ true → length (body_text is) < 2 ^ 32 → SpellsBody false (body_text is) is
+pub body_spells : (is : List Instr) → all_spellable is ≡ true → length (body_text is) < 2 ^ 32 → SpellsBody false (body_text is) is
 body_spells is h few =
     let b = all_spelled is h (omega (arith, few, length-append (instrs_text is) (0x0B ∷ []))) in
     (b.0, b.1, tokens_join b.0 (End ∷ []) (instrs_text is) (0x0B ∷ []) b.2 end_spells)

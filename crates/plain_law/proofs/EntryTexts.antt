@@ -1,5 +1,7 @@
 -- The plain texts of code entries spell them, and data is used in them as in the functions.
-use Rattle.std.proofs.Common.{◌≡◌, ◌<◌, ◌^◌, List, [], ◌∷◌, map, length, length-append, false, ◌||◌, refl, ap, arith}
+use Rattle.std.proofs.Common.{◌≡◌, ◌<◌, ◌^◌, List, [], ◌∷◌, map, length, length-append, true, false, ◌||◌, refl, ap, arith}
+use Rattle.base_lists.specs.Every.{Every}
+use Rattle.base_lists.proofs.Bools.{left_true, right_true}
 use Rattle.wasm_bytes.specs.Writing.{u32_text}
 use Rattle.wasm_tree.specs.declared.module.LocalGroup.{LocalGroup}
 use Rattle.wasm_tree.specs.declared.module.Func.{Func}
@@ -11,6 +13,8 @@ use Rattle.plain_law.specs.Ranges.{IsU32, FuncInRange}
 use Rattle.plain_law.proofs.Parts.{u32_some, u32_spells, sized_spells, vector_spells, every_with}
 use Rattle.plain_law.proofs.ItemTexts.{val_spells}
 use Rattle.plain_law.proofs.BodyTexts.{body_spells}
+use Rattle.plain_law.proofs.Inside.{spellable_of}
+use Rattle.wasm_tree.specs.MemoryZero.{memory_zero_all, memory_zero_funcs}
 
 group_spells : (g : LocalGroup) → IsU32 g.count → SpellsGroup (group_text g) g
 unfolding group_text
@@ -24,26 +28,30 @@ group_some g = omega (arith, u32_some g.count, length-append (u32_text g.count) 
 abbrev pub untyped : Func → Func
 untyped f = record f { ty = 0 }
 
-code_spells : (f : Func) → FuncInRange f → length (code_text f) < 2 ^ 32 → SpellsCode false (code_text f) (untyped f)
-code_spells f h few =
+code_spells : (f : Func) → FuncInRange f → memory_zero_all f.body ≡ true → length (code_text f) < 2 ^ 32 → SpellsCode false (code_text f) (untyped f)
+code_spells f h zero few =
     let groups = vector_text group_text f.locals in
     let body = body_text f.body in
     let both = length-append groups body in (
       (
         groups,
         body,
-        vector_spells SpellsGroup group_text f.locals group_some (omega (arith, few, both)) (every_with (λ (g : LocalGroup). IsU32 g.count) (λ g. SpellsGroup (group_text g) g) f.locals group_spells h.1),
-        body_spells f.body h.2 (omega (arith, few, both)),
+        vector_spells SpellsGroup group_text f.locals group_some (omega (arith, few, both)) (every_with (λ (g : LocalGroup). IsU32 g.count) (λ g. SpellsGroup (group_text g) g) f.locals group_spells h.1.0),
+        body_spells f.body (spellable_of f.body h.1.1 zero) (omega (arith, few, both)),
         refl,
       ),
       refl,
     )
 
-pub entry_spells : (f : Func) → FuncInRange f → length (entry_text f) < 2 ^ 32 → SpellsEntry false (entry_text f) (untyped f)
+-- what a function needs to have a plain spelling
+abbrev pub Spellable : Func → Type 0
+Spellable f = FuncInRange f × (memory_zero_all f.body ≡ true)
+
+pub entry_spells : (f : Func) → Spellable f → length (entry_text f) < 2 ^ 32 → SpellsEntry false (entry_text f) (untyped f)
 unfolding entry_text
 entry_spells f h few =
     let short : length (code_text f) < 2 ^ 32 = omega (arith, few, length-append (u32_text (length (code_text f))) (code_text f)) in
-    (code_text f, sized_spells (code_text f) short, code_spells f h short)
+    (code_text f, sized_spells (code_text f) short, code_spells f h.0 h.1 short)
 
 pub entry_some : (f : Func) → 0 < length (entry_text f)
 unfolding entry_text
@@ -54,3 +62,7 @@ entry_some f = omega (arith, u32_some (length (code_text f)), length-append (u32
 pub funcs_use_same : (fs : List Func) → any_uses_data fs ≡ any_uses_data (map untyped fs)
 funcs_use_same [] = refl
 funcs_use_same (f ∷ fs) = ap (λ b. uses_data f.body || b) (funcs_use_same fs)
+
+pub all_spellable : (fs : List Func) → Every FuncInRange fs → memory_zero_funcs fs ≡ true → Every Spellable fs
+all_spellable [] h zero = tt
+all_spellable (f ∷ fs) h zero = ((h.0, left_true (memory_zero_all f.body) (memory_zero_funcs fs) zero), all_spellable fs h.1 (right_true (memory_zero_all f.body) (memory_zero_funcs fs) zero))

@@ -1,6 +1,6 @@
 -- The plain text of a module spells it.
 use Rattle.std.proofs.Common.{◌≡◌, ℕ, zero, suc, ◌/◌, ◌<◌, ◌≤◌, ◌^◌, List, [], ◌∷◌, ◌++◌, map, length, length-append, Bool, true, false, Option, Some, None, refl, sym, ap, ◌∙◌, subst, arith, append_assoc, append-nil, ⊎_elim}
-use Rattle.std.specs.Prelude.{if◌then◌else◌}
+use Rattle.std.specs.Prelude.{if◌then◌else◌, IsTrue}
 use Rattle.std.proofs.lemmas.Bool.{lt-ltb, le-ltb, cases_lt}
 use Rattle.std.proofs.lemmas.List.{length-map}
 use Rattle.wasm_bytes.specs.Writing.{u32_text, unsigned_text, sized_text}
@@ -22,6 +22,7 @@ use Rattle.wasm_format.specs.Values.{SmallFuncType, SpellsFuncType, SpellsTable,
 use Rattle.wasm_format.specs.Sections.{SpellsImport, SpellsGlobalDef, SpellsExport, SpellsElem, SpellsData}
 use Rattle.wasm_format.specs.Bodies.{SpellsEntry, SmallCode}
 use Rattle.wasm_tree.specs.DataUse.{any_uses_data}
+use Rattle.wasm_tree.specs.MemoryZero.{memory_zero_funcs}
 use Rattle.wasm_tree.specs.Limits.{limit}
 use Rattle.wasm_tree.specs.declared.which.Which.TheVariants.{Types, Imports, Functions, Tables, Memories, Globals, Exports, ElementSegments, DataSegments}
 use Rattle.wasm_format.specs.Words.{Any, Few, Limited}
@@ -40,7 +41,7 @@ use Rattle.plain_law.specs.TreeLimits.{WithinLimits}
 use Rattle.plain_law.proofs.Parts.{u32_some, u32_spells, sized_spells, vector_mapped, every_with, every_of, every_short}
 use Rattle.plain_law.proofs.ItemTexts.{func_type_spells, func_type_some, table_spells, table_some, limits_spells, limits_some, import_spells, import_some, global_spells, global_some, export_spells, export_some}
 use Rattle.plain_law.proofs.SegmentTexts.{elem_spells, elem_some, data_spells, data_some}
-use Rattle.plain_law.proofs.EntryTexts.{untyped, entry_spells, entry_some, funcs_use_same}
+use Rattle.plain_law.proofs.EntryTexts.{untyped, Spellable, all_spellable, entry_spells, entry_some, funcs_use_same}
 
 -- ---- one section after another
 
@@ -81,8 +82,8 @@ items : {A : Type 0} (P : A → Type 0) (spells : List ℕ → A → Type 0) (te
 items P spells text xs some spelled h few =
     vector_mapped (λ x. x) spells text xs some few (every_short P (λ x. spells (text x) x) text xs spelled (each_short text xs few) h)
 
-entries : (fs : List Func) → Every FuncInRange fs → length (vector_text entry_text fs) < 2 ^ 32 → Vector (SpellsEntry false) (vector_text entry_text fs) (map untyped fs)
-entries fs h few = vector_mapped untyped (SpellsEntry false) entry_text fs entry_some few (every_short FuncInRange (λ f. SpellsEntry false (entry_text f) (untyped f)) entry_text fs entry_spells (each_short entry_text fs few) h)
+entries : (fs : List Func) → Every Spellable fs → length (vector_text entry_text fs) < 2 ^ 32 → Vector (SpellsEntry false) (vector_text entry_text fs) (map untyped fs)
+entries fs h few = vector_mapped untyped (SpellsEntry false) entry_text fs entry_some few (every_short Spellable (λ f. SpellsEntry false (entry_text f) (untyped f)) entry_text fs entry_spells (each_short entry_text fs few) h)
 
 func_types : (fs : List Func) → Every FuncInRange fs → length (vector_text (λ (f : Func). u32_text f.ty) fs) < 2 ^ 32 → Vector U32 (vector_text (λ (f : Func). u32_text f.ty) fs) (map (λ (f : Func). f.ty) fs)
 func_types fs h few = vector_mapped (λ (f : Func). f.ty) U32 (λ (f : Func). u32_text f.ty) fs (λ f. u32_some f.ty) few (every_with FuncInRange (λ f. U32 (u32_text f.ty) f.ty) fs (λ f g. u32_spells f.ty g.0) h)
@@ -293,17 +294,17 @@ elems_more : (m : Module) (q : Parts) (bytes : List ℕ) → InRange m → lengt
 elems_more m q bytes r few rest =
     list_more (WithinLimits m) 8 9 9 (p8 m) q (with_elems (p8 m)) (λ (x : ElemSeg). x) elem_text m.elems bytes (λ last l. lt-ltb last 9 (omega arith)) (λ last. omega arith) refl (omega arith) (elems_form m r) (elems_small m r) few rest
 
-codes_form : (m : Module) → InRange m → length (vector_text entry_text m.funcs) < 2 ^ 32 → section_form false (p10 m) 10 (vector_text entry_text m.funcs) (p11 m)
+codes_form : (m : Module) → Every Spellable m.funcs → length (vector_text entry_text m.funcs) < 2 ^ 32 → section_form false (p10 m) 10 (vector_text entry_text m.funcs) (p11 m)
 unfolding section_form
-codes_form m r few = (map untyped m.funcs, entries m.funcs r.funcs few, refl)
+codes_form m fs few = (map untyped m.funcs, entries m.funcs fs few, refl)
 
-codes_small : (m : Module) → InRange m → length (vector_text entry_text m.funcs) < 2 ^ 32 → WithinLimits m → small_form false 10 (vector_text entry_text m.funcs)
+codes_small : (m : Module) → Every Spellable m.funcs → length (vector_text entry_text m.funcs) < 2 ^ 32 → WithinLimits m → small_form false 10 (vector_text entry_text m.funcs)
 unfolding small_form
-codes_small m r few w = small_items (SpellsEntry false) (Few (limit Functions) SmallCode) (vector_text entry_text m.funcs) (map untyped m.funcs) (entry_clear false) (entries m.funcs r.funcs few) ((rw (length-map m.funcs untyped) w.funcs.0, every_untyped m.funcs w.funcs.1))
+codes_small m fs few w = small_items (SpellsEntry false) (Few (limit Functions) SmallCode) (vector_text entry_text m.funcs) (map untyped m.funcs) (entry_clear false) (entries m.funcs fs few) ((rw (length-map m.funcs untyped) w.funcs.0, every_untyped m.funcs w.funcs.1))
 
-codes_more : (m : Module) (q : Parts) (bytes : List ℕ) → InRange m → length (vector_text entry_text m.funcs) < 2 ^ 32 → Rest (WithinLimits m) 11 (p11 m) bytes q → Rest (WithinLimits m) 10 (p10 m) (list_section 10 entry_text m.funcs ++ bytes) q
-codes_more m q bytes r few rest =
-    list_more (WithinLimits m) 10 11 10 (p10 m) q (with_codes (p10 m)) untyped entry_text m.funcs bytes (λ last l. lt-ltb last 11 (omega arith)) (λ last. omega arith) refl (omega arith) (codes_form m r) (codes_small m r) few rest
+codes_more : (m : Module) (q : Parts) (bytes : List ℕ) → Every Spellable m.funcs → length (vector_text entry_text m.funcs) < 2 ^ 32 → Rest (WithinLimits m) 11 (p11 m) bytes q → Rest (WithinLimits m) 10 (p10 m) (list_section 10 entry_text m.funcs ++ bytes) q
+codes_more m q bytes fs few rest =
+    list_more (WithinLimits m) 10 11 10 (p10 m) q (with_codes (p10 m)) untyped entry_text m.funcs bytes (λ last l. lt-ltb last 11 (omega arith)) (λ last. omega arith) refl (omega arith) (codes_form m fs) (codes_small m fs) few rest
 
 datas_form : (m : Module) → InRange m → length (vector_text data_text m.datas) < 2 ^ 32 → section_form false (p11 m) 11 (vector_text data_text m.datas) (p12 m)
 unfolding section_form
@@ -375,11 +376,11 @@ plain_regrouped : (m : Module) → plain m ≡ header ++ t1 m
 unfolding plain
 plain_regrouped m = regroup header (list_section 1 func_type_text m.types) (list_section 2 import_text m.imports) (list_section 3 (λ (f : Func). u32_text f.ty) m.funcs) (list_section 4 table_text m.tables) (list_section 5 limits_text m.mems) (list_section 6 global_text m.globals) (list_section 7 export_text m.exports) (start_section m.start) (list_section 9 elem_text m.elems) (count_section m) (list_section 10 entry_text m.funcs) (list_section 11 data_text m.datas)
 
-all_sections : (m : Module) → InRange m → SmallSizes m → Rest (WithinLimits m) 0 nothing (t1 m) (p12 m)
-all_sections m r s =
+all_sections : (m : Module) → InRange m → memory_zero_funcs m.funcs ≡ true → SmallSizes m → Rest (WithinLimits m) 0 nothing (t1 m) (p12 m)
+all_sections m r one s =
     let W = WithinLimits m in
     let r12 = datas_more m (p12 m) [] r s.datas.size (done W 12 (p12 m)) in
-    let r11 = codes_more m (p12 m) (t12 m) r s.codes.size r12 in
+    let r11 = codes_more m (p12 m) (t12 m) (all_spellable m.funcs r.funcs one) s.codes.size r12 in
     let r10 = count_more W (p9 m) (p12 m) (any_uses_data m.funcs) (length m.datas) (t11 m) refl s.datas.items r11 in
     let r9 = elems_more m (p12 m) (t10 m) r s.elems.size r10 in
     let r8 = start_more W (p7 m) (p12 m) m.start (t9 m) refl r.start r9 in
@@ -449,13 +450,13 @@ tree_again : (m : Module) → m ≡ tree_of (p12 m)
 tree_again m = module_of _ _ _ _ _ _ _ _ _ _ _ _ _ _ m.start _ _ _ _
     (sym (map_id m.types)) (sym (map_id m.imports)) (sym (typed_again m.funcs)) (sym (map_id m.tables)) (sym (map_id m.mems)) (sym (map_id m.globals)) (sym (map_id m.exports)) (sym (map_id m.elems)) (sym (map_id m.datas))
 
-pub plain_spelled : (m : Module) → InRange m → SmallSizes m → Spells (plain m) m false
-plain_spelled m r s =
-    let a = all_sections m r s 0 (omega arith) in
+pub plain_spelled : (m : Module) → InRange m → IsTrue (memory_zero_funcs m.funcs) → SmallSizes m → Spells (plain m) m false
+plain_spelled m r one s =
+    let a = all_sections m r one s 0 (omega arith) in
     (a.0, p12 m, (header, t1 m, refl, a.1, plain_regrouped m), a.2, rules m, tree_again m)
 
 -- and within the limits, where the tree is
-pub plain_within : (m : Module) → InRange m → SmallSizes m → WithinLimits m → Within (plain m) false
-plain_within m r s w =
-    let a = all_sections m r s 0 (omega arith) in
+pub plain_within : (m : Module) → InRange m → IsTrue (memory_zero_funcs m.funcs) → SmallSizes m → WithinLimits m → Within (plain m) false
+plain_within m r one s w =
+    let a = all_sections m r one s 0 (omega arith) in
     λ ss framed. subst (Every (SmallSection false)) (one_framing (plain m) a.0 ss (header, t1 m, refl, a.1, plain_regrouped m) framed) (a.3 w)

@@ -28,7 +28,7 @@ use Rattle.wasm_format.specs.Sections.{import_form, SpellsImport, SpellsGlobalDe
 use Rattle.wasm_plain.specs.PlainValues.{vector_text, ref_code, val_code, ref_text, val_text, func_type_text, max_text, limits_text, table_text, mutable_code, global_type_text, block_type_text, const_text, import_desc_text, import_text, global_text, export_desc_text, export_text}
 use Rattle.wasm_tree.specs.Operands.{block_operands}
 use Rattle.base_lists.specs.Every.{Every}
-use Rattle.plain_law.specs.Ranges.{small_operand, IsU32, MaxInRange, LimitsInRange, ConstInRange, ImportDescInRange, ImportInRange, ExportDescInRange, ExportInRange}
+use Rattle.plain_law.specs.Ranges.{spelled_operand, IsU32, MaxInRange, LimitsInRange, ConstInRange, ImportDescInRange, ImportInRange, ExportDescInRange, ExportInRange}
 use Rattle.plain_law.proofs.Parts.{below, u32_some, u32_spells, index_spells, s32_spells, s64_spells, sized_spells, vector_spells, every_of}
 
 -- ---- types
@@ -98,7 +98,7 @@ pub global_type_spells : (g : GlobalType) → SpellsGlobal (global_type_text g) 
 unfolding global_type_text
 global_type_spells g = (val_text g.ty, mutable_code g.mutable ∷ [], val_spells g.ty, mut_spells g.mutable, refl)
 
-pub block_type_spells : (t : BlockType) → Every (λ o. small_operand o ≡ true) (block_operands t) → SpellsBlockType (block_type_text t) t
+pub block_type_spells : (t : BlockType) → Every (λ o. spelled_operand o ≡ true) (block_operands t) → SpellsBlockType (block_type_text t) t
 unfolding block_type_text
 block_type_spells block.Empty h = refl
 block_type_spells (block.Value t) h = val_spells t

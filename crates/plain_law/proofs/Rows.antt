@@ -5,7 +5,7 @@ use Rattle.wasm_tree.specs.declared.instr.Instr.{Instr, out-Instr, fold_out-Inst
 use Rattle.wasm_tree.specs.declared.instr.Instr.TheVariants.{Br, I32Const, MemorySize}
 use Rattle.wasm_tree.specs.declared.module.Module.{Module}
 use Rattle.wasm_tree.specs.Operands.{all_pass_step}
-use Rattle.plain_law.specs.Ranges.{InRange, all_in_range, number_step, small_operand}
+use Rattle.plain_law.specs.Ranges.{InRange, all_in_range, all_spellable, number_step, small_operand, spelled_operand}
 
 -- a module with a type of no parameters and no results, and a function of it
 abbrev with_body : List Instr → Module
@@ -24,12 +24,21 @@ a_greater_constant : all_in_range (I32Const (pos 2147483648) ∷ []) ≡ false
 unfolding out-Instr denote.Hole.Carrier.out
 a_greater_constant = simp (fold_out-Instr Bool (all_pass_step small_operand), fold_out-Instr Bool number_step) refl
 
-another_memory : all_in_range (MemorySize 1 ∷ []) ≡ false
+-- another memory than memory 0 is in range, and is not spelled
+another_memory : all_in_range (MemorySize 1 ∷ []) ≡ true
 unfolding out-Instr denote.Hole.Carrier.out
 another_memory = simp (fold_out-Instr Bool (all_pass_step small_operand), fold_out-Instr Bool number_step) refl
 
+another_memory_unspelled : all_spellable (MemorySize 1 ∷ []) ≡ false
+unfolding out-Instr denote.Hole.Carrier.out
+another_memory_unspelled = simp (fold_out-Instr Bool (all_pass_step spelled_operand), fold_out-Instr Bool number_step) refl
+
+memory_zero_spelled : all_spellable (MemorySize 0 ∷ []) ≡ true
+unfolding out-Instr denote.Hole.Carrier.out
+memory_zero_spelled = simp (fold_out-Instr Bool (all_pass_step spelled_operand), fold_out-Instr Bool number_step) refl
+
 in_range : InRange (with_body (I32Const (pos 2147483647) ∷ Br 4294967295 ∷ []))
-in_range = record { imports = tt; funcs = ((omega arith, tt, greatest_numbers), tt); tables = tt; mems = tt; globals = tt; exports = tt; start = tt; elems = tt; datas = tt }
+in_range = record { imports = tt; funcs = ((omega arith, (tt, greatest_numbers)), tt); tables = tt; mems = tt; globals = tt; exports = tt; start = tt; elems = tt; datas = tt }
 
 out_of_range : InRange (with_body (Br 4294967296 ∷ [])) → true ≡ false
-out_of_range r = sym r.funcs.0.2 ∙ a_greater_label
+out_of_range r = sym r.funcs.0.1.1 ∙ a_greater_label

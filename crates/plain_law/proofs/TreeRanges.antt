@@ -173,7 +173,7 @@ nothing_in = record { imports = tt; func_types = tt; tables = tt; mems = tt; glo
 typed_in : (ts : List ℕ) (fs : List Func) → Every IsU32 ts → Every CodeInRange fs → Every FuncInRange (typed ts fs)
 typed_in [] fs h k = tt
 typed_in (t ∷ ts) [] h k = tt
-typed_in (t ∷ ts) (f ∷ fs) h k = ((h.0, k.0.0, k.0.1), typed_in ts fs h.1 k.1)
+typed_in (t ∷ ts) (f ∷ fs) h k = ((h.0, (k.0.0, k.0.1)), typed_in ts fs h.1 k.1)
 
 tree_in : (p : Parts) → PartsInRange p → InRange (tree_of p)
 tree_in p r = record { imports = r.imports; funcs = typed_in p.func_types p.codes r.func_types r.codes; tables = r.tables; mems = r.mems; globals = r.globals; exports = r.exports; start = r.start; elems = r.elems; datas = r.datas }

@@ -1,5 +1,5 @@
 -- What is so of each tree that a program holds, for its numbers have types and its names are text: each number is in the range
--- of its type, and each name is UTF-8. Besides, each memory index in a body is 0.
+-- of its type, and each name is UTF-8.
 use Rattle.std.specs.Prelude.{ℕ, ◌^◌, ◌<◌, List, Bool, true, ◌&&◌, if◌then◌else◌, nat_lt, nat_eq, Option, Some, None, ℤ, pos, negsuc, IsTrue, IsUtf8}
 use Rattle.std.specs.List.{list_all}
 use Rattle.wasm_bytes.specs.Numbers.{IsWithin}
@@ -39,9 +39,8 @@ abbrev pub small_signed : ℕ → ℤ → Bool
 small_signed bits (pos n) = nat_lt n (2 ^ bits)
 small_signed bits (negsuc n) = nat_lt n (2 ^ bits)
 
--- an operand is below 2^32, and 0 in the space of memories
 abbrev pub small_operand : Operand → Bool
-small_operand o = if same_space o.space Memories then nat_eq o.index 0 else small o.index
+small_operand o = small o.index
 
 -- the numbers of a layer that are no operands: labels, locals, constants, alignments and offsets
 abbrev pub small_numbers : {X : Type 0} → Instr-F X → Bool
@@ -103,6 +102,16 @@ in_range i = operands_pass small_operand i && numbers_in i
 abbrev pub all_in_range : List Instr → Bool
 all_in_range is = all_operands_pass small_operand is && all_numbers_in is
 
+-- an operand that is spelled where a module has at most one memory: memory 0, or an index below 2^32 in another space
+abbrev pub spelled_operand : Operand → Bool
+spelled_operand o = if same_space o.space Memories then nat_eq o.index 0 else small o.index
+
+abbrev pub spellable : Instr → Bool
+spellable i = operands_pass spelled_operand i && numbers_in i
+
+abbrev pub all_spellable : List Instr → Bool
+all_spellable is = all_operands_pass spelled_operand is && all_numbers_in is
+
 -- ---- what the sections hold
 
 abbrev pub IsU32 : ℕ → Type 0
@@ -152,8 +161,14 @@ abbrev pub DataModeInRange : DataMode → Type 0
 DataModeInRange (segment.Active memory offset) = IsU32 memory × ConstInRange offset
 DataModeInRange segment.Passive = Unit {0}
 
+abbrev pub TypeInRange : Func → Type 0
+TypeInRange f = IsU32 f.ty
+
+abbrev pub CodeInRange : Func → Type 0
+CodeInRange f = Every (λ (g : LocalGroup). IsU32 g.count) f.locals × IsTrue (all_in_range f.body)
+
 abbrev pub FuncInRange : Func → Type 0
-FuncInRange f = IsU32 f.ty × Every (λ (g : LocalGroup). IsU32 g.count) f.locals × IsTrue (all_in_range f.body)
+FuncInRange f = TypeInRange f × CodeInRange f
 
 pub record InRange (m : Module) : Type 0 where
   pub imports : Every ImportInRange m.imports

@@ -1,10 +1,11 @@
 //! The plain spelling of a module spells it.
 #![tactic(auto)]
 
-ghost use Rattle.std.specs.Prelude.{◌≡◌, ℕ, List, ◌<◌, ◌^◌, length, false};
+ghost use Rattle.std.specs.Prelude.{◌≡◌, ℕ, List, ◌<◌, ◌^◌, length, false, IsTrue};
 ghost use Rattle.wasm_tree.specs.declared.module.Module.{Module as Tree};
 ghost use Rattle.wasm_tree.specs.declared.instr.Instr.{Instr as Code};
 ghost use Rattle.wasm_tree.specs.declared.space.Space.{Space as IndexSpace};
+ghost use Rattle.wasm_tree.specs.MemoryZero.{memory_zero_funcs};
 ghost use Rattle.wasm_tree.specs.Operands.{mapped_all};
 ghost use Rattle.wasm_format.specs.Files.{Spells, Within};
 ghost use Rattle.wasm_plain.specs.Plain.{plain};
@@ -12,16 +13,16 @@ ghost use Rattle.plain_law.specs.Ranges.{InRange, all_numbers_in};
 ghost use Rattle.plain_law.specs.SmallSizes.{SmallSizes};
 ghost use Rattle.plain_law.specs.TreeLimits.{WithinLimits};
 
-/// The plain spelling of a tree spells the tree, where its vectors and the sizes that are written are below 2^32, each number is in the range of
-/// its type and its bodies name no memory but memory 0 (`spells`); and where its counts, its nesting and its locals are within the limits
-/// besides, so is the spelling (`within`). So `read` gives the tree back, where the spelling has fewer than 2^32 bytes.
+/// The plain spelling of a tree spells the tree, where each number is in the range of its type, its bodies name no memory but memory 0, and
+/// its vectors and the sizes that are written are below 2^32 (`spells`); and where its counts, its nesting and its locals are within the
+/// limits besides, so is the spelling (`within`). So `read` gives the tree back, where the spelling has fewer than 2^32 bytes.
 pub fn plain_spells()
-    ensures spells { (m : Tree) → InRange m → SmallSizes m → Spells (plain m) m false }
-    ensures within { (m : Tree) → InRange m → SmallSizes m → WithinLimits m → Within (plain m) false }
+    ensures spells { (m : Tree) → InRange m → IsTrue (memory_zero_funcs m.funcs) → SmallSizes m → Spells (plain m) m false }
+    ensures within { (m : Tree) → InRange m → IsTrue (memory_zero_funcs m.funcs) → SmallSizes m → WithinLimits m → Within (plain m) false }
 {}
 
-/// The tree that some bytes spell has each number in the range of its type and each name in UTF-8, and its bodies name no memory
-/// but memory 0: so its plain spelling spells it again.
+/// The tree that some bytes spell has each number in the range of its type and each name in UTF-8. (That its bodies name no memory but
+/// memory 0 is a law of wasm_format.) So its plain spelling spells it again.
 pub fn spelled_trees_are_in_range()
     ensures { (bytes : List ℕ) (m : Tree) → Spells bytes m false → InRange m }
 {}

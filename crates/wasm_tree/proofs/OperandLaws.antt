@@ -182,6 +182,37 @@ module _ (test : Operand → Bool) where
   pub layer_by_layer : (code : List Instr) → (all_operands_pass test code ≡ true) ↔ ListLayers Passed code
   layer_by_layer code = (list_layers_of code, list_passes_of code)
 
+-- ---- what two tests say of the operands, a third says ----
+
+module _ (P Q R : Instr-F Instr → Type 0) (both : (l : Instr-F Instr) → P l → Q l → R l) where
+  mutual
+    unfolding out-Instr denote.Hole.Carrier.out
+
+    layers_both : (i : Instr) → Layers P i → Layers Q i → Layers R i
+    layers_both (Block' ty n row) h k = (both _ h.0 k.0, row_layers_both _ row h.1 k.1)
+    layers_both (Loop' ty n row) h k = (both _ h.0 k.0, row_layers_both _ row h.1 k.1)
+    layers_both (If' ty n row m other) h k = (both _ h.0 k.0, row_layers_both _ row h.1 k.1, row_layers_both _ other h.2 k.2)
+    layers_both i h k = both _ h k
+
+    row_layers_both : (n : _) (row : Row_of-Instr n) → RowLayers P row → RowLayers Q row → RowLayers R row
+    row_layers_both _ end_of-Instr h k = tt
+    row_layers_both _ (more_of-Instr i row) h k = (layers_both i h.0 k.0, row_layers_both _ row h.1 k.1)
+
+  list_layers_both : (code : List Instr) → ListLayers P code → ListLayers Q code → ListLayers R code
+  list_layers_both [] h k = tt
+  list_layers_both (i ∷ is) h k = (layers_both i h.0 k.0, list_layers_both is h.1 k.1)
+
+each_both : (p q r : Operand → Bool) → ((o : Operand) → p o ≡ true → q o ≡ true → r o ≡ true) → (os : List Operand) → Every (λ o. p o ≡ true) os → Every (λ o. q o ≡ true) os → Every (λ o. r o ≡ true) os
+each_both p q r both [] h k = tt
+each_both p q r both (o ∷ os) h k = (both o h.0 k.0, each_both p q r both os h.1 k.1)
+
+pub passes_both : (p q r : Operand → Bool) → ((o : Operand) → p o ≡ true → q o ≡ true → r o ≡ true) → (code : List Instr) → all_operands_pass p code ≡ true → all_operands_pass q code ≡ true → all_operands_pass r code ≡ true
+passes_both p q r both code h k =
+    (layer_by_layer r code).1 (list_layers_both (Passed p) (Passed q) (Passed r) (λ l a b. each_both p q r both (operands l) a b) code ((layer_by_layer p code).0 h) ((layer_by_layer q code).0 k))
+
+pub passes_more : (p r : Operand → Bool) → ((o : Operand) → p o ≡ true → r o ≡ true) → (code : List Instr) → all_operands_pass p code ≡ true → all_operands_pass r code ≡ true
+passes_more p r more code h = passes_both p p r (λ o a b. more o a) code h h
+
 -- ---- code with other indices ----
 
 -- what is so of an instruction where it is so of each that it holds is so of all

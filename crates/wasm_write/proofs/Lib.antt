@@ -1,3 +1,4 @@
 pub mod Backwards
+pub mod InRange
 pub mod Loops
 pub mod Parts

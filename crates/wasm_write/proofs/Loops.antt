@@ -1,8 +1,12 @@
 -- Steps of a loop that spells or tests one item at a time.
 use Rattle.std.specs.List.{list_any, push}
-use Rattle.std.proofs.Common.{◌≡◌, ◌||◌, Bool, ℕ, zero, suc, ◌+◌, ◌<◌, List, [], ◌∷◌, ◌++◌, true, false, map, take, get_or, length, append_assoc, append-nil, refl, sym, ap, ◌∙◌, arith}
+use Rattle.std.proofs.Common.{◌≡◌, ◌||◌, Bool, ℕ, zero, suc, ◌+◌, ◌<◌, List, [], ◌∷◌, ◌++◌, true, false, map, take, get_or, length, append_assoc, append-nil, refl, sym, subst, ap, ◌∙◌, arith}
 use Rattle.std.proofs.lemmas.List.{map-append, take_more}
+use Rattle.base_lists.specs.Every.{Every}
+use Rattle.plain_law.specs.Ranges.{in_range, all_in_range}
+use Rattle.wasm_tree.specs.declared.instr.Instr.{Instr}
 use Rattle.base_lists.proofs.Bools.{and_false, left_true, right_true}
+use Rattle.wasm_write.proofs.InRange.{push_in_range}
 use Rattle.wasm_plain.specs.PlainValues.{joined, each_text, is_func, all_funcs}
 use Rattle.wasm_tree.specs.declared.module.ConstExpr.{ConstExpr}
 
@@ -59,3 +63,16 @@ pub any_next : {A : Type 0} (p : A → Bool) (before now : List A) (x : A) (old 
     (list_any p before || old) ≡ whole → new ≡ (p x || old) → (list_any p now || new) ≡ whole
 any_next p before now x old new whole left so_far next =
     ap (λ b. list_any p now || b) next ∙ any_push p now x old ∙ sym (ap (λ xs. list_any p xs || old) left) ∙ so_far
+
+-- ---- whether what is spelled is in range
+
+every_push : {A : Type 0} (R : A → Type 0) (xs : List A) (x : A) → Every R xs → R x → Every R (push xs x)
+every_push R [] x h k = (k, tt)
+every_push R (y ∷ ys) x h k = (h.0, every_push R ys x h.1 k)
+
+-- the last item that was left is in range
+pub range_next : {A : Type 0} (R : A → Type 0) (before now : List A) (x : A) {whole : Type 0} → before ≡ push now x → (Every R before → whole) → R x → Every R now → whole
+range_next R before now x left so_far here rest = so_far (subst (Every R) (sym left) (every_push R now x rest here))
+
+pub code_next : (before now : List Instr) (x : Instr) {whole : Type 0} → before ≡ push now x → (all_in_range before ≡ true → whole) → in_range x ≡ true → all_in_range now ≡ true → whole
+code_next before now x left so_far here rest = so_far (subst (λ is. all_in_range is ≡ true) (sym left) (push_in_range now x rest here))

@@ -2,7 +2,11 @@
 use Rattle.std.specs.Prelude.{ℕ, List, ◌++◌}
 use Rattle.wasm_bytes.specs.Writing.{u32_text}
 use Rattle.wasm_bytes.specs.Frames.{header}
+use Rattle.base_lists.specs.Every.{Every}
+use Rattle.wasm_tree.specs.declared.types.TableType.{TableType}
+use Rattle.wasm_tree.specs.declared.module.GlobalDef.{GlobalDef}
 use Rattle.wasm_tree.specs.declared.module.Module.{Module}
+use Rattle.plain_law.specs.Ranges.{MaxInRange, LimitsInRange, ConstInRange, ImportInRange, ExportInRange, ElemInRange, TypeInRange}
 use Rattle.wasm_plain.specs.PlainValues.{func_type_text, import_text, table_text, limits_text, global_text, export_text, elem_text}
 use Rattle.wasm_plain.specs.Plain.{list_section, start_section}
 
@@ -22,3 +26,17 @@ text_before_code m = types_text m
     ++ list_section 7 export_text m.exports
     ++ start_section m.start
     ++ list_section 9 elem_text m.elems
+
+-- what those hold is in range
+pub record TypesInRange (m : Module) : Type 0 where
+  pub imports : Every ImportInRange m.imports
+  pub funcs : Every TypeInRange m.funcs
+  pub tables : Every (λ (t : TableType). LimitsInRange t.limits) m.tables
+  pub mems : Every LimitsInRange m.mems
+  pub globals : Every (λ (g : GlobalDef). ConstInRange g.init) m.globals
+
+pub record BeforeCodeInRange (m : Module) : Type 0 where
+  pub types : TypesInRange m
+  pub exports : Every ExportInRange m.exports
+  pub start : MaxInRange m.start
+  pub elems : Every ElemInRange m.elems

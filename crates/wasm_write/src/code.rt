@@ -1,4 +1,8 @@
-ghost use Rattle.std.specs.Prelude.{◌≡◌, ℕ, List, [], ◌∷◌, ◌+◌, ◌++◌, ◌||◌, OnOk, map};
+ghost use Rattle.std.specs.Prelude.{◌≡◌, ℕ, List, [], ◌∷◌, ◌+◌, ◌++◌, ◌||◌, OnOk, IsTrue, map};
+ghost use Rattle.std.specs.List.{list_all};
+ghost use Rattle.base_lists.specs.Every.{Every};
+ghost use Rattle.wasm_tree.specs.Operands.{block_operands};
+ghost use Rattle.plain_law.specs.Ranges.{IsU32, small_operand, in_range, all_in_range};
 ghost use Rattle.wasm_tree.specs.DataUse.{uses_data_in, uses_data};
 ghost use Rattle.wasm_bytes.specs.Writing.{u32_text, s32_text, s64_text};
 ghost use Rattle.wasm_plain.specs.PlainValues.{joined, each_text, vector_text, ref_text, val_text, block_type_text};
@@ -13,7 +17,10 @@ use wasm_tree::{BlockType, Instr, MemArg, ValType};
 
 /// Spells where a load or a store goes (WebAssembly Core 2.0, section 5.4.6). A memory other than memory 0 is named.
 fn spell_mem_arg<T: Target>(target: &mut T, arg: &MemArg) -> Result<(), T::Refusal>
-    ensures { OnOk result (target.new ≡ T.preceded target.old (mem_arg_text arg.now)) }
+    ensures text { OnOk result (target.new ≡ T.preceded target.old (mem_arg_text arg.now)) }
+    ensures align { IsU32 arg.now.align }
+    ensures offset { IsU32 arg.now.offset }
+    ensures memory { IsU32 arg.now.memory }
 {
     if arg.memory == 0 {
         spell_u32(target, arg.offset)?;
@@ -28,7 +35,8 @@ fn spell_mem_arg<T: Target>(target: &mut T, arg: &MemArg) -> Result<(), T::Refus
 /// Spells an opcode and an index.
 #[inline]
 fn spell_index<T: Target>(target: &mut T, opcode: u8, index: u32) -> Result<(), T::Refusal>
-    ensures { OnOk result (target.new ≡ T.preceded target.old (opcode ∷ u32_text index)) }
+    ensures text { OnOk result (target.new ≡ T.preceded target.old (opcode ∷ u32_text index)) }
+    ensures range { IsU32 index }
 {
     spell_u32(target, index)?;
     target.byte(opcode)
@@ -36,7 +44,8 @@ fn spell_index<T: Target>(target: &mut T, opcode: u8, index: u32) -> Result<(), 
 
 /// Spells an opcode that `FC` begins, and an index.
 fn spell_prefixed<T: Target>(target: &mut T, opcode: u8, index: u32) -> Result<(), T::Refusal>
-    ensures { OnOk result (target.new ≡ T.preceded target.old (0xFC ∷ opcode ∷ u32_text index)) }
+    ensures text { OnOk result (target.new ≡ T.preceded target.old (0xFC ∷ opcode ∷ u32_text index)) }
+    ensures range { IsU32 index }
 {
     spell_index(target, opcode, index)?;
     target.byte(0xFC)
@@ -49,7 +58,9 @@ fn spell_prefixed_pair<T: Target>(
     first: u32,
     second: u32,
 ) -> Result<(), T::Refusal>
-    ensures { OnOk result (target.new ≡ T.preceded target.old ((0xFC ∷ opcode ∷ u32_text first) ++ u32_text second)) }
+    ensures text { OnOk result (target.new ≡ T.preceded target.old ((0xFC ∷ opcode ∷ u32_text first) ++ u32_text second)) }
+    ensures first { IsU32 first }
+    ensures second { IsU32 second }
 {
     spell_u32(target, second)?;
     spell_prefixed(target, opcode, first)
@@ -57,7 +68,10 @@ fn spell_prefixed_pair<T: Target>(
 
 /// Spells the opcode of a load or a store, and where it goes.
 fn spell_access<T: Target>(target: &mut T, opcode: u8, arg: &MemArg) -> Result<(), T::Refusal>
-    ensures { OnOk result (target.new ≡ T.preceded target.old (opcode ∷ mem_arg_text arg.now)) }
+    ensures text { OnOk result (target.new ≡ T.preceded target.old (opcode ∷ mem_arg_text arg.now)) }
+    ensures align { IsU32 arg.now.align }
+    ensures offset { IsU32 arg.now.offset }
+    ensures memory { IsU32 arg.now.memory }
 {
     spell_mem_arg(target, arg)?;
     target.byte(opcode)
@@ -65,7 +79,8 @@ fn spell_access<T: Target>(target: &mut T, opcode: u8, arg: &MemArg) -> Result<(
 
 /// Spells the opcode of a block, and its type.
 fn spell_opener<T: Target>(target: &mut T, opcode: u8, ty: &BlockType) -> Result<(), T::Refusal>
-    ensures { OnOk result (target.new ≡ T.preceded target.old (opcode ∷ block_type_text ty.now)) }
+    ensures text { OnOk result (target.new ≡ T.preceded target.old (opcode ∷ block_type_text ty.now)) }
+    ensures range { OnOk result (IsTrue (list_all small_operand (block_operands ty.now))) }
 {
     ty.spell(target)?;
     target.byte(opcode)
@@ -73,7 +88,9 @@ fn spell_opener<T: Target>(target: &mut T, opcode: u8, ty: &BlockType) -> Result
 
 /// Spells a branch to one of several labels.
 fn spell_branches<T: Target>(target: &mut T, labels: &[u32], other: u32) -> Result<(), T::Refusal>
-    ensures { OnOk result (target.new ≡ T.preceded target.old ((0x0E ∷ vector_text u32_text labels.now) ++ u32_text other)) }
+    ensures text { OnOk result (target.new ≡ T.preceded target.old ((0x0E ∷ vector_text u32_text labels.now) ++ u32_text other)) }
+    ensures labels { OnOk result (Every IsU32 labels.now) }
+    ensures other { IsU32 other }
 {
     spell_u32(target, other)?;
     spell_vector(target, labels)?;
@@ -94,6 +111,7 @@ fn spell_typed<T: Target>(target: &mut T, types: &[ValType]) -> Result<(), T::Re
 fn spell_instr<T: Target>(target: &mut T, instr: &Instr, uses: &mut bool) -> Result<(), T::Refusal>
     ensures text { OnOk result (target.new ≡ T.preceded target.old (instr_text instr.now)) }
     ensures uses { OnOk result (uses.new ≡ (uses_data_in instr.now || uses.old)) }
+    ensures range { OnOk result (IsTrue (in_range instr.now)) }
 {
     match instr {
         Instr::Unreachable => target.byte(0x00),
@@ -181,6 +199,7 @@ pub(crate) fn spell_instrs<T: Target>(
 ) -> Result<(), T::Refusal>
     ensures text { OnOk result (target.new ≡ T.preceded target.old (instrs_text instrs.now)) }
     ensures uses { OnOk result (uses.new ≡ (uses_data instrs.now || uses.old)) }
+    ensures range { OnOk result (IsTrue (all_in_range instrs.now)) }
 {
     for instr in instrs.iter().rev() {
         spell_instr(target, instr, uses)?;
@@ -193,6 +212,7 @@ pub(crate) fn spell_instrs<T: Target>(
 fn spell_else<T: Target>(target: &mut T, other: &[Instr], uses: &mut bool) -> Result<(), T::Refusal>
     ensures text { OnOk result (target.new ≡ T.preceded target.old (else_text (map instr_text other.now))) }
     ensures uses { OnOk result (uses.new ≡ (uses_data other.now || uses.old)) }
+    ensures range { OnOk result (IsTrue (all_in_range other.now)) }
 {
     if other.len() == 0 {
         return Ok(());

@@ -2,9 +2,9 @@
 #![tactic(auto)]
 
 ghost use Rattle.std.specs.Prelude.{◌≡◌, ◌≤◌, length, false, IfOk, IsTrue, ◌↔◌};
+ghost use Rattle.wasm_tree.specs.MemoryZero.{memory_zero_funcs};
 ghost use Rattle.wasm_format.specs.Files.{Spells, Within};
 ghost use Rattle.wasm_plain.specs.Plain.{plain};
-ghost use Rattle.plain_law.specs.Ranges.{InRange};
 ghost use Rattle.plain_law.specs.SmallSizes.{SmallSizes};
 ghost use Rattle.plain_law.specs.TreeLimits.{WithinLimits};
 
@@ -32,11 +32,11 @@ use wasm_tree::Module;
 ///
 /// Where each vector and each encoded size is below 2^32, and no body names a memory but memory 0, it spells the module; a greater size has
 /// no spelling. Where besides the module's counts, its nesting and its locals are within the limits, so are the bytes: `read` gives the
-/// module back, where they are fewer than 2^32. (Each number is in the range of its type, and each name is UTF-8.)
+/// module back, where they are fewer than 2^32.
 pub fn write(alloc: Global, module: &Module) -> Result<Vec<u8>, NoMemory>
     ensures plain { IfOk result (λ bytes. bytes.items ≡ plain «module».now) }
-    ensures spells { IfOk result (λ bytes. InRange «module».now → SmallSizes «module».now → Spells bytes.items «module».now false) }
-    ensures within { IfOk result (λ bytes. InRange «module».now → SmallSizes «module».now → WithinLimits «module».now → Within bytes.items false) }
+    ensures spells { IfOk result (λ bytes. IsTrue (memory_zero_funcs «module».now.funcs) → SmallSizes «module».now → Spells bytes.items «module».now false) }
+    ensures within { IfOk result (λ bytes. IsTrue (memory_zero_funcs «module».now.funcs) → SmallSizes «module».now → WithinLimits «module».now → Within bytes.items false) }
 {
     plain_spells();
     let mut file = Buffer::new(alloc);

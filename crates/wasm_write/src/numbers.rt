@@ -1,4 +1,6 @@
 ghost use Rattle.std.specs.Prelude.{◌≡◌, ℕ, List, ◌+◌, ◌++◌, ◌<◌, OnOk, pos, negsuc};
+ghost use Rattle.wasm_bytes.specs.Numbers.{IsWithin};
+ghost use Rattle.plain_law.specs.Ranges.{IsU32};
 ghost use Rattle.wasm_bytes.specs.Writing.{low, unsigned_text, signed_text, u32_text, s32_text, s33_text, s64_text};
 ghost use Rattle.wasm_write.specs.Sizes.{with_sign, is_negative};
 
@@ -27,7 +29,8 @@ pub(crate) fn spell_number<T: Target>(target: &mut T, value: u64) -> Result<(), 
 }
 
 pub(crate) fn spell_u32<T: Target>(target: &mut T, value: u32) -> Result<(), T::Refusal>
-    ensures { OnOk result (target.new ≡ T.preceded target.old (u32_text value)) }
+    ensures text { OnOk result (target.new ≡ T.preceded target.old (u32_text value)) }
+    ensures range { IsU32 value }
 {
     spell_unsigned(target, 5, u64::from(value))
 }
@@ -85,13 +88,15 @@ pub(crate) fn spell_s33<T: Target>(target: &mut T, value: i64) -> Result<(), T::
 }
 
 pub(crate) fn spell_s32<T: Target>(target: &mut T, value: i32) -> Result<(), T::Refusal>
-    ensures { OnOk result (target.new ≡ T.preceded target.old (s32_text value)) }
+    ensures text { OnOk result (target.new ≡ T.preceded target.old (s32_text value)) }
+    ensures range { IsWithin 32 value }
 {
     spell_s33(target, i64::from(value))
 }
 
 pub(crate) fn spell_s64<T: Target>(target: &mut T, value: i64) -> Result<(), T::Refusal>
-    ensures { OnOk result (target.new ≡ T.preceded target.old (s64_text value)) }
+    ensures text { OnOk result (target.new ≡ T.preceded target.old (s64_text value)) }
+    ensures range { IsWithin 64 value }
 {
     spell_signed(target, 10, is_negative(value), magnitude_of(value))
 }

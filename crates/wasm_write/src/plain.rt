@@ -1,17 +1,22 @@
 ghost use Rattle.std.specs.Prelude.{◌≡◌, ◌≤◌, ℕ, List, ◌++◌, OnOk};
+ghost use Rattle.base_lists.specs.Every.{Every};
 ghost use Rattle.wasm_bytes.specs.Writing.{u32_text, sized_text};
 ghost use Rattle.wasm_plain.specs.PlainValues.{each_text, vector_text};
 
 use crate::numbers::spell_number;
 use crate::target::Target;
 
-/// A value with a plain spelling.
+/// A value with a plain spelling. Spelling it, the code sees each number and name of it, and so that they are in range.
 pub(crate) trait Plain {
     ghost text: { Self → List ℕ };
 
+    // each number in it is in the range of its type, and each name in it is UTF-8
+    ghost is_in_range: { Self → Type 0 };
+
     /// Spells it.
     fn spell<T: Target>(&self, target: &mut T) -> Result<(), T::Refusal>
-        ensures { OnOk result (target.new ≡ T.preceded target.old (Self.text self.now)) };
+        ensures text { OnOk result (target.new ≡ T.preceded target.old (Self.text self.now)) }
+        ensures range { OnOk result (Self.is_in_range self.now) };
 }
 
 /// Spells a length and as many bytes.
@@ -24,7 +29,8 @@ pub(crate) fn spell_sized<T: Target>(target: &mut T, content: &[u8]) -> Result<(
 
 /// Spells items, one after another.
 fn spell_each<T: Target, P: Plain>(target: &mut T, items: &[P]) -> Result<(), T::Refusal>
-    ensures { OnOk result (target.new ≡ T.preceded target.old (each_text P.text items.now)) }
+    ensures text { OnOk result (target.new ≡ T.preceded target.old (each_text P.text items.now)) }
+    ensures range { OnOk result (Every P.is_in_range items.now) }
 {
     for item in items.iter().rev() {
         item.spell(target)?;
@@ -37,7 +43,8 @@ pub(crate) fn spell_vector<T: Target, P: Plain>(
     target: &mut T,
     items: &[P],
 ) -> Result<(), T::Refusal>
-    ensures { OnOk result (target.new ≡ T.preceded target.old (vector_text P.text items.now)) }
+    ensures text { OnOk result (target.new ≡ T.preceded target.old (vector_text P.text items.now)) }
+    ensures range { OnOk result (Every P.is_in_range items.now) }
 {
     spell_each(target, items)?;
     spell_number(target, items.len() as u64)

@@ -1,10 +1,12 @@
 ghost use Rattle.std.specs.Prelude.{◌≡◌, ℕ, List, [], ◌∷◌, ◌++◌, ◌||◌, ◌≤◌, if◌then◌else◌, OnOk};
 ghost use Rattle.wasm_bytes.specs.Writing.{u32_text, sized_text};
+ghost use Rattle.base_lists.specs.Every.{Every};
+ghost use Rattle.plain_law.specs.Ranges.{IsU32, MaxInRange, TypeInRange, CodeInRange, InRange};
 ghost use Rattle.wasm_tree.specs.DataUse.{uses_data, any_uses_data};
 ghost use Rattle.wasm_plain.specs.PlainValues.{each_text, vector_text, func_type_text, import_text, table_text, limits_text, global_text, export_text, elem_text, data_text};
 ghost use Rattle.wasm_plain.specs.PlainCode.{group_text, code_text, entry_text};
 ghost use Rattle.wasm_plain.specs.Plain.{section_text, list_section, start_section, count_section, plain};
-ghost use Rattle.wasm_write.specs.Parts.{types_text, text_before_code};
+ghost use Rattle.wasm_write.specs.Parts.{types_text, text_before_code, TypesInRange, BeforeCodeInRange};
 
 use crate::code::spell_instrs;
 use crate::numbers::{spell_number, spell_u32};
@@ -18,6 +20,8 @@ const HEADER: [u8; 8] = [0x00, 0x61, 0x73, 0x6D, 0x01, 0x00, 0x00, 0x00];
 impl Plain for LocalGroup {
     ghost text = { group_text };
 
+    ghost is_in_range = { λ g. IsU32 g.count };
+
     #[tactic(auto, unfolding(wasm_plain::specs::PlainCode::group_text))]
     fn spell<T: Target>(&self, target: &mut T) -> Result<(), T::Refusal> {
         self.ty.spell(target)?;
@@ -29,6 +33,7 @@ impl Plain for LocalGroup {
 fn spell_code<T: Target>(target: &mut T, func: &Func, uses: &mut bool) -> Result<(), T::Refusal>
     ensures text { OnOk result (target.new ≡ T.preceded target.old (code_text func.now)) }
     ensures uses { OnOk result (uses.new ≡ (uses_data func.now.body || uses.old)) }
+    ensures range { OnOk result (CodeInRange func.now) }
 {
     target.byte(0x0B)?;
     spell_instrs(target, func.body.as_slice(), uses)?;
@@ -40,6 +45,7 @@ fn spell_code<T: Target>(target: &mut T, func: &Func, uses: &mut bool) -> Result
 fn spell_entry<T: Target>(target: &mut T, func: &Func, uses: &mut bool) -> Result<(), T::Refusal>
     ensures text { OnOk result (target.new ≡ T.preceded target.old (entry_text func.now)) }
     ensures uses { OnOk result (uses.new ≡ (uses_data func.now.body || uses.old)) }
+    ensures range { OnOk result (CodeInRange func.now) }
 {
     let from = target.place();
     spell_code(target, func, uses)?;
@@ -54,6 +60,7 @@ fn spell_entries<T: Target>(
 ) -> Result<(), T::Refusal>
     ensures text { OnOk result (target.new ≡ T.preceded target.old (each_text entry_text funcs.now)) }
     ensures uses { OnOk result (uses.new ≡ (any_uses_data funcs.now || uses.old)) }
+    ensures range { OnOk result (Every CodeInRange funcs.now) }
 {
     for func in funcs.iter().rev() {
         spell_entry(target, func, uses)?;
@@ -63,7 +70,8 @@ fn spell_entries<T: Target>(
 
 /// Spells the types of functions, one after another.
 fn spell_func_types<T: Target>(target: &mut T, funcs: &[Func]) -> Result<(), T::Refusal>
-    ensures { OnOk result (target.new ≡ T.preceded target.old (each_text (λ f. u32_text f.ty) funcs.now)) }
+    ensures text { OnOk result (target.new ≡ T.preceded target.old (each_text (λ f. u32_text f.ty) funcs.now)) }
+    ensures range { OnOk result (Every TypeInRange funcs.now) }
 {
     for func in funcs.iter().rev() {
         spell_u32(target, func.ty)?;
@@ -82,7 +90,8 @@ fn spell_section<T: Target>(target: &mut T, id: u8, from: u64) -> Result<(), T::
 
 /// Spells a section of items, if there are any.
 fn spell_list<T: Target, P: Plain>(target: &mut T, id: u8, items: &[P]) -> Result<(), T::Refusal>
-    ensures { OnOk result (target.new ≡ T.preceded target.old (list_section id P.text items.now)) }
+    ensures text { OnOk result (target.new ≡ T.preceded target.old (list_section id P.text items.now)) }
+    ensures range { OnOk result (Every P.is_in_range items.now) }
 {
     if items.len() == 0 {
         return Ok(());
@@ -94,7 +103,8 @@ fn spell_list<T: Target, P: Plain>(target: &mut T, id: u8, items: &[P]) -> Resul
 
 /// Spells the function section, if there are functions.
 fn spell_func_section<T: Target>(target: &mut T, funcs: &[Func]) -> Result<(), T::Refusal>
-    ensures { OnOk result (target.new ≡ T.preceded target.old (list_section 3 (λ f. u32_text f.ty) funcs.now)) }
+    ensures text { OnOk result (target.new ≡ T.preceded target.old (list_section 3 (λ f. u32_text f.ty) funcs.now)) }
+    ensures range { OnOk result (Every TypeInRange funcs.now) }
 {
     if funcs.len() == 0 {
         return Ok(());
@@ -113,6 +123,7 @@ fn spell_code_section<T: Target>(
 ) -> Result<(), T::Refusal>
     ensures text { OnOk result (target.new ≡ T.preceded target.old (list_section 10 entry_text funcs.now)) }
     ensures uses { OnOk result (uses.new ≡ (any_uses_data funcs.now || uses.old)) }
+    ensures range { OnOk result (Every CodeInRange funcs.now) }
 {
     if funcs.len() == 0 {
         return Ok(());
@@ -134,7 +145,8 @@ fn spell_one<T: Target>(target: &mut T, id: u8, value: u64) -> Result<(), T::Ref
 
 /// Spells the start section, if there is a start.
 fn spell_start<T: Target>(target: &mut T, start: Option<u32>) -> Result<(), T::Refusal>
-    ensures { OnOk result (target.new ≡ T.preceded target.old (start_section start)) }
+    ensures text { OnOk result (target.new ≡ T.preceded target.old (start_section start)) }
+    ensures range { OnOk result (MaxInRange start) }
 {
     match start {
         None => Ok(()),
@@ -155,7 +167,8 @@ fn spell_count<T: Target>(target: &mut T, count: usize, uses: bool) -> Result<()
 
 /// Spells the data count section and the code section.
 fn spell_count_and_code<T: Target>(target: &mut T, module: &Module) -> Result<(), T::Refusal>
-    ensures { OnOk result (target.new ≡ T.preceded target.old (count_section «module».now ++ list_section 10 entry_text «module».now.funcs)) }
+    ensures text { OnOk result (target.new ≡ T.preceded target.old (count_section «module».now ++ list_section 10 entry_text «module».now.funcs)) }
+    ensures range { OnOk result (Every CodeInRange «module».now.funcs) }
 {
     let mut uses = false;
     spell_code_section(target, module.funcs.as_slice(), &mut uses)?;
@@ -165,7 +178,8 @@ fn spell_count_and_code<T: Target>(target: &mut T, module: &Module) -> Result<()
 /// Spells the header, and the sections up to that of globals.
 #[tactic(auto, unfolding(crate::specs::Parts::types_text))]
 fn spell_types<T: Target>(target: &mut T, module: &Module) -> Result<(), T::Refusal>
-    ensures { OnOk result (target.new ≡ T.preceded target.old (types_text «module».now)) }
+    ensures text { OnOk result (target.new ≡ T.preceded target.old (types_text «module».now)) }
+    ensures range { OnOk result (TypesInRange «module».now) }
 {
     spell_list(target, 6, module.globals.as_slice())?;
     spell_list(target, 5, module.mems.as_slice())?;
@@ -179,7 +193,8 @@ fn spell_types<T: Target>(target: &mut T, module: &Module) -> Result<(), T::Refu
 /// Spells what stands before the data count and the code.
 #[tactic(auto, unfolding(crate::specs::Parts::text_before_code))]
 fn spell_before_code<T: Target>(target: &mut T, module: &Module) -> Result<(), T::Refusal>
-    ensures { OnOk result (target.new ≡ T.preceded target.old (text_before_code «module».now)) }
+    ensures text { OnOk result (target.new ≡ T.preceded target.old (text_before_code «module».now)) }
+    ensures range { OnOk result (BeforeCodeInRange «module».now) }
 {
     spell_list(target, 9, module.elems.as_slice())?;
     spell_start(target, module.start)?;
@@ -190,7 +205,8 @@ fn spell_before_code<T: Target>(target: &mut T, module: &Module) -> Result<(), T
 /// Spells a module.
 #[tactic(auto, using(crate::proofs::Parts::plain_parts))]
 pub(crate) fn spell_module<T: Target>(target: &mut T, module: &Module) -> Result<(), T::Refusal>
-    ensures { OnOk result (target.new ≡ T.preceded target.old (plain «module».now)) }
+    ensures text { OnOk result (target.new ≡ T.preceded target.old (plain «module».now)) }
+    ensures range { OnOk result (InRange «module».now) }
 {
     spell_list(target, 11, module.datas.as_slice())?;
     spell_count_and_code(target, module)?;

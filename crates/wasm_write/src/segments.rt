@@ -1,4 +1,6 @@
 ghost use Rattle.std.specs.Prelude.{◌≡◌, ℕ, List, [], ◌∷◌, ◌+◌, ◌++◌, OnOk};
+ghost use Rattle.base_lists.specs.Every.{Every};
+ghost use Rattle.plain_law.specs.Ranges.{ConstInRange, ElemModeInRange, ElemInRange, DataModeInRange};
 ghost use Rattle.wasm_bytes.specs.Writing.{u32_text, sized_text};
 ghost use Rattle.wasm_plain.specs.PlainValues.{joined, each_text, vector_text, is_func, func_of, is_funcref, all_funcs, by_index, index_items, const_items, active_by_index, active_by_const, mode_by_index, mode_by_const, elem_text, data_mode_text, data_text};
 
@@ -25,7 +27,8 @@ fn is_func(item: ConstExpr) -> bool
 /// The function of an item that is `ref.func`.
 #[tactic(auto, unfolding(wasm_plain::specs::PlainValues::func_of))]
 fn func_of(item: ConstExpr) -> u32
-    ensures { result ≡ func_of item }
+    ensures func { result ≡ func_of item }
+    ensures range { ConstInRange item }
 {
     match item {
         ConstExpr::Func(func) => func,
@@ -67,7 +70,8 @@ fn by_index(segment: &ElemSeg) -> bool
 
 /// Spells the functions of items that are all `ref.func`.
 fn spell_funcs<T: Target>(target: &mut T, items: &[ConstExpr]) -> Result<(), T::Refusal>
-    ensures { OnOk result (target.new ≡ T.preceded target.old (each_text (λ c. u32_text (func_of c)) items.now)) }
+    ensures text { OnOk result (target.new ≡ T.preceded target.old (each_text (λ c. u32_text (func_of c)) items.now)) }
+    ensures range { OnOk result (Every ConstInRange items.now) }
 {
     for item in items.iter().rev() {
         spell_u32(target, func_of(*item))?;
@@ -77,7 +81,8 @@ fn spell_funcs<T: Target>(target: &mut T, items: &[ConstExpr]) -> Result<(), T::
 
 #[tactic(auto, unfolding(wasm_plain::specs::PlainValues::index_items))]
 fn spell_index_items<T: Target>(target: &mut T, items: &[ConstExpr]) -> Result<(), T::Refusal>
-    ensures { OnOk result (target.new ≡ T.preceded target.old (index_items items.now)) }
+    ensures text { OnOk result (target.new ≡ T.preceded target.old (index_items items.now)) }
+    ensures range { OnOk result (Every ConstInRange items.now) }
 {
     spell_funcs(target, items)?;
     spell_number(target, items.len() as u64)
@@ -85,7 +90,8 @@ fn spell_index_items<T: Target>(target: &mut T, items: &[ConstExpr]) -> Result<(
 
 #[tactic(auto, unfolding(wasm_plain::specs::PlainValues::const_items))]
 fn spell_const_items<T: Target>(target: &mut T, items: &[ConstExpr]) -> Result<(), T::Refusal>
-    ensures { OnOk result (target.new ≡ T.preceded target.old (const_items items.now)) }
+    ensures text { OnOk result (target.new ≡ T.preceded target.old (const_items items.now)) }
+    ensures range { OnOk result (Every ConstInRange items.now) }
 {
     spell_vector(target, items)
 }
@@ -96,7 +102,9 @@ fn spell_by_index<T: Target>(
     mode: ElemMode,
     items: &[ConstExpr],
 ) -> Result<(), T::Refusal>
-    ensures { OnOk result (target.new ≡ T.preceded target.old (mode_by_index mode items.now)) }
+    ensures text { OnOk result (target.new ≡ T.preceded target.old (mode_by_index mode items.now)) }
+    ensures mode { OnOk result (ElemModeInRange mode) }
+    ensures range { OnOk result (Every ConstInRange items.now) }
 {
     match mode {
         ElemMode::Active { table, offset } => {
@@ -132,7 +140,9 @@ fn spell_by_const<T: Target>(
     ty: RefType,
     items: &[ConstExpr],
 ) -> Result<(), T::Refusal>
-    ensures { OnOk result (target.new ≡ T.preceded target.old (mode_by_const mode ty items.now)) }
+    ensures text { OnOk result (target.new ≡ T.preceded target.old (mode_by_const mode ty items.now)) }
+    ensures mode { OnOk result (ElemModeInRange mode) }
+    ensures range { OnOk result (Every ConstInRange items.now) }
 {
     match mode {
         ElemMode::Active { table, offset } => {
@@ -164,6 +174,8 @@ fn spell_by_const<T: Target>(
 impl Plain for ElemSeg {
     ghost text = { elem_text };
 
+    ghost is_in_range = { ElemInRange };
+
     #[tactic(auto, unfolding(wasm_plain::specs::PlainValues::elem_text))]
     fn spell<T: Target>(&self, target: &mut T) -> Result<(), T::Refusal> {
         if by_index(self) {
@@ -176,6 +188,8 @@ impl Plain for ElemSeg {
 
 impl Plain for DataMode {
     ghost text = { data_mode_text };
+
+    ghost is_in_range = { DataModeInRange };
 
     fn spell<T: Target>(&self, target: &mut T) -> Result<(), T::Refusal> {
         match self {
@@ -196,6 +210,8 @@ impl Plain for DataMode {
 
 impl Plain for DataSeg {
     ghost text = { data_text };
+
+    ghost is_in_range = { λ s. DataModeInRange s.mode };
 
     #[tactic(auto, unfolding(wasm_plain::specs::PlainValues::data_text))]
     fn spell<T: Target>(&self, target: &mut T) -> Result<(), T::Refusal> {

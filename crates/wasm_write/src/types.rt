@@ -1,4 +1,7 @@
-ghost use Rattle.std.specs.Prelude.{◌≡◌, ℕ, List, [], ◌∷◌, ◌+◌, ◌++◌, OnOk, pos};
+ghost use Rattle.std.specs.Prelude.{◌≡◌, ℕ, List, [], ◌∷◌, ◌+◌, ◌++◌, OnOk, IsTrue, IsUtf8, pos};
+ghost use Rattle.std.specs.List.{list_all};
+ghost use Rattle.wasm_tree.specs.Operands.{block_operands};
+ghost use Rattle.plain_law.specs.Ranges.{small_operand, IsU32, LimitsInRange, ConstInRange, ImportDescInRange, ImportInRange, ExportDescInRange, ExportInRange};
 ghost use Rattle.wasm_bytes.specs.Writing.{u32_text, sized_text};
 ghost use Rattle.wasm_plain.specs.PlainValues.{ref_code, val_code, ref_text, val_text, func_type_text, limits_text, table_text, global_type_text, block_type_text, const_text, import_desc_text, import_text, global_text, export_desc_text, export_text};
 
@@ -37,6 +40,8 @@ fn val_code(ty: ValType) -> u8
 impl Plain for u32 {
     ghost text = { u32_text };
 
+    ghost is_in_range = { IsU32 };
+
     fn spell<T: Target>(&self, target: &mut T) -> Result<(), T::Refusal> {
         spell_u32(target, *self)
     }
@@ -44,6 +49,8 @@ impl Plain for u32 {
 
 impl Plain for Name {
     ghost text = { sized_text };
+
+    ghost is_in_range = { λ n. IsUtf8 n };
 
     fn spell<T: Target>(&self, target: &mut T) -> Result<(), T::Refusal> {
         spell_sized(target, self.as_str().as_bytes())
@@ -53,6 +60,8 @@ impl Plain for Name {
 impl Plain for ValType {
     ghost text = { val_text };
 
+    ghost is_in_range = { λ t. Unit };
+
     fn spell<T: Target>(&self, target: &mut T) -> Result<(), T::Refusal> {
         target.byte(val_code(*self))
     }
@@ -60,6 +69,8 @@ impl Plain for ValType {
 
 impl Plain for FuncType {
     ghost text = { func_type_text };
+
+    ghost is_in_range = { λ t. Unit };
 
     #[tactic(auto, unfolding(wasm_plain::specs::PlainValues::func_type_text))]
     fn spell<T: Target>(&self, target: &mut T) -> Result<(), T::Refusal> {
@@ -71,6 +82,8 @@ impl Plain for FuncType {
 
 impl Plain for Limits {
     ghost text = { limits_text };
+
+    ghost is_in_range = { LimitsInRange };
 
     #[tactic(auto, unfolding(wasm_plain::specs::PlainValues::limits_text))]
     fn spell<T: Target>(&self, target: &mut T) -> Result<(), T::Refusal> {
@@ -91,6 +104,8 @@ impl Plain for Limits {
 impl Plain for TableType {
     ghost text = { table_text };
 
+    ghost is_in_range = { λ t. LimitsInRange t.limits };
+
     #[tactic(auto, unfolding(wasm_plain::specs::PlainValues::table_text))]
     fn spell<T: Target>(&self, target: &mut T) -> Result<(), T::Refusal> {
         self.limits.spell(target)?;
@@ -101,6 +116,8 @@ impl Plain for TableType {
 impl Plain for GlobalType {
     ghost text = { global_type_text };
 
+    ghost is_in_range = { λ g. Unit };
+
     #[tactic(auto, unfolding(wasm_plain::specs::PlainValues::global_type_text))]
     fn spell<T: Target>(&self, target: &mut T) -> Result<(), T::Refusal> {
         target.byte(if self.mutable { 0x01 } else { 0x00 })?;
@@ -110,6 +127,8 @@ impl Plain for GlobalType {
 
 impl Plain for BlockType {
     ghost text = { block_type_text };
+
+    ghost is_in_range = { λ t. IsTrue (list_all small_operand (block_operands t)) };
 
     #[tactic(auto, unfolding(wasm_plain::specs::PlainValues::block_type_text))]
     fn spell<T: Target>(&self, target: &mut T) -> Result<(), T::Refusal> {
@@ -123,6 +142,8 @@ impl Plain for BlockType {
 
 impl Plain for ConstExpr {
     ghost text = { const_text };
+
+    ghost is_in_range = { ConstInRange };
 
     #[tactic(auto, unfolding(wasm_plain::specs::PlainValues::const_text))]
     fn spell<T: Target>(&self, target: &mut T) -> Result<(), T::Refusal> {
@@ -159,6 +180,8 @@ impl Plain for ConstExpr {
 impl Plain for ImportDesc {
     ghost text = { import_desc_text };
 
+    ghost is_in_range = { ImportDescInRange };
+
     #[tactic(auto, unfolding(wasm_plain::specs::PlainValues::import_desc_text))]
     fn spell<T: Target>(&self, target: &mut T) -> Result<(), T::Refusal> {
         match self {
@@ -185,6 +208,8 @@ impl Plain for ImportDesc {
 impl Plain for Import {
     ghost text = { import_text };
 
+    ghost is_in_range = { ImportInRange };
+
     #[tactic(auto, unfolding(wasm_plain::specs::PlainValues::import_text))]
     fn spell<T: Target>(&self, target: &mut T) -> Result<(), T::Refusal> {
         self.desc.spell(target)?;
@@ -196,6 +221,8 @@ impl Plain for Import {
 impl Plain for GlobalDef {
     ghost text = { global_text };
 
+    ghost is_in_range = { λ g. ConstInRange g.init };
+
     #[tactic(auto, unfolding(wasm_plain::specs::PlainValues::global_text))]
     fn spell<T: Target>(&self, target: &mut T) -> Result<(), T::Refusal> {
         self.init.spell(target)?;
@@ -205,6 +232,8 @@ impl Plain for GlobalDef {
 
 impl Plain for ExportDesc {
     ghost text = { export_desc_text };
+
+    ghost is_in_range = { ExportDescInRange };
 
     #[tactic(auto, unfolding(wasm_plain::specs::PlainValues::export_desc_text))]
     fn spell<T: Target>(&self, target: &mut T) -> Result<(), T::Refusal> {
@@ -231,6 +260,8 @@ impl Plain for ExportDesc {
 
 impl Plain for Export {
     ghost text = { export_text };
+
+    ghost is_in_range = { ExportInRange };
 
     #[tactic(auto, unfolding(wasm_plain::specs::PlainValues::export_text))]
     fn spell<T: Target>(&self, target: &mut T) -> Result<(), T::Refusal> {

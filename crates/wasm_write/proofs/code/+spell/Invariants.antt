@@ -1,5 +1,6 @@
-use Rattle.std.proofs.Common.{◌≡◌, ◌||◌}
+use Rattle.std.proofs.Common.{◌≡◌, ◌||◌, true}
 use Rattle.wasm_tree.specs.DataUse.{uses_data}
+use Rattle.plain_law.specs.Ranges.{all_in_range}
 use Rattle.wasm_plain.specs.PlainCode.{instr_text}
 use Rattle.wasm_plain.specs.PlainValues.{each_text}
 use Rattle.wasm_write.proofs.code.+spell.Given as goal
@@ -8,4 +9,5 @@ abbrev pub invariant-spell_instrs-loop-instr : goal.invariant-spell_instrs-loop-
 invariant-spell_instrs-loop-instr g l = record {
   text : g.T.Target.preceded l.target (each_text instr_text l.instr-iterator.iter.rest.now) ≡ g.T.Target.preceded l.initial.target (each_text instr_text l.instrs);
   uses : (uses_data l.instr-iterator.iter.rest.now || l.uses) ≡ (uses_data l.instrs || l.initial.uses);
+  range : all_in_range l.instr-iterator.iter.rest.now ≡ true → all_in_range l.instrs ≡ true;
 }

@@ -1,8 +1,13 @@
 use Rattle.std.proofs.Common.{◌≡◌}
 use Rattle.wasm_bytes.specs.Writing.{u32_text}
 use Rattle.wasm_tree.specs.declared.module.Func.{Func}
+use Rattle.base_lists.specs.Every.{Every}
+use Rattle.plain_law.specs.Ranges.{TypeInRange}
 use Rattle.wasm_plain.specs.PlainValues.{each_text}
 use Rattle.wasm_write.proofs.sections.spell_func_types.Given as goal
 
 abbrev pub invariant-loop-func : goal.invariant-loop-func
-invariant-loop-func g l = g.T.Target.preceded l.target (each_text (λ (f : Func). u32_text f.ty) l.func-iterator.iter.rest.now) ≡ g.T.Target.preceded l.initial.target (each_text (λ (f : Func). u32_text f.ty) l.funcs)
+invariant-loop-func g l = record {
+  text : g.T.Target.preceded l.target (each_text (λ (f : Func). u32_text f.ty) l.func-iterator.iter.rest.now) ≡ g.T.Target.preceded l.initial.target (each_text (λ (f : Func). u32_text f.ty) l.funcs);
+  range : Every TypeInRange l.func-iterator.iter.rest.now → Every TypeInRange l.funcs;
+}

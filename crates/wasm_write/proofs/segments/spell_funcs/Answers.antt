@@ -2,9 +2,12 @@ use Rattle.std.proofs.Common.{◌∙◌, ap}
 use Rattle.wasm_bytes.specs.Writing.{u32_text}
 use Rattle.wasm_tree.specs.declared.module.ConstExpr.{ConstExpr}
 use Rattle.wasm_plain.specs.PlainValues.{func_of}
-use Rattle.wasm_write.proofs.Loops.{spelled_next}
+use Rattle.plain_law.specs.Ranges.{ConstInRange}
+use Rattle.wasm_write.proofs.Loops.{spelled_next, range_next}
 use Rattle.wasm_write.proofs.segments.spell_funcs.Goals as goal
 
 pub loop-item-preserved : goal.loop-item-preserved
-loop-item-preserved g c =
-    spelled_next g.T.Target.preceded g.met.T.Target.joined (λ (x : ConstExpr). u32_text (func_of x)) _ _ _ _ _ _ c.in-Some.ensures.steps c.loop-item.invariant (c.in_ok-spell_u32.ensures ∙ ap (λ n. g.T.Target.preceded c.loop-item.target (u32_text n)) c.func_of.ensures)
+loop-item-preserved g c = record {
+  text = spelled_next g.T.Target.preceded g.met.T.Target.joined (λ (x : ConstExpr). u32_text (func_of x)) _ _ _ _ _ _ c.in-Some.ensures.steps c.loop-item.invariant.text (c.in_ok-spell_u32.ensures.text ∙ ap (λ n. g.T.Target.preceded c.loop-item.target (u32_text n)) c.func_of.ensures.func);
+  range = range_next ConstInRange _ _ _ c.in-Some.ensures.steps c.loop-item.invariant.range c.func_of.ensures.range;
+}

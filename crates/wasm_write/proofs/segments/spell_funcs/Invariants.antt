@@ -1,8 +1,13 @@
 use Rattle.std.proofs.Common.{◌≡◌}
 use Rattle.wasm_bytes.specs.Writing.{u32_text}
 use Rattle.wasm_tree.specs.declared.module.ConstExpr.{ConstExpr}
+use Rattle.base_lists.specs.Every.{Every}
+use Rattle.plain_law.specs.Ranges.{ConstInRange}
 use Rattle.wasm_plain.specs.PlainValues.{func_of, each_text}
 use Rattle.wasm_write.proofs.segments.spell_funcs.Given as goal
 
 abbrev pub invariant-loop-item : goal.invariant-loop-item
-invariant-loop-item g l = g.T.Target.preceded l.target (each_text (λ (x : ConstExpr). u32_text (func_of x)) l.item-iterator.iter.rest.now) ≡ g.T.Target.preceded l.initial.target (each_text (λ (x : ConstExpr). u32_text (func_of x)) l.items)
+invariant-loop-item g l = record {
+  text : g.T.Target.preceded l.target (each_text (λ (x : ConstExpr). u32_text (func_of x)) l.item-iterator.iter.rest.now) ≡ g.T.Target.preceded l.initial.target (each_text (λ (x : ConstExpr). u32_text (func_of x)) l.items);
+  range : Every ConstInRange l.item-iterator.iter.rest.now → Every ConstInRange l.items;
+}
