@@ -1,4 +1,4 @@
--- The operands of a body that is well typed are small: what it names is there.
+-- The operands of a body that is well typed are small, and its memories memory 0: what it names is there.
 use Rattle.std.proofs.Common.{◌≡◌, ℕ, ◌<◌, ◌≤◌, ◌^◌, Bool, true, false, nat_eq, nat_lt, List, [], ◌∷◌, length, Option, Some, None, refl, sym, ap, ◌∙◌, arith, option_and_then, option_map}
 use Rattle.std.specs.Prelude.{slice_get}
 use Rattle.std.proofs.lemmas.Bool.Decides.{nat_tests}
@@ -17,7 +17,7 @@ use Rattle.wasm_tree.specs.Layers.{Layers, RowLayers, ListLayers}
 use Rattle.wasm_tree.specs.OperandLaws.{PassesLayerByLayer}
 use Rattle.wasm_tree.specs.Operands.{operands, block_operands, all_operands_pass}
 use Rattle.wasm_typing.specs.Typing.{Stack, Effect, Signature, Context, signature_of, signature_in, gives_of, both, under, only, effect_of, Fits, Leads, LeadsAll}
-use Rattle.plain_law.specs.Ranges.{small, small_operand}
+use Rattle.plain_law.specs.Ranges.{small, spelled_operand}
 
 only_true : {A : Type 0} (b : Bool) (m : Option A) (e : A) → only b m ≡ Some e → b ≡ true
 only_true false m e h = cc
@@ -61,7 +61,7 @@ one_below : (n most : ℕ) → most ≤ 1 → nat_lt n most ≡ true → nat_eq 
 one_below n most few h = grind (arith, nat_tests)
 
 abbrev Small : List Operand → Type 0
-Small = Every (λ o. small_operand o ≡ true)
+Small = Every (λ o. spelled_operand o ≡ true)
 
 -- each operand of the layer itself is small
 abbrev SmallLayer : Instr-F Instr → Type 0
@@ -138,5 +138,5 @@ list_small : (c : Context) → IsSmall c → (is : List Instr) (s t : Stack) →
 list_small c small [] s t h = tt
 list_small c small (i ∷ is) s t (u, f, l) = (fits_small c small i s u f, list_small c small is u t l)
 
-pub body_small : PassesLayerByLayer → (c : Context) → IsSmall c → (is : List Instr) (s t : Stack) → LeadsAll c is s t → all_operands_pass small_operand is ≡ true
-body_small layers c small is s t l = (layers small_operand is).1 (list_small c small is s t l)
+pub body_small : PassesLayerByLayer → (c : Context) → IsSmall c → (is : List Instr) (s t : Stack) → LeadsAll c is s t → all_operands_pass spelled_operand is ≡ true
+body_small layers c small is s t l = (layers spelled_operand is).1 (list_small c small is s t l)

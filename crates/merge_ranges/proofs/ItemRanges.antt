@@ -38,7 +38,12 @@ use Rattle.wasm_valid.specs.Named.{refs_of, named_from, named_of}
 use Rattle.wasm_valid.specs.Validity.{ImportHolds, InSpace, ElemModeHolds, DataModeHolds, IsSingle, HoldsAt, start_count, count_of, body_context}
 use Rattle.base_lists.specs.Every.{Every}
 use Rattle.wasm_tree.specs.declared.types.ValType.TheVariants.{Ref}
-use Rattle.plain_law.specs.Ranges.{small_operand, all_numbers_in, MaxInRange, ConstInRange, ImportDescInRange, ImportInRange, ExportDescInRange, ExportInRange, ElemModeInRange, ElemInRange, DataModeInRange, FuncInRange, InRange}
+use Rattle.std.specs.List.{list_all}
+use Rattle.std.specs.Prelude.{IsTrue}
+use Rattle.wasm_tree.specs.declared.space.Operand.{Operand}
+use Rattle.wasm_tree.specs.MemoryZero.{is_memory_zero, memory_zero_all, memory_zero_funcs}
+use Rattle.wasm_tree.proofs.OperandLaws.{passes_more}
+use Rattle.plain_law.specs.Ranges.{IsU32, small_operand, spelled_operand, all_numbers_in, MaxInRange, ConstInRange, ImportDescInRange, ImportInRange, ExportDescInRange, ExportInRange, ElemModeInRange, ElemInRange, DataModeInRange, FuncInRange, InRange}
 use Rattle.merge_ranges.proofs.Numbers.{ConstNumberInRange, ImportLimitsInRange, ImportNumbersInRange, FuncNumbersInRange, ElemOffsetInRange, ElemNumbersInRange, DataOffsetInRange, NumbersInRange}
 use Rattle.merge_ranges.proofs.BodyRanges.{IsSmall, body_small}
 
@@ -47,11 +52,23 @@ abbrev pub ItemsHold : Module → Type 0
 ItemsHold m = (k : ItemKind) (i : ℕ) → i < count_of m true k → HoldsAt m k i
 
 -- what is so of each, at its place, is so of every one
+all_there : {A : Type 0} (p : A → Bool) (xs : List A) → ((i : ℕ) (x : A) → slice_get xs i ≡ Some x → p x ≡ true) → list_all p xs ≡ true
+all_there p [] f = refl
+all_there p (x ∷ xs) f = and_from (p x) (list_all p xs) (f 0 x refl) (all_there p xs (λ i y e. f (suc i) y e))
+
 pub every_from : {A : Type 0} (P Q : A → Type 0) (xs : List A) → Every P xs → ((i : ℕ) (x : A) → slice_get xs i ≡ Some x → P x → Q x) → Every Q xs
 every_from P Q [] h f = tt
 every_from P Q (x ∷ xs) h f = (f 0 x refl h.0, every_from P Q xs h.1 (λ i y e p. f (suc i) y e p))
 
-module _ (layers : PassesLayerByLayer) (m : Module) (holds : ItemsHold m) (single : IsSingle m) (few : IsBounded m) where
+module _
+    (layers : PassesLayerByLayer)
+    (small_spelled : (o : Operand) → spelled_operand o ≡ true → small_operand o ≡ true)
+    (zero_spelled : (o : Operand) → spelled_operand o ≡ true → is_memory_zero o ≡ true)
+    (m : Module)
+    (holds : ItemsHold m)
+    (single : IsSingle m)
+    (few : IsBounded m)
+  where
   -- ---- constant expressions
 
   func_there : (f : ℕ) (o : Option ValType) (t : ValType) → only (nat_lt f (length (funcs_of m))) o ≡ Some t → f < 2 ^ 32
@@ -172,15 +189,23 @@ module _ (layers : PassesLayerByLayer) (m : Module) (holds : ItemsHold m) (singl
     named = let same : length (named_of m) ≡ length (funcs_of m) = length_named (refs_of m) 0 (length (funcs_of m)) in omega (arith, few.funcs);
   }
 
-  func_in : (i : ℕ) (x : Func) → slice_get m.funcs i ≡ Some x → FuncNumbersInRange x → FuncInRange x
-  func_in i x e n = from_held (holds kind.Body i (slice_get_within m.funcs i x e))
+  -- the type that a function names, and what its body names
+  func_names : (i : ℕ) (x : Func) → slice_get m.funcs i ≡ Some x → IsU32 x.ty × (all_operands_pass spelled_operand x.body ≡ true)
+  func_names i x e = from_held (holds kind.Body i (slice_get_within m.funcs i x e))
     where
-      from_held : HoldsAt m kind.Body i → FuncInRange x
+      from_held : HoldsAt m kind.Body i → IsU32 x.ty × (all_operands_pass spelled_operand x.body ≡ true)
       from_held (y, t, f, type_is, (last, l, matched)) =
           let same = same_Some y x (sym f ∙ e) in
           let less : y.ty < length m.types = slice_get_within m.types y.ty t type_is in
           let bounded : y.ty < 2 ^ 32 = omega (arith, few.types) in
-          (subst (λ (z : Func). z.ty < 2 ^ 32) same bounded, n.0, and_from (all_operands_pass small_operand x.body) (all_numbers_in x.body) (subst (λ (z : Func). all_operands_pass small_operand z.body ≡ true) same (body_small layers (body_context m y t) (small_context y t) y.body _ last l)) n.1)
+          (subst (λ (z : Func). z.ty < 2 ^ 32) same bounded, subst (λ (z : Func). all_operands_pass spelled_operand z.body ≡ true) same (body_small layers (body_context m y t) (small_context y t) y.body _ last l))
+
+  func_in : (i : ℕ) (x : Func) → slice_get m.funcs i ≡ Some x → FuncNumbersInRange x → FuncInRange x
+  func_in i x e n =
+      let k = func_names i x e in (k.0, (n.0, and_from (all_operands_pass small_operand x.body) (all_numbers_in x.body) (passes_more spelled_operand small_operand small_spelled x.body k.1) n.1))
+
+  memory_in : (i : ℕ) (x : Func) → slice_get m.funcs i ≡ Some x → memory_zero_all x.body ≡ true
+  memory_in i x e = passes_more spelled_operand is_memory_zero zero_spelled x.body (func_names i x e).1
 
   pub tree_in : NumbersInRange m → InRange m
   tree_in n = record {
@@ -194,3 +219,6 @@ module _ (layers : PassesLayerByLayer) (m : Module) (holds : ItemsHold m) (singl
     elems = every_from ElemNumbersInRange ElemInRange m.elems n.elems elem_in;
     datas = every_from (λ (s : DataSeg). DataOffsetInRange s.mode) (λ (s : DataSeg). DataModeInRange s.mode) m.datas n.datas data_in;
   }
+
+  pub memory_zero : IsTrue (memory_zero_funcs m.funcs)
+  memory_zero = all_there (λ (f : Func). memory_zero_all f.body) m.funcs memory_in

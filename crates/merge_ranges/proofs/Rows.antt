@@ -17,7 +17,7 @@ unfolding out-Instr denote.Hole.Carrier.out
 of_label label = simp (fold_out-Instr Bool (all_pass_step small_operand), fold_out-Instr Bool number_step) refl
 
 greatest_label : Every (λ p. InRange p.«module») (branching 4294967295)
-greatest_label = (record { imports = tt; funcs = ((omega arith, tt, of_label 4294967295), tt); tables = tt; mems = tt; globals = tt; exports = tt; start = tt; elems = tt; datas = tt }, tt)
+greatest_label = (record { imports = tt; funcs = ((omega arith, (tt, of_label 4294967295)), tt); tables = tt; mems = tt; globals = tt; exports = tt; start = tt; elems = tt; datas = tt }, tt)
 
 a_greater_label : Every (λ p. InRange p.«module») (branching 4294967296) → true ≡ false
 a_greater_label r = sym r.0.funcs.0.1.1 ∙ of_label 4294967296

@@ -125,12 +125,19 @@ both_spelled s n h k = by_space (same_space s Memories) k
     by_space true z = z
     by_space false z = h
 
-spelled_small : (s : Space) (n : ℕ) → (if same_space s Memories then nat_eq n 0 else small n) ≡ true → small n ≡ true
+pub spelled_small : (s : Space) (n : ℕ) → (if same_space s Memories then nat_eq n 0 else small n) ≡ true → small n ≡ true
 spelled_small s n h = by_space (same_space s Memories) h
   where
     by_space : (b : Bool) → (if b then nat_eq n 0 else small n) ≡ true → small n ≡ true
     by_space true z = grind (arith, nat_tests)
     by_space false z = z
+
+pub spelled_zero : (s : Space) (n : ℕ) → (if same_space s Memories then nat_eq n 0 else small n) ≡ true → not (same_space s Memories) || nat_eq n 0 ≡ true
+spelled_zero s n h = by_space (same_space s Memories) h
+  where
+    by_space : (b : Bool) → (if b then nat_eq n 0 else small n) ≡ true → not b || nat_eq n 0 ≡ true
+    by_space true z = z
+    by_space false z = refl
 
 pub spellable_of : (is : List Instr) → all_in_range is ≡ true → memory_zero_all is ≡ true → all_spellable is ≡ true
 spellable_of is h z =

@@ -1,15 +1,16 @@
 //! The plain spelling of a module spells it.
 #![tactic(auto)]
 
-ghost use Rattle.std.specs.Prelude.{◌≡◌, ℕ, List, ◌<◌, ◌^◌, length, false, IsTrue};
+ghost use Rattle.std.specs.Prelude.{◌≡◌, true, ℕ, List, ◌<◌, ◌^◌, length, false, IsTrue};
 ghost use Rattle.wasm_tree.specs.declared.module.Module.{Module as Tree};
 ghost use Rattle.wasm_tree.specs.declared.instr.Instr.{Instr as Code};
+ghost use Rattle.wasm_tree.specs.declared.space.Operand.{Operand as Named};
 ghost use Rattle.wasm_tree.specs.declared.space.Space.{Space as IndexSpace};
-ghost use Rattle.wasm_tree.specs.MemoryZero.{memory_zero_funcs};
+ghost use Rattle.wasm_tree.specs.MemoryZero.{is_memory_zero, memory_zero_funcs};
 ghost use Rattle.wasm_tree.specs.Operands.{mapped_all};
 ghost use Rattle.wasm_format.specs.Files.{Spells, Within};
 ghost use Rattle.wasm_plain.specs.Plain.{plain};
-ghost use Rattle.plain_law.specs.Ranges.{InRange, all_numbers_in};
+ghost use Rattle.plain_law.specs.Ranges.{InRange, all_numbers_in, small_operand, spelled_operand};
 ghost use Rattle.plain_law.specs.SmallSizes.{SmallSizes};
 ghost use Rattle.plain_law.specs.TreeLimits.{WithinLimits};
 
@@ -31,6 +32,12 @@ pub fn spelled_trees_are_in_range()
 /// size that is written is below 2^32.
 pub fn trees_that_fit_have_small_sizes()
     ensures { (m : Tree) → length (plain m) < 2 ^ 32 → SmallSizes m }
+{}
+
+/// An operand that is spelled where a module has at most one memory is below 2^32 and names no memory but memory 0.
+pub fn spelled_operands_are_in_range()
+    ensures range { (o : Named) → spelled_operand o ≡ true → small_operand o ≡ true }
+    ensures memory { (o : Named) → spelled_operand o ≡ true → is_memory_zero o ≡ true }
 {}
 
 /// With other indices code keeps its other numbers: labels, locals, constants, alignments and offsets.
