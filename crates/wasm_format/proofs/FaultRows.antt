@@ -1,5 +1,5 @@
--- The first fault of small files, computed: for each kind of fault and each limit a file, and which fault comes first where there are several.
-use Rattle.std.proofs.Common.{◌≡◌, refl, ℕ, zero, suc, List, [], ◌∷◌, ◌++◌, map, length, false, Option, Some, None}
+-- The first fault of small files, computed: for each kind of fault and each limit a file, and which fault comes first where there are several. (What is no module stands in Rows.)
+use Rattle.std.proofs.Common.{◌≡◌, refl, ℕ, zero, suc, List, [], ◌∷◌, ◌++◌, map, length, true, false, Option, Some, None}
 use Rattle.wasm_tree.specs.declared.which.Which.TheVariants.{Types, Imports, Functions, Tables, Memories, Globals, Exports, ElementSegments, DataSegments, Nesting, Locals, Parameters, Results}
 use Rattle.wasm_bytes.specs.Frames.{header, frame_at, frames_at}
 use Rattle.wasm_bytes.specs.Reading.{unsigned_at, signed_at, name_at as text_at}
@@ -72,7 +72,11 @@ a_limit_may_be_reached : faults at_a_count ≡ Some (Malformed 0) ∷ Some (Malf
 unfolding read_at parts_at framed_at frames_at frame_at contents_at section_at agrees whole_at vector_at list_at each_from func_type_at val_at tag_at unsigned_at codes_at entry_at table_at ref_at elem_at
 a_limit_may_be_reached = refl
 
--- 50,001 locals, in two groups, the second of a type that is not supported too
+-- 50,000 locals; and 50,001, in two groups, the second of a type that is not supported too
+locals_enough : read_fault (of_entry (0x01 ∷ 0xD0 ∷ 0x86 ∷ 0x03 ∷ 0x7F ∷ 0xFD ∷ [])) false ≡ Some (Unsupported 2 (Some 0))
+unfolding read_at parts_at framed_at frames_at frame_at contents_at section_at agrees whole_at vector_at list_at each_from func_type_at val_at val_code tag_at unsigned_at codes_at entry_at code_at locals_at local_at body_at sequence_at token_at the_form un_of bin_of load_of store_of rest_form simple_of
+locals_enough = refl
+
 too_many_locals : read_fault (of_entry (0x02 ∷ 0x01 ∷ 0x7F ∷ 0xD0 ∷ 0x86 ∷ 0x03 ∷ 0x7D ∷ [])) false ≡ Some (Limit Locals)
 unfolding read_at parts_at framed_at frames_at frame_at contents_at section_at agrees whole_at vector_at list_at each_from func_type_at val_at val_code tag_at unsigned_at codes_at entry_at code_at locals_at local_at
 too_many_locals = refl
@@ -90,6 +94,11 @@ a_block_too_many = refl
 blocks_enough : code_at false (0x00 ∷ blocks 1000 []) ≡ Err fault.Malformed
 unfolding each_from code_at locals_at local_at body_at sequence_at block_at block_type_at token_at the_form un_of bin_of load_of store_of rest_form simple_of val_at unsigned_at
 blocks_enough = refl
+
+-- the 1,001 blocks in a file
+blocks_in_a_file : read_fault (header ++ types ++ functions ++ 0x0A ∷ 0xD6 ∷ 0x0F ∷ 0x01 ∷ 0xD3 ∷ 0x0F ∷ 0x00 ∷ blocks 1001 []) false ≡ Some (Limit Nesting)
+unfolding read_at parts_at framed_at frames_at frame_at contents_at section_at agrees whole_at vector_at list_at each_from func_type_at val_at tag_at unsigned_at codes_at entry_at code_at locals_at local_at body_at sequence_at block_at block_type_at token_at the_form un_of bin_of load_of store_of rest_form simple_of
+blocks_in_a_file = refl
 
 a_misspelled_block_too_many : code_at false (0x00 ∷ blocks 1000 (0x02 ∷ 0xFF ∷ 0x7F ∷ [])) ≡ Err fault.Malformed
 unfolding each_from code_at locals_at local_at body_at sequence_at block_at block_type_at token_at the_form un_of bin_of load_of store_of rest_form simple_of val_at unsigned_at signed_at
@@ -121,9 +130,10 @@ a_type_or_constant_is_told = refl
 
 abbrev bodies : List (List ℕ)
 bodies =
-    -- f32.load, FC 0, padded FC 0, v128; and a value type of a block, of a typed select and of a local
+    -- f32.load, FC 0, FC 7, padded FC 0, v128; and a value type of a block, of a typed select and of a local
     of_body (0x2A ∷ [])
     ∷ of_body (0xFC ∷ 0x00 ∷ [])
+    ∷ of_body (0xFC ∷ 0x07 ∷ [])
     ∷ of_body (0xFC ∷ 0x80 ∷ 0x00 ∷ [])
     ∷ of_body (0xFD ∷ [])
     ∷ of_body (0x02 ∷ 0x7D ∷ [])
@@ -135,6 +145,10 @@ bodies =
     ∷ of_body (0xFC ∷ 0x18 ∷ [])
     ∷ of_body (0xFC ∷ [])
     ∷ of_body (0x02 ∷ 0xFF ∷ 0x7F ∷ [])
+    ∷ of_body (0x02 ∷ 0xC0 ∷ 0x7F ∷ [])
+    -- a padded memory index, and an alignment that is as any other where memories have no indices
+    ∷ of_body (0x3F ∷ 0x80 ∷ 0x00 ∷ 0xFD ∷ [])
+    ∷ of_body (0x28 ∷ 0x42 ∷ 0x00 ∷ 0xFD ∷ [])
     -- what follows the end of the body is malformed, supported or not; an else outside an if
     ∷ of_body (0x0B ∷ 0xFD ∷ [])
     ∷ of_body (0x05 ∷ 0xFD ∷ [])
@@ -149,13 +163,20 @@ bodies =
     ∷ of_body (0xFC ∷ 0x8B ∷ 0x00 ∷ 0x00 ∷ 0xFD ∷ [])
     ∷ []
 
-a_token_is_told : faults bodies ≡ Some (Unsupported 2 (Some 0)) ∷ Some (Unsupported 2 (Some 0)) ∷ Some (Unsupported 2 (Some 0)) ∷ Some (Unsupported 2 (Some 0)) ∷ Some (Unsupported 2 (Some 0)) ∷ Some (Unsupported 2 (Some 0)) ∷ Some (Unsupported 2 (Some 0))
+a_token_is_told : faults bodies ≡ Some (Unsupported 2 (Some 0)) ∷ Some (Unsupported 2 (Some 0)) ∷ Some (Unsupported 2 (Some 0)) ∷ Some (Unsupported 2 (Some 0)) ∷ Some (Unsupported 2 (Some 0)) ∷ Some (Unsupported 2 (Some 0)) ∷ Some (Unsupported 2 (Some 0)) ∷ Some (Unsupported 2 (Some 0))
     ∷ Some (MalformedBody 0) ∷ Some (MalformedBody 0) ∷ Some (MalformedBody 0) ∷ Some (MalformedBody 0) ∷ Some (MalformedBody 0)
+    ∷ Some (MalformedBody 0) ∷ Some (MalformedBody 0) ∷ Some (Unsupported 2 (Some 0))
     ∷ Some (MalformedBody 0) ∷ Some (MalformedBody 0) ∷ Some (MalformedBody 0)
     ∷ Some (Unsupported 2 (Some 0)) ∷ Some (Unsupported 2 (Some 0)) ∷ Some (Unsupported 2 (Some 0)) ∷ Some (MalformedBody 0)
     ∷ Some (Unsupported 2 (Some 0)) ∷ Some (Unsupported 2 (Some 0)) ∷ []
 unfolding read_at parts_at framed_at frames_at frame_at contents_at section_at agrees whole_at vector_at list_at each_from func_type_at val_at val_code ref_at ref_code tag_at unsigned_at signed_at codes_at entry_at code_at locals_at local_at body_at sequence_at block_at block_type_at token_at prefixed_at memory_at arg_at the_form un_of bin_of load_of store_of rest_form sub_form simple_of
 a_token_is_told = refl
+
+-- where memories have indices, an alignment of 64 to 127 tells that one follows; 128 is none
+a_memory_is_named : map (λ bytes. read_fault bytes true) (of_body (0x28 ∷ 0x42 ∷ 0x00 ∷ 0x00 ∷ 0xFD ∷ []) ∷ of_body (0x28 ∷ 0xC2 ∷ 0x00 ∷ 0x00 ∷ 0x00 ∷ 0xFD ∷ []) ∷ of_body (0x28 ∷ 0x80 ∷ 0x01 ∷ 0x00 ∷ 0x00 ∷ 0xFD ∷ []) ∷ [])
+    ≡ Some (Unsupported 2 (Some 0)) ∷ Some (Unsupported 2 (Some 0)) ∷ Some (MalformedBody 0) ∷ []
+unfolding read_at parts_at framed_at frames_at frame_at contents_at section_at agrees whole_at vector_at list_at each_from func_type_at val_at val_code tag_at unsigned_at codes_at entry_at code_at locals_at local_at body_at sequence_at token_at memory_at arg_at the_form un_of bin_of load_of store_of rest_form simple_of
+a_memory_is_named = refl
 
 -- ---- which comes first
 
@@ -168,11 +189,21 @@ several =
     ∷ (header ++ types ++ section 3 (0x02 ∷ 0x00 ∷ 0x00 ∷ []) ++ section 10 (0x02 ∷ 0x02 ∷ 0x00 ∷ 0xFE ∷ 0x7F ∷ []))
     ∷ (header ++ types ++ section 3 (0x02 ∷ 0x00 ∷ 0x00 ∷ []) ++ section 10 (0x02 ∷ 0x7F ∷ 0x00 ∷ 0xFE ∷ []))
     ∷ (header ++ types ++ section 10 (0x01 ∷ 0x02 ∷ 0x00 ∷ 0xFE ∷ []))
+    -- a size behind a body; the second body; bytes left over behind the bodies
+    ∷ (header ++ types ++ section 3 (0x02 ∷ 0x00 ∷ 0x00 ∷ []) ++ section 10 (0x02 ∷ 0x02 ∷ 0x00 ∷ 0x0B ∷ 0x7F ∷ []))
+    ∷ (header ++ types ++ section 3 (0x02 ∷ 0x00 ∷ 0x00 ∷ []) ++ section 10 (0x02 ∷ 0x02 ∷ 0x00 ∷ 0x0B ∷ 0x02 ∷ 0x00 ∷ 0xFE ∷ []))
+    ∷ (header ++ types ++ functions ++ section 10 (0x01 ∷ 0x02 ∷ 0x00 ∷ 0x0B ∷ 0x00 ∷ []))
+    -- custom sections are counted; an initialiser of two constants
+    ∷ (header ++ section 0 (0x00 ∷ []) ++ section 0 (0x00 ∷ []) ++ 0x0D ∷ [])
+    ∷ (header ++ section 6 (0x01 ∷ 0x7F ∷ 0x00 ∷ 0x41 ∷ 0x00 ∷ 0x41 ∷ 0x00 ∷ 0x0B ∷ []))
     -- the functions and the bodies; the data count
     ∷ (header ++ types ++ functions)
     ∷ (header ++ section 12 (0x01 ∷ []))
     ∷ []
 
-the_first_is_told : faults several ≡ Some (Malformed 1) ∷ Some (Limit Types) ∷ Some (MalformedBody 0) ∷ Some (Malformed 2) ∷ Some (MalformedBody 0) ∷ Some (Malformed 2) ∷ Some (Malformed 1) ∷ []
-unfolding read_at parts_at framed_at frames_at frame_at contents_at section_at agrees whole_at vector_at list_at each_from func_type_at val_at val_code tag_at unsigned_at text_at codes_at entry_at code_at locals_at local_at body_at sequence_at token_at prefixed_at the_form un_of bin_of load_of store_of rest_form sub_form simple_of import_at import_desc_at
+the_first_is_told : faults several ≡ Some (Malformed 1) ∷ Some (Limit Types) ∷ Some (MalformedBody 0) ∷ Some (Malformed 2) ∷ Some (MalformedBody 0)
+    ∷ Some (Malformed 2) ∷ Some (MalformedBody 1) ∷ Some (Malformed 2)
+    ∷ Some (Malformed 2) ∷ Some (Malformed 0)
+    ∷ Some (Malformed 2) ∷ Some (Malformed 1) ∷ []
+unfolding read_at parts_at framed_at frames_at frame_at contents_at section_at agrees whole_at vector_at list_at each_from func_type_at val_at val_code mut_at mut_code tag_at unsigned_at signed_at text_at codes_at entry_at code_at locals_at local_at body_at sequence_at token_at prefixed_at the_form un_of bin_of load_of store_of rest_form sub_form simple_of import_at import_desc_at global_at global_def_at const_at
 the_first_is_told = refl

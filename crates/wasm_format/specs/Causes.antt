@@ -1,5 +1,6 @@
--- What the first fault of a file means. Everything before the place that it names is spelled and within the limits. There stand the first bytes of a form that is not supported, or a quantity over
--- its limit; or the place is malformed: it is neither spelled within the limits, nor does it come to such a stop.
+-- What the first fault of a file means. First comes the header, then the frames of all sections, whatever they hold, then what they hold, then the rules on the whole file. Where what a section holds is
+-- at fault, everything before the place is spelled and within the limits. There stand the first bytes of a form that is not supported, or a quantity over its limit; or the place is malformed: it is neither
+-- spelled within the limits, nor does it come to such a stop.
 use Rattle.std.specs.Prelude.{◌≡◌, ℕ, ◌+◌, ◌<◌, ◌≤◌, ◌⊎◌, List, ◌∷◌, ◌++◌, length, Bool, Some, None}
 use Rattle.wasm_bytes.specs.Joins.{U32, Each, Sized}
 use Rattle.wasm_bytes.specs.Frames.{Section, HasHeader, Framed, FirstBad}
@@ -17,7 +18,7 @@ use Rattle.wasm_format.specs.Stops.{Stop, NotSupported, Over, CodeStops, section
 
 -- ---- places
 
--- the sections before section n, which is s, are spelled, lead to the parts p and are within the limits
+-- the frames of the whole file are right, and the sections before section n, which is s, are spelled, lead to the parts p and are within the limits
 pub record UpTo (bytes : List ℕ) (many : Bool) (n : ℕ) (s : Section) (p : Parts) : Type 0 where
   pub front : List Section
   pub back : List Section

@@ -120,7 +120,8 @@ Spells bytes tree many = (ss : List Section) × (p : Parts) × Framed bytes ss �
 
 -- ---- what is within the limits
 
--- each written count, the nesting and the sum of the locals in the content of a section with this id; no limit is on the others
+-- where the content of a section with this id is spelled, each count in it, the nesting and the sum of the locals are within their limits; of content that is not spelled it says nothing, and the
+-- other ids have no limit
 unfoldable pub small_form : Bool → ℕ → List ℕ → Type 0
 small_form many id =
     WhenSmall (id == 0) Any

@@ -88,7 +88,7 @@ ConstStops = ByteStops is_unsupported_const
 
 -- ---- what the sections hold
 
--- the value type of a global, which begins it
+-- behind the byte that tells what is imported: the value type of a global, which stands first there
 unfoldable pub import_stops : ℕ → Stop → List ℕ → Type 0
 import_stops k = WhenStops (k == 0x00) NoStop (WhenStops (k == 0x01) NoStop (WhenStops (k == 0x02) NoStop (WhenStops (k == 0x03) ValStops NoStop)))
 
