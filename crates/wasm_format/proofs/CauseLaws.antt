@@ -91,7 +91,7 @@ module _ (bytes : List ℕ) (many : Bool) (small : IsBytes bytes) where
   stop_err n stop h = section_err n h.here h.parts _ h.before ((section_tells many n h.parts h.here.0).met h.here.1 stop h.stops)
 
   -- the code section
-  code_section : (n : ℕ) (p : Parts) (s : Section) (e : ReadFault) → s.0 ≡ 10 → codes_at many n (length (imported_funcs p.imports)) s.1 ≡ Err e → section_at many n p s ≡ Err e
+  pub code_section : (n : ℕ) (p : Parts) (s : Section) (e : ReadFault) → s.0 ≡ 10 → codes_at many n (length (imported_funcs p.imports)) s.1 ≡ Err e → section_at many n p s ≡ Err e
   unfolding section_at
   code_section n p s e ten h = rw (ten, h)
 

@@ -19,6 +19,7 @@ pub mod CutLaws
 pub mod LimitLaws
 pub mod BoundLaws
 pub mod CauseLaws
+pub mod PlaceLaws
 pub mod WithinLaws
 mod Rows
 mod FaultRows

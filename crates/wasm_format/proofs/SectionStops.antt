@@ -177,7 +177,7 @@ module _ (many : Bool) (n : ℕ) where
       (λ k. absurd k.1.3.3)
       t.3
 
-  here_met : (func : ℕ) (entry back content : List ℕ) (w : Fault) → Sized entry content → code_at many content ≡ Err w → entry_at many n func (entry ++ back) ≡ Err (placed n (Some func) w)
+  pub here_met : (func : ℕ) (entry back content : List ℕ) (w : Fault) → Sized entry content → code_at many content ≡ Err w → entry_at many n func (entry ++ back) ≡ Err (placed n (Some func) w)
   unfolding entry_at
   here_met func entry back content w z bad = rw (sized_exact.complete entry back content z tt, bad)
 

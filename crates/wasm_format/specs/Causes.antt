@@ -1,7 +1,7 @@
 -- What the first fault of a file means. First comes the header, then the frames of all sections, whatever they hold, then what they hold, then the rules on the whole file. Where what a section holds is
 -- at fault, everything before the place is spelled and within the limits. There stand the first bytes of a form that is not supported, or a quantity over its limit; or the place is malformed: it is neither
 -- spelled within the limits, nor does it come to such a stop.
-use Rattle.std.specs.Prelude.{◌≡◌, ℕ, ◌+◌, ◌<◌, ◌≤◌, ◌⊎◌, List, ◌∷◌, ◌++◌, length, Bool, Some, None}
+use Rattle.std.specs.Prelude.{◌≡◌, ℕ, ◌+◌, ◌<◌, ◌≤◌, ◌⊎◌, List, ◌∷◌, ◌++◌, length, Bool, Option, Some, None}
 use Rattle.wasm_bytes.specs.Joins.{U32, Each, Sized}
 use Rattle.wasm_bytes.specs.Frames.{Section, HasHeader, Framed, FirstBad}
 use Rattle.wasm_tree.specs.declared.which.Which.TheVariants.{Functions}
@@ -65,6 +65,11 @@ pub record SectionStops (bytes : List ℕ) (many : Bool) (n : ℕ) (stop : Stop)
 -- the entry of function f does
 abbrev pub EntryStops : List ℕ → Bool → ℕ → ℕ → Stop → Type 0
 EntryStops bytes many n f stop = (content : List ℕ) × InEntry bytes many n f content × CodeStops many stop content
+
+-- section n does, or in section n the entry of a function
+abbrev pub StopsAt : List ℕ → Bool → ℕ → Option ℕ → Stop → Type 0
+StopsAt bytes many n None stop = SectionStops bytes many n stop
+StopsAt bytes many n (Some f) stop = EntryStops bytes many n f stop
 
 -- an entry's content is spelled, within the limits
 abbrev pub IsCode : Bool → List ℕ → Type 0

@@ -1,6 +1,6 @@
 //! What the definitions mean, as contracts of calls that do nothing.
 
-ghost use Rattle.std.specs.Prelude.{◌≡◌, ◌↔◌, ◌++◌, ℕ, List, [], Bool, true, false, None, Some};
+ghost use Rattle.std.specs.Prelude.{◌≡◌, ◌↔◌, ◌++◌, ℕ, List, [], Bool, true, false, Option, None, Some};
 ghost use Rattle.wasm_bytes.specs.Reading.{IsBytes};
 ghost use Rattle.wasm_tree.specs.declared.instr.Instr.{Instr as Tree};
 ghost use Rattle.wasm_tree.specs.declared.module.Module.{Module as ModuleTree};
@@ -12,7 +12,8 @@ ghost use Rattle.wasm_format.specs.declared.fault.ReadFault.TheVariants as fault
 ghost use Rattle.wasm_format.specs.Bodies.{SpellsBody};
 ghost use Rattle.wasm_format.specs.Files.{Spells, Within};
 ghost use Rattle.wasm_format.specs.Contents.{read_fault};
-ghost use Rattle.wasm_format.specs.Causes.{Cause};
+ghost use Rattle.wasm_format.specs.Stops.{Stop as SomeStop};
+ghost use Rattle.wasm_format.specs.Causes.{StopsAt, Cause};
 ghost use Rattle.wasm_format.specs.Cut.{CutFiles};
 
 use wasm_tree::operands_pass_layer_by_layer;
@@ -41,6 +42,7 @@ pub fn no_fault_where_spelled()
 pub fn faults_have_causes()
     ensures causes { (bytes : List ℕ) (many : Bool) (e : SomeFault) → IsBytes bytes → (read_fault bytes many ≡ Some e) ↔ Cause bytes many e }
     ensures one { (bytes : List ℕ) (many : Bool) (e f : SomeFault) → IsBytes bytes → Cause bytes many e → Cause bytes many f → e ≡ f }
+    ensures places { (bytes : List ℕ) (many : Bool) (n m : ℕ) (f g : Option ℕ) (s t : SomeStop) → IsBytes bytes → StopsAt bytes many n f s → StopsAt bytes many m g t → (n ≡ m) × (f ≡ g) }
 {}
 
 /// A file that spells a tree is within the limits exactly where no count that is written in it, no nesting and no sum of locals is over its
