@@ -22,6 +22,9 @@ use Rattle.wasm_format.specs.Causes.{UpTo, EntryOf, InEntry, SectionStops, Entry
 use Rattle.wasm_format.proofs.Framing.{framed_reads, framed_sound, framed_fault, header_reads, bad_reads}
 use Rattle.wasm_format.proofs.EntryLaws.{code_sound, code_complete, content_bytes}
 use Rattle.wasm_format.proofs.SectionLaws.{section_right}
+use Rattle.wasm_format.proofs.LimitLaws.{Got, code_gets}
+use Rattle.wasm_format.proofs.SpelledLaws.{section_gets}
+use Rattle.wasm_tree.specs.declared.which.Which.{Which}
 use Rattle.wasm_format.proofs.FileLaws.{AreBytes, framed_bytes, contents_sound, contents_complete, of_rules, rules_of, told}
 use Rattle.wasm_format.proofs.Stopping.{bind_err, ok_err, same_err, fault_of}
 use Rattle.wasm_format.proofs.BodyStops.{code_tells}
@@ -37,6 +40,11 @@ contents_met many (t ∷ front) n p q s back e h k bad =
     let one : section_at many n p t ≡ Ok h.0 = (section_right many n p t.0).complete t.1 h.0 h.1 k.0 in
     let same : n + suc (length front) ≡ (n + 1) + length front = omega arith in
     rw one (contents_met many front (n + 1) h.0 q s back e h.2 k.1 (rw (← same) bad))
+
+-- what is spelled is not malformed
+not_malformed : {A E : Type 0} (over : Which → E) (e : E) (r : Result A E) (x : A) → ((w : Which) → over w ≡ e → ⊥) → Got over r x → r ≡ Err e → ⊥
+not_malformed over e r x never (inl is) bad = ok_err x e (sym is ∙ bad)
+not_malformed {A} over e r x never (inr is) bad = never is.0 (same_err {A = A} _ _ (sym is.1 ∙ bad))
 
 -- the first section that is not read
 record Stopped (many : Bool) (n : ℕ) (p : Parts) (ss : List Section) (e : ReadFault) : Type 0 where
@@ -123,7 +131,7 @@ module _ (bytes : List ℕ) (many : Bool) (small : IsBytes bytes) where
 
   malformed_met : (n : ℕ) → MalformedSection bytes many n → read_fault bytes many ≡ Some (Malformed n)
   malformed_met n m = ⊎_elim
-      (λ good. let t = (section_right many n m.parts m.here.0).sound m.here.1 good.0 ok good.1 in absurd (m.unspelled good.0 t.0 t.1))
+      (λ good. let t = (section_right many n m.parts m.here.0).sound m.here.1 good.0 ok good.1 in absurd (m.unspelled good.0 t.0))
       (λ bad. ⊎_elim
       (λ is. section_err n m.here m.parts (Malformed n) m.before (bad.1 ∙ ap Err is))
       (λ k. ⊎_elim
@@ -149,7 +157,7 @@ module _ (bytes : List ℕ) (many : Bool) (small : IsBytes bytes) where
 
   body_met : (n f : ℕ) (content : List ℕ) → InEntry bytes many n f content → MalformedContent many content → read_fault bytes many ≡ Some (MalformedBody f)
   body_met n f content h m = ⊎_elim
-      (λ good. absurd (m.unspelled good))
+      (λ good. absurd (m.unspelled good.0 good.1))
       (λ bad. ⊎_elim
       (λ is. inner_err n f content fault.Malformed h (bad.1 ∙ ap Err is))
       (λ stop. absurd (m.no_stop stop.0 stop.2))
@@ -202,7 +210,7 @@ module _ (bytes : List ℕ) (many : Bool) (small : IsBytes bytes) where
       here = w.here;
       parts = w.parts;
       before = up_to;
-      unspelled = λ q h k. ok_err q (Malformed place) (sym ((section_right many place w.parts w.here.0).complete w.here.1 q h k) ∙ bad);
+      unspelled = λ q h. not_malformed {A = Parts} Limit (Malformed place) (section_at many place w.parts w.here) q (λ w e. (let k : ◌≡◌ {A = ReadFault} (Limit w) (Malformed place) = e in cc)) (section_gets many place w.parts w.here.0 w.here.1 q h) bad;
       no_stop = λ s h. stop_not place s (same_err {A = Parts} _ _ (sym ((section_tells many place w.parts w.here.0).met w.here.1 s h) ∙ bad));
       entries = λ ten f content h. ⊎_elim
           (λ good. good)
@@ -220,7 +228,7 @@ module _ (bytes : List ℕ) (many : Bool) (small : IsBytes bytes) where
         (λ is.
         let bad : code_at many t.1 ≡ Err fault.Malformed = t.4 ∙ ap Err is in
         let malformed : MalformedContent many t.1 = record {
-          unspelled = λ g. code_not t.1 fault.Malformed g bad;
+          unspelled = λ g h. not_malformed {A = Func} fault.Limit fault.Malformed (code_at many t.1) g (λ w e. (let k : ◌≡◌ {A = Fault} (fault.Limit w) fault.Malformed = e in cc)) (code_gets many t.1 g h) bad;
           no_stop = λ s k. never s (same_err {A = Func} _ _ (sym ((code_tells many).met t.1 s k) ∙ bad));
         } in
         subst (Cause bytes many) (sym (t.5 ∙ ap (placed place (Some t.0)) is)) (place, (t.1, inside, malformed)))

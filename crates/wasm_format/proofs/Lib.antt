@@ -18,6 +18,7 @@ pub mod FileLaws
 pub mod CutLaws
 pub mod LimitLaws
 pub mod BoundLaws
+pub mod SpelledLaws
 pub mod CauseLaws
 pub mod PlaceLaws
 pub mod WithinLaws

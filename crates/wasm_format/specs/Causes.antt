@@ -1,6 +1,6 @@
 -- What the first fault of a file means. First comes the header, then the frames of all sections, whatever they hold, then what they hold, then the rules on the whole file. Where what a section holds is
 -- at fault, everything before the place is spelled and within the limits. There stand the first bytes of a form that is not supported, or a quantity over its limit; or the place is malformed: it is neither
--- spelled within the limits, nor does it come to such a stop.
+-- spelled, nor does it come to such a stop.
 use Rattle.std.specs.Prelude.{◌≡◌, ℕ, ◌+◌, ◌<◌, ◌≤◌, ◌⊎◌, List, ◌∷◌, ◌++◌, length, Bool, Option, Some, None}
 use Rattle.wasm_bytes.specs.Joins.{U32, Each, Sized}
 use Rattle.wasm_bytes.specs.Frames.{Section, HasHeader, Framed, FirstBad}
@@ -71,25 +71,25 @@ abbrev pub StopsAt : List ℕ → Bool → ℕ → Option ℕ → Stop → Type 
 StopsAt bytes many n None stop = SectionStops bytes many n stop
 StopsAt bytes many n (Some f) stop = EntryStops bytes many n f stop
 
--- an entry's content is spelled, within the limits
+-- an entry's content is spelled and within the limits
 abbrev pub IsCode : Bool → List ℕ → Type 0
 IsCode many content = (g : Func) × SpellsCode many content g × SmallCode g
 
--- it is not, and comes to no stop: bytes that are left over are a case of it
+-- it is not spelled and comes to no stop: bytes that are left over are a case of it
 pub record MalformedContent (many : Bool) (content : List ℕ) : Type 0 where
-  pub unspelled : IsCode many content → ⊥
+  pub unspelled : (g : Func) → SpellsCode many content g → ⊥
   pub no_stop : (stop : Stop) → CodeStops many stop content → ⊥
 
 abbrev pub MalformedEntry : List ℕ → Bool → ℕ → ℕ → Type 0
 MalformedEntry bytes many n f = (content : List ℕ) × InEntry bytes many n f content × MalformedContent many content
 
--- Section n is not spelled within the limits, and comes to no stop; and where it is the code section, each entry whose content is reached is spelled within them, so that a count or a size is misspelled
--- or too great, or bytes are left over.
+-- Section n is not spelled and comes to no stop; and where it is the code section, each entry whose content is reached is spelled and within the limits, so that a count or a size is misspelled or too great,
+-- or bytes are left over.
 pub record MalformedSection (bytes : List ℕ) (many : Bool) (n : ℕ) : Type 0 where
   pub here : Section
   pub parts : Parts
   pub before : UpTo bytes many n here parts
-  pub unspelled : (q : Parts) → SpellsSection many parts here q → SmallSection many here → ⊥
+  pub unspelled : (q : Parts) → SpellsSection many parts here q → ⊥
   pub no_stop : (stop : Stop) → section_stops many here.0 stop here.1 → ⊥
   pub entries : here.0 ≡ 10 → (f : ℕ) (content : List ℕ) → EntryOf many (length (imported_funcs parts.imports)) here.1 f content → IsCode many content
 

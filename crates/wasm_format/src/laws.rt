@@ -37,8 +37,8 @@ pub fn no_fault_where_spelled()
 /// The first fault of a file is the one that has its cause, and the other way round: so at most one fault has its cause, with its place.
 /// A header that is missing is told first, and then a bad frame, whatever the sections hold. Where all frames are right, everything before the
 /// place that a fault names is spelled and within the limits. `Limit` and `Unsupported` tell what stands there, whatever the rest of the
-/// contents is; `Malformed` and `MalformedBody` that neither stands there, and that the place is not spelled within the limits, or that the
-/// contents are and a rule on the whole file is broken.
+/// contents is; `Malformed` and `MalformedBody` that neither stands there, and that the place is not spelled, or that all contents are and a
+/// rule on the whole file is broken. The place of a stop is one (`places`): a section and, in the code section, the entry of a function.
 pub fn faults_have_causes()
     ensures causes { (bytes : List ℕ) (many : Bool) (e : SomeFault) → IsBytes bytes → (read_fault bytes many ≡ Some e) ↔ Cause bytes many e }
     ensures one { (bytes : List ℕ) (many : Bool) (e f : SomeFault) → IsBytes bytes → Cause bytes many e → Cause bytes many f → e ≡ f }
