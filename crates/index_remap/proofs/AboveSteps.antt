@@ -8,7 +8,7 @@ use Rattle.wasm_meaning.specs.Values.{pop_typed}
 use Rattle.wasm_meaning.specs.Step.{enter_at, give, act, perform, step, to_mark}
 use Rattle.index_remap.specs.Related.{Pairing, OneToOneWhereWritten, ResRel, done, trap, wrong, ListRel, nil, cons, ValRel, StoreRel, FrameRel, EntryRel, running, mark, opening, waiting, ended, growing, ActRel, goes, calls, asks_grow, ends, NextRel, ran, asked_grow, returned, NotListed, TopSkips}
 use Rattle.index_remap.specs.Laws.{Above, NeedsBelow, Touches, EntriesKnown, ends_trap, NoMark}
-use Rattle.index_remap.proofs.Rel.{there, same_there, bind_rel, bind_eq}
+use Rattle.index_remap.proofs.Rel.{there, same_there, bind_rel, bind_found, bind_is}
 use Rattle.index_remap.proofs.ValueSteps.{pop_typed_rel}
 use Rattle.index_remap.proofs.StepsAgree.{frame_rel, left_rel, enter_rel, give_levels_rel, changed_rel, act_rel}
 
@@ -63,7 +63,7 @@ module _ (R : Pairing) (apart : OneToOneWhereWritten R) (cs ds : List Entry) whe
   give_below us h v (cons e r) needs = give_rel h v e r
 
   pub enter_at_rel : {s t : Store} {a b : ℕ} {vs ws : List Val} {es fs : List Entry} → StoreRel R s t → R.of Functions a b → ¬ R.listed a → ListRel (ValRel R) vs ws → Both s t es fs → ResRel (NextRel R Both) (enter_at s a vs es) (enter_at t b ws fs)
-  enter_at_rel s n free v e = bind_rel (there (s.funcs n free)) (λ _ _ f. done (enter_rel R apart Both Both (λ s t es fs e. e) push s f v e))
+  enter_at_rel s n free v e = bind_found (there (s.funcs n free)) (λ _ _ f. done (enter_rel R apart Both Both (λ s t es fs e. e) push s f v e))
 
   ends_rel : {s t : Store} {f g : Frame} {vs ws : List Val} {es fs : List Entry} → StoreRel R s t → FrameRel R f g → ListRel (ValRel R) vs ws → ListRel (EntryRel R) es fs → NeedsBelow es cs ds (Ends vs) →
       ResRel (NextRel R Both) (perform s f (es ++ cs) (Ends vs)) (perform t g (fs ++ ds) (Ends ws))
@@ -75,7 +75,7 @@ module _ (R : Pairing) (apart : OneToOneWhereWritten R) (cs ds : List Entry) whe
       ResRel (NextRel R Both) (perform s f (es ++ cs) x) (perform t g (fs ++ ds) y)
   perform_free s f (goes c r) e free needs = done (ran (changed_rel R apart s c) (push _ _ _ _ _ _ (running (frame_rel R apart f r)) (above e)))
   perform_free s f (calls n v r) e free needs =
-      bind_eq (same_there (s.types n)) (λ u. bind_rel (pop_typed_rel R u.params v) (λ _ _ p. enter_at_rel s n free p.first (push _ _ _ _ _ _ (running (frame_rel R apart f (left_rel R apart r p.second))) (above e))))
+      bind_is (same_there (s.types n)) (λ u _. bind_rel (pop_typed_rel R u.params v) (λ _ _ p. enter_at_rel s n free p.first (push _ _ _ _ _ _ (running (frame_rel R apart f (left_rel R apart r p.second))) (above e))))
   perform_free s f (asks_grow n r) e free needs = done (asked_grow n s (push _ _ _ _ _ _ (growing n) (push _ _ _ _ _ _ (running (frame_rel R apart f r)) (above e))))
   perform_free s f (ends v) e free needs = ends_rel s f v e needs
 

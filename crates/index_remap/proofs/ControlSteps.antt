@@ -7,14 +7,14 @@ use Rattle.wasm_tree.specs.declared.types.BlockType.{BlockType}
 use Rattle.wasm_tree.specs.declared.instr.Instr.{Instr}
 use Rattle.wasm_tree.specs.declared.instr.Instr.TheVariants as i
 use Rattle.wasm_tree.specs.declared.instr.Instr.TheVariants.{outs-Loop}
-use Rattle.wasm_meaning.specs.Outcomes.{bind, split_at}
+use Rattle.wasm_meaning.specs.Outcomes.{bind, split_at, or_ill_typed}
 use Rattle.wasm_num.specs.Operations.{W32}
 use Rattle.wasm_meaning.specs.State.{RefVal, Val, Inst, Level, Env, Body}
 use Rattle.wasm_meaning.specs.Values.{same_func_type}
 use Rattle.wasm_meaning.specs.Control.{call, func_ref, call_indirect, finish, resume, end_level, level_here, branch, branch_if, branch_table, shape_of, open_level, open_block, open_loop, open_if}
 use Rattle.index_remap.specs.Related
 use Rattle.index_remap.specs.Related.{Pairing, OptRel, none, some, ResRel, done, trap, wrong, ListRel, nil, cons, RefRel, func, extern, ValRel, Names, StoreRel, SameType, BlockRel, empty, value, indexed, OpRel, CodeRel, end, then, instead, TableRel, LevelRel, BodyRel, keep, ActRel, goes, calls, ends}
-use Rattle.index_remap.proofs.Rel.{same_there, bind_rel, bind_eq, cond_rel, cond_two, at_rel, onto_rel, append_rel, past_rel, split_rel, trapping_rel, or_trap_rel}
+use Rattle.index_remap.proofs.Rel.{same_there, bind_rel, cond_rel, cond_two, onto_rel, append_rel, past_rel, split_rel, or_trap_rel, bind_found, bind_is, get_rel}
 use Rattle.index_remap.proofs.ValueSteps.{bind_num, pop_typed_rel, go_rel, values_rel}
 use Rattle.index_remap.proofs.TableSteps.{bind_table}
 
@@ -27,7 +27,7 @@ module _ (R : Pairing) (ev ew : Env) (st : StoreRel R ev.store ew.store) where
   -- ---- calls ----
 
   pub call_rel : {h k : Body} (n m : ℕ) → BodyRel R ev.inst ew.inst h k → Names R.of Functions ev.inst.funcs ew.inst.funcs n m → ResRel (ActRel R ev.inst ew.inst) (call ev h n) (call ew k m)
-  call_rel n m r p = bind_rel p (λ _ _ p. done (calls p r.values r))
+  call_rel n m r p = bind_found p (λ _ _ p. done (calls p r.values r))
 
   func_ref_rel : {x y : RefVal} → RefRel R x y → ResRel (R.of Functions) (func_ref x) (func_ref y)
   func_ref_rel (func p) = or_trap_rel p
@@ -35,7 +35,7 @@ module _ (R : Pairing) (ev ew : Env) (st : StoreRel R ev.store ew.store) where
 
   pub call_indirect_rel : {h k : Body} (s t n m : ℕ) → BodyRel R ev.inst ew.inst h k → SameType ev.inst ew.inst s t → Names R.of Tables ev.inst.tables ew.inst.tables n m → ResRel (ActRel R ev.inst ew.inst) (call_indirect ev h s n) (call_indirect ew k t m)
   call_indirect_rel s t n m r e p =
-      bind_table R ev ew st n m _ _ r p (λ _ _ _ _ _ table. bind_num R W32 _ _ r.values (λ i _ _ v. bind_rel (trapping_rel (at_rel table.slots i)) (λ _ _ x. bind_rel (func_ref_rel x) (λ _ _ q. bind_eq (same_there (st.types q)) (λ f. bind_eq e (λ u.
+      bind_table R ev ew st n m _ _ r p (λ _ _ _ _ _ table. bind_num R W32 _ _ r.values (λ i _ _ v. bind_rel (or_trap_rel (get_rel table.slots i)) (λ _ _ x. bind_rel (func_ref_rel x) (λ _ _ q. bind_is (same_there (st.types q)) (λ f _. bind_is e (λ u _.
       cond_rel (same_func_type u f) (done (calls q v r)) trap))))))
 
   -- ---- ends and branches ----
@@ -50,15 +50,15 @@ module _ (R : Pairing) (ev ew : Env) (st : StoreRel R ev.store ew.store) where
 
   pub end_level_rel : {h k : Body} → BodyRel R ev.inst ew.inst h k → ResRel (ActRel R ev.inst ew.inst) (end_level h) (end_level k)
   end_level_rel {h} {k} r =
-      subst (λ n. ResRel (ActRel R ev.inst ew.inst) (end_level h) (bind (split_at n k.values) (λ p. resume k p.0 [] k.outer))) r.gives
-      (bind_rel (split_rel h.gives r.values) (λ _ _ p. resume_rel r p.first end r.outer))
+      subst (λ n. ResRel (ActRel R ev.inst ew.inst) (end_level h) (bind (or_ill_typed (split_at n k.values)) (λ p. resume k p.0 [] k.outer))) r.gives
+      (bind_found (split_rel h.gives r.values) (λ _ _ p. resume_rel r p.first end r.outer))
 
   level_rel : {h k : Body} → BodyRel R ev.inst ew.inst h k → LevelRel R ev.inst ew.inst (level_here h) (level_here k)
   level_rel r = record { values = r.values; code = r.rest; gives = r.gives; takes = r.takes; back = r.back }
 
   pub branch_rel : {h k : Body} (n : ℕ) → BodyRel R ev.inst ew.inst h k → ResRel (ActRel R ev.inst ew.inst) (branch h n) (branch k n)
   branch_rel n r =
-      bind_rel (at_rel (cons (level_rel r) r.outer) n) (λ l m t. rw t.takes (bind_rel (split_rel m.takes r.values) (λ _ _ p. resume_rel r p.first t.back (past_rel r.outer n))))
+      bind_found (get_rel (cons (level_rel r) r.outer) n) (λ l m t. rw t.takes (bind_found (split_rel m.takes r.values) (λ _ _ p. resume_rel r p.first t.back (past_rel r.outer n))))
 
   pub branch_if_rel : {h k : Body} (n : ℕ) → BodyRel R ev.inst ew.inst h k → ResRel (ActRel R ev.inst ew.inst) (branch_if h n) (branch_if k n)
   branch_if_rel n r =
@@ -79,7 +79,7 @@ module _ (R : Pairing) (ev ew : Env) (st : StoreRel R ev.store ew.store) where
       bind_rel (pop_typed_rel R params v) (λ _ _ p. go_rel R ev ew st (record { locals = r.locals; values = onto_rel p.first nil; rest = c; gives = refl; takes = refl; back = b; outer = cons (level_rel (values_rel R ev ew st r p.second)) r.outer }))
 
   open_block_rel : {h k : Body} {vs ws : List Val} (b e : BlockType) {c d : List Instr} → BodyRel R ev.inst ew.inst h k → ListRel (ValRel R) vs ws → BlockRel ev.inst ew.inst b e → CodeRel R ev.inst ew.inst c d → ResRel (ActRel R ev.inst ew.inst) (open_block ev h vs b c) (open_block ew k ws e d)
-  open_block_rel b e r v p c = bind_eq (shape_rel p) (λ t. open_level_rel t.params (length t.results) (length t.results) r v c end)
+  open_block_rel b e r v p c = bind_is (shape_rel p) (λ t _. open_level_rel t.params (length t.results) (length t.results) r v c end)
 
   pub open_here_rel : {h k : Body} (b e : BlockType) {c d : List Instr} → BodyRel R ev.inst ew.inst h k → BlockRel ev.inst ew.inst b e → CodeRel R ev.inst ew.inst c d → ResRel (ActRel R ev.inst ew.inst) (open_block ev h h.values b c) (open_block ew k k.values e d)
   open_here_rel b e r p c = open_block_rel b e r r.values p c
@@ -89,7 +89,7 @@ module _ (R : Pairing) (ev ew : Env) (st : StoreRel R ev.store ew.store) where
   again_rel b e c d p q = then (rw (outs-Loop b c, outs-Loop e d) (Related.loop p q)) end
 
   pub open_loop_rel : {h k : Body} (b e : BlockType) (c d : List Instr) → BodyRel R ev.inst ew.inst h k → BlockRel ev.inst ew.inst b e → CodeRel R ev.inst ew.inst c d → ResRel (ActRel R ev.inst ew.inst) (open_loop ev h b c) (open_loop ew k e d)
-  open_loop_rel b e c d r p q = bind_eq (shape_rel p) (λ t. open_level_rel t.params (length t.results) (length t.params) r r.values q (again_rel b e c d p q))
+  open_loop_rel b e c d r p q = bind_is (shape_rel p) (λ t _. open_level_rel t.params (length t.results) (length t.params) r r.values q (again_rel b e c d p q))
 
   pub open_if_rel : {h k : Body} (b e : BlockType) (c d f g : List Instr) → BodyRel R ev.inst ew.inst h k → BlockRel ev.inst ew.inst b e → CodeRel R ev.inst ew.inst c d → CodeRel R ev.inst ew.inst f g → ResRel (ActRel R ev.inst ew.inst) (open_if ev h b c f) (open_if ew k e d g)
   open_if_rel {h} {k} b e c d f g r p q s = bind_num R W32 _ _ r.values (λ n _ _ v. open_block_rel b e r v p (cond_two (CodeRel R ev.inst ew.inst) (nat_eq n 0) s q))

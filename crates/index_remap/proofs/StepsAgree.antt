@@ -1,10 +1,10 @@
 -- One step of each agrees.
-use Rattle.std.proofs.Common.{◌≡◌, ℕ, List, [], ◌∷◌, refl, ap, subst, ◌∙◌, true}
+use Rattle.std.proofs.Common.{◌≡◌, ℕ, List, [], ◌∷◌, refl, ap, subst, ◌∙◌, true, Some}
 use Rattle.wasm_tree.specs.declared.space.Space.TheVariants as space
 use Rattle.wasm_tree.specs.declared.types.ValType.{ValType}
 use Rattle.wasm_tree.specs.declared.instr.Instr.{Instr}
 use Rattle.wasm_tree.specs.declared.instr.Instr.TheOpen.{Instr-F}
-use Rattle.wasm_meaning.specs.Outcomes.{Gives, bind, onto}
+use Rattle.wasm_meaning.specs.Outcomes.{Gives, bind, onto, or_ill_typed}
 use Rattle.wasm_tree.specs.declared.types.FuncType.{FuncType}
 use Rattle.wasm_meaning.specs.State.{Val, Func, Store, Change, Level, Frame, Entry, Running, Caller, Mark, Opening, Waiting, Ended, Growing, Growth, Env, Body, Act, Goes, Calls, AsksGrow, Ends}
 use Rattle.wasm_meaning.specs.Control.{type_at, call_address}
@@ -14,12 +14,13 @@ use Rattle.wasm_meaning.specs.Run.{is_mark}
 use Rattle.index_remap.specs.Related
 use Rattle.index_remap.specs.Related.{Pairing, OneToOneWhereWritten, OptRel, none, some, ResRel, done, wrong, ListRel, nil, cons, ValRel, OpRel, CodeRel, end, then, instead, FuncRel, defined, own, slot, TableRel, GlobalRel, ElemRel, StoreRel, LevelRel, FrameRel, EntryRel, mark, opening, waiting, growing, BodyRel, GrowthRel, ChangeRel, keep, set_global, set_memory, set_table, drop_elem, drop_data, ActRel, goes, calls, asks_grow, ends, NextRel, ran, asked, asked_grow, loads, returned, NotListed, TopSkips, NextKnown, TopKnown}
 use Rattle.index_remap.specs.Groups.{Group, Values, Memories, Control, group_of, GroupAgrees}
-use Rattle.index_remap.proofs.Rel.{same_there, bind_rel, bind_is, bind_rel_is, all_at, PairRel, onto_rel, append_rel, write_rel}
+use Rattle.index_remap.proofs.Rel.{same_there, bind_rel, bind_is, bind_rel_is, PairRel, onto_rel, append_rel, write_rel}
 use Rattle.index_remap.proofs.ValueSteps.{Fits, pop_typed_all, pop_typed_rel, zeros_rel}
 use Rattle.index_remap.proofs.ControlSteps.{end_level_rel}
 use Rattle.index_remap.proofs.ValueGroup.{values_agree}
 use Rattle.index_remap.proofs.MemoryGroup.{memories_agree}
 use Rattle.index_remap.proofs.ControlGroup.{control_agrees}
+use Rattle.wasm_meaning.proofs.Outcomes.{all_at}
 
 -- the laws of the three groups, joined
 each_group : (g : Group) → GroupAgrees g
@@ -43,7 +44,7 @@ module _ (R : Pairing) (ev ew : Env) (st : StoreRel R ev.store ew.store) where
   step_code_rel r (then o c) f u = exec_rel (record { locals = r.locals; values = r.values; rest = c; gives = r.gives; takes = r.takes; back = r.back; outer = r.outer }) (u o)
   step_code_rel {h} r (instead {a = a} {c = c} x p e l _) f u =
       let called : Body = record h { rest = c } in
-      absurd (f (Calls a h.values called) (ap (λ o. exec o ev called) p ∙ ap (λ found. bind found (call_address called)) e) l)
+      absurd (f (Calls a h.values called) (ap (λ o. exec o ev called) p ∙ ap (λ found. bind (or_ill_typed found) (call_address called)) e) l)
 
   pub step_levels_rel : {vs ws : List Val} {ls ms : List Level} → ListRel (ValRel R) vs ws → ListRel (LevelRel R ev.inst ew.inst) ls ms → ((x : Act) → step_levels ev vs ls ≡ Gives x → NotListed R x) → TopKnown R ev.inst ew.inst ls ms → ResRel (ActRel R ev.inst ew.inst) (step_levels ev vs ls) (step_levels ew ws ms)
   step_levels_rel v nil free u = wrong
@@ -135,7 +136,7 @@ module _ (R : Pairing) (apart : OneToOneWhereWritten R) where
     pub marks : {s t : Store} {es fs : List Entry} → B s t es fs → ResRel (PairRel (◌≡◌ {A = Caller}) (C s t)) (to_mark es) (to_mark fs)
     pub marked : {s t : Store} {es fs : List Entry} → C s t es fs → is_mark es ≡ is_mark fs
     pub gives : {s t : Store} {vs ws : List Val} {es fs : List Entry} → StoreRel R s t → ListRel (ValRel R) vs ws → C s t es fs → ResRel (NextRel R B) (give s vs es) (give t ws fs)
-    pub enters : {s t : Store} {a b : ℕ} {u : FuncType} {vs ws : List Val} {es fs : List Entry} → StoreRel R s t → R.of space.Functions a b → type_at s a ≡ Gives u → Fits u.params vs → ListRel (ValRel R) vs ws → C s t es fs → ResRel (NextRel R B) (enter_at s a vs es) (enter_at t b ws fs)
+    pub enters : {s t : Store} {a b : ℕ} {u : FuncType} {vs ws : List Val} {es fs : List Entry} → StoreRel R s t → R.of space.Functions a b → type_at s a ≡ Some u → Fits u.params vs → ListRel (ValRel R) vs ws → C s t es fs → ResRel (NextRel R B) (enter_at s a vs es) (enter_at t b ws fs)
 
   module _ (B C : Store → Store → List Entry → List Entry → Type 0) (steady : (s t : Store) (es fs : List Entry) → C s t es fs → B s t es fs) (push : (s t : Store) (e f : Entry) (es fs : List Entry) → EntryRel R e f → C s t es fs → B s t (e ∷ es) (f ∷ fs)) where
     pub enter_rel : {s t : Store} {f g : Func} {vs ws : List Val} {es fs : List Entry} → StoreRel R s t → FuncRel R f g → ListRel (ValRel R) vs ws → C s t es fs → NextRel R B (enter s f vs es) (enter t g ws fs)

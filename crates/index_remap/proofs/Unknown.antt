@@ -1,11 +1,10 @@
 -- Stores that are related off a set of unknown places.
-use Rattle.std.proofs.Common.{◌≡◌, ◌∙◌, refl, sym, ap, subst, ℕ, suc, List, [], ◌∷◌, length, Some, Bool, true, false, cond, not, ◌⊎◌, inl, inr, slice_get, slice_set, arith}
+use Rattle.std.proofs.Common.{◌≡◌, ◌∙◌, refl, sym, ap, subst, ℕ, suc, List, [], ◌∷◌, length, Some, Bool, true, false, cond, not, ◌⊎◌, inl, inr, slice_get, slice_set, arith, Option, option_and_then}
 use native.Mathlib.Decide.{ℕ_discrete}
 use Rattle.std.specs.Prelude.{nat_eq, ◌||◌}
 use Rattle.std.specs.List.{filter}
 use Rattle.std.proofs.lemmas.Bool.Decides.{eqb_tells}
 use Rattle.wasm_tree.specs.declared.space.Space.TheVariants.{Globals}
-use Rattle.wasm_meaning.specs.Outcomes.{Outcome, Gives, bind, at}
 use Rattle.wasm_meaning.specs.State.{RefVal, Val, Global, Store, SetGlobal}
 use Rattle.wasm_meaning.specs.Step.{changed}
 use Rattle.index_remap.specs.Related.{Pairing, OneToOneWhereWritten, OptRel, some, BothRel, both, ListRel, nil, cons, RefRel, ValRel, StoreRel}
@@ -14,7 +13,7 @@ use Rattle.index_remap.specs.Laws.{passed}
 use Rattle.index_remap.specs.Unknown.{Unknowns, none_unknown, GlobalOff, RefsOff, StoreRelOff, learnt, NothingUnknown, SetGlobalsAreKnown}
 use Rattle.index_remap.proofs.Rel.{get_rel, length_rel, at_put_here, at_put_there}
 
-both_map : {A B : Type 0} {P Q : A → B → Type 0} {o : Outcome A} {p : Outcome B} → ((a : A) (b : B) → P a b → Q a b) → BothRel P o p → BothRel Q o p
+both_map : {A B : Type 0} {P Q : A → B → Type 0} {o : Option A} {p : Option B} → ((a : A) (b : B) → P a b → Q a b) → BothRel P o p → BothRel Q o p
 both_map f (both r) = both (f _ _ r)
 
 -- ---- nothing is unknown ----
@@ -87,35 +86,35 @@ still_among (x ∷ xs) a c n = go (eqb_tells x a) (still_among xs a c n)
     go (inl h) more = tests (nat_eq x a) ∙ ap (λ b. cond b (is_among (without xs a) c) (nat_eq c x || is_among (without xs a) c)) h.0 ∙ more ∙ ap (λ b. b || is_among xs c) (sym (other h.1))
     go (inr h) more = tests (nat_eq x a) ∙ ap (λ b. cond b (is_among (without xs a) c) (nat_eq c x || is_among (without xs a) c)) h.0 ∙ ap (λ y. nat_eq c x || y) more
 
-module _ (R : Pairing) (apart : OneToOneWhereWritten R) (u : Unknowns) (s t : Store) (a b : ℕ) (g h : Global) (v w : Val) (r : StoreRelOff R u s t) (n : R.of Globals a b) (at_g : at s.globals a ≡ Gives g) (at_h : at t.globals b ≡ Gives h) (values : ValRel R v w) where
+module _ (R : Pairing) (apart : OneToOneWhereWritten R) (u : Unknowns) (s t : Store) (a b : ℕ) (g h : Global) (v w : Val) (r : StoreRelOff R u s t) (n : R.of Globals a b) (at_g : slice_get s.globals a ≡ Some g) (at_h : slice_get t.globals b ≡ Some h) (values : ValRel R v w) where
   abbrev first : List Global
   first = slice_set s.globals a (record g { value = v })
 
   abbrev second : List Global
   second = slice_set t.globals b (record h { value = w })
 
-  same_type : BothRel (GlobalOff R (not (is_among u.globals a))) (at s.globals a) (at t.globals b) → g.ty ≡ h.ty
-  same_type x = go (subst (BothRel (GlobalOff R (not (is_among u.globals a))) (at s.globals a)) at_h x)
+  same_type : BothRel (GlobalOff R (not (is_among u.globals a))) (slice_get s.globals a) (slice_get t.globals b) → g.ty ≡ h.ty
+  same_type x = go (subst (BothRel (GlobalOff R (not (is_among u.globals a))) (slice_get s.globals a)) at_h x)
     where
-      inner : BothRel (GlobalOff R (not (is_among u.globals a))) (Gives g) (Gives h) → g.ty ≡ h.ty
+      inner : BothRel (GlobalOff R (not (is_among u.globals a))) (Some g) (Some h) → g.ty ≡ h.ty
       inner (both y) = y.type
 
-      go : BothRel (GlobalOff R (not (is_among u.globals a))) (at s.globals a) (Gives h) → g.ty ≡ h.ty
-      go y = inner (subst (λ o. BothRel (GlobalOff R (not (is_among u.globals a))) o (Gives h)) at_g y)
+      go : BothRel (GlobalOff R (not (is_among u.globals a))) (slice_get s.globals a) (Some h) → g.ty ≡ h.ty
+      go y = inner (subst (λ o. BothRel (GlobalOff R (not (is_among u.globals a))) o (Some h)) at_g y)
 
-  globals_off : (c d : ℕ) → R.of Globals c d → BothRel (GlobalOff R (not (is_among (without u.globals a) c))) (at first c) (at second d)
+  globals_off : (c d : ℕ) → R.of Globals c d → BothRel (GlobalOff R (not (is_among (without u.globals a) c))) (slice_get first c) (slice_get second d)
   globals_off c d m = go (ℕ_discrete a c) (ℕ_discrete b d)
     where
-      go : Dec (a ≡ c) → Dec (b ≡ d) → BothRel (GlobalOff R (not (is_among (without u.globals a) c))) (at first c) (at second d)
+      go : Dec (a ≡ c) → Dec (b ≡ d) → BothRel (GlobalOff R (not (is_among (without u.globals a) c))) (slice_get first c) (slice_get second d)
       go (yes e) (yes f) =
-          let left : at first c ≡ Gives (record g { value = v }) = ap (at first) (sym e) ∙ at_put_here s.globals a (record g { value = v }) ∙ ap (λ o. bind o (λ old. Gives (record g { value = v }))) at_g in
-          let right : at second d ≡ Gives (record h { value = w }) = ap (at second) (sym f) ∙ at_put_here t.globals b (record h { value = w }) ∙ ap (λ o. bind o (λ old. Gives (record h { value = w }))) at_h in
-          subst (λ o. BothRel (GlobalOff R (not (is_among (without u.globals a) c))) o (at second d)) (sym left)
-          (subst (BothRel (GlobalOff R (not (is_among (without u.globals a) c))) (Gives (record g { value = v }))) (sym right) (both (record { type = same_type (r.globals n); value = λ _. values })))
+          let left : slice_get first c ≡ Some (record g { value = v }) = ap (slice_get first) (sym e) ∙ at_put_here s.globals a (record g { value = v }) ∙ ap (option_and_then (λ old. Some (record g { value = v }))) at_g in
+          let right : slice_get second d ≡ Some (record h { value = w }) = ap (slice_get second) (sym f) ∙ at_put_here t.globals b (record h { value = w }) ∙ ap (option_and_then (λ old. Some (record h { value = w }))) at_h in
+          subst (λ o. BothRel (GlobalOff R (not (is_among (without u.globals a) c))) o (slice_get second d)) (sym left)
+          (subst (BothRel (GlobalOff R (not (is_among (without u.globals a) c))) (Some (record g { value = v }))) (sym right) (both (record { type = same_type (r.globals n); value = λ _. values })))
       go (yes e) (no f) = absurd (f (apart.right {k = Globals} refl a b d n (subst (λ x. R.of Globals x d) (sym e) m)))
       go (no e) (yes f) = absurd (e (apart.left {k = Globals} refl a c b n (subst (λ x. R.of Globals c x) (sym f) m)))
       go (no e) (no f) =
-          rw (at_put_there s.globals a c (record g { value = v }) e, at_put_there t.globals b d (record h { value = w }) f) (subst (λ k. BothRel (GlobalOff R (not k)) (at s.globals c) (at t.globals d)) (sym (still_among u.globals a c e)) (r.globals m))
+          rw (at_put_there s.globals a c (record g { value = v }) e, at_put_there t.globals b d (record h { value = w }) f) (subst (λ k. BothRel (GlobalOff R (not k)) (slice_get s.globals c) (slice_get t.globals d)) (sym (still_among u.globals a c e)) (r.globals m))
 
   off_again : StoreRelOff R (learnt u a) (changed s (SetGlobal a (record g { value = v }))) (changed t (SetGlobal b (record h { value = w })))
   off_again = record { types = r.types; owns = r.owns; funcs = r.funcs; tables = r.tables; mems = r.mems; globals = λ {a = c} {b = d} m. globals_off c d m; elems = r.elems; datas = r.datas }

@@ -12,7 +12,8 @@ use Rattle.wasm_num.specs.Operations.{Width, W32, W64, un_from, bin_from, bin_va
 use Rattle.wasm_meaning.specs.State.{RefVal, Val, Num, Global, Env, Body}
 use Rattle.wasm_meaning.specs.Values.{type_of_ref, type_of, same_type, pop, pop_num, pop_ref, typed, pop_typed, null_of, zero_of, zeros, unary, binary, is_null, ref_is_null, is_number, select_of, second_type, select_any, select_typed, go, with_values, on_values, pushes, local_get, local_put, local_set, local_tee, global_get, global_put, global_set, ref_func}
 use Rattle.index_remap.specs.Related.{Pairing, none, some, ResRel, done, wrong, ListRel, nil, cons, RefRel, func, extern, ValRel, number, reference, Names, GlobalRel, StoreRel, BodyRel, keep, set_global, ActRel, goes}
-use Rattle.index_remap.proofs.Rel.{there, bind_rel, bind_same, bind_eq, cond_rel, cond_two, PairRel, at_rel, put_rel, OptAll, just, bind_all, any}
+use Rattle.index_remap.proofs.Rel.{there, bind_rel, bind_same, bind_eq, cond_rel, cond_two, PairRel, put_rel, bind_all, any, bind_found, get_rel}
+use Rattle.wasm_meaning.proofs.Outcomes.{AllOf, just}
 
 -- each value has its type
 abbrev pub Fits : List ValType → List Val → Type 0
@@ -25,7 +26,7 @@ typed_is t v w e = go (same_type t (type_of v)) refl e
     go true q f = let h : v ≡ w = cc f in subst (λ x. cond (same_type t (type_of x)) (Gives x) IllTyped ≡ Gives x) h (ap (λ b. cond b (Gives v) IllTyped) q)
     go false q f = cc f
 
-pub pop_typed_all : (ts : List ValType) (vs : List Val) → OptAll (λ p. Fits ts p.0) (pop_typed ts vs)
+pub pop_typed_all : (ts : List ValType) (vs : List Val) → AllOf (λ p. Fits ts p.0) (pop_typed ts vs)
 pop_typed_all [] vs = just nil
 pop_typed_all (t ∷ ts) vs =
     bind_all (pop_typed_all ts vs) (λ p _ r. bind_all (any (pop p.1)) (λ q _ _. bind_all (any (typed t q.0)) (λ v e _. just (cons (typed_is t q.0 v e) r))))
@@ -136,11 +137,11 @@ module _ (R : Pairing) (ev ew : Env) (st : StoreRel R ev.store ew.store) where
   -- ---- locals and globals ----
 
   pub local_get_rel : {h k : Body} (i : ℕ) → BodyRel R ev.inst ew.inst h k → ResRel (ActRel R ev.inst ew.inst) (local_get h i) (local_get k i)
-  local_get_rel i r = bind_rel (at_rel r.locals i) (λ _ _ v. pushes_rel r v)
+  local_get_rel i r = bind_found (get_rel r.locals i) (λ _ _ v. pushes_rel r v)
 
   local_put_rel : {h k : Body} {v w : Val} (i : ℕ) → BodyRel R ev.inst ew.inst h k → ValRel R v w → ResRel (ActRel R ev.inst ew.inst) (local_put h i v) (local_put k i w)
   local_put_rel i r q =
-      bind_rel (at_rel r.locals i) (λ a b old. rw (type_rel R old) (bind_rel (typed_rel R (type_of b) q) (λ _ _ new.
+      bind_found (get_rel r.locals i) (λ a b old. rw (type_rel R old) (bind_rel (typed_rel R (type_of b) q) (λ _ _ new.
       go_rel (record { locals = put_rel r.locals i new; values = r.values; rest = r.rest; gives = r.gives; takes = r.takes; back = r.back; outer = r.outer }))))
 
   pub local_set_rel : {h k : Body} (i : ℕ) → BodyRel R ev.inst ew.inst h k → ResRel (ActRel R ev.inst ew.inst) (local_set h i) (local_set k i)
@@ -150,7 +151,7 @@ module _ (R : Pairing) (ev ew : Env) (st : StoreRel R ev.store ew.store) where
   local_tee_rel i r = bind_rel (pop_rel R r.values) (λ _ _ p. local_put_rel i r p.first)
 
   pub global_get_rel : {h k : Body} (n m : ℕ) → BodyRel R ev.inst ew.inst h k → Names R.of Globals ev.inst.globals ew.inst.globals n m → ResRel (ActRel R ev.inst ew.inst) (global_get ev h n) (global_get ew k m)
-  global_get_rel n m r p = bind_rel p (λ _ _ p. bind_rel (there (st.globals p)) (λ _ _ g. pushes_rel r g.value))
+  global_get_rel n m r p = bind_found p (λ _ _ p. bind_found (there (st.globals p)) (λ _ _ g. pushes_rel r g.value))
 
   global_put_rel : {h k : Body} {v w : Val} {a b : ℕ} {g e : Global} → R.of Globals a b → GlobalRel R g e → BodyRel R ev.inst ew.inst h k → ValRel R v w → ResRel (ActRel R ev.inst ew.inst) (global_put h a g v) (global_put k b e w)
   global_put_rel {e = e} n q r v =
@@ -158,7 +159,7 @@ module _ (R : Pairing) (ev ew : Env) (st : StoreRel R ev.store ew.store) where
 
   pub global_set_rel : {h k : Body} (n m : ℕ) → BodyRel R ev.inst ew.inst h k → Names R.of Globals ev.inst.globals ew.inst.globals n m → ResRel (ActRel R ev.inst ew.inst) (global_set ev h n) (global_set ew k m)
   global_set_rel n m r p =
-      bind_rel p (λ _ _ p. bind_rel (there (st.globals p)) (λ _ _ g. bind_rel (pop_rel R r.values) (λ _ _ v. global_put_rel p g (values_rel r v.second) v.first)))
+      bind_found p (λ _ _ p. bind_found (there (st.globals p)) (λ _ _ g. bind_rel (pop_rel R r.values) (λ _ _ v. global_put_rel p g (values_rel r v.second) v.first)))
 
   pub ref_func_rel : {h k : Body} (n m : ℕ) → BodyRel R ev.inst ew.inst h k → Names R.of Functions ev.inst.funcs ew.inst.funcs n m → ResRel (ActRel R ev.inst ew.inst) (ref_func ev h n) (ref_func ew k m)
-  ref_func_rel n m r p = bind_rel p (λ _ _ p. pushes_rel r (reference (func (some p))))
+  ref_func_rel n m r p = bind_found p (λ _ _ p. pushes_rel r (reference (func (some p))))

@@ -1,12 +1,11 @@
 -- Places of a store of which nothing is known, beside a relation of addresses: whatever stands there, it need not be related. What is imported is no such place:
 -- it has an address that code may name as one in both stores, and is not related.
-use Rattle.std.proofs.Common.{◌≡◌, ℕ, List, [], length, Bool, true, not, slice_get}
+use Rattle.std.proofs.Common.{◌≡◌, ℕ, List, [], length, Bool, true, not, slice_get, Some}
 use Rattle.std.specs.Prelude.{nat_eq, ◌↔◌, ◌&&◌}
 use Rattle.std.specs.List.{list_any, filter}
 use Rattle.wasm_tree.specs.declared.space.Space.{Space}
 use Rattle.wasm_tree.specs.declared.space.Space.TheVariants.{Functions, Tables, Memories, Globals, ElementSegments, DataSegments}
 use Rattle.wasm_tree.specs.declared.types.FuncType.{FuncType}
-use Rattle.wasm_meaning.specs.Outcomes.{Gives, at}
 use Rattle.wasm_meaning.specs.State.{Val, RefVal, Table, Global, Store, SetGlobal}
 use Rattle.wasm_meaning.specs.Control.{type_at, own_at}
 use Rattle.wasm_meaning.specs.Step.{changed}
@@ -46,12 +45,12 @@ pub record TableOff (R : Pairing) (known : ℕ → Bool) (t u : Table) : Type 0 
 pub record StoreRelOff (R : Pairing) (u : Unknowns) (s t : Store) : Type 0 where
   pub types : {a b : ℕ} → R.of Functions a b → BothRel (◌≡◌ {A = FuncType}) (type_at s a) (type_at t b)
   pub owns : {a b : ℕ} → R.of Functions a b → own_at s a ≡ own_at t b
-  pub funcs : {a b : ℕ} → R.of Functions a b → ¬ R.listed a → BothRel (FuncRel R) (at s.funcs a) (at t.funcs b)
-  pub tables : {a b : ℕ} → R.of Tables a b → BothRel (TableOff R (λ n. not (is_place_among u.slots a n))) (at s.tables a) (at t.tables b)
-  pub mems : {a b : ℕ} → R.of Memories a b → BothRel (λ m n. m ≡ n) (at s.mems a) (at t.mems b)
-  pub globals : {a b : ℕ} → R.of Globals a b → BothRel (GlobalOff R (not (is_among u.globals a))) (at s.globals a) (at t.globals b)
-  pub elems : {a b : ℕ} → R.of ElementSegments a b → BothRel (λ e f. RefsOff R (λ n. not (is_place_among u.items a n)) e.items f.items) (at s.elems a) (at t.elems b)
-  pub datas : {a b : ℕ} → R.of DataSegments a b → BothRel (λ d e. d.bytes ≡ e.bytes) (at s.datas a) (at t.datas b)
+  pub funcs : {a b : ℕ} → R.of Functions a b → ¬ R.listed a → BothRel (FuncRel R) (slice_get s.funcs a) (slice_get t.funcs b)
+  pub tables : {a b : ℕ} → R.of Tables a b → BothRel (TableOff R (λ n. not (is_place_among u.slots a n))) (slice_get s.tables a) (slice_get t.tables b)
+  pub mems : {a b : ℕ} → R.of Memories a b → BothRel (λ m n. m ≡ n) (slice_get s.mems a) (slice_get t.mems b)
+  pub globals : {a b : ℕ} → R.of Globals a b → BothRel (GlobalOff R (not (is_among u.globals a))) (slice_get s.globals a) (slice_get t.globals b)
+  pub elems : {a b : ℕ} → R.of ElementSegments a b → BothRel (λ e f. RefsOff R (λ n. not (is_place_among u.items a n)) e.items f.items) (slice_get s.elems a) (slice_get t.elems b)
+  pub datas : {a b : ℕ} → R.of DataSegments a b → BothRel (λ d e. d.bytes ≡ e.bytes) (slice_get s.datas a) (slice_get t.datas b)
 
 -- a global that is set is known from then on
 abbrev pub learnt : Unknowns → (address : ℕ) → Unknowns
@@ -68,5 +67,5 @@ NothingUnknown =
 abbrev pub SetGlobalsAreKnown : Type 0
 SetGlobalsAreKnown =
     (of named : Space → ℕ → ℕ → Bool) (l : List ℕ) → OneToOneWhereWritten (passed of named l) → (u : Unknowns) (s t : Store) (a b : ℕ) (g h : Global) (v w : Val) →
-    StoreRelOff (passed of named l) u s t → (passed of named l).of Globals a b → at s.globals a ≡ Gives g → at t.globals b ≡ Gives h → ValRel (passed of named l) v w →
+    StoreRelOff (passed of named l) u s t → (passed of named l).of Globals a b → slice_get s.globals a ≡ Some g → slice_get t.globals b ≡ Some h → ValRel (passed of named l) v w →
     StoreRelOff (passed of named l) (learnt u a) (changed s (SetGlobal a (record g { value = v }))) (changed t (SetGlobal b (record h { value = w })))

@@ -12,4 +12,5 @@ pub mod Walks
 pub mod Linked
 mod Below
 pub mod Slices
+pub mod Outcomes
 mod Touches

@@ -14,16 +14,16 @@ use Rattle.wasm_tree.specs.declared.module.ElemSeg.{ElemSeg}
 use Rattle.wasm_tree.specs.declared.module.ElemMode.{ElemMode}
 use Rattle.wasm_tree.specs.declared.module.ElemMode.TheVariants as elem
 use Rattle.wasm_tree.specs.declared.module.Module.{Module}
-use Rattle.wasm_meaning.specs.Outcomes.{Gives, at, copies}
+use Rattle.wasm_meaning.specs.Outcomes.{copies}
 use Rattle.wasm_meaning.specs.State.{RefVal, Val, Num, Ref, Inst, Func, Code, Own, Table, Global, Elem, Store}
 use Rattle.wasm_meaning.specs.Values.{null_of, ref_of}
 use Rattle.wasm_meaning.specs.Linking.{Part}
 use Rattle.wasm_meaning.specs.Environment.{Environment}
-use Rattle.wasm_meaning.specs.World.{given, all_there, new_func, global_with, new_elem, elem_with, store_with, const_value}
+use Rattle.wasm_meaning.specs.World.{all_there, new_func, global_with, new_elem, elem_with, store_with, const_value}
 use Rattle.index_remap.specs.Related.{Pairing, none, some, ListRel, nil, cons, RefRel, func, extern, ValRel, number, reference, FuncRel, defined, own, TableRel, GlobalRel, ElemRel}
 use Rattle.index_remap.specs.Laws.{NamesItself, CodeIsRelatedToItself}
 use Rattle.index_remap.proofs.Rel.{copies_rel}
-use Rattle.worlds_in_turn.proofs.Things.{space_in, at_place}
+use Rattle.worlds_in_turn.proofs.Things.{space_in}
 use Rattle.worlds_in_turn.proofs.Reached.{count_upto, is_reached, reaching, reached_at}
 use Rattle.base_lists.proofs.Options.{and_then_is}
 use Rattle.std.proofs.lemmas.Option.{same_Some}
@@ -54,7 +54,7 @@ module _ (R Q : Pairing) (more : (k : Space) (a b : ℕ) → R.of k a b → Q.of
   elem_more e f r = record { items = list_more (λ _ _ p. ref_more p) r.items }
 
 -- a list whose elements are related to themselves
-pub self_by : {A : Type 0} {P : A → A → Type 0} (xs : List A) → ((n : ℕ) (x : A) → at xs n ≡ Gives x → P x x) → ListRel P xs xs
+pub self_by : {A : Type 0} {P : A → A → Type 0} (xs : List A) → ((n : ℕ) (x : A) → slice_get xs n ≡ Some x → P x x) → ListRel P xs xs
 self_by [] h = nil
 self_by (x ∷ xs) h = cons (h 0 x refl) (self_by xs (λ n x e. h (suc n) x e))
 
@@ -95,12 +95,12 @@ pub record Reaches (env : Environment) (parts : List Part) (p : ℕ) (i : Inst) 
 
 pub names_itself : (env : Environment) (parts : List Part) (p : ℕ) (i : Inst) → Reaches env parts p i → NamesItself (reaching env parts p) i
 names_itself env parts p i r = record {
-  funcs = λ n a e. reached_at env parts p Functions a (r.spaces Functions n a (at_place i.funcs n a e));
-  tables = λ n a e. reached_at env parts p Tables a (r.spaces Tables n a (at_place i.tables n a e));
-  mems = λ n a e. reached_at env parts p Memories a (r.spaces Memories n a (at_place i.mems n a e));
-  globals = λ n a e. reached_at env parts p Globals a (r.spaces Globals n a (at_place i.globals n a e));
-  elems = λ n a e. reached_at env parts p ElementSegments a (r.elems n a (at_place i.elems n a e));
-  datas = λ n a e. reached_at env parts p DataSegments a (r.datas n a (at_place i.datas n a e));
+  funcs = λ n a e. reached_at env parts p Functions a (r.spaces Functions n a e);
+  tables = λ n a e. reached_at env parts p Tables a (r.spaces Tables n a e);
+  mems = λ n a e. reached_at env parts p Memories a (r.spaces Memories n a e);
+  globals = λ n a e. reached_at env parts p Globals a (r.spaces Globals n a e);
+  elems = λ n a e. reached_at env parts p ElementSegments a (r.elems n a e);
+  datas = λ n a e. reached_at env parts p DataSegments a (r.datas n a e);
 }
 
 -- functions of the environment's own, and code over an instance that reaches no further
@@ -133,19 +133,19 @@ module _ (law : CodeIsRelatedToItself) (env : Environment) (parts : List Part) (
       let v = and_then_is (const_value globals i g.init) _ h e in
       subst (λ h. GlobalRel (reaching env parts p) h h) (same_Some _ _ v.2) (record { type = refl; value = value_self g.init v.0 v.1 })
 
-  item_self : (e : ConstExpr) (r : RefVal) → option_and_then (λ v. given (ref_of v)) (const_value globals i e) ≡ Some r → RefRel (reaching env parts p) r r
+  item_self : (e : ConstExpr) (r : RefVal) → option_and_then ref_of (const_value globals i e) ≡ Some r → RefRel (reaching env parts p) r r
   item_self e r h =
       let v = and_then_is (const_value globals i e) _ r h in
       go v.0 (value_self e v.0 v.1) v.2
     where
-      go : (v : Val) → ValRel (reaching env parts p) v v → given (ref_of v) ≡ Some r → RefRel (reaching env parts p) r r
+      go : (v : Val) → ValRel (reaching env parts p) v v → ref_of v ≡ Some r → RefRel (reaching env parts p) r r
       go (Num w n) k h = cc
       go (Ref s) (reference k) h = subst (λ r. RefRel (reaching env parts p) r r) (same_Some _ _ h) k
 
   elem_self : (s : ElemSeg) (e : Elem) → elem_with (const_value globals i) s ≡ Some e → ElemRel (reaching env parts p) e e
   elem_self s e h =
-      let a = and_then_is (all_there (λ x. option_and_then (λ v. given (ref_of v)) (const_value globals i x)) s.items) _ e h in
-      subst (λ e. ElemRel (reaching env parts p) e e) (same_Some _ _ a.2) (go s.mode (all_self (λ x. option_and_then (λ v. given (ref_of v)) (const_value globals i x)) s.items a.0 a.1 item_self))
+      let a = and_then_is (all_there (λ x. option_and_then ref_of (const_value globals i x)) s.items) _ e h in
+      subst (λ e. ElemRel (reaching env parts p) e e) (same_Some _ _ a.2) (go s.mode (all_self (λ x. option_and_then ref_of (const_value globals i x)) s.items a.0 a.1 item_self))
     where
       go : (mode : ElemMode) {items : List RefVal} → ListRel (RefRel (reaching env parts p)) items items → ElemRel (reaching env parts p) (new_elem mode items) (new_elem mode items)
       go (elem.Active x y) k = record { items = k }

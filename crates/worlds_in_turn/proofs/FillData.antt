@@ -1,23 +1,23 @@
 -- Active segments of data are a matter of memories and of segments of data alone.
-use Rattle.std.proofs.Common.{◌≡◌, ◌∙◌, refl, ap, ℕ, suc, ◌<◌, List, [], ◌∷◌, map, Option, Some, true, false, cond, option_and_then, slice_get, slice_set}
+use Rattle.std.proofs.Common.{◌≡◌, ◌∙◌, refl, ap, ℕ, suc, ◌<◌, List, [], ◌∷◌, map, Option, Some, true, false, cond, option_and_then, slice_get, slice_set, None}
 use Rattle.wasm_tree.specs.declared.module.ConstExpr.{ConstExpr}
 use Rattle.wasm_tree.specs.declared.module.DataSeg.{DataSeg}
 use Rattle.wasm_tree.specs.declared.module.DataMode.{DataMode}
 use Rattle.wasm_tree.specs.declared.module.DataMode.TheVariants as data'
 use Rattle.wasm_num.specs.Operations.{W32}
-use Rattle.wasm_meaning.specs.Outcomes.{Outcome, Gives, Traps, IllTyped, overwrite}
+use Rattle.wasm_meaning.specs.Outcomes.{overwrite}
 use Rattle.wasm_meaning.specs.State.{Val, Inst, Memory, Data, Store}
 use Rattle.wasm_meaning.specs.Values.{num_of}
 use Rattle.wasm_meaning.specs.Step.{no_bytes}
 use Rattle.wasm_meaning.specs.Environment.{any_of}
-use Rattle.wasm_meaning.specs.World.{Filled, Task, given, tasks_in, fill_memory, run_data_with, and_then, in_turn}
+use Rattle.wasm_meaning.specs.World.{Filled, Task, tasks_in, fill_memory, run_data_with, and_then, in_turn}
 use Rattle.wasm_meaning.specs.InTurn.{is_active_data}
 use Rattle.worlds_in_turn.proofs.FillRuns.{Job, Skip, Fill, run, runs, LowJob, low_skip, low_fill, LowJobs, low_none, low_more, Kept, kept_skip, kept_fill, KeptAll, kept_none, kept_more}
 use Rattle.worlds_in_turn.proofs.FillTurns.{Turned, goes_on, stops, or_turned}
 use Rattle.base_lists.proofs.Options.{and_then_is}
 
 abbrev pub memory_fill : Memory → Data → ℕ → Option Memory
-memory_fill t e n = option_and_then (λ bytes. Some (record t { bytes = bytes })) (given (overwrite t.bytes n e.bytes))
+memory_fill t e n = option_and_then (λ bytes. Some (record t { bytes = bytes })) (overwrite t.bytes n e.bytes)
 
 abbrev pub with_memories : Store → List Memory × List Data → Store
 with_memories s c = record s { mems = c.0; datas = c.1 }
@@ -26,7 +26,7 @@ abbrev pub data_runs : List Job → List Memory × List Data → Option (List Me
 data_runs = runs Memory Data memory_fill no_bytes
 
 abbrev pub data_job : (ConstExpr → Option Val) → Inst → ℕ → DataMode → Job
-data_job value i n (data'.Active x offset) = Fill n (slice_get i.mems x) (option_and_then (λ v. given (num_of W32 v)) (value offset))
+data_job value i n (data'.Active x offset) = Fill n (slice_get i.mems x) (option_and_then (num_of W32) (value offset))
 data_job value i n data'.Passive = Skip
 
 abbrev pub data_jobs : (ConstExpr → Option Val) → Inst → List ℕ → List DataSeg → List Job
@@ -42,12 +42,11 @@ data_turn value s task = run_data_with (value task.part) s task task.segment.mod
 data_turned_one : (value : ConstExpr → Option Val) (s : Store) (task : Task DataSeg) (mode : DataMode) → Turned (with_memories s) (run Memory Data memory_fill no_bytes (data_job value task.inst task.address mode) (s.mems, s.datas)) (run_data_with value s task mode)
 data_turned_one value s task data'.Passive = goes_on
 data_turned_one value s task (data'.Active x offset) =
-    or_turned (with_memories s) s (option_and_then (λ v. given (num_of W32 v)) (value offset)) _ _ (λ n. or_turned (with_memories s) s (slice_get task.inst.mems x) _ _ (λ a. or_turned (with_memories s) s (slice_get s.mems a) _ _ (λ t. or_turned (with_memories s) s (slice_get s.datas task.address) _ _ (λ e. last a t (overwrite t.bytes n e.bytes)))))
+    or_turned (with_memories s) s (option_and_then (num_of W32) (value offset)) _ _ (λ n. or_turned (with_memories s) s (slice_get task.inst.mems x) _ _ (λ a. or_turned (with_memories s) s (slice_get s.mems a) _ _ (λ t. or_turned (with_memories s) s (slice_get s.datas task.address) _ _ (λ e. last a t (overwrite t.bytes n e.bytes)))))
   where
-    last : (a : ℕ) (t : Memory) (o : Outcome (List ℕ)) → Turned (with_memories s) (option_and_then (λ z. Some (slice_set s.mems a z, slice_set s.datas task.address no_bytes)) (option_and_then (λ bytes. Some (record t { bytes = bytes })) (given o))) (fill_memory s task.address a t o)
-    last a t (Gives bytes) = goes_on
-    last a t Traps = stops
-    last a t IllTyped = stops
+    last : (a : ℕ) (t : Memory) (o : Option (List ℕ)) → Turned (with_memories s) (option_and_then (λ z. Some (slice_set s.mems a z, slice_set s.datas task.address no_bytes)) (option_and_then (λ bytes. Some (record t { bytes = bytes })) o)) (fill_memory s task.address a t o)
+    last a t (Some bytes) = goes_on
+    last a t None = stops
 
 pub datas_turned : (value : ℕ → ConstExpr → Option Val) (tasks : List (Task DataSeg)) (s : Store) → Turned (with_memories s) (data_runs (map (data_task_job value) tasks) (s.mems, s.datas)) (in_turn (data_turn value) s tasks)
 datas_turned value [] s = goes_on
@@ -87,5 +86,5 @@ datas_kept v w i (n ∷ ns) [] h = kept_none
 datas_kept v w i (n ∷ ns) (e ∷ es) h = kept_more (one e.mode refl) (datas_kept v w i ns es (λ n s x e at m u k. h (suc n) s x e at m u k))
   where
     one : (mode : DataMode) → e.mode ≡ mode → Kept (data_job v i n mode) (data_job w i n mode)
-    one (data'.Active x offset) m = kept_fill (λ a k. let u = and_then_is (v offset) _ a k in ap (λ o. option_and_then (λ v. given (num_of W32 v)) o) (h 0 e x offset refl m u.0 u.1) ∙ u.2)
+    one (data'.Active x offset) m = kept_fill (λ a k. let u = and_then_is (v offset) _ a k in ap (λ o. option_and_then (num_of W32) o) (h 0 e x offset refl m u.0 u.1) ∙ u.2)
     one data'.Passive m = kept_skip

@@ -5,12 +5,12 @@ use Rattle.wasm_tree.specs.declared.module.ElemSeg.{ElemSeg}
 use Rattle.wasm_tree.specs.declared.module.ElemMode.{ElemMode}
 use Rattle.wasm_tree.specs.declared.module.ElemMode.TheVariants as elem
 use Rattle.wasm_num.specs.Operations.{W32}
-use Rattle.wasm_meaning.specs.Outcomes.{Outcome, Gives, Traps, IllTyped, overwrite}
+use Rattle.wasm_meaning.specs.Outcomes.{overwrite}
 use Rattle.wasm_meaning.specs.State.{RefVal, Val, Inst, Table, Elem, Store}
 use Rattle.wasm_meaning.specs.Values.{num_of}
 use Rattle.wasm_meaning.specs.Step.{no_items}
 use Rattle.wasm_meaning.specs.Environment.{any_of}
-use Rattle.wasm_meaning.specs.World.{Filled, Task, given, tasks_in, or_trapped, fill_table, run_elem_with, and_then, in_turn}
+use Rattle.wasm_meaning.specs.World.{Filled, Task, tasks_in, or_trapped, fill_table, run_elem_with, and_then, in_turn}
 use Rattle.wasm_meaning.specs.InTurn.{is_active_elem}
 use Rattle.worlds_in_turn.proofs.FillRuns.{Job, Skip, Fill, run, runs, LowJob, low_skip, low_fill, LowJobs, low_none, low_more, Kept, kept_skip, kept_fill, KeptAll, kept_none, kept_more}
 use Rattle.base_lists.proofs.Options.{and_then_is}
@@ -36,7 +36,7 @@ or_turned set s (Some a) g f h = h a
 -- ---- elements ----
 
 abbrev pub table_fill : Table → Elem → ℕ → Option Table
-table_fill t e n = option_and_then (λ slots. Some (record t { slots = slots })) (given (overwrite t.slots n e.items))
+table_fill t e n = option_and_then (λ slots. Some (record t { slots = slots })) (overwrite t.slots n e.items)
 
 abbrev pub with_tables : Store → List Table × List Elem → Store
 with_tables s c = record s { tables = c.0; elems = c.1 }
@@ -45,7 +45,7 @@ abbrev pub elem_runs : List Job → List Table × List Elem → Option (List Tab
 elem_runs = runs Table Elem table_fill no_items
 
 abbrev pub elem_job : (ConstExpr → Option Val) → Inst → ℕ → ElemMode → Job
-elem_job value i n (elem.Active x offset) = Fill n (slice_get i.tables x) (option_and_then (λ v. given (num_of W32 v)) (value offset))
+elem_job value i n (elem.Active x offset) = Fill n (slice_get i.tables x) (option_and_then (num_of W32) (value offset))
 elem_job value i n elem.Passive = Skip
 elem_job value i n elem.Declarative = Skip
 
@@ -63,12 +63,11 @@ elem_turned_one : (value : ConstExpr → Option Val) (s : Store) (task : Task El
 elem_turned_one value s task elem.Passive = goes_on
 elem_turned_one value s task elem.Declarative = goes_on
 elem_turned_one value s task (elem.Active x offset) =
-    or_turned (with_tables s) s (option_and_then (λ v. given (num_of W32 v)) (value offset)) _ _ (λ n. or_turned (with_tables s) s (slice_get task.inst.tables x) _ _ (λ a. or_turned (with_tables s) s (slice_get s.tables a) _ _ (λ t. or_turned (with_tables s) s (slice_get s.elems task.address) _ _ (λ e. last a t (overwrite t.slots n e.items)))))
+    or_turned (with_tables s) s (option_and_then (num_of W32) (value offset)) _ _ (λ n. or_turned (with_tables s) s (slice_get task.inst.tables x) _ _ (λ a. or_turned (with_tables s) s (slice_get s.tables a) _ _ (λ t. or_turned (with_tables s) s (slice_get s.elems task.address) _ _ (λ e. last a t (overwrite t.slots n e.items)))))
   where
-    last : (a : ℕ) (t : Table) (o : Outcome (List RefVal)) → Turned (with_tables s) (option_and_then (λ z. Some (slice_set s.tables a z, slice_set s.elems task.address no_items)) (option_and_then (λ slots. Some (record t { slots = slots })) (given o))) (fill_table s task.address a t o)
-    last a t (Gives slots) = goes_on
-    last a t Traps = stops
-    last a t IllTyped = stops
+    last : (a : ℕ) (t : Table) (o : Option (List RefVal)) → Turned (with_tables s) (option_and_then (λ z. Some (slice_set s.tables a z, slice_set s.elems task.address no_items)) (option_and_then (λ slots. Some (record t { slots = slots })) o)) (fill_table s task.address a t o)
+    last a t (Some slots) = goes_on
+    last a t None = stops
 
 pub elems_turned : (value : ℕ → ConstExpr → Option Val) (tasks : List (Task ElemSeg)) (s : Store) → Turned (with_tables s) (elem_runs (map (elem_task_job value) tasks) (s.tables, s.elems)) (in_turn (elem_turn value) s tasks)
 elems_turned value [] s = goes_on
@@ -110,6 +109,6 @@ elems_kept v w i (n ∷ ns) [] h = kept_none
 elems_kept v w i (n ∷ ns) (e ∷ es) h = kept_more (one e.mode refl) (elems_kept v w i ns es (λ n s x e at m u k. h (suc n) s x e at m u k))
   where
     one : (mode : ElemMode) → e.mode ≡ mode → Kept (elem_job v i n mode) (elem_job w i n mode)
-    one (elem.Active x offset) m = kept_fill (λ a k. let u = and_then_is (v offset) _ a k in ap (λ o. option_and_then (λ v. given (num_of W32 v)) o) (h 0 e x offset refl m u.0 u.1) ∙ u.2)
+    one (elem.Active x offset) m = kept_fill (λ a k. let u = and_then_is (v offset) _ a k in ap (λ o. option_and_then (num_of W32) o) (h 0 e x offset refl m u.0 u.1) ∙ u.2)
     one elem.Passive m = kept_skip
     one elem.Declarative m = kept_skip

@@ -3,7 +3,6 @@ use Rattle.std.proofs.Common.{◌≡◌, ◌∙◌, refl, sym, ap, ap₂, subst,
 use Rattle.wasm_tree.specs.declared.space.Space.TheVariants.{Functions}
 use Rattle.std.proofs.lemmas.Bool.{cases_lt}
 use Rattle.wasm_tree.specs.declared.module.Module.{Module}
-use Rattle.wasm_meaning.specs.Outcomes.{Gives, at}
 use Rattle.wasm_meaning.specs.State.{Text, Inst, Func, Store, Entry, Running, Opening, Waiting}
 use Rattle.wasm_meaning.specs.Control.{type_of_func}
 use Rattle.wasm_meaning.specs.Linking.{Part, module_at}
@@ -94,7 +93,7 @@ module _ (env : Environment) (w : World) (insts : List Inst) (allocated : Store)
   -- a start that is to be made
   pub record IsStart (k a : ℕ) (q : InTurn) : Type 0 where
     pub func : Func
-    pub there : at q.run.store.funcs a ≡ Gives func
+    pub there : slice_get q.run.store.funcs a ≡ Some func
     pub type : type_of_func func ≡ nothing_to_nothing
     pub low : a < base env w.parts Functions k
 

@@ -21,21 +21,6 @@ use Rattle.base_lists.proofs.Options.{and_then_is, all_there_at, all_there_lengt
 use Rattle.std.proofs.lemmas.Option.{same_Some}
 use Rattle.base_lists.proofs.Places.{append_at_left, append_right, slice_get_none}
 use Rattle.merge_validity.specs.Ended.{is_external}
-use Rattle.wasm_meaning.specs.Outcomes.{at, Gives}
-
--- ---- places as the steps look them up ----
-
-pub place_at : {A : Type 0} (xs : List A) (n : ℕ) (x : A) → slice_get xs n ≡ Some x → at xs n ≡ Gives x
-place_at [] n x e = cc
-place_at (y ∷ ys) zero x e = ap Gives (same_Some _ _ e)
-place_at (y ∷ ys) (suc n) x e = place_at ys n x e
-
-pub at_place : {A : Type 0} (xs : List A) (n : ℕ) (x : A) → at xs n ≡ Gives x → slice_get xs n ≡ Some x
-at_place [] n x e = cc
-at_place (y ∷ ys) zero x e = let s : y ≡ x = cc in ap Some s
-at_place (y ∷ ys) (suc n) x e = at_place ys n x e
-
--- ---- options ----
 
 -- ---- instances ----
 
