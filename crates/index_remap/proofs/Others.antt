@@ -42,7 +42,7 @@ module _ (R : Pairing) (apart : OneToOne R) (known : (k : Space) (a b : ℕ) →
 
   give_held : {s t : Store} {vs ws : List Val} {es fs : List Entry} → StoreRel R s t → ListRel (ValRel R) vs ws → KeepsOthers R first t → ListRel (EntryRel R) es fs → ResRel (NextRel R Held) (give s vs es) (give t ws fs)
   give_held s v h nil = wrong
-  give_held s v h (cons (running f) e) = give_levels_rel R (written apart) Held Held (λ s t es fs e. e) push s f f.levels v (record { entries = e; keeps = h })
+  give_held s v h (cons (running f) e) = give_levels_rel R (written apart) (StoreRel R) Held Held (λ s t es fs e. e) push s f f.levels v (record { entries = e; keeps = h })
   give_held s v h (cons mark e) = done (returned v s (record { entries = e; keeps = h }))
   give_held s v h (cons (opening x) e) = done (ran s (record { entries = cons (opening x) e; keeps = h }))
   give_held s v h (cons waiting e) = wrong
@@ -59,7 +59,7 @@ module _ (R : Pairing) (apart : OneToOne R) (known : (k : Space) (a b : ℕ) →
     marks = λ e. marks_held e.keeps (marks R (written apart) e.entries);
     marked = λ e. marked R (written apart) e.entries;
     gives = λ s v e. give_held s v e.keeps e.entries;
-    enters = λ s n _ _ v e. bind_found (there (s.funcs n (plain _))) (λ _ _ f. done (enter_rel R (written apart) Held Held (λ s t es fs e. e) push s f v e));
+    enters = λ s n _ _ v e. bind_found (there (s.funcs n (plain _))) (λ _ _ f. done (enter_rel R (written apart) (StoreRel R) Held Held (λ s t es fs e. e) push s f v e));
   }
 
   view : {s t : Store} {es fs : List Entry} → KeepsOthers R first t → ListRel (EntryRel R) es fs → TopView R (written apart) Held s t es fs

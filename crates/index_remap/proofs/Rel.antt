@@ -33,6 +33,11 @@ pub bind_found : {A B C D : Type 0} {P : A → B → Type 0} {Q : C → D → Ty
 bind_found none h = wrong
 bind_found (some q) h = h _ _ q
 
+-- with what the first found
+pub bind_found_is : {A B C D : Type 0} {P : A → B → Type 0} {Q : C → D → Type 0} {o : Option A} {p : Option B} {f : A → Outcome C} {g : B → Outcome D} → OptRel P o p → ((a : A) (b : B) → o ≡ Some a → P a b → ResRel Q (f a) (g b)) → ResRel Q (bind (or_ill_typed o) f) (bind (or_ill_typed p) g)
+bind_found_is none h = wrong
+bind_found_is (some q) h = h _ _ refl q
+
 -- the same was found, with what it is
 pub bind_is : {A C D : Type 0} {Q : C → D → Type 0} {f : A → Outcome C} {g : A → Outcome D} {o p : Option A} → o ≡ p → ((a : A) → o ≡ Some a → ResRel Q (f a) (g a)) → ResRel Q (bind (or_ill_typed o) f) (bind (or_ill_typed p) g)
 bind_is {Q = Q} {f = f} {g = g} {o = o} e h = subst (λ x. ResRel Q (bind (or_ill_typed o) f) (bind (or_ill_typed x) g)) e (go o h)
@@ -187,19 +192,33 @@ at_put_there (x ∷ xs) (suc n) (suc m) v h = at_put_there xs n m v (λ e. h (ap
 pub written : {R : Pairing} → OneToOne R → OneToOneWhereWritten R
 written apart = record { right = λ _. apart.right; left = λ _. apart.left }
 
-module _ (R : Pairing) (apart : OneToOneWhereWritten R) (k : Space) (may : is_written k ≡ true) {A B : Type 0} (P : A → B → Type 0) (xs : List A) (ys : List B) (v : A) (w : B) where
-  pub write_rel : {a b : ℕ} → R.of k a b → ((c d : ℕ) → R.of k c d → BothRel P (slice_get xs c) (slice_get ys d)) → P v w → (c d : ℕ) → R.of k c d → BothRel P (slice_get (slice_set xs a v) c) (slice_get (slice_set ys b w) d)
-  write_rel {a} {b} r all p c d q = go (ℕ_discrete a c) (ℕ_discrete b d)
+-- Q holds at the addresses that are written, and follows from P at all others
+module _ (R : Pairing) (apart : OneToOneWhereWritten R) (k : Space) (may : is_written k ≡ true) {A B : Type 0} (P Q : ℕ → A → B → Type 0) (xs : List A) (ys : List B) (v : A) (w : B) where
+  pub write_each : {a b : ℕ} → R.of k a b → ((c d : ℕ) → R.of k c d → BothRel (P c) (slice_get xs c) (slice_get ys d)) → ((c : ℕ) (x : A) (y : B) → (a ≡ c → ⊥) → P c x y → Q c x y) → Q a v w →
+      (c d : ℕ) → R.of k c d → BothRel (Q c) (slice_get (slice_set xs a v) c) (slice_get (slice_set ys b w) d)
+  write_each {a} {b} r all other p c d q = go (ℕ_discrete a c) (ℕ_discrete b d)
     where
-      written : {o : Option A} {p' : Option B} → BothRel P o p' → BothRel P (option_and_then (λ old. Some v) o) (option_and_then (λ old. Some w) p')
+      written : {o : Option A} {p' : Option B} → BothRel (P a) o p' → BothRel (Q a) (option_and_then (λ old. Some v) o) (option_and_then (λ old. Some w) p')
       written (both q) = both p
 
-      go : Dec (a ≡ c) → Dec (b ≡ d) → BothRel P (slice_get (slice_set xs a v) c) (slice_get (slice_set ys b w) d)
+      elsewhere : {o : Option A} {p' : Option B} → (a ≡ c → ⊥) → BothRel (P c) o p' → BothRel (Q c) o p'
+      elsewhere n (both x) = both (other c _ _ n x)
+
+      go : Dec (a ≡ c) → Dec (b ≡ d) → BothRel (Q c) (slice_get (slice_set xs a v) c) (slice_get (slice_set ys b w) d)
       go (yes e) (yes f) = rw (← e, ← f, at_put_here xs a v, at_put_here ys b w) (written (all a b r))
       go (yes e) (no f) = absurd (f (apart.right may a b d r (subst (λ x. R.of k x d) (sym e) q)))
       go (no e) (yes f) = absurd (e (apart.left may a c b r (subst (λ x. R.of k c x) (sym f) q)))
-      go (no e) (no f) = rw (at_put_there xs a c v e, at_put_there ys b d w f) (all c d q)
+      go (no e) (no f) = rw (at_put_there xs a c v e, at_put_there ys b d w f) (elsewhere e (all c d q))
+
+module _ (R : Pairing) (apart : OneToOneWhereWritten R) (k : Space) (may : is_written k ≡ true) {A B : Type 0} (P : A → B → Type 0) (xs : List A) (ys : List B) (v : A) (w : B) where
+  pub write_rel : {a b : ℕ} → R.of k a b → ((c d : ℕ) → R.of k c d → BothRel P (slice_get xs c) (slice_get ys d)) → P v w → (c d : ℕ) → R.of k c d → BothRel P (slice_get (slice_set xs a v) c) (slice_get (slice_set ys b w) d)
+  write_rel r all p = write_each R apart k may (λ _. P) (λ _. P) xs ys v w r all (λ _ _ _ _ q. q) p
 
 pub or_trap_rel : {A B : Type 0} {P : A → B → Type 0} {o : Option A} {p : Option B} → OptRel P o p → ResRel P (or_trap o) (or_trap p)
 or_trap_rel none = trap
 or_trap_rel (some q) = done q
+
+pub res_map : {A B : Type 0} {P Q : A → B → Type 0} {o : Outcome A} {p : Outcome B} → ((a : A) (b : B) → P a b → Q a b) → ResRel P o p → ResRel Q o p
+res_map f (done r) = done (f _ _ r)
+res_map f trap = trap
+res_map f wrong = wrong

@@ -22,7 +22,7 @@ use Rattle.index_remap.specs.RelatedRuns.{ThingRel, a_func, a_table, a_memory, a
 use Rattle.index_remap.proofs.Rel.{written, there, then_rel, then_rel_is, then_same, either_rel, PairRel, IfThere, absent, present, then_all, any_there, all_there, get_rel, append_rel, length_rel, copies_rel, overwrite_rel}
 use Rattle.index_remap.proofs.ValueSteps.{Fits}
 use Rattle.index_remap.proofs.Shown.{show_rel, show_all_rel}
-use Rattle.index_remap.proofs.TableSteps.{may_rel}
+use Rattle.index_remap.proofs.TableSteps.{may_same}
 use Rattle.index_remap.proofs.StepsAgree.{Stacks, TopView, top_none, top_mark, top_opening, top_waiting, top_ended, top_growing, top_running, changed_rel}
 
 module _ (R : Pairing) (apart : OneToOne R) (B C : Store → Store → List Entry → List Entry → Type 0) (stacks : Stacks R (written apart) B C) (F : Store → Store → List Entry → List Entry → Type 0) (begins : (s t : Store) (es fs : List Entry) → F s t es fs → B s t es fs) where
@@ -221,7 +221,7 @@ module _ (R : Pairing) (apart : OneToOne R) (B C : Store → Store → List Entr
 
   extended_rel : {r q : Run} {x y : Thing} (n : ℕ) → RunRel R B F r q → ThingRel R x y → OptRel TransitionRel (extended r x n) (extended q y n)
   extended_rel n h (a_func p) = none
-  extended_rel {r} {q} n h (a_table {a = a1} {b = b1} p) = then_rel (there (h.store.tables p)) (λ t u x. subst (λ b. OptRel TransitionRel (cond (table_may_grow t n) (does r (SetTable a1 (grown_table t n (null_of t.ty)))) None) (cond b (does q (SetTable b1 (grown_table u n (null_of u.ty)))) None)) (may_rel R n x) (either_rel (table_may_grow t n) (does_rel h (set_table p (table_grown n x (subst (λ z. RefRel R (null_of t.ty) (null_of z)) x.type (null_rel t.ty))))) none))
+  extended_rel {r} {q} n h (a_table {a = a1} {b = b1} p) = then_rel (there (h.store.tables p)) (λ t u x. subst (λ b. OptRel TransitionRel (cond (table_may_grow t n) (does r (SetTable a1 (grown_table t n (null_of t.ty)))) None) (cond b (does q (SetTable b1 (grown_table u n (null_of u.ty)))) None)) (may_same t u n (length_rel x.slots) x.most) (either_rel (table_may_grow t n) (does_rel h (set_table p (table_grown n x (subst (λ z. RefRel R (null_of t.ty) (null_of z)) x.type (null_rel t.ty))))) none))
   extended_rel n h (a_memory p) = then_memory_at h p (λ m. either_rel (memory_may_grow m n) (does_rel h (set_memory p)) none)
   extended_rel n h (a_global p) = none
 

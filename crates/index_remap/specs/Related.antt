@@ -216,20 +216,27 @@ pub data ChangeRel (R : Pairing) : Change → Change → Type 0 where
   drop_elem : {a b : ℕ} → R.of ElementSegments a b → ChangeRel R (DropElem a) (DropElem b)
   drop_data : {a b : ℕ} → R.of DataSegments a b → ChangeRel R (DropData a) (DropData b)
 
--- what the top frames do agrees
-pub data ActRel (R : Pairing) (i j : Inst) : Act → Act → Type 0 where
-  goes : {c d : Change} {h k : Body} → ChangeRel R c d → BodyRel R i j h k → ActRel R i j (Goes c h) (Goes d k)
-  calls : {a b : ℕ} {vs ws : List Val} {h k : Body} → R.of Functions a b → ListRel (ValRel R) vs ws → BodyRel R i j h k → ActRel R i j (Calls a vs h) (Calls b ws k)
-  asks_grow : {p q : Growth} {m n : ℕ} {h k : Body} → GrowthRel R p q → BodyRel R i j h k → ActRel R i j (AsksGrow p m n h) (AsksGrow q m n k)
-  ends : {vs ws : List Val} → ListRel (ValRel R) vs ws → ActRel R i j (Ends vs) (Ends ws)
+-- what the top frames do agrees, where C relates what they write
+pub data ActRelBy (R : Pairing) (C : Change → Change → Type 0) (i j : Inst) : Act → Act → Type 0 where
+  goes : {c d : Change} {h k : Body} → C c d → BodyRel R i j h k → ActRelBy R C i j (Goes c h) (Goes d k)
+  calls : {a b : ℕ} {vs ws : List Val} {h k : Body} → R.of Functions a b → ListRel (ValRel R) vs ws → BodyRel R i j h k → ActRelBy R C i j (Calls a vs h) (Calls b ws k)
+  asks_grow : {p q : Growth} {m n : ℕ} {h k : Body} → GrowthRel R p q → BodyRel R i j h k → ActRelBy R C i j (AsksGrow p m n h) (AsksGrow q m n k)
+  ends : {vs ws : List Val} → ListRel (ValRel R) vs ws → ActRelBy R C i j (Ends vs) (Ends ws)
 
--- both come to the same, with related values, and again to stores that correspond; the configurations are related by B
-pub data NextRel (R : Pairing) (B : Store → Store → List Entry → List Entry → Type 0) : Next → Next → Type 0 where
-  ran : {s t : Store} {es fs : List Entry} → StoreRel R s t → B s t es fs → NextRel R B (Ran s es) (Ran t fs)
-  asked : {p : Pair} {u : FuncType} {vs ws : List Val} {s t : Store} {es fs : List Entry} → ListRel (ValRel R) vs ws → StoreRel R s t → B s t es fs → NextRel R B (CallsOwn p u vs s es) (CallsOwn p u ws t fs)
-  asked_grow : {g h : Growth} {m n : ℕ} {s t : Store} {es fs : List Entry} → GrowthRel R g h → StoreRel R s t → B s t es fs → NextRel R B (WaitsGrowth g m n s es) (WaitsGrowth h m n t fs)
-  loads : {n : ℕ} {vs ws : List Val} {s t : Store} {es fs : List Entry} → ListRel (ValRel R) vs ws → StoreRel R s t → B s t es fs → NextRel R B (CallsPlaceholder n vs s es) (CallsPlaceholder n ws t fs)
-  returned : {vs ws : List Val} {s t : Store} {es fs : List Entry} → ListRel (ValRel R) vs ws → StoreRel R s t → B s t es fs → NextRel R B (EndsCall vs s es) (EndsCall ws t fs)
+abbrev pub ActRel : Pairing → Inst → Inst → Act → Act → Type 0
+ActRel R = ActRelBy R (ChangeRel R)
+
+-- both come to the same, with related values, and again to stores and configurations, which S and B relate
+pub data NextRelBy (R : Pairing) (S : Store → Store → Type 0) (B : Store → Store → List Entry → List Entry → Type 0) : Next → Next → Type 0 where
+  ran : {s t : Store} {es fs : List Entry} → S s t → B s t es fs → NextRelBy R S B (Ran s es) (Ran t fs)
+  asked : {p : Pair} {u : FuncType} {vs ws : List Val} {s t : Store} {es fs : List Entry} → ListRel (ValRel R) vs ws → S s t → B s t es fs → NextRelBy R S B (CallsOwn p u vs s es) (CallsOwn p u ws t fs)
+  asked_grow : {g h : Growth} {m n : ℕ} {s t : Store} {es fs : List Entry} → GrowthRel R g h → S s t → B s t es fs → NextRelBy R S B (WaitsGrowth g m n s es) (WaitsGrowth h m n t fs)
+  loads : {n : ℕ} {vs ws : List Val} {s t : Store} {es fs : List Entry} → ListRel (ValRel R) vs ws → S s t → B s t es fs → NextRelBy R S B (CallsPlaceholder n vs s es) (CallsPlaceholder n ws t fs)
+  returned : {vs ws : List Val} {s t : Store} {es fs : List Entry} → ListRel (ValRel R) vs ws → S s t → B s t es fs → NextRelBy R S B (EndsCall vs s es) (EndsCall ws t fs)
+
+-- the stores correspond
+abbrev pub NextRel : Pairing → (Store → Store → List Entry → List Entry → Type 0) → Next → Next → Type 0
+NextRel R = NextRelBy R (StoreRel R)
 
 -- it begins no call of a function of the list
 abbrev pub NotListed : Pairing → Act → Type 0
