@@ -25,17 +25,17 @@ use Rattle.index_remap.proofs.SameRuns.{touches, skips}
 abbrev nothing : FuncType
 nothing = record { params = []; results = [] }
 
-abbrev nowhere : Inst
+abbrev pub nowhere : Inst
 nowhere = record { types = []; funcs = []; tables = []; mems = []; globals = []; elems = []; datas = [] }
 
-abbrev no_store : Store
+abbrev pub no_store : Store
 no_store = record { funcs = []; tables = []; mems = []; globals = []; elems = []; datas = [] }
 
 -- a frame of one level with these values and this code
-abbrev runs : Inst → List Val → List Instr → Entry
+abbrev pub runs : Inst → List Val → List Instr → Entry
 runs inst values code = Running (record { inst = inst; locals = []; results = []; levels = record { values = values; code = code; gives = 0; takes = 0; back = [] } ∷ [] })
 
-no_more : {A : Type 0} → false ≡ true → A
+pub no_more : {A : Type 0} → false ≡ true → A
 no_more h = absurd (true≢false (sym h))
 
 -- the law of steps, of one entry each, with nothing below

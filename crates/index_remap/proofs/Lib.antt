@@ -27,5 +27,6 @@ pub mod Others
 pub mod ItselfCode
 mod Unknown
 mod UnknownSteps
+mod UnknownRows
 mod ReplacedRows
 mod LawRows
