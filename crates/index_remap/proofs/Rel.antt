@@ -171,6 +171,9 @@ overwrite_rel {P = P} {vs = vs} {ws = ws} place r s =
 pub there : {A B : Type 0} {P : A → B → Type 0} {o : Option A} {p : Option B} → BothRel P o p → OptRel P o p
 there (both r) = some r
 
+pub both_map : {A B : Type 0} {P Q : A → B → Type 0} {o : Option A} {p : Option B} → ((a : A) (b : B) → P a b → Q a b) → BothRel P o p → BothRel Q o p
+both_map f (both r) = both (f _ _ r)
+
 pub same_there : {A : Type 0} {o p : Option A} → BothRel (◌≡◌ {A = A}) o p → o ≡ p
 same_there (both e) = ap Some e
 

@@ -1,5 +1,5 @@
 -- Stores that are related off a set of unknown places.
-use Rattle.std.proofs.Common.{◌≡◌, ◌∙◌, refl, sym, ap, subst, ℕ, List, [], ◌∷◌, Option, Some, Bool, true, false, cond, not, ◌⊎◌, inl, inr, slice_get}
+use Rattle.std.proofs.Common.{◌≡◌, ◌∙◌, refl, sym, ap, subst, ℕ, List, [], ◌∷◌, Some, Bool, true, false, cond, not, ◌⊎◌, inl, inr, slice_get}
 use Rattle.std.specs.Prelude.{nat_eq, ◌||◌}
 use Rattle.std.specs.List.{filter}
 use Rattle.std.proofs.lemmas.Bool.Decides.{eqb_tells}
@@ -11,11 +11,8 @@ use Rattle.index_remap.specs.Related.{Pairing, OneToOneWhereWritten, BothRel, bo
 use Rattle.index_remap.specs.References.{is_among}
 use Rattle.index_remap.specs.Laws.{passed}
 use Rattle.index_remap.specs.Unknown.{Unknowns, none_unknown, is_place_among, GlobalOff, RefsOff, TableOff, StoreRelOff, learnt, NothingUnknown, SetGlobalsAreKnown, Read, ReadsNothing, ReadsGlobal, ReadsSlots, ReadsItems, IsKnown, left_by, left_after, left_unknown, ChangeOff, known, off_slots, ActOff}
-use Rattle.index_remap.proofs.Rel.{write_each, write_rel}
+use Rattle.index_remap.proofs.Rel.{write_each, write_rel, both_map}
 use Rattle.index_remap.proofs.Off.{refs_off, refs_related}
-
-both_map : {A B : Type 0} {P Q : A → B → Type 0} {o : Option A} {p : Option B} → ((a : A) (b : B) → P a b → Q a b) → BothRel P o p → BothRel Q o p
-both_map f (both r) = both (f _ _ r)
 
 -- ---- nothing is unknown ----
 

@@ -1,5 +1,5 @@
 -- What the step of a frame writes is told from what stands on top before.
-use Rattle.std.proofs.Common.{◌≡◌, ◌∙◌, ℕ, ◌+◌, length, List, [], ◌∷◌, None, refl, sym, ap, drop, slice_get, Some, Option}
+use Rattle.std.proofs.Common.{◌≡◌, ◌∙◌, ℕ, ◌+◌, length, List, [], ◌∷◌, None, refl, sym, ap, drop, slice_get, Some, Option, Bool, true, false, cond}
 use Rattle.std.specs.Prelude.{nat_eq}
 use Rattle.wasm_tree.specs.declared.instr.Instr.{Instr, out-Instr}
 use Rattle.wasm_tree.specs.declared.instr.Instr.TheOpen.{Instr-F}
@@ -8,9 +8,9 @@ use Rattle.wasm_tree.specs.declared.instr.StoreOp.TheVariants as op
 use Rattle.wasm_tree.specs.declared.types.ValType.{ValType}
 use Rattle.wasm_tree.specs.declared.types.BlockType.{BlockType}
 use Rattle.wasm_num.specs.Operations.{W32}
-use Rattle.wasm_meaning.specs.Outcomes.{Outcome, Gives, bind, split_at, slice, overwrite, copies, or_trap, with_entry}
+use Rattle.wasm_meaning.specs.Outcomes.{Outcome, Gives, IllTyped, bind, split_at, slice, overwrite, copies, or_trap, with_entry}
 use Rattle.wasm_meaning.specs.Access.{store_from, stored, little_bytes}
-use Rattle.wasm_meaning.specs.State.{Val, Num, Ref, FuncRef, RefVal, Table, Memory, Global, Level, Env, Body, Keep, Act}
+use Rattle.wasm_meaning.specs.State.{Val, Num, Ref, FuncRef, RefVal, Table, Memory, Global, Level, Env, Body, Keep, SetGlobal, Act, Goes}
 use Rattle.wasm_meaning.specs.Values.{typed, pop, pop_num, pop_ref, pop_typed, pushes, on_values, with_values, local_put, global_put, unary, binary, ref_is_null, select_any, select_typed}
 use Rattle.wasm_meaning.specs.Memory.{written, writes, store_into, load_from, grow_memory, memory_may_grow, init_memory, fill_memory, pop_three, with_memory}
 use Rattle.wasm_meaning.specs.Tables.{fits, writes_table, get_slot, set_slot, grow_table, table_may_grow, fill_table, init_table, with_table}
@@ -61,8 +61,12 @@ module _ (env : Env) where
   local_put_all : (h : Body) (i : ℕ) (v : Val) → Quiet (local_put h i v)
   local_put_all h i v = with_found (slice_get h.locals i) _ (λ old _. with_is (typed _ v) _ (λ w _. just keeps))
 
-  global_put_all : (o : Outcome Touched) (h : Body) (a : ℕ) (g : Global) (v : Val) → o ≡ Gives (OneGlobal a) → All o (global_put h a g v)
-  global_put_all o h a g v t = cond_all g.ty.mutable (with_is (typed g.ty.ty v) _ (λ w _. just (record { told = OneGlobal a; is = t; writes = a_global }))) ill_typed
+  global_put_all : (o : Outcome Touched) (h : Body) (a : ℕ) (g : Global) (v : Val) → slice_get env.store.globals a ≡ Some g → o ≡ Gives (OneGlobal a) → All o (global_put h a g v)
+  global_put_all o h a g v e t = go g.ty.mutable refl
+    where
+      go : (b : Bool) → g.ty.mutable ≡ b → All o (cond b (bind (typed g.ty.ty v) (λ w. Gives (Goes (SetGlobal a (record g { value = w })) h))) IllTyped)
+      go false m = ill_typed
+      go true m = with_is (typed g.ty.ty v) _ (λ w _. just (record { told = OneGlobal a; is = t; writes = a_global e m refl }))
 
   with_memory_all : (o : Outcome Touched) (i : ℕ) (f : ℕ → Memory → Outcome Act) → ((a : ℕ) (m : Memory) → slice_get env.inst.mems i ≡ Some a → slice_get env.store.mems a ≡ Some m → All o (f a m)) → All o (with_memory env i f)
   with_memory_all o i f h = with_found (slice_get env.inst.mems i) _ (λ a j. with_found (slice_get env.store.mems a) _ (λ m e. h a m j e))
@@ -149,7 +153,7 @@ module _ (env : Env) where
   exec_all (Instr-F.LocalSet n) h = with_is (pop h.values) _ (λ p _. local_put_all (with_values h p.1) n p.0)
   exec_all (Instr-F.LocalTee n) h = with_is (pop h.values) _ (λ p _. local_put_all h n p.0)
   exec_all (Instr-F.GlobalGet n) h = with_found (slice_get env.inst.globals n) _ (λ a _. with_found (slice_get env.store.globals a) _ (λ g _. just keeps))
-  exec_all (Instr-F.GlobalSet n) h = with_found (slice_get env.inst.globals n) _ (λ a j. with_found (slice_get env.store.globals a) _ (λ g _. with_is (pop h.values) _ (λ p _. global_put_all _ (with_values h p.1) a g p.0 (then_found _ j))))
+  exec_all (Instr-F.GlobalSet n) h = with_found (slice_get env.inst.globals n) _ (λ a j. with_found (slice_get env.store.globals a) _ (λ g e. with_is (pop h.values) _ (λ p _. global_put_all _ (with_values h p.1) a g p.0 e (then_found _ j))))
   exec_all (Instr-F.TableGet n) h = with_table_all _ n _ (λ a t _ _. get_slot_all h a t)
   exec_all (Instr-F.TableSet n) h = with_table_all _ n _ (λ a t j e. set_slot_all h n a t j e)
   exec_all (Instr-F.Load o arg) h = with_memory_all _ _ _ (λ a m _ _. on_values_all h (load_from m o arg.offset))

@@ -1,5 +1,5 @@
 -- What a step writes into the store, told with its place and count, from what stands on top before the step.
-use Rattle.std.proofs.Common.{◌≡◌, ℕ, ◌+◌, List, [], ◌∷◌, length, slice_get, Some}
+use Rattle.std.proofs.Common.{◌≡◌, ℕ, ◌+◌, true, List, [], ◌∷◌, length, slice_get, Some}
 use Rattle.wasm_tree.specs.declared.instr.Instr.{Instr, out-Instr}
 use Rattle.wasm_tree.specs.declared.instr.Instr.TheOpen.{Instr-F}
 use Rattle.wasm_tree.specs.declared.instr.StoreOp.{StoreOp}
@@ -78,10 +78,10 @@ touched_levels env (l ∷ ls) = touched_next env l.values l.code
 abbrev pub touched : Store → Frame → Outcome Touched
 touched s f = touched_levels (record { store = s; inst = f.inst }) f.levels
 
--- the change writes that and nothing else: so many bytes or references stand at the place, and the others are as they were
+-- the change writes that and nothing else: so many bytes or references stand at the place, and the others are as they were; a global that is set may be set, and keeps its type
 pub data Writes (s : Store) : Touched → Change → Type 0 where
   nothing : Writes s Nothing Keep
-  a_global : {a : ℕ} {g : Global} → Writes s (OneGlobal a) (SetGlobal a g)
+  a_global : {a : ℕ} {g h : Global} → slice_get s.globals a ≡ Some g → g.ty.mutable ≡ true → h.ty ≡ g.ty → Writes s (OneGlobal a) (SetGlobal a h)
   bytes : {a place : ℕ} {m n : Memory} (written : List ℕ) → slice_get s.mems a ≡ Some m → overwrite m.bytes place written ≡ Some n.bytes → n.pages ≡ m.pages → n.most ≡ m.most → Writes s (Bytes a place (length written)) (SetMemory a n)
   slots : {a place : ℕ} {t u : Table} (written : List RefVal) → slice_get s.tables a ≡ Some t → overwrite t.slots place written ≡ Some u.slots → u.ty ≡ t.ty → u.most ≡ t.most → Writes s (Slots a place (length written)) (SetTable a u)
   an_elem : {a : ℕ} → Writes s (OneElem a) (DropElem a)

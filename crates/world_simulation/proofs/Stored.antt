@@ -110,12 +110,12 @@ module _ (R : Pairing) where
     pub elem_rel : {d e : ElemSeg} → ElemsCorrespond R value second_value d e → OptRel (ElemRel R) (elem_with value d) (elem_with second_value e)
     elem_rel {d} {e} k = then_rel (all_rel (refs_rel k.items)) (λ _ _ r. some (elem_is d.mode e.mode k.declarative r))
 
-  type_same : {o p : Option Func} → BothRel (FuncRel R) o p → BothRel (◌≡◌ {A = FuncType}) (option_and_then (λ f. Some (type_of_func f)) o) (option_and_then (λ f. Some (type_of_func f)) p)
+  pub type_same : {o p : Option Func} → BothRel (FuncRel R) o p → BothRel (◌≡◌ {A = FuncType}) (option_and_then (λ f. Some (type_of_func f)) o) (option_and_then (λ f. Some (type_of_func f)) p)
   type_same (both (defined c)) = both refl
   type_same (both own) = both refl
   type_same (both to.slot) = both refl
 
-  own_same : {o p : Option Func} → BothRel (FuncRel R) o p → option_and_then own_of o ≡ option_and_then own_of p
+  pub own_same : {o p : Option Func} → BothRel (FuncRel R) o p → option_and_then own_of o ≡ option_and_then own_of p
   own_same (both (defined c)) = refl
   own_same (both own) = refl
   own_same (both to.slot) = refl

@@ -28,6 +28,7 @@ use Rattle.worlds_in_turn.proofs.Given.{IsGiven, IsTurn, starts_from, filled_in,
 use Rattle.worlds_in_turn.proofs.Waiting.{within, adds_closed, adds_sound}
 use Rattle.std.proofs.lemmas.List.{length-append}
 use Rattle.base_lists.proofs.Places.{append_left, append_right}
+use Rattle.wasm_meaning.specs.Touched.{StepsWriteWhatTheyTouch}
 
 -- ---- joined stores ----
 
@@ -73,7 +74,7 @@ own_sound env parts p (o ∷ os) a f e = in_offer o.funcs a e (λ a e. own_sound
         gives_is e = cc
     in_offer (t ∷ ts) (suc a) e later = in_offer ts a e later
 
-module _ (env : Environment) (w : World) (insts : List Inst) (allocated : Store) (g : IsGiven env w insts allocated) (itself : CodeIsRelatedToItself) (below : BelowIsNotSeen) (ticks : RelatedTicksAgree) (others : OthersStay) (view : List (Text × Thing)) (view_is : all_there (seen_as insts) w.view ≡ Some view) (IsFilled : ℕ → Store → Type 0) where
+module _ (env : Environment) (w : World) (insts : List Inst) (allocated : Store) (g : IsGiven env w insts allocated) (itself : CodeIsRelatedToItself) (below : BelowIsNotSeen) (writes : StepsWriteWhatTheyTouch) (ticks : RelatedTicksAgree) (others : OthersStay) (view : List (Text × Thing)) (view_is : all_there (seen_as insts) w.view ≡ Some view) (IsFilled : ℕ → Store → Type 0) where
   abbrev after : Store
   after = (segments env w.parts insts allocated).store
 

@@ -1,23 +1,24 @@
 -- The store of parts that are instantiated in turn beside the store of all parts at once: what the first parts have corresponds, and the rest is as it was allocated.
-use Rattle.std.proofs.Common.{◌≡◌, ◌∙◌, refl, sym, ap, subst, ℕ, zero, suc, ◌+◌, ◌-◌, ◌<◌, ◌≤◌, List, [], ◌∷◌, ◌++◌, length, Some, true, ◌⊎◌, inl, inr, arith, slice_get, option_and_then, Option}
+use Rattle.std.proofs.Common.{◌≡◌, ◌∙◌, refl, sym, ap, subst, ℕ, zero, suc, ◌+◌, ◌-◌, ◌<◌, ◌≤◌, List, [], ◌∷◌, ◌++◌, length, Some, true, ◌⊎◌, inl, inr, arith, slice_get, Option}
 use Rattle.wasm_tree.specs.declared.space.Space.{Space}
 use Rattle.wasm_tree.specs.declared.space.Space.TheVariants.{Functions, Tables, Memories, Globals, ElementSegments, DataSegments}
 use Rattle.std.proofs.lemmas.Bool.{cases_lt}
 use Rattle.wasm_tree.specs.declared.types.FuncType.{FuncType}
 use Rattle.wasm_tree.specs.declared.module.Module.{Module}
 use Rattle.wasm_meaning.specs.State.{Inst, Func, Memory, Data, Store}
-use Rattle.wasm_meaning.specs.Control.{type_of_func, own_of, type_at, own_at}
+use Rattle.wasm_meaning.specs.Control.{type_at, own_at}
 use Rattle.wasm_meaning.specs.Linking.{Part, module_at}
 use Rattle.wasm_meaning.specs.Environment.{Environment}
 use Rattle.wasm_meaning.specs.World.{own_store, base, joined_stores, part_store, defined_before}
-use Rattle.index_remap.specs.Related.{Pairing, BothRel, both, ResRel, done, ListRel, nil, cons, FuncRel, TableRel, GlobalRel, ElemRel, StoreRel}
-use Rattle.index_remap.specs.Related as to
+use Rattle.index_remap.specs.Related.{Pairing, BothRel, both, ListRel, nil, cons, FuncRel, TableRel, GlobalRel, ElemRel, StoreRel}
 use Rattle.index_remap.specs.Laws.{CodeIsRelatedToItself}
 use Rattle.worlds_in_turn.proofs.Reached.{count_upto, is_reached, reaching, reached_at, reached_is, defined_next}
 use Rattle.worlds_in_turn.proofs.Turn.{Sized}
 use Rattle.worlds_in_turn.proofs.Closed.{table_more, global_more, elem_more, Closed, Sound, own_func, code, Reaches, func_self}
 use Rattle.std.proofs.lemmas.List.{length-append}
 use Rattle.base_lists.proofs.Places.{append_left, append_right, slice_get_there}
+use Rattle.index_remap.proofs.Rel.{both_map}
+use Rattle.world_simulation.proofs.Stored.{type_same, own_same}
 
 -- ---- lists by place ----
 
@@ -95,24 +96,14 @@ sound_more : (env : Environment) (parts : List Part) (p q : ℕ) (f : Func) → 
 sound_more env parts p q f b e d own_func = own_func
 sound_more env parts p q f b e d (code {i = i} r) = code (reaches_more env parts p q i b e d r)
 
-type_same : {R : Pairing} {o p : Option Func} → BothRel (FuncRel R) o p → BothRel (◌≡◌ {A = FuncType}) (option_and_then (λ f. Some (type_of_func f)) o) (option_and_then (λ f. Some (type_of_func f)) p)
-type_same (both (to.defined c)) = both refl
-type_same (both to.own) = both refl
-type_same (both to.slot) = both refl
-
-own_same : {R : Pairing} {o p : Option Func} → BothRel (FuncRel R) o p → option_and_then own_of o ≡ option_and_then own_of p
-own_same (both (to.defined c)) = refl
-own_same (both to.own) = refl
-own_same (both to.slot) = refl
-
 -- a relation of stores by place gives the relation of stores
 pub stores_related : (env : Environment) (parts : List Part) (p : ℕ) (t s : Store) → ((a : ℕ) → a < base env parts Functions p → BothRel (FuncRel (reaching env parts p)) (slice_get t.funcs a) (slice_get s.funcs a)) →
     ((a : ℕ) → a < base env parts Tables p → BothRel (TableRel (reaching env parts p)) (slice_get t.tables a) (slice_get s.tables a)) → ((a : ℕ) → a < base env parts Memories p → BothRel (λ (x y : Memory). x ≡ y) (slice_get t.mems a) (slice_get s.mems a)) →
     ((a : ℕ) → a < base env parts Globals p → BothRel (GlobalRel (reaching env parts p)) (slice_get t.globals a) (slice_get s.globals a)) → ((a : ℕ) → a < defined_before ElementSegments parts p → BothRel (ElemRel (reaching env parts p)) (slice_get t.elems a) (slice_get s.elems a)) →
     ((a : ℕ) → a < defined_before DataSegments parts p → BothRel (λ (x y : Data). x.bytes ≡ y.bytes) (slice_get t.datas a) (slice_get s.datas a)) → StoreRel (reaching env parts p) t s
 stores_related env parts p t s f ta me g e d = record {
-  types = λ {a} {b} r. let x = reached_is env parts p Functions a b r in subst (λ b. BothRel (◌≡◌ {A = FuncType}) (type_at t a) (type_at s b)) x.0 (type_same (f a x.1));
-  owns = λ {a} {b} r. let x = reached_is env parts p Functions a b r in subst (λ b. own_at t a ≡ own_at s b) x.0 (own_same (f a x.1));
+  types = λ {a} {b} r. let x = reached_is env parts p Functions a b r in subst (λ b. BothRel (◌≡◌ {A = FuncType}) (type_at t a) (type_at s b)) x.0 (type_same (reaching env parts p) (f a x.1));
+  owns = λ {a} {b} r. let x = reached_is env parts p Functions a b r in subst (λ b. own_at t a ≡ own_at s b) x.0 (own_same (reaching env parts p) (f a x.1));
   funcs = λ {a} {b} r _. let x = reached_is env parts p Functions a b r in subst (λ b. BothRel (FuncRel (reaching env parts p)) (slice_get t.funcs a) (slice_get s.funcs b)) x.0 (f a x.1);
   tables = λ {a} {b} r. let x = reached_is env parts p Tables a b r in subst (λ b. BothRel (TableRel (reaching env parts p)) (slice_get t.tables a) (slice_get s.tables b)) x.0 (ta a x.1);
   mems = λ {a} {b} r. let x = reached_is env parts p Memories a b r in subst (λ b. BothRel (λ (x y : Memory). x ≡ y) (slice_get t.mems a) (slice_get s.mems b)) x.0 (me a x.1);
@@ -120,9 +111,6 @@ stores_related env parts p t s f ta me g e d = record {
   elems = λ {a} {b} r. let x = reached_is env parts p ElementSegments a b r in subst (λ b. BothRel (ElemRel (reaching env parts p)) (slice_get t.elems a) (slice_get s.elems b)) x.0 (let l = x.1 in e a (omega (arith, l)));
   datas = λ {a} {b} r. let x = reached_is env parts p DataSegments a b r in subst (λ b. BothRel (λ (x y : Data). x.bytes ≡ y.bytes) (slice_get t.datas a) (slice_get s.datas b)) x.0 (let l = x.1 in d a (omega (arith, l)));
 }
-
-both_more : {A B : Type 0} {P Q : A → B → Type 0} {o : Option A} {p : Option B} → ((a : A) (b : B) → P a b → Q a b) → BothRel P o p → BothRel Q o p
-both_more h (both r) = both (h _ _ r)
 
 -- ---- the next part is added ----
 
@@ -215,13 +203,13 @@ module _ (law : CodeIsRelatedToItself) (env : Environment) (parts : List Part) (
     beside_next = record {
       related = stores_related env parts (suc p) (joined_stores t (laid.adds p)) s
           (λ a l. joined_both (FuncRel (reaching env parts (suc p))) t.funcs (laid.adds p).funcs s.funcs (base env parts Functions p) h.sized.funcs old_funcs closed.funcs (λ j k. ap (λ fs. slice_get fs (base env parts Functions p + j)) h.all_funcs ∙ at_allocated_funcs j k) a (let c = func_count in omega (arith, l, c)))
-          (λ a l. joined_both (TableRel (reaching env parts (suc p))) t.tables (laid.adds p).tables s.tables (base env parts Tables p) h.sized.tables (λ a l. both_more (table_more (reaching env parts p) (reaching env parts (suc p)) more) (h.related.tables (reached_at env parts p Tables a l))) closed.tables
+          (λ a l. joined_both (TableRel (reaching env parts (suc p))) t.tables (laid.adds p).tables s.tables (base env parts Tables p) h.sized.tables (λ a l. both_map (table_more (reaching env parts p) (reaching env parts (suc p)) more) (h.related.tables (reached_at env parts p Tables a l))) closed.tables
           (λ j k. h.untouched.tables (base env parts Tables p + j) (omega arith) ∙ stands allocated.tables (laid.first p).tables (laid.adds p).tables (laid.rest p).tables (laid.rest (suc p)).tables (base env parts Tables p) (ap (λ s. s.tables) whole) (ap (λ s. s.tables) tail) sizes.tables j k) a (let c = table_count in omega (arith, l, c)))
           (λ a l. joined_both (λ (x y : Memory). x ≡ y) t.mems (laid.adds p).mems s.mems (base env parts Memories p) h.sized.mems (λ a l. h.related.mems (reached_at env parts p Memories a l)) (equal_list (laid.adds p).mems)
           (λ j k. h.untouched.mems (base env parts Memories p + j) (omega arith) ∙ stands allocated.mems (laid.first p).mems (laid.adds p).mems (laid.rest p).mems (laid.rest (suc p)).mems (base env parts Memories p) (ap (λ s. s.mems) whole) (ap (λ s. s.mems) tail) sizes.mems j k) a (let c = memory_count in omega (arith, l, c)))
-          (λ a l. joined_both (GlobalRel (reaching env parts (suc p))) t.globals (laid.adds p).globals s.globals (base env parts Globals p) h.sized.globals (λ a l. both_more (global_more (reaching env parts p) (reaching env parts (suc p)) more) (h.related.globals (reached_at env parts p Globals a l))) closed.globals
+          (λ a l. joined_both (GlobalRel (reaching env parts (suc p))) t.globals (laid.adds p).globals s.globals (base env parts Globals p) h.sized.globals (λ a l. both_map (global_more (reaching env parts p) (reaching env parts (suc p)) more) (h.related.globals (reached_at env parts p Globals a l))) closed.globals
           (λ j k. h.untouched.globals (base env parts Globals p + j) (omega arith) ∙ stands allocated.globals (laid.first p).globals (laid.adds p).globals (laid.rest p).globals (laid.rest (suc p)).globals (base env parts Globals p) (ap (λ s. s.globals) whole) (ap (λ s. s.globals) tail) sizes.globals j k) a (let c = global_count in omega (arith, l, c)))
-          (λ a l. joined_both (ElemRel (reaching env parts (suc p))) t.elems (laid.adds p).elems s.elems (defined_before ElementSegments parts p) h.sized.elems (λ a l. both_more (elem_more (reaching env parts p) (reaching env parts (suc p)) more) (h.related.elems (reached_at env parts p ElementSegments a (omega (arith, l))))) closed.elems
+          (λ a l. joined_both (ElemRel (reaching env parts (suc p))) t.elems (laid.adds p).elems s.elems (defined_before ElementSegments parts p) h.sized.elems (λ a l. both_map (elem_more (reaching env parts p) (reaching env parts (suc p)) more) (h.related.elems (reached_at env parts p ElementSegments a (omega (arith, l))))) closed.elems
           (λ j k. h.untouched.elems (defined_before ElementSegments parts p + j) (omega arith) ∙ stands allocated.elems (laid.first p).elems (laid.adds p).elems (laid.rest p).elems (laid.rest (suc p)).elems (defined_before ElementSegments parts p) (ap (λ s. s.elems) whole) (ap (λ s. s.elems) tail) sizes.elems j k) a (let c = elem_count in omega (arith, l, c)))
           (λ a l. joined_both (λ (x y : Data). x.bytes ≡ y.bytes) t.datas (laid.adds p).datas s.datas (defined_before DataSegments parts p) h.sized.datas (λ a l. h.related.datas (reached_at env parts p DataSegments a (omega (arith, l)))) (bytes_list (laid.adds p).datas)
           (λ j k. h.untouched.datas (defined_before DataSegments parts p + j) (omega arith) ∙ stands allocated.datas (laid.first p).datas (laid.adds p).datas (laid.rest p).datas (laid.rest (suc p)).datas (defined_before DataSegments parts p) (ap (λ s. s.datas) whole) (ap (λ s. s.datas) tail) sizes.datas j k) a (let c = data_count in omega (arith, l, c)));

@@ -2,8 +2,6 @@
 use Rattle.std.proofs.Common.{◌≡◌, ◌∙◌, refl, ap, subst, ℕ, suc, ◌<◌, List, [], ◌∷◌, map, Option, Some, option_and_then, slice_get}
 use Rattle.wasm_tree.specs.declared.space.Space.{Space}
 use Rattle.wasm_tree.specs.declared.space.Space.TheVariants.{Functions, Tables, Memories, Globals, ElementSegments, DataSegments}
-use Rattle.wasm_tree.specs.declared.types.RefType.{RefType}
-use Rattle.wasm_tree.specs.declared.types.RefType.TheVariants as reft
 use Rattle.wasm_tree.specs.declared.types.FuncType.{FuncType}
 use Rattle.wasm_tree.specs.declared.instr.Instr.{Instr}
 use Rattle.wasm_tree.specs.declared.module.ConstExpr.{ConstExpr}
@@ -27,6 +25,7 @@ use Rattle.worlds_in_turn.proofs.Things.{space_in}
 use Rattle.worlds_in_turn.proofs.Reached.{count_upto, is_reached, reaching, reached_at}
 use Rattle.base_lists.proofs.Options.{and_then_is}
 use Rattle.std.proofs.lemmas.Option.{same_Some}
+use Rattle.world_simulation.proofs.Owned.{null_rel}
 
 -- ---- more is reached later ----
 
@@ -67,10 +66,6 @@ pub record Closed (R : Pairing) (t : Store) : Type 0 where
 
 -- ---- one part ----
 
-self_list : {A : Type 0} {P : A → A → Type 0} (xs : List A) → ((x : A) → P x x) → ListRel P xs xs
-self_list [] h = nil
-self_list (x ∷ xs) h = cons (h x) (self_list xs h)
-
 map_self : {A B : Type 0} {P : B → B → Type 0} (f : A → B) (xs : List A) → ((x : A) → P (f x) (f x)) → ListRel P (map f xs) (map f xs)
 map_self f [] h = nil
 map_self f (x ∷ xs) h = cons (h x) (map_self f xs h)
@@ -82,10 +77,6 @@ all_self {P = P} f (x ∷ xs) ys h g =
     let a = and_then_is (f x) _ ys h in
     let b = and_then_is (all_there f xs) _ ys a.2 in
     subst (λ l. ListRel P l l) (same_Some _ _ b.2) (cons (g x a.0 a.1) (all_self f xs b.0 b.1 g))
-
-pub null_self : (R : Pairing) (t : RefType) → RefRel R (null_of t) (null_of t)
-null_self R reft.Func = func none
-null_self R reft.Extern = extern
 
 -- addresses that an instance has are reached
 pub record Reaches (env : Environment) (parts : List Part) (p : ℕ) (i : Inst) : Type 0 where
@@ -119,7 +110,7 @@ module _ (law : CodeIsRelatedToItself) (env : Environment) (parts : List Part) (
   value_self : (e : ConstExpr) (v : Val) → const_value globals i e ≡ Some v → ValRel (reaching env parts p) v v
   value_self (const.I32 z) v h = subst (λ v. ValRel (reaching env parts p) v v) (same_Some _ _ h) number
   value_self (const.I64 z) v h = subst (λ v. ValRel (reaching env parts p) v v) (same_Some _ _ h) number
-  value_self (const.Null t) v h = subst (λ v. ValRel (reaching env parts p) v v) (same_Some _ _ h) (reference (null_self (reaching env parts p) t))
+  value_self (const.Null t) v h = subst (λ v. ValRel (reaching env parts p) v v) (same_Some _ _ h) (reference (null_rel (reaching env parts p) t))
   value_self (const.Func f) v h =
       let a = and_then_is (slice_get i.funcs f) _ v h in
       subst (λ v. ValRel (reaching env parts p) v v) (same_Some _ _ a.2) (reference (func (some (reached_at env parts p Functions a.0 (reaches.spaces Functions f a.0 a.1)))))
@@ -165,7 +156,7 @@ module _ (law : CodeIsRelatedToItself) (env : Environment) (parts : List Part) (
       let e = and_then_is (all_there (elem_with (const_value globals i)) m.elems) _ t g.2 in
       subst (Closed (reaching env parts p)) (same_Some _ _ e.2) (record {
         funcs = all_self (new_func i) m.funcs f.0 f.1 (λ x y k. func_self law env parts p y (new_sound x y k));
-        tables = map_self (λ t. record { ty = t.ty; most = t.limits.max; slots = copies t.limits.min (null_of t.ty) }) m.tables (λ t. record { type = refl; most = refl; slots = copies_rel _ _ t.limits.min (null_self (reaching env parts p) t.ty) });
+        tables = map_self (λ t. record { ty = t.ty; most = t.limits.max; slots = copies t.limits.min (null_of t.ty) }) m.tables (λ t. record { type = refl; most = refl; slots = copies_rel _ _ t.limits.min (null_rel (reaching env parts p) t.ty) });
         globals = all_self (global_with (const_value globals i)) m.globals g.0 g.1 global_self;
         elems = all_self (elem_with (const_value globals i)) m.elems e.0 e.1 elem_self;
       })

@@ -25,13 +25,9 @@ use Rattle.worlds_in_turn.proofs.FillNext.{Next}
 use Rattle.std.proofs.lemmas.Option.{slice_get_within, same_Some}
 use Rattle.base_lists.proofs.Options.{and_then_is}
 use Rattle.base_lists.proofs.Places.{append_at_left, append_right, append_left}
+use Rattle.merge_validity.proofs.Linked.{site_in}
 
 -- ---- the sites are the imports ----
-
-in_sites : (p count from n : ℕ) → n < count → slice_get (sites_in p count from) n ≡ Some (record { part = p; import = from + n })
-in_sites p zero from n l = absurd (omega (arith, l))
-in_sites p (suc count) from zero l = let z : from ≡ from + 0 = omega arith in ap (λ n. Some (record { part = p; import = n })) z
-in_sites p (suc count) from (suc n) l = let z : suc from + n ≡ from + suc n = omega arith in in_sites p count (suc from) n (omega (arith, l)) ∙ ap (λ n. Some (record { part = p; import = n })) z
 
 in_parts : (p : ℕ) (ps : List Part) (q : ℕ) (m : Module) (n : ℕ) → module_at ps q ≡ Some m → n < length m.imports → (j : ℕ) × (slice_get (sites_from p ps) j ≡ Some (record { part = p + q; import = n }))
 in_parts p [] q m n e l = absurd (let k = e in cc)
@@ -39,7 +35,7 @@ in_parts p (part ∷ ps) zero m n e l =
     let low : n < length part.«module».imports = subst (λ m. n < length m.imports) (sym (same_Some _ _ e)) l in
     let z : p ≡ p + 0 = omega arith in
     let y : 0 + n ≡ n = omega arith in
-    (n, append_at_left (sites_in p (length part.«module».imports) 0) (sites_from (suc p) ps) n _ (in_sites p (length part.«module».imports) 0 n low) ∙ ap₂ (λ p n. Some (record { part = p; import = n })) z y)
+    (n, append_at_left (sites_in p (length part.«module».imports) 0) (sites_from (suc p) ps) n _ (site_in p (length part.«module».imports) 0 n low) ∙ ap₂ (λ p n. Some (record { part = p; import = n })) z y)
 in_parts p (part ∷ ps) (suc q) m n e l =
     let r = in_parts (suc p) ps q m n e l in
     let z : suc p + q ≡ p + suc q = omega arith in

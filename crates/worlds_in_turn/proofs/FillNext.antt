@@ -8,7 +8,6 @@ use Rattle.wasm_meaning.specs.Linking.{Part, module_at, sites}
 use Rattle.wasm_meaning.specs.Environment.{Environment, all_of}
 use Rattle.wasm_meaning.specs.World.{base, is_matched, insts_from, own_store, stores_from, part_store, joined_stores, const_value, value_of, elem_tasks, data_tasks, segments, defined_before}
 use Rattle.wasm_meaning.specs.InTurn.{JoinsEarlier, own_segments}
-use Rattle.worlds_in_turn.proofs.Things.{IsInst}
 use Rattle.worlds_in_turn.proofs.Joined.{ExportsThere}
 use Rattle.worlds_in_turn.proofs.Reached.{elems_next, datas_next}
 use Rattle.worlds_in_turn.proofs.FillAddresses.{numbers_low, space_low}
@@ -19,6 +18,7 @@ use Rattle.worlds_in_turn.proofs.FillRuns.{Front, runs_front, runs_kept, next_ru
 use Rattle.worlds_in_turn.proofs.FillTurns.{table_fill, elem_runs, elem_jobs, elems_low, elems_kept}
 use Rattle.worlds_in_turn.proofs.FillData.{memory_fill, data_runs, data_jobs, datas_low, datas_kept}
 use Rattle.worlds_in_turn.proofs.FillSegments.{both_went, own_go, elem_jobs_of, data_jobs_of, elem_jobs_at, data_jobs_at, FilledUpto, filled_holds, all_elems, all_datas}
+use Rattle.world_simulation.proofs.Instancing.{IsInst}
 
 module _ (env : Environment) (parts : List Part) (insts : List Inst) (are : insts_from env parts 0 parts ≡ Some insts) (allocated : Store) (stores_are : stores_from env parts insts (own_store env) 0 parts insts ≡ Some allocated) (matched : all_of (is_matched env parts allocated) (sites parts) ≡ true) (size : length insts ≡ length parts) (there : ExportsThere parts) (earlier : JoinsEarlier parts) where
   -- the store after the segments of part k, where nothing else has changed

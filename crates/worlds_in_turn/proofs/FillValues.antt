@@ -1,7 +1,7 @@
 -- A constant expression of a part has one value, whether it is read from the store as the part's turn comes or along its path through joined globals.
 use Rattle.std.proofs.Common.{◌≡◌, ◌∙◌, refl, sym, ap, ap₂, subst, ℕ, zero, suc, ◌+◌, ◌-◌, ◌<◌, List, [], ◌∷◌, ◌++◌, length, Option, Some, None, Bool, true, false, cond, ◌⊎◌, inl, inr, arith, option_and_then, slice_get, unwrap_or, ◌&&◌}
 use Rattle.wasm_tree.specs.declared.space.Space.{Space}
-use Rattle.wasm_tree.specs.declared.space.Space.TheVariants.{Functions, Tables, Memories, Globals, Types, ElementSegments, DataSegments}
+use Rattle.wasm_tree.specs.declared.space.Space.TheVariants.{Globals}
 use Rattle.wasm_tree.specs.Operands.{same_space}
 use Rattle.wasm_tree.specs.declared.types.GlobalType.{GlobalType}
 use Rattle.wasm_tree.specs.declared.module.Import.{Import}
@@ -17,7 +17,7 @@ use Rattle.wasm_tree.specs.Spaces.{index_of_export, space_of_import}
 use Rattle.wasm_meaning.specs.Environment.{Environment, GlobalAt, own_globals, all_of}
 use Rattle.wasm_meaning.specs.World.{all_there, base, same_bool, is_match, is_matched, imported_thing, insts_from, inst_of, own_store, stores_from, global_with, new_func, elem_with, const_value, value_of_read, value_of, address_of, joined_stores}
 use Rattle.wasm_meaning.specs.InTurn.{JoinsEarlier}
-use Rattle.worlds_in_turn.proofs.Things.{IsInst, inst_is, inst_at, walk_more, thing_has}
+use Rattle.worlds_in_turn.proofs.Things.{inst_at, walk_more, thing_has}
 use Rattle.worlds_in_turn.proofs.Joined.{ExportsThere}
 use Rattle.worlds_in_turn.proofs.FillAddresses.{AtDefined, AtOwn, HasAddress, import_address, imported_at, imported_low}
 use Rattle.worlds_in_turn.proofs.Low.{all_back}
@@ -25,23 +25,16 @@ use Rattle.worlds_in_turn.proofs.FillStores.{adds, rest_from, rest_next, first_s
 use Rattle.std.proofs.lemmas.Option.{slice_get_within, same_Some}
 use Rattle.base_lists.proofs.Places.{append_left, append_right}
 use Rattle.base_lists.proofs.Options.{and_then_is}
+use Rattle.merge_validity.proofs.Same.{kind_same}
+use Rattle.world_simulation.proofs.Instancing.{IsInst, inst_is}
 
 -- ---- lists ----
 
 -- the place of an import among those of its kind
-same_kind_self : (k : Space) → same_space k k ≡ true
-same_kind_self Functions = refl
-same_kind_self Tables = refl
-same_kind_self Memories = refl
-same_kind_self Globals = refl
-same_kind_self Types = refl
-same_kind_self ElementSegments = refl
-same_kind_self DataSegments = refl
-
 index_place : (k : Space) (is : List Import) (n off : ℕ) (i : Import) → slice_get is n ≡ Some i → space_of_import i.desc ≡ k → slice_get (places (has_kind k) is off) (space_index is n k) ≡ Some (off + n)
 index_place k [] n off i e h = absurd (let f = e in cc)
 index_place k (j ∷ js) zero off i e h =
-    let same : same_space k (space_of_import j.desc) ≡ true = ap (λ i. same_space k (space_of_import i.desc)) (same_Some _ _ e) ∙ ap (same_space k) h ∙ same_kind_self k in
+    let same : same_space k (space_of_import j.desc) ≡ true = ap (λ i. same_space k (space_of_import i.desc)) (same_Some _ _ e) ∙ ap (same_space k) h ∙ kind_same k in
     let z : off ≡ off + 0 = omega arith in
     ap (λ b. slice_get (cond b (off ∷ places (has_kind k) js (suc off)) (places (has_kind k) js (suc off))) 0) same ∙ ap Some z
 index_place k (j ∷ js) (suc n) off i e h = go (has_kind k j) (index_place k js n (suc off) i e h)

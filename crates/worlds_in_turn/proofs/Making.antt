@@ -28,6 +28,7 @@ use Rattle.worlds_in_turn.proofs.Turn.{Sized}
 use Rattle.worlds_in_turn.proofs.Closed.{Sound, own_func, code}
 use Rattle.worlds_in_turn.proofs.Beside.{Untouched, Beside}
 use Rattle.std.proofs.lemmas.List.{length-append}
+use Rattle.wasm_meaning.specs.Touched.{StepsWriteWhatTheyTouch}
 
 -- ---- the opening of a start ----
 
@@ -80,7 +81,7 @@ some_entries es (a_frame e) = omega arith
 some_entries es a_call = omega arith
 some_entries es (over e g) = omega arith
 
-module _ (below : BelowIsNotSeen) (ticks : RelatedTicksAgree) (others : OthersStay) (env : Environment) (parts : List Part) (allocated : Store) (p : ℕ) where
+module _ (below : BelowIsNotSeen) (writes : StepsWriteWhatTheyTouch) (ticks : RelatedTicksAgree) (others : OthersStay) (env : Environment) (parts : List Part) (allocated : Store) (p : ℕ) where
   abbrev R : Pairing
   R = reaching env parts p
 
@@ -167,7 +168,7 @@ module _ (below : BelowIsNotSeen) (ticks : RelatedTicksAgree) (others : OthersSt
         (tick u) (tick (over_one u fs)) (subst (λ u'. Unseen (Opening [] ∷ []) (Opening [] ∷ []) (Pending v) (Pending []) u.store.funcs (tick u') (tick (over_one u fs))) (run_is u (fs ++ Opening [] ∷ []) (Pending v) c d) second)
         (ticks (is_reached env parts p) (one_to_one env parts p) (over_one u fs) (over_one r es) h.related)
         (others (is_reached env parts p) (one_to_one env parts p) (over_one u fs) (over_one r es) h.related tt)
-        (tick_extends r (λ x e. fresh_not view x (sym b ∙ e))) (tick_extends u (λ x e. fresh_not v x (sym d ∙ e)))
+        (tick_extends writes r (λ x e. fresh_not view x (sym b ∙ e))) (tick_extends writes u (λ x e. fresh_not v x (sym d ∙ e)))
       where
         fresh_not : (view : List (Text × Thing)) (x : _) → Pending view ≡ Fresh x → ⊥
         fresh_not view x e = cc

@@ -20,7 +20,7 @@ use Rattle.wasm_meaning.specs.World.{base, address_of, import_type, imported_thi
 use Rattle.wasm_meaning.specs.InTurn.{JoinsEarlier}
 use Rattle.index_remap.specs.Laws.{CodeIsRelatedToItself}
 use Rattle.std.proofs.lemmas.Option.{slice_get_within, same_Some}
-use Rattle.worlds_in_turn.proofs.Things.{IsInst, inst_is, space_is, func_is}
+use Rattle.worlds_in_turn.proofs.Things.{space_is, func_is}
 use Rattle.worlds_in_turn.proofs.Joined.{ExportsThere, inst_of_part}
 use Rattle.worlds_in_turn.proofs.Turn.{SitesThere, all_is}
 use Rattle.worlds_in_turn.proofs.Beside.{Laid, at_allocated_funcs}
@@ -29,6 +29,7 @@ use Rattle.base_lists.proofs.Filtered.{place_of, places_many}
 use Rattle.base_lists.proofs.Options.{and_then_is, unwrap_or_false_is, all_there_at, all_there_length}
 use Rattle.base_lists.proofs.Numbers.{numbers_at}
 use Rattle.world_simulation.proofs.Places.{some_then}
+use Rattle.world_simulation.proofs.Instancing.{IsInst, inst_is}
 
 is_func : (d : ImportDesc) → is_some (func_of d) ≡ same_space Functions (space_of_import d)
 is_func (im.Func ty) = refl

@@ -15,6 +15,7 @@ use Rattle.worlds_in_turn.proofs.Extends.{TableExtends, MemoryExtends, Extends, 
 use Rattle.worlds_in_turn.proofs.StepExtends.{Grows, act_all}
 use Rattle.std.proofs.lemmas.List.{length-append}
 use Rattle.wasm_meaning.proofs.Outcomes.{with_is, with_found, ill_typed, AllOf, stopped, just}
+use Rattle.wasm_meaning.specs.Touched.{StepsWriteWhatTheyTouch}
 
 -- the store that is left
 abbrev pub store_of : Next → Store
@@ -54,8 +55,8 @@ perform_leaves s f es (Calls a vs h) g = with_found (type_at s a) _ (λ t _. wit
 perform_leaves s f es (AsksGrow k m n h) g = just (stays s)
 perform_leaves s f es (Ends vs) g = with_is (pop_typed f.results vs) _ (λ p _. give_leaves s p.0 es)
 
-step_leaves : (s : Store) (f : Frame) (es : List Entry) → Leaves s (step s (Running f ∷ es))
-step_leaves s f es = go (act s f) (act_all s f)
+step_leaves : StepsWriteWhatTheyTouch → (s : Store) (f : Frame) (es : List Entry) → Leaves s (step s (Running f ∷ es))
+step_leaves writes s f es = go (act s f) (act_all writes s f)
   where
     go : (o : Outcome Act) → AllOf (Grows s) o → Leaves s (bind o (perform s f es))
     go Traps h = stopped
@@ -233,14 +234,14 @@ phase_kept r (Pending view) h = after_kept r IllTyped ill_typed
 phase_kept r Opened h = next_kept r r.moves
 phase_kept r Closed h = closed_kept r r.moves
 
-transition_kept : (r : Run) (es : List Entry) → es ≡ r.entries → ((b : _) → r.phase ≡ Fresh b → ⊥) → Kept r (made (transition_at r es))
-transition_kept r [] e h = phase_kept r r.phase h
-transition_kept r (Running f ∷ es) e h = after_kept r _ (subst (λ fs. Leaves r.store (step r.store fs)) e (step_leaves r.store f es))
-transition_kept r (Mark ∷ es) e h = after_kept r IllTyped ill_typed
-transition_kept r (Opening starts ∷ es) e h = open_kept r starts es
-transition_kept r (Waiting ts ∷ es) e h = next_kept r r.moves
-transition_kept r (Ended vs ∷ es) e h = after_kept r _ (give_leaves r.store vs es)
-transition_kept r (Growing g ∷ es) e h = next_kept r r.moves
+transition_kept : StepsWriteWhatTheyTouch → (r : Run) (es : List Entry) → es ≡ r.entries → ((b : _) → r.phase ≡ Fresh b → ⊥) → Kept r (made (transition_at r es))
+transition_kept writes r [] e h = phase_kept r r.phase h
+transition_kept writes r (Running f ∷ es) e h = after_kept r _ (subst (λ fs. Leaves r.store (step r.store fs)) e (step_leaves writes r.store f es))
+transition_kept writes r (Mark ∷ es) e h = after_kept r IllTyped ill_typed
+transition_kept writes r (Opening starts ∷ es) e h = open_kept r starts es
+transition_kept writes r (Waiting ts ∷ es) e h = next_kept r r.moves
+transition_kept writes r (Ended vs ∷ es) e h = after_kept r _ (give_leaves r.store vs es)
+transition_kept writes r (Growing g ∷ es) e h = next_kept r r.moves
 
-pub tick_extends : (r : Run) → ((b : _) → r.phase ≡ Fresh b → ⊥) → Kept r (tick r)
-tick_extends r h = transition_kept r r.entries refl h
+pub tick_extends : StepsWriteWhatTheyTouch → (r : Run) → ((b : _) → r.phase ≡ Fresh b → ⊥) → Kept r (tick r)
+tick_extends writes r h = transition_kept writes r r.entries refl h

@@ -16,11 +16,12 @@ use Rattle.wasm_meaning.specs.World.{defined_count, base, imported_thing, all_th
 use Rattle.wasm_meaning.specs.InTurn.{next_inst, all_match, thing_for, JoinsEarlier}
 use Rattle.world_simulation.specs.Owned.{OwnEntitiesCorrespond}
 use Rattle.worlds_in_turn.proofs.Extends.{TableExtends, MemoryExtends, GlobalExtends}
-use Rattle.worlds_in_turn.proofs.Things.{inst_is, space_is, each_from, gathered}
+use Rattle.worlds_in_turn.proofs.Things.{space_is, each_from, gathered}
 use Rattle.worlds_in_turn.proofs.Joined.{ExportsThere, made_upto, thing_same, inst_of_part}
 use Rattle.worlds_in_turn.proofs.Low.{thing_low}
 use Rattle.base_lists.proofs.Options.{and_then_is}
 use Rattle.std.proofs.lemmas.Option.{same_Some}
+use Rattle.world_simulation.proofs.Instancing.{inst_is}
 
 -- as many as the environment and the first parts have
 pub record Sized (env : Environment) (parts : List Part) (p : ℕ) (t : Store) : Type 0 where

@@ -13,7 +13,6 @@ use Rattle.index_remap.specs.RelatedRuns.{ThingRel, a_func, a_table, a_memory, a
 use Rattle.index_remap.specs.Laws.{CodeIsRelatedToItself, RelatedTicksAgree, OthersStay}
 use Rattle.index_remap.proofs.Rel.{length_rel}
 use Rattle.worlds_in_turn.proofs.Extends.{TableExtends, MemoryExtends, GlobalExtends, Extends}
-use Rattle.worlds_in_turn.proofs.Things.{inst_is}
 use Rattle.worlds_in_turn.proofs.Joined.{inst_of_part}
 use Rattle.worlds_in_turn.proofs.Reached.{reaching, reached_at, reached_is, elems_next, datas_next}
 use Rattle.worlds_in_turn.proofs.Low.{inst_low, numbers_back}
@@ -22,6 +21,8 @@ use Rattle.worlds_in_turn.proofs.Closed.{val_more, Closed, Sound, Reaches, added
 use Rattle.worlds_in_turn.proofs.Beside.{Beside, beside_next, more}
 use Rattle.worlds_in_turn.proofs.Making.{Abreast}
 use Rattle.worlds_in_turn.proofs.Given.{IsGiven}
+use Rattle.wasm_meaning.specs.Touched.{StepsWriteWhatTheyTouch}
+use Rattle.world_simulation.proofs.Instancing.{inst_is}
 
 -- ---- what is related by itself is the same ----
 
@@ -124,9 +125,9 @@ module _ (env : Environment) (w : World) (insts : List Inst) (allocated : Store)
       thing_more (a_memory {a = a} {b = b} h) = a_memory (more itself env w.parts insts allocated g.laid k part.«module» is_part within Memories a b h)
       thing_more (a_global {a = a} {b = b} h) = a_global (more itself env w.parts insts allocated g.laid k part.«module» is_part within Globals a b h)
 
-  module _ (below : BelowIsNotSeen) (ticks : RelatedTicksAgree) (others : OthersStay) where
+  module _ (below : BelowIsNotSeen) (writes : StepsWriteWhatTheyTouch) (ticks : RelatedTicksAgree) (others : OthersStay) where
     -- the two runs are abreast again, with the part
-    pub abreast_next : (r : Run) (q : InTurn) → Abreast below ticks others env w.parts allocated k [] [] r q.run → Abreast below ticks others env w.parts allocated (suc k) [] [] r (goes_on q part (drop (suc k) w.parts) i (joined_stores q.run.store (g.laid.adds k))).run
+    pub abreast_next : (r : Run) (q : InTurn) → Abreast below writes ticks others env w.parts allocated k [] [] r q.run → Abreast below writes ticks others env w.parts allocated (suc k) [] [] r (goes_on q part (drop (suc k) w.parts) i (joined_stores q.run.store (g.laid.adds k))).run
     abreast_next r q h =
         let t = q.run.store in
         let holds = holds_of env w.parts k allocated t r.store h.beside h.extends in
