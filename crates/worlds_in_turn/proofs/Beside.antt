@@ -12,13 +12,14 @@ use Rattle.wasm_meaning.specs.Environment.{Environment}
 use Rattle.wasm_meaning.specs.World.{own_store, base, joined_stores, part_store, defined_before}
 use Rattle.index_remap.specs.Related.{Pairing, BothRel, both, ListRel, nil, cons, FuncRel, TableRel, GlobalRel, ElemRel, StoreRel}
 use Rattle.index_remap.specs.Laws.{CodeIsRelatedToItself}
-use Rattle.worlds_in_turn.proofs.Reached.{count_upto, is_reached, reaching, reached_at, reached_is, defined_next}
+use Rattle.worlds_in_turn.proofs.Reached.{count_upto, is_reached, reaching, reached_at, reached_is}
 use Rattle.worlds_in_turn.proofs.Turn.{Sized}
 use Rattle.worlds_in_turn.proofs.Closed.{table_more, global_more, elem_more, Closed, Sound, own_func, code, Reaches, func_self}
 use Rattle.std.proofs.lemmas.List.{length-append}
 use Rattle.base_lists.proofs.Places.{append_left, append_right, slice_get_there}
 use Rattle.index_remap.proofs.Rel.{both_map}
 use Rattle.world_simulation.proofs.Stored.{type_same, own_same}
+use Rattle.wasm_meaning.proofs.Counts.{defined_next}
 
 -- ---- lists by place ----
 

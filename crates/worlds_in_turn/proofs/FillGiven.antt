@@ -13,7 +13,7 @@ use Rattle.worlds_in_turn.proofs.Extends.{TableExtends, MemoryExtends, EachExten
 use Rattle.worlds_in_turn.proofs.Joined.{ExportsThere}
 use Rattle.worlds_in_turn.proofs.Turn.{Sized, Holds, SitesThere}
 use Rattle.worlds_in_turn.proofs.Beside.{Laid}
-use Rattle.worlds_in_turn.proofs.FillStores.{or_no_store, added_at, added_is, rest_for, rest_from, rest_last, first_stores, first_parts, part_adds, Lengths, module_low}
+use Rattle.worlds_in_turn.proofs.FillStores.{or_no_store, added_at, added_is, rest_for, rest_from, rest_last, first_stores, first_parts, part_adds, Lengths}
 use Rattle.worlds_in_turn.proofs.FillValues.{Constant, HoldsFixed, value_same}
 use Rattle.worlds_in_turn.proofs.FillAdded.{Constants, added_same}
 use Rattle.worlds_in_turn.proofs.FillRuns.{Job, Skip, Fill, run, runs}
@@ -26,6 +26,7 @@ use Rattle.std.proofs.lemmas.Option.{slice_get_within, same_Some}
 use Rattle.base_lists.proofs.Options.{and_then_is}
 use Rattle.base_lists.proofs.Places.{append_at_left, append_right, append_left}
 use Rattle.merge_validity.proofs.Linked.{site_in}
+use Rattle.wasm_meaning.proofs.Counts.{module_there}
 
 -- ---- the sites are the imports ----
 
@@ -87,7 +88,7 @@ module _ (env : Environment) (parts : List Part) (insts : List Inst) (are : inst
 
   pub rest_at : (k : ℕ) (m : Module) → module_at parts k ≡ Some m → rest_from env parts insts k ≡ joined_stores (or_no_store (added_at env parts insts k)) (rest_from env parts insts (suc k))
   rest_at k m is_part =
-      let l = module_low parts k m is_part in
+      let l = module_there parts k m is_part in
       let n : length parts - k ≡ suc (length parts - suc k) = omega (arith, l) in
       ap (λ n. rest_for env parts insts n k) n
 

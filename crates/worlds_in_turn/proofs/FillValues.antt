@@ -21,12 +21,13 @@ use Rattle.worlds_in_turn.proofs.Things.{inst_at, walk_more, thing_has}
 use Rattle.worlds_in_turn.proofs.Joined.{ExportsThere}
 use Rattle.worlds_in_turn.proofs.FillAddresses.{AtDefined, AtOwn, HasAddress, import_address, imported_at, imported_low}
 use Rattle.worlds_in_turn.proofs.Low.{all_back}
-use Rattle.worlds_in_turn.proofs.FillStores.{adds, rest_from, rest_next, first_stores, part_adds, inst_there, allocated_whole, first_parts, module_low}
+use Rattle.worlds_in_turn.proofs.FillStores.{adds, rest_from, rest_next, first_stores, part_adds, inst_there, allocated_whole, first_parts}
 use Rattle.std.proofs.lemmas.Option.{slice_get_within, same_Some}
 use Rattle.base_lists.proofs.Places.{append_left, append_right}
 use Rattle.base_lists.proofs.Options.{and_then_is}
 use Rattle.merge_validity.proofs.Same.{kind_same}
 use Rattle.world_simulation.proofs.Instancing.{IsInst, inst_is}
+use Rattle.wasm_meaning.proofs.Counts.{module_there}
 
 -- ---- lists ----
 
@@ -126,7 +127,7 @@ module _ (env : Environment) (parts : List Part) (insts : List Inst) (are : inst
     -- the value of a global that a part defines is its value expression's
     defined_value : (p : ℕ) (m : Module) (j : ℕ) (g : Global) → module_at parts p ≡ Some m → j < length m.globals → slice_get allocated.globals (base env parts Globals p + j) ≡ Some g → (e : ConstExpr) × (option_and_then (λ d. Some d.init) (slice_get m.globals j) ≡ Some e) × (value_of env parts insts p e ≡ Some g.value)
     defined_value p m j g is_part low at =
-        let l = module_low parts p m is_part in
+        let l = module_there parts p m is_part in
         let t = inst_there env parts insts allocated stores_are size p l in
         let same : t.0 ≡ m = same_Some _ _ (sym t.2 ∙ is_part) in
         let a = part_adds env parts insts allocated stores_are size p m t.1 is_part t.3 in
@@ -201,7 +202,7 @@ module _ (env : Environment) (parts : List Part) (insts : List Inst) (are : inst
               let last : outside_read parts w.last ≡ Some (record { part = w.last.part; expr = const.Global y }) = ap (λ o. option_and_then (λ m. Some (record { part = w.last.part; expr = const.Global (space_index m.imports w.last.import Globals) })) o) w.is_part in
               let step = step_is (Outside w.last) w.end ∙ ap (λ o. option_and_then (λ r. Some (Ends r)) o) last in
               let r_is : record { part = w.last.part; expr = const.Global y } ≡ r = same_Some _ _ (at_end (Ends (record { part = w.last.part; expr = const.Global y })) step) in
-              let j = inst_there env parts insts allocated stores_are size w.last.part (module_low parts w.last.part w.of w.is_part) in
+              let j = inst_there env parts insts allocated stores_are size w.last.part (module_there parts w.last.part w.of w.is_part) in
               let z : 0 + w.last.import ≡ w.last.import = omega arith in
               let stands = index_place Globals w.of.imports w.last.import 0 w.import w.is_import w.kind ∙ ap Some z in
               let a = import_address env parts w.last.part w.of j.1 (part_inst w.last.part w.of j.1 w.is_part j.3) Globals y w.last.import stands in

@@ -14,10 +14,11 @@ use Rattle.wasm_meaning.specs.InTurn.{JoinsEarlier}
 use Rattle.world_simulation.specs.Owned.{OwnEntitiesCorrespond}
 use Rattle.worlds_in_turn.proofs.Things.{inst_at, space_is, space_in, in_space, address_is, held_external}
 use Rattle.worlds_in_turn.proofs.Joined.{stays_own, joins, inst_of_part}
-use Rattle.worlds_in_turn.proofs.Reached.{defined_next, defined_more, own_low}
+use Rattle.worlds_in_turn.proofs.Reached.{defined_more, own_low}
 use Rattle.base_lists.proofs.Options.{and_then_is}
 use Rattle.std.proofs.lemmas.Option.{same_Some}
 use Rattle.world_simulation.proofs.Instancing.{inst_is}
+use Rattle.wasm_meaning.proofs.Counts.{defined_next}
 
 -- ---- lists ----
 

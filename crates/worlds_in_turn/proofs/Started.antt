@@ -113,7 +113,7 @@ module _ (same_types : (s t : FuncType) → same_func_type s t ≡ true → s �
         let same_t : made.0 ≡ t = same_Some _ _ (sym made.1 ∙ ap₂ slice_get is_inst.types back.2 ∙ type) in
         let count = all_there_length (new_func i) m.funcs fs.0 fs.1 in
         let n = ap length funcs in
-        let within : suc p ≤ length parts = module_low parts p m is_part in
+        let within : suc p ≤ length parts = module_there parts p m is_part in
         record {
           address = base env parts Functions p + k;
           func = f.0;
@@ -122,10 +122,10 @@ module _ (same_types : (s t : FuncType) → same_func_type s t ≡ true → s �
           type = ap control.type_of_func (sym (same_Some _ _ made.2)) ∙ same_t;
         }
       where
-        module_low : (parts : List Part) (p : ℕ) (m : Module) → module_at parts p ≡ Some m → suc p ≤ length parts
-        module_low [] p m e = absurd (let z = e in cc)
-        module_low (part ∷ parts) zero m e = omega arith
-        module_low (part ∷ parts) (suc p) m e = let b = module_low parts p m e in omega (arith, b)
+        module_there : (parts : List Part) (p : ℕ) (m : Module) → module_at parts p ≡ Some m → suc p ≤ length parts
+        module_there [] p m e = absurd (let z = e in cc)
+        module_there (part ∷ parts) zero m e = omega arith
+        module_there (part ∷ parts) (suc p) m e = let b = module_there parts p m e in omega (arith, b)
 
     -- a function of a part's space stands in the store, with its type
     pub func_there : type_of_func m x ≡ Some t → HasFunc i allocated x t

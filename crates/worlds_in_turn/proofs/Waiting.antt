@@ -14,7 +14,7 @@ use Rattle.index_remap.specs.Laws.{CodeIsRelatedToItself, RelatedTicksAgree, Oth
 use Rattle.index_remap.proofs.Rel.{length_rel}
 use Rattle.worlds_in_turn.proofs.Extends.{TableExtends, MemoryExtends, GlobalExtends, Extends}
 use Rattle.worlds_in_turn.proofs.Joined.{inst_of_part}
-use Rattle.worlds_in_turn.proofs.Reached.{reaching, reached_at, reached_is, elems_next, datas_next}
+use Rattle.worlds_in_turn.proofs.Reached.{reaching, reached_at, reached_is}
 use Rattle.worlds_in_turn.proofs.Low.{inst_low, numbers_back}
 use Rattle.worlds_in_turn.proofs.Turn.{Holds}
 use Rattle.worlds_in_turn.proofs.Closed.{val_more, Closed, Sound, Reaches, added_closed, added_sound}
@@ -23,6 +23,7 @@ use Rattle.worlds_in_turn.proofs.Making.{Abreast}
 use Rattle.worlds_in_turn.proofs.Given.{IsGiven}
 use Rattle.wasm_meaning.specs.Touched.{StepsWriteWhatTheyTouch}
 use Rattle.world_simulation.proofs.Instancing.{inst_is}
+use Rattle.wasm_meaning.proofs.Counts.{defined_next}
 
 -- ---- what is related by itself is the same ----
 
@@ -75,8 +76,8 @@ module _ (env : Environment) (w : World) (insts : List Inst) (allocated : Store)
   pub reaches : Reaches env w.parts (suc k) i
   reaches =
       let is = inst_is env w.parts k part.«module» i (inst_of_part env w.parts insts g.are g.size g.earlier k part.«module» i is_part at_inst) in
-      let en = elems_next w.parts k part.«module» is_part in
-      let dn = datas_next w.parts k part.«module» is_part in
+      let en = defined_next ElementSegments w.parts k part.«module» is_part in
+      let dn = defined_next DataSegments w.parts k part.«module» is_part in
       record {
         spaces = λ kind n a h. inst_low env w.parts insts g.are g.size g.earlier g.own k part.«module» i is_part at_inst kind n a h;
         elems = λ n a h. let r = numbers_back (defined_before ElementSegments w.parts k) (length part.«module».elems) n a (ap (λ l. slice_get l n) (sym is.elems) ∙ h) in omega (arith, r.0, r.1, en);

@@ -132,12 +132,12 @@ module _ (env : Environment) (w : World) (insts : List Inst) (allocated : Store)
         go : (s : Option ℕ) → part.«module».start ≡ s → (suc k < length w.parts) ⊎ (length w.parts ≤ suc k) → Early d r next_state
         go (Some x) e last = stage_now (λ p m less is. g.late k p x part.«module» m (omega (arith, less)) is_part is e)
         go None e (inl less) = fills_on (ap (start_in i) e) less
-        go None e (inr all) = stage_now (λ p m less is. absurd (let b = module_low w.parts p m is in omega (arith, less, all, b)))
+        go None e (inr all) = stage_now (λ p m less is. absurd (let b = module_there w.parts p m is in omega (arith, less, all, b)))
           where
-            module_low : (parts : List Part) (p : ℕ) (m : Module) → module_at parts p ≡ Some m → p < length parts
-            module_low [] p m e = absurd (let z = e in cc)
-            module_low (part ∷ parts) zero m e = omega arith
-            module_low (part ∷ parts) (suc p) m e = let b = module_low parts p m e in omega (arith, b)
+            module_there : (parts : List Part) (p : ℕ) (m : Module) → module_at parts p ≡ Some m → p < length parts
+            module_there [] p m e = absurd (let z = e in cc)
+            module_there (part ∷ parts) zero m e = omega arith
+            module_there (part ∷ parts) (suc p) m e = let b = module_there parts p m e in omega (arith, b)
 
   abbrev Next : ℕ → Run → InTurn → Type 0
   Next d r q = Leads tick tick_in_turn (λ d e r q. Early d r q) d 0 r q
