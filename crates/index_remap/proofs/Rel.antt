@@ -5,6 +5,7 @@ use native.Mathlib.Decide.{ℕ_discrete}
 use Rattle.wasm_meaning.specs.Outcomes.{Outcome, Gives, Traps, IllTyped, or_trap, bind, onto, split_at, slice, overwrite, copies, or_ill_typed}
 use Rattle.wasm_meaning.proofs.Outcomes.{AllOf, ill_typed, stopped, just}
 use Rattle.index_remap.specs.Related.{Pairing, OneToOne, OneToOneWhereWritten, is_written, OptRel, none, some, BothRel, both, ResRel, done, trap, wrong, ListRel, nil, cons}
+use Rattle.base_lists.proofs.Places.{set_other}
 
 -- ---- outcomes ----
 
@@ -185,11 +186,7 @@ at_put_here (x ∷ xs) zero v = refl
 at_put_here (x ∷ xs) (suc n) v = at_put_here xs n v
 
 pub at_put_there : {A : Type 0} (xs : List A) (n m : ℕ) (v : A) → (n ≡ m → ⊥) → slice_get (slice_set xs n v) m ≡ slice_get xs m
-at_put_there [] n m v h = refl
-at_put_there (x ∷ xs) zero zero v h = absurd (h refl)
-at_put_there (x ∷ xs) zero (suc m) v h = refl
-at_put_there (x ∷ xs) (suc n) zero v h = refl
-at_put_there (x ∷ xs) (suc n) (suc m) v h = at_put_there xs n m v (λ e. h (ap suc e))
+at_put_there xs n m v h = set_other xs n m v (λ e. h (sym e))
 
 -- what is one to one is so where something is written
 pub written : {R : Pairing} → OneToOne R → OneToOneWhereWritten R
