@@ -1,25 +1,23 @@
 -- Code is related to itself.
-use Rattle.std.proofs.Common.{◌≡◌, ℕ, List, [], ◌∷◌, refl, false}
+use Rattle.std.proofs.Common.{◌≡◌, ℕ, List, [], ◌∷◌, refl, false, slice_get, Some, None, Option}
 use Rattle.wasm_tree.specs.declared.space.Space.{Space}
 use Rattle.wasm_tree.specs.declared.space.Space.TheVariants.{Functions, Tables, Memories, Globals, ElementSegments, DataSegments}
 use Rattle.wasm_tree.specs.declared.types.BlockType.{BlockType}
 use Rattle.wasm_tree.specs.declared.types.BlockType.TheVariants as bt
 use Rattle.wasm_tree.specs.declared.instr.Instr.{Instr, out-Instr, Row_of-Instr, end_of-Instr, more_of-Instr, items-the_row-Instr, items_shown-the_row-Instr-0, Block', Loop', If'}
 use Rattle.wasm_tree.specs.declared.instr.Instr.TheOpen.{Instr-F}
-use Rattle.wasm_meaning.specs.Outcomes.{Outcome, Gives, Traps, IllTyped, at}
 use Rattle.wasm_meaning.specs.State.{Inst}
 use Rattle.index_remap.specs.Related
-use Rattle.index_remap.specs.Related.{Pairing, ResRel, done, trap, wrong, Names, BlockRel, empty, value, indexed, OpRel, CodeRel, end, then}
+use Rattle.index_remap.specs.Related.{Pairing, OptRel, none, some, Names, BlockRel, empty, value, indexed, OpRel, CodeRel, end, then}
 use Rattle.index_remap.specs.Laws.{NamesItself}
 
 module _ (R : Pairing) (i : Inst) (h : NamesItself R i) where
-  self : (k : Space) (xs : List ℕ) → ((n a : ℕ) → at xs n ≡ Gives a → R.named k a a) → (n : ℕ) → Names R.named k xs xs n n
-  self k xs all n = go (at xs n) (all n)
+  self : (k : Space) (xs : List ℕ) → ((n a : ℕ) → slice_get xs n ≡ Some a → R.named k a a) → (n : ℕ) → Names R.named k xs xs n n
+  self k xs all n = go (slice_get xs n) (all n)
     where
-      go : (o : Outcome ℕ) → ((a : ℕ) → o ≡ Gives a → R.named k a a) → ResRel (R.named k) o o
-      go (Gives a) f = done (f a refl)
-      go Traps f = trap
-      go IllTyped f = wrong
+      go : (o : Option ℕ) → ((a : ℕ) → o ≡ Some a → R.named k a a) → OptRel (R.named k) o o
+      go (Some a) f = some (f a refl)
+      go None f = none
 
   block_self : (b : BlockType) → BlockRel i i b b
   block_self bt.Empty = empty

@@ -1,19 +1,17 @@
 -- Where whatever code may name as one is related, the next instruction names related addresses.
-use Rattle.std.proofs.Common.{ℕ, List, [], ◌∷◌, true, false}
+use Rattle.std.proofs.Common.{ℕ, List, [], ◌∷◌, Option, true, false}
 use Rattle.wasm_tree.specs.declared.space.Space.{Space}
 use Rattle.wasm_tree.specs.declared.instr.Instr.{Instr}
 use Rattle.wasm_tree.specs.declared.instr.Instr.TheOpen.{Instr-F}
-use Rattle.wasm_meaning.specs.Outcomes.{Outcome}
 use Rattle.wasm_meaning.specs.State.{Inst, Level, Entry, Running, Mark, Opening, Waiting, Ended, Growing}
 use Rattle.index_remap.specs.Related
-use Rattle.index_remap.specs.Related.{Pairing, ResRel, done, trap, wrong, Names, ArgRel, OpRel, NextKnown, TopKnown}
+use Rattle.index_remap.specs.Related.{Pairing, OptRel, none, some, Names, ArgRel, OpRel, NextKnown, TopKnown}
 use Rattle.index_remap.specs.Laws.{EntriesKnown}
 
 module _ (R : Pairing) (known : (k : Space) (a b : ℕ) → R.named k a b → R.of k a b) (i j : Inst) where
-  names_known : {k : Space} {o p : Outcome ℕ} → ResRel (R.named k) o p → ResRel (R.of k) o p
-  names_known {k} (done {a = a} {b = b} p) = done (known k a b p)
-  names_known trap = trap
-  names_known wrong = wrong
+  names_known : {k : Space} {o p : Option ℕ} → OptRel (R.named k) o p → OptRel (R.of k) o p
+  names_known {k} (some {a = a} {b = b} p) = some (known k a b p)
+  names_known none = none
 
   pub op_known : {o p : Instr-F Instr} → OpRel R i j false o p → OpRel R i j true o p
   op_known Related.unreachable = Related.unreachable

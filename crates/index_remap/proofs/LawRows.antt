@@ -1,6 +1,6 @@
 -- The law of steps where it says more than of equal stores: a dropped segment beside an empty one, functions that are not one to one, and a list of functions of
 -- which only the types are known. What the steps come to is computed.
-use Rattle.std.proofs.Common.{◌≡◌, refl, sym, subst, ◌∙◌, ℕ, zero, suc, List, [], ◌∷◌, Some, None, Bool, true, false, arith}
+use Rattle.std.proofs.Common.{◌≡◌, refl, sym, subst, ◌∙◌, ℕ, zero, suc, List, [], ◌∷◌, Some, None, Bool, true, false, arith, slice_get}
 use Rattle.std.proofs.lemmas.Bool.{true≢false}
 use Rattle.wasm_tree.specs.declared.space.Space.{Space}
 use Rattle.wasm_tree.specs.declared.space.Space.TheVariants.{Types, Functions, Tables, Memories, Globals, ElementSegments, DataSegments}
@@ -9,12 +9,12 @@ use Rattle.wasm_tree.specs.declared.types.FuncType.{FuncType}
 use Rattle.wasm_tree.specs.declared.instr.Instr.{Instr, out-Instr}
 use Rattle.wasm_tree.specs.declared.instr.Instr.TheVariants as i
 use Rattle.wasm_num.specs.Operations.{W32}
-use Rattle.wasm_meaning.specs.Outcomes.{Outcome, Gives, Traps, at}
+use Rattle.wasm_meaning.specs.Outcomes.{Outcome, Gives, Traps}
 use Rattle.wasm_meaning.specs.State.{FuncRef, Val, Num, Ref, Inst, Func, Code, Store, Entry, Running, Act, Ran}
 use Rattle.wasm_meaning.specs.Control.{type_at, own_at}
 use Rattle.wasm_meaning.specs.Step.{step}
 use Rattle.index_remap.specs.Related
-use Rattle.index_remap.specs.Related.{Pairing, OneToOne, OneToOneWhereWritten, is_written, ResRel, done, BothRel, both, ListRel, nil, cons, RefRel, ValRel, number, CodeRel, end, then, instead, FuncRel, defined, TableRel, ElemRel, StoreRel, EntryRel, running, NextRel, NotListed, TopSkips}
+use Rattle.index_remap.specs.Related.{Pairing, OneToOne, OneToOneWhereWritten, is_written, some, ResRel, BothRel, both, ListRel, nil, cons, RefRel, ValRel, number, CodeRel, end, then, instead, FuncRel, defined, TableRel, ElemRel, StoreRel, EntryRel, running, NextRel, NotListed, TopSkips}
 use Rattle.index_remap.specs.Laws.{passed, Above}
 use Rattle.index_remap.proofs.AboveSteps.{step_above}
 use Rattle.index_remap.proofs.Known.{entries_known}
@@ -25,17 +25,17 @@ use Rattle.index_remap.proofs.SameRuns.{touches, skips}
 abbrev nothing : FuncType
 nothing = record { params = []; results = [] }
 
-abbrev nowhere : Inst
+abbrev pub nowhere : Inst
 nowhere = record { types = []; funcs = []; tables = []; mems = []; globals = []; elems = []; datas = [] }
 
-abbrev no_store : Store
+abbrev pub no_store : Store
 no_store = record { funcs = []; tables = []; mems = []; globals = []; elems = []; datas = [] }
 
 -- a frame of one level with these values and this code
-abbrev runs : Inst → List Val → List Instr → Entry
+abbrev pub runs : Inst → List Val → List Instr → Entry
 runs inst values code = Running (record { inst = inst; locals = []; results = []; levels = record { values = values; code = code; gives = 0; takes = 0; back = [] } ∷ [] })
 
-no_more : {A : Type 0} → false ≡ true → A
+pub no_more : {A : Type 0} → false ≡ true → A
 no_more h = absurd (true≢false (sym h))
 
 -- the law of steps, of one entry each, with nothing below
@@ -89,22 +89,22 @@ with_segments dropped = record no_store {
   datas = record { bytes = []; dropped = dropped } ∷ [];
 }
 
-tables_related : (a b : ℕ) → Z.of Tables a b → BothRel (TableRel Z) (at (with_segments true).tables a) (at (with_segments false).tables b)
+tables_related : (a b : ℕ) → Z.of Tables a b → BothRel (TableRel Z) (slice_get (with_segments true).tables a) (slice_get (with_segments false).tables b)
 tables_related zero zero h = both (record { type = refl; most = refl; slots = nil })
 tables_related zero (suc b) h = no_more h
 tables_related (suc a) b h = no_more h
 
-memories_related : (a b : ℕ) → Z.of Memories a b → BothRel (λ m n. m ≡ n) (at (with_segments true).mems a) (at (with_segments false).mems b)
+memories_related : (a b : ℕ) → Z.of Memories a b → BothRel (λ m n. m ≡ n) (slice_get (with_segments true).mems a) (slice_get (with_segments false).mems b)
 memories_related zero zero h = both refl
 memories_related zero (suc b) h = no_more h
 memories_related (suc a) b h = no_more h
 
-elems_related : (a b : ℕ) → Z.of ElementSegments a b → BothRel (ElemRel Z) (at (with_segments true).elems a) (at (with_segments false).elems b)
+elems_related : (a b : ℕ) → Z.of ElementSegments a b → BothRel (ElemRel Z) (slice_get (with_segments true).elems a) (slice_get (with_segments false).elems b)
 elems_related zero zero h = both (record { items = nil })
 elems_related zero (suc b) h = no_more h
 elems_related (suc a) b h = no_more h
 
-datas_related : (a b : ℕ) → Z.of DataSegments a b → BothRel (λ d e. d.bytes ≡ e.bytes) (at (with_segments true).datas a) (at (with_segments false).datas b)
+datas_related : (a b : ℕ) → Z.of DataSegments a b → BothRel (λ d e. d.bytes ≡ e.bytes) (slice_get (with_segments true).datas a) (slice_get (with_segments false).datas b)
 datas_related zero zero h = both refl
 datas_related zero (suc b) h = no_more h
 datas_related (suc a) b h = no_more h
@@ -135,14 +135,14 @@ same_bytes : (n : ℕ) → ResRel (NextRel Z (Above Z [] [])) (step (with_segmen
 unfolding out-Instr denote.Hole.Carrier.out
 same_bytes n =
     let e : EntryRel Z (initialises n) (initialises n) =
-    running (record { locals = nil; results = refl; levels = cons (record { values = cons number (cons number (cons number nil)); code = then (Related.memory_init (done refl) (done refl)) end; gives = refl; takes = refl; back = end }) nil }) in
+    running (record { locals = nil; results = refl; levels = cons (record { values = cons number (cons number (cons number nil)); code = then (Related.memory_init (some refl) (some refl)) end; gives = refl; takes = refl; back = end }) nil }) in
     steps_of_one Z zeros_apart (λ k a b p. p) (with_segments true) (with_segments false) (initialises n) (initialises n) segments_related e (skips zeros (with_segments true) (initialises n ∷ []))
 
 same_items : (n : ℕ) → ResRel (NextRel Z (Above Z [] [])) (step (with_segments true) (fills n ∷ [])) (step (with_segments false) (fills n ∷ []))
 unfolding out-Instr denote.Hole.Carrier.out
 same_items n =
     let e : EntryRel Z (fills n) (fills n) =
-    running (record { locals = nil; results = refl; levels = cons (record { values = cons number (cons number (cons number nil)); code = then (Related.table_init (done refl) (done refl)) end; gives = refl; takes = refl; back = end }) nil }) in
+    running (record { locals = nil; results = refl; levels = cons (record { values = cons number (cons number (cons number nil)); code = then (Related.table_init (some refl) (some refl)) end; gives = refl; takes = refl; back = end }) nil }) in
     steps_of_one Z zeros_apart (λ k a b p. p) (with_segments true) (with_segments false) (fills n) (fills n) segments_related e (skips zeros (with_segments true) (fills n ∷ []))
 
 -- nothing is copied from either, and one byte or item is past the end of either
@@ -221,7 +221,7 @@ function_owners zero (suc b) h = no_more h
 function_owners (suc zero) (suc b) h = no_more h
 function_owners (suc (suc a)) b h = no_more h
 
-functions_related : (a b : ℕ) → T.of Functions a b → ¬ T.listed a → BothRel (FuncRel T) (at two_functions.funcs a) (at one_function.funcs b)
+functions_related : (a b : ℕ) → T.of Functions a b → ¬ T.listed a → BothRel (FuncRel T) (slice_get two_functions.funcs a) (slice_get one_function.funcs b)
 functions_related zero zero h n = both function_related
 functions_related (suc zero) zero h n = both function_related
 functions_related zero (suc b) h n = no_more h
@@ -245,7 +245,7 @@ two_calls_agree : ResRel (NextRel T (Above T [] [])) (step two_functions (runs i
 unfolding out-Instr denote.Hole.Carrier.out
 two_calls_agree =
     let e : EntryRel T (runs in_two [] (i.Call 1 ∷ [])) (runs in_one [] (i.Call 0 ∷ [])) =
-    running (record { locals = nil; results = refl; levels = cons (record { values = nil; code = then (Related.call (done refl)) end; gives = refl; takes = refl; back = end }) nil }) in
+    running (record { locals = nil; results = refl; levels = cons (record { values = nil; code = then (Related.call (some refl)) end; gives = refl; takes = refl; back = end }) nil }) in
     steps_of_one T two_apart (λ k a b p. p) two_functions one_function (runs in_two [] (i.Call 1 ∷ [])) (runs in_one [] (i.Call 0 ∷ [])) two_related e (skips two_for_one two_functions (runs in_two [] (i.Call 1 ∷ []) ∷ []))
 
 the_second_is_entered : step two_functions (runs in_two [] (i.Call 1 ∷ []) ∷ []) ≡ Gives (Ran two_functions (runs in_two [] (i.Nop ∷ []) ∷ (runs in_two [] [] ∷ [])))
@@ -291,7 +291,7 @@ listed_owners zero zero h = refl
 listed_owners zero (suc b) h = no_more h
 listed_owners (suc a) b h = no_more h
 
-listed_functions : (a b : ℕ) → L.of Functions a b → ¬ L.listed a → BothRel (FuncRel L) (at it_traps.funcs a) (at one_function.funcs b)
+listed_functions : (a b : ℕ) → L.of Functions a b → ¬ L.listed a → BothRel (FuncRel L) (slice_get it_traps.funcs a) (slice_get one_function.funcs b)
 listed_functions zero zero h n = absurd (n refl)
 listed_functions zero (suc b) h n = no_more h
 listed_functions (suc a) b h n = no_more h
@@ -321,7 +321,7 @@ a_listed_function_is_named : ResRel (NextRel L (Above L [] [])) (step it_traps (
 unfolding out-Instr denote.Hole.Carrier.out
 a_listed_function_is_named =
     let e : EntryRel L (runs in_one [] (refers (i.Call 0 ∷ []))) (runs in_one [] (refers (i.Nop ∷ (i.Nop ∷ [])))) =
-    running (record { locals = nil; results = refl; levels = cons (record { values = nil; code = then (Related.ref_func (done refl)) (then Related.drop (instead (i.Nop ∷ (i.Nop ∷ [])) refl refl refl end)); gives = refl; takes = refl; back = end }) nil }) in
+    running (record { locals = nil; results = refl; levels = cons (record { values = nil; code = then (Related.ref_func (some refl)) (then Related.drop (instead (i.Nop ∷ (i.Nop ∷ [])) refl refl refl end)); gives = refl; takes = refl; back = end }) nil }) in
     steps_of_one L listed_apart (λ k a b p. p) it_traps one_function (runs in_one [] (refers (i.Call 0 ∷ []))) (runs in_one [] (refers (i.Nop ∷ (i.Nop ∷ [])))) listed_related e (λ x e. subst NoneListed e tt)
 
 a_reference_to_it : (s : Store) (rest : List Instr) → step s (runs in_one [] (refers rest) ∷ []) ≡ Gives (Ran s (runs in_one (Ref (FuncRef (Some 0)) ∷ []) (i.Drop ∷ rest) ∷ []))

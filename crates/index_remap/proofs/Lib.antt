@@ -1,6 +1,7 @@
 pub mod Fits
 pub mod Marks
 pub mod Rel
+mod Off
 pub mod ValueSteps
 pub mod ValueGroup
 pub mod MemorySteps
@@ -25,5 +26,7 @@ pub mod RenumberedCode
 pub mod Others
 pub mod ItselfCode
 mod Unknown
+mod UnknownSteps
+mod UnknownRows
 mod ReplacedRows
 mod LawRows

@@ -18,7 +18,7 @@ module _ (R : Pairing) (apart : OneToOneWhereWritten R) where
   abbrev pub Entries : Store → Store → List Entry → List Entry → Type 0
   Entries s t = ListRel (EntryRel R)
 
-  entries_of : {s t : Store} {es fs : List Entry} → Above R [] [] s t es fs → ListRel (EntryRel R) es fs
+  pub entries_of : {s t : Store} {es fs : List Entry} → Above R [] [] s t es fs → ListRel (EntryRel R) es fs
   entries_of {es = es} a =
       subst (ListRel (EntryRel R) es) (sym (a.right ∙ append-nil a.second)) (subst (λ xs. ListRel (EntryRel R) xs a.second) (sym (a.left ∙ append-nil a.first)) a.related)
 
@@ -40,7 +40,7 @@ module _ (R : Pairing) (apart : OneToOneWhereWritten R) where
   give_rel : {s t : Store} {vs ws : List Val} {es fs : List Entry} → StoreRel R s t → ListRel (ValRel R) vs ws → Entries s t es fs → ResRel (NextRel R Entries) (give s vs es) (give t ws fs)
   give_rel h v nil = wrong
   give_rel {s} {t} {vs} {ws} h v (cons {a = e} {b = f} {xs = es} {ys = fs} p r) =
-      alone (whole (λ xs ys. ResRel (NextRel R (Above R [] [])) (give s vs (e ∷ xs)) (give t ws (f ∷ ys))) es fs (above.give_rel R apart [] [] h v p r))
+      alone (whole (λ xs ys. ResRel (NextRel R (Above R [] [])) (give s vs (e ∷ xs)) (give t ws (f ∷ ys))) es fs (above.give_rel R apart [] [] (StoreRel R) h v p r))
 
   pub marks : {es fs : List Entry} → ListRel (EntryRel R) es fs → ResRel (PairRel (◌≡◌ {A = Caller}) (ListRel (EntryRel R))) (to_mark es) (to_mark fs)
   marks nil = wrong
@@ -80,5 +80,5 @@ module _ (R : Pairing) (apart : OneToOneWhereWritten R) where
       marks = λ r. marks r;
       marked = λ e. marked e;
       gives = λ s v e. give_rel s v e;
-      enters = λ s n _ _ v e. alone (above.enter_at_rel R apart [] [] s n (plain _) v (above_nothing e));
+      enters = λ s n _ _ v e. alone (above.enter_at_rel R apart [] [] (StoreRel R) _ _ s (s.funcs n (plain _)) v (above_nothing e));
     }

@@ -22,7 +22,7 @@ pub body_step : (xs : List Instr) (i : ℕ) (x : Instr) (marks new : List Bool) 
 body_step xs i x marks new lt is e =
     ap (marked_all new) (joined refs (drop (i + 1) xs)) ∙ segment_step refs xs i x marks new lt is e ∙ ap (marked_all marks) (sym (joined refs (drop i xs)))
 
-of_If : (ty : BlockType) (is os : List Instr) → refs (If ty is os) ≡ refs_all is ++ refs_all os
+pub of_If : (ty : BlockType) (is os : List Instr) → refs (If ty is os) ≡ refs_all is ++ refs_all os
 of_If ty is os = search (rules, the_lemmas)
 
 -- both bodies of an `if`, one after the other

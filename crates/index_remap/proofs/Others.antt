@@ -1,14 +1,14 @@
 -- A step leaves what has no partner.
-use Rattle.std.proofs.Common.{◌≡◌, ℕ, List, ◌∷◌, refl, subst, ◌∙◌, slice_set}
+use Rattle.std.proofs.Common.{◌≡◌, ℕ, List, ◌∷◌, refl, subst, ◌∙◌, slice_set, slice_get}
 use Rattle.wasm_tree.specs.declared.space.Space.{Space}
 use Rattle.wasm_tree.specs.declared.space.Space.TheVariants.{Tables, Memories, Globals, ElementSegments, DataSegments}
-use Rattle.wasm_meaning.specs.Outcomes.{Outcome, at}
+use Rattle.wasm_meaning.specs.Outcomes.{Outcome}
 use Rattle.wasm_meaning.specs.State.{Val, Store, Change, Entry, Caller}
 use Rattle.wasm_meaning.specs.Step.{changed, no_items, no_bytes, give, step}
 use Rattle.wasm_meaning.specs.Run.{Phase, Run, tick}
 use Rattle.index_remap.specs.Related.{Pairing, OneToOne, ResRel, done, trap, wrong, ListRel, nil, cons, ValRel, StoreRel, EntryRel, running, mark, opening, waiting, ended, growing, ChangeRel, keep, set_global, set_memory, set_table, drop_elem, drop_data, NextRel, ran, returned}
 use Rattle.index_remap.specs.RelatedRuns.{HasNoPartner, KeepsOthers, IsBegun, PhaseRel, pending, opened, closed, fresh, RunRel}
-use Rattle.index_remap.proofs.Rel.{written, there, bind_rel, PairRel, at_put_there}
+use Rattle.index_remap.proofs.Rel.{written, there, PairRel, at_put_there, bind_found}
 use Rattle.index_remap.proofs.Known.{top_known}
 use Rattle.index_remap.proofs.StepsAgree.{Stacks, TopView, top_none, top_mark, top_opening, top_waiting, top_ended, top_growing, top_running, enter_rel, give_levels_rel, top_rel, none_called}
 use Rattle.index_remap.proofs.Lockstep.{marks, marked}
@@ -21,7 +21,7 @@ module _ (R : Pairing) (apart : OneToOne R) (known : (k : Space) (a b : ℕ) →
     keeps : KeepsOthers R first t
 
   -- an address that has a partner is not one that has none
-  elsewhere : {A : Type 0} (k : Space) (xs : List A) (a b : ℕ) (v : A) (c : ℕ) → R.of k a b → HasNoPartner R k c → at (slice_set xs b v) c ≡ at xs c
+  elsewhere : {A : Type 0} (k : Space) (xs : List A) (a b : ℕ) (v : A) (c : ℕ) → R.of k a b → HasNoPartner R k c → slice_get (slice_set xs b v) c ≡ slice_get xs c
   elsewhere k xs a b v c r h = at_put_there xs b c v (λ e. h a (subst (λ x. R.of k a x) e r))
 
   changed_keeps : {s : Store} {c d : Change} → ChangeRel R c d → KeepsOthers R first s → KeepsOthers R first (changed s d)
@@ -42,7 +42,7 @@ module _ (R : Pairing) (apart : OneToOne R) (known : (k : Space) (a b : ℕ) →
 
   give_held : {s t : Store} {vs ws : List Val} {es fs : List Entry} → StoreRel R s t → ListRel (ValRel R) vs ws → KeepsOthers R first t → ListRel (EntryRel R) es fs → ResRel (NextRel R Held) (give s vs es) (give t ws fs)
   give_held s v h nil = wrong
-  give_held s v h (cons (running f) e) = give_levels_rel R (written apart) Held Held (λ s t es fs e. e) push s f f.levels v (record { entries = e; keeps = h })
+  give_held s v h (cons (running f) e) = give_levels_rel R (written apart) (StoreRel R) Held Held (λ s t es fs e. e) push s f f.levels v (record { entries = e; keeps = h })
   give_held s v h (cons mark e) = done (returned v s (record { entries = e; keeps = h }))
   give_held s v h (cons (opening x) e) = done (ran s (record { entries = cons (opening x) e; keeps = h }))
   give_held s v h (cons waiting e) = wrong
@@ -59,7 +59,7 @@ module _ (R : Pairing) (apart : OneToOne R) (known : (k : Space) (a b : ℕ) →
     marks = λ e. marks_held e.keeps (marks R (written apart) e.entries);
     marked = λ e. marked R (written apart) e.entries;
     gives = λ s v e. give_held s v e.keeps e.entries;
-    enters = λ s n _ _ v e. bind_rel (there (s.funcs n (plain _))) (λ _ _ f. done (enter_rel R (written apart) Held Held (λ s t es fs e. e) push s f v e));
+    enters = λ s n _ _ v e. bind_found (there (s.funcs n (plain _))) (λ _ _ f. done (enter_rel R (written apart) (StoreRel R) Held Held (λ s t es fs e. e) push s f v e));
   }
 
   view : {s t : Store} {es fs : List Entry} → KeepsOthers R first t → ListRel (EntryRel R) es fs → TopView R (written apart) Held s t es fs

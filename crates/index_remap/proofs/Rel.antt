@@ -2,9 +2,10 @@
 use Rattle.std.proofs.Common.{◌≡◌, ℕ, zero, suc, List, [], ◌∷◌, ◌++◌, length, Option, Some, None, Bool, true, false, cond, option_and_then, slice_get, refl, sym, ap, subst, drop, slice_set}
 use Rattle.wasm_tree.specs.declared.space.Space.{Space}
 use native.Mathlib.Decide.{ℕ_discrete}
-use Rattle.std.proofs.lemmas.Option.{same_Some}
-use Rattle.wasm_meaning.specs.Outcomes.{Outcome, Gives, Traps, IllTyped, trapping, or_trap, given, bind, at, onto, split_at, slice, overwrite, copies}
+use Rattle.wasm_meaning.specs.Outcomes.{Outcome, Gives, Traps, IllTyped, or_trap, bind, onto, split_at, slice, overwrite, copies, or_ill_typed}
+use Rattle.wasm_meaning.proofs.Outcomes.{AllOf, ill_typed, stopped, just}
 use Rattle.index_remap.specs.Related.{Pairing, OneToOne, OneToOneWhereWritten, is_written, OptRel, none, some, BothRel, both, ResRel, done, trap, wrong, ListRel, nil, cons}
+use Rattle.base_lists.proofs.Places.{set_other}
 
 -- ---- outcomes ----
 
@@ -28,35 +29,33 @@ bind_rel_is trap h = trap
 bind_rel_is wrong h = wrong
 bind_rel_is (done q) h = h _ _ refl q
 
-pub bind_is : {A C D : Type 0} {Q : C → D → Type 0} {f : A → Outcome C} {g : A → Outcome D} {o p : Outcome A} → o ≡ p → ((a : A) → o ≡ Gives a → ResRel Q (f a) (g a)) → ResRel Q (bind o f) (bind p g)
-bind_is {Q = Q} {f = f} {g = g} {o = o} e h = subst (λ x. ResRel Q (bind o f) (bind x g)) e (go o h)
+-- what was found on both sides, where none is ill typed
+pub bind_found : {A B C D : Type 0} {P : A → B → Type 0} {Q : C → D → Type 0} {o : Option A} {p : Option B} {f : A → Outcome C} {g : B → Outcome D} → OptRel P o p → ((a : A) (b : B) → P a b → ResRel Q (f a) (g b)) → ResRel Q (bind (or_ill_typed o) f) (bind (or_ill_typed p) g)
+bind_found none h = wrong
+bind_found (some q) h = h _ _ q
+
+-- with what the first found
+pub bind_found_is : {A B C D : Type 0} {P : A → B → Type 0} {Q : C → D → Type 0} {o : Option A} {p : Option B} {f : A → Outcome C} {g : B → Outcome D} → OptRel P o p → ((a : A) (b : B) → o ≡ Some a → P a b → ResRel Q (f a) (g b)) → ResRel Q (bind (or_ill_typed o) f) (bind (or_ill_typed p) g)
+bind_found_is none h = wrong
+bind_found_is (some q) h = h _ _ refl q
+
+-- the same was found, with what it is
+pub bind_is : {A C D : Type 0} {Q : C → D → Type 0} {f : A → Outcome C} {g : A → Outcome D} {o p : Option A} → o ≡ p → ((a : A) → o ≡ Some a → ResRel Q (f a) (g a)) → ResRel Q (bind (or_ill_typed o) f) (bind (or_ill_typed p) g)
+bind_is {Q = Q} {f = f} {g = g} {o = o} e h = subst (λ x. ResRel Q (bind (or_ill_typed o) f) (bind (or_ill_typed x) g)) e (go o h)
   where
-    go : (x : Outcome _) → ((a : _) → x ≡ Gives a → ResRel Q (f a) (g a)) → ResRel Q (bind x f) (bind x g)
-    go Traps h = trap
-    go IllTyped h = wrong
-    go (Gives a) h = h a refl
+    go : (x : Option _) → ((a : _) → x ≡ Some a → ResRel Q (f a) (g a)) → ResRel Q (bind (or_ill_typed x) f) (bind (or_ill_typed x) g)
+    go None h = wrong
+    go (Some a) h = h a refl
 
--- P of what is there
-pub data OptAll {A : Type 0} (P : A → Type 0) : Outcome A → Type 0 where
-  nothing : OptAll P IllTyped
-  stopped : OptAll P Traps
-  just : {a : A} → P a → OptAll P (Gives a)
-
-pub bind_all : {A C : Type 0} {P : A → Type 0} {Q : C → Type 0} {o : Outcome A} {f : A → Outcome C} → OptAll P o → ((a : A) → o ≡ Gives a → P a → OptAll Q (f a)) → OptAll Q (bind o f)
-bind_all nothing h = nothing
+pub bind_all : {A C : Type 0} {P : A → Type 0} {Q : C → Type 0} {o : Outcome A} {f : A → Outcome C} → AllOf P o → ((a : A) → o ≡ Gives a → P a → AllOf Q (f a)) → AllOf Q (bind o f)
+bind_all ill_typed h = ill_typed
 bind_all stopped h = stopped
 bind_all (just p) h = h _ refl p
 
-pub any : {A : Type 0} (o : Outcome A) → OptAll (λ a. Unit {0}) o
-any IllTyped = nothing
+pub any : {A : Type 0} (o : Outcome A) → AllOf (λ a. Unit {0}) o
+any IllTyped = ill_typed
 any Traps = stopped
 any (Gives a) = just tt
-
-pub all_at : {A : Type 0} {P : A → Type 0} {o : Outcome A} {a : A} → OptAll P o → o ≡ Gives a → P a
-all_at {P = P} h e = go (subst (OptAll P) e h)
-  where
-    go : {b : _} → OptAll P (Gives b) → P b
-    go (just p) = p
 
 pub same_rel : {A : Type 0} {P : A → A → Type 0} (o : Outcome A) → ((a : A) → P a a) → ResRel P o o
 same_rel Traps h = trap
@@ -87,16 +86,6 @@ pub then_same : {A C D : Type 0} {Q : C → D → Type 0} {f : A → Option C} {
 then_same None h = none
 then_same (Some a) h = h a
 
-pub given_rel : {A B : Type 0} {P : A → B → Type 0} {o : Outcome A} {p : Outcome B} → ResRel P o p → OptRel P (given o) (given p)
-given_rel trap = none
-given_rel wrong = none
-given_rel (done p) = some p
-
-pub given_is : {A : Type 0} (o : Outcome A) (a : A) → given o ≡ Some a → o ≡ Gives a
-given_is (Gives b) a e = ap Gives (same_Some _ _ e)
-given_is Traps a e = cc
-given_is IllTyped a e = cc
-
 pub either_rel : {A B : Type 0} {P : A → B → Type 0} (b : Bool) {x y : Option A} {u v : Option B} → OptRel P x u → OptRel P y v → OptRel P (cond b x y) (cond b u v)
 either_rel true p q = p
 either_rel false p q = q
@@ -124,11 +113,6 @@ pub with_there : {A C : Type 0} {Q : C → Type 0} (o : Option A) (f : A → Opt
 with_there None f h = absent
 with_there (Some a) f h = h a refl
 
-pub with_given : {A C : Type 0} {Q : C → Type 0} (o : Outcome A) (f : A → Option C) → ((a : A) → o ≡ Gives a → IfThere Q (f a)) → IfThere Q (option_and_then f (given o))
-with_given Traps f h = absent
-with_given IllTyped f h = absent
-with_given (Gives a) f h = h a refl
-
 pub either_all : {A : Type 0} {P : A → Type 0} (b : Bool) {x y : Option A} → IfThere P x → IfThere P y → IfThere P (cond b x y)
 either_all true p q = p
 either_all false p q = q
@@ -139,11 +123,6 @@ pub record PairRel {A B C D : Type 0} (P : A → B → Type 0) (Q : C → D → 
   pub second : Q a.1 b.1
 
 -- ---- lists ----
-
-pub at_rel : {A B : Type 0} {P : A → B → Type 0} {xs : List A} {ys : List B} → ListRel P xs ys → (n : ℕ) → ResRel P (at xs n) (at ys n)
-at_rel nil n = wrong
-at_rel (cons p r) zero = done p
-at_rel (cons p r) (suc n) = at_rel r n
 
 pub get_rel : {A B : Type 0} {P : A → B → Type 0} {xs : List A} {ys : List B} → ListRel P xs ys → (n : ℕ) → OptRel P (slice_get xs n) (slice_get ys n)
 get_rel nil n = none
@@ -176,62 +155,70 @@ pub copies_rel : {A B : Type 0} {P : A → B → Type 0} (v : A) (w : B) (n : �
 copies_rel v w zero p = nil
 copies_rel v w (suc n) p = cons p (copies_rel v w n p)
 
-pub split_rel : {A B : Type 0} {P : A → B → Type 0} {xs : List A} {ys : List B} (n : ℕ) → ListRel P xs ys → ResRel (PairRel (ListRel P) (ListRel P)) (split_at n xs) (split_at n ys)
-split_rel zero r = done (record { first = nil; second = r })
-split_rel (suc n) nil = wrong
-split_rel (suc n) (cons p r) = bind_rel (split_rel n r) (λ _ _ q. done (record { first = cons p q.first; second = q.second }))
+pub split_rel : {A B : Type 0} {P : A → B → Type 0} {xs : List A} {ys : List B} (n : ℕ) → ListRel P xs ys → OptRel (PairRel (ListRel P) (ListRel P)) (split_at n xs) (split_at n ys)
+split_rel zero r = some (record { first = nil; second = r })
+split_rel (suc n) nil = none
+split_rel (suc n) (cons p r) = then_rel (split_rel n r) (λ _ _ q. some (record { first = cons p q.first; second = q.second }))
 
-pub slice_rel : {A B : Type 0} {P : A → B → Type 0} {xs : List A} {ys : List B} (place n : ℕ) → ListRel P xs ys → ResRel (ListRel P) (slice xs place n) (slice ys place n)
-slice_rel place n r = bind_rel (split_rel place r) (λ _ _ p. bind_rel (split_rel n p.second) (λ _ _ q. done q.first))
+pub slice_rel : {A B : Type 0} {P : A → B → Type 0} {xs : List A} {ys : List B} (place n : ℕ) → ListRel P xs ys → OptRel (ListRel P) (slice xs place n) (slice ys place n)
+slice_rel place n r = then_rel (split_rel place r) (λ _ _ p. then_rel (split_rel n p.second) (λ _ _ q. some q.first))
 
-pub overwrite_rel : {A B : Type 0} {P : A → B → Type 0} {xs vs : List A} {ys ws : List B} (place : ℕ) → ListRel P xs ys → ListRel P vs ws → ResRel (ListRel P) (overwrite xs place vs) (overwrite ys place ws)
+pub overwrite_rel : {A B : Type 0} {P : A → B → Type 0} {xs vs : List A} {ys ws : List B} (place : ℕ) → ListRel P xs ys → ListRel P vs ws → OptRel (ListRel P) (overwrite xs place vs) (overwrite ys place ws)
 overwrite_rel {P = P} {vs = vs} {ws = ws} place r s =
-    bind_rel (split_rel place r) (λ a b p.
-    let part = subst (λ n. ResRel (PairRel (ListRel P) (ListRel P)) (split_at (length vs) a.1) (split_at n b.1)) (length_rel s) (split_rel (length vs) p.second) in
-    bind_rel part (λ _ _ q. done (append_rel p.first (append_rel s q.second))))
+    then_rel (split_rel place r) (λ a b p.
+    let part = subst (λ n. OptRel (PairRel (ListRel P) (ListRel P)) (split_at (length vs) a.1) (split_at n b.1)) (length_rel s) (split_rel (length vs) p.second) in
+    then_rel part (λ _ _ q. some (append_rel p.first (append_rel s q.second))))
 
-pub there : {A B : Type 0} {P : A → B → Type 0} {o : Outcome A} {p : Outcome B} → BothRel P o p → ResRel P o p
-there (both r) = done r
+pub there : {A B : Type 0} {P : A → B → Type 0} {o : Option A} {p : Option B} → BothRel P o p → OptRel P o p
+there (both r) = some r
 
-pub same_there : {A : Type 0} {o p : Outcome A} → BothRel (◌≡◌ {A = A}) o p → o ≡ p
-same_there (both e) = ap Gives e
+pub both_map : {A B : Type 0} {P Q : A → B → Type 0} {o : Option A} {p : Option B} → ((a : A) (b : B) → P a b → Q a b) → BothRel P o p → BothRel Q o p
+both_map f (both r) = both (f _ _ r)
+
+pub same_there : {A : Type 0} {o p : Option A} → BothRel (◌≡◌ {A = A}) o p → o ≡ p
+same_there (both e) = ap Some e
 
 -- ---- a write at related addresses ----
 
-pub at_put_here : {A : Type 0} (xs : List A) (n : ℕ) (v : A) → at (slice_set xs n v) n ≡ bind (at xs n) (λ old. Gives v)
+pub at_put_here : {A : Type 0} (xs : List A) (n : ℕ) (v : A) → slice_get (slice_set xs n v) n ≡ option_and_then (λ old. Some v) (slice_get xs n)
 at_put_here [] n v = refl
 at_put_here (x ∷ xs) zero v = refl
 at_put_here (x ∷ xs) (suc n) v = at_put_here xs n v
 
-pub at_put_there : {A : Type 0} (xs : List A) (n m : ℕ) (v : A) → (n ≡ m → ⊥) → at (slice_set xs n v) m ≡ at xs m
-at_put_there [] n m v h = refl
-at_put_there (x ∷ xs) zero zero v h = absurd (h refl)
-at_put_there (x ∷ xs) zero (suc m) v h = refl
-at_put_there (x ∷ xs) (suc n) zero v h = refl
-at_put_there (x ∷ xs) (suc n) (suc m) v h = at_put_there xs n m v (λ e. h (ap suc e))
+pub at_put_there : {A : Type 0} (xs : List A) (n m : ℕ) (v : A) → (n ≡ m → ⊥) → slice_get (slice_set xs n v) m ≡ slice_get xs m
+at_put_there xs n m v h = set_other xs n m v (λ e. h (sym e))
 
 -- what is one to one is so where something is written
 pub written : {R : Pairing} → OneToOne R → OneToOneWhereWritten R
 written apart = record { right = λ _. apart.right; left = λ _. apart.left }
 
-module _ (R : Pairing) (apart : OneToOneWhereWritten R) (k : Space) (may : is_written k ≡ true) {A B : Type 0} (P : A → B → Type 0) (xs : List A) (ys : List B) (v : A) (w : B) where
-  pub write_rel : {a b : ℕ} → R.of k a b → ((c d : ℕ) → R.of k c d → BothRel P (at xs c) (at ys d)) → P v w → (c d : ℕ) → R.of k c d → BothRel P (at (slice_set xs a v) c) (at (slice_set ys b w) d)
-  write_rel {a} {b} r all p c d q = go (ℕ_discrete a c) (ℕ_discrete b d)
+-- Q holds at the addresses that are written, and follows from P at all others
+module _ (R : Pairing) (apart : OneToOneWhereWritten R) (k : Space) (may : is_written k ≡ true) {A B : Type 0} (P Q : ℕ → A → B → Type 0) (xs : List A) (ys : List B) (v : A) (w : B) where
+  pub write_each : {a b : ℕ} → R.of k a b → ((c d : ℕ) → R.of k c d → BothRel (P c) (slice_get xs c) (slice_get ys d)) → ((c : ℕ) (x : A) (y : B) → (a ≡ c → ⊥) → P c x y → Q c x y) → Q a v w →
+      (c d : ℕ) → R.of k c d → BothRel (Q c) (slice_get (slice_set xs a v) c) (slice_get (slice_set ys b w) d)
+  write_each {a} {b} r all other p c d q = go (ℕ_discrete a c) (ℕ_discrete b d)
     where
-      written : {o : Outcome A} {p' : Outcome B} → BothRel P o p' → BothRel P (bind o (λ old. Gives v)) (bind p' (λ old. Gives w))
+      written : {o : Option A} {p' : Option B} → BothRel (P a) o p' → BothRel (Q a) (option_and_then (λ old. Some v) o) (option_and_then (λ old. Some w) p')
       written (both q) = both p
 
-      go : Dec (a ≡ c) → Dec (b ≡ d) → BothRel P (at (slice_set xs a v) c) (at (slice_set ys b w) d)
+      elsewhere : {o : Option A} {p' : Option B} → (a ≡ c → ⊥) → BothRel (P c) o p' → BothRel (Q c) o p'
+      elsewhere n (both x) = both (other c _ _ n x)
+
+      go : Dec (a ≡ c) → Dec (b ≡ d) → BothRel (Q c) (slice_get (slice_set xs a v) c) (slice_get (slice_set ys b w) d)
       go (yes e) (yes f) = rw (← e, ← f, at_put_here xs a v, at_put_here ys b w) (written (all a b r))
       go (yes e) (no f) = absurd (f (apart.right may a b d r (subst (λ x. R.of k x d) (sym e) q)))
       go (no e) (yes f) = absurd (e (apart.left may a c b r (subst (λ x. R.of k c x) (sym f) q)))
-      go (no e) (no f) = rw (at_put_there xs a c v e, at_put_there ys b d w f) (all c d q)
+      go (no e) (no f) = rw (at_put_there xs a c v e, at_put_there ys b d w f) (elsewhere e (all c d q))
 
-pub trapping_rel : {A B : Type 0} {P : A → B → Type 0} {o : Outcome A} {p : Outcome B} → ResRel P o p → ResRel P (trapping o) (trapping p)
-trapping_rel (done q) = done q
-trapping_rel trap = trap
-trapping_rel wrong = trap
+module _ (R : Pairing) (apart : OneToOneWhereWritten R) (k : Space) (may : is_written k ≡ true) {A B : Type 0} (P : A → B → Type 0) (xs : List A) (ys : List B) (v : A) (w : B) where
+  pub write_rel : {a b : ℕ} → R.of k a b → ((c d : ℕ) → R.of k c d → BothRel P (slice_get xs c) (slice_get ys d)) → P v w → (c d : ℕ) → R.of k c d → BothRel P (slice_get (slice_set xs a v) c) (slice_get (slice_set ys b w) d)
+  write_rel r all p = write_each R apart k may (λ _. P) (λ _. P) xs ys v w r all (λ _ _ _ _ q. q) p
 
 pub or_trap_rel : {A B : Type 0} {P : A → B → Type 0} {o : Option A} {p : Option B} → OptRel P o p → ResRel P (or_trap o) (or_trap p)
 or_trap_rel none = trap
 or_trap_rel (some q) = done q
+
+pub res_map : {A B : Type 0} {P Q : A → B → Type 0} {o : Outcome A} {p : Outcome B} → ((a : A) (b : B) → P a b → Q a b) → ResRel P o p → ResRel Q o p
+res_map f (done r) = done (f _ _ r)
+res_map f trap = trap
+res_map f wrong = wrong

@@ -23,7 +23,7 @@ use Rattle.index_remap.specs.Replaced.{Labels, Codes, CallReplaced, block_label,
 use Rattle.index_remap.proofs.Instructions.{plain_kept, type_kept}
 use Rattle.index_remap.proofs.Keeping.{then_is}
 use Rattle.index_remap.proofs.Lower.{Lower, lower_self, lower_on, lower_match, match_lower, fits_lower, leads_lower, leads_over, leads_on}
-use Rattle.index_remap.proofs.Rows.{row_typed}
+use Rattle.wasm_typing.proofs.Runs.{ends_from}
 
 -- the type of a call is that of its function
 call_type : (o : Option FuncType) (e : Effect) → gives_of (signature_in o) ≡ Some e → (t : FuncType) × (o ≡ Some t) × (Gives t.params t.results ≡ e)
@@ -53,7 +53,7 @@ lower_ends c js last ps rs a (u, l, k) = (u, l, lower_match (reverse rs) k a)
 -- the same for what a block holds
 row_ends : {n : _} (c d : Context) (is : Row_of-Instr n) (js : List Instr) (ps rs : List ValType) → ((s t r : Stack) → Leads c is s t → Lower r s → (u : Stack) × LeadsAll d js r u × Lower u t) →
     Ends (Leads c is) ps rs → Ends (Leads d (hidden-the_row-Instr-0 js)) ps rs
-row_ends c d is js ps rs k (last, l, a) = row_typed d js ps rs (lower_ends d js last ps rs a (k (operands ps) last (operands ps) l (lower_self (operands ps))))
+row_ends c d is js ps rs k (last, l, a) = ends_from d js ps rs (lower_ends d js last ps rs a (k (operands ps) last (operands ps) l (lower_self (operands ps))))
 
 -- a block itself calls nothing
 calls_none : (listed : List ℕ) (ty : BlockType) → list_any (is_listed_call listed) (block_operands ty) ≡ false

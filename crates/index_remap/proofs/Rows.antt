@@ -1,22 +1,12 @@
 -- Blocks: what they hold as a row and as a list, and with other indices.
-use Rattle.std.proofs.Common.{◌≡◌, List, ap, sym, subst, ◌∙◌, rules}
-use Rattle.wasm_tree.specs.declared.types.ValType.{ValType}
+use Rattle.std.proofs.Common.{◌≡◌, List, ap, sym, ◌∙◌, rules}
 use Rattle.wasm_tree.specs.declared.types.BlockType.{BlockType}
-use Rattle.wasm_tree.specs.declared.instr.Instr.{Instr, Row_of-Instr, items-the_row-Instr, items_shown-the_row-Instr-0, items_hidden-the_row-Instr-0, roll-out-Instr, end_of-Instr, more_of-Instr, the_lemmas}
+use Rattle.wasm_tree.specs.declared.instr.Instr.{Instr, Row_of-Instr, items-the_row-Instr, items_shown-the_row-Instr-0, roll-out-Instr, the_lemmas}
 use Rattle.wasm_tree.specs.declared.instr.Instr.TheVariants.{Block, Block', Loop, Loop', If, If'}
-use Rattle.wasm_tree.specs.declared.instr.Instr.TheBlock.{hidden-the_row-Instr-0, shown-the_row-Instr-0}
+use Rattle.wasm_tree.specs.declared.instr.Instr.TheBlock.{shown-the_row-Instr-0}
 use Rattle.wasm_tree.specs.declared.instr.Instr.TheViews.{roll-Instr, outs-Block', rolls-Block, outs-Loop', rolls-Loop, outs-If', rolls-If}
-use Rattle.wasm_typing.specs.Typing.{Context, Stack, operands, Ends, Leads, LeadsAll, WellTyped}
 use Rattle.index_remap.specs.declared.remap.Remap.{Remap}
 use Rattle.index_remap.specs.Renumbered.{new_type, renumbered, renumbered_all}
-
-to_row : {n : _} (c : Context) (is : Row_of-Instr n) (s t : Stack) → LeadsAll c (items-the_row-Instr n is) s t → Leads c is s t
-to_row c end_of-Instr s t h = h
-to_row c (more_of-Instr i is) s t h = (h.0, h.1, to_row c is h.0 t h.2)
-
-pub row_typed : (c : Context) (v : List Instr) (ps rs : List ValType) → WellTyped c v ps rs → Ends (Leads c (hidden-the_row-Instr-0 v)) ps rs
-row_typed c v ps rs (last, l, m) =
-    (last, to_row c (hidden-the_row-Instr-0 v) (operands ps) last (subst (λ is. LeadsAll c is (operands ps) last) (sym (items_hidden-the_row-Instr-0 v)) l), m)
 
 -- a block as the one with the list of what it holds
 pub block_is : (bt : BlockType) (n : _) (row : Row_of-Instr _) → Block' bt n row ≡ Block bt (items-the_row-Instr _ row)

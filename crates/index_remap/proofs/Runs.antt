@@ -7,12 +7,11 @@ use Rattle.wasm_tree.specs.declared.types.RefType.TheVariants as reft
 use Rattle.wasm_tree.specs.declared.types.ValType.{ValType}
 use Rattle.wasm_tree.specs.declared.types.ValType.TheVariants as valt
 use Rattle.wasm_num.specs.Operations.{W32}
-use Rattle.wasm_meaning.specs.Outcomes.{Outcome, Gives, given, at, overwrite}
+use Rattle.wasm_meaning.specs.Outcomes.{Outcome, Gives, overwrite}
 use Rattle.wasm_meaning.specs.State.{RefVal, Val, Num, Table, Memory, Store, Change, SetTable, Growth, Entry, Caller, Host, Starter, Opening, Ended, Next}
 use Rattle.wasm_meaning.specs.Values.{typed, null_of, ref_of}
 use Rattle.wasm_meaning.specs.Memory.{memory_may_grow}
 use Rattle.wasm_meaning.specs.Tables.{table_may_grow}
-use Rattle.wasm_meaning.specs.Control.{type_at}
 use Rattle.wasm_meaning.specs.Step.{give, enter_at, step}
 use Rattle.wasm_meaning.specs.Linking.{same_text}
 use Rattle.wasm_meaning.specs.Environment.{Shown, Number, Null, OwnFunc, ExternNumber, Function, Thing, FuncKey, TableKey, MemoryKey, GlobalKey, Owned, same_key, look_up, owned_at, func_of, func_value, received, received_ref, received_all}
@@ -20,10 +19,10 @@ use Rattle.wasm_meaning.specs.World.{Begun}
 use Rattle.wasm_meaning.specs.Run.{Event, InstanceTrapped, Returned, Asked, Got, Place, TableOf, MemoryOf, GlobalOf, Named, Move, Call, Invoke, Take, Answer, Refuse, Grant, Deny, Get, Size, Set, Extend, Phase, Pending, Closed, Run, Out, Transition, Steps, Makes, made, place_at, trapped_at, trapped_to, showing, after, called, is_mark, delivered, grown_table, answered, refused, with_change, granted, decided, shows, got, size_of, does, byte_of, set, extended, moved, at_entries, or_bad, or_closed, next_move, began, view_of, nothing_in, started, open_next, is_taken_closed, closed_move, in_phase, transition_at}
 use Rattle.index_remap.specs.Related.{Pairing, OneToOne, OptRel, none, some, ResRel, done, trap, wrong, ListRel, nil, cons, RefRel, func, extern, ValRel, number, reference, TableRel, StoreRel, mark, opening, waiting, ended, growing, ChangeRel, set_global, set_memory, set_table, GrowthRel, memory_grows, table_grows, NextRel, ran, asked, asked_grow, loads, returned}
 use Rattle.index_remap.specs.RelatedRuns.{ThingRel, a_func, a_table, a_memory, a_global, KeyRel, BegunRel, PhaseRel, fresh, pending, opened, closed, RunRel, OutRel}
-use Rattle.index_remap.proofs.Rel.{written, there, then_rel, then_rel_is, then_same, given_rel, given_is, either_rel, PairRel, IfThere, absent, present, then_all, any_there, all_there, get_rel, append_rel, length_rel, copies_rel, overwrite_rel}
+use Rattle.index_remap.proofs.Rel.{written, there, then_rel, then_rel_is, then_same, either_rel, PairRel, IfThere, absent, present, then_all, any_there, all_there, get_rel, append_rel, length_rel, copies_rel, overwrite_rel}
 use Rattle.index_remap.proofs.ValueSteps.{Fits}
 use Rattle.index_remap.proofs.Shown.{show_rel, show_all_rel}
-use Rattle.index_remap.proofs.TableSteps.{may_rel}
+use Rattle.index_remap.proofs.TableSteps.{may_same}
 use Rattle.index_remap.proofs.StepsAgree.{Stacks, TopView, top_none, top_mark, top_opening, top_waiting, top_ended, top_growing, top_running, changed_rel}
 
 module _ (R : Pairing) (apart : OneToOne R) (B C : Store → Store → List Entry → List Entry → Type 0) (stacks : Stacks R (written apart) B C) (F : Store → Store → List Entry → List Entry → Type 0) (begins : (s t : Store) (es fs : List Entry) → F s t es fs → B s t es fs) where
@@ -63,12 +62,12 @@ module _ (R : Pairing) (apart : OneToOne R) (B C : Store → Store → List Entr
   received_rel (valt.Ref reft.Extern) (ExternNumber n) o s = some (reference extern)
   received_rel _ _ o s = none
 
-  ref_of_rel : {v w : Val} → ValRel R v w → ResRel (RefRel R) (ref_of v) (ref_of w)
-  ref_of_rel number = wrong
-  ref_of_rel (reference p) = done p
+  ref_of_rel : {v w : Val} → ValRel R v w → OptRel (RefRel R) (ref_of v) (ref_of w)
+  ref_of_rel number = none
+  ref_of_rel (reference p) = some p
 
   received_ref_rel : {o p : Owned} {xs ys : List ℕ} (t : RefType) (x : Shown) → ListRel (KeyRel R) o p → ListRel (R.of Functions) xs ys → OptRel (RefRel R) (received_ref o xs t x) (received_ref p ys t x)
-  received_ref_rel t x o s = then_rel (received_rel (valt.Ref t) x o s) (λ _ _ v. given_rel (ref_of_rel v))
+  received_ref_rel t x o s = then_rel (received_rel (valt.Ref t) x o s) (λ _ _ v. ref_of_rel v)
 
   received_all_rel : {o p : Owned} {ms ns : List ℕ} (ts : List ValType) (xs : List Shown) → ListRel (KeyRel R) o p → ListRel (R.of Functions) ms ns → OptRel (ListRel (ValRel R)) (received_all o ms ts xs) (received_all p ns ts xs)
   received_all_rel [] [] o s = some nil
@@ -137,7 +136,7 @@ module _ (R : Pairing) (apart : OneToOne R) (B C : Store → Store → List Entr
 
   called_rel : {r q : Run} {es fs : List Entry} {a b : ℕ} (xs : List Shown) → RunRel R B F r q → C r.store q.store es fs → R.of Functions a b → OptRel TransitionRel (called r es xs a) (called q fs xs b)
   called_rel {r} {q} {es} {fs} {a} {b} xs h e n =
-      then_rel_is (given_rel (there (h.store.types n))) (λ t u is same. subst (λ y. OptRel TransitionRel (option_and_then (λ vs. Some (Steps r (enter_at r.store a vs es))) (received_all r.owned r.shown t.params xs)) (option_and_then (λ vs. Some (Steps q (enter_at q.store b vs fs))) (received_all q.owned q.shown y.params xs))) same (then_rel_is (received_all_rel t.params xs h.owned h.shown) (λ vs _ got v. some (steps h (stacks.enters h.store n (given_is (type_at r.store a) t is) (all_there (fits_received r.owned r.shown t.params xs) got) v e)))))
+      then_rel_is (there (h.store.types n)) (λ t u is same. subst (λ y. OptRel TransitionRel (option_and_then (λ vs. Some (Steps r (enter_at r.store a vs es))) (received_all r.owned r.shown t.params xs)) (option_and_then (λ vs. Some (Steps q (enter_at q.store b vs fs))) (received_all q.owned q.shown y.params xs))) same (then_rel_is (received_all_rel t.params xs h.owned h.shown) (λ vs _ got v. some (steps h (stacks.enters h.store n is (all_there (fits_received r.owned r.shown t.params xs) got) v e)))))
 
   delivered_rel : {r q : Run} {vs ws : List Val} {es fs : List Entry} → RunRel R B F r q → ListRel (ValRel R) vs ws → C r.store q.store es fs → TransitionRel (delivered r vs es) (delivered q ws fs)
   delivered_rel {r} {q} {vs} {ws} {es} {fs} h v e = rw (stacks.marked e) (either (is_mark fs))
@@ -173,12 +172,12 @@ module _ (R : Pairing) (apart : OneToOne R) (B C : Store → Store → List Entr
   table_grown : {t u : Table} {v w : RefVal} (n : ℕ) → TableRel R t u → RefRel R v w → TableRel R (grown_table t n v) (grown_table u n w)
   table_grown {v = v} {w = w} n t x = record { type = t.type; most = t.most; slots = append_rel t.slots (copies_rel v w n x) }
 
-  then_memory_at : {A C : Type 0} {Q : A → C → Type 0} {r q : Run} {a b : ℕ} {f : Memory → Option A} {g : Memory → Option C} → RunRel R B F r q → R.of Memories a b → ((m : Memory) → OptRel Q (f m) (g m)) → OptRel Q (option_and_then f (given (at r.store.mems a))) (option_and_then g (given (at q.store.mems b)))
-  then_memory_at {Q = Q} {f = f} {g = g} h p k = then_rel (given_rel (there (h.store.mems p))) (λ x y e. subst (λ z. OptRel Q (f x) (g z)) e (k x))
+  then_memory_at : {A C : Type 0} {Q : A → C → Type 0} {r q : Run} {a b : ℕ} {f : Memory → Option A} {g : Memory → Option C} → RunRel R B F r q → R.of Memories a b → ((m : Memory) → OptRel Q (f m) (g m)) → OptRel Q (option_and_then f (slice_get r.store.mems a)) (option_and_then g (slice_get q.store.mems b))
+  then_memory_at {Q = Q} {f = f} {g = g} h p k = then_rel (there (h.store.mems p)) (λ x y e. subst (λ z. OptRel Q (f x) (g z)) e (k x))
 
   granted_rel : {r q : Run} {x y : Growth} {es fs : List Entry} → RunRel R B F r q → GrowthRel R x y → C r.store q.store es fs → OptRel TransitionRel (granted r x es) (granted q y fs)
   granted_rel h (memory_grows {n = n} p) e = then_memory_at h p (λ m. some (delivered_rel (change_rel h (set_memory p)) (cons number nil) (stacks.changes (set_memory p) e)))
-  granted_rel h (table_grows {n = n} p v) e = then_rel (given_rel (there (h.store.tables p))) (λ _ _ t. let c = set_table p (table_grown n t v) in some (delivered_rel (change_rel h c) (cons (num_eq (length_rel t.slots)) nil) (stacks.changes c e)))
+  granted_rel h (table_grows {n = n} p v) e = then_rel (there (h.store.tables p)) (λ _ _ t. let c = set_table p (table_grown n t v) in some (delivered_rel (change_rel h c) (cons (num_eq (length_rel t.slots)) nil) (stacks.changes c e)))
 
   decided_rel : {r q : Run} {x y : Growth} {es fs : List Entry} (m : Move) → RunRel R B F r q → GrowthRel R x y → C r.store q.store es fs → OptRel TransitionRel (decided r m x es) (decided q m y fs)
   decided_rel Grant h p e = granted_rel h p e
@@ -191,15 +190,15 @@ module _ (R : Pairing) (apart : OneToOne R) (B C : Store → Store → List Entr
 
   got_rel : {r q : Run} {x y : Thing} (n : ℕ) → RunRel R B F r q → ThingRel R x y → OptRel TransitionRel (got r x n) (got q y n)
   got_rel n h (a_func p) = none
-  got_rel n h (a_table p) = then_rel (given_rel (there (h.store.tables p))) (λ _ _ t. then_rel (get_rel t.slots n) (λ _ _ v. shows_rel h (reference v)))
+  got_rel n h (a_table p) = then_rel (there (h.store.tables p)) (λ _ _ t. then_rel (get_rel t.slots n) (λ _ _ v. shows_rel h (reference v)))
   got_rel n h (a_memory p) = then_memory_at h p (λ m. then_same (slice_get m.bytes n) (λ b. shows_rel h (number {w = W32})))
-  got_rel n h (a_global p) = then_rel (given_rel (there (h.store.globals p))) (λ _ _ g. either_rel (nat_eq n 0) (shows_rel h g.value) none)
+  got_rel n h (a_global p) = then_rel (there (h.store.globals p)) (λ _ _ g. either_rel (nat_eq n 0) (shows_rel h g.value) none)
 
   size_rel : {r q : Run} {x y : Thing} → RunRel R B F r q → ThingRel R x y → OptRel TransitionRel (size_of r x) (size_of q y)
   size_rel h (a_func p) = none
-  size_rel h (a_table p) = then_rel (given_rel (there (h.store.tables p))) (λ _ _ t. shows_rel h (num_eq (length_rel t.slots)))
+  size_rel h (a_table p) = then_rel (there (h.store.tables p)) (λ _ _ t. shows_rel h (num_eq (length_rel t.slots)))
   size_rel h (a_memory p) = then_memory_at h p (λ m. shows_rel h (number {w = W32}))
-  size_rel h (a_global p) = then_rel (given_rel (there (h.store.globals p))) (λ _ _ g. shows_rel h (number {w = W32}))
+  size_rel h (a_global p) = then_rel (there (h.store.globals p)) (λ _ _ g. shows_rel h (number {w = W32}))
 
   does_rel : {r q : Run} {c d : Change} → RunRel R B F r q → ChangeRel R c d → OptRel TransitionRel (does r c) (does q d)
   does_rel h c = some (makes (record { event = refl; run = change_rel h c }))
@@ -207,14 +206,14 @@ module _ (R : Pairing) (apart : OneToOne R) (B C : Store → Store → List Entr
   set_rel : {r q : Run} {x y : Thing} (n : ℕ) (v : Shown) → RunRel R B F r q → ThingRel R x y → OptRel TransitionRel (set r x n v) (set q y n v)
   set_rel n v h (a_func p) = none
   set_rel {r} {q} n v h (a_table p) =
-      then_rel (given_rel (there (h.store.tables p))) (λ t u x. then_rel (at_type x.type (received_ref_rel u.ty v h.owned h.shown)) (λ _ _ v. then_rel (given_rel (overwrite_rel n x.slots (cons v nil))) (λ _ _ s.
+      then_rel (there (h.store.tables p)) (λ t u x. then_rel (at_type x.type (received_ref_rel u.ty v h.owned h.shown)) (λ _ _ v. then_rel (overwrite_rel n x.slots (cons v nil)) (λ _ _ s.
       does_rel h (set_table p (record { type = x.type; most = x.most; slots = s })))))
     where
       at_type : {s t : RefType} → s ≡ t → OptRel (RefRel R) (received_ref r.owned r.shown t v) (received_ref q.owned q.shown t v) → OptRel (RefRel R) (received_ref r.owned r.shown s v) (received_ref q.owned q.shown t v)
       at_type {t = t} e o = rw e o
-  set_rel n v h (a_memory p) = then_memory_at h p (λ m. then_same (byte_of v) (λ b. then_same (given (overwrite m.bytes n (b ∷ []))) (λ bytes. does_rel h (set_memory p))))
+  set_rel n v h (a_memory p) = then_memory_at h p (λ m. then_same (byte_of v) (λ b. then_same (overwrite m.bytes n (b ∷ [])) (λ bytes. does_rel h (set_memory p))))
   set_rel n v h (a_global p) =
-      then_rel (given_rel (there (h.store.globals p))) (λ _ e g. rw g.type (either_rel (nat_eq n 0) (either_rel e.ty.mutable (then_rel (received_rel e.ty.ty v h.owned h.shown) (λ _ _ w. does_rel h (set_global p (record { type = refl; value = w })))) none) none))
+      then_rel (there (h.store.globals p)) (λ _ e g. rw g.type (either_rel (nat_eq n 0) (either_rel e.ty.mutable (then_rel (received_rel e.ty.ty v h.owned h.shown) (λ _ _ w. does_rel h (set_global p (record { type = refl; value = w })))) none) none))
 
   null_rel : (t : RefType) → RefRel R (null_of t) (null_of t)
   null_rel reft.Func = func none
@@ -222,7 +221,7 @@ module _ (R : Pairing) (apart : OneToOne R) (B C : Store → Store → List Entr
 
   extended_rel : {r q : Run} {x y : Thing} (n : ℕ) → RunRel R B F r q → ThingRel R x y → OptRel TransitionRel (extended r x n) (extended q y n)
   extended_rel n h (a_func p) = none
-  extended_rel {r} {q} n h (a_table {a = a1} {b = b1} p) = then_rel (given_rel (there (h.store.tables p))) (λ t u x. subst (λ b. OptRel TransitionRel (cond (table_may_grow t n) (does r (SetTable a1 (grown_table t n (null_of t.ty)))) None) (cond b (does q (SetTable b1 (grown_table u n (null_of u.ty)))) None)) (may_rel R n x) (either_rel (table_may_grow t n) (does_rel h (set_table p (table_grown n x (subst (λ z. RefRel R (null_of t.ty) (null_of z)) x.type (null_rel t.ty))))) none))
+  extended_rel {r} {q} n h (a_table {a = a1} {b = b1} p) = then_rel (there (h.store.tables p)) (λ t u x. subst (λ b. OptRel TransitionRel (cond (table_may_grow t n) (does r (SetTable a1 (grown_table t n (null_of t.ty)))) None) (cond b (does q (SetTable b1 (grown_table u n (null_of u.ty)))) None)) (may_same t u n (length_rel x.slots) x.most) (either_rel (table_may_grow t n) (does_rel h (set_table p (table_grown n x (subst (λ z. RefRel R (null_of t.ty) (null_of z)) x.type (null_rel t.ty))))) none))
   extended_rel n h (a_memory p) = then_memory_at h p (λ m. either_rel (memory_may_grow m n) (does_rel h (set_memory p)) none)
   extended_rel n h (a_global p) = none
 
@@ -303,7 +302,7 @@ module _ (R : Pairing) (apart : OneToOne R) (B C : Store → Store → List Entr
 
   started_rel : {r q : Run} {xs ys : List ℕ} {es fs : List Entry} {a b : ℕ} → RunRel R B F r q → ListRel (R.of Functions) xs ys → C r.store q.store es fs → R.of Functions a b → OptRel TransitionRel (started r xs es a) (started q ys fs b)
   started_rel {r} {q} {xs} {ys} {es} {fs} {a} {b} h x e n =
-      then_rel (given_rel (there (h.store.types n))) (λ t u same. subst (λ y. OptRel TransitionRel (option_and_then (λ v. called r (Opening xs ∷ es) [] a) (nothing_in t.results)) (option_and_then (λ v. called q (Opening ys ∷ fs) [] b) (nothing_in y.results))) same (then_same (nothing_in t.results) (λ v. called_rel [] h (stacks.push (opening x) e) n)))
+      then_rel (there (h.store.types n)) (λ t u same. subst (λ y. OptRel TransitionRel (option_and_then (λ v. called r (Opening xs ∷ es) [] a) (nothing_in t.results)) (option_and_then (λ v. called q (Opening ys ∷ fs) [] b) (nothing_in y.results))) same (then_same (nothing_in t.results) (λ v. called_rel [] h (stacks.push (opening x) e) n)))
 
   open_next_rel : {r q : Run} {xs ys : List ℕ} {es fs : List Entry} → RunRel R B F r q → ListRel (R.of Functions) xs ys → C r.store q.store es fs → TransitionRel (open_next r xs es) (open_next q ys fs)
   open_next_rel h nil e = makes (record { event = refl; run = record { store = h.store; entries = stacks.steady e; phase = opened; shown = h.shown; view = view_of_rel h h.phase; owned = h.owned; moves = h.moves } })

@@ -1,25 +1,28 @@
 -- One step of each agrees.
-use Rattle.std.proofs.Common.{◌≡◌, ℕ, List, [], ◌∷◌, refl, ap, subst, ◌∙◌, true}
+use Rattle.std.proofs.Common.{◌≡◌, ℕ, List, [], ◌∷◌, refl, ap, subst, ◌∙◌, true, Some}
 use Rattle.wasm_tree.specs.declared.space.Space.TheVariants as space
 use Rattle.wasm_tree.specs.declared.types.ValType.{ValType}
 use Rattle.wasm_tree.specs.declared.instr.Instr.{Instr}
 use Rattle.wasm_tree.specs.declared.instr.Instr.TheOpen.{Instr-F}
-use Rattle.wasm_meaning.specs.Outcomes.{Gives, bind, onto}
+use Rattle.wasm_meaning.specs.Outcomes.{Gives, bind, onto, or_ill_typed}
 use Rattle.wasm_tree.specs.declared.types.FuncType.{FuncType}
 use Rattle.wasm_meaning.specs.State.{Val, Func, Store, Change, Level, Frame, Entry, Running, Caller, Mark, Opening, Waiting, Ended, Growing, Growth, Env, Body, Act, Goes, Calls, AsksGrow, Ends}
 use Rattle.wasm_meaning.specs.Control.{type_at, call_address}
 use Rattle.wasm_meaning.specs.Values.{pop_typed, with_values}
-use Rattle.wasm_meaning.specs.Step.{exec, step_code, step_levels, act, frame_of, give_levels, give, enter, enter_at, to_mark, no_items, no_bytes, changed, perform, step}
+use Rattle.wasm_meaning.specs.Step.{exec, step_code, step_levels, act, frame_of, give_levels, give, enter, enter_at, to_mark, changed, perform, step}
 use Rattle.wasm_meaning.specs.Run.{is_mark}
 use Rattle.index_remap.specs.Related
-use Rattle.index_remap.specs.Related.{Pairing, OneToOneWhereWritten, OptRel, none, some, ResRel, done, wrong, ListRel, nil, cons, ValRel, OpRel, CodeRel, end, then, instead, FuncRel, defined, own, slot, TableRel, GlobalRel, ElemRel, StoreRel, LevelRel, FrameRel, EntryRel, mark, opening, waiting, growing, BodyRel, GrowthRel, ChangeRel, keep, set_global, set_memory, set_table, drop_elem, drop_data, ActRel, goes, calls, asks_grow, ends, NextRel, ran, asked, asked_grow, loads, returned, NotListed, TopSkips, NextKnown, TopKnown}
+use Rattle.index_remap.specs.Related.{Pairing, OneToOneWhereWritten, OptRel, none, some, ResRel, done, wrong, ListRel, nil, cons, ValRel, OpRel, CodeRel, end, then, instead, FuncRel, defined, own, slot, TableRel, GlobalRel, ElemRel, StoreRel, LevelRel, FrameRel, EntryRel, mark, opening, waiting, growing, BodyRel, GrowthRel, ChangeRel, keep, set_global, set_memory, set_table, drop_elem, drop_data, ActRel, goes, calls, asks_grow, ends, NextRel, NextRelBy, ran, asked, asked_grow, loads, returned, NotListed, TopSkips, NextKnown, TopKnown}
+use Rattle.index_remap.specs.Unknown.{Unknowns, none_unknown, StoreRelOff, read_by, read_next, read_levels, ReadsKnown, known, ActOff}
 use Rattle.index_remap.specs.Groups.{Group, Values, Memories, Control, group_of, GroupAgrees}
-use Rattle.index_remap.proofs.Rel.{same_there, bind_rel, bind_is, bind_rel_is, all_at, PairRel, onto_rel, append_rel, write_rel}
+use Rattle.index_remap.proofs.Rel.{same_there, bind_rel, bind_is, bind_rel_is, PairRel, onto_rel, append_rel, res_map}
+use Rattle.index_remap.proofs.Unknown.{to_off, to_related, changed_off, none_left_by, all_is_known, act_known}
 use Rattle.index_remap.proofs.ValueSteps.{Fits, pop_typed_all, pop_typed_rel, zeros_rel}
 use Rattle.index_remap.proofs.ControlSteps.{end_level_rel}
 use Rattle.index_remap.proofs.ValueGroup.{values_agree}
 use Rattle.index_remap.proofs.MemoryGroup.{memories_agree}
 use Rattle.index_remap.proofs.ControlGroup.{control_agrees}
+use Rattle.wasm_meaning.proofs.Outcomes.{all_at}
 
 -- the laws of the three groups, joined
 each_group : (g : Group) → GroupAgrees g
@@ -34,77 +37,31 @@ none_called R plain (Calls a vs h) = plain a
 none_called R plain (AsksGrow g m n f) = tt
 none_called R plain (Ends vs) = tt
 
-module _ (R : Pairing) (ev ew : Env) (st : StoreRel R ev.store ew.store) where
-  exec_rel : {h k : Body} {o p : Instr-F Instr} → BodyRel R ev.inst ew.inst h k → OpRel R ev.inst ew.inst true o p → ResRel (ActRel R ev.inst ew.inst) (exec o ev h) (exec p ew k)
-  exec_rel {h} {k} {o} {p} r q = each_group (group_of o) R ev ew st h k r o p q refl
+module _ (R : Pairing) (off : Unknowns) (ev ew : Env) (st : StoreRelOff R off ev.store ew.store) where
+  exec_rel : {h k : Body} {o p : Instr-F Instr} → BodyRel R ev.inst ew.inst h k → OpRel R ev.inst ew.inst true o p → ReadsKnown off (read_by o ev h.values) → ResRel (ActOff R off ev.inst ew.inst) (exec o ev h) (exec p ew k)
+  exec_rel {h} {k} {o} {p} r q reads = each_group (group_of o) R off ev ew st h k r o p q reads refl
 
-  step_code_rel : {h k : Body} {c d : List Instr} → BodyRel R ev.inst ew.inst h k → CodeRel R ev.inst ew.inst c d → ((x : Act) → step_code ev h c ≡ Gives x → NotListed R x) → NextKnown R ev.inst ew.inst c d → ResRel (ActRel R ev.inst ew.inst) (step_code ev h c) (step_code ew k d)
-  step_code_rel r end f u = end_level_rel R ev ew st r
-  step_code_rel r (then o c) f u = exec_rel (record { locals = r.locals; values = r.values; rest = c; gives = r.gives; takes = r.takes; back = r.back; outer = r.outer }) (u o)
-  step_code_rel {h} r (instead {a = a} {c = c} x p e l _) f u =
+  step_code_rel : {h k : Body} {c d : List Instr} → BodyRel R ev.inst ew.inst h k → CodeRel R ev.inst ew.inst c d → ((x : Act) → step_code ev h c ≡ Gives x → NotListed R x) → NextKnown R ev.inst ew.inst c d → ReadsKnown off (read_next ev h.values c) → ResRel (ActOff R off ev.inst ew.inst) (step_code ev h c) (step_code ew k d)
+  step_code_rel r end f u reads = end_level_rel R off ev ew st r
+  step_code_rel r (then o c) f u reads = exec_rel (record { locals = r.locals; values = r.values; rest = c; gives = r.gives; takes = r.takes; back = r.back; outer = r.outer }) (u o) reads
+  step_code_rel {h} r (instead {a = a} {c = c} x p e l _) f u reads =
       let called : Body = record h { rest = c } in
-      absurd (f (Calls a h.values called) (ap (λ o. exec o ev called) p ∙ ap (λ found. bind found (call_address called)) e) l)
+      absurd (f (Calls a h.values called) (ap (λ o. exec o ev called) p ∙ ap (λ found. bind (or_ill_typed found) (call_address called)) e) l)
 
-  pub step_levels_rel : {vs ws : List Val} {ls ms : List Level} → ListRel (ValRel R) vs ws → ListRel (LevelRel R ev.inst ew.inst) ls ms → ((x : Act) → step_levels ev vs ls ≡ Gives x → NotListed R x) → TopKnown R ev.inst ew.inst ls ms → ResRel (ActRel R ev.inst ew.inst) (step_levels ev vs ls) (step_levels ew ws ms)
-  step_levels_rel v nil free u = wrong
-  step_levels_rel v (cons l ls) free u = step_code_rel (record { locals = v; values = l.values; rest = end; gives = l.gives; takes = l.takes; back = l.back; outer = ls }) l.code free u
+  step_levels_rel : {vs ws : List Val} {ls ms : List Level} → ListRel (ValRel R) vs ws → ListRel (LevelRel R ev.inst ew.inst) ls ms → ((x : Act) → step_levels ev vs ls ≡ Gives x → NotListed R x) → TopKnown R ev.inst ew.inst ls ms → ReadsKnown off (read_levels ev ls) → ResRel (ActOff R off ev.inst ew.inst) (step_levels ev vs ls) (step_levels ew ws ms)
+  step_levels_rel v nil free u reads = wrong
+  step_levels_rel v (cons l ls) free u reads = step_code_rel (record { locals = v; values = l.values; rest = end; gives = l.gives; takes = l.takes; back = l.back; outer = ls }) l.code free u reads
 
 module _ (R : Pairing) (apart : OneToOneWhereWritten R) where
+  pub act_off : {s t : Store} {f g : Frame} (off : Unknowns) → StoreRelOff R off s t → FrameRel R f g → ((x : Act) → act s f ≡ Gives x → NotListed R x) → TopKnown R f.inst g.inst f.levels g.levels → ReadsKnown off (read_levels (record { store = s; inst = f.inst }) f.levels) → ResRel (ActOff R off f.inst g.inst) (act s f) (act t g)
+  act_off {s} {t} {f} {g} off p q free u reads = step_levels_rel R off (record { store = s; inst = f.inst }) (record { store = t; inst = g.inst }) p q.locals q.levels free u reads
+
   pub act_rel : {s t : Store} {f g : Frame} → StoreRel R s t → FrameRel R f g → ((x : Act) → act s f ≡ Gives x → NotListed R x) → TopKnown R f.inst g.inst f.levels g.levels → ResRel (ActRel R f.inst g.inst) (act s f) (act t g)
-  act_rel {s} {t} {f} {g} p q free u = step_levels_rel R (record { store = s; inst = f.inst }) (record { store = t; inst = g.inst }) p q.locals q.levels free u
+  act_rel {s} {t} p q free u = res_map (λ _ _ a. act_known R a) (act_off none_unknown (to_off R s t p) q free u (λ r _. all_is_known r))
 
   pub changed_rel : {s t : Store} {c d : Change} → StoreRel R s t → ChangeRel R c d → StoreRel R (changed s c) (changed t d)
-  changed_rel r keep = r
-  changed_rel {s} {t} r (set_global {g = g} {h = h} n q) = record {
-    types = r.types;
-    owns = r.owns;
-    funcs = r.funcs;
-    tables = r.tables;
-    mems = r.mems;
-    elems = r.elems;
-    datas = r.datas;
-    globals = write_rel R apart space.Globals refl (GlobalRel R) s.globals t.globals g h n (λ c d m. r.globals m) q _ _;
-  }
-  changed_rel {s} {t} r (set_memory {m = m} n) = record {
-    types = r.types;
-    owns = r.owns;
-    funcs = r.funcs;
-    tables = r.tables;
-    globals = r.globals;
-    elems = r.elems;
-    datas = r.datas;
-    mems = write_rel R apart space.Memories refl (λ m n. m ≡ n) s.mems t.mems m m n (λ c d q. r.mems q) refl _ _;
-  }
-  changed_rel {s} {t} r (set_table {t = x} {u = y} n q) = record {
-    types = r.types;
-    owns = r.owns;
-    funcs = r.funcs;
-    mems = r.mems;
-    globals = r.globals;
-    elems = r.elems;
-    datas = r.datas;
-    tables = write_rel R apart space.Tables refl (TableRel R) s.tables t.tables x y n (λ c d q. r.tables q) q _ _;
-  }
-  changed_rel {s} {t} r (drop_elem n) = record {
-    types = r.types;
-    owns = r.owns;
-    funcs = r.funcs;
-    mems = r.mems;
-    globals = r.globals;
-    tables = r.tables;
-    datas = r.datas;
-    elems = write_rel R apart space.ElementSegments refl (ElemRel R) s.elems t.elems no_items no_items n (λ c d q. r.elems q) (record { items = nil }) _ _;
-  }
-  changed_rel {s} {t} r (drop_data n) = record {
-    types = r.types;
-    owns = r.owns;
-    funcs = r.funcs;
-    mems = r.mems;
-    globals = r.globals;
-    tables = r.tables;
-    elems = r.elems;
-    datas = write_rel R apart space.DataSegments refl (λ d e. d.bytes ≡ e.bytes) s.datas t.datas no_bytes no_bytes n (λ c d q. r.datas q) refl _ _;
-  }
+  changed_rel {s} {t} {c} {d} r k =
+      to_related R (changed s c) (changed t d) (subst (λ u. StoreRelOff R u (changed s c) (changed t d)) (none_left_by c) (changed_off R apart none_unknown (to_off R s t r) (known k)))
 
   pub frame_rel : {f g : Frame} {h k : Body} → FrameRel R f g → BodyRel R f.inst g.inst h k → FrameRel R (frame_of f h) (frame_of g k)
   frame_rel f r = record { locals = r.locals; results = f.results; levels = cons (record { values = r.values; code = r.rest; gives = r.gives; takes = r.takes; back = r.back }) r.outer }
@@ -135,16 +92,16 @@ module _ (R : Pairing) (apart : OneToOneWhereWritten R) where
     pub marks : {s t : Store} {es fs : List Entry} → B s t es fs → ResRel (PairRel (◌≡◌ {A = Caller}) (C s t)) (to_mark es) (to_mark fs)
     pub marked : {s t : Store} {es fs : List Entry} → C s t es fs → is_mark es ≡ is_mark fs
     pub gives : {s t : Store} {vs ws : List Val} {es fs : List Entry} → StoreRel R s t → ListRel (ValRel R) vs ws → C s t es fs → ResRel (NextRel R B) (give s vs es) (give t ws fs)
-    pub enters : {s t : Store} {a b : ℕ} {u : FuncType} {vs ws : List Val} {es fs : List Entry} → StoreRel R s t → R.of space.Functions a b → type_at s a ≡ Gives u → Fits u.params vs → ListRel (ValRel R) vs ws → C s t es fs → ResRel (NextRel R B) (enter_at s a vs es) (enter_at t b ws fs)
+    pub enters : {s t : Store} {a b : ℕ} {u : FuncType} {vs ws : List Val} {es fs : List Entry} → StoreRel R s t → R.of space.Functions a b → type_at s a ≡ Some u → Fits u.params vs → ListRel (ValRel R) vs ws → C s t es fs → ResRel (NextRel R B) (enter_at s a vs es) (enter_at t b ws fs)
 
-  module _ (B C : Store → Store → List Entry → List Entry → Type 0) (steady : (s t : Store) (es fs : List Entry) → C s t es fs → B s t es fs) (push : (s t : Store) (e f : Entry) (es fs : List Entry) → EntryRel R e f → C s t es fs → B s t (e ∷ es) (f ∷ fs)) where
-    pub enter_rel : {s t : Store} {f g : Func} {vs ws : List Val} {es fs : List Entry} → StoreRel R s t → FuncRel R f g → ListRel (ValRel R) vs ws → C s t es fs → NextRel R B (enter s f vs es) (enter t g ws fs)
+  module _ (S : Store → Store → Type 0) (B C : Store → Store → List Entry → List Entry → Type 0) (steady : (s t : Store) (es fs : List Entry) → C s t es fs → B s t es fs) (push : (s t : Store) (e f : Entry) (es fs : List Entry) → EntryRel R e f → C s t es fs → B s t (e ∷ es) (f ∷ fs)) where
+    pub enter_rel : {s t : Store} {f g : Func} {vs ws : List Val} {es fs : List Entry} → S s t → FuncRel R f g → ListRel (ValRel R) vs ws → C s t es fs → NextRelBy R S B (enter s f vs es) (enter t g ws fs)
     enter_rel s (defined {ls = ls} c) v e =
         ran s (push _ _ _ _ _ _ (Related.running (record { locals = append_rel v (zeros_rel R ls); results = refl; levels = cons (record { values = nil; code = c; gives = refl; takes = refl; back = end }) nil })) e)
     enter_rel s own v e = asked v s (push _ _ _ _ _ _ waiting e)
     enter_rel s slot v e = loads v s (steady _ _ _ _ e)
 
-    pub give_levels_rel : {s t : Store} {f g : Frame} {ls ms : List Level} {vs ws : List Val} {es fs : List Entry} → StoreRel R s t → FrameRel R f g → ListRel (LevelRel R f.inst g.inst) ls ms → ListRel (ValRel R) vs ws → C s t es fs → ResRel (NextRel R B) (give_levels s vs f ls es) (give_levels t ws g ms fs)
+    pub give_levels_rel : {s t : Store} {f g : Frame} {ls ms : List Level} {vs ws : List Val} {es fs : List Entry} → S s t → FrameRel R f g → ListRel (LevelRel R f.inst g.inst) ls ms → ListRel (ValRel R) vs ws → C s t es fs → ResRel (NextRelBy R S B) (give_levels s vs f ls es) (give_levels t ws g ms fs)
     give_levels_rel s f nil v e = wrong
     give_levels_rel s f (cons l ls) v e = done (ran s (push _ _ _ _ _ _ (Related.running (frame_given f l ls v)) e))
 

@@ -1,61 +1,43 @@
 -- Stores that are related off a set of unknown places.
-use Rattle.std.proofs.Common.{◌≡◌, ◌∙◌, refl, sym, ap, subst, ℕ, suc, List, [], ◌∷◌, length, Some, Bool, true, false, cond, not, ◌⊎◌, inl, inr, slice_get, slice_set, arith}
-use native.Mathlib.Decide.{ℕ_discrete}
+use Rattle.std.proofs.Common.{◌≡◌, ◌∙◌, refl, sym, ap, subst, ℕ, List, [], ◌∷◌, Some, Bool, true, false, cond, not, ◌⊎◌, inl, inr, slice_get}
 use Rattle.std.specs.Prelude.{nat_eq, ◌||◌}
 use Rattle.std.specs.List.{filter}
 use Rattle.std.proofs.lemmas.Bool.Decides.{eqb_tells}
-use Rattle.wasm_tree.specs.declared.space.Space.TheVariants.{Globals}
-use Rattle.wasm_meaning.specs.Outcomes.{Outcome, Gives, bind, at}
-use Rattle.wasm_meaning.specs.State.{RefVal, Val, Global, Store, SetGlobal}
-use Rattle.wasm_meaning.specs.Step.{changed}
-use Rattle.index_remap.specs.Related.{Pairing, OneToOneWhereWritten, OptRel, some, BothRel, both, ListRel, nil, cons, RefRel, ValRel, StoreRel}
+use Rattle.wasm_tree.specs.declared.space.Space.TheVariants.{Tables, Memories, Globals, ElementSegments, DataSegments}
+use Rattle.wasm_meaning.specs.Outcomes.{Outcome, Gives, Traps, IllTyped}
+use Rattle.wasm_meaning.specs.State.{Inst, Table, Global, Elem, Store, Entry, Running, Mark, Opening, Waiting, Ended, Growing, Change, Keep, SetGlobal, SetMemory, SetTable, DropElem, DropData, Act, Goes, Calls, AsksGrow, Ends}
+use Rattle.wasm_meaning.specs.Step.{act, changed, no_items, no_bytes}
+use Rattle.index_remap.specs.Related.{Pairing, OneToOneWhereWritten, BothRel, both, nil, TableRel, GlobalRel, StoreRel, ChangeRel, keep, set_global, set_memory, set_table, drop_elem, drop_data, ActRel, goes, calls, asks_grow, ends}
 use Rattle.index_remap.specs.References.{is_among}
 use Rattle.index_remap.specs.Laws.{passed}
-use Rattle.index_remap.specs.Unknown.{Unknowns, none_unknown, GlobalOff, RefsOff, StoreRelOff, learnt, NothingUnknown, SetGlobalsAreKnown}
-use Rattle.index_remap.proofs.Rel.{get_rel, length_rel, at_put_here, at_put_there}
-
-both_map : {A B : Type 0} {P Q : A → B → Type 0} {o : Outcome A} {p : Outcome B} → ((a : A) (b : B) → P a b → Q a b) → BothRel P o p → BothRel Q o p
-both_map f (both r) = both (f _ _ r)
+use Rattle.index_remap.specs.Unknown.{Unknowns, none_unknown, is_place_among, GlobalOff, RefsOff, TableOff, StoreRelOff, learnt, NothingUnknown, SetGlobalsAreKnown, Read, ReadsNothing, ReadsGlobal, ReadsSlots, ReadsItems, IsKnown, left_by, left_after, left_unknown, ChangeOff, known, off_slots, ActOff}
+use Rattle.index_remap.proofs.Rel.{write_each, write_rel, both_map}
+use Rattle.index_remap.proofs.Off.{refs_off, refs_related}
 
 -- ---- nothing is unknown ----
 
 module _ (R : Pairing) where
-  some_of : {x y : RefVal} → OptRel (RefRel R) (Some x) (Some y) → RefRel R x y
-  some_of (some p) = p
-
-  all_related : (xs ys : List RefVal) → length xs ≡ length ys → ((n : ℕ) → OptRel (RefRel R) (slice_get xs n) (slice_get ys n)) → ListRel (RefRel R) xs ys
-  all_related [] [] e h = nil
-  all_related [] (y ∷ ys) e h = absurd (omega (arith, e))
-  all_related (x ∷ xs) [] e h = absurd (omega (arith, e))
-  all_related (x ∷ xs) (y ∷ ys) e h = cons (some_of (h 0)) (all_related xs ys (omega (arith, e)) (λ n. h (suc n)))
-
-  refs_related : (xs ys : List RefVal) → RefsOff R (λ n. true) xs ys → ListRel (RefRel R) xs ys
-  refs_related xs ys r = all_related xs ys r.size (λ n. r.each n refl)
-
-  refs_off : (known : ℕ → Bool) (xs ys : List RefVal) → ListRel (RefRel R) xs ys → RefsOff R known xs ys
-  refs_off known xs ys r = record { size = length_rel r; each = λ n _. get_rel r n }
-
-  to_related : (s t : Store) → StoreRelOff R none_unknown s t → StoreRel R s t
+  pub to_related : (s t : Store) → StoreRelOff R none_unknown s t → StoreRel R s t
   to_related s t r = record {
     types = r.types;
     owns = r.owns;
     funcs = r.funcs;
-    tables = λ n. both_map (λ t u x. record { type = x.type; most = x.most; slots = refs_related t.slots u.slots x.slots }) (r.tables n);
+    tables = λ n. both_map (λ t u x. record { type = x.type; most = x.most; slots = refs_related R t.slots u.slots x.slots }) (r.tables n);
     mems = r.mems;
     globals = λ n. both_map (λ g h x. record { type = x.type; value = x.value refl }) (r.globals n);
-    elems = λ n. both_map (λ e f x. record { items = refs_related e.items f.items x }) (r.elems n);
+    elems = λ n. both_map (λ e f x. record { items = refs_related R e.items f.items x }) (r.elems n);
     datas = r.datas;
   }
 
-  to_off : (s t : Store) → StoreRel R s t → StoreRelOff R none_unknown s t
+  pub to_off : (s t : Store) → StoreRel R s t → StoreRelOff R none_unknown s t
   to_off s t r = record {
     types = r.types;
     owns = r.owns;
     funcs = r.funcs;
-    tables = λ n. both_map (λ t u x. record { type = x.type; most = x.most; slots = refs_off _ t.slots u.slots x.slots }) (r.tables n);
+    tables = λ n. both_map (λ t u x. record { type = x.type; most = x.most; slots = refs_off R _ t.slots u.slots x.slots }) (r.tables n);
     mems = r.mems;
     globals = λ n. both_map (λ g h x. record { type = x.type; value = λ _. x.value }) (r.globals n);
-    elems = λ n. both_map (λ e f x. refs_off _ e.items f.items x.items) (r.elems n);
+    elems = λ n. both_map (λ e f x. refs_off R _ e.items f.items x.items) (r.elems n);
     datas = r.datas;
   }
 
@@ -87,38 +69,131 @@ still_among (x ∷ xs) a c n = go (eqb_tells x a) (still_among xs a c n)
     go (inl h) more = tests (nat_eq x a) ∙ ap (λ b. cond b (is_among (without xs a) c) (nat_eq c x || is_among (without xs a) c)) h.0 ∙ more ∙ ap (λ b. b || is_among xs c) (sym (other h.1))
     go (inr h) more = tests (nat_eq x a) ∙ ap (λ b. cond b (is_among (without xs a) c) (nat_eq c x || is_among (without xs a) c)) h.0 ∙ ap (λ y. nat_eq c x || y) more
 
-module _ (R : Pairing) (apart : OneToOneWhereWritten R) (u : Unknowns) (s t : Store) (a b : ℕ) (g h : Global) (v w : Val) (r : StoreRelOff R u s t) (n : R.of Globals a b) (at_g : at s.globals a ≡ Gives g) (at_h : at t.globals b ≡ Gives h) (values : ValRel R v w) where
-  abbrev first : List Global
-  first = slice_set s.globals a (record g { value = v })
+-- what is left of the stores after both write what agrees
+module _ (R : Pairing) (apart : OneToOneWhereWritten R) (u : Unknowns) where
+  abbrev GlobalsOff : List ℕ → ℕ → Global → Global → Type 0
+  GlobalsOff xs c = GlobalOff R (not (is_among xs c))
 
-  abbrev second : List Global
-  second = slice_set t.globals b (record h { value = w })
+  global_set : (s t : Store) (a b : ℕ) (g h : Global) → StoreRelOff R u s t → R.of Globals a b → GlobalRel R g h → StoreRelOff R (learnt u a) (changed s (SetGlobal a g)) (changed t (SetGlobal b h))
+  global_set s t a b g h r n q = record {
+    types = r.types;
+    owns = r.owns;
+    funcs = r.funcs;
+    tables = r.tables;
+    mems = r.mems;
+    elems = r.elems;
+    datas = r.datas;
+    globals = write_each R apart Globals refl (GlobalsOff u.globals) (GlobalsOff (without u.globals a)) s.globals t.globals g h n (λ c d m. r.globals m)
+        (λ c x y e. subst (λ k. GlobalOff R (not k) x y) (sym (still_among u.globals a c e))) (record { type = q.type; value = λ _. q.value }) _ _;
+  }
 
-  same_type : BothRel (GlobalOff R (not (is_among u.globals a))) (at s.globals a) (at t.globals b) → g.ty ≡ h.ty
-  same_type x = go (subst (BothRel (GlobalOff R (not (is_among u.globals a))) (at s.globals a)) at_h x)
+  table_set : (s t : Store) (a b : ℕ) (x y : Table) → StoreRelOff R u s t → R.of Tables a b → TableOff R (λ n. not (is_place_among u.slots a n)) x y → StoreRelOff R u (changed s (SetTable a x)) (changed t (SetTable b y))
+  table_set s t a b x y r n q = record {
+    types = r.types;
+    owns = r.owns;
+    funcs = r.funcs;
+    mems = r.mems;
+    globals = r.globals;
+    elems = r.elems;
+    datas = r.datas;
+    tables = let P : ℕ → Table → Table → Type 0 = λ c. TableOff R (λ n. not (is_place_among u.slots c n)) in write_each R apart Tables refl P P s.tables t.tables x y n (λ c d m. r.tables m) (λ _ _ _ _ q. q) q _ _;
+  }
+
+  known_change : {s t : Store} {c d : Change} → StoreRelOff R u s t → ChangeRel R c d → StoreRelOff R (left_by u c) (changed s c) (changed t d)
+  known_change r keep = r
+  known_change {s} {t} r (set_global {a = a} {b = b} {g = g} {h = h} n q) = global_set s t a b g h r n q
+  known_change {s} {t} r (set_table {a = a} {b = b} {t = x} {u = y} n q) = table_set s t a b x y r n (record { type = q.type; most = q.most; slots = refs_off R _ x.slots y.slots q.slots })
+  known_change {s} {t} r (set_memory {m = m} n) = record {
+    types = r.types;
+    owns = r.owns;
+    funcs = r.funcs;
+    tables = r.tables;
+    globals = r.globals;
+    elems = r.elems;
+    datas = r.datas;
+    mems = write_rel R apart Memories refl (λ m n. m ≡ n) s.mems t.mems m m n (λ c d q. r.mems q) refl _ _;
+  }
+  known_change {s} {t} r (drop_elem n) = record {
+    types = r.types;
+    owns = r.owns;
+    funcs = r.funcs;
+    tables = r.tables;
+    mems = r.mems;
+    globals = r.globals;
+    datas = r.datas;
+    elems = let P : ℕ → Elem → Elem → Type 0 = λ c e f. RefsOff R (λ n. not (is_place_among u.items c n)) e.items f.items in
+        write_each R apart ElementSegments refl P P s.elems t.elems no_items no_items n (λ c d m. r.elems m) (λ _ _ _ _ q. q) (refs_off R _ [] [] nil) _ _;
+  }
+  known_change {s} {t} r (drop_data n) = record {
+    types = r.types;
+    owns = r.owns;
+    funcs = r.funcs;
+    tables = r.tables;
+    mems = r.mems;
+    globals = r.globals;
+    elems = r.elems;
+    datas = write_rel R apart DataSegments refl (λ d e. d.bytes ≡ e.bytes) s.datas t.datas no_bytes no_bytes n (λ c d q. r.datas q) refl _ _;
+  }
+
+  pub changed_off : {s t : Store} {c d : Change} → StoreRelOff R u s t → ChangeOff R u c d → StoreRelOff R (left_by u c) (changed s c) (changed t d)
+  changed_off r (known c) = known_change r c
+  changed_off {s} {t} r (off_slots {a = a} {b = b} {t = x} {v = y} n q) = table_set s t a b x y r n q
+
+  -- globals of related addresses are of one type
+  same_type : {s t : Store} {a b : ℕ} {g h : Global} → StoreRelOff R u s t → R.of Globals a b → slice_get s.globals a ≡ Some g → slice_get t.globals b ≡ Some h → g.ty ≡ h.ty
+  same_type {t = t} {a = a} {b = b} {g = g} {h = h} r n at_g at_h = go (subst (BothRel (GlobalsOff u.globals a) (Some g)) at_h (subst (λ o. BothRel (GlobalsOff u.globals a) o (slice_get t.globals b)) at_g (r.globals n)))
     where
-      inner : BothRel (GlobalOff R (not (is_among u.globals a))) (Gives g) (Gives h) → g.ty ≡ h.ty
-      inner (both y) = y.type
-
-      go : BothRel (GlobalOff R (not (is_among u.globals a))) (at s.globals a) (Gives h) → g.ty ≡ h.ty
-      go y = inner (subst (λ o. BothRel (GlobalOff R (not (is_among u.globals a))) o (Gives h)) at_g y)
-
-  globals_off : (c d : ℕ) → R.of Globals c d → BothRel (GlobalOff R (not (is_among (without u.globals a) c))) (at first c) (at second d)
-  globals_off c d m = go (ℕ_discrete a c) (ℕ_discrete b d)
-    where
-      go : Dec (a ≡ c) → Dec (b ≡ d) → BothRel (GlobalOff R (not (is_among (without u.globals a) c))) (at first c) (at second d)
-      go (yes e) (yes f) =
-          let left : at first c ≡ Gives (record g { value = v }) = ap (at first) (sym e) ∙ at_put_here s.globals a (record g { value = v }) ∙ ap (λ o. bind o (λ old. Gives (record g { value = v }))) at_g in
-          let right : at second d ≡ Gives (record h { value = w }) = ap (at second) (sym f) ∙ at_put_here t.globals b (record h { value = w }) ∙ ap (λ o. bind o (λ old. Gives (record h { value = w }))) at_h in
-          subst (λ o. BothRel (GlobalOff R (not (is_among (without u.globals a) c))) o (at second d)) (sym left)
-          (subst (BothRel (GlobalOff R (not (is_among (without u.globals a) c))) (Gives (record g { value = v }))) (sym right) (both (record { type = same_type (r.globals n); value = λ _. values })))
-      go (yes e) (no f) = absurd (f (apart.right {k = Globals} refl a b d n (subst (λ x. R.of Globals x d) (sym e) m)))
-      go (no e) (yes f) = absurd (e (apart.left {k = Globals} refl a c b n (subst (λ x. R.of Globals c x) (sym f) m)))
-      go (no e) (no f) =
-          rw (at_put_there s.globals a c (record g { value = v }) e, at_put_there t.globals b d (record h { value = w }) f) (subst (λ k. BothRel (GlobalOff R (not k)) (at s.globals c) (at t.globals d)) (sym (still_among u.globals a c e)) (r.globals m))
-
-  off_again : StoreRelOff R (learnt u a) (changed s (SetGlobal a (record g { value = v }))) (changed t (SetGlobal b (record h { value = w })))
-  off_again = record { types = r.types; owns = r.owns; funcs = r.funcs; tables = r.tables; mems = r.mems; globals = λ {a = c} {b = d} m. globals_off c d m; elems = r.elems; datas = r.datas }
+      go : BothRel (GlobalsOff u.globals a) (Some g) (Some h) → g.ty ≡ h.ty
+      go (both y) = y.type
 
 pub set_globals_are_known : SetGlobalsAreKnown
-set_globals_are_known of named l apart u s t a b g h v w r n at_g at_h values = off_again (passed of named l) apart u s t a b g h v w r n at_g at_h values
+set_globals_are_known of named l apart u s t a b g h v w r n at_g at_h values =
+    let R = passed of named l in
+    global_set R apart u s t a b (record g { value = v }) (record h { value = w }) r n (record { type = same_type R apart u r n at_g at_h; value = values })
+
+-- ---- nothing is unknown ----
+
+pub all_is_known : (r : Read) → IsKnown none_unknown r
+all_is_known ReadsNothing = tt
+all_is_known (ReadsGlobal a) = refl
+all_is_known (ReadsSlots a place count) = λ _ _ _. refl
+all_is_known (ReadsItems a place count) = λ _ _ _. refl
+
+pub none_left_by : (c : Change) → left_by none_unknown c ≡ none_unknown
+none_left_by Keep = refl
+none_left_by (SetGlobal a g) = refl
+none_left_by (SetMemory a m) = refl
+none_left_by (SetTable a t) = refl
+none_left_by (DropElem a) = refl
+none_left_by (DropData a) = refl
+
+none_left_after : (o : Outcome Act) → left_after none_unknown o ≡ none_unknown
+none_left_after Traps = refl
+none_left_after IllTyped = refl
+none_left_after (Gives (Goes c h)) = none_left_by c
+none_left_after (Gives (Calls a vs h)) = refl
+none_left_after (Gives (AsksGrow g m n h)) = refl
+none_left_after (Gives (Ends vs)) = refl
+
+pub none_is_left : (s : Store) (es : List Entry) → left_unknown none_unknown s es ≡ none_unknown
+none_is_left s [] = refl
+none_is_left s (Running f ∷ es) = none_left_after (act s f)
+none_is_left s (Mark ∷ es) = refl
+none_is_left s (Opening xs ∷ es) = refl
+none_is_left s (Waiting ts ∷ es) = refl
+none_is_left s (Ended vs ∷ es) = refl
+none_is_left s (Growing g ∷ es) = refl
+
+module _ (R : Pairing) where
+  table_known : {t u : Table} → TableOff R (λ n. true) t u → TableRel R t u
+  table_known {t} {u} q = record { type = q.type; most = q.most; slots = refs_related R t.slots u.slots q.slots }
+
+  pub change_known : {c d : Change} → ChangeOff R none_unknown c d → ChangeRel R c d
+  change_known (known c) = c
+  change_known (off_slots n q) = set_table n (table_known q)
+
+  pub act_known : {i j : Inst} {x y : Act} → ActOff R none_unknown i j x y → ActRel R i j x y
+  act_known (goes c r) = goes (change_known c) r
+  act_known (calls n v r) = calls n v r
+  act_known (asks_grow g r) = asks_grow g r
+  act_known (ends v) = ends v

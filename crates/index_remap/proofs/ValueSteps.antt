@@ -1,7 +1,8 @@
 -- Steps that keep to values, locals and globals agree.
-use Rattle.std.proofs.Common.{◌≡◌, ℕ, List, [], ◌∷◌, Bool, true, false, cond, refl, ap, subst}
+use Rattle.std.proofs.Common.{◌≡◌, ℕ, List, [], ◌∷◌, Bool, true, false, cond, not, refl, ap, subst}
 use Rattle.wasm_tree.specs.declared.space.Space.TheVariants.{Functions, Globals}
 use Rattle.std.specs.Prelude.{nat_eq}
+use Rattle.wasm_tree.specs.declared.instr.Instr.TheOpen.{Instr-F}
 use Rattle.wasm_tree.specs.declared.types.RefType.TheVariants as reft
 use Rattle.wasm_tree.specs.declared.types.ValType.{ValType}
 use Rattle.wasm_tree.specs.declared.types.ValType.TheVariants as valt
@@ -11,8 +12,10 @@ use Rattle.wasm_meaning.specs.Outcomes.{Outcome, Gives, IllTyped, or_trap, bind}
 use Rattle.wasm_num.specs.Operations.{Width, W32, W64, un_from, bin_from, bin_value}
 use Rattle.wasm_meaning.specs.State.{RefVal, Val, Num, Global, Env, Body}
 use Rattle.wasm_meaning.specs.Values.{type_of_ref, type_of, same_type, pop, pop_num, pop_ref, typed, pop_typed, null_of, zero_of, zeros, unary, binary, is_null, ref_is_null, is_number, select_of, second_type, select_any, select_typed, go, with_values, on_values, pushes, local_get, local_put, local_set, local_tee, global_get, global_put, global_set, ref_func}
-use Rattle.index_remap.specs.Related.{Pairing, none, some, ResRel, done, wrong, ListRel, nil, cons, RefRel, func, extern, ValRel, number, reference, Names, GlobalRel, StoreRel, BodyRel, keep, set_global, ActRel, goes}
-use Rattle.index_remap.proofs.Rel.{there, bind_rel, bind_same, bind_eq, cond_rel, cond_two, PairRel, at_rel, put_rel, OptAll, just, bind_all, any}
+use Rattle.index_remap.specs.Related.{Pairing, none, some, ResRel, done, wrong, ListRel, nil, cons, RefRel, func, extern, ValRel, number, reference, Names, BodyRel, keep, set_global, goes}
+use Rattle.index_remap.specs.Unknown.{Unknowns, StoreRelOff, ReadsGlobal, read_by, ReadsKnown, known, ActOff}
+use Rattle.index_remap.proofs.Rel.{there, bind_rel, bind_same, bind_eq, cond_rel, cond_two, PairRel, put_rel, bind_all, any, bind_found, bind_found_is, get_rel}
+use Rattle.wasm_meaning.proofs.Outcomes.{AllOf, just, then_found}
 
 -- each value has its type
 abbrev pub Fits : List ValType → List Val → Type 0
@@ -25,7 +28,7 @@ typed_is t v w e = go (same_type t (type_of v)) refl e
     go true q f = let h : v ≡ w = cc f in subst (λ x. cond (same_type t (type_of x)) (Gives x) IllTyped ≡ Gives x) h (ap (λ b. cond b (Gives v) IllTyped) q)
     go false q f = cc f
 
-pub pop_typed_all : (ts : List ValType) (vs : List Val) → OptAll (λ p. Fits ts p.0) (pop_typed ts vs)
+pub pop_typed_all : (ts : List ValType) (vs : List Val) → AllOf (λ p. Fits ts p.0) (pop_typed ts vs)
 pop_typed_all [] vs = just nil
 pop_typed_all (t ∷ ts) vs =
     bind_all (pop_typed_all ts vs) (λ p _ r. bind_all (any (pop p.1)) (λ q _ _. bind_all (any (typed t q.0)) (λ v e _. just (cons (typed_is t q.0 v e) r))))
@@ -38,14 +41,17 @@ module _ (R : Pairing) where
   pop_rel (cons p r) = done (record { first = p; second = r })
 
   -- the same number on top of both
+  pub bind_num_is : {C D : Type 0} {Q : C → D → Type 0} {vs ws : List Val} (w : Width) (f : ℕ × List Val → Outcome C) (g : ℕ × List Val → Outcome D) → ListRel (ValRel R) vs ws → ((n : ℕ) (xs ys : List Val) → pop_num w vs ≡ Gives (n, xs) → ListRel (ValRel R) xs ys → ResRel Q (f (n, xs)) (g (n, ys))) → ResRel Q (bind (pop_num w vs) f) (bind (pop_num w ws) g)
+  bind_num_is w f g nil h = wrong
+  bind_num_is W32 f g (cons (number {w = W32}) r) h = h _ _ _ refl r
+  bind_num_is W32 f g (cons (number {w = W64}) r) h = wrong
+  bind_num_is W64 f g (cons (number {w = W32}) r) h = wrong
+  bind_num_is W64 f g (cons (number {w = W64}) r) h = h _ _ _ refl r
+  bind_num_is W32 f g (cons (reference p) r) h = wrong
+  bind_num_is W64 f g (cons (reference p) r) h = wrong
+
   pub bind_num : {C D : Type 0} {Q : C → D → Type 0} {vs ws : List Val} (w : Width) (f : ℕ × List Val → Outcome C) (g : ℕ × List Val → Outcome D) → ListRel (ValRel R) vs ws → ((n : ℕ) (xs ys : List Val) → ListRel (ValRel R) xs ys → ResRel Q (f (n, xs)) (g (n, ys))) → ResRel Q (bind (pop_num w vs) f) (bind (pop_num w ws) g)
-  bind_num w f g nil h = wrong
-  bind_num W32 f g (cons (number {w = W32}) r) h = h _ _ _ r
-  bind_num W32 f g (cons (number {w = W64}) r) h = wrong
-  bind_num W64 f g (cons (number {w = W32}) r) h = wrong
-  bind_num W64 f g (cons (number {w = W64}) r) h = h _ _ _ r
-  bind_num W32 f g (cons (reference p) r) h = wrong
-  bind_num W64 f g (cons (reference p) r) h = wrong
+  bind_num w f g r h = bind_num_is w f g r (λ n xs ys _ v. h n xs ys v)
 
   pub pop_ref_rel : {vs ws : List Val} → ListRel (ValRel R) vs ws → ResRel (PairRel (RefRel R) (ListRel (ValRel R))) (pop_ref vs) (pop_ref ws)
   pop_ref_rel nil = wrong
@@ -118,47 +124,47 @@ module _ (R : Pairing) where
   select_typed_rel [] r = wrong
   select_typed_rel (t ∷ u ∷ ts) r = wrong
 
-module _ (R : Pairing) (ev ew : Env) (st : StoreRel R ev.store ew.store) where
+module _ (R : Pairing) (off : Unknowns) (ev ew : Env) (st : StoreRelOff R off ev.store ew.store) where
   -- ---- the frame put together again ----
 
-  pub go_rel : {h k : Body} → BodyRel R ev.inst ew.inst h k → ResRel (ActRel R ev.inst ew.inst) (Gives (go h)) (Gives (go k))
-  go_rel r = done (goes keep r)
+  pub go_rel : {h k : Body} → BodyRel R ev.inst ew.inst h k → ResRel (ActOff R off ev.inst ew.inst) (Gives (go h)) (Gives (go k))
+  go_rel r = done (goes (known keep) r)
 
   pub values_rel : {h k : Body} {vs ws : List Val} → BodyRel R ev.inst ew.inst h k → ListRel (ValRel R) vs ws → BodyRel R ev.inst ew.inst (with_values h vs) (with_values k ws)
   values_rel r v = record { locals = r.locals; values = v; rest = r.rest; gives = r.gives; takes = r.takes; back = r.back; outer = r.outer }
 
-  pub on_values_rel : {h k : Body} (f : List Val → Outcome (List Val)) → BodyRel R ev.inst ew.inst h k → ResRel (ListRel (ValRel R)) (f h.values) (f k.values) → ResRel (ActRel R ev.inst ew.inst) (on_values h f) (on_values k f)
+  pub on_values_rel : {h k : Body} (f : List Val → Outcome (List Val)) → BodyRel R ev.inst ew.inst h k → ResRel (ListRel (ValRel R)) (f h.values) (f k.values) → ResRel (ActOff R off ev.inst ew.inst) (on_values h f) (on_values k f)
   on_values_rel f r v = bind_rel v (λ _ _ v. go_rel (values_rel r v))
 
-  pub pushes_rel : {h k : Body} {v w : Val} → BodyRel R ev.inst ew.inst h k → ValRel R v w → ResRel (ActRel R ev.inst ew.inst) (pushes h v) (pushes k w)
+  pub pushes_rel : {h k : Body} {v w : Val} → BodyRel R ev.inst ew.inst h k → ValRel R v w → ResRel (ActOff R off ev.inst ew.inst) (pushes h v) (pushes k w)
   pushes_rel r v = go_rel (values_rel r (cons v r.values))
 
   -- ---- locals and globals ----
 
-  pub local_get_rel : {h k : Body} (i : ℕ) → BodyRel R ev.inst ew.inst h k → ResRel (ActRel R ev.inst ew.inst) (local_get h i) (local_get k i)
-  local_get_rel i r = bind_rel (at_rel r.locals i) (λ _ _ v. pushes_rel r v)
+  pub local_get_rel : {h k : Body} (i : ℕ) → BodyRel R ev.inst ew.inst h k → ResRel (ActOff R off ev.inst ew.inst) (local_get h i) (local_get k i)
+  local_get_rel i r = bind_found (get_rel r.locals i) (λ _ _ v. pushes_rel r v)
 
-  local_put_rel : {h k : Body} {v w : Val} (i : ℕ) → BodyRel R ev.inst ew.inst h k → ValRel R v w → ResRel (ActRel R ev.inst ew.inst) (local_put h i v) (local_put k i w)
+  local_put_rel : {h k : Body} {v w : Val} (i : ℕ) → BodyRel R ev.inst ew.inst h k → ValRel R v w → ResRel (ActOff R off ev.inst ew.inst) (local_put h i v) (local_put k i w)
   local_put_rel i r q =
-      bind_rel (at_rel r.locals i) (λ a b old. rw (type_rel R old) (bind_rel (typed_rel R (type_of b) q) (λ _ _ new.
+      bind_found (get_rel r.locals i) (λ a b old. rw (type_rel R old) (bind_rel (typed_rel R (type_of b) q) (λ _ _ new.
       go_rel (record { locals = put_rel r.locals i new; values = r.values; rest = r.rest; gives = r.gives; takes = r.takes; back = r.back; outer = r.outer }))))
 
-  pub local_set_rel : {h k : Body} (i : ℕ) → BodyRel R ev.inst ew.inst h k → ResRel (ActRel R ev.inst ew.inst) (local_set h i) (local_set k i)
+  pub local_set_rel : {h k : Body} (i : ℕ) → BodyRel R ev.inst ew.inst h k → ResRel (ActOff R off ev.inst ew.inst) (local_set h i) (local_set k i)
   local_set_rel i r = bind_rel (pop_rel R r.values) (λ _ _ p. local_put_rel i (values_rel r p.second) p.first)
 
-  pub local_tee_rel : {h k : Body} (i : ℕ) → BodyRel R ev.inst ew.inst h k → ResRel (ActRel R ev.inst ew.inst) (local_tee h i) (local_tee k i)
+  pub local_tee_rel : {h k : Body} (i : ℕ) → BodyRel R ev.inst ew.inst h k → ResRel (ActOff R off ev.inst ew.inst) (local_tee h i) (local_tee k i)
   local_tee_rel i r = bind_rel (pop_rel R r.values) (λ _ _ p. local_put_rel i r p.first)
 
-  pub global_get_rel : {h k : Body} (n m : ℕ) → BodyRel R ev.inst ew.inst h k → Names R.of Globals ev.inst.globals ew.inst.globals n m → ResRel (ActRel R ev.inst ew.inst) (global_get ev h n) (global_get ew k m)
-  global_get_rel n m r p = bind_rel p (λ _ _ p. bind_rel (there (st.globals p)) (λ _ _ g. pushes_rel r g.value))
+  pub global_get_rel : {h k : Body} (n m : ℕ) → BodyRel R ev.inst ew.inst h k → Names R.of Globals ev.inst.globals ew.inst.globals n m → ReadsKnown off (read_by (Instr-F.GlobalGet n) ev h.values) → ResRel (ActOff R off ev.inst ew.inst) (global_get ev h n) (global_get ew k m)
+  global_get_rel n m r p reads = bind_found_is p (λ a _ is p. bind_found (there (st.globals p)) (λ _ _ g. pushes_rel r (g.value (ap not (reads _ (then_found (λ a. Gives (ReadsGlobal a)) is))))))
 
-  global_put_rel : {h k : Body} {v w : Val} {a b : ℕ} {g e : Global} → R.of Globals a b → GlobalRel R g e → BodyRel R ev.inst ew.inst h k → ValRel R v w → ResRel (ActRel R ev.inst ew.inst) (global_put h a g v) (global_put k b e w)
-  global_put_rel {e = e} n q r v =
-      rw q.type (cond_rel e.ty.mutable (bind_rel (typed_rel R e.ty.ty v) (λ x y new. done (goes (set_global n (record { type = refl; value = new })) r))) wrong)
+  global_put_rel : {h k : Body} {v w : Val} {a b : ℕ} (g e : Global) → R.of Globals a b → g.ty ≡ e.ty → BodyRel R ev.inst ew.inst h k → ValRel R v w → ResRel (ActOff R off ev.inst ew.inst) (global_put h a g v) (global_put k b e w)
+  global_put_rel g e n type r v =
+      rw type (cond_rel e.ty.mutable (bind_rel (typed_rel R e.ty.ty v) (λ x y new. done (goes (known (set_global n (record { type = refl; value = new }))) r))) wrong)
 
-  pub global_set_rel : {h k : Body} (n m : ℕ) → BodyRel R ev.inst ew.inst h k → Names R.of Globals ev.inst.globals ew.inst.globals n m → ResRel (ActRel R ev.inst ew.inst) (global_set ev h n) (global_set ew k m)
+  pub global_set_rel : {h k : Body} (n m : ℕ) → BodyRel R ev.inst ew.inst h k → Names R.of Globals ev.inst.globals ew.inst.globals n m → ResRel (ActOff R off ev.inst ew.inst) (global_set ev h n) (global_set ew k m)
   global_set_rel n m r p =
-      bind_rel p (λ _ _ p. bind_rel (there (st.globals p)) (λ _ _ g. bind_rel (pop_rel R r.values) (λ _ _ v. global_put_rel p g (values_rel r v.second) v.first)))
+      bind_found p (λ _ _ p. bind_found (there (st.globals p)) (λ x y g. bind_rel (pop_rel R r.values) (λ _ _ v. global_put_rel x y p g.type (values_rel r v.second) v.first)))
 
-  pub ref_func_rel : {h k : Body} (n m : ℕ) → BodyRel R ev.inst ew.inst h k → Names R.of Functions ev.inst.funcs ew.inst.funcs n m → ResRel (ActRel R ev.inst ew.inst) (ref_func ev h n) (ref_func ew k m)
-  ref_func_rel n m r p = bind_rel p (λ _ _ p. pushes_rel r (reference (func (some p))))
+  pub ref_func_rel : {h k : Body} (n m : ℕ) → BodyRel R ev.inst ew.inst h k → Names R.of Functions ev.inst.funcs ew.inst.funcs n m → ResRel (ActOff R off ev.inst ew.inst) (ref_func ev h n) (ref_func ew k m)
+  ref_func_rel n m r p = bind_found p (λ _ _ p. pushes_rel r (reference (func (some p))))

@@ -4,7 +4,8 @@ use Rattle.wasm_tree.specs.declared.instr.Instr.{Instr}
 use Rattle.wasm_tree.specs.declared.instr.Instr.TheOpen.{Instr-F}
 use Rattle.wasm_meaning.specs.State.{Env, Body}
 use Rattle.wasm_meaning.specs.Step.{exec}
-use Rattle.index_remap.specs.Related.{Pairing, ResRel, OpRel, StoreRel, BodyRel, ActRel}
+use Rattle.index_remap.specs.Related.{Pairing, ResRel, OpRel, BodyRel}
+use Rattle.index_remap.specs.Unknown.{Unknowns, StoreRelOff, ActOff, read_by, ReadsKnown}
 
 pub data Group : Type 0 where
   -- numeric, reference, parametric and variable instructions (WebAssembly Core 2.0, sections 4.4.1 to 4.4.5)
@@ -59,9 +60,9 @@ group_of (Instr-F.RefNull ty) = Values
 group_of Instr-F.RefIsNull = Values
 group_of (Instr-F.RefFunc func) = Values
 
--- The law of steps of a group: over stores that correspond and from related bodies, an instruction of the group and a related one come to related acts, or both
--- trap, or both are ill typed.
+-- The law of steps of a group: over stores that are related off a set of unknown places and from related bodies, an instruction of the group that reads none of
+-- these and a related one come to related acts, or both trap, or both are ill typed.
 abbrev pub GroupAgrees : Group → Type 1
 GroupAgrees g =
-    (R : Pairing) (ev ew : Env) → StoreRel R ev.store ew.store → (h k : Body) → BodyRel R ev.inst ew.inst h k → (o p : Instr-F Instr) → OpRel R ev.inst ew.inst true o p → group_of o ≡ g →
-    ResRel (ActRel R ev.inst ew.inst) (exec o ev h) (exec p ew k)
+    (R : Pairing) (u : Unknowns) (ev ew : Env) → StoreRelOff R u ev.store ew.store → (h k : Body) → BodyRel R ev.inst ew.inst h k → (o p : Instr-F Instr) → OpRel R ev.inst ew.inst true o p →
+    ReadsKnown u (read_by o ev h.values) → group_of o ≡ g → ResRel (ActOff R u ev.inst ew.inst) (exec o ev h) (exec p ew k)

@@ -1,11 +1,11 @@
 -- The law of steps (from corresponding stores and related configurations one step of each agrees), and the laws of code with other indices, of what keeps typing,
 -- and of runs.
-use Rattle.std.proofs.Common.{◌≡◌, ℕ, List, [], ◌∷◌, ◌++◌, Bool, true, false}
+use Rattle.std.proofs.Common.{◌≡◌, ℕ, List, [], ◌∷◌, ◌++◌, Bool, true, false, slice_get, Some}
 use Rattle.wasm_tree.specs.declared.space.Space.{Space}
 use Rattle.wasm_tree.specs.declared.space.Space.TheVariants.{Functions, Tables, Memories, Globals, ElementSegments, DataSegments}
 use Rattle.std.specs.Prelude.{IsTrue, nat_eq}
 use Rattle.std.specs.List.{list_any}
-use Rattle.wasm_meaning.specs.Outcomes.{Gives, at}
+use Rattle.wasm_meaning.specs.Outcomes.{Gives}
 use Rattle.wasm_meaning.specs.State.{Inst, Val, Store, Entry, Running, Mark, Opening, Caller, Act, Ends}
 use Rattle.wasm_meaning.specs.Step.{act, step, to_mark}
 use Rattle.wasm_meaning.specs.Run.{Run, Out, show_all, tick, events_of}
@@ -148,12 +148,12 @@ OthersStay =
 
 -- code may name each address of the instance as one with itself
 pub record NamesItself (R : Pairing) (i : Inst) : Type 0 where
-  pub funcs : (n a : ℕ) → at i.funcs n ≡ Gives a → R.named Functions a a
-  pub tables : (n a : ℕ) → at i.tables n ≡ Gives a → R.named Tables a a
-  pub mems : (n a : ℕ) → at i.mems n ≡ Gives a → R.named Memories a a
-  pub globals : (n a : ℕ) → at i.globals n ≡ Gives a → R.named Globals a a
-  pub elems : (n a : ℕ) → at i.elems n ≡ Gives a → R.named ElementSegments a a
-  pub datas : (n a : ℕ) → at i.datas n ≡ Gives a → R.named DataSegments a a
+  pub funcs : (n a : ℕ) → slice_get i.funcs n ≡ Some a → R.named Functions a a
+  pub tables : (n a : ℕ) → slice_get i.tables n ≡ Some a → R.named Tables a a
+  pub mems : (n a : ℕ) → slice_get i.mems n ≡ Some a → R.named Memories a a
+  pub globals : (n a : ℕ) → slice_get i.globals n ≡ Some a → R.named Globals a a
+  pub elems : (n a : ℕ) → slice_get i.elems n ≡ Some a → R.named ElementSegments a a
+  pub datas : (n a : ℕ) → slice_get i.datas n ≡ Some a → R.named DataSegments a a
 
 -- Code is related to itself over an instance whose addresses code may name as one with themselves.
 abbrev pub CodeIsRelatedToItself : Type 0

@@ -1,5 +1,5 @@
 -- Stores and configurations that correspond under a relation of addresses.
-use Rattle.std.proofs.Common.{◌≡◌, ℕ, List, [], ◌∷◌, ◌++◌, Option, Some, None, Bool, true, false}
+use Rattle.std.proofs.Common.{◌≡◌, ℕ, List, [], ◌∷◌, ◌++◌, Option, Some, None, Bool, true, false, slice_get}
 use Rattle.wasm_tree.specs.declared.space.Space.{Space}
 use Rattle.wasm_tree.specs.declared.space.Space.TheVariants.{Functions, Tables, Memories, Globals, ElementSegments, DataSegments}
 use Rattle.std.specs.Prelude.{ℤ}
@@ -15,7 +15,7 @@ use Rattle.wasm_tree.specs.declared.instr.StoreOp.{StoreOp}
 use Rattle.wasm_tree.specs.declared.instr.MemArg.{MemArg}
 use Rattle.wasm_tree.specs.declared.instr.Instr.{Instr, out-Instr}
 use Rattle.wasm_tree.specs.declared.instr.Instr.TheOpen.{Instr-F}
-use Rattle.wasm_meaning.specs.Outcomes.{Outcome, Gives, Traps, IllTyped, at}
+use Rattle.wasm_meaning.specs.Outcomes.{Outcome, Gives, Traps, IllTyped}
 use Rattle.wasm_num.specs.Operations.{Width}
 use Rattle.wasm_meaning.specs.State.{Pair, RefVal, FuncRef, ExternRef, Val, Num, Ref, Inst, Func, Code, Own, Placeholder, Table, Memory, Global, Elem, Store, Level, Frame, Growth, GrowMemory, GrowTable, Entry, Running, Mark, Opening, Waiting, Ended, Growing, Body, Change, Keep, SetGlobal, SetMemory, SetTable, DropElem, DropData, Act, Goes, Calls, AsksGrow, Ends, Next, Ran, CallsOwn, WaitsGrowth, CallsPlaceholder, EndsCall}
 use Rattle.wasm_meaning.specs.Control.{type_at, own_at}
@@ -60,8 +60,8 @@ pub data ResRel {A B : Type 0} (P : A → B → Type 0) : Outcome A → Outcome 
   wrong : ResRel P IllTyped IllTyped
 
 -- both are there, and related
-pub data BothRel {A B : Type 0} (P : A → B → Type 0) : Outcome A → Outcome B → Type 0 where
-  both : {a : A} {b : B} → P a b → BothRel P (Gives a) (Gives b)
+pub data BothRel {A B : Type 0} (P : A → B → Type 0) : Option A → Option B → Type 0 where
+  both : {a : A} {b : B} → P a b → BothRel P (Some a) (Some b)
 
 -- of the same length, and related place by place
 pub data ListRel {A B : Type 0} (P : A → B → Type 0) : List A → List B → Type 0 where
@@ -78,10 +78,10 @@ pub data ValRel (R : Pairing) : Val → Val → Type 0 where
 
 -- the two indices name addresses that N relates, or neither names any
 abbrev pub Names : (Space → ℕ → ℕ → Type 0) → Space → List ℕ → List ℕ → ℕ → ℕ → Type 0
-Names N k xs ys n m = ResRel (N k) (at xs n) (at ys m)
+Names N k xs ys n m = OptRel (N k) (slice_get xs n) (slice_get ys m)
 
 abbrev pub SameType : Inst → Inst → ℕ → ℕ → Type 0
-SameType i j n m = at i.types n ≡ at j.types m
+SameType i j n m = slice_get i.types n ≡ slice_get j.types m
 
 pub data BlockRel (i j : Inst) : BlockType → BlockType → Type 0 where
   empty : BlockRel i j bt.Empty bt.Empty
@@ -143,7 +143,7 @@ mutual
     end : CodeRel R i j [] []
     then : {o p : Instr} {c d : List Instr} → OpRel R i j false (out-Instr o) (out-Instr p) → CodeRel R i j c d → CodeRel R i j (o ∷ c) (p ∷ d)
     -- in place of a call of a function of the list stands other code
-    instead : {o : Instr} {n a : ℕ} {c d : List Instr} (e : List Instr) → out-Instr o ≡ Instr-F.Call n → at i.funcs n ≡ Gives a → R.listed a → CodeRel R i j c d → CodeRel R i j (o ∷ c) (e ++ d)
+    instead : {o : Instr} {n a : ℕ} {c d : List Instr} (e : List Instr) → out-Instr o ≡ Instr-F.Call n → slice_get i.funcs n ≡ Some a → R.listed a → CodeRel R i j c d → CodeRel R i j (o ∷ c) (e ++ d)
 
 pub data FuncRel (R : Pairing) : Func → Func → Type 0 where
   defined : {t : FuncType} {i j : Inst} {ls : List ValType} {c d : List Instr} → CodeRel R i j c d → FuncRel R (Code t i ls c) (Code t j ls d)
@@ -168,12 +168,12 @@ pub record ElemRel (R : Pairing) (e f : Elem) : Type 0 where
 pub record StoreRel (R : Pairing) (s t : Store) : Type 0 where
   pub types : {a b : ℕ} → R.of Functions a b → BothRel (◌≡◌ {A = FuncType}) (type_at s a) (type_at t b)
   pub owns : {a b : ℕ} → R.of Functions a b → own_at s a ≡ own_at t b
-  pub funcs : {a b : ℕ} → R.of Functions a b → ¬ R.listed a → BothRel (FuncRel R) (at s.funcs a) (at t.funcs b)
-  pub tables : {a b : ℕ} → R.of Tables a b → BothRel (TableRel R) (at s.tables a) (at t.tables b)
-  pub mems : {a b : ℕ} → R.of Memories a b → BothRel (λ m n. m ≡ n) (at s.mems a) (at t.mems b)
-  pub globals : {a b : ℕ} → R.of Globals a b → BothRel (GlobalRel R) (at s.globals a) (at t.globals b)
-  pub elems : {a b : ℕ} → R.of ElementSegments a b → BothRel (ElemRel R) (at s.elems a) (at t.elems b)
-  pub datas : {a b : ℕ} → R.of DataSegments a b → BothRel (λ d e. d.bytes ≡ e.bytes) (at s.datas a) (at t.datas b)
+  pub funcs : {a b : ℕ} → R.of Functions a b → ¬ R.listed a → BothRel (FuncRel R) (slice_get s.funcs a) (slice_get t.funcs b)
+  pub tables : {a b : ℕ} → R.of Tables a b → BothRel (TableRel R) (slice_get s.tables a) (slice_get t.tables b)
+  pub mems : {a b : ℕ} → R.of Memories a b → BothRel (λ m n. m ≡ n) (slice_get s.mems a) (slice_get t.mems b)
+  pub globals : {a b : ℕ} → R.of Globals a b → BothRel (GlobalRel R) (slice_get s.globals a) (slice_get t.globals b)
+  pub elems : {a b : ℕ} → R.of ElementSegments a b → BothRel (ElemRel R) (slice_get s.elems a) (slice_get t.elems b)
+  pub datas : {a b : ℕ} → R.of DataSegments a b → BothRel (λ d e. d.bytes ≡ e.bytes) (slice_get s.datas a) (slice_get t.datas b)
 
 pub record LevelRel (R : Pairing) (i j : Inst) (l m : Level) : Type 0 where
   pub values : ListRel (ValRel R) l.values m.values
@@ -216,20 +216,27 @@ pub data ChangeRel (R : Pairing) : Change → Change → Type 0 where
   drop_elem : {a b : ℕ} → R.of ElementSegments a b → ChangeRel R (DropElem a) (DropElem b)
   drop_data : {a b : ℕ} → R.of DataSegments a b → ChangeRel R (DropData a) (DropData b)
 
--- what the top frames do agrees
-pub data ActRel (R : Pairing) (i j : Inst) : Act → Act → Type 0 where
-  goes : {c d : Change} {h k : Body} → ChangeRel R c d → BodyRel R i j h k → ActRel R i j (Goes c h) (Goes d k)
-  calls : {a b : ℕ} {vs ws : List Val} {h k : Body} → R.of Functions a b → ListRel (ValRel R) vs ws → BodyRel R i j h k → ActRel R i j (Calls a vs h) (Calls b ws k)
-  asks_grow : {p q : Growth} {m n : ℕ} {h k : Body} → GrowthRel R p q → BodyRel R i j h k → ActRel R i j (AsksGrow p m n h) (AsksGrow q m n k)
-  ends : {vs ws : List Val} → ListRel (ValRel R) vs ws → ActRel R i j (Ends vs) (Ends ws)
+-- what the top frames do agrees, where C relates what they write
+pub data ActRelBy (R : Pairing) (C : Change → Change → Type 0) (i j : Inst) : Act → Act → Type 0 where
+  goes : {c d : Change} {h k : Body} → C c d → BodyRel R i j h k → ActRelBy R C i j (Goes c h) (Goes d k)
+  calls : {a b : ℕ} {vs ws : List Val} {h k : Body} → R.of Functions a b → ListRel (ValRel R) vs ws → BodyRel R i j h k → ActRelBy R C i j (Calls a vs h) (Calls b ws k)
+  asks_grow : {p q : Growth} {m n : ℕ} {h k : Body} → GrowthRel R p q → BodyRel R i j h k → ActRelBy R C i j (AsksGrow p m n h) (AsksGrow q m n k)
+  ends : {vs ws : List Val} → ListRel (ValRel R) vs ws → ActRelBy R C i j (Ends vs) (Ends ws)
 
--- both come to the same, with related values, and again to stores that correspond; the configurations are related by B
-pub data NextRel (R : Pairing) (B : Store → Store → List Entry → List Entry → Type 0) : Next → Next → Type 0 where
-  ran : {s t : Store} {es fs : List Entry} → StoreRel R s t → B s t es fs → NextRel R B (Ran s es) (Ran t fs)
-  asked : {p : Pair} {u : FuncType} {vs ws : List Val} {s t : Store} {es fs : List Entry} → ListRel (ValRel R) vs ws → StoreRel R s t → B s t es fs → NextRel R B (CallsOwn p u vs s es) (CallsOwn p u ws t fs)
-  asked_grow : {g h : Growth} {m n : ℕ} {s t : Store} {es fs : List Entry} → GrowthRel R g h → StoreRel R s t → B s t es fs → NextRel R B (WaitsGrowth g m n s es) (WaitsGrowth h m n t fs)
-  loads : {n : ℕ} {vs ws : List Val} {s t : Store} {es fs : List Entry} → ListRel (ValRel R) vs ws → StoreRel R s t → B s t es fs → NextRel R B (CallsPlaceholder n vs s es) (CallsPlaceholder n ws t fs)
-  returned : {vs ws : List Val} {s t : Store} {es fs : List Entry} → ListRel (ValRel R) vs ws → StoreRel R s t → B s t es fs → NextRel R B (EndsCall vs s es) (EndsCall ws t fs)
+abbrev pub ActRel : Pairing → Inst → Inst → Act → Act → Type 0
+ActRel R = ActRelBy R (ChangeRel R)
+
+-- both come to the same, with related values, and again to stores and configurations, which S and B relate
+pub data NextRelBy (R : Pairing) (S : Store → Store → Type 0) (B : Store → Store → List Entry → List Entry → Type 0) : Next → Next → Type 0 where
+  ran : {s t : Store} {es fs : List Entry} → S s t → B s t es fs → NextRelBy R S B (Ran s es) (Ran t fs)
+  asked : {p : Pair} {u : FuncType} {vs ws : List Val} {s t : Store} {es fs : List Entry} → ListRel (ValRel R) vs ws → S s t → B s t es fs → NextRelBy R S B (CallsOwn p u vs s es) (CallsOwn p u ws t fs)
+  asked_grow : {g h : Growth} {m n : ℕ} {s t : Store} {es fs : List Entry} → GrowthRel R g h → S s t → B s t es fs → NextRelBy R S B (WaitsGrowth g m n s es) (WaitsGrowth h m n t fs)
+  loads : {n : ℕ} {vs ws : List Val} {s t : Store} {es fs : List Entry} → ListRel (ValRel R) vs ws → S s t → B s t es fs → NextRelBy R S B (CallsPlaceholder n vs s es) (CallsPlaceholder n ws t fs)
+  returned : {vs ws : List Val} {s t : Store} {es fs : List Entry} → ListRel (ValRel R) vs ws → S s t → B s t es fs → NextRelBy R S B (EndsCall vs s es) (EndsCall ws t fs)
+
+-- the stores correspond
+abbrev pub NextRel : Pairing → (Store → Store → List Entry → List Entry → Type 0) → Next → Next → Type 0
+NextRel R = NextRelBy R (StoreRel R)
 
 -- it begins no call of a function of the list
 abbrev pub NotListed : Pairing → Act → Type 0

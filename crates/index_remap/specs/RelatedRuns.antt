@@ -1,8 +1,7 @@
 -- Runs that are related: their states by a relation of addresses, their stacks by relations that are given.
-use Rattle.std.proofs.Common.{◌≡◌, ℕ, List, [], ◌∷◌, Option}
+use Rattle.std.proofs.Common.{◌≡◌, ℕ, List, [], ◌∷◌, Option, slice_get}
 use Rattle.wasm_tree.specs.declared.space.Space.{Space}
 use Rattle.wasm_tree.specs.declared.space.Space.TheVariants.{Functions, Tables, Memories, Globals, ElementSegments, DataSegments}
-use Rattle.wasm_meaning.specs.Outcomes.{at}
 use Rattle.wasm_meaning.specs.State.{Text, Store, Entry, Opening}
 use Rattle.wasm_meaning.specs.Environment.{Thing, FuncAt, TableAt, MemoryAt, GlobalAt}
 use Rattle.wasm_meaning.specs.World.{Begun}
@@ -59,11 +58,11 @@ HasNoPartner R k b = (a : ℕ) → R.of k a b → ⊥
 -- what stands at such addresses is as it was, and no function is another
 pub record KeepsOthers (R : Pairing) (before after : Store) : Type 0 where
   pub funcs : after.funcs ≡ before.funcs
-  pub tables : (b : ℕ) → HasNoPartner R Tables b → at after.tables b ≡ at before.tables b
-  pub mems : (b : ℕ) → HasNoPartner R Memories b → at after.mems b ≡ at before.mems b
-  pub globals : (b : ℕ) → HasNoPartner R Globals b → at after.globals b ≡ at before.globals b
-  pub elems : (b : ℕ) → HasNoPartner R ElementSegments b → at after.elems b ≡ at before.elems b
-  pub datas : (b : ℕ) → HasNoPartner R DataSegments b → at after.datas b ≡ at before.datas b
+  pub tables : (b : ℕ) → HasNoPartner R Tables b → slice_get after.tables b ≡ slice_get before.tables b
+  pub mems : (b : ℕ) → HasNoPartner R Memories b → slice_get after.mems b ≡ slice_get before.mems b
+  pub globals : (b : ℕ) → HasNoPartner R Globals b → slice_get after.globals b ≡ slice_get before.globals b
+  pub elems : (b : ℕ) → HasNoPartner R ElementSegments b → slice_get after.elems b ≡ slice_get before.elems b
+  pub datas : (b : ℕ) → HasNoPartner R DataSegments b → slice_get after.datas b ≡ slice_get before.datas b
 
 -- its instantiation is past
 abbrev pub IsBegun : Phase → Type 0

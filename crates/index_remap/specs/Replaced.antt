@@ -1,5 +1,5 @@
 -- Code in which each index is replaced by its entry in a map, but where a function of a list is called: there stands other code.
-use Rattle.std.specs.Prelude.{◌≡◌, ℕ, Bool, true, false, ◌&&◌, IsTrue, List, [], ◌∷◌, ◌++◌, Option, Some, None, Contains}
+use Rattle.std.specs.Prelude.{◌≡◌, ℕ, Bool, true, false, ◌&&◌, IsTrue, List, [], ◌∷◌, ◌++◌, Option, Some, None, Contains, slice_get}
 use Rattle.std.specs.List.{list_any}
 use Rattle.base_lists.specs.Every.{Every}
 use Rattle.wasm_tree.specs.declared.space.Space.{Space}
@@ -11,7 +11,6 @@ use Rattle.wasm_tree.specs.declared.instr.Instr.{Instr, Row_of-Instr, end_of-Ins
 use Rattle.wasm_tree.specs.declared.instr.Instr.TheOpen.{Instr-F}
 use Rattle.wasm_tree.specs.declared.instr.Instr.TheVariants.{Block, Block', Loop, Loop', If, If', Call, Unreachable, Nop, Br, BrIf, BrTable, Return, CallIndirect, Drop, Select, SelectTyped, LocalGet, LocalSet, LocalTee, GlobalGet, GlobalSet, TableGet, TableSet, Load, Store, MemorySize, MemoryGrow, I32Const, I64Const, Un, Bin, RefNull, RefIsNull, RefFunc, MemoryInit, DataDrop, MemoryCopy, MemoryFill, TableInit, ElemDrop, TableCopy, TableGrow, TableSize, TableFill}
 use Rattle.wasm_typing.specs.Typing.{Signature, signature_of, Context, WellTyped}
-use Rattle.wasm_meaning.specs.Outcomes.{Gives, at}
 use Rattle.wasm_meaning.specs.State.{Inst}
 use Rattle.index_remap.specs.declared.remap.Remap.{Remap}
 use Rattle.index_remap.specs.Renumbered.{new_type, renumbered}
@@ -117,7 +116,7 @@ OthersAgree m listed c d l = list_any (is_listed_call listed) (operands l) ≡ f
 -- the function of a call that is replaced is at an address of the list; any other index and its entry stand for addresses that code may name as one, or for
 -- equal types, or neither is there
 abbrev pub OtherNamed : Pairing → Remap → Bool → Inst → Inst → Space → ℕ → Type 0
-OtherNamed R m true i j space x = (a : ℕ) × (at i.funcs x ≡ Gives a) × R.listed a
+OtherNamed R m true i j space x = (a : ℕ) × (slice_get i.funcs x ≡ Some a) × R.listed a
 OtherNamed R m false i j space x = EntryNames R m i j space x
 
 -- so does each index that the layer itself names

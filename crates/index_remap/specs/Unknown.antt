@@ -1,18 +1,23 @@
 -- Places of a store of which nothing is known, beside a relation of addresses: whatever stands there, it need not be related. What is imported is no such place:
 -- it has an address that code may name as one in both stores, and is not related.
-use Rattle.std.proofs.Common.{◌≡◌, ℕ, List, [], length, Bool, true, not, slice_get}
+use Rattle.std.proofs.Common.{◌≡◌, ℕ, suc, ◌+◌, ◌<◌, ◌≤◌, List, [], ◌∷◌, ◌++◌, length, Bool, true, false, not, slice_get, Some}
 use Rattle.std.specs.Prelude.{nat_eq, ◌↔◌, ◌&&◌}
 use Rattle.std.specs.List.{list_any, filter}
 use Rattle.wasm_tree.specs.declared.space.Space.{Space}
 use Rattle.wasm_tree.specs.declared.space.Space.TheVariants.{Functions, Tables, Memories, Globals, ElementSegments, DataSegments}
 use Rattle.wasm_tree.specs.declared.types.FuncType.{FuncType}
-use Rattle.wasm_meaning.specs.Outcomes.{Gives, at}
-use Rattle.wasm_meaning.specs.State.{Val, RefVal, Table, Global, Store, SetGlobal}
+use Rattle.wasm_tree.specs.declared.instr.Instr.{Instr, out-Instr}
+use Rattle.wasm_tree.specs.declared.instr.Instr.TheOpen.{Instr-F}
+use Rattle.wasm_num.specs.Operations.{W32}
+use Rattle.wasm_meaning.specs.Outcomes.{Outcome, Gives, IllTyped, bind, with_entry}
+use Rattle.wasm_meaning.specs.State.{Val, RefVal, Inst, Table, Global, Store, Level, Entry, Running, Env, Change, SetGlobal, SetTable, Act, Goes, Next, Ran}
+use Rattle.wasm_meaning.specs.Values.{pop_num}
+use Rattle.wasm_meaning.specs.Memory.{pop_three}
 use Rattle.wasm_meaning.specs.Control.{type_at, own_at}
-use Rattle.wasm_meaning.specs.Step.{changed}
-use Rattle.index_remap.specs.Related.{Pairing, OneToOneWhereWritten, OptRel, BothRel, RefRel, ValRel, FuncRel, StoreRel}
+use Rattle.wasm_meaning.specs.Step.{act, changed, step}
+use Rattle.index_remap.specs.Related.{Pairing, OneToOneWhereWritten, OptRel, BothRel, ResRel, ListRel, RefRel, ValRel, FuncRel, StoreRel, EntryRel, ChangeRel, ActRelBy, NextRelBy, TopSkips}
 use Rattle.index_remap.specs.References.{is_among}
-use Rattle.index_remap.specs.Laws.{passed}
+use Rattle.index_remap.specs.Laws.{passed, Above, Touches, EntriesKnown}
 
 -- by their addresses in the first store: globals that were not set yet, and slots of tables and items of element segments, each with its place
 pub record Unknowns : Type 0 where
@@ -46,16 +51,111 @@ pub record TableOff (R : Pairing) (known : ℕ → Bool) (t u : Table) : Type 0 
 pub record StoreRelOff (R : Pairing) (u : Unknowns) (s t : Store) : Type 0 where
   pub types : {a b : ℕ} → R.of Functions a b → BothRel (◌≡◌ {A = FuncType}) (type_at s a) (type_at t b)
   pub owns : {a b : ℕ} → R.of Functions a b → own_at s a ≡ own_at t b
-  pub funcs : {a b : ℕ} → R.of Functions a b → ¬ R.listed a → BothRel (FuncRel R) (at s.funcs a) (at t.funcs b)
-  pub tables : {a b : ℕ} → R.of Tables a b → BothRel (TableOff R (λ n. not (is_place_among u.slots a n))) (at s.tables a) (at t.tables b)
-  pub mems : {a b : ℕ} → R.of Memories a b → BothRel (λ m n. m ≡ n) (at s.mems a) (at t.mems b)
-  pub globals : {a b : ℕ} → R.of Globals a b → BothRel (GlobalOff R (not (is_among u.globals a))) (at s.globals a) (at t.globals b)
-  pub elems : {a b : ℕ} → R.of ElementSegments a b → BothRel (λ e f. RefsOff R (λ n. not (is_place_among u.items a n)) e.items f.items) (at s.elems a) (at t.elems b)
-  pub datas : {a b : ℕ} → R.of DataSegments a b → BothRel (λ d e. d.bytes ≡ e.bytes) (at s.datas a) (at t.datas b)
+  pub funcs : {a b : ℕ} → R.of Functions a b → ¬ R.listed a → BothRel (FuncRel R) (slice_get s.funcs a) (slice_get t.funcs b)
+  pub tables : {a b : ℕ} → R.of Tables a b → BothRel (TableOff R (λ n. not (is_place_among u.slots a n))) (slice_get s.tables a) (slice_get t.tables b)
+  pub mems : {a b : ℕ} → R.of Memories a b → BothRel (λ m n. m ≡ n) (slice_get s.mems a) (slice_get t.mems b)
+  pub globals : {a b : ℕ} → R.of Globals a b → BothRel (GlobalOff R (not (is_among u.globals a))) (slice_get s.globals a) (slice_get t.globals b)
+  pub elems : {a b : ℕ} → R.of ElementSegments a b → BothRel (λ e f. RefsOff R (λ n. not (is_place_among u.items a n)) e.items f.items) (slice_get s.elems a) (slice_get t.elems b)
+  pub datas : {a b : ℕ} → R.of DataSegments a b → BothRel (λ d e. d.bytes ≡ e.bytes) (slice_get s.datas a) (slice_get t.datas b)
 
 -- a global that is set is known from then on
 abbrev pub learnt : Unknowns → (address : ℕ) → Unknowns
 learnt u a = record u { globals = filter (λ b. not (nat_eq b a)) u.globals }
+
+-- ---- what a step reads of them, and what it leaves unknown ----
+
+-- what may be unknown and is read: nothing, a global, or so many references from a place on, of a table or of an element segment
+pub data Read : Type 0 where
+  ReadsNothing : Read
+  ReadsGlobal : (address : ℕ) → Read
+  ReadsSlots : (address place count : ℕ) → Read
+  ReadsItems : (address place count : ℕ) → Read
+
+-- the slot whose place is on top
+abbrev pub slot_read : ℕ → List Val → Outcome Read
+slot_read a vs = bind (pop_num W32 vs) (λ i. Gives (ReadsSlots a i.0 1))
+
+-- the second and the last of three numbers: where a copy begins, and how much it copies
+abbrev pub range_read : (place_count : ℕ → ℕ → Read) → List Val → Outcome Read
+range_read f vs = bind (pop_three vs) (λ p. Gives (f p.0.1 p.0.2))
+
+-- what an instruction reads with these values on the stack
+abbrev pub read_by : Instr-F Instr → Env → List Val → Outcome Read
+read_by (Instr-F.GlobalGet n) env vs = with_entry env.inst.globals n (λ a. Gives (ReadsGlobal a))
+read_by (Instr-F.TableGet n) env vs = with_entry env.inst.tables n (λ a. slot_read a vs)
+read_by (Instr-F.CallIndirect t n) env vs = with_entry env.inst.tables n (λ a. slot_read a vs)
+read_by (Instr-F.TableCopy n m) env vs = with_entry env.inst.tables m (λ a. range_read (ReadsSlots a) vs)
+read_by (Instr-F.TableInit s n) env vs = with_entry env.inst.elems s (λ a. range_read (ReadsItems a) vs)
+read_by _ env vs = Gives ReadsNothing
+
+abbrev pub read_next : Env → List Val → List Instr → Outcome Read
+read_next env vs [] = Gives ReadsNothing
+read_next env vs (i ∷ is) = read_by (out-Instr i) env vs
+
+abbrev pub read_levels : Env → List Level → Outcome Read
+read_levels env [] = IllTyped
+read_levels env (l ∷ ls) = read_next env l.values l.code
+
+-- no unknown place is read
+abbrev pub IsKnown : Unknowns → Read → Type 0
+IsKnown u ReadsNothing = Unit {0}
+IsKnown u (ReadsGlobal a) = is_among u.globals a ≡ false
+IsKnown u (ReadsSlots a place count) = (n : ℕ) → place ≤ n → n < place + count → is_place_among u.slots a n ≡ false
+IsKnown u (ReadsItems a place count) = (n : ℕ) → place ≤ n → n < place + count → is_place_among u.items a n ≡ false
+
+abbrev pub ReadsKnown : Unknowns → Outcome Read → Type 0
+ReadsKnown u o = (r : Read) → o ≡ Gives r → IsKnown u r
+
+-- the step of these entries reads no unknown place
+abbrev pub StepReadsKnown : Unknowns → Store → List Entry → Type 0
+StepReadsKnown u s (Running f ∷ es) = ReadsKnown u (read_levels (record { store = s; inst = f.inst }) f.levels)
+StepReadsKnown u s _ = Unit {0}
+
+-- what is unknown after a change: a global that is set is known
+abbrev pub left_by : Unknowns → Change → Unknowns
+left_by u (SetGlobal a g) = learnt u a
+left_by u _ = u
+
+abbrev pub left_after : Unknowns → Outcome Act → Unknowns
+left_after u (Gives (Goes c h)) = left_by u c
+left_after u _ = u
+
+-- and after the step of these entries
+abbrev pub left_unknown : Unknowns → Store → List Entry → Unknowns
+left_unknown u s (Running f ∷ es) = left_after u (act s f)
+left_unknown u s _ = u
+
+-- both write related contents, but that of a table the unknown slots need not be related
+pub data ChangeOff (R : Pairing) (u : Unknowns) : Change → Change → Type 0 where
+  known : {c d : Change} → ChangeRel R c d → ChangeOff R u c d
+  off_slots : {a b : ℕ} {t v : Table} → R.of Tables a b → TableOff R (λ n. not (is_place_among u.slots a n)) t v → ChangeOff R u (SetTable a t) (SetTable b v)
+
+abbrev pub ActOff : Pairing → Unknowns → Inst → Inst → Act → Act → Type 0
+ActOff R u = ActRelBy R (ChangeOff R u)
+
+abbrev pub NextOff : Pairing → Unknowns → (Store → Store → List Entry → List Entry → Type 0) → Next → Next → Type 0
+NextOff R u = NextRelBy R (StoreRelOff R u)
+
+-- ---- runs of the machine ----
+
+-- n steps that each go on
+pub data GoesOn : ℕ → Store → List Entry → Store → List Entry → Type 0 where
+  here : {s : Store} {es : List Entry} → GoesOn 0 s es s es
+  step_on : {n : ℕ} {s t r : Store} {es fs gs : List Entry} → step s es ≡ Gives (Ran t fs) → GoesOn n t fs r gs → GoesOn (suc n) s es r gs
+
+-- n steps that each go on, read no unknown place, begin no call of a function of the list and name related addresses, with what is unknown before and after them
+pub data KnownSteps (R : Pairing) : ℕ → Unknowns → Store → List Entry → Unknowns → Store → List Entry → Type 0 where
+  none_left : {u : Unknowns} {s : Store} {es : List Entry} → KnownSteps R 0 u s es u s es
+  known_step : {n : ℕ} {u v : Unknowns} {s t r : Store} {es fs gs : List Entry} → StepReadsKnown u s es → TopSkips R s es → ((hs : List Entry) → ListRel (EntryRel R) es hs → EntriesKnown R es hs) → step s es ≡ Gives (Ran t fs) →
+      KnownSteps R n (left_unknown u s es) t fs v r gs → KnownSteps R (suc n) u s es v r gs
+
+-- the same number of steps from there, to a store that is related off this set and related entries
+pub record Follows (R : Pairing) (n : ℕ) (u : Unknowns) (s : Store) (es : List Entry) (t : Store) (fs : List Entry) : Type 0 where
+  pub store : Store
+  pub entries : List Entry
+  pub steps : GoesOn n t fs store entries
+  pub related : StoreRelOff R u s store
+  pub stack : ListRel (EntryRel R) es entries
 
 -- ---- laws ----
 
@@ -68,5 +168,20 @@ NothingUnknown =
 abbrev pub SetGlobalsAreKnown : Type 0
 SetGlobalsAreKnown =
     (of named : Space → ℕ → ℕ → Bool) (l : List ℕ) → OneToOneWhereWritten (passed of named l) → (u : Unknowns) (s t : Store) (a b : ℕ) (g h : Global) (v w : Val) →
-    StoreRelOff (passed of named l) u s t → (passed of named l).of Globals a b → at s.globals a ≡ Gives g → at t.globals b ≡ Gives h → ValRel (passed of named l) v w →
+    StoreRelOff (passed of named l) u s t → (passed of named l).of Globals a b → slice_get s.globals a ≡ Some g → slice_get t.globals b ≡ Some h → ValRel (passed of named l) v w →
     StoreRelOff (passed of named l) (learnt u a) (changed s (SetGlobal a (record g { value = v }))) (changed t (SetGlobal b (record h { value = w })))
+
+-- The law of steps from stores that are related off a set: where the step reads no unknown place, one step of each agrees as from related stores, and leaves stores
+-- that are related off what is still unknown.
+abbrev pub StepsAgreeOff : Type 0
+StepsAgreeOff =
+    (of named : Space → ℕ → ℕ → Bool) (l : List ℕ) → OneToOneWhereWritten (passed of named l) → (u : Unknowns) (s t : Store) (es fs cs ds : List Entry) →
+    StoreRelOff (passed of named l) u s t → ListRel (EntryRel (passed of named l)) es fs → Touches s es cs ds → TopSkips (passed of named l) s es → EntriesKnown (passed of named l) es fs → StepReadsKnown u s es →
+    ResRel (NextOff (passed of named l) (left_unknown u s es) (Above (passed of named l) cs ds)) (step s (es ++ cs)) (step t (fs ++ ds))
+
+-- A run of the machine whose steps each go on and read no unknown place is led step by step: from a related store and related entries as many steps go on, to a store
+-- that is related off what is still unknown, and related entries.
+abbrev pub RunsAgreeOff : Type 0
+RunsAgreeOff =
+    (of named : Space → ℕ → ℕ → Bool) (l : List ℕ) → OneToOneWhereWritten (passed of named l) → (n : ℕ) (u v : Unknowns) (s r t : Store) (es gs fs : List Entry) →
+    StoreRelOff (passed of named l) u s t → ListRel (EntryRel (passed of named l)) es fs → KnownSteps (passed of named l) n u s es v r gs → Follows (passed of named l) n v r gs t fs

@@ -8,7 +8,7 @@ mod remap;
 mod renumbering;
 
 ghost use Rattle.index_remap.specs.Laws.{CodeIsRelatedToItself, NamedAreKnown, OthersStay, RelatedRunsShowTheSame, RelatedTicksAgree, RenumberedCodeIsRelated, ReplacedCodeIsRelated, ShownAgree, StepsAgree, TrapsAgree, TypingIsKept, UnlistedAreRenumbered};
-ghost use Rattle.index_remap.specs.Unknown.{NothingUnknown, SetGlobalsAreKnown};
+ghost use Rattle.index_remap.specs.Unknown.{NothingUnknown, RunsAgreeOff, SetGlobalsAreKnown, StepsAgreeOff};
 
 pub use declaring::declare_refs;
 pub use in_place::{renumber_funcs_in_place, renumber_in_place};
@@ -60,4 +60,13 @@ pub fn related_runs_show_the_same()
 pub fn set_globals_are_known()
     ensures nothing { NothingUnknown }
     ensures set { SetGlobalsAreKnown }
+{}
+
+/// From stores that correspond but for places of which nothing is known, one step of each agrees as it does from stores that correspond, where it reads no such
+/// place: `global.get` a global, `table.get` and `call_indirect` a slot, `table.copy` and `table.init` the references that they copy (WebAssembly Core 2.0, sections 4.4.5, 4.4.6 and
+/// 4.4.8). It leaves stores that correspond but for what is still unknown: a global that is set is known (`steps`). So a run of the machine whose steps go on and read
+/// no such place is led step by step (`runs`).
+pub fn steps_agree_off_unknown_places()
+    ensures steps { StepsAgreeOff }
+    ensures runs { RunsAgreeOff }
 {}

@@ -11,14 +11,10 @@ use Rattle.merge_terms.specs.Parts.{named_module, named_modules}
 use Rattle.merge_terms.specs.Linked.{by_import_from, by_import}
 use Rattle.merge_terms.specs.Merged.{by_part_from, by_part}
 use Rattle.merge_join.specs.Words.{site, each_part}
+use Rattle.wasm_meaning.proofs.Counts.{module_there}
 
 pub named_length : (parts : List declared.Part) → length (named_modules parts) ≡ length parts
 named_length parts = length-map parts named_module
-
-module_there : (ps : List Part) (p : ℕ) (m : Module) → module_at ps p ≡ Some m → p < length ps
-module_there [] p m h = cc
-module_there (part ∷ ps) zero m h = omega arith
-module_there (part ∷ ps) (suc p) m h = omega (arith, module_there ps p m h)
 
 pub part_there : (parts : List declared.Part) (p : ℕ) (m : Module) → module_at (named_modules parts) p ≡ Some m → p < length parts
 part_there parts p m h = omega (arith, module_there (named_modules parts) p m h, named_length parts)

@@ -18,6 +18,7 @@ use Rattle.merge_join.specs.Words.{site}
 use Rattle.merge_join.specs.Spaces.{picked, sites_before, count_before}
 use Rattle.merge_join.proofs.ByPart.{named_length, part_more}
 use Rattle.merge_join.proofs.Sites.{sites_from_is, sites_in_more, sites_split, staying_is}
+pub use Rattle.wasm_meaning.proofs.Counts.{defined_none, defined_next}
 
 -- ---- imports ----
 
@@ -86,17 +87,8 @@ staying_few ps k = both_few (imports_kind ps k) (stays ps) (sites ps)
 
 -- ---- what is defined ----
 
-pub defined_none : (k : Space) (ps : List Part) → defined_before k ps 0 ≡ 0
-defined_none k [] = refl
-defined_none k (part ∷ ps) = refl
-
-defined_suc : (k : Space) (ps : List Part) (p : ℕ) (m : Module) → module_at ps p ≡ Some m → defined_before k ps (suc p) ≡ defined_before k ps p + defined_count k m
-defined_suc k [] p m h = cc
-defined_suc k (part ∷ ps) zero m h = let same : part.«module» ≡ m = cc in let e = ap (defined_count k) same in let z = defined_none k ps in omega arith
-defined_suc k (part ∷ ps) (suc p) m h = omega (arith, defined_suc k ps p m h)
-
 pub defined_more : (k : Space) (ps : List Part) (p : ℕ) (m : Module) → module_at ps p ≡ Some m → defined_before k ps (p + 1) ≡ defined_before k ps p + defined_count k m
-defined_more k ps p m h = let e : p + 1 ≡ suc p = omega arith in ap (defined_before k ps) e ∙ defined_suc k ps p m h
+defined_more k ps p m h = let e : p + 1 ≡ suc p = omega arith in ap (defined_before k ps) e ∙ defined_next k ps p m h
 
 pub defined_most : (k : Space) (ps : List Part) (p : ℕ) → defined_before k ps p ≤ defined_before k ps (length ps)
 defined_most k [] p = omega arith
@@ -110,7 +102,7 @@ defined_all k (part ∷ ps) (suc p) h = ap (λ n. defined_count k part.«module�
 
 -- what a part defines is few enough
 pub defined_room : (k : Space) (ps : List Part) (p : ℕ) (m : Module) → module_at ps p ≡ Some m → defined_before k ps p + defined_count k m ≤ defined_before k ps (length ps)
-defined_room k ps p m h = omega (arith, defined_suc k ps p m h, defined_most k ps (suc p))
+defined_room k ps p m h = omega (arith, defined_next k ps p m h, defined_most k ps (suc p))
 
 -- how many a part imports
 pub imported_is : (ps : List Part) (k : Space) (p : ℕ) (m : Module) → module_at ps p ≡ Some m → imported_count ps p k ≡ length (imports_of k m)

@@ -32,7 +32,7 @@ pub sites_are : (first : ℕ) (parts : List Part) → sites_from first parts ≡
 sites_are first [] = refl
 sites_are first (part ∷ parts) = ap (λ z. sites_in first (length part.«module».imports) 0 ++ z) (sites_are (suc first) parts)
 
-site_in : (p count from i : ℕ) → i < count → slice_get (sites_in p count from) i ≡ Some (record { part = p; import = from + i })
+pub site_in : (p count from i : ℕ) → i < count → slice_get (sites_in p count from) i ≡ Some (record { part = p; import = from + i })
 site_in p zero from i l = absurd (omega (arith, l))
 site_in p (suc count) from zero l = ap {A = ℕ} {B = Option Site} (λ n. Some (record { part = p; import = n })) (let e : from ≡ from + 0 = omega arith in e)
 site_in p (suc count) from (suc i) l = site_in p count (suc from) i (omega (arith, l)) ∙ ap {A = ℕ} {B = Option Site} (λ n. Some (record { part = p; import = n })) (let e : suc from + i ≡ from + suc i = omega arith in e)

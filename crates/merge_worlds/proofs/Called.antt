@@ -1,5 +1,5 @@
 -- The functions that the merged module starts, as they stand in its store: those of the parts, which take and give nothing, and the one that calls several.
-use Rattle.std.proofs.Common.{◌≡◌, ◌∙◌, ap, ap₂, sym, refl, ℕ, zero, suc, ◌+◌, ◌-◌, ◌<◌, ◌≤◌, List, [], ◌∷◌, ◌++◌, map, length, Option, Some, Bool, true, false, cond, arith, ◌⊎◌, inl, inr, ◌&&◌, is_some}
+use Rattle.std.proofs.Common.{◌≡◌, ◌∙◌, ap, ap₂, sym, refl, ℕ, zero, suc, ◌+◌, ◌-◌, ◌<◌, ◌≤◌, List, [], ◌∷◌, ◌++◌, map, length, Option, Some, Bool, true, false, cond, arith, ◌⊎◌, inl, inr, ◌&&◌, is_some, None}
 use Rattle.wasm_tree.specs.declared.space.Space.TheVariants.{Functions}
 use Rattle.std.specs.Prelude.{slice_get, option_and_then}
 use Rattle.std.proofs.lemmas.Bool.{cases_lt}
@@ -18,14 +18,14 @@ use Rattle.wasm_tree.specs.declared.module.DataMode.TheVariants as data'
 use Rattle.wasm_tree.specs.declared.module.DataSeg.{DataSeg}
 use Rattle.wasm_tree.specs.declared.module.Module.{Module}
 use Rattle.wasm_tree.specs.Spaces.{func_of, imported_funcs, funcs_of, type_of_func}
-use Rattle.wasm_meaning.specs.Outcomes.{Outcome, Gives, Traps, IllTyped, bind, at, overwrite}
+use Rattle.wasm_meaning.specs.Outcomes.{overwrite}
 use Rattle.wasm_meaning.specs.State.{Text, RefVal, Inst, Func, Code, Table, Memory, Store, Val}
 use Rattle.wasm_meaning.specs.Values.{declared, same_func_type}
 use Rattle.wasm_meaning.specs.Control as control
 use Rattle.wasm_meaning.specs.Control.{type_at}
 use Rattle.wasm_meaning.specs.Linking.{Part, has_kind, imports_of, import_at, sites}
 use Rattle.wasm_meaning.specs.Environment.{Environment, Thing, FuncAt, TableAt, MemoryAt, GlobalAt, all_of}
-use Rattle.wasm_meaning.specs.World.{given, own_count, defined_count, defined_before, base, address_of, imported_thing, all_there, numbers, own_store, stores_from, is_match, is_matched, Filled, Task, fill_table, run_elem, fill_memory, run_data, and_then, in_turn, segments, elem_tasks, data_tasks, value_of, run_elem_with, run_data_with}
+use Rattle.wasm_meaning.specs.World.{own_count, defined_count, defined_before, base, address_of, imported_thing, all_there, numbers, own_store, stores_from, is_match, is_matched, Filled, Task, fill_table, run_elem, fill_memory, run_data, and_then, in_turn, segments, elem_tasks, data_tasks, value_of, run_elem_with, run_data_with}
 use Rattle.index_remap.specs.Related.{ListRel, nil, cons}
 use Rattle.index_remap.specs.Renumbered as new
 use Rattle.export_names.specs.declared.mode.Mode.{Mode}
@@ -54,20 +54,19 @@ use Rattle.base_lists.proofs.Filtered.{place_of}
 use Rattle.base_lists.proofs.Options.{and_then_is, unwrap_or_false_is, all_there_at, all_there_length}
 use Rattle.std.proofs.lemmas.Option.{same_Some, slice_get_within}
 use Rattle.base_lists.proofs.Numbers.{length-numbers, numbers_at}
-use Rattle.merge_worlds.proofs.Lists.{at_is}
 
 -- ---- segments leave the functions as they are ----
 
 abbrev Keeps : Store → Filled → Type 0
 Keeps s f = f.store.funcs ≡ s.funcs
 
-fill_table_keeps : (s : Store) (segment a : ℕ) (t : Table) (o : Outcome (List RefVal)) → Keeps s (fill_table s segment a t o)
-fill_table_keeps s segment a t (Gives slots) = refl
-fill_table_keeps s segment a t _ = refl
+fill_table_keeps : (s : Store) (segment a : ℕ) (t : Table) (o : Option (List RefVal)) → Keeps s (fill_table s segment a t o)
+fill_table_keeps s segment a t (Some slots) = refl
+fill_table_keeps s segment a t None = refl
 
-fill_memory_keeps : (s : Store) (segment a : ℕ) (m : Memory) (o : Outcome (List ℕ)) → Keeps s (fill_memory s segment a m o)
-fill_memory_keeps s segment a m (Gives bytes) = refl
-fill_memory_keeps s segment a m _ = refl
+fill_memory_keeps : (s : Store) (segment a : ℕ) (m : Memory) (o : Option (List ℕ)) → Keeps s (fill_memory s segment a m o)
+fill_memory_keeps s segment a m (Some bytes) = refl
+fill_memory_keeps s segment a m None = refl
 
 elem_keeps : (value : ConstExpr → Option Val) (s : Store) (x : Task ElemSeg) (mode : ElemMode) → Keeps s (run_elem_with value s x mode)
 elem_keeps value s x (elem.Active y d) =
@@ -101,13 +100,8 @@ segments_keep_funcs env parts insts s =
 
 -- ---- look-ups ----
 
-given_is : {A : Type 0} (o : Outcome A) (a : A) → given o ≡ Some a → o ≡ Gives a
-given_is (Gives b) a h = let same : b ≡ a = cc in ap Gives same
-given_is Traps a h = absurd (let k = h in cc)
-given_is IllTyped a h = absurd (let k = h in cc)
-
-matched_type : (o : Outcome FuncType) (t u ty : FuncType) → given o ≡ Some u → t ≡ u → t ≡ ty → o ≡ Gives ty
-matched_type o t u ty h e d = given_is o u h ∙ ap Gives (sym e ∙ d)
+matched_type : (o : Option FuncType) (t u ty : FuncType) → o ≡ Some u → t ≡ u → t ≡ ty → o ≡ Some ty
+matched_type o t u ty h e d = h ∙ ap Some (sym e ∙ d)
 
 all_of_at : {A : Type 0} (is : A → Bool) (xs : List A) (n : ℕ) (x : A) → all_of is xs ≡ true → slice_get xs n ≡ Some x → is x ≡ true
 all_of_at is [] n x h e = absurd (let k = e in cc)
@@ -147,7 +141,7 @@ module _ (laws : SpaceLaws) (env : Environment) (t : Module) (j : Inst) (inst : 
       let r = func_placed env (record { parts = one t; insts = j ∷ [] }) z there (record { part = 0; of = t; is_part = refl; inst = j; is_inst = refl; place = n; definition = f; stands = h; address = omega arith }) in
       r.1 ∙ sym r.2 ∙ ap (λ o. option_and_then {T = FuncType} {U = Func} (λ ty. Some (Code ty j (declared f.locals) f.body)) o) (ap (λ l. slice_get l f.ty) inst.types ∙ e)
 
-  own_typed : (x n a : ℕ) (ty : FuncType) → x ≡ length (imports_of Functions t) + n → a ≡ own_count Functions env + n → type_of_func t x ≡ Some ty → type_at z a ≡ Gives ty
+  own_typed : (x n a : ℕ) (ty : FuncType) → x ≡ length (imports_of Functions t) + n → a ≡ own_count Functions env + n → type_of_func t x ≡ Some ty → type_at z a ≡ Some ty
   own_typed x n a ty e d h =
       let y = and_then_is (slice_get (funcs_of t) x) (slice_get t.types) ty h in
       let many = funcs_counted t.imports 0 in
@@ -156,9 +150,9 @@ module _ (laws : SpaceLaws) (env : Environment) (t : Module) (j : Inst) (inst : 
       let f = map_from (λ f. f.ty) t.funcs n y.0 got in
       let type : slice_get t.types f.0.ty ≡ Some ty = ap (slice_get t.types) f.2 ∙ y.2 in
       let func = own_func_at n f.0 ty (f.1) type in
-      ap (type_at z) d ∙ ap (λ o. bind o (λ f. Gives (control.type_of_func f))) (at_is z.funcs (own_count Functions env + n) _ func)
+      ap (type_at z) d ∙ ap (option_and_then (λ f. Some (control.type_of_func f))) func
 
-  import_typed : all_of (is_matched env (one t) z) (sites (one t)) ≡ true → (x n a : ℕ) (ty : FuncType) → slice_get (imports_of Functions t) x ≡ Some n → import_address env (one t) Functions 0 n ≡ Some a → type_of_func t x ≡ Some ty → type_at z a ≡ Gives ty
+  import_typed : all_of (is_matched env (one t) z) (sites (one t)) ≡ true → (x n a : ℕ) (ty : FuncType) → slice_get (imports_of Functions t) x ≡ Some n → import_address env (one t) Functions 0 n ≡ Some a → type_of_func t x ≡ Some ty → type_at z a ≡ Some ty
   import_typed matched x n a ty e address h =
       let y = and_then_is (slice_get (funcs_of t) x) (slice_get t.types) ty h in
       let r = place_of (has_kind Functions) (λ i. func_of i.desc) t.imports func_kind 0 x n e in
@@ -177,14 +171,14 @@ module _ (laws : SpaceLaws) (env : Environment) (t : Module) (j : Inst) (inst : 
       let thing = func_thing d.0 a (sym (ap (λ o. option_and_then (address_of Functions) o) d.1) ∙ address) in
       let match : is_match z t (im.Func y.0) (FuncAt a) ≡ Some true = sym (ap₂ (is_match z t) (ap (λ (i : Import). i.desc) same ∙ desc) thing) ∙ d.2 in
       let u = and_then_is (slice_get t.types y.0) _ true match in
-      let v = and_then_is (given (type_at z a)) _ true u.2 in
+      let v = and_then_is (type_at z a) _ true u.2 in
       let yes : same_func_type u.0 v.0 ≡ true = same_Some (same_func_type u.0 v.0) true v.2 in
       let types : Some u.0 ≡ Some ty = sym u.1 ∙ y.2 in
       let type : u.0 ≡ ty = cc in
       matched_type (type_at z a) u.0 v.0 ty v.1 (func_type_is u.0 v.0 yes) type
 
   -- a function that an index names has the type of that index
-  pub named_typed : all_of (is_matched env (one t) z) (sites (one t)) ≡ true → (x a : ℕ) (ty : FuncType) → slice_get j.funcs x ≡ Some a → type_of_func t x ≡ Some ty → type_at z a ≡ Gives ty
+  pub named_typed : all_of (is_matched env (one t) z) (sites (one t)) ≡ true → (x a : ℕ) (ty : FuncType) → slice_get j.funcs x ≡ Some a → type_of_func t x ≡ Some ty → type_at z a ≡ Some ty
   named_typed matched x a ty h e = go (cases_lt x (length (imports_of Functions t)))
     where
       s : (l : List ℕ) × (all_there (import_address env (one t) Functions 0) (imports_of Functions t) ≡ Some l) × (Some (l ++ numbers (base env (one t) Functions 0) (defined_count Functions t)) ≡ Some j.funcs)
@@ -196,7 +190,7 @@ module _ (laws : SpaceLaws) (env : Environment) (t : Module) (j : Inst) (inst : 
       many : length s.0 ≡ length (imports_of Functions t)
       many = all_there_length (import_address env (one t) Functions 0) (imports_of Functions t) s.0 s.1
 
-      go : (x < length (imports_of Functions t)) ⊎ (length (imports_of Functions t) ≤ x) → type_at z a ≡ Gives ty
+      go : (x < length (imports_of Functions t)) ⊎ (length (imports_of Functions t) ≤ x) → type_at z a ≡ Some ty
       go (inl low) =
           let n = slice_get_there (imports_of Functions t) x low in
           let r = all_there_at (import_address env (one t) Functions 0) (imports_of Functions t) s.0 s.1 x n.0 n.1 in
@@ -238,7 +232,7 @@ module _ (laws : SpaceLaws) (nothing : StartsTakeNothing) (env : Environment) (p
 
   -- where several parts have a start, the function that calls these comes last
   pub caller_code : IsInst env (one J) 0 J j → stores_from env (one J) (j ∷ []) (own_store env) 0 (one J) (j ∷ []) ≡ Some z → (f g : ℕ) (fs : List ℕ) → starts parts ≡ f ∷ g ∷ fs →
-      at z.funcs (shared_count env parts Functions) ≡ Gives (Code nullary j [] (map Call (starts parts)))
+      slice_get z.funcs (shared_count env parts Functions) ≡ Some (Code nullary j [] (map Call (starts parts)))
   caller_code inst there f g fs e =
       let q = joined_keeps parts mode in
       let n = nothing parts (names_of parts mode) can.valid can.linked 0 f (ap (λ l. slice_get l 0) e) in
@@ -248,12 +242,12 @@ module _ (laws : SpaceLaws) (nothing : StartsTakeNothing) (env : Environment) (p
       let last : total ≡ length (defined_funcs parts) + 0 = omega (arith, many) in
       let func : slice_get J.funcs total ≡ Some (record { ty = place_of_type parts nullary; locals = []; body = map Call (f ∷ g ∷ fs) }) =
       ap₂ (λ l n. slice_get l n) (q.funcs ∙ merged_funcs_are parts (names_of parts mode)) last ∙ append_right (defined_funcs parts) (start_calls parts (starts parts)) 0 ∙ ap (λ l. slice_get (start_calls parts l) 0) e in
-      at_is z.funcs (shared_count env parts Functions) _ (own_func_at laws env J j inst z there total _ nullary func type)
-      ∙ ap (λ l. Gives (Code nullary j [] (map Call l))) (sym e)
+      own_func_at laws env J j inst z there total _ nullary func type
+      ∙ ap (λ l. Some (Code nullary j [] (map Call l))) (sym e)
 
   -- the parts' starts take and give nothing
   pub starts_typed : IsInst env (one J) 0 J j → stores_from env (one J) (j ∷ []) (own_store env) 0 (one J) (j ∷ []) ≡ Some z → all_of (is_matched env (one J) z) (sites (one J)) ≡ true → (several : List ℕ) → ListRel (IsNamed env parts j) several (starts parts) →
-      (P : ℕ → ℕ → Type 0) → ((f a : ℕ) → at j.funcs f ≡ Gives a → type_at z a ≡ Gives nullary → P f a) → ListRel P (starts parts) several
+      (P : ℕ → ℕ → Type 0) → ((f a : ℕ) → slice_get j.funcs f ≡ Some a → type_at z a ≡ Some nullary → P f a) → ListRel P (starts parts) several
   starts_typed inst there matched several named P h = each_start env parts j P named (λ n f a is e.
       let type = kept_type (joined_keeps parts mode) f ∙ (nothing parts (names_of parts mode) can.valid can.linked n f is).0 in
-      h f a (at_is j.funcs f a e) (named_typed laws env J j inst z there matched f a nullary e type))
+      h f a e (named_typed laws env J j inst z there matched f a nullary e type))

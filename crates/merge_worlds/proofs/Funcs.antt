@@ -17,13 +17,12 @@ use Rattle.index_remap.specs.Renumbered as renumbered
 use Rattle.index_remap.specs.Related.{Pairing, OptRel, some, CodeRel}
 use Rattle.remap_typing.specs.Indices.{with_entry}
 use Rattle.world_simulation.specs.Named.{EntriesName}
-use Rattle.world_simulation.proofs.Places.{left_true, right_true, map_length, opt_at, names_of}
+use Rattle.world_simulation.proofs.Places.{left_true, right_true, map_length, opt_at}
 use Rattle.merge_terms.specs.Merged.{map_of}
 use Rattle.merge_worlds.specs.Instances.{SpaceAgrees, PartAgrees}
 use Rattle.merge_worlds.specs.Shared.{is_shared, sharing}
 use Rattle.merge_worlds.proofs.ValueShared.{shares}
 use Rattle.merge_worlds.proofs.ValueGiven.{Laws}
-use Rattle.merge_worlds.proofs.Lists.{at_is}
 use Rattle.world_simulation.specs.Definitions.{FuncsCorrespond}
 
 type_entries : (parts : List Part) (p : ℕ) (m : Module) → length (map_of parts p m).types ≡ length m.types
@@ -45,13 +44,13 @@ module _ (laws : Laws) (env : Environment) (parts : List Part) (p : ℕ) (m : Mo
   type_below x h = let l = ltb-true _ _ h in omega (arith, l, type_entries parts p m)
 
   entries_name : EntriesName R r (with_entry r) i j
-  entries_name Types x h = let t = slice_get_there m.types x (type_below x h) in at_is i.types x t.0 (ap (λ ts. slice_get ts x) k.own_types ∙ t.1) ∙ sym (at_is j.types (slice_index r.types x) t.0 (k.types x t.0 t.1))
-  entries_name Functions x h = names_of i.funcs j.funcs x _ (space_names Functions i.funcs j.funcs r.funcs k.funcs x h)
-  entries_name Tables x h = names_of i.tables j.tables x _ (space_names Tables i.tables j.tables r.tables k.tables x h)
-  entries_name Memories x h = names_of i.mems j.mems x _ (space_names Memories i.mems j.mems r.mems k.mems x h)
-  entries_name Globals x h = names_of i.globals j.globals x _ (space_names Globals i.globals j.globals r.globals k.globals x h)
-  entries_name ElementSegments x h = names_of i.elems j.elems x _ (space_names ElementSegments i.elems j.elems r.elems k.elems x h)
-  entries_name DataSegments x h = names_of i.datas j.datas x _ (space_names DataSegments i.datas j.datas r.datas k.datas x h)
+  entries_name Types x h = let t = slice_get_there m.types x (type_below x h) in ap (λ ts. slice_get ts x) k.own_types ∙ t.1 ∙ sym (k.types x t.0 t.1)
+  entries_name Functions x h = space_names Functions i.funcs j.funcs r.funcs k.funcs x h
+  entries_name Tables x h = space_names Tables i.tables j.tables r.tables k.tables x h
+  entries_name Memories x h = space_names Memories i.mems j.mems r.mems k.mems x h
+  entries_name Globals x h = space_names Globals i.globals j.globals r.globals k.globals x h
+  entries_name ElementSegments x h = space_names ElementSegments i.elems j.elems r.elems k.elems x h
+  entries_name DataSegments x h = space_names DataSegments i.datas j.datas r.datas k.datas x h
 
   code_rel : (body : List Instr) → fits_all r body ≡ true → CodeRel R i j body (renumbered_all r body)
   code_rel body h = laws.code (is_shared env parts) (is_shared env parts) [] r i j body (laws.named (is_shared env parts) (is_shared env parts) [] r i j entries_name body h)

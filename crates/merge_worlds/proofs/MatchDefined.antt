@@ -14,14 +14,13 @@ use Rattle.wasm_tree.specs.declared.module.ExportDesc.{ExportDesc}
 use Rattle.wasm_tree.specs.declared.module.ExportDesc.TheVariants as ex
 use Rattle.wasm_tree.specs.declared.module.Module.{Module}
 use Rattle.wasm_tree.specs.Spaces.{func_of, table_of, memory_of, global_of, imported_funcs, imported_tables, imported_memories, imported_globals, funcs_of, tables_of, memories_of, globals_of, type_of_func, index_of_export, space_of_export, space_of_import}
-use Rattle.wasm_meaning.specs.Outcomes.{Gives, bind}
 use Rattle.wasm_meaning.specs.State.{Inst, Code, Global, Store}
 use Rattle.wasm_meaning.specs.Values.{same_ref, same_type, same_func_type, null_of, declared}
 use Rattle.wasm_meaning.specs.Control as control
 use Rattle.wasm_meaning.specs.Control.{type_at}
 use Rattle.wasm_meaning.specs.Linking.{Part, has_kind, imports_of, module_at}
 use Rattle.wasm_meaning.specs.Environment.{Environment, FuncAt, TableAt, MemoryAt, GlobalAt}
-use Rattle.wasm_meaning.specs.World.{given, same_bool, meets, base, thing_at, new_func, new_global, value_of, own_store, stores_from}
+use Rattle.wasm_meaning.specs.World.{same_bool, meets, base, thing_at, new_func, new_global, value_of, own_store, stores_from}
 use Rattle.world_simulation.proofs.Places.{place_map}
 use Rattle.merge_terms.specs.Faults.{External, FuncOf, TableOf, MemoryOf, GlobalOf, external_of, same_but_limits, meets_limits}
 use Rattle.base_lists.proofs.Options.{all_there_at, and_then_is}
@@ -31,7 +30,6 @@ use Rattle.world_simulation.proofs.Allocated.{new_table, new_memory, adds, funcs
 use Rattle.base_lists.proofs.Places.{map_from, append_right}
 use Rattle.base_lists.proofs.Filtered.{places_many}
 use Rattle.std.proofs.lemmas.Bool.{and_from}
-use Rattle.merge_worlds.proofs.Lists.{at_is}
 
 -- ---- how many are imported ----
 
@@ -79,8 +77,8 @@ own_global m i t = after (imported_globals m.imports) (map (λ g. g.ty) m.global
 
 -- ---- what fits ----
 
-func_fits : (s : Store) (a : ℕ) (d : External) (t : FuncType) → type_at s a ≡ Gives t → same_but_limits d (FuncOf t) ≡ true → fits s d (FuncAt a) ≡ Some true
-func_fits s a (FuncOf u) t e h = ap (λ o. option_and_then (λ v. Some (same_func_type u v)) (given o)) e ∙ ap Some h
+func_fits : (s : Store) (a : ℕ) (d : External) (t : FuncType) → type_at s a ≡ Some t → same_but_limits d (FuncOf t) ≡ true → fits s d (FuncAt a) ≡ Some true
+func_fits s a (FuncOf u) t e h = ap (λ o. option_and_then (λ v. Some (same_func_type u v)) o) e ∙ ap Some h
 func_fits s a (TableOf u) t e h = absurd (let k = h in cc)
 func_fits s a (MemoryOf u) t e h = absurd (let k = h in cc)
 func_fits s a (GlobalOf u) t e h = absurd (let k = h in cc)
@@ -112,13 +110,13 @@ module _ (env : Environment) (parts : List Part) (insts : List Inst) (s : Store)
   abbrev address : Space → ℕ → ℕ
   address k n = base env parts k q + (n - length (imports_of k m))
 
-  func_typed : (n : ℕ) (t : FuncType) → length (imports_of Functions m) ≤ n → type_of_func m n ≡ Some t → type_at s (address Functions n) ≡ Gives t
+  func_typed : (n : ℕ) (t : FuncType) → length (imports_of Functions m) ≤ n → type_of_func m n ≡ Some t → type_at s (address Functions n) ≡ Some t
   func_typed n t le h = by (slice_get (funcs_of m) n) refl h
     where
       k : ℕ
       k = n - length (imports_of Functions m)
 
-      stood : (ty : ℕ) → slice_get (funcs_of m) n ≡ Some ty → slice_get m.types ty ≡ Some t → type_at s (address Functions n) ≡ Gives t
+      stood : (ty : ℕ) → slice_get (funcs_of m) n ≡ Some ty → slice_get m.types ty ≡ Some t → type_at s (address Functions n) ≡ Some t
       stood ty e g =
           let f = map_from (λ f. f.ty) m.funcs k ty (own_func m n ty le e) in
           let r = funcs_stand env parts insts s made q m i is there in
@@ -126,9 +124,9 @@ module _ (env : Environment) (parts : List Part) (insts : List Inst) (s : Store)
           let type_is : slice_get i.types f.0.ty ≡ Some t = ap₂ slice_get types f.2 ∙ g in
           let code : Some (Code t i (declared f.0.locals) f.0.body) ≡ Some x.0 = sym (ap (λ o. option_and_then (λ t. Some (Code t i (declared f.0.locals) f.0.body)) o) type_is) ∙ x.1 in
           let same : Code t i (declared f.0.locals) f.0.body ≡ x.0 = cc in
-          ap (λ o. bind o (λ f. Gives (control.type_of_func f))) (at_is s.funcs (address Functions n) x.0 (r.at k x.0 x.2)) ∙ ap (λ f. Gives (control.type_of_func f)) (sym same)
+          ap (option_and_then (λ f. Some (control.type_of_func f))) (r.at k x.0 x.2) ∙ ap (λ f. Some (control.type_of_func f)) (sym same)
 
-      by : (o : Option ℕ) → slice_get (funcs_of m) n ≡ o → option_and_then (slice_get m.types) o ≡ Some t → type_at s (address Functions n) ≡ Gives t
+      by : (o : Option ℕ) → slice_get (funcs_of m) n ≡ o → option_and_then (slice_get m.types) o ≡ Some t → type_at s (address Functions n) ≡ Some t
       by None e h = absurd (let z = h in cc)
       by (Some ty) e h = stood ty e h
 

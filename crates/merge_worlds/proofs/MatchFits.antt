@@ -11,14 +11,14 @@ use Rattle.wasm_meaning.specs.Values.{same_ref, same_type, same_func_type}
 use Rattle.wasm_meaning.specs.Control.{type_at}
 use Rattle.wasm_meaning.specs.Linking.{limits_of}
 use Rattle.wasm_meaning.specs.Environment.{Thing, FuncAt, TableAt, MemoryAt, GlobalAt}
-use Rattle.wasm_meaning.specs.World.{given, same_bool, meets, is_match}
+use Rattle.wasm_meaning.specs.World.{same_bool, meets, is_match}
 use Rattle.merge_terms.specs.Faults.{External, FuncOf, TableOf, MemoryOf, GlobalOf, asked}
 use Rattle.merge_worlds.proofs.MatchTypes.{AlikeButLimits, two_funcs, two_tables, two_memories, two_globals}
 use Rattle.base_lists.proofs.Options.{and_then_is, unwrap_or_false_is}
 use Rattle.std.proofs.lemmas.Bool.{and_parts, and_from}
 
 abbrev pub fits : Store → External → Thing → Option Bool
-fits s (FuncOf t) (FuncAt a) = option_and_then (λ u. Some (same_func_type t u)) (given (type_at s a))
+fits s (FuncOf t) (FuncAt a) = option_and_then (λ u. Some (same_func_type t u)) (type_at s a)
 fits s (TableOf t) (TableAt a) = option_and_then (λ u. Some (same_ref t.ty u.ty && meets (length u.slots) u.most t.limits)) (slice_get s.tables a)
 fits s (MemoryOf l) (MemoryAt a) = option_and_then (λ u. Some (meets u.pages u.most l)) (slice_get s.mems a)
 fits s (GlobalOf t) (GlobalAt a) = option_and_then (λ u. Some (same_type t.ty u.ty.ty && same_bool t.mutable u.ty.mutable)) (slice_get s.globals a)
@@ -37,7 +37,7 @@ there_fitting s x o th e h = ap (λ o. unwrap_or (option_and_then (fits s x) o) 
 -- ---- what an import asks for ----
 
 match_func : (s : Store) (m : Module) (ty : ℕ) (t : FuncType) → slice_get m.types ty ≡ Some t → (th : Thing) → is_match s m (im.Func ty) th ≡ fits s (FuncOf t) th
-match_func s m ty t e (FuncAt a) = ap (λ o. option_and_then (λ t. option_and_then (λ u. Some (same_func_type t u)) (given (type_at s a))) o) e
+match_func s m ty t e (FuncAt a) = ap (λ o. option_and_then (λ t. option_and_then (λ u. Some (same_func_type t u)) (type_at s a)) o) e
 match_func s m ty t e (TableAt a) = refl
 match_func s m ty t e (MemoryAt a) = refl
 match_func s m ty t e (GlobalAt a) = refl

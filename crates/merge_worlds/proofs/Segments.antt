@@ -23,7 +23,7 @@ use Rattle.wasm_meaning.specs.State.{Val, Inst}
 use Rattle.wasm_meaning.specs.Values.{num_of}
 use Rattle.wasm_meaning.specs.Linking.{Part, module_at}
 use Rattle.wasm_meaning.specs.Environment.{Environment}
-use Rattle.wasm_meaning.specs.World.{Task, given, numbers, insts_from, tasks_in, elem_tasks, data_tasks, defined_before}
+use Rattle.wasm_meaning.specs.World.{Task, numbers, insts_from, tasks_in, elem_tasks, data_tasks, defined_before}
 use Rattle.index_remap.specs.Related.{Pairing, OptRel, none, some, ValRel, number, reference}
 use Rattle.world_simulation.specs.Alone.{one}
 use Rattle.world_simulation.proofs.Places.{map_length, opt_at}
@@ -109,14 +109,14 @@ module _ (laws : Laws) (env : Environment) (parts : List Part) (mode : Mode) (ca
   abbrev SecondData : Task DataSeg → Type 0
   SecondData y = DataAlone (HasNoPartner R) env w y y.segment.mode
 
-  number_same : {x y : Val} → ValRel R x y → given (num_of W32 x) ≡ given (num_of W32 y)
+  number_same : {x y : Val} → ValRel R x y → num_of W32 x ≡ num_of W32 y
   number_same number = refl
   number_same (reference r) = refl
 
   offset_same : (p : ℕ) (m : Module) (e : ConstExpr) (ty : ValType) → module_at parts p ≡ Some m → const_type m e ≡ Some ty → offset_in (values_in env v p) e ≡ offset_in (values_in env w 0) (merged_const parts p e)
   offset_same p m e ty is t = go (value_rel laws env parts mode can insts js agree are p m e ty is t)
     where
-      go : {o q : Option Val} → OptRel (ValRel R) o q → option_and_then (λ v. given (num_of W32 v)) o ≡ option_and_then (λ v. given (num_of W32 v)) q
+      go : {o q : Option Val} → OptRel (ValRel R) o q → option_and_then (num_of W32) o ≡ option_and_then (num_of W32) q
       go none = refl
       go (some v) = number_same v
 

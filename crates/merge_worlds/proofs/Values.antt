@@ -15,7 +15,7 @@ use Rattle.wasm_meaning.specs.World.{insts_from, const_value, value_of_read, val
 use Rattle.index_remap.specs.Renumbered.{new_const, fits_const}
 use Rattle.index_remap.specs.Related.{Pairing, OptRel, some, func, ValRel, number, reference}
 use Rattle.world_simulation.specs.Alone.{one}
-use Rattle.world_simulation.proofs.Places.{then_rel, opt_at, place_rel}
+use Rattle.world_simulation.proofs.Places.{then_rel, opt_at}
 use Rattle.export_names.specs.declared.mode.Mode.{Mode}
 use Rattle.merge_terms.specs.Joined.{joined_module}
 use Rattle.merge_terms.specs.Merged.{map_of, merged_read, merged_const}
@@ -26,6 +26,7 @@ use Rattle.world_simulation.proofs.Owned.{null_rel}
 use Rattle.merge_worlds.proofs.ValueShared.{shares, own_entities}
 use Rattle.merge_worlds.proofs.ValueAlone.{global_value}
 use Rattle.merge_worlds.proofs.ValueGiven.{Laws, EachAgrees}
+use Rattle.index_remap.proofs.Rel.{get_rel}
 
 const_is : (parts : List Part) (p : ℕ) (e : ConstExpr) (r : Read) (m : Module) → read_of parts p e ≡ Some r → module_at parts r.part ≡ Some m → merged_const parts p e ≡ new_const (map_of parts r.part m) r.expr
 unfolding merged_const
@@ -52,7 +53,7 @@ module _ (laws : Laws) (env : Environment) (parts : List Part) (mode : Mode) whe
         let a = k.globals.each x (ltb-true _ _ h) in
         opt_at (ap (λ o. option_and_then (λ a. option_and_then (λ g. Some g.value) (slice_get (own_globals env) a)) o) a.first)
         (global_value laws.alone_reads laws.alone_spaces env (joined_module parts mode) j are (slice_index (map_of parts q m).globals x) a.address a.second)
-        (then_rel (place_rel (own_entities env parts laws.own).globals a.address) (λ _ _ g. some g.value))
+        (then_rel (get_rel (own_entities env parts laws.own).globals a.address) (λ _ _ g. some g.value))
 
     pub const_rel : (p : ℕ) (m : Module) (e : ConstExpr) (ty : ValType) → module_at parts p ≡ Some m → const_type m e ≡ Some ty → OptRel (ValRel R) (value_of env parts insts p e) (value_of env M (j ∷ []) 0 (merged_const parts p e))
     const_rel p m e ty is t =

@@ -1,8 +1,7 @@
 -- The world of linked parts and that of their merged module: both are instantiated or neither, and then they show the same.
-use Rattle.std.proofs.Common.{◌≡◌, ◌∙◌, ap, sym, subst, refl, ℕ, ◌+◌, ◌≤◌, List, [], ◌∷◌, length, Option, Some, None, Bool, true, false, cond, arith, append-nil}
+use Rattle.std.proofs.Common.{◌≡◌, ◌∙◌, ap, sym, subst, refl, ℕ, ◌+◌, ◌≤◌, List, [], ◌∷◌, length, Option, Some, None, Bool, true, false, cond, arith, append-nil, slice_get, option_and_then}
 use Rattle.wasm_tree.specs.declared.space.Space.TheVariants.{Functions}
 use Rattle.wasm_tree.specs.declared.module.Module.{Module}
-use Rattle.wasm_meaning.specs.Outcomes.{Gives, bind, at}
 use Rattle.wasm_meaning.specs.State.{Inst, Store}
 use Rattle.wasm_meaning.specs.Control.{type_of_func}
 use Rattle.wasm_meaning.specs.Linking.{Part, sites}
@@ -155,9 +154,9 @@ module _ (spaces : SpaceLaws) (laws : Laws) (nothing : StartsTakeNothing) (simil
         record {
           inst = j;
           calls = starts parts;
-          code = ap (λ fs. at fs (shared_count env parts Functions)) same_funcs ∙ caller_code spaces nothing env parts mode can j y.allocated inst there f g fs e;
+          code = ap (λ fs. slice_get fs (shared_count env parts Functions)) same_funcs ∙ caller_code spaces nothing env parts mode can j y.allocated inst there f g fs e;
           each = starts_typed spaces nothing env parts mode can j y.allocated inst there y.matched several agreed.named (NamesStart after j)
-              (λ f a named typed. record { named = named; typed = ap (λ fs. bind (at fs a) (λ f. Gives (type_of_func f))) same_funcs ∙ typed });
+              (λ f a named typed. record { named = named; typed = ap (λ fs. option_and_then (λ f. Some (type_of_func f)) (slice_get fs a)) same_funcs ∙ typed });
         }
 
     starts_alike : StartsAlike (begun env (alone J) y.insts y.view (segments env M y.insts y.allocated)) several

@@ -13,6 +13,7 @@ use Rattle.index_remap.specs.Agreement.{Keeps, labelled}
 use Rattle.index_remap.proofs.Keeping.{keeps_map, keeps_only, both_keeps, named_keeps}
 use Rattle.remap_typing.proofs.Lists.{only_true, either_true, left_either, same_number, among_left, among_right, among_either}
 use Rattle.index_remap.proofs.Rows.{block_is, loop_is, if_is}
+use Rattle.index_remap.proofs.Marks.{of_If}
 
 ends_map : (f g : Stack → Stack → Type 0) (ps rs : List ValType) → ((s t : Stack) → f s t → g s t) → Ends f ps rs → Ends g ps rs
 ends_map f g ps rs k (last, l, a) = (last, k _ last l, a)
@@ -22,9 +23,6 @@ of_Block bt is = search (rules, the_lemmas)
 
 of_Loop : (bt : BlockType) (is : List Instr) → refs (Loop bt is) ≡ refs_all is
 of_Loop bt is = search (rules, the_lemmas)
-
-of_If : (bt : BlockType) (is os : List Instr) → refs (If bt is os) ≡ refs_all is ++ refs_all os
-of_If bt is os = search (rules, the_lemmas)
 
 block_refs : (bt : BlockType) (n : _) (row : Row_of-Instr _) → refs (Block' bt n row) ≡ refs_all (items-the_row-Instr _ row)
 block_refs bt n row = ap refs (block_is bt n row) ∙ of_Block bt (items-the_row-Instr _ row)

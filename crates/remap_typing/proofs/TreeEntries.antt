@@ -41,10 +41,7 @@ use Rattle.remap_typing.proofs.Lists.{both_true, has_at, only_true}
 use Rattle.base_lists.proofs.Each.{list_all_from}
 use Rattle.remap_typing.proofs.Entries.{body_fits}
 use Rattle.remap_typing.proofs.WholeTrees.{ValidWhereItemsHold}
-
-marks_length : (rs : List ℕ) (a n : ℕ) → length (named_from rs a n) ≡ n
-marks_length rs a zero = refl
-marks_length rs a (suc n) = ap suc (marks_length rs (suc a) n)
+use Rattle.index_remap.proofs.Marks.{marks_length}
 
 func_there : (t : Module) (x : ℕ) (ft : FuncType) → type_of_func t x ≡ Some ft → x < length (funcs_of t)
 func_there t x ft h = here (slice_get (funcs_of t) x) refl h

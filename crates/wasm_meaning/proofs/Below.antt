@@ -4,7 +4,7 @@ use Rattle.std.specs.Prelude.{nat_eq}
 use Rattle.wasm_tree.specs.declared.types.ValType.{ValType}
 use Rattle.wasm_tree.specs.declared.types.FuncType.{FuncType}
 use Rattle.wasm_num.specs.Operations.{W32}
-use Rattle.wasm_meaning.specs.Outcomes.{Outcome, Gives, Traps, IllTyped, given, bind, at, overwrite}
+use Rattle.wasm_meaning.specs.Outcomes.{Outcome, Gives, Traps, IllTyped, bind, overwrite, or_ill_typed}
 use Rattle.wasm_meaning.specs.State.{Pair, FuncRef, Val, Num, Ref, Func, Code, Own, Placeholder, Store, Change, Keep, SetGlobal, SetMemory, SetTable, DropElem, DropData, Growth, GrowMemory, GrowTable, Level, Frame, Entry, Running, Caller, Host, Starter, Mark, Opening, Waiting, Ended, Growing, Act, Goes, Calls, AsksGrow, Ends, Next, Ran, CallsOwn, WaitsGrowth, CallsPlaceholder, EndsCall}
 use Rattle.wasm_meaning.specs.Values.{pop_typed, null_of, with_values}
 use Rattle.wasm_meaning.specs.Memory.{memory_may_grow}
@@ -118,7 +118,7 @@ module _ (cs ds : List Entry) (low : IsBottom cs) (other : IsBottom ds) (p q : P
   enter_below s (Placeholder n t) vs es g = placeholder es refl g
 
   enter_at_below : (s : Store) (a : ℕ) (vs : List Val) (es : List Entry) → GivesNothing es → OutcomeRel (NextRel s.funcs) (enter_at s a vs (es ++ cs)) (enter_at s a vs (es ++ ds))
-  enter_at_below s a vs es g = bind_same (at s.funcs a) (λ f. gives (enter_below s f vs es g))
+  enter_at_below s a vs es g = bind_same (or_ill_typed (slice_get s.funcs a)) (λ f. gives (enter_below s f vs es g))
 
   ends_below : (s : Store) (f : Frame) (es : List Entry) (vs : List Val) → GivesNothing (Running f ∷ es) → OutcomeRel (NextRel s.funcs) (perform s f (es ++ cs) (Ends vs)) (perform s f (es ++ ds) (Ends vs))
   ends_below s f _ vs (a_frame n) = ends_lowest s vs n
@@ -126,7 +126,7 @@ module _ (cs ds : List Entry) (low : IsBottom cs) (other : IsBottom ds) (p q : P
 
   perform_below : (s : Store) (f : Frame) (es : List Entry) → GivesNothing (Running f ∷ es) → (x : Act) → OutcomeRel (NextRel s.funcs) (perform s f (es ++ cs) x) (perform s f (es ++ ds) x)
   perform_below s f es g (Goes c h) = gives (ran (Running (frame_of f h) ∷ es) (funcs_stay s c) (same_top refl g))
-  perform_below s f es g (Calls a vs h) = bind_same (type_at s a) (λ t. bind_same (pop_typed t.params vs) (λ w. enter_at_below s a w.0 (Running (frame_of f (with_values h w.1)) ∷ es) (same_top refl g)))
+  perform_below s f es g (Calls a vs h) = bind_same (or_ill_typed (type_at s a)) (λ t. bind_same (pop_typed t.params vs) (λ w. enter_at_below s a w.0 (Running (frame_of f (with_values h w.1)) ∷ es) (same_top refl g)))
   perform_below s f es g (AsksGrow x m n h) = gives (waits (Growing x ∷ Running (frame_of f h) ∷ es) refl (over refl (same_top refl g)))
   perform_below s f es g (Ends vs) = ends_below s f es vs g
 
@@ -178,7 +178,7 @@ module _ (cs ds : List Entry) (low : IsBottom cs) (other : IsBottom ds) (p q : P
   Moved r = OptRel (Turn r.store.funcs)
 
   called_below : (r : Run) (es fs : List Entry) → GivesNothing es → GivesNothing fs → (xs : List Shown) (a : ℕ) → Moved r (called (first r es) (fs ++ cs) xs a) (called (second r es) (fs ++ ds) xs a)
-  called_below r es fs g h xs a = then_same (given (type_at r.store a)) (λ t. then_same (received_all r.owned r.shown t.params xs) (λ vs. some (steps r es refl g (enter_at_below r.store a vs fs h))))
+  called_below r es fs g h xs a = then_same (type_at r.store a) (λ t. then_same (received_all r.owned r.shown t.params xs) (λ vs. some (steps r es refl g (enter_at_below r.store a vs fs h))))
 
   delivered_low : (r : Run) (es : List Entry) → GivesNothing es → Turn r.store.funcs (delivered (first r es) [] cs) (delivered (second r es) [] ds)
   delivered_low r es g = rw (unmarked cs low.traps, unmarked ds other.traps, low.gives r.store, other.gives r.store) (steps r es refl g (gives (ran_out refl)))
@@ -218,8 +218,8 @@ module _ (cs ds : List Entry) (low : IsBottom cs) (other : IsBottom ds) (p q : P
   refused_below r es g (over {e = Growing x} o h) = none
 
   granted_below : (r : Run) (es : List Entry) → GivesNothing es → (x : Growth) {fs : List Entry} → GivesNothing fs → Moved r (granted (first r es) x (fs ++ cs)) (granted (second r es) x (fs ++ ds))
-  granted_below r es g (GrowMemory a n) h = then_same (given (at r.store.mems a)) (λ m. some (delivered_below (record r { store = changed r.store (SetMemory a (grown_memory m n)) }) es g (Num W32 m.pages ∷ []) h))
-  granted_below r es g (GrowTable a n v) h = then_same (given (at r.store.tables a)) (λ t. some (delivered_below (record r { store = changed r.store (SetTable a (grown_table t n v)) }) es g (Num W32 (length t.slots) ∷ []) h))
+  granted_below r es g (GrowMemory a n) h = then_same (slice_get r.store.mems a) (λ m. some (delivered_below (record r { store = changed r.store (SetMemory a (grown_memory m n)) }) es g (Num W32 m.pages ∷ []) h))
+  granted_below r es g (GrowTable a n v) h = then_same (slice_get r.store.tables a) (λ t. some (delivered_below (record r { store = changed r.store (SetTable a (grown_table t n v)) }) es g (Num W32 (length t.slots) ∷ []) h))
 
   decided_below : (r : Run) (es : List Entry) → GivesNothing es → (m : Move) (x : Growth) {fs : List Entry} → GivesNothing fs → Moved r (decided (first r es) m x (fs ++ cs)) (decided (second r es) m x (fs ++ ds))
   decided_below r es g Grant x h = granted_below r es g x h
@@ -232,29 +232,29 @@ module _ (cs ds : List Entry) (low : IsBottom cs) (other : IsBottom ds) (p q : P
 
   got_below : (r : Run) (es : List Entry) → GivesNothing es → (x : Thing) (n : ℕ) → Moved r (got (first r es) x n) (got (second r es) x n)
   got_below r es g (FuncAt a) n = none
-  got_below r es g (TableAt a) n = then_same (given (at r.store.tables a)) (λ t. then_same (slice_get t.slots n) (λ v. shows_below r es g (Ref v)))
-  got_below r es g (MemoryAt a) n = then_same (given (at r.store.mems a)) (λ m. then_same (slice_get m.bytes n) (λ b. shows_below r es g (Num W32 b)))
-  got_below r es g (GlobalAt a) n = then_same (given (at r.store.globals a)) (λ v. cond_same (nat_eq n 0) (shows_below r es g v.value) none)
+  got_below r es g (TableAt a) n = then_same (slice_get r.store.tables a) (λ t. then_same (slice_get t.slots n) (λ v. shows_below r es g (Ref v)))
+  got_below r es g (MemoryAt a) n = then_same (slice_get r.store.mems a) (λ m. then_same (slice_get m.bytes n) (λ b. shows_below r es g (Num W32 b)))
+  got_below r es g (GlobalAt a) n = then_same (slice_get r.store.globals a) (λ v. cond_same (nat_eq n 0) (shows_below r es g v.value) none)
 
   size_below : (r : Run) (es : List Entry) → GivesNothing es → (x : Thing) → Moved r (size_of (first r es) x) (size_of (second r es) x)
   size_below r es g (FuncAt a) = none
-  size_below r es g (TableAt a) = then_same (given (at r.store.tables a)) (λ t. shows_below r es g (Num W32 (length t.slots)))
-  size_below r es g (MemoryAt a) = then_same (given (at r.store.mems a)) (λ m. shows_below r es g (Num W32 m.pages))
-  size_below r es g (GlobalAt a) = then_same (given (at r.store.globals a)) (λ v. shows_below r es g (Num W32 1))
+  size_below r es g (TableAt a) = then_same (slice_get r.store.tables a) (λ t. shows_below r es g (Num W32 (length t.slots)))
+  size_below r es g (MemoryAt a) = then_same (slice_get r.store.mems a) (λ m. shows_below r es g (Num W32 m.pages))
+  size_below r es g (GlobalAt a) = then_same (slice_get r.store.globals a) (λ v. shows_below r es g (Num W32 1))
 
   does_below : (r : Run) (es : List Entry) → GivesNothing es → (c : Change) → Moved r (does (first r es) c) (does (second r es) c)
   does_below r es g c = some (makes (goes_on (record r { store = changed r.store c }) es (funcs_stay r.store c) g))
 
   set_below : (r : Run) (es : List Entry) → GivesNothing es → (x : Thing) (n : ℕ) (v : Shown) → Moved r (set (first r es) x n v) (set (second r es) x n v)
   set_below r es g (FuncAt a) n v = none
-  set_below r es g (TableAt a) n v = then_same (given (at r.store.tables a)) (λ t. then_same (received_ref r.owned r.shown t.ty v) (λ w. then_same (given (overwrite t.slots n (w ∷ []))) (λ slots. does_below r es g (SetTable a (record t { slots = slots })))))
-  set_below r es g (MemoryAt a) n v = then_same (given (at r.store.mems a)) (λ m. then_same (byte_of v) (λ b. then_same (given (overwrite m.bytes n (b ∷ []))) (λ bytes. does_below r es g (SetMemory a (record m { bytes = bytes })))))
-  set_below r es g (GlobalAt a) n v = then_same (given (at r.store.globals a)) (λ x. cond_same (nat_eq n 0) (cond_same x.ty.mutable (then_same (received r.owned r.shown x.ty.ty v) (λ w. does_below r es g (SetGlobal a (record x { value = w })))) none) none)
+  set_below r es g (TableAt a) n v = then_same (slice_get r.store.tables a) (λ t. then_same (received_ref r.owned r.shown t.ty v) (λ w. then_same (overwrite t.slots n (w ∷ [])) (λ slots. does_below r es g (SetTable a (record t { slots = slots })))))
+  set_below r es g (MemoryAt a) n v = then_same (slice_get r.store.mems a) (λ m. then_same (byte_of v) (λ b. then_same (overwrite m.bytes n (b ∷ [])) (λ bytes. does_below r es g (SetMemory a (record m { bytes = bytes })))))
+  set_below r es g (GlobalAt a) n v = then_same (slice_get r.store.globals a) (λ x. cond_same (nat_eq n 0) (cond_same x.ty.mutable (then_same (received r.owned r.shown x.ty.ty v) (λ w. does_below r es g (SetGlobal a (record x { value = w })))) none) none)
 
   extended_below : (r : Run) (es : List Entry) → GivesNothing es → (x : Thing) (n : ℕ) → Moved r (extended (first r es) x n) (extended (second r es) x n)
   extended_below r es g (FuncAt a) n = none
-  extended_below r es g (TableAt a) n = then_same (given (at r.store.tables a)) (λ t. cond_same (table_may_grow t n) (does_below r es g (SetTable a (grown_table t n (null_of t.ty)))) none)
-  extended_below r es g (MemoryAt a) n = then_same (given (at r.store.mems a)) (λ m. cond_same (memory_may_grow m n) (does_below r es g (SetMemory a (grown_memory m n))) none)
+  extended_below r es g (TableAt a) n = then_same (slice_get r.store.tables a) (λ t. cond_same (table_may_grow t n) (does_below r es g (SetTable a (grown_table t n (null_of t.ty)))) none)
+  extended_below r es g (MemoryAt a) n = then_same (slice_get r.store.mems a) (λ m. cond_same (memory_may_grow m n) (does_below r es g (SetMemory a (grown_memory m n))) none)
   extended_below r es g (GlobalAt a) n = none
 
   moved_below : (r : Run) (es : List Entry) → GivesNothing es → (m : Move) → Moved r (moved (first r es) m) (moved (second r es) m)

@@ -10,6 +10,8 @@ mod TellingRuns
 mod TellingWorlds
 pub mod Walks
 pub mod Linked
+pub mod Counts
 mod Below
 pub mod Slices
+pub mod Outcomes
 mod Touches

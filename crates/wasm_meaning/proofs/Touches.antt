@@ -1,5 +1,5 @@
 -- What the step of a frame writes is told from what stands on top before.
-use Rattle.std.proofs.Common.{◌≡◌, ◌∙◌, ℕ, ◌+◌, length, List, [], ◌∷◌, None, Bool, true, false, cond, refl, sym, ap, subst, drop}
+use Rattle.std.proofs.Common.{◌≡◌, ◌∙◌, ℕ, ◌+◌, length, List, [], ◌∷◌, None, refl, sym, ap, drop, slice_get, Some, Option, Bool, true, false, cond}
 use Rattle.std.specs.Prelude.{nat_eq}
 use Rattle.wasm_tree.specs.declared.instr.Instr.{Instr, out-Instr}
 use Rattle.wasm_tree.specs.declared.instr.Instr.TheOpen.{Instr-F}
@@ -8,40 +8,17 @@ use Rattle.wasm_tree.specs.declared.instr.StoreOp.TheVariants as op
 use Rattle.wasm_tree.specs.declared.types.ValType.{ValType}
 use Rattle.wasm_tree.specs.declared.types.BlockType.{BlockType}
 use Rattle.wasm_num.specs.Operations.{W32}
-use Rattle.wasm_meaning.specs.Outcomes.{Outcome, Gives, Traps, IllTyped, trapping, bind, at, split_at, slice, overwrite, copies}
+use Rattle.wasm_meaning.specs.Outcomes.{Outcome, Gives, IllTyped, bind, split_at, slice, overwrite, copies, or_trap, with_entry}
 use Rattle.wasm_meaning.specs.Access.{store_from, stored, little_bytes}
-use Rattle.wasm_meaning.specs.State.{Val, Num, Ref, FuncRef, RefVal, Table, Memory, Global, Level, Env, Body, Keep, Act}
+use Rattle.wasm_meaning.specs.State.{Val, Num, Ref, FuncRef, RefVal, Table, Memory, Global, Level, Env, Body, Keep, SetGlobal, Act, Goes}
 use Rattle.wasm_meaning.specs.Values.{typed, pop, pop_num, pop_ref, pop_typed, pushes, on_values, with_values, local_put, global_put, unary, binary, ref_is_null, select_any, select_typed}
 use Rattle.wasm_meaning.specs.Memory.{written, writes, store_into, load_from, grow_memory, memory_may_grow, init_memory, fill_memory, pop_three, with_memory}
 use Rattle.wasm_meaning.specs.Tables.{fits, writes_table, get_slot, set_slot, grow_table, table_may_grow, fill_table, init_table, with_table}
 use Rattle.wasm_meaning.specs.Control.{call_slot, func_ref, type_at, resume, end_level, branch, level_here, open_level, shape_of, open_block}
 use Rattle.wasm_meaning.specs.Step.{exec, step_code, step_levels}
 use Rattle.wasm_meaning.specs.Touched.{Touched, Nothing, Bytes, Slots, OneGlobal, OneElem, OneData, store_width, store_touches, range_touches, slot_touches, fill_touches, touched_by, touched_next, touched_levels, nothing, a_global, bytes, slots, an_elem, a_data, WritesTold, ActWrites, StepsWriteWhatTheyTouch}
+use Rattle.wasm_meaning.proofs.Outcomes.{AllOf, ill_typed, stopped, just, cond_all, with_is, with_found, with_within, then_given, then_found, all_at}
 use Rattle.wasm_meaning.proofs.Slices.{slice_length, copies_length}
-
--- P of what is there
-data AllOf {A : Type 0} (P : A → Type 0) : Outcome A → Type 0 where
-  wrong : AllOf P IllTyped
-  stopped : AllOf P Traps
-  just : {a : A} → P a → AllOf P (Gives a)
-
-cond_all : {A : Type 0} {P : A → Type 0} (b : Bool) {x y : Outcome A} → AllOf P x → AllOf P y → AllOf P (cond b x y)
-cond_all true p q = p
-cond_all false p q = q
-
--- with what the first came to
-with_is : {A C : Type 0} {Q : C → Type 0} (o : Outcome A) (f : A → Outcome C) → ((a : A) → o ≡ Gives a → AllOf Q (f a)) → AllOf Q (bind o f)
-with_is Traps f h = stopped
-with_is IllTyped f h = wrong
-with_is (Gives a) f h = h a refl
-
-trapping_is : {A : Type 0} (o : Outcome A) (a : A) → trapping o ≡ Gives a → o ≡ Gives a
-trapping_is (Gives b) a e = e
-trapping_is Traps a e = cc
-trapping_is IllTyped a e = cc
-
-bind_is : {A B : Type 0} {o : Outcome A} {a : A} (f : A → Outcome B) → o ≡ Gives a → bind o f ≡ f a
-bind_is f e = ap (λ x. bind x f) e
 
 stored_length : (o : StoreOp) (n : ℕ) → length (stored o n) ≡ store_width o
 unfolding stored little_bytes
@@ -59,16 +36,15 @@ module _ (env : Env) where
     abbrev All : Outcome Act → Type 0
     All = AllOf (ActWrites env.store o)
 
-    written_all : (h : Body) (a : ℕ) (m : Memory) (place : ℕ) (bs : List ℕ) (vs : List Val) → at env.store.mems a ≡ Gives m → o ≡ Gives (Bytes a place (length bs)) → All (writes h a (written m place bs) vs)
+    written_all : (h : Body) (a : ℕ) (m : Memory) (place : ℕ) (bs : List ℕ) (vs : List Val) → slice_get env.store.mems a ≡ Some m → o ≡ Gives (Bytes a place (length bs)) → All (writes h a (written m place bs) vs)
     written_all h a m place bs vs e t = go (overwrite m.bytes place bs) refl
       where
-        go : (x : Outcome (List ℕ)) → overwrite m.bytes place bs ≡ x → All (writes h a (bind (trapping x) (λ b. Gives (record m { bytes = b }))) vs)
-        go Traps i = stopped
-        go IllTyped i = stopped
-        go (Gives b) i = just (record { told = Bytes a place (length bs); is = t; writes = bytes bs e i refl refl })
+        go : (x : Option (List ℕ)) → overwrite m.bytes place bs ≡ x → All (writes h a (bind (or_trap x) (λ b. Gives (record m { bytes = b }))) vs)
+        go None i = stopped
+        go (Some b) i = just (record { told = Bytes a place (length bs); is = t; writes = bytes bs e i refl refl })
 
-    table_all : (h : Body) (a : ℕ) (t : Table) (place : ℕ) (rs : List RefVal) (vs : List Val) → at env.store.tables a ≡ Gives t → o ≡ Gives (Slots a place (length rs)) → All (writes_table h a t (overwrite t.slots place rs) vs)
-    table_all h a t place rs vs e told = with_is (trapping (overwrite t.slots place rs)) _ (λ ss is. just (record { told = Slots a place (length rs); is = told; writes = slots rs e (trapping_is _ ss is) refl refl }))
+    table_all : (h : Body) (a : ℕ) (t : Table) (place : ℕ) (rs : List RefVal) (vs : List Val) → slice_get env.store.tables a ≡ Some t → o ≡ Gives (Slots a place (length rs)) → All (writes_table h a t (overwrite t.slots place rs) vs)
+    table_all h a t place rs vs e told = with_within (overwrite t.slots place rs) _ (λ ss is. just (record { told = Slots a place (length rs); is = told; writes = slots rs e is refl refl }))
 
   abbrev Quiet : Outcome Act → Type 0
   Quiet = All (Gives Nothing)
@@ -83,56 +59,60 @@ module _ (env : Env) where
   on_values_all h f = with_is (f h.values) _ (λ vs _. just keeps)
 
   local_put_all : (h : Body) (i : ℕ) (v : Val) → Quiet (local_put h i v)
-  local_put_all h i v = with_is (at h.locals i) _ (λ old _. with_is (typed _ v) _ (λ w _. just keeps))
+  local_put_all h i v = with_found (slice_get h.locals i) _ (λ old _. with_is (typed _ v) _ (λ w _. just keeps))
 
-  global_put_all : (o : Outcome Touched) (h : Body) (a : ℕ) (g : Global) (v : Val) → o ≡ Gives (OneGlobal a) → All o (global_put h a g v)
-  global_put_all o h a g v t = cond_all g.ty.mutable (with_is (typed g.ty.ty v) _ (λ w _. just (record { told = OneGlobal a; is = t; writes = a_global }))) wrong
+  global_put_all : (o : Outcome Touched) (h : Body) (a : ℕ) (g : Global) (v : Val) → slice_get env.store.globals a ≡ Some g → o ≡ Gives (OneGlobal a) → All o (global_put h a g v)
+  global_put_all o h a g v e t = go g.ty.mutable refl
+    where
+      go : (b : Bool) → g.ty.mutable ≡ b → All o (cond b (bind (typed g.ty.ty v) (λ w. Gives (Goes (SetGlobal a (record g { value = w })) h))) IllTyped)
+      go false m = ill_typed
+      go true m = with_is (typed g.ty.ty v) _ (λ w _. just (record { told = OneGlobal a; is = t; writes = a_global e m refl }))
 
-  with_memory_all : (o : Outcome Touched) (i : ℕ) (f : ℕ → Memory → Outcome Act) → ((a : ℕ) (m : Memory) → at env.inst.mems i ≡ Gives a → at env.store.mems a ≡ Gives m → All o (f a m)) → All o (with_memory env i f)
-  with_memory_all o i f h = with_is (at env.inst.mems i) _ (λ a j. with_is (at env.store.mems a) _ (λ m e. h a m j e))
+  with_memory_all : (o : Outcome Touched) (i : ℕ) (f : ℕ → Memory → Outcome Act) → ((a : ℕ) (m : Memory) → slice_get env.inst.mems i ≡ Some a → slice_get env.store.mems a ≡ Some m → All o (f a m)) → All o (with_memory env i f)
+  with_memory_all o i f h = with_found (slice_get env.inst.mems i) _ (λ a j. with_found (slice_get env.store.mems a) _ (λ m e. h a m j e))
 
-  with_table_all : (o : Outcome Touched) (i : ℕ) (f : ℕ → Table → Outcome Act) → ((a : ℕ) (t : Table) → at env.inst.tables i ≡ Gives a → at env.store.tables a ≡ Gives t → All o (f a t)) → All o (with_table env i f)
-  with_table_all o i f h = with_is (at env.inst.tables i) _ (λ a j. with_is (at env.store.tables a) _ (λ t e. h a t j e))
+  with_table_all : (o : Outcome Touched) (i : ℕ) (f : ℕ → Table → Outcome Act) → ((a : ℕ) (t : Table) → slice_get env.inst.tables i ≡ Some a → slice_get env.store.tables a ≡ Some t → All o (f a t)) → All o (with_table env i f)
+  with_table_all o i f h = with_found (slice_get env.inst.tables i) _ (λ a j. with_found (slice_get env.store.tables a) _ (λ t e. h a t j e))
 
-  store_all : (h : Body) (so : StoreOp) (offset n a : ℕ) (m : Memory) → at env.inst.mems n ≡ Gives a → at env.store.mems a ≡ Gives m → All (bind (at env.inst.mems n) (λ a. store_touches a offset so h.values)) (store_into h so offset a m)
+  store_all : (h : Body) (so : StoreOp) (offset n a : ℕ) (m : Memory) → slice_get env.inst.mems n ≡ Some a → slice_get env.store.mems a ≡ Some m → All (with_entry env.inst.mems n (λ a. store_touches a offset so h.values)) (store_into h so offset a m)
   store_all h so offset n a m j e =
       with_is (pop_num (store_from so) h.values) _ (λ v is_v. with_is (pop_num W32 v.1) _ (λ p is_p.
-      written_all _ h a m (p.0 + offset) (stored so v.0) p.1 e (bind_is _ j ∙ bind_is _ is_v ∙ bind_is _ is_p ∙ ap (λ k. Gives (Bytes a (p.0 + offset) k)) (sym (stored_length so v.0)))))
+      written_all _ h a m (p.0 + offset) (stored so v.0) p.1 e (then_found _ j ∙ then_given _ is_v ∙ then_given _ is_p ∙ ap (λ k. Gives (Bytes a (p.0 + offset) k)) (sym (stored_length so v.0)))))
 
   grow_memory_all : (h : Body) (a : ℕ) (m : Memory) → Quiet (grow_memory h a m)
   grow_memory_all h a m = with_is (pop_num W32 h.values) _ (λ n _. cond_all (memory_may_grow m n.0) (just refl) (just keeps))
 
-  init_memory_all : (h : Body) (bs : List ℕ) (n a : ℕ) (m : Memory) → at env.inst.mems n ≡ Gives a → at env.store.mems a ≡ Gives m → All (bind (at env.inst.mems n) (λ a. range_touches (Bytes a) h.values)) (init_memory h bs a m)
+  init_memory_all : (h : Body) (bs : List ℕ) (n a : ℕ) (m : Memory) → slice_get env.inst.mems n ≡ Some a → slice_get env.store.mems a ≡ Some m → All (with_entry env.inst.mems n (λ a. range_touches (Bytes a) h.values)) (init_memory h bs a m)
   init_memory_all h bs n a m j e =
-      with_is (pop_three h.values) _ (λ p is_p. with_is (trapping (slice bs p.0.1 p.0.2)) _ (λ b is_b.
-      written_all _ h a m p.0.0 b p.1 e (bind_is _ j ∙ bind_is _ is_p ∙ ap (λ k. Gives (Bytes a p.0.0 k)) (sym (slice_length bs p.0.1 p.0.2 b (trapping_is _ b is_b))))))
+      with_is (pop_three h.values) _ (λ p is_p. with_within (slice bs p.0.1 p.0.2) _ (λ b is_b.
+      written_all _ h a m p.0.0 b p.1 e (then_found _ j ∙ then_given _ is_p ∙ ap (λ k. Gives (Bytes a p.0.0 k)) (sym (slice_length bs p.0.1 p.0.2 b is_b)))))
 
-  fill_memory_all : (h : Body) (n a : ℕ) (m : Memory) → at env.inst.mems n ≡ Gives a → at env.store.mems a ≡ Gives m → All (bind (at env.inst.mems n) (λ a. range_touches (Bytes a) h.values)) (fill_memory h a m)
+  fill_memory_all : (h : Body) (n a : ℕ) (m : Memory) → slice_get env.inst.mems n ≡ Some a → slice_get env.store.mems a ≡ Some m → All (with_entry env.inst.mems n (λ a. range_touches (Bytes a) h.values)) (fill_memory h a m)
   fill_memory_all h n a m j e =
-      with_is (pop_three h.values) _ (λ p is_p. written_all _ h a m p.0.0 _ p.1 e (bind_is _ j ∙ bind_is _ is_p ∙ ap (λ k. Gives (Bytes a p.0.0 k)) (sym (copies_length p.0.2 _))))
+      with_is (pop_three h.values) _ (λ p is_p. written_all _ h a m p.0.0 _ p.1 e (then_found _ j ∙ then_given _ is_p ∙ ap (λ k. Gives (Bytes a p.0.0 k)) (sym (copies_length p.0.2 _))))
 
   get_slot_all : (h : Body) (a : ℕ) (t : Table) → Quiet (get_slot h a t)
-  get_slot_all h a t = with_is (pop_num W32 h.values) _ (λ i _. with_is (trapping (at t.slots i.0)) _ (λ r _. just keeps))
+  get_slot_all h a t = with_is (pop_num W32 h.values) _ (λ i _. with_within (slice_get t.slots i.0) _ (λ r _. just keeps))
 
-  set_slot_all : (h : Body) (n a : ℕ) (t : Table) → at env.inst.tables n ≡ Gives a → at env.store.tables a ≡ Gives t → All (bind (at env.inst.tables n) (λ a. slot_touches a h.values)) (set_slot h a t)
+  set_slot_all : (h : Body) (n a : ℕ) (t : Table) → slice_get env.inst.tables n ≡ Some a → slice_get env.store.tables a ≡ Some t → All (with_entry env.inst.tables n (λ a. slot_touches a h.values)) (set_slot h a t)
   set_slot_all h n a t j e =
-      with_is (pop_ref h.values) _ (λ r is_r. with_is (fits t r.0) _ (λ v _. with_is (pop_num W32 r.1) _ (λ i is_i. table_all _ h a t i.0 (v ∷ []) i.1 e (bind_is _ j ∙ bind_is _ is_r ∙ bind_is _ is_i))))
+      with_is (pop_ref h.values) _ (λ r is_r. with_is (fits t r.0) _ (λ v _. with_is (pop_num W32 r.1) _ (λ i is_i. table_all _ h a t i.0 (v ∷ []) i.1 e (then_found _ j ∙ then_given _ is_r ∙ then_given _ is_i))))
 
   grow_table_all : (h : Body) (a : ℕ) (t : Table) → Quiet (grow_table h a t)
   grow_table_all h a t = with_is (pop_num W32 h.values) _ (λ n _. with_is (pop_ref n.1) _ (λ r _. with_is (fits t r.0) _ (λ v _. cond_all (table_may_grow t n.0) (just refl) (just keeps))))
 
-  fill_table_all : (h : Body) (n a : ℕ) (t : Table) → at env.inst.tables n ≡ Gives a → at env.store.tables a ≡ Gives t → All (bind (at env.inst.tables n) (λ a. fill_touches a h.values)) (fill_table h a t)
+  fill_table_all : (h : Body) (n a : ℕ) (t : Table) → slice_get env.inst.tables n ≡ Some a → slice_get env.store.tables a ≡ Some t → All (with_entry env.inst.tables n (λ a. fill_touches a h.values)) (fill_table h a t)
   fill_table_all h n a t j e =
       with_is (pop_num W32 h.values) _ (λ k is_k. with_is (pop_ref k.1) _ (λ r is_r. with_is (fits t r.0) _ (λ v _. with_is (pop_num W32 r.1) _ (λ d is_d.
-      table_all _ h a t d.0 (copies k.0 v) d.1 e (bind_is _ j ∙ bind_is _ is_k ∙ bind_is _ is_r ∙ bind_is _ is_d ∙ ap (λ x. Gives (Slots a d.0 x)) (sym (copies_length k.0 v)))))))
+      table_all _ h a t d.0 (copies k.0 v) d.1 e (then_found _ j ∙ then_given _ is_k ∙ then_given _ is_r ∙ then_given _ is_d ∙ ap (λ x. Gives (Slots a d.0 x)) (sym (copies_length k.0 v)))))))
 
-  init_table_all : (h : Body) (items : List RefVal) (n a : ℕ) (t : Table) → at env.inst.tables n ≡ Gives a → at env.store.tables a ≡ Gives t → All (bind (at env.inst.tables n) (λ a. range_touches (Slots a) h.values)) (init_table h items a t)
+  init_table_all : (h : Body) (items : List RefVal) (n a : ℕ) (t : Table) → slice_get env.inst.tables n ≡ Some a → slice_get env.store.tables a ≡ Some t → All (with_entry env.inst.tables n (λ a. range_touches (Slots a) h.values)) (init_table h items a t)
   init_table_all h items n a t j e =
-      with_is (pop_three h.values) _ (λ p is_p. with_is (trapping (slice items p.0.1 p.0.2)) _ (λ b is_b.
-      table_all _ h a t p.0.0 b p.1 e (bind_is _ j ∙ bind_is _ is_p ∙ ap (λ k. Gives (Slots a p.0.0 k)) (sym (slice_length items p.0.1 p.0.2 b (trapping_is _ b is_b))))))
+      with_is (pop_three h.values) _ (λ p is_p. with_within (slice items p.0.1 p.0.2) _ (λ b is_b.
+      table_all _ h a t p.0.0 b p.1 e (then_found _ j ∙ then_given _ is_p ∙ ap (λ k. Gives (Slots a p.0.0 k)) (sym (slice_length items p.0.1 p.0.2 b is_b)))))
 
   call_slot_all : (h : Body) (ty : ℕ) (t : Table) → Quiet (call_slot env h ty t)
-  call_slot_all h ty t = with_is (pop_num W32 h.values) _ (λ i _. with_is (trapping (at t.slots i.0)) _ (λ r _. with_is (func_ref r) _ (λ a _. with_is (type_at env.store a) _ (λ f _. with_is (at env.inst.types ty) _ (λ u _. cond_all _ (just refl) stopped)))))
+  call_slot_all h ty t = with_is (pop_num W32 h.values) _ (λ i _. with_within (slice_get t.slots i.0) _ (λ r _. with_is (func_ref r) _ (λ a _. with_found (type_at env.store a) _ (λ f _. with_found (slice_get env.inst.types ty) _ (λ u _. cond_all _ (just refl) stopped)))))
 
   -- ---- control ----
 
@@ -141,16 +121,16 @@ module _ (env : Env) where
   resume_all h vs c (l ∷ ls) = just keeps
 
   end_level_all : (h : Body) → Quiet (end_level h)
-  end_level_all h = with_is (split_at h.gives h.values) _ (λ p _. resume_all h p.0 [] h.outer)
+  end_level_all h = with_found (split_at h.gives h.values) _ (λ p _. resume_all h p.0 [] h.outer)
 
   branch_all : (h : Body) (n : ℕ) → Quiet (branch h n)
-  branch_all h n = with_is (at (level_here h ∷ h.outer) n) _ (λ t _. with_is (split_at t.takes h.values) _ (λ p _. resume_all h p.0 t.back (drop n h.outer)))
+  branch_all h n = with_found (slice_get (level_here h ∷ h.outer) n) _ (λ t _. with_found (split_at t.takes h.values) _ (λ p _. resume_all h p.0 t.back (drop n h.outer)))
 
   open_level_all : (h : Body) (vs : List Val) (params : List ValType) (gives takes : ℕ) (body back : List Instr) → Quiet (open_level h vs params gives takes body back)
   open_level_all h vs params gives takes body back = with_is (pop_typed params vs) _ (λ p _. just keeps)
 
   open_block_all : (h : Body) (vs : List Val) (b : BlockType) (body : List Instr) → Quiet (open_block env h vs b body)
-  open_block_all h vs b body = with_is (shape_of env.inst b) _ (λ t _. open_level_all h vs t.params (length t.results) (length t.results) body [])
+  open_block_all h vs b body = with_found (shape_of env.inst b) _ (λ t _. open_level_all h vs t.params (length t.results) (length t.results) body [])
 
   -- ---- every instruction ----
 
@@ -158,22 +138,22 @@ module _ (env : Env) where
   exec_all Instr-F.Unreachable h = stopped
   exec_all Instr-F.Nop h = just keeps
   exec_all (Instr-F.Block b c) h = open_block_all h h.values b c
-  exec_all (Instr-F.Loop b c) h = with_is (shape_of env.inst b) _ (λ t _. open_level_all h h.values t.params (length t.results) (length t.params) c _)
+  exec_all (Instr-F.Loop b c) h = with_found (shape_of env.inst b) _ (λ t _. open_level_all h h.values t.params (length t.results) (length t.params) c _)
   exec_all (Instr-F.If b c d) h = with_is (pop_num W32 h.values) _ (λ p _. open_block_all h p.1 b _)
   exec_all (Instr-F.Br n) h = branch_all h n
   exec_all (Instr-F.BrIf n) h = with_is (pop_num W32 h.values) _ (λ p _. cond_all (nat_eq p.0 0) (just keeps) (branch_all (with_values h p.1) n))
   exec_all (Instr-F.BrTable ns last) h = with_is (pop_num W32 h.values) _ (λ p _. branch_all (with_values h p.1) _)
   exec_all Instr-F.Return h = just refl
-  exec_all (Instr-F.Call n) h = with_is (at env.inst.funcs n) _ (λ a _. just refl)
+  exec_all (Instr-F.Call n) h = with_found (slice_get env.inst.funcs n) _ (λ a _. just refl)
   exec_all (Instr-F.CallIndirect t n) h = with_table_all _ n _ (λ a u _ _. call_slot_all h t u)
   exec_all Instr-F.Drop h = with_is (pop h.values) _ (λ p _. just keeps)
   exec_all Instr-F.Select h = on_values_all h select_any
   exec_all (Instr-F.SelectTyped ts) h = on_values_all h (select_typed ts)
-  exec_all (Instr-F.LocalGet n) h = with_is (at h.locals n) _ (λ v _. just keeps)
+  exec_all (Instr-F.LocalGet n) h = with_found (slice_get h.locals n) _ (λ v _. just keeps)
   exec_all (Instr-F.LocalSet n) h = with_is (pop h.values) _ (λ p _. local_put_all (with_values h p.1) n p.0)
   exec_all (Instr-F.LocalTee n) h = with_is (pop h.values) _ (λ p _. local_put_all h n p.0)
-  exec_all (Instr-F.GlobalGet n) h = with_is (at env.inst.globals n) _ (λ a _. with_is (at env.store.globals a) _ (λ g _. just keeps))
-  exec_all (Instr-F.GlobalSet n) h = with_is (at env.inst.globals n) _ (λ a j. with_is (at env.store.globals a) _ (λ g _. with_is (pop h.values) _ (λ p _. global_put_all _ (with_values h p.1) a g p.0 (bind_is _ j))))
+  exec_all (Instr-F.GlobalGet n) h = with_found (slice_get env.inst.globals n) _ (λ a _. with_found (slice_get env.store.globals a) _ (λ g _. just keeps))
+  exec_all (Instr-F.GlobalSet n) h = with_found (slice_get env.inst.globals n) _ (λ a j. with_found (slice_get env.store.globals a) _ (λ g e. with_is (pop h.values) _ (λ p _. global_put_all _ (with_values h p.1) a g p.0 e (then_found _ j))))
   exec_all (Instr-F.TableGet n) h = with_table_all _ n _ (λ a t _ _. get_slot_all h a t)
   exec_all (Instr-F.TableSet n) h = with_table_all _ n _ (λ a t j e. set_slot_all h n a t j e)
   exec_all (Instr-F.Load o arg) h = with_memory_all _ _ _ (λ a m _ _. on_values_all h (load_from m o arg.offset))
@@ -186,13 +166,13 @@ module _ (env : Env) where
   exec_all (Instr-F.Bin o) h = on_values_all h (binary o)
   exec_all (Instr-F.RefNull t) h = just keeps
   exec_all Instr-F.RefIsNull h = on_values_all h ref_is_null
-  exec_all (Instr-F.RefFunc n) h = with_is (at env.inst.funcs n) _ (λ a _. just keeps)
-  exec_all (Instr-F.MemoryInit s n) h = with_is (at env.inst.datas s) _ (λ d _. with_is (at env.store.datas d) _ (λ d _. with_memory_all _ n _ (λ a m j e. init_memory_all h d.bytes n a m j e)))
-  exec_all (Instr-F.DataDrop n) h = with_is (at env.inst.datas n) _ (λ a j. just (record { told = OneData a; is = bind_is _ j; writes = a_data }))
+  exec_all (Instr-F.RefFunc n) h = with_found (slice_get env.inst.funcs n) _ (λ a _. just keeps)
+  exec_all (Instr-F.MemoryInit s n) h = with_found (slice_get env.inst.datas s) _ (λ d _. with_found (slice_get env.store.datas d) _ (λ d _. with_memory_all _ n _ (λ a m j e. init_memory_all h d.bytes n a m j e)))
+  exec_all (Instr-F.DataDrop n) h = with_found (slice_get env.inst.datas n) _ (λ a j. just (record { told = OneData a; is = then_found _ j; writes = a_data }))
   exec_all (Instr-F.MemoryCopy n m) h = with_memory_all _ m _ (λ b source _ _. with_memory_all _ n _ (λ a m j e. init_memory_all h source.bytes n a m j e))
   exec_all (Instr-F.MemoryFill n) h = with_memory_all _ n _ (λ a m j e. fill_memory_all h n a m j e)
-  exec_all (Instr-F.TableInit s n) h = with_is (at env.inst.elems s) _ (λ d _. with_is (at env.store.elems d) _ (λ d _. with_table_all _ n _ (λ a t j e. init_table_all h d.items n a t j e)))
-  exec_all (Instr-F.ElemDrop n) h = with_is (at env.inst.elems n) _ (λ a j. just (record { told = OneElem a; is = bind_is _ j; writes = an_elem }))
+  exec_all (Instr-F.TableInit s n) h = with_found (slice_get env.inst.elems s) _ (λ d _. with_found (slice_get env.store.elems d) _ (λ d _. with_table_all _ n _ (λ a t j e. init_table_all h d.items n a t j e)))
+  exec_all (Instr-F.ElemDrop n) h = with_found (slice_get env.inst.elems n) _ (λ a j. just (record { told = OneElem a; is = then_found _ j; writes = an_elem }))
   exec_all (Instr-F.TableCopy n m) h = with_table_all _ m _ (λ b source _ _. with_table_all _ n _ (λ a t j e. init_table_all h source.slots n a t j e))
   exec_all (Instr-F.TableGrow n) h = with_table_all _ n _ (λ a t _ _. grow_table_all h a t)
   exec_all (Instr-F.TableSize n) h = with_table_all _ n _ (λ a t _ _. just keeps)
@@ -203,17 +183,11 @@ module _ (env : Env) where
   code_all h (i ∷ is) = exec_all (out-Instr i) (record h { rest = is })
 
   levels_all : (locals : List Val) (ls : List Level) → All (touched_levels env ls) (step_levels env locals ls)
-  levels_all locals [] = wrong
+  levels_all locals [] = ill_typed
   levels_all locals (l ∷ ls) = code_all (record { locals = locals; values = l.values; rest = []; gives = l.gives; takes = l.takes; back = l.back; outer = ls }) l.code
 
-there : {A : Type 0} {P : A → Type 0} {o : Outcome A} (a : A) → AllOf P o → o ≡ Gives a → P a
-there {P = P} a h e = go (subst (AllOf P) e h)
-  where
-    go : AllOf P (Gives a) → P a
-    go (just p) = p
-
 pub steps_write : StepsWriteWhatTheyTouch
-steps_write s f x e = there x (levels_all (record { store = s; inst = f.inst }) f.locals f.levels) e
+steps_write s f x e = all_at (levels_all (record { store = s; inst = f.inst }) f.locals f.levels) e
 
 -- ---- what is told of a few instructions ----
 

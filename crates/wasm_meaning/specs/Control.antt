@@ -8,7 +8,7 @@ use Rattle.wasm_tree.specs.declared.types.BlockType.{BlockType}
 use Rattle.wasm_tree.specs.declared.types.BlockType.TheVariants as bt
 use Rattle.wasm_tree.specs.declared.instr.Instr.{Instr}
 use Rattle.wasm_tree.specs.declared.instr.Instr.TheVariants as i
-use Rattle.wasm_meaning.specs.Outcomes.{Outcome, Gives, Traps, IllTyped, trapping, or_trap, given, bind, at, onto, split_at}
+use Rattle.wasm_meaning.specs.Outcomes.{Outcome, Gives, Traps, IllTyped, or_trap, bind, onto, split_at, or_ill_typed, with_entry}
 use Rattle.wasm_num.specs.Operations.{W32}
 use Rattle.wasm_meaning.specs.State.{Pair, RefVal, FuncRef, ExternRef, Val, Inst, Func, Code, Own, Placeholder, Table, Store, Level, Env, Body, Act, Calls, Ends}
 use Rattle.wasm_meaning.specs.Values.{pop_num, pop_typed, go, with_values}
@@ -26,16 +26,16 @@ own_of (Own p t) = Some (p, t)
 own_of _ = None
 
 abbrev pub own_at : Store → ℕ → Option (Pair × FuncType)
-own_at s a = given (at s.funcs a) >>= own_of
+own_at s a = slice_get s.funcs a >>= own_of
 
-abbrev pub type_at : Store → ℕ → Outcome FuncType
-type_at s a = bind (at s.funcs a) (λ f. Gives (type_of_func f))
+abbrev pub type_at : Store → ℕ → Option FuncType
+type_at s a = slice_get s.funcs a >>= λ f. Some (type_of_func f)
 
 abbrev pub call_address : Body → ℕ → Outcome Act
 call_address h a = Gives (Calls a h.values h)
 
 abbrev pub call : Env → Body → ℕ → Outcome Act
-call env h i = bind (at env.inst.funcs i) (call_address h)
+call env h i = with_entry env.inst.funcs i (call_address h)
 
 abbrev pub func_ref : RefVal → Outcome ℕ
 func_ref (FuncRef r) = or_trap r
@@ -46,7 +46,7 @@ call_checked h vs a f t = cond (same_func_type t f) (Gives (Calls a vs h)) Traps
 
 abbrev pub call_slot : Env → Body → ℕ → Table → Outcome Act
 call_slot env h ty t =
-    bind (pop_num W32 h.values) (λ i. bind (trapping (at t.slots i.0)) (λ r. bind (func_ref r) (λ a. bind (type_at env.store a) (λ f. bind (at env.inst.types ty) (call_checked h i.1 a f)))))
+    bind (pop_num W32 h.values) (λ i. bind (or_trap (slice_get t.slots i.0)) (λ r. bind (func_ref r) (λ a. bind (or_ill_typed (type_at env.store a)) (λ f. with_entry env.inst.types ty (call_checked h i.1 a f)))))
 
 abbrev pub call_indirect : Env → Body → (ty table : ℕ) → Outcome Act
 call_indirect env h ty table = with_table env table (λ a t. call_slot env h ty t)
@@ -64,13 +64,13 @@ resume h vs c (l ∷ ls) = Gives (go (record h { values = vs ++ l.values; rest =
 
 -- a level ends with as many values as it gives, which are on top
 abbrev pub end_level : Body → Outcome Act
-end_level h = bind (split_at h.gives h.values) (λ p. resume h p.0 [] h.outer)
+end_level h = bind (or_ill_typed (split_at h.gives h.values)) (λ p. resume h p.0 [] h.outer)
 
 abbrev pub level_here : Body → Level
 level_here h = record { values = h.values; code = h.rest; gives = h.gives; takes = h.takes; back = h.back }
 
 abbrev pub branch : Body → ℕ → Outcome Act
-branch h n = bind (at (level_here h ∷ h.outer) n) (λ t. bind (split_at t.takes h.values) (λ p. resume h p.0 t.back (drop n h.outer)))
+branch h n = with_entry (level_here h ∷ h.outer) n (λ t. bind (or_ill_typed (split_at t.takes h.values)) (λ p. resume h p.0 t.back (drop n h.outer)))
 
 -- a branch where the number on top is not 0; where it is, the label is not looked at
 abbrev pub branch_if : Body → ℕ → Outcome Act
@@ -82,10 +82,10 @@ branch_table h ns last = bind (pop_num W32 h.values) (λ p. branch (with_values 
 
 -- ---- blocks ----
 
-abbrev pub shape_of : Inst → BlockType → Outcome FuncType
-shape_of i bt.Empty = Gives (record { params = []; results = [] })
-shape_of i (bt.Value t) = Gives (record { params = []; results = t ∷ [] })
-shape_of i (bt.Index n) = at i.types n
+abbrev pub shape_of : Inst → BlockType → Option FuncType
+shape_of i bt.Empty = Some (record { params = []; results = [] })
+shape_of i (bt.Value t) = Some (record { params = []; results = t ∷ [] })
+shape_of i (bt.Index n) = slice_get i.types n
 
 -- a level is opened with the values of these types; it gives so many at its end, and a branch to it takes so many and begins this code
 abbrev pub open_level : Body → List Val → (params : List ValType) → (gives takes : ℕ) → (body back : List Instr) → Outcome Act
@@ -93,10 +93,10 @@ open_level h vs params gives takes body back =
     bind (pop_typed params vs) (λ p. Gives (go (record h { values = onto p.0 []; rest = body; gives = gives; takes = takes; back = back; outer = level_here (with_values h p.1) ∷ h.outer })))
 
 abbrev pub open_block : Env → Body → List Val → BlockType → List Instr → Outcome Act
-open_block env h vs b body = bind (shape_of env.inst b) (λ t. open_level h vs t.params (length t.results) (length t.results) body [])
+open_block env h vs b body = bind (or_ill_typed (shape_of env.inst b)) (λ t. open_level h vs t.params (length t.results) (length t.results) body [])
 
 abbrev pub open_loop : Env → Body → BlockType → List Instr → Outcome Act
-open_loop env h b body = bind (shape_of env.inst b) (λ t. open_level h h.values t.params (length t.results) (length t.params) body (i.Loop b body ∷ []))
+open_loop env h b body = bind (or_ill_typed (shape_of env.inst b)) (λ t. open_level h h.values t.params (length t.results) (length t.params) body (i.Loop b body ∷ []))
 
 abbrev pub open_if : Env → Body → BlockType → (body other : List Instr) → Outcome Act
 open_if env h b body other = bind (pop_num W32 h.values) (λ p. open_block env h p.1 b (cond (nat_eq p.0 0) other body))

@@ -10,7 +10,6 @@ use Rattle.wasm_tree.specs.declared.types.Limits.{Limits}
 use Rattle.wasm_tree.specs.declared.types.GlobalType.{GlobalType}
 use Rattle.wasm_num.specs.Operations.{W32, W64}
 use Rattle.base_lists.specs.Options.{◌>>=◌}
-use Rattle.wasm_meaning.specs.Outcomes.{given}
 use Rattle.wasm_meaning.specs.State.{Pair, RefVal, FuncRef, ExternRef, Val, Num, Ref, Func, Own, Table, Memory, Global}
 use Rattle.wasm_meaning.specs.Values.{ref_of}
 use Rattle.wasm_tree.specs.SameTypes.{same_func_type}
@@ -180,7 +179,7 @@ received owned shown (valt.Ref reft.Extern) (ExternNumber n) = Some (Ref (Extern
 received owned shown _ _ = None
 
 abbrev pub received_ref : Owned → (shown : List ℕ) → RefType → Shown → Option RefVal
-received_ref owned shown ty x = received owned shown (valt.Ref ty) x >>= λ v. given (ref_of v)
+received_ref owned shown ty x = received owned shown (valt.Ref ty) x >>= ref_of
 
 -- one value for each type
 abbrev pub received_all : Owned → (shown : List ℕ) → List ValType → List Shown → Option (List Val)

@@ -9,7 +9,7 @@ use Rattle.wasm_tree.specs.declared.types.FuncType.{FuncType}
 use Rattle.wasm_tree.specs.declared.module.Import.{Import}
 use Rattle.wasm_tree.specs.declared.module.ExportDesc.{ExportDesc}
 use Rattle.wasm_tree.specs.declared.module.Module.{Module}
-use Rattle.wasm_meaning.specs.Outcomes.{Outcome, Gives, Traps, bind, at}
+use Rattle.wasm_meaning.specs.Outcomes.{Outcome, Gives, Traps, bind, or_ill_typed, with_entry}
 use Rattle.wasm_meaning.specs.State.{Text, Pair, Val, Inst, Func, Placeholder, Store, Entry, Next, CallsPlaceholder}
 use Rattle.wasm_tree.specs.SameTypes.{same_func_type}
 use Rattle.wasm_meaning.specs.Tables.{with_table}
@@ -91,12 +91,12 @@ store_loaded w i m false s = or_trapped s (secondary_added w i m s >>= λ a. Som
 
 -- a function of another type is not called
 abbrev pub called_as : FuncType → Store → ℕ → List Val → List Entry → Outcome Next
-called_as t s f vs es = bind (type_at s f) (λ u. cond (same_func_type t u) (enter_at s f vs es) Traps)
+called_as t s f vs es = bind (or_ill_typed (type_at s f)) (λ u. cond (same_func_type t u) (enter_at s f vs es) Traps)
 
 -- the function in the slot is called with the arguments of the placeholder; where a placeholder still stands there, the call of that one traps (`after`)
 abbrev pub slot_called : LoaderWorld → Inst → (slot : ℕ) → List Val → List Entry → Store → Outcome Next
 slot_called w i slot vs es s =
-    bind (at (placeholders_of w) slot) (λ p. with_table (record { store = s; inst = i }) w.slot_table (λ a t. bind (at t.slots slot) (λ r. bind (func_ref r) (λ f. called_as p.1 s f vs es))))
+    with_entry (placeholders_of w) slot (λ p. with_table (record { store = s; inst = i }) w.slot_table (λ a t. with_entry t.slots slot (λ r. bind (func_ref r) (λ f. called_as p.1 s f vs es))))
 
 -- ---- runs ----
 

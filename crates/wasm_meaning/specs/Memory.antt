@@ -4,7 +4,7 @@ use Rattle.std.specs.Prelude.{nat_lt}
 use Rattle.wasm_tree.specs.declared.instr.LoadOp.{LoadOp}
 use Rattle.wasm_tree.specs.declared.instr.StoreOp.{StoreOp}
 use Rattle.wasm_tree.specs.declared.instr.MemArg.{MemArg}
-use Rattle.wasm_meaning.specs.Outcomes.{Outcome, Gives, trapping, bind, at, slice, overwrite, copies}
+use Rattle.wasm_meaning.specs.Outcomes.{Outcome, Gives, bind, slice, overwrite, copies, or_trap, with_entry}
 use Rattle.wasm_num.specs.Operations.{W32}
 use Rattle.wasm_meaning.specs.Access.{load_to, load_width, loaded, store_from, stored}
 use Rattle.wasm_meaning.specs.State.{Val, Num, Memory, Env, Body, GrowMemory, SetMemory, DropData, Act, Goes, AsksGrow}
@@ -12,14 +12,14 @@ use Rattle.wasm_meaning.specs.Values.{pop_num, with_values, on_values, pushes}
 
 -- the memory with other bytes from a place on; a trap where they pass its end
 abbrev pub written : Memory → ℕ → List ℕ → Outcome Memory
-written m place bytes = bind (trapping (overwrite m.bytes place bytes)) (λ b. Gives (record m { bytes = b }))
+written m place bytes = bind (or_trap (overwrite m.bytes place bytes)) (λ b. Gives (record m { bytes = b }))
 
 abbrev pub load_from : Memory → LoadOp → ℕ → List Val → Outcome (List Val)
-load_from m o offset vs = bind (pop_num W32 vs) (λ a. bind (trapping (slice m.bytes (a.0 + offset) (load_width o))) (λ bytes. Gives (Num (load_to o) (loaded o bytes) ∷ a.1)))
+load_from m o offset vs = bind (pop_num W32 vs) (λ a. bind (or_trap (slice m.bytes (a.0 + offset) (load_width o))) (λ bytes. Gives (Num (load_to o) (loaded o bytes) ∷ a.1)))
 
 -- the memory of this index: its address and what it holds
 abbrev pub with_memory : {B : Type 0} → Env → ℕ → (ℕ → Memory → Outcome B) → Outcome B
-with_memory env i f = bind (at env.inst.mems i) (λ a. bind (at env.store.mems a) (f a))
+with_memory env i f = with_entry env.inst.mems i (λ a. with_entry env.store.mems a (f a))
 
 abbrev pub load : Env → Body → LoadOp → MemArg → Outcome Act
 load env h o arg = with_memory env arg.memory (λ a m. on_values h (load_from m o arg.offset))
@@ -57,13 +57,13 @@ pop_three vs = bind (pop_num W32 vs) (λ n. bind (pop_num W32 n.1) (λ s. bind (
 
 -- a part of these bytes is written: they are a segment's, or for memory.copy those of its source before the write
 abbrev pub init_memory : Body → List ℕ → ℕ → Memory → Outcome Act
-init_memory h bytes a m = bind (pop_three h.values) (λ p. bind (trapping (slice bytes p.0.1 p.0.2)) (λ b. writes h a (written m p.0.0 b) p.1))
+init_memory h bytes a m = bind (pop_three h.values) (λ p. bind (or_trap (slice bytes p.0.1 p.0.2)) (λ b. writes h a (written m p.0.0 b) p.1))
 
 abbrev pub memory_init : Env → Body → (segment memory : ℕ) → Outcome Act
-memory_init env h s i = bind (at env.inst.datas s) (λ d. bind (at env.store.datas d) (λ d. with_memory env i (init_memory h d.bytes)))
+memory_init env h s i = with_entry env.inst.datas s (λ d. with_entry env.store.datas d (λ d. with_memory env i (init_memory h d.bytes)))
 
 abbrev pub data_drop : Env → Body → ℕ → Outcome Act
-data_drop env h s = bind (at env.inst.datas s) (λ a. Gives (Goes (DropData a) h))
+data_drop env h s = with_entry env.inst.datas s (λ a. Gives (Goes (DropData a) h))
 
 abbrev pub memory_copy : Env → Body → (to source : ℕ) → Outcome Act
 memory_copy env h i j = with_memory env j (λ b source. with_memory env i (init_memory h source.bytes))

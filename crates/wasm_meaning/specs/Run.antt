@@ -8,7 +8,7 @@ use Rattle.wasm_tree.specs.declared.types.ValType.{ValType}
 use Rattle.wasm_tree.specs.declared.types.FuncType.{FuncType}
 use Rattle.wasm_num.specs.Operations.{W32}
 use Rattle.base_lists.specs.Options.{◌>>=◌}
-use Rattle.wasm_meaning.specs.Outcomes.{Outcome, Gives, Traps, IllTyped, given, at, overwrite, copies}
+use Rattle.wasm_meaning.specs.Outcomes.{Outcome, Gives, Traps, IllTyped, overwrite, copies}
 use Rattle.wasm_meaning.specs.State.{Text, Pair, RefVal, FuncRef, ExternRef, Val, Num, Ref, Table, Memory, Store, Change, SetGlobal, SetMemory, SetTable, Growth, GrowMemory, GrowTable, Entry, Running, Caller, Host, Starter, Mark, Opening, Waiting, Ended, Growing, Next, Ran, CallsOwn, WaitsGrowth, CallsPlaceholder, EndsCall}
 use Rattle.wasm_meaning.specs.Values.{null_of}
 use Rattle.wasm_meaning.specs.Memory.{memory_may_grow}
@@ -125,7 +125,7 @@ abbrev pub trapped_at : Run → Caller → List Entry → Out
 trapped_at r Host es = (record r { entries = es }, Some Trapped)
 trapped_at r Starter es = (record r { entries = []; phase = Closed }, Some InstanceTrapped)
 
--- where there is a mark; no run is known to come to the second line (not proved)
+-- to the nearest mark; where the stack has none, which is ill typed, everything is removed
 abbrev pub trapped_to : Run → Outcome (Caller × List Entry) → Out
 trapped_to r (Gives w) = trapped_at r w.0 w.1
 trapped_to r _ = (record r { entries = [] }, Some Trapped)
@@ -162,7 +162,7 @@ made (Makes o) = o
 
 -- a function is called over these entries, with values of its types
 abbrev pub called : Run → List Entry → List Shown → ℕ → Option Transition
-called r es xs a = given (type_at r.store a) >>= λ t. received_all r.owned r.shown t.params xs >>= λ vs. Some (Steps r (enter_at r.store a vs es))
+called r es xs a = type_at r.store a >>= λ t. received_all r.owned r.shown t.params xs >>= λ vs. Some (Steps r (enter_at r.store a vs es))
 
 -- the answer goes to the frame that waits; where the embedder itself made the call, that call ends with it at the next step
 abbrev pub is_mark : List Entry → Bool
@@ -191,8 +191,8 @@ with_change r c = record r { store = changed r.store c }
 
 -- the old size is the result
 abbrev pub granted : Run → Growth → List Entry → Option Transition
-granted r (GrowMemory a n) es = given (at r.store.mems a) >>= λ m. Some (delivered (with_change r (SetMemory a (grown_memory m n))) (Num W32 m.pages ∷ []) es)
-granted r (GrowTable a n v) es = given (at r.store.tables a) >>= λ t. Some (delivered (with_change r (SetTable a (grown_table t n v))) (Num W32 (length t.slots) ∷ []) es)
+granted r (GrowMemory a n) es = slice_get r.store.mems a >>= λ m. Some (delivered (with_change r (SetMemory a (grown_memory m n))) (Num W32 m.pages ∷ []) es)
+granted r (GrowTable a n v) es = slice_get r.store.tables a >>= λ t. Some (delivered (with_change r (SetTable a (grown_table t n v))) (Num W32 (length t.slots) ∷ []) es)
 
 -- while a growth waits no other move is taken
 abbrev pub decided : Run → Move → Growth → List Entry → Option Transition
@@ -206,16 +206,16 @@ shows r v = let x = show r.store r.shown v in Some (Makes (record r { shown = x.
 -- a global has the one index 0
 abbrev pub got : Run → Thing → ℕ → Option Transition
 got r (FuncAt a) n = None
-got r (TableAt a) n = given (at r.store.tables a) >>= λ t. slice_get t.slots n >>= λ v. shows r (Ref v)
-got r (MemoryAt a) n = given (at r.store.mems a) >>= λ m. slice_get m.bytes n >>= λ b. shows r (Num W32 b)
-got r (GlobalAt a) n = given (at r.store.globals a) >>= λ g. cond (nat_eq n 0) (shows r g.value) None
+got r (TableAt a) n = slice_get r.store.tables a >>= λ t. slice_get t.slots n >>= λ v. shows r (Ref v)
+got r (MemoryAt a) n = slice_get r.store.mems a >>= λ m. slice_get m.bytes n >>= λ b. shows r (Num W32 b)
+got r (GlobalAt a) n = slice_get r.store.globals a >>= λ g. cond (nat_eq n 0) (shows r g.value) None
 
 -- in entries, in pages, or 1
 abbrev pub size_of : Run → Thing → Option Transition
 size_of r (FuncAt a) = None
-size_of r (TableAt a) = given (at r.store.tables a) >>= λ t. shows r (Num W32 (length t.slots))
-size_of r (MemoryAt a) = given (at r.store.mems a) >>= λ m. shows r (Num W32 m.pages)
-size_of r (GlobalAt a) = given (at r.store.globals a) >>= λ g. shows r (Num W32 1)
+size_of r (TableAt a) = slice_get r.store.tables a >>= λ t. shows r (Num W32 (length t.slots))
+size_of r (MemoryAt a) = slice_get r.store.mems a >>= λ m. shows r (Num W32 m.pages)
+size_of r (GlobalAt a) = slice_get r.store.globals a >>= λ g. shows r (Num W32 1)
 
 abbrev pub does : Run → Change → Option Transition
 does r c = Some (Makes (with_change r c, Some Done))
@@ -227,16 +227,16 @@ byte_of _ = None
 abbrev pub set : Run → Thing → ℕ → Shown → Option Transition
 set r (FuncAt a) n x = None
 set r (TableAt a) n x =
-    given (at r.store.tables a) >>= λ t. received_ref r.owned r.shown t.ty x >>= λ v. given (overwrite t.slots n (v ∷ [])) >>= λ slots. does r (SetTable a (record t { slots = slots }))
+    slice_get r.store.tables a >>= λ t. received_ref r.owned r.shown t.ty x >>= λ v. overwrite t.slots n (v ∷ []) >>= λ slots. does r (SetTable a (record t { slots = slots }))
 set r (MemoryAt a) n x =
-    given (at r.store.mems a) >>= λ m. byte_of x >>= λ b. given (overwrite m.bytes n (b ∷ [])) >>= λ bytes. does r (SetMemory a (record m { bytes = bytes }))
+    slice_get r.store.mems a >>= λ m. byte_of x >>= λ b. overwrite m.bytes n (b ∷ []) >>= λ bytes. does r (SetMemory a (record m { bytes = bytes }))
 set r (GlobalAt a) n x =
-    given (at r.store.globals a) >>= λ g. cond (nat_eq n 0) (cond g.ty.mutable (received r.owned r.shown g.ty.ty x >>= λ v. does r (SetGlobal a (record g { value = v }))) None) None
+    slice_get r.store.globals a >>= λ g. cond (nat_eq n 0) (cond g.ty.mutable (received r.owned r.shown g.ty.ty x >>= λ v. does r (SetGlobal a (record g { value = v }))) None) None
 
 abbrev pub extended : Run → Thing → ℕ → Option Transition
 extended r (FuncAt a) n = None
-extended r (TableAt a) n = given (at r.store.tables a) >>= λ t. cond (table_may_grow t n) (does r (SetTable a (grown_table t n (null_of t.ty)))) None
-extended r (MemoryAt a) n = given (at r.store.mems a) >>= λ m. cond (memory_may_grow m n) (does r (SetMemory a (grown_memory m n))) None
+extended r (TableAt a) n = slice_get r.store.tables a >>= λ t. cond (table_may_grow t n) (does r (SetTable a (grown_table t n (null_of t.ty)))) None
+extended r (MemoryAt a) n = slice_get r.store.mems a >>= λ m. cond (memory_may_grow m n) (does r (SetMemory a (grown_memory m n))) None
 extended r (GlobalAt a) n = None
 
 -- a move where no growth waits
@@ -301,7 +301,7 @@ nothing_in [] = Some []
 nothing_in (t ∷ ts) = None
 
 abbrev pub started : Run → (starts : List ℕ) → List Entry → ℕ → Option Transition
-started r starts es a = given (type_at r.store a) >>= λ t. nothing_in t.results >>= λ u. called r (Opening starts ∷ es) [] a
+started r starts es a = type_at r.store a >>= λ t. nothing_in t.results >>= λ u. called r (Opening starts ∷ es) [] a
 
 abbrev pub or_closed : Run → Option Transition → Transition
 or_closed r (Some t) = t
@@ -312,14 +312,14 @@ abbrev pub open_next : Run → (starts : List ℕ) → List Entry → Transition
 open_next r [] es = Makes (record r { entries = es; phase = Opened; view = view_of r r.phase }, Some Linked)
 open_next r (a ∷ starts) es = or_closed r (started r starts es a)
 
--- where nothing is on the stack: while starts are made there is something, so that no run is known to come to the second line (not proved)
+-- where nothing is on the stack; while starts are made that is ill typed, since the entry that opens them stands there
 abbrev pub in_phase : Run → Phase → Transition
 in_phase r (Fresh b) = Makes (began r b)
 in_phase r (Pending view) = Steps r IllTyped
 in_phase r Opened = next_move r r.moves
 in_phase r Closed = closed_move r r.moves
 
--- a call that ends at a mark takes it away: no run is known to come to the third line, with a mark on top (not proved)
+-- by what is on top; a mark on top is ill typed, since a call that ends at a mark takes it away
 abbrev pub transition_at : Run → List Entry → Transition
 transition_at r [] = in_phase r r.phase
 transition_at r (Running f ∷ es) = Steps r (step r.store r.entries)

@@ -2,7 +2,7 @@
 use Rattle.std.proofs.Common.{ℕ, List, [], ◌∷◌, ◌++◌, length, true, slice_set}
 use Rattle.wasm_tree.specs.declared.instr.Instr.{Instr, out-Instr}
 use Rattle.wasm_tree.specs.declared.instr.Instr.TheOpen.{Instr-F}
-use Rattle.wasm_meaning.specs.Outcomes.{Outcome, Gives, Traps, IllTyped, bind, at, onto}
+use Rattle.wasm_meaning.specs.Outcomes.{Outcome, Gives, Traps, IllTyped, bind, onto, or_ill_typed, with_entry}
 use Rattle.wasm_num.specs.Operations.{W32, W64, wrapped}
 use Rattle.wasm_meaning.specs.State.{Val, Num, Ref, Func, Code, Own, Placeholder, Elem, Data, Store, Change, Keep, SetGlobal, SetMemory, SetTable, DropElem, DropData, Level, Frame, Entry, Running, Caller, Host, Starter, Mark, Opening, Waiting, Growing, Env, Body, Act, Goes, Calls, AsksGrow, Ends, Next, Ran, CallsOwn, WaitsGrowth, CallsPlaceholder, EndsCall}
 use Rattle.wasm_meaning.specs.Values.{pop, pop_typed, zeros, null_of, unary, binary, ref_is_null, select_any, select_typed, go, with_values, on_values, pushes, local_get, local_set, local_tee, global_get, global_set, ref_func}
@@ -92,7 +92,7 @@ enter s (Own p t) args es = CallsOwn p t args s (Waiting t.results ∷ es)
 enter s (Placeholder n t) args es = CallsPlaceholder n args s es
 
 abbrev pub enter_at : Store → ℕ → List Val → List Entry → Outcome Next
-enter_at s a vs es = bind (at s.funcs a) (λ f. Gives (enter s f vs es))
+enter_at s a vs es = with_entry s.funcs a (λ f. Gives (enter s f vs es))
 
 abbrev pub no_items : Elem
 no_items = record { items = []; dropped = true }
@@ -112,7 +112,7 @@ changed s (DropData a) = record s { datas = slice_set s.datas a no_bytes }
 -- what comes of it, for this frame over these entries
 abbrev pub perform : Store → Frame → List Entry → Act → Outcome Next
 perform s f es (Goes c h) = Gives (Ran (changed s c) (Running (frame_of f h) ∷ es))
-perform s f es (Calls a vs h) = bind (type_at s a) (λ t. bind (pop_typed t.params vs) (λ p. enter_at s a p.0 (Running (frame_of f (with_values h p.1)) ∷ es)))
+perform s f es (Calls a vs h) = bind (or_ill_typed (type_at s a)) (λ t. bind (pop_typed t.params vs) (λ p. enter_at s a p.0 (Running (frame_of f (with_values h p.1)) ∷ es)))
 perform s f es (AsksGrow g m n h) = Gives (WaitsGrowth g m n s (Growing g ∷ Running (frame_of f h) ∷ es))
 perform s f es (Ends vs) = bind (pop_typed f.results vs) (λ p. give s p.0 es)
 

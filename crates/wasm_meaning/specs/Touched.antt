@@ -1,11 +1,11 @@
 -- What a step writes into the store, told with its place and count, from what stands on top before the step.
-use Rattle.std.proofs.Common.{◌≡◌, ℕ, ◌+◌, List, [], ◌∷◌, length}
+use Rattle.std.proofs.Common.{◌≡◌, ℕ, ◌+◌, true, List, [], ◌∷◌, length, slice_get, Some}
 use Rattle.wasm_tree.specs.declared.instr.Instr.{Instr, out-Instr}
 use Rattle.wasm_tree.specs.declared.instr.Instr.TheOpen.{Instr-F}
 use Rattle.wasm_tree.specs.declared.instr.StoreOp.{StoreOp}
 use Rattle.wasm_tree.specs.declared.instr.StoreOp.TheVariants as op
 use Rattle.wasm_num.specs.Operations.{W32}
-use Rattle.wasm_meaning.specs.Outcomes.{Outcome, Gives, IllTyped, bind, at, overwrite}
+use Rattle.wasm_meaning.specs.Outcomes.{Outcome, Gives, IllTyped, bind, overwrite, with_entry}
 use Rattle.wasm_meaning.specs.Access.{store_from}
 use Rattle.wasm_meaning.specs.State.{Val, RefVal, Table, Memory, Global, Store, Level, Frame, Env, Change, Keep, SetGlobal, SetMemory, SetTable, DropElem, DropData, Act, Goes}
 use Rattle.wasm_meaning.specs.Values.{pop_num, pop_ref}
@@ -32,8 +32,8 @@ store_width op.I64Store16 = 2
 store_width op.I64Store32 = 4
 
 -- the address of an index
-abbrev pub at_address : Outcome ℕ → (ℕ → Touched) → Outcome Touched
-at_address address f = bind address (λ a. Gives (f a))
+abbrev pub at_address : List ℕ → ℕ → (ℕ → Touched) → Outcome Touched
+at_address addresses n f = with_entry addresses n (λ a. Gives (f a))
 
 -- the place under a value
 abbrev pub store_touches : ℕ → (offset : ℕ) → StoreOp → List Val → Outcome Touched
@@ -53,17 +53,17 @@ fill_touches a vs = bind (pop_num W32 vs) (λ n. bind (pop_ref n.1) (λ r. bind 
 
 -- what an instruction writes, where it does not trap and is not ill typed
 abbrev pub touched_by : Instr-F Instr → Env → List Val → Outcome Touched
-touched_by (Instr-F.Store o arg) env vs = bind (at env.inst.mems arg.memory) (λ a. store_touches a arg.offset o vs)
-touched_by (Instr-F.MemoryInit s n) env vs = bind (at env.inst.mems n) (λ a. range_touches (Bytes a) vs)
-touched_by (Instr-F.MemoryCopy n m) env vs = bind (at env.inst.mems n) (λ a. range_touches (Bytes a) vs)
-touched_by (Instr-F.MemoryFill n) env vs = bind (at env.inst.mems n) (λ a. range_touches (Bytes a) vs)
-touched_by (Instr-F.TableSet n) env vs = bind (at env.inst.tables n) (λ a. slot_touches a vs)
-touched_by (Instr-F.TableInit s n) env vs = bind (at env.inst.tables n) (λ a. range_touches (Slots a) vs)
-touched_by (Instr-F.TableCopy n m) env vs = bind (at env.inst.tables n) (λ a. range_touches (Slots a) vs)
-touched_by (Instr-F.TableFill n) env vs = bind (at env.inst.tables n) (λ a. fill_touches a vs)
-touched_by (Instr-F.GlobalSet n) env vs = at_address (at env.inst.globals n) OneGlobal
-touched_by (Instr-F.ElemDrop n) env vs = at_address (at env.inst.elems n) OneElem
-touched_by (Instr-F.DataDrop n) env vs = at_address (at env.inst.datas n) OneData
+touched_by (Instr-F.Store o arg) env vs = with_entry env.inst.mems arg.memory (λ a. store_touches a arg.offset o vs)
+touched_by (Instr-F.MemoryInit s n) env vs = with_entry env.inst.mems n (λ a. range_touches (Bytes a) vs)
+touched_by (Instr-F.MemoryCopy n m) env vs = with_entry env.inst.mems n (λ a. range_touches (Bytes a) vs)
+touched_by (Instr-F.MemoryFill n) env vs = with_entry env.inst.mems n (λ a. range_touches (Bytes a) vs)
+touched_by (Instr-F.TableSet n) env vs = with_entry env.inst.tables n (λ a. slot_touches a vs)
+touched_by (Instr-F.TableInit s n) env vs = with_entry env.inst.tables n (λ a. range_touches (Slots a) vs)
+touched_by (Instr-F.TableCopy n m) env vs = with_entry env.inst.tables n (λ a. range_touches (Slots a) vs)
+touched_by (Instr-F.TableFill n) env vs = with_entry env.inst.tables n (λ a. fill_touches a vs)
+touched_by (Instr-F.GlobalSet n) env vs = at_address env.inst.globals n OneGlobal
+touched_by (Instr-F.ElemDrop n) env vs = at_address env.inst.elems n OneElem
+touched_by (Instr-F.DataDrop n) env vs = at_address env.inst.datas n OneData
 touched_by _ env vs = Gives Nothing
 
 abbrev pub touched_next : Env → List Val → List Instr → Outcome Touched
@@ -78,12 +78,12 @@ touched_levels env (l ∷ ls) = touched_next env l.values l.code
 abbrev pub touched : Store → Frame → Outcome Touched
 touched s f = touched_levels (record { store = s; inst = f.inst }) f.levels
 
--- the change writes that and nothing else: so many bytes or references stand at the place, and the others are as they were
+-- the change writes that and nothing else: so many bytes or references stand at the place, and the others are as they were; a global that is set may be set, and keeps its type
 pub data Writes (s : Store) : Touched → Change → Type 0 where
   nothing : Writes s Nothing Keep
-  a_global : {a : ℕ} {g : Global} → Writes s (OneGlobal a) (SetGlobal a g)
-  bytes : {a place : ℕ} {m n : Memory} (written : List ℕ) → at s.mems a ≡ Gives m → overwrite m.bytes place written ≡ Gives n.bytes → n.pages ≡ m.pages → n.most ≡ m.most → Writes s (Bytes a place (length written)) (SetMemory a n)
-  slots : {a place : ℕ} {t u : Table} (written : List RefVal) → at s.tables a ≡ Gives t → overwrite t.slots place written ≡ Gives u.slots → u.ty ≡ t.ty → u.most ≡ t.most → Writes s (Slots a place (length written)) (SetTable a u)
+  a_global : {a : ℕ} {g h : Global} → slice_get s.globals a ≡ Some g → g.ty.mutable ≡ true → h.ty ≡ g.ty → Writes s (OneGlobal a) (SetGlobal a h)
+  bytes : {a place : ℕ} {m n : Memory} (written : List ℕ) → slice_get s.mems a ≡ Some m → overwrite m.bytes place written ≡ Some n.bytes → n.pages ≡ m.pages → n.most ≡ m.most → Writes s (Bytes a place (length written)) (SetMemory a n)
+  slots : {a place : ℕ} {t u : Table} (written : List RefVal) → slice_get s.tables a ≡ Some t → overwrite t.slots place written ≡ Some u.slots → u.ty ≡ t.ty → u.most ≡ t.most → Writes s (Slots a place (length written)) (SetTable a u)
   an_elem : {a : ℕ} → Writes s (OneElem a) (DropElem a)
   a_data : {a : ℕ} → Writes s (OneData a) (DropData a)
 

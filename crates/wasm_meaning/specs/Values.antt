@@ -1,5 +1,5 @@
 -- Instructions on values, locals and globals (WebAssembly Core 2.0, sections 4.4.1, 4.4.2, 4.4.4 and 4.4.5).
-use Rattle.std.proofs.Common.{ℕ, List, [], ◌∷◌, ◌++◌, Some, None, Bool, true, false, cond, slice_set}
+use Rattle.std.proofs.Common.{ℕ, List, [], ◌∷◌, ◌++◌, Option, Some, None, Bool, true, false, cond, slice_set}
 use Rattle.std.specs.Prelude.{nat_eq}
 use Rattle.wasm_tree.specs.declared.types.RefType.{RefType}
 use Rattle.wasm_tree.specs.declared.types.RefType.TheVariants as reft
@@ -10,7 +10,7 @@ pub use Rattle.wasm_tree.specs.SameTypes.{same_ref, same_type, same_types, same_
 use Rattle.wasm_num.specs.declared.UnOp.{UnOp}
 use Rattle.wasm_num.specs.declared.BinOp.{BinOp}
 use Rattle.wasm_num.specs.Operations.{Width, W32, W64, un_from, un_to, un_value, bin_from, bin_to, bin_value}
-use Rattle.wasm_meaning.specs.Outcomes.{Outcome, Gives, IllTyped, or_trap, bind, at, copies}
+use Rattle.wasm_meaning.specs.Outcomes.{Outcome, Gives, IllTyped, or_trap, bind, copies, or_ill_typed, with_entry}
 use Rattle.wasm_meaning.specs.State.{RefVal, FuncRef, ExternRef, Val, Num, Ref, Global, Env, Body, Keep, SetGlobal, Act, Goes}
 
 -- ---- types of values ----
@@ -53,20 +53,20 @@ abbrev pub pop : List Val → Outcome (Val × List Val)
 pop [] = IllTyped
 pop (v ∷ vs) = Gives (v, vs)
 
-abbrev pub num_of : Width → Val → Outcome ℕ
-num_of W32 (Num W32 n) = Gives n
-num_of W64 (Num W64 n) = Gives n
-num_of _ _ = IllTyped
+abbrev pub num_of : Width → Val → Option ℕ
+num_of W32 (Num W32 n) = Some n
+num_of W64 (Num W64 n) = Some n
+num_of _ _ = None
 
-abbrev pub ref_of : Val → Outcome RefVal
-ref_of (Num w n) = IllTyped
-ref_of (Ref r) = Gives r
+abbrev pub ref_of : Val → Option RefVal
+ref_of (Num w n) = None
+ref_of (Ref r) = Some r
 
 abbrev pub pop_num : Width → List Val → Outcome (ℕ × List Val)
-pop_num w vs = bind (pop vs) (λ p. bind (num_of w p.0) (λ n. Gives (n, p.1)))
+pop_num w vs = bind (pop vs) (λ p. bind (or_ill_typed (num_of w p.0)) (λ n. Gives (n, p.1)))
 
 abbrev pub pop_ref : List Val → Outcome (RefVal × List Val)
-pop_ref vs = bind (pop vs) (λ p. bind (ref_of p.0) (λ r. Gives (r, p.1)))
+pop_ref vs = bind (pop vs) (λ p. bind (or_ill_typed (ref_of p.0)) (λ r. Gives (r, p.1)))
 
 -- values of these types, the last on top; they come in the order of the types
 abbrev pub pop_typed : List ValType → List Val → Outcome (List Val × List Val)
@@ -132,10 +132,10 @@ pushes h v = Gives (go (with_values h (v ∷ h.values)))
 -- ---- locals and globals (section 4.4.5) ----
 
 abbrev pub local_get : Body → ℕ → Outcome Act
-local_get h i = bind (at h.locals i) (pushes h)
+local_get h i = with_entry h.locals i (pushes h)
 
 abbrev pub local_put : Body → ℕ → Val → Outcome Act
-local_put h i v = bind (at h.locals i) (λ old. bind (typed (type_of old) v) (λ w. Gives (go (record h { locals = slice_set h.locals i w }))))
+local_put h i v = with_entry h.locals i (λ old. bind (typed (type_of old) v) (λ w. Gives (go (record h { locals = slice_set h.locals i w }))))
 
 abbrev pub local_set : Body → ℕ → Outcome Act
 local_set h i = bind (pop h.values) (λ p. local_put (with_values h p.1) i p.0)
@@ -144,13 +144,13 @@ abbrev pub local_tee : Body → ℕ → Outcome Act
 local_tee h i = bind (pop h.values) (λ p. local_put h i p.0)
 
 abbrev pub global_get : Env → Body → ℕ → Outcome Act
-global_get env h i = bind (at env.inst.globals i) (λ a. bind (at env.store.globals a) (λ g. pushes h g.value))
+global_get env h i = with_entry env.inst.globals i (λ a. with_entry env.store.globals a (λ g. pushes h g.value))
 
 abbrev pub global_put : Body → ℕ → Global → Val → Outcome Act
 global_put h a g v = cond g.ty.mutable (bind (typed g.ty.ty v) (λ w. Gives (Goes (SetGlobal a (record g { value = w })) h))) IllTyped
 
 abbrev pub global_set : Env → Body → ℕ → Outcome Act
-global_set env h i = bind (at env.inst.globals i) (λ a. bind (at env.store.globals a) (λ g. bind (pop h.values) (λ p. global_put (with_values h p.1) a g p.0)))
+global_set env h i = with_entry env.inst.globals i (λ a. with_entry env.store.globals a (λ g. bind (pop h.values) (λ p. global_put (with_values h p.1) a g p.0)))
 
 abbrev pub ref_func : Env → Body → ℕ → Outcome Act
-ref_func env h i = bind (at env.inst.funcs i) (λ a. pushes h (Ref (FuncRef (Some a))))
+ref_func env h i = with_entry env.inst.funcs i (λ a. pushes h (Ref (FuncRef (Some a))))

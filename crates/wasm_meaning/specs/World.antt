@@ -26,8 +26,7 @@ use Rattle.wasm_tree.specs.declared.module.DataMode.TheVariants as data'
 use Rattle.wasm_tree.specs.declared.module.Func as tree
 use Rattle.wasm_tree.specs.declared.module.Module.{Module}
 use Rattle.wasm_num.specs.Operations.{W32, W64, wrapped}
-pub use Rattle.wasm_meaning.specs.Outcomes.{given}
-use Rattle.wasm_meaning.specs.Outcomes.{Outcome, Gives, overwrite, copies}
+use Rattle.wasm_meaning.specs.Outcomes.{overwrite, copies}
 use Rattle.wasm_meaning.specs.State.{Text, Pair, RefVal, FuncRef, Val, Num, Ref, Inst, Func, Code, Table, Memory, Global, Elem, Store, DropElem, DropData, SetTable, SetMemory}
 use Rattle.wasm_meaning.specs.Values.{null_of, declared, ref_of, num_of}
 use Rattle.wasm_tree.specs.SameTypes.{same_func_type, same_ref, same_type}
@@ -167,10 +166,10 @@ abbrev pub value_of : Environment → List Part → List Inst → ℕ → ConstE
 value_of env parts insts p expr = read_of parts p expr >>= (value_of_read (own_globals env) insts)
 
 abbrev pub ref_value : Environment → List Part → List Inst → ℕ → ConstExpr → Option RefVal
-ref_value env parts insts p expr = value_of env parts insts p expr >>= λ v. given (ref_of v)
+ref_value env parts insts p expr = value_of env parts insts p expr >>= ref_of
 
 abbrev pub number_value : Environment → List Part → List Inst → ℕ → ConstExpr → Option ℕ
-number_value env parts insts p expr = value_of env parts insts p expr >>= λ v. given (num_of W32 v)
+number_value env parts insts p expr = value_of env parts insts p expr >>= num_of W32
 
 -- ---- allocation (section 4.5.3) ----
 
@@ -191,7 +190,7 @@ new_elem mode items = record { items = items; dropped = false }
 
 -- an element segment
 abbrev pub elem_with : (ConstExpr → Option Val) → ElemSeg → Option Elem
-elem_with value e = all_there (λ x. value x >>= λ v. given (ref_of v)) e.items >>= λ items. Some (new_elem e.mode items)
+elem_with value e = all_there (λ x. value x >>= ref_of) e.items >>= λ items. Some (new_elem e.mode items)
 
 abbrev pub elem_of : Environment → List Part → List Inst → ℕ → ElemSeg → Option Elem
 elem_of env parts insts p = elem_with (value_of env parts insts p)
@@ -250,7 +249,7 @@ meets size most demand = nat_le demand.min size && meets_most most demand.max
 
 -- an entity of the store is what an import asks for
 abbrev pub is_match : Store → Module → ImportDesc → Thing → Option Bool
-is_match s m (im.Func ty) (FuncAt a) = import_type m ty >>= λ t. given (type_at s a) >>= λ u. Some (same_func_type t u)
+is_match s m (im.Func ty) (FuncAt a) = import_type m ty >>= λ t. type_at s a >>= λ u. Some (same_func_type t u)
 is_match s m (im.Table t) (TableAt a) = slice_get s.tables a >>= λ u. Some (same_ref t.ty u.ty && meets (length u.slots) u.most t.limits)
 is_match s m (im.Memory l) (MemoryAt a) = slice_get s.mems a >>= λ u. Some (meets u.pages u.most l)
 is_match s m (im.Global t) (GlobalAt a) = slice_get s.globals a >>= λ u. Some (same_type t.ty u.ty.ty && same_bool t.mutable u.ty.mutable)
@@ -291,9 +290,9 @@ or_trapped s (Some f) = f
 or_trapped s None = record { store = s; trapped = true }
 
 -- the references of a segment are copied into a table, and the segment is dropped
-abbrev pub fill_table : Store → (segment table : ℕ) → Table → Outcome (List RefVal) → Filled
-fill_table s segment a t (Gives slots) = record { store = changed (changed s (SetTable a (record t { slots = slots }))) (DropElem segment); trapped = false }
-fill_table s segment a t _ = record { store = s; trapped = true }
+abbrev pub fill_table : Store → (segment table : ℕ) → Table → Option (List RefVal) → Filled
+fill_table s segment a t (Some slots) = record { store = changed (changed s (SetTable a (record t { slots = slots }))) (DropElem segment); trapped = false }
+fill_table s segment a t None = record { store = s; trapped = true }
 
 abbrev pub copy_elem : Store → (segment : ℕ) → Inst → (table : ℕ) → (offset : Option ℕ) → Filled
 copy_elem s segment i x offset =
@@ -301,7 +300,7 @@ copy_elem s segment i x offset =
 
 -- by its mode, where constant expressions have these values
 abbrev pub run_elem_with : (ConstExpr → Option Val) → Store → Task ElemSeg → ElemMode → Filled
-run_elem_with value s task (elem.Active x offset) = copy_elem s task.address task.inst x (value offset >>= λ v. given (num_of W32 v))
+run_elem_with value s task (elem.Active x offset) = copy_elem s task.address task.inst x (value offset >>= num_of W32)
 run_elem_with value s task _ = record { store = s; trapped = false }
 
 abbrev pub run_elem_mode : Environment → List Part → List Inst → Store → Task ElemSeg → ElemMode → Filled
@@ -311,9 +310,9 @@ abbrev pub run_elem : Environment → List Part → List Inst → Store → Task
 run_elem env parts insts s task = run_elem_mode env parts insts s task task.segment.mode
 
 -- the bytes of a segment are copied into a memory, and the segment is dropped
-abbrev pub fill_memory : Store → (segment memory : ℕ) → Memory → Outcome (List ℕ) → Filled
-fill_memory s segment a m (Gives bytes) = record { store = changed (changed s (SetMemory a (record m { bytes = bytes }))) (DropData segment); trapped = false }
-fill_memory s segment a m _ = record { store = s; trapped = true }
+abbrev pub fill_memory : Store → (segment memory : ℕ) → Memory → Option (List ℕ) → Filled
+fill_memory s segment a m (Some bytes) = record { store = changed (changed s (SetMemory a (record m { bytes = bytes }))) (DropData segment); trapped = false }
+fill_memory s segment a m None = record { store = s; trapped = true }
 
 abbrev pub copy_data : Store → (segment : ℕ) → Inst → (memory : ℕ) → (offset : Option ℕ) → Filled
 copy_data s segment i x offset =
@@ -321,7 +320,7 @@ copy_data s segment i x offset =
 
 -- by its mode, where constant expressions have these values
 abbrev pub run_data_with : (ConstExpr → Option Val) → Store → Task DataSeg → DataMode → Filled
-run_data_with value s task (data'.Active x offset) = copy_data s task.address task.inst x (value offset >>= λ v. given (num_of W32 v))
+run_data_with value s task (data'.Active x offset) = copy_data s task.address task.inst x (value offset >>= num_of W32)
 run_data_with value s task data'.Passive = record { store = s; trapped = false }
 
 abbrev pub run_data_mode : Environment → List Part → List Inst → Store → Task DataSeg → DataMode → Filled

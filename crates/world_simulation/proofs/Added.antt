@@ -1,6 +1,8 @@
 -- Two related stores stay related where a module is added to one of them and its segments write only what is related to nothing.
-use Rattle.std.proofs.Common.{◌≡◌, ℕ, zero, suc, ◌<◌, ◌≤◌, List, [], ◌∷◌, ◌++◌, length, Option, Some, None, Bool, true, false, cond, refl, sym, ap, subst, ◌∙◌, arith, slice_get}
+use Rattle.std.proofs.Common.{◌≡◌, ℕ, zero, suc, ◌≤◌, List, [], ◌∷◌, ◌++◌, length, Option, Some, None, Bool, true, false, cond, refl, sym, ap, subst, ◌∙◌, arith, slice_get}
+use Rattle.std.proofs.lemmas.Option.{slice_get_within}
 use Rattle.base_lists.proofs.Options.{and_then_is}
+use Rattle.base_lists.proofs.Places.{append_at_left}
 use Rattle.wasm_tree.specs.declared.space.Space.{Space}
 use Rattle.wasm_tree.specs.declared.space.Space.TheVariants.{Functions, Tables, Memories, ElementSegments, DataSegments}
 use Rattle.wasm_tree.specs.declared.module.ConstExpr.{ConstExpr}
@@ -11,7 +13,7 @@ use Rattle.wasm_tree.specs.declared.module.DataMode.{DataMode}
 use Rattle.wasm_tree.specs.declared.module.DataMode.TheVariants as data'
 use Rattle.wasm_tree.specs.declared.module.DataSeg.{DataSeg}
 use Rattle.wasm_tree.specs.declared.module.Module.{Module}
-use Rattle.wasm_meaning.specs.Outcomes.{Outcome, Gives, Traps, IllTyped, bind, at, overwrite}
+use Rattle.wasm_meaning.specs.Outcomes.{overwrite}
 use Rattle.wasm_meaning.specs.State.{RefVal, Val, Inst, Table, Memory, Store}
 use Rattle.wasm_meaning.specs.Environment.{Thing}
 use Rattle.wasm_meaning.specs.World.{Filled, Task, numbers, const_value, store_with, joined_stores, tasks_in, fill_table, run_elem_with, fill_memory, run_data_with, and_then, in_turn}
@@ -25,34 +27,17 @@ use Rattle.world_simulation.proofs.Ordered.{in_first, in_second, first_apart, se
 
 -- ---- what is added comes behind ----
 
--- an address that is there names the same with more behind
-at_more : {A : Type 0} (xs ys : List A) (n : ℕ) (x : A) → at xs n ≡ Gives x → at (xs ++ ys) n ≡ Gives x
-at_more [] ys n x h = cc
-at_more (y ∷ xs) ys zero x h = h
-at_more (y ∷ xs) ys (suc n) x h = at_more xs ys n x h
-
-at_within : {A : Type 0} (xs : List A) (n : ℕ) (x : A) → at xs n ≡ Gives x → n < length xs
-at_within [] n x h = cc
-at_within (y ∷ xs) zero x h = omega arith
-at_within (y ∷ xs) (suc n) x h = let l = at_within xs n x h in omega (arith, l)
-
-right_is : {A B : Type 0} {P : A → B → Type 0} {o : Outcome A} {p : Outcome B} → BothRel P o p → (b : B) × (p ≡ Gives b)
+right_is : {A B : Type 0} {P : A → B → Type 0} {o : Option A} {p : Option B} → BothRel P o p → (b : B) × (p ≡ Some b)
 right_is (both {b = b} r) = (b, refl)
 
-left_is : {A B : Type 0} {P : A → B → Type 0} {o : Outcome A} {p : Outcome B} → BothRel P o p → (a : A) × (o ≡ Gives a)
+left_is : {A B : Type 0} {P : A → B → Type 0} {o : Option A} {p : Option B} → BothRel P o p → (a : A) × (o ≡ Some a)
 left_is (both {a = a} r) = (a, refl)
 
--- what is looked up there
-bound_is : {A B : Type 0} (o : Outcome A) (f : A → Outcome B) (b : B) → bind o f ≡ Gives b → (a : A) × (o ≡ Gives a)
-bound_is (Gives a) f b h = (a, refl)
-bound_is Traps f b h = cc
-bound_is IllTyped f b h = cc
+more_right : {A B : Type 0} {P : A → B → Type 0} {o : Option A} (xs ys : List B) (n : ℕ) → BothRel P o (slice_get xs n) → BothRel P o (slice_get (xs ++ ys) n)
+more_right {P = P} {o = o} xs ys n r = let b = right_is r in subst (BothRel P o) (b.1 ∙ sym (append_at_left xs ys n b.0 b.1)) r
 
-more_right : {A B : Type 0} {P : A → B → Type 0} {o : Outcome A} (xs ys : List B) (n : ℕ) → BothRel P o (at xs n) → BothRel P o (at (xs ++ ys) n)
-more_right {P = P} {o = o} xs ys n r = let b = right_is r in subst (BothRel P o) (b.1 ∙ sym (at_more xs ys n b.0 b.1)) r
-
-more_left : {A B : Type 0} {P : A → B → Type 0} {p : Outcome B} (xs ys : List A) (n : ℕ) → BothRel P (at xs n) p → BothRel P (at (xs ++ ys) n) p
-more_left {P = P} {p = p} xs ys n r = let a = left_is r in subst (λ o. BothRel P o p) (a.1 ∙ sym (at_more xs ys n a.0 a.1)) r
+more_left : {A B : Type 0} {P : A → B → Type 0} {p : Option B} (xs ys : List A) (n : ℕ) → BothRel P (slice_get xs n) p → BothRel P (slice_get (xs ++ ys) n) p
+more_left {P = P} {p = p} xs ys n r = let a = left_is r in subst (λ o. BothRel P o p) (a.1 ∙ sym (append_at_left xs ys n a.0 a.1)) r
 
 module _ (R : Pairing) where
   joined_right : {s z : Store} (t : Store) → StoreRel R s z → StoreRel R s (joined_stores z t)
@@ -67,8 +52,8 @@ module _ (R : Pairing) where
     datas = λ {a} {b} r. more_right z.datas t.datas b (like.datas r);
   }
     where
-      same : (a b : ℕ) → R.of Functions a b → at (z.funcs ++ t.funcs) b ≡ at z.funcs b
-      same a b r = let k = right_is (like.types r) in let f = bound_is (at z.funcs b) _ k.0 k.1 in at_more z.funcs t.funcs b f.0 f.1 ∙ sym f.1
+      same : (a b : ℕ) → R.of Functions a b → slice_get (z.funcs ++ t.funcs) b ≡ slice_get z.funcs b
+      same a b r = let k = right_is (like.types r) in let f = and_then_is (slice_get z.funcs b) _ k.0 k.1 in append_at_left z.funcs t.funcs b f.0 f.1 ∙ sym f.1
 
   joined_left : {s z : Store} (t : Store) → StoreRel R s z → StoreRel R (joined_stores s t) z
   joined_left {s} {z} t like = record {
@@ -82,8 +67,8 @@ module _ (R : Pairing) where
     datas = λ {a} {b} r. more_left s.datas t.datas a (like.datas r);
   }
     where
-      same : (a b : ℕ) → R.of Functions a b → at (s.funcs ++ t.funcs) a ≡ at s.funcs a
-      same a b r = let k = left_is (like.types r) in let f = bound_is (at s.funcs a) _ k.0 k.1 in at_more s.funcs t.funcs a f.0 f.1 ∙ sym f.1
+      same : (a b : ℕ) → R.of Functions a b → slice_get (s.funcs ++ t.funcs) a ≡ slice_get s.funcs a
+      same a b r = let k = left_is (like.types r) in let f = and_then_is (slice_get s.funcs a) _ k.0 k.1 in append_at_left s.funcs t.funcs a f.0 f.1 ∙ sym f.1
 
 -- ---- segments that write only what is alone ----
 
@@ -101,10 +86,9 @@ module _ (related alone : Space → ℕ → Type 0) (never : (k : Space) (a : �
   abbrev Keeps : Store → Filled → Type 0
   Keeps s f = Kept related s f.store
 
-  filled_table : (s : Store) (n a : ℕ) (t : Table) (o : Outcome (List RefVal)) → alone Tables a → alone ElementSegments n → Keeps s (fill_table s n a t o)
-  filled_table s n a t (Gives slots) f g = table_kept related alone never s n a (record t { slots = slots }) f g
-  filled_table s n a t Traps f g = nothing_kept related s
-  filled_table s n a t IllTyped f g = nothing_kept related s
+  filled_table : (s : Store) (n a : ℕ) (t : Table) (o : Option (List RefVal)) → alone Tables a → alone ElementSegments n → Keeps s (fill_table s n a t o)
+  filled_table s n a t (Some slots) f g = table_kept related alone never s n a (record t { slots = slots }) f g
+  filled_table s n a t None f g = nothing_kept related s
 
   elem_run : (value : ConstExpr → Option Val) (s : Store) (x : Task ElemSeg) (mode : ElemMode) → alone ElementSegments x.address → ((y : ℕ) (d : ConstExpr) → mode ≡ elem.Active y d → (a : ℕ) → slice_get x.inst.tables y ≡ Some a → alone Tables a) → Keeps s (run_elem_with value s x mode)
   elem_run value s x (elem.Active y d) f g =
@@ -113,10 +97,9 @@ module _ (related alone : Space → ℕ → Type 0) (never : (k : Space) (a : �
   elem_run value s x elem.Passive f g = nothing_kept related s
   elem_run value s x elem.Declarative f g = nothing_kept related s
 
-  filled_memory : (s : Store) (n a : ℕ) (m : Memory) (o : Outcome (List ℕ)) → alone Memories a → alone DataSegments n → Keeps s (fill_memory s n a m o)
-  filled_memory s n a m (Gives bytes) f g = memory_kept related alone never s n a (record m { bytes = bytes }) f g
-  filled_memory s n a m Traps f g = nothing_kept related s
-  filled_memory s n a m IllTyped f g = nothing_kept related s
+  filled_memory : (s : Store) (n a : ℕ) (m : Memory) (o : Option (List ℕ)) → alone Memories a → alone DataSegments n → Keeps s (fill_memory s n a m o)
+  filled_memory s n a m (Some bytes) f g = memory_kept related alone never s n a (record m { bytes = bytes }) f g
+  filled_memory s n a m None f g = nothing_kept related s
 
   data_run : (value : ConstExpr → Option Val) (s : Store) (x : Task DataSeg) (mode : DataMode) → alone DataSegments x.address → ((y : ℕ) (d : ConstExpr) → mode ≡ data'.Active y d → (a : ℕ) → slice_get x.inst.mems y ≡ Some a → alone Memories a) → Keeps s (run_data_with value s x mode)
   data_run value s x (data'.Active y d) f g =
@@ -173,8 +156,8 @@ module _ (R : Pairing) (s z : Store) (m : Module) (things : List Thing) (a : Add
       let i = next_inst z m things in
       let t = added_is z m things a h in
       subst (λ (a : Added). StoreRel R s a.filled.store) t.1 (kept_rel R (joined_right R t.0 like) (nothing_kept (in_first R) s) (segments_kept (in_second R) (HasNoPartner R) (second_apart R) (const_value z.globals i) m i
-      (λ n b e c r. let past = number_past (length z.elems) (length m.elems) n b e in let k = right_is (like.elems r) in let l = at_within z.elems b k.0 k.1 in absurd (omega (arith, past, l)))
-      (λ n b e c r. let past = number_past (length z.datas) (length m.datas) n b e in let k = right_is (like.datas r) in let l = at_within z.datas b k.0 k.1 in absurd (omega (arith, past, l)))
+      (λ n b e c r. let past = number_past (length z.elems) (length m.elems) n b e in let k = right_is (like.elems r) in let l = slice_get_within z.elems b k.0 k.1 in absurd (omega (arith, past, l)))
+      (λ n b e c r. let past = number_past (length z.datas) (length m.datas) n b e in let k = right_is (like.datas r) in let l = slice_get_within z.datas b k.0 k.1 in absurd (omega (arith, past, l)))
       (subst (λ (a : Added). WritesAlone (HasNoPartner R) m a.inst) (sym t.1) writes) (joined_stores z t.0)))
 
   pub added_first : added s m things ≡ Some a → WritesAlone (alone_in_first R) m a.inst → StoreRel R a.filled.store z
@@ -182,6 +165,6 @@ module _ (R : Pairing) (s z : Store) (m : Module) (things : List Thing) (a : Add
       let i = next_inst s m things in
       let t = added_is s m things a h in
       subst (λ (a : Added). StoreRel R a.filled.store z) t.1 (kept_rel R (joined_left R t.0 like) (segments_kept (in_first R) (alone_in_first R) (first_apart R) (const_value s.globals i) m i
-      (λ n b e c r. let past = number_past (length s.elems) (length m.elems) n b e in let k = left_is (like.elems r) in let l = at_within s.elems b k.0 k.1 in absurd (omega (arith, past, l)))
-      (λ n b e c r. let past = number_past (length s.datas) (length m.datas) n b e in let k = left_is (like.datas r) in let l = at_within s.datas b k.0 k.1 in absurd (omega (arith, past, l)))
+      (λ n b e c r. let past = number_past (length s.elems) (length m.elems) n b e in let k = left_is (like.elems r) in let l = slice_get_within s.elems b k.0 k.1 in absurd (omega (arith, past, l)))
+      (λ n b e c r. let past = number_past (length s.datas) (length m.datas) n b e in let k = left_is (like.datas r) in let l = slice_get_within s.datas b k.0 k.1 in absurd (omega (arith, past, l)))
       (subst (λ (a : Added). WritesAlone (alone_in_first R) m a.inst) (sym t.1) writes) (joined_stores s t.0)) (nothing_kept (in_second R) z))

@@ -13,33 +13,28 @@ use Rattle.wasm_tree.specs.declared.module.ElemSeg.{ElemSeg}
 use Rattle.wasm_tree.specs.declared.module.DataMode.{DataMode}
 use Rattle.wasm_tree.specs.declared.module.DataMode.TheVariants as data'
 use Rattle.wasm_tree.specs.declared.module.DataSeg.{DataSeg}
-use Rattle.wasm_meaning.specs.Outcomes.{Outcome, Gives, Traps, IllTyped, bind, at, split_at, overwrite}
+use Rattle.wasm_meaning.specs.Outcomes.{split_at, overwrite}
 use Rattle.wasm_meaning.specs.State.{RefVal, Val, Inst, Table, Memory, Elem, Data, Store, SetTable, SetMemory, DropElem, DropData}
 use Rattle.wasm_meaning.specs.Step.{changed, no_items, no_bytes}
 use Rattle.wasm_meaning.specs.Environment.{Environment}
 use Rattle.wasm_meaning.specs.World.{Filled, Task, or_trapped, fill_table, copy_elem, run_elem_with, fill_memory, copy_data, run_data_with}
-use Rattle.index_remap.specs.Related.{OptRel, BothRel}
 use Rattle.index_remap.proofs.Rel.{there, at_put_there}
 use Rattle.world_simulation.specs.Definitions.{Instantiated, DefinedAt, values_in}
 use Rattle.world_simulation.specs.Segments.{InOrder, ElemsPartner, ElemAlone, DatasPartner, DataAlone, alone_in_first, offset_in}
 use Rattle.world_simulation.specs.Segments as segments
-use Rattle.world_simulation.proofs.Places.{res_placed}
 use Rattle.wasm_meaning.proofs.Slices.{split_lengths}
 
 -- ---- lists ----
 
-pub both_placed : {A B : Type 0} {P : A → B → Type 0} (xs : List A) (ys : List B) (n k : ℕ) → BothRel P (at xs n) (at ys k) → OptRel P (slice_get xs n) (slice_get ys k)
-both_placed xs ys n k r = res_placed xs ys n k (there r)
-
 -- where the others fit, they are written, and the list is as long as it was
-split_fits : {A : Type 0} (n : ℕ) (xs : List A) → n ≤ length xs → (p : List A × List A) × (split_at n xs ≡ Gives p) × (length p.0 ≡ n) × (length p.0 + length p.1 ≡ length xs)
+split_fits : {A : Type 0} (n : ℕ) (xs : List A) → n ≤ length xs → (p : List A × List A) × (split_at n xs ≡ Some p) × (length p.0 ≡ n) × (length p.0 + length p.1 ≡ length xs)
 split_fits zero xs h = (([], xs), refl, refl, omega arith)
 split_fits (suc n) [] h = absurd (omega (arith, h))
 split_fits (suc n) (x ∷ xs) h =
     let r = split_fits n xs (omega (arith, h)) in
-    ((x ∷ r.0.0, r.0.1), ap (λ o. bind o (λ p. Gives (x ∷ p.0, p.1))) r.1, ap suc r.2, let e = r.3 in omega (arith, e))
+    ((x ∷ r.0.0, r.0.1), ap (option_and_then (λ p. Some (x ∷ p.0, p.1))) r.1, ap suc r.2, let e = r.3 in omega (arith, e))
 
-pub overwrite_fits : {A : Type 0} (xs ys : List A) (n : ℕ) → n + length ys ≤ length xs → (zs : List A) × (overwrite xs n ys ≡ Gives zs) × (length zs ≡ length xs)
+pub overwrite_fits : {A : Type 0} (xs ys : List A) (n : ℕ) → n + length ys ≤ length xs → (zs : List A) × (overwrite xs n ys ≡ Some zs) × (length zs ≡ length xs)
 overwrite_fits {A} xs ys n h =
     let p = split_fits n xs (omega (arith, h)) in
     let e = p.2 in
@@ -49,25 +44,23 @@ overwrite_fits {A} xs ys n h =
     let b = length-append ys q.0.1 in
     let g = q.2 in
     let k = q.3 in
-    (p.0.0 ++ (ys ++ q.0.1), ap (λ o. bind o (λ p. bind (split_at (length ys) p.1) (λ q. Gives (p.0 ++ (ys ++ q.1))))) p.1 ∙ ap (λ o. bind o (λ q. Gives (p.0.0 ++ (ys ++ q.1)))) q.1, omega (arith, a, b, e, f, g, k))
+    (p.0.0 ++ (ys ++ q.0.1), ap (option_and_then (λ p. option_and_then (λ q. Some (p.0 ++ (ys ++ q.1))) (split_at (length ys) p.1))) p.1 ∙ ap (option_and_then (λ q. Some (p.0.0 ++ (ys ++ q.1)))) q.1, omega (arith, a, b, e, f, g, k))
 
-pub overwritten_length : {A : Type 0} (xs : List A) (n : ℕ) (ys zs : List A) → overwrite xs n ys ≡ Gives zs → length zs ≡ length xs
+pub overwritten_length : {A : Type 0} (xs : List A) (n : ℕ) (ys zs : List A) → overwrite xs n ys ≡ Some zs → length zs ≡ length xs
 overwritten_length {A} xs n ys zs e = go (split_at n xs) (split_lengths n xs) e
   where
-    inner : (p : List A × List A) → (length p.0 + length p.1 ≡ length xs) → (o : Outcome (List A × List A)) → ((q : List A × List A) → o ≡ Gives q → (length q.0 ≡ length ys) × (length q.0 + length q.1 ≡ length p.1)) → bind o (λ q. Gives (p.0 ++ (ys ++ q.1))) ≡ Gives zs → length zs ≡ length xs
-    inner p k Traps h e = cc
-    inner p k IllTyped h e = cc
-    inner p k (Gives q) h e =
+    inner : (p : List A × List A) → (length p.0 + length p.1 ≡ length xs) → (o : Option (List A × List A)) → ((q : List A × List A) → o ≡ Some q → (length q.0 ≡ length ys) × (length q.0 + length q.1 ≡ length p.1)) → option_and_then (λ q. Some (p.0 ++ (ys ++ q.1))) o ≡ Some zs → length zs ≡ length xs
+    inner p k None h e = cc
+    inner p k (Some q) h e =
         let i : p.0 ++ (ys ++ q.1) ≡ zs = cc in
         let j = h q refl in
         let a = length-append p.0 (ys ++ q.1) in
         let b = length-append ys q.1 in
         rw (← i) (omega (arith, j.0, j.1, a, b, k))
 
-    go : (o : Outcome (List A × List A)) → ((p : List A × List A) → o ≡ Gives p → (length p.0 ≡ n) × (length p.0 + length p.1 ≡ length xs)) → bind o (λ p. bind (split_at (length ys) p.1) (λ q. Gives (p.0 ++ (ys ++ q.1)))) ≡ Gives zs → length zs ≡ length xs
-    go Traps h e = cc
-    go IllTyped h e = cc
-    go (Gives p) h e = inner p ((h p refl).1) (split_at (length ys) p.1) (split_lengths (length ys) p.1) e
+    go : (o : Option (List A × List A)) → ((p : List A × List A) → o ≡ Some p → (length p.0 ≡ n) × (length p.0 + length p.1 ≡ length xs)) → option_and_then (λ p. option_and_then (λ q. Some (p.0 ++ (ys ++ q.1))) (split_at (length ys) p.1)) o ≡ Some zs → length zs ≡ length xs
+    go None h e = cc
+    go (Some p) h e = inner p ((h p refl).1) (split_at (length ys) p.1) (split_lengths (length ys) p.1) e
 
 -- what holds of what stands at a place holds still, where it holds of what is written there
 abbrev Holds : {A : Type 0} → (A → Type 0) → List A → ℕ → Type 0
@@ -98,8 +91,8 @@ module _ (env : Environment) (w : Instantiated) where
   abbrev Room : Filled → Type 0
   Room f = HasRoom env w f.store
 
-  fill_table_room : {s : Store} (n a : ℕ) (t : Table) (e : Elem) (q : ℕ) → HasRoom env w s → slice_get s.tables a ≡ Some t → (o : Outcome (List RefVal)) → overwrite t.slots q e.items ≡ o → Room (fill_table s n a t o)
-  fill_table_room {s} n a t e q room there (Gives slots) is = record {
+  fill_table_room : {s : Store} (n a : ℕ) (t : Table) (e : Elem) (q : ℕ) → HasRoom env w s → slice_get s.tables a ≡ Some t → (o : Option (List RefVal)) → overwrite t.slots q e.items ≡ o → Room (fill_table s n a t o)
+  fill_table_room {s} n a t e q room there (Some slots) is = record {
     tables = λ b d. set_holds (λ t. d.definition.limits.min ≤ length t.slots) s.tables a (record t { slots = slots }) (λ x h l.
         let both : Some x ≡ Some t = sym h ∙ there in
         let same : x ≡ t = cc in
@@ -110,16 +103,15 @@ module _ (env : Environment) (w : Instantiated) where
     elems = λ b d. set_holds (λ (e : Elem). length e.items ≤ length d.definition.items) s.elems n no_items (λ x h l. omega arith) b (room.elems b d);
     datas = room.datas;
   }
-  fill_table_room n a t e q room there Traps is = room
-  fill_table_room n a t e q room there IllTyped is = room
+  fill_table_room n a t e q room there None is = room
 
   copy_elem_room : {s : Store} (n : ℕ) (i : Inst) (x : ℕ) (o : Option ℕ) → HasRoom env w s → Room (copy_elem s n i x o)
   copy_elem_room {s} n i x o room =
       then_holds Room s o _ room (λ q _. then_holds Room s (slice_get i.tables x) _ room (λ a _. then_holds Room s (slice_get s.tables a) _ room (λ t there. then_holds Room s (slice_get s.elems n) _ room (λ e _.
       fill_table_room n a t e q room there (overwrite t.slots q e.items) refl))))
 
-  fill_memory_room : {s : Store} (n a : ℕ) (m : Memory) (e : Data) (q : ℕ) → HasRoom env w s → slice_get s.mems a ≡ Some m → (o : Outcome (List ℕ)) → overwrite m.bytes q e.bytes ≡ o → Room (fill_memory s n a m o)
-  fill_memory_room {s} n a m e q room there (Gives bytes) is = record {
+  fill_memory_room : {s : Store} (n a : ℕ) (m : Memory) (e : Data) (q : ℕ) → HasRoom env w s → slice_get s.mems a ≡ Some m → (o : Option (List ℕ)) → overwrite m.bytes q e.bytes ≡ o → Room (fill_memory s n a m o)
+  fill_memory_room {s} n a m e q room there (Some bytes) is = record {
     tables = room.tables;
     mems = λ b d. set_holds (λ m. 65536 * d.definition.min ≤ length m.bytes) s.mems a (record m { bytes = bytes }) (λ x h l.
         let both : Some x ≡ Some m = sym h ∙ there in
@@ -130,8 +122,7 @@ module _ (env : Environment) (w : Instantiated) where
     elems = room.elems;
     datas = λ b d. set_holds (λ (e : Data). length e.bytes ≤ length d.definition.bytes) s.datas n no_bytes (λ x h l. omega arith) b (room.datas b d);
   }
-  fill_memory_room n a m e q room there Traps is = room
-  fill_memory_room n a m e q room there IllTyped is = room
+  fill_memory_room n a m e q room there None is = room
 
   copy_data_room : {s : Store} (n : ℕ) (i : Inst) (x : ℕ) (o : Option ℕ) → HasRoom env w s → Room (copy_data s n i x o)
   copy_data_room {s} n i x o room =
@@ -153,10 +144,10 @@ module _ (env : Environment) (w : Instantiated) where
 pub record Kept (related : Space → ℕ → Type 0) (s t : Store) : Type 0 where
   pub funcs : t.funcs ≡ s.funcs
   pub globals : t.globals ≡ s.globals
-  pub tables : (a : ℕ) → related Tables a → at t.tables a ≡ at s.tables a
-  pub mems : (a : ℕ) → related Memories a → at t.mems a ≡ at s.mems a
-  pub elems : (a : ℕ) → related ElementSegments a → at t.elems a ≡ at s.elems a
-  pub datas : (a : ℕ) → related DataSegments a → at t.datas a ≡ at s.datas a
+  pub tables : (a : ℕ) → related Tables a → slice_get t.tables a ≡ slice_get s.tables a
+  pub mems : (a : ℕ) → related Memories a → slice_get t.mems a ≡ slice_get s.mems a
+  pub elems : (a : ℕ) → related ElementSegments a → slice_get t.elems a ≡ slice_get s.elems a
+  pub datas : (a : ℕ) → related DataSegments a → slice_get t.datas a ≡ slice_get s.datas a
 
 pub nothing_kept : (related : Space → ℕ → Type 0) (s : Store) → Kept related s s
 nothing_kept related s = record { funcs = refl; globals = refl; tables = λ a r. refl; mems = λ a r. refl; elems = λ a r. refl; datas = λ a r. refl }

@@ -12,7 +12,7 @@ use Rattle.wasm_tree.specs.Spaces.{funcs_of}
 use Rattle.wasm_meaning.specs.State.{RefVal, FuncRef, Ref, Inst, Elem}
 use Rattle.wasm_meaning.specs.Values.{ref_of}
 use Rattle.wasm_meaning.specs.Environment.{Environment}
-use Rattle.wasm_meaning.specs.World.{given, all_there, new_elem, ref_value, elem_of}
+use Rattle.wasm_meaning.specs.World.{all_there, new_elem, ref_value, elem_of}
 use Rattle.index_remap.specs.References.{is_among, body_refs, outside_refs, declared_refs, with_declared, declaring}
 use Rattle.world_simulation.specs.Alone.{one}
 
@@ -56,7 +56,7 @@ module _ (env : Environment) (u : Module) (j : Inst) where
   refs_there (f ∷ fs) h =
       let a = slice_get_there j.funcs f (h zero f refl) in
       let rest = refs_there fs (λ n. h (suc n)) in
-      let first : ref_value env (one u) (j ∷ []) 0 (const.Func f) ≡ Some (FuncRef (Some a.0)) = ap (λ o. option_and_then (λ v. given (ref_of v)) (option_and_then (λ a. Some (Ref (FuncRef (Some a)))) o)) a.1 in
+      let first : ref_value env (one u) (j ∷ []) 0 (const.Func f) ≡ Some (FuncRef (Some a.0)) = ap (λ o. option_and_then ref_of (option_and_then (λ a. Some (Ref (FuncRef (Some a)))) o)) a.1 in
       (FuncRef (Some a.0) ∷ rest.0, ap₂ (λ o p. option_and_then (λ y. option_and_then (λ ys. Some (y ∷ ys)) p) o) first rest.1)
 
   segments_there : (fs : List ℕ) → ((n f : ℕ) → slice_get fs n ≡ Some f → f < length j.funcs) → (es : List Elem) × (all_there (elem_of env (one u) (j ∷ []) 0) (last_segments fs) ≡ Some es)

@@ -9,7 +9,7 @@ use Rattle.base_lists.proofs.Places.{append_left, append_right, map_at, append_a
 use Rattle.wasm_meaning.specs.World.{numbers, Task, tasks_in, own_count, defined_count}
 use Rattle.index_remap.specs.Related.{OptRel, some, ListRel}
 use Rattle.world_simulation.specs.Unreachable.{without}
-use Rattle.world_simulation.proofs.Places.{place_rel, opt_at}
+use Rattle.world_simulation.proofs.Places.{opt_at}
 use Rattle.wasm_meaning.specs.State.{Inst}
 use Rattle.index_remap.specs.Renumbered.{has}
 use Rattle.world_simulation.specs.Segments.{InOrder, both}
@@ -19,6 +19,7 @@ use Rattle.wasm_tree.specs.declared.module.Module.{Module}
 use Rattle.world_simulation.specs.Definitions.{FuncsCorrespond, GlobalsCorrespond, ElemsCorrespond, Partners, DefinitionsCorrespond, Instantiated, values_in}
 use Rattle.world_simulation.specs.Definitions as partners
 use Rattle.world_simulation.specs.Alone.{one}
+use Rattle.index_remap.proofs.Rel.{get_rel}
 
 -- ---- the relation of addresses ----
 
@@ -92,7 +93,7 @@ pub space_moves : (P : ℕ → ℕ → Type 0) (l : List ℕ) (from gap count fe
 space_moves P l from gap count fewer r within smaller equal related x y h move = by (cases_lt x (length l)) move
   where
     by : (x < length l) ⊎ (length l ≤ x) → Moved (length l + gap) x y → OptRel P (slice_get (l ++ numbers from count) x) (slice_get (l ++ numbers from fewer) y)
-    by (inl k) (stays m e) = opt_at (append_left l _ x k) (ap (slice_get (l ++ numbers from fewer)) (sym e) ∙ append_left l _ x k) (place_rel r x)
+    by (inl k) (stays m e) = opt_at (append_left l _ x k) (ap (slice_get (l ++ numbers from fewer)) (sym e) ∙ append_left l _ x k) (get_rel r x)
     by (inl k) (falls m e) = absurd (omega (arith, k, m))
     by (inr k) (stays m e) =
         let z = x - length l in

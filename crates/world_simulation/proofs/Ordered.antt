@@ -1,5 +1,5 @@
 -- Segments of two worlds, partners in the same order, are copied to related stores, and trap in both or neither.
-use Rattle.std.proofs.Common.{◌≡◌, ℕ, zero, suc, ◌+◌, List, [], ◌∷◌, ◌++◌, length, Option, Some, Bool, true, false, cond, ◌⊎◌, inl, inr, refl, sym, ap, subst, ◌∙◌, arith, slice_get}
+use Rattle.std.proofs.Common.{◌≡◌, ℕ, zero, suc, ◌+◌, List, [], ◌∷◌, ◌++◌, length, Option, Some, Bool, true, false, cond, ◌⊎◌, inl, inr, refl, sym, ap, subst, ◌∙◌, arith, slice_get, None}
 use Rattle.base_lists.proofs.Numbers.{numbers_at}
 use Rattle.base_lists.proofs.Places.{append_from}
 use Rattle.std.proofs.lemmas.Option.{slice_get_within}
@@ -11,22 +11,22 @@ use Rattle.wasm_tree.specs.declared.module.ElemSeg.{ElemSeg}
 use Rattle.wasm_tree.specs.declared.module.DataMode.{DataMode}
 use Rattle.wasm_tree.specs.declared.module.DataSeg.{DataSeg}
 use Rattle.wasm_tree.specs.declared.module.Module.{Module}
-use Rattle.wasm_meaning.specs.Outcomes.{Outcome, Gives, Traps, IllTyped, overwrite}
+use Rattle.wasm_meaning.specs.Outcomes.{overwrite}
 use Rattle.wasm_meaning.specs.State.{RefVal, Val, Inst, Table, Memory, Store}
 use Rattle.wasm_meaning.specs.Linking.{Part, module_at}
 use Rattle.wasm_meaning.specs.Environment.{Environment}
 use Rattle.wasm_meaning.specs.World.{Filled, Task, numbers, base, defined_before, insts_from, own_store, stores_from, tasks_in, elem_tasks, data_tasks, or_trapped, fill_table, copy_elem, run_elem_with, run_elem, fill_memory, copy_data, run_data_with, run_data, and_then, in_turn}
 use Rattle.wasm_meaning.specs.World as world
-use Rattle.index_remap.specs.Related.{Pairing, OneToOne, OptRel, none, some, ResRel, done, trap, wrong, ListRel, RefRel, TableRel, StoreRel, set_table, set_memory, drop_elem, drop_data}
+use Rattle.index_remap.specs.Related.{Pairing, OneToOne, OptRel, none, some, ListRel, RefRel, TableRel, StoreRel, set_table, set_memory, drop_elem, drop_data}
 use Rattle.index_remap.specs.RelatedRuns.{HasNoPartner}
-use Rattle.index_remap.proofs.Rel.{written, overwrite_rel}
+use Rattle.index_remap.proofs.Rel.{written, overwrite_rel, there}
 use Rattle.index_remap.proofs.StepsAgree.{changed_rel}
 use Rattle.world_simulation.specs.Definitions.{Instantiated, DefinedAt, values_in}
 use Rattle.world_simulation.specs.Segments.{InOrder, ElemsPartner, ElemAlone, DatasPartner, DataAlone, alone_in_first, offset_in, ElemsInOrder, DatasInOrder}
 use Rattle.world_simulation.specs.Segments as segments
 use Rattle.world_simulation.proofs.Places.{then_rel, then_same}
 use Rattle.world_simulation.proofs.Instancing.{IsInst, inst_is, insts_are}
-use Rattle.world_simulation.proofs.Copied.{both_placed, HasRoom, run_elem_room, run_data_room, Kept, nothing_kept, Copies, elem_copied, data_copied}
+use Rattle.world_simulation.proofs.Copied.{HasRoom, run_elem_room, run_data_room, Kept, nothing_kept, Copies, elem_copied, data_copied}
 
 -- ---- each segment is one that its part defines ----
 
@@ -177,23 +177,21 @@ module _ (R : Pairing) (apart : OneToOne R) (env : Environment) (v w : Instantia
   or_trapped_rel like none = record { store = like; trapped = refl }
   or_trapped_rel like (some r) = r
 
-  fill_table_rel : {s z : Store} {a b n k : ℕ} {t u : Table} {o p : Outcome (List RefVal)} → StoreRel R s z → R.of ElementSegments n k → R.of Tables a b → TableRel R t u → ResRel (ListRel (RefRel R)) o p → Related (fill_table s n a t o) (fill_table z k b u p)
-  fill_table_rel like e d r (done l) = record { store = changed_rel R (written apart) (changed_rel R (written apart) like (set_table d (record { type = r.type; most = r.most; slots = l }))) (drop_elem e); trapped = refl }
-  fill_table_rel like e d r trap = record { store = like; trapped = refl }
-  fill_table_rel like e d r wrong = record { store = like; trapped = refl }
+  fill_table_rel : {s z : Store} {a b n k : ℕ} {t u : Table} {o p : Option (List RefVal)} → StoreRel R s z → R.of ElementSegments n k → R.of Tables a b → TableRel R t u → OptRel (ListRel (RefRel R)) o p → Related (fill_table s n a t o) (fill_table z k b u p)
+  fill_table_rel like e d r (some l) = record { store = changed_rel R (written apart) (changed_rel R (written apart) like (set_table d (record { type = r.type; most = r.most; slots = l }))) (drop_elem e); trapped = refl }
+  fill_table_rel like e d r none = record { store = like; trapped = refl }
 
   copy_elem_rel : {s z : Store} (i j : Inst) {n k : ℕ} (x y : ℕ) (o : Option ℕ) → StoreRel R s z → R.of ElementSegments n k → OptRel (R.of Tables) (slice_get i.tables x) (slice_get j.tables y) → Related (copy_elem s n i x o) (copy_elem z k j y o)
   copy_elem_rel {s} {z} i j {n} {k} x y o like e d =
-      or_trapped_rel like (then_same o (λ q _. then_rel d (λ a b h. then_rel (both_placed s.tables z.tables a b (like.tables h)) (λ _ _ t. then_rel (both_placed s.elems z.elems n k (like.elems e)) (λ _ _ i. some (fill_table_rel like e h t (overwrite_rel q t.slots i.items)))))))
+      or_trapped_rel like (then_same o (λ q _. then_rel d (λ a b h. then_rel (there (like.tables h)) (λ _ _ t. then_rel (there (like.elems e)) (λ _ _ i. some (fill_table_rel like e h t (overwrite_rel q t.slots i.items)))))))
 
-  fill_memory_rel : {s z : Store} {a b n k : ℕ} (m : Memory) (o : Outcome (List ℕ)) → StoreRel R s z → R.of DataSegments n k → R.of Memories a b → Related (fill_memory s n a m o) (fill_memory z k b m o)
-  fill_memory_rel m (Gives bytes) like e d = record { store = changed_rel R (written apart) (changed_rel R (written apart) like (set_memory d)) (drop_data e); trapped = refl }
-  fill_memory_rel m Traps like e d = record { store = like; trapped = refl }
-  fill_memory_rel m IllTyped like e d = record { store = like; trapped = refl }
+  fill_memory_rel : {s z : Store} {a b n k : ℕ} (m : Memory) (o : Option (List ℕ)) → StoreRel R s z → R.of DataSegments n k → R.of Memories a b → Related (fill_memory s n a m o) (fill_memory z k b m o)
+  fill_memory_rel m (Some bytes) like e d = record { store = changed_rel R (written apart) (changed_rel R (written apart) like (set_memory d)) (drop_data e); trapped = refl }
+  fill_memory_rel m None like e d = record { store = like; trapped = refl }
 
   copy_data_rel : {s z : Store} (i j : Inst) {n k : ℕ} (x y : ℕ) (o : Option ℕ) → StoreRel R s z → R.of DataSegments n k → OptRel (R.of Memories) (slice_get i.mems x) (slice_get j.mems y) → Related (copy_data s n i x o) (copy_data z k j y o)
   copy_data_rel {s} {z} i j {n} {k} x y o like e d =
-      or_trapped_rel like (then_same o (λ q _. then_rel d (λ a b h. then_rel (both_placed s.mems z.mems a b (like.mems h)) (λ m u same. then_rel (both_placed s.datas z.datas n k (like.datas e)) (λ c d bytes.
+      or_trapped_rel like (then_same o (λ q _. then_rel d (λ a b h. then_rel (there (like.mems h)) (λ m u same. then_rel (there (like.datas e)) (λ c d bytes.
       some (subst (λ u. Related (fill_memory s n a m (overwrite m.bytes q c.bytes)) (fill_memory z k b u (overwrite u.bytes q d.bytes))) same
       (subst (λ bytes. Related (fill_memory s n a m (overwrite m.bytes q c.bytes)) (fill_memory z k b m (overwrite m.bytes q bytes))) bytes (fill_memory_rel m (overwrite m.bytes q c.bytes) like e h))))))))
 

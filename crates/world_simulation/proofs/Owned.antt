@@ -7,7 +7,6 @@ use Rattle.wasm_tree.specs.declared.types.RefType.{RefType}
 use Rattle.wasm_tree.specs.declared.types.RefType.TheVariants as reft
 use Rattle.wasm_tree.specs.declared.types.ValType.{ValType}
 use Rattle.wasm_tree.specs.declared.types.ValType.TheVariants as valt
-use Rattle.wasm_meaning.specs.Outcomes.{given}
 use Rattle.wasm_num.specs.Operations.{Width, W32, W64}
 use Rattle.wasm_meaning.specs.State.{Val, Num, Own}
 use Rattle.wasm_meaning.specs.Values.{ref_of, null_of}
@@ -89,7 +88,7 @@ module _ (R : Pairing) (env : Environment) (own : SharesOwn R env) where
   received_rel (valt.Ref reft.Extern) (ExternNumber n) = some (reference extern)
   received_rel _ _ = none
 
-  received_ref_rel : (ty : RefType) {o p : Option Val} → OptRel (ValRel R) o p → RefRel R (or_null ty (option_and_then (λ v. given (ref_of v)) o)) (or_null ty (option_and_then (λ v. given (ref_of v)) p))
+  received_ref_rel : (ty : RefType) {o p : Option Val} → OptRel (ValRel R) o p → RefRel R (or_null ty (option_and_then ref_of o)) (or_null ty (option_and_then ref_of p))
   received_ref_rel ty (some (reference r)) = r
   received_ref_rel reft.Func (some number) = func none
   received_ref_rel reft.Func none = func none

@@ -1,11 +1,10 @@
 -- Lists by place, numbers in a row, and lists that are related place by place.
 use Rattle.std.proofs.Common.{◌≡◌, ℕ, zero, suc, ◌+◌, ◌<◌, ◌≤◌, List, [], ◌∷◌, map, length, Option, Some, None, Bool, true, refl, sym, ap, subst, arith, option_and_then, slice_get, slice_set}
-use Rattle.wasm_meaning.specs.Outcomes.{Outcome, Gives, IllTyped, at}
 use Rattle.wasm_meaning.specs.World.{numbers, all_there}
 pub use Rattle.base_lists.proofs.Bools.{left_true, right_true}
 pub use Rattle.index_remap.proofs.Rel.{then_rel, then_rel_is}
 use Rattle.std.specs.List.{list_all}
-use Rattle.index_remap.specs.Related.{OptRel, none, some, ResRel, done, wrong, BothRel, both, ListRel, nil, cons}
+use Rattle.index_remap.specs.Related.{OptRel, none, some, BothRel, both, ListRel, nil, cons}
 
 -- ---- places ----
 
@@ -58,11 +57,6 @@ opt_at {P = P} {o = o} {r = r} e f h = subst (λ y. OptRel P o y) (sym f) (subst
 
 -- ---- lists that are related ----
 
-pub place_rel : {A B : Type 0} {P : A → B → Type 0} {xs : List A} {ys : List B} → ListRel P xs ys → (n : ℕ) → OptRel P (slice_get xs n) (slice_get ys n)
-place_rel nil n = none
-place_rel (cons p r) zero = some p
-place_rel (cons p r) (suc n) = place_rel r n
-
 pub self_rel : {A : Type 0} {P : A → A → Type 0} (xs : List A) → ((x : A) → P x x) → ListRel P xs xs
 self_rel [] h = nil
 self_rel (x ∷ xs) h = cons (h x) (self_rel xs h)
@@ -87,40 +81,10 @@ pub maps_rel : {A B C D : Type 0} {P : C → D → Type 0} (f : A → C) (g : B 
 maps_rel f g nil = nil
 maps_rel f g (cons p r) = cons p (maps_rel f g r)
 
--- ---- where all are there ----
+pub both_at : {A B : Type 0} {P : A → B → Type 0} (xs : List A) (ys : List B) (n m : ℕ) (x : A) (y : B) → slice_get xs n ≡ Some x → slice_get ys m ≡ Some y → P x y → BothRel P (slice_get xs n) (slice_get ys m)
+both_at xs ys n m x y e f r = rw (e, f) (both r)
 
--- ---- places as the steps look them up ----
-
-abbrev or_ill : {A : Type 0} → Option A → Outcome A
-or_ill None = IllTyped
-or_ill (Some a) = Gives a
-
-at_place : {A : Type 0} (xs : List A) (n : ℕ) → at xs n ≡ or_ill (slice_get xs n)
-at_place [] n = refl
-at_place (x ∷ xs) zero = refl
-at_place (x ∷ xs) (suc n) = at_place xs n
-
-res_of : {A B : Type 0} {P : A → B → Type 0} {o : Option A} {p : Option B} → OptRel P o p → ResRel P (or_ill o) (or_ill p)
-res_of none = wrong
-res_of (some r) = done r
-
-pub names_of : {A B : Type 0} {P : A → B → Type 0} (xs : List A) (ys : List B) (n m : ℕ) → OptRel P (slice_get xs n) (slice_get ys m) → ResRel P (at xs n) (at ys m)
-names_of xs ys n m r = rw (at_place xs n, at_place ys m) (res_of r)
-
--- what a step looks up, as options
-pub res_placed : {A B : Type 0} {P : A → B → Type 0} (xs : List A) (ys : List B) (n m : ℕ) → ResRel P (at xs n) (at ys m) → OptRel P (slice_get xs n) (slice_get ys m)
-res_placed {A} {B} {P} xs ys n m r = go (slice_get xs n) (slice_get ys m) (subst (λ o. ResRel P o (or_ill (slice_get ys m))) (at_place xs n) (subst (ResRel P (at xs n)) (at_place ys m) r))
-  where
-    go : (o : Option A) (p : Option B) → ResRel P (or_ill o) (or_ill p) → OptRel P o p
-    go None None r = none
-    go (Some a) (Some b) (done r) = some r
-    go None (Some b) r = elim r [ ]
-    go (Some a) None r = elim r [ ]
-
-pub both_at : {A B : Type 0} {P : A → B → Type 0} (xs : List A) (ys : List B) (n m : ℕ) (x : A) (y : B) → slice_get xs n ≡ Some x → slice_get ys m ≡ Some y → P x y → BothRel P (at xs n) (at ys m)
-both_at xs ys n m x y e f r = rw (at_place xs n, at_place ys m, e, f) (both r)
-
-pub both_in : {A B : Type 0} {P : A → B → Type 0} {xs : List A} {ys : List B} → ListRel P xs ys → (n : ℕ) → n < length xs → BothRel P (at xs n) (at ys n)
+pub both_in : {A B : Type 0} {P : A → B → Type 0} {xs : List A} {ys : List B} → ListRel P xs ys → (n : ℕ) → n < length xs → BothRel P (slice_get xs n) (slice_get ys n)
 both_in nil n h = absurd (omega arith)
 both_in (cons p r) zero h = both p
 both_in (cons p r) (suc n) h = both_in r n (omega arith)

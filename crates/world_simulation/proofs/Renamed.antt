@@ -1,5 +1,5 @@
 -- A module's items with other indices, where each index of a set names what its entry names: exports, starts, functions, constant expressions, and the modes of segments.
-use Rattle.std.proofs.Common.{◌≡◌, ℕ, suc, List, [], ◌∷◌, map, Option, Some, None, refl, sym, ap, subst, option_and_then, slice_get}
+use Rattle.std.proofs.Common.{◌≡◌, ℕ, suc, List, [], ◌∷◌, map, Option, Some, None, refl, sym, subst, option_and_then, slice_get}
 use Rattle.std.specs.Prelude.{slice_index, IsTrue, Bool}
 use Rattle.wasm_tree.specs.declared.space.Space.{Space}
 use Rattle.wasm_tree.specs.declared.space.Space.TheVariants.{Types, Functions, Tables, Memories, Globals, ElementSegments, DataSegments}
@@ -14,13 +14,12 @@ use Rattle.wasm_tree.specs.declared.module.DataMode.TheVariants as data'
 use Rattle.wasm_tree.specs.declared.module.DataSeg.{DataSeg}
 use Rattle.wasm_tree.specs.declared.module.Func as tree
 use Rattle.wasm_num.specs.Operations.{W32}
-use Rattle.wasm_meaning.specs.Outcomes.{Outcome, Gives, IllTyped, at}
 use Rattle.wasm_meaning.specs.State.{Val, Inst}
 use Rattle.wasm_meaning.specs.Values.{num_of}
-use Rattle.wasm_meaning.specs.World.{Task, given, one_place, start_in, address_in}
+use Rattle.wasm_meaning.specs.World.{Task, one_place, start_in, address_in}
 use Rattle.index_remap.specs.declared.remap.Remap.{Remap}
 use Rattle.index_remap.specs.Renumbered.{new_func, new_const, new_elem, new_elem_mode, new_data_mode, new_export_desc, new_start}
-use Rattle.index_remap.specs.Related.{Pairing, OptRel, none, some, ListRel, nil, cons, ResRel, ValRel, number, reference}
+use Rattle.index_remap.specs.Related.{Pairing, OptRel, none, some, ListRel, nil, cons, ValRel, number, reference}
 use Rattle.index_remap.specs.RelatedRuns.{ThingRel, a_func, a_table, a_memory, a_global}
 use Rattle.index_remap.specs.Laws.{passed, RenumberedCodeIsRelated}
 use Rattle.remap_typing.specs.Indices.{Indices, ConstNamesOnly, FuncNamesOnly, ExportNamesOnly, ElemModeNamesOnly, DataModeNamesOnly}
@@ -28,24 +27,11 @@ use Rattle.world_simulation.specs.Named.{EntriesName}
 use Rattle.world_simulation.specs.Definitions.{FuncsCorrespond, is_declarative, ElemsCorrespond}
 use Rattle.world_simulation.specs.Segments.{offset_in, ElemsPartner, DatasPartner}
 use Rattle.world_simulation.specs.Segments as segments
-use Rattle.world_simulation.proofs.Places.{then_rel, res_placed}
+use Rattle.world_simulation.proofs.Places.{then_rel}
 use Rattle.world_simulation.proofs.Named.{all_named}
 
--- equal look-ups, as options
-same_placed : {A : Type 0} (xs ys : List A) (n k : ℕ) → at xs n ≡ at ys k → slice_get xs n ≡ slice_get ys k
-same_placed {A} xs ys n k e = go (res_placed {P = λ x y. x ≡ y} xs ys n k (subst (ResRel (λ x y. x ≡ y) (at xs n)) e (self (at xs n))))
-  where
-    self : (o : Outcome A) → ResRel (λ x y. x ≡ y) o o
-    self (Gives x) = ResRel.done refl
-    self IllTyped = ResRel.wrong
-    self _ = ResRel.trap
-
-    go : {o p : Option A} → OptRel (λ x y. x ≡ y) o p → o ≡ p
-    go none = refl
-    go (some e) = ap Some e
-
 -- the offset of a segment, by values that are related
-pub offset_same : (R : Pairing) {o p : Option Val} → OptRel (ValRel R) o p → option_and_then (λ v. given (num_of W32 v)) o ≡ option_and_then (λ v. given (num_of W32 v)) p
+pub offset_same : (R : Pairing) {o p : Option Val} → OptRel (ValRel R) o p → option_and_then (num_of W32) o ≡ option_and_then (num_of W32) p
 offset_same R none = refl
 offset_same R (some number) = refl
 offset_same R (some (reference r)) = refl
@@ -55,16 +41,16 @@ module _ (of : Space → ℕ → ℕ → Bool) (m : Remap) (kept : Indices) (i j
   R = passed of of []
 
   pub func_named : (x : ℕ) → IsTrue (kept Functions x) → OptRel (R.of Functions) (slice_get i.funcs x) (slice_get j.funcs (slice_index m.funcs x))
-  func_named x h = res_placed i.funcs j.funcs x _ (names Functions x h)
+  func_named x h = names Functions x h
 
   pub table_named : (x : ℕ) → IsTrue (kept Tables x) → OptRel (R.of Tables) (slice_get i.tables x) (slice_get j.tables (slice_index m.tables x))
-  table_named x h = res_placed i.tables j.tables x _ (names Tables x h)
+  table_named x h = names Tables x h
 
   pub memory_named : (x : ℕ) → IsTrue (kept Memories x) → OptRel (R.of Memories) (slice_get i.mems x) (slice_get j.mems (slice_index m.mems x))
-  memory_named x h = res_placed i.mems j.mems x _ (names Memories x h)
+  memory_named x h = names Memories x h
 
   pub global_named : (x : ℕ) → IsTrue (kept Globals x) → OptRel (R.of Globals) (slice_get i.globals x) (slice_get j.globals (slice_index m.globals x))
-  global_named x h = res_placed i.globals j.globals x _ (names Globals x h)
+  global_named x h = names Globals x h
 
   pub export_named : (d : ExportDesc) → ExportNamesOnly kept d → OptRel (ThingRel R) (address_in i d) (address_in j (new_export_desc m d))
   export_named (ex.Func x) h = then_rel (func_named x h) (λ _ _ r. some (a_func r))
@@ -81,7 +67,7 @@ module _ (of : Space → ℕ → ℕ → Bool) (m : Remap) (kept : Indices) (i j
       go (some r) = cons r nil
 
   pub funcs_correspond : RenumberedCodeIsRelated → (f : tree.Func) → FuncNamesOnly kept f → FuncsCorrespond R i j f (new_func m f)
-  funcs_correspond law f h = record { type = same_placed i.types j.types f.ty _ (names Types f.ty h.0); locals = refl; code = law of of [] m i j f.body (all_named R m kept i j names f.body h.1) }
+  funcs_correspond law f h = record { type = names Types f.ty h.0; locals = refl; code = law of of [] m i j f.body (all_named R m kept i j names f.body h.1) }
 
   -- ---- by values that are related ----
 

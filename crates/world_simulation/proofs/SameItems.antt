@@ -14,7 +14,7 @@ use Rattle.wasm_meaning.specs.World.{own_count, defined_count, numbers, Task, ta
 use Rattle.index_remap.specs.Related.{Pairing, OptRel, none, some, ListRel, cons, nil, ValRel, number, reference, func}
 use Rattle.index_remap.specs.Laws.{passed}
 use Rattle.wasm_tree.specs.declared.module.Module.{Module}
-use Rattle.world_simulation.proofs.Places.{place_rel, opt_at, right_there, all_rel, map_length, then_rel, then_same}
+use Rattle.world_simulation.proofs.Places.{opt_at, right_there, all_rel, map_length, then_rel, then_same}
 use Rattle.wasm_tree.specs.declared.module.Func as tree
 use Rattle.wasm_tree.specs.Spaces.{imported_funcs, funcs_of}
 use Rattle.wasm_meaning.specs.State.{Inst, Text, Func, Global, Elem, Store, Val}
@@ -34,7 +34,7 @@ use Rattle.wasm_tree.specs.declared.module.ElemSeg.{ElemSeg}
 use Rattle.wasm_tree.specs.declared.module.DataSeg.{DataSeg}
 use Rattle.index_remap.specs.RelatedRuns.{KeyRel, HasNoPartner}
 use Rattle.index_remap.specs.Renumbered.{new_export, new_elem, new_data, new_global, new_const, new_start, has}
-use Rattle.index_remap.proofs.Rel.{append_rel}
+use Rattle.index_remap.proofs.Rel.{append_rel, get_rel}
 use Rattle.world_simulation.specs.Definitions.{FuncsCorrespond, DefinitionsCorrespond, Instantiated, values_in}
 use Rattle.world_simulation.specs.Segments as order
 use Rattle.world_simulation.proofs.Renamed.{elems_correspond, elem_mode_named, data_mode_named, export_named, start_named, func_named}
@@ -131,7 +131,7 @@ module _ (of : Space → ℕ → ℕ → Bool) (m : Remap) (kept : Indices) (t u
         read globals y = option_and_then (λ a. option_and_then (λ g. Some g.value) (slice_get (own_globals env) a)) (slice_get globals y)
 
         value : (y : ℕ) → OptRel (ValRel R) (read i.globals y) (read j.globals y)
-        value y = subst (λ l. OptRel (ValRel R) (read i.globals y) (read l y)) (sym same_globals) (then_same (slice_get i.globals y) (λ a _. then_rel (place_rel (own_globals_rel R env own) a) (λ _ _ g. some g.value)))
+        value y = subst (λ l. OptRel (ValRel R) (read i.globals y) (read l y)) (sym same_globals) (then_same (slice_get i.globals y) (λ a _. then_rel (get_rel (own_globals_rel R env own) a) (λ _ _ g. some g.value)))
 
         go : (o : Option ℕ) → OptRel (ValRel R) (option_and_then (value_of_read (own_globals env) (i ∷ [])) (option_and_then (λ y. Some (record { part = 0; expr = const.Global y })) o)) (option_and_then (value_of_read (own_globals env) (j ∷ [])) (option_and_then (λ y. Some (record { part = 0; expr = const.Global y })) o))
         go None = none

@@ -10,7 +10,7 @@ use Rattle.wasm_tree.specs.declared.module.ConstExpr.{ConstExpr}
 use Rattle.wasm_meaning.specs.Values.{ref_of, null_of}
 use Rattle.wasm_meaning.specs.Linking.{sites}
 use Rattle.wasm_meaning.specs.Environment.{Environment, all_of}
-use Rattle.wasm_meaning.specs.World.{World, Begun, given, insts_from, stores_from, own_store, all_there, seen_as, is_matched, new_elem, elem_with, segments, starts_of, begun, instantiate, is_there, links}
+use Rattle.wasm_meaning.specs.World.{World, Begun, insts_from, stores_from, own_store, all_there, seen_as, is_matched, new_elem, elem_with, segments, starts_of, begun, instantiate, is_there, links}
 use Rattle.index_remap.specs.Related.{Pairing, OneToOne, OptRel, none, some, ListRel, nil, cons, opening}
 use Rattle.index_remap.specs.RelatedRuns.{BegunRel}
 use Rattle.index_remap.specs.Laws.{EntryByEntry}
@@ -41,8 +41,8 @@ what_is_made env w b h =
 
 elem_few : (value : ConstExpr → Option Val) (d : ElemSeg) (e : Elem) → elem_with value d ≡ Some e → length e.items ≤ length d.items
 elem_few value d e h =
-    let i = and_then_is (all_there (λ x. option_and_then (λ v. given (ref_of v)) (value x)) d.items) _ e h in
-    let many = all_there_length (λ x. option_and_then (λ v. given (ref_of v)) (value x)) d.items i.0 i.1 in
+    let i = and_then_is (all_there (λ x. option_and_then ref_of (value x)) d.items) _ e h in
+    let many = all_there_length (λ x. option_and_then ref_of (value x)) d.items i.0 i.1 in
     let last = i.2 in
     let same : new_elem d.mode i.0 ≡ e = cc in
     subst (λ (e : Elem). length e.items ≤ length d.items) same (few d.mode i.0 many)

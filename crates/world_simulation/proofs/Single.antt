@@ -14,16 +14,15 @@ use Rattle.wasm_meaning.specs.Values.{same_ref, same_type, same_func_type}
 use Rattle.wasm_meaning.specs.Linking.{Site, has_kind, pair_of, places, sites, imports_of, Entity}
 use Rattle.wasm_meaning.specs.Linking as linking
 use Rattle.wasm_meaning.specs.Environment.{Environment, Thing, same_key, all_of}
-use Rattle.wasm_meaning.specs.World.{given, meets, same_bool, numbers, own_count, defined_count, address_of, space, is_match, is_matched, Begun, insts_from, stores_from, own_store, joined_stores, part_store, all_there, segments, begun, instantiate, is_there, links, alone, elem_tasks, data_tasks, seen_as, start_in, starts_of}
+use Rattle.wasm_meaning.specs.World.{meets, same_bool, numbers, own_count, defined_count, address_of, space, is_match, is_matched, Begun, insts_from, stores_from, own_store, joined_stores, part_store, all_there, segments, begun, instantiate, is_there, links, alone, elem_tasks, data_tasks, seen_as, start_in, starts_of}
 use Rattle.index_remap.specs.Related.{Pairing, OptRel, none, some, ListRel, TableRel, StoreRel}
 use Rattle.index_remap.specs.RelatedRuns.{ThingRel, a_func, a_table, a_memory, a_global}
-use Rattle.index_remap.proofs.Rel.{length_rel, same_there}
+use Rattle.index_remap.proofs.Rel.{length_rel, same_there, there}
 use Rattle.world_simulation.specs.Alone.{one, site, key_in, thing_in, import_places, addresses}
 use Rattle.world_simulation.specs.Owned.{SharesOwn}
 use Rattle.world_simulation.proofs.Alone.{space_is, thing_is, on_some}
 use Rattle.world_simulation.proofs.Owned.{owned_rel, look_rel}
 use Rattle.world_simulation.proofs.Places.{then_rel, then_same, then_eq, opt_self, self_rel, all_rel}
-use Rattle.world_simulation.proofs.Copied.{both_placed}
 use Rattle.wasm_meaning.specs.World as world
 use Rattle.world_simulation.proofs.Instancing.{IsInst, inst_is}
 
@@ -65,10 +64,10 @@ module _ (R : Pairing) (env : Environment) (own : SharesOwn R env) where
 
     match_same : (d : ImportDesc) {x y : Thing} → ThingRel R x y → is_match s t d x ≡ is_match z u d y
     match_same (im.Func ty) {y = y} (a_func p) =
-        on_some (slice_get t.types ty) (λ v. ap (λ o. option_and_then (λ w. Some (same_func_type v w)) (given o)) (same_there (like.types p))) ∙ ap (λ ts. is_match z (record t { types = ts }) (im.Func ty) y) (sym types)
-    match_same (im.Table l) (a_table {a = a} {b = b} p) = then_eq (both_placed s.tables z.tables a b (like.tables p)) (λ _ _ r. ap Some (table_same l r))
-    match_same (im.Memory l) (a_memory {a = a} {b = b} p) = then_eq (both_placed s.mems z.mems a b (like.mems p)) (λ _ _ r. ap (λ w. Some (meets w.pages w.most l)) r)
-    match_same (im.Global l) (a_global {a = a} {b = b} p) = then_eq (both_placed s.globals z.globals a b (like.globals p)) (λ _ _ r. ap (λ ty. Some (same_type l.ty ty.ty && same_bool l.mutable ty.mutable)) r.type)
+        on_some (slice_get t.types ty) (λ v. ap (λ o. option_and_then (λ w. Some (same_func_type v w)) o) (same_there (like.types p))) ∙ ap (λ ts. is_match z (record t { types = ts }) (im.Func ty) y) (sym types)
+    match_same (im.Table l) (a_table {a = a} {b = b} p) = then_eq (there (like.tables p)) (λ _ _ r. ap Some (table_same l r))
+    match_same (im.Memory l) (a_memory {a = a} {b = b} p) = then_eq (there (like.mems p)) (λ _ _ r. ap (λ w. Some (meets w.pages w.most l)) r)
+    match_same (im.Global l) (a_global {a = a} {b = b} p) = then_eq (there (like.globals p)) (λ _ _ r. ap (λ ty. Some (same_type l.ty ty.ty && same_bool l.mutable ty.mutable)) r.type)
     match_same _ _ = refl
 
     matched_same : (n : ℕ) → is_matched env (one t) s (site n) ≡ is_matched env (one u) z (site n)

@@ -1,8 +1,8 @@
 -- Starts one after the other, and one start that calls them.
-use Rattle.std.proofs.Common.{◌≡◌, ℕ, ◌+◌, List, [], ◌∷◌, ◌++◌, Some, None, Bool, true, false, cond, map, refl, sym, ap, subst, arith}
+use Rattle.std.proofs.Common.{◌≡◌, ℕ, ◌+◌, List, [], ◌∷◌, ◌++◌, Some, None, Bool, true, false, cond, map, refl, sym, ap, subst, arith, slice_get, Option, option_and_then}
 use Rattle.wasm_tree.specs.declared.instr.Instr.{out-Instr}
 use Rattle.wasm_tree.specs.declared.instr.Instr.TheVariants as i
-use Rattle.wasm_meaning.specs.Outcomes.{Outcome, Gives, Traps, IllTyped, bind, at}
+use Rattle.wasm_meaning.specs.Outcomes.{Gives}
 use Rattle.wasm_meaning.specs.State.{Inst, Func, Code, Own, Placeholder, Store, Frame, Entry, Running, Opening, Waiting}
 use Rattle.wasm_meaning.specs.Control.{type_of_func}
 use Rattle.wasm_meaning.specs.Step.{enter}
@@ -34,7 +34,7 @@ calls_low j ns = record { gives = λ s. refl; traps = refl }
 -- the same functions are named, whatever else is in the store
 still_named : {s t : Store} {j : Inst} {ns xs : List ℕ} → t.funcs ≡ s.funcs → ListRel (NamesStart s j) ns xs → ListRel (NamesStart t j) ns xs
 still_named e nil = nil
-still_named {s = s} {t = t} e (cons {a = n} {b = a} x l) = cons (record { named = x.named; typed = subst (λ fs. bind (at fs a) (λ f. Gives (type_of_func f)) ≡ Gives from_nothing_to_nothing) (sym e) x.typed }) (still_named e l)
+still_named {s = s} {t = t} e (cons {a = n} {b = a} x l) = cons (record { named = x.named; typed = subst (λ fs. option_and_then (λ f. Some (type_of_func f)) (slice_get fs a) ≡ Some from_nothing_to_nothing) (sym e) x.typed }) (still_named e l)
 
 -- Runs with the starts one after the other, and with the one start; the second has so many steps left to make alone.
 data Alike : (d e : ℕ) → Run → Run → Type 0 where
@@ -74,16 +74,15 @@ one_opened r xs a c = rw c.code refl
 
 -- ---- a start is opened, or called ----
 
-found : (s : Store) (o : Outcome Func) → bind o (λ f. Gives (type_of_func f)) ≡ Gives from_nothing_to_nothing → (f : Func) × ((o ≡ Gives f) × (type_of_func f ≡ from_nothing_to_nothing))
-found s (Gives f) e = (f, (refl, cc))
-found s Traps e = cc
-found s IllTyped e = cc
+found : (s : Store) (o : Option Func) → option_and_then (λ f. Some (type_of_func f)) o ≡ Some from_nothing_to_nothing → (f : Func) × ((o ≡ Some f) × (type_of_func f ≡ from_nothing_to_nothing))
+found s (Some f) e = (f, (refl, cc))
+found s None e = cc
 
-opened_is : (r : Run) (xs : List ℕ) (a : ℕ) (f : Func) → at r.store.funcs a ≡ Gives f → type_of_func f ≡ from_nothing_to_nothing →
+opened_is : (r : Run) (xs : List ℕ) (a : ℕ) (f : Func) → slice_get r.store.funcs a ≡ Some f → type_of_func f ≡ from_nothing_to_nothing →
     tick (record r { entries = openings (a ∷ xs) }) ≡ after (record r { entries = openings (a ∷ xs) }) (Gives (enter r.store f [] (openings xs)))
 opened_is r xs a f h e = rw (h, e) refl
 
-called_is : (r : Run) (ns : List ℕ) (j : Inst) (n a : ℕ) (f : Func) → at j.funcs n ≡ Gives a → at r.store.funcs a ≡ Gives f → type_of_func f ≡ from_nothing_to_nothing →
+called_is : (r : Run) (ns : List ℕ) (j : Inst) (n a : ℕ) (f : Func) → slice_get j.funcs n ≡ Some a → slice_get r.store.funcs a ≡ Some f → type_of_func f ≡ from_nothing_to_nothing →
     tick (record r { entries = calls j (n ∷ ns) }) ≡ after (record r { entries = calls j (n ∷ ns) }) (Gives (enter r.store f [] (calls j ns)))
 unfolding out-Instr denote.Hole.Carrier.out
 called_is r ns j n a f m h e = rw (m, h, e) refl
@@ -101,7 +100,7 @@ unseen xs ns j l (trapped r) = record { event = refl; runs = the_same _ }
 
 opens : {e : ℕ} (r : Run) (xs ns : List ℕ) (j : Inst) (n a : ℕ) → NamesStart r.store j n a → ListRel (NamesStart r.store j) ns xs → Agree 1 e (tick (record r { entries = openings (a ∷ xs) })) (tick (record r { entries = calls j (n ∷ ns) }))
 opens r xs ns j n a x l =
-    let f = found r.store (at r.store.funcs a) x.typed in
+    let f = found r.store (slice_get r.store.funcs a) x.typed in
     rw (opened_is r xs a f.0 f.1.0 f.1.1, called_is r ns j n a f.0 x.named f.1.0 f.1.1) (unseen xs ns j l (entered r (openings (a ∷ xs)) (calls j (n ∷ ns)) f.0 xs ns j f.1.1))
 
 -- ---- the whole of it ----

@@ -12,21 +12,20 @@ use Rattle.wasm_tree.specs.declared.module.ElemSeg.{ElemSeg}
 use Rattle.wasm_tree.specs.declared.module.Func as tree
 use Rattle.wasm_tree.specs.declared.module.GlobalDef.{GlobalDef}
 use Rattle.wasm_tree.specs.declared.module.Module.{Module}
-use Rattle.wasm_meaning.specs.Outcomes.{Outcome, Gives, bind, at}
 use Rattle.wasm_meaning.specs.State.{RefVal, Val, Inst, Func, Code, Global, Elem, Store}
 use Rattle.wasm_meaning.specs.Values.{ref_of, declared}
 use Rattle.wasm_meaning.specs.Control.{type_of_func, own_of}
 use Rattle.wasm_meaning.specs.Environment.{Environment, own_funcs, own_tables, own_memories, own_globals}
-use Rattle.wasm_meaning.specs.World.{given, own_count, new_func, new_global, global_with, new_elem, elem_with, elem_of, own_store, stores_from}
+use Rattle.wasm_meaning.specs.World.{own_count, new_func, new_global, global_with, new_elem, elem_with, elem_of, own_store, stores_from}
 use Rattle.index_remap.specs.Related.{Pairing, OptRel, none, some, BothRel, both, ListRel, nil, RefRel, ValRel, number, reference, FuncRel, defined, own, TableRel, GlobalRel, ElemRel, StoreRel}
 use Rattle.index_remap.specs.Related as to
-use Rattle.index_remap.proofs.Rel.{copies_rel}
+use Rattle.index_remap.proofs.Rel.{copies_rel, get_rel}
 use Rattle.world_simulation.specs.Owned.{SharesOwn}
 use Rattle.world_simulation.specs.Definitions.{Instantiated, DefinedAt, values_in, FuncsCorrespond, GlobalsCorrespond, is_declarative, ElemsCorrespond, Partners, DefinitionsCorrespond}
 use Rattle.world_simulation.specs.Definitions as partners
 use Rattle.world_simulation.proofs.Allocated.{new_table, new_memory, new_data, adds, keeps, funcs_stand, tables_stand, mems_stand, globals_stand, elems_stand, datas_stand}
 use Rattle.world_simulation.proofs.Owned.{null_rel, own_funcs_rel, own_tables_rel, own_globals_rel}
-use Rattle.world_simulation.proofs.Places.{map_length, then_rel, then_same, opt_both, place_rel, self_rel, all_rel, both_at}
+use Rattle.world_simulation.proofs.Places.{map_length, then_rel, then_same, opt_both, self_rel, all_rel, both_at}
 
 -- ---- what stands at an address ----
 
@@ -85,7 +84,7 @@ module _ (R : Pairing) where
       subst (λ o. OptRel (FuncRel R) (new_func i f) (option_and_then (λ t. Some (Code t j (declared g.locals) g.body)) o)) k.type
       (then_same (slice_get i.types f.ty) (λ t _. some (subst (λ ls. FuncRel R (Code t i (declared f.locals) f.body) (Code t j (declared ls) g.body)) k.locals (defined k.code))))
 
-  pub ref_rel : {v w : Val} → ValRel R v w → OptRel (RefRel R) (given (ref_of v)) (given (ref_of w))
+  pub ref_rel : {v w : Val} → ValRel R v w → OptRel (RefRel R) (ref_of v) (ref_of w)
   ref_rel number = none
   ref_rel (reference r) = some r
 
@@ -104,19 +103,19 @@ module _ (R : Pairing) where
     elem_is elem.Declarative elem.Passive d k = cc
     elem_is elem.Declarative elem.Declarative d k = record { items = nil }
 
-    refs_rel : {xs ys : List ConstExpr} → ListRel (λ x y. OptRel (ValRel R) (value x) (second_value y)) xs ys → ListRel (λ x y. OptRel (RefRel R) (option_and_then (λ v. given (ref_of v)) (value x)) (option_and_then (λ v. given (ref_of v)) (second_value y))) xs ys
+    refs_rel : {xs ys : List ConstExpr} → ListRel (λ x y. OptRel (ValRel R) (value x) (second_value y)) xs ys → ListRel (λ x y. OptRel (RefRel R) (option_and_then ref_of (value x)) (option_and_then ref_of (second_value y))) xs ys
     refs_rel nil = nil
     refs_rel (to.cons p r) = to.cons (then_rel p (λ _ _ v. ref_rel v)) (refs_rel r)
 
     pub elem_rel : {d e : ElemSeg} → ElemsCorrespond R value second_value d e → OptRel (ElemRel R) (elem_with value d) (elem_with second_value e)
     elem_rel {d} {e} k = then_rel (all_rel (refs_rel k.items)) (λ _ _ r. some (elem_is d.mode e.mode k.declarative r))
 
-  type_same : {o p : Outcome Func} → BothRel (FuncRel R) o p → BothRel (◌≡◌ {A = FuncType}) (bind o (λ f. Gives (type_of_func f))) (bind p (λ f. Gives (type_of_func f)))
+  pub type_same : {o p : Option Func} → BothRel (FuncRel R) o p → BothRel (◌≡◌ {A = FuncType}) (option_and_then (λ f. Some (type_of_func f)) o) (option_and_then (λ f. Some (type_of_func f)) p)
   type_same (both (defined c)) = both refl
   type_same (both own) = both refl
   type_same (both to.slot) = both refl
 
-  own_same : {o p : Outcome Func} → BothRel (FuncRel R) o p → option_and_then own_of (given o) ≡ option_and_then own_of (given p)
+  pub own_same : {o p : Option Func} → BothRel (FuncRel R) o p → option_and_then own_of o ≡ option_and_then own_of p
   own_same (both (defined c)) = refl
   own_same (both own) = refl
   own_same (both to.slot) = refl
@@ -128,10 +127,10 @@ module _ (R : Pairing) where
     stand : {A B : Type 0} {P : B → B → Type 0} (k : Space) (definitions : Module → List A) (correspond : ℕ → Inst → A → ℕ → Inst → A → Type 0) (owned xs ys : List B) → own_count k env ≡ length owned → ListRel P owned owned →
         ((a : ℕ) (x : B) → slice_get owned a ≡ Some x → slice_get xs a ≡ Some x) → ((a : ℕ) (x : B) → slice_get owned a ≡ Some x → slice_get ys a ≡ Some x) →
         ((a b : ℕ) (d : DefinedAt env v k definitions a) (e : DefinedAt env w k definitions b) → correspond d.part d.inst d.definition e.part e.inst e.definition → (x y : B) × (slice_get xs a ≡ Some x) × (slice_get ys b ≡ Some y) × P x y) →
-        (a b : ℕ) → Partners env v w k definitions correspond a b → BothRel P (at xs a) (at ys b)
+        (a b : ℕ) → Partners env v w k definitions correspond a b → BothRel P (slice_get xs a) (slice_get ys b)
     stand {P = P} k definitions correspond owned xs ys size rel first second at_defined a b (partners.own same low) =
         let x = slice_get_there owned a (subst (λ n. a < n) size low) in
-        both_at xs ys a b x.0 x.0 (first a x.0 x.1) (second b x.0 (ap (slice_get owned) (sym same) ∙ x.1)) (opt_both (place_rel rel a) x.1 x.1)
+        both_at xs ys a b x.0 x.0 (first a x.0 x.1) (second b x.0 (ap (slice_get owned) (sym same) ∙ x.1)) (opt_both (get_rel rel a) x.1 x.1)
     stand k definitions correspond owned xs ys size rel first second at_defined a b (partners.defined d e c) =
         let x = at_defined a b d e c in
         both_at xs ys a b x.0 x.1 x.2 x.3 x.4
@@ -153,6 +152,6 @@ module _ (R : Pairing) where
           (λ a b d e c. (new_data d.definition, new_data e.definition, data_placed env v s s_is d, data_placed env w z z_is e, c)) a b (defs.datas a b r);
     }
       where
-        funcs : (a b : ℕ) → R.of Functions a b → BothRel (FuncRel R) (at s.funcs a) (at z.funcs b)
+        funcs : (a b : ℕ) → R.of Functions a b → BothRel (FuncRel R) (slice_get s.funcs a) (slice_get z.funcs b)
         funcs a b r = stand Functions _ _ (own_funcs env) s.funcs z.funcs refl (own_funcs_rel R env) (own_func_placed env v s s_is) (own_func_placed env w z z_is)
             (λ a b d e c. let x = func_placed env v s s_is d in let y = func_placed env w z z_is e in (x.0, y.0, x.1, y.1, opt_both (func_rel c) x.2 y.2)) a b (defs.funcs a b r)

@@ -14,7 +14,7 @@ use Rattle.index_remap.specs.Related.{Pairing, OneToOne, ListRel}
 use Rattle.index_remap.specs.Laws.{passed, RenumberedCodeIsRelated}
 use Rattle.wasm_tree.specs.declared.module.Module.{Module}
 use Rattle.world_simulation.specs.Unreachable.{without, function_index, closing, others, rest, removed, IsUnreachable}
-use Rattle.world_simulation.proofs.Places.{map_length, names_of}
+use Rattle.world_simulation.proofs.Places.{map_length}
 use Rattle.wasm_tree.specs.declared.module.Func as tree
 use Rattle.wasm_tree.specs.declared.module.Import.{Import}
 use Rattle.wasm_tree.specs.declared.module.ImportDesc.{ImportDesc}
@@ -33,7 +33,6 @@ use Rattle.world_simulation.proofs.Instancing.{inst_is, inst_there, IsInst}
 use Rattle.world_simulation.proofs.Simulated.{what_is_made, instances_rel}
 use Rattle.world_simulation.specs.Definitions.{FuncsCorrespond, GlobalsCorrespond, ElemsCorrespond, Partners, DefinitionsCorrespond, Instantiated, values_in}
 use Rattle.world_simulation.proofs.Renamed.{funcs_correspond, elems_correspond}
-use Rattle.wasm_meaning.specs.Outcomes.{at}
 use Rattle.world_simulation.specs.Alone.{one}
 use Rattle.world_simulation.specs.Owned.{SharesOwn}
 use Rattle.world_simulation.specs.Named.{EntriesName}
@@ -181,27 +180,27 @@ module _ (t : Module) (n : ℕ) (there : n < length t.funcs) (reach : IsUnreacha
       globals_many = ap length same.globals ∙ map_length (new_global m) t.globals
 
       names : EntriesName R m kept i j
-      names Types x h = ap (λ ts. at ts x) (a.types ∙ sym types_are ∙ sym b.types) ∙ ap (at j.types) (sym (stays_at (length t.types) x h).0)
+      names Types x h = ap (λ ts. slice_get ts x) (a.types ∙ sym types_are ∙ sym b.types) ∙ ap (slice_get j.types) (sym (stays_at (length t.types) x h).0)
       names Functions x h =
           let f = func_moves x h in
           let counted = funcs_counted t.imports 0 in
           let l = f.0 in
-          names_of i.funcs j.funcs x _ (space_rel of m kept t u fs items env own i j a b Functions i.funcs j.funcs n a.funcs b.funcs (λ c d e. is_down _ _ c d e) (omega (arith, there)) (λ c. funcs_many) (λ e. absurd (omega (arith, there, e))) x _ (omega (arith, l, counted)) (subst (λ c. Moved (c + n) x (slice_index m.funcs x)) (sym counted) f.1))
+          space_rel of m kept t u fs items env own i j a b Functions i.funcs j.funcs n a.funcs b.funcs (λ c d e. is_down _ _ c d e) (omega (arith, there)) (λ c. funcs_many) (λ e. absurd (omega (arith, there, e))) x _ (omega (arith, l, counted)) (subst (λ c. Moved (c + n) x (slice_index m.funcs x)) (sym counted) f.1)
       names Tables x h =
           let counted = tables_counted t.imports 0 in
           let size = length-append (imported_tables t.imports) t.tables in
-          names_of i.tables j.tables x _ (plain_rel of m kept t u fs items env own i j a b Tables i.tables j.tables (length (tables_of t)) a.tables b.tables (λ c d e. is_down _ _ c d e) (ap length same.tables) (omega (arith, counted, size)) x h)
+          plain_rel of m kept t u fs items env own i j a b Tables i.tables j.tables (length (tables_of t)) a.tables b.tables (λ c d e. is_down _ _ c d e) (ap length same.tables) (omega (arith, counted, size)) x h
       names Memories x h =
           let counted = memories_counted t.imports 0 in
           let size = length-append (imported_memories t.imports) t.mems in
-          names_of i.mems j.mems x _ (plain_rel of m kept t u fs items env own i j a b Memories i.mems j.mems (length (memories_of t)) a.mems b.mems (λ c d e. is_down _ _ c d e) (ap length same.mems) (omega (arith, counted, size)) x h)
+          plain_rel of m kept t u fs items env own i j a b Memories i.mems j.mems (length (memories_of t)) a.mems b.mems (λ c d e. is_down _ _ c d e) (ap length same.mems) (omega (arith, counted, size)) x h
       names Globals x h =
           let counted = globals_counted t.imports 0 in
           let size = length-append (imported_globals t.imports) (map (λ g. g.ty) t.globals) in
           let defined = map_length (λ g. g.ty) t.globals in
-          names_of i.globals j.globals x _ (plain_rel of m kept t u fs items env own i j a b Globals i.globals j.globals (length (globals_of t)) a.globals b.globals (λ c d e. is_down _ _ c d e) globals_many (omega (arith, counted, size, defined)) x h)
-      names ElementSegments x h = names_of i.elems j.elems x _ (segments_rel of m kept t u fs items env own i j a b ElementSegments i.elems j.elems (length t.elems) (length u.elems) a.elems b.elems elems_more (λ a b d. is_down _ _ a b d) x h)
-      names DataSegments x h = names_of i.datas j.datas x _ (segments_rel of m kept t u fs items env own i j a b DataSegments i.datas j.datas (length t.datas) (length u.datas) a.datas b.datas (omega (arith, datas_many)) (λ a b d. is_down _ _ a b d) x h)
+          plain_rel of m kept t u fs items env own i j a b Globals i.globals j.globals (length (globals_of t)) a.globals b.globals (λ c d e. is_down _ _ c d e) globals_many (omega (arith, counted, size, defined)) x h
+      names ElementSegments x h = segments_rel of m kept t u fs items env own i j a b ElementSegments i.elems j.elems (length t.elems) (length u.elems) a.elems b.elems elems_more (λ a b d. is_down _ _ a b d) x h
+      names DataSegments x h = segments_rel of m kept t u fs items env own i j a b DataSegments i.datas j.datas (length t.datas) (length u.datas) a.datas b.datas (omega (arith, datas_many)) (λ a b d. is_down _ _ a b d) x h
 
       abbrev v : Instantiated
       v = record { parts = one t; insts = i ∷ [] }

@@ -15,7 +15,7 @@ use Rattle.wasm_num.specs.Operations.{W32}
 use Rattle.wasm_meaning.specs.State.{Val}
 use Rattle.wasm_meaning.specs.Values.{num_of}
 use Rattle.wasm_meaning.specs.Environment.{Environment}
-use Rattle.wasm_meaning.specs.World.{Task, given, elem_tasks, data_tasks}
+use Rattle.wasm_meaning.specs.World.{Task, elem_tasks, data_tasks}
 use Rattle.index_remap.specs.Related.{Pairing, OptRel}
 use Rattle.index_remap.specs.RelatedRuns.{HasNoPartner}
 use Rattle.world_simulation.specs.Definitions.{Instantiated, DefinedAt, values_in}
@@ -28,7 +28,7 @@ pub data InOrder {A B : Type 0} (partners : A → B → Type 0) (first : A → T
   only_second : {y : B} {xs : List A} {ys : List B} → second y → InOrder partners first second xs ys → InOrder partners first second xs (y ∷ ys)
 
 abbrev pub offset_in : (ConstExpr → Option Val) → ConstExpr → Option ℕ
-offset_in value e = value e >>= λ v. given (num_of W32 v)
+offset_in value e = value e >>= num_of W32
 
 -- ---- element segments ----
 

@@ -1,8 +1,7 @@
 -- One start that calls several functions, in place of these as starts one after the other.
-use Rattle.std.specs.Prelude.{◌≡◌, ℕ, ◌+◌, List, [], ◌∷◌, map, Some}
+use Rattle.std.specs.Prelude.{◌≡◌, ℕ, ◌+◌, List, [], ◌∷◌, map, Some, slice_get}
 use Rattle.wasm_tree.specs.declared.types.FuncType.{FuncType}
 use Rattle.wasm_tree.specs.declared.instr.Instr.TheVariants.{Call}
-use Rattle.wasm_meaning.specs.Outcomes.{Gives, at}
 use Rattle.wasm_meaning.specs.State.{Inst, Code, Store}
 use Rattle.wasm_meaning.specs.Control.{type_at}
 use Rattle.wasm_meaning.specs.Environment.{Environment}
@@ -15,14 +14,14 @@ from_nothing_to_nothing = record { params = []; results = [] }
 
 -- the index names the function, which may be a start
 pub record NamesStart (s : Store) (inst : Inst) (n a : ℕ) : Type 0 where
-  pub named : at inst.funcs n ≡ Gives a
-  pub typed : type_at s a ≡ Gives from_nothing_to_nothing
+  pub named : slice_get inst.funcs n ≡ Some a
+  pub typed : type_at s a ≡ Some from_nothing_to_nothing
 
 -- the function at a calls these, one after the other, and does nothing else
 pub record CallsEach (s : Store) (a : ℕ) (starts : List ℕ) : Type 0 where
   pub inst : Inst
   pub calls : List ℕ
-  pub code : at s.funcs a ≡ Gives (Code from_nothing_to_nothing inst [] (map Call calls))
+  pub code : slice_get s.funcs a ≡ Some (Code from_nothing_to_nothing inst [] (map Call calls))
   pub each : ListRel (NamesStart s inst) calls starts
 
 -- What is seen with the starts one after the other is seen with the one start that calls them, which takes two silent steps more: it is opened, and it ends.

@@ -1,10 +1,9 @@
 -- Until the first start the parts are added one after the other, their segments with them, and then the stores stand beside one another.
-use Rattle.std.proofs.Common.{◌≡◌, ◌∙◌, refl, sym, ap, subst, ℕ, zero, suc, ◌+◌, ◌-◌, ◌<◌, ◌≤◌, List, [], ◌∷◌, ◌++◌, map, length, Some, None, false, ◌⊎◌, inl, inr, arith, drop, option_and_then, slice_get}
+use Rattle.std.proofs.Common.{◌≡◌, ◌∙◌, refl, sym, ap, subst, ℕ, zero, suc, ◌+◌, ◌-◌, ◌<◌, ◌≤◌, List, [], ◌∷◌, ◌++◌, map, length, Some, None, false, ◌⊎◌, inl, inr, arith, drop, option_and_then, slice_get, Option}
 use Rattle.wasm_tree.specs.declared.space.Space.TheVariants.{Functions, Tables, Memories, Globals, DataSegments, ElementSegments}
 use Rattle.std.proofs.lemmas.Bool.{cases_lt}
 use Rattle.wasm_tree.specs.declared.types.FuncType.{FuncType}
 use Rattle.wasm_tree.specs.declared.module.Module.{Module}
-use Rattle.wasm_meaning.specs.Outcomes.{Outcome, Gives, at}
 use Rattle.wasm_meaning.specs.State.{Text, Inst, Func, Own, Global, Data, Store, Opening}
 use Rattle.wasm_meaning.specs.Linking.{Part, module_at}
 use Rattle.wasm_meaning.specs.Environment.{Environment, Offer, Thing, flat, owned_of}
@@ -23,27 +22,28 @@ use Rattle.worlds_in_turn.proofs.Joined.{made_upto}
 use Rattle.worlds_in_turn.proofs.Reached.{is_reached, reaching, shares_own}
 use Rattle.worlds_in_turn.proofs.Turn.{Sized, Holds}
 use Rattle.worlds_in_turn.proofs.Closed.{table_more, global_more, elem_more, val_more, list_more, self_by, Closed, Sound, own_func, func_self}
-use Rattle.worlds_in_turn.proofs.Beside.{at_low, at_high, both_list, Beside, stores_related, sound_joined, more}
+use Rattle.worlds_in_turn.proofs.Beside.{both_list, Beside, stores_related, sound_joined, more}
 use Rattle.worlds_in_turn.proofs.Filling.{own_fill, all_fill}
 use Rattle.worlds_in_turn.proofs.Given.{IsGiven, IsTurn, starts_from, filled_in, turned}
 use Rattle.worlds_in_turn.proofs.Waiting.{within, adds_closed, adds_sound}
 use Rattle.std.proofs.lemmas.List.{length-append}
-use Rattle.worlds_in_turn.proofs.Things.{place_at}
+use Rattle.base_lists.proofs.Places.{append_left, append_right}
+use Rattle.wasm_meaning.specs.Touched.{StepsWriteWhatTheyTouch}
 
 -- ---- joined stores ----
 
 each_joined : {A : Type 0} (P : A → A → Type 0) (xs ys zs : List A) → ((x : A) → P x x) → length ys ≡ length xs → EachExtends P xs ys → EachExtends P (xs ++ zs) (ys ++ zs)
 each_joined {A} P xs ys zs same size h a x e = go (cases_lt a (length xs))
   where
-    go : (a < length xs) ⊎ (length xs ≤ a) → (y : A) × (at (ys ++ zs) a ≡ Gives y) × P x y
+    go : (a < length xs) ⊎ (length xs ≤ a) → (y : A) × (slice_get (ys ++ zs) a ≡ Some y) × P x y
     go (inl low) =
-        let r = h a x (sym (at_low xs zs a low) ∙ e) in
-        (r.0, at_low ys zs a (omega (arith, low, size)) ∙ r.1, r.2)
+        let r = h a x (sym (append_left xs zs a low) ∙ e) in
+        (r.0, append_left ys zs a (omega (arith, low, size)) ∙ r.1, r.2)
     go (inr high) =
         let j = a - length xs in
         let n : length xs + j ≡ a = omega (arith, high) in
         let m : length ys + j ≡ a = omega (arith, high, size) in
-        (x, ap (at (ys ++ zs)) (sym m) ∙ at_high ys zs j ∙ sym (at_high xs zs j) ∙ ap (at (xs ++ zs)) n ∙ e, same x)
+        (x, ap (slice_get (ys ++ zs)) (sym m) ∙ append_right ys zs j ∙ sym (append_right xs zs j) ∙ ap (slice_get (xs ++ zs)) n ∙ e, same x)
 
 joined_length : {A : Type 0} (xs ys zs : List A) → length ys ≡ length xs → length (ys ++ zs) ≡ length (xs ++ zs)
 joined_length xs ys zs e = let a = length-append xs zs in let b = length-append ys zs in omega (arith, a, b, e)
@@ -62,19 +62,19 @@ joined_extends s t u h = record {
 }
 
 -- the environment's functions are its own
-pub own_sound : (env : Environment) (parts : List Part) (p : ℕ) (offers : List Offer) (a : ℕ) (f : Func) → at (flat (λ o. map (Own o.pair) o.funcs) offers) a ≡ Gives f → Sound env parts p f
+pub own_sound : (env : Environment) (parts : List Part) (p : ℕ) (offers : List Offer) (a : ℕ) (f : Func) → slice_get (flat (λ o. map (Own o.pair) o.funcs) offers) a ≡ Some f → Sound env parts p f
 own_sound env parts p [] a f e = absurd (let z = e in cc)
 own_sound env parts p (o ∷ os) a f e = in_offer o.funcs a e (λ a e. own_sound env parts p os a f e)
   where
-    in_offer : (ts : List FuncType) (a : ℕ) → at (map (Own o.pair) ts ++ flat (λ o. map (Own o.pair) o.funcs) os) a ≡ Gives f → ((a : ℕ) → at (flat (λ o. map (Own o.pair) o.funcs) os) a ≡ Gives f → Sound env parts p f) → Sound env parts p f
+    in_offer : (ts : List FuncType) (a : ℕ) → slice_get (map (Own o.pair) ts ++ flat (λ o. map (Own o.pair) o.funcs) os) a ≡ Some f → ((a : ℕ) → slice_get (flat (λ o. map (Own o.pair) o.funcs) os) a ≡ Some f → Sound env parts p f) → Sound env parts p f
     in_offer [] a e later = later a e
     in_offer (t ∷ ts) zero e later = let same : Own o.pair t ≡ f = gives_is e in subst (Sound env parts p) same own_func
       where
-        gives_is : {x y : Func} → Gives x ≡ Gives y → x ≡ y
+        gives_is : {x y : Func} → Some x ≡ Some y → x ≡ y
         gives_is e = cc
     in_offer (t ∷ ts) (suc a) e later = in_offer ts a e later
 
-module _ (env : Environment) (w : World) (insts : List Inst) (allocated : Store) (g : IsGiven env w insts allocated) (itself : CodeIsRelatedToItself) (below : BelowIsNotSeen) (ticks : RelatedTicksAgree) (others : OthersStay) (view : List (Text × Thing)) (view_is : all_there (seen_as insts) w.view ≡ Some view) (IsFilled : ℕ → Store → Type 0) where
+module _ (env : Environment) (w : World) (insts : List Inst) (allocated : Store) (g : IsGiven env w insts allocated) (itself : CodeIsRelatedToItself) (below : BelowIsNotSeen) (writes : StepsWriteWhatTheyTouch) (ticks : RelatedTicksAgree) (others : OthersStay) (view : List (Text × Thing)) (view_is : all_there (seen_as insts) w.view ≡ Some view) (IsFilled : ℕ → Store → Type 0) where
   abbrev after : Store
   after = (segments env w.parts insts allocated).store
 
@@ -98,7 +98,7 @@ module _ (env : Environment) (w : World) (insts : List Inst) (allocated : Store)
       pub filled : IsFilled k store
       pub extends : Extends (g.laid.first k) store
       pub closed : Closed (reaching env w.parts k) store
-      pub sound : (a : ℕ) (f : Func) → at store.funcs a ≡ Gives f → Sound env w.parts k f
+      pub sound : (a : ℕ) (f : Func) → slice_get store.funcs a ≡ Some f → Sound env w.parts k f
       pub first : r ≡ at_once moves
       pub second_run : q.run ≡ in_turn k store moves
       pub turn : IsTurn w insts k q
@@ -106,15 +106,15 @@ module _ (env : Environment) (w : World) (insts : List Inst) (allocated : Store)
       pub most : k < length w.parts
 
     -- what was allocated is in front, extended
-    each_front : {A : Type 0} (P : A → A → Type 0) (all front back now : List A) (n : ℕ) → all ≡ front ++ back → length front ≡ n → EachExtends P front now → (a : ℕ) (x : A) → a < n → at all a ≡ Gives x → (y : A) × (at now a ≡ Gives y) × P x y
-    each_front P all front back now n e size h a x l at_x = h a x (sym (at_low front back a (omega (arith, l, size))) ∙ ap (λ xs. at xs a) (sym e) ∙ at_x)
+    each_front : {A : Type 0} (P : A → A → Type 0) (all front back now : List A) (n : ℕ) → all ≡ front ++ back → length front ≡ n → EachExtends P front now → (a : ℕ) (x : A) → a < n → slice_get all a ≡ Some x → (y : A) × (slice_get now a ≡ Some y) × P x y
+    each_front P all front back now n e size h a x l at_x = h a x (sym (append_left front back a (omega (arith, l, size))) ∙ ap (λ xs. slice_get xs a) (sym e) ∙ at_x)
 
     pub front_holds : (k : ℕ) (t : Store) → k ≤ length w.parts → Extends (g.laid.first k) t → Holds env w.parts k allocated t
     front_holds k t l h =
         let whole = g.laid.parted k l in
         let sizes = g.laid.first_sized k l in
         record {
-          funcs = λ a low. ap (λ fs. at fs a) h.funcs ∙ sym (at_low (g.laid.first k).funcs (g.laid.rest k).funcs a (let s = sizes.funcs in omega (arith, low, s))) ∙ ap (λ s. at s.funcs a) (sym whole);
+          funcs = λ a low. ap (λ fs. slice_get fs a) h.funcs ∙ sym (append_left (g.laid.first k).funcs (g.laid.rest k).funcs a (let s = sizes.funcs in omega (arith, low, s))) ∙ ap (λ s. slice_get s.funcs a) (sym whole);
           tables = λ a x low e. each_front TableExtends allocated.tables (g.laid.first k).tables (g.laid.rest k).tables t.tables (base env w.parts Tables k) (ap (λ s. s.tables) whole) sizes.tables h.tables a x low e;
           mems = λ a x low e. each_front MemoryExtends allocated.mems (g.laid.first k).mems (g.laid.rest k).mems t.mems (base env w.parts Memories k) (ap (λ s. s.mems) whole) sizes.mems h.mems a x low e;
           globals = λ a x low e. each_front GlobalExtends allocated.globals (g.laid.first k).globals (g.laid.rest k).globals t.globals (base env w.parts Globals k) (ap (λ s. s.globals) whole) sizes.globals h.globals a x low e;
@@ -122,15 +122,15 @@ module _ (env : Environment) (w : World) (insts : List Inst) (allocated : Store)
 
     -- ---- beside one another ----
 
-    both_front : {A : Type 0} {P : A → A → Type 0} (now all back : List A) (n : ℕ) → all ≡ now ++ back → length now ≡ n → ListRel P now now → (a : ℕ) → a < n → BothRel P (at now a) (at all a)
-    both_front {A} {P} now all back n e size r a l = subst (λ (o : Outcome A). BothRel P (at now a) o) (sym (at_low now back a (omega (arith, l, size))) ∙ ap (λ xs. at xs a) (sym e)) (both_list r a (omega (arith, l, size)))
+    both_front : {A : Type 0} {P : A → A → Type 0} (now all back : List A) (n : ℕ) → all ≡ now ++ back → length now ≡ n → ListRel P now now → (a : ℕ) → a < n → BothRel P (slice_get now a) (slice_get all a)
+    both_front {A} {P} now all back n e size r a l = subst (λ (o : Option A). BothRel P (slice_get now a) o) (sym (append_left now back a (omega (arith, l, size))) ∙ ap (λ xs. slice_get xs a) (sym e)) (both_list r a (omega (arith, l, size)))
 
-    same_back : {A : Type 0} (now all front before back : List A) (n : ℕ) → now ≡ front ++ back → all ≡ before ++ back → length front ≡ n → length before ≡ n → (a : ℕ) → n ≤ a → at now a ≡ at all a
+    same_back : {A : Type 0} (now all front before back : List A) (n : ℕ) → now ≡ front ++ back → all ≡ before ++ back → length front ≡ n → length before ≡ n → (a : ℕ) → n ≤ a → slice_get now a ≡ slice_get all a
     same_back now all front before back n e f s u a l =
         let j = a - n in
         let x : length front + j ≡ a = omega (arith, l, s) in
         let y : length before + j ≡ a = omega (arith, l, u) in
-        ap (λ xs. at xs a) e ∙ ap (at (front ++ back)) (sym x) ∙ at_high front back j ∙ sym (at_high before back j) ∙ ap (at (before ++ back)) y ∙ ap (λ xs. at xs a) (sym f)
+        ap (λ xs. slice_get xs a) e ∙ ap (slice_get (front ++ back)) (sym x) ∙ append_right front back j ∙ sym (append_right before back j) ∙ ap (slice_get (before ++ back)) y ∙ ap (λ xs. slice_get xs a) (sym f)
 
     equal_self : {A : Type 0} (xs : List A) → ListRel (λ (x y : A). x ≡ y) xs xs
     equal_self [] = nil
@@ -140,7 +140,7 @@ module _ (env : Environment) (w : World) (insts : List Inst) (allocated : Store)
     bytes_self [] = nil
     bytes_self (d ∷ ds) = cons refl (bytes_self ds)
 
-    pub beside_after : (k : ℕ) (t : Store) → k ≤ length w.parts → after ≡ joined_stores t (g.laid.rest k) → Sized env w.parts k t → Extends (g.laid.first k) t → Closed (reaching env w.parts k) t → ((a : ℕ) (f : Func) → at t.funcs a ≡ Gives f → Sound env w.parts k f) → Beside env w.parts k allocated t after
+    pub beside_after : (k : ℕ) (t : Store) → k ≤ length w.parts → after ≡ joined_stores t (g.laid.rest k) → Sized env w.parts k t → Extends (g.laid.first k) t → Closed (reaching env w.parts k) t → ((a : ℕ) (f : Func) → slice_get t.funcs a ≡ Some f → Sound env w.parts k f) → Beside env w.parts k allocated t after
     beside_after k t l whole sized h closed sound =
         let parted = g.laid.parted k l in
         let sizes = g.laid.first_sized k l in
@@ -176,7 +176,7 @@ module _ (env : Environment) (w : World) (insts : List Inst) (allocated : Store)
       pub filled : IsFilled (suc k) next_store
       pub extends : Extends (g.laid.first (suc k)) next_store
       pub closed : Closed (reaching env w.parts (suc k)) next_store
-      pub sound : (a : ℕ) (f : Func) → at next_store.funcs a ≡ Gives f → Sound env w.parts (suc k) f
+      pub sound : (a : ℕ) (f : Func) → slice_get next_store.funcs a ≡ Some f → Sound env w.parts (suc k) f
 
     pub advances : (k : ℕ) (part : Part) (i : Inst) (r : Run) (q : InTurn) → slice_get w.parts k ≡ Some part → slice_get insts k ≡ Some i → Fills k r q → Advances k part i q
     advances k part i r q at_part at_inst h =
@@ -206,8 +206,8 @@ module _ (env : Environment) (w : World) (insts : List Inst) (allocated : Store)
           filled = a.1;
           extends = extends.and_then (g.laid.first (suc k)) (joined_stores t (g.laid.adds k)) _ (subst (λ s. Extends s (joined_stores t (g.laid.adds k))) (sym (g.laid.first_next k part.«module» is_part)) (joined_extends (g.laid.first k) t (g.laid.adds k) h.extends)) f.extends;
           closed = f.closed joined;
-          sound = λ n x e. sound' n x (ap (λ fs. at fs n) (sym f.extends.funcs) ∙ e);
+          sound = λ n x e. sound' n x (ap (λ fs. slice_get fs n) (sym f.extends.funcs) ∙ e);
         }
       where
         global_self : (t : Store) (n : ℕ) (x : Global) → Closed (reaching env w.parts k) t → slice_get t.globals n ≡ Some x → Rattle.index_remap.specs.Related.ValRel (reaching env w.parts k) x.value x.value
-        global_self t n x c e = (Rattle.worlds_in_turn.proofs.Filling.self_at t.globals n x c.globals (place_at t.globals n x e)).value
+        global_self t n x c e = (Rattle.worlds_in_turn.proofs.Filling.self_at t.globals n x c.globals (e)).value

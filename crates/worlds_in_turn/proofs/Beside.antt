@@ -1,58 +1,51 @@
 -- The store of parts that are instantiated in turn beside the store of all parts at once: what the first parts have corresponds, and the rest is as it was allocated.
-use Rattle.std.proofs.Common.{◌≡◌, ◌∙◌, refl, sym, ap, subst, ℕ, zero, suc, ◌+◌, ◌-◌, ◌<◌, ◌≤◌, List, [], ◌∷◌, ◌++◌, length, Some, true, ◌⊎◌, inl, inr, arith, slice_get, option_and_then}
+use Rattle.std.proofs.Common.{◌≡◌, ◌∙◌, refl, sym, ap, subst, ℕ, zero, suc, ◌+◌, ◌-◌, ◌<◌, ◌≤◌, List, [], ◌∷◌, ◌++◌, length, Some, true, ◌⊎◌, inl, inr, arith, slice_get, Option}
 use Rattle.wasm_tree.specs.declared.space.Space.{Space}
 use Rattle.wasm_tree.specs.declared.space.Space.TheVariants.{Functions, Tables, Memories, Globals, ElementSegments, DataSegments}
 use Rattle.std.proofs.lemmas.Bool.{cases_lt}
 use Rattle.wasm_tree.specs.declared.types.FuncType.{FuncType}
 use Rattle.wasm_tree.specs.declared.module.Module.{Module}
-use Rattle.wasm_meaning.specs.Outcomes.{given, Outcome, Gives, bind, at}
 use Rattle.wasm_meaning.specs.State.{Inst, Func, Memory, Data, Store}
-use Rattle.wasm_meaning.specs.Control.{type_of_func, own_of, type_at, own_at}
+use Rattle.wasm_meaning.specs.Control.{type_at, own_at}
 use Rattle.wasm_meaning.specs.Linking.{Part, module_at}
 use Rattle.wasm_meaning.specs.Environment.{Environment}
 use Rattle.wasm_meaning.specs.World.{own_store, base, joined_stores, part_store, defined_before}
-use Rattle.index_remap.specs.Related.{Pairing, BothRel, both, ResRel, done, ListRel, nil, cons, FuncRel, TableRel, GlobalRel, ElemRel, StoreRel}
-use Rattle.index_remap.specs.Related as to
+use Rattle.index_remap.specs.Related.{Pairing, BothRel, both, ListRel, nil, cons, FuncRel, TableRel, GlobalRel, ElemRel, StoreRel}
 use Rattle.index_remap.specs.Laws.{CodeIsRelatedToItself}
-use Rattle.worlds_in_turn.proofs.Reached.{count_upto, is_reached, reaching, reached_at, reached_is, defined_next}
+use Rattle.worlds_in_turn.proofs.Reached.{count_upto, is_reached, reaching, reached_at, reached_is}
 use Rattle.worlds_in_turn.proofs.Turn.{Sized}
 use Rattle.worlds_in_turn.proofs.Closed.{table_more, global_more, elem_more, Closed, Sound, own_func, code, Reaches, func_self}
 use Rattle.std.proofs.lemmas.List.{length-append}
+use Rattle.base_lists.proofs.Places.{append_left, append_right, slice_get_there}
+use Rattle.index_remap.proofs.Rel.{both_map}
+use Rattle.world_simulation.proofs.Stored.{type_same, own_same}
+use Rattle.wasm_meaning.proofs.Counts.{defined_next}
 
 -- ---- lists by place ----
 
-pub at_low : {A : Type 0} (xs ys : List A) (a : ℕ) → a < length xs → at (xs ++ ys) a ≡ at xs a
-at_low [] ys a l = absurd (omega (arith, l))
-at_low (x ∷ xs) ys zero l = refl
-at_low (x ∷ xs) ys (suc a) l = at_low xs ys a (omega (arith, l))
-
-pub at_high : {A : Type 0} (xs ys : List A) (j : ℕ) → at (xs ++ ys) (length xs + j) ≡ at ys j
-at_high [] ys j = let e : 0 + j ≡ j = omega arith in ap (at ys) e
-at_high (x ∷ xs) ys j = let e : suc (length xs) + j ≡ suc (length xs + j) = omega arith in ap (at (x ∷ (xs ++ ys))) e ∙ at_high xs ys j
-
-pub both_list : {A : Type 0} {P : A → A → Type 0} {ys : List A} → ListRel P ys ys → (j : ℕ) → j < length ys → BothRel P (at ys j) (at ys j)
+pub both_list : {A : Type 0} {P : A → A → Type 0} {ys : List A} → ListRel P ys ys → (j : ℕ) → j < length ys → BothRel P (slice_get ys j) (slice_get ys j)
 both_list r j l = go r j l
   where
-    go : {A : Type 0} {P : A → A → Type 0} {xs ys : List A} → ListRel P xs ys → (j : ℕ) → j < length xs → BothRel P (at xs j) (at ys j)
+    go : {A : Type 0} {P : A → A → Type 0} {xs ys : List A} → ListRel P xs ys → (j : ℕ) → j < length xs → BothRel P (slice_get xs j) (slice_get ys j)
     go nil j l = absurd (omega (arith, l))
     go (cons p r) zero l = both p
     go (cons p r) (suc j) l = go r j (omega (arith, l))
 
 -- what is added stands beside what was allocated for it
-joined_both : {A : Type 0} (P : A → A → Type 0) (xs ys zs : List A) (n : ℕ) → length xs ≡ n → ((a : ℕ) → a < n → BothRel P (at xs a) (at zs a)) → ListRel P ys ys → ((j : ℕ) → j < length ys → at zs (n + j) ≡ at ys j) →
-    (a : ℕ) → a < n + length ys → BothRel P (at (xs ++ ys) a) (at zs a)
+joined_both : {A : Type 0} (P : A → A → Type 0) (xs ys zs : List A) (n : ℕ) → length xs ≡ n → ((a : ℕ) → a < n → BothRel P (slice_get xs a) (slice_get zs a)) → ListRel P ys ys → ((j : ℕ) → j < length ys → slice_get zs (n + j) ≡ slice_get ys j) →
+    (a : ℕ) → a < n + length ys → BothRel P (slice_get (xs ++ ys) a) (slice_get zs a)
 joined_both {A} P xs ys zs n size old self stands a l = go (cases_lt a n)
   where
-    go : (a < n) ⊎ (n ≤ a) → BothRel P (at (xs ++ ys) a) (at zs a)
-    go (inl low) = subst (λ o. BothRel P o (at zs a)) (sym (at_low xs ys a (omega (arith, low, size)))) (old a low)
+    go : (a < n) ⊎ (n ≤ a) → BothRel P (slice_get (xs ++ ys) a) (slice_get zs a)
+    go (inl low) = subst (λ o. BothRel P o (slice_get zs a)) (sym (append_left xs ys a (omega (arith, low, size)))) (old a low)
     go (inr high) =
         let j = a - n in
         let e : length xs + j ≡ a = omega (arith, high, size) in
         let f : n + j ≡ a = omega (arith, high) in
         let b = both_list self j (omega (arith, l, high)) in
-        let left : at ys j ≡ at (xs ++ ys) a = sym (at_high xs ys j) ∙ ap (at (xs ++ ys)) e in
-        let right : at ys j ≡ at zs a = sym (stands j (omega (arith, l, high))) ∙ ap (at zs) f in
-        subst (λ (o : Outcome A). BothRel P (at (xs ++ ys) a) o) right (subst (λ (o : Outcome A). BothRel P o (at ys j)) left b)
+        let left : slice_get ys j ≡ slice_get (xs ++ ys) a = sym (append_right xs ys j) ∙ ap (slice_get (xs ++ ys)) e in
+        let right : slice_get ys j ≡ slice_get zs a = sym (stands j (omega (arith, l, high))) ∙ ap (slice_get zs) f in
+        subst (λ (o : Option A). BothRel P (slice_get (xs ++ ys) a) o) right (subst (λ (o : Option A). BothRel P o (slice_get ys j)) left b)
 
 equal_list : {A : Type 0} (xs : List A) → ListRel (λ (x y : A). x ≡ y) xs xs
 equal_list [] = nil
@@ -78,18 +71,18 @@ pub record Laid (env : Environment) (parts : List Part) (insts : List Inst) (all
 
 -- beyond the first parts all is as it was allocated
 pub record Untouched (env : Environment) (parts : List Part) (p : ℕ) (allocated s : Store) : Type 0 where
-  pub tables : (a : ℕ) → base env parts Tables p ≤ a → at s.tables a ≡ at allocated.tables a
-  pub mems : (a : ℕ) → base env parts Memories p ≤ a → at s.mems a ≡ at allocated.mems a
-  pub globals : (a : ℕ) → base env parts Globals p ≤ a → at s.globals a ≡ at allocated.globals a
-  pub elems : (a : ℕ) → defined_before ElementSegments parts p ≤ a → at s.elems a ≡ at allocated.elems a
-  pub datas : (a : ℕ) → defined_before DataSegments parts p ≤ a → at s.datas a ≡ at allocated.datas a
+  pub tables : (a : ℕ) → base env parts Tables p ≤ a → slice_get s.tables a ≡ slice_get allocated.tables a
+  pub mems : (a : ℕ) → base env parts Memories p ≤ a → slice_get s.mems a ≡ slice_get allocated.mems a
+  pub globals : (a : ℕ) → base env parts Globals p ≤ a → slice_get s.globals a ≡ slice_get allocated.globals a
+  pub elems : (a : ℕ) → defined_before ElementSegments parts p ≤ a → slice_get s.elems a ≡ slice_get allocated.elems a
+  pub datas : (a : ℕ) → defined_before DataSegments parts p ≤ a → slice_get s.datas a ≡ slice_get allocated.datas a
 
 -- the store in turn, and the store at once
 pub record Beside (env : Environment) (parts : List Part) (p : ℕ) (allocated t s : Store) : Type 0 where
   pub related : StoreRel (reaching env parts p) t s
   pub sized : Sized env parts p t
-  pub sound : (a : ℕ) (f : Func) → at t.funcs a ≡ Gives f → Sound env parts p f
-  pub same_funcs : (a : ℕ) → a < base env parts Functions p → at t.funcs a ≡ at allocated.funcs a
+  pub sound : (a : ℕ) (f : Func) → slice_get t.funcs a ≡ Some f → Sound env parts p f
+  pub same_funcs : (a : ℕ) → a < base env parts Functions p → slice_get t.funcs a ≡ slice_get allocated.funcs a
   pub all_funcs : s.funcs ≡ allocated.funcs
   pub untouched : Untouched env parts p allocated s
 
@@ -104,39 +97,21 @@ sound_more : (env : Environment) (parts : List Part) (p q : ℕ) (f : Func) → 
 sound_more env parts p q f b e d own_func = own_func
 sound_more env parts p q f b e d (code {i = i} r) = code (reaches_more env parts p q i b e d r)
 
-at_there : {A : Type 0} (xs : List A) (a : ℕ) → a < length xs → (x : A) × (at xs a ≡ Gives x)
-at_there [] a l = absurd (omega (arith, l))
-at_there (x ∷ xs) zero l = (x, refl)
-at_there (x ∷ xs) (suc a) l = at_there xs a (omega (arith, l))
-
-type_same : {R : Pairing} {o p : Outcome Func} → BothRel (FuncRel R) o p → BothRel (◌≡◌ {A = FuncType}) (bind o (λ f. Gives (type_of_func f))) (bind p (λ f. Gives (type_of_func f)))
-type_same (both (to.defined c)) = both refl
-type_same (both to.own) = both refl
-type_same (both to.slot) = both refl
-
-own_same : {R : Pairing} {o p : Outcome Func} → BothRel (FuncRel R) o p → option_and_then own_of (given o) ≡ option_and_then own_of (given p)
-own_same (both (to.defined c)) = refl
-own_same (both to.own) = refl
-own_same (both to.slot) = refl
-
 -- a relation of stores by place gives the relation of stores
-pub stores_related : (env : Environment) (parts : List Part) (p : ℕ) (t s : Store) → ((a : ℕ) → a < base env parts Functions p → BothRel (FuncRel (reaching env parts p)) (at t.funcs a) (at s.funcs a)) →
-    ((a : ℕ) → a < base env parts Tables p → BothRel (TableRel (reaching env parts p)) (at t.tables a) (at s.tables a)) → ((a : ℕ) → a < base env parts Memories p → BothRel (λ (x y : Memory). x ≡ y) (at t.mems a) (at s.mems a)) →
-    ((a : ℕ) → a < base env parts Globals p → BothRel (GlobalRel (reaching env parts p)) (at t.globals a) (at s.globals a)) → ((a : ℕ) → a < defined_before ElementSegments parts p → BothRel (ElemRel (reaching env parts p)) (at t.elems a) (at s.elems a)) →
-    ((a : ℕ) → a < defined_before DataSegments parts p → BothRel (λ (x y : Data). x.bytes ≡ y.bytes) (at t.datas a) (at s.datas a)) → StoreRel (reaching env parts p) t s
+pub stores_related : (env : Environment) (parts : List Part) (p : ℕ) (t s : Store) → ((a : ℕ) → a < base env parts Functions p → BothRel (FuncRel (reaching env parts p)) (slice_get t.funcs a) (slice_get s.funcs a)) →
+    ((a : ℕ) → a < base env parts Tables p → BothRel (TableRel (reaching env parts p)) (slice_get t.tables a) (slice_get s.tables a)) → ((a : ℕ) → a < base env parts Memories p → BothRel (λ (x y : Memory). x ≡ y) (slice_get t.mems a) (slice_get s.mems a)) →
+    ((a : ℕ) → a < base env parts Globals p → BothRel (GlobalRel (reaching env parts p)) (slice_get t.globals a) (slice_get s.globals a)) → ((a : ℕ) → a < defined_before ElementSegments parts p → BothRel (ElemRel (reaching env parts p)) (slice_get t.elems a) (slice_get s.elems a)) →
+    ((a : ℕ) → a < defined_before DataSegments parts p → BothRel (λ (x y : Data). x.bytes ≡ y.bytes) (slice_get t.datas a) (slice_get s.datas a)) → StoreRel (reaching env parts p) t s
 stores_related env parts p t s f ta me g e d = record {
-  types = λ {a} {b} r. let x = reached_is env parts p Functions a b r in subst (λ b. BothRel (◌≡◌ {A = FuncType}) (type_at t a) (type_at s b)) x.0 (type_same (f a x.1));
-  owns = λ {a} {b} r. let x = reached_is env parts p Functions a b r in subst (λ b. own_at t a ≡ own_at s b) x.0 (own_same (f a x.1));
-  funcs = λ {a} {b} r _. let x = reached_is env parts p Functions a b r in subst (λ b. BothRel (FuncRel (reaching env parts p)) (at t.funcs a) (at s.funcs b)) x.0 (f a x.1);
-  tables = λ {a} {b} r. let x = reached_is env parts p Tables a b r in subst (λ b. BothRel (TableRel (reaching env parts p)) (at t.tables a) (at s.tables b)) x.0 (ta a x.1);
-  mems = λ {a} {b} r. let x = reached_is env parts p Memories a b r in subst (λ b. BothRel (λ (x y : Memory). x ≡ y) (at t.mems a) (at s.mems b)) x.0 (me a x.1);
-  globals = λ {a} {b} r. let x = reached_is env parts p Globals a b r in subst (λ b. BothRel (GlobalRel (reaching env parts p)) (at t.globals a) (at s.globals b)) x.0 (g a x.1);
-  elems = λ {a} {b} r. let x = reached_is env parts p ElementSegments a b r in subst (λ b. BothRel (ElemRel (reaching env parts p)) (at t.elems a) (at s.elems b)) x.0 (let l = x.1 in e a (omega (arith, l)));
-  datas = λ {a} {b} r. let x = reached_is env parts p DataSegments a b r in subst (λ b. BothRel (λ (x y : Data). x.bytes ≡ y.bytes) (at t.datas a) (at s.datas b)) x.0 (let l = x.1 in d a (omega (arith, l)));
+  types = λ {a} {b} r. let x = reached_is env parts p Functions a b r in subst (λ b. BothRel (◌≡◌ {A = FuncType}) (type_at t a) (type_at s b)) x.0 (type_same (reaching env parts p) (f a x.1));
+  owns = λ {a} {b} r. let x = reached_is env parts p Functions a b r in subst (λ b. own_at t a ≡ own_at s b) x.0 (own_same (reaching env parts p) (f a x.1));
+  funcs = λ {a} {b} r _. let x = reached_is env parts p Functions a b r in subst (λ b. BothRel (FuncRel (reaching env parts p)) (slice_get t.funcs a) (slice_get s.funcs b)) x.0 (f a x.1);
+  tables = λ {a} {b} r. let x = reached_is env parts p Tables a b r in subst (λ b. BothRel (TableRel (reaching env parts p)) (slice_get t.tables a) (slice_get s.tables b)) x.0 (ta a x.1);
+  mems = λ {a} {b} r. let x = reached_is env parts p Memories a b r in subst (λ b. BothRel (λ (x y : Memory). x ≡ y) (slice_get t.mems a) (slice_get s.mems b)) x.0 (me a x.1);
+  globals = λ {a} {b} r. let x = reached_is env parts p Globals a b r in subst (λ b. BothRel (GlobalRel (reaching env parts p)) (slice_get t.globals a) (slice_get s.globals b)) x.0 (g a x.1);
+  elems = λ {a} {b} r. let x = reached_is env parts p ElementSegments a b r in subst (λ b. BothRel (ElemRel (reaching env parts p)) (slice_get t.elems a) (slice_get s.elems b)) x.0 (let l = x.1 in e a (omega (arith, l)));
+  datas = λ {a} {b} r. let x = reached_is env parts p DataSegments a b r in subst (λ b. BothRel (λ (x y : Data). x.bytes ≡ y.bytes) (slice_get t.datas a) (slice_get s.datas b)) x.0 (let l = x.1 in d a (omega (arith, l)));
 }
-
-both_more : {A B : Type 0} {P Q : A → B → Type 0} {o : Outcome A} {p : Outcome B} → ((a : A) (b : B) → P a b → Q a b) → BothRel P o p → BothRel Q o p
-both_more h (both r) = both (h _ _ r)
 
 -- ---- the next part is added ----
 
@@ -169,9 +144,9 @@ module _ (law : CodeIsRelatedToItself) (env : Environment) (parts : List Part) (
   data_count = lengths (laid.first p).datas (laid.adds p).datas sizes.datas next_sizes.datas
 
   -- what was allocated for the part stands after what the first parts have
-  stands : {A : Type 0} (all before mine after more : List A) (n : ℕ) → all ≡ before ++ after → after ≡ mine ++ more → length before ≡ n → (j : ℕ) → j < length mine → at all (n + j) ≡ at mine j
+  stands : {A : Type 0} (all before mine after more : List A) (n : ℕ) → all ≡ before ++ after → after ≡ mine ++ more → length before ≡ n → (j : ℕ) → j < length mine → slice_get all (n + j) ≡ slice_get mine j
   stands all before mine after more n e f size j l =
-      ap (λ l. at l (n + j)) e ∙ ap (λ n. at (before ++ after) (n + j)) (sym size) ∙ at_high before after j ∙ ap (λ l. at l j) f ∙ at_low mine more j l
+      ap (λ l. slice_get l (n + j)) e ∙ ap (λ n. slice_get (before ++ after) (n + j)) (sym size) ∙ append_right before after j ∙ ap (λ l. slice_get l j) f ∙ append_left mine more j l
 
   whole : allocated ≡ joined_stores (laid.first p) (laid.rest p)
   whole = laid.parted p (omega (arith, within))
@@ -198,17 +173,17 @@ module _ (law : CodeIsRelatedToItself) (env : Environment) (parts : List Part) (
       subst (λ b. is_reached env parts (suc p) k a b ≡ true) r.0 (reached_at env parts (suc p) k a (omega (arith, r.1, c)))
 
   -- the functions of the first parts and of the next
-  pub sound_joined : (fs : List Func) → ((a : ℕ) (f : Func) → at fs a ≡ Gives f → Sound env parts p f) → ((n : ℕ) (f : Func) → slice_get (laid.adds p).funcs n ≡ Some f → Sound env parts (suc p) f) → (a : ℕ) (f : Func) → at (fs ++ (laid.adds p).funcs) a ≡ Gives f → Sound env parts (suc p) f
+  pub sound_joined : (fs : List Func) → ((a : ℕ) (f : Func) → slice_get fs a ≡ Some f → Sound env parts p f) → ((n : ℕ) (f : Func) → slice_get (laid.adds p).funcs n ≡ Some f → Sound env parts (suc p) f) → (a : ℕ) (f : Func) → slice_get (fs ++ (laid.adds p).funcs) a ≡ Some f → Sound env parts (suc p) f
   sound_joined fs old new a f e = go (cases_lt a (length fs))
     where
       go : (a < length fs) ⊎ (length fs ≤ a) → Sound env parts (suc p) f
-      go (inl low) = sound_more env parts p (suc p) f base_more elems_more datas_more (old a f (sym (at_low fs (laid.adds p).funcs a low) ∙ e))
+      go (inl low) = sound_more env parts p (suc p) f base_more elems_more datas_more (old a f (sym (append_left fs (laid.adds p).funcs a low) ∙ e))
       go (inr high) =
           let j = a - length fs in
           let n : length fs + j ≡ a = omega (arith, high) in
-          new j f (Rattle.worlds_in_turn.proofs.Things.at_place (laid.adds p).funcs j f (sym (at_high fs (laid.adds p).funcs j) ∙ ap (at (fs ++ (laid.adds p).funcs)) n ∙ e))
+          new j f (sym (append_right fs (laid.adds p).funcs j) ∙ ap (slice_get (fs ++ (laid.adds p).funcs)) n ∙ e)
 
-  pub at_allocated_funcs : (j : ℕ) → j < length (laid.adds p).funcs → at allocated.funcs (base env parts Functions p + j) ≡ at (laid.adds p).funcs j
+  pub at_allocated_funcs : (j : ℕ) → j < length (laid.adds p).funcs → slice_get allocated.funcs (base env parts Functions p + j) ≡ slice_get (laid.adds p).funcs j
   at_allocated_funcs = stands allocated.funcs (laid.first p).funcs (laid.adds p).funcs (laid.rest p).funcs (laid.rest (suc p)).funcs (base env parts Functions p) (ap (λ s. s.funcs) whole) (ap (λ s. s.funcs) tail) sizes.funcs
 
   module _ (t s : Store) (h : Beside env parts p allocated t s) (closed : Closed (reaching env parts (suc p)) (laid.adds p)) (sound_adds : (n : ℕ) (f : Func) → slice_get (laid.adds p).funcs n ≡ Some f → Sound env parts (suc p) f) where
@@ -218,24 +193,24 @@ module _ (law : CodeIsRelatedToItself) (env : Environment) (parts : List Part) (
     abbrev Q : Pairing
     Q = reaching env parts (suc p)
 
-    old_funcs : (a : ℕ) → a < base env parts Functions p → BothRel (FuncRel (reaching env parts (suc p))) (at t.funcs a) (at s.funcs a)
+    old_funcs : (a : ℕ) → a < base env parts Functions p → BothRel (FuncRel (reaching env parts (suc p))) (slice_get t.funcs a) (slice_get s.funcs a)
     old_funcs a l =
-        let x = at_there t.funcs a (let z = h.sized.funcs in omega (arith, l, z)) in
-        let right : at s.funcs a ≡ Gives x.0 = ap (λ fs. at fs a) h.all_funcs ∙ sym (h.same_funcs a l) ∙ x.1 in
-        subst (λ o. BothRel (FuncRel (reaching env parts (suc p))) o (at s.funcs a)) (sym x.1) (subst (λ o. BothRel (FuncRel (reaching env parts (suc p))) (Gives x.0) o) (sym right)
+        let x = slice_get_there t.funcs a (let z = h.sized.funcs in omega (arith, l, z)) in
+        let right : slice_get s.funcs a ≡ Some x.0 = ap (λ fs. slice_get fs a) h.all_funcs ∙ sym (h.same_funcs a l) ∙ x.1 in
+        subst (λ o. BothRel (FuncRel (reaching env parts (suc p))) o (slice_get s.funcs a)) (sym x.1) (subst (λ o. BothRel (FuncRel (reaching env parts (suc p))) (Some x.0) o) (sym right)
         (both (func_self law env parts (suc p) x.0 (sound_more env parts p (suc p) x.0 base_more elems_more datas_more (h.sound a x.0 x.1)))))
 
     pub beside_next : Beside env parts (suc p) allocated (joined_stores t (laid.adds p)) s
     beside_next = record {
       related = stores_related env parts (suc p) (joined_stores t (laid.adds p)) s
-          (λ a l. joined_both (FuncRel (reaching env parts (suc p))) t.funcs (laid.adds p).funcs s.funcs (base env parts Functions p) h.sized.funcs old_funcs closed.funcs (λ j k. ap (λ fs. at fs (base env parts Functions p + j)) h.all_funcs ∙ at_allocated_funcs j k) a (let c = func_count in omega (arith, l, c)))
-          (λ a l. joined_both (TableRel (reaching env parts (suc p))) t.tables (laid.adds p).tables s.tables (base env parts Tables p) h.sized.tables (λ a l. both_more (table_more (reaching env parts p) (reaching env parts (suc p)) more) (h.related.tables (reached_at env parts p Tables a l))) closed.tables
+          (λ a l. joined_both (FuncRel (reaching env parts (suc p))) t.funcs (laid.adds p).funcs s.funcs (base env parts Functions p) h.sized.funcs old_funcs closed.funcs (λ j k. ap (λ fs. slice_get fs (base env parts Functions p + j)) h.all_funcs ∙ at_allocated_funcs j k) a (let c = func_count in omega (arith, l, c)))
+          (λ a l. joined_both (TableRel (reaching env parts (suc p))) t.tables (laid.adds p).tables s.tables (base env parts Tables p) h.sized.tables (λ a l. both_map (table_more (reaching env parts p) (reaching env parts (suc p)) more) (h.related.tables (reached_at env parts p Tables a l))) closed.tables
           (λ j k. h.untouched.tables (base env parts Tables p + j) (omega arith) ∙ stands allocated.tables (laid.first p).tables (laid.adds p).tables (laid.rest p).tables (laid.rest (suc p)).tables (base env parts Tables p) (ap (λ s. s.tables) whole) (ap (λ s. s.tables) tail) sizes.tables j k) a (let c = table_count in omega (arith, l, c)))
           (λ a l. joined_both (λ (x y : Memory). x ≡ y) t.mems (laid.adds p).mems s.mems (base env parts Memories p) h.sized.mems (λ a l. h.related.mems (reached_at env parts p Memories a l)) (equal_list (laid.adds p).mems)
           (λ j k. h.untouched.mems (base env parts Memories p + j) (omega arith) ∙ stands allocated.mems (laid.first p).mems (laid.adds p).mems (laid.rest p).mems (laid.rest (suc p)).mems (base env parts Memories p) (ap (λ s. s.mems) whole) (ap (λ s. s.mems) tail) sizes.mems j k) a (let c = memory_count in omega (arith, l, c)))
-          (λ a l. joined_both (GlobalRel (reaching env parts (suc p))) t.globals (laid.adds p).globals s.globals (base env parts Globals p) h.sized.globals (λ a l. both_more (global_more (reaching env parts p) (reaching env parts (suc p)) more) (h.related.globals (reached_at env parts p Globals a l))) closed.globals
+          (λ a l. joined_both (GlobalRel (reaching env parts (suc p))) t.globals (laid.adds p).globals s.globals (base env parts Globals p) h.sized.globals (λ a l. both_map (global_more (reaching env parts p) (reaching env parts (suc p)) more) (h.related.globals (reached_at env parts p Globals a l))) closed.globals
           (λ j k. h.untouched.globals (base env parts Globals p + j) (omega arith) ∙ stands allocated.globals (laid.first p).globals (laid.adds p).globals (laid.rest p).globals (laid.rest (suc p)).globals (base env parts Globals p) (ap (λ s. s.globals) whole) (ap (λ s. s.globals) tail) sizes.globals j k) a (let c = global_count in omega (arith, l, c)))
-          (λ a l. joined_both (ElemRel (reaching env parts (suc p))) t.elems (laid.adds p).elems s.elems (defined_before ElementSegments parts p) h.sized.elems (λ a l. both_more (elem_more (reaching env parts p) (reaching env parts (suc p)) more) (h.related.elems (reached_at env parts p ElementSegments a (omega (arith, l))))) closed.elems
+          (λ a l. joined_both (ElemRel (reaching env parts (suc p))) t.elems (laid.adds p).elems s.elems (defined_before ElementSegments parts p) h.sized.elems (λ a l. both_map (elem_more (reaching env parts p) (reaching env parts (suc p)) more) (h.related.elems (reached_at env parts p ElementSegments a (omega (arith, l))))) closed.elems
           (λ j k. h.untouched.elems (defined_before ElementSegments parts p + j) (omega arith) ∙ stands allocated.elems (laid.first p).elems (laid.adds p).elems (laid.rest p).elems (laid.rest (suc p)).elems (defined_before ElementSegments parts p) (ap (λ s. s.elems) whole) (ap (λ s. s.elems) tail) sizes.elems j k) a (let c = elem_count in omega (arith, l, c)))
           (λ a l. joined_both (λ (x y : Data). x.bytes ≡ y.bytes) t.datas (laid.adds p).datas s.datas (defined_before DataSegments parts p) h.sized.datas (λ a l. h.related.datas (reached_at env parts p DataSegments a (omega (arith, l)))) (bytes_list (laid.adds p).datas)
           (λ j k. h.untouched.datas (defined_before DataSegments parts p + j) (omega arith) ∙ stands allocated.datas (laid.first p).datas (laid.adds p).datas (laid.rest p).datas (laid.rest (suc p)).datas (defined_before DataSegments parts p) (ap (λ s. s.datas) whole) (ap (λ s. s.datas) tail) sizes.datas j k) a (let c = data_count in omega (arith, l, c)));
@@ -266,12 +241,12 @@ module _ (law : CodeIsRelatedToItself) (env : Environment) (parts : List Part) (
         grown : {A : Type 0} (xs ys : List A) {n k : ℕ} → length xs ≡ n → k ≡ n + length ys → length (xs ++ ys) ≡ k
         grown xs ys a b = let c = length-append xs ys in omega (arith, a, b, c)
 
-        same_at : (a : ℕ) → a < base env parts Functions (suc p) → (a < base env parts Functions p) ⊎ (base env parts Functions p ≤ a) → at (t.funcs ++ (laid.adds p).funcs) a ≡ at allocated.funcs a
-        same_at a l (inl low) = at_low t.funcs (laid.adds p).funcs a (let z = h.sized.funcs in omega (arith, low, z)) ∙ h.same_funcs a low
+        same_at : (a : ℕ) → a < base env parts Functions (suc p) → (a < base env parts Functions p) ⊎ (base env parts Functions p ≤ a) → slice_get (t.funcs ++ (laid.adds p).funcs) a ≡ slice_get allocated.funcs a
+        same_at a l (inl low) = append_left t.funcs (laid.adds p).funcs a (let z = h.sized.funcs in omega (arith, low, z)) ∙ h.same_funcs a low
         same_at a l (inr high) =
             let j = a - base env parts Functions p in
             let z = h.sized.funcs in
             let c = func_count in
             let n : length t.funcs + j ≡ a = omega (arith, high, z) in
             let k : base env parts Functions p + j ≡ a = omega (arith, high) in
-            ap (at (t.funcs ++ (laid.adds p).funcs)) (sym n) ∙ at_high t.funcs (laid.adds p).funcs j ∙ sym (at_allocated_funcs j (omega (arith, l, high, c))) ∙ ap (at allocated.funcs) k
+            ap (slice_get (t.funcs ++ (laid.adds p).funcs)) (sym n) ∙ append_right t.funcs (laid.adds p).funcs j ∙ sym (at_allocated_funcs j (omega (arith, l, high, c))) ∙ ap (slice_get allocated.funcs) k

@@ -2,8 +2,6 @@
 use Rattle.std.proofs.Common.{◌≡◌, ◌∙◌, refl, ap, subst, ℕ, suc, ◌<◌, List, [], ◌∷◌, map, Option, Some, option_and_then, slice_get}
 use Rattle.wasm_tree.specs.declared.space.Space.{Space}
 use Rattle.wasm_tree.specs.declared.space.Space.TheVariants.{Functions, Tables, Memories, Globals, ElementSegments, DataSegments}
-use Rattle.wasm_tree.specs.declared.types.RefType.{RefType}
-use Rattle.wasm_tree.specs.declared.types.RefType.TheVariants as reft
 use Rattle.wasm_tree.specs.declared.types.FuncType.{FuncType}
 use Rattle.wasm_tree.specs.declared.instr.Instr.{Instr}
 use Rattle.wasm_tree.specs.declared.module.ConstExpr.{ConstExpr}
@@ -14,19 +12,20 @@ use Rattle.wasm_tree.specs.declared.module.ElemSeg.{ElemSeg}
 use Rattle.wasm_tree.specs.declared.module.ElemMode.{ElemMode}
 use Rattle.wasm_tree.specs.declared.module.ElemMode.TheVariants as elem
 use Rattle.wasm_tree.specs.declared.module.Module.{Module}
-use Rattle.wasm_meaning.specs.Outcomes.{Gives, at, copies}
+use Rattle.wasm_meaning.specs.Outcomes.{copies}
 use Rattle.wasm_meaning.specs.State.{RefVal, Val, Num, Ref, Inst, Func, Code, Own, Table, Global, Elem, Store}
 use Rattle.wasm_meaning.specs.Values.{null_of, ref_of}
 use Rattle.wasm_meaning.specs.Linking.{Part}
 use Rattle.wasm_meaning.specs.Environment.{Environment}
-use Rattle.wasm_meaning.specs.World.{given, all_there, new_func, global_with, new_elem, elem_with, store_with, const_value}
+use Rattle.wasm_meaning.specs.World.{all_there, new_func, global_with, new_elem, elem_with, store_with, const_value}
 use Rattle.index_remap.specs.Related.{Pairing, none, some, ListRel, nil, cons, RefRel, func, extern, ValRel, number, reference, FuncRel, defined, own, TableRel, GlobalRel, ElemRel}
 use Rattle.index_remap.specs.Laws.{NamesItself, CodeIsRelatedToItself}
 use Rattle.index_remap.proofs.Rel.{copies_rel}
-use Rattle.worlds_in_turn.proofs.Things.{space_in, at_place}
+use Rattle.worlds_in_turn.proofs.Things.{space_in}
 use Rattle.worlds_in_turn.proofs.Reached.{count_upto, is_reached, reaching, reached_at}
 use Rattle.base_lists.proofs.Options.{and_then_is}
 use Rattle.std.proofs.lemmas.Option.{same_Some}
+use Rattle.world_simulation.proofs.Owned.{null_rel}
 
 -- ---- more is reached later ----
 
@@ -54,7 +53,7 @@ module _ (R Q : Pairing) (more : (k : Space) (a b : ℕ) → R.of k a b → Q.of
   elem_more e f r = record { items = list_more (λ _ _ p. ref_more p) r.items }
 
 -- a list whose elements are related to themselves
-pub self_by : {A : Type 0} {P : A → A → Type 0} (xs : List A) → ((n : ℕ) (x : A) → at xs n ≡ Gives x → P x x) → ListRel P xs xs
+pub self_by : {A : Type 0} {P : A → A → Type 0} (xs : List A) → ((n : ℕ) (x : A) → slice_get xs n ≡ Some x → P x x) → ListRel P xs xs
 self_by [] h = nil
 self_by (x ∷ xs) h = cons (h 0 x refl) (self_by xs (λ n x e. h (suc n) x e))
 
@@ -66,10 +65,6 @@ pub record Closed (R : Pairing) (t : Store) : Type 0 where
   pub elems : ListRel (ElemRel R) t.elems t.elems
 
 -- ---- one part ----
-
-self_list : {A : Type 0} {P : A → A → Type 0} (xs : List A) → ((x : A) → P x x) → ListRel P xs xs
-self_list [] h = nil
-self_list (x ∷ xs) h = cons (h x) (self_list xs h)
 
 map_self : {A B : Type 0} {P : B → B → Type 0} (f : A → B) (xs : List A) → ((x : A) → P (f x) (f x)) → ListRel P (map f xs) (map f xs)
 map_self f [] h = nil
@@ -83,10 +78,6 @@ all_self {P = P} f (x ∷ xs) ys h g =
     let b = and_then_is (all_there f xs) _ ys a.2 in
     subst (λ l. ListRel P l l) (same_Some _ _ b.2) (cons (g x a.0 a.1) (all_self f xs b.0 b.1 g))
 
-pub null_self : (R : Pairing) (t : RefType) → RefRel R (null_of t) (null_of t)
-null_self R reft.Func = func none
-null_self R reft.Extern = extern
-
 -- addresses that an instance has are reached
 pub record Reaches (env : Environment) (parts : List Part) (p : ℕ) (i : Inst) : Type 0 where
   pub spaces : (k : Space) (n a : ℕ) → slice_get (space_in i k) n ≡ Some a → a < Rattle.wasm_meaning.specs.World.base env parts k p
@@ -95,12 +86,12 @@ pub record Reaches (env : Environment) (parts : List Part) (p : ℕ) (i : Inst) 
 
 pub names_itself : (env : Environment) (parts : List Part) (p : ℕ) (i : Inst) → Reaches env parts p i → NamesItself (reaching env parts p) i
 names_itself env parts p i r = record {
-  funcs = λ n a e. reached_at env parts p Functions a (r.spaces Functions n a (at_place i.funcs n a e));
-  tables = λ n a e. reached_at env parts p Tables a (r.spaces Tables n a (at_place i.tables n a e));
-  mems = λ n a e. reached_at env parts p Memories a (r.spaces Memories n a (at_place i.mems n a e));
-  globals = λ n a e. reached_at env parts p Globals a (r.spaces Globals n a (at_place i.globals n a e));
-  elems = λ n a e. reached_at env parts p ElementSegments a (r.elems n a (at_place i.elems n a e));
-  datas = λ n a e. reached_at env parts p DataSegments a (r.datas n a (at_place i.datas n a e));
+  funcs = λ n a e. reached_at env parts p Functions a (r.spaces Functions n a e);
+  tables = λ n a e. reached_at env parts p Tables a (r.spaces Tables n a e);
+  mems = λ n a e. reached_at env parts p Memories a (r.spaces Memories n a e);
+  globals = λ n a e. reached_at env parts p Globals a (r.spaces Globals n a e);
+  elems = λ n a e. reached_at env parts p ElementSegments a (r.elems n a e);
+  datas = λ n a e. reached_at env parts p DataSegments a (r.datas n a e);
 }
 
 -- functions of the environment's own, and code over an instance that reaches no further
@@ -119,7 +110,7 @@ module _ (law : CodeIsRelatedToItself) (env : Environment) (parts : List Part) (
   value_self : (e : ConstExpr) (v : Val) → const_value globals i e ≡ Some v → ValRel (reaching env parts p) v v
   value_self (const.I32 z) v h = subst (λ v. ValRel (reaching env parts p) v v) (same_Some _ _ h) number
   value_self (const.I64 z) v h = subst (λ v. ValRel (reaching env parts p) v v) (same_Some _ _ h) number
-  value_self (const.Null t) v h = subst (λ v. ValRel (reaching env parts p) v v) (same_Some _ _ h) (reference (null_self (reaching env parts p) t))
+  value_self (const.Null t) v h = subst (λ v. ValRel (reaching env parts p) v v) (same_Some _ _ h) (reference (null_rel (reaching env parts p) t))
   value_self (const.Func f) v h =
       let a = and_then_is (slice_get i.funcs f) _ v h in
       subst (λ v. ValRel (reaching env parts p) v v) (same_Some _ _ a.2) (reference (func (some (reached_at env parts p Functions a.0 (reaches.spaces Functions f a.0 a.1)))))
@@ -133,19 +124,19 @@ module _ (law : CodeIsRelatedToItself) (env : Environment) (parts : List Part) (
       let v = and_then_is (const_value globals i g.init) _ h e in
       subst (λ h. GlobalRel (reaching env parts p) h h) (same_Some _ _ v.2) (record { type = refl; value = value_self g.init v.0 v.1 })
 
-  item_self : (e : ConstExpr) (r : RefVal) → option_and_then (λ v. given (ref_of v)) (const_value globals i e) ≡ Some r → RefRel (reaching env parts p) r r
+  item_self : (e : ConstExpr) (r : RefVal) → option_and_then ref_of (const_value globals i e) ≡ Some r → RefRel (reaching env parts p) r r
   item_self e r h =
       let v = and_then_is (const_value globals i e) _ r h in
       go v.0 (value_self e v.0 v.1) v.2
     where
-      go : (v : Val) → ValRel (reaching env parts p) v v → given (ref_of v) ≡ Some r → RefRel (reaching env parts p) r r
+      go : (v : Val) → ValRel (reaching env parts p) v v → ref_of v ≡ Some r → RefRel (reaching env parts p) r r
       go (Num w n) k h = cc
       go (Ref s) (reference k) h = subst (λ r. RefRel (reaching env parts p) r r) (same_Some _ _ h) k
 
   elem_self : (s : ElemSeg) (e : Elem) → elem_with (const_value globals i) s ≡ Some e → ElemRel (reaching env parts p) e e
   elem_self s e h =
-      let a = and_then_is (all_there (λ x. option_and_then (λ v. given (ref_of v)) (const_value globals i x)) s.items) _ e h in
-      subst (λ e. ElemRel (reaching env parts p) e e) (same_Some _ _ a.2) (go s.mode (all_self (λ x. option_and_then (λ v. given (ref_of v)) (const_value globals i x)) s.items a.0 a.1 item_self))
+      let a = and_then_is (all_there (λ x. option_and_then ref_of (const_value globals i x)) s.items) _ e h in
+      subst (λ e. ElemRel (reaching env parts p) e e) (same_Some _ _ a.2) (go s.mode (all_self (λ x. option_and_then ref_of (const_value globals i x)) s.items a.0 a.1 item_self))
     where
       go : (mode : ElemMode) {items : List RefVal} → ListRel (RefRel (reaching env parts p)) items items → ElemRel (reaching env parts p) (new_elem mode items) (new_elem mode items)
       go (elem.Active x y) k = record { items = k }
@@ -165,7 +156,7 @@ module _ (law : CodeIsRelatedToItself) (env : Environment) (parts : List Part) (
       let e = and_then_is (all_there (elem_with (const_value globals i)) m.elems) _ t g.2 in
       subst (Closed (reaching env parts p)) (same_Some _ _ e.2) (record {
         funcs = all_self (new_func i) m.funcs f.0 f.1 (λ x y k. func_self law env parts p y (new_sound x y k));
-        tables = map_self (λ t. record { ty = t.ty; most = t.limits.max; slots = copies t.limits.min (null_of t.ty) }) m.tables (λ t. record { type = refl; most = refl; slots = copies_rel _ _ t.limits.min (null_self (reaching env parts p) t.ty) });
+        tables = map_self (λ t. record { ty = t.ty; most = t.limits.max; slots = copies t.limits.min (null_of t.ty) }) m.tables (λ t. record { type = refl; most = refl; slots = copies_rel _ _ t.limits.min (null_rel (reaching env parts p) t.ty) });
         globals = all_self (global_with (const_value globals i)) m.globals g.0 g.1 global_self;
         elems = all_self (elem_with (const_value globals i)) m.elems e.0 e.1 elem_self;
       })

@@ -1,10 +1,11 @@
 -- A step only extends the store: functions stay, sizes do not shrink, types and maxima stay, and so do the values of globals that are not mutable.
-use Rattle.std.proofs.Common.{◌≡◌, ℕ, zero, suc, ◌≤◌, List, [], ◌∷◌, length, false, refl, sym, ap, subst, ◌∙◌, arith, slice_set}
+use Rattle.std.proofs.Common.{◌≡◌, ℕ, ◌≤◌, List, length, false, refl, sym, ap, subst, ◌∙◌, arith, slice_set, slice_get, Some}
 use native.Mathlib.Decide.{ℕ_discrete}
-use Rattle.wasm_meaning.specs.Outcomes.{Gives, at}
 use Rattle.wasm_meaning.specs.State.{Table, Memory, Global, Store, Change, Keep, SetGlobal, SetMemory, SetTable, DropElem, DropData}
 use Rattle.wasm_meaning.specs.Step.{changed, no_items, no_bytes}
 use Rattle.std.proofs.lemmas.List.{length-set}
+use Rattle.base_lists.proofs.Places.{set_at, set_other}
+use Rattle.std.proofs.lemmas.Option.{slice_get_within}
 pub use Rattle.world_simulation.proofs.Copied.{overwritten_length}
 
 pub record TableExtends (t u : Table) : Type 0 where
@@ -22,7 +23,7 @@ pub record GlobalExtends (g h : Global) : Type 0 where
 
 -- what stands at a place of the first still stands there in the second, or what extends it
 abbrev pub EachExtends : {A : Type 0} → (A → A → Type 0) → List A → List A → Type 0
-EachExtends {A} P xs ys = (a : ℕ) (x : A) → at xs a ≡ Gives x → (y : A) × (at ys a ≡ Gives y) × P x y
+EachExtends {A} P xs ys = (a : ℕ) (x : A) → slice_get xs a ≡ Some x → (y : A) × (slice_get ys a ≡ Some y) × P x y
 
 pub record Extends (s t : Store) : Type 0 where
   pub funcs : t.funcs ≡ s.funcs
@@ -81,37 +82,25 @@ and_then s t u h k = record {
 
 -- ---- a change ----
 
-put_here : {A : Type 0} (xs : List A) (n : ℕ) (v w : A) → at xs n ≡ Gives w → at (slice_set xs n v) n ≡ Gives v
-put_here [] n v w e = cc
-put_here (x ∷ xs) zero v w e = refl
-put_here (x ∷ xs) (suc n) v w e = put_here xs n v w e
-
-put_there : {A : Type 0} (xs : List A) (n m : ℕ) (v : A) → (n ≡ m → ⊥) → at (slice_set xs n v) m ≡ at xs m
-put_there [] n m v h = refl
-put_there (x ∷ xs) zero zero v h = absurd (h refl)
-put_there (x ∷ xs) zero (suc m) v h = refl
-put_there (x ∷ xs) (suc n) zero v h = refl
-put_there (x ∷ xs) (suc n) (suc m) v h = put_there xs n m v (λ e. h (ap suc e))
-
 -- one place is written with what extends the old
-pub each_put : {A : Type 0} (P : A → A → Type 0) (xs : List A) (n : ℕ) (old new : A) → ((x : A) → P x x) → at xs n ≡ Gives old → P old new → EachExtends P xs (slice_set xs n new)
+pub each_put : {A : Type 0} (P : A → A → Type 0) (xs : List A) (n : ℕ) (old new : A) → ((x : A) → P x x) → slice_get xs n ≡ Some old → P old new → EachExtends P xs (slice_set xs n new)
 each_put {A} P xs n old new same there p a x e = go (ℕ_discrete n a)
   where
-    go : Dec (n ≡ a) → (y : A) × (at (slice_set xs n new) a ≡ Gives y) × P x y
+    go : Dec (n ≡ a) → (y : A) × (slice_get (slice_set xs n new) a ≡ Some y) × P x y
     go (yes i) =
-        let o : old ≡ x = gives_same (sym there ∙ ap (at xs) i ∙ e) in
-        (new, ap (at (slice_set xs n new)) (sym i) ∙ put_here xs n new old there, subst (λ z. P z new) o p)
+        let o : old ≡ x = gives_same (sym there ∙ ap (slice_get xs) i ∙ e) in
+        (new, ap (slice_get (slice_set xs n new)) (sym i) ∙ set_at xs n new (slice_get_within xs n old there), subst (λ z. P z new) o p)
       where
-        gives_same : {u v : A} → Gives u ≡ Gives v → u ≡ v
+        gives_same : {u v : A} → Some u ≡ Some v → u ≡ v
         gives_same e = cc
-    go (no i) = (x, put_there xs n a new i ∙ e, same x)
+    go (no i) = (x, set_other xs n a new (λ f. i (sym f)) ∙ e, same x)
 
 -- what it writes extends what stood there
 pub data Extending (s : Store) : Change → Type 0 where
   keeps : Extending s Keep
-  global : {a : ℕ} {g h : Global} → at s.globals a ≡ Gives g → GlobalExtends g h → Extending s (SetGlobal a h)
-  memory : {a : ℕ} {m n : Memory} → at s.mems a ≡ Gives m → MemoryExtends m n → Extending s (SetMemory a n)
-  table : {a : ℕ} {t u : Table} → at s.tables a ≡ Gives t → TableExtends t u → Extending s (SetTable a u)
+  global : {a : ℕ} {g h : Global} → slice_get s.globals a ≡ Some g → GlobalExtends g h → Extending s (SetGlobal a h)
+  memory : {a : ℕ} {m n : Memory} → slice_get s.mems a ≡ Some m → MemoryExtends m n → Extending s (SetMemory a n)
+  table : {a : ℕ} {t u : Table} → slice_get s.tables a ≡ Some t → TableExtends t u → Extending s (SetTable a u)
   elem_drops : {a : ℕ} → Extending s (DropElem a)
   data_drops : {a : ℕ} → Extending s (DropData a)
 

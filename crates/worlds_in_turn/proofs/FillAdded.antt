@@ -7,12 +7,12 @@ use Rattle.wasm_tree.specs.declared.module.ElemMode.TheVariants as elem
 use Rattle.wasm_tree.specs.declared.module.DataSeg.{DataSeg}
 use Rattle.wasm_tree.specs.declared.module.DataMode.TheVariants as data'
 use Rattle.wasm_tree.specs.declared.module.Module.{Module}
-use Rattle.wasm_meaning.specs.State.{Val, Inst, Func, Global, Elem, Store}
 use Rattle.wasm_meaning.specs.Outcomes.{copies}
+use Rattle.wasm_meaning.specs.State.{Val, Inst, Func, Global, Elem, Store}
 use Rattle.wasm_meaning.specs.Values.{ref_of, null_of}
 use Rattle.wasm_meaning.specs.Linking.{Part, module_at, sites}
 use Rattle.wasm_meaning.specs.Environment.{Environment, all_of}
-use Rattle.wasm_meaning.specs.World.{all_there, given, is_matched, insts_from, own_store, stores_from, part_store, store_with, new_func, global_with, elem_with, new_elem, const_value, value_of}
+use Rattle.wasm_meaning.specs.World.{all_there, is_matched, insts_from, own_store, stores_from, part_store, store_with, new_func, global_with, elem_with, new_elem, const_value, value_of}
 use Rattle.wasm_meaning.specs.InTurn.{JoinsEarlier}
 use Rattle.worlds_in_turn.proofs.Joined.{ExportsThere}
 use Rattle.worlds_in_turn.proofs.FillValues.{Constant, HoldsFixed, value_given}
@@ -44,8 +44,8 @@ module _ (v w : ConstExpr → Option Val) (m : Module) (i : Inst) where
 
   elem_given : (s : ElemSeg) (y : Elem) → ((l : ℕ) (e : ConstExpr) → slice_get s.items l ≡ Some e → Gives e) → elem_with v s ≡ Some y → elem_with w s ≡ Some y
   elem_given s y h e =
-      let u = and_then_is (all_there (λ x. option_and_then (λ v. given (ref_of v)) (v x)) s.items) _ y e in
-      let same = all_given (λ x. option_and_then (λ v. given (ref_of v)) (v x)) (λ x. option_and_then (λ v. given (ref_of v)) (w x)) s.items u.0 (λ n x r at f. let a = and_then_is (v x) _ r f in ap (λ o. option_and_then (λ v. given (ref_of v)) o) (h n x at a.0 a.1) ∙ a.2) u.1 in
+      let u = and_then_is (all_there (λ x. option_and_then ref_of (v x)) s.items) _ y e in
+      let same = all_given (λ x. option_and_then ref_of (v x)) (λ x. option_and_then ref_of (w x)) s.items u.0 (λ n x r at f. let a = and_then_is (v x) _ r f in ap (λ o. option_and_then ref_of o) (h n x at a.0 a.1) ∙ a.2) u.1 in
       ap (λ o. option_and_then (λ items. Some (new_elem s.mode items)) o) same ∙ u.2
 
   -- the rest of the store, from its globals and element segments

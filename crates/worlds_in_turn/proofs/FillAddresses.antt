@@ -13,9 +13,9 @@ use Rattle.wasm_meaning.specs.Environment.{Environment, Thing, OwnKey}
 use Rattle.wasm_meaning.specs.World.{all_there, defined_count, own_count, base, thing_at, address_of, import_type, own_key_of, own_key, thing_of, imported_thing, numbers}
 use Rattle.wasm_meaning.specs.InTurn.{JoinsEarlier}
 use Rattle.world_simulation.proofs.Defined.{defined_at}
-use Rattle.worlds_in_turn.proofs.Things.{IsInst, space_in, in_space, space_is, held_external}
+use Rattle.worlds_in_turn.proofs.Things.{space_in, in_space, space_is, held_external}
 use Rattle.worlds_in_turn.proofs.Joined.{ExportsThere}
-use Rattle.worlds_in_turn.proofs.Reached.{defined_next, defined_more}
+use Rattle.worlds_in_turn.proofs.Reached.{defined_more}
 use Rattle.worlds_in_turn.proofs.Low.{append_back, all_back, same_thing}
 use Rattle.worlds_in_turn.proofs.FillOwned.{kind_of_key, own_at}
 use Rattle.worlds_in_turn.proofs.FillPaths.{LowInside, Low, inside, outside, ends_low}
@@ -27,6 +27,8 @@ use Rattle.merge_validity.specs.Ended.{is_external}
 use Rattle.base_lists.proofs.Filtered.{place_back}
 use Rattle.base_lists.specs.Places.{places}
 use Rattle.wasm_tree.specs.Operands.{same_space}
+use Rattle.world_simulation.proofs.Instancing.{IsInst}
+use Rattle.wasm_meaning.proofs.Counts.{defined_next}
 
 kind_external : (k : Space) (d : ImportDesc) → same_space k (space_of_import d) ≡ true → is_external k ≡ true
 kind_external Functions d h = refl

@@ -1,19 +1,19 @@
 -- The stores of parts in turn where no code has run, for the run in turn: how the store at once is laid out, what a part adds, and what its segments do.
-use Rattle.std.proofs.Common.{◌≡◌, ◌∙◌, refl, sym, ap, ap₂, subst, ℕ, zero, suc, ◌+◌, ◌-◌, ◌<◌, ◌≤◌, List, [], ◌∷◌, length, Option, Some, true, false, arith, option_and_then, slice_get}
+use Rattle.std.proofs.Common.{◌≡◌, ◌∙◌, refl, sym, ap, ap₂, subst, ℕ, zero, suc, ◌+◌, ◌-◌, ◌<◌, ◌≤◌, List, [], ◌∷◌, length, Option, Some, true, false, arith, option_and_then, slice_get, None}
 use Rattle.wasm_tree.specs.declared.module.ConstExpr.{ConstExpr}
 use Rattle.wasm_tree.specs.declared.module.Module.{Module}
-use Rattle.wasm_meaning.specs.Outcomes.{Outcome, Gives, Traps, IllTyped, at, overwrite}
+use Rattle.wasm_meaning.specs.Outcomes.{overwrite}
 use Rattle.wasm_meaning.specs.State.{RefVal, Inst, Table, Memory, Elem, Data, Store}
 use Rattle.wasm_meaning.specs.Step.{no_items, no_bytes}
 use Rattle.wasm_meaning.specs.Linking.{Part, Read, module_at, sites_in, sites_from, sites, read_of}
 use Rattle.wasm_meaning.specs.Environment.{Environment, all_of}
-use Rattle.wasm_meaning.specs.World.{given, is_matched, insts_from, own_store, stores_from, part_store, joined_stores, store_with, const_value, value_of, segments}
+use Rattle.wasm_meaning.specs.World.{is_matched, insts_from, own_store, stores_from, part_store, joined_stores, store_with, const_value, value_of, segments}
 use Rattle.wasm_meaning.specs.InTurn.{JoinsEarlier}
 use Rattle.worlds_in_turn.proofs.Extends.{TableExtends, MemoryExtends, EachExtends, each_then, each_put, each_stays, table_stays, memory_stays, global_stays, overwritten_length}
 use Rattle.worlds_in_turn.proofs.Joined.{ExportsThere}
 use Rattle.worlds_in_turn.proofs.Turn.{Sized, Holds, SitesThere}
-use Rattle.worlds_in_turn.proofs.Beside.{Laid, at_low}
-use Rattle.worlds_in_turn.proofs.FillStores.{or_no_store, added_at, added_is, rest_for, rest_from, rest_last, first_stores, first_parts, part_adds, Lengths, module_low}
+use Rattle.worlds_in_turn.proofs.Beside.{Laid}
+use Rattle.worlds_in_turn.proofs.FillStores.{or_no_store, added_at, added_is, rest_for, rest_from, rest_last, first_stores, first_parts, part_adds, Lengths}
 use Rattle.worlds_in_turn.proofs.FillValues.{Constant, HoldsFixed, value_same}
 use Rattle.worlds_in_turn.proofs.FillAdded.{Constants, added_same}
 use Rattle.worlds_in_turn.proofs.FillRuns.{Job, Skip, Fill, run, runs}
@@ -24,15 +24,11 @@ use Rattle.worlds_in_turn.proofs.FillNext
 use Rattle.worlds_in_turn.proofs.FillNext.{Next}
 use Rattle.std.proofs.lemmas.Option.{slice_get_within, same_Some}
 use Rattle.base_lists.proofs.Options.{and_then_is}
-use Rattle.base_lists.proofs.Places.{append_at_left, append_right}
-use Rattle.worlds_in_turn.proofs.Things.{place_at, at_place}
+use Rattle.base_lists.proofs.Places.{append_at_left, append_right, append_left}
+use Rattle.merge_validity.proofs.Linked.{site_in}
+use Rattle.wasm_meaning.proofs.Counts.{module_there}
 
 -- ---- the sites are the imports ----
-
-in_sites : (p count from n : ℕ) → n < count → slice_get (sites_in p count from) n ≡ Some (record { part = p; import = from + n })
-in_sites p zero from n l = absurd (omega (arith, l))
-in_sites p (suc count) from zero l = let z : from ≡ from + 0 = omega arith in ap (λ n. Some (record { part = p; import = n })) z
-in_sites p (suc count) from (suc n) l = let z : suc from + n ≡ from + suc n = omega arith in in_sites p count (suc from) n (omega (arith, l)) ∙ ap (λ n. Some (record { part = p; import = n })) z
 
 in_parts : (p : ℕ) (ps : List Part) (q : ℕ) (m : Module) (n : ℕ) → module_at ps q ≡ Some m → n < length m.imports → (j : ℕ) × (slice_get (sites_from p ps) j ≡ Some (record { part = p + q; import = n }))
 in_parts p [] q m n e l = absurd (let k = e in cc)
@@ -40,7 +36,7 @@ in_parts p (part ∷ ps) zero m n e l =
     let low : n < length part.«module».imports = subst (λ m. n < length m.imports) (sym (same_Some _ _ e)) l in
     let z : p ≡ p + 0 = omega arith in
     let y : 0 + n ≡ n = omega arith in
-    (n, append_at_left (sites_in p (length part.«module».imports) 0) (sites_from (suc p) ps) n _ (in_sites p (length part.«module».imports) 0 n low) ∙ ap₂ (λ p n. Some (record { part = p; import = n })) z y)
+    (n, append_at_left (sites_in p (length part.«module».imports) 0) (sites_from (suc p) ps) n _ (site_in p (length part.«module».imports) 0 n low) ∙ ap₂ (λ p n. Some (record { part = p; import = n })) z y)
 in_parts p (part ∷ ps) (suc q) m n e l =
     let r = in_parts (suc p) ps q m n e l in
     let z : suc p + q ≡ p + suc q = omega arith in
@@ -64,7 +60,7 @@ module _ (X Y : Type 0) (fill : X → Y → ℕ → Option X) (empty : Y) (P : X
       let x = and_then_is (slice_get c.0 a.0) _ d a.2 in
       let y = and_then_is (slice_get c.1 n) _ d x.2 in
       let z = and_then_is (fill x.0 y.0 o.0) _ d y.2 in
-      subst (λ d. EachExtends P c.0 d.0) (same_Some _ _ z.2) (each_put P c.0 a.0 x.0 z.0 same (place_at c.0 a.0 x.0 x.1) (fills x.0 y.0 o.0 z.0 z.1))
+      subst (λ d. EachExtends P c.0 d.0) (same_Some _ _ z.2) (each_put P c.0 a.0 x.0 z.0 same (x.1) (fills x.0 y.0 o.0 z.0 z.1))
 
   runs_extend : (js : List Job) (c d : List X × List Y) → runs X Y fill empty js c ≡ Some d → EachExtends P c.0 d.0
   runs_extend [] c d h = subst (λ d. EachExtends P c.0 d.0) (same_Some _ _ h) (each_stays P c.0 same)
@@ -75,14 +71,13 @@ module _ (X Y : Type 0) (fill : X → Y → ℕ → Option X) (empty : Y) (P : X
 table_filled : (t : Table) (e : Elem) (n : ℕ) (u : Table) → table_fill t e n ≡ Some u → TableExtends t u
 table_filled t e n u h = go (overwrite t.slots n e.items) refl h
   where
-    go : (o : Outcome (List RefVal)) → overwrite t.slots n e.items ≡ o → option_and_then (λ slots. Some (record t { slots = slots })) (given o) ≡ Some u → TableExtends t u
-    go (Gives slots) w h = let l = overwritten_length t.slots n e.items slots w in subst (TableExtends t) (same_Some _ _ h) (record { type = refl; most = refl; size = omega (arith, l) })
-    go Traps w h = absurd (let k = h in cc)
-    go IllTyped w h = absurd (let k = h in cc)
+    go : (o : Option (List RefVal)) → overwrite t.slots n e.items ≡ o → option_and_then (λ slots. Some (record t { slots = slots })) o ≡ Some u → TableExtends t u
+    go (Some slots) w h = let l = overwritten_length t.slots n e.items slots w in subst (TableExtends t) (same_Some _ _ h) (record { type = refl; most = refl; size = omega (arith, l) })
+    go None w h = absurd (let k = h in cc)
 
 memory_filled : (m : Memory) (d : Data) (n : ℕ) (u : Memory) → memory_fill m d n ≡ Some u → MemoryExtends m u
 memory_filled m d n u h =
-    let b = and_then_is (given (overwrite m.bytes n d.bytes)) _ u h in
+    let b = and_then_is (overwrite m.bytes n d.bytes) _ u h in
     subst (MemoryExtends m) (same_Some _ _ b.2) (record { most = refl; size = omega arith })
 
 -- ---- stores in turn ----
@@ -93,7 +88,7 @@ module _ (env : Environment) (parts : List Part) (insts : List Inst) (are : inst
 
   pub rest_at : (k : ℕ) (m : Module) → module_at parts k ≡ Some m → rest_from env parts insts k ≡ joined_stores (or_no_store (added_at env parts insts k)) (rest_from env parts insts (suc k))
   rest_at k m is_part =
-      let l = module_low parts k m is_part in
+      let l = module_there parts k m is_part in
       let n : length parts - k ≡ suc (length parts - suc k) = omega (arith, l) in
       ap (λ n. rest_for env parts insts n k) n
 
@@ -119,8 +114,8 @@ module _ (env : Environment) (parts : List Part) (insts : List Inst) (are : inst
 
   pub holds_as : (k : ℕ) (t : Store) → Holds env parts k allocated t → HoldsFixed env parts allocated k t
   holds_as k t h a g low e fixed =
-      let y = h.globals a g low (place_at allocated.globals a g e) in
-      (y.0, at_place t.globals a y.0 y.1, y.2.fixed fixed)
+      let y = h.globals a g low (e) in
+      (y.0, y.1, y.2.fixed fixed)
 
   -- what a part adds as its turn comes
   pub store_same : (k : ℕ) (m : Module) (i : Inst) (t : Store) → Constants m → module_at parts k ≡ Some m → slice_get insts k ≡ Some i → Holds env parts k allocated t → store_with (const_value t.globals i) m i ≡ Some (laid.adds k)
@@ -149,10 +144,10 @@ module _ (env : Environment) (parts : List Part) (insts : List Inst) (are : inst
       let tables = runs_extend Table Elem table_fill no_items TableExtends table_stays (λ x y z p q. let l : length x.slots ≤ length z.slots = let a = p.size in let b = q.size in omega (arith, a, b) in record { type = q.type ∙ p.type; most = q.most ∙ p.most; size = l }) table_filled (first_elems env parts insts k) _ _ h.tables in
       let mems = runs_extend Memory Data memory_fill no_bytes MemoryExtends memory_stays (λ x y z p q. let l : x.pages ≤ z.pages = let a = p.size in let b = q.size in omega (arith, a, b) in record { most = q.most ∙ p.most; size = l }) memory_filled (first_datas env parts insts k) _ _ h.mems in
       record {
-        funcs = λ a l. sym (at_low t.funcs r.funcs a (low n.funcs l)) ∙ ap (λ fs. at fs a) (sym h.funcs);
-        tables = λ a x l e. let y = tables a x e in (y.0, sym (at_low t.tables r.tables a (low n.tables l)) ∙ y.1, y.2);
-        mems = λ a x l e. let y = mems a x e in (y.0, sym (at_low t.mems r.mems a (low n.mems l)) ∙ y.1, y.2);
-        globals = λ a x l e. (x, sym (at_low t.globals r.globals a (low n.globals l)) ∙ ap (λ gs. at gs a) (sym h.globals) ∙ e, global_stays x);
+        funcs = λ a l. sym (append_left t.funcs r.funcs a (low n.funcs l)) ∙ ap (λ fs. slice_get fs a) (sym h.funcs);
+        tables = λ a x l e. let y = tables a x e in (y.0, sym (append_left t.tables r.tables a (low n.tables l)) ∙ y.1, y.2);
+        mems = λ a x l e. let y = mems a x e in (y.0, sym (append_left t.mems r.mems a (low n.mems l)) ∙ y.1, y.2);
+        globals = λ a x l e. (x, sym (append_left t.globals r.globals a (low n.globals l)) ∙ ap (λ gs. slice_get gs a) (sym h.globals) ∙ e, global_stays x);
       }
     where
       low : {n b a : ℕ} → n ≡ b → a < b → a < n

@@ -8,17 +8,17 @@ use Rattle.wasm_meaning.specs.Linking.{Part, module_at, sites}
 use Rattle.wasm_meaning.specs.Environment.{Environment, all_of}
 use Rattle.wasm_meaning.specs.World.{base, is_matched, insts_from, own_store, stores_from, part_store, joined_stores, const_value, value_of, elem_tasks, data_tasks, segments, defined_before}
 use Rattle.wasm_meaning.specs.InTurn.{JoinsEarlier, own_segments}
-use Rattle.worlds_in_turn.proofs.Things.{IsInst}
 use Rattle.worlds_in_turn.proofs.Joined.{ExportsThere}
-use Rattle.worlds_in_turn.proofs.Reached.{elems_next, datas_next}
 use Rattle.worlds_in_turn.proofs.FillAddresses.{numbers_low, space_low}
-use Rattle.worlds_in_turn.proofs.FillStores.{rest_from, rest_next, Lengths, lengths_next, module_low}
+use Rattle.worlds_in_turn.proofs.FillStores.{rest_from, rest_next, Lengths, lengths_next}
 use Rattle.worlds_in_turn.proofs.FillValues.{part_inst, HoldsFixed, value_given}
 use Rattle.worlds_in_turn.proofs.FillAdded.{Constants}
 use Rattle.worlds_in_turn.proofs.FillRuns.{Front, runs_front, runs_kept, next_runs}
 use Rattle.worlds_in_turn.proofs.FillTurns.{table_fill, elem_runs, elem_jobs, elems_low, elems_kept}
 use Rattle.worlds_in_turn.proofs.FillData.{memory_fill, data_runs, data_jobs, datas_low, datas_kept}
 use Rattle.worlds_in_turn.proofs.FillSegments.{both_went, own_go, elem_jobs_of, data_jobs_of, elem_jobs_at, data_jobs_at, FilledUpto, filled_holds, all_elems, all_datas}
+use Rattle.world_simulation.proofs.Instancing.{IsInst}
+use Rattle.wasm_meaning.proofs.Counts.{defined_next, module_there}
 
 module _ (env : Environment) (parts : List Part) (insts : List Inst) (are : insts_from env parts 0 parts ≡ Some insts) (allocated : Store) (stores_are : stores_from env parts insts (own_store env) 0 parts insts ≡ Some allocated) (matched : all_of (is_matched env parts allocated) (sites parts) ≡ true) (size : length insts ≡ length parts) (there : ExportsThere parts) (earlier : JoinsEarlier parts) where
   -- the store after the segments of part k, where nothing else has changed
@@ -51,7 +51,7 @@ module _ (env : Environment) (parts : List Part) (insts : List Inst) (are : inst
     elem_front : (e : List Table × List Elem) → elem_runs (elem_jobs_of env parts insts k) (t.tables ++ (rest_from env parts insts k).tables, t.elems ++ (rest_from env parts insts k).elems) ≡ Some e → ElemFront e
     elem_front e h =
         let low = elems_low (value_of env parts insts k) i (base env parts Tables (suc k)) (defined_before ElementSegments parts (suc k)) (λ x b at. space_low env parts there earlier k m i is_part inst Tables x b at) i.elems m.elems
-        (λ x b at. let l = numbers_low (defined_before ElementSegments parts k) (length m.elems) x b (ap (λ l. slice_get l x) (sym inst.elems) ∙ at) in let n = elems_next parts k m is_part in omega (arith, l, n)) in
+        (λ x b at. let l = numbers_low (defined_before ElementSegments parts k) (length m.elems) x b (ap (λ l. slice_get l x) (sym inst.elems) ∙ at) in let n = defined_next ElementSegments parts k m is_part in omega (arith, l, n)) in
         runs_front Table Elem table_fill no_items later.tables later.elems (elem_jobs (value_of env parts insts k) i i.elems m.elems) (base env parts Tables (suc k)) (defined_before ElementSegments parts (suc k)) low (t.tables ++ a.tables) (t.elems ++ a.elems) lengths.tables lengths.elems e
         (ap₂ (λ xs ys. elem_runs (elem_jobs (value_of env parts insts k) i i.elems m.elems) (xs, ys)) (append_assoc t.tables a.tables later.tables) (append_assoc t.elems a.elems later.elems)
         ∙ ap (λ r. elem_runs (elem_jobs (value_of env parts insts k) i i.elems m.elems) (t.tables ++ r.tables, t.elems ++ r.elems)) (sym rest)
@@ -60,7 +60,7 @@ module _ (env : Environment) (parts : List Part) (insts : List Inst) (are : inst
     data_front : (e : List Memory × List Data) → data_runs (data_jobs_of env parts insts k) (t.mems ++ (rest_from env parts insts k).mems, t.datas ++ (rest_from env parts insts k).datas) ≡ Some e → DataFront e
     data_front e h =
         let low = datas_low (value_of env parts insts k) i (base env parts Memories (suc k)) (defined_before DataSegments parts (suc k)) (λ x b at. space_low env parts there earlier k m i is_part inst Memories x b at) i.datas m.datas
-        (λ x b at. let l = numbers_low (defined_before DataSegments parts k) (length m.datas) x b (ap (λ l. slice_get l x) (sym inst.datas) ∙ at) in let n = datas_next parts k m is_part in omega (arith, l, n)) in
+        (λ x b at. let l = numbers_low (defined_before DataSegments parts k) (length m.datas) x b (ap (λ l. slice_get l x) (sym inst.datas) ∙ at) in let n = defined_next DataSegments parts k m is_part in omega (arith, l, n)) in
         runs_front Memory Data memory_fill no_bytes later.mems later.datas (data_jobs (value_of env parts insts k) i i.datas m.datas) (base env parts Memories (suc k)) (defined_before DataSegments parts (suc k)) low (t.mems ++ a.mems) (t.datas ++ a.datas) lengths.mems lengths.datas e
         (ap₂ (λ xs ys. data_runs (data_jobs (value_of env parts insts k) i i.datas m.datas) (xs, ys)) (append_assoc t.mems a.mems later.mems) (append_assoc t.datas a.datas later.datas)
         ∙ ap (λ r. data_runs (data_jobs (value_of env parts insts k) i i.datas m.datas) (t.mems ++ r.mems, t.datas ++ r.datas)) (sym rest)
@@ -81,7 +81,7 @@ module _ (env : Environment) (parts : List Part) (insts : List Inst) (are : inst
       pub filled_next : (segments env parts insts allocated).trapped ≡ false → Next k m i t a
       filled_next well =
           let all = both_went (value_of env parts insts) (elem_tasks 0 parts insts) (data_tasks 0 parts insts) allocated well in
-          let l = module_low parts k m is_part in
+          let l = module_there parts k m is_part in
           let es = next_runs Table Elem table_fill no_items (elem_jobs_of env parts insts) (length parts) k l (allocated.tables, allocated.elems) _ all.0 (ap (λ js. elem_runs js (allocated.tables, allocated.elems)) (sym (all_elems env parts insts allocated stores_are size)) ∙ all.2) filled.tables in
           let ds = next_runs Memory Data memory_fill no_bytes (data_jobs_of env parts insts) (length parts) k l (allocated.mems, allocated.datas) _ all.1 (ap (λ js. data_runs js (allocated.mems, allocated.datas)) (sym (all_datas env parts insts allocated stores_are size)) ∙ all.3) filled.mems in
           let e = elem_front es.0 es.1 in

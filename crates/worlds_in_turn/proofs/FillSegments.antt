@@ -1,6 +1,5 @@
 -- Active segments that are copied as each part's turn comes do what they do where all parts are instantiated at once.
-use Rattle.std.proofs.Common.{◌≡◌, ◌∙◌, refl, sym, ap, ap₂, ℕ, suc, ◌+◌, ◌≤◌, List, [], ◌∷◌, ◌++◌, map, length, Option, Some, None, false, arith, option_and_then, slice_get}
-use Rattle.std.proofs.lemmas.List.{map-append}
+use Rattle.std.proofs.Common.{◌≡◌, ◌∙◌, refl, sym, ap, ap₂, ℕ, ◌≤◌, List, ◌++◌, map, length, Option, Some, false, arith, slice_get}
 use Rattle.wasm_tree.specs.declared.module.ConstExpr.{ConstExpr}
 use Rattle.wasm_tree.specs.declared.module.ElemSeg.{ElemSeg}
 use Rattle.wasm_tree.specs.declared.module.DataSeg.{DataSeg}
@@ -8,14 +7,15 @@ use Rattle.wasm_tree.specs.declared.module.Module.{Module}
 use Rattle.wasm_meaning.specs.State.{Val, Inst, Table, Memory, Elem, Data, Store}
 use Rattle.wasm_meaning.specs.Step.{no_items, no_bytes}
 use Rattle.wasm_meaning.specs.Linking.{Part, module_at}
-use Rattle.wasm_meaning.specs.Environment.{Environment}
+use Rattle.wasm_meaning.specs.Environment.{Environment, any_of}
 use Rattle.wasm_meaning.specs.World.{Filled, Task, own_store, stores_from, joined_stores, value_of, tasks_in, elem_tasks, data_tasks, and_then, in_turn, segments}
-use Rattle.wasm_meaning.specs.InTurn.{HasNoActive, own_segments}
+use Rattle.wasm_meaning.specs.InTurn.{HasNoActive, is_active_elem, is_active_data, own_segments}
 use Rattle.worlds_in_turn.proofs.FillStores.{rest_from, Lengths, lengths_first, allocated_whole}
 use Rattle.worlds_in_turn.proofs.FillValues.{HoldsFixed}
 use Rattle.worlds_in_turn.proofs.FillRuns.{Job, first_jobs, rest_jobs, all_runs}
-use Rattle.worlds_in_turn.proofs.FillTurns.{Turned, goes_on, stops, turned_some, turned_not, table_fill, with_tables, elem_runs, elem_jobs, elem_task_job, elem_turn, elems_turned, elem_tasks_jobs, elems_skip}
-use Rattle.worlds_in_turn.proofs.FillData.{memory_fill, data_runs, data_jobs, data_task_job, data_turn, datas_turned, data_tasks_jobs, datas_skip}
+use Rattle.worlds_in_turn.proofs.FillTurns.{Turned, goes_on, stops, turned_some, turned_not, table_fill, with_tables, elem_runs, elem_segment, elem_jobs, elem_task_job, elem_turn, elems_turned, elem_skips}
+use Rattle.worlds_in_turn.proofs.FillData.{memory_fill, data_runs, data_segment, data_jobs, data_task_job, data_turn, datas_turned, data_skips}
+use Rattle.worlds_in_turn.proofs.FillJobs.{tasks_jobs, jobs_skip, jobs_of, jobs_at, jobs_none, all_by_part}
 use Rattle.base_lists.proofs.Places.{append_left}
 
 -- ---- elements, then data ----
@@ -41,24 +41,26 @@ pub own_go : (value : ConstExpr → Option Val) (m : Module) (i : Inst) (s : Sto
     own_segments value m i s ≡ record { store = record s { tables = c.0; elems = c.1; mems = d.0; datas = d.1 }; trapped = false }
 own_go value m i s c d g h =
     both_go (λ p. value) (tasks_in 0 i i.elems m.elems) (tasks_in 0 i i.datas m.datas) s c d
-    (ap (λ js. elem_runs js (s.tables, s.elems)) (elem_tasks_jobs (λ p. value) 0 i i.elems m.elems) ∙ g)
-    (ap (λ js. data_runs js (s.mems, s.datas)) (data_tasks_jobs (λ p. value) 0 i i.datas m.datas) ∙ h)
+    (ap (λ js. elem_runs js (s.tables, s.elems)) (tasks_jobs elem_segment (λ p. value) 0 i i.elems m.elems) ∙ g)
+    (ap (λ js. data_runs js (s.mems, s.datas)) (tasks_jobs data_segment (λ p. value) 0 i i.datas m.datas) ∙ h)
+
+abbrev no_elems : (value : ConstExpr → Option Val) (i : Inst) (ns : List ℕ) (ss : List ElemSeg) → any_of (λ e. is_active_elem e.mode) ss ≡ false → (c : List Table × List Elem) → elem_runs (elem_jobs value i ns ss) c ≡ Some c
+no_elems = jobs_skip elem_segment Table Elem table_fill no_items (λ e. is_active_elem e.mode) elem_skips
+
+abbrev no_datas : (value : ConstExpr → Option Val) (i : Inst) (ns : List ℕ) (ss : List DataSeg) → any_of (λ d. is_active_data d.mode) ss ≡ false → (c : List Memory × List Data) → data_runs (data_jobs value i ns ss) c ≡ Some c
+no_datas = jobs_skip data_segment Memory Data memory_fill no_bytes (λ d. is_active_data d.mode) data_skips
 
 -- a module with no active segment writes nothing
 pub none_active : (value : ConstExpr → Option Val) (m : Module) (i : Inst) (s : Store) → HasNoActive m → own_segments value m i s ≡ record { store = s; trapped = false }
-none_active value m i s h = own_go value m i s (s.tables, s.elems) (s.mems, s.datas) (elems_skip value i i.elems m.elems h.elems (s.tables, s.elems)) (datas_skip value i i.datas m.datas h.datas (s.mems, s.datas))
-
-abbrev pub or_no_jobs : Option (List Job) → List Job
-or_no_jobs None = []
-or_no_jobs (Some js) = js
+none_active value m i s h = own_go value m i s (s.tables, s.elems) (s.mems, s.datas) (no_elems value i i.elems m.elems h.elems (s.tables, s.elems)) (no_datas value i i.datas m.datas h.datas (s.mems, s.datas))
 
 module _ (env : Environment) (parts : List Part) (insts : List Inst) where
   -- the segments of part k
   abbrev pub elem_jobs_of : ℕ → List Job
-  elem_jobs_of k = or_no_jobs (option_and_then (λ m. option_and_then (λ i. Some (elem_jobs (value_of env parts insts k) i i.elems m.elems)) (slice_get insts k)) (module_at parts k))
+  elem_jobs_of = jobs_of elem_segment Table Elem table_fill no_items (λ i. i.elems) (λ m. m.elems) env parts insts
 
   abbrev pub data_jobs_of : ℕ → List Job
-  data_jobs_of k = or_no_jobs (option_and_then (λ m. option_and_then (λ i. Some (data_jobs (value_of env parts insts k) i i.datas m.datas)) (slice_get insts k)) (module_at parts k))
+  data_jobs_of = jobs_of data_segment Memory Data memory_fill no_bytes (λ i. i.datas) (λ m. m.datas) env parts insts
 
   abbrev pub first_elems : ℕ → List Job
   first_elems = first_jobs Table Elem table_fill no_items elem_jobs_of
@@ -74,35 +76,10 @@ module _ (env : Environment) (parts : List Part) (insts : List Inst) where
 
   module _ (k : ℕ) (m : Module) (i : Inst) (is_part : module_at parts k ≡ Some m) (is_inst : slice_get insts k ≡ Some i) where
     pub elem_jobs_at : elem_jobs_of k ≡ elem_jobs (value_of env parts insts k) i i.elems m.elems
-    elem_jobs_at = ap₂ (λ o p. or_no_jobs (option_and_then (λ m. option_and_then (λ i. Some (elem_jobs (value_of env parts insts k) i i.elems m.elems)) p) o)) is_part is_inst
+    elem_jobs_at = jobs_at elem_segment Table Elem table_fill no_items (λ i. i.elems) (λ m. m.elems) env parts insts k m i is_part is_inst
 
     pub data_jobs_at : data_jobs_of k ≡ data_jobs (value_of env parts insts k) i i.datas m.datas
-    data_jobs_at = ap₂ (λ o p. or_no_jobs (option_and_then (λ m. option_and_then (λ i. Some (data_jobs (value_of env parts insts k) i i.datas m.datas)) p) o)) is_part is_inst
-
-  -- the tasks of all parts, by part
-  elems_by_part : (p : ℕ) (ps : List Part) (is : List Inst) → ((q : ℕ) (m : Module) → module_at ps q ≡ Some m → module_at parts (p + q) ≡ Some m) → ((q : ℕ) → slice_get is q ≡ slice_get insts (p + q)) → length is ≡ length ps → map (elem_task_job (value_of env parts insts)) (elem_tasks p ps is) ≡ rest_elems (length ps) p
-  elems_by_part p [] [] f g e = refl
-  elems_by_part p [] (i ∷ is) f g e = absurd (omega (arith, e))
-  elems_by_part p (part ∷ ps) [] f g e = absurd (omega (arith, e))
-  elems_by_part p (part ∷ ps) (i ∷ is) f g e =
-      let z : p + 0 ≡ p = omega arith in
-      let is_part : module_at parts p ≡ Some part.«module» = ap (module_at parts) (sym z) ∙ f 0 part.«module» refl in
-      let is_inst : slice_get insts p ≡ Some i = ap (slice_get insts) (sym z) ∙ sym (g 0) in
-      map-append (elem_task_job (value_of env parts insts)) (tasks_in p i i.elems part.«module».elems) (elem_tasks (suc p) ps is)
-      ∙ ap₂ (λ xs ys. xs ++ ys) (elem_tasks_jobs (value_of env parts insts) p i i.elems part.«module».elems ∙ sym (elem_jobs_at p part.«module» i is_part is_inst))
-      (elems_by_part (suc p) ps is (λ q m h. ap (module_at parts) (let n : suc p + q ≡ p + suc q = omega arith in n) ∙ f (suc q) m h) (λ q. g (suc q) ∙ ap (slice_get insts) (let n : p + suc q ≡ suc p + q = omega arith in n)) (omega (arith, e)))
-
-  datas_by_part : (p : ℕ) (ps : List Part) (is : List Inst) → ((q : ℕ) (m : Module) → module_at ps q ≡ Some m → module_at parts (p + q) ≡ Some m) → ((q : ℕ) → slice_get is q ≡ slice_get insts (p + q)) → length is ≡ length ps → map (data_task_job (value_of env parts insts)) (data_tasks p ps is) ≡ rest_datas (length ps) p
-  datas_by_part p [] [] f g e = refl
-  datas_by_part p [] (i ∷ is) f g e = absurd (omega (arith, e))
-  datas_by_part p (part ∷ ps) [] f g e = absurd (omega (arith, e))
-  datas_by_part p (part ∷ ps) (i ∷ is) f g e =
-      let z : p + 0 ≡ p = omega arith in
-      let is_part : module_at parts p ≡ Some part.«module» = ap (module_at parts) (sym z) ∙ f 0 part.«module» refl in
-      let is_inst : slice_get insts p ≡ Some i = ap (slice_get insts) (sym z) ∙ sym (g 0) in
-      map-append (data_task_job (value_of env parts insts)) (tasks_in p i i.datas part.«module».datas) (data_tasks (suc p) ps is)
-      ∙ ap₂ (λ xs ys. xs ++ ys) (data_tasks_jobs (value_of env parts insts) p i i.datas part.«module».datas ∙ sym (data_jobs_at p part.«module» i is_part is_inst))
-      (datas_by_part (suc p) ps is (λ q m h. ap (module_at parts) (let n : suc p + q ≡ p + suc q = omega arith in n) ∙ f (suc q) m h) (λ q. g (suc q) ∙ ap (slice_get insts) (let n : p + suc q ≡ suc p + q = omega arith in n)) (omega (arith, e)))
+    data_jobs_at = jobs_at data_segment Memory Data memory_fill no_bytes (λ i. i.datas) (λ m. m.datas) env parts insts k m i is_part is_inst
 
   -- ---- the first k parts' segments ----
 
@@ -133,31 +110,15 @@ module _ (env : Environment) (parts : List Part) (insts : List Inst) where
         }
 
     pub all_elems : map (elem_task_job (value_of env parts insts)) (elem_tasks 0 parts insts) ≡ rest_elems (length parts) 0
-    all_elems = elems_by_part 0 parts insts (λ q m h. ap (module_at parts) (let n : 0 + q ≡ q = omega arith in n) ∙ h) (λ q. ap (slice_get insts) (let n : q ≡ 0 + q = omega arith in n)) size
+    all_elems = all_by_part elem_segment Table Elem table_fill no_items (λ i. i.elems) (λ m. m.elems) env parts insts elem_tasks (λ p. refl) (λ p part ps i is. refl) size
 
     pub all_datas : map (data_task_job (value_of env parts insts)) (data_tasks 0 parts insts) ≡ rest_datas (length parts) 0
-    all_datas = datas_by_part 0 parts insts (λ q m h. ap (module_at parts) (let n : 0 + q ≡ q = omega arith in n) ∙ h) (λ q. ap (slice_get insts) (let n : q ≡ 0 + q = omega arith in n)) size
+    all_datas = all_by_part data_segment Memory Data memory_fill no_bytes (λ i. i.datas) (λ m. m.datas) env parts insts data_tasks (λ p. refl) (λ p part ps i is. refl) size
 
     -- where no part from k on has an active segment, nothing more is copied
     pub filled_all : (k : ℕ) (t : Store) → k ≤ length parts → FilledUpto allocated k t → ((q : ℕ) (m : Module) → k ≤ q → module_at parts q ≡ Some m → HasNoActive m) → segments env parts insts allocated ≡ record { store = joined_stores t (rest_from env parts insts k); trapped = false }
     filled_all k t l filled none =
-        let es = all_runs Table Elem table_fill no_items elem_jobs_of (length parts) k l _ _ filled.tables (λ q h c. elem_none q (module_at parts q) refl (λ m. none q m h) c) in
-        let ds = all_runs Memory Data memory_fill no_bytes data_jobs_of (length parts) k l _ _ filled.mems (λ q h c. data_none q (module_at parts q) refl (λ m. none q m h) c) in
+        let es = all_runs Table Elem table_fill no_items elem_jobs_of (length parts) k l _ _ filled.tables (λ q h c. jobs_none elem_segment Table Elem table_fill no_items (λ i. i.elems) (λ m. m.elems) env parts insts (λ e. is_active_elem e.mode) elem_skips q (λ m e. (none q m h e).elems) c) in
+        let ds = all_runs Memory Data memory_fill no_bytes data_jobs_of (length parts) k l _ _ filled.mems (λ q h c. jobs_none data_segment Memory Data memory_fill no_bytes (λ i. i.datas) (λ m. m.datas) env parts insts (λ d. is_active_data d.mode) data_skips q (λ m e. (none q m h e).datas) c) in
         both_go (value_of env parts insts) (elem_tasks 0 parts insts) (data_tasks 0 parts insts) allocated _ _ (ap (λ js. elem_runs js (allocated.tables, allocated.elems)) all_elems ∙ es) (ap (λ js. data_runs js (allocated.mems, allocated.datas)) all_datas ∙ ds)
         ∙ ap₂ (λ funcs globals. record { store = record (joined_stores t (rest_from env parts insts k)) { funcs = funcs; globals = globals }; trapped = false }) filled.funcs filled.globals
-      where
-        elem_inst : (q : ℕ) (m : Module) → HasNoActive m → (o : Option Inst) (c : List Table × List Elem) → elem_runs (or_no_jobs (option_and_then (λ i. Some (elem_jobs (value_of env parts insts q) i i.elems m.elems)) o)) c ≡ Some c
-        elem_inst q m h None c = refl
-        elem_inst q m h (Some i) c = elems_skip (value_of env parts insts q) i i.elems m.elems h.elems c
-
-        elem_none : (q : ℕ) (o : Option Module) → module_at parts q ≡ o → ((m : Module) → module_at parts q ≡ Some m → HasNoActive m) → (c : List Table × List Elem) → elem_runs (elem_jobs_of q) c ≡ Some c
-        elem_none q None e h c = ap (λ o. elem_runs (or_no_jobs (option_and_then (λ m. option_and_then (λ i. Some (elem_jobs (value_of env parts insts q) i i.elems m.elems)) (slice_get insts q)) o)) c) e
-        elem_none q (Some m) e h c = ap (λ o. elem_runs (or_no_jobs (option_and_then (λ m. option_and_then (λ i. Some (elem_jobs (value_of env parts insts q) i i.elems m.elems)) (slice_get insts q)) o)) c) e ∙ elem_inst q m (h m e) (slice_get insts q) c
-
-        data_inst : (q : ℕ) (m : Module) → HasNoActive m → (o : Option Inst) (c : List Memory × List Data) → data_runs (or_no_jobs (option_and_then (λ i. Some (data_jobs (value_of env parts insts q) i i.datas m.datas)) o)) c ≡ Some c
-        data_inst q m h None c = refl
-        data_inst q m h (Some i) c = datas_skip (value_of env parts insts q) i i.datas m.datas h.datas c
-
-        data_none : (q : ℕ) (o : Option Module) → module_at parts q ≡ o → ((m : Module) → module_at parts q ≡ Some m → HasNoActive m) → (c : List Memory × List Data) → data_runs (data_jobs_of q) c ≡ Some c
-        data_none q None e h c = ap (λ o. data_runs (or_no_jobs (option_and_then (λ m. option_and_then (λ i. Some (data_jobs (value_of env parts insts q) i i.datas m.datas)) (slice_get insts q)) o)) c) e
-        data_none q (Some m) e h c = ap (λ o. data_runs (or_no_jobs (option_and_then (λ m. option_and_then (λ i. Some (data_jobs (value_of env parts insts q) i i.datas m.datas)) (slice_get insts q)) o)) c) e ∙ data_inst q m (h m e) (slice_get insts q) c

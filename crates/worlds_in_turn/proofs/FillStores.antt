@@ -8,11 +8,11 @@ use Rattle.wasm_meaning.specs.State.{Val, Inst, Store}
 use Rattle.wasm_meaning.specs.Linking.{Part, module_at}
 use Rattle.wasm_meaning.specs.Environment.{Environment}
 use Rattle.wasm_meaning.specs.World.{base, defined_before, all_there, new_func, global_with, elem_with, store_with, part_store, joined_stores, own_store, stores_from}
-use Rattle.worlds_in_turn.proofs.Reached.{elems_next, datas_next}
 use Rattle.worlds_in_turn.proofs.FillAddresses.{base_next}
 use Rattle.std.proofs.lemmas.List.{length-append, length-map}
 use Rattle.base_lists.proofs.Options.{and_then_is, all_there_length}
 use Rattle.std.proofs.lemmas.Option.{same_Some}
+use Rattle.wasm_meaning.proofs.Counts.{defined_next, module_there}
 
 abbrev pub no_store : Store
 no_store = record { funcs = []; tables = []; mems = []; globals = []; elems = []; datas = [] }
@@ -26,11 +26,6 @@ joined_none s = rw (append-nil s.funcs, append-nil s.tables, append-nil s.mems, 
 
 pub joined_twice : (s t u : Store) → joined_stores (joined_stores s t) u ≡ joined_stores s (joined_stores t u)
 joined_twice s t u = rw (append_assoc s.funcs t.funcs u.funcs, append_assoc s.tables t.tables u.tables, append_assoc s.mems t.mems u.mems, append_assoc s.globals t.globals u.globals, append_assoc s.elems t.elems u.elems, append_assoc s.datas t.datas u.datas) refl
-
-pub module_low : (parts : List Part) (p : ℕ) (m : Module) → module_at parts p ≡ Some m → p < length parts
-module_low [] p m e = absurd (let f = e in cc)
-module_low (part ∷ parts) zero m e = omega arith
-module_low (part ∷ parts) (suc p) m e = let l = module_low parts p m e in omega (arith, l)
 
 -- what a module adds, by numbers
 pub record Adds (m : Module) (t : Store) : Type 0 where
@@ -89,7 +84,7 @@ module _ (env : Environment) (parts : List Part) (insts : List Inst) where
 
     pub rest_next : rest_from k ≡ joined_stores a (rest_from (suc k))
     rest_next =
-        let l = module_low parts k m is_part in
+        let l = module_there parts k m is_part in
         let n : length parts - k ≡ suc (length parts - suc k) = omega (arith, l) in
         ap (λ n. rest_for n k) n ∙ ap (λ o. joined_stores (or_no_store o) (rest_from (suc k))) added_is
 
@@ -104,8 +99,8 @@ module _ (env : Environment) (parts : List Part) (insts : List Inst) where
           tables = counted t.tables a.tables _ _ _ h.tables n.tables (base_next env parts Tables k m is_part);
           mems = counted t.mems a.mems _ _ _ h.mems n.mems (base_next env parts Memories k m is_part);
           globals = counted t.globals a.globals _ _ _ h.globals n.globals (base_next env parts Globals k m is_part);
-          elems = counted t.elems a.elems _ _ _ h.elems n.elems (elems_next parts k m is_part);
-          datas = counted t.datas a.datas _ _ _ h.datas n.datas (datas_next parts k m is_part);
+          elems = counted t.elems a.elems _ _ _ h.elems n.elems (defined_next ElementSegments parts k m is_part);
+          datas = counted t.datas a.datas _ _ _ h.datas n.datas (defined_next DataSegments parts k m is_part);
         }
       where
         counted : {A : Type 0} (xs ys : List A) (b c d : ℕ) → length xs ≡ b → length ys ≡ c → d ≡ b + c → length (xs ++ ys) ≡ d

@@ -1,20 +1,20 @@
 -- Active segments of elements are a matter of tables and of segments of elements alone.
-use Rattle.std.proofs.Common.{◌≡◌, ◌∙◌, refl, ap, ℕ, suc, ◌<◌, List, [], ◌∷◌, map, Option, Some, None, true, false, cond, option_and_then, slice_get, slice_set}
+use Rattle.std.proofs.Common.{◌≡◌, ◌∙◌, refl, ap, ℕ, ◌<◌, List, [], ◌∷◌, map, Option, Some, None, true, false, option_and_then, slice_get, slice_set}
 use Rattle.wasm_tree.specs.declared.module.ConstExpr.{ConstExpr}
 use Rattle.wasm_tree.specs.declared.module.ElemSeg.{ElemSeg}
 use Rattle.wasm_tree.specs.declared.module.ElemMode.{ElemMode}
 use Rattle.wasm_tree.specs.declared.module.ElemMode.TheVariants as elem
 use Rattle.wasm_num.specs.Operations.{W32}
-use Rattle.wasm_meaning.specs.Outcomes.{Outcome, Gives, Traps, IllTyped, overwrite}
+use Rattle.wasm_meaning.specs.Outcomes.{overwrite}
 use Rattle.wasm_meaning.specs.State.{RefVal, Val, Inst, Table, Elem, Store}
 use Rattle.wasm_meaning.specs.Values.{num_of}
 use Rattle.wasm_meaning.specs.Step.{no_items}
-use Rattle.wasm_meaning.specs.Environment.{any_of}
-use Rattle.wasm_meaning.specs.World.{Filled, Task, given, tasks_in, or_trapped, fill_table, run_elem_with, and_then, in_turn}
+use Rattle.wasm_meaning.specs.World.{Filled, Task, or_trapped, fill_table, run_elem_with, and_then, in_turn}
 use Rattle.wasm_meaning.specs.InTurn.{is_active_elem}
-use Rattle.worlds_in_turn.proofs.FillRuns.{Job, Skip, Fill, run, runs, LowJob, low_skip, low_fill, LowJobs, low_none, low_more, Kept, kept_skip, kept_fill, KeptAll, kept_none, kept_more}
+use Rattle.worlds_in_turn.proofs.FillRuns.{Job, Skip, Fill, run, runs, LowJob, low_skip, low_fill, LowJobs, Kept, kept_skip, kept_fill, KeptAll}
 use Rattle.base_lists.proofs.Options.{and_then_is}
 use Rattle.std.proofs.lemmas.Option.{same_Some}
+use Rattle.worlds_in_turn.proofs.FillJobs.{jobs, task_job, jobs_low, jobs_kept}
 
 -- with the lists that come out set into the store; or a segment was out of bounds
 pub data Turned {X Y : Type 0} (set : List X × List Y → Store) : Option (List X × List Y) → Filled → Type 0 where
@@ -36,7 +36,7 @@ or_turned set s (Some a) g f h = h a
 -- ---- elements ----
 
 abbrev pub table_fill : Table → Elem → ℕ → Option Table
-table_fill t e n = option_and_then (λ slots. Some (record t { slots = slots })) (given (overwrite t.slots n e.items))
+table_fill t e n = option_and_then (λ slots. Some (record t { slots = slots })) (overwrite t.slots n e.items)
 
 abbrev pub with_tables : Store → List Table × List Elem → Store
 with_tables s c = record s { tables = c.0; elems = c.1 }
@@ -45,16 +45,18 @@ abbrev pub elem_runs : List Job → List Table × List Elem → Option (List Tab
 elem_runs = runs Table Elem table_fill no_items
 
 abbrev pub elem_job : (ConstExpr → Option Val) → Inst → ℕ → ElemMode → Job
-elem_job value i n (elem.Active x offset) = Fill n (slice_get i.tables x) (option_and_then (λ v. given (num_of W32 v)) (value offset))
+elem_job value i n (elem.Active x offset) = Fill n (slice_get i.tables x) (option_and_then (num_of W32) (value offset))
 elem_job value i n elem.Passive = Skip
 elem_job value i n elem.Declarative = Skip
 
+abbrev pub elem_segment : (ConstExpr → Option Val) → Inst → ℕ → ElemSeg → Job
+elem_segment value i n s = elem_job value i n s.mode
+
 abbrev pub elem_jobs : (ConstExpr → Option Val) → Inst → List ℕ → List ElemSeg → List Job
-elem_jobs value i (n ∷ ns) (e ∷ es) = elem_job value i n e.mode ∷ elem_jobs value i ns es
-elem_jobs value i _ _ = []
+elem_jobs = jobs elem_segment
 
 abbrev pub elem_task_job : (ℕ → ConstExpr → Option Val) → Task ElemSeg → Job
-elem_task_job value task = elem_job (value task.part) task.inst task.address task.segment.mode
+elem_task_job = task_job elem_segment
 
 abbrev pub elem_turn : (ℕ → ConstExpr → Option Val) → Store → Task ElemSeg → Filled
 elem_turn value s task = run_elem_with (value task.part) s task task.segment.mode
@@ -63,12 +65,11 @@ elem_turned_one : (value : ConstExpr → Option Val) (s : Store) (task : Task El
 elem_turned_one value s task elem.Passive = goes_on
 elem_turned_one value s task elem.Declarative = goes_on
 elem_turned_one value s task (elem.Active x offset) =
-    or_turned (with_tables s) s (option_and_then (λ v. given (num_of W32 v)) (value offset)) _ _ (λ n. or_turned (with_tables s) s (slice_get task.inst.tables x) _ _ (λ a. or_turned (with_tables s) s (slice_get s.tables a) _ _ (λ t. or_turned (with_tables s) s (slice_get s.elems task.address) _ _ (λ e. last a t (overwrite t.slots n e.items)))))
+    or_turned (with_tables s) s (option_and_then (num_of W32) (value offset)) _ _ (λ n. or_turned (with_tables s) s (slice_get task.inst.tables x) _ _ (λ a. or_turned (with_tables s) s (slice_get s.tables a) _ _ (λ t. or_turned (with_tables s) s (slice_get s.elems task.address) _ _ (λ e. last a t (overwrite t.slots n e.items)))))
   where
-    last : (a : ℕ) (t : Table) (o : Outcome (List RefVal)) → Turned (with_tables s) (option_and_then (λ z. Some (slice_set s.tables a z, slice_set s.elems task.address no_items)) (option_and_then (λ slots. Some (record t { slots = slots })) (given o))) (fill_table s task.address a t o)
-    last a t (Gives slots) = goes_on
-    last a t Traps = stops
-    last a t IllTyped = stops
+    last : (a : ℕ) (t : Table) (o : Option (List RefVal)) → Turned (with_tables s) (option_and_then (λ z. Some (slice_set s.tables a z, slice_set s.elems task.address no_items)) (option_and_then (λ slots. Some (record t { slots = slots })) o)) (fill_table s task.address a t o)
+    last a t (Some slots) = goes_on
+    last a t None = stops
 
 pub elems_turned : (value : ℕ → ConstExpr → Option Val) (tasks : List (Task ElemSeg)) (s : Store) → Turned (with_tables s) (elem_runs (map (elem_task_job value) tasks) (s.tables, s.elems)) (in_turn (elem_turn value) s tasks)
 elems_turned value [] s = goes_on
@@ -79,37 +80,26 @@ elems_turned value (task ∷ tasks) s = go (elem_turned_one (value task.part) s 
     go (goes_on {c = c}) h = h (with_tables s c)
     go stops h = stops
 
-pub elem_tasks_jobs : (value : ℕ → ConstExpr → Option Val) (p : ℕ) (i : Inst) (ns : List ℕ) (es : List ElemSeg) → map (elem_task_job value) (tasks_in p i ns es) ≡ elem_jobs (value p) i ns es
-elem_tasks_jobs value p i [] es = refl
-elem_tasks_jobs value p i (n ∷ ns) [] = refl
-elem_tasks_jobs value p i (n ∷ ns) (e ∷ es) = ap (λ js. elem_job (value p) i n e.mode ∷ js) (elem_tasks_jobs value p i ns es)
-
-pub elems_skip : (value : ConstExpr → Option Val) (i : Inst) (ns : List ℕ) (es : List ElemSeg) → any_of (λ e. is_active_elem e.mode) es ≡ false → (c : List Table × List Elem) → elem_runs (elem_jobs value i ns es) c ≡ Some c
-elems_skip value i [] es h c = refl
-elems_skip value i (n ∷ ns) [] h c = refl
-elems_skip value i (n ∷ ns) (e ∷ es) h c = go e.mode h (elems_skip value i ns es)
+pub elem_skips : (value : ConstExpr → Option Val) (i : Inst) (n : ℕ) (s : ElemSeg) → is_active_elem s.mode ≡ false → elem_segment value i n s ≡ Skip
+elem_skips value i n s h = one n s.mode h
   where
-    go : (mode : ElemMode) → cond (is_active_elem mode) true (any_of (λ e. is_active_elem e.mode) es) ≡ false → (any_of (λ e. is_active_elem e.mode) es ≡ false → (c : List Table × List Elem) → elem_runs (elem_jobs value i ns es) c ≡ Some c) → elem_runs (elem_job value i n mode ∷ elem_jobs value i ns es) c ≡ Some c
-    go (elem.Active x offset) h more = absurd (let k = h in cc)
-    go elem.Passive h more = more h c
-    go elem.Declarative h more = more h c
+    one : (n : ℕ) (mode : ElemMode) → is_active_elem mode ≡ false → elem_job value i n mode ≡ Skip
+    one n (elem.Active x offset) h = absurd (let k = h in cc)
+    one n elem.Passive h = refl
+    one n elem.Declarative h = refl
 
-pub elems_low : (value : ConstExpr → Option Val) (i : Inst) (targets segments : ℕ) → ((x a : ℕ) → slice_get i.tables x ≡ Some a → a < targets) → (ns : List ℕ) (es : List ElemSeg) → ((x a : ℕ) → slice_get ns x ≡ Some a → a < segments) → LowJobs targets segments (elem_jobs value i ns es)
-elems_low value i targets segments f [] es g = low_none
-elems_low value i targets segments f (n ∷ ns) [] g = low_none
-elems_low value i targets segments f (n ∷ ns) (e ∷ es) g = low_more (one e.mode) (elems_low value i targets segments f ns es (λ x a h. g (suc x) a h))
+pub elems_low : (value : ConstExpr → Option Val) (i : Inst) (targets segments : ℕ) → ((x a : ℕ) → slice_get i.tables x ≡ Some a → a < targets) → (ns : List ℕ) (ss : List ElemSeg) → ((x a : ℕ) → slice_get ns x ≡ Some a → a < segments) → LowJobs targets segments (elem_jobs value i ns ss)
+elems_low value i targets segments f = jobs_low elem_segment value i targets segments (λ n s. one n s.mode)
   where
-    one : (mode : ElemMode) → LowJob targets segments (elem_job value i n mode)
-    one (elem.Active x offset) = low_fill (g 0 n refl) (f x)
-    one elem.Passive = low_skip
-    one elem.Declarative = low_skip
+    one : (n : ℕ) (mode : ElemMode) → n < segments → LowJob targets segments (elem_job value i n mode)
+    one n (elem.Active x offset) l = low_fill l (f x)
+    one n elem.Passive l = low_skip
+    one n elem.Declarative l = low_skip
 
-pub elems_kept : (v w : ConstExpr → Option Val) (i : Inst) (ns : List ℕ) (es : List ElemSeg) → ((n : ℕ) (s : ElemSeg) (x : _) (e : ConstExpr) → slice_get es n ≡ Some s → s.mode ≡ elem.Active x e → (u : Val) → v e ≡ Some u → w e ≡ Some u) → KeptAll (elem_jobs v i ns es) (elem_jobs w i ns es)
-elems_kept v w i [] es h = kept_none
-elems_kept v w i (n ∷ ns) [] h = kept_none
-elems_kept v w i (n ∷ ns) (e ∷ es) h = kept_more (one e.mode refl) (elems_kept v w i ns es (λ n s x e at m u k. h (suc n) s x e at m u k))
+pub elems_kept : (v w : ConstExpr → Option Val) (i : Inst) (ns : List ℕ) (ss : List ElemSeg) → ((n : ℕ) (s : ElemSeg) (x : _) (e : ConstExpr) → slice_get ss n ≡ Some s → s.mode ≡ elem.Active x e → (u : Val) → v e ≡ Some u → w e ≡ Some u) → KeptAll (elem_jobs v i ns ss) (elem_jobs w i ns ss)
+elems_kept v w i ns ss h = jobs_kept elem_segment v w i ns ss (λ l a s at. one a s.mode (λ x e m u k. h l s x e at m u k))
   where
-    one : (mode : ElemMode) → e.mode ≡ mode → Kept (elem_job v i n mode) (elem_job w i n mode)
-    one (elem.Active x offset) m = kept_fill (λ a k. let u = and_then_is (v offset) _ a k in ap (λ o. option_and_then (λ v. given (num_of W32 v)) o) (h 0 e x offset refl m u.0 u.1) ∙ u.2)
-    one elem.Passive m = kept_skip
-    one elem.Declarative m = kept_skip
+    one : (a : ℕ) (mode : ElemMode) → ((x : _) (e : ConstExpr) → mode ≡ elem.Active x e → (u : Val) → v e ≡ Some u → w e ≡ Some u) → Kept (elem_job v i a mode) (elem_job w i a mode)
+    one a (elem.Active x offset) m = kept_fill (λ a k. let u = and_then_is (v offset) _ a k in ap (option_and_then (num_of W32)) (m x offset refl u.0 u.1) ∙ u.2)
+    one a elem.Passive m = kept_skip
+    one a elem.Declarative m = kept_skip

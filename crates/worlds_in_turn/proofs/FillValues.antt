@@ -1,7 +1,7 @@
 -- A constant expression of a part has one value, whether it is read from the store as the part's turn comes or along its path through joined globals.
 use Rattle.std.proofs.Common.{◌≡◌, ◌∙◌, refl, sym, ap, ap₂, subst, ℕ, zero, suc, ◌+◌, ◌-◌, ◌<◌, List, [], ◌∷◌, ◌++◌, length, Option, Some, None, Bool, true, false, cond, ◌⊎◌, inl, inr, arith, option_and_then, slice_get, unwrap_or, ◌&&◌}
 use Rattle.wasm_tree.specs.declared.space.Space.{Space}
-use Rattle.wasm_tree.specs.declared.space.Space.TheVariants.{Functions, Tables, Memories, Globals, Types, ElementSegments, DataSegments}
+use Rattle.wasm_tree.specs.declared.space.Space.TheVariants.{Globals}
 use Rattle.wasm_tree.specs.Operands.{same_space}
 use Rattle.wasm_tree.specs.declared.types.GlobalType.{GlobalType}
 use Rattle.wasm_tree.specs.declared.module.Import.{Import}
@@ -17,31 +17,25 @@ use Rattle.wasm_tree.specs.Spaces.{index_of_export, space_of_import}
 use Rattle.wasm_meaning.specs.Environment.{Environment, GlobalAt, own_globals, all_of}
 use Rattle.wasm_meaning.specs.World.{all_there, base, same_bool, is_match, is_matched, imported_thing, insts_from, inst_of, own_store, stores_from, global_with, new_func, elem_with, const_value, value_of_read, value_of, address_of, joined_stores}
 use Rattle.wasm_meaning.specs.InTurn.{JoinsEarlier}
-use Rattle.worlds_in_turn.proofs.Things.{IsInst, inst_is, inst_at, walk_more, thing_has}
+use Rattle.worlds_in_turn.proofs.Things.{inst_at, walk_more, thing_has}
 use Rattle.worlds_in_turn.proofs.Joined.{ExportsThere}
 use Rattle.worlds_in_turn.proofs.FillAddresses.{AtDefined, AtOwn, HasAddress, import_address, imported_at, imported_low}
 use Rattle.worlds_in_turn.proofs.Low.{all_back}
-use Rattle.worlds_in_turn.proofs.FillStores.{adds, rest_from, rest_next, first_stores, part_adds, inst_there, allocated_whole, first_parts, module_low}
+use Rattle.worlds_in_turn.proofs.FillStores.{adds, rest_from, rest_next, first_stores, part_adds, inst_there, allocated_whole, first_parts}
 use Rattle.std.proofs.lemmas.Option.{slice_get_within, same_Some}
 use Rattle.base_lists.proofs.Places.{append_left, append_right}
 use Rattle.base_lists.proofs.Options.{and_then_is}
+use Rattle.merge_validity.proofs.Same.{kind_same}
+use Rattle.world_simulation.proofs.Instancing.{IsInst, inst_is}
+use Rattle.wasm_meaning.proofs.Counts.{module_there}
 
 -- ---- lists ----
 
 -- the place of an import among those of its kind
-same_kind_self : (k : Space) → same_space k k ≡ true
-same_kind_self Functions = refl
-same_kind_self Tables = refl
-same_kind_self Memories = refl
-same_kind_self Globals = refl
-same_kind_self Types = refl
-same_kind_self ElementSegments = refl
-same_kind_self DataSegments = refl
-
 index_place : (k : Space) (is : List Import) (n off : ℕ) (i : Import) → slice_get is n ≡ Some i → space_of_import i.desc ≡ k → slice_get (places (has_kind k) is off) (space_index is n k) ≡ Some (off + n)
 index_place k [] n off i e h = absurd (let f = e in cc)
 index_place k (j ∷ js) zero off i e h =
-    let same : same_space k (space_of_import j.desc) ≡ true = ap (λ i. same_space k (space_of_import i.desc)) (same_Some _ _ e) ∙ ap (same_space k) h ∙ same_kind_self k in
+    let same : same_space k (space_of_import j.desc) ≡ true = ap (λ i. same_space k (space_of_import i.desc)) (same_Some _ _ e) ∙ ap (same_space k) h ∙ kind_same k in
     let z : off ≡ off + 0 = omega arith in
     ap (λ b. slice_get (cond b (off ∷ places (has_kind k) js (suc off)) (places (has_kind k) js (suc off))) 0) same ∙ ap Some z
 index_place k (j ∷ js) (suc n) off i e h = go (has_kind k j) (index_place k js n (suc off) i e h)
@@ -133,7 +127,7 @@ module _ (env : Environment) (parts : List Part) (insts : List Inst) (are : inst
     -- the value of a global that a part defines is its value expression's
     defined_value : (p : ℕ) (m : Module) (j : ℕ) (g : Global) → module_at parts p ≡ Some m → j < length m.globals → slice_get allocated.globals (base env parts Globals p + j) ≡ Some g → (e : ConstExpr) × (option_and_then (λ d. Some d.init) (slice_get m.globals j) ≡ Some e) × (value_of env parts insts p e ≡ Some g.value)
     defined_value p m j g is_part low at =
-        let l = module_low parts p m is_part in
+        let l = module_there parts p m is_part in
         let t = inst_there env parts insts allocated stores_are size p l in
         let same : t.0 ≡ m = same_Some _ _ (sym t.2 ∙ is_part) in
         let a = part_adds env parts insts allocated stores_are size p m t.1 is_part t.3 in
@@ -208,7 +202,7 @@ module _ (env : Environment) (parts : List Part) (insts : List Inst) (are : inst
               let last : outside_read parts w.last ≡ Some (record { part = w.last.part; expr = const.Global y }) = ap (λ o. option_and_then (λ m. Some (record { part = w.last.part; expr = const.Global (space_index m.imports w.last.import Globals) })) o) w.is_part in
               let step = step_is (Outside w.last) w.end ∙ ap (λ o. option_and_then (λ r. Some (Ends r)) o) last in
               let r_is : record { part = w.last.part; expr = const.Global y } ≡ r = same_Some _ _ (at_end (Ends (record { part = w.last.part; expr = const.Global y })) step) in
-              let j = inst_there env parts insts allocated stores_are size w.last.part (module_low parts w.last.part w.of w.is_part) in
+              let j = inst_there env parts insts allocated stores_are size w.last.part (module_there parts w.last.part w.of w.is_part) in
               let z : 0 + w.last.import ≡ w.last.import = omega arith in
               let stands = index_place Globals w.of.imports w.last.import 0 w.import w.is_import w.kind ∙ ap Some z in
               let a = import_address env parts w.last.part w.of j.1 (part_inst w.last.part w.of j.1 w.is_part j.3) Globals y w.last.import stands in

@@ -2,7 +2,6 @@
 use Rattle.std.proofs.Common.{◌≡◌, ◌∙◌, refl, sym, ap, ap₂, ℕ, zero, suc, List, [], ◌∷◌, ◌++◌, map, length, Option, Some, None, true, false, cond, arith, drop, option_and_then, slice_get}
 use Rattle.wasm_tree.specs.declared.module.ConstExpr.{ConstExpr}
 use Rattle.wasm_tree.specs.declared.module.Module.{Module}
-use Rattle.wasm_meaning.specs.Outcomes.{Gives, at}
 use Rattle.wasm_meaning.specs.State.{Val, Inst, Func, Store, Opening}
 use Rattle.wasm_meaning.specs.Control.{type_of_func}
 use Rattle.wasm_meaning.specs.Linking.{Part, module_at, sites}
@@ -28,7 +27,7 @@ pub record IsGiven (env : Environment) (w : World) (insts : List Inst) (allocate
   pub listed : SitesThere w.parts
   pub matched : all_of (is_matched env w.parts allocated) (sites w.parts) ≡ true
   -- a start takes nothing and gives nothing
-  pub starts : (p x : ℕ) (m : Module) (i : Inst) → module_at w.parts p ≡ Some m → slice_get insts p ≡ Some i → m.start ≡ Some x → (a : ℕ) × (f : Func) × (slice_get i.funcs x ≡ Some a) × (at allocated.funcs a ≡ Gives f) × (type_of_func f ≡ nothing_to_nothing)
+  pub starts : (p x : ℕ) (m : Module) (i : Inst) → module_at w.parts p ≡ Some m → slice_get insts p ≡ Some i → m.start ≡ Some x → (a : ℕ) × (f : Func) × (slice_get i.funcs x ≡ Some a) × (slice_get allocated.funcs a ≡ Some f) × (type_of_func f ≡ nothing_to_nothing)
   -- what a part adds when its turn has come is what it adds at once
   pub store_is : (k : ℕ) (m : Module) (i : Inst) (t : Store) → module_at w.parts k ≡ Some m → slice_get insts k ≡ Some i → Holds env w.parts k allocated t → store_with (const_value t.globals i) m i ≡ Some (laid.adds k)
   pub no_segments : (value : ConstExpr → Option Val) (m : Module) (i : Inst) (s : Store) → HasNoActive m → own_segments value m i s ≡ record { store = s; trapped = false }

@@ -9,9 +9,10 @@ use Rattle.wasm_tree.specs.Spaces.{index_of_export, space_of_export}
 use Rattle.wasm_meaning.specs.Environment.{Environment, Thing, owned_of, owned_at}
 use Rattle.wasm_meaning.specs.World.{defined_count, own_key, thing_of, imported_thing, insts_from, inst_of, address_in}
 use Rattle.wasm_meaning.specs.InTurn.{Made, made_named, exported_by, thing_or_own, thing_for, JoinsEarlier}
-use Rattle.worlds_in_turn.proofs.Things.{inst_is, inst_at, goes_to, ends_at, defined_is, imported_is}
+use Rattle.worlds_in_turn.proofs.Things.{inst_at, goes_to, ends_at, defined_is, imported_is}
 use Rattle.base_lists.proofs.Options.{and_then_is}
 use Rattle.std.proofs.lemmas.Option.{same_Some}
+use Rattle.world_simulation.proofs.Instancing.{inst_is}
 
 -- the first parts, each with its instance
 abbrev pub made_upto : ℕ → List Part → List Inst → List Made

@@ -22,6 +22,7 @@ mod FillAddresses
 mod FillStores
 mod FillValues
 mod FillRuns
+mod FillJobs
 mod FillTurns
 mod FillData
 mod FillAdded

@@ -9,14 +9,16 @@ use Rattle.wasm_meaning.specs.Paths.{walk, walk_on}
 use Rattle.wasm_meaning.specs.Linking.{Part, Entity, imports_of, module_at, import_at, export_named, source_of, joined, joined_step, import_step, sites, end_of}
 use Rattle.wasm_tree.specs.Spaces.{index_of_export, space_of_export}
 use Rattle.wasm_meaning.specs.Environment.{Environment, Thing, owned_of, owned_at}
-use Rattle.wasm_meaning.specs.World.{given, own_key, defined_count, base, thing_at, address_of, imported_thing, thing_of, all_there, numbers, insts_from, address_in}
+use Rattle.wasm_meaning.specs.World.{own_key, defined_count, base, thing_at, address_of, imported_thing, thing_of, all_there, numbers, insts_from, address_in}
 use Rattle.wasm_meaning.specs.InTurn.{JoinsEarlier}
 use Rattle.world_simulation.specs.Owned.{OwnEntitiesCorrespond}
-use Rattle.worlds_in_turn.proofs.Things.{inst_is, inst_at, space_is, space_in, in_space, address_is, held_external}
+use Rattle.worlds_in_turn.proofs.Things.{inst_at, space_is, space_in, in_space, address_is, held_external}
 use Rattle.worlds_in_turn.proofs.Joined.{stays_own, joins, inst_of_part}
-use Rattle.worlds_in_turn.proofs.Reached.{defined_next, defined_more, own_low}
+use Rattle.worlds_in_turn.proofs.Reached.{defined_more, own_low}
 use Rattle.base_lists.proofs.Options.{and_then_is}
 use Rattle.std.proofs.lemmas.Option.{same_Some}
+use Rattle.world_simulation.proofs.Instancing.{inst_is}
+use Rattle.wasm_meaning.proofs.Counts.{defined_next}
 
 -- ---- lists ----
 

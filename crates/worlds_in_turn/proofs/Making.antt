@@ -1,12 +1,12 @@
 -- While a start is made, the run in turn and the run at once make the same steps.
-use Rattle.std.proofs.Common.{◌≡◌, ◌∙◌, refl, sym, ap, subst, ℕ, ◌<◌, ◌≤◌, List, [], ◌∷◌, ◌++◌, length, Option, Some, None, arith}
+use Rattle.std.proofs.Common.{◌≡◌, ◌∙◌, refl, sym, ap, subst, ℕ, ◌<◌, ◌≤◌, List, [], ◌∷◌, ◌++◌, length, Option, Some, None, arith, slice_get}
 use Rattle.wasm_tree.specs.declared.space.Space.{Space}
 use Rattle.wasm_tree.specs.declared.space.Space.TheVariants.{Functions, Tables, Memories, Globals, ElementSegments, DataSegments}
 use Rattle.wasm_tree.specs.declared.types.FuncType.{FuncType}
 use Rattle.wasm_tree.specs.declared.types.ValType.{ValType}
 use Rattle.wasm_tree.specs.declared.instr.Instr.{Instr}
 use Rattle.base_lists.specs.Options.{◌>>=◌}
-use Rattle.wasm_meaning.specs.Outcomes.{Outcome, Gives, given, bind, at}
+use Rattle.wasm_meaning.specs.Outcomes.{Gives, bind, or_ill_typed}
 use Rattle.wasm_meaning.specs.State.{Text, Inst, Func, Code, Own, Placeholder, Store, Entry, Running, Opening, Waiting}
 use Rattle.wasm_meaning.specs.Control.{type_of_func}
 use Rattle.wasm_meaning.specs.Values.{zeros}
@@ -28,6 +28,7 @@ use Rattle.worlds_in_turn.proofs.Turn.{Sized}
 use Rattle.worlds_in_turn.proofs.Closed.{Sound, own_func, code}
 use Rattle.worlds_in_turn.proofs.Beside.{Untouched, Beside}
 use Rattle.std.proofs.lemmas.List.{length-append}
+use Rattle.wasm_meaning.specs.Touched.{StepsWriteWhatTheyTouch}
 
 -- ---- the opening of a start ----
 
@@ -44,20 +45,20 @@ abbrev pub event_of : Func → Option Event
 event_of (Own p t) = Some (Asked p t [])
 event_of f = None
 
-abbrev started_with : Run → List ℕ → Outcome Func → Out
+abbrev started_with : Run → List ℕ → Option Func → Out
 started_with r xs o =
-    made (or_closed r (given (bind o (λ f. Gives (type_of_func f))) >>= λ t. nothing_in t.results >>= λ u. given (bind o (λ f. Gives (type_of_func f))) >>= λ t. received_all r.owned r.shown t.params [] >>= λ vs. Some (Steps r (bind o (λ f. Gives (enter r.store f vs (Opening xs ∷ [])))))))
+    made (or_closed r ((o >>= λ f. Some (type_of_func f)) >>= λ t. nothing_in t.results >>= λ u. (o >>= λ f. Some (type_of_func f)) >>= λ t. received_all r.owned r.shown t.params [] >>= λ vs. Some (Steps r (bind (or_ill_typed o) (λ f. Gives (enter r.store f vs (Opening xs ∷ [])))))))
 
-opens_code : (r : Run) (xs : List ℕ) (t : FuncType) (i : Inst) (ls : List ValType) (c : List Instr) → t ≡ nothing_to_nothing → started_with r xs (Gives (Code t i ls c)) ≡ (record r { entries = entry_of (Code t i ls c) ∷ Opening xs ∷ [] }, None)
-opens_code r xs t i ls c e = subst (λ t. started_with r xs (Gives (Code t i ls c)) ≡ (record r { entries = entry_of (Code t i ls c) ∷ Opening xs ∷ [] }, None)) (sym e) refl
+opens_code : (r : Run) (xs : List ℕ) (t : FuncType) (i : Inst) (ls : List ValType) (c : List Instr) → t ≡ nothing_to_nothing → started_with r xs (Some (Code t i ls c)) ≡ (record r { entries = entry_of (Code t i ls c) ∷ Opening xs ∷ [] }, None)
+opens_code r xs t i ls c e = subst (λ t. started_with r xs (Some (Code t i ls c)) ≡ (record r { entries = entry_of (Code t i ls c) ∷ Opening xs ∷ [] }, None)) (sym e) refl
 
-opens_own : (r : Run) (xs : List ℕ) (p : Text × Text) (t : FuncType) → t ≡ nothing_to_nothing → started_with r xs (Gives (Own p t)) ≡ (record r { entries = Waiting t.results ∷ Opening xs ∷ [] }, Some (Asked p t []))
-opens_own r xs p t e = subst (λ t. started_with r xs (Gives (Own p t)) ≡ (record r { entries = Waiting t.results ∷ Opening xs ∷ [] }, Some (Asked p t []))) (sym e) refl
+opens_own : (r : Run) (xs : List ℕ) (p : Text × Text) (t : FuncType) → t ≡ nothing_to_nothing → started_with r xs (Some (Own p t)) ≡ (record r { entries = Waiting t.results ∷ Opening xs ∷ [] }, Some (Asked p t []))
+opens_own r xs p t e = subst (λ t. started_with r xs (Some (Own p t)) ≡ (record r { entries = Waiting t.results ∷ Opening xs ∷ [] }, Some (Asked p t []))) (sym e) refl
 
-pub opened : (env : Environment) (parts : List Part) (p : ℕ) (r : Run) (a : ℕ) (xs : List ℕ) (f : Func) → r.entries ≡ Opening (a ∷ xs) ∷ [] → at r.store.funcs a ≡ Gives f → type_of_func f ≡ nothing_to_nothing → Sound env parts p f → tick r ≡ (record r { entries = entry_of f ∷ Opening xs ∷ [] }, event_of f)
+pub opened : (env : Environment) (parts : List Part) (p : ℕ) (r : Run) (a : ℕ) (xs : List ℕ) (f : Func) → r.entries ≡ Opening (a ∷ xs) ∷ [] → slice_get r.store.funcs a ≡ Some f → type_of_func f ≡ nothing_to_nothing → Sound env parts p f → tick r ≡ (record r { entries = entry_of f ∷ Opening xs ∷ [] }, event_of f)
 opened env parts p r a xs f e h ty sound = ap (λ es. made (transition_at r es)) e ∙ ap (started_with r xs) h ∙ go f ty sound
   where
-    go : (f : Func) → type_of_func f ≡ nothing_to_nothing → Sound env parts p f → started_with r xs (Gives f) ≡ (record r { entries = entry_of f ∷ Opening xs ∷ [] }, event_of f)
+    go : (f : Func) → type_of_func f ≡ nothing_to_nothing → Sound env parts p f → started_with r xs (Some f) ≡ (record r { entries = entry_of f ∷ Opening xs ∷ [] }, event_of f)
     go (Own pair t) ty own_func = opens_own r xs pair t ty
     go (Code t i ls c) ty (code k) = opens_code r xs t i ls c ty
     go (Placeholder n t) ty k = elim k [ ]
@@ -80,7 +81,7 @@ some_entries es (a_frame e) = omega arith
 some_entries es a_call = omega arith
 some_entries es (over e g) = omega arith
 
-module _ (below : BelowIsNotSeen) (ticks : RelatedTicksAgree) (others : OthersStay) (env : Environment) (parts : List Part) (allocated : Store) (p : ℕ) where
+module _ (below : BelowIsNotSeen) (writes : StepsWriteWhatTheyTouch) (ticks : RelatedTicksAgree) (others : OthersStay) (env : Environment) (parts : List Part) (allocated : Store) (p : ℕ) where
   abbrev R : Pairing
   R = reaching env parts p
 
@@ -117,8 +118,8 @@ module _ (below : BelowIsNotSeen) (ticks : RelatedTicksAgree) (others : OthersSt
   beside_on t s t' s' h related e f k = record {
     related = related;
     sized = sized_on e h.sized;
-    sound = λ a g i. h.sound a g (ap (λ fs. at fs a) (sym e.funcs) ∙ i);
-    same_funcs = λ a l. ap (λ fs. at fs a) e.funcs ∙ h.same_funcs a l;
+    sound = λ a g i. h.sound a g (ap (λ fs. slice_get fs a) (sym e.funcs) ∙ i);
+    same_funcs = λ a l. ap (λ fs. slice_get fs a) e.funcs ∙ h.same_funcs a l;
     all_funcs = f.funcs ∙ h.all_funcs;
     untouched = untouched_on k h.untouched;
   }
@@ -167,18 +168,18 @@ module _ (below : BelowIsNotSeen) (ticks : RelatedTicksAgree) (others : OthersSt
         (tick u) (tick (over_one u fs)) (subst (λ u'. Unseen (Opening [] ∷ []) (Opening [] ∷ []) (Pending v) (Pending []) u.store.funcs (tick u') (tick (over_one u fs))) (run_is u (fs ++ Opening [] ∷ []) (Pending v) c d) second)
         (ticks (is_reached env parts p) (one_to_one env parts p) (over_one u fs) (over_one r es) h.related)
         (others (is_reached env parts p) (one_to_one env parts p) (over_one u fs) (over_one r es) h.related tt)
-        (tick_extends r (λ x e. fresh_not view x (sym b ∙ e))) (tick_extends u (λ x e. fresh_not v x (sym d ∙ e)))
+        (tick_extends writes r (λ x e. fresh_not view x (sym b ∙ e))) (tick_extends writes u (λ x e. fresh_not v x (sym d ∙ e)))
       where
         fresh_not : (view : List (Text × Thing)) (x : _) → Pending view ≡ Fresh x → ⊥
         fresh_not view x e = cc
 
   -- both open a start
-  module _ (a : ℕ) (xs : List ℕ) (f : Func) (ty : type_of_func f ≡ nothing_to_nothing) (r u : Run) (h : Abreast [] [] r u) (there : at u.store.funcs a ≡ Gives f) (low : a < base env parts Functions p) (view v : List (Text × Thing)) where
+  module _ (a : ℕ) (xs : List ℕ) (f : Func) (ty : type_of_func f ≡ nothing_to_nothing) (r u : Run) (h : Abreast [] [] r u) (there : slice_get u.store.funcs a ≡ Some f) (low : a < base env parts Functions p) (view v : List (Text × Thing)) where
     sound : Sound env parts p f
     sound = h.beside.sound a f there
 
-    there_at_once : at r.store.funcs a ≡ Gives f
-    there_at_once = ap (λ fs. at fs a) h.beside.all_funcs ∙ sym (h.beside.same_funcs a low) ∙ there
+    there_at_once : slice_get r.store.funcs a ≡ Some f
+    there_at_once = ap (λ fs. slice_get fs a) h.beside.all_funcs ∙ sym (h.beside.same_funcs a low) ∙ there
 
     abbrev with_start : Run → Run
     with_start r = record r { entries = Opening (a ∷ []) ∷ []; phase = Pending [] }

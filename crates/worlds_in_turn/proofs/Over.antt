@@ -4,7 +4,7 @@ use Rattle.wasm_tree.specs.declared.space.Space.TheVariants.{Functions, Tables, 
 use Rattle.std.specs.Prelude.{nat_eq}
 use Rattle.wasm_tree.specs.declared.module.ExportDesc.{ExportDesc}
 use Rattle.wasm_tree.specs.declared.module.ExportDesc.TheVariants as ex
-use Rattle.wasm_meaning.specs.Outcomes.{at, overwrite}
+use Rattle.wasm_meaning.specs.Outcomes.{overwrite}
 use Rattle.wasm_meaning.specs.State.{Text, Inst}
 use Rattle.wasm_meaning.specs.Memory.{memory_may_grow}
 use Rattle.wasm_meaning.specs.Tables.{table_may_grow}
@@ -15,7 +15,7 @@ use Rattle.wasm_meaning.specs.Run
 use Rattle.wasm_meaning.specs.Run.{Event, Move, Call, Invoke, Take, Answer, Refuse, Grant, Deny, Get, Size, Set, Extend, Place, Phase, Closed, Run, Out, Transition, made, place_at, shows, got, size_of, does, byte_of, set, extended, moved, or_bad, is_taken_closed, closed_move, transition_at, tick}
 use Rattle.index_remap.specs.Related.{ListRel, nil, cons}
 use Rattle.index_remap.specs.RelatedRuns.{ThingRel, a_func, a_table, a_memory, a_global, KeyRel}
-use Rattle.index_remap.proofs.Rel.{IfThere, absent, present, with_there, with_given, either_all}
+use Rattle.index_remap.proofs.Rel.{IfThere, absent, present, with_there, either_all}
 use Rattle.worlds_in_turn.proofs.Things.{space_in}
 use Rattle.worlds_in_turn.proofs.Reached.{reaching, reached_at}
 use Rattle.base_lists.proofs.Options.{and_then_is}
@@ -35,27 +35,27 @@ AllIdle r = IfThere (λ t. Idle r (made t))
 module _ (r : Run) where
   got_idle : (x : Thing) (n : ℕ) → AllIdle r (got r x n)
   got_idle (FuncAt a) n = absent
-  got_idle (TableAt a) n = with_given (at r.store.tables a) _ (λ t _. with_there (slice_get t.slots n) _ (λ v _. present (record { entries = refl; phase = refl })))
-  got_idle (MemoryAt a) n = with_given (at r.store.mems a) _ (λ m _. with_there (slice_get m.bytes n) _ (λ b _. present (record { entries = refl; phase = refl })))
-  got_idle (GlobalAt a) n = with_given (at r.store.globals a) _ (λ g _. either_all (nat_eq n 0) (present (record { entries = refl; phase = refl })) absent)
+  got_idle (TableAt a) n = with_there (slice_get r.store.tables a) _ (λ t _. with_there (slice_get t.slots n) _ (λ v _. present (record { entries = refl; phase = refl })))
+  got_idle (MemoryAt a) n = with_there (slice_get r.store.mems a) _ (λ m _. with_there (slice_get m.bytes n) _ (λ b _. present (record { entries = refl; phase = refl })))
+  got_idle (GlobalAt a) n = with_there (slice_get r.store.globals a) _ (λ g _. either_all (nat_eq n 0) (present (record { entries = refl; phase = refl })) absent)
 
   size_idle : (x : Thing) → AllIdle r (size_of r x)
   size_idle (FuncAt a) = absent
-  size_idle (TableAt a) = with_given (at r.store.tables a) _ (λ t _. present (record { entries = refl; phase = refl }))
-  size_idle (MemoryAt a) = with_given (at r.store.mems a) _ (λ m _. present (record { entries = refl; phase = refl }))
-  size_idle (GlobalAt a) = with_given (at r.store.globals a) _ (λ g _. present (record { entries = refl; phase = refl }))
+  size_idle (TableAt a) = with_there (slice_get r.store.tables a) _ (λ t _. present (record { entries = refl; phase = refl }))
+  size_idle (MemoryAt a) = with_there (slice_get r.store.mems a) _ (λ m _. present (record { entries = refl; phase = refl }))
+  size_idle (GlobalAt a) = with_there (slice_get r.store.globals a) _ (λ g _. present (record { entries = refl; phase = refl }))
 
   set_idle : (x : Thing) (n : ℕ) (v : Shown) → AllIdle r (set r x n v)
   set_idle (FuncAt a) n v = absent
-  set_idle (TableAt a) n v = with_given (at r.store.tables a) _ (λ t _. with_there (received_ref r.owned r.shown t.ty v) _ (λ w _. with_given (overwrite t.slots n (w ∷ [])) _ (λ s _. present (record { entries = refl; phase = refl }))))
-  set_idle (MemoryAt a) n v = with_given (at r.store.mems a) _ (λ m _. with_there (byte_of v) _ (λ b _. with_given (overwrite m.bytes n (b ∷ [])) _ (λ s _. present (record { entries = refl; phase = refl }))))
+  set_idle (TableAt a) n v = with_there (slice_get r.store.tables a) _ (λ t _. with_there (received_ref r.owned r.shown t.ty v) _ (λ w _. with_there (overwrite t.slots n (w ∷ [])) _ (λ s _. present (record { entries = refl; phase = refl }))))
+  set_idle (MemoryAt a) n v = with_there (slice_get r.store.mems a) _ (λ m _. with_there (byte_of v) _ (λ b _. with_there (overwrite m.bytes n (b ∷ [])) _ (λ s _. present (record { entries = refl; phase = refl }))))
   set_idle (GlobalAt a) n v =
-      with_given (at r.store.globals a) _ (λ g _. either_all (nat_eq n 0) (either_all g.ty.mutable (with_there (received r.owned r.shown g.ty.ty v) _ (λ w _. present (record { entries = refl; phase = refl }))) absent) absent)
+      with_there (slice_get r.store.globals a) _ (λ g _. either_all (nat_eq n 0) (either_all g.ty.mutable (with_there (received r.owned r.shown g.ty.ty v) _ (λ w _. present (record { entries = refl; phase = refl }))) absent) absent)
 
   extended_idle : (x : Thing) (n : ℕ) → AllIdle r (extended r x n)
   extended_idle (FuncAt a) n = absent
-  extended_idle (TableAt a) n = with_given (at r.store.tables a) _ (λ t _. either_all (table_may_grow t n) (present (record { entries = refl; phase = refl })) absent)
-  extended_idle (MemoryAt a) n = with_given (at r.store.mems a) _ (λ m _. either_all (memory_may_grow m n) (present (record { entries = refl; phase = refl })) absent)
+  extended_idle (TableAt a) n = with_there (slice_get r.store.tables a) _ (λ t _. either_all (table_may_grow t n) (present (record { entries = refl; phase = refl })) absent)
+  extended_idle (MemoryAt a) n = with_there (slice_get r.store.mems a) _ (λ m _. either_all (memory_may_grow m n) (present (record { entries = refl; phase = refl })) absent)
   extended_idle (GlobalAt a) n = absent
 
   closed_idle : (m : Move) → is_taken_closed m ≡ true → AllIdle r (moved r m)

@@ -1,13 +1,12 @@
 -- The addresses that the environment and the first parts have, each of which stands for itself.
-use Rattle.std.proofs.Common.{◌≡◌, ◌∙◌, refl, sym, ap, ap₂, subst, ℕ, zero, suc, ◌+◌, ◌<◌, ◌≤◌, List, [], ◌∷◌, length, Some, Bool, true, false, cond, arith, ◌&&◌}
+use Rattle.std.proofs.Common.{◌≡◌, ◌∙◌, refl, sym, ap₂, subst, ℕ, zero, suc, ◌<◌, ◌≤◌, List, [], ◌∷◌, Some, Bool, true, false, cond, arith, ◌&&◌}
 use Rattle.wasm_tree.specs.declared.space.Space.{Space}
-use Rattle.wasm_tree.specs.declared.space.Space.TheVariants.{Functions, Tables, Memories, Globals, ElementSegments, DataSegments}
+use Rattle.wasm_tree.specs.declared.space.Space.TheVariants.{Functions, Tables, Memories, Globals}
 use Rattle.std.specs.Prelude.{nat_eq, nat_lt}
 use Rattle.std.proofs.lemmas.Bool.{ltb-true, lt-ltb, eq-eqb, eqb-true}
-use Rattle.wasm_tree.specs.declared.module.Module.{Module}
-use Rattle.wasm_meaning.specs.Linking.{Part, module_at}
+use Rattle.wasm_meaning.specs.Linking.{Part}
 use Rattle.wasm_meaning.specs.Environment.{Environment, OwnKey, Owned, owned_of, owned_at, look_up, same_key, Thing, FuncAt, TableAt, MemoryAt, GlobalAt}
-use Rattle.wasm_meaning.specs.World.{defined_count, defined_before, base, address_of}
+use Rattle.wasm_meaning.specs.World.{defined_before, base, address_of}
 use Rattle.index_remap.specs.Related.{Pairing, OneToOne, ListRel, nil, cons}
 use Rattle.index_remap.specs.RelatedRuns.{ThingRel, a_func, a_table, a_memory, a_global, KeyRel}
 use Rattle.index_remap.specs.Laws.{passed}
@@ -41,38 +40,11 @@ one_to_one env parts p = record {
 
 -- ---- counts ----
 
-pub defined_next : (k : Space) (parts : List Part) (p : ℕ) (m : Module) → module_at parts p ≡ Some m → defined_before k parts (suc p) ≡ defined_before k parts p + defined_count k m
-defined_next k [] p m e = absurd (let z = e in cc)
-defined_next k (part ∷ parts) zero m e = let same = ap (defined_count k) (same_Some _ _ e) in let z = none k parts in omega (arith, same, z)
-  where
-    none : (k : Space) (parts : List Part) → defined_before k parts 0 ≡ 0
-    none k [] = refl
-    none k (part ∷ parts) = refl
-defined_next k (part ∷ parts) (suc p) m e = let r = defined_next k parts p m e in omega (arith, r)
-
 pub defined_more : (k : Space) (parts : List Part) (p q : ℕ) → p ≤ q → defined_before k parts p ≤ defined_before k parts q
 defined_more k [] p q l = omega arith
 defined_more k (part ∷ parts) zero q l = omega arith
 defined_more k (part ∷ parts) (suc p) zero l = absurd (omega (arith, l))
 defined_more k (part ∷ parts) (suc p) (suc q) l = let r = defined_more k parts p q (omega (arith, l)) in omega (arith, r)
-
-pub elems_next : (parts : List Part) (p : ℕ) (m : Module) → module_at parts p ≡ Some m → defined_before ElementSegments parts (suc p) ≡ defined_before ElementSegments parts p + length m.elems
-elems_next [] p m e = absurd (let z = e in cc)
-elems_next (part ∷ parts) zero m e = let same = ap (λ m. length m.elems) (same_Some _ _ e) in let z = none parts in omega (arith, same, z)
-  where
-    none : (parts : List Part) → defined_before ElementSegments parts 0 ≡ 0
-    none [] = refl
-    none (part ∷ parts) = refl
-elems_next (part ∷ parts) (suc p) m e = let r = elems_next parts p m e in omega (arith, r)
-
-pub datas_next : (parts : List Part) (p : ℕ) (m : Module) → module_at parts p ≡ Some m → defined_before DataSegments parts (suc p) ≡ defined_before DataSegments parts p + length m.datas
-datas_next [] p m e = absurd (let z = e in cc)
-datas_next (part ∷ parts) zero m e = let same = ap (λ m. length m.datas) (same_Some _ _ e) in let z = none parts in omega (arith, same, z)
-  where
-    none : (parts : List Part) → defined_before DataSegments parts 0 ≡ 0
-    none [] = refl
-    none (part ∷ parts) = refl
-datas_next (part ∷ parts) (suc p) m e = let r = datas_next parts p m e in omega (arith, r)
 
 -- ---- the environment's own ----
 

@@ -10,18 +10,17 @@ use Rattle.wasm_tree.specs.declared.module.ImportDesc.{ImportDesc}
 use Rattle.wasm_tree.specs.declared.module.ImportDesc.TheVariants as im
 use Rattle.wasm_tree.specs.declared.module.Module.{Module}
 use Rattle.wasm_tree.specs.Spaces.{func_of, imported_funcs, funcs_of, type_of_func, space_of_import}
-use Rattle.wasm_meaning.specs.Outcomes.{Outcome, Gives, Traps, IllTyped, bind, at}
 use Rattle.wasm_meaning.specs.State.{Inst, Func, Store}
 use Rattle.wasm_meaning.specs.Values.{same_func_type}
 use Rattle.wasm_meaning.specs.Control as control
 use Rattle.wasm_meaning.specs.Control.{type_at}
 use Rattle.wasm_meaning.specs.Linking.{Part, has_kind, imports_of, module_at, import_at, sites}
 use Rattle.wasm_meaning.specs.Environment.{Environment, Thing, FuncAt, all_of}
-use Rattle.wasm_meaning.specs.World.{given, base, address_of, import_type, imported_thing, all_there, numbers, insts_from, new_func, global_with, elem_with, value_of, is_match, is_matched}
+use Rattle.wasm_meaning.specs.World.{base, address_of, import_type, imported_thing, all_there, numbers, insts_from, new_func, global_with, elem_with, value_of, is_match, is_matched}
 use Rattle.wasm_meaning.specs.InTurn.{JoinsEarlier}
 use Rattle.index_remap.specs.Laws.{CodeIsRelatedToItself}
 use Rattle.std.proofs.lemmas.Option.{slice_get_within, same_Some}
-use Rattle.worlds_in_turn.proofs.Things.{IsInst, inst_is, space_is, func_is, place_at}
+use Rattle.worlds_in_turn.proofs.Things.{space_is, func_is}
 use Rattle.worlds_in_turn.proofs.Joined.{ExportsThere, inst_of_part}
 use Rattle.worlds_in_turn.proofs.Turn.{SitesThere, all_is}
 use Rattle.worlds_in_turn.proofs.Beside.{Laid, at_allocated_funcs}
@@ -29,6 +28,8 @@ use Rattle.base_lists.proofs.Places.{map_from, append_from, slice_get_there, app
 use Rattle.base_lists.proofs.Filtered.{place_of, places_many}
 use Rattle.base_lists.proofs.Options.{and_then_is, unwrap_or_false_is, all_there_at, all_there_length}
 use Rattle.base_lists.proofs.Numbers.{numbers_at}
+use Rattle.world_simulation.proofs.Places.{some_then}
+use Rattle.world_simulation.proofs.Instancing.{IsInst, inst_is}
 
 is_func : (d : ImportDesc) → is_some (func_of d) ≡ same_space Functions (space_of_import d)
 is_func (im.Func ty) = refl
@@ -42,25 +43,12 @@ func_desc (im.Table t) ty e = cc
 func_desc (im.Memory l) ty e = cc
 func_desc (im.Global t) ty e = cc
 
-given_is : {A : Type 0} (o : Outcome A) (a : A) → given o ≡ Some a → o ≡ Gives a
-given_is (Gives b) a e = ap Gives (same_Some _ _ e)
-given_is Traps a e = cc
-given_is IllTyped a e = cc
-
-bind_is : {A B : Type 0} (o : Outcome A) (f : A → B) (b : B) → bind o (λ a. Gives (f a)) ≡ Gives b → (a : A) × (o ≡ Gives a) × (f a ≡ b)
-bind_is (Gives a) f b e = (a, refl, gives_is e)
-  where
-    gives_is : {B : Type 0} {x y : B} → Gives x ≡ Gives y → x ≡ y
-    gives_is e = cc
-bind_is Traps f b e = cc
-bind_is IllTyped f b e = cc
-
 -- a function with its type
 pub record HasFunc (i : Inst) (allocated : Store) (x : ℕ) (t : FuncType) : Type 0 where
   pub address : ℕ
   pub func : Func
   pub named : slice_get i.funcs x ≡ Some address
-  pub there : at allocated.funcs address ≡ Gives func
+  pub there : slice_get allocated.funcs address ≡ Some func
   pub type : control.type_of_func func ≡ t
 
 module _ (same_types : (s t : FuncType) → same_func_type s t ≡ true → s ≡ t) (itself : CodeIsRelatedToItself) (env : Environment) (parts : List Part) (insts : List Inst) (are : insts_from env parts 0 parts ≡ Some insts) (size : length insts ≡ length parts) (there : ExportsThere parts) (earlier : JoinsEarlier parts) (listed : SitesThere parts) (allocated : Store) (laid : Laid env parts insts allocated) (matched : all_of (is_matched env parts allocated) (sites parts) ≡ true) where
@@ -96,8 +84,8 @@ module _ (same_types : (s t : FuncType) → same_func_type s t ≡ true → s �
         let thing = func_is y.0 a.0 y.2 in
         let match : is_match allocated m (im.Func ty) (FuncAt a.0) ≡ Some true = ap₂ (is_match allocated m) (sym desc) (sym thing) ∙ matches n.0 at_import.1 y.0 here y.1 in
         let u = and_then_is (import_type m ty) _ true match in
-        let v = and_then_is (given (type_at allocated a.0)) _ true u.2 in
-        let f = bind_is (at allocated.funcs a.0) control.type_of_func v.0 (given_is (type_at allocated a.0) v.0 v.1) in
+        let v = and_then_is (type_at allocated a.0) _ true u.2 in
+        let f = some_then (slice_get allocated.funcs a.0) control.type_of_func v.0 v.1 in
         let same_t : u.0 ≡ t = same_Some _ _ (sym u.1 ∙ type) in
         record {
           address = a.0;
@@ -125,19 +113,19 @@ module _ (same_types : (s t : FuncType) → same_func_type s t ≡ true → s �
         let same_t : made.0 ≡ t = same_Some _ _ (sym made.1 ∙ ap₂ slice_get is_inst.types back.2 ∙ type) in
         let count = all_there_length (new_func i) m.funcs fs.0 fs.1 in
         let n = ap length funcs in
-        let within : suc p ≤ length parts = module_low parts p m is_part in
+        let within : suc p ≤ length parts = module_there parts p m is_part in
         record {
           address = base env parts Functions p + k;
           func = f.0;
           named = ap (λ l. slice_get l x) (sym s.2) ∙ ap (slice_get (s.0 ++ numbers (base env parts Functions p) (length m.funcs))) (sym number) ∙ append_right s.0 _ k ∙ numbers_at (base env parts Functions p) (length m.funcs) k low;
-          there = at_allocated_funcs itself env parts insts allocated laid p m is_part within k (omega (arith, low, count, n)) ∙ ap (λ l. at l k) (sym funcs) ∙ place_at fs.0 k f.0 f.2;
+          there = at_allocated_funcs itself env parts insts allocated laid p m is_part within k (omega (arith, low, count, n)) ∙ ap (λ l. slice_get l k) (sym funcs) ∙ f.2;
           type = ap control.type_of_func (sym (same_Some _ _ made.2)) ∙ same_t;
         }
       where
-        module_low : (parts : List Part) (p : ℕ) (m : Module) → module_at parts p ≡ Some m → suc p ≤ length parts
-        module_low [] p m e = absurd (let z = e in cc)
-        module_low (part ∷ parts) zero m e = omega arith
-        module_low (part ∷ parts) (suc p) m e = let b = module_low parts p m e in omega (arith, b)
+        module_there : (parts : List Part) (p : ℕ) (m : Module) → module_at parts p ≡ Some m → suc p ≤ length parts
+        module_there [] p m e = absurd (let z = e in cc)
+        module_there (part ∷ parts) zero m e = omega arith
+        module_there (part ∷ parts) (suc p) m e = let b = module_there parts p m e in omega (arith, b)
 
     -- a function of a part's space stands in the store, with its type
     pub func_there : type_of_func m x ≡ Some t → HasFunc i allocated x t

@@ -15,48 +15,13 @@ use Rattle.wasm_meaning.specs.Paths.{Next, Ends, Goes, walk, walk_on}
 use Rattle.wasm_meaning.specs.Linking.{Part, Site, Entity, End, places, has_kind, imports_of, module_at, imported_as, import_step, sites, end_of}
 use Rattle.wasm_tree.specs.Spaces.{index_of_export, space_of_export, space_of_import}
 use Rattle.wasm_meaning.specs.Environment.{Environment, Thing, FuncAt, TableAt, MemoryAt, GlobalAt}
-use Rattle.wasm_meaning.specs.World.{defined_count, base, thing_at, address_of, defined_addresses, defined_thing, imported_thing, all_there, numbers, space, inst_of, insts_from, address_in, defined_before}
+use Rattle.wasm_meaning.specs.World.{defined_count, base, thing_at, address_of, defined_addresses, defined_thing, imported_thing, all_there, numbers, space, inst_of, insts_from, address_in}
 use Rattle.wasm_meaning.specs.InTurn.{addresses_of}
 use Rattle.base_lists.proofs.Options.{and_then_is, all_there_at, all_there_length}
 use Rattle.std.proofs.lemmas.Option.{same_Some}
 use Rattle.base_lists.proofs.Places.{append_at_left, append_right, slice_get_none}
 use Rattle.merge_validity.specs.Ended.{is_external}
-use Rattle.wasm_meaning.specs.Outcomes.{at, Gives}
-
--- ---- places as the steps look them up ----
-
-pub place_at : {A : Type 0} (xs : List A) (n : ℕ) (x : A) → slice_get xs n ≡ Some x → at xs n ≡ Gives x
-place_at [] n x e = cc
-place_at (y ∷ ys) zero x e = ap Gives (same_Some _ _ e)
-place_at (y ∷ ys) (suc n) x e = place_at ys n x e
-
-pub at_place : {A : Type 0} (xs : List A) (n : ℕ) (x : A) → at xs n ≡ Gives x → slice_get xs n ≡ Some x
-at_place [] n x e = cc
-at_place (y ∷ ys) zero x e = let s : y ≡ x = cc in ap Some s
-at_place (y ∷ ys) (suc n) x e = at_place ys n x e
-
--- ---- options ----
-
--- ---- instances ----
-
--- an instance and the spaces that it is made of
-pub record IsInst (env : Environment) (parts : List Part) (p : ℕ) (m : Module) (i : Inst) : Type 0 where
-  pub types : i.types ≡ m.types
-  pub funcs : space env parts Functions p m ≡ Some i.funcs
-  pub tables : space env parts Tables p m ≡ Some i.tables
-  pub mems : space env parts Memories p m ≡ Some i.mems
-  pub globals : space env parts Globals p m ≡ Some i.globals
-  pub elems : i.elems ≡ numbers (defined_before ElementSegments parts p) (length m.elems)
-  pub datas : i.datas ≡ numbers (defined_before DataSegments parts p) (length m.datas)
-
-pub inst_is : (env : Environment) (parts : List Part) (p : ℕ) (m : Module) (i : Inst) → inst_of env parts p m ≡ Some i → IsInst env parts p m i
-inst_is env parts p m i h =
-    let f = and_then_is (space env parts Functions p m) _ i h in
-    let t = and_then_is (space env parts Tables p m) _ i f.2 in
-    let s = and_then_is (space env parts Memories p m) _ i t.2 in
-    let g = and_then_is (space env parts Globals p m) _ i s.2 in
-    let e = same_Some _ _ g.2 in
-    rw (← e) (record { types = refl; funcs = f.1; tables = t.1; mems = s.1; globals = g.1; elems = refl; datas = refl })
+use Rattle.world_simulation.proofs.Instancing.{IsInst}
 
 pub inst_at : (env : Environment) (all : List Part) (p : ℕ) (ps : List Part) (is : List Inst) → insts_from env all p ps ≡ Some is → (q : ℕ) (m : Module) → module_at ps q ≡ Some m → (i : Inst) × (slice_get is q ≡ Some i) × (inst_of env all (p + q) m ≡ Some i)
 inst_at env all p [] is h q m e = absurd (let k = e in cc)

@@ -1,7 +1,7 @@
 -- Each step of a run that was instantiated extends its store.
 use Rattle.std.proofs.Common.{◌≡◌, ℕ, List, [], ◌∷◌, Option, Some, None, Bool, true, false, cond, option_and_then, slice_get, refl, sym, subst, ◌∙◌, arith}
 use Rattle.std.specs.Prelude.{nat_eq}
-use Rattle.wasm_meaning.specs.Outcomes.{Outcome, Gives, Traps, IllTyped, bind, at, overwrite, copies}
+use Rattle.wasm_meaning.specs.Outcomes.{Outcome, Gives, Traps, IllTyped, bind, overwrite, copies}
 use Rattle.wasm_meaning.specs.State.{Val, RefVal, Ref, Table, Memory, Global, Func, Code, Own, Placeholder, Store, Level, Frame, Entry, Running, Caller, Host, Starter, Mark, Opening, Waiting, Ended, Growing, Growth, GrowMemory, GrowTable, Change, SetGlobal, Act, Goes, Calls, AsksGrow, Ends, Next, Ran, CallsOwn, WaitsGrowth, CallsPlaceholder, EndsCall}
 use Rattle.wasm_meaning.specs.Values.{pop_typed, null_of}
 use Rattle.wasm_meaning.specs.Memory.{memory_may_grow}
@@ -10,10 +10,12 @@ use Rattle.wasm_meaning.specs.Control.{type_at}
 use Rattle.wasm_meaning.specs.Step.{changed, give_levels, give, enter, enter_at, act, perform, step, to_mark}
 use Rattle.wasm_meaning.specs.Environment.{Shown, Thing, FuncAt, TableAt, MemoryAt, GlobalAt, func_of, received, received_ref, received_all}
 use Rattle.wasm_meaning.specs.Run.{Move, Call, Invoke, Take, Answer, Refuse, Grant, Deny, Get, Size, Set, Extend, Phase, Fresh, Pending, Opened, Closed, Run, Out, Transition, Steps, Makes, made, viewed_at, place_at, trapped_to, after, called, is_mark, delivered, answered, refused, grown_memory, grown_table, with_change, granted, decided, shows, got, size_of, does, byte_of, set, extended, moved, at_entries, or_bad, or_closed, next_move, nothing_in, open_next, is_taken_closed, closed_move, in_phase, transition_at, tick}
-use Rattle.index_remap.proofs.Rel.{OptAll, nothing, stopped, just, IfThere, absent, present, with_there, with_given, either_all}
+use Rattle.index_remap.proofs.Rel.{IfThere, absent, present, with_there, either_all}
 use Rattle.worlds_in_turn.proofs.Extends.{TableExtends, MemoryExtends, Extends, stays, and_then, Extending, global, memory, table, changed_extends, overwritten_length}
-use Rattle.worlds_in_turn.proofs.StepExtends.{Grows, act_all, with_is}
+use Rattle.worlds_in_turn.proofs.StepExtends.{Grows, act_all}
 use Rattle.std.proofs.lemmas.List.{length-append}
+use Rattle.wasm_meaning.proofs.Outcomes.{with_is, with_found, ill_typed, AllOf, stopped, just}
+use Rattle.wasm_meaning.specs.Touched.{StepsWriteWhatTheyTouch}
 
 -- the store that is left
 abbrev pub store_of : Next → Store
@@ -24,7 +26,7 @@ store_of (CallsPlaceholder n vs s es) = s
 store_of (EndsCall vs s es) = s
 
 abbrev pub Leaves : Store → Outcome Next → Type 0
-Leaves s = OptAll (λ n. Extends s (store_of n))
+Leaves s = AllOf (λ n. Extends s (store_of n))
 
 enter_leaves : (s : Store) (f : Func) (vs : List Val) (es : List Entry) → Extends s (store_of (enter s f vs es))
 enter_leaves s (Code t i ls c) vs es = stays s
@@ -32,33 +34,33 @@ enter_leaves s (Own p t) vs es = stays s
 enter_leaves s (Placeholder n t) vs es = stays s
 
 enter_at_leaves : (s : Store) (a : ℕ) (vs : List Val) (es : List Entry) → Leaves s (enter_at s a vs es)
-enter_at_leaves s a vs es = with_is (at s.funcs a) _ (λ f _. just (enter_leaves s f vs es))
+enter_at_leaves s a vs es = with_found (slice_get s.funcs a) _ (λ f _. just (enter_leaves s f vs es))
 
 give_leaves : (s : Store) (vs : List Val) (es : List Entry) → Leaves s (give s vs es)
-give_leaves s vs [] = nothing
+give_leaves s vs [] = ill_typed
 give_leaves s vs (Running f ∷ es) = go f.levels
   where
     go : (ls : List Level) → Leaves s (give_levels s vs f ls es)
-    go [] = nothing
+    go [] = ill_typed
     go (l ∷ ls) = just (stays s)
 give_leaves s vs (Mark ∷ es) = just (stays s)
 give_leaves s vs (Opening xs ∷ es) = just (stays s)
-give_leaves s vs (Waiting ts ∷ es) = nothing
-give_leaves s vs (Ended ws ∷ es) = nothing
-give_leaves s vs (Growing g ∷ es) = nothing
+give_leaves s vs (Waiting ts ∷ es) = ill_typed
+give_leaves s vs (Ended ws ∷ es) = ill_typed
+give_leaves s vs (Growing g ∷ es) = ill_typed
 
 perform_leaves : (s : Store) (f : Frame) (es : List Entry) (x : Act) → Grows s x → Leaves s (perform s f es x)
 perform_leaves s f es (Goes c h) g = just (changed_extends g)
-perform_leaves s f es (Calls a vs h) g = with_is (type_at s a) _ (λ t _. with_is (pop_typed t.params vs) _ (λ p _. enter_at_leaves s a p.0 _))
+perform_leaves s f es (Calls a vs h) g = with_found (type_at s a) _ (λ t _. with_is (pop_typed t.params vs) _ (λ p _. enter_at_leaves s a p.0 _))
 perform_leaves s f es (AsksGrow k m n h) g = just (stays s)
 perform_leaves s f es (Ends vs) g = with_is (pop_typed f.results vs) _ (λ p _. give_leaves s p.0 es)
 
-step_leaves : (s : Store) (f : Frame) (es : List Entry) → Leaves s (step s (Running f ∷ es))
-step_leaves s f es = go (act s f) (act_all s f)
+step_leaves : StepsWriteWhatTheyTouch → (s : Store) (f : Frame) (es : List Entry) → Leaves s (step s (Running f ∷ es))
+step_leaves writes s f es = go (act s f) (act_all writes s f)
   where
-    go : (o : Outcome Act) → OptAll (Grows s) o → Leaves s (bind o (perform s f es))
+    go : (o : Outcome Act) → AllOf (Grows s) o → Leaves s (bind o (perform s f es))
     go Traps h = stopped
-    go IllTyped h = nothing
+    go IllTyped h = ill_typed
     go (Gives x) (just g) = perform_leaves s f es x g
 
 -- ---- runs ----
@@ -87,7 +89,7 @@ after_kept r Traps h = trapped_kept r r.store r.entries (to_mark r.entries) (sta
 after_kept r IllTyped h = trapped_kept r r.store r.entries (to_mark r.entries) (stays r.store)
 
 called_all : (r : Run) (es : List Entry) (xs : List Shown) (a : ℕ) → All r (called r es xs a)
-called_all r es xs a = with_given (type_at r.store a) _ (λ t _. with_there (received_all r.owned r.shown t.params xs) _ (λ vs _. present (after_kept r _ (enter_at_leaves r.store a vs es))))
+called_all r es xs a = with_there (type_at r.store a) _ (λ t _. with_there (received_all r.owned r.shown t.params xs) _ (λ vs _. present (after_kept r _ (enter_at_leaves r.store a vs es))))
 
 delivered_kept : (r : Run) (vs : List Val) (es : List Entry) → Kept r (made (delivered r vs es))
 delivered_kept r vs es = go (is_mark es)
@@ -126,8 +128,8 @@ module _ (r : Run) where
   after_change c vs es g = let d = delivered_kept (with_change r c) vs es in record { store = and_then r.store (changed r.store c) _ (changed_extends g) d.store; owned = d.owned }
 
   granted_all : (g : Growth) (es : List Entry) → All r (granted r g es)
-  granted_all (GrowMemory a n) es = with_given (at r.store.mems a) _ (λ m e. present (after_change _ _ es (memory e (memory_grown m n))))
-  granted_all (GrowTable a n v) es = with_given (at r.store.tables a) _ (λ t e. present (after_change _ _ es (table e (table_grown t n v))))
+  granted_all (GrowMemory a n) es = with_there (slice_get r.store.mems a) _ (λ m e. present (after_change _ _ es (memory e (memory_grown m n))))
+  granted_all (GrowTable a n v) es = with_there (slice_get r.store.tables a) _ (λ t e. present (after_change _ _ es (table e (table_grown t n v))))
 
   decided_all : (m : Move) (g : Growth) (es : List Entry) → All r (decided r m g es)
   decided_all Grant g es = granted_all g es
@@ -147,15 +149,15 @@ module _ (r : Run) where
 
   got_all : (x : Thing) (n : ℕ) → All r (got r x n)
   got_all (FuncAt a) n = absent
-  got_all (TableAt a) n = with_given (at r.store.tables a) _ (λ t _. with_there (slice_get t.slots n) _ (λ v _. shows_all (Ref v)))
-  got_all (MemoryAt a) n = with_given (at r.store.mems a) _ (λ m _. with_there (slice_get m.bytes n) _ (λ b _. present (record { store = stays r.store; owned = refl })))
-  got_all (GlobalAt a) n = with_given (at r.store.globals a) _ (λ g _. either_all (nat_eq n 0) (shows_all g.value) absent)
+  got_all (TableAt a) n = with_there (slice_get r.store.tables a) _ (λ t _. with_there (slice_get t.slots n) _ (λ v _. shows_all (Ref v)))
+  got_all (MemoryAt a) n = with_there (slice_get r.store.mems a) _ (λ m _. with_there (slice_get m.bytes n) _ (λ b _. present (record { store = stays r.store; owned = refl })))
+  got_all (GlobalAt a) n = with_there (slice_get r.store.globals a) _ (λ g _. either_all (nat_eq n 0) (shows_all g.value) absent)
 
   size_all : (x : Thing) → All r (size_of r x)
   size_all (FuncAt a) = absent
-  size_all (TableAt a) = with_given (at r.store.tables a) _ (λ t _. present (record { store = stays r.store; owned = refl }))
-  size_all (MemoryAt a) = with_given (at r.store.mems a) _ (λ m _. present (record { store = stays r.store; owned = refl }))
-  size_all (GlobalAt a) = with_given (at r.store.globals a) _ (λ g _. present (record { store = stays r.store; owned = refl }))
+  size_all (TableAt a) = with_there (slice_get r.store.tables a) _ (λ t _. present (record { store = stays r.store; owned = refl }))
+  size_all (MemoryAt a) = with_there (slice_get r.store.mems a) _ (λ m _. present (record { store = stays r.store; owned = refl }))
+  size_all (GlobalAt a) = with_there (slice_get r.store.globals a) _ (λ g _. present (record { store = stays r.store; owned = refl }))
 
   does_all : (c : Change) → Extending r.store c → All r (does r c)
   does_all c g = present (record { store = changed_extends g; owned = refl })
@@ -163,22 +165,22 @@ module _ (r : Run) where
   set_all : (x : Thing) (n : ℕ) (v : Shown) → All r (set r x n v)
   set_all (FuncAt a) n v = absent
   set_all (TableAt a) n v =
-      with_given (at r.store.tables a) _ (λ t e. with_there (received_ref r.owned r.shown t.ty v) _ (λ w _. with_given (overwrite t.slots n (w ∷ [])) _ (λ slots is. let l = overwritten_length t.slots n (w ∷ []) slots is in does_all _ (table e (record { type = refl; most = refl; size = omega (arith, l) })))))
+      with_there (slice_get r.store.tables a) _ (λ t e. with_there (received_ref r.owned r.shown t.ty v) _ (λ w _. with_there (overwrite t.slots n (w ∷ [])) _ (λ slots is. let l = overwritten_length t.slots n (w ∷ []) slots is in does_all _ (table e (record { type = refl; most = refl; size = omega (arith, l) })))))
   set_all (MemoryAt a) n v =
-      with_given (at r.store.mems a) _ (λ m e. with_there (byte_of v) _ (λ b _. with_given (overwrite m.bytes n (b ∷ [])) _ (λ bytes _. does_all _ (memory e (record { most = refl; size = omega arith })))))
-  set_all (GlobalAt a) n v = with_given (at r.store.globals a) _ (λ g e. either_all (nat_eq n 0) (mutable g e g.ty.mutable refl) absent)
+      with_there (slice_get r.store.mems a) _ (λ m e. with_there (byte_of v) _ (λ b _. with_there (overwrite m.bytes n (b ∷ [])) _ (λ bytes _. does_all _ (memory e (record { most = refl; size = omega arith })))))
+  set_all (GlobalAt a) n v = with_there (slice_get r.store.globals a) _ (λ g e. either_all (nat_eq n 0) (mutable g e g.ty.mutable refl) absent)
     where
       different : (true ≡ false) → ⊥
       different e = cc
 
-      mutable : (g : Global) → at r.store.globals a ≡ Gives g → (b : Bool) → g.ty.mutable ≡ b → IfThere (λ t. Kept r (made t)) (cond b (option_and_then (λ w. does r (SetGlobal a (record g { value = w }))) (received r.owned r.shown g.ty.ty v)) None)
+      mutable : (g : Global) → slice_get r.store.globals a ≡ Some g → (b : Bool) → g.ty.mutable ≡ b → IfThere (λ t. Kept r (made t)) (cond b (option_and_then (λ w. does r (SetGlobal a (record g { value = w }))) (received r.owned r.shown g.ty.ty v)) None)
       mutable g e false m = absent
       mutable g e true m = with_there (received r.owned r.shown g.ty.ty v) _ (λ w _. does_all _ (global e (record { type = refl; fixed = λ f. absurd (different (sym m ∙ f)) })))
 
   extended_all : (x : Thing) (n : ℕ) → All r (extended r x n)
   extended_all (FuncAt a) n = absent
-  extended_all (TableAt a) n = with_given (at r.store.tables a) _ (λ t e. either_all (table_may_grow t n) (does_all _ (table e (table_grown t n (null_of t.ty)))) absent)
-  extended_all (MemoryAt a) n = with_given (at r.store.mems a) _ (λ m e. either_all (memory_may_grow m n) (does_all _ (memory e (memory_grown m n))) absent)
+  extended_all (TableAt a) n = with_there (slice_get r.store.tables a) _ (λ t e. either_all (table_may_grow t n) (does_all _ (table e (table_grown t n (null_of t.ty)))) absent)
+  extended_all (MemoryAt a) n = with_there (slice_get r.store.mems a) _ (λ m e. either_all (memory_may_grow m n) (does_all _ (memory e (memory_grown m n))) absent)
   extended_all (GlobalAt a) n = absent
 
   moved_all : (m : Move) → All r (moved r m)
@@ -224,22 +226,22 @@ closed_kept r (m ∷ ms) = of_moves r ms _ (or_bad_kept (record r { moves = ms }
 
 open_kept : (r : Run) (starts : List ℕ) (es : List Entry) → Kept r (made (open_next r starts es))
 open_kept r [] es = record { store = stays r.store; owned = refl }
-open_kept r (a ∷ starts) es = or_closed_kept r _ (with_given (type_at r.store a) _ (λ t _. with_there (nothing_in t.results) _ (λ u _. called_all r (Opening starts ∷ es) [] a)))
+open_kept r (a ∷ starts) es = or_closed_kept r _ (with_there (type_at r.store a) _ (λ t _. with_there (nothing_in t.results) _ (λ u _. called_all r (Opening starts ∷ es) [] a)))
 
 phase_kept : (r : Run) (p : Phase) → ((b : _) → p ≡ Fresh b → ⊥) → Kept r (made (in_phase r p))
 phase_kept r (Fresh b) h = absurd (h b refl)
-phase_kept r (Pending view) h = after_kept r IllTyped nothing
+phase_kept r (Pending view) h = after_kept r IllTyped ill_typed
 phase_kept r Opened h = next_kept r r.moves
 phase_kept r Closed h = closed_kept r r.moves
 
-transition_kept : (r : Run) (es : List Entry) → es ≡ r.entries → ((b : _) → r.phase ≡ Fresh b → ⊥) → Kept r (made (transition_at r es))
-transition_kept r [] e h = phase_kept r r.phase h
-transition_kept r (Running f ∷ es) e h = after_kept r _ (subst (λ fs. Leaves r.store (step r.store fs)) e (step_leaves r.store f es))
-transition_kept r (Mark ∷ es) e h = after_kept r IllTyped nothing
-transition_kept r (Opening starts ∷ es) e h = open_kept r starts es
-transition_kept r (Waiting ts ∷ es) e h = next_kept r r.moves
-transition_kept r (Ended vs ∷ es) e h = after_kept r _ (give_leaves r.store vs es)
-transition_kept r (Growing g ∷ es) e h = next_kept r r.moves
+transition_kept : StepsWriteWhatTheyTouch → (r : Run) (es : List Entry) → es ≡ r.entries → ((b : _) → r.phase ≡ Fresh b → ⊥) → Kept r (made (transition_at r es))
+transition_kept writes r [] e h = phase_kept r r.phase h
+transition_kept writes r (Running f ∷ es) e h = after_kept r _ (subst (λ fs. Leaves r.store (step r.store fs)) e (step_leaves writes r.store f es))
+transition_kept writes r (Mark ∷ es) e h = after_kept r IllTyped ill_typed
+transition_kept writes r (Opening starts ∷ es) e h = open_kept r starts es
+transition_kept writes r (Waiting ts ∷ es) e h = next_kept r r.moves
+transition_kept writes r (Ended vs ∷ es) e h = after_kept r _ (give_leaves r.store vs es)
+transition_kept writes r (Growing g ∷ es) e h = next_kept r r.moves
 
-pub tick_extends : (r : Run) → ((b : _) → r.phase ≡ Fresh b → ⊥) → Kept r (tick r)
-tick_extends r h = transition_kept r r.entries refl h
+pub tick_extends : StepsWriteWhatTheyTouch → (r : Run) → ((b : _) → r.phase ≡ Fresh b → ⊥) → Kept r (tick r)
+tick_extends writes r h = transition_kept writes r r.entries refl h

@@ -8,20 +8,20 @@ use Rattle.wasm_tree.specs.declared.module.Import.{Import}
 use Rattle.wasm_tree.specs.declared.module.ImportDesc.{ImportDesc}
 use Rattle.wasm_tree.specs.declared.module.ImportDesc.TheVariants as im
 use Rattle.wasm_tree.specs.declared.module.Module.{Module}
-use Rattle.wasm_meaning.specs.Outcomes.{Outcome, Gives, Traps, IllTyped, at}
 use Rattle.wasm_meaning.specs.State.{Inst, Table, Memory, Global, Store}
 use Rattle.wasm_meaning.specs.Control.{type_at}
 use Rattle.wasm_meaning.specs.Linking.{Part, Site, module_at, import_at, sites}
 use Rattle.wasm_meaning.specs.Environment.{Environment, Thing, FuncAt, TableAt, MemoryAt, GlobalAt, owned_of, all_of}
-use Rattle.wasm_meaning.specs.World.{given, defined_count, base, imported_thing, all_there, numbers, insts_from, is_match, is_matched, meets, meets_most, defined_before}
+use Rattle.wasm_meaning.specs.World.{defined_count, base, imported_thing, all_there, numbers, insts_from, is_match, is_matched, meets, meets_most, defined_before}
 use Rattle.wasm_meaning.specs.InTurn.{next_inst, all_match, thing_for, JoinsEarlier}
 use Rattle.world_simulation.specs.Owned.{OwnEntitiesCorrespond}
 use Rattle.worlds_in_turn.proofs.Extends.{TableExtends, MemoryExtends, GlobalExtends}
-use Rattle.worlds_in_turn.proofs.Things.{inst_is, space_is, each_from, gathered, place_at, at_place}
+use Rattle.worlds_in_turn.proofs.Things.{space_is, each_from, gathered}
 use Rattle.worlds_in_turn.proofs.Joined.{ExportsThere, made_upto, thing_same, inst_of_part}
 use Rattle.worlds_in_turn.proofs.Low.{thing_low}
 use Rattle.base_lists.proofs.Options.{and_then_is}
 use Rattle.std.proofs.lemmas.Option.{same_Some}
+use Rattle.world_simulation.proofs.Instancing.{inst_is}
 
 -- as many as the environment and the first parts have
 pub record Sized (env : Environment) (parts : List Part) (p : ℕ) (t : Store) : Type 0 where
@@ -34,10 +34,10 @@ pub record Sized (env : Environment) (parts : List Part) (p : ℕ) (t : Store) :
 
 -- what it holds extends what was allocated
 pub record Holds (env : Environment) (parts : List Part) (p : ℕ) (s t : Store) : Type 0 where
-  pub funcs : (a : ℕ) → a < base env parts Functions p → at t.funcs a ≡ at s.funcs a
-  pub tables : (a : ℕ) (x : Table) → a < base env parts Tables p → at s.tables a ≡ Gives x → (y : Table) × (at t.tables a ≡ Gives y) × TableExtends x y
-  pub mems : (a : ℕ) (x : Memory) → a < base env parts Memories p → at s.mems a ≡ Gives x → (y : Memory) × (at t.mems a ≡ Gives y) × MemoryExtends x y
-  pub globals : (a : ℕ) (x : Global) → a < base env parts Globals p → at s.globals a ≡ Gives x → (y : Global) × (at t.globals a ≡ Gives y) × GlobalExtends x y
+  pub funcs : (a : ℕ) → a < base env parts Functions p → slice_get t.funcs a ≡ slice_get s.funcs a
+  pub tables : (a : ℕ) (x : Table) → a < base env parts Tables p → slice_get s.tables a ≡ Some x → (y : Table) × (slice_get t.tables a ≡ Some y) × TableExtends x y
+  pub mems : (a : ℕ) (x : Memory) → a < base env parts Memories p → slice_get s.mems a ≡ Some x → (y : Memory) × (slice_get t.mems a ≡ Some y) × MemoryExtends x y
+  pub globals : (a : ℕ) (x : Global) → a < base env parts Globals p → slice_get s.globals a ≡ Some x → (y : Global) × (slice_get t.globals a ≡ Some y) × GlobalExtends x y
 
 inst_eq : (i j : Inst) → i.types ≡ j.types → i.funcs ≡ j.funcs → i.tables ≡ j.tables → i.mems ≡ j.mems → i.globals ≡ j.globals → i.elems ≡ j.elems → i.datas ≡ j.datas → i ≡ j
 inst_eq i j a b c d e f g = rw (← a, ← b, ← c, ← d, ← e, ← f, ← g) refl
@@ -54,31 +54,31 @@ meets_more n m most l le h = go (nat_le l.min n) refl h
 module _ (env : Environment) (parts : List Part) (p : ℕ) (s t : Store) (holds : Holds env parts p s t) (m : Module) where
   match_stays : (d : ImportDesc) (x : Thing) → ((a : ℕ) → x ≡ FuncAt a → a < base env parts Functions p) → ((a : ℕ) → x ≡ TableAt a → a < base env parts Tables p) → ((a : ℕ) → x ≡ MemoryAt a → a < base env parts Memories p) → ((a : ℕ) → x ≡ GlobalAt a → a < base env parts Globals p) →
       unwrap_or (is_match s m d x) false ≡ true → unwrap_or (is_match t m d x) false ≡ true
-  match_stays (im.Func ty) (FuncAt a) f ta me g h = ap (λ o. unwrap_or (option_and_then (λ t. option_and_then (λ u. Some (Rattle.wasm_meaning.specs.Values.same_func_type t u)) (given (Rattle.wasm_meaning.specs.Outcomes.bind o (λ f. Gives (Rattle.wasm_meaning.specs.Control.type_of_func f))))) (Rattle.wasm_meaning.specs.World.import_type m ty)) false) (holds.funcs a (f a refl)) ∙ h
+  match_stays (im.Func ty) (FuncAt a) f ta me g h = ap (λ o. unwrap_or (option_and_then (λ t. option_and_then (λ u. Some (Rattle.wasm_meaning.specs.Values.same_func_type t u)) (option_and_then (λ f. Some (Rattle.wasm_meaning.specs.Control.type_of_func f)) o)) (Rattle.wasm_meaning.specs.World.import_type m ty)) false) (holds.funcs a (f a refl)) ∙ h
   match_stays (im.Table ty) (TableAt a) f ta me g h = go (slice_get s.tables a) refl h
     where
       go : (o : Option Table) → slice_get s.tables a ≡ o → unwrap_or (option_and_then (λ u. Some (Rattle.wasm_meaning.specs.Values.same_ref ty.ty u.ty && meets (length u.slots) u.most ty.limits)) o) false ≡ true → unwrap_or (is_match t m (im.Table ty) (TableAt a)) false ≡ true
       go None e h = cc
       go (Some u) e h =
-          let y = holds.tables a u (ta a refl) (place_at s.tables a u e) in
+          let y = holds.tables a u (ta a refl) (e) in
           let c = and_parts _ _ h in
           let ty_same : Rattle.wasm_meaning.specs.Values.same_ref ty.ty y.0.ty ≡ true = ap (Rattle.wasm_meaning.specs.Values.same_ref ty.ty) y.2.type ∙ c.0 in
           let size : meets (length y.0.slots) y.0.most ty.limits ≡ true = meets_more (length u.slots) (length y.0.slots) y.0.most ty.limits y.2.size (ap (λ q. meets (length u.slots) q ty.limits) y.2.most ∙ c.1) in
-          ap (λ o. unwrap_or (option_and_then (λ u. Some (Rattle.wasm_meaning.specs.Values.same_ref ty.ty u.ty && meets (length u.slots) u.most ty.limits)) o) false) (at_place t.tables a y.0 y.1) ∙ ap₂ (λ b c. b && c) ty_same size
+          ap (λ o. unwrap_or (option_and_then (λ u. Some (Rattle.wasm_meaning.specs.Values.same_ref ty.ty u.ty && meets (length u.slots) u.most ty.limits)) o) false) (y.1) ∙ ap₂ (λ b c. b && c) ty_same size
   match_stays (im.Memory l) (MemoryAt a) f ta me g h = go (slice_get s.mems a) refl h
     where
       go : (o : Option Memory) → slice_get s.mems a ≡ o → unwrap_or (option_and_then (λ u. Some (meets u.pages u.most l)) o) false ≡ true → unwrap_or (is_match t m (im.Memory l) (MemoryAt a)) false ≡ true
       go None e h = cc
       go (Some u) e h =
-          let y = holds.mems a u (me a refl) (place_at s.mems a u e) in
-          ap (λ o. unwrap_or (option_and_then (λ u. Some (meets u.pages u.most l)) o) false) (at_place t.mems a y.0 y.1) ∙ meets_more u.pages y.0.pages y.0.most l y.2.size (ap (λ q. meets u.pages q l) y.2.most ∙ h)
+          let y = holds.mems a u (me a refl) (e) in
+          ap (λ o. unwrap_or (option_and_then (λ u. Some (meets u.pages u.most l)) o) false) (y.1) ∙ meets_more u.pages y.0.pages y.0.most l y.2.size (ap (λ q. meets u.pages q l) y.2.most ∙ h)
   match_stays (im.Global ty) (GlobalAt a) f ta me g h = go (slice_get s.globals a) refl h
     where
       go : (o : Option Global) → slice_get s.globals a ≡ o → unwrap_or (option_and_then (λ u. Some (Rattle.wasm_meaning.specs.Values.same_type ty.ty u.ty.ty && Rattle.wasm_meaning.specs.World.same_bool ty.mutable u.ty.mutable)) o) false ≡ true → unwrap_or (is_match t m (im.Global ty) (GlobalAt a)) false ≡ true
       go None e h = cc
       go (Some u) e h =
-          let y = holds.globals a u (g a refl) (place_at s.globals a u e) in
-          ap (λ o. unwrap_or (option_and_then (λ u. Some (Rattle.wasm_meaning.specs.Values.same_type ty.ty u.ty.ty && Rattle.wasm_meaning.specs.World.same_bool ty.mutable u.ty.mutable)) o) false) (at_place t.globals a y.0 y.1) ∙ ap (λ z. Rattle.wasm_meaning.specs.Values.same_type ty.ty z.ty && Rattle.wasm_meaning.specs.World.same_bool ty.mutable z.mutable) y.2.type ∙ h
+          let y = holds.globals a u (g a refl) (e) in
+          ap (λ o. unwrap_or (option_and_then (λ u. Some (Rattle.wasm_meaning.specs.Values.same_type ty.ty u.ty.ty && Rattle.wasm_meaning.specs.World.same_bool ty.mutable u.ty.mutable)) o) false) (y.1) ∙ ap (λ z. Rattle.wasm_meaning.specs.Values.same_type ty.ty z.ty && Rattle.wasm_meaning.specs.World.same_bool ty.mutable z.mutable) y.2.type ∙ h
   match_stays (im.Func ty) (TableAt a) f ta me g h = cc
   match_stays (im.Func ty) (MemoryAt a) f ta me g h = cc
   match_stays (im.Func ty) (GlobalAt a) f ta me g h = cc

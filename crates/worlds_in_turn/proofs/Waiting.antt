@@ -1,7 +1,6 @@
 -- Between starts: a part's turn comes, and the stores stay beside one another.
-use Rattle.std.proofs.Common.{◌≡◌, ◌∙◌, refl, sym, ap, subst, ℕ, zero, suc, ◌<◌, ◌≤◌, List, [], ◌∷◌, length, Some, arith, drop, option_and_then, slice_get}
+use Rattle.std.proofs.Common.{◌≡◌, ◌∙◌, refl, sym, ap, subst, ℕ, zero, suc, ◌<◌, ◌≤◌, List, [], ◌∷◌, length, Some, arith, drop, option_and_then, slice_get, None, Option}
 use Rattle.wasm_tree.specs.declared.space.Space.TheVariants.{Functions, Tables, Memories, Globals, DataSegments, ElementSegments}
-use Rattle.wasm_meaning.specs.Outcomes.{Outcome, Gives, Traps, IllTyped, at}
 use Rattle.wasm_meaning.specs.State.{RefVal, FuncRef, Val, Ref, Inst, Func, Table, Memory, Global, Store}
 use Rattle.wasm_meaning.specs.Linking.{Part, module_at}
 use Rattle.wasm_meaning.specs.Environment.{Environment, Thing}
@@ -14,15 +13,17 @@ use Rattle.index_remap.specs.RelatedRuns.{ThingRel, a_func, a_table, a_memory, a
 use Rattle.index_remap.specs.Laws.{CodeIsRelatedToItself, RelatedTicksAgree, OthersStay}
 use Rattle.index_remap.proofs.Rel.{length_rel}
 use Rattle.worlds_in_turn.proofs.Extends.{TableExtends, MemoryExtends, GlobalExtends, Extends}
-use Rattle.worlds_in_turn.proofs.Things.{inst_is, place_at}
 use Rattle.worlds_in_turn.proofs.Joined.{inst_of_part}
-use Rattle.worlds_in_turn.proofs.Reached.{reaching, reached_at, reached_is, elems_next, datas_next}
+use Rattle.worlds_in_turn.proofs.Reached.{reaching, reached_at, reached_is}
 use Rattle.worlds_in_turn.proofs.Low.{inst_low, numbers_back}
 use Rattle.worlds_in_turn.proofs.Turn.{Holds}
 use Rattle.worlds_in_turn.proofs.Closed.{val_more, Closed, Sound, Reaches, added_closed, added_sound}
 use Rattle.worlds_in_turn.proofs.Beside.{Beside, beside_next, more}
 use Rattle.worlds_in_turn.proofs.Making.{Abreast}
 use Rattle.worlds_in_turn.proofs.Given.{IsGiven}
+use Rattle.wasm_meaning.specs.Touched.{StepsWriteWhatTheyTouch}
+use Rattle.world_simulation.proofs.Instancing.{inst_is}
+use Rattle.wasm_meaning.proofs.Counts.{defined_next}
 
 -- ---- what is related by itself is the same ----
 
@@ -47,29 +48,26 @@ holds_of env parts p allocated t s h e = record {
   globals = λ a x l at_x. let y = e.globals a x at_x in global a x y.0 y.1 y.2 (h.related.globals (reached_at env parts p Globals a l));
 }
   where
-    table : (a : ℕ) (x y : Table) → at s.tables a ≡ Gives y → TableExtends x y → BothRel (TableRel (reaching env parts p)) (at t.tables a) (at s.tables a) → (z : Table) × (at t.tables a ≡ Gives z) × TableExtends x z
-    table a x y at_y k r = go (at t.tables a) refl (subst (λ o. BothRel (TableRel (reaching env parts p)) (at t.tables a) o) at_y r)
+    table : (a : ℕ) (x y : Table) → slice_get s.tables a ≡ Some y → TableExtends x y → BothRel (TableRel (reaching env parts p)) (slice_get t.tables a) (slice_get s.tables a) → (z : Table) × (slice_get t.tables a ≡ Some z) × TableExtends x z
+    table a x y at_y k r = go (slice_get t.tables a) refl (subst (λ o. BothRel (TableRel (reaching env parts p)) (slice_get t.tables a) o) at_y r)
       where
-        go : (o : Outcome Table) → at t.tables a ≡ o → BothRel (TableRel (reaching env parts p)) o (Gives y) → (z : Table) × (at t.tables a ≡ Gives z) × TableExtends x z
-        go Traps e r = elim r [ ]
-        go IllTyped e r = elim r [ ]
-        go (Gives z) e (both q) = let l = length_rel q.slots in let m = k.size in (z, e, record { type = q.type ∙ k.type; most = q.most ∙ k.most; size = omega (arith, l, m) })
+        go : (o : Option Table) → slice_get t.tables a ≡ o → BothRel (TableRel (reaching env parts p)) o (Some y) → (z : Table) × (slice_get t.tables a ≡ Some z) × TableExtends x z
+        go None e r = elim r [ ]
+        go (Some z) e (both q) = let l = length_rel q.slots in let m = k.size in (z, e, record { type = q.type ∙ k.type; most = q.most ∙ k.most; size = omega (arith, l, m) })
 
-    memory : (a : ℕ) (x y : Memory) → at s.mems a ≡ Gives y → MemoryExtends x y → BothRel (λ (m n : Memory). m ≡ n) (at t.mems a) (at s.mems a) → (z : Memory) × (at t.mems a ≡ Gives z) × MemoryExtends x z
-    memory a x y at_y k r = go (at t.mems a) refl (subst (λ o. BothRel (λ (m n : Memory). m ≡ n) (at t.mems a) o) at_y r)
+    memory : (a : ℕ) (x y : Memory) → slice_get s.mems a ≡ Some y → MemoryExtends x y → BothRel (λ (m n : Memory). m ≡ n) (slice_get t.mems a) (slice_get s.mems a) → (z : Memory) × (slice_get t.mems a ≡ Some z) × MemoryExtends x z
+    memory a x y at_y k r = go (slice_get t.mems a) refl (subst (λ o. BothRel (λ (m n : Memory). m ≡ n) (slice_get t.mems a) o) at_y r)
       where
-        go : (o : Outcome Memory) → at t.mems a ≡ o → BothRel (λ (m n : Memory). m ≡ n) o (Gives y) → (z : Memory) × (at t.mems a ≡ Gives z) × MemoryExtends x z
-        go Traps e r = elim r [ ]
-        go IllTyped e r = elim r [ ]
-        go (Gives z) e (both q) = (z, e, subst (MemoryExtends x) (sym q) k)
+        go : (o : Option Memory) → slice_get t.mems a ≡ o → BothRel (λ (m n : Memory). m ≡ n) o (Some y) → (z : Memory) × (slice_get t.mems a ≡ Some z) × MemoryExtends x z
+        go None e r = elim r [ ]
+        go (Some z) e (both q) = (z, e, subst (MemoryExtends x) (sym q) k)
 
-    global : (a : ℕ) (x y : Global) → at s.globals a ≡ Gives y → GlobalExtends x y → BothRel (GlobalRel (reaching env parts p)) (at t.globals a) (at s.globals a) → (z : Global) × (at t.globals a ≡ Gives z) × GlobalExtends x z
-    global a x y at_y k r = go (at t.globals a) refl (subst (λ o. BothRel (GlobalRel (reaching env parts p)) (at t.globals a) o) at_y r)
+    global : (a : ℕ) (x y : Global) → slice_get s.globals a ≡ Some y → GlobalExtends x y → BothRel (GlobalRel (reaching env parts p)) (slice_get t.globals a) (slice_get s.globals a) → (z : Global) × (slice_get t.globals a ≡ Some z) × GlobalExtends x z
+    global a x y at_y k r = go (slice_get t.globals a) refl (subst (λ o. BothRel (GlobalRel (reaching env parts p)) (slice_get t.globals a) o) at_y r)
       where
-        go : (o : Outcome Global) → at t.globals a ≡ o → BothRel (GlobalRel (reaching env parts p)) o (Gives y) → (z : Global) × (at t.globals a ≡ Gives z) × GlobalExtends x z
-        go Traps e r = elim r [ ]
-        go IllTyped e r = elim r [ ]
-        go (Gives z) e (both q) = (z, e, record { type = q.type ∙ k.type; fixed = λ f. val_same env parts p q.value ∙ k.fixed f })
+        go : (o : Option Global) → slice_get t.globals a ≡ o → BothRel (GlobalRel (reaching env parts p)) o (Some y) → (z : Global) × (slice_get t.globals a ≡ Some z) × GlobalExtends x z
+        go None e r = elim r [ ]
+        go (Some z) e (both q) = (z, e, record { type = q.type ∙ k.type; fixed = λ f. val_same env parts p q.value ∙ k.fixed f })
 
 module _ (env : Environment) (w : World) (insts : List Inst) (allocated : Store) (g : IsGiven env w insts allocated) (itself : CodeIsRelatedToItself) (k : ℕ) (part : Part) (i : Inst) (at_part : slice_get w.parts k ≡ Some part) (at_inst : slice_get insts k ≡ Some i) where
   is_part : module_at w.parts k ≡ Some part.«module»
@@ -78,8 +76,8 @@ module _ (env : Environment) (w : World) (insts : List Inst) (allocated : Store)
   pub reaches : Reaches env w.parts (suc k) i
   reaches =
       let is = inst_is env w.parts k part.«module» i (inst_of_part env w.parts insts g.are g.size g.earlier k part.«module» i is_part at_inst) in
-      let en = elems_next w.parts k part.«module» is_part in
-      let dn = datas_next w.parts k part.«module» is_part in
+      let en = defined_next ElementSegments w.parts k part.«module» is_part in
+      let dn = defined_next DataSegments w.parts k part.«module» is_part in
       record {
         spaces = λ kind n a h. inst_low env w.parts insts g.are g.size g.earlier g.own k part.«module» i is_part at_inst kind n a h;
         elems = λ n a h. let r = numbers_back (defined_before ElementSegments w.parts k) (length part.«module».elems) n a (ap (λ l. slice_get l n) (sym is.elems) ∙ h) in omega (arith, r.0, r.1, en);
@@ -105,12 +103,11 @@ module _ (env : Environment) (w : World) (insts : List Inst) (allocated : Store)
   values_self t s h a x at_x =
       let l = place_low t.globals a x at_x in
       let z = h.sized.globals in
-      go (at s.globals a) (subst (λ o. BothRel (GlobalRel (reaching env w.parts k)) o (at s.globals a)) (place_at t.globals a x at_x) (h.related.globals (reached_at env w.parts k Globals a (omega (arith, l, z)))))
+      go (slice_get s.globals a) (subst (λ o. BothRel (GlobalRel (reaching env w.parts k)) o (slice_get s.globals a)) (at_x) (h.related.globals (reached_at env w.parts k Globals a (omega (arith, l, z)))))
     where
-      go : (o : Outcome Global) → BothRel (GlobalRel (reaching env w.parts k)) (Gives x) o → ValRel (reaching env w.parts (suc k)) x.value x.value
-      go Traps r = elim r [ ]
-      go IllTyped r = elim r [ ]
-      go (Gives y) (both q) = more_values (val_self env w.parts k q.value)
+      go : (o : Option Global) → BothRel (GlobalRel (reaching env w.parts k)) (Some x) o → ValRel (reaching env w.parts (suc k)) x.value x.value
+      go None r = elim r [ ]
+      go (Some y) (both q) = more_values (val_self env w.parts k q.value)
 
   pub adds_closed : (t : Store) → Holds env w.parts k allocated t → ValuesSelf t → Closed (reaching env w.parts (suc k)) (g.laid.adds k)
   adds_closed t holds values = added_closed itself env w.parts (suc k) part.«module» i t.globals reaches values (g.laid.adds k) (g.store_is k part.«module» i t is_part at_inst holds)
@@ -129,9 +126,9 @@ module _ (env : Environment) (w : World) (insts : List Inst) (allocated : Store)
       thing_more (a_memory {a = a} {b = b} h) = a_memory (more itself env w.parts insts allocated g.laid k part.«module» is_part within Memories a b h)
       thing_more (a_global {a = a} {b = b} h) = a_global (more itself env w.parts insts allocated g.laid k part.«module» is_part within Globals a b h)
 
-  module _ (below : BelowIsNotSeen) (ticks : RelatedTicksAgree) (others : OthersStay) where
+  module _ (below : BelowIsNotSeen) (writes : StepsWriteWhatTheyTouch) (ticks : RelatedTicksAgree) (others : OthersStay) where
     -- the two runs are abreast again, with the part
-    pub abreast_next : (r : Run) (q : InTurn) → Abreast below ticks others env w.parts allocated k [] [] r q.run → Abreast below ticks others env w.parts allocated (suc k) [] [] r (goes_on q part (drop (suc k) w.parts) i (joined_stores q.run.store (g.laid.adds k))).run
+    pub abreast_next : (r : Run) (q : InTurn) → Abreast below writes ticks others env w.parts allocated k [] [] r q.run → Abreast below writes ticks others env w.parts allocated (suc k) [] [] r (goes_on q part (drop (suc k) w.parts) i (joined_stores q.run.store (g.laid.adds k))).run
     abreast_next r q h =
         let t = q.run.store in
         let holds = holds_of env w.parts k allocated t r.store h.beside h.extends in

@@ -4,7 +4,7 @@
 ghost use Rattle.worlds_in_turn.specs.Laws.{TurnsAreNotSeen};
 
 use index_remap::{related_runs_show_the_same, steps_agree};
-use wasm_meaning::what_stands_below_is_not_seen;
+use wasm_meaning::{steps_write_what_they_touch, what_stands_below_is_not_seen};
 use wasm_valid::valid_where_items_hold;
 use world_simulation::own_entities_correspond;
 
@@ -16,6 +16,7 @@ pub fn turns_are_not_seen()
 {
     valid_where_items_hold();
     what_stands_below_is_not_seen();
+    steps_write_what_they_touch();
     steps_agree();
     related_runs_show_the_same();
     own_entities_correspond();

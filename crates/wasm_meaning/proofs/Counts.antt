@@ -1,0 +1,21 @@
+-- Parts by their number, and how much the parts before one define.
+use Rattle.std.proofs.Common.{◌≡◌, ap, refl, ℕ, zero, suc, ◌+◌, ◌<◌, List, [], ◌∷◌, length, Some, arith}
+use Rattle.std.proofs.lemmas.Option.{same_Some}
+use Rattle.wasm_tree.specs.declared.space.Space.{Space}
+use Rattle.wasm_tree.specs.declared.module.Module.{Module}
+use Rattle.wasm_meaning.specs.Linking.{Part, module_at}
+use Rattle.wasm_meaning.specs.World.{defined_count, defined_before}
+
+pub module_there : (parts : List Part) (p : ℕ) (m : Module) → module_at parts p ≡ Some m → p < length parts
+module_there [] p m e = cc
+module_there (part ∷ parts) zero m e = omega arith
+module_there (part ∷ parts) (suc p) m e = omega (arith, module_there parts p m e)
+
+pub defined_none : (k : Space) (parts : List Part) → defined_before k parts 0 ≡ 0
+defined_none k [] = refl
+defined_none k (part ∷ parts) = refl
+
+pub defined_next : (k : Space) (parts : List Part) (p : ℕ) (m : Module) → module_at parts p ≡ Some m → defined_before k parts (suc p) ≡ defined_before k parts p + defined_count k m
+defined_next k [] p m e = cc
+defined_next k (part ∷ parts) zero m e = let same = ap (defined_count k) (same_Some _ _ e) in let z = defined_none k parts in omega (arith, same, z)
+defined_next k (part ∷ parts) (suc p) m e = let r = defined_next k parts p m e in omega (arith, r)
