@@ -3,7 +3,6 @@ pub mod Gathering
 pub mod Performing
 pub mod Running
 pub mod Loading
-pub mod FaultParts
 pub mod MergeDecided
 pub mod Deciding
 pub mod Encoding
