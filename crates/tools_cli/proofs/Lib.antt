@@ -9,8 +9,7 @@ pub mod Encoding
 pub mod Determined
 pub mod FirstItems
 pub mod Existing
-pub mod TypingDecided
-pub mod ValidDecided
+pub mod Accepted
 pub mod Kept
 pub mod Lines
 pub mod Apart

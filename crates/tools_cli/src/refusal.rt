@@ -1,5 +1,5 @@
 // What is wrong with the input, and the text of it.
-ghost use Rattle.std.specs.Prelude.{◌≡◌, ◌++◌, Some, IfOk, flat_map, length, slice_get, codes, ◌<◌};
+ghost use Rattle.std.specs.Prelude.{◌≡◌, ◌++◌, Some, IfOk, decimal, flat_map, length, slice_get, codes, ◌<◌};
 ghost use Rattle.tools_cli.specs.Texts.{which_text, fault_text, kind_text, invalid_text, link_text, join_text};
 ghost use Rattle.tools_cli.specs.Stop.{refusal_text};
 ghost use Rattle.tools_cli.specs.Sources.{files_of};
@@ -218,52 +218,36 @@ fn invalid_kind<'a>(kind: ItemKind) -> &'a str
     }
 }
 
+// What is said of a file, at a number.
+fn at<'a>(file: &'a str, says: &'a str, number: &'a Digits) -> [&'a str; 4]
+    ensures { flat_map (λ p. p.now) result ≡ file.now ++ (says.now ++ decimal number.now.number) }
+{
+    [file, says, number.as_str(), ""]
+}
+
+// What is said of an import of a file.
+fn at_import<'a>(file: &'a str, import: &'a Digits, says: &'a str) -> [&'a str; 4]
+    ensures { flat_map (λ p. p.now) result ≡ file.now ++ (codes ": import " ++ (decimal import.now.number ++ says.now)) }
+{
+    [file, ": import ", import.as_str(), says]
+}
+
 /// The text of a refusal, in pieces.
 pub(crate) fn refusal_pieces<'a>(refusal: &'a Refusal<'a>) -> [&'a str; 4]
     ensures { flat_map (λ p. p.now) result ≡ refusal_text refusal.now }
 {
     match refusal {
         Refusal::NotModule { file } => [file, ": not a WebAssembly module", "", ""],
-        Refusal::Malformed { file, section } => [
-            file,
-            ": malformed section ",
-            section.as_str(),
-            "",
-        ],
-        Refusal::MalformedBody { file, func } => [file, ": malformed function ", func.as_str(), ""],
-        Refusal::Unsupported { file, section } => [
-            file,
-            ": unsupported in section ",
-            section.as_str(),
-            "",
-        ],
-        Refusal::UnsupportedBody { file, func } => [
-            file,
-            ": unsupported in function ",
-            func.as_str(),
-            "",
-        ],
+        Refusal::Malformed { file, section } => at(file, ": malformed section ", section),
+        Refusal::MalformedBody { file, func } => at(file, ": malformed function ", func),
+        Refusal::Unsupported { file, section } => at(file, ": unsupported in section ", section),
+        Refusal::UnsupportedBody { file, func } => at(file, ": unsupported in function ", func),
         Refusal::Limit { file, which } => [file, ": limit on ", which_name(*which), ""],
-        Refusal::Invalid { file, kind, index } => [file, invalid_kind(*kind), index.as_str(), ""],
+        Refusal::Invalid { file, kind, index } => at(file, invalid_kind(*kind), index),
         Refusal::TooManyParts => ["limit on parts", "", "", ""],
-        Refusal::ImportMismatch { file, import } => [
-            file,
-            ": import ",
-            import.as_str(),
-            " does not match",
-        ],
-        Refusal::ImportCycle { file, import } => [
-            file,
-            ": import ",
-            import.as_str(),
-            " has no end",
-        ],
-        Refusal::LimitsClash { file, import } => [
-            file,
-            ": import ",
-            import.as_str(),
-            " has limits that clash",
-        ],
+        Refusal::ImportMismatch { file, import } => at_import(file, import, " does not match"),
+        Refusal::ImportCycle { file, import } => at_import(file, import, " has no end"),
+        Refusal::LimitsClash { file, import } => at_import(file, import, " has limits that clash"),
         Refusal::GlobalCycle { file, global } => [
             file,
             ": global ",
