@@ -147,7 +147,7 @@ suited_there ps s end i here h =
     subst (λ z. EndThere ps z end) k (found_there ps end x finds)
 
 -- where linking finds no fault
-pub end_there : (ps : List Part) (p n : ℕ) (m : Module) (i : Import) (end : linking.End) → link_fault ps ≡ None → module_at ps p ≡ Some m → slice_get m.imports n ≡ Some i → end_of ps (site p n) ≡ Some end → EndThere ps (space_of_import i.desc) end
+pub end_there : (ps : List Part) (p n : ℕ) (m : Module) (i : Import) (end : linking.End) → link_fault ps true ≡ None → module_at ps p ≡ Some m → slice_get m.imports n ≡ Some i → end_of ps (site p n) ≡ Some end → EndThere ps (space_of_import i.desc) end
 unfolding link_fault import_fault
 end_there ps p n m i end none at here ends =
     let s = site p n in
@@ -214,7 +214,7 @@ entry_from None e h = cc
 entry_from (Some end) e h = let same : end_entry end ≡ e = cc in (end, refl, same)
 
 -- the end of an import, as it is written down, is there
-pub entry_there : (ps : List Part) (p n : ℕ) (m : Module) (i : Import) (e : End) → link_fault ps ≡ None → module_at ps p ≡ Some m → slice_get m.imports n ≡ Some i → option_map end_entry (linked_end ps (site p n)) ≡ Some e → IsEnd ps (space_of_import i.desc) e
+pub entry_there : (ps : List Part) (p n : ℕ) (m : Module) (i : Import) (e : End) → link_fault ps true ≡ None → module_at ps p ≡ Some m → slice_get m.imports n ≡ Some i → option_map end_entry (linked_end ps (site p n)) ≡ Some e → IsEnd ps (space_of_import i.desc) e
 entry_there ps p n m i e none at here ends =
     let (linked, is, entry) = entry_from (linked_end ps (site p n)) e ends in
     let (end, first, last) = and_then_is (end_of ps (site p n)) (λ end. Some (gathered ps end)) linked is in

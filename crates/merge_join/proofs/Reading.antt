@@ -182,7 +182,7 @@ becomes_new ps p (const.Global x) m not at = absurd (not x refl)
 
 -- what is read has an entry in the map of its part
 abbrev pub ReadsHaveEntries : Type 0
-ReadsHaveEntries = (ps : List Part) (p : ℕ) (m : Module) (e : ConstExpr) (ty : ValType) (r : linking.Read) → EachPart IsValid ps → link_fault ps ≡ None → module_at ps p ≡ Some m → const_type m e ≡ Some ty → read_of ps p e ≡ Some r → HasEntry ps r
+ReadsHaveEntries = (ps : List Part) (p : ℕ) (m : Module) (e : ConstExpr) (ty : ValType) (r : linking.Read) → EachPart IsValid ps → link_fault ps true ≡ None → module_at ps p ≡ Some m → const_type m e ≡ Some ty → read_of ps p e ≡ Some r → HasEntry ps r
 
 module _ (j : Joining) (joined : AreJoined j) (p : ℕ) (reads : List (Option Read)) (are : AreReads (named_modules j.parts.now) p reads) (e : ConstExpr) (typed : HasType (named_modules j.parts.now) p e) (x : ℕ) (is : e ≡ const.Global x) where
   abbrev parts : List Part

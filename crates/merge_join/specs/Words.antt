@@ -1,5 +1,5 @@
 -- What the calls of this crate say of parts, links and index spaces.
-use Rattle.std.specs.Prelude.{◌≡◌, ℕ, ◌+◌, ◌-◌, ◌<◌, List, ◌∷◌, [], length, Some, None, unwrap_or}
+use Rattle.std.specs.Prelude.{◌≡◌, ℕ, ◌+◌, ◌-◌, ◌<◌, List, ◌∷◌, [], length, Some, None, true, unwrap_or}
 use Rattle.wasm_tree.specs.declared.space.Space.{Space}
 use Rattle.wasm_tree.specs.declared.space.Space.TheVariants.{Functions}
 use Rattle.wasm_tree.specs.declared.module.Module.{Module}
@@ -47,7 +47,7 @@ PartsHold ps = (p : ℕ) (m : Module) → module_at ps p ≡ Some m → IsValid 
 -- parts that are linked
 pub record AreLinked (parts : List Part) (links : Links) : Type 0 where
   pub links_are : AreLinks (named_modules parts) links
-  pub no_fault : link_fault (named_modules parts) ≡ None
+  pub no_fault : link_fault (named_modules parts) true ≡ None
   pub few : FewInAll (named_modules parts)
   pub hold : PartsHold (named_modules parts)
 

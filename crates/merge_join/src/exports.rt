@@ -17,11 +17,11 @@ use crate::linked::module_of;
 use export_names::{Mode, NameFault, choose_names};
 use index_remap::{Remap, renumber_export_desc};
 use merge_terms::{JoinFault, Part};
-use std::alloc::{AllocError, Global};
+use std::alloc::Global;
 use wasm_bytes::{Items, Name, NoMemory};
 use wasm_tree::Export;
 
-fn add_names<'a>(names: &mut Vec<&'a str>, exports: &'a [Export]) -> Result<(), AllocError>
+fn add_names<'a>(names: &mut Vec<&'a str>, exports: &'a [Export]) -> Result<(), NoMemory>
     ensures { OnOk result (texts names.new.items ≡ texts names.old.items ++ map (λ e. e.name) exports.now) }
 {
     for export in exports {
@@ -31,7 +31,7 @@ fn add_names<'a>(names: &mut Vec<&'a str>, exports: &'a [Export]) -> Result<(), 
 }
 
 // The names of all exports, by part, then in order.
-fn all_names<'a>(alloc: Global, parts: &'a [Part]) -> Result<Vec<&'a str>, AllocError>
+fn all_names<'a>(alloc: Global, parts: &'a [Part]) -> Result<Vec<&'a str>, NoMemory>
     ensures { IfOk result (λ names. texts names.items ≡ export_names (named_modules parts.now)) }
 {
     let mut names = Vec::new(alloc);
@@ -63,10 +63,7 @@ pub(crate) fn new_names(
     ensures none { IsOk result → repeated_name (named_modules parts.now) mode ≡ None }
     ensures repeated { IfErr result (λ e. IsRepeatOf e (repeated_name (named_modules parts.now) mode)) }
 {
-    let names = match all_names(alloc, parts) {
-        Ok(names) => names,
-        Err(_) => return Err(JoinFault::NoMemory),
-    };
+    let names = all_names(alloc, parts)?;
     match choose_names(alloc, names.as_slice(), mode) {
         Ok(news) => Ok(news),
         Err(NameFault::Conflict { place }) => Err(conflict_at(alloc, names.as_slice(), place)),

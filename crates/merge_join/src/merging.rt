@@ -1,6 +1,6 @@
 // Joining parts.
 
-ghost use Rattle.std.specs.Prelude.{◌≡◌, ◌⊎◌, Ok, Err, None, IfOk, IfErr};
+ghost use Rattle.std.specs.Prelude.{◌≡◌, ◌⊎◌, true, Ok, Err, None, IfOk, IfErr};
 ghost use Rattle.merge_terms.specs.declared.faults.JoinFault.TheVariants.{NoMemory as OutOfMemory};
 ghost use Rattle.merge_terms.specs.Faults.{link_fault};
 ghost use Rattle.merge_terms.specs.Joined.{FewInAll, Joins};
@@ -41,7 +41,7 @@ pub fn join(
     mode: Mode,
 ) -> Result<Valid, JoinFault>
     requires links { AreLinks (named_modules parts) links.now }
-    requires linked { link_fault (named_modules parts) ≡ None }
+    requires linked { link_fault (named_modules parts) true ≡ None }
     requires few { FewInAll (named_modules parts) }
     ensures joined { IfOk result (λ valid. Joins (named_modules parts) mode (Ok valid)) }
     ensures same { IfOk result (λ valid. BehavesAs (named_modules parts) mode valid) }

@@ -3,7 +3,8 @@
 ghost use Rattle.std.specs.Prelude.{◌≡◌, ◌++◌, ◌∷◌, [], map, string_bytes, IfOk, OnOk};
 ghost use Rattle.merge_join.specs.Texts.{letter_of, text_of_type};
 
-use std::alloc::{AllocError, Global};
+use std::alloc::Global;
+use wasm_bytes::NoMemory;
 use wasm_tree::{FuncType, RefType, ValType};
 
 fn letter(ty: ValType) -> &'static str
@@ -18,7 +19,7 @@ fn letter(ty: ValType) -> &'static str
 }
 
 // Appends a letter for each type.
-fn push_letters(text: &mut String, types: &[ValType]) -> Result<(), AllocError>
+fn push_letters(text: &mut String, types: &[ValType]) -> Result<(), NoMemory>
     ensures { OnOk result (string_bytes text.new ≡ string_bytes text.old ++ map letter_of types.now) }
 {
     for ty in types {
@@ -29,7 +30,7 @@ fn push_letters(text: &mut String, types: &[ValType]) -> Result<(), AllocError>
 
 /// The text of a function type: no two have the same.
 #[tactic(auto, unfolding(crate::specs::Texts::text_of_type))]
-pub(crate) fn type_text(alloc: Global, ty: &FuncType) -> Result<String, AllocError>
+pub(crate) fn type_text(alloc: Global, ty: &FuncType) -> Result<String, NoMemory>
     ensures { IfOk result (λ text. string_bytes text ≡ text_of_type ty.now) }
 {
     let mut text = String::new(alloc);

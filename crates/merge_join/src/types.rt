@@ -32,7 +32,7 @@ impl Types {
     pub(crate) fn place(&self, alloc: Global, ty: &FuncType) -> Result<u32, NoMemory>
         ensures { IfOk result (λ place. place ≡ unwrap_or (first_place (same_func_type ty.now) self.now.list 0) 0) }
     {
-        let text = text_of(alloc, ty)?;
+        let text = type_text(alloc, ty)?;
         Ok(self.places.get(text.as_str()).copied().unwrap_or(0))
     }
 
@@ -41,15 +41,6 @@ impl Types {
         ensures { result ≡ self.list }
     {
         self.list
-    }
-}
-
-fn text_of(alloc: Global, ty: &FuncType) -> Result<String, NoMemory>
-    ensures { IfOk result (λ text. string_bytes text ≡ text_of_type ty.now) }
-{
-    match type_text(alloc, ty) {
-        Ok(text) => Ok(text),
-        Err(_) => Err(NoMemory),
     }
 }
 
@@ -65,7 +56,7 @@ fn add_type(
     ensures list { OnOk result (list.new ≡ with_type list.old ty.now) }
     ensures known { OnOk result (ArePlaces list.new places.new) }
 {
-    let text = text_of(alloc, ty)?;
+    let text = type_text(alloc, ty)?;
     if places.contains_key(text.as_str()) {
         return Ok(());
     }
@@ -77,9 +68,7 @@ fn add_type(
 fn put(places: &mut BTreeMap<String, u32>, text: String, place: u32) -> Result<(), NoMemory>
     ensures { OnOk result ((q : List ℕ) → get_by_text places.new q ≡ cond (bytes_eq (string_bytes text) q) (Some place) (get_by_text places.old q)) }
 {
-    if places.insert(text, place).is_err() {
-        return Err(NoMemory);
-    }
+    places.insert(text, place)?;
     Ok(())
 }
 

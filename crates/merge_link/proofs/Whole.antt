@@ -1,5 +1,5 @@
 -- The stages of linking together.
-use Rattle.std.proofs.Common.{◌≡◌, ◌∙◌, sym, ap, refl, ℕ, zero, suc, List, [], ◌∷◌, Option, Some, None, true, false, map, length, slice_get, nat_lt, arith}
+use Rattle.std.proofs.Common.{◌≡◌, ◌∙◌, ◌⊎◌, inl, inr, sym, ap, refl, ℕ, zero, suc, List, [], ◌∷◌, Option, Some, None, true, false, map, length, slice_get, nat_lt, arith}
 use Rattle.wasm_tree.specs.declared.space.Space.TheVariants.{Globals}
 use Rattle.std.specs.Option.{option_map}
 use Rattle.std.proofs.lemmas.List.{length-append}
@@ -24,7 +24,7 @@ use Rattle.merge_link.specs.Gathering.{AreLinked, linked_at}
 use Rattle.merge_link.specs.Globals.{AreOwn, the_own, the_read, value_at}
 use Rattle.merge_link.specs.Joining.{AreKnown, AreStops, end_at, the_end}
 use Rattle.merge_link.specs.Reads.{AreValues, own_value}
-use Rattle.merge_link.specs.Resolving.{clash_faults, global_faults, import_faults, kept_entry_at, read_entry_at}
+use Rattle.merge_link.specs.Resolving.{IsRefusal, clash_faults, global_faults, import_faults, kept_entry_at, read_entry_at}
 use Rattle.merge_link.specs.Sites.{AreSites, the_site}
 use Rattle.merge_link.proofs.Cuts.{cut_map, cut_sites}
 use Rattle.merge_link.proofs.Firsts.{first_map}
@@ -102,21 +102,26 @@ reads_written ps sites reads are is =
 
 -- ---- the first fault of all ----
 
-pub fault_one : (lp : List linking.Part) (f : LinkFault) → import_faults lp ≡ Some f → faults.link_fault lp ≡ Some f
+pub fault_one : (lp : List linking.Part) (f : LinkFault) → import_faults lp ≡ Some f → faults.link_fault lp false ≡ Some f
 unfolding faults.link_fault import_faults
 fault_one lp f a = rw a refl
 
-pub fault_two : (lp : List linking.Part) (f : LinkFault) → import_faults lp ≡ None → clash_faults lp ≡ Some f → faults.link_fault lp ≡ Some f
+pub fault_two : (lp : List linking.Part) (f : LinkFault) → import_faults lp ≡ None → clash_faults lp ≡ Some f → faults.link_fault lp false ≡ Some f
 unfolding faults.link_fault import_faults clash_faults
 fault_two lp f a b = rw (a, b) refl
 
-pub fault_three : (lp : List linking.Part) → import_faults lp ≡ None → clash_faults lp ≡ None → nat_lt 1 (faults.memory_count lp) ≡ true → faults.link_fault lp ≡ Some TooManyMemories
+pub fault_three : (lp : List linking.Part) → import_faults lp ≡ None → clash_faults lp ≡ None → nat_lt 1 (faults.memory_count lp) ≡ true → faults.link_fault lp false ≡ Some TooManyMemories
 unfolding faults.link_fault import_faults clash_faults faults.memory_fault
 fault_three lp a b c = rw (a, b, c) refl
 
-pub fault_four : (lp : List linking.Part) (o : Option LinkFault) → import_faults lp ≡ None → clash_faults lp ≡ None → nat_lt 1 (faults.memory_count lp) ≡ false → global_faults lp ≡ o → faults.link_fault lp ≡ o
+pub fault_four : (lp : List linking.Part) (o : Option LinkFault) → import_faults lp ≡ None → clash_faults lp ≡ None → nat_lt 1 (faults.memory_count lp) ≡ false → global_faults lp ≡ o → faults.link_fault lp false ≡ o
 unfolding faults.link_fault import_faults clash_faults faults.memory_fault global_faults
 fault_four lp o a b c d = rw (a, b, c) d
+
+-- what a stage refuses is the first fault of all
+pub refused : (first : Option LinkFault) (lp : List linking.Part) (f : LinkFault) → (first ≡ Some f → faults.link_fault lp false ≡ Some f) → IsRefusal first f → IsRefusal (faults.link_fault lp false) f
+refused first lp f of_all (inl none) = inl none
+refused first lp f of_all (inr is) = inr (of_all is)
 
 -- ---- how many defined globals there are ----
 

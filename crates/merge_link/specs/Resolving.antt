@@ -1,13 +1,13 @@
 -- What each stage of linking gives: what it finds where there is no fault of its kind, or the first such fault.
-use Rattle.std.specs.Prelude.{◌≡◌, List, Option, Some, None, map, Result, Ok, Err}
+use Rattle.std.specs.Prelude.{◌≡◌, ◌⊎◌, List, Option, Some, None, map, Result, Ok, Err}
 use Rattle.wasm_tree.specs.declared.types.Limits.{Limits}
 use Rattle.wasm_meaning.specs.Linking as linking
 use Rattle.merge_terms.specs.declared.parts.Part.{Part}
 use Rattle.merge_terms.specs.declared.faults.LinkFault.{LinkFault}
-use Rattle.merge_terms.specs.declared.links.Links.{Links}
+use Rattle.merge_terms.specs.declared.faults.LinkFault.TheVariants.{NoMemory}
 use Rattle.merge_terms.specs.declared.links.Read.{Read}
 use Rattle.merge_terms.specs.Faults as faults
-use Rattle.merge_terms.specs.Linked.{AreLinks, read_at}
+use Rattle.merge_terms.specs.Linked.{read_at}
 use Rattle.merge_terms.specs.Parts.{named_modules}
 use Rattle.merge_link.specs.declared.joining.Ending.{Ending}
 use Rattle.merge_link.specs.declared.resolving.Kept.{Kept}
@@ -39,19 +39,18 @@ pub record IsLinkedKept (parts : List Part) (sites : List Site) (kept : Kept) : 
   pub ends : AreLinked parts sites kept.linked.items
   pub limits : kept.limits.items ≡ map (kept_entry_at parts) sites
 
+-- why a stage refuses: its first fault, or want of memory
+abbrev pub IsRefusal : Option LinkFault → LinkFault → Type 0
+IsRefusal first fault = (fault ≡ NoMemory) ⊎ (first ≡ Some fault)
+
 abbrev pub IsMatched : List Part → List Site → Result (Vec Ending Global) LinkFault → Type 0
 IsMatched parts sites (Ok ends) = AreKnown parts sites ends.items × (import_faults (named_modules parts) ≡ None)
-IsMatched parts sites (Err f) = import_faults (named_modules parts) ≡ Some f
+IsMatched parts sites (Err fault) = IsRefusal (import_faults (named_modules parts)) fault
 
 abbrev pub IsKept : List Part → List Site → Result Kept LinkFault → Type 0
 IsKept parts sites (Ok kept) = IsLinkedKept parts sites kept × (clash_faults (named_modules parts) ≡ None)
-IsKept parts sites (Err f) = clash_faults (named_modules parts) ≡ Some f
+IsKept parts sites (Err fault) = IsRefusal (clash_faults (named_modules parts)) fault
 
 abbrev pub IsValued : List Part → List Site → Result (Vec (Option Read) Global) LinkFault → Type 0
 IsValued parts sites (Ok reads) = (reads.items ≡ map (read_entry_at parts) sites) × (global_faults (named_modules parts) ≡ None)
-IsValued parts sites (Err f) = global_faults (named_modules parts) ≡ Some f
-
--- the links of parts that have no fault, or their fault
-abbrev pub IsOutcome : List linking.Part → Result Links LinkFault → Type 0
-IsOutcome lp (Ok links) = AreLinks lp links × (faults.link_fault lp ≡ None)
-IsOutcome lp (Err f) = faults.link_fault lp ≡ Some f
+IsValued parts sites (Err fault) = IsRefusal (global_faults (named_modules parts)) fault

@@ -1,6 +1,6 @@
 // Linking as a whole: the links of parts, or the first fault.
 
-ghost use Rattle.std.specs.Prelude.{IfErr, IfOk, Some, None, length, map, ◌<◌, ◌^◌, ◌≡◌, ◌⊎◌};
+ghost use Rattle.std.specs.Prelude.{IfErr, IfOk, Some, None, false, length, map, ◌<◌, ◌^◌, ◌≡◌, ◌⊎◌};
 ghost use Rattle.wasm_tree.specs.declared.space.Space.TheVariants.{Globals};
 ghost use Rattle.wasm_meaning.specs.Linking as linking;
 ghost use Rattle.wasm_meaning.specs.World.{defined_before};
@@ -10,7 +10,7 @@ ghost use Rattle.merge_terms.specs.Parts.{HaveDistinctNames, named_modules};
 ghost use Rattle.merge_terms.specs.declared.faults.LinkFault.{LinkFault};
 ghost use Rattle.merge_link.specs.Sites.{AreSites};
 ghost use Rattle.merge_link.specs.Joining.{AreKnown, IsJoining};
-ghost use Rattle.merge_link.specs.Resolving.{IsKept, IsLinkedKept, IsMatched, IsOutcome, IsValued, read_entry_at};
+ghost use Rattle.merge_link.specs.Resolving.{IsKept, IsLinkedKept, IsMatched, IsRefusal, IsValued, read_entry_at};
 
 use crate::cutting::{cut, end_entries};
 use crate::joining::{Ending, Joining};
@@ -31,39 +31,30 @@ pub struct Kept {
 
 impl<'a> Joining<'a> {
     // The ends of all imports, or the fault of the first that has none or whose end is not what it asks for.
-    fn matched(
-        &self,
-        alloc: Global,
-        sites: &[Site],
-    ) -> Result<Result<Vec<Ending>, LinkFault>, AllocError>
+    fn matched(&self, alloc: Global, sites: &[Site]) -> Result<Vec<Ending>, LinkFault>
         requires joining { IsJoining self.now }
         requires sites { AreSites self.now.parts.now sites.now }
-        ensures { IfOk result (IsMatched self.now.parts.now sites.now) }
+        ensures { IsMatched self.now.parts.now sites.now result }
     {
         let ends = self.ends(alloc, sites)?;
         match self.first_import_fault(sites, &ends) {
-            Some(fault) => Ok(Err(fault)),
-            None => Ok(Ok(known_ends(alloc, &ends)?)),
+            Some(fault) => Err(fault),
+            None => Ok(known_ends(alloc, &ends)?),
         }
     }
 
     // The linked ends with the limits that stay, or the fault of the first import whose limits clash.
-    fn kept_ends(
-        &self,
-        alloc: Global,
-        sites: &[Site],
-        ends: &[Ending],
-    ) -> Result<Result<Kept, LinkFault>, AllocError>
+    fn kept_ends(&self, alloc: Global, sites: &[Site], ends: &[Ending]) -> Result<Kept, LinkFault>
         requires joining { IsJoining self.now }
         requires sites { AreSites self.now.parts.now sites.now }
         requires ends { AreKnown self.now.parts.now sites.now ends.now }
-        ensures { IfOk result (IsKept self.now.parts.now sites.now) }
+        ensures { IsKept self.now.parts.now sites.now result }
     {
         let linked = self.linked(alloc, sites, ends)?;
         let limits = self.kept_limits(alloc, sites, &linked)?;
         match self.first_clash(sites, &limits) {
-            Some(fault) => Ok(Err(fault)),
-            None => Ok(Ok(Kept { linked, limits })),
+            Some(fault) => Err(fault),
+            None => Ok(Kept { linked, limits }),
         }
     }
 
@@ -73,18 +64,18 @@ impl<'a> Joining<'a> {
         alloc: Global,
         sites: &[Site],
         ends: &[Ending],
-    ) -> Result<Result<Vec<Option<Read>>, LinkFault>, AllocError>
+    ) -> Result<Vec<Option<Read>>, LinkFault>
         requires joining { IsJoining self.now }
         requires parts { length self.now.parts.now < 2 ^ 32 }
         requires sites { AreSites self.now.parts.now sites.now }
         requires ends { AreKnown self.now.parts.now sites.now ends.now }
-        ensures { IfOk result (IsValued self.now.parts.now sites.now) }
+        ensures { IsValued self.now.parts.now sites.now result }
     {
         let globals = self.own_globals(alloc)?;
         let values = self.values(alloc, sites, ends, &globals)?;
         match self.first_global_fault(&globals, &values) {
-            Some(fault) => Ok(Err(fault)),
-            None => Ok(Ok(self.reads(alloc, sites, ends, &values)?)),
+            Some(fault) => Err(fault),
+            None => Ok(self.reads(alloc, sites, ends, &values)?),
         }
     }
 
@@ -109,50 +100,23 @@ impl<'a> Joining<'a> {
         })
     }
 
-    // From the sites on: whether more than one memory is a fault is for the caller to say.
-    fn linked_sites(
-        &self,
-        alloc: Global,
-        sites: &[Site],
-    ) -> Result<Result<Links, LinkFault>, AllocError>
+    // The links, or the first fault of all.
+    fn linked_sites(&self, alloc: Global, sites: &[Site]) -> Result<Links, LinkFault>
         requires joining { IsJoining self.now }
         requires parts { length self.now.parts.now < 2 ^ 32 }
         requires sites { AreSites self.now.parts.now sites.now }
-        ensures { IfOk result (IsOutcome (named_modules self.now.parts.now)) }
+        ensures links { IfOk result (AreLinks (named_modules self.now.parts.now)) }
+        ensures linked { IfOk result (λ links. faults.link_fault (named_modules self.now.parts.now) false ≡ None) }
+        ensures fault { IfErr result (IsRefusal (faults.link_fault (named_modules self.now.parts.now) false)) }
     {
-        let ends = match self.matched(alloc, sites)? {
-            Err(fault) => return Ok(Err(fault)),
-            Ok(ends) => ends,
-        };
-        let kept = match self.kept_ends(alloc, sites, &ends)? {
-            Err(fault) => return Ok(Err(fault)),
-            Ok(kept) => kept,
-        };
+        let ends = self.matched(alloc, sites)?;
+        let kept = self.kept_ends(alloc, sites, &ends)?;
         if self.has_too_many_memories(sites, &kept.linked) {
-            return Ok(Err(LinkFault::TooManyMemories));
+            return Err(LinkFault::TooManyMemories);
         }
-        match self.read_values(alloc, sites, &ends)? {
-            Err(fault) => Ok(Err(fault)),
-            Ok(reads) => Ok(Ok(self.written(alloc, &kept, &reads, sites)?)),
-        }
+        let reads = self.read_values(alloc, sites, &ends)?;
+        Ok(self.written(alloc, &kept, &reads, sites)?)
     }
-}
-
-fn link(alloc: Global, parts: &[Part]) -> Result<Result<Links, LinkFault>, AllocError>
-    requires parts { length parts.now < 2 ^ 32 }
-    requires imports { length (linking.sites (named_modules parts.now)) < 2 ^ 32 }
-    requires globals { defined_before Globals (named_modules parts.now) (length parts.now) < 2 ^ 32 }
-    ensures { IfOk result (IsOutcome (named_modules parts.now)) }
-{
-    let sites = all_sites(alloc, parts)?;
-    let names = all_names(alloc, parts)?;
-    let tables = all_tables(alloc, parts)?;
-    let joining = Joining {
-        parts,
-        names,
-        tables,
-    };
-    joining.linked_sites(alloc, &sites)
 }
 
 /// Links parts by name: where each import ends, which limits it keeps, and what is read through it.
@@ -166,11 +130,17 @@ pub fn resolve(alloc: Global, parts: &Items<Part>) -> Result<Links, LinkFault>
     requires imports { length (linking.sites (named_modules parts.now)) < 2 ^ 32 }
     requires globals { defined_before Globals (named_modules parts.now) (length parts.now) < 2 ^ 32 }
     ensures links { IfOk result (AreLinks (named_modules parts.now)) }
-    ensures linked { IfOk result (λ links. faults.link_fault (named_modules parts.now) ≡ None) }
-    ensures fault { IfErr result (λ f. (f ≡ LinkFault.NoMemory) ⊎ (faults.link_fault (named_modules parts.now) ≡ Some f)) }
+    ensures linked { IfOk result (λ links. faults.link_fault (named_modules parts.now) false ≡ None) }
+    ensures fault { IfErr result (λ f. (f ≡ LinkFault.NoMemory) ⊎ (faults.link_fault (named_modules parts.now) false ≡ Some f)) }
 {
-    match link(alloc, parts.as_slice()) {
-        Ok(outcome) => outcome,
-        Err(_) => Err(LinkFault::NoMemory),
-    }
+    let parts = parts.as_slice();
+    let sites = all_sites(alloc, parts)?;
+    let names = all_names(alloc, parts)?;
+    let tables = all_tables(alloc, parts)?;
+    let joining = Joining {
+        parts,
+        names,
+        tables,
+    };
+    joining.linked_sites(alloc, &sites)
 }

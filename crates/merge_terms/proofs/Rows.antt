@@ -1,5 +1,5 @@
 -- Small merges, computed: the definitions give the faults and the modules that the rules ask for.
-use Rattle.std.proofs.Common.{◌≡◌, refl, ℕ, zero, suc, List, [], ◌∷◌, Option, Some, None, false, slice_get, length, ap, arith}
+use Rattle.std.proofs.Common.{◌≡◌, refl, ℕ, zero, suc, List, [], ◌∷◌, Option, Some, None, false, slice_get, length, ap, arith, true}
 use Rattle.std.specs.Prelude.{pos}
 use Rattle.wasm_tree.specs.declared.types.ValType.{ValType}
 use Rattle.wasm_tree.specs.declared.types.ValType.TheVariants as valt
@@ -78,7 +78,7 @@ turning =
     part a (record empty { types = gives ∷ []; imports = import b x (im.Func 0) ∷ []; exports = export x (ex.Func 0) ∷ [] }) ∷
     part b (record empty { types = gives ∷ []; imports = import a x (im.Func 0) ∷ []; exports = export x (ex.Func 0) ∷ [] }) ∷ []
 
-imports_without_an_end : link_fault turning ≡ Some (ImportCycle 0 0)
+imports_without_an_end : link_fault turning false ≡ Some (ImportCycle 0 0)
 unfolding link_fault import_fault
 imports_without_an_end = refl
 
@@ -86,11 +86,11 @@ imports_without_an_end = refl
 abbrev remembering : Limits → Limits → List Part
 remembering l k = part a (record empty { imports = import env x (im.Memory l) ∷ [] }) ∷ part b (record empty { imports = import env x (im.Memory k) ∷ [] }) ∷ []
 
-limits_that_meet : link_fault (remembering (limits 1 None) (limits 3 (Some 5))) ≡ None
+limits_that_meet : link_fault (remembering (limits 1 None) (limits 3 (Some 5))) false ≡ None
 unfolding link_fault import_fault clash_fault kept_limits stays memory_fault memory_count global_fault own_globals
 limits_that_meet = refl
 
-limits_that_clash : link_fault (remembering (limits 6 None) (limits 1 (Some 5))) ≡ Some (LimitsClash 0 0)
+limits_that_clash : link_fault (remembering (limits 6 None) (limits 1 (Some 5))) false ≡ Some (LimitsClash 0 0)
 unfolding link_fault import_fault clash_fault kept_limits stays memory_fault memory_count global_fault own_globals
 limits_that_clash = refl
 
@@ -98,12 +98,19 @@ one_memory_is_imported : (merged (remembering (limits 1 None) (limits 3 (Some 5)
 unfolding merged merged_import staying stays
 one_memory_is_imported = refl
 
-two_memories : link_fault (part a (record empty { mems = limits 1 None ∷ [] }) ∷ part b (record empty { mems = limits 1 None ∷ [] }) ∷ []) ≡ Some TooManyMemories
+abbrev each_with_a_memory : List Part
+each_with_a_memory = part a (record empty { mems = limits 1 None ∷ [] }) ∷ part b (record empty { mems = limits 1 None ∷ [] }) ∷ []
+
+two_memories : link_fault each_with_a_memory false ≡ Some TooManyMemories
 unfolding link_fault import_fault clash_fault kept_limits stays memory_fault memory_count global_fault own_globals
 two_memories = refl
 
+two_memories_where_several_may_be : link_fault each_with_a_memory true ≡ None
+unfolding link_fault import_fault clash_fault kept_limits stays memory_fault memory_count global_fault own_globals
+two_memories_where_several_may_be = refl
+
 -- a part that imports a function of another type than is there
-another_type : link_fault (part a (record empty { types = gives ∷ []; funcs = func 0 (i.I32Const (pos 7) ∷ []) ∷ []; exports = export f (ex.Func 0) ∷ [] }) ∷ part b (record empty { types = takes ∷ []; imports = import a f (im.Func 0) ∷ [] }) ∷ []) ≡ Some (ImportMismatch 1 0)
+another_type : link_fault (part a (record empty { types = gives ∷ []; funcs = func 0 (i.I32Const (pos 7) ∷ []) ∷ []; exports = export f (ex.Func 0) ∷ [] }) ∷ part b (record empty { types = takes ∷ []; imports = import a f (im.Func 0) ∷ [] }) ∷ []) false ≡ Some (ImportMismatch 1 0)
 unfolding link_fault import_fault
 another_type = refl
 
@@ -116,7 +123,7 @@ circling =
     part a (record empty { imports = import b x (im.Global (fixed valt.I32)) ∷ []; globals = record { ty = fixed valt.I32; init = const.Global 0 } ∷ []; exports = export x (ex.Global 1) ∷ [] }) ∷
     part b (record empty { imports = import a x (im.Global (fixed valt.I32)) ∷ []; globals = record { ty = fixed valt.I32; init = const.Global 0 } ∷ []; exports = export x (ex.Global 1) ∷ [] }) ∷ []
 
-a_global_without_a_value : link_fault circling ≡ Some (GlobalCycle 0 1)
+a_global_without_a_value : link_fault circling false ≡ Some (GlobalCycle 0 1)
 unfolding link_fault import_fault clash_fault kept_limits stays memory_fault memory_count global_fault own_globals
 a_global_without_a_value = refl
 

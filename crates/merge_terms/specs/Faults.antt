@@ -1,6 +1,6 @@
 -- Why parts are not linked: the first fault, in the order in which they are told.
 -- First every import is compared with its end; then the limits of what stays; then the memories are counted; then the values of globals are followed.
-use Rattle.std.specs.Prelude.{ℕ, suc, ◌+◌, List, [], ◌∷◌, ◌++◌, length, Option, Some, None, Bool, true, false, cond, nat_lt, slice_get, unwrap_or, ◌&&◌}
+use Rattle.std.specs.Prelude.{ℕ, suc, ◌+◌, ◌<◌, List, [], ◌∷◌, ◌++◌, length, Option, Some, None, Bool, true, false, cond, nat_lt, slice_get, unwrap_or, ◌&&◌}
 use Rattle.wasm_tree.specs.declared.space.Space.TheVariants.{Memories, Globals}
 use Rattle.base_lists.specs.Options.{◌>>=◌}
 use Rattle.wasm_tree.specs.declared.types.FuncType.{FuncType}
@@ -19,7 +19,7 @@ use Rattle.wasm_tree.specs.SameTypes.{same_func_type, same_ref, same_type}
 use Rattle.wasm_meaning.specs.World.{same_bool, meets, defined_before}
 use Rattle.wasm_meaning.specs.Linking.{Part, Site, End, Defined, Outside, count_of, has_kind, module_at, import_at, imports_of, sites, end_of, is_outside, linked_end, limits_of, met_limits, Read, read_of}
 use Rattle.merge_terms.specs.declared.faults.LinkFault.{LinkFault}
-use Rattle.merge_terms.specs.declared.faults.LinkFault.TheVariants.{ImportMismatch, ImportCycle, LimitsClash, TooManyMemories, GlobalCycle}
+use Rattle.merge_terms.specs.declared.faults.LinkFault.TheVariants.{ImportMismatch, ImportCycle, LimitsClash, TooManyMemories, GlobalCycle, NoMemory}
 
 -- ---- external types (section 2.3.11) ----
 
@@ -143,10 +143,19 @@ value_fault g (Some r) = None
 unfoldable pub global_fault : List Part → OwnGlobal → Option LinkFault
 global_fault parts g = value_fault g (read_of parts g.part g.init)
 
--- the fault of linking parts by name, or none
-unfoldable pub link_fault : List Part → Option LinkFault
-link_fault parts =
+-- the fault of linking parts by name, or none; `many` says whether the merged module may have several memories, which are no fault then
+unfoldable pub link_fault : List Part → (many : Bool) → Option LinkFault
+link_fault parts many =
     or_else (first_fault (import_fault parts) (sites parts))
     (or_else (first_fault (clash_fault parts) (sites parts))
-    (or_else (memory_fault parts)
+    (or_else (cond many None (memory_fault parts))
     (first_fault (global_fault parts) (own_globals parts))))
+
+-- where a fault names a part, it is one of these many
+abbrev pub NamesPart : ℕ → LinkFault → Type 0
+NamesPart parts (ImportMismatch part import) = part < parts
+NamesPart parts (ImportCycle part import) = part < parts
+NamesPart parts (LimitsClash part import) = part < parts
+NamesPart parts TooManyMemories = Unit {0}
+NamesPart parts (GlobalCycle part global) = part < parts
+NamesPart parts NoMemory = Unit {0}

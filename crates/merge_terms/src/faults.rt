@@ -2,7 +2,9 @@
 
 ghost use Rattle.std.specs.Prelude.{◌≡◌};
 ghost use Rattle.merge_terms.specs.declared.faults.JoinFault.TheVariants.{NoMemory as OutOfMemory};
+ghost use Rattle.merge_terms.specs.declared.faults.LinkFault.TheVariants.{NoMemory as NotLinkedForMemory};
 
+use std::alloc::AllocError;
 use wasm_bytes::{Name, NoMemory};
 use wasm_tree::Which;
 
@@ -20,6 +22,14 @@ pub enum LinkFault {
     /// Following the value of this defined global never ends.
     GlobalCycle { part: u32, global: u32 },
     NoMemory,
+}
+
+impl From<AllocError> for LinkFault {
+    ghost from_gives = { λ _ e. e ≡ NotLinkedForMemory };
+
+    fn from(_none: AllocError) -> LinkFault {
+        LinkFault::NoMemory
+    }
 }
 
 /// Why linked parts are not joined.

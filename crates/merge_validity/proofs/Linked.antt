@@ -111,7 +111,6 @@ suited parts s h = by (end_of parts s) refl h
 pub record AreLinked (parts : List Part) : Type 0 where
   pub imports : (s : Site) (i : Import) → import_at parts s ≡ Some i → Suited parts s
   pub limits : (s : Site) (i : Import) → import_at parts s ≡ Some i → clash_fault parts s ≡ None
-  pub memories : memory_fault parts ≡ None
   pub globals : (p : ℕ) (m : Module) (j : ℕ) (g : GlobalDef) → module_at parts p ≡ Some m → slice_get m.globals j ≡ Some g → (r : Read) × (read_of parts p g.init ≡ Some r)
 
 read_there : (parts : List Part) (g : OwnGlobal) → global_fault parts g ≡ None → (r : Read) × (read_of parts g.part g.init ≡ Some r)
@@ -134,16 +133,22 @@ own_has parts p m j g e h =
       refl,
     )
 
-pub are_linked : (parts : List Part) → link_fault parts ≡ None → AreLinked parts
+pub are_linked : (parts : List Part) → link_fault parts true ≡ None → AreLinked parts
 unfolding link_fault
 are_linked parts h =
     let more = right_none (first_fault (import_fault parts) (sites parts)) _ h in
-    let rest = right_none (first_fault (clash_fault parts) (sites parts)) _ more in
+    let rest : first_fault (global_fault parts) (own_globals parts) ≡ None = right_none (first_fault (clash_fault parts) (sites parts)) _ more in
     record {
       imports = λ s i e. let n = in_sites parts s i e in suited parts s (each_none (import_fault parts) (sites parts) n.0 s (left_none _ _ h) n.1);
       limits = λ s i e. let n = in_sites parts s i e in each_none (clash_fault parts) (sites parts) n.0 s (left_none _ _ more) n.1;
-      memories = left_none _ _ rest;
       globals = λ p m j g e k. let o = own_has parts p m j g e k in
-          let r = read_there parts o.0 (each_none (global_fault parts) (own_globals parts) o.1.0 o.0 (right_none (memory_fault parts) _ rest) o.1.1) in
+          let r = read_there parts o.0 (each_none (global_fault parts) (own_globals parts) o.1.0 o.0 rest o.1.1) in
           (r.0, ap₂ (λ q x. read_of parts q x) (sym o.2) (sym o.3) ∙ r.1);
     }
+
+-- where several memories are a fault, there are none
+pub memories_are_few : (parts : List Part) → link_fault parts false ≡ None → memory_fault parts ≡ None
+unfolding link_fault
+memories_are_few parts h =
+    let more = right_none (first_fault (import_fault parts) (sites parts)) _ h in
+    left_none (memory_fault parts) _ (right_none (first_fault (clash_fault parts) (sites parts)) _ more)

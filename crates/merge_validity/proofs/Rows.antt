@@ -1,5 +1,5 @@
 -- What the law of merged modules asks for is needed: two parts with a memory each have a fault of linking, and what their merge would be has two.
-use Rattle.std.proofs.Common.{◌≡◌, refl, [], ◌∷◌, List, Some, None, length}
+use Rattle.std.proofs.Common.{◌≡◌, false, refl, [], ◌∷◌, List, Some, None, length}
 use Rattle.wasm_tree.specs.declared.module.Module.{Module}
 use Rattle.wasm_tree.specs.Spaces.{memories_of}
 use Rattle.wasm_meaning.specs.Linking.{Part}
@@ -18,7 +18,7 @@ part m = record { name = None; «module» = m }
 abbrev two : List Part
 two = part with_memory ∷ part with_memory ∷ []
 
-two_memories_do_not_link : link_fault two ≡ Some TooManyMemories
+two_memories_do_not_link : link_fault two false ≡ Some TooManyMemories
 unfolding link_fault import_fault clash_fault kept_limits stays memory_fault memory_count global_fault own_globals
 two_memories_do_not_link = refl
 
@@ -26,7 +26,7 @@ both_would_stay : length (memories_of (joined_module two Refuse)) ≡ 2
 unfolding joined_module merged merged_import staying staying_of stays merged_types all_exports starts defined_funcs
 both_would_stay = refl
 
-one_memory_links : link_fault (part with_memory ∷ []) ≡ None
+one_memory_links : link_fault (part with_memory ∷ []) false ≡ None
 unfolding link_fault import_fault clash_fault kept_limits stays memory_fault memory_count global_fault own_globals
 one_memory_links = refl
 

@@ -1,5 +1,5 @@
 -- The merged module with its references declared is valid, a u32 can count what it has, and it has at most one memory.
-use Rattle.std.proofs.Common.{◌≡◌, ◌∙◌, ap, sym, subst, refl, ℕ, ◌+◌, ◌^◌, ◌<◌, List, length, Option, Some, None, ◌↔◌, IsTrue}
+use Rattle.std.proofs.Common.{◌≡◌, ◌∙◌, ap, sym, subst, refl, ℕ, ◌+◌, ◌^◌, ◌<◌, List, length, Option, Some, None, ◌↔◌, IsTrue, false}
 use Rattle.wasm_tree.specs.declared.module.ConstExpr.{ConstExpr}
 use Rattle.wasm_tree.specs.declared.module.Module.{Module}
 use Rattle.wasm_tree.specs.Bounds.{IsBounded}
@@ -16,10 +16,11 @@ use Rattle.remap_typing.specs.ButForReferences.{IsValidButForReferences}
 use Rattle.export_names.specs.declared.mode.Mode.{Mode}
 use Rattle.export_names.specs.Names.{new_names}
 use Rattle.export_names.specs.Laws.{GivenNamesDiffer, ConflictsAreFirst}
+use Rattle.merge_terms.specs.Faults.{link_fault}
 use Rattle.merge_terms.specs.Joined.{joined_module, over_limit}
 use Rattle.merge_terms.specs.Merged.{merged, merged_const, export_names}
 use Rattle.merge_validity.specs.Joinable.{CanBeJoined}
-use Rattle.merge_validity.proofs.Linked.{AreLinked, are_linked}
+use Rattle.merge_validity.proofs.Linked.{memories_are_few, AreLinked, are_linked}
 use Rattle.merge_validity.proofs.Agree.{ItemsHold}
 use Rattle.merge_validity.proofs.Constants.{const_stands}
 use Rattle.merge_validity.proofs.Exports.{names_differ}
@@ -79,5 +80,5 @@ module _ (laws : Laws) (parts : List Part) (mode : Mode) (can : CanBeJoined part
       (names_differ laws.differ laws.first parts mode can.names (few_exports (merged parts names) sizes)) can.bounded))
       (few_elems (merged parts names) sizes))
 
-  pub joined_single : IsSingle (joined_module parts mode)
-  joined_single = subst IsSingle (sym (joined_is parts mode)) (laws.single (merged parts names) (merged_single parts names links.memories))
+  pub joined_single : link_fault parts false ≡ None → IsSingle (joined_module parts mode)
+  joined_single linked = subst IsSingle (sym (joined_is parts mode)) (laws.single (merged parts names) (merged_single parts names (memories_are_few parts linked)))

@@ -60,11 +60,11 @@ pub data Ended (parts : List Part) (s : Site) (i : Import) : Type 0 where
   outside : EndsOutside parts s i → Ended parts s i
 
 abbrev pub LinkedImportsEnd : Type 0
-LinkedImportsEnd = (parts : List Part) → link_fault parts ≡ None → (s : Site) (i : Import) → import_at parts s ≡ Some i → Ended parts s i
+LinkedImportsEnd = (parts : List Part) → link_fault parts true ≡ None → (s : Site) (i : Import) → import_at parts s ≡ Some i → Ended parts s i
 
 -- what stays is its own end
 abbrev pub StayingImportsEndThere : Type 0
-StayingImportsEndThere = (parts : List Part) → link_fault parts ≡ None → (s : Site) (i : Import) → import_at parts s ≡ Some i → stays parts s ≡ true → (end_of parts s ≡ Some (Outside s)) × (linked_end parts s ≡ Some (Outside s))
+StayingImportsEndThere = (parts : List Part) → link_fault parts true ≡ None → (s : Site) (i : Import) → import_at parts s ≡ Some i → stays parts s ≡ true → (end_of parts s ≡ Some (Outside s)) × (linked_end parts s ≡ Some (Outside s))
 
 -- the sites are the imports that are there
 abbrev pub SitesAreImports : Type 0

@@ -1,5 +1,5 @@
 -- What parts and a mode are that can be joined.
-use Rattle.std.specs.Prelude.{◌≡◌, ℕ, List, Some, None}
+use Rattle.std.specs.Prelude.{◌≡◌, ℕ, true, List, Some, None}
 use Rattle.wasm_tree.specs.declared.module.Module.{Module}
 use Rattle.wasm_tree.specs.Bounds.{IsBounded}
 use Rattle.wasm_valid.specs.Validity.{IsValid}
@@ -16,6 +16,7 @@ EachPart P parts = (p : ℕ) (m : Module) → module_at parts p ≡ Some m → P
 pub record CanBeJoined (parts : List Part) (mode : Mode) : Type 0 where
   pub valid : EachPart IsValid parts
   pub bounded : EachPart IsBounded parts
-  pub linked : link_fault parts ≡ None
+  -- no fault besides the number of memories
+  pub linked : link_fault parts true ≡ None
   pub names : repeated_name parts mode ≡ None
   pub sizes : over_limit (joined_module parts mode) ≡ None

@@ -1,7 +1,7 @@
 //! That what joining gives is a valid module, as a law.
 #![tactic(auto)]
 
-ghost use Rattle.std.specs.Prelude.{◌≡◌, ℕ, IsTrue, List, Some, None};
+ghost use Rattle.std.specs.Prelude.{◌≡◌, ℕ, true, false, IsTrue, List, Some, None};
 ghost use Rattle.wasm_tree.specs.declared.types.ValType.{ValType};
 ghost use Rattle.wasm_tree.specs.declared.module.ConstExpr.{ConstExpr};
 ghost use Rattle.wasm_tree.specs.declared.module.Module.{Module};
@@ -36,11 +36,11 @@ use wasm_meaning::ends_and_reads_are_paths;
 use wasm_valid::valid_where_items_hold;
 
 /// Where valid parts can be joined, the merged module is valid (`valid`, WebAssembly Core 2.0, section 3.4.10), a u32 can count its lists, its index spaces
-/// and the locals of each function (`bounded`), and it has at most one memory (`single`).
+/// and the locals of each function (`bounded`). Where several memories are a fault of linking, it has at most one (`single`).
 pub fn merged_modules_are_valid()
     ensures valid { (parts : List Part) (mode : Mode) → CanBeJoined parts mode → IsValid (joined_module parts mode) }
     ensures bounded { (parts : List Part) (mode : Mode) → CanBeJoined parts mode → IsBounded (joined_module parts mode) }
-    ensures single { (parts : List Part) (mode : Mode) → CanBeJoined parts mode → IsSingle (joined_module parts mode) }
+    ensures single { (parts : List Part) (mode : Mode) → CanBeJoined parts mode → link_fault parts false ≡ None → IsSingle (joined_module parts mode) }
 {
     valid_where_items_hold();
     renumbering_keeps_typing();
@@ -56,8 +56,8 @@ pub fn merged_modules_are_valid()
 pub fn maps_have_entries()
     ensures entries { (parts : List Part) (p : ℕ) (m : Module) → IsValid m → IsTrue (fits_tree (map_of parts p m) m) }
     ensures constants { (parts : List Part) (p : ℕ) (m : Module) (e : ConstExpr) (ty : ValType) → const_type m e ≡ Some ty → IsTrue (fits_const (map_of parts p m) e) }
-    ensures reads { (parts : List Part) (p : ℕ) (m : Module) (e : ConstExpr) (ty : ValType) (r : Read) → EachPart IsValid parts → link_fault parts ≡ None → module_at parts p ≡ Some m → const_type m e ≡ Some ty → read_of parts p e ≡ Some r → HasEntry parts r }
-    ensures there { (parts : List Part) (p : ℕ) (m : Module) (e : ConstExpr) (ty : ValType) → EachPart IsValid parts → link_fault parts ≡ None → module_at parts p ≡ Some m → const_type m e ≡ Some ty → (r : Read) × (read_of parts p e ≡ Some r) }
+    ensures reads { (parts : List Part) (p : ℕ) (m : Module) (e : ConstExpr) (ty : ValType) (r : Read) → EachPart IsValid parts → link_fault parts true ≡ None → module_at parts p ≡ Some m → const_type m e ≡ Some ty → read_of parts p e ≡ Some r → HasEntry parts r }
+    ensures there { (parts : List Part) (p : ℕ) (m : Module) (e : ConstExpr) (ty : ValType) → EachPart IsValid parts → link_fault parts true ≡ None → module_at parts p ≡ Some m → const_type m e ≡ Some ty → (r : Read) × (read_of parts p e ≡ Some r) }
 {
     valid_where_items_hold();
     renumbering_keeps_typing();

@@ -84,7 +84,7 @@ mems_size m = size_of (imported_memories m.imports) m.mems _ _ (sym (memories_co
 globals_size : (m : Module) → length (globals_of m) ≡ length (imports_of Globals m) + defined_count Globals m
 globals_size m = size_of (imported_globals m.imports) (map (λ g. g.ty) m.globals) _ _ (sym (globals_counted m.imports 0)) (map_length (λ g. g.ty) m.globals)
 
-module _ (laws : SpaceLaws) (env : Environment) (parts : List Part) (linked : link_fault parts ≡ None) (mode : Mode) where
+module _ (laws : SpaceLaws) (env : Environment) (parts : List Part) (linked : link_fault parts true ≡ None) (mode : Mode) where
   abbrev J : Module
   J = joined_module parts mode
 

@@ -116,7 +116,7 @@ demand_of : {parts : List Part} {s : Site} {i : Import} → Ended parts s i → 
 demand_of (inside w) = (w.demand, w.asks)
 demand_of (outside w) = (w.demand, w.asks)
 
-module _ (laws : SpaceLaws) (env : Environment) (parts : List Part) (linked : link_fault parts ≡ None) where
+module _ (laws : SpaceLaws) (env : Environment) (parts : List Part) (linked : link_fault parts true ≡ None) where
   asked_there : (s : Site) (w : IsStaying parts s) → (x : External) × (asked w.of w.import.desc ≡ Some x)
   asked_there s w =
       let d = demand_of (laws.ends parts linked s w.import w.at) in

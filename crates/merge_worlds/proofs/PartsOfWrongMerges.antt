@@ -1,5 +1,5 @@
 -- The parts of the wrong merges can be joined, so that the law `merged_modules_show_the_same` speaks of them: a merge that gives a wrong module breaks it.
-use Rattle.std.proofs.Common.{◌≡◌, refl, ap, subst, ◌∙◌, ℕ, zero, suc, List, [], ◌∷◌, Some, None, arith}
+use Rattle.std.proofs.Common.{◌≡◌, refl, ap, subst, ◌∙◌, ℕ, zero, suc, List, [], ◌∷◌, Some, None, arith, true}
 use Rattle.std.specs.Prelude.{pos, ◌+◌, length, ◌<◌, ◌^◌, slice_get}
 use Rattle.wasm_tree.specs.declared.types.RefType.TheVariants as reft
 use Rattle.wasm_tree.specs.declared.types.ValType.TheVariants as valt
@@ -86,7 +86,7 @@ record BreaksTheClause (given : List given.Part) (wrong : Module) : Type 0 where
   joinable : CanBeJoined (named_modules given) mode.Refuse
   links : Links
   are : AreLinks (named_modules given) links
-  linked : link_fault (named_modules given) ≡ None
+  linked : link_fault (named_modules given) true ≡ None
   few : FewInAll (named_modules given)
   refused : BehavesAs (named_modules given) mode.Refuse wrong → ⊥
 

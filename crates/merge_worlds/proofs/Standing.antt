@@ -123,7 +123,7 @@ module _ (env : Environment) (parts : List Part) where
     own : (d : ℕ) → d < total k → address ≡ Some (own_count k env + d) → index ≡ length (staying_of parts k) + d → Stands k address index
     stays : (u : Site) → slice_get (staying_of parts k) index ≡ Some u → address ≡ site_address k u → Stands k address index
 
-  module _ (laws : SpaceLaws) (linked : link_fault parts ≡ None) where
+  module _ (laws : SpaceLaws) (linked : link_fault parts true ≡ None) where
     inside_stands : (k : Space) (p : ℕ) (m : Module) (x n : ℕ) (i : Import) → module_at parts p ≡ Some m → slice_get (imports_of k m) x ≡ Some n → space_of_import i.desc ≡ k → EndsInside parts (record { part = p; import = n }) i → Stands k (import_address k p n) (new_index parts p k x)
     inside_stands k p m x n i is h kind w =
         let e = w.entity in

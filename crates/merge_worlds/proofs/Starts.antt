@@ -74,7 +74,7 @@ few_starts env parts j n nil l = refl
 few_starts env parts j n (cons w nil) l = ap (λ o. one_place o ++ []) w.names
 few_starts env parts j n (cons w (cons v r)) l = absurd (omega (arith, l))
 
-module _ (laws : SpaceLaws) (env : Environment) (parts : List Part) (linked : link_fault parts ≡ None) (mode : Mode) (fit : AllFit parts) (insts js : List Inst) (agree : InstancesAgree env parts insts js) where
+module _ (laws : SpaceLaws) (env : Environment) (parts : List Part) (linked : link_fault parts true ≡ None) (mode : Mode) (fit : AllFit parts) (insts js : List Inst) (agree : InstancesAgree env parts insts js) where
   abbrev J : Module
   J = joined_module parts mode
 

@@ -28,8 +28,8 @@ pub record Laws : Type 0 where
   -- of merge_validity
   pub valid : (parts : List Part) (mode : Mode) → CanBeJoined parts mode → IsValid (joined_module parts mode)
   pub entries : (parts : List Part) (p : ℕ) (m : Module) → IsValid m → IsTrue (fits_tree (map_of parts p m) m)
-  pub reads : (parts : List Part) (p : ℕ) (m : Module) (e : ConstExpr) (ty : ValType) (r : Read) → EachPart IsValid parts → link_fault parts ≡ None → module_at parts p ≡ Some m → const_type m e ≡ Some ty → read_of parts p e ≡ Some r → HasEntry parts r
-  pub there : (parts : List Part) (p : ℕ) (m : Module) (e : ConstExpr) (ty : ValType) → EachPart IsValid parts → link_fault parts ≡ None → module_at parts p ≡ Some m → const_type m e ≡ Some ty → (r : Read) × (read_of parts p e ≡ Some r)
+  pub reads : (parts : List Part) (p : ℕ) (m : Module) (e : ConstExpr) (ty : ValType) (r : Read) → EachPart IsValid parts → link_fault parts true ≡ None → module_at parts p ≡ Some m → const_type m e ≡ Some ty → read_of parts p e ≡ Some r → HasEntry parts r
+  pub there : (parts : List Part) (p : ℕ) (m : Module) (e : ConstExpr) (ty : ValType) → EachPart IsValid parts → link_fault parts true ≡ None → module_at parts p ≡ Some m → const_type m e ≡ Some ty → (r : Read) × (read_of parts p e ≡ Some r)
   -- of world_simulation
   pub alone_reads : ReadsStay
   pub alone_spaces : SpacesAreImportsAndOwn

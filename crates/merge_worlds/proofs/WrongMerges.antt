@@ -171,7 +171,7 @@ two_starts_merged = record empty {
 abbrev both_offered : Environment
 both_offered = offered f ∷ (offered g ∷ [])
 
-pub two_starts_have_no_fault : link_fault two_starts ≡ None
+pub two_starts_have_no_fault : link_fault two_starts true ≡ None
 unfolding link_fault import_fault stays kept_limits clash_fault memory_count memory_fault own_globals global_fault
 two_starts_have_no_fault = refl
 
@@ -257,7 +257,7 @@ two_types_with ty = record calling {
 abbrev one_offered : Environment
 one_offered = offered f ∷ []
 
-pub two_types_have_no_fault : link_fault two_types ≡ None
+pub two_types_have_no_fault : link_fault two_types true ≡ None
 unfolding link_fault import_fault stays kept_limits clash_fault memory_count memory_fault own_globals global_fault
 two_types_have_no_fault = refl
 
@@ -304,7 +304,7 @@ one_memory_from n = record empty { imports = own_memory n ∷ [] }
 abbrev no_page : Environment
 no_page = record { pair = (own, m); funcs = []; table = None; memory = Some (record { limits = pages_from 0; pages = 0; bytes = [] }); global = None } ∷ []
 
-pub one_memory_has_no_fault : link_fault one_memory ≡ None
+pub one_memory_has_no_fault : link_fault one_memory true ≡ None
 unfolding link_fault import_fault stays kept_limits clash_fault memory_count memory_fault own_globals global_fault
 one_memory_has_no_fault = refl
 
@@ -353,7 +353,7 @@ branch_refs : (n : ℕ) → fold-Instr (List ℕ) refs_step (i.Br n) ≡ []
 unfolding out-Instr denote.Hole.Carrier.out
 branch_refs n = fold_out-Instr (List ℕ) refs_step (i.Br n)
 
-pub no_end_has_no_fault : link_fault no_end ≡ None
+pub no_end_has_no_fault : link_fault no_end true ≡ None
 unfolding link_fault import_fault stays kept_limits clash_fault memory_count memory_fault own_globals global_fault
 no_end_has_no_fault = refl
 

@@ -1,6 +1,7 @@
 // The real files and standard streams. They tell no contents, and one count serves every name and both kinds: it rises at
 // each error.
-ghost use Rattle.std.specs.Prelude.{◌≡◌, ◌≤◌, None};
+ghost use Rattle.std.specs.Prelude.{◌≡◌, ◌≤◌, None, IsErr};
+ghost use Rattle.tool_io.specs.Outside.{NoneFell, Rose};
 
 use crate::{Files, IoFault, Sink};
 use std::alloc::Global;
@@ -95,7 +96,12 @@ impl<R: FileAccess> Files for HostFiles<R> {
 
     ghost write_faults = { λ f _. f.faults };
 
-    fn read(&mut self, alloc: Global, name: &str, most: usize) -> Result<Vec<u8>, IoFault> {
+    fn read(&mut self, alloc: Global, name: &str, most: usize) -> Result<Vec<u8>, IoFault>
+        ensures reads { NoneFell (λ _. self.old.faults) (λ _. self.new.faults) }
+        ensures writes { NoneFell (λ _. self.old.faults) (λ _. self.new.faults) }
+        // also where memory ran out
+        ensures cause { IsErr result → Rose self.old.faults self.new.faults }
+    {
         let read = read_first(&self.access, alloc, name, most);
         if read.is_err() {
             self.faults = self.faults.saturating_add(1);
@@ -103,7 +109,12 @@ impl<R: FileAccess> Files for HostFiles<R> {
         read
     }
 
-    fn write(&mut self, name: &str, bytes: &[u8]) -> Result<(), IoFault> {
+    fn write(&mut self, name: &str, bytes: &[u8]) -> Result<(), IoFault>
+        ensures reads { NoneFell (λ _. self.old.faults) (λ _. self.new.faults) }
+        ensures writes { NoneFell (λ _. self.old.faults) (λ _. self.new.faults) }
+        // also where memory ran out
+        ensures cause { IsErr result → Rose self.old.faults self.new.faults }
+    {
         let written = write_file(&self.access, name, bytes);
         if written.is_err() {
             self.faults = self.faults.saturating_add(1);
@@ -133,7 +144,11 @@ impl<W: Write> Sink for HostSink<W> {
 
     ghost faults = { λ s. s.faults };
 
-    fn put(&mut self, piece: &[u8]) -> Result<(), IoFault> {
+    fn put(&mut self, piece: &[u8]) -> Result<(), IoFault>
+        ensures later { self.old.faults ≤ self.new.faults }
+        // also where memory ran out
+        ensures cause { IsErr result → Rose self.old.faults self.new.faults }
+    {
         let put = write_all(&mut self.stream, piece);
         if put.is_err() {
             self.faults = self.faults.saturating_add(1);

@@ -1,18 +1,19 @@
 -- From the inputs of a task to its job.
-use Rattle.std.proofs.Common.{◌≡◌, ◌∙◌, sym, refl, ap, subst, Bool, true, false, cond, Result, Ok, Err, IfOk, IfErr, map, ℕ, zero, suc, ◌≤◌, List, [], ◌∷◌, ◌++◌, take, drop, length, length-append, arith}
+use Rattle.std.proofs.Common.{◌≡◌, ◌∙◌, sym, refl, ap, subst, Bool, true, false, cond, Result, Ok, Err, IfOk, IfErr, map, ℕ, zero, suc, ◌≤◌, List, [], ◌∷◌, ◌++◌, take, drop, length, length-append, arith, Contains}
 use Rattle.std.specs.List.{list_all}
-use Rattle.tools_cli.specs.Words.{Text, MergeTask, Task, Merge, many_of, modules_of, texts_of, inputs_of}
+use Rattle.tools_cli.specs.Words.{Text, MergeTask, Task, Merge, many_of, modules_of, texts_of, inputs_of, outputs_of}
 use Rattle.tools_cli.specs.Job.{Job, Usage, Missing, Refused, Done, Output, Decision, Refuses, Makes, Merges, not_linked, not_joined, merged, Decides, is_within, spelled_output, job_of, AllLoad, OneFails, module_files, text_contents, InputsJob, not_loaded, decided}
 use Rattle.tools_cli.specs.Effects.{Entry, written_names}
 use Rattle.wasm_tree.specs.declared.module.Module.{Module}
-use Rattle.tools_cli.specs.Causes.{total, StopsWith, AreOutputs, PrintsAsAllowed}
+use Rattle.tools_cli.specs.Causes.{total, StopsWith, PrintsAsAllowed}
 use Rattle.tools_cli.specs.Command.{input_entry, input_entries, input_texts, decision_value}
 use Rattle.tools_cli.specs.declared.gather.Input.{Input}
 use Rattle.tools_cli.specs.declared.decide.Decision as code
 use Rattle.tools_cli.specs.declared.stop.Stop.{Stop}
 
-pub one_memory : (t : Task) → many_of t ≡ false
-one_memory (Merge merge) = refl
+-- no task asks for several memories
+pub no_task_has_many : (t : Task) → many_of t ≡ true → ⊥
+no_task_has_many (Merge merge) e = cc
 
 -- ---- the inputs, as modules and other texts ----
 
@@ -45,36 +46,40 @@ modules_there t xs e =
 
 -- ---- the job ----
 
-pub job_made : (t : Task) (inputs : List Entry) (n : ℕ) (files : List Entry) (trees : List Module) (texts : List Text) (decision : Decision) (job : Job) → n ≡ length (modules_of t) → files ≡ take n inputs → texts ≡ map (λ (e : Entry). e.1) (drop n inputs)
+pub job_made : (t : Task) (inputs : List Entry) (n : ℕ) (files : List Entry) (trees : List Module) (texts : List Text) (decision : Decision) (job : Job) → many_of t ≡ false → n ≡ length (modules_of t) → files ≡ take n inputs → texts ≡ map (λ (e : Entry). e.1) (drop n inputs)
     → AllLoad false files trees → Decides t trees texts decision → job_of decision ≡ job → InputsJob t inputs job
-job_made t inputs n files trees texts decision job count first behind loads decides is =
+job_made t inputs n files trees texts decision job one count first behind loads decides is =
     let P : List Entry → Type 0 = λ l. AllLoad false l trees in
     let Q : Bool → Type 0 = λ b. AllLoad b (module_files t inputs) trees in
     let R : List Text → Type 0 = λ l. Decides t trees l decision in
     subst (InputsJob t inputs) is
     (decided trees decision
-    (subst Q (sym (one_memory t)) (subst P (first ∙ ap (λ k. take k inputs) count) loads))
+    (subst Q (sym one) (subst P (first ∙ ap (λ k. take k inputs) count) loads))
     (subst R (behind ∙ ap (λ k. map (λ (e : Entry). e.1) (drop k inputs)) count) decides))
 
-pub job_not_loaded : (t : Task) (inputs : List Entry) (n : ℕ) (files : List Entry) → n ≡ length (modules_of t) → files ≡ take n inputs → (text : Text) → OneFails false files text → InputsJob t inputs (Refused text)
-job_not_loaded t inputs n files count first text fails =
+pub job_not_loaded : (t : Task) (inputs : List Entry) (n : ℕ) (files : List Entry) → many_of t ≡ false → n ≡ length (modules_of t) → files ≡ take n inputs → (text : Text) → OneFails false files text → InputsJob t inputs (Refused text)
+job_not_loaded t inputs n files one count first text fails =
     let P : List Entry → Type 0 = λ l. OneFails false l text in
     let Q : Bool → Type 0 = λ b. OneFails b (module_files t inputs) text in
-    not_loaded text (subst Q (sym (one_memory t)) (subst P (first ∙ ap (λ k. take k inputs) count) fails))
+    not_loaded text (subst Q (sym one) (subst P (first ∙ ap (λ k. take k inputs) count) fails))
 
 -- ---- what a job writes and prints ----
 
-abbrev DecisionIsAllowed : Task → Decision → Type 0
-DecisionIsAllowed t (Refuses text) = Unit {0}
-DecisionIsAllowed t (Makes outputs lines) = AreOutputs t (map (λ o. o.name) outputs) × PrintsAsAllowed t lines
+-- each is of a file that the task may write where these are the other texts that it reads
+abbrev pub AreNamed : Task → List Text → List Text → Type 0
+AreNamed t texts names = (name : Text) → Contains names name → Contains (outputs_of t texts) name
 
-abbrev pub JobIsAllowed : Task → Job → Type 0
-JobIsAllowed t (Done writes lines) = AreOutputs t (written_names writes) × PrintsAsAllowed t lines
-JobIsAllowed t Usage = Unit {0}
-JobIsAllowed t Missing = Unit {0}
-JobIsAllowed t (Refused text) = Unit {0}
+abbrev DecisionIsAllowed : Task → List Text → Decision → Type 0
+DecisionIsAllowed t texts (Refuses text) = Unit {0}
+DecisionIsAllowed t texts (Makes outputs lines) = AreNamed t texts (map (λ o. o.name) outputs) × PrintsAsAllowed t lines
 
-decision_allowed : (t : Task) (trees : List Module) (texts : List Text) (decision : Decision) → Decides t trees texts decision → DecisionIsAllowed t decision
+abbrev pub JobIsAllowed : Task → List Text → Job → Type 0
+JobIsAllowed t texts (Done writes lines) = AreNamed t texts (written_names writes) × PrintsAsAllowed t lines
+JobIsAllowed t texts Usage = Unit {0}
+JobIsAllowed t texts Missing = Unit {0}
+JobIsAllowed t texts (Refused text) = Unit {0}
+
+decision_allowed : (t : Task) (trees : List Module) (texts : List Text) (decision : Decision) → Decides t trees texts decision → DecisionIsAllowed t texts decision
 decision_allowed (Merge merge) trees texts decision (not_linked fault text found says) = tt
 decision_allowed (Merge merge) trees texts decision (not_joined fault text linked found says) = tt
 decision_allowed (Merge merge) trees texts decision (merged tree is) = ((λ name h. h), λ e. refl)
@@ -83,17 +88,17 @@ same_names : (outputs : List Output) → map (λ (o : Output). o.name) outputs �
 same_names [] = refl
 same_names (o ∷ outputs) = ap (λ (l : List Text). o.name ∷ l) (same_names outputs)
 
-within_allowed : (t : Task) (outputs : List Output) (lines text : Text) (b : Bool) → DecisionIsAllowed t (Makes outputs lines) → JobIsAllowed t (cond b (Done (map spelled_output outputs) lines) (Refused text))
-within_allowed t outputs lines text true h = let P : List Text → Type 0 = AreOutputs t in (subst P (same_names outputs) h.0, h.1)
-within_allowed t outputs lines text false h = tt
+within_allowed : (t : Task) (texts : List Text) (outputs : List Output) (lines text : Text) (b : Bool) → DecisionIsAllowed t texts (Makes outputs lines) → JobIsAllowed t texts (cond b (Done (map spelled_output outputs) lines) (Refused text))
+within_allowed t texts outputs lines text true h = let P : List Text → Type 0 = AreNamed t texts in (subst P (same_names outputs) h.0, h.1)
+within_allowed t texts outputs lines text false h = tt
 
-job_allowed : (t : Task) (decision : Decision) → DecisionIsAllowed t decision → JobIsAllowed t (job_of decision)
-job_allowed t (Refuses text) h = tt
-job_allowed t (Makes outputs lines) h = within_allowed t outputs lines _ (list_all is_within outputs) h
+job_allowed : (t : Task) (texts : List Text) (decision : Decision) → DecisionIsAllowed t texts decision → JobIsAllowed t texts (job_of decision)
+job_allowed t texts (Refuses text) h = tt
+job_allowed t texts (Makes outputs lines) h = within_allowed t texts outputs lines _ (list_all is_within outputs) h
 
-pub inputs_job_allowed : (t : Task) (inputs : List Entry) (job : Job) → InputsJob t inputs job → JobIsAllowed t job
+pub inputs_job_allowed : (t : Task) (inputs : List Entry) (job : Job) → InputsJob t inputs job → JobIsAllowed t (text_contents t inputs) job
 inputs_job_allowed t inputs job (not_loaded text h) = tt
-inputs_job_allowed t inputs job (decided trees decision loads h) = job_allowed t decision (decision_allowed t trees (text_contents t inputs) decision h)
+inputs_job_allowed t inputs job (decided trees decision loads h) = job_allowed t (text_contents t inputs) decision (decision_allowed t trees (text_contents t inputs) decision h)
 
 -- a merge's decision, and why there is none
 pub merge_decided : {E : Type 0} (r : Result code.Decision E) (t : Task) (merge : MergeTask) (trees : List Module) (texts : List Text) → IfOk r (λ made. Merges merge trees (decision_value made)) → t ≡ Merge merge → IfOk r (λ made. Decides t trees texts (decision_value made))

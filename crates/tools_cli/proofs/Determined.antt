@@ -131,8 +131,8 @@ text_once : (one other : Text) → Some one ≡ Some other → one ≡ other
 text_once one other e = cc
 
 -- what merging parts comes to
-link_text_once : (files : List Text) (parts : List Part) (fault fault' : LinkFault) (text text' : Text) → link_fault parts ≡ Some fault → link_fault parts ≡ Some fault' → link_text files fault ≡ Some text → link_text files fault' ≡ Some text' → text ≡ text'
-link_text_once files parts fault fault' text text' h h' e e' =
+link_text_once : (files : List Text) (parts : List Part) (many : Bool) (fault fault' : LinkFault) (text text' : Text) → link_fault parts many ≡ Some fault → link_fault parts many ≡ Some fault' → link_text files fault ≡ Some text → link_text files fault' ≡ Some text' → text ≡ text'
+link_text_once files parts many fault fault' text text' h h' e e' =
     let both : Some fault ≡ Some fault' = sym h ∙ h' in
     let same : fault ≡ fault' = cc in
     text_once text text' (sym e ∙ ap (link_text files) same ∙ e')
@@ -142,7 +142,7 @@ join_text_once fault fault' text text' h e e' = let same : fault ≡ fault' = cc
 
 merges_once : (merge : MergeTask) (trees : List Module) (one other : Decision) → Merges merge trees one → Merges merge trees other → one ≡ other
 merges_once merge trees one other (not_linked fault text found says) (not_linked fault' text' found' says') =
-    ap Refuses (link_text_once (source_files merge) (parts_of merge.sources trees) fault fault' text text' found found' says says')
+    ap Refuses (link_text_once (source_files merge) (parts_of merge.sources trees) (many_of (Merge merge)) fault fault' text text' found found' says says')
 merges_once merge trees one other (not_linked fault text found says) (not_joined fault' text' linked found' says') = absurd (let both : None ≡ Some fault = sym linked ∙ found in cc)
 merges_once merge trees one other (not_linked fault text found says) (merged tree is) = absurd (let both : None ≡ Some fault = sym is.0 ∙ found in cc)
 merges_once merge trees one other (not_joined fault text linked found says) (not_linked fault' text' found' says') = absurd (let both : None ≡ Some fault' = sym linked ∙ found' in cc)

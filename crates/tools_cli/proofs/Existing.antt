@@ -5,7 +5,7 @@ use Rattle.wasm_bytes.specs.Reading.{IsBytes}
 use Rattle.tool_io.specs.Outside.{Contents}
 use Rattle.tools_cli.specs.Words.{Text, Source, MergeTask, Task, Merge, task_of, source_files, many_of, modules_of, texts_of, inputs_of}
 use Rattle.tools_cli.specs.Effects.{Entry}
-use Rattle.tools_cli.specs.Texts.{fault_text, invalid_text, link_text, import_differs, import_ends_nowhere, import_limits_clash, global_has_no_value, too_many_memories}
+use Rattle.tools_cli.specs.Texts.{fault_text, invalid_text, link_text, import_mismatch, import_cycle, limits_clash, global_cycle, too_many_memories}
 use Rattle.tools_cli.specs.Job.{IsRead, IsAccepted, invalid, Job, Gathered, add_first, add_file, HoldBytes, Whole, Lacks, TooLong, gathered, most_input, Loads, loaded, faulty, AllLoad, OneFails, Decision, Merges, not_linked, not_joined, merged, parts_of, Decides, job_of, module_files, text_contents, InputsJob, not_loaded, decided, refused_before, TaskJob, not_begun, missing, too_long, all_read, HasJob, no_task, asked}
 use Rattle.wasm_tree.specs.declared.module.Module.{Module}
 use Rattle.wasm_format.specs.declared.fault.ReadFault.{ReadFault}
@@ -14,14 +14,13 @@ use Rattle.wasm_valid.specs.declared.kinds.Invalid.{Invalid}
 use Rattle.wasm_valid.specs.First.{IsFirstInvalid}
 use Rattle.wasm_format.specs.Contents.{read_fault}
 use Rattle.wasm_format.specs.Causes.{Cause}
-use Rattle.merge_terms.specs.Faults.{link_fault}
+use Rattle.merge_terms.specs.Faults.{link_fault, NamesPart}
 use Rattle.merge_terms.specs.Joined.{join_of, outcome, repeated_name, over_limit, joined_module}
 use Rattle.merge_terms.specs.declared.faults.LinkFault.{LinkFault}
 use Rattle.merge_terms.specs.declared.faults.LinkFault.TheVariants as link
 use Rattle.merge_terms.specs.declared.faults.JoinFault.{JoinFault}
 use Rattle.merge_terms.specs.declared.faults.JoinFault.TheVariants as join
-use Rattle.tools_cli.specs.Causes.{NamesPart}
-use Rattle.tools_cli.proofs.FaultParts.{fault_names_part, fault_not_memory}
+use Rattle.merge_terms.proofs.FaultParts.{fault_names_part, fault_not_memory}
 use Rattle.tools_cli.proofs.MergeDecided.{length_parts, length_files}
 use Rattle.tools_cli.proofs.Loading.{as_many}
 use Rattle.tools_cli.proofs.Determined.{AreBytes, SpelledHasNoFault, gathered_bytes, first_are_bytes}
@@ -86,14 +85,14 @@ named_text : (f : Text → Text) (o : Option Text) → SomeText o → SomeText (
 named_text f o (text, e) = (f text, ap (option_map f) e)
 
 link_told : (merge : MergeTask) (fault : LinkFault) → (fault ≡ link.NoMemory → ⊥) → NamesPart (length merge.sources) fault → SomeText (link_text (source_files merge) fault)
-link_told merge (link.ImportMismatch part import) never names = named_text (λ file. import_differs file import) (slice_get (source_files merge) part) (there_at merge.sources part names)
-link_told merge (link.ImportCycle part import) never names = named_text (λ file. import_ends_nowhere file import) (slice_get (source_files merge) part) (there_at merge.sources part names)
-link_told merge (link.LimitsClash part import) never names = named_text (λ file. import_limits_clash file import) (slice_get (source_files merge) part) (there_at merge.sources part names)
+link_told merge (link.ImportMismatch part import) never names = named_text (λ file. import_mismatch file import) (slice_get (source_files merge) part) (there_at merge.sources part names)
+link_told merge (link.ImportCycle part import) never names = named_text (λ file. import_cycle file import) (slice_get (source_files merge) part) (there_at merge.sources part names)
+link_told merge (link.LimitsClash part import) never names = named_text (λ file. limits_clash file import) (slice_get (source_files merge) part) (there_at merge.sources part names)
 link_told merge link.TooManyMemories never names = (too_many_memories, refl)
-link_told merge (link.GlobalCycle part global) never names = named_text (λ file. global_has_no_value file global) (slice_get (source_files merge) part) (there_at merge.sources part names)
+link_told merge (link.GlobalCycle part global) never names = named_text (λ file. global_cycle file global) (slice_get (source_files merge) part) (there_at merge.sources part names)
 link_told merge link.NoMemory never names = absurd (never refl)
 
-joins_told : (merge : MergeTask) (trees : List Module) (r : Result Module JoinFault) → link_fault (parts_of merge.sources trees) ≡ None → join_of (parts_of merge.sources trees) merge.mode ≡ r → (r ≡ Err join.NoMemory → ⊥)
+joins_told : (merge : MergeTask) (trees : List Module) (r : Result Module JoinFault) → link_fault (parts_of merge.sources trees) (many_of (Merge merge)) ≡ None → join_of (parts_of merge.sources trees) merge.mode ≡ r → (r ≡ Err join.NoMemory → ⊥)
     → (decision : Decision) × Merges merge trees decision
 joins_told merge trees (Ok tree) linked e never = (_, merged tree (linked, e))
 joins_told merge trees (Err (join.ExportConflict name)) linked e never = (_, not_joined (join.ExportConflict name) _ linked e refl)
@@ -105,14 +104,14 @@ no_want (Some name) which m e = cc
 no_want None (Some which) m e = cc
 no_want None None m e = cc
 
-merge_told : (merge : MergeTask) (trees : List Module) → length trees ≡ length merge.sources → (o : Option LinkFault) → link_fault (parts_of merge.sources trees) ≡ o → (decision : Decision) × Merges merge trees decision
+merge_told : (merge : MergeTask) (trees : List Module) → length trees ≡ length merge.sources → (o : Option LinkFault) → link_fault (parts_of merge.sources trees) (many_of (Merge merge)) ≡ o → (decision : Decision) × Merges merge trees decision
 merge_told merge trees each None e =
     let parts = parts_of merge.sources trees in
     joins_told merge trees (join_of parts merge.mode) e refl (no_want (repeated_name parts merge.mode) (over_limit (joined_module parts merge.mode)) (joined_module parts merge.mode))
 merge_told merge trees each (Some fault) e =
     let parts = parts_of merge.sources trees in
-    let there : NamesPart (length merge.sources) fault = subst (λ n. NamesPart n fault) (length_parts merge.sources trees each) (fault_names_part parts fault e) in
-    let told = link_told merge fault (λ is. fault_not_memory parts (e ∙ ap Some is)) there in
+    let there : NamesPart (length merge.sources) fault = subst (λ n. NamesPart n fault) (length_parts merge.sources trees each) (fault_names_part parts (many_of (Merge merge)) fault e) in
+    let told = link_told merge fault (λ is. fault_not_memory parts (many_of (Merge merge)) (e ∙ ap Some is)) there in
     (_, not_linked fault told.0 e told.1)
 
 task_told : (t : Task) (trees : List Module) (texts : List Text) → length trees ≡ length (modules_of t) → (decision : Decision) × Decides t trees texts decision

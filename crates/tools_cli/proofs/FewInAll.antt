@@ -13,7 +13,7 @@ use Rattle.base_lists.specs.Places.{count_of}
 use Rattle.merge_terms.specs.Merged.{imports_kind}
 use Rattle.merge_terms.specs.Joined as joined
 use Rattle.tools_cli.specs.Words.{Source, MergeTask, Merge}
-use Rattle.tools_cli.specs.Texts.{parts_over_limit}
+use Rattle.tools_cli.specs.Texts.{too_many_parts}
 use Rattle.tools_cli.specs.Job.{parts_of, refused_before, most_parts}
 use Rattle.tools_cli.specs.Causes.{IsWithinLimits}
 
@@ -105,7 +105,7 @@ parts_few sources trees few h = few_in_all (parts_of sources trees) (omega (arit
 pub imports_few : (sources : List Source) (trees : List Module) → length sources ≤ most_parts → Every IsWithinLimits trees → length (sites (parts_of sources trees)) < 2 ^ 32
 imports_few sources trees few h = let within = sites_few 0 (parts_of sources trees) (parts_within sources trees h) in omega (arith, parts_count sources trees, within)
 
-over_or_not : (b : Bool) → cond b (Some parts_over_limit) None ≡ None → b ≡ false
+over_or_not : (b : Bool) → cond b (Some too_many_parts) None ≡ None → b ≡ false
 over_or_not true e = absurd (cc)
 over_or_not false e = refl
 

@@ -1,5 +1,5 @@
 -- A job that is done keeps the module that it read.
-use Rattle.std.proofs.Common.{Bool, true, false, not, ◌&&◌, cond, ltb, ◌≡◌, ◌∙◌, refl, sym, ap, subst, ℕ, zero, suc, ◌-◌, ◌≤◌, List, [], ◌∷◌, ◌++◌, append-nil, take, length, Option, Some, None, IfSome, IfOk, Result, Ok, ◌<◌, ◌^◌, arith}
+use Rattle.std.proofs.Common.{Bool, true, false, not, ◌&&◌, cond, ltb, ◌≡◌, ◌∙◌, refl, sym, ap, subst, ℕ, zero, suc, ◌-◌, ◌≤◌, List, [], ◌∷◌, ◌++◌, append-nil, take, length, Option, Some, None, IfSome, IfOk, Result, Ok, ◌<◌, ◌^◌, arith, map}
 use Rattle.std.proofs.lemmas.Bool.Decides.{nat_tests}
 use Rattle.std.specs.FinMap.{get, insert, get-insert}
 use Rattle.std.specs.Cmp.{eq_by_cmp_equiv}
@@ -17,6 +17,8 @@ use Rattle.wasm_valid.specs.Validity.{IsValid, IsSingle}
 use Rattle.base_lists.specs.Every.{Every}
 use Rattle.wasm_format.specs.Files.{Spells, Within}
 use Rattle.wasm_meaning.specs.Linking.{Part, module_at}
+use Rattle.merge_terms.specs.Faults.{link_fault}
+use Rattle.merge_terms.proofs.FaultParts.{none_with_several}
 use Rattle.merge_validity.specs.Joinable.{CanBeJoined}
 use Rattle.merge_worlds.specs.Laws.{BehavesAs}
 use Rattle.worlds_in_turn.specs.Laws.{TurnsAreNotSeen}
@@ -36,7 +38,7 @@ pub record Respelled : Type 0 where
   pub ranges : (bytes : List ℕ) (tree : Module) → Spells bytes tree false → InRange tree
   pub bounded : (bytes : List ℕ) (tree : Module) → Spells bytes tree false → Within bytes false → IsBounded tree
   pub valid : (parts : List Part) (mode : Mode) → CanBeJoined parts mode → IsValid (joined_module parts mode)
-  pub single : (parts : List Part) (mode : Mode) → CanBeJoined parts mode → IsSingle (joined_module parts mode)
+  pub single : (parts : List Part) (mode : Mode) → CanBeJoined parts mode → link_fault parts false ≡ None → IsSingle (joined_module parts mode)
   pub sizes : (parts : List Part) (mode : Mode) → CanBeJoined parts mode → IsBounded (joined_module parts mode)
   pub in_range : (parts : List Part) (mode : Mode) → Every (λ (p : Part). InRange p.«module») parts → IsValid (joined_module parts mode) → IsSingle (joined_module parts mode) → IsBounded (joined_module parts mode)
       → InRange (joined_module parts mode)
@@ -54,18 +56,18 @@ joins_to (Some name) which m tree e = absurd (cc)
 joins_to None (Some which) m tree e = absurd (cc)
 joins_to None None m tree e = let same : m ≡ tree = cc in (refl, refl, same)
 
-merged_is_sound : Respelled → (parts : List Part) (mode : Mode) (tree : Module) → Every IsSound parts → Every (λ (p : Part). InRange p.«module») parts → AreMerged parts mode tree → IsAccepted false tree × InRange tree × BehavesAs parts mode tree
+merged_is_sound : Respelled → (parts : List Part) (mode : Mode) (tree : Module) → Every IsSound parts → Every (λ (p : Part). InRange p.«module») parts → AreMerged false parts mode tree → IsAccepted false tree × InRange tree × BehavesAs parts mode tree
 merged_is_sound k parts mode tree sound ranged is =
     let joins = joins_to (repeated_name parts mode) (over_limit (joined_module parts mode)) (joined_module parts mode) tree is.1 in
     let can : CanBeJoined parts mode = record {
       valid = sound_at IsValid (λ p h. h.0) parts sound;
       bounded = sound_at IsBounded (λ p h. h.1) parts sound;
-      linked = is.0;
+      linked = none_with_several parts false is.0;
       names = joins.0;
       sizes = joins.1;
     } in
     let valid = k.valid parts mode can in
-    let single = k.single parts mode can in
+    let single = k.single parts mode can is.0 in
     let P : Module → Type 0 = λ m. IsAccepted false m × InRange m × BehavesAs parts mode m in
     subst P joins.2 (record { valid = valid; single = λ e. single }, k.in_range parts mode ranged valid single (k.sizes parts mode can), k.same parts mode can)
 
@@ -106,6 +108,13 @@ first_file : (name : Text) (left : ℕ) (held : Option Text) (rest : ℕ → Gat
 first_file name left None rest files e = absurd (cc)
 first_file name left (Some bytes) rest files e =
     first_of_whole name bytes (left - length bytes) rest (rest (left - length bytes)) files refl (short_enough (ltb left (length bytes)) name (add_first (name, bytes) (rest (left - length bytes))) files e)
+
+-- what was gathered is what the files hold
+pub gathered_held : (files : Contents) (names : List Text) (most : ℕ) (inputs : List Entry) → gathered names files most ≡ Whole inputs → map (get files) names ≡ map (λ (e : Entry). Some e.1) inputs
+gathered_held files [] most inputs e = ap (map (λ (e : Entry). Some e.1)) (whole_is [] inputs e)
+gathered_held files (name ∷ names) most inputs e =
+    let (bytes, n, more, there, rest, is) = first_file name most (get files name) (gathered names files) inputs e in
+    ap (λ (o : Option Text). o ∷ map (get files) names) there ∙ ap (λ (l : List (Option Text)). Some bytes ∷ l) (gathered_held files names n more rest) ∙ ap (map (λ (e : Entry). Some e.1)) (sym is)
 
 -- what is loaded is read and accepted
 loaded_is : (many : Bool) (file bytes : Text) (r : Result Module Text) → Loads many file bytes r → IfOk r (λ tree. IsRead many bytes tree × IsAccepted many tree)
@@ -152,7 +161,7 @@ parts_in_range k (s ∷ sources) [] (tree ∷ trees) h = absurd h
 parts_in_range k (s ∷ sources) (file ∷ files) (tree ∷ trees) h = ((loaded_sound k file.0 file.1 tree (Some s.name) h.0).1, parts_in_range k sources files trees h.1)
 
 output_keeps : Respelled → (merge : MergeTask) (before : Contents) (files : List Entry) (trees : List Module) (tree : Module) (b : Bool) → gathered (inputs_of (Merge merge)) before most_input ≡ Whole files → AllLoad false (module_files (Merge merge) files) trees
-    → AreMerged (parts_of merge.sources trees) merge.mode tree → (b ≡ true → length (plain tree) ≤ most_output) → (text : Text)
+    → AreMerged false (parts_of merge.sources trees) merge.mode tree → (b ≡ true → length (plain tree) ≤ most_output) → (text : Text)
     → JobKept (Merge merge) before (cond b (Done ((merge.output, plain tree ++ []) ∷ []) []) (Refused text))
 output_keeps k merge before files trees tree false e loads is fits text = tt
 output_keeps k merge before files trees tree true e loads is fits text =
@@ -216,4 +225,4 @@ DoneKeeps = (words : List Text) (before : Contents) (writes : List Entry) (lines
 
 pub end_keeps : DoneKeeps → (held new : Option Contents) (words : List Text) (out out' : Option Text) → IfSome held (λ before. EndsDone words before new out out') → IfSome held (λ before. EndsKept words before new)
 end_keeps law None new words out out' h = tt
-end_keeps law (Some before) new words out out' (writes, lines, job, made_all, gains) = (made writes before, made_all, law words before writes lines job)
+end_keeps law (Some before) new words out out' (writes, lines, job, (made_all, gains)) = (made writes before, made_all, law words before writes lines job)

@@ -3,15 +3,13 @@ pub mod Gathering
 pub mod Performing
 pub mod Running
 pub mod Loading
-pub mod FaultParts
 pub mod MergeDecided
 pub mod Deciding
 pub mod Encoding
 pub mod Determined
 pub mod FirstItems
 pub mod Existing
-pub mod TypingDecided
-pub mod ValidDecided
+pub mod Accepted
 pub mod Kept
 pub mod Lines
 pub mod Apart

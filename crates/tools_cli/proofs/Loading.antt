@@ -10,11 +10,10 @@ use Rattle.wasm_tree.specs.declared.module.Module.{Module}
 use Rattle.wasm_format.specs.declared.fault.ReadFault.{ReadFault}
 use Rattle.wasm_format.specs.declared.fault.ReadFault.TheVariants.{NoMemory}
 use Rattle.wasm_format.specs.Contents.{read_fault}
-use Rattle.std.specs.declared.alloc.AllocError.{AllocError}
 use Rattle.tools_cli.specs.declared.refusal.Refusal.{Refusal}
 use Rattle.tools_cli.specs.declared.stop.Stop.{Stop}
 use Rattle.tools_cli.specs.declared.stop.Stop.TheVariants as stop
-use Rattle.tools_cli.specs.Causes.{total, StopsWith, InvalidText, IsRefusal, IsWithinLimits}
+use Rattle.tools_cli.specs.Causes.{total, StopsWith, InvalidText, IsWithinLimits}
 use Rattle.tools_cli.specs.Stop.{refusal_text}
 use Rattle.tools_cli.specs.Command.{input_entry, input_entries}
 use Rattle.tools_cli.specs.declared.gather.Input.{Input}
@@ -30,11 +29,6 @@ stops_weaker P Q f (stop.Usage line) h = absurd h
 stops_weaker P Q f (stop.CannotRead r) h = absurd h
 stops_weaker P Q f (stop.CannotWrite r) h = absurd h
 stops_weaker P Q f stop.CannotPrint h = absurd h
-
--- a refusal is a stop with its text
-pub refusal_stops : (P : Text → Type 0) (r : Result Refusal AllocError) (s : Stop) → IfOk r (λ x. P (refusal_text x)) → IsRefusal r s → StopsWith P s
-refusal_stops P (Ok r) s says is = subst (StopsWith P) (sym is) says
-refusal_stops P (Err e) s says is = subst (StopsWith P) (sym is) tt
 
 -- ---- one file more ----
 

@@ -1,45 +1,45 @@
 -- What merging the modules of a task decides.
-use Rattle.std.proofs.Common.{◌≡◌, ◌∙◌, sym, refl, ap, subst, ◌⊎◌, inl, inr, None, Some, Err, map, ℕ, zero, suc, ◌+◌, ◌<◌, List, [], ◌∷◌, ◌++◌, append_assoc, append-nil, add-one, drop, drop-cons, length, get_or, slice_get, slice_index_or, arith}
-use Rattle.tools_cli.specs.Words.{Text, Source, MergeTask, source_files}
+use Rattle.std.proofs.Common.{◌≡◌, ◌∙◌, sym, refl, ap, subst, ◌⊎◌, inl, inr, None, Some, Err, map, ℕ, zero, suc, ◌+◌, ◌<◌, List, [], ◌∷◌, ◌++◌, append_assoc, append-nil, add-one, drop, drop-cons, length, get_or, slice_get, slice_index_or, arith, Bool}
+use Rattle.tools_cli.specs.Words.{Text, Source, MergeTask, Merge, source_files, many_of}
 use Rattle.tools_cli.specs.Job.{Decision, Refuses, Makes, Merges, not_linked, not_joined, merged, AreMerged, parts_of}
 use Rattle.tools_cli.specs.Texts.{link_text, join_text}
 use Rattle.wasm_tree.specs.declared.module.Module.{Module}
 use Rattle.wasm_meaning.specs.Linking.{Part}
-use Rattle.merge_terms.specs.Faults.{link_fault}
+use Rattle.merge_terms.specs.Faults.{link_fault, NamesPart}
 use Rattle.merge_terms.specs.Joined.{Joins}
 use Rattle.merge_terms.specs.declared.faults.LinkFault.{LinkFault}
 use Rattle.merge_terms.specs.declared.faults.LinkFault.TheVariants as link
 use Rattle.merge_terms.specs.declared.faults.JoinFault.{JoinFault}
 use Rattle.merge_terms.specs.declared.faults.JoinFault.TheVariants as join
-use Rattle.tools_cli.specs.Causes.{MergeFails, NamesPart}
-use Rattle.tools_cli.specs.Command.{source_values, files_of}
-use Rattle.tools_cli.proofs.FaultParts.{fault_names_part}
+use Rattle.tools_cli.specs.Causes.{MergeFails}
+use Rattle.tools_cli.specs.Sources.{source_values, files_of}
+use Rattle.merge_terms.proofs.FaultParts.{fault_names_part}
 use Rattle.tools_cli.specs.declared.merge.Source as code
 
 -- the part that a fault names is there
-pub names_one : (parts : List Part) (fault : LinkFault) (n : ℕ) → length parts ≡ n → (fault ≡ link.NoMemory) ⊎ (link_fault parts ≡ Some fault) → NamesPart n fault
-names_one parts fault n same (inl none) = subst (NamesPart n) (sym none) tt
-names_one parts fault n same (inr found) = subst (λ k. NamesPart k fault) same (fault_names_part parts fault found)
+pub names_one : (parts : List Part) (many : Bool) (fault : LinkFault) (n : ℕ) → length parts ≡ n → (fault ≡ link.NoMemory) ⊎ (link_fault parts many ≡ Some fault) → NamesPart n fault
+names_one parts many fault n same (inl none) = subst (NamesPart n) (sym none) tt
+names_one parts many fault n same (inr found) = subst (λ k. NamesPart k fault) same (fault_names_part parts many fault found)
 
 -- a refusal of parts that do not link or are not joined
-pub link_fails : (merge : MergeTask) (parts : List Part) (fault : LinkFault) (text : Text) → (fault ≡ link.NoMemory) ⊎ (link_fault parts ≡ Some fault) → link_text (source_files merge) fault ≡ Some text → MergeFails merge parts text
+pub link_fails : (merge : MergeTask) (parts : List Part) (fault : LinkFault) (text : Text) → (fault ≡ link.NoMemory) ⊎ (link_fault parts (many_of (Merge merge)) ≡ Some fault) → link_text (source_files merge) fault ≡ Some text → MergeFails merge parts text
 link_fails merge parts fault text (inr found) says = inl (fault, found, says)
 link_fails merge parts fault text (inl none) says = let no_text : None ≡ Some text = ap (link_text (source_files merge)) (sym none) ∙ says in absurd (cc)
 
-pub join_fails : (merge : MergeTask) (parts : List Part) (fault : JoinFault) (text : Text) → link_fault parts ≡ None → (fault ≡ join.NoMemory) ⊎ Joins parts merge.mode (Err fault) → join_text fault ≡ Some text → MergeFails merge parts text
+pub join_fails : (merge : MergeTask) (parts : List Part) (fault : JoinFault) (text : Text) → link_fault parts (many_of (Merge merge)) ≡ None → (fault ≡ join.NoMemory) ⊎ Joins parts merge.mode (Err fault) → join_text fault ≡ Some text → MergeFails merge parts text
 join_fails merge parts fault text linked (inr found) says = inr (fault, linked, found, says)
 join_fails merge parts fault text linked (inl none) says = let no_text : None ≡ Some text = ap join_text (sym none) ∙ says in absurd (cc)
 
 pub merge_refused : (merge : MergeTask) (parts : List Part) (trees : List Module) → parts ≡ parts_of merge.sources trees → (text : Text) → MergeFails merge parts text → Merges merge trees (Refuses text)
-merge_refused merge parts trees named text (inl (fault, found, says)) = not_linked fault text (ap link_fault (sym named) ∙ found) says
+merge_refused merge parts trees named text (inl (fault, found, says)) = not_linked fault text (ap (λ ps. link_fault ps (many_of (Merge merge))) (sym named) ∙ found) says
 merge_refused merge parts trees named text (inr (fault, linked, found, says)) =
-    not_joined fault text (ap link_fault (sym named) ∙ linked) (let P : List Part → Type 0 = λ ps. Joins ps merge.mode (Err fault) in subst P named found) says
+    not_joined fault text (ap (λ ps. link_fault ps (many_of (Merge merge))) (sym named) ∙ linked) (let P : List Part → Type 0 = λ ps. Joins ps merge.mode (Err fault) in subst P named found) says
 
-pub merge_made : (merge : MergeTask) (parts : List Part) (trees : List Module) (tree : Module) (decision : Decision) → parts ≡ parts_of merge.sources trees → AreMerged parts merge.mode tree
+pub merge_made : (merge : MergeTask) (parts : List Part) (trees : List Module) (tree : Module) (decision : Decision) → parts ≡ parts_of merge.sources trees → AreMerged (many_of (Merge merge)) parts merge.mode tree
     → decision ≡ Makes (record { name = merge.output; tree = tree; custom = [] } ∷ []) [] → Merges merge trees decision
 merge_made merge parts trees tree decision named is made =
     let P : Decision → Type 0 = Merges merge trees in
-    let Q : List Part → Type 0 = λ ps. AreMerged ps merge.mode tree in
+    let Q : List Part → Type 0 = λ ps. AreMerged (many_of (Merge merge)) ps merge.mode tree in
     subst P (sym made) (merged tree (subst Q named is))
 
 -- ---- the parts and their sources ----

@@ -1,14 +1,14 @@
 -- From the parts of a run to its whole.
-use Rattle.std.proofs.Common.{◌≡◌, sym, refl, ap, subst, ℕ, ◌≤◌, List, [], ◌∷◌, Option, Some, None, IfSome, Contains, OnOk, Result, Ok, Err, string_bytes, inl, inr, ◌⊎◌}
-use Rattle.std.specs.Option.{option_map_or}
+use Rattle.std.proofs.Common.{◌≡◌, ◌∙◌, sym, refl, ap, subst, ℕ, ◌≤◌, List, [], ◌∷◌, ◌++◌, length, map, drop, Option, Some, None, IfSome, Contains, OnOk, Result, Ok, Err, string_bytes, inl, inr, ◌⊎◌}
+use Rattle.std.specs.FinMap.{get}
 use Rattle.tool_io.specs.Outside.{Contents, Becomes, AppendsPrefix, Rose}
 use Rattle.tool_io.proofs.Steps.{rose_earlier, becomes_itself, becomes_weaker, becomes_same}
-use Rattle.tools_cli.specs.Words.{Text, Task, task_of, inputs_of, outputs_of, usage_line}
+use Rattle.tools_cli.specs.Words.{Text, Task, task_of, modules_of, texts_of, inputs_of, usage_line}
 use Rattle.tools_cli.specs.Effects.{Entry, made, IsCut, written_names}
-use Rattle.tools_cli.specs.Job.{Job, Usage, Refused, Done, Whole, TooLong, gathered, most_input, InputsJob, TaskJob, refused_before, not_begun, too_long, all_read, HasJob, no_task, asked}
+use Rattle.tools_cli.specs.Job.{Job, Usage, Refused, Done, Whole, TooLong, gathered, most_input, text_contents, InputsJob, TaskJob, refused_before, not_begun, too_long, all_read, HasJob, no_task, asked}
 use Rattle.tools_cli.specs.Stop.{IsLine, usage, fault_line, invalid_line, parts_line, link_line, join_line, output_line, cannot_read_line, cannot_write_line, cannot_print_line, no_memory_line, no_memory, stop_line, line_of, refusal_text, Says, Reports}
-use Rattle.tools_cli.specs.Causes.{StopsWith, StopsGathering, StopsPreparing, StopsFinishing, AreOutputs, AllWritten, PrintsAfter, PrintsAsAllowed}
-use Rattle.tools_cli.specs.Run.{IsUsage, PrintsNothing, Outside, StopsWork, ChangesByTheJob, PrintsForTheJob, EndsDone, Gains, IsSame, HasOutsideCause, HasStatus, SomeRose}
+use Rattle.tools_cli.specs.Causes.{StopsWith, StopsGathering, StopsPreparing, StopsFinishing, MayHold, AreOutputs, AllWritten, PrintsAfter, PrintsAsAllowed}
+use Rattle.tools_cli.specs.Run.{IsUsage, PrintsNothing, JobIsDone, Outside, StopsWork, ChangesByTheJob, PrintsForTheJob, EndsDone, Gains, IsSame, HasOutsideCause, HasStatus, SomeRose}
 use Rattle.tools_cli.specs.declared.stop.Status.{Status}
 use Rattle.tools_cli.specs.declared.stop.Status.TheVariants as status
 use Rattle.tools_cli.specs.declared.stop.Stop.{Stop}
@@ -20,6 +20,8 @@ use Rattle.tools_cli.specs.declared.refusal.Refusal.TheVariants as refusal
 use Rattle.merge_terms.specs.declared.faults.LinkFault.TheVariants as link
 use Rattle.merge_terms.specs.declared.faults.JoinFault.TheVariants as join
 use Rattle.wasm_format.specs.declared.fault.ReadFault.TheVariants as fault
+use Rattle.base_lists.proofs.Places.{map_twice}
+use Rattle.tools_cli.proofs.Kept.{gathered_held}
 use Rattle.tools_cli.proofs.Pieces.{prefix_none}
 
 -- a task's job from the contents of its inputs
@@ -54,6 +56,18 @@ preparing_from_gathering held before now t (stop.Usage line) begun h = absurd h
 preparing_from_gathering held before now t (stop.CannotWrite name) begun h = absurd h
 preparing_from_gathering held before now t stop.CannotPrint begun h = absurd h
 
+-- the other texts that a task reads are those that it has read
+texts_behind_modules : (files : Contents) (modules texts : List Text) (inputs : List Entry) → map (get files) (modules ++ texts) ≡ map (λ (e : Entry). Some e.1) inputs → map (get files) texts ≡ map (λ (e : Entry). Some e.1) (drop (length modules) inputs)
+texts_behind_modules files [] texts inputs e = e
+texts_behind_modules files (name ∷ modules) texts [] e = absurd (cc)
+texts_behind_modules files (name ∷ modules) texts (input ∷ inputs) e = texts_behind_modules files modules texts inputs (let rest : map (get files) (modules ++ texts) ≡ map (λ (e : Entry). Some e.1) inputs = cc in rest)
+
+pub texts_held : (held : Option Contents) (t : Task) (inputs : List Entry) → IfSome held (λ a. gathered (inputs_of t) a most_input ≡ Whole inputs) → MayHold held (texts_of t) (text_contents t inputs)
+texts_held None t inputs h = tt
+texts_held (Some a) t inputs h =
+    texts_behind_modules a (modules_of t) (texts_of t) inputs (gathered_held a (inputs_of t) most_input inputs h)
+    ∙ sym (map_twice Some (λ (e : Entry). e.1) (drop (length (modules_of t)) inputs))
+
 -- the job of the words from the job of their task
 job_at : (words : List Text) (t : Task) (held : Option Contents) (job : Job) → task_of words ≡ Some t → IfSome held (λ a. TaskJob t a job) → IfSome held (λ a. HasJob words a job)
 job_at words t None job e h = tt
@@ -73,7 +87,7 @@ all_is writes a None h = absurd h
 prints_at : (words : List Text) (t : Task) (a : Contents) (y : Option Contents) (writes : List Entry) (lines before after : Text) → task_of words ≡ Some t → TaskJob t a (Done writes lines)
     → PrintsAfter lines (AllWritten writes (Some a) y) before after → PrintsForTheJob words a y before after
 prints_at words t a y writes lines before after e job (inl same) = inl same
-prints_at words t a y writes lines before after e job (inr (prefix, all)) = inr (writes, lines, asked t (Done writes lines) e job, all_is writes a y all, prefix)
+prints_at words t a y writes lines before after e job (inr (prefix, all)) = inr (writes, lines, asked t (Done writes lines) e job, (all_is writes a y all, prefix))
 
 pub prints_from_lines : (words : List Text) (t : Task) (x y : Option Contents) (o o' : Option Text) (writes : List Entry) (lines : Text) → task_of words ≡ Some t
     → IfSome x (λ a. TaskJob t a (Done writes lines)) → Becomes o o' (PrintsAfter lines (AllWritten writes x y)) → IfSome x (λ a. Becomes o o' (PrintsForTheJob words a y))
@@ -85,31 +99,30 @@ pub ends_done : {T E : Type 0} (r : Result T E) (words : List Text) (t : Task) (
     → IfSome x (λ a. TaskJob t a (Done writes lines)) → OnOk r (AllWritten writes x y) → OnOk r (Gains lines o o') → OnOk r (IfSome x (λ a. EndsDone words a y o o'))
 ends_done (Err e) words t x y o o' writes lines asks job all gains = tt
 ends_done (Ok u) words t None y o o' writes lines asks job all gains = tt
-ends_done (Ok u) words t (Some a) y o o' writes lines asks job all gains = (writes, lines, asked t (Done writes lines) asks job, all_is writes a y all, gains)
+ends_done (Ok u) words t (Some a) y o o' writes lines asks job all gains = (writes, lines, asked t (Done writes lines) asks job, (all_is writes a y all, gains))
 
 written_at : (words : List Text) (t : Task) (held : Option Contents) (writes : List Entry) (lines name : Text) → task_of words ≡ Some t
     → IfSome held (λ a. TaskJob t a (Done writes lines)) → Contains (written_names writes) name
-    → IfSome held (λ a. (writes : List Entry) × (lines : Text) × HasJob words a (Done writes lines) × Contains (written_names writes) name)
+    → IfSome held (λ a. JobIsDone words a (λ writes lines. Contains (written_names writes) name))
 written_at words t None writes lines name e h c = tt
 written_at words t (Some a) writes lines name e h c = (writes, lines, asked t (Done writes lines) e h, c)
 
 done_at : (words : List Text) (t : Task) (held new : Option Contents) (writes : List Entry) (lines : Text) → task_of words ≡ Some t
-    → IfSome held (λ a. TaskJob t a (Done writes lines)) → AllWritten writes held new → IfSome held (λ a. (writes : List Entry) × (lines : Text) × HasJob words a (Done writes lines) × (new ≡ Some (made writes a)))
+    → IfSome held (λ a. TaskJob t a (Done writes lines)) → AllWritten writes held new → IfSome held (λ a. JobIsDone words a (λ writes lines. new ≡ Some (made writes a)))
 done_at words t None new writes lines e h all = tt
 done_at words t (Some a) new writes lines e h all = (writes, lines, asked t (Done writes lines) e h, all_is writes a new all)
-
-output_at : (words : List Text) (t : Task) (name : Text) → task_of words ≡ Some t → Contains (outputs_of t) name → Contains (option_map_or outputs_of (task_of words) []) name
-output_at words t name e c = let P : Option Task → Type 0 = λ o. Contains (option_map_or outputs_of o []) name in subst P (sym e) c
 
 -- a stop of the writes or of the lines is one of the work
 pub finish_stops : (words : List Text) (t : Task) (old new : Outside) (mid : Text → ℕ) (writes : List Entry) (lines : Text) (s : Stop) → task_of words ≡ Some t
     → ((name : Text) → old.writes name ≤ mid name)
     → IfSome old.files (λ a. TaskJob t a (Done writes lines))
-    → AreOutputs t (written_names writes)
+    → AreOutputs t old.files (written_names writes)
     → StopsFinishing mid new.writes old.out_faults new.out_faults old.files new.files writes s
     → StopsWork words old new s
 finish_stops words t old new mid writes lines (stop.CannotWrite name) e later done outputs h = (
-  output_at words t (string_bytes name) e (outputs (string_bytes name) h.0),
+  t,
+  e,
+  outputs (string_bytes name) h.0,
   rose_earlier _ _ _ (later (string_bytes name)) h.1,
   written_at words t old.files writes lines (string_bytes name) e done h.0,
 )
@@ -192,7 +205,7 @@ pub complete_at_stop : (words : List Text) (old new : Outside) (s : Stop) (err e
 complete_at_stop words old new s err err' before now result h (inr (inl p)) = inl (inr (inr (inr p.1)))
 complete_at_stop words old new s err err' before now result h (inr (inr e)) = inr (inl e)
 complete_at_stop words old new (stop.CannotRead name) err err' before now result h (inl p) = inl (inl (name.now, h.0.3.1))
-complete_at_stop words old new (stop.CannotWrite name) err err' before now result h (inl p) = inl (inr (inl (string_bytes name, h.1)))
+complete_at_stop words old new (stop.CannotWrite name) err err' before now result h (inl p) = inl (inr (inl (string_bytes name, h.3)))
 complete_at_stop words old new stop.CannotPrint err err' before now result h (inl p) = inl (inr (inr (inl h.0)))
 complete_at_stop words old new (stop.Usage line) err err' before now result h (inl p) = inr (inr (usage_status words old.files result h.0 p.0))
 complete_at_stop words old new (stop.Refused refusal) err err' before now result h (inl p) = inr (inr (refused_status words old.files _ result h.0 p.0))

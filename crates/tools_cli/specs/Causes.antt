@@ -1,15 +1,14 @@
 -- When each stop of a command comes.
-use Rattle.std.specs.Prelude.{◌≡◌, ◌⊎◌, ℕ, ◌+◌, ◌-◌, ◌<◌, ◌≤◌, ltb, false, if◌then◌else◌, List, [], ◌∷◌, length, Contains, Option, Some, None, Result, Ok, Err, IfSome, string_bytes}
+use Rattle.std.specs.Prelude.{◌≡◌, ◌⊎◌, ℕ, ◌+◌, ◌-◌, ◌≤◌, ltb, false, if◌then◌else◌, List, [], ◌∷◌, length, map, Contains, Option, Some, None, Result, Ok, Err, IfSome, string_bytes}
 use Rattle.std.specs.FinMap.{get}
 use Rattle.tool_io.specs.Outside.{Contents, Rose, Becomes, AppendsPrefix}
-use Rattle.tools_cli.specs.Words.{Text, MergeTask, Task, source_files, inputs_of, outputs_of, may_print}
+use Rattle.tools_cli.specs.Words.{Text, MergeTask, Task, Merge, source_files, many_of, texts_of, inputs_of, outputs_of, may_print}
 use Rattle.tools_cli.specs.Job.{TooLong, gathered, TaskJob, refused_before, most_input}
 use Rattle.tools_cli.specs.Texts.{over_limit, invalid_text, link_text, join_text}
 use Rattle.wasm_valid.specs.declared.kinds.Invalid.{Invalid}
 use Rattle.wasm_valid.specs.First.{IsFirstInvalid}
 use Rattle.wasm_meaning.specs.Linking.{Part}
 use Rattle.merge_terms.specs.declared.faults.LinkFault.{LinkFault}
-use Rattle.merge_terms.specs.declared.faults.LinkFault.TheVariants as link
 use Rattle.merge_terms.specs.declared.faults.JoinFault.{JoinFault}
 use Rattle.merge_terms.specs.Faults.{link_fault}
 use Rattle.merge_terms.specs.Joined.{Joins}
@@ -19,8 +18,6 @@ use Rattle.wasm_tree.specs.Limits.{limit}
 use Rattle.tools_cli.specs.Job as job
 use Rattle.tools_cli.specs.Effects.{Entry, made, written_names}
 use Rattle.tools_cli.specs.Stop.{refusal_text}
-use Rattle.std.specs.declared.alloc.AllocError.{AllocError}
-use Rattle.tools_cli.specs.declared.refusal.Refusal.{Refusal}
 use Rattle.tools_cli.specs.declared.stop.Stop.{Stop}
 use Rattle.tools_cli.specs.declared.stop.Stop.TheVariants.{Refused, CannotRead, CannotWrite, CannotPrint, NoMemory}
 
@@ -65,22 +62,8 @@ InvalidText file tree text = (item : Invalid) × IsFirstInvalid tree false item 
 -- Why merging these parts is refused.
 abbrev pub MergeFails : MergeTask → List Part → Text → Type 0
 MergeFails merge parts text =
-    ((fault : LinkFault) × (link_fault parts ≡ Some fault) × (link_text (source_files merge) fault ≡ Some text))
-    ⊎ ((fault : JoinFault) × (link_fault parts ≡ None) × Joins parts merge.mode (Err fault) × (join_text fault ≡ Some text))
-
--- Where a fault of linking names a part, it is one of these many.
-abbrev pub NamesPart : ℕ → LinkFault → Type 0
-NamesPart parts (link.ImportMismatch part import) = part < parts
-NamesPart parts (link.ImportCycle part import) = part < parts
-NamesPart parts (link.LimitsClash part import) = part < parts
-NamesPart parts link.TooManyMemories = Unit {0}
-NamesPart parts (link.GlobalCycle part global) = part < parts
-NamesPart parts link.NoMemory = Unit {0}
-
--- A refusal as a stop, or want of memory for its text.
-abbrev pub IsRefusal : Result Refusal AllocError → Stop → Type 0
-IsRefusal (Ok refusal) stop = stop ≡ Refused refusal
-IsRefusal (Err e) stop = stop ≡ NoMemory
+    ((fault : LinkFault) × (link_fault parts (many_of (Merge merge)) ≡ Some fault) × (link_text (source_files merge) fault ≡ Some text))
+    ⊎ ((fault : JoinFault) × (link_fault parts (many_of (Merge merge)) ≡ None) × Joins parts merge.mode (Err fault) × (join_text fault ≡ Some text))
 
 -- No list of the tree has more entries than its limit.
 pub record IsWithinLimits (m : Module) : Type 0 where
@@ -100,9 +83,17 @@ StopsPreparing held before now task (CannotRead file) = (refused_before task ≡
 StopsPreparing held before now task NoMemory = Unit {0}
 StopsPreparing held before now task _ = ⊥
 
+-- The files of these names may hold these texts: they do, where they tell what they hold.
+abbrev pub MayHold : Option Contents → List Text → List Text → Type 0
+MayHold held names texts = IfSome held (λ files. map (get files) names ≡ map Some texts)
+
+-- The task may write a file of this name. Where the files do not tell the other texts that it reads, these may be any.
+abbrev pub MayWrite : Task → Option Contents → Text → Type 0
+MayWrite task held name = (texts : List Text) × MayHold held (texts_of task) texts × Contains (outputs_of task texts) name
+
 -- Each of the names is of a file that the task may write.
-abbrev pub AreOutputs : Task → List Text → Type 0
-AreOutputs task names = (name : Text) → Contains names name → Contains (outputs_of task) name
+abbrev pub AreOutputs : Task → Option Contents → List Text → Type 0
+AreOutputs task held names = (name : Text) → Contains names name → MayWrite task held name
 
 -- There are no lines, unless the task may print some.
 abbrev pub PrintsAsAllowed : Task → Text → Type 0
@@ -116,9 +107,13 @@ AllWritten writes old new = Becomes old new (λ a b. b ≡ made writes a)
 abbrev pub PrintsAfter : Text → Type 0 → Text → Text → Type 0
 PrintsAfter lines this before after = (after ≡ before) ⊎ (AppendsPrefix lines before after × this)
 
+-- Writing one of these files, which has this name, has failed.
+abbrev pub FailsAtOne : (Text → ℕ) → (Text → ℕ) → List Entry → Text → Type 0
+FailsAtOne before now writes name = Contains (written_names writes) name × Rose (before name) (now name)
+
 -- Why writing these files in order stops.
 abbrev pub StopsWriting : (Text → ℕ) → (Text → ℕ) → List Entry → Stop → Type 0
-StopsWriting before now writes (CannotWrite name) = Contains (written_names writes) (string_bytes name) × Rose (before (string_bytes name)) (now (string_bytes name))
+StopsWriting before now writes (CannotWrite name) = FailsAtOne before now writes (string_bytes name)
 StopsWriting before now writes NoMemory = Unit {0}
 StopsWriting before now writes _ = ⊥
 
@@ -130,7 +125,7 @@ StopsPrinting before now _ = ⊥
 
 -- Why writing the outputs and putting the lines stops: lines are put only where all is written.
 abbrev pub StopsFinishing : (Text → ℕ) → (Text → ℕ) → ℕ → ℕ → Option Contents → Option Contents → List Entry → Stop → Type 0
-StopsFinishing before now put_before put_now old new writes (CannotWrite name) = Contains (written_names writes) (string_bytes name) × Rose (before (string_bytes name)) (now (string_bytes name))
+StopsFinishing before now put_before put_now old new writes (CannotWrite name) = FailsAtOne before now writes (string_bytes name)
 StopsFinishing before now put_before put_now old new writes CannotPrint = Rose put_before put_now × AllWritten writes old new
 StopsFinishing before now put_before put_now old new writes NoMemory = Unit {0}
 StopsFinishing before now put_before put_now old new writes _ = ⊥

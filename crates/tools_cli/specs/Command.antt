@@ -1,19 +1,19 @@
 -- What the types of the code stand for.
 use Rattle.std.specs.Prelude.{List, ◌++◌, map, string_bytes}
 use Rattle.std.specs.Borrow.{Bor}
-use Rattle.tools_cli.specs.Words.{Text, Line}
+use Rattle.tools_cli.specs.Words.{Text, MergeLine}
 use Rattle.tools_cli.specs.Words as words
 use Rattle.tools_cli.specs.Effects.{Entry}
-use Rattle.tools_cli.specs.declared.merge.Source.{Source}
+use Rattle.tools_cli.specs.Sources.{source_values}
 use Rattle.tools_cli.specs.declared.merge.MergeTask.{MergeTask}
 use Rattle.tools_cli.specs.declared.task.Task.{Task}
 use Rattle.tools_cli.specs.declared.task.Task.TheVariants as task
 use Rattle.tools_cli.specs.declared.decide.Output.{Output}
 use Rattle.tools_cli.specs.declared.decide.Decision.{Decision}
 use Rattle.tools_cli.specs.Job as job
-use Rattle.tools_cli.specs.declared.said.Said.{Said}
-use Rattle.tools_cli.specs.declared.said.Said.TheVariants as said
-use Rattle.tools_cli.specs.declared.line.Line as line
+use Rattle.tools_cli.specs.declared.merge_word.MergeWord.{MergeWord}
+use Rattle.tools_cli.specs.declared.merge_word.MergeWord.TheVariants as word
+use Rattle.tools_cli.specs.declared.merge_line.MergeLine as line
 use Rattle.tools_cli.specs.declared.gather.Input.{Input}
 use Rattle.tools_cli.specs.declared.perform.Write.{Write}
 
@@ -22,30 +22,17 @@ abbrev pub names_of : List (Bor Text) → List Text
 names_of words = map (λ w. w.now) words
 
 -- What one word says, and what all say together.
-abbrev pub said_value : Said → words.Said
-said_value (said.Output output) = words.Output output.now
-said_value (said.Conflicts mode) = words.Conflicts mode
-said_value (said.Plain word) = words.Plain word.now
+abbrev pub merge_word_value : MergeWord → words.MergeWord
+merge_word_value (word.Output output) = words.Output output.now
+merge_word_value (word.Conflicts mode) = words.Conflicts mode
+merge_word_value (word.Plain text) = words.Plain text.now
 
-abbrev pub line_value : line.Line → Line
-line_value line = record { outputs = names_of line.outputs.items; modes = line.modes.items; plain = names_of line.plain.items }
+abbrev pub merge_line_value : line.MergeLine → MergeLine
+merge_line_value line = record { outputs = names_of line.outputs.items; modes = line.modes.items; plain = names_of line.plain.items }
 
 -- What is said first, and then more.
-abbrev pub join_lines : Line → Line → Line
-join_lines first more = record { outputs = first.outputs ++ more.outputs; modes = first.modes ++ more.modes; plain = first.plain ++ more.plain }
-
--- The sources of a merge, and their names.
-abbrev pub source_value : Source → words.Source
-source_value source = record { file = source.file.now; name = source.name.now }
-
-abbrev pub source_values : List Source → List words.Source
-source_values sources = map source_value sources
-
-abbrev pub files_of : List Source → List Text
-files_of sources = map (λ s. s.file) (source_values sources)
-
-abbrev pub source_names : List Source → List Text
-source_names sources = map (λ s. s.name.now) sources
+abbrev pub join_merge_lines : MergeLine → MergeLine → MergeLine
+join_merge_lines first more = record { outputs = first.outputs ++ more.outputs; modes = first.modes ++ more.modes; plain = first.plain ++ more.plain }
 
 -- The task of a command line.
 abbrev pub merge_value : MergeTask → words.MergeTask

@@ -12,7 +12,7 @@ use Rattle.merge_terms.specs.declared.faults.JoinFault.{JoinFault}
 use Rattle.merge_terms.specs.Faults.{link_fault}
 use Rattle.merge_terms.specs.Joined.{Joins}
 use Rattle.tools_cli.specs.Effects.{Entry}
-use Rattle.tools_cli.specs.Texts.{fault_text, invalid_text, link_text, join_text, over_limit, parts_over_limit, output_over_limit}
+use Rattle.tools_cli.specs.Texts.{fault_text, invalid_text, link_text, join_text, over_limit, too_many_parts, too_many}
 use Rattle.wasm_tree.specs.declared.module.Module.{Module}
 use Rattle.wasm_tree.specs.declared.which.Which.TheVariants.{InputBytes, Parts, OutputBytes}
 use Rattle.wasm_tree.specs.Limits.{limit}
@@ -111,16 +111,16 @@ abbrev pub parts_of : List Source → List Module → List Part
 parts_of (source ∷ sources) (tree ∷ trees) = record { name = Some source.name; «module» = tree } ∷ parts_of sources trees
 parts_of _ _ = []
 
--- The parts link, and this module is what joining them gives.
-abbrev pub AreMerged : List Part → Mode → Module → Type 0
-AreMerged parts mode tree = (link_fault parts ≡ None) × Joins parts mode (Ok tree)
+-- The parts link, with several memories only where there may be some, and this module is what joining them gives.
+abbrev pub AreMerged : (many : Bool) → List Part → Mode → Module → Type 0
+AreMerged many parts mode tree = (link_fault parts many ≡ None) × Joins parts mode (Ok tree)
 
 -- What a merge of these modules decides.
 pub data Merges (merge : MergeTask) (trees : List Module) : Decision → Type 0 where
-  not_linked : (fault : LinkFault) (text : Text) → link_fault (parts_of merge.sources trees) ≡ Some fault → link_text (source_files merge) fault ≡ Some text → Merges merge trees (Refuses text)
-  not_joined : (fault : JoinFault) (text : Text) → link_fault (parts_of merge.sources trees) ≡ None → Joins (parts_of merge.sources trees) merge.mode (Err fault) → join_text fault ≡ Some text
+  not_linked : (fault : LinkFault) (text : Text) → link_fault (parts_of merge.sources trees) (many_of (Merge merge)) ≡ Some fault → link_text (source_files merge) fault ≡ Some text → Merges merge trees (Refuses text)
+  not_joined : (fault : JoinFault) (text : Text) → link_fault (parts_of merge.sources trees) (many_of (Merge merge)) ≡ None → Joins (parts_of merge.sources trees) merge.mode (Err fault) → join_text fault ≡ Some text
       → Merges merge trees (Refuses text)
-  merged : (tree : Module) → AreMerged (parts_of merge.sources trees) merge.mode tree → Merges merge trees (Makes (record { name = merge.output; tree = tree; custom = [] } ∷ []) [])
+  merged : (tree : Module) → AreMerged (many_of (Merge merge)) (parts_of merge.sources trees) merge.mode tree → Merges merge trees (Makes (record { name = merge.output; tree = tree; custom = [] } ∷ []) [])
 
 -- What a task decides over its modules and its other texts.
 abbrev pub Decides : Task → List Module → List Text → Decision → Type 0
@@ -128,7 +128,7 @@ Decides (Merge merge) trees texts = Merges merge trees
 
 -- The text of a task that is refused before a file is read.
 abbrev pub refused_before : Task → Option Text
-refused_before (Merge merge) = if ltb most_parts (length merge.sources) then Some parts_over_limit else None
+refused_before (Merge merge) = if ltb most_parts (length merge.sources) then Some too_many_parts else None
 
 -- ---- the job ----
 
@@ -143,7 +143,7 @@ spelled_output output = (output.name, plain output.tree ++ output.custom)
 -- The job of a decision. All outputs are compared with the limit, in the order of writing, before one is written.
 abbrev pub job_of : Decision → Job
 job_of (Refuses text) = Refused text
-job_of (Makes outputs lines) = if list_all is_within outputs then Done (map spelled_output outputs) lines else Refused (output_over_limit OutputBytes)
+job_of (Makes outputs lines) = if list_all is_within outputs then Done (map spelled_output outputs) lines else Refused (too_many OutputBytes)
 
 -- The input files of a task that are modules, and the contents of the others.
 abbrev pub module_files : Task → List Entry → List Entry

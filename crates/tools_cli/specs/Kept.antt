@@ -28,7 +28,7 @@ pub record MergeKeeps (merge : MergeTask) (before after : Contents) : Type 0 whe
   pub trees : List Module
   pub tree : Module
   pub read : HoldModules (many_of (Merge merge)) before (source_files merge) trees
-  pub merged : AreMerged (parts_of merge.sources trees) merge.mode tree
+  pub merged : AreMerged (many_of (Merge merge)) (parts_of merge.sources trees) merge.mode tree
   pub written : HoldsModule (many_of (Merge merge)) after merge.output tree
   pub accepted : IsAccepted (many_of (Merge merge)) tree
   pub behaves : BehavesAs (parts_of merge.sources trees) merge.mode tree

@@ -2,6 +2,7 @@ pub mod Words
 pub mod Effects
 pub mod Texts
 pub mod Job
+pub mod Sources
 pub mod Command
 pub mod Stop
 pub mod Causes

@@ -1,20 +1,19 @@
 -- What a run of the program does to the files and the two sinks.
 use Rattle.std.specs.Prelude.{◌≡◌, ◌⊎◌, ℕ, false, List, [], ◌++◌, Option, Some, None, Result, Err, IfSome, Contains, string_bytes}
-use Rattle.std.specs.Option.{option_map_or}
 use Rattle.tool_io.specs.Outside.{Contents, Rose, Becomes, AppendsPrefix}
-use Rattle.tools_cli.specs.Words.{Text, Task, task_of, inputs_of, outputs_of, may_print, usage_line}
+use Rattle.tools_cli.specs.Words.{Text, Task, task_of, inputs_of, may_print, usage_line}
 use Rattle.tools_cli.specs.Effects.{Entry, made, IsCut, written_names}
 use Rattle.tools_cli.specs.Job.{Job, Usage, Missing, Refused, Done, HasJob, refused_before, most_input}
 use Rattle.tools_cli.specs.Stop.{stop_line, refusal_text, cannot_read, cannot_write, cannot_print}
-use Rattle.tools_cli.specs.Causes.{FailsAtItsTurn}
+use Rattle.tools_cli.specs.Causes.{FailsAtItsTurn, MayWrite}
 use Rattle.tools_cli.specs.declared.stop.Status.{Status}
 use Rattle.tools_cli.specs.declared.stop.Status.TheVariants as status
 use Rattle.tools_cli.specs.declared.stop.Stop.{Stop}
 use Rattle.tools_cli.specs.declared.stop.Stop.TheVariants as stop
 
--- The files that a command line may write.
-abbrev pub outputs_named : List Text → List Text
-outputs_named words = option_map_or outputs_of (task_of words) []
+-- The job is done, and this is so of its writes and its lines.
+abbrev pub JobIsDone : List Text → Contents → (List Entry → Text → Type 0) → Type 0
+JobIsDone words files P = (writes : List Entry) × (lines : Text) × HasJob words files (Done writes lines) × P writes lines
 
 -- It is as it was, where this is told.
 abbrev pub IsSame : {A : Type 0} → Option A → Option A → Type 0
@@ -28,18 +27,17 @@ Gains text old new = Becomes old new (λ a b. b ≡ a ++ text)
 -- a prefix of its bytes.
 abbrev pub ChangesByTheJob : List Text → Contents → Contents → Type 0
 ChangesByTheJob words old new =
-    (new ≡ old) ⊎ ((writes : List Entry) × (lines : Text) × HasJob words old (Done writes lines) × IsCut writes old new)
+    (new ≡ old) ⊎ JobIsDone words old (λ writes lines. IsCut writes old new)
 
 -- The output is as it was; or the job is done, all its writes are made, and a prefix of its lines was gained.
 abbrev pub PrintsForTheJob : List Text → Contents → Option Contents → Text → Text → Type 0
 PrintsForTheJob words old new before after =
-    (after ≡ before)
-    ⊎ ((writes : List Entry) × (lines : Text) × HasJob words old (Done writes lines) × (new ≡ Some (made writes old)) × AppendsPrefix lines before after)
+    (after ≡ before) ⊎ JobIsDone words old (λ writes lines. (new ≡ Some (made writes old)) × AppendsPrefix lines before after)
 
 -- The job is done: all its writes are made, and its lines are gained.
 abbrev pub EndsDone : List Text → Contents → Option Contents → Option Text → Option Text → Type 0
 EndsDone words old new before after =
-    (writes : List Entry) × (lines : Text) × HasJob words old (Done writes lines) × (new ≡ Some (made writes old)) × Gains lines before after
+    JobIsDone words old (λ writes lines. (new ≡ Some (made writes old)) × Gains lines before after)
 
 -- The job is refused, and the refusal's line is gained.
 abbrev pub EndsRefused : List Text → Contents → Option Text → Option Text → Type 0
@@ -53,13 +51,13 @@ FailsToRead words held before now name =
 -- A file that the command may write could not be written, and the job is done and writes it.
 abbrev pub FailsToWrite : List Text → Option Contents → (Text → ℕ) → (Text → ℕ) → Text → Type 0
 FailsToWrite words held before now name =
-    Contains (outputs_named words) name × Rose (before name) (now name)
-    × IfSome held (λ files. (writes : List Entry) × (lines : Text) × HasJob words files (Done writes lines) × Contains (written_names writes) name)
+    (task : Task) × (task_of words ≡ Some task) × MayWrite task held name × Rose (before name) (now name)
+    × IfSome held (λ files. JobIsDone words files (λ writes lines. Contains (written_names writes) name))
 
 -- Standard output could not be written, and the job is done: all its writes are made.
 abbrev pub FailsToPrint : List Text → Option Contents → Option Contents → ℕ → ℕ → Type 0
 FailsToPrint words held new before now =
-    Rose before now × IfSome held (λ files. (writes : List Entry) × (lines : Text) × HasJob words files (Done writes lines) × (new ≡ Some (made writes files)))
+    Rose before now × IfSome held (λ files. JobIsDone words files (λ writes lines. new ≡ Some (made writes files)))
 
 -- The words ask for no task that may print lines.
 abbrev pub PrintsNothing : List Text → Type 0

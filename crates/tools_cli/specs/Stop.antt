@@ -2,7 +2,7 @@
 use Rattle.std.specs.Prelude.{◌≡◌, ◌⊎◌, ℕ, ◌++◌, List, Option, Some, codes, string_bytes}
 use Rattle.tool_io.specs.Outside.{Becomes, Rose, AppendsPrefix}
 use Rattle.tools_cli.specs.Words.{Text, usage_line}
-use Rattle.tools_cli.specs.Texts.{fault_text, invalid_text, link_text, join_text, import_differs, import_ends_nowhere, import_limits_clash, global_has_no_value, too_many_memories, export_twice, not_module, malformed_section, malformed_function, unsupported_section, unsupported_function, over_limit, parts_over_limit, output_over_limit}
+use Rattle.tools_cli.specs.Texts.{fault_text, invalid_text, link_text, join_text, import_mismatch, import_cycle, limits_clash, global_cycle, too_many_memories, export_conflict, not_module, malformed, malformed_body, unsupported, unsupported_body, over_limit, too_many_parts, too_many}
 use Rattle.wasm_tree.specs.declared.which.Which.{Which}
 use Rattle.wasm_format.specs.declared.fault.ReadFault.{ReadFault}
 use Rattle.wasm_valid.specs.declared.kinds.Invalid as first
@@ -44,10 +44,10 @@ pub data IsLine : Text → Type 0 where
   usage : (words : List Text) → IsLine (usage_line words)
   fault_line : (file text : Text) (fault : ReadFault) → fault_text file fault ≡ Some text → IsLine (stop_line text)
   invalid_line : (file : Text) (item : first.Invalid) → IsLine (stop_line (invalid_text file item))
-  parts_line : IsLine (stop_line parts_over_limit)
+  parts_line : IsLine (stop_line too_many_parts)
   link_line : (files : List Text) (text : Text) (fault : LinkFault) → link_text files fault ≡ Some text → IsLine (stop_line text)
   join_line : (text : Text) (fault : JoinFault) → join_text fault ≡ Some text → IsLine (stop_line text)
-  output_line : (which : Which) → IsLine (stop_line (output_over_limit which))
+  output_line : (which : Which) → IsLine (stop_line (too_many which))
   cannot_read_line : (file : Text) → IsLine (stop_line (cannot_read file))
   cannot_write_line : (file : Text) → IsLine (stop_line (cannot_write file))
   cannot_print_line : IsLine (stop_line cannot_print)
@@ -68,20 +68,20 @@ status_of NoMemory = status.NoMemory
 -- The text of a refusal.
 abbrev pub refusal_text : Refusal → Text
 refusal_text (NotModule file) = not_module file.now
-refusal_text (Malformed file section) = malformed_section file.now section.number
-refusal_text (MalformedBody file func) = malformed_function file.now func.number
-refusal_text (Unsupported file section) = unsupported_section file.now section.number
-refusal_text (UnsupportedBody file func) = unsupported_function file.now func.number
+refusal_text (Malformed file section) = malformed file.now section.number
+refusal_text (MalformedBody file func) = malformed_body file.now func.number
+refusal_text (Unsupported file section) = unsupported file.now section.number
+refusal_text (UnsupportedBody file func) = unsupported_body file.now func.number
 refusal_text (Limit file which) = over_limit file.now which
 refusal_text (Invalid file kind index) = invalid_text file.now (record { kind = kind; index = index.number })
-refusal_text TooManyParts = parts_over_limit
-refusal_text (ImportMismatch file import) = import_differs file.now import.number
-refusal_text (ImportCycle file import) = import_ends_nowhere file.now import.number
-refusal_text (LimitsClash file import) = import_limits_clash file.now import.number
+refusal_text TooManyParts = too_many_parts
+refusal_text (ImportMismatch file import) = import_mismatch file.now import.number
+refusal_text (ImportCycle file import) = import_cycle file.now import.number
+refusal_text (LimitsClash file import) = limits_clash file.now import.number
 refusal_text TooManyMemories = too_many_memories
-refusal_text (GlobalCycle file global) = global_has_no_value file.now global.number
-refusal_text (ExportConflict name) = export_twice name
-refusal_text (TooMany which) = output_over_limit which
+refusal_text (GlobalCycle file global) = global_cycle file.now global.number
+refusal_text (ExportConflict name) = export_conflict name
+refusal_text (TooMany which) = too_many which
 
 -- What is put on standard error.
 abbrev pub line_of : Stop → Text

@@ -38,52 +38,52 @@ which_text which.OutputBytes = codes "output bytes"
 abbrev pub not_module : Text → Text
 not_module file = file ++ codes ": not a WebAssembly module"
 
-abbrev pub malformed_section : Text → ℕ → Text
-malformed_section file section = file ++ (codes ": malformed section " ++ decimal section)
+abbrev pub malformed : Text → ℕ → Text
+malformed file section = file ++ (codes ": malformed section " ++ decimal section)
 
-abbrev pub malformed_function : Text → ℕ → Text
-malformed_function file func = file ++ (codes ": malformed function " ++ decimal func)
+abbrev pub malformed_body : Text → ℕ → Text
+malformed_body file func = file ++ (codes ": malformed function " ++ decimal func)
 
-abbrev pub unsupported_section : Text → ℕ → Text
-unsupported_section file section = file ++ (codes ": unsupported in section " ++ decimal section)
+abbrev pub unsupported : Text → ℕ → Text
+unsupported file section = file ++ (codes ": unsupported in section " ++ decimal section)
 
-abbrev pub unsupported_function : Text → ℕ → Text
-unsupported_function file func = file ++ (codes ": unsupported in function " ++ decimal func)
+abbrev pub unsupported_body : Text → ℕ → Text
+unsupported_body file func = file ++ (codes ": unsupported in function " ++ decimal func)
 
 abbrev pub over_limit : Text → Which → Text
 over_limit file which = file ++ (codes ": limit on " ++ which_text which)
 
-abbrev pub parts_over_limit : Text
-parts_over_limit = codes "limit on parts"
+abbrev pub too_many_parts : Text
+too_many_parts = codes "limit on parts"
 
-abbrev pub output_over_limit : Which → Text
-output_over_limit which = codes "output exceeds the limit on " ++ which_text which
+abbrev pub too_many : Which → Text
+too_many which = codes "output exceeds the limit on " ++ which_text which
 
-abbrev pub import_differs : Text → ℕ → Text
-import_differs file import = file ++ (codes ": import " ++ (decimal import ++ codes " does not match"))
+abbrev pub import_mismatch : Text → ℕ → Text
+import_mismatch file import = file ++ (codes ": import " ++ (decimal import ++ codes " does not match"))
 
-abbrev pub import_ends_nowhere : Text → ℕ → Text
-import_ends_nowhere file import = file ++ (codes ": import " ++ (decimal import ++ codes " has no end"))
+abbrev pub import_cycle : Text → ℕ → Text
+import_cycle file import = file ++ (codes ": import " ++ (decimal import ++ codes " has no end"))
 
-abbrev pub import_limits_clash : Text → ℕ → Text
-import_limits_clash file import = file ++ (codes ": import " ++ (decimal import ++ codes " has limits that clash"))
+abbrev pub limits_clash : Text → ℕ → Text
+limits_clash file import = file ++ (codes ": import " ++ (decimal import ++ codes " has limits that clash"))
 
-abbrev pub global_has_no_value : Text → ℕ → Text
-global_has_no_value file global = file ++ (codes ": global " ++ (decimal global ++ codes " has no value"))
+abbrev pub global_cycle : Text → ℕ → Text
+global_cycle file global = file ++ (codes ": global " ++ (decimal global ++ codes " has no value"))
 
 abbrev pub too_many_memories : Text
 too_many_memories = codes "more than one memory"
 
-abbrev pub export_twice : Text → Text
-export_twice name = codes "export " ++ (name ++ codes " stands twice")
+abbrev pub export_conflict : Text → Text
+export_conflict name = codes "export " ++ (name ++ codes " stands twice")
 
 -- The text of a fault of a file. Want of memory is no fault of it.
 abbrev pub fault_text : Text → ReadFault → Option Text
 fault_text file NotModule = Some (not_module file)
-fault_text file (Malformed section) = Some (malformed_section file section)
-fault_text file (MalformedBody func) = Some (malformed_function file func)
-fault_text file (Unsupported section None) = Some (unsupported_section file section)
-fault_text file (Unsupported section (Some func)) = Some (unsupported_function file func)
+fault_text file (Malformed section) = Some (malformed file section)
+fault_text file (MalformedBody func) = Some (malformed_body file func)
+fault_text file (Unsupported section None) = Some (unsupported file section)
+fault_text file (Unsupported section (Some func)) = Some (unsupported_body file func)
 fault_text file (Limit which) = Some (over_limit file which)
 fault_text file NoMemory = None
 
@@ -107,15 +107,15 @@ invalid_text file item = file ++ (codes ": invalid " ++ (kind_text item.kind ++ 
 
 -- The text of a fault of linking parts that come from these files. Want of memory is no fault of them.
 abbrev pub link_text : List Text → LinkFault → Option Text
-link_text files (ImportMismatch part import) = option_map (λ file. import_differs file import) (slice_get files part)
-link_text files (ImportCycle part import) = option_map (λ file. import_ends_nowhere file import) (slice_get files part)
-link_text files (LimitsClash part import) = option_map (λ file. import_limits_clash file import) (slice_get files part)
+link_text files (ImportMismatch part import) = option_map (λ file. import_mismatch file import) (slice_get files part)
+link_text files (ImportCycle part import) = option_map (λ file. import_cycle file import) (slice_get files part)
+link_text files (LimitsClash part import) = option_map (λ file. limits_clash file import) (slice_get files part)
 link_text files TooManyMemories = Some too_many_memories
-link_text files (GlobalCycle part global) = option_map (λ file. global_has_no_value file global) (slice_get files part)
+link_text files (GlobalCycle part global) = option_map (λ file. global_cycle file global) (slice_get files part)
 link_text files link.NoMemory = None
 
 -- The text of a fault of joining parts.
 abbrev pub join_text : JoinFault → Option Text
-join_text (ExportConflict name) = Some (export_twice name)
-join_text (TooMany which) = Some (output_over_limit which)
+join_text (ExportConflict name) = Some (export_conflict name)
+join_text (TooMany which) = Some (too_many which)
 join_text join.NoMemory = None

@@ -38,27 +38,27 @@ behind (c ∷ beginning) [] = None
 behind (c ∷ beginning) (d ∷ text) = if c == d then behind beginning text else None
 
 -- What the words of a merge say, one after another: the output, the mode, or a plain word.
-pub data Said : Type 0 where
-  Output : Text → Said
-  Conflicts : Mode → Said
-  Plain : Text → Said
+pub data MergeWord : Type 0 where
+  Output : Text → MergeWord
+  Conflicts : Mode → MergeWord
+  Plain : Text → MergeWord
 
 -- An option whose value is the next word.
 abbrev pub takes_value : Text → Bool
 takes_value word = bytes_eq word (codes "-o") || bytes_eq word (codes "--output")
 
 -- The value of an option in the word of the option itself. It may begin with `-`.
-abbrev pub joined_value : Text → Option Said
+abbrev pub joined_value : Text → Option MergeWord
 joined_value [] = None
 joined_value (c ∷ value) = Some (Output (c ∷ value))
 
 -- The value of an option as a word of its own.
-abbrev pub own_value : Text → Option Said
+abbrev pub own_value : Text → Option MergeWord
 own_value word = if is_plain word then Some (Output word) else None
 
 -- What any other word says.
-abbrev pub other_said : Text → Option Said
-other_said word =
+abbrev pub other_merge_word : Text → Option MergeWord
+other_merge_word word =
     if is_plain word then Some (Plain word)
     else (if bytes_eq word (codes "--rename-export-conflicts") then Some (Conflicts mode.Rename)
     else (if bytes_eq word (codes "--skip-export-conflicts") then Some (Conflicts mode.Skip)
@@ -66,30 +66,30 @@ other_said word =
 
 -- ---- all words ----
 
-abbrev pub add_said : Option Said → Option (List Said) → Option (List Said)
-add_said (Some first) (Some rest) = Some (first ∷ rest)
-add_said _ _ = None
+abbrev pub add_merge_word : Option MergeWord → Option (List MergeWord) → Option (List MergeWord)
+add_merge_word (Some first) (Some rest) = Some (first ∷ rest)
+add_merge_word _ _ = None
 
 -- What words say, in order; none where one of them says nothing.
-abbrev pub all_said : List Text → Option (List Said)
-all_said [] = Some []
-all_said (word ∷ []) = if takes_value word then None else add_said (other_said word) (Some [])
-all_said (word ∷ next ∷ rest) = if takes_value word then add_said (own_value next) (all_said rest) else add_said (other_said word) (all_said (next ∷ rest))
+abbrev pub merge_words : List Text → Option (List MergeWord)
+merge_words [] = Some []
+merge_words (word ∷ []) = if takes_value word then None else add_merge_word (other_merge_word word) (Some [])
+merge_words (word ∷ next ∷ rest) = if takes_value word then add_merge_word (own_value next) (merge_words rest) else add_merge_word (other_merge_word word) (merge_words (next ∷ rest))
 
 -- What is said, sorted: the outputs, the modes and the plain words, each in order.
-pub record Line : Type 0 where
+pub record MergeLine : Type 0 where
   pub outputs : List Text
   pub modes : List Mode
   pub plain : List Text
 
-abbrev pub add_to_line : Said → Line → Line
-add_to_line (Output output) line = record line { outputs = output ∷ line.outputs }
-add_to_line (Conflicts mode) line = record line { modes = mode ∷ line.modes }
-add_to_line (Plain word) line = record line { plain = word ∷ line.plain }
+abbrev pub add_to_merge_line : MergeWord → MergeLine → MergeLine
+add_to_merge_line (Output output) line = record line { outputs = output ∷ line.outputs }
+add_to_merge_line (Conflicts mode) line = record line { modes = mode ∷ line.modes }
+add_to_merge_line (Plain word) line = record line { plain = word ∷ line.plain }
 
-abbrev pub line_of : List Said → Line
-line_of [] = record { outputs = []; modes = []; plain = [] }
-line_of (said ∷ rest) = add_to_line said (line_of rest)
+abbrev pub merge_line_of : List MergeWord → MergeLine
+merge_line_of [] = record { outputs = []; modes = []; plain = [] }
+merge_line_of (said ∷ rest) = add_to_merge_line said (merge_line_of rest)
 
 -- Plain words as pairs FILE NAME; none where a file has no name.
 abbrev pub sources_of : List Text → Option (List Source)
@@ -113,21 +113,21 @@ one_output (output ∷ []) = Some output
 one_output _ = None
 
 -- At most one mode.
-abbrev pub one_mode : List Mode → Option Mode
-one_mode [] = Some mode.Refuse
-one_mode (mode ∷ []) = Some mode
-one_mode _ = None
+abbrev pub merge_mode : List Mode → Option Mode
+merge_mode [] = Some mode.Refuse
+merge_mode (mode ∷ []) = Some mode
+merge_mode _ = None
 
 abbrev pub make_merge : Option (List Source) → Option Text → Option Mode → Option Task
 make_merge (Some sources) (Some output) (Some mode) = Some (Merge (record { sources = sources; output = output; mode = mode }))
 make_merge _ _ _ = None
 
-abbrev pub task_of_line : Line → Option Task
-task_of_line line = make_merge (option_and_then some_apart (sources_of line.plain)) (one_output line.outputs) (one_mode line.modes)
+abbrev pub task_of_merge_line : MergeLine → Option Task
+task_of_merge_line line = make_merge (option_and_then some_apart (sources_of line.plain)) (one_output line.outputs) (merge_mode line.modes)
 
 -- The task of the words after `merge`.
 abbrev pub merge_of : List Text → Option Task
-merge_of words = option_and_then (λ said. task_of_line (line_of said)) (all_said words)
+merge_of words = option_and_then (λ said. task_of_merge_line (merge_line_of said)) (merge_words words)
 
 -- The task of a command line, or none.
 unfoldable pub task_of : List Text → Option Task
@@ -156,9 +156,9 @@ texts_of (Merge merge) = []
 abbrev pub inputs_of : Task → List Text
 inputs_of task = modules_of task ++ texts_of task
 
--- The files that a task may write.
-abbrev pub outputs_of : Task → List Text
-outputs_of (Merge merge) = merge.output ∷ []
+-- The files that a task may write, where these are the other texts that it reads, which may name some.
+abbrev pub outputs_of : Task → (texts : List Text) → List Text
+outputs_of (Merge merge) texts = merge.output ∷ []
 
 -- Whether a task may print lines.
 abbrev pub may_print : Task → Bool

@@ -2,7 +2,8 @@
 ghost use Rattle.std.specs.Prelude.{◌≡◌, IfOk, string_bytes, decimal};
 
 use itoa::Buffer;
-use std::alloc::{AllocError, Global};
+use std::alloc::Global;
+use wasm_bytes::NoMemory;
 
 /// A number with its decimal digits.
 #[derive(Drop)]
@@ -14,7 +15,7 @@ pub(crate) struct Digits {
 
 impl Digits {
     /// The number with its digits. The error is want of memory.
-    pub(crate) fn new(alloc: Global, number: u32) -> Result<Digits, AllocError>
+    pub(crate) fn new(alloc: Global, number: u32) -> Result<Digits, NoMemory>
         ensures { IfOk result (λ digits. digits.number ≡ number) }
     {
         let mut buffer = Buffer::new();

@@ -9,8 +9,9 @@ use crate::decide::{Decision, Output};
 use crate::perform::Write;
 use crate::refusal::Refusal;
 use crate::stop::Stop;
-use std::alloc::{AllocError, Global};
+use std::alloc::Global;
 use std::mem::forget;
+use wasm_bytes::NoMemory;
 use wasm_tree::{MOST_OUTPUT_BYTES, Which};
 use wasm_write::{fits, write};
 
@@ -34,13 +35,11 @@ fn are_within(outputs: &[Output]) -> bool
 }
 
 // One output, encoded.
-fn encode_output(alloc: Global, output: Output) -> Result<Write, AllocError>
+fn encode_output(alloc: Global, output: Output) -> Result<Write, NoMemory>
     ensures { IfOk result (λ write. write_entry write ≡ spelled_output (output_value output)) }
 {
     let Output { name, tree, custom } = output;
-    let Ok(mut bytes) = write(alloc, tree.module()) else {
-        return Err(AllocError);
-    };
+    let mut bytes = write(alloc, tree.module())?;
     // The process ends soon: the memory of a tree goes back at once, and not node by node.
     forget(tree);
     bytes.extend_from_slice(custom.as_slice())?;
@@ -48,7 +47,7 @@ fn encode_output(alloc: Global, output: Output) -> Result<Write, AllocError>
 }
 
 // All outputs, encoded.
-fn encode_outputs(alloc: Global, outputs: Vec<Output>) -> Result<Vec<Write>, AllocError>
+fn encode_outputs(alloc: Global, outputs: Vec<Output>) -> Result<Vec<Write>, NoMemory>
     ensures { IfOk result (λ writes. write_entries writes.items ≡ map spelled_output (output_values outputs.items)) }
 {
     let mut writes = Vec::new(alloc);
@@ -70,8 +69,6 @@ pub(crate) fn encode<'a>(alloc: Global, decision: Decision) -> Result<Plan, Stop
             which: Which::OutputBytes,
         }));
     }
-    match encode_outputs(alloc, outputs) {
-        Ok(writes) => Ok(Plan { writes, lines }),
-        Err(AllocError) => Err(Stop::NoMemory),
-    }
+    let writes = encode_outputs(alloc, outputs)?;
+    Ok(Plan { writes, lines })
 }

@@ -46,9 +46,7 @@ pub(crate) fn gather<'a, F: Files>(
                     }));
                 }
                 left -= bytes.len();
-                if inputs.push(Input { name, bytes }).is_err() {
-                    return Err(Stop::NoMemory);
-                }
+                inputs.push(Input { name, bytes })?;
             }
             Err(IoFault::Failed) => return Err(Stop::CannotRead(name)),
             Err(IoFault::NoMemory) => return Err(Stop::NoMemory),

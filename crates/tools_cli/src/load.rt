@@ -8,7 +8,7 @@ ghost use Rattle.tools_cli.specs.Job.{Loads, AllLoad, OneFails, IsAccepted, most
 ghost use Rattle.tools_cli.specs.Causes.{total, StopsWith, InvalidText};
 
 use crate::gather::Input;
-use crate::refusal::{refuse_fault, refuse_item, refused};
+use crate::refusal::{refuse_fault, refuse_item};
 use crate::stop::Stop;
 use std::alloc::Global;
 use wasm_read::read;
@@ -23,7 +23,7 @@ fn accept<'a>(alloc: Global, file: &'a str, tree: Module) -> Result<Valid, Stop<
 {
     match validate(alloc, tree) {
         Ok(valid) => Ok(valid),
-        Err(Rejected::Invalid(_, item)) => Err(refused(refuse_item(alloc, file, item))),
+        Err(Rejected::Invalid(_, item)) => Err(Stop::Refused(refuse_item(alloc, file, item)?)),
         Err(Rejected::NoMemory(_)) => Err(Stop::NoMemory),
     }
 }
@@ -36,7 +36,7 @@ fn load<'a>(alloc: Global, input: &Input<'a>) -> Result<Valid, Stop<'a>>
 {
     match read(alloc, input.bytes.as_slice()) {
         Ok(tree) => accept(alloc, input.name, tree),
-        Err(fault) => Err(refused(refuse_fault(alloc, input.name, fault))),
+        Err(fault) => Err(Stop::Refused(refuse_fault(alloc, input.name, fault)?)),
     }
 }
 
@@ -48,14 +48,8 @@ pub(crate) fn load_all<'a>(alloc: Global, inputs: &[Input<'a>]) -> Result<Vec<Va
 {
     let mut modules = Vec::new(alloc);
     for input in inputs {
-        match load(alloc, input) {
-            Ok(tree) => {
-                if modules.push(tree).is_err() {
-                    return Err(Stop::NoMemory);
-                }
-            }
-            Err(stop) => return Err(stop),
-        }
+        let tree = load(alloc, input)?;
+        modules.push(tree)?;
     }
     Ok(modules)
 }

@@ -1,9 +1,11 @@
 // What a merge is to do.
-ghost use Rattle.std.specs.Prelude.{◌≡◌, true, map, IfOk};
+ghost use Rattle.std.specs.Prelude.{◌≡◌, true, IfOk};
 ghost use Rattle.tools_cli.specs.Words.{are_apart};
+ghost use Rattle.tools_cli.specs.Sources.{source_names};
 
 use export_names::Mode;
-use std::alloc::{AllocError, Global};
+use std::alloc::Global;
+use wasm_bytes::NoMemory;
 
 /// Where a part of a merge comes from.
 #[derive(Clone, Copy, Debug)]
@@ -18,7 +20,7 @@ pub(crate) struct MergeTask<'a> {
     pub(crate) sources: Vec<Source<'a>>,
     pub(crate) output: &'a str,
     pub(crate) mode: Mode,
-    ghost apart: { are_apart (map (λ s. s.name.now) sources.items) ≡ true },
+    ghost apart: { are_apart (source_names sources.items) ≡ true },
 }
 
 impl<'a> MergeTask<'a> {
@@ -26,7 +28,7 @@ impl<'a> MergeTask<'a> {
     ghost use Rattle.tools_cli.specs.Command.{merge_value, names_of};
 
     /// The files of the parts, in order.
-    pub(crate) fn files(&self, alloc: Global) -> Result<Vec<&'a str>, AllocError>
+    pub(crate) fn files(&self, alloc: Global) -> Result<Vec<&'a str>, NoMemory>
         ensures { IfOk result (λ names. names_of names.items ≡ source_files (merge_value self.now)) }
     {
         let mut names = Vec::new(alloc);

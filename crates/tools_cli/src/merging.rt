@@ -1,21 +1,22 @@
 // What a merge decides.
-ghost use Rattle.std.specs.Prelude.{◌≡◌, ◌≤◌, ◌<◌, ◌^◌, ◌∷◌, [], length, IfOk, IfErr};
+ghost use Rattle.std.specs.Prelude.{◌≡◌, ◌≤◌, ◌<◌, ◌^◌, ◌∷◌, [], false, length, IfOk, IfErr};
 ghost use Rattle.base_lists.specs.Every.{Every};
 ghost use Rattle.merge_terms.specs.Parts.{named_modules, HaveDistinctNames};
 ghost use Rattle.merge_terms.specs.Joined.{FewInAll};
 ghost use Rattle.wasm_meaning.specs.Linking.{sites};
-ghost use Rattle.tools_cli.specs.Command.{merge_value, source_values, decision_value, output_values};
+ghost use Rattle.tools_cli.specs.Command.{merge_value, decision_value, output_values};
+ghost use Rattle.tools_cli.specs.Sources.{source_values};
 ghost use Rattle.tools_cli.specs.Job.{Merges, Refuses, AreMerged, parts_of, most_parts};
 ghost use Rattle.tools_cli.specs.Causes.{IsWithinLimits, StopsWith, MergeFails};
 
 use crate::decide::{Decision, Output};
 use crate::merge::{MergeTask, Source};
-use crate::refusal::{refuse_join, refuse_link, refused};
+use crate::refusal::{refuse_join, refuse_link};
 use crate::stop::Stop;
 use merge_join::join;
 use merge_link::resolve;
 use merge_terms::Part;
-use std::alloc::{AllocError, Global};
+use std::alloc::Global;
 use wasm_bytes::{Items, Name, NoMemory};
 use wasm_valid::Valid;
 
@@ -46,21 +47,24 @@ fn merge_parts<'a>(
     requires each { length parts ≡ length merge.now.sources.items }
     requires imports { length (sites (named_modules parts)) < 2 ^ 32 }
     requires few { FewInAll (named_modules parts) }
-    ensures merged { IfOk result (λ tree. AreMerged (named_modules parts) merge.now.mode tree) }
+    ensures merged { IfOk result (λ tree. AreMerged false (named_modules parts) merge.now.mode tree) }
     ensures stops { IfErr result (StopsWith (MergeFails (merge_value merge.now) (named_modules parts))) }
 {
     let links = match resolve(alloc, &parts) {
         Ok(links) => links,
-        Err(fault) => return Err(refused(refuse_link(alloc, merge.sources.as_slice(), fault))),
+        Err(fault) => {
+            let refusal = refuse_link(alloc, merge.sources.as_slice(), fault)?;
+            return Err(Stop::Refused(refusal));
+        }
     };
     match join(alloc, parts, &links, merge.mode) {
         Ok(tree) => Ok(tree),
-        Err(fault) => Err(refused(refuse_join(fault))),
+        Err(fault) => Err(Stop::Refused(refuse_join(fault)?)),
     }
 }
 
 // One output without custom sections, and no lines.
-fn one_module(alloc: Global, name: &str, tree: Valid) -> Result<Decision, AllocError>
+fn one_module(alloc: Global, name: &str, tree: Valid) -> Result<Decision, NoMemory>
     ensures outputs { IfOk result (λ decision. output_values decision.outputs.items ≡ record { name = name.now; tree = tree; custom = [] } ∷ []) }
     ensures lines { IfOk result (λ decision. decision.lines.items ≡ []) }
 {
@@ -84,16 +88,8 @@ pub(crate) fn decide_merge<'a>(
     ensures decided { IfOk result (λ decision. Merges (merge_value merge.now) modules.items (decision_value decision)) }
     ensures stops { IfErr result (StopsWith (λ text. Merges (merge_value merge.now) modules.items (Refuses text))) }
 {
-    let parts = match name_parts(alloc, merge.sources.as_slice(), modules) {
-        Ok(parts) => parts,
-        Err(NoMemory) => return Err(Stop::NoMemory),
-    };
-    let tree = match merge_parts(alloc, merge, parts) {
-        Ok(tree) => tree,
-        Err(stop) => return Err(stop),
-    };
-    match one_module(alloc, merge.output, tree) {
-        Ok(decision) => Ok(decision),
-        Err(_) => Err(Stop::NoMemory),
-    }
+    let parts = name_parts(alloc, merge.sources.as_slice(), modules)?;
+    let tree = merge_parts(alloc, merge, parts)?;
+    let decision = one_module(alloc, merge.output, tree)?;
+    Ok(decision)
 }

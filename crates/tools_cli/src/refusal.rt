@@ -1,16 +1,15 @@
 // What is wrong with the input, and the text of it.
-ghost use Rattle.std.specs.Prelude.{◌≡◌, ◌++◌, Some, IfOk, flat_map, length, slice_get, codes, ◌<◌};
+ghost use Rattle.std.specs.Prelude.{◌≡◌, ◌++◌, Some, IfOk, decimal, flat_map, length, slice_get, codes, ◌<◌};
 ghost use Rattle.tools_cli.specs.Texts.{which_text, fault_text, kind_text, invalid_text, link_text, join_text};
-ghost use Rattle.tools_cli.specs.Stop.{refusal_text, stop_line};
-ghost use Rattle.tools_cli.specs.Command.{files_of};
-ghost use Rattle.tools_cli.specs.Causes.{IsRefusal, NamesPart};
+ghost use Rattle.tools_cli.specs.Stop.{refusal_text};
+ghost use Rattle.tools_cli.specs.Sources.{files_of};
+ghost use Rattle.merge_terms.specs.Faults.{NamesPart};
 
 use crate::digits::Digits;
 use crate::merge::Source;
-use crate::stop::Stop;
 use merge_terms::{JoinFault, LinkFault};
-use std::alloc::{AllocError, Global};
-use wasm_bytes::Name;
+use std::alloc::Global;
+use wasm_bytes::{Name, NoMemory};
 use wasm_read::ReadFault;
 use wasm_tree::Which;
 use wasm_valid::{Invalid, ItemKind};
@@ -72,22 +71,12 @@ pub(crate) enum Refusal<'a> {
     },
 }
 
-/// A refusal as a stop, or want of memory for its text.
-pub(crate) fn refused<'a>(refusal: Result<Refusal<'a>, AllocError>) -> Stop<'a>
-    ensures { IsRefusal refusal.entry result }
-{
-    match refusal {
-        Ok(refusal) => Stop::Refused(refusal),
-        Err(_) => Stop::NoMemory,
-    }
-}
-
 /// The refusal of a file for its first fault. Want of memory is the error, also as a fault.
 pub(crate) fn refuse_fault<'a>(
     alloc: Global,
     file: &'a str,
     fault: ReadFault,
-) -> Result<Refusal<'a>, AllocError>
+) -> Result<Refusal<'a>, NoMemory>
     ensures { IfOk result (λ refusal. fault_text file.entry.now fault ≡ Some (refusal_text refusal)) }
 {
     match fault {
@@ -115,7 +104,7 @@ pub(crate) fn refuse_fault<'a>(
             func: Digits::new(alloc, func)?,
         }),
         ReadFault::Limit { which } => Ok(Refusal::Limit { file, which }),
-        ReadFault::NoMemory => Err(AllocError),
+        ReadFault::NoMemory => Err(NoMemory),
     }
 }
 
@@ -124,7 +113,7 @@ pub(crate) fn refuse_item<'a>(
     alloc: Global,
     file: &'a str,
     item: Invalid,
-) -> Result<Refusal<'a>, AllocError>
+) -> Result<Refusal<'a>, NoMemory>
     ensures { IfOk result (λ refusal. refusal_text refusal ≡ invalid_text file.entry.now item) }
 {
     let index = Digits::new(alloc, item.index)?;
@@ -148,7 +137,7 @@ pub(crate) fn refuse_link<'a>(
     alloc: Global,
     sources: &[Source<'a>],
     fault: LinkFault,
-) -> Result<Refusal<'a>, AllocError>
+) -> Result<Refusal<'a>, NoMemory>
     requires { NamesPart (length sources.now) fault }
     ensures { IfOk result (λ refusal. link_text (files_of sources.now) fault ≡ Some (refusal_text refusal)) }
 {
@@ -170,18 +159,18 @@ pub(crate) fn refuse_link<'a>(
             file: file_of(sources, part),
             global: Digits::new(alloc, global)?,
         }),
-        LinkFault::NoMemory => Err(AllocError),
+        LinkFault::NoMemory => Err(NoMemory),
     }
 }
 
 /// The refusal of parts that are not joined. Want of memory is the error, as a fault.
-pub(crate) fn refuse_join<'a>(fault: JoinFault) -> Result<Refusal<'a>, AllocError>
+pub(crate) fn refuse_join<'a>(fault: JoinFault) -> Result<Refusal<'a>, NoMemory>
     ensures { IfOk result (λ refusal. join_text fault ≡ Some (refusal_text refusal)) }
 {
     match fault {
         JoinFault::ExportConflict { name } => Ok(Refusal::ExportConflict { name }),
         JoinFault::TooMany { which } => Ok(Refusal::TooMany { which }),
-        JoinFault::NoMemory => Err(AllocError),
+        JoinFault::NoMemory => Err(NoMemory),
     }
 }
 
@@ -229,93 +218,44 @@ fn invalid_kind<'a>(kind: ItemKind) -> &'a str
     }
 }
 
-/// The line of a refusal, in pieces.
-pub(crate) fn refusal_pieces<'a>(refusal: &'a Refusal<'a>) -> [&'a str; 5]
-    ensures { flat_map (λ p. p.now) result ≡ stop_line (refusal_text refusal.now) }
+// What is said of a file, at a number.
+fn at<'a>(file: &'a str, says: &'a str, number: &'a Digits) -> [&'a str; 4]
+    ensures { flat_map (λ p. p.now) result ≡ file.now ++ (says.now ++ decimal number.now.number) }
+{
+    [file, says, number.as_str(), ""]
+}
+
+// What is said of an import of a file.
+fn at_import<'a>(file: &'a str, import: &'a Digits, says: &'a str) -> [&'a str; 4]
+    ensures { flat_map (λ p. p.now) result ≡ file.now ++ (codes ": import " ++ (decimal import.now.number ++ says.now)) }
+{
+    [file, ": import ", import.as_str(), says]
+}
+
+/// The text of a refusal, in pieces.
+pub(crate) fn refusal_pieces<'a>(refusal: &'a Refusal<'a>) -> [&'a str; 4]
+    ensures { flat_map (λ p. p.now) result ≡ refusal_text refusal.now }
 {
     match refusal {
-        Refusal::NotModule { file } => ["binkit: ", file, ": not a WebAssembly module", "", "\n"],
-        Refusal::Malformed { file, section } => [
-            "binkit: ",
-            file,
-            ": malformed section ",
-            section.as_str(),
-            "\n",
-        ],
-        Refusal::MalformedBody { file, func } => [
-            "binkit: ",
-            file,
-            ": malformed function ",
-            func.as_str(),
-            "\n",
-        ],
-        Refusal::Unsupported { file, section } => [
-            "binkit: ",
-            file,
-            ": unsupported in section ",
-            section.as_str(),
-            "\n",
-        ],
-        Refusal::UnsupportedBody { file, func } => [
-            "binkit: ",
-            file,
-            ": unsupported in function ",
-            func.as_str(),
-            "\n",
-        ],
-        Refusal::Limit { file, which } => [
-            "binkit: ",
-            file,
-            ": limit on ",
-            which_name(*which),
-            "\n",
-        ],
-        Refusal::Invalid { file, kind, index } => [
-            "binkit: ",
-            file,
-            invalid_kind(*kind),
-            index.as_str(),
-            "\n",
-        ],
-        Refusal::TooManyParts => ["binkit: ", "limit on parts", "", "", "\n"],
-        Refusal::ImportMismatch { file, import } => [
-            "binkit: ",
-            file,
-            ": import ",
-            import.as_str(),
-            " does not match\n",
-        ],
-        Refusal::ImportCycle { file, import } => [
-            "binkit: ",
-            file,
-            ": import ",
-            import.as_str(),
-            " has no end\n",
-        ],
-        Refusal::LimitsClash { file, import } => [
-            "binkit: ",
-            file,
-            ": import ",
-            import.as_str(),
-            " has limits that clash\n",
-        ],
+        Refusal::NotModule { file } => [file, ": not a WebAssembly module", "", ""],
+        Refusal::Malformed { file, section } => at(file, ": malformed section ", section),
+        Refusal::MalformedBody { file, func } => at(file, ": malformed function ", func),
+        Refusal::Unsupported { file, section } => at(file, ": unsupported in section ", section),
+        Refusal::UnsupportedBody { file, func } => at(file, ": unsupported in function ", func),
+        Refusal::Limit { file, which } => [file, ": limit on ", which_name(*which), ""],
+        Refusal::Invalid { file, kind, index } => at(file, invalid_kind(*kind), index),
+        Refusal::TooManyParts => ["limit on parts", "", "", ""],
+        Refusal::ImportMismatch { file, import } => at_import(file, import, " does not match"),
+        Refusal::ImportCycle { file, import } => at_import(file, import, " has no end"),
+        Refusal::LimitsClash { file, import } => at_import(file, import, " has limits that clash"),
         Refusal::GlobalCycle { file, global } => [
-            "binkit: ",
             file,
             ": global ",
             global.as_str(),
-            " has no value\n",
+            " has no value",
         ],
-        Refusal::TooManyMemories => ["binkit: ", "more than one memory", "", "", "\n"],
-        Refusal::ExportConflict { name } => {
-            ["binkit: ", "export ", name.as_str(), " stands twice", "\n"]
-        }
-        Refusal::TooMany { which } => [
-            "binkit: ",
-            "output exceeds the limit on ",
-            which_name(*which),
-            "",
-            "\n",
-        ],
+        Refusal::TooManyMemories => ["more than one memory", "", "", ""],
+        Refusal::ExportConflict { name } => ["export ", name.as_str(), " stands twice", ""],
+        Refusal::TooMany { which } => ["output exceeds the limit on ", which_name(*which), "", ""],
     }
 }

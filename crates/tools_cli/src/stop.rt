@@ -2,10 +2,13 @@
 ghost use Rattle.std.specs.Prelude.{◌≡◌, ◌≤◌, flat_map};
 ghost use Rattle.tool_io.specs.Outside.{Becomes, AppendsPrefix};
 ghost use Rattle.tools_cli.specs.Stop.{status_of, line_of, code_of, Reports};
+ghost use Rattle.tools_cli.specs.declared.stop.Stop.TheVariants.{NoMemory as OutOfMemory};
 
 use crate::put::put_all;
 use crate::refusal::{Refusal, refusal_pieces};
+use std::alloc::AllocFailed;
 use tool_io::{IoFault, Sink};
+use wasm_bytes::NoMemory;
 
 /// How a command ended.
 #[derive(Clone, Copy, Debug, PartialEq, Eq)]
@@ -62,18 +65,35 @@ impl Stop<'_> {
     }
 }
 
+impl<'a> From<NoMemory> for Stop<'a> {
+    ghost from_gives = { λ _ stop. stop ≡ OutOfMemory };
+
+    fn from(_none: NoMemory) -> Stop<'a> {
+        Stop::NoMemory
+    }
+}
+
+impl<'a, T: Drop> From<AllocFailed<T>> for Stop<'a> {
+    ghost from_gives = { λ _ stop. stop ≡ OutOfMemory };
+
+    fn from(_none: AllocFailed<T>) -> Stop<'a> {
+        Stop::NoMemory
+    }
+}
+
 // The line of a stop, in pieces.
-fn pieces<'a>(stop: &'a Stop<'a>) -> [&'a str; 5]
+fn pieces<'a>(stop: &'a Stop<'a>) -> [&'a str; 6]
     ensures { flat_map (λ p. p.now) result ≡ line_of stop.now }
 {
-    match stop {
-        Stop::Usage(line) => [line, "", "", "", ""],
+    let [first, second, third, fourth] = match stop {
+        Stop::Usage(line) => return [line, "", "", "", "", ""],
         Stop::Refused(refusal) => refusal_pieces(refusal),
-        Stop::CannotRead(file) => ["binkit: ", "cannot read ", file, "", "\n"],
-        Stop::CannotWrite(file) => ["binkit: ", "cannot write ", file.as_str(), "", "\n"],
-        Stop::CannotPrint => ["binkit: ", "cannot write standard output", "", "", "\n"],
-        Stop::NoMemory => ["binkit: ", "no memory", "", "", "\n"],
-    }
+        Stop::CannotRead(file) => ["cannot read ", file, "", ""],
+        Stop::CannotWrite(file) => ["cannot write ", file.as_str(), "", ""],
+        Stop::CannotPrint => ["cannot write standard output", "", "", ""],
+        Stop::NoMemory => ["no memory", "", "", ""],
+    };
+    ["binkit: ", first, second, third, fourth, "\n"]
 }
 
 /// Puts the line of a stop, and gives the status.

@@ -1,13 +1,14 @@
 // What a command line asks for: a case for each command.
 ghost use Rattle.std.specs.Prelude.{◌≡◌, length, option_map, IfOk};
-ghost use Rattle.tools_cli.specs.Words.{inputs_of, modules_of};
+ghost use Rattle.tools_cli.specs.Words.{inputs_of, many_of, modules_of};
 ghost use Rattle.tools_cli.specs.Job.{refused_before};
 ghost use Rattle.tools_cli.specs.Stop.{refusal_text};
 ghost use Rattle.tools_cli.specs.Command.{task_value, names_of};
 
 use crate::merge::MergeTask;
 use crate::refusal::Refusal;
-use std::alloc::{AllocError, Global};
+use std::alloc::Global;
+use wasm_bytes::NoMemory;
 use wasm_tree::MOST_PARTS;
 
 /// What a command is to do.
@@ -18,7 +19,7 @@ pub(crate) enum Task<'a> {
 
 impl<'a> Task<'a> {
     /// The files that are read, in order: the modules first.
-    pub(crate) fn inputs(&self, alloc: Global) -> Result<Vec<&'a str>, AllocError>
+    pub(crate) fn inputs(&self, alloc: Global) -> Result<Vec<&'a str>, NoMemory>
         ensures { IfOk result (λ names. names_of names.items ≡ inputs_of (task_value self.now)) }
     {
         match self {
@@ -32,6 +33,15 @@ impl<'a> Task<'a> {
     {
         match self {
             Task::Merge(merge) => merge.sources.len(),
+        }
+    }
+
+    /// Whether the modules may have several memories.
+    pub(crate) fn many(&self) -> bool
+        ensures { result ≡ many_of (task_value self.now) }
+    {
+        match self {
+            Task::Merge(_) => false,
         }
     }
 

@@ -1,17 +1,19 @@
 // The task that the words of a command line ask for.
 ghost use Rattle.std.specs.Prelude.{◌≡◌, true, map, option_map, option_and_then, string_bytes, IfOk, IfSome};
-ghost use Rattle.tools_cli.specs.Words.{task_of, merge_of, task_of_line, sources_of, some_apart, are_apart, one_output, one_mode, usage_line};
-ghost use Rattle.tools_cli.specs.Command.{task_value, line_value, source_values, source_names, names_of};
+ghost use Rattle.tools_cli.specs.Words.{task_of, merge_of, task_of_merge_line, sources_of, some_apart, are_apart, one_output, merge_mode, usage_line};
+ghost use Rattle.tools_cli.specs.Command.{task_value, merge_line_value, names_of};
+ghost use Rattle.tools_cli.specs.Sources.{source_values, source_names};
 
-use crate::line::{Line, read_line};
 use crate::merge::{MergeTask, Source};
+use crate::merge_line::{MergeLine, read_merge_line};
 use crate::task::Task;
 use export_names::Mode;
-use std::alloc::{AllocError, Global};
+use std::alloc::Global;
 use std::collections::BTreeMap;
+use wasm_bytes::NoMemory;
 
 // Plain words as pairs of a file and a name; none where a file has no name.
-fn pair<'a>(alloc: Global, plain: &[&'a str]) -> Result<Option<Vec<Source<'a>>>, AllocError>
+fn pair<'a>(alloc: Global, plain: &[&'a str]) -> Result<Option<Vec<Source<'a>>>, NoMemory>
     ensures { IfOk result (λ sources. option_map (λ s. source_values s.items) sources ≡ sources_of (names_of plain.now)) }
 {
     let mut sources = Vec::new(alloc);
@@ -25,7 +27,7 @@ fn pair<'a>(alloc: Global, plain: &[&'a str]) -> Result<Option<Vec<Source<'a>>>,
 }
 
 // No two of the names are equal.
-fn are_apart(alloc: Global, sources: &[Source<'_>]) -> Result<bool, AllocError>
+fn are_apart(alloc: Global, sources: &[Source<'_>]) -> Result<bool, NoMemory>
     ensures { IfOk result (λ apart. apart ≡ are_apart (source_names sources.now)) }
 {
     let mut names: BTreeMap<&str, ()> = BTreeMap::new(alloc);
@@ -39,7 +41,7 @@ fn are_apart(alloc: Global, sources: &[Source<'_>]) -> Result<bool, AllocError>
 }
 
 // The sources that plain words name, if they are at least one and have names apart.
-fn some_apart<'a>(alloc: Global, plain: &[&'a str]) -> Result<Option<Vec<Source<'a>>>, AllocError>
+fn some_apart<'a>(alloc: Global, plain: &[&'a str]) -> Result<Option<Vec<Source<'a>>>, NoMemory>
     ensures sources { IfOk result (λ sources. option_map (λ s. source_values s.items) sources ≡ option_and_then some_apart (sources_of (names_of plain.now))) }
     ensures apart { IfOk result (λ sources. IfSome sources (λ s. are_apart (source_names s.items) ≡ true)) }
 {
@@ -67,8 +69,8 @@ fn one_output<'a>(outputs: &[&'a str]) -> Option<&'a str>
 }
 
 // The mode, if at most one is named.
-fn one_mode(modes: &[Mode]) -> Option<Mode>
-    ensures { result ≡ one_mode modes.now }
+fn merge_mode(modes: &[Mode]) -> Option<Mode>
+    ensures { result ≡ merge_mode modes.now }
 {
     match modes {
         [] => Some(Mode::Refuse),
@@ -78,8 +80,8 @@ fn one_mode(modes: &[Mode]) -> Option<Mode>
 }
 
 // The merge of what is said, or none.
-fn merge_of_line<'a>(alloc: Global, line: &Line<'a>) -> Result<Option<Task<'a>>, AllocError>
-    ensures { IfOk result (λ task. option_map task_value task ≡ task_of_line (line_value line.now)) }
+fn merge_of_line<'a>(alloc: Global, line: &MergeLine<'a>) -> Result<Option<Task<'a>>, NoMemory>
+    ensures { IfOk result (λ task. option_map task_value task ≡ task_of_merge_line (merge_line_value line.now)) }
 {
     let Some(sources) = some_apart(alloc, line.plain.as_slice())? else {
         return Ok(None);
@@ -87,7 +89,7 @@ fn merge_of_line<'a>(alloc: Global, line: &Line<'a>) -> Result<Option<Task<'a>>,
     let Some(output) = one_output(line.outputs.as_slice()) else {
         return Ok(None);
     };
-    let Some(mode) = one_mode(line.modes.as_slice()) else {
+    let Some(mode) = merge_mode(line.modes.as_slice()) else {
         return Ok(None);
     };
     Ok(Some(Task::Merge(MergeTask {
@@ -98,10 +100,10 @@ fn merge_of_line<'a>(alloc: Global, line: &Line<'a>) -> Result<Option<Task<'a>>,
 }
 
 // The merge that the words after `merge` ask for, or none.
-fn parse_merge<'a>(alloc: Global, words: &'a [String]) -> Result<Option<Task<'a>>, AllocError>
+fn parse_merge<'a>(alloc: Global, words: &'a [String]) -> Result<Option<Task<'a>>, NoMemory>
     ensures { IfOk result (λ task. option_map task_value task ≡ merge_of (map string_bytes words.now)) }
 {
-    match read_line(alloc, words)? {
+    match read_merge_line(alloc, words)? {
         Some(line) => merge_of_line(alloc, &line),
         None => Ok(None),
     }
@@ -109,7 +111,7 @@ fn parse_merge<'a>(alloc: Global, words: &'a [String]) -> Result<Option<Task<'a>
 
 /// The task of a command line, or none.
 #[tactic(auto, unfolding(crate::specs::Words::task_of))]
-pub(crate) fn parse<'a>(alloc: Global, words: &'a [String]) -> Result<Option<Task<'a>>, AllocError>
+pub(crate) fn parse<'a>(alloc: Global, words: &'a [String]) -> Result<Option<Task<'a>>, NoMemory>
     ensures { IfOk result (λ task. option_map task_value task ≡ task_of (map string_bytes words.now)) }
 {
     let Some((word, rest)) = words.split_first() else {

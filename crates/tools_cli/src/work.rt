@@ -34,10 +34,8 @@ fn read_inputs<'a, F: Files>(
     ensures room { IfOk result (λ inputs. total (input_entries inputs.items) ≤ most_input) }
     ensures stops { IfErr result (StopsGathering (F.contents files.old) (F.read_faults files.old) (F.read_faults files.new) (inputs_of (task_value task.now)) most_input) }
 {
-    match task.inputs(alloc) {
-        Ok(names) => gather(alloc, files, names.as_slice(), MOST_INPUT_BYTES as usize),
-        Err(_) => Err(Stop::NoMemory),
-    }
+    let names = task.inputs(alloc)?;
+    gather(alloc, files, names.as_slice(), MOST_INPUT_BYTES as usize)
 }
 
 // Loads the modules, decides over them and the other texts, and encodes what is decided.
@@ -48,15 +46,14 @@ fn plan<'a>(alloc: Global, task: &Task<'a>, inputs: &[Input<'a>]) -> Result<Plan
     ensures plan { IfOk result (λ plan. InputsJob (task_value task.now) (input_entries inputs.now) (Done (write_entries plan.writes.items) plan.lines.items)) }
     ensures stops { IfErr result (StopsWith (λ text. InputsJob (task_value task.now) (input_entries inputs.now) (Refused text))) }
 {
-    let (files, texts) = inputs.split_at(task.module_count());
-    let modules = match load_all(alloc, files) {
-        Ok(modules) => modules,
-        Err(stop) => return Err(stop),
-    };
-    match decide(alloc, task, modules, texts) {
-        Ok(decision) => encode(alloc, decision),
-        Err(stop) => Err(stop),
+    // No task's modules may have several memories, and `load_all` allows them one.
+    if task.many() {
+        unreachable!()
     }
+    let (files, texts) = inputs.split_at(task.module_count());
+    let modules = load_all(alloc, files)?;
+    let decision = decide(alloc, task, modules, texts)?;
+    encode(alloc, decision)
 }
 
 // Comes to what a task is to write and to print.
@@ -65,17 +62,15 @@ fn prepare<'a, F: Files>(alloc: Global, task: &Task<'a>, files: &mut F) -> Resul
     ensures reads { NoneFell (F.read_faults files.old) (F.read_faults files.new) }
     ensures writes { NoneFell (F.write_faults files.old) (F.write_faults files.new) }
     ensures plan { IfOk result (λ plan. IfSome (F.contents files.old) (λ held. TaskJob (task_value task.now) held (Done (write_entries plan.writes.items) plan.lines.items))) }
-    ensures outputs { IfOk result (λ plan. AreOutputs (task_value task.now) (written_names (write_entries plan.writes.items))) }
+    ensures outputs { IfOk result (λ plan. AreOutputs (task_value task.now) (F.contents files.old) (written_names (write_entries plan.writes.items))) }
     ensures lines { IfOk result (λ plan. PrintsAsAllowed (task_value task.now) plan.lines.items) }
     ensures stops { IfErr result (StopsPreparing (F.contents files.old) (F.read_faults files.old) (F.read_faults files.new) (task_value task.now)) }
 {
     if let Some(refusal) = task.refused_before() {
         return Err(Stop::Refused(refusal));
     }
-    match read_inputs(alloc, task, files) {
-        Ok(inputs) => plan(alloc, task, inputs.as_slice()),
-        Err(stop) => Err(stop),
-    }
+    let inputs = read_inputs(alloc, task, files)?;
+    plan(alloc, task, inputs.as_slice())
 }
 
 // Puts the lines of a command on standard output, if there are any.
@@ -109,10 +104,8 @@ fn finish<'a, F: Files, O: Sink>(files: &mut F, out: &mut O, plan: Plan) -> Resu
     ensures stops { IfErr result (StopsFinishing (F.write_faults files.old) (F.write_faults files.new) (O.faults out.old) (O.faults out.new) (F.contents files.old) (F.contents files.new) (write_entries plan.writes.items)) }
 {
     let Plan { writes, lines } = plan;
-    match write_outputs(files, writes) {
-        Ok(()) => print_lines(out, lines.as_slice()),
-        Err(stop) => Err(stop),
-    }
+    write_outputs(files, writes)?;
+    print_lines(out, lines.as_slice())
 }
 
 /// Does what a command line asks for.
@@ -134,13 +127,9 @@ pub(crate) fn run_command<'a, F: Files, O: Sink>(
         (record { files = F.contents files.old; reads = F.read_faults files.old; writes = F.write_faults files.old; out = O.bytes out.old; out_faults = O.faults out.old })
         (record { files = F.contents files.new; reads = F.read_faults files.new; writes = F.write_faults files.new; out = O.bytes out.new; out_faults = O.faults out.new })) }
 {
-    let task = match parse(alloc, words) {
-        Ok(Some(task)) => task,
-        Ok(None) => return Err(Stop::Usage(usage(words))),
-        Err(_) => return Err(Stop::NoMemory),
+    let Some(task) = parse(alloc, words)? else {
+        return Err(Stop::Usage(usage(words)));
     };
-    match prepare(alloc, &task, files) {
-        Ok(plan) => finish(files, out, plan),
-        Err(stop) => Err(stop),
-    }
+    let plan = prepare(alloc, &task, files)?;
+    finish(files, out, plan)
 }

@@ -31,7 +31,8 @@ pub fn words_of(alloc: Global, line: &str) -> Result<Vec<String>, Fail> {
     Ok(words)
 }
 
-// What a line comes to over the files, and what is put on standard error.
+// What a line of a merge comes to over the files, and what is put on standard error. A merge puts
+// nothing on standard output.
 pub fn run_line(
     alloc: Global,
     files: &mut MemFiles,
@@ -41,6 +42,9 @@ pub fn run_line(
     let mut out = MemSink::new(alloc);
     let mut err = MemSink::new(alloc);
     let ended = run(alloc, words.as_slice(), files, &mut out, &mut err);
+    if !out.text().is_empty() {
+        return Err(Fail::new("a merge has put something on standard output"));
+    }
     Ok((ended, err))
 }
 

@@ -53,6 +53,7 @@ fn faults_of_files_and_of_standard_error_are_told(rt: HostRuntime) -> Result<(),
         let ended = run(alloc, words.as_slice(), &mut files, &mut out, &mut err);
         assert_eq!(rt; ended, Status::Outside, "{text}");
         assert_eq!(rt; ended.code(), 3);
+        assert_eq!(rt; out.text(), b"".as_slice(), "{text}");
         assert_eq!(rt; err.text(), text.as_bytes(), "{text}");
         assert_eq!(rt; files.contents("o.wasm"), half, "{text}");
     }

@@ -174,6 +174,7 @@ fn a_thousand_and_one_parts_are_refused_before_a_file_is_read(rt: HostRuntime) -
     let mut err = MemSink::new(alloc);
     let ended = run(alloc, words.as_slice(), &mut files, &mut out, &mut err);
     assert_eq!(rt; ended, Status::Refused);
+    assert_eq!(rt; out.text(), b"".as_slice());
     assert_eq!(rt; err.text(), b"binkit: limit on parts\n".as_slice());
     Ok(())
 }
@@ -224,12 +225,9 @@ fn each_module_is_written_or_refused_with_its_text(rt: HostRuntime) -> Result<()
         ),
         (&[], &[], "binkit: a.wasm: not a WebAssembly module\n"),
     ] {
-        let words = words_of(alloc, "merge a.wasm a -o o.wasm")?;
         let mut files = MemFiles::new(alloc);
         files.add("a.wasm", bytes)?;
-        let mut out = MemSink::new(alloc);
-        let mut err = MemSink::new(alloc);
-        let ended = run(alloc, words.as_slice(), &mut files, &mut out, &mut err);
+        let (ended, err) = run_line(alloc, &mut files, "merge a.wasm a -o o.wasm")?;
         assert_eq!(rt; err.text(), text.as_bytes());
         assert_eq!(rt; ended.code(), u8::from(!text.is_empty()), "{text}");
         assert_eq!(rt; files.contents("o.wasm").unwrap_or(&[]), written, "{text}");
@@ -238,6 +236,56 @@ fn each_module_is_written_or_refused_with_its_text(rt: HostRuntime) -> Result<()
             text.is_empty(),
             "{text}"
         );
+    }
+    Ok(())
+}
+
+// The type [] to [] and the function a.f of it, where the other part gives one of another type.
+const ASKS_FOR_ANOTHER_TYPE: [u8; 23] = [
+    0x00, 0x61, 0x73, 0x6D, 0x01, 0x00, 0x00, 0x00, 0x01, 0x04, 0x01, 0x60, 0x00, 0x00, 0x02, 0x07,
+    0x01, 0x01, 0x61, 0x01, 0x66, 0x00, 0x00,
+];
+
+#[test]
+fn modules_are_read_and_validated_one_by_one_before_they_are_linked(
+    rt: HostRuntime,
+) -> Result<(), Fail> {
+    let alloc = rt.alloc();
+    for (a, b, text) in [
+        (
+            NOTHING_GIVEN.as_slice(),
+            CUT.as_slice(),
+            "binkit: a.wasm: invalid body 0\n",
+        ),
+        (
+            CUT.as_slice(),
+            NOTHING_GIVEN.as_slice(),
+            "binkit: a.wasm: malformed section 3\n",
+        ),
+        (
+            A.as_slice(),
+            NOTHING_GIVEN.as_slice(),
+            "binkit: b.wasm: invalid body 0\n",
+        ),
+        (
+            A.as_slice(),
+            ASKS_FOR_ANOTHER_TYPE.as_slice(),
+            "binkit: b.wasm: import 0 does not match\n",
+        ),
+    ] {
+        for line in [
+            "merge a.wasm a b.wasm b -o o.wasm",
+            "merge a.wasm a b.wasm b c.wasm c -o o.wasm",
+        ] {
+            let mut files = MemFiles::new(alloc);
+            files.add("a.wasm", a)?;
+            files.add("b.wasm", b)?;
+            files.add("c.wasm", ASKS_FOR_ANOTHER_TYPE.as_slice())?;
+            let (ended, err) = run_line(alloc, &mut files, line)?;
+            assert_eq!(rt; err.text(), text.as_bytes(), "{text}");
+            assert_eq!(rt; ended, Status::Refused, "{text}");
+            assert_eq!(rt; files.contents("o.wasm"), None, "{text}");
+        }
     }
     Ok(())
 }

@@ -1,11 +1,23 @@
 ghost use Rattle.std.specs.Prelude.{◌≡◌, IfOk, IsUtf8};
 
-use std::alloc::Global;
+use std::alloc::{AllocError, AllocFailed, Global};
 use std::marker::Model;
 
 /// There was no memory.
 #[derive(Clone, Copy, Debug, PartialEq, Eq)]
 pub struct NoMemory;
+
+impl From<AllocError> for NoMemory {
+    fn from(_none: AllocError) -> NoMemory {
+        NoMemory
+    }
+}
+
+impl<T: Drop> From<AllocFailed<T>> for NoMemory {
+    fn from(_none: AllocFailed<T>) -> NoMemory {
+        NoMemory
+    }
+}
 
 /// UTF-8 text: the names of imports and exports (WebAssembly Core 2.0, section 5.2.4). Contracts see its bytes.
 #[derive(Drop)]

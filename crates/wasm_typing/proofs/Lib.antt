@@ -1,3 +1,4 @@
+pub mod Decided
 pub mod Places
 pub mod Grouped
 pub mod Rows

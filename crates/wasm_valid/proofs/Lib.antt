@@ -1,3 +1,4 @@
+pub mod Decided
 pub mod Order
 pub mod Marked
 pub mod Repeats

@@ -8,9 +8,9 @@ use Rattle.merge_join.specs.Repeats.{IsRepeatOf}
 use Rattle.merge_join.proofs.Exported.{none_repeated, repeated_at}
 use Rattle.merge_join.proofs.exports.new_names.Goals as goal
 
-pub returns-in-Ok-choose_names-clause-none : goal.returns-in-Ok-choose_names-clause-none
-returns-in-Ok-choose_names-clause-none c = λ ok.
-    none_repeated (named_modules c.args.parts.now) c.args.mode (texts c.as_slice.result.now) (ap texts c.as_slice.ensures.value ∙ c.in-Ok.ensures) (c.in-Ok-choose_names.ensures.none ok)
+pub returns-in-Ok-clause-none : goal.returns-in-Ok-clause-none
+returns-in-Ok-clause-none c = λ ok.
+    none_repeated (named_modules c.args.parts.now) c.args.mode (texts c.as_slice.result.now) (ap texts c.as_slice.ensures.value ∙ c.in_ok-names.ensures) (c.in-Ok.ensures.none ok)
 
 pub conflict_at-requires : goal.conflict_at-requires
 conflict_at-requires c =
@@ -21,7 +21,7 @@ conflict_at-requires c =
 pub returns-in-Err-Conflict-clause-repeated : goal.returns-in-Err-Conflict-clause-repeated
 returns-in-Err-Conflict-clause-repeated c =
     let names = texts c.as_slice.result.now in
-    let same = ap texts c.as_slice.ensures.value ∙ c.in-Ok.ensures in
+    let same = ap texts c.as_slice.ensures.value ∙ c.in_ok-names.ensures in
     subst (IsRepeatOf c.conflict_at.result)
     (ap (λ x. slice_get (texts x) c.in-Err-Conflict.place) (c.as_slice-in-Err-Conflict.ensures.value ∙ sym c.as_slice.ensures.value)
     ∙ repeated_at (named_modules c.args.parts.now) c.args.mode names c.in-Err-Conflict.place same (subst (λ e. IsConflictOf e (conflict c.args.mode names)) c.in-Err-Conflict.field-0-is c.in-Err-Conflict.ensures.conflict))

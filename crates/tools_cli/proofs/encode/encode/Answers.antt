@@ -3,17 +3,17 @@ use Rattle.std.specs.List.{list_all}
 use Rattle.tools_cli.specs.Effects.{Entry}
 use Rattle.tools_cli.specs.Command.{output_values}
 use Rattle.tools_cli.specs.Job.{Done, Refused, is_within, spelled_output}
-use Rattle.tools_cli.specs.Texts.{output_over_limit}
+use Rattle.tools_cli.specs.Texts.{too_many}
 use Rattle.wasm_tree.specs.declared.which.Which.TheVariants.{OutputBytes}
 use Rattle.tools_cli.proofs.encode.encode.Goals as goal
 
 pub returns-then-not-are_within-clause-stops : goal.returns-then-not-are_within-clause-stops
 returns-then-not-are_within-clause-stops c =
     let large : list_all is_within (output_values c.args.decision.outputs.items) ≡ false = search rules in
-    ap (λ b. cond b (Done (map spelled_output (output_values c.args.decision.outputs.items)) c.args.decision.lines.items) (Refused (output_over_limit OutputBytes))) large
+    ap (λ b. cond b (Done (map spelled_output (output_values c.args.decision.outputs.items)) c.args.decision.lines.items) (Refused (too_many OutputBytes))) large
 
-pub returns-in-Ok-clause-plan : goal.returns-in-Ok-clause-plan
-returns-in-Ok-clause-plan c =
+pub returns-clause-plan : goal.returns-clause-plan
+returns-clause-plan c =
     let fits : list_all is_within (output_values c.args.decision.outputs.items) ≡ true = search rules in
-    ap (λ b. cond b (Done (map spelled_output (output_values c.args.decision.outputs.items)) c.args.decision.lines.items) (Refused (output_over_limit OutputBytes))) fits
-    ∙ ap (λ (l : List Entry). Done l c.args.decision.lines.items) (sym c.in-Ok.ensures)
+    ap (λ b. cond b (Done (map spelled_output (output_values c.args.decision.outputs.items)) c.args.decision.lines.items) (Refused (too_many OutputBytes))) fits
+    ∙ ap (λ (l : List Entry). Done l c.args.decision.lines.items) (sym c.in_ok-writes.ensures)

@@ -1,5 +1,5 @@
 use Rattle.tools_cli.proofs.Existing.{job_exists}
-use Rattle.tools_cli.proofs.ValidDecided.{tree_decided}
+use Rattle.tools_cli.proofs.Accepted.{tree_decided}
 use Rattle.tools_cli.proofs.laws.command_lines_have_jobs.Goals as goal
 
 pub returns : goal.returns

@@ -1,4 +1,4 @@
-use Rattle.std.proofs.Common.{false, Err}
+use Rattle.std.proofs.Common.{◌≡◌, false, Err, arith}
 use Rattle.tools_cli.specs.Words.{Text}
 use Rattle.tools_cli.specs.Job.{Loads, OneFails}
 use Rattle.tools_cli.specs.Command.{input_entries}
@@ -11,9 +11,11 @@ load-requires c = short_input c.args.inputs.now c.loop-input.input-index c.input
 pub returns-clause-loaded : goal.returns-clause-loaded
 returns-clause-loaded c = all_load c.args.inputs.now c.loop-input.input-index c.loop-input.modules.items c.loop-input-test.false c.loop-input.invariant.load
 
-pub returns-in-Err-clause-stops : goal.returns-in-Err-clause-stops
-returns-in-Err-clause-stops c =
+pub returns-in_err-tree-clause-stops : goal.returns-in_err-tree-clause-stops
+returns-in_err-tree-clause-stops c =
     let x = c.input-item.result in
+    let stop = c.in_err-tree.field-0.0 in
+    let gone : c.from_residual.result ≡ Err stop = grind arith in
     let P : Text → Type 0 = λ text. Loads false x.name.now x.bytes.items (Err text) in
     let Q : Text → Type 0 = OneFails false (input_entries c.args.inputs.now) in
-    stops_weaker P Q (fails_here c.args.inputs.now c.loop-input.input-index x c.loop-input-test.true c.input-item.is c.loop-input.invariant.fail) c.in-Err.stop c.in-Err.ensures.stops
+    rw gone (stops_weaker P Q (fails_here c.args.inputs.now c.loop-input.input-index x c.loop-input-test.true c.input-item.is c.loop-input.invariant.fail) stop c.in_err-tree.ensures.stops)

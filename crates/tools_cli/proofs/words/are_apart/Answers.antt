@@ -6,7 +6,7 @@ use Rattle.std.specs.List.{list_any}
 use Rattle.std.specs.Str.{bytes_eq}
 use Rattle.std.proofs.lemmas.Map.Text.{btree_map_updates_str}
 use Rattle.wasm_valid.proofs.Repeats.{known_more, map_more}
-use Rattle.tools_cli.specs.Command.{source_names}
+use Rattle.tools_cli.specs.Sources.{source_names}
 use Rattle.tools_cli.specs.declared.merge.Source.{Source}
 use Rattle.tools_cli.proofs.Apart.{one_more_name, apart_so_far, came_before}
 use Rattle.tools_cli.proofs.words.are_apart.Goals as goal

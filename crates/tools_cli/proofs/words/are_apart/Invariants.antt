@@ -5,7 +5,7 @@ use Rattle.std.specs.Ordering.{nat_cmp}
 use Rattle.std.specs.List.{list_any}
 use Rattle.std.specs.Str.{bytes_eq}
 use Rattle.tools_cli.specs.Words.{are_apart}
-use Rattle.tools_cli.specs.Command.{source_names}
+use Rattle.tools_cli.specs.Sources.{source_names}
 use Rattle.tools_cli.proofs.words.are_apart.Given as goal
 
 abbrev pub invariant-loop-source : goal.invariant-loop-source

@@ -1,7 +1,8 @@
 use Rattle.std.proofs.Common.{◌≡◌, ◌++◌, option_map}
 use Rattle.std.specs.Slice.Iter.{chunks_rest, chunks_size}
 use Rattle.tools_cli.specs.Words.{sources_of}
-use Rattle.tools_cli.specs.Command.{names_of, source_values}
+use Rattle.tools_cli.specs.Command.{names_of}
+use Rattle.tools_cli.specs.Sources.{source_values}
 use Rattle.tools_cli.proofs.words.pair.Given as goal
 
 abbrev pub invariant-loop-words : goal.invariant-loop-words

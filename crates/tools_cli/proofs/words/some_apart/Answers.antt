@@ -1,6 +1,7 @@
 use Rattle.std.proofs.Common.{◌≡◌, ◌<◌, true, false, rules, length, Some}
 use Rattle.tools_cli.specs.Words.{are_apart, sources_of}
-use Rattle.tools_cli.specs.Command.{names_of, source_values, source_names}
+use Rattle.tools_cli.specs.Command.{names_of}
+use Rattle.tools_cli.specs.Sources.{source_values, source_names}
 use Rattle.tools_cli.proofs.Lines.{sources_apart, sources_not_apart}
 use Rattle.tools_cli.proofs.words.some_apart.Goals as goal
 

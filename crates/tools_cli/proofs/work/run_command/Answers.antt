@@ -1,4 +1,4 @@
-use Rattle.std.proofs.Common.{◌≡◌, refl, sym, map, string_bytes, Some}
+use Rattle.std.proofs.Common.{◌≡◌, refl, map, rules, arith, string_bytes, Some, Err}
 use Rattle.std.proofs.lemmas.Result.{IfErr-weaker}
 use Rattle.tools_cli.specs.Command.{task_value, write_entries}
 use Rattle.tools_cli.specs.Words.{task_of}
@@ -7,45 +7,47 @@ use Rattle.tools_cli.specs.Run.{Outside, StopsWork}
 use Rattle.tools_cli.proofs.Running.{changes_from_cut, prints_from_lines, ends_done, finish_stops, prepare_stops, has_no_lines}
 use Rattle.tools_cli.proofs.work.run_command.Goals as goal
 
-pub returns-in-Ok-clause-files : goal.returns-in-Ok-clause-files
-returns-in-Ok-clause-files g c =
-    let asked : task_of (map string_bytes c.args.words.now) ≡ Some (task_value c.in-Ok-Some.task) = sym (rw c.in-Ok-Some.field-0-is at c.in-Ok-Some.ensures) in
-    changes_from_cut _ _ _ _ _ _ asked c.in-Ok.ensures.plan (rw c.prepare.ensures.stays at c.finish.ensures.cut)
+pub returns-clause-files : goal.returns-clause-files
+returns-clause-files g c =
+    let asked : task_of (map string_bytes c.args.words.now) ≡ Some (task_value c.in-Some.task) = search rules in
+    changes_from_cut _ _ _ _ _ _ asked c.in_ok-plan.ensures.plan (rw c.prepare.ensures.stays at c.finish.ensures.cut)
 
-pub returns-in-Ok-clause-prints : goal.returns-in-Ok-clause-prints
-returns-in-Ok-clause-prints g c =
-    let asked : task_of (map string_bytes c.args.words.now) ≡ Some (task_value c.in-Ok-Some.task) = sym (rw c.in-Ok-Some.field-0-is at c.in-Ok-Some.ensures) in
-    prints_from_lines _ _ _ _ _ _ _ _ asked c.in-Ok.ensures.plan (rw c.prepare.ensures.stays at c.finish.ensures.prints)
+pub returns-clause-prints : goal.returns-clause-prints
+returns-clause-prints g c =
+    let asked : task_of (map string_bytes c.args.words.now) ≡ Some (task_value c.in-Some.task) = search rules in
+    prints_from_lines _ _ _ _ _ _ _ _ asked c.in_ok-plan.ensures.plan (rw c.prepare.ensures.stays at c.finish.ensures.prints)
 
-pub returns-in-Ok-clause-done : goal.returns-in-Ok-clause-done
-returns-in-Ok-clause-done g c =
-    let asked : task_of (map string_bytes c.args.words.now) ≡ Some (task_value c.in-Ok-Some.task) = sym (rw c.in-Ok-Some.field-0-is at c.in-Ok-Some.ensures) in
-    ends_done c.finish.result _ _ _ _ _ _ _ _ asked c.in-Ok.ensures.plan (rw c.prepare.ensures.stays at c.finish.ensures.done) c.finish.ensures.printed
+pub returns-clause-done : goal.returns-clause-done
+returns-clause-done g c =
+    let asked : task_of (map string_bytes c.args.words.now) ≡ Some (task_value c.in-Some.task) = search rules in
+    ends_done c.finish.result _ _ _ _ _ _ _ _ asked c.in_ok-plan.ensures.plan (rw c.prepare.ensures.stays at c.finish.ensures.done) c.finish.ensures.printed
 
-pub returns-in-Ok-clause-stops : goal.returns-in-Ok-clause-stops
-returns-in-Ok-clause-stops g c =
+pub returns-clause-stops : goal.returns-clause-stops
+returns-clause-stops g c =
     let words = map string_bytes c.args.words.now in
-    let t = task_value c.in-Ok-Some.task in
-    let entries = write_entries c.in-Ok.plan.writes.items in
-    let asked : task_of words ≡ Some t = sym (rw c.in-Ok-Some.field-0-is at c.in-Ok-Some.ensures) in
+    let t = task_value c.in-Some.task in
+    let entries = write_entries c.in_ok-plan.plan.writes.items in
+    let asked : task_of words ≡ Some t = search rules in
     let old : Outside = record { files = g.F.Files.contents c.args.files.now; reads = g.F.Files.read_faults c.args.files.now; writes = g.F.Files.write_faults c.args.files.now; out = g.O.Sink.bytes c.args.out.now; out_faults = g.O.Sink.faults c.args.out.now } in
     let new : Outside = record { files = g.F.Files.contents c.finish.new.files; reads = g.F.Files.read_faults c.finish.new.files; writes = g.F.Files.write_faults c.finish.new.files; out = g.O.Sink.bytes c.finish.new.out; out_faults = g.O.Sink.faults c.finish.new.out } in
     IfErr-weaker c.finish.result
     (StopsFinishing (g.F.Files.write_faults c.prepare.new.files) new.writes old.out_faults new.out_faults old.files new.files entries)
     (StopsWork words old new)
-    (λ s. finish_stops words t old new (g.F.Files.write_faults c.prepare.new.files) entries c.in-Ok.plan.lines.items s asked c.prepare.ensures.writes c.in-Ok.ensures.plan c.in-Ok.ensures.outputs)
+    (λ s. finish_stops words t old new (g.F.Files.write_faults c.prepare.new.files) entries c.in_ok-plan.plan.lines.items s asked c.prepare.ensures.writes c.in_ok-plan.ensures.plan c.in_ok-plan.ensures.outputs)
     (rw c.prepare.ensures.stays at c.finish.ensures.stops)
 
-pub returns-clause-stops : goal.returns-clause-stops
-returns-clause-stops g c =
+pub returns-in_err-plan-clause-stops : goal.returns-in_err-plan-clause-stops
+returns-in_err-plan-clause-stops g c =
     let words = map string_bytes c.args.words.now in
-    let t = task_value c.in-Ok-Some.task in
-    let asked : task_of words ≡ Some t = sym (rw c.in-Ok-Some.field-0-is at c.in-Ok-Some.ensures) in
+    let t = task_value c.in-Some.task in
+    let asked : task_of words ≡ Some t = search rules in
     let old : Outside = record { files = g.F.Files.contents c.args.files.now; reads = g.F.Files.read_faults c.args.files.now; writes = g.F.Files.write_faults c.args.files.now; out = g.O.Sink.bytes c.args.out.now; out_faults = g.O.Sink.faults c.args.out.now } in
     let new : Outside = record { files = g.F.Files.contents c.prepare.new.files; reads = g.F.Files.read_faults c.prepare.new.files; writes = g.F.Files.write_faults c.prepare.new.files; out = g.O.Sink.bytes c.args.out.now; out_faults = g.O.Sink.faults c.args.out.now } in
-    prepare_stops words t old new c.in-Err-prepare.stop asked c.in-Err-prepare.ensures.stays refl c.in-Err-prepare.ensures.stops
+    let stop = c.in_err-plan.field-0.0 in
+    let gone : c.from_residual-in_err-plan.result ≡ Err stop = grind arith in
+    rw gone (prepare_stops words t old new stop asked c.prepare.ensures.stays refl c.in_err-plan.ensures.stops)
 
-pub returns-in-Ok-clause-no_lines : goal.returns-in-Ok-clause-no_lines
-returns-in-Ok-clause-no_lines g c nothing =
-    let asked : task_of (map string_bytes c.args.words.now) ≡ Some (task_value c.in-Ok-Some.task) = sym (rw c.in-Ok-Some.field-0-is at c.in-Ok-Some.ensures) in
-    c.finish.ensures.silent (has_no_lines _ _ _ asked c.in-Ok.ensures.lines nothing)
+pub returns-clause-no_lines : goal.returns-clause-no_lines
+returns-clause-no_lines g c nothing =
+    let asked : task_of (map string_bytes c.args.words.now) ≡ Some (task_value c.in-Some.task) = search rules in
+    c.finish.ensures.silent (has_no_lines _ _ _ asked c.in_ok-plan.ensures.lines nothing)

@@ -1,10 +1,10 @@
-use Rattle.std.proofs.Common.{◌≡◌, ◌∙◌, sym, subst, List, Option, Some, None, slice_get, ℕ}
+use Rattle.std.proofs.Common.{◌≡◌, ◌∙◌, inr, sym, subst, List, Option, Some, None, slice_get, ℕ}
 use Rattle.merge_link.specs.declared.joining.Ending.{Ending}
 use Rattle.merge_link.proofs.Whole.{all_end, all_known, import_faults_are}
 use Rattle.merge_link.proofs.joining.Joining.matched.Goals as goal
 
 pub returns-in-Some : goal.returns-in-Some
-returns-in-Some c = sym (import_faults_are c.args.self.now.parts.now c.args.sites.now c.requires.sites) ∙ sym c.first_import_fault.ensures ∙ c.in-Some.is
+returns-in-Some c = inr (sym (import_faults_are c.args.self.now.parts.now c.args.sites.now c.requires.sites) ∙ sym c.first_import_fault.ensures ∙ c.in-Some.is)
 
 pub known_ends-requires : goal.known_ends-requires
 known_ends-requires c =

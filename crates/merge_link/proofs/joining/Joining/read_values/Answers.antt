@@ -1,4 +1,4 @@
-use Rattle.std.proofs.Common.{◌∙◌, sym, ap, subst, map}
+use Rattle.std.proofs.Common.{◌∙◌, inr, sym, ap, subst, map}
 use Rattle.merge_terms.specs.Faults as faults
 use Rattle.merge_terms.specs.Parts.{named_modules}
 use Rattle.merge_link.specs.declared.globals.OwnGlobal.{OwnGlobal}
@@ -11,8 +11,8 @@ use Rattle.merge_link.proofs.joining.Joining.read_values.Goals as goal
 pub returns-in-Some : goal.returns-in-Some
 returns-in-Some c =
     let ps = c.args.self.now.parts.now in
-    sym (global_faults_are ps c.in_ok-globals.globals.items c.in_ok-globals.ensures)
-    ∙ ap (faults.first_fault (λ (g : OwnGlobal). faults.global_fault (named_modules ps) (the_own g))) (sym c.deref-2.ensures.value) ∙ sym c.first_global_fault.ensures ∙ c.in-Some.is
+    inr (sym (global_faults_are ps c.in_ok-globals.globals.items c.in_ok-globals.ensures)
+    ∙ ap (faults.first_fault (λ (g : OwnGlobal). faults.global_fault (named_modules ps) (the_own g))) (sym c.deref-2.ensures.value) ∙ sym c.first_global_fault.ensures ∙ c.in-Some.is)
 
 pub reads-requires-clause-values : goal.reads-requires-clause-values
 reads-requires-clause-values c =

@@ -1,5 +1,6 @@
 use Rattle.std.proofs.Common.{◌≡◌, map, take}
-use Rattle.tools_cli.specs.Command.{names_of, source_values}
+use Rattle.tools_cli.specs.Command.{names_of}
+use Rattle.tools_cli.specs.Sources.{source_values}
 use Rattle.tools_cli.proofs.merge.MergeTask.files.Given as goal
 
 abbrev pub invariant-loop-source : goal.invariant-loop-source

@@ -1,4 +1,4 @@
--- A module is valid, or has a first item that does not hold.
+-- All items of a module hold, or there is a first that does not.
 use Rattle.std.proofs.Common.{◌≡◌, ◌∙◌, refl, sym, ap, subst, Bool, true, false, ℕ, zero, suc, ◌<◌, ◌≤◌, ltb, List, [], ◌∷◌, ◌++◌, map, take, length, Option, Some, None, slice_get, Contains, ◌⊎◌, inl, inr, arith}
 use Rattle.std.proofs.lemmas.Bool.Decides.{nat_tests}
 use Rattle.std.specs.Str.{bytes_eq}
@@ -28,11 +28,9 @@ use Rattle.wasm_valid.specs.declared.kinds.Invalid.{Invalid}
 use Rattle.wasm_typing.specs.Typing.{WellTyped}
 use Rattle.wasm_valid.specs.Constants.{const_type}
 use Rattle.wasm_valid.specs.SpaceTypes.{table_types}
-use Rattle.wasm_valid.specs.Validity.{MostIsAtLeast, MostIsAtMost, LimitsHold, PagesHold, ImportHolds, InSpace, ElemModeHolds, DataModeHolds, body_context, HoldsAt, Item, item, items, span, EachHolds}
+use Rattle.wasm_valid.specs.Validity.{MostIsAtLeast, MostIsAtMost, LimitsHold, PagesHold, ImportHolds, InSpace, ElemModeHolds, DataModeHolds, body_context, HoldsAt, Item, EachHolds}
 use Rattle.wasm_valid.specs.First.{IsFirstOf, index_of}
-use Rattle.tools_cli.specs.Job.{IsAccepted}
-use Rattle.tools_cli.proofs.Existing.{IsDecided}
-use Rattle.tools_cli.proofs.TypingDecided.{typed_or_not}
+use Rattle.wasm_typing.proofs.Decided.{typed_or_not}
 
 abbrev Either : Type 0 → Type 0
 Either P = P ⊎ (P → ⊥)
@@ -234,7 +232,7 @@ holds m kind.Segment i = entry m.datas i (λ s. DataModeHolds m s.mode) (λ s. d
 holds m kind.Body i = bodies m i
 
 -- all items hold, or there is a first that does not
-abbrev AllOrFirst : Module → List Item → Type 0
+abbrev pub AllOrFirst : Module → List Item → Type 0
 AllOrFirst m xs = EachHolds m xs ⊎ ((e : Invalid) × IsFirstOf m xs e)
 
 and_more : (m : Module) (x : Item) (xs : List Item) → Either (HoldsAt m x.kind x.place) → AllOrFirst m xs → AllOrFirst m (x ∷ xs)
@@ -242,21 +240,6 @@ and_more m x xs (inr fails) rest = inr (record { kind = x.kind; index = index_of
 and_more m x xs (inl here) (inl all) = inl (here, all)
 and_more m x xs (inl here) (inr (e, (y, before, after, split, hold, fails, kind_is, index_is))) = inr (e, (y, x ∷ before, after, ap (λ l. x ∷ l) split, (here, hold), fails, kind_is, index_is))
 
-all_or_first : (m : Module) (xs : List Item) → AllOrFirst m xs
+pub all_or_first : (m : Module) (xs : List Item) → AllOrFirst m xs
 all_or_first m [] = inl tt
 all_or_first m (x ∷ xs) = and_more m x xs (holds m x.kind x.place) (all_or_first m xs)
-
-without : (m : Module) (xs ys : List Item) (x : Item) → EachHolds m (xs ++ x ∷ ys) → EachHolds m (xs ++ ys) × HoldsAt m x.kind x.place
-without m [] ys x h = (h.1, h.0)
-without m (z ∷ xs) ys x h = let rest = without m xs ys x h.1 in ((h.0, rest.0), rest.1)
-
-accepted_where : (many : Bool) (m : Module) → EachHolds m (items m many) → IsAccepted many m
-accepted_where true m h = record { valid = h; single = λ e. absurd (cc) }
-accepted_where false m h = let both = without m (span kind.Import 0 (length m.imports)) _ (item kind.Memories 0) h in record { valid = both.0; single = λ e. both.1 }
-
-pub tree_decided : (many : Bool) (m : Module) → IsDecided many m
-tree_decided many m = by (all_or_first m (items m many))
-  where
-    by : AllOrFirst m (items m many) → IsDecided many m
-    by (inl all) = inl (accepted_where many m all)
-    by (inr first) = inr first

@@ -1,13 +1,13 @@
 // What the words of a merge say, one by one.
 ghost use Rattle.std.specs.Prelude.{◌≡◌, option_map, option_and_then, codes};
-ghost use Rattle.tools_cli.specs.Words.{is_plain, takes_value, behind, joined_value, own_value, other_said};
-ghost use Rattle.tools_cli.specs.Command.{said_value};
+ghost use Rattle.tools_cli.specs.Words.{is_plain, takes_value, behind, joined_value, own_value, other_merge_word};
+ghost use Rattle.tools_cli.specs.Command.{merge_word_value};
 
 use export_names::Mode;
 
 /// What an option, a flag or a plain word says.
 #[derive(Drop)]
-pub(crate) enum Said<'a> {
+pub(crate) enum MergeWord<'a> {
     Output(&'a str),
     Conflicts(Mode),
     Plain(&'a str),
@@ -28,38 +28,38 @@ pub(crate) fn takes_value(word: &str) -> bool
 }
 
 /// The value of an option as a word of its own.
-pub(crate) fn own_value(word: &str) -> Option<Said<'_>>
-    ensures { option_map said_value result ≡ own_value word.now }
+pub(crate) fn own_value(word: &str) -> Option<MergeWord<'_>>
+    ensures { option_map merge_word_value result ≡ own_value word.now }
 {
     if is_plain(word) {
-        Some(Said::Output(word))
+        Some(MergeWord::Output(word))
     } else {
         None
     }
 }
 
 // The value of an option in the word of the option itself.
-fn joined_value(word: &str) -> Option<Said<'_>>
-    ensures { option_map said_value result ≡ option_and_then joined_value (behind (codes "--output=") word.now) }
+fn joined_value(word: &str) -> Option<MergeWord<'_>>
+    ensures { option_map merge_word_value result ≡ option_and_then joined_value (behind (codes "--output=") word.now) }
 {
     match word.strip_prefix("--output=") {
-        Some(value) if !value.is_empty() => Some(Said::Output(value)),
+        Some(value) if !value.is_empty() => Some(MergeWord::Output(value)),
         _ => None,
     }
 }
 
 /// What any other word says.
-pub(crate) fn other_said(word: &str) -> Option<Said<'_>>
-    ensures { option_map said_value result ≡ other_said word.now }
+pub(crate) fn other_merge_word(word: &str) -> Option<MergeWord<'_>>
+    ensures { option_map merge_word_value result ≡ other_merge_word word.now }
 {
     if is_plain(word) {
-        return Some(Said::Plain(word));
+        return Some(MergeWord::Plain(word));
     }
     if word == "--rename-export-conflicts" {
-        return Some(Said::Conflicts(Mode::Rename));
+        return Some(MergeWord::Conflicts(Mode::Rename));
     }
     if word == "--skip-export-conflicts" {
-        return Some(Said::Conflicts(Mode::Skip));
+        return Some(MergeWord::Conflicts(Mode::Skip));
     }
     joined_value(word)
 }

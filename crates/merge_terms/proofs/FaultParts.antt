@@ -1,4 +1,4 @@
--- The parts that faults of linking name are there, and no fault of linking is one of memory.
+-- The parts that faults of linking name are there, no fault of linking is one of memory, and without a fault there is none either where several memories may be.
 use Rattle.std.proofs.Common.{◌≡◌, subst, ℕ, zero, suc, ◌+◌, ◌<◌, ◌≤◌, List, [], ◌∷◌, ◌++◌, length, Option, Some, None, IfSome, Bool, true, false, cond, nat_lt, arith}
 use Rattle.base_lists.specs.Options.{◌>>=◌}
 use Rattle.base_lists.specs.Every.{Every}
@@ -6,8 +6,7 @@ use Rattle.wasm_tree.specs.declared.space.Space.TheVariants.{Globals}
 use Rattle.wasm_tree.specs.declared.types.Limits.{Limits}
 use Rattle.wasm_tree.specs.declared.module.GlobalDef.{GlobalDef}
 use Rattle.wasm_meaning.specs.Linking.{Part, Site, End, sites_in, sites_from, sites, end_of, imports_of, Read, read_of}
-use Rattle.merge_terms.specs.Faults.{or_else, first_fault, end_fault, import_fault, is_suited, is_under, kept_limits, clash_fault, memory_fault, memory_count, OwnGlobal, own_globals_in, own_globals_from, own_globals, value_fault, global_fault, link_fault}
-use Rattle.tools_cli.specs.Causes.{NamesPart}
+use Rattle.merge_terms.specs.Faults.{or_else, first_fault, end_fault, import_fault, is_suited, is_under, kept_limits, clash_fault, memory_fault, memory_count, OwnGlobal, own_globals_in, own_globals_from, own_globals, value_fault, global_fault, link_fault, NamesPart}
 use Rattle.merge_terms.specs.declared.faults.LinkFault.{LinkFault}
 use Rattle.merge_terms.specs.declared.faults.LinkFault.TheVariants.{ImportMismatch, ImportCycle, LimitsClash, TooManyMemories, GlobalCycle, NoMemory}
 
@@ -72,13 +71,13 @@ clash_is n parts s h = limits_are n s (kept_limits parts s) h
 
 -- ---- memories
 
-many_is : (n : ℕ) (b : Bool) → IfSome (cond b (Some TooManyMemories) None) (IsOf n)
-many_is n true = tt
-many_is n false = tt
+several_is : (n : ℕ) (b : Bool) → IfSome (cond b (Some TooManyMemories) None) (IsOf n)
+several_is n true = tt
+several_is n false = tt
 
 memory_is : (n : ℕ) (parts : List Part) → IfSome (memory_fault parts) (IsOf n)
 unfolding memory_fault
-memory_is n parts = many_is n (nat_lt 1 (memory_count parts))
+memory_is n parts = several_is n (nat_lt 1 (memory_count parts))
 
 -- ---- globals
 
@@ -105,14 +104,18 @@ global_is n parts g h = value_is n g (read_of parts g.part g.init) h
 
 -- ---- all faults
 
-fault_is : (parts : List Part) → IfSome (link_fault parts) (IsOf (length parts))
+counted_is : (n : ℕ) (parts : List Part) (many : Bool) → IfSome (cond many None (memory_fault parts)) (IsOf n)
+counted_is n parts true = tt
+counted_is n parts false = memory_is n parts
+
+fault_is : (parts : List Part) (many : Bool) → IfSome (link_fault parts many) (IsOf (length parts))
 unfolding link_fault own_globals
-fault_is parts =
+fault_is parts many =
     let n = length parts in
     let there : 0 + length parts ≤ n = omega arith in
     or_else_is n _ _ (first_is n (import_fault parts) (HasPart n) (import_is n parts) (sites parts) (sites_have n 0 parts there))
     (or_else_is n _ _ (first_is n (clash_fault parts) (HasPart n) (clash_is n parts) (sites parts) (sites_have n 0 parts there))
-    (or_else_is n _ _ (memory_is n parts)
+    (or_else_is n _ _ (counted_is n parts many)
     (first_is n (global_fault parts) (IsPartOf n) (global_is n parts) (own_globals parts) (own_are n 0 parts there))))
 
 names_part : (n : ℕ) (fault : LinkFault) → IsOf n fault → NamesPart n fault
@@ -123,11 +126,24 @@ names_part n TooManyMemories h = tt
 names_part n (GlobalCycle part global) h = h
 names_part n NoMemory h = tt
 
-told : (parts : List Part) (fault : LinkFault) → link_fault parts ≡ Some fault → IsOf (length parts) fault
-told parts fault e = let P : Option LinkFault → Type 0 = λ o. IfSome o (IsOf (length parts)) in subst P e (fault_is parts)
+told : (parts : List Part) (many : Bool) (fault : LinkFault) → link_fault parts many ≡ Some fault → IsOf (length parts) fault
+told parts many fault e = let P : Option LinkFault → Type 0 = λ o. IfSome o (IsOf (length parts)) in subst P e (fault_is parts many)
 
-pub fault_names_part : (parts : List Part) (fault : LinkFault) → link_fault parts ≡ Some fault → NamesPart (length parts) fault
-fault_names_part parts fault e = names_part (length parts) fault (told parts fault e)
+pub fault_names_part : (parts : List Part) (many : Bool) (fault : LinkFault) → link_fault parts many ≡ Some fault → NamesPart (length parts) fault
+fault_names_part parts many fault e = names_part (length parts) fault (told parts many fault e)
 
-pub fault_not_memory : (parts : List Part) → link_fault parts ≡ Some NoMemory → ⊥
-fault_not_memory parts e = told parts NoMemory e
+pub fault_not_memory : (parts : List Part) (many : Bool) → link_fault parts many ≡ Some NoMemory → ⊥
+fault_not_memory parts many e = told parts many NoMemory e
+
+-- ---- where several memories may be
+
+others_none : (a b memories others : Option LinkFault) → or_else a (or_else b (or_else memories others)) ≡ None → or_else a (or_else b others) ≡ None
+others_none (Some f) b memories others h = absurd (cc)
+others_none None (Some f) memories others h = absurd (cc)
+others_none None None (Some f) others h = absurd (cc)
+others_none None None None others h = h
+
+pub none_with_several : (parts : List Part) (many : Bool) → link_fault parts many ≡ None → link_fault parts true ≡ None
+unfolding link_fault
+none_with_several parts true h = h
+none_with_several parts false h = others_none _ _ (memory_fault parts) _ h
