@@ -1,11 +1,9 @@
 -- The place of a fault is one: the contents come to a stop in one section, and in the code section in one entry.
-use Rattle.std.proofs.Common.{◌≡◌, Bool, ℕ, suc, ◌+◌, List, [], ◌∷◌, ◌++◌, length, Result, Ok, Err, Option, Some, None, inl, inr, ⊎_elim, append_assoc, refl, sym, ap, ◌∙◌, subst, arith}
+use Rattle.std.proofs.Common.{◌≡◌, Bool, ℕ, suc, ◌+◌, List, [], ◌∷◌, ◌++◌, length, Result, Ok, Err, Option, Some, None, ⊎_elim, append_assoc, refl, sym, ap, ◌∙◌, subst, arith}
 use Rattle.base_lists.specs.Every.{Every}
 use Rattle.wasm_bytes.specs.Joins.{U32, Each, Sized}
 use Rattle.wasm_bytes.specs.Reading.{IsBytes}
 use Rattle.wasm_bytes.specs.Frames.{Section}
-use Rattle.wasm_tree.specs.Limits.{limit}
-use Rattle.wasm_tree.specs.declared.which.Which.TheVariants.{Functions}
 use Rattle.wasm_tree.specs.declared.module.Func.{Func}
 use Rattle.wasm_tree.specs.Spaces.{imported_funcs}
 use Rattle.wasm_format.specs.declared.fault.Fault.{Fault}
@@ -16,7 +14,7 @@ use Rattle.wasm_format.specs.Files.{nothing, SpellsSection, SmallSection, Conten
 use Rattle.wasm_format.specs.Reading.{u32_at}
 use Rattle.wasm_format.specs.Stops.{Stop, section_stops}
 use Rattle.wasm_format.specs.BodyReading.{code_at}
-use Rattle.wasm_format.specs.Contents.{placed, entry_at, next_func, section_at}
+use Rattle.wasm_format.specs.Contents.{placed, entry_at, section_at}
 use Rattle.wasm_format.specs.Causes.{UpTo, EntryOf, InEntry, SectionStops, EntryStops, StopsAt}
 use Rattle.wasm_format.proofs.Exact.{u32_exact}
 use Rattle.wasm_format.proofs.SectionLaws.{section_right}
@@ -83,7 +81,7 @@ module _ (many : Bool) (n : ℕ) where
       absurd (not_this func front entry' back' content' (entry ++ back) w' x codes p s.0 (sym (ap (λ f. f ++ (entry' ++ back')) p') ∙ sym is) z' bad')
   entries_same (x ∷ codes) (x' ∷ codes') func front front' entry entry' back back' content content' w w' is p s z bad p' s' z' bad' =
       let read : ◌≡◌ {A = Result (Func × List ℕ) ReadFault} (Ok (x, p.1 ++ (entry ++ back))) (Ok (x', p'.1 ++ (entry' ++ back'))) =
-        sym (entry_read func front (entry ++ back) x codes p s.0) ∙ ap (entry_at many n func) is ∙ entry_read func front' (entry' ++ back') x' codes' p' s'.0 in
+      sym (entry_read func front (entry ++ back) x codes p s.0) ∙ ap (entry_at many n func) is ∙ entry_read func front' (entry' ++ back') x' codes' p' s'.0 in
       let pair : ◌≡◌ {A = Func × List ℕ} (x, p.1 ++ (entry ++ back)) (x', p'.1 ++ (entry' ++ back')) = cc in
       let rest : p.1 ++ (entry ++ back) ≡ p'.1 ++ (entry' ++ back') = ap (λ (t : Func × List ℕ). t.1) pair in
       ap suc (entries_same codes codes' (func + 1) p.1 p'.1 entry entry' back back' content content' w w' rest p.3 s.1 z bad p'.3 s'.1 z' bad')

@@ -1,10 +1,9 @@
 -- What is spelled, a section or a file, is read, or a quantity in it is over its limit.
-use Rattle.std.proofs.Common.{◌≡◌, ℕ, ◌+◌, List, [], ◌∷◌, ◌++◌, length, Result, Ok, Err, Bool, true, false, cond, Option, Some, None, inl, inr, refl, sym, ap, ◌∙◌, subst, append-nil}
-use Rattle.std.specs.Prelude.{◌==◌, ◌↔◌}
+use Rattle.std.proofs.Common.{ℕ, ◌+◌, List, [], ◌∷◌, ◌++◌, length, Result, Ok, Err, Bool, true, false, cond, Option, Some, None, inl, inr, refl, sym, ap, subst, append-nil}
+use Rattle.std.specs.Prelude.{◌==◌}
 use Rattle.wasm_bytes.specs.Joins.{Vector}
-use Rattle.wasm_bytes.specs.Reading.{◌>>=◌, IsBytes}
+use Rattle.wasm_bytes.specs.Reading.{◌>>=◌}
 use Rattle.wasm_bytes.specs.Frames.{Section}
-use Rattle.wasm_tree.specs.declared.which.Which.{Which}
 use Rattle.wasm_tree.specs.declared.which.Which.TheVariants.{Types, Imports, Functions, Tables, Memories, Globals, Exports, ElementSegments, DataSegments}
 use Rattle.wasm_tree.specs.declared.module.Func.{Func}
 use Rattle.wasm_tree.specs.declared.module.Module.{Module}
@@ -17,14 +16,14 @@ use Rattle.wasm_format.specs.declared.fault.ReadFault.TheVariants.{Limit, Malfor
 use Rattle.wasm_format.specs.declared.parts.Parts.{Parts}
 use Rattle.wasm_format.specs.Words.{Made, When}
 use Rattle.wasm_format.specs.Bodies.{SpellsEntry}
-use Rattle.wasm_format.specs.Files.{nothing, with_types, with_imports, with_func_types, with_tables, with_mems, with_globals, with_exports, with_start, with_elems, with_codes, with_datas, with_count, SpellsCustom, section_form, Contents, Spells, Within}
+use Rattle.wasm_format.specs.Files.{nothing, with_types, with_imports, with_func_types, with_tables, with_mems, with_globals, with_exports, with_start, with_elems, with_codes, with_datas, with_count, SpellsCustom, section_form, Contents, Spells}
 use Rattle.wasm_format.specs.Reading.{Reader, u32_at, sized_at, each_from, whole_at}
 use Rattle.wasm_format.specs.BodyReading.{code_at}
-use Rattle.wasm_format.specs.Contents.{in_place, entry_at, next_func, codes_at, custom_at, put_at, section_at, contents_at, framed_at, agrees, parts_at, read_at, fault_of as told_fault}
+use Rattle.wasm_format.specs.Contents.{in_place, entry_at, next_func, codes_at, custom_at, put_at, section_at, contents_at, framed_at, agrees, parts_at, read_at}
 use Rattle.wasm_format.proofs.Exact.{u32_exact, sized_exact, name_exact}
 use Rattle.wasm_format.proofs.ItemLaws.{import_exact, table_exact, limits_exact, global_def_exact, export_exact, elem_exact, data_exact}
 use Rattle.wasm_format.proofs.Framing.{framed_reads}
-use Rattle.wasm_format.proofs.FileLaws.{of_rules, tree_found, tree_read}
+use Rattle.wasm_format.proofs.FileLaws.{of_rules}
 use Rattle.wasm_format.proofs.LimitLaws.{Got, bind_got, count_got, Gets, exact_gets, each_gets, vector_gets, func_type_gets, code_gets}
 
 in_place_got : {A : Type 0} (n : ℕ) (o : Option ℕ) (r : Result A Fault) (x : A) → Got fault.Limit r x → Got Limit (in_place n o r) x

@@ -1,5 +1,5 @@
 -- Code whose parts are in range is in range.
-use Rattle.std.proofs.Common.{◌≡◌, ◌∙◌, ap, ℕ, List, [], ◌∷◌, ◌++◌, true, ◌&&◌, ◌^◌, Result, Ok, Err, refl, rules}
+use Rattle.std.proofs.Common.{◌≡◌, ◌∙◌, ap, ℕ, List, [], ◌∷◌, true, ◌&&◌, ◌^◌, Result, Ok, Err, refl, rules}
 use Rattle.std.specs.Prelude.{OnOk, IsTrue}
 use Rattle.std.specs.List.{list_all, push}
 use Rattle.std.proofs.lemmas.Bool.{and_from, lt-ltb}
