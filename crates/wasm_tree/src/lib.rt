@@ -6,7 +6,6 @@
 
 mod body;
 mod copy;
-mod data_use;
 mod instr;
 mod laws;
 mod module;
@@ -16,7 +15,6 @@ mod types;
 mod which;
 
 pub use body::copy_body;
-pub use data_use::any_uses_data;
 pub use instr::{Instr, LoadOp, MemArg, StoreOp};
 pub use laws::{operands_are_mapped, operands_pass_layer_by_layer};
 pub use module::{

@@ -3,7 +3,7 @@ use std::test::Fail;
 use wasm_bytes::{Items, Name, NoMemory};
 use wasm_tree::{
     BlockType, ConstExpr, Export, ExportDesc, Func, FuncType, GlobalDef, GlobalType, Instr, Limits,
-    Module, Operand, RefType, Space, TableType, ValType, Which, any_uses_data,
+    Module, Operand, RefType, Space, TableType, ValType, Which,
 };
 
 fn types(alloc: Global) -> Result<Items<FuncType>, NoMemory> {
@@ -163,28 +163,5 @@ fn limits_are_as_they_are_told(rt: HostRuntime) -> Result<(), Fail> {
     assert_eq!(rt; Which::Nesting.limit(), 1_000);
     assert_eq!(rt; Which::Locals.limit(), 50_000);
     assert_eq!(rt; Which::DataSegments.limit(), 300_000);
-    Ok(())
-}
-
-// One function whose body is a block that holds the instruction.
-fn around(alloc: Global, instr: Instr) -> Result<Items<Func>, NoMemory> {
-    let mut inner = Items::new(alloc);
-    inner.keep(instr)?;
-    let mut body = Items::new(alloc);
-    body.keep(Instr::Block(BlockType::Empty, inner))?;
-    let mut funcs = Items::new(alloc);
-    funcs.keep(Func {
-        ty: 0,
-        locals: Items::new(alloc),
-        body,
-    })?;
-    Ok(funcs)
-}
-
-#[test]
-fn data_use_is_found_inside_a_block(rt: HostRuntime) -> Result<(), Fail> {
-    let alloc = rt.alloc();
-    assert!(rt; any_uses_data(around(alloc, Instr::DataDrop(0))?.as_slice()));
-    assert!(rt; !any_uses_data(around(alloc, Instr::ElemDrop(0))?.as_slice()));
     Ok(())
 }
