@@ -11,10 +11,6 @@ use Rattle.tools_cli.specs.declared.gather.Input.{Input}
 use Rattle.tools_cli.specs.declared.decide.Decision as code
 use Rattle.tools_cli.specs.declared.stop.Stop.{Stop}
 
--- no task asks for several memories
-pub no_task_has_many : (t : Task) → many_of t ≡ true → ⊥
-no_task_has_many (Merge merge) e = cc
-
 -- ---- the inputs, as modules and other texts ----
 
 pub total_first : (n : ℕ) (es : List Entry) → total (take n es) ≤ total es

@@ -1,5 +1,5 @@
 -- What a run of the program does to the files and the two sinks.
-use Rattle.std.specs.Prelude.{◌≡◌, ◌⊎◌, ℕ, false, List, [], ◌++◌, Option, Some, None, Result, Err, IfSome, Contains, string_bytes}
+use Rattle.std.specs.Prelude.{◌≡◌, ◌⊎◌, ℕ, false, List, ◌++◌, Option, Some, None, Result, Err, IfSome, Contains, string_bytes}
 use Rattle.tool_io.specs.Outside.{Contents, Rose, Becomes, AppendsPrefix}
 use Rattle.tools_cli.specs.Words.{Text, Task, task_of, inputs_of, may_print, usage_line}
 use Rattle.tools_cli.specs.Effects.{Entry, made, IsCut, written_names}

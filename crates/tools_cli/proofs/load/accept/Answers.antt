@@ -1,4 +1,4 @@
-use Rattle.std.proofs.Common.{◌≡◌, false, rules}
+use Rattle.std.proofs.Common.{false, rules}
 use Rattle.wasm_valid.specs.First.{IsFirstInvalid}
 use Rattle.tools_cli.proofs.load.accept.Goals as goal
 

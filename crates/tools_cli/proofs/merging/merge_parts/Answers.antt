@@ -1,4 +1,4 @@
-use Rattle.std.proofs.Common.{◌≡◌, ◌∙◌, ap, sym, arith, false, Some, length}
+use Rattle.std.proofs.Common.{◌∙◌, ap, sym, arith, false, length}
 use Rattle.std.proofs.lemmas.List.{length-map}
 use Rattle.wasm_tree.specs.declared.space.Space.TheVariants.{Globals}
 use Rattle.wasm_meaning.specs.World.{defined_before}

@@ -1,11 +1,11 @@
-use Rattle.std.proofs.Common.{◌≡◌, ◌∙◌, refl, sym, ap, false, true, rules, Err, arith}
+use Rattle.std.proofs.Common.{◌≡◌, ◌∙◌, refl, ap, false, rules, Err, arith}
 use Rattle.std.proofs.lemmas.Result.{IfOk-weaker, IfErr-weaker}
 use Rattle.tools_cli.specs.Words.{Text, many_of}
 use Rattle.tools_cli.specs.Command.{task_value, decision_value, input_entries, input_texts, write_entries}
 use Rattle.tools_cli.specs.Job.{Decides, Refuses, Done, Refused, OneFails, InputsJob, job_of}
 use Rattle.tools_cli.specs.Causes.{total, StopsWith}
 use Rattle.tools_cli.proofs.Loading.{stops_weaker, as_many, loads_within, inputs_once}
-use Rattle.tools_cli.proofs.Deciding.{no_task_has_many, total_first, entries_first, texts_behind, modules_there, job_made, job_not_loaded}
+use Rattle.tools_cli.proofs.Deciding.{total_first, entries_first, texts_behind, modules_there, job_made, job_not_loaded}
 use Rattle.tools_cli.proofs.work.plan.Goals as goal
 
 pub split_at-requires : goal.split_at-requires
