@@ -26,15 +26,20 @@ use Rattle.merge_terms.specs.View.{linked_world}
 use Rattle.wasm_tree.specs.declared.which.Which.{Which}
 use Rattle.merge_terms.specs.Joined.{over_limit, joined_module, repeated_name, outcome}
 use Rattle.wasm_plain.specs.Plain.{plain}
+use Rattle.wasm_tree.specs.MemoryZero.{memory_zero_funcs}
 use Rattle.plain_law.specs.Ranges.{InRange}
 
 -- a part is valid, and a u32 counts what it has
 abbrev pub IsSound : Part → Type 0
 IsSound p = IsValid p.«module» × IsBounded p.«module»
 
+-- its numbers are in range and its bodies name memory 0 alone, so that its plain spelling spells it
+abbrev IsWritable : Module → Type 0
+IsWritable m = InRange m × IsTrue (memory_zero_funcs m.funcs)
+
 -- what is known of the plain spelling, and of merged modules
 pub record Respelled : Type 0 where
-  pub plainly : (tree : Module) → InRange tree → length (plain tree) < 2 ^ 32 → Spells (plain tree) tree false
+  pub plainly : (tree : Module) → IsWritable tree → length (plain tree) < 2 ^ 32 → Spells (plain tree) tree false
   pub ranges : (bytes : List ℕ) (tree : Module) → Spells bytes tree false → InRange tree
   pub bounded : (bytes : List ℕ) (tree : Module) → Spells bytes tree false → Within bytes false → IsBounded tree
   pub valid : (parts : List Part) (mode : Mode) → CanBeJoined parts mode → IsValid (joined_module parts mode)
@@ -42,6 +47,7 @@ pub record Respelled : Type 0 where
   pub sizes : (parts : List Part) (mode : Mode) → CanBeJoined parts mode → IsBounded (joined_module parts mode)
   pub in_range : (parts : List Part) (mode : Mode) → Every (λ (p : Part). InRange p.«module») parts → IsValid (joined_module parts mode) → IsSingle (joined_module parts mode) → IsBounded (joined_module parts mode)
       → InRange (joined_module parts mode)
+  pub memory : (parts : List Part) (mode : Mode) → IsValid (joined_module parts mode) → IsSingle (joined_module parts mode) → IsBounded (joined_module parts mode) → IsTrue (memory_zero_funcs (joined_module parts mode).funcs)
   pub same : (parts : List Part) (mode : Mode) → CanBeJoined parts mode → BehavesAs parts mode (joined_module parts mode)
   pub turns : TurnsAreNotSeen
 
@@ -56,7 +62,7 @@ joins_to (Some name) which m tree e = absurd (cc)
 joins_to None (Some which) m tree e = absurd (cc)
 joins_to None None m tree e = let same : m ≡ tree = cc in (refl, refl, same)
 
-merged_is_sound : Respelled → (parts : List Part) (mode : Mode) (tree : Module) → Every IsSound parts → Every (λ (p : Part). InRange p.«module») parts → AreMerged false parts mode tree → IsAccepted false tree × InRange tree × BehavesAs parts mode tree
+merged_is_sound : Respelled → (parts : List Part) (mode : Mode) (tree : Module) → Every IsSound parts → Every (λ (p : Part). InRange p.«module») parts → AreMerged false parts mode tree → IsAccepted false tree × IsWritable tree × BehavesAs parts mode tree
 merged_is_sound k parts mode tree sound ranged is =
     let joins = joins_to (repeated_name parts mode) (over_limit (joined_module parts mode)) (joined_module parts mode) tree is.1 in
     let can : CanBeJoined parts mode = record {
@@ -68,8 +74,8 @@ merged_is_sound k parts mode tree sound ranged is =
     } in
     let valid = k.valid parts mode can in
     let single = k.single parts mode can is.0 in
-    let P : Module → Type 0 = λ m. IsAccepted false m × InRange m × BehavesAs parts mode m in
-    subst P joins.2 (record { valid = valid; single = λ e. single }, k.in_range parts mode ranged valid single (k.sizes parts mode can), k.same parts mode can)
+    let P : Module → Type 0 = λ m. IsAccepted false m × IsWritable m × BehavesAs parts mode m in
+    subst P joins.2 (record { valid = valid; single = λ e. single }, (k.in_range parts mode ranged valid single (k.sizes parts mode can), k.memory parts mode valid single (k.sizes parts mode can)), k.same parts mode can)
 
 -- what a job that is done keeps
 abbrev pub JobKeeps : List Text → Contents → Job → Type 0

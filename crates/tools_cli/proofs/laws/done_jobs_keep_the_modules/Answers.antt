@@ -5,13 +5,14 @@ use Rattle.tools_cli.proofs.laws.done_jobs_keep_the_modules.Goals as goal
 pub returns : goal.returns
 returns c words before writes lines h =
     done_keeps (record {
-      plainly = λ tree range few. c.plain_spells.ensures.spells tree range (c.trees_that_fit_have_small_sizes.ensures tree few);
+      plainly = λ tree writable few. c.plain_spells.ensures.spells tree writable.0 writable.1 (c.trees_that_fit_have_small_sizes.ensures tree few);
       ranges = c.spelled_trees_are_in_range.ensures;
       bounded = λ bytes tree s w. c.spelled_trees_are_bounded.ensures false bytes tree s w;
       valid = c.merged_modules_are_valid.ensures.valid;
       single = c.merged_modules_are_valid.ensures.single;
       sizes = c.merged_modules_are_valid.ensures.bounded;
-      in_range = c.merged_modules_are_in_range.ensures;
+      in_range = c.merged_modules_are_in_range.ensures.range;
+      memory = c.merged_modules_are_in_range.ensures.memory;
       same = c.merged_modules_show_the_same.ensures.same;
       turns = c.turns_are_not_seen.ensures.turns;
     }) words before writes lines h
