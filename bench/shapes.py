@@ -25,13 +25,13 @@ WIDE = 1000
 BLOCK, END, NOP, DROP, CALL = b"\x02", b"\x0b", b"\x01", b"\x1a", b"\x10"
 
 
-def of_wide_type(instruction):
-    """One MiB of an instruction of the type [i32 * 1,000] to [i32 * 1,000]; function 1 is of that type."""
+def of_wide_type(instruction, before=b"", behind=b""):
+    """One MiB of an instruction of the type [i32 * 1,000] to [i32 * 1,000], and what stands before them and behind; function 1 is of that type."""
     ints = leb(WIDE) + b"\x7f" * WIDE
     types = section(1, b"\x02\x60\0\0\x60" + ints + ints)
     passed_on = b"".join(b"\x20" + leb(local) for local in range(WIDE))
     wide = b"\x00" + passed_on + END
-    body = b"\x00" + b"\x41\x00" * WIDE + instruction * ((1 << 20) // len(instruction)) + DROP * WIDE + END
+    body = b"\x00" + b"\x41\x00" * WIDE + before + instruction * ((1 << 20) // len(instruction)) + behind + DROP * WIDE + END
     code = section(10, b"\x02" + leb(len(body)) + body + leb(len(wide)) + wide)
     return HEADER + types + section(3, b"\x02\x00\x01") + code
 
@@ -55,6 +55,7 @@ def of_exports():
 SHAPES = [
     ("blocks of a type of 1,000 parameters and results", lambda: of_wide_type(BLOCK + b"\x01" + END)),
     ("calls of a type of 1,000 parameters and results", lambda: of_wide_type(CALL + b"\x01")),
+    ("branches out of a block of such a type", lambda: of_wide_type(b"\x41\x00\x0d\x00", BLOCK + b"\x01", END)),
     ("`block` `block` `end` `end`, again and again", lambda: of_instructions((BLOCK + b"\x40") * 2 + END * 2)),
     ("blocks 999 deep, again and again", lambda: of_instructions((BLOCK + b"\x40") * 999 + END * 999)),
     ("`block` `nop` `end`, again and again", lambda: of_instructions(BLOCK + b"\x40" + NOP + END)),
