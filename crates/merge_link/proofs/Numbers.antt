@@ -45,7 +45,7 @@ pub globals_none : (lp : List linking.Part) → defined_before Globals lp 0 ≡ 
 globals_none [] = refl
 globals_none (x ∷ lp) = refl
 
--- they are no more than slice_get_there are
+-- they are no more than there are
 pub imports_most : (lp : List linking.Part) (first p : ℕ) (m : Module) → linking.module_at lp p ≡ Some m → imports_before lp p + length m.imports ≤ length (linking.sites_from first lp)
 imports_most [] first p m h = cc
 imports_most (x ∷ lp) first zero m h =
@@ -129,7 +129,7 @@ site_of (x ∷ lp) first n s h = elim (split (linking.sites_in first (length x.�
       record { place = suc r.place; tree = r.tree; at = r.at; part = omega (arith, r.part); within = r.within; number = omega (arith, r.number, k.0, length-sites_in first (length x.«module».imports) 0) }
 ]
 
--- slice_get_there is an import at each place
+-- an import stands at each place
 pub site_there : (lp : List linking.Part) (n : ℕ) (s : linking.Site) → slice_get (linking.sites lp) n ≡ Some s → (i : Import) × (linking.import_at lp s ≡ Some i)
 site_there lp n s h =
     let r = site_of lp 0 n s h in

@@ -220,7 +220,7 @@ module _ (ends_law : EndsArePaths) (parts : List Part) (names : List (Option Tex
         let z = ended (record { part = p; expr = e }) r ((reads_law parts p e r).1 reads) m ty is t in
         record { of = z.of; is_part = z.is_part; fits = map_fits parts r.part z.of r.expr ty z.typed }
 
-    -- what is read is slice_get_there
+    -- what is read is there
     pub read_there : (p : ℕ) (e : ConstExpr) (m : Module) (ty : ValType) → module_at parts p ≡ Some m → const_type m e ≡ Some ty → (r : Read) × (read_of parts p e ≡ Some r)
     read_there p e m ty is t = by (step_of p e m ty is t)
       where

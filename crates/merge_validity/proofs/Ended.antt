@@ -1,4 +1,4 @@
--- Where imports of linked parts end, with all that is asked and found slice_get_there; and which sites are imports.
+-- Where imports of linked parts end, with all that is asked and found there; and which sites are imports.
 use Rattle.std.proofs.Common.{◌≡◌, ◌∙◌, ap, ap₂, sym, subst, refl, ℕ, zero, suc, ◌+◌, ◌<◌, List, length, Some, Bool, true, false, arith, option_and_then, ◌&&◌}
 use Rattle.wasm_tree.specs.declared.space.Space.{Space}
 use Rattle.wasm_tree.specs.declared.space.Space.TheVariants.{Functions, Tables, Memories, Globals, Types, ElementSegments, DataSegments}

@@ -1,4 +1,4 @@
--- The imports of the merged module hold: their types are slice_get_there, and the limits that they keep are limits.
+-- The imports of the merged module hold: their types are there, and the limits that they keep are limits.
 use Rattle.std.proofs.Common.{◌≡◌, ◌∙◌, ap, sym, subst, refl, ℕ, ◌<◌, ◌≤◌, List, [], ◌∷◌, length, Option, Some, None, Bool, true, false, cond, arith, option_and_then}
 use Rattle.wasm_tree.specs.declared.space.Space.TheVariants.{Memories}
 use Rattle.std.specs.Prelude.{slice_get, slice_index, max}

@@ -59,7 +59,7 @@ has_number (suc n) k h = elim (cases_eq k n) [
   | inr ne ↦ let r : Has (numbers n) k = has_number n k (omega arith) in (suc r.0, r.1)
 ]
 
--- a path that ends has no more places than slice_get_there are
+-- a path that ends has no more places than there are
 short : (steps : List (Option ℕ)) (k n e : ℕ) → EndsIn steps k n e → suc k ≤ length steps
 short steps k n e r =
     let most = pigeons (suc k) (λ i. node steps i n) (numbers (length steps))
