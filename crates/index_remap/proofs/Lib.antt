@@ -10,9 +10,11 @@ pub mod ControlSteps
 pub mod ControlGroup
 pub mod StepsAgree
 pub mod Known
-pub mod Lockstep
 pub mod Shown
 pub mod Runs
+pub mod Others
+pub mod Shapes
+pub mod Lockstep
 pub mod SameRuns
 pub mod AboveSteps
 pub mod Keeping
@@ -22,7 +24,6 @@ pub mod Instructions
 pub mod Replacing
 pub mod Unlisted
 pub mod RenumberedCode
-pub mod Others
 pub mod ItselfCode
 mod Unknown
 mod ReplacedRows

@@ -7,4 +7,5 @@ pub mod RelatedRuns
 pub mod Agreement
 pub mod Replaced
 pub mod Laws
+pub mod ListedRuns
 pub mod Unknown

@@ -8,6 +8,7 @@ mod remap;
 mod renumbering;
 
 ghost use Rattle.index_remap.specs.Laws.{CodeIsRelatedToItself, NamedAreKnown, OthersStay, RelatedRunsShowTheSame, RelatedTicksAgree, RenumberedCodeIsRelated, ReplacedCodeIsRelated, ShownAgree, StepsAgree, TrapsAgree, TypingIsKept, UnlistedAreRenumbered};
+ghost use Rattle.index_remap.specs.ListedRuns.{ListedRunsAgree};
 ghost use Rattle.index_remap.specs.Unknown.{NothingUnknown, SetGlobalsAreKnown};
 
 pub use declaring::declare_refs;
@@ -45,15 +46,15 @@ pub fn steps_agree()
 {}
 
 /// Two runs that are related by a one-to-one relation of addresses, functions included, where all that code may name as one is related and no function is set apart,
-/// show the same events in however many steps (`events`): each step shows the same and leaves them related (`ticks`). Once they are instantiated it leaves the functions of the second as they were, and all else that nothing of the
-/// first is related to (`others`).
+/// show the same events in however many steps (`events`): each step shows the same and leaves them related (`ticks`). Once they are instantiated it leaves the functions as
+/// they were, and all else that has no partner in the other store (`others`). Where functions are set apart, all of this is so of each step that begins no call of one of
+/// them, be it by a frame, a start or a move (`listed`).
 pub fn related_runs_show_the_same()
     ensures events { RelatedRunsShowTheSame }
     ensures ticks { RelatedTicksAgree }
     ensures others { OthersStay }
-{
-    steps_agree();
-}
+    ensures listed { ListedRunsAgree }
+{}
 
 /// Of stores that correspond but for places of which nothing is known: where there are no such places, they correspond (`nothing`); a related global that is set to
 /// a related value is known from then on (`set`).

@@ -17,8 +17,8 @@ use Rattle.wasm_meaning.specs.Environment.{Thing}
 use Rattle.wasm_meaning.specs.World.{Filled, Task, numbers, const_value, store_with, joined_stores, tasks_in, fill_table, run_elem_with, fill_memory, run_data_with, and_then, in_turn}
 use Rattle.wasm_meaning.specs.InTurn.{Added, added, added_as, own_segments, next_inst, all_match}
 use Rattle.index_remap.specs.Related.{Pairing, BothRel, both, StoreRel}
-use Rattle.index_remap.specs.RelatedRuns.{HasNoPartner}
-use Rattle.world_simulation.specs.Segments.{alone_in_first, offset_in}
+use Rattle.index_remap.specs.RelatedRuns.{turned, HasNoPartner}
+use Rattle.world_simulation.specs.Segments.{offset_in}
 use Rattle.world_simulation.specs.Added.{WritesAlone}
 use Rattle.world_simulation.proofs.Copied.{then_holds, Kept, nothing_kept, table_kept, memory_kept}
 use Rattle.world_simulation.proofs.Ordered.{in_first, in_second, first_apart, second_apart, kept_rel, task_at, task_inst}
@@ -177,11 +177,11 @@ module _ (R : Pairing) (s z : Store) (m : Module) (things : List Thing) (a : Add
       (λ n b e c r. let past = number_past (length z.datas) (length m.datas) n b e in let k = right_is (like.datas r) in let l = at_within z.datas b k.0 k.1 in absurd (omega (arith, past, l)))
       (subst (λ (a : Added). WritesAlone (HasNoPartner R) m a.inst) (sym t.1) writes) (joined_stores z t.0)))
 
-  pub added_first : added s m things ≡ Some a → WritesAlone (alone_in_first R) m a.inst → StoreRel R a.filled.store z
+  pub added_first : added s m things ≡ Some a → WritesAlone (HasNoPartner (turned R)) m a.inst → StoreRel R a.filled.store z
   added_first h writes =
       let i = next_inst s m things in
       let t = added_is s m things a h in
-      subst (λ (a : Added). StoreRel R a.filled.store z) t.1 (kept_rel R (joined_left R t.0 like) (segments_kept (in_first R) (alone_in_first R) (first_apart R) (const_value s.globals i) m i
+      subst (λ (a : Added). StoreRel R a.filled.store z) t.1 (kept_rel R (joined_left R t.0 like) (segments_kept (in_first R) (HasNoPartner (turned R)) (first_apart R) (const_value s.globals i) m i
       (λ n b e c r. let past = number_past (length s.elems) (length m.elems) n b e in let k = left_is (like.elems r) in let l = at_within s.elems b k.0 k.1 in absurd (omega (arith, past, l)))
       (λ n b e c r. let past = number_past (length s.datas) (length m.datas) n b e in let k = left_is (like.datas r) in let l = at_within s.datas b k.0 k.1 in absurd (omega (arith, past, l)))
-      (subst (λ (a : Added). WritesAlone (alone_in_first R) m a.inst) (sym t.1) writes) (joined_stores s t.0)) (nothing_kept (in_second R) z))
+      (subst (λ (a : Added). WritesAlone (HasNoPartner (turned R)) m a.inst) (sym t.1) writes) (joined_stores s t.0)) (nothing_kept (in_second R) z))

@@ -21,7 +21,7 @@ use Rattle.wasm_meaning.specs.World.{Filled, Task, or_trapped, fill_table, copy_
 use Rattle.index_remap.specs.Related.{OptRel, BothRel}
 use Rattle.index_remap.proofs.Rel.{there, at_put_there}
 use Rattle.world_simulation.specs.Definitions.{Instantiated, DefinedAt, values_in}
-use Rattle.world_simulation.specs.Segments.{InOrder, ElemsPartner, ElemAlone, DatasPartner, DataAlone, alone_in_first, offset_in}
+use Rattle.world_simulation.specs.Segments.{InOrder, ElemsPartner, ElemAlone, DatasPartner, DataAlone, offset_in}
 use Rattle.world_simulation.specs.Segments as segments
 use Rattle.world_simulation.proofs.Places.{res_placed}
 use Rattle.wasm_meaning.proofs.Slices.{split_lengths}

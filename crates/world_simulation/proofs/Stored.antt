@@ -1,8 +1,9 @@
 -- What stands at the addresses of allocated stores; stores of which the definitions correspond are related.
-use Rattle.std.proofs.Common.{◌≡◌, ℕ, ◌<◌, List, [], length, Option, Some, refl, sym, ap, subst, ◌∙◌, option_and_then, slice_get}
+use Rattle.std.proofs.Common.{◌≡◌, ℕ, ◌<◌, List, [], length, Option, Some, Bool, true, false, refl, sym, ap, subst, ◌∙◌, option_and_then, slice_get}
 use Rattle.wasm_tree.specs.declared.space.Space.{Space}
 use Rattle.wasm_tree.specs.declared.space.Space.TheVariants.{Functions, Tables, Memories, Globals, ElementSegments, DataSegments}
-use Rattle.base_lists.proofs.Options.{all_there_at, all_there_length}
+use Rattle.std.proofs.lemmas.Option.{same_Some}
+use Rattle.base_lists.proofs.Options.{all_there_at, all_there_length, and_then_is}
 use Rattle.base_lists.proofs.Places.{slice_get_there, map_at}
 use Rattle.wasm_tree.specs.declared.types.FuncType.{FuncType}
 use Rattle.wasm_tree.specs.declared.module.ConstExpr.{ConstExpr}
@@ -14,15 +15,17 @@ use Rattle.wasm_tree.specs.declared.module.GlobalDef.{GlobalDef}
 use Rattle.wasm_tree.specs.declared.module.Module.{Module}
 use Rattle.wasm_meaning.specs.Outcomes.{Outcome, Gives, bind, at}
 use Rattle.wasm_meaning.specs.State.{RefVal, Val, Inst, Func, Code, Global, Elem, Store}
-use Rattle.wasm_meaning.specs.Values.{ref_of, declared}
+use Rattle.wasm_meaning.specs.Values.{ref_of}
+use Rattle.wasm_meaning.specs.Values as values
 use Rattle.wasm_meaning.specs.Control.{type_of_func, own_of}
 use Rattle.wasm_meaning.specs.Environment.{Environment, own_funcs, own_tables, own_memories, own_globals}
-use Rattle.wasm_meaning.specs.World.{given, own_count, new_func, new_global, global_with, new_elem, elem_with, elem_of, own_store, stores_from}
+use Rattle.wasm_meaning.specs.Step.{no_items}
+use Rattle.wasm_meaning.specs.World.{given, all_there, own_count, new_func, new_global, global_with, new_elem, elem_with, elem_of, own_store, stores_from}
 use Rattle.index_remap.specs.Related.{Pairing, OptRel, none, some, BothRel, both, ListRel, nil, RefRel, ValRel, number, reference, FuncRel, defined, own, TableRel, GlobalRel, ElemRel, StoreRel}
 use Rattle.index_remap.specs.Related as to
 use Rattle.index_remap.proofs.Rel.{copies_rel}
 use Rattle.world_simulation.specs.Owned.{SharesOwn}
-use Rattle.world_simulation.specs.Definitions.{Instantiated, DefinedAt, values_in, FuncsCorrespond, GlobalsCorrespond, is_declarative, ElemsCorrespond, Partners, DefinitionsCorrespond}
+use Rattle.world_simulation.specs.Definitions.{Instantiated, DefinedAt, values_in, FuncsCorrespond, GlobalsCorrespond, is_declarative, ElemsCorrespond, declared, kept, Partners, DefinitionsCorrespond}
 use Rattle.world_simulation.specs.Definitions as partners
 use Rattle.world_simulation.proofs.Allocated.{new_table, new_memory, new_data, adds, keeps, funcs_stand, tables_stand, mems_stand, globals_stand, elems_stand, datas_stand}
 use Rattle.world_simulation.proofs.Owned.{null_rel, own_funcs_rel, own_tables_rel, own_globals_rel}
@@ -82,8 +85,8 @@ module _ (env : Environment) (w : Instantiated) (s : Store) (made : stores_from 
 module _ (R : Pairing) where
   pub func_rel : {i j : Inst} {f g : tree.Func} → FuncsCorrespond R i j f g → OptRel (FuncRel R) (new_func i f) (new_func j g)
   func_rel {i} {j} {f} {g} k =
-      subst (λ o. OptRel (FuncRel R) (new_func i f) (option_and_then (λ t. Some (Code t j (declared g.locals) g.body)) o)) k.type
-      (then_same (slice_get i.types f.ty) (λ t _. some (subst (λ ls. FuncRel R (Code t i (declared f.locals) f.body) (Code t j (declared ls) g.body)) k.locals (defined k.code))))
+      subst (λ o. OptRel (FuncRel R) (new_func i f) (option_and_then (λ t. Some (Code t j (values.declared g.locals) g.body)) o)) k.type
+      (then_same (slice_get i.types f.ty) (λ t _. some (subst (λ ls. FuncRel R (Code t i (values.declared f.locals) f.body) (Code t j (values.declared ls) g.body)) k.locals (defined k.code))))
 
   pub ref_rel : {v w : Val} → ValRel R v w → OptRel (RefRel R) (given (ref_of v)) (given (ref_of w))
   ref_rel number = none
@@ -108,8 +111,34 @@ module _ (R : Pairing) where
     refs_rel nil = nil
     refs_rel (to.cons p r) = to.cons (then_rel p (λ _ _ v. ref_rel v)) (refs_rel r)
 
-    pub elem_rel : {d e : ElemSeg} → ElemsCorrespond R value second_value d e → OptRel (ElemRel R) (elem_with value d) (elem_with second_value e)
+    -- items that are related, and both segments are declarative or neither is: so what is allocated is there in both or in neither
+    pub record ElemsAlike (d e : ElemSeg) : Type 0 where
+      pub declarative : is_declarative d.mode ≡ is_declarative e.mode
+      pub items : ListRel (λ x y. OptRel (ValRel R) (value x) (second_value y)) d.items e.items
+
+    pub elem_rel : {d e : ElemSeg} → ElemsAlike d e → OptRel (ElemRel R) (elem_with value d) (elem_with second_value e)
     elem_rel {d} {e} k = then_rel (all_rel (refs_rel k.items)) (λ _ _ r. some (elem_is d.mode e.mode k.declarative r))
+
+    pub alike_correspond : {d e : ElemSeg} → ElemsAlike d e → ElemsCorrespond R value second_value d e
+    alike_correspond {d} {e} k = by (is_declarative d.mode) refl
+      where
+        by : (b : Bool) → b ≡ is_declarative d.mode → ElemsCorrespond R value second_value d e
+        by true h = declared (sym h) (sym k.declarative ∙ sym h)
+        by false h = kept (sym h) (sym k.declarative ∙ sym h) k.items
+
+    -- a declarative segment is dropped
+    gone : (value : ConstExpr → Option Val) (d : ElemSeg) (x : Elem) → is_declarative d.mode ≡ true → elem_with value d ≡ Some x → x ≡ no_items
+    gone value d x h is = let r = and_then_is (all_there (λ x. option_and_then (λ v. given (ref_of v)) (value x)) d.items) _ x is in sym (same_Some _ _ r.2) ∙ dropped d.mode r.0 h
+      where
+        dropped : (m : ElemMode) (items : List RefVal) → is_declarative m ≡ true → new_elem m items ≡ no_items
+        dropped elem.Declarative items h = refl
+        dropped elem.Passive items h = cc
+        dropped (elem.Active x e) items h = cc
+
+    -- what both are allocated to is related
+    elem_both : {d e : ElemSeg} (x y : Elem) → ElemsCorrespond R value second_value d e → elem_with value d ≡ Some x → elem_with second_value e ≡ Some y → ElemRel R x y
+    elem_both {d} {e} x y (declared f g) h k = rw (gone value d x f h, gone second_value e y g k) (record { items = nil })
+    elem_both {d} {e} x y (kept f g items) h k = opt_both (elem_rel {d = d} {e = e} (record { declarative = f ∙ sym g; items = items })) h k
 
   type_same : {o p : Outcome Func} → BothRel (FuncRel R) o p → BothRel (◌≡◌ {A = FuncType}) (bind o (λ f. Gives (type_of_func f))) (bind p (λ f. Gives (type_of_func f)))
   type_same (both (defined c)) = both refl
@@ -148,7 +177,7 @@ module _ (R : Pairing) where
       globals = λ {a} {b} r. stand Globals _ _ (own_globals env) s.globals z.globals refl (own_globals_rel R env shares) (own_global_placed env v s s_is) (own_global_placed env w z z_is)
           (λ a b d e c. let x = global_placed env v s s_is d in let y = global_placed env w z z_is e in (x.0, y.0, x.1, y.1, opt_both (global_rel (values_in env v d.part) (values_in env w e.part) c) x.2 y.2)) a b (defs.globals a b r);
       elems = λ {a} {b} r. stand ElementSegments _ _ [] s.elems z.elems refl nil (λ a x h. cc) (λ a x h. cc)
-          (λ a b d e c. let x = elem_placed env v s s_is d in let y = elem_placed env w z z_is e in (x.0, y.0, x.1, y.1, opt_both (elem_rel (values_in env v d.part) (values_in env w e.part) c) x.2 y.2)) a b (defs.elems a b r);
+          (λ a b d e c. let x = elem_placed env v s s_is d in let y = elem_placed env w z z_is e in (x.0, y.0, x.1, y.1, elem_both (values_in env v d.part) (values_in env w e.part) x.0 y.0 c x.2 y.2)) a b (defs.elems a b r);
       datas = λ {a} {b} r. stand DataSegments _ _ [] s.datas z.datas refl nil (λ a x h. cc) (λ a x h. cc)
           (λ a b d e c. (new_data d.definition, new_data e.definition, data_placed env v s s_is d, data_placed env w z z_is e, c)) a b (defs.datas a b r);
     }

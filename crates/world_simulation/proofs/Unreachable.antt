@@ -32,7 +32,8 @@ use Rattle.world_simulation.specs.Simulation.{AreSimilar, StartAlike, WorldsCorr
 use Rattle.world_simulation.proofs.Instancing.{inst_is, inst_there, IsInst}
 use Rattle.world_simulation.proofs.Simulated.{what_is_made, instances_rel}
 use Rattle.world_simulation.specs.Definitions.{FuncsCorrespond, GlobalsCorrespond, ElemsCorrespond, Partners, DefinitionsCorrespond, Instantiated, values_in}
-use Rattle.world_simulation.proofs.Renamed.{funcs_correspond, elems_correspond}
+use Rattle.world_simulation.proofs.Renamed.{funcs_correspond, elems_alike}
+use Rattle.world_simulation.proofs.Stored.{alike_correspond}
 use Rattle.wasm_meaning.specs.Outcomes.{at}
 use Rattle.world_simulation.specs.Alone.{one}
 use Rattle.world_simulation.specs.Owned.{SharesOwn}
@@ -231,7 +232,7 @@ module _ (t : Module) (n : ℕ) (there : n < length t.funcs) (reach : IsUnreacha
         globals = with_hole Globals (λ c. c.globals) (new_global m) (length t.globals) refl (λ c. refl) (λ x y d h move. ap (λ l. slice_get l y) (same.globals ∙ sym (append-nil _)) ∙ kept_place t.globals (new_global m) [] x y d h move)
             (λ p i g q j h. GlobalsCorrespond R (values_in env v p) (values_in env w q) g h) (λ x g h other. record { type = refl; init = consts of m kept t u fs items env own i j a b names g.init (reach.globals x g h) });
         elems = with_hole ElementSegments (λ c. c.elems) (new_elem m) (length t.elems) refl (λ c. refl) (λ x y d h move. ap (λ l. slice_get l y) same.elems ∙ kept_place t.elems (new_elem m) (last_segments fs) x y d h move)
-            (λ p i d q j e. ElemsCorrespond R (values_in env v p) (values_in env w q) d e) (λ x e h other. elems_correspond of m kept i j names (values_in env v 0) (values_in env w 0) (consts of m kept t u fs items env own i j a b names) e (λ l c k. reach.items x l e c h k));
+            (λ p i d q j e. ElemsCorrespond R (values_in env v p) (values_in env w q) d e) (λ x e h other. alike_correspond R (values_in env v 0) (values_in env w 0) (elems_alike of m kept i j names (values_in env v 0) (values_in env w 0) (consts of m kept t u fs items env own i j a b names) e (λ l c k. reach.items x l e c h k)));
         datas = with_hole DataSegments (λ c. c.datas) (new_data m) (length t.datas) refl (λ c. refl) (λ x y d h move. ap (λ l. slice_get l y) (same.datas ∙ sym (append-nil _)) ∙ kept_place t.datas (new_data m) [] x y d h move)
             (λ p i d q j e. d.bytes ≡ e.bytes) (λ x d h other. refl);
       }

@@ -56,10 +56,10 @@ abbrev pub is_declarative : ElemMode → Bool
 is_declarative elem.Declarative = true
 is_declarative _ = false
 
--- items with values that are related, and both or neither are there after the allocation
-pub record ElemsCorrespond (R : Pairing) (value second_value : ConstExpr → Option Val) (d e : ElemSeg) : Type 0 where
-  pub declarative : is_declarative d.mode ≡ is_declarative e.mode
-  pub items : ListRel (λ x y. OptRel (ValRel R) (value x) (second_value y)) d.items e.items
+-- both are declarative, and whatever their items are, they are gone after the allocation; or neither is, and the values of their items are related
+pub data ElemsCorrespond (R : Pairing) (value second_value : ConstExpr → Option Val) (d e : ElemSeg) : Type 0 where
+  declared : is_declarative d.mode ≡ true → is_declarative e.mode ≡ true → ElemsCorrespond R value second_value d e
+  kept : is_declarative d.mode ≡ false → is_declarative e.mode ≡ false → ListRel (λ x y. OptRel (ValRel R) (value x) (second_value y)) d.items e.items → ElemsCorrespond R value second_value d e
 
 -- what stands at two addresses of a space: one entity of the environment's own, or definitions that correspond, told by their parts and instances
 pub data Partners (env : Environment) (v w : Instantiated) (k : Space) {A : Type 0} (definitions : Module → List A) (correspond : ℕ → Inst → A → ℕ → Inst → A → Type 0) (a b : ℕ) : Type 0 where
