@@ -15,6 +15,8 @@ pub mod Runs
 pub mod Others
 pub mod Shapes
 pub mod Lockstep
+pub mod FramesBetween
+pub mod SlotCalls
 pub mod SameRuns
 pub mod AboveSteps
 pub mod Keeping
@@ -28,3 +30,4 @@ pub mod ItselfCode
 mod Unknown
 mod ReplacedRows
 mod LawRows
+mod TrampolineRows

@@ -8,4 +8,5 @@ pub mod Agreement
 pub mod Replaced
 pub mod Laws
 pub mod ListedRuns
+pub mod Trampolines
 pub mod Unknown

@@ -9,6 +9,13 @@ mod renumbering;
 
 ghost use Rattle.index_remap.specs.Laws.{CodeIsRelatedToItself, NamedAreKnown, OthersStay, RelatedRunsShowTheSame, RelatedTicksAgree, RenumberedCodeIsRelated, ReplacedCodeIsRelated, ShownAgree, StepsAgree, TrapsAgree, TypingIsKept, UnlistedAreRenumbered};
 ghost use Rattle.index_remap.specs.ListedRuns.{ListedRunsAgree};
+ghost use Rattle.index_remap.specs.Trampolines.{
+  FramesBetweenAreNotSeen,
+  SlotCallsAgree,
+  SlotCallsEnterSlots,
+  TrampolineCallsAgree,
+  TrampolinesEnterSlots,
+};
 ghost use Rattle.index_remap.specs.Unknown.{NothingUnknown, SetGlobalsAreKnown};
 
 pub use declaring::declare_refs;
@@ -54,6 +61,19 @@ pub fn related_runs_show_the_same()
     ensures ticks { RelatedTicksAgree }
     ensures others { OthersStay }
     ensures listed { ListedRunsAgree }
+{}
+
+/// Calls through the slots of a table, as of a module of which functions are moved to another. Of related runs of which the second has frames of trampolines between, which
+/// only pass results on, a step of the first that begins no call of a function of the list is answered by one or two of the second (`between`). A trampoline that is
+/// entered has, after a step for each parameter and two more, entered what stands in its slot, with the same values (`trampolines`); so have, after two steps, the two
+/// instructions `i32.const` and `call_indirect` (WebAssembly Core 2.0, section 4.4.8, `slots`). Where that has related code, these come to what the direct call comes to:
+/// with the trampoline's frame between (`through`), and with none (`instead`).
+pub fn calls_through_slots_agree()
+    ensures between { FramesBetweenAreNotSeen }
+    ensures trampolines { TrampolinesEnterSlots }
+    ensures slots { SlotCallsEnterSlots }
+    ensures through { TrampolineCallsAgree }
+    ensures instead { SlotCallsAgree }
 {}
 
 /// Of stores that correspond but for places of which nothing is known: where there are no such places, they correspond (`nothing`); a related global that is set to
