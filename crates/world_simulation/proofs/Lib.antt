@@ -18,4 +18,7 @@ pub mod Holes
 pub mod SameItems
 pub mod Unreachable
 pub mod Added
+pub mod Leaves
 mod Examples
+mod LeavesRows
+pub mod Copies

@@ -8,3 +8,4 @@ pub mod Segments
 pub mod Simulation
 pub mod Unreachable
 pub mod Added
+pub mod Leaves
