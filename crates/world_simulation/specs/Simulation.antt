@@ -58,11 +58,8 @@ StartAlike R env v w = (is js : List Inst) → insts_from env v.parts 0 v.parts 
 -- ---- the laws ----
 
 -- what two worlds are instantiated to, but for what they start: related stores, trapped both or neither, and the same names for what is related
-pub record BegunAlike (R : Pairing) (b c : Begun) : Type 0 where
-  pub store : StoreRel R b.store c.store
-  pub trapped : b.trapped ≡ c.trapped
-  pub view : ListRel (KeyRel R) b.view c.view
-  pub owned : ListRel (KeyRel R) b.owned c.owned
+abbrev pub BegunAlike : Pairing → Begun → Begun → Type 0
+BegunAlike R = BegunRel R (λ s t es fs. Unit {0})
 
 -- Before segments are copied, the allocated stores are related.
 abbrev pub AllocatedStoresCorrespond : Type 0
