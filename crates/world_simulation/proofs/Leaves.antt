@@ -15,8 +15,9 @@ use Rattle.wasm_tree.specs.declared.module.Module.{Module}
 use Rattle.wasm_meaning.specs.State.{RefVal, Val, Inst, Table, Memory, Elem, Data, Store, SetTable, SetMemory, DropElem, DropData}
 use Rattle.wasm_meaning.specs.Step.{changed, no_items, no_bytes}
 use Rattle.wasm_meaning.specs.Values.{ref_of}
-use Rattle.wasm_meaning.specs.World.{Begun, Filled, Task, given, all_there, const_value, value_of, new_elem, new_func, global_with, elem_with, store_with, part_store, joined_stores, numbers, tasks_in, fill_table, run_elem_with, run_elem, fill_memory, run_data_with, run_data, and_then, in_turn, segments, insts_from, stores_from, own_store, alone, instantiate}
+use Rattle.wasm_meaning.specs.World.{Begun, Filled, Task, address_in, given, all_there, const_value, value_of, new_elem, new_func, global_with, elem_with, store_with, part_store, joined_stores, numbers, tasks_in, fill_table, run_elem_with, run_elem, fill_memory, run_data_with, run_data, and_then, in_turn, segments, insts_from, stores_from, own_store, alone, instantiate}
 use Rattle.wasm_meaning.specs.InTurn.{Added, added, next_inst}
+use Rattle.wasm_meaning.specs.Loader.{LoaderWorld, store_under, supplied, primary_added, begun_of, begun_under}
 use Rattle.wasm_meaning.specs.Environment.{Environment, Thing}
 use Rattle.world_simulation.specs.Leaves.{Copy, all_over, elem_copy, elem_copies, data_copy, data_copies, Stands, table_left, memory_left, elem_left, data_left, Leaves}
 use Rattle.world_simulation.proofs.Allocated.{AddsWith, adds_with, new_table, new_memory, new_data}
@@ -252,3 +253,11 @@ alone_leaves env m b h good =
     (ap₂ (λ xs ys. and_then (in_turn (run_elem env (one m) (i ∷ [])) (joined_stores (own_store env) t.0) xs) (λ s. in_turn (run_data env (one m) (i ∷ [])) s ys)) (append-nil (tasks_in 0 i i.elems m.elems)) (append-nil (tasks_in 0 i i.datas m.datas)))
     (ap (λ (f : Filled). f.trapped) filled_is ∙ ap (λ (b : Begun). b.trapped) made.is ∙ good) in
     (i, made.are_insts ∙ ap Some x.1, subst (λ s. Leaves value m i (own_store env) s) (ap (λ (f : Filled). f.store) filled_is ∙ begun_is) by)
+
+pub primary_leaves : (env : Environment) (w : LoaderWorld) (b : Begun) → begun_under env w ≡ Some b → b.trapped ≡ false → (a : Added) × (primary_added env w ≡ Some a) × Leaves (const_value (store_under env w).globals a.inst) w.primary a.inst (store_under env w) b.store
+primary_leaves env w b h good =
+    let a = and_then_is (primary_added env w) (begun_of env w) b h in
+    let things = and_then_is (all_there (supplied env w) w.primary.imports) (added (store_under env w) w.primary) a.0 a.1 in
+    let view = and_then_is (all_there (λ v. address_in a.0.inst v.1 >>= λ x. Some (v.0, x)) w.view) _ b a.2 in
+    let same = same_Some _ _ view.2 in
+    (a.0, a.1, subst (λ s. Leaves (const_value (store_under env w).globals a.0.inst) w.primary a.0.inst (store_under env w) s) (ap (λ (b : Begun). b.store) same) (added_leaves (store_under env w) w.primary things.0 a.0 things.2 (ap (λ (b : Begun). b.trapped) same ∙ good)))

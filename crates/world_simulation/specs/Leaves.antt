@@ -21,6 +21,7 @@ use Rattle.wasm_meaning.specs.Step.{no_items, no_bytes}
 use Rattle.wasm_meaning.specs.Environment.{Environment, Thing}
 use Rattle.wasm_meaning.specs.World.{Begun, given, all_there, const_value, value_of, new_func, global_with, elem_with, insts_from, own_store, alone, instantiate}
 use Rattle.wasm_meaning.specs.InTurn.{Added, added}
+use Rattle.wasm_meaning.specs.Loader.{LoaderWorld, store_under, primary_added, begun_under}
 use Rattle.world_simulation.specs.Alone.{one}
 use Rattle.world_simulation.specs.Segments.{offset_in}
 
@@ -113,8 +114,14 @@ abbrev pub AddedModulesLeave : Type 0
 AddedModulesLeave =
     (s : Store) (m : Module) (things : List Thing) (a : Added) → added s m things ≡ Some a → a.filled.trapped ≡ false → Leaves (const_value s.globals a.inst) m a.inst s a.filled.store
 
--- and what a module alone leaves of the environment's own entities.
+-- what a module alone leaves of the environment's own entities;
 abbrev pub ModulesAloneLeave : Type 0
 ModulesAloneLeave =
     (env : Environment) (m : Module) (b : Begun) → instantiate env (alone m) ≡ Some b → b.trapped ≡ false →
     (i : Inst) × (insts_from env (one m) 0 (one m) ≡ Some (i ∷ [])) × Leaves (value_of env (one m) (i ∷ []) 0) m i (own_store env) b.store
+
+-- and what the primary module of a loader leaves of these and the placeholders.
+abbrev pub PrimaryModulesLeave : Type 0
+PrimaryModulesLeave =
+    (env : Environment) (w : LoaderWorld) (b : Begun) → begun_under env w ≡ Some b → b.trapped ≡ false →
+    (a : Added) × (primary_added env w ≡ Some a) × Leaves (const_value (store_under env w).globals a.inst) w.primary a.inst (store_under env w) b.store

@@ -10,7 +10,7 @@ ghost use Rattle.world_simulation.specs.Alone.{
   SpacesAreImportsAndOwn,
 };
 ghost use Rattle.world_simulation.specs.Instances.{RelatedBegunShowTheSame, RelatedInstancesShowTheSame};
-ghost use Rattle.world_simulation.specs.Leaves.{AddedModulesLeave, ModulesAloneLeave};
+ghost use Rattle.world_simulation.specs.Leaves.{AddedModulesLeave, ModulesAloneLeave, PrimaryModulesLeave};
 ghost use Rattle.world_simulation.specs.Named.{FittingCodeIsNamed, KeptCodeIsNamed};
 ghost use Rattle.world_simulation.specs.Owned.{OwnEntitiesCorrespond};
 ghost use Rattle.world_simulation.specs.Simulation.{
@@ -101,9 +101,10 @@ pub fn stores_stay_related_where_a_module_is_added()
 
 /// What the instantiation of a module leaves where no segment traps, entity by entity (WebAssembly Core 2.0, sections 4.5.3 and 4.5.4): each function, global and segment is
 /// what the module says, tables are empty and memories zero but for the active segments that are copied over them, in order, active and declarative segments are dropped;
-/// and of what was there before only tables and memories are changed, by these copies. So it is where the module is added to a store, as a loader adds one (`added`), and
-/// where it is instantiated alone (`alone`).
+/// and of what was there before only tables and memories are changed, by these copies. So it is where the module is added to a store, as a loader adds one (`added`), where
+/// it is instantiated alone (`alone`), and where it is the primary module of a loader (`primary`).
 pub fn modules_leave_what_they_say()
     ensures added { AddedModulesLeave }
     ensures alone { ModulesAloneLeave }
+    ensures primary { PrimaryModulesLeave }
 {}
