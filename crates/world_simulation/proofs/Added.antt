@@ -55,7 +55,7 @@ more_left : {A B : Type 0} {P : A → B → Type 0} {p : Outcome B} (xs ys : Lis
 more_left {P = P} {p = p} xs ys n r = let a = left_is r in subst (λ o. BothRel P o p) (a.1 ∙ sym (at_more xs ys n a.0 a.1)) r
 
 module _ (R : Pairing) where
-  joined_right : {s z : Store} (t : Store) → StoreRel R s z → StoreRel R s (joined_stores z t)
+  pub joined_right : {s z : Store} (t : Store) → StoreRel R s z → StoreRel R s (joined_stores z t)
   joined_right {s} {z} t like = record {
     types = λ {a} {b} r. rw (same a b r) (like.types r);
     owns = λ {a} {b} r. rw (same a b r) (like.owns r);
@@ -153,7 +153,7 @@ cond_is : {A : Type 0} (b : Bool) (o : Option A) (a : A) → cond b o None ≡ S
 cond_is true o a h = h
 cond_is false o a h = cc
 
-number_past : (from count n a : ℕ) → slice_get (numbers from count) n ≡ Some a → from ≤ a
+pub number_past : (from count n a : ℕ) → slice_get (numbers from count) n ≡ Some a → from ≤ a
 number_past from zero n a h = cc
 number_past from (suc count) zero a h = let same : from ≡ a = cc in omega (arith, same)
 number_past from (suc count) (suc n) a h = let l = number_past (suc from) count n a h in omega (arith, l)

@@ -29,7 +29,7 @@ use Rattle.world_simulation.proofs.Copies.{Kind, run, runs, left, IsOf, AreOf, A
 
 -- ---- the two kinds ----
 
-abbrev tables : Kind Table Elem RefVal
+abbrev pub tables : Kind Table Elem RefVal
 tables = record {
   holders = λ s. s.tables;
   segments = λ s. s.elems;
@@ -52,7 +52,7 @@ tables = record {
   wrong = λ s n a c. refl;
 }
 
-abbrev memories : Kind Memory Data ℕ
+abbrev pub memories : Kind Memory Data ℕ
 memories = record {
   holders = λ s. s.mems;
   segments = λ s. s.datas;
@@ -84,6 +84,18 @@ turns_are k i copy g one [] s n = refl
 turns_are k i copy g one (x ∷ xs) s n =
     let f = g s (record { part = 0; inst = i; address = n; segment = x }) in
     ap (λ r. cond f.trapped f r) (turns_are k i copy g one xs f.store (suc n)) ∙ ap (λ f. and_then f (λ s. runs k s (suc n) (map copy xs))) (one s n x)
+
+-- all of a module's
+pub copies_in_turn : (value : ConstExpr → Option Val) (m : Module) (i : Inst) (g : Store → Task ElemSeg → Filled) (h : Store → Task DataSeg → Filled) → ((s : Store) (n : ℕ) (e : ElemSeg) → g s (record { part = 0; inst = i; address = n; segment = e }) ≡ run tables s n (elem_copy value i e e.mode)) →
+    ((s : Store) (n : ℕ) (d : DataSeg) → h s (record { part = 0; inst = i; address = n; segment = d }) ≡ run memories s n (data_copy value i d d.mode)) → (n k : ℕ) → i.elems ≡ numbers n (length m.elems) → i.datas ≡ numbers k (length m.datas) →
+    (s : Store) → and_then (in_turn g s (tasks_in 0 i i.elems m.elems)) (λ s. in_turn h s (tasks_in 0 i i.datas m.datas)) ≡ and_then (runs tables s n (elem_copies value i m.elems)) (λ s. runs memories s k (data_copies value i m.datas))
+copies_in_turn value m i g h elem_runs data_runs n k elems datas s =
+    let elems_run : in_turn g s (tasks_in 0 i i.elems m.elems) ≡ runs tables s n (elem_copies value i m.elems) =
+    ap (λ ns. in_turn g s (tasks_in 0 i ns m.elems)) elems ∙ turns_are tables i (λ e. elem_copy value i e e.mode) g elem_runs m.elems s n in
+    let datas_run : (s : Store) → in_turn h s (tasks_in 0 i i.datas m.datas) ≡ runs memories s k (data_copies value i m.datas) =
+    λ s. ap (λ ns. in_turn h s (tasks_in 0 i ns m.datas)) datas ∙ turns_are memories i (λ d. data_copy value i d d.mode) h data_runs m.datas s k in
+    let r = runs tables s n (elem_copies value i m.elems) in
+    ap (λ r. and_then r (λ s. in_turn h s (tasks_in 0 i i.datas m.datas))) elems_run ∙ ap (λ x. cond r.trapped r x) (datas_run r.store)
 
 module _ (value : ConstExpr → Option Val) (m : Module) (i : Inst) (before t : Store) (made : store_with value m i ≡ Some t) where
   abbrev start : Store
@@ -209,22 +221,17 @@ module _ (value : ConstExpr → Option Val) (m : Module) (i : Inst) (before t : 
       ((s : Store) (n : ℕ) (d : DataSeg) → h s (record { part = 0; inst = i; address = n; segment = d }) ≡ run memories s n (data_copy value i d d.mode)) → i.elems ≡ numbers (length before.elems) (length m.elems) → i.datas ≡ numbers (length before.datas) (length m.datas) →
       (f : Filled) → f ≡ and_then (in_turn g start (tasks_in 0 i i.elems m.elems)) (λ s. in_turn h s (tasks_in 0 i i.datas m.datas)) → f.trapped ≡ false → Leaves value m i before f.store
   left_in_turn g h elem_runs data_runs elems datas f is good =
-      let elems_run : in_turn g start (tasks_in 0 i i.elems m.elems) ≡ runs tables start (length before.elems) (elem_copies value i m.elems) =
-      ap (λ ns. in_turn g start (tasks_in 0 i ns m.elems)) elems ∙ turns_are tables i (λ e. elem_copy value i e e.mode) g elem_runs m.elems start (length before.elems) in
-      let datas_run : (s : Store) → in_turn h s (tasks_in 0 i i.datas m.datas) ≡ runs memories s (length before.datas) (data_copies value i m.datas) =
-      λ s. ap (λ ns. in_turn h s (tasks_in 0 i ns m.datas)) datas ∙ turns_are memories i (λ d. data_copy value i d d.mode) h data_runs m.datas s (length before.datas) in
       let r = runs tables start (length before.elems) (elem_copies value i m.elems) in
-      let all : f ≡ and_then r (λ s. runs memories s (length before.datas) (data_copies value i m.datas)) =
-      is ∙ ap (λ r. and_then r (λ s. in_turn h s (tasks_in 0 i i.datas m.datas))) elems_run ∙ ap (λ x. cond r.trapped r x) (datas_run r.store) in
+      let all = is ∙ copies_in_turn value m i g h elem_runs data_runs (length before.elems) (length before.datas) elems datas start in
       let went = then_went r (λ s. runs memories s (length before.datas) (data_copies value i m.datas)) (ap (λ (f : Filled). f.trapped) (sym all) ∙ good) in
       subst (λ s. Leaves value m i before s) (sym went.2 ∙ ap (λ (f : Filled). f.store) (sym all)) (leaves went.0 went.1)
 
-elem_runs : (value : ConstExpr → Option Val) (i : Inst) (s : Store) (n : ℕ) (e : ElemSeg) (mode : ElemMode) → run_elem_with value s (record { part = 0; inst = i; address = n; segment = e }) mode ≡ run tables s n (elem_copy value i e mode)
+pub elem_runs : (value : ConstExpr → Option Val) (i : Inst) (s : Store) (n : ℕ) (e : ElemSeg) (mode : ElemMode) → run_elem_with value s (record { part = 0; inst = i; address = n; segment = e }) mode ≡ run tables s n (elem_copy value i e mode)
 elem_runs value i s n e (elem.Active x offset) = refl
 elem_runs value i s n e elem.Passive = refl
 elem_runs value i s n e elem.Declarative = refl
 
-data_runs : (value : ConstExpr → Option Val) (i : Inst) (s : Store) (n : ℕ) (d : DataSeg) (mode : DataMode) → run_data_with value s (record { part = 0; inst = i; address = n; segment = d }) mode ≡ run memories s n (data_copy value i d mode)
+pub data_runs : (value : ConstExpr → Option Val) (i : Inst) (s : Store) (n : ℕ) (d : DataSeg) (mode : DataMode) → run_data_with value s (record { part = 0; inst = i; address = n; segment = d }) mode ≡ run memories s n (data_copy value i d mode)
 data_runs value i s n d (data'.Active x offset) = refl
 data_runs value i s n d data'.Passive = refl
 

@@ -19,6 +19,7 @@ pub mod SameItems
 pub mod Unreachable
 pub mod Added
 pub mod Leaves
+pub mod Loaded
 mod Examples
 mod LeavesRows
 pub mod Copies

@@ -140,12 +140,12 @@ module _ (R : Pairing) where
     elem_both {d} {e} x y (declared f g) h k = rw (gone value d x f h, gone second_value e y g k) (record { items = nil })
     elem_both {d} {e} x y (kept f g items) h k = opt_both (elem_rel {d = d} {e = e} (record { declarative = f ∙ sym g; items = items })) h k
 
-  type_same : {o p : Outcome Func} → BothRel (FuncRel R) o p → BothRel (◌≡◌ {A = FuncType}) (bind o (λ f. Gives (type_of_func f))) (bind p (λ f. Gives (type_of_func f)))
+  pub type_same : {o p : Outcome Func} → BothRel (FuncRel R) o p → BothRel (◌≡◌ {A = FuncType}) (bind o (λ f. Gives (type_of_func f))) (bind p (λ f. Gives (type_of_func f)))
   type_same (both (defined c)) = both refl
   type_same (both own) = both refl
   type_same (both to.slot) = both refl
 
-  own_same : {o p : Outcome Func} → BothRel (FuncRel R) o p → option_and_then own_of (given o) ≡ option_and_then own_of (given p)
+  pub own_same : {o p : Outcome Func} → BothRel (FuncRel R) o p → option_and_then own_of (given o) ≡ option_and_then own_of (given p)
   own_same (both (defined c)) = refl
   own_same (both own) = refl
   own_same (both to.slot) = refl

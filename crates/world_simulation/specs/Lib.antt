@@ -9,3 +9,4 @@ pub mod Simulation
 pub mod Unreachable
 pub mod Added
 pub mod Leaves
+pub mod Loaded

@@ -11,6 +11,7 @@ ghost use Rattle.world_simulation.specs.Alone.{
 };
 ghost use Rattle.world_simulation.specs.Instances.{RelatedBegunShowTheSame, RelatedInstancesShowTheSame};
 ghost use Rattle.world_simulation.specs.Leaves.{AddedModulesLeave, ModulesAloneLeave, PrimaryModulesLeave};
+ghost use Rattle.world_simulation.specs.Loaded.{LoadersBeginAsTheirPrimary};
 ghost use Rattle.world_simulation.specs.Named.{FittingCodeIsNamed, KeptCodeIsNamed};
 ghost use Rattle.world_simulation.specs.Owned.{OwnEntitiesCorrespond};
 ghost use Rattle.world_simulation.specs.Simulation.{
@@ -107,4 +108,9 @@ pub fn modules_leave_what_they_say()
     ensures added { AddedModulesLeave }
     ensures alone { ModulesAloneLeave }
     ensures primary { PrimaryModulesLeave }
+{}
+
+/// A loader that supplies nothing begins as its primary module alone is instantiated, with the loader's view, where the environment links that.
+pub fn loaders_begin_as_their_primary()
+    ensures begin { LoadersBeginAsTheirPrimary }
 {}
