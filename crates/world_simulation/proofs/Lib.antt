@@ -22,4 +22,6 @@ pub mod Leaves
 pub mod Loaded
 mod Examples
 mod LeavesRows
+mod LoadedRows
+mod SegmentRows
 pub mod Copies

@@ -30,10 +30,10 @@ use Rattle.wasm_meaning.specs.State.{Text, Val, Inst, Store}
 use Rattle.wasm_meaning.specs.Values.{ref_of, num_of}
 use Rattle.wasm_meaning.specs.Linking.{has_kind, places, space_index, sites_in, pair_of, imports_of}
 use Rattle.wasm_meaning.specs.Environment.{Environment, Thing, FuncAt, TableAt, MemoryAt, GlobalAt, owned_of, owned_at, own_funcs, own_memories, own_globals, all_of}
-use Rattle.wasm_meaning.specs.World.{Begun, given, all_there, address_of, address_in, own_count, defined_count, numbers, const_value, value_of, value_of_read, new_func, new_elem, store_with, joined_stores, own_store, is_match, is_matched, run_elem, run_elem_with, run_data, run_data_with, and_then, in_turn, segments, starts_of, start_in, space, instantiate}
+use Rattle.wasm_meaning.specs.World.{Begun, Filled, given, all_there, address_of, address_in, own_count, defined_count, numbers, const_value, value_of, value_of_read, new_func, new_elem, store_with, joined_stores, own_store, is_match, is_matched, run_elem, run_elem_with, run_data, run_data_with, and_then, in_turn, segments, starts_of, start_in, space, instantiate}
 use Rattle.wasm_meaning.specs.World as world
 use Rattle.wasm_meaning.specs.InTurn.{own_thing, all_match, addresses_of, added, added_as, own_segments, next_inst}
-use Rattle.wasm_meaning.specs.Loader.{LoaderWorld, placeholders_of, placeholders_from, store_under, supplied, begun_of}
+use Rattle.wasm_meaning.specs.Loader.{LoaderWorld, placeholders_of, placeholders_from, store_under, supplied, begun_of, begun_under}
 use Rattle.index_remap.specs.Related.{Pairing, BothRel, FuncRel, StoreRel}
 use Rattle.index_remap.specs.RelatedRuns.{ThingRel}
 use Rattle.index_remap.specs.Laws.{passed}
@@ -49,7 +49,7 @@ use Rattle.world_simulation.proofs.Stored.{type_same, own_same}
 use Rattle.world_simulation.proofs.Allocated.{with_elems}
 use Rattle.world_simulation.proofs.Added.{joined_right, number_past}
 use Rattle.world_simulation.proofs.Single.{SpaceAt, space_at, thing_rel, match_same, one_inst}
-use Rattle.world_simulation.proofs.Instancing.{IsInst}
+use Rattle.world_simulation.proofs.Instancing.{IsInst, inst_is}
 use Rattle.world_simulation.proofs.Simulated.{what_is_made}
 use Rattle.world_simulation.proofs.Copies.{runs}
 use Rattle.world_simulation.proofs.Leaves.{tables, memories, copies_in_turn, elem_runs, data_runs}
@@ -250,6 +250,17 @@ module _ (v w : ConstExpr → Option Val) (h : (e : ConstExpr) → v e ≡ w e) 
 
 -- ---- the law ----
 
+-- the segments of the one module, by either values
+segments_same : (env : Environment) (m : Module) (i : Inst) → IsInst env (one m) 0 m i → (s : Store) → own_segments (const_value (own_globals env) i) m i s ≡ segments env (one m) (i ∷ []) s
+segments_same env m i a s =
+    let v = value_of env (one m) (i ∷ []) 0 in
+    let c = const_value (own_globals env) i in
+    let same_values = const_same env m i a in
+    copies_in_turn c m i (λ s task. run_elem_with c s task task.segment.mode) (λ s task. run_data_with c s task task.segment.mode) (λ s n e. elem_runs c i s n e e.mode) (λ s n d. data_runs c i s n d d.mode) 0 0 a.elems a.datas s
+    ∙ ap₂ (λ es ds. and_then (runs tables s 0 es) (λ s. runs memories s 0 ds)) (sym (elems_same v c same_values m i m.elems)) (sym (datas_same v c same_values m i m.datas))
+    ∙ sym (copies_in_turn v m i (run_elem env (one m) (i ∷ [])) (run_data env (one m) (i ∷ [])) (λ s n e. elem_runs v i s n e e.mode) (λ s n d. data_runs v i s n d d.mode) 0 0 a.elems a.datas s)
+    ∙ sym (ap₂ (λ xs ys. and_then (in_turn (run_elem env (one m) (i ∷ [])) s xs) (λ s. in_turn (run_data env (one m) (i ∷ [])) s ys)) (append-nil (world.tasks_in 0 i i.elems m.elems)) (append-nil (world.tasks_in 0 i i.datas m.datas)))
+
 seen : (i : Inst) (view : List (Text × ExportDesc)) → all_there (world.seen_as (i ∷ [])) (map (λ v. (v.0, record { part = 0; what = v.1 })) view) ≡ all_there (λ v. address_in i v.1 >>= λ x. Some (v.0, x)) view
 seen i [] = refl
 seen i (v ∷ view) = ap (λ p. option_and_then (λ y. option_and_then (λ ys. Some (y ∷ ys)) p) (address_in i v.1 >>= λ x. Some (v.0, x))) (seen i view)
@@ -260,8 +271,9 @@ nothing_supplied env w none i = rw none refl
 store_is : (env : Environment) (w : LoaderWorld) → placeholders_of w ≡ [] → store_under env w ≡ own_store env
 store_is env w none = ap (λ ps. record (own_store env) { funcs = own_funcs env ++ placeholders_from 0 ps }) none ∙ ap (λ fs. record (own_store env) { funcs = fs }) (append-nil (own_funcs env))
 
-pub begins_as_primary : LoadersBeginAsTheirPrimary
-begins_as_primary env w b none h =
+-- instantiated alone, begun under the loader
+forth : (env : Environment) (w : LoaderWorld) (b : Begun) → placeholders_of w ≡ [] → instantiate env (primary_world w) ≡ Some b → begun_under env w ≡ Some b
+forth env w b none h =
     let m = w.primary in
     let made = what_is_made env (primary_world w) b h in
     let x = one_inst env m made.insts made.are_insts in
@@ -275,11 +287,7 @@ begins_as_primary env w b none h =
     let same : s ≡ made.allocated = same_Some _ _ t.2 in
     let f = all_found env m s (joined_right (R env) t.0 (own_like env)) (ap (λ s. all_of (is_matched env (one m) s) (sites_in 0 (length m.imports) 0 ++ [])) same ∙ made.matched) in
     let next = same_inst env m s (joined_right (R env) t.0 (own_like env)) f i x.2 in
-    let filled : own_segments c m i s ≡ segments env (one m) (i ∷ []) s =
-    copies_in_turn c m i (λ s task. run_elem_with c s task task.segment.mode) (λ s task. run_data_with c s task task.segment.mode) (λ s n e. elem_runs c i s n e e.mode) (λ s n d. data_runs c i s n d d.mode) 0 0 x.2.elems x.2.datas s
-    ∙ ap₂ (λ es ds. and_then (runs tables s 0 es) (λ s. runs memories s 0 ds)) (sym (elems_same v c same_values m i m.elems)) (sym (datas_same v c same_values m i m.datas))
-    ∙ sym (copies_in_turn v m i (run_elem env (one m) (i ∷ [])) (run_data env (one m) (i ∷ [])) (λ s n e. elem_runs v i s n e e.mode) (λ s n d. data_runs v i s n d d.mode) 0 0 x.2.elems x.2.datas s)
-    ∙ sym (ap₂ (λ xs ys. and_then (in_turn (run_elem env (one m) (i ∷ [])) s xs) (λ s. in_turn (run_data env (one m) (i ∷ [])) s ys)) (append-nil (world.tasks_in 0 i i.elems m.elems)) (append-nil (world.tasks_in 0 i i.datas m.datas))) in
+    let filled = segments_same env m i x.2 s in
     let added_is : added (own_store env) m f.things ≡ Some (record { inst = i; filled = segments env (one m) (i ∷ []) s }) =
     ap (λ b. cond b (added_as (own_store env) m (next_inst (own_store env) m f.things)) None) f.match ∙ ap (added_as (own_store env) m) (sym next)
     ∙ ap (λ o. option_and_then (λ t. Some (record { inst = i; filled = own_segments c m i (joined_stores (own_store env) t) })) o) (sym (store_same v c same_values m i) ∙ t.1) ∙ ap (λ filled. Some (record { inst = i; filled = filled })) filled in
@@ -290,3 +298,73 @@ begins_as_primary env w b none h =
     ∙ ap (λ o. option_and_then (λ view. Some (record { store = (segments env (one m) (i ∷ []) s).store; trapped = (segments env (one m) (i ∷ []) s).trapped; starts = start_in i m.start; view = view; owned = owned_of env })) o) view
     ∙ ap (λ starts. Some (record { store = (segments env (one m) (i ∷ []) s).store; trapped = (segments env (one m) (i ∷ []) s).trapped; starts = starts; view = made.view; owned = owned_of env })) (sym (append-nil (start_in i m.start)))
     ∙ ap₂ (λ is s. Some (world.begun env (primary_world w) is made.view (segments env (one m) is s))) (sym x.1) same ∙ ap Some made.is
+
+-- ---- the other way round ----
+
+module _ (env : Environment) (m : Module) where
+  -- from what imports stand for in the store before, that they match in the store after
+  module _ (s : Store) (like : StoreRel (R env) (own_store env) s) where
+    matched_one : (n : ℕ) (i : Import) (x : Thing) → slice_get m.imports n ≡ Some i → own_thing (owned_of env) m i ≡ Some x → unwrap_or (is_match (own_store env) m i.desc x) false ≡ true → is_matched env (one m) s (site n) ≡ true
+    matched_one n i x here is match =
+        let x_is = sym (own_thing_is env m s like i) ∙ is in
+        let rel : ThingRel (R env) x x = opt_self (thing_rel (R env) env (shares env) m.types (Some i)) x_is in
+        matched_is env m s like n i here ∙ ap (λ o. unwrap_or (option_and_then (is_match s m i.desc) o) false) x_is
+        ∙ ap (λ o. unwrap_or o false) (sym (match_same (R env) env (shares env) (own_store env) s like m m refl refl i.desc rel)) ∙ match
+
+    matched_all : (is : List Import) (n : ℕ) (things : List Thing) → ((k : ℕ) → slice_get m.imports (n + k) ≡ slice_get is k) → all_there (own_thing (owned_of env) m) is ≡ Some things → all_match (own_store env) m is things ≡ true → all_of (is_matched env (one m) s) (sites_in 0 (length is) n ++ []) ≡ true
+    matched_all [] n things h are match = refl
+    matched_all (i ∷ is) n things h are match =
+        let x = and_then_is (own_thing (owned_of env) m i) _ things are in
+        let xs = and_then_is (all_there (own_thing (owned_of env) m) is) _ things x.2 in
+        let same : x.0 ∷ xs.0 ≡ things = same_Some _ _ xs.2 in
+        let matches = ap (all_match (own_store env) m (i ∷ is)) same ∙ match in
+        let z : n + 0 ≡ n = omega arith in
+        and_from (is_matched env (one m) s (site n)) _ (matched_one n i x.0 (ap (slice_get m.imports) (sym z) ∙ h 0) x.1 (left_true _ _ matches))
+        (matched_all is (suc n) xs.0 (λ k. let y : suc n + k ≡ n + suc k = omega arith in ap (slice_get m.imports) y ∙ h (suc k)) xs.1 (right_true (unwrap_or (is_match (own_store env) m i.desc x.0) false) _ matches))
+
+  all_places : (k : ℕ) → slice_get m.imports (0 + k) ≡ slice_get m.imports k
+  all_places k = let z : 0 + k ≡ k = omega arith in ap (slice_get m.imports) z
+
+  inst_found : (f : Found env m (own_store env) (own_like env) 0 m.imports) → world.inst_of env (one m) 0 m ≡ Some (next_inst (own_store env) m f.things)
+  inst_found f = rw (there Functions, there Tables, there Memories, there Globals) refl
+    where
+      there : (k : Space) → space env (one m) k 0 m ≡ Some (addresses_of k f.things ++ numbers (own_count k env) (defined_count k m))
+      there k = space_is env m k ∙ ap (λ o. option_and_then (λ l. Some (l ++ numbers (own_count k env) (defined_count k m))) o) (f.spaces k)
+
+cond_good : {A : Type 0} (b : Bool) (o : Option A) (a : A) → cond b o None ≡ Some a → (b ≡ true) × (o ≡ Some a)
+cond_good true o a h = (refl, h)
+cond_good false o a h = cc
+
+-- begun under the loader, instantiated alone
+back : (env : Environment) (w : LoaderWorld) (b : Begun) → placeholders_of w ≡ [] → begun_under env w ≡ Some b → instantiate env (primary_world w) ≡ Some b
+back env w b none h =
+    let m = w.primary in
+    let begun_is = ap (λ o. option_and_then (begun_of env w) o) (sym (ap₂ (λ o s. option_and_then (added s m) o) (all_there_same (nothing_supplied env w none) m.imports) (store_is env w none))) ∙ h in
+    let a = and_then_is (all_there (own_thing (owned_of env) m) m.imports >>= (added (own_store env) m)) (begun_of env w) b begun_is in
+    let things = and_then_is (all_there (own_thing (owned_of env) m) m.imports) (added (own_store env) m) a.0 a.1 in
+    let good = cond_good (all_match (own_store env) m m.imports things.0) _ a.0 things.2 in
+    let f = all_found env m (own_store env) (own_like env) (matched_all env m (own_store env) (own_like env) m.imports 0 things.0 (all_places env m) things.1 good.0) in
+    let j = next_inst (own_store env) m f.things in
+    let c = const_value (own_globals env) j in
+    let added_is : added_as (own_store env) m j ≡ Some a.0 = ap (λ xs. added_as (own_store env) m (next_inst (own_store env) m xs)) (same_Some _ _ (sym f.are ∙ things.1)) ∙ good.1 in
+    let t = and_then_is (store_with c m j) _ a.0 added_is in
+    let s : Store = joined_stores (own_store env) t.0 in
+    let inst_there = inst_found env m f in
+    let i = inst_is env (one m) 0 m j inst_there in
+    let v = and_then_is (all_there (λ v. address_in j v.1 >>= λ x. Some (v.0, x)) w.view) _ b (ap (begun_of env w) (same_Some _ _ t.2) ∙ a.2) in
+    let last : List Inst → Store → List (Text × Thing) → Bool → Option Begun = λ is s view matched. cond matched (Some (world.begun env (primary_world w) is view (segments env (one m) is s))) None in
+    ap (λ o. option_and_then (λ is. option_and_then (λ s. option_and_then (λ view. last is s view (all_of (is_matched env (one m) s) (sites_in 0 (length m.imports) 0 ++ []))) (all_there (world.seen_as is) (primary_world w).view)) (world.stores_from env (one m) is (own_store env) 0 (one m) is)) o)
+    (ap (λ o. option_and_then (λ i. Some (i ∷ [])) o) inst_there)
+    ∙ ap (λ o. option_and_then (λ s. option_and_then (λ view. last (j ∷ []) s view (all_of (is_matched env (one m) s) (sites_in 0 (length m.imports) 0 ++ []))) (all_there (world.seen_as (j ∷ [])) (primary_world w).view)) o)
+    (ap (λ o. option_and_then (λ t. Some (joined_stores (own_store env) t)) o) (store_same (value_of env (one m) (j ∷ []) 0) c (const_same env m j i) m j ∙ t.1))
+    ∙ ap (λ o. option_and_then (λ view. last (j ∷ []) s view (all_of (is_matched env (one m) s) (sites_in 0 (length m.imports) 0 ++ []))) o) (seen j w.view ∙ v.1)
+    ∙ ap (last (j ∷ []) s v.0) (matched_all env m s (joined_right (R env) t.0 (own_like env)) m.imports 0 f.things (all_places env m) f.are f.match)
+    ∙ ap₂ (λ (filled : Filled) starts. Some (record { store = filled.store; trapped = filled.trapped; starts = starts; view = v.0; owned = owned_of env })) (sym (segments_same env m j i s)) (append-nil (start_in j m.start)) ∙ v.2
+
+pub begins_as_primary : LoadersBeginAsTheirPrimary
+begins_as_primary env w none = by (instantiate env (primary_world w)) refl (begun_under env w) refl
+  where
+    by : (o : Option Begun) → instantiate env (primary_world w) ≡ o → (p : Option Begun) → begun_under env w ≡ p → begun_under env w ≡ instantiate env (primary_world w)
+    by (Some b) e p f = forth env w b none e ∙ sym e
+    by None e None f = f ∙ sym e
+    by None e (Some b) f = f ∙ sym (back env w b none f)

@@ -110,7 +110,7 @@ pub fn modules_leave_what_they_say()
     ensures primary { PrimaryModulesLeave }
 {}
 
-/// A loader that supplies nothing begins as its primary module alone is instantiated, with the loader's view, where the environment links that.
+/// A loader that supplies nothing begins as its primary module alone is instantiated, with the loader's view, and where one is not linked neither does the other begin.
 pub fn loaders_begin_as_their_primary()
     ensures begin { LoadersBeginAsTheirPrimary }
 {}
