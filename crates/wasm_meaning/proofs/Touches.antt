@@ -85,8 +85,8 @@ module _ (env : Env) where
   local_put_all : (h : Body) (i : ℕ) (v : Val) → Quiet (local_put h i v)
   local_put_all h i v = with_is (at h.locals i) _ (λ old _. with_is (typed _ v) _ (λ w _. just keeps))
 
-  global_put_all : (o : Outcome Touched) (h : Body) (a : ℕ) (g : Global) (v : Val) → o ≡ Gives (OneGlobal a) → All o (global_put h a g v)
-  global_put_all o h a g v t = cond_all g.ty.mutable (with_is (typed g.ty.ty v) _ (λ w _. just (record { told = OneGlobal a; is = t; writes = a_global }))) wrong
+  global_put_all : (o : Outcome Touched) (h : Body) (a : ℕ) (g : Global) (v : Val) → o ≡ Gives (OneGlobal a) → at env.store.globals a ≡ Gives g → All o (global_put h a g v)
+  global_put_all o h a g v t e = cond_all g.ty.mutable (with_is (typed g.ty.ty v) _ (λ w _. just (record { told = OneGlobal a; is = t; writes = a_global e }))) wrong
 
   with_memory_all : (o : Outcome Touched) (i : ℕ) (f : ℕ → Memory → Outcome Act) → ((a : ℕ) (m : Memory) → at env.inst.mems i ≡ Gives a → at env.store.mems a ≡ Gives m → All o (f a m)) → All o (with_memory env i f)
   with_memory_all o i f h = with_is (at env.inst.mems i) _ (λ a j. with_is (at env.store.mems a) _ (λ m e. h a m j e))
@@ -173,7 +173,7 @@ module _ (env : Env) where
   exec_all (Instr-F.LocalSet n) h = with_is (pop h.values) _ (λ p _. local_put_all (with_values h p.1) n p.0)
   exec_all (Instr-F.LocalTee n) h = with_is (pop h.values) _ (λ p _. local_put_all h n p.0)
   exec_all (Instr-F.GlobalGet n) h = with_is (at env.inst.globals n) _ (λ a _. with_is (at env.store.globals a) _ (λ g _. just keeps))
-  exec_all (Instr-F.GlobalSet n) h = with_is (at env.inst.globals n) _ (λ a j. with_is (at env.store.globals a) _ (λ g _. with_is (pop h.values) _ (λ p _. global_put_all _ (with_values h p.1) a g p.0 (bind_is _ j))))
+  exec_all (Instr-F.GlobalSet n) h = with_is (at env.inst.globals n) _ (λ a j. with_is (at env.store.globals a) _ (λ g e. with_is (pop h.values) _ (λ p _. global_put_all _ (with_values h p.1) a g p.0 (bind_is _ j) e)))
   exec_all (Instr-F.TableGet n) h = with_table_all _ n _ (λ a t _ _. get_slot_all h a t)
   exec_all (Instr-F.TableSet n) h = with_table_all _ n _ (λ a t j e. set_slot_all h n a t j e)
   exec_all (Instr-F.Load o arg) h = with_memory_all _ _ _ (λ a m _ _. on_values_all h (load_from m o arg.offset))

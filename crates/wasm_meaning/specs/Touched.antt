@@ -78,10 +78,10 @@ touched_levels env (l ∷ ls) = touched_next env l.values l.code
 abbrev pub touched : Store → Frame → Outcome Touched
 touched s f = touched_levels (record { store = s; inst = f.inst }) f.levels
 
--- the change writes that and nothing else: so many bytes or references stand at the place, and the others are as they were
+-- the change writes that and nothing else: so many bytes or references stand at the place, and the others are as they were; of a global the value
 pub data Writes (s : Store) : Touched → Change → Type 0 where
   nothing : Writes s Nothing Keep
-  a_global : {a : ℕ} {g : Global} → Writes s (OneGlobal a) (SetGlobal a g)
+  a_global : {a : ℕ} {g : Global} {v : Val} → at s.globals a ≡ Gives g → Writes s (OneGlobal a) (SetGlobal a (record g { value = v }))
   bytes : {a place : ℕ} {m n : Memory} (written : List ℕ) → at s.mems a ≡ Gives m → overwrite m.bytes place written ≡ Gives n.bytes → n.pages ≡ m.pages → n.most ≡ m.most → Writes s (Bytes a place (length written)) (SetMemory a n)
   slots : {a place : ℕ} {t u : Table} (written : List RefVal) → at s.tables a ≡ Gives t → overwrite t.slots place written ≡ Gives u.slots → u.ty ≡ t.ty → u.most ≡ t.most → Writes s (Slots a place (length written)) (SetTable a u)
   an_elem : {a : ℕ} → Writes s (OneElem a) (DropElem a)
