@@ -28,7 +28,7 @@ use Rattle.index_remap.specs.Renumbered.{fits_import, fits_func}
 use Rattle.index_remap.specs.Renumbered as renumbered
 use Rattle.index_remap.specs.Related.{Pairing, OptRel, none, some}
 use Rattle.world_simulation.specs.Alone.{one}
-use Rattle.world_simulation.specs.Definitions.{Instantiated, DefinedAt, values_in, FuncsCorrespond, GlobalsCorrespond, is_declarative, Partners, DefinitionsCorrespond}
+use Rattle.world_simulation.specs.Definitions.{Instantiated, DefinedAt, values_in, FuncsCorrespond, FuncsAt, GlobalsCorrespond, is_declarative, Partners, DefinitionsCorrespond}
 use Rattle.world_simulation.specs.Definitions as partners
 use Rattle.world_simulation.proofs.Places.{left_true, right_true, map_length, right_there, left_there}
 use Rattle.world_simulation.proofs.Defined.{Stands, stands}
@@ -174,7 +174,7 @@ module _ (laws : Laws) (env : Environment) (parts : List Part) (mode : Mode) (ca
 
   pub definitions_correspond : DefinitionsCorrespond R env v w
   definitions_correspond = record {
-    funcs = partner Functions (λ m. m.funcs) _ _ (λ m. refl) funcs_become funcs_alike;
+    funcs = λ a b r. partner Functions (λ m. m.funcs) _ (λ p i f q j g. FuncsAt R a i j f g) (λ m. refl) funcs_become (λ p m i is k n f h. FuncsAt.alike (funcs_alike p m i is k n f h)) a b r;
     tables = partner Tables (λ m. m.tables) (λ p m t. t) _ (λ m. refl) tables_become (λ p m i is k n x h. refl);
     mems = partner Memories (λ m. m.mems) (λ p m l. l) _ (λ m. refl) mems_become (λ p m i is k n x h. refl);
     globals = partner Globals (λ m. m.globals) _ _ (λ m. refl) globals_become (λ p m i is k n x h. globals_alike p m is n x h);

@@ -25,7 +25,7 @@ use Rattle.index_remap.specs.Related.{Pairing, OptRel, none, some, BothRel, both
 use Rattle.index_remap.specs.Related as to
 use Rattle.index_remap.proofs.Rel.{copies_rel}
 use Rattle.world_simulation.specs.Owned.{SharesOwn}
-use Rattle.world_simulation.specs.Definitions.{Instantiated, DefinedAt, values_in, FuncsCorrespond, GlobalsCorrespond, is_declarative, ElemsCorrespond, declared, kept, Partners, DefinitionsCorrespond}
+use Rattle.world_simulation.specs.Definitions.{Instantiated, DefinedAt, values_in, FuncsCorrespond, FuncsAt, alike, set_apart, GlobalsCorrespond, is_declarative, ElemsCorrespond, declared, kept, Partners, DefinitionsCorrespond}
 use Rattle.world_simulation.specs.Definitions as partners
 use Rattle.world_simulation.proofs.Allocated.{new_table, new_memory, new_data, adds, keeps, funcs_stand, tables_stand, mems_stand, globals_stand, elems_stand, datas_stand}
 use Rattle.world_simulation.proofs.Owned.{null_rel, own_funcs_rel, own_tables_rel, own_globals_rel}
@@ -87,6 +87,28 @@ module _ (R : Pairing) where
   func_rel {i} {j} {f} {g} k =
       subst (λ o. OptRel (FuncRel R) (new_func i f) (option_and_then (λ t. Some (Code t j (values.declared g.locals) g.body)) o)) k.type
       (then_same (slice_get i.types f.ty) (λ t _. some (subst (λ ls. FuncRel R (Code t i (values.declared f.locals) f.body) (Code t j (values.declared ls) g.body)) k.locals (defined k.code))))
+
+  -- types, and whose they are
+  abbrev SameHead : Func → Func → Type 0
+  SameHead f g = (type_of_func f ≡ type_of_func g) × (own_of f ≡ own_of g)
+
+  type_is : {o p : Outcome Func} → BothRel SameHead o p → BothRel (◌≡◌ {A = FuncType}) (bind o (λ f. Gives (type_of_func f))) (bind p (λ f. Gives (type_of_func f)))
+  type_is (both h) = both h.0
+
+  own_is : {o p : Outcome Func} → BothRel SameHead o p → option_and_then own_of (given o) ≡ option_and_then own_of (given p)
+  own_is (both h) = h.1
+
+  type_at : {a : ℕ} {i j : Inst} {f g : tree.Func} → FuncsAt R a i j f g → slice_get i.types f.ty ≡ slice_get j.types g.ty
+  type_at (alike k) = k.type
+  type_at (set_apart l e) = e
+
+  head_rel : {a : ℕ} {i j : Inst} {f g : tree.Func} → FuncsAt R a i j f g → OptRel SameHead (new_func i f) (new_func j g)
+  head_rel {i = i} {j = j} {f = f} {g = g} k =
+      subst (λ o. OptRel SameHead (new_func i f) (option_and_then (λ t. Some (Code t j (values.declared g.locals) g.body)) o)) (type_at k) (then_same (slice_get i.types f.ty) (λ t _. some (refl, refl)))
+
+  not_apart : {a : ℕ} {i j : Inst} {f g : tree.Func} → ¬ R.listed a → FuncsAt R a i j f g → FuncsCorrespond R i j f g
+  not_apart free (alike k) = k
+  not_apart free (set_apart l e) = absurd (free l)
 
   pub ref_rel : {v w : Val} → ValRel R v w → OptRel (RefRel R) (given (ref_of v)) (given (ref_of w))
   ref_rel number = none
@@ -167,9 +189,9 @@ module _ (R : Pairing) where
 
     pub stores_rel : SharesOwn R env → DefinitionsCorrespond R env v w → (s z : Store) → stores_from env v.parts v.insts (own_store env) 0 v.parts v.insts ≡ Some s → stores_from env w.parts w.insts (own_store env) 0 w.parts w.insts ≡ Some z → StoreRel R s z
     stores_rel shares defs s z s_is z_is = record {
-      types = λ {a} {b} r. type_same (funcs a b r);
-      owns = λ {a} {b} r. own_same (funcs a b r);
-      funcs = λ {a} {b} r _. funcs a b r;
+      types = λ {a} {b} r. type_is (heads a b r);
+      owns = λ {a} {b} r. own_is (heads a b r);
+      funcs = λ {a} {b} r free. funcs a b r free;
       tables = λ {a} {b} r. stand Tables _ _ (own_tables env) s.tables z.tables refl (own_tables_rel R env shares) (own_table_placed env v s s_is) (own_table_placed env w z z_is)
           (λ a b d e c. (new_table d.definition, new_table e.definition, table_placed env v s s_is d, table_placed env w z z_is e, subst (λ t. TableRel R (new_table d.definition) (new_table t)) c (record { type = refl; most = refl; slots = copies_rel _ _ d.definition.limits.min (null_rel R d.definition.ty) }))) a b (defs.tables a b r);
       mems = λ {a} {b} r. stand Memories _ _ (own_memories env) s.mems z.mems refl (self_rel (own_memories env) (λ x. refl)) (own_memory_placed env v s s_is) (own_memory_placed env w z z_is)
@@ -182,6 +204,10 @@ module _ (R : Pairing) where
           (λ a b d e c. (new_data d.definition, new_data e.definition, data_placed env v s s_is d, data_placed env w z z_is e, c)) a b (defs.datas a b r);
     }
       where
-        funcs : (a b : ℕ) → R.of Functions a b → BothRel (FuncRel R) (at s.funcs a) (at z.funcs b)
-        funcs a b r = stand Functions _ _ (own_funcs env) s.funcs z.funcs refl (own_funcs_rel R env) (own_func_placed env v s s_is) (own_func_placed env w z z_is)
-            (λ a b d e c. let x = func_placed env v s s_is d in let y = func_placed env w z z_is e in (x.0, y.0, x.1, y.1, opt_both (func_rel c) x.2 y.2)) a b (defs.funcs a b r)
+        heads : (a b : ℕ) → R.of Functions a b → BothRel SameHead (at s.funcs a) (at z.funcs b)
+        heads a b r = stand Functions _ _ (own_funcs env) s.funcs z.funcs refl (self_rel (own_funcs env) (λ f. (refl, refl))) (own_func_placed env v s s_is) (own_func_placed env w z z_is)
+            (λ c d x y k. let f = func_placed env v s s_is x in let g = func_placed env w z z_is y in (f.0, g.0, f.1, g.1, opt_both (head_rel k) f.2 g.2)) a b (defs.funcs a b r)
+
+        funcs : (a b : ℕ) → R.of Functions a b → ¬ R.listed a → BothRel (FuncRel R) (at s.funcs a) (at z.funcs b)
+        funcs a b r free = stand Functions _ _ (own_funcs env) s.funcs z.funcs refl (own_funcs_rel R env) (own_func_placed env v s s_is) (own_func_placed env w z z_is)
+            (λ c d x y k. let f = func_placed env v s s_is x in let g = func_placed env w z z_is y in (f.0, g.0, f.1, g.1, opt_both (func_rel (not_apart free k)) f.2 g.2)) a b (defs.funcs a b r)

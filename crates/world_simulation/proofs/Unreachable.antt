@@ -31,7 +31,7 @@ use Rattle.world_simulation.specs.Instances.{RelatedInstancesShowTheSame}
 use Rattle.world_simulation.specs.Simulation.{AreSimilar, StartAlike, WorldsCorrespond}
 use Rattle.world_simulation.proofs.Instancing.{inst_is, inst_there, IsInst}
 use Rattle.world_simulation.proofs.Simulated.{what_is_made, instances_rel}
-use Rattle.world_simulation.specs.Definitions.{FuncsCorrespond, GlobalsCorrespond, ElemsCorrespond, Partners, DefinitionsCorrespond, Instantiated, values_in}
+use Rattle.world_simulation.specs.Definitions.{FuncsCorrespond, FuncsAt, GlobalsCorrespond, ElemsCorrespond, Partners, DefinitionsCorrespond, Instantiated, values_in}
 use Rattle.world_simulation.proofs.Renamed.{funcs_correspond, elems_alike}
 use Rattle.world_simulation.proofs.Stored.{alike_correspond}
 use Rattle.wasm_meaning.specs.Outcomes.{at}
@@ -184,7 +184,7 @@ module _ (t : Module) (n : ℕ) (there : n < length t.funcs) (reach : IsUnreacha
 
       definitions : RenumberedCodeIsRelated → DefinitionsCorrespond R env v w
       definitions code = record {
-        funcs = with_hole Functions (λ c. c.funcs) (new_func m) n refl (λ c. refl) func_place (λ p i f q j g. FuncsCorrespond R i j f g) (λ x f h other. funcs_correspond of m kept i j names code f (rest_names x f h other));
+        funcs = λ c d r. with_hole Functions (λ c. c.funcs) (new_func m) n refl (λ c. refl) func_place (λ p i f q j g. FuncsAt R c i j f g) (λ x f h other. FuncsAt.alike (funcs_correspond of m kept i j names code f (rest_names x f h other))) c d r;
         tables = with_hole Tables (λ c. c.tables) (λ x. x) (length t.tables) refl (λ c. refl) (λ x y d h move. ap (λ l. slice_get l y) (same.tables ∙ sym (map-id t.tables) ∙ sym (append-nil _)) ∙ kept_place t.tables (λ x. x) [] x y d h move) (λ p i x q j y. x ≡ y) (λ x d h other. refl);
         mems = with_hole Memories (λ c. c.mems) (λ x. x) (length t.mems) refl (λ c. refl) (λ x y d h move. ap (λ l. slice_get l y) (same.mems ∙ sym (map-id t.mems) ∙ sym (append-nil _)) ∙ kept_place t.mems (λ x. x) [] x y d h move) (λ p i x q j y. x ≡ y) (λ x d h other. refl);
         globals = with_hole Globals (λ c. c.globals) (new_global m) (length t.globals) refl (λ c. refl) (λ x y d h move. ap (λ l. slice_get l y) (same.globals ∙ sym (append-nil _)) ∙ kept_place t.globals (new_global m) [] x y d h move)

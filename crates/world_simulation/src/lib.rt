@@ -56,7 +56,7 @@ pub fn related_instances_show_the_same()
 /// one-to-one relation of addresses and partnered segments, starts and views stand in the same order, an active segment without partner being in bounds and writing only
 /// what has no partner, both show `LinkFault`, or both are instantiated to related states (`instantiated`), and each embedder sees the same of both, step by step (`same`).
 /// Where only starts may differ, both are instantiated to related stores, trapped both or neither, with related views (`begin`); before segments are copied the
-/// stores are related (`allocated`); and what `instantiate` gives is taken apart: instances, the allocated store, the view, matched imports (`made`).
+/// stores are related (`allocated`): in both functions may be set apart, of which only the types have to be equal; and what `instantiate` gives is taken apart: instances, the allocated store, the view, matched imports (`made`).
 pub fn similar_worlds_show_the_same()
     ensures made { WhatIsInstantiated }
     ensures allocated { AllocatedStoresCorrespond }
