@@ -1,10 +1,10 @@
 -- A function that is called directly, through a trampoline and through the two instructions, computed; slots in which there is none, or one of another type; and a call
 -- that ends under a frame of a trampoline.
-use Rattle.std.proofs.Common.{◌≡◌, refl, sym, ℕ, zero, suc, List, [], ◌∷◌, Some, None, Bool, true, false}
+use Rattle.std.proofs.Common.{◌≡◌, ◌∙◌, subst, refl, sym, ℕ, zero, suc, List, [], ◌∷◌, Some, None, Bool, true, false}
 use Rattle.std.specs.Prelude.{pos}
 use Rattle.std.proofs.lemmas.Bool.{true≢false}
 use Rattle.wasm_tree.specs.declared.space.Space.{Space}
-use Rattle.wasm_tree.specs.declared.space.Space.TheVariants.{Functions}
+use Rattle.wasm_tree.specs.declared.space.Space.TheVariants.{Types, Functions, Tables, Memories, Globals, ElementSegments, DataSegments}
 use Rattle.wasm_tree.specs.declared.types.RefType.TheVariants as reft
 use Rattle.wasm_tree.specs.declared.types.ValType.TheVariants.{I32}
 use Rattle.wasm_tree.specs.declared.types.FuncType.{FuncType}
@@ -12,18 +12,22 @@ use Rattle.wasm_tree.specs.declared.instr.Instr.{Instr, out-Instr}
 use Rattle.wasm_tree.specs.declared.instr.Instr.TheVariants as i
 use Rattle.wasm_num.specs.Operations.{W32, wrapped}
 use Rattle.base_simulation.specs.Machines.{events_of}
-use Rattle.wasm_meaning.specs.Outcomes.{Gives, Traps, at}
-use Rattle.wasm_meaning.specs.State.{RefVal, FuncRef, Val, Num, Inst, Func, Code, Store, Entry, Running, Mark, Opening, Ran}
+use Rattle.wasm_meaning.specs.Outcomes.{Outcome, Gives, Traps, at}
+use Rattle.wasm_meaning.specs.State.{RefVal, FuncRef, Val, Num, Inst, Func, Code, Store, Entry, Running, Mark, Opening, Act, Ran}
 use Rattle.wasm_meaning.specs.Control.{type_at, own_at}
 use Rattle.wasm_meaning.specs.Environment.{Number}
 use Rattle.wasm_meaning.specs.Step.{enter_at, step}
 use Rattle.wasm_meaning.specs.Run.{Returned, Opened, Run, tick}
 use Rattle.index_remap.specs.Related
-use Rattle.index_remap.specs.Related.{Pairing, ResRel, done, BothRel, both, ListRel, nil, cons, ValRel, number, CodeRel, end, then, StoreRel, NextRel}
-use Rattle.index_remap.specs.Laws.{passed}
-use Rattle.index_remap.specs.ListedRuns.{TickSkips}
-use Rattle.index_remap.specs.Trampolines.{passing, FramesBetween, slot_call, trampoline, InSlot, go_on, CodeAt}
+use Rattle.index_remap.specs.Related.{Pairing, OneToOne, EntryRel, running, NotListed, ResRel, done, BothRel, both, ListRel, nil, cons, ValRel, number, CodeRel, end, then, StoreRel, NextRel}
+use Rattle.index_remap.specs.RelatedRuns.{opened}
+use Rattle.index_remap.specs.Laws.{passed, EntryByEntry}
+use Rattle.index_remap.specs.ListedRuns.{TickSkips, StepsTogether}
+use Rattle.index_remap.specs.Trampolines.{passing, WithPassing, through, AnsweredInTwo, FramesBetween, slot_call, trampoline, InSlot, go_on, CodeAt}
 use Rattle.index_remap.specs.Trampolines as between
+use Rattle.index_remap.proofs.Known.{entries_known}
+use Rattle.index_remap.proofs.Lockstep.{ticks_together}
+use Rattle.index_remap.proofs.FramesBetween.{not_seen}
 use Rattle.index_remap.proofs.SlotCalls.{trampoline_calls}
 
 -- ---- two stores ----
@@ -172,3 +176,54 @@ a_start_of_it_begins_a_call r es free = free refl
 
 a_start_of_another_does_not : (r : Run) (es : List Entry) → TickSkips L r (Opening (1 ∷ []) ∷ es)
 a_start_of_another_does_not r es h = no_more h
+
+-- ---- the laws of runs ----
+
+-- only zeros are related, so that the relation is one to one
+only_zeros : (k : Space) (a b : ℕ) → L.of k a b → (a ≡ 0) × (b ≡ 0)
+only_zeros Functions zero zero h = (refl, refl)
+only_zeros Functions zero (suc b) h = no_more h
+only_zeros Functions (suc a) b h = no_more h
+only_zeros Types a b h = no_more h
+only_zeros Tables a b h = no_more h
+only_zeros Memories a b h = no_more h
+only_zeros Globals a b h = no_more h
+only_zeros ElementSegments a b h = no_more h
+only_zeros DataSegments a b h = no_more h
+
+apart : OneToOne L
+apart = record { right = λ {k} a b c h j. (only_zeros k a b h).1 ∙ sym (only_zeros k a c j).1; left = λ {k} a b c h j. (only_zeros k a c h).0 ∙ sym (only_zeros k b c j).0 }
+
+abbrev in_run : Store → List Entry → Run
+in_run s es = record { store = s; entries = es; phase = Opened; shown = []; view = []; owned = []; moves = [] }
+
+-- what the step comes to is no call of a function of the list
+abbrev NoneListed : Outcome Act → Type 0
+NoneListed (Gives x) = NotListed L x
+NoneListed _ = Unit {0}
+
+-- a reference to the function of the list is taken
+abbrev refers : Entry
+refers = in_it [] (i.RefFunc 0 ∷ [])
+
+a_reference_is_taken : StepsTogether L (EntryByEntry L) (in_run direct (refers ∷ [])) (in_run by_slot (refers ∷ [])) (tick (in_run direct (refers ∷ []))) (tick (in_run by_slot (refers ∷ [])))
+unfolding out-Instr denote.Hole.Carrier.out
+a_reference_is_taken =
+    let e : EntryRel L refers refers = running (record { locals = cons number nil; results = refl; levels = cons (record { values = nil; code = then (Related.ref_func (done refl)) end; gives = refl; takes = refl; back = end }) nil }) in
+    ticks_together L apart (in_run direct (refers ∷ [])) (in_run by_slot (refers ∷ [])) (record { store = related; entries = cons e nil; phase = opened; shown = nil; view = nil; owned = nil; moves = refl }) (λ x is. subst NoneListed is tt)
+    (entries_known L (λ k a b h. h) (refers ∷ []) (refers ∷ []))
+
+-- the function ends, in the second under the frame of its trampoline
+abbrev under_the_trampoline : List Entry
+under_the_trampoline = in_it seven [] ∷ (Running (passing inst seven (I32 ∷ [])) ∷ (Mark ∷ []))
+
+it_ends_alike : AnsweredInTwo L (in_run direct (in_it seven [] ∷ (Mark ∷ []))) (in_run by_slot under_the_trampoline)
+it_ends_alike =
+    let stacks : WithPassing L (in_it seven [] ∷ (Mark ∷ [])) under_the_trampoline =
+    through (record { locals = cons number nil; results = refl; levels = cons (record { values = cons number nil; code = end; gives = refl; takes = refl; back = end }) nil }) inst seven (between.WithPassing.cons Related.mark between.WithPassing.nil) in
+    not_seen L apart (in_run direct (in_it seven [] ∷ (Mark ∷ []))) (in_run by_slot under_the_trampoline) (record { store = related; entries = stacks; phase = opened; shown = nil; view = nil; owned = nil; moves = refl }) (λ x is. subst NoneListed is tt)
+    (entries_known L (λ k a b h. h) (in_it seven [] ∷ (Mark ∷ [])) under_the_trampoline)
+
+-- a frame that waits for fewer results is none that passes these on
+not_of_other_results : WithPassing L (in_it seven [] ∷ (Mark ∷ [])) (in_it seven [] ∷ (Running (passing inst seven []) ∷ (Mark ∷ []))) → ⊥
+not_of_other_results (between.WithPassing.cons e (between.WithPassing.cons other more)) = elim other [ ]
