@@ -40,10 +40,10 @@ use Rattle.world_simulation.proofs.Declared.{last_segments}
 use Rattle.merge_worlds.proofs.Values.{value_rel}
 use Rattle.merge_worlds.proofs.ValueGiven.{Laws}
 use Rattle.world_simulation.specs.Definitions.{Instantiated, values_in}
-use Rattle.world_simulation.specs.Segments.{InOrder, ends, only_second, ElemsPartner, ElemAlone, DatasPartner, DataAlone, alone_in_first, offset_in, ElemsInOrder, DatasInOrder}
+use Rattle.world_simulation.specs.Segments.{InOrder, ends, only_second, ElemsPartner, ElemAlone, DatasPartner, DataAlone, offset_in, ElemsInOrder, DatasInOrder}
 use Rattle.world_simulation.specs.Segments as segments
 use Rattle.world_simulation.proofs.Ordered.{tasks_by, elems_by, datas_by}
-use Rattle.index_remap.specs.RelatedRuns.{HasNoPartner}
+use Rattle.index_remap.specs.RelatedRuns.{turned, HasNoPartner}
 use Rattle.std.proofs.lemmas.Option.{slice_get_within}
 use Rattle.base_lists.proofs.Numbers.{numbers_at, length-numbers}
 use Rattle.base_lists.proofs.Places.{map_from, slice_index_is}
@@ -95,7 +95,7 @@ module _ (laws : Laws) (env : Environment) (parts : List Part) (mode : Mode) (ca
   ElemPartners x y = ElemsPartner R (values_in env v x.part) (values_in env w y.part) x y x.segment.mode y.segment.mode
 
   abbrev FirstElem : Task ElemSeg → Type 0
-  FirstElem x = ElemAlone (alone_in_first R) env v x x.segment.mode
+  FirstElem x = ElemAlone (HasNoPartner (turned R)) env v x x.segment.mode
 
   abbrev SecondElem : Task ElemSeg → Type 0
   SecondElem y = ElemAlone (HasNoPartner R) env w y y.segment.mode
@@ -104,7 +104,7 @@ module _ (laws : Laws) (env : Environment) (parts : List Part) (mode : Mode) (ca
   DataPartners x y = DatasPartner R (values_in env v x.part) (values_in env w y.part) x y x.segment.mode y.segment.mode
 
   abbrev FirstData : Task DataSeg → Type 0
-  FirstData x = DataAlone (alone_in_first R) env v x x.segment.mode
+  FirstData x = DataAlone (HasNoPartner (turned R)) env v x x.segment.mode
 
   abbrev SecondData : Task DataSeg → Type 0
   SecondData y = DataAlone (HasNoPartner R) env w y y.segment.mode

@@ -5,7 +5,7 @@ use Rattle.std.proofs.lemmas.Bool.{cases_lt, ltb-true, lt-ltb, eqb-true, eq-eqb,
 use Rattle.std.proofs.lemmas.Option.{slice_get_within}
 use Rattle.base_lists.proofs.Bools.{left_true, right_true}
 use Rattle.base_lists.proofs.Numbers.{length-numbers, numbers_at, numbers_index}
-use Rattle.base_lists.proofs.Places.{append_left, append_right, map_at, append_at_left, slice_get_there}
+use Rattle.base_lists.proofs.Places.{slice_index_is, append_left, append_right, map_at, append_at_left, slice_get_there}
 use Rattle.wasm_meaning.specs.World.{numbers, Task, tasks_in, own_count, defined_count}
 use Rattle.index_remap.specs.Related.{OptRel, some, ListRel}
 use Rattle.world_simulation.specs.Unreachable.{without}
@@ -80,12 +80,36 @@ without_many n [] h = absurd (omega (arith, h))
 without_many zero (x ∷ xs) h = refl
 without_many (suc n) (x ∷ xs) h = let l = without_many n xs (omega (arith, h)) in omega (arith, l)
 
+-- what stands elsewhere is still there
+pub without_there : {A : Type 0} (n : ℕ) (xs : List A) (x : ℕ) (d : A) → (x ≡ n → ⊥) → slice_get xs x ≡ Some d → (y : ℕ) × (slice_get (without n xs) y ≡ Some d)
+without_there n [] x d other h = cc
+without_there zero (z ∷ xs) zero d other h = absurd (other refl)
+without_there zero (z ∷ xs) (suc x) d other h = (x, h)
+without_there (suc n) (z ∷ xs) zero d other h = (zero, h)
+without_there (suc n) (z ∷ xs) (suc x) d other h = let r = without_there n xs x d (λ e. other (ap suc e)) h in (suc r.0, r.1)
+
 -- ---- index spaces ----
 
 -- an index before the hole stays, and one behind it goes down by one
 pub data Moved (hole x y : ℕ) : Type 0 where
   stays : x < hole → x ≡ y → Moved hole x y
   falls : hole < x → x ≡ suc y → Moved hole x y
+
+-- the map that closes a hole
+pub closed : (hole more x : ℕ) → x < suc hole + more → (x ≡ hole → ⊥) → Moved hole x (slice_index (numbers 0 (suc hole) ++ numbers hole more) x)
+closed hole more x within other = by (cases_lt x hole) (cases_lt hole x)
+  where
+    many : length (numbers 0 (suc hole)) ≡ suc hole
+    many = length-numbers 0 (suc hole)
+
+    by : (x < hole) ⊎ (hole ≤ x) → (hole < x) ⊎ (x ≤ hole) → Moved hole x (slice_index (numbers 0 (suc hole) ++ numbers hole more) x)
+    by (inl l) b = stays l (sym (slice_index_is (numbers 0 (suc hole) ++ numbers hole more) x x (append_left (numbers 0 (suc hole)) _ x (omega (arith, l, many)) ∙ numbers_at 0 (suc hole) x (omega (arith, l)) ∙ (let e : 0 + x ≡ x = omega arith in ap Some e))))
+    by (inr l) (inr k) = absurd (other (omega (arith, l, k)))
+    by (inr l) (inl k) =
+        let y = x - suc hole in
+        let at : x ≡ length (numbers 0 (suc hole)) + y = omega (arith, k, many) in
+        let e = slice_index_is (numbers 0 (suc hole) ++ numbers hole more) x (hole + y) (ap (slice_get (numbers 0 (suc hole) ++ numbers hole more)) at ∙ append_right (numbers 0 (suc hole)) _ y ∙ numbers_at hole more y (omega (arith, within, k))) in
+        falls k (omega (arith, e, k))
 
 -- imports, and then numbers from one on, with a hole at a place among these
 pub space_moves : (P : ℕ → ℕ → Type 0) (l : List ℕ) (from gap count fewer : ℕ) → ListRel P l l → gap ≤ count → (gap < count → suc fewer ≡ count) → (gap ≡ count → count ≤ fewer) → ((a b : ℕ) → Down (from + gap) (from + count) a b → P a b) →

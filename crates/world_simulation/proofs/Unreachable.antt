@@ -1,15 +1,15 @@
 -- A module without one function that nothing else of it names shows what the module shows: its records of the law for two worlds.
-use Rattle.std.proofs.Common.{◌≡◌, ℕ, zero, suc, ◌+◌, ◌-◌, ◌<◌, ◌≤◌, List, [], ◌∷◌, map, length, Some, Bool, true, false, ◌⊎◌, inl, inr, refl, sym, ap, ap₂, subst, ◌∙◌, arith, option_and_then, append-nil}
+use Rattle.std.proofs.Common.{◌≡◌, ℕ, suc, ◌+◌, ◌-◌, ◌<◌, ◌≤◌, List, [], ◌∷◌, map, length, Some, Bool, true, false, ◌⊎◌, inl, inr, refl, sym, ap, ap₂, subst, ◌∙◌, arith, option_and_then, append-nil}
 use Rattle.std.specs.Prelude.{slice_get, slice_index, IsTrue, nat_eq, not}
 use Rattle.std.proofs.lemmas.Bool.{cases_lt, ltb-true, eq-eqb}
 use Rattle.std.proofs.lemmas.List.{length-append, map-id}
 use Rattle.base_lists.proofs.Bools.{left_true, right_true}
-use Rattle.base_lists.proofs.Numbers.{length-numbers, numbers_at}
-use Rattle.base_lists.proofs.Places.{slice_index_is, append_left, append_right, map_at, map_from}
+use Rattle.base_lists.proofs.Numbers.{length-numbers}
+use Rattle.base_lists.proofs.Places.{map_at, map_from}
 use Rattle.wasm_tree.specs.declared.space.Space.{Space}
 use Rattle.wasm_tree.specs.declared.space.Space.TheVariants.{Types, Functions, Tables, Memories, Globals, ElementSegments, DataSegments}
 use Rattle.wasm_meaning.specs.Environment.{Environment}
-use Rattle.wasm_meaning.specs.World.{own_count, defined_count, numbers, instantiate, links, alone, starts_of}
+use Rattle.wasm_meaning.specs.World.{own_count, defined_count, numbers, insts_from, instantiate, links, alone, starts_of}
 use Rattle.index_remap.specs.Related.{Pairing, OneToOne, ListRel}
 use Rattle.index_remap.specs.Laws.{passed, RenumberedCodeIsRelated}
 use Rattle.wasm_tree.specs.declared.module.Module.{Module}
@@ -31,14 +31,15 @@ use Rattle.world_simulation.specs.Instances.{RelatedInstancesShowTheSame}
 use Rattle.world_simulation.specs.Simulation.{AreSimilar, StartAlike, WorldsCorrespond}
 use Rattle.world_simulation.proofs.Instancing.{inst_is, inst_there, IsInst}
 use Rattle.world_simulation.proofs.Simulated.{what_is_made, instances_rel}
-use Rattle.world_simulation.specs.Definitions.{FuncsCorrespond, GlobalsCorrespond, ElemsCorrespond, Partners, DefinitionsCorrespond, Instantiated, values_in}
-use Rattle.world_simulation.proofs.Renamed.{funcs_correspond, elems_correspond}
+use Rattle.world_simulation.specs.Definitions.{FuncsCorrespond, FuncsAt, GlobalsCorrespond, ElemsCorrespond, Partners, DefinitionsCorrespond, Instantiated, values_in}
+use Rattle.world_simulation.proofs.Renamed.{funcs_correspond, elems_alike}
+use Rattle.world_simulation.proofs.Stored.{alike_correspond}
 use Rattle.world_simulation.specs.Alone.{one}
 use Rattle.world_simulation.specs.Owned.{SharesOwn}
 use Rattle.world_simulation.specs.Named.{EntriesName}
 use Rattle.world_simulation.proofs.Alone.{funcs_counted, tables_counted, memories_counted, globals_counted}
 use Rattle.world_simulation.proofs.Single.{one_inst, there_is}
-use Rattle.world_simulation.proofs.Holes.{moved_down, Down, low, down_is, is_down, down_right, down_left, without_low, without_high, without_many, Moved, stays, falls, placed, stays_at, kept_place}
+use Rattle.world_simulation.proofs.Holes.{moved_down, Down, low, down_is, is_down, down_right, down_left, without_low, without_high, without_many, without_there, closed, Moved, stays, falls, placed, stays_at, kept_place}
 use Rattle.world_simulation.proofs.SameItems.{SameItems, space_there, space_rel, plain_rel, segments_rel, consts, elems_in_order, datas_in_order, view, starts, FuncsFrom, linked_with}
 
 -- ---- the module and what is left of it ----
@@ -63,9 +64,6 @@ module _ (t : Module) (n : ℕ) (there : n < length t.funcs) (reach : IsUnreacha
   same : Keeps plain u fs
   same = keeps plain fs
 
-  types_are : u.types ≡ t.types
-  types_are = same.types
-
   imports_are : u.imports ≡ t.imports
   imports_are = same.imports ∙ all_stay t.imports reach.imports
     where
@@ -81,7 +79,7 @@ module _ (t : Module) (n : ℕ) (there : n < length t.funcs) (reach : IsUnreacha
 
   items : SameItems m kept t u fs
   items = record {
-    types = types_are;
+    types = same.types;
     imports = imports_are;
     globals = same.globals;
     exports = same.exports;
@@ -92,27 +90,12 @@ module _ (t : Module) (n : ℕ) (there : n < length t.funcs) (reach : IsUnreacha
     stays = λ x h. (stays_at (length (globals_of t)) x h).0;
   }
 
-  funcs_many : suc (length u.funcs) ≡ length t.funcs
-  funcs_many = ap (λ l. suc (length l)) same.funcs ∙ ap suc (map_length (new_func m) (without n t.funcs)) ∙ without_many n t.funcs there
-
   -- a function of the rest is one of the module
   rest_names : (x : ℕ) (f : tree.Func) → slice_get t.funcs x ≡ Some f → (x ≡ n → ⊥) → FuncNamesOnly kept f
-  rest_names x f h other = by (cases_lt x n)
-    where
-      by : (x < n) ⊎ (n ≤ x) → FuncNamesOnly kept f
-      by (inl l) = reach.funcs x f (without_low n t.funcs x l ∙ h)
-      by (inr l) = by_last x l h other
-        where
-          by_last : (x : ℕ) → n ≤ x → slice_get t.funcs x ≡ Some f → (x ≡ n → ⊥) → FuncNamesOnly kept f
-          by_last zero l h other = absurd (other (omega (arith, l)))
-          by_last (suc x) l h other = by_place (cases_lt x n)
-            where
-              by_place : (x < n) ⊎ (n ≤ x) → FuncNamesOnly kept f
-              by_place (inl k) = absurd (other (omega (arith, l, k)))
-              by_place (inr k) = reach.funcs x f (without_high n t.funcs x k ∙ h)
+  rest_names x f h other = let y = without_there n t.funcs x f other h in reach.funcs y.0 f y.1
 
   func_moves : (x : ℕ) → IsTrue (kept Functions x) → (x < length (imported_funcs t.imports) + length t.funcs) × Moved (function_index n t) x (slice_index m.funcs x)
-  func_moves x h = (omega (arith, within, all, there), by (cases_lt x (function_index n t)))
+  func_moves x h = (omega (arith, within, all, there), closed (function_index n t) (length t.funcs - suc n) x (omega (arith, within, all)) other)
     where
       within : x < length m.funcs
       within = ltb-true _ _ (left_true (has m.funcs x) _ h)
@@ -122,25 +105,6 @@ module _ (t : Module) (n : ℕ) (there : n < length t.funcs) (reach : IsUnreacha
 
       other : x ≡ function_index n t → ⊥
       other e = let k = right_true (has m.funcs x) _ h in let z : not (nat_eq x (function_index n t)) ≡ false = ap not (eq-eqb x (function_index n t) e) in cc
-
-      by : (x < function_index n t) ⊎ (function_index n t ≤ x) → Moved (function_index n t) x (slice_index m.funcs x)
-      by (inl l) =
-          let c = length-numbers 0 (suc (function_index n t)) in
-          stays l (sym (slice_index_is m.funcs x x (append_left (numbers 0 (suc (function_index n t))) _ x (omega (arith, l, c)) ∙ numbers_at 0 (suc (function_index n t)) x (omega (arith, l)) ∙ (let e : 0 + x ≡ x = omega arith in ap Some e))))
-      by (inr l) = behind x within l other
-        where
-          behind : (x : ℕ) → x < length m.funcs → function_index n t ≤ x → (x ≡ function_index n t → ⊥) → Moved (function_index n t) x (slice_index m.funcs x)
-          behind x k l apart_from =
-              let y = x - suc (function_index n t) in
-              let c = length-numbers 0 (suc (function_index n t)) in
-              let apart : function_index n t < x = past (cases_lt (function_index n t) x) in
-              let at : x ≡ length (numbers 0 (suc (function_index n t))) + y = omega (arith, apart, c) in
-              let is : slice_get m.funcs x ≡ Some (function_index n t + y) = ap (slice_get m.funcs) at ∙ append_right (numbers 0 (suc (function_index n t))) _ y ∙ numbers_at (function_index n t) (length t.funcs - suc n) y (omega (arith, at, k, all, c)) in
-              falls apart (let e = slice_index_is m.funcs x (function_index n t + y) is in omega (arith, e, apart))
-            where
-              past : (function_index n t < x) ⊎ (x ≤ function_index n t) → function_index n t < x
-              past (inl l) = l
-              past (inr r) = absurd (apart_from (omega (arith, l, r)))
 
   -- ---- in an environment ----
 
@@ -170,22 +134,12 @@ module _ (t : Module) (n : ℕ) (there : n < length t.funcs) (reach : IsUnreacha
     }
 
     module _ (i j : Inst) (a : IsInst env (one t) 0 t i) (b : IsInst env (one (removed n t)) 0 (removed n t) j) where
-      elems_more : length t.elems ≤ length u.elems
-      elems_more = let e = ap length same.elems ∙ length-append (map (new_elem m) t.elems) (last_segments fs) in let c = map_length (new_elem m) t.elems in omega (arith, e, c)
-
-      datas_many : length u.datas ≡ length t.datas
-      datas_many = ap length same.datas ∙ map_length (new_data m) t.datas
-
-      globals_many : length u.globals ≡ length t.globals
-      globals_many = ap length same.globals ∙ map_length (new_global m) t.globals
-
       names : EntriesName R m kept i j
-      names Types x h = ap (λ ts. slice_get ts x) (a.types ∙ sym types_are ∙ sym b.types) ∙ ap (slice_get j.types) (sym (stays_at (length t.types) x h).0)
+      names Types x h = ap (λ ts. slice_get ts x) (a.types ∙ sym same.types ∙ sym b.types) ∙ ap (slice_get j.types) (sym (stays_at (length t.types) x h).0)
       names Functions x h =
           let f = func_moves x h in
           let counted = funcs_counted t.imports 0 in
-          let l = f.0 in
-          space_rel of m kept t u fs items env own i j a b Functions i.funcs j.funcs n a.funcs b.funcs (λ c d e. is_down _ _ c d e) (omega (arith, there)) (λ c. funcs_many) (λ e. absurd (omega (arith, there, e))) x _ (omega (arith, l, counted)) (subst (λ c. Moved (c + n) x (slice_index m.funcs x)) (sym counted) f.1)
+          space_rel of m kept t u fs items env own i j a b Functions i.funcs j.funcs n a.funcs b.funcs (λ c d e. is_down _ _ c d e) (omega (arith, there)) (λ c. ap (λ l. suc (length l)) same.funcs ∙ ap suc (map_length (new_func m) (without n t.funcs)) ∙ without_many n t.funcs there) (λ e. absurd (omega (arith, there, e))) x _ (omega (arith, f.0, counted)) (subst (λ c. Moved (c + n) x (slice_index m.funcs x)) (sym counted) f.1)
       names Tables x h =
           let counted = tables_counted t.imports 0 in
           let size = length-append (imported_tables t.imports) t.tables in
@@ -198,9 +152,14 @@ module _ (t : Module) (n : ℕ) (there : n < length t.funcs) (reach : IsUnreacha
           let counted = globals_counted t.imports 0 in
           let size = length-append (imported_globals t.imports) (map (λ g. g.ty) t.globals) in
           let defined = map_length (λ g. g.ty) t.globals in
-          plain_rel of m kept t u fs items env own i j a b Globals i.globals j.globals (length (globals_of t)) a.globals b.globals (λ c d e. is_down _ _ c d e) globals_many (omega (arith, counted, size, defined)) x h
-      names ElementSegments x h = segments_rel of m kept t u fs items env own i j a b ElementSegments i.elems j.elems (length t.elems) (length u.elems) a.elems b.elems elems_more (λ a b d. is_down _ _ a b d) x h
-      names DataSegments x h = segments_rel of m kept t u fs items env own i j a b DataSegments i.datas j.datas (length t.datas) (length u.datas) a.datas b.datas (omega (arith, datas_many)) (λ a b d. is_down _ _ a b d) x h
+          plain_rel of m kept t u fs items env own i j a b Globals i.globals j.globals (length (globals_of t)) a.globals b.globals (λ c d e. is_down _ _ c d e) (ap length same.globals ∙ map_length (new_global m) t.globals) (omega (arith, counted, size, defined)) x h
+      names ElementSegments x h =
+          let e = ap length same.elems ∙ length-append (map (new_elem m) t.elems) (last_segments fs) in
+          let c = map_length (new_elem m) t.elems in
+          segments_rel of m kept t u fs items env own i j a b ElementSegments i.elems j.elems (length t.elems) (length u.elems) a.elems b.elems (omega (arith, e, c)) (λ a b d. is_down _ _ a b d) x h
+      names DataSegments x h =
+          let c = ap length same.datas ∙ map_length (new_data m) t.datas in
+          segments_rel of m kept t u fs items env own i j a b DataSegments i.datas j.datas (length t.datas) (length u.datas) a.datas b.datas (omega (arith, c)) (λ a b d. is_down _ _ a b d) x h
 
       abbrev v : Instantiated
       v = record { parts = one t; insts = i ∷ [] }
@@ -224,13 +183,13 @@ module _ (t : Module) (n : ℕ) (there : n < length t.funcs) (reach : IsUnreacha
 
       definitions : RenumberedCodeIsRelated → DefinitionsCorrespond R env v w
       definitions code = record {
-        funcs = with_hole Functions (λ c. c.funcs) (new_func m) n refl (λ c. refl) func_place (λ p i f q j g. FuncsCorrespond R i j f g) (λ x f h other. funcs_correspond of m kept i j names code f (rest_names x f h other));
+        funcs = λ c d r. with_hole Functions (λ c. c.funcs) (new_func m) n refl (λ c. refl) func_place (λ p i f q j g. FuncsAt R c i j f g) (λ x f h other. FuncsAt.alike (funcs_correspond of m kept i j names code f (rest_names x f h other))) c d r;
         tables = with_hole Tables (λ c. c.tables) (λ x. x) (length t.tables) refl (λ c. refl) (λ x y d h move. ap (λ l. slice_get l y) (same.tables ∙ sym (map-id t.tables) ∙ sym (append-nil _)) ∙ kept_place t.tables (λ x. x) [] x y d h move) (λ p i x q j y. x ≡ y) (λ x d h other. refl);
         mems = with_hole Memories (λ c. c.mems) (λ x. x) (length t.mems) refl (λ c. refl) (λ x y d h move. ap (λ l. slice_get l y) (same.mems ∙ sym (map-id t.mems) ∙ sym (append-nil _)) ∙ kept_place t.mems (λ x. x) [] x y d h move) (λ p i x q j y. x ≡ y) (λ x d h other. refl);
         globals = with_hole Globals (λ c. c.globals) (new_global m) (length t.globals) refl (λ c. refl) (λ x y d h move. ap (λ l. slice_get l y) (same.globals ∙ sym (append-nil _)) ∙ kept_place t.globals (new_global m) [] x y d h move)
             (λ p i g q j h. GlobalsCorrespond R (values_in env v p) (values_in env w q) g h) (λ x g h other. record { type = refl; init = consts of m kept t u fs items env own i j a b names g.init (reach.globals x g h) });
         elems = with_hole ElementSegments (λ c. c.elems) (new_elem m) (length t.elems) refl (λ c. refl) (λ x y d h move. ap (λ l. slice_get l y) same.elems ∙ kept_place t.elems (new_elem m) (last_segments fs) x y d h move)
-            (λ p i d q j e. ElemsCorrespond R (values_in env v p) (values_in env w q) d e) (λ x e h other. elems_correspond of m kept i j names (values_in env v 0) (values_in env w 0) (consts of m kept t u fs items env own i j a b names) e (λ l c k. reach.items x l e c h k));
+            (λ p i d q j e. ElemsCorrespond R (values_in env v p) (values_in env w q) d e) (λ x e h other. alike_correspond R (values_in env v 0) (values_in env w 0) (elems_alike of m kept i j names (values_in env v 0) (values_in env w 0) (consts of m kept t u fs items env own i j a b names) e (λ l c k. reach.items x l e c h k)));
         datas = with_hole DataSegments (λ c. c.datas) (new_data m) (length t.datas) refl (λ c. refl) (λ x y d h move. ap (λ l. slice_get l y) (same.datas ∙ sym (append-nil _)) ∙ kept_place t.datas (new_data m) [] x y d h move)
             (λ p i d q j e. d.bytes ≡ e.bytes) (λ x d h other. refl);
       }
@@ -243,17 +202,15 @@ module _ (t : Module) (n : ℕ) (there : n < length t.funcs) (reach : IsUnreacha
 
     -- ---- the environment links both ----
 
+    -- of the instances of both
+    for_instances : (P : List Inst → List Inst → Type 0) → ((i j : Inst) → IsInst env (one t) 0 t i → IsInst env (one u) 0 u j → P (i ∷ []) (j ∷ [])) → (is js : List Inst) → insts_from env (one t) 0 (one t) ≡ Some is → insts_from env (one u) 0 (one u) ≡ Some js → P is js
+    for_instances P h is js f g = let i = one_inst env t is f in let j = one_inst env u js g in rw (i.1, j.1) (h i.0 j.0 i.2 j.2)
+
     similar : RenumberedCodeIsRelated → AreSimilar R env (alone t) (alone u)
-    similar code is js f g =
-        let i = one_inst env t is f in
-        let j = one_inst env u js g in
-        subst (λ is. WorldsCorrespond R env (alone t) (alone u) is js) (sym i.1) (subst (λ js. WorldsCorrespond R env (alone t) (alone u) (i.0 ∷ []) js) (sym j.1) (worlds i.0 j.0 i.2 j.2 code))
+    similar code = for_instances (WorldsCorrespond R env (alone t) (alone u)) (λ i j a b. worlds i j a b code)
 
     start_alike : StartAlike R env (alone t) (alone u)
-    start_alike is js f g =
-        let i = one_inst env t is f in
-        let j = one_inst env u js g in
-        subst (λ is. ListRel (R.of Functions) (starts_of (one t) is) (starts_of (one u) js)) (sym i.1) (subst (λ js. ListRel (R.of Functions) (starts_of (one t) (i.0 ∷ [])) (starts_of (one u) js)) (sym j.1) (starts of m kept t u fs items env own i.0 j.0 i.2 j.2 (names i.0 j.0 i.2 j.2)))
+    start_alike = for_instances (λ is js. ListRel (R.of Functions) (starts_of (one t) is) (starts_of (one u) js)) (λ i j a b. starts of m kept t u fs items env own i j a b (names i j a b))
 
     funcs_from : RenumberedCodeIsRelated → (i j : Inst) (a : IsInst env (one t) 0 t i) (b : IsInst env (one (removed n t)) 0 (removed n t) j) → FuncsFrom of m kept t u fs items env own i j a b (names i j a b)
     funcs_from code i j a b y f h = by (cases_lt y n)
@@ -273,15 +230,14 @@ module _ (t : Module) (n : ℕ) (there : n < length t.funcs) (reach : IsUnreacha
         let o = there_is (instantiate env (alone t)) h in
         let x = what_is_made env (alone t) o.0 o.1 in
         let i = one_inst env t x.insts x.are_insts in
-        let a = i.2 in
         let space = space_there of m kept t u fs items env own in
-        let f = space Functions i.0.funcs a.funcs in
-        let ts = space Tables i.0.tables a.tables in
-        let ms = space Memories i.0.mems a.mems in
-        let gs = space Globals i.0.globals a.globals in
+        let f = space Functions i.0.funcs i.2.funcs in
+        let ts = space Tables i.0.tables i.2.tables in
+        let ms = space Memories i.0.mems i.2.mems in
+        let gs = space Globals i.0.globals i.2.globals in
         let j = inst_there env (one u) 0 u f.0 ts.0 ms.0 gs.0 f.1 ts.1 ms.1 gs.1 in
         let b = inst_is env (one u) 0 u j.0 j.1 in
-        linked_with of m kept t u fs items env own i.0 j.0 a b (names i.0 j.0 a b) (funcs_from code i.0 j.0 a b) (λ many. last_elems env u j.0 plain (many ∙ ap length same.func_space)) (definitions i.0 j.0 a b code) o.0 x i.1
+        linked_with of m kept t u fs items env own i.0 j.0 i.2 b (names i.0 j.0 i.2 b) (funcs_from code i.0 j.0 i.2 b) (λ many. last_elems env u j.0 plain (many ∙ ap length same.func_space)) (definitions i.0 j.0 i.2 b code) o.0 x i.1
         (ap (λ o. option_and_then (λ i. Some (i ∷ [])) o) j.1)
 
   pub shows_the_same : RelatedInstancesShowTheSame → RenumberedCodeIsRelated → (env : Environment) → links env (alone t) ≡ true → (moves : List Move) (k : ℕ) → events (alone t) env moves k ≡ events (alone u) env moves k
