@@ -1,23 +1,19 @@
 -- What the parts define and what it becomes in the merged module correspond: each definition stands in the merged module at its number among all of its space.
-use Rattle.std.proofs.Common.{◌≡◌, ℕ, ◌+◌, ◌<◌, List, [], ◌∷◌, ◌++◌, map, length, Option, Some, None, zero, suc, append-nil, true, ◌⊎◌, inl, inr, refl, sym, ap, ap₂, subst, ◌∙◌, arith}
+use Rattle.std.proofs.Common.{◌≡◌, ℕ, ◌+◌, ◌<◌, List, [], ◌∷◌, ◌++◌, map, length, Option, Some, zero, suc, append-nil, true, ◌⊎◌, inl, inr, refl, sym, ap, ap₂, subst, ◌∙◌, arith}
 use Rattle.wasm_tree.specs.declared.space.Space.{Space}
 use Rattle.wasm_tree.specs.declared.space.Space.TheVariants.{Functions, Tables, Memories, Globals, ElementSegments, DataSegments}
 use Rattle.std.specs.Prelude.{slice_get}
 use Rattle.std.specs.List.{list_all}
-use Rattle.std.proofs.lemmas.Option.{slice_get_within}
 use Rattle.base_lists.proofs.Each.{list_all_each}
 use Rattle.base_lists.proofs.Options.{all_there_at}
 use Rattle.base_lists.proofs.Places.{slice_get_there, map_at, map_from, append_at_left, append_from}
 use Rattle.wasm_tree.specs.declared.types.ValType.TheVariants.{Ref}
-use Rattle.wasm_tree.specs.declared.module.ConstExpr.{ConstExpr}
 use Rattle.wasm_tree.specs.declared.module.Func as tree
 use Rattle.wasm_tree.specs.declared.module.GlobalDef.{GlobalDef}
 use Rattle.wasm_tree.specs.declared.module.ElemSeg.{ElemSeg}
 use Rattle.wasm_tree.specs.declared.module.ElemMode.{ElemMode}
 use Rattle.wasm_tree.specs.declared.module.ElemMode.TheVariants as elem
 use Rattle.wasm_tree.specs.declared.module.Module.{Module}
-use Rattle.wasm_valid.specs.declared.kinds.ItemKind.TheVariants as kind
-use Rattle.wasm_valid.specs.Constants.{const_type}
 use Rattle.wasm_valid.specs.Validity.{IsValid}
 use Rattle.wasm_meaning.specs.State.{Inst, Func, Elem, Store}
 use Rattle.wasm_meaning.specs.Linking.{Part, module_at}
@@ -26,11 +22,11 @@ use Rattle.wasm_meaning.specs.World.{base, defined_before, defined_count, new_fu
 use Rattle.index_remap.specs.declared.remap.Remap.{Remap}
 use Rattle.index_remap.specs.Renumbered.{fits_import, fits_func}
 use Rattle.index_remap.specs.Renumbered as renumbered
-use Rattle.index_remap.specs.Related.{Pairing, OptRel, none, some}
+use Rattle.index_remap.specs.Related.{Pairing, OptRel}
 use Rattle.world_simulation.specs.Alone.{one}
 use Rattle.world_simulation.specs.Definitions.{Instantiated, DefinedAt, values_in, FuncsCorrespond, GlobalsCorrespond, ElemsCorrespond, is_declarative, Partners, DefinitionsCorrespond}
 use Rattle.world_simulation.specs.Definitions as partners
-use Rattle.world_simulation.proofs.Places.{left_true, right_true, map_length, right_there, left_there}
+use Rattle.world_simulation.proofs.Places.{both_or_none, left_true, right_true, map_length, right_there, left_there}
 use Rattle.world_simulation.proofs.Defined.{Stands, stands}
 use Rattle.world_simulation.proofs.Defined as stand
 use Rattle.world_simulation.proofs.Stored.{func_placed, global_placed, elem_placed, func_rel, global_rel, elem_rel}
@@ -43,8 +39,8 @@ use Rattle.merge_validity.proofs.ByPart.{defined_is, by_part_at, by_part_back, b
 use Rattle.merge_worlds.specs.Instances.{PartAgrees}
 use Rattle.merge_worlds.specs.Shared.{sharing}
 use Rattle.merge_worlds.proofs.ValueShared.{is_same}
-use Rattle.merge_worlds.proofs.ValueAlone.{types_are, func_count}
-use Rattle.merge_worlds.proofs.ValueGiven.{Laws, EachAgrees}
+use Rattle.merge_worlds.proofs.ValueAlone.{is_inst, func_count}
+use Rattle.merge_worlds.proofs.ValueGiven.{Laws, EachAgrees, global_typed, item_typed}
 use Rattle.merge_worlds.proofs.Values.{const_rel}
 use Rattle.merge_worlds.proofs.Lists.{placed_rel}
 use Rattle.merge_worlds.proofs.Funcs.{funcs_correspond}
@@ -55,21 +51,6 @@ use Rattle.world_simulation.proofs.Declared.{last_segments, last_elems}
 -- ---- what holds of a valid module's items ----
 
 module _ (laws : Laws) (m : Module) (valid : IsValid m) where
-  global_typed : (n : ℕ) (g : GlobalDef) → slice_get m.globals n ≡ Some g → const_type m g.init ≡ Some g.ty.ty
-  global_typed n g h =
-      let z = (laws.items m).0 valid kind.Global n (slice_get_within m.globals n g h) in
-      let both : Some z.0 ≡ Some g = sym z.1 ∙ h in
-      let same : z.0 ≡ g = cc in
-      subst (λ (g : GlobalDef). const_type m g.init ≡ Some g.ty.ty) same z.2
-
-  item_typed : (n : ℕ) (s : ElemSeg) → slice_get m.elems n ≡ Some s → (l : ℕ) (e : ConstExpr) → slice_get s.items l ≡ Some e → const_type m e ≡ Some (Ref s.ty)
-  item_typed n s h l e at =
-      let z = (laws.items m).0 valid kind.Elem n (slice_get_within m.elems n s h) in
-      let both : Some z.0 ≡ Some s = sym z.1 ∙ h in
-      let same : z.0 ≡ s = cc in
-      let typed = subst (λ (s : ElemSeg). (l : ℕ) (e : ConstExpr) → slice_get s.items l ≡ Some e → const_type m e ≡ Some (Ref s.ty)) same z.2 in
-      typed l e (at)
-
   funcs_fit : (parts : List Part) (p : ℕ) → list_all (fits_func (map_of parts p m)) m.funcs ≡ true
   funcs_fit parts p = left_true _ _ (right_true (list_all (fits_import (map_of parts p m)) m.imports) _ (laws.entries parts p m valid))
 
@@ -101,7 +82,7 @@ module _ (laws : Laws) (env : Environment) (parts : List Part) (mode : Mode) (ca
   w = record { parts = one (joined_module parts mode); insts = j ∷ [] }
 
   funcs_alike : (p : ℕ) (m : Module) (i : Inst) → module_at parts p ≡ Some m → PartAgrees env parts p m i j → (n : ℕ) (f : tree.Func) → slice_get m.funcs n ≡ Some f → FuncsCorrespond R i j f (renumbered.new_func (map_of parts p m) f)
-  funcs_alike p m i is k n f h = funcs_correspond laws env parts p m i j k f (list_all_each (fits_func (map_of parts p m)) m.funcs (funcs_fit laws m (can.valid p m is) parts p) n f h)
+  funcs_alike p m i is k n f h = funcs_correspond env parts p m i j k laws f (list_all_each (fits_func (map_of parts p m)) m.funcs (funcs_fit laws m (can.valid p m is) parts p) n f h)
 
   globals_alike : (p : ℕ) (m : Module) → module_at parts p ≡ Some m → (n : ℕ) (g : GlobalDef) → slice_get m.globals n ≡ Some g → GlobalsCorrespond R (values_in env v p) (values_in env w 0) g (merged_global parts p g)
   globals_alike p m is n g h = record { type = refl; init = const_rel laws env parts mode can insts j each are p m g.init g.ty.ty is (global_typed laws m (can.valid p m is) n g h) }
@@ -226,13 +207,13 @@ module _ (laws : Laws) (env : Environment) (parts : List Part) (mode : Mode) (ca
     where
       more_funcs_there : (n : ℕ) (f : tree.Func) → slice_get more_funcs n ≡ Some f → (x : Func) × (new_func j f ≡ Some x)
       more_funcs_there n f h =
-          let l = last_funcs laws parts mode j (laws.valid parts mode can) (types_are laws.alone_reads laws.alone_spaces env J j are) in
+          let l = last_funcs laws parts mode j (laws.valid parts mode can) (is_inst laws.alone_reads env J j are).types in
           let r = all_there_at (new_func j) more_funcs l.results l.are n f h in
           (r.0, r.1)
 
       more_elems_there : (n : ℕ) (e : ElemSeg) → slice_get more_elems n ≡ Some e → (x : Elem) × (elem_of env M (j ∷ []) 0 e ≡ Some x)
       more_elems_there n e h =
-          let l = last_elems env J j (merged parts (names_of parts mode)) (func_count laws.alone_reads laws.alone_spaces env J j are ∙ ap length (joined_keeps parts mode).func_space) in
+          let l = last_elems env J j (merged parts (names_of parts mode)) (func_count laws.alone_reads env J j are ∙ ap length (joined_keeps parts mode).func_space) in
           let r = all_there_at (elem_of env M (j ∷ []) 0) more_elems l.0 l.1 n e h in
           (r.0, r.1)
 
@@ -250,10 +231,4 @@ module _ (laws : Laws) (env : Environment) (parts : List Part) (mode : Mode) (ca
       adds (suc q) m i is there = cc
 
   pub stores_both : OptRel (λ s z. Unit {0}) (stores_from env parts insts (own_store env) 0 parts insts) (stores_from env M (j ∷ []) (own_store env) 0 M (j ∷ []))
-  stores_both = go (stores_from env parts insts (own_store env) 0 parts insts) (stores_from env M (j ∷ []) (own_store env) 0 M (j ∷ [])) refl refl
-    where
-      go : (o p : Option Store) → stores_from env parts insts (own_store env) 0 parts insts ≡ o → stores_from env M (j ∷ []) (own_store env) 0 M (j ∷ []) ≡ p → OptRel (λ s z. Unit {0}) o p
-      go None None e f = none
-      go (Some s) (Some z) e f = some tt
-      go (Some s) None e f = absurd (let z = whole_there s e in let both : Some z.0 ≡ None = sym z.1 ∙ f in cc)
-      go None (Some z) e f = absurd (let s = parts_there z f in let both : Some s.0 ≡ None = sym s.1 ∙ e in cc)
+  stores_both = both_or_none _ _ (λ s z e f. tt) whole_there parts_there

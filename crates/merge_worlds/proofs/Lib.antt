@@ -16,13 +16,9 @@ pub mod Definitions
 pub mod Called
 pub mod SegmentTurns
 pub mod Segments
-pub mod MatchLists
 pub mod MatchTypes
 pub mod MatchLimits
-pub mod MatchFits
-pub mod MatchAlike
 pub mod MatchDefined
-pub mod MatchMerged
 pub mod MatchAll
 mod Worlds
 mod WrongMerges

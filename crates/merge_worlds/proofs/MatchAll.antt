@@ -1,49 +1,51 @@
 -- All imports of the parts match where all imports of the merged module do.
-use Rattle.std.proofs.Common.{◌≡◌, ℕ, zero, suc, ◌+◌, ◌-◌, ◌<◌, ◌≤◌, List, length, Option, Some, None, true, refl, sym, ap, ap₂, subst, ◌∙◌, arith, option_and_then, slice_get, unwrap_or, false}
+use Rattle.std.proofs.Common.{◌≡◌, ℕ, zero, suc, ◌+◌, ◌-◌, ◌<◌, ◌≤◌, List, [], ◌∷◌, length, Option, Some, None, Bool, true, refl, sym, ap, ap₂, subst, ◌∙◌, arith, option_and_then, slice_get}
+use Rattle.std.specs.Prelude.{slice_index}
+use Rattle.std.specs.List.{filter}
+use Rattle.std.proofs.lemmas.Bool.{and_parts, and_from}
+use Rattle.std.proofs.lemmas.Option.{same_Some}
 use Rattle.wasm_tree.specs.declared.space.Space.{Space}
-use Rattle.std.specs.Prelude.{nat_eq}
-use Rattle.std.proofs.lemmas.Bool.{eqb-true, eq-eqb, and_parts, and_from}
 use Rattle.wasm_tree.specs.declared.types.Limits.{Limits}
 use Rattle.wasm_tree.specs.declared.module.Import.{Import}
+use Rattle.wasm_tree.specs.declared.module.ImportDesc.{ImportDesc}
 use Rattle.wasm_tree.specs.declared.module.Module.{Module}
-use Rattle.wasm_meaning.specs.State.{Inst, Store}
-use Rattle.wasm_meaning.specs.Linking.{Part, Site, End, Defined, Outside, import_at, imports_of, same_site, is_outside, sites, linked_end, limits_of, met_limits}
 use Rattle.wasm_tree.specs.Spaces.{index_of_export, space_of_export}
+use Rattle.wasm_meaning.specs.State.{Inst, Store}
+use Rattle.wasm_meaning.specs.Linking.{Part, Site, Defined, Outside, import_at, imports_of, is_outside, sites, linked_end, limits_of, met_limits}
 use Rattle.wasm_meaning.specs.Environment.{Environment, Thing, owned_of, all_of}
-use Rattle.wasm_meaning.specs.World.{base, defined_count, thing_at, outside_thing, thing_of, imported_thing, own_store, stores_from, is_matched}
-use Rattle.export_names.specs.declared.mode.Mode.{Mode}
-use Rattle.merge_terms.specs.Faults.{External, asked_at, stays}
-use Rattle.merge_terms.specs.Joined.{joined_module}
-use Rattle.merge_validity.specs.Joinable.{CanBeJoined}
-use Rattle.merge_worlds.specs.Instances.{InstancesAgree}
+use Rattle.wasm_meaning.specs.World.{base, meets, defined_count, thing_at, outside_thing, thing_of, imported_thing, own_store, stores_from, is_matched}
 use Rattle.index_remap.specs.Related.{StoreRel}
-use Rattle.world_simulation.specs.Owned.{OwnEntitiesCorrespond}
-use Rattle.merge_worlds.specs.Shared.{sharing}
+use Rattle.export_names.specs.declared.mode.Mode.{Mode}
+use Rattle.merge_terms.specs.Faults.{External, FuncOf, asked, asked_at, stays, link_fault}
+use Rattle.merge_terms.specs.Merged.{map_of, merged_import, merged_desc, staying}
+use Rattle.merge_terms.specs.Joined.{joined_module}
+use Rattle.merge_validity.specs.Ended.{EndsInside, EndsOutside, Ended, inside, outside}
+use Rattle.merge_validity.proofs.Ends.{outside_is}
+use Rattle.merge_validity.proofs.Linked.{import_site}
+use Rattle.merge_validity.proofs.MergedSpaces.{import_is}
+use Rattle.merge_validity.proofs.Same.{site_same}
+use Rattle.world_simulation.specs.Alone.{one, site, thing_in}
 use Rattle.world_simulation.proofs.Defined.{defined_at}
-use Rattle.world_simulation.specs.Alone.{one, site, ImportsStandForTheEnvironments}
-use Rattle.merge_validity.specs.Ended.{EndsInside, EndsOutside, Ended, inside, outside, LinkedImportsEnd, StayingImportsEndThere, SitesAreImports, TypesHavePlaces}
-use Rattle.merge_worlds.proofs.MatchLists.{all_each, each_all}
-use Rattle.merge_worlds.proofs.MatchTypes.{alike_is}
+use Rattle.merge_worlds.specs.Instances.{InstancesAgree}
+use Rattle.merge_worlds.specs.Shared.{sharing}
+use Rattle.merge_worlds.proofs.SpaceLaws.{SpaceLaws}
+use Rattle.merge_worlds.proofs.Standing.{outside_rel}
+use Rattle.merge_worlds.proofs.MergedAlone.{IsStaying, staying_is, demand_of, asked_staying, moved_thing, joined_types, joined_imports}
+use Rattle.merge_worlds.proofs.MatchTypes.{type_in, Asks, func, asks_by, type_same, limits_in, kept, asked_limits, fits_limits, kept_fits, fits_kept, site_asks, site_fits, fits_site}
 use Rattle.merge_worlds.proofs.MatchLimits.{each_met, met_each}
-use Rattle.merge_worlds.proofs.MatchFits.{fits, fitting_there, there_fitting, asked_limits, limits_in, kept, fits_limits, kept_fits, fits_kept}
-use Rattle.merge_worlds.proofs.MatchDefined.{defined_fits}
-use Rattle.merge_worlds.proofs.MatchMerged.{import_site, asks_by, matched_at, moved, is_staying, stays_in, moved_matched}
+use Rattle.merge_worlds.proofs.MatchDefined.{defined_type}
 use Rattle.base_lists.proofs.Bools.{same_tests}
+use Rattle.base_lists.proofs.Filtered.{is_kept, chosen_from, has_chosen}
+use Rattle.base_lists.proofs.Options.{and_then_is}
 
--- ---- sites ----
+pub all_each : {A : Type 0} (test : A → Bool) (xs : List A) → all_of test xs ≡ true → (n : ℕ) (x : A) → slice_get xs n ≡ Some x → test x ≡ true
+all_each test [] h n x e = cc
+all_each test (y ∷ ys) h zero x e = ap test (sym (same_Some y x e)) ∙ (and_parts (test y) (all_of test ys) h).0
+all_each test (y ∷ ys) h (suc n) x e = all_each test ys (and_parts (test y) (all_of test ys) h).1 n x e
 
-site_is : (s t : Site) → same_site s t ≡ true → s ≡ t
-site_is s t h =
-    let b = and_parts (nat_eq s.part t.part) (nat_eq s.import t.import) h in
-    ap₂ (λ p n. record { part = p; import = n }) (eqb-true s.part t.part b.0) (eqb-true s.import t.import b.1)
-
-site_same : (s : Site) → same_site s s ≡ true
-site_same s = and_from (nat_eq s.part s.part) (nat_eq s.import s.import) (eq-eqb s.part s.part refl) (eq-eqb s.import s.import refl)
-
-outside_end : (u : Site) (o : Option End) → is_outside u o ≡ true → o ≡ Some (Outside u)
-outside_end u None h = cc
-outside_end u (Some (Defined e)) h = cc
-outside_end u (Some (Outside t)) h = ap (λ t. Some (Outside t)) (sym (site_is u t h))
+each_all : {A : Type 0} (test : A → Bool) (xs : List A) → ((n : ℕ) (x : A) → slice_get xs n ≡ Some x → test x ≡ true) → all_of test xs ≡ true
+each_all test [] h = refl
+each_all test (y ∷ ys) h = and_from (test y) (all_of test ys) (h 0 y refl) (each_all test ys (λ n. h (suc n)))
 
 -- the imports of a module alone
 one_site : (m : Module) (t : Site) (x : Import) → import_at (one m) t ≡ Some x → (t ≡ site t.import) × (slice_get m.imports t.import ≡ Some x)
@@ -53,11 +55,7 @@ one_site m t x h = by t.part refl h
     by zero e h = (ap (λ p. record { part = p; import = t.import }) e, h)
     by (suc p) e h = absurd (let k = h in cc)
 
-asks_of : (parts : List Part) (t : Site) (i : Import) → Ended parts t i → (x : External) × (asked_at parts t ≡ Some x)
-asks_of parts t i (inside w) = (w.demand, w.asks)
-asks_of parts t i (outside w) = (w.demand, w.asks)
-
-module _ (ends_law : LinkedImportsEnd) (stays_law : StayingImportsEndThere) (sites_law : SitesAreImports) (types_law : TypesHavePlaces) (alone_law : ImportsStandForTheEnvironments) (own_law : OwnEntitiesCorrespond) (env : Environment) (parts : List Part) (mode : Mode) (can : CanBeJoined parts mode) where
+module _ (laws : SpaceLaws) (env : Environment) (parts : List Part) (linked : link_fault parts ≡ None) (mode : Mode) where
   abbrev whole : Module
   whole = joined_module parts mode
 
@@ -65,21 +63,14 @@ module _ (ends_law : LinkedImportsEnd) (stays_law : StayingImportsEndThere) (sit
   own u = outside_thing (owned_of env) parts u
 
   ended : (t : Site) (i : Import) → import_at parts t ≡ Some i → Ended parts t i
-  ended = ends_law parts can.linked
+  ended = laws.ends parts linked
 
   -- an import that ends outside stands for what the one stands for which stays
-  outside_thing_is : (t : Site) (i : Import) (w : EndsOutside parts t i) → imported_thing env parts t ≡ own w.to
-  outside_thing_is t i w = ap (λ o. option_and_then (thing_of env parts) o) w.end ∙ w.same_thing (owned_of env)
-
-  staying_thing_is : (u : Site) (j : Import) → import_at parts u ≡ Some j → stays parts u ≡ true → imported_thing env parts u ≡ own u
-  staying_thing_is u j at remains = ap (λ o. option_and_then (thing_of env parts) o) (stays_law parts can.linked u j at remains).0
-
-  -- ---- from the parts to the merged module ----
+  thing_outside : (t : Site) (i : Import) (w : EndsOutside parts t i) → imported_thing env parts t ≡ own w.to
+  thing_outside t i w = ap (option_and_then (thing_of env parts)) w.end ∙ w.same_thing (owned_of env)
 
   -- an import that ends at a staying one
   record EndsAt (u t : Site) : Type 0 where
-    import : Import
-    at : import_at parts t ≡ Some import
     demand : External
     asks : asked_at parts t ≡ Some demand
     thing : imported_thing env parts t ≡ own u
@@ -87,76 +78,97 @@ module _ (ends_law : LinkedImportsEnd) (stays_law : StayingImportsEndThere) (sit
   ends_at : (u t : Site) (i : Import) → import_at parts t ≡ Some i → is_outside u (linked_end parts t) ≡ true → EndsAt u t
   ends_at u t i at h = by (ended t i at)
     where
-      linked : linked_end parts t ≡ Some (Outside u)
-      linked = outside_end u (linked_end parts t) h
+      linked_to : linked_end parts t ≡ Some (Outside u)
+      linked_to = outside_is u (linked_end parts t) h
 
       by : Ended parts t i → EndsAt u t
-      by (inside w) = absurd (let both : Some (Defined w.entity) ≡ Some (Outside u) = sym w.linked ∙ linked in cc)
+      by (inside w) = absurd (let both : Some (Defined w.entity) ≡ Some (Outside u) = sym w.linked ∙ linked_to in cc)
       by (outside w) =
-          let both : Some (Outside w.to) ≡ Some (Outside u) = sym w.linked ∙ linked in
+          let both : Some (Outside w.to) ≡ Some (Outside u) = sym w.linked ∙ linked_to in
           let same : w.to ≡ u = cc in
-          record { import = i; at = at; demand = w.demand; asks = w.asks; thing = outside_thing_is t i w ∙ ap own same }
+          record { demand = w.demand; asks = w.asks; thing = thing_outside t i w ∙ ap own same }
 
-  demand_limits : (t : Site) (i : Import) (x : External) (l : Limits) → import_at parts t ≡ Some i → asked_at parts t ≡ Some x → option_and_then (λ i. limits_of i.desc) (import_at parts t) ≡ Some l → limits_in x ≡ Some l
-  demand_limits t i x l at asks h = let m = import_site parts t i at in sym (asked_limits m.0 i.desc x (asks_by parts t m.0 i x m.1 m.2 asks)) ∙ sym (ap (λ o. option_and_then (λ i. limits_of i.desc) o) at) ∙ h
+  -- ---- an import that stays, in the merged module ----
 
-  limits_demand : (t : Site) (i : Import) (x : External) (l : Limits) → import_at parts t ≡ Some i → asked_at parts t ≡ Some x → limits_in x ≡ Some l → option_and_then (λ i. limits_of i.desc) (import_at parts t) ≡ Some l
-  limits_demand t i x l at asks h = let m = import_site parts t i at in ap (λ o. option_and_then (λ i. limits_of i.desc) o) at ∙ asked_limits m.0 i.desc x (asks_by parts t m.0 i x m.1 m.2 asks) ∙ h
+  module _ (u : Site) (w : IsStaying parts u) (y : External) (asks : asked_at parts u ≡ Some y) (n : ℕ) (stands : slice_get whole.imports n ≡ Some (record w.import { desc = merged_desc parts u w.of w.import.desc })) where
+    -- it asks for the same, with the limits that are asked for together
+    moved_asks : {d : ImportDesc} {y : External} → Asks w.of d y → asked whole (merged_desc parts u w.of d) ≡ Some (kept y (met_limits parts u))
+    moved_asks (func {ty = ty} {t = t} e) =
+        ap (option_and_then (λ t. Some (FuncOf t))) (ap (λ ts. slice_get ts (slice_index (map_of parts u.part w.of).types ty)) (joined_types parts mode) ∙ laws.types parts u.part w.of ty t w.is_part e)
+    moved_asks _ = refl
+
+    pub site_demands : asked_at (one whole) (site n) ≡ Some (kept y (met_limits parts u))
+    site_demands = ap (option_and_then (λ i. asked whole i.desc)) stands ∙ moved_asks (asks_by w.of w.import.desc y (asked_staying parts u w y asks))
+
+    pub site_thing : imported_thing env (one whole) (site n) ≡ own u
+    site_thing = laws.things env whole n ∙ ap₂ (thing_in env) (joined_types parts mode) stands ∙ moved_thing laws env parts linked u w
+
+  -- ---- both stores ----
 
   module _ {s z : Store} (like : StoreRel (sharing env parts) s z) where
-    -- what an import fits that is matched
-    fits_at : (t : Site) (i : Import) (x : External) (th : Thing) → import_at parts t ≡ Some i → asked_at parts t ≡ Some x → imported_thing env parts t ≡ Some th → is_matched env parts s t ≡ true → fits s x th ≡ Some true
-    fits_at t i x th at asks is h =
-        let r = fitting_there s x (imported_thing env parts t) (sym (matched_at env parts s t i x at asks) ∙ h) in
-        let both : Some r.0 ≡ Some th = sym r.1 ∙ is in
-        let same : r.0 ≡ th = cc in
-        ap (fits s x) (sym same) ∙ r.2
+    abbrev AllMatch : Type 0
+    AllMatch = all_of (is_matched env parts s) (sites parts) ≡ true
 
-    there : (all : all_of (is_matched env parts s) (sites parts) ≡ true) (u : Site) (j : Import) (y : External) (th : Thing) → own u ≡ Some th → fits s y th ≡ Some true → fits s (kept y (met_limits parts u)) th ≡ Some true
-    there all u j y th is h = kept_fits s y th (met_limits parts u) h (λ size most e. each_met size most parts u (sites parts) (λ n t l stands outside demand.
-        let i = (sites_law parts t).0 n stands in
-        let a = ends_at u t i.0 i.1 outside in
-        fits_limits s a.demand th l size most (fits_at t a.import a.demand th a.at a.asks (a.thing ∙ is) (all_each (is_matched env parts s) (sites parts) all n t stands)) (demand_limits t a.import a.demand l a.at a.asks demand) e))
+    -- the environment's own has one type in both
+    own_type : (u : Site) (th : Thing) → own u ≡ Some th → type_in s th ≡ type_in z th
+    own_type u th h = type_same (sharing env parts) like (outside_rel env parts laws.own u th h)
 
-    merged_matches : all_of (is_matched env parts s) (sites parts) ≡ true → (n : ℕ) (x : Import) → slice_get whole.imports n ≡ Some x → is_matched env (one whole) z (site n) ≡ true
+    -- the limits of what a staying import stands for meet those that are asked for together
+    met_there : AllMatch → (u : Site) (th : Thing) (type : External) → own u ≡ Some th → type_in s th ≡ Some type → (k : Limits) → limits_in type ≡ Some k → (n : ℕ) (t : Site) (l : Limits) →
+        slice_get (sites parts) n ≡ Some t → is_outside u (linked_end parts t) ≡ true → option_and_then (λ i. limits_of i.desc) (import_at parts t) ≡ Some l → meets k.min k.max l ≡ true
+    met_there all u th type is typed k limits n t l stands ends demands =
+        let i = (laws.sites parts t).0 n stands in
+        let a = ends_at u t i.0 i.1 ends in
+        let f = site_fits env parts s t i.0 a.demand i.1 a.asks (all_each _ (sites parts) all n t stands) in
+        let things : f.thing ≡ th = same_Some _ _ (sym f.is ∙ a.thing ∙ is) in
+        let types : f.type ≡ type = same_Some _ _ (sym f.typed ∙ ap (type_in s) things ∙ typed) in
+        fits_limits a.demand f.type l k f.fits (sym (asked_limits (site_asks env parts s t i.0 a.demand i.1 a.asks)) ∙ sym (ap (option_and_then (λ i. limits_of i.desc)) i.1) ∙ demands) (ap limits_in types ∙ limits)
+
+    merged_matches : AllMatch → (n : ℕ) (x : Import) → slice_get whole.imports n ≡ Some x → is_matched env (one whole) z (site n) ≡ true
     merged_matches all n x h =
-        let w = is_staying parts mode n x h in
-        let u = w.site in
-        let j = w.import in
-        let y = asks_of parts u j (ended u j w.at) in
-        let m = import_site parts u j w.at in
-        let asks = asks_by parts u m.0 j y.0 m.1 m.2 y.1 in
-        let both : Some w.of ≡ Some m.0 = sym w.is_part ∙ m.1 in
-        let same : w.of ≡ m.0 = cc in
-        let own_is = staying_thing_is u j w.at w.remains in
-        let r = fitting_there s y.0 (imported_thing env parts u) (sym (matched_at env parts s u j y.0 w.at y.1) ∙ all_each (is_matched env parts s) (sites parts) all w.place_in u w.stands) in
-        let th_is : own u ≡ Some r.0 = sym own_is ∙ r.1 in
-        moved_matched types_law parts mode u m.0 m.1 alone_law own_law env j y.0 w.at asks n (h ∙ ap Some w.is ∙ ap (λ m. Some (moved parts u m j)) same) like
-        ∙ there_fitting s (kept y.0 (met_limits parts u)) (own u) r.0 th_is (there all u j y.0 r.0 th_is r.2)
+        let c = chosen_from (merged_import parts) (staying parts) n x (ap (λ is. slice_get is n) (sym (joined_imports parts mode)) ∙ h) in
+        let u = c.0 in
+        let w = staying_is laws parts c.1.0 u c.1.1 in
+        let y = demand_of (ended u w.import w.at) in
+        let stands = h ∙ sym c.2 ∙ import_is parts u w.of w.import w.is_part w.at in
+        let in_sites = (laws.sites parts u).1 w.import w.at in
+        let f = site_fits env parts s u w.import y.0 w.at y.1 (all_each _ (sites parts) all in_sites.0 u in_sites.1) in
+        let is : own u ≡ Some f.thing = sym (ap (option_and_then (thing_of env parts)) (laws.stays parts linked u w.import w.at w.remains).0) ∙ f.is in
+        fits_site env (one whole) z (site n) _ _ stands (site_demands u w y.0 y.1 n stands) (record {
+          thing = f.thing;
+          is = site_thing u w y.0 y.1 n stands ∙ is;
+          type = f.type;
+          typed = sym (own_type u f.thing is) ∙ f.typed;
+          fits = kept_fits y.0 f.type (met_limits parts u) f.fits (λ k e. each_met k.min k.max parts u (sites parts) (met_there all u f.thing f.type is f.typed k e));
+        })
 
-    all_merged_match : all_of (is_matched env parts s) (sites parts) ≡ true → all_of (is_matched env (one whole) z) (sites (one whole)) ≡ true
-    all_merged_match all = each_all (is_matched env (one whole) z) (sites (one whole)) (λ n t stands.
-        let x = (sites_law (one whole) t).0 n stands in
+    all_merged_match : AllMatch → all_of (is_matched env (one whole) z) (sites (one whole)) ≡ true
+    all_merged_match all = each_all _ (sites (one whole)) (λ n t stands.
+        let x = (laws.sites (one whole) t).0 n stands in
         let o = one_site whole t x.0 x.1 in
         ap (is_matched env (one whole) z) o.0 ∙ merged_matches all t.import x.0 o.1)
 
-    -- ---- from the merged module to the parts ----
-
     outside_matches : all_of (is_matched env (one whole) z) (sites (one whole)) ≡ true → (k : ℕ) (t : Site) (i : Import) → slice_get (sites parts) k ≡ Some t → import_at parts t ≡ Some i → EndsOutside parts t i → is_matched env parts s t ≡ true
+    unfolding staying
     outside_matches all k t i stands at w =
         let u = w.to in
-        let j = w.import in
-        let m = import_site parts u j w.at in
-        let asks = asks_by parts u m.0 j w.thing m.1 m.2 w.is in
-        let in_sites = (sites_law parts u).1 j w.at in
-        let c = stays_in parts mode u m.0 j in_sites.0 m.1 w.at in_sites.1 w.remains in
-        let there = (sites_law (one whole) (site c.0)).1 (moved parts u m.0 j) c.1 in
-        let matched : is_matched env (one whole) z (site c.0) ≡ true = all_each (is_matched env (one whole) z) (sites (one whole)) all there.0 (site c.0) there.1 in
-        let r = fitting_there s (kept w.thing (met_limits parts u)) (own u) (sym (moved_matched types_law parts mode u m.0 m.1 alone_law own_law env j w.thing w.at asks c.0 c.1 like) ∙ matched) in
-        let ends_here : is_outside u (linked_end parts t) ≡ true = ap (is_outside u) w.linked ∙ site_same u in
-        matched_at env parts s t i w.demand at w.asks
-        ∙ there_fitting s w.demand (imported_thing env parts t) r.0 (outside_thing_is t i w ∙ r.1) (fits_kept (alike_is w.demand w.thing w.same) s r.0 (met_limits parts u) r.2
-        (λ l is size most h. met_each size most parts u (sites parts) h k t l stands ends_here (limits_demand t i w.demand l at w.asks is)))
+        let m = import_site parts u w.import w.at in
+        let v : IsStaying parts u = record { import = w.import; at = w.at; remains = w.remains; of = m.0; is_part = m.1; stands = m.2 } in
+        let in_sites = (laws.sites parts u).1 w.import w.at in
+        let a = is_kept (stays parts) (sites parts) in_sites.0 u in_sites.1 w.remains in
+        let c = has_chosen (merged_import parts) (filter (stays parts) (sites parts)) a.0 u _ a.1 (import_is parts u m.0 w.import m.1 w.at) in
+        let moved = ap (λ is. slice_get is c.0) (joined_imports parts mode) ∙ c.1 in
+        let there = (laws.sites (one whole) (site c.0)).1 _ moved in
+        let f = site_fits env (one whole) z (site c.0) _ _ moved (site_demands u v w.thing w.is c.0 moved) (all_each _ (sites (one whole)) all there.0 (site c.0) there.1) in
+        let is : own u ≡ Some f.thing = sym (site_thing u v w.thing w.is c.0 moved) ∙ f.is in
+        fits_site env parts s t i w.demand at w.asks (record {
+          thing = f.thing;
+          is = thing_outside t i w ∙ is;
+          type = f.type;
+          typed = own_type u f.thing is ∙ f.typed;
+          fits = fits_kept w.demand w.thing f.type (met_limits parts u) w.same f.fits (λ l e size most h. met_each size most parts u (sites parts) h k t l stands (ap (is_outside u) w.linked ∙ site_same u)
+              (ap (option_and_then (λ i. limits_of i.desc)) at ∙ asked_limits (site_asks env parts s t i w.demand at w.asks) ∙ e));
+        })
 
     module _ (insts js : List Inst) (agree : InstancesAgree env parts insts js) (made : stores_from env parts insts (own_store env) 0 parts insts ≡ Some s) where
       inside_matches : (t : Site) (i : Import) → import_at parts t ≡ Some i → EndsInside parts t i → is_matched env parts s t ≡ true
@@ -166,19 +178,22 @@ module _ (ends_law : LinkedImportsEnd) (stays_law : StayingImportsEndThere) (sit
           let a = agree.each e.part w.of w.is_part in
           let follows : length (imports_of k w.of) ≤ index_of_export e.what = subst (λ (k : Space). length (imports_of k w.of) ≤ index_of_export e.what) (sym w.kind) w.follows in
           let within : index_of_export e.what < length (imports_of k w.of) + defined_count k w.of = subst (λ (k : Space). index_of_export e.what < length (imports_of k w.of) + defined_count k w.of) (sym w.kind) w.within in
-          let thing : imported_thing env parts t ≡ thing_at k (base env parts k e.part + (index_of_export e.what - length (imports_of k w.of))) =
-          ap (λ o. option_and_then (thing_of env parts) o) w.end
-          ∙ defined_at env parts e w.of w.is_part (omega (arith, follows, within)) in
-          matched_at env parts s t i w.demand at w.asks
-          ∙ ap (λ o. unwrap_or (option_and_then (fits s w.demand) o) false) thing
-          ∙ ap (λ o. unwrap_or o false) (defined_fits env parts insts s made e.part w.of a.0 w.is_part a.1 a.2.own_types e.what w.demand w.thing w.is follows w.same w.meets)
+          let at_k = thing_at k (base env parts k e.part + (index_of_export e.what - length (imports_of k w.of))) in
+          let th = and_then_is at_k (type_in s) w.thing (defined_type env (record { parts = parts; insts = insts }) s made e.part w.of a.0 w.is_part a.1 a.2.own_types e.what w.thing w.is follows) in
+          fits_site env parts s t i w.demand at w.asks (record {
+            thing = th.0;
+            is = ap (option_and_then (thing_of env parts)) w.end ∙ defined_at env parts e w.of w.is_part (omega (arith, follows, within)) ∙ th.1;
+            type = w.thing;
+            typed = th.2;
+            fits = record { same = w.same; meets = w.meets };
+          })
 
-      all_parts_match : all_of (is_matched env (one whole) z) (sites (one whole)) ≡ true → all_of (is_matched env parts s) (sites parts) ≡ true
-      all_parts_match all = each_all (is_matched env parts s) (sites parts) (λ k t stands. let i = (sites_law parts t).0 k stands in by k t i.0 stands i.1 (ended t i.0 i.1))
+      all_parts_match : all_of (is_matched env (one whole) z) (sites (one whole)) ≡ true → AllMatch
+      all_parts_match all = each_all _ (sites parts) (λ k t stands. let i = (laws.sites parts t).0 k stands in by k t i.0 stands i.1 (ended t i.0 i.1))
         where
           by : (k : ℕ) (t : Site) (i : Import) → slice_get (sites parts) k ≡ Some t → import_at parts t ≡ Some i → Ended parts t i → is_matched env parts s t ≡ true
           by k t i stands at (inside w) = inside_matches t i at w
           by k t i stands at (outside w) = outside_matches all k t i stands at w
 
       pub all_matched : all_of (is_matched env parts s) (sites parts) ≡ all_of (is_matched env (one whole) z) (sites (one whole))
-      all_matched = same_tests (all_of (is_matched env parts s) (sites parts)) (all_of (is_matched env (one whole) z) (sites (one whole))) all_merged_match all_parts_match
+      all_matched = same_tests _ _ all_merged_match all_parts_match

@@ -2,13 +2,11 @@
 use Rattle.std.proofs.Common.{◌≡◌, ℕ, ◌+◌, ◌<◌, List, ◌++◌, map, length, Some, sym, ap, subst, ◌∙◌, option_and_then}
 use Rattle.std.specs.Prelude.{slice_get}
 use Rattle.std.specs.List.{flat_map}
-use Rattle.std.proofs.lemmas.Option.{slice_get_within}
 use Rattle.base_lists.proofs.Options.{all_there_from, AllThere}
 use Rattle.base_lists.proofs.Places.{slice_get_there, append_right}
 use Rattle.wasm_tree.specs.declared.module.ElemSeg.{ElemSeg}
 use Rattle.wasm_tree.specs.declared.module.Func as tree
 use Rattle.wasm_tree.specs.declared.module.Module.{Module}
-use Rattle.wasm_valid.specs.declared.kinds.ItemKind.TheVariants as kind
 use Rattle.wasm_valid.specs.Validity.{IsValid}
 use Rattle.wasm_meaning.specs.State.{Inst, Code}
 use Rattle.wasm_meaning.specs.Values.{declared}
@@ -21,7 +19,7 @@ use Rattle.index_remap.specs.Renumbered as renumbered
 use Rattle.wasm_tree.specs.declared.module.GlobalDef.{GlobalDef}
 use Rattle.wasm_tree.specs.declared.module.DataSeg.{DataSeg}
 use Rattle.merge_terms.specs.Merged.{map_of, by_part_from, starts, start_calls, defined_funcs, merged, merged_global, merged_elem, merged_data}
-use Rattle.merge_worlds.proofs.ValueGiven.{Laws}
+use Rattle.merge_worlds.proofs.ValueGiven.{Laws, func_typed}
 use Rattle.merge_worlds.proofs.MergedAlone.{joined_keeps, names_of}
 use Rattle.world_simulation.proofs.Declared.{last_segments}
 
@@ -67,13 +65,6 @@ calls parts = start_calls parts (starts parts)
 
 pub call_at : (parts : List Part) (mode : Mode) (n : ℕ) (f : tree.Func) → slice_get (start_calls parts (starts parts)) n ≡ Some f → slice_get (joined_module parts mode).funcs (length (by_part_from (part_funcs parts) 0 parts) + n) ≡ Some f
 call_at parts mode n f h = ap (λ fs. slice_get fs (length (before_calls parts) + n)) (by_part_is parts mode).funcs ∙ append_right (before_calls parts) (calls parts) n ∙ h
-
-func_typed : (laws : Laws) (m : Module) → IsValid m → (n : ℕ) (f : tree.Func) → slice_get m.funcs n ≡ Some f → f.ty < length m.types
-func_typed laws m valid n f h =
-    let z = (laws.items m).0 valid kind.Func n (slice_get_within m.funcs n f h) in
-    let both : Some z.0 ≡ Some f = sym z.1 ∙ h in
-    let same : z.0 ≡ f = cc in
-    subst (λ (f : tree.Func). f.ty < length m.types) same z.2
 
 -- it is allocated
 pub last_funcs : (laws : Laws) (parts : List Part) (mode : Mode) (j : Inst) → IsValid (joined_module parts mode) → j.types ≡ (joined_module parts mode).types → AllThere (new_func j) (start_calls parts (starts parts))

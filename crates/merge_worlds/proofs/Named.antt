@@ -1,27 +1,15 @@
--- What the exports and starts of the parts name: the same addresses in both worlds.
-use Rattle.std.proofs.Common.{◌≡◌, ap, subst, refl, ℕ, suc, ◌+◌, List, [], ◌∷◌, map, Some, Bool, true, arith, option_and_then, slice_get}
-use Rattle.wasm_tree.specs.declared.space.Space.{Space}
-use Rattle.wasm_tree.specs.declared.space.Space.TheVariants.{Functions, Tables, Memories, Globals}
-use Rattle.std.specs.Prelude.{IsTrue, slice_index}
-use Rattle.std.proofs.lemmas.Bool.{ltb-true}
-use Rattle.wasm_tree.specs.declared.module.ExportDesc.{ExportDesc}
-use Rattle.wasm_tree.specs.declared.module.ExportDesc.TheVariants as ex
+-- What fits of a part whose map has an entry for each index that it names; and lists by part that are related.
+use Rattle.std.proofs.Common.{◌≡◌, subst, refl, ℕ, suc, ◌+◌, List, [], ◌∷◌, map, Some, Bool, true, arith}
+use Rattle.std.specs.Prelude.{IsTrue}
 use Rattle.wasm_tree.specs.declared.module.Module.{Module}
-use Rattle.wasm_meaning.specs.State.{Inst}
 use Rattle.wasm_meaning.specs.Linking.{Part, module_at}
-use Rattle.wasm_meaning.specs.Environment.{Environment, Thing, FuncAt, TableAt, MemoryAt, GlobalAt}
-use Rattle.wasm_meaning.specs.World.{address_in}
 use Rattle.index_remap.specs.declared.remap.Remap.{Remap}
 use Rattle.std.specs.List.{list_all}
-use Rattle.index_remap.specs.Renumbered.{fits_tree, fits_import, fits_func, fits_global, fits_export, fits_export_desc, fits_start, new_export_desc}
-use Rattle.index_remap.specs.Related.{OptRel, some, ListRel, nil, cons}
-use Rattle.index_remap.specs.RelatedRuns.{ThingRel, a_func, a_table, a_memory, a_global}
+use Rattle.index_remap.specs.Renumbered.{fits_tree, fits_import, fits_func, fits_global, fits_export, fits_start}
+use Rattle.index_remap.specs.Related.{ListRel, nil, cons}
 use Rattle.index_remap.proofs.Rel.{append_rel}
 use Rattle.merge_terms.specs.Merged.{map_of, by_part_from}
-use Rattle.world_simulation.proofs.Places.{left_true, right_true, opt_at}
-use Rattle.merge_worlds.specs.Shared.{sharing}
-use Rattle.merge_worlds.specs.Instances.{SameAddress, PartAgrees}
-use Rattle.merge_worlds.proofs.Standing.{is_shared_at}
+use Rattle.world_simulation.proofs.Places.{left_true, right_true}
 
 -- each map of a part has an entry for each index that the part names
 abbrev pub AllFit : List Part → Type 0
@@ -47,17 +35,3 @@ by_part_rel {P = P} f g first (part ∷ parts) h =
 pub tested_maps : {A B C : Type 0} {P : B → C → Type 0} (test : A → Bool) (f : A → B) (g : A → C) (xs : List A) → list_all test xs ≡ true → ((x : A) → test x ≡ true → P (f x) (g x)) → ListRel P (map f xs) (map g xs)
 tested_maps test f g [] t h = nil
 tested_maps test f g (x ∷ xs) t h = cons (h x (left_true _ _ t)) (tested_maps test f g xs (right_true (test x) _ t) h)
-
--- ---- exports ----
-
-module _ (env : Environment) (parts : List Part) (p : ℕ) (m : Module) (i j : Inst) (agrees : PartAgrees env parts p m i j) where
-  named : (k : Space) (xs ys entries : List ℕ) (x : ℕ) (thing : ℕ → Thing) → ((a : ℕ) → (sharing env parts).of k a a → ThingRel (sharing env parts) (thing a) (thing a)) → SameAddress env parts k xs ys entries x →
-      OptRel (ThingRel (sharing env parts)) (option_and_then (λ a. Some (thing a)) (slice_get xs x)) (option_and_then (λ a. Some (thing a)) (slice_get ys (slice_index entries x)))
-  named k xs ys entries x thing rel s =
-      opt_at (ap (λ o. option_and_then (λ a. Some (thing a)) o) s.first) (ap (λ o. option_and_then (λ a. Some (thing a)) o) s.second) (some (rel s.address (is_shared_at env parts k s.address s.shared)))
-
-  pub export_named : (d : ExportDesc) → fits_export_desc (map_of parts p m) d ≡ true → OptRel (ThingRel (sharing env parts)) (address_in i d) (address_in j (new_export_desc (map_of parts p m) d))
-  export_named (ex.Func x) h = named Functions i.funcs j.funcs (map_of parts p m).funcs x FuncAt (λ a r. a_func r) (agrees.funcs.each x (ltb-true _ _ h))
-  export_named (ex.Table x) h = named Tables i.tables j.tables (map_of parts p m).tables x TableAt (λ a r. a_table r) (agrees.tables.each x (ltb-true _ _ h))
-  export_named (ex.Memory x) h = named Memories i.mems j.mems (map_of parts p m).mems x MemoryAt (λ a r. a_memory r) (agrees.mems.each x (ltb-true _ _ h))
-  export_named (ex.Global x) h = named Globals i.globals j.globals (map_of parts p m).globals x GlobalAt (λ a r. a_global r) (agrees.globals.each x (ltb-true _ _ h))

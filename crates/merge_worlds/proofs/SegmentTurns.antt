@@ -1,101 +1,118 @@
--- Segments by part, one after the other, and the same segments of one module.
+-- Segments of one kind by part, one after the other, and the same segments of one module.
 use Rattle.std.proofs.Common.{◌≡◌, ℕ, zero, suc, ◌+◌, ◌<◌, List, [], ◌∷◌, ◌++◌, map, length, Some, refl, sym, ap, subst, ◌∙◌, arith, append_assoc, drop, slice_get}
-use Rattle.wasm_tree.specs.declared.space.Space.TheVariants.{DataSegments, ElementSegments}
+use Rattle.std.proofs.lemmas.List.{drop-drop, append-nil}
+use Rattle.std.proofs.lemmas.Option.{same_Some, slice_get_within}
+use Rattle.wasm_tree.specs.declared.space.Space.{Space}
 use Rattle.wasm_tree.specs.declared.module.Module.{Module}
 use Rattle.wasm_meaning.specs.State.{Inst}
 use Rattle.wasm_meaning.specs.Linking.{Part, module_at}
-use Rattle.wasm_meaning.specs.World.{Task, tasks_in, defined_before}
+use Rattle.wasm_meaning.specs.Environment.{Environment}
+use Rattle.wasm_meaning.specs.World.{Task, tasks_in, defined_count, defined_before, numbers}
 use Rattle.merge_terms.specs.Merged.{by_part_from}
 use Rattle.world_simulation.specs.Segments.{InOrder, both}
+use Rattle.world_simulation.proofs.Instancing.{addresses_in}
 use Rattle.world_simulation.proofs.Ordered.{tasks_by}
-use Rattle.base_lists.proofs.Places.{drop_at}
-use Rattle.std.proofs.lemmas.List.{drop-drop}
+use Rattle.merge_worlds.specs.Instances.{SpaceAgrees}
+use Rattle.merge_worlds.specs.Shared.{shared_count}
+use Rattle.base_lists.proofs.Numbers.{length-numbers, numbers_at}
+use Rattle.base_lists.proofs.Places.{drop_at, slice_index_is}
 
-pub elems_start : (parts : List Part) → defined_before ElementSegments parts 0 ≡ 0
-elems_start [] = refl
-elems_start (part ∷ parts) = refl
+before_start : (k : Space) (parts : List Part) → defined_before k parts 0 ≡ 0
+before_start k [] = refl
+before_start k (part ∷ parts) = refl
 
-pub datas_start : (parts : List Part) → defined_before DataSegments parts 0 ≡ 0
-datas_start [] = refl
-datas_start (part ∷ parts) = refl
-
-pub elems_next : (parts : List Part) (p : ℕ) (m : Module) → module_at parts p ≡ Some m → defined_before ElementSegments parts (suc p) ≡ defined_before ElementSegments parts p + length m.elems
-elems_next [] p m h = cc
-elems_next (part ∷ parts) zero m h =
-    let same : part.«module» ≡ m = cc in
-    let n = elems_start parts in
-    let l : length part.«module».elems ≡ length m.elems = ap (λ (m : Module). length m.elems) same in
+before_next : (k : Space) (parts : List Part) (p : ℕ) (m : Module) → module_at parts p ≡ Some m → defined_before k parts (suc p) ≡ defined_before k parts p + defined_count k m
+before_next k [] p m h = cc
+before_next k (part ∷ parts) zero m h =
+    let n = before_start k parts in
+    let l = ap (defined_count k) (same_Some _ _ h) in
     omega (arith, n, l)
-elems_next (part ∷ parts) (suc p) m h = let n = elems_next parts p m h in omega (arith, n)
-
-pub datas_next : (parts : List Part) (p : ℕ) (m : Module) → module_at parts p ≡ Some m → defined_before DataSegments parts (suc p) ≡ defined_before DataSegments parts p + length m.datas
-datas_next [] p m h = cc
-datas_next (part ∷ parts) zero m h =
-    let same : part.«module» ≡ m = cc in
-    let n = datas_start parts in
-    let l : length part.«module».datas ≡ length m.datas = ap (λ (m : Module). length m.datas) same in
-    omega (arith, n, l)
-datas_next (part ∷ parts) (suc p) m h = let n = datas_next parts p m h in omega (arith, n)
-
--- ---- in turn ----
+before_next k (part ∷ parts) (suc p) m h = let n = before_next k parts p m h in omega (arith, n)
 
 -- a place at which one address stands in both lists
-pub record OneAddress (xs ys : List ℕ) (n k : ℕ) : Type 0 where
-  pub address : ℕ
-  pub first : slice_get xs n ≡ Some address
-  pub second : slice_get ys k ≡ Some address
+record OneAddress (xs ys : List ℕ) (n : ℕ) : Type 0 where
+  address : ℕ
+  first : slice_get xs n ≡ Some address
+  second : slice_get ys n ≡ Some address
 
 abbrev pub task : {A : Type 0} → ℕ → Inst → ℕ → A → Task A
 task p i a x = record { part = p; inst = i; address = a; segment = x }
 
--- A part's segments stand in the merged module from a place on, with the addresses that they have, and each has its partner there.
-pub record PartStands {A : Type 0} (partners : Task A → Task A → Type 0) (insts : List Inst) (j : Inst) (segs : Module → List A) (adds : Inst → List ℕ) (new : ℕ → Module → A → A) (before : ℕ → ℕ) (p : ℕ) (m : Module) : Type 0 where
-  pub inst : Inst
-  pub is : slice_get insts p ≡ Some inst
-  pub same : (x : ℕ) → x < length (segs m) → OneAddress (adds inst) (adds j) x (before p + x)
-  pub each : (x a : ℕ) (e : A) → slice_get (segs m) x ≡ Some e → slice_get (adds inst) x ≡ Some a → partners (task p inst a e) (task 0 j a (new p m e))
+module _ {A : Type 0} (k : Space) (segs : Module → List A) (counts : (m : Module) → defined_count k m ≡ length (segs m)) (partners : Task A → Task A → Type 0) (first second : Task A → Type 0) (env : Environment) (parts : List Part) (insts : List Inst) (j : Inst) (new : ℕ → Module → A → A) where
+  abbrev Ordered : List (Task A) → List (Task A) → Type 0
+  Ordered xs ys = InOrder partners first second xs ys
 
-module _ {A : Type 0} (partners : Task A → Task A → Type 0) (first second : Task A → Type 0) (j : Inst) where
+  -- A part's segments stand in the merged module behind those of the parts before it, with the addresses that they have, and each has its partner there.
+  pub record PartStands (p : ℕ) (m : Module) : Type 0 where
+    pub inst : Inst
+    pub is : slice_get insts p ≡ Some inst
+    pub agrees : SpaceAgrees env parts k (addresses_in k inst) (addresses_in k j) (numbers (defined_before k parts p) (length (segs m)))
+    pub each : (x a : ℕ) (e : A) → slice_get (segs m) x ≡ Some e → a < shared_count env parts k → partners (task p inst a e) (task 0 j a (new p m e))
+
   -- the segments of one part, and then others
   in_part : (p : ℕ) (i : Inst) (new : A → A) (xs ys : List ℕ) (es : List A) (rest : List (Task A)) (more : List A) →
-      ((x : ℕ) → x < length es → OneAddress xs ys x x) → ((x a : ℕ) (e : A) → slice_get es x ≡ Some e → slice_get xs x ≡ Some a → partners (task p i a e) (task 0 j a (new e))) →
-      InOrder partners first second rest (tasks_in 0 j (drop (length es) ys) more) → InOrder partners first second (tasks_in p i xs es ++ rest) (tasks_in 0 j ys (map new es ++ more))
+      ((x : ℕ) → x < length es → OneAddress xs ys x) → ((x a : ℕ) (e : A) → slice_get es x ≡ Some e → slice_get xs x ≡ Some a → partners (task p i a e) (task 0 j a (new e))) →
+      Ordered rest (tasks_in 0 j (drop (length es) ys) more) → Ordered (tasks_in p i xs es ++ rest) (tasks_in 0 j ys (map new es ++ more))
   in_part p i new [] ys [] rest more same each then = then
   in_part p i new (x ∷ xs) ys [] rest more same each then = then
   in_part p i new [] ys (e ∷ es) rest more same each then = let o = same 0 (omega arith) in let k = o.first in cc
   in_part p i new (x ∷ xs) [] (e ∷ es) rest more same each then = let o = same 0 (omega arith) in let k = o.second in cc
   in_part p i new (x ∷ xs) (y ∷ ys) (e ∷ es) rest more same each then =
       let o = same 0 (omega arith) in
-      let first = o.first in
-      let second = o.second in
-      let is : x ≡ y = cc in
+      let is : x ≡ y = same_Some _ _ (o.first ∙ sym o.second) in
       both (subst (λ a. partners (task p i x e) (task 0 j a (new e))) is (each 0 x e refl refl))
       (in_part p i new xs ys es rest more (λ n l. let o = same (suc n) (omega (arith, l)) in record { address = o.address; first = o.first; second = o.second }) (λ n a e h k. each (suc n) a e h k) then)
 
-  module _ (parts : List Part) (insts : List Inst) (segs : Module → List A) (adds : Inst → List ℕ) (new : ℕ → Module → A → A) (before : ℕ → ℕ) (next : (p : ℕ) (m : Module) → module_at parts p ≡ Some m → before (suc p) ≡ before p + length (segs m))
-      (more : List A) (nothing : (ns : List ℕ) → InOrder partners first second [] (tasks_in 0 j ns more)) where
-    pub by_parts : ((p : ℕ) (m : Module) → module_at parts p ≡ Some m → PartStands partners insts j segs adds new before p m) →
-        (p : ℕ) (rest : List Part) (is : List Inst) → ((q : ℕ) → module_at rest q ≡ module_at parts (p + q)) → ((q : ℕ) → slice_get is q ≡ slice_get insts (p + q)) →
-        InOrder partners first second (tasks_by segs adds p rest is) (tasks_in 0 j (drop (before p) (adds j)) (by_part_from (λ p m. map (new p m) (segs m)) p rest ++ more))
-    by_parts stands p [] is modules places = nothing _
-    by_parts stands p (part ∷ rest) [] modules places =
-        let zero_more : p + 0 ≡ p = omega arith in
-        let d = stands p part.«module» (ap (module_at parts) (sym zero_more) ∙ sym (modules 0)) in
-        let h = places 0 ∙ ap (slice_get insts) zero_more ∙ d.is in
+  module _ (more : List A) (nothing : (ns : List ℕ) → Ordered [] (tasks_in 0 j ns more)) (stands : (p : ℕ) (m : Module) → module_at parts p ≡ Some m → PartStands p m) where
+    one_part : (p : ℕ) (m : Module) (later : List (Task A)) (behind : List A) → module_at parts p ≡ Some m → (i : Inst) → slice_get insts p ≡ Some i → Ordered later (tasks_in 0 j (drop (defined_before k parts (suc p)) (addresses_in k j)) behind) →
+        Ordered (tasks_in p i (addresses_in k i) (segs m) ++ later) (tasks_in 0 j (drop (defined_before k parts p) (addresses_in k j)) (map (new p m) (segs m) ++ behind))
+    one_part p m later behind at_p i there then =
+        subst (λ i. Ordered (tasks_in p i (addresses_in k i) (segs m) ++ later) (tasks_in 0 j (drop (defined_before k parts p) (addresses_in k j)) (map (new p m) (segs m) ++ behind))) (same_Some _ _ (sym d.is ∙ there))
+        (in_part p d.inst (new p m) (addresses_in k d.inst) (drop (defined_before k parts p) (addresses_in k j)) (segs m) later behind same each (subst (λ ns. Ordered later (tasks_in 0 j ns behind)) (sym dropped) then))
+      where
+        d : PartStands p m
+        d = stands p m at_p
+
+        dropped : drop (length (segs m)) (drop (defined_before k parts p) (addresses_in k j)) ≡ drop (defined_before k parts (suc p)) (addresses_in k j)
+        dropped = drop-drop (length (segs m)) (defined_before k parts p) (addresses_in k j) ∙ ap (λ i. drop i (addresses_in k j)) (ap (λ n. defined_before k parts p + n) (sym (counts m)) ∙ sym (before_next k parts p m at_p))
+
+        many : length (numbers (defined_before k parts p) (length (segs m))) ≡ length (segs m)
+        many = length-numbers (defined_before k parts p) (length (segs m))
+
+        -- its addresses stand behind those of the parts before it
+        same : (x : ℕ) → x < length (segs m) → OneAddress (addresses_in k d.inst) (drop (defined_before k parts p) (addresses_in k j)) x
+        same x l =
+            let o = d.agrees.each x (omega (arith, l, many)) in
+            let index = slice_index_is (numbers (defined_before k parts p) (length (segs m))) x _ (numbers_at (defined_before k parts p) (length (segs m)) x l) in
+            record { address = o.address; first = o.first; second = drop_at (addresses_in k j) (defined_before k parts p) x ∙ ap (slice_get (addresses_in k j)) (sym index) ∙ o.second }
+
+        each : (x a : ℕ) (e : A) → slice_get (segs m) x ≡ Some e → slice_get (addresses_in k d.inst) x ≡ Some a → partners (task p d.inst a e) (task 0 j a (new p m e))
+        each x a e h at =
+            let l = slice_get_within (segs m) x e h in
+            let o = d.agrees.each x (omega (arith, l, many)) in
+            d.each x a e h (subst (λ a. a < shared_count env parts k) (same_Some _ _ (sym o.first ∙ at)) o.shared)
+
+    by_parts : (p : ℕ) (rest : List Part) (is : List Inst) → ((q : ℕ) → module_at rest q ≡ module_at parts (p + q)) → ((q : ℕ) → slice_get is q ≡ slice_get insts (p + q)) →
+        Ordered (tasks_by segs (addresses_in k) p rest is) (tasks_in 0 j (drop (defined_before k parts p) (addresses_in k j)) (by_part_from (λ p m. map (new p m) (segs m)) p rest ++ more))
+    by_parts p [] is modules places = nothing _
+    by_parts p (part ∷ rest) [] modules places =
+        let here : p + 0 ≡ p = omega arith in
+        let d = stands p part.«module» (ap (module_at parts) (sym here) ∙ sym (modules 0)) in
+        let h = places 0 ∙ ap (slice_get insts) here ∙ d.is in
         cc
-    by_parts stands p (part ∷ rest) (i ∷ is) modules places =
+    by_parts p (part ∷ rest) (i ∷ is) modules places =
         let m = part.«module» in
-        let zero_more : p + 0 ≡ p = omega arith in
-        let at_p : module_at parts p ≡ Some m = ap (module_at parts) (sym zero_more) ∙ sym (modules 0) in
-        let d = stands p m at_p in
-        let h : Some i ≡ Some d.inst = places 0 ∙ ap (slice_get insts) zero_more ∙ d.is in
-        let same : d.inst ≡ i = cc in
-        let later : InOrder partners first second (tasks_by segs adds (suc p) rest is) (tasks_in 0 j (drop (length (segs m)) (drop (before p) (adds j))) (by_part_from (λ p m. map (new p m) (segs m)) (suc p) rest ++ more)) =
-        subst (λ ns. InOrder partners first second (tasks_by segs adds (suc p) rest is) (tasks_in 0 j ns (by_part_from (λ p m. map (new p m) (segs m)) (suc p) rest ++ more)))
-        (sym (drop-drop (length (segs m)) (before p) (adds j) ∙ ap (λ i. drop i (adds j)) (sym (next p m at_p))))
-        (by_parts stands (suc p) rest is (λ q. modules (suc q) ∙ (let e : p + suc q ≡ suc p + q = omega arith in ap (module_at parts) e)) (λ q. places (suc q) ∙ (let e : p + suc q ≡ suc p + q = omega arith in ap (slice_get insts) e))) in
-        subst (λ xs. InOrder partners first second (tasks_in p i (adds i) (segs m) ++ tasks_by segs adds (suc p) rest is) (tasks_in 0 j (drop (before p) (adds j)) xs))
+        let here : p + 0 ≡ p = omega arith in
+        let step : (q : ℕ) → p + suc q ≡ suc p + q = λ q. omega arith in
+        subst (λ xs. Ordered (tasks_in p i (addresses_in k i) (segs m) ++ tasks_by segs (addresses_in k) (suc p) rest is) (tasks_in 0 j (drop (defined_before k parts p) (addresses_in k j)) xs))
         (sym (append_assoc (map (new p m) (segs m)) (by_part_from (λ p m. map (new p m) (segs m)) (suc p) rest) more))
-        (in_part p i (new p m) (adds i) (drop (before p) (adds j)) (segs m) (tasks_by segs adds (suc p) rest is) (by_part_from (λ p m. map (new p m) (segs m)) (suc p) rest ++ more)
-        (λ x l. let o = d.same x l in record { address = o.address; first = ap (λ i. slice_get (adds i) x) (sym same) ∙ o.first; second = drop_at (adds j) (before p) x ∙ o.second })
-        (λ x a e h k. subst (λ i. partners (task p i a e) (task 0 j a (new p m e))) same (d.each x a e h (ap (λ i. slice_get (adds i) x) same ∙ k))) later)
+        (one_part p m _ _ (ap (module_at parts) (sym here) ∙ sym (modules 0)) i (ap (slice_get insts) (sym here) ∙ sym (places 0))
+        (by_parts (suc p) rest is (λ q. modules (suc q) ∙ ap (module_at parts) (step q)) (λ q. places (suc q) ∙ ap (slice_get insts) (step q))))
+
+    -- all of them, and those of the merged module
+    pub all_in_order : (J : Module) → segs J ≡ by_part_from (λ p m. map (new p m) (segs m)) 0 parts ++ more → (xs ys : List (Task A)) → xs ≡ tasks_by segs (addresses_in k) 0 parts insts → ys ≡ tasks_in 0 j (addresses_in k j) (segs J) ++ [] → Ordered xs ys
+    all_in_order J e xs ys first_is second_is =
+        let at_0 : (q : ℕ) → q ≡ 0 + q = λ q. omega arith in
+        subst (λ xs. Ordered xs ys) (sym first_is)
+        (subst (λ ys. Ordered (tasks_by segs (addresses_in k) 0 parts insts) ys) (ap (λ n. tasks_in 0 j (drop n (addresses_in k j)) (by_part_from (λ p m. map (new p m) (segs m)) 0 parts ++ more)) (before_start k parts) ∙ ap (tasks_in 0 j (addresses_in k j)) (sym e) ∙ sym (append-nil _) ∙ sym second_is)
+        (by_parts 0 parts insts (λ q. ap (module_at parts) (at_0 q)) (λ q. ap (slice_get insts) (at_0 q))))

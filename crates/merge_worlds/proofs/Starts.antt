@@ -4,32 +4,32 @@ use Rattle.wasm_tree.specs.declared.space.Space.TheVariants.{Functions}
 use Rattle.std.specs.Prelude.{slice_index}
 use Rattle.std.proofs.lemmas.Bool.{ltb-true}
 use Rattle.base_lists.proofs.Places.{append_right}
-use Rattle.base_lists.proofs.Numbers.{length-numbers, numbers_at}
+use Rattle.base_lists.proofs.Numbers.{numbers_at}
 use Rattle.wasm_tree.specs.declared.module.Module.{Module}
-use Rattle.wasm_tree.specs.Spaces.{funcs_of}
-use Rattle.wasm_meaning.specs.State.{Text, Inst}
+use Rattle.wasm_meaning.specs.State.{Inst}
 use Rattle.wasm_meaning.specs.Linking.{Part, module_at}
 use Rattle.wasm_meaning.specs.Environment.{Environment}
-use Rattle.wasm_meaning.specs.World.{own_count, defined_before, one_place, start_in, starts_of, numbers, inst_of, insts_from}
+use Rattle.wasm_meaning.specs.World.{own_count, defined_before, one_place, start_in, starts_of, insts_from}
 use Rattle.index_remap.specs.Renumbered.{fits_start}
 use Rattle.index_remap.specs.Related.{ListRel, nil, cons}
 use Rattle.index_remap.proofs.Rel.{append_rel}
 use Rattle.export_names.specs.declared.mode.Mode.{Mode}
 use Rattle.merge_terms.specs.Faults.{link_fault}
-use Rattle.merge_terms.specs.Merged.{merged, map_of, new_index, start_of, starts, start_among, staying_of, by_part_from, start_calls}
+use Rattle.merge_terms.specs.Merged.{map_of, new_index, start_of, starts, start_among, staying_of, by_part_from, start_calls}
 use Rattle.merge_terms.specs.Joined.{joined_module}
+use Rattle.merge_validity.proofs.Starts.{start_is}
 use Rattle.merge_validity.specs.Ended.{added_count}
 use Rattle.world_simulation.specs.Alone.{one}
-use Rattle.world_simulation.proofs.Places.{map_length}
 use Rattle.merge_worlds.specs.Shared.{shared_count, sharing}
 use Rattle.merge_worlds.specs.Instances.{PartAgrees, InstancesAgree}
 use Rattle.merge_worlds.proofs.SpaceLaws.{SpaceLaws}
-use Rattle.world_simulation.proofs.Instancing.{inst_is}
-use Rattle.merge_worlds.proofs.Standing.{site_address, is_shared_at}
+use Rattle.world_simulation.proofs.Instancing.{IsInst}
+use Rattle.world_simulation.proofs.Single.{one_inst}
+use Rattle.std.proofs.lemmas.Option.{same_Some}
+use Rattle.merge_worlds.proofs.ValueShared.{shares}
 use Rattle.merge_worlds.proofs.MergedAlone.{joined_keeps, names_of}
-use Rattle.merge_worlds.proofs.Instances.{map_entry, map_funcs, merged_part}
+use Rattle.merge_worlds.proofs.Instances.{entry_is, merged_part}
 use Rattle.merge_worlds.proofs.Named.{AllFit, start_fits}
-use Rattle.base_lists.proofs.Options.{and_then_is, all_there_length}
 
 -- an address, and the index by which the merged module's instance names it
 pub record IsNamed (env : Environment) (parts : List Part) (j : Inst) (a f : ℕ) : Type 0 where
@@ -44,10 +44,6 @@ pub record StartsAgree (env : Environment) (parts : List Part) (j : Inst) (sever
   pub few : length (starts parts) < 2 → joined ≡ several
   -- where several have one, the function that calls them, which comes last
   pub calls : (f g : ℕ) (fs : List ℕ) → starts parts ≡ f ∷ g ∷ fs → joined ≡ shared_count env parts Functions ∷ []
-
-merged_start_is : (parts : List Part) (names : List (Option Text)) → (merged parts names).start ≡ start_among (length (staying_of parts Functions) + defined_before Functions parts (length parts)) (starts parts)
-unfolding merged
-merged_start_is parts names = refl
 
 -- ---- several starts ----
 
@@ -67,7 +63,7 @@ starts_by P parts first (part ∷ rest) (i ∷ is) h =
 
 shared_with_self : (env : Environment) (parts : List Part) (j : Inst) {several fs : List ℕ} → ListRel (IsNamed env parts j) several fs → ListRel ((sharing env parts).of Functions) several several
 shared_with_self env parts j nil = nil
-shared_with_self env parts j (cons {a = a} w r) = cons (is_shared_at env parts Functions a w.shared) (shared_with_self env parts j r)
+shared_with_self env parts j (cons {a = a} w r) = cons (shares env parts Functions a w.shared) (shared_with_self env parts j r)
 
 few_starts : (env : Environment) (parts : List Part) (j : Inst) (n : ℕ) {several fs : List ℕ} → ListRel (IsNamed env parts j) several fs → length fs < 2 → start_in j (start_among n fs) ++ [] ≡ several
 few_starts env parts j n nil l = refl
@@ -83,8 +79,7 @@ module _ (laws : SpaceLaws) (env : Environment) (parts : List Part) (linked : li
   one_named p m i agrees (Some f) h =
       let low = ltb-true _ _ h in
       let s = agrees.funcs.each f low in
-      let many : length (map_of parts p m).funcs ≡ length (funcs_of m) = ap length (map_funcs parts p m) ∙ map_length (new_index parts p Functions) (numbers 0 (length (funcs_of m))) ∙ length-numbers 0 (length (funcs_of m)) in
-      let entry : slice_index (map_of parts p m).funcs f ≡ new_index parts p Functions f = map_entry parts p Functions (map_of parts p m).funcs (length (funcs_of m)) (map_funcs parts p m) f (omega (arith, low, many)) in
+      let entry : slice_index (map_of parts p m).funcs f ≡ new_index parts p Functions f = entry_is parts p m Functions refl f low in
       subst (λ o. ListRel (IsNamed env parts agree.merged) (one_place o) (new_index parts p Functions f ∷ [])) (sym s.first)
       (cons (record { names = ap (slice_get agree.merged.funcs) (sym entry) ∙ s.second; shared = s.shared }) nil)
 
@@ -96,23 +91,19 @@ module _ (laws : SpaceLaws) (env : Environment) (parts : List Part) (linked : li
       (i.0, i.1, subst (λ n. ListRel (IsNamed env parts agree.merged) (start_in i.0 m.start) (start_of parts n m.start)) (sym from_0) (one_named p m i.0 i.2 m.start (start_fits (map_of parts p m) m (fit p m is)))))
 
   joined_starts : starts_of (one J) js ≡ start_in agree.merged (start_among (length (staying_of parts Functions) + defined_before Functions parts (length parts)) (starts parts)) ++ []
-  joined_starts = ap (starts_of (one J)) agree.alone ∙ ap (λ o. start_in agree.merged o ++ []) ((joined_keeps parts mode).start ∙ merged_start_is parts (names_of parts mode))
+  joined_starts = ap (starts_of (one J)) agree.alone ∙ ap (λ o. start_in agree.merged o ++ []) ((joined_keeps parts mode).start ∙ start_is parts (names_of parts mode))
 
   -- where the merged module has a function more, the instance names it by its last index
   pub last_named : insts_from env (one J) 0 (one J) ≡ Some js → (f g : ℕ) (fs : List ℕ) → starts parts ≡ f ∷ g ∷ fs → slice_get agree.merged.funcs (length (staying_of parts Functions) + defined_before Functions parts (length parts)) ≡ Some (shared_count env parts Functions)
   last_named there f g fs e =
-      let j = and_then_is (inst_of env (one J) 0 J) _ js there in
-      let q = j.2 in
-      let both : j.0 ∷ [] ≡ js = cc in
-      let lists : j.0 ∷ [] ≡ agree.merged ∷ [] = both ∙ agree.alone in
-      let same : j.0 ≡ agree.merged = cc in
-      let s = merged_part laws env parts linked mode Functions refl j.0.funcs (inst_is env (one J) 0 J j.0 j.1).funcs in
-      let many = all_there_length (site_address env parts Functions) (staying_of parts Functions) s.imported s.are in
+      let j = one_inst env J js there in
+      let same = ap (λ l. slice_get l 0) (sym j.1 ∙ agree.alone) in
+      let s = merged_part laws env parts linked mode Functions refl agree.merged (subst (IsInst env (one J) 0 J) (same_Some j.0 agree.merged same) j.2) in
+      let many = s.many in
       let total = defined_before Functions parts (length parts) in
       let more : added_count parts Functions ≡ 1 = ap (λ fs. length (start_calls parts fs)) e in
       let at : length (staying_of parts Functions) + total ≡ length s.imported + total = omega (arith, many) in
-      ap (λ (i : Inst). slice_get i.funcs (length (staying_of parts Functions) + total)) (sym same)
-      ∙ ap₂ (λ l n. slice_get l n) s.all at ∙ append_right s.imported _ total ∙ numbers_at (own_count Functions env) (total + added_count parts Functions) total (omega (arith, more))
+      ap₂ (λ l n. slice_get l n) s.all at ∙ append_right s.imported _ total ∙ numbers_at (own_count Functions env) (total + added_count parts Functions) total (omega (arith, more))
 
   pub starts_agree : insts_from env (one J) 0 (one J) ≡ Some js → StartsAgree env parts agree.merged (starts_of parts insts) (starts_of (one J) js)
   starts_agree there = record {

@@ -1,30 +1,23 @@
 -- A module alone that is instantiated: its index spaces, and the values of its constant expressions.
-use Rattle.std.proofs.Common.{◌≡◌, ℕ, zero, suc, ◌+◌, ◌-◌, ◌<◌, ◌≤◌, List, [], ◌∷◌, ◌++◌, map, length, Option, Some, None, Bool, true, false, cond, ◌⊎◌, inl, inr, refl, sym, ap, ◌∙◌, arith, option_and_then, slice_get}
+use Rattle.std.proofs.Common.{◌≡◌, ℕ, zero, suc, ◌+◌, ◌<◌, ◌≤◌, List, [], ◌∷◌, map, length, Option, Some, None, Bool, true, false, cond, refl, sym, ap, ◌∙◌, arith, option_and_then, slice_get}
 use Rattle.wasm_tree.specs.declared.space.Space.{Space}
 use Rattle.wasm_tree.specs.declared.space.Space.TheVariants.{Functions, Globals}
-use Rattle.std.proofs.lemmas.Bool.{cases_lt}
 use Rattle.wasm_tree.specs.declared.module.Import.{Import}
 use Rattle.wasm_tree.specs.declared.module.ConstExpr.TheVariants as const
 use Rattle.wasm_tree.specs.declared.module.Module.{Module}
 use Rattle.wasm_tree.specs.Spaces.{imported_funcs, funcs_of}
 use Rattle.wasm_meaning.specs.State.{Inst}
-use Rattle.wasm_meaning.specs.Linking.{Read, places, has_kind, imports_of, space_index}
+use Rattle.wasm_meaning.specs.Linking.{Read, places, has_kind, space_index}
 use Rattle.wasm_meaning.specs.Environment.{Environment, own_globals}
-use Rattle.wasm_meaning.specs.World.{numbers, own_count, defined_count, space, inst_of, insts_from, value_of_read, value_of}
+use Rattle.wasm_meaning.specs.World.{insts_from, value_of_read, value_of}
 use Rattle.world_simulation.proofs.Alone.{funcs_counted}
-use Rattle.world_simulation.specs.Alone.{one, address_in, import_places, addresses, read_in, SpacesAreImportsAndOwn, ReadsStay}
+use Rattle.world_simulation.specs.Alone.{one, import_places, read_in, ReadsStay}
 use Rattle.world_simulation.proofs.Places.{map_length}
-use Rattle.world_simulation.proofs.Instancing.{IsInst, inst_is}
-use Rattle.base_lists.proofs.Options.{and_then_is, all_there_length}
-use Rattle.std.proofs.lemmas.Option.{slice_get_past}
+use Rattle.world_simulation.proofs.Instancing.{is_space, Entry, imports, defines, entry_at, IsInst}
+use Rattle.world_simulation.proofs.Ordered.{inst_at}
+use Rattle.std.proofs.lemmas.Option.{slice_get_past, slice_get_within}
 use Rattle.std.proofs.lemmas.List.{length-append}
-use Rattle.base_lists.proofs.Numbers.{length-numbers}
-use Rattle.base_lists.proofs.Places.{slice_get_there, append_right}
-
-number_past : (c n z a : ℕ) → slice_get (numbers c n) z ≡ Some a → c ≤ a
-number_past c zero z a h = cc
-number_past c (suc n) zero a h = let same : c ≡ a = cc in omega (arith, same)
-number_past c (suc n) (suc z) a h = let l = number_past (suc c) n z a h in omega (arith, l)
+use Rattle.base_lists.proofs.Places.{slice_get_there}
 
 -- ---- imports of one kind ----
 
@@ -72,50 +65,25 @@ read_past is y h = ap (λ o. option_and_then {U = Read} (λ y. Some (record { pa
 
 -- ---- its instance ----
 
-module _ (reads : ReadsStay) (spaces : SpacesAreImportsAndOwn) (env : Environment) (u : Module) (j : Inst) (are : insts_from env (one u) 0 (one u) ≡ Some (j ∷ [])) where
-  there : inst_of env (one u) 0 u ≡ Some j
-  there = by (inst_of env (one u) 0 u) are
-    where
-      by : (o : Option Inst) → option_and_then (λ i. Some (i ∷ [])) o ≡ Some (j ∷ []) → o ≡ Some j
-      by None h = cc
-      by (Some i) h = let same : i ≡ j = cc in ap Some same
-
-  own_spaces : IsInst env (one u) 0 u j
-  own_spaces = inst_is env (one u) 0 u j there
-
-  pub types_are : j.types ≡ u.types
-  types_are = own_spaces.types
-
-  -- the addresses of the imports, then those after all that is the environment's
-  space_at : (k : Space) (xs : List ℕ) → space env (one u) k 0 u ≡ Some xs → (l : List ℕ) × (length l ≡ length (imports_of k u)) × (xs ≡ l ++ numbers (own_count k env) (defined_count k u))
-  space_at k xs e =
-      let x = and_then_is (addresses env u.types u.imports k) _ xs (sym (spaces env u k) ∙ e) in
-      let h = x.2 in
-      let same : x.0 ++ numbers (own_count k env) (defined_count k u) ≡ xs = cc in
-      (x.0, all_there_length (address_in env u.types u.imports k) (import_places k u.imports) x.0 x.1, sym same)
+module _ (reads : ReadsStay) (env : Environment) (u : Module) (j : Inst) (are : insts_from env (one u) 0 (one u) ≡ Some (j ∷ [])) where
+  pub is_inst : IsInst env (one u) 0 u j
+  is_inst = inst_at env (record { parts = one u; insts = j ∷ [] }) are 0 u j refl refl
 
   pub func_count : length j.funcs ≡ length (funcs_of u)
   func_count =
-      let l = space_at Functions j.funcs own_spaces.funcs in
-      let a = ap length l.2 ∙ length-append l.0 (numbers (own_count Functions env) (length u.funcs)) in
-      let b = length-numbers (own_count Functions env) (length u.funcs) in
+      let a = (is_space env (one u) Functions 0 u j.funcs is_inst.funcs).size in
       let c = length-append (imported_funcs u.imports) (map (λ f. f.ty) u.funcs) in
       let d = map_length (λ f. f.ty) u.funcs in
       let e = funcs_counted u.imports 0 in
-      let f = l.1 in
-      omega (arith, a, b, c, d, e, f)
+      omega (arith, a, c, d, e)
 
   -- a global has the value of the environment's at its address, where it is an import, and otherwise none that is read; its address is then none of the environment's
   pub global_value : (y a : ℕ) → slice_get j.globals y ≡ Some a → value_of env (one u) (j ∷ []) 0 (const.Global y) ≡ option_and_then (λ g. Some g.value) (slice_get (own_globals env) a)
-  global_value y a h = ap (λ o. option_and_then (value_of_read (own_globals env) (j ∷ [])) o) (reads u (const.Global y)) ∙ go (cases_lt y (length (import_places Globals u.imports)))
+  global_value y a h = ap (λ o. option_and_then (value_of_read (own_globals env) (j ∷ [])) o) (reads u (const.Global y)) ∙ go (entry_at env (one u) Globals 0 u j.globals (is_space env (one u) Globals 0 u j.globals is_inst.globals) y a h)
     where
-      go : (y < length (import_places Globals u.imports)) ⊎ (length (import_places Globals u.imports) ≤ y) → option_and_then (value_of_read (own_globals env) (j ∷ [])) (read_in u.imports (const.Global y)) ≡ option_and_then (λ g. Some g.value) (slice_get (own_globals env) a)
-      go (inl lt) = ap (λ o. option_and_then (value_of_read (own_globals env) (j ∷ [])) o) (read_here u.imports y lt) ∙ ap (λ o. option_and_then (λ a. option_and_then (λ g. Some g.value) (slice_get (own_globals env) a)) o) h
-      go (inr past) =
-          let l = space_at Globals j.globals own_spaces.globals in
-          let n = l.1 in
-          let z = y - length l.0 in
-          let back : length l.0 + z ≡ y = omega (arith, n) in
-          let at : slice_get (numbers (own_count Globals env) (length u.globals)) z ≡ Some a = sym (ap (λ xs. slice_get xs y) l.2 ∙ ap (slice_get (l.0 ++ numbers (own_count Globals env) (length u.globals))) (sym back) ∙ append_right l.0 (numbers (own_count Globals env) (length u.globals)) z) ∙ h in
-          ap (λ o. option_and_then (value_of_read (own_globals env) (j ∷ [])) o) (read_past u.imports y past)
-          ∙ sym (ap (λ o. option_and_then (λ g. Some g.value) o) (slice_get_past (own_globals env) a (number_past (length (own_globals env)) (length u.globals) z a at)))
+      go : Entry env (one u) Globals 0 u y a → option_and_then (value_of_read (own_globals env) (j ∷ [])) (read_in u.imports (const.Global y)) ≡ option_and_then (λ g. Some g.value) (slice_get (own_globals env) a)
+      go (imports n at address) =
+          ap (λ o. option_and_then (value_of_read (own_globals env) (j ∷ [])) o) (read_here u.imports y (slice_get_within (import_places Globals u.imports) y n at)) ∙ ap (λ o. option_and_then (λ a. option_and_then (λ g. Some g.value) (slice_get (own_globals env) a)) o) h
+      go (defines n at low is) =
+          ap (λ o. option_and_then (value_of_read (own_globals env) (j ∷ [])) o) (read_past u.imports y (omega (arith, at)))
+          ∙ sym (ap (λ o. option_and_then (λ g. Some g.value) o) (slice_get_past (own_globals env) a (omega (arith, is))))

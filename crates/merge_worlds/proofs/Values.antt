@@ -8,7 +8,7 @@ use Rattle.wasm_tree.specs.declared.module.ConstExpr.{ConstExpr}
 use Rattle.wasm_tree.specs.declared.module.ConstExpr.TheVariants as const
 use Rattle.wasm_tree.specs.declared.module.Module.{Module}
 use Rattle.wasm_valid.specs.Constants.{const_type}
-use Rattle.wasm_meaning.specs.State.{FuncRef, Ref, Inst}
+use Rattle.wasm_meaning.specs.State.{Inst}
 use Rattle.wasm_meaning.specs.Linking.{Part, Read, module_at, read_of}
 use Rattle.wasm_meaning.specs.Environment.{Environment, own_globals}
 use Rattle.wasm_meaning.specs.World.{insts_from, const_value, value_of_read, value_of}
@@ -23,7 +23,7 @@ use Rattle.merge_validity.specs.Joinable.{CanBeJoined}
 use Rattle.merge_worlds.specs.Instances.{PartAgrees, InstancesAgree}
 use Rattle.merge_worlds.specs.Shared.{sharing}
 use Rattle.world_simulation.proofs.Owned.{null_rel}
-use Rattle.merge_worlds.proofs.ValueShared.{shares, own_entities}
+use Rattle.merge_worlds.proofs.ValueShared.{names_one, own_entities}
 use Rattle.merge_worlds.proofs.ValueAlone.{global_value}
 use Rattle.merge_worlds.proofs.ValueGiven.{Laws, EachAgrees}
 
@@ -46,12 +46,11 @@ module _ (laws : Laws) (env : Environment) (parts : List Part) (mode : Mode) whe
     read_rel q m i k (const.I64 v) h = some number
     read_rel q m i k (const.Null ty) h = some (reference (null_rel R ty))
     read_rel q m i k (const.Func f) h =
-        let a = k.funcs.each f (ltb-true _ _ h) in
-        opt_at (ap (λ o. option_and_then (λ a. Some (Ref (FuncRef (Some a)))) o) a.first) (ap (λ o. option_and_then (λ a. Some (Ref (FuncRef (Some a)))) o) a.second) (some (reference (func (some (shares env parts Functions a.address a.shared)))))
+        then_rel (names_one env parts Functions k.funcs f h) (λ _ _ r. some (reference (func (some r))))
     read_rel q m i k (const.Global x) h =
         let a = k.globals.each x (ltb-true _ _ h) in
         opt_at (ap (λ o. option_and_then (λ a. option_and_then (λ g. Some g.value) (slice_get (own_globals env) a)) o) a.first)
-        (global_value laws.alone_reads laws.alone_spaces env (joined_module parts mode) j are (slice_index (map_of parts q m).globals x) a.address a.second)
+        (global_value laws.alone_reads env (joined_module parts mode) j are (slice_index (map_of parts q m).globals x) a.address a.second)
         (then_rel (place_rel (own_entities env parts laws.own).globals a.address) (λ _ _ g. some g.value))
 
     pub const_rel : (p : ℕ) (m : Module) (e : ConstExpr) (ty : ValType) → module_at parts p ≡ Some m → const_type m e ≡ Some ty → OptRel (ValRel R) (value_of env parts insts p e) (value_of env M (j ∷ []) 0 (merged_const parts p e))

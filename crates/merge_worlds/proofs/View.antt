@@ -10,22 +10,20 @@ use Rattle.index_remap.specs.Renumbered.{fits_export, new_export}
 use Rattle.index_remap.specs.Related.{OptRel, some, ListRel, nil, cons}
 use Rattle.index_remap.specs.RelatedRuns.{KeyRel}
 use Rattle.export_names.specs.declared.mode.Mode.{Mode}
-use Rattle.merge_terms.specs.Merged.{merged, map_of, all_exports, named_exports}
+use Rattle.merge_terms.specs.Merged.{map_of, all_exports, named_exports}
 use Rattle.merge_terms.specs.Joined.{joined_module}
 use Rattle.merge_terms.specs.View.{all_entities, named_entities, merge_view}
 use Rattle.world_simulation.proofs.Places.{then_rel, opt_at}
 use Rattle.merge_worlds.specs.Shared.{sharing}
 use Rattle.merge_worlds.specs.Instances.{InstancesAgree}
 use Rattle.merge_worlds.proofs.MergedAlone.{joined_keeps, names_of}
-use Rattle.merge_worlds.proofs.Named.{AllFit, exports_fit, by_part_rel, tested_maps, export_named}
+use Rattle.merge_worlds.proofs.Named.{AllFit, exports_fit, by_part_rel, tested_maps}
+use Rattle.merge_worlds.proofs.Funcs.{export_named}
+use Rattle.merge_validity.proofs.Exports.{exports_are}
 
 -- an export as an embedder sees it of a module alone
 abbrev pub seen_export : Export → Text × Entity
 seen_export e = (e.name, record { part = 0; what = e.desc })
-
-merged_exports_are : (parts : List Part) (names : List (Option Text)) → (merged parts names).exports ≡ named_exports (all_exports parts) names
-unfolding merged
-merged_exports_are parts names = refl
 
 -- an entity of a part and an export of the merged module name one thing, whatever they are called
 abbrev Sees : Environment → List Part → (insts js : List Inst) → Entity → Export → Type 0
@@ -56,6 +54,6 @@ module _ (env : Environment) (parts : List Part) (fit : AllFit parts) (insts js 
   pub view_agrees : (mode : Mode) → ListRel (λ x y. OptRel (KeyRel (sharing env parts)) (seen_as insts x) (seen_as js y)) (merge_view parts mode) (alone (joined_module parts mode)).view
   unfolding merge_view
   view_agrees mode =
-      let exports = (joined_keeps parts mode).exports ∙ merged_exports_are parts (names_of parts mode) in
+      let exports = (joined_keeps parts mode).exports ∙ exports_are parts (names_of parts mode) in
       subst (λ es. ListRel (λ x y. OptRel (KeyRel (sharing env parts)) (seen_as insts x) (seen_as js y)) (named_entities (all_entities parts) (names_of parts mode)) (map seen_export es)) (sym exports)
       (named_rel env parts insts js entities_seen (names_of parts mode))

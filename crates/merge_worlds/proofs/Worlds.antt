@@ -1,5 +1,5 @@
 -- The world of linked parts and that of their merged module: both are instantiated or neither, and then they show the same.
-use Rattle.std.proofs.Common.{◌≡◌, ◌∙◌, ap, sym, subst, refl, ℕ, ◌+◌, ◌≤◌, List, [], ◌∷◌, length, Option, Some, None, Bool, true, false, cond, arith, append-nil}
+use Rattle.std.proofs.Common.{option_and_then, ◌≡◌, ◌∙◌, ap, sym, subst, refl, ℕ, ◌+◌, ◌≤◌, List, [], ◌∷◌, length, Option, Some, None, Bool, true, false, cond, arith, append-nil}
 use Rattle.wasm_tree.specs.declared.space.Space.TheVariants.{Functions}
 use Rattle.wasm_tree.specs.declared.module.Module.{Module}
 use Rattle.wasm_meaning.specs.Outcomes.{Gives, bind, at}
@@ -7,7 +7,7 @@ use Rattle.wasm_meaning.specs.State.{Inst, Store}
 use Rattle.wasm_meaning.specs.Control.{type_of_func}
 use Rattle.wasm_meaning.specs.Linking.{Part, sites}
 use Rattle.wasm_meaning.specs.Environment.{Environment, all_of}
-use Rattle.wasm_meaning.specs.World.{Begun, alone, inst_of, insts_from, own_store, stores_from, is_matched, segments, starts_of, begun, instantiate, is_there, links}
+use Rattle.wasm_meaning.specs.World.{Begun, alone, insts_from, own_store, stores_from, is_matched, segments, starts_of, begun, instantiate, is_there, links}
 use Rattle.wasm_meaning.specs.Run.{Event, Move, tick, events_of, IsPrefix, fresh_run}
 use Rattle.base_simulation.proofs.Prefixes.{prefix_trans, later}
 use Rattle.index_remap.specs.Related.{Pairing, OptRel, none, some, ListRel, nil, cons, opening}
@@ -26,22 +26,20 @@ use Rattle.merge_validity.specs.Started.{StartsTakeNothing}
 use Rattle.merge_worlds.specs.Shared.{shared_count, is_shared, sharing}
 use Rattle.merge_worlds.specs.Instances.{InstancesAgree}
 use Rattle.merge_worlds.proofs.SpaceLaws.{SpaceLaws}
-use Rattle.merge_worlds.proofs.ValueShared.{one_to_one}
+use Rattle.merge_worlds.proofs.ValueShared.{one_to_one, shares_own}
 use Rattle.merge_worlds.proofs.ValueGiven.{Laws}
 use Rattle.merge_worlds.proofs.Values.{are_one}
-use Rattle.world_simulation.proofs.Instancing.{IsInst, inst_is}
-use Rattle.merge_worlds.proofs.Instances.{both_are, instances_agree}
+use Rattle.merge_worlds.proofs.Instances.{instances_agree}
+use Rattle.world_simulation.proofs.Ordered.{inst_at}
 use Rattle.merge_worlds.proofs.Named.{AllFit}
 use Rattle.merge_worlds.proofs.View.{view_agrees}
 use Rattle.merge_worlds.proofs.Segments.{elems_in_order, datas_in_order}
 use Rattle.merge_worlds.proofs.Definitions.{definitions_correspond, stores_both}
-use Rattle.merge_worlds.proofs.Standing.{shares_own}
 use Rattle.world_simulation.specs.Definitions.{DefinitionsCorrespond}
 use Rattle.world_simulation.specs.Simulation.{IsInstantiated, WhatIsInstantiated, AreSimilar, AllocatedStoresCorrespond, SimilarWorldsBeginAlike}
 use Rattle.merge_worlds.proofs.MatchAll.{all_matched}
 use Rattle.merge_worlds.proofs.Starts.{StartsAgree, starts_agree}
 use Rattle.merge_worlds.proofs.Called.{segments_keep_funcs, caller_code, starts_typed}
-use Rattle.base_lists.proofs.Options.{and_then_is}
 
 -- the second starts what the first does, or one function that calls these
 data StartsAlike (c : Begun) (several : List ℕ) : Type 0 where
@@ -52,6 +50,11 @@ data StartsAlike (c : Begun) (several : List ℕ) : Type 0 where
 record BegunAgree (R : Pairing) (b c : Begun) : Type 0 where
   related : BegunRel R (EntryByEntry R) b (record c { starts = b.starts })
   starts : StartsAlike c b.starts
+
+-- what follows from what is related, where it is known that both are there
+then_both : {A B C D : Type 0} {P : A → B → Type 0} {Q : C → D → Type 0} {o : Option A} {p : Option B} {f : A → Option C} {g : B → Option D} → OptRel P o p → ((a : A) (b : B) → o ≡ Some a → p ≡ Some b → P a b → OptRel Q (f a) (g b)) → OptRel Q (option_and_then f o) (option_and_then g p)
+then_both none h = none
+then_both (some q) h = h _ _ refl refl q
 
 -- both are there or neither
 there_same : {A B : Type 0} {P : A → B → Type 0} {o : Option A} {p : Option B} → OptRel P o p → is_there o ≡ is_there p
@@ -80,13 +83,6 @@ module _ (spaces : SpaceLaws) (laws : Laws) (nothing : StartsTakeNothing) (simil
   fit : AllFit parts
   fit p m is = laws.entries parts p m (can.valid p m is)
 
-  is_inst : (j : Inst) → insts_from env (one J) 0 (one J) ≡ Some (j ∷ []) → IsInst env (one J) 0 J j
-  is_inst j h =
-      let k = and_then_is (inst_of env (one J) 0 J) _ (j ∷ []) h in
-      let q = k.2 in
-      let same : k.0 ≡ j = cc in
-      inst_is env (one J) 0 J j (k.1 ∙ ap Some same)
-
   agree : (insts js : List Inst) → insts_from env parts 0 parts ≡ Some insts → insts_from env M 0 M ≡ Some js → InstancesAgree env parts insts js
   agree insts js f g = opt_both (instances_agree spaces env parts mode can) f g
 
@@ -108,8 +104,8 @@ module _ (spaces : SpaceLaws) (laws : Laws) (nothing : StartsTakeNothing) (simil
       record {
         own = shares_own env parts;
         definitions = definitions insts js k g;
-        elems = elems_in_order laws env parts mode can (λ m valid. (laws.items m).0 valid) insts js k g;
-        datas = datas_in_order laws env parts mode can (λ m valid. (laws.items m).0 valid) insts js k g;
+        elems = elems_in_order laws env parts mode can insts js k g;
+        datas = datas_in_order laws env parts mode can insts js k g;
         view = view_agrees env parts fit insts js k mode;
       }
 
@@ -119,12 +115,12 @@ module _ (spaces : SpaceLaws) (laws : Laws) (nothing : StartsTakeNothing) (simil
       all_of (is_matched env parts s) (sites parts) ≡ all_of (is_matched env M z) (sites M)
   matched insts js s z f g h i =
       let k = agree insts js f g in
-      all_matched spaces.ends spaces.stays spaces.sites spaces.types spaces.things spaces.own env parts mode can
+      all_matched spaces env parts can.linked mode
       (allocated_law (is_shared env parts) env (linked_world parts mode) (alone J) insts js s z (shares_own env parts) (definitions insts js k g) h i) insts js k h
 
   linked : links env (linked_world parts mode) ≡ links env (alone J)
-  linked = there_same {P = λ x y. Unit {0}} (then_rel (both_are (instances_agree spaces env parts mode can)) (λ insts js i. then_rel (both_are (stores insts js i.related i.second)) (λ s z k. then_rel (all_rel (view_agrees env parts fit insts js i.related mode)) (λ xs ys view.
-      both_linked _ _ _ _ (matched insts js s z i.first i.second k.first k.second)))))
+  linked = there_same {P = λ x y. Unit {0}} (then_both (instances_agree spaces env parts mode can) (λ insts js e f k. then_both (stores insts js k f) (λ s z g h x. then_rel (all_rel (view_agrees env parts fit insts js k mode)) (λ xs ys view.
+      both_linked _ _ _ _ (matched insts js s z e f g h)))))
 
   -- ---- the starts ----
 
@@ -150,7 +146,7 @@ module _ (spaces : SpaceLaws) (laws : Laws) (nothing : StartsTakeNothing) (simil
 
     calls_each : (f g : ℕ) (fs : List ℕ) → starts parts ≡ f ∷ g ∷ fs → CallsEach after (shared_count env parts Functions) several
     calls_each f g fs e =
-        let inst = is_inst j (y.are_insts ∙ ap Some k.alone) in
+        let inst = inst_at env (record { parts = M; insts = j ∷ [] }) (y.are_insts ∙ ap Some k.alone) 0 J j refl refl in
         let there : stores_from env M (j ∷ []) (own_store env) 0 M (j ∷ []) ≡ Some y.allocated = subst (λ js. stores_from env M js (own_store env) 0 M js ≡ Some y.allocated) k.alone y.is_allocated in
         record {
           inst = j;

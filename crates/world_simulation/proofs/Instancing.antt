@@ -1,13 +1,74 @@
 -- What an instance holds, and the instances of several parts one after the other.
-use Rattle.std.proofs.Common.{◌≡◌, ◌∙◌, ap, ap₂, sym, refl, ℕ, zero, suc, ◌+◌, List, [], ◌∷◌, length, Option, Some, arith, option_and_then, slice_get}
-use Rattle.wasm_tree.specs.declared.space.Space.TheVariants.{Functions, Tables, Memories, Globals, DataSegments, ElementSegments}
+use Rattle.std.proofs.Common.{◌≡◌, ◌∙◌, ap, ap₂, sym, refl, ℕ, zero, suc, ◌+◌, ◌<◌, List, [], ◌∷◌, ◌++◌, length, Option, Some, arith, ◌⊎◌, inl, inr, option_and_then, slice_get}
+use Rattle.std.proofs.lemmas.List.{length-append}
+use Rattle.std.proofs.lemmas.Option.{same_Some, slice_get_within}
+use Rattle.wasm_tree.specs.declared.space.Space.{Space}
+use Rattle.wasm_tree.specs.declared.space.Space.TheVariants.{Types, Functions, Tables, Memories, Globals, DataSegments, ElementSegments}
 use Rattle.wasm_tree.specs.declared.types.FuncType.{FuncType}
 use Rattle.wasm_tree.specs.declared.module.Module.{Module}
 use Rattle.wasm_meaning.specs.State.{Inst}
-use Rattle.wasm_meaning.specs.Linking.{Part, module_at}
+use Rattle.wasm_meaning.specs.Linking.{Part, module_at, imports_of}
 use Rattle.wasm_meaning.specs.Environment.{Environment}
-use Rattle.wasm_meaning.specs.World.{space, numbers, inst_of, insts_from, defined_before}
-use Rattle.base_lists.proofs.Options.{and_then_is}
+use Rattle.wasm_meaning.specs.World.{space, numbers, inst_of, insts_from, defined_before, defined_count, base, address_of, all_there, imported_thing}
+use Rattle.base_lists.proofs.Numbers.{length-numbers, numbers_at}
+use Rattle.base_lists.proofs.Options.{and_then_is, all_there_at, all_there_length}
+use Rattle.base_lists.proofs.Places.{slice_get_there, append_from}
+
+-- ---- an index space ----
+
+-- the addresses that an instance has for a space
+abbrev pub addresses_in : Space → Inst → List ℕ
+addresses_in Types i = []
+addresses_in Functions i = i.funcs
+addresses_in Tables i = i.tables
+addresses_in Memories i = i.mems
+addresses_in Globals i = i.globals
+addresses_in ElementSegments i = i.elems
+addresses_in DataSegments i = i.datas
+
+-- the address of an import of a part
+abbrev pub import_address : Environment → List Part → Space → ℕ → ℕ → Option ℕ
+import_address env parts k p n = option_and_then (address_of k) (imported_thing env parts (record { part = p; import = n }))
+
+-- the addresses of the imports, then those of what the part defines
+pub record IsSpace (env : Environment) (parts : List Part) (k : Space) (p : ℕ) (m : Module) (xs : List ℕ) : Type 0 where
+  pub imported : List ℕ
+  pub are : all_there (import_address env parts k p) (imports_of k m) ≡ Some imported
+  pub all : xs ≡ imported ++ numbers (base env parts k p) (defined_count k m)
+  pub size : length xs ≡ length (imports_of k m) + defined_count k m
+
+-- what an index of it names: an import, or what the part defines
+pub data Entry (env : Environment) (parts : List Part) (k : Space) (p : ℕ) (m : Module) (x a : ℕ) : Type 0 where
+  imports : (n : ℕ) → slice_get (imports_of k m) x ≡ Some n → import_address env parts k p n ≡ Some a → Entry env parts k p m x a
+  defines : (j : ℕ) → x ≡ length (imports_of k m) + j → j < defined_count k m → a ≡ base env parts k p + j → Entry env parts k p m x a
+
+module _ (env : Environment) (parts : List Part) (k : Space) (p : ℕ) (m : Module) (xs : List ℕ) where
+  pub is_space : space env parts k p m ≡ Some xs → IsSpace env parts k p m xs
+  is_space h =
+      let r = and_then_is (all_there (import_address env parts k p) (imports_of k m)) _ xs h in
+      let defined = numbers (base env parts k p) (defined_count k m) in
+      let all : r.0 ++ defined ≡ xs = same_Some _ _ r.2 in
+      let many = all_there_length (import_address env parts k p) (imports_of k m) r.0 r.1 in
+      record { imported = r.0; are = r.1; all = sym all; size = ap length (sym all) ∙ length-append r.0 defined ∙ ap₂ (λ a b. a + b) many (length-numbers (base env parts k p) (defined_count k m)) }
+
+  pub entry_at : IsSpace env parts k p m xs → (x a : ℕ) → slice_get xs x ≡ Some a → Entry env parts k p m x a
+  entry_at s x a h = go (append_from s.imported (numbers (base env parts k p) (defined_count k m)) x a (ap (λ l. slice_get l x) (sym s.all) ∙ h))
+    where
+      many : length s.imported ≡ length (imports_of k m)
+      many = all_there_length (import_address env parts k p) (imports_of k m) s.imported s.are
+
+      go : (slice_get s.imported x ≡ Some a) ⊎ ((j : ℕ) × (x ≡ length s.imported + j) × (slice_get (numbers (base env parts k p) (defined_count k m)) j ≡ Some a)) → Entry env parts k p m x a
+      go (inl e) =
+          let low = slice_get_within s.imported x a e in
+          let n = slice_get_there (imports_of k m) x (omega (arith, low, many)) in
+          let r = all_there_at (import_address env parts k p) (imports_of k m) s.imported s.are x n.0 n.1 in
+          imports n.0 n.1 (r.1 ∙ sym r.2 ∙ e)
+      go (inr j) =
+          let low = slice_get_within (numbers (base env parts k p) (defined_count k m)) j.0 a j.2 in
+          let count = length-numbers (base env parts k p) (defined_count k m) in
+          let at = j.1 in
+          let lt : j.0 < defined_count k m = omega (arith, low, count) in
+          defines j.0 (omega (arith, at, many)) lt (same_Some _ _ (sym j.2 ∙ numbers_at (base env parts k p) (defined_count k m) j.0 lt))
 
 -- ---- one ----
 
@@ -89,3 +150,14 @@ insts_there env all p (part ∷ parts) h =
       first.0 ∷ r.0,
       ap₂ (λ o l. option_and_then (λ i. option_and_then (λ is. Some (i ∷ is)) l) o) (ap (λ n. inst_of env all n part.«module») here ∙ first.1) r.1,
     )
+
+-- ---- those of a world ----
+
+pub inst_in : (env : Environment) (parts : List Part) (is : List Inst) → insts_from env parts 0 parts ≡ Some is → (p : ℕ) (m : Module) → module_at parts p ≡ Some m → (i : Inst) × (slice_get is p ≡ Some i) × IsInst env parts p m i
+inst_in env parts is h p m at =
+    let i = (insts_are env parts 0 parts is h).each p m at in
+    let here : p ≡ 0 + p = omega arith in
+    (i.0, i.1, inst_is env parts p m i.0 (ap (λ p. inst_of env parts p m) here ∙ i.2))
+
+pub insts_in : (env : Environment) (parts : List Part) → ((p : ℕ) (m : Module) → module_at parts p ≡ Some m → (i : Inst) × (inst_of env parts p m ≡ Some i)) → (is : List Inst) × (insts_from env parts 0 parts ≡ Some is)
+insts_in env parts h = insts_there env parts 0 parts (λ p m at. let i = h p m at in let here : 0 + p ≡ p = omega arith in (i.0, ap (λ p. inst_of env parts p m) here ∙ i.1))

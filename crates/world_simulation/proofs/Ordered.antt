@@ -2,7 +2,7 @@
 use Rattle.std.proofs.Common.{◌≡◌, ℕ, zero, suc, ◌+◌, List, [], ◌∷◌, ◌++◌, length, Option, Some, Bool, true, false, cond, ◌⊎◌, inl, inr, refl, sym, ap, subst, ◌∙◌, arith, slice_get}
 use Rattle.base_lists.proofs.Numbers.{numbers_at}
 use Rattle.base_lists.proofs.Places.{append_from}
-use Rattle.std.proofs.lemmas.Option.{slice_get_within}
+use Rattle.std.proofs.lemmas.Option.{same_Some, slice_get_within}
 use Rattle.wasm_tree.specs.declared.space.Space.{Space}
 use Rattle.wasm_tree.specs.declared.space.Space.TheVariants.{Tables, Memories, ElementSegments, DataSegments}
 use Rattle.wasm_tree.specs.declared.module.ConstExpr.{ConstExpr}
@@ -15,8 +15,7 @@ use Rattle.wasm_meaning.specs.Outcomes.{Outcome, Gives, Traps, IllTyped, overwri
 use Rattle.wasm_meaning.specs.State.{RefVal, Val, Inst, Table, Memory, Store}
 use Rattle.wasm_meaning.specs.Linking.{Part, module_at}
 use Rattle.wasm_meaning.specs.Environment.{Environment}
-use Rattle.wasm_meaning.specs.World.{Filled, Task, numbers, base, defined_before, insts_from, own_store, stores_from, tasks_in, elem_tasks, data_tasks, or_trapped, fill_table, copy_elem, run_elem_with, run_elem, fill_memory, copy_data, run_data_with, run_data, and_then, in_turn}
-use Rattle.wasm_meaning.specs.World as world
+use Rattle.wasm_meaning.specs.World.{Filled, Task, numbers, base, defined_before, insts_from, tasks_in, elem_tasks, data_tasks, or_trapped, fill_table, copy_elem, run_elem_with, run_elem, fill_memory, copy_data, run_data_with, run_data, and_then, in_turn}
 use Rattle.index_remap.specs.Related.{Pairing, OneToOne, OptRel, none, some, ResRel, done, trap, wrong, ListRel, RefRel, TableRel, StoreRel, set_table, set_memory, drop_elem, drop_data}
 use Rattle.index_remap.specs.RelatedRuns.{HasNoPartner}
 use Rattle.index_remap.proofs.Rel.{written, overwrite_rel}
@@ -25,7 +24,7 @@ use Rattle.world_simulation.specs.Definitions.{Instantiated, DefinedAt, values_i
 use Rattle.world_simulation.specs.Segments.{InOrder, ElemsPartner, ElemAlone, DatasPartner, DataAlone, alone_in_first, offset_in, ElemsInOrder, DatasInOrder}
 use Rattle.world_simulation.specs.Segments as segments
 use Rattle.world_simulation.proofs.Places.{then_rel, then_same}
-use Rattle.world_simulation.proofs.Instancing.{IsInst, inst_is, insts_are}
+use Rattle.world_simulation.proofs.Instancing.{IsInst, inst_in}
 use Rattle.world_simulation.proofs.Copied.{both_placed, HasRoom, run_elem_room, run_data_room, Kept, nothing_kept, Copies, elem_copied, data_copied}
 
 -- ---- each segment is one that its part defines ----
@@ -99,11 +98,8 @@ module _ (env : Environment) (w : Instantiated) (k : Space) {A : Type 0} (defini
 -- the instance of a part of a world that is instantiated
 pub inst_at : (env : Environment) (w : Instantiated) → insts_from env w.parts 0 w.parts ≡ Some w.insts → (p : ℕ) (m : Module) (i : Inst) → module_at w.parts p ≡ Some m → slice_get w.insts p ≡ Some i → IsInst env w.parts p m i
 inst_at env w are p m i is there =
-    let r = (insts_are env w.parts 0 w.parts w.insts are).each p m is in
-    let both : Some r.0 ≡ Some i = sym r.1 ∙ there in
-    let same : r.0 ≡ i = cc in
-    let from_0 : 0 + p ≡ p = omega arith in
-    inst_is env w.parts p m i (ap (λ p. world.inst_of env w.parts p m) (sym from_0) ∙ r.2 ∙ ap Some same)
+    let r = inst_in env w.parts w.insts are p m is in
+    subst (IsInst env w.parts p m) (same_Some _ _ (sym r.1 ∙ there)) r.2
 
 numbers_from : (n count : ℕ) → numbers n count ≡ numbers (0 + n) count
 numbers_from n count = let e : n ≡ 0 + n = omega arith in ap (λ n. numbers n count) e

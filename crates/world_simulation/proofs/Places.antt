@@ -56,6 +56,13 @@ opt_both {B = B} {P = P} {p = p} {a = a} r e f = go (subst (λ y. OptRel P (Some
 pub opt_at : {A B : Type 0} {P : A → B → Type 0} {o p : Option A} {q r : Option B} → o ≡ p → q ≡ r → OptRel P p r → OptRel P o q
 opt_at {P = P} {o = o} {r = r} e f h = subst (λ y. OptRel P o y) (sym f) (subst (λ x. OptRel P x r) (sym e) h)
 
+-- both are there or neither, where each is there with the other
+pub both_or_none : {A B : Type 0} {P : A → B → Type 0} (o : Option A) (p : Option B) → ((a : A) (b : B) → o ≡ Some a → p ≡ Some b → P a b) → ((a : A) → o ≡ Some a → (b : B) × (p ≡ Some b)) → ((b : B) → p ≡ Some b → (a : A) × (o ≡ Some a)) → OptRel P o p
+both_or_none None None pair left right = none
+both_or_none (Some a) (Some b) pair left right = some (pair a b refl refl)
+both_or_none (Some a) None pair left right = absurd (let x = left a refl in let z = x.1 in cc)
+both_or_none None (Some b) pair left right = absurd (let x = right b refl in let z = x.1 in cc)
+
 -- ---- lists that are related ----
 
 pub place_rel : {A B : Type 0} {P : A → B → Type 0} {xs : List A} {ys : List B} → ListRel P xs ys → (n : ℕ) → OptRel P (slice_get xs n) (slice_get ys n)
