@@ -1,5 +1,5 @@
 -- Lists and index spaces from which one entry is taken: those before it stay, and those behind it go down by one.
-use Rattle.std.proofs.Common.{◌≡◌, ℕ, zero, suc, ◌+◌, ◌-◌, ◌<◌, ◌≤◌, List, [], ◌∷◌, ◌++◌, map, length, Some, Bool, true, false, cond, ◌&&◌, ◌⊎◌, inl, inr, refl, sym, ap, subst, ◌∙◌, arith}
+use Rattle.std.proofs.Common.{◌≡◌, ℕ, zero, suc, ◌+◌, ◌-◌, ◌<◌, ◌≤◌, List, [], ◌∷◌, ◌++◌, map, length, Some, Bool, true, false, cond, ◌&&◌, ◌⊎◌, inl, inr, refl, sym, ap, subst, ◌∙◌, arith, length-append, ap₂}
 use Rattle.std.specs.Prelude.{slice_get, slice_index, nat_eq, nat_lt}
 use Rattle.std.proofs.lemmas.Bool.{cases_lt, ltb-true, lt-ltb, eqb-true, eq-eqb, and_from}
 use Rattle.std.proofs.lemmas.Option.{slice_get_within}
@@ -9,7 +9,7 @@ use Rattle.base_lists.proofs.Places.{append_left, append_right, map_at, append_a
 use Rattle.wasm_meaning.specs.World.{numbers, Task, tasks_in, own_count, defined_count}
 use Rattle.index_remap.specs.Related.{OptRel, some, ListRel}
 use Rattle.world_simulation.specs.Unreachable.{without}
-use Rattle.world_simulation.proofs.Places.{place_rel, opt_at}
+use Rattle.world_simulation.proofs.Places.{place_rel, opt_at, map_length}
 use Rattle.wasm_meaning.specs.State.{Inst}
 use Rattle.index_remap.specs.Renumbered.{has}
 use Rattle.world_simulation.specs.Segments.{InOrder, both}
@@ -114,7 +114,7 @@ space_moves P l from gap count fewer r within smaller equal related x y h move =
         (some (related (from + suc z) (from + z) (high (omega (arith, first, m)) (omega (arith, first, h)) (omega arith))))
 
 -- segments of one module each, at the same addresses, and then more of the second
-pub in_step : {A : Type 0} (partners : Task A → Task A → Type 0) (first second : Task A → Type 0) (i j : Inst) (new : A → A) (more : List A) (from extra : ℕ) (es : List A) → ((ns : List ℕ) → InOrder partners first second [] (tasks_in 0 j ns more ++ [])) →
+in_step : {A : Type 0} (partners : Task A → Task A → Type 0) (first second : Task A → Type 0) (i j : Inst) (new : A → A) (more : List A) (from extra : ℕ) (es : List A) → ((ns : List ℕ) → InOrder partners first second [] (tasks_in 0 j ns more ++ [])) →
     ((x : ℕ) (e : A) → slice_get es x ≡ Some e → partners (record { part = 0; inst = i; address = from + x; segment = e }) (record { part = 0; inst = j; address = from + x; segment = new e })) →
     InOrder partners first second (tasks_in 0 i (numbers from (length es)) es ++ []) (tasks_in 0 j (numbers from (length es + extra)) (map new es ++ more) ++ [])
 in_step partners first second i j new more from extra [] nothing each = nothing _
@@ -125,6 +125,17 @@ in_step {A} partners first second i j new more from extra (e ∷ es) nothing eac
     subst (λ c. InOrder partners first second (tasks_in 0 i (numbers from (suc (length es))) (e ∷ es) ++ []) (tasks_in 0 j (numbers from c) (new e ∷ (map new es ++ more)) ++ [])) (sym size)
     (both (subst (λ a. partners (abbreviated a i e) (abbreviated a j (new e))) here (each 0 e refl))
     (in_step partners first second i j new more (suc from) extra es nothing (λ x d h. let n : from + suc x ≡ suc from + x = omega arith in subst (λ a. partners (abbreviated a i d) (abbreviated a j (new d))) n (each (suc x) d h))))
+
+-- all of two modules alone, of which the second has more
+pub all_in_step : {A : Type 0} (partners : Task A → Task A → Type 0) (first second : Task A → Type 0) (i j : Inst) (new : A → A) (more : List A) (es us : List A) (xs ys : List ℕ) → xs ≡ numbers 0 (length es) → ys ≡ numbers 0 (length us) → us ≡ map new es ++ more →
+    ((ns : List ℕ) → InOrder partners first second [] (tasks_in 0 j ns more ++ [])) →
+    ((x : ℕ) (e : A) → slice_get es x ≡ Some e → partners (record { part = 0; inst = i; address = 0 + x; segment = e }) (record { part = 0; inst = j; address = 0 + x; segment = new e })) →
+    InOrder partners first second (tasks_in 0 i xs es ++ []) (tasks_in 0 j ys us ++ [])
+all_in_step partners first second i j new more es us xs ys xs_are ys_are us_are nothing each =
+    let size : length es + length more ≡ length us = (let e = ap length us_are ∙ length-append (map new es) more in let c = map_length new es in omega (arith, e, c)) in
+    subst (λ xs. InOrder partners first second (tasks_in 0 i xs es ++ []) (tasks_in 0 j ys us ++ [])) (sym xs_are)
+    (subst (λ l. InOrder partners first second (tasks_in 0 i (numbers 0 (length es)) es ++ []) l) (ap₂ (λ ns us. tasks_in 0 j ns us ++ []) (ap (numbers 0) size ∙ sym ys_are) (sym us_are))
+    (in_step partners first second i j new more 0 (length more) es nothing each))
 
 pub stays_at : (size x : ℕ) → has (numbers 0 size) x ≡ true → (slice_index (numbers 0 size) x ≡ x) × (x < size)
 stays_at size x h = let l = ltb-true _ _ h in let c = length-numbers 0 size in (numbers_index size x (omega (arith, l, c)), omega (arith, l, c))

@@ -3,8 +3,7 @@
 use Rattle.std.proofs.Common.{◌≡◌, ℕ, suc, ◌+◌, ◌<◌, List, [], ◌∷◌, ◌++◌, map, length, Option, Some, None, Bool, true, ◌⊎◌, inl, inr, refl, sym, ap, ap₂, subst, ◌∙◌, arith, option_and_then, append-nil, ◌≤◌}
 use Rattle.std.specs.Prelude.{slice_get, slice_index, IsTrue}
 use Rattle.std.proofs.lemmas.List.{length-append}
-use Rattle.std.proofs.lemmas.Option.{slice_get_within}
-use Rattle.base_lists.proofs.Numbers.{length-numbers}
+use Rattle.std.proofs.lemmas.Option.{slice_get_within, same_Some}
 use Rattle.base_lists.proofs.Options.{and_then_is, all_there_at}
 use Rattle.base_lists.proofs.Places.{map_from, append_from}
 use Rattle.wasm_tree.specs.declared.space.Space.{Space}
@@ -21,7 +20,7 @@ use Rattle.wasm_meaning.specs.State.{Inst, Text, Func, Global, Elem, Store, Val}
 use Rattle.index_remap.specs.declared.remap.Remap.{Remap}
 use Rattle.remap_typing.specs.Indices.{Indices, ExportNamesOnly, ConstNamesOnly, TreeNamesOnly}
 use Rattle.world_simulation.specs.Segments.{InOrder, both, ends, only_second, ElemsPartner, ElemAlone, DatasPartner, DataAlone, alone_in_first, ElemsInOrder, DatasInOrder}
-use Rattle.world_simulation.proofs.Holes.{in_step, Down, Moved, stays, space_moves, stays_at}
+use Rattle.world_simulation.proofs.Holes.{Down, Moved, stays, space_moves, stays_at, all_in_step}
 use Rattle.wasm_tree.specs.declared.module.GlobalDef.{GlobalDef}
 use Rattle.wasm_meaning.specs.Linking.{Entity, imports_of}
 use Rattle.wasm_meaning.specs.World as world
@@ -44,7 +43,7 @@ use Rattle.world_simulation.specs.Alone.{one, addresses, read_in, read_place}
 use Rattle.world_simulation.specs.Owned.{SharesOwn}
 use Rattle.world_simulation.specs.Named.{EntriesName}
 use Rattle.world_simulation.proofs.Declared.{last_segments}
-use Rattle.world_simulation.proofs.Instancing.{IsInst}
+use Rattle.world_simulation.proofs.Instancing.{IsInst, is_space}
 use Rattle.world_simulation.proofs.Owned.{null_rel, own_globals_rel}
 use Rattle.world_simulation.specs.Simulation.{IsInstantiated}
 use Rattle.wasm_tree.specs.declared.module.Func as tree
@@ -77,8 +76,7 @@ module _ (of : Space → ℕ → ℕ → Bool) (m : Remap) (kept : Indices) (t u
     space_rel k xs ys gap hx hy related within smaller equal x y h move =
         let sx = space_at R env own t k xs hx in
         let sy = space_at R env own u k ys hy in
-        let both : Some sy.imported ≡ Some sx.imported = sym sy.are ∙ ap₂ (λ ts is. addresses env ts is k) same.types same.imports ∙ sx.are in
-        let imported : sy.imported ≡ sx.imported = cc in
+        let imported = same_Some _ _ (sym sy.are ∙ ap₂ (λ ts is. addresses env ts is k) same.types same.imports ∙ sx.are) in
         let many = sx.many in
         opt_at (ap (λ l. slice_get l x) sx.all) (ap (λ l. slice_get l y) (sy.all ∙ ap (λ l. l ++ numbers (own_count k env) (defined_count k u)) imported))
         (space_moves (R.of k) sx.imported (own_count k env) gap (defined_count k t) (defined_count k u) sx.shared within smaller equal related x y (omega (arith, h, many)) (subst (λ c. Moved (c + gap) x y) (sym many) move))
@@ -113,8 +111,7 @@ module _ (of : Space → ℕ → ℕ → Bool) (m : Remap) (kept : Indices) (t u
     same_globals =
         let sx = space_at R env own t Globals i.globals a.globals in
         let sy = space_at R env own u Globals j.globals b.globals in
-        let both : Some sy.imported ≡ Some sx.imported = sym sy.are ∙ ap₂ (λ ts is. addresses env ts is Globals) same.types same.imports ∙ sx.are in
-        let imported : sy.imported ≡ sx.imported = cc in
+        let imported = same_Some _ _ (sym sy.are ∙ ap₂ (λ ts is. addresses env ts is Globals) same.types same.imports ∙ sx.are) in
         sy.all ∙ ap₂ (λ l c. l ++ numbers (own_count Globals env) c) imported globals_many ∙ sym sx.all
 
     pub consts : (e : ConstExpr) → ConstNamesOnly kept e → OptRel (ValRel R) (values_in env v 0 e) (values_in env w 0 (new_const m e))
@@ -137,55 +134,25 @@ module _ (of : Space → ℕ → ℕ → Bool) (m : Remap) (kept : Indices) (t u
         go None = none
         go (Some y) = value y
 
-    abbrev ElemPartners : Task ElemSeg → Task ElemSeg → Type 0
-    ElemPartners x y = ElemsPartner R (values_in env v x.part) (values_in env w y.part) x y x.segment.mode y.segment.mode
-
-    abbrev FirstElem : Task ElemSeg → Type 0
-    FirstElem x = ElemAlone (alone_in_first R) env v x x.segment.mode
-
-    abbrev SecondElem : Task ElemSeg → Type 0
-    SecondElem y = ElemAlone (HasNoPartner R) env w y y.segment.mode
-
-    abbrev DataPartners : Task DataSeg → Task DataSeg → Type 0
-    DataPartners x y = DatasPartner R (values_in env v x.part) (values_in env w y.part) x y x.segment.mode y.segment.mode
-
-    abbrev FirstData : Task DataSeg → Type 0
-    FirstData x = DataAlone (alone_in_first R) env v x x.segment.mode
-
-    abbrev SecondData : Task DataSeg → Type 0
-    SecondData y = DataAlone (HasNoPartner R) env w y y.segment.mode
-
     pub elems_in_order : ((x : ℕ) → x < length t.elems → R.of ElementSegments x x) → ElemsInOrder R env v w
     elems_in_order elem_shared =
-        subst (λ l. InOrder ElemPartners FirstElem SecondElem (elem_tasks 0 (one t) (i ∷ [])) l) (ap₂ (λ ns es. tasks_in 0 j ns es ++ []) (ap (λ c. numbers 0 c) size ∙ sym b.elems) (sym same.elems))
-        (subst (λ l. InOrder ElemPartners FirstElem SecondElem (tasks_in 0 i l t.elems ++ []) (tasks_in 0 j (numbers 0 (length t.elems + length (last_segments fs))) (map (new_elem m) t.elems ++ last_segments fs) ++ [])) (sym a.elems)
-        (in_step ElemPartners FirstElem SecondElem i j (new_elem m) (last_segments fs) 0 (length (last_segments fs)) t.elems (declared_alone fs)
-        (λ x e h. elem_mode_named of m kept i j names (values_in env v 0) (values_in env w 0) consts _ _ refl refl (elem_shared (0 + x) (let l = slice_get_within t.elems x e h in omega (arith, l))) e.mode (same.named.elem_modes x e h))))
+        all_in_step _ _ _ i j (new_elem m) (last_segments fs) t.elems u.elems i.elems j.elems a.elems b.elems same.elems (declared_alone fs)
+        (λ x e h. elem_mode_named of m kept i j names (values_in env v 0) (values_in env w 0) consts _ _ refl refl (elem_shared (0 + x) (let l = slice_get_within t.elems x e h in omega (arith, l))) e.mode (same.named.elem_modes x e h))
       where
-        size : length t.elems + length (last_segments fs) ≡ length u.elems
-        size = let e = length-append (map (new_elem m) t.elems) (last_segments fs) in let c = map_length (new_elem m) t.elems in let d = ap length same.elems in omega (arith, e, c, d)
-
-        declared_alone : (fs : List ℕ) (ns : List ℕ) → InOrder ElemPartners FirstElem SecondElem [] (tasks_in 0 j ns (last_segments fs) ++ [])
+        declared_alone : (fs : List ℕ) (ns : List ℕ) →
+            InOrder (λ x y. ElemsPartner R (values_in env v x.part) (values_in env w y.part) x y x.segment.mode y.segment.mode) (λ x. ElemAlone (alone_in_first R) env v x x.segment.mode) (λ y. ElemAlone (HasNoPartner R) env w y y.segment.mode) [] (tasks_in 0 j ns (last_segments fs) ++ [])
         declared_alone [] [] = ends
         declared_alone [] (n ∷ ns) = ends
         declared_alone (f ∷ fs) [] = ends
-        declared_alone (f ∷ fs) (n ∷ ns) = only_second order.ElemAlone.declarative (nothing ns)
-          where
-            nothing : (ns : List ℕ) → InOrder ElemPartners FirstElem SecondElem [] (tasks_in 0 j ns [] ++ [])
-            nothing [] = ends
-            nothing (n ∷ ns) = ends
+        declared_alone (f ∷ fs) (n ∷ []) = only_second order.ElemAlone.declarative ends
+        declared_alone (f ∷ fs) (n ∷ k ∷ ns) = only_second order.ElemAlone.declarative ends
 
     pub datas_in_order : ((x : ℕ) → x < length t.datas → R.of DataSegments x x) → DatasInOrder R env v w
     datas_in_order data_shared =
-        subst (λ l. InOrder DataPartners FirstData SecondData (data_tasks 0 (one t) (i ∷ [])) l) (ap₂ (λ ns ds. tasks_in 0 j ns ds ++ []) (ap (λ c. numbers 0 c) size ∙ sym b.datas) (append-nil _ ∙ sym same.datas))
-        (subst (λ l. InOrder DataPartners FirstData SecondData (tasks_in 0 i l t.datas ++ []) (tasks_in 0 j (numbers 0 (length t.datas + 0)) (map (new_data m) t.datas ++ []) ++ [])) (sym a.datas)
-        (in_step DataPartners FirstData SecondData i j (new_data m) [] 0 0 t.datas nothing
-        (λ x d h. data_mode_named of m kept i j names (values_in env v 0) (values_in env w 0) consts _ _ refl refl (data_shared (0 + x) (let l = slice_get_within t.datas x d h in omega (arith, l))) d.mode (same.named.data_modes x d h))))
+        all_in_step _ _ _ i j (new_data m) [] t.datas u.datas i.datas j.datas a.datas b.datas (same.datas ∙ sym (append-nil _)) (λ ns. nothing ns)
+        (λ x d h. data_mode_named of m kept i j names (values_in env v 0) (values_in env w 0) consts _ _ refl refl (data_shared (0 + x) (let l = slice_get_within t.datas x d h in omega (arith, l))) d.mode (same.named.data_modes x d h))
       where
-        size : length t.datas + 0 ≡ length u.datas
-        size = let e = ap length same.datas in let c = map_length (new_data m) t.datas in omega (arith, e, c)
-
-        nothing : (ns : List ℕ) → InOrder DataPartners FirstData SecondData [] (tasks_in 0 j ns [] ++ [])
+        nothing : {P : Task DataSeg → Task DataSeg → Type 0} {F S : Task DataSeg → Type 0} (ns : List ℕ) → InOrder P F S [] (tasks_in 0 j ns [] ++ [])
         nothing [] = ends
         nothing (n ∷ ns) = ends
 
@@ -231,14 +198,11 @@ module _ (of : Space → ℕ → ℕ → Bool) (m : Remap) (kept : Indices) (t u
 
       func_space : length j.funcs ≡ length (funcs_of u)
       func_space =
-          let sy = space_at R env own u Functions j.funcs b.funcs in
-          let l = ap length sy.all ∙ length-append sy.imported _ in
-          let c = length-numbers (own_count Functions env) (length u.funcs) in
-          let d = sy.many in
+          let s = (is_space env (one u) Functions 0 u j.funcs b.funcs).size in
           let e = funcs_counted u.imports 0 in
           let f = length-append (imported_funcs u.imports) (map (λ f. f.ty) u.funcs) in
           let g = map_length (λ f. f.ty) u.funcs in
-          omega (arith, l, c, d, e, f, g)
+          omega (arith, s, e, f, g)
 
       elem_there : (y : ℕ) (e : ElemSeg) → slice_get u.elems y ≡ Some e → (x : Elem) × (world.elem_of env (one u) (j ∷ []) 0 e ≡ Some x)
       elem_there y e h = by (append_from (map (new_elem m) t.elems) (last_segments fs) y e (ap (λ l. slice_get l y) (sym same.elems) ∙ h))
