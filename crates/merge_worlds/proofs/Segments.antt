@@ -37,7 +37,7 @@ use Rattle.world_simulation.proofs.Renamed.{offset_same}
 use Rattle.merge_worlds.specs.Shared.{shared_count, sharing}
 use Rattle.merge_worlds.specs.Instances.{SpaceAgrees, PartAgrees, InstancesAgree}
 use Rattle.merge_worlds.proofs.Instances.{map_elems, map_datas}
-use Rattle.merge_worlds.proofs.MergedLists.{declared_in, by_part_is}
+use Rattle.merge_worlds.proofs.MergedLists.{declared_in, elems_join, datas_join}
 use Rattle.merge_worlds.proofs.SegmentTurns.{task, all_in_order}
 use Rattle.merge_worlds.proofs.ValueGiven.{Laws, elem_holds, data_holds}
 use Rattle.merge_worlds.proofs.ValueShared.{shares, names_one}
@@ -108,7 +108,7 @@ module _ (laws : Laws) (env : Environment) (parts : List Part) (mode : Mode) (ca
         agrees = subst (SpaceAgrees env parts ElementSegments i.0.elems j.elems) (map_elems parts p m) i.2.elems;
         each = λ x a e h lt. elem_partners p m i.0 a e is i.2 (elem_holds laws m (can.valid p m is) x e h) lt;
       })
-      J (by_part_is parts mode).elems _ _ (elems_by 0 parts insts) (ap (elem_tasks 0 (one J)) agree.alone)
+      J (elems_join parts mode).is _ _ (elems_by 0 parts insts) (ap (elem_tasks 0 (one J)) agree.alone)
 
   -- ---- data segments ----
 
@@ -132,7 +132,7 @@ module _ (laws : Laws) (env : Environment) (parts : List Part) (mode : Mode) (ca
         agrees = subst (SpaceAgrees env parts DataSegments i.0.datas j.datas) (map_datas parts p m) i.2.datas;
         each = λ x a d h lt. data_partners p m i.0 a d is i.2 (data_holds laws m (can.valid p m is) x d h) lt;
       })
-      J ((by_part_is parts mode).datas ∙ sym (append-nil _)) _ _ (datas_by 0 parts insts) (ap (data_tasks 0 (one J)) agree.alone)
+      J (datas_join parts mode).is _ _ (datas_by 0 parts insts) (ap (data_tasks 0 (one J)) agree.alone)
     where
       no_tasks : {P : Task DataSeg → Task DataSeg → Type 0} {F S : Task DataSeg → Type 0} (ns : List ℕ) → InOrder P F S [] (tasks_in 0 j ns [])
       no_tasks [] = ends
