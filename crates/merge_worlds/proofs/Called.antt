@@ -16,7 +16,7 @@ use Rattle.wasm_tree.specs.declared.module.DataSeg.{DataSeg}
 use Rattle.wasm_tree.specs.declared.module.Module.{Module}
 use Rattle.wasm_tree.specs.Spaces.{func_of, imported_funcs, funcs_of, type_of_func}
 use Rattle.wasm_meaning.specs.Outcomes.{Outcome, Gives, at, overwrite}
-use Rattle.wasm_meaning.specs.State.{RefVal, Inst, Func, Code, Table, Memory, Store, Val}
+use Rattle.wasm_meaning.specs.State.{RefVal, Inst, Code, Table, Memory, Store, Val}
 use Rattle.wasm_meaning.specs.Values.{declared}
 use Rattle.wasm_meaning.specs.Control.{type_at}
 use Rattle.wasm_meaning.specs.Linking.{Part, has_kind, imports_of, sites}
@@ -121,7 +121,7 @@ module _ (laws : SpaceLaws) (env : Environment) (t : Module) (j : Inst) (inst : 
   pub own_func_at : (n : ℕ) (f : tree.Func) (ty : FuncType) → slice_get t.funcs n ≡ Some f → slice_get t.types f.ty ≡ Some ty → slice_get z.funcs (own_count Functions env + n) ≡ Some (Code ty j (declared f.locals) f.body)
   own_func_at n f ty h e =
       let r = func_placed env (record { parts = one t; insts = j ∷ [] }) z there (record { part = 0; of = t; is_part = refl; inst = j; is_inst = refl; place = n; definition = f; stands = h; address = omega arith }) in
-      r.1 ∙ sym r.2 ∙ ap (λ o. option_and_then {T = FuncType} {U = Func} (λ ty. Some (Code ty j (declared f.locals) f.body)) o) (ap (λ l. slice_get l f.ty) inst.types ∙ e)
+      r.1 ∙ sym r.2 ∙ rw (inst.types, e) refl
 
   import_typed : all_of (is_matched env (one t) z) (sites (one t)) ≡ true → (x n a : ℕ) (ty : FuncType) → slice_get (imports_of Functions t) x ≡ Some n → import_address env (one t) Functions 0 n ≡ Some a → type_of_func t x ≡ Some ty → type_at z a ≡ Gives ty
   import_typed matched x n a ty e address h =

@@ -1,8 +1,7 @@
 -- What the parts define and what it becomes in the merged module correspond: each definition stands in the merged module at its number among all of its space.
 use Rattle.std.proofs.lemmas.Option.{same_Some}
-use Rattle.std.proofs.Common.{◌≡◌, ℕ, ◌+◌, ◌<◌, List, [], ◌∷◌, ◌++◌, map, length, Option, Some, zero, suc, append-nil, true, ◌⊎◌, inl, inr, refl, sym, ap, ap₂, subst, ◌∙◌, arith}
+use Rattle.std.proofs.Common.{◌≡◌, ℕ, ◌+◌, ◌<◌, List, [], ◌∷◌, map, length, Option, Some, zero, suc, true, ◌⊎◌, inl, inr, refl, sym, ap, ap₂, subst, ◌∙◌, arith}
 use Rattle.wasm_tree.specs.declared.space.Space.{Space}
-use Rattle.wasm_tree.specs.declared.space.Space.TheVariants.{Functions, Tables, Memories, Globals, ElementSegments, DataSegments}
 use Rattle.std.specs.Prelude.{slice_get}
 use Rattle.std.specs.List.{list_all}
 use Rattle.base_lists.proofs.Each.{list_all_each}
@@ -34,9 +33,9 @@ use Rattle.world_simulation.proofs.Stored.{func_placed, global_placed, elem_plac
 use Rattle.world_simulation.proofs.Allocated.{stores_there, part_there}
 use Rattle.export_names.specs.declared.mode.Mode.{Mode}
 use Rattle.merge_terms.specs.Joined.{joined_module}
-use Rattle.merge_terms.specs.Merged.{map_of, by_part_from, start_calls, starts, merged_const, merged_global, merged_elem, merged_elem_mode, merged_data, merged}
+use Rattle.merge_terms.specs.Merged.{map_of, by_part_from, start_calls, starts, merged_const, merged_global, merged_elem, merged_elem_mode, merged}
 use Rattle.merge_validity.specs.Joinable.{CanBeJoined}
-use Rattle.merge_validity.proofs.ByPart.{defined_is, by_part_at, by_part_back, by_part_flat, by_part_same, map_self}
+use Rattle.merge_validity.proofs.ByPart.{defined_is, by_part_at, by_part_back}
 use Rattle.merge_worlds.specs.Instances.{PartAgrees}
 use Rattle.merge_worlds.specs.Shared.{sharing}
 use Rattle.merge_worlds.proofs.ValueShared.{is_same}

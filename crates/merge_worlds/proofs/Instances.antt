@@ -10,7 +10,7 @@ use Rattle.wasm_tree.specs.Spaces.{imported_funcs, imported_tables, imported_mem
 use Rattle.wasm_meaning.specs.State.{Inst}
 use Rattle.wasm_meaning.specs.Linking.{Part, Site, has_kind, module_at, imports_of}
 use Rattle.wasm_meaning.specs.Environment.{Environment}
-use Rattle.wasm_meaning.specs.World.{own_count, defined_count, base, thing_of, address_of, all_there, numbers, space, inst_of, insts_from, defined_before}
+use Rattle.wasm_meaning.specs.World.{own_count, defined_count, base, all_there, numbers, space, inst_of, insts_from, defined_before}
 use Rattle.index_remap.specs.References.{declared_refs}
 use Rattle.index_remap.specs.Related.{OptRel}
 use Rattle.index_remap.specs.Renumbered.{entries}
@@ -202,7 +202,7 @@ module _ (laws : SpaceLaws) (env : Environment) (parts : List Part) (linked : li
       let x = place_there (has_kind k) m.imports 0 s.import w.0.import w.0.stands w.1 in
       let import : 0 + s.import ≡ s.import = omega arith in
       let r = all_there_at (import_address env parts k s.part) (imports_of k m) t.imported t.are x.0 s.import (x.1 ∙ ap Some import) in
-      (r.0, sym (ap (λ o. option_and_then (address_of k) (option_and_then (thing_of env parts) o)) (laws.stays parts linked s w.0.import w.0.at w.0.remains).0) ∙ r.1)
+      (r.0, rw (laws.stays parts linked s w.0.import w.0.at w.0.remains).0 at r.1)
 
   joined_present : (js : List Inst) → insts_from env (one J) 0 (one J) ≡ Some js → AllPresent
   joined_present js h k e n s at =
@@ -214,7 +214,7 @@ module _ (laws : SpaceLaws) (env : Environment) (parts : List Part) (linked : li
   joined_there : AllPresent → (js : List Inst) × (insts_from env (one J) 0 (one J) ≡ Some js)
   joined_there present =
       let i = all_spaces (one J) 0 J (merged_there present) in
-      (i.0 ∷ [], ap (λ o. option_and_then {T = Inst} {U = List Inst} (λ i. Some (i ∷ [])) o) i.1)
+      (i.0 ∷ [], rw i.1 refl)
 
   pub linked_instances_agree : OptRel (InstancesAgree env parts) (insts_from env parts 0 parts) (insts_from env (one J) 0 (one J))
   linked_instances_agree = both_or_none _ _ both_there (λ insts h. joined_there (parts_present insts h)) (λ js g. insts_in env parts (λ p m is. all_spaces parts p m (part_there (joined_present js g) p m is)))

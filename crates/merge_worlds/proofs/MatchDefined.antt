@@ -9,21 +9,20 @@ use Rattle.wasm_tree.specs.declared.module.ExportDesc.{ExportDesc}
 use Rattle.wasm_tree.specs.declared.module.ExportDesc.TheVariants as ex
 use Rattle.wasm_tree.specs.declared.module.Module.{Module}
 use Rattle.wasm_tree.specs.Spaces.{imported_funcs, imported_tables, imported_memories, imported_globals, funcs_of, tables_of, memories_of, globals_of, type_of_func, index_of_export, space_of_export}
-use Rattle.wasm_meaning.specs.Outcomes.{Gives, bind}
-use Rattle.wasm_meaning.specs.State.{Inst, Code, Global, Store}
+use Rattle.wasm_meaning.specs.Outcomes.{Gives}
+use Rattle.wasm_meaning.specs.State.{Inst, Code, Store}
 use Rattle.wasm_meaning.specs.Values.{null_of, declared}
-use Rattle.wasm_meaning.specs.Control as control
 use Rattle.wasm_meaning.specs.Control.{type_at}
 use Rattle.wasm_meaning.specs.Linking.{imports_of, module_at}
 use Rattle.wasm_meaning.specs.Environment.{Environment}
-use Rattle.wasm_meaning.specs.World.{given, base, thing_at, value_of, own_store, stores_from}
+use Rattle.wasm_meaning.specs.World.{base, thing_at, value_of, own_store, stores_from}
 use Rattle.wasm_meaning.proofs.Slices.{copies_length}
 use Rattle.world_simulation.specs.Definitions.{Instantiated, DefinedAt}
 use Rattle.world_simulation.proofs.Alone.{funcs_counted, tables_counted, memories_counted, globals_counted}
 use Rattle.world_simulation.proofs.Stored.{func_placed, table_placed, memory_placed, global_placed}
 use Rattle.merge_terms.specs.Faults.{External, FuncOf, TableOf, MemoryOf, GlobalOf, external_of}
 use Rattle.merge_worlds.proofs.Lists.{at_is}
-use Rattle.merge_worlds.proofs.MatchTypes.{type_in, table_type, memory_type}
+use Rattle.merge_worlds.proofs.MatchTypes.{type_in}
 use Rattle.base_lists.proofs.Options.{and_then_is}
 use Rattle.base_lists.proofs.Places.{map_from, append_right}
 
@@ -49,25 +48,24 @@ module _ (env : Environment) (w : Instantiated) (s : Store) (made : stores_from 
       let f = map_from (λ f. f.ty) m.funcs (place Functions n) ty.0 (after (imported_funcs m.imports) _ _ n ty.0 (funcs_counted m.imports 0) le ty.1) in
       let x = func_placed env w s made (defined Functions (λ m. m.funcs) n f.0 f.1) in
       let type_is : slice_get i.types f.0.ty ≡ Some t = ap₂ slice_get types f.2 ∙ ty.2 in
-      let code : Code t i (declared f.0.locals) f.0.body ≡ x.0 = same_Some _ _ (sym (ap (option_and_then (λ t. Some (Code t i (declared f.0.locals) f.0.body))) type_is) ∙ x.2) in
-      ap (λ o. bind o (λ f. Gives (control.type_of_func f))) (at_is s.funcs (address Functions n) x.0 x.1) ∙ ap (λ f. Gives (control.type_of_func f)) (sym code)
+      let code : Code t i (declared f.0.locals) f.0.body ≡ x.0 = same_Some _ _ (rw type_is at x.2) in
+      rw (at_is s.funcs (address Functions n) x.0 x.1, ← code) refl
 
   pub defined_type : (what : ExportDesc) (x : External) → external_of m what ≡ Some x → length (imports_of (space_of_export what) m) ≤ index_of_export what →
       option_and_then (type_in s) (thing_at (space_of_export what) (address (space_of_export what) (index_of_export what))) ≡ Some x
   defined_type (ex.Func n) x h le =
       let t = and_then_is (type_of_func m n) (λ t. Some (FuncOf t)) x h in
-      ap (λ o. option_and_then (λ t. Some (FuncOf t)) (given o)) (func_typed n t.0 le t.1) ∙ t.2
+      rw (func_typed n t.0 le t.1) t.2
   defined_type (ex.Table n) x h le =
       let t = and_then_is (slice_get (tables_of m) n) (λ t. Some (TableOf t)) x h in
       let d = defined Tables (λ m. m.tables) n t.0 (after (imported_tables m.imports) _ _ n t.0 (tables_counted m.imports 0) le t.1) in
-      ap (option_and_then (λ u. Some (table_type u))) (table_placed env w s made d)
-      ∙ ap (λ n. Some (TableOf (record { ty = t.0.ty; limits = record { min = n; max = t.0.limits.max } }))) (copies_length t.0.limits.min (null_of t.0.ty)) ∙ t.2
+      rw (table_placed env w s made d, copies_length t.0.limits.min (null_of t.0.ty)) t.2
   defined_type (ex.Memory n) x h le =
       let l = and_then_is (slice_get (memories_of m) n) (λ l. Some (MemoryOf l)) x h in
-      ap (option_and_then (λ u. Some (memory_type u))) (memory_placed env w s made (defined Memories (λ m. m.mems) n l.0 (after (imported_memories m.imports) _ _ n l.0 (memories_counted m.imports 0) le l.1))) ∙ l.2
+      rw (memory_placed env w s made (defined Memories (λ m. m.mems) n l.0 (after (imported_memories m.imports) _ _ n l.0 (memories_counted m.imports 0) le l.1))) l.2
   defined_type (ex.Global n) x h le =
       let t = and_then_is (slice_get (globals_of m) n) (λ t. Some (GlobalOf t)) x h in
       let g = map_from (λ g. g.ty) m.globals (place Globals n) t.0 (after (imported_globals m.imports) _ _ n t.0 (globals_counted m.imports 0) le t.1) in
       let p = global_placed env w s made (defined Globals (λ m. m.globals) n g.0 g.1) in
       let v = and_then_is (value_of env w.parts w.insts q g.0.init) (λ v. Some (record { ty = g.0.ty; value = v })) p.0 p.2 in
-      ap (option_and_then (λ g. Some (GlobalOf g.ty))) p.1 ∙ ap (λ (g : Global). Some (GlobalOf g.ty)) (sym (same_Some _ _ v.2)) ∙ ap (λ t. Some (GlobalOf t)) g.2 ∙ t.2
+      rw (p.1, ← same_Some _ _ v.2, g.2) t.2

@@ -1,5 +1,5 @@
 -- The external type of an entity of the store (WebAssembly Core 2.0, section 4.5.1), and when it is what an import asks for.
-use Rattle.std.proofs.Common.{◌≡◌, ℕ, List, length, Option, Some, None, true, false, refl, sym, ap, ap₂, subst, ◌∙◌, option_and_then, slice_get, unwrap_or, ◌&&◌}
+use Rattle.std.proofs.Common.{◌≡◌, ℕ, List, length, Option, Some, None, true, false, refl, sym, ap, ap₂, subst, ◌∙◌, option_and_then, slice_get, unwrap_or}
 use Rattle.std.proofs.lemmas.Bool.{and_parts, and_from}
 use Rattle.std.proofs.lemmas.Option.{same_Some}
 use Rattle.wasm_tree.specs.declared.types.FuncType.{FuncType}
@@ -97,10 +97,10 @@ typed_by s (GlobalAt a) y h = let u = and_then_is (slice_get s.globals a) (λ g.
 
 -- and what has such a type matches
 fits_match : (s : Store) (m : Module) {d : ImportDesc} {x : External} {th : Thing} {y : External} → Asks m d x → Typed s th y → Fits x y → is_match s m d th ≡ Some true
-fits_match s m (func {t = t} e) (is_func f) k = ap₂ (λ o p. option_and_then (λ t. option_and_then (λ u. Some (same_func_type t u)) p) o) e f ∙ ap Some k.same
-fits_match s m (table {t = t}) (is_table f) k = ap (option_and_then (λ u. Some (same_ref t.ty u.ty && meets (length u.slots) u.most t.limits))) f ∙ ap Some (and_from _ _ k.same k.meets)
-fits_match s m (memory {l = l}) (is_memory f) k = ap (option_and_then (λ u. Some (meets u.pages u.most l))) f ∙ ap Some k.meets
-fits_match s m (global {t = t}) (is_global f) k = ap (option_and_then (λ g. Some (same_but_limits (GlobalOf t) (GlobalOf g.ty)))) f ∙ ap Some k.same
+fits_match s m (func e) (is_func f) k = rw (e, f) (ap Some k.same)
+fits_match s m table (is_table f) k = rw f (ap Some (and_from _ _ k.same k.meets))
+fits_match s m memory (is_memory f) k = rw f (ap Some k.meets)
+fits_match s m global (is_global f) k = rw f (ap Some k.same)
 fits_match s m _ _ k = absurd (let z = k.same in cc)
 
 -- related entities of related stores have one type
@@ -160,7 +160,7 @@ module _ (env : Environment) (parts : List Part) (s : Store) (t : Site) (i : Imp
   pub site_asks : Asks of i.desc x
   site_asks =
       let m = import_site parts t i at in
-      asks_by of i.desc x (sym (ap (λ o. option_and_then (λ m. option_and_then (λ i. asked m i.desc) (slice_get m.imports t.import)) o) m.1 ∙ ap (λ o. option_and_then (λ i. asked of i.desc) o) m.2) ∙ asks)
+      asks_by of i.desc x (rw (m.1, m.2) at asks)
 
   matched_is : is_matched env parts s t ≡ unwrap_or (option_and_then (is_match s of i.desc) (imported_thing env parts t)) false
   matched_is = ap₂ (λ o p. unwrap_or (option_and_then (λ m. option_and_then (λ i. option_and_then (is_match s m i.desc) (imported_thing env parts t)) p) o) false) (import_site parts t i at).1 at
@@ -173,4 +173,4 @@ module _ (env : Environment) (parts : List Part) (s : Store) (t : Site) (i : Imp
       record { thing = k.0; is = k.1; type = y.0; typed = y.1; fits = y.2 }
 
   pub fits_site : FitsAt s x (imported_thing env parts t) → is_matched env parts s t ≡ true
-  fits_site f = matched_is ∙ ap (λ o. unwrap_or (option_and_then (is_match s of i.desc) o) false) f.is ∙ ap (λ o. unwrap_or o false) (fits_match s of site_asks (typed_by s f.thing f.type f.typed) f.fits)
+  fits_site f = matched_is ∙ rw (f.is, fits_match s of site_asks (typed_by s f.thing f.type f.typed) f.fits) refl

@@ -4,7 +4,6 @@ use Rattle.wasm_tree.specs.declared.space.Space.{Space}
 use Rattle.wasm_tree.specs.declared.space.Space.TheVariants.{Functions, Tables, Memories, Globals, DataSegments, ElementSegments}
 use Rattle.wasm_tree.specs.Operands.{same_space}
 use Rattle.std.specs.List.{filter_map}
-use Rattle.wasm_tree.specs.declared.types.FuncType.{FuncType}
 use Rattle.wasm_tree.specs.declared.module.Import.{Import}
 use Rattle.wasm_tree.specs.declared.module.ImportDesc.{ImportDesc}
 use Rattle.wasm_tree.specs.declared.module.ImportDesc.TheVariants as im
@@ -12,8 +11,8 @@ use Rattle.wasm_tree.specs.declared.module.Module.{Module}
 use Rattle.wasm_meaning.specs.State.{Text, Pair}
 use Rattle.wasm_meaning.specs.Linking.{Part, Site, has_kind, pair_of, module_at, import_at, sites}
 use Rattle.wasm_tree.specs.Spaces.{space_of_import}
-use Rattle.wasm_meaning.specs.Environment.{Environment, FuncKey, OwnKey, owned_of, owned_at}
-use Rattle.wasm_meaning.specs.World.{own_count, defined_count, defined_before, address_of, own_key, own_key_of, outside_thing, all_there, numbers, space}
+use Rattle.wasm_meaning.specs.Environment.{Environment, owned_of}
+use Rattle.wasm_meaning.specs.World.{own_count, defined_count, defined_before, address_of, own_key_of, outside_thing, all_there, numbers, space}
 use Rattle.index_remap.specs.References.{declared_refs}
 use Rattle.world_simulation.proofs.Declared.{Keeps, keeps}
 use Rattle.export_names.specs.declared.mode.Mode.{Mode}
@@ -87,7 +86,7 @@ unfolding staying_of
 staying_kind laws parts k n s h =
     let r = kept_is (imports_kind parts k) (staying parts) n s (h) in
     let w = staying_is laws parts r.1.0 s (r.1.1) in
-    (w, sym (ap (λ o. unwrap_or (option_and_then (λ i. Some (has_kind k i)) o) false) w.at) ∙ r.0)
+    (w, rw w.at at r.0)
 
 moved_kind : (parts : List Part) (s : Site) (m : Module) (d : ImportDesc) → space_of_import (merged_desc parts s m d) ≡ space_of_import d
 moved_kind parts s m (im.Func ty) = refl
@@ -95,7 +94,7 @@ moved_kind parts s m _ = refl
 
 -- it names the same of the environment's own
 moved_key : SpaceLaws → (parts : List Part) (s : Site) (m : Module) → module_at parts s.part ≡ Some m → (pair : Pair) {d : ImportDesc} {x : External} → Asks m d x → key_in (merged_types parts) pair (merged_desc parts s m d) ≡ own_key_of m pair d
-moved_key laws parts s m is pair (func {ty = ty} {t = t} e) = ap (λ o. option_and_then {T = FuncType} {U = OwnKey} (λ t. Some (FuncKey pair t)) o) (laws.types parts s.part m ty t is e ∙ sym e)
+moved_key laws parts s m is pair (func {ty = ty} {t = t} e) = rw (laws.types parts s.part m ty t is e, e) refl
 moved_key laws parts s m is pair _ = refl
 
 pub demand_of : {parts : List Part} {s : Site} {i : Import} → Ended parts s i → (x : External) × (asked_at parts s ≡ Some x)
@@ -103,15 +102,13 @@ demand_of (inside w) = (w.demand, w.asks)
 demand_of (outside w) = (w.demand, w.asks)
 
 pub asked_staying : (parts : List Part) (s : Site) (w : IsStaying parts s) (x : External) → asked_at parts s ≡ Some x → asked w.of w.import.desc ≡ Some x
-asked_staying parts s w x h = sym (ap (λ o. option_and_then (λ m. option_and_then (λ i. asked m i.desc) (slice_get m.imports s.import)) o) w.is_part ∙ ap (λ o. option_and_then (λ i. asked w.of i.desc) o) w.stands) ∙ h
+asked_staying parts s w x h = rw (w.is_part, w.stands) at h
 
 module _ (laws : SpaceLaws) (env : Environment) (parts : List Part) (linked : link_fault parts ≡ None) where
   pub moved_thing : (s : Site) (w : IsStaying parts s) → thing_in env (merged_types parts) (Some (record w.import { desc = merged_desc parts s w.of w.import.desc })) ≡ outside_thing (owned_of env) parts s
   moved_thing s w =
       let x = demand_of (laws.ends parts linked s w.import w.at) in
-      ap (λ o. option_and_then (λ key. owned_at (owned_of env) key) o) (moved_key laws parts s w.of w.is_part (pair_of w.import) (asks_by w.of w.import.desc x.0 (asked_staying parts s w x.0 x.1)))
-      ∙ sym (ap (λ o. option_and_then (λ m. option_and_then (λ i. option_and_then (λ key. owned_at (owned_of env) key) (own_key m i)) (import_at parts s)) o) w.is_part
-      ∙ ap (λ o. option_and_then (λ i. option_and_then (λ key. owned_at (owned_of env) key) (own_key w.of i)) o) w.at)
+      rw (moved_key laws parts s w.of w.is_part (pair_of w.import) (asks_by w.of w.import.desc x.0 (asked_staying parts s w x.0 x.1)), w.is_part, w.stands) refl
 
   chosen_addresses : (k : Space) → addresses env (merged_types parts) (filter_map (merged_import parts) (staying parts)) k ≡ all_there (site_address env parts k) (staying_of parts k)
   unfolding staying_of

@@ -2,13 +2,11 @@
 use Rattle.wasm_tree.specs.declared.space.Space.TheVariants.{Functions, Tables, Memories, Globals, ElementSegments, DataSegments}
 use Rattle.wasm_tree.specs.declared.space.Space.{Space}
 use Rattle.merge_validity.proofs.ByPart.{by_part_flat, by_part_same, map_self}
-use Rattle.std.proofs.Common.{◌≡◌, refl, ℕ, ◌+◌, ◌<◌, List, ◌++◌, map, length, Some, sym, ap, subst, ◌∙◌, option_and_then, [], append-nil}
+use Rattle.std.proofs.Common.{◌≡◌, refl, ℕ, ◌+◌, ◌<◌, List, ◌++◌, map, length, sym, ap, subst, ◌∙◌, [], append-nil}
 use Rattle.std.specs.Prelude.{slice_get}
 use Rattle.std.specs.List.{flat_map}
 use Rattle.base_lists.proofs.Options.{all_there_from, AllThere}
 use Rattle.base_lists.proofs.Places.{slice_get_there, append_right}
-use Rattle.wasm_tree.specs.declared.module.ElemSeg.{ElemSeg}
-use Rattle.wasm_tree.specs.declared.module.Func as tree
 use Rattle.wasm_tree.specs.declared.module.Module.{Module}
 use Rattle.wasm_valid.specs.Validity.{IsValid}
 use Rattle.wasm_meaning.specs.State.{Inst, Code}
@@ -19,8 +17,6 @@ use Rattle.index_remap.specs.References.{declared_refs}
 use Rattle.export_names.specs.declared.mode.Mode.{Mode}
 use Rattle.merge_terms.specs.Joined.{joined_module}
 use Rattle.index_remap.specs.Renumbered as renumbered
-use Rattle.wasm_tree.specs.declared.module.GlobalDef.{GlobalDef}
-use Rattle.wasm_tree.specs.declared.module.DataSeg.{DataSeg}
 use Rattle.merge_terms.specs.Merged.{map_of, by_part_from, starts, start_calls, defined_funcs, merged, merged_global, merged_elem, merged_data}
 use Rattle.merge_worlds.proofs.ValueGiven.{Laws, func_typed}
 use Rattle.merge_worlds.proofs.MergedAlone.{joined_keeps, names_of}
@@ -81,4 +77,4 @@ module _ (parts : List Part) (mode : Mode) where
       let at = ap (λ fs. slice_get fs (length before + n)) (by_part_is parts mode).funcs ∙ append_right before (start_calls parts (starts parts)) n ∙ h in
       let lt = func_typed laws (joined_module parts mode) valid (length before + n) f at in
       let t = slice_get_there j.types f.ty (subst (λ ts. f.ty < length ts) (sym types) lt) in
-      (Code t.0 j (declared f.locals) f.body, ap (λ o. option_and_then (λ t. Some (Code t j (declared f.locals) f.body)) o) t.1))
+      (Code t.0 j (declared f.locals) f.body, rw t.1 refl))

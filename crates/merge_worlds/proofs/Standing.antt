@@ -10,7 +10,7 @@ use Rattle.wasm_tree.specs.declared.module.ImportDesc.{ImportDesc}
 use Rattle.wasm_tree.specs.declared.module.ImportDesc.TheVariants as im
 use Rattle.wasm_tree.specs.Spaces.{index_of_export, space_of_export, space_of_import}
 use Rattle.wasm_meaning.specs.Environment.{Environment, Thing, owned_of, same_key}
-use Rattle.wasm_meaning.specs.World.{own_count, defined_count, defined_before, base, thing_at, address_of, own_key, outside_thing, defined_thing, thing_of}
+use Rattle.wasm_meaning.specs.World.{own_count, defined_count, defined_before, base, thing_at, address_of, own_key, outside_thing, defined_thing}
 use Rattle.merge_terms.specs.Faults.{link_fault}
 use Rattle.merge_terms.specs.Merged.{staying_of, new_index}
 use Rattle.merge_validity.specs.Ended.{EndsInside, EndsOutside, Ended, inside, outside, is_external}
@@ -115,13 +115,13 @@ module _ (env : Environment) (parts : List Part) where
         ∙ address_at k (base env parts k e.part + j) (ap is_external (sym kind) ∙ import_external i.desc) in
         let number : base env parts k e.part + j ≡ own_count k env + d = omega arith in
         own d (omega (arith, follows, within, low))
-        (ap (λ o. option_and_then (address_of k) (option_and_then (thing_of env parts) o)) w.end ∙ thing ∙ ap Some number)
+        (rw w.end (thing ∙ ap Some number))
         ((laws.indices parts p m k x is).0 n (Defined e) h w.linked ∙ laws.defined parts e w.of k w.is_part)
 
     outside_stands : (k : Space) (p : ℕ) (m : Module) (x n : ℕ) (i : Import) → module_at parts p ≡ Some m → slice_get (imports_of k m) x ≡ Some n → space_of_import i.desc ≡ k → EndsOutside parts (record { part = p; import = n }) i → Stands k (import_address env parts k p n) (new_index parts p k x)
     outside_stands k p m x n i is h kind w =
         stays w.to (ap (slice_get (staying_of parts k)) ((laws.indices parts p m k x is).0 n (Outside w.to) h w.linked) ∙ laws.places parts w.to w.import w.at w.remains k (w.kind ∙ kind))
-        (ap (λ o. option_and_then (address_of k) (option_and_then (thing_of env parts) o)) w.end ∙ ap (λ o. option_and_then (address_of k) o) (w.same_thing (owned_of env)))
+        (rw (w.end, w.same_thing (owned_of env)) refl)
 
     -- an import of a part
     pub import_stands : (k : Space) (p : ℕ) (m : Module) (x n : ℕ) → module_at parts p ≡ Some m → slice_get (imports_of k m) x ≡ Some n → Stands k (import_address env parts k p n) (new_index parts p k x)

@@ -91,7 +91,7 @@ module _ (laws : SpaceLaws) (env : Environment) (parts : List Part) (linked : li
       (i.0, i.1, subst (λ n. ListRel (IsNamed env parts agree.merged) (start_in i.0 m.start) (start_of parts n m.start)) (sym from_0) (one_named p m i.0 i.2 m.start (start_fits (map_of parts p m) m (fit p m is)))))
 
   joined_starts : starts_of (one J) js ≡ start_in agree.merged (start_among (length (staying_of parts Functions) + defined_before Functions parts (length parts)) (starts parts)) ++ []
-  joined_starts = ap (starts_of (one J)) agree.alone ∙ ap (λ o. start_in agree.merged o ++ []) ((joined_keeps parts mode).start ∙ start_is parts (names_of parts mode))
+  joined_starts = rw (agree.alone, (joined_keeps parts mode).start, start_is parts (names_of parts mode)) refl
 
   -- where the merged module has a function more, the instance names it by its last index
   pub last_named : insts_from env (one J) 0 (one J) ≡ Some js → (f g : ℕ) (fs : List ℕ) → starts parts ≡ f ∷ g ∷ fs → slice_get agree.merged.funcs (length (staying_of parts Functions) + defined_before Functions parts (length parts)) ≡ Some (shared_count env parts Functions)

@@ -1,5 +1,5 @@
 -- A module alone that is instantiated: its index spaces, and the values of its constant expressions.
-use Rattle.std.proofs.Common.{◌≡◌, ℕ, zero, suc, ◌+◌, ◌<◌, ◌≤◌, List, [], ◌∷◌, map, length, Option, Some, None, Bool, true, false, cond, refl, sym, ap, ◌∙◌, arith, option_and_then, slice_get}
+use Rattle.std.proofs.Common.{◌≡◌, ℕ, zero, suc, ◌+◌, ◌<◌, ◌≤◌, List, [], ◌∷◌, map, length, Option, Some, None, Bool, true, false, cond, refl, ap, ◌∙◌, arith, option_and_then, slice_get}
 use Rattle.wasm_tree.specs.declared.space.Space.{Space}
 use Rattle.wasm_tree.specs.declared.space.Space.TheVariants.{Functions, Globals}
 use Rattle.wasm_tree.specs.declared.module.Import.{Import}
@@ -61,7 +61,7 @@ read_here is y lt =
 
 -- and there is none where it is no import
 read_past : (is : List Import) (y : ℕ) → length (import_places Globals is) ≤ y → read_in is (const.Global y) ≡ None
-read_past is y h = ap (λ o. option_and_then {U = Read} (λ y. Some (record { part = 0; expr = const.Global y })) (option_and_then (λ n. option_and_then (λ i. Some (space_index is n Globals)) (slice_get is n)) o)) (slice_get_past (import_places Globals is) y h)
+read_past is y h = rw (slice_get_past (import_places Globals is) y h) refl
 
 -- ---- its instance ----
 
@@ -83,7 +83,6 @@ module _ (reads : ReadsStay) (env : Environment) (u : Module) (j : Inst) (are : 
     where
       go : Entry env (one u) Globals 0 u y a → option_and_then (value_of_read (own_globals env) (j ∷ [])) (read_in u.imports (const.Global y)) ≡ option_and_then (λ g. Some g.value) (slice_get (own_globals env) a)
       go (imports n at address) =
-          ap (λ o. option_and_then (value_of_read (own_globals env) (j ∷ [])) o) (read_here u.imports y (slice_get_within (import_places Globals u.imports) y n at)) ∙ ap (λ o. option_and_then (λ a. option_and_then (λ g. Some g.value) (slice_get (own_globals env) a)) o) h
+          rw (read_here u.imports y (slice_get_within (import_places Globals u.imports) y n at), h) refl
       go (defines n at low is) =
-          ap (λ o. option_and_then (value_of_read (own_globals env) (j ∷ [])) o) (read_past u.imports y (omega (arith, at)))
-          ∙ sym (ap (λ o. option_and_then (λ g. Some g.value) o) (slice_get_past (own_globals env) a (omega (arith, is))))
+          rw (read_past u.imports y (omega (arith, at)), slice_get_past (own_globals env) a (omega (arith, is))) refl

@@ -1,5 +1,5 @@
 -- A constant expression of a part and what it becomes in the merged module have related values.
-use Rattle.std.proofs.Common.{◌≡◌, ℕ, List, [], ◌∷◌, Some, true, sym, ap, subst, ◌∙◌, option_and_then, slice_get, unwrap_or}
+use Rattle.std.proofs.Common.{◌≡◌, refl, ℕ, List, [], ◌∷◌, Some, true, sym, ap, subst, ◌∙◌, option_and_then, slice_get}
 use Rattle.wasm_tree.specs.declared.space.Space.TheVariants.{Functions}
 use Rattle.std.specs.Prelude.{slice_index}
 use Rattle.std.proofs.lemmas.Bool.{ltb-true}
@@ -11,14 +11,14 @@ use Rattle.wasm_valid.specs.Constants.{const_type}
 use Rattle.wasm_meaning.specs.State.{Inst}
 use Rattle.wasm_meaning.specs.Linking.{Part, Read, module_at, read_of}
 use Rattle.wasm_meaning.specs.Environment.{Environment, own_globals}
-use Rattle.wasm_meaning.specs.World.{insts_from, const_value, value_of_read, value_of}
+use Rattle.wasm_meaning.specs.World.{insts_from, const_value, value_of}
 use Rattle.index_remap.specs.Renumbered.{new_const, fits_const}
 use Rattle.index_remap.specs.Related.{Pairing, OptRel, some, func, ValRel, number, reference}
 use Rattle.world_simulation.specs.Alone.{one}
 use Rattle.world_simulation.proofs.Places.{then_rel, opt_at, place_rel}
 use Rattle.export_names.specs.declared.mode.Mode.{Mode}
 use Rattle.merge_terms.specs.Joined.{joined_module}
-use Rattle.merge_terms.specs.Merged.{map_of, merged_read, merged_const}
+use Rattle.merge_terms.specs.Merged.{map_of, merged_const}
 use Rattle.merge_validity.specs.Joinable.{CanBeJoined}
 use Rattle.merge_worlds.specs.Instances.{PartAgrees, InstancesAgree}
 use Rattle.merge_worlds.specs.Shared.{sharing}
@@ -30,7 +30,7 @@ use Rattle.merge_worlds.proofs.ValueGiven.{Laws, EachAgrees}
 const_is : (parts : List Part) (p : ℕ) (e : ConstExpr) (r : Read) (m : Module) → read_of parts p e ≡ Some r → module_at parts r.part ≡ Some m → merged_const parts p e ≡ new_const (map_of parts r.part m) r.expr
 unfolding merged_const
 const_is parts p e r m reads is =
-    ap (λ o. unwrap_or (option_and_then (merged_read parts) o) e) reads ∙ ap (λ o. unwrap_or (option_and_then {T = Module} {U = ConstExpr} (λ m. Some (new_const (map_of parts r.part m) r.expr)) o) e) is
+    rw (reads, is) refl
 
 module _ (laws : Laws) (env : Environment) (parts : List Part) (mode : Mode) where
   abbrev M : List Part
@@ -58,7 +58,7 @@ module _ (laws : Laws) (env : Environment) (parts : List Part) (mode : Mode) whe
         let r = laws.there parts p m e ty can.valid can.linked is t in
         let h = laws.reads parts p m e ty r.0 can.valid can.linked is t r.1 in
         let i = each r.0.part h.of h.is_part in
-        opt_at (ap (λ o. option_and_then (value_of_read (own_globals env) insts) o) r.1 ∙ ap (λ o. option_and_then (λ i. const_value (own_globals env) i r.0.expr) o) i.1)
+        opt_at (rw (r.1, i.1) refl)
         (ap (value_of env M (j ∷ []) 0) (const_is parts p e r.0 h.of r.1 h.is_part))
         (read_rel r.0.part h.of i.0 i.2 r.0.expr h.fits)
 

@@ -1,11 +1,11 @@
 -- The view of the linked parts, and that of the merged module: the same names, each for one entity.
-use Rattle.std.proofs.Common.{◌≡◌, ◌∙◌, ap, sym, subst, refl, ℕ, ◌+◌, List, [], ◌∷◌, map, Option, Some, None, true, arith, option_and_then, slice_get}
+use Rattle.std.proofs.Common.{◌≡◌, ◌∙◌, ap, sym, subst, refl, ℕ, ◌+◌, List, [], ◌∷◌, map, Option, Some, None, true, arith, slice_get}
 use Rattle.wasm_tree.specs.declared.module.Export.{Export}
 use Rattle.wasm_tree.specs.declared.module.Module.{Module}
 use Rattle.wasm_meaning.specs.State.{Text, Inst}
 use Rattle.wasm_meaning.specs.Linking.{Part, Entity, module_at}
 use Rattle.wasm_meaning.specs.Environment.{Environment}
-use Rattle.wasm_meaning.specs.World.{address_in, seen_as, alone}
+use Rattle.wasm_meaning.specs.World.{seen_as, alone}
 use Rattle.index_remap.specs.Renumbered.{fits_export, new_export}
 use Rattle.index_remap.specs.Related.{OptRel, some, ListRel, nil, cons}
 use Rattle.index_remap.specs.RelatedRuns.{KeyRel}
@@ -13,7 +13,7 @@ use Rattle.export_names.specs.declared.mode.Mode.{Mode}
 use Rattle.merge_terms.specs.Merged.{map_of, all_exports, named_exports}
 use Rattle.merge_terms.specs.Joined.{joined_module}
 use Rattle.merge_terms.specs.View.{all_entities, named_entities, merge_view}
-use Rattle.world_simulation.proofs.Places.{then_rel, opt_at}
+use Rattle.world_simulation.proofs.Places.{then_rel}
 use Rattle.merge_worlds.specs.Shared.{sharing}
 use Rattle.merge_worlds.specs.Instances.{InstancesAgree}
 use Rattle.merge_worlds.proofs.MergedAlone.{joined_keeps, names_of}
@@ -41,8 +41,7 @@ module _ (env : Environment) (parts : List Part) (fit : AllFit parts) (insts js 
   entity_seen p m is e h name =
       let i = agree.each p m is in
       let second : slice_get js 0 ≡ Some agree.merged = ap (λ l. slice_get l 0) agree.alone in
-      opt_at (ap (λ o. option_and_then (λ i. option_and_then (λ thing. Some (name, thing)) (address_in i e.desc)) o) i.1) (ap (λ o. option_and_then (λ i. option_and_then (λ thing. Some (name, thing)) (address_in i (new_export (map_of parts p m) e).desc)) o) second)
-      (then_rel (export_named env parts p m i.0 agree.merged i.2 e.desc h) (λ _ _ r. some (record { key = refl; thing = r })))
+      rw (i.1, second) (then_rel (export_named env parts p m i.0 agree.merged i.2 e.desc h) (λ _ _ r. some (record { key = refl; thing = r })))
 
   entities_seen : ListRel (Sees env parts insts js) (all_entities parts) (all_exports parts)
   unfolding all_entities all_exports

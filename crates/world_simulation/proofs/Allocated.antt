@@ -1,5 +1,5 @@
 -- What a part adds to the store stands there at the addresses of the part.
-use Rattle.std.proofs.Common.{◌≡◌, ℕ, zero, suc, ◌+◌, ◌*◌, false, List, [], ◌∷◌, ◌++◌, map, length, Option, Some, refl, sym, ap, ap₂, subst, ◌∙◌, arith, option_and_then, slice_get}
+use Rattle.std.proofs.Common.{◌≡◌, ℕ, zero, suc, ◌+◌, ◌*◌, false, List, [], ◌∷◌, ◌++◌, map, length, Some, refl, sym, ap, ap₂, subst, ◌∙◌, arith, option_and_then, slice_get}
 use Rattle.std.proofs.lemmas.Option.{same_Some, slice_get_within}
 use Rattle.std.proofs.lemmas.List.{length-append}
 use Rattle.base_lists.proofs.Places.{append_left, append_right}
@@ -140,13 +140,10 @@ stores_there env all insts s p (part ∷ rest) (i ∷ is) h =
     let t = h 0 part.«module» i refl refl in
     let n : p + 0 ≡ p = omega arith in
     let r = stores_there env all insts (joined_stores s t.0) (suc p) rest is (λ q m i e f. let t = h (suc q) m i e f in let n : p + suc q ≡ suc p + q = omega arith in (t.0, ap (λ p. part_store env all insts p m i) (sym n) ∙ t.1)) in
-    (r.0, ap (λ o. option_and_then (λ t. stores_from env all insts (joined_stores s t) (suc p) rest is) o) (ap (λ p. part_store env all insts p part.«module» i) (sym n) ∙ t.1) ∙ r.1)
+    (r.0, rw (ap (λ p. part_store env all insts p part.«module» i) (sym n) ∙ t.1) r.1)
 
 -- it does where what it defines is there
 module _ (env : Environment) (all : List Part) (insts : List Inst) (p : ℕ) (m : Module) (i : Inst) where
-  abbrev made : Option (List Func) → Option (List Global) → Option (List Elem) → Option Store
-  made fs gs es = option_and_then (λ funcs. option_and_then (λ globals. option_and_then (λ elems. Some (with_elems env all insts m funcs globals elems)) es) gs) fs
-
   pub part_there : ((n : ℕ) (f : tree.Func) → slice_get m.funcs n ≡ Some f → (x : Func) × (new_func i f ≡ Some x)) →
       ((n : ℕ) (g : GlobalDef) → slice_get m.globals n ≡ Some g → (x : Global) × (new_global env all insts p g ≡ Some x)) →
       ((n : ℕ) (e : ElemSeg) → slice_get m.elems n ≡ Some e → (x : Elem) × (elem_of env all insts p e ≡ Some x)) → (t : Store) × (part_store env all insts p m i ≡ Some t)
@@ -154,4 +151,4 @@ module _ (env : Environment) (all : List Part) (insts : List Inst) (p : ℕ) (m 
       let f = all_there_from (new_func i) m.funcs funcs in
       let g = all_there_from (new_global env all insts p) m.globals globals in
       let e = all_there_from (elem_of env all insts p) m.elems elems in
-      (with_elems env all insts m f.results g.results e.results, ap₂ (λ fs gs. made fs gs (all_there (elem_of env all insts p) m.elems)) f.are g.are ∙ ap (made (Some f.results) (Some g.results)) e.are)
+      (with_elems env all insts m f.results g.results e.results, rw (f.are, g.are, e.are) refl)

@@ -1,5 +1,5 @@
 -- Segments are copied into two related stores.
-use Rattle.std.proofs.Common.{◌≡◌, ℕ, zero, suc, ◌+◌, ◌*◌, ◌≤◌, List, [], ◌∷◌, ◌++◌, length, Option, Some, None, true, false, refl, sym, ap, ap₂, subst, ◌∙◌, arith, option_and_then, slice_get, slice_set}
+use Rattle.std.proofs.Common.{◌≡◌, ℕ, zero, suc, ◌+◌, ◌*◌, ◌≤◌, List, [], ◌∷◌, ◌++◌, length, Option, Some, None, true, false, refl, sym, ap, subst, ◌∙◌, arith, option_and_then, slice_get, slice_set}
 use native.Mathlib.Decide.{ℕ_discrete}
 use Rattle.std.proofs.lemmas.Option.{slice_get_within}
 use Rattle.std.proofs.lemmas.List.{length-append}
@@ -205,10 +205,7 @@ module _ (related alone : Space → ℕ → Type 0) (never : (k : Space) (a : �
         let o = overwrite_fits u.0.slots i.0.items q (omega (arith, large, few, size, fits)) in
         record {
           store = changed (changed s (SetTable a (record u.0 { slots = o.0 }))) (DropElem x.address);
-          is = ap (copy_elem s x.address x.inst t) offset
-              ∙ ap (λ o. or_trapped s (option_and_then (λ a. option_and_then (λ t. option_and_then (λ e. Some (fill_table s x.address a t (overwrite t.slots q e.items))) (slice_get s.elems x.address)) (slice_get s.tables a)) o)) there
-              ∙ ap₂ (λ o p. or_trapped s (option_and_then (λ t. option_and_then (λ e. Some (fill_table s x.address a t (overwrite t.slots q e.items))) p) o)) u.1 i.1
-              ∙ ap (fill_table s x.address a u.0) o.1;
+          is = rw (offset, there, u.1, i.1, o.1) refl;
           kept = table_kept s x.address a (record u.0 { slots = o.0 }) lone by_itself;
         }
 
@@ -224,9 +221,6 @@ module _ (related alone : Space → ℕ → Type 0) (never : (k : Space) (a : �
         let o = overwrite_fits u.0.bytes i.0.bytes q (omega (arith, large, few, size, fits)) in
         record {
           store = changed (changed s (SetMemory a (record u.0 { bytes = o.0 }))) (DropData x.address);
-          is = ap (copy_data s x.address x.inst t) offset
-              ∙ ap (λ o. or_trapped s (option_and_then (λ a. option_and_then (λ m. option_and_then (λ d. Some (fill_memory s x.address a m (overwrite m.bytes q d.bytes))) (slice_get s.datas x.address)) (slice_get s.mems a)) o)) there
-              ∙ ap₂ (λ o p. or_trapped s (option_and_then (λ m. option_and_then (λ d. Some (fill_memory s x.address a m (overwrite m.bytes q d.bytes))) p) o)) u.1 i.1
-              ∙ ap (fill_memory s x.address a u.0) o.1;
+          is = rw (offset, there, u.1, i.1, o.1) refl;
           kept = memory_kept s x.address a (record u.0 { bytes = o.0 }) lone by_itself;
         }

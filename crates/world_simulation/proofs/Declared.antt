@@ -1,5 +1,5 @@
 -- A module with its references declared: it has perhaps one more element segment, which is declarative and is allocated wherever the module is.
-use Rattle.std.proofs.Common.{◌≡◌, ℕ, zero, suc, ◌+◌, ◌<◌, List, [], ◌∷◌, ◌++◌, map, length, Some, ◌&&◌, refl, sym, ap, ap₂, arith, option_and_then, append-nil}
+use Rattle.std.proofs.Common.{◌≡◌, ℕ, zero, suc, ◌+◌, ◌<◌, List, [], ◌∷◌, ◌++◌, map, length, Some, ◌&&◌, refl, sym, arith, append-nil}
 use Rattle.std.specs.Prelude.{not, slice_get}
 use Rattle.std.specs.List.{range_with_len}
 use Rattle.base_lists.proofs.Filtered.{kept_is}
@@ -9,10 +9,9 @@ use Rattle.wasm_tree.specs.declared.module.ElemMode.TheVariants as elem
 use Rattle.wasm_tree.specs.declared.module.ElemSeg.{ElemSeg}
 use Rattle.wasm_tree.specs.declared.module.Module.{Module}
 use Rattle.wasm_tree.specs.Spaces.{funcs_of}
-use Rattle.wasm_meaning.specs.State.{RefVal, FuncRef, Ref, Inst, Elem}
-use Rattle.wasm_meaning.specs.Values.{ref_of}
+use Rattle.wasm_meaning.specs.State.{RefVal, FuncRef, Inst, Elem}
 use Rattle.wasm_meaning.specs.Environment.{Environment}
-use Rattle.wasm_meaning.specs.World.{given, all_there, new_elem, ref_value, elem_of}
+use Rattle.wasm_meaning.specs.World.{all_there, new_elem, ref_value, elem_of}
 use Rattle.index_remap.specs.References.{is_among, body_refs, outside_refs, declared_refs, with_declared, declaring}
 use Rattle.world_simulation.specs.Alone.{one}
 
@@ -56,14 +55,14 @@ module _ (env : Environment) (u : Module) (j : Inst) where
   refs_there (f ∷ fs) h =
       let a = slice_get_there j.funcs f (h zero f refl) in
       let rest = refs_there fs (λ n. h (suc n)) in
-      let first : ref_value env (one u) (j ∷ []) 0 (const.Func f) ≡ Some (FuncRef (Some a.0)) = ap (λ o. option_and_then (λ v. given (ref_of v)) (option_and_then (λ a. Some (Ref (FuncRef (Some a)))) o)) a.1 in
-      (FuncRef (Some a.0) ∷ rest.0, ap₂ (λ o p. option_and_then (λ y. option_and_then (λ ys. Some (y ∷ ys)) p) o) first rest.1)
+      let first : ref_value env (one u) (j ∷ []) 0 (const.Func f) ≡ Some (FuncRef (Some a.0)) = rw a.1 refl in
+      (FuncRef (Some a.0) ∷ rest.0, rw (first, rest.1) refl)
 
   segments_there : (fs : List ℕ) → ((n f : ℕ) → slice_get fs n ≡ Some f → f < length j.funcs) → (es : List Elem) × (all_there (elem_of env (one u) (j ∷ []) 0) (last_segments fs) ≡ Some es)
   segments_there [] h = ([], refl)
   segments_there (f ∷ fs) h =
       let r = refs_there (f ∷ fs) h in
-      (new_elem elem.Declarative r.0 ∷ [], ap (λ o. option_and_then (λ e. Some (e ∷ [])) (option_and_then (λ items. Some (new_elem elem.Declarative items)) o)) r.1)
+      (new_elem elem.Declarative r.0 ∷ [], rw r.1 refl)
 
   -- the segment that declares a module's references is allocated, where the instance names as many functions as the module has
   pub last_elems : (m : Module) → length j.funcs ≡ length (funcs_of m) → (es : List Elem) × (all_there (elem_of env (one u) (j ∷ []) 0) (last_segments (declared_refs m)) ≡ Some es)

@@ -4,7 +4,6 @@ use Rattle.std.proofs.lemmas.List.{length-append}
 use Rattle.std.proofs.lemmas.Option.{same_Some, slice_get_within}
 use Rattle.wasm_tree.specs.declared.space.Space.{Space}
 use Rattle.wasm_tree.specs.declared.space.Space.TheVariants.{Types, Functions, Tables, Memories, Globals, DataSegments, ElementSegments}
-use Rattle.wasm_tree.specs.declared.types.FuncType.{FuncType}
 use Rattle.wasm_tree.specs.declared.module.Module.{Module}
 use Rattle.wasm_meaning.specs.State.{Inst}
 use Rattle.wasm_meaning.specs.Linking.{Part, module_at, imports_of}
@@ -81,10 +80,6 @@ pub record IsInst (env : Environment) (parts : List Part) (p : ℕ) (m : Module)
   pub elems : i.elems ≡ numbers (defined_before ElementSegments parts p) (length m.elems)
   pub datas : i.datas ≡ numbers (defined_before DataSegments parts p) (length m.datas)
 
-abbrev made : List FuncType → (elems datas : List ℕ) → (funcs tables mems globals : Option (List ℕ)) → Option Inst
-made types elems datas f t m g =
-    option_and_then (λ funcs. option_and_then (λ tables. option_and_then (λ mems. option_and_then (λ globals. Some (record { types = types; funcs = funcs; tables = tables; mems = mems; globals = globals; elems = elems; datas = datas })) g) m) t) f
-
 pub inst_is : (env : Environment) (parts : List Part) (p : ℕ) (m : Module) (i : Inst) → inst_of env parts p m ≡ Some i → IsInst env parts p m i
 inst_is env parts p m i h =
     let f = and_then_is (space env parts Functions p m) _ i h in
@@ -106,12 +101,10 @@ inst_is env parts p m i h =
 -- where its index spaces are there, so is the instance
 pub inst_there : (env : Environment) (parts : List Part) (p : ℕ) (m : Module) (fs ts ms gs : List ℕ) → space env parts Functions p m ≡ Some fs → space env parts Tables p m ≡ Some ts → space env parts Memories p m ≡ Some ms → space env parts Globals p m ≡ Some gs →
     (i : Inst) × (inst_of env parts p m ≡ Some i)
-inst_there env parts p m fs ts ms gs f t s g =
-    let elems = numbers (defined_before ElementSegments parts p) (length m.elems) in
-    let datas = numbers (defined_before DataSegments parts p) (length m.datas) in (
-      record { types = m.types; funcs = fs; tables = ts; mems = ms; globals = gs; elems = elems; datas = datas },
-      ap₂ (λ a b. made m.types elems datas a b (space env parts Memories p m) (space env parts Globals p m)) f t ∙ ap₂ (made m.types elems datas (Some fs) (Some ts)) s g,
-    )
+inst_there env parts p m fs ts ms gs f t s g = (
+  record { types = m.types; funcs = fs; tables = ts; mems = ms; globals = gs; elems = numbers (defined_before ElementSegments parts p) (length m.elems); datas = numbers (defined_before DataSegments parts p) (length m.datas) },
+  rw (f, t, s, g) refl,
+)
 
 -- ---- several ----
 
@@ -148,7 +141,7 @@ insts_there env all p (part ∷ parts) h =
     let here : p ≡ p + 0 = omega arith in
     let r = insts_there env all (suc p) parts (λ q m e. let x = h (suc q) m e in let n : suc p + q ≡ p + suc q = omega arith in (x.0, ap (λ n. inst_of env all n m) n ∙ x.1)) in (
       first.0 ∷ r.0,
-      ap₂ (λ o l. option_and_then (λ i. option_and_then (λ is. Some (i ∷ is)) l) o) (ap (λ n. inst_of env all n part.«module») here ∙ first.1) r.1,
+      rw (ap (λ n. inst_of env all n part.«module») here ∙ first.1, r.1) refl,
     )
 
 -- ---- those of a world ----

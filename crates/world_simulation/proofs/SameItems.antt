@@ -228,6 +228,6 @@ module _ (of : Space → ℕ → ℕ → Bool) (m : Remap) (kept : Indices) (t u
         let p = and_then_is (part_store env (one t) (i ∷ []) 0 t i) _ x.allocated first in
         let q = store_there from last p.0 p.1 in
         let z = joined_stores (own_store env) q.0 in
-        let second : stores_from env (one u) (j ∷ []) (own_store env) 0 (one u) (j ∷ []) ≡ Some z = ap (λ o. option_and_then (λ s. Some (joined_stores (own_store env) s)) o) q.1 in
+        let second : stores_from env (one u) (j ∷ []) (own_store env) 0 (one u) (j ∷ []) ≡ Some z = rw q.1 refl in
         let seen = right_there (all_rel view) (ap (λ is. all_there (seen_as is) (alone t).view) (sym is) ∙ x.is_view) in
         made_there env u (j ∷ []) z seen.0 there second seen.1 (sym (all_matched R env own x.allocated z (stores_rel R env v w own definitions x.allocated z first second) t u same.types same.imports) ∙ x.matched)

@@ -1,5 +1,5 @@
 -- Worlds of one module each: their instances, what their imports stand for, whether these match, and that they are linked.
-use Rattle.std.proofs.Common.{◌≡◌, ℕ, zero, suc, List, [], ◌∷◌, ◌++◌, length, Option, Some, None, cond, Bool, true, false, refl, sym, ap, ap₂, ◌∙◌, option_and_then, slice_get, unwrap_or, ◌&&◌}
+use Rattle.std.proofs.Common.{◌≡◌, ℕ, zero, suc, List, [], ◌∷◌, ◌++◌, length, Option, Some, None, true, false, refl, sym, ap, ap₂, ◌∙◌, option_and_then, slice_get, unwrap_or, ◌&&◌}
 use Rattle.base_lists.proofs.Options.{and_then_is, all_there_length}
 use Rattle.wasm_tree.specs.declared.space.Space.{Space}
 use Rattle.wasm_tree.specs.declared.space.Space.TheVariants.{Functions, Tables, Memories, Globals}
@@ -100,8 +100,4 @@ there_is (Some x) h = (x, refl)
 
 pub made_there : (env : Environment) (t : Module) (is : List Inst) (s : Store) (view : List (Text × Thing)) → insts_from env (one t) 0 (one t) ≡ Some is → stores_from env (one t) is (own_store env) 0 (one t) is ≡ Some s → all_there (seen_as is) (alone t).view ≡ Some view →
     all_of (is_matched env (one t) s) (sites (one t)) ≡ true → links env (alone t) ≡ true
-made_there env t is s view e f g h =
-    let matched : List Inst → List (Text × Thing) → Store → Bool → Option Begun = λ is view s b. cond b (Some (begun env (alone t) is view (segments env (one t) is s))) None in
-    ap is_there (ap (λ o. option_and_then (λ is. option_and_then (λ s. option_and_then (λ view. matched is view s (all_of (is_matched env (one t) s) (sites (one t)))) (all_there (seen_as is) (alone t).view)) (stores_from env (one t) is (own_store env) 0 (one t) is)) o) e
-    ∙ ap (λ o. option_and_then (λ s. option_and_then (λ view. matched is view s (all_of (is_matched env (one t) s) (sites (one t)))) (all_there (seen_as is) (alone t).view)) o) f
-    ∙ ap₂ (λ o b. option_and_then (λ view. matched is view s b) o) g h)
+made_there env t is s view e f g h = rw (e, f, g, h) refl

@@ -1,5 +1,5 @@
 -- A module without one function that nothing else of it names shows what the module shows: its records of the law for two worlds.
-use Rattle.std.proofs.Common.{◌≡◌, ℕ, zero, suc, ◌+◌, ◌-◌, ◌<◌, ◌≤◌, List, [], ◌∷◌, map, length, Some, Bool, true, false, ◌⊎◌, inl, inr, refl, sym, ap, ap₂, subst, ◌∙◌, arith, option_and_then, append-nil}
+use Rattle.std.proofs.Common.{◌≡◌, ℕ, zero, suc, ◌+◌, ◌-◌, ◌<◌, ◌≤◌, List, [], ◌∷◌, map, length, Some, Bool, true, false, ◌⊎◌, inl, inr, refl, sym, ap, ap₂, subst, ◌∙◌, arith, append-nil}
 use Rattle.std.specs.Prelude.{slice_get, slice_index, IsTrue, nat_eq, not}
 use Rattle.std.proofs.lemmas.Bool.{cases_lt, ltb-true, eq-eqb}
 use Rattle.std.proofs.lemmas.List.{length-append, map-id}
@@ -283,7 +283,7 @@ module _ (t : Module) (n : ℕ) (there : n < length t.funcs) (reach : IsUnreacha
         let j = inst_there env (one u) 0 u f.0 ts.0 ms.0 gs.0 f.1 ts.1 ms.1 gs.1 in
         let b = inst_is env (one u) 0 u j.0 j.1 in
         linked_with of m kept t u fs items env own i.0 j.0 a b (names i.0 j.0 a b) (funcs_from code i.0 j.0 a b) (λ many. last_elems env u j.0 plain (many ∙ ap length same.func_space)) (definitions i.0 j.0 a b code) o.0 x i.1
-        (ap (λ o. option_and_then (λ i. Some (i ∷ [])) o) j.1)
+        (rw j.1 refl)
 
   pub shows_the_same : RelatedInstancesShowTheSame → RenumberedCodeIsRelated → (env : Environment) → links env (alone t) ≡ true → (moves : List Move) (k : ℕ) → events (alone t) env moves k ≡ events (alone u) env moves k
   shows_the_same law code env h moves k =
