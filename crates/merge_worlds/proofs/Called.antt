@@ -113,7 +113,7 @@ func_thing _ a h = absurd (let k = h in cc)
 func_fits : (z : Store) (a : ℕ) (ty : FuncType) (y : External) → type_in z (FuncAt a) ≡ Some y → Fits (FuncOf ty) y → type_at z a ≡ Gives ty
 func_fits z a ty y typed fits =
     let u = and_then_is (given (type_at z a)) (λ t. Some (FuncOf t)) y typed in
-    given_is (type_at z a) ty (u.1 ∙ ap Some (sym (func_type_is ty u.0 (subst (λ y. same_but_limits (FuncOf ty) y ≡ true) (sym (same_Some _ _ u.2)) fits.same))))
+    given_is (type_at z a) ty (u.1 ∙ ap Some (sym (func_type_is ty u.0 (rw (same_Some _ _ u.2) fits.same))))
 
 -- ---- the functions of a module alone ----
 

@@ -118,7 +118,7 @@ module _ (laws : Laws) (env : Environment) (parts : List Part) (mode : Mode) (ca
         go (stand.own low) = partners.own same.0 low
         go (stand.defined p m n is low at) =
             let i = each p m is in
-            let x = slice_get_there (definitions m) n (subst (λ c. n < c) (q.counts m) low) in
+            let x = slice_get_there (definitions m) n (rw (← q.counts m) low) in
             partners.defined (stood p m is n x.0 x.1 at) (moved p m is n x.0 x.1 (sym same.0 ∙ at)) (alike p m i.0 is i.2 n x.0 x.1)
 
     -- an entry of a list of the merged module is one of a part, or one of those that follow
@@ -154,9 +154,9 @@ module _ (laws : Laws) (env : Environment) (parts : List Part) (mode : Mode) (ca
   parts_there : (z : Store) → stores_from env M (j ∷ []) (own_store env) 0 M (j ∷ []) ≡ Some z → (s : Store) × (stores_from env parts insts (own_store env) 0 parts insts ≡ Some s)
   parts_there z made = stores_there env parts insts (own_store env) 0 parts insts (λ q m i is there.
       let x = each q m is in
-      let agrees = subst (λ i. PartAgrees env parts q m i j) (same_Some _ _ (sym x.1 ∙ there)) x.2 in
+      let agrees = rw (← same_Some _ _ (sym x.1 ∙ there)) x.2 in
       let from_0 : q ≡ 0 + q = omega arith in
-      subst (λ p. (t : Store) × (part_store env parts insts p m i ≡ Some t)) from_0 (part_there env parts insts q m i
+      rw (← from_0) (part_there env parts insts q m i
       (λ n f h. left_there (func_rel R (funcs_alike q m i is agrees n f h)) (func_placed env w z made (moved (funcs_join parts mode) q m is n f h refl)).2)
       (λ n g h. left_there (global_rel R (values_in env v q) (values_in env w 0) (globals_alike q m is n g h)) (global_placed env w z made (moved (globals_join parts mode) q m is n g h refl)).2)
       (λ n e h. left_there (elem_rel R (values_in env v q) (values_in env w 0) (elems_alike q m is n e h)) (elem_placed env w z made (moved (elems_join parts mode) q m is n e h refl)).2)))

@@ -176,8 +176,8 @@ module _ (laws : SpaceLaws) (env : Environment) (parts : List Part) (linked : li
           let e = w.entity in
           let k = space_of_export e.what in
           let a = agree.each e.part w.of w.is_part in
-          let follows : length (imports_of k w.of) ≤ index_of_export e.what = subst (λ (k : Space). length (imports_of k w.of) ≤ index_of_export e.what) (sym w.kind) w.follows in
-          let within : index_of_export e.what < length (imports_of k w.of) + defined_count k w.of = subst (λ (k : Space). index_of_export e.what < length (imports_of k w.of) + defined_count k w.of) (sym w.kind) w.within in
+          let follows : length (imports_of k w.of) ≤ index_of_export e.what = rw w.kind w.follows in
+          let within : index_of_export e.what < length (imports_of k w.of) + defined_count k w.of = rw w.kind w.within in
           let at_k = thing_at k (base env parts k e.part + (index_of_export e.what - length (imports_of k w.of))) in
           let th = and_then_is at_k (type_in s) w.thing (defined_type env (record { parts = parts; insts = insts }) s made e.part w.of a.0 w.is_part a.1 a.2.own_types e.what w.thing w.is follows) in
           fits_site env parts s t i w.demand at w.asks (record {

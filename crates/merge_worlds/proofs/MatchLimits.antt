@@ -62,7 +62,7 @@ module _ (size : ℕ) (most : Option ℕ) where
   consed_rest None ls h = (λ l e. absurd (let k = e in cc), h)
   consed_rest (Some k) ls h =
       let b = and_parts (meets size most k) (meets size most (met ls)) (sym (meets_both size most k (met ls)) ∙ h) in
-      (λ l e. let same : k ≡ l = cc in subst (λ l. meets size most l ≡ true) same b.0, b.1)
+      (λ l e. let same : k ≡ l = cc in rw (← same) b.0, b.1)
 
   -- where each demand on a staying import is met, they are together
   pub each_met : (parts : List Part) (s : Site) (ts : List Site) → ((n : ℕ) (t : Site) (l : Limits) → slice_get ts n ≡ Some t → is_outside s (linked_end parts t) ≡ true → option_and_then (λ i. limits_of i.desc) (import_at parts t) ≡ Some l → meets size most l ≡ true) →

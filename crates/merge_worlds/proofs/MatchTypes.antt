@@ -143,10 +143,10 @@ kept_fits _ _ l f met = absurd (let z = f.same in cc)
 
 -- where limits imply others, what fits with the ones fits with the others
 pub fits_kept : (d e y : External) (l : Limits) → same_but_limits d e ≡ true → Fits (kept e l) y → ((k : Limits) → limits_in d ≡ Some k → (size : ℕ) (most : Option ℕ) → meets size most l ≡ true → meets size most k ≡ true) → Fits d y
-fits_kept (FuncOf t) (FuncOf u) y l same f implied = subst (λ u. Fits (FuncOf u) y) (sym (func_type_is t u same)) f
+fits_kept (FuncOf t) (FuncOf u) y l same f implied = rw (func_type_is t u same) f
 fits_kept (GlobalOf t) (GlobalOf u) y l same f implied =
     let b = and_parts _ _ same in
-    subst (λ u. Fits (GlobalOf u) y) (ap₂ (λ ty mutable. record { ty = ty; mutable = mutable }) (sym (type_is t.ty u.ty b.0)) (sym (bool_is t.mutable u.mutable b.1))) f
+    rw (← ap₂ (λ ty mutable. record { ty = ty; mutable = mutable }) (sym (type_is t.ty u.ty b.0)) (sym (bool_is t.mutable u.mutable b.1))) f
 fits_kept (TableOf t) (TableOf u) (TableOf z) l same f implied = record { same = ap (λ r. same_ref r z.ty) (ref_is t.ty u.ty same) ∙ f.same; meets = implied t.limits refl z.limits.min z.limits.max f.meets }
 fits_kept (MemoryOf t) (MemoryOf u) (MemoryOf z) l same f implied = record { same = refl; meets = implied t refl z.min z.max f.meets }
 fits_kept _ _ _ l same f implied = absurd (let z = same in let w = f.same in cc)

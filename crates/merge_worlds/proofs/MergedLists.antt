@@ -76,5 +76,5 @@ module _ (parts : List Part) (mode : Mode) where
       let before = by_part_from (λ p m. map (renumbered.new_func (map_of parts p m)) m.funcs) 0 parts in
       let at = ap (λ fs. slice_get fs (length before + n)) (by_part_is parts mode).funcs ∙ append_right before (start_calls parts (starts parts)) n ∙ h in
       let lt = func_typed laws (joined_module parts mode) valid (length before + n) f at in
-      let t = slice_get_there j.types f.ty (subst (λ ts. f.ty < length ts) (sym types) lt) in
+      let t = slice_get_there j.types f.ty (rw types lt) in
       (Code t.0 j (declared f.locals) f.body, rw t.1 refl))

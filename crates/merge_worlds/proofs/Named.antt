@@ -29,8 +29,8 @@ pub by_part_rel : {A B : Type 0} {P : A → B → Type 0} (f : ℕ → Module �
 by_part_rel f g first [] h = nil
 by_part_rel {P = P} f g first (part ∷ parts) h =
     let here : first + 0 ≡ first = omega arith in
-    append_rel (subst (λ n. ListRel P (f n part.«module») (g n part.«module»)) here (h 0 part.«module» refl))
-    (by_part_rel f g (suc first) parts (λ q m e. let n : first + suc q ≡ suc first + q = omega arith in subst (λ n. ListRel P (f n m) (g n m)) n (h (suc q) m e)))
+    append_rel (rw (← here) (h 0 part.«module» refl))
+    (by_part_rel f g (suc first) parts (λ q m e. let n : first + suc q ≡ suc first + q = omega arith in rw (← n) (h (suc q) m e)))
 
 pub tested_maps : {A B C : Type 0} {P : B → C → Type 0} (test : A → Bool) (f : A → B) (g : A → C) (xs : List A) → list_all test xs ≡ true → ((x : A) → test x ≡ true → P (f x) (g x)) → ListRel P (map f xs) (map g xs)
 tested_maps test f g [] t h = nil

@@ -134,7 +134,7 @@ starting_is_valid field = (
 
 -- without locals
 no_locals : (ty : ℕ) (body : List Instr) (f : Func) → Some (code ty body) ≡ Some f → local_count (nothing ∷ []) f < 2 ^ 32
-no_locals ty body f e = subst (λ (f : Func). local_count (nothing ∷ []) f < 2 ^ 32) (same_Some _ _ e) (few ty)
+no_locals ty body f e = rw (← same_Some _ _ e) (few ty)
   where
     few : (ty : ℕ) → local_count (nothing ∷ []) (code ty body) < 2 ^ 32
     few zero = omega arith
@@ -201,7 +201,7 @@ calling_is_typed = (
 
 -- what its table is filled with is a function
 calling_items : (n : ℕ) (e : ConstExpr) → slice_get (const.Func 0 ∷ []) n ≡ Some e → const_type calling e ≡ Some (valt.Ref reft.Func)
-calling_items zero e is = subst (λ (x : ConstExpr). const_type calling x ≡ Some (valt.Ref reft.Func)) (same_Some _ _ is) refl
+calling_items zero e is = rw (← same_Some _ _ is) refl
 calling_items (suc n) e is = cc
 
 -- its import, its function, its table, its start, its element segment and the body of the function
@@ -271,7 +271,7 @@ abbrev never_ending_row : Instr
 never_ending_row = i.Loop' bt.Empty (_ ∷ []) (more_of-Instr (i.Br 0) end_of-Instr)
 
 never_ending_is_typed : WellTyped (body_context never_ending (code 0 begins_again) nothing) begins_again [] []
-never_ending_is_typed = subst (λ x. WellTyped (body_context never_ending (code 0 begins_again) nothing) (x ∷ []) [] []) (loop_is bt.Empty (_ ∷ []) (more_of-Instr (i.Br 0) end_of-Instr)) as_a_row
+never_ending_is_typed = rw (← loop_is bt.Empty (_ ∷ []) (more_of-Instr (i.Br 0) end_of-Instr)) as_a_row
   where
     as_a_row : WellTyped (body_context never_ending (code 0 begins_again) nothing) (never_ending_row ∷ []) [] []
     as_a_row = ([], ([], (record { params = []; results = [] }, refl, ([], ([], (Leaves [], refl, ([], [], refl, tt)), refl), tt), ([], [], refl, tt, refl)), refl), tt)

@@ -60,15 +60,15 @@ module _ {A : Type 0} (k : Space) (segs : Module → List A) (counts : (m : Modu
   in_part p i new (x ∷ xs) (y ∷ ys) (e ∷ es) rest more same each then =
       let o = same 0 (omega arith) in
       let is : x ≡ y = same_Some _ _ (o.first ∙ sym o.second) in
-      both (subst (λ a. partners (task p i x e) (task 0 j a (new e))) is (each 0 x e refl refl))
+      both (rw (← is) (each 0 x e refl refl))
       (in_part p i new xs ys es rest more (λ n l. let o = same (suc n) (omega (arith, l)) in record { address = o.address; first = o.first; second = o.second }) (λ n a e h k. each (suc n) a e h k) then)
 
   module _ (more : List A) (nothing : (ns : List ℕ) → Ordered [] (tasks_in 0 j ns more)) (stands : (p : ℕ) (m : Module) → module_at parts p ≡ Some m → PartStands p m) where
     one_part : (p : ℕ) (m : Module) (later : List (Task A)) (behind : List A) → module_at parts p ≡ Some m → (i : Inst) → slice_get insts p ≡ Some i → Ordered later (tasks_in 0 j (drop (defined_before k parts (suc p)) (addresses_in k j)) behind) →
         Ordered (tasks_in p i (addresses_in k i) (segs m) ++ later) (tasks_in 0 j (drop (defined_before k parts p) (addresses_in k j)) (map (new p m) (segs m) ++ behind))
     one_part p m later behind at_p i there then =
-        subst (λ i. Ordered (tasks_in p i (addresses_in k i) (segs m) ++ later) (tasks_in 0 j (drop (defined_before k parts p) (addresses_in k j)) (map (new p m) (segs m) ++ behind))) (same_Some _ _ (sym d.is ∙ there))
-        (in_part p d.inst (new p m) (addresses_in k d.inst) (drop (defined_before k parts p) (addresses_in k j)) (segs m) later behind same each (subst (λ ns. Ordered later (tasks_in 0 j ns behind)) (sym dropped) then))
+        rw (← same_Some _ _ (sym d.is ∙ there))
+        (in_part p d.inst (new p m) (addresses_in k d.inst) (drop (defined_before k parts p) (addresses_in k j)) (segs m) later behind same each (rw dropped then))
       where
         d : PartStands p m
         d = stands p m at_p
@@ -90,7 +90,7 @@ module _ {A : Type 0} (k : Space) (segs : Module → List A) (counts : (m : Modu
         each x a e h at =
             let l = slice_get_within (segs m) x e h in
             let o = d.agrees.each x (omega (arith, l, many)) in
-            d.each x a e h (subst (λ a. a < shared_count env parts k) (same_Some _ _ (sym o.first ∙ at)) o.shared)
+            d.each x a e h (rw (← same_Some _ _ (sym o.first ∙ at)) o.shared)
 
     by_parts : (p : ℕ) (rest : List Part) (is : List Inst) → ((q : ℕ) → module_at rest q ≡ module_at parts (p + q)) → ((q : ℕ) → slice_get is q ≡ slice_get insts (p + q)) →
         Ordered (tasks_by segs (addresses_in k) p rest is) (tasks_in 0 j (drop (defined_before k parts p) (addresses_in k j)) (by_part_from (λ p m. map (new p m) (segs m)) p rest ++ more))
@@ -113,6 +113,6 @@ module _ {A : Type 0} (k : Space) (segs : Module → List A) (counts : (m : Modu
     pub all_in_order : (J : Module) → segs J ≡ by_part_from (λ p m. map (new p m) (segs m)) 0 parts ++ more → (xs ys : List (Task A)) → xs ≡ tasks_by segs (addresses_in k) 0 parts insts → ys ≡ tasks_in 0 j (addresses_in k j) (segs J) ++ [] → Ordered xs ys
     all_in_order J e xs ys first_is second_is =
         let at_0 : (q : ℕ) → q ≡ 0 + q = λ q. omega arith in
-        subst (λ xs. Ordered xs ys) (sym first_is)
-        (subst (λ ys. Ordered (tasks_by segs (addresses_in k) 0 parts insts) ys) (ap (λ n. tasks_in 0 j (drop n (addresses_in k j)) (by_part_from (λ p m. map (new p m) (segs m)) 0 parts ++ more)) (before_start k parts) ∙ ap (tasks_in 0 j (addresses_in k j)) (sym e) ∙ sym (append-nil _) ∙ sym second_is)
+        rw first_is
+        (rw (← ap (λ n. tasks_in 0 j (drop n (addresses_in k j)) (by_part_from (λ p m. map (new p m) (segs m)) 0 parts ++ more)) (before_start k parts) ∙ ap (tasks_in 0 j (addresses_in k j)) (sym e) ∙ sym (append-nil _) ∙ sym second_is)
         (by_parts 0 parts insts (λ q. ap (module_at parts) (at_0 q)) (λ q. ap (slice_get insts) (at_0 q))))

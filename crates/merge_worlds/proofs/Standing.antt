@@ -105,12 +105,12 @@ module _ (env : Environment) (parts : List Part) where
         let e = w.entity in
         let j = index_of_export e.what - length (imports_of k w.of) in
         let d = defined_before k parts e.part + j in
-        let follows = subst (λ k. length (imports_of k w.of) ≤ index_of_export e.what) kind w.follows in
-        let within = subst (λ k. index_of_export e.what < length (imports_of k w.of) + defined_count k w.of) kind w.within in
+        let follows = rw (← kind) w.follows in
+        let within = rw (← kind) w.within in
         let low = defined_low k parts e.part w.of w.is_part in
         let same : space_of_export e.what ≡ k = w.kind ∙ kind in
         let thing : option_and_then (address_of k) (defined_thing env parts e) ≡ Some (base env parts k e.part + j) =
-        ap (λ o. option_and_then (address_of k) o) (defined_at env parts e w.of w.is_part (subst (λ l. index_of_export e.what - length (imports_of l w.of) < defined_count l w.of) (sym same) (omega (arith, follows, within))))
+        ap (λ o. option_and_then (address_of k) o) (defined_at env parts e w.of w.is_part (rw same (omega (arith, follows, within))))
         ∙ ap (λ l. option_and_then (address_of k) (thing_at l (base env parts l e.part + (index_of_export e.what - length (imports_of l w.of))))) same
         ∙ address_at k (base env parts k e.part + j) (ap is_external (sym kind) ∙ import_external i.desc) in
         let number : base env parts k e.part + j ≡ own_count k env + d = omega arith in
@@ -135,7 +135,7 @@ module _ (env : Environment) (parts : List Part) where
 
     -- what an index of a part names
     pub entry_stands : (k : Space) (p : ℕ) (m : Module) (x a : ℕ) → module_at parts p ≡ Some m → Entry env parts k p m x a → Stands k (Some a) (new_index parts p k x)
-    entry_stands k p m x a is (imports n h e) = subst (λ o. Stands k o (new_index parts p k x)) e (import_stands k p m x n is h)
+    entry_stands k p m x a is (imports n h e) = rw (← e) (import_stands k p m x n is h)
     entry_stands k p m x a is (defines j at l e) =
         let low = defined_low k parts p m is in
         let back : x - length (imports_of k m) ≡ j = omega (arith, at) in

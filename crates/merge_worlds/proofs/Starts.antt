@@ -55,11 +55,11 @@ starts_by P parts first (part ∷ rest) (i ∷ is) h =
     let x = h 0 part.«module» refl in
     let same : i ≡ x.0 = (let z = x.1 in cc) in
     let here : first + 0 ≡ first = omega arith in
-    append_rel (subst (λ i. ListRel P (start_in i part.«module».start) (start_of parts first part.«module».start)) (sym same) (subst (λ n. ListRel P (start_in x.0 part.«module».start) (start_of parts n part.«module».start)) here x.2))
+    append_rel (rw same (rw (← here) x.2))
     (starts_by P parts (suc first) rest is (λ q m e.
     let y = h (suc q) m e in
     let n : first + suc q ≡ suc first + q = omega arith in
-    (y.0, y.1, subst (λ n. ListRel P (start_in y.0 m.start) (start_of parts n m.start)) n y.2)))
+    (y.0, y.1, rw (← n) y.2)))
 
 shared_with_self : (env : Environment) (parts : List Part) (j : Inst) {several fs : List ℕ} → ListRel (IsNamed env parts j) several fs → ListRel ((sharing env parts).of Functions) several several
 shared_with_self env parts j nil = nil
@@ -80,7 +80,7 @@ module _ (laws : SpaceLaws) (env : Environment) (parts : List Part) (linked : li
       let low = ltb-true _ _ h in
       let s = agrees.funcs.each f low in
       let entry : slice_index (map_of parts p m).funcs f ≡ new_index parts p Functions f = entry_is parts p m Functions refl f low in
-      subst (λ o. ListRel (IsNamed env parts agree.merged) (one_place o) (new_index parts p Functions f ∷ [])) (sym s.first)
+      rw s.first
       (cons (record { names = ap (slice_get agree.merged.funcs) (sym entry) ∙ s.second; shared = s.shared }) nil)
 
   all_named : ListRel (IsNamed env parts agree.merged) (starts_of parts insts) (starts parts)
@@ -88,7 +88,7 @@ module _ (laws : SpaceLaws) (env : Environment) (parts : List Part) (linked : li
   all_named = starts_by (IsNamed env parts agree.merged) parts 0 parts insts (λ p m is.
       let i = agree.each p m is in
       let from_0 : 0 + p ≡ p = omega arith in
-      (i.0, i.1, subst (λ n. ListRel (IsNamed env parts agree.merged) (start_in i.0 m.start) (start_of parts n m.start)) (sym from_0) (one_named p m i.0 i.2 m.start (start_fits (map_of parts p m) m (fit p m is)))))
+      (i.0, i.1, rw from_0 (one_named p m i.0 i.2 m.start (start_fits (map_of parts p m) m (fit p m is)))))
 
   joined_starts : starts_of (one J) js ≡ start_in agree.merged (start_among (length (staying_of parts Functions) + defined_before Functions parts (length parts)) (starts parts)) ++ []
   joined_starts = rw (agree.alone, (joined_keeps parts mode).start, start_is parts (names_of parts mode)) refl

@@ -54,16 +54,16 @@ EachAgrees env parts insts j = (p : ℕ) (m : Module) → module_at parts p ≡ 
 
 module _ (laws : Laws) (m : Module) (valid : IsValid m) where
   pub global_typed : (n : ℕ) (g : GlobalDef) → slice_get m.globals n ≡ Some g → const_type m g.init ≡ Some g.ty.ty
-  global_typed n g h = let z = (laws.items m).0 valid kind.Global n (slice_get_within m.globals n g h) in subst (λ (g : GlobalDef). const_type m g.init ≡ Some g.ty.ty) (same_Some _ _ (sym z.1 ∙ h)) z.2
+  global_typed n g h = let z = (laws.items m).0 valid kind.Global n (slice_get_within m.globals n g h) in rw (← same_Some _ _ (sym z.1 ∙ h)) z.2
 
   pub item_typed : (n : ℕ) (s : ElemSeg) → slice_get m.elems n ≡ Some s → (l : ℕ) (e : ConstExpr) → slice_get s.items l ≡ Some e → const_type m e ≡ Some (Ref s.ty)
-  item_typed n s h = let z = (laws.items m).0 valid kind.Elem n (slice_get_within m.elems n s h) in subst (λ (s : ElemSeg). (l : ℕ) (e : ConstExpr) → slice_get s.items l ≡ Some e → const_type m e ≡ Some (Ref s.ty)) (same_Some _ _ (sym z.1 ∙ h)) z.2
+  item_typed n s h = let z = (laws.items m).0 valid kind.Elem n (slice_get_within m.elems n s h) in rw (← same_Some _ _ (sym z.1 ∙ h)) z.2
 
   pub elem_holds : (n : ℕ) (s : ElemSeg) → slice_get m.elems n ≡ Some s → ElemModeHolds m s.ty s.mode
-  elem_holds n s h = let z = (laws.items m).0 valid kind.Elem n (slice_get_within m.elems n s h) in subst (λ (s : ElemSeg). ElemModeHolds m s.ty s.mode) (same_Some _ _ (sym z.1 ∙ h)) z.3
+  elem_holds n s h = let z = (laws.items m).0 valid kind.Elem n (slice_get_within m.elems n s h) in rw (← same_Some _ _ (sym z.1 ∙ h)) z.3
 
   pub data_holds : (n : ℕ) (d : DataSeg) → slice_get m.datas n ≡ Some d → DataModeHolds m d.mode
-  data_holds n d h = let z = (laws.items m).0 valid kind.Segment n (slice_get_within m.datas n d h) in subst (λ (d : DataSeg). DataModeHolds m d.mode) (same_Some _ _ (sym z.1 ∙ h)) z.2
+  data_holds n d h = let z = (laws.items m).0 valid kind.Segment n (slice_get_within m.datas n d h) in rw (← same_Some _ _ (sym z.1 ∙ h)) z.2
 
   pub func_typed : (n : ℕ) (f : tree.Func) → slice_get m.funcs n ≡ Some f → f.ty < length m.types
-  func_typed n f h = let z = (laws.items m).0 valid kind.Func n (slice_get_within m.funcs n f h) in subst (λ (f : tree.Func). f.ty < length m.types) (same_Some _ _ (sym z.1 ∙ h)) z.2
+  func_typed n f h = let z = (laws.items m).0 valid kind.Func n (slice_get_within m.funcs n f h) in rw (← same_Some _ _ (sym z.1 ∙ h)) z.2

@@ -69,4 +69,4 @@ module _ (laws : Laws) (env : Environment) (parts : List Part) (mode : Mode) whe
     are_one = are ∙ ap Some k.alone
 
     pub value_rel : (p : ℕ) (m : Module) (e : ConstExpr) (ty : ValType) → module_at parts p ≡ Some m → const_type m e ≡ Some ty → OptRel (ValRel R) (value_of env parts insts p e) (value_of env M js 0 (merged_const parts p e))
-    value_rel p m e ty is t = subst (λ js. OptRel (ValRel R) (value_of env parts insts p e) (value_of env M js 0 (merged_const parts p e))) (sym k.alone) (const_rel can insts k.merged k.each are_one p m e ty is t)
+    value_rel p m e ty is t = rw k.alone (const_rel can insts k.merged k.each are_one p m e ty is t)

@@ -47,12 +47,12 @@ module _ (env : Environment) (parts : List Part) (fit : AllFit parts) (insts js 
   unfolding all_entities all_exports
   entities_seen = by_part_rel (λ p m. map (λ e. record { part = p; what = e.desc }) m.exports) (λ p m. map (new_export (map_of parts p m)) m.exports) 0 parts (λ p m is.
       let from_0 : 0 + p ≡ p = omega arith in
-      subst (λ q. ListRel (Sees env parts insts js) (map (λ e. record { part = q; what = e.desc }) m.exports) (map (new_export (map_of parts q m)) m.exports)) (sym from_0)
+      rw from_0
       (tested_maps (fits_export (map_of parts p m)) (λ e. record { part = p; what = e.desc }) (new_export (map_of parts p m)) m.exports (exports_fit (map_of parts p m) m (fit p m is)) (entity_seen p m is)))
 
   pub view_agrees : (mode : Mode) → ListRel (λ x y. OptRel (KeyRel (sharing env parts)) (seen_as insts x) (seen_as js y)) (merge_view parts mode) (alone (joined_module parts mode)).view
   unfolding merge_view
   view_agrees mode =
       let exports = (joined_keeps parts mode).exports ∙ exports_are parts (names_of parts mode) in
-      subst (λ es. ListRel (λ x y. OptRel (KeyRel (sharing env parts)) (seen_as insts x) (seen_as js y)) (named_entities (all_entities parts) (names_of parts mode)) (map seen_export es)) (sym exports)
+      rw exports
       (named_rel env parts insts js entities_seen (names_of parts mode))

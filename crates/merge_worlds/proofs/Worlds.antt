@@ -62,7 +62,7 @@ there_same none = refl
 there_same (some r) = refl
 
 both_linked : {A B : Type 0} (b c : Bool) (x : A) (y : B) → b ≡ c → OptRel (λ x y. Unit {0}) (cond b (Some x) None) (cond c (Some y) None)
-both_linked b c x y e = subst (λ b. OptRel (λ x y. Unit {0}) (cond b (Some x) None) (cond c (Some y) None)) (sym e) (go c)
+both_linked b c x y e = rw e (go c)
   where
     go : (c : Bool) → OptRel (λ x y. Unit {0}) (cond c (Some x) None) (cond c (Some y) None)
     go true = some tt
@@ -90,12 +90,12 @@ module _ (spaces : SpaceLaws) (laws : Laws) (nothing : StartsTakeNothing) (simil
 
   definitions : (insts js : List Inst) → InstancesAgree env parts insts js → insts_from env M 0 M ≡ Some js → DefinitionsCorrespond R env (record { parts = parts; insts = insts }) (record { parts = M; insts = js })
   definitions insts js k are =
-      subst (λ js. DefinitionsCorrespond R env (record { parts = parts; insts = insts }) (record { parts = M; insts = js })) (sym k.alone)
+      rw k.alone
       (definitions_correspond laws env parts mode can insts k.merged k.each (are_one laws env parts mode can insts js k are))
 
   stores : (insts js : List Inst) → InstancesAgree env parts insts js → insts_from env M 0 M ≡ Some js → OptRel (λ s z. Unit {0}) (stores_from env parts insts (own_store env) 0 parts insts) (stores_from env M js (own_store env) 0 M js)
   stores insts js k are =
-      subst (λ js. OptRel (λ s z. Unit {0}) (stores_from env parts insts (own_store env) 0 parts insts) (stores_from env M js (own_store env) 0 M js)) (sym k.alone)
+      rw k.alone
       (stores_both laws env parts mode can insts k.merged k.each (are_one laws env parts mode can insts js k are))
 
   similar : AreSimilar R env (linked_world parts mode) (alone J)
@@ -147,7 +147,7 @@ module _ (spaces : SpaceLaws) (laws : Laws) (nothing : StartsTakeNothing) (simil
     calls_each : (f g : ℕ) (fs : List ℕ) → starts parts ≡ f ∷ g ∷ fs → CallsEach after (shared_count env parts Functions) several
     calls_each f g fs e =
         let inst = inst_at env (record { parts = M; insts = j ∷ [] }) (y.are_insts ∙ ap Some k.alone) 0 J j refl refl in
-        let there : stores_from env M (j ∷ []) (own_store env) 0 M (j ∷ []) ≡ Some y.allocated = subst (λ js. stores_from env M js (own_store env) 0 M js ≡ Some y.allocated) k.alone y.is_allocated in
+        let there : stores_from env M (j ∷ []) (own_store env) 0 M (j ∷ []) ≡ Some y.allocated = rw (← k.alone) y.is_allocated in
         record {
           inst = j;
           calls = starts parts;
@@ -168,10 +168,10 @@ module _ (spaces : SpaceLaws) (laws : Laws) (nothing : StartsTakeNothing) (simil
     starts_are = ap (λ (b : Begun). b.starts) x.is
 
     begun_starts : StartsAlike c b.starts
-    begun_starts = subst (StartsAlike c) starts_are (subst (λ c. StartsAlike c several) y.is starts_alike)
+    begun_starts = subst (StartsAlike c) starts_are (rw (← y.is) starts_alike)
 
     shared_starts : ListRel (R.of Functions) b.starts b.starts
-    shared_starts = subst (λ l. ListRel (R.of Functions) l l) starts_are agreed.shared
+    shared_starts = rw (← starts_are) agreed.shared
 
   -- ---- both are instantiated or neither ----
 
@@ -212,7 +212,7 @@ module _ (env : Environment) (moves : List Move) where
   called_show : (b x y : Option Begun) → ((n : ℕ) → events_of tick (fresh_run env b moves) n ≡ events_of tick (fresh_run env x moves) n) →
       ((n : ℕ) → IsPrefix (events_of tick (fresh_run env x moves) n) (events_of tick (fresh_run env y moves) (n + 2)) × IsPrefix (events_of tick (fresh_run env y moves) n) (events_of tick (fresh_run env x moves) n)) → (n : ℕ) → ShowInFourMore env moves b y n
   called_show b x y e h n = (
-    more_steps env y moves _ (n + 2) (n + 4) (omega arith) (subst (λ l. IsPrefix l (events_of tick (fresh_run env y moves) (n + 2))) (sym (e n)) (h n).0),
+    more_steps env y moves _ (n + 2) (n + 4) (omega arith) (rw (e n) (h n).0),
     more_steps env b moves _ n (n + 4) (omega arith) (subst (IsPrefix (events_of tick (fresh_run env y moves) n)) (sym (e n)) (h n).1),
   )
 
@@ -229,7 +229,7 @@ module _ (alike : RelatedBegunShowTheSame) (several : OneStartMayCallSeveral) (e
           equal_show env moves (Some b) (Some c) (λ n. as_first n ∙ ap (λ c. events_of tick (fresh_run env (Some c) moves) n) same) n
       go (through_one a e h) =
           let same : record c { starts = a ∷ [] } ≡ c = ap (λ starts. record c { starts = starts }) (sym e) in
-          subst (λ c. ShowInFourMore env moves (Some b) (Some c) n) same
+          rw (← same)
           (called_show env moves (Some b) (Some (record c { starts = b.starts })) (Some (record c { starts = a ∷ [] })) as_first (several env (record c { starts = b.starts }) a h moves) n)
 
   agreeing_show : {b c : Option Begun} → OptRel (BegunAgree (sharing env parts)) b c → (n : ℕ) → ShowInFourMore env moves b c n

@@ -121,7 +121,7 @@ module _ (env : Environment) (all : List Part) (insts : List Inst) where
         let size : length (get (joined_stores s t.0)) ≡ length (get s) + defined_count k part.«module» = ap length (allocates.joins s t.0) ∙ length-append (get s) (get t.0) ∙ ap (λ n. length (get s) + n) (allocates.many p part.«module» j t.0 (adds p part.«module» j t.0 t.1)) in
         record {
           added = r.added;
-          adds = subst (λ p. Adds env all insts p m i r.added) n r.adds;
+          adds = rw (← n) r.adds;
           at = λ n x g.
               let place_is : (length (get s) + (defined_count k part.«module» + defined_before k rest q)) + n ≡ (length (get (joined_stores s t.0)) + defined_before k rest q) + n = omega (arith, size) in
               ap (slice_get (get z)) place_is ∙ r.at n x g;

@@ -104,7 +104,7 @@ module _ (env : Environment) (w : Instantiated) where
         let both : Some x ≡ Some t = sym h ∙ there in
         let same : x ≡ t = cc in
         let size = overwritten_length t.slots q e.items slots is in
-        let k : d.definition.limits.min ≤ length t.slots = subst (λ (x : Table). d.definition.limits.min ≤ length x.slots) same l in
+        let k : d.definition.limits.min ≤ length t.slots = rw (← same) l in
         omega (arith, size, k)) b (room.tables b d);
     mems = room.mems;
     elems = λ b d. set_holds (λ (e : Elem). length e.items ≤ length d.definition.items) s.elems n no_items (λ x h l. omega arith) b (room.elems b d);
@@ -125,7 +125,7 @@ module _ (env : Environment) (w : Instantiated) where
         let both : Some x ≡ Some m = sym h ∙ there in
         let same : x ≡ m = cc in
         let size = overwritten_length m.bytes q e.bytes bytes is in
-        let k : 65536 * d.definition.min ≤ length m.bytes = subst (λ (x : Memory). 65536 * d.definition.min ≤ length x.bytes) same l in
+        let k : 65536 * d.definition.min ≤ length m.bytes = rw (← same) l in
         omega (arith, size, k)) b (room.mems b d);
     elems = room.elems;
     datas = λ b d. set_holds (λ (e : Data). length e.bytes ≤ length d.definition.bytes) s.datas n no_bytes (λ x h l. omega arith) b (room.datas b d);

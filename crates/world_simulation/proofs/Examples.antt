@@ -50,7 +50,7 @@ first_is_unreachable = record {
     funcs (suc (suc i)) f h = cc
 
     exports : (i : ℕ) (e : Export) → slice_get three.exports i ≡ Some e → ExportNamesOnly (others 0 three) e.desc
-    exports zero e h = subst (λ (e : Export). ExportNamesOnly (others 0 three) e.desc) (same_Some _ _ h) refl
+    exports zero e h = rw (← same_Some _ _ h) refl
     exports (suc i) e h = cc
 
 -- behind it indices go down by one, and so does that of the export

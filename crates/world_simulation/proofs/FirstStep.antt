@@ -15,7 +15,7 @@ module _ (law : RelatedRunsShowTheSame) (of : Space → ℕ → ℕ → Bool) (a
   R = passed of of []
 
   after_step : {b c : Begun} (n : ℕ) → BegunRel R (EntryByEntry R) b c → events_of tick (fresh_run env (Some b) moves) (suc n) ≡ events_of tick (fresh_run env (Some c) moves) (suc n)
-  after_step {b} {c} n g = subst (λ x. shown (cond x trapped_first begun_first) ≡ shown (cond c.trapped trapped_second begun_second)) (sym g.trapped) (go c.trapped)
+  after_step {b} {c} n g = rw g.trapped (go c.trapped)
     where
       shown : Out → List Event
       shown o = noted o.1 (events_of tick o.0 n)

@@ -122,9 +122,9 @@ in_step {A} partners first second i j new more from extra (e ∷ es) nothing eac
     let here : from + 0 ≡ from = omega arith in
     let size : suc (length es) + extra ≡ suc (length es + extra) = omega arith in
     let abbreviated : (a : ℕ) (k : Inst) (x : A) → Task A = λ a k x. record { part = 0; inst = k; address = a; segment = x } in
-    subst (λ c. InOrder partners first second (tasks_in 0 i (numbers from (suc (length es))) (e ∷ es) ++ []) (tasks_in 0 j (numbers from c) (new e ∷ (map new es ++ more)) ++ [])) (sym size)
+    rw size
     (both (subst (λ a. partners (abbreviated a i e) (abbreviated a j (new e))) here (each 0 e refl))
-    (in_step partners first second i j new more (suc from) extra es nothing (λ x d h. let n : from + suc x ≡ suc from + x = omega arith in subst (λ a. partners (abbreviated a i d) (abbreviated a j (new d))) n (each (suc x) d h))))
+    (in_step partners first second i j new more (suc from) extra es nothing (λ x d h. let n : from + suc x ≡ suc from + x = omega arith in rw (← n) (each (suc x) d h))))
 
 -- all of two modules alone, of which the second has more
 pub all_in_step : {A : Type 0} (partners : Task A → Task A → Type 0) (first second : Task A → Type 0) (i j : Inst) (new : A → A) (more : List A) (es us : List A) (xs ys : List ℕ) → xs ≡ numbers 0 (length es) → ys ≡ numbers 0 (length us) → us ≡ map new es ++ more →
@@ -133,8 +133,8 @@ pub all_in_step : {A : Type 0} (partners : Task A → Task A → Type 0) (first 
     InOrder partners first second (tasks_in 0 i xs es ++ []) (tasks_in 0 j ys us ++ [])
 all_in_step partners first second i j new more es us xs ys xs_are ys_are us_are nothing each =
     let size : length es + length more ≡ length us = (let e = ap length us_are ∙ length-append (map new es) more in let c = map_length new es in omega (arith, e, c)) in
-    subst (λ xs. InOrder partners first second (tasks_in 0 i xs es ++ []) (tasks_in 0 j ys us ++ [])) (sym xs_are)
-    (subst (λ l. InOrder partners first second (tasks_in 0 i (numbers 0 (length es)) es ++ []) l) (ap₂ (λ ns us. tasks_in 0 j ns us ++ []) (ap (numbers 0) size ∙ sym ys_are) (sym us_are))
+    rw xs_are
+    (rw (← ap₂ (λ ns us. tasks_in 0 j ns us ++ []) (ap (numbers 0) size ∙ sym ys_are) (sym us_are))
     (in_step partners first second i j new more 0 (length more) es nothing each))
 
 pub stays_at : (size x : ℕ) → has (numbers 0 size) x ≡ true → (slice_index (numbers 0 size) x ≡ x) × (x < size)
@@ -175,7 +175,7 @@ module _ (env : Environment) (t u : Module) (i j : Inst) where
 
           at : (x y : ℕ) → c ≡ own_count k env + x → (d ≡ own_count k env + y) × Moved gap x y → x < defined_count k t → Partners env v w k definitions correspond c d
           at x y first second_is within =
-              let e = slice_get_there (definitions t) x (subst (λ n. x < n) (counts t) within) in
+              let e = slice_get_there (definitions t) x (rw (← counts t) within) in
               let d_is = second_is.0 in
               partners.defined (record { part = 0; of = t; is_part = refl; inst = i; is_inst = refl; place = x; definition = e.0; stands = e.1; address = omega (arith, first) })
               (record { part = 0; of = u; is_part = refl; inst = j; is_inst = refl; place = y; definition = new e.0; stands = second x y e.0 e.1 second_is.1; address = omega (arith, d_is) })

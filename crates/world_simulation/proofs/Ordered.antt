@@ -190,18 +190,18 @@ module _ (R : Pairing) (apart : OneToOne R) (env : Environment) (v w : Instantia
   copy_data_rel : {s z : Store} (i j : Inst) {n k : ℕ} (x y : ℕ) (o : Option ℕ) → StoreRel R s z → R.of DataSegments n k → OptRel (R.of Memories) (slice_get i.mems x) (slice_get j.mems y) → Related (copy_data s n i x o) (copy_data z k j y o)
   copy_data_rel {s} {z} i j {n} {k} x y o like e d =
       or_trapped_rel like (then_same o (λ q _. then_rel d (λ a b h. then_rel (both_placed s.mems z.mems a b (like.mems h)) (λ m u same. then_rel (both_placed s.datas z.datas n k (like.datas e)) (λ c d bytes.
-      some (subst (λ u. Related (fill_memory s n a m (overwrite m.bytes q c.bytes)) (fill_memory z k b u (overwrite u.bytes q d.bytes))) same
-      (subst (λ bytes. Related (fill_memory s n a m (overwrite m.bytes q c.bytes)) (fill_memory z k b m (overwrite m.bytes q bytes))) bytes (fill_memory_rel m (overwrite m.bytes q c.bytes) like e h))))))))
+      some (rw (← same)
+      (rw (← bytes) (fill_memory_rel m (overwrite m.bytes q c.bytes) like e h))))))))
 
   run_elem_rel : {s z : Store} (value second_value : ConstExpr → Option Val) (x y : Task ElemSeg) {m n : ElemMode} → StoreRel R s z → ElemsPartner R value second_value x y m n → Related (run_elem_with value s x m) (run_elem_with second_value z y n)
   run_elem_rel {s} {z} value second_value x y like (segments.ElemsPartner.active {t = t} {u = u} {d = d} e h same) =
-      subst (λ o. Related (copy_elem s x.address x.inst t (offset_in value d)) (copy_elem z y.address y.inst u o)) same (copy_elem_rel x.inst y.inst t u (offset_in value d) like e h)
+      rw (← same) (copy_elem_rel x.inst y.inst t u (offset_in value d) like e h)
   run_elem_rel value second_value x y like segments.ElemsPartner.passive = record { store = like; trapped = refl }
   run_elem_rel value second_value x y like segments.ElemsPartner.declarative = record { store = like; trapped = refl }
 
   run_data_rel : {s z : Store} (value second_value : ConstExpr → Option Val) (x y : Task DataSeg) {m n : DataMode} → StoreRel R s z → DatasPartner R value second_value x y m n → Related (run_data_with value s x m) (run_data_with second_value z y n)
   run_data_rel {s} {z} value second_value x y like (segments.DatasPartner.active {t = t} {u = u} {d = d} e h same) =
-      subst (λ o. Related (copy_data s x.address x.inst t (offset_in value d)) (copy_data z y.address y.inst u o)) same (copy_data_rel x.inst y.inst t u (offset_in value d) like e h)
+      rw (← same) (copy_data_rel x.inst y.inst t u (offset_in value d) like e h)
   run_data_rel value second_value x y like segments.DatasPartner.passive = record { store = like; trapped = refl }
 
   -- ---- one without partner ----
@@ -213,11 +213,11 @@ module _ (R : Pairing) (apart : OneToOne R) (env : Environment) (v w : Instantia
   -- after it the one goes on, and the other stays
   first_goes : {f : Filled} {h : Store → Filled} {g : Filled} {s z : Store} → Copies (in_first R) s f → HasRoom env v f.store → Stores s z → ((s : Store) → Stores s z → FilledAlike (h s) g) → FilledAlike (and_then f h) g
   first_goes {f} {h} {g} {s} {z} c room like next =
-      subst (λ f. FilledAlike (and_then f h) g) (sym c.is) (next c.store (record { related = kept_rel R like.related c.kept (nothing_kept (in_second R) z); first = copied_room v f c.store c.is room; second = like.second }))
+      rw c.is (next c.store (record { related = kept_rel R like.related c.kept (nothing_kept (in_second R) z); first = copied_room v f c.store c.is room; second = like.second }))
 
   second_goes : {f : Filled} {h : Store → Filled} {g : Filled} {s z : Store} → Copies (in_second R) z g → HasRoom env w g.store → Stores s z → ((z : Store) → Stores s z → FilledAlike f (h z)) → FilledAlike f (and_then g h)
   second_goes {f} {h} {g} {s} {z} c room like next =
-      subst (λ g. FilledAlike f (and_then g h)) (sym c.is) (next c.store (record { related = kept_rel R like.related (nothing_kept (in_first R) s) c.kept; first = like.first; second = copied_room w g c.store c.is room }))
+      rw c.is (next c.store (record { related = kept_rel R like.related (nothing_kept (in_first R) s) c.kept; first = like.first; second = copied_room w g c.store c.is room }))
 
   -- ---- in order ----
 

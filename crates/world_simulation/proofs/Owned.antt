@@ -62,7 +62,7 @@ module _ (R : Pairing) (env : Environment) (own : SharesOwn R env) where
   pub look_rel : (is : OwnKey → Bool) {xs ys : Owned} → ListRel (KeyRel R) xs ys → OptRel (ThingRel R) (look_up is xs) (look_up is ys)
   look_rel is nil = none
   look_rel is (cons {a = x} {b = y} {xs = xs} {ys = ys} p r) =
-      subst (λ k. OptRel (ThingRel R) (look_up is (x ∷ xs)) (cond (is k) (Some y.1) (look_up is ys))) p.key (either (is x.0) (look_up is xs) (look_up is ys) p.thing (look_rel is r))
+      rw (← p.key) (either (is x.0) (look_up is xs) (look_up is ys) p.thing (look_rel is r))
 
   -- ---- their values ----
 

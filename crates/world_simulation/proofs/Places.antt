@@ -34,7 +34,7 @@ then_eq none h = refl
 then_eq (some q) h = h _ _ q
 
 pub opt_self : {A : Type 0} {P : A → A → Type 0} {o : Option A} {a : A} → OptRel P o o → o ≡ Some a → P a a
-opt_self {P = P} {o = o} r e = go (subst (λ x. OptRel P x x) e r)
+opt_self {P = P} {o = o} r e = go (rw (← e) r)
   where
     go : {b : _} → OptRel P (Some b) (Some b) → P b b
     go (some p) = p
@@ -48,13 +48,13 @@ left_there none e = cc
 left_there (some {a = a} r) e = (a, refl)
 
 pub opt_both : {A B : Type 0} {P : A → B → Type 0} {o : Option A} {p : Option B} {a : A} {b : B} → OptRel P o p → o ≡ Some a → p ≡ Some b → P a b
-opt_both {B = B} {P = P} {p = p} {a = a} r e f = go (subst (λ y. OptRel P (Some a) y) f (subst (λ x. OptRel P x p) e r))
+opt_both {B = B} {P = P} {p = p} {a = a} r e f = go (rw (← f) (rw (← e) r))
   where
     go : {b : B} → OptRel P (Some a) (Some b) → P a b
     go (some p) = p
 
 pub opt_at : {A B : Type 0} {P : A → B → Type 0} {o p : Option A} {q r : Option B} → o ≡ p → q ≡ r → OptRel P p r → OptRel P o q
-opt_at {P = P} {o = o} {r = r} e f h = subst (λ y. OptRel P o y) (sym f) (subst (λ x. OptRel P x r) (sym e) h)
+opt_at {P = P} {o = o} {r = r} e f h = rw f (rw e h)
 
 -- both are there or neither, where each is there with the other
 pub both_or_none : {A B : Type 0} {P : A → B → Type 0} (o : Option A) (p : Option B) → ((a : A) (b : B) → o ≡ Some a → p ≡ Some b → P a b) → ((a : A) → o ≡ Some a → (b : B) × (p ≡ Some b)) → ((b : B) → p ≡ Some b → (a : A) × (o ≡ Some a)) → OptRel P o p
@@ -116,7 +116,7 @@ names_of xs ys n m r = rw (at_place xs n, at_place ys m) (res_of r)
 
 -- what a step looks up, as options
 pub res_placed : {A B : Type 0} {P : A → B → Type 0} (xs : List A) (ys : List B) (n m : ℕ) → ResRel P (at xs n) (at ys m) → OptRel P (slice_get xs n) (slice_get ys m)
-res_placed {A} {B} {P} xs ys n m r = go (slice_get xs n) (slice_get ys m) (subst (λ o. ResRel P o (or_ill (slice_get ys m))) (at_place xs n) (subst (ResRel P (at xs n)) (at_place ys m) r))
+res_placed {A} {B} {P} xs ys n m r = go (slice_get xs n) (slice_get ys m) (rw (← at_place xs n) (subst (ResRel P (at xs n)) (at_place ys m) r))
   where
     go : (o : Option A) (p : Option B) → ResRel P (or_ill o) (or_ill p) → OptRel P o p
     go None None r = none

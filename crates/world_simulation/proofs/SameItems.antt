@@ -79,7 +79,7 @@ module _ (of : Space → ℕ → ℕ → Bool) (m : Remap) (kept : Indices) (t u
         let imported = same_Some _ _ (sym sy.are ∙ ap₂ (λ ts is. addresses env ts is k) same.types same.imports ∙ sx.are) in
         let many = sx.many in
         opt_at (ap (λ l. slice_get l x) sx.all) (ap (λ l. slice_get l y) (sy.all ∙ ap (λ l. l ++ numbers (own_count k env) (defined_count k u)) imported))
-        (space_moves (R.of k) sx.imported (own_count k env) gap (defined_count k t) (defined_count k u) sx.shared within smaller equal related x y (omega (arith, h, many)) (subst (λ c. Moved (c + gap) x y) (sym many) move))
+        (space_moves (R.of k) sx.imported (own_count k env) gap (defined_count k t) (defined_count k u) sx.shared within smaller equal related x y (omega (arith, h, many)) (rw many move))
 
     -- a space of which nothing is removed
     pub plain_rel : (k : Space) (xs ys : List ℕ) (size : ℕ) → space env (one t) k 0 t ≡ Some xs → space env (one u) k 0 u ≡ Some ys → ((c d : ℕ) → Down (own_count k env + defined_count k t) (own_count k env + defined_count k t) c d → R.of k c d) → defined_count k u ≡ defined_count k t → size ≡ length (imports_of k t) + defined_count k t →
@@ -128,7 +128,7 @@ module _ (of : Space → ℕ → ℕ → Bool) (m : Remap) (kept : Indices) (t u
         read globals y = option_and_then (λ a. option_and_then (λ g. Some g.value) (slice_get (own_globals env) a)) (slice_get globals y)
 
         value : (y : ℕ) → OptRel (ValRel R) (read i.globals y) (read j.globals y)
-        value y = subst (λ l. OptRel (ValRel R) (read i.globals y) (read l y)) (sym same_globals) (then_same (slice_get i.globals y) (λ a _. then_rel (place_rel (own_globals_rel R env own) a) (λ _ _ g. some g.value)))
+        value y = rw same_globals (then_same (slice_get i.globals y) (λ a _. then_rel (place_rel (own_globals_rel R env own) a) (λ _ _ g. some g.value)))
 
         go : (o : Option ℕ) → OptRel (ValRel R) (option_and_then (value_of_read (own_globals env) (i ∷ [])) (option_and_then (λ y. Some (record { part = 0; expr = const.Global y })) o)) (option_and_then (value_of_read (own_globals env) (j ∷ [])) (option_and_then (λ y. Some (record { part = 0; expr = const.Global y })) o))
         go None = none
@@ -157,7 +157,7 @@ module _ (of : Space → ℕ → ℕ → Bool) (m : Remap) (kept : Indices) (t u
         nothing (n ∷ ns) = ends
 
     pub view : ListRel (λ x y. OptRel (KeyRel R) (seen_as (i ∷ []) x) (seen_as (j ∷ []) y)) (alone t).view (alone u).view
-    view = subst (λ es. ListRel (λ x y. OptRel (KeyRel R) (seen_as (i ∷ []) x) (seen_as (j ∷ []) y)) (alone t).view (map seen es)) (sym same.exports) (each t.exports same.named.exports)
+    view = rw same.exports (each t.exports same.named.exports)
       where
         seen : Export → Text × Entity
         seen e = (e.name, record { part = 0; what = e.desc })
@@ -167,7 +167,7 @@ module _ (of : Space → ℕ → ℕ → Bool) (m : Remap) (kept : Indices) (t u
         each (e ∷ es) h = cons (then_rel (export_named of m kept i j names e.desc (h 0 e refl)) (λ _ _ r. some (record { key = refl; thing = r }))) (each es (λ x. h (suc x)))
 
     pub starts : ListRel (R.of Functions) (starts_of (one t) (i ∷ [])) (starts_of (one u) (j ∷ []))
-    starts = append_rel (subst (λ o. ListRel (R.of Functions) (start_in i t.start) (start_in j o)) (sym same.start) (start_named of m kept i j names t.start same.named.start)) nil
+    starts = append_rel (rw same.start (start_named of m kept i j names t.start same.named.start)) nil
 
     -- ---- what the second defines is allocated ----
 

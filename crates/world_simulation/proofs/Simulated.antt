@@ -45,7 +45,7 @@ elem_few value d e h =
     let many = all_there_length (λ x. option_and_then (λ v. given (ref_of v)) (value x)) d.items i.0 i.1 in
     let last = i.2 in
     let same : new_elem d.mode i.0 ≡ e = cc in
-    subst (λ (e : Elem). length e.items ≤ length d.items) same (few d.mode i.0 many)
+    rw (← same) (few d.mode i.0 many)
   where
     few : (mode : ElemMode) (xs : List RefVal) → length xs ≡ length d.items → length (new_elem mode xs).items ≤ length d.items
     few (elem.Active x offset) xs n = omega (arith, n)
@@ -93,7 +93,7 @@ module _ (R : Pairing) (apart : OneToOne R) (env : Environment) (v w : World) (s
   begin_alike b c f g =
       let x = what_is_made env v b f in
       let y = what_is_made env w c g in
-      subst (λ c. BegunAlike R b c) y.is (subst (λ b. BegunAlike R b (begun env w y.insts y.view (segments env w.parts y.insts y.allocated))) x.is (begun_alike b c x y))
+      rw (← y.is) (rw (← x.is) (begun_alike b c x y))
 
   begun_rel : StartAlike R env v w → (b c : Begun) → instantiate env v ≡ Some b → instantiate env w ≡ Some c → BegunRel R (EntryByEntry R) b c
   begun_rel starts b c f g =
@@ -102,7 +102,7 @@ module _ (R : Pairing) (apart : OneToOne R) (env : Environment) (v w : World) (s
       let k = begin_alike b c f g in
       let first : starts_of v.parts x.insts ≡ b.starts = ap (λ (b : Begun). b.starts) x.is in
       let second : starts_of w.parts y.insts ≡ c.starts = ap (λ (c : Begun). c.starts) y.is in
-      let related : ListRel (R.of Functions) b.starts c.starts = subst (λ l. ListRel (R.of Functions) b.starts l) second (subst (λ l. ListRel (R.of Functions) l (starts_of w.parts y.insts)) first (starts x.insts y.insts x.are_insts y.are_insts)) in
+      let related : ListRel (R.of Functions) b.starts c.starts = rw (← second) (rw (← first) (starts x.insts y.insts x.are_insts y.are_insts)) in
       record { store = k.store; entries = cons (opening related) nil; closed = nil; trapped = k.trapped; view = k.view; owned = k.owned }
 
   -- both or neither

@@ -186,7 +186,7 @@ module _ (t : Module) (n : ℕ) (there : n < length t.funcs) (reach : IsUnreacha
           let f = func_moves x h in
           let counted = funcs_counted t.imports 0 in
           let l = f.0 in
-          names_of i.funcs j.funcs x _ (space_rel of m kept t u fs items env own i j a b Functions i.funcs j.funcs n a.funcs b.funcs (λ c d e. is_down _ _ c d e) (omega (arith, there)) (λ c. funcs_many) (λ e. absurd (omega (arith, there, e))) x _ (omega (arith, l, counted)) (subst (λ c. Moved (c + n) x (slice_index m.funcs x)) (sym counted) f.1))
+          names_of i.funcs j.funcs x _ (space_rel of m kept t u fs items env own i j a b Functions i.funcs j.funcs n a.funcs b.funcs (λ c d e. is_down _ _ c d e) (omega (arith, there)) (λ c. funcs_many) (λ e. absurd (omega (arith, there, e))) x _ (omega (arith, l, counted)) (rw counted f.1))
       names Tables x h =
           let counted = tables_counted t.imports 0 in
           let size = length-append (imported_tables t.imports) t.tables in
@@ -221,7 +221,7 @@ module _ (t : Module) (n : ℕ) (there : n < length t.funcs) (reach : IsUnreacha
       with_hole : {A : Type 0} (k : Space) (definitions : Module → List A) (new : A → A) (gap : ℕ) → hole k ≡ own_count k env + gap → ((c : Module) → defined_count k c ≡ length (definitions c)) →
           ((x y : ℕ) (d : A) → slice_get (definitions t) x ≡ Some d → Moved gap x y → slice_get (definitions u) y ≡ Some (new d)) → (correspond : ℕ → Inst → A → ℕ → Inst → A → Type 0) →
           ((x : ℕ) (d : A) → slice_get (definitions t) x ≡ Some d → (x ≡ gap → ⊥) → correspond 0 i d 0 j (new d)) → (c d : ℕ) → R.of k c d → Partners env v w k definitions correspond c d
-      with_hole k definitions new gap e counts second correspond alike c d r = placed env t u i j k definitions new gap counts second correspond alike c d (subst (λ h. Down h (own_count k env + defined_count k t) c d) e (down_is (hole k) _ c d r))
+      with_hole k definitions new gap e counts second correspond alike c d r = placed env t u i j k definitions new gap counts second correspond alike c d (rw (← e) (down_is (hole k) _ c d r))
 
       definitions : RenumberedCodeIsRelated → DefinitionsCorrespond R env v w
       definitions code = record {
@@ -248,13 +248,13 @@ module _ (t : Module) (n : ℕ) (there : n < length t.funcs) (reach : IsUnreacha
     similar code is js f g =
         let i = one_inst env t is f in
         let j = one_inst env u js g in
-        subst (λ is. WorldsCorrespond R env (alone t) (alone u) is js) (sym i.1) (subst (λ js. WorldsCorrespond R env (alone t) (alone u) (i.0 ∷ []) js) (sym j.1) (worlds i.0 j.0 i.2 j.2 code))
+        rw i.1 (rw j.1 (worlds i.0 j.0 i.2 j.2 code))
 
     start_alike : StartAlike R env (alone t) (alone u)
     start_alike is js f g =
         let i = one_inst env t is f in
         let j = one_inst env u js g in
-        subst (λ is. ListRel (R.of Functions) (starts_of (one t) is) (starts_of (one u) js)) (sym i.1) (subst (λ js. ListRel (R.of Functions) (starts_of (one t) (i.0 ∷ [])) (starts_of (one u) js)) (sym j.1) (starts of m kept t u fs items env own i.0 j.0 i.2 j.2 (names i.0 j.0 i.2 j.2)))
+        rw i.1 (rw j.1 (starts of m kept t u fs items env own i.0 j.0 i.2 j.2 (names i.0 j.0 i.2 j.2)))
 
     funcs_from : RenumberedCodeIsRelated → (i j : Inst) (a : IsInst env (one t) 0 t i) (b : IsInst env (one (removed n t)) 0 (removed n t) j) → FuncsFrom of m kept t u fs items env own i j a b (names i j a b)
     funcs_from code i j a b y f h = by (cases_lt y n)
