@@ -87,11 +87,11 @@ module _ (env : Environment) (all : List Part) (insts : List Inst) where
 
   module _ {k : Space} {A : Type 0} {get : Store → List A} (allocates : Allocates k get) where
     pub keeps : (p : ℕ) (rest : List Part) (is : List Inst) (s z : Store) → stores_from env all insts s p rest is ≡ Some z → (n : ℕ) (x : A) → slice_get (get s) n ≡ Some x → slice_get (get z) n ≡ Some x
-    keeps p [] is s z h n x e = ap (λ s. slice_get (get s) n) (sym (same_Some s z h)) ∙ e
-    keeps p (part ∷ rest) [] s z h n x e = ap (λ s. slice_get (get s) n) (sym (same_Some s z h)) ∙ e
+    keeps p [] is s z h n x e = rw (← same_Some s z h) e
+    keeps p (part ∷ rest) [] s z h n x e = rw (← same_Some s z h) e
     keeps p (part ∷ rest) (i ∷ is) s z h n x e =
         let t = and_then_is (part_store env all insts p part.«module» i) (λ t. stores_from env all insts (joined_stores s t) (suc p) rest is) z h in
-        keeps (suc p) rest is (joined_stores s t.0) z t.2 n x (ap (λ l. slice_get l n) (allocates.joins s t.0) ∙ append_left (get s) (get t.0) n (slice_get_within (get s) n x e) ∙ e)
+        keeps (suc p) rest is (joined_stores s t.0) z t.2 n x (rw (allocates.joins s t.0) (append_left (get s) (get t.0) n (slice_get_within (get s) n x e) ∙ e))
 
     -- what a part adds stands in the store from an address on
     pub record Stands (z : Store) (from p : ℕ) (m : Module) (i : Inst) : Type 0 where
@@ -109,10 +109,10 @@ module _ (env : Environment) (all : List Part) (insts : List Inst) where
         let n : p + 0 ≡ p = omega arith in
         record {
           added = t.0;
-          adds = adds (p + 0) m i t.0 (ap (λ p. part_store env all insts p m i) n ∙ ap₂ (part_store env all insts p) (sym same) (sym same_inst) ∙ t.1);
+          adds = adds (p + 0) m i t.0 (rw n (ap₂ (part_store env all insts p) (sym same) (sym same_inst) ∙ t.1));
           at = λ n x g.
               let z : (length (get s) + 0) + n ≡ length (get s) + n = omega arith in
-              ap (slice_get (get _)) z ∙ keeps (suc p) rest is (joined_stores s t.0) _ t.2 (length (get s) + n) x (ap (λ l. slice_get l (length (get s) + n)) (allocates.joins s t.0) ∙ append_right (get s) (get t.0) n ∙ g);
+              ap (slice_get (get _)) z ∙ keeps (suc p) rest is (joined_stores s t.0) _ t.2 (length (get s) + n) x (rw (allocates.joins s t.0) (append_right (get s) (get t.0) n ∙ g));
         }
     stands p (part ∷ rest) (j ∷ is) s z h (suc q) m i e f =
         let t = and_then_is (part_store env all insts p part.«module» j) (λ t. stores_from env all insts (joined_stores s t) (suc p) rest is) z h in
@@ -139,7 +139,7 @@ stores_there env all insts s p (part ∷ rest) [] h = (s, refl)
 stores_there env all insts s p (part ∷ rest) (i ∷ is) h =
     let t = h 0 part.«module» i refl refl in
     let n : p + 0 ≡ p = omega arith in
-    let r = stores_there env all insts (joined_stores s t.0) (suc p) rest is (λ q m i e f. let t = h (suc q) m i e f in let n : p + suc q ≡ suc p + q = omega arith in (t.0, ap (λ p. part_store env all insts p m i) (sym n) ∙ t.1)) in
+    let r = stores_there env all insts (joined_stores s t.0) (suc p) rest is (λ q m i e f. let t = h (suc q) m i e f in let n : p + suc q ≡ suc p + q = omega arith in (t.0, rw (← n) t.1)) in
     (r.0, rw (ap (λ p. part_store env all insts p part.«module» i) (sym n) ∙ t.1) r.1)
 
 -- it does where what it defines is there

@@ -106,7 +106,7 @@ read_is t (const.I32 v) = refl
 read_is t (const.I64 v) = refl
 read_is t (const.Null ty) = refl
 read_is t (const.Func f) = refl
-read_is t (const.Global x) = ap (λ o. walk_on more (end_step (one t) o)) (import_of_global t x) ∙ go (slice_get (imports_of Globals t) x)
+read_is t (const.Global x) = rw (import_of_global t x) (go (slice_get (imports_of Globals t) x))
   where
     more : Read → Option Read
     more = walk (read_step (one t)) (length (initials_from 0 (one t)))

@@ -37,7 +37,7 @@ split_fits zero xs h = (([], xs), refl, refl, omega arith)
 split_fits (suc n) [] h = absurd (omega (arith, h))
 split_fits (suc n) (x ∷ xs) h =
     let r = split_fits n xs (omega (arith, h)) in
-    ((x ∷ r.0.0, r.0.1), ap (λ o. bind o (λ p. Gives (x ∷ p.0, p.1))) r.1, ap suc r.2, let e = r.3 in omega (arith, e))
+    ((x ∷ r.0.0, r.0.1), rw r.1 refl, ap suc r.2, let e = r.3 in omega (arith, e))
 
 pub overwrite_fits : {A : Type 0} (xs ys : List A) (n : ℕ) → n + length ys ≤ length xs → (zs : List A) × (overwrite xs n ys ≡ Gives zs) × (length zs ≡ length xs)
 overwrite_fits {A} xs ys n h =
@@ -49,7 +49,7 @@ overwrite_fits {A} xs ys n h =
     let b = length-append ys q.0.1 in
     let g = q.2 in
     let k = q.3 in
-    (p.0.0 ++ (ys ++ q.0.1), ap (λ o. bind o (λ p. bind (split_at (length ys) p.1) (λ q. Gives (p.0 ++ (ys ++ q.1))))) p.1 ∙ ap (λ o. bind o (λ q. Gives (p.0.0 ++ (ys ++ q.1)))) q.1, omega (arith, a, b, e, f, g, k))
+    (p.0.0 ++ (ys ++ q.0.1), rw p.1 (rw q.1 refl), omega (arith, a, b, e, f, g, k))
 
 pub overwritten_length : {A : Type 0} (xs : List A) (n : ℕ) (ys zs : List A) → overwrite xs n ys ≡ Gives zs → length zs ≡ length xs
 overwritten_length {A} xs n ys zs e = go (split_at n xs) (split_lengths n xs) e
@@ -201,7 +201,7 @@ module _ (related alone : Space → ℕ → Type 0) (never : (k : Space) (a : �
         let i = room.elems x.address d in
         let large = u.2 in
         let few = i.2 in
-        let size : length d.definition.items ≡ length x.segment.items = ap (λ (e : ElemSeg). length e.items) is in
+        let size : length d.definition.items ≡ length x.segment.items = rw is refl in
         let o = overwrite_fits u.0.slots i.0.items q (omega (arith, large, few, size, fits)) in
         record {
           store = changed (changed s (SetTable a (record u.0 { slots = o.0 }))) (DropElem x.address);
@@ -217,7 +217,7 @@ module _ (related alone : Space → ℕ → Type 0) (never : (k : Space) (a : �
         let i = room.datas x.address d in
         let large = u.2 in
         let few = i.2 in
-        let size : length d.definition.bytes ≡ length x.segment.bytes = ap (λ (e : DataSeg). length e.bytes) is in
+        let size : length d.definition.bytes ≡ length x.segment.bytes = rw is refl in
         let o = overwrite_fits u.0.bytes i.0.bytes q (omega (arith, large, few, size, fits)) in
         record {
           store = changed (changed s (SetMemory a (record u.0 { bytes = o.0 }))) (DropData x.address);

@@ -33,7 +33,7 @@ module _ (law : RelatedRunsShowTheSame) (of : Space → ℕ → ℕ → Bool) (a
       begun_second = (record (fresh_run env (Some c) moves) { store = c.store; entries = Opening c.starts ∷ []; phase = Pending c.view; owned = c.owned }, None)
 
       go : (x : Bool) → shown (cond x trapped_first begun_first) ≡ shown (cond x trapped_second begun_second)
-      go true = ap (λ es. InstanceTrapped ∷ es) (law of apart trapped_first.0 trapped_second.0 (record { store = g.store; entries = g.closed; phase = closed; shown = nil; view = nil; owned = g.owned; moves = refl }) n)
+      go true = rw (law of apart trapped_first.0 trapped_second.0 (record { store = g.store; entries = g.closed; phase = closed; shown = nil; view = nil; owned = g.owned; moves = refl }) n) refl
       go false = law of apart begun_first.0 begun_second.0 (record { store = g.store; entries = g.entries; phase = pending g.view; shown = nil; view = nil; owned = g.owned; moves = refl }) n
 
   pub runs_same : {b c : Option Begun} (n : ℕ) → OptRel (BegunRel R (EntryByEntry R)) b c → events_of tick (fresh_run env b moves) n ≡ events_of tick (fresh_run env c moves) n

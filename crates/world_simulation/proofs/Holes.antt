@@ -41,7 +41,7 @@ down_is hole bound a b h = by (nat_lt a hole) refl (right_true (nat_lt a bound) 
     by false e k = high (ltb-true hole a (right_true (nat_eq a (suc b)) _ k)) l (eqb-true a (suc b) (left_true (nat_eq a (suc b)) _ k))
 
 pub is_down : (hole bound a b : ℕ) → Down hole bound a b → moved_down hole bound a b ≡ true
-is_down hole bound a b (low h l e) = and_from (nat_lt a bound) _ (lt-ltb a bound l) (ap (λ c. cond c (nat_eq a b) (nat_eq a (suc b) && nat_lt hole a)) (lt-ltb a hole h) ∙ eq-eqb a b e)
+is_down hole bound a b (low h l e) = and_from (nat_lt a bound) _ (lt-ltb a bound l) (rw (lt-ltb a hole h) (eq-eqb a b e))
 is_down hole bound a b (high h l e) = and_from (nat_lt a bound) _ (lt-ltb a bound l) (by (nat_lt a hole) refl)
   where
     by : (c : Bool) → nat_lt a hole ≡ c → cond c (nat_eq a b) (nat_eq a (suc b) && nat_lt hole a) ≡ true
@@ -166,7 +166,7 @@ module _ (env : Environment) (t u : Module) (i j : Inst) where
       by (inr l) move = at (c - own_count k env) (d - own_count k env) (omega (arith, l)) (shift move) (below move)
         where
           shift : Down (own_count k env + gap) (own_count k env + defined_count k t) c d → (d ≡ own_count k env + (d - own_count k env)) × Moved gap (c - own_count k env) (d - own_count k env)
-          shift (low h e f) = (omega (arith, l, f), stays (omega (arith, l, h)) (ap (λ z. z - own_count k env) f))
+          shift (low h e f) = (omega (arith, l, f), stays (omega (arith, l, h)) (rw f refl))
           shift (high h e f) = (omega (arith, h, f), falls (omega (arith, l, h)) (omega (arith, h, f)))
 
           below : Down (own_count k env + gap) (own_count k env + defined_count k t) c d → c - own_count k env < defined_count k t

@@ -51,7 +51,7 @@ module _ (env : Environment) (parts : List Part) (k : Space) (p : ℕ) (m : Modu
       record { imported = r.0; are = r.1; all = sym all; size = ap length (sym all) ∙ length-append r.0 defined ∙ ap₂ (λ a b. a + b) many (length-numbers (base env parts k p) (defined_count k m)) }
 
   pub entry_at : IsSpace env parts k p m xs → (x a : ℕ) → slice_get xs x ≡ Some a → Entry env parts k p m x a
-  entry_at s x a h = go (append_from s.imported (numbers (base env parts k p) (defined_count k m)) x a (ap (λ l. slice_get l x) (sym s.all) ∙ h))
+  entry_at s x a h = go (append_from s.imported (numbers (base env parts k p) (defined_count k m)) x a (rw (← s.all) h))
     where
       many : length s.imported ≡ length (imports_of k m)
       many = all_there_length (import_address env parts k p) (imports_of k m) s.imported s.are
@@ -89,13 +89,13 @@ inst_is env parts p m i h =
     let q = g.2 in
     let same : record { types = m.types; funcs = f.0; tables = t.0; mems = s.0; globals = g.0; elems = numbers (defined_before ElementSegments parts p) (length m.elems); datas = numbers (defined_before DataSegments parts p) (length m.datas) } ≡ i = cc in
     record {
-      types = ap (λ (i : Inst). i.types) (sym same);
+      types = rw (← same) refl;
       funcs = f.1 ∙ ap (λ (i : Inst). Some i.funcs) same;
       tables = t.1 ∙ ap (λ (i : Inst). Some i.tables) same;
       mems = s.1 ∙ ap (λ (i : Inst). Some i.mems) same;
       globals = g.1 ∙ ap (λ (i : Inst). Some i.globals) same;
-      elems = ap (λ (i : Inst). i.elems) (sym same);
-      datas = ap (λ (i : Inst). i.datas) (sym same);
+      elems = rw (← same) refl;
+      datas = rw (← same) refl;
     }
 
 -- where its index spaces are there, so is the instance
@@ -122,7 +122,7 @@ each_cons env all p part parts i is h later zero m e =
 each_cons env all p part parts i is h later (suc q) m e =
     let r = later.each q m e in
     let here : p + suc q ≡ suc p + q = omega arith in
-    (r.0, r.1, ap (λ n. inst_of env all n m) here ∙ r.2)
+    (r.0, r.1, rw here r.2)
 
 pub insts_are : (env : Environment) (all : List Part) (p : ℕ) (parts : List Part) (is : List Inst) → insts_from env all p parts ≡ Some is → EachInst env all p parts is
 insts_are env all p [] is h = let same : [] ≡ is = cc in record { size = ap length (sym same); each = λ q m e. absurd (let k = e in cc) }
@@ -139,7 +139,7 @@ insts_there env all p [] h = ([], refl)
 insts_there env all p (part ∷ parts) h =
     let first = h 0 part.«module» refl in
     let here : p ≡ p + 0 = omega arith in
-    let r = insts_there env all (suc p) parts (λ q m e. let x = h (suc q) m e in let n : suc p + q ≡ p + suc q = omega arith in (x.0, ap (λ n. inst_of env all n m) n ∙ x.1)) in (
+    let r = insts_there env all (suc p) parts (λ q m e. let x = h (suc q) m e in let n : suc p + q ≡ p + suc q = omega arith in (x.0, rw n x.1)) in (
       first.0 ∷ r.0,
       rw (ap (λ n. inst_of env all n part.«module») here ∙ first.1, r.1) refl,
     )
@@ -153,4 +153,4 @@ inst_in env parts is h p m at =
     (i.0, i.1, inst_is env parts p m i.0 (ap (λ p. inst_of env parts p m) here ∙ i.2))
 
 pub insts_in : (env : Environment) (parts : List Part) → ((p : ℕ) (m : Module) → module_at parts p ≡ Some m → (i : Inst) × (inst_of env parts p m ≡ Some i)) → (is : List Inst) × (insts_from env parts 0 parts ≡ Some is)
-insts_in env parts h = insts_there env parts 0 parts (λ p m at. let i = h p m at in let here : 0 + p ≡ p = omega arith in (i.0, ap (λ p. inst_of env parts p m) here ∙ i.1))
+insts_in env parts h = insts_there env parts 0 parts (λ p m at. let i = h p m at in let here : 0 + p ≡ p = omega arith in (i.0, rw here i.1))

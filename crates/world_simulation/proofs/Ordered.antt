@@ -59,12 +59,12 @@ tasks_by segs adds p _ _ = []
 pub elems_by : (p : ℕ) (parts : List Part) (is : List Inst) → elem_tasks p parts is ≡ tasks_by (λ m. m.elems) (λ i. i.elems) p parts is
 elems_by p [] is = refl
 elems_by p (part ∷ parts) [] = refl
-elems_by p (part ∷ parts) (i ∷ is) = ap (λ ts. tasks_in p i i.elems part.«module».elems ++ ts) (elems_by (suc p) parts is)
+elems_by p (part ∷ parts) (i ∷ is) = rw (elems_by (suc p) parts is) refl
 
 pub datas_by : (p : ℕ) (parts : List Part) (is : List Inst) → data_tasks p parts is ≡ tasks_by (λ m. m.datas) (λ i. i.datas) p parts is
 datas_by p [] is = refl
 datas_by p (part ∷ parts) [] = refl
-datas_by p (part ∷ parts) (i ∷ is) = ap (λ ts. tasks_in p i i.datas part.«module».datas ++ ts) (datas_by (suc p) parts is)
+datas_by p (part ∷ parts) (i ∷ is) = rw (datas_by (suc p) parts is) refl
 
 module _ (env : Environment) (w : Instantiated) (k : Space) {A : Type 0} (definitions : Module → List A) (adds : Inst → List ℕ)
     (first : (p : ℕ) (m : Module) (i : Inst) → module_at w.parts p ≡ Some m → slice_get w.insts p ≡ Some i → adds i ≡ numbers (base env w.parts k p) (length (definitions m))) where
@@ -87,7 +87,7 @@ module _ (env : Environment) (w : Instantiated) (k : Space) {A : Type 0} (defini
       go (inl e) later =
           let t = task_at p i (adds i) (definitions part.«module») n x e in
           let low = slice_get_within (definitions part.«module») n x.segment t.1 in
-          let both : Some (base env w.parts k p + n) ≡ Some x.address = sym (numbers_at (base env w.parts k p) (length (definitions part.«module»)) n low) ∙ sym (ap (λ l. slice_get l n) (first p part.«module» i is_part is_inst)) ∙ t.0 in
+          let both : Some (base env w.parts k p + n) ≡ Some x.address = sym (numbers_at (base env w.parts k p) (length (definitions part.«module»)) n low) ∙ sym (rw (first p part.«module» i is_part is_inst) refl) ∙ t.0 in
           let same : base env w.parts k p + n ≡ x.address = cc in
           (record { part = p; of = part.«module»; is_part = is_part; inst = i; is_inst = is_inst; place = n; definition = x.segment; stands = t.1; address = sym same }, refl)
       go (inr l) later = later l.0 x l.2

@@ -94,7 +94,7 @@ module _ (of : Space → ℕ → ℕ → Bool) (m : Remap) (kept : Indices) (t u
     segments_rel k xs ys count fewer hx hy more related x h =
         let s = stays_at count x h in
         let l = s.1 in
-        opt_at (ap (λ l. slice_get l x) hx) (ap (λ l. slice_get l (slice_index (numbers 0 count) x)) hy)
+        opt_at (rw hx refl) (rw hy refl)
         (space_moves (R.of k) [] 0 count count fewer nil (omega arith) (λ c. absurd (omega (arith, c))) (λ e. more) related x _ (omega (arith, l)) (stays (omega (arith, l)) (sym s.0)))
 
   module _ (i j : Inst) (a : IsInst env (one t) 0 t i) (b : IsInst env (one u) 0 u j) (names : EntriesName (passed of of []) m kept i j) where
@@ -120,8 +120,8 @@ module _ (of : Space → ℕ → ℕ → Bool) (m : Remap) (kept : Indices) (t u
     consts (const.Null ty) h = some (reference (null_rel R ty))
     consts (const.Func f) h = then_rel (func_named of m kept i j names f h) (λ _ _ r. some (reference (func (some r))))
     consts (const.Global x) h =
-        opt_at (ap (option_and_then (value_of_read (own_globals env) (i ∷ []))) (read_is t (const.Global x)))
-        (ap (λ y. value_of env (one u) (j ∷ []) 0 (const.Global y)) (same.stays x h) ∙ ap (option_and_then (value_of_read (own_globals env) (j ∷ []))) (read_is u (const.Global x) ∙ ap (λ is. read_in is (const.Global x)) same.imports))
+        opt_at (rw (read_is t (const.Global x)) refl)
+        (rw (same.stays x h) (rw (read_is u (const.Global x) ∙ ap (λ is. read_in is (const.Global x)) same.imports) refl))
         (go (read_place t.imports x))
       where
         read : List ℕ → ℕ → Option Val
@@ -191,7 +191,7 @@ module _ (of : Space → ℕ → ℕ → Bool) (m : Remap) (kept : Indices) (t u
 
       global_there : (y : ℕ) (g : GlobalDef) → slice_get u.globals y ≡ Some g → (x : Global) × (world.new_global env (one u) (j ∷ []) 0 g ≡ Some x)
       global_there y g h =
-          let d = map_from (new_global m) t.globals y g (ap (λ l. slice_get l y) (sym same.globals) ∙ h) in
+          let d = map_from (new_global m) t.globals y g (rw (← same.globals) h) in
           let r = all_there_at (world.new_global env (one t) (i ∷ []) 0) t.globals added.globals adds_t.globals y d.0 d.1 in
           let q = right_there (global_rel R (values_in env v 0) (values_in env w 0) {g = d.0} {h = new_global m d.0} (record { type = refl; init = consts d.0.init (same.named.globals y d.0 d.1) })) r.1 in
           (q.0, ap (world.new_global env (one u) (j ∷ []) 0) (sym d.2) ∙ q.1)
@@ -205,7 +205,7 @@ module _ (of : Space → ℕ → ℕ → Bool) (m : Remap) (kept : Indices) (t u
           omega (arith, s, e, f, g)
 
       elem_there : (y : ℕ) (e : ElemSeg) → slice_get u.elems y ≡ Some e → (x : Elem) × (world.elem_of env (one u) (j ∷ []) 0 e ≡ Some x)
-      elem_there y e h = by (append_from (map (new_elem m) t.elems) (last_segments fs) y e (ap (λ l. slice_get l y) (sym same.elems) ∙ h))
+      elem_there y e h = by (append_from (map (new_elem m) t.elems) (last_segments fs) y e (rw (← same.elems) h))
         where
           by : (slice_get (map (new_elem m) t.elems) y ≡ Some e) ⊎ ((l : ℕ) × (y ≡ length (map (new_elem m) t.elems) + l) × (slice_get (last_segments fs) l ≡ Some e)) → (x : Elem) × (world.elem_of env (one u) (j ∷ []) 0 e ≡ Some x)
           by (inl g) =

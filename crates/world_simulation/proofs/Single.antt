@@ -84,7 +84,7 @@ module _ (R : Pairing) (env : Environment) (own : SharesOwn R env) where
       where
         each : (count n : ℕ) → all_of (is_matched env (one t) s) (linking.sites_in 0 count n ++ []) ≡ all_of (is_matched env (one u) z) (linking.sites_in 0 count n ++ [])
         each zero n = refl
-        each (suc count) n = ap₂ (λ a b. a && b) (matched_same n) (each count (suc n))
+        each (suc count) n = rw (matched_same n, each count (suc n)) refl
 
 -- the one instance of a module alone
 pub one_inst : (env : Environment) (t : Module) (is : List Inst) → insts_from env (one t) 0 (one t) ≡ Some is → (i : Inst) × (is ≡ i ∷ []) × IsInst env (one t) 0 t i

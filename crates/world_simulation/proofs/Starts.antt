@@ -90,7 +90,7 @@ called_is r ns j n a f m h e = rw (m, h, e) refl
 
 entered : (r : Run) (es fs : List Entry) (f : Func) (xs ns : List ℕ) (j : Inst) → type_of_func f ≡ from_nothing_to_nothing →
     Unseen (openings xs) (calls j ns) r.phase r.phase r.store.funcs (after (record r { entries = es }) (Gives (enter r.store f [] (openings xs)))) (after (record r { entries = fs }) (Gives (enter r.store f [] (calls j ns))))
-entered r es fs (Code t c ls is) xs ns j e = goes_on r (_ ∷ []) refl (a_frame (ap (λ u. u.results) e))
+entered r es fs (Code t c ls is) xs ns j e = goes_on r (_ ∷ []) refl (a_frame (rw e refl))
 entered r es fs (Own pair t) xs ns j e = goes_on r (Waiting t.results ∷ []) refl (rw (ap (λ u. u.results) e) a_call)
 entered r es fs (Placeholder n t) xs ns j e = trapped r
 

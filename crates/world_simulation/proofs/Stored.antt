@@ -60,13 +60,13 @@ module _ (env : Environment) (w : Instantiated) (s : Store) (made : stores_from 
       (x.0, r.2 x.0 x.2, x.1)
 
   pub table_placed : {a : ℕ} (d : DefinedAt env w Tables (λ m. m.tables) a) → slice_get s.tables a ≡ Some (new_table d.definition)
-  table_placed d = let r = stands_for (tables_allocate env w.parts w.insts) d refl in r.2 _ (ap (λ l. slice_get l d.place) r.1.tables ∙ map_at new_table d.of.tables d.place d.definition d.stands)
+  table_placed d = let r = stands_for (tables_allocate env w.parts w.insts) d refl in r.2 _ (rw r.1.tables (map_at new_table d.of.tables d.place d.definition d.stands))
 
   pub memory_placed : {a : ℕ} (d : DefinedAt env w Memories (λ m. m.mems) a) → slice_get s.mems a ≡ Some (new_memory d.definition)
-  memory_placed d = let r = stands_for (mems_allocate env w.parts w.insts) d refl in r.2 _ (ap (λ l. slice_get l d.place) r.1.mems ∙ map_at new_memory d.of.mems d.place d.definition d.stands)
+  memory_placed d = let r = stands_for (mems_allocate env w.parts w.insts) d refl in r.2 _ (rw r.1.mems (map_at new_memory d.of.mems d.place d.definition d.stands))
 
   pub data_placed : {a : ℕ} (d : DefinedAt env w DataSegments (λ m. m.datas) a) → slice_get s.datas a ≡ Some (new_data d.definition)
-  data_placed d = let r = stands_for (datas_allocate env w.parts w.insts) d refl in r.2 _ (ap (λ l. slice_get l d.place) r.1.datas ∙ map_at new_data d.of.datas d.place d.definition d.stands)
+  data_placed d = let r = stands_for (datas_allocate env w.parts w.insts) d refl in r.2 _ (rw r.1.datas (map_at new_data d.of.datas d.place d.definition d.stands))
 
   -- what is the environment's own is as the environment has it
   own_placed : {k : Space} {A : Type 0} {get : Store → List A} → Allocates env w.parts w.insts k get → (a : ℕ) (x : A) → slice_get (get (own_store env)) a ≡ Some x → slice_get (get s) a ≡ Some x

@@ -94,7 +94,7 @@ module _ (t : Module) (n : ℕ) (there : n < length t.funcs) (reach : IsUnreacha
   }
 
   funcs_many : suc (length u.funcs) ≡ length t.funcs
-  funcs_many = ap (λ l. suc (length l)) same.funcs ∙ ap suc (map_length (new_func m) (without n t.funcs)) ∙ without_many n t.funcs there
+  funcs_many = rw same.funcs (ap suc (map_length (new_func m) (without n t.funcs)) ∙ without_many n t.funcs there)
 
   -- a function of the rest is one of the module
   rest_names : (x : ℕ) (f : tree.Func) → slice_get t.funcs x ≡ Some f → (x ≡ n → ⊥) → FuncNamesOnly kept f
@@ -181,7 +181,7 @@ module _ (t : Module) (n : ℕ) (there : n < length t.funcs) (reach : IsUnreacha
       globals_many = ap length same.globals ∙ map_length (new_global m) t.globals
 
       names : EntriesName R m kept i j
-      names Types x h = ap (λ ts. at ts x) (a.types ∙ sym types_are ∙ sym b.types) ∙ ap (at j.types) (sym (stays_at (length t.types) x h).0)
+      names Types x h = rw (a.types ∙ sym types_are ∙ sym b.types) (ap (at j.types) (sym (stays_at (length t.types) x h).0))
       names Functions x h =
           let f = func_moves x h in
           let counted = funcs_counted t.imports 0 in
@@ -212,7 +212,7 @@ module _ (t : Module) (n : ℕ) (there : n < length t.funcs) (reach : IsUnreacha
       -- ---- the records ----
 
       func_place : (x y : ℕ) (f : tree.Func) → slice_get t.funcs x ≡ Some f → Moved n x y → slice_get u.funcs y ≡ Some (new_func m f)
-      func_place x y f h move = ap (λ l. slice_get l y) same.funcs ∙ map_at (new_func m) (without n t.funcs) y f (by move)
+      func_place x y f h move = rw same.funcs (map_at (new_func m) (without n t.funcs) y f (by move))
         where
           by : Moved n x y → slice_get (without n t.funcs) y ≡ Some f
           by (stays l e) = without_low n t.funcs y (omega (arith, l, e)) ∙ ap (slice_get t.funcs) (sym e) ∙ h
@@ -260,7 +260,7 @@ module _ (t : Module) (n : ℕ) (there : n < length t.funcs) (reach : IsUnreacha
     funcs_from code i j a b y f h = by (cases_lt y n)
       where
         g : (f0 : tree.Func) × (slice_get (without n t.funcs) y ≡ Some f0) × (new_func m f0 ≡ f)
-        g = map_from (new_func m) (without n t.funcs) y f (ap (λ l. slice_get l y) (sym same.funcs) ∙ h)
+        g = map_from (new_func m) (without n t.funcs) y f (rw (← same.funcs) h)
 
         alike : FuncsCorrespond R i j g.0 f
         alike = subst (FuncsCorrespond R i j g.0) g.2 (funcs_correspond of m kept i j (names i j a b) code g.0 (reach.funcs y g.0 g.1))
