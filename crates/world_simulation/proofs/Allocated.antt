@@ -123,7 +123,7 @@ module _ (env : Environment) (all : List Part) (insts : List Inst) where
           added = r.added;
           adds = rw (← n) r.adds;
           at = λ n x g.
-              let place_is : (length (get s) + (defined_count k part.«module» + defined_before k rest q)) + n ≡ (length (get (joined_stores s t.0)) + defined_before k rest q) + n = omega (arith, size) in
+              let place_is : (length (get s) + (defined_count k part.«module» + defined_before k rest q)) + n ≡ (length (get (joined_stores s t.0)) + defined_before k rest q) + n = omega arith in
               ap (slice_get (get z)) place_is ∙ r.at n x g;
         }
 

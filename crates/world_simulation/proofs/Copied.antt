@@ -34,22 +34,22 @@ both_placed xs ys n k r = res_placed xs ys n k (there r)
 -- where the others fit, they are written, and the list is as long as it was
 split_fits : {A : Type 0} (n : ℕ) (xs : List A) → n ≤ length xs → (p : List A × List A) × (split_at n xs ≡ Gives p) × (length p.0 ≡ n) × (length p.0 + length p.1 ≡ length xs)
 split_fits zero xs h = (([], xs), refl, refl, omega arith)
-split_fits (suc n) [] h = absurd (omega (arith, h))
+split_fits (suc n) [] h = absurd (omega arith)
 split_fits (suc n) (x ∷ xs) h =
-    let r = split_fits n xs (omega (arith, h)) in
-    ((x ∷ r.0.0, r.0.1), rw r.1 refl, ap suc r.2, let e = r.3 in omega (arith, e))
+    let r = split_fits n xs (omega arith) in
+    ((x ∷ r.0.0, r.0.1), rw r.1 refl, ap suc r.2, let e = r.3 in omega arith)
 
 pub overwrite_fits : {A : Type 0} (xs ys : List A) (n : ℕ) → n + length ys ≤ length xs → (zs : List A) × (overwrite xs n ys ≡ Gives zs) × (length zs ≡ length xs)
 overwrite_fits {A} xs ys n h =
-    let p = split_fits n xs (omega (arith, h)) in
+    let p = split_fits n xs (omega arith) in
     let e = p.2 in
     let f = p.3 in
-    let q = split_fits (length ys) p.0.1 (omega (arith, h, e, f)) in
+    let q = split_fits (length ys) p.0.1 (omega arith) in
     let a = length-append p.0.0 (ys ++ q.0.1) in
     let b = length-append ys q.0.1 in
     let g = q.2 in
     let k = q.3 in
-    (p.0.0 ++ (ys ++ q.0.1), rw p.1 (rw q.1 refl), omega (arith, a, b, e, f, g, k))
+    (p.0.0 ++ (ys ++ q.0.1), rw p.1 (rw q.1 refl), omega arith)
 
 pub overwritten_length : {A : Type 0} (xs : List A) (n : ℕ) (ys zs : List A) → overwrite xs n ys ≡ Gives zs → length zs ≡ length xs
 overwritten_length {A} xs n ys zs e = go (split_at n xs) (split_lengths n xs) e
@@ -105,7 +105,7 @@ module _ (env : Environment) (w : Instantiated) where
         let same : x ≡ t = cc in
         let size = overwritten_length t.slots q e.items slots is in
         let k : d.definition.limits.min ≤ length t.slots = rw (← same) l in
-        omega (arith, size, k)) b (room.tables b d);
+        omega arith) b (room.tables b d);
     mems = room.mems;
     elems = λ b d. set_holds (λ (e : Elem). length e.items ≤ length d.definition.items) s.elems n no_items (λ x h l. omega arith) b (room.elems b d);
     datas = room.datas;
@@ -126,7 +126,7 @@ module _ (env : Environment) (w : Instantiated) where
         let same : x ≡ m = cc in
         let size = overwritten_length m.bytes q e.bytes bytes is in
         let k : 65536 * d.definition.min ≤ length m.bytes = rw (← same) l in
-        omega (arith, size, k)) b (room.mems b d);
+        omega arith) b (room.mems b d);
     elems = room.elems;
     datas = λ b d. set_holds (λ (e : Data). length e.bytes ≤ length d.definition.bytes) s.datas n no_bytes (λ x h l. omega arith) b (room.datas b d);
   }
@@ -202,7 +202,7 @@ module _ (related alone : Space → ℕ → Type 0) (never : (k : Space) (a : �
         let large = u.2 in
         let few = i.2 in
         let size : length d.definition.items ≡ length x.segment.items = rw is refl in
-        let o = overwrite_fits u.0.slots i.0.items q (omega (arith, large, few, size, fits)) in
+        let o = overwrite_fits u.0.slots i.0.items q (omega arith) in
         record {
           store = changed (changed s (SetTable a (record u.0 { slots = o.0 }))) (DropElem x.address);
           is = rw (offset, there, u.1, i.1, o.1) refl;
@@ -218,7 +218,7 @@ module _ (related alone : Space → ℕ → Type 0) (never : (k : Space) (a : �
         let large = u.2 in
         let few = i.2 in
         let size : length d.definition.bytes ≡ length x.segment.bytes = rw is refl in
-        let o = overwrite_fits u.0.bytes i.0.bytes q (omega (arith, large, few, size, fits)) in
+        let o = overwrite_fits u.0.bytes i.0.bytes q (omega arith) in
         record {
           store = changed (changed s (SetMemory a (record u.0 { bytes = o.0 }))) (DropData x.address);
           is = rw (offset, there, u.1, i.1, o.1) refl;

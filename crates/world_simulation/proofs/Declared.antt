@@ -40,14 +40,14 @@ keeps m (f ∷ fs) = record { types = refl; imports = refl; funcs = refl; tables
 
 range_below : (a n k x : ℕ) → slice_get (range_with_len a n) k ≡ Some x → x < a + n
 range_below a zero k x h = cc
-range_below a (suc n) zero x h = let same : a ≡ x = cc in omega (arith, same)
-range_below a (suc n) (suc k) x h = let l = range_below (a + 1) n k x h in omega (arith, l)
+range_below a (suc n) zero x h = let same : a ≡ x = cc in omega arith
+range_below a (suc n) (suc k) x h = let l = range_below (a + 1) n k x h in omega arith
 
 declared_below : (m : Module) (n f : ℕ) → slice_get (declared_refs m) n ≡ Some f → f < length (funcs_of m)
 declared_below m n f h =
     let k = kept_is (λ f. is_among (body_refs m.funcs) f && not (is_among (outside_refs m) f)) (range_with_len 0 (length (funcs_of m))) n f (h) in
     let l = range_below 0 (length (funcs_of m)) k.1.0 f k.1.1 in
-    omega (arith, l)
+    omega arith
 
 module _ (env : Environment) (u : Module) (j : Inst) where
   refs_there : (fs : List ℕ) → ((n f : ℕ) → slice_get fs n ≡ Some f → f < length j.funcs) → (xs : List RefVal) × (all_there (ref_value env (one u) (j ∷ []) 0) (map const.Func fs) ≡ Some xs)
@@ -66,4 +66,4 @@ module _ (env : Environment) (u : Module) (j : Inst) where
 
   -- the segment that declares a module's references is allocated, where the instance names as many functions as the module has
   pub last_elems : (m : Module) → length j.funcs ≡ length (funcs_of m) → (es : List Elem) × (all_there (elem_of env (one u) (j ∷ []) 0) (last_segments (declared_refs m)) ≡ Some es)
-  last_elems m e = segments_there (declared_refs m) (λ n f h. let l = declared_below m n f h in omega (arith, l, e))
+  last_elems m e = segments_there (declared_refs m) (λ n f h. let l = declared_below m n f h in omega arith)

@@ -18,16 +18,16 @@ defined_at env parts e m is_part low =
 
 -- a number below that of all definitions is the place of one among those of a part
 defined_among : (k : Space) (parts : List Part) (n : ℕ) → n < defined_before k parts (length parts) → (p : ℕ) × (m : Module) × (x : ℕ) × (module_at parts p ≡ Some m) × (x < defined_count k m) × (n ≡ defined_before k parts p + x)
-defined_among k [] n h = absurd (omega (arith, h))
+defined_among k [] n h = absurd (omega arith)
 defined_among k (part ∷ parts) n h = go (cases_lt n (defined_count k part.«module»)) (defined_among k parts)
   where
     go : (n < defined_count k part.«module») ⊎ (defined_count k part.«module» ≤ n) → ((n : ℕ) → n < defined_before k parts (length parts) → (p : ℕ) × (m : Module) × (x : ℕ) × (module_at parts p ≡ Some m) × (x < defined_count k m) × (n ≡ defined_before k parts p + x)) →
         (p : ℕ) × (m : Module) × (x : ℕ) × (module_at (part ∷ parts) p ≡ Some m) × (x < defined_count k m) × (n ≡ defined_before k (part ∷ parts) p + x)
     go (inl low) later = (0, part.«module», n, refl, low, omega arith)
     go (inr high) later =
-        let r = later (n - defined_count k part.«module») (omega (arith, h, high)) in
+        let r = later (n - defined_count k part.«module») (omega arith) in
         let e = r.5 in
-        (suc r.0, r.1, r.2, r.3, r.4, omega (arith, e, high))
+        (suc r.0, r.1, r.2, r.3, r.4, omega arith)
 
 -- what stands at an address below all of them: one of the environment's own, or what a part defines
 pub data Stands (env : Environment) (parts : List Part) (k : Space) (a : ℕ) : Type 0 where
@@ -40,6 +40,6 @@ stands env parts k a h = go (cases_lt a (own_count k env))
     go : (a < own_count k env) ⊎ (own_count k env ≤ a) → Stands env parts k a
     go (inl low) = own low
     go (inr high) =
-        let r = defined_among k parts (a - own_count k env) (omega (arith, h, high)) in
+        let r = defined_among k parts (a - own_count k env) (omega arith) in
         let e = r.5 in
-        defined r.0 r.1 r.2 r.3 r.4 (omega (arith, e, high))
+        defined r.0 r.1 r.2 r.3 r.4 (omega arith)

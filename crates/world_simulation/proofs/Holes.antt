@@ -45,39 +45,39 @@ is_down hole bound a b (low h l e) = and_from (nat_lt a bound) _ (lt-ltb a bound
 is_down hole bound a b (high h l e) = and_from (nat_lt a bound) _ (lt-ltb a bound l) (by (nat_lt a hole) refl)
   where
     by : (c : Bool) → nat_lt a hole ≡ c → cond c (nat_eq a b) (nat_eq a (suc b) && nat_lt hole a) ≡ true
-    by true k = absurd (let m = ltb-true a hole k in omega (arith, m, h))
+    by true k = absurd (let m = ltb-true a hole k in omega arith)
     by false k = and_from (nat_eq a (suc b)) (nat_lt hole a) (eq-eqb a (suc b) e) (lt-ltb hole a h)
 
 pub down_right : {hole bound a b c : ℕ} → Down hole bound a b → Down hole bound a c → b ≡ c
 down_right (low h l e) (low k m f) = sym e ∙ f
-down_right (low h l e) (high k m f) = absurd (omega (arith, h, k))
-down_right (high h l e) (low k m f) = absurd (omega (arith, h, k))
-down_right (high h l e) (high k m f) = omega (arith, e, f)
+down_right (low h l e) (high k m f) = absurd (omega arith)
+down_right (high h l e) (low k m f) = absurd (omega arith)
+down_right (high h l e) (high k m f) = omega arith
 
 pub down_left : {hole bound a b c : ℕ} → Down hole bound a c → Down hole bound b c → a ≡ b
 down_left (low h l e) (low k m f) = e ∙ sym f
-down_left (low h l e) (high k m f) = absurd (omega (arith, h, k, e, f))
-down_left (high h l e) (low k m f) = absurd (omega (arith, h, k, e, f))
+down_left (low h l e) (high k m f) = absurd (omega arith)
+down_left (high h l e) (low k m f) = absurd (omega arith)
 down_left (high h l e) (high k m f) = e ∙ sym f
 
 -- ---- lists without one ----
 
 pub without_low : {A : Type 0} (n : ℕ) (xs : List A) (x : ℕ) → x < n → slice_get (without n xs) x ≡ slice_get xs x
 without_low n [] x h = refl
-without_low zero (y ∷ xs) x h = absurd (omega (arith, h))
+without_low zero (y ∷ xs) x h = absurd (omega arith)
 without_low (suc n) (y ∷ xs) zero h = refl
-without_low (suc n) (y ∷ xs) (suc x) h = without_low n xs x (omega (arith, h))
+without_low (suc n) (y ∷ xs) (suc x) h = without_low n xs x (omega arith)
 
 pub without_high : {A : Type 0} (n : ℕ) (xs : List A) (x : ℕ) → n ≤ x → slice_get (without n xs) x ≡ slice_get xs (suc x)
 without_high n [] x h = refl
 without_high zero (y ∷ xs) x h = refl
-without_high (suc n) (y ∷ xs) zero h = absurd (omega (arith, h))
-without_high (suc n) (y ∷ xs) (suc x) h = without_high n xs x (omega (arith, h))
+without_high (suc n) (y ∷ xs) zero h = absurd (omega arith)
+without_high (suc n) (y ∷ xs) (suc x) h = without_high n xs x (omega arith)
 
 pub without_many : {A : Type 0} (n : ℕ) (xs : List A) → n < length xs → suc (length (without n xs)) ≡ length xs
-without_many n [] h = absurd (omega (arith, h))
+without_many n [] h = absurd (omega arith)
 without_many zero (x ∷ xs) h = refl
-without_many (suc n) (x ∷ xs) h = let l = without_many n xs (omega (arith, h)) in omega (arith, l)
+without_many (suc n) (x ∷ xs) h = let l = without_many n xs (omega arith) in omega arith
 
 -- ---- index spaces ----
 
@@ -93,25 +93,25 @@ space_moves P l from gap count fewer r within smaller equal related x y h move =
   where
     by : (x < length l) ⊎ (length l ≤ x) → Moved (length l + gap) x y → OptRel P (slice_get (l ++ numbers from count) x) (slice_get (l ++ numbers from fewer) y)
     by (inl k) (stays m e) = opt_at (append_left l _ x k) (ap (slice_get (l ++ numbers from fewer)) (sym e) ∙ append_left l _ x k) (place_rel r x)
-    by (inl k) (falls m e) = absurd (omega (arith, k, m))
+    by (inl k) (falls m e) = absurd (omega arith)
     by (inr k) (stays m e) =
         let z = x - length l in
-        let first : x ≡ length l + z = omega (arith, k) in
-        let second : y ≡ length l + z = omega (arith, k, e) in
-        let few : z < fewer = (let c = cases_lt gap count in at c z (omega (arith, first, m)) (omega (arith, first, h))) in
-        opt_at (ap (slice_get (l ++ numbers from count)) first ∙ append_right l _ z ∙ numbers_at from count z (omega (arith, first, h))) (ap (slice_get (l ++ numbers from fewer)) second ∙ append_right l _ z ∙ numbers_at from fewer z few)
-        (some (related (from + z) (from + z) (low (omega (arith, first, m)) (omega (arith, first, h)) refl)))
+        let first : x ≡ length l + z = omega arith in
+        let second : y ≡ length l + z = omega arith in
+        let few : z < fewer = (let c = cases_lt gap count in at c z (omega arith) (omega arith)) in
+        opt_at (ap (slice_get (l ++ numbers from count)) first ∙ append_right l _ z ∙ numbers_at from count z (omega arith)) (ap (slice_get (l ++ numbers from fewer)) second ∙ append_right l _ z ∙ numbers_at from fewer z few)
+        (some (related (from + z) (from + z) (low (omega arith) (omega arith) refl)))
       where
         at : (gap < count) ⊎ (count ≤ gap) → (z : ℕ) → z < gap → z < count → z < fewer
-        at (inl c) z a b = let s = smaller c in omega (arith, a, c, s)
-        at (inr c) z a b = let s = equal (omega (arith, c, within)) in omega (arith, b, s)
+        at (inl c) z a b = let s = smaller c in omega arith
+        at (inr c) z a b = let s = equal (omega arith) in omega arith
     by (inr k) (falls m e) =
         let z = y - length l in
-        let first : x ≡ length l + suc z = omega (arith, k, m, e) in
-        let second : y ≡ length l + z = omega (arith, k, m, e) in
-        let s = smaller (omega (arith, m, h)) in
-        opt_at (ap (slice_get (l ++ numbers from count)) first ∙ append_right l _ (suc z) ∙ numbers_at from count (suc z) (omega (arith, first, h))) (ap (slice_get (l ++ numbers from fewer)) second ∙ append_right l _ z ∙ numbers_at from fewer z (omega (arith, first, h, s)))
-        (some (related (from + suc z) (from + z) (high (omega (arith, first, m)) (omega (arith, first, h)) (omega arith))))
+        let first : x ≡ length l + suc z = omega arith in
+        let second : y ≡ length l + z = omega arith in
+        let s = smaller (omega arith) in
+        opt_at (ap (slice_get (l ++ numbers from count)) first ∙ append_right l _ (suc z) ∙ numbers_at from count (suc z) (omega arith)) (ap (slice_get (l ++ numbers from fewer)) second ∙ append_right l _ z ∙ numbers_at from fewer z (omega arith))
+        (some (related (from + suc z) (from + z) (high (omega arith) (omega arith) (omega arith))))
 
 -- segments of one module each, at the same addresses, and then more of the second
 in_step : {A : Type 0} (partners : Task A → Task A → Type 0) (first second : Task A → Type 0) (i j : Inst) (new : A → A) (more : List A) (from extra : ℕ) (es : List A) → ((ns : List ℕ) → InOrder partners first second [] (tasks_in 0 j ns more ++ [])) →
@@ -132,18 +132,18 @@ pub all_in_step : {A : Type 0} (partners : Task A → Task A → Type 0) (first 
     ((x : ℕ) (e : A) → slice_get es x ≡ Some e → partners (record { part = 0; inst = i; address = 0 + x; segment = e }) (record { part = 0; inst = j; address = 0 + x; segment = new e })) →
     InOrder partners first second (tasks_in 0 i xs es ++ []) (tasks_in 0 j ys us ++ [])
 all_in_step partners first second i j new more es us xs ys xs_are ys_are us_are nothing each =
-    let size : length es + length more ≡ length us = (let e = ap length us_are ∙ length-append (map new es) more in let c = map_length new es in omega (arith, e, c)) in
+    let size : length es + length more ≡ length us = (let e = ap length us_are ∙ length-append (map new es) more in let c = map_length new es in omega arith) in
     rw xs_are
     (rw (← ap₂ (λ ns us. tasks_in 0 j ns us ++ []) (ap (numbers 0) size ∙ sym ys_are) (sym us_are))
     (in_step partners first second i j new more 0 (length more) es nothing each))
 
 pub stays_at : (size x : ℕ) → has (numbers 0 size) x ≡ true → (slice_index (numbers 0 size) x ≡ x) × (x < size)
-stays_at size x h = let l = ltb-true _ _ h in let c = length-numbers 0 size in (numbers_index size x (omega (arith, l, c)), omega (arith, l, c))
+stays_at size x h = let l = ltb-true _ _ h in let c = length-numbers 0 size in (numbers_index size x (omega arith), omega arith)
 
 -- where nothing is removed the entry at a place is the new one
 pub kept_place : {A : Type 0} (xs : List A) (new : A → A) (more : List A) (x y : ℕ) (d : A) → slice_get xs x ≡ Some d → Moved (length xs) x y → slice_get (map new xs ++ more) y ≡ Some (new d)
 kept_place xs new more x y d h (stays l e) = ap (slice_get (map new xs ++ more)) (sym e) ∙ append_at_left (map new xs) more x (new d) (map_at new xs x d h)
-kept_place xs new more x y d h (falls l e) = absurd (let k = slice_get_within xs x d h in omega (arith, k, l))
+kept_place xs new more x y d h (falls l e) = absurd (let k = slice_get_within xs x d h in omega arith)
 
 -- ---- partners ----
 
@@ -162,25 +162,25 @@ module _ (env : Environment) (t u : Module) (i j : Inst) where
     where
       by : (c < own_count k env) ⊎ (own_count k env ≤ c) → Down (own_count k env + gap) (own_count k env + defined_count k t) c d → Partners env v w k definitions correspond c d
       by (inl l) (low h e f) = partners.own f l
-      by (inl l) (high h e f) = absurd (omega (arith, l, h))
-      by (inr l) move = at (c - own_count k env) (d - own_count k env) (omega (arith, l)) (shift move) (below move)
+      by (inl l) (high h e f) = absurd (omega arith)
+      by (inr l) move = at (c - own_count k env) (d - own_count k env) (omega arith) (shift move) (below move)
         where
           shift : Down (own_count k env + gap) (own_count k env + defined_count k t) c d → (d ≡ own_count k env + (d - own_count k env)) × Moved gap (c - own_count k env) (d - own_count k env)
-          shift (low h e f) = (omega (arith, l, f), stays (omega (arith, l, h)) (rw f refl))
-          shift (high h e f) = (omega (arith, h, f), falls (omega (arith, l, h)) (omega (arith, h, f)))
+          shift (low h e f) = (omega arith, stays (omega arith) (rw f refl))
+          shift (high h e f) = (omega arith, falls (omega arith) (omega arith))
 
           below : Down (own_count k env + gap) (own_count k env + defined_count k t) c d → c - own_count k env < defined_count k t
-          below (low h e f) = omega (arith, l, e)
-          below (high h e f) = omega (arith, l, e)
+          below (low h e f) = omega arith
+          below (high h e f) = omega arith
 
           at : (x y : ℕ) → c ≡ own_count k env + x → (d ≡ own_count k env + y) × Moved gap x y → x < defined_count k t → Partners env v w k definitions correspond c d
           at x y first second_is within =
               let e = slice_get_there (definitions t) x (rw (← counts t) within) in
               let d_is = second_is.0 in
-              partners.defined (record { part = 0; of = t; is_part = refl; inst = i; is_inst = refl; place = x; definition = e.0; stands = e.1; address = omega (arith, first) })
-              (record { part = 0; of = u; is_part = refl; inst = j; is_inst = refl; place = y; definition = new e.0; stands = second x y e.0 e.1 second_is.1; address = omega (arith, d_is) })
+              partners.defined (record { part = 0; of = t; is_part = refl; inst = i; is_inst = refl; place = x; definition = e.0; stands = e.1; address = omega arith })
+              (record { part = 0; of = u; is_part = refl; inst = j; is_inst = refl; place = y; definition = new e.0; stands = second x y e.0 e.1 second_is.1; address = omega arith })
               (alike x e.0 e.1 (never second_is.1))
             where
               never : Moved gap x y → x ≡ gap → ⊥
-              never (stays h f) g = absurd (omega (arith, h, g))
-              never (falls h f) g = absurd (omega (arith, h, g))
+              never (stays h f) g = absurd (omega arith)
+              never (falls h f) g = absurd (omega arith)

@@ -66,7 +66,7 @@ module _ (env : Environment) (parts : List Part) (k : Space) (p : ℕ) (m : Modu
           let low = slice_get_within (numbers (base env parts k p) (defined_count k m)) j.0 a j.2 in
           let count = length-numbers (base env parts k p) (defined_count k m) in
           let at = j.1 in
-          let lt : j.0 < defined_count k m = omega (arith, low, count) in
+          let lt : j.0 < defined_count k m = omega arith in
           defines j.0 (omega (arith, at, many)) lt (same_Some _ _ (sym j.2 ∙ numbers_at (base env parts k p) (defined_count k m) j.0 lt))
 
 -- ---- one ----

@@ -79,7 +79,7 @@ module _ (of : Space → ℕ → ℕ → Bool) (m : Remap) (kept : Indices) (t u
         let imported = same_Some _ _ (sym sy.are ∙ ap₂ (λ ts is. addresses env ts is k) same.types same.imports ∙ sx.are) in
         let many = sx.many in
         opt_at (ap (λ l. slice_get l x) sx.all) (ap (λ l. slice_get l y) (sy.all ∙ ap (λ l. l ++ numbers (own_count k env) (defined_count k u)) imported))
-        (space_moves (R.of k) sx.imported (own_count k env) gap (defined_count k t) (defined_count k u) sx.shared within smaller equal related x y (omega (arith, h, many)) (rw many move))
+        (space_moves (R.of k) sx.imported (own_count k env) gap (defined_count k t) (defined_count k u) sx.shared within smaller equal related x y (omega arith) (rw many move))
 
     -- a space of which nothing is removed
     pub plain_rel : (k : Space) (xs ys : List ℕ) (size : ℕ) → space env (one t) k 0 t ≡ Some xs → space env (one u) k 0 u ≡ Some ys → ((c d : ℕ) → Down (own_count k env + defined_count k t) (own_count k env + defined_count k t) c d → R.of k c d) → defined_count k u ≡ defined_count k t → size ≡ length (imports_of k t) + defined_count k t →
@@ -87,7 +87,7 @@ module _ (of : Space → ℕ → ℕ → Bool) (m : Remap) (kept : Indices) (t u
     plain_rel k xs ys size hx hy related counts size_is x h =
         let s = stays_at size x h in
         let l = s.1 in
-        space_rel k xs ys (defined_count k t) hx hy related (omega arith) (λ c. absurd (omega (arith, c))) (λ e. omega (arith, counts)) x _ (omega (arith, l, size_is)) (stays (omega (arith, l, size_is)) (sym s.0))
+        space_rel k xs ys (defined_count k t) hx hy related (omega arith) (λ c. absurd (omega arith)) (λ e. omega arith) x _ (omega arith) (stays (omega arith) (sym s.0))
 
     pub segments_rel : (k : Space) (xs ys : List ℕ) (count fewer : ℕ) → xs ≡ numbers 0 count → ys ≡ numbers 0 fewer → count ≤ fewer → ((a b : ℕ) → Down (0 + count) (0 + count) a b → R.of k a b) →
         (x : ℕ) → has (numbers 0 count) x ≡ true → OptRel (R.of k) (slice_get xs x) (slice_get ys (slice_index (numbers 0 count) x))
@@ -95,7 +95,7 @@ module _ (of : Space → ℕ → ℕ → Bool) (m : Remap) (kept : Indices) (t u
         let s = stays_at count x h in
         let l = s.1 in
         opt_at (rw hx refl) (rw hy refl)
-        (space_moves (R.of k) [] 0 count count fewer nil (omega arith) (λ c. absurd (omega (arith, c))) (λ e. more) related x _ (omega (arith, l)) (stays (omega (arith, l)) (sym s.0)))
+        (space_moves (R.of k) [] 0 count count fewer nil (omega arith) (λ c. absurd (omega arith)) (λ e. more) related x _ (omega arith) (stays (omega arith) (sym s.0)))
 
   module _ (i j : Inst) (a : IsInst env (one t) 0 t i) (b : IsInst env (one u) 0 u j) (names : EntriesName (passed of of []) m kept i j) where
     abbrev v : Instantiated
@@ -137,7 +137,7 @@ module _ (of : Space → ℕ → ℕ → Bool) (m : Remap) (kept : Indices) (t u
     pub elems_in_order : ((x : ℕ) → x < length t.elems → R.of ElementSegments x x) → ElemsInOrder R env v w
     elems_in_order elem_shared =
         all_in_step _ _ _ i j (new_elem m) (last_segments fs) t.elems u.elems i.elems j.elems a.elems b.elems same.elems (declared_alone fs)
-        (λ x e h. elem_mode_named of m kept i j names (values_in env v 0) (values_in env w 0) consts _ _ refl refl (elem_shared (0 + x) (let l = slice_get_within t.elems x e h in omega (arith, l))) e.mode (same.named.elem_modes x e h))
+        (λ x e h. elem_mode_named of m kept i j names (values_in env v 0) (values_in env w 0) consts _ _ refl refl (elem_shared (0 + x) (let l = slice_get_within t.elems x e h in omega arith)) e.mode (same.named.elem_modes x e h))
       where
         declared_alone : (fs : List ℕ) (ns : List ℕ) →
             InOrder (λ x y. ElemsPartner R (values_in env v x.part) (values_in env w y.part) x y x.segment.mode y.segment.mode) (λ x. ElemAlone (alone_in_first R) env v x x.segment.mode) (λ y. ElemAlone (HasNoPartner R) env w y y.segment.mode) [] (tasks_in 0 j ns (last_segments fs) ++ [])
@@ -150,7 +150,7 @@ module _ (of : Space → ℕ → ℕ → Bool) (m : Remap) (kept : Indices) (t u
     pub datas_in_order : ((x : ℕ) → x < length t.datas → R.of DataSegments x x) → DatasInOrder R env v w
     datas_in_order data_shared =
         all_in_step _ _ _ i j (new_data m) [] t.datas u.datas i.datas j.datas a.datas b.datas (same.datas ∙ sym (append-nil _)) (λ ns. nothing ns)
-        (λ x d h. data_mode_named of m kept i j names (values_in env v 0) (values_in env w 0) consts _ _ refl refl (data_shared (0 + x) (let l = slice_get_within t.datas x d h in omega (arith, l))) d.mode (same.named.data_modes x d h))
+        (λ x d h. data_mode_named of m kept i j names (values_in env v 0) (values_in env w 0) consts _ _ refl refl (data_shared (0 + x) (let l = slice_get_within t.datas x d h in omega arith)) d.mode (same.named.data_modes x d h))
       where
         nothing : {P : Task DataSeg → Task DataSeg → Type 0} {F S : Task DataSeg → Type 0} (ns : List ℕ) → InOrder P F S [] (tasks_in 0 j ns [] ++ [])
         nothing [] = ends
@@ -202,7 +202,7 @@ module _ (of : Space → ℕ → ℕ → Bool) (m : Remap) (kept : Indices) (t u
           let e = funcs_counted u.imports 0 in
           let f = length-append (imported_funcs u.imports) (map (λ f. f.ty) u.funcs) in
           let g = map_length (λ f. f.ty) u.funcs in
-          omega (arith, s, e, f, g)
+          omega arith
 
       elem_there : (y : ℕ) (e : ElemSeg) → slice_get u.elems y ≡ Some e → (x : Elem) × (world.elem_of env (one u) (j ∷ []) 0 e ≡ Some x)
       elem_there y e h = by (append_from (map (new_elem m) t.elems) (last_segments fs) y e (rw (← same.elems) h))

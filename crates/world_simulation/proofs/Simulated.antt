@@ -48,14 +48,14 @@ elem_few value d e h =
     rw (← same) (few d.mode i.0 many)
   where
     few : (mode : ElemMode) (xs : List RefVal) → length xs ≡ length d.items → length (new_elem mode xs).items ≤ length d.items
-    few (elem.Active x offset) xs n = omega (arith, n)
-    few elem.Passive xs n = omega (arith, n)
+    few (elem.Active x offset) xs n = omega arith
+    few elem.Passive xs n = omega arith
     few elem.Declarative xs n = omega arith
 
 pub allocated_room : (env : Environment) (w : Instantiated) (s : Store) → stores_from env w.parts w.insts (own_store env) 0 w.parts w.insts ≡ Some s → HasRoom env w s
 allocated_room env w s made = record {
-  tables = λ a d. (_, table_placed env w s made d, let n = copies_length d.definition.limits.min (null_of d.definition.ty) in omega (arith, n));
-  mems = λ a d. (_, memory_placed env w s made d, let n = copies_length {A = ℕ} (65536 * d.definition.min) 0 in omega (arith, n));
+  tables = λ a d. (_, table_placed env w s made d, let n = copies_length d.definition.limits.min (null_of d.definition.ty) in omega arith);
+  mems = λ a d. (_, memory_placed env w s made d, let n = copies_length {A = ℕ} (65536 * d.definition.min) 0 in omega arith);
   elems = λ a d. let x = elem_placed env w s made d in (x.0, x.1, elem_few (values_in env w d.part) d.definition x.0 x.2);
   datas = λ a d. (_, data_placed env w s made d, omega arith);
 }

@@ -105,11 +105,11 @@ module _ (t : Module) (n : ℕ) (there : n < length t.funcs) (reach : IsUnreacha
       by (inr l) = by_last x l h other
         where
           by_last : (x : ℕ) → n ≤ x → slice_get t.funcs x ≡ Some f → (x ≡ n → ⊥) → FuncNamesOnly kept f
-          by_last zero l h other = absurd (other (omega (arith, l)))
+          by_last zero l h other = absurd (other (omega arith))
           by_last (suc x) l h other = by_place (cases_lt x n)
             where
               by_place : (x < n) ⊎ (n ≤ x) → FuncNamesOnly kept f
-              by_place (inl k) = absurd (other (omega (arith, l, k)))
+              by_place (inl k) = absurd (other (omega arith))
               by_place (inr k) = reach.funcs x f (without_high n t.funcs x k ∙ h)
 
   func_moves : (x : ℕ) → IsTrue (kept Functions x) → (x < length (imported_funcs t.imports) + length t.funcs) × Moved (function_index n t) x (slice_index m.funcs x)
@@ -127,7 +127,7 @@ module _ (t : Module) (n : ℕ) (there : n < length t.funcs) (reach : IsUnreacha
       by : (x < function_index n t) ⊎ (function_index n t ≤ x) → Moved (function_index n t) x (slice_index m.funcs x)
       by (inl l) =
           let c = length-numbers 0 (suc (function_index n t)) in
-          stays l (sym (slice_index_is m.funcs x x (append_left (numbers 0 (suc (function_index n t))) _ x (omega (arith, l, c)) ∙ numbers_at 0 (suc (function_index n t)) x (omega (arith, l)) ∙ (let e : 0 + x ≡ x = omega arith in ap Some e))))
+          stays l (sym (slice_index_is m.funcs x x (append_left (numbers 0 (suc (function_index n t))) _ x (omega arith) ∙ numbers_at 0 (suc (function_index n t)) x (omega arith) ∙ (let e : 0 + x ≡ x = omega arith in ap Some e))))
       by (inr l) = behind x within l other
         where
           behind : (x : ℕ) → x < length m.funcs → function_index n t ≤ x → (x ≡ function_index n t → ⊥) → Moved (function_index n t) x (slice_index m.funcs x)
@@ -135,13 +135,13 @@ module _ (t : Module) (n : ℕ) (there : n < length t.funcs) (reach : IsUnreacha
               let y = x - suc (function_index n t) in
               let c = length-numbers 0 (suc (function_index n t)) in
               let apart : function_index n t < x = past (cases_lt (function_index n t) x) in
-              let at : x ≡ length (numbers 0 (suc (function_index n t))) + y = omega (arith, apart, c) in
+              let at : x ≡ length (numbers 0 (suc (function_index n t))) + y = omega arith in
               let is : slice_get m.funcs x ≡ Some (function_index n t + y) = ap (slice_get m.funcs) at ∙ append_right (numbers 0 (suc (function_index n t))) _ y ∙ numbers_at (function_index n t) (length t.funcs - suc n) y (omega (arith, at, k, all, c)) in
-              falls apart (let e = slice_index_is m.funcs x (function_index n t + y) is in omega (arith, e, apart))
+              falls apart (let e = slice_index_is m.funcs x (function_index n t + y) is in omega arith)
             where
               past : (function_index n t < x) ⊎ (x ≤ function_index n t) → function_index n t < x
               past (inl l) = l
-              past (inr r) = absurd (apart_from (omega (arith, l, r)))
+              past (inr r) = absurd (apart_from (omega arith))
 
   -- ---- in an environment ----
 
@@ -164,15 +164,15 @@ module _ (t : Module) (n : ℕ) (there : n < length t.funcs) (reach : IsUnreacha
 
     own : SharesOwn R env
     own = record {
-      funcs = λ a l. is_down _ _ a a (low (omega (arith, l)) (omega (arith, l)) refl);
-      tables = λ a l. is_down _ _ a a (low (omega (arith, l)) (omega (arith, l)) refl);
-      mems = λ a l. is_down _ _ a a (low (omega (arith, l)) (omega (arith, l)) refl);
-      globals = λ a l. is_down _ _ a a (low (omega (arith, l)) (omega (arith, l)) refl);
+      funcs = λ a l. is_down _ _ a a (low (omega arith) (omega arith) refl);
+      tables = λ a l. is_down _ _ a a (low (omega arith) (omega arith) refl);
+      mems = λ a l. is_down _ _ a a (low (omega arith) (omega arith) refl);
+      globals = λ a l. is_down _ _ a a (low (omega arith) (omega arith) refl);
     }
 
     module _ (i j : Inst) (a : IsInst env (one t) 0 t i) (b : IsInst env (one (removed n t)) 0 (removed n t) j) where
       elems_more : length t.elems ≤ length u.elems
-      elems_more = let e = ap length same.elems ∙ length-append (map (new_elem m) t.elems) (last_segments fs) in let c = map_length (new_elem m) t.elems in omega (arith, e, c)
+      elems_more = let e = ap length same.elems ∙ length-append (map (new_elem m) t.elems) (last_segments fs) in let c = map_length (new_elem m) t.elems in omega arith
 
       datas_many : length u.datas ≡ length t.datas
       datas_many = ap length same.datas ∙ map_length (new_data m) t.datas
@@ -186,20 +186,20 @@ module _ (t : Module) (n : ℕ) (there : n < length t.funcs) (reach : IsUnreacha
           let f = func_moves x h in
           let counted = funcs_counted t.imports 0 in
           let l = f.0 in
-          names_of i.funcs j.funcs x _ (space_rel of m kept t u fs items env own i j a b Functions i.funcs j.funcs n a.funcs b.funcs (λ c d e. is_down _ _ c d e) (omega (arith, there)) (λ c. funcs_many) (λ e. absurd (omega (arith, there, e))) x _ (omega (arith, l, counted)) (rw counted f.1))
+          names_of i.funcs j.funcs x _ (space_rel of m kept t u fs items env own i j a b Functions i.funcs j.funcs n a.funcs b.funcs (λ c d e. is_down _ _ c d e) (omega arith) (λ c. funcs_many) (λ e. absurd (omega arith)) x _ (omega arith) (rw counted f.1))
       names Tables x h =
           let counted = tables_counted t.imports 0 in
           let size = length-append (imported_tables t.imports) t.tables in
-          names_of i.tables j.tables x _ (plain_rel of m kept t u fs items env own i j a b Tables i.tables j.tables (length (tables_of t)) a.tables b.tables (λ c d e. is_down _ _ c d e) (ap length same.tables) (omega (arith, counted, size)) x h)
+          names_of i.tables j.tables x _ (plain_rel of m kept t u fs items env own i j a b Tables i.tables j.tables (length (tables_of t)) a.tables b.tables (λ c d e. is_down _ _ c d e) (ap length same.tables) (omega arith) x h)
       names Memories x h =
           let counted = memories_counted t.imports 0 in
           let size = length-append (imported_memories t.imports) t.mems in
-          names_of i.mems j.mems x _ (plain_rel of m kept t u fs items env own i j a b Memories i.mems j.mems (length (memories_of t)) a.mems b.mems (λ c d e. is_down _ _ c d e) (ap length same.mems) (omega (arith, counted, size)) x h)
+          names_of i.mems j.mems x _ (plain_rel of m kept t u fs items env own i j a b Memories i.mems j.mems (length (memories_of t)) a.mems b.mems (λ c d e. is_down _ _ c d e) (ap length same.mems) (omega arith) x h)
       names Globals x h =
           let counted = globals_counted t.imports 0 in
           let size = length-append (imported_globals t.imports) (map (λ g. g.ty) t.globals) in
           let defined = map_length (λ g. g.ty) t.globals in
-          names_of i.globals j.globals x _ (plain_rel of m kept t u fs items env own i j a b Globals i.globals j.globals (length (globals_of t)) a.globals b.globals (λ c d e. is_down _ _ c d e) globals_many (omega (arith, counted, size, defined)) x h)
+          names_of i.globals j.globals x _ (plain_rel of m kept t u fs items env own i j a b Globals i.globals j.globals (length (globals_of t)) a.globals b.globals (λ c d e. is_down _ _ c d e) globals_many (omega arith) x h)
       names ElementSegments x h = names_of i.elems j.elems x _ (segments_rel of m kept t u fs items env own i j a b ElementSegments i.elems j.elems (length t.elems) (length u.elems) a.elems b.elems elems_more (λ a b d. is_down _ _ a b d) x h)
       names DataSegments x h = names_of i.datas j.datas x _ (segments_rel of m kept t u fs items env own i j a b DataSegments i.datas j.datas (length t.datas) (length u.datas) a.datas b.datas (omega (arith, datas_many)) (λ a b d. is_down _ _ a b d) x h)
 
@@ -215,8 +215,8 @@ module _ (t : Module) (n : ℕ) (there : n < length t.funcs) (reach : IsUnreacha
       func_place x y f h move = rw same.funcs (map_at (new_func m) (without n t.funcs) y f (by move))
         where
           by : Moved n x y → slice_get (without n t.funcs) y ≡ Some f
-          by (stays l e) = without_low n t.funcs y (omega (arith, l, e)) ∙ ap (slice_get t.funcs) (sym e) ∙ h
-          by (falls l e) = without_high n t.funcs y (omega (arith, l, e)) ∙ ap (slice_get t.funcs) (sym e) ∙ h
+          by (stays l e) = without_low n t.funcs y (omega arith) ∙ ap (slice_get t.funcs) (sym e) ∙ h
+          by (falls l e) = without_high n t.funcs y (omega arith) ∙ ap (slice_get t.funcs) (sym e) ∙ h
 
       with_hole : {A : Type 0} (k : Space) (definitions : Module → List A) (new : A → A) (gap : ℕ) → hole k ≡ own_count k env + gap → ((c : Module) → defined_count k c ≡ length (definitions c)) →
           ((x y : ℕ) (d : A) → slice_get (definitions t) x ≡ Some d → Moved gap x y → slice_get (definitions u) y ≡ Some (new d)) → (correspond : ℕ → Inst → A → ℕ → Inst → A → Type 0) →
@@ -237,10 +237,10 @@ module _ (t : Module) (n : ℕ) (there : n < length t.funcs) (reach : IsUnreacha
       }
 
       same_seg : (k : Space) (x : ℕ) → hole k ≡ own_count k env + defined_count k t → x < own_count k env + defined_count k t → R.of k x x
-      same_seg k x e l = is_down (hole k) (own_count k env + defined_count k t) x x (low (omega (arith, e, l)) l refl)
+      same_seg k x e l = is_down (hole k) (own_count k env + defined_count k t) x x (low (omega arith) l refl)
 
       worlds : RenumberedCodeIsRelated → WorldsCorrespond R env (alone t) (alone u) (i ∷ []) (j ∷ [])
-      worlds code = record { own = own; definitions = definitions code; elems = elems_in_order of m kept t u fs items env own i j a b names (λ x l. same_seg ElementSegments x refl (omega (arith, l))); datas = datas_in_order of m kept t u fs items env own i j a b names (λ x l. same_seg DataSegments x refl (omega (arith, l))); view = view of m kept t u fs items env own i j a b names }
+      worlds code = record { own = own; definitions = definitions code; elems = elems_in_order of m kept t u fs items env own i j a b names (λ x l. same_seg ElementSegments x refl (omega arith)); datas = datas_in_order of m kept t u fs items env own i j a b names (λ x l. same_seg DataSegments x refl (omega arith)); view = view of m kept t u fs items env own i j a b names }
 
     -- ---- the environment links both ----
 
