@@ -1,5 +1,5 @@
 -- The first step of a run, which instantiates its world.
-use Rattle.std.proofs.Common.{◌≡◌, ℕ, zero, suc, List, [], ◌∷◌, Option, Some, None, Bool, true, false, cond, refl, sym, ap, subst}
+use Rattle.std.proofs.Common.{◌≡◌, ℕ, zero, suc, List, [], ◌∷◌, Option, Some, None, Bool, true, false, cond, refl}
 use Rattle.wasm_tree.specs.declared.space.Space.{Space}
 use Rattle.wasm_meaning.specs.State.{Opening}
 use Rattle.wasm_meaning.specs.Environment.{Environment}

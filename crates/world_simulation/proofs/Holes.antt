@@ -5,11 +5,11 @@ use Rattle.std.proofs.lemmas.Bool.{cases_lt, ltb-true, lt-ltb, eqb-true, eq-eqb,
 use Rattle.std.proofs.lemmas.Option.{slice_get_within}
 use Rattle.base_lists.proofs.Bools.{left_true, right_true}
 use Rattle.base_lists.proofs.Numbers.{length-numbers, numbers_at, numbers_index}
-use Rattle.base_lists.proofs.Places.{append_left, append_right, map_at, append_at_left, slice_get_there}
+use Rattle.base_lists.proofs.Places.{append_left, append_right, map_at, append_at_left, slice_get_there, slice_index_is, append_from}
 use Rattle.wasm_meaning.specs.World.{numbers, Task, tasks_in, own_count, defined_count}
 use Rattle.index_remap.specs.Related.{OptRel, some, ListRel}
 use Rattle.world_simulation.specs.Unreachable.{without}
-use Rattle.world_simulation.proofs.Places.{place_rel, opt_at, map_length}
+use Rattle.world_simulation.proofs.Places.{place_rel, opt_at, map_length, number_is}
 use Rattle.wasm_meaning.specs.State.{Inst}
 use Rattle.index_remap.specs.Renumbered.{has}
 use Rattle.world_simulation.specs.Segments.{InOrder, both}
@@ -85,6 +85,28 @@ without_many (suc n) (x ∷ xs) h = let l = without_many n xs (omega arith) in o
 pub data Moved (hole x y : ℕ) : Type 0 where
   stays : x < hole → x ≡ y → Moved hole x y
   falls : hole < x → x ≡ suc y → Moved hole x y
+
+-- numbers up to the hole, and from the hole on: the entries of a map that closes it
+pub closes : (hole count x : ℕ) → has (numbers 0 (suc hole) ++ numbers hole count) x ≡ true → (x ≡ hole → ⊥) → (x < suc hole + count) × Moved hole x (slice_index (numbers 0 (suc hole) ++ numbers hole count) x)
+closes hole count x h other = go (append_from (numbers 0 (suc hole)) (numbers hole count) x entry.0 entry.1) (cases_lt x hole)
+  where
+    entry : (a : ℕ) × (slice_get (numbers 0 (suc hole) ++ numbers hole count) x ≡ Some a)
+    entry = slice_get_there (numbers 0 (suc hole) ++ numbers hole count) x (ltb-true _ _ h)
+
+    is : slice_index (numbers 0 (suc hole) ++ numbers hole count) x ≡ entry.0
+    is = slice_index_is (numbers 0 (suc hole) ++ numbers hole count) x entry.0 entry.1
+
+    go : (slice_get (numbers 0 (suc hole)) x ≡ Some entry.0) ⊎ ((n : ℕ) × (x ≡ length (numbers 0 (suc hole)) + n) × (slice_get (numbers hole count) n ≡ Some entry.0)) → (x < hole) ⊎ (hole ≤ x) →
+        (x < suc hole + count) × Moved hole x (slice_index (numbers 0 (suc hole) ++ numbers hole count) x)
+    go (inl e) (inl l) = let r = number_is 0 (suc hole) x entry.0 e in (omega arith, stays l (let a = r.1 in omega (arith, is)))
+    go (inl e) (inr l) = let r = number_is 0 (suc hole) x entry.0 e in absurd (other (let b = r.0 in omega arith))
+    go (inr n) _ =
+        let r = number_is hole count n.0 entry.0 n.2 in
+        let a = r.0 in
+        let b = r.1 in
+        let at = n.1 in
+        let c = length-numbers 0 (suc hole) in
+        (omega arith, falls (omega arith) (omega (arith, is)))
 
 -- imports, and then numbers from one on, with a hole at a place among these
 pub space_moves : (P : ℕ → ℕ → Type 0) (l : List ℕ) (from gap count fewer : ℕ) → ListRel P l l → gap ≤ count → (gap < count → suc fewer ≡ count) → (gap ≡ count → count ≤ fewer) → ((a b : ℕ) → Down (from + gap) (from + count) a b → P a b) →

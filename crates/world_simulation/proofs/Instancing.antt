@@ -9,8 +9,9 @@ use Rattle.wasm_meaning.specs.State.{Inst}
 use Rattle.wasm_meaning.specs.Linking.{Part, module_at, imports_of}
 use Rattle.wasm_meaning.specs.Environment.{Environment}
 use Rattle.wasm_meaning.specs.World.{space, numbers, inst_of, insts_from, defined_before, defined_count, base, address_of, all_there, imported_thing}
-use Rattle.base_lists.proofs.Numbers.{length-numbers, numbers_at}
+use Rattle.base_lists.proofs.Numbers.{length-numbers}
 use Rattle.base_lists.proofs.Options.{and_then_is, all_there_at, all_there_length}
+use Rattle.world_simulation.proofs.Places.{number_is}
 use Rattle.base_lists.proofs.Places.{slice_get_there, append_from}
 
 -- ---- an index space ----
@@ -63,11 +64,9 @@ module _ (env : Environment) (parts : List Part) (k : Space) (p : ℕ) (m : Modu
           let r = all_there_at (import_address env parts k p) (imports_of k m) s.imported s.are x n.0 n.1 in
           imports n.0 n.1 (r.1 ∙ sym r.2 ∙ e)
       go (inr j) =
-          let low = slice_get_within (numbers (base env parts k p) (defined_count k m)) j.0 a j.2 in
-          let count = length-numbers (base env parts k p) (defined_count k m) in
           let at = j.1 in
-          let lt : j.0 < defined_count k m = omega arith in
-          defines j.0 (omega (arith, at, many)) lt (same_Some _ _ (sym j.2 ∙ numbers_at (base env parts k p) (defined_count k m) j.0 lt))
+          let r = number_is (base env parts k p) (defined_count k m) j.0 a j.2 in
+          defines j.0 (omega (arith, many)) r.0 r.1
 
 -- ---- one ----
 

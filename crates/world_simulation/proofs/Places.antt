@@ -1,5 +1,7 @@
 -- Lists by place, numbers in a row, and lists that are related place by place.
-use Rattle.std.proofs.Common.{◌≡◌, ℕ, zero, suc, ◌+◌, ◌<◌, ◌≤◌, List, [], ◌∷◌, map, length, Option, Some, None, Bool, true, refl, sym, ap, subst, arith, option_and_then, slice_get, slice_set}
+use Rattle.std.proofs.Common.{◌≡◌, ℕ, zero, suc, ◌+◌, ◌<◌, ◌≤◌, List, [], ◌∷◌, map, length, Option, Some, None, Bool, true, refl, sym, ap, subst, arith, option_and_then, slice_get, slice_set, ◌∙◌}
+use Rattle.base_lists.proofs.Numbers.{length-numbers, numbers_at}
+use Rattle.std.proofs.lemmas.Option.{slice_get_within, same_Some}
 use Rattle.wasm_meaning.specs.Outcomes.{Outcome, Gives, IllTyped, at}
 use Rattle.wasm_meaning.specs.World.{numbers, all_there}
 pub use Rattle.base_lists.proofs.Bools.{left_true, right_true}
@@ -21,6 +23,13 @@ map_length f (x ∷ xs) = ap suc (map_length f xs)
 pub some_then : {A B : Type 0} (o : Option A) (f : A → B) (b : B) → option_and_then (λ a. Some (f a)) o ≡ Some b → (a : A) × (o ≡ Some a) × (f a ≡ b)
 some_then None f b h = cc
 some_then (Some a) f b h = (a, refl, cc)
+
+pub number_is : (from count n a : ℕ) → slice_get (numbers from count) n ≡ Some a → (n < count) × (a ≡ from + n)
+number_is from count n a h =
+    let l = slice_get_within (numbers from count) n a h in
+    let c = length-numbers from count in
+    let low : n < count = omega arith in
+    (low, same_Some _ _ (sym h ∙ numbers_at from count n low))
 
 -- ---- options ----
 

@@ -1,5 +1,5 @@
 -- Two worlds that correspond are instantiated to what is related.
-use Rattle.std.proofs.Common.{◌≡◌, ℕ, ◌*◌, ◌≤◌, List, length, Option, Some, None, Bool, true, false, cond, refl, ap, subst, arith, option_and_then}
+use Rattle.std.proofs.Common.{◌≡◌, ℕ, ◌*◌, ◌≤◌, List, length, Option, Some, None, Bool, true, false, cond, refl, ap, arith, option_and_then}
 use Rattle.base_lists.proofs.Options.{and_then_is, all_there_length}
 use Rattle.wasm_tree.specs.declared.space.Space.TheVariants.{Functions}
 use Rattle.wasm_meaning.specs.State.{Elem, Store, RefVal, Val}
