@@ -113,7 +113,7 @@ func_thing _ a h = absurd (let k = h in cc)
 func_fits : (z : Store) (a : ℕ) (ty : FuncType) (y : External) → type_in z (FuncAt a) ≡ Some y → Fits (FuncOf ty) y → type_at z a ≡ Gives ty
 func_fits z a ty y typed fits =
     let u = and_then_is (given (type_at z a)) (λ t. Some (FuncOf t)) y typed in
-    given_is (type_at z a) ty (u.1 ∙ ap Some (sym (func_type_is ty u.0 (rw (same_Some _ _ u.2) fits.same))))
+    given_is (type_at z a) ty (u.1 ∙ ap Some (sym (func_type_is ty u.0 (subst (λ y. same_but_limits (FuncOf ty) y ≡ true) (sym (same_Some _ _ u.2)) fits.same))))
 
 -- ---- the functions of a module alone ----
 
@@ -127,15 +127,15 @@ module _ (laws : SpaceLaws) (env : Environment) (t : Module) (j : Inst) (inst : 
   import_typed matched x n a ty e address h =
       let y = and_then_is (slice_get (funcs_of t) x) (slice_get t.types) ty h in
       let r = place_of (has_kind Functions) (λ i. func_of i.desc) t.imports (λ i. func_kind i.desc) 0 x n e in
-      let k : n ≡ r.0 = (let d = r.2 in omega arith) in
+      let k : n ≡ r.0 = (let d = r.2 in omega (arith, d)) in
       let i : slice_get t.imports n ≡ Some r.1 = ap (slice_get t.imports) k ∙ r.3 in
       let many = funcs_counted t.imports 0 in
-      let low : x < length (imported_funcs t.imports) = (let l = slice_get_within (imports_of Functions t) x n e in omega arith) in
+      let low : x < length (imported_funcs t.imports) = (let l = slice_get_within (imports_of Functions t) x n e in omega (arith, l, many)) in
       let desc = func_desc r.1.desc y.0 (sym r.5 ∙ sym (append_left (imported_funcs t.imports) (map (λ f. f.ty) t.funcs) x low) ∙ y.1) in
-      let asks : asked_at (one t) (site n) ≡ Some (FuncOf ty) = rw i (ap (asked t) desc ∙ ap (option_and_then (λ t. Some (FuncOf t))) y.2) in
+      let asks : asked_at (one t) (site n) ≡ Some (FuncOf ty) = ap (option_and_then (λ i. asked t i.desc)) i ∙ ap (asked t) desc ∙ ap (option_and_then (λ t. Some (FuncOf t))) y.2 in
       let s = (laws.sites (one t) (site n)).1 r.1 i in
       let f = site_fits env (one t) z (site n) r.1 (FuncOf ty) i asks (all_each (is_matched env (one t) z) (sites (one t)) matched s.0 (site n) s.1) in
-      let thing = func_thing f.thing a (sym (rw f.is refl) ∙ address) in
+      let thing = func_thing f.thing a (sym (ap (option_and_then (address_of Functions)) f.is) ∙ address) in
       func_fits z a ty f.type (ap (type_in z) (sym thing) ∙ f.typed) f.fits
 
   -- a function that an index names has the type of that index
@@ -145,13 +145,13 @@ module _ (laws : SpaceLaws) (env : Environment) (t : Module) (j : Inst) (inst : 
       go : Entry env (one t) Functions 0 t x a → type_at z a ≡ Gives ty
       go (imports n at address) = import_typed matched x n a ty at address e
       go (defines n at low is) =
-          let back : base env (one t) Functions 0 + (x - length (imports_of Functions t)) ≡ a = omega arith in
-          ap (type_at z) (sym back) ∙ func_typed env (record { parts = one t; insts = j ∷ [] }) z there 0 t j refl refl inst.types x ty (omega arith) e
+          let back : base env (one t) Functions 0 + (x - length (imports_of Functions t)) ≡ a = omega (arith, at, is) in
+          ap (type_at z) (sym back) ∙ func_typed env (record { parts = one t; insts = j ∷ [] }) z there 0 t j refl refl inst.types x ty (omega (arith, at)) e
 
 -- ---- the merged module's ----
 
 kept_type : {m n : Module} {fs : List ℕ} → declared_refs.Keeps m n fs → (x : ℕ) → type_of_func n x ≡ type_of_func m x
-kept_type q x = rw (q.types, rw (q.imports, q.funcs) refl) refl
+kept_type q x = ap₂ (λ ts fs. option_and_then (slice_get ts) (slice_get fs x)) q.types (ap₂ (λ is fs. imported_funcs is ++ map (λ f. f.ty) fs) q.imports q.funcs)
 
 defined_many : (parts : List Part) → length (defined_funcs parts) ≡ defined_before Functions parts (length parts)
 unfolding defined_funcs
@@ -171,11 +171,11 @@ module _ (laws : SpaceLaws) (nothing : StartsTakeNothing) (env : Environment) (p
       at z.funcs (shared_count env parts Functions) ≡ Gives (Code nullary j [] (map Call (starts parts)))
   caller_code inst there f g fs e =
       let q = joined_keeps parts mode in
-      let n = nothing parts (names_of parts mode) can.valid can.linked 0 f (rw e refl) in
-      let type : slice_get J.types (place_of_type parts nullary) ≡ Some nullary = rw (joined_types parts mode) n.1 in
+      let n = nothing parts (names_of parts mode) can.valid can.linked 0 f (ap (λ l. slice_get l 0) e) in
+      let type : slice_get J.types (place_of_type parts nullary) ≡ Some nullary = ap (λ l. slice_get l (place_of_type parts nullary)) (joined_types parts mode) ∙ n.1 in
       let many = defined_many parts in
       let total = defined_before Functions parts (length parts) in
-      let last : total ≡ length (defined_funcs parts) + 0 = omega arith in
+      let last : total ≡ length (defined_funcs parts) + 0 = omega (arith, many) in
       let func : slice_get J.funcs total ≡ Some (record { ty = place_of_type parts nullary; locals = []; body = map Call (f ∷ g ∷ fs) }) =
       ap₂ (λ l n. slice_get l n) (q.funcs ∙ funcs_are parts (names_of parts mode)) last ∙ append_right (defined_funcs parts) (start_calls parts (starts parts)) 0 ∙ ap (λ l. slice_get (start_calls parts l) 0) e in
       at_is z.funcs (shared_count env parts Functions) _ (own_func_at laws env J j inst z there total _ nullary func type)

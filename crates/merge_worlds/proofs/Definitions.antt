@@ -105,7 +105,7 @@ module _ (laws : Laws) (env : Environment) (parts : List Part) (mode : Mode) (ca
     stood p m is n x h e = let i = each p m is in record { part = p; of = m; is_part = is; inst = i.0; is_inst = i.1; place = n; definition = x; stands = h; address = e }
 
     abbrev moved : (p : ℕ) (m : Module) → module_at parts p ≡ Some m → (n : ℕ) (x : A) → slice_get (definitions m) n ≡ Some x → {a : ℕ} → a ≡ base env parts k p + n → DefinedAt env w k definitions a
-    moved p m is n x h e = record { part = 0; of = J; is_part = refl; inst = j; is_inst = refl; place = defined_before k parts p + n; definition = q.new p m x; stands = becomes p m n x is h; address = omega arith }
+    moved p m is n x h e = record { part = 0; of = J; is_part = refl; inst = j; is_inst = refl; place = defined_before k parts p + n; definition = q.new p m x; stands = becomes p m n x is h; address = omega (arith, e) }
 
     partner : (correspond : ℕ → Inst → A → ℕ → Inst → A → Type 0) → ((p : ℕ) (m : Module) (i : Inst) → module_at parts p ≡ Some m → PartAgrees env parts p m i j → (n : ℕ) (x : A) → slice_get (definitions m) n ≡ Some x → correspond p i x 0 j (q.new p m x)) →
         (a b : ℕ) → R.of k a b → Partners env v w k definitions correspond a b
@@ -124,7 +124,7 @@ module _ (laws : Laws) (env : Environment) (parts : List Part) (mode : Mode) (ca
     -- an entry of a list of the merged module is one of a part, or one of those that follow
     merged_there : {B : Type 0} (f : A → Option B) → ((p : ℕ) (m : Module) → module_at parts p ≡ Some m → (n : ℕ) (x : A) → slice_get (definitions m) n ≡ Some x → (y : B) × (f (q.new p m x) ≡ Some y)) →
         ((n : ℕ) (x : A) → slice_get q.more n ≡ Some x → (y : B) × (f x ≡ Some y)) → (n : ℕ) (x : A) → slice_get (definitions J) n ≡ Some x → (y : B) × (f x ≡ Some y)
-    merged_there {B} f part last n x h = go (append_from of_parts q.more n x (rw (← q.is) h))
+    merged_there {B} f part last n x h = go (append_from of_parts q.more n x (ap (λ l. slice_get l n) (sym q.is) ∙ h))
       where
         of_parts : List A
         of_parts = by_part_from (λ p m. map (q.new p m) (definitions m)) 0 parts
@@ -134,7 +134,7 @@ module _ (laws : Laws) (env : Environment) (parts : List Part) (mode : Mode) (ca
             let r = by_part_back (λ p m. map (q.new p m) (definitions m)) 0 parts n x g in
             let from_0 : 0 + r.part ≡ r.part = omega arith in
             let m = r.«module» in
-            let o = map_from (q.new r.part m) (definitions m) r.place x (rw (← from_0) r.got) in
+            let o = map_from (q.new r.part m) (definitions m) r.place x (ap (λ p. slice_get (map (q.new p m) (definitions m)) r.place) (sym from_0) ∙ r.got) in
             let y = part r.part m r.is_part r.place o.0 o.1 in
             (y.0, ap f (sym o.2) ∙ y.1)
         go (inr l) = last l.0 x l.2
@@ -154,7 +154,7 @@ module _ (laws : Laws) (env : Environment) (parts : List Part) (mode : Mode) (ca
   parts_there : (z : Store) → stores_from env M (j ∷ []) (own_store env) 0 M (j ∷ []) ≡ Some z → (s : Store) × (stores_from env parts insts (own_store env) 0 parts insts ≡ Some s)
   parts_there z made = stores_there env parts insts (own_store env) 0 parts insts (λ q m i is there.
       let x = each q m is in
-      let agrees = rw (← same_Some _ _ (sym x.1 ∙ there)) x.2 in
+      let agrees = subst (λ i. PartAgrees env parts q m i j) (same_Some _ _ (sym x.1 ∙ there)) x.2 in
       let from_0 : q ≡ 0 + q = omega arith in
       rw (← from_0) (part_there env parts insts q m i
       (λ n f h. left_there (func_rel R (funcs_alike q m i is agrees n f h)) (func_placed env w z made (moved (funcs_join parts mode) q m is n f h refl)).2)

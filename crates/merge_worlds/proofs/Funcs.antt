@@ -45,7 +45,7 @@ module _ (env : Environment) (parts : List Part) (p : ℕ) (m : Module) (i j : I
   type_below x h = let l = ltb-true _ _ h in omega (arith, l, type_entries parts p m)
 
   pub entries_name : EntriesName R r (with_entry r) i j
-  entries_name Types x h = let t = slice_get_there m.types x (type_below x h) in at_is i.types x t.0 (rw k.own_types t.1) ∙ sym (at_is j.types (slice_index r.types x) t.0 (k.types x t.0 t.1))
+  entries_name Types x h = let t = slice_get_there m.types x (type_below x h) in at_is i.types x t.0 (ap (λ ts. slice_get ts x) k.own_types ∙ t.1) ∙ sym (at_is j.types (slice_index r.types x) t.0 (k.types x t.0 t.1))
   entries_name Functions x h = names_of i.funcs j.funcs x _ (names_one env parts Functions k.funcs x h)
   entries_name Tables x h = names_of i.tables j.tables x _ (names_one env parts Tables k.tables x h)
   entries_name Memories x h = names_of i.mems j.mems x _ (names_one env parts Memories k.mems x h)
@@ -67,4 +67,4 @@ module _ (env : Environment) (parts : List Part) (p : ℕ) (m : Module) (i j : I
   pub funcs_correspond : Laws → (f : tree.Func) → fits_func r f ≡ true → FuncsCorrespond R i j f (renumbered.new_func r f)
   funcs_correspond laws f h =
       let t = slice_get_there m.types f.ty (type_below f.ty (left_true _ _ h)) in
-      record { type = rw k.own_types (t.1 ∙ sym (k.types f.ty t.0 t.1)); locals = refl; code = code_rel laws f.body (right_true (has r.types f.ty) _ h) }
+      record { type = ap (λ ts. slice_get ts f.ty) k.own_types ∙ t.1 ∙ sym (k.types f.ty t.0 t.1); locals = refl; code = code_rel laws f.body (right_true (has r.types f.ty) _ h) }

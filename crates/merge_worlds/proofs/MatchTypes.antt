@@ -70,17 +70,17 @@ asks_by m (im.Global t) x h = subst (Asks m (im.Global t)) (same_Some _ _ h) glo
 match_fits : (s : Store) (m : Module) {d : ImportDesc} {x : External} → Asks m d x → (th : Thing) → is_match s m d th ≡ Some true → (y : External) × (type_in s th ≡ Some y) × Fits x y
 match_fits s m (func {t = t} e) (FuncAt a) h =
     let u = and_then_is (given (type_at s a)) (λ u. Some (same_func_type t u)) true (rw e at h) in
-    (FuncOf u.0, rw u.1 refl, record { same = same_Some _ _ u.2; meets = refl })
+    (FuncOf u.0, ap (option_and_then (λ t. Some (FuncOf t))) u.1, record { same = same_Some _ _ u.2; meets = refl })
 match_fits s m (table {t = t}) (TableAt a) h =
     let u = and_then_is (slice_get s.tables a) _ true h in
     let b = and_parts _ _ (same_Some _ _ u.2) in
-    (table_type u.0, rw u.1 refl, record { same = b.0; meets = b.1 })
+    (table_type u.0, ap (option_and_then (λ u. Some (table_type u))) u.1, record { same = b.0; meets = b.1 })
 match_fits s m memory (MemoryAt a) h =
     let u = and_then_is (slice_get s.mems a) _ true h in
-    (memory_type u.0, rw u.1 refl, record { same = refl; meets = same_Some _ _ u.2 })
+    (memory_type u.0, ap (option_and_then (λ u. Some (memory_type u))) u.1, record { same = refl; meets = same_Some _ _ u.2 })
 match_fits s m global (GlobalAt a) h =
     let u = and_then_is (slice_get s.globals a) _ true h in
-    (GlobalOf u.0.ty, rw u.1 refl, record { same = same_Some _ _ u.2; meets = refl })
+    (GlobalOf u.0.ty, ap (option_and_then (λ g. Some (GlobalOf g.ty))) u.1, record { same = same_Some _ _ u.2; meets = refl })
 match_fits s m _ _ h = absurd (let k = h in cc)
 
 data Typed (s : Store) : Thing → External → Type 0 where
@@ -105,7 +105,7 @@ fits_match s m _ _ k = absurd (let z = k.same in cc)
 
 -- related entities of related stores have one type
 pub type_same : (R : Pairing) {s z : Store} → StoreRel R s z → {th ts : Thing} → ThingRel R th ts → type_in s th ≡ type_in z ts
-type_same R like (a_func r) = rw (same_there (like.types r)) refl
+type_same R like (a_func r) = ap (λ o. option_and_then (λ t. Some (FuncOf t)) (given o)) (same_there (like.types r))
 type_same R {s} {z} like (a_table {a = a} {b = b} r) = then_eq (both_placed s.tables z.tables a b (like.tables r)) (λ _ _ r. cc (length_rel r.slots))
 type_same R {s} {z} like (a_memory {a = a} {b = b} r) = then_eq (both_placed s.mems z.mems a b (like.mems r)) (λ _ _ e. ap (λ u. Some (memory_type u)) e)
 type_same R {s} {z} like (a_global {a = a} {b = b} r) = then_eq (both_placed s.globals z.globals a b (like.globals r)) (λ _ _ r. ap (λ t. Some (GlobalOf t)) r.type)
@@ -129,8 +129,8 @@ asked_limits _ = refl
 
 -- the limits of what fits meet those that are asked for
 pub fits_limits : (d y : External) (l k : Limits) → Fits d y → limits_in d ≡ Some l → limits_in y ≡ Some k → meets k.min k.max l ≡ true
-fits_limits (TableOf t) (TableOf u) l k f e g = rw (← same_Some _ _ g, ← same_Some _ _ e) f.meets
-fits_limits (MemoryOf t) (MemoryOf u) l k f e g = rw (← same_Some _ _ g, ← same_Some _ _ e) f.meets
+fits_limits (TableOf t) (TableOf u) l k f e g = ap₂ (λ (k l : Limits). meets k.min k.max l) (sym (same_Some _ _ g)) (sym (same_Some _ _ e)) ∙ f.meets
+fits_limits (MemoryOf t) (MemoryOf u) l k f e g = ap₂ (λ (k l : Limits). meets k.min k.max l) (sym (same_Some _ _ g)) (sym (same_Some _ _ e)) ∙ f.meets
 fits_limits _ _ l k f e g = absurd (let z = f.same in let w = e in cc)
 
 -- what fits also fits with other limits, where its own meet these
@@ -146,8 +146,8 @@ pub fits_kept : (d e y : External) (l : Limits) → same_but_limits d e ≡ true
 fits_kept (FuncOf t) (FuncOf u) y l same f implied = rw (func_type_is t u same) f
 fits_kept (GlobalOf t) (GlobalOf u) y l same f implied =
     let b = and_parts _ _ same in
-    rw (← ap₂ (λ ty mutable. record { ty = ty; mutable = mutable }) (sym (type_is t.ty u.ty b.0)) (sym (bool_is t.mutable u.mutable b.1))) f
-fits_kept (TableOf t) (TableOf u) (TableOf z) l same f implied = record { same = rw (ref_is t.ty u.ty same) f.same; meets = implied t.limits refl z.limits.min z.limits.max f.meets }
+    subst (λ u. Fits (GlobalOf u) y) (ap₂ (λ ty mutable. record { ty = ty; mutable = mutable }) (sym (type_is t.ty u.ty b.0)) (sym (bool_is t.mutable u.mutable b.1))) f
+fits_kept (TableOf t) (TableOf u) (TableOf z) l same f implied = record { same = ap (λ r. same_ref r z.ty) (ref_is t.ty u.ty same) ∙ f.same; meets = implied t.limits refl z.limits.min z.limits.max f.meets }
 fits_kept (MemoryOf t) (MemoryOf u) (MemoryOf z) l same f implied = record { same = refl; meets = implied t refl z.min z.max f.meets }
 fits_kept _ _ _ l same f implied = absurd (let z = same in let w = f.same in cc)
 
@@ -163,7 +163,7 @@ module _ (env : Environment) (parts : List Part) (s : Store) (t : Site) (i : Imp
       asks_by of i.desc x (rw (m.1, m.2) at asks)
 
   matched_is : is_matched env parts s t ≡ unwrap_or (option_and_then (is_match s of i.desc) (imported_thing env parts t)) false
-  matched_is = rw ((import_site parts t i at).1, at) refl
+  matched_is = ap₂ (λ o p. unwrap_or (option_and_then (λ m. option_and_then (λ i. option_and_then (is_match s m i.desc) (imported_thing env parts t)) p) o) false) (import_site parts t i at).1 at
 
   -- it matches where what it stands for fits what it asks for
   pub site_fits : is_matched env parts s t ≡ true → FitsAt s x (imported_thing env parts t)

@@ -26,8 +26,8 @@ before_next k [] p m h = cc
 before_next k (part ∷ parts) zero m h =
     let n = before_start k parts in
     let l = ap (defined_count k) (same_Some _ _ h) in
-    omega arith
-before_next k (part ∷ parts) (suc p) m h = let n = before_next k parts p m h in omega arith
+    omega (arith, n, l)
+before_next k (part ∷ parts) (suc p) m h = let n = before_next k parts p m h in omega (arith, n)
 
 -- a place at which one address stands in both lists
 record OneAddress (xs ys : List ℕ) (n : ℕ) : Type 0 where
@@ -61,7 +61,7 @@ module _ {A : Type 0} (k : Space) (segs : Module → List A) (counts : (m : Modu
       let o = same 0 (omega arith) in
       let is : x ≡ y = same_Some _ _ (o.first ∙ sym o.second) in
       both (rw (← is) (each 0 x e refl refl))
-      (in_part p i new xs ys es rest more (λ n l. let o = same (suc n) (omega arith) in record { address = o.address; first = o.first; second = o.second }) (λ n a e h k. each (suc n) a e h k) then)
+      (in_part p i new xs ys es rest more (λ n l. let o = same (suc n) (omega (arith, l)) in record { address = o.address; first = o.first; second = o.second }) (λ n a e h k. each (suc n) a e h k) then)
 
   module _ (more : List A) (nothing : (ns : List ℕ) → Ordered [] (tasks_in 0 j ns more)) (stands : (p : ℕ) (m : Module) → module_at parts p ≡ Some m → PartStands p m) where
     one_part : (p : ℕ) (m : Module) (later : List (Task A)) (behind : List A) → module_at parts p ≡ Some m → (i : Inst) → slice_get insts p ≡ Some i → Ordered later (tasks_in 0 j (drop (defined_before k parts (suc p)) (addresses_in k j)) behind) →
@@ -74,7 +74,7 @@ module _ {A : Type 0} (k : Space) (segs : Module → List A) (counts : (m : Modu
         d = stands p m at_p
 
         dropped : drop (length (segs m)) (drop (defined_before k parts p) (addresses_in k j)) ≡ drop (defined_before k parts (suc p)) (addresses_in k j)
-        dropped = drop-drop (length (segs m)) (defined_before k parts p) (addresses_in k j) ∙ ap (λ i. drop i (addresses_in k j)) (rw (← counts m) (sym (before_next k parts p m at_p)))
+        dropped = drop-drop (length (segs m)) (defined_before k parts p) (addresses_in k j) ∙ ap (λ i. drop i (addresses_in k j)) (ap (λ n. defined_before k parts p + n) (sym (counts m)) ∙ sym (before_next k parts p m at_p))
 
         many : length (numbers (defined_before k parts p) (length (segs m))) ≡ length (segs m)
         many = length-numbers (defined_before k parts p) (length (segs m))
@@ -82,14 +82,14 @@ module _ {A : Type 0} (k : Space) (segs : Module → List A) (counts : (m : Modu
         -- its addresses stand behind those of the parts before it
         same : (x : ℕ) → x < length (segs m) → OneAddress (addresses_in k d.inst) (drop (defined_before k parts p) (addresses_in k j)) x
         same x l =
-            let o = d.agrees.each x (omega arith) in
+            let o = d.agrees.each x (omega (arith, l, many)) in
             let index = slice_index_is (numbers (defined_before k parts p) (length (segs m))) x _ (numbers_at (defined_before k parts p) (length (segs m)) x l) in
             record { address = o.address; first = o.first; second = drop_at (addresses_in k j) (defined_before k parts p) x ∙ ap (slice_get (addresses_in k j)) (sym index) ∙ o.second }
 
         each : (x a : ℕ) (e : A) → slice_get (segs m) x ≡ Some e → slice_get (addresses_in k d.inst) x ≡ Some a → partners (task p d.inst a e) (task 0 j a (new p m e))
         each x a e h at =
             let l = slice_get_within (segs m) x e h in
-            let o = d.agrees.each x (omega arith) in
+            let o = d.agrees.each x (omega (arith, l, many)) in
             d.each x a e h (rw (← same_Some _ _ (sym o.first ∙ at)) o.shared)
 
     by_parts : (p : ℕ) (rest : List Part) (is : List Inst) → ((q : ℕ) → module_at rest q ≡ module_at parts (p + q)) → ((q : ℕ) → slice_get is q ≡ slice_get insts (p + q)) →

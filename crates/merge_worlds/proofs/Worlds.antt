@@ -90,12 +90,12 @@ module _ (spaces : SpaceLaws) (laws : Laws) (nothing : StartsTakeNothing) (simil
 
   definitions : (insts js : List Inst) → InstancesAgree env parts insts js → insts_from env M 0 M ≡ Some js → DefinitionsCorrespond R env (record { parts = parts; insts = insts }) (record { parts = M; insts = js })
   definitions insts js k are =
-      rw k.alone
+      subst (λ js. DefinitionsCorrespond R env (record { parts = parts; insts = insts }) (record { parts = M; insts = js })) (sym k.alone)
       (definitions_correspond laws env parts mode can insts k.merged k.each (are_one laws env parts mode can insts js k are))
 
   stores : (insts js : List Inst) → InstancesAgree env parts insts js → insts_from env M 0 M ≡ Some js → OptRel (λ s z. Unit {0}) (stores_from env parts insts (own_store env) 0 parts insts) (stores_from env M js (own_store env) 0 M js)
   stores insts js k are =
-      rw k.alone
+      subst (λ js. OptRel (λ s z. Unit {0}) (stores_from env parts insts (own_store env) 0 parts insts) (stores_from env M js (own_store env) 0 M js)) (sym k.alone)
       (stores_both laws env parts mode can insts k.merged k.each (are_one laws env parts mode can insts js k are))
 
   similar : AreSimilar R env (linked_world parts mode) (alone J)
@@ -147,11 +147,11 @@ module _ (spaces : SpaceLaws) (laws : Laws) (nothing : StartsTakeNothing) (simil
     calls_each : (f g : ℕ) (fs : List ℕ) → starts parts ≡ f ∷ g ∷ fs → CallsEach after (shared_count env parts Functions) several
     calls_each f g fs e =
         let inst = inst_at env (record { parts = M; insts = j ∷ [] }) (y.are_insts ∙ ap Some k.alone) 0 J j refl refl in
-        let there : stores_from env M (j ∷ []) (own_store env) 0 M (j ∷ []) ≡ Some y.allocated = rw (← k.alone) y.is_allocated in
+        let there : stores_from env M (j ∷ []) (own_store env) 0 M (j ∷ []) ≡ Some y.allocated = subst (λ js. stores_from env M js (own_store env) 0 M js ≡ Some y.allocated) k.alone y.is_allocated in
         record {
           inst = j;
           calls = starts parts;
-          code = rw same_funcs (caller_code spaces nothing env parts mode can j y.allocated inst there f g fs e);
+          code = ap (λ fs. at fs (shared_count env parts Functions)) same_funcs ∙ caller_code spaces nothing env parts mode can j y.allocated inst there f g fs e;
           each = starts_typed spaces nothing env parts mode can j y.allocated inst there y.matched several agreed.named (NamesStart after j)
               (λ f a named typed. record { named = named; typed = ap (λ fs. bind (at fs a) (λ f. Gives (type_of_func f))) same_funcs ∙ typed });
         }
@@ -160,12 +160,12 @@ module _ (spaces : SpaceLaws) (laws : Laws) (nothing : StartsTakeNothing) (simil
     starts_alike = go (starts parts) refl
       where
         go : (l : List ℕ) → starts parts ≡ l → StartsAlike (begun env (alone J) y.insts y.view (segments env M y.insts y.allocated)) several
-        go [] e = the_same (agreed.few (let m = ap length e in omega arith))
-        go (f ∷ []) e = the_same (agreed.few (let m = ap length e in omega arith))
+        go [] e = the_same (agreed.few (let m = ap length e in omega (arith, m)))
+        go (f ∷ []) e = the_same (agreed.few (let m = ap length e in omega (arith, m)))
         go (f ∷ g ∷ fs) e = through_one (shared_count env parts Functions) (agreed.calls f g fs e) (calls_each f g fs e)
 
     starts_are : several ≡ b.starts
-    starts_are = rw x.is refl
+    starts_are = ap (λ (b : Begun). b.starts) x.is
 
     begun_starts : StartsAlike c b.starts
     begun_starts = subst (StartsAlike c) starts_are (rw (← y.is) starts_alike)
@@ -225,10 +225,10 @@ module _ (alike : RelatedBegunShowTheSame) (several : OneStartMayCallSeveral) (e
 
       go : StartsAlike c b.starts → ShowInFourMore env moves (Some b) (Some c) n
       go (the_same e) =
-          let same : record c { starts = b.starts } ≡ c = rw (← e) refl in
+          let same : record c { starts = b.starts } ≡ c = ap (λ starts. record c { starts = starts }) (sym e) in
           equal_show env moves (Some b) (Some c) (λ n. as_first n ∙ ap (λ c. events_of tick (fresh_run env (Some c) moves) n) same) n
       go (through_one a e h) =
-          let same : record c { starts = a ∷ [] } ≡ c = rw (← e) refl in
+          let same : record c { starts = a ∷ [] } ≡ c = ap (λ starts. record c { starts = starts }) (sym e) in
           rw (← same)
           (called_show env moves (Some b) (Some (record c { starts = b.starts })) (Some (record c { starts = a ∷ [] })) as_first (several env (record c { starts = b.starts }) a h moves) n)
 

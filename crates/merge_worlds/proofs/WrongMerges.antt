@@ -139,7 +139,7 @@ unfolding out-Instr denote.Hole.Carrier.out wrapped
 the_merged_module_asks_in_order = refl
 
 the_merge_asks_in_order : events (alone (joined_module two_starts mode.Refuse)) both_offered two_answers 14 ≡ asks f ∷ (asks g ∷ (Linked ∷ []))
-the_merge_asks_in_order = rw two_starts_join the_merged_module_asks_in_order
+the_merge_asks_in_order = ap (λ tree. events (alone tree) both_offered two_answers 14) two_starts_join ∙ the_merged_module_asks_in_order
 
 -- the second start is not called
 abbrev pub second_dropped : Module
@@ -225,7 +225,7 @@ unfolding out-Instr denote.Hole.Carrier.out wrapped
 the_merged_module_calls_through_a_table = refl
 
 the_merge_calls_through_a_table : events (alone (joined_module two_types mode.Refuse)) one_offered answer 13 ≡ asks f ∷ (Linked ∷ [])
-the_merge_calls_through_a_table = rw two_types_join the_merged_module_calls_through_a_table
+the_merge_calls_through_a_table = ap (λ tree. events (alone tree) one_offered answer 13) two_types_join ∙ the_merged_module_calls_through_a_table
 
 a_call_by_the_type_of_another_traps : events (alone (two_types_with 0)) one_offered answer 13 ≡ InstanceTrapped ∷ (BadMove ∷ [])
 unfolding out-Instr denote.Hole.Carrier.out wrapped
@@ -271,7 +271,7 @@ the_merged_module_finds_no_page : events (alone (one_memory_from 1)) no_page [] 
 the_merged_module_finds_no_page = refl
 
 the_merge_finds_no_page : events (alone (joined_module one_memory mode.Refuse)) no_page [] 6 ≡ LinkFault ∷ []
-the_merge_finds_no_page = rw one_memory_joins the_merged_module_finds_no_page
+the_merge_finds_no_page = ap (λ tree. events (alone tree) no_page [] 6) one_memory_joins ∙ the_merged_module_finds_no_page
 
 the_first_limits_ask_for_no_page : events (alone (one_memory_from 0)) no_page [] 6 ≡ Linked ∷ []
 the_first_limits_ask_for_no_page = refl
@@ -342,11 +342,11 @@ module _ (moves : List Move) where
   mutual
     silent_at_loop : (n : ℕ) → events_of tick at_loop n ≡ []
     silent_at_loop zero = refl
-    silent_at_loop (suc n) = rw begins (silent_at_branch n)
+    silent_at_loop (suc n) = ap (λ o. noted o.1 (events_of tick o.0 n)) begins ∙ silent_at_branch n
 
     silent_at_branch : (n : ℕ) → events_of tick at_branch n ≡ []
     silent_at_branch zero = refl
-    silent_at_branch (suc n) = rw branches (silent_at_loop n)
+    silent_at_branch (suc n) = ap (λ o. noted o.1 (events_of tick o.0 n)) branches ∙ silent_at_loop n
 
   pub the_parts_show_nothing : (n : ℕ) → events (linked_world no_end mode.Refuse) [] moves n ≡ []
   unfolding all_entities merge_view
