@@ -132,10 +132,10 @@ module _ (laws : SpaceLaws) (env : Environment) (t : Module) (j : Inst) (inst : 
       let many = funcs_counted t.imports 0 in
       let low : x < length (imported_funcs t.imports) = (let l = slice_get_within (imports_of Functions t) x n e in omega (arith, l, many)) in
       let desc = func_desc r.1.desc y.0 (sym r.5 ∙ sym (append_left (imported_funcs t.imports) (map (λ f. f.ty) t.funcs) x low) ∙ y.1) in
-      let asks : asked_at (one t) (site n) ≡ Some (FuncOf ty) = ap (option_and_then (λ i. asked t i.desc)) i ∙ ap (asked t) desc ∙ ap (option_and_then (λ t. Some (FuncOf t))) y.2 in
+      let asks : asked_at (one t) (site n) ≡ Some (FuncOf ty) = rw i (ap (asked t) desc ∙ ap (option_and_then (λ t. Some (FuncOf t))) y.2) in
       let s = (laws.sites (one t) (site n)).1 r.1 i in
       let f = site_fits env (one t) z (site n) r.1 (FuncOf ty) i asks (all_each (is_matched env (one t) z) (sites (one t)) matched s.0 (site n) s.1) in
-      let thing = func_thing f.thing a (sym (ap (option_and_then (address_of Functions)) f.is) ∙ address) in
+      let thing = func_thing f.thing a (sym (rw f.is refl) ∙ address) in
       func_fits z a ty f.type (ap (type_in z) (sym thing) ∙ f.typed) f.fits
 
   -- a function that an index names has the type of that index
@@ -171,8 +171,8 @@ module _ (laws : SpaceLaws) (nothing : StartsTakeNothing) (env : Environment) (p
       at z.funcs (shared_count env parts Functions) ≡ Gives (Code nullary j [] (map Call (starts parts)))
   caller_code inst there f g fs e =
       let q = joined_keeps parts mode in
-      let n = nothing parts (names_of parts mode) can.valid can.linked 0 f (ap (λ l. slice_get l 0) e) in
-      let type : slice_get J.types (place_of_type parts nullary) ≡ Some nullary = ap (λ l. slice_get l (place_of_type parts nullary)) (joined_types parts mode) ∙ n.1 in
+      let n = nothing parts (names_of parts mode) can.valid can.linked 0 f (rw e refl) in
+      let type : slice_get J.types (place_of_type parts nullary) ≡ Some nullary = rw (joined_types parts mode) n.1 in
       let many = defined_many parts in
       let total = defined_before Functions parts (length parts) in
       let last : total ≡ length (defined_funcs parts) + 0 = omega (arith, many) in

@@ -124,7 +124,7 @@ module _ (laws : Laws) (env : Environment) (parts : List Part) (mode : Mode) (ca
     -- an entry of a list of the merged module is one of a part, or one of those that follow
     merged_there : {B : Type 0} (f : A → Option B) → ((p : ℕ) (m : Module) → module_at parts p ≡ Some m → (n : ℕ) (x : A) → slice_get (definitions m) n ≡ Some x → (y : B) × (f (q.new p m x) ≡ Some y)) →
         ((n : ℕ) (x : A) → slice_get q.more n ≡ Some x → (y : B) × (f x ≡ Some y)) → (n : ℕ) (x : A) → slice_get (definitions J) n ≡ Some x → (y : B) × (f x ≡ Some y)
-    merged_there {B} f part last n x h = go (append_from of_parts q.more n x (ap (λ l. slice_get l n) (sym q.is) ∙ h))
+    merged_there {B} f part last n x h = go (append_from of_parts q.more n x (rw (← q.is) h))
       where
         of_parts : List A
         of_parts = by_part_from (λ p m. map (q.new p m) (definitions m)) 0 parts
@@ -134,7 +134,7 @@ module _ (laws : Laws) (env : Environment) (parts : List Part) (mode : Mode) (ca
             let r = by_part_back (λ p m. map (q.new p m) (definitions m)) 0 parts n x g in
             let from_0 : 0 + r.part ≡ r.part = omega arith in
             let m = r.«module» in
-            let o = map_from (q.new r.part m) (definitions m) r.place x (ap (λ p. slice_get (map (q.new p m) (definitions m)) r.place) (sym from_0) ∙ r.got) in
+            let o = map_from (q.new r.part m) (definitions m) r.place x (rw (← from_0) r.got) in
             let y = part r.part m r.is_part r.place o.0 o.1 in
             (y.0, ap f (sym o.2) ∙ y.1)
         go (inr l) = last l.0 x l.2

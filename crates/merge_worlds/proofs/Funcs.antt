@@ -67,4 +67,4 @@ module _ (env : Environment) (parts : List Part) (p : ℕ) (m : Module) (i j : I
   pub funcs_correspond : Laws → (f : tree.Func) → fits_func r f ≡ true → FuncsCorrespond R i j f (renumbered.new_func r f)
   funcs_correspond laws f h =
       let t = slice_get_there m.types f.ty (type_below f.ty (left_true _ _ h)) in
-      record { type = ap (λ ts. slice_get ts f.ty) k.own_types ∙ t.1 ∙ sym (k.types f.ty t.0 t.1); locals = refl; code = code_rel laws f.body (right_true (has r.types f.ty) _ h) }
+      record { type = rw k.own_types (t.1 ∙ sym (k.types f.ty t.0 t.1)); locals = refl; code = code_rel laws f.body (right_true (has r.types f.ty) _ h) }

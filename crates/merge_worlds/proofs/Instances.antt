@@ -44,10 +44,10 @@ space_size xs ys a b e f = length-append xs ys ∙ ap₂ (λ a b. a + b) (sym e)
 module _ (parts : List Part) (p : ℕ) (m : Module) where
   map_is : (k : Space) → is_external k ≡ true → entries (map_of parts p m) k ≡ map (new_index parts p k) (numbers 0 (length (imports_of k m) + defined_count k m))
   unfolding map_of
-  map_is Functions e = ap (λ n. map (new_index parts p Functions) (numbers 0 n)) (space_size (imported_funcs m.imports) (map (λ f. f.ty) m.funcs) _ _ (funcs_counted m.imports 0) (map_length (λ f. f.ty) m.funcs))
-  map_is Tables e = ap (λ n. map (new_index parts p Tables) (numbers 0 n)) (space_size (imported_tables m.imports) m.tables _ _ (tables_counted m.imports 0) refl)
-  map_is Memories e = ap (λ n. map (new_index parts p Memories) (numbers 0 n)) (space_size (imported_memories m.imports) m.mems _ _ (memories_counted m.imports 0) refl)
-  map_is Globals e = ap (λ n. map (new_index parts p Globals) (numbers 0 n)) (space_size (imported_globals m.imports) (map (λ g. g.ty) m.globals) _ _ (globals_counted m.imports 0) (map_length (λ g. g.ty) m.globals))
+  map_is Functions e = rw (space_size (imported_funcs m.imports) (map (λ f. f.ty) m.funcs) _ _ (funcs_counted m.imports 0) (map_length (λ f. f.ty) m.funcs)) refl
+  map_is Tables e = rw (space_size (imported_tables m.imports) m.tables _ _ (tables_counted m.imports 0) refl) refl
+  map_is Memories e = rw (space_size (imported_memories m.imports) m.mems _ _ (memories_counted m.imports 0) refl) refl
+  map_is Globals e = rw (space_size (imported_globals m.imports) (map (λ g. g.ty) m.globals) _ _ (globals_counted m.imports 0) (map_length (λ g. g.ty) m.globals)) refl
   map_is k e = cc
 
   pub entries_many : (k : Space) → is_external k ≡ true → length (entries (map_of parts p m) k) ≡ length (imports_of k m) + defined_count k m
@@ -59,7 +59,7 @@ module _ (parts : List Part) (p : ℕ) (m : Module) where
       let many = entries_many k e in
       let from_0 : 0 + x ≡ x = omega arith in
       slice_index_is (entries (map_of parts p m) k) x (new_index parts p k x)
-      (ap (λ l. slice_get l x) (map_is k e) ∙ map_at (new_index parts p k) (numbers 0 _) x x (numbers_at 0 _ x (omega (arith, l, many)) ∙ ap Some from_0))
+      (rw (map_is k e) (map_at (new_index parts p k) (numbers 0 _) x x (numbers_at 0 _ x (omega (arith, l, many)) ∙ ap Some from_0)))
 
   pub map_elems : (map_of parts p m).elems ≡ numbers (defined_before ElementSegments parts p) (length m.elems)
   unfolding map_of
@@ -99,10 +99,10 @@ module _ (laws : SpaceLaws) (env : Environment) (parts : List Part) (linked : li
       let same = same_Some _ _ e in
       let many = s.many in
       let at : index ≡ length s.imported + d = omega (arith, many, i) in
-      (ap₂ (λ l x. slice_get l x) s.all at ∙ append_right s.imported _ d ∙ numbers_at (own_count k env) (total env parts k + added_count parts k) d (omega (arith, l)) ∙ sym e, omega (arith, same, l))
+      (rw (s.all, at) (append_right s.imported _ d ∙ numbers_at (own_count k env) (total env parts k + added_count parts k) d (omega (arith, l)) ∙ sym e), omega (arith, same, l))
   names_same k ys s a index (stays u h e) =
       let r = all_there_at (site_address env parts k) (staying_of parts k) s.imported s.are index u h in
-      (ap (λ l. slice_get l index) s.all ∙ append_left s.imported _ index (slice_get_within s.imported index r.0 r.2) ∙ r.2 ∙ sym r.1 ∙ sym e, site_low env parts laws.own k u a (sym e))
+      (rw s.all (append_left s.imported _ index (slice_get_within s.imported index r.0 r.2) ∙ r.2 ∙ sym r.1 ∙ sym e), site_low env parts laws.own k u a (sym e))
 
   -- ---- instances that are there ----
 
@@ -146,8 +146,8 @@ module _ (laws : SpaceLaws) (env : Environment) (parts : List Part) (linked : li
               let from_0 : 0 + (first + x) ≡ first + x = omega arith in
               record {
                 address = first + x;
-                first = ap (λ l. slice_get l x) e ∙ at;
-                second = ap₂ (λ l x. slice_get l x) f (slice_index_is (entries_of p m k) x (first + x) (ap (λ l. slice_get l x) g ∙ at)) ∙ numbers_at 0 n (first + x) (omega (arith, l, many, low, c, h)) ∙ ap Some from_0;
+                first = rw e at;
+                second = rw (f, slice_index_is (entries_of p m k) x (first + x) (rw g at)) (numbers_at 0 n (first + x) (omega (arith, l, many, low, c, h)) ∙ ap Some from_0);
                 shared = omega (arith, l, many, low, c);
               }
 

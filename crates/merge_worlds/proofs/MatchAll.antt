@@ -52,7 +52,7 @@ one_site : (m : Module) (t : Site) (x : Import) → import_at (one m) t ≡ Some
 one_site m t x h = by t.part refl h
   where
     by : (p : ℕ) → t.part ≡ p → import_at (one m) (record { part = p; import = t.import }) ≡ Some x → (t ≡ site t.import) × (slice_get m.imports t.import ≡ Some x)
-    by zero e h = (ap (λ p. record { part = p; import = t.import }) e, h)
+    by zero e h = (rw e refl, h)
     by (suc p) e h = absurd (let k = h in cc)
 
 module _ (laws : SpaceLaws) (env : Environment) (parts : List Part) (linked : link_fault parts ≡ None) (mode : Mode) where
@@ -67,7 +67,7 @@ module _ (laws : SpaceLaws) (env : Environment) (parts : List Part) (linked : li
 
   -- an import that ends outside stands for what the one stands for which stays
   thing_outside : (t : Site) (i : Import) (w : EndsOutside parts t i) → imported_thing env parts t ≡ own w.to
-  thing_outside t i w = ap (option_and_then (thing_of env parts)) w.end ∙ w.same_thing (owned_of env)
+  thing_outside t i w = rw w.end (w.same_thing (owned_of env))
 
   -- an import that ends at a staying one
   record EndsAt (u t : Site) : Type 0 where
@@ -98,7 +98,7 @@ module _ (laws : SpaceLaws) (env : Environment) (parts : List Part) (linked : li
     moved_asks _ = refl
 
     pub site_demands : asked_at (one whole) (site n) ≡ Some (kept y (met_limits parts u))
-    site_demands = ap (option_and_then (λ i. asked whole i.desc)) stands ∙ moved_asks (asks_by w.of w.import.desc y (asked_staying parts u w y asks))
+    site_demands = rw stands (moved_asks (asks_by w.of w.import.desc y (asked_staying parts u w y asks)))
 
     pub site_thing : imported_thing env (one whole) (site n) ≡ own u
     site_thing = laws.things env whole n ∙ ap₂ (thing_in env) (joined_types parts mode) stands ∙ moved_thing laws env parts linked u w
@@ -122,18 +122,18 @@ module _ (laws : SpaceLaws) (env : Environment) (parts : List Part) (linked : li
         let f = site_fits env parts s t i.0 a.demand i.1 a.asks (all_each _ (sites parts) all n t stands) in
         let things : f.thing ≡ th = same_Some _ _ (sym f.is ∙ a.thing ∙ is) in
         let types : f.type ≡ type = same_Some _ _ (sym f.typed ∙ ap (type_in s) things ∙ typed) in
-        fits_limits a.demand f.type l k f.fits (sym (asked_limits (site_asks env parts s t i.0 a.demand i.1 a.asks)) ∙ sym (ap (option_and_then (λ i. limits_of i.desc)) i.1) ∙ demands) (ap limits_in types ∙ limits)
+        fits_limits a.demand f.type l k f.fits (sym (asked_limits (site_asks env parts s t i.0 a.demand i.1 a.asks)) ∙ sym (rw i.1 refl) ∙ demands) (ap limits_in types ∙ limits)
 
     merged_matches : AllMatch → (n : ℕ) (x : Import) → slice_get whole.imports n ≡ Some x → is_matched env (one whole) z (site n) ≡ true
     merged_matches all n x h =
-        let c = chosen_from (merged_import parts) (staying parts) n x (ap (λ is. slice_get is n) (sym (joined_imports parts mode)) ∙ h) in
+        let c = chosen_from (merged_import parts) (staying parts) n x (rw (← joined_imports parts mode) h) in
         let u = c.0 in
         let w = staying_is laws parts c.1.0 u c.1.1 in
         let y = demand_of (ended u w.import w.at) in
         let stands = h ∙ sym c.2 ∙ import_is parts u w.of w.import w.is_part w.at in
         let in_sites = (laws.sites parts u).1 w.import w.at in
         let f = site_fits env parts s u w.import y.0 w.at y.1 (all_each _ (sites parts) all in_sites.0 u in_sites.1) in
-        let is : own u ≡ Some f.thing = sym (ap (option_and_then (thing_of env parts)) (laws.stays parts linked u w.import w.at w.remains).0) ∙ f.is in
+        let is : own u ≡ Some f.thing = sym (rw ((laws.stays parts linked u w.import w.at w.remains).0) refl) ∙ f.is in
         fits_site env (one whole) z (site n) _ _ stands (site_demands u w y.0 y.1 n stands) (record {
           thing = f.thing;
           is = site_thing u w y.0 y.1 n stands ∙ is;
@@ -167,7 +167,7 @@ module _ (laws : SpaceLaws) (env : Environment) (parts : List Part) (linked : li
           type = f.type;
           typed = own_type u f.thing is ∙ f.typed;
           fits = fits_kept w.demand w.thing f.type (met_limits parts u) w.same f.fits (λ l e size most h. met_each size most parts u (sites parts) h k t l stands (ap (is_outside u) w.linked ∙ site_same u)
-              (ap (option_and_then (λ i. limits_of i.desc)) at ∙ asked_limits (site_asks env parts s t i w.demand at w.asks) ∙ e));
+              (rw at (asked_limits (site_asks env parts s t i w.demand at w.asks) ∙ e)));
         })
 
     module _ (insts js : List Inst) (agree : InstancesAgree env parts insts js) (made : stores_from env parts insts (own_store env) 0 parts insts ≡ Some s) where
@@ -182,7 +182,7 @@ module _ (laws : SpaceLaws) (env : Environment) (parts : List Part) (linked : li
           let th = and_then_is at_k (type_in s) w.thing (defined_type env (record { parts = parts; insts = insts }) s made e.part w.of a.0 w.is_part a.1 a.2.own_types e.what w.thing w.is follows) in
           fits_site env parts s t i w.demand at w.asks (record {
             thing = th.0;
-            is = ap (option_and_then (thing_of env parts)) w.end ∙ defined_at env parts e w.of w.is_part (omega (arith, follows, within)) ∙ th.1;
+            is = rw w.end (defined_at env parts e w.of w.is_part (omega (arith, follows, within)) ∙ th.1);
             type = w.thing;
             typed = th.2;
             fits = record { same = w.same; meets = w.meets };

@@ -43,7 +43,7 @@ four false b c d = refl
 
 -- both are met where each is met
 meets_both : (size : ℕ) (most : Option ℕ) (l k : Limits) → meets size most (both_limits l k) ≡ meets size most l && meets size most k
-meets_both size most l k = ap₂ (λ a b. a && b) (least_both size l.min k.min) (meets_both_most most l.max k.max) ∙ four (nat_le l.min size) (nat_le k.min size) (meets_most most l.max) (meets_most most k.max)
+meets_both size most l k = rw (least_both size l.min k.min, meets_both_most most l.max k.max) (four (nat_le l.min size) (nat_le k.min size) (meets_most most l.max) (meets_most most k.max))
 
 -- ---- all that is asked for ----
 

@@ -105,7 +105,7 @@ fits_match s m _ _ k = absurd (let z = k.same in cc)
 
 -- related entities of related stores have one type
 pub type_same : (R : Pairing) {s z : Store} → StoreRel R s z → {th ts : Thing} → ThingRel R th ts → type_in s th ≡ type_in z ts
-type_same R like (a_func r) = ap (λ o. option_and_then (λ t. Some (FuncOf t)) (given o)) (same_there (like.types r))
+type_same R like (a_func r) = rw (same_there (like.types r)) refl
 type_same R {s} {z} like (a_table {a = a} {b = b} r) = then_eq (both_placed s.tables z.tables a b (like.tables r)) (λ _ _ r. cc (length_rel r.slots))
 type_same R {s} {z} like (a_memory {a = a} {b = b} r) = then_eq (both_placed s.mems z.mems a b (like.mems r)) (λ _ _ e. ap (λ u. Some (memory_type u)) e)
 type_same R {s} {z} like (a_global {a = a} {b = b} r) = then_eq (both_placed s.globals z.globals a b (like.globals r)) (λ _ _ r. ap (λ t. Some (GlobalOf t)) r.type)
@@ -129,8 +129,8 @@ asked_limits _ = refl
 
 -- the limits of what fits meet those that are asked for
 pub fits_limits : (d y : External) (l k : Limits) → Fits d y → limits_in d ≡ Some l → limits_in y ≡ Some k → meets k.min k.max l ≡ true
-fits_limits (TableOf t) (TableOf u) l k f e g = ap₂ (λ (k l : Limits). meets k.min k.max l) (sym (same_Some _ _ g)) (sym (same_Some _ _ e)) ∙ f.meets
-fits_limits (MemoryOf t) (MemoryOf u) l k f e g = ap₂ (λ (k l : Limits). meets k.min k.max l) (sym (same_Some _ _ g)) (sym (same_Some _ _ e)) ∙ f.meets
+fits_limits (TableOf t) (TableOf u) l k f e g = rw (← same_Some _ _ g, ← same_Some _ _ e) f.meets
+fits_limits (MemoryOf t) (MemoryOf u) l k f e g = rw (← same_Some _ _ g, ← same_Some _ _ e) f.meets
 fits_limits _ _ l k f e g = absurd (let z = f.same in let w = e in cc)
 
 -- what fits also fits with other limits, where its own meet these
@@ -147,7 +147,7 @@ fits_kept (FuncOf t) (FuncOf u) y l same f implied = rw (func_type_is t u same) 
 fits_kept (GlobalOf t) (GlobalOf u) y l same f implied =
     let b = and_parts _ _ same in
     subst (λ u. Fits (GlobalOf u) y) (ap₂ (λ ty mutable. record { ty = ty; mutable = mutable }) (sym (type_is t.ty u.ty b.0)) (sym (bool_is t.mutable u.mutable b.1))) f
-fits_kept (TableOf t) (TableOf u) (TableOf z) l same f implied = record { same = ap (λ r. same_ref r z.ty) (ref_is t.ty u.ty same) ∙ f.same; meets = implied t.limits refl z.limits.min z.limits.max f.meets }
+fits_kept (TableOf t) (TableOf u) (TableOf z) l same f implied = record { same = rw (ref_is t.ty u.ty same) f.same; meets = implied t.limits refl z.limits.min z.limits.max f.meets }
 fits_kept (MemoryOf t) (MemoryOf u) (MemoryOf z) l same f implied = record { same = refl; meets = implied t refl z.min z.max f.meets }
 fits_kept _ _ _ l same f implied = absurd (let z = same in let w = f.same in cc)
 

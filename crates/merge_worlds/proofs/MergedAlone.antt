@@ -125,7 +125,7 @@ module _ (laws : SpaceLaws) (env : Environment) (parts : List Part) (linked : li
           let w = staying_is laws parts n s h in (
             record w.import { desc = merged_desc parts s w.of w.import.desc },
             import_is parts s w.of w.import w.is_part w.at,
-            ap (same_space k) (moved_kind parts s w.of w.import.desc) ∙ sym (ap (λ o. unwrap_or (option_and_then (λ i. Some (has_kind k i)) o) false) w.at),
+            ap (same_space k) (moved_kind parts s w.of w.import.desc) ∙ sym (rw w.at refl),
             λ q. ap (λ o. option_and_then (address_of k) o) (moved_thing s w),
           )
 
@@ -135,5 +135,5 @@ module _ (laws : SpaceLaws) (env : Environment) (parts : List Part) (linked : li
   merged_space mode k e =
       laws.spaces env (joined_module parts mode) k
       ∙ ap₂ (λ o n. option_and_then (λ l. Some (l ++ numbers (own_count k env) n)) o)
-      (ap₂ (λ t i. addresses env t i k) (joined_types parts mode) (joined_imports parts mode) ∙ chosen_addresses k)
+      (rw (joined_types parts mode, joined_imports parts mode) (chosen_addresses k))
       (count_kept (joined_keeps parts mode) k e ∙ laws.counts parts (names_of parts mode) k e)

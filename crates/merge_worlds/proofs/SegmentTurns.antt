@@ -74,7 +74,7 @@ module _ {A : Type 0} (k : Space) (segs : Module → List A) (counts : (m : Modu
         d = stands p m at_p
 
         dropped : drop (length (segs m)) (drop (defined_before k parts p) (addresses_in k j)) ≡ drop (defined_before k parts (suc p)) (addresses_in k j)
-        dropped = drop-drop (length (segs m)) (defined_before k parts p) (addresses_in k j) ∙ ap (λ i. drop i (addresses_in k j)) (ap (λ n. defined_before k parts p + n) (sym (counts m)) ∙ sym (before_next k parts p m at_p))
+        dropped = drop-drop (length (segs m)) (defined_before k parts p) (addresses_in k j) ∙ ap (λ i. drop i (addresses_in k j)) (rw (← counts m) (sym (before_next k parts p m at_p)))
 
         many : length (numbers (defined_before k parts p) (length (segs m))) ≡ length (segs m)
         many = length-numbers (defined_before k parts p) (length (segs m))

@@ -127,7 +127,7 @@ module _ (env : Environment) (parts : List Part) where
     pub import_stands : (k : Space) (p : ℕ) (m : Module) (x n : ℕ) → module_at parts p ≡ Some m → slice_get (imports_of k m) x ≡ Some n → Stands k (import_address env parts k p n) (new_index parts p k x)
     import_stands k p m x n is h =
         let i = import_there k m x n h in
-        by i.import i.kind (laws.ends parts linked (record { part = p; import = n }) i.import (ap (λ o. option_and_then (λ m. slice_get m.imports n) o) is ∙ i.at))
+        by i.import i.kind (laws.ends parts linked (record { part = p; import = n }) i.import (rw is i.at))
       where
         by : (i : Import) → space_of_import i.desc ≡ k → Ended parts (record { part = p; import = n }) i → Stands k (import_address env parts k p n) (new_index parts p k x)
         by i kind (inside w) = inside_stands k p m x n i is h kind w

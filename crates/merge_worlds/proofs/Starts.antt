@@ -67,7 +67,7 @@ shared_with_self env parts j (cons {a = a} w r) = cons (shares env parts Functio
 
 few_starts : (env : Environment) (parts : List Part) (j : Inst) (n : ℕ) {several fs : List ℕ} → ListRel (IsNamed env parts j) several fs → length fs < 2 → start_in j (start_among n fs) ++ [] ≡ several
 few_starts env parts j n nil l = refl
-few_starts env parts j n (cons w nil) l = ap (λ o. one_place o ++ []) w.names
+few_starts env parts j n (cons w nil) l = rw w.names refl
 few_starts env parts j n (cons w (cons v r)) l = absurd (omega (arith, l))
 
 module _ (laws : SpaceLaws) (env : Environment) (parts : List Part) (linked : link_fault parts ≡ None) (mode : Mode) (fit : AllFit parts) (insts js : List Inst) (agree : InstancesAgree env parts insts js) where
@@ -101,7 +101,7 @@ module _ (laws : SpaceLaws) (env : Environment) (parts : List Part) (linked : li
       let s = merged_part laws env parts linked mode Functions refl agree.merged (subst (IsInst env (one J) 0 J) (same_Some j.0 agree.merged same) j.2) in
       let many = s.many in
       let total = defined_before Functions parts (length parts) in
-      let more : added_count parts Functions ≡ 1 = ap (λ fs. length (start_calls parts fs)) e in
+      let more : added_count parts Functions ≡ 1 = rw e refl in
       let at : length (staying_of parts Functions) + total ≡ length s.imported + total = omega (arith, many) in
       ap₂ (λ l n. slice_get l n) s.all at ∙ append_right s.imported _ total ∙ numbers_at (own_count Functions env) (total + added_count parts Functions) total (omega (arith, more))
 

@@ -79,7 +79,7 @@ module _ (reads : ReadsStay) (env : Environment) (u : Module) (j : Inst) (are : 
 
   -- a global has the value of the environment's at its address, where it is an import, and otherwise none that is read; its address is then none of the environment's
   pub global_value : (y a : ℕ) → slice_get j.globals y ≡ Some a → value_of env (one u) (j ∷ []) 0 (const.Global y) ≡ option_and_then (λ g. Some g.value) (slice_get (own_globals env) a)
-  global_value y a h = ap (λ o. option_and_then (value_of_read (own_globals env) (j ∷ [])) o) (reads u (const.Global y)) ∙ go (entry_at env (one u) Globals 0 u j.globals (is_space env (one u) Globals 0 u j.globals is_inst.globals) y a h)
+  global_value y a h = rw (reads u (const.Global y)) (go (entry_at env (one u) Globals 0 u j.globals (is_space env (one u) Globals 0 u j.globals is_inst.globals) y a h))
     where
       go : Entry env (one u) Globals 0 u y a → option_and_then (value_of_read (own_globals env) (j ∷ [])) (read_in u.imports (const.Global y)) ≡ option_and_then (λ g. Some g.value) (slice_get (own_globals env) a)
       go (imports n at address) =

@@ -49,7 +49,7 @@ module _ (laws : Laws) (env : Environment) (parts : List Part) (mode : Mode) whe
         then_rel (names_one env parts Functions k.funcs f h) (λ _ _ r. some (reference (func (some r))))
     read_rel q m i k (const.Global x) h =
         let a = k.globals.each x (ltb-true _ _ h) in
-        opt_at (ap (λ o. option_and_then (λ a. option_and_then (λ g. Some g.value) (slice_get (own_globals env) a)) o) a.first)
+        opt_at (rw a.first refl)
         (global_value laws.alone_reads env (joined_module parts mode) j are (slice_index (map_of parts q m).globals x) a.address a.second)
         (then_rel (place_rel (own_entities env parts laws.own).globals a.address) (λ _ _ g. some g.value))
 

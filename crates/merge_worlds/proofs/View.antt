@@ -40,7 +40,7 @@ module _ (env : Environment) (parts : List Part) (fit : AllFit parts) (insts js 
   entity_seen : (p : ℕ) (m : Module) → module_at parts p ≡ Some m → (e : Export) → fits_export (map_of parts p m) e ≡ true → Sees env parts insts js (record { part = p; what = e.desc }) (new_export (map_of parts p m) e)
   entity_seen p m is e h name =
       let i = agree.each p m is in
-      let second : slice_get js 0 ≡ Some agree.merged = ap (λ l. slice_get l 0) agree.alone in
+      let second : slice_get js 0 ≡ Some agree.merged = rw agree.alone refl in
       rw (i.1, second) (then_rel (export_named env parts p m i.0 agree.merged i.2 e.desc h) (λ _ _ r. some (record { key = refl; thing = r })))
 
   entities_seen : ListRel (Sees env parts insts js) (all_entities parts) (all_exports parts)

@@ -151,7 +151,7 @@ module _ (spaces : SpaceLaws) (laws : Laws) (nothing : StartsTakeNothing) (simil
         record {
           inst = j;
           calls = starts parts;
-          code = ap (λ fs. at fs (shared_count env parts Functions)) same_funcs ∙ caller_code spaces nothing env parts mode can j y.allocated inst there f g fs e;
+          code = rw same_funcs (caller_code spaces nothing env parts mode can j y.allocated inst there f g fs e);
           each = starts_typed spaces nothing env parts mode can j y.allocated inst there y.matched several agreed.named (NamesStart after j)
               (λ f a named typed. record { named = named; typed = ap (λ fs. bind (at fs a) (λ f. Gives (type_of_func f))) same_funcs ∙ typed });
         }
@@ -225,10 +225,10 @@ module _ (alike : RelatedBegunShowTheSame) (several : OneStartMayCallSeveral) (e
 
       go : StartsAlike c b.starts → ShowInFourMore env moves (Some b) (Some c) n
       go (the_same e) =
-          let same : record c { starts = b.starts } ≡ c = ap (λ starts. record c { starts = starts }) (sym e) in
+          let same : record c { starts = b.starts } ≡ c = rw (← e) refl in
           equal_show env moves (Some b) (Some c) (λ n. as_first n ∙ ap (λ c. events_of tick (fresh_run env (Some c) moves) n) same) n
       go (through_one a e h) =
-          let same : record c { starts = a ∷ [] } ≡ c = ap (λ starts. record c { starts = starts }) (sym e) in
+          let same : record c { starts = a ∷ [] } ≡ c = rw (← e) refl in
           rw (← same)
           (called_show env moves (Some b) (Some (record c { starts = b.starts })) (Some (record c { starts = a ∷ [] })) as_first (several env (record c { starts = b.starts }) a h moves) n)
 

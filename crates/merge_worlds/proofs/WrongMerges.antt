@@ -342,11 +342,11 @@ module _ (moves : List Move) where
   mutual
     silent_at_loop : (n : ℕ) → events_of tick at_loop n ≡ []
     silent_at_loop zero = refl
-    silent_at_loop (suc n) = ap (λ o. noted o.1 (events_of tick o.0 n)) begins ∙ silent_at_branch n
+    silent_at_loop (suc n) = rw begins (silent_at_branch n)
 
     silent_at_branch : (n : ℕ) → events_of tick at_branch n ≡ []
     silent_at_branch zero = refl
-    silent_at_branch (suc n) = ap (λ o. noted o.1 (events_of tick o.0 n)) branches ∙ silent_at_loop n
+    silent_at_branch (suc n) = rw branches (silent_at_loop n)
 
   pub the_parts_show_nothing : (n : ℕ) → events (linked_world no_end mode.Refuse) [] moves n ≡ []
   unfolding all_entities merge_view
