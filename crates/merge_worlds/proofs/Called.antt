@@ -127,10 +127,10 @@ module _ (laws : SpaceLaws) (env : Environment) (t : Module) (j : Inst) (inst : 
   import_typed matched x n a ty e address h =
       let y = and_then_is (slice_get (funcs_of t) x) (slice_get t.types) ty h in
       let r = place_of (has_kind Functions) (λ i. func_of i.desc) t.imports (λ i. func_kind i.desc) 0 x n e in
-      let k : n ≡ r.0 = (let d = r.2 in omega (arith, d)) in
+      let k : n ≡ r.0 = (let d = r.2 in omega arith) in
       let i : slice_get t.imports n ≡ Some r.1 = ap (slice_get t.imports) k ∙ r.3 in
       let many = funcs_counted t.imports 0 in
-      let low : x < length (imported_funcs t.imports) = (let l = slice_get_within (imports_of Functions t) x n e in omega (arith, l, many)) in
+      let low : x < length (imported_funcs t.imports) = (let l = slice_get_within (imports_of Functions t) x n e in omega arith) in
       let desc = func_desc r.1.desc y.0 (sym r.5 ∙ sym (append_left (imported_funcs t.imports) (map (λ f. f.ty) t.funcs) x low) ∙ y.1) in
       let asks : asked_at (one t) (site n) ≡ Some (FuncOf ty) = rw i (ap (asked t) desc ∙ ap (option_and_then (λ t. Some (FuncOf t))) y.2) in
       let s = (laws.sites (one t) (site n)).1 r.1 i in
@@ -145,8 +145,8 @@ module _ (laws : SpaceLaws) (env : Environment) (t : Module) (j : Inst) (inst : 
       go : Entry env (one t) Functions 0 t x a → type_at z a ≡ Gives ty
       go (imports n at address) = import_typed matched x n a ty at address e
       go (defines n at low is) =
-          let back : base env (one t) Functions 0 + (x - length (imports_of Functions t)) ≡ a = omega (arith, at, is) in
-          ap (type_at z) (sym back) ∙ func_typed env (record { parts = one t; insts = j ∷ [] }) z there 0 t j refl refl inst.types x ty (omega (arith, at)) e
+          let back : base env (one t) Functions 0 + (x - length (imports_of Functions t)) ≡ a = omega arith in
+          ap (type_at z) (sym back) ∙ func_typed env (record { parts = one t; insts = j ∷ [] }) z there 0 t j refl refl inst.types x ty (omega arith) e
 
 -- ---- the merged module's ----
 
@@ -175,7 +175,7 @@ module _ (laws : SpaceLaws) (nothing : StartsTakeNothing) (env : Environment) (p
       let type : slice_get J.types (place_of_type parts nullary) ≡ Some nullary = rw (joined_types parts mode) n.1 in
       let many = defined_many parts in
       let total = defined_before Functions parts (length parts) in
-      let last : total ≡ length (defined_funcs parts) + 0 = omega (arith, many) in
+      let last : total ≡ length (defined_funcs parts) + 0 = omega arith in
       let func : slice_get J.funcs total ≡ Some (record { ty = place_of_type parts nullary; locals = []; body = map Call (f ∷ g ∷ fs) }) =
       ap₂ (λ l n. slice_get l n) (q.funcs ∙ funcs_are parts (names_of parts mode)) last ∙ append_right (defined_funcs parts) (start_calls parts (starts parts)) 0 ∙ ap (λ l. slice_get (start_calls parts l) 0) e in
       at_is z.funcs (shared_count env parts Functions) _ (own_func_at laws env J j inst z there total _ nullary func type)

@@ -105,7 +105,7 @@ module _ (laws : Laws) (env : Environment) (parts : List Part) (mode : Mode) (ca
     stood p m is n x h e = let i = each p m is in record { part = p; of = m; is_part = is; inst = i.0; is_inst = i.1; place = n; definition = x; stands = h; address = e }
 
     abbrev moved : (p : ℕ) (m : Module) → module_at parts p ≡ Some m → (n : ℕ) (x : A) → slice_get (definitions m) n ≡ Some x → {a : ℕ} → a ≡ base env parts k p + n → DefinedAt env w k definitions a
-    moved p m is n x h e = record { part = 0; of = J; is_part = refl; inst = j; is_inst = refl; place = defined_before k parts p + n; definition = q.new p m x; stands = becomes p m n x is h; address = omega (arith, e) }
+    moved p m is n x h e = record { part = 0; of = J; is_part = refl; inst = j; is_inst = refl; place = defined_before k parts p + n; definition = q.new p m x; stands = becomes p m n x is h; address = omega arith }
 
     partner : (correspond : ℕ → Inst → A → ℕ → Inst → A → Type 0) → ((p : ℕ) (m : Module) (i : Inst) → module_at parts p ≡ Some m → PartAgrees env parts p m i j → (n : ℕ) (x : A) → slice_get (definitions m) n ≡ Some x → correspond p i x 0 j (q.new p m x)) →
         (a b : ℕ) → R.of k a b → Partners env v w k definitions correspond a b

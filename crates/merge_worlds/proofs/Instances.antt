@@ -59,7 +59,7 @@ module _ (parts : List Part) (p : ℕ) (m : Module) where
       let many = entries_many k e in
       let from_0 : 0 + x ≡ x = omega arith in
       slice_index_is (entries (map_of parts p m) k) x (new_index parts p k x)
-      (rw (map_is k e) (map_at (new_index parts p k) (numbers 0 _) x x (numbers_at 0 _ x (omega (arith, l, many)) ∙ ap Some from_0)))
+      (rw (map_is k e) (map_at (new_index parts p k) (numbers 0 _) x x (numbers_at 0 _ x (omega arith) ∙ ap Some from_0)))
 
   pub map_elems : (map_of parts p m).elems ≡ numbers (defined_before ElementSegments parts p) (length m.elems)
   unfolding map_of
@@ -98,8 +98,8 @@ module _ (laws : SpaceLaws) (env : Environment) (parts : List Part) (linked : li
   names_same k ys s a index (own d l e i) =
       let same = same_Some _ _ e in
       let many = s.many in
-      let at : index ≡ length s.imported + d = omega (arith, many, i) in
-      (rw (s.all, at) (append_right s.imported _ d ∙ numbers_at (own_count k env) (total env parts k + added_count parts k) d (omega (arith, l)) ∙ sym e), omega (arith, same, l))
+      let at : index ≡ length s.imported + d = omega arith in
+      (rw (s.all, at) (append_right s.imported _ d ∙ numbers_at (own_count k env) (total env parts k + added_count parts k) d (omega arith) ∙ sym e), omega arith)
   names_same k ys s a index (stays u h e) =
       let r = all_there_at (site_address env parts k) (staying_of parts k) s.imported s.are index u h in
       (rw s.all (append_left s.imported _ index (slice_get_within s.imported index r.0 r.2) ∙ r.2 ∙ sym r.1 ∙ sym e), site_low env parts laws.own k u a (sym e))
@@ -117,8 +117,8 @@ module _ (laws : SpaceLaws) (env : Environment) (parts : List Part) (linked : li
     tables = agrees Tables refl;
     mems = agrees Memories refl;
     globals = agrees Globals refl;
-    elems = segments_agree ElementSegments (length J.elems) a.elems b.elems (map_elems parts p m) refl (let e = ap length (joined_keeps parts mode).elems ∙ length-append (merged parts (names_of parts mode)).elems (last_segments (declared_refs (merged parts (names_of parts mode)))) in let d = elems_many parts (names_of parts mode) in omega (arith, e, d));
-    datas = segments_agree DataSegments (length J.datas) a.datas b.datas (map_datas parts p m) refl (let e = ap length (joined_keeps parts mode).datas in let d = datas_many parts (names_of parts mode) in omega (arith, e, d));
+    elems = segments_agree ElementSegments (length J.elems) a.elems b.elems (map_elems parts p m) refl (let e = ap length (joined_keeps parts mode).elems ∙ length-append (merged parts (names_of parts mode)).elems (last_segments (declared_refs (merged parts (names_of parts mode)))) in let d = elems_many parts (names_of parts mode) in omega arith);
+    datas = segments_agree DataSegments (length J.datas) a.datas b.datas (map_datas parts p m) refl (let e = ap length (joined_keeps parts mode).datas in let d = datas_many parts (names_of parts mode) in omega arith);
   }
     where
       agrees : (k : Space) → is_external k ≡ true → SpaceAgrees env parts k (addresses_in k i) (addresses_in k j) (entries_of p m k)
@@ -130,7 +130,7 @@ module _ (laws : SpaceLaws) (env : Environment) (parts : List Part) (linked : li
           each s x l =
               let n = s.size in
               let c = entries_many parts p m k e in
-              let o = slice_get_there (addresses_in k i) x (omega (arith, l, n, c)) in
+              let o = slice_get_there (addresses_in k i) x (omega arith) in
               let q = names_same k (addresses_in k j) (merged_part k e j b) o.0 (new_index parts p k x) (entry_stands env parts laws linked k p m x o.0 is (entry_at env parts k p m (addresses_in k i) s x o.0 o.1)) in
               record { address = o.0; first = o.1; second = ap (slice_get (addresses_in k j)) (entry_is parts p m k e x l) ∙ q.0; shared = q.1 }
 
@@ -142,13 +142,13 @@ module _ (laws : SpaceLaws) (env : Environment) (parts : List Part) (linked : li
               let first = defined_before k parts p in
               let many = ap length g ∙ length-numbers first count in
               let low = defined_low k parts p m is in
-              let at = numbers_at first count x (omega (arith, l, many)) in
+              let at = numbers_at first count x (omega arith) in
               let from_0 : 0 + (first + x) ≡ first + x = omega arith in
               record {
                 address = first + x;
                 first = rw e at;
-                second = rw (f, slice_index_is (entries_of p m k) x (first + x) (rw g at)) (numbers_at 0 n (first + x) (omega (arith, l, many, low, c, h)) ∙ ap Some from_0);
-                shared = omega (arith, l, many, low, c);
+                second = rw (f, slice_index_is (entries_of p m k) x (first + x) (rw g at)) (numbers_at 0 n (first + x) (omega arith) ∙ ap Some from_0);
+                shared = omega arith;
               }
 
   both_there : (insts js : List Inst) → insts_from env parts 0 parts ≡ Some insts → insts_from env (one J) 0 (one J) ≡ Some js → InstancesAgree env parts insts js

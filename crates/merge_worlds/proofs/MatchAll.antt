@@ -182,7 +182,7 @@ module _ (laws : SpaceLaws) (env : Environment) (parts : List Part) (linked : li
           let th = and_then_is at_k (type_in s) w.thing (defined_type env (record { parts = parts; insts = insts }) s made e.part w.of a.0 w.is_part a.1 a.2.own_types e.what w.thing w.is follows) in
           fits_site env parts s t i w.demand at w.asks (record {
             thing = th.0;
-            is = rw w.end (defined_at env parts e w.of w.is_part (omega (arith, follows, within)) ∙ th.1);
+            is = rw w.end (defined_at env parts e w.of w.is_part (omega arith) ∙ th.1);
             type = w.thing;
             typed = th.2;
             fits = record { same = w.same; meets = w.meets };

@@ -29,7 +29,7 @@ use Rattle.base_lists.proofs.Places.{map_from, append_right}
 -- what comes after the imports is what the module defines
 after : {A : Type 0} (xs ys : List A) (n i : ℕ) (x : A) → n ≡ length xs → n ≤ i → slice_get (xs ++ ys) i ≡ Some x → slice_get ys (i - n) ≡ Some x
 after xs ys n i x e le h =
-    let at_i : length xs + (i - n) ≡ i = omega (arith, e, le) in
+    let at_i : length xs + (i - n) ≡ i = omega arith in
     sym (append_right xs ys (i - n)) ∙ ap (slice_get (xs ++ ys)) at_i ∙ h
 
 module _ (env : Environment) (w : Instantiated) (s : Store) (made : stores_from env w.parts w.insts (own_store env) 0 w.parts w.insts ≡ Some s) (q : ℕ) (m : Module) (i : Inst) (is : module_at w.parts q ≡ Some m) (there : slice_get w.insts q ≡ Some i) (types : i.types ≡ m.types) where

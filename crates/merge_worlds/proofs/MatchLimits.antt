@@ -15,14 +15,14 @@ both_limits l k = record { min = max l.min k.min; max = least l.max k.max }
 least_both : (n a b : ℕ) → nat_le (max a b) n ≡ nat_le a n && nat_le b n
 least_both n a b =
     same_tests (nat_le (max a b) n) (nat_le a n && nat_le b n)
-    (λ h. let l = leb-true (max a b) n h in and_from (nat_le a n) (nat_le b n) (le-leb a n (omega (arith, l))) (le-leb b n (omega (arith, l))))
-    (λ h. let p = and_parts (nat_le a n) (nat_le b n) h in let l = leb-true a n p.0 in let k = leb-true b n p.1 in le-leb (max a b) n (omega (arith, l, k)))
+    (λ h. let l = leb-true (max a b) n h in and_from (nat_le a n) (nat_le b n) (le-leb a n (omega arith)) (le-leb b n (omega arith)))
+    (λ h. let p = and_parts (nat_le a n) (nat_le b n) h in let l = leb-true a n p.0 in let k = leb-true b n p.1 in le-leb (max a b) n (omega arith))
 
 most_both : (n a b : ℕ) → nat_le n (min a b) ≡ nat_le n a && nat_le n b
 most_both n a b =
     same_tests (nat_le n (min a b)) (nat_le n a && nat_le n b)
-    (λ h. let l = leb-true n (min a b) h in and_from (nat_le n a) (nat_le n b) (le-leb n a (omega (arith, l))) (le-leb n b (omega (arith, l))))
-    (λ h. let p = and_parts (nat_le n a) (nat_le n b) h in let l = leb-true n a p.0 in let k = leb-true n b p.1 in le-leb n (min a b) (omega (arith, l, k)))
+    (λ h. let l = leb-true n (min a b) h in and_from (nat_le n a) (nat_le n b) (le-leb n a (omega arith)) (le-leb n b (omega arith)))
+    (λ h. let p = and_parts (nat_le n a) (nat_le n b) h in let l = leb-true n a p.0 in let k = leb-true n b p.1 in le-leb n (min a b) (omega arith))
 
 only_true : (b : Bool) → b ≡ b && true
 only_true true = refl

@@ -53,21 +53,21 @@ entries x =
 -- a module of few entries, whose one function, if it has one, has few locals
 few_are_bounded : (x : Module) → entries x < 2 ^ 32 → length x.funcs < 2 → ((f : Func) → slice_get x.funcs 0 ≡ Some f → local_count x.types f < 2 ^ 32) → IsBounded x
 few_are_bounded x few one locals = record {
-  types = omega (arith, few);
-  imports = omega (arith, few);
-  funcs = omega (arith, few);
-  tables = omega (arith, few);
-  memories = omega (arith, few);
-  globals = omega (arith, few);
-  exports = omega (arith, few);
-  elems = omega (arith, few);
-  datas = omega (arith, few);
+  types = omega arith;
+  imports = omega arith;
+  funcs = omega arith;
+  tables = omega arith;
+  memories = omega arith;
+  globals = omega arith;
+  exports = omega arith;
+  elems = omega arith;
+  datas = omega arith;
   locals = each;
 }
   where
     each : (n : ℕ) (f : Func) → slice_get x.funcs n ≡ Some f → local_count x.types f < 2 ^ 32
     each zero f e = locals f e
-    each (suc n) f e = let l = slice_get_within x.funcs (suc n) f e in absurd (omega (arith, l, one))
+    each (suc n) f e = let l = slice_get_within x.funcs (suc n) f e in absurd (omega arith)
 
 -- what the law `merged_modules_show_the_same` says, with this merge in the place of `joined_module`
 abbrev ShowsTheSame : (List Part → Mode → Module) → Type 0
@@ -255,7 +255,7 @@ one_memory_is_computed = record { linked = one_memory_has_no_fault; names = refl
     few _ = omega arith
 
 memory_is_valid : (n : ℕ) → n < 2 → IsValid (one_memory_from n)
-memory_is_valid n few = ((own_memory n, refl, (tt, omega (arith, few), tt)), tt)
+memory_is_valid n few = ((own_memory n, refl, (tt, omega arith, tt)), tt)
 
 memory_is_bounded : (n : ℕ) → IsBounded (one_memory_from n)
 memory_is_bounded n = few_are_bounded (one_memory_from n) (omega arith) (omega arith) (λ f e. cc)

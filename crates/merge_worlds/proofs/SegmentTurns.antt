@@ -26,8 +26,8 @@ before_next k [] p m h = cc
 before_next k (part ∷ parts) zero m h =
     let n = before_start k parts in
     let l = ap (defined_count k) (same_Some _ _ h) in
-    omega (arith, n, l)
-before_next k (part ∷ parts) (suc p) m h = let n = before_next k parts p m h in omega (arith, n)
+    omega arith
+before_next k (part ∷ parts) (suc p) m h = let n = before_next k parts p m h in omega arith
 
 -- a place at which one address stands in both lists
 record OneAddress (xs ys : List ℕ) (n : ℕ) : Type 0 where
@@ -61,7 +61,7 @@ module _ {A : Type 0} (k : Space) (segs : Module → List A) (counts : (m : Modu
       let o = same 0 (omega arith) in
       let is : x ≡ y = same_Some _ _ (o.first ∙ sym o.second) in
       both (rw (← is) (each 0 x e refl refl))
-      (in_part p i new xs ys es rest more (λ n l. let o = same (suc n) (omega (arith, l)) in record { address = o.address; first = o.first; second = o.second }) (λ n a e h k. each (suc n) a e h k) then)
+      (in_part p i new xs ys es rest more (λ n l. let o = same (suc n) (omega arith) in record { address = o.address; first = o.first; second = o.second }) (λ n a e h k. each (suc n) a e h k) then)
 
   module _ (more : List A) (nothing : (ns : List ℕ) → Ordered [] (tasks_in 0 j ns more)) (stands : (p : ℕ) (m : Module) → module_at parts p ≡ Some m → PartStands p m) where
     one_part : (p : ℕ) (m : Module) (later : List (Task A)) (behind : List A) → module_at parts p ≡ Some m → (i : Inst) → slice_get insts p ≡ Some i → Ordered later (tasks_in 0 j (drop (defined_before k parts (suc p)) (addresses_in k j)) behind) →

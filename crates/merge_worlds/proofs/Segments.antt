@@ -87,7 +87,7 @@ module _ (laws : Laws) (env : Environment) (parts : List Part) (mode : Mode) (ca
           let t = map_from (λ t. t.ty) (tables_of m) x e.ty h.0 in
           let there = slice_get_within (tables_of m) x t.0 t.1 in
           let many = tables_many parts p m in
-          segments.ElemsPartner.active (shares env parts ElementSegments a lt) (names_one env parts Tables k.tables x (lt-ltb x _ (omega (arith, there, many)))) (offset_is p m offset I32 is h.1)
+          segments.ElemsPartner.active (shares env parts ElementSegments a lt) (names_one env parts Tables k.tables x (lt-ltb x _ (omega arith))) (offset_is p m offset I32 is h.1)
       go elem.Passive h = segments.ElemsPartner.passive
       go elem.Declarative h = segments.ElemsPartner.declarative
 
@@ -120,7 +120,7 @@ module _ (laws : Laws) (env : Environment) (parts : List Part) (mode : Mode) (ca
       go (data'.Active x offset) h =
           let there = h.0 in
           let many = mems_many parts p m in
-          segments.DatasPartner.active (shares env parts DataSegments a lt) (names_one env parts Memories k.mems x (lt-ltb x _ (omega (arith, there, many)))) (offset_is p m offset I32 is h.1)
+          segments.DatasPartner.active (shares env parts DataSegments a lt) (names_one env parts Memories k.mems x (lt-ltb x _ (omega arith))) (offset_is p m offset I32 is h.1)
       go data'.Passive h = segments.DatasPartner.passive
 
   pub datas_in_order : DatasInOrder R env v w

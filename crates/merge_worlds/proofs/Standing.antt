@@ -46,15 +46,15 @@ import_external _ = refl
 -- what the first parts and one more have, all have
 pub before_low : (count : Module → ℕ) (parts : List Part) (p : ℕ) (m : Module) → module_at parts p ≡ Some m → before count parts p + count m ≤ before count parts (length parts)
 before_low count [] p m e = absurd (let k = e in cc)
-before_low count (part ∷ parts) zero m e = let same : part.«module» ≡ m = cc in let n = ap count same in omega (arith, n)
-before_low count (part ∷ parts) (suc p) m e = let l = before_low count parts p m e in omega (arith, l)
+before_low count (part ∷ parts) zero m e = let same : part.«module» ≡ m = cc in let n = ap count same in omega arith
+before_low count (part ∷ parts) (suc p) m e = let l = before_low count parts p m e in omega arith
 
 pub defined_low : (k : Space) (parts : List Part) (p : ℕ) (m : Module) → module_at parts p ≡ Some m → defined_before k parts p + defined_count k m ≤ defined_before k parts (length parts)
 defined_low k parts p m e =
     let l = before_low (defined_count k) parts p m e in
     let a = defined_is k parts p in
     let b = defined_is k parts (length parts) in
-    omega (arith, l, a, b)
+    omega arith
 
 -- ---- imports of a part ----
 
@@ -66,7 +66,7 @@ pub record IsImport (k : Space) (m : Module) (n : ℕ) : Type 0 where
 pub import_there : (k : Space) (m : Module) (x n : ℕ) → slice_get (imports_of k m) x ≡ Some n → IsImport k m n
 import_there k m x n h =
     let r = place_back (has_kind k) m.imports 0 x n h in
-    let same : n ≡ r.0 = (let d = r.2 in omega (arith, d)) in
+    let same : n ≡ r.0 = (let d = r.2 in omega arith) in
     record { import = r.1; at = ap (slice_get m.imports) same ∙ r.3; kind = sym (kind_is k (space_of_import r.1.desc) r.4) }
 
 -- ---- the environment's own ----
@@ -110,11 +110,11 @@ module _ (env : Environment) (parts : List Part) where
         let low = defined_low k parts e.part w.of w.is_part in
         let same : space_of_export e.what ≡ k = w.kind ∙ kind in
         let thing : option_and_then (address_of k) (defined_thing env parts e) ≡ Some (base env parts k e.part + j) =
-        ap (λ o. option_and_then (address_of k) o) (defined_at env parts e w.of w.is_part (rw same (omega (arith, follows, within))))
+        ap (λ o. option_and_then (address_of k) o) (defined_at env parts e w.of w.is_part (rw same (omega arith)))
         ∙ ap (λ l. option_and_then (address_of k) (thing_at l (base env parts l e.part + (index_of_export e.what - length (imports_of l w.of))))) same
         ∙ address_at k (base env parts k e.part + j) (ap is_external (sym kind) ∙ import_external i.desc) in
         let number : base env parts k e.part + j ≡ own_count k env + d = omega arith in
-        own d (omega (arith, follows, within, low))
+        own d (omega arith)
         (rw w.end (thing ∙ ap Some number))
         ((laws.indices parts p m k x is).0 n (Defined e) h w.linked ∙ laws.defined parts e w.of k w.is_part)
 
@@ -138,7 +138,7 @@ module _ (env : Environment) (parts : List Part) where
     entry_stands k p m x a is (imports n h e) = rw (← e) (import_stands k p m x n is h)
     entry_stands k p m x a is (defines j at l e) =
         let low = defined_low k parts p m is in
-        let back : x - length (imports_of k m) ≡ j = omega (arith, at) in
-        let number : a ≡ own_count k env + (defined_before k parts p + j) = omega (arith, e) in
-        own (defined_before k parts p + j) (omega (arith, low, l)) (ap Some number)
-        ((laws.indices parts p m k x is).1 (slice_get_past (imports_of k m) x (omega (arith, at))) ∙ ap (λ j. length (staying_of parts k) + (defined_before k parts p + j)) back)
+        let back : x - length (imports_of k m) ≡ j = omega arith in
+        let number : a ≡ own_count k env + (defined_before k parts p + j) = omega arith in
+        own (defined_before k parts p + j) (omega arith) (ap Some number)
+        ((laws.indices parts p m k x is).1 (slice_get_past (imports_of k m) x (omega arith)) ∙ ap (λ j. length (staying_of parts k) + (defined_before k parts p + j)) back)

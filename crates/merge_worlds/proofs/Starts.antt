@@ -68,7 +68,7 @@ shared_with_self env parts j (cons {a = a} w r) = cons (shares env parts Functio
 few_starts : (env : Environment) (parts : List Part) (j : Inst) (n : ℕ) {several fs : List ℕ} → ListRel (IsNamed env parts j) several fs → length fs < 2 → start_in j (start_among n fs) ++ [] ≡ several
 few_starts env parts j n nil l = refl
 few_starts env parts j n (cons w nil) l = rw w.names refl
-few_starts env parts j n (cons w (cons v r)) l = absurd (omega (arith, l))
+few_starts env parts j n (cons w (cons v r)) l = absurd (omega arith)
 
 module _ (laws : SpaceLaws) (env : Environment) (parts : List Part) (linked : link_fault parts ≡ None) (mode : Mode) (fit : AllFit parts) (insts js : List Inst) (agree : InstancesAgree env parts insts js) where
   abbrev J : Module
@@ -102,8 +102,8 @@ module _ (laws : SpaceLaws) (env : Environment) (parts : List Part) (linked : li
       let many = s.many in
       let total = defined_before Functions parts (length parts) in
       let more : added_count parts Functions ≡ 1 = rw e refl in
-      let at : length (staying_of parts Functions) + total ≡ length s.imported + total = omega (arith, many) in
-      ap₂ (λ l n. slice_get l n) s.all at ∙ append_right s.imported _ total ∙ numbers_at (own_count Functions env) (total + added_count parts Functions) total (omega (arith, more))
+      let at : length (staying_of parts Functions) + total ≡ length s.imported + total = omega arith in
+      ap₂ (λ l n. slice_get l n) s.all at ∙ append_right s.imported _ total ∙ numbers_at (own_count Functions env) (total + added_count parts Functions) total (omega arith)
 
   pub starts_agree : insts_from env (one J) 0 (one J) ≡ Some js → StartsAgree env parts agree.merged (starts_of parts insts) (starts_of (one J) js)
   starts_agree there = record {

@@ -35,15 +35,15 @@ import_at k (i ∷ is) from y n h = by (λ y h. import_at k is (suc from) y n h)
   where
     by : ((y : ℕ) → slice_get (places (has_kind k) is (suc from)) y ≡ Some n → ImportAt k is (suc from) y n) → (b : Bool) → has_kind k i ≡ b →
         (y : ℕ) → slice_get (cond b (from ∷ places (has_kind k) is (suc from)) (places (has_kind k) is (suc from))) y ≡ Some n → ImportAt k (i ∷ is) from y n
-    by on true e zero h = let same : from ≡ n = cc in record { at = 0; import = i; is = omega (arith, same); got = refl; index = refl }
+    by on true e zero h = let same : from ≡ n = cc in record { at = 0; import = i; is = omega arith; got = refl; index = refl }
     by on true e (suc y) h =
         let r = on y h in
         let d = r.is in
-        record { at = suc r.at; import = r.import; is = omega (arith, d); got = r.got; index = ap (λ b. cond b (suc (space_index is r.at k)) (space_index is r.at k)) e ∙ ap suc r.index }
+        record { at = suc r.at; import = r.import; is = omega arith; got = r.got; index = ap (λ b. cond b (suc (space_index is r.at k)) (space_index is r.at k)) e ∙ ap suc r.index }
     by on false e y h =
         let r = on y h in
         let d = r.is in
-        record { at = suc r.at; import = r.import; is = omega (arith, d); got = r.got; index = ap (λ b. cond b (suc (space_index is r.at k)) (space_index is r.at k)) e ∙ r.index }
+        record { at = suc r.at; import = r.import; is = omega arith; got = r.got; index = ap (λ b. cond b (suc (space_index is r.at k)) (space_index is r.at k)) e ∙ r.index }
 
 -- the global.get of an import reads that import
 read_here : (is : List Import) (y : ℕ) → y < length (import_places Globals is) → read_in is (const.Global y) ≡ Some (record { part = 0; expr = const.Global y })
@@ -51,7 +51,7 @@ read_here is y lt =
     let n = slice_get_there (import_places Globals is) y lt in
     let r = import_at Globals is 0 y n.0 n.1 in
     let d = r.is in
-    let at : n.0 ≡ r.at = omega (arith, d) in
+    let at : n.0 ≡ r.at = omega arith in
     ap (λ o. option_and_then as_read (option_and_then (λ n. option_and_then (λ i. Some (space_index is n Globals)) (slice_get is n)) o)) (n.1 ∙ ap Some at)
     ∙ ap (λ o. option_and_then as_read (option_and_then {T = Import} (λ i. Some (space_index is r.at Globals)) o)) r.got
     ∙ ap {A = ℕ} {B = Option Read} (λ y. Some (record { part = 0; expr = const.Global y })) r.index
@@ -75,7 +75,7 @@ module _ (reads : ReadsStay) (env : Environment) (u : Module) (j : Inst) (are : 
       let c = length-append (imported_funcs u.imports) (map (λ f. f.ty) u.funcs) in
       let d = map_length (λ f. f.ty) u.funcs in
       let e = funcs_counted u.imports 0 in
-      omega (arith, a, c, d, e)
+      omega arith
 
   -- a global has the value of the environment's at its address, where it is an import, and otherwise none that is read; its address is then none of the environment's
   pub global_value : (y a : ℕ) → slice_get j.globals y ≡ Some a → value_of env (one u) (j ∷ []) 0 (const.Global y) ≡ option_and_then (λ g. Some g.value) (slice_get (own_globals env) a)
@@ -85,4 +85,4 @@ module _ (reads : ReadsStay) (env : Environment) (u : Module) (j : Inst) (are : 
       go (imports n at address) =
           rw (read_here u.imports y (slice_get_within (import_places Globals u.imports) y n at), h) refl
       go (defines n at low is) =
-          rw (read_past u.imports y (omega (arith, at)), slice_get_past (own_globals env) a (omega (arith, is))) refl
+          rw (read_past u.imports y (omega arith), slice_get_past (own_globals env) a (omega arith)) refl

@@ -160,8 +160,8 @@ module _ (spaces : SpaceLaws) (laws : Laws) (nothing : StartsTakeNothing) (simil
     starts_alike = go (starts parts) refl
       where
         go : (l : List ℕ) → starts parts ≡ l → StartsAlike (begun env (alone J) y.insts y.view (segments env M y.insts y.allocated)) several
-        go [] e = the_same (agreed.few (let m = ap length e in omega (arith, m)))
-        go (f ∷ []) e = the_same (agreed.few (let m = ap length e in omega (arith, m)))
+        go [] e = the_same (agreed.few (let m = ap length e in omega arith))
+        go (f ∷ []) e = the_same (agreed.few (let m = ap length e in omega arith))
         go (f ∷ g ∷ fs) e = through_one (shared_count env parts Functions) (agreed.calls f g fs e) (calls_each f g fs e)
 
     starts_are : several ≡ b.starts
