@@ -26,7 +26,6 @@ defined_among k (part ∷ parts) n h = go (cases_lt n (defined_count k part.«mo
     go (inl low) later = (0, part.«module», n, refl, low, omega arith)
     go (inr high) later =
         let r = later (n - defined_count k part.«module») (omega arith) in
-        let e = r.5 in
         (suc r.0, r.1, r.2, r.3, r.4, omega arith)
 
 -- what stands at an address below all of them: one of the environment's own, or what a part defines
@@ -41,5 +40,4 @@ stands env parts k a h = go (cases_lt a (own_count k env))
     go (inl low) = own low
     go (inr high) =
         let r = defined_among k parts (a - own_count k env) (omega arith) in
-        let e = r.5 in
         defined r.0 r.1 r.2 r.3 r.4 (omega arith)

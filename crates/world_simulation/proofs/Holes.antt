@@ -131,7 +131,6 @@ space_moves P l from gap count fewer r within smaller equal related x y h move =
         let z = y - length l in
         let first : x ≡ length l + suc z = omega arith in
         let second : y ≡ length l + z = omega arith in
-        let s = smaller (omega arith) in
         opt_at (ap (slice_get (l ++ numbers from count)) first ∙ append_right l _ (suc z) ∙ numbers_at from count (suc z) (omega arith)) (ap (slice_get (l ++ numbers from fewer)) second ∙ append_right l _ z ∙ numbers_at from fewer z (omega arith))
         (some (related (from + suc z) (from + z) (high (omega arith) (omega arith) (omega arith))))
 
@@ -198,7 +197,6 @@ module _ (env : Environment) (t u : Module) (i j : Inst) where
           at : (x y : ℕ) → c ≡ own_count k env + x → (d ≡ own_count k env + y) × Moved gap x y → x < defined_count k t → Partners env v w k definitions correspond c d
           at x y first second_is within =
               let e = slice_get_there (definitions t) x (rw (← counts t) within) in
-              let d_is = second_is.0 in
               partners.defined (record { part = 0; of = t; is_part = refl; inst = i; is_inst = refl; place = x; definition = e.0; stands = e.1; address = omega arith })
               (record { part = 0; of = u; is_part = refl; inst = j; is_inst = refl; place = y; definition = new e.0; stands = second x y e.0 e.1 second_is.1; address = omega arith })
               (alike x e.0 e.1 (never second_is.1))

@@ -64,7 +64,6 @@ module _ (env : Environment) (parts : List Part) (k : Space) (p : ℕ) (m : Modu
           let r = all_there_at (import_address env parts k p) (imports_of k m) s.imported s.are x n.0 n.1 in
           imports n.0 n.1 (r.1 ∙ sym r.2 ∙ e)
       go (inr j) =
-          let at = j.1 in
           let r = number_is (base env parts k p) (defined_count k m) j.0 a j.2 in
           defines j.0 (omega (arith, many)) r.0 r.1
 
@@ -85,7 +84,6 @@ inst_is env parts p m i h =
     let t = and_then_is (space env parts Tables p m) _ i f.2 in
     let s = and_then_is (space env parts Memories p m) _ i t.2 in
     let g = and_then_is (space env parts Globals p m) _ i s.2 in
-    let q = g.2 in
     let same : record { types = m.types; funcs = f.0; tables = t.0; mems = s.0; globals = g.0; elems = numbers (defined_before ElementSegments parts p) (length m.elems); datas = numbers (defined_before DataSegments parts p) (length m.datas) } ≡ i = cc in
     record {
       types = rw (← same) refl;

@@ -86,14 +86,12 @@ module _ (of : Space → ℕ → ℕ → Bool) (m : Remap) (kept : Indices) (t u
         (x : ℕ) → has (numbers 0 size) x ≡ true → OptRel (R.of k) (slice_get xs x) (slice_get ys (slice_index (numbers 0 size) x))
     plain_rel k xs ys size hx hy related counts size_is x h =
         let s = stays_at size x h in
-        let l = s.1 in
         space_rel k xs ys (defined_count k t) hx hy related (omega arith) (λ c. absurd (omega arith)) (λ e. omega arith) x _ (omega arith) (stays (omega arith) (sym s.0))
 
     pub segments_rel : (k : Space) (xs ys : List ℕ) (count fewer : ℕ) → xs ≡ numbers 0 count → ys ≡ numbers 0 fewer → count ≤ fewer → ((a b : ℕ) → Down (0 + count) (0 + count) a b → R.of k a b) →
         (x : ℕ) → has (numbers 0 count) x ≡ true → OptRel (R.of k) (slice_get xs x) (slice_get ys (slice_index (numbers 0 count) x))
     segments_rel k xs ys count fewer hx hy more related x h =
         let s = stays_at count x h in
-        let l = s.1 in
         opt_at (rw hx refl) (rw hy refl)
         (space_moves (R.of k) [] 0 count count fewer nil (omega arith) (λ c. absurd (omega arith)) (λ e. more) related x _ (omega arith) (stays (omega arith) (sym s.0)))
 

@@ -43,7 +43,6 @@ elem_few : (value : ConstExpr → Option Val) (d : ElemSeg) (e : Elem) → elem_
 elem_few value d e h =
     let i = and_then_is (all_there (λ x. option_and_then (λ v. given (ref_of v)) (value x)) d.items) _ e h in
     let many = all_there_length (λ x. option_and_then (λ v. given (ref_of v)) (value x)) d.items i.0 i.1 in
-    let last = i.2 in
     let same : new_elem d.mode i.0 ≡ e = cc in
     rw (← same) (few d.mode i.0 many)
   where

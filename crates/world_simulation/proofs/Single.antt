@@ -52,7 +52,6 @@ module _ (R : Pairing) (env : Environment) (own : SharesOwn R env) where
   pub space_at : (t : Module) (k : Space) (xs : List ℕ) → space env (one t) k 0 t ≡ Some xs → SpaceAt t k xs
   space_at t k xs h =
       let x = and_then_is (addresses env t.types t.imports k) _ xs (sym (space_is env t k) ∙ h) in
-      let q = x.2 in
       let same : x.0 ++ numbers (own_count k env) (defined_count k t) ≡ xs = cc in
       record { imported = x.0; are = x.1; many = all_there_length _ (import_places k t.imports) x.0 x.1; all = sym same; shared = opt_self (addresses_rel t.types t.imports k) x.1 }
 
@@ -90,7 +89,6 @@ module _ (R : Pairing) (env : Environment) (own : SharesOwn R env) where
 pub one_inst : (env : Environment) (t : Module) (is : List Inst) → insts_from env (one t) 0 (one t) ≡ Some is → (i : Inst) × (is ≡ i ∷ []) × IsInst env (one t) 0 t i
 one_inst env t is h =
     let i = and_then_is (world.inst_of env (one t) 0 t) _ is h in
-    let q = i.2 in
     let same : i.0 ∷ [] ≡ is = cc in
     (i.0, sym same, inst_is env (one t) 0 t i.0 i.1)
 

@@ -37,7 +37,6 @@ module _ (env : Environment) (w : Instantiated) (s : Store) (made : stores_from 
   stands_for {k} {get = get} allocates {a} d size =
       let r = stands env w.parts w.insts allocates 0 w.parts w.insts (own_store env) s made d.part d.of d.inst d.is_part d.is_inst in
       let from_0 : 0 + d.part ≡ d.part = omega arith in
-      let address = d.address in
       let at : a ≡ (length (get (own_store env)) + defined_before k w.parts d.part) + d.place = omega arith in
       (r.added, subst (λ p. Adds env w.parts w.insts p d.of d.inst r.added) from_0 r.adds, λ x h. ap (slice_get (get s)) at ∙ r.at d.place x h)
 
