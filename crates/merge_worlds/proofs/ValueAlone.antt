@@ -42,7 +42,6 @@ import_at k (i ∷ is) from y n h = by (λ y h. import_at k is (suc from) y n h)
         record { at = suc r.at; import = r.import; is = omega arith; got = r.got; index = ap (λ b. cond b (suc (space_index is r.at k)) (space_index is r.at k)) e ∙ ap suc r.index }
     by on false e y h =
         let r = on y h in
-        let d = r.is in
         record { at = suc r.at; import = r.import; is = omega arith; got = r.got; index = ap (λ b. cond b (suc (space_index is r.at k)) (space_index is r.at k)) e ∙ r.index }
 
 -- the global.get of an import reads that import
@@ -50,7 +49,6 @@ read_here : (is : List Import) (y : ℕ) → y < length (import_places Globals i
 read_here is y lt =
     let n = slice_get_there (import_places Globals is) y lt in
     let r = import_at Globals is 0 y n.0 n.1 in
-    let d = r.is in
     let at : n.0 ≡ r.at = omega arith in
     ap (λ o. option_and_then as_read (option_and_then (λ n. option_and_then (λ i. Some (space_index is n Globals)) (slice_get is n)) o)) (n.1 ∙ ap Some at)
     ∙ ap (λ o. option_and_then as_read (option_and_then {T = Import} (λ i. Some (space_index is r.at Globals)) o)) r.got
