@@ -31,15 +31,13 @@ use Rattle.merge_worlds.proofs.ValueGiven.{Laws}
 use Rattle.merge_worlds.proofs.Values.{are_one}
 use Rattle.merge_worlds.proofs.Instances.{instances_agree}
 use Rattle.world_simulation.proofs.Ordered.{inst_at}
-use Rattle.merge_worlds.proofs.Named.{AllFit}
-use Rattle.merge_worlds.proofs.View.{view_agrees}
+use Rattle.merge_worlds.proofs.Named.{AllFit, view_agrees}
 use Rattle.merge_worlds.proofs.Segments.{elems_in_order, datas_in_order}
 use Rattle.merge_worlds.proofs.Definitions.{definitions_correspond, stores_both}
 use Rattle.world_simulation.specs.Definitions.{DefinitionsCorrespond}
 use Rattle.world_simulation.specs.Simulation.{IsInstantiated, WhatIsInstantiated, AreSimilar, AllocatedStoresCorrespond, SimilarWorldsBeginAlike}
-use Rattle.merge_worlds.proofs.MatchAll.{all_matched}
-use Rattle.merge_worlds.proofs.Starts.{StartsAgree, starts_agree}
-use Rattle.merge_worlds.proofs.Called.{segments_keep_funcs, caller_code, starts_typed}
+use Rattle.merge_worlds.proofs.Matching.{all_matched}
+use Rattle.merge_worlds.proofs.Starts.{StartsAgree, starts_agree, segments_keep_funcs, caller_code, starts_typed}
 
 -- the second starts what the first does, or one function that calls these
 data StartsAlike (c : Begun) (several : List ℕ) : Type 0 where

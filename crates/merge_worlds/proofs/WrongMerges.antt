@@ -19,7 +19,7 @@ use Rattle.wasm_meaning.specs.State.{Text, Level, Running, Opening}
 use Rattle.wasm_meaning.specs.Linking.{Part, same_text}
 use Rattle.wasm_meaning.specs.Environment.{Environment, Offer, is_environment}
 use Rattle.wasm_meaning.specs.World.{alone, instantiate}
-use Rattle.base_simulation.specs.Machines.{noted, events_of, state_after}
+use Rattle.base_simulation.specs.Machines.{events_of, state_after}
 use Rattle.wasm_meaning.specs.Run.{Event, Linked, LinkFault, InstanceTrapped, Asked, BadMove, Move, Answer, Run, IsPrefix, fresh_run, tick, events}
 use Rattle.export_names.specs.declared.mode.Mode.TheVariants as mode
 use Rattle.merge_terms.specs.Faults.{link_fault, import_fault, stays, kept_limits, clash_fault, memory_count, memory_fault, own_globals, global_fault}
