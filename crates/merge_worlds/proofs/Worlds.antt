@@ -16,7 +16,7 @@ use Rattle.index_remap.specs.Laws.{EntryByEntry}
 use Rattle.world_simulation.specs.Alone.{one}
 use Rattle.world_simulation.specs.Instances.{RelatedBegunShowTheSame}
 use Rattle.world_simulation.specs.Starts.{NamesStart, CallsEach, OneStartMayCallSeveral}
-use Rattle.world_simulation.proofs.Places.{then_rel, opt_both, all_rel}
+use Rattle.world_simulation.proofs.Places.{then_rel, opt_both, all_rel, alike_there}
 use Rattle.export_names.specs.declared.mode.Mode.{Mode}
 use Rattle.merge_terms.specs.Merged.{starts}
 use Rattle.merge_terms.specs.Joined.{joined_module}
@@ -174,20 +174,14 @@ module _ (spaces : SpaceLaws) (laws : Laws) (nothing : StartsTakeNothing) (simil
   -- ---- both are instantiated or neither ----
 
   begun_or_none : OptRel (BegunAgree R) (instantiate env (linked_world parts mode)) (instantiate env (alone J))
-  begun_or_none = go (instantiate env (linked_world parts mode)) (instantiate env (alone J)) refl refl linked
-    where
-      go : (o p : Option Begun) → instantiate env (linked_world parts mode) ≡ o → instantiate env (alone J) ≡ p → is_there o ≡ is_there p → OptRel (BegunAgree R) o p
-      go None None f g e = none
-      go None (Some c) f g e = cc
-      go (Some b) None f g e = cc
-      go (Some b) (Some c) f g e =
-          let x = made_law env (linked_world parts mode) b f in
-          let y = made_law env (alone J) c g in
-          let q = similar_law (is_shared env parts) (one_to_one env parts) env (linked_world parts mode) (alone J) similar b c f g in
-          some (record {
-            related = record { store = q.store; entries = cons (opening (shared_starts b c x y)) nil; closed = nil; trapped = q.trapped; view = q.view; owned = q.owned };
-            starts = begun_starts b c x y;
-          })
+  begun_or_none = alike_there _ _ linked (λ b c f g.
+      let x = made_law env (linked_world parts mode) b f in
+      let y = made_law env (alone J) c g in
+      let q = similar_law (is_shared env parts) (one_to_one env parts) env (linked_world parts mode) (alone J) similar b c f g in
+      record {
+        related = record { store = q.store; entries = cons (opening (shared_starts b c x y)) nil; closed = nil; trapped = q.trapped; view = q.view; owned = q.owned };
+        starts = begun_starts b c x y;
+      })
 
 -- ---- what is seen ----
 

@@ -1,8 +1,7 @@
 -- Segments of two worlds, partners in the same order, are copied to related stores, and trap in both or neither.
 use Rattle.std.proofs.Common.{◌≡◌, ℕ, zero, suc, ◌+◌, List, [], ◌∷◌, ◌++◌, length, Option, Some, Bool, true, false, cond, ◌⊎◌, inl, inr, refl, sym, ap, subst, ◌∙◌, arith, slice_get}
-use Rattle.base_lists.proofs.Numbers.{numbers_at}
 use Rattle.base_lists.proofs.Places.{append_from}
-use Rattle.std.proofs.lemmas.Option.{same_Some, slice_get_within}
+use Rattle.std.proofs.lemmas.Option.{same_Some}
 use Rattle.wasm_tree.specs.declared.space.Space.{Space}
 use Rattle.wasm_tree.specs.declared.space.Space.TheVariants.{Tables, Memories, ElementSegments, DataSegments}
 use Rattle.wasm_tree.specs.declared.module.ConstExpr.{ConstExpr}
@@ -23,7 +22,7 @@ use Rattle.index_remap.proofs.StepsAgree.{changed_rel}
 use Rattle.world_simulation.specs.Definitions.{Instantiated, DefinedAt, values_in}
 use Rattle.world_simulation.specs.Segments.{InOrder, ElemsPartner, ElemAlone, DatasPartner, DataAlone, alone_in_first, offset_in, ElemsInOrder, DatasInOrder}
 use Rattle.world_simulation.specs.Segments as segments
-use Rattle.world_simulation.proofs.Places.{then_rel, then_same}
+use Rattle.world_simulation.proofs.Places.{then_rel, then_same, number_is}
 use Rattle.world_simulation.proofs.Instancing.{IsInst, inst_in}
 use Rattle.world_simulation.proofs.Copied.{both_placed, HasRoom, run_elem_room, run_data_room, Kept, nothing_kept, Copies, elem_copied, data_copied}
 
@@ -86,10 +85,8 @@ module _ (env : Environment) (w : Instantiated) (k : Space) {A : Type 0} (defini
           Defines env w k definitions (tasks_by definitions adds (suc p) parts is) → (d : DefinedAt env w k definitions x.address) × (d.definition ≡ x.segment)
       go (inl e) later =
           let t = task_at p i (adds i) (definitions part.«module») n x e in
-          let low = slice_get_within (definitions part.«module») n x.segment t.1 in
-          let both : Some (base env w.parts k p + n) ≡ Some x.address = sym (numbers_at (base env w.parts k p) (length (definitions part.«module»)) n low) ∙ sym (rw (first p part.«module» i is_part is_inst) refl) ∙ t.0 in
-          let same : base env w.parts k p + n ≡ x.address = cc in
-          (record { part = p; of = part.«module»; is_part = is_part; inst = i; is_inst = is_inst; place = n; definition = x.segment; stands = t.1; address = sym same }, refl)
+          let r = number_is (base env w.parts k p) (length (definitions part.«module»)) n x.address (sym (ap (λ l. slice_get l n) (first p part.«module» i is_part is_inst)) ∙ t.0) in
+          (record { part = p; of = part.«module»; is_part = is_part; inst = i; is_inst = is_inst; place = n; definition = x.segment; stands = t.1; address = r.1 }, refl)
       go (inr l) later = later l.0 x l.2
 
   all_defined : Defines env w k definitions (tasks_by definitions adds 0 w.parts w.insts)

@@ -3,7 +3,7 @@ use Rattle.std.proofs.Common.{◌≡◌, ℕ, zero, suc, ◌+◌, ◌<◌, ◌�
 use Rattle.base_lists.proofs.Numbers.{length-numbers, numbers_at}
 use Rattle.std.proofs.lemmas.Option.{slice_get_within, same_Some}
 use Rattle.wasm_meaning.specs.Outcomes.{Outcome, Gives, IllTyped, at}
-use Rattle.wasm_meaning.specs.World.{numbers, all_there}
+use Rattle.wasm_meaning.specs.World.{numbers, all_there, is_there}
 pub use Rattle.base_lists.proofs.Bools.{left_true, right_true}
 pub use Rattle.index_remap.proofs.Rel.{then_rel, then_rel_is}
 use Rattle.std.specs.List.{list_all}
@@ -71,6 +71,13 @@ both_or_none None None pair left right = none
 both_or_none (Some a) (Some b) pair left right = some (pair a b refl refl)
 both_or_none (Some a) None pair left right = absurd (let x = left a refl in let z = x.1 in cc)
 both_or_none None (Some b) pair left right = absurd (let x = right b refl in let z = x.1 in cc)
+
+-- both are there or neither
+pub alike_there : {A B : Type 0} {P : A → B → Type 0} (o : Option A) (p : Option B) → is_there o ≡ is_there p → ((a : A) (b : B) → o ≡ Some a → p ≡ Some b → P a b) → OptRel P o p
+alike_there None None e pair = none
+alike_there (Some a) (Some b) e pair = some (pair a b refl refl)
+alike_there None (Some b) e pair = cc
+alike_there (Some a) None e pair = cc
 
 -- ---- lists that are related ----
 

@@ -10,13 +10,13 @@ use Rattle.wasm_tree.specs.declared.module.ConstExpr.{ConstExpr}
 use Rattle.wasm_meaning.specs.Values.{ref_of, null_of}
 use Rattle.wasm_meaning.specs.Linking.{sites}
 use Rattle.wasm_meaning.specs.Environment.{Environment, all_of}
-use Rattle.wasm_meaning.specs.World.{World, Begun, given, insts_from, stores_from, own_store, all_there, seen_as, is_matched, new_elem, elem_with, segments, starts_of, begun, instantiate, is_there, links}
-use Rattle.index_remap.specs.Related.{Pairing, OneToOne, OptRel, none, some, ListRel, nil, cons, opening}
+use Rattle.wasm_meaning.specs.World.{World, Begun, given, insts_from, stores_from, own_store, all_there, seen_as, is_matched, new_elem, elem_with, segments, starts_of, begun, instantiate, links}
+use Rattle.index_remap.specs.Related.{Pairing, OneToOne, OptRel, ListRel, nil, cons, opening}
 use Rattle.index_remap.specs.RelatedRuns.{BegunRel}
 use Rattle.index_remap.specs.Laws.{EntryByEntry}
 use Rattle.world_simulation.specs.Definitions.{Instantiated, values_in}
 use Rattle.world_simulation.specs.Simulation.{IsInstantiated, in_world, WorldsCorrespond, AreSimilar, StartAlike, BegunAlike}
-use Rattle.world_simulation.proofs.Places.{all_rel, opt_both}
+use Rattle.world_simulation.proofs.Places.{all_rel, opt_both, alike_there}
 use Rattle.world_simulation.proofs.Owned.{owned_rel}
 use Rattle.world_simulation.proofs.Stored.{table_placed, memory_placed, elem_placed, data_placed, stores_rel}
 use Rattle.world_simulation.proofs.Copied.{HasRoom}
@@ -106,10 +106,4 @@ module _ (R : Pairing) (apart : OneToOne R) (env : Environment) (v w : World) (s
 
   -- both or neither
   pub instances_rel : StartAlike R env v w → links env v ≡ links env w → OptRel (BegunRel R (EntryByEntry R)) (instantiate env v) (instantiate env w)
-  instances_rel starts linked = go (instantiate env v) (instantiate env w) refl refl linked
-    where
-      go : (o p : Option Begun) → instantiate env v ≡ o → instantiate env w ≡ p → is_there o ≡ is_there p → OptRel (BegunRel R (EntryByEntry R)) o p
-      go None None f g e = none
-      go (Some b) (Some c) f g e = some (begun_rel starts b c f g)
-      go None (Some c) f g e = cc
-      go (Some b) None f g e = cc
+  instances_rel starts linked = alike_there _ _ linked (begun_rel starts)
