@@ -65,10 +65,10 @@ pub data Asks (m : Module) : ImportDesc → External → Type 0 where
   global : {t : GlobalType} → Asks m (im.Global t) (GlobalOf t)
 
 pub asks_by : (m : Module) (d : ImportDesc) (x : External) → asked m d ≡ Some x → Asks m d x
-asks_by m (im.Func ty) x h = let t = and_then_is (slice_get m.types ty) (λ t. Some (FuncOf t)) x h in subst (Asks m (im.Func ty)) (same_Some _ _ t.2) (func t.1)
-asks_by m (im.Table t) x h = subst (Asks m (im.Table t)) (same_Some _ _ h) table
-asks_by m (im.Memory l) x h = subst (Asks m (im.Memory l)) (same_Some _ _ h) memory
-asks_by m (im.Global t) x h = subst (Asks m (im.Global t)) (same_Some _ _ h) global
+asks_by m (im.Func ty) x h = let t = and_then_is (slice_get m.types ty) (λ t. Some (FuncOf t)) x h in rw (← same_Some _ _ t.2) (func t.1)
+asks_by m (im.Table t) x h = rw (← same_Some _ _ h) table
+asks_by m (im.Memory l) x h = rw (← same_Some _ _ h) memory
+asks_by m (im.Global t) x h = rw (← same_Some _ _ h) global
 
 -- what matches has a type that fits
 match_fits : (s : Store) (m : Module) {d : ImportDesc} {x : External} → Asks m d x → (th : Thing) → is_match s m d th ≡ Some true → (y : External) × (type_in s th ≡ Some y) × Fits x y
@@ -94,10 +94,10 @@ data Typed (s : Store) : Thing → External → Type 0 where
   is_global : {a : ℕ} {g : Global} → slice_get s.globals a ≡ Some g → Typed s (GlobalAt a) (GlobalOf g.ty)
 
 typed_by : (s : Store) (th : Thing) (y : External) → type_in s th ≡ Some y → Typed s th y
-typed_by s (FuncAt a) y h = let u = and_then_is (given (type_at s a)) (λ t. Some (FuncOf t)) y h in subst (Typed s (FuncAt a)) (same_Some _ _ u.2) (is_func u.1)
-typed_by s (TableAt a) y h = let u = and_then_is (slice_get s.tables a) (λ u. Some (table_type u)) y h in subst (Typed s (TableAt a)) (same_Some _ _ u.2) (is_table u.1)
-typed_by s (MemoryAt a) y h = let u = and_then_is (slice_get s.mems a) (λ u. Some (memory_type u)) y h in subst (Typed s (MemoryAt a)) (same_Some _ _ u.2) (is_memory u.1)
-typed_by s (GlobalAt a) y h = let u = and_then_is (slice_get s.globals a) (λ g. Some (GlobalOf g.ty)) y h in subst (Typed s (GlobalAt a)) (same_Some _ _ u.2) (is_global u.1)
+typed_by s (FuncAt a) y h = let u = and_then_is (given (type_at s a)) (λ t. Some (FuncOf t)) y h in rw (← same_Some _ _ u.2) (is_func u.1)
+typed_by s (TableAt a) y h = let u = and_then_is (slice_get s.tables a) (λ u. Some (table_type u)) y h in rw (← same_Some _ _ u.2) (is_table u.1)
+typed_by s (MemoryAt a) y h = let u = and_then_is (slice_get s.mems a) (λ u. Some (memory_type u)) y h in rw (← same_Some _ _ u.2) (is_memory u.1)
+typed_by s (GlobalAt a) y h = let u = and_then_is (slice_get s.globals a) (λ g. Some (GlobalOf g.ty)) y h in rw (← same_Some _ _ u.2) (is_global u.1)
 
 -- and what has such a type matches
 fits_match : (s : Store) (m : Module) {d : ImportDesc} {x : External} {th : Thing} {y : External} → Asks m d x → Typed s th y → Fits x y → is_match s m d th ≡ Some true

@@ -209,7 +209,7 @@ module _ (laws : Laws) (env : Environment) (parts : List Part) (mode : Mode) (ca
       (λ p m is. let i = agree.each p m is in record {
         inst = i.0;
         is = i.1;
-        agrees = subst (SpaceAgrees env parts ElementSegments i.0.elems j.elems) (map_elems parts p m) i.2.elems;
+        agrees = rw (← map_elems parts p m) i.2.elems;
         each = λ x a e h lt. elem_partners p m i.0 a e is i.2 (elem_holds laws m (can.valid p m is) x e h) lt;
       })
       J (elems_join parts mode).is _ _ (elems_by 0 parts insts) (ap (elem_tasks 0 (one J)) agree.alone)
@@ -233,7 +233,7 @@ module _ (laws : Laws) (env : Environment) (parts : List Part) (mode : Mode) (ca
       (λ p m is. let i = agree.each p m is in record {
         inst = i.0;
         is = i.1;
-        agrees = subst (SpaceAgrees env parts DataSegments i.0.datas j.datas) (map_datas parts p m) i.2.datas;
+        agrees = rw (← map_datas parts p m) i.2.datas;
         each = λ x a d h lt. data_partners p m i.0 a d is i.2 (data_holds laws m (can.valid p m is) x d h) lt;
       })
       J (datas_join parts mode).is _ _ (datas_by 0 parts insts) (ap (data_tasks 0 (one J)) agree.alone)

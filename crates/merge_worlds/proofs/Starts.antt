@@ -132,7 +132,7 @@ module _ (laws : SpaceLaws) (env : Environment) (parts : List Part) (linked : li
   last_named there f g fs e =
       let j = one_inst env J js there in
       let same = ap (λ l. slice_get l 0) (sym j.1 ∙ agree.alone) in
-      let s = merged_part laws env parts linked mode Functions refl agree.merged (subst (IsInst env (one J) 0 J) (same_Some j.0 agree.merged same) j.2) in
+      let s = merged_part laws env parts linked mode Functions refl agree.merged (rw (← same_Some j.0 agree.merged same) j.2) in
       let many = s.many in
       let total = defined_before Functions parts (length parts) in
       let more : added_count parts Functions ≡ 1 = rw e refl in

@@ -166,7 +166,7 @@ module _ (spaces : SpaceLaws) (laws : Laws) (nothing : StartsTakeNothing) (simil
     starts_are = ap (λ (b : Begun). b.starts) x.is
 
     begun_starts : StartsAlike c b.starts
-    begun_starts = subst (StartsAlike c) starts_are (rw (← y.is) starts_alike)
+    begun_starts = rw (← starts_are) (rw (← y.is) starts_alike)
 
     shared_starts : ListRel (R.of Functions) b.starts b.starts
     shared_starts = rw (← starts_are) agreed.shared
@@ -205,7 +205,7 @@ module _ (env : Environment) (moves : List Move) where
       ((n : ℕ) → IsPrefix (events_of tick (fresh_run env x moves) n) (events_of tick (fresh_run env y moves) (n + 2)) × IsPrefix (events_of tick (fresh_run env y moves) n) (events_of tick (fresh_run env x moves) n)) → (n : ℕ) → ShowInFourMore env moves b y n
   called_show b x y e h n = (
     more_steps env y moves _ (n + 2) (n + 4) (omega arith) (rw (e n) (h n).0),
-    more_steps env b moves _ n (n + 4) (omega arith) (subst (IsPrefix (events_of tick (fresh_run env y moves) n)) (sym (e n)) (h n).1),
+    more_steps env b moves _ n (n + 4) (omega arith) (rw (e n) (h n).1),
   )
 
 module _ (alike : RelatedBegunShowTheSame) (several : OneStartMayCallSeveral) (env : Environment) (parts : List Part) (moves : List Move) where

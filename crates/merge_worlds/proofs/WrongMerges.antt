@@ -94,13 +94,13 @@ two_answers = Answer [] ∷ answer
 refused : (parts : List Part) (wrong : Module) (env : Environment) (moves : List Move) (n : ℕ) (xs ys : List Event) → IsTrue (is_environment env) →
     events (linked_world parts mode.Refuse) env moves n ≡ xs → events (alone wrong) env moves (n + 4) ≡ ys → (IsPrefix xs ys → ⊥) → BehavesAs parts mode.Refuse wrong → ⊥
 refused parts wrong env moves n xs ys fit seen shown apart same =
-    apart (rw (← seen) (subst (IsPrefix (events (linked_world parts mode.Refuse) env moves n)) shown (same env fit tt moves n).0))
+    apart (rw (← seen) (rw (← shown) (same env fit tt moves n).0))
 
 -- The other way round: where what is seen of a module does not begin what is seen of the parts, in four steps more.
 refused_by_more : (parts : List Part) (wrong : Module) (env : Environment) (moves : List Move) (n : ℕ) (xs ys : List Event) → IsTrue (is_environment env) →
     events (alone wrong) env moves n ≡ xs → events (linked_world parts mode.Refuse) env moves (n + 4) ≡ ys → (IsPrefix xs ys → ⊥) → BehavesAs parts mode.Refuse wrong → ⊥
 refused_by_more parts wrong env moves n xs ys fit seen shown apart same =
-    apart (rw (← seen) (subst (IsPrefix (events (alone wrong) env moves n)) shown (same env fit tt moves n).1))
+    apart (rw (← seen) (rw (← shown) (same env fit tt moves n).1))
 
 -- ---- two starts ----
 

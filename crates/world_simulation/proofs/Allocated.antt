@@ -57,7 +57,7 @@ module _ (env : Environment) (all : List Part) (insts : List Inst) where
       let g = and_then_is (all_there (new_global env all insts p) m.globals) (λ globals. option_and_then (λ elems. Some (with_elems m f.0 globals elems)) (all_there (elem_of env all insts p) m.elems)) t f.2 in
       let e = and_then_is (all_there (elem_of env all insts p) m.elems) (λ elems. Some (with_elems m f.0 g.0 elems)) t g.2 in
       let same : with_elems m f.0 g.0 e.0 ≡ t = cc in
-      subst (Adds env all insts p m i) same (record { funcs = f.1; tables = refl; mems = refl; globals = g.1; elems = e.1; datas = refl })
+      rw (← same) (record { funcs = f.1; tables = refl; mems = refl; globals = g.1; elems = e.1; datas = refl })
 
   -- ---- what stands in the store ----
 

@@ -169,7 +169,7 @@ pub record Copies (related : Space → ℕ → Type 0) (s : Store) (f : Filled) 
 
 module _ (related alone : Space → ℕ → Type 0) (never : (k : Space) (a : ℕ) → alone k a → related k a → ⊥) where
   apart : (k : Space) (a c : ℕ) → alone k a → related k c → a ≡ c → ⊥
-  apart k a c lone r e = never k a lone (subst (related k) (sym e) r)
+  apart k a c lone r e = never k a lone (rw e r)
 
   pub table_kept : (s : Store) (n a : ℕ) (t : Table) → alone Tables a → alone ElementSegments n → Kept related s (changed (changed s (SetTable a t)) (DropElem n))
   table_kept s n a t lone by_itself = record {

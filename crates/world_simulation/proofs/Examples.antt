@@ -45,8 +45,8 @@ first_is_unreachable = record {
 }
   where
     funcs : (i : ℕ) (f : Func) → slice_get (rest 0 three).funcs i ≡ Some f → FuncNamesOnly (others 0 three) f
-    funcs zero f h = subst (FuncNamesOnly (others 0 three)) (same_Some _ _ h) (refl, ((refl, tt), tt))
-    funcs (suc zero) f h = subst (FuncNamesOnly (others 0 three)) (same_Some _ _ h) (refl, tt)
+    funcs zero f h = rw (← same_Some _ _ h) (refl, ((refl, tt), tt))
+    funcs (suc zero) f h = rw (← same_Some _ _ h) (refl, tt)
     funcs (suc (suc i)) f h = cc
 
     exports : (i : ℕ) (e : Export) → slice_get three.exports i ≡ Some e → ExportNamesOnly (others 0 three) e.desc

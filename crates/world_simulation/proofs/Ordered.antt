@@ -96,17 +96,17 @@ module _ (env : Environment) (w : Instantiated) (k : Space) {A : Type 0} (defini
 pub inst_at : (env : Environment) (w : Instantiated) → insts_from env w.parts 0 w.parts ≡ Some w.insts → (p : ℕ) (m : Module) (i : Inst) → module_at w.parts p ≡ Some m → slice_get w.insts p ≡ Some i → IsInst env w.parts p m i
 inst_at env w are p m i is there =
     let r = inst_in env w.parts w.insts are p m is in
-    subst (IsInst env w.parts p m) (same_Some _ _ (sym r.1 ∙ there)) r.2
+    rw (← same_Some _ _ (sym r.1 ∙ there)) r.2
 
 numbers_from : (n count : ℕ) → numbers n count ≡ numbers (0 + n) count
 numbers_from n count = let e : n ≡ 0 + n = omega arith in ap (λ n. numbers n count) e
 
 pub elems_defined : (env : Environment) (w : Instantiated) → insts_from env w.parts 0 w.parts ≡ Some w.insts → Defines env w ElementSegments (λ m. m.elems) (elem_tasks 0 w.parts w.insts)
-elems_defined env w are = subst (Defines env w ElementSegments (λ m. m.elems)) (sym (elems_by 0 w.parts w.insts))
+elems_defined env w are = rw (elems_by 0 w.parts w.insts)
     (all_defined env w ElementSegments (λ m. m.elems) (λ i. i.elems) (λ p m i is there. (inst_at env w are p m i is there).elems ∙ numbers_from (defined_before ElementSegments w.parts p) (length m.elems)))
 
 pub datas_defined : (env : Environment) (w : Instantiated) → insts_from env w.parts 0 w.parts ≡ Some w.insts → Defines env w DataSegments (λ m. m.datas) (data_tasks 0 w.parts w.insts)
-datas_defined env w are = subst (Defines env w DataSegments (λ m. m.datas)) (sym (datas_by 0 w.parts w.insts))
+datas_defined env w are = rw (datas_by 0 w.parts w.insts)
     (all_defined env w DataSegments (λ m. m.datas) (λ i. i.datas) (λ p m i is there. (inst_at env w are p m i is there).datas ∙ numbers_from (defined_before DataSegments w.parts p) (length m.datas)))
 
 -- ---- what is kept where it is related ----

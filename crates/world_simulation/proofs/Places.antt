@@ -132,7 +132,7 @@ names_of xs ys n m r = rw (at_place xs n, at_place ys m) (res_of r)
 
 -- what a step looks up, as options
 pub res_placed : {A B : Type 0} {P : A → B → Type 0} (xs : List A) (ys : List B) (n m : ℕ) → ResRel P (at xs n) (at ys m) → OptRel P (slice_get xs n) (slice_get ys m)
-res_placed {A} {B} {P} xs ys n m r = go (slice_get xs n) (slice_get ys m) (rw (← at_place xs n) (subst (ResRel P (at xs n)) (at_place ys m) r))
+res_placed {A} {B} {P} xs ys n m r = go (slice_get xs n) (slice_get ys m) (rw (← at_place xs n) (rw (← at_place ys m) r))
   where
     go : (o : Option A) (p : Option B) → ResRel P (or_ill o) (or_ill p) → OptRel P o p
     go None None r = none

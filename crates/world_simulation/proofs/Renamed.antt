@@ -33,7 +33,7 @@ use Rattle.world_simulation.proofs.Named.{all_named}
 
 -- equal look-ups, as options
 same_placed : {A : Type 0} (xs ys : List A) (n k : ℕ) → at xs n ≡ at ys k → slice_get xs n ≡ slice_get ys k
-same_placed {A} xs ys n k e = go (res_placed {P = λ x y. x ≡ y} xs ys n k (subst (ResRel (λ x y. x ≡ y) (at xs n)) e (self (at xs n))))
+same_placed {A} xs ys n k e = go (res_placed {P = λ x y. x ≡ y} xs ys n k (rw (← e) (self (at xs n))))
   where
     self : (o : Outcome A) → ResRel (λ x y. x ≡ y) o o
     self (Gives x) = ResRel.done refl
