@@ -1,6 +1,6 @@
 -- The external type of an entity of the store (WebAssembly Core 2.0, section 4.5.1), when it is what an import asks for, and limits that are asked for together.
 use Rattle.std.proofs.Common.{◌≡◌, ℕ, List, length, Option, Some, None, true, false, refl, sym, ap, ap₂, subst, ◌∙◌, option_and_then, slice_get, unwrap_or, zero, suc, [], ◌∷◌, Bool, cond, arith, ◌&&◌}
-use Rattle.std.proofs.lemmas.Bool.{and_parts, and_from, leb-true, le-leb}
+use Rattle.std.proofs.lemmas.Bool.{and_parts, and_from, le-leb}
 use Rattle.std.proofs.lemmas.Option.{same_Some}
 use Rattle.wasm_tree.specs.declared.types.FuncType.{FuncType}
 use Rattle.wasm_tree.specs.declared.types.Limits.{Limits}
@@ -25,7 +25,7 @@ use Rattle.merge_validity.proofs.Linked.{import_site}
 use Rattle.merge_validity.proofs.Same.{func_type_is, type_is, ref_is, bool_is}
 use Rattle.base_lists.proofs.Options.{and_then_is, unwrap_or_false_is}
 use Rattle.std.specs.Prelude.{nat_le, max, min}
-use Rattle.base_lists.proofs.Bools.{same_tests}
+use Rattle.std.proofs.lemmas.Bool.Decides.{nat_tests}
 use Rattle.wasm_tree.specs.declared.module.ImportDesc.TheVariants as im
 
 -- ---- the external type of an entity ----
@@ -187,16 +187,10 @@ abbrev both_limits : Limits → Limits → Limits
 both_limits l k = record { min = max l.min k.min; max = least l.max k.max }
 
 least_both : (n a b : ℕ) → nat_le (max a b) n ≡ nat_le a n && nat_le b n
-least_both n a b =
-    same_tests (nat_le (max a b) n) (nat_le a n && nat_le b n)
-    (λ h. let l = leb-true (max a b) n h in and_from (nat_le a n) (nat_le b n) (le-leb a n (omega arith)) (le-leb b n (omega arith)))
-    (λ h. let p = and_parts (nat_le a n) (nat_le b n) h in let l = leb-true a n p.0 in let k = leb-true b n p.1 in le-leb (max a b) n (omega arith))
+least_both n a b = grind (arith, nat_tests)
 
 most_both : (n a b : ℕ) → nat_le n (min a b) ≡ nat_le n a && nat_le n b
-most_both n a b =
-    same_tests (nat_le n (min a b)) (nat_le n a && nat_le n b)
-    (λ h. let l = leb-true n (min a b) h in and_from (nat_le n a) (nat_le n b) (le-leb n a (omega arith)) (le-leb n b (omega arith)))
-    (λ h. let p = and_parts (nat_le n a) (nat_le n b) h in let l = leb-true n a p.0 in let k = leb-true n b p.1 in le-leb n (min a b) (omega arith))
+most_both n a b = grind (arith, nat_tests)
 
 only_true : (b : Bool) → b ≡ b && true
 only_true true = refl

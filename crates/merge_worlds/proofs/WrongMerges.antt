@@ -1,5 +1,5 @@
 -- Merges that are wrong, of two small parts each, with names: what is seen of the parts is not seen of such a module, by computation.
-use Rattle.std.proofs.Common.{◌≡◌, refl, ap, ◌∙◌, subst, ℕ, zero, suc, List, [], ◌∷◌, Bool, true, false, Some, None}
+use Rattle.std.proofs.Common.{◌≡◌, refl, ap, ◌∙◌, ℕ, zero, suc, List, [], ◌∷◌, Bool, true, false, Some, None}
 use Rattle.std.specs.Prelude.{pos, ◌+◌, IsTrue}
 use Rattle.wasm_tree.specs.declared.types.RefType.TheVariants as reft
 use Rattle.wasm_tree.specs.declared.types.ValType.TheVariants as valt

@@ -1,8 +1,9 @@
 -- Lists and index spaces from which one entry is taken: those before it stay, and those behind it go down by one.
 use Rattle.std.proofs.Common.{◌≡◌, ℕ, zero, suc, ◌+◌, ◌-◌, ◌<◌, ◌≤◌, List, [], ◌∷◌, ◌++◌, map, length, Some, Bool, true, false, cond, ◌&&◌, ◌⊎◌, inl, inr, refl, sym, ap, subst, ◌∙◌, arith, length-append, ap₂}
 use Rattle.std.specs.Prelude.{slice_get, slice_index, nat_eq, nat_lt}
-use Rattle.std.proofs.lemmas.Bool.{cases_lt, ltb-true, lt-ltb, eqb-true, eq-eqb, and_from}
+use Rattle.std.proofs.lemmas.Bool.{cases_lt, ltb-true, eqb-true}
 use Rattle.std.proofs.lemmas.Option.{slice_get_within}
+use Rattle.std.proofs.lemmas.Bool.Decides.{nat_tests}
 use Rattle.base_lists.proofs.Bools.{left_true, right_true}
 use Rattle.base_lists.proofs.Numbers.{length-numbers, numbers_at, numbers_index}
 use Rattle.base_lists.proofs.Places.{append_left, append_right, map_at, append_at_left, slice_get_there, slice_index_is, append_from}
@@ -41,12 +42,8 @@ down_is hole bound a b h = by (nat_lt a hole) refl (right_true (nat_lt a bound) 
     by false e k = high (ltb-true hole a (right_true (nat_eq a (suc b)) _ k)) l (eqb-true a (suc b) (left_true (nat_eq a (suc b)) _ k))
 
 pub is_down : (hole bound a b : ℕ) → Down hole bound a b → moved_down hole bound a b ≡ true
-is_down hole bound a b (low h l e) = and_from (nat_lt a bound) _ (lt-ltb a bound l) (rw (lt-ltb a hole h) (eq-eqb a b e))
-is_down hole bound a b (high h l e) = and_from (nat_lt a bound) _ (lt-ltb a bound l) (by (nat_lt a hole) refl)
-  where
-    by : (c : Bool) → nat_lt a hole ≡ c → cond c (nat_eq a b) (nat_eq a (suc b) && nat_lt hole a) ≡ true
-    by true k = absurd (let m = ltb-true a hole k in omega arith)
-    by false k = and_from (nat_eq a (suc b)) (nat_lt hole a) (eq-eqb a (suc b) e) (lt-ltb hole a h)
+is_down hole bound a b (low h l e) = grind (arith, nat_tests)
+is_down hole bound a b (high h l e) = grind (arith, nat_tests)
 
 pub down_right : {hole bound a b c : ℕ} → Down hole bound a b → Down hole bound a c → b ≡ c
 down_right (low h l e) (low k m f) = sym e ∙ f
