@@ -1,5 +1,5 @@
 -- A step leaves alone what it does not touch.
-use Rattle.std.proofs.Common.{◌≡◌, ℕ, List, [], ◌∷◌, ◌++◌, true, refl, sym, ◌∙◌, ap, subst, slice_get}
+use Rattle.std.proofs.Common.{◌≡◌, ℕ, List, [], ◌∷◌, ◌++◌, true, refl, sym, ◌∙◌, ap, subst, append-nil, slice_get}
 use Rattle.std.proofs.lemmas.Bool.{true≢false}
 use Rattle.wasm_meaning.specs.Outcomes.{Outcome, Gives, bind}
 use Rattle.wasm_meaning.specs.State.{Val, Store, Frame, Entry, Running, Mark, Opening, Waiting, Ended, Growing, Caller, Host, Starter, Act, Ends, Next}
@@ -12,6 +12,14 @@ use Rattle.index_remap.proofs.Rel.{there, same_there, bind_rel, bind_found, bind
 use Rattle.index_remap.proofs.ValueSteps.{pop_typed_rel}
 use Rattle.index_remap.proofs.Unknown.{to_off, to_related, changed_off, none_is_left, all_is_known}
 use Rattle.index_remap.proofs.StepsAgree.{frame_rel, left_rel, enter_rel, give_levels_rel, act_off}
+
+-- where nothing stands below
+pub whole : (P : List Entry → List Entry → Type 0) (es fs : List Entry) → P (es ++ []) (fs ++ []) → P es fs
+whole P es fs p = subst (λ xs. P xs fs) (append-nil es) (subst (P (es ++ [])) (append-nil fs) p)
+
+pub entries_of : (R : Pairing) {s t : Store} {es fs : List Entry} → Above R [] [] s t es fs → ListRel (EntryRel R) es fs
+entries_of R {es = es} a =
+    subst (ListRel (EntryRel R) es) (sym (a.right ∙ append-nil a.second)) (subst (λ xs. ListRel (EntryRel R) xs a.second) (sym (a.left ∙ append-nil a.first)) a.related)
 
 -- a trap goes past entries of which none is a mark
 past : (es fs : List Entry) → NoMark es → to_mark (es ++ fs) ≡ to_mark fs

@@ -11,9 +11,13 @@ pub mod ControlSteps
 pub mod ControlGroup
 pub mod StepsAgree
 pub mod Known
-pub mod Lockstep
 pub mod Shown
 pub mod Runs
+pub mod Others
+pub mod Shapes
+pub mod Lockstep
+pub mod FramesBetween
+pub mod SlotCalls
 pub mod SameRuns
 pub mod AboveSteps
 pub mod Keeping
@@ -23,10 +27,10 @@ pub mod Instructions
 pub mod Replacing
 pub mod Unlisted
 pub mod RenumberedCode
-pub mod Others
 pub mod ItselfCode
 mod Unknown
 mod UnknownSteps
 mod UnknownRows
 mod ReplacedRows
 mod LawRows
+mod TrampolineRows

@@ -1,5 +1,5 @@
 -- Related runs show the same events.
-use Rattle.std.proofs.Common.{◌≡◌, ℕ, ◌^◌, List, [], ◌∷◌, Option, Some, None, Bool, true, false, cond, option_and_then, slice_get, refl, ap, subst}
+use Rattle.std.proofs.Common.{◌≡◌, ℕ, ◌^◌, List, [], ◌∷◌, Option, Some, None, Bool, true, false, cond, option_and_then, slice_get, refl, ap, subst, ◌∙◌}
 use Rattle.wasm_tree.specs.declared.space.Space.TheVariants.{Functions, Memories}
 use Rattle.std.specs.Prelude.{nat_eq, nat_lt}
 use Rattle.wasm_tree.specs.declared.types.RefType.{RefType}
@@ -8,7 +8,7 @@ use Rattle.wasm_tree.specs.declared.types.ValType.{ValType}
 use Rattle.wasm_tree.specs.declared.types.ValType.TheVariants as valt
 use Rattle.wasm_num.specs.Operations.{W32}
 use Rattle.wasm_meaning.specs.Outcomes.{Outcome, Gives, overwrite}
-use Rattle.wasm_meaning.specs.State.{RefVal, Val, Num, Table, Memory, Store, Change, SetTable, Growth, Entry, Caller, Host, Starter, Opening, Ended, Next}
+use Rattle.wasm_meaning.specs.State.{RefVal, Val, Num, Table, Memory, Store, Change, SetTable, Growth, Entry, Caller, Host, Starter, Opening, Ended, Growing, Next}
 use Rattle.wasm_meaning.specs.Values.{typed, null_of, ref_of}
 use Rattle.wasm_meaning.specs.Memory.{memory_may_grow}
 use Rattle.wasm_meaning.specs.Tables.{table_may_grow}
@@ -16,9 +16,10 @@ use Rattle.wasm_meaning.specs.Step.{give, enter_at, step}
 use Rattle.wasm_meaning.specs.Linking.{same_text}
 use Rattle.wasm_meaning.specs.Environment.{Shown, Number, Null, OwnFunc, ExternNumber, Function, Thing, FuncKey, TableKey, MemoryKey, GlobalKey, Owned, same_key, look_up, owned_at, func_of, func_value, received, received_ref, received_all}
 use Rattle.wasm_meaning.specs.World.{Begun}
-use Rattle.wasm_meaning.specs.Run.{Event, InstanceTrapped, Returned, Asked, Got, Place, TableOf, MemoryOf, GlobalOf, Named, Move, Call, Invoke, Take, Answer, Refuse, Grant, Deny, Get, Size, Set, Extend, Phase, Pending, Closed, Run, Out, Transition, Steps, Makes, made, place_at, trapped_at, trapped_to, showing, after, called, is_mark, delivered, grown_table, answered, refused, with_change, granted, decided, shows, got, size_of, does, byte_of, set, extended, moved, at_entries, or_bad, or_closed, next_move, began, view_of, nothing_in, started, open_next, is_taken_closed, closed_move, in_phase, transition_at}
+use Rattle.wasm_meaning.specs.Run.{Event, InstanceTrapped, Returned, Asked, Got, Place, TableOf, MemoryOf, GlobalOf, Named, Move, Call, Invoke, Take, Answer, Refuse, Grant, Deny, Get, Size, Set, Extend, Phase, Pending, Opened, Closed, Run, Out, Transition, Steps, Makes, made, place_at, trapped_at, trapped_to, showing, after, called, is_mark, delivered, grown_table, answered, refused, with_change, granted, decided, shows, got, size_of, does, byte_of, set, extended, moved, at_entries, or_bad, or_closed, next_move, began, view_of, nothing_in, started, open_next, is_taken_closed, closed_move, in_phase, transition_at}
 use Rattle.index_remap.specs.Related.{Pairing, OneToOne, OptRel, none, some, ResRel, done, trap, wrong, ListRel, nil, cons, RefRel, func, extern, ValRel, number, reference, TableRel, StoreRel, mark, opening, waiting, ended, growing, ChangeRel, set_global, set_memory, set_table, GrowthRel, memory_grows, table_grows, NextRel, ran, asked, asked_grow, loads, returned}
 use Rattle.index_remap.specs.RelatedRuns.{ThingRel, a_func, a_table, a_memory, a_global, KeyRel, BegunRel, PhaseRel, fresh, pending, opened, closed, RunRel, OutRel}
+use Rattle.index_remap.specs.ListedRuns.{MoveSkips, NextMoveSkips, TickSkips}
 use Rattle.index_remap.proofs.Rel.{written, there, then_rel, then_rel_is, then_same, either_rel, PairRel, IfThere, absent, present, then_all, any_there, all_there, get_rel, append_rel, length_rel, copies_rel, overwrite_rel}
 use Rattle.index_remap.proofs.ValueSteps.{Fits}
 use Rattle.index_remap.proofs.Shown.{show_rel, show_all_rel}
@@ -134,9 +135,9 @@ module _ (R : Pairing) (apart : OneToOne R) (B C : Store → Store → List Entr
   fits_received o ms [] (x ∷ xs) = absent
   fits_received o ms (t ∷ ts) [] = absent
 
-  called_rel : {r q : Run} {es fs : List Entry} {a b : ℕ} (xs : List Shown) → RunRel R B F r q → C r.store q.store es fs → R.of Functions a b → OptRel TransitionRel (called r es xs a) (called q fs xs b)
-  called_rel {r} {q} {es} {fs} {a} {b} xs h e n =
-      then_rel_is (there (h.store.types n)) (λ t u is same. subst (λ y. OptRel TransitionRel (option_and_then (λ vs. Some (Steps r (enter_at r.store a vs es))) (received_all r.owned r.shown t.params xs)) (option_and_then (λ vs. Some (Steps q (enter_at q.store b vs fs))) (received_all q.owned q.shown y.params xs))) same (then_rel_is (received_all_rel t.params xs h.owned h.shown) (λ vs _ got v. some (steps h (stacks.enters h.store n is (all_there (fits_received r.owned r.shown t.params xs) got) v e)))))
+  called_rel : {r q : Run} {es fs : List Entry} {a b : ℕ} (xs : List Shown) → RunRel R B F r q → C r.store q.store es fs → R.of Functions a b → ¬ R.listed a → OptRel TransitionRel (called r es xs a) (called q fs xs b)
+  called_rel {r} {q} {es} {fs} {a} {b} xs h e n free =
+      then_rel_is (there (h.store.types n)) (λ t u is same. subst (λ y. OptRel TransitionRel (option_and_then (λ vs. Some (Steps r (enter_at r.store a vs es))) (received_all r.owned r.shown t.params xs)) (option_and_then (λ vs. Some (Steps q (enter_at q.store b vs fs))) (received_all q.owned q.shown y.params xs))) same (then_rel_is (received_all_rel t.params xs h.owned h.shown) (λ vs _ got v. some (steps h (stacks.enters h.store n free is (all_there (fits_received r.owned r.shown t.params xs) got) v e)))))
 
   delivered_rel : {r q : Run} {vs ws : List Val} {es fs : List Entry} → RunRel R B F r q → ListRel (ValRel R) vs ws → C r.store q.store es fs → TransitionRel (delivered r vs es) (delivered q ws fs)
   delivered_rel {r} {q} {vs} {ws} {es} {fs} h v e = rw (stacks.marked e) (either (is_mark fs))
@@ -231,27 +232,32 @@ module _ (R : Pairing) (apart : OneToOne R) (B C : Store → Store → List Entr
   place_at_rel (GlobalOf p) h = look_rel (same_key (GlobalKey p)) h.owned
   place_at_rel (Named n) h = look_rel (same_text n) h.view
 
-  moved_rel : {r q : Run} (m : Move) → RunRel R B F r q → C r.store q.store r.entries q.entries → TopView R (written apart) C r.store q.store r.entries q.entries → OptRel TransitionRel (moved r m) (moved q m)
-  moved_rel (Call i xs) h c w = then_rel (look_rel (same_text i) h.view) (λ _ _ x. then_rel (func_of_rel x) (λ _ _ n. called_rel xs h (stacks.push mark c) n))
-  moved_rel (Invoke k xs) h c w = then_rel (get_rel h.shown k) (λ _ _ n. called_rel xs h (stacks.push mark c) n)
-  moved_rel (Take i) h c w = then_rel (look_rel (same_text i) h.view) (λ _ _ x. then_rel (func_of_rel x) (λ _ _ n. shows_rel h (reference (func (some n)))))
-  moved_rel (Answer xs) h c w = answered_rel xs h w
-  moved_rel Refuse h c w = refused_rel h w
-  moved_rel Grant h c w = none
-  moved_rel Deny h c w = none
-  moved_rel (Get p n) h c w = then_rel (place_at_rel p h) (λ _ _ x. got_rel n h x)
-  moved_rel (Size p) h c w = then_rel (place_at_rel p h) (λ _ _ x. size_rel h x)
-  moved_rel (Set p n v) h c w = then_rel (place_at_rel p h) (λ _ _ x. set_rel n v h x)
-  moved_rel (Extend p n) h c w = then_rel (place_at_rel p h) (λ _ _ x. extended_rel n h x)
+  moved_rel : {r q : Run} (m : Move) → RunRel R B F r q → C r.store q.store r.entries q.entries → TopView R (written apart) C r.store q.store r.entries q.entries → MoveSkips R r.view r.shown m → OptRel TransitionRel (moved r m) (moved q m)
+  moved_rel (Call i xs) h c w free = then_rel_is (look_rel (same_text i) h.view) (λ _ _ is x. then_rel_is (func_of_rel x) (λ a _ of n. called_rel xs h (stacks.push mark c) n (free a (ap (option_and_then func_of) is ∙ of))))
+  moved_rel (Invoke k xs) h c w free = then_rel_is (get_rel h.shown k) (λ a _ is n. called_rel xs h (stacks.push mark c) n (free a is))
+  moved_rel (Take i) h c w free = then_rel (look_rel (same_text i) h.view) (λ _ _ x. then_rel (func_of_rel x) (λ _ _ n. shows_rel h (reference (func (some n)))))
+  moved_rel (Answer xs) h c w free = answered_rel xs h w
+  moved_rel Refuse h c w free = refused_rel h w
+  moved_rel Grant h c w free = none
+  moved_rel Deny h c w free = none
+  moved_rel (Get p n) h c w free = then_rel (place_at_rel p h) (λ _ _ x. got_rel n h x)
+  moved_rel (Size p) h c w free = then_rel (place_at_rel p h) (λ _ _ x. size_rel h x)
+  moved_rel (Set p n v) h c w free = then_rel (place_at_rel p h) (λ _ _ x. set_rel n v h x)
+  moved_rel (Extend p n) h c w free = then_rel (place_at_rel p h) (λ _ _ x. extended_rel n h x)
 
-  at_entries_rel : {r q : Run} {es fs : List Entry} (m : Move) → RunRel R B F r q → C r.store q.store r.entries q.entries → TopView R (written apart) C r.store q.store r.entries q.entries → TopView R (written apart) C r.store q.store es fs → OptRel TransitionRel (at_entries r m es) (at_entries q m fs)
-  at_entries_rel m h c w (top_growing p e) = decided_rel m h p e
-  at_entries_rel m h c w (top_none e) = moved_rel m h c w
-  at_entries_rel m h c w (top_mark e) = moved_rel m h c w
-  at_entries_rel m h c w (top_opening x e) = moved_rel m h c w
-  at_entries_rel m h c w top_running = moved_rel m h c w
-  at_entries_rel m h c w (top_waiting e) = moved_rel m h c w
-  at_entries_rel m h c w (top_ended v e) = moved_rel m h c w
+  -- a growth does not wait
+  abbrev NotGrowing : List Entry → Type 0
+  NotGrowing (Growing g ∷ es) = ⊥
+  NotGrowing es = Unit {0}
+
+  at_entries_rel : {r q : Run} {es fs : List Entry} (m : Move) → RunRel R B F r q → C r.store q.store r.entries q.entries → TopView R (written apart) C r.store q.store r.entries q.entries → TopView R (written apart) C r.store q.store es fs → (NotGrowing es → MoveSkips R r.view r.shown m) → OptRel TransitionRel (at_entries r m es) (at_entries q m fs)
+  at_entries_rel m h c w (top_growing p e) free = decided_rel m h p e
+  at_entries_rel m h c w (top_none e) free = moved_rel m h c w (free tt)
+  at_entries_rel m h c w (top_mark e) free = moved_rel m h c w (free tt)
+  at_entries_rel m h c w (top_opening x e) free = moved_rel m h c w (free tt)
+  at_entries_rel m h c w top_running free = moved_rel m h c w (free tt)
+  at_entries_rel m h c w (top_waiting e) free = moved_rel m h c w (free tt)
+  at_entries_rel m h c w (top_ended v e) free = moved_rel m h c w (free tt)
 
   or_bad_rel : {r q : Run} {o p : Option Transition} → RunRel R B F r q → OptRel TransitionRel o p → TransitionRel (or_bad r o) (or_bad q p)
   or_bad_rel h none = makes (record { event = refl; run = h })
@@ -260,19 +266,33 @@ module _ (R : Pairing) (apart : OneToOne R) (B C : Store → Store → List Entr
   moves_rel : {r q : Run} (ms : List Move) → RunRel R B F r q → RunRel R B F (record r { moves = ms }) (record q { moves = ms })
   moves_rel ms h = record { store = h.store; entries = h.entries; phase = h.phase; shown = h.shown; view = h.view; owned = h.owned; moves = refl }
 
-  next_move_rel : {r q : Run} (ms : List Move) → RunRel R B F r q → C r.store q.store r.entries q.entries → TopView R (written apart) C r.store q.store r.entries q.entries → TransitionRel (next_move r ms) (next_move q ms)
-  next_move_rel [] h c w = makes (record { event = refl; run = h })
-  next_move_rel (m ∷ ms) h c w = let k = moves_rel ms h in or_bad_rel k (at_entries_rel m k c w w)
+  -- a move that is due calls no function of the list, unless a growth waits, when it calls nothing
+  abbrev Skips : Run → List Move → Type 0
+  Skips r ms = NotGrowing r.entries → NextMoveSkips R r.view r.shown ms
 
-  due_move_rel : {r q : Run} {ms ns : List Move} → ms ≡ ns → RunRel R B F r q → C r.store q.store r.entries q.entries → TopView R (written apart) C r.store q.store r.entries q.entries → TransitionRel (next_move r ms) (next_move q ns)
-  due_move_rel {r} {q} {ms} e h c w = subst (λ x. TransitionRel (next_move r ms) (next_move q x)) e (next_move_rel ms h c w)
+  next_move_rel : {r q : Run} (ms : List Move) → RunRel R B F r q → C r.store q.store r.entries q.entries → TopView R (written apart) C r.store q.store r.entries q.entries → Skips r ms → TransitionRel (next_move r ms) (next_move q ms)
+  next_move_rel [] h c w free = makes (record { event = refl; run = h })
+  next_move_rel (m ∷ ms) h c w free = let k = moves_rel ms h in or_bad_rel k (at_entries_rel m k c w w free)
+
+  due_move_rel : {r q : Run} {ms ns : List Move} → ms ≡ ns → RunRel R B F r q → C r.store q.store r.entries q.entries → TopView R (written apart) C r.store q.store r.entries q.entries → Skips r ms → TransitionRel (next_move r ms) (next_move q ns)
+  due_move_rel {r} {q} {ms} e h c w free = subst (λ x. TransitionRel (next_move r ms) (next_move q x)) e (next_move_rel ms h c w free)
+
+  -- a move that a closed world takes calls nothing
+  closed_skips : (view : _) (shown : List ℕ) (m : Move) → is_taken_closed m ≡ true → MoveSkips R view shown m
+  closed_skips view shown (Call i xs) h = cc
+  closed_skips view shown (Invoke k xs) h = cc
+  closed_skips view shown _ h = tt
 
   closed_move_rel : {r q : Run} {ms ns : List Move} → ms ≡ ns → RunRel R B F r q → C r.store q.store r.entries q.entries → TopView R (written apart) C r.store q.store r.entries q.entries → TransitionRel (closed_move r ms) (closed_move q ns)
   closed_move_rel {r} {q} {ms} e h c w = subst (λ x. TransitionRel (closed_move r ms) (closed_move q x)) e (go ms)
     where
+      taken : {A : Type 0} {P : A → A → Type 0} {o p : Option A} (b : Bool) → (b ≡ true → OptRel P o p) → OptRel P (cond b o None) (cond b p None)
+      taken true h = h refl
+      taken false h = none
+
       go : (ms : List Move) → TransitionRel (closed_move r ms) (closed_move q ms)
       go [] = makes (record { event = refl; run = h })
-      go (m ∷ ms) = let k = moves_rel ms h in or_bad_rel k (either_rel (is_taken_closed m) (moved_rel m k c w) none)
+      go (m ∷ ms) = let k = moves_rel ms h in or_bad_rel k (taken (is_taken_closed m) (λ free. moved_rel m k c w (closed_skips r.view r.shown m free)))
 
   -- ---- one step of a run ----
 
@@ -288,11 +308,11 @@ module _ (R : Pairing) (apart : OneToOne R) (B C : Store → Store → List Entr
   or_closed_rel h none = makes (record { event = refl; run = phase_rel (state_rel h h.store (stacks.steady (stacks.cleared h.entries))) closed })
   or_closed_rel h (some o) = o
 
-  in_phase_rel : {r q : Run} {p o : Phase} → RunRel R B F r q → C r.store q.store r.entries q.entries → TopView R (written apart) C r.store q.store r.entries q.entries → PhaseRel R F p o → TransitionRel (in_phase r p) (in_phase q o)
-  in_phase_rel h c w (fresh b) = makes (began_rel h b)
-  in_phase_rel h c w (pending v) = steps h wrong
-  in_phase_rel h c w opened = due_move_rel h.moves h c w
-  in_phase_rel h c w closed = closed_move_rel h.moves h c w
+  in_phase_rel : {r q : Run} {p o : Phase} → RunRel R B F r q → C r.store q.store r.entries q.entries → TopView R (written apart) C r.store q.store r.entries q.entries → PhaseRel R F p o → (p ≡ Opened → NextMoveSkips R r.view r.shown r.moves) → TransitionRel (in_phase r p) (in_phase q o)
+  in_phase_rel h c w (fresh b) free = makes (began_rel h b)
+  in_phase_rel h c w (pending v) free = steps h wrong
+  in_phase_rel h c w opened free = due_move_rel h.moves h c w (λ _. free refl)
+  in_phase_rel h c w closed free = closed_move_rel h.moves h c w
 
   view_of_rel : {r q : Run} {p o : Phase} → RunRel R B F r q → PhaseRel R F p o → ListRel (KeyRel R) (view_of r p) (view_of q o)
   view_of_rel h (fresh b) = h.view
@@ -300,23 +320,23 @@ module _ (R : Pairing) (apart : OneToOne R) (B C : Store → Store → List Entr
   view_of_rel h opened = h.view
   view_of_rel h closed = h.view
 
-  started_rel : {r q : Run} {xs ys : List ℕ} {es fs : List Entry} {a b : ℕ} → RunRel R B F r q → ListRel (R.of Functions) xs ys → C r.store q.store es fs → R.of Functions a b → OptRel TransitionRel (started r xs es a) (started q ys fs b)
-  started_rel {r} {q} {xs} {ys} {es} {fs} {a} {b} h x e n =
-      then_rel (there (h.store.types n)) (λ t u same. subst (λ y. OptRel TransitionRel (option_and_then (λ v. called r (Opening xs ∷ es) [] a) (nothing_in t.results)) (option_and_then (λ v. called q (Opening ys ∷ fs) [] b) (nothing_in y.results))) same (then_same (nothing_in t.results) (λ v. called_rel [] h (stacks.push (opening x) e) n)))
+  started_rel : {r q : Run} {xs ys : List ℕ} {es fs : List Entry} {a b : ℕ} → RunRel R B F r q → ListRel (R.of Functions) xs ys → C r.store q.store es fs → R.of Functions a b → ¬ R.listed a → OptRel TransitionRel (started r xs es a) (started q ys fs b)
+  started_rel {r} {q} {xs} {ys} {es} {fs} {a} {b} h x e n free =
+      then_rel (there (h.store.types n)) (λ t u same. subst (λ y. OptRel TransitionRel (option_and_then (λ v. called r (Opening xs ∷ es) [] a) (nothing_in t.results)) (option_and_then (λ v. called q (Opening ys ∷ fs) [] b) (nothing_in y.results))) same (then_same (nothing_in t.results) (λ v. called_rel [] h (stacks.push (opening x) e) n free)))
 
-  open_next_rel : {r q : Run} {xs ys : List ℕ} {es fs : List Entry} → RunRel R B F r q → ListRel (R.of Functions) xs ys → C r.store q.store es fs → TransitionRel (open_next r xs es) (open_next q ys fs)
-  open_next_rel h nil e = makes (record { event = refl; run = record { store = h.store; entries = stacks.steady e; phase = opened; shown = h.shown; view = view_of_rel h h.phase; owned = h.owned; moves = h.moves } })
-  open_next_rel h (cons n x) e = or_closed_rel h (started_rel h x e n)
+  open_next_rel : {r q : Run} {xs ys : List ℕ} {es fs : List Entry} → RunRel R B F r q → ListRel (R.of Functions) xs ys → C r.store q.store es fs → TickSkips R r (Opening xs ∷ es) → TransitionRel (open_next r xs es) (open_next q ys fs)
+  open_next_rel h nil e free = makes (record { event = refl; run = record { store = h.store; entries = stacks.steady e; phase = opened; shown = h.shown; view = view_of_rel h h.phase; owned = h.owned; moves = h.moves } })
+  open_next_rel h (cons n x) e free = or_closed_rel h (started_rel h x e n free)
 
   -- a step of each, given what a step of the top frames comes to
-  between_rel : {r q : Run} {es fs : List Entry} → RunRel R B F r q → (C r.store q.store es fs → C r.store q.store r.entries q.entries) → (TopView R (written apart) C r.store q.store es fs → TopView R (written apart) C r.store q.store r.entries q.entries) → TopView R (written apart) C r.store q.store es fs → ResRel (NextRel R B) (step r.store r.entries) (step q.store q.entries) → TransitionRel (transition_at r es) (transition_at q fs)
-  between_rel h whole views (top_none e) s = in_phase_rel h (whole e) (views (top_none e)) h.phase
-  between_rel h whole views (top_mark e) s = steps h wrong
-  between_rel h whole views (top_opening x e) s = open_next_rel h x e
-  between_rel h whole views (top_waiting e) s = due_move_rel h.moves h (whole (stacks.push waiting e)) (views (top_waiting e))
-  between_rel h whole views (top_ended v e) s = steps h (stacks.gives h.store v e)
-  between_rel h whole views (top_growing n e) s = due_move_rel h.moves h (whole (stacks.push (growing n) e)) (views (top_growing n e))
-  between_rel h whole views top_running s = steps h s
+  between_rel : {r q : Run} {es fs : List Entry} → RunRel R B F r q → (C r.store q.store es fs → C r.store q.store r.entries q.entries) → (TopView R (written apart) C r.store q.store es fs → TopView R (written apart) C r.store q.store r.entries q.entries) → TopView R (written apart) C r.store q.store es fs → ResRel (NextRel R B) (step r.store r.entries) (step q.store q.entries) → r.entries ≡ es → TickSkips R r es → TransitionRel (transition_at r es) (transition_at q fs)
+  between_rel h whole views (top_none e) s same free = in_phase_rel h (whole e) (views (top_none e)) h.phase free
+  between_rel h whole views (top_mark e) s same free = steps h wrong
+  between_rel h whole views (top_opening x e) s same free = open_next_rel h x e free
+  between_rel h whole views (top_waiting e) s same free = due_move_rel h.moves h (whole (stacks.push waiting e)) (views (top_waiting e)) (λ _. free)
+  between_rel h whole views (top_ended v e) s same free = steps h (stacks.gives h.store v e)
+  between_rel h whole views (top_growing n e) s same free = due_move_rel h.moves h (whole (stacks.push (growing n) e)) (views (top_growing n e)) (λ waits. absurd (subst NotGrowing same waits))
+  between_rel h whole views top_running s same free = steps h s
 
-  pub still_rel : {r q : Run} {es fs : List Entry} → RunRel R B F r q → (C r.store q.store es fs → C r.store q.store r.entries q.entries) → (TopView R (written apart) C r.store q.store es fs → TopView R (written apart) C r.store q.store r.entries q.entries) → TopView R (written apart) C r.store q.store es fs → ResRel (NextRel R B) (step r.store r.entries) (step q.store q.entries) → OutRel R B F (made (transition_at r es)) (made (transition_at q fs))
-  still_rel h whole views w s = made_rel (between_rel h whole views w s)
+  pub still_rel : {r q : Run} {es fs : List Entry} → RunRel R B F r q → (C r.store q.store es fs → C r.store q.store r.entries q.entries) → (TopView R (written apart) C r.store q.store es fs → TopView R (written apart) C r.store q.store r.entries q.entries) → TopView R (written apart) C r.store q.store es fs → ResRel (NextRel R B) (step r.store r.entries) (step q.store q.entries) → r.entries ≡ es → TickSkips R r es → OutRel R B F (made (transition_at r es)) (made (transition_at q fs))
+  still_rel h whole views w s same free = made_rel (between_rel h whole views w s same free)

@@ -1,18 +1,18 @@
--- Runs from related states, where the list is empty, show the same events: by the law of steps, where all is related and nothing stands below.
+-- Where the list is empty no step begins a call of a function of it: runs from related states, where all is related, show the same events.
 use Rattle.std.proofs.Common.{◌≡◌, ℕ, List, [], ◌∷◌, Bool, refl, sym}
 use Rattle.wasm_tree.specs.declared.space.Space.{Space}
 use Rattle.std.proofs.lemmas.Bool.{true≢false}
 use Rattle.wasm_meaning.specs.State.{Store, Entry, Running, Mark, Opening, Waiting, Ended, Growing, Act}
-use Rattle.wasm_meaning.specs.Step.{step}
-use Rattle.wasm_meaning.specs.Run.{Run, tick, events_of}
+use Rattle.wasm_meaning.specs.Environment.{Thing}
+use Rattle.wasm_meaning.specs.State.{Text}
+use Rattle.wasm_meaning.specs.Run.{Move, Call, Invoke, Run, tick, events_of}
 use Rattle.base_simulation.proofs.Lockstep.{lockstep}
-use Rattle.index_remap.specs.Related.{Pairing, OneToOne, ResRel, ListRel, StoreRel, EntryRel, NextRel, TopSkips}
-use Rattle.index_remap.specs.RelatedRuns.{RunRel, OutRel}
-use Rattle.index_remap.specs.Laws.{passed, Above, NeedsBelow, Touches, StepsAgree, NamedAreKnown}
-use Rattle.index_remap.proofs.Rel.{written}
-use Rattle.index_remap.proofs.Lockstep.{Entries, stacks, view, whole, alone}
+use Rattle.index_remap.specs.Related.{Pairing, OneToOne, TopSkips}
+use Rattle.index_remap.specs.Laws.{passed, NeedsBelow, Touches, EntryByEntry, RelatedRuns}
+use Rattle.index_remap.specs.ListedRuns.{MoveSkips, NextMoveSkips, TickSkips, StepsTogether}
+use Rattle.index_remap.proofs.Known.{entries_known}
 use Rattle.index_remap.proofs.StepsAgree.{none_called}
-use Rattle.index_remap.proofs.Runs.{still_rel}
+use Rattle.index_remap.proofs.Lockstep.{ticks_together}
 
 needs : (es : List Entry) (x : Act) → NeedsBelow es [] [] x
 needs (e ∷ es) (Act.Ends vs) = tt
@@ -37,7 +37,7 @@ module _ (of : Space → ℕ → ℕ → Bool) where
   abbrev R : Pairing
   R = passed of of []
 
-  pub none_listed : (a : ℕ) → ¬ R.listed a
+  none_listed : (a : ℕ) → ¬ R.listed a
   none_listed a p = true≢false (sym p)
 
   pub skips : (s : Store) (es : List Entry) → TopSkips R s es
@@ -49,15 +49,28 @@ module _ (of : Space → ℕ → ℕ → Bool) where
   skips s (Ended vs ∷ es) = tt
   skips s (Growing g ∷ es) = tt
 
-  module _ (apart : OneToOne R) (law : StepsAgree) (known : NamedAreKnown) where
-    step_rel : (s t : Store) (es fs : List Entry) → StoreRel R s t → ListRel (EntryRel R) es fs → ResRel (NextRel R (Entries R (written apart))) (step s es) (step t fs)
-    step_rel s t es fs h e =
-        alone R (written apart)
-        (whole (λ xs ys. ResRel (NextRel R (Above R [] [])) (step s xs) (step t ys)) es fs (law of of [] (written apart) s t es fs [] [] h e (touches s es) (skips s es) (known of of [] (λ k a b p. p) es fs)))
+  move_skips : (view : List (Text × Thing)) (shown : List ℕ) (m : Move) → MoveSkips R view shown m
+  move_skips view shown (Call name xs) = λ a _. none_listed a
+  move_skips view shown (Invoke number xs) = λ a _. none_listed a
+  move_skips view shown _ = tt
 
-    pub ticks_agree : (r q : Run) → RunRel R (Entries R (written apart)) (Entries R (written apart)) r q → OutRel R (Entries R (written apart)) (Entries R (written apart)) (tick r) (tick q)
-    ticks_agree r q h =
-        still_rel R apart (Entries R (written apart)) (Entries R (written apart)) (stacks R (written apart) none_listed) (Entries R (written apart)) (λ s t es fs e. e) h (λ e. e) (λ e. e) (view R (written apart) h.entries) (step_rel r.store q.store r.entries q.entries h.store h.entries)
+  moves_skip : (view : List (Text × Thing)) (shown : List ℕ) (ms : List Move) → NextMoveSkips R view shown ms
+  moves_skip view shown [] = tt
+  moves_skip view shown (m ∷ ms) = move_skips view shown m
 
-    pub same_events : (n : ℕ) (r q : Run) → RunRel R (Entries R (written apart)) (Entries R (written apart)) r q → events_of tick r n ≡ events_of tick q n
-    same_events n r q h = lockstep tick tick (RunRel R (Entries R (written apart)) (Entries R (written apart))) (λ r q h. let o = ticks_agree r q h in record { event = o.event; states = o.run }) r q h n
+  tick_skips : (r : Run) (es : List Entry) → TickSkips R r es
+  tick_skips r [] = λ _. moves_skip r.view r.shown r.moves
+  tick_skips r (Waiting ts ∷ es) = moves_skip r.view r.shown r.moves
+  tick_skips r (Opening [] ∷ es) = tt
+  tick_skips r (Opening (a ∷ more) ∷ es) = none_listed a
+  tick_skips r (Running f ∷ es) = skips r.store (Running f ∷ es)
+  tick_skips r (Mark ∷ es) = tt
+  tick_skips r (Ended vs ∷ es) = tt
+  tick_skips r (Growing g ∷ es) = tt
+
+  module _ (apart : OneToOne R) where
+    pub together : (r q : Run) → RelatedRuns R r q → StepsTogether R (EntryByEntry R) r q (tick r) (tick q)
+    together r q h = ticks_together R apart r q h (tick_skips r r.entries) (entries_known R (λ k a b p. p) r.entries q.entries)
+
+    pub same_events : (n : ℕ) (r q : Run) → RelatedRuns R r q → events_of tick r n ≡ events_of tick q n
+    same_events n r q h = lockstep tick tick (RelatedRuns R) (λ r q h. let o = (together r q h).out in record { event = o.event; states = o.run }) r q h n

@@ -8,21 +8,20 @@ use Rattle.wasm_meaning.specs.Outcomes.{Gives, bind, onto, or_ill_typed}
 use Rattle.wasm_tree.specs.declared.types.FuncType.{FuncType}
 use Rattle.wasm_meaning.specs.State.{Val, Func, Store, Change, Level, Frame, Entry, Running, Caller, Mark, Opening, Waiting, Ended, Growing, Growth, Env, Body, Act, Goes, Calls, AsksGrow, Ends}
 use Rattle.wasm_meaning.specs.Control.{type_at, call_address}
-use Rattle.wasm_meaning.specs.Values.{pop_typed, with_values}
-use Rattle.wasm_meaning.specs.Step.{exec, step_code, step_levels, act, frame_of, give_levels, give, enter, enter_at, to_mark, changed, perform, step}
+use Rattle.wasm_meaning.specs.Values.{with_values}
+use Rattle.wasm_meaning.specs.Step.{exec, step_code, step_levels, act, frame_of, give_levels, give, enter, enter_at, to_mark, changed}
 use Rattle.wasm_meaning.specs.Run.{is_mark}
 use Rattle.index_remap.specs.Related
 use Rattle.index_remap.specs.Related.{Pairing, OneToOneWhereWritten, OptRel, none, some, ResRel, done, wrong, ListRel, nil, cons, ValRel, OpRel, CodeRel, end, then, instead, FuncRel, defined, own, slot, TableRel, GlobalRel, ElemRel, StoreRel, LevelRel, FrameRel, EntryRel, mark, opening, waiting, growing, BodyRel, GrowthRel, ChangeRel, keep, set_global, set_memory, set_table, drop_elem, drop_data, ActRel, goes, calls, asks_grow, ends, NextRel, NextRelBy, ran, asked, asked_grow, loads, returned, NotListed, TopSkips, NextKnown, TopKnown}
 use Rattle.index_remap.specs.Unknown.{Unknowns, none_unknown, StoreRelOff, read_by, read_next, read_levels, ReadsKnown, known, ActOff}
 use Rattle.index_remap.specs.Groups.{Group, Values, Memories, Control, group_of, GroupAgrees}
-use Rattle.index_remap.proofs.Rel.{same_there, bind_rel, bind_is, bind_rel_is, PairRel, onto_rel, append_rel, res_map}
+use Rattle.index_remap.proofs.Rel.{PairRel, onto_rel, append_rel, res_map}
 use Rattle.index_remap.proofs.Unknown.{to_off, to_related, changed_off, none_left_by, all_is_known, act_known}
-use Rattle.index_remap.proofs.ValueSteps.{Fits, pop_typed_all, pop_typed_rel, zeros_rel}
+use Rattle.index_remap.proofs.ValueSteps.{Fits, zeros_rel}
 use Rattle.index_remap.proofs.ControlSteps.{end_level_rel}
 use Rattle.index_remap.proofs.ValueGroup.{values_agree}
 use Rattle.index_remap.proofs.MemoryGroup.{memories_agree}
 use Rattle.index_remap.proofs.ControlGroup.{control_agrees}
-use Rattle.wasm_meaning.proofs.Outcomes.{all_at}
 
 -- the laws of the three groups, joined
 each_group : (g : Group) → GroupAgrees g
@@ -92,7 +91,7 @@ module _ (R : Pairing) (apart : OneToOneWhereWritten R) where
     pub marks : {s t : Store} {es fs : List Entry} → B s t es fs → ResRel (PairRel (◌≡◌ {A = Caller}) (C s t)) (to_mark es) (to_mark fs)
     pub marked : {s t : Store} {es fs : List Entry} → C s t es fs → is_mark es ≡ is_mark fs
     pub gives : {s t : Store} {vs ws : List Val} {es fs : List Entry} → StoreRel R s t → ListRel (ValRel R) vs ws → C s t es fs → ResRel (NextRel R B) (give s vs es) (give t ws fs)
-    pub enters : {s t : Store} {a b : ℕ} {u : FuncType} {vs ws : List Val} {es fs : List Entry} → StoreRel R s t → R.of space.Functions a b → type_at s a ≡ Some u → Fits u.params vs → ListRel (ValRel R) vs ws → C s t es fs → ResRel (NextRel R B) (enter_at s a vs es) (enter_at t b ws fs)
+    pub enters : {s t : Store} {a b : ℕ} {u : FuncType} {vs ws : List Val} {es fs : List Entry} → StoreRel R s t → R.of space.Functions a b → ¬ R.listed a → type_at s a ≡ Some u → Fits u.params vs → ListRel (ValRel R) vs ws → C s t es fs → ResRel (NextRel R B) (enter_at s a vs es) (enter_at t b ws fs)
 
   module _ (S : Store → Store → Type 0) (B C : Store → Store → List Entry → List Entry → Type 0) (steady : (s t : Store) (es fs : List Entry) → C s t es fs → B s t es fs) (push : (s t : Store) (e f : Entry) (es fs : List Entry) → EntryRel R e f → C s t es fs → B s t (e ∷ es) (f ∷ fs)) where
     pub enter_rel : {s t : Store} {f g : Func} {vs ws : List Val} {es fs : List Entry} → S s t → FuncRel R f g → ListRel (ValRel R) vs ws → C s t es fs → NextRelBy R S B (enter s f vs es) (enter t g ws fs)
@@ -104,15 +103,3 @@ module _ (R : Pairing) (apart : OneToOneWhereWritten R) where
     pub give_levels_rel : {s t : Store} {f g : Frame} {ls ms : List Level} {vs ws : List Val} {es fs : List Entry} → S s t → FrameRel R f g → ListRel (LevelRel R f.inst g.inst) ls ms → ListRel (ValRel R) vs ws → C s t es fs → ResRel (NextRelBy R S B) (give_levels s vs f ls es) (give_levels t ws g ms fs)
     give_levels_rel s f nil v e = wrong
     give_levels_rel s f (cons l ls) v e = done (ran s (push _ _ _ _ _ _ (Related.running (frame_given f l ls v)) e))
-
-  module _ (B C : Store → Store → List Entry → List Entry → Type 0) (stacks : Stacks B C) where
-    pub perform_rel : {s t : Store} {f g : Frame} {x y : Act} {es fs : List Entry} → StoreRel R s t → FrameRel R f g → ActRel R f.inst g.inst x y → C s t es fs → ResRel (NextRel R B) (perform s f es x) (perform t g fs y)
-    perform_rel s f (goes c r) e = done (ran (changed_rel s c) (stacks.steady (stacks.push (Related.running (frame_rel f r)) (stacks.changes c e))))
-    perform_rel s f (calls {vs = vs} n v r) e =
-        bind_is (same_there (s.types n)) (λ u is. bind_rel_is (pop_typed_rel R u.params v) (λ p q pops z. stacks.enters s n is (all_at (pop_typed_all u.params vs) pops) z.first (stacks.push (Related.running (frame_rel f (left_rel r z.second))) e)))
-    perform_rel s f (asks_grow n r) e = done (asked_grow n s (stacks.steady (stacks.push (growing n) (stacks.push (Related.running (frame_rel f r)) e))))
-    perform_rel {s = s1} {t = t1} {f = f} {es = es} {fs = fs} s p (ends {vs = vs} {ws = ws} v) e = subst (λ ts. ResRel (NextRel R B) (bind (pop_typed f.results vs) (λ q. give s1 q.0 es)) (bind (pop_typed ts ws) (λ q. give t1 q.0 fs))) p.results (bind_rel (pop_typed_rel R f.results v) (λ _ _ q. stacks.gives s q.first e))
-
-    -- one step of frames on top
-    pub top_rel : {s t : Store} {f g : Frame} {es fs : List Entry} → StoreRel R s t → FrameRel R f g → C s t es fs → ((x : Act) → act s f ≡ Gives x → NotListed R x) → TopKnown R f.inst g.inst f.levels g.levels → ResRel (NextRel R B) (step s (Running f ∷ es)) (step t (Running g ∷ fs))
-    top_rel s f e free u = bind_rel (act_rel s f free u) (λ _ _ a. perform_rel s f a e)

@@ -18,7 +18,7 @@ use Rattle.index_remap.specs.Laws.{passed, Above, Touches, EntriesKnown}
 use Rattle.index_remap.specs.References.{is_among}
 use Rattle.index_remap.specs.Unknown.{Unknowns, is_place_among, GlobalOff, RefsOff, TableOff, StoreRelOff, Read, ReadsNothing, ReadsGlobal, ReadsSlots, IsKnown, ReadsKnown, StepReadsKnown, left_unknown, NextOff, KnownSteps, none_left, known_step, Follows}
 use Rattle.index_remap.proofs.Known.{entries_known}
-use Rattle.index_remap.proofs.Lockstep.{entries_of}
+use Rattle.index_remap.proofs.AboveSteps.{entries_of}
 use Rattle.index_remap.proofs.SameRuns.{touches, skips}
 use Rattle.index_remap.proofs.LawRows.{nowhere, no_store, runs, no_more}
 use Rattle.index_remap.proofs.UnknownSteps.{follows}
@@ -191,4 +191,4 @@ it_breaks_the_law law =
     (skips zeros first (runs inst [] reads ∷ [])) (entries_known R (λ k a b p. p) (runs inst [] reads ∷ []) (runs inst [] reads ∷ [])))
   where
     go : ResRel (NextOff R unknown (Above R [] [])) (Gives (Ran first (runs inst (Num W32 1 ∷ []) [] ∷ []))) (Gives (Ran second (runs inst (Num W32 2 ∷ []) [] ∷ []))) → ⊥
-    go (done (ran h a)) = different (entries_of R apart a)
+    go (done (ran h a)) = different (entries_of R a)

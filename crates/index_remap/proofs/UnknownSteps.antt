@@ -6,8 +6,7 @@ use Rattle.wasm_meaning.specs.Step.{step}
 use Rattle.index_remap.specs.Related.{Pairing, OneToOneWhereWritten, ResRel, done, ListRel, EntryRel, ran}
 use Rattle.index_remap.specs.Laws.{passed, Above}
 use Rattle.index_remap.specs.Unknown.{Unknowns, StoreRelOff, left_unknown, NextOff, here, step_on, KnownSteps, none_left, known_step, Follows, StepsAgreeOff, RunsAgreeOff}
-use Rattle.index_remap.proofs.AboveSteps.{step_off}
-use Rattle.index_remap.proofs.Lockstep.{whole, entries_of}
+use Rattle.index_remap.proofs.AboveSteps.{whole, entries_of, step_off}
 use Rattle.index_remap.proofs.SameRuns.{touches}
 
 pub steps_agree_off : StepsAgreeOff
@@ -26,7 +25,7 @@ module _ (R : Pairing) (apart : OneToOneWhereWritten R) where
   led v s t es fs o r e = go (step t fs) refl (subst (λ x. ResRel (NextOff R v (Above R [] [])) x (step t fs)) e r)
     where
       go : (p : Outcome Next) → step t fs ≡ p → ResRel (NextOff R v (Above R [] [])) (Gives (Ran s es)) p → Led v s es t fs
-      go _ i (done (ran h a)) = record { store = _; entries = _; steps = i; related = h; stack = entries_of R apart a }
+      go _ i (done (ran h a)) = record { store = _; entries = _; steps = i; related = h; stack = entries_of R a }
 
   pub follows : {n : ℕ} {u v : Unknowns} {s r t : Store} {es gs fs : List Entry} → StoreRelOff R u s t → ListRel (EntryRel R) es fs → KnownSteps R n u s es v r gs → Follows R n v r gs t fs
   follows {t = t} {fs = fs} h e none_left = record { store = t; entries = fs; steps = here; related = h; stack = e }

@@ -9,7 +9,7 @@ use Rattle.wasm_meaning.specs.Outcomes.{Gives}
 use Rattle.wasm_meaning.specs.State.{Inst, Val, Store, Entry, Running, Mark, Opening, Caller, Act, Ends}
 use Rattle.wasm_meaning.specs.Step.{act, step, to_mark}
 use Rattle.wasm_meaning.specs.Run.{Run, Out, show_all, tick, events_of}
-use Rattle.index_remap.specs.RelatedRuns.{ShowRel, RunRel, OutRel, KeepsOthers, IsBegun}
+use Rattle.index_remap.specs.RelatedRuns.{ShowRel, RunRel, OutRel, turned, KeepsOthers, IsBegun}
 use Rattle.wasm_tree.specs.declared.types.ValType.{ValType}
 use Rattle.wasm_tree.specs.declared.types.FuncType.{FuncType}
 use Rattle.wasm_tree.specs.declared.instr.Instr.{Instr}
@@ -140,11 +140,11 @@ RelatedTicksAgree =
     (of : Space → ℕ → ℕ → Bool) → OneToOne (passed of of []) → (r q : Run) → RelatedRuns (passed of of []) r q →
     RelatedOuts (passed of of []) (tick r) (tick q)
 
--- Once both are instantiated, a step of the second run leaves the functions as they were, and all else that nothing of the first is related to.
+-- Once both are instantiated, a step of each leaves the functions as they were, and all else that has no partner in the other store.
 abbrev pub OthersStay : Type 0
 OthersStay =
     (of : Space → ℕ → ℕ → Bool) → OneToOne (passed of of []) → (r q : Run) → RelatedRuns (passed of of []) r q → IsBegun r.phase →
-    KeepsOthers (passed of of []) q.store (tick q).0.store
+    KeepsOthers (passed of of []) q.store (tick q).0.store × KeepsOthers (turned (passed of of [])) r.store (tick r).0.store
 
 -- code may name each address of the instance as one with itself
 pub record NamesItself (R : Pairing) (i : Inst) : Type 0 where

@@ -7,4 +7,6 @@ pub mod RelatedRuns
 pub mod Agreement
 pub mod Replaced
 pub mod Laws
+pub mod ListedRuns
+pub mod Trampolines
 pub mod Unknown

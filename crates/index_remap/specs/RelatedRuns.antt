@@ -51,7 +51,11 @@ pub record OutRel (R : Pairing) (B F : Store → Store → List Entry → List E
   pub event : o.1 ≡ p.1
   pub run : RunRel R B F o.0 p.0
 
--- nothing is related to this address of the second store
+-- the same addresses, read from the second store to the first
+abbrev pub turned : Pairing → Pairing
+turned R = record { of = λ k a b. R.of k b a; named = λ k a b. R.named k b a; listed = λ a. ⊥ }
+
+-- Nothing is related to this address of the second store. (For one of the first read it `turned`.)
 abbrev pub HasNoPartner : Pairing → Space → ℕ → Type 0
 HasNoPartner R k b = (a : ℕ) → R.of k a b → ⊥
 

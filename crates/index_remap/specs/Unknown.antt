@@ -79,7 +79,8 @@ slot_read a vs = bind (pop_num W32 vs) (λ i. Gives (ReadsSlots a i.0 1))
 abbrev pub range_read : (place_count : ℕ → ℕ → Read) → List Val → Outcome Read
 range_read f vs = bind (pop_three vs) (λ p. Gives (f p.0.1 p.0.2))
 
--- what an instruction reads with these values on the stack
+-- what an instruction reads of this, with these values on the stack: the global of `global.get`, the slot of `table.get` and `call_indirect`, the references that
+-- `table.copy` and `table.init` copy
 abbrev pub read_by : Instr-F Instr → Env → List Val → Outcome Read
 read_by (Instr-F.GlobalGet n) env vs = with_entry env.inst.globals n (λ a. Gives (ReadsGlobal a))
 read_by (Instr-F.TableGet n) env vs = with_entry env.inst.tables n (λ a. slot_read a vs)

@@ -8,6 +8,14 @@ mod remap;
 mod renumbering;
 
 ghost use Rattle.index_remap.specs.Laws.{CodeIsRelatedToItself, NamedAreKnown, OthersStay, RelatedRunsShowTheSame, RelatedTicksAgree, RenumberedCodeIsRelated, ReplacedCodeIsRelated, ShownAgree, StepsAgree, TrapsAgree, TypingIsKept, UnlistedAreRenumbered};
+ghost use Rattle.index_remap.specs.ListedRuns.{ListedRunsAgree};
+ghost use Rattle.index_remap.specs.Trampolines.{
+  FramesBetweenAreNotSeen,
+  SlotCallsAgree,
+  SlotCallsEnterSlots,
+  TrampolineCallsAgree,
+  TrampolinesEnterSlots,
+};
 ghost use Rattle.index_remap.specs.Unknown.{NothingUnknown, RunsAgreeOff, SetGlobalsAreKnown, StepsAgreeOff};
 
 pub use declaring::declare_refs;
@@ -45,15 +53,28 @@ pub fn steps_agree()
 {}
 
 /// Two runs that are related by a one-to-one relation of addresses, functions included, where all that code may name as one is related and no function is set apart,
-/// show the same events in however many steps (`events`): each step shows the same and leaves them related (`ticks`). Once they are instantiated it leaves the functions of the second as they were, and all else that nothing of the
-/// first is related to (`others`).
+/// show the same events in however many steps (`events`): each step shows the same and leaves them related (`ticks`). Once they are instantiated it leaves the functions as
+/// they were, and all else that has no partner in the other store (`others`). Where functions are set apart, all of this is so of each step that begins no call of one of
+/// them, be it by a frame, a start or a move (`listed`).
 pub fn related_runs_show_the_same()
     ensures events { RelatedRunsShowTheSame }
     ensures ticks { RelatedTicksAgree }
     ensures others { OthersStay }
-{
-    steps_agree();
-}
+    ensures listed { ListedRunsAgree }
+{}
+
+/// Calls through the slots of a table, as of a module of which functions are moved to another. Of related runs of which the second has frames of trampolines between, which
+/// only pass results on, a step of the first that begins no call of a function of the list is answered by one or two of the second (`between`). A trampoline that is
+/// entered has, after a step for each parameter and two more, entered what stands in its slot, with the same values (`trampolines`); so have, after two steps, the two
+/// instructions `i32.const` and `call_indirect` (WebAssembly Core 2.0, section 4.4.8, `slots`). Where that has related code, these come to what the direct call comes to:
+/// with the trampoline's frame between (`through`), and with none (`instead`).
+pub fn calls_through_slots_agree()
+    ensures between { FramesBetweenAreNotSeen }
+    ensures trampolines { TrampolinesEnterSlots }
+    ensures slots { SlotCallsEnterSlots }
+    ensures through { TrampolineCallsAgree }
+    ensures instead { SlotCallsAgree }
+{}
 
 /// Of stores that correspond but for places of which nothing is known: where there are no such places, they correspond (`nothing`); a related global that is set to
 /// a related value is known from then on (`set`).

@@ -31,10 +31,10 @@ use Rattle.index_remap.specs.declared.remap.Remap.{Remap}
 use Rattle.index_remap.specs.Renumbered.{fits_import, fits_func}
 use Rattle.index_remap.specs.Related.{Pairing, OptRel}
 use Rattle.world_simulation.specs.Alone.{one}
-use Rattle.world_simulation.specs.Definitions.{Instantiated, DefinedAt, values_in, FuncsCorrespond, GlobalsCorrespond, ElemsCorrespond, is_declarative, Partners, DefinitionsCorrespond}
+use Rattle.world_simulation.specs.Definitions.{Instantiated, DefinedAt, values_in, FuncsCorrespond, FuncsAt, GlobalsCorrespond, is_declarative, Partners, DefinitionsCorrespond}
 use Rattle.world_simulation.proofs.Places.{both_or_none, left_true, right_true, map_length, right_there, left_there}
 use Rattle.world_simulation.proofs.Defined.{Stands, stands}
-use Rattle.world_simulation.proofs.Stored.{func_placed, global_placed, elem_placed, func_rel, global_rel, elem_rel}
+use Rattle.world_simulation.proofs.Stored.{func_placed, global_placed, elem_placed, func_rel, global_rel, ElemsAlike, elem_rel, alike_correspond}
 use Rattle.world_simulation.proofs.Allocated.{stores_there, part_there}
 use Rattle.merge_validity.specs.Joinable.{CanBeJoined}
 use Rattle.merge_worlds.specs.Instances.{PartAgrees}
@@ -145,7 +145,7 @@ module _ (laws : Laws) (env : Environment) (parts : List Part) (mode : Mode) (ca
   globals_alike : (p : ℕ) (m : Module) → module_at parts p ≡ Some m → (n : ℕ) (g : GlobalDef) → slice_get m.globals n ≡ Some g → GlobalsCorrespond R (values_in env v p) (values_in env w 0) g (merged_global parts p g)
   globals_alike p m is n g h = record { type = refl; init = const_rel laws env parts mode can insts j each are p m g.init g.ty.ty is (global_typed laws m (can.valid p m is) n g h) }
 
-  elems_alike : (p : ℕ) (m : Module) → module_at parts p ≡ Some m → (n : ℕ) (e : ElemSeg) → slice_get m.elems n ≡ Some e → ElemsCorrespond R (values_in env v p) (values_in env w 0) e (merged_elem parts p (map_of parts p m) e)
+  elems_alike : (p : ℕ) (m : Module) → module_at parts p ≡ Some m → (n : ℕ) (e : ElemSeg) → slice_get m.elems n ≡ Some e → ElemsAlike R (values_in env v p) (values_in env w 0) e (merged_elem parts p (map_of parts p m) e)
   elems_alike p m is n e h = record {
     declarative = same_kind parts p (map_of parts p m) e.mode;
     items = placed_rel (merged_const parts p) e.items (λ l x at. const_rel laws env parts mode can insts j each are p m x (Ref e.ty) is (item_typed laws m (can.valid p m is) n e h l x at));
@@ -203,11 +203,11 @@ module _ (laws : Laws) (env : Environment) (parts : List Part) (mode : Mode) (ca
 
   pub definitions_correspond : DefinitionsCorrespond R env v w
   definitions_correspond = record {
-    funcs = partner (funcs_join parts mode) _ funcs_alike;
+    funcs = λ a b r. partner (funcs_join parts mode) (λ p i f q j g. FuncsAt R a i j f g) (λ p m i is k n f h. FuncsAt.alike (funcs_alike p m i is k n f h)) a b r;
     tables = partner (tables_join parts mode) _ (λ p m i is k n x h. refl);
     mems = partner (mems_join parts mode) _ (λ p m i is k n x h. refl);
     globals = partner (globals_join parts mode) _ (λ p m i is k n x h. globals_alike p m is n x h);
-    elems = partner (elems_join parts mode) _ (λ p m i is k n x h. elems_alike p m is n x h);
+    elems = partner (elems_join parts mode) _ (λ p m i is k n x h. alike_correspond R (values_in env v p) (values_in env w 0) (elems_alike p m is n x h));
     datas = partner (datas_join parts mode) _ (λ p m i is k n x h. refl);
   }
 

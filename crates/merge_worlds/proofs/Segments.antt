@@ -9,7 +9,7 @@ use Rattle.wasm_meaning.specs.Linking.{Part, module_at}
 use Rattle.wasm_meaning.specs.Environment.{Environment}
 use Rattle.wasm_meaning.specs.World.{Task, tasks_in, defined_count, defined_before, numbers, insts_from, elem_tasks, data_tasks}
 use Rattle.merge_terms.specs.Merged.{by_part_from, map_of, merged_const, merged_elem, merged_elem_mode, merged_data, merged_data_mode}
-use Rattle.world_simulation.specs.Segments.{InOrder, both, ends, only_second, ElemsPartner, ElemAlone, DatasPartner, alone_in_first, offset_in, ElemsInOrder, DatasInOrder}
+use Rattle.world_simulation.specs.Segments.{InOrder, both, ends, only_second, ElemsPartner, ElemAlone, DatasPartner, offset_in, ElemsInOrder, DatasInOrder}
 use Rattle.world_simulation.proofs.Instancing.{addresses_in}
 use Rattle.world_simulation.proofs.Ordered.{tasks_by, elems_by, datas_by}
 use Rattle.merge_worlds.specs.Instances.{SpaceAgrees, PartAgrees, InstancesAgree}
@@ -29,7 +29,7 @@ use Rattle.wasm_tree.specs.Spaces.{tables_of, memories_of}
 use Rattle.wasm_valid.specs.Constants.{const_type}
 use Rattle.wasm_valid.specs.Validity.{ElemModeHolds, DataModeHolds}
 use Rattle.index_remap.specs.Related.{Pairing}
-use Rattle.index_remap.specs.RelatedRuns.{HasNoPartner}
+use Rattle.index_remap.specs.RelatedRuns.{turned, HasNoPartner}
 use Rattle.export_names.specs.declared.mode.Mode.{Mode}
 use Rattle.merge_terms.specs.Joined.{joined_module}
 use Rattle.merge_validity.specs.Joinable.{CanBeJoined}
@@ -196,7 +196,7 @@ module _ (laws : Laws) (env : Environment) (parts : List Part) (mode : Mode) (ca
       go elem.Declarative h = segments.ElemsPartner.declarative
 
   -- a segment that declares references has no partner
-  declared_alone : (fs ns : List ℕ) → InOrder (λ x y. ElemsPartner R (values_in env v x.part) (values_in env w y.part) x y x.segment.mode y.segment.mode) (λ x. ElemAlone (alone_in_first R) env v x x.segment.mode) (λ y. ElemAlone (HasNoPartner R) env w y y.segment.mode) [] (tasks_in 0 j ns (last_segments fs))
+  declared_alone : (fs ns : List ℕ) → InOrder (λ x y. ElemsPartner R (values_in env v x.part) (values_in env w y.part) x y x.segment.mode y.segment.mode) (λ x. ElemAlone (HasNoPartner (turned R)) env v x x.segment.mode) (λ y. ElemAlone (HasNoPartner R) env w y y.segment.mode) [] (tasks_in 0 j ns (last_segments fs))
   declared_alone [] [] = ends
   declared_alone [] (n ∷ ns) = ends
   declared_alone (f ∷ fs) [] = ends

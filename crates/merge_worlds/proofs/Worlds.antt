@@ -113,7 +113,7 @@ module _ (spaces : SpaceLaws) (laws : Laws) (nothing : StartsTakeNothing) (simil
   matched insts js s z f g h i =
       let k = agree insts js f g in
       all_matched spaces env parts can.linked mode
-      (allocated_law (is_shared env parts) env (linked_world parts mode) (alone J) insts js s z (shares_own env parts) (definitions insts js k g) h i) insts js k h
+      (allocated_law (is_shared env parts) (is_shared env parts) [] env (linked_world parts mode) (alone J) insts js s z (shares_own env parts) (definitions insts js k g) h i) insts js k h
 
   linked : links env (linked_world parts mode) ≡ links env (alone J)
   linked = there_same {P = λ x y. Unit {0}} (then_both (instances_agree spaces env parts mode can) (λ insts js e f k. then_both (stores insts js k f) (λ s z g h x. then_rel (all_rel (view_agrees env parts fit insts js k mode)) (λ xs ys view.
@@ -176,7 +176,7 @@ module _ (spaces : SpaceLaws) (laws : Laws) (nothing : StartsTakeNothing) (simil
   begun_or_none = alike_there _ _ linked (λ b c f g.
       let x = made_law env (linked_world parts mode) b f in
       let y = made_law env (alone J) c g in
-      let q = similar_law (is_shared env parts) (one_to_one env parts) env (linked_world parts mode) (alone J) similar b c f g in
+      let q = similar_law (is_shared env parts) (is_shared env parts) [] (one_to_one env parts) env (linked_world parts mode) (alone J) similar b c f g in
       record {
         related = record { store = q.store; entries = cons (opening (shared_starts b c x y)) nil; closed = nil; trapped = q.trapped; view = q.view; owned = q.owned };
         starts = begun_starts b c x y;

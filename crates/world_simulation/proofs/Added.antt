@@ -19,8 +19,8 @@ use Rattle.wasm_meaning.specs.Environment.{Thing}
 use Rattle.wasm_meaning.specs.World.{Filled, Task, numbers, const_value, store_with, joined_stores, tasks_in, fill_table, run_elem_with, fill_memory, run_data_with, and_then, in_turn}
 use Rattle.wasm_meaning.specs.InTurn.{Added, added, added_as, own_segments, next_inst, all_match}
 use Rattle.index_remap.specs.Related.{Pairing, BothRel, both, StoreRel}
-use Rattle.index_remap.specs.RelatedRuns.{HasNoPartner}
-use Rattle.world_simulation.specs.Segments.{alone_in_first, offset_in}
+use Rattle.index_remap.specs.RelatedRuns.{turned, HasNoPartner}
+use Rattle.world_simulation.specs.Segments.{offset_in}
 use Rattle.world_simulation.specs.Added.{WritesAlone}
 use Rattle.world_simulation.proofs.Copied.{then_holds, Kept, nothing_kept, table_kept, memory_kept}
 use Rattle.world_simulation.proofs.Ordered.{in_first, in_second, first_apart, second_apart, kept_rel, task_at, task_inst}
@@ -40,7 +40,7 @@ more_left : {A B : Type 0} {P : A → B → Type 0} {p : Option B} (xs ys : List
 more_left {P = P} {p = p} xs ys n r = let a = left_is r in subst (λ o. BothRel P o p) (a.1 ∙ sym (append_at_left xs ys n a.0 a.1)) r
 
 module _ (R : Pairing) where
-  joined_right : {s z : Store} (t : Store) → StoreRel R s z → StoreRel R s (joined_stores z t)
+  pub joined_right : {s z : Store} (t : Store) → StoreRel R s z → StoreRel R s (joined_stores z t)
   joined_right {s} {z} t like = record {
     types = λ {a} {b} r. rw (same a b r) (like.types r);
     owns = λ {a} {b} r. rw (same a b r) (like.owns r);
@@ -136,35 +136,35 @@ cond_is : {A : Type 0} (b : Bool) (o : Option A) (a : A) → cond b o None ≡ S
 cond_is true o a h = h
 cond_is false o a h = cc
 
-number_past : (from count n a : ℕ) → slice_get (numbers from count) n ≡ Some a → from ≤ a
+pub number_past : (from count n a : ℕ) → slice_get (numbers from count) n ≡ Some a → from ≤ a
 number_past from zero n a h = cc
 number_past from (suc count) zero a h = let same : from ≡ a = cc in omega (arith, same)
 number_past from (suc count) (suc n) a h = let l = number_past (suc from) count n a h in omega (arith, l)
 
 -- what it comes to: what it defines behind what is there, and then its segments
-added_is : (s : Store) (m : Module) (things : List Thing) (a : Added) → added s m things ≡ Some a → let i = next_inst s m things in (t : Store) × (record { inst = i; filled = own_segments (const_value s.globals i) m i (joined_stores s t) } ≡ a)
+pub added_is : (s : Store) (m : Module) (things : List Thing) (a : Added) → added s m things ≡ Some a → let i = next_inst s m things in (t : Store) × (store_with (const_value s.globals i) m i ≡ Some t) × (record { inst = i; filled = own_segments (const_value s.globals i) m i (joined_stores s t) } ≡ a)
 added_is s m things a h =
     let i = next_inst s m things in
     let t = and_then_is (store_with (const_value s.globals i) m i) _ a (cond_is (all_match s m m.imports things) (added_as s m i) a h) in
     let last = t.2 in
     let same : record { inst = i; filled = own_segments (const_value s.globals i) m i (joined_stores s t.0) } ≡ a = cc in
-    (t.0, same)
+    (t.0, t.1, same)
 
 module _ (R : Pairing) (s z : Store) (m : Module) (things : List Thing) (a : Added) (like : StoreRel R s z) where
   pub added_second : added z m things ≡ Some a → WritesAlone (HasNoPartner R) m a.inst → StoreRel R s a.filled.store
   added_second h writes =
       let i = next_inst z m things in
       let t = added_is z m things a h in
-      subst (λ (a : Added). StoreRel R s a.filled.store) t.1 (kept_rel R (joined_right R t.0 like) (nothing_kept (in_first R) s) (segments_kept (in_second R) (HasNoPartner R) (second_apart R) (const_value z.globals i) m i
+      subst (λ (a : Added). StoreRel R s a.filled.store) t.2 (kept_rel R (joined_right R t.0 like) (nothing_kept (in_first R) s) (segments_kept (in_second R) (HasNoPartner R) (second_apart R) (const_value z.globals i) m i
       (λ n b e c r. let past = number_past (length z.elems) (length m.elems) n b e in let k = right_is (like.elems r) in let l = slice_get_within z.elems b k.0 k.1 in absurd (omega (arith, past, l)))
       (λ n b e c r. let past = number_past (length z.datas) (length m.datas) n b e in let k = right_is (like.datas r) in let l = slice_get_within z.datas b k.0 k.1 in absurd (omega (arith, past, l)))
-      (subst (λ (a : Added). WritesAlone (HasNoPartner R) m a.inst) (sym t.1) writes) (joined_stores z t.0)))
+      (subst (λ (a : Added). WritesAlone (HasNoPartner R) m a.inst) (sym t.2) writes) (joined_stores z t.0)))
 
-  pub added_first : added s m things ≡ Some a → WritesAlone (alone_in_first R) m a.inst → StoreRel R a.filled.store z
+  pub added_first : added s m things ≡ Some a → WritesAlone (HasNoPartner (turned R)) m a.inst → StoreRel R a.filled.store z
   added_first h writes =
       let i = next_inst s m things in
       let t = added_is s m things a h in
-      subst (λ (a : Added). StoreRel R a.filled.store z) t.1 (kept_rel R (joined_left R t.0 like) (segments_kept (in_first R) (alone_in_first R) (first_apart R) (const_value s.globals i) m i
+      subst (λ (a : Added). StoreRel R a.filled.store z) t.2 (kept_rel R (joined_left R t.0 like) (segments_kept (in_first R) (HasNoPartner (turned R)) (first_apart R) (const_value s.globals i) m i
       (λ n b e c r. let past = number_past (length s.elems) (length m.elems) n b e in let k = left_is (like.elems r) in let l = slice_get_within s.elems b k.0 k.1 in absurd (omega (arith, past, l)))
       (λ n b e c r. let past = number_past (length s.datas) (length m.datas) n b e in let k = left_is (like.datas r) in let l = slice_get_within s.datas b k.0 k.1 in absurd (omega (arith, past, l)))
-      (subst (λ (a : Added). WritesAlone (alone_in_first R) m a.inst) (sym t.1) writes) (joined_stores s t.0)) (nothing_kept (in_second R) z))
+      (subst (λ (a : Added). WritesAlone (HasNoPartner (turned R)) m a.inst) (sym t.2) writes) (joined_stores s t.0)) (nothing_kept (in_second R) z))

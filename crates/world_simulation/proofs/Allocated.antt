@@ -1,63 +1,61 @@
 -- What a part adds to the store stands there at the addresses of the part.
-use Rattle.std.proofs.Common.{◌≡◌, ℕ, zero, suc, ◌+◌, ◌*◌, false, List, [], ◌∷◌, ◌++◌, map, length, Some, refl, sym, ap, ap₂, ◌∙◌, arith, option_and_then, slice_get}
+use Rattle.std.proofs.Common.{◌≡◌, ℕ, zero, suc, ◌+◌, false, List, [], ◌∷◌, ◌++◌, map, length, Option, Some, refl, sym, ap, ap₂, ◌∙◌, arith, option_and_then, slice_get}
 use Rattle.std.proofs.lemmas.Option.{same_Some, slice_get_within}
 use Rattle.std.proofs.lemmas.List.{length-append}
 use Rattle.base_lists.proofs.Places.{append_left, append_right}
 use Rattle.wasm_tree.specs.declared.space.Space.{Space}
 use Rattle.wasm_tree.specs.declared.space.Space.TheVariants.{Functions, Tables, Memories, Globals, ElementSegments, DataSegments}
-use Rattle.wasm_tree.specs.declared.types.Limits.{Limits}
-use Rattle.wasm_tree.specs.declared.types.TableType.{TableType}
+use Rattle.wasm_tree.specs.declared.module.ConstExpr.{ConstExpr}
 use Rattle.wasm_tree.specs.declared.module.DataSeg.{DataSeg}
 use Rattle.wasm_tree.specs.declared.module.Func as tree
 use Rattle.wasm_tree.specs.declared.module.GlobalDef.{GlobalDef}
 use Rattle.wasm_tree.specs.declared.module.ElemSeg.{ElemSeg}
 use Rattle.wasm_tree.specs.declared.module.Module.{Module}
-use Rattle.wasm_meaning.specs.Outcomes.{copies}
-use Rattle.wasm_meaning.specs.State.{Inst, Func, Table, Memory, Global, Elem, Data, Store}
-use Rattle.wasm_meaning.specs.Values.{null_of}
+use Rattle.wasm_meaning.specs.State.{Val, Inst, Func, Global, Elem, Data, Store}
 use Rattle.wasm_meaning.specs.Linking.{Part, module_at}
 use Rattle.wasm_meaning.specs.Environment.{Environment}
-use Rattle.wasm_meaning.specs.World.{defined_count, defined_before, all_there, new_func, new_global, elem_of, part_store, joined_stores, stores_from}
+use Rattle.wasm_meaning.specs.World.{defined_count, defined_before, all_there, new_func, new_global, global_with, elem_of, elem_with, value_of, store_with, part_store, joined_stores, stores_from}
+pub use Rattle.world_simulation.specs.Leaves.{new_table, new_memory}
 use Rattle.world_simulation.proofs.Places.{map_length}
 use Rattle.base_lists.proofs.Options.{and_then_is, all_there_length, all_there_from}
 
 -- ---- what one part adds ----
 
-abbrev pub new_table : TableType → Table
-new_table t = record { ty = t.ty; most = t.limits.max; slots = copies t.limits.min (null_of t.ty) }
-
-abbrev pub new_memory : Limits → Memory
-new_memory l = record { most = l.max; pages = l.min; bytes = copies (65536 * l.min) 0 }
-
 abbrev pub new_data : DataSeg → Data
 new_data d = record { bytes = d.bytes; dropped = false }
 
-pub record Adds (env : Environment) (all : List Part) (insts : List Inst) (p : ℕ) (m : Module) (i : Inst) (t : Store) : Type 0 where
+pub record AddsWith (value : ConstExpr → Option Val) (m : Module) (i : Inst) (t : Store) : Type 0 where
   pub funcs : all_there (new_func i) m.funcs ≡ Some t.funcs
   pub tables : t.tables ≡ map new_table m.tables
   pub mems : t.mems ≡ map new_memory m.mems
-  pub globals : all_there (new_global env all insts p) m.globals ≡ Some t.globals
-  pub elems : all_there (elem_of env all insts p) m.elems ≡ Some t.elems
+  pub globals : all_there (global_with value) m.globals ≡ Some t.globals
+  pub elems : all_there (elem_with value) m.elems ≡ Some t.elems
   pub datas : t.datas ≡ map new_data m.datas
 
-module _ (env : Environment) (all : List Part) (insts : List Inst) where
-  abbrev with_elems : Module → List Func → List Global → List Elem → Store
-  with_elems m funcs globals elems = record {
-    funcs = funcs;
-    globals = globals;
-    elems = elems;
-    tables = map new_table m.tables;
-    mems = map new_memory m.mems;
-    datas = map new_data m.datas;
-  }
+abbrev pub with_elems : Module → List Func → List Global → List Elem → Store
+with_elems m funcs globals elems = record {
+  funcs = funcs;
+  globals = globals;
+  elems = elems;
+  tables = map new_table m.tables;
+  mems = map new_memory m.mems;
+  datas = map new_data m.datas;
+}
 
+pub adds_with : (value : ConstExpr → Option Val) (m : Module) (i : Inst) (t : Store) → store_with value m i ≡ Some t → AddsWith value m i t
+adds_with value m i t h =
+    let f = and_then_is (all_there (new_func i) m.funcs) (λ funcs. option_and_then (λ globals. option_and_then (λ elems. Some (with_elems m funcs globals elems)) (all_there (elem_with value) m.elems)) (all_there (global_with value) m.globals)) t h in
+    let g = and_then_is (all_there (global_with value) m.globals) (λ globals. option_and_then (λ elems. Some (with_elems m f.0 globals elems)) (all_there (elem_with value) m.elems)) t f.2 in
+    let e = and_then_is (all_there (elem_with value) m.elems) (λ elems. Some (with_elems m f.0 g.0 elems)) t g.2 in
+    let same : with_elems m f.0 g.0 e.0 ≡ t = cc in
+    rw (← same) (record { funcs = f.1; tables = refl; mems = refl; globals = g.1; elems = e.1; datas = refl })
+
+abbrev pub Adds : Environment → List Part → List Inst → ℕ → Module → Inst → Store → Type 0
+Adds env all insts p = AddsWith (value_of env all insts p)
+
+module _ (env : Environment) (all : List Part) (insts : List Inst) where
   pub adds : (p : ℕ) (m : Module) (i : Inst) (t : Store) → part_store env all insts p m i ≡ Some t → Adds env all insts p m i t
-  adds p m i t h =
-      let f = and_then_is (all_there (new_func i) m.funcs) (λ funcs. option_and_then (λ globals. option_and_then (λ elems. Some (with_elems m funcs globals elems)) (all_there (elem_of env all insts p) m.elems)) (all_there (new_global env all insts p) m.globals)) t h in
-      let g = and_then_is (all_there (new_global env all insts p) m.globals) (λ globals. option_and_then (λ elems. Some (with_elems m f.0 globals elems)) (all_there (elem_of env all insts p) m.elems)) t f.2 in
-      let e = and_then_is (all_there (elem_of env all insts p) m.elems) (λ elems. Some (with_elems m f.0 g.0 elems)) t g.2 in
-      let same : with_elems m f.0 g.0 e.0 ≡ t = cc in
-      rw (← same) (record { funcs = f.1; tables = refl; mems = refl; globals = g.1; elems = e.1; datas = refl })
+  adds p m i t h = adds_with (value_of env all insts p) m i t h
 
   -- ---- what stands in the store ----
 
@@ -150,4 +148,4 @@ module _ (env : Environment) (all : List Part) (insts : List Inst) (p : ℕ) (m 
       let f = all_there_from (new_func i) m.funcs funcs in
       let g = all_there_from (new_global env all insts p) m.globals globals in
       let e = all_there_from (elem_of env all insts p) m.elems elems in
-      (with_elems env all insts m f.results g.results e.results, rw (f.are, g.are, e.are) refl)
+      (with_elems m f.results g.results e.results, rw (f.are, g.are, e.are) refl)

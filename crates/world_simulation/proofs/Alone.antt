@@ -21,7 +21,7 @@ use Rattle.world_simulation.specs.Alone.{one, site, key_in, thing_in, addresses,
 
 -- ---- what an import stands for ----
 
-key_is : (t : Module) (pair : Pair) (d : ImportDesc) → own_key_of t pair d ≡ key_in t.types pair d
+pub key_is : (t : Module) (pair : Pair) (d : ImportDesc) → own_key_of t pair d ≡ key_in t.types pair d
 key_is t pair (im.Func ty) = refl
 key_is t pair (im.Table u) = refl
 key_is t pair (im.Memory l) = refl

@@ -20,7 +20,7 @@ use Rattle.wasm_meaning.specs.Environment.{Environment}
 use Rattle.wasm_meaning.specs.World.{Filled, Task, or_trapped, fill_table, copy_elem, run_elem_with, fill_memory, copy_data, run_data_with}
 use Rattle.index_remap.proofs.Rel.{there, at_put_there}
 use Rattle.world_simulation.specs.Definitions.{Instantiated, DefinedAt, values_in}
-use Rattle.world_simulation.specs.Segments.{InOrder, ElemsPartner, ElemAlone, DatasPartner, DataAlone, alone_in_first, offset_in}
+use Rattle.world_simulation.specs.Segments.{InOrder, ElemsPartner, ElemAlone, DatasPartner, DataAlone, offset_in}
 use Rattle.world_simulation.specs.Segments as segments
 use Rattle.wasm_meaning.proofs.Slices.{split_lengths}
 

@@ -77,6 +77,14 @@ without_many n [] h = absurd (omega arith)
 without_many zero (x ∷ xs) h = refl
 without_many (suc n) (x ∷ xs) h = let l = without_many n xs (omega arith) in omega arith
 
+-- what stands elsewhere is still there
+pub without_there : {A : Type 0} (n : ℕ) (xs : List A) (x : ℕ) (d : A) → (x ≡ n → ⊥) → slice_get xs x ≡ Some d → (y : ℕ) × (slice_get (without n xs) y ≡ Some d)
+without_there n [] x d other h = cc
+without_there zero (z ∷ xs) zero d other h = absurd (other refl)
+without_there zero (z ∷ xs) (suc x) d other h = (x, h)
+without_there (suc n) (z ∷ xs) zero d other h = (zero, h)
+without_there (suc n) (z ∷ xs) (suc x) d other h = let r = without_there n xs x d (λ e. other (ap suc e)) h in (suc r.0, r.1)
+
 -- ---- index spaces ----
 
 -- an index before the hole stays, and one behind it goes down by one

@@ -18,4 +18,10 @@ pub mod Holes
 pub mod SameItems
 pub mod Unreachable
 pub mod Added
+pub mod Leaves
+pub mod Loaded
 mod Examples
+mod LeavesRows
+mod LoadedRows
+mod SegmentRows
+pub mod Copies

@@ -16,11 +16,11 @@ use Rattle.wasm_meaning.specs.Linking.{Part, module_at}
 use Rattle.wasm_meaning.specs.Environment.{Environment}
 use Rattle.wasm_meaning.specs.World.{Filled, Task, numbers, base, defined_before, insts_from, tasks_in, elem_tasks, data_tasks, or_trapped, fill_table, copy_elem, run_elem_with, run_elem, fill_memory, copy_data, run_data_with, run_data, and_then, in_turn}
 use Rattle.index_remap.specs.Related.{Pairing, OneToOne, OptRel, none, some, ListRel, RefRel, TableRel, StoreRel, set_table, set_memory, drop_elem, drop_data}
-use Rattle.index_remap.specs.RelatedRuns.{HasNoPartner}
+use Rattle.index_remap.specs.RelatedRuns.{turned, HasNoPartner}
 use Rattle.index_remap.proofs.Rel.{written, overwrite_rel, there}
 use Rattle.index_remap.proofs.StepsAgree.{changed_rel}
 use Rattle.world_simulation.specs.Definitions.{Instantiated, DefinedAt, values_in}
-use Rattle.world_simulation.specs.Segments.{InOrder, ElemsPartner, ElemAlone, DatasPartner, DataAlone, alone_in_first, offset_in, ElemsInOrder, DatasInOrder}
+use Rattle.world_simulation.specs.Segments.{InOrder, ElemsPartner, ElemAlone, DatasPartner, DataAlone, offset_in, ElemsInOrder, DatasInOrder}
 use Rattle.world_simulation.specs.Segments as segments
 use Rattle.world_simulation.proofs.Places.{then_rel, then_same, number_is}
 use Rattle.world_simulation.proofs.Instancing.{IsInst, inst_in}
@@ -131,7 +131,7 @@ module _ (R : Pairing) where
     datas = λ {a} {b} r. rw (f.datas a (b, r), g.datas b (a, r)) (like.datas r);
   }
 
-  pub first_apart : (k : Space) (a : ℕ) → alone_in_first R k a → in_first k a → ⊥
+  pub first_apart : (k : Space) (a : ℕ) → HasNoPartner (turned R) k a → in_first k a → ⊥
   first_apart k a alone r = alone r.0 r.1
 
   pub second_apart : (k : Space) (b : ℕ) → HasNoPartner R k b → in_second k b → ⊥
@@ -216,7 +216,7 @@ module _ (R : Pairing) (apart : OneToOne R) (env : Environment) (v w : Instantia
 
   -- ---- in order ----
 
-  pub elems_in_order : {xs ys : List (Task ElemSeg)} → InOrder (λ x y. ElemsPartner R (values_in env v x.part) (values_in env w y.part) x y x.segment.mode y.segment.mode) (λ x. ElemAlone (alone_in_first R) env v x x.segment.mode) (λ y. ElemAlone (HasNoPartner R) env w y y.segment.mode) xs ys →
+  pub elems_in_order : {xs ys : List (Task ElemSeg)} → InOrder (λ x y. ElemsPartner R (values_in env v x.part) (values_in env w y.part) x y x.segment.mode y.segment.mode) (λ x. ElemAlone (HasNoPartner (turned R)) env v x x.segment.mode) (λ y. ElemAlone (HasNoPartner R) env w y y.segment.mode) xs ys →
       Defines env v ElementSegments (λ m. m.elems) xs → Defines env w ElementSegments (λ m. m.elems) ys → (s z : Store) → Stores s z → FilledAlike (in_turn (run_elem env v.parts v.insts) s xs) (in_turn (run_elem env w.parts w.insts) z ys)
   elems_in_order segments.InOrder.ends d e s z like = goes_on like
   elems_in_order (segments.InOrder.both {x = x} {y = y} p r) d e s z like =
@@ -225,12 +225,12 @@ module _ (R : Pairing) (apart : OneToOne R) (env : Environment) (v w : Instantia
       (λ s z like. elems_in_order r (λ n. d (suc n)) (λ n. e (suc n)) s z like)
   elems_in_order (segments.InOrder.only_first {x = x} p r) d e s z like =
       let i = d 0 x refl in
-      first_goes (elem_copied (in_first R) (alone_in_first R) (first_apart R) env v s x like.first i.0 i.1 x.segment.mode p) (run_elem_room env v (values_in env v x.part) x x.segment.mode like.first) like (λ s like. elems_in_order r (λ n. d (suc n)) e s z like)
+      first_goes (elem_copied (in_first R) (HasNoPartner (turned R)) (first_apart R) env v s x like.first i.0 i.1 x.segment.mode p) (run_elem_room env v (values_in env v x.part) x x.segment.mode like.first) like (λ s like. elems_in_order r (λ n. d (suc n)) e s z like)
   elems_in_order (segments.InOrder.only_second {y = y} p r) d e s z like =
       let i = e 0 y refl in
       second_goes (elem_copied (in_second R) (HasNoPartner R) (second_apart R) env w z y like.second i.0 i.1 y.segment.mode p) (run_elem_room env w (values_in env w y.part) y y.segment.mode like.second) like (λ z like. elems_in_order r d (λ n. e (suc n)) s z like)
 
-  pub datas_in_order : {xs ys : List (Task DataSeg)} → InOrder (λ x y. DatasPartner R (values_in env v x.part) (values_in env w y.part) x y x.segment.mode y.segment.mode) (λ x. DataAlone (alone_in_first R) env v x x.segment.mode) (λ y. DataAlone (HasNoPartner R) env w y y.segment.mode) xs ys →
+  pub datas_in_order : {xs ys : List (Task DataSeg)} → InOrder (λ x y. DatasPartner R (values_in env v x.part) (values_in env w y.part) x y x.segment.mode y.segment.mode) (λ x. DataAlone (HasNoPartner (turned R)) env v x x.segment.mode) (λ y. DataAlone (HasNoPartner R) env w y y.segment.mode) xs ys →
       Defines env v DataSegments (λ m. m.datas) xs → Defines env w DataSegments (λ m. m.datas) ys → (s z : Store) → Stores s z → FilledAlike (in_turn (run_data env v.parts v.insts) s xs) (in_turn (run_data env w.parts w.insts) z ys)
   datas_in_order segments.InOrder.ends d e s z like = goes_on like
   datas_in_order (segments.InOrder.both {x = x} {y = y} p r) d e s z like =
@@ -239,7 +239,7 @@ module _ (R : Pairing) (apart : OneToOne R) (env : Environment) (v w : Instantia
       (λ s z like. datas_in_order r (λ n. d (suc n)) (λ n. e (suc n)) s z like)
   datas_in_order (segments.InOrder.only_first {x = x} p r) d e s z like =
       let i = d 0 x refl in
-      first_goes (data_copied (in_first R) (alone_in_first R) (first_apart R) env v s x like.first i.0 i.1 x.segment.mode p) (run_data_room env v (values_in env v x.part) x x.segment.mode like.first) like (λ s like. datas_in_order r (λ n. d (suc n)) e s z like)
+      first_goes (data_copied (in_first R) (HasNoPartner (turned R)) (first_apart R) env v s x like.first i.0 i.1 x.segment.mode p) (run_data_room env v (values_in env v x.part) x x.segment.mode like.first) like (λ s like. datas_in_order r (λ n. d (suc n)) e s z like)
   datas_in_order (segments.InOrder.only_second {y = y} p r) d e s z like =
       let i = e 0 y refl in
       second_goes (data_copied (in_second R) (HasNoPartner R) (second_apart R) env w z y like.second i.0 i.1 y.segment.mode p) (run_data_room env w (values_in env w y.part) y y.segment.mode like.second) like (λ z like. datas_in_order r d (λ n. e (suc n)) s z like)

@@ -24,11 +24,12 @@ use Rattle.index_remap.specs.RelatedRuns.{ThingRel, a_func, a_table, a_memory, a
 use Rattle.index_remap.specs.Laws.{passed, RenumberedCodeIsRelated}
 use Rattle.remap_typing.specs.Indices.{Indices, ConstNamesOnly, FuncNamesOnly, ExportNamesOnly, ElemModeNamesOnly, DataModeNamesOnly}
 use Rattle.world_simulation.specs.Named.{EntriesName}
-use Rattle.world_simulation.specs.Definitions.{FuncsCorrespond, is_declarative, ElemsCorrespond}
+use Rattle.world_simulation.specs.Definitions.{FuncsCorrespond, is_declarative}
 use Rattle.world_simulation.specs.Segments.{offset_in, ElemsPartner, DatasPartner}
 use Rattle.world_simulation.specs.Segments as segments
 use Rattle.world_simulation.proofs.Places.{then_rel}
 use Rattle.world_simulation.proofs.Named.{all_named}
+use Rattle.world_simulation.proofs.Stored.{ElemsAlike}
 
 -- the offset of a segment, by values that are related
 pub offset_same : (R : Pairing) {o p : Option Val} → OptRel (ValRel R) o p → option_and_then (num_of W32) o ≡ option_and_then (num_of W32) p
@@ -85,8 +86,8 @@ module _ (of : Space → ℕ → ℕ → Bool) (m : Remap) (kept : Indices) (i j
         (offset_same R (consts d h.1))
     data_mode_named x y e f r data'.Passive h = segments.DatasPartner.passive
 
-    pub elems_correspond : (e : ElemSeg) → ((p : ℕ) (x : ConstExpr) → slice_get e.items p ≡ Some x → ConstNamesOnly kept x) → ElemsCorrespond R value second_value e (new_elem m e)
-    elems_correspond e h = record { declarative = same e.mode; items = items e.items h }
+    pub elems_alike : (e : ElemSeg) → ((p : ℕ) (x : ConstExpr) → slice_get e.items p ≡ Some x → ConstNamesOnly kept x) → ElemsAlike R value second_value e (new_elem m e)
+    elems_alike e h = record { declarative = same e.mode; items = items e.items h }
       where
         same : (mode : ElemMode) → is_declarative mode ≡ is_declarative (new_elem_mode m mode)
         same (elem.Active t d) = refl

@@ -19,7 +19,7 @@ use Rattle.wasm_tree.specs.Spaces.{imported_funcs, funcs_of}
 use Rattle.wasm_meaning.specs.State.{Inst, Text, Func, Global, Elem, Store, Val}
 use Rattle.index_remap.specs.declared.remap.Remap.{Remap}
 use Rattle.remap_typing.specs.Indices.{Indices, ExportNamesOnly, ConstNamesOnly, TreeNamesOnly}
-use Rattle.world_simulation.specs.Segments.{InOrder, both, ends, only_second, ElemsPartner, ElemAlone, DatasPartner, DataAlone, alone_in_first, ElemsInOrder, DatasInOrder}
+use Rattle.world_simulation.specs.Segments.{InOrder, both, ends, only_second, ElemsPartner, ElemAlone, DatasPartner, DataAlone, ElemsInOrder, DatasInOrder}
 use Rattle.world_simulation.proofs.Holes.{Down, Moved, stays, space_moves, stays_at, all_in_step}
 use Rattle.wasm_tree.specs.declared.module.GlobalDef.{GlobalDef}
 use Rattle.wasm_meaning.specs.Linking.{Entity, imports_of}
@@ -31,12 +31,12 @@ use Rattle.world_simulation.proofs.Stored.{func_rel, global_rel, elem_rel, store
 use Rattle.wasm_tree.specs.declared.module.Export.{Export}
 use Rattle.wasm_tree.specs.declared.module.ElemSeg.{ElemSeg}
 use Rattle.wasm_tree.specs.declared.module.DataSeg.{DataSeg}
-use Rattle.index_remap.specs.RelatedRuns.{KeyRel, HasNoPartner}
+use Rattle.index_remap.specs.RelatedRuns.{KeyRel, turned, HasNoPartner}
 use Rattle.index_remap.specs.Renumbered.{new_export, new_elem, new_data, new_global, new_const, new_start, has}
 use Rattle.index_remap.proofs.Rel.{append_rel, get_rel}
 use Rattle.world_simulation.specs.Definitions.{FuncsCorrespond, DefinitionsCorrespond, Instantiated, values_in}
 use Rattle.world_simulation.specs.Segments as order
-use Rattle.world_simulation.proofs.Renamed.{elems_correspond, elem_mode_named, data_mode_named, export_named, start_named, func_named}
+use Rattle.world_simulation.proofs.Renamed.{elems_alike, elem_mode_named, data_mode_named, export_named, start_named, func_named}
 use Rattle.wasm_tree.specs.declared.module.ConstExpr.{ConstExpr}
 use Rattle.wasm_tree.specs.declared.module.ConstExpr.TheVariants as const
 use Rattle.world_simulation.specs.Alone.{one, addresses, read_in, read_place}
@@ -138,7 +138,7 @@ module _ (of : Space → ℕ → ℕ → Bool) (m : Remap) (kept : Indices) (t u
         (λ x e h. elem_mode_named of m kept i j names (values_in env v 0) (values_in env w 0) consts _ _ refl refl (elem_shared (0 + x) (let l = slice_get_within t.elems x e h in omega arith)) e.mode (same.named.elem_modes x e h))
       where
         declared_alone : (fs : List ℕ) (ns : List ℕ) →
-            InOrder (λ x y. ElemsPartner R (values_in env v x.part) (values_in env w y.part) x y x.segment.mode y.segment.mode) (λ x. ElemAlone (alone_in_first R) env v x x.segment.mode) (λ y. ElemAlone (HasNoPartner R) env w y y.segment.mode) [] (tasks_in 0 j ns (last_segments fs) ++ [])
+            InOrder (λ x y. ElemsPartner R (values_in env v x.part) (values_in env w y.part) x y x.segment.mode y.segment.mode) (λ x. ElemAlone (HasNoPartner (turned R)) env v x x.segment.mode) (λ y. ElemAlone (HasNoPartner R) env w y y.segment.mode) [] (tasks_in 0 j ns (last_segments fs) ++ [])
         declared_alone [] [] = ends
         declared_alone [] (n ∷ ns) = ends
         declared_alone (f ∷ fs) [] = ends
@@ -209,7 +209,7 @@ module _ (of : Space → ℕ → ℕ → Bool) (m : Remap) (kept : Indices) (t u
           by (inl g) =
               let d = map_from (new_elem m) t.elems y e g in
               let r = all_there_at (world.elem_of env (one t) (i ∷ []) 0) t.elems added.elems adds_t.elems y d.0 d.1 in
-              let q = right_there (elem_rel R (values_in env v 0) (values_in env w 0) (elems_correspond of m kept i j names (values_in env v 0) (values_in env w 0) consts d.0 (λ l c k. same.named.items y l d.0 c d.1 k))) r.1 in
+              let q = right_there (elem_rel R (values_in env v 0) (values_in env w 0) (elems_alike of m kept i j names (values_in env v 0) (values_in env w 0) consts d.0 (λ l c k. same.named.items y l d.0 c d.1 k))) r.1 in
               (q.0, ap (world.elem_of env (one u) (j ∷ []) 0) (sym d.2) ∙ q.1)
           by (inr l) =
               let r = last func_space in

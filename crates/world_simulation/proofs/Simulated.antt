@@ -86,7 +86,7 @@ module _ (R : Pairing) (apart : OneToOne R) (env : Environment) (v w : World) (s
         (λ s z like. datas_in_order R apart env first second correspond.datas (datas_defined env first x.are_insts) (datas_defined env second y.are_insts) s z like)
 
     begun_alike : BegunAlike R (begun env v x.insts x.view (segments env v.parts x.insts x.allocated)) (begun env w y.insts y.view (segments env w.parts y.insts y.allocated))
-    begun_alike = record { store = filled.stores.related; trapped = filled.trapped; view = opt_both (all_rel correspond.view) x.is_view y.is_view; owned = owned_rel R env correspond.own }
+    begun_alike = record { store = filled.stores.related; entries = tt; closed = tt; trapped = filled.trapped; view = opt_both (all_rel correspond.view) x.is_view y.is_view; owned = owned_rel R env correspond.own }
 
   pub begin_alike : (b c : Begun) → instantiate env v ≡ Some b → instantiate env w ≡ Some c → BegunAlike R b c
   begin_alike b c f g =

@@ -34,7 +34,7 @@ address_rel R Globals (a_global p) = some p
 address_rel R k p = none
 
 module _ (R : Pairing) (env : Environment) (own : SharesOwn R env) where
-  thing_rel : (types : List FuncType) (o : Option Import) → OptRel (ThingRel R) (thing_in env types o) (thing_in env types o)
+  pub thing_rel : (types : List FuncType) (o : Option Import) → OptRel (ThingRel R) (thing_in env types o) (thing_in env types o)
   thing_rel types o = then_same o (λ i _. then_same (key_in types (pair_of i) i.desc) (λ key _. look_rel R env own (same_key key) (owned_rel R env own)))
 
   addresses_rel : (types : List FuncType) (imports : List Import) (k : Space) → OptRel (ListRel (R.of k)) (addresses env types imports k) (addresses env types imports k)
@@ -61,7 +61,7 @@ module _ (R : Pairing) (env : Environment) (own : SharesOwn R env) where
     table_same l {v} {w} r =
         ap (λ ty. same_ref l.ty ty && meets (length v.slots) v.most l.limits) r.type ∙ ap₂ (λ n most. same_ref l.ty w.ty && meets n most l.limits) (length_rel r.slots) r.most
 
-    match_same : (d : ImportDesc) {x y : Thing} → ThingRel R x y → is_match s t d x ≡ is_match z u d y
+    pub match_same : (d : ImportDesc) {x y : Thing} → ThingRel R x y → is_match s t d x ≡ is_match z u d y
     match_same (im.Func ty) {y = y} (a_func p) =
         on_some (slice_get t.types ty) (λ v. ap (λ o. option_and_then (λ w. Some (same_func_type v w)) o) (same_there (like.types p))) ∙ ap (λ ts. is_match z (record t { types = ts }) (im.Func ty) y) (sym types)
     match_same (im.Table l) (a_table {a = a} {b = b} p) = then_eq (there (like.tables p)) (λ _ _ r. ap Some (table_same l r))

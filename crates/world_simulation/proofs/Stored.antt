@@ -1,8 +1,9 @@
 -- What stands at the addresses of allocated stores; stores of which the definitions correspond are related.
-use Rattle.std.proofs.Common.{◌≡◌, ◌+◌, arith, ℕ, ◌<◌, List, [], length, Option, Some, refl, sym, ap, subst, ◌∙◌, option_and_then, slice_get}
+use Rattle.std.proofs.Common.{◌≡◌, ◌+◌, arith, ℕ, ◌<◌, List, [], length, Option, Some, Bool, true, false, refl, sym, ap, subst, ◌∙◌, option_and_then, slice_get}
 use Rattle.wasm_tree.specs.declared.space.Space.{Space}
 use Rattle.wasm_tree.specs.declared.space.Space.TheVariants.{Functions, Tables, Memories, Globals, ElementSegments, DataSegments}
-use Rattle.base_lists.proofs.Options.{all_there_at}
+use Rattle.std.proofs.lemmas.Option.{same_Some}
+use Rattle.base_lists.proofs.Options.{all_there_at, and_then_is}
 use Rattle.base_lists.proofs.Places.{slice_get_there, map_at}
 use Rattle.wasm_tree.specs.declared.types.FuncType.{FuncType}
 use Rattle.wasm_tree.specs.declared.module.ConstExpr.{ConstExpr}
@@ -13,15 +14,17 @@ use Rattle.wasm_tree.specs.declared.module.Func as tree
 use Rattle.wasm_tree.specs.declared.module.GlobalDef.{GlobalDef}
 use Rattle.wasm_tree.specs.declared.module.Module.{Module}
 use Rattle.wasm_meaning.specs.State.{RefVal, Val, Inst, Func, Code, Global, Elem, Store}
-use Rattle.wasm_meaning.specs.Values.{ref_of, declared}
+use Rattle.wasm_meaning.specs.Values.{ref_of}
+use Rattle.wasm_meaning.specs.Values as values
 use Rattle.wasm_meaning.specs.Control.{type_of_func, own_of}
 use Rattle.wasm_meaning.specs.Environment.{Environment, own_funcs, own_tables, own_memories, own_globals}
-use Rattle.wasm_meaning.specs.World.{defined_before, own_count, new_func, new_global, global_with, new_elem, elem_with, elem_of, own_store, stores_from}
+use Rattle.wasm_meaning.specs.Step.{no_items}
+use Rattle.wasm_meaning.specs.World.{all_there, defined_before, own_count, new_func, new_global, global_with, new_elem, elem_with, elem_of, own_store, stores_from}
 use Rattle.index_remap.specs.Related.{Pairing, OptRel, none, some, BothRel, both, ListRel, nil, RefRel, ValRel, number, reference, FuncRel, defined, own, TableRel, GlobalRel, ElemRel, StoreRel}
 use Rattle.index_remap.specs.Related as to
 use Rattle.index_remap.proofs.Rel.{copies_rel, get_rel}
 use Rattle.world_simulation.specs.Owned.{SharesOwn}
-use Rattle.world_simulation.specs.Definitions.{Instantiated, DefinedAt, values_in, FuncsCorrespond, GlobalsCorrespond, is_declarative, ElemsCorrespond, Partners, DefinitionsCorrespond}
+use Rattle.world_simulation.specs.Definitions.{Instantiated, DefinedAt, values_in, FuncsCorrespond, FuncsAt, alike, set_apart, GlobalsCorrespond, is_declarative, ElemsCorrespond, declared, kept, Partners, DefinitionsCorrespond}
 use Rattle.world_simulation.specs.Definitions as partners
 use Rattle.world_simulation.proofs.Allocated.{new_table, new_memory, new_data, Adds, Allocates, funcs_allocate, tables_allocate, mems_allocate, globals_allocate, elems_allocate, datas_allocate, keeps, stands}
 use Rattle.world_simulation.proofs.Owned.{null_rel, own_funcs_rel, own_tables_rel, own_globals_rel}
@@ -75,8 +78,30 @@ module _ (env : Environment) (w : Instantiated) (s : Store) (made : stores_from 
 module _ (R : Pairing) where
   pub func_rel : {i j : Inst} {f g : tree.Func} → FuncsCorrespond R i j f g → OptRel (FuncRel R) (new_func i f) (new_func j g)
   func_rel {i} {j} {f} {g} k =
-      subst (λ o. OptRel (FuncRel R) (new_func i f) (option_and_then (λ t. Some (Code t j (declared g.locals) g.body)) o)) k.type
-      (then_same (slice_get i.types f.ty) (λ t _. some (subst (λ ls. FuncRel R (Code t i (declared f.locals) f.body) (Code t j (declared ls) g.body)) k.locals (defined k.code))))
+      subst (λ o. OptRel (FuncRel R) (new_func i f) (option_and_then (λ t. Some (Code t j (values.declared g.locals) g.body)) o)) k.type
+      (then_same (slice_get i.types f.ty) (λ t _. some (subst (λ ls. FuncRel R (Code t i (values.declared f.locals) f.body) (Code t j (values.declared ls) g.body)) k.locals (defined k.code))))
+
+  -- types, and whose they are
+  abbrev SameHead : Func → Func → Type 0
+  SameHead f g = (type_of_func f ≡ type_of_func g) × (own_of f ≡ own_of g)
+
+  type_is : {o p : Option Func} → BothRel SameHead o p → BothRel (◌≡◌ {A = FuncType}) (option_and_then (λ f. Some (type_of_func f)) o) (option_and_then (λ f. Some (type_of_func f)) p)
+  type_is (both h) = both h.0
+
+  own_is : {o p : Option Func} → BothRel SameHead o p → option_and_then own_of o ≡ option_and_then own_of p
+  own_is (both h) = h.1
+
+  type_at : {a : ℕ} {i j : Inst} {f g : tree.Func} → FuncsAt R a i j f g → slice_get i.types f.ty ≡ slice_get j.types g.ty
+  type_at (alike k) = k.type
+  type_at (set_apart l e) = e
+
+  head_rel : {a : ℕ} {i j : Inst} {f g : tree.Func} → FuncsAt R a i j f g → OptRel SameHead (new_func i f) (new_func j g)
+  head_rel {i = i} {j = j} {f = f} {g = g} k =
+      subst (λ o. OptRel SameHead (new_func i f) (option_and_then (λ t. Some (Code t j (values.declared g.locals) g.body)) o)) (type_at k) (then_same (slice_get i.types f.ty) (λ t _. some (refl, refl)))
+
+  not_apart : {a : ℕ} {i j : Inst} {f g : tree.Func} → ¬ R.listed a → FuncsAt R a i j f g → FuncsCorrespond R i j f g
+  not_apart free (alike k) = k
+  not_apart free (set_apart l e) = absurd (free l)
 
   pub ref_rel : {v w : Val} → ValRel R v w → OptRel (RefRel R) (ref_of v) (ref_of w)
   ref_rel number = none
@@ -101,8 +126,34 @@ module _ (R : Pairing) where
     refs_rel nil = nil
     refs_rel (to.cons p r) = to.cons (then_rel p (λ _ _ v. ref_rel v)) (refs_rel r)
 
-    pub elem_rel : {d e : ElemSeg} → ElemsCorrespond R value second_value d e → OptRel (ElemRel R) (elem_with value d) (elem_with second_value e)
+    -- items that are related, and both segments are declarative or neither is: so what is allocated is there in both or in neither
+    pub record ElemsAlike (d e : ElemSeg) : Type 0 where
+      pub declarative : is_declarative d.mode ≡ is_declarative e.mode
+      pub items : ListRel (λ x y. OptRel (ValRel R) (value x) (second_value y)) d.items e.items
+
+    pub elem_rel : {d e : ElemSeg} → ElemsAlike d e → OptRel (ElemRel R) (elem_with value d) (elem_with second_value e)
     elem_rel {d} {e} k = then_rel (all_rel (refs_rel k.items)) (λ _ _ r. some (elem_is d.mode e.mode k.declarative r))
+
+    pub alike_correspond : {d e : ElemSeg} → ElemsAlike d e → ElemsCorrespond R value second_value d e
+    alike_correspond {d} {e} k = by (is_declarative d.mode) refl
+      where
+        by : (b : Bool) → b ≡ is_declarative d.mode → ElemsCorrespond R value second_value d e
+        by true h = declared (sym h) (sym k.declarative ∙ sym h)
+        by false h = kept (sym h) (sym k.declarative ∙ sym h) k.items
+
+    -- a declarative segment is dropped
+    gone : (value : ConstExpr → Option Val) (d : ElemSeg) (x : Elem) → is_declarative d.mode ≡ true → elem_with value d ≡ Some x → x ≡ no_items
+    gone value d x h is = let r = and_then_is (all_there (λ x. option_and_then ref_of (value x)) d.items) _ x is in sym (same_Some _ _ r.2) ∙ dropped d.mode r.0 h
+      where
+        dropped : (m : ElemMode) (items : List RefVal) → is_declarative m ≡ true → new_elem m items ≡ no_items
+        dropped elem.Declarative items h = refl
+        dropped elem.Passive items h = cc
+        dropped (elem.Active x e) items h = cc
+
+    -- what both are allocated to is related
+    elem_both : {d e : ElemSeg} (x y : Elem) → ElemsCorrespond R value second_value d e → elem_with value d ≡ Some x → elem_with second_value e ≡ Some y → ElemRel R x y
+    elem_both {d} {e} x y (declared f g) h k = rw (gone value d x f h, gone second_value e y g k) (record { items = nil })
+    elem_both {d} {e} x y (kept f g items) h k = opt_both (elem_rel {d = d} {e = e} (record { declarative = f ∙ sym g; items = items })) h k
 
   pub type_same : {o p : Option Func} → BothRel (FuncRel R) o p → BothRel (◌≡◌ {A = FuncType}) (option_and_then (λ f. Some (type_of_func f)) o) (option_and_then (λ f. Some (type_of_func f)) p)
   type_same (both (defined c)) = both refl
@@ -131,9 +182,9 @@ module _ (R : Pairing) where
 
     pub stores_rel : SharesOwn R env → DefinitionsCorrespond R env v w → (s z : Store) → stores_from env v.parts v.insts (own_store env) 0 v.parts v.insts ≡ Some s → stores_from env w.parts w.insts (own_store env) 0 w.parts w.insts ≡ Some z → StoreRel R s z
     stores_rel shares defs s z s_is z_is = record {
-      types = λ {a} {b} r. type_same (funcs a b r);
-      owns = λ {a} {b} r. own_same (funcs a b r);
-      funcs = λ {a} {b} r _. funcs a b r;
+      types = λ {a} {b} r. type_is (heads a b r);
+      owns = λ {a} {b} r. own_is (heads a b r);
+      funcs = λ {a} {b} r free. funcs a b r free;
       tables = λ {a} {b} r. stand Tables _ _ (own_tables env) s.tables z.tables refl (own_tables_rel R env shares) (own_placed env v s s_is (tables_allocate env v.parts v.insts)) (own_placed env w z z_is (tables_allocate env w.parts w.insts))
           (λ a b d e c. (new_table d.definition, new_table e.definition, table_placed env v s s_is d, table_placed env w z z_is e, subst (λ t. TableRel R (new_table d.definition) (new_table t)) c (record { type = refl; most = refl; slots = copies_rel _ _ d.definition.limits.min (null_rel R d.definition.ty) }))) a b (defs.tables a b r);
       mems = λ {a} {b} r. stand Memories _ _ (own_memories env) s.mems z.mems refl (self_rel (own_memories env) (λ x. refl)) (own_placed env v s s_is (mems_allocate env v.parts v.insts)) (own_placed env w z z_is (mems_allocate env w.parts w.insts))
@@ -141,11 +192,15 @@ module _ (R : Pairing) where
       globals = λ {a} {b} r. stand Globals _ _ (own_globals env) s.globals z.globals refl (own_globals_rel R env shares) (own_placed env v s s_is (globals_allocate env v.parts v.insts)) (own_placed env w z z_is (globals_allocate env w.parts w.insts))
           (λ a b d e c. let x = global_placed env v s s_is d in let y = global_placed env w z z_is e in (x.0, y.0, x.1, y.1, opt_both (global_rel (values_in env v d.part) (values_in env w e.part) c) x.2 y.2)) a b (defs.globals a b r);
       elems = λ {a} {b} r. stand ElementSegments _ _ [] s.elems z.elems refl nil (λ a x h. cc) (λ a x h. cc)
-          (λ a b d e c. let x = elem_placed env v s s_is d in let y = elem_placed env w z z_is e in (x.0, y.0, x.1, y.1, opt_both (elem_rel (values_in env v d.part) (values_in env w e.part) c) x.2 y.2)) a b (defs.elems a b r);
+          (λ a b d e c. let x = elem_placed env v s s_is d in let y = elem_placed env w z z_is e in (x.0, y.0, x.1, y.1, elem_both (values_in env v d.part) (values_in env w e.part) x.0 y.0 c x.2 y.2)) a b (defs.elems a b r);
       datas = λ {a} {b} r. stand DataSegments _ _ [] s.datas z.datas refl nil (λ a x h. cc) (λ a x h. cc)
           (λ a b d e c. (new_data d.definition, new_data e.definition, data_placed env v s s_is d, data_placed env w z z_is e, c)) a b (defs.datas a b r);
     }
       where
-        funcs : (a b : ℕ) → R.of Functions a b → BothRel (FuncRel R) (slice_get s.funcs a) (slice_get z.funcs b)
-        funcs a b r = stand Functions _ _ (own_funcs env) s.funcs z.funcs refl (own_funcs_rel R env) (own_placed env v s s_is (funcs_allocate env v.parts v.insts)) (own_placed env w z z_is (funcs_allocate env w.parts w.insts))
-            (λ a b d e c. let x = func_placed env v s s_is d in let y = func_placed env w z z_is e in (x.0, y.0, x.1, y.1, opt_both (func_rel c) x.2 y.2)) a b (defs.funcs a b r)
+        heads : (a b : ℕ) → R.of Functions a b → BothRel SameHead (slice_get s.funcs a) (slice_get z.funcs b)
+        heads a b r = stand Functions _ _ (own_funcs env) s.funcs z.funcs refl (self_rel (own_funcs env) (λ f. (refl, refl))) (own_placed env v s s_is (funcs_allocate env v.parts v.insts)) (own_placed env w z z_is (funcs_allocate env w.parts w.insts))
+            (λ c d x y k. let f = func_placed env v s s_is x in let g = func_placed env w z z_is y in (f.0, g.0, f.1, g.1, opt_both (head_rel k) f.2 g.2)) a b (defs.funcs a b r)
+
+        funcs : (a b : ℕ) → R.of Functions a b → ¬ R.listed a → BothRel (FuncRel R) (slice_get s.funcs a) (slice_get z.funcs b)
+        funcs a b r free = stand Functions _ _ (own_funcs env) s.funcs z.funcs refl (own_funcs_rel R env) (own_placed env v s s_is (funcs_allocate env v.parts v.insts)) (own_placed env w z z_is (funcs_allocate env w.parts w.insts))
+            (λ c d x y k. let f = func_placed env v s s_is x in let g = func_placed env w z z_is y in (f.0, g.0, f.1, g.1, opt_both (func_rel (not_apart free k)) f.2 g.2)) a b (defs.funcs a b r)

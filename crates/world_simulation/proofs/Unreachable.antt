@@ -1,5 +1,5 @@
 -- A module without one function that nothing else of it names shows what the module shows: its records of the law for two worlds.
-use Rattle.std.proofs.Common.{◌++◌, ◌≡◌, ℕ, zero, suc, ◌+◌, ◌-◌, ◌<◌, ◌≤◌, List, [], ◌∷◌, map, length, Some, Bool, true, false, ◌⊎◌, inl, inr, refl, sym, ap, ap₂, subst, ◌∙◌, arith, append-nil}
+use Rattle.std.proofs.Common.{◌++◌, ◌≡◌, ℕ, suc, ◌+◌, ◌-◌, ◌<◌, ◌≤◌, List, [], ◌∷◌, map, length, Some, Bool, true, false, ◌⊎◌, inl, inr, refl, sym, ap, ap₂, subst, ◌∙◌, arith, append-nil}
 use Rattle.wasm_meaning.specs.Linking.{imports_of}
 use Rattle.std.specs.Prelude.{slice_get, slice_index, IsTrue, nat_eq, not}
 use Rattle.std.proofs.lemmas.Bool.{cases_lt, eq-eqb}
@@ -9,8 +9,8 @@ use Rattle.base_lists.proofs.Places.{map_at, map_from}
 use Rattle.wasm_tree.specs.declared.space.Space.{Space}
 use Rattle.wasm_tree.specs.declared.space.Space.TheVariants.{Types, Functions, Tables, Memories, Globals, ElementSegments, DataSegments}
 use Rattle.wasm_meaning.specs.Environment.{Environment}
-use Rattle.wasm_meaning.specs.World.{own_count, defined_count, numbers, instantiate, links, alone, space}
-use Rattle.index_remap.specs.Related.{Pairing, OneToOne, OptRel}
+use Rattle.wasm_meaning.specs.World.{own_count, defined_count, numbers, insts_from, starts_of, instantiate, links, alone, space}
+use Rattle.index_remap.specs.Related.{Pairing, OneToOne, OptRel, ListRel}
 use Rattle.index_remap.specs.Laws.{passed, RenumberedCodeIsRelated}
 use Rattle.wasm_tree.specs.declared.module.Module.{Module}
 use Rattle.world_simulation.specs.Unreachable.{without, function_index, closing, others, rest, removed, IsUnreachable}
@@ -31,14 +31,15 @@ use Rattle.world_simulation.specs.Instances.{RelatedInstancesShowTheSame}
 use Rattle.world_simulation.specs.Simulation.{AreSimilar, StartAlike, WorldsCorrespond}
 use Rattle.world_simulation.proofs.Instancing.{inst_is, inst_there, IsInst, addresses_in}
 use Rattle.world_simulation.proofs.Simulated.{what_is_made, instances_rel}
-use Rattle.world_simulation.specs.Definitions.{FuncsCorrespond, GlobalsCorrespond, ElemsCorrespond, Partners, DefinitionsCorrespond, Instantiated, values_in}
-use Rattle.world_simulation.proofs.Renamed.{funcs_correspond, elems_correspond}
+use Rattle.world_simulation.specs.Definitions.{FuncsCorrespond, FuncsAt, GlobalsCorrespond, ElemsCorrespond, Partners, DefinitionsCorrespond, Instantiated, values_in}
+use Rattle.world_simulation.proofs.Renamed.{funcs_correspond, elems_alike}
+use Rattle.world_simulation.proofs.Stored.{alike_correspond}
 use Rattle.world_simulation.specs.Alone.{one}
 use Rattle.world_simulation.specs.Owned.{SharesOwn}
 use Rattle.world_simulation.specs.Named.{EntriesName}
 use Rattle.world_simulation.proofs.Alone.{funcs_counted, tables_counted, memories_counted, globals_counted}
 use Rattle.world_simulation.proofs.Single.{one_inst, there_is}
-use Rattle.world_simulation.proofs.Holes.{moved_down, low, down_is, is_down, down_right, down_left, without_low, without_high, without_many, Moved, stays, falls, placed, stays_at, kept_place, closes}
+use Rattle.world_simulation.proofs.Holes.{moved_down, low, down_is, is_down, down_right, down_left, without_low, without_high, without_many, without_there, Moved, stays, falls, placed, stays_at, kept_place, closes}
 use Rattle.world_simulation.proofs.SameItems.{SameItems, space_there, space_rel, plain_rel, segments_rel, consts, elems_in_order, datas_in_order, view, starts, FuncsFrom, linked_with}
 
 -- ---- the module and what is left of it ----
@@ -97,16 +98,7 @@ module _ (t : Module) (n : ℕ) (there : n < length t.funcs) (reach : IsUnreacha
 
   -- a function of the rest is one of the module
   rest_names : (x : ℕ) (f : tree.Func) → slice_get t.funcs x ≡ Some f → (x ≡ n → ⊥) → FuncNamesOnly kept f
-  rest_names x f h other = by (cases_lt x n) (cases_lt n x)
-    where
-      past : (x : ℕ) → n < x → slice_get t.funcs x ≡ Some f → FuncNamesOnly kept f
-      past zero l h = absurd (omega arith)
-      past (suc x) l h = reach.funcs x f (without_high n t.funcs x (omega arith) ∙ h)
-
-      by : (x < n) ⊎ (n ≤ x) → (n < x) ⊎ (x ≤ n) → FuncNamesOnly kept f
-      by (inl l) _ = reach.funcs x f (without_low n t.funcs x l ∙ h)
-      by (inr l) (inl k) = past x k h
-      by (inr l) (inr k) = absurd (other (omega arith))
+  rest_names x f h other = let y = without_there n t.funcs x f other h in reach.funcs y.0 f y.1
 
   func_moves : (x : ℕ) → IsTrue (kept Functions x) → (x < length (imported_funcs t.imports) + length t.funcs) × Moved (function_index n t) x (slice_index m.funcs x)
   func_moves x h =
@@ -199,13 +191,13 @@ module _ (t : Module) (n : ℕ) (there : n < length t.funcs) (reach : IsUnreacha
 
       definitions : RenumberedCodeIsRelated → DefinitionsCorrespond R env v w
       definitions code = record {
-        funcs = with_hole Functions (λ c. c.funcs) (new_func m) n refl (λ c. refl) func_place (λ p i f q j g. FuncsCorrespond R i j f g) (λ x f h other. funcs_correspond of m kept i j names code f (rest_names x f h other));
+        funcs = λ c d r. with_hole Functions (λ c. c.funcs) (new_func m) n refl (λ c. refl) func_place (λ p i f q j g. FuncsAt R c i j f g) (λ x f h other. FuncsAt.alike (funcs_correspond of m kept i j names code f (rest_names x f h other))) c d r;
         tables = with_all Tables (λ c. c.tables) (λ x. x) [] refl (λ c. refl) (same.tables ∙ sym (map-id t.tables) ∙ sym (append-nil _)) (λ p i x q j y. x ≡ y) (λ x d h. refl);
         mems = with_all Memories (λ c. c.mems) (λ x. x) [] refl (λ c. refl) (same.mems ∙ sym (map-id t.mems) ∙ sym (append-nil _)) (λ p i x q j y. x ≡ y) (λ x d h. refl);
         globals = with_all Globals (λ c. c.globals) (new_global m) [] refl (λ c. refl) (same.globals ∙ sym (append-nil _)) (λ p i g q j h. GlobalsCorrespond R (values_in env v p) (values_in env w q) g h)
             (λ x g h. record { type = refl; init = consts of m kept t u fs items env own i j a b names g.init (reach.globals x g h) });
         elems = with_all ElementSegments (λ c. c.elems) (new_elem m) (last_segments fs) refl (λ c. refl) same.elems (λ p i d q j e. ElemsCorrespond R (values_in env v p) (values_in env w q) d e)
-            (λ x e h. elems_correspond of m kept i j names (values_in env v 0) (values_in env w 0) (consts of m kept t u fs items env own i j a b names) e (λ l c k. reach.items x l e c h k));
+            (λ x e h. alike_correspond R (values_in env v 0) (values_in env w 0) (elems_alike of m kept i j names (values_in env v 0) (values_in env w 0) (consts of m kept t u fs items env own i j a b names) e (λ l c k. reach.items x l e c h k)));
         datas = with_all DataSegments (λ c. c.datas) (new_data m) [] refl (λ c. refl) (same.datas ∙ sym (append-nil _)) (λ p i d q j e. d.bytes ≡ e.bytes) (λ x d h. refl);
       }
 
@@ -214,17 +206,15 @@ module _ (t : Module) (n : ℕ) (there : n < length t.funcs) (reach : IsUnreacha
 
     -- ---- the environment links both ----
 
+    -- of the instances of both
+    for_instances : (P : List Inst → List Inst → Type 0) → ((i j : Inst) → IsInst env (one t) 0 t i → IsInst env (one u) 0 u j → P (i ∷ []) (j ∷ [])) → (is js : List Inst) → insts_from env (one t) 0 (one t) ≡ Some is → insts_from env (one u) 0 (one u) ≡ Some js → P is js
+    for_instances P h is js f g = let i = one_inst env t is f in let j = one_inst env u js g in rw (i.1, j.1) (h i.0 j.0 i.2 j.2)
+
     similar : RenumberedCodeIsRelated → AreSimilar R env (alone t) (alone u)
-    similar code is js f g =
-        let i = one_inst env t is f in
-        let j = one_inst env u js g in
-        rw i.1 (rw j.1 (worlds i.0 j.0 i.2 j.2 code))
+    similar code = for_instances (WorldsCorrespond R env (alone t) (alone u)) (λ i j a b. worlds i j a b code)
 
     start_alike : StartAlike R env (alone t) (alone u)
-    start_alike is js f g =
-        let i = one_inst env t is f in
-        let j = one_inst env u js g in
-        rw i.1 (rw j.1 (starts of m kept t u fs items env own i.0 j.0 i.2 j.2 (names i.0 j.0 i.2 j.2)))
+    start_alike = for_instances (λ is js. ListRel (R.of Functions) (starts_of (one t) is) (starts_of (one u) js)) (λ i j a b. starts of m kept t u fs items env own i j a b (names i j a b))
 
     funcs_from : RenumberedCodeIsRelated → (i j : Inst) (a : IsInst env (one t) 0 t i) (b : IsInst env (one (removed n t)) 0 (removed n t) j) → FuncsFrom of m kept t u fs items env own i j a b (names i j a b)
     funcs_from code i j a b y f h = by (cases_lt y n)

@@ -1,5 +1,5 @@
 -- A module that is added to one of two related stores, as a loader adds one (WebAssembly Core 2.0, section 4.5.4).
-use Rattle.std.specs.Prelude.{◌≡◌, ℕ, Bool, List, [], Some, slice_get}
+use Rattle.std.specs.Prelude.{◌≡◌, ℕ, Bool, List, Some, slice_get}
 use Rattle.wasm_tree.specs.declared.space.Space.{Space}
 use Rattle.wasm_tree.specs.declared.space.Space.TheVariants.{Tables, Memories}
 use Rattle.wasm_tree.specs.declared.module.ConstExpr.{ConstExpr}
@@ -12,23 +12,22 @@ use Rattle.wasm_meaning.specs.State.{Inst, Store}
 use Rattle.wasm_meaning.specs.Environment.{Thing}
 use Rattle.wasm_meaning.specs.InTurn.{Added, added}
 use Rattle.index_remap.specs.Related.{StoreRel}
-use Rattle.index_remap.specs.RelatedRuns.{HasNoPartner}
+use Rattle.index_remap.specs.RelatedRuns.{turned, HasNoPartner}
 use Rattle.index_remap.specs.Laws.{passed}
-use Rattle.world_simulation.specs.Segments.{alone_in_first}
 
 -- the tables and memories into which its active segments are copied are related to nothing
 pub record WritesAlone (alone : Space → ℕ → Type 0) (m : Module) (i : Inst) : Type 0 where
   pub tables : (n : ℕ) (e : ElemSeg) (x : ℕ) (offset : ConstExpr) → slice_get m.elems n ≡ Some e → e.mode ≡ elem.Active x offset → (a : ℕ) → slice_get i.tables x ≡ Some a → alone Tables a
   pub mems : (n : ℕ) (d : DataSeg) (x : ℕ) (offset : ConstExpr) → slice_get m.datas n ≡ Some d → d.mode ≡ data'.Active x offset → (a : ℕ) → slice_get i.mems x ≡ Some a → alone Memories a
 
--- The stores stay related, whether or not a segment traps: where the module is added to the second,
+-- The stores stay related, whatever functions are listed, and whether or not a segment traps: where the module is added to the second,
 abbrev pub AddedToTheSecondStayRelated : Type 0
 AddedToTheSecondStayRelated =
-    (of : Space → ℕ → ℕ → Bool) (s z : Store) (m : Module) (things : List Thing) (a : Added) → StoreRel (passed of of []) s z → added z m things ≡ Some a → WritesAlone (HasNoPartner (passed of of [])) m a.inst →
-    StoreRel (passed of of []) s a.filled.store
+    (of named : Space → ℕ → ℕ → Bool) (l : List ℕ) (s z : Store) (m : Module) (things : List Thing) (a : Added) → StoreRel (passed of named l) s z → added z m things ≡ Some a → WritesAlone (HasNoPartner (passed of named l)) m a.inst →
+    StoreRel (passed of named l) s a.filled.store
 
 -- and where it is added to the first.
 abbrev pub AddedToTheFirstStayRelated : Type 0
 AddedToTheFirstStayRelated =
-    (of : Space → ℕ → ℕ → Bool) (s z : Store) (m : Module) (things : List Thing) (a : Added) → StoreRel (passed of of []) s z → added s m things ≡ Some a → WritesAlone (alone_in_first (passed of of [])) m a.inst →
-    StoreRel (passed of of []) a.filled.store z
+    (of named : Space → ℕ → ℕ → Bool) (l : List ℕ) (s z : Store) (m : Module) (things : List Thing) (a : Added) → StoreRel (passed of named l) s z → added s m things ≡ Some a → WritesAlone (HasNoPartner (turned (passed of named l))) m a.inst →
+    StoreRel (passed of named l) a.filled.store z

@@ -46,6 +46,11 @@ pub record FuncsCorrespond (R : Pairing) (i j : Inst) (f g : tree.Func) : Type 0
   pub locals : f.locals ≡ g.locals
   pub code : CodeRel R i j f.body g.body
 
+-- at an address of the first; of a function that is set apart only the type is asked
+pub data FuncsAt (R : Pairing) (a : ℕ) (i j : Inst) (f g : tree.Func) : Type 0 where
+  alike : FuncsCorrespond R i j f g → FuncsAt R a i j f g
+  set_apart : R.listed a → slice_get i.types f.ty ≡ slice_get j.types g.ty → FuncsAt R a i j f g
+
 -- equal types, and initial values that are related
 pub record GlobalsCorrespond (R : Pairing) (value second_value : ConstExpr → Option Val) (g h : GlobalDef) : Type 0 where
   pub type : g.ty ≡ h.ty
@@ -56,19 +61,19 @@ abbrev pub is_declarative : ElemMode → Bool
 is_declarative elem.Declarative = true
 is_declarative _ = false
 
--- items with values that are related, and both or neither are there after the allocation
-pub record ElemsCorrespond (R : Pairing) (value second_value : ConstExpr → Option Val) (d e : ElemSeg) : Type 0 where
-  pub declarative : is_declarative d.mode ≡ is_declarative e.mode
-  pub items : ListRel (λ x y. OptRel (ValRel R) (value x) (second_value y)) d.items e.items
+-- both are declarative, and whatever their items are, they are gone after the allocation; or neither is, and the values of their items are related
+pub data ElemsCorrespond (R : Pairing) (value second_value : ConstExpr → Option Val) (d e : ElemSeg) : Type 0 where
+  declared : is_declarative d.mode ≡ true → is_declarative e.mode ≡ true → ElemsCorrespond R value second_value d e
+  kept : is_declarative d.mode ≡ false → is_declarative e.mode ≡ false → ListRel (λ x y. OptRel (ValRel R) (value x) (second_value y)) d.items e.items → ElemsCorrespond R value second_value d e
 
 -- what stands at two addresses of a space: one entity of the environment's own, or definitions that correspond, told by their parts and instances
 pub data Partners (env : Environment) (v w : Instantiated) (k : Space) {A : Type 0} (definitions : Module → List A) (correspond : ℕ → Inst → A → ℕ → Inst → A → Type 0) (a b : ℕ) : Type 0 where
   own : a ≡ b → a < own_count k env → Partners env v w k definitions correspond a b
   defined : (x : DefinedAt env v k definitions a) (y : DefinedAt env w k definitions b) → correspond x.part x.inst x.definition y.part y.inst y.definition → Partners env v w k definitions correspond a b
 
--- at related addresses stand partners: functions, globals and segments that correspond, tables and memories of equal types, data segments of equal bytes
+-- at related addresses stand partners: functions (but for those that are set apart), globals and segments that correspond, tables and memories of equal types, data segments of equal bytes
 pub record DefinitionsCorrespond (R : Pairing) (env : Environment) (v w : Instantiated) : Type 0 where
-  pub funcs : (a b : ℕ) → R.of Functions a b → Partners env v w Functions (λ m. m.funcs) (λ p i f q j g. FuncsCorrespond R i j f g) a b
+  pub funcs : (a b : ℕ) → R.of Functions a b → Partners env v w Functions (λ m. m.funcs) (λ p i f q j g. FuncsAt R a i j f g) a b
   pub tables : (a b : ℕ) → R.of Tables a b → Partners env v w Tables (λ m. m.tables) (λ p i t q j u. t ≡ u) a b
   pub mems : (a b : ℕ) → R.of Memories a b → Partners env v w Memories (λ m. m.mems) (λ p i l q j n. l ≡ n) a b
   pub globals : (a b : ℕ) → R.of Globals a b → Partners env v w Globals (λ m. m.globals) (λ p i g q j h. GlobalsCorrespond R (values_in env v p) (values_in env w q) g h) a b

@@ -8,3 +8,5 @@ pub mod Segments
 pub mod Simulation
 pub mod Unreachable
 pub mod Added
+pub mod Leaves
+pub mod Loaded

@@ -17,7 +17,7 @@ use Rattle.wasm_meaning.specs.Values.{num_of}
 use Rattle.wasm_meaning.specs.Environment.{Environment}
 use Rattle.wasm_meaning.specs.World.{Task, elem_tasks, data_tasks}
 use Rattle.index_remap.specs.Related.{Pairing, OptRel}
-use Rattle.index_remap.specs.RelatedRuns.{HasNoPartner}
+use Rattle.index_remap.specs.RelatedRuns.{turned, HasNoPartner}
 use Rattle.world_simulation.specs.Definitions.{Instantiated, DefinedAt, values_in}
 
 -- partners stand in the same order, with other items alone between them
@@ -58,16 +58,12 @@ pub data DataAlone (alone : Space → ℕ → Type 0) (env : Environment) (w : I
 
 -- ---- all of them ----
 
--- related to no address of the second world
-abbrev pub alone_in_first : Pairing → Space → ℕ → Type 0
-alone_in_first R k a = (b : ℕ) → R.of k a b → ⊥
-
 abbrev pub ElemsInOrder : Pairing → Environment → Instantiated → Instantiated → Type 0
 ElemsInOrder R env v w =
-    InOrder (λ x y. ElemsPartner R (values_in env v x.part) (values_in env w y.part) x y x.segment.mode y.segment.mode) (λ x. ElemAlone (alone_in_first R) env v x x.segment.mode) (λ y. ElemAlone (HasNoPartner R) env w y y.segment.mode)
+    InOrder (λ x y. ElemsPartner R (values_in env v x.part) (values_in env w y.part) x y x.segment.mode y.segment.mode) (λ x. ElemAlone (HasNoPartner (turned R)) env v x x.segment.mode) (λ y. ElemAlone (HasNoPartner R) env w y y.segment.mode)
     (elem_tasks 0 v.parts v.insts) (elem_tasks 0 w.parts w.insts)
 
 abbrev pub DatasInOrder : Pairing → Environment → Instantiated → Instantiated → Type 0
 DatasInOrder R env v w =
-    InOrder (λ x y. DatasPartner R (values_in env v x.part) (values_in env w y.part) x y x.segment.mode y.segment.mode) (λ x. DataAlone (alone_in_first R) env v x x.segment.mode) (λ y. DataAlone (HasNoPartner R) env w y y.segment.mode)
+    InOrder (λ x y. DatasPartner R (values_in env v x.part) (values_in env w y.part) x y x.segment.mode y.segment.mode) (λ x. DataAlone (HasNoPartner (turned R)) env v x x.segment.mode) (λ y. DataAlone (HasNoPartner R) env w y y.segment.mode)
     (data_tasks 0 v.parts v.insts) (data_tasks 0 w.parts w.insts)

@@ -58,23 +58,20 @@ StartAlike R env v w = (is js : List Inst) → insts_from env v.parts 0 v.parts 
 -- ---- the laws ----
 
 -- what two worlds are instantiated to, but for what they start: related stores, trapped both or neither, and the same names for what is related
-pub record BegunAlike (R : Pairing) (b c : Begun) : Type 0 where
-  pub store : StoreRel R b.store c.store
-  pub trapped : b.trapped ≡ c.trapped
-  pub view : ListRel (KeyRel R) b.view c.view
-  pub owned : ListRel (KeyRel R) b.owned c.owned
+abbrev pub BegunAlike : Pairing → Begun → Begun → Type 0
+BegunAlike R = BegunRel R (λ s t es fs. Unit {0})
 
--- Before segments are copied, the allocated stores are related.
+-- Before segments are copied, the allocated stores are related, whatever functions are set apart.
 abbrev pub AllocatedStoresCorrespond : Type 0
 AllocatedStoresCorrespond =
-    (of : Space → ℕ → ℕ → Bool) (env : Environment) (v w : World) (is js : List Inst) (s z : Store) → SharesOwn (passed of of []) env → DefinitionsCorrespond (passed of of []) env (in_world v is) (in_world w js) →
-    stores_from env v.parts is (own_store env) 0 v.parts is ≡ Some s → stores_from env w.parts js (own_store env) 0 w.parts js ≡ Some z → StoreRel (passed of of []) s z
+    (of named : Space → ℕ → ℕ → Bool) (l : List ℕ) (env : Environment) (v w : World) (is js : List Inst) (s z : Store) → SharesOwn (passed of named l) env → DefinitionsCorrespond (passed of named l) env (in_world v is) (in_world w js) →
+    stores_from env v.parts is (own_store env) 0 v.parts is ≡ Some s → stores_from env w.parts js (own_store env) 0 w.parts js ≡ Some z → StoreRel (passed of named l) s z
 
--- Where both are instantiated, it is to what is alike.
+-- Where both are instantiated, it is to what is alike, whatever functions are set apart.
 abbrev pub SimilarWorldsBeginAlike : Type 0
 SimilarWorldsBeginAlike =
-    (of : Space → ℕ → ℕ → Bool) → OneToOne (passed of of []) → (env : Environment) (v w : World) → AreSimilar (passed of of []) env v w →
-    (b c : Begun) → instantiate env v ≡ Some b → instantiate env w ≡ Some c → BegunAlike (passed of of []) b c
+    (of named : Space → ℕ → ℕ → Bool) (l : List ℕ) → OneToOne (passed of named l) → (env : Environment) (v w : World) → AreSimilar (passed of named l) env v w →
+    (b c : Begun) → instantiate env v ≡ Some b → instantiate env w ≡ Some c → BegunAlike (passed of named l) b c
 
 -- Both show `LinkFault`, or both are instantiated, to related states, trapped both or neither; and so they show the same events, step by step.
 abbrev pub SimilarWorldsAreInstantiatedAlike : Type 0

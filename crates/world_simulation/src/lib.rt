@@ -10,6 +10,8 @@ ghost use Rattle.world_simulation.specs.Alone.{
   SpacesAreImportsAndOwn,
 };
 ghost use Rattle.world_simulation.specs.Instances.{RelatedBegunShowTheSame, RelatedInstancesShowTheSame};
+ghost use Rattle.world_simulation.specs.Leaves.{AddedModulesLeave, ModulesAloneLeave, PrimaryModulesLeave};
+ghost use Rattle.world_simulation.specs.Loaded.{LoadersBeginAsTheirPrimary};
 ghost use Rattle.world_simulation.specs.Named.{FittingCodeIsNamed, KeptCodeIsNamed};
 ghost use Rattle.world_simulation.specs.Owned.{OwnEntitiesCorrespond};
 ghost use Rattle.world_simulation.specs.Simulation.{
@@ -54,7 +56,7 @@ pub fn related_instances_show_the_same()
 /// one-to-one relation of addresses and partnered segments, starts and views stand in the same order, an active segment without partner being in bounds and writing only
 /// what has no partner, both show `LinkFault`, or both are instantiated to related states (`instantiated`), and each embedder sees the same of both, step by step (`same`).
 /// Where only starts may differ, both are instantiated to related stores, trapped both or neither, with related views (`begin`); before segments are copied the
-/// stores are related (`allocated`); and what `instantiate` gives is taken apart: instances, the allocated store, the view, matched imports (`made`).
+/// stores are related (`allocated`): in both functions may be set apart, of which only the types have to be equal; and what `instantiate` gives is taken apart: instances, the allocated store, the view, matched imports (`made`).
 pub fn similar_worlds_show_the_same()
     ensures made { WhatIsInstantiated }
     ensures allocated { AllocatedStoresCorrespond }
@@ -96,4 +98,19 @@ pub fn unreachable_functions_are_not_seen()
 pub fn stores_stay_related_where_a_module_is_added()
     ensures second { AddedToTheSecondStayRelated }
     ensures first { AddedToTheFirstStayRelated }
+{}
+
+/// What the instantiation of a module leaves where no segment traps, entity by entity (WebAssembly Core 2.0, sections 4.5.3 and 4.5.4): each function, global and segment is
+/// what the module says, tables are empty and memories zero but for the active segments that are copied over them, in order, active and declarative segments are dropped;
+/// and of what was there before only tables and memories are changed, by these copies. So it is where the module is added to a store, as a loader adds one (`added`), where
+/// it is instantiated alone (`alone`), and where it is the primary module of a loader (`primary`).
+pub fn modules_leave_what_they_say()
+    ensures added { AddedModulesLeave }
+    ensures alone { ModulesAloneLeave }
+    ensures primary { PrimaryModulesLeave }
+{}
+
+/// A loader that supplies nothing begins as its primary module alone is instantiated, with the loader's view, and where one is not linked neither does the other begin.
+pub fn loaders_begin_as_their_primary()
+    ensures begin { LoadersBeginAsTheirPrimary }
 {}

@@ -167,7 +167,7 @@ module _ (below : BelowIsNotSeen) (writes : StepsWriteWhatTheyTouch) (ticks : Re
         both_step (tick r) (tick (over_one r es)) (subst (λ r'. Unseen cs (Opening [] ∷ []) (Pending view) (Pending []) r.store.funcs (tick r') (tick (over_one r es))) (run_is r (es ++ cs) (Pending view) a b) first)
         (tick u) (tick (over_one u fs)) (subst (λ u'. Unseen (Opening [] ∷ []) (Opening [] ∷ []) (Pending v) (Pending []) u.store.funcs (tick u') (tick (over_one u fs))) (run_is u (fs ++ Opening [] ∷ []) (Pending v) c d) second)
         (ticks (is_reached env parts p) (one_to_one env parts p) (over_one u fs) (over_one r es) h.related)
-        (others (is_reached env parts p) (one_to_one env parts p) (over_one u fs) (over_one r es) h.related tt)
+        (others (is_reached env parts p) (one_to_one env parts p) (over_one u fs) (over_one r es) h.related tt).0
         (tick_extends writes r (λ x e. fresh_not view x (sym b ∙ e))) (tick_extends writes u (λ x e. fresh_not v x (sym d ∙ e)))
       where
         fresh_not : (view : List (Text × Thing)) (x : _) → Pending view ≡ Fresh x → ⊥

@@ -8,8 +8,8 @@ use Rattle.world_simulation.proofs.similar_worlds_show_the_same.Goals as goal
 pub returns : goal.returns
 returns c = record {
   made = what_is_made;
-  allocated = λ of env v w is js s z own defs first second. stores_rel (passed of of []) env (in_world v is) (in_world w js) own defs s z first second;
-  begin = λ of apart env v w similar b c f g. begin_alike (passed of of []) apart env v w similar b c f g;
+  allocated = λ of named l env v w is js s z own defs first second. stores_rel (passed of named l) env (in_world v is) (in_world w js) own defs s z first second;
+  begin = λ of named l apart env v w similar b c f g. begin_alike (passed of named l) apart env v w similar b c f g;
   instantiated = λ of apart env v w linked similar starts. instances_rel (passed of of []) apart env v w similar starts linked;
   same = λ of apart env v w linked similar starts moves n.
       c.related_instances_show_the_same.ensures.same of apart v w env (instances_rel (passed of of []) apart env v w similar starts linked) moves n;

@@ -1,0 +1,369 @@
+-- A loader that supplies nothing begins as its primary module alone is instantiated.
+use Rattle.std.proofs.Common.{◌≡◌, ℕ, zero, suc, ◌+◌, ◌-◌, ◌<◌, ◌≤◌, List, [], ◌∷◌, ◌++◌, map, length, Option, Some, None, Bool, true, false, cond, ◌&&◌, ◌⊎◌, inl, inr, refl, sym, ap, ap₂, subst, ◌∙◌, arith, append-nil, option_and_then, slice_get, unwrap_or}
+use Rattle.std.specs.Prelude.{nat_eq, nat_lt}
+use Rattle.std.proofs.lemmas.Bool.{ltb-true, lt-ltb, eqb-true, eq-eqb, and_from}
+use Rattle.std.proofs.lemmas.Option.{same_Some, slice_get_within}
+use Rattle.base_lists.specs.Options.{◌>>=◌}
+use Rattle.base_lists.proofs.Bools.{left_true, right_true}
+use Rattle.base_lists.proofs.Options.{all_there_same, and_then_is}
+use Rattle.base_lists.proofs.Places.{append_right, slice_get_none}
+use Rattle.wasm_tree.specs.declared.space.Space.{Space}
+use Rattle.wasm_tree.specs.declared.space.Space.TheVariants.{Functions, Tables, Memories, Globals, ElementSegments, DataSegments}
+use Rattle.wasm_tree.specs.declared.module.ConstExpr.{ConstExpr}
+use Rattle.wasm_tree.specs.declared.module.ConstExpr.TheVariants as const
+use Rattle.wasm_tree.specs.declared.module.Import.{Import}
+use Rattle.wasm_tree.specs.declared.module.ImportDesc.{ImportDesc}
+use Rattle.wasm_tree.specs.declared.module.ImportDesc.TheVariants as im
+use Rattle.wasm_tree.specs.declared.module.ExportDesc.{ExportDesc}
+use Rattle.wasm_tree.specs.declared.module.ElemSeg.{ElemSeg}
+use Rattle.wasm_tree.specs.declared.module.ElemMode.{ElemMode}
+use Rattle.wasm_tree.specs.declared.module.ElemMode.TheVariants as elem
+use Rattle.wasm_tree.specs.declared.module.DataSeg.{DataSeg}
+use Rattle.wasm_tree.specs.declared.module.DataMode.{DataMode}
+use Rattle.wasm_tree.specs.declared.module.DataMode.TheVariants as data'
+use Rattle.wasm_tree.specs.declared.module.Module.{Module}
+use Rattle.wasm_num.specs.Operations.{W32}
+use Rattle.wasm_tree.specs.Spaces.{space_of_import}
+use Rattle.wasm_tree.specs.Operands.{same_space}
+use Rattle.wasm_meaning.specs.State.{Text, Val, Inst, Store}
+use Rattle.wasm_meaning.specs.Values.{ref_of, num_of}
+use Rattle.wasm_meaning.specs.Linking.{has_kind, places, space_index, sites_in, pair_of, imports_of}
+use Rattle.wasm_meaning.specs.Environment.{Environment, Thing, FuncAt, TableAt, MemoryAt, GlobalAt, owned_of, owned_at, own_funcs, own_memories, own_globals, all_of}
+use Rattle.wasm_meaning.specs.World.{Begun, Filled, all_there, address_of, address_in, own_count, defined_count, numbers, const_value, value_of, value_of_read, new_func, new_elem, store_with, joined_stores, own_store, is_match, is_matched, run_elem, run_elem_with, run_data, run_data_with, and_then, in_turn, segments, starts_of, start_in, space, instantiate}
+use Rattle.wasm_meaning.specs.World as world
+use Rattle.wasm_meaning.specs.InTurn.{own_thing, all_match, addresses_of, added, added_as, own_segments, next_inst}
+use Rattle.wasm_meaning.specs.Loader.{LoaderWorld, placeholders_of, placeholders_from, store_under, supplied, begun_of, begun_under}
+use Rattle.index_remap.specs.Related.{Pairing, BothRel, FuncRel, StoreRel}
+use Rattle.index_remap.specs.RelatedRuns.{ThingRel}
+use Rattle.index_remap.specs.Laws.{passed}
+use Rattle.world_simulation.specs.Alone.{one, site, thing_in, addresses}
+use Rattle.world_simulation.specs.Alone as alone
+use Rattle.world_simulation.specs.Owned.{SharesOwn}
+use Rattle.world_simulation.specs.Leaves.{contents, elem_copy, elem_copies, data_copy, data_copies}
+use Rattle.world_simulation.specs.Loaded.{primary_world, LoadersBeginAsTheirPrimary}
+use Rattle.world_simulation.proofs.Places.{opt_self, self_rel, both_in}
+use Rattle.world_simulation.proofs.Alone.{key_is, thing_is, space_is, read_is}
+use Rattle.world_simulation.proofs.Owned.{own_funcs_rel, own_tables_rel, own_globals_rel}
+use Rattle.world_simulation.proofs.Stored.{type_same, own_same}
+use Rattle.world_simulation.proofs.Allocated.{with_elems}
+use Rattle.world_simulation.proofs.Added.{joined_right, number_past}
+use Rattle.world_simulation.proofs.Single.{SpaceAt, space_at, thing_rel, match_same, one_inst}
+use Rattle.world_simulation.proofs.Instancing.{IsInst, inst_is}
+use Rattle.world_simulation.proofs.Simulated.{what_is_made}
+use Rattle.world_simulation.proofs.Copies.{runs}
+use Rattle.world_simulation.proofs.Leaves.{tables, memories, copies_in_turn, elem_runs, data_runs}
+
+-- ---- the environment's own entities stand for themselves ----
+
+module _ (env : Environment) where
+  abbrev shared : Space → ℕ → ℕ → Bool
+  shared k a b = nat_eq a b && nat_lt a (own_count k env)
+
+  abbrev R : Pairing
+  R = passed shared shared []
+
+  shared_is : (k : Space) (a b : ℕ) → R.of k a b → (a ≡ b) × (a < own_count k env)
+  shared_is k a b h = (eqb-true a b (left_true (nat_eq a b) _ h), ltb-true a (own_count k env) (right_true (nat_eq a b) _ h))
+
+  is_shared : (k : Space) (a : ℕ) → a < own_count k env → R.of k a a
+  is_shared k a l = and_from (nat_eq a a) _ (eq-eqb a a refl) (lt-ltb a (own_count k env) l)
+
+  shares : SharesOwn R env
+  shares = record { funcs = is_shared Functions; tables = is_shared Tables; mems = is_shared Memories; globals = is_shared Globals }
+
+  shared_at : {A : Type 0} {P : A → A → Type 0} (k : Space) (xs : List A) (a b : ℕ) → ((n : ℕ) → n < own_count k env → BothRel P (slice_get xs n) (slice_get xs n)) → R.of k a b → BothRel P (slice_get xs a) (slice_get xs b)
+  shared_at {P = P} k xs a b h r = let e = shared_is k a b r in subst (λ b. BothRel P (slice_get xs a) (slice_get xs b)) e.0 (h a e.1)
+
+  own_like : StoreRel R (own_store env) (own_store env)
+  own_like = record {
+    types = λ {a} {b} r. type_same R (funcs a b r);
+    owns = λ {a} {b} r. own_same R (funcs a b r);
+    funcs = λ {a} {b} r free. funcs a b r;
+    tables = λ {a} {b} r. shared_at Tables _ a b (both_in (own_tables_rel R env shares)) r;
+    mems = λ {a} {b} r. shared_at Memories _ a b (both_in (self_rel (own_memories env) (λ x. refl))) r;
+    globals = λ {a} {b} r. shared_at Globals _ a b (both_in (own_globals_rel R env shares)) r;
+    elems = λ {a} {b} r. absurd (let e = (shared_is ElementSegments a b r).1 in omega (arith, e));
+    datas = λ {a} {b} r. absurd (let e = (shared_is DataSegments a b r).1 in omega (arith, e));
+  }
+    where
+      funcs : (a b : ℕ) → R.of Functions a b → BothRel (FuncRel R) (slice_get (own_funcs env) a) (slice_get (own_funcs env) b)
+      funcs a b r = shared_at Functions (own_funcs env) a b (both_in (own_funcs_rel R env)) r
+
+-- ---- what imports stand for ----
+
+-- a match tells the kind
+kinds : (s : Store) (m : Module) (d : ImportDesc) (x : Thing) (k : Space) → is_match s m d x ≡ Some true → ((same_space k (space_of_import d) ≡ true) × (a : ℕ) × (address_of k x ≡ Some a)) ⊎ ((same_space k (space_of_import d) ≡ false) × (address_of k x ≡ None))
+kinds s m (im.Func ty) (FuncAt a) Functions h = inl (refl, a, refl)
+kinds s m (im.Func ty) (FuncAt a) _ h = inr (refl, refl)
+kinds s m (im.Table t) (TableAt a) Tables h = inl (refl, a, refl)
+kinds s m (im.Table t) (TableAt a) _ h = inr (refl, refl)
+kinds s m (im.Memory l) (MemoryAt a) Memories h = inl (refl, a, refl)
+kinds s m (im.Memory l) (MemoryAt a) _ h = inr (refl, refl)
+kinds s m (im.Global t) (GlobalAt a) Globals h = inl (refl, a, refl)
+kinds s m (im.Global t) (GlobalAt a) _ h = inr (refl, refl)
+kinds s m _ _ k h = cc
+
+some_true : (o : Option Bool) → unwrap_or o false ≡ true → o ≡ Some true
+some_true None h = cc
+some_true (Some true) h = refl
+some_true (Some false) h = cc
+
+module _ (env : Environment) (m : Module) (s : Store) (like : StoreRel (R env) (own_store env) s) where
+  -- the imports from one on
+  record Found (n : ℕ) (is : List Import) : Type 0 where
+    things : List Thing
+    are : all_there (own_thing (owned_of env) m) is ≡ Some things
+    match : all_match (own_store env) m is things ≡ true
+    spaces : (k : Space) → all_there (alone.address_in env m.types m.imports k) (places (has_kind k) is n) ≡ Some (addresses_of k things)
+
+  own_thing_is : (i : Import) → own_thing (owned_of env) m i ≡ thing_in env m.types (Some i)
+  own_thing_is i = ap (λ k. option_and_then (λ key. owned_at (owned_of env) key) k) (key_is m (pair_of i) i.desc)
+
+  matched_is : (n : ℕ) (i : Import) → slice_get m.imports n ≡ Some i → is_matched env (one m) s (site n) ≡ unwrap_or (option_and_then (is_match s m i.desc) (thing_in env m.types (Some i))) false
+  matched_is n i h =
+      ap (λ o. unwrap_or o false) (ap (λ x. option_and_then (λ i. option_and_then (is_match s m i.desc) x) (slice_get m.imports n)) (thing_is env m n))
+      ∙ ap (λ o. unwrap_or (option_and_then (λ i. option_and_then (is_match s m i.desc) (thing_in env m.types o)) o) false) h
+
+  found_one : (n : ℕ) (i : Import) (is : List Import) → slice_get m.imports n ≡ Some i → is_matched env (one m) s (site n) ≡ true → Found (suc n) is → Found n (i ∷ is)
+  found_one n i is here first rest =
+      let x = and_then_is (thing_in env m.types (Some i)) (is_match s m i.desc) true (some_true _ (sym (matched_is n i here) ∙ first)) in
+      let rel : ThingRel (R env) x.0 x.0 = opt_self (thing_rel (R env) env (shares env) m.types (Some i)) x.1 in
+      let at_first : is_match (own_store env) m i.desc x.0 ≡ Some true = match_same (R env) env (shares env) (own_store env) s like m m refl refl i.desc rel ∙ x.2 in
+      record {
+        things = x.0 ∷ rest.things;
+        are = ap₂ (λ o p. option_and_then (λ y. option_and_then (λ ys. Some (y ∷ ys)) p) o) (own_thing_is i ∙ x.1) rest.are;
+        match = ap₂ (λ a b. unwrap_or a false && b) at_first rest.match;
+        spaces = λ k. by k x.0 x.1 (kinds s m i.desc x.0 k x.2);
+      }
+    where
+      by : (k : Space) (x : Thing) → thing_in env m.types (Some i) ≡ Some x → ((same_space k (space_of_import i.desc) ≡ true) × (a : ℕ) × (address_of k x ≡ Some a)) ⊎ ((same_space k (space_of_import i.desc) ≡ false) × (address_of k x ≡ None)) →
+          all_there (alone.address_in env m.types m.imports k) (places (has_kind k) (i ∷ is) n) ≡ Some (addresses_of k (x ∷ rest.things))
+      by k x x_is (inl e) =
+          let address : alone.address_in env m.types m.imports k n ≡ Some e.1 = ap (λ o. option_and_then (address_of k) (thing_in env m.types o)) here ∙ ap (λ o. option_and_then (address_of k) o) x_is ∙ e.2 in
+          rw (e.0, e.2) (ap₂ (λ o p. option_and_then (λ y. option_and_then (λ ys. Some (y ∷ ys)) p) o) address (rest.spaces k))
+      by k x x_is (inr e) = rw (e.0, e.1) (rest.spaces k)
+
+  found : (is : List Import) (n : ℕ) → ((k : ℕ) → slice_get m.imports (n + k) ≡ slice_get is k) → all_of (is_matched env (one m) s) (sites_in 0 (length is) n ++ []) ≡ true → Found n is
+  found [] n h matched = record { things = []; are = refl; match = refl; spaces = λ k. refl }
+  found (i ∷ is) n h matched =
+      let z : n + 0 ≡ n = omega arith in
+      found_one n i is (ap (slice_get m.imports) (sym z) ∙ h 0) (left_true _ _ matched)
+      (found is (suc n) (λ k. let y : suc n + k ≡ n + suc k = omega arith in ap (slice_get m.imports) y ∙ h (suc k)) (right_true (is_matched env (one m) s (site n)) _ matched))
+
+  all_found : all_of (is_matched env (one m) s) (sites_in 0 (length m.imports) 0 ++ []) ≡ true → Found 0 m.imports
+  all_found matched = found m.imports 0 (λ k. let z : 0 + k ≡ k = omega arith in ap (slice_get m.imports) z) matched
+
+  -- ---- the instance ----
+
+  space_found : (f : Found 0 m.imports) (k : Space) (xs : List ℕ) → space env (one m) k 0 m ≡ Some xs → xs ≡ addresses_of k f.things ++ numbers (own_count k env) (defined_count k m)
+  space_found f k xs h = same_Some _ _ (sym h ∙ space_is env m k ∙ ap (λ o. option_and_then (λ l. Some (l ++ numbers (own_count k env) (defined_count k m))) o) (f.spaces k))
+
+  same_inst : (f : Found 0 m.imports) (i : Inst) → IsInst env (one m) 0 m i → i ≡ next_inst (own_store env) m f.things
+  same_inst f i a =
+      let j = next_inst (own_store env) m f.things in
+      ap (λ x. record i { types = x }) a.types ∙ ap (λ x. record i { types = j.types; funcs = x }) (space_found f Functions i.funcs a.funcs) ∙ ap (λ x. record i { types = j.types; funcs = j.funcs; tables = x }) (space_found f Tables i.tables a.tables)
+      ∙ ap (λ x. record i { types = j.types; funcs = j.funcs; tables = j.tables; mems = x }) (space_found f Memories i.mems a.mems) ∙ ap (λ x. record j { globals = x; elems = i.elems; datas = i.datas }) (space_found f Globals i.globals a.globals)
+      ∙ ap (λ x. record j { elems = x; datas = i.datas }) a.elems ∙ ap (λ x. record j { datas = x }) a.datas
+
+-- ---- values of constant expressions ----
+
+-- the place of an import of a kind, and its index
+place_index : (k : Space) (is : List Import) (from x n : ℕ) → slice_get (places (has_kind k) is from) x ≡ Some n → (z : ℕ) × (n ≡ from + z) × (i : Import) × (slice_get is z ≡ Some i) × (space_index is z k ≡ x)
+place_index k [] from x n h = cc
+place_index k (i ∷ is) from x n h = by (λ x h. place_index k is (suc from) x n h) (has_kind k i) refl x h
+  where
+    by : ((x : ℕ) → slice_get (places (has_kind k) is (suc from)) x ≡ Some n → (z : ℕ) × (n ≡ suc from + z) × (i : Import) × (slice_get is z ≡ Some i) × (space_index is z k ≡ x)) → (b : Bool) → has_kind k i ≡ b → (x : ℕ) → slice_get (cond b (from ∷ places (has_kind k) is (suc from)) (places (has_kind k) is (suc from))) x ≡ Some n → (z : ℕ) × (n ≡ from + z) × (j : Import) × (slice_get (i ∷ is) z ≡ Some j) × (space_index (i ∷ is) z k ≡ x)
+    by more true e zero h = (0, (let same = same_Some _ _ h in omega (arith, same)), i, refl, refl)
+    by more true e (suc x) h = let r = more x h in (suc r.0, (let same = r.1 in omega (arith, same)), r.2, r.3, rw e (ap suc r.4))
+    by more false e x h = let r = more x h in (suc r.0, (let same = r.1 in omega (arith, same)), r.2, r.3, rw e r.4)
+
+module _ (env : Environment) (m : Module) (i : Inst) (a : IsInst env (one m) 0 m i) where
+  read_global : (o : Option ℕ) → Option Val
+  read_global o = option_and_then (λ a. option_and_then (λ g. Some g.value) (slice_get (own_globals env) a)) o
+
+  -- what the module itself defines is none of the environment's
+  own_past : (x : ℕ) → length (imports_of Globals m) ≤ x → const_value (own_globals env) i (const.Global x) ≡ None
+  own_past x l = by (slice_get i.globals x) (λ c e. low c e)
+    where
+      sx : SpaceAt (R env) env (shares env) m Globals i.globals
+      sx = space_at (R env) env (shares env) m Globals i.globals a.globals
+
+      low : (c : ℕ) → slice_get i.globals x ≡ Some c → length (own_globals env) ≤ c
+      low c e =
+          let many = sx.many in
+          let at : x ≡ length sx.imported + (x - length sx.imported) = omega (arith, many, l) in
+          number_past (own_count Globals env) (defined_count Globals m) (x - length sx.imported) c (sym (append_right sx.imported _ (x - length sx.imported)) ∙ ap (slice_get (sx.imported ++ numbers (own_count Globals env) (defined_count Globals m))) (sym at) ∙ ap (λ l. slice_get l x) (sym sx.all) ∙ e)
+
+      none : (c : ℕ) (o : Option _) → slice_get (own_globals env) c ≡ o → length (own_globals env) ≤ c → option_and_then (λ g. Some g.value) o ≡ None
+      none c None e l = refl
+      none c (Some g) e l = absurd (let k = slice_get_within (own_globals env) c g e in omega (arith, k, l))
+
+      by : (o : Option ℕ) → ((c : ℕ) → o ≡ Some c → length (own_globals env) ≤ c) → option_and_then (λ a. option_and_then (λ g. Some g.value) (slice_get (own_globals env) a)) o ≡ None
+      by None h = refl
+      by (Some c) h = none c (slice_get (own_globals env) c) refl (h c refl)
+
+  const_same : (e : ConstExpr) → value_of env (one m) (i ∷ []) 0 e ≡ const_value (own_globals env) i e
+  const_same (const.I32 v) = refl
+  const_same (const.I64 v) = refl
+  const_same (const.Null ty) = refl
+  const_same (const.Func f) = refl
+  const_same (const.Global x) = ap (option_and_then (value_of_read (own_globals env) (i ∷ []))) (read_is m (const.Global x)) ∙ by (slice_get (places (has_kind Globals) m.imports 0) x) refl
+    where
+      by : (o : Option ℕ) → slice_get (places (has_kind Globals) m.imports 0) x ≡ o → option_and_then (value_of_read (own_globals env) (i ∷ [])) (option_and_then (λ y. Some (record { part = 0; expr = const.Global y })) (option_and_then (λ n. option_and_then (λ i. Some (space_index m.imports n Globals)) (slice_get m.imports n)) o)) ≡ const_value (own_globals env) i (const.Global x)
+      by None e = sym (own_past x (slice_get_none (places (has_kind Globals) m.imports 0) x e))
+      by (Some n) e =
+          let r = place_index Globals m.imports 0 x n e in
+          let z : n ≡ r.0 = (let same = r.1 in omega (arith, same)) in
+          rw (z, r.3) (ap (λ y. const_value (own_globals env) i (const.Global y)) r.4)
+
+-- ---- by equal values ----
+
+module _ (v w : ConstExpr → Option Val) (h : (e : ConstExpr) → v e ≡ w e) (m : Module) (i : Inst) where
+  items_same : (e : ElemSeg) → all_there (λ x. option_and_then ref_of (v x)) e.items ≡ all_there (λ x. option_and_then ref_of (w x)) e.items
+  items_same e = all_there_same (λ x. ap (λ o. option_and_then ref_of o) (h x)) e.items
+
+  store_same : store_with v m i ≡ store_with w m i
+  store_same =
+      ap₂ (λ gs es. option_and_then (λ funcs. option_and_then (λ globals. option_and_then (λ elems. Some (with_elems m funcs globals elems)) es) gs) (all_there (new_func i) m.funcs))
+      (all_there_same (λ g. ap (λ o. option_and_then (λ v. Some (record { ty = g.ty; value = v })) o) (h g.init)) m.globals) (all_there_same (λ e. ap (λ o. option_and_then (λ items. Some (new_elem e.mode items)) o) (items_same e)) m.elems)
+
+  offset_same : (e : ConstExpr) → option_and_then (num_of W32) (v e) ≡ option_and_then (num_of W32) (w e)
+  offset_same e = ap (λ o. option_and_then (num_of W32) o) (h e)
+
+  elem_same : (e : ElemSeg) (mode : ElemMode) → elem_copy v i e mode ≡ elem_copy w i e mode
+  elem_same e (elem.Active x offset) = ap₂ (contents (slice_get i.tables x)) (offset_same offset) (items_same e)
+  elem_same e elem.Passive = refl
+  elem_same e elem.Declarative = refl
+
+  data_same : (d : DataSeg) (mode : DataMode) → data_copy v i d mode ≡ data_copy w i d mode
+  data_same d (data'.Active x offset) = ap (λ o. contents (slice_get i.mems x) o (Some d.bytes)) (offset_same offset)
+  data_same d data'.Passive = refl
+
+  elems_same : (es : List ElemSeg) → elem_copies v i es ≡ elem_copies w i es
+  elems_same [] = refl
+  elems_same (e ∷ es) = ap₂ (λ c cs. c ∷ cs) (elem_same e e.mode) (elems_same es)
+
+  datas_same : (ds : List DataSeg) → data_copies v i ds ≡ data_copies w i ds
+  datas_same [] = refl
+  datas_same (d ∷ ds) = ap₂ (λ c cs. c ∷ cs) (data_same d d.mode) (datas_same ds)
+
+-- ---- the law ----
+
+-- the segments of the one module, by either values
+segments_same : (env : Environment) (m : Module) (i : Inst) → IsInst env (one m) 0 m i → (s : Store) → own_segments (const_value (own_globals env) i) m i s ≡ segments env (one m) (i ∷ []) s
+segments_same env m i a s =
+    let v = value_of env (one m) (i ∷ []) 0 in
+    let c = const_value (own_globals env) i in
+    let same_values = const_same env m i a in
+    copies_in_turn c m i (λ s task. run_elem_with c s task task.segment.mode) (λ s task. run_data_with c s task task.segment.mode) (λ s n e. elem_runs c i s n e e.mode) (λ s n d. data_runs c i s n d d.mode) 0 0 a.elems a.datas s
+    ∙ ap₂ (λ es ds. and_then (runs tables s 0 es) (λ s. runs memories s 0 ds)) (sym (elems_same v c same_values m i m.elems)) (sym (datas_same v c same_values m i m.datas))
+    ∙ sym (copies_in_turn v m i (run_elem env (one m) (i ∷ [])) (run_data env (one m) (i ∷ [])) (λ s n e. elem_runs v i s n e e.mode) (λ s n d. data_runs v i s n d d.mode) 0 0 a.elems a.datas s)
+    ∙ sym (ap₂ (λ xs ys. and_then (in_turn (run_elem env (one m) (i ∷ [])) s xs) (λ s. in_turn (run_data env (one m) (i ∷ [])) s ys)) (append-nil (world.tasks_in 0 i i.elems m.elems)) (append-nil (world.tasks_in 0 i i.datas m.datas)))
+
+seen : (i : Inst) (view : List (Text × ExportDesc)) → all_there (world.seen_as (i ∷ [])) (map (λ v. (v.0, record { part = 0; what = v.1 })) view) ≡ all_there (λ v. address_in i v.1 >>= λ x. Some (v.0, x)) view
+seen i [] = refl
+seen i (v ∷ view) = ap (λ p. option_and_then (λ y. option_and_then (λ ys. Some (y ∷ ys)) p) (address_in i v.1 >>= λ x. Some (v.0, x))) (seen i view)
+
+nothing_supplied : (env : Environment) (w : LoaderWorld) → placeholders_of w ≡ [] → (i : Import) → supplied env w i ≡ own_thing (owned_of env) w.primary i
+nothing_supplied env w none i = rw none refl
+
+store_is : (env : Environment) (w : LoaderWorld) → placeholders_of w ≡ [] → store_under env w ≡ own_store env
+store_is env w none = ap (λ ps. record (own_store env) { funcs = own_funcs env ++ placeholders_from 0 ps }) none ∙ ap (λ fs. record (own_store env) { funcs = fs }) (append-nil (own_funcs env))
+
+-- instantiated alone, begun under the loader
+forth : (env : Environment) (w : LoaderWorld) (b : Begun) → placeholders_of w ≡ [] → instantiate env (primary_world w) ≡ Some b → begun_under env w ≡ Some b
+forth env w b none h =
+    let m = w.primary in
+    let made = what_is_made env (primary_world w) b h in
+    let x = one_inst env m made.insts made.are_insts in
+    let i = x.0 in
+    let v = value_of env (one m) (i ∷ []) 0 in
+    let c = const_value (own_globals env) i in
+    let same_values = const_same env m i x.2 in
+    let allocated_is = ap (λ is. world.stores_from env (one m) is (own_store env) 0 (one m) is) (sym x.1) ∙ made.is_allocated in
+    let t = and_then_is (world.part_store env (one m) (i ∷ []) 0 m i) _ made.allocated allocated_is in
+    let s : Store = joined_stores (own_store env) t.0 in
+    let same : s ≡ made.allocated = same_Some _ _ t.2 in
+    let f = all_found env m s (joined_right (R env) t.0 (own_like env)) (ap (λ s. all_of (is_matched env (one m) s) (sites_in 0 (length m.imports) 0 ++ [])) same ∙ made.matched) in
+    let next = same_inst env m s (joined_right (R env) t.0 (own_like env)) f i x.2 in
+    let filled = segments_same env m i x.2 s in
+    let added_is : added (own_store env) m f.things ≡ Some (record { inst = i; filled = segments env (one m) (i ∷ []) s }) =
+    ap (λ b. cond b (added_as (own_store env) m (next_inst (own_store env) m f.things)) None) f.match ∙ ap (added_as (own_store env) m) (sym next)
+    ∙ ap (λ o. option_and_then (λ t. Some (record { inst = i; filled = own_segments c m i (joined_stores (own_store env) t) })) o) (sym (store_same v c same_values m i) ∙ t.1) ∙ ap (λ filled. Some (record { inst = i; filled = filled })) filled in
+    let primary : world.all_there (supplied env w) m.imports >>= (added (store_under env w) m) ≡ Some (record { inst = i; filled = segments env (one m) (i ∷ []) s }) =
+    ap₂ (λ o s. option_and_then (added s m) o) (all_there_same (nothing_supplied env w none) m.imports ∙ f.are) (store_is env w none) ∙ added_is in
+    let view = sym (seen i w.view) ∙ ap (λ is. all_there (world.seen_as is) (primary_world w).view) (sym x.1) ∙ made.is_view in
+    ap (λ o. option_and_then (begun_of env w) o) primary
+    ∙ ap (λ o. option_and_then (λ view. Some (record { store = (segments env (one m) (i ∷ []) s).store; trapped = (segments env (one m) (i ∷ []) s).trapped; starts = start_in i m.start; view = view; owned = owned_of env })) o) view
+    ∙ ap (λ starts. Some (record { store = (segments env (one m) (i ∷ []) s).store; trapped = (segments env (one m) (i ∷ []) s).trapped; starts = starts; view = made.view; owned = owned_of env })) (sym (append-nil (start_in i m.start)))
+    ∙ ap₂ (λ is s. Some (world.begun env (primary_world w) is made.view (segments env (one m) is s))) (sym x.1) same ∙ ap Some made.is
+
+-- ---- the other way round ----
+
+module _ (env : Environment) (m : Module) where
+  -- from what imports stand for in the store before, that they match in the store after
+  module _ (s : Store) (like : StoreRel (R env) (own_store env) s) where
+    matched_one : (n : ℕ) (i : Import) (x : Thing) → slice_get m.imports n ≡ Some i → own_thing (owned_of env) m i ≡ Some x → unwrap_or (is_match (own_store env) m i.desc x) false ≡ true → is_matched env (one m) s (site n) ≡ true
+    matched_one n i x here is match =
+        let x_is = sym (own_thing_is env m s like i) ∙ is in
+        let rel : ThingRel (R env) x x = opt_self (thing_rel (R env) env (shares env) m.types (Some i)) x_is in
+        matched_is env m s like n i here ∙ ap (λ o. unwrap_or (option_and_then (is_match s m i.desc) o) false) x_is
+        ∙ ap (λ o. unwrap_or o false) (sym (match_same (R env) env (shares env) (own_store env) s like m m refl refl i.desc rel)) ∙ match
+
+    matched_all : (is : List Import) (n : ℕ) (things : List Thing) → ((k : ℕ) → slice_get m.imports (n + k) ≡ slice_get is k) → all_there (own_thing (owned_of env) m) is ≡ Some things → all_match (own_store env) m is things ≡ true → all_of (is_matched env (one m) s) (sites_in 0 (length is) n ++ []) ≡ true
+    matched_all [] n things h are match = refl
+    matched_all (i ∷ is) n things h are match =
+        let x = and_then_is (own_thing (owned_of env) m i) _ things are in
+        let xs = and_then_is (all_there (own_thing (owned_of env) m) is) _ things x.2 in
+        let same : x.0 ∷ xs.0 ≡ things = same_Some _ _ xs.2 in
+        let matches = ap (all_match (own_store env) m (i ∷ is)) same ∙ match in
+        let z : n + 0 ≡ n = omega arith in
+        and_from (is_matched env (one m) s (site n)) _ (matched_one n i x.0 (ap (slice_get m.imports) (sym z) ∙ h 0) x.1 (left_true _ _ matches))
+        (matched_all is (suc n) xs.0 (λ k. let y : suc n + k ≡ n + suc k = omega arith in ap (slice_get m.imports) y ∙ h (suc k)) xs.1 (right_true (unwrap_or (is_match (own_store env) m i.desc x.0) false) _ matches))
+
+  all_places : (k : ℕ) → slice_get m.imports (0 + k) ≡ slice_get m.imports k
+  all_places k = let z : 0 + k ≡ k = omega arith in ap (slice_get m.imports) z
+
+  inst_found : (f : Found env m (own_store env) (own_like env) 0 m.imports) → world.inst_of env (one m) 0 m ≡ Some (next_inst (own_store env) m f.things)
+  inst_found f = rw (there Functions, there Tables, there Memories, there Globals) refl
+    where
+      there : (k : Space) → space env (one m) k 0 m ≡ Some (addresses_of k f.things ++ numbers (own_count k env) (defined_count k m))
+      there k = space_is env m k ∙ ap (λ o. option_and_then (λ l. Some (l ++ numbers (own_count k env) (defined_count k m))) o) (f.spaces k)
+
+cond_good : {A : Type 0} (b : Bool) (o : Option A) (a : A) → cond b o None ≡ Some a → (b ≡ true) × (o ≡ Some a)
+cond_good true o a h = (refl, h)
+cond_good false o a h = cc
+
+-- begun under the loader, instantiated alone
+back : (env : Environment) (w : LoaderWorld) (b : Begun) → placeholders_of w ≡ [] → begun_under env w ≡ Some b → instantiate env (primary_world w) ≡ Some b
+back env w b none h =
+    let m = w.primary in
+    let begun_is = ap (λ o. option_and_then (begun_of env w) o) (sym (ap₂ (λ o s. option_and_then (added s m) o) (all_there_same (nothing_supplied env w none) m.imports) (store_is env w none))) ∙ h in
+    let a = and_then_is (all_there (own_thing (owned_of env) m) m.imports >>= (added (own_store env) m)) (begun_of env w) b begun_is in
+    let things = and_then_is (all_there (own_thing (owned_of env) m) m.imports) (added (own_store env) m) a.0 a.1 in
+    let good = cond_good (all_match (own_store env) m m.imports things.0) _ a.0 things.2 in
+    let f = all_found env m (own_store env) (own_like env) (matched_all env m (own_store env) (own_like env) m.imports 0 things.0 (all_places env m) things.1 good.0) in
+    let j = next_inst (own_store env) m f.things in
+    let c = const_value (own_globals env) j in
+    let added_is : added_as (own_store env) m j ≡ Some a.0 = ap (λ xs. added_as (own_store env) m (next_inst (own_store env) m xs)) (same_Some _ _ (sym f.are ∙ things.1)) ∙ good.1 in
+    let t = and_then_is (store_with c m j) _ a.0 added_is in
+    let s : Store = joined_stores (own_store env) t.0 in
+    let inst_there = inst_found env m f in
+    let i = inst_is env (one m) 0 m j inst_there in
+    let v = and_then_is (all_there (λ v. address_in j v.1 >>= λ x. Some (v.0, x)) w.view) _ b (ap (begun_of env w) (same_Some _ _ t.2) ∙ a.2) in
+    let last : List Inst → Store → List (Text × Thing) → Bool → Option Begun = λ is s view matched. cond matched (Some (world.begun env (primary_world w) is view (segments env (one m) is s))) None in
+    ap (λ o. option_and_then (λ is. option_and_then (λ s. option_and_then (λ view. last is s view (all_of (is_matched env (one m) s) (sites_in 0 (length m.imports) 0 ++ []))) (all_there (world.seen_as is) (primary_world w).view)) (world.stores_from env (one m) is (own_store env) 0 (one m) is)) o)
+    (ap (λ o. option_and_then (λ i. Some (i ∷ [])) o) inst_there)
+    ∙ ap (λ o. option_and_then (λ s. option_and_then (λ view. last (j ∷ []) s view (all_of (is_matched env (one m) s) (sites_in 0 (length m.imports) 0 ++ []))) (all_there (world.seen_as (j ∷ [])) (primary_world w).view)) o)
+    (ap (λ o. option_and_then (λ t. Some (joined_stores (own_store env) t)) o) (store_same (value_of env (one m) (j ∷ []) 0) c (const_same env m j i) m j ∙ t.1))
+    ∙ ap (λ o. option_and_then (λ view. last (j ∷ []) s view (all_of (is_matched env (one m) s) (sites_in 0 (length m.imports) 0 ++ []))) o) (seen j w.view ∙ v.1)
+    ∙ ap (last (j ∷ []) s v.0) (matched_all env m s (joined_right (R env) t.0 (own_like env)) m.imports 0 f.things (all_places env m) f.are f.match)
+    ∙ ap₂ (λ (filled : Filled) starts. Some (record { store = filled.store; trapped = filled.trapped; starts = starts; view = v.0; owned = owned_of env })) (sym (segments_same env m j i s)) (append-nil (start_in j m.start)) ∙ v.2
+
+pub begins_as_primary : LoadersBeginAsTheirPrimary
+begins_as_primary env w none = by (instantiate env (primary_world w)) refl (begun_under env w) refl
+  where
+    by : (o : Option Begun) → instantiate env (primary_world w) ≡ o → (p : Option Begun) → begun_under env w ≡ p → begun_under env w ≡ instantiate env (primary_world w)
+    by (Some b) e p f = forth env w b none e ∙ sym e
+    by None e None f = f ∙ sym e
+    by None e (Some b) f = f ∙ sym (back env w b none f)

@@ -1,0 +1,42 @@
+-- A loader that supplies something begins where its primary module alone is not linked; one that supplies nothing begins as that module.
+use Rattle.std.proofs.Common.{◌≡◌, refl, List, [], ◌∷◌, None, true, false}
+use Rattle.wasm_tree.specs.declared.types.FuncType.{FuncType}
+use Rattle.wasm_tree.specs.declared.module.Import.{Import}
+use Rattle.wasm_tree.specs.declared.module.ImportDesc.TheVariants as im
+use Rattle.wasm_tree.specs.declared.module.Module.{Module}
+use Rattle.wasm_meaning.specs.World.{is_there, links, instantiate}
+use Rattle.wasm_meaning.specs.Loader.{Secondary, LoaderWorld, begun_under}
+use Rattle.world_simulation.specs.Loaded.{primary_world}
+
+abbrev nothing : FuncType
+nothing = record { params = []; results = [] }
+
+abbrev importing : List Import → Module
+importing imports = record { types = nothing ∷ []; imports = imports; funcs = []; tables = []; mems = []; globals = []; exports = []; start = None; elems = []; datas = [] }
+
+abbrev one_import : Import
+one_import = record { «module» = 112 ∷ []; field = 48 ∷ []; desc = im.Func 0 }
+
+-- a primary module with this import, for which the loader has these secondary modules
+abbrev loading : List Secondary → LoaderWorld
+loading secondaries = record { primary = importing (one_import ∷ []); secondaries = secondaries; slot_table = 0; view = [] }
+
+abbrev a_placeholder : List Secondary
+a_placeholder = record { «module» = importing []; placeholders = ((112 ∷ [], 48 ∷ []), nothing) ∷ [] } ∷ []
+
+it_is_supplied : is_there (begun_under [] (loading a_placeholder)) ≡ true
+it_is_supplied = refl
+
+alone_it_is_not_linked : links [] (primary_world (loading a_placeholder)) ≡ false
+alone_it_is_not_linked = refl
+
+-- where nothing is supplied neither begins
+it_is_not_supplied : is_there (begun_under [] (loading [])) ≡ false
+it_is_not_supplied = refl
+
+nor_is_it_linked : links [] (primary_world (loading [])) ≡ false
+nor_is_it_linked = refl
+
+-- without an import both begin alike
+without_an_import : begun_under [] (record (loading []) { primary = importing [] }) ≡ instantiate [] (primary_world (record (loading []) { primary = importing [] }))
+without_an_import = refl

@@ -1,0 +1,46 @@
+-- Element segments that correspond, and that do not.
+use Rattle.std.proofs.Common.{refl, List, [], ◌∷◌, Option, Some, None, false}
+use Rattle.wasm_tree.specs.declared.types.RefType.TheVariants as reft
+use Rattle.wasm_tree.specs.declared.module.ConstExpr.{ConstExpr}
+use Rattle.wasm_tree.specs.declared.module.ConstExpr.TheVariants as const
+use Rattle.wasm_tree.specs.declared.module.ElemMode.{ElemMode}
+use Rattle.wasm_tree.specs.declared.module.ElemMode.TheVariants as elem
+use Rattle.wasm_tree.specs.declared.module.ElemSeg.{ElemSeg}
+use Rattle.wasm_meaning.specs.State.{FuncRef, Val, Ref}
+use Rattle.index_remap.specs.Related.{Pairing, some, cons, nil, reference, func, none}
+use Rattle.index_remap.specs.Laws.{passed}
+use Rattle.world_simulation.specs.Definitions.{ElemsCorrespond, declared, kept}
+
+-- nothing is related
+abbrev R : Pairing
+R = passed (λ k a b. false) (λ k a b. false) []
+
+-- a function stands for itself, and null for null
+abbrev value : ConstExpr → Option Val
+value (const.Func f) = Some (Ref (FuncRef (Some f)))
+value _ = Some (Ref (FuncRef None))
+
+abbrev segment : List ConstExpr → ElemMode → ElemSeg
+segment items mode = record { ty = reft.Func; items = items; mode = mode }
+
+abbrev of_function : List ConstExpr
+of_function = const.Func 0 ∷ []
+
+abbrev of_null : List ConstExpr
+of_null = const.Null reft.Func ∷ []
+
+-- a declarative one and one without its item
+items_are_gone : ElemsCorrespond R value value (segment of_function elem.Declarative) (segment [] elem.Declarative)
+items_are_gone = declared refl refl
+
+nulls_are_related : ElemsCorrespond R value value (segment of_null elem.Passive) (segment of_null elem.Passive)
+nulls_are_related = kept refl refl (cons (some (reference (func none))) nil)
+
+-- a passive one keeps its items, and a declarative one is no passive one
+not_without_its_item : ElemsCorrespond R value value (segment of_function elem.Passive) (segment [] elem.Passive) → ⊥
+not_without_its_item (declared h k) = cc
+not_without_its_item (kept h k items) = elim items [ ]
+
+not_of_another_mode : ElemsCorrespond R value value (segment of_null elem.Declarative) (segment of_null elem.Passive) → ⊥
+not_of_another_mode (declared h k) = cc
+not_of_another_mode (kept h k items) = cc

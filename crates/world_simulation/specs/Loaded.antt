@@ -1,0 +1,14 @@
+-- A loader that supplies nothing.
+use Rattle.std.specs.Prelude.{◌≡◌, [], map}
+use Rattle.wasm_meaning.specs.Environment.{Environment}
+use Rattle.wasm_meaning.specs.World.{World, instantiate}
+use Rattle.wasm_meaning.specs.Loader.{LoaderWorld, placeholders_of, begun_under}
+use Rattle.world_simulation.specs.Alone.{one}
+
+-- its primary module alone, with the view
+abbrev pub primary_world : LoaderWorld → World
+primary_world w = record { parts = one w.primary; view = map (λ v. (v.0, record { part = 0; what = v.1 })) w.view }
+
+-- The loader's world begins as that world does, where the environment links it and where not.
+abbrev pub LoadersBeginAsTheirPrimary : Type 0
+LoadersBeginAsTheirPrimary = (env : Environment) (w : LoaderWorld) → placeholders_of w ≡ [] → begun_under env w ≡ instantiate env (primary_world w)
