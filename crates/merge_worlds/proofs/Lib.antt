@@ -2,28 +2,16 @@ pub mod SpaceLaws
 pub mod Standing
 pub mod MergedAlone
 pub mod Instances
-pub mod Named
-pub mod View
-pub mod Starts
 pub mod ValueShared
-pub mod ValueAlone
 pub mod ValueGiven
 pub mod Values
 pub mod Lists
-pub mod Funcs
-pub mod MergedLists
+pub mod Named
 pub mod Definitions
-pub mod Called
-pub mod SegmentTurns
+pub mod Starts
 pub mod Segments
-pub mod MatchLists
 pub mod MatchTypes
-pub mod MatchLimits
-pub mod MatchFits
-pub mod MatchAlike
-pub mod MatchDefined
-pub mod MatchMerged
-pub mod MatchAll
+pub mod Matching
 mod Worlds
 mod WrongMerges
 mod PartsOfWrongMerges

@@ -1,10 +1,9 @@
 -- The merged module alone: its imports are those that stay, and stand for what these stand for in the parts' world; then comes what the parts define.
-use Rattle.std.proofs.Common.{◌≡◌, ◌∙◌, ap, ap₂, sym, refl, ℕ, ◌+◌, List, ◌++◌, map, length, Option, Some, None, true, arith, option_and_then, slice_get, unwrap_or, false}
+use Rattle.std.proofs.Common.{◌≡◌, ◌∙◌, ap, ap₂, sym, refl, ℕ, ◌+◌, List, ◌++◌, map, length, Option, Some, None, true, arith, option_and_then, slice_get}
 use Rattle.wasm_tree.specs.declared.space.Space.{Space}
-use Rattle.wasm_tree.specs.declared.space.Space.TheVariants.{Functions, Tables, Memories, Globals, DataSegments, ElementSegments, Types}
+use Rattle.wasm_tree.specs.declared.space.Space.TheVariants.{Functions, Tables, Memories, Globals, DataSegments, ElementSegments}
 use Rattle.wasm_tree.specs.Operands.{same_space}
 use Rattle.std.specs.List.{filter_map}
-use Rattle.wasm_tree.specs.declared.types.FuncType.{FuncType}
 use Rattle.wasm_tree.specs.declared.module.Import.{Import}
 use Rattle.wasm_tree.specs.declared.module.ImportDesc.{ImportDesc}
 use Rattle.wasm_tree.specs.declared.module.ImportDesc.TheVariants as im
@@ -12,21 +11,23 @@ use Rattle.wasm_tree.specs.declared.module.Module.{Module}
 use Rattle.wasm_meaning.specs.State.{Text, Pair}
 use Rattle.wasm_meaning.specs.Linking.{Part, Site, has_kind, pair_of, module_at, import_at, sites}
 use Rattle.wasm_tree.specs.Spaces.{space_of_import}
-use Rattle.wasm_meaning.specs.Environment.{Environment, FuncKey, OwnKey, owned_of, owned_at}
-use Rattle.wasm_meaning.specs.World.{own_count, defined_count, defined_before, address_of, own_key, own_key_of, outside_thing, all_there, numbers, space}
+use Rattle.wasm_meaning.specs.Environment.{Environment, owned_of}
+use Rattle.wasm_meaning.specs.World.{own_count, defined_count, defined_before, address_of, own_key_of, outside_thing, all_there, numbers, space}
 use Rattle.index_remap.specs.References.{declared_refs}
 use Rattle.world_simulation.proofs.Declared.{Keeps, keeps}
 use Rattle.export_names.specs.declared.mode.Mode.{Mode}
 use Rattle.export_names.specs.Names.{new_names}
-use Rattle.merge_terms.specs.Faults.{External, FuncOf, asked, asked_at, link_fault, stays}
+use Rattle.merge_terms.specs.Faults.{External, asked, asked_at, link_fault, stays}
 use Rattle.merge_terms.specs.Merged.{merged, merged_types, merged_import, merged_desc, merged_elem, merged_data, map_of, staying, staying_of, imports_kind, export_names}
 use Rattle.merge_terms.specs.Joined.{joined_module}
 use Rattle.merge_validity.specs.Ended.{Ended, inside, outside, added_count, is_external}
+use Rattle.merge_validity.proofs.MergedSpaces.{types_are, imports_are, import_is}
 use Rattle.merge_validity.proofs.ByPart.{elems_is, datas_is, by_part_many}
 use Rattle.world_simulation.specs.Alone.{one, key_in, thing_in, address_in, addresses}
 use Rattle.world_simulation.proofs.Places.{map_length}
 use Rattle.merge_worlds.proofs.SpaceLaws.{SpaceLaws}
 use Rattle.merge_worlds.proofs.Standing.{site_address}
+use Rattle.merge_worlds.proofs.MatchTypes.{Asks, func, asks_by}
 use Rattle.base_lists.proofs.Filtered.{kept_is, at_places, of_chosen}
 use Rattle.base_lists.proofs.Options.{and_then_is}
 
@@ -40,22 +41,18 @@ pub joined_keeps : (parts : List Part) (mode : Mode) → Keeps (merged parts (na
 unfolding joined_module
 joined_keeps parts mode = keeps (merged parts (names_of parts mode)) (declared_refs (merged parts (names_of parts mode)))
 
-pub count_kept : {m n : Module} {fs : List ℕ} → Keeps m n fs → (k : Space) → is_external k ≡ true → defined_count k n ≡ defined_count k m
+pub joined_types : (parts : List Part) (mode : Mode) → (joined_module parts mode).types ≡ merged_types parts
+joined_types parts mode = (joined_keeps parts mode).types ∙ types_are parts (names_of parts mode)
+
+pub joined_imports : (parts : List Part) (mode : Mode) → (joined_module parts mode).imports ≡ filter_map (merged_import parts) (staying parts)
+joined_imports parts mode = (joined_keeps parts mode).imports ∙ imports_are parts (names_of parts mode)
+
+count_kept : {m n : Module} {fs : List ℕ} → Keeps m n fs → (k : Space) → is_external k ≡ true → defined_count k n ≡ defined_count k m
 count_kept q Functions e = ap length q.funcs
 count_kept q Tables e = ap length q.tables
 count_kept q Memories e = ap length q.mems
 count_kept q Globals e = ap length q.globals
-count_kept q Types e = cc
-count_kept q ElementSegments e = cc
-count_kept q DataSegments e = cc
-
-pub merged_types_are : (parts : List Part) (names : List (Option Text)) → (merged parts names).types ≡ merged_types parts
-unfolding merged
-merged_types_are parts names = refl
-
-merged_imports_are : (parts : List Part) (names : List (Option Text)) → (merged parts names).imports ≡ filter_map (merged_import parts) (staying parts)
-unfolding merged
-merged_imports_are parts names = refl
+count_kept q k e = cc
 
 pub elems_many : (parts : List Part) (names : List (Option Text)) → length (merged parts names).elems ≡ defined_before ElementSegments parts (length parts)
 unfolding merged
@@ -89,45 +86,29 @@ unfolding staying_of
 staying_kind laws parts k n s h =
     let r = kept_is (imports_kind parts k) (staying parts) n s (h) in
     let w = staying_is laws parts r.1.0 s (r.1.1) in
-    (w, sym (ap (λ o. unwrap_or (option_and_then (λ i. Some (has_kind k i)) o) false) w.at) ∙ r.0)
-
-moved_import : (parts : List Part) (s : Site) (m : Module) (i : Import) → module_at parts s.part ≡ Some m → import_at parts s ≡ Some i → merged_import parts s ≡ Some (record i { desc = merged_desc parts s m i.desc })
-unfolding merged_import
-moved_import parts s m i is at =
-    ap {A = Option Module} {B = Option Import} (λ o. option_and_then (λ m. option_and_then {T = Import} {U = Import} (λ i. Some (record i { desc = merged_desc parts s m i.desc })) (import_at parts s)) o) is
-    ∙ ap {A = Option Import} {B = Option Import} (λ o. option_and_then {T = Import} {U = Import} (λ i. Some (record i { desc = merged_desc parts s m i.desc })) o) at
+    (w, rw w.at at r.0)
 
 moved_kind : (parts : List Part) (s : Site) (m : Module) (d : ImportDesc) → space_of_import (merged_desc parts s m d) ≡ space_of_import d
 moved_kind parts s m (im.Func ty) = refl
-moved_kind parts s m (im.Table t) = refl
-moved_kind parts s m (im.Memory l) = refl
-moved_kind parts s m (im.Global t) = refl
+moved_kind parts s m _ = refl
 
 -- it names the same of the environment's own
-moved_key : SpaceLaws → (parts : List Part) (s : Site) (m : Module) → module_at parts s.part ≡ Some m → (pair : Pair) (d : ImportDesc) (x : External) → asked m d ≡ Some x → key_in (merged_types parts) pair (merged_desc parts s m d) ≡ own_key_of m pair d
-moved_key laws parts s m is pair (im.Func ty) x h =
-    let t = and_then_is (slice_get m.types ty) (λ t. Some (FuncOf t)) x h in
-    ap (λ o. option_and_then {T = FuncType} {U = OwnKey} (λ t. Some (FuncKey pair t)) o) (laws.types parts s.part m ty t.0 is t.1 ∙ sym t.1)
-moved_key laws parts s m is pair (im.Table t) x h = refl
-moved_key laws parts s m is pair (im.Memory l) x h = refl
-moved_key laws parts s m is pair (im.Global t) x h = refl
+moved_key : SpaceLaws → (parts : List Part) (s : Site) (m : Module) → module_at parts s.part ≡ Some m → (pair : Pair) {d : ImportDesc} {x : External} → Asks m d x → key_in (merged_types parts) pair (merged_desc parts s m d) ≡ own_key_of m pair d
+moved_key laws parts s m is pair (func {ty = ty} {t = t} e) = rw (laws.types parts s.part m ty t is e, e) refl
+moved_key laws parts s m is pair _ = refl
 
-demand_of : {parts : List Part} {s : Site} {i : Import} → Ended parts s i → (x : External) × (asked_at parts s ≡ Some x)
+pub demand_of : {parts : List Part} {s : Site} {i : Import} → Ended parts s i → (x : External) × (asked_at parts s ≡ Some x)
 demand_of (inside w) = (w.demand, w.asks)
 demand_of (outside w) = (w.demand, w.asks)
 
-module _ (laws : SpaceLaws) (env : Environment) (parts : List Part) (linked : link_fault parts true ≡ None) where
-  asked_there : (s : Site) (w : IsStaying parts s) → (x : External) × (asked w.of w.import.desc ≡ Some x)
-  asked_there s w =
-      let d = demand_of (laws.ends parts linked s w.import w.at) in
-      (d.0, sym (ap (λ o. option_and_then (λ m. option_and_then (λ i. asked m i.desc) (slice_get m.imports s.import)) o) w.is_part ∙ ap (λ o. option_and_then (λ i. asked w.of i.desc) o) w.stands) ∙ d.1)
+pub asked_staying : (parts : List Part) (s : Site) (w : IsStaying parts s) (x : External) → asked_at parts s ≡ Some x → asked w.of w.import.desc ≡ Some x
+asked_staying parts s w x h = rw (w.is_part, w.stands) at h
 
-  moved_thing : (s : Site) (w : IsStaying parts s) → thing_in env (merged_types parts) (Some (record w.import { desc = merged_desc parts s w.of w.import.desc })) ≡ outside_thing (owned_of env) parts s
+module _ (laws : SpaceLaws) (env : Environment) (parts : List Part) (linked : link_fault parts true ≡ None) where
+  pub moved_thing : (s : Site) (w : IsStaying parts s) → thing_in env (merged_types parts) (Some (record w.import { desc = merged_desc parts s w.of w.import.desc })) ≡ outside_thing (owned_of env) parts s
   moved_thing s w =
-      let x = asked_there s w in
-      ap (λ o. option_and_then (λ key. owned_at (owned_of env) key) o) (moved_key laws parts s w.of w.is_part (pair_of w.import) w.import.desc x.0 x.1)
-      ∙ sym (ap (λ o. option_and_then (λ m. option_and_then (λ i. option_and_then (λ key. owned_at (owned_of env) key) (own_key m i)) (import_at parts s)) o) w.is_part
-      ∙ ap (λ o. option_and_then (λ i. option_and_then (λ key. owned_at (owned_of env) key) (own_key w.of i)) o) w.at)
+      let x = demand_of (laws.ends parts linked s w.import w.at) in
+      rw (moved_key laws parts s w.of w.is_part (pair_of w.import) (asks_by w.of w.import.desc x.0 (asked_staying parts s w x.0 x.1)), w.is_part, w.stands) refl
 
   chosen_addresses : (k : Space) → addresses env (merged_types parts) (filter_map (merged_import parts) (staying parts)) k ≡ all_there (site_address env parts k) (staying_of parts k)
   unfolding staying_of
@@ -143,8 +124,8 @@ module _ (laws : SpaceLaws) (env : Environment) (parts : List Part) (linked : li
       each n s h =
           let w = staying_is laws parts n s h in (
             record w.import { desc = merged_desc parts s w.of w.import.desc },
-            moved_import parts s w.of w.import w.is_part w.at,
-            ap (same_space k) (moved_kind parts s w.of w.import.desc) ∙ sym (ap (λ o. unwrap_or (option_and_then (λ i. Some (has_kind k i)) o) false) w.at),
+            import_is parts s w.of w.import w.is_part w.at,
+            ap (same_space k) (moved_kind parts s w.of w.import.desc) ∙ sym (rw w.at refl),
             λ q. ap (λ o. option_and_then (address_of k) o) (moved_thing s w),
           )
 
@@ -152,8 +133,7 @@ module _ (laws : SpaceLaws) (env : Environment) (parts : List Part) (linked : li
   pub merged_space : (mode : Mode) (k : Space) → is_external k ≡ true →
       space env (one (joined_module parts mode)) k 0 (joined_module parts mode) ≡ option_and_then (λ l. Some (l ++ numbers (own_count k env) (defined_before k parts (length parts) + added_count parts k))) (all_there (site_address env parts k) (staying_of parts k))
   merged_space mode k e =
-      let q = joined_keeps parts mode in
       laws.spaces env (joined_module parts mode) k
       ∙ ap₂ (λ o n. option_and_then (λ l. Some (l ++ numbers (own_count k env) n)) o)
-      (ap₂ (λ t i. addresses env t i k) (q.types ∙ merged_types_are parts (names_of parts mode)) (q.imports ∙ merged_imports_are parts (names_of parts mode)) ∙ chosen_addresses k)
-      (count_kept q k e ∙ laws.counts parts (names_of parts mode) k e)
+      (rw (joined_types parts mode, joined_imports parts mode) (chosen_addresses k))
+      (count_kept (joined_keeps parts mode) k e ∙ laws.counts parts (names_of parts mode) k e)

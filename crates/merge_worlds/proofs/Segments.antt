@@ -1,57 +1,153 @@
 -- The segments of the parts and those of the merged module stand in the same order, and each is copied to the same place; a segment that declares references has no partner.
-use Rattle.std.proofs.Common.{◌≡◌, ℕ, ◌+◌, ◌<◌, List, [], ◌∷◌, ◌++◌, map, length, Option, Some, true, refl, sym, ap, subst, ◌∙◌, arith, drop, option_and_then, append-nil}
+use Rattle.std.proofs.Common.{◌≡◌, ℕ, zero, suc, ◌+◌, ◌<◌, List, [], ◌∷◌, ◌++◌, map, length, Some, refl, sym, ap, subst, ◌∙◌, arith, append_assoc, drop, slice_get}
+use Rattle.std.proofs.lemmas.List.{drop-drop, append-nil}
+use Rattle.std.proofs.lemmas.Option.{same_Some, slice_get_within}
 use Rattle.wasm_tree.specs.declared.space.Space.{Space}
+use Rattle.wasm_tree.specs.declared.module.Module.{Module}
+use Rattle.wasm_meaning.specs.State.{Inst}
+use Rattle.wasm_meaning.specs.Linking.{Part, module_at}
+use Rattle.wasm_meaning.specs.Environment.{Environment}
+use Rattle.wasm_meaning.specs.World.{Task, tasks_in, defined_count, defined_before, numbers, insts_from, elem_tasks, data_tasks}
+use Rattle.merge_terms.specs.Merged.{by_part_from, map_of, merged_const, merged_elem, merged_elem_mode, merged_data, merged_data_mode}
+use Rattle.world_simulation.specs.Segments.{InOrder, both, ends, only_second, ElemsPartner, ElemAlone, DatasPartner, offset_in, ElemsInOrder, DatasInOrder}
+use Rattle.world_simulation.proofs.Instancing.{addresses_in}
+use Rattle.world_simulation.proofs.Ordered.{tasks_by, elems_by, datas_by}
+use Rattle.merge_worlds.specs.Instances.{SpaceAgrees, PartAgrees, InstancesAgree}
+use Rattle.merge_worlds.specs.Shared.{shared_count, sharing}
+use Rattle.base_lists.proofs.Numbers.{length-numbers, numbers_at}
+use Rattle.base_lists.proofs.Places.{drop_at, slice_index_is, map_from}
+use Rattle.std.proofs.lemmas.Bool.{lt-ltb}
 use Rattle.wasm_tree.specs.declared.space.Space.TheVariants.{Tables, Memories, ElementSegments, DataSegments}
-use Rattle.std.specs.Prelude.{slice_get, slice_index}
 use Rattle.wasm_tree.specs.declared.types.ValType.{ValType}
 use Rattle.wasm_tree.specs.declared.types.ValType.TheVariants.{I32}
 use Rattle.wasm_tree.specs.declared.module.ConstExpr.{ConstExpr}
 use Rattle.wasm_tree.specs.declared.module.ElemMode.{ElemMode}
-use Rattle.wasm_tree.specs.declared.module.ElemMode.TheVariants as elem
 use Rattle.wasm_tree.specs.declared.module.ElemSeg.{ElemSeg}
 use Rattle.wasm_tree.specs.declared.module.DataMode.{DataMode}
-use Rattle.wasm_tree.specs.declared.module.DataMode.TheVariants as data'
 use Rattle.wasm_tree.specs.declared.module.DataSeg.{DataSeg}
-use Rattle.wasm_tree.specs.declared.module.Module.{Module}
 use Rattle.wasm_tree.specs.Spaces.{tables_of, memories_of}
-use Rattle.wasm_num.specs.Operations.{W32}
-use Rattle.wasm_valid.specs.declared.kinds.ItemKind.{ItemKind}
-use Rattle.wasm_valid.specs.declared.kinds.ItemKind.TheVariants as kind
 use Rattle.wasm_valid.specs.Constants.{const_type}
-use Rattle.wasm_valid.specs.Validity.{IsValid, HoldsAt, ElemModeHolds, DataModeHolds, count_of}
-use Rattle.wasm_meaning.specs.State.{Val, Inst}
-use Rattle.wasm_meaning.specs.Values.{num_of}
-use Rattle.wasm_meaning.specs.Linking.{Part, module_at}
-use Rattle.wasm_meaning.specs.Environment.{Environment}
-use Rattle.wasm_meaning.specs.World.{Task, numbers, insts_from, tasks_in, elem_tasks, data_tasks, defined_before}
-use Rattle.index_remap.specs.Related.{Pairing, OptRel, none, some, ValRel, number, reference}
-use Rattle.world_simulation.specs.Alone.{one}
-use Rattle.world_simulation.proofs.Places.{map_length, opt_at}
+use Rattle.wasm_valid.specs.Validity.{ElemModeHolds, DataModeHolds}
+use Rattle.index_remap.specs.Related.{Pairing}
+use Rattle.index_remap.specs.RelatedRuns.{turned, HasNoPartner}
 use Rattle.export_names.specs.declared.mode.Mode.{Mode}
-use Rattle.merge_terms.specs.Merged.{by_part, map_of, merged_const, merged_elem, merged_elem_mode, merged_data, merged_data_mode}
 use Rattle.merge_terms.specs.Joined.{joined_module}
 use Rattle.merge_validity.specs.Joinable.{CanBeJoined}
-use Rattle.merge_worlds.specs.Shared.{shared_count, sharing}
-use Rattle.merge_worlds.specs.Instances.{SameAddress, PartAgrees, InstancesAgree}
-use Rattle.merge_worlds.proofs.SegmentTurns.{elems_start, datas_start, elems_next, datas_next, task, PartStands, by_parts}
-use Rattle.merge_worlds.proofs.ValueShared.{shares}
-use Rattle.merge_worlds.proofs.MergedLists.{declared_in, by_part_is}
-use Rattle.world_simulation.proofs.Declared.{last_segments}
-use Rattle.merge_worlds.proofs.Values.{value_rel}
-use Rattle.merge_worlds.proofs.ValueGiven.{Laws}
+use Rattle.world_simulation.specs.Alone.{one}
 use Rattle.world_simulation.specs.Definitions.{Instantiated, values_in}
-use Rattle.world_simulation.specs.Segments.{InOrder, ends, only_second, ElemsPartner, ElemAlone, DatasPartner, DataAlone, offset_in, ElemsInOrder, DatasInOrder}
-use Rattle.world_simulation.specs.Segments as segments
-use Rattle.world_simulation.proofs.Ordered.{tasks_by, elems_by, datas_by}
-use Rattle.index_remap.specs.RelatedRuns.{turned, HasNoPartner}
-use Rattle.std.proofs.lemmas.Option.{slice_get_within}
-use Rattle.base_lists.proofs.Numbers.{numbers_at, length-numbers}
-use Rattle.base_lists.proofs.Places.{map_from, slice_index_is}
+use Rattle.world_simulation.proofs.Declared.{last_segments}
+use Rattle.world_simulation.proofs.Places.{map_length}
+use Rattle.world_simulation.proofs.Renamed.{offset_same}
 use Rattle.merge_worlds.proofs.Instances.{map_elems, map_datas}
+use Rattle.merge_worlds.proofs.Definitions.{declared_in, elems_join, datas_join}
+use Rattle.merge_worlds.proofs.ValueGiven.{Laws, elem_holds, data_holds}
+use Rattle.merge_worlds.proofs.ValueShared.{shares, names_one}
+use Rattle.merge_worlds.proofs.Values.{value_rel}
+use Rattle.wasm_tree.specs.declared.module.ElemMode.TheVariants as elem
+use Rattle.wasm_tree.specs.declared.module.DataMode.TheVariants as data'
+use Rattle.world_simulation.specs.Segments as segments
 
--- each item of a valid module holds
-abbrev pub ValidItemsHold : Type 0
-ValidItemsHold = (m : Module) → IsValid m → (k : ItemKind) (i : ℕ) → i < count_of m true k → HoldsAt m k i
+-- ---- segments of one kind by part, one after the other, and the same segments of one module ----
+
+before_start : (k : Space) (parts : List Part) → defined_before k parts 0 ≡ 0
+before_start k [] = refl
+before_start k (part ∷ parts) = refl
+
+before_next : (k : Space) (parts : List Part) (p : ℕ) (m : Module) → module_at parts p ≡ Some m → defined_before k parts (suc p) ≡ defined_before k parts p + defined_count k m
+before_next k [] p m h = cc
+before_next k (part ∷ parts) zero m h =
+    let n = before_start k parts in
+    let l = ap (defined_count k) (same_Some _ _ h) in
+    omega arith
+before_next k (part ∷ parts) (suc p) m h = let n = before_next k parts p m h in omega arith
+
+-- a place at which one address stands in both lists
+record OneAddress (xs ys : List ℕ) (n : ℕ) : Type 0 where
+  address : ℕ
+  first : slice_get xs n ≡ Some address
+  second : slice_get ys n ≡ Some address
+
+abbrev pub task : {A : Type 0} → ℕ → Inst → ℕ → A → Task A
+task p i a x = record { part = p; inst = i; address = a; segment = x }
+
+module _ {A : Type 0} (k : Space) (segs : Module → List A) (counts : (m : Module) → defined_count k m ≡ length (segs m)) (partners : Task A → Task A → Type 0) (first second : Task A → Type 0) (env : Environment) (parts : List Part) (insts : List Inst) (j : Inst) (new : ℕ → Module → A → A) where
+  abbrev Ordered : List (Task A) → List (Task A) → Type 0
+  Ordered xs ys = InOrder partners first second xs ys
+
+  -- A part's segments stand in the merged module behind those of the parts before it, with the addresses that they have, and each has its partner there.
+  pub record PartStands (p : ℕ) (m : Module) : Type 0 where
+    pub inst : Inst
+    pub is : slice_get insts p ≡ Some inst
+    pub agrees : SpaceAgrees env parts k (addresses_in k inst) (addresses_in k j) (numbers (defined_before k parts p) (length (segs m)))
+    pub each : (x a : ℕ) (e : A) → slice_get (segs m) x ≡ Some e → a < shared_count env parts k → partners (task p inst a e) (task 0 j a (new p m e))
+
+  -- the segments of one part, and then others
+  in_part : (p : ℕ) (i : Inst) (new : A → A) (xs ys : List ℕ) (es : List A) (rest : List (Task A)) (more : List A) →
+      ((x : ℕ) → x < length es → OneAddress xs ys x) → ((x a : ℕ) (e : A) → slice_get es x ≡ Some e → slice_get xs x ≡ Some a → partners (task p i a e) (task 0 j a (new e))) →
+      Ordered rest (tasks_in 0 j (drop (length es) ys) more) → Ordered (tasks_in p i xs es ++ rest) (tasks_in 0 j ys (map new es ++ more))
+  in_part p i new [] ys [] rest more same each then = then
+  in_part p i new (x ∷ xs) ys [] rest more same each then = then
+  in_part p i new [] ys (e ∷ es) rest more same each then = let o = same 0 (omega arith) in let k = o.first in cc
+  in_part p i new (x ∷ xs) [] (e ∷ es) rest more same each then = let o = same 0 (omega arith) in let k = o.second in cc
+  in_part p i new (x ∷ xs) (y ∷ ys) (e ∷ es) rest more same each then =
+      let o = same 0 (omega arith) in
+      let is : x ≡ y = same_Some _ _ (o.first ∙ sym o.second) in
+      both (rw (← is) (each 0 x e refl refl))
+      (in_part p i new xs ys es rest more (λ n l. let o = same (suc n) (omega arith) in record { address = o.address; first = o.first; second = o.second }) (λ n a e h k. each (suc n) a e h k) then)
+
+  module _ (more : List A) (nothing : (ns : List ℕ) → Ordered [] (tasks_in 0 j ns more)) (stands : (p : ℕ) (m : Module) → module_at parts p ≡ Some m → PartStands p m) where
+    one_part : (p : ℕ) (m : Module) (later : List (Task A)) (behind : List A) → module_at parts p ≡ Some m → (i : Inst) → slice_get insts p ≡ Some i → Ordered later (tasks_in 0 j (drop (defined_before k parts (suc p)) (addresses_in k j)) behind) →
+        Ordered (tasks_in p i (addresses_in k i) (segs m) ++ later) (tasks_in 0 j (drop (defined_before k parts p) (addresses_in k j)) (map (new p m) (segs m) ++ behind))
+    one_part p m later behind at_p i there then =
+        rw (← same_Some _ _ (sym d.is ∙ there))
+        (in_part p d.inst (new p m) (addresses_in k d.inst) (drop (defined_before k parts p) (addresses_in k j)) (segs m) later behind same each (rw dropped then))
+      where
+        d : PartStands p m
+        d = stands p m at_p
+
+        dropped : drop (length (segs m)) (drop (defined_before k parts p) (addresses_in k j)) ≡ drop (defined_before k parts (suc p)) (addresses_in k j)
+        dropped = drop-drop (length (segs m)) (defined_before k parts p) (addresses_in k j) ∙ ap (λ i. drop i (addresses_in k j)) (rw (← counts m) (sym (before_next k parts p m at_p)))
+
+        many : length (numbers (defined_before k parts p) (length (segs m))) ≡ length (segs m)
+        many = length-numbers (defined_before k parts p) (length (segs m))
+
+        -- its addresses stand behind those of the parts before it
+        same : (x : ℕ) → x < length (segs m) → OneAddress (addresses_in k d.inst) (drop (defined_before k parts p) (addresses_in k j)) x
+        same x l =
+            let o = d.agrees.each x (omega (arith, l, many)) in
+            let index = slice_index_is (numbers (defined_before k parts p) (length (segs m))) x _ (numbers_at (defined_before k parts p) (length (segs m)) x l) in
+            record { address = o.address; first = o.first; second = drop_at (addresses_in k j) (defined_before k parts p) x ∙ ap (slice_get (addresses_in k j)) (sym index) ∙ o.second }
+
+        each : (x a : ℕ) (e : A) → slice_get (segs m) x ≡ Some e → slice_get (addresses_in k d.inst) x ≡ Some a → partners (task p d.inst a e) (task 0 j a (new p m e))
+        each x a e h at =
+            let l = slice_get_within (segs m) x e h in
+            let o = d.agrees.each x (omega (arith, l, many)) in
+            d.each x a e h (rw (← same_Some _ _ (sym o.first ∙ at)) o.shared)
+
+    by_parts : (p : ℕ) (rest : List Part) (is : List Inst) → ((q : ℕ) → module_at rest q ≡ module_at parts (p + q)) → ((q : ℕ) → slice_get is q ≡ slice_get insts (p + q)) →
+        Ordered (tasks_by segs (addresses_in k) p rest is) (tasks_in 0 j (drop (defined_before k parts p) (addresses_in k j)) (by_part_from (λ p m. map (new p m) (segs m)) p rest ++ more))
+    by_parts p [] is modules places = nothing _
+    by_parts p (part ∷ rest) [] modules places =
+        let here : p + 0 ≡ p = omega arith in
+        let d = stands p part.«module» (ap (module_at parts) (sym here) ∙ sym (modules 0)) in
+        let h = places 0 ∙ ap (slice_get insts) here ∙ d.is in
+        cc
+    by_parts p (part ∷ rest) (i ∷ is) modules places =
+        let m = part.«module» in
+        let here : p + 0 ≡ p = omega arith in
+        let step : (q : ℕ) → p + suc q ≡ suc p + q = λ q. omega arith in
+        subst (λ xs. Ordered (tasks_in p i (addresses_in k i) (segs m) ++ tasks_by segs (addresses_in k) (suc p) rest is) (tasks_in 0 j (drop (defined_before k parts p) (addresses_in k j)) xs))
+        (sym (append_assoc (map (new p m) (segs m)) (by_part_from (λ p m. map (new p m) (segs m)) (suc p) rest) more))
+        (one_part p m _ _ (ap (module_at parts) (sym here) ∙ sym (modules 0)) i (ap (slice_get insts) (sym here) ∙ sym (places 0))
+        (by_parts (suc p) rest is (λ q. modules (suc q) ∙ ap (module_at parts) (step q)) (λ q. places (suc q) ∙ ap (slice_get insts) (step q))))
+
+    -- all of them, and those of the merged module
+    pub all_in_order : (J : Module) → segs J ≡ by_part_from (λ p m. map (new p m) (segs m)) 0 parts ++ more → (xs ys : List (Task A)) → xs ≡ tasks_by segs (addresses_in k) 0 parts insts → ys ≡ tasks_in 0 j (addresses_in k j) (segs J) ++ [] → Ordered xs ys
+    all_in_order J e xs ys first_is second_is =
+        let at_0 : (q : ℕ) → q ≡ 0 + q = λ q. omega arith in
+        rw first_is
+        (rw (← ap (λ n. tasks_in 0 j (drop n (addresses_in k j)) (by_part_from (λ p m. map (new p m) (segs m)) 0 parts ++ more)) (before_start k parts) ∙ ap (tasks_in 0 j (addresses_in k j)) (sym e) ∙ sym (append-nil _) ∙ sym second_is)
+        (by_parts 0 parts insts (λ q. ap (module_at parts) (at_0 q)) (λ q. ap (slice_get insts) (at_0 q))))
 
 -- ---- what the map of a part says of segments ----
 
@@ -63,24 +159,14 @@ mems_many : (parts : List Part) (p : ℕ) (m : Module) → length (map_of parts 
 unfolding map_of
 mems_many parts p m = map_length _ (numbers 0 (length (memories_of m))) ∙ length-numbers 0 (length (memories_of m))
 
--- the entry of a segment is its place among all
-entry_is : (entries : List ℕ) (n count x : ℕ) → entries ≡ numbers n count → x < count → slice_index entries x ≡ n + x
-entry_is entries n count x e lt = ap (λ l. slice_index l x) e ∙ slice_index_is (numbers n count) x (n + x) (numbers_at n count x lt)
-
-entries_many : (entries : List ℕ) (n count : ℕ) → entries ≡ numbers n count → length entries ≡ count
-entries_many entries n count e = ap length e ∙ length-numbers n count
-
 -- ---- a segment of a part ----
 
-module _ (laws : Laws) (env : Environment) (parts : List Part) (mode : Mode) (can : CanBeJoined parts mode) (items : ValidItemsHold) (insts js : List Inst) (agree : InstancesAgree env parts insts js) (are : insts_from env (one (joined_module parts mode)) 0 (one (joined_module parts mode)) ≡ Some js) where
+module _ (laws : Laws) (env : Environment) (parts : List Part) (mode : Mode) (can : CanBeJoined parts mode) (insts js : List Inst) (agree : InstancesAgree env parts insts js) (are : insts_from env (one (joined_module parts mode)) 0 (one (joined_module parts mode)) ≡ Some js) where
   abbrev R : Pairing
   R = sharing env parts
 
-  abbrev whole : Module
-  whole = joined_module parts mode
-
-  abbrev M : List Part
-  M = one whole
+  abbrev J : Module
+  J = joined_module parts mode
 
   abbrev j : Inst
   j = agree.merged
@@ -91,50 +177,13 @@ module _ (laws : Laws) (env : Environment) (parts : List Part) (mode : Mode) (ca
   abbrev w : Instantiated
   w = record { parts = one (joined_module parts mode); insts = js }
 
-  abbrev ElemPartners : Task ElemSeg → Task ElemSeg → Type 0
-  ElemPartners x y = ElemsPartner R (values_in env v x.part) (values_in env w y.part) x y x.segment.mode y.segment.mode
-
-  abbrev FirstElem : Task ElemSeg → Type 0
-  FirstElem x = ElemAlone (HasNoPartner (turned R)) env v x x.segment.mode
-
-  abbrev SecondElem : Task ElemSeg → Type 0
-  SecondElem y = ElemAlone (HasNoPartner R) env w y y.segment.mode
-
-  abbrev DataPartners : Task DataSeg → Task DataSeg → Type 0
-  DataPartners x y = DatasPartner R (values_in env v x.part) (values_in env w y.part) x y x.segment.mode y.segment.mode
-
-  abbrev FirstData : Task DataSeg → Type 0
-  FirstData x = DataAlone (HasNoPartner (turned R)) env v x x.segment.mode
-
-  abbrev SecondData : Task DataSeg → Type 0
-  SecondData y = DataAlone (HasNoPartner R) env w y y.segment.mode
-
-  number_same : {x y : Val} → ValRel R x y → num_of W32 x ≡ num_of W32 y
-  number_same number = refl
-  number_same (reference r) = refl
-
-  offset_same : (p : ℕ) (m : Module) (e : ConstExpr) (ty : ValType) → module_at parts p ≡ Some m → const_type m e ≡ Some ty → offset_in (values_in env v p) e ≡ offset_in (values_in env w 0) (merged_const parts p e)
-  offset_same p m e ty is t = go (value_rel laws env parts mode can insts js agree are p m e ty is t)
-    where
-      go : {o q : Option Val} → OptRel (ValRel R) o q → option_and_then (num_of W32) o ≡ option_and_then (num_of W32) q
-      go none = refl
-      go (some v) = number_same v
-
-  -- an index and its entry name one address
-  names_one : (k : Space) (xs ys entries : List ℕ) (x : ℕ) → SameAddress env parts k xs ys entries x → OptRel (R.of k) (slice_get xs x) (slice_get ys (slice_index entries x))
-  names_one k xs ys entries x o = opt_at o.first o.second (some (shares env parts k o.address o.shared))
+  offset_is : (p : ℕ) (m : Module) (e : ConstExpr) (ty : ValType) → module_at parts p ≡ Some m → const_type m e ≡ Some ty → offset_in (values_in env v p) e ≡ offset_in (values_in env w 0) (merged_const parts p e)
+  offset_is p m e ty is t = offset_same R (value_rel laws env parts mode can insts js agree are p m e ty is t)
 
   -- ---- element segments ----
 
-  elem_holds : (p : ℕ) (m : Module) (x : ℕ) (e : ElemSeg) → module_at parts p ≡ Some m → slice_get m.elems x ≡ Some e → ElemModeHolds m e.ty e.mode
-  elem_holds p m x e is h =
-      let z = items m (can.valid p m is) kind.Elem x (slice_get_within m.elems x e h) in
-      let both : Some z.0 ≡ Some e = sym z.1 ∙ h in
-      let same : z.0 ≡ e = cc in
-      subst (λ (e : ElemSeg). ElemModeHolds m e.ty e.mode) same z.3
-
   elem_partners : (p : ℕ) (m : Module) (i : Inst) (a : ℕ) (e : ElemSeg) → module_at parts p ≡ Some m → PartAgrees env parts p m i j → ElemModeHolds m e.ty e.mode → a < shared_count env parts ElementSegments →
-      ElemPartners (task p i a e) (task 0 j a (merged_elem parts p (map_of parts p m) e))
+      ElemsPartner R (values_in env v p) (values_in env w 0) (task p i a e) (task 0 j a (merged_elem parts p (map_of parts p m) e)) e.mode (merged_elem_mode parts p (map_of parts p m) e.mode)
   elem_partners p m i a e is k holds lt = go e.mode holds
     where
       go : (mode : ElemMode) → ElemModeHolds m e.ty mode → ElemsPartner R (values_in env v p) (values_in env w 0) (task p i a e) (task 0 j a (merged_elem parts p (map_of parts p m) e)) mode (merged_elem_mode parts p (map_of parts p m) mode)
@@ -142,31 +191,12 @@ module _ (laws : Laws) (env : Environment) (parts : List Part) (mode : Mode) (ca
           let t = map_from (λ t. t.ty) (tables_of m) x e.ty h.0 in
           let there = slice_get_within (tables_of m) x t.0 t.1 in
           let many = tables_many parts p m in
-          segments.ElemsPartner.active (shares env parts ElementSegments a lt) (names_one Tables i.tables j.tables (map_of parts p m).tables x (k.tables.each x (omega (arith, there, many)))) (offset_same p m offset I32 is h.1)
+          segments.ElemsPartner.active (shares env parts ElementSegments a lt) (names_one env parts Tables k.tables x (lt-ltb x _ (omega arith))) (offset_is p m offset I32 is h.1)
       go elem.Passive h = segments.ElemsPartner.passive
       go elem.Declarative h = segments.ElemsPartner.declarative
 
-  elems_stand : (p : ℕ) (m : Module) → module_at parts p ≡ Some m → PartStands ElemPartners insts j (λ m. m.elems) (λ i. i.elems) (λ p m. merged_elem parts p (map_of parts p m)) (defined_before ElementSegments parts) p m
-  elems_stand p m is =
-      let i = agree.each p m is in
-      let size : length (map_of parts p m).elems ≡ length m.elems = entries_many (map_of parts p m).elems (defined_before ElementSegments parts p) (length m.elems) (map_elems parts p m) in
-      record {
-        inst = i.0;
-        is = i.1;
-        same = λ x l.
-            let o = i.2.elems.each x (omega (arith, l, size)) in
-            record { address = o.address; first = o.first; second = ap (slice_get j.elems) (sym (entry_is (map_of parts p m).elems (defined_before ElementSegments parts p) (length m.elems) x (map_elems parts p m) l)) ∙ o.second };
-        each = λ x a e h at.
-            let l = slice_get_within m.elems x e (h) in
-            let o = i.2.elems.each x (omega (arith, l, size)) in
-            let both : Some o.address ≡ Some a = sym o.first ∙ at in
-            let same : o.address ≡ a = cc in
-            let lt = o.shared in
-            elem_partners p m i.0 a e is i.2 (elem_holds p m x e is h) (omega (arith, lt, same));
-      }
-
-  -- a declarative segment has no partner
-  declared_alone : (fs ns : List ℕ) → InOrder ElemPartners FirstElem SecondElem [] (tasks_in 0 j ns (last_segments fs))
+  -- a segment that declares references has no partner
+  declared_alone : (fs ns : List ℕ) → InOrder (λ x y. ElemsPartner R (values_in env v x.part) (values_in env w y.part) x y x.segment.mode y.segment.mode) (λ x. ElemAlone (HasNoPartner (turned R)) env v x x.segment.mode) (λ y. ElemAlone (HasNoPartner R) env w y y.segment.mode) [] (tasks_in 0 j ns (last_segments fs))
   declared_alone [] [] = ends
   declared_alone [] (n ∷ ns) = ends
   declared_alone (f ∷ fs) [] = ends
@@ -175,66 +205,39 @@ module _ (laws : Laws) (env : Environment) (parts : List Part) (mode : Mode) (ca
 
   pub elems_in_order : ElemsInOrder R env v w
   elems_in_order =
-      let more = last_segments (declared_in parts mode) in
-      let zero_more : (q : ℕ) → q ≡ 0 + q = λ q. omega arith in
-      let all = by_parts ElemPartners FirstElem SecondElem j parts insts (λ m. m.elems) (λ i. i.elems) (λ p m. merged_elem parts p (map_of parts p m)) (defined_before ElementSegments parts) (elems_next parts) more (declared_alone (declared_in parts mode))
-      elems_stand 0 parts insts (λ q. ap (module_at parts) (zero_more q)) (λ q. ap (slice_get insts) (zero_more q)) in
-      let first : tasks_in 0 j (drop (defined_before ElementSegments parts 0) j.elems) (by_part (λ p m. map (merged_elem parts p (map_of parts p m)) m.elems) parts ++ more) ≡ elem_tasks 0 M js =
-      ap (λ n. tasks_in 0 j (drop n j.elems) (by_part (λ p m. map (merged_elem parts p (map_of parts p m)) m.elems) parts ++ more)) (elems_start parts)
-      ∙ ap (tasks_in 0 j j.elems) (sym (by_part_is parts mode).elems) ∙ sym (append-nil (tasks_in 0 j j.elems whole.elems)) ∙ ap (elem_tasks 0 M) (sym agree.alone) in
-      subst (λ ts. InOrder ElemPartners FirstElem SecondElem ts (elem_tasks 0 M js)) (sym (elems_by 0 parts insts))
-      (subst (λ ts. InOrder ElemPartners FirstElem SecondElem (tasks_by (λ m. m.elems) (λ i. i.elems) 0 parts insts) ts) first all)
+      all_in_order ElementSegments (λ m. m.elems) (λ m. refl) _ _ _ env parts insts j (λ p m. merged_elem parts p (map_of parts p m)) (last_segments (declared_in parts mode)) (declared_alone (declared_in parts mode))
+      (λ p m is. let i = agree.each p m is in record {
+        inst = i.0;
+        is = i.1;
+        agrees = rw (← map_elems parts p m) i.2.elems;
+        each = λ x a e h lt. elem_partners p m i.0 a e is i.2 (elem_holds laws m (can.valid p m is) x e h) lt;
+      })
+      J (elems_join parts mode).is _ _ (elems_by 0 parts insts) (ap (elem_tasks 0 (one J)) agree.alone)
 
   -- ---- data segments ----
 
-  data_holds : (p : ℕ) (m : Module) (x : ℕ) (d : DataSeg) → module_at parts p ≡ Some m → slice_get m.datas x ≡ Some d → DataModeHolds m d.mode
-  data_holds p m x d is h =
-      let z = items m (can.valid p m is) kind.Segment x (slice_get_within m.datas x d h) in
-      let both : Some z.0 ≡ Some d = sym z.1 ∙ h in
-      let same : z.0 ≡ d = cc in
-      subst (λ (d : DataSeg). DataModeHolds m d.mode) same z.2
-
   data_partners : (p : ℕ) (m : Module) (i : Inst) (a : ℕ) (d : DataSeg) → module_at parts p ≡ Some m → PartAgrees env parts p m i j → DataModeHolds m d.mode → a < shared_count env parts DataSegments →
-      DataPartners (task p i a d) (task 0 j a (merged_data parts p (map_of parts p m) d))
+      DatasPartner R (values_in env v p) (values_in env w 0) (task p i a d) (task 0 j a (merged_data parts p (map_of parts p m) d)) d.mode (merged_data_mode parts p (map_of parts p m) d.mode)
   data_partners p m i a d is k holds lt = go d.mode holds
     where
       go : (mode : DataMode) → DataModeHolds m mode → DatasPartner R (values_in env v p) (values_in env w 0) (task p i a d) (task 0 j a (merged_data parts p (map_of parts p m) d)) mode (merged_data_mode parts p (map_of parts p m) mode)
       go (data'.Active x offset) h =
           let there = h.0 in
           let many = mems_many parts p m in
-          segments.DatasPartner.active (shares env parts DataSegments a lt) (names_one Memories i.mems j.mems (map_of parts p m).mems x (k.mems.each x (omega (arith, there, many)))) (offset_same p m offset I32 is h.1)
+          segments.DatasPartner.active (shares env parts DataSegments a lt) (names_one env parts Memories k.mems x (lt-ltb x _ (omega arith))) (offset_is p m offset I32 is h.1)
       go data'.Passive h = segments.DatasPartner.passive
-
-  datas_stand : (p : ℕ) (m : Module) → module_at parts p ≡ Some m → PartStands DataPartners insts j (λ m. m.datas) (λ i. i.datas) (λ p m. merged_data parts p (map_of parts p m)) (defined_before DataSegments parts) p m
-  datas_stand p m is =
-      let i = agree.each p m is in
-      let size : length (map_of parts p m).datas ≡ length m.datas = entries_many (map_of parts p m).datas (defined_before DataSegments parts p) (length m.datas) (map_datas parts p m) in
-      record {
-        inst = i.0;
-        is = i.1;
-        same = λ x l.
-            let o = i.2.datas.each x (omega (arith, l, size)) in
-            record { address = o.address; first = o.first; second = ap (slice_get j.datas) (sym (entry_is (map_of parts p m).datas (defined_before DataSegments parts p) (length m.datas) x (map_datas parts p m) l)) ∙ o.second };
-        each = λ x a d h at.
-            let l = slice_get_within m.datas x d (h) in
-            let o = i.2.datas.each x (omega (arith, l, size)) in
-            let both : Some o.address ≡ Some a = sym o.first ∙ at in
-            let same : o.address ≡ a = cc in
-            let lt = o.shared in
-            data_partners p m i.0 a d is i.2 (data_holds p m x d is h) (omega (arith, lt, same));
-      }
-
-  no_data : (ns : List ℕ) → InOrder DataPartners FirstData SecondData [] (tasks_in 0 j ns [])
-  no_data [] = ends
-  no_data (n ∷ ns) = ends
 
   pub datas_in_order : DatasInOrder R env v w
   datas_in_order =
-      let zero_more : (q : ℕ) → q ≡ 0 + q = λ q. omega arith in
-      let all = by_parts DataPartners FirstData SecondData j parts insts (λ m. m.datas) (λ i. i.datas) (λ p m. merged_data parts p (map_of parts p m)) (defined_before DataSegments parts) (datas_next parts) [] no_data
-      datas_stand 0 parts insts (λ q. ap (module_at parts) (zero_more q)) (λ q. ap (slice_get insts) (zero_more q)) in
-      let first : tasks_in 0 j (drop (defined_before DataSegments parts 0) j.datas) (by_part (λ p m. map (merged_data parts p (map_of parts p m)) m.datas) parts ++ []) ≡ data_tasks 0 M js =
-      ap (λ n. tasks_in 0 j (drop n j.datas) (by_part (λ p m. map (merged_data parts p (map_of parts p m)) m.datas) parts ++ [])) (datas_start parts)
-      ∙ ap (tasks_in 0 j j.datas) (append-nil _ ∙ sym (by_part_is parts mode).datas) ∙ sym (append-nil (tasks_in 0 j j.datas whole.datas)) ∙ ap (data_tasks 0 M) (sym agree.alone) in
-      subst (λ ts. InOrder DataPartners FirstData SecondData ts (data_tasks 0 M js)) (sym (datas_by 0 parts insts))
-      (subst (λ ts. InOrder DataPartners FirstData SecondData (tasks_by (λ m. m.datas) (λ i. i.datas) 0 parts insts) ts) first all)
+      all_in_order DataSegments (λ m. m.datas) (λ m. refl) _ _ _ env parts insts j (λ p m. merged_data parts p (map_of parts p m)) [] (λ ns. no_tasks ns)
+      (λ p m is. let i = agree.each p m is in record {
+        inst = i.0;
+        is = i.1;
+        agrees = rw (← map_datas parts p m) i.2.datas;
+        each = λ x a d h lt. data_partners p m i.0 a d is i.2 (data_holds laws m (can.valid p m is) x d h) lt;
+      })
+      J (datas_join parts mode).is _ _ (datas_by 0 parts insts) (ap (data_tasks 0 (one J)) agree.alone)
+    where
+      no_tasks : {P : Task DataSeg → Task DataSeg → Type 0} {F S : Task DataSeg → Type 0} (ns : List ℕ) → InOrder P F S [] (tasks_in 0 j ns [])
+      no_tasks [] = ends
+      no_tasks (n ∷ ns) = ends

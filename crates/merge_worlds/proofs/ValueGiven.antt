@@ -1,11 +1,19 @@
 -- What the laws of lower crates say that the values and stores of parts and of their merged module rest on.
-use Rattle.std.specs.Prelude.{◌≡◌, ◌↔◌, ℕ, ◌<◌, List, Some, None, true, IsTrue, slice_get}
+use Rattle.std.specs.Prelude.{◌≡◌, ◌↔◌, ℕ, ◌<◌, List, length, Some, None, true, IsTrue, slice_get}
+use Rattle.std.proofs.Common.{sym, ◌∙◌}
+use Rattle.std.proofs.lemmas.Option.{same_Some, slice_get_within}
+use Rattle.wasm_tree.specs.declared.types.ValType.TheVariants.{Ref}
+use Rattle.wasm_tree.specs.declared.module.Func as tree
+use Rattle.wasm_tree.specs.declared.module.GlobalDef.{GlobalDef}
+use Rattle.wasm_tree.specs.declared.module.ElemSeg.{ElemSeg}
+use Rattle.wasm_tree.specs.declared.module.DataSeg.{DataSeg}
+use Rattle.wasm_valid.specs.declared.kinds.ItemKind.TheVariants as kind
 use Rattle.wasm_tree.specs.declared.types.ValType.{ValType}
 use Rattle.wasm_tree.specs.declared.module.ConstExpr.{ConstExpr}
 use Rattle.wasm_tree.specs.declared.module.Module.{Module}
 use Rattle.wasm_valid.specs.declared.kinds.ItemKind.{ItemKind}
 use Rattle.wasm_valid.specs.Constants.{const_type}
-use Rattle.wasm_valid.specs.Validity.{IsValid, HoldsAt, count_of}
+use Rattle.wasm_valid.specs.Validity.{IsValid, HoldsAt, ElemModeHolds, DataModeHolds, count_of}
 use Rattle.wasm_meaning.specs.State.{Inst}
 use Rattle.wasm_meaning.specs.Linking.{Part, Read, module_at, read_of}
 use Rattle.wasm_meaning.specs.Environment.{Environment}
@@ -41,3 +49,21 @@ pub record Laws : Type 0 where
 -- the instance of each part agrees with that of the merged module
 abbrev pub EachAgrees : Environment → List Part → List Inst → Inst → Type 0
 EachAgrees env parts insts j = (p : ℕ) (m : Module) → module_at parts p ≡ Some m → (i : Inst) × (slice_get insts p ≡ Some i) × PartAgrees env parts p m i j
+
+-- ---- the items of a valid module ----
+
+module _ (laws : Laws) (m : Module) (valid : IsValid m) where
+  pub global_typed : (n : ℕ) (g : GlobalDef) → slice_get m.globals n ≡ Some g → const_type m g.init ≡ Some g.ty.ty
+  global_typed n g h = let z = (laws.items m).0 valid kind.Global n (slice_get_within m.globals n g h) in rw (← same_Some _ _ (sym z.1 ∙ h)) z.2
+
+  pub item_typed : (n : ℕ) (s : ElemSeg) → slice_get m.elems n ≡ Some s → (l : ℕ) (e : ConstExpr) → slice_get s.items l ≡ Some e → const_type m e ≡ Some (Ref s.ty)
+  item_typed n s h = let z = (laws.items m).0 valid kind.Elem n (slice_get_within m.elems n s h) in rw (← same_Some _ _ (sym z.1 ∙ h)) z.2
+
+  pub elem_holds : (n : ℕ) (s : ElemSeg) → slice_get m.elems n ≡ Some s → ElemModeHolds m s.ty s.mode
+  elem_holds n s h = let z = (laws.items m).0 valid kind.Elem n (slice_get_within m.elems n s h) in rw (← same_Some _ _ (sym z.1 ∙ h)) z.3
+
+  pub data_holds : (n : ℕ) (d : DataSeg) → slice_get m.datas n ≡ Some d → DataModeHolds m d.mode
+  data_holds n d h = let z = (laws.items m).0 valid kind.Segment n (slice_get_within m.datas n d h) in rw (← same_Some _ _ (sym z.1 ∙ h)) z.2
+
+  pub func_typed : (n : ℕ) (f : tree.Func) → slice_get m.funcs n ≡ Some f → f.ty < length m.types
+  func_typed n f h = let z = (laws.items m).0 valid kind.Func n (slice_get_within m.funcs n f h) in rw (← same_Some _ _ (sym z.1 ∙ h)) z.2

@@ -1,12 +1,12 @@
 -- The world of linked parts and that of their merged module: both are instantiated or neither, and then they show the same.
-use Rattle.std.proofs.Common.{◌≡◌, ◌∙◌, ap, sym, subst, refl, ℕ, ◌+◌, ◌≤◌, List, [], ◌∷◌, length, Option, Some, None, Bool, true, false, cond, arith, append-nil, slice_get, option_and_then}
+use Rattle.std.proofs.Common.{option_and_then, ◌≡◌, ◌∙◌, ap, sym, subst, refl, ℕ, ◌+◌, ◌≤◌, List, [], ◌∷◌, length, Option, Some, None, Bool, true, false, cond, arith, append-nil, slice_get}
 use Rattle.wasm_tree.specs.declared.space.Space.TheVariants.{Functions}
 use Rattle.wasm_tree.specs.declared.module.Module.{Module}
 use Rattle.wasm_meaning.specs.State.{Inst, Store}
 use Rattle.wasm_meaning.specs.Control.{type_of_func}
 use Rattle.wasm_meaning.specs.Linking.{Part, sites}
 use Rattle.wasm_meaning.specs.Environment.{Environment, all_of}
-use Rattle.wasm_meaning.specs.World.{Begun, alone, inst_of, insts_from, own_store, stores_from, is_matched, segments, starts_of, begun, instantiate, is_there, links}
+use Rattle.wasm_meaning.specs.World.{Begun, alone, insts_from, own_store, stores_from, is_matched, segments, starts_of, begun, instantiate, is_there, links}
 use Rattle.wasm_meaning.specs.Run.{Event, Move, tick, events_of, IsPrefix, fresh_run}
 use Rattle.base_simulation.proofs.Prefixes.{prefix_trans, later}
 use Rattle.index_remap.specs.Related.{Pairing, OptRel, none, some, ListRel, nil, cons, opening}
@@ -15,7 +15,7 @@ use Rattle.index_remap.specs.Laws.{EntryByEntry}
 use Rattle.world_simulation.specs.Alone.{one}
 use Rattle.world_simulation.specs.Instances.{RelatedBegunShowTheSame}
 use Rattle.world_simulation.specs.Starts.{NamesStart, CallsEach, OneStartMayCallSeveral}
-use Rattle.world_simulation.proofs.Places.{then_rel, opt_both, all_rel}
+use Rattle.world_simulation.proofs.Places.{then_rel, opt_both, all_rel, alike_there}
 use Rattle.export_names.specs.declared.mode.Mode.{Mode}
 use Rattle.merge_terms.specs.Merged.{starts}
 use Rattle.merge_terms.specs.Joined.{joined_module}
@@ -25,22 +25,18 @@ use Rattle.merge_validity.specs.Started.{StartsTakeNothing}
 use Rattle.merge_worlds.specs.Shared.{shared_count, is_shared, sharing}
 use Rattle.merge_worlds.specs.Instances.{InstancesAgree}
 use Rattle.merge_worlds.proofs.SpaceLaws.{SpaceLaws}
-use Rattle.merge_worlds.proofs.ValueShared.{one_to_one}
+use Rattle.merge_worlds.proofs.ValueShared.{one_to_one, shares_own}
 use Rattle.merge_worlds.proofs.ValueGiven.{Laws}
 use Rattle.merge_worlds.proofs.Values.{are_one}
-use Rattle.world_simulation.proofs.Instancing.{IsInst, inst_is}
-use Rattle.merge_worlds.proofs.Instances.{both_are, instances_agree}
-use Rattle.merge_worlds.proofs.Named.{AllFit}
-use Rattle.merge_worlds.proofs.View.{view_agrees}
+use Rattle.merge_worlds.proofs.Instances.{instances_agree}
+use Rattle.world_simulation.proofs.Ordered.{inst_at}
+use Rattle.merge_worlds.proofs.Named.{AllFit, view_agrees}
 use Rattle.merge_worlds.proofs.Segments.{elems_in_order, datas_in_order}
 use Rattle.merge_worlds.proofs.Definitions.{definitions_correspond, stores_both}
-use Rattle.merge_worlds.proofs.Standing.{shares_own}
 use Rattle.world_simulation.specs.Definitions.{DefinitionsCorrespond}
 use Rattle.world_simulation.specs.Simulation.{IsInstantiated, WhatIsInstantiated, AreSimilar, AllocatedStoresCorrespond, SimilarWorldsBeginAlike}
-use Rattle.merge_worlds.proofs.MatchAll.{all_matched}
-use Rattle.merge_worlds.proofs.Starts.{StartsAgree, starts_agree}
-use Rattle.merge_worlds.proofs.Called.{segments_keep_funcs, caller_code, starts_typed}
-use Rattle.base_lists.proofs.Options.{and_then_is}
+use Rattle.merge_worlds.proofs.Matching.{all_matched}
+use Rattle.merge_worlds.proofs.Starts.{StartsAgree, starts_agree, segments_keep_funcs, caller_code, starts_typed}
 
 -- the second starts what the first does, or one function that calls these
 data StartsAlike (c : Begun) (several : List ℕ) : Type 0 where
@@ -52,13 +48,18 @@ record BegunAgree (R : Pairing) (b c : Begun) : Type 0 where
   related : BegunRel R (EntryByEntry R) b (record c { starts = b.starts })
   starts : StartsAlike c b.starts
 
+-- what follows from what is related, where it is known that both are there
+then_both : {A B C D : Type 0} {P : A → B → Type 0} {Q : C → D → Type 0} {o : Option A} {p : Option B} {f : A → Option C} {g : B → Option D} → OptRel P o p → ((a : A) (b : B) → o ≡ Some a → p ≡ Some b → P a b → OptRel Q (f a) (g b)) → OptRel Q (option_and_then f o) (option_and_then g p)
+then_both none h = none
+then_both (some q) h = h _ _ refl refl q
+
 -- both are there or neither
 there_same : {A B : Type 0} {P : A → B → Type 0} {o : Option A} {p : Option B} → OptRel P o p → is_there o ≡ is_there p
 there_same none = refl
 there_same (some r) = refl
 
 both_linked : {A B : Type 0} (b c : Bool) (x : A) (y : B) → b ≡ c → OptRel (λ x y. Unit {0}) (cond b (Some x) None) (cond c (Some y) None)
-both_linked b c x y e = subst (λ b. OptRel (λ x y. Unit {0}) (cond b (Some x) None) (cond c (Some y) None)) (sym e) (go c)
+both_linked b c x y e = rw e (go c)
   where
     go : (c : Bool) → OptRel (λ x y. Unit {0}) (cond c (Some x) None) (cond c (Some y) None)
     go true = some tt
@@ -78,13 +79,6 @@ module _ (spaces : SpaceLaws) (laws : Laws) (nothing : StartsTakeNothing) (simil
 
   fit : AllFit parts
   fit p m is = laws.entries parts p m (can.valid p m is)
-
-  is_inst : (j : Inst) → insts_from env (one J) 0 (one J) ≡ Some (j ∷ []) → IsInst env (one J) 0 J j
-  is_inst j h =
-      let k = and_then_is (inst_of env (one J) 0 J) _ (j ∷ []) h in
-      let q = k.2 in
-      let same : k.0 ≡ j = cc in
-      inst_is env (one J) 0 J j (k.1 ∙ ap Some same)
 
   agree : (insts js : List Inst) → insts_from env parts 0 parts ≡ Some insts → insts_from env M 0 M ≡ Some js → InstancesAgree env parts insts js
   agree insts js f g = opt_both (instances_agree spaces env parts mode can) f g
@@ -107,8 +101,8 @@ module _ (spaces : SpaceLaws) (laws : Laws) (nothing : StartsTakeNothing) (simil
       record {
         own = shares_own env parts;
         definitions = definitions insts js k g;
-        elems = elems_in_order laws env parts mode can (λ m valid. (laws.items m).0 valid) insts js k g;
-        datas = datas_in_order laws env parts mode can (λ m valid. (laws.items m).0 valid) insts js k g;
+        elems = elems_in_order laws env parts mode can insts js k g;
+        datas = datas_in_order laws env parts mode can insts js k g;
         view = view_agrees env parts fit insts js k mode;
       }
 
@@ -118,12 +112,12 @@ module _ (spaces : SpaceLaws) (laws : Laws) (nothing : StartsTakeNothing) (simil
       all_of (is_matched env parts s) (sites parts) ≡ all_of (is_matched env M z) (sites M)
   matched insts js s z f g h i =
       let k = agree insts js f g in
-      all_matched spaces.ends spaces.stays spaces.sites spaces.types spaces.things spaces.own env parts mode can
+      all_matched spaces env parts can.linked mode
       (allocated_law (is_shared env parts) (is_shared env parts) [] env (linked_world parts mode) (alone J) insts js s z (shares_own env parts) (definitions insts js k g) h i) insts js k h
 
   linked : links env (linked_world parts mode) ≡ links env (alone J)
-  linked = there_same {P = λ x y. Unit {0}} (then_rel (both_are (instances_agree spaces env parts mode can)) (λ insts js i. then_rel (both_are (stores insts js i.related i.second)) (λ s z k. then_rel (all_rel (view_agrees env parts fit insts js i.related mode)) (λ xs ys view.
-      both_linked _ _ _ _ (matched insts js s z i.first i.second k.first k.second)))))
+  linked = there_same {P = λ x y. Unit {0}} (then_both (instances_agree spaces env parts mode can) (λ insts js e f k. then_both (stores insts js k f) (λ s z g h x. then_rel (all_rel (view_agrees env parts fit insts js k mode)) (λ xs ys view.
+      both_linked _ _ _ _ (matched insts js s z e f g h)))))
 
   -- ---- the starts ----
 
@@ -149,12 +143,12 @@ module _ (spaces : SpaceLaws) (laws : Laws) (nothing : StartsTakeNothing) (simil
 
     calls_each : (f g : ℕ) (fs : List ℕ) → starts parts ≡ f ∷ g ∷ fs → CallsEach after (shared_count env parts Functions) several
     calls_each f g fs e =
-        let inst = is_inst j (y.are_insts ∙ ap Some k.alone) in
+        let inst = inst_at env (record { parts = M; insts = j ∷ [] }) (y.are_insts ∙ ap Some k.alone) 0 J j refl refl in
         let there : stores_from env M (j ∷ []) (own_store env) 0 M (j ∷ []) ≡ Some y.allocated = subst (λ js. stores_from env M js (own_store env) 0 M js ≡ Some y.allocated) k.alone y.is_allocated in
         record {
           inst = j;
           calls = starts parts;
-          code = ap (λ fs. slice_get fs (shared_count env parts Functions)) same_funcs ∙ caller_code spaces nothing env parts mode can j y.allocated inst there f g fs e;
+          code = rw same_funcs (caller_code spaces nothing env parts mode can j y.allocated inst there f g fs e);
           each = starts_typed spaces nothing env parts mode can j y.allocated inst there y.matched several agreed.named (NamesStart after j)
               (λ f a named typed. record { named = named; typed = ap (λ fs. option_and_then (λ f. Some (type_of_func f)) (slice_get fs a)) same_funcs ∙ typed });
         }
@@ -163,36 +157,30 @@ module _ (spaces : SpaceLaws) (laws : Laws) (nothing : StartsTakeNothing) (simil
     starts_alike = go (starts parts) refl
       where
         go : (l : List ℕ) → starts parts ≡ l → StartsAlike (begun env (alone J) y.insts y.view (segments env M y.insts y.allocated)) several
-        go [] e = the_same (agreed.few (let m = ap length e in omega (arith, m)))
-        go (f ∷ []) e = the_same (agreed.few (let m = ap length e in omega (arith, m)))
+        go [] e = the_same (agreed.few (let m = ap length e in omega arith))
+        go (f ∷ []) e = the_same (agreed.few (let m = ap length e in omega arith))
         go (f ∷ g ∷ fs) e = through_one (shared_count env parts Functions) (agreed.calls f g fs e) (calls_each f g fs e)
 
     starts_are : several ≡ b.starts
     starts_are = ap (λ (b : Begun). b.starts) x.is
 
     begun_starts : StartsAlike c b.starts
-    begun_starts = subst (StartsAlike c) starts_are (subst (λ c. StartsAlike c several) y.is starts_alike)
+    begun_starts = rw (← starts_are) (rw (← y.is) starts_alike)
 
     shared_starts : ListRel (R.of Functions) b.starts b.starts
-    shared_starts = subst (λ l. ListRel (R.of Functions) l l) starts_are agreed.shared
+    shared_starts = rw (← starts_are) agreed.shared
 
   -- ---- both are instantiated or neither ----
 
   begun_or_none : OptRel (BegunAgree R) (instantiate env (linked_world parts mode)) (instantiate env (alone J))
-  begun_or_none = go (instantiate env (linked_world parts mode)) (instantiate env (alone J)) refl refl linked
-    where
-      go : (o p : Option Begun) → instantiate env (linked_world parts mode) ≡ o → instantiate env (alone J) ≡ p → is_there o ≡ is_there p → OptRel (BegunAgree R) o p
-      go None None f g e = none
-      go None (Some c) f g e = cc
-      go (Some b) None f g e = cc
-      go (Some b) (Some c) f g e =
-          let x = made_law env (linked_world parts mode) b f in
-          let y = made_law env (alone J) c g in
-          let q = similar_law (is_shared env parts) (is_shared env parts) [] (one_to_one env parts) env (linked_world parts mode) (alone J) similar b c f g in
-          some (record {
-            related = record { store = q.store; entries = cons (opening (shared_starts b c x y)) nil; closed = nil; trapped = q.trapped; view = q.view; owned = q.owned };
-            starts = begun_starts b c x y;
-          })
+  begun_or_none = alike_there _ _ linked (λ b c f g.
+      let x = made_law env (linked_world parts mode) b f in
+      let y = made_law env (alone J) c g in
+      let q = similar_law (is_shared env parts) (is_shared env parts) [] (one_to_one env parts) env (linked_world parts mode) (alone J) similar b c f g in
+      record {
+        related = record { store = q.store; entries = cons (opening (shared_starts b c x y)) nil; closed = nil; trapped = q.trapped; view = q.view; owned = q.owned };
+        starts = begun_starts b c x y;
+      })
 
 -- ---- what is seen ----
 
@@ -215,8 +203,8 @@ module _ (env : Environment) (moves : List Move) where
   called_show : (b x y : Option Begun) → ((n : ℕ) → events_of tick (fresh_run env b moves) n ≡ events_of tick (fresh_run env x moves) n) →
       ((n : ℕ) → IsPrefix (events_of tick (fresh_run env x moves) n) (events_of tick (fresh_run env y moves) (n + 2)) × IsPrefix (events_of tick (fresh_run env y moves) n) (events_of tick (fresh_run env x moves) n)) → (n : ℕ) → ShowInFourMore env moves b y n
   called_show b x y e h n = (
-    more_steps env y moves _ (n + 2) (n + 4) (omega arith) (subst (λ l. IsPrefix l (events_of tick (fresh_run env y moves) (n + 2))) (sym (e n)) (h n).0),
-    more_steps env b moves _ n (n + 4) (omega arith) (subst (IsPrefix (events_of tick (fresh_run env y moves) n)) (sym (e n)) (h n).1),
+    more_steps env y moves _ (n + 2) (n + 4) (omega arith) (rw (e n) (h n).0),
+    more_steps env b moves _ n (n + 4) (omega arith) (rw (e n) (h n).1),
   )
 
 module _ (alike : RelatedBegunShowTheSame) (several : OneStartMayCallSeveral) (env : Environment) (parts : List Part) (moves : List Move) where
@@ -228,11 +216,11 @@ module _ (alike : RelatedBegunShowTheSame) (several : OneStartMayCallSeveral) (e
 
       go : StartsAlike c b.starts → ShowInFourMore env moves (Some b) (Some c) n
       go (the_same e) =
-          let same : record c { starts = b.starts } ≡ c = ap (λ starts. record c { starts = starts }) (sym e) in
+          let same : record c { starts = b.starts } ≡ c = rw (← e) refl in
           equal_show env moves (Some b) (Some c) (λ n. as_first n ∙ ap (λ c. events_of tick (fresh_run env (Some c) moves) n) same) n
       go (through_one a e h) =
-          let same : record c { starts = a ∷ [] } ≡ c = ap (λ starts. record c { starts = starts }) (sym e) in
-          subst (λ c. ShowInFourMore env moves (Some b) (Some c) n) same
+          let same : record c { starts = a ∷ [] } ≡ c = rw (← e) refl in
+          rw (← same)
           (called_show env moves (Some b) (Some (record c { starts = b.starts })) (Some (record c { starts = a ∷ [] })) as_first (several env (record c { starts = b.starts }) a h moves) n)
 
   agreeing_show : {b c : Option Begun} → OptRel (BegunAgree (sharing env parts)) b c → (n : ℕ) → ShowInFourMore env moves b c n

@@ -1,12 +1,12 @@
 -- Merges that are wrong, of two small parts each, with names: what is seen of the parts is not seen of such a module, by computation.
-use Rattle.std.proofs.Common.{◌≡◌, refl, ap, ◌∙◌, subst, ℕ, zero, suc, List, [], ◌∷◌, Bool, true, false, Some, None}
-use Rattle.std.specs.Prelude.{pos, ◌+◌, slice_index, IsTrue}
+use Rattle.std.proofs.Common.{◌≡◌, refl, ap, ◌∙◌, ℕ, zero, suc, List, [], ◌∷◌, Bool, true, false, Some, None}
+use Rattle.std.specs.Prelude.{pos, ◌+◌, IsTrue}
 use Rattle.wasm_tree.specs.declared.types.RefType.TheVariants as reft
 use Rattle.wasm_tree.specs.declared.types.ValType.TheVariants as valt
 use Rattle.wasm_tree.specs.declared.types.FuncType.{FuncType}
 use Rattle.wasm_tree.specs.declared.types.BlockType.TheVariants as bt
 use Rattle.wasm_tree.specs.declared.types.Limits.{Limits}
-use Rattle.wasm_tree.specs.declared.instr.Instr.{Instr, fold-Instr, fold_out-Instr, out-Instr, the_lemmas}
+use Rattle.wasm_tree.specs.declared.instr.Instr.{Instr, fold_out-Instr, out-Instr, the_lemmas}
 use Rattle.wasm_tree.specs.declared.instr.Instr.TheVariants as i
 use Rattle.wasm_tree.specs.declared.module.Func.{Func}
 use Rattle.wasm_tree.specs.declared.module.Import.{Import}
@@ -19,12 +19,8 @@ use Rattle.wasm_meaning.specs.State.{Text, Level, Running, Opening}
 use Rattle.wasm_meaning.specs.Linking.{Part, same_text}
 use Rattle.wasm_meaning.specs.Environment.{Environment, Offer, is_environment}
 use Rattle.wasm_meaning.specs.World.{alone, instantiate}
-use Rattle.base_simulation.specs.Machines.{noted, events_of, state_after}
+use Rattle.base_simulation.specs.Machines.{events_of, state_after}
 use Rattle.wasm_meaning.specs.Run.{Event, Linked, LinkFault, InstanceTrapped, Asked, BadMove, Move, Answer, Run, IsPrefix, fresh_run, tick, events}
-use Rattle.index_remap.specs.declared.remap.Remap.{Remap}
-use Rattle.index_remap.specs.References.{refs_step}
-use Rattle.index_remap.specs.Renumbered.{entry}
-use Rattle.wasm_tree.specs.Operands.{map_operands}
 use Rattle.export_names.specs.declared.mode.Mode.TheVariants as mode
 use Rattle.merge_terms.specs.Faults.{link_fault, import_fault, stays, kept_limits, clash_fault, memory_count, memory_fault, own_globals, global_fault}
 use Rattle.merge_terms.specs.Merged.{staying, staying_of, place_of_end, new_index, merged_types, place_of_type, map_of, merged_const, merged_import, starts, defined_funcs, all_exports, merged}
@@ -86,6 +82,11 @@ asks field = Asked (own, field) nothing []
 abbrev answer : List Move
 answer = Answer [] ∷ []
 
+-- the first event asks for this function of the environment's own
+abbrev asks_first : Text → List Event → Bool
+asks_first field (Asked pair ty xs ∷ es) = same_text field pair.1
+asks_first field _ = false
+
 abbrev two_answers : List Move
 two_answers = Answer [] ∷ answer
 
@@ -93,63 +94,13 @@ two_answers = Answer [] ∷ answer
 refused : (parts : List Part) (wrong : Module) (env : Environment) (moves : List Move) (n : ℕ) (xs ys : List Event) → IsTrue (is_environment env) →
     events (linked_world parts mode.Refuse) env moves n ≡ xs → events (alone wrong) env moves (n + 4) ≡ ys → (IsPrefix xs ys → ⊥) → BehavesAs parts mode.Refuse wrong → ⊥
 refused parts wrong env moves n xs ys fit seen shown apart same =
-    apart (subst (λ es. IsPrefix es ys) seen (subst (IsPrefix (events (linked_world parts mode.Refuse) env moves n)) shown (same env fit tt moves n).0))
+    apart (rw (← seen) (rw (← shown) (same env fit tt moves n).0))
 
 -- The other way round: where what is seen of a module does not begin what is seen of the parts, in four steps more.
 refused_by_more : (parts : List Part) (wrong : Module) (env : Environment) (moves : List Move) (n : ℕ) (xs ys : List Event) → IsTrue (is_environment env) →
     events (alone wrong) env moves n ≡ xs → events (linked_world parts mode.Refuse) env moves (n + 4) ≡ ys → (IsPrefix xs ys → ⊥) → BehavesAs parts mode.Refuse wrong → ⊥
 refused_by_more parts wrong env moves n xs ys fit seen shown apart same =
-    apart (subst (λ es. IsPrefix es ys) seen (subst (IsPrefix (events (alone wrong) env moves n)) shown (same env fit tt moves n).1))
-
-abbrev asked_field : Event → Text
-asked_field (Asked pair ty xs) = pair.1
-asked_field _ = []
-
-abbrev is_fault : Event → Bool
-is_fault LinkFault = true
-is_fault _ = false
-
-abbrev first_is : (Event → Bool) → List Event → Bool
-first_is is [] = false
-first_is is (e ∷ es) = is e
-
-abbrev second_is : (Event → Bool) → List Event → Bool
-second_is is [] = false
-second_is is (e ∷ es) = first_is is es
-
--- ---- renumbered instructions ----
-
-new_call : (m : Remap) (n : ℕ) → fold-Instr Instr (map_operands (entry m)) (i.Call n) ≡ i.Call (slice_index m.funcs n)
-unfolding out-Instr denote.Hole.Carrier.out
-new_call m n = fold_out-Instr Instr (map_operands (entry m)) (i.Call n)
-
-new_indirect : (m : Remap) (n k : ℕ) → fold-Instr Instr (map_operands (entry m)) (i.CallIndirect n k) ≡ i.CallIndirect (slice_index m.types n) (slice_index m.tables k)
-unfolding out-Instr denote.Hole.Carrier.out
-new_indirect m n k = fold_out-Instr Instr (map_operands (entry m)) (i.CallIndirect n k)
-
-new_number : (m : Remap) (n : ℕ) → fold-Instr Instr (map_operands (entry m)) (i.I32Const (pos n)) ≡ i.I32Const (pos n)
-unfolding out-Instr denote.Hole.Carrier.out
-new_number m n = fold_out-Instr Instr (map_operands (entry m)) (i.I32Const (pos n))
-
-new_drop : (m : Remap) → fold-Instr Instr (map_operands (entry m)) i.Drop ≡ i.Drop
-unfolding out-Instr denote.Hole.Carrier.out
-new_drop m = fold_out-Instr Instr (map_operands (entry m)) i.Drop
-
-call_refs : (n : ℕ) → fold-Instr (List ℕ) refs_step (i.Call n) ≡ []
-unfolding out-Instr denote.Hole.Carrier.out
-call_refs n = fold_out-Instr (List ℕ) refs_step (i.Call n)
-
-indirect_refs : (n k : ℕ) → fold-Instr (List ℕ) refs_step (i.CallIndirect n k) ≡ []
-unfolding out-Instr denote.Hole.Carrier.out
-indirect_refs n k = fold_out-Instr (List ℕ) refs_step (i.CallIndirect n k)
-
-number_refs : (n : ℕ) → fold-Instr (List ℕ) refs_step (i.I32Const (pos n)) ≡ []
-unfolding out-Instr denote.Hole.Carrier.out
-number_refs n = fold_out-Instr (List ℕ) refs_step (i.I32Const (pos n))
-
-drop_refs : fold-Instr (List ℕ) refs_step i.Drop ≡ []
-unfolding out-Instr denote.Hole.Carrier.out
-drop_refs = fold_out-Instr (List ℕ) refs_step i.Drop
+    apart (rw (← seen) (rw (← shown) (same env fit tt moves n).1))
 
 -- ---- two starts ----
 
@@ -176,8 +127,8 @@ unfolding link_fault import_fault stays kept_limits clash_fault memory_count mem
 two_starts_have_no_fault = refl
 
 pub two_starts_join : joined_module two_starts mode.Refuse ≡ two_starts_merged
-unfolding joined_module merged staying staying_of place_of_end new_index merged_types place_of_type map_of merged_const merged_import starts defined_funcs all_exports stays
-two_starts_join = simp (new_call, call_refs) refl
+unfolding joined_module merged staying staying_of place_of_end new_index merged_types place_of_type map_of merged_const merged_import starts defined_funcs all_exports stays out-Instr denote.Hole.Carrier.out
+two_starts_join = simp fold_out-Instr refl
 
 the_parts_ask_in_order : events (linked_world two_starts mode.Refuse) both_offered two_answers 10 ≡ asks f ∷ (asks g ∷ (Linked ∷ []))
 unfolding out-Instr denote.Hole.Carrier.out wrapped all_entities merge_view
@@ -217,17 +168,17 @@ starts_in_reverse_ask_in_reverse = refl
 -- a merge that does not call the second start is refused
 pub dropped_starts_are_refused : BehavesAs two_starts mode.Refuse second_dropped → ⊥
 dropped_starts_are_refused =
-    refused two_starts second_dropped both_offered two_answers 10 _ _ refl the_parts_ask_in_order one_start_asks_once (λ p. let h : true ≡ false = ap (second_is (λ e. same_text g (asked_field e))) p.1 in cc)
+    refused two_starts second_dropped both_offered two_answers 10 _ _ refl the_parts_ask_in_order one_start_asks_once (λ p. let k = p.1 in cc)
 
 -- so is one that starts with the first alone
 pub first_starts_alone_are_refused : BehavesAs two_starts mode.Refuse first_alone → ⊥
 first_starts_alone_are_refused =
-    refused two_starts first_alone both_offered two_answers 10 _ _ refl the_parts_ask_in_order the_first_start_asks_once (λ p. let h : true ≡ false = ap (second_is (λ e. same_text g (asked_field e))) p.1 in cc)
+    refused two_starts first_alone both_offered two_answers 10 _ _ refl the_parts_ask_in_order the_first_start_asks_once (λ p. let k = p.1 in cc)
 
 -- and one that calls the second start first
 pub starts_in_reverse_are_refused : BehavesAs two_starts mode.Refuse second_first → ⊥
 starts_in_reverse_are_refused =
-    refused two_starts second_first both_offered two_answers 10 _ _ refl the_parts_ask_in_order starts_in_reverse_ask_in_reverse (λ p. let h : true ≡ false = ap (first_is (λ e. same_text f (asked_field e))) p.1 in cc)
+    refused two_starts second_first both_offered two_answers 10 _ _ refl the_parts_ask_in_order starts_in_reverse_ask_in_reverse (λ p. let k : true ≡ false = ap (asks_first f) p.1 in cc)
 
 -- ---- an indirect call ----
 
@@ -262,8 +213,8 @@ unfolding link_fault import_fault stays kept_limits clash_fault memory_count mem
 two_types_have_no_fault = refl
 
 pub two_types_join : joined_module two_types mode.Refuse ≡ two_types_with 1
-unfolding joined_module merged staying staying_of place_of_end new_index merged_types place_of_type map_of merged_const merged_import starts defined_funcs all_exports stays
-two_types_join = simp (new_indirect, new_number, new_drop, indirect_refs, number_refs, drop_refs) refl
+unfolding joined_module merged staying staying_of place_of_end new_index merged_types place_of_type map_of merged_const merged_import starts defined_funcs all_exports stays out-Instr denote.Hole.Carrier.out
+two_types_join = simp fold_out-Instr refl
 
 the_parts_call_through_a_table : events (linked_world two_types mode.Refuse) one_offered answer 9 ≡ asks f ∷ (Linked ∷ [])
 unfolding out-Instr denote.Hole.Carrier.out wrapped all_entities merge_view
@@ -283,7 +234,7 @@ a_call_by_the_type_of_another_traps = refl
 -- a merge that shares the types and leaves the type index of an indirect call as it was is refused
 pub kept_type_indices_are_refused : BehavesAs two_types mode.Refuse (two_types_with 0) → ⊥
 kept_type_indices_are_refused =
-    refused two_types (two_types_with 0) one_offered answer 9 _ _ refl the_parts_call_through_a_table a_call_by_the_type_of_another_traps (λ p. let h : true ≡ false = ap (first_is (λ e. same_text f (asked_field e))) p.1 in cc)
+    refused two_types (two_types_with 0) one_offered answer 9 _ _ refl the_parts_call_through_a_table a_call_by_the_type_of_another_traps (λ p. let k = p.1 in cc)
 
 -- ---- the limits of a memory ----
 
@@ -327,7 +278,7 @@ the_first_limits_ask_for_no_page = refl
 
 -- a merge that keeps the first limits of a memory that two parts import is refused
 pub first_limits_are_refused : BehavesAs one_memory mode.Refuse (one_memory_from 0) → ⊥
-first_limits_are_refused = refused one_memory (one_memory_from 0) no_page [] 2 _ _ refl the_parts_find_no_page the_first_limits_ask_for_no_page (λ p. let h : true ≡ false = ap (first_is is_fault) p.1 in cc)
+first_limits_are_refused = refused one_memory (one_memory_from 0) no_page [] 2 _ _ refl the_parts_find_no_page the_first_limits_ask_for_no_page (λ p. let k = p.1 in cc)
 
 -- ---- a start that does not end ----
 
@@ -345,21 +296,13 @@ no_end = two_parts never_ending empty
 abbrev pub without_start : Module
 without_start = record never_ending { start = None }
 
-new_branch : (m : Remap) (n : ℕ) → fold-Instr Instr (map_operands (entry m)) (i.Br n) ≡ i.Br n
-unfolding out-Instr denote.Hole.Carrier.out
-new_branch m n = fold_out-Instr Instr (map_operands (entry m)) (i.Br n)
-
-branch_refs : (n : ℕ) → fold-Instr (List ℕ) refs_step (i.Br n) ≡ []
-unfolding out-Instr denote.Hole.Carrier.out
-branch_refs n = fold_out-Instr (List ℕ) refs_step (i.Br n)
-
 pub no_end_has_no_fault : link_fault no_end true ≡ None
 unfolding link_fault import_fault stays kept_limits clash_fault memory_count memory_fault own_globals global_fault
 no_end_has_no_fault = refl
 
 pub no_end_joins : joined_module no_end mode.Refuse ≡ never_ending
-unfolding joined_module merged staying staying_of place_of_end new_index merged_types place_of_type map_of merged_const merged_import starts defined_funcs all_exports stays
-no_end_joins = simp (new_branch, branch_refs, the_lemmas) refl
+unfolding joined_module merged staying staying_of place_of_end new_index merged_types place_of_type map_of merged_const merged_import starts defined_funcs all_exports stays out-Instr denote.Hole.Carrier.out
+no_end_joins = simp (fold_out-Instr, the_lemmas) refl
 
 without_the_start_it_links : events (alone without_start) [] [] 2 ≡ Linked ∷ []
 without_the_start_it_links = refl
@@ -399,11 +342,11 @@ module _ (moves : List Move) where
   mutual
     silent_at_loop : (n : ℕ) → events_of tick at_loop n ≡ []
     silent_at_loop zero = refl
-    silent_at_loop (suc n) = ap (λ o. noted o.1 (events_of tick o.0 n)) begins ∙ silent_at_branch n
+    silent_at_loop (suc n) = rw begins (silent_at_branch n)
 
     silent_at_branch : (n : ℕ) → events_of tick at_branch n ≡ []
     silent_at_branch zero = refl
-    silent_at_branch (suc n) = ap (λ o. noted o.1 (events_of tick o.0 n)) branches ∙ silent_at_loop n
+    silent_at_branch (suc n) = rw branches (silent_at_loop n)
 
   pub the_parts_show_nothing : (n : ℕ) → events (linked_world no_end mode.Refuse) [] moves n ≡ []
   unfolding all_entities merge_view

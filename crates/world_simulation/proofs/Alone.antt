@@ -1,5 +1,5 @@
 -- A module alone: its imports all stay, so what they stand for and what is read through them is a matter of its types and imports.
-use Rattle.std.proofs.Common.{◌≡◌, ℕ, suc, ◌+◌, List, [], ◌∷◌, ◌++◌, length, Option, Some, None, cond, refl, ap, ap₂, ◌∙◌, arith, option_and_then, slice_get}
+use Rattle.std.proofs.Common.{◌≡◌, ℕ, ◌+◌, List, ◌++◌, length, Option, Some, None, is_some, refl, ap, ap₂, ◌∙◌, arith, option_and_then, slice_get}
 use Rattle.wasm_tree.specs.declared.space.Space.{Space}
 use Rattle.wasm_tree.specs.declared.space.Space.TheVariants.{Functions, Tables, Memories, Globals}
 use Rattle.wasm_tree.specs.Operands.{same_space}
@@ -9,8 +9,8 @@ use Rattle.wasm_tree.specs.declared.module.ImportDesc.TheVariants as im
 use Rattle.wasm_tree.specs.declared.module.ConstExpr.{ConstExpr}
 use Rattle.wasm_tree.specs.declared.module.ConstExpr.TheVariants as const
 use Rattle.wasm_tree.specs.declared.module.Module.{Module}
-use Rattle.std.specs.List.{cons_option}
 use Rattle.base_lists.proofs.Options.{all_there_same}
+use Rattle.base_lists.proofs.Filtered.{places_many}
 use Rattle.wasm_tree.specs.Spaces.{func_of, table_of, memory_of, global_of, imported_funcs, imported_tables, imported_memories, imported_globals, space_of_import}
 use Rattle.wasm_meaning.specs.State.{Pair}
 use Rattle.wasm_meaning.specs.Paths.{walk, walk_on}
@@ -64,45 +64,33 @@ space_is env t k =
 
 -- ---- how many are imported ----
 
+pub func_kind : (d : ImportDesc) → is_some (func_of d) ≡ same_space Functions (space_of_import d)
+func_kind (im.Func x) = refl
+func_kind _ = refl
+
 pub funcs_counted : (is : List Import) (n : ℕ) → length (places (has_kind Functions) is n) ≡ length (imported_funcs is)
-funcs_counted [] n = refl
-funcs_counted (i ∷ is) n = go i.desc (funcs_counted is (suc n))
-  where
-    go : (d : ImportDesc) → length (places (has_kind Functions) is (suc n)) ≡ length (imported_funcs is) → length (cond (same_space Functions (space_of_import d)) (n ∷ places (has_kind Functions) is (suc n)) (places (has_kind Functions) is (suc n))) ≡ length (cons_option (func_of d) (imported_funcs is))
-    go (im.Func x) h = ap suc h
-    go (im.Table x) h = h
-    go (im.Memory x) h = h
-    go (im.Global x) h = h
+funcs_counted is = places_many (has_kind Functions) (λ i. func_of i.desc) is (λ i. func_kind i.desc)
+
+table_kind : (d : ImportDesc) → is_some (table_of d) ≡ same_space Tables (space_of_import d)
+table_kind (im.Table x) = refl
+table_kind _ = refl
 
 pub tables_counted : (is : List Import) (n : ℕ) → length (places (has_kind Tables) is n) ≡ length (imported_tables is)
-tables_counted [] n = refl
-tables_counted (i ∷ is) n = go i.desc (tables_counted is (suc n))
-  where
-    go : (d : ImportDesc) → length (places (has_kind Tables) is (suc n)) ≡ length (imported_tables is) → length (cond (same_space Tables (space_of_import d)) (n ∷ places (has_kind Tables) is (suc n)) (places (has_kind Tables) is (suc n))) ≡ length (cons_option (table_of d) (imported_tables is))
-    go (im.Func x) h = h
-    go (im.Table x) h = ap suc h
-    go (im.Memory x) h = h
-    go (im.Global x) h = h
+tables_counted is = places_many (has_kind Tables) (λ i. table_of i.desc) is (λ i. table_kind i.desc)
+
+memory_kind : (d : ImportDesc) → is_some (memory_of d) ≡ same_space Memories (space_of_import d)
+memory_kind (im.Memory x) = refl
+memory_kind _ = refl
 
 pub memories_counted : (is : List Import) (n : ℕ) → length (places (has_kind Memories) is n) ≡ length (imported_memories is)
-memories_counted [] n = refl
-memories_counted (i ∷ is) n = go i.desc (memories_counted is (suc n))
-  where
-    go : (d : ImportDesc) → length (places (has_kind Memories) is (suc n)) ≡ length (imported_memories is) → length (cond (same_space Memories (space_of_import d)) (n ∷ places (has_kind Memories) is (suc n)) (places (has_kind Memories) is (suc n))) ≡ length (cons_option (memory_of d) (imported_memories is))
-    go (im.Func x) h = h
-    go (im.Table x) h = h
-    go (im.Memory x) h = ap suc h
-    go (im.Global x) h = h
+memories_counted is = places_many (has_kind Memories) (λ i. memory_of i.desc) is (λ i. memory_kind i.desc)
+
+global_kind : (d : ImportDesc) → is_some (global_of d) ≡ same_space Globals (space_of_import d)
+global_kind (im.Global x) = refl
+global_kind _ = refl
 
 pub globals_counted : (is : List Import) (n : ℕ) → length (places (has_kind Globals) is n) ≡ length (imported_globals is)
-globals_counted [] n = refl
-globals_counted (i ∷ is) n = go i.desc (globals_counted is (suc n))
-  where
-    go : (d : ImportDesc) → length (places (has_kind Globals) is (suc n)) ≡ length (imported_globals is) → length (cond (same_space Globals (space_of_import d)) (n ∷ places (has_kind Globals) is (suc n)) (places (has_kind Globals) is (suc n))) ≡ length (cons_option (global_of d) (imported_globals is))
-    go (im.Func x) h = h
-    go (im.Table x) h = h
-    go (im.Memory x) h = h
-    go (im.Global x) h = ap suc h
+globals_counted is = places_many (has_kind Globals) (λ i. global_of i.desc) is (λ i. global_kind i.desc)
 
 -- ---- what is read ----
 
@@ -118,7 +106,7 @@ read_is t (const.I32 v) = refl
 read_is t (const.I64 v) = refl
 read_is t (const.Null ty) = refl
 read_is t (const.Func f) = refl
-read_is t (const.Global x) = ap (λ o. walk_on more (end_step (one t) o)) (import_of_global t x) ∙ go (slice_get (imports_of Globals t) x)
+read_is t (const.Global x) = rw (import_of_global t x) (go (slice_get (imports_of Globals t) x))
   where
     more : Read → Option Read
     more = walk (read_step (one t)) (length (initials_from 0 (one t)))

@@ -1,5 +1,5 @@
 -- Segments are copied into two related stores.
-use Rattle.std.proofs.Common.{◌≡◌, ℕ, zero, suc, ◌+◌, ◌*◌, ◌≤◌, List, [], ◌∷◌, ◌++◌, length, Option, Some, None, true, false, refl, sym, ap, ap₂, subst, ◌∙◌, arith, option_and_then, slice_get, slice_set}
+use Rattle.std.proofs.Common.{◌≡◌, ℕ, zero, suc, ◌+◌, ◌*◌, ◌≤◌, List, [], ◌∷◌, ◌++◌, length, Option, Some, None, true, false, refl, sym, ap, ◌∙◌, arith, option_and_then, slice_get, slice_set}
 use native.Mathlib.Decide.{ℕ_discrete}
 use Rattle.std.proofs.lemmas.Option.{slice_get_within}
 use Rattle.std.proofs.lemmas.List.{length-append}
@@ -29,22 +29,22 @@ use Rattle.wasm_meaning.proofs.Slices.{split_lengths}
 -- where the others fit, they are written, and the list is as long as it was
 split_fits : {A : Type 0} (n : ℕ) (xs : List A) → n ≤ length xs → (p : List A × List A) × (split_at n xs ≡ Some p) × (length p.0 ≡ n) × (length p.0 + length p.1 ≡ length xs)
 split_fits zero xs h = (([], xs), refl, refl, omega arith)
-split_fits (suc n) [] h = absurd (omega (arith, h))
+split_fits (suc n) [] h = absurd (omega arith)
 split_fits (suc n) (x ∷ xs) h =
-    let r = split_fits n xs (omega (arith, h)) in
-    ((x ∷ r.0.0, r.0.1), ap (option_and_then (λ p. Some (x ∷ p.0, p.1))) r.1, ap suc r.2, let e = r.3 in omega (arith, e))
+    let r = split_fits n xs (omega arith) in
+    ((x ∷ r.0.0, r.0.1), rw r.1 refl, ap suc r.2, let e = r.3 in omega arith)
 
 pub overwrite_fits : {A : Type 0} (xs ys : List A) (n : ℕ) → n + length ys ≤ length xs → (zs : List A) × (overwrite xs n ys ≡ Some zs) × (length zs ≡ length xs)
 overwrite_fits {A} xs ys n h =
-    let p = split_fits n xs (omega (arith, h)) in
+    let p = split_fits n xs (omega arith) in
     let e = p.2 in
     let f = p.3 in
-    let q = split_fits (length ys) p.0.1 (omega (arith, h, e, f)) in
+    let q = split_fits (length ys) p.0.1 (omega arith) in
     let a = length-append p.0.0 (ys ++ q.0.1) in
     let b = length-append ys q.0.1 in
     let g = q.2 in
     let k = q.3 in
-    (p.0.0 ++ (ys ++ q.0.1), ap (option_and_then (λ p. option_and_then (λ q. Some (p.0 ++ (ys ++ q.1))) (split_at (length ys) p.1))) p.1 ∙ ap (option_and_then (λ q. Some (p.0.0 ++ (ys ++ q.1)))) q.1, omega (arith, a, b, e, f, g, k))
+    (p.0.0 ++ (ys ++ q.0.1), rw p.1 (rw q.1 refl), omega arith)
 
 pub overwritten_length : {A : Type 0} (xs : List A) (n : ℕ) (ys zs : List A) → overwrite xs n ys ≡ Some zs → length zs ≡ length xs
 overwritten_length {A} xs n ys zs e = go (split_at n xs) (split_lengths n xs) e
@@ -97,8 +97,8 @@ module _ (env : Environment) (w : Instantiated) where
         let both : Some x ≡ Some t = sym h ∙ there in
         let same : x ≡ t = cc in
         let size = overwritten_length t.slots q e.items slots is in
-        let k : d.definition.limits.min ≤ length t.slots = subst (λ (x : Table). d.definition.limits.min ≤ length x.slots) same l in
-        omega (arith, size, k)) b (room.tables b d);
+        let k : d.definition.limits.min ≤ length t.slots = rw (← same) l in
+        omega arith) b (room.tables b d);
     mems = room.mems;
     elems = λ b d. set_holds (λ (e : Elem). length e.items ≤ length d.definition.items) s.elems n no_items (λ x h l. omega arith) b (room.elems b d);
     datas = room.datas;
@@ -117,8 +117,8 @@ module _ (env : Environment) (w : Instantiated) where
         let both : Some x ≡ Some m = sym h ∙ there in
         let same : x ≡ m = cc in
         let size = overwritten_length m.bytes q e.bytes bytes is in
-        let k : 65536 * d.definition.min ≤ length m.bytes = subst (λ (x : Memory). 65536 * d.definition.min ≤ length x.bytes) same l in
-        omega (arith, size, k)) b (room.mems b d);
+        let k : 65536 * d.definition.min ≤ length m.bytes = rw (← same) l in
+        omega arith) b (room.mems b d);
     elems = room.elems;
     datas = λ b d. set_holds (λ (e : Data). length e.bytes ≤ length d.definition.bytes) s.datas n no_bytes (λ x h l. omega arith) b (room.datas b d);
   }
@@ -160,7 +160,7 @@ pub record Copies (related : Space → ℕ → Type 0) (s : Store) (f : Filled) 
 
 module _ (related alone : Space → ℕ → Type 0) (never : (k : Space) (a : ℕ) → alone k a → related k a → ⊥) where
   apart : (k : Space) (a c : ℕ) → alone k a → related k c → a ≡ c → ⊥
-  apart k a c lone r e = never k a lone (subst (related k) (sym e) r)
+  apart k a c lone r e = never k a lone (rw e r)
 
   pub table_kept : (s : Store) (n a : ℕ) (t : Table) → alone Tables a → alone ElementSegments n → Kept related s (changed (changed s (SetTable a t)) (DropElem n))
   table_kept s n a t lone by_itself = record {
@@ -192,14 +192,11 @@ module _ (related alone : Space → ℕ → Type 0) (never : (k : Space) (a : �
         let i = room.elems x.address d in
         let large = u.2 in
         let few = i.2 in
-        let size : length d.definition.items ≡ length x.segment.items = ap (λ (e : ElemSeg). length e.items) is in
-        let o = overwrite_fits u.0.slots i.0.items q (omega (arith, large, few, size, fits)) in
+        let size : length d.definition.items ≡ length x.segment.items = rw is refl in
+        let o = overwrite_fits u.0.slots i.0.items q (omega arith) in
         record {
           store = changed (changed s (SetTable a (record u.0 { slots = o.0 }))) (DropElem x.address);
-          is = ap (copy_elem s x.address x.inst t) offset
-              ∙ ap (λ o. or_trapped s (option_and_then (λ a. option_and_then (λ t. option_and_then (λ e. Some (fill_table s x.address a t (overwrite t.slots q e.items))) (slice_get s.elems x.address)) (slice_get s.tables a)) o)) there
-              ∙ ap₂ (λ o p. or_trapped s (option_and_then (λ t. option_and_then (λ e. Some (fill_table s x.address a t (overwrite t.slots q e.items))) p) o)) u.1 i.1
-              ∙ ap (fill_table s x.address a u.0) o.1;
+          is = rw (offset, there, u.1, i.1, o.1) refl;
           kept = table_kept s x.address a (record u.0 { slots = o.0 }) lone by_itself;
         }
 
@@ -211,13 +208,10 @@ module _ (related alone : Space → ℕ → Type 0) (never : (k : Space) (a : �
         let i = room.datas x.address d in
         let large = u.2 in
         let few = i.2 in
-        let size : length d.definition.bytes ≡ length x.segment.bytes = ap (λ (e : DataSeg). length e.bytes) is in
-        let o = overwrite_fits u.0.bytes i.0.bytes q (omega (arith, large, few, size, fits)) in
+        let size : length d.definition.bytes ≡ length x.segment.bytes = rw is refl in
+        let o = overwrite_fits u.0.bytes i.0.bytes q (omega arith) in
         record {
           store = changed (changed s (SetMemory a (record u.0 { bytes = o.0 }))) (DropData x.address);
-          is = ap (copy_data s x.address x.inst t) offset
-              ∙ ap (λ o. or_trapped s (option_and_then (λ a. option_and_then (λ m. option_and_then (λ d. Some (fill_memory s x.address a m (overwrite m.bytes q d.bytes))) (slice_get s.datas x.address)) (slice_get s.mems a)) o)) there
-              ∙ ap₂ (λ o p. or_trapped s (option_and_then (λ m. option_and_then (λ d. Some (fill_memory s x.address a m (overwrite m.bytes q d.bytes))) p) o)) u.1 i.1
-              ∙ ap (fill_memory s x.address a u.0) o.1;
+          is = rw (offset, there, u.1, i.1, o.1) refl;
           kept = memory_kept s x.address a (record u.0 { bytes = o.0 }) lone by_itself;
         }

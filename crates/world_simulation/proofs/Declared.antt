@@ -1,5 +1,5 @@
 -- A module with its references declared: it has perhaps one more element segment, which is declarative and is allocated wherever the module is.
-use Rattle.std.proofs.Common.{◌≡◌, ℕ, zero, suc, ◌+◌, ◌<◌, List, [], ◌∷◌, ◌++◌, map, length, Some, ◌&&◌, refl, sym, ap, ap₂, arith, option_and_then, append-nil}
+use Rattle.std.proofs.Common.{◌≡◌, ℕ, zero, suc, ◌+◌, ◌<◌, List, [], ◌∷◌, ◌++◌, map, length, Some, ◌&&◌, refl, sym, arith, append-nil}
 use Rattle.std.specs.Prelude.{not, slice_get}
 use Rattle.std.specs.List.{range_with_len}
 use Rattle.base_lists.proofs.Filtered.{kept_is}
@@ -9,8 +9,7 @@ use Rattle.wasm_tree.specs.declared.module.ElemMode.TheVariants as elem
 use Rattle.wasm_tree.specs.declared.module.ElemSeg.{ElemSeg}
 use Rattle.wasm_tree.specs.declared.module.Module.{Module}
 use Rattle.wasm_tree.specs.Spaces.{funcs_of}
-use Rattle.wasm_meaning.specs.State.{RefVal, FuncRef, Ref, Inst, Elem}
-use Rattle.wasm_meaning.specs.Values.{ref_of}
+use Rattle.wasm_meaning.specs.State.{RefVal, FuncRef, Inst, Elem}
 use Rattle.wasm_meaning.specs.Environment.{Environment}
 use Rattle.wasm_meaning.specs.World.{all_there, new_elem, ref_value, elem_of}
 use Rattle.index_remap.specs.References.{is_among, body_refs, outside_refs, declared_refs, with_declared, declaring}
@@ -41,14 +40,14 @@ keeps m (f ∷ fs) = record { types = refl; imports = refl; funcs = refl; tables
 
 range_below : (a n k x : ℕ) → slice_get (range_with_len a n) k ≡ Some x → x < a + n
 range_below a zero k x h = cc
-range_below a (suc n) zero x h = let same : a ≡ x = cc in omega (arith, same)
-range_below a (suc n) (suc k) x h = let l = range_below (a + 1) n k x h in omega (arith, l)
+range_below a (suc n) zero x h = let same : a ≡ x = cc in omega arith
+range_below a (suc n) (suc k) x h = let l = range_below (a + 1) n k x h in omega arith
 
 declared_below : (m : Module) (n f : ℕ) → slice_get (declared_refs m) n ≡ Some f → f < length (funcs_of m)
 declared_below m n f h =
     let k = kept_is (λ f. is_among (body_refs m.funcs) f && not (is_among (outside_refs m) f)) (range_with_len 0 (length (funcs_of m))) n f (h) in
     let l = range_below 0 (length (funcs_of m)) k.1.0 f k.1.1 in
-    omega (arith, l)
+    omega arith
 
 module _ (env : Environment) (u : Module) (j : Inst) where
   refs_there : (fs : List ℕ) → ((n f : ℕ) → slice_get fs n ≡ Some f → f < length j.funcs) → (xs : List RefVal) × (all_there (ref_value env (one u) (j ∷ []) 0) (map const.Func fs) ≡ Some xs)
@@ -56,15 +55,15 @@ module _ (env : Environment) (u : Module) (j : Inst) where
   refs_there (f ∷ fs) h =
       let a = slice_get_there j.funcs f (h zero f refl) in
       let rest = refs_there fs (λ n. h (suc n)) in
-      let first : ref_value env (one u) (j ∷ []) 0 (const.Func f) ≡ Some (FuncRef (Some a.0)) = ap (λ o. option_and_then ref_of (option_and_then (λ a. Some (Ref (FuncRef (Some a)))) o)) a.1 in
-      (FuncRef (Some a.0) ∷ rest.0, ap₂ (λ o p. option_and_then (λ y. option_and_then (λ ys. Some (y ∷ ys)) p) o) first rest.1)
+      let first : ref_value env (one u) (j ∷ []) 0 (const.Func f) ≡ Some (FuncRef (Some a.0)) = rw a.1 refl in
+      (FuncRef (Some a.0) ∷ rest.0, rw (first, rest.1) refl)
 
   segments_there : (fs : List ℕ) → ((n f : ℕ) → slice_get fs n ≡ Some f → f < length j.funcs) → (es : List Elem) × (all_there (elem_of env (one u) (j ∷ []) 0) (last_segments fs) ≡ Some es)
   segments_there [] h = ([], refl)
   segments_there (f ∷ fs) h =
       let r = refs_there (f ∷ fs) h in
-      (new_elem elem.Declarative r.0 ∷ [], ap (λ o. option_and_then (λ e. Some (e ∷ [])) (option_and_then (λ items. Some (new_elem elem.Declarative items)) o)) r.1)
+      (new_elem elem.Declarative r.0 ∷ [], rw r.1 refl)
 
   -- the segment that declares a module's references is allocated, where the instance names as many functions as the module has
   pub last_elems : (m : Module) → length j.funcs ≡ length (funcs_of m) → (es : List Elem) × (all_there (elem_of env (one u) (j ∷ []) 0) (last_segments (declared_refs m)) ≡ Some es)
-  last_elems m e = segments_there (declared_refs m) (λ n f h. let l = declared_below m n f h in omega (arith, l, e))
+  last_elems m e = segments_there (declared_refs m) (λ n f h. let l = declared_below m n f h in omega arith)

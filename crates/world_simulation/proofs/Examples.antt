@@ -1,7 +1,6 @@
 -- A module with a function that nothing else names, which calls another and is called by none; and one whose function is called.
 use Rattle.std.proofs.Common.{◌≡◌, ℕ, zero, suc, List, [], ◌∷◌, Some, None, true, false, refl, slice_get}
 use Rattle.std.proofs.lemmas.Option.{same_Some}
-use Rattle.std.proofs.Common.{subst}
 use Rattle.wasm_tree.specs.declared.instr.Instr.{Instr, out-Instr}
 use Rattle.wasm_tree.specs.declared.instr.Instr.TheVariants.{Call}
 use Rattle.wasm_tree.specs.declared.module.Func.{Func}
@@ -45,12 +44,12 @@ first_is_unreachable = record {
 }
   where
     funcs : (i : ℕ) (f : Func) → slice_get (rest 0 three).funcs i ≡ Some f → FuncNamesOnly (others 0 three) f
-    funcs zero f h = subst (FuncNamesOnly (others 0 three)) (same_Some _ _ h) (refl, ((refl, tt), tt))
-    funcs (suc zero) f h = subst (FuncNamesOnly (others 0 three)) (same_Some _ _ h) (refl, tt)
+    funcs zero f h = rw (← same_Some _ _ h) (refl, ((refl, tt), tt))
+    funcs (suc zero) f h = rw (← same_Some _ _ h) (refl, tt)
     funcs (suc (suc i)) f h = cc
 
     exports : (i : ℕ) (e : Export) → slice_get three.exports i ≡ Some e → ExportNamesOnly (others 0 three) e.desc
-    exports zero e h = subst (λ (e : Export). ExportNamesOnly (others 0 three) e.desc) (same_Some _ _ h) refl
+    exports zero e h = rw (← same_Some _ _ h) refl
     exports (suc i) e h = cc
 
 -- behind it indices go down by one, and so does that of the export

@@ -1,5 +1,5 @@
 -- The first step of a run, which instantiates its world.
-use Rattle.std.proofs.Common.{◌≡◌, ℕ, zero, suc, List, [], ◌∷◌, Option, Some, None, Bool, true, false, cond, refl, sym, ap, subst}
+use Rattle.std.proofs.Common.{◌≡◌, ℕ, zero, suc, List, [], ◌∷◌, Option, Some, None, Bool, true, false, cond, refl}
 use Rattle.wasm_tree.specs.declared.space.Space.{Space}
 use Rattle.wasm_meaning.specs.State.{Opening}
 use Rattle.wasm_meaning.specs.Environment.{Environment}
@@ -15,7 +15,7 @@ module _ (law : RelatedRunsShowTheSame) (of : Space → ℕ → ℕ → Bool) (a
   R = passed of of []
 
   after_step : {b c : Begun} (n : ℕ) → BegunRel R (EntryByEntry R) b c → events_of tick (fresh_run env (Some b) moves) (suc n) ≡ events_of tick (fresh_run env (Some c) moves) (suc n)
-  after_step {b} {c} n g = subst (λ x. shown (cond x trapped_first begun_first) ≡ shown (cond c.trapped trapped_second begun_second)) (sym g.trapped) (go c.trapped)
+  after_step {b} {c} n g = rw g.trapped (go c.trapped)
     where
       shown : Out → List Event
       shown o = noted o.1 (events_of tick o.0 n)
@@ -33,7 +33,7 @@ module _ (law : RelatedRunsShowTheSame) (of : Space → ℕ → ℕ → Bool) (a
       begun_second = (record (fresh_run env (Some c) moves) { store = c.store; entries = Opening c.starts ∷ []; phase = Pending c.view; owned = c.owned }, None)
 
       go : (x : Bool) → shown (cond x trapped_first begun_first) ≡ shown (cond x trapped_second begun_second)
-      go true = ap (λ es. InstanceTrapped ∷ es) (law of apart trapped_first.0 trapped_second.0 (record { store = g.store; entries = g.closed; phase = closed; shown = nil; view = nil; owned = g.owned; moves = refl }) n)
+      go true = rw (law of apart trapped_first.0 trapped_second.0 (record { store = g.store; entries = g.closed; phase = closed; shown = nil; view = nil; owned = g.owned; moves = refl }) n) refl
       go false = law of apart begun_first.0 begun_second.0 (record { store = g.store; entries = g.entries; phase = pending g.view; shown = nil; view = nil; owned = g.owned; moves = refl }) n
 
   pub runs_same : {b c : Option Begun} (n : ℕ) → OptRel (BegunRel R (EntryByEntry R)) b c → events_of tick (fresh_run env b moves) n ≡ events_of tick (fresh_run env c moves) n

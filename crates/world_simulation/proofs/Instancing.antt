@@ -1,13 +1,71 @@
 -- What an instance holds, and the instances of several parts one after the other.
-use Rattle.std.proofs.Common.{◌≡◌, ◌∙◌, ap, ap₂, sym, refl, ℕ, zero, suc, ◌+◌, List, [], ◌∷◌, length, Option, Some, arith, option_and_then, slice_get}
-use Rattle.wasm_tree.specs.declared.space.Space.TheVariants.{Functions, Tables, Memories, Globals, DataSegments, ElementSegments}
-use Rattle.wasm_tree.specs.declared.types.FuncType.{FuncType}
+use Rattle.std.proofs.Common.{◌≡◌, ◌∙◌, ap, ap₂, sym, refl, ℕ, zero, suc, ◌+◌, ◌<◌, List, [], ◌∷◌, ◌++◌, length, Option, Some, arith, ◌⊎◌, inl, inr, option_and_then, slice_get}
+use Rattle.std.proofs.lemmas.List.{length-append}
+use Rattle.std.proofs.lemmas.Option.{same_Some, slice_get_within}
+use Rattle.wasm_tree.specs.declared.space.Space.{Space}
+use Rattle.wasm_tree.specs.declared.space.Space.TheVariants.{Types, Functions, Tables, Memories, Globals, DataSegments, ElementSegments}
 use Rattle.wasm_tree.specs.declared.module.Module.{Module}
 use Rattle.wasm_meaning.specs.State.{Inst}
-use Rattle.wasm_meaning.specs.Linking.{Part, module_at}
+use Rattle.wasm_meaning.specs.Linking.{Part, module_at, imports_of}
 use Rattle.wasm_meaning.specs.Environment.{Environment}
-use Rattle.wasm_meaning.specs.World.{space, numbers, inst_of, insts_from, defined_before}
-use Rattle.base_lists.proofs.Options.{and_then_is}
+use Rattle.wasm_meaning.specs.World.{space, numbers, inst_of, insts_from, defined_before, defined_count, base, address_of, all_there, imported_thing}
+use Rattle.base_lists.proofs.Numbers.{length-numbers}
+use Rattle.base_lists.proofs.Options.{and_then_is, all_there_at, all_there_length}
+use Rattle.world_simulation.proofs.Places.{number_is}
+use Rattle.base_lists.proofs.Places.{slice_get_there, append_from}
+
+-- ---- an index space ----
+
+-- the addresses that an instance has for a space
+abbrev pub addresses_in : Space → Inst → List ℕ
+addresses_in Types i = []
+addresses_in Functions i = i.funcs
+addresses_in Tables i = i.tables
+addresses_in Memories i = i.mems
+addresses_in Globals i = i.globals
+addresses_in ElementSegments i = i.elems
+addresses_in DataSegments i = i.datas
+
+-- the address of an import of a part
+abbrev pub import_address : Environment → List Part → Space → ℕ → ℕ → Option ℕ
+import_address env parts k p n = option_and_then (address_of k) (imported_thing env parts (record { part = p; import = n }))
+
+-- the addresses of the imports, then those of what the part defines
+pub record IsSpace (env : Environment) (parts : List Part) (k : Space) (p : ℕ) (m : Module) (xs : List ℕ) : Type 0 where
+  pub imported : List ℕ
+  pub are : all_there (import_address env parts k p) (imports_of k m) ≡ Some imported
+  pub all : xs ≡ imported ++ numbers (base env parts k p) (defined_count k m)
+  pub size : length xs ≡ length (imports_of k m) + defined_count k m
+
+-- what an index of it names: an import, or what the part defines
+pub data Entry (env : Environment) (parts : List Part) (k : Space) (p : ℕ) (m : Module) (x a : ℕ) : Type 0 where
+  imports : (n : ℕ) → slice_get (imports_of k m) x ≡ Some n → import_address env parts k p n ≡ Some a → Entry env parts k p m x a
+  defines : (j : ℕ) → x ≡ length (imports_of k m) + j → j < defined_count k m → a ≡ base env parts k p + j → Entry env parts k p m x a
+
+module _ (env : Environment) (parts : List Part) (k : Space) (p : ℕ) (m : Module) (xs : List ℕ) where
+  pub is_space : space env parts k p m ≡ Some xs → IsSpace env parts k p m xs
+  is_space h =
+      let r = and_then_is (all_there (import_address env parts k p) (imports_of k m)) _ xs h in
+      let defined = numbers (base env parts k p) (defined_count k m) in
+      let all : r.0 ++ defined ≡ xs = same_Some _ _ r.2 in
+      let many = all_there_length (import_address env parts k p) (imports_of k m) r.0 r.1 in
+      record { imported = r.0; are = r.1; all = sym all; size = ap length (sym all) ∙ length-append r.0 defined ∙ ap₂ (λ a b. a + b) many (length-numbers (base env parts k p) (defined_count k m)) }
+
+  pub entry_at : IsSpace env parts k p m xs → (x a : ℕ) → slice_get xs x ≡ Some a → Entry env parts k p m x a
+  entry_at s x a h = go (append_from s.imported (numbers (base env parts k p) (defined_count k m)) x a (rw (← s.all) h))
+    where
+      many : length s.imported ≡ length (imports_of k m)
+      many = all_there_length (import_address env parts k p) (imports_of k m) s.imported s.are
+
+      go : (slice_get s.imported x ≡ Some a) ⊎ ((j : ℕ) × (x ≡ length s.imported + j) × (slice_get (numbers (base env parts k p) (defined_count k m)) j ≡ Some a)) → Entry env parts k p m x a
+      go (inl e) =
+          let low = slice_get_within s.imported x a e in
+          let n = slice_get_there (imports_of k m) x (omega (arith, low, many)) in
+          let r = all_there_at (import_address env parts k p) (imports_of k m) s.imported s.are x n.0 n.1 in
+          imports n.0 n.1 (r.1 ∙ sym r.2 ∙ e)
+      go (inr j) =
+          let r = number_is (base env parts k p) (defined_count k m) j.0 a j.2 in
+          defines j.0 (omega (arith, many)) r.0 r.1
 
 -- ---- one ----
 
@@ -20,37 +78,30 @@ pub record IsInst (env : Environment) (parts : List Part) (p : ℕ) (m : Module)
   pub elems : i.elems ≡ numbers (defined_before ElementSegments parts p) (length m.elems)
   pub datas : i.datas ≡ numbers (defined_before DataSegments parts p) (length m.datas)
 
-abbrev made : List FuncType → (elems datas : List ℕ) → (funcs tables mems globals : Option (List ℕ)) → Option Inst
-made types elems datas f t m g =
-    option_and_then (λ funcs. option_and_then (λ tables. option_and_then (λ mems. option_and_then (λ globals. Some (record { types = types; funcs = funcs; tables = tables; mems = mems; globals = globals; elems = elems; datas = datas })) g) m) t) f
-
 pub inst_is : (env : Environment) (parts : List Part) (p : ℕ) (m : Module) (i : Inst) → inst_of env parts p m ≡ Some i → IsInst env parts p m i
 inst_is env parts p m i h =
     let f = and_then_is (space env parts Functions p m) _ i h in
     let t = and_then_is (space env parts Tables p m) _ i f.2 in
     let s = and_then_is (space env parts Memories p m) _ i t.2 in
     let g = and_then_is (space env parts Globals p m) _ i s.2 in
-    let q = g.2 in
     let same : record { types = m.types; funcs = f.0; tables = t.0; mems = s.0; globals = g.0; elems = numbers (defined_before ElementSegments parts p) (length m.elems); datas = numbers (defined_before DataSegments parts p) (length m.datas) } ≡ i = cc in
     record {
-      types = ap (λ (i : Inst). i.types) (sym same);
+      types = rw (← same) refl;
       funcs = f.1 ∙ ap (λ (i : Inst). Some i.funcs) same;
       tables = t.1 ∙ ap (λ (i : Inst). Some i.tables) same;
       mems = s.1 ∙ ap (λ (i : Inst). Some i.mems) same;
       globals = g.1 ∙ ap (λ (i : Inst). Some i.globals) same;
-      elems = ap (λ (i : Inst). i.elems) (sym same);
-      datas = ap (λ (i : Inst). i.datas) (sym same);
+      elems = rw (← same) refl;
+      datas = rw (← same) refl;
     }
 
 -- where its index spaces are there, so is the instance
 pub inst_there : (env : Environment) (parts : List Part) (p : ℕ) (m : Module) (fs ts ms gs : List ℕ) → space env parts Functions p m ≡ Some fs → space env parts Tables p m ≡ Some ts → space env parts Memories p m ≡ Some ms → space env parts Globals p m ≡ Some gs →
     (i : Inst) × (inst_of env parts p m ≡ Some i)
-inst_there env parts p m fs ts ms gs f t s g =
-    let elems = numbers (defined_before ElementSegments parts p) (length m.elems) in
-    let datas = numbers (defined_before DataSegments parts p) (length m.datas) in (
-      record { types = m.types; funcs = fs; tables = ts; mems = ms; globals = gs; elems = elems; datas = datas },
-      ap₂ (λ a b. made m.types elems datas a b (space env parts Memories p m) (space env parts Globals p m)) f t ∙ ap₂ (made m.types elems datas (Some fs) (Some ts)) s g,
-    )
+inst_there env parts p m fs ts ms gs f t s g = (
+  record { types = m.types; funcs = fs; tables = ts; mems = ms; globals = gs; elems = numbers (defined_before ElementSegments parts p) (length m.elems); datas = numbers (defined_before DataSegments parts p) (length m.datas) },
+  rw (f, t, s, g) refl,
+)
 
 -- ---- several ----
 
@@ -68,7 +119,7 @@ each_cons env all p part parts i is h later zero m e =
 each_cons env all p part parts i is h later (suc q) m e =
     let r = later.each q m e in
     let here : p + suc q ≡ suc p + q = omega arith in
-    (r.0, r.1, ap (λ n. inst_of env all n m) here ∙ r.2)
+    (r.0, r.1, rw here r.2)
 
 pub insts_are : (env : Environment) (all : List Part) (p : ℕ) (parts : List Part) (is : List Inst) → insts_from env all p parts ≡ Some is → EachInst env all p parts is
 insts_are env all p [] is h = let same : [] ≡ is = cc in record { size = ap length (sym same); each = λ q m e. absurd (let k = e in cc) }
@@ -85,7 +136,18 @@ insts_there env all p [] h = ([], refl)
 insts_there env all p (part ∷ parts) h =
     let first = h 0 part.«module» refl in
     let here : p ≡ p + 0 = omega arith in
-    let r = insts_there env all (suc p) parts (λ q m e. let x = h (suc q) m e in let n : suc p + q ≡ p + suc q = omega arith in (x.0, ap (λ n. inst_of env all n m) n ∙ x.1)) in (
+    let r = insts_there env all (suc p) parts (λ q m e. let x = h (suc q) m e in let n : suc p + q ≡ p + suc q = omega arith in (x.0, rw n x.1)) in (
       first.0 ∷ r.0,
-      ap₂ (λ o l. option_and_then (λ i. option_and_then (λ is. Some (i ∷ is)) l) o) (ap (λ n. inst_of env all n part.«module») here ∙ first.1) r.1,
+      rw (ap (λ n. inst_of env all n part.«module») here ∙ first.1, r.1) refl,
     )
+
+-- ---- those of a world ----
+
+pub inst_in : (env : Environment) (parts : List Part) (is : List Inst) → insts_from env parts 0 parts ≡ Some is → (p : ℕ) (m : Module) → module_at parts p ≡ Some m → (i : Inst) × (slice_get is p ≡ Some i) × IsInst env parts p m i
+inst_in env parts is h p m at =
+    let i = (insts_are env parts 0 parts is h).each p m at in
+    let here : p ≡ 0 + p = omega arith in
+    (i.0, i.1, inst_is env parts p m i.0 (ap (λ p. inst_of env parts p m) here ∙ i.2))
+
+pub insts_in : (env : Environment) (parts : List Part) → ((p : ℕ) (m : Module) → module_at parts p ≡ Some m → (i : Inst) × (inst_of env parts p m ≡ Some i)) → (is : List Inst) × (insts_from env parts 0 parts ≡ Some is)
+insts_in env parts h = insts_there env parts 0 parts (λ p m at. let i = h p m at in let here : 0 + p ≡ p = omega arith in (i.0, rw here i.1))

@@ -1,8 +1,7 @@
 -- Segments of two worlds, partners in the same order, are copied to related stores, and trap in both or neither.
 use Rattle.std.proofs.Common.{◌≡◌, ℕ, zero, suc, ◌+◌, List, [], ◌∷◌, ◌++◌, length, Option, Some, Bool, true, false, cond, ◌⊎◌, inl, inr, refl, sym, ap, subst, ◌∙◌, arith, slice_get, None}
-use Rattle.base_lists.proofs.Numbers.{numbers_at}
 use Rattle.base_lists.proofs.Places.{append_from}
-use Rattle.std.proofs.lemmas.Option.{slice_get_within}
+use Rattle.std.proofs.lemmas.Option.{same_Some}
 use Rattle.wasm_tree.specs.declared.space.Space.{Space}
 use Rattle.wasm_tree.specs.declared.space.Space.TheVariants.{Tables, Memories, ElementSegments, DataSegments}
 use Rattle.wasm_tree.specs.declared.module.ConstExpr.{ConstExpr}
@@ -15,8 +14,7 @@ use Rattle.wasm_meaning.specs.Outcomes.{overwrite}
 use Rattle.wasm_meaning.specs.State.{RefVal, Val, Inst, Table, Memory, Store}
 use Rattle.wasm_meaning.specs.Linking.{Part, module_at}
 use Rattle.wasm_meaning.specs.Environment.{Environment}
-use Rattle.wasm_meaning.specs.World.{Filled, Task, numbers, base, defined_before, insts_from, own_store, stores_from, tasks_in, elem_tasks, data_tasks, or_trapped, fill_table, copy_elem, run_elem_with, run_elem, fill_memory, copy_data, run_data_with, run_data, and_then, in_turn}
-use Rattle.wasm_meaning.specs.World as world
+use Rattle.wasm_meaning.specs.World.{Filled, Task, numbers, base, defined_before, insts_from, tasks_in, elem_tasks, data_tasks, or_trapped, fill_table, copy_elem, run_elem_with, run_elem, fill_memory, copy_data, run_data_with, run_data, and_then, in_turn}
 use Rattle.index_remap.specs.Related.{Pairing, OneToOne, OptRel, none, some, ListRel, RefRel, TableRel, StoreRel, set_table, set_memory, drop_elem, drop_data}
 use Rattle.index_remap.specs.RelatedRuns.{turned, HasNoPartner}
 use Rattle.index_remap.proofs.Rel.{written, overwrite_rel, there}
@@ -24,8 +22,8 @@ use Rattle.index_remap.proofs.StepsAgree.{changed_rel}
 use Rattle.world_simulation.specs.Definitions.{Instantiated, DefinedAt, values_in}
 use Rattle.world_simulation.specs.Segments.{InOrder, ElemsPartner, ElemAlone, DatasPartner, DataAlone, offset_in, ElemsInOrder, DatasInOrder}
 use Rattle.world_simulation.specs.Segments as segments
-use Rattle.world_simulation.proofs.Places.{then_rel, then_same}
-use Rattle.world_simulation.proofs.Instancing.{IsInst, inst_is, insts_are}
+use Rattle.world_simulation.proofs.Places.{then_rel, then_same, number_is}
+use Rattle.world_simulation.proofs.Instancing.{IsInst, inst_in}
 use Rattle.world_simulation.proofs.Copied.{HasRoom, run_elem_room, run_data_room, Kept, nothing_kept, Copies, elem_copied, data_copied}
 
 -- ---- each segment is one that its part defines ----
@@ -60,12 +58,12 @@ tasks_by segs adds p _ _ = []
 pub elems_by : (p : ℕ) (parts : List Part) (is : List Inst) → elem_tasks p parts is ≡ tasks_by (λ m. m.elems) (λ i. i.elems) p parts is
 elems_by p [] is = refl
 elems_by p (part ∷ parts) [] = refl
-elems_by p (part ∷ parts) (i ∷ is) = ap (λ ts. tasks_in p i i.elems part.«module».elems ++ ts) (elems_by (suc p) parts is)
+elems_by p (part ∷ parts) (i ∷ is) = rw (elems_by (suc p) parts is) refl
 
 pub datas_by : (p : ℕ) (parts : List Part) (is : List Inst) → data_tasks p parts is ≡ tasks_by (λ m. m.datas) (λ i. i.datas) p parts is
 datas_by p [] is = refl
 datas_by p (part ∷ parts) [] = refl
-datas_by p (part ∷ parts) (i ∷ is) = ap (λ ts. tasks_in p i i.datas part.«module».datas ++ ts) (datas_by (suc p) parts is)
+datas_by p (part ∷ parts) (i ∷ is) = rw (datas_by (suc p) parts is) refl
 
 module _ (env : Environment) (w : Instantiated) (k : Space) {A : Type 0} (definitions : Module → List A) (adds : Inst → List ℕ)
     (first : (p : ℕ) (m : Module) (i : Inst) → module_at w.parts p ≡ Some m → slice_get w.insts p ≡ Some i → adds i ≡ numbers (base env w.parts k p) (length (definitions m))) where
@@ -87,10 +85,8 @@ module _ (env : Environment) (w : Instantiated) (k : Space) {A : Type 0} (defini
           Defines env w k definitions (tasks_by definitions adds (suc p) parts is) → (d : DefinedAt env w k definitions x.address) × (d.definition ≡ x.segment)
       go (inl e) later =
           let t = task_at p i (adds i) (definitions part.«module») n x e in
-          let low = slice_get_within (definitions part.«module») n x.segment t.1 in
-          let both : Some (base env w.parts k p + n) ≡ Some x.address = sym (numbers_at (base env w.parts k p) (length (definitions part.«module»)) n low) ∙ sym (ap (λ l. slice_get l n) (first p part.«module» i is_part is_inst)) ∙ t.0 in
-          let same : base env w.parts k p + n ≡ x.address = cc in
-          (record { part = p; of = part.«module»; is_part = is_part; inst = i; is_inst = is_inst; place = n; definition = x.segment; stands = t.1; address = sym same }, refl)
+          let r = number_is (base env w.parts k p) (length (definitions part.«module»)) n x.address (sym (ap (λ l. slice_get l n) (first p part.«module» i is_part is_inst)) ∙ t.0) in
+          (record { part = p; of = part.«module»; is_part = is_part; inst = i; is_inst = is_inst; place = n; definition = x.segment; stands = t.1; address = r.1 }, refl)
       go (inr l) later = later l.0 x l.2
 
   all_defined : Defines env w k definitions (tasks_by definitions adds 0 w.parts w.insts)
@@ -99,21 +95,18 @@ module _ (env : Environment) (w : Instantiated) (k : Space) {A : Type 0} (defini
 -- the instance of a part of a world that is instantiated
 pub inst_at : (env : Environment) (w : Instantiated) → insts_from env w.parts 0 w.parts ≡ Some w.insts → (p : ℕ) (m : Module) (i : Inst) → module_at w.parts p ≡ Some m → slice_get w.insts p ≡ Some i → IsInst env w.parts p m i
 inst_at env w are p m i is there =
-    let r = (insts_are env w.parts 0 w.parts w.insts are).each p m is in
-    let both : Some r.0 ≡ Some i = sym r.1 ∙ there in
-    let same : r.0 ≡ i = cc in
-    let from_0 : 0 + p ≡ p = omega arith in
-    inst_is env w.parts p m i (ap (λ p. world.inst_of env w.parts p m) (sym from_0) ∙ r.2 ∙ ap Some same)
+    let r = inst_in env w.parts w.insts are p m is in
+    rw (← same_Some _ _ (sym r.1 ∙ there)) r.2
 
 numbers_from : (n count : ℕ) → numbers n count ≡ numbers (0 + n) count
 numbers_from n count = let e : n ≡ 0 + n = omega arith in ap (λ n. numbers n count) e
 
 pub elems_defined : (env : Environment) (w : Instantiated) → insts_from env w.parts 0 w.parts ≡ Some w.insts → Defines env w ElementSegments (λ m. m.elems) (elem_tasks 0 w.parts w.insts)
-elems_defined env w are = subst (Defines env w ElementSegments (λ m. m.elems)) (sym (elems_by 0 w.parts w.insts))
+elems_defined env w are = rw (elems_by 0 w.parts w.insts)
     (all_defined env w ElementSegments (λ m. m.elems) (λ i. i.elems) (λ p m i is there. (inst_at env w are p m i is there).elems ∙ numbers_from (defined_before ElementSegments w.parts p) (length m.elems)))
 
 pub datas_defined : (env : Environment) (w : Instantiated) → insts_from env w.parts 0 w.parts ≡ Some w.insts → Defines env w DataSegments (λ m. m.datas) (data_tasks 0 w.parts w.insts)
-datas_defined env w are = subst (Defines env w DataSegments (λ m. m.datas)) (sym (datas_by 0 w.parts w.insts))
+datas_defined env w are = rw (datas_by 0 w.parts w.insts)
     (all_defined env w DataSegments (λ m. m.datas) (λ i. i.datas) (λ p m i is there. (inst_at env w are p m i is there).datas ∙ numbers_from (defined_before DataSegments w.parts p) (length m.datas)))
 
 -- ---- what is kept where it is related ----
@@ -192,18 +185,18 @@ module _ (R : Pairing) (apart : OneToOne R) (env : Environment) (v w : Instantia
   copy_data_rel : {s z : Store} (i j : Inst) {n k : ℕ} (x y : ℕ) (o : Option ℕ) → StoreRel R s z → R.of DataSegments n k → OptRel (R.of Memories) (slice_get i.mems x) (slice_get j.mems y) → Related (copy_data s n i x o) (copy_data z k j y o)
   copy_data_rel {s} {z} i j {n} {k} x y o like e d =
       or_trapped_rel like (then_same o (λ q _. then_rel d (λ a b h. then_rel (there (like.mems h)) (λ m u same. then_rel (there (like.datas e)) (λ c d bytes.
-      some (subst (λ u. Related (fill_memory s n a m (overwrite m.bytes q c.bytes)) (fill_memory z k b u (overwrite u.bytes q d.bytes))) same
-      (subst (λ bytes. Related (fill_memory s n a m (overwrite m.bytes q c.bytes)) (fill_memory z k b m (overwrite m.bytes q bytes))) bytes (fill_memory_rel m (overwrite m.bytes q c.bytes) like e h))))))))
+      some (rw (← same)
+      (rw (← bytes) (fill_memory_rel m (overwrite m.bytes q c.bytes) like e h))))))))
 
   run_elem_rel : {s z : Store} (value second_value : ConstExpr → Option Val) (x y : Task ElemSeg) {m n : ElemMode} → StoreRel R s z → ElemsPartner R value second_value x y m n → Related (run_elem_with value s x m) (run_elem_with second_value z y n)
   run_elem_rel {s} {z} value second_value x y like (segments.ElemsPartner.active {t = t} {u = u} {d = d} e h same) =
-      subst (λ o. Related (copy_elem s x.address x.inst t (offset_in value d)) (copy_elem z y.address y.inst u o)) same (copy_elem_rel x.inst y.inst t u (offset_in value d) like e h)
+      rw (← same) (copy_elem_rel x.inst y.inst t u (offset_in value d) like e h)
   run_elem_rel value second_value x y like segments.ElemsPartner.passive = record { store = like; trapped = refl }
   run_elem_rel value second_value x y like segments.ElemsPartner.declarative = record { store = like; trapped = refl }
 
   run_data_rel : {s z : Store} (value second_value : ConstExpr → Option Val) (x y : Task DataSeg) {m n : DataMode} → StoreRel R s z → DatasPartner R value second_value x y m n → Related (run_data_with value s x m) (run_data_with second_value z y n)
   run_data_rel {s} {z} value second_value x y like (segments.DatasPartner.active {t = t} {u = u} {d = d} e h same) =
-      subst (λ o. Related (copy_data s x.address x.inst t (offset_in value d)) (copy_data z y.address y.inst u o)) same (copy_data_rel x.inst y.inst t u (offset_in value d) like e h)
+      rw (← same) (copy_data_rel x.inst y.inst t u (offset_in value d) like e h)
   run_data_rel value second_value x y like segments.DatasPartner.passive = record { store = like; trapped = refl }
 
   -- ---- one without partner ----
@@ -215,11 +208,11 @@ module _ (R : Pairing) (apart : OneToOne R) (env : Environment) (v w : Instantia
   -- after it the one goes on, and the other stays
   first_goes : {f : Filled} {h : Store → Filled} {g : Filled} {s z : Store} → Copies (in_first R) s f → HasRoom env v f.store → Stores s z → ((s : Store) → Stores s z → FilledAlike (h s) g) → FilledAlike (and_then f h) g
   first_goes {f} {h} {g} {s} {z} c room like next =
-      subst (λ f. FilledAlike (and_then f h) g) (sym c.is) (next c.store (record { related = kept_rel R like.related c.kept (nothing_kept (in_second R) z); first = copied_room v f c.store c.is room; second = like.second }))
+      rw c.is (next c.store (record { related = kept_rel R like.related c.kept (nothing_kept (in_second R) z); first = copied_room v f c.store c.is room; second = like.second }))
 
   second_goes : {f : Filled} {h : Store → Filled} {g : Filled} {s z : Store} → Copies (in_second R) z g → HasRoom env w g.store → Stores s z → ((z : Store) → Stores s z → FilledAlike f (h z)) → FilledAlike f (and_then g h)
   second_goes {f} {h} {g} {s} {z} c room like next =
-      subst (λ g. FilledAlike f (and_then g h)) (sym c.is) (next c.store (record { related = kept_rel R like.related (nothing_kept (in_first R) s) c.kept; first = like.first; second = copied_room w g c.store c.is room }))
+      rw c.is (next c.store (record { related = kept_rel R like.related (nothing_kept (in_first R) s) c.kept; first = like.first; second = copied_room w g c.store c.is room }))
 
   -- ---- in order ----
 

@@ -1,5 +1,5 @@
 -- The environment's own entities, where each has its address in both worlds.
-use Rattle.std.proofs.Common.{◌≡◌, ℕ, suc, ◌+◌, ◌^◌, ◌<◌, ◌≤◌, List, [], ◌∷◌, map, length, Option, Some, None, Bool, true, false, cond, option_and_then, refl, sym, ap₂, subst, ◌∙◌, arith}
+use Rattle.std.proofs.Common.{◌≡◌, ℕ, suc, ◌+◌, ◌^◌, ◌<◌, ◌≤◌, List, [], ◌∷◌, map, length, Option, Some, None, Bool, true, false, cond, option_and_then, refl, sym, ap₂, ◌∙◌, arith}
 use Rattle.std.specs.Prelude.{nat_lt}
 use Rattle.wasm_tree.specs.declared.space.Space.TheVariants.{Functions}
 use Rattle.std.proofs.lemmas.List.{length-append}
@@ -50,9 +50,9 @@ module _ (R : Pairing) (env : Environment) (own : SharesOwn R env) where
       let tables : length (flat (λ o. one_if (λ t. TableKey o.pair) o.table) env) ≡ length (own_tables env) = flat_length _ _ (λ o. one_length _ _ o.table) env in
       let mems : length (flat (λ o. one_if (λ m. MemoryKey o.pair) o.memory) env) ≡ length (own_memories env) = flat_length _ _ (λ o. one_length _ _ o.memory) env in
       let globals : length (flat (λ o. one_if (λ g. GlobalKey o.pair) o.global) env) ≡ length (own_globals env) = flat_length _ _ (λ o. one_length _ _ o.global) env in
-      append_rel (addressed_rel FuncAt 0 _ (λ a l m. a_func (own.funcs a (omega (arith, m, funcs)))))
-      (append_rel (addressed_rel TableAt 0 _ (λ a l m. a_table (own.tables a (omega (arith, m, tables)))))
-      (append_rel (addressed_rel MemoryAt 0 _ (λ a l m. a_memory (own.mems a (omega (arith, m, mems))))) (addressed_rel GlobalAt 0 _ (λ a l m. a_global (own.globals a (omega (arith, m, globals)))))))
+      append_rel (addressed_rel FuncAt 0 _ (λ a l m. a_func (own.funcs a (omega arith))))
+      (append_rel (addressed_rel TableAt 0 _ (λ a l m. a_table (own.tables a (omega arith))))
+      (append_rel (addressed_rel MemoryAt 0 _ (λ a l m. a_memory (own.mems a (omega arith)))) (addressed_rel GlobalAt 0 _ (λ a l m. a_global (own.globals a (omega arith))))))
 
   either : (b : Bool) {x y : Thing} (o p : Option Thing) → ThingRel R x y → OptRel (ThingRel R) o p → OptRel (ThingRel R) (cond b (Some x) o) (cond b (Some y) p)
   either true o p x r = some x
@@ -61,7 +61,7 @@ module _ (R : Pairing) (env : Environment) (own : SharesOwn R env) where
   pub look_rel : (is : OwnKey → Bool) {xs ys : Owned} → ListRel (KeyRel R) xs ys → OptRel (ThingRel R) (look_up is xs) (look_up is ys)
   look_rel is nil = none
   look_rel is (cons {a = x} {b = y} {xs = xs} {ys = ys} p r) =
-      subst (λ k. OptRel (ThingRel R) (look_up is (x ∷ xs)) (cond (is k) (Some y.1) (look_up is ys))) p.key (either (is x.0) (look_up is xs) (look_up is ys) p.thing (look_rel is r))
+      rw (← p.key) (either (is x.0) (look_up is xs) (look_up is ys) p.thing (look_rel is r))
 
   -- ---- their values ----
 

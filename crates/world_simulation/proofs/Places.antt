@@ -1,6 +1,8 @@
 -- Lists by place, numbers in a row, and lists that are related place by place.
-use Rattle.std.proofs.Common.{◌≡◌, ℕ, zero, suc, ◌+◌, ◌<◌, ◌≤◌, List, [], ◌∷◌, map, length, Option, Some, None, Bool, true, refl, sym, ap, subst, arith, option_and_then, slice_get, slice_set}
-use Rattle.wasm_meaning.specs.World.{numbers, all_there}
+use Rattle.std.proofs.Common.{◌≡◌, ℕ, zero, suc, ◌+◌, ◌<◌, ◌≤◌, List, [], ◌∷◌, map, length, Option, Some, None, Bool, true, refl, sym, ap, arith, option_and_then, slice_get, slice_set, ◌∙◌}
+use Rattle.base_lists.proofs.Numbers.{length-numbers, numbers_at}
+use Rattle.std.proofs.lemmas.Option.{slice_get_within, same_Some}
+use Rattle.wasm_meaning.specs.World.{numbers, all_there, is_there}
 pub use Rattle.base_lists.proofs.Bools.{left_true, right_true}
 pub use Rattle.index_remap.proofs.Rel.{then_rel, then_rel_is}
 use Rattle.std.specs.List.{list_all}
@@ -21,6 +23,13 @@ pub some_then : {A B : Type 0} (o : Option A) (f : A → B) (b : B) → option_a
 some_then None f b h = cc
 some_then (Some a) f b h = (a, refl, cc)
 
+pub number_is : (from count n a : ℕ) → slice_get (numbers from count) n ≡ Some a → (n < count) × (a ≡ from + n)
+number_is from count n a h =
+    let l = slice_get_within (numbers from count) n a h in
+    let c = length-numbers from count in
+    let low : n < count = omega arith in
+    (low, same_Some _ _ (sym h ∙ numbers_at from count n low))
+
 -- ---- options ----
 
 pub then_same : {A C D : Type 0} {Q : C → D → Type 0} {f : A → Option C} {g : A → Option D} (o : Option A) → ((a : A) → o ≡ Some a → OptRel Q (f a) (g a)) → OptRel Q (option_and_then f o) (option_and_then g o)
@@ -33,7 +42,7 @@ then_eq none h = refl
 then_eq (some q) h = h _ _ q
 
 pub opt_self : {A : Type 0} {P : A → A → Type 0} {o : Option A} {a : A} → OptRel P o o → o ≡ Some a → P a a
-opt_self {P = P} {o = o} r e = go (subst (λ x. OptRel P x x) e r)
+opt_self {P = P} {o = o} r e = go (rw (← e) r)
   where
     go : {b : _} → OptRel P (Some b) (Some b) → P b b
     go (some p) = p
@@ -47,13 +56,27 @@ left_there none e = cc
 left_there (some {a = a} r) e = (a, refl)
 
 pub opt_both : {A B : Type 0} {P : A → B → Type 0} {o : Option A} {p : Option B} {a : A} {b : B} → OptRel P o p → o ≡ Some a → p ≡ Some b → P a b
-opt_both {B = B} {P = P} {p = p} {a = a} r e f = go (subst (λ y. OptRel P (Some a) y) f (subst (λ x. OptRel P x p) e r))
+opt_both {B = B} {P = P} {p = p} {a = a} r e f = go (rw (← f) (rw (← e) r))
   where
     go : {b : B} → OptRel P (Some a) (Some b) → P a b
     go (some p) = p
 
 pub opt_at : {A B : Type 0} {P : A → B → Type 0} {o p : Option A} {q r : Option B} → o ≡ p → q ≡ r → OptRel P p r → OptRel P o q
-opt_at {P = P} {o = o} {r = r} e f h = subst (λ y. OptRel P o y) (sym f) (subst (λ x. OptRel P x r) (sym e) h)
+opt_at {P = P} {o = o} {r = r} e f h = rw f (rw e h)
+
+-- both are there or neither, where each is there with the other
+pub both_or_none : {A B : Type 0} {P : A → B → Type 0} (o : Option A) (p : Option B) → ((a : A) (b : B) → o ≡ Some a → p ≡ Some b → P a b) → ((a : A) → o ≡ Some a → (b : B) × (p ≡ Some b)) → ((b : B) → p ≡ Some b → (a : A) × (o ≡ Some a)) → OptRel P o p
+both_or_none None None pair left right = none
+both_or_none (Some a) (Some b) pair left right = some (pair a b refl refl)
+both_or_none (Some a) None pair left right = absurd (let x = left a refl in let z = x.1 in cc)
+both_or_none None (Some b) pair left right = absurd (let x = right b refl in let z = x.1 in cc)
+
+-- both are there or neither
+pub alike_there : {A B : Type 0} {P : A → B → Type 0} (o : Option A) (p : Option B) → is_there o ≡ is_there p → ((a : A) (b : B) → o ≡ Some a → p ≡ Some b → P a b) → OptRel P o p
+alike_there None None e pair = none
+alike_there (Some a) (Some b) e pair = some (pair a b refl refl)
+alike_there None (Some b) e pair = cc
+alike_there (Some a) None e pair = cc
 
 -- ---- lists that are related ----
 

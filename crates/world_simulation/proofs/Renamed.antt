@@ -1,5 +1,5 @@
 -- A module's items with other indices, where each index of a set names what its entry names: exports, starts, functions, constant expressions, and the modes of segments.
-use Rattle.std.proofs.Common.{◌≡◌, ℕ, suc, List, [], ◌∷◌, map, Option, Some, None, refl, sym, subst, option_and_then, slice_get}
+use Rattle.std.proofs.Common.{◌≡◌, ℕ, suc, List, [], ◌∷◌, map, Option, Some, None, refl, option_and_then, slice_get}
 use Rattle.std.specs.Prelude.{slice_index, IsTrue, Bool}
 use Rattle.wasm_tree.specs.declared.space.Space.{Space}
 use Rattle.wasm_tree.specs.declared.space.Space.TheVariants.{Types, Functions, Tables, Memories, Globals, ElementSegments, DataSegments}
@@ -75,14 +75,14 @@ module _ (of : Space → ℕ → ℕ → Bool) (m : Remap) (kept : Indices) (i j
   module _ (value second_value : ConstExpr → Option Val) (consts : (e : ConstExpr) → ConstNamesOnly kept e → OptRel (ValRel R) (value e) (second_value (new_const m e))) where
     pub elem_mode_named : (x y : Task ElemSeg) → x.inst ≡ i → y.inst ≡ j → R.of ElementSegments x.address y.address → (mode : ElemMode) → ElemModeNamesOnly kept mode → ElemsPartner R value second_value x y mode (new_elem_mode m mode)
     elem_mode_named x y e f r (elem.Active t d) h =
-        segments.ElemsPartner.active r (subst (λ i. OptRel (R.of Tables) (slice_get i.tables t) (slice_get y.inst.tables (slice_index m.tables t))) (sym e) (subst (λ j. OptRel (R.of Tables) (slice_get i.tables t) (slice_get j.tables (slice_index m.tables t))) (sym f) (table_named t h.0)))
+        segments.ElemsPartner.active r (rw e (rw f (table_named t h.0)))
         (offset_same R (consts d h.1))
     elem_mode_named x y e f r elem.Passive h = segments.ElemsPartner.passive
     elem_mode_named x y e f r elem.Declarative h = segments.ElemsPartner.declarative
 
     pub data_mode_named : (x y : Task DataSeg) → x.inst ≡ i → y.inst ≡ j → R.of DataSegments x.address y.address → (mode : DataMode) → DataModeNamesOnly kept mode → DatasPartner R value second_value x y mode (new_data_mode m mode)
     data_mode_named x y e f r (data'.Active t d) h =
-        segments.DatasPartner.active r (subst (λ i. OptRel (R.of Memories) (slice_get i.mems t) (slice_get y.inst.mems (slice_index m.mems t))) (sym e) (subst (λ j. OptRel (R.of Memories) (slice_get i.mems t) (slice_get j.mems (slice_index m.mems t))) (sym f) (memory_named t h.0)))
+        segments.DatasPartner.active r (rw e (rw f (memory_named t h.0)))
         (offset_same R (consts d h.1))
     data_mode_named x y e f r data'.Passive h = segments.DatasPartner.passive
 

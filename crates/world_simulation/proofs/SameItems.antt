@@ -3,8 +3,7 @@
 use Rattle.std.proofs.Common.{◌≡◌, ℕ, suc, ◌+◌, ◌<◌, List, [], ◌∷◌, ◌++◌, map, length, Option, Some, None, Bool, true, ◌⊎◌, inl, inr, refl, sym, ap, ap₂, subst, ◌∙◌, arith, option_and_then, append-nil, ◌≤◌}
 use Rattle.std.specs.Prelude.{slice_get, slice_index, IsTrue}
 use Rattle.std.proofs.lemmas.List.{length-append}
-use Rattle.std.proofs.lemmas.Option.{slice_get_within}
-use Rattle.base_lists.proofs.Numbers.{length-numbers}
+use Rattle.std.proofs.lemmas.Option.{slice_get_within, same_Some}
 use Rattle.base_lists.proofs.Options.{and_then_is, all_there_at}
 use Rattle.base_lists.proofs.Places.{map_from, append_from}
 use Rattle.wasm_tree.specs.declared.space.Space.{Space}
@@ -21,7 +20,7 @@ use Rattle.wasm_meaning.specs.State.{Inst, Text, Func, Global, Elem, Store, Val}
 use Rattle.index_remap.specs.declared.remap.Remap.{Remap}
 use Rattle.remap_typing.specs.Indices.{Indices, ExportNamesOnly, ConstNamesOnly, TreeNamesOnly}
 use Rattle.world_simulation.specs.Segments.{InOrder, both, ends, only_second, ElemsPartner, ElemAlone, DatasPartner, DataAlone, ElemsInOrder, DatasInOrder}
-use Rattle.world_simulation.proofs.Holes.{in_step, Down, Moved, stays, space_moves, stays_at}
+use Rattle.world_simulation.proofs.Holes.{Down, Moved, stays, space_moves, stays_at, all_in_step}
 use Rattle.wasm_tree.specs.declared.module.GlobalDef.{GlobalDef}
 use Rattle.wasm_meaning.specs.Linking.{Entity, imports_of}
 use Rattle.wasm_meaning.specs.World as world
@@ -44,7 +43,7 @@ use Rattle.world_simulation.specs.Alone.{one, addresses, read_in, read_place}
 use Rattle.world_simulation.specs.Owned.{SharesOwn}
 use Rattle.world_simulation.specs.Named.{EntriesName}
 use Rattle.world_simulation.proofs.Declared.{last_segments}
-use Rattle.world_simulation.proofs.Instancing.{IsInst}
+use Rattle.world_simulation.proofs.Instancing.{IsInst, is_space}
 use Rattle.world_simulation.proofs.Owned.{null_rel, own_globals_rel}
 use Rattle.world_simulation.specs.Simulation.{IsInstantiated}
 use Rattle.wasm_tree.specs.declared.module.Func as tree
@@ -77,27 +76,24 @@ module _ (of : Space → ℕ → ℕ → Bool) (m : Remap) (kept : Indices) (t u
     space_rel k xs ys gap hx hy related within smaller equal x y h move =
         let sx = space_at R env own t k xs hx in
         let sy = space_at R env own u k ys hy in
-        let both : Some sy.imported ≡ Some sx.imported = sym sy.are ∙ ap₂ (λ ts is. addresses env ts is k) same.types same.imports ∙ sx.are in
-        let imported : sy.imported ≡ sx.imported = cc in
+        let imported = same_Some _ _ (sym sy.are ∙ ap₂ (λ ts is. addresses env ts is k) same.types same.imports ∙ sx.are) in
         let many = sx.many in
         opt_at (ap (λ l. slice_get l x) sx.all) (ap (λ l. slice_get l y) (sy.all ∙ ap (λ l. l ++ numbers (own_count k env) (defined_count k u)) imported))
-        (space_moves (R.of k) sx.imported (own_count k env) gap (defined_count k t) (defined_count k u) sx.shared within smaller equal related x y (omega (arith, h, many)) (subst (λ c. Moved (c + gap) x y) (sym many) move))
+        (space_moves (R.of k) sx.imported (own_count k env) gap (defined_count k t) (defined_count k u) sx.shared within smaller equal related x y (omega arith) (rw many move))
 
     -- a space of which nothing is removed
     pub plain_rel : (k : Space) (xs ys : List ℕ) (size : ℕ) → space env (one t) k 0 t ≡ Some xs → space env (one u) k 0 u ≡ Some ys → ((c d : ℕ) → Down (own_count k env + defined_count k t) (own_count k env + defined_count k t) c d → R.of k c d) → defined_count k u ≡ defined_count k t → size ≡ length (imports_of k t) + defined_count k t →
         (x : ℕ) → has (numbers 0 size) x ≡ true → OptRel (R.of k) (slice_get xs x) (slice_get ys (slice_index (numbers 0 size) x))
     plain_rel k xs ys size hx hy related counts size_is x h =
         let s = stays_at size x h in
-        let l = s.1 in
-        space_rel k xs ys (defined_count k t) hx hy related (omega arith) (λ c. absurd (omega (arith, c))) (λ e. omega (arith, counts)) x _ (omega (arith, l, size_is)) (stays (omega (arith, l, size_is)) (sym s.0))
+        space_rel k xs ys (defined_count k t) hx hy related (omega arith) (λ c. absurd (omega arith)) (λ e. omega arith) x _ (omega arith) (stays (omega arith) (sym s.0))
 
     pub segments_rel : (k : Space) (xs ys : List ℕ) (count fewer : ℕ) → xs ≡ numbers 0 count → ys ≡ numbers 0 fewer → count ≤ fewer → ((a b : ℕ) → Down (0 + count) (0 + count) a b → R.of k a b) →
         (x : ℕ) → has (numbers 0 count) x ≡ true → OptRel (R.of k) (slice_get xs x) (slice_get ys (slice_index (numbers 0 count) x))
     segments_rel k xs ys count fewer hx hy more related x h =
         let s = stays_at count x h in
-        let l = s.1 in
-        opt_at (ap (λ l. slice_get l x) hx) (ap (λ l. slice_get l (slice_index (numbers 0 count) x)) hy)
-        (space_moves (R.of k) [] 0 count count fewer nil (omega arith) (λ c. absurd (omega (arith, c))) (λ e. more) related x _ (omega (arith, l)) (stays (omega (arith, l)) (sym s.0)))
+        opt_at (rw hx refl) (rw hy refl)
+        (space_moves (R.of k) [] 0 count count fewer nil (omega arith) (λ c. absurd (omega arith)) (λ e. more) related x _ (omega arith) (stays (omega arith) (sym s.0)))
 
   module _ (i j : Inst) (a : IsInst env (one t) 0 t i) (b : IsInst env (one u) 0 u j) (names : EntriesName (passed of of []) m kept i j) where
     abbrev v : Instantiated
@@ -113,8 +109,7 @@ module _ (of : Space → ℕ → ℕ → Bool) (m : Remap) (kept : Indices) (t u
     same_globals =
         let sx = space_at R env own t Globals i.globals a.globals in
         let sy = space_at R env own u Globals j.globals b.globals in
-        let both : Some sy.imported ≡ Some sx.imported = sym sy.are ∙ ap₂ (λ ts is. addresses env ts is Globals) same.types same.imports ∙ sx.are in
-        let imported : sy.imported ≡ sx.imported = cc in
+        let imported = same_Some _ _ (sym sy.are ∙ ap₂ (λ ts is. addresses env ts is Globals) same.types same.imports ∙ sx.are) in
         sy.all ∙ ap₂ (λ l c. l ++ numbers (own_count Globals env) c) imported globals_many ∙ sym sx.all
 
     pub consts : (e : ConstExpr) → ConstNamesOnly kept e → OptRel (ValRel R) (values_in env v 0 e) (values_in env w 0 (new_const m e))
@@ -123,74 +118,44 @@ module _ (of : Space → ℕ → ℕ → Bool) (m : Remap) (kept : Indices) (t u
     consts (const.Null ty) h = some (reference (null_rel R ty))
     consts (const.Func f) h = then_rel (func_named of m kept i j names f h) (λ _ _ r. some (reference (func (some r))))
     consts (const.Global x) h =
-        opt_at (ap (option_and_then (value_of_read (own_globals env) (i ∷ []))) (read_is t (const.Global x)))
-        (ap (λ y. value_of env (one u) (j ∷ []) 0 (const.Global y)) (same.stays x h) ∙ ap (option_and_then (value_of_read (own_globals env) (j ∷ []))) (read_is u (const.Global x) ∙ ap (λ is. read_in is (const.Global x)) same.imports))
+        opt_at (rw (read_is t (const.Global x)) refl)
+        (rw (same.stays x h) (rw (read_is u (const.Global x) ∙ ap (λ is. read_in is (const.Global x)) same.imports) refl))
         (go (read_place t.imports x))
       where
         read : List ℕ → ℕ → Option Val
         read globals y = option_and_then (λ a. option_and_then (λ g. Some g.value) (slice_get (own_globals env) a)) (slice_get globals y)
 
         value : (y : ℕ) → OptRel (ValRel R) (read i.globals y) (read j.globals y)
-        value y = subst (λ l. OptRel (ValRel R) (read i.globals y) (read l y)) (sym same_globals) (then_same (slice_get i.globals y) (λ a _. then_rel (get_rel (own_globals_rel R env own) a) (λ _ _ g. some g.value)))
+        value y = rw same_globals (then_same (slice_get i.globals y) (λ a _. then_rel (get_rel (own_globals_rel R env own) a) (λ _ _ g. some g.value)))
 
         go : (o : Option ℕ) → OptRel (ValRel R) (option_and_then (value_of_read (own_globals env) (i ∷ [])) (option_and_then (λ y. Some (record { part = 0; expr = const.Global y })) o)) (option_and_then (value_of_read (own_globals env) (j ∷ [])) (option_and_then (λ y. Some (record { part = 0; expr = const.Global y })) o))
         go None = none
         go (Some y) = value y
 
-    abbrev ElemPartners : Task ElemSeg → Task ElemSeg → Type 0
-    ElemPartners x y = ElemsPartner R (values_in env v x.part) (values_in env w y.part) x y x.segment.mode y.segment.mode
-
-    abbrev FirstElem : Task ElemSeg → Type 0
-    FirstElem x = ElemAlone (HasNoPartner (turned R)) env v x x.segment.mode
-
-    abbrev SecondElem : Task ElemSeg → Type 0
-    SecondElem y = ElemAlone (HasNoPartner R) env w y y.segment.mode
-
-    abbrev DataPartners : Task DataSeg → Task DataSeg → Type 0
-    DataPartners x y = DatasPartner R (values_in env v x.part) (values_in env w y.part) x y x.segment.mode y.segment.mode
-
-    abbrev FirstData : Task DataSeg → Type 0
-    FirstData x = DataAlone (HasNoPartner (turned R)) env v x x.segment.mode
-
-    abbrev SecondData : Task DataSeg → Type 0
-    SecondData y = DataAlone (HasNoPartner R) env w y y.segment.mode
-
     pub elems_in_order : ((x : ℕ) → x < length t.elems → R.of ElementSegments x x) → ElemsInOrder R env v w
     elems_in_order elem_shared =
-        subst (λ l. InOrder ElemPartners FirstElem SecondElem (elem_tasks 0 (one t) (i ∷ [])) l) (ap₂ (λ ns es. tasks_in 0 j ns es ++ []) (ap (λ c. numbers 0 c) size ∙ sym b.elems) (sym same.elems))
-        (subst (λ l. InOrder ElemPartners FirstElem SecondElem (tasks_in 0 i l t.elems ++ []) (tasks_in 0 j (numbers 0 (length t.elems + length (last_segments fs))) (map (new_elem m) t.elems ++ last_segments fs) ++ [])) (sym a.elems)
-        (in_step ElemPartners FirstElem SecondElem i j (new_elem m) (last_segments fs) 0 (length (last_segments fs)) t.elems (declared_alone fs)
-        (λ x e h. elem_mode_named of m kept i j names (values_in env v 0) (values_in env w 0) consts _ _ refl refl (elem_shared (0 + x) (let l = slice_get_within t.elems x e h in omega (arith, l))) e.mode (same.named.elem_modes x e h))))
+        all_in_step _ _ _ i j (new_elem m) (last_segments fs) t.elems u.elems i.elems j.elems a.elems b.elems same.elems (declared_alone fs)
+        (λ x e h. elem_mode_named of m kept i j names (values_in env v 0) (values_in env w 0) consts _ _ refl refl (elem_shared (0 + x) (let l = slice_get_within t.elems x e h in omega arith)) e.mode (same.named.elem_modes x e h))
       where
-        size : length t.elems + length (last_segments fs) ≡ length u.elems
-        size = let e = length-append (map (new_elem m) t.elems) (last_segments fs) in let c = map_length (new_elem m) t.elems in let d = ap length same.elems in omega (arith, e, c, d)
-
-        declared_alone : (fs : List ℕ) (ns : List ℕ) → InOrder ElemPartners FirstElem SecondElem [] (tasks_in 0 j ns (last_segments fs) ++ [])
+        declared_alone : (fs : List ℕ) (ns : List ℕ) →
+            InOrder (λ x y. ElemsPartner R (values_in env v x.part) (values_in env w y.part) x y x.segment.mode y.segment.mode) (λ x. ElemAlone (HasNoPartner (turned R)) env v x x.segment.mode) (λ y. ElemAlone (HasNoPartner R) env w y y.segment.mode) [] (tasks_in 0 j ns (last_segments fs) ++ [])
         declared_alone [] [] = ends
         declared_alone [] (n ∷ ns) = ends
         declared_alone (f ∷ fs) [] = ends
-        declared_alone (f ∷ fs) (n ∷ ns) = only_second order.ElemAlone.declarative (nothing ns)
-          where
-            nothing : (ns : List ℕ) → InOrder ElemPartners FirstElem SecondElem [] (tasks_in 0 j ns [] ++ [])
-            nothing [] = ends
-            nothing (n ∷ ns) = ends
+        declared_alone (f ∷ fs) (n ∷ []) = only_second order.ElemAlone.declarative ends
+        declared_alone (f ∷ fs) (n ∷ k ∷ ns) = only_second order.ElemAlone.declarative ends
 
     pub datas_in_order : ((x : ℕ) → x < length t.datas → R.of DataSegments x x) → DatasInOrder R env v w
     datas_in_order data_shared =
-        subst (λ l. InOrder DataPartners FirstData SecondData (data_tasks 0 (one t) (i ∷ [])) l) (ap₂ (λ ns ds. tasks_in 0 j ns ds ++ []) (ap (λ c. numbers 0 c) size ∙ sym b.datas) (append-nil _ ∙ sym same.datas))
-        (subst (λ l. InOrder DataPartners FirstData SecondData (tasks_in 0 i l t.datas ++ []) (tasks_in 0 j (numbers 0 (length t.datas + 0)) (map (new_data m) t.datas ++ []) ++ [])) (sym a.datas)
-        (in_step DataPartners FirstData SecondData i j (new_data m) [] 0 0 t.datas nothing
-        (λ x d h. data_mode_named of m kept i j names (values_in env v 0) (values_in env w 0) consts _ _ refl refl (data_shared (0 + x) (let l = slice_get_within t.datas x d h in omega (arith, l))) d.mode (same.named.data_modes x d h))))
+        all_in_step _ _ _ i j (new_data m) [] t.datas u.datas i.datas j.datas a.datas b.datas (same.datas ∙ sym (append-nil _)) (λ ns. nothing ns)
+        (λ x d h. data_mode_named of m kept i j names (values_in env v 0) (values_in env w 0) consts _ _ refl refl (data_shared (0 + x) (let l = slice_get_within t.datas x d h in omega arith)) d.mode (same.named.data_modes x d h))
       where
-        size : length t.datas + 0 ≡ length u.datas
-        size = let e = ap length same.datas in let c = map_length (new_data m) t.datas in omega (arith, e, c)
-
-        nothing : (ns : List ℕ) → InOrder DataPartners FirstData SecondData [] (tasks_in 0 j ns [] ++ [])
+        nothing : {P : Task DataSeg → Task DataSeg → Type 0} {F S : Task DataSeg → Type 0} (ns : List ℕ) → InOrder P F S [] (tasks_in 0 j ns [] ++ [])
         nothing [] = ends
         nothing (n ∷ ns) = ends
 
     pub view : ListRel (λ x y. OptRel (KeyRel R) (seen_as (i ∷ []) x) (seen_as (j ∷ []) y)) (alone t).view (alone u).view
-    view = subst (λ es. ListRel (λ x y. OptRel (KeyRel R) (seen_as (i ∷ []) x) (seen_as (j ∷ []) y)) (alone t).view (map seen es)) (sym same.exports) (each t.exports same.named.exports)
+    view = rw same.exports (each t.exports same.named.exports)
       where
         seen : Export → Text × Entity
         seen e = (e.name, record { part = 0; what = e.desc })
@@ -200,7 +165,7 @@ module _ (of : Space → ℕ → ℕ → Bool) (m : Remap) (kept : Indices) (t u
         each (e ∷ es) h = cons (then_rel (export_named of m kept i j names e.desc (h 0 e refl)) (λ _ _ r. some (record { key = refl; thing = r }))) (each es (λ x. h (suc x)))
 
     pub starts : ListRel (R.of Functions) (starts_of (one t) (i ∷ [])) (starts_of (one u) (j ∷ []))
-    starts = append_rel (subst (λ o. ListRel (R.of Functions) (start_in i t.start) (start_in j o)) (sym same.start) (start_named of m kept i j names t.start same.named.start)) nil
+    starts = append_rel (rw same.start (start_named of m kept i j names t.start same.named.start)) nil
 
     -- ---- what the second defines is allocated ----
 
@@ -224,24 +189,21 @@ module _ (of : Space → ℕ → ℕ → Bool) (m : Remap) (kept : Indices) (t u
 
       global_there : (y : ℕ) (g : GlobalDef) → slice_get u.globals y ≡ Some g → (x : Global) × (world.new_global env (one u) (j ∷ []) 0 g ≡ Some x)
       global_there y g h =
-          let d = map_from (new_global m) t.globals y g (ap (λ l. slice_get l y) (sym same.globals) ∙ h) in
+          let d = map_from (new_global m) t.globals y g (rw (← same.globals) h) in
           let r = all_there_at (world.new_global env (one t) (i ∷ []) 0) t.globals added.globals adds_t.globals y d.0 d.1 in
           let q = right_there (global_rel R (values_in env v 0) (values_in env w 0) {g = d.0} {h = new_global m d.0} (record { type = refl; init = consts d.0.init (same.named.globals y d.0 d.1) })) r.1 in
           (q.0, ap (world.new_global env (one u) (j ∷ []) 0) (sym d.2) ∙ q.1)
 
       func_space : length j.funcs ≡ length (funcs_of u)
       func_space =
-          let sy = space_at R env own u Functions j.funcs b.funcs in
-          let l = ap length sy.all ∙ length-append sy.imported _ in
-          let c = length-numbers (own_count Functions env) (length u.funcs) in
-          let d = sy.many in
+          let s = (is_space env (one u) Functions 0 u j.funcs b.funcs).size in
           let e = funcs_counted u.imports 0 in
           let f = length-append (imported_funcs u.imports) (map (λ f. f.ty) u.funcs) in
           let g = map_length (λ f. f.ty) u.funcs in
-          omega (arith, l, c, d, e, f, g)
+          omega arith
 
       elem_there : (y : ℕ) (e : ElemSeg) → slice_get u.elems y ≡ Some e → (x : Elem) × (world.elem_of env (one u) (j ∷ []) 0 e ≡ Some x)
-      elem_there y e h = by (append_from (map (new_elem m) t.elems) (last_segments fs) y e (ap (λ l. slice_get l y) (sym same.elems) ∙ h))
+      elem_there y e h = by (append_from (map (new_elem m) t.elems) (last_segments fs) y e (rw (← same.elems) h))
         where
           by : (slice_get (map (new_elem m) t.elems) y ≡ Some e) ⊎ ((l : ℕ) × (y ≡ length (map (new_elem m) t.elems) + l) × (slice_get (last_segments fs) l ≡ Some e)) → (x : Elem) × (world.elem_of env (one u) (j ∷ []) 0 e ≡ Some x)
           by (inl g) =
@@ -264,6 +226,6 @@ module _ (of : Space → ℕ → ℕ → Bool) (m : Remap) (kept : Indices) (t u
         let p = and_then_is (part_store env (one t) (i ∷ []) 0 t i) _ x.allocated first in
         let q = store_there from last p.0 p.1 in
         let z = joined_stores (own_store env) q.0 in
-        let second : stores_from env (one u) (j ∷ []) (own_store env) 0 (one u) (j ∷ []) ≡ Some z = ap (λ o. option_and_then (λ s. Some (joined_stores (own_store env) s)) o) q.1 in
+        let second : stores_from env (one u) (j ∷ []) (own_store env) 0 (one u) (j ∷ []) ≡ Some z = rw q.1 refl in
         let seen = right_there (all_rel view) (ap (λ is. all_there (seen_as is) (alone t).view) (sym is) ∙ x.is_view) in
         made_there env u (j ∷ []) z seen.0 there second seen.1 (sym (all_matched R env own x.allocated z (stores_rel R env v w own definitions x.allocated z first second) t u same.types same.imports) ∙ x.matched)

@@ -1,5 +1,5 @@
 -- Two worlds that correspond are instantiated to what is related.
-use Rattle.std.proofs.Common.{◌≡◌, ℕ, ◌*◌, ◌≤◌, List, length, Option, Some, None, Bool, true, false, cond, refl, ap, subst, arith, option_and_then}
+use Rattle.std.proofs.Common.{◌≡◌, ℕ, ◌*◌, ◌≤◌, List, length, Option, Some, None, Bool, true, false, cond, refl, ap, arith, option_and_then}
 use Rattle.base_lists.proofs.Options.{and_then_is, all_there_length}
 use Rattle.wasm_tree.specs.declared.space.Space.TheVariants.{Functions}
 use Rattle.wasm_meaning.specs.State.{Elem, Store, RefVal, Val}
@@ -10,13 +10,13 @@ use Rattle.wasm_tree.specs.declared.module.ConstExpr.{ConstExpr}
 use Rattle.wasm_meaning.specs.Values.{ref_of, null_of}
 use Rattle.wasm_meaning.specs.Linking.{sites}
 use Rattle.wasm_meaning.specs.Environment.{Environment, all_of}
-use Rattle.wasm_meaning.specs.World.{World, Begun, insts_from, stores_from, own_store, all_there, seen_as, is_matched, new_elem, elem_with, segments, starts_of, begun, instantiate, is_there, links}
-use Rattle.index_remap.specs.Related.{Pairing, OneToOne, OptRel, none, some, ListRel, nil, cons, opening}
+use Rattle.wasm_meaning.specs.World.{World, Begun, insts_from, stores_from, own_store, all_there, seen_as, is_matched, new_elem, elem_with, segments, starts_of, begun, instantiate, links}
+use Rattle.index_remap.specs.Related.{Pairing, OneToOne, OptRel, ListRel, nil, cons, opening}
 use Rattle.index_remap.specs.RelatedRuns.{BegunRel}
 use Rattle.index_remap.specs.Laws.{EntryByEntry}
 use Rattle.world_simulation.specs.Definitions.{Instantiated, values_in}
 use Rattle.world_simulation.specs.Simulation.{IsInstantiated, in_world, WorldsCorrespond, AreSimilar, StartAlike, BegunAlike}
-use Rattle.world_simulation.proofs.Places.{all_rel, opt_both}
+use Rattle.world_simulation.proofs.Places.{all_rel, opt_both, alike_there}
 use Rattle.world_simulation.proofs.Owned.{owned_rel}
 use Rattle.world_simulation.proofs.Stored.{table_placed, memory_placed, elem_placed, data_placed, stores_rel}
 use Rattle.world_simulation.proofs.Copied.{HasRoom}
@@ -43,19 +43,18 @@ elem_few : (value : ConstExpr → Option Val) (d : ElemSeg) (e : Elem) → elem_
 elem_few value d e h =
     let i = and_then_is (all_there (λ x. option_and_then ref_of (value x)) d.items) _ e h in
     let many = all_there_length (λ x. option_and_then ref_of (value x)) d.items i.0 i.1 in
-    let last = i.2 in
     let same : new_elem d.mode i.0 ≡ e = cc in
-    subst (λ (e : Elem). length e.items ≤ length d.items) same (few d.mode i.0 many)
+    rw (← same) (few d.mode i.0 many)
   where
     few : (mode : ElemMode) (xs : List RefVal) → length xs ≡ length d.items → length (new_elem mode xs).items ≤ length d.items
-    few (elem.Active x offset) xs n = omega (arith, n)
-    few elem.Passive xs n = omega (arith, n)
+    few (elem.Active x offset) xs n = omega arith
+    few elem.Passive xs n = omega arith
     few elem.Declarative xs n = omega arith
 
 pub allocated_room : (env : Environment) (w : Instantiated) (s : Store) → stores_from env w.parts w.insts (own_store env) 0 w.parts w.insts ≡ Some s → HasRoom env w s
 allocated_room env w s made = record {
-  tables = λ a d. (_, table_placed env w s made d, let n = copies_length d.definition.limits.min (null_of d.definition.ty) in omega (arith, n));
-  mems = λ a d. (_, memory_placed env w s made d, let n = copies_length {A = ℕ} (65536 * d.definition.min) 0 in omega (arith, n));
+  tables = λ a d. (_, table_placed env w s made d, let n = copies_length d.definition.limits.min (null_of d.definition.ty) in omega arith);
+  mems = λ a d. (_, memory_placed env w s made d, let n = copies_length {A = ℕ} (65536 * d.definition.min) 0 in omega arith);
   elems = λ a d. let x = elem_placed env w s made d in (x.0, x.1, elem_few (values_in env w d.part) d.definition x.0 x.2);
   datas = λ a d. (_, data_placed env w s made d, omega arith);
 }
@@ -93,7 +92,7 @@ module _ (R : Pairing) (apart : OneToOne R) (env : Environment) (v w : World) (s
   begin_alike b c f g =
       let x = what_is_made env v b f in
       let y = what_is_made env w c g in
-      subst (λ c. BegunAlike R b c) y.is (subst (λ b. BegunAlike R b (begun env w y.insts y.view (segments env w.parts y.insts y.allocated))) x.is (begun_alike b c x y))
+      rw (← y.is) (rw (← x.is) (begun_alike b c x y))
 
   begun_rel : StartAlike R env v w → (b c : Begun) → instantiate env v ≡ Some b → instantiate env w ≡ Some c → BegunRel R (EntryByEntry R) b c
   begun_rel starts b c f g =
@@ -102,15 +101,9 @@ module _ (R : Pairing) (apart : OneToOne R) (env : Environment) (v w : World) (s
       let k = begin_alike b c f g in
       let first : starts_of v.parts x.insts ≡ b.starts = ap (λ (b : Begun). b.starts) x.is in
       let second : starts_of w.parts y.insts ≡ c.starts = ap (λ (c : Begun). c.starts) y.is in
-      let related : ListRel (R.of Functions) b.starts c.starts = subst (λ l. ListRel (R.of Functions) b.starts l) second (subst (λ l. ListRel (R.of Functions) l (starts_of w.parts y.insts)) first (starts x.insts y.insts x.are_insts y.are_insts)) in
+      let related : ListRel (R.of Functions) b.starts c.starts = rw (← second) (rw (← first) (starts x.insts y.insts x.are_insts y.are_insts)) in
       record { store = k.store; entries = cons (opening related) nil; closed = nil; trapped = k.trapped; view = k.view; owned = k.owned }
 
   -- both or neither
   pub instances_rel : StartAlike R env v w → links env v ≡ links env w → OptRel (BegunRel R (EntryByEntry R)) (instantiate env v) (instantiate env w)
-  instances_rel starts linked = go (instantiate env v) (instantiate env w) refl refl linked
-    where
-      go : (o p : Option Begun) → instantiate env v ≡ o → instantiate env w ≡ p → is_there o ≡ is_there p → OptRel (BegunRel R (EntryByEntry R)) o p
-      go None None f g e = none
-      go (Some b) (Some c) f g e = some (begun_rel starts b c f g)
-      go None (Some c) f g e = cc
-      go (Some b) None f g e = cc
+  instances_rel starts linked = alike_there _ _ linked (begun_rel starts)

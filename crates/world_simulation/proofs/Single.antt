@@ -1,5 +1,5 @@
 -- Worlds of one module each: their instances, what their imports stand for, whether these match, and that they are linked.
-use Rattle.std.proofs.Common.{◌≡◌, ℕ, zero, suc, List, [], ◌∷◌, ◌++◌, length, Option, Some, None, cond, Bool, true, false, refl, sym, ap, ap₂, ◌∙◌, option_and_then, slice_get, unwrap_or, ◌&&◌}
+use Rattle.std.proofs.Common.{◌≡◌, ℕ, zero, suc, List, [], ◌∷◌, ◌++◌, length, Option, Some, None, true, false, refl, sym, ap, ap₂, ◌∙◌, option_and_then, slice_get, unwrap_or, ◌&&◌}
 use Rattle.base_lists.proofs.Options.{and_then_is, all_there_length}
 use Rattle.wasm_tree.specs.declared.space.Space.{Space}
 use Rattle.wasm_tree.specs.declared.space.Space.TheVariants.{Functions, Tables, Memories, Globals}
@@ -51,7 +51,6 @@ module _ (R : Pairing) (env : Environment) (own : SharesOwn R env) where
   pub space_at : (t : Module) (k : Space) (xs : List ℕ) → space env (one t) k 0 t ≡ Some xs → SpaceAt t k xs
   space_at t k xs h =
       let x = and_then_is (addresses env t.types t.imports k) _ xs (sym (space_is env t k) ∙ h) in
-      let q = x.2 in
       let same : x.0 ++ numbers (own_count k env) (defined_count k t) ≡ xs = cc in
       record { imported = x.0; are = x.1; many = all_there_length _ (import_places k t.imports) x.0 x.1; all = sym same; shared = opt_self (addresses_rel t.types t.imports k) x.1 }
 
@@ -83,13 +82,12 @@ module _ (R : Pairing) (env : Environment) (own : SharesOwn R env) where
       where
         each : (count n : ℕ) → all_of (is_matched env (one t) s) (linking.sites_in 0 count n ++ []) ≡ all_of (is_matched env (one u) z) (linking.sites_in 0 count n ++ [])
         each zero n = refl
-        each (suc count) n = ap₂ (λ a b. a && b) (matched_same n) (each count (suc n))
+        each (suc count) n = rw (matched_same n, each count (suc n)) refl
 
 -- the one instance of a module alone
 pub one_inst : (env : Environment) (t : Module) (is : List Inst) → insts_from env (one t) 0 (one t) ≡ Some is → (i : Inst) × (is ≡ i ∷ []) × IsInst env (one t) 0 t i
 one_inst env t is h =
     let i = and_then_is (world.inst_of env (one t) 0 t) _ is h in
-    let q = i.2 in
     let same : i.0 ∷ [] ≡ is = cc in
     (i.0, sym same, inst_is env (one t) 0 t i.0 i.1)
 
@@ -99,8 +97,4 @@ there_is (Some x) h = (x, refl)
 
 pub made_there : (env : Environment) (t : Module) (is : List Inst) (s : Store) (view : List (Text × Thing)) → insts_from env (one t) 0 (one t) ≡ Some is → stores_from env (one t) is (own_store env) 0 (one t) is ≡ Some s → all_there (seen_as is) (alone t).view ≡ Some view →
     all_of (is_matched env (one t) s) (sites (one t)) ≡ true → links env (alone t) ≡ true
-made_there env t is s view e f g h =
-    let matched : List Inst → List (Text × Thing) → Store → Bool → Option Begun = λ is view s b. cond b (Some (begun env (alone t) is view (segments env (one t) is s))) None in
-    ap is_there (ap (λ o. option_and_then (λ is. option_and_then (λ s. option_and_then (λ view. matched is view s (all_of (is_matched env (one t) s) (sites (one t)))) (all_there (seen_as is) (alone t).view)) (stores_from env (one t) is (own_store env) 0 (one t) is)) o) e
-    ∙ ap (λ o. option_and_then (λ s. option_and_then (λ view. matched is view s (all_of (is_matched env (one t) s) (sites (one t)))) (all_there (seen_as is) (alone t).view)) o) f
-    ∙ ap₂ (λ o b. option_and_then (λ view. matched is view s b) o) g h)
+made_there env t is s view e f g h = rw (e, f, g, h) refl

@@ -1,5 +1,5 @@
 -- Starts one after the other, and one start that calls them.
-use Rattle.std.proofs.Common.{◌≡◌, ℕ, ◌+◌, List, [], ◌∷◌, ◌++◌, Some, None, Bool, true, false, cond, map, refl, sym, ap, subst, arith, slice_get, Option, option_and_then}
+use Rattle.std.proofs.Common.{◌≡◌, ℕ, ◌+◌, List, [], ◌∷◌, ◌++◌, Some, None, Bool, true, false, cond, map, refl, ap, subst, arith, slice_get, Option, option_and_then}
 use Rattle.wasm_tree.specs.declared.instr.Instr.{out-Instr}
 use Rattle.wasm_tree.specs.declared.instr.Instr.TheVariants as i
 use Rattle.wasm_meaning.specs.Outcomes.{Gives}
@@ -34,7 +34,7 @@ calls_low j ns = record { gives = λ s. refl; traps = refl }
 -- the same functions are named, whatever else is in the store
 still_named : {s t : Store} {j : Inst} {ns xs : List ℕ} → t.funcs ≡ s.funcs → ListRel (NamesStart s j) ns xs → ListRel (NamesStart t j) ns xs
 still_named e nil = nil
-still_named {s = s} {t = t} e (cons {a = n} {b = a} x l) = cons (record { named = x.named; typed = subst (λ fs. option_and_then (λ f. Some (type_of_func f)) (slice_get fs a) ≡ Some from_nothing_to_nothing) (sym e) x.typed }) (still_named e l)
+still_named {s = s} {t = t} e (cons {a = n} {b = a} x l) = cons (record { named = x.named; typed = rw e x.typed }) (still_named e l)
 
 -- Runs with the starts one after the other, and with the one start; the second has so many steps left to make alone.
 data Alike : (d e : ℕ) → Run → Run → Type 0 where
@@ -89,8 +89,8 @@ called_is r ns j n a f m h e = rw (m, h, e) refl
 
 entered : (r : Run) (es fs : List Entry) (f : Func) (xs ns : List ℕ) (j : Inst) → type_of_func f ≡ from_nothing_to_nothing →
     Unseen (openings xs) (calls j ns) r.phase r.phase r.store.funcs (after (record r { entries = es }) (Gives (enter r.store f [] (openings xs)))) (after (record r { entries = fs }) (Gives (enter r.store f [] (calls j ns))))
-entered r es fs (Code t c ls is) xs ns j e = goes_on r (_ ∷ []) refl (a_frame (ap (λ u. u.results) e))
-entered r es fs (Own pair t) xs ns j e = goes_on r (Waiting t.results ∷ []) refl (subst (λ ts. GivesNothing (Waiting ts ∷ [])) (sym (ap (λ u. u.results) e)) a_call)
+entered r es fs (Code t c ls is) xs ns j e = goes_on r (_ ∷ []) refl (a_frame (rw e refl))
+entered r es fs (Own pair t) xs ns j e = goes_on r (Waiting t.results ∷ []) refl (rw (ap (λ u. u.results) e) a_call)
 entered r es fs (Placeholder n t) xs ns j e = trapped r
 
 unseen : {e : ℕ} {s : Store} {phase : Phase} {o p : Out} (xs ns : List ℕ) (j : Inst) → ListRel (NamesStart s j) ns xs → Unseen (openings xs) (calls j ns) phase phase s.funcs o p → Agree 1 e o p
@@ -109,7 +109,7 @@ module _ (below : BelowIsNotSeen) where
   next : (d e : ℕ) (r q : Run) → Alike d e r q → Leads tick tick Alike d e r q
   next d e r q (the_same x) = both refl (the_same _)
   next d e r q (fresh env b a moves c) = agreed (begun env b a moves c)
-  next d e r q (unopened x xs a c) = second (ap (λ o. o.1) (one_opened x xs a c)) (subst (λ y. Alike 1 e (record x { entries = openings xs }) y) (sym (ap (λ o. o.0) (one_opened x xs a c))) (between x xs c.calls c.inst c.each))
+  next d e r q (unopened x xs a c) = second (ap (λ o. o.1) (one_opened x xs a c)) (rw (ap (λ o. o.0) (one_opened x xs a c)) (between x xs c.calls c.inst c.each))
   next d e r q (between x xs ns j nil) = second refl (the_same _)
   next d e r q (between x xs ns j (cons {a = n} {b = a} {xs = ms} {ys = ys} y l)) = agreed (opens x ys ms j n a y l)
   next d e r q (inside x es xs ns j g l) = agreed (unseen xs ns j l (below (openings xs) (calls j ns) es x.phase x.phase x (openings_low xs) (calls_low j ns) g))

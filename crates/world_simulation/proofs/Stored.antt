@@ -1,9 +1,9 @@
 -- What stands at the addresses of allocated stores; stores of which the definitions correspond are related.
-use Rattle.std.proofs.Common.{◌≡◌, ℕ, ◌<◌, List, [], length, Option, Some, Bool, true, false, refl, sym, ap, subst, ◌∙◌, option_and_then, slice_get}
+use Rattle.std.proofs.Common.{◌≡◌, ◌+◌, arith, ℕ, ◌<◌, List, [], length, Option, Some, Bool, true, false, refl, sym, ap, subst, ◌∙◌, option_and_then, slice_get}
 use Rattle.wasm_tree.specs.declared.space.Space.{Space}
 use Rattle.wasm_tree.specs.declared.space.Space.TheVariants.{Functions, Tables, Memories, Globals, ElementSegments, DataSegments}
 use Rattle.std.proofs.lemmas.Option.{same_Some}
-use Rattle.base_lists.proofs.Options.{all_there_at, all_there_length, and_then_is}
+use Rattle.base_lists.proofs.Options.{all_there_at, and_then_is}
 use Rattle.base_lists.proofs.Places.{slice_get_there, map_at}
 use Rattle.wasm_tree.specs.declared.types.FuncType.{FuncType}
 use Rattle.wasm_tree.specs.declared.module.ConstExpr.{ConstExpr}
@@ -19,65 +19,59 @@ use Rattle.wasm_meaning.specs.Values as values
 use Rattle.wasm_meaning.specs.Control.{type_of_func, own_of}
 use Rattle.wasm_meaning.specs.Environment.{Environment, own_funcs, own_tables, own_memories, own_globals}
 use Rattle.wasm_meaning.specs.Step.{no_items}
-use Rattle.wasm_meaning.specs.World.{all_there, own_count, new_func, new_global, global_with, new_elem, elem_with, elem_of, own_store, stores_from}
+use Rattle.wasm_meaning.specs.World.{all_there, defined_before, own_count, new_func, new_global, global_with, new_elem, elem_with, elem_of, own_store, stores_from}
 use Rattle.index_remap.specs.Related.{Pairing, OptRel, none, some, BothRel, both, ListRel, nil, RefRel, ValRel, number, reference, FuncRel, defined, own, TableRel, GlobalRel, ElemRel, StoreRel}
 use Rattle.index_remap.specs.Related as to
 use Rattle.index_remap.proofs.Rel.{copies_rel, get_rel}
 use Rattle.world_simulation.specs.Owned.{SharesOwn}
 use Rattle.world_simulation.specs.Definitions.{Instantiated, DefinedAt, values_in, FuncsCorrespond, FuncsAt, alike, set_apart, GlobalsCorrespond, is_declarative, ElemsCorrespond, declared, kept, Partners, DefinitionsCorrespond}
 use Rattle.world_simulation.specs.Definitions as partners
-use Rattle.world_simulation.proofs.Allocated.{new_table, new_memory, new_data, adds, keeps, funcs_stand, tables_stand, mems_stand, globals_stand, elems_stand, datas_stand}
+use Rattle.world_simulation.proofs.Allocated.{new_table, new_memory, new_data, Adds, Allocates, funcs_allocate, tables_allocate, mems_allocate, globals_allocate, elems_allocate, datas_allocate, keeps, stands}
 use Rattle.world_simulation.proofs.Owned.{null_rel, own_funcs_rel, own_tables_rel, own_globals_rel}
-use Rattle.world_simulation.proofs.Places.{map_length, then_rel, then_same, opt_both, self_rel, all_rel, both_at}
+use Rattle.world_simulation.proofs.Places.{then_rel, then_same, opt_both, self_rel, all_rel, both_at}
 
 -- ---- what stands at an address ----
 
 module _ (env : Environment) (w : Instantiated) (s : Store) (made : stores_from env w.parts w.insts (own_store env) 0 w.parts w.insts ≡ Some s) where
+  -- what the part of a definition adds, and where
+  stands_for : {k : Space} {A B : Type 0} {definitions : Module → List A} {get : Store → List B} (allocates : Allocates env w.parts w.insts k get) {a : ℕ} (d : DefinedAt env w k definitions a) → length (get (own_store env)) ≡ own_count k env →
+      (t : Store) × Adds env w.parts w.insts d.part d.of d.inst t × ((x : B) → slice_get (get t) d.place ≡ Some x → slice_get (get s) a ≡ Some x)
+  stands_for {k} {get = get} allocates {a} d size =
+      let r = stands env w.parts w.insts allocates 0 w.parts w.insts (own_store env) s made d.part d.of d.inst d.is_part d.is_inst in
+      let from_0 : 0 + d.part ≡ d.part = omega arith in
+      let at : a ≡ (length (get (own_store env)) + defined_before k w.parts d.part) + d.place = omega arith in
+      (r.added, subst (λ p. Adds env w.parts w.insts p d.of d.inst r.added) from_0 r.adds, λ x h. ap (slice_get (get s)) at ∙ r.at d.place x h)
+
   pub func_placed : {a : ℕ} (d : DefinedAt env w Functions (λ m. m.funcs) a) → (f : Func) × (slice_get s.funcs a ≡ Some f) × (new_func d.inst d.definition ≡ Some f)
   func_placed d =
-      let r = funcs_stand env w.parts w.insts s made d.part d.of d.inst d.is_part d.is_inst in
-      let x = all_there_at (new_func d.inst) d.of.funcs r.added.funcs (adds env w.parts w.insts d.part d.of d.inst r.added r.made).funcs d.place d.definition d.stands in
-      (x.0, ap (slice_get s.funcs) d.address ∙ r.at d.place x.0 x.2, x.1)
+      let r = stands_for (funcs_allocate env w.parts w.insts) d refl in
+      let x = all_there_at (new_func d.inst) d.of.funcs r.0.funcs r.1.funcs d.place d.definition d.stands in
+      (x.0, r.2 x.0 x.2, x.1)
 
   pub global_placed : {a : ℕ} (d : DefinedAt env w Globals (λ m. m.globals) a) → (g : Global) × (slice_get s.globals a ≡ Some g) × (new_global env w.parts w.insts d.part d.definition ≡ Some g)
   global_placed d =
-      let r = globals_stand env w.parts w.insts s made d.part d.of d.inst d.is_part d.is_inst in
-      let x = all_there_at (new_global env w.parts w.insts d.part) d.of.globals r.added.globals (adds env w.parts w.insts d.part d.of d.inst r.added r.made).globals d.place d.definition d.stands in
-      (x.0, ap (slice_get s.globals) d.address ∙ r.at d.place x.0 x.2, x.1)
+      let r = stands_for (globals_allocate env w.parts w.insts) d refl in
+      let x = all_there_at (new_global env w.parts w.insts d.part) d.of.globals r.0.globals r.1.globals d.place d.definition d.stands in
+      (x.0, r.2 x.0 x.2, x.1)
 
   pub elem_placed : {a : ℕ} (d : DefinedAt env w ElementSegments (λ m. m.elems) a) → (e : Elem) × (slice_get s.elems a ≡ Some e) × (elem_of env w.parts w.insts d.part d.definition ≡ Some e)
   elem_placed d =
-      let r = elems_stand env w.parts w.insts s made d.part d.of d.inst d.is_part d.is_inst in
-      let x = all_there_at (elem_of env w.parts w.insts d.part) d.of.elems r.added.elems (adds env w.parts w.insts d.part d.of d.inst r.added r.made).elems d.place d.definition d.stands in
-      (x.0, ap (slice_get s.elems) d.address ∙ r.at d.place x.0 x.2, x.1)
+      let r = stands_for (elems_allocate env w.parts w.insts) d refl in
+      let x = all_there_at (elem_of env w.parts w.insts d.part) d.of.elems r.0.elems r.1.elems d.place d.definition d.stands in
+      (x.0, r.2 x.0 x.2, x.1)
 
   pub table_placed : {a : ℕ} (d : DefinedAt env w Tables (λ m. m.tables) a) → slice_get s.tables a ≡ Some (new_table d.definition)
-  table_placed d =
-      let r = tables_stand env w.parts w.insts s made d.part d.of d.inst d.is_part d.is_inst in
-      ap (slice_get s.tables) d.address ∙ r.at d.place _ (ap (λ l. slice_get l d.place) (adds env w.parts w.insts d.part d.of d.inst r.added r.made).tables ∙ map_at new_table d.of.tables d.place d.definition d.stands)
+  table_placed d = let r = stands_for (tables_allocate env w.parts w.insts) d refl in r.2 _ (rw r.1.tables (map_at new_table d.of.tables d.place d.definition d.stands))
 
   pub memory_placed : {a : ℕ} (d : DefinedAt env w Memories (λ m. m.mems) a) → slice_get s.mems a ≡ Some (new_memory d.definition)
-  memory_placed d =
-      let r = mems_stand env w.parts w.insts s made d.part d.of d.inst d.is_part d.is_inst in
-      ap (slice_get s.mems) d.address ∙ r.at d.place _ (ap (λ l. slice_get l d.place) (adds env w.parts w.insts d.part d.of d.inst r.added r.made).mems ∙ map_at new_memory d.of.mems d.place d.definition d.stands)
+  memory_placed d = let r = stands_for (mems_allocate env w.parts w.insts) d refl in r.2 _ (rw r.1.mems (map_at new_memory d.of.mems d.place d.definition d.stands))
 
   pub data_placed : {a : ℕ} (d : DefinedAt env w DataSegments (λ m. m.datas) a) → slice_get s.datas a ≡ Some (new_data d.definition)
-  data_placed d =
-      let r = datas_stand env w.parts w.insts s made d.part d.of d.inst d.is_part d.is_inst in
-      ap (slice_get s.datas) d.address ∙ r.at d.place _ (ap (λ l. slice_get l d.place) (adds env w.parts w.insts d.part d.of d.inst r.added r.made).datas ∙ map_at new_data d.of.datas d.place d.definition d.stands)
+  data_placed d = let r = stands_for (datas_allocate env w.parts w.insts) d refl in r.2 _ (rw r.1.datas (map_at new_data d.of.datas d.place d.definition d.stands))
 
   -- what is the environment's own is as the environment has it
-  pub own_func_placed : (a : ℕ) (f : Func) → slice_get (own_funcs env) a ≡ Some f → slice_get s.funcs a ≡ Some f
-  own_func_placed = keeps env w.parts w.insts Functions (λ s. s.funcs) (λ s t. refl) (λ p m i t h. all_there_length (new_func i) m.funcs t.funcs (adds env w.parts w.insts p m i t h).funcs) 0 w.parts w.insts (own_store env) s made
-
-  pub own_table_placed : (a : ℕ) (t : _) → slice_get (own_tables env) a ≡ Some t → slice_get s.tables a ≡ Some t
-  own_table_placed = keeps env w.parts w.insts Tables (λ s. s.tables) (λ s t. refl) (λ p m i t h. ap length (adds env w.parts w.insts p m i t h).tables ∙ map_length new_table m.tables) 0 w.parts w.insts (own_store env) s made
-
-  pub own_memory_placed : (a : ℕ) (m : _) → slice_get (own_memories env) a ≡ Some m → slice_get s.mems a ≡ Some m
-  own_memory_placed = keeps env w.parts w.insts Memories (λ s. s.mems) (λ s t. refl) (λ p m i t h. ap length (adds env w.parts w.insts p m i t h).mems ∙ map_length new_memory m.mems) 0 w.parts w.insts (own_store env) s made
-
-  pub own_global_placed : (a : ℕ) (g : Global) → slice_get (own_globals env) a ≡ Some g → slice_get s.globals a ≡ Some g
-  own_global_placed = keeps env w.parts w.insts Globals (λ s. s.globals) (λ s t. refl) (λ p m i t h. all_there_length (new_global env w.parts w.insts p) m.globals t.globals (adds env w.parts w.insts p m i t h).globals) 0 w.parts w.insts (own_store env) s made
+  own_placed : {k : Space} {A : Type 0} {get : Store → List A} → Allocates env w.parts w.insts k get → (a : ℕ) (x : A) → slice_get (get (own_store env)) a ≡ Some x → slice_get (get s) a ≡ Some x
+  own_placed allocates = keeps env w.parts w.insts allocates 0 w.parts w.insts (own_store env) s made
 
 -- ---- what corresponds is related ----
 
@@ -191,11 +185,11 @@ module _ (R : Pairing) where
       types = λ {a} {b} r. type_is (heads a b r);
       owns = λ {a} {b} r. own_is (heads a b r);
       funcs = λ {a} {b} r free. funcs a b r free;
-      tables = λ {a} {b} r. stand Tables _ _ (own_tables env) s.tables z.tables refl (own_tables_rel R env shares) (own_table_placed env v s s_is) (own_table_placed env w z z_is)
+      tables = λ {a} {b} r. stand Tables _ _ (own_tables env) s.tables z.tables refl (own_tables_rel R env shares) (own_placed env v s s_is (tables_allocate env v.parts v.insts)) (own_placed env w z z_is (tables_allocate env w.parts w.insts))
           (λ a b d e c. (new_table d.definition, new_table e.definition, table_placed env v s s_is d, table_placed env w z z_is e, subst (λ t. TableRel R (new_table d.definition) (new_table t)) c (record { type = refl; most = refl; slots = copies_rel _ _ d.definition.limits.min (null_rel R d.definition.ty) }))) a b (defs.tables a b r);
-      mems = λ {a} {b} r. stand Memories _ _ (own_memories env) s.mems z.mems refl (self_rel (own_memories env) (λ x. refl)) (own_memory_placed env v s s_is) (own_memory_placed env w z z_is)
+      mems = λ {a} {b} r. stand Memories _ _ (own_memories env) s.mems z.mems refl (self_rel (own_memories env) (λ x. refl)) (own_placed env v s s_is (mems_allocate env v.parts v.insts)) (own_placed env w z z_is (mems_allocate env w.parts w.insts))
           (λ a b d e c. (new_memory d.definition, new_memory e.definition, memory_placed env v s s_is d, memory_placed env w z z_is e, ap new_memory c)) a b (defs.mems a b r);
-      globals = λ {a} {b} r. stand Globals _ _ (own_globals env) s.globals z.globals refl (own_globals_rel R env shares) (own_global_placed env v s s_is) (own_global_placed env w z z_is)
+      globals = λ {a} {b} r. stand Globals _ _ (own_globals env) s.globals z.globals refl (own_globals_rel R env shares) (own_placed env v s s_is (globals_allocate env v.parts v.insts)) (own_placed env w z z_is (globals_allocate env w.parts w.insts))
           (λ a b d e c. let x = global_placed env v s s_is d in let y = global_placed env w z z_is e in (x.0, y.0, x.1, y.1, opt_both (global_rel (values_in env v d.part) (values_in env w e.part) c) x.2 y.2)) a b (defs.globals a b r);
       elems = λ {a} {b} r. stand ElementSegments _ _ [] s.elems z.elems refl nil (λ a x h. cc) (λ a x h. cc)
           (λ a b d e c. let x = elem_placed env v s s_is d in let y = elem_placed env w z z_is e in (x.0, y.0, x.1, y.1, elem_both (values_in env v d.part) (values_in env w e.part) x.0 y.0 c x.2 y.2)) a b (defs.elems a b r);
@@ -204,9 +198,9 @@ module _ (R : Pairing) where
     }
       where
         heads : (a b : ℕ) → R.of Functions a b → BothRel SameHead (slice_get s.funcs a) (slice_get z.funcs b)
-        heads a b r = stand Functions _ _ (own_funcs env) s.funcs z.funcs refl (self_rel (own_funcs env) (λ f. (refl, refl))) (own_func_placed env v s s_is) (own_func_placed env w z z_is)
+        heads a b r = stand Functions _ _ (own_funcs env) s.funcs z.funcs refl (self_rel (own_funcs env) (λ f. (refl, refl))) (own_placed env v s s_is (funcs_allocate env v.parts v.insts)) (own_placed env w z z_is (funcs_allocate env w.parts w.insts))
             (λ c d x y k. let f = func_placed env v s s_is x in let g = func_placed env w z z_is y in (f.0, g.0, f.1, g.1, opt_both (head_rel k) f.2 g.2)) a b (defs.funcs a b r)
 
         funcs : (a b : ℕ) → R.of Functions a b → ¬ R.listed a → BothRel (FuncRel R) (slice_get s.funcs a) (slice_get z.funcs b)
-        funcs a b r free = stand Functions _ _ (own_funcs env) s.funcs z.funcs refl (own_funcs_rel R env) (own_func_placed env v s s_is) (own_func_placed env w z z_is)
+        funcs a b r free = stand Functions _ _ (own_funcs env) s.funcs z.funcs refl (own_funcs_rel R env) (own_placed env v s s_is (funcs_allocate env v.parts v.insts)) (own_placed env w z z_is (funcs_allocate env w.parts w.insts))
             (λ c d x y k. let f = func_placed env v s s_is x in let g = func_placed env w z z_is y in (f.0, g.0, f.1, g.1, opt_both (func_rel (not_apart free k)) f.2 g.2)) a b (defs.funcs a b r)
