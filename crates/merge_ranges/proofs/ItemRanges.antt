@@ -42,6 +42,7 @@ use Rattle.std.specs.List.{list_all}
 use Rattle.std.specs.Prelude.{IsTrue}
 use Rattle.wasm_tree.specs.declared.space.Operand.{Operand}
 use Rattle.wasm_tree.specs.MemoryZero.{is_memory_zero, memory_zero_all, memory_zero_funcs}
+use Rattle.base_lists.proofs.Each.{list_all_from}
 use Rattle.wasm_tree.proofs.OperandLaws.{passes_more}
 use Rattle.plain_law.specs.Ranges.{IsU32, small_operand, spelled_operand, all_numbers_in, MaxInRange, ConstInRange, ImportDescInRange, ImportInRange, ExportDescInRange, ExportInRange, ElemModeInRange, ElemInRange, DataModeInRange, FuncInRange, InRange}
 use Rattle.merge_ranges.proofs.Numbers.{ConstNumberInRange, ImportLimitsInRange, ImportNumbersInRange, FuncNumbersInRange, ElemOffsetInRange, ElemNumbersInRange, DataOffsetInRange, NumbersInRange}
@@ -52,10 +53,6 @@ abbrev pub ItemsHold : Module → Type 0
 ItemsHold m = (k : ItemKind) (i : ℕ) → i < count_of m true k → HoldsAt m k i
 
 -- what is so of each, at its place, is so of every one
-all_there : {A : Type 0} (p : A → Bool) (xs : List A) → ((i : ℕ) (x : A) → slice_get xs i ≡ Some x → p x ≡ true) → list_all p xs ≡ true
-all_there p [] f = refl
-all_there p (x ∷ xs) f = and_from (p x) (list_all p xs) (f 0 x refl) (all_there p xs (λ i y e. f (suc i) y e))
-
 pub every_from : {A : Type 0} (P Q : A → Type 0) (xs : List A) → Every P xs → ((i : ℕ) (x : A) → slice_get xs i ≡ Some x → P x → Q x) → Every Q xs
 every_from P Q [] h f = tt
 every_from P Q (x ∷ xs) h f = (f 0 x refl h.0, every_from P Q xs h.1 (λ i y e p. f (suc i) y e p))
@@ -221,4 +218,4 @@ module _
   }
 
   pub memory_zero : IsTrue (memory_zero_funcs m.funcs)
-  memory_zero = all_there (λ (f : Func). memory_zero_all f.body) m.funcs memory_in
+  memory_zero = list_all_from (λ (f : Func). memory_zero_all f.body) m.funcs memory_in

@@ -7,10 +7,7 @@ use Rattle.wasm_tree.specs.declared.module.Module.{Module}
 use Rattle.base_lists.specs.Every.{Every}
 use Rattle.wasm_meaning.specs.Linking.{Part, module_at}
 use Rattle.merge_terms.specs.Merged.{by_part_from}
-
-pub every_append : {A : Type 0} (P : A → Type 0) (xs ys : List A) → Every P xs → Every P ys → Every P (xs ++ ys)
-every_append P [] ys h k = k
-every_append P (x ∷ xs) ys h k = (h.0, every_append P xs ys h.1 k)
+use Rattle.merge_terms.proofs.FaultParts.{every_append}
 
 pub every_map : {A B : Type 0} (P : A → Type 0) (Q : B → Type 0) (f : A → B) → ((x : A) → P x → Q (f x)) → (xs : List A) → Every P xs → Every Q (map f xs)
 every_map P Q f keep [] h = tt

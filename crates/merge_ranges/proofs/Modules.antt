@@ -24,7 +24,8 @@ use Rattle.merge_terms.specs.Joined.{joined_module}
 use Rattle.plain_law.specs.Ranges.{LimitsInRange, ConstInRange, ExportInRange, ElemInRange, DataModeInRange, FuncInRange, InRange}
 use Rattle.merge_ranges.proofs.Numbers.{ConstNumberInRange, ImportLimitsInRange, ImportNumbersInRange, FuncNumbersInRange, ElemNumbersInRange, DataOffsetInRange, NumbersInRange}
 use Rattle.merge_ranges.proofs.Bodies.{NumbersStay, body_keeps, calls_in}
-use Rattle.merge_ranges.proofs.Lists.{every_append, every_map, every_some, every_by_part, every_flat}
+use Rattle.merge_terms.proofs.FaultParts.{every_append}
+use Rattle.merge_ranges.proofs.Lists.{every_map, every_some, every_by_part, every_flat}
 use Rattle.merge_ranges.proofs.Limits.{PartsInRange, import_in, met_limits_in}
 use Rattle.merge_ranges.proofs.Consts.{global_in, elem_in, data_in}
 use Rattle.merge_ranges.proofs.Names.{new_names_in, named_in}

@@ -27,7 +27,7 @@ first_is : {A : Type 0} (n : ℕ) (f : A → Option LinkFault) (P : A → Type 0
 first_is n f P told [] h = tt
 first_is n f P told (x ∷ xs) h = or_else_is n (f x) (first_fault f xs) (told x h.0) (first_is n f P told xs h.1)
 
-every_append : {A : Type 0} (P : A → Type 0) (xs ys : List A) → Every P xs → Every P ys → Every P (xs ++ ys)
+pub every_append : {A : Type 0} (P : A → Type 0) (xs ys : List A) → Every P xs → Every P ys → Every P (xs ++ ys)
 every_append P [] ys h k = k
 every_append P (x ∷ xs) ys h k = (h.0, every_append P xs ys h.1 k)
 

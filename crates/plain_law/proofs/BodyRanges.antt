@@ -66,7 +66,7 @@ const32_sound text t s = let k = is_small_32 s.0 (signed_in 32 text s.0 s.1) in 
 const64_sound : Sound const64
 const64_sound text t s = let k = is_small_64 s.0 (signed_in 64 text s.0 s.1) in let in_it : spellable (I64Const s.0) ≡ true = search (rules, the_lemmas, k) in subst Right (sym s.2) in_it
 
-labels_in : (xs : List ℕ) → Every IsU32 xs → list_all small xs ≡ true
+pub labels_in : (xs : List ℕ) → Every IsU32 xs → list_all small xs ≡ true
 labels_in [] h = refl
 labels_in (x ∷ xs) h = and_from (small x) (list_all small xs) (is_small x h.0) (labels_in xs h.1)
 

@@ -263,11 +263,11 @@ module _ {A E : Type 0} (P : List ℕ → A → Type 0) (S : ℕ → A → Type 
   each_complete (x ∷ xs) state text rest h k =
       rw (split _ _ text rest h, (exact state).complete h.0 (h.1 ++ rest) x h.2 k.0, each_complete xs (next state x) h.1 rest h.3 k.1)
 
-along_every : {A : Type 0} (S : A → Type 0) (xs : List A) → Along (λ s. S) (λ s x. 0) 0 xs → Every S xs
+pub along_every : {A : Type 0} (S : A → Type 0) (xs : List A) → Along (λ s. S) (λ s x. 0) 0 xs → Every S xs
 along_every S [] h = tt
 along_every S (x ∷ xs) h = (h.0, along_every S xs h.1)
 
-every_along : {A : Type 0} (S : A → Type 0) (xs : List A) → Every S xs → Along (λ s. S) (λ s x. 0) 0 xs
+pub every_along : {A : Type 0} (S : A → Type 0) (xs : List A) → Every S xs → Along (λ s. S) (λ s x. 0) 0 xs
 every_along S [] h = tt
 every_along S (x ∷ xs) h = (h.0, every_along S xs h.1)
 

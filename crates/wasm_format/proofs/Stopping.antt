@@ -15,7 +15,7 @@ use Rattle.wasm_format.specs.declared.fault.Fault.TheVariants.{Malformed, Unsupp
 use Rattle.wasm_format.specs.Words.{Any}
 use Rattle.wasm_format.specs.Stops.{Stop, NotSupported, Over, NoStop, AfterStops, ChosenStops, BothStops, WhenStops, EachStops, ListStops, CountedStops, VectorStops}
 use Rattle.wasm_format.specs.Reading.{Reader, or_malformed, u32_at, just_at, fault_at, pair_at, mapped_at, chosen_at, when_at, tag_at, tagged_at, closed_at, each_from, each_at, list_at, vector_at}
-use Rattle.wasm_format.proofs.Exact.{Exact, u32_exact, took_then, split, Along}
+use Rattle.wasm_format.proofs.Exact.{Exact, u32_exact, took_then, split, Along, along_every, every_along}
 
 pub bind_err : {A B E : Type 0} (r : Result A E) (f : A → Result B E) (e : E) → (r >>= f) ≡ Err e → (r ≡ Err e) ⊎ ((x : A) × (r ≡ Ok x) × (f x ≡ Err e))
 bind_err (Ok x) f e h = inr (x, refl, h)
@@ -201,14 +201,6 @@ module _ {A : Type 0} (P : List ℕ → A → Type 0) (S : ℕ → A → Type 0)
     found = λ bytes e small h. along_found n state bytes e small h;
     met = λ bytes s h. let t = h.3 in rw t.4 (along_met h.0 n state t.0 t.1 s h.1 h.2 t.2 t.3);
   }
-
-pub along_every : {A : Type 0} (S : A → Type 0) (xs : List A) → Along (λ s. S) (λ s x. 0) 0 xs → Every S xs
-along_every S [] h = tt
-along_every S (x ∷ xs) h = (h.0, along_every S xs h.1)
-
-pub every_along : {A : Type 0} (S : A → Type 0) (xs : List A) → Every S xs → Along (λ s. S) (λ s x. 0) 0 xs
-every_along S [] h = tt
-every_along S (x ∷ xs) h = (h.0, every_along S xs h.1)
 
 pub same_tells : {A : Type 0} {P : List ℕ → A → Type 0} {S : A → Type 0} {T : Stop → List ℕ → Type 0} {r : Reader A} → Exact P S r → Tells T r → (n : ℕ) → Tells (EachStops P S T n) (each_at r n)
 same_tells {A} {P} {S} {T} {r} exact a n = other_stops

@@ -8,7 +8,7 @@ use Rattle.wasm_typing.specs.Typing.{Stack, operands, Effect, Gives, Acts, Signa
 use Rattle.wasm_typing.specs.Tracking.{Instance, Concrete, StepsTo, Follows, pop_all, act, answer_of}
 use Rattle.wasm_typing.proofs.Pops.{pop_all-on, pop_all-back, padded}
 use Rattle.wasm_typing.proofs.Acts.{act-on, act-back}
-use Rattle.wasm_typing.proofs.Runs.{IsPlain, plain_arm}
+use Rattle.wasm_typing.proofs.Runs.{IsPlain, plain_arm, own_instance, own_concrete, nothing_below, nothing_kept}
 
 abbrev Relation : Type 1
 Relation = Stack → Stack → Type 0
@@ -34,24 +34,6 @@ plain_tracked c i xs o plain None h = ([], false, false, plain_arm c i xs o [] f
 plain_tracked c i xs o plain (Some r) h = (r.0, r.1, true, plain_arm c i xs o r.0 r.1 true plain h)
 
 -- ---- a body, by what its instructions lead to
-
-own_instance : (ts : List ValType) → Instance (map Some ts) false (map Some ts)
-own_instance [] = tt
-own_instance (t ∷ ts) = (refl, own_instance ts)
-
-own_concrete : (ts : List ValType) (s : Stack) → Concrete (map Some ts) false s → s ≡ map Some ts
-own_concrete [] [] k = refl
-own_concrete [] (y ∷ s) k = absurd k
-own_concrete (t ∷ ts) [] k = absurd k
-own_concrete (t ∷ ts) (y ∷ s) k = ap (λ z. z ∷ s) k.0 ∙ ap (λ z. Some t ∷ z) (own_concrete ts s k.1)
-
-nothing_below : (ys : Stack) (o : Bool) → Instance ys o [] → ys ≡ []
-nothing_below [] o i = refl
-nothing_below (y ∷ ys) o i = absurd i
-
-nothing_kept : (o : Bool) → Concrete [] o []
-nothing_kept false = tt
-nothing_kept true = tt
 
 abbrev Either : Type 0 → Type 0
 Either P = P ⊎ (P → ⊥)

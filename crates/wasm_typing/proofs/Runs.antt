@@ -99,11 +99,11 @@ pub record Rest (c : Context) (is : List Instr) (ps : List ValType) (xs : Stack)
   pub on : (t : Stack) → LeadsAll c is (operands ps) t → (s : Stack) × Instance xs o s × LeadsAll c rest s t
   pub back : (s t : Stack) → Concrete xs o s → LeadsAll c rest s t → LeadsAll c is (operands ps) t
 
-own_instance : (ts : List ValType) → Instance (map Some ts) false (map Some ts)
+pub own_instance : (ts : List ValType) → Instance (map Some ts) false (map Some ts)
 own_instance [] = tt
 own_instance (t ∷ ts) = (refl, own_instance ts)
 
-own_concrete : (ts : List ValType) (s : Stack) → Concrete (map Some ts) false s → s ≡ map Some ts
+pub own_concrete : (ts : List ValType) (s : Stack) → Concrete (map Some ts) false s → s ≡ map Some ts
 own_concrete [] [] k = refl
 own_concrete [] (y ∷ s) k = absurd k
 own_concrete (t ∷ ts) [] k = absurd k
@@ -135,7 +135,7 @@ rest_stop c is ps rs xs o n d lt r f (last, l, m) =
     let a = (subst (Rest c is ps xs o) (drop-cons is n d lt) r).on last l in f a.0 a.2.0 a.1 a.2.1
 
 -- the end of a body
-nothing_below : (ys : Stack) (o : Bool) → Instance ys o [] → ys ≡ []
+pub nothing_below : (ys : Stack) (o : Bool) → Instance ys o [] → ys ≡ []
 nothing_below [] o i = refl
 nothing_below (y ∷ ys) o i = absurd i
 
@@ -143,7 +143,7 @@ ends_on : (xs : Stack) (o : Bool) (s : Stack) (ts : List ValType) → Instance x
 ends_on xs o s ts i m =
     let p = pop_all-on xs o s [] ts (subst (Instance xs o) (sym (append-nil s)) i) m in p.1 ∙ ap Some (nothing_below p.0 o p.2)
 
-nothing_kept : (o : Bool) → Concrete [] o []
+pub nothing_kept : (o : Bool) → Concrete [] o []
 nothing_kept false = tt
 nothing_kept true = tt
 

@@ -13,6 +13,7 @@ use Rattle.wasm_tree.specs.Operands.{block_operands, held, operands_pass, all_op
 use Rattle.wasm_tree.proofs.OperandLaws.{block_passes, loop_passes, if_passes}
 use Rattle.plain_law.specs.Ranges.{small, IsU32, small_operand, small_numbers, numbers_in, all_numbers_in, in_range, all_in_range}
 use Rattle.plain_law.proofs.Inside.{numbers_inside}
+use Rattle.plain_law.proofs.BodyRanges.{labels_in}
 
 pub on_ok : {A E P Q : Type 0} (r : Result A E) → (P → Q) → OnOk r P → OnOk r Q
 on_ok (Ok a) f h = f h
@@ -45,12 +46,8 @@ if_in_range ty body other h g k =
     (numbers_inside (If ty body other) ∙ ap (λ l. small_numbers l && all_numbers_in (held l)) (outs-If ty body other)
     ∙ list_all-append numbers_in body other ∙ and_from (all_numbers_in body) (all_numbers_in other) (numbers_of_all body h) (numbers_of_all other g))
 
-all_small : (xs : List ℕ) → Every IsU32 xs → list_all small xs ≡ true
-all_small [] h = refl
-all_small (x ∷ xs) h = and_from (small x) (list_all small xs) (lt-ltb x (2 ^ 32) h.0) (all_small xs h.1)
-
 pub table_in_range : (labels : List ℕ) (last : ℕ) → IsU32 last → Every IsU32 labels → in_range (BrTable labels last) ≡ true
-table_in_range labels last h k = let s = and_from (list_all small labels) (small last) (all_small labels k) (lt-ltb last (2 ^ 32) h) in search (rules, the_lemmas, s)
+table_in_range labels last h k = let s = and_from (list_all small labels) (small last) (labels_in labels k) (lt-ltb last (2 ^ 32) h) in search (rules, the_lemmas, s)
 
 -- ---- and one more instruction in front of which there are others
 
