@@ -1,10 +1,15 @@
 -- Numbers in range and past it, computed, and modules that are in range and out of it.
-use Rattle.std.proofs.Common.{◌≡◌, refl, sym, ◌∙◌, List, [], ◌∷◌, Bool, true, false, None, arith}
+use Rattle.std.proofs.Common.{◌≡◌, ℕ, replicate, refl, sym, ◌∙◌, List, [], ◌∷◌, Bool, true, false, None, arith}
 use Rattle.std.specs.Prelude.{pos}
 use Rattle.wasm_tree.specs.declared.instr.Instr.{Instr, out-Instr, fold_out-Instr}
 use Rattle.wasm_tree.specs.declared.instr.Instr.TheVariants.{Br, I32Const, MemorySize}
 use Rattle.wasm_tree.specs.declared.module.Module.{Module}
 use Rattle.wasm_tree.specs.Operands.{all_pass_step}
+use Rattle.wasm_tree.specs.declared.types.ValType.{ValType}
+use Rattle.wasm_tree.specs.declared.types.ValType.TheVariants.{I32}
+use Rattle.wasm_plain.specs.PlainValues.{func_type_text, val_text, val_code}
+use Rattle.plain_law.specs.SmallSizes.{SmallSection, SmallSizes}
+use Rattle.plain_law.specs.TreeLimits.{WithinLimits}
 use Rattle.plain_law.specs.Ranges.{InRange, all_in_range, all_spellable, number_step, small_operand, spelled_operand}
 
 -- a module with a type of no parameters and no results, and a function of it
@@ -42,3 +47,41 @@ in_range = record { imports = tt; funcs = ((omega arith, (tt, greatest_numbers))
 
 out_of_range : InRange (with_body (Br 4294967296 ∷ [])) → true ≡ false
 out_of_range r = sym r.funcs.0.1.1 ∙ a_greater_label
+
+-- a module of this one type
+abbrev with_type : List ValType → Module
+with_type params = record { types = record { params = params; results = [] } ∷ []; imports = []; funcs = []; tables = []; mems = []; globals = []; exports = []; start = None; elems = []; datas = [] }
+
+abbrev ints : ℕ → List ValType
+ints n = replicate n I32
+
+short : {A : Type 0} (text : A → List ℕ) → SmallSection text []
+short text = record { items = omega arith; size = omega arith }
+
+-- its sizes are small, and it is within the limits with a thousand parameters, and not with one more
+small_sizes : SmallSizes (with_type (I32 ∷ []))
+unfolding func_type_text val_text val_code
+small_sizes = record {
+  types = record { items = omega arith; size = omega arith };
+  imports = short _;
+  func_types = short _;
+  tables = short _;
+  mems = short _;
+  globals = short _;
+  exports = short _;
+  elems = short _;
+  codes = short _;
+  datas = short _;
+  each_type = ((omega arith, omega arith), tt);
+  each_import = tt;
+  each_export = tt;
+  each_elem = tt;
+  each_func = tt;
+  each_data = tt;
+}
+
+within : WithinLimits (with_type (ints 1000))
+within = record { types = (omega arith, ((omega arith, omega arith), tt)); imports = omega arith; funcs = (omega arith, tt); tables = omega arith; mems = omega arith; globals = omega arith; exports = omega arith; elems = omega arith; datas = omega arith }
+
+a_parameter_too_many : WithinLimits (with_type (ints 1001)) → ⊥
+a_parameter_too_many w = omega (arith, w.types.1.0.0)

@@ -106,7 +106,7 @@ a_misspelled_block_too_many = refl
 
 -- ---- what is not supported, and what is misspelled
 
--- f32 as a parameter, and as a type of tables; f32.const, v128.const and f32.add, as an initialiser and in a body
+-- float and vector types as parameters, results, types of tables and of globals; constants of these as initialisers, offsets and items; an opcode that is none; an element flag past 7; an empty custom section
 abbrev other_types : List (List ℕ)
 other_types =
     (header ++ section 1 (0x01 ∷ 0x60 ∷ 0x01 ∷ 0x7D ∷ []))
@@ -182,7 +182,7 @@ a_memory_is_named = refl
 
 abbrev several : List (List ℕ)
 several =
-    -- a bad frame before a limit in an earlier section; a limit before a bad type in a later one
+    -- a bad frame before a limit in an earlier section; a limit before a count without its items in a later one
     (header ++ section 1 (0xC1 ∷ 0x84 ∷ 0x3D ∷ []) ++ 0x0D ∷ [])
     ∷ (header ++ section 1 (0xC1 ∷ 0x84 ∷ 0x3D ∷ []) ++ section 3 (0x01 ∷ []))
     -- a body before the size of the next entry; the size of the first entry before its body; a body before a rule on the whole file
@@ -193,7 +193,7 @@ several =
     ∷ (header ++ types ++ section 3 (0x02 ∷ 0x00 ∷ 0x00 ∷ []) ++ section 10 (0x02 ∷ 0x02 ∷ 0x00 ∷ 0x0B ∷ 0x7F ∷ []))
     ∷ (header ++ types ++ section 3 (0x02 ∷ 0x00 ∷ 0x00 ∷ []) ++ section 10 (0x02 ∷ 0x02 ∷ 0x00 ∷ 0x0B ∷ 0x02 ∷ 0x00 ∷ 0xFE ∷ []))
     ∷ (header ++ types ++ functions ++ section 10 (0x01 ∷ 0x02 ∷ 0x00 ∷ 0x0B ∷ 0x00 ∷ []))
-    -- custom sections are counted; an initialiser of two constants
+    -- custom sections are counted before a bad frame; an initialiser of two constants
     ∷ (header ++ section 0 (0x00 ∷ []) ++ section 0 (0x00 ∷ []) ++ 0x0D ∷ [])
     ∷ (header ++ section 6 (0x01 ∷ 0x7F ∷ 0x00 ∷ 0x41 ∷ 0x00 ∷ 0x41 ∷ 0x00 ∷ 0x0B ∷ []))
     -- the functions and the bodies; the data count

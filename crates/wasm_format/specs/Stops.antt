@@ -1,4 +1,4 @@
--- What bytes come to that are neither spelled nor malformed: the first bytes of a form that is known but not supported, or a quantity over its limit. All that stands
+-- What bytes come to that are neither spelled within the limits nor malformed: the first bytes of a form that is known but not supported, or a quantity over its limit. All that stands
 -- before is spelled and within the limits, and leaves the item open; what follows is not looked at.
 use Rattle.std.specs.Prelude.{◌≡◌, ℕ, suc, ◌+◌, ◌<◌, ◌≤◌, ◌⊎◌, List, ◌∷◌, ◌++◌, length, Bool, true, false, IsTrue, nat_le, ◌==◌, ◌&&◌, ◌||◌}
 use Rattle.base_lists.specs.Every.{Every}

@@ -1,5 +1,6 @@
 ghost use Rattle.std.specs.Prelude.{◌≡◌};
 ghost use Rattle.wasm_format.specs.declared.fault.Fault.TheVariants.{Malformed as Misspelled, NoMemory as OutOfMemory};
+ghost use Rattle.wasm_format.specs.declared.fault.ReadFault.TheVariants.{NoMemory as ReadOutOfMemory};
 
 use wasm_bytes::{NoMemory, Wrong};
 use wasm_tree::Which;
@@ -48,5 +49,13 @@ impl From<NoMemory> for Fault {
 
     fn from(_none: NoMemory) -> Fault {
         Fault::NoMemory
+    }
+}
+
+impl From<NoMemory> for ReadFault {
+    ghost from_gives = { λ _ e. e ≡ ReadOutOfMemory };
+
+    fn from(_none: NoMemory) -> ReadFault {
+        ReadFault::NoMemory
     }
 }

@@ -68,10 +68,7 @@ fn read_entries(
     let mut func = first;
     for _i in 0..count {
         let code = read_entry(alloc, cursor, many, section, func, pile)?;
-        match codes.keep(code) {
-            Ok(()) => (),
-            Err(_) => return Err(ReadFault::NoMemory),
-        }
+        codes.keep(code)?;
         func += 1;
     }
     Ok(codes)

@@ -1,4 +1,4 @@
--- The laws of what a spelling is spelled to, of a buffer and of a size.
+-- What holds of a text with others before it (a buffer) and of a count that stops at the greatest u64 (a size).
 use Rattle.std.proofs.Common.{◌≡◌, ap, ◌⊎◌, inl, inr, ℕ, ◌+◌, ◌-◌, ◌^◌, ◌<◌, ◌≤◌, List, ◌++◌, length, length-append, arith}
 use Rattle.std.proofs.lemmas.Bool.{cases_lt}
 use Rattle.wasm_write.specs.Sizes.{counted}

@@ -11,8 +11,8 @@ use Rattle.wasm_plain.specs.PlainValues.{func_type_text, import_text, table_text
 use Rattle.wasm_plain.specs.Plain.{list_section, start_section}
 
 -- the header, and the sections up to that of globals
-unfoldable pub types_text : Module → List ℕ
-types_text m = header
+unfoldable pub text_up_to_globals : Module → List ℕ
+text_up_to_globals m = header
     ++ list_section 1 func_type_text m.types
     ++ list_section 2 import_text m.imports
     ++ list_section 3 (λ f. u32_text f.ty) m.funcs
@@ -22,13 +22,13 @@ types_text m = header
 
 -- what stands before the data count and the code
 unfoldable pub text_before_code : Module → List ℕ
-text_before_code m = types_text m
+text_before_code m = text_up_to_globals m
     ++ list_section 7 export_text m.exports
     ++ start_section m.start
     ++ list_section 9 elem_text m.elems
 
 -- what those hold is in range
-pub record TypesInRange (m : Module) : Type 0 where
+pub record UpToGlobalsInRange (m : Module) : Type 0 where
   pub imports : Every ImportInRange m.imports
   pub funcs : Every TypeInRange m.funcs
   pub tables : Every (λ (t : TableType). LimitsInRange t.limits) m.tables
@@ -36,7 +36,7 @@ pub record TypesInRange (m : Module) : Type 0 where
   pub globals : Every (λ (g : GlobalDef). ConstInRange g.init) m.globals
 
 pub record BeforeCodeInRange (m : Module) : Type 0 where
-  pub types : TypesInRange m
+  pub types : UpToGlobalsInRange m
   pub exports : Every ExportInRange m.exports
   pub start : MaxInRange m.start
   pub elems : Every ElemInRange m.elems

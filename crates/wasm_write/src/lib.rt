@@ -30,9 +30,9 @@ use wasm_tree::Module;
 /// The plain spelling of the module (WebAssembly Core 2.0, section 5.5.16): no empty and no custom section, each number in
 /// its shortest spelling, and a data count exactly where a body has `memory.init` or `data.drop`.
 ///
-/// Where each vector and each encoded size is below 2^32, and no body names a memory but memory 0, it spells the module; a greater size has
-/// no spelling. Where besides the module's counts, its nesting and its locals are within the limits, so are the bytes: `read` gives the
-/// module back, where they are fewer than 2^32.
+/// Where each vector and each encoded size is below 2^32, and no body names a memory but memory 0, it spells the module. Where besides the
+/// module's counts, its nesting and its locals are within the limits, so are the bytes: `read` gives the module back, where they are fewer
+/// than 2^32.
 pub fn write(alloc: Global, module: &Module) -> Result<Vec<u8>, NoMemory>
     ensures plain { IfOk result (λ bytes. bytes.items ≡ plain «module».now) }
     ensures spells { IfOk result (λ bytes. IsTrue (memory_zero_funcs «module».now.funcs) → SmallSizes «module».now → Spells bytes.items «module».now false) }

@@ -6,7 +6,7 @@ ghost use Rattle.wasm_plain.specs.PlainValues.{each_text, vector_text};
 use crate::numbers::spell_number;
 use crate::target::Target;
 
-/// A value with a plain spelling. Spelling it, the code sees each number and name of it, and so that they are in range.
+/// A value with a plain spelling. Whoever spells it has each of its numbers and names in hand, and so knows that they are in range.
 pub(crate) trait Plain {
     ghost text: { Self → List ℕ };
 
@@ -50,7 +50,7 @@ pub(crate) fn spell_vector<T: Target, P: Plain>(
     spell_number(target, items.len() as u64)
 }
 
-/// Spells the size of what was spelled since `from` bytes were.
+/// Spells the size of what was spelled after the first `from` bytes.
 pub(crate) fn spell_size<T: Target>(target: &mut T, from: u64) -> Result<(), T::Refusal>
     requires { from ≤ T.place target.old }
     ensures { OnOk result ((before : T) (content : List ℕ) → from ≡ T.place before → target.old ≡ T.preceded before content → target.new ≡ T.preceded before (sized_text content)) }

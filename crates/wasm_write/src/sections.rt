@@ -6,7 +6,7 @@ ghost use Rattle.wasm_tree.specs.DataUse.{uses_data, any_uses_data};
 ghost use Rattle.wasm_plain.specs.PlainValues.{each_text, vector_text, func_type_text, import_text, table_text, limits_text, global_text, export_text, elem_text, data_text};
 ghost use Rattle.wasm_plain.specs.PlainCode.{group_text, code_text, entry_text};
 ghost use Rattle.wasm_plain.specs.Plain.{section_text, list_section, start_section, count_section, plain};
-ghost use Rattle.wasm_write.specs.Parts.{types_text, text_before_code, TypesInRange, BeforeCodeInRange};
+ghost use Rattle.wasm_write.specs.Parts.{text_up_to_globals, text_before_code, UpToGlobalsInRange, BeforeCodeInRange};
 
 use crate::code::spell_instrs;
 use crate::numbers::{spell_number, spell_u32};
@@ -79,7 +79,7 @@ fn spell_func_types<T: Target>(target: &mut T, funcs: &[Func]) -> Result<(), T::
     Ok(())
 }
 
-/// Spells the size of a section's content, which was spelled since `from` bytes were, and the section's id.
+/// Spells the size of a section's content, which was spelled after the first `from` bytes, and the section's id.
 fn spell_section<T: Target>(target: &mut T, id: u8, from: u64) -> Result<(), T::Refusal>
     requires { from ≤ T.place target.old }
     ensures { OnOk result ((before : T) (content : List ℕ) → from ≡ T.place before → target.old ≡ T.preceded before content → target.new ≡ T.preceded before (section_text id content)) }
@@ -176,10 +176,10 @@ fn spell_count_and_code<T: Target>(target: &mut T, module: &Module) -> Result<()
 }
 
 /// Spells the header, and the sections up to that of globals.
-#[tactic(auto, unfolding(crate::specs::Parts::types_text))]
-fn spell_types<T: Target>(target: &mut T, module: &Module) -> Result<(), T::Refusal>
-    ensures text { OnOk result (target.new ≡ T.preceded target.old (types_text «module».now)) }
-    ensures range { OnOk result (TypesInRange «module».now) }
+#[tactic(auto, unfolding(crate::specs::Parts::text_up_to_globals))]
+fn spell_up_to_globals<T: Target>(target: &mut T, module: &Module) -> Result<(), T::Refusal>
+    ensures text { OnOk result (target.new ≡ T.preceded target.old (text_up_to_globals «module».now)) }
+    ensures range { OnOk result (UpToGlobalsInRange «module».now) }
 {
     spell_list(target, 6, module.globals.as_slice())?;
     spell_list(target, 5, module.mems.as_slice())?;
@@ -199,7 +199,7 @@ fn spell_before_code<T: Target>(target: &mut T, module: &Module) -> Result<(), T
     spell_list(target, 9, module.elems.as_slice())?;
     spell_start(target, module.start)?;
     spell_list(target, 7, module.exports.as_slice())?;
-    spell_types(target, module)
+    spell_up_to_globals(target, module)
 }
 
 /// Spells a module.
