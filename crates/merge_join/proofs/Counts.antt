@@ -91,11 +91,6 @@ staying_few ps k = both_few (imports_kind ps k) (stays ps) (sites ps)
 pub defined_more : (k : Space) (ps : List Part) (p : ℕ) (m : Module) → module_at ps p ≡ Some m → defined_before k ps (p + 1) ≡ defined_before k ps p + defined_count k m
 defined_more k ps p m h = let e : p + 1 ≡ suc p = omega arith in ap (defined_before k ps) e ∙ defined_next k ps p m h
 
-pub defined_most : (k : Space) (ps : List Part) (p : ℕ) → defined_before k ps p ≤ defined_before k ps (length ps)
-defined_most k [] p = omega arith
-defined_most k (part ∷ ps) zero = omega arith
-defined_most k (part ∷ ps) (suc p) = omega (arith, defined_most k ps p)
-
 pub defined_all : (k : Space) (ps : List Part) (p : ℕ) → length ps ≤ p → defined_before k ps p ≡ defined_before k ps (length ps)
 defined_all k [] p h = refl
 defined_all k (part ∷ ps) zero h = absurd (omega arith)
