@@ -12,6 +12,7 @@ use Rattle.merge_terms.specs.Linked.{by_import_from, by_import}
 use Rattle.merge_terms.specs.Merged.{by_part_from, by_part}
 use Rattle.merge_join.specs.Words.{site, each_part}
 use Rattle.wasm_meaning.proofs.Counts.{module_there}
+use Rattle.merge_validity.proofs.ByPart.{by_part_flat}
 
 pub named_length : (parts : List declared.Part) → length (named_modules parts) ≡ length parts
 named_length parts = length-map parts named_module
@@ -119,12 +120,8 @@ part_room f ps p m at =
     ap length (part_push f 0 ps p m at ∙ ap (λ k. by_part_from f 0 (take p ps) ++ f k m) here) ∙ length-append (by_part_from f 0 (take p ps)) (f p m) in
     omega (arith, e, part_short f 0 ps (suc p))
 
-flat_from : {A : Type 0} (f : Module → List A) (q : ℕ) (ps : List Part) → flat_map (λ p. f p.«module») ps ≡ by_part_from (λ p m. f m) q ps
-flat_from f q [] = refl
-flat_from f q (part ∷ ps) = ap (λ rest. f part.«module» ++ rest) (flat_from f (suc q) ps)
-
 pub flat_is : {A : Type 0} (f : Module → List A) (ps : List Part) → flat_map (λ p. f p.«module») ps ≡ by_part (λ p m. f m) ps
-flat_is f ps = flat_from f 0 ps
+flat_is f ps = by_part_flat f 0 ps
 
 -- ---- one number for each part ----
 

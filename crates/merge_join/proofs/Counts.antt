@@ -1,5 +1,5 @@
 -- How many stay or are defined before a place.
-use Rattle.std.proofs.Common.{◌≡◌, ◌∙◌, sym, ap, refl, ℕ, zero, suc, ◌+◌, ◌<◌, ◌≤◌, List, [], ◌∷◌, ◌++◌, length, take, arith, Bool, true, false, cond, Some, append_assoc, append-nil, option_and_then, unwrap_or}
+use Rattle.std.proofs.Common.{◌≡◌, ◌∙◌, sym, ap, refl, ℕ, zero, suc, ◌+◌, ◌<◌, ◌≤◌, List, [], ◌∷◌, ◌++◌, length, take, arith, Bool, true, false, cond, Some, append_assoc, append-nil}
 use Rattle.wasm_tree.specs.declared.space.Space.{Space}
 use Rattle.std.specs.Prelude.{filter}
 use Rattle.std.specs.List.{flat_map}
@@ -8,17 +8,18 @@ use Rattle.std.proofs.lemmas.List.{length-append, take_all}
 use Rattle.std.proofs.lemmas.List.Elements.{filter-append}
 use Rattle.wasm_tree.specs.declared.module.Module.{Module}
 use Rattle.wasm_meaning.specs.World.{defined_count, defined_before}
-use Rattle.wasm_meaning.specs.Linking.{Part, Site, module_at, imports_of, sites_in, sites_from, sites}
+use Rattle.wasm_meaning.specs.Linking.{Part, Site, module_at, sites_in, sites_from, sites}
 use Rattle.merge_terms.specs.declared.parts.Part as declared
 use Rattle.merge_terms.specs.Parts.{named_modules}
 use Rattle.merge_terms.specs.Faults.{stays}
-use Rattle.merge_terms.specs.Merged.{staying, staying_of, imports_kind, imported_count}
+use Rattle.merge_terms.specs.Merged.{staying, staying_of, imports_kind}
 use Rattle.base_lists.specs.Places.{count_of}
 use Rattle.merge_join.specs.Words.{site}
 use Rattle.merge_join.specs.Spaces.{picked, sites_before, count_before}
 use Rattle.merge_join.proofs.ByPart.{named_length, part_more}
-use Rattle.merge_join.proofs.Sites.{sites_from_is, sites_in_more, sites_split, staying_is}
+use Rattle.merge_join.proofs.Sites.{sites_in_more, sites_split, staying_is}
 pub use Rattle.wasm_meaning.proofs.Counts.{defined_none, defined_next}
+use Rattle.merge_validity.proofs.Linked.{sites_are}
 
 -- ---- imports ----
 
@@ -38,7 +39,7 @@ count_more ps k p n =
 
 sites_push : (ps : List Part) (p : ℕ) (m : Module) → module_at ps p ≡ Some m → sites_from 0 (take (p + 1) ps) ≡ sites_from 0 (take p ps) ++ sites_in p (length m.imports) 0
 sites_push ps p m at =
-    sites_from_is 0 (take (p + 1) ps) ∙ sym (part_more (λ p m. sites_in p (length m.imports) 0) ps p m (sites_from 0 (take p ps)) (sites_from 0 (take p ps) ++ sites_in p (length m.imports) 0) at (sites_from_is 0 (take p ps)) refl)
+    sites_are 0 (take (p + 1) ps) ∙ sym (part_more (λ p m. sites_in p (length m.imports) 0) ps p m (sites_from 0 (take p ps)) (sites_from 0 (take p ps) ++ sites_in p (length m.imports) 0) at (sites_are 0 (take p ps)) refl)
 
 pub count_part : (ps : List Part) (k : Space) (p : ℕ) (m : Module) → module_at ps p ≡ Some m → count_before ps k p (length m.imports) ≡ count_before ps k (p + 1) 0
 unfolding count_before
@@ -90,23 +91,10 @@ staying_few ps k = both_few (imports_kind ps k) (stays ps) (sites ps)
 pub defined_more : (k : Space) (ps : List Part) (p : ℕ) (m : Module) → module_at ps p ≡ Some m → defined_before k ps (p + 1) ≡ defined_before k ps p + defined_count k m
 defined_more k ps p m h = let e : p + 1 ≡ suc p = omega arith in ap (defined_before k ps) e ∙ defined_next k ps p m h
 
-pub defined_most : (k : Space) (ps : List Part) (p : ℕ) → defined_before k ps p ≤ defined_before k ps (length ps)
-defined_most k [] p = omega arith
-defined_most k (part ∷ ps) zero = omega arith
-defined_most k (part ∷ ps) (suc p) = omega (arith, defined_most k ps p)
-
 pub defined_all : (k : Space) (ps : List Part) (p : ℕ) → length ps ≤ p → defined_before k ps p ≡ defined_before k ps (length ps)
 defined_all k [] p h = refl
 defined_all k (part ∷ ps) zero h = absurd (omega arith)
 defined_all k (part ∷ ps) (suc p) h = ap (λ n. defined_count k part.«module» + n) (defined_all k ps p (omega arith))
-
--- what a part defines is few enough
-pub defined_room : (k : Space) (ps : List Part) (p : ℕ) (m : Module) → module_at ps p ≡ Some m → defined_before k ps p + defined_count k m ≤ defined_before k ps (length ps)
-defined_room k ps p m h = omega (arith, defined_next k ps p m h, defined_most k ps (suc p))
-
--- how many a part imports
-pub imported_is : (ps : List Part) (k : Space) (p : ℕ) (m : Module) → module_at ps p ≡ Some m → imported_count ps p k ≡ length (imports_of k m)
-imported_is ps k p m at = ap (λ o. unwrap_or (option_and_then (λ x. Some (length (imports_of k x))) o) 0) at
 
 pub count_none : (ps : List Part) (k : Space) → count_before ps k 0 0 ≡ 0
 unfolding count_before

@@ -20,12 +20,14 @@ use Rattle.wasm_meaning.specs.Linking.{Part, Site, Entity, module_at, import_at,
 use Rattle.merge_terms.specs.declared.links.End.{End}
 use Rattle.merge_terms.specs.declared.faults.LinkFault.{LinkFault}
 use Rattle.merge_terms.specs.declared.faults.LinkFault.TheVariants.{ImportMismatch}
-use Rattle.merge_terms.specs.Faults.{External, FuncOf, TableOf, MemoryOf, GlobalOf, asked, asked_at, external_of, found, same_but_limits, meets_limits, suits, is_suited, or_else, first_fault, end_fault, import_fault, link_fault}
+use Rattle.merge_terms.specs.Faults.{External, FuncOf, TableOf, MemoryOf, GlobalOf, asked, asked_at, external_of, found, same_but_limits, meets_limits, suits, is_suited, first_fault, end_fault, import_fault, link_fault}
 use Rattle.merge_terms.specs.Linked.{end_entry}
 use Rattle.merge_join.specs.Words.{site, space_size, IsEnd}
 use Rattle.merge_join.specs.Spaces.{sites_before}
 use Rattle.merge_join.proofs.Sites.{sites_split}
 use Rattle.merge_join.proofs.SpaceSizes.{funcs_size, tables_size, memories_size, globals_size}
+use Rattle.merge_validity.proofs.Linked.{left_none, right_none}
+use Rattle.merge_validity.proofs.Same.{kind_is}
 
 -- ---- external types have kinds ----
 
@@ -85,17 +87,9 @@ external_there m (ex.Global i) x h =
 
 -- ---- faults ----
 
-none_first : (a b : Option LinkFault) → or_else a b ≡ None → a ≡ None
-none_first None b h = refl
-none_first (Some f) b h = cc
-
-none_next : (a b : Option LinkFault) → or_else a b ≡ None → b ≡ None
-none_next None b h = h
-none_next (Some f) b h = cc
-
 none_at : {A : Type 0} (f : A → Option LinkFault) (xs : List A) (y : A) (ys : List A) → first_fault f (xs ++ y ∷ ys) ≡ None → f y ≡ None
-none_at f [] y ys h = none_first (f y) (first_fault f ys) h
-none_at f (x ∷ xs) y ys h = none_at f xs y ys (none_next (f x) (first_fault f (xs ++ y ∷ ys)) h)
+none_at f [] y ys h = left_none (f y) (first_fault f ys) h
+none_at f (x ∷ xs) y ys h = none_at f xs y ys (right_none (f x) (first_fault f (xs ++ y ∷ ys)) h)
 
 pub suited : (ps : List Part) (s : Site) (o : Option linking.End) (end : linking.End) → end_fault ps s o ≡ None → o ≡ Some end → is_suited ps s end ≡ true
 suited ps s None end h e = cc
@@ -152,7 +146,7 @@ unfolding link_fault import_fault
 end_there ps p n m i end none at here ends =
     let s = site p n in
     let (rest, is) = sites_split ps p n m at (slice_get_within m.imports n i here) in
-    let first : first_fault (import_fault ps) (sites ps) ≡ None = none_first (first_fault (import_fault ps) (sites ps)) _ none in
+    let first : first_fault (import_fault ps) (sites ps) ≡ None = left_none (first_fault (import_fault ps) (sites ps)) _ none in
     let mine : import_fault ps s ≡ None = none_at (import_fault ps) (sites_before ps p n) s rest (ap (first_fault (import_fault ps)) (sym is) ∙ first) in
     suited_there ps s end i (ap (λ o. option_and_then (λ m. slice_get m.imports n) o) at ∙ here) (suited ps s (end_of ps s) end mine ends)
 
@@ -166,17 +160,14 @@ first_is is (s ∷ ss) other = case (is s) refl (first_is is ss other)
     case true e rest = inr e
     case false e rest = rest
 
-pub kind_from : (a b : Space) → same_space a b ≡ true → a ≡ b
-kind_from a b h = grind arith
-
 same_memory_kind : (j : Import) (o : Option Import) → same_memory j o ≡ true → (l : Import) × (o ≡ Some l) × (space_of_import l.desc ≡ space_of_import j.desc)
 same_memory_kind j None h = cc
 same_memory_kind j (Some l) h =
     let a = space_of_import j.desc in
     let b = space_of_import l.desc in
     let more = right_true (same_space Memories a) (same_space Memories b && same_pair (pair_of j) (pair_of l)) h in
-    let first : Memories ≡ a = kind_from Memories a (left_true (same_space Memories a) (same_space Memories b && same_pair (pair_of j) (pair_of l)) h) in
-    let second : Memories ≡ b = kind_from Memories b (left_true (same_space Memories b) (same_pair (pair_of j) (pair_of l)) more) in
+    let first : Memories ≡ a = kind_is Memories a (left_true (same_space Memories a) (same_space Memories b && same_pair (pair_of j) (pair_of l)) h) in
+    let second : Memories ≡ b = kind_is Memories b (left_true (same_space Memories b) (same_pair (pair_of j) (pair_of l)) more) in
     (l, refl, sym second ∙ first)
 
 stays_same : (ps : List Part) (j : Import) (t : Site) → stays_as ps j t ≡ true → same_memory j (import_at ps t) ≡ true

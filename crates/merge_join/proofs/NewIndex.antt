@@ -12,8 +12,8 @@ use Rattle.merge_terms.specs.declared.links.End.{End}
 use Rattle.merge_terms.specs.Linked.{end_entry}
 use Rattle.merge_terms.specs.Merged.{staying_of, place_of_end, place_of_entry, new_index}
 use Rattle.merge_join.specs.Words.{site, place_at}
-use Rattle.merge_join.proofs.Counts.{imported_is}
 use Rattle.merge_join.proofs.Ends.{place_is}
+use Rattle.merge_validity.proofs.Entries.{count_is}
 
 -- by the import that the entry is, if it is one
 index_is : (ps : List Part) (p : ℕ) (k : Space) (i : ℕ) (m : Module) (o : Option ℕ) → module_at ps p ≡ Some m → slice_get (imports_of k m) i ≡ o → new_index ps p k i ≡ unwrap_or (place_of_entry ps p k i o) 0
@@ -39,7 +39,7 @@ pub new_index_own : (ps : List Part) (p : ℕ) (k : Space) (j : ℕ) (m : Module
 new_index_own ps p k j m at =
     let i = length (imports_of k m) + j in
     let past : length (imports_of k m) ≤ i = omega arith in
-    index_is ps p k i m None at (place_past (imports_of k m) i past) ∙ omega (arith, imported_is ps k p m at)
+    index_is ps p k i m None at (place_past (imports_of k m) i past) ∙ omega (arith, count_is ps k p m at)
 
 places_there : {A : Type 0} (is : A → Bool) (xs : List A) (x : A) (i n : ℕ) → slice_get xs i ≡ Some x → is x ≡ true → slice_get (places is xs n) (length (places is (take i xs) n)) ≡ Some (n + i)
 places_there is [] x i n h yes_ = cc

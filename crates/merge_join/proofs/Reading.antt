@@ -1,7 +1,6 @@
 -- What a constant expression of a part becomes, by what is read through the part's imported globals.
 use Rattle.std.proofs.Common.{◌≡◌, ◌∙◌, ap, sym, subst, refl, ℕ, zero, suc, ◌+◌, ◌<◌, List, [], ◌∷◌, ◌++◌, length, Option, Some, None, Bool, true, false, cond, ◌&&◌, not, nat_lt, arith, slice_get, get_or, option_and_then, unwrap_or, is_some}
 use Rattle.wasm_tree.specs.declared.space.Space.TheVariants.{Globals}
-use Rattle.wasm_tree.specs.Operands.{same_space}
 use Rattle.std.specs.Option.{option_map}
 use Rattle.std.specs.List.{cons_option}
 use Rattle.std.proofs.lemmas.Bool.{ltb-true}
@@ -15,7 +14,7 @@ use Rattle.wasm_tree.specs.declared.module.ImportDesc.TheVariants as im
 use Rattle.wasm_tree.specs.declared.module.ConstExpr.{ConstExpr}
 use Rattle.wasm_tree.specs.declared.module.ConstExpr.TheVariants as const
 use Rattle.wasm_tree.specs.declared.module.Module.{Module}
-use Rattle.wasm_tree.specs.Spaces.{globals_of, global_of, imported_globals, space_of_import}
+use Rattle.wasm_tree.specs.Spaces.{globals_of, global_of, imported_globals}
 use Rattle.wasm_typing.specs.Typing.{only}
 use Rattle.wasm_valid.specs.Constants.{const_type}
 use Rattle.wasm_valid.specs.Validity.{IsValid}
@@ -33,14 +32,9 @@ use Rattle.merge_validity.specs.Joinable.{EachPart}
 use Rattle.merge_join.specs.declared.joining.Joining.{Joining}
 use Rattle.merge_join.specs.Words.{AreJoined, site}
 use Rattle.merge_join.specs.Reads.{AreReads, HasType}
+use Rattle.world_simulation.proofs.Alone.{global_kind}
 
 -- ---- an imported global ----
-
-kinds_agree : (d : ImportDesc) → is_some (global_of d) ≡ same_space Globals (space_of_import d)
-kinds_agree (im.Func t) = refl
-kinds_agree (im.Table t) = refl
-kinds_agree (im.Memory l) = refl
-kinds_agree (im.Global t) = refl
 
 is_global : (d : ImportDesc) (g : GlobalType) → global_of d ≡ Some g → d ≡ im.Global g
 is_global (im.Func t) g h = cc
@@ -64,7 +58,7 @@ record Found (is : List Import) (from x : ℕ) (g : GlobalType) : Type 0 where
 
 found : (is : List Import) (from x : ℕ) (g : GlobalType) → slice_get (imported_globals is) x ≡ Some g → Found is from x g
 found [] from x g h = absurd (let k = h in cc)
-found (i ∷ is) from x g h = by (λ x h. found is (suc from) x g h) (global_of i.desc) (has_kind Globals i) refl refl (kinds_agree i.desc) x h
+found (i ∷ is) from x g h = by (λ x h. found is (suc from) x g h) (global_of i.desc) (has_kind Globals i) refl refl (global_kind i.desc) x h
   where
     rest : List ℕ
     rest = places (has_kind Globals) is (suc from)

@@ -9,9 +9,10 @@ use Rattle.std.proofs.lemmas.List.Elements.{filter-append}
 use Rattle.wasm_tree.specs.declared.module.Module.{Module}
 use Rattle.wasm_meaning.specs.Linking.{Part, Site, places, module_at, same_site, first_place, sites_in, sites_from, sites}
 use Rattle.merge_terms.specs.Faults.{stays}
-use Rattle.merge_terms.specs.Merged.{by_part_from, by_part, staying, staying_of, imports_kind}
+use Rattle.merge_terms.specs.Merged.{by_part, staying, staying_of, imports_kind}
 use Rattle.merge_join.specs.Words.{site}
 use Rattle.merge_join.specs.Spaces.{staying_place, picked, sites_before, count_before}
+use Rattle.merge_validity.proofs.Linked.{sites_are}
 
 -- ---- places of a kind ----
 
@@ -39,12 +40,8 @@ places_push is xs x i h =
 
 -- ---- the sites ----
 
-pub sites_from_is : (q : ℕ) (ps : List Part) → sites_from q ps ≡ by_part_from (λ p m. sites_in p (length m.imports) 0) q ps
-sites_from_is q [] = refl
-sites_from_is q (part ∷ ps) = ap (λ rest. sites_in q (length part.«module».imports) 0 ++ rest) (sites_from_is (suc q) ps)
-
 pub sites_is : (ps : List Part) → sites ps ≡ by_part (λ p m. sites_in p (length m.imports) 0) ps
-sites_is ps = sites_from_is 0 ps
+sites_is ps = sites_are 0 ps
 
 pub sites_in_push : (p n q : ℕ) → sites_in p (suc n) q ≡ sites_in p n q ++ site p (q + n) ∷ []
 sites_in_push p zero q = let e : q ≡ q + 0 = omega arith in ap (λ k. site p k ∷ []) e

@@ -16,6 +16,7 @@ use Rattle.merge_terms.specs.Merged.{by_part_from, by_part, map_of, merged_desc,
 use Rattle.merge_join.specs.Kept.{kept_desc}
 use Rattle.merge_join.specs.Words.{site}
 use Rattle.merge_join.proofs.Holding.{read_there}
+use Rattle.merge_validity.proofs.MergedSpaces.{import_is}
 
 -- ---- one import ----
 
@@ -30,12 +31,6 @@ unfolding kept_limits
 kept_is ps s i yes-stays at =
     ap (λ b. cond b (option_and_then (λ i. option_and_then {T = Limits} {U = Limits} (λ l. Some (met_limits ps s)) (limits_of i.desc)) (import_at ps s)) None) yes-stays
     ∙ ap (λ o. option_and_then {T = Import} {U = Limits} (λ i. option_and_then (λ l. Some (met_limits ps s)) (limits_of i.desc)) o) at
-
-import_is : (ps : List Part) (s : Site) (m : Module) (i : Import) → module_at ps s.part ≡ Some m → import_at ps s ≡ Some i → merged_import ps s ≡ Some (record i { desc = merged_desc ps s m i.desc })
-unfolding merged_import
-import_is ps s m i at there =
-    ap (λ o. option_and_then {T = Module} {U = Import} (λ m. option_and_then {T = Import} {U = Import} (λ i. Some (record i { desc = merged_desc ps s m i.desc })) (import_at ps s)) o) at
-    ∙ ap (λ o. option_and_then {T = Import} {U = Import} (λ i. Some (record i { desc = merged_desc ps s m i.desc })) o) there
 
 abbrev import_of : Text → Text → ImportDesc → Import
 import_of a b d = record { «module» = a; field = b; desc = d }

@@ -1,16 +1,15 @@
 -- Two function types are equal exactly where their texts are.
-use Rattle.std.proofs.Common.{◌≡◌, ◌∙◌, sym, ap, refl, List, [], ◌∷◌, ◌++◌, map, true, arith}
+use Rattle.std.proofs.Common.{◌≡◌, ◌∙◌, sym, ap, refl, List, [], ◌∷◌, ◌++◌, map, arith}
 use Rattle.std.specs.Str.{bytes_eq}
 use Rattle.std.proofs.lemmas.Slice.Eq.{bytes_eq-Decides}
-use Rattle.std.proofs.lemmas.Bool.{and_parts, and_from}
 use Rattle.base_lists.proofs.Bools.{same_tests}
-use Rattle.base_lists.proofs.Same.{each_same_is, each_same_self}
 use Rattle.wasm_tree.specs.declared.types.RefType.TheVariants as reft
 use Rattle.wasm_tree.specs.declared.types.ValType.{ValType}
 use Rattle.wasm_tree.specs.declared.types.ValType.TheVariants as valt
 use Rattle.wasm_tree.specs.declared.types.FuncType.{FuncType}
-use Rattle.wasm_tree.specs.SameTypes.{same_func_type, same_type, same_types}
+use Rattle.wasm_tree.specs.SameTypes.{same_func_type}
 use Rattle.merge_join.specs.Texts.{letter_of, text_of_type}
+use Rattle.merge_terms.proofs.FirstAppearances.{func_type_is, func_type_self}
 
 letters_differ : (s t : ValType) → letter_of s ≡ letter_of t → s ≡ t
 letters_differ valt.I32 valt.I32 e = refl
@@ -69,19 +68,8 @@ texts_differ : (t u : FuncType) → text_of_type t ≡ text_of_type u → t ≡ 
 unfolding text_of_type
 texts_differ t u e = let s = split t.params u.params t.results u.results e in ap (λ ps. typed ps t.results) s.params ∙ ap (typed u.params) s.results
 
-pub funcs_same : (t u : FuncType) → same_func_type t u ≡ true → t ≡ u
-funcs_same t u e =
-    let same = each_same_is same_type (λ x y h. grind arith) in
-    let both = and_parts (same_types t.params u.params) (same_types t.results u.results) e in
-    ap (λ ps. typed ps t.results) (same t.params u.params both.0) ∙ ap (typed u.params) (same t.results u.results both.1)
-
-pub func_self : (t : FuncType) → same_func_type t t ≡ true
-func_self t =
-    let self = each_same_self same_type (λ x. grind arith) in
-    and_from (same_types t.params t.params) (same_types t.results t.results) (self t.params) (self t.results)
-
 -- types are the same exactly where their texts are
 pub same_by_text : (t u : FuncType) → same_func_type t u ≡ bytes_eq (text_of_type t) (text_of_type u)
 same_by_text t u = same_tests (same_func_type t u) (bytes_eq (text_of_type t) (text_of_type u))
-    (λ e. (bytes_eq-Decides (text_of_type t) (text_of_type u)).1 (ap text_of_type (funcs_same t u e)))
-    (λ e. ap (same_func_type t) (sym (texts_differ t u ((bytes_eq-Decides (text_of_type t) (text_of_type u)).0 e))) ∙ func_self t)
+    (λ e. (bytes_eq-Decides (text_of_type t) (text_of_type u)).1 (ap text_of_type (func_type_is t u e)))
+    (λ e. ap (same_func_type t) (sym (texts_differ t u ((bytes_eq-Decides (text_of_type t) (text_of_type u)).0 e))) ∙ func_type_self t)

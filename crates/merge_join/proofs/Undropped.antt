@@ -37,6 +37,9 @@ use Rattle.merge_terms.specs.Merged.{by_part, by_part_from, map_of, new_index, m
 use Rattle.merge_join.specs.Words.{PartsHold}
 use Rattle.merge_join.proofs.Reading.{becomes_new}
 use Rattle.merge_join.proofs.RefOperands.{refs_kept}
+use Rattle.remap_typing.proofs.DeclaredTrees.{refused}
+use Rattle.merge_validity.proofs.Linked.{by_part_has}
+use Rattle.merge_validity.proofs.Exports.{exports_are}
 
 -- ---- lists ----
 
@@ -46,10 +49,6 @@ nothing x (n, h) = cc
 filter_none : {A : Type 0} (test : A → Bool) (xs : List A) → ((x : A) → test x ≡ false) → filter test xs ≡ []
 filter_none test [] h = refl
 filter_none test (x ∷ xs) h = rw (h x) (filter_none test xs h)
-
-refused : (a b : Bool) → (a ≡ true → b ≡ true) → a && not b ≡ false
-refused false b h = refl
-refused true b h = ap not (h refl)
 
 among_has : (xs : List ℕ) (x : ℕ) → is_among xs x ≡ true → Has xs x
 among_has xs x h = let found = list_any_there (nat_eq x) xs h in subst (Has xs) (sym (eq_of x found.0 found.2)) found.1
@@ -86,17 +85,7 @@ flat_from f (z ∷ zs) y h =
     (λ b. let r = flat_from f zs y b in (r.0, (suc r.1.0, r.1.1), r.2))
     (either_has (f z) (flat_map f zs) y h)
 
--- what a part has is among what all have
-part_has : {A : Type 0} (f : ℕ → Module → List A) (q : ℕ) (ps : List Part) (p : ℕ) (m : Module) (x : A) → module_at ps p ≡ Some m → Has (f (q + p) m) x → Has (by_part_from f q ps) x
-part_has f q [] p m x at h = cc
-part_has f q (part ∷ ps) zero m x at h =
-    let same : part.«module» ≡ m = cc in let here : q + 0 ≡ q = omega arith in
-    has_left (f q part.«module») (by_part_from f (suc q) ps) x (subst (λ n. Has (f q n) x) (sym same) (subst (λ k. Has (f k m) x) here h))
-part_has f q (part ∷ ps) (suc p) m x at h =
-    let here : q + suc p ≡ suc q + p = omega arith in
-    has_right (f q part.«module») (by_part_from f (suc q) ps) x (part_has f (suc q) ps p m x at (subst (λ k. Has (f k m) x) here h))
-
--- and what all have is what a part has
+-- what all have is what a part has
 abbrev OfPart : {A : Type 0} → (ℕ → Module → List A) → ℕ → List Part → A → Type 0
 OfPart f q ps x = (p : ℕ) × (m : Module) × (module_at ps p ≡ Some m) × Has (f (q + p) m) x
 
@@ -165,7 +154,7 @@ module _ (ps : List Part) (names : List (Option Text)) (many : length names ≡ 
     new f = slice_index (map_of ps p m).funcs f
 
     of_part : {A : Type 0} (f : ℕ → Module → List A) (x : A) → Has (f p m) x → Has (by_part f ps) x
-    of_part f x h = let here : p ≡ 0 + p = omega arith in part_has f 0 ps p m x at (subst (λ k. Has (f k m) x) here h)
+    of_part f x h = let here : p ≡ 0 + p = omega arith in by_part_has f 0 ps p m x at (subst (λ k. Has (f k m) x) here h)
 
     const_named : (e : ConstExpr) (f : ℕ) → const_func e ≡ Some f → merged_const ps p e ≡ const.Func (new f)
     unfolding new
@@ -304,10 +293,6 @@ module _ (ps : List Part) (names : List (Option Text)) (many : length names ≡ 
 
     all_declared : declared Whole ≡ Whole
     all_declared = ap (with_declared Whole) undeclared_none
-
-exports_are : (ps : List Part) (names : List (Option Text)) → (merged ps names).exports ≡ named_exports (all_exports ps) names
-unfolding merged
-exports_are ps names = refl
 
 -- a valid module has no function to be declared
 abbrev pub ValidIsDeclared : Type 0

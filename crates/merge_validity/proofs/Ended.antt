@@ -18,8 +18,9 @@ use Rattle.wasm_meaning.specs.Linking.{Part, Site, End, Defined, Outside, Entity
 use Rattle.wasm_tree.specs.Spaces.{index_of_export, space_of_import}
 use Rattle.merge_terms.specs.Faults.{External, FuncOf, TableOf, MemoryOf, GlobalOf, asked_at, found, suits, external_of, same_but_limits, meets_limits, stays}
 use Rattle.merge_terms.specs.Merged.{merged, start_calls, starts, by_part}
+use Rattle.merge_terms.proofs.FirstAppearances.{func_type_self}
 use Rattle.merge_validity.specs.Ended.{EndsInside, EndsOutside, Ended, inside, outside, added_count, LinkedImportsEnd, StayingImportsEndThere, SitesAreImports, StayingImportsHavePlaces, NewIndicesArePlaces, DefinedEntitiesHavePlaces, TypesHavePlaces, MergedModulesDefineAll}
-use Rattle.merge_validity.proofs.Same.{ref_same, type_same, func_type_same, kind_is}
+use Rattle.merge_validity.proofs.Same.{ref_same, type_same, kind_is}
 use Rattle.merge_validity.proofs.Entities.{entry_external, own, imported, space, own_many, kind_of, bare, type_of}
 use Rattle.merge_validity.proofs.ByPart.{by_part_back}
 use Rattle.merge_validity.proofs.TypePlaces.{type_stands}
@@ -39,7 +40,7 @@ bool_same true = refl
 bool_same false = refl
 
 alike : (x y : External) → bare x ≡ bare y → same_but_limits x y ≡ true
-alike (FuncOf t) (FuncOf u) h = let e : t ≡ u = cc in subst (λ z. same_func_type t z ≡ true) e (func_type_same t)
+alike (FuncOf t) (FuncOf u) h = let e : t ≡ u = cc in subst (λ z. same_func_type t z ≡ true) e (func_type_self t)
 alike (TableOf t) (TableOf u) h = let e : t.ty ≡ u.ty = cc in subst (λ z. same_ref t.ty z ≡ true) e (ref_same t.ty)
 alike (MemoryOf t) (MemoryOf u) h = refl
 alike (GlobalOf t) (GlobalOf u) h =

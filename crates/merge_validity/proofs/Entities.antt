@@ -21,8 +21,9 @@ use Rattle.wasm_meaning.specs.Values.{same_type}
 use Rattle.wasm_meaning.specs.World.{same_bool, defined_count}
 use Rattle.wasm_meaning.specs.Linking.{has_kind}
 use Rattle.merge_terms.specs.Faults.{External, FuncOf, TableOf, MemoryOf, GlobalOf, asked, external_of, same_but_limits}
+use Rattle.merge_terms.proofs.FirstAppearances.{func_type_is}
 use Rattle.merge_validity.specs.Ended.{is_external}
-use Rattle.merge_validity.proofs.Same.{ref_is, type_is, func_type_is, bool_is}
+use Rattle.merge_validity.proofs.Same.{ref_is, type_is, bool_is}
 use Rattle.base_lists.proofs.Options.{and_then_is}
 use Rattle.std.proofs.lemmas.Bool.{and_parts}
 

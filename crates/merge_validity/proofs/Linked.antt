@@ -61,11 +61,11 @@ own_in p n (x ∷ gs) (suc j) g h = own_in p (suc n) gs j g h ∙ ap {A = ℕ} {
 
 -- ---- no fault ----
 
-left_none : (x y : Option LinkFault) → or_else x y ≡ None → x ≡ None
+pub left_none : (x y : Option LinkFault) → or_else x y ≡ None → x ≡ None
 left_none None y h = refl
 left_none (Some f) y h = cc
 
-right_none : (x y : Option LinkFault) → or_else x y ≡ None → y ≡ None
+pub right_none : (x y : Option LinkFault) → or_else x y ≡ None → y ≡ None
 right_none None y h = h
 right_none (Some f) y h = cc
 

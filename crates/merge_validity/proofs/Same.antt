@@ -6,9 +6,8 @@ use Rattle.base_lists.proofs.Same.{each_same_is, each_same_self}
 use Rattle.std.proofs.lemmas.Bool.{eqb-true, and_parts, and_from}
 use Rattle.wasm_tree.specs.declared.types.RefType.{RefType}
 use Rattle.wasm_tree.specs.declared.types.ValType.{ValType}
-use Rattle.wasm_tree.specs.declared.types.FuncType.{FuncType}
 use Rattle.wasm_meaning.specs.State.{Text, Pair}
-use Rattle.wasm_meaning.specs.Values.{same_ref, same_type, same_types, same_func_type}
+use Rattle.wasm_meaning.specs.Values.{same_ref, same_type}
 use Rattle.wasm_meaning.specs.World.{same_bool}
 use Rattle.wasm_meaning.specs.Linking.{Site, same_text, same_pair, same_site}
 
@@ -18,21 +17,11 @@ ref_is r s h = grind arith
 pub type_is : (s t : ValType) → same_type s t ≡ true → s ≡ t
 type_is s t h = grind arith
 
-pub func_type_is : (s t : FuncType) → same_func_type s t ≡ true → s ≡ t
-func_type_is s t h =
-    let b = and_parts (same_types s.params t.params) (same_types s.results t.results) h in
-    let is = each_same_is same_type type_is in
-    ap₂ (λ x y. record { params = x; results = y }) (is s.params t.params b.0) (is s.results t.results b.1)
-
 pub ref_same : (r : RefType) → same_ref r r ≡ true
 ref_same r = grind arith
 
 pub type_same : (t : ValType) → same_type t t ≡ true
 type_same t = grind arith
-
-pub func_type_same : (t : FuncType) → same_func_type t t ≡ true
-func_type_same t =
-    let self = each_same_self same_type type_same in and_from (same_types t.params t.params) (same_types t.results t.results) (self t.params) (self t.results)
 
 pub bool_is : (a b : Bool) → same_bool a b ≡ true → a ≡ b
 bool_is a b h = grind arith

@@ -7,7 +7,7 @@ use Rattle.wasm_tree.specs.declared.module.Module.{Module}
 use Rattle.wasm_meaning.specs.Values.{same_func_type}
 use Rattle.wasm_meaning.specs.Linking.{Part, module_at, first_place}
 use Rattle.merge_terms.specs.Merged.{with_type, with_types, merged_types, place_of_type, map_of}
-use Rattle.merge_validity.proofs.Same.{func_type_is, func_type_same}
+use Rattle.merge_terms.proofs.FirstAppearances.{func_type_is, func_type_self}
 use Rattle.base_lists.proofs.Places.{slice_index_is, map_at, has_left, has_right, Has}
 use Rattle.base_lists.proofs.Filtered.{first_at}
 use Rattle.base_lists.proofs.Each.{list_any_there}
@@ -48,7 +48,7 @@ pub type_placed : (parts : List Part) (p : ℕ) (m : Module) (t : FuncType) → 
 unfolding place_of_type
 type_placed parts p m t e h =
     let r = merged_has parts p m t e h in
-    let f = first_at (same_func_type t) (merged_types parts) 0 r.0 t r.1 (func_type_same t) in
+    let f = first_at (same_func_type t) (merged_types parts) 0 r.0 t r.1 (func_type_self t) in
     let from_0 : 0 + f.at ≡ f.at = omega arith in
     let same : f.item ≡ t = sym (func_type_is t f.item f.yes) in
     let place : first_place (same_func_type t) (merged_types parts) 0 ≡ Some f.at = f.is ∙ ap Some from_0 in

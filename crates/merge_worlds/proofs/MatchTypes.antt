@@ -20,8 +20,9 @@ use Rattle.index_remap.specs.RelatedRuns.{ThingRel, a_func, a_table, a_memory, a
 use Rattle.index_remap.proofs.Rel.{length_rel, same_there, there}
 use Rattle.world_simulation.proofs.Places.{then_eq}
 use Rattle.merge_terms.specs.Faults.{External, FuncOf, TableOf, MemoryOf, GlobalOf, asked, asked_at, same_but_limits, meets_limits}
+use Rattle.merge_terms.proofs.FirstAppearances.{func_type_is}
 use Rattle.merge_validity.proofs.Linked.{import_site}
-use Rattle.merge_validity.proofs.Same.{func_type_is, type_is, ref_is, bool_is}
+use Rattle.merge_validity.proofs.Same.{type_is, ref_is, bool_is}
 use Rattle.base_lists.proofs.Options.{and_then_is, unwrap_or_false_is}
 use Rattle.std.specs.Prelude.{nat_le, max, min}
 use Rattle.std.proofs.lemmas.Bool.Decides.{nat_tests}

@@ -23,7 +23,7 @@ use Rattle.merge_worlds.proofs.MatchTypes.{type_in, Asks, func, asks_by, type_sa
 use Rattle.base_lists.proofs.Options.{and_then_is}
 use Rattle.base_lists.proofs.Places.{map_from, append_right}
 use Rattle.std.specs.List.{filter}
-use Rattle.std.proofs.lemmas.Bool.{and_parts, and_from}
+use Rattle.std.proofs.lemmas.Bool.{and_from}
 use Rattle.wasm_tree.specs.declared.types.Limits.{Limits}
 use Rattle.wasm_tree.specs.declared.module.Import.{Import}
 use Rattle.wasm_tree.specs.declared.module.ImportDesc.{ImportDesc}
@@ -38,6 +38,7 @@ use Rattle.merge_validity.proofs.MergedSpaces.{import_is}
 use Rattle.merge_validity.proofs.Same.{site_same}
 use Rattle.world_simulation.specs.Alone.{one, site, thing_in}
 use Rattle.world_simulation.proofs.Defined.{defined_at}
+use Rattle.world_simulation.proofs.Places.{all_each}
 use Rattle.merge_worlds.specs.Instances.{InstancesAgree}
 use Rattle.merge_worlds.specs.Shared.{sharing}
 use Rattle.merge_worlds.proofs.SpaceLaws.{SpaceLaws}
@@ -94,11 +95,6 @@ module _ (env : Environment) (w : Instantiated) (s : Store) (made : stores_from 
       rw (p.1, ← same_Some _ _ v.2, g.2) t.2
 
 -- ---- all imports ----
-
-pub all_each : {A : Type 0} (test : A → Bool) (xs : List A) → all_of test xs ≡ true → (n : ℕ) (x : A) → slice_get xs n ≡ Some x → test x ≡ true
-all_each test [] h n x e = cc
-all_each test (y ∷ ys) h zero x e = ap test (sym (same_Some y x e)) ∙ (and_parts (test y) (all_of test ys) h).0
-all_each test (y ∷ ys) h (suc n) x e = all_each test ys (and_parts (test y) (all_of test ys) h).1 n x e
 
 each_all : {A : Type 0} (test : A → Bool) (xs : List A) → ((n : ℕ) (x : A) → slice_get xs n ≡ Some x → test x ≡ true) → all_of test xs ≡ true
 each_all test [] h = refl

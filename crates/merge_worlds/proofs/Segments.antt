@@ -1,5 +1,5 @@
 -- The segments of the parts and those of the merged module stand in the same order, and each is copied to the same place; a segment that declares references has no partner.
-use Rattle.std.proofs.Common.{◌≡◌, ℕ, zero, suc, ◌+◌, ◌<◌, List, [], ◌∷◌, ◌++◌, map, length, Some, refl, sym, ap, subst, ◌∙◌, arith, append_assoc, drop, slice_get}
+use Rattle.std.proofs.Common.{◌≡◌, ℕ, suc, ◌+◌, ◌<◌, List, [], ◌∷◌, ◌++◌, map, length, Some, refl, sym, ap, subst, ◌∙◌, arith, append_assoc, drop, slice_get}
 use Rattle.std.proofs.lemmas.List.{drop-drop, append-nil}
 use Rattle.std.proofs.lemmas.Option.{same_Some, slice_get_within}
 use Rattle.wasm_tree.specs.declared.space.Space.{Space}
@@ -8,6 +8,7 @@ use Rattle.wasm_meaning.specs.State.{Inst}
 use Rattle.wasm_meaning.specs.Linking.{Part, module_at}
 use Rattle.wasm_meaning.specs.Environment.{Environment}
 use Rattle.wasm_meaning.specs.World.{Task, tasks_in, defined_count, defined_before, numbers, insts_from, elem_tasks, data_tasks}
+use Rattle.wasm_meaning.proofs.Counts.{defined_none, defined_next}
 use Rattle.merge_terms.specs.Merged.{by_part_from, map_of, merged_const, merged_elem, merged_elem_mode, merged_data, merged_data_mode}
 use Rattle.world_simulation.specs.Segments.{InOrder, both, ends, only_second, ElemsPartner, ElemAlone, DatasPartner, offset_in, ElemsInOrder, DatasInOrder}
 use Rattle.world_simulation.proofs.Instancing.{addresses_in}
@@ -48,18 +49,6 @@ use Rattle.wasm_tree.specs.declared.module.DataMode.TheVariants as data'
 use Rattle.world_simulation.specs.Segments as segments
 
 -- ---- segments of one kind by part, one after the other, and the same segments of one module ----
-
-before_start : (k : Space) (parts : List Part) → defined_before k parts 0 ≡ 0
-before_start k [] = refl
-before_start k (part ∷ parts) = refl
-
-before_next : (k : Space) (parts : List Part) (p : ℕ) (m : Module) → module_at parts p ≡ Some m → defined_before k parts (suc p) ≡ defined_before k parts p + defined_count k m
-before_next k [] p m h = cc
-before_next k (part ∷ parts) zero m h =
-    let n = before_start k parts in
-    let l = ap (defined_count k) (same_Some _ _ h) in
-    omega arith
-before_next k (part ∷ parts) (suc p) m h = let n = before_next k parts p m h in omega arith
 
 -- a place at which one address stands in both lists
 record OneAddress (xs ys : List ℕ) (n : ℕ) : Type 0 where
@@ -106,7 +95,7 @@ module _ {A : Type 0} (k : Space) (segs : Module → List A) (counts : (m : Modu
         d = stands p m at_p
 
         dropped : drop (length (segs m)) (drop (defined_before k parts p) (addresses_in k j)) ≡ drop (defined_before k parts (suc p)) (addresses_in k j)
-        dropped = drop-drop (length (segs m)) (defined_before k parts p) (addresses_in k j) ∙ ap (λ i. drop i (addresses_in k j)) (rw (← counts m) (sym (before_next k parts p m at_p)))
+        dropped = drop-drop (length (segs m)) (defined_before k parts p) (addresses_in k j) ∙ ap (λ i. drop i (addresses_in k j)) (rw (← counts m) (sym (defined_next k parts p m at_p)))
 
         many : length (numbers (defined_before k parts p) (length (segs m))) ≡ length (segs m)
         many = length-numbers (defined_before k parts p) (length (segs m))
@@ -146,7 +135,7 @@ module _ {A : Type 0} (k : Space) (segs : Module → List A) (counts : (m : Modu
     all_in_order J e xs ys first_is second_is =
         let at_0 : (q : ℕ) → q ≡ 0 + q = λ q. omega arith in
         rw first_is
-        (rw (← ap (λ n. tasks_in 0 j (drop n (addresses_in k j)) (by_part_from (λ p m. map (new p m) (segs m)) 0 parts ++ more)) (before_start k parts) ∙ ap (tasks_in 0 j (addresses_in k j)) (sym e) ∙ sym (append-nil _) ∙ sym second_is)
+        (rw (← ap (λ n. tasks_in 0 j (drop n (addresses_in k j)) (by_part_from (λ p m. map (new p m) (segs m)) 0 parts ++ more)) (defined_none k parts) ∙ ap (tasks_in 0 j (addresses_in k j)) (sym e) ∙ sym (append-nil _) ∙ sym second_is)
         (by_parts 0 parts insts (λ q. ap (module_at parts) (at_0 q)) (λ q. ap (slice_get insts) (at_0 q))))
 
 -- ---- what the map of a part says of segments ----

@@ -8,8 +8,8 @@ use Rattle.base_lists.proofs.Numbers.{numbers_at}
 use Rattle.wasm_tree.specs.declared.module.Module.{Module}
 use Rattle.wasm_meaning.specs.State.{Inst, RefVal, Code, Table, Memory, Store, Val}
 use Rattle.wasm_meaning.specs.Linking.{Part, module_at, has_kind, imports_of, sites}
-use Rattle.wasm_meaning.specs.Environment.{Environment, Thing, FuncAt, all_of}
-use Rattle.wasm_meaning.specs.World.{own_count, defined_before, one_place, start_in, starts_of, insts_from, base, address_of, own_store, stores_from, is_matched, Filled, Task, fill_table, run_elem, fill_memory, run_data, and_then, in_turn, segments, elem_tasks, data_tasks, value_of, run_elem_with, run_data_with}
+use Rattle.wasm_meaning.specs.Environment.{Environment, FuncAt, all_of}
+use Rattle.wasm_meaning.specs.World.{own_count, defined_before, one_place, start_in, starts_of, insts_from, base, own_store, stores_from, is_matched, Filled, Task, fill_table, run_elem, fill_memory, run_data, and_then, in_turn, segments, elem_tasks, data_tasks, value_of, run_elem_with, run_data_with}
 use Rattle.index_remap.specs.Renumbered.{fits_start}
 use Rattle.index_remap.specs.Related.{ListRel, nil, cons}
 use Rattle.index_remap.proofs.Rel.{append_rel}
@@ -17,6 +17,7 @@ use Rattle.export_names.specs.declared.mode.Mode.{Mode}
 use Rattle.merge_terms.specs.Faults.{link_fault, External, FuncOf, asked, asked_at, same_but_limits}
 use Rattle.merge_terms.specs.Merged.{map_of, new_index, start_of, starts, start_among, staying_of, by_part_from, start_calls, defined_funcs, nullary, place_of_type}
 use Rattle.merge_terms.specs.Joined.{joined_module}
+use Rattle.merge_terms.proofs.FirstAppearances.{func_type_is}
 use Rattle.merge_validity.proofs.Starts.{start_is, funcs_are}
 use Rattle.merge_validity.specs.Ended.{added_count}
 use Rattle.world_simulation.specs.Alone.{one, site}
@@ -32,7 +33,6 @@ use Rattle.merge_worlds.proofs.Instances.{entry_is, merged_part}
 use Rattle.merge_worlds.proofs.Named.{AllFit, start_fits}
 use Rattle.wasm_tree.specs.declared.types.FuncType.{FuncType}
 use Rattle.wasm_tree.specs.declared.instr.Instr.TheVariants.{Call}
-use Rattle.wasm_tree.specs.declared.module.ImportDesc.{ImportDesc}
 use Rattle.wasm_tree.specs.declared.module.ElemMode.{ElemMode}
 use Rattle.wasm_tree.specs.declared.module.ElemSeg.{ElemSeg}
 use Rattle.wasm_tree.specs.declared.module.DataMode.{DataMode}
@@ -43,12 +43,11 @@ use Rattle.wasm_meaning.specs.Values.{declared}
 use Rattle.wasm_meaning.specs.Control.{type_at}
 use Rattle.merge_validity.specs.Joinable.{CanBeJoined}
 use Rattle.merge_validity.specs.Started.{StartsTakeNothing}
-use Rattle.merge_validity.proofs.Same.{func_type_is}
 use Rattle.merge_worlds.proofs.MatchTypes.{type_in, Fits, site_fits}
-use Rattle.merge_worlds.proofs.Matching.{func_typed, all_each}
+use Rattle.merge_worlds.proofs.Matching.{func_typed}
 use Rattle.merge_validity.proofs.ByPart.{by_part_many, defined_is}
-use Rattle.world_simulation.proofs.Places.{map_length}
-use Rattle.world_simulation.proofs.Alone.{func_kind, funcs_counted}
+use Rattle.world_simulation.proofs.Places.{map_length, all_each}
+use Rattle.world_simulation.proofs.Alone.{func_kind, funcs_counted, func_desc, func_thing}
 use Rattle.world_simulation.specs.Segments.{offset_in}
 use Rattle.world_simulation.proofs.Copied.{then_holds}
 use Rattle.world_simulation.proofs.Stored.{func_placed}
@@ -192,14 +191,6 @@ segments_keep_funcs env parts insts s =
     (λ t. in_turn_keeps (run_data env parts insts) (λ s x. data_keeps (value_of env parts insts x.part) s x x.segment.mode) t (data_tasks 0 parts insts))
 
 -- ---- look-ups ----
-
-func_desc : (d : ImportDesc) (ty : ℕ) → func_of d ≡ Some ty → d ≡ im.Func ty
-func_desc (im.Func t) ty h = ap im.Func (same_Some t ty h)
-func_desc _ ty h = absurd (let k = h in cc)
-
-func_thing : (x : Thing) (a : ℕ) → address_of Functions x ≡ Some a → x ≡ FuncAt a
-func_thing (FuncAt b) a h = ap FuncAt (same_Some b a h)
-func_thing _ a h = absurd (let k = h in cc)
 
 -- a function that fits is of the type that is asked for
 func_fits : (z : Store) (a : ℕ) (ty : FuncType) (y : External) → type_in z (FuncAt a) ≡ Some y → Fits (FuncOf ty) y → type_at z a ≡ Some ty

@@ -76,7 +76,7 @@ declared_funcs : (rs : List ℕ) → filter_map const_func (map const.Func rs) �
 declared_funcs [] = refl
 declared_funcs (r ∷ rs) = ap (λ zs. r ∷ zs) (declared_funcs rs)
 
-refused : (a b : Bool) → (a ≡ true → b ≡ true) → a && not b ≡ false
+pub refused : (a b : Bool) → (a ≡ true → b ≡ true) → a && not b ≡ false
 refused false b h = refl
 refused true b h = ap not (h refl)
 

@@ -1,5 +1,5 @@
 -- A command line has one job.
-use Rattle.std.proofs.Common.{Bool, true, cond, take, zero, suc, ltb, ◌-◌, ◌↔◌, ◌≡◌, ◌∙◌, sym, refl, ap, ap₂, subst, inl, inr, ℕ, List, [], ◌∷◌, Option, Some, None, Result, Ok, Err, false, length}
+use Rattle.std.proofs.Common.{Bool, take, zero, suc, ltb, ◌-◌, ◌↔◌, ◌≡◌, ◌∙◌, sym, refl, ap, ap₂, subst, inl, inr, ℕ, List, [], ◌∷◌, Option, Some, None, Result, Ok, Err, false, length}
 use Rattle.std.specs.FinMap.{get}
 use Rattle.wasm_bytes.specs.Reading.{IsBytes}
 use Rattle.tool_io.specs.Outside.{Contents}
@@ -8,6 +8,7 @@ use Rattle.tools_cli.specs.Effects.{Entry}
 use Rattle.tools_cli.specs.Texts.{fault_text, invalid_text, link_text, join_text, over_limit}
 use Rattle.wasm_tree.specs.declared.which.Which.TheVariants.{InputBytes}
 use Rattle.tools_cli.specs.Job.{IsRead, IsAccepted, invalid, Job, Refused, Gathered, add_first, add_file, HoldBytes, Whole, Lacks, TooLong, gathered, most_input, Loads, loaded, faulty, AllLoad, OneFails, Decision, Refuses, Makes, Merges, not_linked, not_joined, merged, parts_of, Decides, job_of, module_files, text_contents, InputsJob, not_loaded, decided, TaskJob, not_begun, missing, too_long, all_read, HasJob, no_task, asked}
+use Rattle.tools_cli.proofs.Kept.{whole_is, short_enough}
 use Rattle.wasm_tree.specs.declared.module.Module.{Module}
 use Rattle.wasm_format.specs.declared.fault.ReadFault.{ReadFault}
 use Rattle.wasm_valid.specs.declared.kinds.Invalid.{Invalid}
@@ -75,23 +76,16 @@ AreBytes [] = Unit {0}
 AreBytes (e ∷ es) = IsBytes e.1 × AreBytes es
 
 -- what was gathered are bytes, where the files hold bytes
-whole_is : (xs ys : List Entry) → Whole xs ≡ Whole ys → xs ≡ ys
-whole_is xs ys e = cc
-
 first_bytes_are : (file : Entry) (g : Gathered) (inputs : List Entry) → IsBytes file.1 → ((rest : List Entry) → g ≡ Whole rest → AreBytes rest) → add_first file g ≡ Whole inputs → AreBytes inputs
 first_bytes_are file (Whole rest) inputs are more e = subst AreBytes (whole_is (file ∷ rest) inputs e) (are, more rest refl)
 first_bytes_are file (Lacks name) inputs are more e = absurd (cc)
 first_bytes_are file (TooLong name) inputs are more e = absurd (cc)
 
-within_left : (b : Bool) (name : Text) (g : Gathered) (inputs : List Entry) → cond b (TooLong name) g ≡ Whole inputs → g ≡ Whole inputs
-within_left true name g inputs e = cc
-within_left false name g inputs e = e
-
 file_bytes : (name : Text) (left : ℕ) (o : Option Text) (rest : ℕ → Gathered) (inputs : List Entry) → ((bytes : Text) → o ≡ Some bytes → IsBytes bytes)
     → ((more : List Entry) (n : ℕ) → rest n ≡ Whole more → AreBytes more) → add_file name left o rest ≡ Whole inputs → AreBytes inputs
 file_bytes name left None rest inputs are more e = absurd (cc)
 file_bytes name left (Some bytes) rest inputs are more e =
-    first_bytes_are (name, bytes) (rest (left - length bytes)) inputs (are bytes refl) (λ r h. more r (left - length bytes) h) (within_left (ltb left (length bytes)) name _ inputs e)
+    first_bytes_are (name, bytes) (rest (left - length bytes)) inputs (are bytes refl) (λ r h. more r (left - length bytes) h) (short_enough (ltb left (length bytes)) name _ inputs e)
 
 pub gathered_bytes : (files : Contents) → HoldBytes files → (names : List Text) (most : ℕ) (inputs : List Entry) → gathered names files most ≡ Whole inputs → AreBytes inputs
 gathered_bytes files hold [] most inputs e = subst AreBytes (whole_is [] inputs e) tt

@@ -1,5 +1,5 @@
 -- What stands in the parts of a merge together.
-use Rattle.std.proofs.Common.{◌≡◌, refl, ap, ℕ, zero, suc, ◌*◌, ◌≤◌, ◌<◌, ◌^◌, List, [], ◌∷◌, length, length-append, Some, None, cond, ltb, true, false, Bool, arith}
+use Rattle.std.proofs.Common.{◌≡◌, refl, ℕ, zero, suc, ◌*◌, ◌≤◌, ◌<◌, ◌^◌, List, [], ◌∷◌, length, length-append, Some, None, cond, ltb, true, false, Bool, arith}
 use Rattle.wasm_tree.specs.declared.space.Space.{Space}
 use Rattle.wasm_tree.specs.declared.space.Space.TheVariants.{Types, Functions, Tables, Memories, Globals, ElementSegments, DataSegments}
 use Rattle.wasm_tree.specs.declared.which.Which.TheVariants as which
@@ -16,19 +16,16 @@ use Rattle.tools_cli.specs.Words.{Source, MergeTask, Merge}
 use Rattle.tools_cli.specs.Texts.{too_many_parts}
 use Rattle.tools_cli.specs.Job.{parts_of, refused_before, most_parts}
 use Rattle.tools_cli.specs.Causes.{IsWithinLimits}
+use Rattle.merge_join.proofs.ByPart.{sites_in_length}
 
 abbrev pub EachWithin : List Part → Type 0
 EachWithin = Every (λ (p : Part). IsWithinLimits p.«module»)
-
-length_sites_in : (p n k : ℕ) → length (sites_in p n k) ≡ n
-length_sites_in p zero k = refl
-length_sites_in p (suc n) k = ap suc (length_sites_in p n (suc k))
 
 sites_few : (n : ℕ) (ps : List Part) → EachWithin ps → length (sites_from n ps) ≤ limit which.Imports * length ps
 sites_few n [] h = omega arith
 sites_few n (p ∷ ps) h =
     let whole = length-append (sites_in n (length p.«module».imports) 0) (sites_from (suc n) ps) in
-    omega (arith, whole, length_sites_in n (length p.«module».imports) 0, h.0.imports, sites_few (suc n) ps h.1)
+    omega (arith, whole, sites_in_length n (length p.«module».imports) 0, h.0.imports, sites_few (suc n) ps h.1)
 
 -- the most that a module defines of an index space
 abbrev most_defined : Space → ℕ

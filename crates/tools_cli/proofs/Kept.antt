@@ -98,7 +98,7 @@ written_there files name bytes = get-insert nat_list_cmp_total files name bytes 
 abbrev pub IsFirstFile : Text → Option Text → (ℕ → Gathered) → List Entry → Type 0
 IsFirstFile name held rest files = (bytes : Text) × (n : ℕ) × (more : List Entry) × (held ≡ Some bytes) × (rest n ≡ Whole more) × (files ≡ (name, bytes) ∷ more)
 
-whole_is : (xs ys : List Entry) → Whole xs ≡ Whole ys → xs ≡ ys
+pub whole_is : (xs ys : List Entry) → Whole xs ≡ Whole ys → xs ≡ ys
 whole_is xs ys e = cc
 
 first_of_whole : (name bytes : Text) (n : ℕ) (rest : ℕ → Gathered) (g : Gathered) (files : List Entry) → g ≡ rest n → add_first (name, bytes) g ≡ Whole files → IsFirstFile name (Some bytes) rest files
@@ -106,7 +106,7 @@ first_of_whole name bytes n rest (Whole more) files is e = (bytes, n, more, refl
 first_of_whole name bytes n rest (Lacks lacking) files is e = absurd (cc)
 first_of_whole name bytes n rest (TooLong long) files is e = absurd (cc)
 
-short_enough : (b : Bool) (name : Text) (g : Gathered) (files : List Entry) → cond b (TooLong name) g ≡ Whole files → g ≡ Whole files
+pub short_enough : (b : Bool) (name : Text) (g : Gathered) (files : List Entry) → cond b (TooLong name) g ≡ Whole files → g ≡ Whole files
 short_enough true name g files e = absurd (cc)
 short_enough false name g files e = e
 

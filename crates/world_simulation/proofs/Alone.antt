@@ -9,13 +9,14 @@ use Rattle.wasm_tree.specs.declared.module.ImportDesc.TheVariants as im
 use Rattle.wasm_tree.specs.declared.module.ConstExpr.{ConstExpr}
 use Rattle.wasm_tree.specs.declared.module.ConstExpr.TheVariants as const
 use Rattle.wasm_tree.specs.declared.module.Module.{Module}
+use Rattle.std.proofs.lemmas.Option.{same_Some}
 use Rattle.base_lists.proofs.Options.{all_there_same}
 use Rattle.base_lists.proofs.Filtered.{places_many}
 use Rattle.wasm_tree.specs.Spaces.{func_of, table_of, memory_of, global_of, imported_funcs, imported_tables, imported_memories, imported_globals, space_of_import}
 use Rattle.wasm_meaning.specs.State.{Pair}
 use Rattle.wasm_meaning.specs.Paths.{walk, walk_on}
 use Rattle.wasm_meaning.specs.Linking.{sites, joined, joined_step, import_step, read_step, initials_from, Outside, Read, places, has_kind, imports_of, pair_of, end_of, global_import, end_step, read_of, space_index}
-use Rattle.wasm_meaning.specs.Environment.{Environment, owned_of, owned_at}
+use Rattle.wasm_meaning.specs.Environment.{Environment, owned_of, owned_at, Thing, FuncAt}
 use Rattle.wasm_meaning.specs.World.{own_key_of, outside_thing, imported_thing, thing_of, address_of, numbers, own_count, defined_count, space}
 use Rattle.world_simulation.specs.Alone.{one, site, key_in, thing_in, addresses, read_in}
 
@@ -68,6 +69,14 @@ pub func_kind : (d : ImportDesc) → is_some (func_of d) ≡ same_space Function
 func_kind (im.Func x) = refl
 func_kind _ = refl
 
+pub func_desc : (d : ImportDesc) (ty : ℕ) → func_of d ≡ Some ty → d ≡ im.Func ty
+func_desc (im.Func t) ty h = ap im.Func (same_Some t ty h)
+func_desc _ ty h = absurd (let k = h in cc)
+
+pub func_thing : (x : Thing) (a : ℕ) → address_of Functions x ≡ Some a → x ≡ FuncAt a
+func_thing (FuncAt b) a h = ap FuncAt (same_Some b a h)
+func_thing _ a h = absurd (let k = h in cc)
+
 pub funcs_counted : (is : List Import) (n : ℕ) → length (places (has_kind Functions) is n) ≡ length (imported_funcs is)
 funcs_counted is = places_many (has_kind Functions) (λ i. func_of i.desc) is (λ i. func_kind i.desc)
 
@@ -85,7 +94,7 @@ memory_kind _ = refl
 pub memories_counted : (is : List Import) (n : ℕ) → length (places (has_kind Memories) is n) ≡ length (imported_memories is)
 memories_counted is = places_many (has_kind Memories) (λ i. memory_of i.desc) is (λ i. memory_kind i.desc)
 
-global_kind : (d : ImportDesc) → is_some (global_of d) ≡ same_space Globals (space_of_import d)
+pub global_kind : (d : ImportDesc) → is_some (global_of d) ≡ same_space Globals (space_of_import d)
 global_kind (im.Global x) = refl
 global_kind _ = refl
 

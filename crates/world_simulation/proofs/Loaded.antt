@@ -5,7 +5,7 @@ use Rattle.std.proofs.lemmas.Bool.{ltb-true, lt-ltb, eqb-true, eq-eqb, and_from}
 use Rattle.std.proofs.lemmas.Option.{same_Some, slice_get_within}
 use Rattle.base_lists.specs.Options.{◌>>=◌}
 use Rattle.base_lists.proofs.Bools.{left_true, right_true}
-use Rattle.base_lists.proofs.Options.{all_there_same, and_then_is}
+use Rattle.base_lists.proofs.Options.{all_there_same, and_then_is, unwrap_or_false_is}
 use Rattle.base_lists.proofs.Places.{append_right, slice_get_none}
 use Rattle.wasm_tree.specs.declared.space.Space.{Space}
 use Rattle.wasm_tree.specs.declared.space.Space.TheVariants.{Functions, Tables, Memories, Globals, ElementSegments, DataSegments}
@@ -103,11 +103,6 @@ kinds s m (im.Global t) (GlobalAt a) Globals h = inl (refl, a, refl)
 kinds s m (im.Global t) (GlobalAt a) _ h = inr (refl, refl)
 kinds s m _ _ k h = cc
 
-some_true : (o : Option Bool) → unwrap_or o false ≡ true → o ≡ Some true
-some_true None h = cc
-some_true (Some true) h = refl
-some_true (Some false) h = cc
-
 module _ (env : Environment) (m : Module) (s : Store) (like : StoreRel (R env) (own_store env) s) where
   -- the imports from one on
   record Found (n : ℕ) (is : List Import) : Type 0 where
@@ -126,7 +121,7 @@ module _ (env : Environment) (m : Module) (s : Store) (like : StoreRel (R env) (
 
   found_one : (n : ℕ) (i : Import) (is : List Import) → slice_get m.imports n ≡ Some i → is_matched env (one m) s (site n) ≡ true → Found (suc n) is → Found n (i ∷ is)
   found_one n i is here first rest =
-      let x = and_then_is (thing_in env m.types (Some i)) (is_match s m i.desc) true (some_true _ (sym (matched_is n i here) ∙ first)) in
+      let x = and_then_is (thing_in env m.types (Some i)) (is_match s m i.desc) true (unwrap_or_false_is _ (sym (matched_is n i here) ∙ first)) in
       let rel : ThingRel (R env) x.0 x.0 = opt_self (thing_rel (R env) env (shares env) m.types (Some i)) x.1 in
       let at_first : is_match (own_store env) m i.desc x.0 ≡ Some true = match_same (R env) env (shares env) (own_store env) s like m m refl refl i.desc rel ∙ x.2 in
       record {

@@ -2,6 +2,8 @@
 use Rattle.std.proofs.Common.{◌≡◌, ℕ, zero, suc, ◌+◌, ◌<◌, ◌≤◌, List, [], ◌∷◌, map, length, Option, Some, None, Bool, true, refl, sym, ap, arith, option_and_then, slice_get, slice_set, ◌∙◌}
 use Rattle.base_lists.proofs.Numbers.{length-numbers, numbers_at}
 use Rattle.std.proofs.lemmas.Option.{slice_get_within, same_Some}
+use Rattle.std.proofs.lemmas.Bool.{and_parts}
+use Rattle.wasm_meaning.specs.Environment.{all_of}
 use Rattle.wasm_meaning.specs.World.{numbers, all_there, is_there}
 pub use Rattle.base_lists.proofs.Bools.{left_true, right_true}
 pub use Rattle.index_remap.proofs.Rel.{then_rel, then_rel_is}
@@ -9,6 +11,11 @@ use Rattle.std.specs.List.{list_all}
 use Rattle.index_remap.specs.Related.{OptRel, none, some, BothRel, both, ListRel, nil, cons}
 
 -- ---- places ----
+
+pub all_each : {A : Type 0} (test : A → Bool) (xs : List A) → all_of test xs ≡ true → (n : ℕ) (x : A) → slice_get xs n ≡ Some x → test x ≡ true
+all_each test [] h n x e = cc
+all_each test (y ∷ ys) h zero x e = ap test (sym (same_Some y x e)) ∙ (and_parts (test y) (all_of test ys) h).0
+all_each test (y ∷ ys) h (suc n) x e = all_each test ys (and_parts (test y) (all_of test ys) h).1 n x e
 
 pub place_map : {A B : Type 0} (f : A → B) (xs : List A) (n : ℕ) → slice_get (map f xs) n ≡ option_and_then (λ x. Some (f x)) (slice_get xs n)
 place_map f [] n = refl

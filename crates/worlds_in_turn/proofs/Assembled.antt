@@ -17,7 +17,6 @@ use Rattle.wasm_meaning.specs.Below.{BelowIsNotSeen}
 use Rattle.wasm_meaning.specs.InTurn.{events_in_turn}
 use Rattle.index_remap.specs.Laws.{CodeIsRelatedToItself, RelatedTicksAgree, OthersStay}
 use Rattle.world_simulation.specs.Owned.{OwnEntitiesCorrespond}
-use Rattle.merge_validity.proofs.Same.{func_type_is}
 use Rattle.worlds_in_turn.specs.Laws.{TurnsAreNotSeen}
 use Rattle.worlds_in_turn.proofs.Making.{nothing_to_nothing}
 use Rattle.worlds_in_turn.proofs.Given.{IsGiven}
@@ -30,6 +29,7 @@ use Rattle.worlds_in_turn.proofs.FillWorld.{fill_laws}
 use Rattle.base_lists.proofs.Options.{and_then_is}
 use Rattle.std.proofs.lemmas.Option.{same_Some}
 use Rattle.wasm_meaning.specs.Touched.{StepsWriteWhatTheyTouch}
+use Rattle.merge_terms.proofs.FirstAppearances.{func_type_is}
 
 insts_size : (env : Environment) (all : List Part) (p : ℕ) (ps : List Part) (is : List Inst) → insts_from env all p ps ≡ Some is → length is ≡ length ps
 insts_size env all p [] is h = ap length (sym (same_Some _ _ h))

@@ -1,15 +1,13 @@
 -- The start of a valid part is a function that takes nothing and gives nothing.
-use Rattle.std.proofs.Common.{◌≡◌, ◌∙◌, refl, sym, ap, ap₂, ℕ, zero, suc, ◌+◌, ◌≤◌, List, [], ◌∷◌, ◌++◌, map, length, Option, Some, true, ◌⊎◌, inl, inr, arith, unwrap_or, is_some, false}
+use Rattle.std.proofs.Common.{◌≡◌, ◌∙◌, sym, ap, ap₂, ℕ, zero, suc, ◌+◌, ◌≤◌, List, [], ◌∷◌, ◌++◌, map, length, Option, Some, true, ◌⊎◌, inl, inr, arith, unwrap_or, false}
 use Rattle.wasm_tree.specs.declared.space.Space.TheVariants.{Functions}
-use Rattle.wasm_tree.specs.Operands.{same_space}
 use Rattle.std.specs.Prelude.{slice_get, option_and_then}
 use Rattle.wasm_tree.specs.declared.types.FuncType.{FuncType}
 use Rattle.wasm_tree.specs.declared.module.Func as tree
 use Rattle.wasm_tree.specs.declared.module.Import.{Import}
-use Rattle.wasm_tree.specs.declared.module.ImportDesc.{ImportDesc}
 use Rattle.wasm_tree.specs.declared.module.ImportDesc.TheVariants as im
 use Rattle.wasm_tree.specs.declared.module.Module.{Module}
-use Rattle.wasm_tree.specs.Spaces.{func_of, imported_funcs, funcs_of, type_of_func, space_of_import}
+use Rattle.wasm_tree.specs.Spaces.{func_of, imported_funcs, funcs_of, type_of_func}
 use Rattle.wasm_meaning.specs.State.{Inst, Func, Store}
 use Rattle.wasm_meaning.specs.Values.{same_func_type}
 use Rattle.wasm_meaning.specs.Control as control
@@ -20,28 +18,17 @@ use Rattle.wasm_meaning.specs.World.{base, address_of, import_type, imported_thi
 use Rattle.wasm_meaning.specs.InTurn.{JoinsEarlier}
 use Rattle.index_remap.specs.Laws.{CodeIsRelatedToItself}
 use Rattle.std.proofs.lemmas.Option.{slice_get_within, same_Some}
-use Rattle.worlds_in_turn.proofs.Things.{space_is, func_is}
+use Rattle.worlds_in_turn.proofs.Things.{space_is}
 use Rattle.worlds_in_turn.proofs.Joined.{ExportsThere, inst_of_part}
-use Rattle.worlds_in_turn.proofs.Turn.{SitesThere, all_is}
+use Rattle.worlds_in_turn.proofs.Turn.{SitesThere}
 use Rattle.worlds_in_turn.proofs.Beside.{Laid, at_allocated_funcs}
 use Rattle.base_lists.proofs.Places.{map_from, append_from, slice_get_there, append_at_left, append_right}
 use Rattle.base_lists.proofs.Filtered.{place_of, places_many}
 use Rattle.base_lists.proofs.Options.{and_then_is, unwrap_or_false_is, all_there_at, all_there_length}
 use Rattle.base_lists.proofs.Numbers.{numbers_at}
-use Rattle.world_simulation.proofs.Places.{some_then}
+use Rattle.world_simulation.proofs.Places.{some_then, all_each}
 use Rattle.world_simulation.proofs.Instancing.{IsInst, inst_is}
-
-is_func : (d : ImportDesc) → is_some (func_of d) ≡ same_space Functions (space_of_import d)
-is_func (im.Func ty) = refl
-is_func (im.Table ty) = refl
-is_func (im.Memory l) = refl
-is_func (im.Global ty) = refl
-
-func_desc : (d : ImportDesc) (ty : ℕ) → func_of d ≡ Some ty → d ≡ im.Func ty
-func_desc (im.Func t) ty e = ap im.Func (same_Some _ _ e)
-func_desc (im.Table t) ty e = cc
-func_desc (im.Memory l) ty e = cc
-func_desc (im.Global t) ty e = cc
+use Rattle.world_simulation.proofs.Alone.{func_kind, func_desc, func_thing}
 
 -- a function with its type
 pub record HasFunc (i : Inst) (allocated : Store) (x : ℕ) (t : FuncType) : Type 0 where
@@ -64,7 +51,7 @@ module _ (same_types : (s t : FuncType) → same_func_type s t ≡ true → s �
     matches n im y here h =
         let import_is : import_at parts (record { part = p; import = n }) ≡ Some im = ap (λ o. option_and_then (λ m. slice_get m.imports n) o) is_part ∙ here in
         let s = listed (record { part = p; import = n }) im import_is in
-        let was = all_is (is_matched env parts allocated) (sites parts) matched s.0 (record { part = p; import = n }) s.1 in
+        let was = all_each (is_matched env parts allocated) (sites parts) matched s.0 (record { part = p; import = n }) s.1 in
         unwrap_or_false_is (is_match allocated m im.desc y)
         (sym (ap (λ o. unwrap_or (option_and_then (λ m. option_and_then (λ i. option_and_then (is_match allocated m i.desc) (imported n)) (import_at parts (record { part = p; import = n }))) o) false) is_part
         ∙ ap (λ o. unwrap_or (option_and_then (λ i. option_and_then (is_match allocated m i.desc) (imported n)) o) false) import_is ∙ ap (λ o. unwrap_or (option_and_then (is_match allocated m im.desc) o) false) h) ∙ was)
@@ -72,16 +59,16 @@ module _ (same_types : (s t : FuncType) → same_func_type s t ≡ true → s �
     from_import : (ty : ℕ) → slice_get (imported_funcs m.imports) x ≡ Some ty → slice_get m.types ty ≡ Some t → HasFunc i allocated x t
     from_import ty e type =
         let s = space_is env parts Functions p m i.funcs is_inst.funcs in
-        let many = places_many (has_kind Functions) (λ i. func_of i.desc) m.imports (λ i. is_func i.desc) 0 in
+        let many = places_many (has_kind Functions) (λ i. func_of i.desc) m.imports (λ i. func_kind i.desc) 0 in
         let low = slice_get_within (imported_funcs m.imports) x ty e in
         let n = slice_get_there (imports_of Functions m) x (omega (arith, low, many)) in
-        let at_import = place_of (has_kind Functions) (λ i. func_of i.desc) m.imports (λ i. is_func i.desc) 0 x n.0 n.1 in
+        let at_import = place_of (has_kind Functions) (λ i. func_of i.desc) m.imports (λ i. func_kind i.desc) 0 x n.0 n.1 in
         let desc = func_desc at_import.1.desc ty (sym at_import.5 ∙ e) in
         let number : n.0 ≡ at_import.0 = (let d = at_import.2 in omega (arith, d)) in
         let here : slice_get m.imports n.0 ≡ Some at_import.1 = ap (slice_get m.imports) number ∙ at_import.3 in
         let a = all_there_at (λ n. option_and_then (address_of Functions) (imported n)) (imports_of Functions m) s.0 s.1 x n.0 n.1 in
         let y = and_then_is (imported n.0) (address_of Functions) a.0 a.1 in
-        let thing = func_is y.0 a.0 y.2 in
+        let thing = func_thing y.0 a.0 y.2 in
         let match : is_match allocated m (im.Func ty) (FuncAt a.0) ≡ Some true = ap₂ (is_match allocated m) (sym desc) (sym thing) ∙ matches n.0 at_import.1 y.0 here y.1 in
         let u = and_then_is (import_type m ty) _ true match in
         let v = and_then_is (type_at allocated a.0) _ true u.2 in
@@ -98,7 +85,7 @@ module _ (same_types : (s t : FuncType) → same_func_type s t ≡ true → s �
     from_own : (k ty : ℕ) → x ≡ length (imported_funcs m.imports) + k → slice_get (map (λ (f : tree.Func). f.ty) m.funcs) k ≡ Some ty → slice_get m.types ty ≡ Some t → HasFunc i allocated x t
     from_own k ty e h type =
         let s = space_is env parts Functions p m i.funcs is_inst.funcs in
-        let many = places_many (has_kind Functions) (λ i. func_of i.desc) m.imports (λ i. is_func i.desc) 0 in
+        let many = places_many (has_kind Functions) (λ i. func_of i.desc) m.imports (λ i. func_kind i.desc) 0 in
         let l = all_there_length (λ n. option_and_then (address_of Functions) (imported n)) (imports_of Functions m) s.0 s.1 in
         let back = map_from (λ (f : tree.Func). f.ty) m.funcs k ty h in
         let low = slice_get_within m.funcs k back.0 back.1 in

@@ -22,6 +22,7 @@ use Rattle.std.proofs.lemmas.Option.{same_Some}
 use Rattle.base_lists.proofs.Places.{append_at_left, append_right, slice_get_none}
 use Rattle.merge_validity.specs.Ended.{is_external}
 use Rattle.world_simulation.proofs.Instancing.{IsInst}
+use Rattle.world_simulation.proofs.Alone.{func_thing}
 
 pub inst_at : (env : Environment) (all : List Part) (p : ℕ) (ps : List Part) (is : List Inst) → insts_from env all p ps ≡ Some is → (q : ℕ) (m : Module) → module_at ps q ≡ Some m → (i : Inst) × (slice_get is q ≡ Some i) × (inst_of env all (p + q) m ≡ Some i)
 inst_at env all p [] is h q m e = absurd (let k = e in cc)
@@ -66,12 +67,6 @@ pub record Gathered (g : ℕ → Option Thing) (is : List Import) (n : ℕ) (fs 
   pub globals : addresses_of Globals things ≡ gs
 
 -- a thing that has an address of a kind is of that kind
-pub func_is : (x : Thing) (a : ℕ) → address_of Functions x ≡ Some a → x ≡ FuncAt a
-func_is (FuncAt b) a e = ap FuncAt (same_Some _ _ e)
-func_is (TableAt b) a e = cc
-func_is (MemoryAt b) a e = cc
-func_is (GlobalAt b) a e = cc
-
 table_is : (x : Thing) (a : ℕ) → address_of Tables x ≡ Some a → x ≡ TableAt a
 table_is (FuncAt b) a e = cc
 table_is (TableAt b) a e = ap TableAt (same_Some _ _ e)
@@ -122,7 +117,7 @@ gathered g (i ∷ is) n fs ts ms gs f t m h = go i.desc f t m h (gathered g is (
     go (im.Func ty) f t m h more =
         let s = split g Functions n _ fs f in
         let r = more s.others ts ms gs s.rest_is t m h in
-        let x = func_is s.thing s.address s.has in
+        let x = func_thing s.thing s.address s.has in
         record { things = FuncAt s.address ∷ r.things; each = cons_each g i is n _ r.things (s.is ∙ ap Some x) r.each; funcs = ap (λ l. s.address ∷ l) r.funcs ∙ s.whole; tables = r.tables; mems = r.mems; globals = r.globals }
     go (im.Table ty) f t m h more =
         let s = split g Tables n _ ts t in
@@ -201,7 +196,7 @@ in_space env parts p m i h ElementSegments e = cc
 in_space env parts p m i h DataSegments e = cc
 
 pub thing_has : (k : Space) (x : Thing) (a : ℕ) → address_of k x ≡ Some a → thing_at k a ≡ Some x
-thing_has Functions x a h = ap Some (sym (func_is x a h))
+thing_has Functions x a h = ap Some (sym (func_thing x a h))
 thing_has Tables x a h = ap Some (sym (table_is x a h))
 thing_has Memories x a h = ap Some (sym (memory_is x a h))
 thing_has Globals x a h = ap Some (sym (global_is x a h))

@@ -1,5 +1,5 @@
 -- When a part's turn comes its imports are there and match, and its instance is the one that it has at once.
-use Rattle.std.proofs.Common.{◌≡◌, ◌∙◌, refl, sym, ap, ap₂, ℕ, zero, suc, ◌+◌, ◌<◌, ◌≤◌, List, [], ◌∷◌, ◌++◌, length, Option, Some, None, Bool, true, false, arith, option_and_then, slice_get, unwrap_or, ◌&&◌}
+use Rattle.std.proofs.Common.{◌≡◌, ◌∙◌, refl, sym, ap, ap₂, ℕ, suc, ◌+◌, ◌<◌, ◌≤◌, List, [], ◌∷◌, ◌++◌, length, Option, Some, None, Bool, true, false, arith, option_and_then, slice_get, unwrap_or, ◌&&◌}
 use Rattle.wasm_tree.specs.declared.space.Space.TheVariants.{Functions, Tables, Memories, Globals, DataSegments, ElementSegments}
 use Rattle.std.specs.Prelude.{nat_le}
 use Rattle.std.proofs.lemmas.Bool.{leb-true, le-leb, and_parts}
@@ -22,6 +22,7 @@ use Rattle.worlds_in_turn.proofs.Low.{thing_low}
 use Rattle.base_lists.proofs.Options.{and_then_is}
 use Rattle.std.proofs.lemmas.Option.{same_Some}
 use Rattle.world_simulation.proofs.Instancing.{inst_is}
+use Rattle.world_simulation.proofs.Places.{all_each}
 
 -- as many as the environment and the first parts have
 pub record Sized (env : Environment) (parts : List Part) (p : ℕ) (t : Store) : Type 0 where
@@ -94,11 +95,6 @@ module _ (env : Environment) (parts : List Part) (p : ℕ) (s t : Store) (holds 
 
 -- ---- all sites ----
 
-pub all_is : {A : Type 0} (test : A → Bool) (xs : List A) → all_of test xs ≡ true → (n : ℕ) (x : A) → slice_get xs n ≡ Some x → test x ≡ true
-all_is test [] h n x e = absurd (let k = e in cc)
-all_is test (y ∷ ys) h zero x e = ap test (sym (same_Some _ _ e)) ∙ (and_parts (test y) (all_of test ys) h).0
-all_is test (y ∷ ys) h (suc n) x e = all_is test ys (and_parts (test y) (all_of test ys) h).1 n x e
-
 -- the sites are the imports
 abbrev pub SitesThere : List Part → Type 0
 SitesThere parts = (s : Site) (i : Import) → import_at parts s ≡ Some i → (n : ℕ) × (slice_get (sites parts) n ≡ Some s)
@@ -128,7 +124,7 @@ module _ (env : Environment) (parts : List Part) (insts : List Inst) (are : inst
         matches n im x here h =
             let import_is : import_at parts (record { part = p; import = n }) ≡ Some im = ap (λ o. option_and_then (λ m. slice_get m.imports n) o) is_part ∙ here in
             let s = listed (record { part = p; import = n }) im import_is in
-            let was = all_is (is_matched env parts allocated) (sites parts) matched s.0 (record { part = p; import = n }) s.1 in
+            let was = all_each (is_matched env parts allocated) (sites parts) matched s.0 (record { part = p; import = n }) s.1 in
             let is : unwrap_or (is_match allocated m im.desc x) false ≡ true =
             sym (ap (λ o. unwrap_or (option_and_then (λ m. option_and_then (λ i. option_and_then (is_match allocated m i.desc) (imported n)) (import_at parts (record { part = p; import = n }))) o) false) is_part
             ∙ ap (λ o. unwrap_or (option_and_then (λ i. option_and_then (is_match allocated m i.desc) (imported n)) o) false) import_is ∙ ap (λ o. unwrap_or (option_and_then (is_match allocated m im.desc) o) false) h) ∙ was in

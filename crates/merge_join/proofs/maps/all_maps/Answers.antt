@@ -3,8 +3,9 @@ use Rattle.merge_terms.specs.Parts.{named_modules}
 use Rattle.merge_terms.specs.Merged.{map_of}
 use Rattle.merge_join.proofs.ByPart.{part_more, part_all}
 use Rattle.wasm_tree.specs.declared.space.Space.TheVariants.{ElementSegments, DataSegments}
-use Rattle.merge_join.proofs.Counts.{defined_none, defined_more, defined_room}
+use Rattle.merge_join.proofs.Counts.{defined_none, defined_more}
 use Rattle.merge_join.proofs.maps.all_maps.Goals as goal
+use Rattle.merge_worlds.proofs.Standing.{defined_low}
 
 pub loop-part-init : goal.loop-part-init
 loop-part-init c = record { maps_are = c.new-maps.ensures; elem_is = sym (defined_none ElementSegments (named_modules c.args.parts.now)); data_is = sym (defined_none DataSegments (named_modules c.args.parts.now)) }
@@ -12,12 +13,12 @@ loop-part-init c = record { maps_are = c.new-maps.ensures; elem_is = sym (define
 pub overflow_add-first : goal.overflow_add-first
 overflow_add-first c =
     let ps = named_modules c.args.parts.now in
-    omega (arith, c.loop-part.invariant.elem_is, c.len.ensures, defined_room ElementSegments ps c.loop-part.part c.module_of-module.result.now c.module_of-module.ensures.at, c.requires.linked.few.entries ElementSegments)
+    omega (arith, c.loop-part.invariant.elem_is, c.len.ensures, defined_low ElementSegments ps c.loop-part.part c.module_of-module.result.now c.module_of-module.ensures.at, c.requires.linked.few.entries ElementSegments)
 
 pub overflow_add-first-in-loop-part : goal.overflow_add-first-in-loop-part
 overflow_add-first-in-loop-part c =
     let ps = named_modules c.args.parts.now in
-    omega (arith, c.loop-part.invariant.data_is, c.len-in-loop-part.ensures, defined_room DataSegments ps c.loop-part.part c.module_of-module.result.now c.module_of-module.ensures.at, c.requires.linked.few.entries DataSegments)
+    omega (arith, c.loop-part.invariant.data_is, c.len-in-loop-part.ensures, defined_low DataSegments ps c.loop-part.part c.module_of-module.result.now c.module_of-module.ensures.at, c.requires.linked.few.entries DataSegments)
 
 pub loop-part-preserved : goal.loop-part-preserved
 loop-part-preserved c =

@@ -5,21 +5,21 @@ use Rattle.wasm_meaning.specs.Linking.{first_place}
 use Rattle.wasm_tree.specs.SameTypes.{same_func_type}
 use Rattle.merge_terms.specs.Parts.{named_modules}
 use Rattle.wasm_tree.specs.declared.space.Space.TheVariants.{Functions, Tables, Memories, Globals, ElementSegments, DataSegments}
-use Rattle.merge_join.proofs.Counts.{defined_room}
 use Rattle.merge_join.proofs.MapParts.{space_is, map_built}
 use Rattle.merge_join.proofs.maps.map_of.Goals as goal
+use Rattle.merge_worlds.proofs.Standing.{defined_low}
 
 pub numbers-requires : goal.numbers-requires
 numbers-requires c =
     let ps = named_modules c.args.parts.now in
     let m = c.module_of-module.result.now in
-    omega (arith, c.requires.elem, c.len.ensures, defined_room ElementSegments ps c.args.part m c.module_of-module.ensures.at, c.requires.linked.few.entries ElementSegments)
+    omega (arith, c.requires.elem, c.len.ensures, defined_low ElementSegments ps c.args.part m c.module_of-module.ensures.at, c.requires.linked.few.entries ElementSegments)
 
 pub numbers-requires-2 : goal.numbers-requires-2
 numbers-requires-2 c =
     let ps = named_modules c.args.parts.now in
     let m = c.module_of-module.result.now in
-    omega (arith, c.requires.data, c.len-2.ensures, defined_room DataSegments ps c.args.part m c.module_of-module.ensures.at, c.requires.linked.few.entries DataSegments)
+    omega (arith, c.requires.data, c.len-2.ensures, defined_low DataSegments ps c.args.part m c.module_of-module.ensures.at, c.requires.linked.few.entries DataSegments)
 
 pub returns : goal.returns
 returns c = λ m at.

@@ -5,9 +5,10 @@ use Rattle.merge_terms.specs.Parts.{named_modules}
 use Rattle.merge_terms.specs.Merged.{new_index, staying_of}
 use Rattle.merge_join.specs.Spaces.{first_of}
 use Rattle.merge_join.proofs.ByPart.{each_within, each_index, module_exists}
-use Rattle.merge_join.proofs.Counts.{staying_few, defined_room}
+use Rattle.merge_join.proofs.Counts.{staying_few}
 use Rattle.merge_join.proofs.NewIndex.{all_indices}
 use Rattle.merge_join.proofs.maps.space_map.Goals as goal
+use Rattle.merge_worlds.proofs.Standing.{defined_low}
 
 pub number_at-first-requires : goal.number_at-first-requires
 number_at-first-requires c =
@@ -23,7 +24,7 @@ add_numbers-requires c =
     let k = s.space in
     let m = c.module_of.result.now in
     let at = c.module_of.ensures.at in
-    omega (arith, c.number_at-first.ensures, each_index (first_of ps k) ps s.firsts c.args.part m s.is.firsts_are at, c.defined_count-defined.ensures, defined_room k ps c.args.part m at, staying_few ps k, c.requires.linked.few.entries k)
+    omega (arith, c.number_at-first.ensures, each_index (first_of ps k) ps s.firsts c.args.part m s.is.firsts_are at, c.defined_count-defined.ensures, defined_low k ps c.args.part m at, staying_few ps k, c.requires.linked.few.entries k)
 
 pub returns : goal.returns
 returns c = λ m at.

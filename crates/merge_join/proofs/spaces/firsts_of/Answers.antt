@@ -2,8 +2,9 @@ use Rattle.std.proofs.Common.{◌≡◌, ◌∙◌, sym, ap, ◌+◌, ◌++◌, 
 use Rattle.wasm_meaning.specs.World.{defined_before}
 use Rattle.merge_terms.specs.Parts.{named_modules}
 use Rattle.merge_join.proofs.ByPart.{part_more, part_all, named_length}
-use Rattle.merge_join.proofs.Counts.{defined_none, defined_more, defined_room}
+use Rattle.merge_join.proofs.Counts.{defined_none, defined_more}
 use Rattle.merge_join.proofs.spaces.firsts_of.Goals as goal
+use Rattle.merge_worlds.proofs.Standing.{defined_low}
 
 pub loop-part-init : goal.loop-part-init
 loop-part-init c = record { firsts_are = c.new-firsts.ensures; first_is = omega (arith, defined_none c.args.space (named_modules c.args.parts.now)) }
@@ -27,7 +28,7 @@ overflow_add-first c =
     let k = c.args.space in
     let m = c.module_of.result.now in
     let all : defined_before k ps (length c.args.parts.now) ≡ defined_before k ps (length ps) = ap (defined_before k ps) (sym (named_length c.args.parts.now)) in
-    omega (arith, all, c.loop-part.invariant.first_is, c.defined_count.ensures, defined_room k ps c.loop-part.part m c.module_of.ensures.at, c.requires.few)
+    omega (arith, all, c.loop-part.invariant.first_is, c.defined_count.ensures, defined_low k ps c.loop-part.part m c.module_of.ensures.at, c.requires.few)
 
 pub overflow_cast-first : goal.overflow_cast-first
 overflow_cast-first c =
@@ -35,7 +36,7 @@ overflow_cast-first c =
     let k = c.args.space in
     let m = c.module_of.result.now in
     let all : defined_before k ps (length c.args.parts.now) ≡ defined_before k ps (length ps) = ap (defined_before k ps) (sym (named_length c.args.parts.now)) in
-    omega (arith, all, c.defined_count.ensures, defined_room k ps c.loop-part.part m c.module_of.ensures.at, c.requires.few)
+    omega (arith, all, c.defined_count.ensures, defined_low k ps c.loop-part.part m c.module_of.ensures.at, c.requires.few)
 
 pub returns : goal.returns
 returns c =

@@ -3,8 +3,9 @@ use Rattle.merge_terms.specs.Parts.{named_modules}
 use Rattle.merge_join.specs.Words.{place_at}
 use Rattle.merge_join.specs.Spaces.{first_of, imported_in}
 use Rattle.merge_join.proofs.ByPart.{each_within, each_index}
-use Rattle.merge_join.proofs.Counts.{imported_is, defined_room}
 use Rattle.merge_join.proofs.spaces.MergedSpace.defined_at.Goals as goal
+use Rattle.merge_validity.proofs.Entries.{count_is}
+use Rattle.merge_worlds.proofs.Standing.{defined_low}
 
 pub number_at-imported-requires : goal.number_at-imported-requires
 number_at-imported-requires c =
@@ -30,8 +31,8 @@ overflow_add-result c =
       arith,
       s.few,
       s.is.count_is,
-      defined_room k ps c.args.part m at,
-      imported_is ps k c.args.part m at,
+      defined_low k ps c.args.part m at,
+      count_is ps k c.args.part m at,
       within,
       c.number_at.ensures,
       c.saturating_sub.ensures,
