@@ -1,5 +1,5 @@
 -- Numbers in range and past it, computed, and modules that are in range and out of it.
-use Rattle.std.proofs.Common.{◌≡◌, ℕ, replicate, refl, sym, ◌∙◌, List, [], ◌∷◌, Bool, true, false, None, arith}
+use Rattle.std.proofs.Common.{◌≡◌, ℕ, length, replicate, refl, sym, ◌∙◌, List, [], ◌∷◌, Bool, true, false, None, arith}
 use Rattle.std.specs.Prelude.{pos}
 use Rattle.wasm_tree.specs.declared.instr.Instr.{Instr, out-Instr, fold_out-Instr}
 use Rattle.wasm_tree.specs.declared.instr.Instr.TheVariants.{Br, I32Const, MemorySize}
@@ -7,7 +7,8 @@ use Rattle.wasm_tree.specs.declared.module.Module.{Module}
 use Rattle.wasm_tree.specs.Operands.{all_pass_step}
 use Rattle.wasm_tree.specs.declared.types.ValType.{ValType}
 use Rattle.wasm_tree.specs.declared.types.ValType.TheVariants.{I32}
-use Rattle.wasm_plain.specs.PlainValues.{func_type_text, val_text, val_code}
+use Rattle.wasm_plain.specs.PlainValues.{vector_text, func_type_text, val_code}
+use Rattle.wasm_bytes.specs.Writing.{unsigned_text}
 use Rattle.plain_law.specs.SmallSizes.{SmallSection, SmallSizes}
 use Rattle.plain_law.specs.TreeLimits.{WithinLimits}
 use Rattle.plain_law.specs.Ranges.{InRange, all_in_range, all_spellable, number_step, small_operand, spelled_operand}
@@ -56,13 +57,14 @@ abbrev ints : ℕ → List ValType
 ints n = replicate n I32
 
 short : {A : Type 0} (text : A → List ℕ) → SmallSection text []
-short text = record { items = omega arith; size = omega arith }
+unfolding unsigned_text
+short text = let e : length (vector_text text []) ≡ 1 = refl in record { items = omega arith; size = omega (arith, e) }
 
 -- its sizes are small, and it is within the limits with a thousand parameters, and not with one more
 small_sizes : SmallSizes (with_type (I32 ∷ []))
-unfolding func_type_text val_text val_code
-small_sizes = record {
-  types = record { items = omega arith; size = omega arith };
+unfolding unsigned_text func_type_text val_code
+small_sizes = let e : length (vector_text func_type_text (with_type (I32 ∷ [])).types) ≡ 5 = refl in record {
+  types = record { items = omega arith; size = omega (arith, e) };
   imports = short _;
   func_types = short _;
   tables = short _;
