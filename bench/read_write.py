@@ -3,7 +3,7 @@
 
     bench/read_write.py [PROGRAM]
 
-Makes modules of 1, 4 and 16 MiB, and prints for each tool the time (the least of three runs), the greatest resident memory, and for the
+Makes modules of 1, 4 and 16 MiB, and prints for each tool the processor time (the least of three runs), the greatest resident memory, and for the
 smallest module the machine instructions, as callgrind of valgrind counts them. `merge` reads, validates and writes; wasm-strip (wabt) reads and copies
 sections; wasm-opt (binaryen) without passes reads and writes; wasm-validate (wabt) reads and validates. A tool that is not installed is skipped.
 Then it prints where the instructions of `merge` go for the smallest module: those of whole calls of the functions in PARTS, and all.
@@ -79,11 +79,10 @@ def module(size):
 
 
 def timed(command):
-    """Seconds and greatest resident MiB of one run."""
-    begun = time.monotonic()
+    """Seconds of processor time and greatest resident MiB of one run."""
     child = subprocess.Popen(command, stdout=subprocess.DEVNULL, stderr=subprocess.DEVNULL)
     _, status, usage = os.wait4(child.pid, 0)
-    return time.monotonic() - begun, usage.ru_maxrss / 1024, status
+    return usage.ru_utime + usage.ru_stime, usage.ru_maxrss / 1024, status
 
 
 def instructions(command, folder):
