@@ -148,14 +148,9 @@ fn undeclared(alloc: Global, module: &Module) -> Result<Items<ConstExpr>, NoMemo
     ensures { IfOk result (λ items. items ≡ map const.Func (declared_refs «module».now)) }
 {
     let count = module.func_space();
-    let inside = match named_inside(alloc, module.funcs.as_slice(), count) {
-        Ok(marks) => marks,
-        Err(_) => return Err(NoMemory),
-    };
-    match named_outside(alloc, module, count) {
-        Ok(outside) => items_of(alloc, inside.as_slice(), outside.as_slice()),
-        Err(_) => Err(NoMemory),
-    }
+    let inside = named_inside(alloc, module.funcs.as_slice(), count)?;
+    let outside = named_outside(alloc, module, count)?;
+    items_of(alloc, inside.as_slice(), outside.as_slice())
 }
 
 /// Appends one declarative element segment with the functions that a `ref.func` in a body names and that no element segment, initialiser of a global or

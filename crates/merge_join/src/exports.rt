@@ -1,6 +1,6 @@
 // The exports of all parts, under the names that the mode gives them.
 
-ghost use Rattle.std.specs.Prelude.{◌≡◌, ◌<◌, ◌≤◌, ◌+◌, ◌++◌, ◌∷◌, [], List, map, length, slice_get, None, IfOk, IfErr, OnOk, IsOk, IsTrue};
+ghost use Rattle.std.specs.Prelude.{◌≡◌, ◌≤◌, ◌+◌, ◌++◌, ◌∷◌, [], List, map, length, None, IfOk, IfErr, OnOk, IsOk, IsTrue};
 ghost use Rattle.wasm_tree.specs.declared.module.Export as tree;
 ghost use Rattle.std.specs.List.{list_all};
 ghost use Rattle.index_remap.specs.Renumbered.{fits_export, new_export};
@@ -41,17 +41,6 @@ fn all_names<'a>(alloc: Global, parts: &'a [Part]) -> Result<Vec<&'a str>, NoMem
     Ok(names)
 }
 
-// The conflict at a place.
-fn conflict_at(alloc: Global, names: &[&str], place: usize) -> JoinFault
-    requires { place < length names.now }
-    ensures { IsRepeatOf result (slice_get (texts names.now) place) }
-{
-    match Name::from_text(alloc, names[place]) {
-        Ok(name) => JoinFault::ExportConflict { name },
-        Err(_) => JoinFault::NoMemory,
-    }
-}
-
 /// What each export is called, and nothing where it is dropped, or the name that stands twice.
 pub(crate) fn new_names(
     alloc: Global,
@@ -66,7 +55,10 @@ pub(crate) fn new_names(
     let names = all_names(alloc, parts)?;
     match choose_names(alloc, names.as_slice(), mode) {
         Ok(news) => Ok(news),
-        Err(NameFault::Conflict { place }) => Err(conflict_at(alloc, names.as_slice(), place)),
+        Err(NameFault::Conflict { place }) => {
+            let name = Name::from_text(alloc, names[place])?;
+            Err(JoinFault::ExportConflict { name })
+        }
         Err(NameFault::NoMemory) => Err(JoinFault::NoMemory),
     }
 }

@@ -9,7 +9,7 @@ ghost use Rattle.merge_link.specs.Joining.{the_end};
 
 use crate::joining::Ending;
 use merge_terms::{End, Part};
-use std::alloc::{AllocError, Global};
+use std::alloc::Global;
 use wasm_bytes::{Items, NoMemory};
 
 // An end as it is written down.
@@ -29,7 +29,7 @@ fn end_entry(end: Ending) -> End
 }
 
 /// Ends as they are written down.
-pub fn end_entries(alloc: Global, ends: &[Ending]) -> Result<Vec<End>, AllocError>
+pub fn end_entries(alloc: Global, ends: &[Ending]) -> Result<Vec<End>, NoMemory>
     ensures { IfOk result (λ entries. entries.items ≡ map (λ e. end_entry (the_end e)) ends.now) }
 {
     let mut entries = Vec::new(alloc);
@@ -52,7 +52,8 @@ fn piece<T: Copy>(
     Items::from_slice(alloc, &flat[from..from + count])
 }
 
-fn pieces<T: Copy + Drop>(
+/// One list for each part, with one entry for each of its imports.
+pub fn cut<T: Copy + Drop>(
     alloc: Global,
     parts: &[Part],
     flat: &[T],
@@ -68,19 +69,4 @@ fn pieces<T: Copy + Drop>(
         from += count;
     }
     Ok(lists)
-}
-
-/// One list for each part, with one entry for each of its imports.
-pub fn cut<T: Copy + Drop>(
-    alloc: Global,
-    parts: &[Part],
-    flat: &[T],
-) -> Result<Items<Items<T>>, AllocError>
-    requires { length flat.now ≡ length (linking.sites (named_modules parts.now)) }
-    ensures { IfOk result (λ lists. lists ≡ cut_by (import_counts parts.now) flat.now) }
-{
-    match pieces(alloc, parts, flat) {
-        Ok(lists) => Ok(lists),
-        Err(_) => Err(AllocError),
-    }
 }

@@ -10,8 +10,9 @@ ghost use Rattle.merge_link.specs.Gathering.{AreFirst, AreLinked, EndsThere, IsS
 
 use crate::joining::{Ending, Joining};
 use crate::sites::{Site, import_at};
-use std::alloc::{AllocError, Global};
+use std::alloc::Global;
 use std::collections::BTreeMap;
+use wasm_bytes::NoMemory;
 use wasm_tree::{Import, Space};
 
 impl<'a> Joining<'a> {
@@ -39,7 +40,7 @@ impl<'a> Joining<'a> {
         alloc: Global,
         sites: &[Site],
         ends: &[Ending],
-    ) -> Result<BTreeMap<(&'a str, &'a str), Site>, AllocError>
+    ) -> Result<BTreeMap<(&'a str, &'a str), Site>, NoMemory>
         requires sites { AreSites self.now.parts.now sites.now }
         requires ends { AreKnown self.now.parts.now sites.now ends.now }
         ensures { IfOk result (λ firsts. AreFirst self.now.parts.now sites.now firsts) }
@@ -92,7 +93,7 @@ impl<'a> Joining<'a> {
         alloc: Global,
         sites: &[Site],
         ends: &[Ending],
-    ) -> Result<Vec<Ending>, AllocError>
+    ) -> Result<Vec<Ending>, NoMemory>
         requires sites { AreSites self.now.parts.now sites.now }
         requires ends { AreKnown self.now.parts.now sites.now ends.now }
         ensures { IfOk result (λ linked. AreLinked self.now.parts.now sites.now linked.items) }

@@ -12,7 +12,8 @@ use crate::joining::{Ending, Entity, Joining};
 use crate::sites::Site;
 use merge_terms::{LinkFault, Read};
 use path_ends::{Step, endings};
-use std::alloc::{AllocError, Global};
+use std::alloc::Global;
+use wasm_bytes::NoMemory;
 use wasm_meaning::ends_and_reads_are_paths;
 use wasm_tree::{ConstExpr, ExportDesc, Space};
 
@@ -26,7 +27,7 @@ pub struct OwnGlobal {
 
 impl<'a> Joining<'a> {
     /// The globals that the parts define, by part, then by index.
-    pub fn own_globals(&self, alloc: Global) -> Result<Vec<OwnGlobal>, AllocError>
+    pub fn own_globals(&self, alloc: Global) -> Result<Vec<OwnGlobal>, NoMemory>
         requires joining { IsJoining self.now }
         requires parts { length self.now.parts.now < 2 ^ 32 }
         ensures { IfOk result (λ globals. AreOwn self.now.parts.now globals.items) }
@@ -129,7 +130,7 @@ impl<'a> Joining<'a> {
         sites: &[Site],
         ends: &[Ending],
         globals: &[OwnGlobal],
-    ) -> Result<Vec<Step<Read>>, AllocError>
+    ) -> Result<Vec<Step<Read>>, NoMemory>
         requires joining { IsJoining self.now }
         requires sites { AreSites self.now.parts.now sites.now }
         requires ends { AreKnown self.now.parts.now sites.now ends.now }
@@ -149,7 +150,7 @@ impl<'a> Joining<'a> {
         sites: &[Site],
         ends: &[Ending],
         globals: &[OwnGlobal],
-    ) -> Result<Vec<Option<Read>>, AllocError>
+    ) -> Result<Vec<Option<Read>>, NoMemory>
         requires joining { IsJoining self.now }
         requires sites { AreSites self.now.parts.now sites.now }
         requires ends { AreKnown self.now.parts.now sites.now ends.now }

@@ -10,8 +10,9 @@ use crate::sites::{Site, import_at};
 use crate::tables::Table;
 use merge_terms::Part;
 use path_ends::{Step, endings};
-use std::alloc::{AllocError, Global};
+use std::alloc::Global;
 use std::collections::BTreeMap;
+use wasm_bytes::NoMemory;
 use wasm_meaning::ends_and_reads_are_paths;
 use wasm_tree::{ExportDesc, Import};
 
@@ -74,7 +75,7 @@ impl<'a> Joining<'a> {
         }
     }
 
-    fn steps(&self, alloc: Global, sites: &[Site]) -> Result<Vec<Step<Ending>>, AllocError>
+    fn steps(&self, alloc: Global, sites: &[Site]) -> Result<Vec<Step<Ending>>, NoMemory>
         requires joining { IsJoining self.now }
         requires sites { AreSites self.now.parts.now sites.now }
         ensures { IfOk result (λ steps. AreSteps (linking.import_step (named_modules self.now.parts.now)) (linking.sites (named_modules self.now.parts.now)) the_end (map the_site sites.now) steps.items) }
@@ -88,7 +89,7 @@ impl<'a> Joining<'a> {
     }
 
     /// The end of each import, or none where following it never ends.
-    pub fn ends(&self, alloc: Global, sites: &[Site]) -> Result<Vec<Option<Ending>>, AllocError>
+    pub fn ends(&self, alloc: Global, sites: &[Site]) -> Result<Vec<Option<Ending>>, NoMemory>
         requires joining { IsJoining self.now }
         requires sites { AreSites self.now.parts.now sites.now }
         ensures ends { IfOk result (λ ends. map (option_map the_end) ends.items ≡ map (end_at self.now.parts.now) sites.now) }

@@ -13,7 +13,8 @@ ghost use Rattle.merge_link.specs.Limits.{IsDemand, clash_of, kept_of, met_at};
 use crate::joining::{Ending, Joining};
 use crate::sites::{Site, import_at};
 use merge_terms::LinkFault;
-use std::alloc::{AllocError, Global};
+use std::alloc::Global;
+use wasm_bytes::NoMemory;
 use wasm_tree::{ImportDesc, Limits};
 
 fn least(a: Option<u32>, b: Option<u32>) -> Option<u32>
@@ -37,10 +38,10 @@ fn meet(limits: Limits, met: Limits) -> Limits
 }
 
 // What nobody asks for, so many times.
-fn no_demands(alloc: Global, count: usize) -> Result<Vec<Limits>, AllocError>
+fn no_demands(alloc: Global, count: usize) -> Result<Vec<Limits>, NoMemory>
     ensures { IfOk result (λ all. all.items ≡ replicate count (record { min = 0; max = None })) }
 {
-    vec![in alloc; Limits { min: 0, max: None }; count]
+    Ok(vec![in alloc; Limits { min: 0, max: None }; count]?)
 }
 
 fn limits_of(desc: ImportDesc) -> Option<Limits>
@@ -111,7 +112,7 @@ impl<'a> Joining<'a> {
         alloc: Global,
         sites: &[Site],
         linked: &[Ending],
-    ) -> Result<Vec<Limits>, AllocError>
+    ) -> Result<Vec<Limits>, NoMemory>
         requires joining { IsJoining self.now }
         requires sites { AreSites self.now.parts.now sites.now }
         requires linked { AreLinked self.now.parts.now sites.now linked.now }
@@ -153,7 +154,7 @@ impl<'a> Joining<'a> {
         alloc: Global,
         sites: &[Site],
         linked: &[Ending],
-    ) -> Result<Vec<Option<Limits>>, AllocError>
+    ) -> Result<Vec<Option<Limits>>, NoMemory>
         requires joining { IsJoining self.now }
         requires sites { AreSites self.now.parts.now sites.now }
         requires linked { AreLinked self.now.parts.now sites.now linked.now }

@@ -9,7 +9,8 @@ ghost use Rattle.merge_link.specs.Joining.{AreStops, IsJoining, IsStop, end_at, 
 use crate::joining::{Ending, Joining};
 use crate::sites::Site;
 use merge_terms::LinkFault;
-use std::alloc::{AllocError, Global};
+use std::alloc::Global;
+use wasm_bytes::NoMemory;
 
 impl<'a> Joining<'a> {
     // Why an import does not end as it asks, if it does not.
@@ -56,7 +57,7 @@ impl<'a> Joining<'a> {
 }
 
 /// The ends of imports that all have one.
-pub fn known_ends(alloc: Global, ends: &[Option<Ending>]) -> Result<Vec<Ending>, AllocError>
+pub fn known_ends(alloc: Global, ends: &[Option<Ending>]) -> Result<Vec<Ending>, NoMemory>
     requires { (n : ℕ) → slice_get ends.now n ≡ Some None → ⊥ }
     ensures { IfOk result (λ known. map Some known.items ≡ ends.now) }
 {

@@ -11,7 +11,8 @@ ghost use Rattle.merge_link.specs.Reads.{AreValues, fixed_read, read_past};
 use crate::joining::{Ending, Joining};
 use crate::sites::{Site, import_at};
 use merge_terms::Read;
-use std::alloc::{AllocError, Global};
+use std::alloc::Global;
+use wasm_bytes::NoMemory;
 use wasm_meaning::ends_and_reads_are_paths;
 use wasm_tree::{GlobalType, ImportDesc};
 
@@ -56,7 +57,7 @@ impl<'a> Joining<'a> {
         sites: &[Site],
         ends: &[Ending],
         values: &[Option<Read>],
-    ) -> Result<Vec<Option<Read>>, AllocError>
+    ) -> Result<Vec<Option<Read>>, NoMemory>
         requires joining { IsJoining self.now }
         requires sites { AreSites self.now.parts.now sites.now }
         requires ends { AreKnown self.now.parts.now sites.now ends.now }

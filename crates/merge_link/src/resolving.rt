@@ -18,8 +18,8 @@ use crate::matching::known_ends;
 use crate::sites::{Site, all_sites};
 use crate::tables::{all_names, all_tables};
 use merge_terms::{LinkFault, Links, Part, Read};
-use std::alloc::{AllocError, Global};
-use wasm_bytes::Items;
+use std::alloc::Global;
+use wasm_bytes::{Items, NoMemory};
 use wasm_tree::Limits;
 
 /// The linked ends of imports, and the limits that they keep.
@@ -86,7 +86,7 @@ impl<'a> Joining<'a> {
         kept: &Kept,
         reads: &[Option<Read>],
         sites: &[Site],
-    ) -> Result<Links, AllocError>
+    ) -> Result<Links, NoMemory>
         requires sites { AreSites self.now.parts.now sites.now }
         requires kept { IsLinkedKept self.now.parts.now sites.now kept.now }
         requires reads { reads.now ≡ map (read_entry_at self.now.parts.now) sites.now }

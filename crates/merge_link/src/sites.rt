@@ -6,7 +6,8 @@ ghost use Rattle.wasm_meaning.specs.Linking as linking;
 ghost use Rattle.merge_link.specs.Sites.{AreSites, IsThere, the_site};
 
 use merge_terms::Part;
-use std::alloc::{AllocError, Global};
+use std::alloc::Global;
+use wasm_bytes::NoMemory;
 use wasm_tree::Import;
 
 /// The place of an import: its part, and its place in the import section.
@@ -17,7 +18,7 @@ pub struct Site {
 }
 
 /// The places of all imports.
-pub fn all_sites(alloc: Global, parts: &[Part]) -> Result<Vec<Site>, AllocError>
+pub fn all_sites(alloc: Global, parts: &[Part]) -> Result<Vec<Site>, NoMemory>
     requires parts { length parts.now < 2 ^ 32 }
     requires imports { length (linking.sites (named_modules parts.now)) < 2 ^ 32 }
     ensures { IfOk result (λ sites. AreSites parts.now sites.items) }

@@ -12,8 +12,9 @@ ghost use Rattle.wasm_meaning.specs.Linking as linking;
 ghost use Rattle.merge_link.specs.Tables.{AreIndices, AreNames, AreTables, IsTableOf, imports_before, places_of};
 
 use merge_terms::Part;
-use std::alloc::{AllocError, Global};
+use std::alloc::Global;
 use std::collections::BTreeMap;
+use wasm_bytes::NoMemory;
 use wasm_tree::{Export, ExportDesc, Import, Module, Space};
 
 /// What is looked up in a part.
@@ -33,7 +34,7 @@ pub struct Table<'a> {
 fn exported<'a>(
     alloc: Global,
     exports: &'a [Export],
-) -> Result<BTreeMap<&'a str, ExportDesc>, AllocError>
+) -> Result<BTreeMap<&'a str, ExportDesc>, NoMemory>
     ensures { IfOk result (λ map. (name : List ℕ) → get_by (λ k. slice_cmp nat_cmp name k.now) map ≡ linking.export_named exports.now name) }
 {
     let mut map = BTreeMap::new(alloc);
@@ -45,7 +46,7 @@ fn exported<'a>(
 }
 
 // The places of the imports that add to an index space.
-fn places(alloc: Global, imports: &[Import], space: Space) -> Result<Vec<u32>, AllocError>
+fn places(alloc: Global, imports: &[Import], space: Space) -> Result<Vec<u32>, NoMemory>
     requires { length imports.now < 2 ^ 32 }
     ensures { IfOk result (λ places. places.items ≡ linking.places (linking.has_kind space) imports.now 0) }
 {
@@ -59,7 +60,7 @@ fn places(alloc: Global, imports: &[Import], space: Space) -> Result<Vec<u32>, A
 }
 
 // For each import how many globals are imported before it.
-fn global_indices(alloc: Global, imports: &[Import]) -> Result<Vec<u32>, AllocError>
+fn global_indices(alloc: Global, imports: &[Import]) -> Result<Vec<u32>, NoMemory>
     requires { length imports.now < 2 ^ 32 }
     ensures { IfOk result (λ indices. AreIndices imports.now indices.items) }
 {
@@ -79,7 +80,7 @@ fn table_of<'a>(
     module: &'a Module,
     first_import: u32,
     first_global: u32,
-) -> Result<Table<'a>, AllocError>
+) -> Result<Table<'a>, NoMemory>
     requires { length «module».now.imports < 2 ^ 32 }
     ensures { IfOk result (IsTableOf first_import first_global «module».now) }
 {
@@ -97,7 +98,7 @@ fn table_of<'a>(
 }
 
 /// What is looked up in each part.
-pub fn all_tables<'a>(alloc: Global, parts: &'a [Part]) -> Result<Vec<Table<'a>>, AllocError>
+pub fn all_tables<'a>(alloc: Global, parts: &'a [Part]) -> Result<Vec<Table<'a>>, NoMemory>
     requires imports { length (linking.sites (named_modules parts.now)) < 2 ^ 32 }
     requires globals { length (own_globals (named_modules parts.now)) < 2 ^ 32 }
     ensures { IfOk result (λ tables. AreTables (named_modules parts.now) tables.items) }
@@ -116,7 +117,7 @@ pub fn all_tables<'a>(alloc: Global, parts: &'a [Part]) -> Result<Vec<Table<'a>>
 }
 
 /// The part of each name; where several bear one, the first.
-pub fn all_names<'a>(alloc: Global, parts: &'a [Part]) -> Result<BTreeMap<&'a str, u32>, AllocError>
+pub fn all_names<'a>(alloc: Global, parts: &'a [Part]) -> Result<BTreeMap<&'a str, u32>, NoMemory>
     requires { length parts.now < 2 ^ 32 }
     ensures { IfOk result (λ names. AreNames (named_modules parts.now) names) }
 {

@@ -4,7 +4,6 @@ ghost use Rattle.std.specs.Prelude.{◌≡◌};
 ghost use Rattle.merge_terms.specs.declared.faults.JoinFault.TheVariants.{NoMemory as OutOfMemory};
 ghost use Rattle.merge_terms.specs.declared.faults.LinkFault.TheVariants.{NoMemory as NotLinkedForMemory};
 
-use std::alloc::AllocError;
 use wasm_bytes::{Name, NoMemory};
 use wasm_tree::Which;
 
@@ -24,10 +23,10 @@ pub enum LinkFault {
     NoMemory,
 }
 
-impl From<AllocError> for LinkFault {
+impl From<NoMemory> for LinkFault {
     ghost from_gives = { λ _ e. e ≡ NotLinkedForMemory };
 
-    fn from(_none: AllocError) -> LinkFault {
+    fn from(_none: NoMemory) -> LinkFault {
         LinkFault::NoMemory
     }
 }

@@ -5,7 +5,7 @@ use Rattle.merge_link.specs.Tables.{imports_before}
 use Rattle.merge_link.proofs.Cuts.{one_cut}
 use Rattle.merge_link.proofs.Joins.{module_read}
 use Rattle.merge_link.proofs.Numbers.{imports_more, imports_most, imports_none}
-use Rattle.merge_link.proofs.cutting.pieces.Goals as goal
+use Rattle.merge_link.proofs.cutting.cut.Goals as goal
 
 pub loop-part-init : goal.loop-part-init
 loop-part-init g c = record {

@@ -2,7 +2,7 @@ use Rattle.std.proofs.Common.{drop, ◌++◌, ◌≡◌}
 use Rattle.merge_terms.specs.Parts.{named_modules}
 use Rattle.merge_link.specs.Cutting.{cut_by, import_counts}
 use Rattle.merge_link.specs.Tables.{imports_before}
-use Rattle.merge_link.proofs.cutting.pieces.Given as goal
+use Rattle.merge_link.proofs.cutting.cut.Given as goal
 
 abbrev pub invariant-loop-part : goal.invariant-loop-part
 invariant-loop-part g l = record {
