@@ -1,5 +1,5 @@
 -- A job that is done keeps the module that it read.
-use Rattle.std.proofs.Common.{Bool, true, false, not, ◌&&◌, cond, ltb, ◌≡◌, ◌∙◌, refl, sym, ap, subst, ℕ, zero, suc, ◌-◌, ◌≤◌, List, [], ◌∷◌, ◌++◌, append-nil, take, length, Option, Some, None, IfSome, IfOk, Result, Ok, ◌<◌, ◌^◌, arith, map}
+use Rattle.std.proofs.Common.{IsTrue, Bool, true, false, not, ◌&&◌, cond, ltb, ◌≡◌, ◌∙◌, refl, sym, ap, subst, ℕ, zero, suc, ◌-◌, ◌≤◌, List, [], ◌∷◌, ◌++◌, append-nil, take, length, Option, Some, None, IfSome, IfOk, Result, Ok, ◌<◌, ◌^◌, arith, map}
 use Rattle.std.proofs.lemmas.Bool.Decides.{nat_tests}
 use Rattle.std.specs.FinMap.{get, insert, get-insert}
 use Rattle.std.specs.Cmp.{eq_by_cmp_equiv}
