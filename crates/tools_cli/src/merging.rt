@@ -90,6 +90,5 @@ pub(crate) fn decide_merge<'a>(
 {
     let parts = name_parts(alloc, merge.sources.as_slice(), modules)?;
     let tree = merge_parts(alloc, merge, parts)?;
-    let decision = one_module(alloc, merge.output, tree)?;
-    Ok(decision)
+    Ok(one_module(alloc, merge.output, tree)?)
 }
