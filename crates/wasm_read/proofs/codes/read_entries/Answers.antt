@@ -14,7 +14,7 @@ returns-in_err-code-clause-gives c =
 pub loop-i-preserved : goal.loop-i-preserved
 loop-i-preserved c =
     let l = c.loop-i in record {
-      reads = each_more (entry_at c.args.many c.args.section) next_func _ c.args.count l._i l.func l.codes c.keep.new.self c.in_ok-code.code l.cursor c.read_entry.new.cursor c.loop-i-test.true c.in_ok-code.ensures.gives c.in-Ok.ensures.ok l.invariant.reads;
+      reads = each_more (entry_at c.args.many c.args.section) next_func _ c.args.count l._i l.func l.codes c.keep.new.self c.in_ok-code.code l.cursor c.read_entry.new.cursor c.loop-i-test.true c.in_ok-code.ensures.gives c.in_ok-keep.ensures.ok l.invariant.reads;
       number = omega (arith, l.invariant.number);
-      uses = rw (c.in-Ok.ensures.ok) (any_more (λ (f : Func). uses_data f.body) c.args.pile.now.uses_data l.pile.uses_data _ l.codes c.in_ok-code.code l.invariant.uses c.in_ok-code.ensures.uses);
+      uses = rw (c.in_ok-keep.ensures.ok) (any_more (λ (f : Func). uses_data f.body) c.args.pile.now.uses_data l.pile.uses_data _ l.codes c.in_ok-code.code l.invariant.uses c.in_ok-code.ensures.uses);
     }
