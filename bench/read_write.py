@@ -98,7 +98,7 @@ PARTS = [
     ("typing bodies", "wasm_typing::check::is_well_typed"),
     ("joining", "merge_join::tree::joined_tree"),
     ("renumbering bodies, in joining", "index_remap::in_place::rewrite_all"),
-    ("writing", "tools_cli::encode::encode_output"),
+    ("measuring and writing", "tools_cli::encode::encode"),
 ]
 
 
