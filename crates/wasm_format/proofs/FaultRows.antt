@@ -15,13 +15,13 @@ use Rattle.wasm_format.specs.BodyReading.{arg_at, memory_at, block_at, body_at, 
 use Rattle.wasm_format.specs.Contents.{agrees, codes_at, contents_at, entry_at, framed_at, parts_at, read_at, read_fault, section_at}
 
 -- one type of no parameters and no results, and one function of it
-abbrev types : List ℕ
+abbrev pub types : List ℕ
 types = 0x01 ∷ 0x04 ∷ 0x01 ∷ 0x60 ∷ 0x00 ∷ 0x00 ∷ []
 
-abbrev functions : List ℕ
+abbrev pub functions : List ℕ
 functions = 0x03 ∷ 0x02 ∷ 0x01 ∷ 0x00 ∷ []
 
-abbrev section : ℕ → List ℕ → List ℕ
+abbrev pub section : ℕ → List ℕ → List ℕ
 section id content = id ∷ length content ∷ content
 
 -- a file whose one function has this entry

@@ -23,4 +23,5 @@ pub mod CauseLaws
 pub mod PlaceLaws
 pub mod WithinLaws
 mod Rows
-mod FaultRows
+pub mod FaultRows
+mod NameRows

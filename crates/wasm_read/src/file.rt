@@ -1,4 +1,4 @@
-ghost use Rattle.std.specs.Prelude.{◌≡◌, ◌<◌, ◌≤◌, ◌+◌, ◌^◌, ◌⊎◌, ℕ, length, IfOk, IfErr, IsTrue, Ok, Err, Some, None, false};
+ghost use Rattle.std.specs.Prelude.{◌≡◌, ◌<◌, ◌≤◌, ◌+◌, ◌^◌, ◌⊎◌, ◌↔◌, ℕ, length, IfOk, IfErr, IsTrue, Ok, Err, Some, None, false};
 ghost use Rattle.wasm_bytes.specs.Frames.{HasHeader, FirstBad};
 ghost use Rattle.wasm_bytes.specs.Reading.{IsBytes};
 ghost use Rattle.wasm_bytes.specs.FrameViews.{Inside, framed, framed_all};
@@ -10,7 +10,7 @@ ghost use Rattle.wasm_format.specs.declared.fault.ReadFault.{ReadFault as SomeFa
 ghost use Rattle.wasm_format.specs.declared.fault.ReadFault.TheVariants as fault;
 ghost use Rattle.wasm_tree.specs.declared.which.Which.{Which as SomeWhich};
 ghost use Rattle.wasm_format.specs.Stops.{NotSupported, Over};
-ghost use Rattle.wasm_format.specs.Causes.{SectionStops, EntryStops, MalformedSection, MalformedEntry, FaultyWhole};
+ghost use Rattle.wasm_format.specs.Causes.{Cause, SectionStops, EntryStops, MalformedSection, MalformedEntry, FaultyWhole};
 ghost use Rattle.wasm_format.specs.Files.{nothing, tree_of, Spells, Within};
 ghost use Rattle.wasm_format.specs.Contents.{GivesAll, contents_at, read_at, read_fault};
 ghost use Rattle.wasm_read.specs.Views.{GivesFramed, GivesParts};
@@ -22,7 +22,7 @@ use std::alloc::Global;
 use wasm_bytes::{Frame, FrameFault, Items, frames};
 use wasm_format::{
     Parts, ReadFault, faults_have_causes, spelled_bodies_name_memory_zero,
-    spelled_trees_are_bounded,
+    spelled_files_are_within_where_nothing_is_over, spelled_trees_are_bounded,
 };
 use wasm_tree::Module;
 
@@ -143,10 +143,13 @@ pub fn read(alloc: Global, bytes: &[u8]) -> Result<Module, ReadFault>
     ensures unsupported { (n : ℕ) → Told result (fault.Unsupported n None) (SectionStops bytes.now false n NotSupported) }
     ensures unsupported_body { (n f : ℕ) → Told result (fault.Unsupported n (Some f)) (EntryStops bytes.now false n f NotSupported) }
     ensures limit { (which : SomeWhich) → Told result (fault.Limit which) ((n : ℕ) × (SectionStops bytes.now false n (Over which) ⊎ ((f : ℕ) × EntryStops bytes.now false n f (Over which)))) }
+    // A file that spells a tree is within the limits exactly where no count, no nesting and no sum of locals in it is over its limit.
+    ensures within { (m : ModuleTree) → Spells bytes.now m false → Within bytes.now false ↔ ((which : SomeWhich) → Cause bytes.now false (fault.Limit which) → ⊥) }
     ensures bounded { IfOk result (λ m. IsBounded m) }
     ensures memory { IfOk result (λ m. IsTrue (memory_zero_funcs m.funcs)) }
 {
     faults_have_causes();
+    spelled_files_are_within_where_nothing_is_over();
     spelled_trees_are_bounded();
     spelled_bodies_name_memory_zero();
     read_file(alloc, bytes, false)

@@ -35,6 +35,9 @@ returns-clause-unsupported_body c = λ n f. told_by _ _ (c.read_file.ensures.byt
 pub returns-clause-limit : goal.returns-clause-limit
 returns-clause-limit c = λ which. told_by _ _ (c.read_file.ensures.bytes) c.faults_have_causes.ensures.causes c.read_file.ensures.gives (fault.Limit which) (λ h. cc)
 
+pub returns-clause-within : goal.returns-clause-within
+returns-clause-within c = λ m. c.spelled_files_are_within_where_nothing_is_over.ensures _ _ m c.read_file.ensures.bytes
+
 pub returns-clause-bounded : goal.returns-clause-bounded
 returns-clause-bounded c = found_bounded c.spelled_trees_are_bounded.ensures _ _ (call_found false _ c.read_file.ensures.bytes _ c.read_file.ensures.gives)
 
