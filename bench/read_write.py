@@ -95,7 +95,7 @@ def instructions(command, folder):
 # a part of the job, and the function whose calls it is
 PARTS = [
     ("reading sections", "wasm_read::sections::read_section"),
-    ("typing bodies", "wasm_typing::check::is_well_typed"),
+    ("typing bodies", "wasm_valid_bodies::check::is_well_typed"),
     ("joining", "merge_join::tree::joined_tree"),
     ("renumbering bodies, in joining", "index_remap::in_place::rewrite_all"),
     ("measuring and writing", "tools_cli::encode::encode"),

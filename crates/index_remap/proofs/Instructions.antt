@@ -10,8 +10,8 @@ use Rattle.wasm_tree.specs.declared.instr.Instr.{Instr, fold_out-Instr, map-Inst
 use Rattle.wasm_tree.specs.declared.instr.Instr.TheVariants.{Block', Loop', If', Return, Call, CallIndirect, LocalGet, LocalSet, LocalTee, GlobalGet, GlobalSet, TableGet, TableSet, Load, Store, MemorySize, MemoryGrow, RefFunc, MemoryInit, DataDrop, MemoryCopy, MemoryFill, TableInit, ElemDrop, TableCopy, TableGrow, TableSize, TableFill}
 use Rattle.base_lists.specs.Every.{Every}
 use Rattle.wasm_tree.specs.Operands.{block_operands, map_operands}
-use Rattle.wasm_typing.specs.Ops.{load_width, store_width}
-use Rattle.wasm_typing.specs.Typing.{Stack, Effect, Gives, Leaves, Acts, Context, signature_of, fits_memory, effect_of, Fits}
+use Rattle.wasm_valid_bodies.specs.Ops.{load_width, store_width}
+use Rattle.wasm_valid_bodies.specs.Typing.{Stack, Effect, Gives, Leaves, Acts, Context, signature_of, fits_memory, effect_of, Fits}
 use Rattle.index_remap.specs.declared.remap.Remap.{Remap}
 use Rattle.index_remap.specs.Renumbered.{entry, new_type, new_memarg, renumbered}
 use Rattle.index_remap.specs.Agreement.{Keeps, FuncAgrees, OperandAgrees, LayerAgrees, MemoryAgrees, DataAgrees, labelled}

@@ -5,7 +5,7 @@ use Rattle.wasm_tree.specs.declared.types.RefType.{RefType}
 use Rattle.wasm_tree.specs.declared.types.RefType.TheVariants.{Func}
 use Rattle.wasm_tree.specs.declared.types.ValType.TheVariants.{Ref}
 use Rattle.wasm_tree.specs.declared.types.FuncType.{FuncType}
-use Rattle.wasm_typing.specs.Typing.{Gives, signature_in, only, both}
+use Rattle.wasm_valid_bodies.specs.Typing.{Gives, signature_in, only, both}
 use Rattle.index_remap.specs.Agreement.{Keeps}
 
 pub keeps_map : {A B : Type 0} (f : A → B) (m n : Option A) → Keeps m n → Keeps (option_map f m) (option_map f n)

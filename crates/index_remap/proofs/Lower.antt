@@ -4,7 +4,7 @@ use Rattle.wasm_tree.specs.declared.types.ValType.{ValType}
 use Rattle.wasm_tree.specs.declared.types.ValType.TheVariants.{I32}
 use Rattle.wasm_tree.specs.declared.instr.Instr.{Instr}
 use Rattle.wasm_tree.specs.declared.instr.Instr.TheVariants.{Block', Loop', If'}
-use Rattle.wasm_typing.specs.Typing.{Operand, Stack, Matches, AllMatch, EachMatches, operands, IsReference, Effect, Gives, Leaves, Drops, Selects, TestsNull, Branches, Acts, Context, Fits, LeadsAll}
+use Rattle.wasm_valid_bodies.specs.Typing.{Operand, Stack, Matches, AllMatch, EachMatches, operands, IsReference, Effect, Gives, Leaves, Drops, Selects, TestsNull, Branches, Acts, Context, Fits, LeadsAll}
 use Rattle.index_remap.specs.Related.{ListRel, nil, cons}
 use Rattle.index_remap.proofs.Rel.{append_rel}
 

@@ -6,7 +6,7 @@ use Rattle.wasm_tree.specs.declared.types.BlockType.TheVariants as bt
 use Rattle.wasm_tree.specs.declared.instr.Instr.{Instr, out-Instr, end_of-Instr, more_of-Instr, the_lemmas}
 use Rattle.wasm_tree.specs.declared.instr.Instr.TheViews.{outs-Block'}
 use Rattle.wasm_tree.specs.declared.instr.Instr.TheVariants.{Block, Block', Br, Call, CallIndirect, LocalGet, Nop}
-use Rattle.wasm_typing.specs.Typing.{Gives, Leaves, Context, WellTyped}
+use Rattle.wasm_valid_bodies.specs.Typing.{Gives, Leaves, Context, WellTyped}
 use Rattle.index_remap.specs.declared.remap.Remap.{Remap}
 use Rattle.index_remap.specs.Renumbered.{renumbered}
 use Rattle.wasm_tree.specs.Layers.{ListLayers}

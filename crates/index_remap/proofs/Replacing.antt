@@ -10,7 +10,7 @@ use Rattle.wasm_tree.specs.declared.instr.Instr.{Instr, out-Instr, Row_of-Instr,
 use Rattle.wasm_tree.specs.declared.instr.Instr.TheBlock.{hidden-the_row-Instr-0}
 use Rattle.wasm_tree.specs.declared.instr.Instr.TheViews.{outs-Block', outs-Loop', outs-If'}
 use Rattle.wasm_tree.specs.declared.instr.Instr.TheVariants.{Block, Block', Loop, Loop', If, If', Call}
-use Rattle.wasm_typing.specs.Typing.{Stack, operands, AllMatch, Signature, signature_of, signature_in, Effect, Gives, Acts, gives_of, Context, Ends, Fits, Leads, LeadsAll, WellTyped}
+use Rattle.wasm_valid_bodies.specs.Typing.{Stack, operands, AllMatch, Signature, signature_of, signature_in, Effect, Gives, Acts, gives_of, Context, Ends, Fits, Leads, LeadsAll, WellTyped}
 use Rattle.index_remap.specs.declared.remap.Remap.{Remap}
 use Rattle.index_remap.specs.Renumbered.{new_type, renumbered}
 use Rattle.index_remap.specs.References.{is_among}
@@ -23,7 +23,7 @@ use Rattle.index_remap.specs.Replaced.{Labels, Codes, CallReplaced, block_label,
 use Rattle.index_remap.proofs.Instructions.{plain_kept, type_kept}
 use Rattle.index_remap.proofs.Keeping.{then_is}
 use Rattle.index_remap.proofs.Lower.{Lower, lower_self, lower_on, lower_match, match_lower, fits_lower, leads_lower, leads_over, leads_on}
-use Rattle.wasm_typing.proofs.Runs.{ends_from}
+use Rattle.wasm_valid_bodies.proofs.Runs.{ends_from}
 
 -- the type of a call is that of its function
 call_type : (o : Option FuncType) (e : Effect) → gives_of (signature_in o) ≡ Some e → (t : FuncType) × (o ≡ Some t) × (Gives t.params t.results ≡ e)

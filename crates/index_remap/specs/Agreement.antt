@@ -8,7 +8,7 @@ use Rattle.wasm_tree.specs.declared.types.ValType.{ValType}
 use Rattle.wasm_tree.specs.declared.types.FuncType.{FuncType}
 use Rattle.wasm_tree.specs.declared.instr.Instr.{Instr}
 use Rattle.wasm_tree.specs.declared.instr.Instr.TheOpen.{Instr-F}
-use Rattle.wasm_typing.specs.Typing.{Context}
+use Rattle.wasm_valid_bodies.specs.Typing.{Context}
 use Rattle.index_remap.specs.declared.remap.Remap.{Remap}
 
 -- what the first has, the second has

@@ -13,7 +13,7 @@ use Rattle.index_remap.specs.RelatedRuns.{ShowRel, RunRel, OutRel, turned, Keeps
 use Rattle.wasm_tree.specs.declared.types.ValType.{ValType}
 use Rattle.wasm_tree.specs.declared.types.FuncType.{FuncType}
 use Rattle.wasm_tree.specs.declared.instr.Instr.{Instr}
-use Rattle.wasm_typing.specs.Typing.{Context, WellTyped}
+use Rattle.wasm_valid_bodies.specs.Typing.{Context, WellTyped}
 use Rattle.index_remap.specs.declared.remap.Remap.{Remap}
 use Rattle.index_remap.specs.Renumbered.{renumbered_all}
 use Rattle.index_remap.specs.CodeNames.{LayerNames}

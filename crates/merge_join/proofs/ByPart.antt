@@ -6,13 +6,13 @@ use Rattle.std.specs.List.{flat_map}
 use Rattle.std.proofs.lemmas.Option.{slice_get-map, slice_get_within, get_or_from_slice_get}
 use Rattle.wasm_tree.specs.declared.module.Module.{Module}
 use Rattle.wasm_meaning.specs.Linking.{Part, Site, module_at, sites_in}
-use Rattle.merge_terms.specs.declared.parts.Part as declared
-use Rattle.merge_terms.specs.Parts.{named_module, named_modules}
-use Rattle.merge_terms.specs.Linked.{by_import_from, by_import}
-use Rattle.merge_terms.specs.Merged.{by_part_from, by_part}
+use Rattle.merge_spec.specs.declared.parts.Part as declared
+use Rattle.merge_spec.specs.Parts.{named_module, named_modules}
+use Rattle.merge_spec.specs.Linked.{by_import_from, by_import}
+use Rattle.merge_spec.specs.Merged.{by_part_from, by_part}
 use Rattle.merge_join.specs.Words.{site, each_part}
 use Rattle.wasm_meaning.proofs.Counts.{module_there}
-use Rattle.merge_validity.proofs.ByPart.{by_part_flat}
+use Rattle.merge_valid_proof.proofs.ByPart.{by_part_flat}
 
 pub named_length : (parts : List declared.Part) → length (named_modules parts) ≡ length parts
 named_length parts = length-map parts named_module

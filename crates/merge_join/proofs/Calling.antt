@@ -8,7 +8,7 @@ use Rattle.wasm_tree.specs.declared.instr.Instr.{Instr}
 use Rattle.wasm_tree.specs.declared.instr.Instr.TheVariants.{Call}
 use Rattle.wasm_meaning.specs.Linking.{Part, first_place}
 use Rattle.wasm_tree.specs.SameTypes.{same_func_type}
-use Rattle.merge_terms.specs.Merged.{merged_types, place_of_type, nullary, start_calls}
+use Rattle.merge_spec.specs.Merged.{merged_types, place_of_type, nullary, start_calls}
 
 abbrev function : ℕ → List LocalGroup → List Instr → Func
 function ty locals body = record { ty = ty; locals = locals; body = body }

@@ -9,17 +9,17 @@ use Rattle.std.proofs.lemmas.List.Elements.{filter-append}
 use Rattle.wasm_tree.specs.declared.module.Module.{Module}
 use Rattle.wasm_meaning.specs.World.{defined_count, defined_before}
 use Rattle.wasm_meaning.specs.Linking.{Part, Site, module_at, sites_in, sites_from, sites}
-use Rattle.merge_terms.specs.declared.parts.Part as declared
-use Rattle.merge_terms.specs.Parts.{named_modules}
-use Rattle.merge_terms.specs.Faults.{stays}
-use Rattle.merge_terms.specs.Merged.{staying, staying_of, imports_kind}
+use Rattle.merge_spec.specs.declared.parts.Part as declared
+use Rattle.merge_spec.specs.Parts.{named_modules}
+use Rattle.merge_spec.specs.Faults.{stays}
+use Rattle.merge_spec.specs.Merged.{staying, staying_of, imports_kind}
 use Rattle.base_lists.specs.Places.{count_of}
 use Rattle.merge_join.specs.Words.{site}
 use Rattle.merge_join.specs.Spaces.{picked, sites_before, count_before}
 use Rattle.merge_join.proofs.ByPart.{named_length, part_more}
 use Rattle.merge_join.proofs.Sites.{sites_in_more, sites_split, staying_is}
 pub use Rattle.wasm_meaning.proofs.Counts.{defined_none, defined_next}
-use Rattle.merge_validity.proofs.Linked.{sites_are}
+use Rattle.merge_valid_proof.proofs.Linked.{sites_are}
 
 -- ---- imports ----
 

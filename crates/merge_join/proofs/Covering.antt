@@ -11,7 +11,7 @@ use Rattle.wasm_meaning.specs.World.{numbers}
 use Rattle.wasm_meaning.specs.Linking.{Part}
 use Rattle.index_remap.specs.declared.remap.Remap.{Remap}
 use Rattle.index_remap.specs.Renumbered.{fits_start, fits_tree}
-use Rattle.merge_terms.specs.Merged.{map_of, new_index, start_of}
+use Rattle.merge_spec.specs.Merged.{map_of, new_index, start_of}
 use Rattle.merge_join.proofs.Holding.{fitting}
 
 -- the new index of a function of the part

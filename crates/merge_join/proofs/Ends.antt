@@ -6,11 +6,11 @@ use Rattle.std.proofs.lemmas.Bool.Decides.{nat_tests}
 use Rattle.wasm_meaning.specs.Linking as linking
 use Rattle.wasm_meaning.specs.Linking.{Part, Site, Entity, linked_end, is_outside, same_site}
 use Rattle.wasm_tree.specs.Spaces.{index_of_export}
-use Rattle.merge_terms.specs.declared.links.End.{End}
-use Rattle.merge_terms.specs.declared.links.End.TheVariants.{Defined, Outside}
-use Rattle.merge_terms.specs.Faults.{stays}
-use Rattle.merge_terms.specs.Linked.{end_entry}
-use Rattle.merge_terms.specs.Merged.{place_of_end}
+use Rattle.merge_spec.specs.declared.links.End.{End}
+use Rattle.merge_spec.specs.declared.links.End.TheVariants.{Defined, Outside}
+use Rattle.merge_spec.specs.Faults.{stays}
+use Rattle.merge_spec.specs.Linked.{end_entry}
+use Rattle.merge_spec.specs.Merged.{place_of_end}
 use Rattle.merge_join.specs.Words.{site, place_at}
 
 -- whether an import is this end

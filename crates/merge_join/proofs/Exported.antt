@@ -8,10 +8,10 @@ use Rattle.wasm_meaning.specs.State.{Text}
 use Rattle.wasm_meaning.specs.Linking.{Part, module_at}
 use Rattle.index_remap.specs.declared.remap.Remap.{Remap}
 use Rattle.index_remap.specs.Renumbered.{new_export}
-use Rattle.export_names.specs.declared.mode.Mode.{Mode}
-use Rattle.export_names.specs.Names.{conflict}
-use Rattle.merge_terms.specs.Merged.{map_of, by_part_from, all_exports, export_names, named_exports}
-use Rattle.merge_terms.specs.Joined.{repeated_name}
+use Rattle.merge_names.specs.declared.mode.Mode.{Mode}
+use Rattle.merge_names.specs.Names.{conflict}
+use Rattle.merge_spec.specs.Merged.{map_of, by_part_from, all_exports, export_names, named_exports}
+use Rattle.merge_spec.specs.Joined.{repeated_name}
 use Rattle.merge_join.proofs.ByPart.{part_push}
 
 -- the exports of one part, renumbered

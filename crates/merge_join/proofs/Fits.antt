@@ -17,17 +17,17 @@ use Rattle.wasm_tree.specs.Spaces.{funcs_of, tables_of, memories_of, globals_of,
 use Rattle.base_lists.proofs.Bools.{left_true, right_true}
 use Rattle.wasm_meaning.specs.Linking as linking
 use Rattle.wasm_meaning.specs.Linking.{Part, Site, Entity, module_at, import_at, has_kind, sites, end_of, linked_end, gathered, gathered_at, first_site, stays_as, same_memory, same_pair, pair_of, is_outside}
-use Rattle.merge_terms.specs.declared.links.End.{End}
-use Rattle.merge_terms.specs.declared.faults.LinkFault.{LinkFault}
-use Rattle.merge_terms.specs.declared.faults.LinkFault.TheVariants.{ImportMismatch}
-use Rattle.merge_terms.specs.Faults.{External, FuncOf, TableOf, MemoryOf, GlobalOf, asked, asked_at, external_of, found, same_but_limits, meets_limits, suits, is_suited, first_fault, end_fault, import_fault, link_fault}
-use Rattle.merge_terms.specs.Linked.{end_entry}
+use Rattle.merge_spec.specs.declared.links.End.{End}
+use Rattle.merge_spec.specs.declared.faults.LinkFault.{LinkFault}
+use Rattle.merge_spec.specs.declared.faults.LinkFault.TheVariants.{ImportMismatch}
+use Rattle.merge_spec.specs.Faults.{External, FuncOf, TableOf, MemoryOf, GlobalOf, asked, asked_at, external_of, found, same_but_limits, meets_limits, suits, is_suited, first_fault, end_fault, import_fault, link_fault}
+use Rattle.merge_spec.specs.Linked.{end_entry}
 use Rattle.merge_join.specs.Words.{site, space_size, IsEnd}
 use Rattle.merge_join.specs.Spaces.{sites_before}
 use Rattle.merge_join.proofs.Sites.{sites_split}
 use Rattle.merge_join.proofs.SpaceSizes.{funcs_size, tables_size, memories_size, globals_size}
-use Rattle.merge_validity.proofs.Linked.{left_none, right_none}
-use Rattle.merge_validity.proofs.Same.{kind_is}
+use Rattle.merge_valid_proof.proofs.Linked.{left_none, right_none}
+use Rattle.merge_valid_proof.proofs.Same.{kind_is}
 
 -- ---- external types have kinds ----
 

@@ -8,7 +8,7 @@ use Rattle.wasm_valid.specs.Validity.{HoldsAt, IsValid, count_of}
 use Rattle.index_remap.specs.declared.remap.Remap.{Remap}
 use Rattle.index_remap.specs.Renumbered.{fits_func, fits_tree, fits_import, fits_import_desc, fits_global, fits_export, fits_start, fits_elem, fits_data}
 use Rattle.index_remap.proofs.Fits.{each_at}
-use Rattle.remap_typing.proofs.Lists.{left_true, right_true}
+use Rattle.index_remap_proof.proofs.Lists.{left_true, right_true}
 
 abbrev pub ItemsHold : Module → Type 0
 ItemsHold m = (k : ItemKind) (i : ℕ) → i < count_of m true k → HoldsAt m k i

@@ -8,7 +8,7 @@ use Rattle.std.proofs.lemmas.Slice.Eq.{bytes_eq-Decides}
 use Rattle.wasm_tree.specs.declared.types.FuncType.{FuncType}
 use Rattle.wasm_meaning.specs.Linking.{first_place}
 use Rattle.wasm_tree.specs.SameTypes.{same_func_type}
-use Rattle.merge_terms.specs.Merged.{with_type, with_types}
+use Rattle.merge_spec.specs.Merged.{with_type, with_types}
 use Rattle.merge_join.specs.Texts.{text_of_type}
 use Rattle.merge_join.proofs.TypeTexts.{same_by_text}
 

@@ -7,9 +7,9 @@ use Rattle.wasm_meaning.specs.World.{numbers, defined_before}
 use Rattle.wasm_meaning.specs.Linking.{Part, module_at, first_place}
 use Rattle.wasm_tree.specs.SameTypes.{same_func_type}
 use Rattle.index_remap.specs.declared.remap.Remap.{Remap}
-use Rattle.merge_terms.specs.declared.parts.Part as declared
-use Rattle.merge_terms.specs.Parts.{named_modules}
-use Rattle.merge_terms.specs.Merged.{new_index, merged_types, place_of_type, map_of}
+use Rattle.merge_spec.specs.declared.parts.Part as declared
+use Rattle.merge_spec.specs.Parts.{named_modules}
+use Rattle.merge_spec.specs.Merged.{new_index, merged_types, place_of_type, map_of}
 use Rattle.wasm_tree.specs.declared.space.Space.{Space}
 use Rattle.merge_join.specs.Words.{space_size}
 use Rattle.merge_join.proofs.SpaceSizes.{funcs_size, tables_size, memories_size, globals_size}

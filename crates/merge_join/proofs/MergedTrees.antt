@@ -22,8 +22,8 @@ use Rattle.wasm_meaning.specs.State.{Text}
 use Rattle.wasm_meaning.specs.World.{defined_before}
 use Rattle.wasm_meaning.specs.Linking.{Part, Site, has_kind, module_at}
 use Rattle.index_remap.specs.Renumbered.{new_func}
-use Rattle.merge_terms.specs.Merged.{staying, staying_of, imports_kind, merged_desc, merged_import, by_part_from, defined_funcs, map_of, starts, start_calls, merged}
-use Rattle.merge_terms.specs.Joined.{FewInAll}
+use Rattle.merge_spec.specs.Merged.{staying, staying_of, imports_kind, merged_desc, merged_import, by_part_from, defined_funcs, map_of, starts, start_calls, merged}
+use Rattle.merge_spec.specs.Joined.{FewInAll}
 use Rattle.merge_join.specs.Planned.{IsFrame, IsMoved}
 use Rattle.merge_join.proofs.Counts.{staying_few}
 

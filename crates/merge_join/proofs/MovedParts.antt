@@ -25,9 +25,9 @@ use Rattle.wasm_valid.specs.Validity.{IsValid, ElemModeHolds, DataModeHolds}
 use Rattle.wasm_meaning.specs.Linking.{Part, module_at}
 use Rattle.index_remap.specs.declared.remap.Remap.{Remap}
 use Rattle.index_remap.specs.Renumbered.{new_func}
-use Rattle.merge_terms.specs.declared.parts.Part as declared
-use Rattle.merge_terms.specs.Parts.{named_module, named_modules}
-use Rattle.merge_terms.specs.Merged.{by_part_from, map_of, defined_funcs, merged_const, merged_global, merged_elem_mode, merged_elem, merged_data_mode, merged_data}
+use Rattle.merge_spec.specs.declared.parts.Part as declared
+use Rattle.merge_spec.specs.Parts.{named_module, named_modules}
+use Rattle.merge_spec.specs.Merged.{by_part_from, map_of, defined_funcs, merged_const, merged_global, merged_elem_mode, merged_elem, merged_data_mode, merged_data}
 use Rattle.merge_join.specs.Reads.{HasType}
 use Rattle.merge_join.specs.Moved.{moved_const, moved_global, moved_elem_mode, moved_elem, moved_data_mode, moved_data, with_moved, AreValues}
 use Rattle.merge_join.specs.Planned.{IsMoved}

@@ -8,12 +8,12 @@ use Rattle.wasm_tree.specs.declared.module.Module.{Module}
 use Rattle.wasm_meaning.specs.World.{defined_before, numbers}
 use Rattle.wasm_meaning.specs.Linking as linking
 use Rattle.wasm_meaning.specs.Linking.{Part, Site, places, module_at, imports_of, linked_end}
-use Rattle.merge_terms.specs.declared.links.End.{End}
-use Rattle.merge_terms.specs.Linked.{end_entry}
-use Rattle.merge_terms.specs.Merged.{staying_of, place_of_end, place_of_entry, new_index}
+use Rattle.merge_spec.specs.declared.links.End.{End}
+use Rattle.merge_spec.specs.Linked.{end_entry}
+use Rattle.merge_spec.specs.Merged.{staying_of, place_of_end, place_of_entry, new_index}
 use Rattle.merge_join.specs.Words.{site, place_at}
 use Rattle.merge_join.proofs.Ends.{place_is}
-use Rattle.merge_validity.proofs.Entries.{count_is}
+use Rattle.merge_valid_proof.proofs.Entries.{count_is}
 
 -- by the import that the entry is, if it is one
 index_is : (ps : List Part) (p : ℕ) (k : Space) (i : ℕ) (m : Module) (o : Option ℕ) → module_at ps p ≡ Some m → slice_get (imports_of k m) i ≡ o → new_index ps p k i ≡ unwrap_or (place_of_entry ps p k i o) 0

@@ -3,8 +3,8 @@ use Rattle.std.proofs.Common.{◌≡◌, ◌∙◌, ap, refl, Option, Some, None
 use Rattle.wasm_tree.specs.declared.which.Which.{Which}
 use Rattle.wasm_tree.specs.declared.module.Module.{Module}
 use Rattle.wasm_meaning.specs.State.{Text}
-use Rattle.merge_terms.specs.declared.faults.JoinFault.TheVariants.{ExportConflict, TooMany}
-use Rattle.merge_terms.specs.Joined.{outcome}
+use Rattle.merge_spec.specs.declared.faults.JoinFault.TheVariants.{ExportConflict, TooMany}
+use Rattle.merge_spec.specs.Joined.{outcome}
 
 -- a module comes only where there is no conflict and no count too many
 pub record IsJoined (name : Option Text) (which : Option Which) (m t : Module) : Type 0 where

@@ -4,8 +4,8 @@ use Rattle.std.proofs.lemmas.Option.{get_or_from_slice_get}
 use Rattle.wasm_tree.specs.declared.module.Module.{Module}
 use Rattle.wasm_meaning.specs.Linking.{Part, module_at}
 use Rattle.index_remap.specs.declared.remap.Remap.{Remap}
-use Rattle.merge_terms.specs.Parts.{named_modules}
-use Rattle.merge_terms.specs.Merged.{map_of}
+use Rattle.merge_spec.specs.Parts.{named_modules}
+use Rattle.merge_spec.specs.Merged.{map_of}
 use Rattle.merge_join.specs.declared.joining.Joining.{Joining}
 use Rattle.merge_join.specs.Words.{AreJoined}
 use Rattle.merge_join.proofs.ByPart.{named_length, each_at, each_length}

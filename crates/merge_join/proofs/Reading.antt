@@ -15,20 +15,20 @@ use Rattle.wasm_tree.specs.declared.module.ConstExpr.{ConstExpr}
 use Rattle.wasm_tree.specs.declared.module.ConstExpr.TheVariants as const
 use Rattle.wasm_tree.specs.declared.module.Module.{Module}
 use Rattle.wasm_tree.specs.Spaces.{globals_of, global_of, imported_globals}
-use Rattle.wasm_typing.specs.Typing.{only}
+use Rattle.wasm_valid_bodies.specs.Typing.{only}
 use Rattle.wasm_valid.specs.Constants.{const_type}
 use Rattle.wasm_valid.specs.Validity.{IsValid}
 use Rattle.wasm_meaning.specs.Linking as linking
 use Rattle.wasm_meaning.specs.Linking.{Part, Site, places, has_kind, space_index, module_at, import_at, imports_of, read_of}
 use Rattle.index_remap.specs.Renumbered.{new_const}
-use Rattle.remap_typing.proofs.Lists.{left_true, right_true, only_true}
-use Rattle.merge_terms.specs.declared.links.Read.{Read}
-use Rattle.merge_terms.specs.Parts.{named_modules}
-use Rattle.merge_terms.specs.Faults.{link_fault}
-use Rattle.merge_terms.specs.Linked.{read_entry, when_fixed, read_at_desc, read_at}
-use Rattle.merge_terms.specs.Merged.{map_of, merged_read, merged_const}
-use Rattle.merge_validity.specs.Entries.{HasEntry}
-use Rattle.merge_validity.specs.Joinable.{EachPart}
+use Rattle.index_remap_proof.proofs.Lists.{left_true, right_true, only_true}
+use Rattle.merge_spec.specs.declared.links.Read.{Read}
+use Rattle.merge_spec.specs.Parts.{named_modules}
+use Rattle.merge_spec.specs.Faults.{link_fault}
+use Rattle.merge_spec.specs.Linked.{read_entry, when_fixed, read_at_desc, read_at}
+use Rattle.merge_spec.specs.Merged.{map_of, merged_read, merged_const}
+use Rattle.merge_valid_proof.specs.Entries.{HasEntry}
+use Rattle.merge_valid_proof.specs.Joinable.{EachPart}
 use Rattle.merge_join.specs.declared.joining.Joining.{Joining}
 use Rattle.merge_join.specs.Words.{AreJoined, site}
 use Rattle.merge_join.specs.Reads.{AreReads, HasType}

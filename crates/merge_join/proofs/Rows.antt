@@ -3,7 +3,7 @@ use Rattle.std.proofs.Common.{◌≡◌, ◌∙◌, sym, ap, refl, ℕ, zero, su
 use Rattle.std.proofs.lemmas.List.{length-map}
 use Rattle.std.proofs.lemmas.Option.{slice_get_within, get_or_from_slice_get}
 use Rattle.wasm_meaning.specs.Linking.{Part, Site, sites_in}
-use Rattle.merge_terms.specs.Linked.{by_import}
+use Rattle.merge_spec.specs.Linked.{by_import}
 use Rattle.merge_join.specs.Words.{site, IsSite}
 use Rattle.merge_join.proofs.ByPart.{row_at, entry_at, sites_in_length}
 

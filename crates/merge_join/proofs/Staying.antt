@@ -11,12 +11,12 @@ use Rattle.wasm_tree.specs.declared.module.Module.{Module}
 use Rattle.wasm_meaning.specs.State.{Text}
 use Rattle.wasm_meaning.specs.Linking.{Part, Site, module_at, import_at, limits_of, met_limits, sites_in, sites_from}
 use Rattle.index_remap.specs.declared.remap.Remap.{Remap}
-use Rattle.merge_terms.specs.Faults.{stays, kept_limits}
-use Rattle.merge_terms.specs.Merged.{by_part_from, by_part, map_of, merged_desc, merged_import, staying}
+use Rattle.merge_spec.specs.Faults.{stays, kept_limits}
+use Rattle.merge_spec.specs.Merged.{by_part_from, by_part, map_of, merged_desc, merged_import, staying}
 use Rattle.merge_join.specs.Kept.{kept_desc}
 use Rattle.merge_join.specs.Words.{site}
 use Rattle.merge_join.proofs.Holding.{read_there}
-use Rattle.merge_validity.proofs.MergedSpaces.{import_is}
+use Rattle.merge_valid_proof.proofs.MergedSpaces.{import_is}
 
 -- ---- one import ----
 

@@ -16,10 +16,10 @@ use Rattle.wasm_tree.specs.declared.module.ConstExpr.{ConstExpr}
 use Rattle.wasm_tree.specs.declared.module.ConstExpr.TheVariants as const
 use Rattle.wasm_tree.specs.declared.module.Module.{Module}
 use Rattle.wasm_tree.specs.Spaces.{global_of, imported_globals}
-use Rattle.wasm_typing.specs.Typing.{only}
+use Rattle.wasm_valid_bodies.specs.Typing.{only}
 use Rattle.wasm_valid.specs.Constants.{const_type}
 use Rattle.wasm_meaning.specs.Linking.{Part, module_at}
-use Rattle.merge_terms.specs.Merged.{merged_const}
+use Rattle.merge_spec.specs.Merged.{merged_const}
 use Rattle.merge_join.specs.Reads.{HasType}
 use Rattle.merge_join.specs.Moved.{AreValues}
 use Rattle.merge_join.proofs.Reading.{reads_global}

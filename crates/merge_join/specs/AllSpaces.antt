@@ -1,6 +1,6 @@
 -- The four merged index spaces of parts.
 use Rattle.std.specs.Prelude.{◌≡◌, List}
-use Rattle.merge_terms.specs.declared.parts.Part.{Part}
+use Rattle.merge_spec.specs.declared.parts.Part.{Part}
 use Rattle.wasm_tree.specs.declared.space.Space.TheVariants.{Functions, Tables, Memories, Globals}
 use Rattle.merge_join.specs.declared.all_spaces.Spaces.{Spaces}
 

@@ -13,7 +13,7 @@ use Rattle.wasm_tree.specs.declared.module.Module.{Module}
 use Rattle.wasm_meaning.specs.Linking.{Part, module_at}
 use Rattle.index_remap.specs.declared.remap.Remap.{Remap}
 use Rattle.index_remap.specs.Renumbered.{new_const, new_func}
-use Rattle.merge_terms.specs.Merged.{merged_const}
+use Rattle.merge_spec.specs.Merged.{merged_const}
 use Rattle.merge_join.specs.Reads.{HasType}
 
 -- a constant expression with other indices, where these stand for the imported globals, in order

@@ -6,8 +6,8 @@ use Rattle.wasm_tree.specs.declared.module.ConstExpr.{ConstExpr}
 use Rattle.wasm_tree.specs.declared.module.Module.{Module}
 use Rattle.wasm_valid.specs.Constants.{const_type}
 use Rattle.wasm_meaning.specs.Linking.{Part, module_at, imports_of}
-use Rattle.merge_terms.specs.declared.links.Read.{Read}
-use Rattle.merge_terms.specs.Linked.{read_at}
+use Rattle.merge_spec.specs.declared.links.Read.{Read}
+use Rattle.merge_spec.specs.Linked.{read_at}
 use Rattle.merge_join.specs.Words.{site}
 
 -- one entry for each imported global of the part

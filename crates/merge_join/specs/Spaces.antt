@@ -4,9 +4,9 @@ use Rattle.wasm_tree.specs.declared.space.Space.{Space}
 use Rattle.wasm_tree.specs.declared.module.Module.{Module}
 use Rattle.wasm_meaning.specs.World.{defined_before}
 use Rattle.wasm_meaning.specs.Linking.{Part, Site, first_place, same_site, sites_in, sites_from}
-use Rattle.merge_terms.specs.Faults.{stays}
-use Rattle.merge_terms.specs.Linked.{by_import}
-use Rattle.merge_terms.specs.Merged.{staying_of, imports_kind, imported_count}
+use Rattle.merge_spec.specs.Faults.{stays}
+use Rattle.merge_spec.specs.Linked.{by_import}
+use Rattle.merge_spec.specs.Merged.{staying_of, imports_kind, imported_count}
 use Rattle.merge_join.specs.Words.{each_part}
 
 -- the place of an import among those of a kind that stay

@@ -9,15 +9,15 @@ use Rattle.wasm_meaning.specs.World.{defined_before, defined_count}
 use Rattle.wasm_meaning.specs.Linking as linking
 use Rattle.wasm_meaning.specs.Linking.{Site, module_at, imports_of, same_site, first_place, sites_in}
 use Rattle.index_remap.specs.declared.remap.Remap.{Remap}
-use Rattle.merge_terms.specs.declared.parts.Part.{Part}
-use Rattle.merge_terms.specs.declared.links.End.{End}
-use Rattle.merge_terms.specs.declared.links.End.TheVariants.{Defined, Outside}
-use Rattle.merge_terms.specs.declared.links.Links.{Links}
-use Rattle.merge_terms.specs.Parts.{named_modules}
-use Rattle.merge_terms.specs.Faults.{link_fault}
-use Rattle.merge_terms.specs.Linked.{AreLinks}
-use Rattle.merge_terms.specs.Merged.{staying_of, imported_count, by_part, map_of}
-use Rattle.merge_terms.specs.Joined.{FewInAll}
+use Rattle.merge_spec.specs.declared.parts.Part.{Part}
+use Rattle.merge_spec.specs.declared.links.End.{End}
+use Rattle.merge_spec.specs.declared.links.End.TheVariants.{Defined, Outside}
+use Rattle.merge_spec.specs.declared.links.Links.{Links}
+use Rattle.merge_spec.specs.Parts.{named_modules}
+use Rattle.merge_spec.specs.Faults.{link_fault}
+use Rattle.merge_spec.specs.Linked.{AreLinks}
+use Rattle.merge_spec.specs.Merged.{staying_of, imported_count, by_part, map_of}
+use Rattle.merge_spec.specs.Joined.{FewInAll}
 use Rattle.merge_join.specs.declared.joining.Joining.{Joining}
 
 abbrev pub site : (part import : ℕ) → Site

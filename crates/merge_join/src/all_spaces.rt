@@ -5,7 +5,7 @@ ghost use Rattle.merge_join.specs.Words.{AreLinked};
 ghost use Rattle.merge_join.specs.AllSpaces.{AreSpaces};
 
 use crate::spaces::{MergedSpace, space_of};
-use merge_terms::{Links, Part};
+use merge_spec::{Links, Part};
 use std::alloc::Global;
 use wasm_bytes::NoMemory;
 use wasm_tree::Space;

@@ -2,8 +2,8 @@
 
 ghost use Rattle.std.specs.Prelude.{◌≡◌, ◌<◌, length, false, IfOk};
 ghost use Rattle.wasm_tree.specs.declared.module.ConstExpr.TheVariants as const;
-ghost use Rattle.merge_terms.specs.Parts.{named_modules};
-ghost use Rattle.merge_terms.specs.Merged as merged;
+ghost use Rattle.merge_spec.specs.Parts.{named_modules};
+ghost use Rattle.merge_spec.specs.Merged as merged;
 ghost use Rattle.merge_join.specs.Moved.{AreValues, AreAllValues};
 ghost use Rattle.merge_join.specs.Reads.{AreReads, HasType};
 ghost use Rattle.merge_join.specs.Words.{AreJoined};
@@ -11,8 +11,8 @@ ghost use Rattle.merge_join.specs.Words.{AreJoined};
 use crate::joining::Joining;
 use crate::linked::{module_of, read_of};
 use index_remap::renumber_const;
-use merge_terms::Read;
-use merge_validity::maps_have_entries;
+use merge_spec::Read;
+use merge_valid_proof::maps_have_entries;
 use std::alloc::Global;
 use wasm_bytes::{Items, NoMemory};
 use wasm_tree::{ConstExpr, ImportDesc, Space};

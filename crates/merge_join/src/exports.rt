@@ -4,19 +4,19 @@ ghost use Rattle.std.specs.Prelude.{◌≡◌, ◌≤◌, ◌+◌, ◌++◌, ◌
 ghost use Rattle.wasm_tree.specs.declared.module.Export as tree;
 ghost use Rattle.std.specs.List.{list_all};
 ghost use Rattle.index_remap.specs.Renumbered.{fits_export, new_export};
-ghost use Rattle.export_names.specs.Given.{texts};
-ghost use Rattle.export_names.specs.Names as chosen;
-ghost use Rattle.merge_terms.specs.Parts.{named_modules};
-ghost use Rattle.merge_terms.specs.Merged.{all_exports, export_names, named_exports};
-ghost use Rattle.merge_terms.specs.Joined.{repeated_name};
+ghost use Rattle.merge_names.specs.Given.{texts};
+ghost use Rattle.merge_names.specs.Names as chosen;
+ghost use Rattle.merge_spec.specs.Parts.{named_modules};
+ghost use Rattle.merge_spec.specs.Merged.{all_exports, export_names, named_exports};
+ghost use Rattle.merge_spec.specs.Joined.{repeated_name};
 ghost use Rattle.merge_join.specs.Repeats.{IsRepeatOf};
 ghost use Rattle.merge_join.specs.Words.{AreJoined};
 
 use crate::joining::Joining;
 use crate::linked::module_of;
-use export_names::{Mode, NameFault, choose_names};
+use merge_names::{Mode, NameFault, choose_names};
 use index_remap::{Remap, renumber_export_desc};
-use merge_terms::{JoinFault, Part};
+use merge_spec::{JoinFault, Part};
 use std::alloc::Global;
 use wasm_bytes::{Items, Name, NoMemory};
 use wasm_tree::Export;

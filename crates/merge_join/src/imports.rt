@@ -5,10 +5,10 @@ ghost use Rattle.std.specs.List.{filter, filter_map};
 ghost use Rattle.wasm_tree.specs.declared.module.Module.{Module};
 ghost use Rattle.wasm_meaning.specs.Linking.{module_at, sites_in};
 ghost use Rattle.index_remap.specs.Renumbered.{fits_import_desc};
-ghost use Rattle.merge_terms.specs.Parts.{named_modules};
-ghost use Rattle.merge_terms.specs.Faults as faults;
-ghost use Rattle.merge_terms.specs.Merged as merged;
-ghost use Rattle.merge_terms.specs.Merged.{staying};
+ghost use Rattle.merge_spec.specs.Parts.{named_modules};
+ghost use Rattle.merge_spec.specs.Faults as faults;
+ghost use Rattle.merge_spec.specs.Merged as merged;
+ghost use Rattle.merge_spec.specs.Merged.{staying};
 ghost use Rattle.merge_join.specs.Kept.{kept_desc};
 ghost use Rattle.merge_join.specs.Words.{AreJoined, IsSite, site};
 

@@ -4,13 +4,13 @@ ghost use Rattle.std.specs.Prelude.{◌≡◌, ◌<◌, length, Some, IsTrue};
 ghost use Rattle.wasm_tree.specs.declared.module.Module as tree;
 ghost use Rattle.wasm_meaning.specs.Linking.{module_at};
 ghost use Rattle.index_remap.specs.Renumbered.{fits_tree};
-ghost use Rattle.merge_terms.specs.Parts.{named_modules};
-ghost use Rattle.merge_terms.specs.Merged.{map_of};
+ghost use Rattle.merge_spec.specs.Parts.{named_modules};
+ghost use Rattle.merge_spec.specs.Merged.{map_of};
 ghost use Rattle.merge_join.specs.Words.{AreJoined};
 
 use index_remap::Remap;
-use merge_terms::{Links, Part};
-use merge_validity::maps_have_entries;
+use merge_spec::{Links, Part};
+use merge_valid_proof::maps_have_entries;
 
 /// Parts that are linked, with the map of the indices of each.
 #[derive(Drop)]

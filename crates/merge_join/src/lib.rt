@@ -20,6 +20,6 @@ mod texts;
 mod tree;
 mod types;
 
-pub use export_names::Mode;
-pub use merge_terms::JoinFault;
+pub use merge_names::Mode;
+pub use merge_spec::JoinFault;
 pub use merging::join;

@@ -2,7 +2,7 @@
 
 ghost use Rattle.std.specs.Prelude.{◌≡◌, nat_lt};
 ghost use Rattle.wasm_tree.specs.Limits.{limit};
-ghost use Rattle.merge_terms.specs.Joined as joined;
+ghost use Rattle.merge_spec.specs.Joined as joined;
 
 use wasm_tree::{Module, Which};
 
@@ -14,7 +14,7 @@ fn is_above(count: usize, which: Which) -> bool
 }
 
 /// The first count above its limit, in the order of the sections.
-#[tactic(auto, unfolding(merge_terms::specs::Joined::over_limit))]
+#[tactic(auto, unfolding(merge_spec::specs::Joined::over_limit))]
 pub(crate) fn over_limit(module: &Module) -> Option<Which>
     ensures { result ≡ joined.over_limit «module».now }
 {

@@ -4,12 +4,12 @@ ghost use Rattle.std.specs.Prelude.{◌≡◌, ◌<◌, length, Some, Bool, opti
 ghost use Rattle.wasm_tree.specs.Bounds.{IsBounded};
 ghost use Rattle.wasm_valid.specs.Validity.{IsValid};
 ghost use Rattle.wasm_meaning.specs.Linking.{module_at, linked_end};
-ghost use Rattle.merge_terms.specs.Parts.{named_modules};
-ghost use Rattle.merge_terms.specs.Linked.{AreLinks, end_entry, read_at};
-ghost use Rattle.merge_terms.specs.Faults as faults;
+ghost use Rattle.merge_spec.specs.Parts.{named_modules};
+ghost use Rattle.merge_spec.specs.Linked.{AreLinks, end_entry, read_at};
+ghost use Rattle.merge_spec.specs.Faults as faults;
 ghost use Rattle.merge_join.specs.Words.{site, IsSite, PartsHold};
 
-use merge_terms::{End, Links, Part, Read};
+use merge_spec::{End, Links, Part, Read};
 use wasm_tree::{Limits, Module};
 
 /// The module of the part at a place.

@@ -7,9 +7,9 @@ ghost use Rattle.wasm_meaning.specs.Linking.{module_at, imports_of, first_place}
 ghost use Rattle.wasm_tree.specs.SameTypes.{same_func_type};
 ghost use Rattle.wasm_meaning.specs.World as world;
 ghost use Rattle.wasm_meaning.specs.World.{defined_before};
-ghost use Rattle.merge_terms.specs.Parts.{named_modules};
-ghost use Rattle.merge_terms.specs.Merged as merged;
-ghost use Rattle.merge_terms.specs.Merged.{new_index, merged_types};
+ghost use Rattle.merge_spec.specs.Parts.{named_modules};
+ghost use Rattle.merge_spec.specs.Merged as merged;
+ghost use Rattle.merge_spec.specs.Merged.{new_index, merged_types};
 ghost use Rattle.merge_join.specs.Words.{space_size, AreLinked, AreMaps};
 ghost use Rattle.merge_join.specs.AllSpaces.{AreSpaces};
 
@@ -20,7 +20,7 @@ use crate::numbers::{add_numbers, number_at};
 use crate::spaces::MergedSpace;
 use crate::types::Types;
 use index_remap::Remap;
-use merge_terms::{Links, Part};
+use merge_spec::{Links, Part};
 use std::alloc::Global;
 use wasm_bytes::{Items, NoMemory};
 use wasm_tree::FuncType;

@@ -1,25 +1,25 @@
 // Joining parts.
 
 ghost use Rattle.std.specs.Prelude.{◌≡◌, ◌⊎◌, true, Ok, Err, None, IfOk, IfErr};
-ghost use Rattle.merge_terms.specs.declared.faults.JoinFault.TheVariants.{NoMemory as OutOfMemory};
-ghost use Rattle.merge_terms.specs.Faults.{link_fault};
-ghost use Rattle.merge_terms.specs.Joined.{FewInAll, Joins};
-ghost use Rattle.merge_terms.specs.Linked.{AreLinks};
-ghost use Rattle.merge_terms.specs.Parts.{named_modules};
-ghost use Rattle.merge_worlds.specs.Laws.{BehavesAs};
-ghost use Rattle.merge_terms.specs.View.{linked_world};
-ghost use Rattle.worlds_in_turn.specs.Laws.{MayComeInTurn};
+ghost use Rattle.merge_spec.specs.declared.faults.JoinFault.TheVariants.{NoMemory as OutOfMemory};
+ghost use Rattle.merge_spec.specs.Faults.{link_fault};
+ghost use Rattle.merge_spec.specs.Joined.{FewInAll, Joins};
+ghost use Rattle.merge_spec.specs.Linked.{AreLinks};
+ghost use Rattle.merge_spec.specs.Parts.{named_modules};
+ghost use Rattle.merge_behaves_proof.specs.Laws.{BehavesAs};
+ghost use Rattle.merge_spec.specs.View.{linked_world};
+ghost use Rattle.world_sequential_proof.specs.Laws.{MayComeInTurn};
 
 use crate::linked::parts_hold;
 use crate::tree::joined_tree;
-use export_names::Mode;
-use merge_terms::{JoinFault, Links, Part};
-use merge_validity::merged_modules_are_valid;
-use merge_worlds::merged_modules_show_the_same;
+use merge_names::Mode;
+use merge_spec::{JoinFault, Links, Part};
+use merge_valid_proof::merged_modules_are_valid;
+use merge_behaves_proof::merged_modules_show_the_same;
 use std::alloc::Global;
 use wasm_bytes::Items;
 use wasm_valid::Valid;
-use worlds_in_turn::turns_are_not_seen;
+use world_sequential_proof::turns_are_not_seen;
 
 /// The one module that parts whose imports are linked make together.
 ///

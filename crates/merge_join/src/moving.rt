@@ -2,7 +2,7 @@
 
 ghost use Rattle.std.specs.Prelude.{◌≡◌, IfOk, OnOk, IsTrue};
 ghost use Rattle.index_remap.specs.Renumbered.{fits_tree};
-ghost use Rattle.merge_terms.specs.Parts.{named_modules};
+ghost use Rattle.merge_spec.specs.Parts.{named_modules};
 ghost use Rattle.wasm_tree.specs.Bounds.{IsBounded};
 ghost use Rattle.wasm_valid.specs.Validity.{IsValid};
 ghost use Rattle.merge_join.specs.Moved.{AreAllValues, with_moved};
@@ -11,8 +11,8 @@ ghost use Rattle.merge_join.specs.Words.{AreMaps, PartsHold};
 
 use crate::moved::rewrite_each;
 use index_remap::{Remap, renumber_funcs_in_place};
-use merge_terms::Part;
-use merge_validity::maps_have_entries;
+use merge_spec::Part;
+use merge_valid_proof::maps_have_entries;
 use std::alloc::Global;
 use std::mem;
 use wasm_bytes::{Items, NoMemory};

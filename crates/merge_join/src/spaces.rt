@@ -4,17 +4,17 @@ ghost use Rattle.std.specs.Prelude.{◌≡◌, ◌+◌, ◌<◌, ◌^◌, ℕ, c
 ghost use Rattle.wasm_tree.specs.declared.module.Module.{Module as Tree};
 ghost use Rattle.wasm_meaning.specs.Linking.{module_at, sites_in, places, has_kind};
 ghost use Rattle.wasm_meaning.specs.World.{defined_before};
-ghost use Rattle.merge_terms.specs.Parts.{named_modules};
-ghost use Rattle.merge_terms.specs.declared.links.End.TheVariants.{Defined};
-ghost use Rattle.merge_terms.specs.Linked.{AreLinks, by_import};
-ghost use Rattle.merge_terms.specs.Merged as merged;
+ghost use Rattle.merge_spec.specs.Parts.{named_modules};
+ghost use Rattle.merge_spec.specs.declared.links.End.TheVariants.{Defined};
+ghost use Rattle.merge_spec.specs.Linked.{AreLinks, by_import};
+ghost use Rattle.merge_spec.specs.Merged as merged;
 ghost use Rattle.merge_join.specs.Words.{site, place_at, each_part, IsSite, IsEnd, AreLinked};
 ghost use Rattle.merge_join.specs.Spaces.{IsSpace, staying_place, imported_in, picked, count_before};
 
 use crate::defined::defined_count;
 use crate::linked::{module_of, stays};
 use crate::numbers::number_at;
-use merge_terms::{End, Links, Part};
+use merge_spec::{End, Links, Part};
 use std::alloc::Global;
 use wasm_bytes::{Items, NoMemory};
 use wasm_tree::{Import, Space};

@@ -4,9 +4,9 @@ ghost use Rattle.std.specs.Prelude.{◌≡◌, ◌<◌, ◌++◌, List, map, len
 ghost use Rattle.wasm_tree.specs.declared.module.Module as tree;
 ghost use Rattle.wasm_tree.specs.declared.instr.Instr.TheVariants.{Call};
 ghost use Rattle.wasm_meaning.specs.Linking.{module_at, Part};
-ghost use Rattle.merge_terms.specs.Parts.{named_modules};
-ghost use Rattle.merge_terms.specs.Merged as merged;
-ghost use Rattle.merge_terms.specs.Merged.{merged_types, start_of, start_calls};
+ghost use Rattle.merge_spec.specs.Parts.{named_modules};
+ghost use Rattle.merge_spec.specs.Merged as merged;
+ghost use Rattle.merge_spec.specs.Merged.{merged_types, start_of, start_calls};
 ghost use Rattle.merge_join.specs.Words.{AreJoined};
 
 use crate::joining::Joining;

@@ -6,14 +6,14 @@ ghost use Rattle.std.specs.BTreeMap.{get_by_text};
 ghost use Rattle.std.specs.Str.{bytes_eq};
 ghost use Rattle.wasm_meaning.specs.Linking.{first_place};
 ghost use Rattle.wasm_tree.specs.SameTypes.{same_func_type};
-ghost use Rattle.merge_terms.specs.Parts.{named_modules};
-ghost use Rattle.merge_terms.specs.Merged.{with_type, with_types, merged_types};
+ghost use Rattle.merge_spec.specs.Parts.{named_modules};
+ghost use Rattle.merge_spec.specs.Merged.{with_type, with_types, merged_types};
 ghost use Rattle.merge_join.specs.Texts.{text_of_type};
 ghost use Rattle.merge_join.specs.Types.{ArePlaces};
 
 use crate::linked::module_of;
 use crate::texts::type_text;
-use merge_terms::Part;
+use merge_spec::Part;
 use std::alloc::Global;
 use std::collections::BTreeMap;
 use wasm_bytes::{Items, NoMemory};

@@ -15,8 +15,8 @@ use Rattle.wasm_meaning.specs.World.{defined_before}
 use Rattle.merge_link.specs.declared.tables.Table.{Table}
 use Rattle.merge_link.specs.Tables.{AreTables, IsTableOf, imports_before, places_of}
 use Rattle.merge_link.specs.Joining.{IsImportedAs}
-use Rattle.merge_terms.specs.declared.parts.Part.{Part}
-use Rattle.merge_terms.specs.Parts.{named_modules}
+use Rattle.merge_spec.specs.declared.parts.Part.{Part}
+use Rattle.merge_spec.specs.Parts.{named_modules}
 use Rattle.merge_link.proofs.Places.{module_named}
 use Rattle.merge_link.proofs.Numbers.{site_at}
 

@@ -10,15 +10,15 @@ use Rattle.wasm_tree.specs.declared.types.Limits.{Limits}
 use Rattle.wasm_tree.specs.declared.module.Import.{Import}
 use Rattle.wasm_tree.specs.declared.module.Module.{Module}
 use Rattle.wasm_meaning.specs.Linking as linking
-use Rattle.merge_terms.specs.declared.parts.Part.{Part}
-use Rattle.merge_terms.specs.Parts.{named_modules}
+use Rattle.merge_spec.specs.declared.parts.Part.{Part}
+use Rattle.merge_spec.specs.Parts.{named_modules}
 use Rattle.merge_link.specs.declared.sites.Site.{Site}
 use Rattle.merge_link.specs.declared.tables.Table.{Table}
 use Rattle.merge_link.specs.Sites.{AreSites, the_site}
 use Rattle.merge_link.specs.Tables.{AreTables, imports_before}
 use Rattle.merge_link.specs.Gathering.{AreLinked, linked_at}
 use Rattle.merge_link.specs.Limits.{IsDemand, asked_limits, clash_of, kept_of, met_at, met_of}
-use Rattle.merge_terms.specs.Faults as faults
+use Rattle.merge_spec.specs.Faults as faults
 use Rattle.merge_link.specs.declared.joining.Ending.{Ending}
 use Rattle.merge_link.specs.Joining.{the_end}
 use Rattle.merge_link.proofs.Found.{lengths_same, same_at}

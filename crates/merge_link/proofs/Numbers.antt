@@ -8,7 +8,7 @@ use Rattle.wasm_tree.specs.declared.module.GlobalDef.{GlobalDef}
 use Rattle.wasm_tree.specs.declared.module.Module.{Module}
 use Rattle.wasm_meaning.specs.Linking as linking
 use Rattle.wasm_meaning.specs.World.{defined_before}
-use Rattle.merge_terms.specs.Faults.{own_globals_in, own_globals_from}
+use Rattle.merge_spec.specs.Faults.{own_globals_in, own_globals_from}
 use Rattle.merge_link.specs.Tables.{imports_before}
 
 pub length-sites_in : (p count n : ℕ) → length (linking.sites_in p count n) ≡ count

@@ -16,11 +16,11 @@ use Rattle.std.proofs.lemmas.Bool.{cases_eq}
 use Rattle.std.proofs.lemmas.Bool.Decides.{nat_tests}
 use Rattle.base_lists.proofs.Places.{push_last}
 use Rattle.wasm_tree.specs.declared.module.Export.{Export}
-use Rattle.path_ends.proofs.Lists.{got_left}
+use Rattle.base_paths.proofs.Lists.{got_left}
 use Rattle.wasm_tree.specs.declared.module.Import.{Import}
 use Rattle.wasm_meaning.specs.Linking as linking
-use Rattle.merge_terms.specs.declared.parts.Part.{Part}
-use Rattle.merge_terms.specs.Parts.{named_modules}
+use Rattle.merge_spec.specs.declared.parts.Part.{Part}
+use Rattle.merge_spec.specs.Parts.{named_modules}
 
 pub module_named : (ps : List Part) (p : ℕ) → linking.module_at (named_modules ps) p ≡ option_map (λ (x : Part). x.«module») (slice_get ps p)
 module_named [] p = refl

@@ -12,12 +12,12 @@ use Rattle.wasm_tree.specs.declared.module.Module.{Module}
 use Rattle.wasm_meaning.specs.Paths as paths
 use Rattle.wasm_meaning.specs.Linking as linking
 use Rattle.wasm_meaning.specs.World.{defined_before}
-use Rattle.path_ends.specs.declared.follow.Step.{Step}
-use Rattle.path_ends.specs.declared.follow.Step.TheVariants.{Goes, Ends, Nowhere}
-use Rattle.merge_terms.specs.declared.parts.Part.{Part}
-use Rattle.merge_terms.specs.declared.links.Read.{Read}
-use Rattle.merge_terms.specs.Faults as faults
-use Rattle.merge_terms.specs.Parts.{named_modules}
+use Rattle.base_paths.specs.declared.follow.Step.{Step}
+use Rattle.base_paths.specs.declared.follow.Step.TheVariants.{Goes, Ends, Nowhere}
+use Rattle.merge_spec.specs.declared.parts.Part.{Part}
+use Rattle.merge_spec.specs.declared.links.Read.{Read}
+use Rattle.merge_spec.specs.Faults as faults
+use Rattle.merge_spec.specs.Parts.{named_modules}
 use Rattle.merge_link.specs.declared.globals.OwnGlobal.{OwnGlobal}
 use Rattle.merge_link.specs.declared.joining.Ending.{Ending}
 use Rattle.merge_link.specs.declared.sites.Site.{Site}

@@ -4,10 +4,10 @@ use Rattle.std.proofs.lemmas.Bool.{cases_eq}
 use Rattle.std.specs.Option.{option_map}
 use Rattle.wasm_meaning.specs.Paths as paths
 use Rattle.wasm_meaning.specs.Paths.Path.{ends, goes}
-use Rattle.path_ends.specs.declared.follow.Step.{Step}
-use Rattle.path_ends.specs.declared.follow.Step.TheVariants.{Goes, Ends, Nowhere}
-use Rattle.path_ends.specs.Steps.{LeadsTo, AreEndings, AreNamed}
-use Rattle.path_ends.specs.Steps.LeadsTo.{there, on}
+use Rattle.base_paths.specs.declared.follow.Step.{Step}
+use Rattle.base_paths.specs.declared.follow.Step.TheVariants.{Goes, Ends, Nowhere}
+use Rattle.base_paths.specs.Steps.{LeadsTo, AreEndings, AreNamed}
+use Rattle.base_paths.specs.Steps.LeadsTo.{there, on}
 use Rattle.std.proofs.lemmas.Option.{slice_get_within, slice_get-map}
 use Rattle.std.proofs.lemmas.List.{length-map}
 use Rattle.base_lists.proofs.Places.{push_last, push_before, slice_get_there}

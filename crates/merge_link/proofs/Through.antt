@@ -15,11 +15,11 @@ use Rattle.wasm_meaning.specs.Paths as paths
 use Rattle.wasm_meaning.specs.Paths.Path.{ends, goes}
 use Rattle.wasm_meaning.specs.Linking as linking
 use Rattle.wasm_tree.specs.Spaces.{space_of_import}
-use Rattle.merge_terms.specs.declared.parts.Part.{Part}
-use Rattle.merge_terms.specs.declared.links.Read.{Read}
-use Rattle.merge_terms.specs.Faults as faults
-use Rattle.merge_terms.specs.Linked.{read_at, read_at_desc, read_entry, when_fixed}
-use Rattle.merge_terms.specs.Parts.{named_modules}
+use Rattle.merge_spec.specs.declared.parts.Part.{Part}
+use Rattle.merge_spec.specs.declared.links.Read.{Read}
+use Rattle.merge_spec.specs.Faults as faults
+use Rattle.merge_spec.specs.Linked.{read_at, read_at_desc, read_entry, when_fixed}
+use Rattle.merge_spec.specs.Parts.{named_modules}
 use Rattle.merge_link.specs.Globals.{IsOwn, the_read}
 use Rattle.merge_link.specs.Reads.{AreValues, fixed_desc, fixed_read, own_value, read_past}
 use Rattle.merge_link.proofs.Found.{lengths_same, same_at}

@@ -21,7 +21,7 @@ use Rattle.wasm_tree.specs.declared.module.Module.{Module}
 use Rattle.wasm_tree.specs.Spaces.{func_of, table_of, memory_of, global_of, imported_funcs, imported_tables, imported_memories, imported_globals, funcs_of, index_of_export, space_of_export, space_of_import}
 use Rattle.wasm_meaning.specs.Linking as linking
 use Rattle.wasm_tree.specs.SameTypes as types
-use Rattle.merge_terms.specs.Faults as faults
+use Rattle.merge_spec.specs.Faults as faults
 use Rattle.merge_link.specs.Externals.{own_func, own_table, own_memory, own_global}
 
 pub type_same : (a b : ValType) → (ValTypePartialEq.TheImpl.ghosts).eq a b ≡ types.same_type a b

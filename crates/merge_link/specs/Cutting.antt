@@ -1,6 +1,6 @@
 -- A list cut into pieces of given lengths.
 use Rattle.std.specs.Prelude.{ℕ, List, [], ◌∷◌, map, take, drop, length}
-use Rattle.merge_terms.specs.declared.parts.Part.{Part}
+use Rattle.merge_spec.specs.declared.parts.Part.{Part}
 
 abbrev pub cut_by : {A : Type 0} → List ℕ → List A → List (List A)
 cut_by [] xs = []

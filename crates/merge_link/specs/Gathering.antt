@@ -8,8 +8,8 @@ use denote.Ref.{Bor}
 use Rattle.wasm_tree.specs.declared.module.Import.{Import}
 use Rattle.wasm_meaning.specs.State.{Pair}
 use Rattle.wasm_meaning.specs.Linking as linking
-use Rattle.merge_terms.specs.declared.parts.Part.{Part}
-use Rattle.merge_terms.specs.Parts.{named_modules}
+use Rattle.merge_spec.specs.declared.parts.Part.{Part}
+use Rattle.merge_spec.specs.Parts.{named_modules}
 use Rattle.merge_link.specs.declared.sites.Site.{Site}
 use Rattle.merge_link.specs.declared.joining.Ending.{Ending}
 use Rattle.merge_link.specs.declared.joining.Ending.TheVariants.{Defined, Outside}

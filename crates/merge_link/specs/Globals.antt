@@ -2,12 +2,12 @@
 use Rattle.std.specs.Prelude.{◌≡◌, ℕ, List, Option, Some, None, map, slice_get}
 use Rattle.wasm_meaning.specs.Paths as paths
 use Rattle.wasm_meaning.specs.Linking as linking
-use Rattle.path_ends.specs.declared.follow.Step.{Step}
-use Rattle.path_ends.specs.declared.follow.Step.TheVariants.{Goes, Ends, Nowhere}
-use Rattle.merge_terms.specs.declared.parts.Part.{Part}
-use Rattle.merge_terms.specs.declared.links.Read.{Read}
-use Rattle.merge_terms.specs.Faults as faults
-use Rattle.merge_terms.specs.Parts.{named_modules}
+use Rattle.base_paths.specs.declared.follow.Step.{Step}
+use Rattle.base_paths.specs.declared.follow.Step.TheVariants.{Goes, Ends, Nowhere}
+use Rattle.merge_spec.specs.declared.parts.Part.{Part}
+use Rattle.merge_spec.specs.declared.links.Read.{Read}
+use Rattle.merge_spec.specs.Faults as faults
+use Rattle.merge_spec.specs.Parts.{named_modules}
 use Rattle.merge_link.specs.declared.globals.OwnGlobal.{OwnGlobal}
 
 abbrev pub the_own : OwnGlobal → faults.OwnGlobal

@@ -2,11 +2,11 @@
 use Rattle.std.specs.Prelude.{◌≡◌, ◌<◌, ◌^◌, ℕ, List, Option, Some, None, length, map, slice_get}
 use Rattle.wasm_meaning.specs.Paths as paths
 use Rattle.wasm_meaning.specs.Linking as linking
-use Rattle.path_ends.specs.declared.follow.Step.{Step}
-use Rattle.path_ends.specs.declared.follow.Step.TheVariants.{Goes, Ends, Nowhere}
-use Rattle.merge_terms.specs.declared.parts.Part.{Part}
-use Rattle.merge_terms.specs.Parts.{named_modules}
-use Rattle.merge_terms.specs.Faults.{own_globals}
+use Rattle.base_paths.specs.declared.follow.Step.{Step}
+use Rattle.base_paths.specs.declared.follow.Step.TheVariants.{Goes, Ends, Nowhere}
+use Rattle.merge_spec.specs.declared.parts.Part.{Part}
+use Rattle.merge_spec.specs.Parts.{named_modules}
+use Rattle.merge_spec.specs.Faults.{own_globals}
 use Rattle.merge_link.specs.declared.sites.Site.{Site}
 use Rattle.merge_link.specs.declared.joining.Entity.{Entity}
 use Rattle.merge_link.specs.declared.joining.Ending.{Ending}

@@ -4,11 +4,11 @@ use Rattle.base_lists.specs.Options.{◌>>=◌}
 use Rattle.wasm_tree.specs.declared.module.ImportDesc.{ImportDesc}
 use Rattle.wasm_tree.specs.declared.module.ImportDesc.TheVariants as im
 use Rattle.wasm_meaning.specs.Linking as linking
-use Rattle.merge_terms.specs.declared.parts.Part.{Part}
-use Rattle.merge_terms.specs.declared.links.Read.{Read}
-use Rattle.merge_terms.specs.Faults as faults
-use Rattle.merge_terms.specs.Linked.{read_entry, when_fixed}
-use Rattle.merge_terms.specs.Parts.{named_modules}
+use Rattle.merge_spec.specs.declared.parts.Part.{Part}
+use Rattle.merge_spec.specs.declared.links.Read.{Read}
+use Rattle.merge_spec.specs.Faults as faults
+use Rattle.merge_spec.specs.Linked.{read_entry, when_fixed}
+use Rattle.merge_spec.specs.Parts.{named_modules}
 use Rattle.merge_link.specs.Globals.{the_read}
 
 -- what the value expression of a defined global reads

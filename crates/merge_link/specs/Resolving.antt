@@ -2,13 +2,13 @@
 use Rattle.std.specs.Prelude.{◌≡◌, ◌⊎◌, List, Option, Some, None, map, Result, Ok, Err}
 use Rattle.wasm_tree.specs.declared.types.Limits.{Limits}
 use Rattle.wasm_meaning.specs.Linking as linking
-use Rattle.merge_terms.specs.declared.parts.Part.{Part}
-use Rattle.merge_terms.specs.declared.faults.LinkFault.{LinkFault}
-use Rattle.merge_terms.specs.declared.faults.LinkFault.TheVariants.{NoMemory}
-use Rattle.merge_terms.specs.declared.links.Read.{Read}
-use Rattle.merge_terms.specs.Faults as faults
-use Rattle.merge_terms.specs.Linked.{read_at}
-use Rattle.merge_terms.specs.Parts.{named_modules}
+use Rattle.merge_spec.specs.declared.parts.Part.{Part}
+use Rattle.merge_spec.specs.declared.faults.LinkFault.{LinkFault}
+use Rattle.merge_spec.specs.declared.faults.LinkFault.TheVariants.{NoMemory}
+use Rattle.merge_spec.specs.declared.links.Read.{Read}
+use Rattle.merge_spec.specs.Faults as faults
+use Rattle.merge_spec.specs.Linked.{read_at}
+use Rattle.merge_spec.specs.Parts.{named_modules}
 use Rattle.merge_link.specs.declared.joining.Ending.{Ending}
 use Rattle.merge_link.specs.declared.resolving.Kept.{Kept}
 use Rattle.merge_link.specs.declared.sites.Site.{Site}

@@ -1,14 +1,14 @@
 // Lists with one entry for each import of all parts, cut into one list for each part.
 
 ghost use Rattle.std.specs.Prelude.{IfOk, drop, length, map, take, ◌+◌, ◌≤◌, ◌≡◌};
-ghost use Rattle.merge_terms.specs.Linked.{end_entry};
-ghost use Rattle.merge_terms.specs.Parts.{named_modules};
+ghost use Rattle.merge_spec.specs.Linked.{end_entry};
+ghost use Rattle.merge_spec.specs.Parts.{named_modules};
 ghost use Rattle.wasm_meaning.specs.Linking as linking;
 ghost use Rattle.merge_link.specs.Cutting.{cut_by, import_counts};
 ghost use Rattle.merge_link.specs.Joining.{the_end};
 
 use crate::joining::Ending;
-use merge_terms::{End, Part};
+use merge_spec::{End, Part};
 use std::alloc::Global;
 use wasm_bytes::{Items, NoMemory};
 

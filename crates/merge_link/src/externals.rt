@@ -1,8 +1,8 @@
 // What imports ask for and what their ends are: external types (WebAssembly Core 2.0, sections 2.5.11 and 3.2.7).
 
 ghost use Rattle.std.specs.Prelude.{None, length, option_map, ◌≡◌, ◌≤◌};
-ghost use Rattle.merge_terms.specs.Faults as faults;
-ghost use Rattle.merge_terms.specs.Parts.{named_modules};
+ghost use Rattle.merge_spec.specs.Faults as faults;
+ghost use Rattle.merge_spec.specs.Parts.{named_modules};
 ghost use Rattle.wasm_tree.specs.Spaces.{index_of_export, space_of_export};
 ghost use Rattle.wasm_meaning.specs.Linking as linking;
 ghost use Rattle.wasm_tree.specs.SameTypes as types;

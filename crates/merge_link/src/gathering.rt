@@ -2,7 +2,7 @@
 
 ghost use Rattle.std.specs.Prelude.{IfOk, List, None, Some, map, ℕ, ◌≡◌};
 ghost use Rattle.std.specs.BTreeMap.{get_by};
-ghost use Rattle.merge_terms.specs.Parts.{named_modules};
+ghost use Rattle.merge_spec.specs.Parts.{named_modules};
 ghost use Rattle.wasm_meaning.specs.Linking as linking;
 ghost use Rattle.merge_link.specs.Sites.{AreSites, IsThere};
 ghost use Rattle.merge_link.specs.Joining.{AreKnown, IsJoining, IsStop, the_end};

@@ -1,8 +1,8 @@
 // The globals that parts define, and what their value expressions read.
 
 ghost use Rattle.std.specs.Prelude.{IfOk, length, map, option_map, ◌<◌, ◌^◌, ◌≡◌};
-ghost use Rattle.merge_terms.specs.Faults as faults;
-ghost use Rattle.merge_terms.specs.Parts.{named_modules};
+ghost use Rattle.merge_spec.specs.Faults as faults;
+ghost use Rattle.merge_spec.specs.Parts.{named_modules};
 ghost use Rattle.wasm_meaning.specs.Linking as linking;
 ghost use Rattle.merge_link.specs.Sites.{AreSites, IsThere, the_site};
 ghost use Rattle.merge_link.specs.Joining.{AreKnown, AreSteps, IsJoining, IsStep, IsStop, the_end, the_entity};
@@ -10,8 +10,8 @@ ghost use Rattle.merge_link.specs.Globals.{AreOwn, IsEndStep, IsOwn, own_read, o
 
 use crate::joining::{Ending, Entity, Joining};
 use crate::sites::Site;
-use merge_terms::{LinkFault, Read};
-use path_ends::{Step, endings};
+use merge_spec::{LinkFault, Read};
+use base_paths::{Step, endings};
 use std::alloc::Global;
 use wasm_bytes::NoMemory;
 use wasm_meaning::ends_and_reads_are_paths;

@@ -1,15 +1,15 @@
 // What imports are joined with, and where following them ends.
 
 ghost use Rattle.std.specs.Prelude.{IfOk, None, Some, length, map, option_map, slice_get, ℕ, ◌<◌, ◌^◌, ◌≡◌};
-ghost use Rattle.merge_terms.specs.Parts.{named_modules};
+ghost use Rattle.merge_spec.specs.Parts.{named_modules};
 ghost use Rattle.wasm_meaning.specs.Linking as linking;
 ghost use Rattle.merge_link.specs.Sites.{AreSites, the_site};
 ghost use Rattle.merge_link.specs.Joining.{AreSteps, AreStops, IsImportedAs, IsJoining, IsStep, end_at, the_end, the_entity};
 
 use crate::sites::{Site, import_at};
 use crate::tables::Table;
-use merge_terms::Part;
-use path_ends::{Step, endings};
+use merge_spec::Part;
+use base_paths::{Step, endings};
 use std::alloc::Global;
 use std::collections::BTreeMap;
 use wasm_bytes::NoMemory;

@@ -2,8 +2,8 @@
 // imports of one).
 
 ghost use Rattle.std.specs.Prelude.{IfOk, None, Some, map, max, replicate, slice_get, ◌≡◌};
-ghost use Rattle.merge_terms.specs.Faults as faults;
-ghost use Rattle.merge_terms.specs.Parts.{named_modules};
+ghost use Rattle.merge_spec.specs.Faults as faults;
+ghost use Rattle.merge_spec.specs.Parts.{named_modules};
 ghost use Rattle.wasm_meaning.specs.Linking as linking;
 ghost use Rattle.merge_link.specs.Sites.{AreSites, IsThere, the_site};
 ghost use Rattle.merge_link.specs.Joining.{IsJoining, the_end};
@@ -12,7 +12,7 @@ ghost use Rattle.merge_link.specs.Limits.{IsDemand, clash_of, kept_of, met_at};
 
 use crate::joining::{Ending, Joining};
 use crate::sites::{Site, import_at};
-use merge_terms::LinkFault;
+use merge_spec::LinkFault;
 use std::alloc::Global;
 use wasm_bytes::NoMemory;
 use wasm_tree::{ImportDesc, Limits};

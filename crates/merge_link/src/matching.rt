@@ -1,14 +1,14 @@
 // Imports compared with their ends.
 
 ghost use Rattle.std.specs.Prelude.{IfOk, IfSome, None, Some, length, map, option_map, slice_get, ℕ, ◌≡◌};
-ghost use Rattle.merge_terms.specs.Faults as faults;
-ghost use Rattle.merge_terms.specs.Parts.{named_modules};
+ghost use Rattle.merge_spec.specs.Faults as faults;
+ghost use Rattle.merge_spec.specs.Parts.{named_modules};
 ghost use Rattle.merge_link.specs.Sites.{AreSites, IsThere, the_site};
 ghost use Rattle.merge_link.specs.Joining.{AreStops, IsJoining, IsStop, end_at, the_end};
 
 use crate::joining::{Ending, Joining};
 use crate::sites::Site;
-use merge_terms::LinkFault;
+use merge_spec::LinkFault;
 use std::alloc::Global;
 use wasm_bytes::NoMemory;
 

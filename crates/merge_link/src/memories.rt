@@ -2,8 +2,8 @@
 
 ghost use Rattle.std.specs.Prelude.{Some, cond, false, length, nat_lt, ◌+◌, ◌≡◌, ◌&&◌};
 ghost use Rattle.wasm_tree.specs.declared.space.Space.TheVariants.{Memories};
-ghost use Rattle.merge_terms.specs.Faults as faults;
-ghost use Rattle.merge_terms.specs.Parts.{named_modules};
+ghost use Rattle.merge_spec.specs.Faults as faults;
+ghost use Rattle.merge_spec.specs.Parts.{named_modules};
 ghost use Rattle.wasm_meaning.specs.Linking as linking;
 ghost use Rattle.wasm_meaning.specs.World as world;
 ghost use Rattle.merge_link.specs.Sites.{AreSites, IsThere, the_site};

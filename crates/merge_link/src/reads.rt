@@ -1,8 +1,8 @@
 // What is read through imports of immutable globals.
 
 ghost use Rattle.std.specs.Prelude.{IfOk, map, option_map, ◌≡◌};
-ghost use Rattle.merge_terms.specs.Linked as links;
-ghost use Rattle.merge_terms.specs.Parts.{named_modules};
+ghost use Rattle.merge_spec.specs.Linked as links;
+ghost use Rattle.merge_spec.specs.Parts.{named_modules};
 ghost use Rattle.merge_link.specs.Sites.{AreSites, IsThere, the_site};
 ghost use Rattle.merge_link.specs.Joining.{AreKnown, IsJoining, IsStop, the_end};
 ghost use Rattle.merge_link.specs.Globals.{the_read};
@@ -10,7 +10,7 @@ ghost use Rattle.merge_link.specs.Reads.{AreValues, fixed_read, read_past};
 
 use crate::joining::{Ending, Joining};
 use crate::sites::{Site, import_at};
-use merge_terms::Read;
+use merge_spec::Read;
 use std::alloc::Global;
 use wasm_bytes::NoMemory;
 use wasm_meaning::ends_and_reads_are_paths;

@@ -1,11 +1,11 @@
 // The imports of all parts, by part, then in order.
 
 ghost use Rattle.std.specs.Prelude.{IfOk, Some, length, ◌<◌, ◌^◌, ◌≡◌};
-ghost use Rattle.merge_terms.specs.Parts.{named_modules};
+ghost use Rattle.merge_spec.specs.Parts.{named_modules};
 ghost use Rattle.wasm_meaning.specs.Linking as linking;
 ghost use Rattle.merge_link.specs.Sites.{AreSites, IsThere, the_site};
 
-use merge_terms::Part;
+use merge_spec::Part;
 use std::alloc::Global;
 use wasm_bytes::NoMemory;
 use wasm_tree::Import;

@@ -6,12 +6,12 @@ ghost use Rattle.std.specs.Option.{option_copied};
 ghost use Rattle.std.specs.Ordering.{nat_cmp};
 ghost use Rattle.std.specs.BTreeMap.{get_by};
 ghost use Rattle.std.specs.Cmp.Lexicographic.{slice_cmp};
-ghost use Rattle.merge_terms.specs.Faults.{own_globals};
-ghost use Rattle.merge_terms.specs.Parts.{named_modules};
+ghost use Rattle.merge_spec.specs.Faults.{own_globals};
+ghost use Rattle.merge_spec.specs.Parts.{named_modules};
 ghost use Rattle.wasm_meaning.specs.Linking as linking;
 ghost use Rattle.merge_link.specs.Tables.{AreIndices, AreNames, AreTables, IsTableOf, imports_before, places_of};
 
-use merge_terms::Part;
+use merge_spec::Part;
 use std::alloc::Global;
 use std::collections::BTreeMap;
 use wasm_bytes::NoMemory;

@@ -8,10 +8,10 @@ use Rattle.std.proofs.Math.Seq.{drop-cons}
 use Rattle.base_lists.proofs.Walk.{mapped_more}
 use Rattle.wasm_valid.proofs.Repeats.{equivalence}
 use Rattle.std.proofs.lemmas.Slice.Eq.{bytes_eq-Decides}
-use Rattle.export_names.specs.Names.{AreDistinct}
-use Rattle.merge_terms.specs.Parts.{named_module, named_modules, HaveDistinctNames}
+use Rattle.merge_names.specs.Names.{AreDistinct}
+use Rattle.merge_spec.specs.Parts.{named_module, named_modules, HaveDistinctNames}
 use Rattle.wasm_meaning.specs.Linking.{Part}
-use Rattle.merge_terms.specs.declared.parts.Part as code
+use Rattle.merge_spec.specs.declared.parts.Part as code
 use Rattle.wasm_tree.specs.declared.module.Module.{Module}
 use Rattle.tools_cli.specs.Words.{Text, Source, are_apart}
 use Rattle.tools_cli.specs.Job.{parts_of}

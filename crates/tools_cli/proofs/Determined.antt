@@ -10,16 +10,16 @@ use Rattle.wasm_tree.specs.declared.which.Which.TheVariants.{InputBytes}
 use Rattle.tools_cli.specs.Job.{IsRead, IsAccepted, invalid, Job, Refused, Gathered, add_first, add_file, HoldBytes, Whole, Lacks, TooLong, gathered, most_input, Loads, loaded, faulty, AllLoad, OneFails, Decision, Refuses, Makes, Merges, not_linked, not_joined, merged, parts_of, Decides, job_of, module_files, text_contents, InputsJob, not_loaded, decided, TaskJob, not_begun, missing, too_long, all_read, HasJob, no_task, asked}
 use Rattle.tools_cli.proofs.Kept.{whole_is, short_enough}
 use Rattle.wasm_tree.specs.declared.module.Module.{Module}
-use Rattle.wasm_format.specs.declared.fault.ReadFault.{ReadFault}
+use Rattle.wasm_read_spec.specs.declared.fault.ReadFault.{ReadFault}
 use Rattle.wasm_valid.specs.declared.kinds.Invalid.{Invalid}
 use Rattle.wasm_valid.specs.Validity.{IsValid, IsSingle}
 use Rattle.wasm_valid.specs.First.{IsFirstInvalid}
-use Rattle.wasm_format.specs.Files.{Spells, Within}
-use Rattle.wasm_format.specs.Contents.{read_fault}
+use Rattle.wasm_read_spec.specs.Files.{Spells, Within}
+use Rattle.wasm_read_spec.specs.Contents.{read_fault}
 use Rattle.wasm_meaning.specs.Linking.{Part}
-use Rattle.merge_terms.specs.Faults.{link_fault}
-use Rattle.merge_terms.specs.declared.faults.LinkFault.{LinkFault}
-use Rattle.merge_terms.specs.declared.faults.JoinFault.{JoinFault}
+use Rattle.merge_spec.specs.Faults.{link_fault}
+use Rattle.merge_spec.specs.declared.faults.LinkFault.{LinkFault}
+use Rattle.merge_spec.specs.declared.faults.JoinFault.{JoinFault}
 
 -- bytes spell one tree, and what is spelled within the limits has no fault
 abbrev pub TreeIsOne : Type 0

@@ -8,19 +8,19 @@ use Rattle.tools_cli.specs.Effects.{Entry}
 use Rattle.tools_cli.specs.Texts.{fault_text, invalid_text, link_text, import_mismatch, import_cycle, limits_clash, global_cycle, too_many_memories}
 use Rattle.tools_cli.specs.Job.{IsRead, IsAccepted, invalid, Job, Gathered, add_first, add_file, HoldBytes, Whole, Lacks, TooLong, gathered, most_input, Loads, loaded, faulty, AllLoad, OneFails, Decision, Merges, not_linked, not_joined, merged, parts_of, Decides, job_of, module_files, text_contents, InputsJob, not_loaded, decided, refused_before, TaskJob, not_begun, missing, too_long, all_read, HasJob, no_task, asked}
 use Rattle.wasm_tree.specs.declared.module.Module.{Module}
-use Rattle.wasm_format.specs.declared.fault.ReadFault.{ReadFault}
-use Rattle.wasm_format.specs.declared.fault.ReadFault.TheVariants as fault
+use Rattle.wasm_read_spec.specs.declared.fault.ReadFault.{ReadFault}
+use Rattle.wasm_read_spec.specs.declared.fault.ReadFault.TheVariants as fault
 use Rattle.wasm_valid.specs.declared.kinds.Invalid.{Invalid}
 use Rattle.wasm_valid.specs.First.{IsFirstInvalid}
-use Rattle.wasm_format.specs.Contents.{read_fault}
-use Rattle.wasm_format.specs.Causes.{Cause}
-use Rattle.merge_terms.specs.Faults.{link_fault, NamesPart}
-use Rattle.merge_terms.specs.Joined.{join_of, outcome, repeated_name, over_limit, joined_module}
-use Rattle.merge_terms.specs.declared.faults.LinkFault.{LinkFault}
-use Rattle.merge_terms.specs.declared.faults.LinkFault.TheVariants as link
-use Rattle.merge_terms.specs.declared.faults.JoinFault.{JoinFault}
-use Rattle.merge_terms.specs.declared.faults.JoinFault.TheVariants as join
-use Rattle.merge_terms.proofs.FaultParts.{fault_names_part, fault_not_memory}
+use Rattle.wasm_read_spec.specs.Contents.{read_fault}
+use Rattle.wasm_read_spec.specs.Causes.{Cause}
+use Rattle.merge_spec.specs.Faults.{link_fault, NamesPart}
+use Rattle.merge_spec.specs.Joined.{join_of, outcome, repeated_name, over_limit, joined_module}
+use Rattle.merge_spec.specs.declared.faults.LinkFault.{LinkFault}
+use Rattle.merge_spec.specs.declared.faults.LinkFault.TheVariants as link
+use Rattle.merge_spec.specs.declared.faults.JoinFault.{JoinFault}
+use Rattle.merge_spec.specs.declared.faults.JoinFault.TheVariants as join
+use Rattle.merge_spec.proofs.FaultParts.{fault_names_part, fault_not_memory}
 use Rattle.tools_cli.proofs.MergeDecided.{length_parts, length_files}
 use Rattle.tools_cli.proofs.Loading.{as_many}
 use Rattle.tools_cli.proofs.Determined.{AreBytes, SpelledHasNoFault, gathered_bytes, first_are_bytes}

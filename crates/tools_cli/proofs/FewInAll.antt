@@ -10,8 +10,8 @@ use Rattle.base_lists.specs.Every.{Every}
 use Rattle.wasm_meaning.specs.World.{defined_count, defined_before}
 use Rattle.wasm_meaning.specs.Linking.{Part, sites_in, sites_from, sites}
 use Rattle.base_lists.specs.Places.{count_of}
-use Rattle.merge_terms.specs.Merged.{imports_kind}
-use Rattle.merge_terms.specs.Joined as joined
+use Rattle.merge_spec.specs.Merged.{imports_kind}
+use Rattle.merge_spec.specs.Joined as joined
 use Rattle.tools_cli.specs.Words.{Source, MergeTask, Merge}
 use Rattle.tools_cli.specs.Texts.{too_many_parts}
 use Rattle.tools_cli.specs.Job.{parts_of, refused_before, most_parts}

@@ -6,7 +6,7 @@ use Rattle.std.specs.Cmp.{eq_by_cmp_equiv}
 use Rattle.std.proofs.lemmas.Cmp.{nat_list_cmp_total}
 use Rattle.tool_io.specs.Outside.{Contents}
 use Rattle.tools_cli.specs.Words.{Text, Source, MergeTask, Task, Merge, task_of, source_files, inputs_of}
-use Rattle.export_names.specs.declared.mode.Mode.{Mode}
+use Rattle.merge_names.specs.declared.mode.Mode.{Mode}
 use Rattle.tools_cli.specs.Effects.{Entry, made}
 use Rattle.tools_cli.specs.Job.{IsRead, IsAccepted, Job, Usage, Missing, Refused, Done, Gathered, Whole, Lacks, TooLong, add_first, add_file, gathered, most_input, most_output, Loads, loaded, faulty, invalid, AllLoad, Decision, Merges, not_linked, not_joined, merged, job_of, module_files, parts_of, AreMerged, InputsJob, not_loaded, decided, TaskJob, not_begun, missing, too_long, all_read, HasJob, no_task, asked}
 use Rattle.tools_cli.specs.Run.{EndsDone}
@@ -15,19 +15,19 @@ use Rattle.wasm_tree.specs.declared.module.Module.{Module}
 use Rattle.wasm_tree.specs.Bounds.{IsBounded}
 use Rattle.wasm_valid.specs.Validity.{IsValid, IsSingle}
 use Rattle.base_lists.specs.Every.{Every}
-use Rattle.wasm_format.specs.Files.{Spells, Within}
+use Rattle.wasm_read_spec.specs.Files.{Spells, Within}
 use Rattle.wasm_meaning.specs.Linking.{Part, module_at}
-use Rattle.merge_terms.specs.Faults.{link_fault}
-use Rattle.merge_terms.proofs.FaultParts.{none_with_several}
-use Rattle.merge_validity.specs.Joinable.{CanBeJoined}
-use Rattle.merge_worlds.specs.Laws.{BehavesAs}
-use Rattle.worlds_in_turn.specs.Laws.{TurnsAreNotSeen}
-use Rattle.merge_terms.specs.View.{linked_world}
+use Rattle.merge_spec.specs.Faults.{link_fault}
+use Rattle.merge_spec.proofs.FaultParts.{none_with_several}
+use Rattle.merge_valid_proof.specs.Joinable.{CanBeJoined}
+use Rattle.merge_behaves_proof.specs.Laws.{BehavesAs}
+use Rattle.world_sequential_proof.specs.Laws.{TurnsAreNotSeen}
+use Rattle.merge_spec.specs.View.{linked_world}
 use Rattle.wasm_tree.specs.declared.which.Which.{Which}
-use Rattle.merge_terms.specs.Joined.{over_limit, joined_module, repeated_name, outcome}
-use Rattle.wasm_plain.specs.Plain.{plain}
+use Rattle.merge_spec.specs.Joined.{over_limit, joined_module, repeated_name, outcome}
+use Rattle.wasm_write_spec.specs.Plain.{plain}
 use Rattle.wasm_tree.specs.MemoryZero.{memory_zero_funcs}
-use Rattle.plain_law.specs.Ranges.{InRange}
+use Rattle.wasm_write_proof.specs.Ranges.{InRange}
 
 -- a part is valid, and a u32 counts what it has
 abbrev pub IsSound : Part → Type 0

@@ -6,10 +6,10 @@ use Rattle.wasm_tree.specs.declared.which.Which.TheVariants.{Types, Imports, Fun
 use Rattle.wasm_tree.specs.Limits.{limit}
 use Rattle.wasm_tree.specs.declared.module.Func.{Func}
 use Rattle.wasm_tree.specs.declared.module.Module.{Module}
-use Rattle.wasm_format.specs.declared.parts.Parts.{Parts}
+use Rattle.wasm_read_spec.specs.declared.parts.Parts.{Parts}
 use Rattle.base_lists.specs.Every.{Every}
-use Rattle.wasm_format.specs.Words.{Never, Made, When, Any, Limited, WhenSmall}
-use Rattle.wasm_format.specs.Files.{nothing, with_types, with_imports, with_func_types, with_tables, with_mems, with_globals, with_exports, with_start, with_elems, with_codes, with_datas, with_count, SpellsCustom, section_form, small_form, SmallSection, Contents, typed, tree_of}
+use Rattle.wasm_read_spec.specs.Words.{Never, Made, When, Any, Limited, WhenSmall}
+use Rattle.wasm_read_spec.specs.Files.{nothing, with_types, with_imports, with_func_types, with_tables, with_mems, with_globals, with_exports, with_start, with_elems, with_codes, with_datas, with_count, SpellsCustom, section_form, small_form, SmallSection, Contents, typed, tree_of}
 use Rattle.tools_cli.specs.Words.{Text}
 use Rattle.tools_cli.specs.Job.{IsRead}
 use Rattle.tools_cli.specs.Causes.{IsWithinLimits}

@@ -7,9 +7,9 @@ use Rattle.tools_cli.specs.Job.{Loads, faulty, invalid, loaded, IsRead, IsAccept
 use Rattle.tools_cli.specs.Effects.{Entry}
 use Rattle.tools_cli.specs.Texts.{fault_text}
 use Rattle.wasm_tree.specs.declared.module.Module.{Module}
-use Rattle.wasm_format.specs.declared.fault.ReadFault.{ReadFault}
-use Rattle.wasm_format.specs.declared.fault.ReadFault.TheVariants.{NoMemory}
-use Rattle.wasm_format.specs.Contents.{read_fault}
+use Rattle.wasm_read_spec.specs.declared.fault.ReadFault.{ReadFault}
+use Rattle.wasm_read_spec.specs.declared.fault.ReadFault.TheVariants.{NoMemory}
+use Rattle.wasm_read_spec.specs.Contents.{read_fault}
 use Rattle.tools_cli.specs.declared.stop.Stop.{Stop}
 use Rattle.tools_cli.specs.declared.stop.Stop.TheVariants as stop
 use Rattle.tools_cli.specs.Causes.{total, StopsWith, InvalidText, IsWithinLimits}

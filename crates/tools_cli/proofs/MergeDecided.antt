@@ -5,15 +5,15 @@ use Rattle.tools_cli.specs.Job.{Decision, Refuses, Makes, Merges, not_linked, no
 use Rattle.tools_cli.specs.Texts.{link_text, join_text}
 use Rattle.wasm_tree.specs.declared.module.Module.{Module}
 use Rattle.wasm_meaning.specs.Linking.{Part}
-use Rattle.merge_terms.specs.Faults.{link_fault, NamesPart}
-use Rattle.merge_terms.specs.Joined.{Joins}
-use Rattle.merge_terms.specs.declared.faults.LinkFault.{LinkFault}
-use Rattle.merge_terms.specs.declared.faults.LinkFault.TheVariants as link
-use Rattle.merge_terms.specs.declared.faults.JoinFault.{JoinFault}
-use Rattle.merge_terms.specs.declared.faults.JoinFault.TheVariants as join
+use Rattle.merge_spec.specs.Faults.{link_fault, NamesPart}
+use Rattle.merge_spec.specs.Joined.{Joins}
+use Rattle.merge_spec.specs.declared.faults.LinkFault.{LinkFault}
+use Rattle.merge_spec.specs.declared.faults.LinkFault.TheVariants as link
+use Rattle.merge_spec.specs.declared.faults.JoinFault.{JoinFault}
+use Rattle.merge_spec.specs.declared.faults.JoinFault.TheVariants as join
 use Rattle.tools_cli.specs.Causes.{MergeFails}
 use Rattle.tools_cli.specs.Sources.{source_values, files_of}
-use Rattle.merge_terms.proofs.FaultParts.{fault_names_part}
+use Rattle.merge_spec.proofs.FaultParts.{fault_names_part}
 use Rattle.tools_cli.specs.declared.merge.Source as code
 
 -- the part that a fault names is there

@@ -17,9 +17,9 @@ use Rattle.tools_cli.specs.Texts.{over_limit}
 use Rattle.wasm_tree.specs.declared.which.Which.TheVariants.{InputBytes}
 use Rattle.tools_cli.specs.declared.refusal.Refusal.{Refusal}
 use Rattle.tools_cli.specs.declared.refusal.Refusal.TheVariants as refusal
-use Rattle.merge_terms.specs.declared.faults.LinkFault.TheVariants as link
-use Rattle.merge_terms.specs.declared.faults.JoinFault.TheVariants as join
-use Rattle.wasm_format.specs.declared.fault.ReadFault.TheVariants as fault
+use Rattle.merge_spec.specs.declared.faults.LinkFault.TheVariants as link
+use Rattle.merge_spec.specs.declared.faults.JoinFault.TheVariants as join
+use Rattle.wasm_read_spec.specs.declared.fault.ReadFault.TheVariants as fault
 use Rattle.base_lists.proofs.Places.{map_twice}
 use Rattle.tools_cli.proofs.Kept.{gathered_held}
 use Rattle.tools_cli.proofs.Pieces.{prefix_none}

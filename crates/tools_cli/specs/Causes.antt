@@ -8,10 +8,10 @@ use Rattle.tools_cli.specs.Texts.{over_limit, invalid_text, link_text, join_text
 use Rattle.wasm_valid.specs.declared.kinds.Invalid.{Invalid}
 use Rattle.wasm_valid.specs.First.{IsFirstInvalid}
 use Rattle.wasm_meaning.specs.Linking.{Part}
-use Rattle.merge_terms.specs.declared.faults.LinkFault.{LinkFault}
-use Rattle.merge_terms.specs.declared.faults.JoinFault.{JoinFault}
-use Rattle.merge_terms.specs.Faults.{link_fault}
-use Rattle.merge_terms.specs.Joined.{Joins}
+use Rattle.merge_spec.specs.declared.faults.LinkFault.{LinkFault}
+use Rattle.merge_spec.specs.declared.faults.JoinFault.{JoinFault}
+use Rattle.merge_spec.specs.Faults.{link_fault}
+use Rattle.merge_spec.specs.Joined.{Joins}
 use Rattle.wasm_tree.specs.declared.module.Module.{Module}
 use Rattle.wasm_tree.specs.declared.which.Which.TheVariants.{InputBytes, Types, Imports, Functions, Tables, Memories, Globals, ElementSegments, DataSegments}
 use Rattle.wasm_tree.specs.Limits.{limit}

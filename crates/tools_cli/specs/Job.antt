@@ -6,23 +6,23 @@ use Rattle.tool_io.specs.Outside.{Contents}
 use Rattle.wasm_bytes.specs.Reading.{IsBytes}
 use Rattle.tools_cli.specs.Words.{Text, Source, MergeTask, Task, Merge, task_of, source_files, many_of, modules_of, inputs_of}
 use Rattle.wasm_meaning.specs.Linking.{Part}
-use Rattle.export_names.specs.declared.mode.Mode.{Mode}
-use Rattle.merge_terms.specs.declared.faults.LinkFault.{LinkFault}
-use Rattle.merge_terms.specs.declared.faults.JoinFault.{JoinFault}
-use Rattle.merge_terms.specs.Faults.{link_fault}
-use Rattle.merge_terms.specs.Joined.{Joins}
+use Rattle.merge_names.specs.declared.mode.Mode.{Mode}
+use Rattle.merge_spec.specs.declared.faults.LinkFault.{LinkFault}
+use Rattle.merge_spec.specs.declared.faults.JoinFault.{JoinFault}
+use Rattle.merge_spec.specs.Faults.{link_fault}
+use Rattle.merge_spec.specs.Joined.{Joins}
 use Rattle.tools_cli.specs.Effects.{Entry}
 use Rattle.tools_cli.specs.Texts.{fault_text, invalid_text, link_text, join_text, over_limit, too_many_parts, too_many}
 use Rattle.wasm_tree.specs.declared.module.Module.{Module}
 use Rattle.wasm_tree.specs.declared.which.Which.TheVariants.{InputBytes, Parts, OutputBytes}
 use Rattle.wasm_tree.specs.Limits.{limit}
-use Rattle.wasm_format.specs.declared.fault.ReadFault.{ReadFault}
-use Rattle.wasm_format.specs.Files.{Spells, Within}
-use Rattle.wasm_format.specs.Contents.{read_fault}
+use Rattle.wasm_read_spec.specs.declared.fault.ReadFault.{ReadFault}
+use Rattle.wasm_read_spec.specs.Files.{Spells, Within}
+use Rattle.wasm_read_spec.specs.Contents.{read_fault}
 use Rattle.wasm_valid.specs.declared.kinds.Invalid.{Invalid}
 use Rattle.wasm_valid.specs.Validity.{IsValid, IsSingle}
 use Rattle.wasm_valid.specs.First.{IsFirstInvalid}
-use Rattle.wasm_plain.specs.Plain.{plain}
+use Rattle.wasm_write_spec.specs.Plain.{plain}
 
 -- The most parts of a merge.
 abbrev pub most_parts : ℕ

@@ -5,10 +5,10 @@ use Rattle.tool_io.specs.Outside.{Contents}
 use Rattle.tools_cli.specs.Words.{Text, MergeTask, Task, Merge, task_of, source_files, many_of}
 use Rattle.tools_cli.specs.Job.{IsAccepted, parts_of, AreMerged}
 use Rattle.wasm_tree.specs.declared.module.Module.{Module}
-use Rattle.wasm_format.specs.Files.{Spells}
-use Rattle.merge_terms.specs.View.{linked_world}
-use Rattle.merge_worlds.specs.Laws.{BehavesAs}
-use Rattle.worlds_in_turn.specs.Laws.{MayComeInTurn}
+use Rattle.wasm_read_spec.specs.Files.{Spells}
+use Rattle.merge_spec.specs.View.{linked_world}
+use Rattle.merge_behaves_proof.specs.Laws.{BehavesAs}
+use Rattle.world_sequential_proof.specs.Laws.{MayComeInTurn}
 
 -- The file of this name spells this module.
 abbrev pub HoldsModule : Bool → Contents → Text → Module → Type 0
@@ -32,7 +32,7 @@ pub record MergeKeeps (merge : MergeTask) (before after : Contents) : Type 0 whe
   pub written : HoldsModule (many_of (Merge merge)) after merge.output tree
   pub accepted : IsAccepted (many_of (Merge merge)) tree
   pub behaves : BehavesAs (parts_of merge.sources trees) merge.mode tree
-  -- where the law of worlds_in_turn lets them, the parts may be instantiated one after the other
+  -- where the law of world_sequential_proof lets them, the parts may be instantiated one after the other
   pub in_turn : MayComeInTurn (linked_world (parts_of merge.sources trees) merge.mode)
 
 abbrev pub TaskKeeps : Task → Contents → Contents → Type 0

@@ -4,14 +4,14 @@ use Rattle.tool_io.specs.Outside.{Becomes, Rose, AppendsPrefix}
 use Rattle.tools_cli.specs.Words.{Text, usage_line}
 use Rattle.tools_cli.specs.Texts.{fault_text, invalid_text, link_text, join_text, import_mismatch, import_cycle, limits_clash, global_cycle, too_many_memories, export_conflict, not_module, malformed, malformed_body, unsupported, unsupported_body, over_limit, too_many_parts, too_many}
 use Rattle.wasm_tree.specs.declared.which.Which.{Which}
-use Rattle.wasm_format.specs.declared.fault.ReadFault.{ReadFault}
+use Rattle.wasm_read_spec.specs.declared.fault.ReadFault.{ReadFault}
 use Rattle.wasm_valid.specs.declared.kinds.Invalid as first
 use Rattle.tools_cli.specs.declared.stop.Status.{Status}
 use Rattle.tools_cli.specs.declared.stop.Status.TheVariants as status
 use Rattle.tools_cli.specs.declared.refusal.Refusal.{Refusal}
 use Rattle.tools_cli.specs.declared.refusal.Refusal.TheVariants.{NotModule, Malformed, MalformedBody, Unsupported, UnsupportedBody, Limit, Invalid, TooManyParts, ImportMismatch, ImportCycle, LimitsClash, TooManyMemories, GlobalCycle, ExportConflict, TooMany}
-use Rattle.merge_terms.specs.declared.faults.LinkFault.{LinkFault}
-use Rattle.merge_terms.specs.declared.faults.JoinFault.{JoinFault}
+use Rattle.merge_spec.specs.declared.faults.LinkFault.{LinkFault}
+use Rattle.merge_spec.specs.declared.faults.JoinFault.{JoinFault}
 use Rattle.tools_cli.specs.declared.stop.Stop.{Stop}
 use Rattle.tools_cli.specs.declared.stop.Stop.TheVariants.{Usage, Refused, CannotRead, CannotWrite, CannotPrint, NoMemory}
 

@@ -1,8 +1,8 @@
 -- The words of a command line, and the task that they ask for.
 use Rattle.std.specs.Prelude.{ℕ, Bool, true, false, not, ◌&&◌, ◌||◌, ◌==◌, if◌then◌else◌, List, [], ◌∷◌, ◌++◌, map, Option, Some, None, option_map, option_and_then, bytes_eq, codes}
 use Rattle.std.specs.List.{list_any}
-use Rattle.export_names.specs.declared.mode.Mode.{Mode}
-use Rattle.export_names.specs.declared.mode.Mode.TheVariants as mode
+use Rattle.merge_names.specs.declared.mode.Mode.{Mode}
+use Rattle.merge_names.specs.declared.mode.Mode.TheVariants as mode
 
 -- A text or a file's content, as its bytes.
 abbrev pub Text : Type 0

@@ -5,14 +5,14 @@ ghost use Rattle.tools_cli.specs.Effects.{Entry, made};
 ghost use Rattle.tools_cli.specs.Job.{Done, Job, HasJob, HoldBytes};
 ghost use Rattle.tools_cli.specs.Kept.{Keeps};
 
-use merge_ranges::merged_modules_are_in_range;
-use merge_validity::merged_modules_are_valid;
-use merge_worlds::merged_modules_show_the_same;
-use plain_law::{plain_spells, spelled_trees_are_in_range, trees_that_fit_have_small_sizes};
-use wasm_format::{
+use merge_encode_proof::merged_modules_are_in_range;
+use merge_valid_proof::merged_modules_are_valid;
+use merge_behaves_proof::merged_modules_show_the_same;
+use wasm_write_proof::{plain_spells, spelled_trees_are_in_range, trees_that_fit_have_small_sizes};
+use wasm_read_spec::{
     faults_have_causes, no_fault_where_spelled, one_tree, spelled_trees_are_bounded,
 };
-use worlds_in_turn::turns_are_not_seen;
+use world_sequential_proof::turns_are_not_seen;
 
 /// A command line has at most one job over some files.
 pub fn jobs_are_determined()

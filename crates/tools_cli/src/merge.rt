@@ -3,7 +3,7 @@ ghost use Rattle.std.specs.Prelude.{◌≡◌, true, IfOk};
 ghost use Rattle.tools_cli.specs.Words.{are_apart};
 ghost use Rattle.tools_cli.specs.Sources.{source_names};
 
-use export_names::Mode;
+use merge_names::Mode;
 use std::alloc::Global;
 use wasm_bytes::NoMemory;
 

@@ -4,7 +4,7 @@ ghost use Rattle.tools_cli.specs.Words.{merge_words, merge_line_of, own_value, o
 ghost use Rattle.tools_cli.specs.Command.{merge_line_value, merge_word_value, join_merge_lines};
 
 use crate::merge_word::{MergeWord, other_merge_word, own_value, takes_value};
-use export_names::Mode;
+use merge_names::Mode;
 use std::alloc::Global;
 use wasm_bytes::NoMemory;
 

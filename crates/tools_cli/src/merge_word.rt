@@ -3,7 +3,7 @@ ghost use Rattle.std.specs.Prelude.{◌≡◌, option_map, option_and_then, code
 ghost use Rattle.tools_cli.specs.Words.{is_plain, takes_value, behind, joined_value, own_value, other_merge_word};
 ghost use Rattle.tools_cli.specs.Command.{merge_word_value};
 
-use export_names::Mode;
+use merge_names::Mode;
 
 /// What an option, a flag or a plain word says.
 #[derive(Drop)]

@@ -1,8 +1,8 @@
 // What a merge decides.
 ghost use Rattle.std.specs.Prelude.{◌≡◌, ◌≤◌, ◌<◌, ◌^◌, ◌∷◌, [], false, length, IfOk, IfErr};
 ghost use Rattle.base_lists.specs.Every.{Every};
-ghost use Rattle.merge_terms.specs.Parts.{named_modules, HaveDistinctNames};
-ghost use Rattle.merge_terms.specs.Joined.{FewInAll};
+ghost use Rattle.merge_spec.specs.Parts.{named_modules, HaveDistinctNames};
+ghost use Rattle.merge_spec.specs.Joined.{FewInAll};
 ghost use Rattle.wasm_meaning.specs.Linking.{sites};
 ghost use Rattle.tools_cli.specs.Command.{merge_value, decision_value, output_values};
 ghost use Rattle.tools_cli.specs.Sources.{source_values};
@@ -15,7 +15,7 @@ use crate::refusal::{refuse_join, refuse_link};
 use crate::stop::Stop;
 use merge_join::join;
 use merge_link::resolve;
-use merge_terms::Part;
+use merge_spec::Part;
 use std::alloc::Global;
 use wasm_bytes::{Items, Name, NoMemory};
 use wasm_valid::Valid;

@@ -3,11 +3,11 @@ ghost use Rattle.std.specs.Prelude.{◌≡◌, ◌++◌, Some, IfOk, decimal, fl
 ghost use Rattle.tools_cli.specs.Texts.{which_text, fault_text, kind_text, invalid_text, link_text, join_text};
 ghost use Rattle.tools_cli.specs.Stop.{refusal_text};
 ghost use Rattle.tools_cli.specs.Sources.{files_of};
-ghost use Rattle.merge_terms.specs.Faults.{NamesPart};
+ghost use Rattle.merge_spec.specs.Faults.{NamesPart};
 
 use crate::digits::Digits;
 use crate::merge::Source;
-use merge_terms::{JoinFault, LinkFault};
+use merge_spec::{JoinFault, LinkFault};
 use std::alloc::Global;
 use wasm_bytes::{Name, NoMemory};
 use wasm_read::ReadFault;

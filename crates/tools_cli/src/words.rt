@@ -7,7 +7,7 @@ ghost use Rattle.tools_cli.specs.Sources.{source_values, source_names};
 use crate::merge::{MergeTask, Source};
 use crate::merge_line::{MergeLine, read_merge_line};
 use crate::task::Task;
-use export_names::Mode;
+use merge_names::Mode;
 use std::alloc::Global;
 use std::collections::BTreeMap;
 use wasm_bytes::NoMemory;

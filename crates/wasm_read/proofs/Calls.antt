@@ -5,12 +5,12 @@ use Rattle.wasm_bytes.specs.Reading.{IsBytes}
 use Rattle.wasm_tree.specs.declared.module.Module.{Module}
 use Rattle.wasm_tree.specs.Bounds.{IsBounded}
 use Rattle.wasm_tree.specs.MemoryZero.{memory_zero_funcs}
-use Rattle.wasm_format.specs.declared.fault.ReadFault.{ReadFault}
-use Rattle.wasm_format.specs.declared.fault.ReadFault.TheVariants.{NoMemory}
-use Rattle.wasm_format.specs.Files.{Spells, Within}
-use Rattle.wasm_format.specs.Contents.{GivesAll, read_at, read_fault}
-use Rattle.wasm_format.specs.Causes.{Cause}
-use Rattle.wasm_format.proofs.FileLaws.{call_fault, call_first}
+use Rattle.wasm_read_spec.specs.declared.fault.ReadFault.{ReadFault}
+use Rattle.wasm_read_spec.specs.declared.fault.ReadFault.TheVariants.{NoMemory}
+use Rattle.wasm_read_spec.specs.Files.{Spells, Within}
+use Rattle.wasm_read_spec.specs.Contents.{GivesAll, read_at, read_fault}
+use Rattle.wasm_read_spec.specs.Causes.{Cause}
+use Rattle.wasm_read_spec.proofs.FileLaws.{call_fault, call_first}
 use Rattle.wasm_read.specs.Told.{Told}
 
 pub found_bounded : ((many : Bool) (bytes : List ℕ) (m : Module) → Spells bytes m many → Within bytes many → IsBounded m) →

@@ -4,11 +4,11 @@ use Rattle.std.proofs.lemmas.List.{drop_all}
 use Rattle.wasm_bytes.specs.declared.framing.Frame.{Frame as Place}
 use Rattle.wasm_bytes.specs.FrameViews.{framed, framed_all}
 use Rattle.wasm_tree.specs.declared.module.Func.{Func}
-use Rattle.wasm_format.specs.declared.fault.ReadFault.{ReadFault}
-use Rattle.wasm_format.specs.declared.parts.Parts.{Parts}
-use Rattle.wasm_format.specs.Contents.{Fails, section_at, contents_at}
-use Rattle.wasm_format.specs.Files.{typed}
-use Rattle.wasm_format.proofs.Loops.{fails_in_through}
+use Rattle.wasm_read_spec.specs.declared.fault.ReadFault.{ReadFault}
+use Rattle.wasm_read_spec.specs.declared.parts.Parts.{Parts}
+use Rattle.wasm_read_spec.specs.Contents.{Fails, section_at, contents_at}
+use Rattle.wasm_read_spec.specs.Files.{typed}
+use Rattle.wasm_read_spec.proofs.Loops.{fails_in_through}
 
 pub drop_some : {A : Type 0} (xs : List A) (i : ℕ) (d : A) → i < length xs → drop i xs ≡ get_or xs i d ∷ drop (i + 1) xs
 drop_some [] i d lt = absurd (omega arith)

@@ -1,8 +1,8 @@
 -- When a call answers a fault.
 use Rattle.std.specs.Prelude.{◌≡◌, ◌⊎◌, Result, Err}
 use Rattle.wasm_tree.specs.declared.module.Module.{Module}
-use Rattle.wasm_format.specs.declared.fault.ReadFault.{ReadFault}
-use Rattle.wasm_format.specs.declared.fault.ReadFault.TheVariants.{NoMemory}
+use Rattle.wasm_read_spec.specs.declared.fault.ReadFault.{ReadFault}
+use Rattle.wasm_read_spec.specs.declared.fault.ReadFault.TheVariants.{NoMemory}
 
 -- it answers this fault exactly where the cause holds, but for want of memory
 abbrev pub Told : Result Module ReadFault → ReadFault → Type 0 → Type 0

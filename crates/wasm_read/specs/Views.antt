@@ -2,9 +2,9 @@
 use Rattle.std.specs.Prelude.{◌≡◌, ℕ, List, Result, Ok, Err}
 use Rattle.wasm_bytes.specs.declared.framing.Frame.{Frame as Place}
 use Rattle.wasm_bytes.specs.FrameViews.{framed_all}
-use Rattle.wasm_format.specs.declared.fault.ReadFault.{ReadFault}
-use Rattle.wasm_format.specs.declared.parts.Parts.{Parts}
-use Rattle.wasm_format.specs.Contents.{Fails, framed_at}
+use Rattle.wasm_read_spec.specs.declared.fault.ReadFault.{ReadFault}
+use Rattle.wasm_read_spec.specs.declared.parts.Parts.{Parts}
+use Rattle.wasm_read_spec.specs.Contents.{Fails, framed_at}
 use Rattle.wasm_read.specs.declared.sections.Found.{Found}
 
 abbrev pub GivesFramed : List ℕ → Result (List Place) ReadFault → Type 0

@@ -2,13 +2,13 @@ ghost use Rattle.std.specs.Prelude.{◌≡◌, ◌<◌, ◌≤◌, ◌+◌, ◌^
 ghost use Rattle.wasm_tree.specs.DataUse.{uses_data, any_uses_data};
 ghost use Rattle.wasm_tree.specs.Limits.{limit};
 ghost use Rattle.wasm_tree.specs.declared.which.Which.TheVariants.{Imports};
-ghost use Rattle.wasm_format.specs.Reading.{each_from};
-ghost use Rattle.wasm_format.specs.Contents.{placed, Gives, GivesAll, entry_at, next_func, codes_at};
+ghost use Rattle.wasm_read_spec.specs.Reading.{each_from};
+ghost use Rattle.wasm_read_spec.specs.Contents.{placed, Gives, GivesAll, entry_at, next_func, codes_at};
 
 use std::alloc::Global;
 use wasm_bytes::{Cursor, Items};
-use wasm_format::{Fault, ReadFault};
-use wasm_items::{Pile, read_code, read_sized};
+use wasm_read_spec::{Fault, ReadFault};
+use wasm_read_items::{Pile, read_code, read_sized};
 use wasm_tree::{Func, MOST_FUNCTIONS, Which};
 
 /// The fault of a section, or of a function's entry in it.
@@ -27,7 +27,7 @@ pub fn place(section: u32, func: Option<u32>, fault: Fault) -> ReadFault
 }
 
 /// A code entry, with its size (WebAssembly Core 2.0, section 5.5.13).
-#[tactic(auto, unfolding(wasm_format::specs::Contents::entry_at))]
+#[tactic(auto, unfolding(wasm_read_spec::specs::Contents::entry_at))]
 fn read_entry(
     alloc: Global,
     cursor: &mut Cursor<'_>,
@@ -50,7 +50,7 @@ fn read_entry(
 }
 
 /// So many code entries, the first of which is that function.
-#[tactic(auto, unfolding(wasm_format::specs::Reading::each_from))]
+#[tactic(auto, unfolding(wasm_read_spec::specs::Reading::each_from))]
 fn read_entries(
     alloc: Global,
     cursor: &mut Cursor<'_>,
@@ -75,7 +75,7 @@ fn read_entries(
 }
 
 /// The code section (WebAssembly Core 2.0, section 5.5.13), whose first entry is that function.
-#[tactic(auto, unfolding(wasm_format::specs::Contents::codes_at))]
+#[tactic(auto, unfolding(wasm_read_spec::specs::Contents::codes_at))]
 pub fn read_codes(
     alloc: Global,
     content: &[u8],

@@ -6,13 +6,13 @@ ghost use Rattle.wasm_tree.specs.declared.module.Module.{Module as ModuleTree};
 ghost use Rattle.wasm_tree.specs.Bounds.{IsBounded};
 ghost use Rattle.wasm_tree.specs.DataUse.{any_uses_data};
 ghost use Rattle.wasm_tree.specs.MemoryZero.{memory_zero_funcs};
-ghost use Rattle.wasm_format.specs.declared.fault.ReadFault.{ReadFault as SomeFault};
-ghost use Rattle.wasm_format.specs.declared.fault.ReadFault.TheVariants as fault;
+ghost use Rattle.wasm_read_spec.specs.declared.fault.ReadFault.{ReadFault as SomeFault};
+ghost use Rattle.wasm_read_spec.specs.declared.fault.ReadFault.TheVariants as fault;
 ghost use Rattle.wasm_tree.specs.declared.which.Which.{Which as SomeWhich};
-ghost use Rattle.wasm_format.specs.Stops.{NotSupported, Over};
-ghost use Rattle.wasm_format.specs.Causes.{Cause, SectionStops, EntryStops, MalformedSection, MalformedEntry, FaultyWhole};
-ghost use Rattle.wasm_format.specs.Files.{nothing, tree_of, Spells, Within};
-ghost use Rattle.wasm_format.specs.Contents.{GivesAll, contents_at, read_at, read_fault};
+ghost use Rattle.wasm_read_spec.specs.Stops.{NotSupported, Over};
+ghost use Rattle.wasm_read_spec.specs.Causes.{Cause, SectionStops, EntryStops, MalformedSection, MalformedEntry, FaultyWhole};
+ghost use Rattle.wasm_read_spec.specs.Files.{nothing, tree_of, Spells, Within};
+ghost use Rattle.wasm_read_spec.specs.Contents.{GivesAll, contents_at, read_at, read_fault};
 ghost use Rattle.wasm_read.specs.Views.{GivesFramed, GivesParts};
 ghost use Rattle.wasm_read.specs.Told.{Told};
 
@@ -20,7 +20,7 @@ use crate::rules::{agree, set_types};
 use crate::sections::{Found, read_section};
 use std::alloc::Global;
 use wasm_bytes::{Frame, FrameFault, Items, frames};
-use wasm_format::{
+use wasm_read_spec::{
     Parts, ReadFault, faults_have_causes, spelled_bodies_name_memory_zero,
     spelled_files_are_within_where_nothing_is_over, spelled_trees_are_bounded,
 };
@@ -109,7 +109,7 @@ fn tree(parts: Parts) -> Module
 }
 
 /// The tree of the file, or its first fault. `many` says that memories have indices in bodies.
-#[tactic(auto, unfolding(wasm_format::specs::Contents::parts_at, wasm_format::specs::Contents::read_at))]
+#[tactic(auto, unfolding(wasm_read_spec::specs::Contents::parts_at, wasm_read_spec::specs::Contents::read_at))]
 fn read_file(alloc: Global, bytes: &[u8], many: bool) -> Result<Module, ReadFault>
     requires { length bytes.now < 2 ^ 32 }
     ensures gives { GivesAll result (read_at many bytes.now) }

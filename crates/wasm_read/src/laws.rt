@@ -1,8 +1,8 @@
 //! A law of the definitions alone, as the contract of a call that does nothing.
 
-ghost use Rattle.wasm_format.specs.Cut.{CutFiles};
+ghost use Rattle.wasm_read_spec.specs.Cut.{CutFiles};
 
-use wasm_format::cut_files_end_with_a_frame;
+use wasm_read_spec::cut_files_end_with_a_frame;
 
 /// Where a file spells a tree, and so does a proper prefix of it, the prefix is the header alone or ends where a frame of the file ends
 /// (WebAssembly Core 2.0, section 5.5.2): so no other file that is cut short is taken for a module.

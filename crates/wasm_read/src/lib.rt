@@ -9,4 +9,4 @@ mod sections;
 
 pub use file::read;
 pub use laws::cut_files;
-pub use wasm_format::ReadFault;
+pub use wasm_read_spec::ReadFault;

@@ -1,14 +1,14 @@
 ghost use Rattle.std.specs.Prelude.{◌≡◌, ◌≤◌, length, IsTrue};
 ghost use Rattle.wasm_tree.specs.DataUse.{any_uses_data};
-ghost use Rattle.wasm_format.specs.Contents.{agrees};
-ghost use Rattle.wasm_format.specs.Files.{typed};
+ghost use Rattle.wasm_read_spec.specs.Contents.{agrees};
+ghost use Rattle.wasm_read_spec.specs.Files.{typed};
 
 use wasm_bytes::Items;
-use wasm_format::Parts;
+use wasm_read_spec::Parts;
 use wasm_tree::Func;
 
 /// Whether the sections agree with one another (WebAssembly Core 2.0, section 5.5.16). It is told whether a body names a data segment.
-#[tactic(auto, unfolding(wasm_format::specs::Contents::agrees))]
+#[tactic(auto, unfolding(wasm_read_spec::specs::Contents::agrees))]
 pub fn agree(parts: &Parts, uses_data: bool) -> bool
     requires { uses_data ≡ any_uses_data parts.now.codes }
     ensures value { result ≡ agrees parts.now }

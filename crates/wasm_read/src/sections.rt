@@ -3,14 +3,14 @@ ghost use Rattle.wasm_tree.specs.Spaces.{imported_funcs};
 ghost use Rattle.wasm_tree.specs.DataUse.{any_uses_data};
 ghost use Rattle.wasm_tree.specs.Limits.{limit};
 ghost use Rattle.wasm_tree.specs.declared.which.Which.TheVariants.{Imports};
-ghost use Rattle.wasm_format.specs.Reading.{GivesAll as GivesWhole, whole_at, u32_at};
-ghost use Rattle.wasm_format.specs.Contents.{GivesAfter, custom_at, section_at};
+ghost use Rattle.wasm_read_spec.specs.Reading.{GivesAll as GivesWhole, whole_at, u32_at};
+ghost use Rattle.wasm_read_spec.specs.Contents.{GivesAfter, custom_at, section_at};
 
 use crate::codes::{place, read_codes};
 use std::alloc::Global;
 use wasm_bytes::Cursor;
-use wasm_format::{Fault, Parts, ReadFault};
-use wasm_items::{Pile, read_name, read_whole};
+use wasm_read_spec::{Fault, Parts, ReadFault};
+use wasm_read_items::{Pile, read_name, read_whole};
 use wasm_tree::{Import, Which};
 
 /// What the sections hold that were read so far.
@@ -33,7 +33,7 @@ fn read_custom(content: &[u8]) -> Result<(), Fault>
 }
 
 /// A number that is all of the content.
-#[tactic(auto, unfolding(wasm_format::specs::Reading::whole_at))]
+#[tactic(auto, unfolding(wasm_read_spec::specs::Reading::whole_at))]
 fn read_number(content: &[u8]) -> Result<u32, Fault>
     ensures { GivesWhole result (whole_at u32_at content.now) }
 {
@@ -60,7 +60,7 @@ fn imported_funcs(imports: &[Import]) -> u32
 }
 
 /// Puts what the section holds in its place among the parts.
-#[tactic(auto, unfolding(wasm_format::specs::Contents::section_at))]
+#[tactic(auto, unfolding(wasm_read_spec::specs::Contents::section_at))]
 pub fn read_section(
     alloc: Global,
     many: bool,

@@ -25,12 +25,12 @@ use Rattle.wasm_tree.specs.Spaces.{funcs_of, tables_of, memories_of, globals_of,
 use Rattle.wasm_valid.specs.declared.kinds.ItemKind.{ItemKind}
 use Rattle.wasm_valid.specs.declared.kinds.ItemKind.TheVariants as kind
 use Rattle.wasm_valid.specs.declared.kinds.Invalid.{Invalid}
-use Rattle.wasm_typing.specs.Typing.{WellTyped}
+use Rattle.wasm_valid_bodies.specs.Typing.{WellTyped}
 use Rattle.wasm_valid.specs.Constants.{const_type}
 use Rattle.wasm_valid.specs.SpaceTypes.{table_types}
 use Rattle.wasm_valid.specs.Validity.{MostIsAtLeast, MostIsAtMost, LimitsHold, PagesHold, ImportHolds, InSpace, ElemModeHolds, DataModeHolds, body_context, HoldsAt, Item, EachHolds}
 use Rattle.wasm_valid.specs.First.{IsFirstOf, index_of}
-use Rattle.wasm_typing.proofs.Decided.{typed_or_not}
+use Rattle.wasm_valid_bodies.proofs.Decided.{typed_or_not}
 
 abbrev Either : Type 0 → Type 0
 Either P = P ⊎ (P → ⊥)

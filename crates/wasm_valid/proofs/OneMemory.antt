@@ -18,7 +18,7 @@ use Rattle.wasm_tree.specs.Layers.{Layers, RowLayers, ListLayers}
 use Rattle.wasm_tree.specs.MemoryZero.{is_memory_zero, memory_zero_all, memory_zero_funcs}
 use Rattle.wasm_tree.specs.OperandLaws.{PassesLayerByLayer}
 use Rattle.wasm_tree.specs.Operands.{operands, block_operands}
-use Rattle.wasm_typing.specs.Typing.{Stack, Effect, Context, under, effect_of, Fits, Leads, LeadsAll}
+use Rattle.wasm_valid_bodies.specs.Typing.{Stack, Effect, Context, under, effect_of, Fits, Leads, LeadsAll}
 use Rattle.wasm_valid.specs.declared.kinds.ItemKind.TheVariants as kind
 use Rattle.wasm_valid.specs.Validity.{HoldsAt, IsValid, IsSingle}
 use Rattle.wasm_valid.proofs.Order.{each_item}

@@ -8,7 +8,7 @@ use Rattle.wasm_tree.specs.declared.module.ConstExpr.{ConstExpr}
 use Rattle.wasm_tree.specs.declared.module.ConstExpr.TheVariants as expr
 use Rattle.wasm_tree.specs.declared.module.Module.{Module}
 use Rattle.wasm_tree.specs.Spaces.{funcs_of, globals_of, imported_globals}
-use Rattle.wasm_typing.specs.Typing.{only}
+use Rattle.wasm_valid_bodies.specs.Typing.{only}
 
 -- the type of a constant expression: `ref.func` needs the function, `global.get` an imported immutable global
 abbrev pub const_type : Module → ConstExpr → Option ValType

@@ -23,8 +23,8 @@ use Rattle.wasm_tree.specs.declared.module.ElemSeg.{ElemSeg}
 use Rattle.wasm_tree.specs.declared.module.DataSeg.{DataSeg}
 use Rattle.wasm_tree.specs.declared.module.Module.{Module}
 use Rattle.wasm_tree.specs.Spaces.{funcs_of, tables_of, memories_of, globals_of, type_of_func}
-use Rattle.wasm_typing.specs.Typing.{Context, WellTyped}
-use Rattle.wasm_typing.specs.Groups.{locals_of}
+use Rattle.wasm_valid_bodies.specs.Typing.{Context, WellTyped}
+use Rattle.wasm_valid_bodies.specs.Groups.{locals_of}
 use Rattle.wasm_valid.specs.declared.kinds.ItemKind.{ItemKind}
 use Rattle.wasm_valid.specs.declared.kinds.ItemKind.TheVariants as kind
 use Rattle.wasm_valid.specs.Constants.{const_type}

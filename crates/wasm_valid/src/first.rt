@@ -10,7 +10,7 @@ use crate::kinds::{Invalid, ItemKind};
 use crate::spaces::Spaces;
 use std::alloc::{AllocError, Global};
 use wasm_tree::Module;
-use wasm_typing::Stacks;
+use wasm_valid_bodies::Stacks;
 
 const ORDER: [ItemKind; 11] = [
     ItemKind::Import,

@@ -13,7 +13,7 @@ use crate::kinds::ItemKind;
 use crate::spaces::Spaces;
 use std::alloc::{AllocError, Global};
 use wasm_tree::Module;
-use wasm_typing::Stacks;
+use wasm_valid_bodies::Stacks;
 
 /// Whether an item holds. The stacks are for bodies, and what they hold before has no meaning.
 pub fn holds_at<'a>(

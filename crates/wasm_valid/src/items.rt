@@ -14,7 +14,7 @@ use std::alloc::{AllocError, Global};
 use wasm_tree::{
     ConstExpr, DataMode, ElemMode, ExportDesc, ImportDesc, Limits, Module, RefType, ValType,
 };
-use wasm_typing::{Locals, Scope, Stacks, is_well_typed_body};
+use wasm_valid_bodies::{Locals, Scope, Stacks, is_well_typed_body};
 
 const MOST_PAGES: u32 = 65_536;
 

@@ -11,9 +11,9 @@ use Rattle.wasm_tree.specs.declared.instr.Instr.{Instr, the_lemmas}
 use Rattle.wasm_tree.specs.declared.instr.Instr.TheVariants.{Block, Loop, If, BrTable, outs-Block, outs-Loop, outs-If}
 use Rattle.wasm_tree.specs.Operands.{block_operands, held, operands_pass, all_operands_pass}
 use Rattle.wasm_tree.proofs.OperandLaws.{block_passes, loop_passes, if_passes}
-use Rattle.plain_law.specs.Ranges.{small, IsU32, small_operand, small_numbers, numbers_in, all_numbers_in, in_range, all_in_range}
-use Rattle.plain_law.proofs.Inside.{numbers_inside}
-use Rattle.plain_law.proofs.BodyRanges.{labels_in}
+use Rattle.wasm_write_proof.specs.Ranges.{small, IsU32, small_operand, small_numbers, numbers_in, all_numbers_in, in_range, all_in_range}
+use Rattle.wasm_write_proof.proofs.Inside.{numbers_inside}
+use Rattle.wasm_write_proof.proofs.BodyRanges.{labels_in}
 
 pub on_ok : {A E P Q : Type 0} (r : Result A E) → (P → Q) → OnOk r P → OnOk r Q
 on_ok (Ok a) f h = f h

@@ -6,9 +6,9 @@ use Rattle.base_lists.specs.Every.{Every}
 use Rattle.wasm_tree.specs.declared.types.TableType.{TableType}
 use Rattle.wasm_tree.specs.declared.module.GlobalDef.{GlobalDef}
 use Rattle.wasm_tree.specs.declared.module.Module.{Module}
-use Rattle.plain_law.specs.Ranges.{MaxInRange, LimitsInRange, ConstInRange, ImportInRange, ExportInRange, ElemInRange, TypeInRange}
-use Rattle.wasm_plain.specs.PlainValues.{func_type_text, import_text, table_text, limits_text, global_text, export_text, elem_text}
-use Rattle.wasm_plain.specs.Plain.{list_section, start_section}
+use Rattle.wasm_write_proof.specs.Ranges.{MaxInRange, LimitsInRange, ConstInRange, ImportInRange, ExportInRange, ElemInRange, TypeInRange}
+use Rattle.wasm_write_spec.specs.PlainValues.{func_type_text, import_text, table_text, limits_text, global_text, export_text, elem_text}
+use Rattle.wasm_write_spec.specs.Plain.{list_section, start_section}
 
 -- the header, and the sections up to that of globals
 unfoldable pub text_up_to_globals : Module → List ℕ

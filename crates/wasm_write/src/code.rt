@@ -2,11 +2,11 @@ ghost use Rattle.std.specs.Prelude.{◌≡◌, ℕ, List, [], ◌∷◌, ◌+◌
 ghost use Rattle.std.specs.List.{list_all};
 ghost use Rattle.base_lists.specs.Every.{Every};
 ghost use Rattle.wasm_tree.specs.Operands.{block_operands};
-ghost use Rattle.plain_law.specs.Ranges.{IsU32, small_operand, in_range, all_in_range};
+ghost use Rattle.wasm_write_proof.specs.Ranges.{IsU32, small_operand, in_range, all_in_range};
 ghost use Rattle.wasm_tree.specs.DataUse.{uses_data_in, uses_data};
 ghost use Rattle.wasm_bytes.specs.Writing.{u32_text, s32_text, s64_text};
-ghost use Rattle.wasm_plain.specs.PlainValues.{joined, each_text, vector_text, ref_text, val_text, block_type_text};
-ghost use Rattle.wasm_plain.specs.PlainCode.{mem_arg_text, instr_text, instrs_text, else_text};
+ghost use Rattle.wasm_write_spec.specs.PlainValues.{joined, each_text, vector_text, ref_text, val_text, block_type_text};
+ghost use Rattle.wasm_write_spec.specs.PlainCode.{mem_arg_text, instr_text, instrs_text, else_text};
 
 use crate::numbers::{spell_number, spell_s32, spell_s64, spell_u32};
 use crate::opcodes::{bin_code, load_code, store_code, un_code};

@@ -3,10 +3,10 @@
 
 ghost use Rattle.std.specs.Prelude.{◌≡◌, ◌≤◌, length, false, IfOk, IsTrue, ◌↔◌};
 ghost use Rattle.wasm_tree.specs.MemoryZero.{memory_zero_funcs};
-ghost use Rattle.wasm_format.specs.Files.{Spells, Within};
-ghost use Rattle.wasm_plain.specs.Plain.{plain};
-ghost use Rattle.plain_law.specs.SmallSizes.{SmallSizes};
-ghost use Rattle.plain_law.specs.TreeLimits.{WithinLimits};
+ghost use Rattle.wasm_read_spec.specs.Files.{Spells, Within};
+ghost use Rattle.wasm_write_spec.specs.Plain.{plain};
+ghost use Rattle.wasm_write_proof.specs.SmallSizes.{SmallSizes};
+ghost use Rattle.wasm_write_proof.specs.TreeLimits.{WithinLimits};
 
 mod buffer;
 mod code;
@@ -22,7 +22,7 @@ mod types;
 use crate::buffer::Buffer;
 use crate::sections::spell_module;
 use crate::size::Size;
-use plain_law::plain_spells;
+use wasm_write_proof::plain_spells;
 use std::alloc::Global;
 use wasm_bytes::NoMemory;
 use wasm_tree::Module;

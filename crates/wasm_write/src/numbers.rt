@@ -1,6 +1,6 @@
 ghost use Rattle.std.specs.Prelude.{◌≡◌, ℕ, List, ◌+◌, ◌++◌, ◌<◌, OnOk, pos, negsuc};
 ghost use Rattle.wasm_bytes.specs.Numbers.{IsWithin};
-ghost use Rattle.plain_law.specs.Ranges.{IsU32};
+ghost use Rattle.wasm_write_proof.specs.Ranges.{IsU32};
 ghost use Rattle.wasm_bytes.specs.Writing.{low, unsigned_text, signed_text, u32_text, s32_text, s33_text, s64_text};
 ghost use Rattle.wasm_write.specs.Sizes.{with_sign, is_negative};
 

@@ -1,11 +1,11 @@
 ghost use Rattle.std.specs.Prelude.{◌≡◌};
-ghost use Rattle.wasm_plain.specs.PlainCode.{un_code, bin_code, load_code, store_code};
+ghost use Rattle.wasm_write_spec.specs.PlainCode.{un_code, bin_code, load_code, store_code};
 
 use wasm_num::{BinOp, UnOp};
 use wasm_tree::{LoadOp, StoreOp};
 
 /// The opcode of an operation on one number (WebAssembly Core 2.0, section 5.4.7).
-#[tactic(auto, unfolding(wasm_plain::specs::PlainCode::un_code))]
+#[tactic(auto, unfolding(wasm_write_spec::specs::PlainCode::un_code))]
 pub(crate) fn un_code(op: UnOp) -> u8
     ensures { result ≡ un_code op }
 {
@@ -30,7 +30,7 @@ pub(crate) fn un_code(op: UnOp) -> u8
 }
 
 /// The opcode of an operation on two numbers (WebAssembly Core 2.0, section 5.4.7).
-#[tactic(auto, unfolding(wasm_plain::specs::PlainCode::bin_code))]
+#[tactic(auto, unfolding(wasm_write_spec::specs::PlainCode::bin_code))]
 pub(crate) fn bin_code(op: BinOp) -> u8
     ensures { result ≡ bin_code op }
 {
@@ -89,7 +89,7 @@ pub(crate) fn bin_code(op: BinOp) -> u8
 }
 
 /// The opcode of a load (WebAssembly Core 2.0, section 5.4.6).
-#[tactic(auto, unfolding(wasm_plain::specs::PlainCode::load_code))]
+#[tactic(auto, unfolding(wasm_write_spec::specs::PlainCode::load_code))]
 pub(crate) fn load_code(op: LoadOp) -> u8
     ensures { result ≡ load_code op }
 {
@@ -110,7 +110,7 @@ pub(crate) fn load_code(op: LoadOp) -> u8
 }
 
 /// The opcode of a store (WebAssembly Core 2.0, section 5.4.6).
-#[tactic(auto, unfolding(wasm_plain::specs::PlainCode::store_code))]
+#[tactic(auto, unfolding(wasm_write_spec::specs::PlainCode::store_code))]
 pub(crate) fn store_code(op: StoreOp) -> u8
     ensures { result ≡ store_code op }
 {

@@ -1,7 +1,7 @@
 ghost use Rattle.std.specs.Prelude.{◌≡◌, ◌≤◌, ℕ, List, ◌++◌, OnOk};
 ghost use Rattle.base_lists.specs.Every.{Every};
 ghost use Rattle.wasm_bytes.specs.Writing.{u32_text, sized_text};
-ghost use Rattle.wasm_plain.specs.PlainValues.{each_text, vector_text};
+ghost use Rattle.wasm_write_spec.specs.PlainValues.{each_text, vector_text};
 
 use crate::numbers::spell_number;
 use crate::target::Target;

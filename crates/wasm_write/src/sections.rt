@@ -1,11 +1,11 @@
 ghost use Rattle.std.specs.Prelude.{◌≡◌, ℕ, List, [], ◌∷◌, ◌++◌, ◌||◌, ◌≤◌, if◌then◌else◌, OnOk};
 ghost use Rattle.wasm_bytes.specs.Writing.{u32_text, sized_text};
 ghost use Rattle.base_lists.specs.Every.{Every};
-ghost use Rattle.plain_law.specs.Ranges.{IsU32, MaxInRange, TypeInRange, CodeInRange, InRange};
+ghost use Rattle.wasm_write_proof.specs.Ranges.{IsU32, MaxInRange, TypeInRange, CodeInRange, InRange};
 ghost use Rattle.wasm_tree.specs.DataUse.{uses_data, any_uses_data};
-ghost use Rattle.wasm_plain.specs.PlainValues.{each_text, vector_text, func_type_text, import_text, table_text, limits_text, global_text, export_text, elem_text, data_text};
-ghost use Rattle.wasm_plain.specs.PlainCode.{group_text, code_text, entry_text};
-ghost use Rattle.wasm_plain.specs.Plain.{section_text, list_section, start_section, count_section, plain};
+ghost use Rattle.wasm_write_spec.specs.PlainValues.{each_text, vector_text, func_type_text, import_text, table_text, limits_text, global_text, export_text, elem_text, data_text};
+ghost use Rattle.wasm_write_spec.specs.PlainCode.{group_text, code_text, entry_text};
+ghost use Rattle.wasm_write_spec.specs.Plain.{section_text, list_section, start_section, count_section, plain};
 ghost use Rattle.wasm_write.specs.Parts.{text_up_to_globals, text_before_code, UpToGlobalsInRange, BeforeCodeInRange};
 
 use crate::code::spell_instrs;
@@ -22,7 +22,7 @@ impl Plain for LocalGroup {
 
     ghost is_in_range = { λ g. IsU32 g.count };
 
-    #[tactic(auto, unfolding(wasm_plain::specs::PlainCode::group_text))]
+    #[tactic(auto, unfolding(wasm_write_spec::specs::PlainCode::group_text))]
     fn spell<T: Target>(&self, target: &mut T) -> Result<(), T::Refusal> {
         self.ty.spell(target)?;
         spell_u32(target, self.count)
@@ -41,7 +41,7 @@ fn spell_code<T: Target>(target: &mut T, func: &Func, uses: &mut bool) -> Result
 }
 
 /// Spells a code entry. Where the body names a data segment, `uses` becomes true.
-#[tactic(auto, unfolding(wasm_plain::specs::PlainCode::entry_text))]
+#[tactic(auto, unfolding(wasm_write_spec::specs::PlainCode::entry_text))]
 fn spell_entry<T: Target>(target: &mut T, func: &Func, uses: &mut bool) -> Result<(), T::Refusal>
     ensures text { OnOk result (target.new ≡ T.preceded target.old (entry_text func.now)) }
     ensures uses { OnOk result (uses.new ≡ (uses_data func.now.body || uses.old)) }

@@ -1,8 +1,8 @@
 ghost use Rattle.std.specs.Prelude.{◌≡◌, ℕ, List, [], ◌∷◌, ◌+◌, ◌++◌, OnOk};
 ghost use Rattle.base_lists.specs.Every.{Every};
-ghost use Rattle.plain_law.specs.Ranges.{ConstInRange, ElemModeInRange, ElemInRange, DataModeInRange};
+ghost use Rattle.wasm_write_proof.specs.Ranges.{ConstInRange, ElemModeInRange, ElemInRange, DataModeInRange};
 ghost use Rattle.wasm_bytes.specs.Writing.{u32_text, sized_text};
-ghost use Rattle.wasm_plain.specs.PlainValues.{joined, each_text, vector_text, is_func, func_of, is_funcref, all_funcs, by_index, index_items, const_items, active_by_index, active_by_const, mode_by_index, mode_by_const, elem_text, data_mode_text, data_text};
+ghost use Rattle.wasm_write_spec.specs.PlainValues.{joined, each_text, vector_text, is_func, func_of, is_funcref, all_funcs, by_index, index_items, const_items, active_by_index, active_by_const, mode_by_index, mode_by_const, elem_text, data_mode_text, data_text};
 
 use crate::numbers::{spell_number, spell_u32};
 use crate::plain::{Plain, spell_sized, spell_vector};
@@ -11,7 +11,7 @@ use crate::types::ref_code;
 use wasm_tree::{ConstExpr, DataMode, DataSeg, ElemMode, ElemSeg, RefType};
 
 /// Whether an item is `ref.func`.
-#[tactic(auto, unfolding(wasm_plain::specs::PlainValues::is_func))]
+#[tactic(auto, unfolding(wasm_write_spec::specs::PlainValues::is_func))]
 fn is_func(item: ConstExpr) -> bool
     ensures { result ≡ is_func item }
 {
@@ -25,7 +25,7 @@ fn is_func(item: ConstExpr) -> bool
 }
 
 /// The function of an item that is `ref.func`.
-#[tactic(auto, unfolding(wasm_plain::specs::PlainValues::func_of))]
+#[tactic(auto, unfolding(wasm_write_spec::specs::PlainValues::func_of))]
 fn func_of(item: ConstExpr) -> u32
     ensures func { result ≡ func_of item }
     ensures range { ConstInRange item }
@@ -39,7 +39,7 @@ fn func_of(item: ConstExpr) -> u32
     }
 }
 
-#[tactic(auto, unfolding(wasm_plain::specs::PlainValues::is_funcref))]
+#[tactic(auto, unfolding(wasm_write_spec::specs::PlainValues::is_funcref))]
 fn is_funcref(ty: RefType) -> bool
     ensures { result ≡ is_funcref ty }
 {
@@ -79,7 +79,7 @@ fn spell_funcs<T: Target>(target: &mut T, items: &[ConstExpr]) -> Result<(), T::
     Ok(())
 }
 
-#[tactic(auto, unfolding(wasm_plain::specs::PlainValues::index_items))]
+#[tactic(auto, unfolding(wasm_write_spec::specs::PlainValues::index_items))]
 fn spell_index_items<T: Target>(target: &mut T, items: &[ConstExpr]) -> Result<(), T::Refusal>
     ensures text { OnOk result (target.new ≡ T.preceded target.old (index_items items.now)) }
     ensures range { OnOk result (Every ConstInRange items.now) }
@@ -88,7 +88,7 @@ fn spell_index_items<T: Target>(target: &mut T, items: &[ConstExpr]) -> Result<(
     spell_number(target, items.len() as u64)
 }
 
-#[tactic(auto, unfolding(wasm_plain::specs::PlainValues::const_items))]
+#[tactic(auto, unfolding(wasm_write_spec::specs::PlainValues::const_items))]
 fn spell_const_items<T: Target>(target: &mut T, items: &[ConstExpr]) -> Result<(), T::Refusal>
     ensures text { OnOk result (target.new ≡ T.preceded target.old (const_items items.now)) }
     ensures range { OnOk result (Every ConstInRange items.now) }
@@ -176,7 +176,7 @@ impl Plain for ElemSeg {
 
     ghost is_in_range = { ElemInRange };
 
-    #[tactic(auto, unfolding(wasm_plain::specs::PlainValues::elem_text))]
+    #[tactic(auto, unfolding(wasm_write_spec::specs::PlainValues::elem_text))]
     fn spell<T: Target>(&self, target: &mut T) -> Result<(), T::Refusal> {
         if by_index(self) {
             spell_by_index(target, self.mode, self.items.as_slice())
@@ -213,7 +213,7 @@ impl Plain for DataSeg {
 
     ghost is_in_range = { λ s. DataModeInRange s.mode };
 
-    #[tactic(auto, unfolding(wasm_plain::specs::PlainValues::data_text))]
+    #[tactic(auto, unfolding(wasm_write_spec::specs::PlainValues::data_text))]
     fn spell<T: Target>(&self, target: &mut T) -> Result<(), T::Refusal> {
         spell_sized(target, self.bytes.as_slice())?;
         self.mode.spell(target)

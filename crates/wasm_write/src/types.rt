@@ -1,9 +1,9 @@
 ghost use Rattle.std.specs.Prelude.{◌≡◌, ℕ, List, [], ◌∷◌, ◌+◌, ◌++◌, OnOk, IsTrue, IsUtf8, pos};
 ghost use Rattle.std.specs.List.{list_all};
 ghost use Rattle.wasm_tree.specs.Operands.{block_operands};
-ghost use Rattle.plain_law.specs.Ranges.{small_operand, IsU32, LimitsInRange, ConstInRange, ImportDescInRange, ImportInRange, ExportDescInRange, ExportInRange};
+ghost use Rattle.wasm_write_proof.specs.Ranges.{small_operand, IsU32, LimitsInRange, ConstInRange, ImportDescInRange, ImportInRange, ExportDescInRange, ExportInRange};
 ghost use Rattle.wasm_bytes.specs.Writing.{u32_text, sized_text};
-ghost use Rattle.wasm_plain.specs.PlainValues.{ref_code, val_code, ref_text, val_text, func_type_text, limits_text, table_text, global_type_text, block_type_text, const_text, import_desc_text, import_text, global_text, export_desc_text, export_text};
+ghost use Rattle.wasm_write_spec.specs.PlainValues.{ref_code, val_code, ref_text, val_text, func_type_text, limits_text, table_text, global_type_text, block_type_text, const_text, import_desc_text, import_text, global_text, export_desc_text, export_text};
 
 use crate::numbers::{spell_s32, spell_s33, spell_s64, spell_u32};
 use crate::plain::{Plain, spell_sized, spell_vector};
@@ -15,7 +15,7 @@ use wasm_tree::{
 };
 
 /// The code of a reference type (WebAssembly Core 2.0, section 5.3.3).
-#[tactic(auto, unfolding(wasm_plain::specs::PlainValues::ref_code))]
+#[tactic(auto, unfolding(wasm_write_spec::specs::PlainValues::ref_code))]
 pub(crate) fn ref_code(ty: RefType) -> u8
     ensures { result ≡ ref_code ty }
 {
@@ -26,7 +26,7 @@ pub(crate) fn ref_code(ty: RefType) -> u8
 }
 
 /// The code of a value type (WebAssembly Core 2.0, section 5.3.4).
-#[tactic(auto, unfolding(wasm_plain::specs::PlainValues::val_code))]
+#[tactic(auto, unfolding(wasm_write_spec::specs::PlainValues::val_code))]
 fn val_code(ty: ValType) -> u8
     ensures { result ≡ val_code ty }
 {
@@ -72,7 +72,7 @@ impl Plain for FuncType {
 
     ghost is_in_range = { λ t. Unit };
 
-    #[tactic(auto, unfolding(wasm_plain::specs::PlainValues::func_type_text))]
+    #[tactic(auto, unfolding(wasm_write_spec::specs::PlainValues::func_type_text))]
     fn spell<T: Target>(&self, target: &mut T) -> Result<(), T::Refusal> {
         spell_vector(target, self.results.as_slice())?;
         spell_vector(target, self.params.as_slice())?;
@@ -85,7 +85,7 @@ impl Plain for Limits {
 
     ghost is_in_range = { LimitsInRange };
 
-    #[tactic(auto, unfolding(wasm_plain::specs::PlainValues::limits_text))]
+    #[tactic(auto, unfolding(wasm_write_spec::specs::PlainValues::limits_text))]
     fn spell<T: Target>(&self, target: &mut T) -> Result<(), T::Refusal> {
         match self.max {
             None => {
@@ -106,7 +106,7 @@ impl Plain for TableType {
 
     ghost is_in_range = { λ t. LimitsInRange t.limits };
 
-    #[tactic(auto, unfolding(wasm_plain::specs::PlainValues::table_text))]
+    #[tactic(auto, unfolding(wasm_write_spec::specs::PlainValues::table_text))]
     fn spell<T: Target>(&self, target: &mut T) -> Result<(), T::Refusal> {
         self.limits.spell(target)?;
         target.byte(ref_code(self.ty))
@@ -118,7 +118,7 @@ impl Plain for GlobalType {
 
     ghost is_in_range = { λ g. Unit };
 
-    #[tactic(auto, unfolding(wasm_plain::specs::PlainValues::global_type_text))]
+    #[tactic(auto, unfolding(wasm_write_spec::specs::PlainValues::global_type_text))]
     fn spell<T: Target>(&self, target: &mut T) -> Result<(), T::Refusal> {
         target.byte(if self.mutable { 0x01 } else { 0x00 })?;
         target.byte(val_code(self.ty))
@@ -130,7 +130,7 @@ impl Plain for BlockType {
 
     ghost is_in_range = { λ t. IsTrue (list_all small_operand (block_operands t)) };
 
-    #[tactic(auto, unfolding(wasm_plain::specs::PlainValues::block_type_text))]
+    #[tactic(auto, unfolding(wasm_write_spec::specs::PlainValues::block_type_text))]
     fn spell<T: Target>(&self, target: &mut T) -> Result<(), T::Refusal> {
         match self {
             BlockType::Empty => target.byte(0x40),
@@ -145,7 +145,7 @@ impl Plain for ConstExpr {
 
     ghost is_in_range = { ConstInRange };
 
-    #[tactic(auto, unfolding(wasm_plain::specs::PlainValues::const_text))]
+    #[tactic(auto, unfolding(wasm_write_spec::specs::PlainValues::const_text))]
     fn spell<T: Target>(&self, target: &mut T) -> Result<(), T::Refusal> {
         match self {
             ConstExpr::I32(value) => {
@@ -182,7 +182,7 @@ impl Plain for ImportDesc {
 
     ghost is_in_range = { ImportDescInRange };
 
-    #[tactic(auto, unfolding(wasm_plain::specs::PlainValues::import_desc_text))]
+    #[tactic(auto, unfolding(wasm_write_spec::specs::PlainValues::import_desc_text))]
     fn spell<T: Target>(&self, target: &mut T) -> Result<(), T::Refusal> {
         match self {
             ImportDesc::Func(ty) => {
@@ -210,7 +210,7 @@ impl Plain for Import {
 
     ghost is_in_range = { ImportInRange };
 
-    #[tactic(auto, unfolding(wasm_plain::specs::PlainValues::import_text))]
+    #[tactic(auto, unfolding(wasm_write_spec::specs::PlainValues::import_text))]
     fn spell<T: Target>(&self, target: &mut T) -> Result<(), T::Refusal> {
         self.desc.spell(target)?;
         self.field.spell(target)?;
@@ -223,7 +223,7 @@ impl Plain for GlobalDef {
 
     ghost is_in_range = { λ g. ConstInRange g.init };
 
-    #[tactic(auto, unfolding(wasm_plain::specs::PlainValues::global_text))]
+    #[tactic(auto, unfolding(wasm_write_spec::specs::PlainValues::global_text))]
     fn spell<T: Target>(&self, target: &mut T) -> Result<(), T::Refusal> {
         self.init.spell(target)?;
         self.ty.spell(target)
@@ -235,7 +235,7 @@ impl Plain for ExportDesc {
 
     ghost is_in_range = { ExportDescInRange };
 
-    #[tactic(auto, unfolding(wasm_plain::specs::PlainValues::export_desc_text))]
+    #[tactic(auto, unfolding(wasm_write_spec::specs::PlainValues::export_desc_text))]
     fn spell<T: Target>(&self, target: &mut T) -> Result<(), T::Refusal> {
         match self {
             ExportDesc::Func(func) => {
@@ -263,7 +263,7 @@ impl Plain for Export {
 
     ghost is_in_range = { ExportInRange };
 
-    #[tactic(auto, unfolding(wasm_plain::specs::PlainValues::export_text))]
+    #[tactic(auto, unfolding(wasm_write_spec::specs::PlainValues::export_text))]
     fn spell<T: Target>(&self, target: &mut T) -> Result<(), T::Refusal> {
         self.desc.spell(target)?;
         self.name.spell(target)

@@ -7,7 +7,7 @@ use Rattle.wasm_tree.specs.declared.module.Func.{Func}
 use Rattle.wasm_tree.specs.declared.module.Export.{Export}
 use Rattle.wasm_tree.specs.declared.module.ExportDesc.TheVariants as ex
 use Rattle.wasm_tree.specs.declared.module.Module.{Module}
-use Rattle.remap_typing.specs.Indices.{FuncNamesOnly, ExportNamesOnly}
+use Rattle.index_remap_proof.specs.Indices.{FuncNamesOnly, ExportNamesOnly}
 use Rattle.world_simulation.specs.Unreachable.{closing, others, rest, IsUnreachable}
 use Rattle.index_remap.specs.Renumbered.{renumbered_tree}
 

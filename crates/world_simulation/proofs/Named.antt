@@ -10,7 +10,7 @@ use Rattle.index_remap.specs.Related.{Pairing, CodeRel}
 use Rattle.index_remap.specs.Laws.{passed}
 use Rattle.index_remap.specs.CodeNames.{EntryNames, LayerNames}
 use Rattle.index_remap.proofs.Unlisted.{operands_follow}
-use Rattle.remap_typing.specs.Indices.{Indices, with_entry, LayerNamesOnly}
+use Rattle.index_remap_proof.specs.Indices.{Indices, with_entry, LayerNamesOnly}
 use Rattle.world_simulation.specs.Named.{EntriesName}
 
 pub all_named : (R : Pairing) (m : Remap) (kept : Indices) (i j : Inst) → EntriesName R m kept i j → (code : List Instr) → ListLayers (LayerNamesOnly kept) code → ListLayers (LayerNames R m i j) code

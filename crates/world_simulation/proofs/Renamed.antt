@@ -22,7 +22,7 @@ use Rattle.index_remap.specs.Renumbered.{new_func, new_const, new_elem, new_elem
 use Rattle.index_remap.specs.Related.{Pairing, OptRel, none, some, ListRel, nil, cons, ValRel, number, reference}
 use Rattle.index_remap.specs.RelatedRuns.{ThingRel, a_func, a_table, a_memory, a_global}
 use Rattle.index_remap.specs.Laws.{passed, RenumberedCodeIsRelated}
-use Rattle.remap_typing.specs.Indices.{Indices, ConstNamesOnly, FuncNamesOnly, ExportNamesOnly, ElemModeNamesOnly, DataModeNamesOnly}
+use Rattle.index_remap_proof.specs.Indices.{Indices, ConstNamesOnly, FuncNamesOnly, ExportNamesOnly, ElemModeNamesOnly, DataModeNamesOnly}
 use Rattle.world_simulation.specs.Named.{EntriesName}
 use Rattle.world_simulation.specs.Definitions.{FuncsCorrespond, is_declarative}
 use Rattle.world_simulation.specs.Segments.{offset_in, ElemsPartner, DatasPartner}

@@ -18,7 +18,7 @@ use Rattle.wasm_tree.specs.declared.module.Func as tree
 use Rattle.wasm_tree.specs.Spaces.{imported_funcs, funcs_of}
 use Rattle.wasm_meaning.specs.State.{Inst, Text, Func, Global, Elem, Store, Val}
 use Rattle.index_remap.specs.declared.remap.Remap.{Remap}
-use Rattle.remap_typing.specs.Indices.{Indices, ExportNamesOnly, ConstNamesOnly, TreeNamesOnly}
+use Rattle.index_remap_proof.specs.Indices.{Indices, ExportNamesOnly, ConstNamesOnly, TreeNamesOnly}
 use Rattle.world_simulation.specs.Segments.{InOrder, both, ends, only_second, ElemsPartner, ElemAlone, DatasPartner, DataAlone, ElemsInOrder, DatasInOrder}
 use Rattle.world_simulation.proofs.Holes.{Down, Moved, stays, space_moves, stays_at, all_in_step}
 use Rattle.wasm_tree.specs.declared.module.GlobalDef.{GlobalDef}

@@ -24,7 +24,7 @@ use Rattle.wasm_meaning.specs.State.{Inst}
 use Rattle.index_remap.specs.declared.remap.Remap.{Remap}
 use Rattle.index_remap.specs.Renumbered.{has, new_func, new_import, new_import_desc, renumbered_tree, new_elem, new_data, new_global}
 use Rattle.index_remap.specs.References.{declared_refs}
-use Rattle.remap_typing.specs.Indices.{Indices, ImportNamesOnly, FuncNamesOnly}
+use Rattle.index_remap_proof.specs.Indices.{Indices, ImportNamesOnly, FuncNamesOnly}
 use Rattle.world_simulation.proofs.Declared.{Keeps, keeps, last_elems, last_segments}
 use Rattle.wasm_meaning.specs.Run.{Move, events}
 use Rattle.world_simulation.specs.Instances.{RelatedInstancesShowTheSame}

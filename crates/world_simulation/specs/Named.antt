@@ -9,7 +9,7 @@ use Rattle.index_remap.specs.Related.{Pairing}
 use Rattle.index_remap.specs.CodeNames.{EntryNames, LayerNames}
 use Rattle.wasm_tree.specs.Layers.{ListLayers}
 use Rattle.index_remap.specs.Laws.{passed}
-use Rattle.remap_typing.specs.Indices.{Indices, with_entry, LayerNamesOnly}
+use Rattle.index_remap_proof.specs.Indices.{Indices, with_entry, LayerNamesOnly}
 
 -- each index that is kept names what its entry names; of other indices nothing is said
 abbrev pub EntriesName : Pairing → Remap → Indices → Inst → Inst → Type 0

@@ -9,7 +9,7 @@ use Rattle.wasm_meaning.specs.Run.{Same, events}
 use Rattle.index_remap.specs.declared.remap.Remap.{Remap}
 use Rattle.index_remap.specs.Renumbered.{renumbered_tree}
 use Rattle.index_remap.specs.References.{declared}
-use Rattle.remap_typing.specs.Indices.{Indices, with_entry, TreeNamesOnly}
+use Rattle.index_remap_proof.specs.Indices.{Indices, with_entry, TreeNamesOnly}
 
 -- the list without what stands at the place
 abbrev pub without : {A : Type 0} → ℕ → List A → List A

@@ -25,7 +25,7 @@ ghost use Rattle.world_simulation.specs.Starts.{OneStartMayCallSeveral};
 ghost use Rattle.world_simulation.specs.Unreachable.{UnreachableFunctionsAreNotSeen};
 
 use index_remap::{related_runs_show_the_same, steps_agree};
-use remap_typing::renumbering_keeps_typing;
+use index_remap_proof::renumbering_keeps_typing;
 use wasm_meaning::what_stands_below_is_not_seen;
 
 /// In the world of a module alone each import is its own end (`ends`) and stands for what the environment offers of its name, and of its type if it is a function,

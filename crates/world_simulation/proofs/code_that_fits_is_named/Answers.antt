@@ -1,5 +1,5 @@
 use Rattle.index_remap.specs.Laws.{passed}
-use Rattle.remap_typing.specs.Indices.{with_entry}
+use Rattle.index_remap_proof.specs.Indices.{with_entry}
 use Rattle.world_simulation.proofs.Named.{all_named}
 use Rattle.world_simulation.proofs.code_that_fits_is_named.Goals as goal
 

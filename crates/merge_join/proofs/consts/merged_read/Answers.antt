@@ -1,7 +1,7 @@
 use Rattle.std.proofs.Common.{◌∙◌, sym, ap, subst, refl, None, IsTrue}
 use Rattle.wasm_tree.specs.declared.module.ConstExpr.TheVariants as const
 use Rattle.index_remap.specs.Renumbered.{fits_const, new_const}
-use Rattle.merge_terms.specs.Parts.{named_modules}
+use Rattle.merge_spec.specs.Parts.{named_modules}
 use Rattle.merge_join.proofs.ByPart.{part_there}
 use Rattle.merge_join.proofs.Reading.{global_within, global_read, read_entry_there, becomes_read, stays_expr}
 use Rattle.merge_join.proofs.consts.merged_read.Goals as goal

@@ -1,8 +1,8 @@
 use Rattle.std.proofs.Common.{◌≡◌, map, take}
 use Rattle.wasm_tree.specs.declared.space.Space.TheVariants.{Globals}
 use Rattle.wasm_meaning.specs.Linking.{has_kind, places}
-use Rattle.merge_terms.specs.Parts.{named_modules}
-use Rattle.merge_terms.specs.Linked.{read_at}
+use Rattle.merge_spec.specs.Parts.{named_modules}
+use Rattle.merge_spec.specs.Linked.{read_at}
 use Rattle.merge_join.specs.Words.{site}
 use Rattle.merge_join.proofs.consts.reads_of.Given as goal
 

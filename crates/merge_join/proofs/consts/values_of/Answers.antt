@@ -5,7 +5,7 @@ use Rattle.wasm_tree.specs.declared.module.ConstExpr.TheVariants as const
 use Rattle.wasm_tree.specs.declared.module.Import.{Import}
 use Rattle.wasm_tree.specs.Spaces.{global_of, imported_globals}
 use Rattle.wasm_valid.specs.Constants.{const_type}
-use Rattle.merge_terms.specs.Parts.{named_modules}
+use Rattle.merge_spec.specs.Parts.{named_modules}
 use Rattle.merge_join.specs.Reads.{HasType}
 use Rattle.merge_join.proofs.Values.{StandFor, one_longer, inside, may_be_named, is_fixed, no_global, none_more, stand_more, stand_all}
 use Rattle.merge_join.proofs.consts.values_of.Goals as goal

@@ -1,6 +1,6 @@
 use Rattle.std.proofs.Common.{◌≡◌, take, length}
 use Rattle.wasm_tree.specs.Spaces.{imported_globals}
-use Rattle.merge_terms.specs.Parts.{named_modules}
+use Rattle.merge_spec.specs.Parts.{named_modules}
 use Rattle.merge_join.proofs.Values.{StandFor}
 use Rattle.merge_join.proofs.consts.values_of.Given as goal
 

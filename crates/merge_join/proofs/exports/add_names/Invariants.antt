@@ -1,5 +1,5 @@
 use Rattle.std.proofs.Common.{◌≡◌, ◌++◌, map, take}
-use Rattle.export_names.specs.Given.{texts}
+use Rattle.merge_names.specs.Given.{texts}
 use Rattle.merge_join.proofs.exports.add_names.Given as goal
 
 abbrev pub invariant-loop-export : goal.invariant-loop-export

@@ -1,6 +1,6 @@
 use Rattle.std.proofs.Common.{◌∙◌, sym, ap, ◌++◌, map, arith}
-use Rattle.export_names.specs.Given.{texts}
-use Rattle.merge_terms.specs.Parts.{named_modules}
+use Rattle.merge_names.specs.Given.{texts}
+use Rattle.merge_spec.specs.Parts.{named_modules}
 use Rattle.merge_join.proofs.ByPart.{part_more, part_all}
 use Rattle.merge_join.proofs.Exported.{names_are}
 use Rattle.merge_join.proofs.exports.all_names.Goals as goal

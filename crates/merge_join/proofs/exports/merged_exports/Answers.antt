@@ -1,7 +1,7 @@
 use Rattle.std.proofs.Common.{◌≡◌, ◌∙◌, sym, ap, ◌+◌, ◌++◌, length, map, take, arith}
 use Rattle.index_remap.specs.Renumbered.{new_export}
-use Rattle.merge_terms.specs.Parts.{named_modules}
-use Rattle.merge_terms.specs.Merged.{by_part_from, all_exports, named_exports}
+use Rattle.merge_spec.specs.Parts.{named_modules}
+use Rattle.merge_spec.specs.Merged.{by_part_from, all_exports, named_exports}
 use Rattle.merge_join.proofs.ByPart.{named_length}
 use Rattle.merge_join.proofs.Exported.{new_exports, exports_few, exports_next, exports_grow}
 use Rattle.std.proofs.lemmas.List.{take_all}

@@ -2,9 +2,9 @@ use Rattle.std.proofs.Common.{◌≡◌, ◌∙◌, ◌<◌, sym, ap, refl, subs
 use Rattle.std.proofs.lemmas.List.{length-map}
 use Rattle.std.proofs.lemmas.Option.{slice_get_read, slice_get_within}
 use Rattle.base_lists.proofs.Places.{map_at}
-use Rattle.export_names.specs.Given.{texts, IsConflictOf}
-use Rattle.export_names.specs.Names.{conflict}
-use Rattle.merge_terms.specs.Parts.{named_modules}
+use Rattle.merge_names.specs.Given.{texts, IsConflictOf}
+use Rattle.merge_names.specs.Names.{conflict}
+use Rattle.merge_spec.specs.Parts.{named_modules}
 use Rattle.merge_join.proofs.Exported.{none_repeated, repeated_at}
 use Rattle.merge_join.proofs.exports.new_names.Goals as goal
 

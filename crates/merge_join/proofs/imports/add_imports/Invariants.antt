@@ -1,9 +1,9 @@
 use Rattle.std.proofs.Common.{◌≡◌, ◌++◌}
 use Rattle.std.specs.List.{filter, filter_map}
 use Rattle.wasm_meaning.specs.Linking.{sites_in}
-use Rattle.merge_terms.specs.Parts.{named_modules}
-use Rattle.merge_terms.specs.Faults.{stays}
-use Rattle.merge_terms.specs.Merged.{merged_import}
+use Rattle.merge_spec.specs.Parts.{named_modules}
+use Rattle.merge_spec.specs.Faults.{stays}
+use Rattle.merge_spec.specs.Merged.{merged_import}
 use Rattle.merge_join.proofs.imports.add_imports.Given as goal
 
 abbrev pub invariant-loop-place : goal.invariant-loop-place

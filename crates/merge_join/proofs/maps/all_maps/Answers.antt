@@ -1,11 +1,11 @@
 use Rattle.std.proofs.Common.{◌∙◌, sym, ap, ◌++◌, ◌∷◌, [], arith}
-use Rattle.merge_terms.specs.Parts.{named_modules}
-use Rattle.merge_terms.specs.Merged.{map_of}
+use Rattle.merge_spec.specs.Parts.{named_modules}
+use Rattle.merge_spec.specs.Merged.{map_of}
 use Rattle.merge_join.proofs.ByPart.{part_more, part_all}
 use Rattle.wasm_tree.specs.declared.space.Space.TheVariants.{ElementSegments, DataSegments}
 use Rattle.merge_join.proofs.Counts.{defined_none, defined_more}
 use Rattle.merge_join.proofs.maps.all_maps.Goals as goal
-use Rattle.merge_worlds.proofs.Standing.{defined_low}
+use Rattle.merge_behaves_proof.proofs.Standing.{defined_low}
 
 pub loop-part-init : goal.loop-part-init
 loop-part-init c = record { maps_are = c.new-maps.ensures; elem_is = sym (defined_none ElementSegments (named_modules c.args.parts.now)); data_is = sym (defined_none DataSegments (named_modules c.args.parts.now)) }

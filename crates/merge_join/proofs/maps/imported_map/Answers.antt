@@ -6,14 +6,14 @@ use Rattle.wasm_tree.specs.declared.module.Module.{Module}
 use Rattle.wasm_meaning.specs.World.{numbers}
 use Rattle.wasm_meaning.specs.Linking.{places, has_kind, imports_of}
 use Rattle.wasm_tree.specs.Spaces.{space_of_import}
-use Rattle.merge_terms.specs.Parts.{named_modules}
-use Rattle.merge_terms.specs.Merged.{new_index}
+use Rattle.merge_spec.specs.Parts.{named_modules}
+use Rattle.merge_spec.specs.Merged.{new_index}
 use Rattle.merge_join.specs.Words.{IsEnd}
 use Rattle.merge_join.proofs.Fits.{entry_there}
 use Rattle.merge_join.proofs.NewIndex.{new_index_at, import_place}
 use Rattle.merge_join.proofs.Sites.{places_length}
 use Rattle.merge_join.proofs.maps.imported_map.Goals as goal
-use Rattle.merge_validity.proofs.Same.{kind_is}
+use Rattle.merge_valid_proof.proofs.Same.{kind_is}
 
 pub loop-place-preserved : goal.loop-place-preserved
 loop-place-preserved c =

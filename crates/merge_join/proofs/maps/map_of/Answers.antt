@@ -3,11 +3,11 @@ use Rattle.wasm_tree.specs.declared.module.Module.{Module}
 use Rattle.wasm_meaning.specs.World.{numbers}
 use Rattle.wasm_meaning.specs.Linking.{first_place}
 use Rattle.wasm_tree.specs.SameTypes.{same_func_type}
-use Rattle.merge_terms.specs.Parts.{named_modules}
+use Rattle.merge_spec.specs.Parts.{named_modules}
 use Rattle.wasm_tree.specs.declared.space.Space.TheVariants.{Functions, Tables, Memories, Globals, ElementSegments, DataSegments}
 use Rattle.merge_join.proofs.MapParts.{space_is, map_built}
 use Rattle.merge_join.proofs.maps.map_of.Goals as goal
-use Rattle.merge_worlds.proofs.Standing.{defined_low}
+use Rattle.merge_behaves_proof.proofs.Standing.{defined_low}
 
 pub numbers-requires : goal.numbers-requires
 numbers-requires c =

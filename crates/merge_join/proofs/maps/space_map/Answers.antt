@@ -1,14 +1,14 @@
 use Rattle.std.proofs.Common.{◌≡◌, ◌∙◌, sym, ap, ◌+◌, ◌++◌, Some, length, map, arith}
 use Rattle.wasm_meaning.specs.World.{numbers, defined_before, defined_count}
 use Rattle.wasm_meaning.specs.Linking.{imports_of}
-use Rattle.merge_terms.specs.Parts.{named_modules}
-use Rattle.merge_terms.specs.Merged.{new_index, staying_of}
+use Rattle.merge_spec.specs.Parts.{named_modules}
+use Rattle.merge_spec.specs.Merged.{new_index, staying_of}
 use Rattle.merge_join.specs.Spaces.{first_of}
 use Rattle.merge_join.proofs.ByPart.{each_within, each_index, module_exists}
 use Rattle.merge_join.proofs.Counts.{staying_few}
 use Rattle.merge_join.proofs.NewIndex.{all_indices}
 use Rattle.merge_join.proofs.maps.space_map.Goals as goal
-use Rattle.merge_worlds.proofs.Standing.{defined_low}
+use Rattle.merge_behaves_proof.proofs.Standing.{defined_low}
 
 pub number_at-first-requires : goal.number_at-first-requires
 number_at-first-requires c =

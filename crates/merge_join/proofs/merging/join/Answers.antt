@@ -3,14 +3,14 @@ use Rattle.wasm_tree.specs.declared.module.Module.{Module}
 use Rattle.wasm_tree.specs.Bounds.{IsBounded}
 use Rattle.wasm_valid.specs.Validity.{IsValid}
 use Rattle.wasm_meaning.specs.Linking.{Part}
-use Rattle.export_names.specs.declared.mode.Mode.{Mode}
-use Rattle.merge_terms.specs.declared.parts.Part as declared
-use Rattle.merge_terms.specs.Faults.{link_fault}
-use Rattle.merge_terms.specs.Parts.{named_modules}
-use Rattle.merge_terms.specs.View.{linked_world}
-use Rattle.merge_terms.specs.Joined.{joined_module, over_limit, repeated_name, Joins}
-use Rattle.merge_validity.specs.Joinable.{CanBeJoined}
-use Rattle.merge_worlds.specs.Laws.{BehavesAs}
+use Rattle.merge_names.specs.declared.mode.Mode.{Mode}
+use Rattle.merge_spec.specs.declared.parts.Part as declared
+use Rattle.merge_spec.specs.Faults.{link_fault}
+use Rattle.merge_spec.specs.Parts.{named_modules}
+use Rattle.merge_spec.specs.View.{linked_world}
+use Rattle.merge_spec.specs.Joined.{joined_module, over_limit, repeated_name, Joins}
+use Rattle.merge_valid_proof.specs.Joinable.{CanBeJoined}
+use Rattle.merge_behaves_proof.specs.Laws.{BehavesAs}
 use Rattle.merge_join.specs.Words.{PartsHold}
 use Rattle.merge_join.proofs.Outcomes.{joined_from}
 use Rattle.merge_join.proofs.merging.join.Goals as goal

@@ -8,9 +8,9 @@ use Rattle.wasm_meaning.specs.Linking as linking
 use Rattle.wasm_meaning.specs.Linking.{module_at}
 use Rattle.index_remap.specs.declared.remap.Remap.{Remap}
 use Rattle.index_remap.specs.Renumbered.{fits_tree}
-use Rattle.merge_terms.specs.declared.parts.Part.{Part}
-use Rattle.merge_terms.specs.Parts.{named_modules}
-use Rattle.merge_terms.specs.Merged.{map_of}
+use Rattle.merge_spec.specs.declared.parts.Part.{Part}
+use Rattle.merge_spec.specs.Parts.{named_modules}
+use Rattle.merge_spec.specs.Merged.{map_of}
 use Rattle.merge_join.specs.Moved.{AreValues, AreAllValues}
 use Rattle.merge_join.specs.Words.{AreMaps}
 use Rattle.merge_join.proofs.ByPart.{each_at, each_within}

@@ -1,5 +1,5 @@
 use Rattle.std.proofs.Common.{◌≡◌, ℕ, ◌≤◌, take, slice_get}
-use Rattle.merge_terms.specs.Parts.{named_modules}
+use Rattle.merge_spec.specs.Parts.{named_modules}
 use Rattle.merge_join.proofs.MovedParts.{filled}
 use Rattle.merge_join.proofs.moving.moved_parts.Given as goal
 

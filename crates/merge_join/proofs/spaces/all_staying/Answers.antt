@@ -1,6 +1,6 @@
 use Rattle.std.proofs.Common.{◌∙◌, sym, ap, ◌++◌, ◌∷◌, [], length, map}
 use Rattle.wasm_meaning.specs.Linking.{sites_in}
-use Rattle.merge_terms.specs.Parts.{named_modules}
+use Rattle.merge_spec.specs.Parts.{named_modules}
 use Rattle.merge_join.specs.Spaces.{staying_place}
 use Rattle.merge_join.proofs.ByPart.{part_more, part_all, by_import_is, module_exists}
 use Rattle.merge_join.proofs.Counts.{count_all, count_none}

@@ -1,7 +1,7 @@
 use Rattle.std.proofs.Common.{◌≡◌, ◌∷◌, [], map, length, take}
 use Rattle.wasm_meaning.specs.Linking.{sites_in}
-use Rattle.merge_terms.specs.Parts.{named_modules}
-use Rattle.merge_terms.specs.Merged.{by_part_from}
+use Rattle.merge_spec.specs.Parts.{named_modules}
+use Rattle.merge_spec.specs.Merged.{by_part_from}
 use Rattle.merge_join.specs.Spaces.{staying_place, count_before}
 use Rattle.merge_join.proofs.spaces.all_staying.Given as goal
 

@@ -1,7 +1,7 @@
 use Rattle.std.proofs.Common.{◌≡◌, ◌+◌, ◌∷◌, [], take}
 use Rattle.wasm_meaning.specs.World.{defined_before}
-use Rattle.merge_terms.specs.Parts.{named_modules}
-use Rattle.merge_terms.specs.Merged.{by_part_from}
+use Rattle.merge_spec.specs.Parts.{named_modules}
+use Rattle.merge_spec.specs.Merged.{by_part_from}
 use Rattle.merge_join.proofs.spaces.firsts_of.Given as goal
 
 abbrev pub invariant-loop-part : goal.invariant-loop-part

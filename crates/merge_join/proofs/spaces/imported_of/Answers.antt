@@ -1,10 +1,10 @@
 use Rattle.std.proofs.Common.{◌∙◌, sym, ap, ◌++◌, ◌∷◌, [], length, arith}
 use Rattle.wasm_meaning.specs.Linking.{places, has_kind}
-use Rattle.merge_terms.specs.Parts.{named_modules}
+use Rattle.merge_spec.specs.Parts.{named_modules}
 use Rattle.merge_join.specs.Spaces.{imported_in}
 use Rattle.merge_join.proofs.ByPart.{part_more, part_all}
 use Rattle.merge_join.proofs.spaces.imported_of.Goals as goal
-use Rattle.merge_validity.proofs.Entries.{count_is}
+use Rattle.merge_valid_proof.proofs.Entries.{count_is}
 
 pub loop-part-preserved : goal.loop-part-preserved
 loop-part-preserved c =

@@ -1,6 +1,6 @@
 use Rattle.std.proofs.Common.{ap, arith}
 use Rattle.wasm_meaning.specs.World.{defined_before}
-use Rattle.merge_terms.specs.Parts.{named_modules}
+use Rattle.merge_spec.specs.Parts.{named_modules}
 use Rattle.merge_join.proofs.ByPart.{named_length}
 use Rattle.merge_join.proofs.Counts.{staying_few}
 use Rattle.merge_join.proofs.spaces.space_of.Goals as goal

@@ -1,6 +1,6 @@
 use Rattle.std.proofs.Common.{◌≡◌, map}
 use Rattle.wasm_meaning.specs.Linking.{sites_in}
-use Rattle.merge_terms.specs.Parts.{named_modules}
+use Rattle.merge_spec.specs.Parts.{named_modules}
 use Rattle.merge_join.specs.Spaces.{staying_place, count_before}
 use Rattle.merge_join.proofs.spaces.staying_in.Given as goal
 

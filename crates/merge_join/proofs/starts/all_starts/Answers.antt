@@ -1,6 +1,6 @@
 use Rattle.std.proofs.Common.{arith}
-use Rattle.merge_terms.specs.Parts.{named_modules}
-use Rattle.merge_terms.specs.Merged.{start_of, starts}
+use Rattle.merge_spec.specs.Parts.{named_modules}
+use Rattle.merge_spec.specs.Merged.{start_of, starts}
 use Rattle.merge_join.proofs.ByPart.{part_more, part_all, module_exists}
 use Rattle.merge_join.proofs.starts.all_starts.Goals as goal
 

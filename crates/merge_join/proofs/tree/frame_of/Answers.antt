@@ -1,7 +1,7 @@
 use Rattle.std.proofs.Common.{◌∙◌, ap, ◌++◌}
 use Rattle.wasm_tree.specs.declared.module.Module.{Module}
-use Rattle.merge_terms.specs.Parts.{named_modules}
-use Rattle.merge_terms.specs.Merged.{start_among, start_calls, starts}
+use Rattle.merge_spec.specs.Parts.{named_modules}
+use Rattle.merge_spec.specs.Merged.{start_among, start_calls, starts}
 use Rattle.merge_join.proofs.tree.frame_of.Goals as goal
 
 pub returns : goal.returns

@@ -1,13 +1,13 @@
 use Rattle.std.proofs.Common.{◌≡◌, ◌∙◌, sym, ap, inr, refl, arith, length, List, Option, None}
 use Rattle.wasm_tree.specs.declared.module.Module.{Module}
 use Rattle.wasm_meaning.specs.State.{Text}
-use Rattle.merge_terms.specs.declared.parts.Part as parts
+use Rattle.merge_spec.specs.declared.parts.Part as parts
 use Rattle.index_remap.specs.References.{declared}
-use Rattle.export_names.specs.declared.mode.Mode.{Mode}
-use Rattle.export_names.specs.Names as names
-use Rattle.merge_terms.specs.Parts.{named_modules}
-use Rattle.merge_terms.specs.Merged.{all_exports, merged, export_names}
-use Rattle.merge_terms.specs.Joined.{joined_module, over_limit, repeated_name}
+use Rattle.merge_names.specs.declared.mode.Mode.{Mode}
+use Rattle.merge_names.specs.Names as names
+use Rattle.merge_spec.specs.Parts.{named_modules}
+use Rattle.merge_spec.specs.Merged.{all_exports, merged, export_names}
+use Rattle.merge_spec.specs.Joined.{joined_module, over_limit, repeated_name}
 use Rattle.merge_join.proofs.Outcomes.{many_is, module_is}
 use Rattle.merge_join.proofs.Undropped.{none_undeclared}
 use Rattle.merge_join.proofs.tree.joined_tree.Goals as goal

@@ -1,5 +1,5 @@
 use Rattle.std.proofs.Common.{◌≡◌, take}
-use Rattle.merge_terms.specs.Merged.{with_types}
+use Rattle.merge_spec.specs.Merged.{with_types}
 use Rattle.merge_join.specs.Types.{ArePlaces}
 use Rattle.merge_join.proofs.types.add_types.Given as goal
 

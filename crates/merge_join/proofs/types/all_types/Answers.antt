@@ -1,6 +1,6 @@
 use Rattle.std.proofs.Common.{◌∙◌, sym, ap, refl, ◌++◌, [], length, take, arith}
-use Rattle.merge_terms.specs.Parts.{named_modules}
-use Rattle.merge_terms.specs.Merged.{by_part_from, with_types, merged_types}
+use Rattle.merge_spec.specs.Parts.{named_modules}
+use Rattle.merge_spec.specs.Merged.{by_part_from, with_types, merged_types}
 use Rattle.merge_join.proofs.ByPart.{part_more, part_all, part_room, flat_is}
 use Rattle.merge_join.proofs.Interning.{with_types_join, with_types_length}
 use Rattle.merge_join.proofs.types.all_types.Goals as goal

@@ -1,5 +1,5 @@
 use Rattle.std.proofs.Common.{◌≡◌, ◌∙◌, ◌++◌, ◌∷◌, [], ◌+◌, ◌<◌, sym, ap, suc, drop, length, arith}
-use Rattle.merge_terms.specs.Parts.{named_modules}
+use Rattle.merge_spec.specs.Parts.{named_modules}
 use Rattle.merge_link.specs.Cutting.{cut_by, import_count, import_counts}
 use Rattle.merge_link.specs.Tables.{imports_before}
 use Rattle.merge_link.proofs.Cuts.{one_cut}

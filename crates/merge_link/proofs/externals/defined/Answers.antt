@@ -5,7 +5,7 @@ use Rattle.wasm_meaning.specs.Linking as linking
 use Rattle.wasm_tree.specs.Spaces.{index_of_export, space_of_export}
 use Rattle.wasm_tree.specs.declared.module.ExportDesc.{ExportDesc}
 use Rattle.wasm_tree.specs.declared.module.ExportDesc.TheVariants as ex
-use Rattle.merge_terms.specs.Faults as faults
+use Rattle.merge_spec.specs.Faults as faults
 use Rattle.merge_link.specs.Externals.{own_func, own_table, own_memory, own_global}
 use Rattle.merge_link.proofs.Types.{external_func, external_table, external_memory, external_global}
 use Rattle.merge_link.proofs.externals.defined.Goals as goal

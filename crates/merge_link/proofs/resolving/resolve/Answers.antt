@@ -3,9 +3,9 @@ use Rattle.std.proofs.lemmas.List.{length-map}
 use Rattle.wasm_tree.specs.declared.space.Space.TheVariants.{Globals}
 use Rattle.wasm_meaning.specs.Linking.{sites}
 use Rattle.wasm_meaning.specs.World.{defined_before}
-use Rattle.merge_terms.specs.declared.parts.Part.{Part}
-use Rattle.merge_terms.specs.Faults.{own_globals}
-use Rattle.merge_terms.specs.Parts.{named_module, named_modules}
+use Rattle.merge_spec.specs.declared.parts.Part.{Part}
+use Rattle.merge_spec.specs.Faults.{own_globals}
+use Rattle.merge_spec.specs.Parts.{named_module, named_modules}
 use Rattle.merge_link.proofs.Whole.{own_count}
 use Rattle.merge_link.proofs.resolving.resolve.Goals as goal
 

@@ -1,6 +1,6 @@
 use Rattle.std.proofs.Common.{drop, map, ◌+◌, ◌++◌, ◌-◌, ◌≡◌}
 use Rattle.wasm_meaning.specs.Linking as linking
-use Rattle.merge_terms.specs.Parts.{named_modules}
+use Rattle.merge_spec.specs.Parts.{named_modules}
 use Rattle.merge_link.specs.Sites.{the_site}
 use Rattle.merge_link.proofs.sites.all_sites.Given as goal
 

@@ -1,8 +1,8 @@
 use Rattle.std.proofs.Common.{◌≡◌, ◌<◌, ◌≤◌, ◌^◌, ◌∙◌, sym, ap, ap₂, subst, List, Err, length, arith}
 use Rattle.std.proofs.lemmas.List.{length-map}
 use Rattle.wasm_meaning.specs.Linking.{Part, sites}
-use Rattle.merge_terms.specs.Parts.{named_module, named_modules}
-use Rattle.merge_terms.specs.Joined.{FewInAll}
+use Rattle.merge_spec.specs.Parts.{named_module, named_modules}
+use Rattle.merge_spec.specs.Joined.{FewInAll}
 use Rattle.tools_cli.specs.Words.{Text, are_apart}
 use Rattle.tools_cli.specs.Command.{merge_value, decision_value}
 use Rattle.tools_cli.specs.Sources.{source_values}

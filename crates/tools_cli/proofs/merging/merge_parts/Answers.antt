@@ -2,8 +2,8 @@ use Rattle.std.proofs.Common.{◌∙◌, ap, sym, arith, false, length}
 use Rattle.std.proofs.lemmas.List.{length-map}
 use Rattle.wasm_tree.specs.declared.space.Space.TheVariants.{Globals}
 use Rattle.wasm_meaning.specs.World.{defined_before}
-use Rattle.merge_terms.specs.Parts.{named_module, named_modules}
-use Rattle.merge_terms.proofs.FaultParts.{none_with_several}
+use Rattle.merge_spec.specs.Parts.{named_module, named_modules}
+use Rattle.merge_spec.proofs.FaultParts.{none_with_several}
 use Rattle.tools_cli.specs.Command.{merge_value}
 use Rattle.tools_cli.specs.Sources.{files_of}
 use Rattle.tools_cli.specs.Texts.{link_text}

@@ -1,6 +1,6 @@
 use Rattle.std.proofs.Common.{◌≡◌, length, drop, rules}
 use Rattle.std.specs.Vec.Iter.{into_iter_items}
-use Rattle.merge_terms.specs.Parts.{named_modules}
+use Rattle.merge_spec.specs.Parts.{named_modules}
 use Rattle.tools_cli.specs.Sources.{source_values}
 use Rattle.tools_cli.proofs.MergeDecided.{all_named}
 use Rattle.tools_cli.proofs.merging.name_parts.Goals as goal

@@ -1,6 +1,6 @@
 use Rattle.std.proofs.Common.{◌≡◌, ◌≤◌, ◌+◌, ◌++◌, length, drop}
 use Rattle.std.specs.Vec.Iter.{into_iter_items}
-use Rattle.merge_terms.specs.Parts.{named_modules}
+use Rattle.merge_spec.specs.Parts.{named_modules}
 use Rattle.tools_cli.specs.Job.{parts_of}
 use Rattle.tools_cli.specs.Sources.{source_values}
 use Rattle.tools_cli.proofs.merging.name_parts.Given as goal

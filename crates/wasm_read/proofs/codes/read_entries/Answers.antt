@@ -1,8 +1,8 @@
 use Rattle.std.proofs.Common.{◌≡◌, Err, arith}
 use Rattle.wasm_tree.specs.declared.module.Func.{Func}
 use Rattle.wasm_tree.specs.DataUse.{uses_data}
-use Rattle.wasm_format.specs.Contents.{entry_at, next_func}
-use Rattle.wasm_format.proofs.Loops.{each_more, each_stop_in, any_more}
+use Rattle.wasm_read_spec.specs.Contents.{entry_at, next_func}
+use Rattle.wasm_read_spec.proofs.Loops.{each_more, each_stop_in, any_more}
 use Rattle.wasm_read.proofs.codes.read_entries.Goals as goal
 
 pub returns-in_err-code-clause-gives : goal.returns-in_err-code-clause-gives

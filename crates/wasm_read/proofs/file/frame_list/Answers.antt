@@ -1,5 +1,5 @@
 use Rattle.std.proofs.Common.{Err, arith, ap}
-use Rattle.wasm_format.proofs.Framing.{framed_reads, bad_reads, header_reads}
+use Rattle.wasm_read_spec.proofs.Framing.{framed_reads, bad_reads, header_reads}
 use Rattle.wasm_read.proofs.file.frame_list.Goals as goal
 
 pub returns-in-Ok-clause-gives : goal.returns-in-Ok-clause-gives

@@ -1,8 +1,8 @@
 use Rattle.std.proofs.Common.{false}
 use Rattle.std.specs.Prelude.{Some, None}
-use Rattle.wasm_format.specs.declared.fault.ReadFault.TheVariants as fault
+use Rattle.wasm_read_spec.specs.declared.fault.ReadFault.TheVariants as fault
 use Rattle.wasm_read.proofs.Calls.{found_bounded, found_zero, told_by}
-use Rattle.wasm_format.proofs.FileLaws.{call_found, call_only, call_fault, call_first}
+use Rattle.wasm_read_spec.proofs.FileLaws.{call_found, call_only, call_fault, call_first}
 use Rattle.wasm_read.proofs.file.read.Goals as goal
 
 pub returns-clause-found : goal.returns-clause-found

@@ -3,8 +3,8 @@ use Rattle.wasm_bytes.specs.FrameViews.{framed_all}
 use Rattle.wasm_tree.specs.DataUse.{any_uses_data}
 use Rattle.wasm_tree.specs.Limits.{limit}
 use Rattle.wasm_tree.specs.declared.which.Which.TheVariants.{Imports}
-use Rattle.wasm_format.specs.Files.{nothing}
-use Rattle.wasm_format.specs.Contents.{contents_at}
+use Rattle.wasm_read_spec.specs.Files.{nothing}
+use Rattle.wasm_read_spec.specs.Contents.{contents_at}
 use Rattle.wasm_read.proofs.file.read_contents.Given as goal
 
 abbrev pub invariant-loop-frame : goal.invariant-loop-frame

@@ -1,9 +1,9 @@
 use Rattle.wasm_tree.specs.DataUse.{uses_data_in}
-use Rattle.wasm_plain.specs.PlainCode.{instr_text}
+use Rattle.wasm_write_spec.specs.PlainCode.{instr_text}
 use Rattle.std.proofs.Common.{◌≡◌, true, sym, subst}
 use Rattle.std.specs.Prelude.{OnOk, IsTrue}
 use Rattle.base_lists.specs.Every.{Every}
-use Rattle.plain_law.specs.Ranges.{IsU32, in_range, all_in_range}
+use Rattle.wasm_write_proof.specs.Ranges.{IsU32, in_range, all_in_range}
 use Rattle.wasm_write.proofs.InRange.{on_ok, block_in_range, loop_in_range, if_in_range, table_in_range}
 use Rattle.wasm_write.proofs.Loops.{any_next, code_next, spelled_next}
 use Rattle.wasm_write.proofs.code.+spell.Goals as goal

@@ -1,8 +1,8 @@
 use Rattle.std.proofs.Common.{◌≡◌, ◌||◌, true}
 use Rattle.wasm_tree.specs.DataUse.{uses_data}
-use Rattle.plain_law.specs.Ranges.{all_in_range}
-use Rattle.wasm_plain.specs.PlainCode.{instr_text}
-use Rattle.wasm_plain.specs.PlainValues.{each_text}
+use Rattle.wasm_write_proof.specs.Ranges.{all_in_range}
+use Rattle.wasm_write_spec.specs.PlainCode.{instr_text}
+use Rattle.wasm_write_spec.specs.PlainValues.{each_text}
 use Rattle.wasm_write.proofs.code.+spell.Given as goal
 
 abbrev pub invariant-spell_instrs-loop-instr : goal.invariant-spell_instrs-loop-instr

@@ -1,6 +1,6 @@
 use Rattle.std.proofs.Common.{◌≡◌}
 use Rattle.base_lists.specs.Every.{Every}
-use Rattle.wasm_plain.specs.PlainValues.{each_text}
+use Rattle.wasm_write_spec.specs.PlainValues.{each_text}
 use Rattle.wasm_write.proofs.plain.spell_each.Given as goal
 
 abbrev pub invariant-loop-item : goal.invariant-loop-item

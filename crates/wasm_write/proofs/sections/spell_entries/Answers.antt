@@ -1,7 +1,7 @@
 use Rattle.wasm_tree.specs.declared.module.Func.{Func}
 use Rattle.wasm_tree.specs.DataUse.{uses_data}
-use Rattle.wasm_plain.specs.PlainCode.{entry_text}
-use Rattle.plain_law.specs.Ranges.{CodeInRange}
+use Rattle.wasm_write_spec.specs.PlainCode.{entry_text}
+use Rattle.wasm_write_proof.specs.Ranges.{CodeInRange}
 use Rattle.wasm_write.proofs.Loops.{any_next, range_next, spelled_next}
 use Rattle.wasm_write.proofs.sections.spell_entries.Goals as goal
 

@@ -1,9 +1,9 @@
 use Rattle.std.proofs.Common.{◌≡◌, ◌||◌}
 use Rattle.wasm_tree.specs.DataUse.{any_uses_data}
 use Rattle.base_lists.specs.Every.{Every}
-use Rattle.plain_law.specs.Ranges.{CodeInRange}
-use Rattle.wasm_plain.specs.PlainCode.{entry_text}
-use Rattle.wasm_plain.specs.PlainValues.{each_text}
+use Rattle.wasm_write_proof.specs.Ranges.{CodeInRange}
+use Rattle.wasm_write_spec.specs.PlainCode.{entry_text}
+use Rattle.wasm_write_spec.specs.PlainValues.{each_text}
 use Rattle.wasm_write.proofs.sections.spell_entries.Given as goal
 
 abbrev pub invariant-loop-func : goal.invariant-loop-func

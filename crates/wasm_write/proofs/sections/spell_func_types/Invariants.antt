@@ -2,8 +2,8 @@ use Rattle.std.proofs.Common.{◌≡◌}
 use Rattle.wasm_bytes.specs.Writing.{u32_text}
 use Rattle.wasm_tree.specs.declared.module.Func.{Func}
 use Rattle.base_lists.specs.Every.{Every}
-use Rattle.plain_law.specs.Ranges.{TypeInRange}
-use Rattle.wasm_plain.specs.PlainValues.{each_text}
+use Rattle.wasm_write_proof.specs.Ranges.{TypeInRange}
+use Rattle.wasm_write_spec.specs.PlainValues.{each_text}
 use Rattle.wasm_write.proofs.sections.spell_func_types.Given as goal
 
 abbrev pub invariant-loop-func : goal.invariant-loop-func

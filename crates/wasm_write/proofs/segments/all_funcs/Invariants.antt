@@ -1,5 +1,5 @@
 use Rattle.std.proofs.Common.{◌≡◌, true, take}
-use Rattle.wasm_plain.specs.PlainValues.{all_funcs}
+use Rattle.wasm_write_spec.specs.PlainValues.{all_funcs}
 use Rattle.wasm_write.proofs.segments.all_funcs.Given as goal
 
 abbrev pub invariant-loop-item : goal.invariant-loop-item

@@ -1,8 +1,8 @@
 use Rattle.std.proofs.Common.{◌∙◌, ap}
 use Rattle.wasm_bytes.specs.Writing.{u32_text}
 use Rattle.wasm_tree.specs.declared.module.ConstExpr.{ConstExpr}
-use Rattle.wasm_plain.specs.PlainValues.{func_of}
-use Rattle.plain_law.specs.Ranges.{ConstInRange}
+use Rattle.wasm_write_spec.specs.PlainValues.{func_of}
+use Rattle.wasm_write_proof.specs.Ranges.{ConstInRange}
 use Rattle.wasm_write.proofs.Loops.{spelled_next, range_next}
 use Rattle.wasm_write.proofs.segments.spell_funcs.Goals as goal
 

@@ -2,8 +2,8 @@ use Rattle.std.proofs.Common.{◌≡◌}
 use Rattle.wasm_bytes.specs.Writing.{u32_text}
 use Rattle.wasm_tree.specs.declared.module.ConstExpr.{ConstExpr}
 use Rattle.base_lists.specs.Every.{Every}
-use Rattle.plain_law.specs.Ranges.{ConstInRange}
-use Rattle.wasm_plain.specs.PlainValues.{func_of, each_text}
+use Rattle.wasm_write_proof.specs.Ranges.{ConstInRange}
+use Rattle.wasm_write_spec.specs.PlainValues.{func_of, each_text}
 use Rattle.wasm_write.proofs.segments.spell_funcs.Given as goal
 
 abbrev pub invariant-loop-item : goal.invariant-loop-item

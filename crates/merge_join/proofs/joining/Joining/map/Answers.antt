@@ -1,6 +1,6 @@
 use Rattle.std.proofs.Common.{sym, subst, arith, IsTrue}
 use Rattle.index_remap.specs.Renumbered.{fits_tree}
-use Rattle.merge_terms.specs.Parts.{named_modules}
+use Rattle.merge_spec.specs.Parts.{named_modules}
 use Rattle.merge_join.proofs.PartMaps.{maps_length, map_at}
 use Rattle.merge_join.proofs.joining.Joining.map.Goals as goal
 

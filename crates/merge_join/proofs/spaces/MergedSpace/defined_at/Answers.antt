@@ -1,11 +1,11 @@
 use Rattle.std.proofs.Common.{arith}
-use Rattle.merge_terms.specs.Parts.{named_modules}
+use Rattle.merge_spec.specs.Parts.{named_modules}
 use Rattle.merge_join.specs.Words.{place_at}
 use Rattle.merge_join.specs.Spaces.{first_of, imported_in}
 use Rattle.merge_join.proofs.ByPart.{each_within, each_index}
 use Rattle.merge_join.proofs.spaces.MergedSpace.defined_at.Goals as goal
-use Rattle.merge_validity.proofs.Entries.{count_is}
-use Rattle.merge_worlds.proofs.Standing.{defined_low}
+use Rattle.merge_valid_proof.proofs.Entries.{count_is}
+use Rattle.merge_behaves_proof.proofs.Standing.{defined_low}
 
 pub number_at-imported-requires : goal.number_at-imported-requires
 number_at-imported-requires c =

@@ -1,5 +1,5 @@
 use Rattle.std.proofs.Common.{◌∙◌, ap, length, get_or, None, arith}
-use Rattle.merge_terms.specs.Parts.{named_modules}
+use Rattle.merge_spec.specs.Parts.{named_modules}
 use Rattle.merge_join.specs.Spaces.{staying_place}
 use Rattle.merge_join.proofs.Rows.{row_of}
 use Rattle.merge_join.proofs.spaces.MergedSpace.staying_at.Goals as goal

@@ -2,9 +2,9 @@ use Rattle.std.proofs.Common.{length, Option, Some, ap, sym, ◌<◌, arith, sli
 use Rattle.std.proofs.lemmas.List.{length-map}
 use Rattle.wasm_tree.specs.declared.module.Module.{Module}
 use Rattle.wasm_meaning.specs.Linking as linking
-use Rattle.merge_terms.specs.declared.parts.Part.{Part}
-use Rattle.merge_terms.specs.Faults as faults
-use Rattle.merge_terms.specs.Parts.{named_module, named_modules}
+use Rattle.merge_spec.specs.declared.parts.Part.{Part}
+use Rattle.merge_spec.specs.Faults as faults
+use Rattle.merge_spec.specs.Parts.{named_module, named_modules}
 use Rattle.merge_link.specs.Joining.{the_entity}
 use Rattle.merge_link.proofs.Joins.{module_past, module_read, read_at}
 use Rattle.merge_link.proofs.Types.{not_imported}

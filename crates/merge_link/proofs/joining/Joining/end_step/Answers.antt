@@ -1,5 +1,5 @@
 use Rattle.std.proofs.Common.{sym, subst}
-use Rattle.path_ends.specs.declared.follow.Step.TheVariants.{Goes}
+use Rattle.base_paths.specs.declared.follow.Step.TheVariants.{Goes}
 use Rattle.merge_link.specs.declared.joining.Ending.{Ending}
 use Rattle.merge_link.specs.Globals.{IsEndStep}
 use Rattle.merge_link.specs.Joining.{the_end, the_entity}

@@ -1,9 +1,9 @@
 use Rattle.std.proofs.Common.{length, map, subst, sym, ap, arith, List, ◌∙◌}
 use Rattle.base_lists.proofs.Places.{map_twice}
-use Rattle.path_ends.specs.declared.follow.Step.{Step}
-use Rattle.path_ends.specs.Steps.{AreNamed, AreEndings}
+use Rattle.base_paths.specs.declared.follow.Step.{Step}
+use Rattle.base_paths.specs.Steps.{AreNamed, AreEndings}
 use Rattle.wasm_meaning.specs.Linking as linking
-use Rattle.merge_terms.specs.Parts.{named_modules}
+use Rattle.merge_spec.specs.Parts.{named_modules}
 use Rattle.merge_link.specs.declared.joining.Ending.{Ending}
 use Rattle.merge_link.specs.Sites.{the_site}
 use Rattle.merge_link.specs.Joining.{AreSteps, end_at, the_end}

@@ -4,7 +4,7 @@ use Rattle.std.specs.Option.{option_map}
 use Rattle.std.specs.Ordering.{nat_cmp}
 use Rattle.std.specs.Cmp.Lexicographic.{slice_cmp}
 use Rattle.wasm_meaning.specs.Linking as linking
-use Rattle.merge_terms.specs.Parts.{named_modules}
+use Rattle.merge_spec.specs.Parts.{named_modules}
 use Rattle.merge_link.specs.Joining.{the_entity}
 use Rattle.merge_link.proofs.Joins.{read_at, joined_found}
 use Rattle.merge_link.proofs.joining.Joining.entity_of.Goals as goal

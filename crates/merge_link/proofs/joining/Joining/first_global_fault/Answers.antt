@@ -4,10 +4,10 @@ use Rattle.std.proofs.lemmas.List.{get_or_default}
 use Rattle.std.proofs.lemmas.Option.{slice_get-get_or}
 use Rattle.wasm_tree.specs.declared.module.ConstExpr.TheVariants.{I32}
 use lib.IntN.{pos}
-use Rattle.merge_terms.specs.declared.links.Read.{Read}
-use Rattle.merge_terms.specs.declared.faults.LinkFault.TheVariants.{GlobalCycle}
-use Rattle.merge_terms.specs.Faults as faults
-use Rattle.merge_terms.specs.Parts.{named_modules}
+use Rattle.merge_spec.specs.declared.links.Read.{Read}
+use Rattle.merge_spec.specs.declared.faults.LinkFault.TheVariants.{GlobalCycle}
+use Rattle.merge_spec.specs.Faults as faults
+use Rattle.merge_spec.specs.Parts.{named_modules}
 use Rattle.merge_link.specs.declared.globals.OwnGlobal.{OwnGlobal}
 use Rattle.merge_link.specs.Globals.{the_own, the_read, value_at}
 use Rattle.merge_link.proofs.Firsts.{first_pass, first_stop}

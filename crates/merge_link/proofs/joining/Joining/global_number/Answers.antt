@@ -2,8 +2,8 @@ use Rattle.std.proofs.Common.{◌≡◌, ◌∙◌, sym, ap, subst, ℕ, ◌<◌
 use Rattle.std.proofs.lemmas.List.{length-map}
 use Rattle.std.proofs.lemmas.Option.{slice_get_within}
 use Rattle.wasm_meaning.specs.Linking as linking
-use Rattle.merge_terms.specs.Faults as faults
-use Rattle.merge_terms.specs.Parts.{named_module, named_modules}
+use Rattle.merge_spec.specs.Faults as faults
+use Rattle.merge_spec.specs.Parts.{named_module, named_modules}
 use Rattle.merge_link.specs.Joining.{the_entity}
 use Rattle.merge_link.specs.Globals.{IsOwn}
 use Rattle.merge_link.proofs.Joins.{module_read, read_at}

@@ -2,7 +2,7 @@ use Rattle.std.proofs.Common.{◌∙◌, ap, ℕ, ◌+◌, length, nat_lt}
 use Rattle.wasm_tree.specs.declared.space.Space.TheVariants.{Memories}
 use Rattle.wasm_meaning.specs.Linking as linking
 use Rattle.wasm_meaning.specs.World as world
-use Rattle.merge_terms.specs.Parts.{named_modules}
+use Rattle.merge_spec.specs.Parts.{named_modules}
 use Rattle.merge_link.proofs.Counts.{memories_counted}
 use Rattle.merge_link.proofs.joining.Joining.has_too_many_memories.Goals as goal
 

@@ -3,7 +3,7 @@ use Rattle.wasm_tree.specs.declared.space.Space.{Space}
 use Rattle.std.proofs.lemmas.Option.{slice_get_within}
 use Rattle.wasm_meaning.specs.Linking as linking
 use Rattle.wasm_tree.specs.Spaces.{index_of_export, space_of_export}
-use Rattle.merge_terms.specs.Parts.{named_modules}
+use Rattle.merge_spec.specs.Parts.{named_modules}
 use Rattle.merge_link.specs.Tables.{places_of}
 use Rattle.merge_link.specs.Joining.{the_entity, IsImportedAs}
 use Rattle.merge_link.proofs.Joins.{read_at, imported_none, imported_some}

@@ -3,8 +3,8 @@ use Rattle.std.proofs.lemmas.List.{length-map, map_push, take_more}
 use Rattle.std.proofs.lemmas.Option.{slice_get-get_or, slice_get_read}
 use Rattle.wasm_tree.specs.declared.types.Limits.{Limits}
 use Rattle.wasm_tree.specs.declared.module.ExportDesc.TheVariants.{Func}
-use Rattle.merge_terms.specs.Faults as faults
-use Rattle.merge_terms.specs.Parts.{named_modules}
+use Rattle.merge_spec.specs.Faults as faults
+use Rattle.merge_spec.specs.Parts.{named_modules}
 use Rattle.merge_link.specs.declared.sites.Site.{Site}
 use Rattle.merge_link.specs.declared.joining.Ending.{Ending}
 use Rattle.merge_link.specs.declared.joining.Ending.TheVariants.{Defined}

@@ -1,6 +1,6 @@
 use Rattle.std.proofs.Common.{take, map, ◌≡◌}
-use Rattle.merge_terms.specs.Faults as faults
-use Rattle.merge_terms.specs.Parts.{named_modules}
+use Rattle.merge_spec.specs.Faults as faults
+use Rattle.merge_spec.specs.Parts.{named_modules}
 use Rattle.merge_link.specs.Sites.{the_site}
 use Rattle.merge_link.proofs.joining.Joining.kept_limits.Given as goal
 

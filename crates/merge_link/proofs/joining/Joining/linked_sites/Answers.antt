@@ -1,5 +1,5 @@
 use Rattle.std.proofs.Common.{◌≡◌, ◌∙◌, inl, inr, sym, refl, subst, None, Some, Err, arith}
-use Rattle.merge_terms.specs.Parts.{named_modules}
+use Rattle.merge_spec.specs.Parts.{named_modules}
 use Rattle.merge_link.specs.Resolving.{clash_faults, global_faults, import_faults}
 use Rattle.merge_link.proofs.Whole.{fault_one, fault_two, fault_three, fault_four, refused}
 use Rattle.merge_link.proofs.joining.Joining.linked_sites.Goals as goal

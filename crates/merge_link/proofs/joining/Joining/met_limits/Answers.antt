@@ -2,7 +2,7 @@ use Rattle.std.proofs.Common.{◌≡◌, ◌∙◌, ◌∷◌, ◌-◌, ◌<◌,
 use Rattle.std.proofs.lemmas.List.{drop_all, get_or_default, length-map}
 use Rattle.std.proofs.lemmas.Option.{slice_get-get_or, slice_get_read}
 use Rattle.wasm_tree.specs.declared.module.ExportDesc.TheVariants.{Func}
-use Rattle.merge_terms.specs.Parts.{named_modules}
+use Rattle.merge_spec.specs.Parts.{named_modules}
 use Rattle.merge_link.specs.declared.sites.Site.{Site}
 use Rattle.merge_link.specs.declared.joining.Ending.{Ending}
 use Rattle.merge_link.specs.declared.joining.Ending.TheVariants.{Defined}

@@ -1,6 +1,6 @@
 use Rattle.std.proofs.Common.{drop, map, ◌+◌, ◌++◌, ◌≡◌}
-use Rattle.merge_terms.specs.Faults as faults
-use Rattle.merge_terms.specs.Parts.{named_modules}
+use Rattle.merge_spec.specs.Faults as faults
+use Rattle.merge_spec.specs.Parts.{named_modules}
 use Rattle.merge_link.specs.Globals.{the_own}
 use Rattle.merge_link.proofs.joining.Joining.own_globals.Given as goal
 

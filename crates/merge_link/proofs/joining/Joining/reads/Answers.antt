@@ -2,9 +2,9 @@ use Rattle.std.proofs.Common.{◌≡◌, ◌∙◌, ◌∷◌, ◌++◌, ◌<◌
 use Rattle.std.proofs.lemmas.List.{map_push, take_more}
 use Rattle.std.proofs.lemmas.Option.{slice_get-get_or}
 use Rattle.wasm_tree.specs.declared.module.ExportDesc.TheVariants.{Func}
-use Rattle.merge_terms.specs.declared.links.Read.{Read}
-use Rattle.merge_terms.specs.Linked as links
-use Rattle.merge_terms.specs.Parts.{named_modules}
+use Rattle.merge_spec.specs.declared.links.Read.{Read}
+use Rattle.merge_spec.specs.Linked as links
+use Rattle.merge_spec.specs.Parts.{named_modules}
 use Rattle.merge_link.specs.declared.sites.Site.{Site}
 use Rattle.merge_link.specs.declared.joining.Ending.{Ending}
 use Rattle.merge_link.specs.declared.joining.Ending.TheVariants.{Defined}

@@ -3,7 +3,7 @@ use Rattle.std.specs.Option.{option_map}
 use Rattle.std.proofs.lemmas.Option.{slice_get-map, slice_get-get_or}
 use Rattle.std.proofs.lemmas.List.{length-map, length_push}
 use Rattle.wasm_meaning.specs.Linking as linking
-use Rattle.merge_terms.specs.Parts.{named_modules}
+use Rattle.merge_spec.specs.Parts.{named_modules}
 use Rattle.merge_link.specs.Sites.{the_site}
 use Rattle.merge_link.specs.Joining.{the_end}
 use Rattle.merge_link.proofs.Numbers.{site_there}

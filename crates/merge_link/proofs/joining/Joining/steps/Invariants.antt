@@ -1,7 +1,7 @@
 use Rattle.std.proofs.Common.{length, map, Some, slice_get, ℕ, ◌≡◌}
-use Rattle.path_ends.specs.declared.follow.Step.{Step}
+use Rattle.base_paths.specs.declared.follow.Step.{Step}
 use Rattle.wasm_meaning.specs.Linking as linking
-use Rattle.merge_terms.specs.Parts.{named_modules}
+use Rattle.merge_spec.specs.Parts.{named_modules}
 use Rattle.merge_link.specs.declared.joining.Ending.{Ending}
 use Rattle.merge_link.specs.Sites.{the_site}
 use Rattle.merge_link.specs.Joining.{IsStep, the_end}

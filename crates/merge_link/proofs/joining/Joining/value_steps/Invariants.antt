@@ -1,8 +1,8 @@
 use Rattle.std.proofs.Common.{length, map, Some, slice_get, ℕ, ◌≡◌}
-use Rattle.path_ends.specs.declared.follow.Step.{Step}
+use Rattle.base_paths.specs.declared.follow.Step.{Step}
 use Rattle.wasm_meaning.specs.Linking as linking
-use Rattle.merge_terms.specs.declared.links.Read.{Read}
-use Rattle.merge_terms.specs.Parts.{named_modules}
+use Rattle.merge_spec.specs.declared.links.Read.{Read}
+use Rattle.merge_spec.specs.Parts.{named_modules}
 use Rattle.merge_link.specs.Globals.{own_read, own_reads, the_own, the_read}
 use Rattle.merge_link.specs.Joining.{IsStep}
 use Rattle.merge_link.proofs.joining.Joining.value_steps.Given as goal

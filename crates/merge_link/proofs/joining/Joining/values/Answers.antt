@@ -1,11 +1,11 @@
 use Rattle.std.proofs.Common.{length, map, subst, sym, ap, arith, List, ◌≡◌, ◌∙◌}
 use Rattle.std.proofs.lemmas.List.{length-map}
 use Rattle.base_lists.proofs.Places.{map_twice}
-use Rattle.path_ends.specs.declared.follow.Step.{Step}
-use Rattle.path_ends.specs.Steps.{AreNamed, AreEndings}
+use Rattle.base_paths.specs.declared.follow.Step.{Step}
+use Rattle.base_paths.specs.Steps.{AreNamed, AreEndings}
 use Rattle.wasm_meaning.specs.Linking as linking
-use Rattle.merge_terms.specs.declared.links.Read.{Read}
-use Rattle.merge_terms.specs.Parts.{named_modules}
+use Rattle.merge_spec.specs.declared.links.Read.{Read}
+use Rattle.merge_spec.specs.Parts.{named_modules}
 use Rattle.merge_link.specs.declared.globals.OwnGlobal.{OwnGlobal}
 use Rattle.merge_link.specs.Globals.{own_read, own_reads, the_own, the_read, value_at}
 use Rattle.merge_link.specs.Joining.{AreSteps}

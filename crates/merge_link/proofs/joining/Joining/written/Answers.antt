@@ -1,5 +1,5 @@
 use Rattle.std.proofs.Common.{◌∙◌, ap, map, Some}
-use Rattle.merge_terms.specs.Linked.{end_entry}
+use Rattle.merge_spec.specs.Linked.{end_entry}
 use Rattle.merge_link.specs.declared.joining.Ending.{Ending}
 use Rattle.merge_link.specs.Cutting.{cut_by, import_counts}
 use Rattle.merge_link.specs.Joining.{the_end}

@@ -1,0 +1,63 @@
+// What going on ends with, where a place that stops has something to end with.
+
+ghost use Rattle.base_paths.specs.Paths.{AreThere};
+ghost use Rattle.base_paths.specs.Steps.{AreEndings, AreNamed, next_place, ending_of};
+ghost use Rattle.std.specs.Prelude.{IfOk, length, map, slice_get, ◌<◌, ◌^◌, ◌≡◌};
+ghost use Rattle.std.specs.Option.{option_and_then};
+
+use crate::stops::ends;
+use std::alloc::{AllocError, Global};
+
+/// From a place: on to another place, or what going on ends with, or nowhere.
+#[derive(Clone, Copy, Drop)]
+pub enum Step<E> {
+    Goes(u32),
+    Ends(E),
+    Nowhere,
+}
+
+// Of each place the place to go on to, or none where one stops.
+fn next_places<E: Copy>(alloc: Global, steps: &[Step<E>]) -> Result<Vec<Option<u32>>, AllocError>
+    ensures { IfOk result (λ nexts. nexts.items ≡ map next_place steps.now) }
+{
+    let mut nexts = Vec::new(alloc);
+    for step in steps {
+        let next = match step {
+            Step::Goes(place) => Some(*place),
+            Step::Ends(_) => None,
+            Step::Nowhere => None,
+        };
+        nexts.push(next)?;
+    }
+    Ok(nexts)
+}
+
+// What the place at which going on stops has.
+fn ending<E: Copy>(steps: &[Step<E>], stop: Option<u32>) -> Option<E>
+    ensures { result ≡ option_and_then (λ n. option_and_then ending_of (slice_get steps.now n)) stop }
+{
+    match stop {
+        None => None,
+        Some(place) => match steps.get(place as usize) {
+            None => None,
+            Some(Step::Goes(_)) => None,
+            Some(Step::Nowhere) => None,
+            Some(Step::Ends(end)) => Some(*end),
+        },
+    }
+}
+
+/// What going on from each place ends with, or none where it never ends or leads nowhere. The one error is want of memory.
+pub fn endings<E: Copy>(alloc: Global, steps: &[Step<E>]) -> Result<Vec<Option<E>>, AllocError>
+    requires there { AreNamed steps.now }
+    requires few { length steps.now < 2 ^ 32 }
+    ensures { IfOk result (λ all. AreEndings steps.now all.items) }
+{
+    let nexts = next_places(alloc, steps)?;
+    let stops = ends(alloc, &nexts)?;
+    let mut all = Vec::new(alloc);
+    for stop in &stops {
+        all.push(ending(steps, *stop))?;
+    }
+    Ok(all)
+}

@@ -1,5 +1,0 @@
-use Rattle.export_names.proofs.Distinct.{given_differ}
-use Rattle.export_names.proofs.given_names_differ.Goals as goal
-
-pub returns : goal.returns
-returns c = record { differ = given_differ }

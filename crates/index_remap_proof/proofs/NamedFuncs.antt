@@ -1,0 +1,123 @@
+-- What `ref.func` names in well typed code, and code that stays well typed where other functions may be named and there are more element segments.
+use Rattle.std.proofs.Common.{◌≡◌, ℕ, Bool, true, false, nat_eq, List, [], ◌∷◌, ◌++◌, Some, refl, sym, ap, ◌∙◌, eq-eqb, ◌⊎◌, inl, inr, ⊎_elim, rules}
+use Rattle.std.specs.Prelude.{slice_get}
+use Rattle.base_lists.proofs.Options.{and_then_is}
+use Rattle.wasm_tree.specs.declared.types.RefType.{RefType}
+use Rattle.wasm_tree.specs.declared.types.ValType.{ValType}
+use Rattle.wasm_tree.specs.declared.types.BlockType.{BlockType}
+use Rattle.wasm_tree.specs.declared.instr.Instr.{Instr, fold_out-Instr, map-Instr, out-Instr, Row_of-Instr, items-the_row-Instr, end_of-Instr, more_of-Instr, the_lemmas}
+use Rattle.wasm_tree.specs.declared.instr.Instr.TheVariants.{Block, Block', Loop, Loop', If, If', RefFunc, TableInit, ElemDrop}
+use Rattle.wasm_valid_bodies.specs.Typing.{Stack, Effect, Context, effect_of, Ends, Fits, Leads, LeadsAll, WellTyped}
+use Rattle.index_remap.specs.References.{refs, refs_all, refs_step, is_among}
+use Rattle.index_remap.specs.Agreement.{Keeps, labelled}
+use Rattle.index_remap.proofs.Keeping.{keeps_map, keeps_only, both_keeps, named_keeps}
+use Rattle.index_remap_proof.proofs.Lists.{only_true, either_true, left_either, same_number, among_left, among_right, among_either}
+use Rattle.index_remap.proofs.Rows.{block_is, loop_is, if_is}
+use Rattle.index_remap.proofs.Marks.{of_If}
+
+ends_map : (f g : Stack → Stack → Type 0) (ps rs : List ValType) → ((s t : Stack) → f s t → g s t) → Ends f ps rs → Ends g ps rs
+ends_map f g ps rs k (last, l, a) = (last, k _ last l, a)
+
+of_Block : (bt : BlockType) (is : List Instr) → refs (Block bt is) ≡ refs_all is
+of_Block bt is = search (rules, the_lemmas)
+
+of_Loop : (bt : BlockType) (is : List Instr) → refs (Loop bt is) ≡ refs_all is
+of_Loop bt is = search (rules, the_lemmas)
+
+block_refs : (bt : BlockType) (n : _) (row : Row_of-Instr _) → refs (Block' bt n row) ≡ refs_all (items-the_row-Instr _ row)
+block_refs bt n row = ap refs (block_is bt n row) ∙ of_Block bt (items-the_row-Instr _ row)
+
+loop_refs : (bt : BlockType) (n : _) (row : Row_of-Instr _) → refs (Loop' bt n row) ≡ refs_all (items-the_row-Instr _ row)
+loop_refs bt n row = ap refs (loop_is bt n row) ∙ of_Loop bt (items-the_row-Instr _ row)
+
+if_refs : (bt : BlockType) (n : _) (row : Row_of-Instr _) (k : _) (other : Row_of-Instr _) → refs (If' bt n row k other) ≡ refs_all (items-the_row-Instr _ row) ++ refs_all (items-the_row-Instr _ other)
+if_refs bt n row k other = ap refs (if_is bt n row k other) ∙ of_If bt (items-the_row-Instr _ row) (items-the_row-Instr _ other)
+
+among_refs : {xs ys : List ℕ} → xs ≡ ys → (x : ℕ) → is_among xs x ≡ true → is_among ys x ≡ true
+among_refs e x h = ap (λ zs. is_among zs x) (sym e) ∙ h
+
+-- ---- what is named is one of those that may be named ----
+
+module _ (c : Context) where
+  plain_named : (ls : List (List ValType)) (i : Instr) (e : Effect) → effect_of (labelled c ls) i ≡ Some e → (x : ℕ) → is_among (refs_step (map-Instr Instr (List ℕ) refs (out-Instr i))) x ≡ true → slice_get c.named x ≡ Some true
+  unfolding out-Instr denote.Hole.Carrier.out
+  plain_named ls (Block' bt n body) e h x k = cc
+  plain_named ls (Loop' bt n body) e h x k = cc
+  plain_named ls (If' bt n body l other) e h x k = cc
+  plain_named ls (RefFunc y) e h x k = here (either_true (nat_eq x y) false k)
+    where
+      here : (nat_eq x y ≡ true) ⊎ (false ≡ true) → slice_get c.named x ≡ Some true
+      here (inl q) = let b = and_then_is (slice_get c.named y) _ e h in ap (slice_get c.named) (same_number x y q) ∙ b.1 ∙ ap Some (only_true b.0 _ e b.2)
+      here (inr q) = cc
+  plain_named ls _ e h x k = cc
+
+  mutual
+    instr_named : (ls : List (List ValType)) (i : Instr) (s t : Stack) → Fits (labelled c ls) i s t → (x : ℕ) → is_among (refs i) x ≡ true → slice_get c.named x ≡ Some true
+    instr_named ls (Block' bt n body) s t (f, e, (last, l, a), b) x k = row_named (f.results ∷ ls) body _ last l x (among_refs (block_refs bt n body) x k)
+    instr_named ls (Loop' bt n body) s t (f, e, (last, l, a), b) x k = row_named (f.params ∷ ls) body _ last l x (among_refs (loop_refs bt n body) x k)
+    instr_named ls (If' bt n body o other) s t (f, e, (last, l, a), (final, r, q), b) x k =
+        ⊎_elim (λ z. row_named (f.results ∷ ls) body _ last l x z) (λ z. row_named (f.results ∷ ls) other _ final r x z)
+        (among_either (refs_all (items-the_row-Instr _ body)) (refs_all (items-the_row-Instr _ other)) x (among_refs (if_refs bt n body o other) x k))
+    instr_named ls i s t h x k = plain_named ls i h.0 h.1 x (among_refs (fold_out-Instr (List ℕ) refs_step i) x k)
+
+    row_named : {n : _} (ls : List (List ValType)) (is : Row_of-Instr n) (s t : Stack) → Leads (labelled c ls) is s t → (x : ℕ) → is_among (refs_all (items-the_row-Instr n is)) x ≡ true → slice_get c.named x ≡ Some true
+    row_named ls end_of-Instr s t h x k = cc
+    row_named ls (more_of-Instr i is) s t (u, f, l) x k = ⊎_elim (λ z. instr_named ls i s u f x z) (λ z. row_named ls is u t l x z) (among_either (refs i) (refs_all (items-the_row-Instr _ is)) x k)
+
+  all_named : (ls : List (List ValType)) (is : List Instr) (s t : Stack) → LeadsAll (labelled c ls) is s t → (x : ℕ) → is_among (refs_all is) x ≡ true → slice_get c.named x ≡ Some true
+  all_named ls [] s t h x k = cc
+  all_named ls (i ∷ is) s t (u, f, l) x k = ⊎_elim (λ z. instr_named ls i s u f x z) (λ z. all_named ls is u t l x z) (among_either (refs i) (refs_all is) x k)
+
+  pub typed_named : (is : List Instr) (ps rs : List ValType) → WellTyped c is ps rs → (x : ℕ) → is_among (refs_all is) x ≡ true → slice_get c.named x ≡ Some true
+  typed_named is ps rs (last, l, a) = all_named c.labels is _ last l
+
+-- ---- other functions may be named ----
+
+module _ (c : Context) (es : List RefType) (bs : List Bool) (segments : (i : ℕ) → Keeps (slice_get c.elems i) (slice_get es i)) where
+  -- each of these functions that may be named before may be named now
+  abbrev Named : List ℕ → Type 0
+  Named xs = (x : ℕ) → is_among xs x ≡ true → slice_get c.named x ≡ Some true → slice_get bs x ≡ Some true
+
+  abbrev wider : List (List ValType) → Context
+  wider ls = record c { elems = es; named = bs; labels = ls }
+
+  itself : (x : ℕ) → is_among (x ∷ []) x ≡ true
+  itself x = left_either (nat_eq x x) false (eq-eqb x x refl)
+
+  effect_wider : (ls : List (List ValType)) (i : Instr) (e : Effect) → Named (refs_step (map-Instr Instr (List ℕ) refs (out-Instr i))) → effect_of (labelled c ls) i ≡ Some e → effect_of (wider ls) i ≡ Some e
+  unfolding out-Instr denote.Hole.Carrier.out
+  effect_wider ls (RefFunc x) e n h = named_keeps _ _ (n x (itself x)) e h
+  effect_wider ls (TableInit x y) e n h = keeps_only _ _ _ _ (both_keeps (slice_get c.elems x) (slice_get es x) (slice_get c.tables y) (slice_get c.tables y) (segments x) (λ r q. q)) (λ z p. p) e h
+  effect_wider ls (ElemDrop x) e n h = keeps_map _ _ _ (segments x) e h
+  effect_wider ls _ e n h = h
+
+  same_named : {xs ys : List ℕ} → xs ≡ ys → Named xs → Named ys
+  same_named e n x k = n x (among_refs (sym e) x k)
+
+  first_named : (xs ys : List ℕ) → Named (xs ++ ys) → Named xs
+  first_named xs ys n x k = n x (among_left xs ys x k)
+
+  second_named : (xs ys : List ℕ) → Named (xs ++ ys) → Named ys
+  second_named xs ys n x k = n x (among_right xs ys x k)
+
+  mutual
+    instr_wider : (ls : List (List ValType)) (i : Instr) (s t : Stack) → Named (refs i) → Fits (labelled c ls) i s t → Fits (wider ls) i s t
+    instr_wider ls (Block' bt n body) s t q (f, e, l, a) =
+        (f, e, ends_map _ _ f.params f.results (row_wider (f.results ∷ ls) body (same_named (block_refs bt n body) q)) l, a)
+    instr_wider ls (Loop' bt n body) s t q (f, e, l, a) =
+        (f, e, ends_map _ _ f.params f.results (row_wider (f.params ∷ ls) body (same_named (loop_refs bt n body) q)) l, a)
+    instr_wider ls (If' bt n body o other) s t q (f, e, l, r, a) =
+        let both = same_named (if_refs bt n body o other) q in
+        (f, e, ends_map _ _ f.params f.results (row_wider (f.results ∷ ls) body (first_named _ _ both)) l, ends_map _ _ f.params f.results (row_wider (f.results ∷ ls) other (second_named _ _ both)) r, a)
+    instr_wider ls i s t q h = (h.0, effect_wider ls i h.0 (same_named (fold_out-Instr (List ℕ) refs_step i) q) h.1, h.2)
+
+    row_wider : {n : _} (ls : List (List ValType)) (is : Row_of-Instr n) → Named (refs_all (items-the_row-Instr n is)) → (s t : Stack) → Leads (labelled c ls) is s t → Leads (wider ls) is s t
+    row_wider ls end_of-Instr q s t h = h
+    row_wider ls (more_of-Instr i is) q s t (u, f, l) = (u, instr_wider ls i s u (first_named _ _ q) f, row_wider ls is (second_named _ _ q) u t l)
+
+  all_wider : (ls : List (List ValType)) (is : List Instr) → Named (refs_all is) → (s t : Stack) → LeadsAll (labelled c ls) is s t → LeadsAll (wider ls) is s t
+  all_wider ls [] q s t h = h
+  all_wider ls (i ∷ is) q s t (u, f, l) = (u, instr_wider ls i s u (first_named _ _ q) f, all_wider ls is (second_named _ _ q) u t l)
+
+  pub typed_wider : (is : List Instr) (ps rs : List ValType) → Named (refs_all is) → WellTyped c is ps rs → WellTyped (record c { elems = es; named = bs }) is ps rs
+  typed_wider is ps rs q (last, l, a) = (last, all_wider c.labels is q _ last l, a)

@@ -1,0 +1,24 @@
+-- When two contexts have the same along a map of indices: at each index of a set, and at its entry (WebAssembly Core 2.0, section 3.1.1).
+use Rattle.std.specs.Prelude.{ℕ, ◌≤◌, Bool, IsTrue, length}
+use Rattle.wasm_tree.specs.declared.space.Space.{Space}
+use Rattle.wasm_valid_bodies.specs.Typing.{Context}
+use Rattle.index_remap.specs.declared.remap.Remap.{Remap}
+use Rattle.index_remap.specs.Agreement.{OperandAgrees, SameFrame}
+use Rattle.index_remap_proof.specs.Indices.{Indices}
+
+-- each index that is kept agrees with its entry; of other indices nothing is said
+pub record AgreesAlong (m : Remap) (kept : Indices) (c d : Context) : Type 0 where
+  pub entries : (space : Space) (called : Bool) (i : ℕ) → IsTrue (kept space i) → OperandAgrees m c d space called i
+  pub frame : SameFrame c d
+
+-- the lists of the map are at least as long as the spaces of the context
+pub record CoversContext (m : Remap) (c : Context) : Type 0 where
+  pub types : length c.types ≤ length m.types
+  pub funcs : length c.funcs ≤ length m.funcs
+  pub tables : length c.tables ≤ length m.tables
+  pub memories : c.memories ≤ length m.mems
+  pub globals : length c.globals ≤ length m.globals
+  pub elems : length c.elems ≤ length m.elems
+  pub datas : c.datas ≤ length m.datas
+  -- so that what `ref.func` may name has an entry
+  pub refs : length c.named ≤ length m.funcs

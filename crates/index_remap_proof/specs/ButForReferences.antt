@@ -1,0 +1,23 @@
+-- Trees that are valid but for functions that `ref.func` names in a body and that are named in no other place (WebAssembly Core 2.0, section 3.4.10).
+use Rattle.std.specs.Prelude.{◌≡◌, ℕ, ◌<◌, true, [], length, replicate, Some, slice_get}
+use Rattle.wasm_tree.specs.declared.types.FuncType.{FuncType}
+use Rattle.wasm_tree.specs.declared.module.Func.{Func}
+use Rattle.wasm_tree.specs.declared.module.Module.{Module}
+use Rattle.wasm_valid_bodies.specs.Typing.{Context, WellTyped}
+use Rattle.wasm_valid.specs.declared.kinds.ItemKind.{ItemKind}
+use Rattle.wasm_valid.specs.declared.kinds.ItemKind.TheVariants as kind
+use Rattle.wasm_valid.specs.Validity.{HoldsAt, count_of, body_context}
+
+-- the context in which `ref.func` may name each function of the space
+abbrev pub any_named : Context → Context
+any_named c = record c { named = replicate (length c.funcs) true }
+
+-- what the item needs, where `ref.func` may name each function of the space
+abbrev pub HoldsButForReferences : Module → ItemKind → ℕ → Type 0
+HoldsButForReferences m kind.Body i =
+    (f : Func) × (t : FuncType) × (slice_get m.funcs i ≡ Some f) × (slice_get m.types f.ty ≡ Some t) × WellTyped (any_named (body_context m f t)) f.body [] t.results
+HoldsButForReferences m k i = HoldsAt m k i
+
+-- each item holds but for references, the number of memories left aside
+abbrev pub IsValidButForReferences : Module → Type 0
+IsValidButForReferences m = (k : ItemKind) (i : ℕ) → i < count_of m true k → HoldsButForReferences m k i

@@ -1,0 +1,139 @@
+-- The merged module alone: its imports are those that stay, and stand for what these stand for in the parts' world; then comes what the parts define.
+use Rattle.std.proofs.Common.{◌≡◌, ◌∙◌, ap, ap₂, sym, refl, ℕ, ◌+◌, List, ◌++◌, map, length, Option, Some, None, true, arith, option_and_then, slice_get}
+use Rattle.wasm_tree.specs.declared.space.Space.{Space}
+use Rattle.wasm_tree.specs.declared.space.Space.TheVariants.{Functions, Tables, Memories, Globals, DataSegments, ElementSegments}
+use Rattle.wasm_tree.specs.Operands.{same_space}
+use Rattle.std.specs.List.{filter_map}
+use Rattle.wasm_tree.specs.declared.module.Import.{Import}
+use Rattle.wasm_tree.specs.declared.module.ImportDesc.{ImportDesc}
+use Rattle.wasm_tree.specs.declared.module.ImportDesc.TheVariants as im
+use Rattle.wasm_tree.specs.declared.module.Module.{Module}
+use Rattle.wasm_meaning.specs.State.{Text, Pair}
+use Rattle.wasm_meaning.specs.Linking.{Part, Site, has_kind, pair_of, module_at, import_at, sites}
+use Rattle.wasm_tree.specs.Spaces.{space_of_import}
+use Rattle.wasm_meaning.specs.Environment.{Environment, owned_of}
+use Rattle.wasm_meaning.specs.World.{own_count, defined_count, defined_before, address_of, own_key_of, outside_thing, all_there, numbers, space}
+use Rattle.index_remap.specs.References.{declared_refs}
+use Rattle.world_simulation.proofs.Declared.{Keeps, keeps}
+use Rattle.merge_names.specs.declared.mode.Mode.{Mode}
+use Rattle.merge_names.specs.Names.{new_names}
+use Rattle.merge_spec.specs.Faults.{External, asked, asked_at, link_fault, stays}
+use Rattle.merge_spec.specs.Merged.{merged, merged_types, merged_import, merged_desc, merged_elem, merged_data, map_of, staying, staying_of, imports_kind, export_names}
+use Rattle.merge_spec.specs.Joined.{joined_module}
+use Rattle.merge_valid_proof.specs.Ended.{Ended, inside, outside, added_count, is_external}
+use Rattle.merge_valid_proof.proofs.MergedSpaces.{types_are, imports_are, import_is}
+use Rattle.merge_valid_proof.proofs.ByPart.{elems_is, datas_is, by_part_many}
+use Rattle.world_simulation.specs.Alone.{one, key_in, thing_in, address_in, addresses}
+use Rattle.world_simulation.proofs.Places.{map_length}
+use Rattle.merge_behaves_proof.proofs.SpaceLaws.{SpaceLaws}
+use Rattle.merge_behaves_proof.proofs.Standing.{site_address}
+use Rattle.merge_behaves_proof.proofs.MatchTypes.{Asks, func, asks_by}
+use Rattle.base_lists.proofs.Filtered.{kept_is, at_places, of_chosen}
+use Rattle.base_lists.proofs.Options.{and_then_is}
+
+-- ---- with references declared ----
+
+-- the names of the merged module's exports
+abbrev pub names_of : List Part → Mode → List (Option Text)
+names_of parts mode = new_names mode (export_names parts)
+
+pub joined_keeps : (parts : List Part) (mode : Mode) → Keeps (merged parts (names_of parts mode)) (joined_module parts mode) (declared_refs (merged parts (names_of parts mode)))
+unfolding joined_module
+joined_keeps parts mode = keeps (merged parts (names_of parts mode)) (declared_refs (merged parts (names_of parts mode)))
+
+pub joined_types : (parts : List Part) (mode : Mode) → (joined_module parts mode).types ≡ merged_types parts
+joined_types parts mode = (joined_keeps parts mode).types ∙ types_are parts (names_of parts mode)
+
+pub joined_imports : (parts : List Part) (mode : Mode) → (joined_module parts mode).imports ≡ filter_map (merged_import parts) (staying parts)
+joined_imports parts mode = (joined_keeps parts mode).imports ∙ imports_are parts (names_of parts mode)
+
+count_kept : {m n : Module} {fs : List ℕ} → Keeps m n fs → (k : Space) → is_external k ≡ true → defined_count k n ≡ defined_count k m
+count_kept q Functions e = ap length q.funcs
+count_kept q Tables e = ap length q.tables
+count_kept q Memories e = ap length q.mems
+count_kept q Globals e = ap length q.globals
+count_kept q k e = cc
+
+pub elems_many : (parts : List Part) (names : List (Option Text)) → length (merged parts names).elems ≡ defined_before ElementSegments parts (length parts)
+unfolding merged
+elems_many parts names = by_part_many (λ p m. map (merged_elem parts p (map_of parts p m)) m.elems) (λ m. length m.elems) (λ p m. map_length (merged_elem parts p (map_of parts p m)) m.elems) 0 parts ∙ sym (elems_is parts (length parts))
+
+pub datas_many : (parts : List Part) (names : List (Option Text)) → length (merged parts names).datas ≡ defined_before DataSegments parts (length parts)
+unfolding merged
+datas_many parts names = by_part_many (λ p m. map (merged_data parts p (map_of parts p m)) m.datas) (λ m. length m.datas) (λ p m. map_length (merged_data parts p (map_of parts p m)) m.datas) 0 parts ∙ sym (datas_is parts (length parts))
+
+-- ---- an import that stays ----
+
+pub record IsStaying (parts : List Part) (s : Site) : Type 0 where
+  pub import : Import
+  pub at : import_at parts s ≡ Some import
+  pub remains : stays parts s ≡ true
+  pub of : Module
+  pub is_part : module_at parts s.part ≡ Some of
+  pub stands : slice_get of.imports s.import ≡ Some import
+
+pub staying_is : SpaceLaws → (parts : List Part) (n : ℕ) (s : Site) → slice_get (staying parts) n ≡ Some s → IsStaying parts s
+unfolding staying
+staying_is laws parts n s h =
+    let k = kept_is (stays parts) (sites parts) n s (h) in
+    let i = (laws.sites parts s).0 k.1.0 (k.1.1) in
+    let m = and_then_is (module_at parts s.part) (λ m. slice_get m.imports s.import) i.0 i.1 in
+    record { import = i.0; at = i.1; remains = k.0; of = m.0; is_part = m.1; stands = m.2 }
+
+-- those of one kind
+pub staying_kind : SpaceLaws → (parts : List Part) (k : Space) (n : ℕ) (s : Site) → slice_get (staying_of parts k) n ≡ Some s → (w : IsStaying parts s) × (has_kind k w.import ≡ true)
+unfolding staying_of
+staying_kind laws parts k n s h =
+    let r = kept_is (imports_kind parts k) (staying parts) n s (h) in
+    let w = staying_is laws parts r.1.0 s (r.1.1) in
+    (w, rw w.at at r.0)
+
+moved_kind : (parts : List Part) (s : Site) (m : Module) (d : ImportDesc) → space_of_import (merged_desc parts s m d) ≡ space_of_import d
+moved_kind parts s m (im.Func ty) = refl
+moved_kind parts s m _ = refl
+
+-- it names the same of the environment's own
+moved_key : SpaceLaws → (parts : List Part) (s : Site) (m : Module) → module_at parts s.part ≡ Some m → (pair : Pair) {d : ImportDesc} {x : External} → Asks m d x → key_in (merged_types parts) pair (merged_desc parts s m d) ≡ own_key_of m pair d
+moved_key laws parts s m is pair (func {ty = ty} {t = t} e) = rw (laws.types parts s.part m ty t is e, e) refl
+moved_key laws parts s m is pair _ = refl
+
+pub demand_of : {parts : List Part} {s : Site} {i : Import} → Ended parts s i → (x : External) × (asked_at parts s ≡ Some x)
+demand_of (inside w) = (w.demand, w.asks)
+demand_of (outside w) = (w.demand, w.asks)
+
+pub asked_staying : (parts : List Part) (s : Site) (w : IsStaying parts s) (x : External) → asked_at parts s ≡ Some x → asked w.of w.import.desc ≡ Some x
+asked_staying parts s w x h = rw (w.is_part, w.stands) at h
+
+module _ (laws : SpaceLaws) (env : Environment) (parts : List Part) (linked : link_fault parts true ≡ None) where
+  pub moved_thing : (s : Site) (w : IsStaying parts s) → thing_in env (merged_types parts) (Some (record w.import { desc = merged_desc parts s w.of w.import.desc })) ≡ outside_thing (owned_of env) parts s
+  moved_thing s w =
+      let x = demand_of (laws.ends parts linked s w.import w.at) in
+      rw (moved_key laws parts s w.of w.is_part (pair_of w.import) (asks_by w.of w.import.desc x.0 (asked_staying parts s w x.0 x.1)), w.is_part, w.stands) refl
+
+  chosen_addresses : (k : Space) → addresses env (merged_types parts) (filter_map (merged_import parts) (staying parts)) k ≡ all_there (site_address env parts k) (staying_of parts k)
+  unfolding staying_of
+  chosen_addresses k =
+      let imports = filter_map (merged_import parts) (staying parts) in
+      at_places (has_kind k) import_of imports 0 (address_in env (merged_types parts) imports k) (λ i y e. ap (λ n. address_in env (merged_types parts) imports k n) (let z : 0 + i ≡ i = omega arith in z) ∙ ap (λ o. option_and_then (address_of k) (thing_in env (merged_types parts) o)) e)
+      ∙ of_chosen (merged_import parts) (has_kind k) (imports_kind parts k) import_of (site_address env parts k) (staying parts) each
+    where
+      import_of : Import → Option ℕ
+      import_of i = option_and_then (address_of k) (thing_in env (merged_types parts) (Some i))
+
+      each : (n : ℕ) (s : Site) → slice_get (staying parts) n ≡ Some s → (i : Import) × (merged_import parts s ≡ Some i) × (has_kind k i ≡ imports_kind parts k s) × (imports_kind parts k s ≡ true → import_of i ≡ site_address env parts k s)
+      each n s h =
+          let w = staying_is laws parts n s h in (
+            record w.import { desc = merged_desc parts s w.of w.import.desc },
+            import_is parts s w.of w.import w.is_part w.at,
+            ap (same_space k) (moved_kind parts s w.of w.import.desc) ∙ sym (rw w.at refl),
+            λ q. ap (λ o. option_and_then (address_of k) o) (moved_thing s w),
+          )
+
+  -- its index spaces
+  pub merged_space : (mode : Mode) (k : Space) → is_external k ≡ true →
+      space env (one (joined_module parts mode)) k 0 (joined_module parts mode) ≡ option_and_then (λ l. Some (l ++ numbers (own_count k env) (defined_before k parts (length parts) + added_count parts k))) (all_there (site_address env parts k) (staying_of parts k))
+  merged_space mode k e =
+      laws.spaces env (joined_module parts mode) k
+      ∙ ap₂ (λ o n. option_and_then (λ l. Some (l ++ numbers (own_count k env) n)) o)
+      (rw (joined_types parts mode, joined_imports parts mode) (chosen_addresses k))
+      (count_kept (joined_keeps parts mode) k e ∙ laws.counts parts (names_of parts mode) k e)

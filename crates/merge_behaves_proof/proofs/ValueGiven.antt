@@ -1,0 +1,69 @@
+-- What the laws of lower crates say that the values and stores of parts and of their merged module rest on.
+use Rattle.std.specs.Prelude.{◌≡◌, ◌↔◌, ℕ, ◌<◌, List, length, Some, None, true, IsTrue, slice_get}
+use Rattle.std.proofs.Common.{sym, ◌∙◌}
+use Rattle.std.proofs.lemmas.Option.{same_Some, slice_get_within}
+use Rattle.wasm_tree.specs.declared.types.ValType.TheVariants.{Ref}
+use Rattle.wasm_tree.specs.declared.module.Func as tree
+use Rattle.wasm_tree.specs.declared.module.GlobalDef.{GlobalDef}
+use Rattle.wasm_tree.specs.declared.module.ElemSeg.{ElemSeg}
+use Rattle.wasm_tree.specs.declared.module.DataSeg.{DataSeg}
+use Rattle.wasm_valid.specs.declared.kinds.ItemKind.TheVariants as kind
+use Rattle.wasm_tree.specs.declared.types.ValType.{ValType}
+use Rattle.wasm_tree.specs.declared.module.ConstExpr.{ConstExpr}
+use Rattle.wasm_tree.specs.declared.module.Module.{Module}
+use Rattle.wasm_valid.specs.declared.kinds.ItemKind.{ItemKind}
+use Rattle.wasm_valid.specs.Constants.{const_type}
+use Rattle.wasm_valid.specs.Validity.{IsValid, HoldsAt, ElemModeHolds, DataModeHolds, count_of}
+use Rattle.wasm_meaning.specs.State.{Inst}
+use Rattle.wasm_meaning.specs.Linking.{Part, Read, module_at, read_of}
+use Rattle.wasm_meaning.specs.Environment.{Environment}
+use Rattle.index_remap.specs.Renumbered.{fits_tree}
+use Rattle.index_remap.specs.Laws.{RenumberedCodeIsRelated}
+use Rattle.world_simulation.specs.Alone.{SpacesAreImportsAndOwn, ReadsStay}
+use Rattle.world_simulation.specs.Named.{FittingCodeIsNamed}
+use Rattle.world_simulation.specs.Owned.{OwnEntitiesCorrespond}
+use Rattle.merge_names.specs.declared.mode.Mode.{Mode}
+use Rattle.merge_spec.specs.Faults.{link_fault}
+use Rattle.merge_spec.specs.Joined.{joined_module}
+use Rattle.merge_spec.specs.Merged.{map_of}
+use Rattle.merge_valid_proof.specs.Entries.{HasEntry}
+use Rattle.merge_valid_proof.specs.Joinable.{CanBeJoined, EachPart}
+use Rattle.merge_behaves_proof.specs.Instances.{PartAgrees}
+
+pub record Laws : Type 0 where
+  -- of wasm_valid
+  pub items : (m : Module) → IsValid m ↔ ((k : ItemKind) (i : ℕ) → i < count_of m true k → HoldsAt m k i)
+  -- of merge_valid_proof
+  pub valid : (parts : List Part) (mode : Mode) → CanBeJoined parts mode → IsValid (joined_module parts mode)
+  pub entries : (parts : List Part) (p : ℕ) (m : Module) → IsValid m → IsTrue (fits_tree (map_of parts p m) m)
+  pub reads : (parts : List Part) (p : ℕ) (m : Module) (e : ConstExpr) (ty : ValType) (r : Read) → EachPart IsValid parts → link_fault parts true ≡ None → module_at parts p ≡ Some m → const_type m e ≡ Some ty → read_of parts p e ≡ Some r → HasEntry parts r
+  pub there : (parts : List Part) (p : ℕ) (m : Module) (e : ConstExpr) (ty : ValType) → EachPart IsValid parts → link_fault parts true ≡ None → module_at parts p ≡ Some m → const_type m e ≡ Some ty → (r : Read) × (read_of parts p e ≡ Some r)
+  -- of world_simulation
+  pub alone_reads : ReadsStay
+  pub alone_spaces : SpacesAreImportsAndOwn
+  pub own : OwnEntitiesCorrespond
+  pub named : FittingCodeIsNamed
+  -- of index_remap
+  pub code : RenumberedCodeIsRelated
+
+-- the instance of each part agrees with that of the merged module
+abbrev pub EachAgrees : Environment → List Part → List Inst → Inst → Type 0
+EachAgrees env parts insts j = (p : ℕ) (m : Module) → module_at parts p ≡ Some m → (i : Inst) × (slice_get insts p ≡ Some i) × PartAgrees env parts p m i j
+
+-- ---- the items of a valid module ----
+
+module _ (laws : Laws) (m : Module) (valid : IsValid m) where
+  pub global_typed : (n : ℕ) (g : GlobalDef) → slice_get m.globals n ≡ Some g → const_type m g.init ≡ Some g.ty.ty
+  global_typed n g h = let z = (laws.items m).0 valid kind.Global n (slice_get_within m.globals n g h) in rw (← same_Some _ _ (sym z.1 ∙ h)) z.2
+
+  pub item_typed : (n : ℕ) (s : ElemSeg) → slice_get m.elems n ≡ Some s → (l : ℕ) (e : ConstExpr) → slice_get s.items l ≡ Some e → const_type m e ≡ Some (Ref s.ty)
+  item_typed n s h = let z = (laws.items m).0 valid kind.Elem n (slice_get_within m.elems n s h) in rw (← same_Some _ _ (sym z.1 ∙ h)) z.2
+
+  pub elem_holds : (n : ℕ) (s : ElemSeg) → slice_get m.elems n ≡ Some s → ElemModeHolds m s.ty s.mode
+  elem_holds n s h = let z = (laws.items m).0 valid kind.Elem n (slice_get_within m.elems n s h) in rw (← same_Some _ _ (sym z.1 ∙ h)) z.3
+
+  pub data_holds : (n : ℕ) (d : DataSeg) → slice_get m.datas n ≡ Some d → DataModeHolds m d.mode
+  data_holds n d h = let z = (laws.items m).0 valid kind.Segment n (slice_get_within m.datas n d h) in rw (← same_Some _ _ (sym z.1 ∙ h)) z.2
+
+  pub func_typed : (n : ℕ) (f : tree.Func) → slice_get m.funcs n ≡ Some f → f.ty < length m.types
+  func_typed n f h = let z = (laws.items m).0 valid kind.Func n (slice_get_within m.funcs n f h) in rw (← same_Some _ _ (sym z.1 ∙ h)) z.2

@@ -1,0 +1,24 @@
+-- A body with other indices keeps its other numbers.
+use Rattle.std.proofs.Common.{◌≡◌, ℕ, true, List, [], ◌∷◌, map, refl, ◌∙◌, rules}
+use Rattle.std.proofs.lemmas.Bool.{and_from}
+use Rattle.base_lists.proofs.Bools.{right_true}
+use Rattle.wasm_tree.specs.declared.space.Space.{Space}
+use Rattle.wasm_tree.specs.declared.instr.Instr.{Instr, the_lemmas}
+use Rattle.wasm_tree.specs.declared.instr.Instr.TheVariants.{Call}
+use Rattle.wasm_tree.specs.Operands.{mapped_all, all_operands_pass}
+use Rattle.index_remap.specs.declared.remap.Remap.{Remap}
+use Rattle.index_remap.specs.Renumbered.{entry, renumbered_all}
+use Rattle.wasm_write_proof.specs.Ranges.{small_operand, numbers_in, all_numbers_in, all_in_range}
+
+abbrev pub NumbersStay : Type 0
+NumbersStay = (f : Space → ℕ → ℕ) (code : List Instr) → all_numbers_in (mapped_all f code) ≡ all_numbers_in code
+
+pub body_keeps : NumbersStay → (m : Remap) (is : List Instr) → all_in_range is ≡ true → all_numbers_in (renumbered_all m is) ≡ true
+body_keeps stay m is h = stay (entry m) is ∙ right_true (all_operands_pass small_operand is) (all_numbers_in is) h
+
+call_in : (f : ℕ) → numbers_in (Call f) ≡ true
+call_in f = search (rules, the_lemmas)
+
+pub calls_in : (fs : List ℕ) → all_numbers_in (map Call fs) ≡ true
+calls_in [] = refl
+calls_in (f ∷ fs) = and_from _ _ (call_in f) (calls_in fs)

@@ -1,0 +1,37 @@
+-- What is so of each part is so of what is looked up in the parts.
+use Rattle.std.proofs.Common.{◌≡◌, ℕ, suc, List, [], ◌∷◌, ◌++◌, map, Option, Some, None, refl, subst, slice_get}
+use Rattle.std.specs.List.{filter_map, flat_map, cons_option}
+use Rattle.base_lists.proofs.Options.{and_then_is}
+use Rattle.base_lists.proofs.Each.{every_at}
+use Rattle.wasm_tree.specs.declared.module.Module.{Module}
+use Rattle.base_lists.specs.Every.{Every}
+use Rattle.wasm_meaning.specs.Linking.{Part, module_at}
+use Rattle.merge_spec.specs.Merged.{by_part_from}
+use Rattle.merge_spec.proofs.FaultParts.{every_append}
+
+pub every_map : {A B : Type 0} (P : A → Type 0) (Q : B → Type 0) (f : A → B) → ((x : A) → P x → Q (f x)) → (xs : List A) → Every P xs → Every Q (map f xs)
+every_map P Q f keep [] h = tt
+every_map P Q f keep (x ∷ xs) h = (keep x h.0, every_map P Q f keep xs h.1)
+
+pub every_some : {A B : Type 0} (Q : B → Type 0) (f : A → Option B) → ((x : A) (y : B) → f x ≡ Some y → Q y) → (xs : List A) → Every Q (filter_map f xs)
+every_some Q f keep [] = tt
+every_some Q f keep (x ∷ xs) = with_first Q f xs (f x) (λ y e. keep x y e) (every_some Q f keep xs)
+  where
+    with_first : {A B : Type 0} (Q : B → Type 0) (f : A → Option B) (xs : List A) (o : Option B) → ((y : B) → o ≡ Some y → Q y) → Every Q (filter_map f xs) → Every Q (cons_option o (filter_map f xs))
+    with_first Q f xs None keep h = h
+    with_first Q f xs (Some y) keep h = (keep y refl, h)
+
+pub at_part : (P : Module → Type 0) (parts : List Part) (p : ℕ) (m : Module) → Every (λ (q : Part). P q.«module») parts → module_at parts p ≡ Some m → P m
+at_part P parts p m h e = found (and_then_is (slice_get parts p) (λ (q : Part). Some q.«module») m e)
+  where
+    found : (q : Part) × (slice_get parts p ≡ Some q) × (◌≡◌ {A = Option Module} (Some q.«module») (Some m)) → P m
+    found (q, there, is) = let same : q.«module» ≡ m = cc in subst P same (every_at (λ (r : Part). P r.«module») parts p q h there)
+
+pub every_by_part : {A : Type 0} (P : Module → Type 0) (Q : A → Type 0) (f : ℕ → Module → List A) → ((p : ℕ) (m : Module) → P m → Every Q (f p m)) → (n : ℕ) (parts : List Part)
+    → Every (λ (q : Part). P q.«module») parts → Every Q (by_part_from f n parts)
+every_by_part P Q f keep n [] h = tt
+every_by_part P Q f keep n (q ∷ parts) h = every_append Q (f n q.«module») (by_part_from f (suc n) parts) (keep n q.«module» h.0) (every_by_part P Q f keep (suc n) parts h.1)
+
+pub every_flat : {A : Type 0} (P : Module → Type 0) (Q : A → Type 0) (f : Part → List A) → ((q : Part) → P q.«module» → Every Q (f q)) → (parts : List Part) → Every (λ (q : Part). P q.«module») parts → Every Q (flat_map f parts)
+every_flat P Q f keep [] h = tt
+every_flat P Q f keep (q ∷ parts) h = every_append Q (f q) (flat_map f parts) (keep q h.0) (every_flat P Q f keep parts h.1)

@@ -1,0 +1,38 @@
+ghost use Rattle.std.specs.Prelude.{◌≡◌};
+ghost use Rattle.merge_names.specs.declared.fault.NameFault.TheVariants.{NoMemory as OutOfMemory};
+
+use std::alloc::{AllocError, AllocFailed};
+use wasm_bytes::NoMemory;
+
+/// Why no names are chosen.
+#[derive(Clone, Copy, Debug, PartialEq, Eq)]
+pub enum NameFault {
+    /// The name at this place came before.
+    Conflict { place: usize },
+    /// Want of memory, which says nothing of the names.
+    NoMemory,
+}
+
+impl From<NoMemory> for NameFault {
+    ghost from_gives = { λ _ e. e ≡ OutOfMemory };
+
+    fn from(_none: NoMemory) -> NameFault {
+        NameFault::NoMemory
+    }
+}
+
+impl From<AllocError> for NameFault {
+    ghost from_gives = { λ _ e. e ≡ OutOfMemory };
+
+    fn from(_none: AllocError) -> NameFault {
+        NameFault::NoMemory
+    }
+}
+
+impl<T: Drop> From<AllocFailed<T>> for NameFault {
+    ghost from_gives = { λ _ e. e ≡ OutOfMemory };
+
+    fn from(_none: AllocFailed<T>) -> NameFault {
+        NameFault::NoMemory
+    }
+}

@@ -1,0 +1,161 @@
+-- Why parts are not linked: the first fault, in the order in which they are told.
+-- First every import is compared with its end; then the limits of what stays; then the memories are counted; then the values of globals are followed.
+use Rattle.std.specs.Prelude.{ℕ, suc, ◌+◌, ◌<◌, List, [], ◌∷◌, ◌++◌, length, Option, Some, None, Bool, true, false, cond, nat_lt, slice_get, unwrap_or, ◌&&◌}
+use Rattle.wasm_tree.specs.declared.space.Space.TheVariants.{Memories, Globals}
+use Rattle.base_lists.specs.Options.{◌>>=◌}
+use Rattle.wasm_tree.specs.declared.types.FuncType.{FuncType}
+use Rattle.wasm_tree.specs.declared.types.Limits.{Limits}
+use Rattle.wasm_tree.specs.declared.types.TableType.{TableType}
+use Rattle.wasm_tree.specs.declared.types.GlobalType.{GlobalType}
+use Rattle.wasm_tree.specs.declared.module.ImportDesc.{ImportDesc}
+use Rattle.wasm_tree.specs.declared.module.ImportDesc.TheVariants as im
+use Rattle.wasm_tree.specs.declared.module.ExportDesc.{ExportDesc}
+use Rattle.wasm_tree.specs.declared.module.ExportDesc.TheVariants as ex
+use Rattle.wasm_tree.specs.declared.module.ConstExpr.{ConstExpr}
+use Rattle.wasm_tree.specs.declared.module.GlobalDef.{GlobalDef}
+use Rattle.wasm_tree.specs.declared.module.Module.{Module}
+use Rattle.wasm_tree.specs.Spaces.{type_of_func, tables_of, memories_of, globals_of}
+use Rattle.wasm_tree.specs.SameTypes.{same_func_type, same_ref, same_type}
+use Rattle.wasm_meaning.specs.World.{same_bool, meets, defined_before}
+use Rattle.wasm_meaning.specs.Linking.{Part, Site, End, Defined, Outside, count_of, has_kind, module_at, import_at, imports_of, sites, end_of, is_outside, linked_end, limits_of, met_limits, Read, read_of}
+use Rattle.merge_spec.specs.declared.faults.LinkFault.{LinkFault}
+use Rattle.merge_spec.specs.declared.faults.LinkFault.TheVariants.{ImportMismatch, ImportCycle, LimitsClash, TooManyMemories, GlobalCycle, NoMemory}
+
+-- ---- external types (section 2.3.11) ----
+
+pub data External : Type 0 where
+  FuncOf : FuncType → External
+  TableOf : TableType → External
+  MemoryOf : Limits → External
+  GlobalOf : GlobalType → External
+
+-- what an import asks for
+abbrev pub asked : Module → ImportDesc → Option External
+asked m (im.Func ty) = slice_get m.types ty >>= λ t. Some (FuncOf t)
+asked m (im.Table t) = Some (TableOf t)
+asked m (im.Memory l) = Some (MemoryOf l)
+asked m (im.Global t) = Some (GlobalOf t)
+
+abbrev pub asked_at : List Part → Site → Option External
+asked_at parts s = module_at parts s.part >>= λ m. slice_get m.imports s.import >>= λ i. asked m i.desc
+
+-- what an entry of an index space is
+abbrev pub external_of : Module → ExportDesc → Option External
+external_of m (ex.Func i) = type_of_func m i >>= λ t. Some (FuncOf t)
+external_of m (ex.Table i) = slice_get (tables_of m) i >>= λ t. Some (TableOf t)
+external_of m (ex.Memory i) = slice_get (memories_of m) i >>= λ l. Some (MemoryOf l)
+external_of m (ex.Global i) = slice_get (globals_of m) i >>= λ t. Some (GlobalOf t)
+
+abbrev pub found : List Part → End → Option External
+found parts (Defined e) = module_at parts e.part >>= λ m. external_of m e.what
+found parts (Outside s) = asked_at parts s
+
+-- one kind and one type, the limits of tables and memories left aside
+abbrev pub same_but_limits : External → External → Bool
+same_but_limits (FuncOf t) (FuncOf u) = same_func_type t u
+same_but_limits (TableOf t) (TableOf u) = same_ref t.ty u.ty
+same_but_limits (MemoryOf l) (MemoryOf k) = true
+same_but_limits (GlobalOf t) (GlobalOf u) = same_type t.ty u.ty && same_bool t.mutable u.mutable
+same_but_limits _ _ = false
+
+-- the limits of what is found meet the demand
+abbrev pub meets_limits : (demand : External) → External → Bool
+meets_limits (TableOf d) (TableOf t) = meets t.limits.min t.limits.max d.limits
+meets_limits (MemoryOf d) (MemoryOf l) = meets l.min l.max d
+meets_limits _ _ = true
+
+-- an import's end is what it asks for; only of what is defined are the limits compared
+abbrev pub suits : (demand : External) → End → External → Bool
+suits d (Defined e) x = same_but_limits d x && meets_limits d x
+suits d (Outside s) x = same_but_limits d x
+
+abbrev pub is_suited : List Part → Site → End → Bool
+is_suited parts s end = unwrap_or (asked_at parts s >>= λ d. found parts end >>= λ x. Some (suits d end x)) false
+
+-- ---- the faults ----
+
+abbrev pub or_else : Option LinkFault → Option LinkFault → Option LinkFault
+or_else None other = other
+or_else (Some fault) other = Some fault
+
+-- the first fault that something in the list has
+abbrev pub first_fault : {A : Type 0} → (A → Option LinkFault) → List A → Option LinkFault
+first_fault f [] = None
+first_fault f (x ∷ xs) = or_else (f x) (first_fault f xs)
+
+-- following an import never ends, or its end is not what it asks for
+abbrev pub end_fault : List Part → Site → Option End → Option LinkFault
+end_fault parts s None = Some (ImportCycle s.part s.import)
+end_fault parts s (Some end) = cond (is_suited parts s end) None (Some (ImportMismatch s.part s.import))
+
+unfoldable pub import_fault : List Part → Site → Option LinkFault
+import_fault parts s = end_fault parts s (end_of parts s)
+
+-- an import stays in the merged module where it is its own end
+unfoldable pub stays : List Part → Site → Bool
+stays parts s = is_outside s (linked_end parts s)
+
+-- the limits that a staying table or memory has
+unfoldable pub kept_limits : List Part → Site → Option Limits
+kept_limits parts s = cond (stays parts s) (import_at parts s >>= λ i. limits_of i.desc >>= λ l. Some (met_limits parts s)) None
+
+abbrev pub is_under : Option ℕ → ℕ → Bool
+is_under None min = false
+is_under (Some max) min = nat_lt max min
+
+-- the greatest minimum exceeds the least maximum
+unfoldable pub clash_fault : List Part → Site → Option LinkFault
+clash_fault parts s = kept_limits parts s >>= λ l. cond (is_under l.max l.min) (Some (LimitsClash s.part s.import)) None
+
+abbrev pub is_staying_memory : List Part → Site → Bool
+is_staying_memory parts s = stays parts s && (unwrap_or (import_at parts s >>= λ i. Some (has_kind Memories i)) false)
+
+-- the memories that are defined, and the distinct ones that stay imported
+unfoldable pub memory_count : List Part → ℕ
+memory_count parts = count_of (is_staying_memory parts) (sites parts) + defined_before Memories parts (length parts)
+
+unfoldable pub memory_fault : List Part → Option LinkFault
+memory_fault parts = cond (nat_lt 1 (memory_count parts)) (Some TooManyMemories) None
+
+-- a global that a part defines: its part, its index in that part's global space, and its value expression
+pub record OwnGlobal : Type 0 where
+  pub part : ℕ
+  pub index : ℕ
+  pub init : ConstExpr
+
+abbrev pub own_globals_in : (part index : ℕ) → List GlobalDef → List OwnGlobal
+own_globals_in p n [] = []
+own_globals_in p n (g ∷ gs) = record { part = p; index = n; init = g.init } ∷ own_globals_in p (suc n) gs
+
+abbrev pub own_globals_from : ℕ → List Part → List OwnGlobal
+own_globals_from p [] = []
+own_globals_from p (part ∷ parts) = own_globals_in p (length (imports_of Globals part.«module»)) part.«module».globals ++ own_globals_from (suc p) parts
+
+-- all defined globals, by part, then by index
+unfoldable pub own_globals : List Part → List OwnGlobal
+own_globals = own_globals_from 0
+
+abbrev pub value_fault : OwnGlobal → Option Read → Option LinkFault
+value_fault g None = Some (GlobalCycle g.part g.index)
+value_fault g (Some r) = None
+
+-- following the value of a global never ends
+unfoldable pub global_fault : List Part → OwnGlobal → Option LinkFault
+global_fault parts g = value_fault g (read_of parts g.part g.init)
+
+-- the fault of linking parts by name, or none; `many` says whether the merged module may have several memories, which are no fault then
+unfoldable pub link_fault : List Part → (many : Bool) → Option LinkFault
+link_fault parts many =
+    or_else (first_fault (import_fault parts) (sites parts))
+    (or_else (first_fault (clash_fault parts) (sites parts))
+    (or_else (cond many None (memory_fault parts))
+    (first_fault (global_fault parts) (own_globals parts))))
+
+-- where a fault names a part, it is one of these many
+abbrev pub NamesPart : ℕ → LinkFault → Type 0
+NamesPart parts (ImportMismatch part import) = part < parts
+NamesPart parts (ImportCycle part import) = part < parts
+NamesPart parts (LimitsClash part import) = part < parts
+NamesPart parts TooManyMemories = Unit {0}
+NamesPart parts (GlobalCycle part global) = part < parts
+NamesPart parts NoMemory = Unit {0}

@@ -1,0 +1,72 @@
+-- What joining parts gives: the merged module with its references declared, or why there is none.
+use Rattle.std.specs.Prelude.{◌≡◌, ℕ, ◌+◌, ◌<◌, ◌^◌, List, length, Option, Some, None, cond, nat_lt, Result, Ok, Err, slice_get}
+use Rattle.wasm_tree.specs.declared.space.Space.TheVariants.{Types, Functions, Tables, Memories, Globals, ElementSegments, DataSegments}
+use Rattle.wasm_tree.specs.declared.space.Space.{Space}
+use Rattle.base_lists.specs.Options.{◌>>=◌}
+use Rattle.wasm_tree.specs.declared.which.Which.{Which}
+use Rattle.wasm_tree.specs.declared.which.Which.TheVariants as which
+use Rattle.wasm_tree.specs.Limits.{limit}
+use Rattle.wasm_tree.specs.declared.module.Module.{Module}
+use Rattle.wasm_meaning.specs.State.{Text}
+use Rattle.wasm_meaning.specs.World.{defined_before}
+use Rattle.wasm_meaning.specs.Linking.{Part, sites}
+use Rattle.base_lists.specs.Places.{count_of}
+use Rattle.index_remap.specs.References.{declared}
+use Rattle.merge_names.specs.declared.mode.Mode.{Mode}
+use Rattle.merge_names.specs.Names.{new_names, conflict}
+use Rattle.merge_spec.specs.Merged.{merged, export_names, imports_kind}
+use Rattle.merge_spec.specs.declared.faults.JoinFault.{JoinFault}
+use Rattle.merge_spec.specs.declared.faults.JoinFault.TheVariants.{ExportConflict, TooMany}
+
+-- the quantity, where its count is above its limit, or what comes after it
+abbrev pub or_above : (count : ℕ) → Which → Option Which → Option Which
+or_above count which rest = cond (nat_lt (limit which) count) (Some which) rest
+
+-- the first count above its limit
+unfoldable pub over_limit : Module → Option Which
+over_limit m =
+    or_above (length m.types) which.Types
+    (or_above (length m.imports) which.Imports
+    (or_above (length m.funcs) which.Functions
+    (or_above (length m.tables) which.Tables
+    (or_above (length m.mems) which.Memories
+    (or_above (length m.globals) which.Globals
+    (or_above (length m.exports) which.Exports
+    (or_above (length m.elems) which.ElementSegments
+    (or_above (length m.datas) which.DataSegments
+    None))))))))
+
+-- the merged module, its references declared, with the names that the mode gives its exports
+unfoldable pub joined_module : List Part → Mode → Module
+joined_module parts mode = declared (merged parts (new_names mode (export_names parts)))
+
+-- where no name may stand twice, the first name that came before
+unfoldable pub repeated_name : List Part → Mode → Option Text
+repeated_name parts mode = conflict mode (export_names parts) >>= (slice_get (export_names parts))
+
+abbrev pub outcome : Option Text → Option Which → Module → Result Module JoinFault
+outcome (Some name) which m = Err (ExportConflict name)
+outcome None (Some which) m = Err (TooMany which)
+outcome None None m = Ok m
+
+-- what joining gives, want of memory left aside: a conflict of names comes before a count that is too great
+abbrev pub join_of : List Part → Mode → Result Module JoinFault
+join_of parts mode = outcome (repeated_name parts mode) (over_limit (joined_module parts mode)) (joined_module parts mode)
+
+abbrev pub Joins : List Part → Mode → Result Module JoinFault → Type 0
+Joins parts mode result = join_of parts mode ≡ result
+
+-- what joining may add to what the parts define: a function that calls their starts
+abbrev pub most_added : Space → ℕ
+most_added Types = 0
+most_added Functions = 1
+most_added Tables = 0
+most_added Memories = 0
+most_added Globals = 0
+most_added ElementSegments = 0
+most_added DataSegments = 0
+
+-- A u32 can name each part, and in each index space all that the parts import and define, and what joining adds.
+pub record FewInAll (parts : List Part) : Type 0 where
+  pub parts_few : length parts < 2 ^ 32
+  pub entries : (k : Space) → count_of (imports_kind parts k) (sites parts) + (defined_before k parts (length parts) + most_added k) < 2 ^ 32

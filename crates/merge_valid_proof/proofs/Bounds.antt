@@ -1,0 +1,162 @@
+-- A u32 can count what the merged module has, and it has at most one memory.
+use Rattle.std.proofs.Common.{◌≡◌, ◌∙◌, ap, sym, refl, ℕ, ◌+◌, ◌^◌, ◌<◌, ◌≤◌, List, [], ◌∷◌, length, Option, Some, None, Bool, true, false, cond, nat_lt, arith}
+use Rattle.wasm_tree.specs.declared.space.Space.{Space}
+use Rattle.wasm_tree.specs.declared.space.Space.TheVariants.{Functions, Tables, Memories, Globals}
+use Rattle.std.specs.Prelude.{slice_get}
+use Rattle.std.proofs.lemmas.Bool.{ltb-false}
+use Rattle.std.proofs.lemmas.List.{length-append}
+use Rattle.base_lists.proofs.Filtered.{filter_map_most}
+use Rattle.wasm_tree.specs.declared.which.Which.{Which}
+use Rattle.wasm_tree.specs.declared.which.Which.TheVariants as which
+use Rattle.wasm_tree.specs.declared.module.Func.{Func}
+use Rattle.wasm_tree.specs.declared.module.Module.{Module}
+use Rattle.wasm_tree.specs.Spaces.{memories_of}
+use Rattle.wasm_tree.specs.Bounds.{IsBounded, local_count}
+use Rattle.wasm_valid.specs.Validity.{IsSingle}
+use Rattle.wasm_meaning.specs.State.{Text}
+use Rattle.wasm_meaning.specs.World.{defined_before}
+use Rattle.wasm_meaning.specs.Linking.{Part, count_of, sites}
+use Rattle.index_remap.specs.References.{declared, declared_refs, with_declared, declaring}
+use Rattle.merge_spec.specs.declared.faults.LinkFault.TheVariants.{TooManyMemories}
+use Rattle.merge_spec.specs.Faults.{stays, is_staying_memory, memory_count, memory_fault}
+use Rattle.wasm_tree.specs.Limits.{limit}
+use Rattle.merge_spec.specs.Joined.{or_above, over_limit}
+use Rattle.merge_spec.specs.Merged.{merged, staying, staying_of, imports_kind, by_part}
+use Rattle.merge_valid_proof.proofs.Entities.{of_import, own, imported, space, own_many}
+use Rattle.merge_valid_proof.proofs.MergedSpaces.{own_is, moved_own, extra, all_own, imported_many}
+use Rattle.base_lists.proofs.Filtered.{count_kept, filter_both}
+
+-- ---- one memory ----
+
+few_memories : (parts : List Part) → memory_fault parts ≡ None → memory_count parts ≤ 1
+unfolding memory_fault
+few_memories parts h = ltb-false 1 (memory_count parts) (by (nat_lt 1 (memory_count parts)) h)
+  where
+    by : (b : Bool) → cond b (Some TooManyMemories) None ≡ None → b ≡ false
+    by true h = cc
+    by false h = refl
+
+staying_memories : (parts : List Part) → length (staying_of parts Memories) ≡ count_of (is_staying_memory parts) (sites parts)
+unfolding staying_of staying
+staying_memories parts = ap length (filter_both (imports_kind parts Memories) (stays parts) (sites parts)) ∙ sym (count_kept (is_staying_memory parts) (sites parts))
+
+count_is : (parts : List Part) → memory_count parts ≡ count_of (is_staying_memory parts) (sites parts) + defined_before Memories parts (length parts)
+unfolding memory_count
+count_is parts = refl
+
+pub merged_single : (parts : List Part) (names : List (Option Text)) → memory_fault parts ≡ None → IsSingle (merged parts names)
+merged_single parts names h =
+    let u = merged parts names in
+    let a = imported_many parts names Memories in
+    let b = staying_memories parts in
+    let c = ap length (own_is parts names Memories refl) ∙ length-append (by_part (moved_own parts Memories) parts) [] in
+    let d = all_own parts Memories refl in
+    let e = count_is parts in
+    let f = few_memories parts h in
+    let z : length (memories_of u) ≡ length (imported Memories u) + length (own Memories u) = length-append (imported Memories u) (own Memories u) in
+    let n : length (own Memories u) ≡ length (by_part (moved_own parts Memories) parts) = (let none : length (extra parts Memories) ≡ 0 = refl in omega (arith, c, none)) in
+    omega (arith, a, b, d, e, f, z, n)
+
+-- ---- limits ----
+
+record Within (m : Module) : Type 0 where
+  types : length m.types ≤ limit which.Types
+  imports : length m.imports ≤ limit which.Imports
+  funcs : length m.funcs ≤ limit which.Functions
+  tables : length m.tables ≤ limit which.Tables
+  mems : length m.mems ≤ limit which.Memories
+  globals : length m.globals ≤ limit which.Globals
+  exports : length m.exports ≤ limit which.Exports
+  elems : length m.elems ≤ limit which.ElementSegments
+  datas : length m.datas ≤ limit which.DataSegments
+
+not_above : (count : ℕ) (w : Which) (rest : Option Which) → or_above count w rest ≡ None → count ≤ limit w
+not_above count w rest h = ltb-false (limit w) count (by (nat_lt (limit w) count) h)
+  where
+    by : (b : Bool) → cond b (Some w) rest ≡ None → b ≡ false
+    by true h = cc
+    by false h = refl
+
+not_later : (count : ℕ) (w : Which) (rest : Option Which) → or_above count w rest ≡ None → rest ≡ None
+not_later count w rest h = by (nat_lt (limit w) count) h
+  where
+    by : (b : Bool) → cond b (Some w) rest ≡ None → rest ≡ None
+    by true h = cc
+    by false h = h
+
+within_limits : (m : Module) → over_limit m ≡ None → Within m
+unfolding over_limit
+within_limits m h =
+    let h1 = not_later (length m.types) which.Types _ h in
+    let h2 = not_later (length m.imports) which.Imports _ h1 in
+    let h3 = not_later (length m.funcs) which.Functions _ h2 in
+    let h4 = not_later (length m.tables) which.Tables _ h3 in
+    let h5 = not_later (length m.mems) which.Memories _ h4 in
+    let h6 = not_later (length m.globals) which.Globals _ h5 in
+    let h7 = not_later (length m.exports) which.Exports _ h6 in
+    let h8 = not_later (length m.elems) which.ElementSegments _ h7 in
+    record {
+      types = not_above (length m.types) which.Types _ h;
+      imports = not_above (length m.imports) which.Imports _ h1;
+      funcs = not_above (length m.funcs) which.Functions _ h2;
+      tables = not_above (length m.tables) which.Tables _ h3;
+      mems = not_above (length m.mems) which.Memories _ h4;
+      globals = not_above (length m.globals) which.Globals _ h5;
+      exports = not_above (length m.exports) which.Exports _ h6;
+      elems = not_above (length m.elems) which.ElementSegments _ h7;
+      datas = not_above (length m.datas) which.DataSegments None h8;
+    }
+
+-- a tree with its references declared has no fewer segments, and all else as it was
+undeclared_within : (m : Module) (fs : List ℕ) → Within (with_declared m fs) → Within m
+undeclared_within m [] w = w
+undeclared_within m (f ∷ fs) w =
+    let e = w.elems in
+    let n = length-append m.elems (declaring (f ∷ fs) ∷ []) in
+    record { types = w.types; imports = w.imports; funcs = w.funcs; tables = w.tables; mems = w.mems; globals = w.globals; exports = w.exports; elems = omega (arith, e, n); datas = w.datas }
+
+merged_within : (m : Module) → over_limit (declared m) ≡ None → Within m
+merged_within m h = undeclared_within m (declared_refs m) (within_limits (declared m) h)
+
+space_few : (k : Space) (m : Module) → length (space k m) ≤ length m.imports + length (own k m)
+space_few k m =
+    let a = length-append (imported k m) (own k m) in
+    let b = filter_map_most (of_import k) m.imports in
+    omega (arith, a, b)
+
+pub few_exports : (m : Module) → over_limit (declared m) ≡ None → length m.exports < 2 ^ 62
+few_exports m h = let e = (merged_within m h).exports in omega (arith, e)
+
+pub few_elems : (m : Module) → over_limit (declared m) ≡ None → length m.elems + 1 < 2 ^ 32
+few_elems m h = let e = (merged_within m h).elems in omega (arith, e)
+
+pub module_bounded : (m : Module) → over_limit (declared m) ≡ None → ((i : ℕ) (f : Func) → slice_get m.funcs i ≡ Some f → local_count m.types f < 2 ^ 32) → IsBounded m
+module_bounded m h locals =
+    let w = merged_within m h in
+    let ty = w.types in
+    let i = w.imports in
+    let f = w.funcs in
+    let t = w.tables in
+    let n = w.mems in
+    let g = w.globals in
+    let x = w.exports in
+    let e = w.elems in
+    let d = w.datas in
+    let sf = space_few Functions m in
+    let st = space_few Tables m in
+    let sm = space_few Memories m in
+    let sg = space_few Globals m in
+    let of = own_many Functions m refl in
+    let og = own_many Globals m refl in
+    record {
+      types = omega (arith, ty);
+      imports = omega (arith, i);
+      funcs = omega (arith, i, f, sf, of);
+      tables = omega (arith, i, t, st);
+      memories = omega (arith, i, n, sm);
+      globals = omega (arith, i, g, sg, og);
+      exports = omega (arith, x);
+      elems = omega (arith, e);
+      datas = omega (arith, d);
+      locals = locals;
+    }

@@ -1,0 +1,15 @@
+-- The functions that parts start.
+use Rattle.std.specs.Prelude.{◌≡◌, ℕ, true, List, Option, Some, None, slice_get}
+use Rattle.wasm_tree.specs.Spaces.{type_of_func}
+use Rattle.wasm_valid.specs.Validity.{IsValid}
+use Rattle.wasm_meaning.specs.State.{Text}
+use Rattle.wasm_meaning.specs.Linking.{Part}
+use Rattle.merge_spec.specs.Faults.{link_fault}
+use Rattle.merge_spec.specs.Merged.{merged, merged_types, place_of_type, nullary, starts}
+use Rattle.merge_valid_proof.specs.Joinable.{EachPart}
+
+-- in the merged module each takes and gives nothing, which is one of its types
+abbrev pub StartsTakeNothing : Type 0
+StartsTakeNothing =
+    (parts : List Part) (names : List (Option Text)) → EachPart IsValid parts → link_fault parts true ≡ None → (n f : ℕ) → slice_get (starts parts) n ≡ Some f →
+    (type_of_func (merged parts names) f ≡ Some nullary) × (slice_get (merged_types parts) (place_of_type parts nullary) ≡ Some nullary)

@@ -1,0 +1,89 @@
+//! That what joining gives is a valid module, as a law.
+#![tactic(auto)]
+
+ghost use Rattle.std.specs.Prelude.{◌≡◌, ℕ, true, false, IsTrue, List, Some, None};
+ghost use Rattle.wasm_tree.specs.declared.types.ValType.{ValType};
+ghost use Rattle.wasm_tree.specs.declared.module.ConstExpr.{ConstExpr};
+ghost use Rattle.wasm_tree.specs.declared.module.Module.{Module};
+ghost use Rattle.wasm_tree.specs.Bounds.{IsBounded};
+ghost use Rattle.wasm_valid.specs.Constants.{const_type};
+ghost use Rattle.wasm_valid.specs.Validity.{IsSingle, IsValid};
+ghost use Rattle.wasm_meaning.specs.Linking.{Part, Read, module_at, read_of};
+ghost use Rattle.index_remap.specs.Renumbered.{fits_const, fits_tree};
+ghost use Rattle.merge_names.specs.declared.mode.Mode.{Mode};
+ghost use Rattle.merge_spec.specs.Faults.{link_fault};
+ghost use Rattle.merge_spec.specs.Merged.{map_of};
+ghost use Rattle.merge_spec.specs.Joined.{joined_module};
+ghost use Rattle.merge_valid_proof.specs.Ended.{
+  DefinedEntitiesHavePlaces,
+  LinkedImportsEnd,
+  MergedModulesDefineAll,
+  NewIndicesArePlaces,
+  SitesAreImports,
+  StayingImportsEndThere,
+  StayingImportsHavePlaces,
+  TypesHavePlaces,
+};
+ghost use Rattle.merge_valid_proof.specs.Entries.{HasEntry};
+ghost use Rattle.merge_valid_proof.specs.Joinable.{CanBeJoined, EachPart};
+ghost use Rattle.merge_valid_proof.specs.Started.{StartsTakeNothing};
+
+use merge_names::{conflicts_are_first, given_names_differ};
+use index_remap_proof::{
+    declared_trees_are_valid, renumbered_trees_are_valid, renumbering_keeps_typing,
+};
+use wasm_meaning::ends_and_reads_are_paths;
+use wasm_valid::valid_where_items_hold;
+
+/// Where valid parts can be joined, the merged module is valid (`valid`, WebAssembly Core 2.0, section 3.4.10), a u32 can count its lists, its index spaces
+/// and the locals of each function (`bounded`). Where several memories are a fault of linking, it has at most one (`single`).
+pub fn merged_modules_are_valid()
+    ensures valid { (parts : List Part) (mode : Mode) → CanBeJoined parts mode → IsValid (joined_module parts mode) }
+    ensures bounded { (parts : List Part) (mode : Mode) → CanBeJoined parts mode → IsBounded (joined_module parts mode) }
+    ensures single { (parts : List Part) (mode : Mode) → CanBeJoined parts mode → link_fault parts false ≡ None → IsSingle (joined_module parts mode) }
+{
+    valid_where_items_hold();
+    renumbering_keeps_typing();
+    renumbered_trees_are_valid();
+    declared_trees_are_valid();
+    ends_and_reads_are_paths();
+    given_names_differ();
+    conflicts_are_first();
+}
+
+/// The map of a part has an entry for each index that its valid module names (`entries`) and that a constant expression with a type names (`constants`).
+/// Where the parts are linked, what such an expression reads through joined globals is there (`there`), in a part whose map has an entry for it (`reads`).
+pub fn maps_have_entries()
+    ensures entries { (parts : List Part) (p : ℕ) (m : Module) → IsValid m → IsTrue (fits_tree (map_of parts p m) m) }
+    ensures constants { (parts : List Part) (p : ℕ) (m : Module) (e : ConstExpr) (ty : ValType) → const_type m e ≡ Some ty → IsTrue (fits_const (map_of parts p m) e) }
+    ensures reads { (parts : List Part) (p : ℕ) (m : Module) (e : ConstExpr) (ty : ValType) (r : Read) → EachPart IsValid parts → link_fault parts true ≡ None → module_at parts p ≡ Some m → const_type m e ≡ Some ty → read_of parts p e ≡ Some r → HasEntry parts r }
+    ensures there { (parts : List Part) (p : ℕ) (m : Module) (e : ConstExpr) (ty : ValType) → EachPart IsValid parts → link_fault parts true ≡ None → module_at parts p ≡ Some m → const_type m e ≡ Some ty → (r : Read) × (read_of parts p e ≡ Some r) }
+{
+    valid_where_items_hold();
+    renumbering_keeps_typing();
+    ends_and_reads_are_paths();
+}
+
+/// Where parts are linked, each import ends with what it asks for, inside or outside (`ends`), and what stays is its own end (`stays`); the sites are the
+/// imports that are there (`sites`). In the merged module each import that stays, each index, each definition and each type of a part has its place
+/// (`places`, `indices`, `defined`, `types`), and what is defined are the definitions of all parts, and the function that calls the starts where one does (`counts`).
+pub fn linked_imports_have_ends()
+    ensures ends { LinkedImportsEnd }
+    ensures stays { StayingImportsEndThere }
+    ensures sites { SitesAreImports }
+    ensures places { StayingImportsHavePlaces }
+    ensures indices { NewIndicesArePlaces }
+    ensures defined { DefinedEntitiesHavePlaces }
+    ensures types { TypesHavePlaces }
+    ensures counts { MergedModulesDefineAll }
+{
+    ends_and_reads_are_paths();
+}
+
+/// The functions that valid parts start take and give nothing, also in the merged module, if the parts are linked.
+pub fn starts_take_nothing()
+    ensures starts { StartsTakeNothing }
+{
+    valid_where_items_hold();
+    ends_and_reads_are_paths();
+}

@@ -1,6 +1,0 @@
-use Rattle.std.proofs.Common.{map, take, ◌≡◌}
-use Rattle.path_ends.specs.Steps.{next_place}
-use Rattle.path_ends.proofs.follow.next_places.Given as goal
-
-abbrev pub invariant-loop-step : goal.invariant-loop-step
-invariant-loop-step g l = l.nexts.items ≡ map next_place (take l.step-index l.steps)

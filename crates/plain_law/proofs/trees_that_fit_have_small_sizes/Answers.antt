@@ -1,5 +1,0 @@
-use Rattle.plain_law.proofs.SizeLaws.{sizes_small}
-use Rattle.plain_law.proofs.trees_that_fit_have_small_sizes.Goals as goal
-
-pub returns : goal.returns
-returns c = sizes_small

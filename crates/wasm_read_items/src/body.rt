@@ -1,0 +1,120 @@
+ghost use Rattle.std.specs.Prelude.{◌≡◌, ◌≤◌, ◌<◌, ◌||◌, ℕ, length, OnOk, IfOk};
+ghost use Rattle.wasm_tree.specs.DataUse.{uses_data_in, uses_data};
+ghost use Rattle.wasm_read_spec.specs.Reading.{Gives, GivesAll};
+ghost use Rattle.wasm_read_spec.specs.BodyReading.{sequence_at, block_at, body_at};
+
+use crate::pile::{Kind, Pile};
+use crate::tokens::read_token;
+use crate::types::read_block_type;
+use std::alloc::Global;
+use wasm_bytes::{Cursor, Items};
+use wasm_read_spec::{Fault, Opener, Sequence};
+use wasm_tree::{BlockType, Instr, MOST_NESTING, Which};
+
+/// Reads up to the `end` or `else` that ends the sequence. So many more blocks may be opened in it. Its instructions lie on the pile until it ends.
+#[cycle(read)]
+fn read_sequence(
+    alloc: Global,
+    cursor: &mut Cursor<'_>,
+    many: bool,
+    deeper: u32,
+    pile: &mut Pile,
+) -> Result<Sequence, Fault>
+    ensures reads { (fuel : ℕ) → length cursor.old ≤ fuel → Gives result cursor.new (sequence_at many fuel deeper cursor.old) }
+    ensures shorter { OnOk result (length cursor.new < length cursor.old) }
+    ensures pile { OnOk result (pile.new.instrs ≡ pile.old.instrs) }
+    ensures uses { IfOk result (λ s. pile.new.uses_data ≡ (pile.old.uses_data || uses_data s.items)) }
+{
+    let start = pile.instrs.len();
+    'tokens: loop {
+        match read_token(alloc, cursor, many, pile)? {
+            Kind::End => {
+                return Ok(Sequence {
+                    items: pile.instrs.split_off(start)?,
+                    by_else: false,
+                });
+            }
+            Kind::Else => {
+                return Ok(Sequence {
+                    items: pile.instrs.split_off(start)?,
+                    by_else: true,
+                });
+            }
+            Kind::Plain => (),
+            Kind::Open(opener) => {
+                let ty = read_block_type(alloc, cursor)?;
+                let block = read_block(alloc, cursor, many, deeper, opener, ty, pile)?;
+                pile.instrs.keep(block)?
+            }
+        }
+    }
+}
+
+/// Reads the rest of a block of which the opening token was read.
+#[cycle(read)]
+fn read_block(
+    alloc: Global,
+    cursor: &mut Cursor<'_>,
+    many: bool,
+    deeper: u32,
+    opener: Opener,
+    ty: BlockType,
+    pile: &mut Pile,
+) -> Result<Instr, Fault>
+    ensures reads { (fuel : ℕ) → length cursor.old ≤ fuel → Gives result cursor.new (block_at (sequence_at many fuel) deeper opener ty cursor.old) }
+    ensures shorter { OnOk result (length cursor.new < length cursor.old) }
+    ensures pile { OnOk result (pile.new.instrs ≡ pile.old.instrs) }
+    ensures uses { IfOk result (λ i. pile.new.uses_data ≡ (pile.old.uses_data || uses_data_in i)) }
+{
+    if deeper == 0 {
+        return Err(Fault::Limit {
+            which: Which::Nesting,
+        });
+    }
+    let first = read_sequence(alloc, cursor, many, deeper - 1, pile)?;
+    match opener {
+        Opener::If => {
+            if first.by_else {
+                let other = read_sequence(alloc, cursor, many, deeper - 1, pile)?;
+                if other.by_else {
+                    return Err(Fault::Malformed);
+                }
+                return Ok(Instr::If(ty, first.items, other.items));
+            }
+            Ok(Instr::If(ty, first.items, Items::new(alloc)))
+        }
+        Opener::Block => {
+            if first.by_else {
+                return Err(Fault::Malformed);
+            }
+            Ok(Instr::Block(ty, first.items))
+        }
+        Opener::Loop => {
+            if first.by_else {
+                return Err(Fault::Malformed);
+            }
+            Ok(Instr::Loop(ty, first.items))
+        }
+    }
+}
+
+/// The instructions of a body, which the last `end` ends; nothing may follow it (WebAssembly Core 2.0, section 5.4.9).
+#[tactic(auto, unfolding(wasm_read_spec::specs::BodyReading::body_at))]
+pub fn read_body(
+    alloc: Global,
+    cursor: &mut Cursor<'_>,
+    many: bool,
+    pile: &mut Pile,
+) -> Result<Items<Instr>, Fault>
+    ensures gives { GivesAll result (body_at many cursor.old) }
+    ensures uses { IfOk result (λ is. pile.new.uses_data ≡ (pile.old.uses_data || uses_data is)) }
+{
+    let body = read_sequence(alloc, cursor, many, MOST_NESTING, pile)?;
+    if body.by_else {
+        return Err(Fault::Malformed);
+    }
+    if cursor.left() != 0 {
+        return Err(Fault::Malformed);
+    }
+    Ok(body.items)
+}

@@ -1,0 +1,47 @@
+ghost use Rattle.std.specs.Prelude.{◌≡◌, ◌<◌, length, OnOk};
+ghost use Rattle.wasm_read_spec.specs.Reading.{Gives, chosen_at, byte_at, const_from, const_at, global_def_at};
+
+use crate::types::read_tag;
+use crate::vectors::Spelled;
+use std::alloc::Global;
+use wasm_bytes::Cursor;
+use wasm_read_spec::Fault;
+use wasm_tree::{ConstExpr, GlobalDef, GlobalType, RefType};
+
+/// The one instruction of a constant expression (WebAssembly Core 2.0, section 5.4.9).
+fn read_constant(alloc: Global, cursor: &mut Cursor<'_>) -> Result<ConstExpr, Fault>
+    ensures gives { Gives result cursor.new (chosen_at byte_at const_from cursor.old) }
+    ensures shorter { OnOk result (length cursor.new < length cursor.old) }
+{
+    match cursor.byte()? {
+        0x41 => Ok(ConstExpr::I32(cursor.s32()?)),
+        0x42 => Ok(ConstExpr::I64(cursor.s64()?)),
+        0xD0 => Ok(ConstExpr::Null(RefType::read(alloc, cursor)?)),
+        0xD2 => Ok(ConstExpr::Func(cursor.u32()?)),
+        0x23 => Ok(ConstExpr::Global(cursor.u32()?)),
+        0x43 | 0x44 | 0xFD => Err(Fault::Unsupported),
+        _ => Err(Fault::Malformed),
+    }
+}
+
+impl Spelled for ConstExpr {
+    ghost reading = { const_at };
+
+    #[tactic(auto, unfolding(wasm_read_spec::specs::Reading::const_at))]
+    fn read(alloc: Global, cursor: &mut Cursor<'_>) -> Result<ConstExpr, Fault> {
+        let expr = read_constant(alloc, cursor)?;
+        read_tag(cursor, 0x0B)?;
+        Ok(expr)
+    }
+}
+
+impl Spelled for GlobalDef {
+    ghost reading = { global_def_at };
+
+    #[tactic(auto, unfolding(wasm_read_spec::specs::Reading::global_def_at))]
+    fn read(alloc: Global, cursor: &mut Cursor<'_>) -> Result<GlobalDef, Fault> {
+        let ty = GlobalType::read(alloc, cursor)?;
+        let init = ConstExpr::read(alloc, cursor)?;
+        Ok(GlobalDef { ty, init })
+    }
+}

@@ -1,0 +1,209 @@
+-- The first fault of small files, computed: for each kind of fault and each limit a file, and which fault comes first where there are several. (What is no module stands in Rows.)
+use Rattle.std.proofs.Common.{◌≡◌, refl, ℕ, zero, suc, List, [], ◌∷◌, ◌++◌, map, length, true, false, Option, Some, None}
+use Rattle.wasm_tree.specs.declared.which.Which.TheVariants.{Types, Imports, Functions, Tables, Memories, Globals, Exports, ElementSegments, DataSegments, Nesting, Locals, Parameters, Results}
+use Rattle.wasm_bytes.specs.Frames.{header, frame_at, frames_at}
+use Rattle.wasm_bytes.specs.Reading.{unsigned_at, signed_at, name_at as text_at}
+use Rattle.std.specs.Prelude.{Err}
+use Rattle.wasm_read_spec.specs.declared.fault.Fault.TheVariants as fault
+use Rattle.wasm_read_spec.specs.declared.fault.ReadFault.{ReadFault}
+use Rattle.wasm_read_spec.specs.declared.fault.ReadFault.TheVariants.{Malformed, MalformedBody, Unsupported, Limit}
+use Rattle.wasm_read_spec.specs.Values.{val_code, ref_code, mut_code}
+use Rattle.wasm_read_spec.specs.Tokens.{rest_form, sub_form, the_form}
+use Rattle.wasm_read_spec.specs.Operations.{un_of, bin_of, load_of, store_of}
+use Rattle.wasm_read_spec.specs.Reading.{each_from, func_type_at, list_at, local_at, locals_at, tag_at, val_at, ref_at, mut_at, limits_at, table_at, global_at, const_at, import_at, import_desc_at, global_def_at, elem_at, data_at, block_type_at, vector_at, whole_at}
+use Rattle.wasm_read_spec.specs.BodyReading.{arg_at, memory_at, block_at, body_at, code_at, prefixed_at, sequence_at, simple_of, token_at}
+use Rattle.wasm_read_spec.specs.Contents.{agrees, codes_at, contents_at, entry_at, framed_at, parts_at, read_at, read_fault, section_at}
+
+-- one type of no parameters and no results, and one function of it
+abbrev pub types : List ℕ
+types = 0x01 ∷ 0x04 ∷ 0x01 ∷ 0x60 ∷ 0x00 ∷ 0x00 ∷ []
+
+abbrev pub functions : List ℕ
+functions = 0x03 ∷ 0x02 ∷ 0x01 ∷ 0x00 ∷ []
+
+abbrev pub section : ℕ → List ℕ → List ℕ
+section id content = id ∷ length content ∷ content
+
+-- a file whose one function has this entry
+abbrev of_entry : List ℕ → List ℕ
+of_entry content = header ++ types ++ functions ++ section 0x0A (0x01 ∷ length content ∷ content)
+
+-- and no locals
+abbrev of_body : List ℕ → List ℕ
+of_body body = of_entry (0x00 ∷ body)
+
+abbrev faults : List (List ℕ) → List (Option ReadFault)
+faults = map (λ bytes. read_fault bytes false)
+
+-- ---- each limit: one more than it is written, and nothing follows
+
+abbrev over_a_count : List (List ℕ)
+over_a_count =
+    (header ++ section 1 (0xC1 ∷ 0x84 ∷ 0x3D ∷ []))
+    ∷ (header ++ section 2 (0xC1 ∷ 0x84 ∷ 0x3D ∷ []))
+    ∷ (header ++ section 3 (0xC1 ∷ 0x84 ∷ 0x3D ∷ []))
+    ∷ (header ++ section 4 (0x91 ∷ 0x4E ∷ []))
+    ∷ (header ++ section 5 (0x91 ∷ 0x4E ∷ []))
+    ∷ (header ++ section 6 (0xC1 ∷ 0x84 ∷ 0x3D ∷ []))
+    ∷ (header ++ section 7 (0xC1 ∷ 0x84 ∷ 0x3D ∷ []))
+    ∷ (header ++ section 9 (0xE1 ∷ 0xA7 ∷ 0x12 ∷ []))
+    ∷ (header ++ section 10 (0xC1 ∷ 0x84 ∷ 0x3D ∷ []))
+    ∷ (header ++ section 11 (0xE1 ∷ 0xA7 ∷ 0x12 ∷ []))
+    ∷ (header ++ section 1 (0x01 ∷ 0x60 ∷ 0xE9 ∷ 0x07 ∷ []))
+    ∷ (header ++ section 1 (0x01 ∷ 0x60 ∷ 0x00 ∷ 0xE9 ∷ 0x07 ∷ []))
+    ∷ []
+
+each_count_has_its_limit : faults over_a_count ≡ Some (Limit Types) ∷ Some (Limit Imports) ∷ Some (Limit Functions) ∷ Some (Limit Tables) ∷ Some (Limit Memories) ∷ Some (Limit Globals) ∷ Some (Limit Exports) ∷ Some (Limit ElementSegments) ∷ Some (Limit Functions)
+    ∷ Some (Limit DataSegments) ∷ Some (Limit Parameters) ∷ Some (Limit Results) ∷ []
+unfolding read_at parts_at framed_at frames_at frame_at contents_at section_at agrees whole_at vector_at list_at each_from func_type_at val_at tag_at unsigned_at codes_at
+each_count_has_its_limit = refl
+
+-- the limit itself is no fault: what is missing is the items
+abbrev at_a_count : List (List ℕ)
+at_a_count =
+    (header ++ section 1 (0xC0 ∷ 0x84 ∷ 0x3D ∷ []))
+    ∷ (header ++ section 4 (0x90 ∷ 0x4E ∷ []))
+    ∷ (header ++ section 9 (0xE0 ∷ 0xA7 ∷ 0x12 ∷ []))
+    ∷ (header ++ section 10 (0xC0 ∷ 0x84 ∷ 0x3D ∷ []))
+    ∷ (header ++ section 1 (0x01 ∷ 0x60 ∷ 0xE8 ∷ 0x07 ∷ []))
+    ∷ []
+
+a_limit_may_be_reached : faults at_a_count ≡ Some (Malformed 0) ∷ Some (Malformed 0) ∷ Some (Malformed 0) ∷ Some (Malformed 0) ∷ Some (Malformed 0) ∷ []
+unfolding read_at parts_at framed_at frames_at frame_at contents_at section_at agrees whole_at vector_at list_at each_from func_type_at val_at tag_at unsigned_at codes_at entry_at table_at ref_at elem_at
+a_limit_may_be_reached = refl
+
+-- 50,000 locals; and 50,001, in two groups, the second of a type that is not supported too
+locals_enough : read_fault (of_entry (0x01 ∷ 0xD0 ∷ 0x86 ∷ 0x03 ∷ 0x7F ∷ 0xFD ∷ [])) false ≡ Some (Unsupported 2 (Some 0))
+unfolding read_at parts_at framed_at frames_at frame_at contents_at section_at agrees whole_at vector_at list_at each_from func_type_at val_at val_code tag_at unsigned_at codes_at entry_at code_at locals_at local_at body_at sequence_at token_at the_form un_of bin_of load_of store_of rest_form simple_of
+locals_enough = refl
+
+too_many_locals : read_fault (of_entry (0x02 ∷ 0x01 ∷ 0x7F ∷ 0xD0 ∷ 0x86 ∷ 0x03 ∷ 0x7D ∷ [])) false ≡ Some (Limit Locals)
+unfolding read_at parts_at framed_at frames_at frame_at contents_at section_at agrees whole_at vector_at list_at each_from func_type_at val_at val_code tag_at unsigned_at codes_at entry_at code_at locals_at local_at
+too_many_locals = refl
+
+-- blocks, one in the other
+abbrev blocks : ℕ → List ℕ → List ℕ
+blocks zero rest = rest
+blocks (suc n) rest = 0x02 ∷ 0x40 ∷ blocks n rest
+
+-- 1,001 blocks, 1,000 blocks, and 1,001 of which the last has a type that is misspelled
+a_block_too_many : code_at false (0x00 ∷ blocks 1001 []) ≡ Err (fault.Limit Nesting)
+unfolding each_from code_at locals_at local_at body_at sequence_at block_at block_type_at token_at the_form un_of bin_of load_of store_of rest_form simple_of val_at unsigned_at
+a_block_too_many = refl
+
+blocks_enough : code_at false (0x00 ∷ blocks 1000 []) ≡ Err fault.Malformed
+unfolding each_from code_at locals_at local_at body_at sequence_at block_at block_type_at token_at the_form un_of bin_of load_of store_of rest_form simple_of val_at unsigned_at
+blocks_enough = refl
+
+-- the 1,001 blocks in a file
+blocks_in_a_file : read_fault (header ++ types ++ functions ++ 0x0A ∷ 0xD6 ∷ 0x0F ∷ 0x01 ∷ 0xD3 ∷ 0x0F ∷ 0x00 ∷ blocks 1001 []) false ≡ Some (Limit Nesting)
+unfolding read_at parts_at framed_at frames_at frame_at contents_at section_at agrees whole_at vector_at list_at each_from func_type_at val_at tag_at unsigned_at codes_at entry_at code_at locals_at local_at body_at sequence_at block_at block_type_at token_at the_form un_of bin_of load_of store_of rest_form simple_of
+blocks_in_a_file = refl
+
+a_misspelled_block_too_many : code_at false (0x00 ∷ blocks 1000 (0x02 ∷ 0xFF ∷ 0x7F ∷ [])) ≡ Err fault.Malformed
+unfolding each_from code_at locals_at local_at body_at sequence_at block_at block_type_at token_at the_form un_of bin_of load_of store_of rest_form simple_of val_at unsigned_at signed_at
+a_misspelled_block_too_many = refl
+
+-- ---- what is not supported, and what is misspelled
+
+-- float and vector types as parameters, results, types of tables and of globals; constants of these as initialisers, offsets and items; an opcode that is none; an element flag past 7; an empty custom section
+abbrev other_types : List (List ℕ)
+other_types =
+    (header ++ section 1 (0x01 ∷ 0x60 ∷ 0x01 ∷ 0x7D ∷ []))
+    ∷ (header ++ section 1 (0x01 ∷ 0x60 ∷ 0x01 ∷ 0x7B ∷ []))
+    ∷ (header ++ section 1 (0x01 ∷ 0x60 ∷ 0x01 ∷ 0x7A ∷ []))
+    ∷ (header ++ section 4 (0x01 ∷ 0x7D ∷ 0x00 ∷ 0x00 ∷ []))
+    ∷ (header ++ section 6 (0x01 ∷ 0x7C ∷ []))
+    ∷ (header ++ section 6 (0x01 ∷ 0x7F ∷ 0x00 ∷ 0x43 ∷ []))
+    ∷ (header ++ section 6 (0x01 ∷ 0x7F ∷ 0x00 ∷ 0xFD ∷ []))
+    ∷ (header ++ section 6 (0x01 ∷ 0x7F ∷ 0x00 ∷ 0x6A ∷ []))
+    ∷ (header ++ section 9 (0x01 ∷ 0x00 ∷ 0x44 ∷ []))
+    ∷ (header ++ section 11 (0x01 ∷ 0x02 ∷ 0x00 ∷ 0x43 ∷ []))
+    ∷ (header ++ section 9 (0x01 ∷ 0x08 ∷ []))
+    ∷ (header ++ section 0 [])
+    ∷ []
+
+a_type_or_constant_is_told : faults other_types ≡ Some (Unsupported 0 None) ∷ Some (Unsupported 0 None) ∷ Some (Malformed 0) ∷ Some (Malformed 0) ∷ Some (Unsupported 0 None) ∷ Some (Unsupported 0 None) ∷ Some (Unsupported 0 None) ∷ Some (Malformed 0)
+    ∷ Some (Unsupported 0 None) ∷ Some (Unsupported 0 None) ∷ Some (Malformed 0) ∷ Some (Malformed 0) ∷ []
+unfolding read_at parts_at framed_at frames_at frame_at contents_at section_at agrees whole_at vector_at list_at each_from func_type_at val_at val_code ref_at ref_code mut_at mut_code table_at limits_at global_at global_def_at const_at elem_at data_at tag_at unsigned_at text_at
+a_type_or_constant_is_told = refl
+
+abbrev bodies : List (List ℕ)
+bodies =
+    -- f32.load, FC 0, FC 7, padded FC 0, v128; and a value type of a block, of a typed select and of a local
+    of_body (0x2A ∷ [])
+    ∷ of_body (0xFC ∷ 0x00 ∷ [])
+    ∷ of_body (0xFC ∷ 0x07 ∷ [])
+    ∷ of_body (0xFC ∷ 0x80 ∷ 0x00 ∷ [])
+    ∷ of_body (0xFD ∷ [])
+    ∷ of_body (0x02 ∷ 0x7D ∷ [])
+    ∷ of_body (0x1C ∷ 0x01 ∷ 0x7C ∷ [])
+    ∷ of_entry (0x01 ∷ 0x01 ∷ 0x7B ∷ [])
+    -- the same as a type of references, unknown bytes, and a negative block type of two bytes
+    ∷ of_body (0xD0 ∷ 0x7D ∷ [])
+    ∷ of_body (0xFE ∷ [])
+    ∷ of_body (0xFC ∷ 0x18 ∷ [])
+    ∷ of_body (0xFC ∷ [])
+    ∷ of_body (0x02 ∷ 0xFF ∷ 0x7F ∷ [])
+    ∷ of_body (0x02 ∷ 0xC0 ∷ 0x7F ∷ [])
+    -- a padded memory index, and an alignment that is as any other where memories have no indices
+    ∷ of_body (0x3F ∷ 0x80 ∷ 0x00 ∷ 0xFD ∷ [])
+    ∷ of_body (0x28 ∷ 0x42 ∷ 0x00 ∷ 0xFD ∷ [])
+    -- what follows the end of the body is malformed, supported or not; an else outside an if
+    ∷ of_body (0x0B ∷ 0xFD ∷ [])
+    ∷ of_body (0x05 ∷ 0xFD ∷ [])
+    ∷ of_body (0x02 ∷ 0x40 ∷ 0x05 ∷ 0xFD ∷ [])
+    -- inside a block, in an if and behind its else
+    ∷ of_body (0x01 ∷ 0x03 ∷ 0x40 ∷ 0x01 ∷ 0xFD ∷ [])
+    ∷ of_body (0x04 ∷ 0x40 ∷ 0xFD ∷ [])
+    ∷ of_body (0x04 ∷ 0x40 ∷ 0x01 ∷ 0x05 ∷ 0xFD ∷ [])
+    ∷ of_body (0x04 ∷ 0x40 ∷ 0x0B ∷ 0x0B ∷ 0xFD ∷ [])
+    -- a padded type index and a padded number after FC are spelled: what follows them is told
+    ∷ of_body (0x02 ∷ 0x80 ∷ 0x80 ∷ 0x80 ∷ 0x80 ∷ 0x00 ∷ 0xFD ∷ [])
+    ∷ of_body (0xFC ∷ 0x8B ∷ 0x00 ∷ 0x00 ∷ 0xFD ∷ [])
+    ∷ []
+
+a_token_is_told : faults bodies ≡ Some (Unsupported 2 (Some 0)) ∷ Some (Unsupported 2 (Some 0)) ∷ Some (Unsupported 2 (Some 0)) ∷ Some (Unsupported 2 (Some 0)) ∷ Some (Unsupported 2 (Some 0)) ∷ Some (Unsupported 2 (Some 0)) ∷ Some (Unsupported 2 (Some 0)) ∷ Some (Unsupported 2 (Some 0))
+    ∷ Some (MalformedBody 0) ∷ Some (MalformedBody 0) ∷ Some (MalformedBody 0) ∷ Some (MalformedBody 0) ∷ Some (MalformedBody 0)
+    ∷ Some (MalformedBody 0) ∷ Some (MalformedBody 0) ∷ Some (Unsupported 2 (Some 0))
+    ∷ Some (MalformedBody 0) ∷ Some (MalformedBody 0) ∷ Some (MalformedBody 0)
+    ∷ Some (Unsupported 2 (Some 0)) ∷ Some (Unsupported 2 (Some 0)) ∷ Some (Unsupported 2 (Some 0)) ∷ Some (MalformedBody 0)
+    ∷ Some (Unsupported 2 (Some 0)) ∷ Some (Unsupported 2 (Some 0)) ∷ []
+unfolding read_at parts_at framed_at frames_at frame_at contents_at section_at agrees whole_at vector_at list_at each_from func_type_at val_at val_code ref_at ref_code tag_at unsigned_at signed_at codes_at entry_at code_at locals_at local_at body_at sequence_at block_at block_type_at token_at prefixed_at memory_at arg_at the_form un_of bin_of load_of store_of rest_form sub_form simple_of
+a_token_is_told = refl
+
+-- where memories have indices, an alignment of 64 to 127 tells that one follows; 128 is none
+a_memory_is_named : map (λ bytes. read_fault bytes true) (of_body (0x28 ∷ 0x42 ∷ 0x00 ∷ 0x00 ∷ 0xFD ∷ []) ∷ of_body (0x28 ∷ 0xC2 ∷ 0x00 ∷ 0x00 ∷ 0x00 ∷ 0xFD ∷ []) ∷ of_body (0x28 ∷ 0x80 ∷ 0x01 ∷ 0x00 ∷ 0x00 ∷ 0xFD ∷ []) ∷ [])
+    ≡ Some (Unsupported 2 (Some 0)) ∷ Some (Unsupported 2 (Some 0)) ∷ Some (MalformedBody 0) ∷ []
+unfolding read_at parts_at framed_at frames_at frame_at contents_at section_at agrees whole_at vector_at list_at each_from func_type_at val_at val_code tag_at unsigned_at codes_at entry_at code_at locals_at local_at body_at sequence_at token_at memory_at arg_at the_form un_of bin_of load_of store_of rest_form simple_of
+a_memory_is_named = refl
+
+-- ---- which comes first
+
+abbrev several : List (List ℕ)
+several =
+    -- a bad frame before a limit in an earlier section; a limit before a count without its items in a later one
+    (header ++ section 1 (0xC1 ∷ 0x84 ∷ 0x3D ∷ []) ++ 0x0D ∷ [])
+    ∷ (header ++ section 1 (0xC1 ∷ 0x84 ∷ 0x3D ∷ []) ++ section 3 (0x01 ∷ []))
+    -- a body before the size of the next entry; the size of the first entry before its body; a body before a rule on the whole file
+    ∷ (header ++ types ++ section 3 (0x02 ∷ 0x00 ∷ 0x00 ∷ []) ++ section 10 (0x02 ∷ 0x02 ∷ 0x00 ∷ 0xFE ∷ 0x7F ∷ []))
+    ∷ (header ++ types ++ section 3 (0x02 ∷ 0x00 ∷ 0x00 ∷ []) ++ section 10 (0x02 ∷ 0x7F ∷ 0x00 ∷ 0xFE ∷ []))
+    ∷ (header ++ types ++ section 10 (0x01 ∷ 0x02 ∷ 0x00 ∷ 0xFE ∷ []))
+    -- a size behind a body; the second body; bytes left over behind the bodies
+    ∷ (header ++ types ++ section 3 (0x02 ∷ 0x00 ∷ 0x00 ∷ []) ++ section 10 (0x02 ∷ 0x02 ∷ 0x00 ∷ 0x0B ∷ 0x7F ∷ []))
+    ∷ (header ++ types ++ section 3 (0x02 ∷ 0x00 ∷ 0x00 ∷ []) ++ section 10 (0x02 ∷ 0x02 ∷ 0x00 ∷ 0x0B ∷ 0x02 ∷ 0x00 ∷ 0xFE ∷ []))
+    ∷ (header ++ types ++ functions ++ section 10 (0x01 ∷ 0x02 ∷ 0x00 ∷ 0x0B ∷ 0x00 ∷ []))
+    -- custom sections are counted before a bad frame; an initialiser of two constants
+    ∷ (header ++ section 0 (0x00 ∷ []) ++ section 0 (0x00 ∷ []) ++ 0x0D ∷ [])
+    ∷ (header ++ section 6 (0x01 ∷ 0x7F ∷ 0x00 ∷ 0x41 ∷ 0x00 ∷ 0x41 ∷ 0x00 ∷ 0x0B ∷ []))
+    -- the functions and the bodies; the data count
+    ∷ (header ++ types ++ functions)
+    ∷ (header ++ section 12 (0x01 ∷ []))
+    ∷ []
+
+the_first_is_told : faults several ≡ Some (Malformed 1) ∷ Some (Limit Types) ∷ Some (MalformedBody 0) ∷ Some (Malformed 2) ∷ Some (MalformedBody 0)
+    ∷ Some (Malformed 2) ∷ Some (MalformedBody 1) ∷ Some (Malformed 2)
+    ∷ Some (Malformed 2) ∷ Some (Malformed 0)
+    ∷ Some (Malformed 2) ∷ Some (Malformed 1) ∷ []
+unfolding read_at parts_at framed_at frames_at frame_at contents_at section_at agrees whole_at vector_at list_at each_from func_type_at val_at val_code mut_at mut_code tag_at unsigned_at signed_at text_at codes_at entry_at code_at locals_at local_at body_at sequence_at token_at prefixed_at the_form un_of bin_of load_of store_of rest_form sub_form simple_of import_at import_desc_at global_at global_def_at const_at
+the_first_is_told = refl

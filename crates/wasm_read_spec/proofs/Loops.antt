@@ -1,0 +1,84 @@
+-- Steps of the loops that read so many items.
+use Rattle.std.proofs.Common.{◌≡◌, ℕ, suc, ◌+◌, ◌-◌, ◌<◌, ◌≤◌, Bool, ◌||◌, List, [], ◌∷◌, ◌++◌, append-nil, Result, Ok, Err, refl, sym, ap, ◌∙◌, arith, append_assoc}
+use Rattle.std.specs.List.{list_any}
+use Rattle.std.proofs.Math.Bool.{or-false, or_assoc}
+use Rattle.std.proofs.lemmas.List.Folds.{list_any-append}
+use Rattle.wasm_bytes.specs.Reading.{◌>>=◌}
+use Rattle.wasm_read_spec.specs.declared.fault.Fault.{Fault}
+use Rattle.wasm_read_spec.specs.declared.fault.Fault.TheVariants as fault
+use Rattle.wasm_read_spec.specs.declared.fault.ReadFault.{ReadFault}
+use Rattle.wasm_read_spec.specs.declared.fault.ReadFault.TheVariants.{NoMemory, NotModule, Malformed, MalformedBody, Unsupported, Limit}
+use Rattle.wasm_read_spec.specs.Reading.{Fails, each_from, with_front}
+use Rattle.wasm_read_spec.specs.Contents.{Fails as FailsIn}
+
+pub front_none : {A E : Type 0} (r : Result (List A × List ℕ) E) → with_front [] r ≡ r
+front_none (Ok r) = refl
+front_none (Err e) = refl
+
+pub front_front : {A E : Type 0} (a b : List A) (r : Result (List A × List ℕ) E) → with_front a (with_front b r) ≡ with_front (a ++ b) r
+front_front a b (Ok r) = ap (λ xs. Ok (xs, r.1)) (sym (append_assoc a b r.0))
+front_front a b (Err e) = refl
+
+one : {A E : Type 0} (x : A) (r : Result (List A × List ℕ) E) → (r >>= λ xs. Ok (x ∷ xs.0, xs.1)) ≡ with_front (x ∷ []) r
+one x (Ok r) = refl
+one x (Err e) = refl
+
+pub fails_through : {A B : Type 0} (e : Fault) (r : Result A Fault) (f : A → Result B Fault) → Fails e r → Fails e (r >>= f)
+fails_through fault.NoMemory r f h = tt
+fails_through fault.Malformed r f h = rw h
+fails_through fault.Unsupported r f h = rw h
+fails_through (fault.Limit w) r f h = rw h
+
+pub fails_in_through : {A B : Type 0} (e : ReadFault) (r : Result A ReadFault) (f : A → Result B ReadFault) → FailsIn e r → FailsIn e (r >>= f)
+fails_in_through NoMemory r f h = tt
+fails_in_through NotModule r f h = rw h
+fails_in_through (Malformed s) r f h = rw h
+fails_in_through (MalformedBody s) r f h = rw h
+fails_in_through (Unsupported s g) r f h = rw h
+fails_in_through (Limit w) r f h = rw h
+
+module _ {A E : Type 0} (item : ℕ → List ℕ → Result (A × List ℕ) E) (next : ℕ → A → ℕ) (whole : Result (List A × List ℕ) E) where
+  -- one more item was read
+  pub each_more : (n i state : ℕ) (items new : List A) (x : A) (bs rest : List ℕ) → i < n → item state bs ≡ Ok (x, rest) → new ≡ items ++ x ∷ [] →
+      whole ≡ with_front items (each_from item next (n - i) state bs) → whole ≡ with_front new (each_from item next (n - (i + 1)) (next state x) rest)
+  unfolding each_from
+  each_more n i state items new x bs rest lt e more h =
+      let k : n - i ≡ suc (n - (i + 1)) = omega arith in
+      let step : each_from item next (n - i) state bs ≡ with_front (x ∷ []) (each_from item next (n - (i + 1)) (next state x) rest) = rw (k, e) (one x (each_from item next (n - (i + 1)) (next state x) rest)) in
+      h ∙ ap (with_front items) step ∙ front_front items (x ∷ []) _ ∙ ap (λ xs. with_front xs (each_from item next (n - (i + 1)) (next state x) rest)) (sym more)
+
+  -- the next one has a fault
+  pub each_err : (n i state : ℕ) (items : List A) (bs : List ℕ) (e : E) → i < n → item state bs ≡ Err e → whole ≡ with_front items (each_from item next (n - i) state bs) → whole ≡ Err e
+  unfolding each_from
+  each_err n i state items bs e lt bad h =
+      let k : n - i ≡ suc (n - (i + 1)) = omega arith in
+      h ∙ rw (k, bad)
+
+  -- they are all read
+  pub each_end : (n i state : ℕ) (items : List A) (bs : List ℕ) → n ≤ i → whole ≡ with_front items (each_from item next (n - i) state bs) → whole ≡ Ok (items, bs)
+  unfolding each_from
+  each_end n i state items bs le h = let k : n - i ≡ 0 = omega arith in h ∙ rw k (simp append-nil)
+
+pub each_stop : {A : Type 0} (item : ℕ → List ℕ → Result (A × List ℕ) Fault) (next : ℕ → A → ℕ) (whole : Result (List A × List ℕ) Fault) (n i state : ℕ) (items : List A) (bs : List ℕ) (e : Fault) →
+    i < n → Fails e (item state bs) → whole ≡ with_front items (each_from item next (n - i) state bs) → Fails e whole
+each_stop item next whole n i state items bs fault.NoMemory lt bad h = tt
+each_stop item next whole n i state items bs fault.Malformed lt bad h = each_err item next whole n i state items bs fault.Malformed lt bad h
+each_stop item next whole n i state items bs fault.Unsupported lt bad h = each_err item next whole n i state items bs fault.Unsupported lt bad h
+each_stop item next whole n i state items bs (fault.Limit w) lt bad h = each_err item next whole n i state items bs (fault.Limit w) lt bad h
+
+pub each_stop_in : {A : Type 0} (item : ℕ → List ℕ → Result (A × List ℕ) ReadFault) (next : ℕ → A → ℕ) (whole : Result (List A × List ℕ) ReadFault) (n i state : ℕ) (items : List A) (bs : List ℕ) (e : ReadFault) →
+    i < n → FailsIn e (item state bs) → whole ≡ with_front items (each_from item next (n - i) state bs) → FailsIn e whole
+each_stop_in item next whole n i state items bs NoMemory lt bad h = tt
+each_stop_in item next whole n i state items bs NotModule lt bad h = each_err item next whole n i state items bs NotModule lt bad h
+each_stop_in item next whole n i state items bs (Malformed s) lt bad h = each_err item next whole n i state items bs (Malformed s) lt bad h
+each_stop_in item next whole n i state items bs (MalformedBody f) lt bad h = each_err item next whole n i state items bs (MalformedBody f) lt bad h
+each_stop_in item next whole n i state items bs (Unsupported s f) lt bad h = each_err item next whole n i state items bs (Unsupported s f) lt bad h
+each_stop_in item next whole n i state items bs (Limit w) lt bad h = each_err item next whole n i state items bs (Limit w) lt bad h
+
+-- ---- a test of the items that were read
+
+-- whether one passes of those before and of these, with one item more
+pub any_more : {A : Type 0} (test : A → Bool) (before after last : Bool) (items : List A) (x : A) → after ≡ (before || list_any test items) → last ≡ (after || test x) → last ≡ (before || list_any test (items ++ x ∷ []))
+any_more test before after last items x h g =
+    g ∙ ap (λ b. b || test x) h ∙ or_assoc before (list_any test items) (test x)
+    ∙ ap (λ b. before || b) (sym (list_any-append test items (x ∷ []) ∙ ap (λ b. list_any test items || b) (or-false (test x))))

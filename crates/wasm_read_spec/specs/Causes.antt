@@ -1,0 +1,116 @@
+-- What the first fault of a file means. First comes the header, then the frames of all sections, whatever they hold, then what they hold, then the rules on the whole file. Where what a section holds is
+-- at fault, everything before the place is spelled and within the limits. There stand the first bytes of a form that is not supported, or a quantity over its limit; or the place is malformed: it is neither
+-- spelled, nor does it come to such a stop.
+use Rattle.std.specs.Prelude.{◌≡◌, ℕ, ◌+◌, ◌<◌, ◌≤◌, ◌⊎◌, List, ◌∷◌, ◌++◌, length, Bool, Option, Some, None}
+use Rattle.wasm_bytes.specs.Joins.{U32, Each, Sized}
+use Rattle.wasm_bytes.specs.Frames.{Section, HasHeader, Framed, FirstBad}
+use Rattle.wasm_tree.specs.declared.which.Which.TheVariants.{Functions}
+use Rattle.wasm_tree.specs.declared.module.Func.{Func}
+use Rattle.wasm_tree.specs.Limits.{limit}
+use Rattle.wasm_tree.specs.Spaces.{imported_funcs}
+use Rattle.wasm_read_spec.specs.declared.fault.ReadFault.{ReadFault}
+use Rattle.wasm_read_spec.specs.declared.fault.ReadFault.TheVariants.{NoMemory, NotModule, Malformed, MalformedBody, Unsupported, Limit}
+use Rattle.wasm_read_spec.specs.declared.parts.Parts.{Parts}
+use Rattle.base_lists.specs.Every.{Every}
+use Rattle.wasm_read_spec.specs.Bodies.{SpellsCode, SpellsEntry, SmallCode}
+use Rattle.wasm_read_spec.specs.Files.{nothing, SpellsSection, SmallSection, Contents, Rules}
+use Rattle.wasm_read_spec.specs.Stops.{Stop, NotSupported, Over, CodeStops, section_stops}
+
+-- ---- places
+
+-- the frames of the whole file are right, and the sections before section n, which is s, are spelled, lead to the parts p and are within the limits
+pub record UpTo (bytes : List ℕ) (many : Bool) (n : ℕ) (s : Section) (p : Parts) : Type 0 where
+  pub front : List Section
+  pub back : List Section
+  pub framed : Framed bytes (front ++ s ∷ back)
+  pub number : length front ≡ n
+  pub spelled : Contents many nothing front p
+  pub within : Every (SmallSection many) front
+
+-- In a code section's content, where the first entry is of function func: the count is spelled and within its limit, and so are the entries before that of function f; the size of this one is
+-- spelled, and this is its content.
+pub record EntryOf (many : Bool) (func : ℕ) (section : List ℕ) (f : ℕ) (content : List ℕ) : Type 0 where
+  pub count : List ℕ
+  pub front : List ℕ
+  pub entry : List ℕ
+  pub back : List ℕ
+  pub total : ℕ
+  pub text : section ≡ count ++ (front ++ (entry ++ back))
+  pub counted : U32 count total
+  pub few : total ≤ limit Functions
+  pub codes : List Func
+  pub more : length codes < total
+  pub spelled : Each (SpellsEntry many) front codes
+  pub within : Every SmallCode codes
+  pub sized : Sized entry content
+  pub number : f ≡ func + length codes
+
+-- in section n, which is the code section, this is the content of function f's entry
+pub record InEntry (bytes : List ℕ) (many : Bool) (n : ℕ) (f : ℕ) (content : List ℕ) : Type 0 where
+  pub here : Section
+  pub parts : Parts
+  pub before : UpTo bytes many n here parts
+  pub code : here.0 ≡ 10
+  pub entry : EntryOf many (length (imported_funcs parts.imports)) here.1 f content
+
+-- ---- what stands there
+
+-- section n comes to this stop
+pub record SectionStops (bytes : List ℕ) (many : Bool) (n : ℕ) (stop : Stop) : Type 0 where
+  pub here : Section
+  pub parts : Parts
+  pub before : UpTo bytes many n here parts
+  pub stops : section_stops many here.0 stop here.1
+
+-- the entry of function f does
+abbrev pub EntryStops : List ℕ → Bool → ℕ → ℕ → Stop → Type 0
+EntryStops bytes many n f stop = (content : List ℕ) × InEntry bytes many n f content × CodeStops many stop content
+
+-- section n does, or in section n the entry of a function
+abbrev pub StopsAt : List ℕ → Bool → ℕ → Option ℕ → Stop → Type 0
+StopsAt bytes many n None stop = SectionStops bytes many n stop
+StopsAt bytes many n (Some f) stop = EntryStops bytes many n f stop
+
+-- an entry's content is spelled and within the limits
+abbrev pub IsCode : Bool → List ℕ → Type 0
+IsCode many content = (g : Func) × SpellsCode many content g × SmallCode g
+
+-- it is not spelled and comes to no stop: bytes that are left over are a case of it
+pub record MalformedContent (many : Bool) (content : List ℕ) : Type 0 where
+  pub unspelled : (g : Func) → SpellsCode many content g → ⊥
+  pub no_stop : (stop : Stop) → CodeStops many stop content → ⊥
+
+abbrev pub MalformedEntry : List ℕ → Bool → ℕ → ℕ → Type 0
+MalformedEntry bytes many n f = (content : List ℕ) × InEntry bytes many n f content × MalformedContent many content
+
+-- Section n is not spelled and comes to no stop; and where it is the code section, each entry whose content is reached is spelled and within the limits, so that a count or a size is misspelled or too great,
+-- or bytes are left over.
+pub record MalformedSection (bytes : List ℕ) (many : Bool) (n : ℕ) : Type 0 where
+  pub here : Section
+  pub parts : Parts
+  pub before : UpTo bytes many n here parts
+  pub unspelled : (q : Parts) → SpellsSection many parts here q → ⊥
+  pub no_stop : (stop : Stop) → section_stops many here.0 stop here.1 → ⊥
+  pub entries : here.0 ≡ 10 → (f : ℕ) (content : List ℕ) → EntryOf many (length (imported_funcs parts.imports)) here.1 f content → IsCode many content
+
+-- all sections are spelled and within the limits, and the rules on the whole file do not hold
+pub record FaultyWhole (bytes : List ℕ) (many : Bool) (n : ℕ) : Type 0 where
+  pub sections : List Section
+  pub parts : Parts
+  pub framed : Framed bytes sections
+  pub number : length sections ≡ n
+  pub spelled : Contents many nothing sections parts
+  pub within : Every (SmallSection many) sections
+  pub faulty : Rules parts → ⊥
+
+-- ---- faults
+
+-- want of memory is none
+abbrev pub Cause : List ℕ → Bool → ReadFault → Type 0
+Cause bytes many NoMemory = ⊥
+Cause bytes many NotModule = HasHeader bytes → ⊥
+Cause bytes many (Malformed n) = FirstBad bytes n ⊎ (MalformedSection bytes many n ⊎ FaultyWhole bytes many n)
+Cause bytes many (MalformedBody f) = (n : ℕ) × MalformedEntry bytes many n f
+Cause bytes many (Unsupported n None) = SectionStops bytes many n NotSupported
+Cause bytes many (Unsupported n (Some f)) = EntryStops bytes many n f NotSupported
+Cause bytes many (Limit w) = (n : ℕ) × (SectionStops bytes many n (Over w) ⊎ ((f : ℕ) × EntryStops bytes many n f (Over w)))

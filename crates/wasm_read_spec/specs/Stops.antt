@@ -1,0 +1,208 @@
+-- What bytes come to that are neither spelled within the limits nor malformed: the first bytes of a form that is known but not supported, or a quantity over its limit. All that stands
+-- before is spelled and within the limits, and leaves the item open; what follows is not looked at.
+use Rattle.std.specs.Prelude.{◌≡◌, ℕ, suc, ◌+◌, ◌<◌, ◌≤◌, ◌⊎◌, List, ◌∷◌, ◌++◌, length, Bool, true, false, IsTrue, nat_le, ◌==◌, ◌&&◌, ◌||◌}
+use Rattle.base_lists.specs.Every.{Every}
+use Rattle.wasm_bytes.specs.Joins.{Then, U32, Each, Vector, Named}
+use Rattle.wasm_tree.specs.declared.which.Which.{Which}
+use Rattle.wasm_tree.specs.declared.which.Which.TheVariants.{Types, Imports, Functions, Tables, Memories, Globals, Exports, ElementSegments, DataSegments, Nesting, Locals, Parameters, Results}
+use Rattle.wasm_tree.specs.declared.types.BlockType.{BlockType}
+use Rattle.wasm_tree.specs.declared.instr.Instr.{Instr}
+use Rattle.wasm_tree.specs.declared.module.LocalGroup.{LocalGroup}
+use Rattle.wasm_tree.specs.Limits.{limit}
+use Rattle.wasm_tree.specs.Bounds.{declared_count}
+use Rattle.wasm_read_spec.specs.declared.token.Opener.{Opener}
+use Rattle.wasm_read_spec.specs.declared.token.Opener.TheVariants as opener
+use Rattle.wasm_read_spec.specs.declared.token.Token.{Token}
+use Rattle.wasm_read_spec.specs.declared.token.Token.TheVariants.{Open, Else}
+use Rattle.wasm_read_spec.specs.Words.{Byte, Any, Few}
+use Rattle.wasm_read_spec.specs.Values.{SpellsVal, SpellsRef, SpellsFuncType, SmallFuncType, SpellsTable, SpellsLimits, SpellsConst, SpellsGlobal}
+use Rattle.wasm_read_spec.specs.Sections.{SpellsImport, SpellsGlobalDef, SpellsExport, SpellsElem, SpellsData}
+use Rattle.wasm_read_spec.specs.Tokens.{Form, plain, number, numbers, const32, const64, table, typed, access, memory, memories, with_memory, null, open', else', end', prefixed, unsupported, unknown, the_form, sub_form, SpellsToken}
+use Rattle.wasm_read_spec.specs.Bodies.{Nests, SpellsGroup, SpellsEntry, SmallCode, depth}
+
+pub data Stop : Type 0 where
+  NotSupported : Stop
+  Over : Which → Stop
+
+-- ---- words for parts that are made of others
+
+abbrev pub NoStop : Stop → List ℕ → Type 0
+NoStop stop bytes = ⊥
+
+-- a first byte that is not supported
+abbrev pub ByteStops : (ℕ → Bool) → Stop → List ℕ → Type 0
+ByteStops test stop bytes = (b : ℕ) × (rest : List ℕ) × (bytes ≡ b ∷ rest) × IsTrue (test b) × (stop ≡ NotSupported)
+
+-- behind this byte
+abbrev pub AfterStops : ℕ → (Stop → List ℕ → Type 0) → Stop → List ℕ → Type 0
+AfterStops tag next stop bytes = (rest : List ℕ) × (bytes ≡ tag ∷ rest) × next stop rest
+
+-- behind a first value, by what it is
+abbrev pub ChosenStops : {K : Type 0} → (List ℕ → K → Type 0) → (K → Stop → List ℕ → Type 0) → Stop → List ℕ → Type 0
+ChosenStops {K} P next stop bytes = (k : K) × Then (λ b. P b k) (next k stop) bytes
+
+abbrev pub BehindStops : {K : Type 0} → (List ℕ → K → Type 0) → (Stop → List ℕ → Type 0) → Stop → List ℕ → Type 0
+BehindStops P next = ChosenStops P (λ k. next)
+
+-- in the first of two values, or in the second behind a first that is within the limits
+abbrev pub BothStops : {A : Type 0} → (List ℕ → A → Type 0) → (A → Type 0) → (first second : Stop → List ℕ → Type 0) → Stop → List ℕ → Type 0
+BothStops {A} P small first second stop bytes = first stop bytes ⊎ ((x : A) × small x × Then (λ b. P b x) (second stop) bytes)
+
+abbrev pub WhenStops : Bool → (Stop → List ℕ → Type 0) → (Stop → List ℕ → Type 0) → Stop → List ℕ → Type 0
+WhenStops true P Q = P
+WhenStops false P Q = Q
+
+-- in an item of so many, behind those before it
+abbrev pub EachStops : {A : Type 0} → (List ℕ → A → Type 0) → (A → Type 0) → (Stop → List ℕ → Type 0) → ℕ → Stop → List ℕ → Type 0
+EachStops {A} P small next n stop bytes = (xs : List A) × (length xs < n) × Every small xs × Then (λ b. Each P b xs) (next stop) bytes
+
+-- in an item of a vector
+abbrev pub ListStops : {A : Type 0} → (List ℕ → A → Type 0) → (A → Type 0) → (Stop → List ℕ → Type 0) → Stop → List ℕ → Type 0
+ListStops P small next = ChosenStops U32 (EachStops P small next)
+
+-- at the count of a vector that has a limit, whether or not so many items follow; or in an item
+abbrev pub CountedStops : Which → ℕ → (Stop → List ℕ → Type 0) → Stop → List ℕ → Type 0
+CountedStops which n items stop bytes = ((limit which < n) × (stop ≡ Over which)) ⊎ ((n ≤ limit which) × items stop bytes)
+
+abbrev pub VectorStops : {A : Type 0} → Which → (List ℕ → A → Type 0) → (A → Type 0) → (Stop → List ℕ → Type 0) → Stop → List ℕ → Type 0
+VectorStops which P small next = ChosenStops U32 (λ n. CountedStops which n (EachStops P small next n))
+
+-- ---- types and constant expressions
+
+-- f32, f64 and v128
+unfoldable pub is_unsupported_val : ℕ → Bool
+is_unsupported_val b = nat_le 0x7B b && nat_le b 0x7D
+
+abbrev pub ValStops : Stop → List ℕ → Type 0
+ValStops = ByteStops is_unsupported_val
+
+abbrev pub FuncTypeStops : Stop → List ℕ → Type 0
+FuncTypeStops = AfterStops 0x60 (BothStops (Vector SpellsVal) (Few (limit Parameters) Any) (VectorStops Parameters SpellsVal Any ValStops) (VectorStops Results SpellsVal Any ValStops))
+
+-- f32.const, f64.const and what begins with FD
+unfoldable pub is_unsupported_const : ℕ → Bool
+is_unsupported_const b = (b == 0x43) || ((b == 0x44) || (b == 0xFD))
+
+abbrev pub ConstStops : Stop → List ℕ → Type 0
+ConstStops = ByteStops is_unsupported_const
+
+-- ---- what the sections hold
+
+-- behind the byte that tells what is imported: the value type of a global, which stands first there
+unfoldable pub import_stops : ℕ → Stop → List ℕ → Type 0
+import_stops k = WhenStops (k == 0x00) NoStop (WhenStops (k == 0x01) NoStop (WhenStops (k == 0x02) NoStop (WhenStops (k == 0x03) ValStops NoStop)))
+
+abbrev pub ImportStops : Stop → List ℕ → Type 0
+ImportStops = BehindStops Named (BehindStops Named (ChosenStops Byte import_stops))
+
+abbrev pub GlobalDefStops : Stop → List ℕ → Type 0
+GlobalDefStops = BothStops SpellsGlobal Any ValStops ConstStops
+
+abbrev pub ItemsStop : Stop → List ℕ → Type 0
+ItemsStop = ListStops SpellsConst Any ConstStops
+
+-- an offset, or an item that is a constant expression
+unfoldable pub elem_stops : ℕ → Stop → List ℕ → Type 0
+elem_stops n =
+    WhenStops (n == 0) ConstStops
+    (WhenStops (n == 1) NoStop
+    (WhenStops (n == 2) (BehindStops U32 ConstStops)
+    (WhenStops (n == 3) NoStop
+    (WhenStops (n == 4) (BothStops SpellsConst Any ConstStops ItemsStop)
+    (WhenStops (n == 5) (BehindStops SpellsRef ItemsStop)
+    (WhenStops (n == 6) (BehindStops U32 (BothStops SpellsConst Any ConstStops (BehindStops SpellsRef ItemsStop)))
+    (WhenStops (n == 7) (BehindStops SpellsRef ItemsStop)
+    NoStop)))))))
+
+abbrev pub ElemStops : Stop → List ℕ → Type 0
+ElemStops = ChosenStops U32 elem_stops
+
+unfoldable pub data_stops : ℕ → Stop → List ℕ → Type 0
+data_stops n = WhenStops (n == 0) ConstStops (WhenStops (n == 1) NoStop (WhenStops (n == 2) (BehindStops U32 ConstStops) NoStop))
+
+abbrev pub DataStops : Stop → List ℕ → Type 0
+DataStops = ChosenStops U32 data_stops
+
+-- ---- code
+
+-- a group of locals behind so many: their sum is over the limit, or the value type is not supported
+abbrev pub GroupStops : ℕ → Stop → List ℕ → Type 0
+GroupStops sum = ChosenStops U32 (λ n stop bytes. ((limit Locals < sum + n) × (stop ≡ Over Locals)) ⊎ ((sum + n ≤ limit Locals) × ValStops stop bytes))
+
+abbrev pub GroupsStop : ℕ → Stop → List ℕ → Type 0
+GroupsStop n stop bytes = (gs : List LocalGroup) × (length gs < n) × (declared_count gs ≤ limit Locals) × Then (λ b. Each SpellsGroup b gs) (GroupStops (declared_count gs) stop) bytes
+
+abbrev pub LocalsStop : Stop → List ℕ → Type 0
+LocalsStop = ChosenStops U32 GroupsStop
+
+-- what follows an opcode of this form
+abbrev pub SimpleStops : Form → Stop → List ℕ → Type 0
+SimpleStops (plain i) = NoStop
+SimpleStops (number f) = NoStop
+SimpleStops (numbers f) = NoStop
+SimpleStops const32 = NoStop
+SimpleStops const64 = NoStop
+SimpleStops table = NoStop
+SimpleStops typed = ListStops SpellsVal Any ValStops
+SimpleStops (access f) = NoStop
+SimpleStops (memory f) = NoStop
+SimpleStops (memories f) = NoStop
+SimpleStops (with_memory f) = NoStop
+SimpleStops null = NoStop
+SimpleStops (open' k) = ValStops
+SimpleStops else' = NoStop
+SimpleStops end' = NoStop
+SimpleStops prefixed = NoStop
+SimpleStops unsupported = λ stop bytes. stop ≡ NotSupported
+SimpleStops unknown = NoStop
+
+abbrev pub FollowsStop : Form → Stop → List ℕ → Type 0
+FollowsStop prefixed = ChosenStops U32 (λ n. SimpleStops (sub_form n))
+FollowsStop f = SimpleStops f
+
+-- a token whose first bytes are those of an unsupported one
+abbrev pub TokenStops : Stop → List ℕ → Type 0
+TokenStops = ChosenStops Byte (λ b. FollowsStop (the_form b))
+
+-- Tokens that leave a sequence open, in which `d` blocks may be open at once, and in whose innermost open block `e` more: they nest; or behind such as nest stand a
+-- block, loop or if that they leave open, or an if whose else they leave open.
+pub data LeaveOpen : (d : ℕ) → List Token → (e : ℕ) → Type 0 where
+  nested : {d : ℕ} {ts : List Token} {is : List Instr} → Nests ts is → depth is ≤ d → LeaveOpen d ts d
+  in_block : {d e : ℕ} {ts us : List Token} {is : List Instr} (k : Opener) (ty : BlockType) → Nests ts is → depth is ≤ suc d → LeaveOpen d us e → LeaveOpen (suc d) (ts ++ Open k ty ∷ us) e
+  in_else : {d e : ℕ} {ts arm us : List Token} {is js : List Instr} (ty : BlockType) → Nests ts is → depth is ≤ suc d → Nests arm js → depth js ≤ d → LeaveOpen d us e →
+      LeaveOpen (suc d) (ts ++ Open opener.If ty ∷ (arm ++ Else ∷ us)) e
+
+-- a block, loop or if that would be one too many
+abbrev pub NestingStops : Bool → ℕ → Stop → List ℕ → Type 0
+NestingStops many e stop bytes = (k : Opener) × (ty : BlockType) × Then (λ b. SpellsToken many b (Open k ty)) Any bytes × (e ≡ 0) × (stop ≡ Over Nesting)
+
+-- tokens that leave the body open, and then one that is not supported or nests too deep
+abbrev pub BodyStops : Bool → ℕ → Stop → List ℕ → Type 0
+BodyStops many d stop bytes = (ts : List Token) × (e : ℕ) × LeaveOpen d ts e × Then (λ b. Each (SpellsToken many) b ts) (λ b. TokenStops stop b ⊎ NestingStops many e stop b) bytes
+
+-- what is inside an entry
+abbrev pub SmallLocals : List LocalGroup → Type 0
+SmallLocals gs = declared_count gs ≤ limit Locals
+
+abbrev pub CodeStops : Bool → Stop → List ℕ → Type 0
+CodeStops many = BothStops (Vector SpellsGroup) SmallLocals LocalsStop (BodyStops many (limit Nesting))
+
+-- ---- sections
+
+-- the content of a section with this id; in the code section the count of the entries
+unfoldable pub section_stops : Bool → ℕ → Stop → List ℕ → Type 0
+section_stops many id =
+    WhenStops (id == 0) NoStop
+    (WhenStops (id == 1) (VectorStops Types SpellsFuncType SmallFuncType FuncTypeStops)
+    (WhenStops (id == 2) (VectorStops Imports SpellsImport Any ImportStops)
+    (WhenStops (id == 3) (VectorStops Functions U32 Any NoStop)
+    (WhenStops (id == 4) (VectorStops Tables SpellsTable Any NoStop)
+    (WhenStops (id == 5) (VectorStops Memories SpellsLimits Any NoStop)
+    (WhenStops (id == 6) (VectorStops Globals SpellsGlobalDef Any GlobalDefStops)
+    (WhenStops (id == 7) (VectorStops Exports SpellsExport Any NoStop)
+    (WhenStops (id == 8) NoStop
+    (WhenStops (id == 9) (VectorStops ElementSegments SpellsElem Any ElemStops)
+    (WhenStops (id == 10) (VectorStops Functions (SpellsEntry many) SmallCode NoStop)
+    (WhenStops (id == 11) (VectorStops DataSegments SpellsData Any DataStops)
+    (WhenStops (id == 12) NoStop
+    NoStop))))))))))))

@@ -1,0 +1,8 @@
+-- What the locals in memory stand for.
+use Rattle.std.specs.Prelude.{List}
+use Rattle.wasm_tree.specs.declared.types.ValType.{ValType}
+use Rattle.wasm_valid_bodies.specs.declared.locals.Locals.{Locals}
+use Rattle.wasm_valid_bodies.specs.Groups.{locals_of}
+
+abbrev pub local_types : Locals → List ValType
+local_types l = locals_of l.params.now l.groups.now

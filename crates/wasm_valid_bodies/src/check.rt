@@ -1,0 +1,138 @@
+// The checker of bodies.
+
+ghost use Rattle.std.specs.Prelude.{◌≡◌, ◌↔◌, ◌∷◌, [], IfOk, IsTrue};
+ghost use Rattle.std.specs.Bool.{OnTrue};
+ghost use Rattle.wasm_valid_bodies.specs.Typing.{Fits, WellTyped};
+ghost use Rattle.wasm_valid_bodies.specs.Tracking.{Follows};
+ghost use Rattle.wasm_valid_bodies.specs.Kept.{stack_of, beneath, IsBack};
+ghost use Rattle.wasm_valid_bodies.specs.Labels.{label_list};
+ghost use Rattle.wasm_valid_bodies.specs.ScopeWords.{context_of};
+
+use crate::kept::Kept;
+use crate::labels::Labels;
+use crate::plain::plain;
+use crate::scope::{Scope, Shape, shape_of};
+use std::alloc::{AllocError, Global};
+use wasm_tree::{Instr, ValType};
+
+// Whether an instruction can follow. Where it can, the operands become those after it.
+#[cycle(body)]
+fn step<'a>(
+    alloc: Global,
+    scope: &Scope<'a>,
+    labels: &mut Labels<'a>,
+    kept: &mut Kept,
+    instr: &'a Instr,
+) -> Result<bool, AllocError>
+    ensures typed { IfOk result (λ ok. Follows (Fits (context_of scope.now (label_list labels.old)) instr.now) (stack_of kept.old) kept.old.any_below (stack_of kept.new) kept.new.any_below ok) }
+    ensures labels { IfOk result (λ ok. OnTrue ok (label_list labels.new ≡ label_list labels.old)) }
+    ensures beneath { IfOk result (λ ok. OnTrue ok (beneath kept.new ≡ beneath kept.old)) }
+{
+    match instr {
+        Instr::Block(block, body) => {
+            let body = body.as_slice();
+            let Some(shape) = shape_of(scope.types, block) else {
+                return Ok(false);
+            };
+            if !is_well_typed(alloc, scope, labels, kept, shape.results, shape, body)? {
+                return Ok(false);
+            }
+            kept.gives(shape.params, shape.results)
+        }
+        Instr::Loop(block, body) => {
+            let body = body.as_slice();
+            let Some(shape) = shape_of(scope.types, block) else {
+                return Ok(false);
+            };
+            if !is_well_typed(alloc, scope, labels, kept, shape.params, shape, body)? {
+                return Ok(false);
+            }
+            kept.gives(shape.params, shape.results)
+        }
+        Instr::If(block, body, other) => {
+            let body = body.as_slice();
+            let other = other.as_slice();
+            let Some(shape) = shape_of(scope.types, block) else {
+                return Ok(false);
+            };
+            if !is_well_typed(alloc, scope, labels, kept, shape.results, shape, body)? {
+                return Ok(false);
+            }
+            if !is_well_typed(alloc, scope, labels, kept, shape.results, shape, other)? {
+                return Ok(false);
+            }
+            kept.gives_over(shape.params, ValType::I32, shape.results)
+        }
+        _ => plain(alloc, scope, labels, kept, instr),
+    }
+}
+
+// Whether a body under one more label takes the parameters of the shape and leaves its results. Where it does, the operands and the labels are
+// those that were there before.
+#[cycle(body)]
+fn is_well_typed<'a>(
+    alloc: Global,
+    scope: &Scope<'a>,
+    labels: &mut Labels<'a>,
+    kept: &mut Kept,
+    label: &'a [ValType],
+    shape: Shape<'a>,
+    body: &'a [Instr],
+) -> Result<bool, AllocError>
+    ensures typed { IfOk result (λ ok. IsTrue ok ↔ WellTyped (context_of scope.now (label.now ∷ label_list labels.old)) body.now shape.entry.params.now shape.entry.results.now) }
+    ensures labels { IfOk result (λ ok. OnTrue ok (label_list labels.new ≡ label_list labels.old)) }
+    ensures kept { IfOk result (λ ok. OnTrue ok (IsBack kept.old kept.new)) }
+{
+    labels.open(label)?;
+    let outer = kept.enter(shape.params)?;
+    for instr in body {
+        if !step(alloc, scope, labels, kept, instr)? {
+            return Ok(false);
+        }
+    }
+    labels.close();
+    let ends = kept.ends(shape.results);
+    kept.leave(outer);
+    Ok(ends)
+}
+
+/// The stacks of the checker: made once, and used again from body to body.
+#[derive(Drop)]
+pub struct Stacks<'a> {
+    labels: Labels<'a>,
+    kept: Kept,
+}
+
+impl<'a> Stacks<'a> {
+    /// Stacks with no label and no operand. Memory is taken only when bodies are checked.
+    pub fn new(alloc: Global) -> Stacks<'a>
+        ensures labels { label_list result.labels ≡ [] }
+        ensures operands { stack_of result.kept ≡ [] }
+    {
+        Stacks {
+            labels: Labels::new(alloc),
+            kept: Kept::new(alloc),
+        }
+    }
+}
+
+/// Whether the body of a function leaves exactly the function's results (WebAssembly Core 2.0, sections 3.3.9 and 3.4.1). The recursion is as
+/// deep as the blocks are nested. What the stacks hold before has no meaning. Its only error is want of memory.
+pub fn is_well_typed_body<'a>(
+    alloc: Global,
+    scope: &Scope<'a>,
+    stacks: &mut Stacks<'a>,
+    body: &'a [Instr],
+) -> Result<bool, AllocError>
+    ensures { IfOk result (λ ok. IsTrue ok ↔ WellTyped (context_of scope.now (scope.now.results.now ∷ [])) body.now [] scope.now.results.now) }
+{
+    let labels = &mut stacks.labels;
+    let kept = &mut stacks.kept;
+    labels.clear();
+    kept.clear();
+    let shape = Shape {
+        params: &[],
+        results: scope.results,
+    };
+    is_well_typed(alloc, scope, labels, kept, scope.results, shape, body)
+}

@@ -1,0 +1,115 @@
+// Tables and element segments (WebAssembly Core 2.0, section 3.3.6).
+
+ghost use Rattle.std.specs.Prelude.{◌≡◌, [], option_copied, IfOk};
+ghost use Rattle.wasm_tree.specs.declared.instr.Instr.TheVariants.{TableGet, TableSet, TableSize, TableGrow, TableFill, TableCopy, TableInit, ElemDrop};
+ghost use Rattle.wasm_valid_bodies.specs.Typing.{both, effect_of};
+ghost use Rattle.wasm_valid_bodies.specs.Kept.{Answers};
+ghost use Rattle.wasm_valid_bodies.specs.ScopeWords.{context_of};
+
+use crate::kept::Kept;
+use crate::scope::Scope;
+use std::alloc::AllocError;
+use wasm_tree::{RefType, ValType};
+
+// Whether both are there and the same.
+fn both(left: Option<&RefType>, right: Option<&RefType>) -> bool
+    ensures { result ≡ both (option_copied left.entry) (option_copied right.entry) }
+{
+    match (left, right) {
+        (Some(RefType::Func), Some(RefType::Func)) => true,
+        (Some(RefType::Extern), Some(RefType::Extern)) => true,
+        _ => false,
+    }
+}
+
+/// `table.get`.
+pub fn table_get(scope: &Scope<'_>, kept: &mut Kept, table: u32) -> Result<bool, AllocError>
+    ensures { IfOk result (λ ok. Answers (effect_of (context_of scope.now []) (TableGet table)) kept.old kept.new ok) }
+{
+    match scope.tables.get(table as usize) {
+        Some(ty) => kept.gives(&[ValType::I32], &[ValType::Ref(*ty)]),
+        None => Ok(false),
+    }
+}
+
+/// `table.set`.
+pub fn table_set(scope: &Scope<'_>, kept: &mut Kept, table: u32) -> Result<bool, AllocError>
+    ensures { IfOk result (λ ok. Answers (effect_of (context_of scope.now []) (TableSet table)) kept.old kept.new ok) }
+{
+    match scope.tables.get(table as usize) {
+        Some(ty) => kept.gives(&[ValType::I32, ValType::Ref(*ty)], &[]),
+        None => Ok(false),
+    }
+}
+
+/// `table.size`.
+pub fn table_size(scope: &Scope<'_>, kept: &mut Kept, table: u32) -> Result<bool, AllocError>
+    ensures { IfOk result (λ ok. Answers (effect_of (context_of scope.now []) (TableSize table)) kept.old kept.new ok) }
+{
+    match scope.tables.get(table as usize) {
+        Some(_) => kept.gives(&[], &[ValType::I32]),
+        None => Ok(false),
+    }
+}
+
+/// `table.grow`.
+pub fn table_grow(scope: &Scope<'_>, kept: &mut Kept, table: u32) -> Result<bool, AllocError>
+    ensures { IfOk result (λ ok. Answers (effect_of (context_of scope.now []) (TableGrow table)) kept.old kept.new ok) }
+{
+    match scope.tables.get(table as usize) {
+        Some(ty) => kept.gives(&[ValType::Ref(*ty), ValType::I32], &[ValType::I32]),
+        None => Ok(false),
+    }
+}
+
+/// `table.fill`.
+pub fn table_fill(scope: &Scope<'_>, kept: &mut Kept, table: u32) -> Result<bool, AllocError>
+    ensures { IfOk result (λ ok. Answers (effect_of (context_of scope.now []) (TableFill table)) kept.old kept.new ok) }
+{
+    match scope.tables.get(table as usize) {
+        Some(ty) => kept.gives(&[ValType::I32, ValType::Ref(*ty), ValType::I32], &[]),
+        None => Ok(false),
+    }
+}
+
+/// `table.copy`.
+pub fn table_copy(
+    scope: &Scope<'_>,
+    kept: &mut Kept,
+    to: u32,
+    from: u32,
+) -> Result<bool, AllocError>
+    ensures { IfOk result (λ ok. Answers (effect_of (context_of scope.now []) (TableCopy to from)) kept.old kept.new ok) }
+{
+    let same = both(
+        scope.tables.get(to as usize),
+        scope.tables.get(from as usize),
+    );
+    kept.gives_where(same, &[ValType::I32, ValType::I32, ValType::I32], &[])
+}
+
+/// `table.init`.
+pub fn table_init(
+    scope: &Scope<'_>,
+    kept: &mut Kept,
+    segment: u32,
+    table: u32,
+) -> Result<bool, AllocError>
+    ensures { IfOk result (λ ok. Answers (effect_of (context_of scope.now []) (TableInit segment table)) kept.old kept.new ok) }
+{
+    let same = both(
+        scope.elems.get(segment as usize),
+        scope.tables.get(table as usize),
+    );
+    kept.gives_where(same, &[ValType::I32, ValType::I32, ValType::I32], &[])
+}
+
+/// `elem.drop`.
+pub fn elem_drop(scope: &Scope<'_>, kept: &mut Kept, segment: u32) -> Result<bool, AllocError>
+    ensures { IfOk result (λ ok. Answers (effect_of (context_of scope.now []) (ElemDrop segment)) kept.old kept.new ok) }
+{
+    match scope.elems.get(segment as usize) {
+        Some(_) => kept.gives(&[], &[]),
+        None => Ok(false),
+    }
+}

@@ -1,0 +1,94 @@
+-- Spellings of numbers, vectors and sized contents by their plain texts.
+use Rattle.std.proofs.Common.{◌≡◌, ℕ, ◌<◌, ◌≤◌, ◌^◌, List, [], ◌∷◌, ◌++◌, map, length, length-append, true, ℤ, pos, negsuc, refl, sym, ap, ◌∙◌, subst, arith, append_assoc, ⊎_elim}
+use Rattle.std.proofs.lemmas.Bool.{ltb-true, lt-ltb, le-ltb, cases_lt}
+use Rattle.std.proofs.lemmas.Int.{ints}
+use Rattle.std.proofs.lemmas.List.{length-map}
+use Rattle.wasm_bytes.specs.Numbers.{Signed, IsWithin}
+use Rattle.wasm_bytes.specs.Writing.{u32_text, s32_text, s33_text, s64_text, sized_text, unsigned_text}
+use Rattle.wasm_bytes.specs.Joins.{U32, Each, Vector, Sized}
+use Rattle.wasm_bytes.proofs.Shortest.{u32_shortest}
+use Rattle.wasm_bytes.proofs.SignedShortest.{signed_spells}
+use Rattle.wasm_write_spec.specs.PlainValues.{each_text, vector_text}
+use Rattle.base_lists.specs.Every.{Every}
+use Rattle.wasm_write_proof.specs.Ranges.{small, small_signed}
+
+pub below : (n : ℕ) → small n ≡ true → n < 2 ^ 32
+below n h = ltb-true n (2 ^ 32) h
+
+pub u32_spells : (n : ℕ) → n < 2 ^ 32 → U32 (u32_text n) n
+u32_spells n h = (u32_shortest n h).spells
+
+pub index_spells : (n : ℕ) → n < 2 ^ 32 → Signed 33 (s33_text (pos n)) (pos n)
+index_spells n h = signed_spells 5 33 (pos n) (omega arith) (omega arith) (omega (arith, ints), omega (arith, ints))
+
+pub s32_spells : (z : ℤ) → IsWithin 32 z → Signed 32 (s32_text z) z
+s32_spells z w = signed_spells 5 32 z (omega arith) (omega arith) w
+
+pub s64_spells : (z : ℤ) → IsWithin 64 z → Signed 64 (s64_text z) z
+s64_spells z w = signed_spells 10 64 z (omega arith) (omega arith) w
+
+pub within_32 : (z : ℤ) → small_signed 31 z ≡ true → IsWithin 32 z
+within_32 (pos n) h = let k = ltb-true n (2 ^ 31) h in (omega (arith, ints), omega (arith, ints))
+within_32 (negsuc n) h = let k = ltb-true n (2 ^ 31) h in (omega (arith, ints), omega (arith, ints))
+
+pub within_64 : (z : ℤ) → small_signed 63 z ≡ true → IsWithin 64 z
+within_64 (pos n) h = let k = ltb-true n (2 ^ 63) h in (omega (arith, ints), omega (arith, ints))
+within_64 (negsuc n) h = let k = ltb-true n (2 ^ 63) h in (omega (arith, ints), omega (arith, ints))
+
+-- a small number in one byte
+pub flag_spells : (n : ℕ) → n < 128 → U32 (n ∷ []) n
+flag_spells n h = let k : n < 2 ^ 32 = omega arith in (h, rw (lt-ltb n (2 ^ 32) k))
+
+pub u32_some : (n : ℕ) → 0 < length (u32_text n)
+unfolding unsigned_text
+u32_some n = ⊎_elim (λ lt. rw (lt-ltb n 128 lt) (omega arith)) (λ le. rw (le-ltb n 128 le) (omega arith)) (cases_lt n 128)
+
+pub sized_spells : (content : List ℕ) → length content < 2 ^ 32 → Sized (sized_text content) content
+sized_spells content h = (u32_text (length content), u32_spells (length content) h, refl)
+
+-- ---- items one after another
+
+pub each_spells : {A : Type 0} (spells : List ℕ → A → Type 0) (text : A → List ℕ) (xs : List A) → Every (λ x. spells (text x) x) xs → Each spells (each_text text xs) xs
+each_spells spells text [] h = refl
+each_spells spells text (x ∷ xs) h = (text x, each_text text xs, h.0, each_spells spells text xs h.1, refl)
+
+pub each_mapped : {A B : Type 0} (f : A → B) (spells : List ℕ → B → Type 0) (text : A → List ℕ) (xs : List A) → Every (λ x. spells (text x) (f x)) xs → Each spells (each_text text xs) (map f xs)
+each_mapped f spells text [] h = refl
+each_mapped f spells text (x ∷ xs) h = (text x, each_text text xs, h.0, each_mapped f spells text xs h.1, refl)
+
+pub each_join : {A : Type 0} (spells : List ℕ → A → Type 0) (xs ys : List A) (a b : List ℕ) → Each spells a xs → Each spells b ys → Each spells (a ++ b) (xs ++ ys)
+each_join spells [] ys a b one two = rw one two
+each_join spells (x ∷ xs) ys a b one two = (one.0, one.1 ++ b, one.2, each_join spells xs ys one.1 b one.3 two, ap (λ t. t ++ b) one.4 ∙ append_assoc one.0 one.1 b)
+
+-- items with a text of at least one byte each are no more than the bytes
+pub count_below : {A : Type 0} (text : A → List ℕ) (xs : List A) → ((x : A) → 0 < length (text x)) → length xs ≤ length (each_text text xs)
+count_below text [] some = omega arith
+count_below text (x ∷ xs) some = let h = count_below text xs some in let k = some x in omega (arith, h, k, length-append (text x) (each_text text xs))
+
+pub vector_count : {A : Type 0} (text : A → List ℕ) (xs : List A) → ((x : A) → 0 < length (text x)) → length (vector_text text xs) < 2 ^ 32 → length xs < 2 ^ 32
+vector_count text xs some h = let k = count_below text xs some in omega (arith, h, k, length-append (u32_text (length xs)) (each_text text xs))
+
+pub vector_spells : {A : Type 0} (spells : List ℕ → A → Type 0) (text : A → List ℕ) (xs : List A) → ((x : A) → 0 < length (text x)) → length (vector_text text xs) < 2 ^ 32 →
+    Every (λ x. spells (text x) x) xs → Vector spells (vector_text text xs) xs
+vector_spells spells text xs some few h = (u32_text (length xs), each_text text xs, u32_spells (length xs) (vector_count text xs some few), each_spells spells text xs h, refl)
+
+pub vector_mapped : {A B : Type 0} (f : A → B) (spells : List ℕ → B → Type 0) (text : A → List ℕ) (xs : List A) → ((x : A) → 0 < length (text x)) → length (vector_text text xs) < 2 ^ 32 →
+    Every (λ x. spells (text x) (f x)) xs → Vector spells (vector_text text xs) (map f xs)
+vector_mapped f spells text xs some few h =
+    (u32_text (length xs), each_text text xs, subst (U32 (u32_text (length xs))) (sym (length-map xs f)) (u32_spells (length xs) (vector_count text xs some few)), each_mapped f spells text xs h, refl)
+
+-- ---- what holds of every item
+
+pub every_with : {A : Type 0} (P Q : A → Type 0) (xs : List A) → ((x : A) → P x → Q x) → Every P xs → Every Q xs
+every_with P Q [] f h = tt
+every_with P Q (x ∷ xs) f h = (f x h.0, every_with P Q xs f h.1)
+
+pub every_of : {A : Type 0} (Q : A → Type 0) (xs : List A) → ((x : A) → Q x) → Every Q xs
+every_of Q [] f = tt
+every_of Q (x ∷ xs) f = (f x, every_of Q xs f)
+
+-- where each is known, and each text is part of a short one
+pub every_short : {A : Type 0} (P Q : A → Type 0) (text : A → List ℕ) (xs : List A) → ((x : A) → P x → length (text x) < 2 ^ 32 → Q x) → length (each_text text xs) < 2 ^ 32 → Every P xs → Every Q xs
+every_short P Q text [] f few h = tt
+every_short P Q text (x ∷ xs) f few h =
+    (f x h.0 (omega (arith, few, length-append (text x) (each_text text xs))), every_short P Q text xs f (omega (arith, few, length-append (text x) (each_text text xs))) h.1)

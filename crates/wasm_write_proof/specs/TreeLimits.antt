@@ -1,0 +1,19 @@
+-- What a file may have is within its limits in a tree: how many things there are of each kind, the parameters and results of types, and the locals and the nesting of functions.
+use Rattle.std.specs.Prelude.{◌≤◌, length}
+use Rattle.wasm_tree.specs.declared.module.Module.{Module}
+use Rattle.wasm_tree.specs.declared.which.Which.TheVariants.{Types, Imports, Functions, Tables, Memories, Globals, Exports, ElementSegments, DataSegments}
+use Rattle.wasm_tree.specs.Limits.{limit}
+use Rattle.wasm_read_spec.specs.Words.{Few}
+use Rattle.wasm_read_spec.specs.Values.{SmallFuncType}
+use Rattle.wasm_read_spec.specs.Bodies.{SmallCode}
+
+pub record WithinLimits (m : Module) : Type 0 where
+  pub types : Few (limit Types) SmallFuncType m.types
+  pub imports : length m.imports ≤ limit Imports
+  pub funcs : Few (limit Functions) SmallCode m.funcs
+  pub tables : length m.tables ≤ limit Tables
+  pub mems : length m.mems ≤ limit Memories
+  pub globals : length m.globals ≤ limit Globals
+  pub exports : length m.exports ≤ limit Exports
+  pub elems : length m.elems ≤ limit ElementSegments
+  pub datas : length m.datas ≤ limit DataSegments
