@@ -6,12 +6,12 @@ use Rattle.wasm_meaning.specs.Outcomes.{Outcome, Gives, Traps, IllTyped, bind, o
 use Rattle.wasm_meaning.specs.State.{Val, Inst, Store, Frame, Entry, Running, Caller, Host, Starter, Act, Ends, Next, Ran, CallsOwn, WaitsGrowth, CallsPlaceholder, EndsCall}
 use Rattle.wasm_meaning.specs.Values.{pop_typed}
 use Rattle.wasm_meaning.specs.Step.{act, give, perform, step, to_mark}
-use Rattle.wasm_meaning.specs.Run.{Run, Out, trapped_to, made, transition_at, after, tick}
+use Rattle.wasm_meaning.specs.Run.{Run, Out, trapped_to, made, transition_at, run_after, tick}
 use Rattle.wasm_meaning.proofs.Outcomes.{all_at}
 use Rattle.index_remap.specs.Related.{Pairing, OneToOne, ResRel, done, trap, wrong, ListRel, ValRel, FrameRel, EntryRel, running, mark, opening, waiting, ended, growing, goes, calls, asks_grow, ends, ActRel, NotListed, NextRel}
 use Rattle.index_remap.specs.RelatedRuns.{RunRel}
 use Rattle.index_remap.specs.Laws.{EntriesKnown}
-use Rattle.index_remap.specs.ListedRuns.{TickSkips, StepsTogether}
+use Rattle.index_remap.specs.ListedRuns.{TickSkips, RunsStepTogether}
 use Rattle.index_remap.specs.Trampolines.{passing, WithPassing, nil, cons, through, FramesBetween, AnsweredInTwo, HaveTypes}
 use Rattle.index_remap.specs.Related as related
 use Rattle.index_remap.proofs.Rel.{written, bind_rel_is, length_rel, PairRel}
@@ -35,7 +35,7 @@ length_onto : (xs ys : List Val) → length (onto xs ys) ≡ length xs + length 
 length_onto [] ys = omega arith
 length_onto (x ∷ xs) ys = let l = length_onto xs (x ∷ ys) in omega (arith, l)
 
--- values of these types that were pushed one after the other are those on top
+-- values of these types that were pushed one run_after the other are those on top
 pub pop_pushed : {ts : List ValType} {ws : List Val} (vs : List Val) → HaveTypes ts ws → pop_typed ts (onto ws vs) ≡ Gives (ws, vs)
 pop_pushed vs related.nil = refl
 pop_pushed vs (related.cons {b = w} typed more) = rw (pop_pushed (w ∷ vs) more, typed) refl
@@ -48,7 +48,7 @@ passes_on t inst locals ts ws ys typed =
 -- ---- the runs ----
 
 -- below a frame of the run
-after_past : (r : Run) (f : Frame) (es : List Entry) (o : Outcome Next) → r.entries ≡ Running f ∷ es → after r o ≡ after (record r { entries = es }) o
+after_past : (r : Run) (f : Frame) (es : List Entry) (o : Outcome Next) → r.entries ≡ Running f ∷ es → run_after r o ≡ run_after (record r { entries = es }) o
 after_past r f es (Gives (Ran s xs)) e = refl
 after_past r f es (Gives (CallsOwn p t vs s xs)) e = refl
 after_past r f es (Gives (WaitsGrowth g m n s xs)) e = refl
@@ -69,7 +69,7 @@ after_past r f es IllTyped e = ap (λ xs. trapped_to r (to_mark xs)) e ∙ same 
     same Traps = refl
     same IllTyped = refl
 
-running_tick : (r : Run) (f : Frame) (es : List Entry) → r.entries ≡ Running f ∷ es → tick r ≡ after r (step r.store r.entries)
+running_tick : (r : Run) (f : Frame) (es : List Entry) → r.entries ≡ Running f ∷ es → tick r ≡ run_after r (step r.store r.entries)
 running_tick r f es e = ap (λ xs. made (transition_at r xs)) e
 
 one_event : (r : Run) (o : Out) → tick r ≡ o → events_of tick r 1 ≡ noted o.1 []
@@ -172,11 +172,11 @@ module _ (R : Pairing) (apart : OneToOne R) where
         let q' : Run = record q { entries = ys } in
         let q1 : Run = record q { entries = Running held ∷ ys } in
         let h' : RunRel R (FramesBetween R) (FramesBetween R) r' q' = record { store = h.store; entries = below; phase = h.phase; shown = h.shown; view = h.view; owned = h.owned; moves = h.moves } in
-        let o : StepsTogether R (FramesBetween R) r' q' (after r' (give r.store us xs)) (after q' (give q.store ws ys)) = given_together R apart (WithPassing R) between r' q' h' v in
-        let one_is : tick r ≡ after r' (give r.store us xs) = running_tick r f xs e ∙ ap (after r) first ∙ after_past r f xs (give r.store us xs) e in
-        let silent : tick q ≡ (q1, None) = running_tick q g (Running k ∷ ys) i ∙ ap (after q) second in
-        let two_is : tick q1 ≡ after q' (give q.store ws ys) = ap (after q1) last ∙ after_past q1 held ys (give q.store ws ys) refl in
-        let end = two_states q q1 (after q' (give q.store ws ys)) silent two_is in
+        let o : RunsStepTogether R (FramesBetween R) r' q' (run_after r' (give r.store us xs)) (run_after q' (give q.store ws ys)) = given_together R apart (WithPassing R) between r' q' h' v in
+        let one_is : tick r ≡ run_after r' (give r.store us xs) = running_tick r f xs e ∙ ap (run_after r) first ∙ after_past r f xs (give r.store us xs) e in
+        let silent : tick q ≡ (q1, None) = running_tick q g (Running k ∷ ys) i ∙ ap (run_after q) second in
+        let two_is : tick q1 ≡ run_after q' (give q.store ws ys) = ap (run_after q1) last ∙ after_past q1 held ys (give q.store ws ys) refl in
+        let end = two_states q q1 (run_after q' (give q.store ws ys)) silent two_is in
         record {
           further = 1;
           bound = omega arith;

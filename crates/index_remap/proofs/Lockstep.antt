@@ -6,7 +6,7 @@ use Rattle.wasm_meaning.specs.Run.{Run, tick}
 use Rattle.index_remap.specs.Related.{Pairing, OneToOne, ResRel, done, wrong, ListRel, nil, cons, FrameRel, EntryRel, running, mark, opening, waiting, ended, growing, NextRel}
 use Rattle.index_remap.specs.RelatedRuns.{RunRel}
 use Rattle.index_remap.specs.Laws.{EntryByEntry, EntriesKnown}
-use Rattle.index_remap.specs.ListedRuns.{TickSkips, StepsTogether}
+use Rattle.index_remap.specs.ListedRuns.{TickSkips, RunsStepTogether}
 use Rattle.index_remap.proofs.Rel.{written, bind_rel_is, PairRel}
 use Rattle.index_remap.proofs.StepsAgree.{TopView, top_none, top_mark, top_opening, top_waiting, top_ended, top_growing, top_running, act_rel}
 use Rattle.index_remap.proofs.Shapes.{Shape, Held, unchanged, perform_rel, together}
@@ -50,5 +50,5 @@ module _ (R : Pairing) (apart : OneToOne R) where
     step_rel (cons (running p) e) skips known =
         bind_rel_is (act_rel R (written apart) h.store p skips known) (λ x _ is a. perform_rel R apart (ListRel (EntryRel R)) entries r.phase r.store q.store h.store a (unchanged R apart (ListRel (EntryRel R)) entries r q h (cons (running p) e)) (skips x is) (λ _. e))
 
-    pub ticks_together : TickSkips R r r.entries → EntriesKnown R r.entries q.entries → StepsTogether R (EntryByEntry R) r q (tick r) (tick q)
+    pub ticks_together : TickSkips R r r.entries → EntriesKnown R r.entries q.entries → RunsStepTogether R (EntryByEntry R) r q (tick r) (tick q)
     ticks_together skips known = together R apart (ListRel (EntryRel R)) entries r q h skips (step_rel h.entries skips known)

@@ -16,7 +16,7 @@ use Rattle.wasm_meaning.specs.Step.{give, enter_at, step}
 use Rattle.wasm_meaning.specs.Linking.{same_text}
 use Rattle.wasm_meaning.specs.Environment.{Shown, Number, Null, OwnFunc, ExternNumber, Function, Thing, FuncKey, TableKey, MemoryKey, GlobalKey, Owned, same_key, look_up, owned_at, func_of, func_value, received, received_ref, received_all}
 use Rattle.wasm_meaning.specs.World.{Begun}
-use Rattle.wasm_meaning.specs.Run.{Event, InstanceTrapped, Returned, Asked, Got, Place, TableOf, MemoryOf, GlobalOf, Named, Move, Call, Invoke, Take, Answer, Refuse, Grant, Deny, Get, Size, Set, Extend, Phase, Pending, Opened, Closed, Run, Out, Transition, Steps, Makes, made, place_at, trapped_at, trapped_to, showing, after, called, is_mark, delivered, grown_table, answered, refused, with_change, granted, decided, shows, got, size_of, does, byte_of, set, extended, moved, at_entries, or_bad, or_closed, next_move, began, view_of, nothing_in, started, open_next, is_taken_closed, closed_move, in_phase, transition_at}
+use Rattle.wasm_meaning.specs.Run.{Event, InstanceTrapped, Returned, Asked, Got, Place, TableOf, MemoryOf, GlobalOf, Named, Move, Call, Invoke, Take, Answer, Refuse, Grant, Deny, Get, Size, Set, Extend, Phase, Pending, Opened, Closed, Run, Out, Transition, Steps, Makes, made, place_at, trapped_at, trapped_to, showing, run_after, called, is_mark, delivered, grown_table, answered, refused, with_change, granted, decided, shows, got, size_of, does, byte_of, set, extended, moved, at_entries, or_bad, or_closed, next_move, began, view_of, nothing_in, started, open_next, is_taken_closed, closed_move, in_phase, transition_at}
 use Rattle.index_remap.specs.Related.{Pairing, OneToOne, OptRel, none, some, ResRel, done, trap, wrong, ListRel, nil, cons, RefRel, func, extern, ValRel, number, reference, TableRel, StoreRel, mark, opening, waiting, ended, growing, ChangeRel, set_global, set_memory, set_table, GrowthRel, memory_grows, table_grows, NextRel, ran, asked, asked_grow, loads, returned}
 use Rattle.index_remap.specs.RelatedRuns.{ThingRel, a_func, a_table, a_memory, a_global, KeyRel, BegunRel, PhaseRel, fresh, pending, opened, closed, RunRel, OutRel}
 use Rattle.index_remap.specs.ListedRuns.{MoveSkips, NextMoveSkips, TickSkips}
@@ -91,7 +91,7 @@ module _ (R : Pairing) (apart : OneToOne R) (B C : Store → Store → List Entr
   showing_rel event h s e v =
       let x = show_all_rel R apart s v _ _ h.shown in record { event = ap (λ l. Some (event l)) x.same; run = shown_rel (state_rel h s e) x.shown }
 
-  pub after_rel : {r q : Run} {o p : Outcome Next} → RunRel R B F r q → ResRel (NextRel R B) o p → OutRel R B F (after r o) (after q p)
+  pub after_rel : {r q : Run} {o p : Outcome Next} → RunRel R B F r q → ResRel (NextRel R B) o p → OutRel R B F (run_after r o) (run_after q p)
   after_rel h wrong = trapped_rel h (stacks.marks h.entries)
   after_rel h trap = trapped_rel h (stacks.marks h.entries)
   after_rel h (done (ran s e)) = record { event = refl; run = state_rel h s e }

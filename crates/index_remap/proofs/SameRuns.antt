@@ -9,7 +9,7 @@ use Rattle.wasm_meaning.specs.Run.{Move, Call, Invoke, Run, tick, events_of}
 use Rattle.base_simulation.proofs.Lockstep.{lockstep}
 use Rattle.index_remap.specs.Related.{Pairing, OneToOne, TopSkips}
 use Rattle.index_remap.specs.Laws.{passed, NeedsBelow, Touches, EntryByEntry, RelatedRuns}
-use Rattle.index_remap.specs.ListedRuns.{MoveSkips, NextMoveSkips, TickSkips, StepsTogether}
+use Rattle.index_remap.specs.ListedRuns.{MoveSkips, NextMoveSkips, TickSkips, RunsStepTogether}
 use Rattle.index_remap.proofs.Known.{entries_known}
 use Rattle.index_remap.proofs.StepsAgree.{none_called}
 use Rattle.index_remap.proofs.Lockstep.{ticks_together}
@@ -69,7 +69,7 @@ module _ (of : Space → ℕ → ℕ → Bool) where
   tick_skips r (Growing g ∷ es) = tt
 
   module _ (apart : OneToOne R) where
-    pub together : (r q : Run) → RelatedRuns R r q → StepsTogether R (EntryByEntry R) r q (tick r) (tick q)
+    pub together : (r q : Run) → RelatedRuns R r q → RunsStepTogether R (EntryByEntry R) r q (tick r) (tick q)
     together r q h = ticks_together R apart r q h (tick_skips r r.entries) (entries_known R (λ k a b p. p) r.entries q.entries)
 
     pub same_events : (n : ℕ) (r q : Run) → RelatedRuns R r q → events_of tick r n ≡ events_of tick q n

@@ -4,11 +4,11 @@ use Rattle.std.proofs.Common.{◌≡◌, List, [], ◌∷◌, refl}
 use Rattle.wasm_meaning.specs.Outcomes.{Outcome}
 use Rattle.wasm_meaning.specs.State.{Val, Store, Change, Level, Frame, Entry, Running, Caller, Act, Ends}
 use Rattle.wasm_meaning.specs.Step.{changed, give, give_levels, perform, step, to_mark}
-use Rattle.wasm_meaning.specs.Run.{Phase, Run, Out, is_mark, after, tick}
+use Rattle.wasm_meaning.specs.Run.{Phase, Run, Out, is_mark, run_after, tick}
 use Rattle.wasm_meaning.proofs.Outcomes.{all_at}
 use Rattle.index_remap.specs.Related.{Pairing, OneToOne, none, some, ResRel, done, trap, wrong, ListRel, nil, cons, ValRel, StoreRel, LevelRel, FrameRel, EntryRel, growing, ActRel, goes, calls, asks_grow, ends, ChangeRel, NextRel, ran, asked_grow, returned, NotListed}
 use Rattle.index_remap.specs.RelatedRuns.{turned, PhaseRel, fresh, pending, opened, closed, KeepsOthers, IsBegun, RunRel, OutRel}
-use Rattle.index_remap.specs.ListedRuns.{TickSkips, StepsTogether}
+use Rattle.index_remap.specs.ListedRuns.{TickSkips, RunsStepTogether}
 use Rattle.index_remap.proofs.Rel.{written, there, same_there, bind_rel, bind_found, bind_is, bind_rel_is, PairRel}
 use Rattle.index_remap.proofs.ValueSteps.{pop_typed_all, pop_typed_rel}
 use Rattle.index_remap.proofs.StepsAgree.{Stacks, TopView, top_none, top_mark, top_opening, top_waiting, top_ended, top_growing, top_running, changed_rel, frame_rel, left_rel, frame_given, enter_rel}
@@ -147,14 +147,14 @@ module _ (R : Pairing) (apart : OneToOne R) where
     held_before : RunRel R (Held E shape r.phase r.store q.store) (NoneBegun E shape r.phase r.store q.store) r q
     held_before = record { store = h.store; entries = unchanged h.entries; phase = none_begun h.phase; shown = h.shown; view = h.view; owned = h.owned; moves = h.moves }
 
-    as_before : {o p : Out} → OutRel R (Held E shape r.phase r.store q.store) (NoneBegun E shape r.phase r.store q.store) o p → StepsTogether R (λ s t. E) r q o p
+    as_before : {o p : Out} → OutRel R (Held E shape r.phase r.store q.store) (NoneBegun E shape r.phase r.store q.store) o p → RunsStepTogether R (λ s t. E) r q o p
     as_before o = record { out = record { event = o.event; run = run_by R (λ s t es fs b. b.stack) (λ s t es fs b. b.1) o.run }; first = o.run.entries.first_keeps; second = o.run.entries.second_keeps }
 
-    pub together : TickSkips R r r.entries → ResRel (NextRel R (Held E shape r.phase r.store q.store)) (step r.store r.entries) (step q.store q.entries) → StepsTogether R (λ s t. E) r q (tick r) (tick q)
+    pub together : TickSkips R r r.entries → ResRel (NextRel R (Held E shape r.phase r.store q.store)) (step r.store r.entries) (step q.store q.entries) → RunsStepTogether R (λ s t. E) r q (tick r) (tick q)
     together skips next = as_before (after_next E shape r.phase r.store q.store r q held_before skips next)
 
     -- both give values to what waits for them
-    pub given_together : {us ws : List Val} → ListRel (ValRel R) us ws → StepsTogether R (λ s t. E) r q (after r (give r.store us r.entries)) (after q (give q.store ws q.entries))
+    pub given_together : {us ws : List Val} → ListRel (ValRel R) us ws → RunsStepTogether R (λ s t. E) r q (run_after r (give r.store us r.entries)) (run_after q (give q.store ws q.entries))
     given_together v =
         let o = after_rel R apart (Held E shape r.phase r.store q.store) (Held E shape r.phase r.store q.store) (stacks E shape r.phase r.store q.store) (NoneBegun E shape r.phase r.store q.store) (λ s t es fs b. from_none E shape r.phase r.store q.store b) held_before
         ((stacks E shape r.phase r.store q.store).gives h.store v (unchanged h.entries)) in

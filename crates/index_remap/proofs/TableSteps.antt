@@ -10,7 +10,7 @@ use Rattle.wasm_meaning.specs.Memory.{pop_three}
 use Rattle.wasm_meaning.specs.Tables.{with_table, fits, writes_table, table_get, table_set, table_size, table_may_grow, table_grow, table_fill, init_table, table_copy, table_init, elem_drop}
 use Rattle.wasm_meaning.proofs.Outcomes.{then_given, then_found}
 use Rattle.index_remap.specs.Related.{Pairing, OptRel, ResRel, done, wrong, ListRel, nil, cons, RefRel, ValRel, number, reference, Names, BodyRel, table_grows, drop_elem, goes, asks_grow}
-use Rattle.index_remap.specs.Unknown.{Unknowns, is_place_among, RefsOff, TableOff, StoreRelOff, Read, ReadsSlots, read_by, ReadsKnown, known, off_slots, ActOff}
+use Rattle.index_remap.specs.Unknown.{Unknowns, is_place_among, RefsOff, TableOff, StoreRelOff, ReadPlace, ReadsSlots, read_by, ReadsKnown, known, off_slots, ActOff}
 use Rattle.index_remap.proofs.Rel.{there, bind_rel, bind_found, bind_found_is, cond_rel, copies_rel, or_trap_rel}
 use Rattle.index_remap.proofs.Off.{slice_off, overwrite_off}
 use Rattle.index_remap.proofs.ValueSteps.{bind_num, bind_num_is, pop_ref_rel, ref_type_rel, values_rel, pushes_rel}
@@ -33,7 +33,7 @@ module _ (R : Pairing) (off : Unknowns) (ev ew : Env) (st : StoreRelOff R off ev
   bind_table n m f g r p q = bind_found_is p (λ a b is p. bind_found (there (st.tables p)) (λ x y t. q a b x y is p t))
 
   -- the slot whose place is on top is known
-  pub slot_known : (o : Outcome Read) (a i : ℕ) → ReadsKnown off o → o ≡ Gives (ReadsSlots a i 1) → known_in a i ≡ true
+  pub slot_known : (o : Outcome ReadPlace) (a i : ℕ) → ReadsKnown off o → o ≡ Gives (ReadsSlots a i 1) → known_in a i ≡ true
   slot_known o a i reads is = ap not (reads _ is i (omega arith) (omega arith))
 
   writes_table_rel : {h k : Body} {a b : ℕ} {t u : Table} {ss us : Option (List RefVal)} {vs ws : List Val} → BodyRel R ev.inst ew.inst h k → R.of Tables a b → TableOff R (known_in a) t u → OptRel (RefsOff R (known_in a)) ss us → ListRel (ValRel R) vs ws → ResRel (ActOff R off ev.inst ew.inst) (writes_table h a t ss vs) (writes_table k b u us ws)

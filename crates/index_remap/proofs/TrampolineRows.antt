@@ -22,7 +22,7 @@ use Rattle.index_remap.specs.Related
 use Rattle.index_remap.specs.Related.{Pairing, OneToOne, EntryRel, running, NotListed, some, ResRel, done, BothRel, both, ListRel, nil, cons, ValRel, number, CodeRel, end, then, StoreRel, NextRel}
 use Rattle.index_remap.specs.RelatedRuns.{opened}
 use Rattle.index_remap.specs.Laws.{passed, EntryByEntry}
-use Rattle.index_remap.specs.ListedRuns.{TickSkips, StepsTogether}
+use Rattle.index_remap.specs.ListedRuns.{TickSkips, RunsStepTogether}
 use Rattle.index_remap.specs.Trampolines.{passing, WithPassing, through, AnsweredInTwo, FramesBetween, slot_call, trampoline, InSlot, go_on, CodeAt}
 use Rattle.index_remap.specs.Trampolines as between
 use Rattle.index_remap.proofs.Known.{entries_known}
@@ -206,7 +206,7 @@ NoneListed _ = Unit {0}
 abbrev refers : Entry
 refers = in_it [] (i.RefFunc 0 ∷ [])
 
-a_reference_is_taken : StepsTogether L (EntryByEntry L) (in_run direct (refers ∷ [])) (in_run by_slot (refers ∷ [])) (tick (in_run direct (refers ∷ []))) (tick (in_run by_slot (refers ∷ [])))
+a_reference_is_taken : RunsStepTogether L (EntryByEntry L) (in_run direct (refers ∷ [])) (in_run by_slot (refers ∷ [])) (tick (in_run direct (refers ∷ []))) (tick (in_run by_slot (refers ∷ [])))
 unfolding out-Instr denote.Hole.Carrier.out
 a_reference_is_taken =
     let e : EntryRel L refers refers = running (record { locals = cons number nil; results = refl; levels = cons (record { values = nil; code = then (Related.ref_func (some refl)) end; gives = refl; takes = refl; back = end }) nil }) in

@@ -10,7 +10,7 @@ use Rattle.wasm_meaning.specs.Step.{act, changed, no_items, no_bytes}
 use Rattle.index_remap.specs.Related.{Pairing, OneToOneWhereWritten, BothRel, both, nil, TableRel, GlobalRel, StoreRel, ChangeRel, keep, set_global, set_memory, set_table, drop_elem, drop_data, ActRel, goes, calls, asks_grow, ends}
 use Rattle.index_remap.specs.References.{is_among}
 use Rattle.index_remap.specs.Laws.{passed}
-use Rattle.index_remap.specs.Unknown.{Unknowns, none_unknown, is_place_among, GlobalOff, RefsOff, TableOff, StoreRelOff, learnt, NothingUnknown, SetGlobalsAreKnown, Read, ReadsNothing, ReadsGlobal, ReadsSlots, ReadsItems, IsKnown, left_by, left_after, left_unknown, ChangeOff, known, off_slots, ActOff}
+use Rattle.index_remap.specs.Unknown.{Unknowns, none_unknown, is_place_among, GlobalOff, RefsOff, TableOff, StoreRelOff, learnt, NothingUnknown, SetGlobalsAreKnown, ReadPlace, ReadsNothing, ReadsGlobal, ReadsSlots, ReadsItems, IsKnown, left_by, left_after, left_unknown, ChangeOff, known, off_slots, ActOff}
 use Rattle.index_remap.proofs.Rel.{write_each, write_rel, both_map}
 use Rattle.index_remap.proofs.Off.{refs_off, refs_related}
 
@@ -153,7 +153,7 @@ set_globals_are_known of named l apart u s t a b g h v w r n at_g at_h values =
 
 -- ---- nothing is unknown ----
 
-pub all_is_known : (r : Read) → IsKnown none_unknown r
+pub all_is_known : (r : ReadPlace) → IsKnown none_unknown r
 all_is_known ReadsNothing = tt
 all_is_known (ReadsGlobal a) = refl
 all_is_known (ReadsSlots a place count) = λ _ _ _. refl

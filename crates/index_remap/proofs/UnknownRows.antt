@@ -16,7 +16,7 @@ use Rattle.index_remap.specs.Related
 use Rattle.index_remap.specs.Related.{Pairing, OneToOneWhereWritten, none, some, ResRel, done, OptRel, BothRel, both, ListRel, nil, cons, RefRel, func, ValRel, number, CodeRel, end, then, EntryRel, running, ran, TopSkips}
 use Rattle.index_remap.specs.Laws.{passed, Above, Touches, EntriesKnown}
 use Rattle.index_remap.specs.References.{is_among}
-use Rattle.index_remap.specs.Unknown.{Unknowns, is_place_among, GlobalOff, RefsOff, TableOff, StoreRelOff, Read, ReadsNothing, ReadsGlobal, ReadsSlots, IsKnown, ReadsKnown, StepReadsKnown, left_unknown, NextOff, KnownSteps, none_left, known_step, Follows}
+use Rattle.index_remap.specs.Unknown.{Unknowns, is_place_among, GlobalOff, RefsOff, TableOff, StoreRelOff, ReadPlace, ReadsNothing, ReadsGlobal, ReadsSlots, IsKnown, ReadsKnown, StepReadsKnown, left_unknown, NextOff, KnownSteps, none_left, known_step, FollowsOff}
 use Rattle.index_remap.proofs.Known.{entries_known}
 use Rattle.index_remap.proofs.AboveSteps.{entries_of}
 use Rattle.index_remap.proofs.SameRuns.{touches, skips}
@@ -105,10 +105,10 @@ abbrev one_and_seven : List Val
 one_and_seven = Num W32 1 ∷ (Num W32 7 ∷ [])
 
 -- what is read is this, and known
-this_is_read : (u : Unknowns) (o : Outcome Read) (r : Read) → o ≡ Gives r → IsKnown u r → ReadsKnown u o
+this_is_read : (u : Unknowns) (o : Outcome ReadPlace) (r : ReadPlace) → o ≡ Gives r → IsKnown u r → ReadsKnown u o
 this_is_read u o r e k q f = subst (IsKnown u) (same (sym e ∙ f)) k
   where
-    same : {x y : Read} → Gives x ≡ Gives y → x ≡ y
+    same : {x y : ReadPlace} → Gives x ≡ Gives y → x ≡ y
     same e = cc
 
 -- the step of one frame over one of these stores, where it reads this
@@ -151,7 +151,7 @@ related_code = running (record {
 })
 
 -- so it is led: the second machine takes four steps too, to a related store and the same number on its stack
-the_second_follows : Follows R 4 learnt_all after_set (runs inst (Num W32 7 ∷ []) [] ∷ []) second (runs inst one_and_seven reads_a_slot ∷ [])
+the_second_follows : FollowsOff R 4 learnt_all after_set (runs inst (Num W32 7 ∷ []) [] ∷ []) second (runs inst one_and_seven reads_a_slot ∷ [])
 the_second_follows = follows R apart stores_related (cons related_code nil) reads_no_unknown_place
 
 -- ---- a read of an unknown place ----

@@ -5,7 +5,7 @@ use Rattle.wasm_meaning.specs.State.{Store, Entry, Next, Ran}
 use Rattle.wasm_meaning.specs.Step.{step}
 use Rattle.index_remap.specs.Related.{Pairing, OneToOneWhereWritten, ResRel, done, ListRel, EntryRel, ran}
 use Rattle.index_remap.specs.Laws.{passed, Above}
-use Rattle.index_remap.specs.Unknown.{Unknowns, StoreRelOff, left_unknown, NextOff, here, step_on, KnownSteps, none_left, known_step, Follows, StepsAgreeOff, RunsAgreeOff}
+use Rattle.index_remap.specs.Unknown.{Unknowns, StoreRelOff, left_unknown, NextOff, here, step_on, KnownSteps, none_left, known_step, FollowsOff, StepsAgreeOff, RunsAgreeOff}
 use Rattle.index_remap.proofs.AboveSteps.{whole, entries_of, step_off}
 use Rattle.index_remap.proofs.SameRuns.{touches}
 
@@ -27,7 +27,7 @@ module _ (R : Pairing) (apart : OneToOneWhereWritten R) where
       go : (p : Outcome Next) → step t fs ≡ p → ResRel (NextOff R v (Above R [] [])) (Gives (Ran s es)) p → Led v s es t fs
       go _ i (done (ran h a)) = record { store = _; entries = _; steps = i; related = h; stack = entries_of R a }
 
-  pub follows : {n : ℕ} {u v : Unknowns} {s r t : Store} {es gs fs : List Entry} → StoreRelOff R u s t → ListRel (EntryRel R) es fs → KnownSteps R n u s es v r gs → Follows R n v r gs t fs
+  pub follows : {n : ℕ} {u v : Unknowns} {s r t : Store} {es gs fs : List Entry} → StoreRelOff R u s t → ListRel (EntryRel R) es fs → KnownSteps R n u s es v r gs → FollowsOff R n v r gs t fs
   follows {t = t} {fs = fs} h e none_left = record { store = t; entries = fs; steps = here; related = h; stack = e }
   follows {u = u} {s = s} {t = t} {es = es} {fs = fs} h e (known_step {t = s'} {fs = es'} reads free known is rest) =
       let agrees = step_off R apart [] [] u h e (touches s es) free (known fs e) reads in

@@ -32,7 +32,7 @@ TickSkips R r es = TopSkips R r.store es
 -- ---- what such a step leaves ----
 
 -- Both show the same and are related again, their stacks by B. Once they are instantiated, what stands at addresses without a partner in either store is as it was.
-pub record StepsTogether (R : Pairing) (B : Store → Store → List Entry → List Entry → Type 0) (r q : Run) (o p : Out) : Type 0 where
+pub record RunsStepTogether (R : Pairing) (B : Store → Store → List Entry → List Entry → Type 0) (r q : Run) (o p : Out) : Type 0 where
   pub out : OutRel R B B o p
   pub first : IsBegun r.phase → KeepsOthers (turned R) r.store o.0.store
   pub second : IsBegun r.phase → KeepsOthers R q.store p.0.store
@@ -43,4 +43,4 @@ pub record StepsTogether (R : Pairing) (B : Store → Store → List Entry → L
 abbrev pub ListedRunsAgree : Type 0
 ListedRunsAgree =
     (of named : Space → ℕ → ℕ → Bool) (l : List ℕ) → OneToOne (passed of named l) → (r q : Run) → RelatedRuns (passed of named l) r q →
-    TickSkips (passed of named l) r r.entries → EntriesKnown (passed of named l) r.entries q.entries → StepsTogether (passed of named l) (EntryByEntry (passed of named l)) r q (tick r) (tick q)
+    TickSkips (passed of named l) r r.entries → EntriesKnown (passed of named l) r.entries q.entries → RunsStepTogether (passed of named l) (EntryByEntry (passed of named l)) r q (tick r) (tick q)

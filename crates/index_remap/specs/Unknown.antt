@@ -65,23 +65,23 @@ learnt u a = record u { globals = filter (λ b. not (nat_eq b a)) u.globals }
 -- ---- what a step reads of them, and what it leaves unknown ----
 
 -- what may be unknown and is read: nothing, a global, or so many references from a place on, of a table or of an element segment
-pub data Read : Type 0 where
-  ReadsNothing : Read
-  ReadsGlobal : (address : ℕ) → Read
-  ReadsSlots : (address place count : ℕ) → Read
-  ReadsItems : (address place count : ℕ) → Read
+pub data ReadPlace : Type 0 where
+  ReadsNothing : ReadPlace
+  ReadsGlobal : (address : ℕ) → ReadPlace
+  ReadsSlots : (address place count : ℕ) → ReadPlace
+  ReadsItems : (address place count : ℕ) → ReadPlace
 
 -- the slot whose place is on top
-abbrev pub slot_read : ℕ → List Val → Outcome Read
+abbrev pub slot_read : ℕ → List Val → Outcome ReadPlace
 slot_read a vs = bind (pop_num W32 vs) (λ i. Gives (ReadsSlots a i.0 1))
 
 -- the second and the last of three numbers: where a copy begins, and how much it copies
-abbrev pub range_read : (place_count : ℕ → ℕ → Read) → List Val → Outcome Read
+abbrev pub range_read : (place_count : ℕ → ℕ → ReadPlace) → List Val → Outcome ReadPlace
 range_read f vs = bind (pop_three vs) (λ p. Gives (f p.0.1 p.0.2))
 
 -- what an instruction reads of this, with these values on the stack: the global of `global.get`, the slot of `table.get` and `call_indirect`, the references that
 -- `table.copy` and `table.init` copy
-abbrev pub read_by : Instr-F Instr → Env → List Val → Outcome Read
+abbrev pub read_by : Instr-F Instr → Env → List Val → Outcome ReadPlace
 read_by (Instr-F.GlobalGet n) env vs = with_entry env.inst.globals n (λ a. Gives (ReadsGlobal a))
 read_by (Instr-F.TableGet n) env vs = with_entry env.inst.tables n (λ a. slot_read a vs)
 read_by (Instr-F.CallIndirect t n) env vs = with_entry env.inst.tables n (λ a. slot_read a vs)
@@ -89,23 +89,23 @@ read_by (Instr-F.TableCopy n m) env vs = with_entry env.inst.tables m (λ a. ran
 read_by (Instr-F.TableInit s n) env vs = with_entry env.inst.elems s (λ a. range_read (ReadsItems a) vs)
 read_by _ env vs = Gives ReadsNothing
 
-abbrev pub read_next : Env → List Val → List Instr → Outcome Read
+abbrev pub read_next : Env → List Val → List Instr → Outcome ReadPlace
 read_next env vs [] = Gives ReadsNothing
 read_next env vs (i ∷ is) = read_by (out-Instr i) env vs
 
-abbrev pub read_levels : Env → List Level → Outcome Read
+abbrev pub read_levels : Env → List Level → Outcome ReadPlace
 read_levels env [] = IllTyped
 read_levels env (l ∷ ls) = read_next env l.values l.code
 
 -- no unknown place is read
-abbrev pub IsKnown : Unknowns → Read → Type 0
+abbrev pub IsKnown : Unknowns → ReadPlace → Type 0
 IsKnown u ReadsNothing = Unit {0}
 IsKnown u (ReadsGlobal a) = is_among u.globals a ≡ false
 IsKnown u (ReadsSlots a place count) = (n : ℕ) → place ≤ n → n < place + count → is_place_among u.slots a n ≡ false
 IsKnown u (ReadsItems a place count) = (n : ℕ) → place ≤ n → n < place + count → is_place_among u.items a n ≡ false
 
-abbrev pub ReadsKnown : Unknowns → Outcome Read → Type 0
-ReadsKnown u o = (r : Read) → o ≡ Gives r → IsKnown u r
+abbrev pub ReadsKnown : Unknowns → Outcome ReadPlace → Type 0
+ReadsKnown u o = (r : ReadPlace) → o ≡ Gives r → IsKnown u r
 
 -- the step of these entries reads no unknown place
 abbrev pub StepReadsKnown : Unknowns → Store → List Entry → Type 0
@@ -151,7 +151,7 @@ pub data KnownSteps (R : Pairing) : ℕ → Unknowns → Store → List Entry �
       KnownSteps R n (left_unknown u s es) t fs v r gs → KnownSteps R (suc n) u s es v r gs
 
 -- the same number of steps from there, to a store that is related off this set and related entries
-pub record Follows (R : Pairing) (n : ℕ) (u : Unknowns) (s : Store) (es : List Entry) (t : Store) (fs : List Entry) : Type 0 where
+pub record FollowsOff (R : Pairing) (n : ℕ) (u : Unknowns) (s : Store) (es : List Entry) (t : Store) (fs : List Entry) : Type 0 where
   pub store : Store
   pub entries : List Entry
   pub steps : GoesOn n t fs store entries
@@ -185,4 +185,4 @@ StepsAgreeOff =
 abbrev pub RunsAgreeOff : Type 0
 RunsAgreeOff =
     (of named : Space → ℕ → ℕ → Bool) (l : List ℕ) → OneToOneWhereWritten (passed of named l) → (n : ℕ) (u v : Unknowns) (s r t : Store) (es gs fs : List Entry) →
-    StoreRelOff (passed of named l) u s t → ListRel (EntryRel (passed of named l)) es fs → KnownSteps (passed of named l) n u s es v r gs → Follows (passed of named l) n v r gs t fs
+    StoreRelOff (passed of named l) u s t → ListRel (EntryRel (passed of named l)) es fs → KnownSteps (passed of named l) n u s es v r gs → FollowsOff (passed of named l) n v r gs t fs

@@ -7,7 +7,7 @@ use Rattle.wasm_tree.specs.declared.module.Module.{Module}
 use Rattle.wasm_meaning.specs.State.{Inst}
 use Rattle.wasm_meaning.specs.Linking.{Part, module_at}
 use Rattle.wasm_meaning.specs.Environment.{Environment}
-use Rattle.wasm_meaning.specs.World.{Task, tasks_in, defined_count, defined_before, numbers, insts_from, elem_tasks, data_tasks}
+use Rattle.wasm_meaning.specs.World.{PlacedSegment, segments_in, defined_count, defined_before, numbers, insts_from, placed_elems, placed_datas}
 use Rattle.wasm_meaning.proofs.Counts.{defined_none, defined_next}
 use Rattle.merge_spec.specs.Merged.{by_part_from, map_of, merged_const, merged_elem, merged_elem_mode, merged_data, merged_data_mode}
 use Rattle.world_simulation.specs.Segments.{InOrder, both, ends, only_second, ElemsPartner, ElemAlone, DatasPartner, offset_in, ElemsInOrder, DatasInOrder}
@@ -56,11 +56,11 @@ record OneAddress (xs ys : List ℕ) (n : ℕ) : Type 0 where
   first : slice_get xs n ≡ Some address
   second : slice_get ys n ≡ Some address
 
-abbrev pub task : {A : Type 0} → ℕ → Inst → ℕ → A → Task A
+abbrev pub task : {A : Type 0} → ℕ → Inst → ℕ → A → PlacedSegment A
 task p i a x = record { part = p; inst = i; address = a; segment = x }
 
-module _ {A : Type 0} (k : Space) (segs : Module → List A) (counts : (m : Module) → defined_count k m ≡ length (segs m)) (partners : Task A → Task A → Type 0) (first second : Task A → Type 0) (env : Environment) (parts : List Part) (insts : List Inst) (j : Inst) (new : ℕ → Module → A → A) where
-  abbrev Ordered : List (Task A) → List (Task A) → Type 0
+module _ {A : Type 0} (k : Space) (segs : Module → List A) (counts : (m : Module) → defined_count k m ≡ length (segs m)) (partners : PlacedSegment A → PlacedSegment A → Type 0) (first second : PlacedSegment A → Type 0) (env : Environment) (parts : List Part) (insts : List Inst) (j : Inst) (new : ℕ → Module → A → A) where
+  abbrev Ordered : List (PlacedSegment A) → List (PlacedSegment A) → Type 0
   Ordered xs ys = InOrder partners first second xs ys
 
   -- A part's segments stand in the merged module behind those of the parts before it, with the addresses that they have, and each has its partner there.
@@ -71,9 +71,9 @@ module _ {A : Type 0} (k : Space) (segs : Module → List A) (counts : (m : Modu
     pub each : (x a : ℕ) (e : A) → slice_get (segs m) x ≡ Some e → a < shared_count env parts k → partners (task p inst a e) (task 0 j a (new p m e))
 
   -- the segments of one part, and then others
-  in_part : (p : ℕ) (i : Inst) (new : A → A) (xs ys : List ℕ) (es : List A) (rest : List (Task A)) (more : List A) →
+  in_part : (p : ℕ) (i : Inst) (new : A → A) (xs ys : List ℕ) (es : List A) (rest : List (PlacedSegment A)) (more : List A) →
       ((x : ℕ) → x < length es → OneAddress xs ys x) → ((x a : ℕ) (e : A) → slice_get es x ≡ Some e → slice_get xs x ≡ Some a → partners (task p i a e) (task 0 j a (new e))) →
-      Ordered rest (tasks_in 0 j (drop (length es) ys) more) → Ordered (tasks_in p i xs es ++ rest) (tasks_in 0 j ys (map new es ++ more))
+      Ordered rest (segments_in 0 j (drop (length es) ys) more) → Ordered (segments_in p i xs es ++ rest) (segments_in 0 j ys (map new es ++ more))
   in_part p i new [] ys [] rest more same each then = then
   in_part p i new (x ∷ xs) ys [] rest more same each then = then
   in_part p i new [] ys (e ∷ es) rest more same each then = let o = same 0 (omega arith) in let k = o.first in cc
@@ -84,9 +84,9 @@ module _ {A : Type 0} (k : Space) (segs : Module → List A) (counts : (m : Modu
       both (rw (← is) (each 0 x e refl refl))
       (in_part p i new xs ys es rest more (λ n l. let o = same (suc n) (omega arith) in record { address = o.address; first = o.first; second = o.second }) (λ n a e h k. each (suc n) a e h k) then)
 
-  module _ (more : List A) (nothing : (ns : List ℕ) → Ordered [] (tasks_in 0 j ns more)) (stands : (p : ℕ) (m : Module) → module_at parts p ≡ Some m → PartStands p m) where
-    one_part : (p : ℕ) (m : Module) (later : List (Task A)) (behind : List A) → module_at parts p ≡ Some m → (i : Inst) → slice_get insts p ≡ Some i → Ordered later (tasks_in 0 j (drop (defined_before k parts (suc p)) (addresses_in k j)) behind) →
-        Ordered (tasks_in p i (addresses_in k i) (segs m) ++ later) (tasks_in 0 j (drop (defined_before k parts p) (addresses_in k j)) (map (new p m) (segs m) ++ behind))
+  module _ (more : List A) (nothing : (ns : List ℕ) → Ordered [] (segments_in 0 j ns more)) (stands : (p : ℕ) (m : Module) → module_at parts p ≡ Some m → PartStands p m) where
+    one_part : (p : ℕ) (m : Module) (later : List (PlacedSegment A)) (behind : List A) → module_at parts p ≡ Some m → (i : Inst) → slice_get insts p ≡ Some i → Ordered later (segments_in 0 j (drop (defined_before k parts (suc p)) (addresses_in k j)) behind) →
+        Ordered (segments_in p i (addresses_in k i) (segs m) ++ later) (segments_in 0 j (drop (defined_before k parts p) (addresses_in k j)) (map (new p m) (segs m) ++ behind))
     one_part p m later behind at_p i there then =
         rw (← same_Some _ _ (sym d.is ∙ there))
         (in_part p d.inst (new p m) (addresses_in k d.inst) (drop (defined_before k parts p) (addresses_in k j)) (segs m) later behind same each (rw dropped then))
@@ -114,7 +114,7 @@ module _ {A : Type 0} (k : Space) (segs : Module → List A) (counts : (m : Modu
             d.each x a e h (rw (← same_Some _ _ (sym o.first ∙ at)) o.shared)
 
     by_parts : (p : ℕ) (rest : List Part) (is : List Inst) → ((q : ℕ) → module_at rest q ≡ module_at parts (p + q)) → ((q : ℕ) → slice_get is q ≡ slice_get insts (p + q)) →
-        Ordered (tasks_by segs (addresses_in k) p rest is) (tasks_in 0 j (drop (defined_before k parts p) (addresses_in k j)) (by_part_from (λ p m. map (new p m) (segs m)) p rest ++ more))
+        Ordered (tasks_by segs (addresses_in k) p rest is) (segments_in 0 j (drop (defined_before k parts p) (addresses_in k j)) (by_part_from (λ p m. map (new p m) (segs m)) p rest ++ more))
     by_parts p [] is modules places = nothing _
     by_parts p (part ∷ rest) [] modules places =
         let here : p + 0 ≡ p = omega arith in
@@ -125,17 +125,17 @@ module _ {A : Type 0} (k : Space) (segs : Module → List A) (counts : (m : Modu
         let m = part.«module» in
         let here : p + 0 ≡ p = omega arith in
         let step : (q : ℕ) → p + suc q ≡ suc p + q = λ q. omega arith in
-        subst (λ xs. Ordered (tasks_in p i (addresses_in k i) (segs m) ++ tasks_by segs (addresses_in k) (suc p) rest is) (tasks_in 0 j (drop (defined_before k parts p) (addresses_in k j)) xs))
+        subst (λ xs. Ordered (segments_in p i (addresses_in k i) (segs m) ++ tasks_by segs (addresses_in k) (suc p) rest is) (segments_in 0 j (drop (defined_before k parts p) (addresses_in k j)) xs))
         (sym (append_assoc (map (new p m) (segs m)) (by_part_from (λ p m. map (new p m) (segs m)) (suc p) rest) more))
         (one_part p m _ _ (ap (module_at parts) (sym here) ∙ sym (modules 0)) i (ap (slice_get insts) (sym here) ∙ sym (places 0))
         (by_parts (suc p) rest is (λ q. modules (suc q) ∙ ap (module_at parts) (step q)) (λ q. places (suc q) ∙ ap (slice_get insts) (step q))))
 
     -- all of them, and those of the merged module
-    pub all_in_order : (J : Module) → segs J ≡ by_part_from (λ p m. map (new p m) (segs m)) 0 parts ++ more → (xs ys : List (Task A)) → xs ≡ tasks_by segs (addresses_in k) 0 parts insts → ys ≡ tasks_in 0 j (addresses_in k j) (segs J) ++ [] → Ordered xs ys
+    pub all_in_order : (J : Module) → segs J ≡ by_part_from (λ p m. map (new p m) (segs m)) 0 parts ++ more → (xs ys : List (PlacedSegment A)) → xs ≡ tasks_by segs (addresses_in k) 0 parts insts → ys ≡ segments_in 0 j (addresses_in k j) (segs J) ++ [] → Ordered xs ys
     all_in_order J e xs ys first_is second_is =
         let at_0 : (q : ℕ) → q ≡ 0 + q = λ q. omega arith in
         rw first_is
-        (rw (← ap (λ n. tasks_in 0 j (drop n (addresses_in k j)) (by_part_from (λ p m. map (new p m) (segs m)) 0 parts ++ more)) (defined_none k parts) ∙ ap (tasks_in 0 j (addresses_in k j)) (sym e) ∙ sym (append-nil _) ∙ sym second_is)
+        (rw (← ap (λ n. segments_in 0 j (drop n (addresses_in k j)) (by_part_from (λ p m. map (new p m) (segs m)) 0 parts ++ more)) (defined_none k parts) ∙ ap (segments_in 0 j (addresses_in k j)) (sym e) ∙ sym (append-nil _) ∙ sym second_is)
         (by_parts 0 parts insts (λ q. ap (module_at parts) (at_0 q)) (λ q. ap (slice_get insts) (at_0 q))))
 
 -- ---- what the map of a part says of segments ----
@@ -185,7 +185,7 @@ module _ (laws : Laws) (env : Environment) (parts : List Part) (mode : Mode) (ca
       go elem.Declarative h = segments.ElemsPartner.declarative
 
   -- a segment that declares references has no partner
-  declared_alone : (fs ns : List ℕ) → InOrder (λ x y. ElemsPartner R (values_in env v x.part) (values_in env w y.part) x y x.segment.mode y.segment.mode) (λ x. ElemAlone (HasNoPartner (turned R)) env v x x.segment.mode) (λ y. ElemAlone (HasNoPartner R) env w y y.segment.mode) [] (tasks_in 0 j ns (last_segments fs))
+  declared_alone : (fs ns : List ℕ) → InOrder (λ x y. ElemsPartner R (values_in env v x.part) (values_in env w y.part) x y x.segment.mode y.segment.mode) (λ x. ElemAlone (HasNoPartner (turned R)) env v x x.segment.mode) (λ y. ElemAlone (HasNoPartner R) env w y y.segment.mode) [] (segments_in 0 j ns (last_segments fs))
   declared_alone [] [] = ends
   declared_alone [] (n ∷ ns) = ends
   declared_alone (f ∷ fs) [] = ends
@@ -201,7 +201,7 @@ module _ (laws : Laws) (env : Environment) (parts : List Part) (mode : Mode) (ca
         agrees = rw (← map_elems parts p m) i.2.elems;
         each = λ x a e h lt. elem_partners p m i.0 a e is i.2 (elem_holds laws m (can.valid p m is) x e h) lt;
       })
-      J (elems_join parts mode).is _ _ (elems_by 0 parts insts) (ap (elem_tasks 0 (one J)) agree.alone)
+      J (elems_join parts mode).is _ _ (elems_by 0 parts insts) (ap (placed_elems 0 (one J)) agree.alone)
 
   -- ---- data segments ----
 
@@ -225,8 +225,8 @@ module _ (laws : Laws) (env : Environment) (parts : List Part) (mode : Mode) (ca
         agrees = rw (← map_datas parts p m) i.2.datas;
         each = λ x a d h lt. data_partners p m i.0 a d is i.2 (data_holds laws m (can.valid p m is) x d h) lt;
       })
-      J (datas_join parts mode).is _ _ (datas_by 0 parts insts) (ap (data_tasks 0 (one J)) agree.alone)
+      J (datas_join parts mode).is _ _ (datas_by 0 parts insts) (ap (placed_datas 0 (one J)) agree.alone)
     where
-      no_tasks : {P : Task DataSeg → Task DataSeg → Type 0} {F S : Task DataSeg → Type 0} (ns : List ℕ) → InOrder P F S [] (tasks_in 0 j ns [])
+      no_tasks : {P : PlacedSegment DataSeg → PlacedSegment DataSeg → Type 0} {F S : PlacedSegment DataSeg → Type 0} (ns : List ℕ) → InOrder P F S [] (segments_in 0 j ns [])
       no_tasks [] = ends
       no_tasks (n ∷ ns) = ends

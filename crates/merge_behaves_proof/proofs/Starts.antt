@@ -9,7 +9,7 @@ use Rattle.wasm_tree.specs.declared.module.Module.{Module}
 use Rattle.wasm_meaning.specs.State.{Inst, RefVal, Code, Table, Memory, Store, Val}
 use Rattle.wasm_meaning.specs.Linking.{Part, module_at, has_kind, imports_of, sites}
 use Rattle.wasm_meaning.specs.Environment.{Environment, FuncAt, all_of}
-use Rattle.wasm_meaning.specs.World.{own_count, defined_before, one_place, start_in, starts_of, insts_from, base, own_store, stores_from, is_matched, Filled, Task, fill_table, run_elem, fill_memory, run_data, and_then, in_turn, segments, elem_tasks, data_tasks, value_of, run_elem_with, run_data_with}
+use Rattle.wasm_meaning.specs.World.{own_count, defined_before, one_place, start_in, starts_of, insts_from, base, own_store, stores_from, is_matched, Filled, PlacedSegment, copy_slots, run_elem, copy_bytes, run_data, and_then, one_by_one, segments, placed_elems, placed_datas, value_of, run_elem_with, run_data_with}
 use Rattle.index_remap.specs.Renumbered.{fits_start}
 use Rattle.index_remap.specs.Related.{ListRel, nil, cons}
 use Rattle.index_remap.proofs.Rel.{append_rel}
@@ -152,22 +152,22 @@ module _ (laws : SpaceLaws) (env : Environment) (parts : List Part) (linked : li
 abbrev Keeps : Store → Filled → Type 0
 Keeps s f = f.store.funcs ≡ s.funcs
 
-fill_table_keeps : (s : Store) (segment a : ℕ) (t : Table) (o : Option (List RefVal)) → Keeps s (fill_table s segment a t o)
+fill_table_keeps : (s : Store) (segment a : ℕ) (t : Table) (o : Option (List RefVal)) → Keeps s (copy_slots s segment a t o)
 fill_table_keeps s segment a t (Some slots) = refl
 fill_table_keeps s segment a t None = refl
 
-fill_memory_keeps : (s : Store) (segment a : ℕ) (m : Memory) (o : Option (List ℕ)) → Keeps s (fill_memory s segment a m o)
+fill_memory_keeps : (s : Store) (segment a : ℕ) (m : Memory) (o : Option (List ℕ)) → Keeps s (copy_bytes s segment a m o)
 fill_memory_keeps s segment a m (Some bytes) = refl
 fill_memory_keeps s segment a m None = refl
 
-elem_keeps : (value : ConstExpr → Option Val) (s : Store) (x : Task ElemSeg) (mode : ElemMode) → Keeps s (run_elem_with value s x mode)
+elem_keeps : (value : ConstExpr → Option Val) (s : Store) (x : PlacedSegment ElemSeg) (mode : ElemMode) → Keeps s (run_elem_with value s x mode)
 elem_keeps value s x (elem.Active y d) =
     then_holds (Keeps s) s (offset_in value d) _ refl (λ n _. then_holds (Keeps s) s (slice_get x.inst.tables y) _ refl (λ a _. then_holds (Keeps s) s (slice_get s.tables a) _ refl (λ t _. then_holds (Keeps s) s (slice_get s.elems x.address) _ refl (λ e _.
     fill_table_keeps s x.address a t (overwrite t.slots n e.items)))))
 elem_keeps value s x elem.Passive = refl
 elem_keeps value s x elem.Declarative = refl
 
-data_keeps : (value : ConstExpr → Option Val) (s : Store) (x : Task DataSeg) (mode : DataMode) → Keeps s (run_data_with value s x mode)
+data_keeps : (value : ConstExpr → Option Val) (s : Store) (x : PlacedSegment DataSeg) (mode : DataMode) → Keeps s (run_data_with value s x mode)
 data_keeps value s x (data'.Active y d) =
     then_holds (Keeps s) s (offset_in value d) _ refl (λ n _. then_holds (Keeps s) s (slice_get x.inst.mems y) _ refl (λ a _. then_holds (Keeps s) s (slice_get s.mems a) _ refl (λ m _. then_holds (Keeps s) s (slice_get s.datas x.address) _ refl (λ e _.
     fill_memory_keeps s x.address a m (overwrite m.bytes n e.bytes)))))
@@ -180,15 +180,15 @@ and_then_keeps s f g e h = by f.trapped
     by true = e
     by false = h f.store ∙ e
 
-in_turn_keeps : {A : Type 0} (f : Store → A → Filled) → ((s : Store) (x : A) → Keeps s (f s x)) → (s : Store) (xs : List A) → Keeps s (in_turn f s xs)
+in_turn_keeps : {A : Type 0} (f : Store → A → Filled) → ((s : Store) (x : A) → Keeps s (f s x)) → (s : Store) (xs : List A) → Keeps s (one_by_one f s xs)
 in_turn_keeps f h s [] = refl
-in_turn_keeps f h s (x ∷ xs) = and_then_keeps s (f s x) (λ s. in_turn f s xs) (h s x) (λ t. in_turn_keeps f h t xs)
+in_turn_keeps f h s (x ∷ xs) = and_then_keeps s (f s x) (λ s. one_by_one f s xs) (h s x) (λ t. in_turn_keeps f h t xs)
 
 pub segments_keep_funcs : (env : Environment) (parts : List Part) (insts : List Inst) (s : Store) → (segments env parts insts s).store.funcs ≡ s.funcs
 segments_keep_funcs env parts insts s =
-    and_then_keeps s (in_turn (run_elem env parts insts) s (elem_tasks 0 parts insts)) (λ t. in_turn (run_data env parts insts) t (data_tasks 0 parts insts))
-    (in_turn_keeps (run_elem env parts insts) (λ s x. elem_keeps (value_of env parts insts x.part) s x x.segment.mode) s (elem_tasks 0 parts insts))
-    (λ t. in_turn_keeps (run_data env parts insts) (λ s x. data_keeps (value_of env parts insts x.part) s x x.segment.mode) t (data_tasks 0 parts insts))
+    and_then_keeps s (one_by_one (run_elem env parts insts) s (placed_elems 0 parts insts)) (λ t. one_by_one (run_data env parts insts) t (placed_datas 0 parts insts))
+    (in_turn_keeps (run_elem env parts insts) (λ s x. elem_keeps (value_of env parts insts x.part) s x x.segment.mode) s (placed_elems 0 parts insts))
+    (λ t. in_turn_keeps (run_data env parts insts) (λ s x. data_keeps (value_of env parts insts x.part) s x x.segment.mode) t (placed_datas 0 parts insts))
 
 -- ---- look-ups ----
 

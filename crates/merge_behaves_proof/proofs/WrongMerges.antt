@@ -22,7 +22,7 @@ use Rattle.wasm_meaning.specs.World.{alone, instantiate}
 use Rattle.base_simulation.specs.Machines.{events_of, state_after}
 use Rattle.wasm_meaning.specs.Run.{Event, Linked, LinkFault, InstanceTrapped, Asked, BadMove, Move, Answer, Run, IsPrefix, fresh_run, tick, events}
 use Rattle.merge_names.specs.declared.mode.Mode.TheVariants as mode
-use Rattle.merge_spec.specs.Faults.{link_fault, import_fault, stays, kept_limits, clash_fault, memory_count, memory_fault, own_globals, global_fault}
+use Rattle.merge_spec.specs.Faults.{link_fault, import_fault, stays, kept_limits, clash_fault, memory_count, memory_fault, defined_globals, global_fault}
 use Rattle.merge_spec.specs.Merged.{staying, staying_of, place_of_end, new_index, merged_types, place_of_type, map_of, merged_const, merged_import, starts, defined_funcs, all_exports, merged}
 use Rattle.merge_spec.specs.Joined.{joined_module}
 use Rattle.merge_spec.specs.declared.parts.Part as given
@@ -123,7 +123,7 @@ abbrev both_offered : Environment
 both_offered = offered f ∷ (offered g ∷ [])
 
 pub two_starts_have_no_fault : link_fault two_starts true ≡ None
-unfolding link_fault import_fault stays kept_limits clash_fault memory_count memory_fault own_globals global_fault
+unfolding link_fault import_fault stays kept_limits clash_fault memory_count memory_fault defined_globals global_fault
 two_starts_have_no_fault = refl
 
 pub two_starts_join : joined_module two_starts mode.Refuse ≡ two_starts_merged
@@ -209,7 +209,7 @@ abbrev one_offered : Environment
 one_offered = offered f ∷ []
 
 pub two_types_have_no_fault : link_fault two_types true ≡ None
-unfolding link_fault import_fault stays kept_limits clash_fault memory_count memory_fault own_globals global_fault
+unfolding link_fault import_fault stays kept_limits clash_fault memory_count memory_fault defined_globals global_fault
 two_types_have_no_fault = refl
 
 pub two_types_join : joined_module two_types mode.Refuse ≡ two_types_with 1
@@ -256,7 +256,7 @@ abbrev no_page : Environment
 no_page = record { pair = (own, m); funcs = []; table = None; memory = Some (record { limits = pages_from 0; pages = 0; bytes = [] }); global = None } ∷ []
 
 pub one_memory_has_no_fault : link_fault one_memory true ≡ None
-unfolding link_fault import_fault stays kept_limits clash_fault memory_count memory_fault own_globals global_fault
+unfolding link_fault import_fault stays kept_limits clash_fault memory_count memory_fault defined_globals global_fault
 one_memory_has_no_fault = refl
 
 pub one_memory_joins : joined_module one_memory mode.Refuse ≡ one_memory_from 1
@@ -297,7 +297,7 @@ abbrev pub without_start : Module
 without_start = record never_ending { start = None }
 
 pub no_end_has_no_fault : link_fault no_end true ≡ None
-unfolding link_fault import_fault stays kept_limits clash_fault memory_count memory_fault own_globals global_fault
+unfolding link_fault import_fault stays kept_limits clash_fault memory_count memory_fault defined_globals global_fault
 no_end_has_no_fault = refl
 
 pub no_end_joins : joined_module no_end mode.Refuse ≡ never_ending

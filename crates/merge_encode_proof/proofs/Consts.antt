@@ -13,7 +13,7 @@ use Rattle.wasm_tree.specs.declared.module.DataMode.{DataMode}
 use Rattle.wasm_tree.specs.declared.module.DataMode.TheVariants as segment
 use Rattle.wasm_tree.specs.declared.module.DataSeg.{DataSeg}
 use Rattle.wasm_tree.specs.declared.module.Module.{Module}
-use Rattle.wasm_meaning.specs.Paths.{Next, Ends, Goes, walk, walk_on}
+use Rattle.wasm_meaning.specs.Paths.{PathStep, EndsWith, LeadsTo, walk, walk_on}
 use Rattle.wasm_meaning.specs.Linking.{Part, Site, End, Defined, Outside, Entity, Read, module_at, imports_of, space_index, initial, end_step, end_of, global_import, expr_step, read_step, initials_from, read_of}
 use Rattle.wasm_tree.specs.Spaces.{index_of_export}
 use Rattle.index_remap.specs.declared.remap.Remap.{Remap}
@@ -39,10 +39,10 @@ new_number r (const.Func f) h = tt
 new_number r (const.Global g) h = tt
 
 -- what a step gives has a number in range
-abbrev StepIn : Option (Next Read Read) → Type 0
+abbrev StepIn : Option (PathStep Read Read) → Type 0
 StepIn None = Unit {0}
-StepIn (Some (Ends r)) = ConstNumberInRange r.expr
-StepIn (Some (Goes r)) = ConstNumberInRange r.expr
+StepIn (Some (EndsWith r)) = ConstNumberInRange r.expr
+StepIn (Some (LeadsTo r)) = ConstNumberInRange r.expr
 
 initial_in : (parts : List Part) → PartsInRange parts → (e : Entity) (expr : ConstExpr) → initial parts e ≡ Some expr → ConstNumberInRange expr
 initial_in parts h e expr is = in_module (and_then_is (module_at parts e.part) _ expr is)
@@ -55,11 +55,11 @@ initial_in parts h e expr is = in_module (and_then_is (module_at parts e.part) _
             let is_it : g.init ≡ expr = cc in
             number_of expr (subst ConstInRange is_it (every_at (λ (x : GlobalDef). ConstInRange x.init) m.globals _ g (at_part InRange parts e.part m h there).globals at))
 
-goes_in : (part : ℕ) (o : Option ConstExpr) → ((expr : ConstExpr) → o ≡ Some expr → ConstNumberInRange expr) → StepIn (option_and_then (λ expr. Some (Goes (record { part = part; expr = expr }))) o)
+goes_in : (part : ℕ) (o : Option ConstExpr) → ((expr : ConstExpr) → o ≡ Some expr → ConstNumberInRange expr) → StepIn (option_and_then (λ expr. Some (LeadsTo (record { part = part; expr = expr }))) o)
 goes_in part None f = tt
 goes_in part (Some expr) f = f expr refl
 
-outside_in : (parts : List Part) (s : Site) (o : Option Module) → StepIn (option_and_then (λ (r : Read). Some (Ends r)) (option_and_then (λ (m : Module). Some (record { part = s.part; expr = const.Global (space_index m.imports s.import Globals) })) o))
+outside_in : (parts : List Part) (s : Site) (o : Option Module) → StepIn (option_and_then (λ (r : Read). Some (EndsWith r)) (option_and_then (λ (m : Module). Some (record { part = s.part; expr = const.Global (space_index m.imports s.import Globals) })) o))
 outside_in parts s None = tt
 outside_in parts s (Some m) = tt
 
@@ -84,10 +84,10 @@ walk_in : (parts : List Part) → PartsInRange parts → (most : ℕ) (r : Read)
 walk_in parts h zero r n = tt
 walk_in parts h (suc most) r n = on_step parts most (read_step parts r) (expr_in parts h r.part r.expr n) (λ q k. walk_in parts h most q k)
   where
-    on_step : (parts : List Part) (most : ℕ) (o : Option (Next Read Read)) → StepIn o → ((q : Read) → ConstNumberInRange q.expr → EndIn (walk (read_step parts) most q)) → EndIn (walk_on (walk (read_step parts) most) o)
+    on_step : (parts : List Part) (most : ℕ) (o : Option (PathStep Read Read)) → StepIn o → ((q : Read) → ConstNumberInRange q.expr → EndIn (walk (read_step parts) most q)) → EndIn (walk_on (walk (read_step parts) most) o)
     on_step parts most None s more = tt
-    on_step parts most (Some (Ends q)) s more = s
-    on_step parts most (Some (Goes q)) s more = more q s
+    on_step parts most (Some (EndsWith q)) s more = s
+    on_step parts most (Some (LeadsTo q)) s more = more q s
 
 read_in : (parts : List Part) → PartsInRange parts → (p : ℕ) (expr : ConstExpr) → ConstNumberInRange expr → EndIn (read_of parts p expr)
 read_in parts h p expr n = walk_in parts h (suc (length (initials_from 0 parts))) (record { part = p; expr = expr }) n

@@ -11,9 +11,9 @@ ghost use Rattle.merge_names.specs.declared.mode.Mode.{Mode};
 ghost use Rattle.merge_spec.specs.Joined.{joined_module};
 ghost use Rattle.wasm_write_proof.specs.Ranges.{InRange};
 
-use wasm_write_proof::{other_numbers_stay, spelled_operands_are_in_range};
 use wasm_tree::operands_pass_layer_by_layer;
 use wasm_valid::valid_where_items_hold;
+use wasm_write_proof::{other_numbers_stay, spelled_operands_are_in_range};
 
 /// Where the parts of a merge have their numbers in range and their names in UTF-8, so has the merged module, if it is valid and has at
 /// most one memory (`range`): what it names is there, and its other numbers stand in some part. And its bodies name no memory but memory 0

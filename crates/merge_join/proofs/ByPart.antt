@@ -10,7 +10,7 @@ use Rattle.merge_spec.specs.declared.parts.Part as declared
 use Rattle.merge_spec.specs.Parts.{named_module, named_modules}
 use Rattle.merge_spec.specs.Linked.{by_import_from, by_import}
 use Rattle.merge_spec.specs.Merged.{by_part_from, by_part}
-use Rattle.merge_join.specs.Words.{site, each_part}
+use Rattle.merge_join.specs.LinkedParts.{site, each_part}
 use Rattle.wasm_meaning.proofs.Counts.{module_there}
 use Rattle.merge_valid_proof.proofs.ByPart.{by_part_flat}
 

@@ -14,7 +14,7 @@ use Rattle.merge_spec.specs.Parts.{named_modules}
 use Rattle.merge_spec.specs.Faults.{stays}
 use Rattle.merge_spec.specs.Merged.{staying, staying_of, imports_kind}
 use Rattle.base_lists.specs.Places.{count_of}
-use Rattle.merge_join.specs.Words.{site}
+use Rattle.merge_join.specs.LinkedParts.{site}
 use Rattle.merge_join.specs.Spaces.{picked, sites_before, count_before}
 use Rattle.merge_join.proofs.ByPart.{named_length, part_more}
 use Rattle.merge_join.proofs.Sites.{sites_in_more, sites_split, staying_is}

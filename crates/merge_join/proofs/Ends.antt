@@ -11,7 +11,7 @@ use Rattle.merge_spec.specs.declared.links.End.TheVariants.{Defined, Outside}
 use Rattle.merge_spec.specs.Faults.{stays}
 use Rattle.merge_spec.specs.Linked.{end_entry}
 use Rattle.merge_spec.specs.Merged.{place_of_end}
-use Rattle.merge_join.specs.Words.{site, place_at}
+use Rattle.merge_join.specs.LinkedParts.{site, place_at}
 
 -- whether an import is this end
 abbrev pub is_self : Site → End → Bool

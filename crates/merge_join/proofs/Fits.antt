@@ -22,7 +22,7 @@ use Rattle.merge_spec.specs.declared.faults.LinkFault.{LinkFault}
 use Rattle.merge_spec.specs.declared.faults.LinkFault.TheVariants.{ImportMismatch}
 use Rattle.merge_spec.specs.Faults.{External, FuncOf, TableOf, MemoryOf, GlobalOf, asked, asked_at, external_of, found, same_but_limits, meets_limits, suits, is_suited, first_fault, end_fault, import_fault, link_fault}
 use Rattle.merge_spec.specs.Linked.{end_entry}
-use Rattle.merge_join.specs.Words.{site, space_size, IsEnd}
+use Rattle.merge_join.specs.LinkedParts.{site, space_size, IsEnd}
 use Rattle.merge_join.specs.Spaces.{sites_before}
 use Rattle.merge_join.proofs.Sites.{sites_split}
 use Rattle.merge_join.proofs.SpaceSizes.{funcs_size, tables_size, memories_size, globals_size}

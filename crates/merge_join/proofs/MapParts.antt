@@ -11,7 +11,7 @@ use Rattle.merge_spec.specs.declared.parts.Part as declared
 use Rattle.merge_spec.specs.Parts.{named_modules}
 use Rattle.merge_spec.specs.Merged.{new_index, merged_types, place_of_type, map_of}
 use Rattle.wasm_tree.specs.declared.space.Space.{Space}
-use Rattle.merge_join.specs.Words.{space_size}
+use Rattle.merge_join.specs.LinkedParts.{space_size}
 use Rattle.merge_join.proofs.SpaceSizes.{funcs_size, tables_size, memories_size, globals_size}
 
 -- the new indices of a space, where its parts and its index space are these

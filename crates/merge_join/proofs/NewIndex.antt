@@ -11,7 +11,7 @@ use Rattle.wasm_meaning.specs.Linking.{Part, Site, places, module_at, imports_of
 use Rattle.merge_spec.specs.declared.links.End.{End}
 use Rattle.merge_spec.specs.Linked.{end_entry}
 use Rattle.merge_spec.specs.Merged.{staying_of, place_of_end, place_of_entry, new_index}
-use Rattle.merge_join.specs.Words.{site, place_at}
+use Rattle.merge_join.specs.LinkedParts.{site, place_at}
 use Rattle.merge_join.proofs.Ends.{place_is}
 use Rattle.merge_valid_proof.proofs.Entries.{count_is}
 

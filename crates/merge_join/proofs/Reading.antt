@@ -29,8 +29,8 @@ use Rattle.merge_spec.specs.Linked.{read_entry, when_fixed, read_at_desc, read_a
 use Rattle.merge_spec.specs.Merged.{map_of, merged_read, merged_const}
 use Rattle.merge_valid_proof.specs.Entries.{HasEntry}
 use Rattle.merge_valid_proof.specs.Joinable.{EachPart}
-use Rattle.merge_join.specs.declared.joining.Joining.{Joining}
-use Rattle.merge_join.specs.Words.{AreJoined, site}
+use Rattle.merge_join.specs.declared.mapped_parts.MappedParts.{MappedParts}
+use Rattle.merge_join.specs.LinkedParts.{HaveTheirMaps, site}
 use Rattle.merge_join.specs.Reads.{AreReads, HasType}
 use Rattle.world_simulation.proofs.Alone.{global_kind}
 
@@ -178,7 +178,7 @@ becomes_new ps p (const.Global x) m not at = absurd (not x refl)
 abbrev pub ReadsHaveEntries : Type 0
 ReadsHaveEntries = (ps : List Part) (p : ℕ) (m : Module) (e : ConstExpr) (ty : ValType) (r : linking.Read) → EachPart IsValid ps → link_fault ps true ≡ None → module_at ps p ≡ Some m → const_type m e ≡ Some ty → read_of ps p e ≡ Some r → HasEntry ps r
 
-module _ (j : Joining) (joined : AreJoined j) (p : ℕ) (reads : List (Option Read)) (are : AreReads (named_modules j.parts.now) p reads) (e : ConstExpr) (typed : HasType (named_modules j.parts.now) p e) (x : ℕ) (is : e ≡ const.Global x) where
+module _ (j : MappedParts) (joined : HaveTheirMaps j) (p : ℕ) (reads : List (Option Read)) (are : AreReads (named_modules j.parts.now) p reads) (e : ConstExpr) (typed : HasType (named_modules j.parts.now) p e) (x : ℕ) (is : e ≡ const.Global x) where
   abbrev parts : List Part
   parts = named_modules j.parts.now
 

@@ -4,7 +4,7 @@ use Rattle.std.proofs.lemmas.List.{length-map}
 use Rattle.std.proofs.lemmas.Option.{slice_get_within, get_or_from_slice_get}
 use Rattle.wasm_meaning.specs.Linking.{Part, Site, sites_in}
 use Rattle.merge_spec.specs.Linked.{by_import}
-use Rattle.merge_join.specs.Words.{site, IsSite}
+use Rattle.merge_join.specs.LinkedParts.{site, IsSite}
 use Rattle.merge_join.proofs.ByPart.{row_at, entry_at, sites_in_length}
 
 -- what the reads of a row and of its entry need and give

@@ -10,7 +10,7 @@ use Rattle.wasm_tree.specs.declared.module.Module.{Module}
 use Rattle.wasm_meaning.specs.Linking.{Part, Site, places, module_at, same_site, first_place, sites_in, sites_from, sites}
 use Rattle.merge_spec.specs.Faults.{stays}
 use Rattle.merge_spec.specs.Merged.{by_part, staying, staying_of, imports_kind}
-use Rattle.merge_join.specs.Words.{site}
+use Rattle.merge_join.specs.LinkedParts.{site}
 use Rattle.merge_join.specs.Spaces.{staying_place, picked, sites_before, count_before}
 use Rattle.merge_valid_proof.proofs.Linked.{sites_are}
 

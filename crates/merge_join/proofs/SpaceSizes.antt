@@ -7,7 +7,7 @@ use Rattle.wasm_tree.specs.declared.module.Import.{Import}
 use Rattle.wasm_tree.specs.declared.module.Module.{Module}
 use Rattle.wasm_tree.specs.Spaces.{func_of, table_of, memory_of, global_of, imported_funcs, imported_tables, imported_memories, imported_globals, funcs_of, tables_of, memories_of, globals_of}
 use Rattle.wasm_meaning.specs.Linking.{places, has_kind}
-use Rattle.merge_join.specs.Words.{space_size}
+use Rattle.merge_join.specs.LinkedParts.{space_size}
 
 -- as many of a space are imported as there are places of its imports
 functions_many : (is : List Import) → length (places (has_kind Functions) is 0) ≡ length (imported_funcs is)

@@ -14,7 +14,7 @@ use Rattle.index_remap.specs.declared.remap.Remap.{Remap}
 use Rattle.merge_spec.specs.Faults.{stays, kept_limits}
 use Rattle.merge_spec.specs.Merged.{by_part_from, by_part, map_of, merged_desc, merged_import, staying}
 use Rattle.merge_join.specs.Kept.{kept_desc}
-use Rattle.merge_join.specs.Words.{site}
+use Rattle.merge_join.specs.LinkedParts.{site}
 use Rattle.merge_join.proofs.Holding.{read_there}
 use Rattle.merge_valid_proof.proofs.MergedSpaces.{import_is}
 

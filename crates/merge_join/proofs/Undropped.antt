@@ -34,7 +34,7 @@ use Rattle.wasm_meaning.specs.Linking.{Part, module_at}
 use Rattle.index_remap.specs.Renumbered.{has, fits_all, fits_func, fits_import, fits_tree, new_func, new_export, new_export_desc, renumbered_all}
 use Rattle.index_remap.specs.References.{refs, refs_step, refs_all, body_refs, offset_func, offset_refs, outside_refs, is_among, declared_refs, declaring, with_declared, declared}
 use Rattle.merge_spec.specs.Merged.{by_part, by_part_from, map_of, new_index, merged_elem_mode, merged_const, merged_global, merged_elem, start_calls, starts, defined_funcs, all_exports, named_exports, merged}
-use Rattle.merge_join.specs.Words.{PartsHold}
+use Rattle.merge_join.specs.LinkedParts.{PartsHold}
 use Rattle.merge_join.proofs.Reading.{becomes_new}
 use Rattle.merge_join.proofs.RefOperands.{refs_kept}
 use Rattle.index_remap_proof.proofs.DeclaredTrees.{refused}

@@ -7,4 +7,4 @@ pub mod Repeats
 pub mod Spaces
 pub mod Texts
 pub mod Types
-pub mod Words
+pub mod LinkedParts

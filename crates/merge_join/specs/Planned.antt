@@ -7,7 +7,7 @@ use Rattle.wasm_meaning.specs.Linking.{Part}
 use Rattle.merge_spec.specs.Merged.{by_part, map_of, merged_types, merged_import, staying, named_exports, all_exports, start_among, starts, start_calls, defined_funcs, merged_global, merged_elem, merged_data}
 use Rattle.merge_join.specs.declared.tree.Plan.{Plan}
 use Rattle.merge_join.specs.Moved.{AreAllValues}
-use Rattle.merge_join.specs.Words.{AreMaps, funcs_before_calls}
+use Rattle.merge_join.specs.LinkedParts.{AreMaps, funcs_before_calls}
 
 -- the types, the imports, the exports and the start of the merged module, and the function that calls several starts
 pub record IsFrame (ps : List Part) (names : List (Option Text)) (m : Module) : Type 0 where

@@ -8,7 +8,7 @@ use Rattle.wasm_valid.specs.Constants.{const_type}
 use Rattle.wasm_meaning.specs.Linking.{Part, module_at, imports_of}
 use Rattle.merge_spec.specs.declared.links.Read.{Read}
 use Rattle.merge_spec.specs.Linked.{read_at}
-use Rattle.merge_join.specs.Words.{site}
+use Rattle.merge_join.specs.LinkedParts.{site}
 
 -- one entry for each imported global of the part
 abbrev pub AreReads : List Part → ℕ → List (Option Read) → Type 0

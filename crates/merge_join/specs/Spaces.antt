@@ -7,7 +7,7 @@ use Rattle.wasm_meaning.specs.Linking.{Part, Site, first_place, same_site, sites
 use Rattle.merge_spec.specs.Faults.{stays}
 use Rattle.merge_spec.specs.Linked.{by_import}
 use Rattle.merge_spec.specs.Merged.{staying_of, imports_kind, imported_count}
-use Rattle.merge_join.specs.Words.{each_part}
+use Rattle.merge_join.specs.LinkedParts.{each_part}
 
 -- the place of an import among those of a kind that stay
 abbrev pub staying_place : List Part → Space → Site → Option ℕ

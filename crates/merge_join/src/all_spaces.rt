@@ -1,7 +1,7 @@
 // The four merged index spaces.
 
 ghost use Rattle.std.specs.Prelude.{IfOk};
-ghost use Rattle.merge_join.specs.Words.{AreLinked};
+ghost use Rattle.merge_join.specs.LinkedParts.{PartsAreLinked};
 ghost use Rattle.merge_join.specs.AllSpaces.{AreSpaces};
 
 use crate::spaces::{MergedSpace, space_of};
@@ -25,7 +25,7 @@ pub(crate) fn spaces_of<'a>(
     parts: &'a [Part],
     links: &Links,
 ) -> Result<Spaces<'a>, NoMemory>
-    requires { AreLinked parts.now links.now }
+    requires { PartsAreLinked parts.now links.now }
     ensures { IfOk result (λ spaces. AreSpaces parts.now spaces) }
 {
     Ok(Spaces {

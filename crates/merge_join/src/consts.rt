@@ -6,10 +6,10 @@ ghost use Rattle.merge_spec.specs.Parts.{named_modules};
 ghost use Rattle.merge_spec.specs.Merged as merged;
 ghost use Rattle.merge_join.specs.Moved.{AreValues, AreAllValues};
 ghost use Rattle.merge_join.specs.Reads.{AreReads, HasType};
-ghost use Rattle.merge_join.specs.Words.{AreJoined};
+ghost use Rattle.merge_join.specs.LinkedParts.{HaveTheirMaps};
 
-use crate::joining::Joining;
 use crate::linked::{module_of, read_of};
+use crate::mapped_parts::MappedParts;
 use index_remap::renumber_const;
 use merge_spec::Read;
 use merge_valid_proof::maps_have_entries;
@@ -20,10 +20,10 @@ use wasm_tree::{ConstExpr, ImportDesc, Space};
 /// What is read through each imported global of a part.
 pub(crate) fn reads_of(
     alloc: Global,
-    joining: &Joining<'_>,
+    joining: &MappedParts<'_>,
     part: usize,
 ) -> Result<Items<Option<Read>>, NoMemory>
-    requires joined { AreJoined joining.now }
+    requires joined { HaveTheirMaps joining.now }
     requires there { part < length joining.now.parts.now }
     ensures { IfOk result (AreReads (named_modules joining.now.parts.now) part) }
 {
@@ -39,8 +39,13 @@ pub(crate) fn reads_of(
 }
 
 // What stands in the merged module for a constant expression that reads a global which a part imports.
-fn merged_read(global: u32, joining: &Joining<'_>, part: usize, reads: &[Option<Read>]) -> ConstExpr
-    requires joined { AreJoined joining.now }
+fn merged_read(
+    global: u32,
+    joining: &MappedParts<'_>,
+    part: usize,
+    reads: &[Option<Read>],
+) -> ConstExpr
+    requires joined { HaveTheirMaps joining.now }
     requires reads { AreReads (named_modules joining.now.parts.now) part reads.now }
     requires typed { HasType (named_modules joining.now.parts.now) part (const.Global global) }
     ensures { result ≡ merged.merged_const (named_modules joining.now.parts.now) part (const.Global global) }
@@ -56,11 +61,11 @@ fn merged_read(global: u32, joining: &Joining<'_>, part: usize, reads: &[Option<
 fn value_of(
     global: u32,
     mutable: bool,
-    joining: &Joining<'_>,
+    joining: &MappedParts<'_>,
     part: usize,
     reads: &[Option<Read>],
 ) -> ConstExpr
-    requires joined { AreJoined joining.now }
+    requires joined { HaveTheirMaps joining.now }
     requires reads { AreReads (named_modules joining.now.parts.now) part reads.now }
     requires typed { mutable ≡ false → HasType (named_modules joining.now.parts.now) part (const.Global global) }
     ensures { mutable ≡ false → result ≡ merged.merged_const (named_modules joining.now.parts.now) part (const.Global global) }
@@ -74,10 +79,10 @@ fn value_of(
 // What stands for each global that a part imports.
 fn values_of(
     alloc: Global,
-    joining: &Joining<'_>,
+    joining: &MappedParts<'_>,
     part: usize,
 ) -> Result<Items<ConstExpr>, NoMemory>
-    requires joined { AreJoined joining.now }
+    requires joined { HaveTheirMaps joining.now }
     requires there { part < length joining.now.parts.now }
     ensures { IfOk result (AreValues (named_modules joining.now.parts.now) part) }
 {
@@ -96,9 +101,9 @@ fn values_of(
 /// For each part what stands for each global that it imports.
 pub(crate) fn all_values(
     alloc: Global,
-    joining: &Joining<'_>,
+    joining: &MappedParts<'_>,
 ) -> Result<Items<Items<ConstExpr>>, NoMemory>
-    requires { AreJoined joining.now }
+    requires { HaveTheirMaps joining.now }
     ensures { IfOk result (AreAllValues (named_modules joining.now.parts.now)) }
 {
     let mut all = Items::new(alloc);

@@ -10,12 +10,12 @@ ghost use Rattle.merge_spec.specs.Parts.{named_modules};
 ghost use Rattle.merge_spec.specs.Merged.{all_exports, export_names, named_exports};
 ghost use Rattle.merge_spec.specs.Joined.{repeated_name};
 ghost use Rattle.merge_join.specs.Repeats.{IsRepeatOf};
-ghost use Rattle.merge_join.specs.Words.{AreJoined};
+ghost use Rattle.merge_join.specs.LinkedParts.{HaveTheirMaps};
 
-use crate::joining::Joining;
 use crate::linked::module_of;
-use merge_names::{Mode, NameFault, choose_names};
+use crate::mapped_parts::MappedParts;
 use index_remap::{Remap, renumber_export_desc};
+use merge_names::{Mode, NameFault, choose_names};
 use merge_spec::{JoinFault, Part};
 use std::alloc::Global;
 use wasm_bytes::{Items, Name, NoMemory};
@@ -105,10 +105,10 @@ fn add_exports(
 /// The exports that have a name, by part, then in order.
 pub(crate) fn merged_exports(
     alloc: Global,
-    joining: &Joining<'_>,
+    joining: &MappedParts<'_>,
     names: &[Option<Name>],
 ) -> Result<Items<Export>, NoMemory>
-    requires joined { AreJoined joining.now }
+    requires joined { HaveTheirMaps joining.now }
     requires named { length names.now ≡ length (all_exports (named_modules joining.now.parts.now)) }
     ensures { IfOk result (λ exports. exports ≡ named_exports (all_exports (named_modules joining.now.parts.now)) names.now) }
 {

@@ -10,10 +10,10 @@ ghost use Rattle.merge_spec.specs.Faults as faults;
 ghost use Rattle.merge_spec.specs.Merged as merged;
 ghost use Rattle.merge_spec.specs.Merged.{staying};
 ghost use Rattle.merge_join.specs.Kept.{kept_desc};
-ghost use Rattle.merge_join.specs.Words.{AreJoined, IsSite, site};
+ghost use Rattle.merge_join.specs.LinkedParts.{HaveTheirMaps, IsSite, site};
 
-use crate::joining::Joining;
 use crate::linked::{limits_of, module_of, stays};
+use crate::mapped_parts::MappedParts;
 use index_remap::Remap;
 use std::alloc::Global;
 use wasm_bytes::{Items, NoMemory};
@@ -38,11 +38,11 @@ fn merged_desc(desc: ImportDesc, map: &Remap, kept: Option<Limits>) -> ImportDes
 // The import at a place, which stays.
 fn merged_import(
     alloc: Global,
-    joining: &Joining<'_>,
+    joining: &MappedParts<'_>,
     part: usize,
     place: usize,
 ) -> Result<Import, NoMemory>
-    requires joined { AreJoined joining.now }
+    requires joined { HaveTheirMaps joining.now }
     requires there { IsSite (named_modules joining.now.parts.now) part place }
     requires stays { faults.stays (named_modules joining.now.parts.now) (site part place) ≡ true }
     ensures { IfOk result (λ import. merged.merged_import (named_modules joining.now.parts.now) (site part place) ≡ Some import) }
@@ -60,10 +60,10 @@ fn merged_import(
 fn add_imports(
     alloc: Global,
     all: &mut Items<Import>,
-    joining: &Joining<'_>,
+    joining: &MappedParts<'_>,
     part: usize,
 ) -> Result<(), NoMemory>
-    requires joined { AreJoined joining.now }
+    requires joined { HaveTheirMaps joining.now }
     requires there { part < length joining.now.parts.now }
     ensures { OnOk result ((m : Module) → module_at (named_modules joining.now.parts.now) part ≡ Some m → all.new ≡ all.old ++ filter_map (merged.merged_import (named_modules joining.now.parts.now)) (filter (faults.stays (named_modules joining.now.parts.now)) (sites_in part (length m.imports) 0))) }
 {
@@ -78,9 +78,9 @@ fn add_imports(
 /// The imports that stay, by part, then in order.
 pub(crate) fn merged_imports(
     alloc: Global,
-    joining: &Joining<'_>,
+    joining: &MappedParts<'_>,
 ) -> Result<Items<Import>, NoMemory>
-    requires joined { AreJoined joining.now }
+    requires joined { HaveTheirMaps joining.now }
     ensures { IfOk result (λ imports. imports ≡ filter_map (merged.merged_import (named_modules joining.now.parts.now)) (staying (named_modules joining.now.parts.now))) }
 {
     let mut all = Items::new(alloc);

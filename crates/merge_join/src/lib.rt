@@ -1,4 +1,4 @@
-//! Joining parts whose imports are linked: the one module that behaves as they do together.
+//! MappedParts parts whose imports are linked: the one module that behaves as they do together.
 #![tactic(auto)]
 
 mod all_spaces;
@@ -6,9 +6,9 @@ mod consts;
 mod defined;
 mod exports;
 mod imports;
-mod joining;
 mod limits;
 mod linked;
+mod mapped_parts;
 mod maps;
 mod merging;
 mod moved;

@@ -7,7 +7,7 @@ ghost use Rattle.wasm_meaning.specs.Linking.{module_at, linked_end};
 ghost use Rattle.merge_spec.specs.Parts.{named_modules};
 ghost use Rattle.merge_spec.specs.Linked.{AreLinks, end_entry, read_at};
 ghost use Rattle.merge_spec.specs.Faults as faults;
-ghost use Rattle.merge_join.specs.Words.{site, IsSite, PartsHold};
+ghost use Rattle.merge_join.specs.LinkedParts.{site, IsSite, PartsHold};
 
 use merge_spec::{End, Links, Part, Read};
 use wasm_tree::{Limits, Module};

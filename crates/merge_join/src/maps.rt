@@ -10,7 +10,7 @@ ghost use Rattle.wasm_meaning.specs.World.{defined_before};
 ghost use Rattle.merge_spec.specs.Parts.{named_modules};
 ghost use Rattle.merge_spec.specs.Merged as merged;
 ghost use Rattle.merge_spec.specs.Merged.{new_index, merged_types};
-ghost use Rattle.merge_join.specs.Words.{space_size, AreLinked, AreMaps};
+ghost use Rattle.merge_join.specs.LinkedParts.{space_size, PartsAreLinked, AreMaps};
 ghost use Rattle.merge_join.specs.AllSpaces.{AreSpaces};
 
 use crate::all_spaces::Spaces;
@@ -53,7 +53,7 @@ fn imported_map(
     part: usize,
     into: &MergedSpace<'_>,
 ) -> Result<Items<u32>, NoMemory>
-    requires linked { AreLinked into.now.parts.now links.now }
+    requires linked { PartsAreLinked into.now.parts.now links.now }
     requires there { part < length into.now.parts.now }
     ensures { IfOk result (λ new. (m : Tree) → module_at (named_modules into.now.parts.now) part ≡ Some m → new ≡ each (new_index (named_modules into.now.parts.now) part into.now.space) (world.numbers 0 (length (imports_of into.now.space m)))) }
 {
@@ -75,7 +75,7 @@ fn space_map(
     part: usize,
     into: &MergedSpace<'_>,
 ) -> Result<Items<u32>, NoMemory>
-    requires linked { AreLinked into.now.parts.now links.now }
+    requires linked { PartsAreLinked into.now.parts.now links.now }
     requires there { part < length into.now.parts.now }
     ensures { IfOk result (λ new. (m : Tree) → module_at (named_modules into.now.parts.now) part ≡ Some m → new ≡ each (new_index (named_modules into.now.parts.now) part into.now.space) (world.numbers 0 (space_size into.now.space m))) }
 {
@@ -103,7 +103,7 @@ fn map_of(
     types: &Types,
     first: Segments,
 ) -> Result<Remap, NoMemory>
-    requires linked { AreLinked parts.now links.now }
+    requires linked { PartsAreLinked parts.now links.now }
     requires there { part < length parts.now }
     requires spaces { AreSpaces parts.now spaces.now }
     requires types { types.now.list ≡ merged_types (named_modules parts.now) }
@@ -131,7 +131,7 @@ pub(crate) fn all_maps(
     spaces: &Spaces<'_>,
     types: &Types,
 ) -> Result<Items<Remap>, NoMemory>
-    requires linked { AreLinked parts.now links.now }
+    requires linked { PartsAreLinked parts.now links.now }
     requires spaces { AreSpaces parts.now spaces.now }
     requires types { types.now.list ≡ merged_types (named_modules parts.now) }
     ensures { IfOk result (λ maps. AreMaps (named_modules parts.now) maps) }

@@ -1,4 +1,4 @@
-// Joining parts.
+// MappedParts parts.
 
 ghost use Rattle.std.specs.Prelude.{◌≡◌, ◌⊎◌, true, Ok, Err, None, IfOk, IfErr};
 ghost use Rattle.merge_spec.specs.declared.faults.JoinFault.TheVariants.{NoMemory as OutOfMemory};
@@ -12,10 +12,10 @@ ghost use Rattle.world_sequential_proof.specs.Laws.{MayComeInTurn};
 
 use crate::linked::parts_hold;
 use crate::tree::joined_tree;
+use merge_behaves_proof::merged_modules_show_the_same;
 use merge_names::Mode;
 use merge_spec::{JoinFault, Links, Part};
 use merge_valid_proof::merged_modules_are_valid;
-use merge_behaves_proof::merged_modules_show_the_same;
 use std::alloc::Global;
 use wasm_bytes::Items;
 use wasm_valid::Valid;

@@ -7,7 +7,7 @@ ghost use Rattle.wasm_tree.specs.Bounds.{IsBounded};
 ghost use Rattle.wasm_valid.specs.Validity.{IsValid};
 ghost use Rattle.merge_join.specs.Moved.{AreAllValues, with_moved};
 ghost use Rattle.merge_join.specs.Planned.{IsMoved};
-ghost use Rattle.merge_join.specs.Words.{AreMaps, PartsHold};
+ghost use Rattle.merge_join.specs.LinkedParts.{AreMaps, PartsHold};
 
 use crate::moved::rewrite_each;
 use index_remap::{Remap, renumber_funcs_in_place};

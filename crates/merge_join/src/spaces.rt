@@ -8,7 +8,7 @@ ghost use Rattle.merge_spec.specs.Parts.{named_modules};
 ghost use Rattle.merge_spec.specs.declared.links.End.TheVariants.{Defined};
 ghost use Rattle.merge_spec.specs.Linked.{AreLinks, by_import};
 ghost use Rattle.merge_spec.specs.Merged as merged;
-ghost use Rattle.merge_join.specs.Words.{site, place_at, each_part, IsSite, IsEnd, AreLinked};
+ghost use Rattle.merge_join.specs.LinkedParts.{site, place_at, each_part, IsSite, IsEnd, PartsAreLinked};
 ghost use Rattle.merge_join.specs.Spaces.{IsSpace, staying_place, imported_in, picked, count_before};
 
 use crate::defined::defined_count;
@@ -101,7 +101,7 @@ fn staying_in(
     space: Space,
     count: &mut u32,
 ) -> Result<Items<Option<u32>>, NoMemory>
-    requires linked { AreLinked parts.now links.now }
+    requires linked { PartsAreLinked parts.now links.now }
     requires there { part < length parts.now }
     requires count { count.old ≡ count_before (named_modules parts.now) space part 0 }
     ensures row { IfOk result (λ row. (m : Tree) → module_at (named_modules parts.now) part ≡ Some m → row ≡ map (staying_place (named_modules parts.now) space) (sites_in part (length m.imports) 0)) }
@@ -135,7 +135,7 @@ pub(crate) fn space_of<'a>(
     links: &Links,
     space: Space,
 ) -> Result<MergedSpace<'a>, NoMemory>
-    requires { AreLinked parts.now links.now }
+    requires { PartsAreLinked parts.now links.now }
     ensures parts { IfOk result (λ merged. merged.parts.now ≡ parts.now) }
     ensures space { IfOk result (λ merged. merged.space ≡ space) }
 {
@@ -159,7 +159,7 @@ fn all_staying(
     links: &Links,
     space: Space,
 ) -> Result<(Items<Items<Option<u32>>>, u32), NoMemory>
-    requires { AreLinked parts.now links.now }
+    requires { PartsAreLinked parts.now links.now }
     ensures staying { IfOk result (λ r. r.0 ≡ by_import (staying_place (named_modules parts.now) space) (named_modules parts.now)) }
     ensures count { IfOk result (λ r. r.1 ≡ length (merged.staying_of (named_modules parts.now) space)) }
 {

@@ -7,18 +7,22 @@ ghost use Rattle.wasm_meaning.specs.Linking.{module_at, Part};
 ghost use Rattle.merge_spec.specs.Parts.{named_modules};
 ghost use Rattle.merge_spec.specs.Merged as merged;
 ghost use Rattle.merge_spec.specs.Merged.{merged_types, start_of, start_calls};
-ghost use Rattle.merge_join.specs.Words.{AreJoined};
+ghost use Rattle.merge_join.specs.LinkedParts.{HaveTheirMaps};
 
-use crate::joining::Joining;
 use crate::linked::module_of;
+use crate::mapped_parts::MappedParts;
 use crate::types::Types;
 use std::alloc::Global;
 use wasm_bytes::{Items, NoMemory};
 use wasm_tree::{Func, FuncType, Instr};
 
 // Appends the start function of one part, if it has one.
-fn add_start(starts: &mut Items<u32>, joining: &Joining<'_>, part: usize) -> Result<(), NoMemory>
-    requires joined { AreJoined joining.now }
+fn add_start(
+    starts: &mut Items<u32>,
+    joining: &MappedParts<'_>,
+    part: usize,
+) -> Result<(), NoMemory>
+    requires joined { HaveTheirMaps joining.now }
     requires there { part < length joining.now.parts.now }
     ensures { OnOk result ((m : tree.Module) → module_at (named_modules joining.now.parts.now) part ≡ Some m → starts.new ≡ starts.old ++ start_of (named_modules joining.now.parts.now) part m.start) }
 {
@@ -29,8 +33,8 @@ fn add_start(starts: &mut Items<u32>, joining: &Joining<'_>, part: usize) -> Res
 }
 
 /// The start functions of the parts that have one, by part.
-pub(crate) fn all_starts(alloc: Global, joining: &Joining<'_>) -> Result<Items<u32>, NoMemory>
-    requires joined { AreJoined joining.now }
+pub(crate) fn all_starts(alloc: Global, joining: &MappedParts<'_>) -> Result<Items<u32>, NoMemory>
+    requires joined { HaveTheirMaps joining.now }
     ensures { IfOk result (λ starts. starts ≡ merged.starts (named_modules joining.now.parts.now)) }
 {
     let mut starts = Items::new(alloc);

@@ -8,7 +8,7 @@ ghost use Rattle.merge_spec.specs.Parts.{named_modules};
 ghost use Rattle.merge_spec.specs.Merged as terms;
 ghost use Rattle.merge_spec.specs.Joined as joined;
 ghost use Rattle.merge_spec.specs.declared.faults.JoinFault.TheVariants.{NoMemory as OutOfMemory};
-ghost use Rattle.merge_join.specs.Words.{AreJoined, AreLinked, funcs_before_calls};
+ghost use Rattle.merge_join.specs.LinkedParts.{HaveTheirMaps, PartsAreLinked, funcs_before_calls};
 ghost use Rattle.merge_join.specs.AllSpaces.{AreSpaces};
 ghost use Rattle.merge_join.specs.Planned.{IsFrame, IsPlan};
 
@@ -16,17 +16,17 @@ use crate::all_spaces::{Spaces, spaces_of};
 use crate::consts::all_values;
 use crate::exports::{merged_exports, new_names};
 use crate::imports::merged_imports;
-use crate::joining::Joining;
 use crate::limits::over_limit;
+use crate::mapped_parts::MappedParts;
 use crate::maps::all_maps;
 use crate::moving::moved_parts;
 use crate::starts::{add_calling, all_starts, start_among};
 use crate::types::{Types, all_types};
-use merge_names::Mode;
 use index_remap::{Remap, declare_refs};
+use index_remap_proof::declared_trees_are_valid;
+use merge_names::Mode;
 use merge_spec::{JoinFault, Links, Part};
 use merge_valid_proof::maps_have_entries;
-use index_remap_proof::declared_trees_are_valid;
 use std::alloc::Global;
 use wasm_bytes::{Items, Name, NoMemory};
 use wasm_tree::{ConstExpr, Module};
@@ -43,12 +43,12 @@ pub(crate) struct Plan {
 // Puts the function that calls several starts, and the start.
 fn put_starts(
     alloc: Global,
-    joining: &Joining<'_>,
+    joining: &MappedParts<'_>,
     types: &Types,
     count: u32,
     tree: &mut Module,
 ) -> Result<(), NoMemory>
-    requires joined { AreJoined joining.now }
+    requires joined { HaveTheirMaps joining.now }
     requires types { types.now.list ≡ terms.merged_types (named_modules joining.now.parts.now) }
     ensures { OnOk result (tree.new ≡ record tree.old {
       funcs = tree.old.funcs ++ terms.start_calls (named_modules joining.now.parts.now) (terms.starts (named_modules joining.now.parts.now));
@@ -64,11 +64,11 @@ fn put_starts(
 // Puts the imports that stay, and the exports under these names.
 fn put_names(
     alloc: Global,
-    joining: &Joining<'_>,
+    joining: &MappedParts<'_>,
     names: &[Option<Name>],
     tree: &mut Module,
 ) -> Result<(), NoMemory>
-    requires joined { AreJoined joining.now }
+    requires joined { HaveTheirMaps joining.now }
     requires named { length names.now ≡ length (terms.all_exports (named_modules joining.now.parts.now)) }
     ensures { OnOk result (tree.new ≡ record tree.old {
       imports = filter_map (terms.merged_import (named_modules joining.now.parts.now)) (terms.staying (named_modules joining.now.parts.now));
@@ -83,12 +83,12 @@ fn put_names(
 // What is made of the parts together, from the types and the number of the functions without the one that calls several starts.
 fn frame_of(
     alloc: Global,
-    joining: &Joining<'_>,
+    joining: &MappedParts<'_>,
     names: &[Option<Name>],
     types: Types,
     count: u32,
 ) -> Result<Module, NoMemory>
-    requires joined { AreJoined joining.now }
+    requires joined { HaveTheirMaps joining.now }
     requires named { length names.now ≡ length (terms.all_exports (named_modules joining.now.parts.now)) }
     requires types { types.list ≡ terms.merged_types (named_modules joining.now.parts.now) }
     requires count { count ≡ funcs_before_calls (named_modules joining.now.parts.now) }
@@ -109,14 +109,14 @@ fn plan_over(
     names: &[Option<Name>],
     spaces: &Spaces<'_>,
 ) -> Result<Plan, NoMemory>
-    requires linked { AreLinked parts.now links.now }
+    requires linked { PartsAreLinked parts.now links.now }
     requires named { length names.now ≡ length (terms.all_exports (named_modules parts.now)) }
     requires spaces { AreSpaces parts.now spaces.now }
     ensures { IfOk result (IsPlan (named_modules parts.now) names.now) }
 {
     let types = all_types(alloc, parts)?;
     let maps = all_maps(alloc, parts, links, spaces, &types)?;
-    let joining = Joining {
+    let joining = MappedParts {
         parts,
         links,
         maps: maps.as_slice(),
@@ -137,7 +137,7 @@ fn plan_of(
     links: &Links,
     names: &[Option<Name>],
 ) -> Result<Plan, NoMemory>
-    requires linked { AreLinked parts.now links.now }
+    requires linked { PartsAreLinked parts.now links.now }
     requires named { length names.now ≡ length (terms.all_exports (named_modules parts.now)) }
     ensures { IfOk result (IsPlan (named_modules parts.now) names.now) }
 {
@@ -171,7 +171,7 @@ fn merged(
     links: &Links,
     names: &[Option<Name>],
 ) -> Result<Module, NoMemory>
-    requires linked { AreLinked parts links.now }
+    requires linked { PartsAreLinked parts links.now }
     requires named { length names.now ≡ length (terms.all_exports (named_modules parts)) }
     ensures is { IfOk result (λ tree. tree ≡ terms.merged (named_modules parts) names.now) }
     ensures few { IfOk result (λ tree. length (funcs_of tree) < 2 ^ 32) }
@@ -203,7 +203,7 @@ pub(crate) fn joined_tree(
     links: &Links,
     mode: Mode,
 ) -> Result<Module, JoinFault>
-    requires linked { AreLinked parts links.now }
+    requires linked { PartsAreLinked parts links.now }
     ensures joined { IfOk result (λ tree. joined.Joins (named_modules parts) mode (Ok tree)) }
     ensures fault { IfErr result (λ f. (f ≡ OutOfMemory) ⊎ joined.Joins (named_modules parts) mode (Err f)) }
 {

@@ -8,9 +8,9 @@ use Rattle.merge_spec.specs.declared.parts.Part.{Part}
 use Rattle.merge_spec.specs.Parts.{named_modules}
 use Rattle.merge_spec.specs.Faults as faults
 use Rattle.merge_link.specs.declared.sites.Site.{Site}
-use Rattle.merge_link.specs.declared.joining.Ending.{Ending}
+use Rattle.merge_link.specs.declared.part_tables.Ending.{Ending}
 use Rattle.merge_link.specs.Sites.{AreSites, IsThere, the_site}
-use Rattle.merge_link.specs.Joining.{AreKnown, AreStops, IsStop, end_at, the_end}
+use Rattle.merge_link.specs.PartTables.{AreKnown, AreStops, IsStop, end_at, the_end}
 use Rattle.merge_link.proofs.Numbers.{site_there}
 
 pub there_at : (ps : List Part) (sites : List Site) (i : ℕ) (s : Site) → AreSites ps sites → slice_get sites i ≡ Some s → IsThere ps s

@@ -16,7 +16,7 @@ use Rattle.merge_link.proofs.Found.{there_at}
 use Rattle.std.proofs.lemmas.Bool.{cases_eq}
 use Rattle.base_lists.proofs.Bools.{and_false}
 use Rattle.base_lists.proofs.Places.{push_last, push_before}
-use Rattle.merge_link.specs.declared.joining.Ending.{Ending}
+use Rattle.merge_link.specs.declared.part_tables.Ending.{Ending}
 use Rattle.merge_link.proofs.Places.{same_text_is, same_text_back}
 
 -- ---- what is no memory ends where it stays ----

@@ -14,7 +14,7 @@ use Rattle.wasm_tree.specs.Spaces.{index_of_export, space_of_export}
 use Rattle.wasm_meaning.specs.World.{defined_before}
 use Rattle.merge_link.specs.declared.tables.Table.{Table}
 use Rattle.merge_link.specs.Tables.{AreTables, IsTableOf, imports_before, places_of}
-use Rattle.merge_link.specs.Joining.{IsImportedAs}
+use Rattle.merge_link.specs.PartTables.{IsImportedAs}
 use Rattle.merge_spec.specs.declared.parts.Part.{Part}
 use Rattle.merge_spec.specs.Parts.{named_modules}
 use Rattle.merge_link.proofs.Places.{module_named}

@@ -16,11 +16,11 @@ use Rattle.merge_link.specs.declared.sites.Site.{Site}
 use Rattle.merge_link.specs.declared.tables.Table.{Table}
 use Rattle.merge_link.specs.Sites.{AreSites, the_site}
 use Rattle.merge_link.specs.Tables.{AreTables, imports_before}
-use Rattle.merge_link.specs.Gathering.{AreLinked, linked_at}
+use Rattle.merge_link.specs.Gathering.{AreLinkedEnds, linked_at}
 use Rattle.merge_link.specs.Limits.{IsDemand, asked_limits, clash_of, kept_of, met_at, met_of}
 use Rattle.merge_spec.specs.Faults as faults
-use Rattle.merge_link.specs.declared.joining.Ending.{Ending}
-use Rattle.merge_link.specs.Joining.{the_end}
+use Rattle.merge_link.specs.declared.part_tables.Ending.{Ending}
+use Rattle.merge_link.specs.PartTables.{the_end}
 use Rattle.merge_link.proofs.Found.{lengths_same, same_at}
 use Rattle.merge_link.proofs.Joins.{table_at}
 use Rattle.merge_link.proofs.Numbers.{site_at, site_of}
@@ -138,10 +138,10 @@ all_met ps sites (s ∷ ss) are = let a = met_all ps sites s are in let b = all_
 
 -- ---- what is known of a linked end ----
 
-pub linked_known : (ps : List Part) (sites : List Site) (linked : List Ending) (i : ℕ) (s : Site) (e : Ending) → AreLinked ps sites linked → slice_get sites i ≡ Some s → slice_get linked i ≡ Some e → linked_at ps s ≡ Some (the_end e)
+pub linked_known : (ps : List Part) (sites : List Site) (linked : List Ending) (i : ℕ) (s : Site) (e : Ending) → AreLinkedEnds ps sites linked → slice_get sites i ≡ Some s → slice_get linked i ≡ Some e → linked_at ps s ≡ Some (the_end e)
 linked_known ps sites linked i s e are h k = sym (same_at (λ x. Some (the_end x)) (linked_at ps) linked sites i e s are.same k h)
 
-pub linked_size : (ps : List Part) (sites : List Site) (linked : List Ending) → AreLinked ps sites linked → length linked ≡ length sites
+pub linked_size : (ps : List Part) (sites : List Site) (linked : List Ending) → AreLinkedEnds ps sites linked → length linked ≡ length sites
 linked_size ps sites linked are = lengths_same (λ x. Some (the_end x)) (linked_at ps) linked sites are.same
 
 pub demand_there : (lp : List linking.Part) (t : linking.Site) (e : linking.End) (d : ℕ × Limits) → IsDemand lp t e (Some d) → d.0 < length (linking.sites lp)

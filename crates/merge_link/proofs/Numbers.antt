@@ -8,14 +8,14 @@ use Rattle.wasm_tree.specs.declared.module.GlobalDef.{GlobalDef}
 use Rattle.wasm_tree.specs.declared.module.Module.{Module}
 use Rattle.wasm_meaning.specs.Linking as linking
 use Rattle.wasm_meaning.specs.World.{defined_before}
-use Rattle.merge_spec.specs.Faults.{own_globals_in, own_globals_from}
+use Rattle.merge_spec.specs.Faults.{defined_globals_in, defined_globals_from}
 use Rattle.merge_link.specs.Tables.{imports_before}
 
 pub length-sites_in : (p count n : ℕ) → length (linking.sites_in p count n) ≡ count
 length-sites_in p zero n = refl
 length-sites_in p (suc count) n = ap suc (length-sites_in p count (suc n))
 
-pub length-own_in : (p n : ℕ) (gs : List GlobalDef) → length (own_globals_in p n gs) ≡ length gs
+pub length-own_in : (p n : ℕ) (gs : List GlobalDef) → length (defined_globals_in p n gs) ≡ length gs
 length-own_in p n [] = refl
 length-own_in p n (g ∷ gs) = ap suc (length-own_in p (suc n) gs)
 
@@ -54,14 +54,14 @@ imports_most (x ∷ lp) first zero m h =
 imports_most (x ∷ lp) first (suc p) m h =
     omega (arith, imports_most lp (suc first) p m h, length-append (linking.sites_in first (length x.«module».imports) 0) (linking.sites_from (suc first) lp), length-sites_in first (length x.«module».imports) 0)
 
-pub globals_most : (lp : List linking.Part) (first p : ℕ) (m : Module) → linking.module_at lp p ≡ Some m → defined_before Globals lp p + length m.globals ≤ length (own_globals_from first lp)
+pub globals_most : (lp : List linking.Part) (first p : ℕ) (m : Module) → linking.module_at lp p ≡ Some m → defined_before Globals lp p + length m.globals ≤ length (defined_globals_from first lp)
 globals_most [] first p m h = cc
 globals_most (x ∷ lp) first zero m h =
     let e : x.«module» ≡ m = cc in
-    let l = length-append (own_globals_in first (length (linking.imports_of Globals x.«module»)) x.«module».globals) (own_globals_from (suc first) lp) in
+    let l = length-append (defined_globals_in first (length (linking.imports_of Globals x.«module»)) x.«module».globals) (defined_globals_from (suc first) lp) in
     omega (arith, ap (λ (y : Module). length y.globals) e, l, length-own_in first (length (linking.imports_of Globals x.«module»)) x.«module».globals)
 globals_most (x ∷ lp) first (suc p) m h =
-    let l = length-append (own_globals_in first (length (linking.imports_of Globals x.«module»)) x.«module».globals) (own_globals_from (suc first) lp) in
+    let l = length-append (defined_globals_in first (length (linking.imports_of Globals x.«module»)) x.«module».globals) (defined_globals_from (suc first) lp) in
     omega (arith, globals_most lp (suc first) p m h, l, length-own_in first (length (linking.imports_of Globals x.«module»)) x.«module».globals)
 
 -- one more place

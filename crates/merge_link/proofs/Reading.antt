@@ -19,12 +19,12 @@ use Rattle.merge_spec.specs.declared.links.Read.{Read}
 use Rattle.merge_spec.specs.Faults as faults
 use Rattle.merge_spec.specs.Parts.{named_modules}
 use Rattle.merge_link.specs.declared.globals.OwnGlobal.{OwnGlobal}
-use Rattle.merge_link.specs.declared.joining.Ending.{Ending}
+use Rattle.merge_link.specs.declared.part_tables.Ending.{Ending}
 use Rattle.merge_link.specs.declared.sites.Site.{Site}
 use Rattle.merge_link.specs.declared.tables.Table.{Table}
 use Rattle.merge_link.specs.Sites.{AreSites, the_site}
 use Rattle.merge_link.specs.Tables.{AreTables, places_of}
-use Rattle.merge_link.specs.Joining.{AreKnown, IsStep, the_end}
+use Rattle.merge_link.specs.PartTables.{AreKnown, IsStep, the_end}
 use Rattle.merge_link.specs.Globals.{IsEndStep, IsOwn, own_read, own_reads, the_own, the_read, value_at}
 use Rattle.merge_link.proofs.Found.{known_at, same_at}
 use Rattle.merge_link.proofs.Joins.{module_past}
@@ -33,13 +33,13 @@ use Rattle.merge_link.proofs.Numbers.{length-own_in}
 use Rattle.merge_link.proofs.Types.{count_globals}
 use Rattle.wasm_tree.specs.Spaces.{globals_of, imported_globals, index_of_export}
 
-own_in : (p n : ℕ) (gs : List GlobalDef) (i : ℕ) (g : GlobalDef) → slice_get gs i ≡ Some g → (k : ℕ) × (slice_get (faults.own_globals_in p n gs) i ≡ Some (record { part = p; index = k; init = g.init }))
+own_in : (p n : ℕ) (gs : List GlobalDef) (i : ℕ) (g : GlobalDef) → slice_get gs i ≡ Some g → (k : ℕ) × (slice_get (faults.defined_globals_in p n gs) i ≡ Some (record { part = p; index = k; init = g.init }))
 own_in p n [] i g h = cc
-own_in p n (x ∷ gs) zero g h = let e : x ≡ g = cc in (n, ap (λ (y : GlobalDef). let r : faults.OwnGlobal = record { part = p; index = n; init = y.init } in Some r) e)
+own_in p n (x ∷ gs) zero g h = let e : x ≡ g = cc in (n, ap (λ (y : GlobalDef). let r : faults.DefinedGlobal = record { part = p; index = n; init = y.init } in Some r) e)
 own_in p n (x ∷ gs) (suc i) g h = own_in p (suc n) gs i g h
 
 own_from : (lp : List linking.Part) (first p i : ℕ) (m : Module) (g : GlobalDef) → linking.module_at lp p ≡ Some m → slice_get m.globals i ≡ Some g
-    → (k : ℕ) × (slice_get (faults.own_globals_from first lp) (defined_before Globals lp p + i) ≡ Some (record { part = first + p; index = k; init = g.init }))
+    → (k : ℕ) × (slice_get (faults.defined_globals_from first lp) (defined_before Globals lp p + i) ≡ Some (record { part = first + p; index = k; init = g.init }))
 own_from [] first p i m g h l = cc
 own_from (x ∷ lp) first zero i m g h l =
     let e : x.«module» ≡ m = cc in
@@ -48,19 +48,19 @@ own_from (x ∷ lp) first zero i m g h l =
     let z : first + 0 ≡ first = omega arith in
     let n : 0 + i ≡ i = omega arith in (
       here.0,
-      ap (slice_get (faults.own_globals_from first (x ∷ lp))) n
-          ∙ append_at_left (faults.own_globals_in first (length (linking.imports_of Globals x.«module»)) x.«module».globals) (faults.own_globals_from (suc first) lp) i _ here.1
-          ∙ ap (λ q. let r : faults.OwnGlobal = record { part = q; index = here.0; init = g.init } in Some r) (sym z),
+      ap (slice_get (faults.defined_globals_from first (x ∷ lp))) n
+          ∙ append_at_left (faults.defined_globals_in first (length (linking.imports_of Globals x.«module»)) x.«module».globals) (faults.defined_globals_from (suc first) lp) i _ here.1
+          ∙ ap (λ q. let r : faults.DefinedGlobal = record { part = q; index = here.0; init = g.init } in Some r) (sym z),
     )
 own_from (x ∷ lp) first (suc p) i m g h l =
     let q : suc first + p ≡ first + suc p = omega arith in
-    let front = faults.own_globals_in first (length (linking.imports_of Globals x.«module»)) x.«module».globals in
+    let front = faults.defined_globals_in first (length (linking.imports_of Globals x.«module»)) x.«module».globals in
     let j : length x.«module».globals + defined_before Globals lp p + i ≡ length front + (defined_before Globals lp p + i) =
     omega (arith, length-own_in first (length (linking.imports_of Globals x.«module»)) x.«module».globals) in
     let rest = own_from lp (suc first) p i m g h l in (
       rest.0,
-      ap (slice_get (faults.own_globals_from first (x ∷ lp))) j ∙ append_right front (faults.own_globals_from (suc first) lp) (defined_before Globals lp p + i) ∙ rest.1
-          ∙ ap (λ r. let s : faults.OwnGlobal = record { part = r; index = rest.0; init = g.init } in Some s) q,
+      ap (slice_get (faults.defined_globals_from first (x ∷ lp))) j ∙ append_right front (faults.defined_globals_from (suc first) lp) (defined_before Globals lp p + i) ∙ rest.1
+          ∙ ap (λ r. let s : faults.DefinedGlobal = record { part = r; index = rest.0; init = g.init } in Some s) q,
     )
 
 -- the place of a global among those that its part defines
@@ -69,16 +69,16 @@ own_place t e = index_of_export e.what - length (places_of t Globals)
 
 pub own_some : (lp : List linking.Part) (ts : List Table) (e : linking.Entity) (t : Table) (m : Module) → AreTables lp ts → slice_get ts e.part ≡ Some t → linking.module_at lp e.part ≡ Some m
     → own_place t e < length m.globals → IsOwn lp e (Some (t.first_global + own_place t e))
-unfolding faults.own_globals
+unfolding faults.defined_globals
 own_some lp ts e t m are at tree within =
     let x = are.right e.part m t tree at in
     let g = slice_get_there m.globals (own_place t e) within in
     let own = own_from lp 0 e.part (own_place t e) m g.0 tree g.1 in
     let z : 0 + e.part ≡ e.part = omega arith in
-    let r : faults.OwnGlobal = record { part = 0 + e.part; index = own.0; init = g.0.init } in
+    let r : faults.DefinedGlobal = record { part = 0 + e.part; index = own.0; init = g.0.init } in
     let count : index_of_export e.what - length (linking.imports_of Globals m) ≡ own_place t e = ap (λ (ns : List ℕ). index_of_export e.what - length ns) (sym (x.places Globals)) in
     let init : linking.initial lp e ≡ Some g.0.init = rw (tree, count) (ap (λ o. option_and_then (λ d. Some d.init) o) g.1) in
-    (r, ap (λ k. slice_get (faults.own_globals lp) (k + own_place t e)) x.first_global ∙ own.1, z, init)
+    (r, ap (λ k. slice_get (faults.defined_globals lp) (k + own_place t e)) x.first_global ∙ own.1, z, init)
 
 pub own_none : (lp : List linking.Part) (ts : List Table) (e : linking.Entity) (t : Table) (m : Module) → AreTables lp ts → slice_get ts e.part ≡ Some t → linking.module_at lp e.part ≡ Some m
     → length m.globals ≤ own_place t e → linking.initial lp e ≡ None
@@ -111,12 +111,12 @@ read_outside lp ts s i t n are there at index =
 pub step_to : (ps : List Part) (e : linking.Entity) (n : ℕ) → IsOwn (named_modules ps) e (Some n) → IsEndStep ps (linking.Defined e) (Goes n)
 step_to ps e n (g, at, part, init) = (
   own_read g,
-  slice_get-map own_read (faults.own_globals (named_modules ps)) n ∙ ap (option_map own_read) at,
-  ap (λ o. option_and_then (λ x. let r : linking.Read = record { part = e.part; expr = x } in Some (paths.Goes r)) o) init ∙ ap (λ p. let r : linking.Read = record { part = p; expr = g.init } in Some (paths.Goes r)) (sym part),
+  slice_get-map own_read (faults.defined_globals (named_modules ps)) n ∙ ap (option_map own_read) at,
+  ap (λ o. option_and_then (λ x. let r : linking.Read = record { part = e.part; expr = x } in Some (paths.LeadsTo r)) o) init ∙ ap (λ p. let r : linking.Read = record { part = p; expr = g.init } in Some (paths.LeadsTo r)) (sym part),
 )
 
 pub step_none : (ps : List Part) (e : linking.Entity) → linking.initial (named_modules ps) e ≡ None → IsEndStep ps (linking.Defined e) Nowhere
-step_none ps e h = ap (λ o. option_and_then (λ x. let r : linking.Read = record { part = e.part; expr = x } in Some (paths.Goes r)) o) h
+step_none ps e h = ap (λ o. option_and_then (λ x. let r : linking.Read = record { part = e.part; expr = x } in Some (paths.LeadsTo r)) o) h
 
 -- the end of an import that has a number
 pub end_numbered : (ps : List Part) (sites : List Site) (ends : List Ending) (n : ℕ) (s : linking.Site) (e : Ending) → AreSites ps sites → AreKnown ps sites ends → slice_get (linking.sites (named_modules ps)) n ≡ Some s → slice_get ends n ≡ Some e
@@ -154,15 +154,15 @@ global_here ps globals values i g o e h k = ap (faults.value_fault (the_own g)) 
 -- ---- the list of defined globals ----
 
 pub own_begin : (ps : List Part) (at : ℕ) (x : Part) (m : Module) (n : ℕ) → at < length ps → x ≡ get_or ps at x → m ≡ x.«module» → n ≡ length (linking.imports_of Globals m)
-    → faults.own_globals_from at (named_modules (drop at ps)) ≡ faults.own_globals_in at (n + 0) (drop 0 m.globals) ++ faults.own_globals_from (at + 1) (named_modules (drop (at + 1) ps))
+    → faults.defined_globals_from at (named_modules (drop at ps)) ≡ faults.defined_globals_in at (n + 0) (drop 0 m.globals) ++ faults.defined_globals_from (at + 1) (named_modules (drop (at + 1) ps))
 own_begin ps at x m n h is tree count =
     let rest = named_modules (drop (at + 1) ps) in
     let next : suc at ≡ at + 1 = omega arith in
     let z : length (linking.imports_of Globals x.«module») ≡ n + 0 = omega (arith, count, ap (λ (t : Module). length (linking.imports_of Globals t)) tree) in
-    ap (λ qs. faults.own_globals_from at (named_modules qs)) (drop_more ps at x h ∙ ap (λ (y : Part). y ∷ drop (at + 1) ps) (sym is))
-    ∙ ap (λ k. faults.own_globals_in at (length (linking.imports_of Globals x.«module»)) x.«module».globals ++ faults.own_globals_from k rest) next
-    ∙ ap (λ k. faults.own_globals_in at k x.«module».globals ++ faults.own_globals_from (at + 1) rest) z
-    ∙ ap (λ (t : Module). faults.own_globals_in at (n + 0) t.globals ++ faults.own_globals_from (at + 1) rest) (sym tree)
+    ap (λ qs. faults.defined_globals_from at (named_modules qs)) (drop_more ps at x h ∙ ap (λ (y : Part). y ∷ drop (at + 1) ps) (sym is))
+    ∙ ap (λ k. faults.defined_globals_in at (length (linking.imports_of Globals x.«module»)) x.«module».globals ++ faults.defined_globals_from k rest) next
+    ∙ ap (λ k. faults.defined_globals_in at k x.«module».globals ++ faults.defined_globals_from (at + 1) rest) z
+    ∙ ap (λ (t : Module). faults.defined_globals_in at (n + 0) t.globals ++ faults.defined_globals_from (at + 1) rest) (sym tree)
 
 pub globals_fit : (m : Module) (i : ℕ) → length (globals_of m) < 2 ^ 32 → i < length m.globals → length (linking.imports_of Globals m) + i < 2 ^ 32
 globals_fit m i few h = omega (arith, few, length-append (imported_globals m.imports) (map (λ (g : GlobalDef). g.ty) m.globals), length-map m.globals (λ (g : GlobalDef). g.ty), count_globals m.imports 0)

@@ -11,7 +11,7 @@ use Rattle.base_paths.specs.Steps.LeadsTo.{there, on}
 use Rattle.std.proofs.lemmas.Option.{slice_get_within, slice_get-map}
 use Rattle.std.proofs.lemmas.List.{length-map}
 use Rattle.base_lists.proofs.Places.{push_last, push_before, slice_get_there}
-use Rattle.merge_link.specs.Joining.{IsStep, AreSteps}
+use Rattle.merge_link.specs.PartTables.{IsStep, AreSteps}
 
 pub lists_same : {A : Type 0} (xs ys : List A) → length xs ≡ length ys → ((n : ℕ) → n < length xs → slice_get xs n ≡ slice_get ys n) → xs ≡ ys
 lists_same [] [] h all = refl
@@ -23,21 +23,21 @@ lists_same (x ∷ xs) (y ∷ ys) h all =
     cc
 
 -- the step of a number that has a point
-step_at : {A E F : Type 0} (next : A → Option (paths.Next A E)) (points : List A) (meaning : F → E) (steps : List (Step F)) → AreSteps next points meaning points steps
+step_at : {A E F : Type 0} (next : A → Option (paths.PathStep A E)) (points : List A) (meaning : F → E) (steps : List (Step F)) → AreSteps next points meaning points steps
     → (n : ℕ) (a : A) → slice_get points n ≡ Some a → (s : Step F) × (slice_get steps n ≡ Some s) × IsStep next points meaning a s
 step_at next points meaning steps are n a h =
     let within : n < length points = slice_get_within points n a h in
     let s = slice_get_there steps n (omega (arith, are.one_each)) in
     (s.0, s.1, are.right n a s.0 h s.1)
 
-to_path : {A E F : Type 0} (next : A → Option (paths.Next A E)) (points : List A) (meaning : F → E) (steps : List (Step F)) → AreSteps next points meaning points steps
+to_path : {A E F : Type 0} (next : A → Option (paths.PathStep A E)) (points : List A) (meaning : F → E) (steps : List (Step F)) → AreSteps next points meaning points steps
     → (n : ℕ) (a : A) (e : F) → slice_get points n ≡ Some a → LeadsTo steps n e → paths.Path next a (meaning e)
 to_path next points meaning steps are n a e h (there _ _ k) = ends (are.right n a (Ends e) h k)
 to_path next points meaning steps are n a e h (on _ m _ k l) =
     let g = are.right n a (Goes m) h k in
     goes g.2 (to_path next points meaning steps are m g.0 e g.1 l)
 
-from_path : {A E F : Type 0} (next : A → Option (paths.Next A E)) (points : List A) (meaning : F → E) (steps : List (Step F)) → AreSteps next points meaning points steps
+from_path : {A E F : Type 0} (next : A → Option (paths.PathStep A E)) (points : List A) (meaning : F → E) (steps : List (Step F)) → AreSteps next points meaning points steps
     → (n : ℕ) (a : A) (e : E) → slice_get points n ≡ Some a → paths.Path next a e → (f : F) × LeadsTo steps n f
 from_path {F = F} next points meaning steps are n a e h (ends k) = let s = step_at next points meaning steps are n a h in by s.0 s.1 s.2
   where
@@ -56,7 +56,7 @@ from_path {F = F} next points meaning steps are n a e h (goes {b = b} k l) =
     by Nowhere at is more = absurd (cc)
 
 -- what a point leads to, by a rule that tells the ends of paths
-pub ending_told : {A E F : Type 0} (next : A → Option (paths.Next A E)) (points : List A) (meaning : F → E) (steps : List (Step F)) (all : List (Option F))
+pub ending_told : {A E F : Type 0} (next : A → Option (paths.PathStep A E)) (points : List A) (meaning : F → E) (steps : List (Step F)) (all : List (Option F))
     → AreSteps next points meaning points steps → AreEndings steps all
     → (tell : A → Option E) → ((a : A) (e : E) → paths.Path next a e ↔ (tell a ≡ Some e))
     → (n : ℕ) (a : A) (o : Option F) → slice_get points n ≡ Some a → slice_get all n ≡ Some o → option_map meaning o ≡ tell a
@@ -69,7 +69,7 @@ ending_told {E = E} next points meaning steps all are endings tell law n a None 
     by (Some e) is = let f = from_path next points meaning steps are n a e h ((law a e).1 is) in absurd (endings.right n None k f.0 f.1)
 
 -- the same for all points
-pub endings_told : {A E F : Type 0} (next : A → Option (paths.Next A E)) (points : List A) (meaning : F → E) (steps : List (Step F)) (all : List (Option F))
+pub endings_told : {A E F : Type 0} (next : A → Option (paths.PathStep A E)) (points : List A) (meaning : F → E) (steps : List (Step F)) (all : List (Option F))
     → AreSteps next points meaning points steps → AreEndings steps all
     → (tell : A → Option E) → ((a : A) (e : E) → paths.Path next a e ↔ (tell a ≡ Some e))
     → map (option_map meaning) all ≡ map tell points
@@ -84,7 +84,7 @@ endings_told next points meaning steps all are endings tell law =
     ∙ sym (slice_get-map tell points n ∙ ap (option_map tell) a.1))
 
 -- each number that is named is there
-pub steps_named : {A E F : Type 0} (next : A → Option (paths.Next A E)) (points : List A) (meaning : F → E) (steps : List (Step F)) → AreSteps next points meaning points steps → AreNamed steps
+pub steps_named : {A E F : Type 0} (next : A → Option (paths.PathStep A E)) (points : List A) (meaning : F → E) (steps : List (Step F)) → AreSteps next points meaning points steps → AreNamed steps
 steps_named next points meaning steps are n m h =
     let a = slice_get_there points n (let k = slice_get_within steps n (Goes m) h in omega (arith, are.one_each)) in
     let is = are.right n a.0 (Goes m) a.1 h in
@@ -92,7 +92,7 @@ steps_named next points meaning steps are n m h =
     omega (arith, are.one_each)
 
 -- one more step
-pub steps_more : {A E F : Type 0} (next : A → Option (paths.Next A E)) (points : List A) (meaning : F → E) (froms : List A) (steps : List (Step F)) (i : ℕ) (a : A) (s : Step F) → length steps ≡ i
+pub steps_more : {A E F : Type 0} (next : A → Option (paths.PathStep A E)) (points : List A) (meaning : F → E) (froms : List A) (steps : List (Step F)) (i : ℕ) (a : A) (s : Step F) → length steps ≡ i
     → slice_get froms i ≡ Some a → IsStep next points meaning a s
     → ((n : ℕ) (b : A) (t : Step F) → slice_get froms n ≡ Some b → slice_get steps n ≡ Some t → IsStep next points meaning b t)
     → (n : ℕ) (b : A) (t : Step F) → slice_get froms n ≡ Some b → slice_get (steps ++ s ∷ []) n ≡ Some t → IsStep next points meaning b t
@@ -105,19 +105,19 @@ steps_more {A = A} next points meaning froms steps i a s size at is all n b t h 
 ]
 
 -- what a path ends with, some point ends with at once
-pub last_step : {A E : Type 0} (next : A → Option (paths.Next A E)) (a : A) (e : E) → paths.Path next a e → (b : A) × (next b ≡ Some (paths.Ends e))
+pub last_step : {A E : Type 0} (next : A → Option (paths.PathStep A E)) (a : A) (e : E) → paths.Path next a e → (b : A) × (next b ≡ Some (paths.EndsWith e))
 last_step next a e (ends {a = b} k) = (b, k)
 last_step next a e (goes {b = b} k l) = last_step next b e l
 
 -- no steps yet
-pub no_steps : {A E F : Type 0} (next : A → Option (paths.Next A E)) (points : List A) (meaning : F → E) (froms : List A) (steps : List (Step F)) → steps ≡ []
+pub no_steps : {A E F : Type 0} (next : A → Option (paths.PathStep A E)) (points : List A) (meaning : F → E) (froms : List A) (steps : List (Step F)) → steps ≡ []
     → (n : ℕ) (a : A) (s : Step F) → slice_get froms n ≡ Some a → slice_get steps n ≡ Some s → IsStep next points meaning a s
 no_steps next points meaning froms steps e n a s h k = let l = ap (λ ys. slice_get ys n) e in absurd (cc)
 
 -- what is told as an ending, some point ends with at once
-pub ending_stops : {A E F : Type 0} (next : A → Option (paths.Next A E)) (points : List A) (meaning : F → E) (steps : List (Step F)) (all : List (Option F))
+pub ending_stops : {A E F : Type 0} (next : A → Option (paths.PathStep A E)) (points : List A) (meaning : F → E) (steps : List (Step F)) (all : List (Option F))
     → AreSteps next points meaning points steps → AreEndings steps all
-    → (n : ℕ) (f : F) → slice_get all n ≡ Some (Some f) → (b : A) × (next b ≡ Some (paths.Ends (meaning f)))
+    → (n : ℕ) (f : F) → slice_get all n ≡ Some (Some f) → (b : A) × (next b ≡ Some (paths.EndsWith (meaning f)))
 ending_stops next points meaning steps all are endings n f h =
     let a = slice_get_there points n (let k = slice_get_within all n (Some f) h in omega (arith, endings.one_each, are.one_each)) in
     last_step next a.0 (meaning f) (to_path next points meaning steps are n a.0 f a.1 (endings.right n (Some f) h))

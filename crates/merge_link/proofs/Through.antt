@@ -30,25 +30,25 @@ pub value_numbered : (ps : List Part) (values : List (Option Read)) (e : linking
     → option_map the_read o ≡ read_past (named_modules ps) (linking.Defined e)
 unfolding own_value
 value_numbered ps values e n o are (g, at, part, init) h =
-    same_at (option_map the_read) (own_value ps) values (faults.own_globals (named_modules ps)) n o g are h at
+    same_at (option_map the_read) (own_value ps) values (faults.defined_globals (named_modules ps)) n o g are h at
     ∙ ap (λ p. linking.read_of (named_modules ps) p g.init) part ∙ sym (ap (λ x. option_and_then (linking.read_of (named_modules ps) e.part) x) init)
 
 pub number_within : (ps : List Part) (values : List (Option Read)) (e : linking.Entity) (n : ℕ) → AreValues ps values → IsOwn (named_modules ps) e (Some n) → n < length values
 number_within ps values e n are (g, at, part, init) =
-    let w = slice_get_within (faults.own_globals (named_modules ps)) n g at in
-    let s = lengths_same (option_map the_read) (own_value ps) values (faults.own_globals (named_modules ps)) are in
+    let w = slice_get_within (faults.defined_globals (named_modules ps)) n g at in
+    let s = lengths_same (option_map the_read) (own_value ps) values (faults.defined_globals (named_modules ps)) are in
     omega arith
 
 -- ---- one step of a read ----
 
-told : List linking.Part → Option (paths.Next linking.Read linking.Read) → Option linking.Read
+told : List linking.Part → Option (paths.PathStep linking.Read linking.Read) → Option linking.Read
 told lp = paths.walk_on (λ b. linking.read_of lp b.part b.expr)
 
-stuck : {A E : Type 0} (next : A → Option (paths.Next A E)) (a : A) (e : E) → paths.Path next a e → next a ≡ None → ⊥
+stuck : {A E : Type 0} (next : A → Option (paths.PathStep A E)) (a : A) (e : E) → paths.Path next a e → next a ≡ None → ⊥
 stuck next a e (ends k) h = absurd (cc)
 stuck next a e (goes k l) h = absurd (cc)
 
-onward : {A E : Type 0} (next : A → Option (paths.Next A E)) (a b : A) (e : E) → paths.Path next a e → next a ≡ Some (paths.Goes b) → paths.Path next b e
+onward : {A E : Type 0} (next : A → Option (paths.PathStep A E)) (a b : A) (e : E) → paths.Path next a e → next a ≡ Some (paths.LeadsTo b) → paths.Path next b e
 onward next a b e (ends k) h = absurd (cc)
 onward next a b e (goes {b = d} k l) h = let same : d ≡ b = cc in subst (λ x. paths.Path next x e) same l
 
@@ -61,26 +61,26 @@ one_step lp law p x = by (linking.read_step lp (record { part = p; expr = x })) 
     nothing is None h = refl
     nothing is (Some r) h = absurd (stuck (linking.read_step lp) (record { part = p; expr = x }) r ((law p x r).1 h) is)
 
-    further : (b : linking.Read) → linking.read_step lp (record { part = p; expr = x }) ≡ Some (paths.Goes b) → (t u : Option linking.Read) → linking.read_of lp p x ≡ t → linking.read_of lp b.part b.expr ≡ u → t ≡ u
+    further : (b : linking.Read) → linking.read_step lp (record { part = p; expr = x }) ≡ Some (paths.LeadsTo b) → (t u : Option linking.Read) → linking.read_of lp p x ≡ t → linking.read_of lp b.part b.expr ≡ u → t ≡ u
     further b is (Some r) u h k = sym ((law b.part b.expr r).0 (onward (linking.read_step lp) (record { part = p; expr = x }) b r ((law p x r).1 h) is)) ∙ k
     further b is None (Some r) h k = sym h ∙ (law p x r).0 (goes is ((law b.part b.expr r).1 k))
     further b is None None h k = refl
 
-    by : (o : Option (paths.Next linking.Read linking.Read)) → linking.read_step lp (record { part = p; expr = x }) ≡ o → linking.read_of lp p x ≡ told lp o
+    by : (o : Option (paths.PathStep linking.Read linking.Read)) → linking.read_step lp (record { part = p; expr = x }) ≡ o → linking.read_of lp p x ≡ told lp o
     by None is = nothing is (linking.read_of lp p x) refl
-    by (Some (paths.Ends r)) is = (law p x r).0 (ends is)
-    by (Some (paths.Goes b)) is = further b is (linking.read_of lp p x) (linking.read_of lp b.part b.expr) refl refl
+    by (Some (paths.EndsWith r)) is = (law p x r).0 (ends is)
+    by (Some (paths.LeadsTo b)) is = further b is (linking.read_of lp p x) (linking.read_of lp b.part b.expr) refl refl
 
 past_end : (lp : List linking.Part) (e : linking.End) → told lp (linking.end_step lp (Some e)) ≡ read_past lp e
 unfolding told
 past_end lp (linking.Outside s) = by (linking.outside_read lp s)
   where
-    by : (o : Option linking.Read) → told lp (option_and_then (λ r. Some (paths.Ends r)) o) ≡ o
+    by : (o : Option linking.Read) → told lp (option_and_then (λ r. Some (paths.EndsWith r)) o) ≡ o
     by None = refl
     by (Some r) = refl
 past_end lp (linking.Defined e) = by (linking.initial lp e)
   where
-    by : (o : Option ConstExpr) → told lp (option_and_then (λ x. let r : linking.Read = record { part = e.part; expr = x } in Some (paths.Goes r)) o) ≡ option_and_then (linking.read_of lp e.part) o
+    by : (o : Option ConstExpr) → told lp (option_and_then (λ x. let r : linking.Read = record { part = e.part; expr = x } in Some (paths.LeadsTo r)) o) ≡ option_and_then (linking.read_of lp e.part) o
     by None = refl
     by (Some x) = refl
 

@@ -17,12 +17,12 @@ use Rattle.merge_spec.specs.Faults.{or_else, first_fault}
 use Rattle.merge_spec.specs.Linked.{by_import, end_entry, read_at}
 use Rattle.merge_spec.specs.Parts.{named_modules}
 use Rattle.merge_link.specs.declared.globals.OwnGlobal.{OwnGlobal}
-use Rattle.merge_link.specs.declared.joining.Ending.{Ending}
+use Rattle.merge_link.specs.declared.part_tables.Ending.{Ending}
 use Rattle.merge_link.specs.declared.sites.Site.{Site}
 use Rattle.merge_link.specs.Cutting.{cut_by, import_counts}
-use Rattle.merge_link.specs.Gathering.{AreLinked, linked_at}
+use Rattle.merge_link.specs.Gathering.{AreLinkedEnds, linked_at}
 use Rattle.merge_link.specs.Globals.{AreOwn, the_own, the_read, value_at}
-use Rattle.merge_link.specs.Joining.{AreKnown, AreStops, end_at, the_end}
+use Rattle.merge_link.specs.PartTables.{AreKnown, AreStops, end_at, the_end}
 use Rattle.merge_link.specs.Reads.{AreValues, own_value}
 use Rattle.merge_link.specs.Resolving.{IsRefusal, clash_faults, global_faults, import_faults, kept_entry_at, read_entry_at}
 use Rattle.merge_link.specs.Sites.{AreSites, the_site}
@@ -79,7 +79,7 @@ values_own ps globals values are same = same ∙ sym (map_twice (own_value ps) t
 
 -- ---- the links ----
 
-pub entries_linked : (ps : List Part) (sites : List Site) (linked : List Ending) → AreSites ps sites → AreLinked ps sites linked
+pub entries_linked : (ps : List Part) (sites : List Site) (linked : List Ending) → AreSites ps sites → AreLinkedEnds ps sites linked
     → map (map Some) (cut_by (import_counts ps) (map (λ e. end_entry (the_end e)) linked)) ≡ by_import (λ s. option_map end_entry (linking.linked_end (named_modules ps) s)) (named_modules ps)
 unfolding linked_at
 entries_linked ps sites linked are known =
@@ -125,11 +125,11 @@ refused first lp f of_all (inr is) = inr (of_all is)
 
 -- ---- how many defined globals there are ----
 
-own_count_from : (lp : List linking.Part) (first : ℕ) → length (faults.own_globals_from first lp) ≡ defined_before Globals lp (length lp)
+own_count_from : (lp : List linking.Part) (first : ℕ) → length (faults.defined_globals_from first lp) ≡ defined_before Globals lp (length lp)
 own_count_from [] first = refl
 own_count_from (x ∷ lp) first =
-    omega (arith, length-append (faults.own_globals_in first (length (linking.imports_of Globals x.«module»)) x.«module».globals) (faults.own_globals_from (suc first) lp), length-own_in first (length (linking.imports_of Globals x.«module»)) x.«module».globals, own_count_from lp (suc first))
+    omega (arith, length-append (faults.defined_globals_in first (length (linking.imports_of Globals x.«module»)) x.«module».globals) (faults.defined_globals_from (suc first) lp), length-own_in first (length (linking.imports_of Globals x.«module»)) x.«module».globals, own_count_from lp (suc first))
 
-pub own_count : (lp : List linking.Part) → length (faults.own_globals lp) ≡ defined_before Globals lp (length lp)
-unfolding faults.own_globals
+pub own_count : (lp : List linking.Part) → length (faults.defined_globals lp) ≡ defined_before Globals lp (length lp)
+unfolding faults.defined_globals
 own_count lp = own_count_from lp 0

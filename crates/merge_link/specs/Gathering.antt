@@ -11,10 +11,10 @@ use Rattle.wasm_meaning.specs.Linking as linking
 use Rattle.merge_spec.specs.declared.parts.Part.{Part}
 use Rattle.merge_spec.specs.Parts.{named_modules}
 use Rattle.merge_link.specs.declared.sites.Site.{Site}
-use Rattle.merge_link.specs.declared.joining.Ending.{Ending}
-use Rattle.merge_link.specs.declared.joining.Ending.TheVariants.{Defined, Outside}
+use Rattle.merge_link.specs.declared.part_tables.Ending.{Ending}
+use Rattle.merge_link.specs.declared.part_tables.Ending.TheVariants.{Defined, Outside}
 use Rattle.merge_link.specs.Sites.{IsThere, the_site}
-use Rattle.merge_link.specs.Joining.{the_end}
+use Rattle.merge_link.specs.PartTables.{the_end}
 
 -- an import that stays, and is a memory
 abbrev pub is_memory_at : Option Import → Bool
@@ -54,6 +54,6 @@ EndsThere parts (Defined e) = Unit {0}
 EndsThere parts (Outside s) = IsThere parts s
 
 -- these are the linked ends of the imports
-pub record AreLinked (parts : List Part) (sites : List Site) (linked : List Ending) : Type 0 where
+pub record AreLinkedEnds (parts : List Part) (sites : List Site) (linked : List Ending) : Type 0 where
   pub same : map (λ e. Some (the_end e)) linked ≡ map (linked_at parts) sites
   pub there : (n : ℕ) (e : Ending) → slice_get linked n ≡ Some e → EndsThere parts e

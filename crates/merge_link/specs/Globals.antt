@@ -10,7 +10,7 @@ use Rattle.merge_spec.specs.Faults as faults
 use Rattle.merge_spec.specs.Parts.{named_modules}
 use Rattle.merge_link.specs.declared.globals.OwnGlobal.{OwnGlobal}
 
-abbrev pub the_own : OwnGlobal → faults.OwnGlobal
+abbrev pub the_own : OwnGlobal → faults.DefinedGlobal
 the_own g = record { part = g.part; index = g.index; init = g.init }
 
 abbrev pub the_read : Read → linking.Read
@@ -18,24 +18,24 @@ the_read r = record { part = r.part; expr = r.expr }
 
 -- these are the defined globals
 abbrev pub AreOwn : List Part → List OwnGlobal → Type 0
-AreOwn parts globals = map the_own globals ≡ faults.own_globals (named_modules parts)
+AreOwn parts globals = map the_own globals ≡ faults.defined_globals (named_modules parts)
 
 -- the value expression of a defined global, with its part
-abbrev pub own_read : faults.OwnGlobal → linking.Read
+abbrev pub own_read : faults.DefinedGlobal → linking.Read
 own_read g = record { part = g.part; expr = g.init }
 
 abbrev pub own_reads : List linking.Part → List linking.Read
-own_reads lp = map own_read (faults.own_globals lp)
+own_reads lp = map own_read (faults.defined_globals lp)
 
 -- the defined global that an entity is, by its number
 abbrev pub IsOwn : List linking.Part → linking.Entity → Option ℕ → Type 0
 IsOwn lp e None = linking.initial lp e ≡ None
-IsOwn lp e (Some n) = (g : faults.OwnGlobal) × (slice_get (faults.own_globals lp) n ≡ Some g) × (g.part ≡ e.part) × (linking.initial lp e ≡ Some g.init)
+IsOwn lp e (Some n) = (g : faults.DefinedGlobal) × (slice_get (faults.defined_globals lp) n ≡ Some g) × (g.part ≡ e.part) × (linking.initial lp e ≡ Some g.init)
 
 -- from the end of a global's import
 abbrev pub IsEndStep : List Part → linking.End → Step Read → Type 0
-IsEndStep parts e (Goes n) = (r : linking.Read) × (slice_get (own_reads (named_modules parts)) n ≡ Some r) × (linking.end_step (named_modules parts) (Some e) ≡ Some (paths.Goes r))
-IsEndStep parts e (Ends r) = linking.end_step (named_modules parts) (Some e) ≡ Some (paths.Ends (the_read r))
+IsEndStep parts e (Goes n) = (r : linking.Read) × (slice_get (own_reads (named_modules parts)) n ≡ Some r) × (linking.end_step (named_modules parts) (Some e) ≡ Some (paths.LeadsTo r))
+IsEndStep parts e (Ends r) = linking.end_step (named_modules parts) (Some e) ≡ Some (paths.EndsWith (the_read r))
 IsEndStep parts e Nowhere = linking.end_step (named_modules parts) (Some e) ≡ None
 
 -- what the value expression of a defined global reads

@@ -6,12 +6,12 @@ use Rattle.base_paths.specs.declared.follow.Step.{Step}
 use Rattle.base_paths.specs.declared.follow.Step.TheVariants.{Goes, Ends, Nowhere}
 use Rattle.merge_spec.specs.declared.parts.Part.{Part}
 use Rattle.merge_spec.specs.Parts.{named_modules}
-use Rattle.merge_spec.specs.Faults.{own_globals}
+use Rattle.merge_spec.specs.Faults.{defined_globals}
 use Rattle.merge_link.specs.declared.sites.Site.{Site}
-use Rattle.merge_link.specs.declared.joining.Entity.{Entity}
-use Rattle.merge_link.specs.declared.joining.Ending.{Ending}
-use Rattle.merge_link.specs.declared.joining.Ending.TheVariants.{Defined, Outside}
-use Rattle.merge_link.specs.declared.joining.Joining.{Joining}
+use Rattle.merge_link.specs.declared.part_tables.Entity.{Entity}
+use Rattle.merge_link.specs.declared.part_tables.Ending.{Ending}
+use Rattle.merge_link.specs.declared.part_tables.Ending.TheVariants.{Defined, Outside}
+use Rattle.merge_link.specs.declared.part_tables.PartTables.{PartTables}
 use Rattle.merge_link.specs.Sites.{the_site}
 use Rattle.merge_link.specs.Tables.{AreNames, AreTables}
 
@@ -23,11 +23,11 @@ the_end (Defined e) = linking.Defined (the_entity e)
 the_end (Outside s) = linking.Outside (the_site s)
 
 -- what is looked up is that of the parts, and a u32 counts their imports and defined globals
-pub record IsJoining (j : Joining) : Type 0 where
+pub record ArePartTables (j : PartTables) : Type 0 where
   pub names : AreNames (named_modules j.parts.now) j.names
   pub tables : AreTables (named_modules j.parts.now) j.tables.items
   pub imports : length (linking.sites (named_modules j.parts.now)) < 2 ^ 32
-  pub globals : length (own_globals (named_modules j.parts.now)) < 2 ^ 32
+  pub globals : length (defined_globals (named_modules j.parts.now)) < 2 ^ 32
 
 -- the import that an entity is, by its number
 abbrev pub IsImportedAs : List linking.Part → linking.Entity → Option ℕ → Type 0
@@ -35,19 +35,19 @@ IsImportedAs lp e None = linking.imported_as lp e ≡ None
 IsImportedAs lp e (Some n) = (s : linking.Site) × (slice_get (linking.sites lp) n ≡ Some s) × (linking.imported_as lp e ≡ Some s)
 
 -- from a point to another, which has a number among all points, or to what it ends with
-abbrev pub IsStep : {A E F : Type 0} → (A → Option (paths.Next A E)) → List A → (F → E) → A → Step F → Type 0
-IsStep {A = A} next points meaning a (Goes n) = (b : A) × (slice_get points n ≡ Some b) × (next a ≡ Some (paths.Goes b))
-IsStep next points meaning a (Ends e) = next a ≡ Some (paths.Ends (meaning e))
+abbrev pub IsStep : {A E F : Type 0} → (A → Option (paths.PathStep A E)) → List A → (F → E) → A → Step F → Type 0
+IsStep {A = A} next points meaning a (Goes n) = (b : A) × (slice_get points n ≡ Some b) × (next a ≡ Some (paths.LeadsTo b))
+IsStep next points meaning a (Ends e) = next a ≡ Some (paths.EndsWith (meaning e))
 IsStep next points meaning a Nowhere = next a ≡ None
 
 -- from each of these points
-pub record AreSteps {A E F : Type 0} (next : A → Option (paths.Next A E)) (points : List A) (meaning : F → E) (froms : List A) (steps : List (Step F)) : Type 0 where
+pub record AreSteps {A E F : Type 0} (next : A → Option (paths.PathStep A E)) (points : List A) (meaning : F → E) (froms : List A) (steps : List (Step F)) : Type 0 where
   pub one_each : length steps ≡ length froms
   pub right : (n : ℕ) (a : A) (s : Step F) → slice_get froms n ≡ Some a → slice_get steps n ≡ Some s → IsStep next points meaning a s
 
 -- some import has this end at once
 abbrev pub IsStop : List linking.Part → linking.End → Type 0
-IsStop lp e = (s : linking.Site) × (linking.import_step lp s ≡ Some (paths.Ends e))
+IsStop lp e = (s : linking.Site) × (linking.import_step lp s ≡ Some (paths.EndsWith e))
 
 abbrev pub AreStops : List Part → List (Option Ending) → Type 0
 AreStops parts ends = (n : ℕ) (e : Ending) → slice_get ends n ≡ Some (Some e) → IsStop (named_modules parts) (the_end e)

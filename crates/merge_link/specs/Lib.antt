@@ -2,7 +2,7 @@ pub mod Cutting
 pub mod Externals
 pub mod Gathering
 pub mod Globals
-pub mod Joining
+pub mod PartTables
 pub mod Limits
 pub mod Reads
 pub mod Resolving

@@ -12,12 +12,12 @@ use Rattle.merge_spec.specs.Parts.{named_modules}
 use Rattle.merge_link.specs.Globals.{the_read}
 
 -- what the value expression of a defined global reads
-unfoldable pub own_value : List Part → faults.OwnGlobal → Option linking.Read
+unfoldable pub own_value : List Part → faults.DefinedGlobal → Option linking.Read
 own_value parts g = linking.read_of (named_modules parts) g.part g.init
 
 -- these are the reads of all defined globals
 abbrev pub AreValues : List Part → List (Option Read) → Type 0
-AreValues parts values = map (option_map the_read) values ≡ map (own_value parts) (faults.own_globals (named_modules parts))
+AreValues parts values = map (option_map the_read) values ≡ map (own_value parts) (faults.defined_globals (named_modules parts))
 
 -- what is read from the end of a global's import
 abbrev pub read_past : List linking.Part → linking.End → Option linking.Read

@@ -9,11 +9,11 @@ use Rattle.merge_spec.specs.declared.links.Read.{Read}
 use Rattle.merge_spec.specs.Faults as faults
 use Rattle.merge_spec.specs.Linked.{read_at}
 use Rattle.merge_spec.specs.Parts.{named_modules}
-use Rattle.merge_link.specs.declared.joining.Ending.{Ending}
+use Rattle.merge_link.specs.declared.part_tables.Ending.{Ending}
 use Rattle.merge_link.specs.declared.resolving.Kept.{Kept}
 use Rattle.merge_link.specs.declared.sites.Site.{Site}
-use Rattle.merge_link.specs.Gathering.{AreLinked}
-use Rattle.merge_link.specs.Joining.{AreKnown}
+use Rattle.merge_link.specs.Gathering.{AreLinkedEnds}
+use Rattle.merge_link.specs.PartTables.{AreKnown}
 use Rattle.merge_link.specs.Sites.{the_site}
 use Rattle.std.specs.declared.vec.Vec.{Vec}
 use Rattle.std.proofs.Common.{Global}
@@ -26,7 +26,7 @@ unfoldable pub clash_faults : List linking.Part → Option LinkFault
 clash_faults lp = faults.first_fault (faults.clash_fault lp) (linking.sites lp)
 
 unfoldable pub global_faults : List linking.Part → Option LinkFault
-global_faults lp = faults.first_fault (faults.global_fault lp) (faults.own_globals lp)
+global_faults lp = faults.first_fault (faults.global_fault lp) (faults.defined_globals lp)
 
 unfoldable pub read_entry_at : List Part → Site → Option Read
 read_entry_at parts s = read_at (named_modules parts) (the_site s)
@@ -36,7 +36,7 @@ kept_entry_at parts s = faults.kept_limits (named_modules parts) (the_site s)
 
 -- these are the linked ends, and the limits that are kept
 pub record IsLinkedKept (parts : List Part) (sites : List Site) (kept : Kept) : Type 0 where
-  pub ends : AreLinked parts sites kept.linked.items
+  pub ends : AreLinkedEnds parts sites kept.linked.items
   pub limits : kept.limits.items ≡ map (kept_entry_at parts) sites
 
 -- why a stage refuses: its first fault, or want of memory

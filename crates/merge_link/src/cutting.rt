@@ -5,9 +5,9 @@ ghost use Rattle.merge_spec.specs.Linked.{end_entry};
 ghost use Rattle.merge_spec.specs.Parts.{named_modules};
 ghost use Rattle.wasm_meaning.specs.Linking as linking;
 ghost use Rattle.merge_link.specs.Cutting.{cut_by, import_counts};
-ghost use Rattle.merge_link.specs.Joining.{the_end};
+ghost use Rattle.merge_link.specs.PartTables.{the_end};
 
-use crate::joining::Ending;
+use crate::part_tables::Ending;
 use merge_spec::{End, Part};
 use std::alloc::Global;
 use wasm_bytes::{Items, NoMemory};

@@ -9,10 +9,10 @@ ghost use Rattle.wasm_tree.specs.SameTypes as types;
 ghost use Rattle.wasm_meaning.specs.World as world;
 ghost use Rattle.merge_link.specs.Sites.{IsThere, the_site};
 ghost use Rattle.merge_link.specs.Tables.{HasPlaces};
-ghost use Rattle.merge_link.specs.Joining.{IsJoining, IsStop, the_end, the_entity};
+ghost use Rattle.merge_link.specs.PartTables.{ArePartTables, IsStop, the_end, the_entity};
 ghost use Rattle.merge_link.specs.Externals.{own_func, own_global, own_memory, own_table, the_external};
 
-use crate::joining::{Ending, Entity, Joining};
+use crate::part_tables::{Ending, Entity, PartTables};
 use crate::sites::{Site, import_at};
 use crate::tables::Table;
 use wasm_tree::{
@@ -162,7 +162,7 @@ fn defined<'a>(module: &'a Module, table: &Table, what: ExportDesc) -> Option<Ex
     }
 }
 
-impl<'a> Joining<'a> {
+impl<'a> PartTables<'a> {
     // What the import at a place asks for.
     fn asked_at(&self, site: Site) -> Option<External<'a>>
         requires { IsThere self.now.parts.now site }
@@ -174,7 +174,7 @@ impl<'a> Joining<'a> {
 
     // What an entity is that its part defines.
     fn defined_at(&self, entity: Entity) -> Option<External<'a>>
-        requires joining { IsJoining self.now }
+        requires joining { ArePartTables self.now }
         requires own { linking.imported_as (named_modules self.now.parts.now) (the_entity entity) ≡ None }
         ensures { option_map the_external result ≡ faults.found (named_modules self.now.parts.now) (linking.Defined (the_entity entity)) }
     {
@@ -189,7 +189,7 @@ impl<'a> Joining<'a> {
 
     // What is found at an end.
     fn found(&self, end: Ending) -> Option<External<'a>>
-        requires joining { IsJoining self.now }
+        requires joining { ArePartTables self.now }
         requires stop { IsStop (named_modules self.now.parts.now) (the_end end) }
         ensures { option_map the_external result ≡ faults.found (named_modules self.now.parts.now) (the_end end) }
     {
@@ -201,7 +201,7 @@ impl<'a> Joining<'a> {
 
     /// Whether an import's end is what it asks for.
     pub fn is_suited(&self, site: Site, end: Ending) -> bool
-        requires joining { IsJoining self.now }
+        requires joining { ArePartTables self.now }
         requires there { IsThere self.now.parts.now site }
         requires stop { IsStop (named_modules self.now.parts.now) (the_end end) }
         ensures { result ≡ faults.is_suited (named_modules self.now.parts.now) (the_site site) (the_end end) }

@@ -5,17 +5,17 @@ ghost use Rattle.std.specs.BTreeMap.{get_by};
 ghost use Rattle.merge_spec.specs.Parts.{named_modules};
 ghost use Rattle.wasm_meaning.specs.Linking as linking;
 ghost use Rattle.merge_link.specs.Sites.{AreSites, IsThere};
-ghost use Rattle.merge_link.specs.Joining.{AreKnown, IsJoining, IsStop, the_end};
-ghost use Rattle.merge_link.specs.Gathering.{AreFirst, AreLinked, EndsThere, IsStayingMemory};
+ghost use Rattle.merge_link.specs.PartTables.{AreKnown, ArePartTables, IsStop, the_end};
+ghost use Rattle.merge_link.specs.Gathering.{AreFirst, AreLinkedEnds, EndsThere, IsStayingMemory};
 
-use crate::joining::{Ending, Joining};
+use crate::part_tables::{Ending, PartTables};
 use crate::sites::{Site, import_at};
 use std::alloc::Global;
 use std::collections::BTreeMap;
 use wasm_bytes::NoMemory;
 use wasm_tree::{Import, Space};
 
-impl<'a> Joining<'a> {
+impl<'a> PartTables<'a> {
     /// The import at a place, where it is a memory that stays.
     pub fn staying_memory(&self, site: Site, end: Ending) -> Option<&'a Import>
         requires there { IsThere self.now.parts.now site }
@@ -96,7 +96,7 @@ impl<'a> Joining<'a> {
     ) -> Result<Vec<Ending>, NoMemory>
         requires sites { AreSites self.now.parts.now sites.now }
         requires ends { AreKnown self.now.parts.now sites.now ends.now }
-        ensures { IfOk result (λ linked. AreLinked self.now.parts.now sites.now linked.items) }
+        ensures { IfOk result (λ linked. AreLinkedEnds self.now.parts.now sites.now linked.items) }
     {
         let firsts = self.first_memories(alloc, sites, ends)?;
         let mut linked = Vec::new(alloc);

@@ -5,13 +5,13 @@ ghost use Rattle.merge_spec.specs.Faults as faults;
 ghost use Rattle.merge_spec.specs.Parts.{named_modules};
 ghost use Rattle.wasm_meaning.specs.Linking as linking;
 ghost use Rattle.merge_link.specs.Sites.{AreSites, IsThere, the_site};
-ghost use Rattle.merge_link.specs.Joining.{AreKnown, AreSteps, IsJoining, IsStep, IsStop, the_end, the_entity};
+ghost use Rattle.merge_link.specs.PartTables.{AreKnown, AreSteps, ArePartTables, IsStep, IsStop, the_end, the_entity};
 ghost use Rattle.merge_link.specs.Globals.{AreOwn, IsEndStep, IsOwn, own_read, own_reads, the_own, the_read, value_at};
 
-use crate::joining::{Ending, Entity, Joining};
+use crate::part_tables::{Ending, Entity, PartTables};
 use crate::sites::Site;
-use merge_spec::{LinkFault, Read};
 use base_paths::{Step, endings};
+use merge_spec::{LinkFault, Read};
 use std::alloc::Global;
 use wasm_bytes::NoMemory;
 use wasm_meaning::ends_and_reads_are_paths;
@@ -25,10 +25,10 @@ pub struct OwnGlobal {
     pub init: ConstExpr,
 }
 
-impl<'a> Joining<'a> {
+impl<'a> PartTables<'a> {
     /// The globals that the parts define, by part, then by index.
     pub fn own_globals(&self, alloc: Global) -> Result<Vec<OwnGlobal>, NoMemory>
-        requires joining { IsJoining self.now }
+        requires joining { ArePartTables self.now }
         requires parts { length self.now.parts.now < 2 ^ 32 }
         ensures { IfOk result (λ globals. AreOwn self.now.parts.now globals.items) }
     {
@@ -49,7 +49,7 @@ impl<'a> Joining<'a> {
 
     /// The number of a defined global among those of all parts.
     pub fn global_number(&self, entity: Entity) -> Option<u32>
-        requires { IsJoining self.now }
+        requires { ArePartTables self.now }
         ensures { IsOwn (named_modules self.now.parts.now) (the_entity entity) result }
     {
         match self.tables.get(entity.part as usize) {
@@ -73,7 +73,7 @@ impl<'a> Joining<'a> {
 
     /// The `global.get` of an import that stays.
     pub fn outside_read(&self, site: Site) -> Read
-        requires joining { IsJoining self.now }
+        requires joining { ArePartTables self.now }
         requires there { IsThere self.now.parts.now site }
         ensures { linking.outside_read (named_modules self.now.parts.now) (the_site site) ≡ Some (the_read result) }
     {
@@ -86,7 +86,7 @@ impl<'a> Joining<'a> {
 
     // From the end of a global's import: to a defined global's value expression, or to the `global.get` of what stays.
     fn end_step(&self, end: Ending) -> Step<Read>
-        requires joining { IsJoining self.now }
+        requires joining { ArePartTables self.now }
         requires stop { IsStop (named_modules self.now.parts.now) (the_end end) }
         ensures { IsEndStep self.now.parts.now (the_end end) result }
     {
@@ -101,7 +101,7 @@ impl<'a> Joining<'a> {
 
     // From a global's value expression.
     fn value_step(&self, sites: &[Site], ends: &[Ending], global: OwnGlobal) -> Step<Read>
-        requires joining { IsJoining self.now }
+        requires joining { ArePartTables self.now }
         requires sites { AreSites self.now.parts.now sites.now }
         requires ends { AreKnown self.now.parts.now sites.now ends.now }
         ensures { IsStep (linking.read_step (named_modules self.now.parts.now)) (own_reads (named_modules self.now.parts.now)) the_read (own_read (the_own global)) result }
@@ -131,7 +131,7 @@ impl<'a> Joining<'a> {
         ends: &[Ending],
         globals: &[OwnGlobal],
     ) -> Result<Vec<Step<Read>>, NoMemory>
-        requires joining { IsJoining self.now }
+        requires joining { ArePartTables self.now }
         requires sites { AreSites self.now.parts.now sites.now }
         requires ends { AreKnown self.now.parts.now sites.now ends.now }
         ensures { IfOk result (λ steps. AreSteps (linking.read_step (named_modules self.now.parts.now)) (own_reads (named_modules self.now.parts.now)) the_read (map (λ g. own_read (the_own g)) globals.now) steps.items) }
@@ -151,7 +151,7 @@ impl<'a> Joining<'a> {
         ends: &[Ending],
         globals: &[OwnGlobal],
     ) -> Result<Vec<Option<Read>>, NoMemory>
-        requires joining { IsJoining self.now }
+        requires joining { ArePartTables self.now }
         requires sites { AreSites self.now.parts.now sites.now }
         requires ends { AreKnown self.now.parts.now sites.now ends.now }
         requires globals { AreOwn self.now.parts.now globals.now }

@@ -6,11 +6,11 @@ ghost use Rattle.merge_spec.specs.Faults as faults;
 ghost use Rattle.merge_spec.specs.Parts.{named_modules};
 ghost use Rattle.wasm_meaning.specs.Linking as linking;
 ghost use Rattle.merge_link.specs.Sites.{AreSites, IsThere, the_site};
-ghost use Rattle.merge_link.specs.Joining.{IsJoining, the_end};
-ghost use Rattle.merge_link.specs.Gathering.{AreLinked, EndsThere};
+ghost use Rattle.merge_link.specs.PartTables.{ArePartTables, the_end};
+ghost use Rattle.merge_link.specs.Gathering.{AreLinkedEnds, EndsThere};
 ghost use Rattle.merge_link.specs.Limits.{IsDemand, clash_of, kept_of, met_at};
 
-use crate::joining::{Ending, Joining};
+use crate::part_tables::{Ending, PartTables};
 use crate::sites::{Site, import_at};
 use merge_spec::LinkFault;
 use std::alloc::Global;
@@ -80,10 +80,10 @@ fn clash(site: Site, limits: Option<Limits>) -> Option<LinkFault>
     }
 }
 
-impl<'a> Joining<'a> {
+impl<'a> PartTables<'a> {
     // The number of an import among those of all parts.
     fn number(&self, site: Site) -> u32
-        requires joining { IsJoining self.now }
+        requires joining { ArePartTables self.now }
         requires there { IsThere self.now.parts.now site }
         ensures { slice_get (linking.sites (named_modules self.now.parts.now)) result ≡ Some (the_site site) }
     {
@@ -92,7 +92,7 @@ impl<'a> Joining<'a> {
 
     // The limits that an import asks of what stays, with the number of the import at which it ends.
     fn demand(&self, site: Site, end: Ending) -> Option<(u32, Limits)>
-        requires joining { IsJoining self.now }
+        requires joining { ArePartTables self.now }
         requires there { IsThere self.now.parts.now site }
         requires end { EndsThere self.now.parts.now end }
         ensures { IsDemand (named_modules self.now.parts.now) (the_site site) (the_end end) result }
@@ -113,9 +113,9 @@ impl<'a> Joining<'a> {
         sites: &[Site],
         linked: &[Ending],
     ) -> Result<Vec<Limits>, NoMemory>
-        requires joining { IsJoining self.now }
+        requires joining { ArePartTables self.now }
         requires sites { AreSites self.now.parts.now sites.now }
-        requires linked { AreLinked self.now.parts.now sites.now linked.now }
+        requires linked { AreLinkedEnds self.now.parts.now sites.now linked.now }
         ensures { IfOk result (λ all. all.items ≡ map (met_at self.now.parts.now) sites.now) }
     {
         let mut all = no_demands(alloc, sites.len())?;
@@ -155,9 +155,9 @@ impl<'a> Joining<'a> {
         sites: &[Site],
         linked: &[Ending],
     ) -> Result<Vec<Option<Limits>>, NoMemory>
-        requires joining { IsJoining self.now }
+        requires joining { ArePartTables self.now }
         requires sites { AreSites self.now.parts.now sites.now }
-        requires linked { AreLinked self.now.parts.now sites.now linked.now }
+        requires linked { AreLinkedEnds self.now.parts.now sites.now linked.now }
         ensures { IfOk result (λ kept. kept.items ≡ map (λ s. faults.kept_limits (named_modules self.now.parts.now) (the_site s)) sites.now) }
     {
         let met = self.met_limits(alloc, sites, linked)?;

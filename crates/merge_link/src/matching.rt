@@ -4,18 +4,18 @@ ghost use Rattle.std.specs.Prelude.{IfOk, IfSome, None, Some, length, map, optio
 ghost use Rattle.merge_spec.specs.Faults as faults;
 ghost use Rattle.merge_spec.specs.Parts.{named_modules};
 ghost use Rattle.merge_link.specs.Sites.{AreSites, IsThere, the_site};
-ghost use Rattle.merge_link.specs.Joining.{AreStops, IsJoining, IsStop, end_at, the_end};
+ghost use Rattle.merge_link.specs.PartTables.{AreStops, ArePartTables, IsStop, end_at, the_end};
 
-use crate::joining::{Ending, Joining};
+use crate::part_tables::{Ending, PartTables};
 use crate::sites::Site;
 use merge_spec::LinkFault;
 use std::alloc::Global;
 use wasm_bytes::NoMemory;
 
-impl<'a> Joining<'a> {
+impl<'a> PartTables<'a> {
     // Why an import does not end as it asks, if it does not.
     fn import_fault(&self, site: Site, end: Option<Ending>) -> Option<LinkFault>
-        requires joining { IsJoining self.now }
+        requires joining { ArePartTables self.now }
         requires there { IsThere self.now.parts.now site }
         requires stop { IfSome end (λ e. IsStop (named_modules self.now.parts.now) (the_end e)) }
         ensures { result ≡ faults.end_fault (named_modules self.now.parts.now) (the_site site) (option_map the_end end) }
@@ -40,7 +40,7 @@ impl<'a> Joining<'a> {
 
     /// The fault of the first import that never ends or whose end is not what it asks for.
     pub fn first_import_fault(&self, sites: &[Site], ends: &[Option<Ending>]) -> Option<LinkFault>
-        requires joining { IsJoining self.now }
+        requires joining { ArePartTables self.now }
         requires sites { AreSites self.now.parts.now sites.now }
         requires ends { map (option_map the_end) ends.now ≡ map (end_at self.now.parts.now) sites.now }
         requires stops { AreStops self.now.parts.now ends.now }

@@ -7,13 +7,13 @@ ghost use Rattle.merge_spec.specs.Parts.{named_modules};
 ghost use Rattle.wasm_meaning.specs.Linking as linking;
 ghost use Rattle.wasm_meaning.specs.World as world;
 ghost use Rattle.merge_link.specs.Sites.{AreSites, IsThere, the_site};
-ghost use Rattle.merge_link.specs.Joining.{the_end};
-ghost use Rattle.merge_link.specs.Gathering.{AreLinked, is_memory_at};
+ghost use Rattle.merge_link.specs.PartTables.{the_end};
+ghost use Rattle.merge_link.specs.Gathering.{AreLinkedEnds, is_memory_at};
 
-use crate::joining::{Ending, Joining};
+use crate::part_tables::{Ending, PartTables};
 use crate::sites::Site;
 
-impl<'a> Joining<'a> {
+impl<'a> PartTables<'a> {
     fn is_staying_memory(&self, site: Site, end: Ending) -> bool
         requires { IsThere self.now.parts.now site }
         ensures { result ≡ linking.is_outside (the_site site) (Some (the_end end)) && is_memory_at (linking.import_at (named_modules self.now.parts.now) (the_site site)) }
@@ -24,7 +24,7 @@ impl<'a> Joining<'a> {
     // How many memories stay, those of one module and field name counted once.
     fn staying_memories(&self, sites: &[Site], linked: &[Ending]) -> usize
         requires sites { AreSites self.now.parts.now sites.now }
-        requires linked { AreLinked self.now.parts.now sites.now linked.now }
+        requires linked { AreLinkedEnds self.now.parts.now sites.now linked.now }
         ensures { result ≡ linking.count_of (λ s. faults.is_staying_memory (named_modules self.now.parts.now) (the_site s)) sites.now }
     {
         let mut count = 0;
@@ -53,7 +53,7 @@ impl<'a> Joining<'a> {
     /// Whether the memories that are defined and those that stay are more than one.
     pub fn has_too_many_memories(&self, sites: &[Site], linked: &[Ending]) -> bool
         requires sites { AreSites self.now.parts.now sites.now }
-        requires linked { AreLinked self.now.parts.now sites.now linked.now }
+        requires linked { AreLinkedEnds self.now.parts.now sites.now linked.now }
         ensures { result ≡ nat_lt 1 (faults.memory_count (named_modules self.now.parts.now)) }
     {
         self.are_more_than_one(self.staying_memories(sites, linked))

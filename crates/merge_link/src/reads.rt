@@ -4,11 +4,11 @@ ghost use Rattle.std.specs.Prelude.{IfOk, map, option_map, ◌≡◌};
 ghost use Rattle.merge_spec.specs.Linked as links;
 ghost use Rattle.merge_spec.specs.Parts.{named_modules};
 ghost use Rattle.merge_link.specs.Sites.{AreSites, IsThere, the_site};
-ghost use Rattle.merge_link.specs.Joining.{AreKnown, IsJoining, IsStop, the_end};
+ghost use Rattle.merge_link.specs.PartTables.{AreKnown, ArePartTables, IsStop, the_end};
 ghost use Rattle.merge_link.specs.Globals.{the_read};
 ghost use Rattle.merge_link.specs.Reads.{AreValues, fixed_read, read_past};
 
-use crate::joining::{Ending, Joining};
+use crate::part_tables::{Ending, PartTables};
 use crate::sites::{Site, import_at};
 use merge_spec::Read;
 use std::alloc::Global;
@@ -16,10 +16,10 @@ use wasm_bytes::NoMemory;
 use wasm_meaning::ends_and_reads_are_paths;
 use wasm_tree::{GlobalType, ImportDesc};
 
-impl<'a> Joining<'a> {
+impl<'a> PartTables<'a> {
     // What is read from the end of a global's import.
     fn read_past(&self, end: Ending, values: &[Option<Read>]) -> Option<Read>
-        requires joining { IsJoining self.now }
+        requires joining { ArePartTables self.now }
         requires stop { IsStop (named_modules self.now.parts.now) (the_end end) }
         requires values { AreValues self.now.parts.now values.now }
         ensures { option_map the_read result ≡ read_past (named_modules self.now.parts.now) (the_end end) }
@@ -35,7 +35,7 @@ impl<'a> Joining<'a> {
 
     // What is read through an import, where it is an immutable global.
     fn read_through(&self, site: Site, end: Ending, values: &[Option<Read>]) -> Option<Read>
-        requires joining { IsJoining self.now }
+        requires joining { ArePartTables self.now }
         requires there { IsThere self.now.parts.now site }
         requires stop { IsStop (named_modules self.now.parts.now) (the_end end) }
         requires values { AreValues self.now.parts.now values.now }
@@ -58,7 +58,7 @@ impl<'a> Joining<'a> {
         ends: &[Ending],
         values: &[Option<Read>],
     ) -> Result<Vec<Option<Read>>, NoMemory>
-        requires joining { IsJoining self.now }
+        requires joining { ArePartTables self.now }
         requires sites { AreSites self.now.parts.now sites.now }
         requires ends { AreKnown self.now.parts.now sites.now ends.now }
         requires values { AreValues self.now.parts.now values.now }

@@ -9,12 +9,12 @@ ghost use Rattle.merge_spec.specs.Linked.{AreLinks};
 ghost use Rattle.merge_spec.specs.Parts.{HaveDistinctNames, named_modules};
 ghost use Rattle.merge_spec.specs.declared.faults.LinkFault.{LinkFault};
 ghost use Rattle.merge_link.specs.Sites.{AreSites};
-ghost use Rattle.merge_link.specs.Joining.{AreKnown, IsJoining};
+ghost use Rattle.merge_link.specs.PartTables.{AreKnown, ArePartTables};
 ghost use Rattle.merge_link.specs.Resolving.{IsKept, IsLinkedKept, IsMatched, IsRefusal, IsValued, read_entry_at};
 
 use crate::cutting::{cut, end_entries};
-use crate::joining::{Ending, Joining};
 use crate::matching::known_ends;
+use crate::part_tables::{Ending, PartTables};
 use crate::sites::{Site, all_sites};
 use crate::tables::{all_names, all_tables};
 use merge_spec::{LinkFault, Links, Part, Read};
@@ -29,10 +29,10 @@ pub struct Kept {
     pub limits: Vec<Option<Limits>>,
 }
 
-impl<'a> Joining<'a> {
+impl<'a> PartTables<'a> {
     // The ends of all imports, or the fault of the first that has none or whose end is not what it asks for.
     fn matched(&self, alloc: Global, sites: &[Site]) -> Result<Vec<Ending>, LinkFault>
-        requires joining { IsJoining self.now }
+        requires joining { ArePartTables self.now }
         requires sites { AreSites self.now.parts.now sites.now }
         ensures { IsMatched self.now.parts.now sites.now result }
     {
@@ -45,7 +45,7 @@ impl<'a> Joining<'a> {
 
     // The linked ends with the limits that stay, or the fault of the first import whose limits clash.
     fn kept_ends(&self, alloc: Global, sites: &[Site], ends: &[Ending]) -> Result<Kept, LinkFault>
-        requires joining { IsJoining self.now }
+        requires joining { ArePartTables self.now }
         requires sites { AreSites self.now.parts.now sites.now }
         requires ends { AreKnown self.now.parts.now sites.now ends.now }
         ensures { IsKept self.now.parts.now sites.now result }
@@ -65,7 +65,7 @@ impl<'a> Joining<'a> {
         sites: &[Site],
         ends: &[Ending],
     ) -> Result<Vec<Option<Read>>, LinkFault>
-        requires joining { IsJoining self.now }
+        requires joining { ArePartTables self.now }
         requires parts { length self.now.parts.now < 2 ^ 32 }
         requires sites { AreSites self.now.parts.now sites.now }
         requires ends { AreKnown self.now.parts.now sites.now ends.now }
@@ -102,7 +102,7 @@ impl<'a> Joining<'a> {
 
     // The links, or the first fault of all.
     fn linked_sites(&self, alloc: Global, sites: &[Site]) -> Result<Links, LinkFault>
-        requires joining { IsJoining self.now }
+        requires joining { ArePartTables self.now }
         requires parts { length self.now.parts.now < 2 ^ 32 }
         requires sites { AreSites self.now.parts.now sites.now }
         ensures links { IfOk result (AreLinks (named_modules self.now.parts.now)) }
@@ -137,7 +137,7 @@ pub fn resolve(alloc: Global, parts: &Items<Part>) -> Result<Links, LinkFault>
     let sites = all_sites(alloc, parts)?;
     let names = all_names(alloc, parts)?;
     let tables = all_tables(alloc, parts)?;
-    let joining = Joining {
+    let joining = PartTables {
         parts,
         names,
         tables,

@@ -6,7 +6,7 @@ ghost use Rattle.std.specs.Option.{option_copied};
 ghost use Rattle.std.specs.Ordering.{nat_cmp};
 ghost use Rattle.std.specs.BTreeMap.{get_by};
 ghost use Rattle.std.specs.Cmp.Lexicographic.{slice_cmp};
-ghost use Rattle.merge_spec.specs.Faults.{own_globals};
+ghost use Rattle.merge_spec.specs.Faults.{defined_globals};
 ghost use Rattle.merge_spec.specs.Parts.{named_modules};
 ghost use Rattle.wasm_meaning.specs.Linking as linking;
 ghost use Rattle.merge_link.specs.Tables.{AreIndices, AreNames, AreTables, IsTableOf, imports_before, places_of};
@@ -100,7 +100,7 @@ fn table_of<'a>(
 /// What is looked up in each part.
 pub fn all_tables<'a>(alloc: Global, parts: &'a [Part]) -> Result<Vec<Table<'a>>, NoMemory>
     requires imports { length (linking.sites (named_modules parts.now)) < 2 ^ 32 }
-    requires globals { length (own_globals (named_modules parts.now)) < 2 ^ 32 }
+    requires globals { length (defined_globals (named_modules parts.now)) < 2 ^ 32 }
     ensures { IfOk result (λ tables. AreTables (named_modules parts.now) tables.items) }
 {
     let mut tables = Vec::new(alloc);

@@ -6,7 +6,7 @@ use Rattle.wasm_tree.specs.declared.space.Space.TheVariants.{Globals}
 use Rattle.wasm_tree.specs.declared.types.Limits.{Limits}
 use Rattle.wasm_tree.specs.declared.module.GlobalDef.{GlobalDef}
 use Rattle.wasm_meaning.specs.Linking.{Part, Site, End, sites_in, sites_from, sites, end_of, imports_of, Read, read_of}
-use Rattle.merge_spec.specs.Faults.{or_else, first_fault, end_fault, import_fault, is_suited, is_under, kept_limits, clash_fault, memory_fault, memory_count, OwnGlobal, own_globals_in, own_globals_from, own_globals, value_fault, global_fault, link_fault, NamesPart}
+use Rattle.merge_spec.specs.Faults.{or_else, first_fault, end_fault, import_fault, is_suited, is_under, kept_limits, clash_fault, memory_fault, memory_count, DefinedGlobal, defined_globals_in, defined_globals_from, defined_globals, value_fault, global_fault, link_fault, NamesPart}
 use Rattle.merge_spec.specs.declared.faults.LinkFault.{LinkFault}
 use Rattle.merge_spec.specs.declared.faults.LinkFault.TheVariants.{ImportMismatch, ImportCycle, LimitsClash, TooManyMemories, GlobalCycle, NoMemory}
 
@@ -81,24 +81,24 @@ memory_is n parts = several_is n (nat_lt 1 (memory_count parts))
 
 -- ---- globals
 
-abbrev IsPartOf : ℕ → OwnGlobal → Type 0
+abbrev IsPartOf : ℕ → DefinedGlobal → Type 0
 IsPartOf n g = g.part < n
 
-own_in_are : (n p from : ℕ) (gs : List GlobalDef) → p < n → Every (IsPartOf n) (own_globals_in p from gs)
+own_in_are : (n p from : ℕ) (gs : List GlobalDef) → p < n → Every (IsPartOf n) (defined_globals_in p from gs)
 own_in_are n p from [] h = tt
 own_in_are n p from (g ∷ gs) h = (h, own_in_are n p (suc from) gs h)
 
-own_are : (n p : ℕ) (parts : List Part) → p + length parts ≤ n → Every (IsPartOf n) (own_globals_from p parts)
+own_are : (n p : ℕ) (parts : List Part) → p + length parts ≤ n → Every (IsPartOf n) (defined_globals_from p parts)
 own_are n p [] h = tt
 own_are n p (part ∷ parts) h =
-    every_append (IsPartOf n) (own_globals_in p (length (imports_of Globals part.«module»)) part.«module».globals) (own_globals_from (suc p) parts)
+    every_append (IsPartOf n) (defined_globals_in p (length (imports_of Globals part.«module»)) part.«module».globals) (defined_globals_from (suc p) parts)
     (own_in_are n p (length (imports_of Globals part.«module»)) part.«module».globals (omega arith)) (own_are n (suc p) parts (omega arith))
 
-value_is : (n : ℕ) (g : OwnGlobal) (r : Option Read) → IsPartOf n g → IfSome (value_fault g r) (IsOf n)
+value_is : (n : ℕ) (g : DefinedGlobal) (r : Option Read) → IsPartOf n g → IfSome (value_fault g r) (IsOf n)
 value_is n g None h = h
 value_is n g (Some r) h = tt
 
-global_is : (n : ℕ) (parts : List Part) (g : OwnGlobal) → IsPartOf n g → IfSome (global_fault parts g) (IsOf n)
+global_is : (n : ℕ) (parts : List Part) (g : DefinedGlobal) → IsPartOf n g → IfSome (global_fault parts g) (IsOf n)
 unfolding global_fault
 global_is n parts g h = value_is n g (read_of parts g.part g.init) h
 
@@ -109,14 +109,14 @@ counted_is n parts true = tt
 counted_is n parts false = memory_is n parts
 
 fault_is : (parts : List Part) (many : Bool) → IfSome (link_fault parts many) (IsOf (length parts))
-unfolding link_fault own_globals
+unfolding link_fault defined_globals
 fault_is parts many =
     let n = length parts in
     let there : 0 + length parts ≤ n = omega arith in
     or_else_is n _ _ (first_is n (import_fault parts) (HasPart n) (import_is n parts) (sites parts) (sites_have n 0 parts there))
     (or_else_is n _ _ (first_is n (clash_fault parts) (HasPart n) (clash_is n parts) (sites parts) (sites_have n 0 parts there))
     (or_else_is n _ _ (counted_is n parts many)
-    (first_is n (global_fault parts) (IsPartOf n) (global_is n parts) (own_globals parts) (own_are n 0 parts there))))
+    (first_is n (global_fault parts) (IsPartOf n) (global_is n parts) (defined_globals parts) (own_are n 0 parts there))))
 
 names_part : (n : ℕ) (fault : LinkFault) → IsOf n fault → NamesPart n fault
 names_part n (ImportMismatch part import) h = h

@@ -21,7 +21,7 @@ use Rattle.wasm_tree.specs.declared.module.Module.{Module}
 use Rattle.wasm_meaning.specs.State.{Text}
 use Rattle.wasm_meaning.specs.Linking.{Part}
 use Rattle.merge_spec.specs.declared.faults.LinkFault.TheVariants.{ImportMismatch, ImportCycle, LimitsClash, TooManyMemories, GlobalCycle}
-use Rattle.merge_spec.specs.Faults.{link_fault, import_fault, clash_fault, memory_fault, memory_count, global_fault, own_globals, stays, kept_limits}
+use Rattle.merge_spec.specs.Faults.{link_fault, import_fault, clash_fault, memory_fault, memory_count, global_fault, defined_globals, stays, kept_limits}
 use Rattle.merge_spec.specs.Types.{AreFirstAppearances}
 use Rattle.merge_spec.specs.Merged.{merged, merged_types, place_of_type, map_of, merged_const, merged_import, starts, defined_funcs, all_exports, staying, staying_of, place_of_end, new_index}
 
@@ -87,11 +87,11 @@ abbrev remembering : Limits → Limits → List Part
 remembering l k = part a (record empty { imports = import env x (im.Memory l) ∷ [] }) ∷ part b (record empty { imports = import env x (im.Memory k) ∷ [] }) ∷ []
 
 limits_that_meet : link_fault (remembering (limits 1 None) (limits 3 (Some 5))) false ≡ None
-unfolding link_fault import_fault clash_fault kept_limits stays memory_fault memory_count global_fault own_globals
+unfolding link_fault import_fault clash_fault kept_limits stays memory_fault memory_count global_fault defined_globals
 limits_that_meet = refl
 
 limits_that_clash : link_fault (remembering (limits 6 None) (limits 1 (Some 5))) false ≡ Some (LimitsClash 0 0)
-unfolding link_fault import_fault clash_fault kept_limits stays memory_fault memory_count global_fault own_globals
+unfolding link_fault import_fault clash_fault kept_limits stays memory_fault memory_count global_fault defined_globals
 limits_that_clash = refl
 
 one_memory_is_imported : (merged (remembering (limits 1 None) (limits 3 (Some 5))) []).imports ≡ import env x (im.Memory (limits 3 (Some 5))) ∷ []
@@ -102,11 +102,11 @@ abbrev each_with_a_memory : List Part
 each_with_a_memory = part a (record empty { mems = limits 1 None ∷ [] }) ∷ part b (record empty { mems = limits 1 None ∷ [] }) ∷ []
 
 two_memories : link_fault each_with_a_memory false ≡ Some TooManyMemories
-unfolding link_fault import_fault clash_fault kept_limits stays memory_fault memory_count global_fault own_globals
+unfolding link_fault import_fault clash_fault kept_limits stays memory_fault memory_count global_fault defined_globals
 two_memories = refl
 
 two_memories_where_several_may_be : link_fault each_with_a_memory true ≡ None
-unfolding link_fault import_fault clash_fault kept_limits stays memory_fault memory_count global_fault own_globals
+unfolding link_fault import_fault clash_fault kept_limits stays memory_fault memory_count global_fault defined_globals
 two_memories_where_several_may_be = refl
 
 -- a part that imports a function of another type than is there
@@ -124,7 +124,7 @@ circling =
     part b (record empty { imports = import a x (im.Global (fixed valt.I32)) ∷ []; globals = record { ty = fixed valt.I32; init = const.Global 0 } ∷ []; exports = export x (ex.Global 1) ∷ [] }) ∷ []
 
 a_global_without_a_value : link_fault circling false ≡ Some (GlobalCycle 0 1)
-unfolding link_fault import_fault clash_fault kept_limits stays memory_fault memory_count global_fault own_globals
+unfolding link_fault import_fault clash_fault kept_limits stays memory_fault memory_count global_fault defined_globals
 a_global_without_a_value = refl
 
 -- ---- merged modules ----

@@ -118,29 +118,29 @@ unfoldable pub memory_fault : List Part → Option LinkFault
 memory_fault parts = cond (nat_lt 1 (memory_count parts)) (Some TooManyMemories) None
 
 -- a global that a part defines: its part, its index in that part's global space, and its value expression
-pub record OwnGlobal : Type 0 where
+pub record DefinedGlobal : Type 0 where
   pub part : ℕ
   pub index : ℕ
   pub init : ConstExpr
 
-abbrev pub own_globals_in : (part index : ℕ) → List GlobalDef → List OwnGlobal
-own_globals_in p n [] = []
-own_globals_in p n (g ∷ gs) = record { part = p; index = n; init = g.init } ∷ own_globals_in p (suc n) gs
+abbrev pub defined_globals_in : (part index : ℕ) → List GlobalDef → List DefinedGlobal
+defined_globals_in p n [] = []
+defined_globals_in p n (g ∷ gs) = record { part = p; index = n; init = g.init } ∷ defined_globals_in p (suc n) gs
 
-abbrev pub own_globals_from : ℕ → List Part → List OwnGlobal
-own_globals_from p [] = []
-own_globals_from p (part ∷ parts) = own_globals_in p (length (imports_of Globals part.«module»)) part.«module».globals ++ own_globals_from (suc p) parts
+abbrev pub defined_globals_from : ℕ → List Part → List DefinedGlobal
+defined_globals_from p [] = []
+defined_globals_from p (part ∷ parts) = defined_globals_in p (length (imports_of Globals part.«module»)) part.«module».globals ++ defined_globals_from (suc p) parts
 
 -- all defined globals, by part, then by index
-unfoldable pub own_globals : List Part → List OwnGlobal
-own_globals = own_globals_from 0
+unfoldable pub defined_globals : List Part → List DefinedGlobal
+defined_globals = defined_globals_from 0
 
-abbrev pub value_fault : OwnGlobal → Option Read → Option LinkFault
+abbrev pub value_fault : DefinedGlobal → Option Read → Option LinkFault
 value_fault g None = Some (GlobalCycle g.part g.index)
 value_fault g (Some r) = None
 
 -- following the value of a global never ends
-unfoldable pub global_fault : List Part → OwnGlobal → Option LinkFault
+unfoldable pub global_fault : List Part → DefinedGlobal → Option LinkFault
 global_fault parts g = value_fault g (read_of parts g.part g.init)
 
 -- the fault of linking parts by name, or none; `many` says whether the merged module may have several memories, which are no fault then
@@ -149,7 +149,7 @@ link_fault parts many =
     or_else (first_fault (import_fault parts) (sites parts))
     (or_else (first_fault (clash_fault parts) (sites parts))
     (or_else (cond many None (memory_fault parts))
-    (first_fault (global_fault parts) (own_globals parts))))
+    (first_fault (global_fault parts) (defined_globals parts))))
 
 -- where a fault names a part, it is one of these many
 abbrev pub NamesPart : ℕ → LinkFault → Type 0

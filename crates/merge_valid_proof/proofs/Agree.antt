@@ -33,7 +33,7 @@ use Rattle.merge_valid_proof.proofs.Entities.{of_desc, of_import, own, imported,
 use Rattle.merge_valid_proof.proofs.ByPart.{elems_is, datas_is, by_part_at}
 use Rattle.merge_valid_proof.proofs.TypePlaces.{type_stands, types_map}
 use Rattle.merge_valid_proof.proofs.MergedSpaces.{types_are}
-use Rattle.merge_valid_proof.proofs.Linked.{AreLinked}
+use Rattle.merge_valid_proof.proofs.Linked.{AllAreSuited}
 use Rattle.merge_valid_proof.proofs.Entries.{entry_kept}
 use Rattle.std.proofs.lemmas.Option.{slice_get_within}
 use Rattle.base_lists.proofs.Places.{slice_get_there, slice_index_is, map_at, map_from, append_from}
@@ -205,7 +205,7 @@ data_stands parts names p m i s is h =
 
 -- ---- the whole ----
 
-module _ (law : EndsArePaths) (parts : List Part) (names : List (Option Text)) (links : AreLinked parts) (p : ℕ) (m : Module) (is : module_at parts p ≡ Some m) (holds : ItemsHold m) where
+module _ (law : EndsArePaths) (parts : List Part) (names : List (Option Text)) (links : AllAreSuited parts) (p : ℕ) (m : Module) (is : module_at parts p ≡ Some m) (holds : ItemsHold m) where
   kept : (k : Space) (i : ℕ) (y : Ty) → type_at m k i ≡ Some y → type_at (merged parts names) k (slice_index (entries k (map_of parts p m)) i) ≡ Some y
   kept k i y h = ap (type_at (merged parts names) k) (entry_at parts p m k i (typed_external m k i y h) (at_there m k i y h)) ∙ entry_kept law parts names links p m k i y is h
 

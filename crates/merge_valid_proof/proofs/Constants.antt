@@ -19,7 +19,7 @@ use Rattle.wasm_valid_bodies.specs.Typing.{only}
 use Rattle.wasm_valid.specs.declared.kinds.ItemKind.TheVariants as kind
 use Rattle.wasm_valid.specs.Constants.{const_type}
 use Rattle.wasm_meaning.specs.State.{Text}
-use Rattle.wasm_meaning.specs.Paths.{Next, Ends, Goes, Path, ends, goes}
+use Rattle.wasm_meaning.specs.Paths.{PathStep, EndsWith, LeadsTo, Path, ends, goes}
 use Rattle.wasm_meaning.specs.Laws.{EndsArePaths, ReadsArePaths}
 use Rattle.wasm_meaning.specs.Linking.{Part, Site, Outside, Entity, Read, places, has_kind, space_index, module_at, imports_of, global_import, end_of, initial, outside_read, end_step, read_step, read_of}
 use Rattle.index_remap.specs.declared.remap.Remap.{Remap}
@@ -30,7 +30,7 @@ use Rattle.index_remap_proof.proofs.Lists.{left_true, right_true, only_true, onl
 use Rattle.merge_spec.specs.Merged.{merged, map_of, merged_read, merged_const, staying_of, place_of_end, new_index}
 use Rattle.merge_valid_proof.specs.Entries.{HasEntry}
 use Rattle.merge_valid_proof.proofs.Entities.{of_import, own, imported, space, import_kind, GlobalTy, type_of, asked_type}
-use Rattle.merge_valid_proof.proofs.Linked.{AreLinked, import_site}
+use Rattle.merge_valid_proof.proofs.Linked.{AllAreSuited, import_site}
 use Rattle.merge_valid_proof.proofs.Ends.{EndsInside, EndsOutside, Landed, inside, outside}
 use Rattle.merge_valid_proof.proofs.MergedSpaces.{imported_many}
 use Rattle.merge_valid_proof.proofs.Entries.{inside_own, own_entry, outside_kind, outside_place, kind_there, site_at, imported_is, index_imported, joined_entry}
@@ -100,7 +100,7 @@ index_place k (x ∷ xs) (suc n) from i h e = by (has_kind k x) (index_place k x
 
 -- ---- what is read in the end ----
 
-module _ (ends_law : EndsArePaths) (parts : List Part) (names : List (Option Text)) (links : AreLinked parts) where
+module _ (ends_law : EndsArePaths) (parts : List Part) (names : List (Option Text)) (links : AllAreSuited parts) where
   -- what is read has the type, and where it is a global that is an import of the merged module
   pub record Ended (r : Read) (ty : ValType) : Type 0 where
     pub of : Module
@@ -110,8 +110,8 @@ module _ (ends_law : EndsArePaths) (parts : List Part) (names : List (Option Tex
 
   -- one step from an expression of the type: it is what is read, or it goes on to the value of a defined global
   data Step (r : Read) (ty : ValType) : Type 0 where
-    stop : (q : Read) → read_step parts r ≡ Some (Ends q) → Ended q ty → Step r ty
-    on : (e : Entity) (of : Module) (j : ℕ) (g : GlobalDef) → read_step parts r ≡ Some (Goes (record { part = e.part; expr = g.init })) → module_at parts e.part ≡ Some of → slice_get of.globals j ≡ Some g → g.ty.ty ≡ ty → Step r ty
+    stop : (q : Read) → read_step parts r ≡ Some (EndsWith q) → Ended q ty → Step r ty
+    on : (e : Entity) (of : Module) (j : ℕ) (g : GlobalDef) → read_step parts r ≡ Some (LeadsTo (record { part = e.part; expr = g.init })) → module_at parts e.part ≡ Some of → slice_get of.globals j ≡ Some g → g.ty.ty ≡ ty → Step r ty
 
   global_type : (g h : GlobalType) → Some (GlobalTy g) ≡ Some (GlobalTy h) → g ≡ h
   global_type g h e = cc
@@ -146,7 +146,7 @@ module _ (ends_law : EndsArePaths) (parts : List Part) (names : List (Option Tex
       let few : place_of_end parts k (Outside w.to) < length (staying_of parts k) = slice_get_within (staying_of parts k) _ w.to (outside_place parts k w.to w.stays h) in
       let many = imported_many parts names k in
       let imports : slice_index (map_of parts w.to.part m.0).globals x < length (imported k (merged parts names)) = omega (arith, in_map, few, many) in
-      stop q (step ∙ ap (end_step parts) w.end ∙ ap (λ t. option_and_then (λ r. Some (Ends r)) (outside_read parts t)) (sym to) ∙ ap (λ o. option_and_then {T = Read} {U = Next Read Read} (λ r. Some (Ends r)) o) out)
+      stop q (step ∙ ap (end_step parts) w.end ∙ ap (λ t. option_and_then (λ r. Some (EndsWith r)) (outside_read parts t)) (sym to) ∙ ap (λ o. option_and_then {T = Read} {U = PathStep Read Read} (λ r. Some (EndsWith r)) o) out)
       (record { of = m.0; is_part = m.1; typed = global_typed m.0 x g at_x lt fixed; reads = imports })
 
   -- to the value of a global that is joined
@@ -163,7 +163,7 @@ module _ (ends_law : EndsArePaths) (parts : List Part) (names : List (Option Tex
       let init : initial parts w.entity ≡ Some d.0.init =
       ap (λ o. option_and_then (λ m. option_and_then (λ g. Some g.init) (slice_get m.globals (index_of_export w.entity.what - length (imports_of Globals m)))) o) w.is_part ∙ ap (λ o. option_and_then {T = GlobalDef} (λ g. Some g.init) o) got in
       on w.entity w.of (n - length (imports_of k w.of)) d.0
-      (step ∙ ap (end_step parts) w.end ∙ ap (λ o. option_and_then {T = ConstExpr} {U = Next Read Read} (λ expr. Some (Goes (record { part = w.entity.part; expr = expr }))) o) init) w.is_part d.1 (ap (λ (g : GlobalType). g.ty) (d.2 ∙ c_g))
+      (step ∙ ap (end_step parts) w.end ∙ ap (λ o. option_and_then {T = ConstExpr} {U = PathStep Read Read} (λ expr. Some (LeadsTo (record { part = w.entity.part; expr = expr }))) o) init) w.is_part d.1 (ap (λ (g : GlobalType). g.ty) (d.2 ∙ c_g))
 
   global_step : (p x : ℕ) (m : Module) (ty : ValType) → module_at parts p ≡ Some m → ReadsGlobal m x ty → Step (record { part = p; expr = const.Global x }) ty
   global_step p x m ty is g =
@@ -202,15 +202,15 @@ module _ (ends_law : EndsArePaths) (parts : List Part) (names : List (Option Tex
       where
         by : Step r ty → Ended q ty
         by (stop z k e) =
-            let both : Some (Ends z) ≡ Some (Ends q) = sym k ∙ h in
+            let both : Some (EndsWith z) ≡ Some (EndsWith q) = sym k ∙ h in
             let same : z ≡ q = cc in subst (λ z. Ended z ty) same e
-        by (on e of j g k is at y) = absurd (let both : Some (Goes (record { part = e.part; expr = g.init })) ≡ Some (Ends q) = sym k ∙ h in cc)
+        by (on e of j g k is at y) = absurd (let both : Some (LeadsTo (record { part = e.part; expr = g.init })) ≡ Some (EndsWith q) = sym k ∙ h in cc)
     ended r q (goes {b = b} h p) m ty is t = by (λ m is t. ended b q p m ty is t) (step_of r.part r.expr m ty is t)
       where
         by : ((m : Module) → module_at parts b.part ≡ Some m → const_type m b.expr ≡ Some ty → Ended q ty) → Step r ty → Ended q ty
-        by more (stop z k e) = absurd (let both : Some (Ends z) ≡ Some (Goes b) = sym k ∙ h in cc)
+        by more (stop z k e) = absurd (let both : Some (EndsWith z) ≡ Some (LeadsTo b) = sym k ∙ h in cc)
         by more (on e of j g k is at y) =
-            let both : Some (Goes (record { part = e.part; expr = g.init })) ≡ Some (Goes b) = sym k ∙ h in
+            let both : Some (LeadsTo (record { part = e.part; expr = g.init })) ≡ Some (LeadsTo b) = sym k ∙ h in
             let same : record { part = e.part; expr = g.init } ≡ b = cc in
             more of (ap (λ b. module_at parts b.part) (sym same) ∙ is) (ap (λ b. const_type of b.expr) (sym same) ∙ init_typed of (valid e.part of is) j g at ∙ ap Some y)
 

@@ -25,7 +25,7 @@ use Rattle.merge_valid_proof.proofs.Entities.{entry_external, own, imported, spa
 use Rattle.merge_valid_proof.proofs.ByPart.{by_part_back}
 use Rattle.merge_valid_proof.proofs.TypePlaces.{type_stands}
 use Rattle.merge_valid_proof.proofs.MergedSpaces.{extra, moved_own, own_is, all_own}
-use Rattle.merge_valid_proof.proofs.Linked.{Suited, AreLinked, are_linked, sites_are, import_site, in_sites}
+use Rattle.merge_valid_proof.proofs.Linked.{Suited, AllAreSuited, are_linked, sites_are, import_site, in_sites}
 use Rattle.merge_valid_proof.proofs.Ends.{Gathers, gathers, end_outside, kind_asked, gathered_type, lands_inside, outside_is}
 use Rattle.merge_valid_proof.proofs.Entries.{imports_many, inside_own, stays_is, staying_place, has_its_kind, index_imported, index_defined, end_defined}
 use Rattle.std.proofs.lemmas.Option.{slice_get_within}
@@ -124,7 +124,7 @@ not_memory i h = by (has_kind Memories i) refl
     by true e = absurd (h (sym (kind_is Memories (space_of_import i.desc) e)))
     by false e = e
 
-ends_outside : EndsArePaths → (parts : List Part) → AreLinked parts → (s : Site) (i : Import) → import_at parts s ≡ Some i → (w : Suited parts s) (t : Site) → w.end ≡ Outside t → EndsOutside parts s i
+ends_outside : EndsArePaths → (parts : List Part) → AllAreSuited parts → (s : Site) (i : Import) → import_at parts s ≡ Some i → (w : Suited parts s) (t : Site) → w.end ≡ Outside t → EndsOutside parts s i
 ends_outside law parts links s i at w t e =
     let ended : end_of parts s ≡ Some (Outside t) = w.ends ∙ ap Some e in
     let o = end_outside law parts s t ended in
@@ -159,7 +159,7 @@ ends_outside law parts links s i at w t e =
 pub ended : EndsArePaths → LinkedImportsEnd
 ended law parts h s i at = by w.end refl
   where
-    links : AreLinked parts
+    links : AllAreSuited parts
     links = are_linked parts h
 
     w : Suited parts s

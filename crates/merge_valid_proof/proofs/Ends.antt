@@ -4,21 +4,21 @@ use Rattle.wasm_tree.specs.declared.space.Space.TheVariants.{Memories}
 use Rattle.std.specs.Prelude.{slice_get}
 use Rattle.wasm_tree.specs.declared.module.Import.{Import}
 use Rattle.wasm_tree.specs.declared.module.Module.{Module}
-use Rattle.wasm_meaning.specs.Paths.{Next, Ends, Path, ends, goes}
+use Rattle.wasm_meaning.specs.Paths.{PathStep, EndsWith, Path, ends, goes}
 use Rattle.wasm_meaning.specs.Laws.{EndsArePaths}
 use Rattle.wasm_meaning.specs.Linking.{Part, Site, End, Defined, Outside, Entity, module_at, import_at, imported_as, joined, entity_step, joined_step, import_step, sites, end_of, is_outside, same_memory, same_pair, pair_of, has_kind, stays_as, first_site, gathered_at, gathered, linked_end}
 use Rattle.wasm_tree.specs.Spaces.{space_of_import}
 use Rattle.merge_spec.specs.Faults.{External, asked, asked_at, found, external_of}
 use Rattle.merge_valid_proof.proofs.Same.{site_is, site_same, pair_is, pair_same, kind_is}
 use Rattle.merge_valid_proof.proofs.Entities.{Ty, FuncTy, TableTy, MemoryTy, GlobalTy, bare, kind_of, asked_kind}
-use Rattle.merge_valid_proof.proofs.Linked.{Suited, AreLinked, import_site, in_sites}
+use Rattle.merge_valid_proof.proofs.Linked.{Suited, AllAreSuited, import_site, in_sites}
 use Rattle.base_lists.proofs.Bools.{and_false}
 use Rattle.base_lists.proofs.Options.{and_then_is}
 use Rattle.std.proofs.lemmas.Bool.{and_parts, and_from}
 
 -- ---- paths ----
 
-last : {A E : Type 0} {next : A → Option (Next A E)} {a : A} {e : E} → Path next a e → (b : A) × (next b ≡ Some (Ends e))
+last : {A E : Type 0} {next : A → Option (PathStep A E)} {a : A} {e : E} → Path next a e → (b : A) × (next b ≡ Some (EndsWith e))
 last {a = a} (ends h) = (a, h)
 last (goes h p) = last p
 
@@ -28,22 +28,22 @@ record Stops (parts : List Part) (s : Site) (e : End) : Type 0 where
   defined : (d : Entity) → e ≡ Defined d → imported_as parts d ≡ None
   there : (i : Import) × (import_at parts s ≡ Some i)
 
-stops : (parts : List Part) (s : Site) (e : End) → import_step parts s ≡ Some (Ends e) → Stops parts s e
+stops : (parts : List Part) (s : Site) (e : End) → import_step parts s ≡ Some (EndsWith e) → Stops parts s e
 stops parts s e h = by (import_at parts s) refl h
   where
-    at_entity : (i : Import) → import_at parts s ≡ Some i → (d : Entity) (o : Option Site) → imported_as parts d ≡ o → Some (entity_step d o) ≡ Some (Ends e) → Stops parts s e
+    at_entity : (i : Import) → import_at parts s ≡ Some i → (d : Entity) (o : Option Site) → imported_as parts d ≡ o → Some (entity_step d o) ≡ Some (EndsWith e) → Stops parts s e
     at_entity i at d None is k =
         let same : Defined d ≡ e = cc in
         record { outside = λ t q. absurd (let z : Defined d ≡ Outside t = same ∙ q in cc); defined = λ c q. let z : Defined d ≡ Defined c = same ∙ q in let y : d ≡ c = cc in ap (imported_as parts) (sym y) ∙ is; there = (i, at) }
     at_entity i at d (Some t) is k = absurd (let z = k in cc)
 
-    at_joined : (i : Import) → import_at parts s ≡ Some i → (o : Option Entity) → Some (joined_step parts s o) ≡ Some (Ends e) → Stops parts s e
+    at_joined : (i : Import) → import_at parts s ≡ Some i → (o : Option Entity) → Some (joined_step parts s o) ≡ Some (EndsWith e) → Stops parts s e
     at_joined i at None k =
         let same : Outside s ≡ e = cc in
         record { outside = λ t q. let z : Outside s ≡ Outside t = same ∙ q in let y : s ≡ t = cc in y; defined = λ c q. absurd (let z : Outside s ≡ Defined c = same ∙ q in cc); there = (i, at) }
     at_joined i at (Some d) k = at_entity i at d (imported_as parts d) refl k
 
-    by : (o : Option Import) → import_at parts s ≡ o → option_and_then (λ i. Some (joined_step parts s (joined parts i))) o ≡ Some (Ends e) → Stops parts s e
+    by : (o : Option Import) → import_at parts s ≡ o → option_and_then (λ i. Some (joined_step parts s (joined parts i))) o ≡ Some (EndsWith e) → Stops parts s e
     by None at k = absurd (let z = k in cc)
     by (Some i) at k = at_joined i at (joined parts i) k
 
@@ -58,7 +58,7 @@ end_outside law parts s t h =
     let z = stops parts l.0 (Outside t) l.1 in
     let same : l.0 ≡ t = z.outside t refl in
     let at = subst (λ b. (i : Import) × (import_at parts b ≡ Some i)) same z.there in
-    let step : import_step parts t ≡ Some (Ends (Outside t)) = ap (import_step parts) (sym same) ∙ l.1 in
+    let step : import_step parts t ≡ Some (EndsWith (Outside t)) = ap (import_step parts) (sym same) ∙ l.1 in
     (at.0, at.1, (law parts t (Outside t)).0 (ends step))
 
 -- ---- the first of a memory's imports ----
@@ -246,7 +246,7 @@ gathered_same : (parts : List Part) (t : Site) (i : Import) (g : Gathers parts t
 gathered_same parts t i g x at h other true e = absurd (other (kind_asked parts t i x at h ∙ sym (kind_is Memories (space_of_import i.desc) e)))
 gathered_same parts t i g x at h other false e = g.other e
 
-lands_outside : EndsArePaths → (parts : List Part) (links : AreLinked parts) (s : Site) (w : Suited parts s) (t : Site) → w.end ≡ Outside t → EndsOutside parts s (bare w.demand)
+lands_outside : EndsArePaths → (parts : List Part) (links : AllAreSuited parts) (s : Site) (w : Suited parts s) (t : Site) → w.end ≡ Outside t → EndsOutside parts s (bare w.demand)
 lands_outside law parts links s w t e =
     let ended : end_of parts s ≡ Some (Outside t) = w.ends ∙ ap Some e in
     let o = end_outside law parts s t ended in
@@ -265,7 +265,7 @@ lands_outside law parts links s w t e =
       same = λ other. gathered_same parts t o.0 g w.thing o.1 finds (λ q. other (ap kind_of w.same ∙ q)) (has_kind Memories o.0) refl;
     }
 
-pub landed : EndsArePaths → (parts : List Part) → AreLinked parts → (s : Site) (w : Suited parts s) → Landed parts s (bare w.demand)
+pub landed : EndsArePaths → (parts : List Part) → AllAreSuited parts → (s : Site) (w : Suited parts s) → Landed parts s (bare w.demand)
 landed law parts links s w = by w.end refl
   where
     by : (e : End) → w.end ≡ e → Landed parts s (bare w.demand)

@@ -16,7 +16,7 @@ use Rattle.merge_spec.specs.Faults.{External, asked, asked_at, stays}
 use Rattle.merge_spec.specs.Merged.{merged, staying, staying_of, imports_kind, imported_count, place_of_end, place_of_entry, new_index}
 use Rattle.merge_valid_proof.proofs.Same.{site_is, site_same, kind_is, kind_same}
 use Rattle.merge_valid_proof.proofs.Entities.{Entry, of_desc, of_import, own, imported, space, import_kind, Ty, kind_of, bare, type_of, type_at, asked_type, asked_kind, external_kind, external_type}
-use Rattle.merge_valid_proof.proofs.Linked.{AreLinked, import_site, in_sites}
+use Rattle.merge_valid_proof.proofs.Linked.{AllAreSuited, import_site, in_sites}
 use Rattle.merge_valid_proof.proofs.Ends.{Stays, EndsInside, EndsOutside, Landed, inside, outside, landed}
 use Rattle.merge_valid_proof.proofs.MergedSpaces.{staying_type, own_type}
 use Rattle.base_lists.proofs.Options.{is_some_there, and_then_is}
@@ -187,7 +187,7 @@ pub record Joined (parts : List Part) (k : Space) (p : ℕ) (m : Module) (n : �
   pub kind : kind_of y ≡ k
   pub lands : Landed parts (site_at p n) y
 
-pub joined_entry : EndsArePaths → (parts : List Part) → AreLinked parts → (p : ℕ) (m : Module) (k : Space) (i n : ℕ) (y : Ty) → module_at parts p ≡ Some m → slice_get (imports_of k m) i ≡ Some n → type_at m k i ≡ Some y → Joined parts k p m n y
+pub joined_entry : EndsArePaths → (parts : List Part) → AllAreSuited parts → (p : ℕ) (m : Module) (k : Space) (i n : ℕ) (y : Ty) → module_at parts p ≡ Some m → slice_get (imports_of k m) i ≡ Some n → type_at m k i ≡ Some y → Joined parts k p m n y
 joined_entry law parts links p m k i n y is e t =
     let r = import_entry k m i n y e t in
     let at : import_at parts (site_at p n) ≡ Some r.import = ap (λ o. option_and_then (λ m. slice_get m.imports n) o) is ∙ r.at in
@@ -202,7 +202,7 @@ joined_entry law parts links p m k i n y is e t =
       lands = subst (Landed parts (site_at p n)) same (landed law parts links (site_at p n) w);
     }
 
-pub entry_kept : EndsArePaths → (parts : List Part) (names : List (Option Text)) → AreLinked parts → (p : ℕ) (m : Module) (k : Space) (i : ℕ) (y : Ty) → module_at parts p ≡ Some m → type_at m k i ≡ Some y → type_at (merged parts names) k (new_index parts p k i) ≡ Some y
+pub entry_kept : EndsArePaths → (parts : List Part) (names : List (Option Text)) → AllAreSuited parts → (p : ℕ) (m : Module) (k : Space) (i : ℕ) (y : Ty) → module_at parts p ≡ Some m → type_at m k i ≡ Some y → type_at (merged parts names) k (new_index parts p k i) ≡ Some y
 entry_kept law parts names links p m k i y is t = by (slice_get (imports_of k m) i) refl
   where
     lands : (n : ℕ) → slice_get (imports_of k m) i ≡ Some n → kind_of y ≡ k → Landed parts (site_at p n) y → type_at (merged parts names) k (new_index parts p k i) ≡ Some y

@@ -20,7 +20,7 @@ use Rattle.merge_spec.specs.Faults.{asked_at, stays, kept_limits, is_under, clas
 use Rattle.merge_spec.specs.Merged.{merged, map_of, merged_import, merged_desc, staying}
 use Rattle.merge_valid_proof.proofs.Same.{site_is}
 use Rattle.merge_valid_proof.proofs.Entities.{kind_of, bare, asked_kind}
-use Rattle.merge_valid_proof.proofs.Linked.{Suited, AreLinked, import_site}
+use Rattle.merge_valid_proof.proofs.Linked.{Suited, AllAreSuited, import_site}
 use Rattle.merge_valid_proof.proofs.Ends.{Landed, inside, outside, landed}
 use Rattle.merge_valid_proof.proofs.TypePlaces.{type_stands}
 use Rattle.merge_valid_proof.proofs.MergedSpaces.{types_are, imports_are}
@@ -91,7 +91,7 @@ part_import m holds n i at =
     let same : z.0 ≡ i = cc in
     subst (λ (x : Import). ImportHolds m x.desc) same z.2
 
-module _ (law : EndsArePaths) (parts : List Part) (links : AreLinked parts) (valid : (p : ℕ) (m : Module) → module_at parts p ≡ Some m → ItemsHold m) where
+module _ (law : EndsArePaths) (parts : List Part) (links : AllAreSuited parts) (valid : (p : ℕ) (m : Module) → module_at parts p ≡ Some m → ItemsHold m) where
   -- an import that ends at a memory is one of a memory
   ends_alike : (s t : Site) (i j : Import) → import_at parts s ≡ Some i → import_at parts t ≡ Some j → space_of_import i.desc ≡ Memories → is_outside s (linked_end parts t) ≡ true → space_of_import j.desc ≡ Memories
   ends_alike s t i j at_s at_t e h = by (landed law parts links t w)

@@ -28,7 +28,7 @@ use Rattle.merge_spec.specs.Merged.{merged, map_of, merged_const, merged_global,
 use Rattle.merge_valid_proof.proofs.ByPart.{by_part_back, by_part_flat}
 use Rattle.merge_valid_proof.proofs.MergedSpaces.{types_are}
 use Rattle.merge_valid_proof.proofs.TypePlaces.{type_stands}
-use Rattle.merge_valid_proof.proofs.Linked.{AreLinked}
+use Rattle.merge_valid_proof.proofs.Linked.{AllAreSuited}
 use Rattle.merge_valid_proof.proofs.Agree.{ItemsHold, map_covers, trees_agree, elems_are, datas_are}
 use Rattle.merge_valid_proof.proofs.Imports.{imports_hold}
 use Rattle.merge_valid_proof.proofs.Starts.{funcs_are, start_holds, calls_are, calls_typed_at, calls_body}
@@ -104,7 +104,7 @@ TreeNames = (m : Remap) (t : Module) → ItemsHold t → Covers m t → TreeName
 abbrev pub Undeclared : Type 0
 Undeclared = (m : Remap) (kept : Indices) (t u : Module) (k : ItemKind) (i j : ℕ) → TreesAgree m kept t u → ItemStands m kept t u k i j → HoldsAt t k i → HoldsButForReferences u k j
 
-module _ (law : EndsArePaths) (named : TreeNames) (undeclared : Undeclared) (parts : List Part) (names : List (Option Text)) (links : AreLinked parts) (valid : (p : ℕ) (m : Module) → module_at parts p ≡ Some m → ItemsHold m)
+module _ (law : EndsArePaths) (named : TreeNames) (undeclared : Undeclared) (parts : List Part) (names : List (Option Text)) (links : AllAreSuited parts) (valid : (p : ℕ) (m : Module) → module_at parts p ≡ Some m → ItemsHold m)
     (stands : (p : ℕ) (m : Module) (e : ConstExpr) → module_at parts p ≡ Some m → ConstStands m (merged parts names) e (merged_const parts p e))
     (differ : (j : ℕ) (e : Export) → slice_get (merged parts names).exports j ≡ Some e → Contains (map (λ x. x.name) (take j (merged parts names).exports)) e.name → ⊥) where
   abbrev whole : Module

@@ -8,7 +8,7 @@ use Rattle.wasm_tree.specs.declared.module.Module.{Module}
 use Rattle.wasm_meaning.specs.Linking.{Part, Site, End, Defined, Outside, Read, module_at, import_at, imports_of, sites_in, sites_from, sites, end_of, read_of}
 use Rattle.merge_spec.specs.declared.faults.LinkFault.{LinkFault}
 use Rattle.merge_spec.specs.declared.faults.LinkFault.TheVariants.{ImportMismatch}
-use Rattle.merge_spec.specs.Faults.{External, asked_at, found, suits, same_but_limits, meets_limits, is_suited, or_else, first_fault, end_fault, import_fault, clash_fault, memory_fault, OwnGlobal, own_globals_in, own_globals_from, own_globals, value_fault, global_fault, link_fault}
+use Rattle.merge_spec.specs.Faults.{External, asked_at, found, suits, same_but_limits, meets_limits, is_suited, or_else, first_fault, end_fault, import_fault, clash_fault, memory_fault, DefinedGlobal, defined_globals_in, defined_globals_from, defined_globals, value_fault, global_fault, link_fault}
 use Rattle.merge_spec.specs.Merged.{by_part_from}
 use Rattle.merge_valid_proof.proofs.Entities.{bare, bare_is}
 use Rattle.std.proofs.lemmas.Option.{slice_get_within}
@@ -50,14 +50,14 @@ in_sites parts s i h =
     let there : Has (sites_in s.part (length m.0.imports) 0) s = (s.import, got) in
     subst (λ z. Has z s) (sym (sites_are 0 parts)) (by_part_has (λ p m. sites_in p (length m.imports) 0) 0 parts s.part m.0 s m.1 (subst (λ p. Has (sites_in p (length m.0.imports) 0) s) part_0 there))
 
-own_are : (first : ℕ) (parts : List Part) → own_globals_from first parts ≡ by_part_from (λ p m. own_globals_in p (length (imports_of Globals m)) m.globals) first parts
+own_are : (first : ℕ) (parts : List Part) → defined_globals_from first parts ≡ by_part_from (λ p m. defined_globals_in p (length (imports_of Globals m)) m.globals) first parts
 own_are first [] = refl
-own_are first (part ∷ parts) = ap (λ z. own_globals_in first (length (imports_of Globals part.«module»)) part.«module».globals ++ z) (own_are (suc first) parts)
+own_are first (part ∷ parts) = ap (λ z. defined_globals_in first (length (imports_of Globals part.«module»)) part.«module».globals ++ z) (own_are (suc first) parts)
 
-own_in : (p n : ℕ) (gs : List GlobalDef) (j : ℕ) (g : GlobalDef) → slice_get gs j ≡ Some g → slice_get (own_globals_in p n gs) j ≡ Some (record { part = p; index = n + j; init = g.init })
+own_in : (p n : ℕ) (gs : List GlobalDef) (j : ℕ) (g : GlobalDef) → slice_get gs j ≡ Some g → slice_get (defined_globals_in p n gs) j ≡ Some (record { part = p; index = n + j; init = g.init })
 own_in p n [] j g h = cc
-own_in p n (x ∷ gs) zero g h = let same : x ≡ g = cc in let e : n ≡ n + 0 = omega arith in ap₂ {A = ℕ} {B = GlobalDef} {C = Option OwnGlobal} (λ n g. Some (record { part = p; index = n; init = g.init })) e same
-own_in p n (x ∷ gs) (suc j) g h = own_in p (suc n) gs j g h ∙ ap {A = ℕ} {B = Option OwnGlobal} (λ n. Some (record { part = p; index = n; init = g.init })) (let e : suc n + j ≡ n + suc j = omega arith in e)
+own_in p n (x ∷ gs) zero g h = let same : x ≡ g = cc in let e : n ≡ n + 0 = omega arith in ap₂ {A = ℕ} {B = GlobalDef} {C = Option DefinedGlobal} (λ n g. Some (record { part = p; index = n; init = g.init })) e same
+own_in p n (x ∷ gs) (suc j) g h = own_in p (suc n) gs j g h ∙ ap {A = ℕ} {B = Option DefinedGlobal} (λ n. Some (record { part = p; index = n; init = g.init })) (let e : suc n + j ≡ n + suc j = omega arith in e)
 
 -- ---- no fault ----
 
@@ -108,12 +108,12 @@ suited parts s h = by (end_of parts s) refl h
     by None is h = absurd (let k = h in cc)
     by (Some e) is h = here e is (fits e (is_suited parts s e) h)
 
-pub record AreLinked (parts : List Part) : Type 0 where
+pub record AllAreSuited (parts : List Part) : Type 0 where
   pub imports : (s : Site) (i : Import) → import_at parts s ≡ Some i → Suited parts s
   pub limits : (s : Site) (i : Import) → import_at parts s ≡ Some i → clash_fault parts s ≡ None
   pub globals : (p : ℕ) (m : Module) (j : ℕ) (g : GlobalDef) → module_at parts p ≡ Some m → slice_get m.globals j ≡ Some g → (r : Read) × (read_of parts p g.init ≡ Some r)
 
-read_there : (parts : List Part) (g : OwnGlobal) → global_fault parts g ≡ None → (r : Read) × (read_of parts g.part g.init ≡ Some r)
+read_there : (parts : List Part) (g : DefinedGlobal) → global_fault parts g ≡ None → (r : Read) × (read_of parts g.part g.init ≡ Some r)
 unfolding global_fault
 read_there parts g h = by (read_of parts g.part g.init) refl h
   where
@@ -121,28 +121,28 @@ read_there parts g h = by (read_of parts g.part g.init) refl h
     by None is h = absurd (let k = h in cc)
     by (Some r) is h = (r, is)
 
-own_has : (parts : List Part) (p : ℕ) (m : Module) (j : ℕ) (g : GlobalDef) → module_at parts p ≡ Some m → slice_get m.globals j ≡ Some g → (o : OwnGlobal) × Has (own_globals parts) o × (o.part ≡ p) × (o.init ≡ g.init)
-unfolding own_globals
+own_has : (parts : List Part) (p : ℕ) (m : Module) (j : ℕ) (g : GlobalDef) → module_at parts p ≡ Some m → slice_get m.globals j ≡ Some g → (o : DefinedGlobal) × Has (defined_globals parts) o × (o.part ≡ p) × (o.init ≡ g.init)
+unfolding defined_globals
 own_has parts p m j g e h =
     let n = length (imports_of Globals m) in
     let part_0 : p ≡ 0 + p = omega arith in
-    let there : Has (own_globals_in p n m.globals) (record { part = p; index = n + j; init = g.init }) = (j, own_in p n m.globals j g h) in (
+    let there : Has (defined_globals_in p n m.globals) (record { part = p; index = n + j; init = g.init }) = (j, own_in p n m.globals j g h) in (
       record { part = p; index = n + j; init = g.init },
-      subst (λ z. Has z (record { part = p; index = n + j; init = g.init })) (sym (own_are 0 parts)) (by_part_has (λ p m. own_globals_in p (length (imports_of Globals m)) m.globals) 0 parts p m (record { part = p; index = n + j; init = g.init }) e (subst (λ q. Has (own_globals_in q n m.globals) (record { part = p; index = n + j; init = g.init })) part_0 there)),
+      subst (λ z. Has z (record { part = p; index = n + j; init = g.init })) (sym (own_are 0 parts)) (by_part_has (λ p m. defined_globals_in p (length (imports_of Globals m)) m.globals) 0 parts p m (record { part = p; index = n + j; init = g.init }) e (subst (λ q. Has (defined_globals_in q n m.globals) (record { part = p; index = n + j; init = g.init })) part_0 there)),
       refl,
       refl,
     )
 
-pub are_linked : (parts : List Part) → link_fault parts true ≡ None → AreLinked parts
+pub are_linked : (parts : List Part) → link_fault parts true ≡ None → AllAreSuited parts
 unfolding link_fault
 are_linked parts h =
     let more = right_none (first_fault (import_fault parts) (sites parts)) _ h in
-    let rest : first_fault (global_fault parts) (own_globals parts) ≡ None = right_none (first_fault (clash_fault parts) (sites parts)) _ more in
+    let rest : first_fault (global_fault parts) (defined_globals parts) ≡ None = right_none (first_fault (clash_fault parts) (sites parts)) _ more in
     record {
       imports = λ s i e. let n = in_sites parts s i e in suited parts s (each_none (import_fault parts) (sites parts) n.0 s (left_none _ _ h) n.1);
       limits = λ s i e. let n = in_sites parts s i e in each_none (clash_fault parts) (sites parts) n.0 s (left_none _ _ more) n.1;
       globals = λ p m j g e k. let o = own_has parts p m j g e k in
-          let r = read_there parts o.0 (each_none (global_fault parts) (own_globals parts) o.1.0 o.0 rest o.1.1) in
+          let r = read_there parts o.0 (each_none (global_fault parts) (defined_globals parts) o.1.0 o.0 rest o.1.1) in
           (r.0, ap₂ (λ q x. read_of parts q x) (sym o.2) (sym o.3) ∙ r.1);
     }
 

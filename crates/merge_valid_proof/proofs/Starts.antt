@@ -21,7 +21,7 @@ use Rattle.merge_valid_proof.proofs.Entities.{FuncTy, type_at, own, imported, sp
 use Rattle.merge_valid_proof.proofs.ByPart.{by_part_back}
 use Rattle.merge_valid_proof.proofs.TypePlaces.{type_placed}
 use Rattle.merge_valid_proof.proofs.MergedSpaces.{types_are, own_is, moved_own, extra, all_own, imported_many}
-use Rattle.merge_valid_proof.proofs.Linked.{AreLinked, are_linked}
+use Rattle.merge_valid_proof.proofs.Linked.{AllAreSuited, are_linked}
 use Rattle.merge_valid_proof.proofs.Entries.{entry_kept}
 use Rattle.merge_valid_proof.proofs.Agree.{ItemsHold, func_to, func_back}
 use Rattle.base_lists.proofs.Places.{append_right, Has}
@@ -56,7 +56,7 @@ calls_typed c fs each = ([], calls_lead c fs each, tt)
 
 -- ---- the starts ----
 
-module _ (law : EndsArePaths) (parts : List Part) (names : List (Option Text)) (links : AreLinked parts) (valid : (p : ℕ) (m : Module) → module_at parts p ≡ Some m → ItemsHold m) where
+module _ (law : EndsArePaths) (parts : List Part) (names : List (Option Text)) (links : AllAreSuited parts) (valid : (p : ℕ) (m : Module) → module_at parts p ≡ Some m → ItemsHold m) where
   -- a start function of a part
   record Started (f : ℕ) : Type 0 where
     part : ℕ

@@ -20,7 +20,7 @@ use Rattle.merge_spec.specs.Faults.{link_fault}
 use Rattle.merge_spec.specs.Joined.{joined_module, over_limit}
 use Rattle.merge_spec.specs.Merged.{merged, merged_const, export_names}
 use Rattle.merge_valid_proof.specs.Joinable.{CanBeJoined}
-use Rattle.merge_valid_proof.proofs.Linked.{memories_are_few, AreLinked, are_linked}
+use Rattle.merge_valid_proof.proofs.Linked.{memories_are_few, AllAreSuited, are_linked}
 use Rattle.merge_valid_proof.proofs.Agree.{ItemsHold}
 use Rattle.merge_valid_proof.proofs.Constants.{const_stands}
 use Rattle.merge_valid_proof.proofs.Exports.{names_differ}
@@ -50,7 +50,7 @@ module _ (laws : Laws) (parts : List Part) (mode : Mode) (can : CanBeJoined part
   abbrev names : List (Option Text)
   names = new_names mode (export_names parts)
 
-  links : AreLinked parts
+  links : AllAreSuited parts
   links = are_linked parts can.linked
 
   valid : (p : ℕ) (m : Module) → module_at parts p ≡ Some m → ItemsHold m

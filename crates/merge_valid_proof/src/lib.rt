@@ -28,10 +28,10 @@ ghost use Rattle.merge_valid_proof.specs.Entries.{HasEntry};
 ghost use Rattle.merge_valid_proof.specs.Joinable.{CanBeJoined, EachPart};
 ghost use Rattle.merge_valid_proof.specs.Started.{StartsTakeNothing};
 
-use merge_names::{conflicts_are_first, given_names_differ};
 use index_remap_proof::{
     declared_trees_are_valid, renumbered_trees_are_valid, renumbering_keeps_typing,
 };
+use merge_names::{conflicts_are_first, given_names_differ};
 use wasm_meaning::ends_and_reads_are_paths;
 use wasm_valid::valid_where_items_hold;
 

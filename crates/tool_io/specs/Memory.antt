@@ -6,7 +6,7 @@ use Rattle.std.specs.Ordering.{nat_cmp}
 use Rattle.std.specs.Cmp.Lexicographic.{slice_cmp}
 use Rattle.std.specs.declared.alloc.Global.{Global}
 use Rattle.std.specs.FinMap as finmap
-use Rattle.tool_io.specs.Outside.{Contents}
+use Rattle.tool_io.specs.FilesAndSinks.{Contents}
 
 -- Files in memory: the contents, the calls so far, the faults so far, and the numbers of the calls that fail.
 pub record Disk : Type 0 where

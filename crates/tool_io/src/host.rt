@@ -1,7 +1,7 @@
 // The real files and standard streams. They tell no contents, and one count serves every name and both kinds: it rises at
 // each error.
 ghost use Rattle.std.specs.Prelude.{◌≡◌, ◌≤◌, None, IsErr};
-ghost use Rattle.tool_io.specs.Outside.{NoneFell, Rose};
+ghost use Rattle.tool_io.specs.FilesAndSinks.{NoneFell, Rose};
 
 use crate::{Files, IoFault, Sink};
 use std::alloc::Global;

@@ -2,7 +2,7 @@
 ghost use Rattle.std.specs.Prelude.{◌≡◌, ◌≤◌, ◌++◌, ◌∷◌, ◌↔◌, ◌||◌, [], true, false, Some, None, IfOk, IfSome, OnOk, OnErr, IsErrOf, IsTrue, option_map, option_copied, find, bytes_eq, string_bytes};
 ghost use Rattle.std.specs.FinMap.{empty, get, insert};
 ghost use Rattle.tool_io.specs.Memory.{one_more, next_fails, is_missing, called, faulted, holding, first_half, next_put_fails, gained, gained_at_fault};
-ghost use Rattle.tool_io.specs.Outside.{Rose, NoneFell, Becomes, IsUnchangedOrCut, AppendsPrefix, first_bytes};
+ghost use Rattle.tool_io.specs.FilesAndSinks.{Rose, NoneFell, Becomes, IsUnchangedOrCut, AppendsPrefix, first_bytes};
 
 use crate::{Files, IoFault, Sink};
 use std::alloc::Global;

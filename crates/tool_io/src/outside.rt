@@ -1,7 +1,7 @@
 // Files and sinks, by what they hold, where they tell it, and by how often they have failed.
 ghost use Rattle.std.specs.Prelude.{◌≡◌, ◌≤◌, ℕ, List, ◌++◌, Option, Some, IfOk, IfSome, OnOk, IsErrOf};
 ghost use Rattle.std.specs.FinMap.{insert};
-ghost use Rattle.tool_io.specs.Outside.{Contents, Rose, NoneFell, Becomes, first_bytes, IsUnchangedOrCut, AppendsPrefix};
+ghost use Rattle.tool_io.specs.FilesAndSinks.{Contents, Rose, NoneFell, Becomes, first_bytes, IsUnchangedOrCut, AppendsPrefix};
 
 use std::alloc::Global;
 

@@ -13,7 +13,7 @@ use Rattle.merge_spec.specs.Parts.{named_module, named_modules, HaveDistinctName
 use Rattle.wasm_meaning.specs.Linking.{Part}
 use Rattle.merge_spec.specs.declared.parts.Part as code
 use Rattle.wasm_tree.specs.declared.module.Module.{Module}
-use Rattle.tools_cli.specs.Words.{Text, Source, are_apart}
+use Rattle.tools_cli.specs.CommandLine.{Text, Source, are_apart}
 use Rattle.tools_cli.specs.Job.{parts_of}
 
 both_of : (a b : Bool) → (not a && b) ≡ true → (a ≡ false) × (b ≡ true)

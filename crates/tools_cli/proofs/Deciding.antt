@@ -1,7 +1,7 @@
 -- From the inputs of a task to its job.
 use Rattle.std.proofs.Common.{◌≡◌, ◌∙◌, sym, refl, ap, subst, Bool, true, false, cond, Result, Ok, Err, IfOk, IfErr, map, ℕ, zero, suc, ◌≤◌, List, [], ◌∷◌, ◌++◌, take, drop, length, length-append, arith, Contains}
 use Rattle.std.specs.List.{list_all}
-use Rattle.tools_cli.specs.Words.{Text, MergeTask, Task, Merge, many_of, modules_of, texts_of, inputs_of, outputs_of}
+use Rattle.tools_cli.specs.CommandLine.{Text, MergeTask, Task, Merge, many_of, modules_of, texts_of, inputs_of, outputs_of}
 use Rattle.tools_cli.specs.Job.{Job, Usage, Missing, Refused, Done, Output, Decision, Refuses, Makes, Merges, not_linked, not_joined, merged, Decides, is_within, spelled_output, job_of, AllLoad, OneFails, module_files, text_contents, InputsJob, not_loaded, decided}
 use Rattle.tools_cli.specs.Effects.{Entry, written_names}
 use Rattle.wasm_tree.specs.declared.module.Module.{Module}

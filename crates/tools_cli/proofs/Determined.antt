@@ -2,8 +2,8 @@
 use Rattle.std.proofs.Common.{Bool, take, zero, suc, ltb, ◌-◌, ◌↔◌, ◌≡◌, ◌∙◌, sym, refl, ap, ap₂, subst, inl, inr, ℕ, List, [], ◌∷◌, Option, Some, None, Result, Ok, Err, false, length}
 use Rattle.std.specs.FinMap.{get}
 use Rattle.wasm_bytes.specs.Reading.{IsBytes}
-use Rattle.tool_io.specs.Outside.{Contents}
-use Rattle.tools_cli.specs.Words.{Text, MergeTask, Task, Merge, source_files, many_of, modules_of, inputs_of}
+use Rattle.tool_io.specs.FilesAndSinks.{Contents}
+use Rattle.tools_cli.specs.CommandLine.{Text, MergeTask, Task, Merge, source_files, many_of, modules_of, inputs_of}
 use Rattle.tools_cli.specs.Effects.{Entry}
 use Rattle.tools_cli.specs.Texts.{fault_text, invalid_text, link_text, join_text, over_limit}
 use Rattle.wasm_tree.specs.declared.which.Which.TheVariants.{InputBytes}

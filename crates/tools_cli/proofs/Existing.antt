@@ -2,8 +2,8 @@
 use Rattle.std.proofs.Common.{Bool, true, false, cond, ltb, ◌-◌, ◌≡◌, ◌∙◌, sym, refl, ap, subst, map, inl, inr, ◌⊎◌, ℕ, zero, suc, ◌<◌, ◌≤◌, take, List, [], ◌∷◌, length, length-append, Option, Some, None, Result, Ok, Err, slice_get, option_map, arith}
 use Rattle.std.specs.FinMap.{get}
 use Rattle.wasm_bytes.specs.Reading.{IsBytes}
-use Rattle.tool_io.specs.Outside.{Contents}
-use Rattle.tools_cli.specs.Words.{Text, Source, MergeTask, Task, Merge, task_of, source_files, many_of, modules_of, texts_of, inputs_of}
+use Rattle.tool_io.specs.FilesAndSinks.{Contents}
+use Rattle.tools_cli.specs.CommandLine.{Text, Source, MergeTask, Task, Merge, task_of, source_files, many_of, modules_of, texts_of, inputs_of}
 use Rattle.tools_cli.specs.Effects.{Entry}
 use Rattle.tools_cli.specs.Texts.{fault_text, invalid_text, link_text, import_mismatch, import_cycle, limits_clash, global_cycle, too_many_memories}
 use Rattle.tools_cli.specs.Job.{IsRead, IsAccepted, invalid, Job, Gathered, add_first, add_file, HoldBytes, Whole, Lacks, TooLong, gathered, most_input, Loads, loaded, faulty, AllLoad, OneFails, Decision, Merges, not_linked, not_joined, merged, parts_of, Decides, job_of, module_files, text_contents, InputsJob, not_loaded, decided, refused_before, TaskJob, not_begun, missing, too_long, all_read, HasJob, no_task, asked}

@@ -12,7 +12,7 @@ use Rattle.wasm_meaning.specs.Linking.{Part, sites_in, sites_from, sites}
 use Rattle.base_lists.specs.Places.{count_of}
 use Rattle.merge_spec.specs.Merged.{imports_kind}
 use Rattle.merge_spec.specs.Joined as joined
-use Rattle.tools_cli.specs.Words.{Source, MergeTask, Merge}
+use Rattle.tools_cli.specs.CommandLine.{Source, MergeTask, Merge}
 use Rattle.tools_cli.specs.Texts.{too_many_parts}
 use Rattle.tools_cli.specs.Job.{parts_of, refused_before, most_parts}
 use Rattle.tools_cli.specs.Causes.{IsWithinLimits}

@@ -4,8 +4,8 @@ use Rattle.std.proofs.lemmas.List.{take_all, length-take, drop_all, map-append}
 use Rattle.std.proofs.lemmas.Bool.Decides.{nat_tests}
 use Rattle.tools_cli.proofs.Pieces.{append-nil}
 use Rattle.std.proofs.Math.Seq.{drop-cons}
-use Rattle.tool_io.specs.Outside.{Contents, first_bytes}
-use Rattle.tools_cli.specs.Words.{Text}
+use Rattle.tool_io.specs.FilesAndSinks.{Contents, first_bytes}
+use Rattle.tools_cli.specs.CommandLine.{Text}
 use Rattle.tools_cli.specs.Job.{Gathered, Whole, Lacks, TooLong, add_first, add_file, gathered}
 use Rattle.tools_cli.specs.Texts.{over_limit}
 use Rattle.wasm_tree.specs.declared.which.Which.TheVariants.{InputBytes}

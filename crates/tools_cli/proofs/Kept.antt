@@ -4,8 +4,8 @@ use Rattle.std.proofs.lemmas.Bool.Decides.{nat_tests}
 use Rattle.std.specs.FinMap.{get, insert, get-insert}
 use Rattle.std.specs.Cmp.{eq_by_cmp_equiv}
 use Rattle.std.proofs.lemmas.Cmp.{nat_list_cmp_total}
-use Rattle.tool_io.specs.Outside.{Contents}
-use Rattle.tools_cli.specs.Words.{Text, Source, MergeTask, Task, Merge, task_of, source_files, inputs_of}
+use Rattle.tool_io.specs.FilesAndSinks.{Contents}
+use Rattle.tools_cli.specs.CommandLine.{Text, Source, MergeTask, Task, Merge, task_of, source_files, inputs_of}
 use Rattle.merge_names.specs.declared.mode.Mode.{Mode}
 use Rattle.tools_cli.specs.Effects.{Entry, made}
 use Rattle.tools_cli.specs.Job.{IsRead, IsAccepted, Job, Usage, Missing, Refused, Done, Gathered, Whole, Lacks, TooLong, add_first, add_file, gathered, most_input, most_output, Loads, loaded, faulty, invalid, AllLoad, Decision, Merges, not_linked, not_joined, merged, job_of, module_files, parts_of, AreMerged, InputsJob, not_loaded, decided, TaskJob, not_begun, missing, too_long, all_read, HasJob, no_task, asked}

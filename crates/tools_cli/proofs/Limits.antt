@@ -8,9 +8,9 @@ use Rattle.wasm_tree.specs.declared.module.Func.{Func}
 use Rattle.wasm_tree.specs.declared.module.Module.{Module}
 use Rattle.wasm_read_spec.specs.declared.parts.Parts.{Parts}
 use Rattle.base_lists.specs.Every.{Every}
-use Rattle.wasm_read_spec.specs.Words.{Never, Made, When, Any, Limited, WhenSmall}
-use Rattle.wasm_read_spec.specs.Files.{nothing, with_types, with_imports, with_func_types, with_tables, with_mems, with_globals, with_exports, with_start, with_elems, with_codes, with_datas, with_count, SpellsCustom, section_form, small_form, SmallSection, Contents, typed, tree_of}
-use Rattle.tools_cli.specs.Words.{Text}
+use Rattle.wasm_read_spec.specs.SpellingForms.{Never, Made, When, Any, Limited, WhenSmall}
+use Rattle.wasm_read_spec.specs.Files.{nothing, with_types, with_imports, with_func_types, with_tables, with_mems, with_globals, with_exports, with_start, with_elems, with_codes, with_datas, with_count, SpellsCustom, section_form, small_form, SectionIsSmall, Contents, typed, tree_of}
+use Rattle.tools_cli.specs.CommandLine.{Text}
 use Rattle.tools_cli.specs.Job.{IsRead}
 use Rattle.tools_cli.specs.Causes.{IsWithinLimits}
 
@@ -63,7 +63,7 @@ section_keeps many p id s =
     (keep_when (id == 12) (keep_free (with_count p) (λ x. record { types = s.types; imports = s.imports; func_types = s.func_types; tables = s.tables; mems = s.mems; globals = s.globals; elems = s.elems; datas = s.datas }))
     keep_never))))))))))))
 
-contents_keep : (many : Bool) (p : Parts) (ss : List Section) (q : Parts) → FewParts p → Contents many p ss q → Every (SmallSection many) ss → FewParts q
+contents_keep : (many : Bool) (p : Parts) (ss : List Section) (q : Parts) → FewParts p → Contents many p ss q → Every (SectionIsSmall many) ss → FewParts q
 contents_keep many p [] q s h k = subst FewParts h s
 contents_keep many p (t ∷ ss) q s h k = contents_keep many h.0 ss q ((section_keeps many p t.0 s).keep t.1 h.0 h.1 k.0) h.2 k.1
 

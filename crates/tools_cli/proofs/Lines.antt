@@ -1,6 +1,6 @@
 -- Words that are read one by one.
 use Rattle.std.proofs.Common.{◌≡◌, ◌∙◌, refl, sym, ap, ℕ, suc, ◌+◌, ◌<◌, arith, add-one, map, drop, drop-cons, length, get_or, Bool, true, false, cond, List, [], ◌∷◌, append_assoc, append-nil, Option, Some, None, option_map, option_and_then}
-use Rattle.tools_cli.specs.Words.{Text, MergeWord, Output, Conflicts, Plain, MergeLine, merge_line_of, Source, are_apart, some_apart, make_merge, task_of_merge_line, add_merge_word, merge_words, takes_value, own_value, other_merge_word}
+use Rattle.tools_cli.specs.CommandLine.{Text, MergeWord, Output, Conflicts, Plain, MergeLine, merge_line_of, Source, are_apart, some_apart, make_merge, task_of_merge_line, add_merge_word, merge_words, takes_value, own_value, other_merge_word}
 use Rattle.merge_names.specs.declared.mode.Mode.{Mode}
 use Rattle.tools_cli.specs.Command.{join_merge_lines}
 use Rattle.tools_cli.specs.Sources.{source_values, source_names}

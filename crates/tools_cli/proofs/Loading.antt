@@ -2,7 +2,7 @@
 use Rattle.std.proofs.Common.{◌≡◌, ◌∙◌, sym, refl, ap, subst, ◌⊎◌, inl, inr, Bool, false, Some, Result, Ok, Err, ℕ, zero, suc, ◌+◌, ◌<◌, ◌≤◌, ◌^◌, List, [], ◌∷◌, ◌++◌, append_assoc, append-nil, add-one, drop, drop-cons, length, get_or, arith}
 use Rattle.std.proofs.lemmas.List.{drop_all}
 use Rattle.base_lists.specs.Every.{Every}
-use Rattle.tools_cli.specs.Words.{Text}
+use Rattle.tools_cli.specs.CommandLine.{Text}
 use Rattle.tools_cli.specs.Job.{Loads, faulty, invalid, loaded, IsRead, IsAccepted, AllLoad, OneFails, most_input}
 use Rattle.tools_cli.specs.Effects.{Entry}
 use Rattle.tools_cli.specs.Texts.{fault_text}

@@ -1,6 +1,6 @@
 -- What merging the modules of a task decides.
 use Rattle.std.proofs.Common.{◌≡◌, ◌∙◌, sym, refl, ap, subst, ◌⊎◌, inl, inr, None, Some, Err, map, ℕ, zero, suc, ◌+◌, ◌<◌, List, [], ◌∷◌, ◌++◌, append_assoc, append-nil, add-one, drop, drop-cons, length, get_or, slice_get, slice_index_or, arith, Bool}
-use Rattle.tools_cli.specs.Words.{Text, Source, MergeTask, Merge, source_files, many_of}
+use Rattle.tools_cli.specs.CommandLine.{Text, Source, MergeTask, Merge, source_files, many_of}
 use Rattle.tools_cli.specs.Job.{Decision, Refuses, Makes, Merges, not_linked, not_joined, merged, AreMerged, parts_of}
 use Rattle.tools_cli.specs.Texts.{link_text, join_text}
 use Rattle.wasm_tree.specs.declared.module.Module.{Module}

@@ -1,14 +1,14 @@
 -- From the parts of a run to its whole.
 use Rattle.std.proofs.Common.{◌≡◌, ◌∙◌, sym, refl, ap, subst, ℕ, ◌≤◌, List, [], ◌∷◌, ◌++◌, length, map, drop, Option, Some, None, IfSome, Contains, OnOk, Result, Ok, Err, string_bytes, inl, inr, ◌⊎◌}
 use Rattle.std.specs.FinMap.{get}
-use Rattle.tool_io.specs.Outside.{Contents, Becomes, AppendsPrefix, Rose}
+use Rattle.tool_io.specs.FilesAndSinks.{Contents, Becomes, AppendsPrefix, Rose}
 use Rattle.tool_io.proofs.Steps.{rose_earlier, becomes_itself, becomes_weaker, becomes_same}
-use Rattle.tools_cli.specs.Words.{Text, Task, task_of, modules_of, texts_of, inputs_of, usage_line}
+use Rattle.tools_cli.specs.CommandLine.{Text, Task, task_of, modules_of, texts_of, inputs_of, usage_line}
 use Rattle.tools_cli.specs.Effects.{Entry, made, IsCut, written_names}
 use Rattle.tools_cli.specs.Job.{Job, Usage, Refused, Done, Whole, TooLong, gathered, most_input, text_contents, InputsJob, TaskJob, refused_before, not_begun, too_long, all_read, HasJob, no_task, asked}
 use Rattle.tools_cli.specs.Stop.{IsLine, usage, fault_line, invalid_line, parts_line, link_line, join_line, output_line, cannot_read_line, cannot_write_line, cannot_print_line, no_memory_line, no_memory, stop_line, line_of, refusal_text, Says, Reports}
 use Rattle.tools_cli.specs.Causes.{StopsWith, StopsGathering, StopsPreparing, StopsFinishing, MayHold, AreOutputs, AllWritten, PrintsAfter, PrintsAsAllowed}
-use Rattle.tools_cli.specs.Run.{IsUsage, PrintsNothing, JobIsDone, Outside, StopsWork, ChangesByTheJob, PrintsForTheJob, EndsDone, Gains, IsSame, HasOutsideCause, HasStatus, SomeRose}
+use Rattle.tools_cli.specs.Run.{IsUsage, PrintsNothing, JobIsDone, HostState, StopsWork, ChangesByTheJob, PrintsForTheJob, EndsDone, Gains, IsSame, HasOutsideCause, HasStatus, SomeRose}
 use Rattle.tools_cli.specs.declared.stop.Status.{Status}
 use Rattle.tools_cli.specs.declared.stop.Status.TheVariants as status
 use Rattle.tools_cli.specs.declared.stop.Stop.{Stop}
@@ -113,7 +113,7 @@ done_at words t None new writes lines e h all = tt
 done_at words t (Some a) new writes lines e h all = (writes, lines, asked t (Done writes lines) e h, all_is writes a new all)
 
 -- a stop of the writes or of the lines is one of the work
-pub finish_stops : (words : List Text) (t : Task) (old new : Outside) (mid : Text → ℕ) (writes : List Entry) (lines : Text) (s : Stop) → task_of words ≡ Some t
+pub finish_stops : (words : List Text) (t : Task) (old new : HostState) (mid : Text → ℕ) (writes : List Entry) (lines : Text) (s : Stop) → task_of words ≡ Some t
     → ((name : Text) → old.writes name ≤ mid name)
     → IfSome old.files (λ a. TaskJob t a (Done writes lines))
     → AreOutputs t old.files (written_names writes)
@@ -136,7 +136,7 @@ same_at : {A : Type 0} (x y : Option A) → y ≡ x → IsSame x y
 same_at x y e = becomes_same x y (λ a b. b ≡ a) e (λ a. refl)
 
 -- a stop before anything is written is one of the work
-pub prepare_stops : (words : List Text) (t : Task) (old new : Outside) (s : Stop) → task_of words ≡ Some t → new.files ≡ old.files → new.out ≡ old.out
+pub prepare_stops : (words : List Text) (t : Task) (old new : HostState) (s : Stop) → task_of words ≡ Some t → new.files ≡ old.files → new.out ≡ old.out
     → StopsPreparing old.files old.reads new.reads t s → StopsWork words old new s
 prepare_stops words t old new (stop.Refused refusal) e files out h = (job_at words t old.files (Refused (refusal_text refusal)) e h, same_at _ _ files, same_at _ _ out)
 prepare_stops words t old new (stop.CannotRead name) e files out h = ((t, e, h.0, h.1), same_at _ _ files, same_at _ _ out)
@@ -164,7 +164,7 @@ refusal_line (refusal.ExportConflict name) = join_line _ (join.ExportConflict na
 refusal_line (refusal.TooMany which) = output_line which
 
 -- what is told of a stop is one of the lines
-line_is : (words : List Text) (old new : Outside) (s : Stop) → StopsWork words old new s → IsLine (line_of s)
+line_is : (words : List Text) (old new : HostState) (s : Stop) → StopsWork words old new s → IsLine (line_of s)
 line_is words old new (stop.Usage line) h = subst IsLine (sym h.1) (usage words)
 line_is words old new (stop.Refused refusal) h = refusal_line refusal
 line_is words old new (stop.CannotRead file) h = cannot_read_line file.now
@@ -175,11 +175,11 @@ line_is words old new stop.NoMemory h = no_memory_line
 pub says_nothing : (x : Option Text) → Becomes x x Says
 says_nothing x = becomes_itself x Says (λ a. (stop_line no_memory, no_memory_line, prefix_none _ a a refl))
 
-pub says_a_line : (words : List Text) (old new : Outside) (s : Stop) (x y : Option Text) → StopsWork words old new s → Becomes x y (AppendsPrefix (line_of s)) → Becomes x y Says
+pub says_a_line : (words : List Text) (old new : HostState) (s : Stop) (x y : Option Text) → StopsWork words old new s → Becomes x y (AppendsPrefix (line_of s)) → Becomes x y Says
 says_a_line words old new s x y h p = becomes_weaker x y (AppendsPrefix (line_of s)) Says p (λ a b q. (line_of s, line_is words old new s h, q))
 
 -- what is told of a stop that is a fault of the outside has its cause
-pub outside_cause : (words : List Text) (old new : Outside) (s : Stop) (err err' : Option Text) (before now : ℕ) (result : Status)
+pub outside_cause : (words : List Text) (old new : HostState) (s : Stop) (err err' : Option Text) (before now : ℕ) (result : Status)
     → StopsWork words old new s → Reports s err err' before now result → result ≡ status.Outside → HasOutsideCause words old new err err' before now
 outside_cause words old new s err err' before now result h (inr (inl p)) is = inl p.1
 outside_cause words old new s err err' before now result h (inr (inr e)) is = cc
@@ -199,7 +199,7 @@ refused_status words None text result job is = tt
 refused_status words (Some a) text result job is = (Refused text, job, is)
 
 -- a stop comes with a count that rose, with want of memory, or with the job's status
-pub complete_at_stop : (words : List Text) (old new : Outside) (s : Stop) (err err' : Option Text) (before now : ℕ) (result : Status)
+pub complete_at_stop : (words : List Text) (old new : HostState) (s : Stop) (err err' : Option Text) (before now : ℕ) (result : Status)
     → StopsWork words old new s → Reports s err err' before now result
     → SomeRose old new before now ⊎ ((result ≡ status.NoMemory) ⊎ IfSome old.files (λ a. HasStatus words a result))
 complete_at_stop words old new s err err' before now result h (inr (inl p)) = inl (inr (inr (inr p.1)))
@@ -228,7 +228,7 @@ pub has_no_lines : (words : List Text) (t : Task) (lines : Text) → task_of wor
 has_no_lines words t lines e allowed nothing = allowed (nothing t e)
 
 -- what is told of a stop that is no task is the usage line
-pub usage_told : (words : List Text) (old new : Outside) (s : Stop) (err err' : Option Text) (before now : ℕ) (result : Status)
+pub usage_told : (words : List Text) (old new : HostState) (s : Stop) (err err' : Option Text) (before now : ℕ) (result : Status)
     → StopsWork words old new s → Reports s err err' before now result → result ≡ status.Usage → (task_of words ≡ None) × Gains (usage_line words) err err' × IsSame old.files new.files × IsSame old.out new.out
 usage_told words old new s err err' before now result h (inr (inl p)) is = let e = p.0 in cc
 usage_told words old new s err err' before now result h (inr (inr e)) is = cc

@@ -1,8 +1,8 @@
 -- When each stop of a command comes.
 use Rattle.std.specs.Prelude.{◌≡◌, ◌⊎◌, ℕ, ◌+◌, ◌-◌, ◌≤◌, ltb, false, if◌then◌else◌, List, [], ◌∷◌, length, map, Contains, Option, Some, None, Err, IfSome, string_bytes}
 use Rattle.std.specs.FinMap.{get}
-use Rattle.tool_io.specs.Outside.{Contents, Rose, Becomes, AppendsPrefix}
-use Rattle.tools_cli.specs.Words.{Text, MergeTask, Task, Merge, source_files, many_of, texts_of, inputs_of, outputs_of, may_print}
+use Rattle.tool_io.specs.FilesAndSinks.{Contents, Rose, Becomes, AppendsPrefix}
+use Rattle.tools_cli.specs.CommandLine.{Text, MergeTask, Task, Merge, source_files, many_of, texts_of, inputs_of, outputs_of, may_print}
 use Rattle.tools_cli.specs.Job.{TooLong, gathered, TaskJob, refused_before, most_input}
 use Rattle.tools_cli.specs.Texts.{over_limit, invalid_text, link_text, join_text}
 use Rattle.wasm_valid.specs.declared.kinds.Invalid.{Invalid}

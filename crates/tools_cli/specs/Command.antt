@@ -1,8 +1,8 @@
 -- What the types of the code stand for.
 use Rattle.std.specs.Prelude.{List, ◌++◌, map, string_bytes}
 use Rattle.std.specs.Borrow.{Bor}
-use Rattle.tools_cli.specs.Words.{Text, MergeLine}
-use Rattle.tools_cli.specs.Words as words
+use Rattle.tools_cli.specs.CommandLine.{Text, MergeLine}
+use Rattle.tools_cli.specs.CommandLine as words
 use Rattle.tools_cli.specs.Effects.{Entry}
 use Rattle.tools_cli.specs.Sources.{source_values}
 use Rattle.tools_cli.specs.declared.merge.MergeTask.{MergeTask}

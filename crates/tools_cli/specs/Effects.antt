@@ -1,8 +1,8 @@
 -- Writes to files, all of them or cut short.
 use Rattle.std.specs.Prelude.{◌≡◌, ◌⊎◌, List, [], ◌∷◌, map}
 use Rattle.std.specs.FinMap.{insert}
-use Rattle.tool_io.specs.Outside.{Contents, IsUnchangedOrCut}
-use Rattle.tools_cli.specs.Words.{Text}
+use Rattle.tool_io.specs.FilesAndSinks.{Contents, IsUnchangedOrCut}
+use Rattle.tools_cli.specs.CommandLine.{Text}
 
 -- A name and bytes: a file that was read, or one that is written.
 abbrev pub Entry : Type 0

@@ -2,9 +2,9 @@
 use Rattle.std.specs.Prelude.{◌≡◌, ◌⊎◌, ℕ, ◌-◌, ltb, not, if◌then◌else◌, Bool, false, List, [], ◌∷◌, ◌++◌, length, map, take, drop, Option, Some, None, Result, Ok, Err}
 use Rattle.std.specs.FinMap.{get}
 use Rattle.std.specs.List.{list_all}
-use Rattle.tool_io.specs.Outside.{Contents}
+use Rattle.tool_io.specs.FilesAndSinks.{Contents}
 use Rattle.wasm_bytes.specs.Reading.{IsBytes}
-use Rattle.tools_cli.specs.Words.{Text, Source, MergeTask, Task, Merge, task_of, source_files, many_of, modules_of, inputs_of}
+use Rattle.tools_cli.specs.CommandLine.{Text, Source, MergeTask, Task, Merge, task_of, source_files, many_of, modules_of, inputs_of}
 use Rattle.wasm_meaning.specs.Linking.{Part}
 use Rattle.merge_names.specs.declared.mode.Mode.{Mode}
 use Rattle.merge_spec.specs.declared.faults.LinkFault.{LinkFault}

@@ -1,8 +1,8 @@
 -- What a command that is done has kept of the modules that it read.
 use Rattle.std.specs.Prelude.{◌≡◌, Bool, List, [], ◌∷◌, Option, Some}
 use Rattle.std.specs.FinMap.{get}
-use Rattle.tool_io.specs.Outside.{Contents}
-use Rattle.tools_cli.specs.Words.{Text, MergeTask, Task, Merge, task_of, source_files, many_of}
+use Rattle.tool_io.specs.FilesAndSinks.{Contents}
+use Rattle.tools_cli.specs.CommandLine.{Text, MergeTask, Task, Merge, task_of, source_files, many_of}
 use Rattle.tools_cli.specs.Job.{IsAccepted, parts_of, AreMerged}
 use Rattle.wasm_tree.specs.declared.module.Module.{Module}
 use Rattle.wasm_read_spec.specs.Files.{Spells}

@@ -1,4 +1,4 @@
-pub mod Words
+pub mod CommandLine
 pub mod Effects
 pub mod Texts
 pub mod Job

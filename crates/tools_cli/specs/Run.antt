@@ -1,7 +1,7 @@
 -- What a run of the program does to the files and the two sinks.
 use Rattle.std.specs.Prelude.{◌≡◌, ◌⊎◌, ℕ, false, List, ◌++◌, Option, Some, None, Result, Err, IfSome, Contains, string_bytes}
-use Rattle.tool_io.specs.Outside.{Contents, Rose, Becomes, AppendsPrefix}
-use Rattle.tools_cli.specs.Words.{Text, Task, task_of, inputs_of, may_print, usage_line}
+use Rattle.tool_io.specs.FilesAndSinks.{Contents, Rose, Becomes, AppendsPrefix}
+use Rattle.tools_cli.specs.CommandLine.{Text, Task, task_of, inputs_of, may_print, usage_line}
 use Rattle.tools_cli.specs.Effects.{Entry, made, IsCut, written_names}
 use Rattle.tools_cli.specs.Job.{Job, Usage, Missing, Refused, Done, HasJob, refused_before, most_input}
 use Rattle.tools_cli.specs.Stop.{stop_line, refusal_text, cannot_read, cannot_write, cannot_print}
@@ -74,7 +74,7 @@ abbrev pub HasStatus : List Text → Contents → Status → Type 0
 HasStatus words files s = (job : Job) × HasJob words files job × StatusOfJob job s
 
 -- The files and the standard output of a run, before or after it.
-pub record Outside : Type 0 where
+pub record HostState : Type 0 where
   pub files : Option Contents
   pub reads : Text → ℕ
   pub writes : Text → ℕ
@@ -88,7 +88,7 @@ IsUsage (Err stop.NoMemory) = Unit {0}
 IsUsage _ = ⊥
 
 -- Why the work stops.
-abbrev pub StopsWork : List Text → Outside → Outside → Stop → Type 0
+abbrev pub StopsWork : List Text → HostState → HostState → Stop → Type 0
 StopsWork words old new (stop.Usage line) = (task_of words ≡ None) × (line.now ≡ usage_line words) × IsSame old.files new.files × IsSame old.out new.out
 StopsWork words old new (stop.Refused refusal) =
     IfSome old.files (λ files. HasJob words files (Refused (refusal_text refusal))) × IsSame old.files new.files × IsSame old.out new.out
@@ -98,7 +98,7 @@ StopsWork words old new stop.CannotPrint = FailsToPrint words old.files new.file
 StopsWork words old new stop.NoMemory = Unit {0}
 
 -- One of the four causes of a fault of the outside, and what is said of it.
-abbrev pub HasOutsideCause : List Text → Outside → Outside → Option Text → Option Text → ℕ → ℕ → Type 0
+abbrev pub HasOutsideCause : List Text → HostState → HostState → Option Text → Option Text → ℕ → ℕ → Type 0
 HasOutsideCause words old new err err' before now =
     Rose before now
     ⊎ (((name : Text) × FailsToRead words old.files old.reads new.reads name × IsSame old.files new.files × IsSame old.out new.out × Gains (stop_line (cannot_read name)) err err')
@@ -106,7 +106,7 @@ HasOutsideCause words old new err err' before now =
     ⊎ (FailsToPrint words old.files new.files old.out_faults new.out_faults × Gains (stop_line cannot_print) err err')))
 
 -- A count has risen.
-abbrev pub SomeRose : Outside → Outside → ℕ → ℕ → Type 0
+abbrev pub SomeRose : HostState → HostState → ℕ → ℕ → Type 0
 SomeRose old new before now =
     ((name : Text) × Rose (old.reads name) (new.reads name))
     ⊎ (((name : Text) × Rose (old.writes name) (new.writes name)) ⊎ (Rose old.out_faults new.out_faults ⊎ Rose before now))

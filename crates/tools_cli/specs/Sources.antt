@@ -1,7 +1,7 @@
 -- What the sources of a merge stand for in the code.
 use Rattle.std.specs.Prelude.{List, map}
-use Rattle.tools_cli.specs.Words.{Text}
-use Rattle.tools_cli.specs.Words as words
+use Rattle.tools_cli.specs.CommandLine.{Text}
+use Rattle.tools_cli.specs.CommandLine as words
 use Rattle.tools_cli.specs.declared.merge.Source.{Source}
 
 -- The sources of a merge, and their names.

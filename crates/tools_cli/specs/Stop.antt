@@ -1,7 +1,7 @@
 -- How a command ends, and what is said of it.
 use Rattle.std.specs.Prelude.{◌≡◌, ◌⊎◌, ℕ, ◌++◌, List, Option, Some, codes, string_bytes}
-use Rattle.tool_io.specs.Outside.{Becomes, Rose, AppendsPrefix}
-use Rattle.tools_cli.specs.Words.{Text, usage_line}
+use Rattle.tool_io.specs.FilesAndSinks.{Becomes, Rose, AppendsPrefix}
+use Rattle.tools_cli.specs.CommandLine.{Text, usage_line}
 use Rattle.tools_cli.specs.Texts.{fault_text, invalid_text, link_text, join_text, import_mismatch, import_cycle, limits_clash, global_cycle, too_many_memories, export_conflict, not_module, malformed, malformed_body, unsupported, unsupported_body, over_limit, too_many_parts, too_many}
 use Rattle.wasm_tree.specs.declared.which.Which.{Which}
 use Rattle.wasm_read_spec.specs.declared.fault.ReadFault.{ReadFault}

@@ -13,7 +13,7 @@ use Rattle.merge_spec.specs.declared.faults.LinkFault.TheVariants as link
 use Rattle.merge_spec.specs.declared.faults.JoinFault.{JoinFault}
 use Rattle.merge_spec.specs.declared.faults.JoinFault.TheVariants.{ExportConflict, TooMany}
 use Rattle.merge_spec.specs.declared.faults.JoinFault.TheVariants as join
-use Rattle.tools_cli.specs.Words.{Text}
+use Rattle.tools_cli.specs.CommandLine.{Text}
 
 -- The name of a limited quantity.
 abbrev pub which_text : Which → Text

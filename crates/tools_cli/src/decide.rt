@@ -1,7 +1,7 @@
 // What a task decides over what it has read.
 ghost use Rattle.std.specs.Prelude.{◌≡◌, length, None, IfOk, IfErr};
 ghost use Rattle.base_lists.specs.Every.{Every};
-ghost use Rattle.tools_cli.specs.Words.{modules_of};
+ghost use Rattle.tools_cli.specs.CommandLine.{modules_of};
 ghost use Rattle.tools_cli.specs.Command.{task_value, decision_value, input_texts};
 ghost use Rattle.tools_cli.specs.Job.{Decides, Refuses, refused_before};
 ghost use Rattle.tools_cli.specs.Causes.{IsWithinLimits, StopsWith};

@@ -1,6 +1,6 @@
 // The inputs of a command, read in order.
 ghost use Rattle.std.specs.Prelude.{◌≡◌, ◌<◌, ◌≤◌, ◌^◌, map, IfOk, IfErr, IfSome};
-ghost use Rattle.tool_io.specs.Outside.{NoneFell};
+ghost use Rattle.tool_io.specs.FilesAndSinks.{NoneFell};
 ghost use Rattle.tools_cli.specs.Job.{gathered, Whole};
 ghost use Rattle.tools_cli.specs.Command.{names_of, input_entries};
 ghost use Rattle.tools_cli.specs.Causes.{StopsGathering, total};

@@ -1,17 +1,17 @@
 // What the definitions mean that the top call's contract cites, as the contract of a call that does nothing.
 ghost use Rattle.std.specs.Prelude.{◌≡◌, List, ℕ};
-ghost use Rattle.tool_io.specs.Outside.{Contents};
+ghost use Rattle.tool_io.specs.FilesAndSinks.{Contents};
 ghost use Rattle.tools_cli.specs.Effects.{Entry, made};
 ghost use Rattle.tools_cli.specs.Job.{Done, Job, HasJob, HoldBytes};
 ghost use Rattle.tools_cli.specs.Kept.{Keeps};
 
+use merge_behaves_proof::merged_modules_show_the_same;
 use merge_encode_proof::merged_modules_are_in_range;
 use merge_valid_proof::merged_modules_are_valid;
-use merge_behaves_proof::merged_modules_show_the_same;
-use wasm_write_proof::{plain_spells, spelled_trees_are_in_range, trees_that_fit_have_small_sizes};
 use wasm_read_spec::{
     faults_have_causes, no_fault_where_spelled, one_tree, spelled_trees_are_bounded,
 };
+use wasm_write_proof::{plain_spells, spelled_trees_are_in_range, trees_that_fit_have_small_sizes};
 use world_sequential_proof::turns_are_not_seen;
 
 /// A command line has at most one job over some files.

@@ -1,6 +1,6 @@
 // What a merge is to do.
 ghost use Rattle.std.specs.Prelude.{◌≡◌, true, IfOk};
-ghost use Rattle.tools_cli.specs.Words.{are_apart};
+ghost use Rattle.tools_cli.specs.CommandLine.{are_apart};
 ghost use Rattle.tools_cli.specs.Sources.{source_names};
 
 use merge_names::Mode;
@@ -24,7 +24,7 @@ pub(crate) struct MergeTask<'a> {
 }
 
 impl<'a> MergeTask<'a> {
-    ghost use Rattle.tools_cli.specs.Words.{source_files};
+    ghost use Rattle.tools_cli.specs.CommandLine.{source_files};
     ghost use Rattle.tools_cli.specs.Command.{merge_value, names_of};
 
     /// The files of the parts, in order.

@@ -1,6 +1,6 @@
 // What all words of a merge say together.
 ghost use Rattle.std.specs.Prelude.{◌≡◌, ◌∷◌, [], map, option_map, string_bytes, Bool, if◌then◌else◌, OnOk, IfOk};
-ghost use Rattle.tools_cli.specs.Words.{merge_words, merge_line_of, own_value, other_merge_word};
+ghost use Rattle.tools_cli.specs.CommandLine.{merge_words, merge_line_of, own_value, other_merge_word};
 ghost use Rattle.tools_cli.specs.Command.{merge_line_value, merge_word_value, join_merge_lines};
 
 use crate::merge_word::{MergeWord, other_merge_word, own_value, takes_value};

@@ -1,6 +1,6 @@
 // What the words of a merge say, one by one.
 ghost use Rattle.std.specs.Prelude.{◌≡◌, option_map, option_and_then, codes};
-ghost use Rattle.tools_cli.specs.Words.{is_plain, takes_value, behind, joined_value, own_value, other_merge_word};
+ghost use Rattle.tools_cli.specs.CommandLine.{is_plain, takes_value, behind, joined_value, own_value, other_merge_word};
 ghost use Rattle.tools_cli.specs.Command.{merge_word_value};
 
 use merge_names::Mode;

@@ -1,6 +1,6 @@
 // The writes of a command.
 ghost use Rattle.std.specs.Prelude.{◌≡◌, OnOk, IfErr};
-ghost use Rattle.tool_io.specs.Outside.{NoneFell, Becomes};
+ghost use Rattle.tool_io.specs.FilesAndSinks.{NoneFell, Becomes};
 ghost use Rattle.tools_cli.specs.Effects.{made, IsCut};
 ghost use Rattle.tools_cli.specs.Command.{write_entries};
 ghost use Rattle.tools_cli.specs.Causes.{StopsWriting};

@@ -1,6 +1,6 @@
 // Why a command ends, and what is said of it.
 ghost use Rattle.std.specs.Prelude.{◌≡◌, ◌≤◌, flat_map};
-ghost use Rattle.tool_io.specs.Outside.{Becomes, AppendsPrefix};
+ghost use Rattle.tool_io.specs.FilesAndSinks.{Becomes, AppendsPrefix};
 ghost use Rattle.tools_cli.specs.Stop.{status_of, line_of, code_of, Reports};
 ghost use Rattle.tools_cli.specs.declared.stop.Stop.TheVariants.{NoMemory as OutOfMemory};
 

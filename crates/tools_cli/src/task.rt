@@ -1,6 +1,6 @@
 // What a command line asks for: a case for each command.
 ghost use Rattle.std.specs.Prelude.{◌≡◌, length, option_map, IfOk};
-ghost use Rattle.tools_cli.specs.Words.{inputs_of, many_of, modules_of};
+ghost use Rattle.tools_cli.specs.CommandLine.{inputs_of, many_of, modules_of};
 ghost use Rattle.tools_cli.specs.Job.{refused_before};
 ghost use Rattle.tools_cli.specs.Stop.{refusal_text};
 ghost use Rattle.tools_cli.specs.Command.{task_value, names_of};

@@ -1,10 +1,10 @@
 // The top call.
 ghost use Rattle.std.specs.Prelude.{◌≡◌, ◌≤◌, ◌⊎◌, map, string_bytes, IfSome, None};
-ghost use Rattle.tool_io.specs.Outside.{NoneFell, Becomes, Rose};
-ghost use Rattle.tools_cli.specs.Words.{task_of, usage_line};
+ghost use Rattle.tool_io.specs.FilesAndSinks.{NoneFell, Becomes, Rose};
+ghost use Rattle.tools_cli.specs.CommandLine.{task_of, usage_line};
 ghost use Rattle.tools_cli.specs.Stop.{Says};
 ghost use Rattle.tools_cli.specs.Kept.{EndsKept};
-ghost use Rattle.tools_cli.specs.Run.{ChangesByTheJob, PrintsForTheJob, PrintsNothing, EndsDone, EndsRefused, HasStatus, HasOutsideCause, SomeRose, IsSame, Gains, Outside};
+ghost use Rattle.tools_cli.specs.Run.{ChangesByTheJob, PrintsForTheJob, PrintsNothing, EndsDone, EndsRefused, HasStatus, HasOutsideCause, SomeRose, IsSame, Gains, HostState};
 
 use crate::laws::done_jobs_keep_the_modules;
 use crate::stop::{Status, report};

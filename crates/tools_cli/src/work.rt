@@ -1,13 +1,14 @@
 // The work of a command, up to what is said of a stop.
 ghost use Rattle.std.specs.Prelude.{◌≡◌, ◌≤◌, ◌++◌, [], map, string_bytes, OnOk, IfOk, IfErr, IfSome, None};
-ghost use Rattle.tool_io.specs.Outside.{NoneFell, Becomes, AppendsPrefix};
+ghost use Rattle.tool_io.specs.FilesAndSinks.{NoneFell, Becomes, AppendsPrefix};
 ghost use Rattle.tools_cli.specs.Effects.{IsCut, written_names};
 ghost use Rattle.tools_cli.specs.Job.{InputsJob, TaskJob, Done, Refused, Whole, gathered, refused_before, most_input};
 ghost use Rattle.tools_cli.specs.Command.{task_value, input_entries, write_entries};
 ghost use Rattle.tools_cli.specs.Causes.{AreOutputs, PrintsAsAllowed, StopsWith, StopsGathering, StopsPreparing, StopsPrinting, StopsFinishing, AllWritten, PrintsAfter, total};
 ghost use Rattle.tools_cli.specs.Run.{ChangesByTheJob, PrintsForTheJob, PrintsNothing, EndsDone, IsSame, IsUsage, StopsWork};
-ghost use Rattle.tools_cli.specs.Words.{task_of, inputs_of};
+ghost use Rattle.tools_cli.specs.CommandLine.{task_of, inputs_of};
 
+use crate::command_line::{parse, usage};
 use crate::decide::decide;
 use crate::encode::{Plan, encode};
 use crate::gather::{Input, gather};
@@ -15,7 +16,6 @@ use crate::load::load_all;
 use crate::perform::write_outputs;
 use crate::stop::Stop;
 use crate::task::Task;
-use crate::words::{parse, usage};
 use std::alloc::Global;
 use tool_io::{Files, IoFault, Sink};
 use wasm_tree::MOST_INPUT_BYTES;

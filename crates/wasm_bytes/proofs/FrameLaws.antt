@@ -4,7 +4,7 @@ use Rattle.std.specs.Prelude.{IsTrue}
 use Rattle.wasm_bytes.specs.declared.cursor.Wrong.{Wrong}
 use Rattle.wasm_bytes.specs.declared.cursor.Wrong.TheVariants.{Spelling}
 use Rattle.wasm_bytes.specs.Reading.{◌>>=◌, IsBytes, sized_at}
-use Rattle.wasm_bytes.specs.Frames.{Section, may_follow, after, Frame, Frames, last_of, FirstBadFrame, frame_at, before, or_number, frames_at}
+use Rattle.wasm_bytes.specs.Frames.{Section, may_follow, order_after, Frame, Frames, last_of, FirstBadFrame, frame_at, before, or_number, frames_at}
 use Rattle.wasm_bytes.proofs.Lists.{Took, small_rest}
 use Rattle.wasm_bytes.proofs.Sized.{bind_ok, ok_pair, sized_sound, sized_complete}
 
@@ -46,14 +46,14 @@ frames_sound (suc fuel) last n (b ∷ bs) ss small e =
     let s = bind_ok (or_number n (frame_at last (b ∷ bs))) _ _ e in
     let t = frame_sound last (b ∷ bs) s.0.0 s.0.1 small (number_ok n _ _ s.1) in
     let more = before_ok s.0.0 _ ss s.2 in
-    let later = frames_sound fuel (after last s.0.0.0) (n + 1) s.0.1 more.0 (small_rest _ (b ∷ bs) s.0.1 small t) more.1 in
+    let later = frames_sound fuel (order_after last s.0.0.0) (n + 1) s.0.1 more.0 (small_rest _ (b ∷ bs) s.0.1 small t) more.1 in
     subst (Frames last (b ∷ bs)) more.2 (t.0, s.0.1, t.1, later, t.2)
 
 frame_long : (last : ℕ) (text : List ℕ) (s : Section) → Frame last text s → 0 < length text
 frame_long last text s h = rw h.1.2 (omega arith)
 
 -- a good frame at the front is read, whatever follows
-step_good : (fuel last n : ℕ) (text rest : List ℕ) (s : Section) → Frame last text s → frames_at (suc fuel) last n (text ++ rest) ≡ before s (frames_at fuel (after last s.0) (n + 1) rest)
+step_good : (fuel last n : ℕ) (text rest : List ℕ) (s : Section) → Frame last text s → frames_at (suc fuel) last n (text ++ rest) ≡ before s (frames_at fuel (order_after last s.0) (n + 1) rest)
 unfolding frames_at
 step_good fuel last n [] rest s h = absurd (omega (arith, frame_long last [] s h))
 step_good fuel last n (b ∷ bs) rest s h = rw (frame_complete last (b ∷ bs) rest s h)
@@ -63,7 +63,7 @@ unfolding frames_at
 frames_complete fuel last n bytes [] enough h = rw h
 frames_complete zero last n bytes (s ∷ ss) enough h = absurd (omega (arith, frame_long last h.0 s h.2, ap length h.4, length-append h.0 h.1))
 frames_complete (suc fuel) last n bytes (s ∷ ss) enough h =
-    rw (h.4, step_good fuel last n h.0 h.1 s h.2, frames_complete fuel (after last s.0) (n + 1) h.1 ss (omega (arith, frame_long last h.0 s h.2, ap length h.4, length-append h.0 h.1)) h.3)
+    rw (h.4, step_good fuel last n h.0 h.1 s h.2, frames_complete fuel (order_after last s.0) (n + 1) h.1 ss (omega (arith, frame_long last h.0 s h.2, ap length h.4, length-append h.0 h.1)) h.3)
 
 -- ---- the first bad frame
 
@@ -95,7 +95,7 @@ bad_sound (suc fuel) last n m (b ∷ bs) enough small e = ⊎_elim
     let t = frame_sound last (b ∷ bs) s.0 s.1 small h.1 in
     let long = frame_long last t.0 s.0 t.1 in
     let less : length s.1 ≤ fuel = omega (arith, long, ap length t.2, length-append t.0 s.1) in
-    let later = bad_sound fuel (after last s.0.0) (n + 1) m s.1 less (small_rest _ (b ∷ bs) s.1 small t) (before_err s.0 _ m h.2) in
+    let later = bad_sound fuel (order_after last s.0.0) (n + 1) m s.1 less (small_rest _ (b ∷ bs) s.1 small t) (before_err s.0 _ m h.2) in
     let w = later.2 in (
       suc later.0,
       later.1 ∙ omega arith,
@@ -117,7 +117,7 @@ unfolding frames_at
 stuck fuel last n [] enough small some never = absurd (some refl)
 stuck zero last n (b ∷ bs) enough small some never = absurd (omega arith)
 stuck (suc fuel) last n (b ∷ bs) enough small some never =
-    let split : (r : Result (Section × List ℕ) Wrong) → frame_at last (b ∷ bs) ≡ r → (or_number n r >>= (λ s. before s.0 (frames_at fuel (after last s.0.0) (n + 1) s.1))) ≡ Err n
+    let split : (r : Result (Section × List ℕ) Wrong) → frame_at last (b ∷ bs) ≡ r → (or_number n r >>= (λ s. before s.0 (frames_at fuel (order_after last s.0.0) (n + 1) s.1))) ≡ Err n
     = elim [ Ok x ↦ (λ e. let t = frame_sound last (b ∷ bs) x.0 x.1 small e in absurd (never x.0 t.0 x.1 t.1 t.2)) | Err w ↦ (λ e. refl) ] in
     split (frame_at last (b ∷ bs)) refl
 
@@ -131,5 +131,5 @@ bad_complete zero last n m bytes (s ∷ ss) front back enough small f count e so
 bad_complete (suc fuel) last n m bytes (s ∷ ss) front back enough small f count e some never =
     let split : bytes ≡ f.0 ++ (f.1 ++ back) = e ∙ ap (λ t. t ++ back) f.4 ∙ append_assoc f.0 f.1 back in
     let less : length (f.1 ++ back) ≤ fuel = omega (arith, frame_long last f.0 s f.2, ap length split, length-append f.0 (f.1 ++ back)) in
-    let rest = bad_complete fuel (after last s.0) (n + 1) (length ss) (f.1 ++ back) ss f.1 back less (small_rest (λ t. Frame last t s) bytes (f.1 ++ back) small (f.0, f.2, split)) f.3 refl refl some never in
+    let rest = bad_complete fuel (order_after last s.0) (n + 1) (length ss) (f.1 ++ back) ss f.1 back less (small_rest (λ t. Frame last t s) bytes (f.1 ++ back) small (f.0, f.2, split)) f.3 refl refl some never in
     rw (split, step_good fuel last n f.0 (f.1 ++ back) s f.2, rest) (ap Err (omega arith))

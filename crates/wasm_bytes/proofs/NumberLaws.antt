@@ -5,7 +5,7 @@ use Rattle.std.proofs.lemmas.Nat.{pow_pos}
 use Rattle.wasm_bytes.specs.declared.cursor.Wrong.{Wrong}
 use Rattle.wasm_bytes.specs.declared.cursor.Wrong.TheVariants.{Short, Spelling}
 use Rattle.wasm_bytes.specs.Numbers.{Spells, Takes, IsCut, IsRead, last_unsigned, last_signed}
-use Rattle.wasm_bytes.specs.Reading.{ok_or_spelling, after, reading, Gives, IsBytes}
+use Rattle.wasm_bytes.specs.Reading.{ok_or_spelling, map_value, reading, Gives, IsBytes}
 
 tail : (b : ℕ) (bs : List ℕ) → IsBytes (b ∷ bs) → IsBytes bs
 tail b bs h i = h (suc i)
@@ -18,11 +18,11 @@ ok_or_spelling_short : {V : Type 0} (o : Option V) (bs : List ℕ) → ok_or_spe
 ok_or_spelling_short (Some w) bs e = cc
 ok_or_spelling_short None bs e = cc
 
-after_ok : {V : Type 0} (f : V → V) (r : Result (V × List ℕ) Wrong) (v : V) (rest : List ℕ) → after f r ≡ Ok (v, rest) → (high : V) × (r ≡ Ok (high, rest)) × (v ≡ f high)
+after_ok : {V : Type 0} (f : V → V) (r : Result (V × List ℕ) Wrong) (v : V) (rest : List ℕ) → map_value f r ≡ Ok (v, rest) → (high : V) × (r ≡ Ok (high, rest)) × (v ≡ f high)
 after_ok f (Ok (w, bs)) v rest e = let same : (f w, bs) ≡ (v, rest) = cc in (w, ap (λ (p : _ × List ℕ). Ok (w, p.1)) same, sym (ap (λ (p : _ × List ℕ). p.0) same))
 after_ok f (Err w) v rest e = cc
 
-after_err : {V : Type 0} (f : V → V) (r : Result (V × List ℕ) Wrong) (w : Wrong) → after f r ≡ Err w → r ≡ Err w
+after_err : {V : Type 0} (f : V → V) (r : Result (V × List ℕ) Wrong) (w : Wrong) → map_value f r ≡ Err w → r ≡ Err w
 after_err f (Ok p) w e = cc
 after_err f (Err u) w e = let same : u ≡ w = cc in ap Err same
 

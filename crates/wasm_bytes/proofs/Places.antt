@@ -3,7 +3,7 @@ use Rattle.std.proofs.Common.{◌≡◌, ℕ, zero, suc, ◌+◌, ◌-◌, ◌<�
 use Rattle.wasm_bytes.specs.declared.cursor.Wrong.{Wrong}
 use Rattle.wasm_bytes.specs.declared.framing.Frame.{Frame as Place}
 use Rattle.wasm_bytes.specs.Reading.{IsBytes, byte_at, sized_at}
-use Rattle.wasm_bytes.specs.Frames.{Section, may_follow, after, frame_at, before, or_number, frames_at}
+use Rattle.wasm_bytes.specs.Frames.{Section, may_follow, order_after, frame_at, before, or_number, frames_at}
 use Rattle.wasm_bytes.specs.FrameViews.{framed, framed_all, in_front, frames_behind, Stand, StandsAt, Whole}
 use Rattle.wasm_bytes.proofs.Lists.{take_all, drop_all, halves, taken, bytes_drop}
 use Rattle.wasm_bytes.proofs.Sized.{sized_sound}
@@ -95,7 +95,7 @@ none_left (suc n) (b ∷ bs) h = none_left n bs (omega arith)
 abbrev pub GoesOn : List ℕ → List Place → ℕ → ℕ → ℕ → Type 0
 GoesOn bytes fs at last count = (fuel : ℕ) × (length bytes ≤ fuel + at) × (frames_behind bytes ≡ in_front (framed_all bytes fs) (frames_at fuel last count (drop at bytes)))
 
-step_read : (fuel last n : ℕ) (bs rest : List ℕ) (s : Section) → frame_at last bs ≡ Ok (s, rest) → frames_at (suc fuel) last n bs ≡ before s (frames_at fuel (after last s.0) (n + 1) rest)
+step_read : (fuel last n : ℕ) (bs rest : List ℕ) (s : Section) → frame_at last bs ≡ Ok (s, rest) → frames_at (suc fuel) last n bs ≡ before s (frames_at fuel (order_after last s.0) (n + 1) rest)
 unfolding frames_at frame_at
 step_read fuel last n [] rest s e = cc
 step_read fuel last n (b ∷ bs) rest s e = rw e
@@ -104,14 +104,14 @@ step_bad : (fuel last n : ℕ) (bs : List ℕ) (b : ℕ) (cs : List ℕ) → bs 
 unfolding frames_at
 step_bad fuel last n bs b cs e bad = let k = rw e at (bad n) in rw (e, k)
 
-pub goes_on_more : (bytes : List ℕ) (fs : List Place) (f : Place) (new : List Place) (at last next count : ℕ) → at < length bytes → at < f.start + f.len → new ≡ fs ++ f ∷ [] → next ≡ after last f.id →
+pub goes_on_more : (bytes : List ℕ) (fs : List Place) (f : Place) (new : List Place) (at last next count : ℕ) → at < length bytes → at < f.start + f.len → new ≡ fs ++ f ∷ [] → next ≡ order_after last f.id →
     frame_at last (drop at bytes) ≡ Ok (framed bytes f, drop (f.start + f.len) bytes) → GoesOn bytes fs at last count → GoesOn bytes new (f.start + f.len) next (count + 1)
 goes_on_more bytes fs f new at last next count lt far more is e (zero, enough, h) = absurd (omega arith)
 goes_on_more bytes fs f new at last next count lt far more is e (suc fuel, enough, h) = (
   fuel,
   omega arith,
   rw is (h ∙ ap (in_front (framed_all bytes fs)) (step_read fuel last count _ _ _ e ∙ one (framed bytes f) _) ∙ front_front (framed_all bytes fs) (framed bytes f ∷ []) _
-      ∙ ap (λ xs. in_front xs (frames_at fuel (after last f.id) (count + 1) (drop (f.start + f.len) bytes))) (sym (map_last (framed bytes) fs f) ∙ ap (framed_all bytes) (sym more))),
+      ∙ ap (λ xs. in_front xs (frames_at fuel (order_after last f.id) (count + 1) (drop (f.start + f.len) bytes))) (sym (map_last (framed bytes) fs f) ∙ ap (framed_all bytes) (sym more))),
 )
 
 pub goes_on_bad : (bytes : List ℕ) (fs : List Place) (at last count : ℕ) → at < length bytes → ((k : ℕ) → or_number k (frame_at last (drop at bytes)) ≡ Err k) → GoesOn bytes fs at last count → frames_behind bytes ≡ Err count

@@ -18,16 +18,16 @@ HasHeader bytes = take 8 bytes ≡ header
 
 -- ---- what is framed
 
--- the place of a section's id in the order 1 to 9, 12, 10, 11
-abbrev pub place : ℕ → ℕ
-place id = if id == 12 then 10 else (if nat_lt 9 id then id + 1 else id)
+-- the section_order of a section's id in the order 1 to 9, 12, 10, 11
+abbrev pub section_order : ℕ → ℕ
+section_order id = if id == 12 then 10 else (if nat_lt 9 id then id + 1 else id)
 
--- a section with this id may come where the last one, custom sections not counted, has that place (0: there was none)
+-- a section with this id may come where the last one, custom sections not counted, has that section_order (0: there was none)
 abbrev pub may_follow : ℕ → ℕ → Bool
-may_follow last id = if id == 0 then true else (nat_le id 12 && nat_lt last (place id))
+may_follow last id = if id == 0 then true else (nat_le id 12 && nat_lt last (section_order id))
 
-abbrev pub after : ℕ → ℕ → ℕ
-after last id = if id == 0 then last else place id
+abbrev pub order_after : ℕ → ℕ → ℕ
+order_after last id = if id == 0 then last else section_order id
 
 -- an id that may follow, the content's length and the content
 abbrev pub Frame : ℕ → List ℕ → Section → Type 0
@@ -35,23 +35,23 @@ Frame last bytes s = IsTrue (may_follow last s.0) × ((sized : List ℕ) × Size
 
 abbrev pub Frames : ℕ → List ℕ → List Section → Type 0
 Frames last bytes [] = bytes ≡ []
-Frames last bytes (s ∷ ss) = Then (λ b. Frame last b s) (λ b. Frames (after last s.0) b ss) bytes
+Frames last bytes (s ∷ ss) = Then (λ b. Frame last b s) (λ b. Frames (order_after last s.0) b ss) bytes
 
 -- a file with these sections
 abbrev pub Framed : List ℕ → List Section → Type 0
 Framed bytes ss = Then (λ b. b ≡ header) (λ b. Frames 0 b ss) bytes
 
--- the place of the last of these
+-- the section_order of the last of these
 abbrev pub last_of : ℕ → List Section → ℕ
 last_of last [] = last
-last_of last (s ∷ ss) = last_of (after last s.0) ss
+last_of last (s ∷ ss) = last_of (order_after last s.0) ss
 
--- after so many good frames something stands that does not begin with one
+-- order_after so many good frames something stands that does not begin with one
 abbrev pub FirstBadFrame : ℕ → List ℕ → ℕ → Type 0
 FirstBadFrame last bytes n = (ss : List Section) × (front : List ℕ) × (back : List ℕ) × Frames last front ss × (length ss ≡ n) × (bytes ≡ front ++ back)
     × (back ≢ []) × ((s : Section) (text : List ℕ) (rest : List ℕ) → Frame (last_of last ss) text s → back ≡ text ++ rest → ⊥)
 
--- the header, and after it so many good frames and then none
+-- the header, and order_after it so many good frames and then none
 abbrev pub FirstBad : List ℕ → ℕ → Type 0
 FirstBad bytes n = Then (λ b. b ≡ header) (λ b. FirstBadFrame 0 b n) bytes
 
@@ -73,4 +73,4 @@ or_number n (Err e) = Err n
 unfoldable pub frames_at : ℕ → ℕ → ℕ → List ℕ → Result (List Section) ℕ
 frames_at fuel last n [] = Ok []
 frames_at zero last n (b ∷ bs) = Err n
-frames_at (suc fuel) last n (b ∷ bs) = or_number n (frame_at last (b ∷ bs)) >>= (λ s. before s.0 (frames_at fuel (after last s.0.0) (n + 1) s.1))
+frames_at (suc fuel) last n (b ∷ bs) = or_number n (frame_at last (b ∷ bs)) >>= (λ s. before s.0 (frames_at fuel (order_after last s.0.0) (n + 1) s.1))

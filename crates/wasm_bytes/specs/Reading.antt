@@ -15,15 +15,15 @@ abbrev pub ok_or_spelling : {V : Type 0} → Option V → List ℕ → Result (V
 ok_or_spelling (Some v) rest = Ok (v, rest)
 ok_or_spelling None rest = Err Spelling
 
-abbrev pub after : {V : Type 0} → (V → V) → Result (V × List ℕ) Wrong → Result (V × List ℕ) Wrong
-after f (Ok r) = Ok (f r.0, r.1)
-after f (Err e) = Err e
+abbrev pub map_value : {V : Type 0} → (V → V) → Result (V × List ℕ) Wrong → Result (V × List ℕ) Wrong
+map_value f (Ok r) = Ok (f r.0, r.1)
+map_value f (Err e) = Err e
 
 module _ {V : Type 0} (last : ℕ → ℕ → Option V) (join : ℕ → V → V) where
   -- the value at the front and what is left, or what is wrong
   abbrev pub reading : ℕ → List ℕ → Result (V × List ℕ) Wrong
   reading bits [] = Err Short
-  reading bits (b ∷ bs) = if nat_lt b 128 then ok_or_spelling (last bits b) bs else (if nat_lt 7 bits then after (join b) (reading (bits - 7) bs) else Err Spelling)
+  reading bits (b ∷ bs) = if nat_lt b 128 then ok_or_spelling (last bits b) bs else (if nat_lt 7 bits then map_value (join b) (reading (bits - 7) bs) else Err Spelling)
 
 unfoldable pub unsigned_at : ℕ → List ℕ → Result (ℕ × List ℕ) Wrong
 unsigned_at = reading last_unsigned join_unsigned

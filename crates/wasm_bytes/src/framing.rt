@@ -1,13 +1,13 @@
 ghost use Rattle.std.specs.Prelude.{◌≡◌, ◌<◌, ◌≤◌, ◌+◌, ◌^◌, ◌⊎◌, ℕ, List, length, OnOk, IfOk, IsOkAnd, IsTrue, IfSome, IfErr, OnErr, ◌↔◌, Err, drop};
 ghost use Rattle.wasm_bytes.specs.Reading.{IsBytes, sized_at, with_rest, lent};
-ghost use Rattle.wasm_bytes.specs.Frames.{Section, may_follow, place, after, Framed, FirstBad, HasHeader};
+ghost use Rattle.wasm_bytes.specs.Frames.{Section, may_follow, section_order, order_after, Framed, FirstBad, HasHeader};
 ghost use Rattle.wasm_bytes.specs.FrameViews.{GivesFrame, GivesFrames, framed_all, Inside, Stand, StandsAt};
 
 use crate::cursor::{Cursor, Wrong};
 use crate::items::Items;
 use std::alloc::Global;
 
-/// Where a section stands in a file: its id, and its content's place and length.
+/// Where a section stands in a file: its id, and its content's section_order and length.
 #[derive(Clone, Copy, Debug, PartialEq, Eq)]
 pub struct Frame {
     pub id: u8,
@@ -34,10 +34,10 @@ fn has_header(bytes: &[u8]) -> bool
     bytes.starts_with(&HEADER)
 }
 
-/// The place of a section's id in their order.
+/// The section_order of a section's id in their order.
 fn place_of(id: u8) -> u8
     requires { id ≤ 12 }
-    ensures value { result ≡ place id }
+    ensures value { result ≡ section_order id }
     ensures small { result ≤ 12 }
 {
     if id == 12 {
@@ -49,15 +49,15 @@ fn place_of(id: u8) -> u8
     }
 }
 
-/// The place of the last section that is no custom one.
+/// The section_order of the last section that is no custom one.
 fn place_after(last: u8, id: u8) -> u8
     requires { id ≤ 12 }
-    ensures { result ≡ after last id }
+    ensures { result ≡ order_after last id }
 {
     if id == 0 { last } else { place_of(id) }
 }
 
-/// Whether a section with this id may come where the last one has that place.
+/// Whether a section with this id may come where the last one has that section_order.
 fn follows(last: u8, id: u8) -> bool
     ensures value { result ≡ may_follow last id }
     ensures known { IsTrue result → id ≤ 12 }
@@ -135,7 +135,7 @@ fn frames_behind(alloc: Global, bytes: &[u8]) -> Result<Items<Frame>, FrameFault
 }
 
 /// The sections of a module file, in its order (WebAssembly Core 2.0, section 5.5.2). NotModule comes exactly where the
-/// first eight bytes aren't the header; BadFrame exactly where, after so many good frames, something stands that
+/// first eight bytes aren't the header; BadFrame exactly where, order_after so many good frames, something stands that
 /// doesn't begin with a frame that may follow: its id is above 12, its size is cut off, misspelled or too long, or its
 /// id repeats or breaks the order.
 pub fn frames(alloc: Global, bytes: &[u8]) -> Result<Items<Frame>, FrameFault>

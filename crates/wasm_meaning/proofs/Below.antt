@@ -12,7 +12,7 @@ use Rattle.wasm_meaning.specs.Tables.{table_may_grow}
 use Rattle.wasm_meaning.specs.Control.{type_at}
 use Rattle.wasm_meaning.specs.Step.{act, frame_of, give_levels, give, enter, enter_at, changed, perform, to_mark}
 use Rattle.wasm_meaning.specs.Environment.{Shown, Thing, FuncAt, TableAt, MemoryAt, GlobalAt, func_of, received, received_ref, received_all}
-use Rattle.wasm_meaning.specs.Run.{Move, Call, Invoke, Take, Answer, Refuse, Grant, Deny, Get, Size, Set, Extend, Phase, Run, Out, Transition, Steps, Makes, made, viewed_at, place_at, show_all, show, trapped_to, after, called, is_mark, delivered, answered, refused, grown_memory, grown_table, granted, decided, shows, got, size_of, does, byte_of, set, extended, moved, at_entries, or_bad, next_move, tick}
+use Rattle.wasm_meaning.specs.Run.{Move, Call, Invoke, Take, Answer, Refuse, Grant, Deny, Get, Size, Set, Extend, Phase, Run, Out, Transition, Steps, Makes, made, viewed_at, place_at, show_all, show, trapped_to, run_after, called, is_mark, delivered, answered, refused, grown_memory, grown_table, granted, decided, shows, got, size_of, does, byte_of, set, extended, moved, at_entries, or_bad, next_move, tick}
 use Rattle.wasm_meaning.specs.Below.{IsBottom, GivesNothing, a_frame, a_call, over, Unseen, goes_on, ended, trapped}
 
 -- ---- outcomes ----
@@ -153,7 +153,7 @@ module _ (cs ds : List Entry) (low : IsBottom cs) (other : IsBottom ds) (p q : P
   trapped_below r es n (at_mark fs g) = goes_on r fs n g
   trapped_below r es n at_opening = trapped r
 
-  after_below : {o u : Outcome Next} (r : Run) (es : List Entry) → GivesNothing es → OutcomeRel (NextRel r.store.funcs) o u → Alike r.store.funcs (after (first r es) o) (after (second r es) u)
+  after_below : {o u : Outcome Next} (r : Run) (es : List Entry) → GivesNothing es → OutcomeRel (NextRel r.store.funcs) o u → Alike r.store.funcs (run_after (first r es) o) (run_after (second r es) u)
   after_below r es g traps = trapped_below r es refl (to_mark_below g)
   after_below r es g ill_typed = trapped_below r es refl (to_mark_below g)
   after_below r es g (gives (ran {s = s} fs n h)) = goes_on (record r { store = s }) fs n h
@@ -171,7 +171,7 @@ module _ (cs ds : List Entry) (low : IsBottom cs) (other : IsBottom ds) (p q : P
     makes : {o u : Out} → Alike funcs o u → Turn funcs (Makes o) (Makes u)
 
   made_below : {funcs : List Func} {t u : Transition} → Turn funcs t u → Alike funcs (made t) (made u)
-  made_below (steps {o = o} {u = u} r es n g x) = subst (λ fs. Alike fs (after (first r es) o) (after (second r es) u)) n (after_below r es g x)
+  made_below (steps {o = o} {u = u} r es n g x) = subst (λ fs. Alike fs (run_after (first r es) o) (run_after (second r es) u)) n (after_below r es g x)
   made_below (makes x) = x
 
   abbrev Moved : Run → Option Transition → Option Transition → Type 0

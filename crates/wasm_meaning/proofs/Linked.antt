@@ -6,7 +6,7 @@ use Rattle.wasm_tree.specs.declared.module.GlobalDef.{GlobalDef}
 use Rattle.wasm_tree.specs.declared.module.ConstExpr.{ConstExpr}
 use Rattle.wasm_tree.specs.declared.module.ConstExpr.TheVariants as const
 use Rattle.wasm_tree.specs.declared.module.Module.{Module}
-use Rattle.wasm_meaning.specs.Paths.{Next, Ends, Goes, In, here, there}
+use Rattle.wasm_meaning.specs.Paths.{PathStep, EndsWith, LeadsTo, In, here, there}
 use Rattle.wasm_meaning.specs.Linking.{Part, Site, End, Defined, Outside, Entity, Read, places, module_at, import_at, imports_of, has_kind, joined, imported_as, entity_step, joined_step, import_step, Leads, sites_in, sites_from, sites, end_of, initial, outside_read, global_import, end_step, expr_step, read_step, Reads, initials_from, read_of}
 use Rattle.wasm_tree.specs.Spaces.{index_of_export, space_of_export}
 use Rattle.wasm_meaning.proofs.Walks.{walk_is}
@@ -72,18 +72,18 @@ import_in parts e t h = by (module_at parts e.part) refl h
     by None is k = cc
     by (Some m) is k = inner m is (slice_get (imports_of (space_of_export e.what) m) (index_of_export e.what)) refl k
 
-goes_to_import : (parts : List Part) (s t : Site) → import_step parts s ≡ Some (Goes t) → In t (sites parts)
+goes_to_import : (parts : List Part) (s t : Site) → import_step parts s ≡ Some (LeadsTo t) → In t (sites parts)
 goes_to_import parts s t h = by (import_at parts s) h
   where
-    at_entity : (e : Entity) (o : Option Site) → imported_as parts e ≡ o → Some (entity_step e o) ≡ Some (Goes t) → In t (sites parts)
+    at_entity : (e : Entity) (o : Option Site) → imported_as parts e ≡ o → Some (entity_step e o) ≡ Some (LeadsTo t) → In t (sites parts)
     at_entity e None is k = cc
     at_entity e (Some u) is k = let same : u ≡ t = cc in import_in parts e t (is ∙ ap Some same)
 
-    at_joined : (o : Option Entity) → Some (joined_step parts s o) ≡ Some (Goes t) → In t (sites parts)
+    at_joined : (o : Option Entity) → Some (joined_step parts s o) ≡ Some (LeadsTo t) → In t (sites parts)
     at_joined None k = cc
     at_joined (Some e) k = at_entity e (imported_as parts e) refl k
 
-    by : (o : Option Import) → option_and_then (λ i. Some (joined_step parts s (joined parts i))) o ≡ Some (Goes t) → In t (sites parts)
+    by : (o : Option Import) → option_and_then (λ i. Some (joined_step parts s (joined parts i))) o ≡ Some (LeadsTo t) → In t (sites parts)
     by None k = cc
     by (Some i) k = at_joined (joined parts i) k
 
@@ -121,23 +121,23 @@ initial_known parts e expr h = by (module_at parts e.part) refl h
     by None is k = cc
     by (Some m) is k = inner m is (slice_get m.globals (index_of_export e.what - length (imports_of Globals m))) refl k
 
-goes_to_read : (parts : List Part) (r q : Read) → read_step parts r ≡ Some (Goes q) → In q (initials_from 0 parts)
+goes_to_read : (parts : List Part) (r q : Read) → read_step parts r ≡ Some (LeadsTo q) → In q (initials_from 0 parts)
 goes_to_read parts r q h = by r.expr h
   where
-    at_value : (e : Entity) (o : Option ConstExpr) → initial parts e ≡ o → option_and_then {U = Next Read Read} (λ expr. Some (Goes (record { part = e.part; expr = expr }))) o ≡ Some (Goes q) → In q (initials_from 0 parts)
+    at_value : (e : Entity) (o : Option ConstExpr) → initial parts e ≡ o → option_and_then {U = PathStep Read Read} (λ expr. Some (LeadsTo (record { part = e.part; expr = expr }))) o ≡ Some (LeadsTo q) → In q (initials_from 0 parts)
     at_value e None is k = cc
     at_value e (Some expr) is k = let same : record { part = e.part; expr = expr } ≡ q = cc in subst (λ x. In x (initials_from 0 parts)) same (initial_known parts e expr is)
 
-    at_outside : (o : Option Read) → option_and_then {U = Next Read Read} (λ r. Some (Ends r)) o ≡ Some (Goes q) → In q (initials_from 0 parts)
+    at_outside : (o : Option Read) → option_and_then {U = PathStep Read Read} (λ r. Some (EndsWith r)) o ≡ Some (LeadsTo q) → In q (initials_from 0 parts)
     at_outside None k = cc
     at_outside (Some x) k = cc
 
-    at_end : (o : Option End) → end_step parts o ≡ Some (Goes q) → In q (initials_from 0 parts)
+    at_end : (o : Option End) → end_step parts o ≡ Some (LeadsTo q) → In q (initials_from 0 parts)
     at_end None k = cc
     at_end (Some (Outside s)) k = at_outside (outside_read parts s) k
     at_end (Some (Defined e)) k = at_value e (initial parts e) refl k
 
-    by : (x : ConstExpr) → expr_step parts r.part x ≡ Some (Goes q) → In q (initials_from 0 parts)
+    by : (x : ConstExpr) → expr_step parts r.part x ≡ Some (LeadsTo q) → In q (initials_from 0 parts)
     by (const.Global x) k = at_end (option_and_then (end_of parts) (global_import parts r.part x)) k
     by (const.I32 v) k = cc
     by (const.I64 v) k = cc

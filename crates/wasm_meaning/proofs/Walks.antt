@@ -3,21 +3,21 @@ use Rattle.std.proofs.Common.{◌≡◌, ◌∙◌, ap, subst, refl, ℕ, zero, 
 use Rattle.std.proofs.lemmas.Bool.{cases_lt}
 use Rattle.base_lists.proofs.Pigeons.{pigeons}
 use Rattle.base_lists.proofs.Places.{Has}
-use Rattle.wasm_meaning.specs.Paths.{Next, Ends, Goes, Path, ends, goes, walk_on, walk, In, here, there}
+use Rattle.wasm_meaning.specs.Paths.{PathStep, EndsWith, LeadsTo, Path, ends, goes, walk_on, walk, In, here, there}
 
 in_has : {A : Type 0} {x : A} {xs : List A} → In x xs → Has xs x
 in_has here = (0, refl)
 in_has (there i) = let h = in_has i in (suc h.0, h.1)
 
-module _ {A E : Type 0} (next : A → Option (Next A E)) where
+module _ {A E : Type 0} (next : A → Option (PathStep A E)) where
   pub found : (n : ℕ) (a : A) (e : E) → walk next n a ≡ Some e → Path next a e
   found zero a e h = cc
   found (suc n) a e h = by (next a) refl (found n) h
     where
-      by : (x : Option (Next A E)) → next a ≡ x → ((b : A) (e : E) → walk next n b ≡ Some e → Path next b e) → walk_on (walk next n) x ≡ Some e → Path next a e
+      by : (x : Option (PathStep A E)) → next a ≡ x → ((b : A) (e : E) → walk next n b ≡ Some e → Path next b e) → walk_on (walk next n) x ≡ Some e → Path next a e
       by None is more h = cc
-      by (Some (Ends d)) is more h = let same : d ≡ e = cc in ends (is ∙ ap (λ d. Some (Ends d)) same)
-      by (Some (Goes b)) is more h = goes is (more b e h)
+      by (Some (EndsWith d)) is more h = let same : d ≡ e = cc in ends (is ∙ ap (λ d. Some (EndsWith d)) same)
+      by (Some (LeadsTo b)) is more h = goes is (more b e h)
 
   -- the path from a has n points after the first
   record Exact (n : ℕ) (a : A) : Type 0 where
@@ -39,10 +39,10 @@ module _ {A E : Type 0} (next : A → Option (Next A E)) where
   later (suc n) zero a e l h = absurd (omega (arith, l))
   later (suc n) (suc m) a e l h = by (next a) (λ b. later n m b e (omega (arith, l))) h
     where
-      by : (x : Option (Next A E)) → ((b : A) → walk next n b ≡ Some e → walk next m b ≡ Some e) → walk_on (walk next n) x ≡ Some e → walk_on (walk next m) x ≡ Some e
+      by : (x : Option (PathStep A E)) → ((b : A) → walk next n b ≡ Some e → walk next m b ≡ Some e) → walk_on (walk next n) x ≡ Some e → walk_on (walk next m) x ≡ Some e
       by None more h = cc
-      by (Some (Ends d)) more h = h
-      by (Some (Goes b)) more h = more b h
+      by (Some (EndsWith d)) more h = h
+      by (Some (LeadsTo b)) more h = more b h
 
   nothing : {e : E} {o : Option E} → o ≡ Some e → o ≡ None → ⊥
   nothing h k = cc
@@ -56,9 +56,9 @@ module _ {A E : Type 0} (next : A → Option (Next A E)) where
       by (inr l) (inr k) = omega (arith, l, k)
 
   -- the point after so many
-  abbrev point_on : (A → A) → A → Option (Next A E) → A
-  point_on more a (Some (Goes b)) = more b
-  point_on more a (Some (Ends e)) = a
+  abbrev point_on : (A → A) → A → Option (PathStep A E) → A
+  point_on more a (Some (LeadsTo b)) = more b
+  point_on more a (Some (EndsWith e)) = a
   point_on more a None = a
 
   abbrev point : ℕ → A → A
@@ -67,16 +67,16 @@ module _ {A E : Type 0} (next : A → Option (Next A E)) where
 
   record Further (n : ℕ) (a : A) : Type 0 where
     to : A
-    is : next a ≡ Some (Goes to)
+    is : next a ≡ Some (LeadsTo to)
     rest : Exact n to
 
   further : (n : ℕ) (a : A) → Exact (suc n) a → Further n a
   further n a x = by (next a) refl x.enough x.fewer
     where
-      by : (o : Option (Next A E)) → next a ≡ o → walk_on (walk next (suc n)) o ≡ Some x.end → walk_on (walk next n) o ≡ None → Further n a
+      by : (o : Option (PathStep A E)) → next a ≡ o → walk_on (walk next (suc n)) o ≡ Some x.end → walk_on (walk next n) o ≡ None → Further n a
       by None is h k = absurd (nothing h refl)
-      by (Some (Ends d)) is h k = absurd (nothing refl k)
-      by (Some (Goes b)) is h k = record { to = b; is = is; rest = record { end = x.end; enough = h; fewer = k } }
+      by (Some (EndsWith d)) is h k = absurd (nothing refl k)
+      by (Some (LeadsTo b)) is h k = record { to = b; is = is; rest = record { end = x.end; enough = h; fewer = k } }
 
   point_exact : (i n : ℕ) (a : A) → i ≤ n → Exact n a → Exact (n - i) (point i a)
   point_exact zero n a l x = let e : n ≡ n - 0 = omega arith in subst (λ k. Exact k a) e x
@@ -86,7 +86,7 @@ module _ {A E : Type 0} (next : A → Option (Next A E)) where
       let e : n - i ≡ suc n - suc i = omega arith in
       subst (λ k. Exact k (point (suc i) a)) e (rw f.is (point_exact i n f.to (omega (arith, l)) f.rest))
 
-  module _ (few : List A) (all : (a b : A) → next a ≡ Some (Goes b) → In b few) where
+  module _ (few : List A) (all : (a b : A) → next a ≡ Some (LeadsTo b) → In b few) where
     point_in : (i n : ℕ) (a : A) → i < n → Exact n a → Has few (point (suc i) a)
     point_in i zero a l x = absurd (omega (arith, l))
     point_in zero (suc n) a l x = let f = further n a x in rw f.is (in_has (all a f.to f.is))

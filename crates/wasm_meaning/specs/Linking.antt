@@ -20,7 +20,7 @@ use Rattle.wasm_tree.specs.declared.module.ConstExpr.TheVariants as const
 use Rattle.wasm_tree.specs.declared.module.Module.{Module}
 use Rattle.wasm_tree.specs.Spaces.{space_of_import, space_of_export, index_of_export}
 use Rattle.wasm_meaning.specs.State.{Text, Pair}
-use Rattle.wasm_meaning.specs.Paths.{Next, Ends, Goes, Path, walk}
+use Rattle.wasm_meaning.specs.Paths.{PathStep, EndsWith, LeadsTo, Path, walk}
 
 -- a module, and the name by which others may import from it
 pub record Part : Type 0 where
@@ -103,16 +103,16 @@ pub data End : Type 0 where
   Outside : Site → End
 
 -- from an entity: its part defines it, or it is an import
-abbrev pub entity_step : Entity → Option Site → Next Site End
-entity_step e None = Ends (Defined e)
-entity_step e (Some t) = Goes t
+abbrev pub entity_step : Entity → Option Site → PathStep Site End
+entity_step e None = EndsWith (Defined e)
+entity_step e (Some t) = LeadsTo t
 
 -- from an import: it stays, or is joined with an entity
-abbrev pub joined_step : List Part → Site → Option Entity → Next Site End
-joined_step parts s None = Ends (Outside s)
+abbrev pub joined_step : List Part → Site → Option Entity → PathStep Site End
+joined_step parts s None = EndsWith (Outside s)
 joined_step parts s (Some e) = entity_step e (imported_as parts e)
 
-abbrev pub import_step : List Part → Site → Option (Next Site End)
+abbrev pub import_step : List Part → Site → Option (PathStep Site End)
 import_step parts s = import_at parts s >>= λ i. Some (joined_step parts s (joined parts i))
 
 -- a path of imports and exports leads from an import to its end
@@ -225,17 +225,17 @@ outside_read parts s =
     module_at parts s.part >>= λ m. Some (record { part = s.part; expr = const.Global (space_index m.imports s.import Globals) })
 
 -- from a read through an import: to the value expression of the defined global in which it ends, or to the global.get of what stays
-abbrev pub end_step : List Part → Option End → Option (Next Read Read)
+abbrev pub end_step : List Part → Option End → Option (PathStep Read Read)
 end_step parts None = None
-end_step parts (Some (Outside s)) = outside_read parts s >>= λ r. Some (Ends r)
-end_step parts (Some (Defined e)) = initial parts e >>= λ expr. Some (Goes (record { part = e.part; expr = expr }))
+end_step parts (Some (Outside s)) = outside_read parts s >>= λ r. Some (EndsWith r)
+end_step parts (Some (Defined e)) = initial parts e >>= λ expr. Some (LeadsTo (record { part = e.part; expr = expr }))
 
 -- an expression that reads an import goes on through it, and any other is what is read
-abbrev pub expr_step : List Part → ℕ → ConstExpr → Option (Next Read Read)
+abbrev pub expr_step : List Part → ℕ → ConstExpr → Option (PathStep Read Read)
 expr_step parts p (const.Global x) = end_step parts (global_import parts p x >>= end_of parts)
-expr_step parts p expr = Some (Ends (record { part = p; expr = expr }))
+expr_step parts p expr = Some (EndsWith (record { part = p; expr = expr }))
 
-abbrev pub read_step : List Part → Read → Option (Next Read Read)
+abbrev pub read_step : List Part → Read → Option (PathStep Read Read)
 read_step parts r = expr_step parts r.part r.expr
 
 -- a path through joined globals leads from an expression to what is read

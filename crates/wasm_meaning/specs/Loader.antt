@@ -19,7 +19,7 @@ use Rattle.wasm_meaning.specs.Linking.{same_pair, first_place, pair_of, export_n
 use Rattle.wasm_meaning.specs.Environment.{Environment, Thing, FuncAt, owned_of, flat}
 use Rattle.wasm_meaning.specs.World.{Begun, Filled, or_trapped, own_count, own_store, all_there, address_in, start_in}
 use Rattle.wasm_meaning.specs.InTurn.{Added, added_with, own_thing}
-use Rattle.wasm_meaning.specs.Run.{Run, Event, Move, Out, Transition, Steps, made, transition, fresh_run, after, events_of}
+use Rattle.wasm_meaning.specs.Run.{Run, Event, Move, Out, Transition, Steps, made, transition, fresh_run, run_after, events_of}
 
 -- a module that is loaded, and the imports of the primary that the loader supplies for it, with their types, a slot each
 pub record Secondary : Type 0 where
@@ -28,7 +28,7 @@ pub record Secondary : Type 0 where
 
 pub record LoaderWorld : Type 0 where
   pub primary : Module
-  -- they have their slots one after the other
+  -- they have their slots one run_after the other
   pub secondaries : List Secondary
   -- the table of slots, by its index in the primary
   pub slot_table : ℕ
@@ -52,7 +52,7 @@ abbrev pub placeholders_from : ℕ → List (Pair × FuncType) → List Func
 placeholders_from n [] = []
 placeholders_from n (p ∷ ps) = Placeholder n p.1 ∷ placeholders_from (suc n) ps
 
--- the environment's own entities, and the placeholders after its functions
+-- the environment's own entities, and the placeholders run_after its functions
 abbrev pub store_under : Environment → LoaderWorld → Store
 store_under env w = let s = own_store env in record s { funcs = s.funcs ++ placeholders_from 0 (placeholders_of w) }
 
@@ -84,7 +84,7 @@ begun_under env w = primary_added env w >>= (begun_of env w)
 abbrev pub secondary_added : LoaderWorld → Inst → Module → Store → Option Added
 secondary_added w i m s = added_with (λ x. export_named w.primary.exports x.field >>= (address_in i)) s m
 
--- The store in which a placeholder's call goes on, after the segments of the secondary. Its start, if it has one, is not made.
+-- The store in which a placeholder's call goes on, run_after the segments of the secondary. Its start, if it has one, is not made.
 abbrev pub store_loaded : LoaderWorld → Inst → Module → (is_loaded : Bool) → Store → Filled
 store_loaded w i m true s = record { store = s; trapped = false }
 store_loaded w i m false s = or_trapped s (secondary_added w i m s >>= λ a. Some a.filled)
@@ -93,7 +93,7 @@ store_loaded w i m false s = or_trapped s (secondary_added w i m s >>= λ a. Som
 abbrev pub called_as : FuncType → Store → ℕ → List Val → List Entry → Outcome Next
 called_as t s f vs es = bind (or_ill_typed (type_at s f)) (λ u. cond (same_func_type t u) (enter_at s f vs es) Traps)
 
--- the function in the slot is called with the arguments of the placeholder; where a placeholder still stands there, the call of that one traps (`after`)
+-- the function in the slot is called with the arguments of the placeholder; where a placeholder still stands there, the call of that one traps (`run_after`)
 abbrev pub slot_called : LoaderWorld → Inst → (slot : ℕ) → List Val → List Entry → Store → Outcome Next
 slot_called w i slot vs es s =
     with_entry (placeholders_of w) slot (λ p. with_table (record { store = s; inst = i }) w.slot_table (λ a t. with_entry t.slots slot (λ r. bind (func_ref r) (λ f. called_as p.1 s f vs es))))
@@ -120,7 +120,7 @@ with_loaded q j r = record q { run = r; loaded = slice_set q.loaded j true }
 -- over this run, with the entries that wait for the call: where it traps, these go down to the nearest mark
 abbrev pub secondary_called : LoaderWorld → LoaderRun → Run → Inst → (slot : ℕ) → List Val → List Entry → (secondary : ℕ) → Filled → LoaderRun × Option Event
 secondary_called w q r i slot vs es j f =
-    let o = after (record r { store = f.store; entries = es }) (call_answered w i slot vs es f) in (with_loaded q j o.0, o.1)
+    let o = run_after (record r { store = f.store; entries = es }) (call_answered w i slot vs es f) in (with_loaded q j o.0, o.1)
 
 -- None where there is no instance of the primary or no such slot: then no placeholder is called.
 abbrev pub placeholder_called : LoaderWorld → LoaderRun → Run → (slot : ℕ) → List Val → Store → List Entry → Option (LoaderRun × Option Event)
@@ -129,7 +129,7 @@ placeholder_called w q r slot vs s es =
     Some (secondary_called w q r i slot vs es j (store_loaded w i x.«module» is_loaded s))
 
 abbrev pub loader_made : LoaderWorld → LoaderRun → Transition → LoaderRun × Option Event
-loader_made w q (Steps r (Gives (CallsPlaceholder slot vs s es))) = unwrap_or (placeholder_called w q r slot vs s es) (loader_with q (after (record r { store = s; entries = es }) Traps))
+loader_made w q (Steps r (Gives (CallsPlaceholder slot vs s es))) = unwrap_or (placeholder_called w q r slot vs s es) (loader_with q (run_after (record r { store = s; entries = es }) Traps))
 loader_made w q t = loader_with q (made t)
 
 -- A placeholder's call is answered in the one step that makes it, the loading included: whether code makes it, a move (`Call` or `Invoke`) or a start. Every other

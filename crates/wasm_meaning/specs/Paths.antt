@@ -1,22 +1,22 @@
 -- Paths: a point has no way on, or ends with something, or goes on to another point.
 use Rattle.std.proofs.Common.{◌≡◌, ℕ, zero, suc, List, ◌∷◌, Option, Some, None}
 
-pub data Next (A E : Type 0) : Type 0 where
-  Ends : E → Next A E
-  Goes : A → Next A E
+pub data PathStep (A E : Type 0) : Type 0 where
+  EndsWith : E → PathStep A E
+  LeadsTo : A → PathStep A E
 
 -- a path leads from a point to what it ends with
-pub data Path {A E : Type 0} (next : A → Option (Next A E)) : A → E → Type 0 where
-  ends : {a : A} {e : E} → next a ≡ Some (Ends e) → Path next a e
-  goes : {a b : A} {e : E} → next a ≡ Some (Goes b) → Path next b e → Path next a e
+pub data Path {A E : Type 0} (next : A → Option (PathStep A E)) : A → E → Type 0 where
+  ends : {a : A} {e : E} → next a ≡ Some (EndsWith e) → Path next a e
+  goes : {a b : A} {e : E} → next a ≡ Some (LeadsTo b) → Path next b e → Path next a e
 
-abbrev pub walk_on : {A E : Type 0} → (A → Option E) → Option (Next A E) → Option E
+abbrev pub walk_on : {A E : Type 0} → (A → Option E) → Option (PathStep A E) → Option E
 walk_on more None = None
-walk_on more (Some (Ends e)) = Some e
-walk_on more (Some (Goes b)) = more b
+walk_on more (Some (EndsWith e)) = Some e
+walk_on more (Some (LeadsTo b)) = more b
 
 -- what a path of at most so many points ends with
-abbrev pub walk : {A E : Type 0} → (A → Option (Next A E)) → (most : ℕ) → A → Option E
+abbrev pub walk : {A E : Type 0} → (A → Option (PathStep A E)) → (most : ℕ) → A → Option E
 walk next zero a = None
 walk next (suc most) a = walk_on (walk next most) (next a)
 

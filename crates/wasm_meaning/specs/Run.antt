@@ -138,14 +138,14 @@ kind_of_growth (GrowMemory a n) = Memories
 kind_of_growth (GrowTable a n v) = Tables
 
 -- nothing supplies placeholders here, so that a call of one traps; so it does under a loader where one still stands in its slot
-abbrev pub after : Run → Outcome Next → Out
-after r (Gives (Ran s es)) = (record r { store = s; entries = es }, None)
-after r (Gives (CallsOwn pair ty vs s es)) = showing r s es vs (Asked pair ty)
-after r (Gives (WaitsGrowth g size count s es)) = (record r { store = s; entries = es }, Some (GrowAsked (kind_of_growth g) size count))
-after r (Gives (CallsPlaceholder slot vs s es)) = trapped_to (record r { store = s; entries = es }) (to_mark es)
-after r (Gives (EndsCall vs s es)) = showing r s es vs Returned
-after r Traps = trapped_to r (to_mark r.entries)
-after r IllTyped = trapped_to r (to_mark r.entries)
+abbrev pub run_after : Run → Outcome Next → Out
+run_after r (Gives (Ran s es)) = (record r { store = s; entries = es }, None)
+run_after r (Gives (CallsOwn pair ty vs s es)) = showing r s es vs (Asked pair ty)
+run_after r (Gives (WaitsGrowth g size count s es)) = (record r { store = s; entries = es }, Some (GrowAsked (kind_of_growth g) size count))
+run_after r (Gives (CallsPlaceholder slot vs s es)) = trapped_to (record r { store = s; entries = es }) (to_mark es)
+run_after r (Gives (EndsCall vs s es)) = showing r s es vs Returned
+run_after r Traps = trapped_to r (to_mark r.entries)
+run_after r IllTyped = trapped_to r (to_mark r.entries)
 
 -- ---- transitions ----
 
@@ -155,7 +155,7 @@ pub data Transition : Type 0 where
   Makes : Out → Transition
 
 abbrev pub made : Transition → Out
-made (Steps r n) = after r n
+made (Steps r n) = run_after r n
 made (Makes o) = o
 
 -- ---- moves: what one comes to, or none where it is not taken ----

@@ -267,79 +267,79 @@ pub record Filled : Type 0 where
   pub trapped : Bool
 
 -- a segment with its address, its part's instance and its part
-pub record Task (A : Type 0) : Type 0 where
+pub record PlacedSegment (A : Type 0) : Type 0 where
   pub part : ℕ
   pub inst : Inst
   pub address : ℕ
   pub segment : A
 
-abbrev pub tasks_in : {A : Type 0} → ℕ → Inst → List ℕ → List A → List (Task A)
-tasks_in p i (n ∷ ns) (x ∷ xs) = record { part = p; inst = i; address = n; segment = x } ∷ tasks_in p i ns xs
-tasks_in p i _ _ = []
+abbrev pub segments_in : {A : Type 0} → ℕ → Inst → List ℕ → List A → List (PlacedSegment A)
+segments_in p i (n ∷ ns) (x ∷ xs) = record { part = p; inst = i; address = n; segment = x } ∷ segments_in p i ns xs
+segments_in p i _ _ = []
 
-abbrev pub elem_tasks : ℕ → List Part → List Inst → List (Task ElemSeg)
-elem_tasks p (part ∷ parts) (i ∷ is) = tasks_in p i i.elems part.«module».elems ++ elem_tasks (suc p) parts is
-elem_tasks p _ _ = []
+abbrev pub placed_elems : ℕ → List Part → List Inst → List (PlacedSegment ElemSeg)
+placed_elems p (part ∷ parts) (i ∷ is) = segments_in p i i.elems part.«module».elems ++ placed_elems (suc p) parts is
+placed_elems p _ _ = []
 
-abbrev pub data_tasks : ℕ → List Part → List Inst → List (Task DataSeg)
-data_tasks p (part ∷ parts) (i ∷ is) = tasks_in p i i.datas part.«module».datas ++ data_tasks (suc p) parts is
-data_tasks p _ _ = []
+abbrev pub placed_datas : ℕ → List Part → List Inst → List (PlacedSegment DataSeg)
+placed_datas p (part ∷ parts) (i ∷ is) = segments_in p i i.datas part.«module».datas ++ placed_datas (suc p) parts is
+placed_datas p _ _ = []
 
 abbrev pub or_trapped : Store → Option Filled → Filled
 or_trapped s (Some f) = f
 or_trapped s None = record { store = s; trapped = true }
 
 -- the references of a segment are copied into a table, and the segment is dropped
-abbrev pub fill_table : Store → (segment table : ℕ) → Table → Option (List RefVal) → Filled
-fill_table s segment a t (Some slots) = record { store = changed (changed s (SetTable a (record t { slots = slots }))) (DropElem segment); trapped = false }
-fill_table s segment a t None = record { store = s; trapped = true }
+abbrev pub copy_slots : Store → (segment table : ℕ) → Table → Option (List RefVal) → Filled
+copy_slots s segment a t (Some slots) = record { store = changed (changed s (SetTable a (record t { slots = slots }))) (DropElem segment); trapped = false }
+copy_slots s segment a t None = record { store = s; trapped = true }
 
 abbrev pub copy_elem : Store → (segment : ℕ) → Inst → (table : ℕ) → (offset : Option ℕ) → Filled
 copy_elem s segment i x offset =
-    or_trapped s (offset >>= λ n. slice_get i.tables x >>= λ a. slice_get s.tables a >>= λ t. slice_get s.elems segment >>= λ e. Some (fill_table s segment a t (overwrite t.slots n e.items)))
+    or_trapped s (offset >>= λ n. slice_get i.tables x >>= λ a. slice_get s.tables a >>= λ t. slice_get s.elems segment >>= λ e. Some (copy_slots s segment a t (overwrite t.slots n e.items)))
 
 -- by its mode, where constant expressions have these values
-abbrev pub run_elem_with : (ConstExpr → Option Val) → Store → Task ElemSeg → ElemMode → Filled
+abbrev pub run_elem_with : (ConstExpr → Option Val) → Store → PlacedSegment ElemSeg → ElemMode → Filled
 run_elem_with value s task (elem.Active x offset) = copy_elem s task.address task.inst x (value offset >>= num_of W32)
 run_elem_with value s task _ = record { store = s; trapped = false }
 
-abbrev pub run_elem_mode : Environment → List Part → List Inst → Store → Task ElemSeg → ElemMode → Filled
+abbrev pub run_elem_mode : Environment → List Part → List Inst → Store → PlacedSegment ElemSeg → ElemMode → Filled
 run_elem_mode env parts insts s task = run_elem_with (value_of env parts insts task.part) s task
 
-abbrev pub run_elem : Environment → List Part → List Inst → Store → Task ElemSeg → Filled
+abbrev pub run_elem : Environment → List Part → List Inst → Store → PlacedSegment ElemSeg → Filled
 run_elem env parts insts s task = run_elem_mode env parts insts s task task.segment.mode
 
 -- the bytes of a segment are copied into a memory, and the segment is dropped
-abbrev pub fill_memory : Store → (segment memory : ℕ) → Memory → Option (List ℕ) → Filled
-fill_memory s segment a m (Some bytes) = record { store = changed (changed s (SetMemory a (record m { bytes = bytes }))) (DropData segment); trapped = false }
-fill_memory s segment a m None = record { store = s; trapped = true }
+abbrev pub copy_bytes : Store → (segment memory : ℕ) → Memory → Option (List ℕ) → Filled
+copy_bytes s segment a m (Some bytes) = record { store = changed (changed s (SetMemory a (record m { bytes = bytes }))) (DropData segment); trapped = false }
+copy_bytes s segment a m None = record { store = s; trapped = true }
 
 abbrev pub copy_data : Store → (segment : ℕ) → Inst → (memory : ℕ) → (offset : Option ℕ) → Filled
 copy_data s segment i x offset =
-    or_trapped s (offset >>= λ n. slice_get i.mems x >>= λ a. slice_get s.mems a >>= λ m. slice_get s.datas segment >>= λ d. Some (fill_memory s segment a m (overwrite m.bytes n d.bytes)))
+    or_trapped s (offset >>= λ n. slice_get i.mems x >>= λ a. slice_get s.mems a >>= λ m. slice_get s.datas segment >>= λ d. Some (copy_bytes s segment a m (overwrite m.bytes n d.bytes)))
 
 -- by its mode, where constant expressions have these values
-abbrev pub run_data_with : (ConstExpr → Option Val) → Store → Task DataSeg → DataMode → Filled
+abbrev pub run_data_with : (ConstExpr → Option Val) → Store → PlacedSegment DataSeg → DataMode → Filled
 run_data_with value s task (data'.Active x offset) = copy_data s task.address task.inst x (value offset >>= num_of W32)
 run_data_with value s task data'.Passive = record { store = s; trapped = false }
 
-abbrev pub run_data_mode : Environment → List Part → List Inst → Store → Task DataSeg → DataMode → Filled
+abbrev pub run_data_mode : Environment → List Part → List Inst → Store → PlacedSegment DataSeg → DataMode → Filled
 run_data_mode env parts insts s task = run_data_with (value_of env parts insts task.part) s task
 
-abbrev pub run_data : Environment → List Part → List Inst → Store → Task DataSeg → Filled
+abbrev pub run_data : Environment → List Part → List Inst → Store → PlacedSegment DataSeg → Filled
 run_data env parts insts s task = run_data_mode env parts insts s task task.segment.mode
 
 abbrev pub and_then : Filled → (Store → Filled) → Filled
 and_then filled f = cond filled.trapped filled (f filled.store)
 
 -- one after the other, until one is out of bounds
-abbrev pub in_turn : {A : Type 0} → (Store → A → Filled) → Store → List A → Filled
-in_turn f s [] = record { store = s; trapped = false }
-in_turn f s (x ∷ xs) = and_then (f s x) (λ s. in_turn f s xs)
+abbrev pub one_by_one : {A : Type 0} → (Store → A → Filled) → Store → List A → Filled
+one_by_one f s [] = record { store = s; trapped = false }
+one_by_one f s (x ∷ xs) = and_then (f s x) (λ s. one_by_one f s xs)
 
 abbrev pub segments : Environment → List Part → List Inst → Store → Filled
 segments env parts insts s =
-    and_then (in_turn (run_elem env parts insts) s (elem_tasks 0 parts insts)) (λ s. in_turn (run_data env parts insts) s (data_tasks 0 parts insts))
+    and_then (one_by_one (run_elem env parts insts) s (placed_elems 0 parts insts)) (λ s. one_by_one (run_data env parts insts) s (placed_datas 0 parts insts))
 
 -- ---- instantiation at once ----
 

@@ -7,8 +7,8 @@ ghost use Rattle.wasm_read_spec.specs.Contents.{placed, Gives, GivesAll, entry_a
 
 use std::alloc::Global;
 use wasm_bytes::{Cursor, Items};
-use wasm_read_spec::{Fault, ReadFault};
 use wasm_read_items::{Pile, read_code, read_sized};
+use wasm_read_spec::{Fault, ReadFault};
 use wasm_tree::{Func, MOST_FUNCTIONS, Which};
 
 /// The fault of a section, or of a function's entry in it.

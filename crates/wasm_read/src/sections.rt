@@ -9,8 +9,8 @@ ghost use Rattle.wasm_read_spec.specs.Contents.{GivesAfter, custom_at, section_a
 use crate::codes::{place, read_codes};
 use std::alloc::Global;
 use wasm_bytes::Cursor;
-use wasm_read_spec::{Fault, Parts, ReadFault};
 use wasm_read_items::{Pile, read_name, read_whole};
+use wasm_read_spec::{Fault, Parts, ReadFault};
 use wasm_tree::{Import, Which};
 
 /// What the sections hold that were read so far.

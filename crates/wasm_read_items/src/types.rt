@@ -63,7 +63,7 @@ pub fn read_tag(cursor: &mut Cursor<'_>, tag: u8) -> Result<(), Fault>
 impl Spelled for ValType {
     ghost reading = { val_at };
 
-    #[tactic(auto, unfolding(wasm_read_spec::specs::Reading::val_at, wasm_read_spec::specs::Values::val_code))]
+    #[tactic(auto, unfolding(wasm_read_spec::specs::Reading::val_at, wasm_read_spec::specs::Values::val_of_code))]
     fn read(_alloc: Global, cursor: &mut Cursor<'_>) -> Result<ValType, Fault> {
         match cursor.byte()? {
             0x7F => Ok(ValType::I32),
@@ -79,7 +79,7 @@ impl Spelled for ValType {
 impl Spelled for RefType {
     ghost reading = { ref_at };
 
-    #[tactic(auto, unfolding(wasm_read_spec::specs::Reading::ref_at, wasm_read_spec::specs::Values::ref_code))]
+    #[tactic(auto, unfolding(wasm_read_spec::specs::Reading::ref_at, wasm_read_spec::specs::Values::ref_of_code))]
     fn read(_alloc: Global, cursor: &mut Cursor<'_>) -> Result<RefType, Fault> {
         match cursor.byte()? {
             0x70 => Ok(RefType::Func),
@@ -159,7 +159,7 @@ impl Spelled for TableType {
 }
 
 /// A global's mutability (WebAssembly Core 2.0, section 5.3.10).
-#[tactic(auto, unfolding(wasm_read_spec::specs::Reading::mut_at, wasm_read_spec::specs::Values::mut_code))]
+#[tactic(auto, unfolding(wasm_read_spec::specs::Reading::mut_at, wasm_read_spec::specs::Values::mut_of_code))]
 fn read_mutable(cursor: &mut Cursor<'_>) -> Result<bool, Fault>
     ensures gives { Gives result cursor.new (mut_at cursor.old) }
     ensures shorter { OnOk result (length cursor.new < length cursor.old) }

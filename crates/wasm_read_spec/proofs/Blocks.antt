@@ -10,33 +10,33 @@ use Rattle.wasm_read_spec.specs.declared.token.Opener.{Opener}
 use Rattle.wasm_read_spec.specs.declared.token.Token.TheVariants.{Open, Else, End, Plain}
 use Rattle.wasm_read_spec.specs.declared.token.Sequence.{Sequence}
 use Rattle.wasm_read_spec.specs.Reading.{Fails}
-use Rattle.wasm_read_spec.specs.BodyReading.{Read, behind, block_at, enclosed, token_at, sequence_at}
+use Rattle.wasm_read_spec.specs.BodyReading.{ReadResult, behind, block_at, enclosed, token_at, sequence_at}
 use Rattle.wasm_read_spec.proofs.Loops.{fails_through}
 
-pub behind_none : (r : Read Sequence) → behind [] r ≡ r
+pub behind_none : (r : ReadResult Sequence) → behind [] r ≡ r
 behind_none (Ok r) = refl
 behind_none (Err e) = refl
 
-pub behind_behind : (a b : List Instr) (r : Read Sequence) → behind a (behind b r) ≡ behind (a ++ b) r
+pub behind_behind : (a b : List Instr) (r : ReadResult Sequence) → behind a (behind b r) ≡ behind (a ++ b) r
 behind_behind a b (Ok r) = ap (λ xs. Ok (record { items = xs; by_else = r.0.by_else }, r.1)) (sym (append_assoc a b r.0.items))
 behind_behind a b (Err e) = refl
 
-pub behind_fails : (e : Fault) (a : List Instr) (r : Read Sequence) → Fails e r → Fails e (behind a r)
+pub behind_fails : (e : Fault) (a : List Instr) (r : ReadResult Sequence) → Fails e r → Fails e (behind a r)
 behind_fails NoMemory a r h = tt
 behind_fails Malformed a r h = rw h
 behind_fails Unsupported a r h = rw h
 behind_fails (Limit w) a r h = rw h
 
-pub block_none : (next : ℕ → List ℕ → Read Sequence) (deeper : ℕ) (k : Opener) (ty : BlockType) (bs : List ℕ) → deeper ≡ 0 → block_at next deeper k ty bs ≡ Err (Limit Nesting)
+pub block_none : (next : ℕ → List ℕ → ReadResult Sequence) (deeper : ℕ) (k : Opener) (ty : BlockType) (bs : List ℕ) → deeper ≡ 0 → block_at next deeper k ty bs ≡ Err (Limit Nesting)
 unfolding block_at
 block_none next zero k ty bs e = refl
 block_none next (suc d) k ty bs e = absurd (omega arith)
 
-block_suc : (next : ℕ → List ℕ → Read Sequence) (deeper d : ℕ) (k : Opener) (ty : BlockType) (bs : List ℕ) → deeper ≡ suc d → block_at next deeper k ty bs ≡ (next d bs >>= enclosed k ty (next d))
+block_suc : (next : ℕ → List ℕ → ReadResult Sequence) (deeper d : ℕ) (k : Opener) (ty : BlockType) (bs : List ℕ) → deeper ≡ suc d → block_at next deeper k ty bs ≡ (next d bs >>= enclosed k ty (next d))
 unfolding block_at
 block_suc next deeper d k ty bs e = rw e
 
-pub block_some : (next : ℕ → List ℕ → Read Sequence) (deeper : ℕ) (k : Opener) (ty : BlockType) (bs : List ℕ) → 0 < deeper → block_at next deeper k ty bs ≡ (next (deeper - 1) bs >>= enclosed k ty (next (deeper - 1)))
+pub block_some : (next : ℕ → List ℕ → ReadResult Sequence) (deeper : ℕ) (k : Opener) (ty : BlockType) (bs : List ℕ) → 0 < deeper → block_at next deeper k ty bs ≡ (next (deeper - 1) bs >>= enclosed k ty (next (deeper - 1)))
 block_some next deeper k ty bs h = block_suc next deeper (deeper - 1) k ty bs (omega arith)
 
 module _ (many : Bool) (deeper : ℕ) where

@@ -19,7 +19,7 @@ use Rattle.wasm_read_spec.specs.declared.token.Token.TheVariants.{Open, Else, En
 use Rattle.wasm_read_spec.specs.declared.token.Sequence.{Sequence}
 use Rattle.wasm_read_spec.specs.Tokens.{SpellsToken}
 use Rattle.wasm_read_spec.specs.Bodies.{depth_of}
-use Rattle.wasm_read_spec.specs.BodyReading.{Read, behind, token_at, block_at, after_token, sequence_at, whole, body_at}
+use Rattle.wasm_read_spec.specs.BodyReading.{ReadResult, behind, token_at, block_at, after_token, sequence_at, whole, body_at}
 use Rattle.wasm_read_spec.proofs.Exact.{err_ok}
 use Rattle.wasm_read_spec.proofs.TokenLaws.{token_sound, token_complete}
 use Rattle.wasm_read_spec.proofs.Leaves.{of_token, flat}
@@ -169,11 +169,11 @@ module _ (many : Bool) where
   abbrev pub Node : ℕ → Opener → BlockType → Instr → List ℕ → List ℕ → Type 0
   Node d k ty i bytes rest = (mid : List Token) × ((ts : List Token) (is : List Instr) → NestsIn d ts is → NestsIn d (Open k ty ∷ (mid ++ ts)) (i ∷ is)) × Took (λ text. Each (SpellsToken many) text mid) bytes rest
 
-  behind_ok : (a : List Instr) (r : Read Sequence) (s : Sequence) (rest : List ℕ) → behind a r ≡ Ok (s, rest) → (t : Sequence) × (r ≡ Ok (t, rest)) × (record { items = a ++ t.items; by_else = t.by_else } ≡ s)
+  behind_ok : (a : List Instr) (r : ReadResult Sequence) (s : Sequence) (rest : List ℕ) → behind a r ≡ Ok (s, rest) → (t : Sequence) × (r ≡ Ok (t, rest)) × (record { items = a ++ t.items; by_else = t.by_else } ≡ s)
   behind_ok a (Ok p) s rest e = let q = ok_pair {E = Fault} _ s p.1 rest e in (p.0, ap (λ xs. Ok (p.0, xs)) q.1, q.0)
   behind_ok a (Err w) s rest e = cc
 
-  closed_by : (b : Bool) (x i : Instr) (mid rest : List ℕ) → ◌≡◌ {A = Read Instr} (cond b (Err Malformed) (Ok (x, mid))) (Ok (i, rest)) → (b ≡ false) × (x ≡ i) × (mid ≡ rest)
+  closed_by : (b : Bool) (x i : Instr) (mid rest : List ℕ) → ◌≡◌ {A = ReadResult Instr} (cond b (Err Malformed) (Ok (x, mid))) (Ok (i, rest)) → (b ≡ false) × (x ≡ i) × (mid ≡ rest)
   closed_by true x i mid rest e = absurd (err_ok Malformed _ e)
   closed_by false x i mid rest e = let q = ok_pair {E = Fault} x i mid rest e in (refl, q.0, q.1)
 
@@ -194,7 +194,7 @@ module _ (many : Bool) where
   pub one_token : (t : Token) (bytes rest : List ℕ) → Took (λ x. SpellsToken many x t) bytes rest → Took (λ x. Each (SpellsToken many) x (t ∷ [])) bytes rest
   one_token t bytes rest k = (k.0, (k.0, [], k.1, refl, sym (append-nil k.0)), k.2)
 
-  module _ (next : ℕ → List ℕ → Read Sequence) (ih : (d : ℕ) (bytes : List ℕ) (s : Sequence) (rest : List ℕ) → IsBytes bytes → next d bytes ≡ Ok (s, rest) → Found d bytes s rest) where
+  module _ (next : ℕ → List ℕ → ReadResult Sequence) (ih : (d : ℕ) (bytes : List ℕ) (s : Sequence) (rest : List ℕ) → IsBytes bytes → next d bytes ≡ Ok (s, rest) → Found d bytes s rest) where
     pub block_sound : (d : ℕ) (k : Opener) (ty : BlockType) (bytes : List ℕ) (i : Instr) (rest : List ℕ) → IsBytes bytes → block_at next d k ty bytes ≡ Ok (i, rest) → Node d k ty i bytes rest
     unfolding block_at
     block_sound zero k ty bytes i rest small e = absurd (err_ok (Limit Nesting) _ e)

@@ -19,7 +19,7 @@ use Rattle.wasm_read_spec.specs.declared.token.Token.TheVariants.{Open, Else, En
 use Rattle.wasm_read_spec.specs.declared.token.Sequence.{Sequence}
 use Rattle.wasm_read_spec.specs.Tokens.{SpellsToken}
 use Rattle.wasm_read_spec.specs.Stops.{Stop, Over, LocalsStop, TokenStops, LeaveOpen, nested, in_block, in_else, NestingStops, BodyStops, CodeStops}
-use Rattle.wasm_read_spec.specs.BodyReading.{Read, behind, token_at, block_at, after_token, sequence_at, whole, body_at, closed, enclosed, code_at, code_of}
+use Rattle.wasm_read_spec.specs.BodyReading.{ReadResult, behind, token_at, block_at, after_token, sequence_at, whole, body_at, closed, enclosed, code_at, code_of}
 use Rattle.wasm_read_spec.specs.Reading.{locals_at}
 use Rattle.wasm_read_spec.proofs.TokenLaws.{token_sound, token_complete}
 use Rattle.wasm_read_spec.proofs.NestLaws.{to_in, from_in}
@@ -67,7 +67,7 @@ module _ (many : Bool) where
 
   -- ---- a fault that is read is a misspelling or a stop
 
-  behind_err : (a : List Instr) (r : Read Sequence) (e : Fault) → behind a r ≡ Err e → r ≡ Err e
+  behind_err : (a : List Instr) (r : ReadResult Sequence) (e : Fault) → behind a r ≡ Err e → r ≡ Err e
   behind_err a (Ok p) e h = cc
   behind_err a (Err w) e h = ap Err (same_err {A = Sequence × List ℕ} w e h)
 
@@ -161,7 +161,7 @@ module _ (many : Bool) where
   abbrev Meets : ℕ → List ℕ → Stop → Type 0
   Meets d bytes s = (n : ℕ) → length bytes ≤ n → sequence_at many n d bytes ≡ Err (fault_of s)
 
-  behind_met : (a : List Instr) (r : Read Sequence) (e : Fault) → r ≡ Err e → behind a r ≡ Err e
+  behind_met : (a : List Instr) (r : ReadResult Sequence) (e : Fault) → r ≡ Err e → behind a r ≡ Err e
   behind_met a r e h = rw h
 
   token_met : (d : ℕ) (bytes : List ℕ) (s : Stop) → TokenStops s bytes → Meets d bytes s

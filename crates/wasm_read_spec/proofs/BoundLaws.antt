@@ -18,10 +18,10 @@ use Rattle.wasm_tree.specs.Limits.{limit}
 use Rattle.wasm_tree.specs.declared.which.Which.TheVariants.{Types, Imports, Functions, Tables, Memories, Globals, Exports, ElementSegments, DataSegments, Locals, Parameters}
 use Rattle.wasm_read_spec.specs.declared.parts.Parts.{Parts}
 use Rattle.base_lists.specs.Every.{Every}
-use Rattle.wasm_read_spec.specs.Words.{Never, Made, When, Any, Few, Limited, WhenSmall}
+use Rattle.wasm_read_spec.specs.SpellingForms.{Never, Made, When, Any, Few, Limited, WhenSmall}
 use Rattle.wasm_read_spec.specs.Values.{SmallFuncType}
 use Rattle.wasm_read_spec.specs.Bodies.{SpellsEntry, SmallCode}
-use Rattle.wasm_read_spec.specs.Files.{nothing, with_types, with_imports, with_func_types, with_tables, with_mems, with_globals, with_exports, with_start, with_elems, with_codes, with_datas, with_count, SpellsCustom, section_form, small_form, SmallSection, Contents, typed, tree_of, Spells, Within}
+use Rattle.wasm_read_spec.specs.Files.{nothing, with_types, with_imports, with_func_types, with_tables, with_mems, with_globals, with_exports, with_start, with_elems, with_codes, with_datas, with_count, SpellsCustom, section_form, small_form, SectionIsSmall, Contents, typed, tree_of, Spells, Within}
 use Rattle.wasm_read_spec.proofs.NestLaws.{body_zero}
 
 -- each list of the parts is within its limit
@@ -76,7 +76,7 @@ small_kept many p id s =
     (keep_when (id == 12) (keep_free (with_count p) (λ x. record { types = s.types; imports = s.imports; func_types = s.func_types; tables = s.tables; mems = s.mems; globals = s.globals; exports = s.exports; elems = s.elems; codes = s.codes; datas = s.datas }))
     keep_never))))))))))))
 
-small_contents : (many : Bool) (p : Parts) (ss : List Section) (q : Parts) → Small p → Contents many p ss q → Every (SmallSection many) ss → Small q
+small_contents : (many : Bool) (p : Parts) (ss : List Section) (q : Parts) → Small p → Contents many p ss q → Every (SectionIsSmall many) ss → Small q
 small_contents many p [] q s h k = subst Small h s
 small_contents many p (t ∷ ss) q s h k = small_contents many h.0 ss q ((small_kept many p t.0 s).keep t.1 h.0 h.1 k.0) h.2 k.1
 

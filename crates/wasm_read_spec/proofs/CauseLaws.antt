@@ -14,7 +14,7 @@ use Rattle.wasm_read_spec.specs.declared.fault.Fault.TheVariants as fault
 use Rattle.wasm_read_spec.specs.declared.fault.ReadFault.{ReadFault}
 use Rattle.wasm_read_spec.specs.declared.fault.ReadFault.TheVariants.{NoMemory, NotModule, Malformed, MalformedBody, Unsupported, Limit}
 use Rattle.wasm_read_spec.specs.declared.parts.Parts.{Parts}
-use Rattle.wasm_read_spec.specs.Files.{nothing, SmallSection, Contents}
+use Rattle.wasm_read_spec.specs.Files.{nothing, SectionIsSmall, Contents}
 use Rattle.wasm_read_spec.specs.Stops.{Stop, NotSupported, Over}
 use Rattle.wasm_read_spec.specs.BodyReading.{code_at}
 use Rattle.wasm_read_spec.specs.Contents.{placed, codes_at, section_at, contents_at, agrees, framed_at, parts_at, read_at, read_fault}
@@ -32,7 +32,7 @@ use Rattle.wasm_read_spec.proofs.SectionStops.{InnerFault, section_tells, entry_
 
 -- ---- the contents of the sections, one of which has a fault
 
-contents_met : (many : Bool) (front : List Section) (n : ℕ) (p q : Parts) (s : Section) (back : List Section) (e : ReadFault) → Contents many p front q → Every (SmallSection many) front → section_at many (n + length front) q s ≡ Err e →
+contents_met : (many : Bool) (front : List Section) (n : ℕ) (p q : Parts) (s : Section) (back : List Section) (e : ReadFault) → Contents many p front q → Every (SectionIsSmall many) front → section_at many (n + length front) q s ≡ Err e →
     contents_at many n p (front ++ s ∷ back) ≡ Err e
 unfolding contents_at
 contents_met many [] n p q s back e h k bad = let same : n + 0 ≡ n = omega arith in rw h (rw (← same, bad))
@@ -54,7 +54,7 @@ record Stopped (many : Bool) (n : ℕ) (p : Parts) (ss : List Section) (e : Read
   parts : Parts
   all : ss ≡ front ++ here ∷ back
   spelled : Contents many p front parts
-  within : Every (SmallSection many) front
+  within : Every (SectionIsSmall many) front
   bytes : IsBytes here.1
   stops : section_at many (n + length front) parts here ≡ Err e
 

@@ -2,7 +2,7 @@
 use Rattle.std.proofs.Common.{◌≡◌, ℕ, List, [], ◌∷◌, ◌++◌, length, Bool, ◌⊎◌, inl, inr, refl, sym, ap, ◌∙◌, subst, arith, append_assoc, append-nil}
 use Rattle.std.specs.Prelude.{◌≢◌}
 use Rattle.wasm_bytes.specs.Joins.{Sized}
-use Rattle.wasm_bytes.specs.Frames.{Section, header, Frame, Frames, Framed, after}
+use Rattle.wasm_bytes.specs.Frames.{Section, header, Frame, Frames, Framed, order_after}
 use Rattle.wasm_tree.specs.declared.module.Module.{Module}
 use Rattle.wasm_read_spec.specs.Files.{Spells}
 use Rattle.wasm_read_spec.specs.Cut.{EndsWithAFrame}
@@ -35,7 +35,7 @@ frames_first (t ∷ ts) [] last text rest bytes e f g =
 frames_first (t ∷ ts) (s ∷ ss) last text rest bytes e f g =
     let whole : g.0 ++ g.1 ≡ f.0 ++ (f.1 ++ rest) = sym g.4 ∙ e ∙ ap (λ z. z ++ rest) f.4 ∙ append_assoc f.0 f.1 rest in
     let c = frame_same last g.0 f.0 g.1 (f.1 ++ rest) s t whole g.2 f.2 in
-    let later = frames_first ts ss (after last t.0) f.1 rest g.1 c.1 f.3 (subst (λ (z : Section). Frames (after last z.0) g.1 ss) c.0 g.3) in
+    let later = frames_first ts ss (order_after last t.0) f.1 rest g.1 c.1 f.3 (subst (λ (z : Section). Frames (order_after last z.0) g.1 ss) c.0 g.3) in
     (later.0, ap (λ z. z ∷ ss) c.0 ∙ ap (λ zs. t ∷ zs) later.1)
 
 -- the last of some

@@ -15,7 +15,7 @@ use Rattle.wasm_read_spec.specs.declared.fault.Fault.{Fault}
 use Rattle.wasm_read_spec.specs.declared.fault.ReadFault.{ReadFault}
 use Rattle.wasm_read_spec.specs.declared.fault.ReadFault.TheVariants.{Malformed, Limit}
 use Rattle.base_lists.specs.Every.{Every}
-use Rattle.wasm_read_spec.specs.Words.{Any, Few}
+use Rattle.wasm_read_spec.specs.SpellingForms.{Any, Few}
 use Rattle.wasm_read_spec.specs.Bodies.{SpellsGroup, SpellsCode, SpellsEntry, SmallCode}
 use Rattle.wasm_read_spec.specs.Reading.{u32_at, sized_at, locals_at, each_from}
 use Rattle.wasm_read_spec.specs.BodyReading.{body_at, code_of, code_at}

@@ -17,7 +17,7 @@ use Rattle.wasm_tree.specs.Limits.{limit}
 use Rattle.wasm_read_spec.specs.declared.fault.Fault.{Fault}
 use Rattle.wasm_read_spec.specs.declared.fault.Fault.TheVariants.{Malformed, Limit}
 use Rattle.base_lists.specs.Every.{Every}
-use Rattle.wasm_read_spec.specs.Words.{S32, S64, Byte, Coded, Just, Never, Both, Made, Chosen, When, After, Closed, Any, Few}
+use Rattle.wasm_read_spec.specs.SpellingForms.{S32, S64, Byte, Coded, Just, Never, Both, Made, Chosen, When, After, Closed, Any, Few}
 use Rattle.wasm_read_spec.specs.Reading.{Reader, or_malformed, byte_at, u32_at, s32_at, s64_at, name_at, sized_at, just_at, fault_at, pair_at, mapped_at, chosen_at, when_at, coded_at, tag_at, tagged_at, closed_at, each_from, each_at, list_at, vector_at}
 
 -- ---- tools

@@ -7,7 +7,7 @@ use Rattle.std.specs.Prelude.{Err}
 use Rattle.wasm_read_spec.specs.declared.fault.Fault.TheVariants as fault
 use Rattle.wasm_read_spec.specs.declared.fault.ReadFault.{ReadFault}
 use Rattle.wasm_read_spec.specs.declared.fault.ReadFault.TheVariants.{Malformed, MalformedBody, Unsupported, Limit}
-use Rattle.wasm_read_spec.specs.Values.{val_code, ref_code, mut_code}
+use Rattle.wasm_read_spec.specs.Values.{val_of_code, ref_of_code, mut_of_code}
 use Rattle.wasm_read_spec.specs.Tokens.{rest_form, sub_form, the_form}
 use Rattle.wasm_read_spec.specs.Operations.{un_of, bin_of, load_of, store_of}
 use Rattle.wasm_read_spec.specs.Reading.{each_from, func_type_at, list_at, local_at, locals_at, tag_at, val_at, ref_at, mut_at, limits_at, table_at, global_at, const_at, import_at, import_desc_at, global_def_at, elem_at, data_at, block_type_at, vector_at, whole_at}
@@ -74,11 +74,11 @@ a_limit_may_be_reached = refl
 
 -- 50,000 locals; and 50,001, in two groups, the second of a type that is not supported too
 locals_enough : read_fault (of_entry (0x01 ∷ 0xD0 ∷ 0x86 ∷ 0x03 ∷ 0x7F ∷ 0xFD ∷ [])) false ≡ Some (Unsupported 2 (Some 0))
-unfolding read_at parts_at framed_at frames_at frame_at contents_at section_at agrees whole_at vector_at list_at each_from func_type_at val_at val_code tag_at unsigned_at codes_at entry_at code_at locals_at local_at body_at sequence_at token_at the_form un_of bin_of load_of store_of rest_form simple_of
+unfolding read_at parts_at framed_at frames_at frame_at contents_at section_at agrees whole_at vector_at list_at each_from func_type_at val_at val_of_code tag_at unsigned_at codes_at entry_at code_at locals_at local_at body_at sequence_at token_at the_form un_of bin_of load_of store_of rest_form simple_of
 locals_enough = refl
 
 too_many_locals : read_fault (of_entry (0x02 ∷ 0x01 ∷ 0x7F ∷ 0xD0 ∷ 0x86 ∷ 0x03 ∷ 0x7D ∷ [])) false ≡ Some (Limit Locals)
-unfolding read_at parts_at framed_at frames_at frame_at contents_at section_at agrees whole_at vector_at list_at each_from func_type_at val_at val_code tag_at unsigned_at codes_at entry_at code_at locals_at local_at
+unfolding read_at parts_at framed_at frames_at frame_at contents_at section_at agrees whole_at vector_at list_at each_from func_type_at val_at val_of_code tag_at unsigned_at codes_at entry_at code_at locals_at local_at
 too_many_locals = refl
 
 -- blocks, one in the other
@@ -125,7 +125,7 @@ other_types =
 
 a_type_or_constant_is_told : faults other_types ≡ Some (Unsupported 0 None) ∷ Some (Unsupported 0 None) ∷ Some (Malformed 0) ∷ Some (Malformed 0) ∷ Some (Unsupported 0 None) ∷ Some (Unsupported 0 None) ∷ Some (Unsupported 0 None) ∷ Some (Malformed 0)
     ∷ Some (Unsupported 0 None) ∷ Some (Unsupported 0 None) ∷ Some (Malformed 0) ∷ Some (Malformed 0) ∷ []
-unfolding read_at parts_at framed_at frames_at frame_at contents_at section_at agrees whole_at vector_at list_at each_from func_type_at val_at val_code ref_at ref_code mut_at mut_code table_at limits_at global_at global_def_at const_at elem_at data_at tag_at unsigned_at text_at
+unfolding read_at parts_at framed_at frames_at frame_at contents_at section_at agrees whole_at vector_at list_at each_from func_type_at val_at val_of_code ref_at ref_of_code mut_at mut_of_code table_at limits_at global_at global_def_at const_at elem_at data_at tag_at unsigned_at text_at
 a_type_or_constant_is_told = refl
 
 abbrev bodies : List (List ℕ)
@@ -169,13 +169,13 @@ a_token_is_told : faults bodies ≡ Some (Unsupported 2 (Some 0)) ∷ Some (Unsu
     ∷ Some (MalformedBody 0) ∷ Some (MalformedBody 0) ∷ Some (MalformedBody 0)
     ∷ Some (Unsupported 2 (Some 0)) ∷ Some (Unsupported 2 (Some 0)) ∷ Some (Unsupported 2 (Some 0)) ∷ Some (MalformedBody 0)
     ∷ Some (Unsupported 2 (Some 0)) ∷ Some (Unsupported 2 (Some 0)) ∷ []
-unfolding read_at parts_at framed_at frames_at frame_at contents_at section_at agrees whole_at vector_at list_at each_from func_type_at val_at val_code ref_at ref_code tag_at unsigned_at signed_at codes_at entry_at code_at locals_at local_at body_at sequence_at block_at block_type_at token_at prefixed_at memory_at arg_at the_form un_of bin_of load_of store_of rest_form sub_form simple_of
+unfolding read_at parts_at framed_at frames_at frame_at contents_at section_at agrees whole_at vector_at list_at each_from func_type_at val_at val_of_code ref_at ref_of_code tag_at unsigned_at signed_at codes_at entry_at code_at locals_at local_at body_at sequence_at block_at block_type_at token_at prefixed_at memory_at arg_at the_form un_of bin_of load_of store_of rest_form sub_form simple_of
 a_token_is_told = refl
 
 -- where memories have indices, an alignment of 64 to 127 tells that one follows; 128 is none
 a_memory_is_named : map (λ bytes. read_fault bytes true) (of_body (0x28 ∷ 0x42 ∷ 0x00 ∷ 0x00 ∷ 0xFD ∷ []) ∷ of_body (0x28 ∷ 0xC2 ∷ 0x00 ∷ 0x00 ∷ 0x00 ∷ 0xFD ∷ []) ∷ of_body (0x28 ∷ 0x80 ∷ 0x01 ∷ 0x00 ∷ 0x00 ∷ 0xFD ∷ []) ∷ [])
     ≡ Some (Unsupported 2 (Some 0)) ∷ Some (Unsupported 2 (Some 0)) ∷ Some (MalformedBody 0) ∷ []
-unfolding read_at parts_at framed_at frames_at frame_at contents_at section_at agrees whole_at vector_at list_at each_from func_type_at val_at val_code tag_at unsigned_at codes_at entry_at code_at locals_at local_at body_at sequence_at token_at memory_at arg_at the_form un_of bin_of load_of store_of rest_form simple_of
+unfolding read_at parts_at framed_at frames_at frame_at contents_at section_at agrees whole_at vector_at list_at each_from func_type_at val_at val_of_code tag_at unsigned_at codes_at entry_at code_at locals_at local_at body_at sequence_at token_at memory_at arg_at the_form un_of bin_of load_of store_of rest_form simple_of
 a_memory_is_named = refl
 
 -- ---- which comes first
@@ -205,5 +205,5 @@ the_first_is_told : faults several ≡ Some (Malformed 1) ∷ Some (Limit Types)
     ∷ Some (Malformed 2) ∷ Some (MalformedBody 1) ∷ Some (Malformed 2)
     ∷ Some (Malformed 2) ∷ Some (Malformed 0)
     ∷ Some (Malformed 2) ∷ Some (Malformed 1) ∷ []
-unfolding read_at parts_at framed_at frames_at frame_at contents_at section_at agrees whole_at vector_at list_at each_from func_type_at val_at val_code mut_at mut_code tag_at unsigned_at signed_at text_at codes_at entry_at code_at locals_at local_at body_at sequence_at token_at prefixed_at the_form un_of bin_of load_of store_of rest_form sub_form simple_of import_at import_desc_at global_at global_def_at const_at
+unfolding read_at parts_at framed_at frames_at frame_at contents_at section_at agrees whole_at vector_at list_at each_from func_type_at val_at val_of_code mut_at mut_of_code tag_at unsigned_at signed_at text_at codes_at entry_at code_at locals_at local_at body_at sequence_at token_at prefixed_at the_form un_of bin_of load_of store_of rest_form sub_form simple_of import_at import_desc_at global_at global_def_at const_at
 the_first_is_told = refl

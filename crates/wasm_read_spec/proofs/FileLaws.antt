@@ -3,7 +3,7 @@ use Rattle.std.proofs.Common.{◌≡◌, ℕ, zero, suc, ◌+◌, List, [], ◌�
 use Rattle.std.proofs.lemmas.Bool.{eqb-true, and_parts}
 use Rattle.std.specs.Prelude.{◌==◌, ◌↔◌, IfOk, IfErr}
 use Rattle.wasm_bytes.specs.Reading.{IsBytes}
-use Rattle.wasm_bytes.specs.Frames.{Section, after, Frames, Framed}
+use Rattle.wasm_bytes.specs.Frames.{Section, order_after, Frames, Framed}
 use Rattle.wasm_bytes.proofs.Lists.{bytes_rest}
 use Rattle.wasm_bytes.proofs.Sized.{bind_ok}
 use Rattle.wasm_tree.specs.declared.module.Module.{Module}
@@ -12,7 +12,7 @@ use Rattle.wasm_read_spec.specs.declared.fault.ReadFault.{ReadFault}
 use Rattle.wasm_read_spec.specs.declared.fault.ReadFault.TheVariants.{NoMemory, NotModule, Malformed, MalformedBody, Unsupported, Limit}
 use Rattle.wasm_read_spec.specs.declared.parts.Parts.{Parts}
 use Rattle.base_lists.specs.Every.{Every}
-use Rattle.wasm_read_spec.specs.Files.{nothing, Contents, Counted, Rules, tree_of, Spells, SmallSection, Within}
+use Rattle.wasm_read_spec.specs.Files.{nothing, Contents, Counted, Rules, tree_of, Spells, SectionIsSmall, Within}
 use Rattle.wasm_read_spec.specs.Contents.{Fails, GivesAll, section_at, contents_at, counted, agrees, framed_at, parts_at, read_at, fault_of, read_fault}
 use Rattle.wasm_read_spec.proofs.Framing.{framed_reads, framed_sound}
 use Rattle.wasm_read_spec.proofs.SectionLaws.{section_right}
@@ -36,7 +36,7 @@ frames_bytes last bytes (s ∷ ss) small h =
     let sized = h.2.1 in
     let text : IsBytes (s.0 ∷ sized.0) = subst IsBytes sized.2 frame in
     let inner : IsBytes (sized.1.0 ++ s.1) = subst IsBytes sized.1.2 (λ i. text (suc i)) in
-    (bytes_rest sized.1.0 s.1 inner, frames_bytes (after last s.0) h.1 ss (bytes_rest h.0 h.1 both) h.3)
+    (bytes_rest sized.1.0 s.1 inner, frames_bytes (order_after last s.0) h.1 ss (bytes_rest h.0 h.1 both) h.3)
 
 pub framed_bytes : (bytes : List ℕ) (ss : List Section) → IsBytes bytes → Framed bytes ss → AreBytes ss
 framed_bytes bytes ss small f = frames_bytes 0 f.1 ss (bytes_rest f.0 f.1 (subst IsBytes f.4 small)) f.3
@@ -47,7 +47,7 @@ one_framing bytes ss ts f g = let e = sym (framed_reads bytes ss f) ∙ framed_r
 -- ---- contents
 
 module _ (many : Bool) where
-  pub contents_sound : (n : ℕ) (p : Parts) (ss : List Section) (q : Parts) → AreBytes ss → contents_at many n p ss ≡ Ok q → Contents many p ss q × Every (SmallSection many) ss
+  pub contents_sound : (n : ℕ) (p : Parts) (ss : List Section) (q : Parts) → AreBytes ss → contents_at many n p ss ≡ Ok q → Contents many p ss q × Every (SectionIsSmall many) ss
   unfolding contents_at
   contents_sound n p [] q small e = (let same : p ≡ q = cc in same, tt)
   contents_sound n p (s ∷ ss) q small e =
@@ -56,7 +56,7 @@ module _ (many : Bool) where
       let later = contents_sound (n + 1) m.0 ss q small.1 m.2 in
       ((m.0, one.0, later.0), (one.1, later.1))
 
-  pub contents_complete : (n : ℕ) (p : Parts) (ss : List Section) (q : Parts) → Contents many p ss q → Every (SmallSection many) ss → contents_at many n p ss ≡ Ok q
+  pub contents_complete : (n : ℕ) (p : Parts) (ss : List Section) (q : Parts) → Contents many p ss q → Every (SectionIsSmall many) ss → contents_at many n p ss ≡ Ok q
   unfolding contents_at
   contents_complete n p [] q h k = ap Ok h
   contents_complete n p (s ∷ ss) q h k =
@@ -104,7 +104,7 @@ whole_ok false p q e h = cc
 
 module _ (many : Bool) (bytes : List ℕ) (small : IsBytes bytes) where
   -- the parts of a file that is read
-  pub parts_found : (p : Parts) → parts_at many bytes ≡ Ok p → (ss : List Section) × Framed bytes ss × Contents many nothing ss p × Every (SmallSection many) ss × Rules p
+  pub parts_found : (p : Parts) → parts_at many bytes ≡ Ok p → (ss : List Section) × Framed bytes ss × Contents many nothing ss p × Every (SectionIsSmall many) ss × Rules p
   unfolding parts_at
   parts_found p h =
       let f = bind_ok (framed_at bytes) _ _ h in
@@ -120,7 +120,7 @@ module _ (many : Bool) (bytes : List ℕ) (small : IsBytes bytes) where
       let p = bind_ok (parts_at many bytes) _ _ h in
       let f = parts_found p.0 p.1 in
       let same : tree_of p.0 ≡ m = (let k = p.2 in cc) in
-      ((f.0, p.0, f.1, f.2, f.4, sym same), λ ss g. subst (Every (SmallSection many)) (one_framing bytes f.0 ss f.1 g) f.3)
+      ((f.0, p.0, f.1, f.2, f.4, sym same), λ ss g. subst (Every (SectionIsSmall many)) (one_framing bytes f.0 ss f.1 g) f.3)
 
 pub tree_read : (many : Bool) (bytes : List ℕ) (m : Module) → Spells bytes m many → Within bytes many → read_at many bytes ≡ Ok m
 unfolding read_at parts_at

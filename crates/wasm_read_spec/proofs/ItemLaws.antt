@@ -14,8 +14,8 @@ use Rattle.wasm_tree.specs.Limits.{limit}
 use Rattle.wasm_tree.specs.Bounds.{declared_count}
 use Rattle.wasm_read_spec.specs.declared.fault.Fault.{Fault}
 use Rattle.wasm_read_spec.specs.declared.fault.Fault.TheVariants.{Malformed, Limit}
-use Rattle.wasm_read_spec.specs.Words.{Any}
-use Rattle.wasm_read_spec.specs.Values.{val_code, SpellsVal, ref_code, SpellsRef, SpellsFuncType, SmallFuncType, at_least, between, limits_form, SpellsLimits, SpellsTable, mut_code, SpellsGlobal, const_form, SpellsConst}
+use Rattle.wasm_read_spec.specs.SpellingForms.{Any}
+use Rattle.wasm_read_spec.specs.Values.{val_of_code, SpellsVal, ref_of_code, SpellsRef, SpellsFuncType, SmallFuncType, at_least, between, limits_form, SpellsLimits, SpellsTable, mut_of_code, SpellsGlobal, const_form, SpellsConst}
 use Rattle.wasm_read_spec.specs.Sections.{import_form, SpellsImport, SpellsGlobalDef, export_form, SpellsExport, FuncItems, ConstItems, elem0, elem1, elem2, elem3, elem5, elem6, elem7, elem_form, SpellsElem, data0, data1, data2, data_form, SpellsData}
 use Rattle.wasm_read_spec.specs.Bodies.{SpellsGroup}
 use Rattle.wasm_read_spec.specs.Reading.{u32_at, val_at, ref_at, func_type_of, func_type_at, limits_at, table_of, table_at, mut_at, global_of, global_at, const_fault, const_at, import_desc_at, import_of, import_at, global_def_of, global_def_at, export_desc_at, export_of, export_at, func_items_at, const_items_at, elem_at, data_at, local_at, with_group, locals_at}
@@ -25,11 +25,11 @@ use Rattle.wasm_read_spec.proofs.Exact.{Exact, took_then, split, byte_exact, u32
 
 pub val_exact : Exact SpellsVal Any val_at
 unfolding val_at
-val_exact = coded_exact val_code
+val_exact = coded_exact val_of_code
 
 pub ref_exact : Exact SpellsRef Any ref_at
 unfolding ref_at
-ref_exact = coded_exact ref_code
+ref_exact = coded_exact ref_of_code
 
 pub func_type_exact : Exact SpellsFuncType SmallFuncType func_type_at
 unfolding func_type_at
@@ -45,7 +45,7 @@ table_exact = mapped_exact table_of (λ t. (t.ty, t.limits)) (λ x. refl) (λ y.
 
 pub global_exact : Exact SpellsGlobal Any global_at
 unfolding global_at mut_at
-global_exact = mapped_exact global_of (λ g. (g.ty, g.mutable)) (λ x. refl) (λ y. refl) (both_exact val_exact (coded_exact mut_code))
+global_exact = mapped_exact global_of (λ g. (g.ty, g.mutable)) (λ x. refl) (λ y. refl) (both_exact val_exact (coded_exact mut_of_code))
 
 -- ---- constant expressions
 

@@ -15,8 +15,8 @@ use Rattle.wasm_tree.specs.Limits.{limit}
 use Rattle.wasm_tree.specs.Bounds.{declared_count}
 use Rattle.wasm_read_spec.specs.declared.fault.Fault.{Fault}
 use Rattle.wasm_read_spec.specs.declared.fault.Fault.TheVariants.{Malformed, Unsupported, Limit}
-use Rattle.wasm_read_spec.specs.Words.{Any, Byte}
-use Rattle.wasm_read_spec.specs.Values.{val_code, ref_code, mut_code}
+use Rattle.wasm_read_spec.specs.SpellingForms.{Any, Byte}
+use Rattle.wasm_read_spec.specs.Values.{val_of_code, ref_of_code, mut_of_code}
 use Rattle.wasm_read_spec.specs.Sections.{elem0, elem1, elem2, elem3, elem5, elem6, elem7, data0, data1, data2}
 use Rattle.wasm_read_spec.specs.Bodies.{SpellsGroup}
 use Rattle.wasm_read_spec.specs.Stops.{Stop, NotSupported, Over, NoStop, ByteStops, BothStops, is_unsupported_val, ValStops, FuncTypeStops, is_unsupported_const, ConstStops, ChosenStops, BehindStops, import_stops, ImportStops, GlobalDefStops, ItemsStop, elem_stops, ElemStops, data_stops, DataStops, GroupStops, GroupsStop, LocalsStop}
@@ -61,8 +61,8 @@ code_if : {A : Type 0} (test c : Bool) (r q : Result A Fault) → (c ≡ true �
 code_if test true r q a b = a refl
 code_if test false r q a b = b refl
 
-val_coding : (b : ℕ) → Coding (is_unsupported_val b) (val_code b)
-unfolding val_code is_unsupported_val
+val_coding : (b : ℕ) → Coding (is_unsupported_val b) (val_of_code b)
+unfolding val_of_code is_unsupported_val
 val_coding b =
     code_if _ (b == 0x7F) _ _ (λ t. let e : b ≡ 0x7F = grind (arith, t) in rw e (value I32))
     (λ n. code_if _ (b == 0x7E) _ _ (λ t. let e : b ≡ 0x7E = grind (arith, t) in rw e (value I64))
@@ -70,12 +70,12 @@ val_coding b =
     (λ n. code_if _ (b == 0x6F) _ _ (λ t. let e : b ≡ 0x6F = grind (arith, t) in rw e (value (Ref ref.Extern)))
     (λ n. code_if _ (nat_le 0x7B b && nat_le b 0x7D) _ _ (λ t. rw t not_supported) (λ t. rw t misspelled)))))
 
-ref_coding : (b : ℕ) → Coding false (ref_code b)
-unfolding ref_code
+ref_coding : (b : ℕ) → Coding false (ref_of_code b)
+unfolding ref_of_code
 ref_coding b = code_if _ (b == 0x70) _ _ (λ t. value ref.Func) (λ n. code_if _ (b == 0x6F) _ _ (λ t. value ref.Extern) (λ n. misspelled))
 
-mut_coding : (b : ℕ) → Coding false (mut_code b)
-unfolding mut_code
+mut_coding : (b : ℕ) → Coding false (mut_of_code b)
+unfolding mut_of_code
 mut_coding b = code_if _ (b == 0x00) _ _ (λ t. value false) (λ n. code_if _ (b == 0x01) _ _ (λ t. value true) (λ n. misspelled))
 
 -- ---- readers of which a part never stops
@@ -119,11 +119,11 @@ sized_tells = or_tells _
 
 pub val_tells : Tells ValStops val_at
 unfolding val_at
-val_tells = coded_tells is_unsupported_val val_code val_coding
+val_tells = coded_tells is_unsupported_val val_of_code val_coding
 
 pub ref_tells : Tells NoStop ref_at
 unfolding ref_at
-ref_tells = never_true ref_code ref_coding
+ref_tells = never_true ref_of_code ref_coding
 
 pub func_type_tells : Tells FuncTypeStops func_type_at
 unfolding func_type_at
@@ -139,7 +139,7 @@ table_tells = mapped_tells table_of (nothing_then ref_exact ref_tells limits_tel
 
 mut_tells : Tells NoStop mut_at
 unfolding mut_at
-mut_tells = never_true mut_code mut_coding
+mut_tells = never_true mut_of_code mut_coding
 
 -- a global's type stops where its value type does
 global_tells : Tells ValStops global_at

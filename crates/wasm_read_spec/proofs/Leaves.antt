@@ -15,7 +15,7 @@ use Rattle.wasm_read_spec.specs.declared.token.Opener.TheVariants as opener
 use Rattle.wasm_read_spec.specs.declared.token.Token.{Token}
 use Rattle.wasm_read_spec.specs.declared.token.Token.TheVariants.{Plain}
 use Rattle.wasm_read_spec.specs.Operations.{un_of, bin_of, load_of, store_of}
-use Rattle.wasm_read_spec.specs.Tokens.{Form, plain, number, numbers, const32, const64, table, typed, access, memory, memories, with_memory, null, open', else', end', prefixed, unsupported, unknown, or_else, the_form, rest_form, sub_form, arg_form, SpellsMemArg, SpellsMemory, Simple, Follows, SpellsToken}
+use Rattle.wasm_read_spec.specs.Tokens.{Form, plain, number, numbers, const32, const64, table, typed, access, memory, memories, with_memory, null, open', else', end', prefixed, unsupported, unknown, or_else, the_form, rest_form, sub_form, arg_form, SpellsMemArg, SpellsMemory, Simple, FollowsOpcode, SpellsToken}
 use Rattle.wasm_read_spec.specs.Bodies.{depth_of}
 
 -- a memory's index, which is 0 where memories have none
@@ -136,7 +136,7 @@ module _ (many : Bool) (Q : Instr → Type 0) (leaves : Leaves many Q) where
   of_simple unsupported text i p h = absurd h
   of_simple unknown text i p h = absurd h
 
-  of_follows : (f : Form) (text : List ℕ) (i : Instr) → Holds f → Follows many f text (Plain i) → Q i
+  of_follows : (f : Form) (text : List ℕ) (i : Instr) → Holds f → FollowsOpcode many f text (Plain i) → Q i
   of_follows prefixed text i p h = of_simple (sub_form h.0) h.1.1 i (of_sub h.0).it h.1.3
   of_follows (plain j) text i p h = of_simple (plain j) text i p h
   of_follows (number f) text i p h = of_simple (number f) text i p h

@@ -20,11 +20,11 @@ use Rattle.wasm_read_spec.specs.declared.token.Opener.TheVariants as opener
 use Rattle.wasm_read_spec.specs.declared.token.Token.{Token}
 use Rattle.wasm_read_spec.specs.declared.token.Token.TheVariants.{Open, Else, End, Plain}
 use Rattle.wasm_read_spec.specs.declared.token.Sequence.{Sequence}
-use Rattle.wasm_read_spec.specs.Words.{Any, Both, After}
+use Rattle.wasm_read_spec.specs.SpellingForms.{Any, Both, After}
 use Rattle.wasm_read_spec.specs.Values.{SpellsVal, SpellsFuncType}
 use Rattle.wasm_read_spec.specs.Bodies.{SpellsGroup, SpellsBody, SpellsCode, depth}
 use Rattle.wasm_read_spec.specs.Reading.{Reader, tag_at, u32_at, val_at, pair_at, mapped_at, tagged_at, each_from, vector_at, func_type_of, func_type_at, local_at, with_group, locals_at}
-use Rattle.wasm_read_spec.specs.BodyReading.{Read, behind, token_at, block_at, after_token, sequence_at, whole, body_at, closed, enclosed, code_at, code_of}
+use Rattle.wasm_read_spec.specs.BodyReading.{ReadResult, behind, token_at, block_at, after_token, sequence_at, whole, body_at, closed, enclosed, code_at, code_of}
 use Rattle.wasm_read_spec.proofs.Exact.{Exact, split, u32_exact}
 use Rattle.wasm_read_spec.proofs.ItemLaws.{val_exact}
 use Rattle.wasm_read_spec.proofs.NestLaws.{to_in}
@@ -128,11 +128,11 @@ then_same {A} r q f g (inl same) k = subst (λ z. SameOrDeep (r >>= f) (z >>= g)
 then_same r q f g (inr deep) k = inr (rw deep)
 
 module _ (many : Bool) where
-  behind_same : (front : List Instr) (r q : Read Sequence) → SameOrDeep r q → SameOrDeep (behind front r) (behind front q)
+  behind_same : (front : List Instr) (r q : ReadResult Sequence) → SameOrDeep r q → SameOrDeep (behind front r) (behind front q)
   behind_same front r q (inl same) = inl (ap (behind front) same)
   behind_same front r q (inr deep) = inr (rw deep)
 
-  module _ (next : ℕ → List ℕ → Read Sequence) (ih : (d e : ℕ) → d ≤ e → (bytes : List ℕ) → SameOrDeep (next d bytes) (next e bytes)) where
+  module _ (next : ℕ → List ℕ → ReadResult Sequence) (ih : (d e : ℕ) → d ≤ e → (bytes : List ℕ) → SameOrDeep (next d bytes) (next e bytes)) where
     if_same : (d e : ℕ) → d ≤ e → (b : Bool) (ty : BlockType) (s : Sequence) (rest : List ℕ) →
         SameOrDeep (cond b (next d rest >>= closed (If ty s.items)) (Ok (If ty s.items [], rest))) (cond b (next e rest >>= closed (If ty s.items)) (Ok (If ty s.items [], rest)))
     if_same d e le true ty s rest = then_same (next d rest) (next e rest) _ _ (ih d e le rest) (λ x. inl refl)

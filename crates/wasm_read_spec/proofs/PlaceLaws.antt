@@ -10,7 +10,7 @@ use Rattle.wasm_read_spec.specs.declared.fault.Fault.{Fault}
 use Rattle.wasm_read_spec.specs.declared.fault.ReadFault.{ReadFault}
 use Rattle.wasm_read_spec.specs.declared.parts.Parts.{Parts}
 use Rattle.wasm_read_spec.specs.Bodies.{SpellsEntry, SmallCode}
-use Rattle.wasm_read_spec.specs.Files.{nothing, SpellsSection, SmallSection, Contents}
+use Rattle.wasm_read_spec.specs.Files.{nothing, SpellsSection, SectionIsSmall, Contents}
 use Rattle.wasm_read_spec.specs.Reading.{u32_at}
 use Rattle.wasm_read_spec.specs.Stops.{Stop, section_stops}
 use Rattle.wasm_read_spec.specs.BodyReading.{code_at}
@@ -28,18 +28,18 @@ use Rattle.wasm_read_spec.proofs.CauseLaws.{code_section}
 -- ---- sections
 
 module _ (many : Bool) (e e' : ReadFault) where
-  section_read : (n : ℕ) (p m : Parts) (s : Section) → SpellsSection many p s m → SmallSection many s → section_at many n p s ≡ Ok m
+  section_read : (n : ℕ) (p m : Parts) (s : Section) → SpellsSection many p s m → SectionIsSmall many s → section_at many n p s ≡ Ok m
   section_read n p m s h k = (section_right many n p s.0).complete s.1 m h k
 
   -- a section that is spelled within the limits is not the one that has a fault
-  not_here : (w : ReadFault) (n : ℕ) (p q m : Parts) (s t : Section) → s ≡ t → p ≡ q → SpellsSection many p t m → SmallSection many t → section_at many (n + 0) q s ≡ Err w → ⊥
+  not_here : (w : ReadFault) (n : ℕ) (p q m : Parts) (s t : Section) → s ≡ t → p ≡ q → SpellsSection many p t m → SectionIsSmall many t → section_at many (n + 0) q s ≡ Err w → ⊥
   not_here w n p q m s t same parts h k bad =
       let here : n + 0 ≡ n = omega arith in
       ok_err m w (sym (section_read n p m t h k) ∙ ap (λ z. section_at many z p t) (sym here) ∙ ap (λ z. section_at many (n + 0) z t) parts ∙ ap (section_at many (n + 0) q) (sym same) ∙ bad)
 
   fronts_same : (n : ℕ) (p q q' : Parts) (front front' : List Section) (s s' : Section) (back back' : List Section) → front ++ s ∷ back ≡ front' ++ s' ∷ back' →
-      Contents many p front q → Every (SmallSection many) front → section_at many (n + length front) q s ≡ Err e →
-      Contents many p front' q' → Every (SmallSection many) front' → section_at many (n + length front') q' s' ≡ Err e' → (length front ≡ length front') × (s ≡ s') × (q ≡ q')
+      Contents many p front q → Every (SectionIsSmall many) front → section_at many (n + length front) q s ≡ Err e →
+      Contents many p front' q' → Every (SectionIsSmall many) front' → section_at many (n + length front') q' s' ≡ Err e' → (length front ≡ length front') × (s ≡ s') × (q ≡ q')
   fronts_same n p q q' [] [] s s' back back' is c w bad c' w' bad' = let same : s ≡ s' = cc in (refl, same, sym c ∙ c')
   fronts_same n p q q' [] (t ∷ front') s s' back back' is c w bad c' w' bad' = let same : s ≡ t = cc in absurd (not_here e n p q c'.0 s t same c c'.1 w'.0 bad)
   fronts_same n p q q' (t ∷ front) [] s s' back back' is c w bad c' w' bad' = let same : s' ≡ t = cc in absurd (not_here e' n p q' c.0 s' t same c' c.1 w.0 bad')

@@ -8,7 +8,7 @@ use Rattle.wasm_tree.specs.declared.which.Which.TheVariants.{Types, Locals}
 use Rattle.wasm_bytes.specs.Frames.{header, frame_at, frames_at}
 use Rattle.wasm_bytes.specs.Reading.{unsigned_at}
 use Rattle.wasm_read_spec.specs.declared.fault.ReadFault.TheVariants.{NotModule, Malformed, MalformedBody, Unsupported, Limit}
-use Rattle.wasm_read_spec.specs.Values.{val_code}
+use Rattle.wasm_read_spec.specs.Values.{val_of_code}
 use Rattle.wasm_read_spec.specs.Tokens.{rest_form, the_form}
 use Rattle.wasm_read_spec.specs.Operations.{un_of, bin_of, load_of, store_of}
 use Rattle.wasm_read_spec.specs.Files.{nothing, tree_of}
@@ -81,7 +81,7 @@ a_body_without_an_end = refl
 
 -- a parameter of type f32
 a_float_type : read_fault (header ++ 0x01 ∷ 0x05 ∷ 0x01 ∷ 0x60 ∷ 0x01 ∷ 0x7D ∷ 0x00 ∷ []) false ≡ Some (Unsupported 0 None)
-unfolding read_at parts_at framed_at frames_at frame_at contents_at section_at whole_at vector_at list_at each_from func_type_at val_at val_code tag_at unsigned_at
+unfolding read_at parts_at framed_at frames_at frame_at contents_at section_at whole_at vector_at list_at each_from func_type_at val_at val_of_code tag_at unsigned_at
 a_float_type = refl
 
 -- f32.const 0

@@ -15,7 +15,7 @@ use Rattle.wasm_read_spec.specs.declared.fault.Fault.TheVariants as fault
 use Rattle.wasm_read_spec.specs.declared.fault.ReadFault.{ReadFault}
 use Rattle.wasm_read_spec.specs.declared.fault.ReadFault.TheVariants.{Malformed}
 use Rattle.wasm_read_spec.specs.declared.parts.Parts.{Parts}
-use Rattle.wasm_read_spec.specs.Words.{Never, Made, When, Any, Few, Limited, WhenSmall}
+use Rattle.wasm_read_spec.specs.SpellingForms.{Never, Made, When, Any, Few, Limited, WhenSmall}
 use Rattle.wasm_read_spec.specs.Values.{SpellsFuncType}
 use Rattle.wasm_read_spec.specs.Bodies.{SpellsEntry, SmallCode}
 use Rattle.wasm_read_spec.specs.Files.{with_types, with_imports, with_func_types, with_tables, with_mems, with_globals, with_exports, with_start, with_elems, with_codes, with_datas, with_count, SpellsCustom, section_form, small_form}

@@ -14,7 +14,7 @@ use Rattle.wasm_read_spec.specs.declared.fault.Fault.TheVariants as fault
 use Rattle.wasm_read_spec.specs.declared.fault.ReadFault.{ReadFault}
 use Rattle.wasm_read_spec.specs.declared.fault.ReadFault.TheVariants.{Limit, Malformed}
 use Rattle.wasm_read_spec.specs.declared.parts.Parts.{Parts}
-use Rattle.wasm_read_spec.specs.Words.{Made, When}
+use Rattle.wasm_read_spec.specs.SpellingForms.{Made, When}
 use Rattle.wasm_read_spec.specs.Bodies.{SpellsEntry}
 use Rattle.wasm_read_spec.specs.Files.{nothing, with_types, with_imports, with_func_types, with_tables, with_mems, with_globals, with_exports, with_start, with_elems, with_codes, with_datas, with_count, SpellsCustom, section_form, Contents, Spells}
 use Rattle.wasm_read_spec.specs.Reading.{Reader, u32_at, sized_at, each_from, whole_at}

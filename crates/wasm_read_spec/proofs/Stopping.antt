@@ -11,7 +11,7 @@ use Rattle.wasm_tree.specs.declared.which.Which.{Which}
 use Rattle.wasm_tree.specs.Limits.{limit}
 use Rattle.wasm_read_spec.specs.declared.fault.Fault.{Fault}
 use Rattle.wasm_read_spec.specs.declared.fault.Fault.TheVariants.{Malformed, Unsupported, Limit}
-use Rattle.wasm_read_spec.specs.Words.{Any}
+use Rattle.wasm_read_spec.specs.SpellingForms.{Any}
 use Rattle.wasm_read_spec.specs.Stops.{Stop, NotSupported, Over, NoStop, AfterStops, ChosenStops, BothStops, WhenStops, EachStops, ListStops, CountedStops, VectorStops}
 use Rattle.wasm_read_spec.specs.Reading.{Reader, or_malformed, u32_at, just_at, fault_at, pair_at, mapped_at, chosen_at, when_at, tag_at, tagged_at, closed_at, each_from, each_at, list_at, vector_at}
 use Rattle.wasm_read_spec.proofs.Exact.{Exact, u32_exact, took_then, split, Along, along_every, every_along}

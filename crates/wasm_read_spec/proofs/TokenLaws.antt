@@ -16,9 +16,9 @@ use Rattle.wasm_read_spec.specs.declared.fault.Fault.{Fault}
 use Rattle.wasm_read_spec.specs.declared.fault.Fault.TheVariants.{Malformed, Unsupported}
 use Rattle.wasm_read_spec.specs.declared.token.Token.{Token}
 use Rattle.wasm_read_spec.specs.declared.token.Token.TheVariants.{Open, Else, End, Plain}
-use Rattle.wasm_read_spec.specs.Words.{Any}
-use Rattle.wasm_read_spec.specs.Values.{val_code, SpellsBlockType}
-use Rattle.wasm_read_spec.specs.Tokens.{Form, plain, number, numbers, const32, const64, table, typed, access, memory, memories, with_memory, null, open', else', end', prefixed, unsupported, unknown, the_form, sub_form, arg_of, arg_in, arg_form, SpellsMemArg, SpellsMemory, Simple, Follows, SpellsToken}
+use Rattle.wasm_read_spec.specs.SpellingForms.{Any}
+use Rattle.wasm_read_spec.specs.Values.{val_of_code, SpellsBlockType}
+use Rattle.wasm_read_spec.specs.Tokens.{Form, plain, number, numbers, const32, const64, table, typed, access, memory, memories, with_memory, null, open', else', end', prefixed, unsupported, unknown, the_form, sub_form, arg_of, arg_in, arg_form, SpellsMemArg, SpellsMemory, Simple, FollowsOpcode, SpellsToken}
 use Rattle.wasm_read_spec.specs.Reading.{or_malformed, mapped_at, val_at, index_of, block_type_at}
 use Rattle.wasm_read_spec.specs.BodyReading.{arg_at, memory_at, simple_of, prefixed_at, token_of, token_at}
 use Rattle.wasm_read_spec.proofs.Exact.{Exact, err_ok, byte_exact, u32_exact, s32_exact, s33_exact, s64_exact, just_exact, never_exact, both_exact, made_exact, chosen_exact, when_exact, tagged_exact, list_exact}
@@ -89,8 +89,8 @@ not_between : (low high b : ℕ) → 64 ≤ low → high < 128 → (b < 64) ⊎ 
 not_between low high b le lt first = ⊎_elim (λ h. rw (leb_no low b (omega arith))) (λ h. rw (leb_no b high (omega arith)) (and_false (leb low b))) first
 
 -- a byte that is a value type's is none of an index, and is read as one
-val_bytes : (b : ℕ) (t : ValType) → val_code b ≡ Ok t → (b ≡ 0x7F) ⊎ ((b ≡ 0x7E) ⊎ ((b ≡ 0x70) ⊎ (b ≡ 0x6F)))
-unfolding val_code
+val_bytes : (b : ℕ) (t : ValType) → val_of_code b ≡ Ok t → (b ≡ 0x7F) ⊎ ((b ≡ 0x7E) ⊎ ((b ≡ 0x70) ⊎ (b ≡ 0x6F)))
+unfolding val_of_code
 val_bytes b t e = ⊎_elim (λ h. inl (eqb-true b 0x7F h.0))
     (λ h. ⊎_elim (λ h. inr (inl (eqb-true b 0x7E h.0)))
     (λ h. ⊎_elim (λ h. inr (inr (inl (eqb-true b 0x70 h.0))))
@@ -155,11 +155,11 @@ simple_exact many prefixed = never_exact Malformed
 simple_exact many unsupported = never_exact Unsupported
 simple_exact many unknown = never_exact Malformed
 
-prefixed_exact : (many : Bool) → Exact (Follows many prefixed) Any (prefixed_at many)
+prefixed_exact : (many : Bool) → Exact (FollowsOpcode many prefixed) Any (prefixed_at many)
 unfolding prefixed_at
 prefixed_exact many = chosen_exact u32_exact (λ n. simple_exact many (sub_form n))
 
-follows_exact : (many : Bool) (f : Form) → Exact (Follows many f) Any (token_of many f)
+follows_exact : (many : Bool) (f : Form) → Exact (FollowsOpcode many f) Any (token_of many f)
 follows_exact many (plain i) = simple_exact many (plain i)
 follows_exact many (number f) = simple_exact many (number f)
 follows_exact many (numbers f) = simple_exact many (numbers f)

@@ -13,7 +13,7 @@ use Rattle.wasm_tree.specs.Bounds.{declared_count}
 use Rattle.wasm_read_spec.specs.declared.token.Opener.TheVariants as opener
 use Rattle.wasm_read_spec.specs.declared.token.Token.{Token}
 use Rattle.wasm_read_spec.specs.declared.token.Token.TheVariants.{Open, Else, End, Plain}
-use Rattle.wasm_read_spec.specs.Words.{Both}
+use Rattle.wasm_read_spec.specs.SpellingForms.{Both}
 use Rattle.wasm_read_spec.specs.Values.{SpellsVal}
 use Rattle.wasm_read_spec.specs.Tokens.{SpellsToken}
 

@@ -67,39 +67,39 @@ token_at many = chosen_at byte_at (λ b. token_of many (the_form b))
 
 -- ---- blocks
 
-abbrev pub Read : Type 0 → Type 0
-Read A = Result (A × List ℕ) Fault
+abbrev pub ReadResult : Type 0 → Type 0
+ReadResult A = Result (A × List ℕ) Fault
 
 -- with these before it
-abbrev pub behind : List Instr → Read Sequence → Read Sequence
+abbrev pub behind : List Instr → ReadResult Sequence → ReadResult Sequence
 behind front (Ok r) = Ok (record { items = front ++ r.0.items; by_else = r.0.by_else }, r.1)
 behind front (Err e) = Err e
 
 -- the sequence ended by an `end`
-abbrev pub closed : (List Instr → Instr) → Sequence × List ℕ → Read Instr
+abbrev pub closed : (List Instr → Instr) → Sequence × List ℕ → ReadResult Instr
 closed make (s, rest) = if s.by_else then Err Malformed else Ok (make s.items, rest)
 
-abbrev pub two_armed : BlockType → (List ℕ → Read Sequence) → Sequence × List ℕ → Read Instr
+abbrev pub two_armed : BlockType → (List ℕ → ReadResult Sequence) → Sequence × List ℕ → ReadResult Instr
 two_armed ty next (s, rest) = if s.by_else then (next rest >>= closed (If ty s.items)) else Ok (If ty s.items [], rest)
 
-abbrev pub enclosed : Opener → BlockType → (List ℕ → Read Sequence) → Sequence × List ℕ → Read Instr
+abbrev pub enclosed : Opener → BlockType → (List ℕ → ReadResult Sequence) → Sequence × List ℕ → ReadResult Instr
 enclosed opener.Block ty next = closed (Block ty)
 enclosed opener.Loop ty next = closed (Loop ty)
 enclosed opener.If ty next = two_armed ty next
 
 -- next deeper reads a sequence inside which so many more blocks may be opened
-unfoldable pub block_at : (ℕ → List ℕ → Read Sequence) → ℕ → Opener → BlockType → List ℕ → Read Instr
+unfoldable pub block_at : (ℕ → List ℕ → ReadResult Sequence) → ℕ → Opener → BlockType → List ℕ → ReadResult Instr
 block_at next zero k ty bs = Err (Limit Nesting)
 block_at next (suc deeper) k ty bs = next deeper bs >>= enclosed k ty (next deeper)
 
-abbrev pub after_token : (ℕ → List ℕ → Read Sequence) → ℕ → Token → List ℕ → Read Sequence
+abbrev pub after_token : (ℕ → List ℕ → ReadResult Sequence) → ℕ → Token → List ℕ → ReadResult Sequence
 after_token next deeper End rest = Ok (record { items = []; by_else = false }, rest)
 after_token next deeper Else rest = Ok (record { items = []; by_else = true }, rest)
 after_token next deeper (Plain i) rest = behind (i ∷ []) (next deeper rest)
 after_token next deeper (Open k ty) rest = block_at next deeper k ty rest >>= (λ b. behind (b.0 ∷ []) (next deeper b.1))
 
 -- up to the `end` or `else` that ends it; fuel is at least the number of bytes
-unfoldable pub sequence_at : Bool → ℕ → ℕ → List ℕ → Read Sequence
+unfoldable pub sequence_at : Bool → ℕ → ℕ → List ℕ → ReadResult Sequence
 sequence_at many zero deeper bs = Err Malformed
 sequence_at many (suc fuel) deeper bs = token_at many bs >>= (λ t. after_token (sequence_at many fuel) deeper t.0 t.1)
 

@@ -13,7 +13,7 @@ use Rattle.wasm_read_spec.specs.declared.fault.ReadFault.TheVariants.{NoMemory, 
 use Rattle.wasm_read_spec.specs.declared.parts.Parts.{Parts}
 use Rattle.base_lists.specs.Every.{Every}
 use Rattle.wasm_read_spec.specs.Bodies.{SpellsCode, SpellsEntry, SmallCode}
-use Rattle.wasm_read_spec.specs.Files.{nothing, SpellsSection, SmallSection, Contents, Rules}
+use Rattle.wasm_read_spec.specs.Files.{nothing, SpellsSection, SectionIsSmall, Contents, Rules}
 use Rattle.wasm_read_spec.specs.Stops.{Stop, NotSupported, Over, CodeStops, section_stops}
 
 -- ---- places
@@ -25,7 +25,7 @@ pub record UpTo (bytes : List ℕ) (many : Bool) (n : ℕ) (s : Section) (p : Pa
   pub framed : Framed bytes (front ++ s ∷ back)
   pub number : length front ≡ n
   pub spelled : Contents many nothing front p
-  pub within : Every (SmallSection many) front
+  pub within : Every (SectionIsSmall many) front
 
 -- In a code section's content, where the first entry is of function func: the count is spelled and within its limit, and so are the entries before that of function f; the size of this one is
 -- spelled, and this is its content.
@@ -100,7 +100,7 @@ pub record FaultyWhole (bytes : List ℕ) (many : Bool) (n : ℕ) : Type 0 where
   pub framed : Framed bytes sections
   pub number : length sections ≡ n
   pub spelled : Contents many nothing sections parts
-  pub within : Every (SmallSection many) sections
+  pub within : Every (SectionIsSmall many) sections
   pub faulty : Rules parts → ⊥
 
 -- ---- faults

@@ -17,7 +17,7 @@ use Rattle.wasm_tree.specs.declared.which.Which.TheVariants.{Types, Imports, Fun
 use Rattle.wasm_tree.specs.DataUse.{any_uses_data}
 use Rattle.wasm_read_spec.specs.declared.parts.Parts.{Parts}
 use Rattle.base_lists.specs.Every.{Every}
-use Rattle.wasm_read_spec.specs.Words.{Never, Made, When, Any, Few, Limited, WhenSmall}
+use Rattle.wasm_read_spec.specs.SpellingForms.{Never, Made, When, Any, Few, Limited, WhenSmall}
 use Rattle.wasm_read_spec.specs.Values.{SpellsFuncType, SmallFuncType, SpellsTable, SpellsLimits}
 use Rattle.wasm_read_spec.specs.Sections.{SpellsImport, SpellsGlobalDef, SpellsExport, SpellsElem, SpellsData}
 use Rattle.wasm_read_spec.specs.Bodies.{SpellsEntry, SmallCode}
@@ -139,8 +139,8 @@ small_form many id =
     (WhenSmall (id == 12) Any
     Any))))))))))))
 
-abbrev pub SmallSection : Bool → Section → Type 0
-SmallSection many s = small_form many s.0 s.1
+abbrev pub SectionIsSmall : Bool → Section → Type 0
+SectionIsSmall many s = small_form many s.0 s.1
 
 abbrev pub Within : List ℕ → Bool → Type 0
-Within bytes many = (ss : List Section) → Framed bytes ss → Every (SmallSection many) ss
+Within bytes many = (ss : List Section) → Framed bytes ss → Every (SectionIsSmall many) ss

@@ -1,4 +1,4 @@
-pub mod Words
+pub mod SpellingForms
 pub mod Values
 pub mod Sections
 pub mod Operations

@@ -28,7 +28,7 @@ use Rattle.wasm_tree.specs.declared.module.LocalGroup.{LocalGroup}
 use Rattle.wasm_tree.specs.Limits.{limit}
 use Rattle.wasm_read_spec.specs.declared.fault.Fault.{Fault}
 use Rattle.wasm_read_spec.specs.declared.fault.Fault.TheVariants.{NoMemory, Malformed, Unsupported, Limit}
-use Rattle.wasm_read_spec.specs.Values.{val_code, ref_code, mut_code, at_least, between}
+use Rattle.wasm_read_spec.specs.Values.{val_of_code, ref_of_code, mut_of_code, at_least, between}
 use Rattle.wasm_read_spec.specs.Sections.{elem0, elem1, elem2, elem3, elem5, elem6, elem7, data0, data1, data2}
 
 -- a reader of the front of some bytes: what it finds with the bytes after it, or the fault
@@ -144,10 +144,10 @@ with_front front (Err e) = Err e
 -- ---- types and constant expressions
 
 unfoldable pub val_at : Reader ValType
-val_at = coded_at val_code
+val_at = coded_at val_of_code
 
 unfoldable pub ref_at : Reader RefType
-ref_at = coded_at ref_code
+ref_at = coded_at ref_of_code
 
 abbrev pub func_type_of : List ValType × List ValType → FuncType
 func_type_of p = record { params = p.0; results = p.1 }
@@ -168,7 +168,7 @@ unfoldable pub table_at : Reader TableType
 table_at = mapped_at table_of (pair_at ref_at limits_at)
 
 unfoldable pub mut_at : Reader Bool
-mut_at = coded_at mut_code
+mut_at = coded_at mut_of_code
 
 abbrev pub global_of : ValType × Bool → GlobalType
 global_of p = record { ty = p.0; mutable = p.1 }

@@ -17,7 +17,7 @@ use Rattle.wasm_tree.specs.declared.module.ElemMode.TheVariants as elem
 use Rattle.wasm_tree.specs.declared.module.ElemSeg.{ElemSeg}
 use Rattle.wasm_tree.specs.declared.module.DataMode.TheVariants as data'
 use Rattle.wasm_tree.specs.declared.module.DataSeg.{DataSeg}
-use Rattle.wasm_read_spec.specs.Words.{Byte, Never, Both, Made, Chosen, When, After}
+use Rattle.wasm_read_spec.specs.SpellingForms.{Byte, Never, Both, Made, Chosen, When, After}
 use Rattle.wasm_read_spec.specs.Values.{SpellsRef, SpellsLimits, SpellsTable, SpellsGlobal, SpellsConst}
 
 -- an import (5.5.5): a kind byte chooses what follows it

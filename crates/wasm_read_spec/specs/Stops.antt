@@ -14,7 +14,7 @@ use Rattle.wasm_read_spec.specs.declared.token.Opener.{Opener}
 use Rattle.wasm_read_spec.specs.declared.token.Opener.TheVariants as opener
 use Rattle.wasm_read_spec.specs.declared.token.Token.{Token}
 use Rattle.wasm_read_spec.specs.declared.token.Token.TheVariants.{Open, Else}
-use Rattle.wasm_read_spec.specs.Words.{Byte, Any, Few}
+use Rattle.wasm_read_spec.specs.SpellingForms.{Byte, Any, Few}
 use Rattle.wasm_read_spec.specs.Values.{SpellsVal, SpellsRef, SpellsFuncType, SmallFuncType, SpellsTable, SpellsLimits, SpellsConst, SpellsGlobal}
 use Rattle.wasm_read_spec.specs.Sections.{SpellsImport, SpellsGlobalDef, SpellsExport, SpellsElem, SpellsData}
 use Rattle.wasm_read_spec.specs.Tokens.{Form, plain, number, numbers, const32, const64, table, typed, access, memory, memories, with_memory, null, open', else', end', prefixed, unsupported, unknown, the_form, sub_form, SpellsToken}

@@ -8,7 +8,7 @@ use Rattle.wasm_read_spec.specs.declared.token.Opener.{Opener}
 use Rattle.wasm_read_spec.specs.declared.token.Opener.TheVariants as opener
 use Rattle.wasm_read_spec.specs.declared.token.Token.{Token}
 use Rattle.wasm_read_spec.specs.declared.token.Token.TheVariants.{Open, Else, End, Plain}
-use Rattle.wasm_read_spec.specs.Words.{S32, S64, Byte, Just, Never, Both, Made, Chosen, When, After}
+use Rattle.wasm_read_spec.specs.SpellingForms.{S32, S64, Byte, Just, Never, Both, Made, Chosen, When, After}
 use Rattle.wasm_read_spec.specs.Values.{SpellsVal, SpellsRef, SpellsBlockType}
 use Rattle.wasm_read_spec.specs.Operations.{un_of, bin_of, load_of, store_of}
 
@@ -136,9 +136,9 @@ Simple many prefixed = Never
 Simple many unsupported = Never
 Simple many unknown = Never
 
-abbrev pub Follows : Bool → Form → List ℕ → Token → Type 0
-Follows many prefixed = Chosen U32 (λ n. Simple many (sub_form n))
-Follows many f = Simple many f
+abbrev pub FollowsOpcode : Bool → Form → List ℕ → Token → Type 0
+FollowsOpcode many prefixed = Chosen U32 (λ n. Simple many (sub_form n))
+FollowsOpcode many f = Simple many f
 
 abbrev pub SpellsToken : Bool → List ℕ → Token → Type 0
-SpellsToken many = Chosen Byte (λ b. Follows many (the_form b))
+SpellsToken many = Chosen Byte (λ b. FollowsOpcode many (the_form b))

@@ -18,11 +18,11 @@ use Rattle.wasm_tree.specs.Limits.{limit}
 use Rattle.wasm_tree.specs.declared.which.Which.TheVariants.{Parameters, Results}
 use Rattle.wasm_read_spec.specs.declared.fault.Fault.{Fault}
 use Rattle.wasm_read_spec.specs.declared.fault.Fault.TheVariants.{Malformed, Unsupported}
-use Rattle.wasm_read_spec.specs.Words.{S32, S64, Byte, Coded, Never, Both, Made, Chosen, When, After, Closed, Few, Any}
+use Rattle.wasm_read_spec.specs.SpellingForms.{S32, S64, Byte, Coded, Never, Both, Made, Chosen, When, After, Closed, Few, Any}
 
 -- a value type (5.3.4), where f32, f64 and v128 are known but unsupported
-unfoldable pub val_code : ℕ → Result ValType Fault
-val_code b =
+unfoldable pub val_of_code : ℕ → Result ValType Fault
+val_of_code b =
     if b == 0x7F then Ok I32
     else (if b == 0x7E then Ok I64
     else (if b == 0x70 then Ok (Ref ref.Func)
@@ -31,14 +31,14 @@ val_code b =
     else Err Malformed))))
 
 abbrev pub SpellsVal : List ℕ → ValType → Type 0
-SpellsVal = Coded val_code
+SpellsVal = Coded val_of_code
 
 -- a reference type (5.3.3)
-unfoldable pub ref_code : ℕ → Result RefType Fault
-ref_code b = if b == 0x70 then Ok ref.Func else (if b == 0x6F then Ok ref.Extern else Err Malformed)
+unfoldable pub ref_of_code : ℕ → Result RefType Fault
+ref_of_code b = if b == 0x70 then Ok ref.Func else (if b == 0x6F then Ok ref.Extern else Err Malformed)
 
 abbrev pub SpellsRef : List ℕ → RefType → Type 0
-SpellsRef = Coded ref_code
+SpellsRef = Coded ref_of_code
 
 -- a function type (5.3.6)
 abbrev pub SpellsFuncType : List ℕ → FuncType → Type 0
@@ -65,11 +65,11 @@ abbrev pub SpellsTable : List ℕ → TableType → Type 0
 SpellsTable bytes t = Both SpellsRef SpellsLimits bytes (t.ty, t.limits)
 
 -- mutability and a global type (5.3.10)
-unfoldable pub mut_code : ℕ → Result Bool Fault
-mut_code b = if b == 0x00 then Ok false else (if b == 0x01 then Ok true else Err Malformed)
+unfoldable pub mut_of_code : ℕ → Result Bool Fault
+mut_of_code b = if b == 0x00 then Ok false else (if b == 0x01 then Ok true else Err Malformed)
 
 abbrev pub SpellsGlobal : List ℕ → GlobalType → Type 0
-SpellsGlobal bytes g = Both SpellsVal (Coded mut_code) bytes (g.ty, g.mutable)
+SpellsGlobal bytes g = Both SpellsVal (Coded mut_of_code) bytes (g.ty, g.mutable)
 
 -- a block type (5.4.1)
 abbrev pub SpellsBlockType : List ℕ → BlockType → Type 0

@@ -5,7 +5,7 @@ use Rattle.wasm_tree.specs.declared.types.ValType.TheVariants.{I32}
 use Rattle.wasm_tree.specs.declared.instr.Instr.{Instr, Row_of-Instr, end_of-Instr, more_of-Instr}
 use Rattle.wasm_tree.specs.declared.instr.Instr.{Block', Loop', If'}
 use Rattle.wasm_valid_bodies.specs.Typing.{Stack, operands, Effect, Gives, Acts, Signature, Context, under, signature_of, effect_of, Ends, Fits, Leads, LeadsAll, WellTyped}
-use Rattle.wasm_valid_bodies.specs.Tracking.{Instance, Concrete, StepsTo, Follows, pop_all, act, answer_of}
+use Rattle.wasm_valid_bodies.specs.Tracking.{Instance, Concrete, StepsTo, TracksStep, pop_all, act, answer_of}
 use Rattle.wasm_valid_bodies.proofs.Pops.{pop_all-on, pop_all-back, padded}
 use Rattle.wasm_valid_bodies.proofs.Acts.{act-on, act-back}
 use Rattle.wasm_valid_bodies.proofs.Runs.{IsPlain, plain_arm, own_instance, own_concrete, nothing_below, nothing_kept}
@@ -15,7 +15,7 @@ Relation = Stack → Stack → Type 0
 
 -- what a relation leads to from the stacks that are kept so
 abbrev IsTracked : Relation → Stack → Bool → Type 0
-IsTracked F xs o = (ys : Stack) × (p : Bool) × (ok : Bool) × Follows F xs o ys p ok
+IsTracked F xs o = (ys : Stack) × (p : Bool) × (ok : Bool) × TracksStep F xs o ys p ok
 
 acts_tracked : (e : Effect) (xs : Stack) (o : Bool) (r : Option (Stack × Bool)) → act e xs o ≡ r → IsTracked (Acts e) xs o
 acts_tracked e xs o None h = ([], false, false, λ s t i a. let r = act-on e xs o s t i a in cc)

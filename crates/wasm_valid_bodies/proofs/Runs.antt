@@ -12,7 +12,7 @@ use Rattle.std.specs.Bool.{OnTrue}
 use Rattle.std.specs.Prelude.{Ok, Err}
 use Rattle.std.specs.declared.alloc.AllocError.{AllocError}
 use Rattle.wasm_valid_bodies.specs.Typing.{Stack, AllMatch, operands, Effect, Gives, Acts, Signature, Context, under, signature_of, effect_of, Ends, ActsAs, Fits, Leads, LeadsAll, WellTyped}
-use Rattle.wasm_valid_bodies.specs.Tracking.{Instance, Concrete, StepsTo, Fails, Follows, pop_all, act, answer_of}
+use Rattle.wasm_valid_bodies.specs.Tracking.{Instance, Concrete, StepsTo, Fails, TracksStep, pop_all, act, answer_of}
 use Rattle.wasm_valid_bodies.specs.Kept.{when}
 use Rattle.wasm_valid_bodies.proofs.Rows.{to_list, to_row}
 use Rattle.wasm_valid_bodies.proofs.Pops.{pop_all-on, pop_all-back, padded}
@@ -30,14 +30,14 @@ ends_from c v ps rs (last, l, m) =
 abbrev Relation : Type 1
 Relation = Stack → Stack → Type 0
 
-follows_acts : (e : Effect) (xs : Stack) (o : Bool) (ys : Stack) (p ok : Bool) → act e xs o ≡ when ok (ys, p) → Follows (Acts e) xs o ys p ok
+follows_acts : (e : Effect) (xs : Stack) (o : Bool) (ys : Stack) (p ok : Bool) → act e xs o ≡ when ok (ys, p) → TracksStep (Acts e) xs o ys p ok
 follows_acts e xs o ys p false h = λ s t i a. let r = act-on e xs o s t i a in cc
 follows_acts e xs o ys p true h = record {
   back = λ t k. act-back e xs o (ys, p) t h k;
   on = λ s t i a. let r = act-on e xs o s t i a in let q : ◌≡◌ {A = Stack × Bool} r.0 (ys, p) = cc in subst (λ (z : Stack × Bool). Instance z.0 z.1 t) q r.2;
 }
 
-follows_map : (F G : Relation) → ((s t : Stack) → F s t → G s t) → ((s t : Stack) → G s t → F s t) → (xs : Stack) (o : Bool) (ys : Stack) (p ok : Bool) → Follows F xs o ys p ok → Follows G xs o ys p ok
+follows_map : (F G : Relation) → ((s t : Stack) → F s t → G s t) → ((s t : Stack) → G s t → F s t) → (xs : Stack) (o : Bool) (ys : Stack) (p ok : Bool) → TracksStep F xs o ys p ok → TracksStep G xs o ys p ok
 follows_map F G to from xs o ys p false h = λ s t i g. h s t i (from s t g)
 follows_map F G to from xs o ys p true h = record {
   back = λ t k. let b = h.back t k in (b.0, b.1, to b.0 t b.2);
@@ -45,7 +45,7 @@ follows_map F G to from xs o ys p true h = record {
 }
 
 -- an instruction with no body
-by_effect : (m : Option Effect) (xs : Stack) (o : Bool) (ys : Stack) (p ok : Bool) → answer_of m xs o ≡ when ok (ys, p) → Follows (ActsAs m) xs o ys p ok
+by_effect : (m : Option Effect) (xs : Stack) (o : Bool) (ys : Stack) (p ok : Bool) → answer_of m xs o ≡ when ok (ys, p) → TracksStep (ActsAs m) xs o ys p ok
 by_effect None xs o ys p false h = λ s t i (e, g, a). cc
 by_effect None xs o ys p true h = cc
 by_effect (Some e) xs o ys p ok h =
@@ -57,7 +57,7 @@ IsPlain (Loop' bt n body) = ⊥
 IsPlain (If' bt n body m other) = ⊥
 IsPlain _ = Unit {0}
 
-pub plain_arm : (c : Context) (i : Instr) (xs : Stack) (o : Bool) (ys : Stack) (p ok : Bool) → IsPlain i → answer_of (effect_of c i) xs o ≡ when ok (ys, p) → Follows (Fits c i) xs o ys p ok
+pub plain_arm : (c : Context) (i : Instr) (xs : Stack) (o : Bool) (ys : Stack) (p ok : Bool) → IsPlain i → answer_of (effect_of c i) xs o ≡ when ok (ys, p) → TracksStep (Fits c i) xs o ys p ok
 plain_arm c (Block' bt n body) xs o ys p ok plain h = absurd plain
 plain_arm c (Loop' bt n body) xs o ys p ok plain h = absurd plain
 plain_arm c (If' bt n body m other) xs o ys p ok plain h = absurd plain
@@ -66,7 +66,7 @@ plain_arm c i xs o ys p ok plain h = by_effect (effect_of c i) xs o ys p ok h
 same_signature : (m : Option Signature) (f g : Signature) → Some f ≡ m → m ≡ Some g → g ≡ f
 same_signature m f g h k = cc
 
-pub block_arm : (c : Context) (bt : BlockType) (v : List Instr) (f : Signature) (xs : Stack) (o : Bool) (ys : Stack) (p ok : Bool) → Some f ≡ signature_of c.types bt → WellTyped (under c f.results) v f.params f.results → act (Gives f.params f.results) xs o ≡ when ok (ys, p) → Follows (Fits c (Block bt v)) xs o ys p ok
+pub block_arm : (c : Context) (bt : BlockType) (v : List Instr) (f : Signature) (xs : Stack) (o : Bool) (ys : Stack) (p ok : Bool) → Some f ≡ signature_of c.types bt → WellTyped (under c f.results) v f.params f.results → act (Gives f.params f.results) xs o ≡ when ok (ys, p) → TracksStep (Fits c (Block bt v)) xs o ys p ok
 block_arm c bt v f xs o ys p ok sig w h =
     follows_map (Acts (Gives f.params f.results)) (Fits c (Block bt v)) (λ s t a. (f, sym sig, ends_from (under c f.results) v f.params f.results w, a)) (λ s t (g, e, l, a). subst (λ z. Acts (Gives z.params z.results) s t) (same_signature _ f g sig e) a) xs o ys p ok (follows_acts (Gives f.params f.results) xs o ys p ok h)
 
@@ -74,7 +74,7 @@ pub block_stop : (c : Context) (bt : BlockType) (v : List Instr) (f : Signature)
 block_stop c bt v f xs o sig never s t i (g, e, l, a) =
     never (subst (λ z. WellTyped (under c z.results) v z.params z.results) (same_signature _ f g sig e) (ends_to (under c g.results) v g.params g.results l))
 
-pub loop_arm : (c : Context) (bt : BlockType) (v : List Instr) (f : Signature) (xs : Stack) (o : Bool) (ys : Stack) (p ok : Bool) → Some f ≡ signature_of c.types bt → WellTyped (under c f.params) v f.params f.results → act (Gives f.params f.results) xs o ≡ when ok (ys, p) → Follows (Fits c (Loop bt v)) xs o ys p ok
+pub loop_arm : (c : Context) (bt : BlockType) (v : List Instr) (f : Signature) (xs : Stack) (o : Bool) (ys : Stack) (p ok : Bool) → Some f ≡ signature_of c.types bt → WellTyped (under c f.params) v f.params f.results → act (Gives f.params f.results) xs o ≡ when ok (ys, p) → TracksStep (Fits c (Loop bt v)) xs o ys p ok
 loop_arm c bt v f xs o ys p ok sig w h =
     follows_map (Acts (Gives f.params f.results)) (Fits c (Loop bt v)) (λ s t a. (f, sym sig, ends_from (under c f.params) v f.params f.results w, a)) (λ s t (g, e, l, a). subst (λ z. Acts (Gives z.params z.results) s t) (same_signature _ f g sig e) a) xs o ys p ok (follows_acts (Gives f.params f.results) xs o ys p ok h)
 
@@ -82,7 +82,7 @@ pub loop_stop : (c : Context) (bt : BlockType) (v : List Instr) (f : Signature) 
 loop_stop c bt v f xs o sig never s t i (g, e, l, a) =
     never (subst (λ z. WellTyped (under c z.params) v z.params z.results) (same_signature _ f g sig e) (ends_to (under c g.params) v g.params g.results l))
 
-pub if_arm : (c : Context) (bt : BlockType) (v w : List Instr) (f : Signature) (xs : Stack) (o : Bool) (ys : Stack) (p ok : Bool) → Some f ≡ signature_of c.types bt → WellTyped (under c f.results) v f.params f.results → WellTyped (under c f.results) w f.params f.results → act (Gives (f.params ++ I32 ∷ []) f.results) xs o ≡ when ok (ys, p) → Follows (Fits c (If bt v w)) xs o ys p ok
+pub if_arm : (c : Context) (bt : BlockType) (v w : List Instr) (f : Signature) (xs : Stack) (o : Bool) (ys : Stack) (p ok : Bool) → Some f ≡ signature_of c.types bt → WellTyped (under c f.results) v f.params f.results → WellTyped (under c f.results) w f.params f.results → act (Gives (f.params ++ I32 ∷ []) f.results) xs o ≡ when ok (ys, p) → TracksStep (Fits c (If bt v w)) xs o ys p ok
 if_arm c bt v w f xs o ys p ok sig vt wt h =
     follows_map (Acts (Gives (f.params ++ I32 ∷ []) f.results)) (Fits c (If bt v w)) (λ s t a. (f, sym sig, ends_from (under c f.results) v f.params f.results vt, ends_from (under c f.results) w f.params f.results wt, a)) (λ s t (g, e, l, m, a). subst (λ z. Acts (Gives (z.params ++ I32 ∷ []) z.results) s t) (same_signature _ f g sig e) a) xs o ys p ok (follows_acts (Gives (f.params ++ I32 ∷ []) f.results) xs o ys p ok h)
 
@@ -191,19 +191,19 @@ module _ (c : Context) (i : Instr) (bt : BlockType) (v : List Instr) (f : Signat
   else_stopped u ok e w n =
       subst (λ z. Fails (Fits c z) xs o) (sym e) (else_stop c bt u v f xs o sig (λ x. not_typed _ ok w n (subst (λ z. WellTyped (under c f.results) z f.params f.results) (sym same) x)))
 
-  pub block_done : (ok : Bool) (r : Result Bool AllocError) (ys : Stack) (p : Bool) → i ≡ Block bt v → IsTrue ok ↔ WellTyped (under c f.results) is f.params f.results → ok ≡ true → IfOk r (λ b. act (Gives f.params f.results) xs o ≡ when b (ys, p)) → IfOk r (λ b. Follows (Fits c i) xs o ys p b)
+  pub block_done : (ok : Bool) (r : Result Bool AllocError) (ys : Stack) (p : Bool) → i ≡ Block bt v → IsTrue ok ↔ WellTyped (under c f.results) is f.params f.results → ok ≡ true → IfOk r (λ b. act (Gives f.params f.results) xs o ≡ when b (ys, p)) → IfOk r (λ b. TracksStep (Fits c i) xs o ys p b)
   block_done ok r ys p e w y =
-      IfOk-weaker r _ _ (λ b h. subst (λ z. Follows (Fits c z) xs o ys p b) (sym e) (block_arm c bt v f xs o ys p b sig (subst (λ z. WellTyped (under c f.results) z f.params f.results) same (w.0 y)) h))
+      IfOk-weaker r _ _ (λ b h. subst (λ z. TracksStep (Fits c z) xs o ys p b) (sym e) (block_arm c bt v f xs o ys p b sig (subst (λ z. WellTyped (under c f.results) z f.params f.results) same (w.0 y)) h))
 
-  pub loop_done : (ok : Bool) (r : Result Bool AllocError) (ys : Stack) (p : Bool) → i ≡ Loop bt v → IsTrue ok ↔ WellTyped (under c f.params) is f.params f.results → ok ≡ true → IfOk r (λ b. act (Gives f.params f.results) xs o ≡ when b (ys, p)) → IfOk r (λ b. Follows (Fits c i) xs o ys p b)
+  pub loop_done : (ok : Bool) (r : Result Bool AllocError) (ys : Stack) (p : Bool) → i ≡ Loop bt v → IsTrue ok ↔ WellTyped (under c f.params) is f.params f.results → ok ≡ true → IfOk r (λ b. act (Gives f.params f.results) xs o ≡ when b (ys, p)) → IfOk r (λ b. TracksStep (Fits c i) xs o ys p b)
   loop_done ok r ys p e w y =
-      IfOk-weaker r _ _ (λ b h. subst (λ z. Follows (Fits c z) xs o ys p b) (sym e) (loop_arm c bt v f xs o ys p b sig (subst (λ z. WellTyped (under c f.params) z f.params f.results) same (w.0 y)) h))
+      IfOk-weaker r _ _ (λ b h. subst (λ z. TracksStep (Fits c z) xs o ys p b) (sym e) (loop_arm c bt v f xs o ys p b sig (subst (λ z. WellTyped (under c f.params) z f.params f.results) same (w.0 y)) h))
 
-  pub if_done : (u : List Instr) (us : List Instr) (ok more : Bool) (r : Result Bool AllocError) (ys : Stack) (p : Bool) → us ≡ u → i ≡ If bt v u → IsTrue ok ↔ WellTyped (under c f.results) is f.params f.results → ok ≡ true → IsTrue more ↔ WellTyped (under c f.results) us f.params f.results → more ≡ true → IfOk r (λ b. act (Gives (f.params ++ I32 ∷ []) f.results) xs o ≡ when b (ys, p)) → IfOk r (λ b. Follows (Fits c i) xs o ys p b)
+  pub if_done : (u : List Instr) (us : List Instr) (ok more : Bool) (r : Result Bool AllocError) (ys : Stack) (p : Bool) → us ≡ u → i ≡ If bt v u → IsTrue ok ↔ WellTyped (under c f.results) is f.params f.results → ok ≡ true → IsTrue more ↔ WellTyped (under c f.results) us f.params f.results → more ≡ true → IfOk r (λ b. act (Gives (f.params ++ I32 ∷ []) f.results) xs o ≡ when b (ys, p)) → IfOk r (λ b. TracksStep (Fits c i) xs o ys p b)
   if_done u us ok more r ys p same_u e w y w2 y2 =
-      IfOk-weaker r _ _ (λ b h. subst (λ z. Follows (Fits c z) xs o ys p b) (sym e) (if_arm c bt v u f xs o ys p b sig (subst (λ z. WellTyped (under c f.results) z f.params f.results) same (w.0 y)) (subst (λ z. WellTyped (under c f.results) z f.params f.results) same_u (w2.0 y2)) h))
+      IfOk-weaker r _ _ (λ b h. subst (λ z. TracksStep (Fits c z) xs o ys p b) (sym e) (if_arm c bt v u f xs o ys p b sig (subst (λ z. WellTyped (under c f.results) z f.params f.results) same (w.0 y)) (subst (λ z. WellTyped (under c f.results) z f.params f.results) same_u (w2.0 y2)) h))
 
-pub plain_done : (c : Context) (i : Instr) (xs : Stack) (o : Bool) (r : Result Bool AllocError) (ys : Stack) (p : Bool) → IsPlain i → IfOk r (λ b. answer_of (effect_of c i) xs o ≡ when b (ys, p)) → IfOk r (λ b. Follows (Fits c i) xs o ys p b)
+pub plain_done : (c : Context) (i : Instr) (xs : Stack) (o : Bool) (r : Result Bool AllocError) (ys : Stack) (p : Bool) → IsPlain i → IfOk r (λ b. answer_of (effect_of c i) xs o ≡ when b (ys, p)) → IfOk r (λ b. TracksStep (Fits c i) xs o ys p b)
 plain_done c i xs o r ys p plain = IfOk-weaker r _ _ (λ b h. plain_arm c i xs o ys p b plain h)
 
 pub on_true : (b : Bool) (P : Type 0) → OnTrue b P → b ≡ true → P
@@ -220,10 +220,10 @@ kept_so (Ok b) P h = true_or_not b P h
 kept_so (Err e) P h = tt
 
 -- a turn of the loop over a body
-pub turn : (c : Context) (is : List Instr) (ps : List ValType) (xs : Stack) (o : Bool) (ys : Stack) (p ok : Bool) (n : ℕ) (i : Instr) → n < length is → i ≡ get_or is n i → Rest c is ps xs o (drop n is) → Follows (Fits c i) xs o ys p ok → ok ≡ true → Rest c is ps ys p (drop (n + 1) is)
+pub turn : (c : Context) (is : List Instr) (ps : List ValType) (xs : Stack) (o : Bool) (ys : Stack) (p ok : Bool) (n : ℕ) (i : Instr) → n < length is → i ≡ get_or is n i → Rest c is ps xs o (drop n is) → TracksStep (Fits c i) xs o ys p ok → ok ≡ true → Rest c is ps ys p (drop (n + 1) is)
 turn c is ps xs o ys p ok n i lt e r f y =
-    rest_step c is ps xs o ys p n i lt r (subst (λ z. StepsTo (Fits c z) xs o ys p) e (subst (Follows (Fits c i) xs o ys p) y f))
+    rest_step c is ps xs o ys p n i lt r (subst (λ z. StepsTo (Fits c z) xs o ys p) e (subst (TracksStep (Fits c i) xs o ys p) y f))
 
-pub stopped : (c : Context) (is : List Instr) (ps rs : List ValType) (xs : Stack) (o : Bool) (ys : Stack) (p ok : Bool) (n : ℕ) (i : Instr) → n < length is → i ≡ get_or is n i → Rest c is ps xs o (drop n is) → Follows (Fits c i) xs o ys p ok → ok ≡ false → IsTrue false ↔ WellTyped c is ps rs
+pub stopped : (c : Context) (is : List Instr) (ps rs : List ValType) (xs : Stack) (o : Bool) (ys : Stack) (p ok : Bool) (n : ℕ) (i : Instr) → n < length is → i ≡ get_or is n i → Rest c is ps xs o (drop n is) → TracksStep (Fits c i) xs o ys p ok → ok ≡ false → IsTrue false ↔ WellTyped c is ps rs
 stopped c is ps rs xs o ys p ok n i lt e r f y =
-    (λ h. cc, λ w. absurd (rest_stop c is ps rs xs o n i lt r (subst (λ z. Fails (Fits c z) xs o) e (subst (Follows (Fits c i) xs o ys p) y f)) w))
+    (λ h. cc, λ w. absurd (rest_stop c is ps rs xs o n i lt r (subst (λ z. Fails (Fits c z) xs o) e (subst (TracksStep (Fits c i) xs o ys p) y f)) w))

@@ -37,9 +37,9 @@ pub record StepsTo (F : Stack → Stack → Type 0) (xs : Stack) (o : Bool) (ys 
 abbrev pub Fails : (Stack → Stack → Type 0) → Stack → Bool → Type 0
 Fails F xs o = (s t : Stack) → Instance xs o s → F s t → ⊥
 
-abbrev pub Follows : (Stack → Stack → Type 0) → Stack → Bool → Stack → Bool → Bool → Type 0
-Follows F xs o ys p false = Fails F xs o
-Follows F xs o ys p true = StepsTo F xs o ys p
+abbrev pub TracksStep : (Stack → Stack → Type 0) → Stack → Bool → Stack → Bool → Bool → Type 0
+TracksStep F xs o ys p false = Fails F xs o
+TracksStep F xs o ys p true = StepsTo F xs o ys p
 
 -- one number for each value type
 abbrev pub letter : ValType → ℕ

@@ -3,7 +3,7 @@
 ghost use Rattle.std.specs.Prelude.{◌≡◌, ◌↔◌, ◌∷◌, [], IfOk, IsTrue};
 ghost use Rattle.std.specs.Bool.{OnTrue};
 ghost use Rattle.wasm_valid_bodies.specs.Typing.{Fits, WellTyped};
-ghost use Rattle.wasm_valid_bodies.specs.Tracking.{Follows};
+ghost use Rattle.wasm_valid_bodies.specs.Tracking.{TracksStep};
 ghost use Rattle.wasm_valid_bodies.specs.Kept.{stack_of, beneath, IsBack};
 ghost use Rattle.wasm_valid_bodies.specs.Labels.{label_list};
 ghost use Rattle.wasm_valid_bodies.specs.ScopeWords.{context_of};
@@ -24,7 +24,7 @@ fn step<'a>(
     kept: &mut Kept,
     instr: &'a Instr,
 ) -> Result<bool, AllocError>
-    ensures typed { IfOk result (λ ok. Follows (Fits (context_of scope.now (label_list labels.old)) instr.now) (stack_of kept.old) kept.old.any_below (stack_of kept.new) kept.new.any_below ok) }
+    ensures typed { IfOk result (λ ok. TracksStep (Fits (context_of scope.now (label_list labels.old)) instr.now) (stack_of kept.old) kept.old.any_below (stack_of kept.new) kept.new.any_below ok) }
     ensures labels { IfOk result (λ ok. OnTrue ok (label_list labels.new ≡ label_list labels.old)) }
     ensures beneath { IfOk result (λ ok. OnTrue ok (beneath kept.new ≡ beneath kept.old)) }
 {

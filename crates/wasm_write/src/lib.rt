@@ -22,10 +22,10 @@ mod types;
 use crate::buffer::Buffer;
 use crate::sections::spell_module;
 use crate::size::Size;
-use wasm_write_proof::plain_spells;
 use std::alloc::Global;
 use wasm_bytes::NoMemory;
 use wasm_tree::Module;
+use wasm_write_proof::plain_spells;
 
 /// The plain spelling of the module (WebAssembly Core 2.0, section 5.5.16): no empty and no custom section, each number in
 /// its shortest spelling, and a data count exactly where a body has `memory.init` or `data.drop`.

@@ -22,7 +22,7 @@ use Rattle.wasm_read_spec.specs.declared.token.Token.TheVariants.{Open, Else, En
 use Rattle.base_lists.specs.Every.{Every}
 use Rattle.wasm_read_spec.specs.Values.{SpellsBlockType}
 use Rattle.wasm_read_spec.specs.Operations.{un_of, bin_of, load_of, store_of}
-use Rattle.wasm_read_spec.specs.Tokens.{Form, plain, number, numbers, const32, const64, table, typed, access, memory, memories, with_memory, null, open', else', end', prefixed, unsupported, unknown, or_else, the_form, rest_form, sub_form, arg_form, SpellsMemArg, SpellsMemory, Simple, Follows, SpellsToken}
+use Rattle.wasm_read_spec.specs.Tokens.{Form, plain, number, numbers, const32, const64, table, typed, access, memory, memories, with_memory, null, open', else', end', prefixed, unsupported, unknown, or_else, the_form, rest_form, sub_form, arg_form, SpellsMemArg, SpellsMemory, Simple, FollowsOpcode, SpellsToken}
 use Rattle.wasm_read_spec.specs.Bodies.{Nests, no_more, one_plain, one_block, one_loop, one_if, one_if_else, SpellsBody}
 use Rattle.wasm_tree.specs.Operands.{block_operands}
 use Rattle.wasm_write_proof.specs.Ranges.{small, spellable, all_spellable, all_in_range, IsU32}
@@ -299,7 +299,7 @@ form_sound b =
     or_sound (store_of b) _ _ (λ op. access_sound (Store op) (store_in op)) (
     rest_sound b))))
 
-follows_right : (f : Form) → Sound f → (text : List ℕ) (t : Token) → Follows false f text t → Right t
+follows_right : (f : Form) → Sound f → (text : List ℕ) (t : Token) → FollowsOpcode false f text t → Right t
 follows_right (plain i) h = h
 follows_right (number g) h = h
 follows_right (numbers g) h = h

@@ -23,7 +23,7 @@ use Rattle.wasm_read_spec.specs.declared.token.Token.{Token}
 use Rattle.wasm_read_spec.specs.declared.token.Token.TheVariants.{Open, Else, End, Plain}
 use Rattle.base_lists.specs.Every.{Every}
 use Rattle.wasm_read_spec.specs.Operations.{un_of, bin_of, load_of, store_of}
-use Rattle.wasm_read_spec.specs.Tokens.{plain, access, the_form, rest_form, sub_form, arg_form, SpellsMemArg, SpellsMemory, Follows, SpellsToken}
+use Rattle.wasm_read_spec.specs.Tokens.{plain, access, the_form, rest_form, sub_form, arg_form, SpellsMemArg, SpellsMemory, FollowsOpcode, SpellsToken}
 use Rattle.wasm_read_spec.specs.Bodies.{Nests, no_more, one_plain, one_block, one_loop, one_if, one_if_else, SpellsBody}
 use Rattle.wasm_write_spec.specs.PlainValues.{vector_text, ref_text, val_text, block_type_text}
 use Rattle.wasm_write_spec.specs.PlainCode.{un_code, bin_code, load_code, store_code, mem_arg_text, instr_step, instr_text, instrs_text, body_text}
@@ -184,7 +184,7 @@ body_of (e ∷ es) h few =
     (o.0 ++ r.0, o.1 r.0 (trees es) r.1, tokens_join o.0 r.0 (instr_text e.0) (instrs_text (trees es)) o.2 r.2)
 
 -- an opcode and what follows it
-leaf : (i : Instr) (code : ℕ) (rest : List ℕ) → Follows false (the_form code) rest (Plain i) → One i (code ∷ rest)
+leaf : (i : Instr) (code : ℕ) (rest : List ℕ) → FollowsOpcode false (the_form code) rest (Plain i) → One i (code ∷ rest)
 leaf i code rest s = (Plain i ∷ [], λ us is n. one_plain i n, (code ∷ rest, [], (code, (code ∷ [], rest, refl, s, refl)), refl, sym (append-nil (code ∷ rest))))
 
 end_spells : Each (SpellsToken false) (0x0B ∷ []) (End ∷ [])

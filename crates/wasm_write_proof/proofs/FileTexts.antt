@@ -5,7 +5,7 @@ use Rattle.std.proofs.lemmas.Bool.{lt-ltb, le-ltb, cases_lt}
 use Rattle.std.proofs.lemmas.List.{length-map}
 use Rattle.wasm_bytes.specs.Writing.{u32_text, unsigned_text, sized_text}
 use Rattle.wasm_bytes.specs.Joins.{U32, Vector}
-use Rattle.wasm_bytes.specs.Frames.{Section, header, may_follow, after, Frames}
+use Rattle.wasm_bytes.specs.Frames.{Section, header, may_follow, order_after, Frames}
 use Rattle.wasm_tree.specs.declared.types.FuncType.{FuncType}
 use Rattle.wasm_tree.specs.declared.types.Limits.{Limits}
 use Rattle.wasm_tree.specs.declared.types.TableType.{TableType}
@@ -25,8 +25,8 @@ use Rattle.wasm_tree.specs.DataUse.{any_uses_data}
 use Rattle.wasm_tree.specs.MemoryZero.{memory_zero_funcs}
 use Rattle.wasm_tree.specs.Limits.{limit}
 use Rattle.wasm_tree.specs.declared.which.Which.TheVariants.{Types, Imports, Functions, Tables, Memories, Globals, Exports, ElementSegments, DataSegments}
-use Rattle.wasm_read_spec.specs.Words.{Any, Few, Limited}
-use Rattle.wasm_read_spec.specs.Files.{SmallSection, Within, small_form, nothing, with_types, with_imports, with_func_types, with_tables, with_mems, with_globals, with_exports, with_elems, with_codes, with_datas, section_form, Contents, Counted, Rules, typed, tree_of, Spells}
+use Rattle.wasm_read_spec.specs.SpellingForms.{Any, Few, Limited}
+use Rattle.wasm_read_spec.specs.Files.{SectionIsSmall, Within, small_form, nothing, with_types, with_imports, with_func_types, with_tables, with_mems, with_globals, with_exports, with_elems, with_codes, with_datas, section_form, Contents, Counted, Rules, typed, tree_of, Spells}
 use Rattle.wasm_write_spec.specs.PlainValues.{each_text, vector_text, func_type_text, import_text, table_text, limits_text, global_text, export_text, elem_text, data_text}
 use Rattle.wasm_write_spec.specs.PlainCode.{entry_text}
 use Rattle.wasm_write_spec.specs.Plain.{section_text, list_section, start_section, count_section, plain}
@@ -43,16 +43,16 @@ use Rattle.wasm_write_proof.proofs.ItemTexts.{func_type_spells, func_type_some, 
 use Rattle.wasm_write_proof.proofs.SegmentTexts.{elem_spells, elem_some, data_spells, data_some}
 use Rattle.wasm_write_proof.proofs.EntryTexts.{untyped, Spellable, all_spellable, entry_spells, entry_some, funcs_use_same}
 
--- ---- one section after another
+-- ---- one section order_after another
 
 -- from the parts p the bytes make the parts q, behind any section whose place is at most bound; and where W is so, they are within the limits
 abbrev Rest : Type 0 → ℕ → Parts → List ℕ → Parts → Type 0
-Rest W bound p bytes q = (last : ℕ) → last ≤ bound → (ss : List Section) × Frames last bytes ss × Contents false p ss q × (W → Every (SmallSection false) ss)
+Rest W bound p bytes q = (last : ℕ) → last ≤ bound → (ss : List Section) × Frames last bytes ss × Contents false p ss q × (W → Every (SectionIsSmall false) ss)
 
-one_more : (W : Type 0) (bound next id : ℕ) (p m q : Parts) (content bytes : List ℕ) → ((last : ℕ) → last ≤ bound → may_follow last id ≡ true) → ((last : ℕ) → after last id ≤ next) →
+one_more : (W : Type 0) (bound next id : ℕ) (p m q : Parts) (content bytes : List ℕ) → ((last : ℕ) → last ≤ bound → may_follow last id ≡ true) → ((last : ℕ) → order_after last id ≤ next) →
     length content < 2 ^ 32 → section_form false p id content m → (W → small_form false id content) → Rest W next m bytes q → Rest W bound p (section_text id content ++ bytes) q
 one_more W bound next id p m q content bytes may behind few form small rest = λ last le.
-    let r = rest (after last id) (behind last) in
+    let r = rest (order_after last id) (behind last) in
     ((id, content) ∷ r.0, (section_text id content, bytes, (may last le, (sized_text content, sized_spells content few, refl)), r.1, refl), (m, form, r.2), λ w. (small w, r.3 w))
 
 pub section_short : (id : ℕ) (content : List ℕ) → length (section_text id content) < 2 ^ 32 → length content < 2 ^ 32
@@ -60,7 +60,7 @@ section_short id content h = omega (arith, h, length-append (u32_text (length co
 
 -- a section of a list, if it has items
 list_more : {A B : Type 0} (W : Type 0) (bound next id : ℕ) (p q : Parts) (set : List B → Parts) (f : A → B) (text : A → List ℕ) (xs : List A) (bytes : List ℕ) →
-    ((last : ℕ) → last ≤ bound → may_follow last id ≡ true) → ((last : ℕ) → after last id ≤ next) → set [] ≡ p → bound ≤ next →
+    ((last : ℕ) → last ≤ bound → may_follow last id ≡ true) → ((last : ℕ) → order_after last id ≤ next) → set [] ≡ p → bound ≤ next →
     (length (vector_text text xs) < 2 ^ 32 → section_form false p id (vector_text text xs) (set (map f xs))) → (length (vector_text text xs) < 2 ^ 32 → W → small_form false id (vector_text text xs)) → length (vector_text text xs) < 2 ^ 32 →
     Rest W next (set (map f xs)) bytes q → Rest W bound p (list_section id text xs ++ bytes) q
 list_more W bound next id p q set f text [] bytes may behind same le form small few rest = λ last l. subst (λ z. Rest W next z bytes q) same rest last (omega arith)
@@ -459,4 +459,4 @@ plain_spelled m r one s =
 pub plain_within : (m : Module) → InRange m → IsTrue (memory_zero_funcs m.funcs) → SmallSizes m → WithinLimits m → Within (plain m) false
 plain_within m r one s w =
     let a = all_sections m r one s 0 (omega arith) in
-    λ ss framed. subst (Every (SmallSection false)) (one_framing (plain m) a.0 ss (header, t1 m, refl, a.1, plain_regrouped m) framed) (a.3 w)
+    λ ss framed. subst (Every (SectionIsSmall false)) (one_framing (plain m) a.0 ss (header, t1 m, refl, a.1, plain_regrouped m) framed) (a.3 w)

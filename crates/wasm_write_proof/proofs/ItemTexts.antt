@@ -22,8 +22,8 @@ use Rattle.wasm_tree.specs.declared.module.Export.{Export}
 use Rattle.wasm_tree.specs.declared.module.ConstExpr.{ConstExpr}
 use Rattle.wasm_tree.specs.declared.module.ConstExpr.TheVariants as const
 use Rattle.wasm_tree.specs.declared.module.GlobalDef.{GlobalDef}
-use Rattle.wasm_read_spec.specs.Words.{Coded}
-use Rattle.wasm_read_spec.specs.Values.{val_code as val_of, ref_code as ref_of, mut_code, SpellsVal, SpellsRef, SpellsFuncType, limits_form, SpellsLimits, SpellsTable, SpellsGlobal, SpellsBlockType, const_form, SpellsConst}
+use Rattle.wasm_read_spec.specs.SpellingForms.{Coded}
+use Rattle.wasm_read_spec.specs.Values.{val_of_code as val_of, ref_of_code as ref_of, mut_of_code, SpellsVal, SpellsRef, SpellsFuncType, limits_form, SpellsLimits, SpellsTable, SpellsGlobal, SpellsBlockType, const_form, SpellsConst}
 use Rattle.wasm_read_spec.specs.Sections.{import_form, SpellsImport, SpellsGlobalDef, export_form, SpellsExport}
 use Rattle.wasm_write_spec.specs.PlainValues.{vector_text, ref_code, val_code, ref_text, val_text, func_type_text, max_text, limits_text, table_text, mutable_code, global_type_text, block_type_text, const_text, import_desc_text, import_text, global_text, export_desc_text, export_text}
 use Rattle.wasm_tree.specs.Operands.{block_operands}
@@ -89,8 +89,8 @@ pub table_some : (t : TableType) → 0 < length (table_text t)
 unfolding table_text
 table_some t = omega arith
 
-mut_spells : (b : Bool) → Coded mut_code (mutable_code b ∷ []) b
-unfolding mut_code
+mut_spells : (b : Bool) → Coded mut_of_code (mutable_code b ∷ []) b
+unfolding mut_of_code
 mut_spells false = (0x00, refl, refl)
 mut_spells true = (0x01, refl, refl)
 

@@ -7,7 +7,7 @@ use Rattle.wasm_bytes.specs.Numbers.{Unsigned, Signed, IsWithin, last_unsigned, 
 use Rattle.wasm_bytes.specs.Joins.{U32, Each, Vector}
 use Rattle.wasm_bytes.proofs.Sizes.{joined, joined_signed}
 use Rattle.base_lists.specs.Every.{Every}
-use Rattle.wasm_read_spec.specs.Words.{Made, When, Never}
+use Rattle.wasm_read_spec.specs.SpellingForms.{Made, When, Never}
 use Rattle.wasm_write_proof.specs.Ranges.{small, small_signed, IsU32}
 
 last_in : (bits b n : ℕ) → last_unsigned bits b ≡ Some n → n < 2 ^ bits

@@ -16,7 +16,7 @@ use Rattle.wasm_tree.specs.declared.module.DataMode.{DataMode}
 use Rattle.wasm_tree.specs.declared.module.DataMode.TheVariants as segment
 use Rattle.wasm_tree.specs.declared.module.DataSeg.{DataSeg}
 use Rattle.base_lists.specs.Every.{Every}
-use Rattle.wasm_read_spec.specs.Words.{Made}
+use Rattle.wasm_read_spec.specs.SpellingForms.{Made}
 use Rattle.wasm_read_spec.specs.Values.{SpellsConst}
 use Rattle.wasm_read_spec.specs.Sections.{FuncItems, ConstItems, elem_of, elem_form, SpellsElem, data_form, SpellsData}
 use Rattle.wasm_write_spec.specs.PlainValues.{ref_code, ref_text, const_text, is_func, func_of, is_funcref, all_funcs, by_index, index_items, const_items, active_by_index, active_by_const, mode_by_index, mode_by_const, elem_text, data_mode_text, data_text}

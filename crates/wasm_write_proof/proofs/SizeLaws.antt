@@ -14,7 +14,7 @@ use Rattle.wasm_tree.specs.declared.module.DataSeg.{DataSeg}
 use Rattle.wasm_tree.specs.declared.module.Func.{Func}
 use Rattle.wasm_tree.specs.declared.module.Module.{Module}
 use Rattle.base_lists.specs.Every.{Every}
-use Rattle.wasm_read_spec.specs.Words.{Any}
+use Rattle.wasm_read_spec.specs.SpellingForms.{Any}
 use Rattle.wasm_write_spec.specs.PlainValues.{vector_text, val_text, block_type_text, func_type_text, import_desc_text, import_text, table_text, limits_text, global_text, export_desc_text, export_text, const_text, func_of, by_index, index_items, const_items, elem_text, data_mode_text, data_text}
 use Rattle.wasm_write_spec.specs.PlainCode.{instr_step, instr_text, instrs_text, body_text, group_text, code_text, entry_text}
 use Rattle.wasm_write_spec.specs.Plain.{list_section, plain}

@@ -14,7 +14,7 @@ use Rattle.wasm_tree.specs.declared.module.Func.{Func}
 use Rattle.wasm_tree.specs.declared.module.Module.{Module}
 use Rattle.wasm_read_spec.specs.declared.parts.Parts.{Parts}
 use Rattle.base_lists.specs.Every.{Every}
-use Rattle.wasm_read_spec.specs.Words.{Made, Both, After, S32, S64}
+use Rattle.wasm_read_spec.specs.SpellingForms.{Made, Both, After, S32, S64}
 use Rattle.wasm_read_spec.specs.Values.{SpellsRef, SpellsFuncType, at_least, between, limits_form, SpellsLimits, SpellsTable, SpellsGlobal, const_form, SpellsConst}
 use Rattle.wasm_read_spec.specs.Sections.{import_form, SpellsImport, SpellsGlobalDef, export_form, SpellsExport, FuncItems, ConstItems, elem0, elem1, elem2, elem3, elem5, elem6, elem7, elem_form, SpellsElem, data0, data1, data2, data_form, SpellsData}
 use Rattle.wasm_read_spec.specs.Bodies.{SpellsGroup, SpellsEntry}

@@ -3,7 +3,7 @@ use Rattle.std.specs.Prelude.{◌≤◌, length}
 use Rattle.wasm_tree.specs.declared.module.Module.{Module}
 use Rattle.wasm_tree.specs.declared.which.Which.TheVariants.{Types, Imports, Functions, Tables, Memories, Globals, Exports, ElementSegments, DataSegments}
 use Rattle.wasm_tree.specs.Limits.{limit}
-use Rattle.wasm_read_spec.specs.Words.{Few}
+use Rattle.wasm_read_spec.specs.SpellingForms.{Few}
 use Rattle.wasm_read_spec.specs.Values.{SmallFuncType}
 use Rattle.wasm_read_spec.specs.Bodies.{SmallCode}
 

@@ -9,7 +9,7 @@ use Rattle.wasm_meaning.specs.Outcomes.{overwrite}
 use Rattle.wasm_meaning.specs.State.{Val, Inst, Memory, Data, Store}
 use Rattle.wasm_meaning.specs.Values.{num_of}
 use Rattle.wasm_meaning.specs.Step.{no_bytes}
-use Rattle.wasm_meaning.specs.World.{Filled, Task, fill_memory, run_data_with, and_then, in_turn}
+use Rattle.wasm_meaning.specs.World.{Filled, PlacedSegment, copy_bytes, run_data_with, and_then, one_by_one}
 use Rattle.wasm_meaning.specs.InTurn.{is_active_data}
 use Rattle.world_sequential_proof.proofs.FillRuns.{Job, Skip, Fill, run, runs, LowJob, low_skip, low_fill, LowJobs, Kept, kept_skip, kept_fill, KeptAll}
 use Rattle.world_sequential_proof.proofs.FillTurns.{Turned, goes_on, stops, or_turned}
@@ -35,27 +35,27 @@ data_segment value i n s = data_job value i n s.mode
 abbrev pub data_jobs : (ConstExpr → Option Val) → Inst → List ℕ → List DataSeg → List Job
 data_jobs = jobs data_segment
 
-abbrev pub data_task_job : (ℕ → ConstExpr → Option Val) → Task DataSeg → Job
+abbrev pub data_task_job : (ℕ → ConstExpr → Option Val) → PlacedSegment DataSeg → Job
 data_task_job = task_job data_segment
 
-abbrev pub data_turn : (ℕ → ConstExpr → Option Val) → Store → Task DataSeg → Filled
+abbrev pub data_turn : (ℕ → ConstExpr → Option Val) → Store → PlacedSegment DataSeg → Filled
 data_turn value s task = run_data_with (value task.part) s task task.segment.mode
 
-data_turned_one : (value : ConstExpr → Option Val) (s : Store) (task : Task DataSeg) (mode : DataMode) → Turned (with_memories s) (run Memory Data memory_fill no_bytes (data_job value task.inst task.address mode) (s.mems, s.datas)) (run_data_with value s task mode)
+data_turned_one : (value : ConstExpr → Option Val) (s : Store) (task : PlacedSegment DataSeg) (mode : DataMode) → Turned (with_memories s) (run Memory Data memory_fill no_bytes (data_job value task.inst task.address mode) (s.mems, s.datas)) (run_data_with value s task mode)
 data_turned_one value s task data'.Passive = goes_on
 data_turned_one value s task (data'.Active x offset) =
     or_turned (with_memories s) s (option_and_then (num_of W32) (value offset)) _ _ (λ n. or_turned (with_memories s) s (slice_get task.inst.mems x) _ _ (λ a. or_turned (with_memories s) s (slice_get s.mems a) _ _ (λ t. or_turned (with_memories s) s (slice_get s.datas task.address) _ _ (λ e. last a t (overwrite t.bytes n e.bytes)))))
   where
-    last : (a : ℕ) (t : Memory) (o : Option (List ℕ)) → Turned (with_memories s) (option_and_then (λ z. Some (slice_set s.mems a z, slice_set s.datas task.address no_bytes)) (option_and_then (λ bytes. Some (record t { bytes = bytes })) o)) (fill_memory s task.address a t o)
+    last : (a : ℕ) (t : Memory) (o : Option (List ℕ)) → Turned (with_memories s) (option_and_then (λ z. Some (slice_set s.mems a z, slice_set s.datas task.address no_bytes)) (option_and_then (λ bytes. Some (record t { bytes = bytes })) o)) (copy_bytes s task.address a t o)
     last a t (Some bytes) = goes_on
     last a t None = stops
 
-pub datas_turned : (value : ℕ → ConstExpr → Option Val) (tasks : List (Task DataSeg)) (s : Store) → Turned (with_memories s) (data_runs (map (data_task_job value) tasks) (s.mems, s.datas)) (in_turn (data_turn value) s tasks)
+pub datas_turned : (value : ℕ → ConstExpr → Option Val) (tasks : List (PlacedSegment DataSeg)) (s : Store) → Turned (with_memories s) (data_runs (map (data_task_job value) tasks) (s.mems, s.datas)) (one_by_one (data_turn value) s tasks)
 datas_turned value [] s = goes_on
 datas_turned value (task ∷ tasks) s = go (data_turned_one (value task.part) s task task.segment.mode) (datas_turned value tasks)
   where
-    go : {o : Option (List Memory × List Data)} {f : Filled} → Turned (with_memories s) o f → ((u : Store) → Turned (with_memories u) (data_runs (map (data_task_job value) tasks) (u.mems, u.datas)) (in_turn (data_turn value) u tasks)) →
-        Turned (with_memories s) (option_and_then (data_runs (map (data_task_job value) tasks)) o) (and_then f (λ s. in_turn (data_turn value) s tasks))
+    go : {o : Option (List Memory × List Data)} {f : Filled} → Turned (with_memories s) o f → ((u : Store) → Turned (with_memories u) (data_runs (map (data_task_job value) tasks) (u.mems, u.datas)) (one_by_one (data_turn value) u tasks)) →
+        Turned (with_memories s) (option_and_then (data_runs (map (data_task_job value) tasks)) o) (and_then f (λ s. one_by_one (data_turn value) s tasks))
     go (goes_on {c = c}) h = h (with_memories s c)
     go stops h = stops
 

@@ -6,7 +6,7 @@ use Rattle.wasm_tree.specs.declared.module.Module.{Module}
 use Rattle.wasm_meaning.specs.State.{Val, Inst}
 use Rattle.wasm_meaning.specs.Linking.{Part, module_at}
 use Rattle.wasm_meaning.specs.Environment.{Environment, any_of}
-use Rattle.wasm_meaning.specs.World.{Task, tasks_in, value_of}
+use Rattle.wasm_meaning.specs.World.{PlacedSegment, segments_in, value_of}
 use Rattle.world_sequential_proof.proofs.FillRuns.{Job, Skip, run, runs, rest_jobs, LowJob, LowJobs, low_none, low_more, Kept, KeptAll, kept_none, kept_more}
 
 abbrev or_no_jobs : Option (List Job) → List Job
@@ -18,10 +18,10 @@ module _ {S : Type 0} (job : (ConstExpr → Option Val) → Inst → ℕ → S �
   jobs value i (n ∷ ns) (s ∷ ss) = job value i n s ∷ jobs value i ns ss
   jobs value i _ _ = []
 
-  abbrev pub task_job : (ℕ → ConstExpr → Option Val) → Task S → Job
+  abbrev pub task_job : (ℕ → ConstExpr → Option Val) → PlacedSegment S → Job
   task_job value task = job (value task.part) task.inst task.address task.segment
 
-  pub tasks_jobs : (value : ℕ → ConstExpr → Option Val) (p : ℕ) (i : Inst) (ns : List ℕ) (ss : List S) → map (task_job value) (tasks_in p i ns ss) ≡ jobs (value p) i ns ss
+  pub tasks_jobs : (value : ℕ → ConstExpr → Option Val) (p : ℕ) (i : Inst) (ns : List ℕ) (ss : List S) → map (task_job value) (segments_in p i ns ss) ≡ jobs (value p) i ns ss
   tasks_jobs value p i [] ss = refl
   tasks_jobs value p i (n ∷ ns) [] = refl
   tasks_jobs value p i (n ∷ ns) (s ∷ ss) = ap (λ js. job (value p) i n s ∷ js) (tasks_jobs value p i ns ss)
@@ -74,7 +74,7 @@ module _ {S : Type 0} (job : (ConstExpr → Option Val) → Inst → ℕ → S �
       rest = rest_jobs X Y fill empty jobs_of
 
       -- the tasks of all parts, by part
-      module _ (tasks : ℕ → List Part → List Inst → List (Task S)) (no_tasks : (p : ℕ) → tasks p [] [] ≡ []) (more_tasks : (p : ℕ) (part : Part) (ps : List Part) (i : Inst) (is : List Inst) → tasks p (part ∷ ps) (i ∷ is) ≡ tasks_in p i (addresses i) (segments_of part.«module») ++ tasks (suc p) ps is) where
+      module _ (tasks : ℕ → List Part → List Inst → List (PlacedSegment S)) (no_tasks : (p : ℕ) → tasks p [] [] ≡ []) (more_tasks : (p : ℕ) (part : Part) (ps : List Part) (i : Inst) (is : List Inst) → tasks p (part ∷ ps) (i ∷ is) ≡ segments_in p i (addresses i) (segments_of part.«module») ++ tasks (suc p) ps is) where
         by_part : (p : ℕ) (ps : List Part) (is : List Inst) → ((q : ℕ) (m : Module) → module_at ps q ≡ Some m → module_at parts (p + q) ≡ Some m) → ((q : ℕ) → slice_get is q ≡ slice_get insts (p + q)) → length is ≡ length ps → map (task_job (value_of env parts insts)) (tasks p ps is) ≡ rest (length ps) p
         by_part p [] [] f g e = ap (map (task_job (value_of env parts insts))) (no_tasks p)
         by_part p [] (i ∷ is) f g e = absurd (omega (arith, e))
@@ -83,7 +83,7 @@ module _ {S : Type 0} (job : (ConstExpr → Option Val) → Inst → ℕ → S �
             let z : p + 0 ≡ p = omega arith in
             let is_part : module_at parts p ≡ Some part.«module» = ap (module_at parts) (sym z) ∙ f 0 part.«module» refl in
             let is_inst : slice_get insts p ≡ Some i = ap (slice_get insts) (sym z) ∙ sym (g 0) in
-            ap (map (task_job (value_of env parts insts))) (more_tasks p part ps i is) ∙ map-append (task_job (value_of env parts insts)) (tasks_in p i (addresses i) (segments_of part.«module»)) (tasks (suc p) ps is)
+            ap (map (task_job (value_of env parts insts))) (more_tasks p part ps i is) ∙ map-append (task_job (value_of env parts insts)) (segments_in p i (addresses i) (segments_of part.«module»)) (tasks (suc p) ps is)
             ∙ ap₂ (λ xs ys. xs ++ ys) (tasks_jobs (value_of env parts insts) p i (addresses i) (segments_of part.«module») ∙ sym (jobs_at p part.«module» i is_part is_inst))
             (by_part (suc p) ps is (λ q m h. ap (module_at parts) (let n : suc p + q ≡ p + suc q = omega arith in n) ∙ f (suc q) m h) (λ q. g (suc q) ∙ ap (slice_get insts) (let n : p + suc q ≡ suc p + q = omega arith in n)) (omega (arith, e)))
 

@@ -6,7 +6,7 @@ use Rattle.wasm_meaning.specs.State.{Inst, Table, Memory, Elem, Data, Store}
 use Rattle.wasm_meaning.specs.Step.{no_items, no_bytes}
 use Rattle.wasm_meaning.specs.Linking.{Part, module_at, sites}
 use Rattle.wasm_meaning.specs.Environment.{Environment, all_of}
-use Rattle.wasm_meaning.specs.World.{base, is_matched, insts_from, own_store, stores_from, part_store, joined_stores, const_value, value_of, elem_tasks, data_tasks, segments, defined_before}
+use Rattle.wasm_meaning.specs.World.{base, is_matched, insts_from, own_store, stores_from, part_store, joined_stores, const_value, value_of, placed_elems, placed_datas, segments, defined_before}
 use Rattle.wasm_meaning.specs.InTurn.{JoinsEarlier, own_segments}
 use Rattle.world_sequential_proof.proofs.Joined.{ExportsThere}
 use Rattle.world_sequential_proof.proofs.FillAddresses.{numbers_low, space_low}
@@ -80,7 +80,7 @@ module _ (env : Environment) (parts : List Part) (insts : List Inst) (are : inst
 
       pub filled_next : (segments env parts insts allocated).trapped ≡ false → Next k m i t a
       filled_next well =
-          let all = both_went (value_of env parts insts) (elem_tasks 0 parts insts) (data_tasks 0 parts insts) allocated well in
+          let all = both_went (value_of env parts insts) (placed_elems 0 parts insts) (placed_datas 0 parts insts) allocated well in
           let l = module_there parts k m is_part in
           let es = next_runs Table Elem table_fill no_items (elem_jobs_of env parts insts) (length parts) k l (allocated.tables, allocated.elems) _ all.0 (ap (λ js. elem_runs js (allocated.tables, allocated.elems)) (sym (all_elems env parts insts allocated stores_are size)) ∙ all.2) filled.tables in
           let ds = next_runs Memory Data memory_fill no_bytes (data_jobs_of env parts insts) (length parts) k l (allocated.mems, allocated.datas) _ all.1 (ap (λ js. data_runs js (allocated.mems, allocated.datas)) (sym (all_datas env parts insts allocated stores_are size)) ∙ all.3) filled.mems in

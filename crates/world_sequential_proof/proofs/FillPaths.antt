@@ -2,7 +2,7 @@
 use Rattle.std.proofs.Common.{◌≡◌, ◌∙◌, refl, sym, ap, subst, ℕ, zero, suc, ◌+◌, ◌<◌, ◌≤◌, List, length, Option, Some, None, arith, option_and_then, slice_get}
 use Rattle.wasm_tree.specs.declared.module.Import.{Import}
 use Rattle.wasm_tree.specs.declared.module.Module.{Module}
-use Rattle.wasm_meaning.specs.Paths.{Next, Ends, Goes, walk, walk_on}
+use Rattle.wasm_meaning.specs.Paths.{PathStep, EndsWith, LeadsTo, walk, walk_on}
 use Rattle.wasm_meaning.specs.Linking.{Part, Site, Entity, End, Defined, Outside, imports_of, module_at, import_at, export_named, source_of, joined, imported_as, entity_step, joined_step, import_step, end_of, sites}
 use Rattle.wasm_tree.specs.Spaces.{index_of_export, space_of_export}
 use Rattle.wasm_meaning.specs.World.{defined_count}
@@ -22,7 +22,7 @@ pub record LowInside (parts : List Part) (p : ℕ) (e : Entity) : Type 0 where
 
 pub data Low (parts : List Part) (p : ℕ) : End → Type 0 where
   inside : {e : Entity} → LowInside parts p e → Low parts p (Defined e)
-  outside : {t : Site} → import_step parts t ≡ Some (Ends (Outside t)) → Low parts p (Outside t)
+  outside : {t : Site} → import_step parts t ≡ Some (EndsWith (Outside t)) → Low parts p (Outside t)
 
 low_later : (parts : List Part) (p q : ℕ) (end : End) → p < q → Low parts p end → Low parts q end
 low_later parts p q (Defined e) l (inside h) = let b = h.before in inside (record { before = omega (arith, l, b); of = h.of; is_part = h.is_part; follows = h.follows; within = h.within })
@@ -53,7 +53,7 @@ module _ (parts : List Part) (there : ExportsThere parts) (earlier : JoinsEarlie
       step_is : (i : Import) → import_at parts s ≡ Some i → import_step parts s ≡ Some (joined_step parts s (joined parts i))
       step_is i h = ap (λ o. option_and_then (λ i. Some (joined_step parts s (joined parts i))) o) h
 
-      on : (n : Next Site End) → import_step parts s ≡ Some n → walk_on (walk (import_step parts) fuel) (Some n) ≡ Some end
+      on : (n : PathStep Site End) → import_step parts s ≡ Some n → walk_on (walk (import_step parts) fuel) (Some n) ≡ Some end
       on n h = ap (walk_on (walk (import_step parts) fuel)) (sym h) ∙ e
 
       join : (i : Import) → import_at parts s ≡ Some i → (x : Entity) → joined parts i ≡ Some x → (o : Option Site) → imported_as parts x ≡ o → More fuel → Low parts s.part end
@@ -64,7 +64,7 @@ module _ (parts : List Part) (there : ExportsThere parts) (earlier : JoinsEarlie
           let low = there x.part w.of i.field x.what w.is_part w.named in
           let none : option_and_then (λ n. Some (record { part = x.part; import = n })) (slice_get (imports_of (space_of_export x.what) w.of) (index_of_export x.what)) ≡ None =
           sym (ap (λ o. option_and_then (λ m. option_and_then (λ n. Some (record { part = x.part; import = n })) (slice_get (imports_of (space_of_export x.what) m) (index_of_export x.what))) o) w.is_part) ∙ imp in
-          let same : Defined x ≡ end = same_Some _ _ (on (Ends (Defined x)) (step_is i h ∙ ap (λ o. Some (joined_step parts s o)) j ∙ ap (λ o. Some (entity_step x o)) imp)) in
+          let same : Defined x ≡ end = same_Some _ _ (on (EndsWith (Defined x)) (step_is i h ∙ ap (λ o. Some (joined_step parts s o)) j ∙ ap (λ o. Some (entity_step x o)) imp)) in
           subst (Low parts s.part) same (inside (record { before = before; of = w.of; is_part = w.is_part; follows = slice_get_none _ _ (then_none _ _ none); within = low }))
         where
           then_none : {A B : Type 0} (o : Option A) (f : A → B) → option_and_then (λ a. Some (f a)) o ≡ None → o ≡ None
@@ -76,13 +76,13 @@ module _ (parts : List Part) (there : ExportsThere parts) (earlier : JoinsEarlie
           let m = and_then_is (module_at parts x.part) _ t imp in
           let n = and_then_is (slice_get (imports_of (space_of_export x.what) m.0) (index_of_export x.what)) _ t m.2 in
           let part : x.part ≡ t.part = ap (λ z. z.part) (same_Some _ _ n.2) in
-          let far = more t end (on (Goes t) (step_is i h ∙ ap (λ o. Some (joined_step parts s o)) j ∙ ap (λ o. Some (entity_step x o)) imp)) in
+          let far = more t end (on (LeadsTo t) (step_is i h ∙ ap (λ o. Some (joined_step parts s o)) j ∙ ap (λ o. Some (entity_step x o)) imp)) in
           low_later parts t.part s.part end (omega (arith, before, part)) far
 
       joins : (i : Import) → import_at parts s ≡ Some i → (o : Option Entity) → joined parts i ≡ o → More fuel → Low parts s.part end
       joins i h None j more =
           let step = step_is i h ∙ ap (λ o. Some (joined_step parts s o)) j in
-          let same : Outside s ≡ end = same_Some _ _ (on (Ends (Outside s)) step) in
+          let same : Outside s ≡ end = same_Some _ _ (on (EndsWith (Outside s)) step) in
           subst (Low parts s.part) same (outside step)
       joins i h (Some x) j more = join i h x j (imported_as parts x) refl more
 

@@ -8,7 +8,7 @@ use Rattle.wasm_meaning.specs.State.{Val, Inst, Table, Memory, Elem, Data, Store
 use Rattle.wasm_meaning.specs.Step.{no_items, no_bytes}
 use Rattle.wasm_meaning.specs.Linking.{Part, module_at}
 use Rattle.wasm_meaning.specs.Environment.{Environment, any_of}
-use Rattle.wasm_meaning.specs.World.{Filled, Task, own_store, stores_from, joined_stores, value_of, tasks_in, elem_tasks, data_tasks, and_then, in_turn, segments}
+use Rattle.wasm_meaning.specs.World.{Filled, PlacedSegment, own_store, stores_from, joined_stores, value_of, segments_in, placed_elems, placed_datas, and_then, one_by_one, segments}
 use Rattle.wasm_meaning.specs.InTurn.{HasNoActive, is_active_elem, is_active_data, own_segments}
 use Rattle.world_sequential_proof.proofs.FillStores.{rest_from, Lengths, lengths_first, allocated_whole}
 use Rattle.world_sequential_proof.proofs.FillValues.{HoldsFixed}
@@ -20,19 +20,19 @@ use Rattle.base_lists.proofs.Places.{append_left}
 
 -- ---- elements, then data ----
 
-module _ (value : ℕ → ConstExpr → Option Val) (es : List (Task ElemSeg)) (ds : List (Task DataSeg)) (s : Store) where
+module _ (value : ℕ → ConstExpr → Option Val) (es : List (PlacedSegment ElemSeg)) (ds : List (PlacedSegment DataSeg)) (s : Store) where
   abbrev pub both_turns : Filled
-  both_turns = and_then (in_turn (elem_turn value) s es) (λ s. in_turn (data_turn value) s ds)
+  both_turns = and_then (one_by_one (elem_turn value) s es) (λ s. one_by_one (data_turn value) s ds)
 
   pub both_go : (c : List Table × List Elem) (d : List Memory × List Data) → elem_runs (map (elem_task_job value) es) (s.tables, s.elems) ≡ Some c → data_runs (map (data_task_job value) ds) (s.mems, s.datas) ≡ Some d →
       both_turns ≡ record { store = record s { tables = c.0; elems = c.1; mems = d.0; datas = d.1 }; trapped = false }
   both_go c d g h =
-      ap (λ f. and_then f (λ s. in_turn (data_turn value) s ds)) (turned_some (elems_turned value es s) c g) ∙ turned_some (datas_turned value ds (with_tables s c)) d h
+      ap (λ f. and_then f (λ s. one_by_one (data_turn value) s ds)) (turned_some (elems_turned value es s) c g) ∙ turned_some (datas_turned value ds (with_tables s c)) d h
 
   pub both_went : both_turns.trapped ≡ false → (c : List Table × List Elem) × (d : List Memory × List Data) × (elem_runs (map (elem_task_job value) es) (s.tables, s.elems) ≡ Some c) × (data_runs (map (data_task_job value) ds) (s.mems, s.datas) ≡ Some d)
   both_went e = go (elems_turned value es s) e
     where
-      go : {o : Option (List Table × List Elem)} {f : Filled} → Turned (with_tables s) o f → (and_then f (λ s. in_turn (data_turn value) s ds)).trapped ≡ false → (c : List Table × List Elem) × (d : List Memory × List Data) × (o ≡ Some c) × (data_runs (map (data_task_job value) ds) (s.mems, s.datas) ≡ Some d)
+      go : {o : Option (List Table × List Elem)} {f : Filled} → Turned (with_tables s) o f → (and_then f (λ s. one_by_one (data_turn value) s ds)).trapped ≡ false → (c : List Table × List Elem) × (d : List Memory × List Data) × (o ≡ Some c) × (data_runs (map (data_task_job value) ds) (s.mems, s.datas) ≡ Some d)
       go (goes_on {c = c}) e = let d = turned_not (datas_turned value ds (with_tables s c)) e in (c, d.0, refl, d.1)
       go stops e = absurd (let k = e in cc)
 
@@ -40,7 +40,7 @@ module _ (value : ℕ → ConstExpr → Option Val) (es : List (Task ElemSeg)) (
 pub own_go : (value : ConstExpr → Option Val) (m : Module) (i : Inst) (s : Store) (c : List Table × List Elem) (d : List Memory × List Data) → elem_runs (elem_jobs value i i.elems m.elems) (s.tables, s.elems) ≡ Some c → data_runs (data_jobs value i i.datas m.datas) (s.mems, s.datas) ≡ Some d →
     own_segments value m i s ≡ record { store = record s { tables = c.0; elems = c.1; mems = d.0; datas = d.1 }; trapped = false }
 own_go value m i s c d g h =
-    both_go (λ p. value) (tasks_in 0 i i.elems m.elems) (tasks_in 0 i i.datas m.datas) s c d
+    both_go (λ p. value) (segments_in 0 i i.elems m.elems) (segments_in 0 i i.datas m.datas) s c d
     (ap (λ js. elem_runs js (s.tables, s.elems)) (tasks_jobs elem_segment (λ p. value) 0 i i.elems m.elems) ∙ g)
     (ap (λ js. data_runs js (s.mems, s.datas)) (tasks_jobs data_segment (λ p. value) 0 i i.datas m.datas) ∙ h)
 
@@ -109,16 +109,16 @@ module _ (env : Environment) (parts : List Part) (insts : List Inst) where
           lengths = lengths_first env parts insts;
         }
 
-    pub all_elems : map (elem_task_job (value_of env parts insts)) (elem_tasks 0 parts insts) ≡ rest_elems (length parts) 0
-    all_elems = all_by_part elem_segment Table Elem table_fill no_items (λ i. i.elems) (λ m. m.elems) env parts insts elem_tasks (λ p. refl) (λ p part ps i is. refl) size
+    pub all_elems : map (elem_task_job (value_of env parts insts)) (placed_elems 0 parts insts) ≡ rest_elems (length parts) 0
+    all_elems = all_by_part elem_segment Table Elem table_fill no_items (λ i. i.elems) (λ m. m.elems) env parts insts placed_elems (λ p. refl) (λ p part ps i is. refl) size
 
-    pub all_datas : map (data_task_job (value_of env parts insts)) (data_tasks 0 parts insts) ≡ rest_datas (length parts) 0
-    all_datas = all_by_part data_segment Memory Data memory_fill no_bytes (λ i. i.datas) (λ m. m.datas) env parts insts data_tasks (λ p. refl) (λ p part ps i is. refl) size
+    pub all_datas : map (data_task_job (value_of env parts insts)) (placed_datas 0 parts insts) ≡ rest_datas (length parts) 0
+    all_datas = all_by_part data_segment Memory Data memory_fill no_bytes (λ i. i.datas) (λ m. m.datas) env parts insts placed_datas (λ p. refl) (λ p part ps i is. refl) size
 
     -- where no part from k on has an active segment, nothing more is copied
     pub filled_all : (k : ℕ) (t : Store) → k ≤ length parts → FilledUpto allocated k t → ((q : ℕ) (m : Module) → k ≤ q → module_at parts q ≡ Some m → HasNoActive m) → segments env parts insts allocated ≡ record { store = joined_stores t (rest_from env parts insts k); trapped = false }
     filled_all k t l filled none =
         let es = all_runs Table Elem table_fill no_items elem_jobs_of (length parts) k l _ _ filled.tables (λ q h c. jobs_none elem_segment Table Elem table_fill no_items (λ i. i.elems) (λ m. m.elems) env parts insts (λ e. is_active_elem e.mode) elem_skips q (λ m e. (none q m h e).elems) c) in
         let ds = all_runs Memory Data memory_fill no_bytes data_jobs_of (length parts) k l _ _ filled.mems (λ q h c. jobs_none data_segment Memory Data memory_fill no_bytes (λ i. i.datas) (λ m. m.datas) env parts insts (λ d. is_active_data d.mode) data_skips q (λ m e. (none q m h e).datas) c) in
-        both_go (value_of env parts insts) (elem_tasks 0 parts insts) (data_tasks 0 parts insts) allocated _ _ (ap (λ js. elem_runs js (allocated.tables, allocated.elems)) all_elems ∙ es) (ap (λ js. data_runs js (allocated.mems, allocated.datas)) all_datas ∙ ds)
+        both_go (value_of env parts insts) (placed_elems 0 parts insts) (placed_datas 0 parts insts) allocated _ _ (ap (λ js. elem_runs js (allocated.tables, allocated.elems)) all_elems ∙ es) (ap (λ js. data_runs js (allocated.mems, allocated.datas)) all_datas ∙ ds)
         ∙ ap₂ (λ funcs globals. record { store = record (joined_stores t (rest_from env parts insts k)) { funcs = funcs; globals = globals }; trapped = false }) filled.funcs filled.globals

@@ -9,7 +9,7 @@ use Rattle.wasm_meaning.specs.Outcomes.{overwrite}
 use Rattle.wasm_meaning.specs.State.{RefVal, Val, Inst, Table, Elem, Store}
 use Rattle.wasm_meaning.specs.Values.{num_of}
 use Rattle.wasm_meaning.specs.Step.{no_items}
-use Rattle.wasm_meaning.specs.World.{Filled, Task, or_trapped, fill_table, run_elem_with, and_then, in_turn}
+use Rattle.wasm_meaning.specs.World.{Filled, PlacedSegment, or_trapped, copy_slots, run_elem_with, and_then, one_by_one}
 use Rattle.wasm_meaning.specs.InTurn.{is_active_elem}
 use Rattle.world_sequential_proof.proofs.FillRuns.{Job, Skip, Fill, run, runs, LowJob, low_skip, low_fill, LowJobs, Kept, kept_skip, kept_fill, KeptAll}
 use Rattle.base_lists.proofs.Options.{and_then_is}
@@ -55,28 +55,28 @@ elem_segment value i n s = elem_job value i n s.mode
 abbrev pub elem_jobs : (ConstExpr → Option Val) → Inst → List ℕ → List ElemSeg → List Job
 elem_jobs = jobs elem_segment
 
-abbrev pub elem_task_job : (ℕ → ConstExpr → Option Val) → Task ElemSeg → Job
+abbrev pub elem_task_job : (ℕ → ConstExpr → Option Val) → PlacedSegment ElemSeg → Job
 elem_task_job = task_job elem_segment
 
-abbrev pub elem_turn : (ℕ → ConstExpr → Option Val) → Store → Task ElemSeg → Filled
+abbrev pub elem_turn : (ℕ → ConstExpr → Option Val) → Store → PlacedSegment ElemSeg → Filled
 elem_turn value s task = run_elem_with (value task.part) s task task.segment.mode
 
-elem_turned_one : (value : ConstExpr → Option Val) (s : Store) (task : Task ElemSeg) (mode : ElemMode) → Turned (with_tables s) (run Table Elem table_fill no_items (elem_job value task.inst task.address mode) (s.tables, s.elems)) (run_elem_with value s task mode)
+elem_turned_one : (value : ConstExpr → Option Val) (s : Store) (task : PlacedSegment ElemSeg) (mode : ElemMode) → Turned (with_tables s) (run Table Elem table_fill no_items (elem_job value task.inst task.address mode) (s.tables, s.elems)) (run_elem_with value s task mode)
 elem_turned_one value s task elem.Passive = goes_on
 elem_turned_one value s task elem.Declarative = goes_on
 elem_turned_one value s task (elem.Active x offset) =
     or_turned (with_tables s) s (option_and_then (num_of W32) (value offset)) _ _ (λ n. or_turned (with_tables s) s (slice_get task.inst.tables x) _ _ (λ a. or_turned (with_tables s) s (slice_get s.tables a) _ _ (λ t. or_turned (with_tables s) s (slice_get s.elems task.address) _ _ (λ e. last a t (overwrite t.slots n e.items)))))
   where
-    last : (a : ℕ) (t : Table) (o : Option (List RefVal)) → Turned (with_tables s) (option_and_then (λ z. Some (slice_set s.tables a z, slice_set s.elems task.address no_items)) (option_and_then (λ slots. Some (record t { slots = slots })) o)) (fill_table s task.address a t o)
+    last : (a : ℕ) (t : Table) (o : Option (List RefVal)) → Turned (with_tables s) (option_and_then (λ z. Some (slice_set s.tables a z, slice_set s.elems task.address no_items)) (option_and_then (λ slots. Some (record t { slots = slots })) o)) (copy_slots s task.address a t o)
     last a t (Some slots) = goes_on
     last a t None = stops
 
-pub elems_turned : (value : ℕ → ConstExpr → Option Val) (tasks : List (Task ElemSeg)) (s : Store) → Turned (with_tables s) (elem_runs (map (elem_task_job value) tasks) (s.tables, s.elems)) (in_turn (elem_turn value) s tasks)
+pub elems_turned : (value : ℕ → ConstExpr → Option Val) (tasks : List (PlacedSegment ElemSeg)) (s : Store) → Turned (with_tables s) (elem_runs (map (elem_task_job value) tasks) (s.tables, s.elems)) (one_by_one (elem_turn value) s tasks)
 elems_turned value [] s = goes_on
 elems_turned value (task ∷ tasks) s = go (elem_turned_one (value task.part) s task task.segment.mode) (elems_turned value tasks)
   where
-    go : {o : Option (List Table × List Elem)} {f : Filled} → Turned (with_tables s) o f → ((u : Store) → Turned (with_tables u) (elem_runs (map (elem_task_job value) tasks) (u.tables, u.elems)) (in_turn (elem_turn value) u tasks)) →
-        Turned (with_tables s) (option_and_then (elem_runs (map (elem_task_job value) tasks)) o) (and_then f (λ s. in_turn (elem_turn value) s tasks))
+    go : {o : Option (List Table × List Elem)} {f : Filled} → Turned (with_tables s) o f → ((u : Store) → Turned (with_tables u) (elem_runs (map (elem_task_job value) tasks) (u.tables, u.elems)) (one_by_one (elem_turn value) u tasks)) →
+        Turned (with_tables s) (option_and_then (elem_runs (map (elem_task_job value) tasks)) o) (and_then f (λ s. one_by_one (elem_turn value) s tasks))
     go (goes_on {c = c}) h = h (with_tables s c)
     go stops h = stops
 

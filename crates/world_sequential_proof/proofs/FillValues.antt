@@ -11,7 +11,7 @@ use Rattle.wasm_tree.specs.declared.module.ConstExpr.TheVariants as const
 use Rattle.wasm_tree.specs.declared.module.Module.{Module}
 use Rattle.wasm_meaning.specs.State.{Val, Inst, Global, Store}
 use Rattle.wasm_meaning.specs.Values.{same_type}
-use Rattle.wasm_meaning.specs.Paths.{Next, Ends, Goes, walk, walk_on}
+use Rattle.wasm_meaning.specs.Paths.{PathStep, EndsWith, LeadsTo, walk, walk_on}
 use Rattle.wasm_meaning.specs.Linking.{Part, Site, End, Defined, Outside, Read, places, has_kind, space_index, imports_of, module_at, import_at, sites_in, sites_from, sites, end_of, global_import, initial, outside_read, end_step, read_step, initials_from, read_of}
 use Rattle.wasm_tree.specs.Spaces.{index_of_export, space_of_import}
 use Rattle.wasm_meaning.specs.Environment.{Environment, GlobalAt, own_globals, all_of}
@@ -184,15 +184,15 @@ module _ (env : Environment) (parts : List Part) (insts : List Inst) (are : inst
           step_is : (end : End) → end_of parts s ≡ Some end → read_step parts (record { part = k; expr = const.Global x }) ≡ end_step parts (Some end)
           step_is end e = ap (λ o. end_step parts (option_and_then (end_of parts) o)) imports ∙ ap (end_step parts) e
 
-          at_end : (n : Next Read Read) → read_step parts (record { part = k; expr = const.Global x }) ≡ Some n → walk_on (walk (read_step parts) (length (initials_from 0 parts))) (Some n) ≡ Some r
+          at_end : (n : PathStep Read Read) → read_step parts (record { part = k; expr = const.Global x }) ≡ Some n → walk_on (walk (read_step parts) (length (initials_from 0 parts))) (Some n) ≡ Some r
           at_end n e = ap (walk_on (walk (read_step parts) (length (initials_from 0 parts)))) (sym e) ∙ reads
 
           defined : AtDefined env parts Globals s d.address → value_of env parts insts k (const.Global x) ≡ Some fixed.global.value
           defined w =
               let v = defined_value w.entity.part w.is.of (index_of_export w.entity.what - length (imports_of Globals w.is.of)) fixed.global w.is.is_part w.within (ap (slice_get allocated.globals) (sym w.address) ∙ fixed.is) in
               let first : initial parts w.entity ≡ Some v.0 = ap (λ o. option_and_then (λ m. option_and_then (λ g. Some g.init) (slice_get m.globals (index_of_export w.entity.what - length (imports_of Globals m)))) o) w.is.is_part ∙ v.1 in
-              let step = step_is (Defined w.entity) w.end ∙ ap (λ o. option_and_then (λ expr. Some (Goes (record { part = w.entity.part; expr = expr }))) o) first in
-              let on = at_end (Goes (record { part = w.entity.part; expr = v.0 })) step in
+              let step = step_is (Defined w.entity) w.end ∙ ap (λ o. option_and_then (λ expr. Some (LeadsTo (record { part = w.entity.part; expr = expr }))) o) first in
+              let on = at_end (LeadsTo (record { part = w.entity.part; expr = v.0 })) step in
               let far : read_of parts w.entity.part v.0 ≡ Some r = walk_more (read_step parts) (length (initials_from 0 parts)) (record { part = w.entity.part; expr = v.0 }) r on in
               ap (λ o. option_and_then (value_of_read (own_globals env) insts) o) (reads ∙ sym far) ∙ v.2
 
@@ -200,8 +200,8 @@ module _ (env : Environment) (parts : List Part) (insts : List Inst) (are : inst
           own w =
               let y = space_index w.of.imports w.last.import Globals in
               let last : outside_read parts w.last ≡ Some (record { part = w.last.part; expr = const.Global y }) = ap (λ o. option_and_then (λ m. Some (record { part = w.last.part; expr = const.Global (space_index m.imports w.last.import Globals) })) o) w.is_part in
-              let step = step_is (Outside w.last) w.end ∙ ap (λ o. option_and_then (λ r. Some (Ends r)) o) last in
-              let r_is : record { part = w.last.part; expr = const.Global y } ≡ r = same_Some _ _ (at_end (Ends (record { part = w.last.part; expr = const.Global y })) step) in
+              let step = step_is (Outside w.last) w.end ∙ ap (λ o. option_and_then (λ r. Some (EndsWith r)) o) last in
+              let r_is : record { part = w.last.part; expr = const.Global y } ≡ r = same_Some _ _ (at_end (EndsWith (record { part = w.last.part; expr = const.Global y })) step) in
               let j = inst_there env parts insts allocated stores_are size w.last.part (module_there parts w.last.part w.of w.is_part) in
               let z : 0 + w.last.import ≡ w.last.import = omega arith in
               let stands = index_place Globals w.of.imports w.last.import 0 w.import w.is_import w.kind ∙ ap Some z in

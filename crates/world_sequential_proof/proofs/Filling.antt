@@ -15,7 +15,7 @@ use Rattle.wasm_meaning.specs.Values.{num_of}
 use Rattle.wasm_meaning.specs.Step.{changed}
 use Rattle.wasm_meaning.specs.Linking.{Part}
 use Rattle.wasm_meaning.specs.Environment.{Environment}
-use Rattle.wasm_meaning.specs.World.{Filled, Task, or_trapped, fill_table, copy_elem, run_elem_with, run_elem, fill_memory, copy_data, run_data_with, run_data, and_then, in_turn, elem_tasks, data_tasks, tasks_in, segments}
+use Rattle.wasm_meaning.specs.World.{Filled, PlacedSegment, or_trapped, copy_slots, copy_elem, run_elem_with, run_elem, copy_bytes, copy_data, run_data_with, run_data, and_then, one_by_one, placed_elems, placed_datas, segments_in, segments}
 use Rattle.wasm_meaning.specs.InTurn.{own_segments}
 use Rattle.index_remap.specs.Related.{OptRel, some, Pairing, ListRel, nil}
 use Rattle.index_remap.proofs.Rel.{put_rel, overwrite_rel, get_rel}
@@ -44,10 +44,10 @@ written_self {A} {P} xs ys zs n r s e = go (subst (λ o. OptRel (ListRel P) o o)
     go (some p) = p
 
 module _ (R : Pairing) where
-  table_fills : (s : Store) (segment a : ℕ) (t : Table) (e : Elem) (n : ℕ) → slice_get s.tables a ≡ Some t → slice_get s.elems segment ≡ Some e → Fills R s (fill_table s segment a t (overwrite t.slots n e.items))
+  table_fills : (s : Store) (segment a : ℕ) (t : Table) (e : Elem) (n : ℕ) → slice_get s.tables a ≡ Some t → slice_get s.elems segment ≡ Some e → Fills R s (copy_slots s segment a t (overwrite t.slots n e.items))
   table_fills s segment a t e n at_t at_e = go (overwrite t.slots n e.items) refl
     where
-      go : (o : Option (List RefVal)) → overwrite t.slots n e.items ≡ o → Fills R s (fill_table s segment a t o)
+      go : (o : Option (List RefVal)) → overwrite t.slots n e.items ≡ o → Fills R s (copy_slots s segment a t o)
       go None h = nothing_fills R s true
       go (Some slots) h =
           let l = overwritten_length t.slots n e.items slots h in
@@ -59,7 +59,7 @@ module _ (R : Pairing) where
                 record { funcs = c.funcs; tables = put_rel c.tables a (record { type = refl; most = refl; slots = slots_rel }); globals = c.globals; elems = put_rel c.elems segment (record { items = nil }) };
           }
 
-  memory_fills : (s : Store) (segment a : ℕ) (m : Memory) (o : Option (List ℕ)) → slice_get s.mems a ≡ Some m → Fills R s (fill_memory s segment a m o)
+  memory_fills : (s : Store) (segment a : ℕ) (m : Memory) (o : Option (List ℕ)) → slice_get s.mems a ≡ Some m → Fills R s (copy_bytes s segment a m o)
   memory_fills s segment a m None e = nothing_fills R s true
   memory_fills s segment a m (Some bytes) e =
       let s1 = changed s (SetMemory a (record m { bytes = bytes })) in
@@ -72,15 +72,15 @@ module _ (R : Pairing) where
   elem_copied s segment i x None = nothing_fills R s true
   elem_copied s segment i x (Some n) = first (slice_get i.tables x)
     where
-      third : (a : ℕ) (t : Table) → slice_get s.tables a ≡ Some t → (o : Option Elem) → slice_get s.elems segment ≡ o → Fills R s (or_trapped s (option_and_then (λ e. Some (fill_table s segment a t (overwrite t.slots n e.items))) o))
+      third : (a : ℕ) (t : Table) → slice_get s.tables a ≡ Some t → (o : Option Elem) → slice_get s.elems segment ≡ o → Fills R s (or_trapped s (option_and_then (λ e. Some (copy_slots s segment a t (overwrite t.slots n e.items))) o))
       third a t h None e = nothing_fills R s true
       third a t h (Some d) e = table_fills s segment a t d n h (e)
 
-      second : (a : ℕ) (o : Option Table) → slice_get s.tables a ≡ o → Fills R s (or_trapped s (option_and_then (λ t. option_and_then (λ e. Some (fill_table s segment a t (overwrite t.slots n e.items))) (slice_get s.elems segment)) o))
+      second : (a : ℕ) (o : Option Table) → slice_get s.tables a ≡ o → Fills R s (or_trapped s (option_and_then (λ t. option_and_then (λ e. Some (copy_slots s segment a t (overwrite t.slots n e.items))) (slice_get s.elems segment)) o))
       second a None e = nothing_fills R s true
       second a (Some t) e = third a t (e) (slice_get s.elems segment) refl
 
-      first : (o : Option ℕ) → Fills R s (or_trapped s (option_and_then (λ a. option_and_then (λ t. option_and_then (λ e. Some (fill_table s segment a t (overwrite t.slots n e.items))) (slice_get s.elems segment)) (slice_get s.tables a)) o))
+      first : (o : Option ℕ) → Fills R s (or_trapped s (option_and_then (λ a. option_and_then (λ t. option_and_then (λ e. Some (copy_slots s segment a t (overwrite t.slots n e.items))) (slice_get s.elems segment)) (slice_get s.tables a)) o))
       first None = nothing_fills R s true
       first (Some a) = second a (slice_get s.tables a) refl
 
@@ -88,24 +88,24 @@ module _ (R : Pairing) where
   data_copied s segment i x None = nothing_fills R s true
   data_copied s segment i x (Some n) = first (slice_get i.mems x)
     where
-      third : (a : ℕ) (m : Memory) → slice_get s.mems a ≡ Some m → (o : Option Data) → Fills R s (or_trapped s (option_and_then (λ d. Some (fill_memory s segment a m (overwrite m.bytes n d.bytes))) o))
+      third : (a : ℕ) (m : Memory) → slice_get s.mems a ≡ Some m → (o : Option Data) → Fills R s (or_trapped s (option_and_then (λ d. Some (copy_bytes s segment a m (overwrite m.bytes n d.bytes))) o))
       third a m h None = nothing_fills R s true
       third a m h (Some d) = memory_fills s segment a m (overwrite m.bytes n d.bytes) h
 
-      second : (a : ℕ) (o : Option Memory) → slice_get s.mems a ≡ o → Fills R s (or_trapped s (option_and_then (λ m. option_and_then (λ d. Some (fill_memory s segment a m (overwrite m.bytes n d.bytes))) (slice_get s.datas segment)) o))
+      second : (a : ℕ) (o : Option Memory) → slice_get s.mems a ≡ o → Fills R s (or_trapped s (option_and_then (λ m. option_and_then (λ d. Some (copy_bytes s segment a m (overwrite m.bytes n d.bytes))) (slice_get s.datas segment)) o))
       second a None e = nothing_fills R s true
       second a (Some m) e = third a m (e) (slice_get s.datas segment)
 
-      first : (o : Option ℕ) → Fills R s (or_trapped s (option_and_then (λ a. option_and_then (λ m. option_and_then (λ d. Some (fill_memory s segment a m (overwrite m.bytes n d.bytes))) (slice_get s.datas segment)) (slice_get s.mems a)) o))
+      first : (o : Option ℕ) → Fills R s (or_trapped s (option_and_then (λ a. option_and_then (λ m. option_and_then (λ d. Some (copy_bytes s segment a m (overwrite m.bytes n d.bytes))) (slice_get s.datas segment)) (slice_get s.mems a)) o))
       first None = nothing_fills R s true
       first (Some a) = second a (slice_get s.mems a) refl
 
-  pub elem_fills : (value : ConstExpr → Option Val) (s : Store) (task : Task ElemSeg) (mode : ElemMode) → Fills R s (run_elem_with value s task mode)
+  pub elem_fills : (value : ConstExpr → Option Val) (s : Store) (task : PlacedSegment ElemSeg) (mode : ElemMode) → Fills R s (run_elem_with value s task mode)
   elem_fills value s task (elem.Active x offset) = elem_copied s task.address task.inst x (option_and_then (num_of W32) (value offset))
   elem_fills value s task elem.Passive = nothing_fills R s false
   elem_fills value s task elem.Declarative = nothing_fills R s false
 
-  pub data_fills : (value : ConstExpr → Option Val) (s : Store) (task : Task DataSeg) (mode : DataMode) → Fills R s (run_data_with value s task mode)
+  pub data_fills : (value : ConstExpr → Option Val) (s : Store) (task : PlacedSegment DataSeg) (mode : DataMode) → Fills R s (run_data_with value s task mode)
   data_fills value s task (data'.Active x offset) = data_copied s task.address task.inst x (option_and_then (num_of W32) (value offset))
   data_fills value s task data'.Passive = nothing_fills R s false
 
@@ -116,16 +116,16 @@ module _ (R : Pairing) where
       go true = h
       go false = let r = k f.store in record { extends = Extends.and_then s f.store (g f.store).store h.extends r.extends; closed = λ c. r.closed (h.closed c) }
 
-  turn_fills : {A : Type 0} (f : Store → A → Filled) → ((s : Store) (x : A) → Fills R s (f s x)) → (s : Store) (xs : List A) → Fills R s (in_turn f s xs)
+  turn_fills : {A : Type 0} (f : Store → A → Filled) → ((s : Store) (x : A) → Fills R s (f s x)) → (s : Store) (xs : List A) → Fills R s (one_by_one f s xs)
   turn_fills f h s [] = nothing_fills R s false
-  turn_fills f h s (x ∷ xs) = then_fills s (f s x) (λ s. in_turn f s xs) (h s x) (λ t. turn_fills f h t xs)
+  turn_fills f h s (x ∷ xs) = then_fills s (f s x) (λ s. one_by_one f s xs) (h s x) (λ t. turn_fills f h t xs)
 
   pub own_fill : (value : ConstExpr → Option Val) (m : Module) (i : Inst) (s : Store) → Fills R s (own_segments value m i s)
   own_fill value m i s =
-      then_fills s _ _ (turn_fills (λ s task. run_elem_with value s task task.segment.mode) (λ s task. elem_fills value s task task.segment.mode) s (tasks_in 0 i i.elems m.elems))
-      (λ t. turn_fills (λ s task. run_data_with value s task task.segment.mode) (λ s task. data_fills value s task task.segment.mode) t (tasks_in 0 i i.datas m.datas))
+      then_fills s _ _ (turn_fills (λ s task. run_elem_with value s task task.segment.mode) (λ s task. elem_fills value s task task.segment.mode) s (segments_in 0 i i.elems m.elems))
+      (λ t. turn_fills (λ s task. run_data_with value s task task.segment.mode) (λ s task. data_fills value s task task.segment.mode) t (segments_in 0 i i.datas m.datas))
 
   pub all_fill : (env : Environment) (parts : List Part) (insts : List Inst) (s : Store) → Fills R s (segments env parts insts s)
   all_fill env parts insts s =
-      then_fills s _ _ (turn_fills (run_elem env parts insts) (λ s task. elem_fills _ s task task.segment.mode) s (elem_tasks 0 parts insts))
-      (λ t. turn_fills (run_data env parts insts) (λ s task. data_fills _ s task task.segment.mode) t (data_tasks 0 parts insts))
+      then_fills s _ _ (turn_fills (run_elem env parts insts) (λ s task. elem_fills _ s task task.segment.mode) s (placed_elems 0 parts insts))
+      (λ t. turn_fills (run_data env parts insts) (λ s task. data_fills _ s task task.segment.mode) t (placed_datas 0 parts insts))

@@ -11,7 +11,7 @@ use Rattle.wasm_tree.specs.declared.module.ExportDesc.{ExportDesc}
 use Rattle.wasm_tree.specs.declared.module.ExportDesc.TheVariants as ex
 use Rattle.wasm_tree.specs.declared.module.Module.{Module}
 use Rattle.wasm_meaning.specs.State.{Inst}
-use Rattle.wasm_meaning.specs.Paths.{Next, Ends, Goes, walk, walk_on}
+use Rattle.wasm_meaning.specs.Paths.{PathStep, EndsWith, LeadsTo, walk, walk_on}
 use Rattle.wasm_meaning.specs.Linking.{Part, Site, Entity, End, places, has_kind, imports_of, module_at, imported_as, import_step, sites, end_of}
 use Rattle.wasm_tree.specs.Spaces.{index_of_export, space_of_export, space_of_import}
 use Rattle.wasm_meaning.specs.Environment.{Environment, Thing, FuncAt, TableAt, MemoryAt, GlobalAt}
@@ -137,20 +137,20 @@ gathered g (i ∷ is) n fs ts ms gs f t m h = go i.desc f t m h (gathered g is (
 
 -- ---- the end of a path ----
 
-pub walk_more : {A E : Type 0} (next : A → Option (Next A E)) (n : ℕ) (a : A) (e : E) → walk next n a ≡ Some e → walk next (suc n) a ≡ Some e
+pub walk_more : {A E : Type 0} (next : A → Option (PathStep A E)) (n : ℕ) (a : A) (e : E) → walk next n a ≡ Some e → walk next (suc n) a ≡ Some e
 walk_more next zero a e h = cc
 walk_more next (suc n) a e h = go (next a) h (λ b. walk_more next n b e)
   where
-    go : (o : Option (Next _ _)) → walk_on (walk next n) o ≡ Some e → ((b : _) → walk next n b ≡ Some e → walk next (suc n) b ≡ Some e) → walk_on (walk next (suc n)) o ≡ Some e
+    go : (o : Option (PathStep _ _)) → walk_on (walk next n) o ≡ Some e → ((b : _) → walk next n b ≡ Some e → walk next (suc n) b ≡ Some e) → walk_on (walk next (suc n)) o ≡ Some e
     go None h more = h
-    go (Some (Ends d)) h more = h
-    go (Some (Goes b)) h more = more b h
+    go (Some (EndsWith d)) h more = h
+    go (Some (LeadsTo b)) h more = more b h
 
 -- where an import goes on to another, both have one end
-pub goes_to : (parts : List Part) (s t : Site) (x : End) → import_step parts s ≡ Some (Goes t) → end_of parts s ≡ Some x → end_of parts t ≡ Some x
+pub goes_to : (parts : List Part) (s t : Site) (x : End) → import_step parts s ≡ Some (LeadsTo t) → end_of parts s ≡ Some x → end_of parts t ≡ Some x
 goes_to parts s t x e h = walk_more (import_step parts) (length (sites parts)) t x (ap (walk_on (walk (import_step parts) (length (sites parts)))) (sym e) ∙ h)
 
-pub ends_at : (parts : List Part) (s : Site) (x y : End) → import_step parts s ≡ Some (Ends y) → end_of parts s ≡ Some x → y ≡ x
+pub ends_at : (parts : List Part) (s : Site) (x y : End) → import_step parts s ≡ Some (EndsWith y) → end_of parts s ≡ Some x → y ≡ x
 ends_at parts s x y e h = same_Some _ _ (ap (walk_on (walk (import_step parts) (length (sites parts)))) (sym e) ∙ h)
 
 -- ---- what an entity of a part is, by its instance ----

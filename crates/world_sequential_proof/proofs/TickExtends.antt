@@ -9,7 +9,7 @@ use Rattle.wasm_meaning.specs.Tables.{table_may_grow}
 use Rattle.wasm_meaning.specs.Control.{type_at}
 use Rattle.wasm_meaning.specs.Step.{changed, give_levels, give, enter, enter_at, act, perform, step, to_mark}
 use Rattle.wasm_meaning.specs.Environment.{Shown, Thing, FuncAt, TableAt, MemoryAt, GlobalAt, func_of, received, received_ref, received_all}
-use Rattle.wasm_meaning.specs.Run.{Move, Call, Invoke, Take, Answer, Refuse, Grant, Deny, Get, Size, Set, Extend, Phase, Fresh, Pending, Opened, Closed, Run, Out, Transition, Steps, Makes, made, viewed_at, place_at, trapped_to, after, called, is_mark, delivered, answered, refused, grown_memory, grown_table, with_change, granted, decided, shows, got, size_of, does, byte_of, set, extended, moved, at_entries, or_bad, or_closed, next_move, nothing_in, open_next, is_taken_closed, closed_move, in_phase, transition_at, tick}
+use Rattle.wasm_meaning.specs.Run.{Move, Call, Invoke, Take, Answer, Refuse, Grant, Deny, Get, Size, Set, Extend, Phase, Fresh, Pending, Opened, Closed, Run, Out, Transition, Steps, Makes, made, viewed_at, place_at, trapped_to, run_after, called, is_mark, delivered, answered, refused, grown_memory, grown_table, with_change, granted, decided, shows, got, size_of, does, byte_of, set, extended, moved, at_entries, or_bad, or_closed, next_move, nothing_in, open_next, is_taken_closed, closed_move, in_phase, transition_at, tick}
 use Rattle.index_remap.proofs.Rel.{IfThere, absent, present, with_there, either_all}
 use Rattle.world_sequential_proof.proofs.Extends.{TableExtends, MemoryExtends, Extends, stays, and_then, Extending, global, memory, table, changed_extends, overwritten_length}
 use Rattle.world_sequential_proof.proofs.StepExtends.{Grows, act_all}
@@ -79,7 +79,7 @@ trapped_kept r s es IllTyped h = record { store = h; owned = refl }
 trapped_kept r s es (Gives (Host, fs)) h = record { store = h; owned = refl }
 trapped_kept r s es (Gives (Starter, fs)) h = record { store = h; owned = refl }
 
-after_kept : (r : Run) (o : Outcome Next) → Leaves r.store o → Kept r (after r o)
+after_kept : (r : Run) (o : Outcome Next) → Leaves r.store o → Kept r (run_after r o)
 after_kept r (Gives (Ran s es)) (just h) = record { store = h; owned = refl }
 after_kept r (Gives (CallsOwn p t vs s es)) (just h) = record { store = h; owned = refl }
 after_kept r (Gives (WaitsGrowth g m n s es)) (just h) = record { store = h; owned = refl }
@@ -123,7 +123,7 @@ module _ (r : Run) where
   table_grown : (t : Table) (n : ℕ) (v : RefVal) → TableExtends t (grown_table t n v)
   table_grown t n v = let l = length-append t.slots (copies n v) in record { type = refl; most = refl; size = omega (arith, l) }
 
-  -- what is delivered after a change
+  -- what is delivered run_after a change
   after_change : (c : Change) (vs : List Val) (es : List Entry) → Extending r.store c → Kept r (made (delivered (with_change r c) vs es))
   after_change c vs es g = let d = delivered_kept (with_change r c) vs es in record { store = and_then r.store (changed r.store c) _ (changed_extends g) d.store; owned = d.owned }
 

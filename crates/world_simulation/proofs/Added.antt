@@ -16,7 +16,7 @@ use Rattle.wasm_tree.specs.declared.module.Module.{Module}
 use Rattle.wasm_meaning.specs.Outcomes.{overwrite}
 use Rattle.wasm_meaning.specs.State.{RefVal, Val, Inst, Table, Memory, Store}
 use Rattle.wasm_meaning.specs.Environment.{Thing}
-use Rattle.wasm_meaning.specs.World.{Filled, Task, numbers, const_value, store_with, joined_stores, tasks_in, fill_table, run_elem_with, fill_memory, run_data_with, and_then, in_turn}
+use Rattle.wasm_meaning.specs.World.{Filled, PlacedSegment, numbers, const_value, store_with, joined_stores, segments_in, copy_slots, run_elem_with, copy_bytes, run_data_with, and_then, one_by_one}
 use Rattle.wasm_meaning.specs.InTurn.{Added, added, added_as, own_segments, next_inst, all_match}
 use Rattle.index_remap.specs.Related.{Pairing, BothRel, both, StoreRel}
 use Rattle.index_remap.specs.RelatedRuns.{turned, HasNoPartner}
@@ -86,22 +86,22 @@ module _ (related alone : Space → ℕ → Type 0) (never : (k : Space) (a : �
   abbrev Keeps : Store → Filled → Type 0
   Keeps s f = Kept related s f.store
 
-  filled_table : (s : Store) (n a : ℕ) (t : Table) (o : Option (List RefVal)) → alone Tables a → alone ElementSegments n → Keeps s (fill_table s n a t o)
+  filled_table : (s : Store) (n a : ℕ) (t : Table) (o : Option (List RefVal)) → alone Tables a → alone ElementSegments n → Keeps s (copy_slots s n a t o)
   filled_table s n a t (Some slots) f g = table_kept related alone never s n a (record t { slots = slots }) f g
   filled_table s n a t None f g = nothing_kept related s
 
-  elem_run : (value : ConstExpr → Option Val) (s : Store) (x : Task ElemSeg) (mode : ElemMode) → alone ElementSegments x.address → ((y : ℕ) (d : ConstExpr) → mode ≡ elem.Active y d → (a : ℕ) → slice_get x.inst.tables y ≡ Some a → alone Tables a) → Keeps s (run_elem_with value s x mode)
+  elem_run : (value : ConstExpr → Option Val) (s : Store) (x : PlacedSegment ElemSeg) (mode : ElemMode) → alone ElementSegments x.address → ((y : ℕ) (d : ConstExpr) → mode ≡ elem.Active y d → (a : ℕ) → slice_get x.inst.tables y ≡ Some a → alone Tables a) → Keeps s (run_elem_with value s x mode)
   elem_run value s x (elem.Active y d) f g =
       then_holds (Keeps s) s (offset_in value d) _ (nothing_kept related s) (λ q _. then_holds (Keeps s) s (slice_get x.inst.tables y) _ (nothing_kept related s) (λ a is. then_holds (Keeps s) s (slice_get s.tables a) _ (nothing_kept related s) (λ t _.
       then_holds (Keeps s) s (slice_get s.elems x.address) _ (nothing_kept related s) (λ e _. filled_table s x.address a t (overwrite t.slots q e.items) (g y d refl a is) f))))
   elem_run value s x elem.Passive f g = nothing_kept related s
   elem_run value s x elem.Declarative f g = nothing_kept related s
 
-  filled_memory : (s : Store) (n a : ℕ) (m : Memory) (o : Option (List ℕ)) → alone Memories a → alone DataSegments n → Keeps s (fill_memory s n a m o)
+  filled_memory : (s : Store) (n a : ℕ) (m : Memory) (o : Option (List ℕ)) → alone Memories a → alone DataSegments n → Keeps s (copy_bytes s n a m o)
   filled_memory s n a m (Some bytes) f g = memory_kept related alone never s n a (record m { bytes = bytes }) f g
   filled_memory s n a m None f g = nothing_kept related s
 
-  data_run : (value : ConstExpr → Option Val) (s : Store) (x : Task DataSeg) (mode : DataMode) → alone DataSegments x.address → ((y : ℕ) (d : ConstExpr) → mode ≡ data'.Active y d → (a : ℕ) → slice_get x.inst.mems y ≡ Some a → alone Memories a) → Keeps s (run_data_with value s x mode)
+  data_run : (value : ConstExpr → Option Val) (s : Store) (x : PlacedSegment DataSeg) (mode : DataMode) → alone DataSegments x.address → ((y : ℕ) (d : ConstExpr) → mode ≡ data'.Active y d → (a : ℕ) → slice_get x.inst.mems y ≡ Some a → alone Memories a) → Keeps s (run_data_with value s x mode)
   data_run value s x (data'.Active y d) f g =
       then_holds (Keeps s) s (offset_in value d) _ (nothing_kept related s) (λ q _. then_holds (Keeps s) s (slice_get x.inst.mems y) _ (nothing_kept related s) (λ a is. then_holds (Keeps s) s (slice_get s.mems a) _ (nothing_kept related s) (λ m _.
       then_holds (Keeps s) s (slice_get s.datas x.address) _ (nothing_kept related s) (λ e _. filled_memory s x.address a m (overwrite m.bytes q e.bytes) (g y d refl a is) f))))
@@ -114,20 +114,20 @@ module _ (related alone : Space → ℕ → Type 0) (never : (k : Space) (a : �
       by true = h
       by false = twice h (next f.store)
 
-  turn_kept : {A : Type 0} (run : Store → Task A → Filled) (xs : List (Task A)) → ((n : ℕ) (x : Task A) → slice_get xs n ≡ Some x → (s : Store) → Keeps s (run s x)) → (s : Store) → Keeps s (in_turn run s xs)
+  turn_kept : {A : Type 0} (run : Store → PlacedSegment A → Filled) (xs : List (PlacedSegment A)) → ((n : ℕ) (x : PlacedSegment A) → slice_get xs n ≡ Some x → (s : Store) → Keeps s (run s x)) → (s : Store) → Keeps s (one_by_one run s xs)
   turn_kept run [] h s = nothing_kept related s
-  turn_kept run (x ∷ xs) h s = then_kept s (run s x) (λ s. in_turn run s xs) (h 0 x refl s) (λ t. turn_kept run xs (λ n. h (suc n)) t)
+  turn_kept run (x ∷ xs) h s = then_kept s (run s x) (λ s. one_by_one run s xs) (h 0 x refl s) (λ t. turn_kept run xs (λ n. h (suc n)) t)
 
   segments_kept : (value : ConstExpr → Option Val) (m : Module) (i : Inst) → ((n a : ℕ) → slice_get i.elems n ≡ Some a → alone ElementSegments a) → ((n a : ℕ) → slice_get i.datas n ≡ Some a → alone DataSegments a) → WritesAlone alone m i → (s : Store) → Keeps s (own_segments value m i s)
   segments_kept value m i elems datas writes s =
-      then_kept s (in_turn (λ s task. run_elem_with value s task task.segment.mode) s (tasks_in 0 i i.elems m.elems)) (λ s. in_turn (λ s task. run_data_with value s task task.segment.mode) s (tasks_in 0 i i.datas m.datas))
-      (turn_kept (λ s task. run_elem_with value s task task.segment.mode) (tasks_in 0 i i.elems m.elems) (λ n x h s. let t = task_at 0 i i.elems m.elems n x h in elem_run value s x x.segment.mode (elems n x.address t.0) (λ y d e a is. writes.tables n x.segment y d t.1 e a (ap (λ (i : Inst). slice_get i.tables y) (sym (inst_is n x h)) ∙ is))) s)
-      (λ s. turn_kept (λ s task. run_data_with value s task task.segment.mode) (tasks_in 0 i i.datas m.datas) (λ n x h s. let t = task_at 0 i i.datas m.datas n x h in data_run value s x x.segment.mode (datas n x.address t.0) (λ y d e a is. writes.mems n x.segment y d t.1 e a (ap (λ (i : Inst). slice_get i.mems y) (sym (data_inst n x h)) ∙ is))) s)
+      then_kept s (one_by_one (λ s task. run_elem_with value s task task.segment.mode) s (segments_in 0 i i.elems m.elems)) (λ s. one_by_one (λ s task. run_data_with value s task task.segment.mode) s (segments_in 0 i i.datas m.datas))
+      (turn_kept (λ s task. run_elem_with value s task task.segment.mode) (segments_in 0 i i.elems m.elems) (λ n x h s. let t = task_at 0 i i.elems m.elems n x h in elem_run value s x x.segment.mode (elems n x.address t.0) (λ y d e a is. writes.tables n x.segment y d t.1 e a (ap (λ (i : Inst). slice_get i.tables y) (sym (inst_is n x h)) ∙ is))) s)
+      (λ s. turn_kept (λ s task. run_data_with value s task task.segment.mode) (segments_in 0 i i.datas m.datas) (λ n x h s. let t = task_at 0 i i.datas m.datas n x h in data_run value s x x.segment.mode (datas n x.address t.0) (λ y d e a is. writes.mems n x.segment y d t.1 e a (ap (λ (i : Inst). slice_get i.mems y) (sym (data_inst n x h)) ∙ is))) s)
     where
-      inst_is : (n : ℕ) (x : Task ElemSeg) → slice_get (tasks_in 0 i i.elems m.elems) n ≡ Some x → x.inst ≡ i
+      inst_is : (n : ℕ) (x : PlacedSegment ElemSeg) → slice_get (segments_in 0 i i.elems m.elems) n ≡ Some x → x.inst ≡ i
       inst_is n x h = task_inst 0 i i.elems m.elems n x h
 
-      data_inst : (n : ℕ) (x : Task DataSeg) → slice_get (tasks_in 0 i i.datas m.datas) n ≡ Some x → x.inst ≡ i
+      data_inst : (n : ℕ) (x : PlacedSegment DataSeg) → slice_get (segments_in 0 i i.datas m.datas) n ≡ Some x → x.inst ≡ i
       data_inst n x h = task_inst 0 i i.datas m.datas n x h
 
 -- ---- a module that is added ----

@@ -17,7 +17,7 @@ use Rattle.wasm_meaning.specs.Outcomes.{split_at, overwrite}
 use Rattle.wasm_meaning.specs.State.{RefVal, Val, Inst, Table, Memory, Elem, Data, Store, SetTable, SetMemory, DropElem, DropData}
 use Rattle.wasm_meaning.specs.Step.{changed, no_items, no_bytes}
 use Rattle.wasm_meaning.specs.Environment.{Environment}
-use Rattle.wasm_meaning.specs.World.{Filled, Task, or_trapped, fill_table, copy_elem, run_elem_with, fill_memory, copy_data, run_data_with}
+use Rattle.wasm_meaning.specs.World.{Filled, PlacedSegment, or_trapped, copy_slots, copy_elem, run_elem_with, copy_bytes, copy_data, run_data_with}
 use Rattle.index_remap.proofs.Rel.{there, at_put_there}
 use Rattle.world_simulation.specs.Definitions.{Instantiated, DefinedAt, values_in}
 use Rattle.world_simulation.specs.Segments.{InOrder, ElemsPartner, ElemAlone, DatasPartner, DataAlone, offset_in}
@@ -91,7 +91,7 @@ module _ (env : Environment) (w : Instantiated) where
   abbrev Room : Filled → Type 0
   Room f = HasRoom env w f.store
 
-  fill_table_room : {s : Store} (n a : ℕ) (t : Table) (e : Elem) (q : ℕ) → HasRoom env w s → slice_get s.tables a ≡ Some t → (o : Option (List RefVal)) → overwrite t.slots q e.items ≡ o → Room (fill_table s n a t o)
+  fill_table_room : {s : Store} (n a : ℕ) (t : Table) (e : Elem) (q : ℕ) → HasRoom env w s → slice_get s.tables a ≡ Some t → (o : Option (List RefVal)) → overwrite t.slots q e.items ≡ o → Room (copy_slots s n a t o)
   fill_table_room {s} n a t e q room there (Some slots) is = record {
     tables = λ b d. set_holds (λ t. d.definition.limits.min ≤ length t.slots) s.tables a (record t { slots = slots }) (λ x h l.
         let both : Some x ≡ Some t = sym h ∙ there in
@@ -110,7 +110,7 @@ module _ (env : Environment) (w : Instantiated) where
       then_holds Room s o _ room (λ q _. then_holds Room s (slice_get i.tables x) _ room (λ a _. then_holds Room s (slice_get s.tables a) _ room (λ t there. then_holds Room s (slice_get s.elems n) _ room (λ e _.
       fill_table_room n a t e q room there (overwrite t.slots q e.items) refl))))
 
-  fill_memory_room : {s : Store} (n a : ℕ) (m : Memory) (e : Data) (q : ℕ) → HasRoom env w s → slice_get s.mems a ≡ Some m → (o : Option (List ℕ)) → overwrite m.bytes q e.bytes ≡ o → Room (fill_memory s n a m o)
+  fill_memory_room : {s : Store} (n a : ℕ) (m : Memory) (e : Data) (q : ℕ) → HasRoom env w s → slice_get s.mems a ≡ Some m → (o : Option (List ℕ)) → overwrite m.bytes q e.bytes ≡ o → Room (copy_bytes s n a m o)
   fill_memory_room {s} n a m e q room there (Some bytes) is = record {
     tables = room.tables;
     mems = λ b d. set_holds (λ m. 65536 * d.definition.min ≤ length m.bytes) s.mems a (record m { bytes = bytes }) (λ x h l.
@@ -129,12 +129,12 @@ module _ (env : Environment) (w : Instantiated) where
       then_holds Room s o _ room (λ q _. then_holds Room s (slice_get i.mems x) _ room (λ a _. then_holds Room s (slice_get s.mems a) _ room (λ m there. then_holds Room s (slice_get s.datas n) _ room (λ e _.
       fill_memory_room n a m e q room there (overwrite m.bytes q e.bytes) refl))))
 
-  pub run_elem_room : {s : Store} (value : ConstExpr → Option Val) (x : Task ElemSeg) (mode : ElemMode) → HasRoom env w s → Room (run_elem_with value s x mode)
+  pub run_elem_room : {s : Store} (value : ConstExpr → Option Val) (x : PlacedSegment ElemSeg) (mode : ElemMode) → HasRoom env w s → Room (run_elem_with value s x mode)
   run_elem_room value x (elem.Active t e) room = copy_elem_room x.address x.inst t (offset_in value e) room
   run_elem_room value x elem.Passive room = room
   run_elem_room value x elem.Declarative room = room
 
-  pub run_data_room : {s : Store} (value : ConstExpr → Option Val) (x : Task DataSeg) (mode : DataMode) → HasRoom env w s → Room (run_data_with value s x mode)
+  pub run_data_room : {s : Store} (value : ConstExpr → Option Val) (x : PlacedSegment DataSeg) (mode : DataMode) → HasRoom env w s → Room (run_data_with value s x mode)
   run_data_room value x (data'.Active t e) room = copy_data_room x.address x.inst t (offset_in value e) room
   run_data_room value x data'.Passive room = room
 
@@ -183,7 +183,7 @@ module _ (related alone : Space → ℕ → Type 0) (never : (k : Space) (a : �
   }
 
   module _ (env : Environment) (w : Instantiated) where
-    pub elem_copied : (s : Store) (x : Task ElemSeg) → HasRoom env w s → (d : DefinedAt env w ElementSegments (λ m. m.elems) x.address) → d.definition ≡ x.segment → (mode : ElemMode) → ElemAlone alone env w x mode →
+    pub elem_copied : (s : Store) (x : PlacedSegment ElemSeg) → HasRoom env w s → (d : DefinedAt env w ElementSegments (λ m. m.elems) x.address) → d.definition ≡ x.segment → (mode : ElemMode) → ElemAlone alone env w x mode →
         Copies related s (run_elem_with (values_in env w x.part) s x mode)
     elem_copied s x room d is _ segments.ElemAlone.passive = record { store = s; is = refl; kept = nothing_kept related s }
     elem_copied s x room d is _ segments.ElemAlone.declarative = record { store = s; is = refl; kept = nothing_kept related s }
@@ -200,7 +200,7 @@ module _ (related alone : Space → ℕ → Type 0) (never : (k : Space) (a : �
           kept = table_kept s x.address a (record u.0 { slots = o.0 }) lone by_itself;
         }
 
-    pub data_copied : (s : Store) (x : Task DataSeg) → HasRoom env w s → (d : DefinedAt env w DataSegments (λ m. m.datas) x.address) → d.definition ≡ x.segment → (mode : DataMode) → DataAlone alone env w x mode →
+    pub data_copied : (s : Store) (x : PlacedSegment DataSeg) → HasRoom env w s → (d : DefinedAt env w DataSegments (λ m. m.datas) x.address) → d.definition ≡ x.segment → (mode : DataMode) → DataAlone alone env w x mode →
         Copies related s (run_data_with (values_in env w x.part) s x mode)
     data_copied s x room d is _ segments.DataAlone.passive = record { store = s; is = refl; kept = nothing_kept related s }
     data_copied s x room d is _ (segments.DataAlone.active {t = t} {n = q} {a = a} {e = e} there lone memory by_itself offset fits) =

@@ -7,7 +7,7 @@ use Rattle.std.proofs.lemmas.Bool.Decides.{nat_tests}
 use Rattle.base_lists.proofs.Bools.{left_true, right_true}
 use Rattle.base_lists.proofs.Numbers.{length-numbers, numbers_at, numbers_index}
 use Rattle.base_lists.proofs.Places.{append_left, append_right, map_at, append_at_left, slice_get_there, slice_index_is, append_from}
-use Rattle.wasm_meaning.specs.World.{numbers, Task, tasks_in, own_count, defined_count}
+use Rattle.wasm_meaning.specs.World.{numbers, PlacedSegment, segments_in, own_count, defined_count}
 use Rattle.index_remap.specs.Related.{OptRel, some, ListRel}
 use Rattle.world_simulation.specs.Unreachable.{without}
 use Rattle.world_simulation.proofs.Places.{opt_at, map_length, number_is}
@@ -141,27 +141,27 @@ space_moves P l from gap count fewer r within smaller equal related x y h move =
         (some (related (from + suc z) (from + z) (high (omega arith) (omega arith) (omega arith))))
 
 -- segments of one module each, at the same addresses, and then more of the second
-in_step : {A : Type 0} (partners : Task A → Task A → Type 0) (first second : Task A → Type 0) (i j : Inst) (new : A → A) (more : List A) (from extra : ℕ) (es : List A) → ((ns : List ℕ) → InOrder partners first second [] (tasks_in 0 j ns more ++ [])) →
+in_step : {A : Type 0} (partners : PlacedSegment A → PlacedSegment A → Type 0) (first second : PlacedSegment A → Type 0) (i j : Inst) (new : A → A) (more : List A) (from extra : ℕ) (es : List A) → ((ns : List ℕ) → InOrder partners first second [] (segments_in 0 j ns more ++ [])) →
     ((x : ℕ) (e : A) → slice_get es x ≡ Some e → partners (record { part = 0; inst = i; address = from + x; segment = e }) (record { part = 0; inst = j; address = from + x; segment = new e })) →
-    InOrder partners first second (tasks_in 0 i (numbers from (length es)) es ++ []) (tasks_in 0 j (numbers from (length es + extra)) (map new es ++ more) ++ [])
+    InOrder partners first second (segments_in 0 i (numbers from (length es)) es ++ []) (segments_in 0 j (numbers from (length es + extra)) (map new es ++ more) ++ [])
 in_step partners first second i j new more from extra [] nothing each = nothing _
 in_step {A} partners first second i j new more from extra (e ∷ es) nothing each =
     let here : from + 0 ≡ from = omega arith in
     let size : suc (length es) + extra ≡ suc (length es + extra) = omega arith in
-    let abbreviated : (a : ℕ) (k : Inst) (x : A) → Task A = λ a k x. record { part = 0; inst = k; address = a; segment = x } in
+    let abbreviated : (a : ℕ) (k : Inst) (x : A) → PlacedSegment A = λ a k x. record { part = 0; inst = k; address = a; segment = x } in
     rw size
     (both (subst (λ a. partners (abbreviated a i e) (abbreviated a j (new e))) here (each 0 e refl))
     (in_step partners first second i j new more (suc from) extra es nothing (λ x d h. let n : from + suc x ≡ suc from + x = omega arith in rw (← n) (each (suc x) d h))))
 
 -- all of two modules alone, of which the second has more
-pub all_in_step : {A : Type 0} (partners : Task A → Task A → Type 0) (first second : Task A → Type 0) (i j : Inst) (new : A → A) (more : List A) (es us : List A) (xs ys : List ℕ) → xs ≡ numbers 0 (length es) → ys ≡ numbers 0 (length us) → us ≡ map new es ++ more →
-    ((ns : List ℕ) → InOrder partners first second [] (tasks_in 0 j ns more ++ [])) →
+pub all_in_step : {A : Type 0} (partners : PlacedSegment A → PlacedSegment A → Type 0) (first second : PlacedSegment A → Type 0) (i j : Inst) (new : A → A) (more : List A) (es us : List A) (xs ys : List ℕ) → xs ≡ numbers 0 (length es) → ys ≡ numbers 0 (length us) → us ≡ map new es ++ more →
+    ((ns : List ℕ) → InOrder partners first second [] (segments_in 0 j ns more ++ [])) →
     ((x : ℕ) (e : A) → slice_get es x ≡ Some e → partners (record { part = 0; inst = i; address = 0 + x; segment = e }) (record { part = 0; inst = j; address = 0 + x; segment = new e })) →
-    InOrder partners first second (tasks_in 0 i xs es ++ []) (tasks_in 0 j ys us ++ [])
+    InOrder partners first second (segments_in 0 i xs es ++ []) (segments_in 0 j ys us ++ [])
 all_in_step partners first second i j new more es us xs ys xs_are ys_are us_are nothing each =
     let size : length es + length more ≡ length us = (let e = ap length us_are ∙ length-append (map new es) more in let c = map_length new es in omega arith) in
     rw xs_are
-    (rw (← ap₂ (λ ns us. tasks_in 0 j ns us ++ []) (ap (numbers 0) size ∙ sym ys_are) (sym us_are))
+    (rw (← ap₂ (λ ns us. segments_in 0 j ns us ++ []) (ap (numbers 0) size ∙ sym ys_are) (sym us_are))
     (in_step partners first second i j new more 0 (length more) es nothing each))
 
 pub stays_at : (size x : ℕ) → has (numbers 0 size) x ≡ true → (slice_index (numbers 0 size) x ≡ x) × (x < size)

@@ -15,7 +15,7 @@ use Rattle.wasm_tree.specs.declared.module.Module.{Module}
 use Rattle.wasm_meaning.specs.State.{RefVal, Val, Inst, Table, Memory, Elem, Data, Store, SetTable, SetMemory, DropElem, DropData}
 use Rattle.wasm_meaning.specs.Step.{changed, no_items, no_bytes}
 use Rattle.wasm_meaning.specs.Values.{ref_of}
-use Rattle.wasm_meaning.specs.World.{Begun, Filled, Task, address_in, all_there, const_value, value_of, new_elem, new_func, global_with, elem_with, store_with, part_store, joined_stores, numbers, tasks_in, fill_table, run_elem_with, run_elem, fill_memory, run_data_with, run_data, and_then, in_turn, segments, insts_from, stores_from, own_store, alone, instantiate}
+use Rattle.wasm_meaning.specs.World.{Begun, Filled, PlacedSegment, address_in, all_there, const_value, value_of, new_elem, new_func, global_with, elem_with, store_with, part_store, joined_stores, numbers, segments_in, copy_slots, run_elem_with, run_elem, copy_bytes, run_data_with, run_data, and_then, one_by_one, segments, insts_from, stores_from, own_store, alone, instantiate}
 use Rattle.wasm_meaning.specs.InTurn.{Added, added, next_inst}
 use Rattle.wasm_meaning.specs.Loader.{LoaderWorld, store_under, supplied, primary_added, begun_of, begun_under}
 use Rattle.wasm_meaning.specs.Environment.{Environment, Thing}
@@ -39,7 +39,7 @@ tables = record {
   dropped = no_items;
   put = λ s a t. changed s (SetTable a t);
   drop = λ s n. changed s (DropElem n);
-  fill = fill_table;
+  fill = copy_slots;
   holders_put = λ s a c. refl;
   segments_put = λ s a c. refl;
   holders_drop = λ s n. refl;
@@ -61,7 +61,7 @@ memories = record {
   dropped = no_bytes;
   put = λ s a m. changed s (SetMemory a m);
   drop = λ s n. changed s (DropData n);
-  fill = fill_memory;
+  fill = copy_bytes;
   holders_put = λ s a c. refl;
   segments_put = λ s a c. refl;
   holders_drop = λ s n. refl;
@@ -76,24 +76,24 @@ memories = record {
 -- ---- runs of copies ----
 
 -- each in turn is the copy of its segment
-turns_are : {C S A X : Type 0} (k : Kind C S A) (i : Inst) (copy : X → Copy A) (g : Store → Task X → Filled) → ((s : Store) (n : ℕ) (x : X) → g s (record { part = 0; inst = i; address = n; segment = x }) ≡ run k s n (copy x)) →
-    (xs : List X) (s : Store) (n : ℕ) → in_turn g s (tasks_in 0 i (numbers n (length xs)) xs) ≡ runs k s n (map copy xs)
+turns_are : {C S A X : Type 0} (k : Kind C S A) (i : Inst) (copy : X → Copy A) (g : Store → PlacedSegment X → Filled) → ((s : Store) (n : ℕ) (x : X) → g s (record { part = 0; inst = i; address = n; segment = x }) ≡ run k s n (copy x)) →
+    (xs : List X) (s : Store) (n : ℕ) → one_by_one g s (segments_in 0 i (numbers n (length xs)) xs) ≡ runs k s n (map copy xs)
 turns_are k i copy g one [] s n = refl
 turns_are k i copy g one (x ∷ xs) s n =
     let f = g s (record { part = 0; inst = i; address = n; segment = x }) in
     ap (λ r. cond f.trapped f r) (turns_are k i copy g one xs f.store (suc n)) ∙ ap (λ f. and_then f (λ s. runs k s (suc n) (map copy xs))) (one s n x)
 
 -- all of a module's
-pub copies_in_turn : (value : ConstExpr → Option Val) (m : Module) (i : Inst) (g : Store → Task ElemSeg → Filled) (h : Store → Task DataSeg → Filled) → ((s : Store) (n : ℕ) (e : ElemSeg) → g s (record { part = 0; inst = i; address = n; segment = e }) ≡ run tables s n (elem_copy value i e e.mode)) →
+pub copies_in_turn : (value : ConstExpr → Option Val) (m : Module) (i : Inst) (g : Store → PlacedSegment ElemSeg → Filled) (h : Store → PlacedSegment DataSeg → Filled) → ((s : Store) (n : ℕ) (e : ElemSeg) → g s (record { part = 0; inst = i; address = n; segment = e }) ≡ run tables s n (elem_copy value i e e.mode)) →
     ((s : Store) (n : ℕ) (d : DataSeg) → h s (record { part = 0; inst = i; address = n; segment = d }) ≡ run memories s n (data_copy value i d d.mode)) → (n k : ℕ) → i.elems ≡ numbers n (length m.elems) → i.datas ≡ numbers k (length m.datas) →
-    (s : Store) → and_then (in_turn g s (tasks_in 0 i i.elems m.elems)) (λ s. in_turn h s (tasks_in 0 i i.datas m.datas)) ≡ and_then (runs tables s n (elem_copies value i m.elems)) (λ s. runs memories s k (data_copies value i m.datas))
+    (s : Store) → and_then (one_by_one g s (segments_in 0 i i.elems m.elems)) (λ s. one_by_one h s (segments_in 0 i i.datas m.datas)) ≡ and_then (runs tables s n (elem_copies value i m.elems)) (λ s. runs memories s k (data_copies value i m.datas))
 copies_in_turn value m i g h elem_runs data_runs n k elems datas s =
-    let elems_run : in_turn g s (tasks_in 0 i i.elems m.elems) ≡ runs tables s n (elem_copies value i m.elems) =
-    ap (λ ns. in_turn g s (tasks_in 0 i ns m.elems)) elems ∙ turns_are tables i (λ e. elem_copy value i e e.mode) g elem_runs m.elems s n in
-    let datas_run : (s : Store) → in_turn h s (tasks_in 0 i i.datas m.datas) ≡ runs memories s k (data_copies value i m.datas) =
-    λ s. ap (λ ns. in_turn h s (tasks_in 0 i ns m.datas)) datas ∙ turns_are memories i (λ d. data_copy value i d d.mode) h data_runs m.datas s k in
+    let elems_run : one_by_one g s (segments_in 0 i i.elems m.elems) ≡ runs tables s n (elem_copies value i m.elems) =
+    ap (λ ns. one_by_one g s (segments_in 0 i ns m.elems)) elems ∙ turns_are tables i (λ e. elem_copy value i e e.mode) g elem_runs m.elems s n in
+    let datas_run : (s : Store) → one_by_one h s (segments_in 0 i i.datas m.datas) ≡ runs memories s k (data_copies value i m.datas) =
+    λ s. ap (λ ns. one_by_one h s (segments_in 0 i ns m.datas)) datas ∙ turns_are memories i (λ d. data_copy value i d d.mode) h data_runs m.datas s k in
     let r = runs tables s n (elem_copies value i m.elems) in
-    ap (λ r. and_then r (λ s. in_turn h s (tasks_in 0 i i.datas m.datas))) elems_run ∙ ap (λ x. cond r.trapped r x) (datas_run r.store)
+    ap (λ r. and_then r (λ s. one_by_one h s (segments_in 0 i i.datas m.datas))) elems_run ∙ ap (λ x. cond r.trapped r x) (datas_run r.store)
 
 module _ (value : ConstExpr → Option Val) (m : Module) (i : Inst) (before t : Store) (made : store_with value m i ≡ Some t) where
   abbrev start : Store
@@ -215,9 +215,9 @@ module _ (value : ConstExpr → Option Val) (m : Module) (i : Inst) (before t : 
       }
 
   -- by what runs the segments in turn
-  pub left_in_turn : (g : Store → Task ElemSeg → Filled) (h : Store → Task DataSeg → Filled) → ((s : Store) (n : ℕ) (e : ElemSeg) → g s (record { part = 0; inst = i; address = n; segment = e }) ≡ run tables s n (elem_copy value i e e.mode)) →
+  pub left_in_turn : (g : Store → PlacedSegment ElemSeg → Filled) (h : Store → PlacedSegment DataSeg → Filled) → ((s : Store) (n : ℕ) (e : ElemSeg) → g s (record { part = 0; inst = i; address = n; segment = e }) ≡ run tables s n (elem_copy value i e e.mode)) →
       ((s : Store) (n : ℕ) (d : DataSeg) → h s (record { part = 0; inst = i; address = n; segment = d }) ≡ run memories s n (data_copy value i d d.mode)) → i.elems ≡ numbers (length before.elems) (length m.elems) → i.datas ≡ numbers (length before.datas) (length m.datas) →
-      (f : Filled) → f ≡ and_then (in_turn g start (tasks_in 0 i i.elems m.elems)) (λ s. in_turn h s (tasks_in 0 i i.datas m.datas)) → f.trapped ≡ false → Leaves value m i before f.store
+      (f : Filled) → f ≡ and_then (one_by_one g start (segments_in 0 i i.elems m.elems)) (λ s. one_by_one h s (segments_in 0 i i.datas m.datas)) → f.trapped ≡ false → Leaves value m i before f.store
   left_in_turn g h elem_runs data_runs elems datas f is good =
       let r = runs tables start (length before.elems) (elem_copies value i m.elems) in
       let all = is ∙ copies_in_turn value m i g h elem_runs data_runs (length before.elems) (length before.datas) elems datas start in
@@ -255,7 +255,7 @@ alone_leaves env m b h good =
     let filled_is : segments env (one m) (i ∷ []) (joined_stores (own_store env) t.0) ≡ segments env (one m) made.insts made.allocated = ap₂ (λ is s. segments env (one m) is s) (sym x.1) same in
     let begun_is = ap (λ (b : Begun). b.store) made.is in
     let by = left_in_turn value m i (own_store env) t.0 t.1 (run_elem env (one m) (i ∷ [])) (run_data env (one m) (i ∷ [])) (λ s n e. elem_runs value i s n e e.mode) (λ s n d. data_runs value i s n d d.mode) x.2.elems x.2.datas (segments env (one m) (i ∷ []) (joined_stores (own_store env) t.0))
-    (ap₂ (λ xs ys. and_then (in_turn (run_elem env (one m) (i ∷ [])) (joined_stores (own_store env) t.0) xs) (λ s. in_turn (run_data env (one m) (i ∷ [])) s ys)) (append-nil (tasks_in 0 i i.elems m.elems)) (append-nil (tasks_in 0 i i.datas m.datas)))
+    (ap₂ (λ xs ys. and_then (one_by_one (run_elem env (one m) (i ∷ [])) (joined_stores (own_store env) t.0) xs) (λ s. one_by_one (run_data env (one m) (i ∷ [])) s ys)) (append-nil (segments_in 0 i i.elems m.elems)) (append-nil (segments_in 0 i i.datas m.datas)))
     (ap (λ (f : Filled). f.trapped) filled_is ∙ ap (λ (b : Begun). b.trapped) made.is ∙ good) in
     (i, made.are_insts ∙ ap Some x.1, subst (λ s. Leaves value m i (own_store env) s) (ap (λ (f : Filled). f.store) filled_is ∙ begun_is) by)
 

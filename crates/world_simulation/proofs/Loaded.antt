@@ -29,7 +29,7 @@ use Rattle.wasm_meaning.specs.State.{Text, Val, Inst, Store}
 use Rattle.wasm_meaning.specs.Values.{ref_of, num_of}
 use Rattle.wasm_meaning.specs.Linking.{has_kind, places, space_index, sites_in, pair_of, imports_of}
 use Rattle.wasm_meaning.specs.Environment.{Environment, Thing, FuncAt, TableAt, MemoryAt, GlobalAt, owned_of, owned_at, own_funcs, own_memories, own_globals, all_of}
-use Rattle.wasm_meaning.specs.World.{Begun, Filled, all_there, address_of, address_in, own_count, defined_count, numbers, const_value, value_of, value_of_read, new_func, new_elem, store_with, joined_stores, own_store, is_match, is_matched, run_elem, run_elem_with, run_data, run_data_with, and_then, in_turn, segments, starts_of, start_in, space, instantiate}
+use Rattle.wasm_meaning.specs.World.{Begun, Filled, all_there, address_of, address_in, own_count, defined_count, numbers, const_value, value_of, value_of_read, new_func, new_elem, store_with, joined_stores, own_store, is_match, is_matched, run_elem, run_elem_with, run_data, run_data_with, and_then, one_by_one, segments, starts_of, start_in, space, instantiate}
 use Rattle.wasm_meaning.specs.World as world
 use Rattle.wasm_meaning.specs.InTurn.{own_thing, all_match, addresses_of, added, added_as, own_segments, next_inst}
 use Rattle.wasm_meaning.specs.Loader.{LoaderWorld, placeholders_of, placeholders_from, store_under, supplied, begun_of, begun_under}
@@ -253,7 +253,7 @@ segments_same env m i a s =
     copies_in_turn c m i (λ s task. run_elem_with c s task task.segment.mode) (λ s task. run_data_with c s task task.segment.mode) (λ s n e. elem_runs c i s n e e.mode) (λ s n d. data_runs c i s n d d.mode) 0 0 a.elems a.datas s
     ∙ ap₂ (λ es ds. and_then (runs tables s 0 es) (λ s. runs memories s 0 ds)) (sym (elems_same v c same_values m i m.elems)) (sym (datas_same v c same_values m i m.datas))
     ∙ sym (copies_in_turn v m i (run_elem env (one m) (i ∷ [])) (run_data env (one m) (i ∷ [])) (λ s n e. elem_runs v i s n e e.mode) (λ s n d. data_runs v i s n d d.mode) 0 0 a.elems a.datas s)
-    ∙ sym (ap₂ (λ xs ys. and_then (in_turn (run_elem env (one m) (i ∷ [])) s xs) (λ s. in_turn (run_data env (one m) (i ∷ [])) s ys)) (append-nil (world.tasks_in 0 i i.elems m.elems)) (append-nil (world.tasks_in 0 i i.datas m.datas)))
+    ∙ sym (ap₂ (λ xs ys. and_then (one_by_one (run_elem env (one m) (i ∷ [])) s xs) (λ s. one_by_one (run_data env (one m) (i ∷ [])) s ys)) (append-nil (world.segments_in 0 i i.elems m.elems)) (append-nil (world.segments_in 0 i i.datas m.datas)))
 
 seen : (i : Inst) (view : List (Text × ExportDesc)) → all_there (world.seen_as (i ∷ [])) (map (λ v. (v.0, record { part = 0; what = v.1 })) view) ≡ all_there (λ v. address_in i v.1 >>= λ x. Some (v.0, x)) view
 seen i [] = refl

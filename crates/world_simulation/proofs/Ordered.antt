@@ -14,7 +14,7 @@ use Rattle.wasm_meaning.specs.Outcomes.{overwrite}
 use Rattle.wasm_meaning.specs.State.{RefVal, Val, Inst, Table, Memory, Store}
 use Rattle.wasm_meaning.specs.Linking.{Part, module_at}
 use Rattle.wasm_meaning.specs.Environment.{Environment}
-use Rattle.wasm_meaning.specs.World.{Filled, Task, numbers, base, defined_before, insts_from, tasks_in, elem_tasks, data_tasks, or_trapped, fill_table, copy_elem, run_elem_with, run_elem, fill_memory, copy_data, run_data_with, run_data, and_then, in_turn}
+use Rattle.wasm_meaning.specs.World.{Filled, PlacedSegment, numbers, base, defined_before, insts_from, segments_in, placed_elems, placed_datas, or_trapped, copy_slots, copy_elem, run_elem_with, run_elem, copy_bytes, copy_data, run_data_with, run_data, and_then, one_by_one}
 use Rattle.index_remap.specs.Related.{Pairing, OneToOne, OptRel, none, some, ListRel, RefRel, TableRel, StoreRel, set_table, set_memory, drop_elem, drop_data}
 use Rattle.index_remap.specs.RelatedRuns.{turned, HasNoPartner}
 use Rattle.index_remap.proofs.Rel.{written, overwrite_rel, there}
@@ -29,38 +29,38 @@ use Rattle.world_simulation.proofs.Copied.{HasRoom, run_elem_room, run_data_room
 -- ---- each segment is one that its part defines ----
 
 -- what stands at the address of a segment
-abbrev pub Defines : Environment → Instantiated → Space → {A : Type 0} → (Module → List A) → List (Task A) → Type 0
-Defines env w k {A} definitions tasks = (n : ℕ) (x : Task A) → slice_get tasks n ≡ Some x → (d : DefinedAt env w k definitions x.address) × (d.definition ≡ x.segment)
+abbrev pub Defines : Environment → Instantiated → Space → {A : Type 0} → (Module → List A) → List (PlacedSegment A) → Type 0
+Defines env w k {A} definitions tasks = (n : ℕ) (x : PlacedSegment A) → slice_get tasks n ≡ Some x → (d : DefinedAt env w k definitions x.address) × (d.definition ≡ x.segment)
 
-pub task_at : {A : Type 0} (p : ℕ) (i : Inst) (ns : List ℕ) (xs : List A) (n : ℕ) (x : Task A) → slice_get (tasks_in p i ns xs) n ≡ Some x → (slice_get ns n ≡ Some x.address) × (slice_get xs n ≡ Some x.segment)
+pub task_at : {A : Type 0} (p : ℕ) (i : Inst) (ns : List ℕ) (xs : List A) (n : ℕ) (x : PlacedSegment A) → slice_get (segments_in p i ns xs) n ≡ Some x → (slice_get ns n ≡ Some x.address) × (slice_get xs n ≡ Some x.segment)
 task_at p i [] xs n x h = cc
 task_at p i (a ∷ ns) [] n x h = cc
 task_at {A} p i (a ∷ ns) (y ∷ xs) zero x h =
-    let task : Task A = record { part = p; inst = i; address = a; segment = y } in
+    let task : PlacedSegment A = record { part = p; inst = i; address = a; segment = y } in
     let same : task ≡ x = cc in
-    (ap (λ (x : Task A). Some x.address) same, ap (λ (x : Task A). Some x.segment) same)
+    (ap (λ (x : PlacedSegment A). Some x.address) same, ap (λ (x : PlacedSegment A). Some x.segment) same)
 task_at p i (a ∷ ns) (y ∷ xs) (suc n) x h = task_at p i ns xs n x h
 
-pub task_inst : {A : Type 0} (p : ℕ) (i : Inst) (ns : List ℕ) (xs : List A) (n : ℕ) (x : Task A) → slice_get (tasks_in p i ns xs) n ≡ Some x → x.inst ≡ i
+pub task_inst : {A : Type 0} (p : ℕ) (i : Inst) (ns : List ℕ) (xs : List A) (n : ℕ) (x : PlacedSegment A) → slice_get (segments_in p i ns xs) n ≡ Some x → x.inst ≡ i
 task_inst p i [] xs n x h = cc
 task_inst p i (a ∷ ns) [] n x h = cc
 task_inst {A} p i (a ∷ ns) (y ∷ xs) zero x h =
-    let task : Task A = record { part = p; inst = i; address = a; segment = y } in
+    let task : PlacedSegment A = record { part = p; inst = i; address = a; segment = y } in
     let same : task ≡ x = cc in
-    ap (λ (x : Task A). x.inst) (sym same)
+    ap (λ (x : PlacedSegment A). x.inst) (sym same)
 task_inst p i (a ∷ ns) (y ∷ xs) (suc n) x h = task_inst p i ns xs n x h
 
 -- the segments of one kind, by part
-abbrev pub tasks_by : {A : Type 0} → (Module → List A) → (Inst → List ℕ) → ℕ → List Part → List Inst → List (Task A)
-tasks_by segs adds p (part ∷ parts) (i ∷ is) = tasks_in p i (adds i) (segs part.«module») ++ tasks_by segs adds (suc p) parts is
+abbrev pub tasks_by : {A : Type 0} → (Module → List A) → (Inst → List ℕ) → ℕ → List Part → List Inst → List (PlacedSegment A)
+tasks_by segs adds p (part ∷ parts) (i ∷ is) = segments_in p i (adds i) (segs part.«module») ++ tasks_by segs adds (suc p) parts is
 tasks_by segs adds p _ _ = []
 
-pub elems_by : (p : ℕ) (parts : List Part) (is : List Inst) → elem_tasks p parts is ≡ tasks_by (λ m. m.elems) (λ i. i.elems) p parts is
+pub elems_by : (p : ℕ) (parts : List Part) (is : List Inst) → placed_elems p parts is ≡ tasks_by (λ m. m.elems) (λ i. i.elems) p parts is
 elems_by p [] is = refl
 elems_by p (part ∷ parts) [] = refl
 elems_by p (part ∷ parts) (i ∷ is) = rw (elems_by (suc p) parts is) refl
 
-pub datas_by : (p : ℕ) (parts : List Part) (is : List Inst) → data_tasks p parts is ≡ tasks_by (λ m. m.datas) (λ i. i.datas) p parts is
+pub datas_by : (p : ℕ) (parts : List Part) (is : List Inst) → placed_datas p parts is ≡ tasks_by (λ m. m.datas) (λ i. i.datas) p parts is
 datas_by p [] is = refl
 datas_by p (part ∷ parts) [] = refl
 datas_by p (part ∷ parts) (i ∷ is) = rw (datas_by (suc p) parts is) refl
@@ -70,7 +70,7 @@ module _ (env : Environment) (w : Instantiated) (k : Space) {A : Type 0} (defini
   defines_from : (p : ℕ) (parts : List Part) (is : List Inst) → ((q : ℕ) → module_at parts q ≡ module_at w.parts (p + q)) → ((q : ℕ) → slice_get is q ≡ slice_get w.insts (p + q)) → Defines env w k definitions (tasks_by definitions adds p parts is)
   defines_from p [] is f g n x h = cc
   defines_from p (part ∷ parts) [] f g n x h = cc
-  defines_from p (part ∷ parts) (i ∷ is) f g n x h = go (append_from (tasks_in p i (adds i) (definitions part.«module»)) (tasks_by definitions adds (suc p) parts is) n x h) (λ l x e. defines_from (suc p) parts is (λ q. f (suc q) ∙ ap (module_at w.parts) (let e : p + suc q ≡ suc p + q = omega arith in e)) (λ q. g (suc q) ∙ ap (slice_get w.insts) (let e : p + suc q ≡ suc p + q = omega arith in e)) l x e)
+  defines_from p (part ∷ parts) (i ∷ is) f g n x h = go (append_from (segments_in p i (adds i) (definitions part.«module»)) (tasks_by definitions adds (suc p) parts is) n x h) (λ l x e. defines_from (suc p) parts is (λ q. f (suc q) ∙ ap (module_at w.parts) (let e : p + suc q ≡ suc p + q = omega arith in e)) (λ q. g (suc q) ∙ ap (slice_get w.insts) (let e : p + suc q ≡ suc p + q = omega arith in e)) l x e)
     where
       here : p + 0 ≡ p
       here = omega arith
@@ -81,7 +81,7 @@ module _ (env : Environment) (w : Instantiated) (k : Space) {A : Type 0} (defini
       is_inst : slice_get w.insts p ≡ Some i
       is_inst = ap (slice_get w.insts) (sym here) ∙ sym (g 0)
 
-      go : (slice_get (tasks_in p i (adds i) (definitions part.«module»)) n ≡ Some x) ⊎ ((l : ℕ) × (n ≡ length (tasks_in p i (adds i) (definitions part.«module»)) + l) × (slice_get (tasks_by definitions adds (suc p) parts is) l ≡ Some x)) →
+      go : (slice_get (segments_in p i (adds i) (definitions part.«module»)) n ≡ Some x) ⊎ ((l : ℕ) × (n ≡ length (segments_in p i (adds i) (definitions part.«module»)) + l) × (slice_get (tasks_by definitions adds (suc p) parts is) l ≡ Some x)) →
           Defines env w k definitions (tasks_by definitions adds (suc p) parts is) → (d : DefinedAt env w k definitions x.address) × (d.definition ≡ x.segment)
       go (inl e) later =
           let t = task_at p i (adds i) (definitions part.«module») n x e in
@@ -101,11 +101,11 @@ inst_at env w are p m i is there =
 numbers_from : (n count : ℕ) → numbers n count ≡ numbers (0 + n) count
 numbers_from n count = let e : n ≡ 0 + n = omega arith in ap (λ n. numbers n count) e
 
-pub elems_defined : (env : Environment) (w : Instantiated) → insts_from env w.parts 0 w.parts ≡ Some w.insts → Defines env w ElementSegments (λ m. m.elems) (elem_tasks 0 w.parts w.insts)
+pub elems_defined : (env : Environment) (w : Instantiated) → insts_from env w.parts 0 w.parts ≡ Some w.insts → Defines env w ElementSegments (λ m. m.elems) (placed_elems 0 w.parts w.insts)
 elems_defined env w are = rw (elems_by 0 w.parts w.insts)
     (all_defined env w ElementSegments (λ m. m.elems) (λ i. i.elems) (λ p m i is there. (inst_at env w are p m i is there).elems ∙ numbers_from (defined_before ElementSegments w.parts p) (length m.elems)))
 
-pub datas_defined : (env : Environment) (w : Instantiated) → insts_from env w.parts 0 w.parts ≡ Some w.insts → Defines env w DataSegments (λ m. m.datas) (data_tasks 0 w.parts w.insts)
+pub datas_defined : (env : Environment) (w : Instantiated) → insts_from env w.parts 0 w.parts ≡ Some w.insts → Defines env w DataSegments (λ m. m.datas) (placed_datas 0 w.parts w.insts)
 datas_defined env w are = rw (datas_by 0 w.parts w.insts)
     (all_defined env w DataSegments (λ m. m.datas) (λ i. i.datas) (λ p m i is there. (inst_at env w are p m i is there).datas ∙ numbers_from (defined_before DataSegments w.parts p) (length m.datas)))
 
@@ -170,7 +170,7 @@ module _ (R : Pairing) (apart : OneToOne R) (env : Environment) (v w : Instantia
   or_trapped_rel like none = record { store = like; trapped = refl }
   or_trapped_rel like (some r) = r
 
-  fill_table_rel : {s z : Store} {a b n k : ℕ} {t u : Table} {o p : Option (List RefVal)} → StoreRel R s z → R.of ElementSegments n k → R.of Tables a b → TableRel R t u → OptRel (ListRel (RefRel R)) o p → Related (fill_table s n a t o) (fill_table z k b u p)
+  fill_table_rel : {s z : Store} {a b n k : ℕ} {t u : Table} {o p : Option (List RefVal)} → StoreRel R s z → R.of ElementSegments n k → R.of Tables a b → TableRel R t u → OptRel (ListRel (RefRel R)) o p → Related (copy_slots s n a t o) (copy_slots z k b u p)
   fill_table_rel like e d r (some l) = record { store = changed_rel R (written apart) (changed_rel R (written apart) like (set_table d (record { type = r.type; most = r.most; slots = l }))) (drop_elem e); trapped = refl }
   fill_table_rel like e d r none = record { store = like; trapped = refl }
 
@@ -178,7 +178,7 @@ module _ (R : Pairing) (apart : OneToOne R) (env : Environment) (v w : Instantia
   copy_elem_rel {s} {z} i j {n} {k} x y o like e d =
       or_trapped_rel like (then_same o (λ q _. then_rel d (λ a b h. then_rel (there (like.tables h)) (λ _ _ t. then_rel (there (like.elems e)) (λ _ _ i. some (fill_table_rel like e h t (overwrite_rel q t.slots i.items)))))))
 
-  fill_memory_rel : {s z : Store} {a b n k : ℕ} (m : Memory) (o : Option (List ℕ)) → StoreRel R s z → R.of DataSegments n k → R.of Memories a b → Related (fill_memory s n a m o) (fill_memory z k b m o)
+  fill_memory_rel : {s z : Store} {a b n k : ℕ} (m : Memory) (o : Option (List ℕ)) → StoreRel R s z → R.of DataSegments n k → R.of Memories a b → Related (copy_bytes s n a m o) (copy_bytes z k b m o)
   fill_memory_rel m (Some bytes) like e d = record { store = changed_rel R (written apart) (changed_rel R (written apart) like (set_memory d)) (drop_data e); trapped = refl }
   fill_memory_rel m None like e d = record { store = like; trapped = refl }
 
@@ -188,13 +188,13 @@ module _ (R : Pairing) (apart : OneToOne R) (env : Environment) (v w : Instantia
       some (rw (← same)
       (rw (← bytes) (fill_memory_rel m (overwrite m.bytes q c.bytes) like e h))))))))
 
-  run_elem_rel : {s z : Store} (value second_value : ConstExpr → Option Val) (x y : Task ElemSeg) {m n : ElemMode} → StoreRel R s z → ElemsPartner R value second_value x y m n → Related (run_elem_with value s x m) (run_elem_with second_value z y n)
+  run_elem_rel : {s z : Store} (value second_value : ConstExpr → Option Val) (x y : PlacedSegment ElemSeg) {m n : ElemMode} → StoreRel R s z → ElemsPartner R value second_value x y m n → Related (run_elem_with value s x m) (run_elem_with second_value z y n)
   run_elem_rel {s} {z} value second_value x y like (segments.ElemsPartner.active {t = t} {u = u} {d = d} e h same) =
       rw (← same) (copy_elem_rel x.inst y.inst t u (offset_in value d) like e h)
   run_elem_rel value second_value x y like segments.ElemsPartner.passive = record { store = like; trapped = refl }
   run_elem_rel value second_value x y like segments.ElemsPartner.declarative = record { store = like; trapped = refl }
 
-  run_data_rel : {s z : Store} (value second_value : ConstExpr → Option Val) (x y : Task DataSeg) {m n : DataMode} → StoreRel R s z → DatasPartner R value second_value x y m n → Related (run_data_with value s x m) (run_data_with second_value z y n)
+  run_data_rel : {s z : Store} (value second_value : ConstExpr → Option Val) (x y : PlacedSegment DataSeg) {m n : DataMode} → StoreRel R s z → DatasPartner R value second_value x y m n → Related (run_data_with value s x m) (run_data_with second_value z y n)
   run_data_rel {s} {z} value second_value x y like (segments.DatasPartner.active {t = t} {u = u} {d = d} e h same) =
       rw (← same) (copy_data_rel x.inst y.inst t u (offset_in value d) like e h)
   run_data_rel value second_value x y like segments.DatasPartner.passive = record { store = like; trapped = refl }
@@ -216,8 +216,8 @@ module _ (R : Pairing) (apart : OneToOne R) (env : Environment) (v w : Instantia
 
   -- ---- in order ----
 
-  pub elems_in_order : {xs ys : List (Task ElemSeg)} → InOrder (λ x y. ElemsPartner R (values_in env v x.part) (values_in env w y.part) x y x.segment.mode y.segment.mode) (λ x. ElemAlone (HasNoPartner (turned R)) env v x x.segment.mode) (λ y. ElemAlone (HasNoPartner R) env w y y.segment.mode) xs ys →
-      Defines env v ElementSegments (λ m. m.elems) xs → Defines env w ElementSegments (λ m. m.elems) ys → (s z : Store) → Stores s z → FilledAlike (in_turn (run_elem env v.parts v.insts) s xs) (in_turn (run_elem env w.parts w.insts) z ys)
+  pub elems_in_order : {xs ys : List (PlacedSegment ElemSeg)} → InOrder (λ x y. ElemsPartner R (values_in env v x.part) (values_in env w y.part) x y x.segment.mode y.segment.mode) (λ x. ElemAlone (HasNoPartner (turned R)) env v x x.segment.mode) (λ y. ElemAlone (HasNoPartner R) env w y y.segment.mode) xs ys →
+      Defines env v ElementSegments (λ m. m.elems) xs → Defines env w ElementSegments (λ m. m.elems) ys → (s z : Store) → Stores s z → FilledAlike (one_by_one (run_elem env v.parts v.insts) s xs) (one_by_one (run_elem env w.parts w.insts) z ys)
   elems_in_order segments.InOrder.ends d e s z like = goes_on like
   elems_in_order (segments.InOrder.both {x = x} {y = y} p r) d e s z like =
       let k = run_elem_rel (values_in env v x.part) (values_in env w y.part) x y like.related p in
@@ -230,8 +230,8 @@ module _ (R : Pairing) (apart : OneToOne R) (env : Environment) (v w : Instantia
       let i = e 0 y refl in
       second_goes (elem_copied (in_second R) (HasNoPartner R) (second_apart R) env w z y like.second i.0 i.1 y.segment.mode p) (run_elem_room env w (values_in env w y.part) y y.segment.mode like.second) like (λ z like. elems_in_order r d (λ n. e (suc n)) s z like)
 
-  pub datas_in_order : {xs ys : List (Task DataSeg)} → InOrder (λ x y. DatasPartner R (values_in env v x.part) (values_in env w y.part) x y x.segment.mode y.segment.mode) (λ x. DataAlone (HasNoPartner (turned R)) env v x x.segment.mode) (λ y. DataAlone (HasNoPartner R) env w y y.segment.mode) xs ys →
-      Defines env v DataSegments (λ m. m.datas) xs → Defines env w DataSegments (λ m. m.datas) ys → (s z : Store) → Stores s z → FilledAlike (in_turn (run_data env v.parts v.insts) s xs) (in_turn (run_data env w.parts w.insts) z ys)
+  pub datas_in_order : {xs ys : List (PlacedSegment DataSeg)} → InOrder (λ x y. DatasPartner R (values_in env v x.part) (values_in env w y.part) x y x.segment.mode y.segment.mode) (λ x. DataAlone (HasNoPartner (turned R)) env v x x.segment.mode) (λ y. DataAlone (HasNoPartner R) env w y y.segment.mode) xs ys →
+      Defines env v DataSegments (λ m. m.datas) xs → Defines env w DataSegments (λ m. m.datas) ys → (s z : Store) → Stores s z → FilledAlike (one_by_one (run_data env v.parts v.insts) s xs) (one_by_one (run_data env w.parts w.insts) z ys)
   datas_in_order segments.InOrder.ends d e s z like = goes_on like
   datas_in_order (segments.InOrder.both {x = x} {y = y} p r) d e s z like =
       let k = run_data_rel (values_in env v x.part) (values_in env w y.part) x y like.related p in

@@ -16,7 +16,7 @@ use Rattle.wasm_tree.specs.declared.module.Func as tree
 use Rattle.wasm_num.specs.Operations.{W32}
 use Rattle.wasm_meaning.specs.State.{Val, Inst}
 use Rattle.wasm_meaning.specs.Values.{num_of}
-use Rattle.wasm_meaning.specs.World.{Task, one_place, start_in, address_in}
+use Rattle.wasm_meaning.specs.World.{PlacedSegment, one_place, start_in, address_in}
 use Rattle.index_remap.specs.declared.remap.Remap.{Remap}
 use Rattle.index_remap.specs.Renumbered.{new_func, new_const, new_elem, new_elem_mode, new_data_mode, new_export_desc, new_start}
 use Rattle.index_remap.specs.Related.{Pairing, OptRel, none, some, ListRel, nil, cons, ValRel, number, reference}
@@ -73,14 +73,14 @@ module _ (of : Space → ℕ → ℕ → Bool) (m : Remap) (kept : Indices) (i j
   -- ---- by values that are related ----
 
   module _ (value second_value : ConstExpr → Option Val) (consts : (e : ConstExpr) → ConstNamesOnly kept e → OptRel (ValRel R) (value e) (second_value (new_const m e))) where
-    pub elem_mode_named : (x y : Task ElemSeg) → x.inst ≡ i → y.inst ≡ j → R.of ElementSegments x.address y.address → (mode : ElemMode) → ElemModeNamesOnly kept mode → ElemsPartner R value second_value x y mode (new_elem_mode m mode)
+    pub elem_mode_named : (x y : PlacedSegment ElemSeg) → x.inst ≡ i → y.inst ≡ j → R.of ElementSegments x.address y.address → (mode : ElemMode) → ElemModeNamesOnly kept mode → ElemsPartner R value second_value x y mode (new_elem_mode m mode)
     elem_mode_named x y e f r (elem.Active t d) h =
         segments.ElemsPartner.active r (rw e (rw f (table_named t h.0)))
         (offset_same R (consts d h.1))
     elem_mode_named x y e f r elem.Passive h = segments.ElemsPartner.passive
     elem_mode_named x y e f r elem.Declarative h = segments.ElemsPartner.declarative
 
-    pub data_mode_named : (x y : Task DataSeg) → x.inst ≡ i → y.inst ≡ j → R.of DataSegments x.address y.address → (mode : DataMode) → DataModeNamesOnly kept mode → DatasPartner R value second_value x y mode (new_data_mode m mode)
+    pub data_mode_named : (x y : PlacedSegment DataSeg) → x.inst ≡ i → y.inst ≡ j → R.of DataSegments x.address y.address → (mode : DataMode) → DataModeNamesOnly kept mode → DatasPartner R value second_value x y mode (new_data_mode m mode)
     data_mode_named x y e f r (data'.Active t d) h =
         segments.DatasPartner.active r (rw e (rw f (memory_named t h.0)))
         (offset_same R (consts d h.1))

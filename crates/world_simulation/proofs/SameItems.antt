@@ -9,7 +9,7 @@ use Rattle.base_lists.proofs.Places.{map_from, append_from}
 use Rattle.wasm_tree.specs.declared.space.Space.{Space}
 use Rattle.wasm_tree.specs.declared.space.Space.TheVariants.{Functions, Globals, ElementSegments, DataSegments}
 use Rattle.wasm_meaning.specs.Environment.{Environment, own_globals}
-use Rattle.wasm_meaning.specs.World.{own_count, defined_count, numbers, Task, tasks_in, Begun, insts_from, stores_from, own_store, joined_stores, part_store, all_there, is_matched, segments, begun, instantiate, is_there, links, alone, elem_tasks, data_tasks, seen_as, start_in, starts_of, space, value_of, value_of_read}
+use Rattle.wasm_meaning.specs.World.{own_count, defined_count, numbers, PlacedSegment, segments_in, Begun, insts_from, stores_from, own_store, joined_stores, part_store, all_there, is_matched, segments, begun, instantiate, is_there, links, alone, placed_elems, placed_datas, seen_as, start_in, starts_of, space, value_of, value_of_read}
 use Rattle.index_remap.specs.Related.{Pairing, OptRel, none, some, ListRel, cons, nil, ValRel, number, reference, func}
 use Rattle.index_remap.specs.Laws.{passed}
 use Rattle.wasm_tree.specs.declared.module.Module.{Module}
@@ -138,7 +138,7 @@ module _ (of : Space → ℕ → ℕ → Bool) (m : Remap) (kept : Indices) (t u
         (λ x e h. elem_mode_named of m kept i j names (values_in env v 0) (values_in env w 0) consts _ _ refl refl (elem_shared (0 + x) (let l = slice_get_within t.elems x e h in omega arith)) e.mode (same.named.elem_modes x e h))
       where
         declared_alone : (fs : List ℕ) (ns : List ℕ) →
-            InOrder (λ x y. ElemsPartner R (values_in env v x.part) (values_in env w y.part) x y x.segment.mode y.segment.mode) (λ x. ElemAlone (HasNoPartner (turned R)) env v x x.segment.mode) (λ y. ElemAlone (HasNoPartner R) env w y y.segment.mode) [] (tasks_in 0 j ns (last_segments fs) ++ [])
+            InOrder (λ x y. ElemsPartner R (values_in env v x.part) (values_in env w y.part) x y x.segment.mode y.segment.mode) (λ x. ElemAlone (HasNoPartner (turned R)) env v x x.segment.mode) (λ y. ElemAlone (HasNoPartner R) env w y y.segment.mode) [] (segments_in 0 j ns (last_segments fs) ++ [])
         declared_alone [] [] = ends
         declared_alone [] (n ∷ ns) = ends
         declared_alone (f ∷ fs) [] = ends
@@ -150,7 +150,7 @@ module _ (of : Space → ℕ → ℕ → Bool) (m : Remap) (kept : Indices) (t u
         all_in_step _ _ _ i j (new_data m) [] t.datas u.datas i.datas j.datas a.datas b.datas (same.datas ∙ sym (append-nil _)) (λ ns. nothing ns)
         (λ x d h. data_mode_named of m kept i j names (values_in env v 0) (values_in env w 0) consts _ _ refl refl (data_shared (0 + x) (let l = slice_get_within t.datas x d h in omega arith)) d.mode (same.named.data_modes x d h))
       where
-        nothing : {P : Task DataSeg → Task DataSeg → Type 0} {F S : Task DataSeg → Type 0} (ns : List ℕ) → InOrder P F S [] (tasks_in 0 j ns [] ++ [])
+        nothing : {P : PlacedSegment DataSeg → PlacedSegment DataSeg → Type 0} {F S : PlacedSegment DataSeg → Type 0} (ns : List ℕ) → InOrder P F S [] (segments_in 0 j ns [] ++ [])
         nothing [] = ends
         nothing (n ∷ ns) = ends
 

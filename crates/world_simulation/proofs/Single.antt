@@ -14,7 +14,7 @@ use Rattle.wasm_meaning.specs.Values.{same_ref, same_type, same_func_type}
 use Rattle.wasm_meaning.specs.Linking.{Site, has_kind, pair_of, places, sites, imports_of, Entity}
 use Rattle.wasm_meaning.specs.Linking as linking
 use Rattle.wasm_meaning.specs.Environment.{Environment, Thing, same_key, all_of}
-use Rattle.wasm_meaning.specs.World.{meets, same_bool, numbers, own_count, defined_count, address_of, space, is_match, is_matched, Begun, insts_from, stores_from, own_store, joined_stores, part_store, all_there, segments, begun, instantiate, is_there, links, alone, elem_tasks, data_tasks, seen_as, start_in, starts_of}
+use Rattle.wasm_meaning.specs.World.{meets, same_bool, numbers, own_count, defined_count, address_of, space, is_match, is_matched, Begun, insts_from, stores_from, own_store, joined_stores, part_store, all_there, segments, begun, instantiate, is_there, links, alone, placed_elems, placed_datas, seen_as, start_in, starts_of}
 use Rattle.index_remap.specs.Related.{Pairing, OptRel, none, some, ListRel, TableRel, StoreRel}
 use Rattle.index_remap.specs.RelatedRuns.{ThingRel, a_func, a_table, a_memory, a_global}
 use Rattle.index_remap.proofs.Rel.{length_rel, same_there, there}

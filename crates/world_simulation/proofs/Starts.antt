@@ -1,4 +1,4 @@
--- Starts one after the other, and one start that calls them.
+-- Starts one run_after the other, and one start that calls them.
 use Rattle.std.proofs.Common.{◌≡◌, ℕ, ◌+◌, List, [], ◌∷◌, ◌++◌, Some, None, Bool, true, false, cond, map, refl, ap, subst, arith, slice_get, Option, option_and_then}
 use Rattle.wasm_tree.specs.declared.instr.Instr.{out-Instr}
 use Rattle.wasm_tree.specs.declared.instr.Instr.TheVariants as i
@@ -8,7 +8,7 @@ use Rattle.wasm_meaning.specs.Control.{type_of_func}
 use Rattle.wasm_meaning.specs.Step.{enter}
 use Rattle.wasm_meaning.specs.Environment.{Environment}
 use Rattle.wasm_meaning.specs.World.{Begun}
-use Rattle.wasm_meaning.specs.Run.{InstanceTrapped, Phase, Pending, Closed, Move, Run, Out, after, tick, events_of, IsPrefix, fresh_run}
+use Rattle.wasm_meaning.specs.Run.{InstanceTrapped, Phase, Pending, Closed, Move, Run, Out, run_after, tick, events_of, IsPrefix, fresh_run}
 use Rattle.wasm_meaning.specs.Below.{IsBottom, GivesNothing, a_frame, a_call, Unseen, goes_on, ended, trapped, BelowIsNotSeen}
 use Rattle.index_remap.specs.Related.{ListRel, nil, cons}
 use Rattle.world_simulation.specs.Starts.{from_nothing_to_nothing, NamesStart, CallsEach}
@@ -36,7 +36,7 @@ still_named : {s t : Store} {j : Inst} {ns xs : List ℕ} → t.funcs ≡ s.func
 still_named e nil = nil
 still_named {s = s} {t = t} e (cons {a = n} {b = a} x l) = cons (record { named = x.named; typed = rw e x.typed }) (still_named e l)
 
--- Runs with the starts one after the other, and with the one start; the second has so many steps left to make alone.
+-- Runs with the starts one run_after the other, and with the one start; the second has so many steps left to make alone.
 data Alike : (d e : ℕ) → Run → Run → Type 0 where
   the_same : {d e : ℕ} (r : Run) → Alike d e r r
   fresh : {e : ℕ} (env : Environment) (b : Begun) (a : ℕ) (moves : List Move) → CallsEach b.store a b.starts → Alike 2 e (fresh_run env (Some b) moves) (fresh_run env (Some (record b { starts = a ∷ [] })) moves)
@@ -79,16 +79,16 @@ found s (Some f) e = (f, (refl, cc))
 found s None e = cc
 
 opened_is : (r : Run) (xs : List ℕ) (a : ℕ) (f : Func) → slice_get r.store.funcs a ≡ Some f → type_of_func f ≡ from_nothing_to_nothing →
-    tick (record r { entries = openings (a ∷ xs) }) ≡ after (record r { entries = openings (a ∷ xs) }) (Gives (enter r.store f [] (openings xs)))
+    tick (record r { entries = openings (a ∷ xs) }) ≡ run_after (record r { entries = openings (a ∷ xs) }) (Gives (enter r.store f [] (openings xs)))
 opened_is r xs a f h e = rw (h, e) refl
 
 called_is : (r : Run) (ns : List ℕ) (j : Inst) (n a : ℕ) (f : Func) → slice_get j.funcs n ≡ Some a → slice_get r.store.funcs a ≡ Some f → type_of_func f ≡ from_nothing_to_nothing →
-    tick (record r { entries = calls j (n ∷ ns) }) ≡ after (record r { entries = calls j (n ∷ ns) }) (Gives (enter r.store f [] (calls j ns)))
+    tick (record r { entries = calls j (n ∷ ns) }) ≡ run_after (record r { entries = calls j (n ∷ ns) }) (Gives (enter r.store f [] (calls j ns)))
 unfolding out-Instr denote.Hole.Carrier.out
 called_is r ns j n a f m h e = rw (m, h, e) refl
 
 entered : (r : Run) (es fs : List Entry) (f : Func) (xs ns : List ℕ) (j : Inst) → type_of_func f ≡ from_nothing_to_nothing →
-    Unseen (openings xs) (calls j ns) r.phase r.phase r.store.funcs (after (record r { entries = es }) (Gives (enter r.store f [] (openings xs)))) (after (record r { entries = fs }) (Gives (enter r.store f [] (calls j ns))))
+    Unseen (openings xs) (calls j ns) r.phase r.phase r.store.funcs (run_after (record r { entries = es }) (Gives (enter r.store f [] (openings xs)))) (run_after (record r { entries = fs }) (Gives (enter r.store f [] (calls j ns))))
 entered r es fs (Code t c ls is) xs ns j e = goes_on r (_ ∷ []) refl (a_frame (rw e refl))
 entered r es fs (Own pair t) xs ns j e = goes_on r (Waiting t.results ∷ []) refl (rw (ap (λ u. u.results) e) a_call)
 entered r es fs (Placeholder n t) xs ns j e = trapped r

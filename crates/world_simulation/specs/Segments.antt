@@ -15,7 +15,7 @@ use Rattle.wasm_num.specs.Operations.{W32}
 use Rattle.wasm_meaning.specs.State.{Val}
 use Rattle.wasm_meaning.specs.Values.{num_of}
 use Rattle.wasm_meaning.specs.Environment.{Environment}
-use Rattle.wasm_meaning.specs.World.{Task, elem_tasks, data_tasks}
+use Rattle.wasm_meaning.specs.World.{PlacedSegment, placed_elems, placed_datas}
 use Rattle.index_remap.specs.Related.{Pairing, OptRel}
 use Rattle.index_remap.specs.RelatedRuns.{turned, HasNoPartner}
 use Rattle.world_simulation.specs.Definitions.{Instantiated, DefinedAt, values_in}
@@ -33,13 +33,13 @@ offset_in value e = value e >>= num_of W32
 -- ---- element segments ----
 
 -- Both are active, and copied to related tables at equal offsets; or neither is active.
-pub data ElemsPartner (R : Pairing) (value second_value : ConstExpr → Option Val) (x y : Task ElemSeg) : ElemMode → ElemMode → Type 0 where
+pub data ElemsPartner (R : Pairing) (value second_value : ConstExpr → Option Val) (x y : PlacedSegment ElemSeg) : ElemMode → ElemMode → Type 0 where
   active : {t u : ℕ} {d e : ConstExpr} → R.of ElementSegments x.address y.address → OptRel (R.of Tables) (slice_get x.inst.tables t) (slice_get y.inst.tables u) → offset_in value d ≡ offset_in second_value e → ElemsPartner R value second_value x y (elem.Active t d) (elem.Active u e)
   passive : ElemsPartner R value second_value x y elem.Passive elem.Passive
   declarative : ElemsPartner R value second_value x y elem.Declarative elem.Declarative
 
 -- Active in bounds of a defined table: neither the table nor the segment has a partner. Or it is not active.
-pub data ElemAlone (alone : Space → ℕ → Type 0) (env : Environment) (w : Instantiated) (x : Task ElemSeg) : ElemMode → Type 0 where
+pub data ElemAlone (alone : Space → ℕ → Type 0) (env : Environment) (w : Instantiated) (x : PlacedSegment ElemSeg) : ElemMode → Type 0 where
   active : {t n a : ℕ} {e : ConstExpr} → slice_get x.inst.tables t ≡ Some a → alone Tables a → (table : DefinedAt env w Tables (λ m. m.tables) a) → alone ElementSegments x.address →
       offset_in (values_in env w x.part) e ≡ Some n → n + length x.segment.items ≤ table.definition.limits.min → ElemAlone alone env w x (elem.Active t e)
   passive : ElemAlone alone env w x elem.Passive
@@ -47,11 +47,11 @@ pub data ElemAlone (alone : Space → ℕ → Type 0) (env : Environment) (w : I
 
 -- ---- data segments ----
 
-pub data DatasPartner (R : Pairing) (value second_value : ConstExpr → Option Val) (x y : Task DataSeg) : DataMode → DataMode → Type 0 where
+pub data DatasPartner (R : Pairing) (value second_value : ConstExpr → Option Val) (x y : PlacedSegment DataSeg) : DataMode → DataMode → Type 0 where
   active : {t u : ℕ} {d e : ConstExpr} → R.of DataSegments x.address y.address → OptRel (R.of Memories) (slice_get x.inst.mems t) (slice_get y.inst.mems u) → offset_in value d ≡ offset_in second_value e → DatasPartner R value second_value x y (data'.Active t d) (data'.Active u e)
   passive : DatasPartner R value second_value x y data'.Passive data'.Passive
 
-pub data DataAlone (alone : Space → ℕ → Type 0) (env : Environment) (w : Instantiated) (x : Task DataSeg) : DataMode → Type 0 where
+pub data DataAlone (alone : Space → ℕ → Type 0) (env : Environment) (w : Instantiated) (x : PlacedSegment DataSeg) : DataMode → Type 0 where
   active : {t n a : ℕ} {e : ConstExpr} → slice_get x.inst.mems t ≡ Some a → alone Memories a → (memory : DefinedAt env w Memories (λ m. m.mems) a) → alone DataSegments x.address →
       offset_in (values_in env w x.part) e ≡ Some n → n + length x.segment.bytes ≤ 65536 * memory.definition.min → DataAlone alone env w x (data'.Active t e)
   passive : DataAlone alone env w x data'.Passive
@@ -61,9 +61,9 @@ pub data DataAlone (alone : Space → ℕ → Type 0) (env : Environment) (w : I
 abbrev pub ElemsInOrder : Pairing → Environment → Instantiated → Instantiated → Type 0
 ElemsInOrder R env v w =
     InOrder (λ x y. ElemsPartner R (values_in env v x.part) (values_in env w y.part) x y x.segment.mode y.segment.mode) (λ x. ElemAlone (HasNoPartner (turned R)) env v x x.segment.mode) (λ y. ElemAlone (HasNoPartner R) env w y y.segment.mode)
-    (elem_tasks 0 v.parts v.insts) (elem_tasks 0 w.parts w.insts)
+    (placed_elems 0 v.parts v.insts) (placed_elems 0 w.parts w.insts)
 
 abbrev pub DatasInOrder : Pairing → Environment → Instantiated → Instantiated → Type 0
 DatasInOrder R env v w =
     InOrder (λ x y. DatasPartner R (values_in env v x.part) (values_in env w y.part) x y x.segment.mode y.segment.mode) (λ x. DataAlone (HasNoPartner (turned R)) env v x x.segment.mode) (λ y. DataAlone (HasNoPartner R) env w y y.segment.mode)
-    (data_tasks 0 v.parts v.insts) (data_tasks 0 w.parts w.insts)
+    (placed_datas 0 v.parts v.insts) (placed_datas 0 w.parts w.insts)

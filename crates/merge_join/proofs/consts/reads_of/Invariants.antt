@@ -3,7 +3,7 @@ use Rattle.wasm_tree.specs.declared.space.Space.TheVariants.{Globals}
 use Rattle.wasm_meaning.specs.Linking.{has_kind, places}
 use Rattle.merge_spec.specs.Parts.{named_modules}
 use Rattle.merge_spec.specs.Linked.{read_at}
-use Rattle.merge_join.specs.Words.{site}
+use Rattle.merge_join.specs.LinkedParts.{site}
 use Rattle.merge_join.proofs.consts.reads_of.Given as goal
 
 abbrev pub invariant-loop-place : goal.invariant-loop-place

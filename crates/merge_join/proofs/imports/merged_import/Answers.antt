@@ -1,7 +1,7 @@
 use Rattle.std.proofs.Common.{ap, ◌<◌, length, arith}
 use Rattle.wasm_tree.specs.declared.module.Module.{Module}
 use Rattle.merge_spec.specs.Parts.{named_modules}
-use Rattle.merge_join.specs.Words.{site}
+use Rattle.merge_join.specs.LinkedParts.{site}
 use Rattle.merge_join.proofs.PartMaps.{same_module}
 use Rattle.merge_join.proofs.Holding.{import_fits}
 use Rattle.merge_join.proofs.Staying.{import_made}

@@ -1,6 +1,6 @@
 use Rattle.std.proofs.Common.{◌∙◌, sym, ap}
 use Rattle.merge_spec.specs.Parts.{named_modules}
-use Rattle.merge_join.specs.Words.{site}
+use Rattle.merge_join.specs.LinkedParts.{site}
 use Rattle.merge_join.proofs.Ends.{is_self, stays_is, same_part, other_part}
 use Rattle.merge_join.proofs.linked.stays.Goals as goal
 

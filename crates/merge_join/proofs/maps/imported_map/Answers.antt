@@ -8,7 +8,7 @@ use Rattle.wasm_meaning.specs.Linking.{places, has_kind, imports_of}
 use Rattle.wasm_tree.specs.Spaces.{space_of_import}
 use Rattle.merge_spec.specs.Parts.{named_modules}
 use Rattle.merge_spec.specs.Merged.{new_index}
-use Rattle.merge_join.specs.Words.{IsEnd}
+use Rattle.merge_join.specs.LinkedParts.{IsEnd}
 use Rattle.merge_join.proofs.Fits.{entry_there}
 use Rattle.merge_join.proofs.NewIndex.{new_index_at, import_place}
 use Rattle.merge_join.proofs.Sites.{places_length}

@@ -11,7 +11,7 @@ use Rattle.merge_spec.specs.View.{linked_world}
 use Rattle.merge_spec.specs.Joined.{joined_module, over_limit, repeated_name, Joins}
 use Rattle.merge_valid_proof.specs.Joinable.{CanBeJoined}
 use Rattle.merge_behaves_proof.specs.Laws.{BehavesAs}
-use Rattle.merge_join.specs.Words.{PartsHold}
+use Rattle.merge_join.specs.LinkedParts.{PartsHold}
 use Rattle.merge_join.proofs.Outcomes.{joined_from}
 use Rattle.merge_join.proofs.merging.join.Goals as goal
 

@@ -12,7 +12,7 @@ use Rattle.merge_spec.specs.declared.parts.Part.{Part}
 use Rattle.merge_spec.specs.Parts.{named_modules}
 use Rattle.merge_spec.specs.Merged.{map_of}
 use Rattle.merge_join.specs.Moved.{AreValues, AreAllValues}
-use Rattle.merge_join.specs.Words.{AreMaps}
+use Rattle.merge_join.specs.LinkedParts.{AreMaps}
 use Rattle.merge_join.proofs.ByPart.{each_at, each_within}
 use Rattle.merge_join.proofs.MovedParts.{module_of_part, moved_more, moved_all}
 use Rattle.merge_join.proofs.moving.moved_parts.Goals as goal

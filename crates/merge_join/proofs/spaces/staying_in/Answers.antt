@@ -3,7 +3,7 @@ use Rattle.std.proofs.lemmas.List.{map_push}
 use Rattle.wasm_tree.specs.declared.module.Module.{Module}
 use Rattle.wasm_meaning.specs.Linking.{sites_in}
 use Rattle.merge_spec.specs.Parts.{named_modules}
-use Rattle.merge_join.specs.Words.{site}
+use Rattle.merge_join.specs.LinkedParts.{site}
 use Rattle.merge_join.specs.Spaces.{staying_place, picked, count_before}
 use Rattle.merge_join.proofs.Counts.{count_more, count_part, count_few, staying_few}
 use Rattle.merge_join.proofs.Sites.{sites_in_more, staying_place_is}

@@ -7,7 +7,7 @@ use Rattle.merge_spec.specs.Parts.{named_modules}
 use Rattle.merge_join.specs.declared.tree.Plan.{Plan}
 use Rattle.merge_join.specs.Moved.{AreAllValues}
 use Rattle.merge_join.specs.Planned.{IsPlan}
-use Rattle.merge_join.specs.Words.{AreMaps}
+use Rattle.merge_join.specs.LinkedParts.{AreMaps}
 use Rattle.merge_join.proofs.MergedTrees.{funcs_few, merged_is}
 use Rattle.merge_join.proofs.tree.merged.Goals as goal
 

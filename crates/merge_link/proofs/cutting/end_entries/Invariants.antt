@@ -1,6 +1,6 @@
 use Rattle.std.proofs.Common.{map, take, ◌≡◌}
 use Rattle.merge_spec.specs.Linked.{end_entry}
-use Rattle.merge_link.specs.Joining.{the_end}
+use Rattle.merge_link.specs.PartTables.{the_end}
 use Rattle.merge_link.proofs.cutting.end_entries.Given as goal
 
 abbrev pub invariant-loop-end : goal.invariant-loop-end

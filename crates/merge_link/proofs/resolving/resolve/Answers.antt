@@ -4,17 +4,17 @@ use Rattle.wasm_tree.specs.declared.space.Space.TheVariants.{Globals}
 use Rattle.wasm_meaning.specs.Linking.{sites}
 use Rattle.wasm_meaning.specs.World.{defined_before}
 use Rattle.merge_spec.specs.declared.parts.Part.{Part}
-use Rattle.merge_spec.specs.Faults.{own_globals}
+use Rattle.merge_spec.specs.Faults.{defined_globals}
 use Rattle.merge_spec.specs.Parts.{named_module, named_modules}
 use Rattle.merge_link.proofs.Whole.{own_count}
 use Rattle.merge_link.proofs.resolving.resolve.Goals as goal
 
-globals_are : (ps : List Part) → length (own_globals (named_modules ps)) ≡ defined_before Globals (named_modules ps) (length ps)
+globals_are : (ps : List Part) → length (defined_globals (named_modules ps)) ≡ defined_before Globals (named_modules ps) (length ps)
 globals_are ps = own_count (named_modules ps) ∙ ap (defined_before Globals (named_modules ps)) (length-map ps named_module)
 
-few_globals : (ps lent : List Part) → lent ≡ ps → defined_before Globals (named_modules ps) (length ps) < 2 ^ 32 → length (own_globals (named_modules lent)) < 2 ^ 32
+few_globals : (ps lent : List Part) → lent ≡ ps → defined_before Globals (named_modules ps) (length ps) < 2 ^ 32 → length (defined_globals (named_modules lent)) < 2 ^ 32
 few_globals ps lent is few =
-    let P : List Part → Type 0 = λ qs. length (own_globals (named_modules qs)) < 2 ^ 32 in
+    let P : List Part → Type 0 = λ qs. length (defined_globals (named_modules qs)) < 2 ^ 32 in
     subst P (sym is) (let same = globals_are ps in omega arith)
 
 pub all_tables-requires-clause-globals : goal.all_tables-requires-clause-globals

@@ -5,7 +5,7 @@ use Rattle.std.proofs.lemmas.Option.{slice_get_read}
 use Rattle.wasm_meaning.specs.Linking as linking
 use Rattle.wasm_meaning.specs.World.{defined_before}
 use Rattle.merge_spec.specs.declared.parts.Part.{Part}
-use Rattle.merge_spec.specs.Faults.{own_globals}
+use Rattle.merge_spec.specs.Faults.{defined_globals}
 use Rattle.merge_spec.specs.Parts.{named_modules}
 use Rattle.merge_link.specs.Tables.{IsTableOf, imports_before}
 use Rattle.merge_link.proofs.Places.{module_named, nothing_at}
@@ -30,7 +30,7 @@ overflow_add-first_import c =
     omega (arith, imports_most (named_modules c.args.parts.now) 0 c.loop-part.part-index c.module-module.result.now at, c.requires.imports, c.len.ensures)
 
 pub overflow_add-first_global : goal.overflow_add-first_global
-unfolding own_globals
+unfolding defined_globals
 overflow_add-first_global c =
     let at : linking.module_at (named_modules c.args.parts.now) c.loop-part.part-index ≡ Some c.module-module.result.now =
     module_named c.args.parts.now c.loop-part.part-index

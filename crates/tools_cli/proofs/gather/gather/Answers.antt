@@ -1,5 +1,5 @@
 use Rattle.std.proofs.Common.{◌≡◌, ◌∙◌, ℕ, ◌+◌, ◌-◌, ◌≤◌, ◌<◌, arith, rules, List, [], ◌∷◌, ◌++◌, length, get_or, Bor, IfSome, Some, refl}
-use Rattle.tool_io.specs.Outside.{first_bytes}
+use Rattle.tool_io.specs.FilesAndSinks.{first_bytes}
 use Rattle.tool_io.proofs.Steps.{rose_earlier}
 use Rattle.tools_cli.proofs.Gathering.{one_file_more, one_turn_more, too_long_told, this_turn, contains_name, same_read, one_name_more, one_total_more}
 use Rattle.tools_cli.specs.Command.{input_entries}

@@ -1,5 +1,5 @@
 use Rattle.std.proofs.Common.{◌≡◌, ◌≤◌, ◌++◌, ◌+◌, IfSome, drop}
-use Rattle.tool_io.specs.Outside.{NoneFell}
+use Rattle.tool_io.specs.FilesAndSinks.{NoneFell}
 use Rattle.tools_cli.specs.Job.{gathered}
 use Rattle.tools_cli.specs.Command.{names_of, input_entries}
 use Rattle.tools_cli.proofs.Gathering.{add_all, AreTurns, read_names}

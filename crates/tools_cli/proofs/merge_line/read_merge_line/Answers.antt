@@ -1,5 +1,5 @@
 use Rattle.std.proofs.Common.{◌≡◌, ◌∙◌, sym, ap, true, false, rules, ◌+◌, drop, map, option_map, string_bytes, Some, None}
-use Rattle.tools_cli.specs.Words.{merge_words, merge_line_of, takes_value}
+use Rattle.tools_cli.specs.CommandLine.{merge_words, merge_line_of, takes_value}
 use Rattle.tools_cli.specs.Command.{merge_line_value, merge_word_value}
 use Rattle.tools_cli.proofs.Lines.{and_then_line, line_from, next_word, line_empty, words_at, now_due, wrong_word, right_word}
 use Rattle.tools_cli.proofs.merge_line.read_merge_line.Goals.{else-not-due-via-then-not-due+else-takes_value, else-not-due-via-else-not-due}

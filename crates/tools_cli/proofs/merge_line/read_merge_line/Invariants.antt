@@ -1,5 +1,5 @@
 use Rattle.std.proofs.Common.{◌≡◌, map, string_bytes, drop, option_map}
-use Rattle.tools_cli.specs.Words.{merge_words, merge_line_of}
+use Rattle.tools_cli.specs.CommandLine.{merge_words, merge_line_of}
 use Rattle.tools_cli.specs.Command.{merge_line_value}
 use Rattle.tools_cli.proofs.Lines.{and_then_line, line_from}
 use Rattle.tools_cli.proofs.merge_line.read_merge_line.Given as goal

@@ -3,7 +3,7 @@ use Rattle.std.proofs.lemmas.List.{length-map}
 use Rattle.wasm_meaning.specs.Linking.{Part, sites}
 use Rattle.merge_spec.specs.Parts.{named_module, named_modules}
 use Rattle.merge_spec.specs.Joined.{FewInAll}
-use Rattle.tools_cli.specs.Words.{Text, are_apart}
+use Rattle.tools_cli.specs.CommandLine.{Text, are_apart}
 use Rattle.tools_cli.specs.Command.{merge_value, decision_value}
 use Rattle.tools_cli.specs.Sources.{source_values}
 use Rattle.tools_cli.specs.Job.{Merges, Refuses, Makes, parts_of, most_parts}

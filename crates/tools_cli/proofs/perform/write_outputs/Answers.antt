@@ -1,6 +1,6 @@
 use Rattle.std.proofs.Common.{ap, arith}
 use Rattle.std.specs.Vec.Iter.{into_iter_items}
-use Rattle.tool_io.specs.Outside.{Becomes}
+use Rattle.tool_io.specs.FilesAndSinks.{Becomes}
 use Rattle.tools_cli.specs.Command.{write_entry, write_entries}
 use Rattle.tools_cli.specs.Effects.{written_names}
 use Rattle.tools_cli.proofs.Gathering.{contains_later}

@@ -1,5 +1,5 @@
 use Rattle.std.proofs.Common.{map, string_bytes, subst, Result}
-use Rattle.tools_cli.specs.Run.{Outside, IsUsage}
+use Rattle.tools_cli.specs.Run.{HostState, IsUsage}
 use Rattle.tools_cli.specs.declared.stop.Stop.{Stop}
 use Rattle.tools_cli.proofs.Running.{usage_told, usage_at_stop, says_nothing, says_a_line, outside_cause, complete_at_stop}
 use Rattle.tools_cli.proofs.Kept.{end_keeps}
@@ -14,20 +14,20 @@ returns-in-Ok-clause-says g c = says_nothing _
 
 pub returns-in-Err-clause-says : goal.returns-in-Err-clause-says
 returns-in-Err-clause-says g c =
-    let old : Outside = record { files = g.F.Files.contents c.args.files.now; reads = g.F.Files.read_faults c.args.files.now; writes = g.F.Files.write_faults c.args.files.now; out = g.O.Sink.bytes c.args.out.now; out_faults = g.O.Sink.faults c.args.out.now } in
-    let new : Outside = record { files = g.F.Files.contents c.run_command.new.files; reads = g.F.Files.read_faults c.run_command.new.files; writes = g.F.Files.write_faults c.run_command.new.files; out = g.O.Sink.bytes c.run_command.new.out; out_faults = g.O.Sink.faults c.run_command.new.out } in
+    let old : HostState = record { files = g.F.Files.contents c.args.files.now; reads = g.F.Files.read_faults c.args.files.now; writes = g.F.Files.write_faults c.args.files.now; out = g.O.Sink.bytes c.args.out.now; out_faults = g.O.Sink.faults c.args.out.now } in
+    let new : HostState = record { files = g.F.Files.contents c.run_command.new.files; reads = g.F.Files.read_faults c.run_command.new.files; writes = g.F.Files.write_faults c.run_command.new.files; out = g.O.Sink.bytes c.run_command.new.out; out_faults = g.O.Sink.faults c.run_command.new.out } in
     says_a_line (map string_bytes c.args.words.now) old new c.in-Err.stop _ _ c.in-Err.ensures.stops c.report.ensures.prefix
 
 pub returns-in-Err-clause-outside : goal.returns-in-Err-clause-outside
 returns-in-Err-clause-outside g c is =
-    let old : Outside = record { files = g.F.Files.contents c.args.files.now; reads = g.F.Files.read_faults c.args.files.now; writes = g.F.Files.write_faults c.args.files.now; out = g.O.Sink.bytes c.args.out.now; out_faults = g.O.Sink.faults c.args.out.now } in
-    let new : Outside = record { files = g.F.Files.contents c.run_command.new.files; reads = g.F.Files.read_faults c.run_command.new.files; writes = g.F.Files.write_faults c.run_command.new.files; out = g.O.Sink.bytes c.run_command.new.out; out_faults = g.O.Sink.faults c.run_command.new.out } in
+    let old : HostState = record { files = g.F.Files.contents c.args.files.now; reads = g.F.Files.read_faults c.args.files.now; writes = g.F.Files.write_faults c.args.files.now; out = g.O.Sink.bytes c.args.out.now; out_faults = g.O.Sink.faults c.args.out.now } in
+    let new : HostState = record { files = g.F.Files.contents c.run_command.new.files; reads = g.F.Files.read_faults c.run_command.new.files; writes = g.F.Files.write_faults c.run_command.new.files; out = g.O.Sink.bytes c.run_command.new.out; out_faults = g.O.Sink.faults c.run_command.new.out } in
     outside_cause (map string_bytes c.args.words.now) old new c.in-Err.stop _ _ _ _ c.report.result c.in-Err.ensures.stops c.report.ensures.reports is
 
 pub returns-in-Err-clause-complete : goal.returns-in-Err-clause-complete
 returns-in-Err-clause-complete g c =
-    let old : Outside = record { files = g.F.Files.contents c.args.files.now; reads = g.F.Files.read_faults c.args.files.now; writes = g.F.Files.write_faults c.args.files.now; out = g.O.Sink.bytes c.args.out.now; out_faults = g.O.Sink.faults c.args.out.now } in
-    let new : Outside = record { files = g.F.Files.contents c.run_command.new.files; reads = g.F.Files.read_faults c.run_command.new.files; writes = g.F.Files.write_faults c.run_command.new.files; out = g.O.Sink.bytes c.run_command.new.out; out_faults = g.O.Sink.faults c.run_command.new.out } in
+    let old : HostState = record { files = g.F.Files.contents c.args.files.now; reads = g.F.Files.read_faults c.args.files.now; writes = g.F.Files.write_faults c.args.files.now; out = g.O.Sink.bytes c.args.out.now; out_faults = g.O.Sink.faults c.args.out.now } in
+    let new : HostState = record { files = g.F.Files.contents c.run_command.new.files; reads = g.F.Files.read_faults c.run_command.new.files; writes = g.F.Files.write_faults c.run_command.new.files; out = g.O.Sink.bytes c.run_command.new.out; out_faults = g.O.Sink.faults c.run_command.new.out } in
     complete_at_stop (map string_bytes c.args.words.now) old new c.in-Err.stop _ _ _ _ c.report.result c.in-Err.ensures.stops c.report.ensures.reports
 
 pub returns-in-Err-clause-no_task : goal.returns-in-Err-clause-no_task
@@ -37,6 +37,6 @@ returns-in-Err-clause-no_task g c none =
 
 pub returns-in-Err-clause-usage : goal.returns-in-Err-clause-usage
 returns-in-Err-clause-usage g c is =
-    let old : Outside = record { files = g.F.Files.contents c.args.files.now; reads = g.F.Files.read_faults c.args.files.now; writes = g.F.Files.write_faults c.args.files.now; out = g.O.Sink.bytes c.args.out.now; out_faults = g.O.Sink.faults c.args.out.now } in
-    let new : Outside = record { files = g.F.Files.contents c.run_command.new.files; reads = g.F.Files.read_faults c.run_command.new.files; writes = g.F.Files.write_faults c.run_command.new.files; out = g.O.Sink.bytes c.run_command.new.out; out_faults = g.O.Sink.faults c.run_command.new.out } in
+    let old : HostState = record { files = g.F.Files.contents c.args.files.now; reads = g.F.Files.read_faults c.args.files.now; writes = g.F.Files.write_faults c.args.files.now; out = g.O.Sink.bytes c.args.out.now; out_faults = g.O.Sink.faults c.args.out.now } in
+    let new : HostState = record { files = g.F.Files.contents c.run_command.new.files; reads = g.F.Files.read_faults c.run_command.new.files; writes = g.F.Files.write_faults c.run_command.new.files; out = g.O.Sink.bytes c.run_command.new.out; out_faults = g.O.Sink.faults c.run_command.new.out } in
     usage_told (map string_bytes c.args.words.now) old new c.in-Err.stop _ _ _ _ c.report.result c.in-Err.ensures.stops c.report.ensures.reports is

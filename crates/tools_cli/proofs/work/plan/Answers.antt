@@ -1,6 +1,6 @@
 use Rattle.std.proofs.Common.{◌≡◌, ◌∙◌, refl, ap, false, rules, Err, arith}
 use Rattle.std.proofs.lemmas.Result.{IfOk-weaker, IfErr-weaker}
-use Rattle.tools_cli.specs.Words.{Text, many_of}
+use Rattle.tools_cli.specs.CommandLine.{Text, many_of}
 use Rattle.tools_cli.specs.Command.{task_value, decision_value, input_entries, input_texts, write_entries}
 use Rattle.tools_cli.specs.Job.{Decides, Refuses, Done, Refused, OneFails, InputsJob, job_of}
 use Rattle.tools_cli.specs.Causes.{total, StopsWith}

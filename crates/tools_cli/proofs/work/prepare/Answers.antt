@@ -1,6 +1,6 @@
 use Rattle.std.proofs.Common.{◌≡◌, rules, IfSome, Some, None, Err, arith}
 use Rattle.std.proofs.lemmas.Result.{IfOk-weaker, IfErr-weaker}
-use Rattle.tools_cli.specs.Words.{Text, inputs_of}
+use Rattle.tools_cli.specs.CommandLine.{Text, inputs_of}
 use Rattle.tools_cli.specs.Effects.{written_names}
 use Rattle.tools_cli.specs.Command.{task_value, input_entries, write_entries}
 use Rattle.tools_cli.specs.Job.{InputsJob, TaskJob, Done, Refused, Whole, gathered, text_contents, refused_before, most_input}

@@ -1,9 +1,9 @@
 use Rattle.std.proofs.Common.{◌≡◌, refl, map, rules, arith, string_bytes, Some, Err}
 use Rattle.std.proofs.lemmas.Result.{IfErr-weaker}
 use Rattle.tools_cli.specs.Command.{task_value, write_entries}
-use Rattle.tools_cli.specs.Words.{task_of}
+use Rattle.tools_cli.specs.CommandLine.{task_of}
 use Rattle.tools_cli.specs.Causes.{StopsFinishing}
-use Rattle.tools_cli.specs.Run.{Outside, StopsWork}
+use Rattle.tools_cli.specs.Run.{HostState, StopsWork}
 use Rattle.tools_cli.proofs.Running.{changes_from_cut, prints_from_lines, ends_done, finish_stops, prepare_stops, has_no_lines}
 use Rattle.tools_cli.proofs.work.run_command.Goals as goal
 
@@ -28,8 +28,8 @@ returns-clause-stops g c =
     let t = task_value c.in-Some.task in
     let entries = write_entries c.in_ok-plan.plan.writes.items in
     let asked : task_of words ≡ Some t = search rules in
-    let old : Outside = record { files = g.F.Files.contents c.args.files.now; reads = g.F.Files.read_faults c.args.files.now; writes = g.F.Files.write_faults c.args.files.now; out = g.O.Sink.bytes c.args.out.now; out_faults = g.O.Sink.faults c.args.out.now } in
-    let new : Outside = record { files = g.F.Files.contents c.finish.new.files; reads = g.F.Files.read_faults c.finish.new.files; writes = g.F.Files.write_faults c.finish.new.files; out = g.O.Sink.bytes c.finish.new.out; out_faults = g.O.Sink.faults c.finish.new.out } in
+    let old : HostState = record { files = g.F.Files.contents c.args.files.now; reads = g.F.Files.read_faults c.args.files.now; writes = g.F.Files.write_faults c.args.files.now; out = g.O.Sink.bytes c.args.out.now; out_faults = g.O.Sink.faults c.args.out.now } in
+    let new : HostState = record { files = g.F.Files.contents c.finish.new.files; reads = g.F.Files.read_faults c.finish.new.files; writes = g.F.Files.write_faults c.finish.new.files; out = g.O.Sink.bytes c.finish.new.out; out_faults = g.O.Sink.faults c.finish.new.out } in
     IfErr-weaker c.finish.result
     (StopsFinishing (g.F.Files.write_faults c.prepare.new.files) new.writes old.out_faults new.out_faults old.files new.files entries)
     (StopsWork words old new)
@@ -41,8 +41,8 @@ returns-in_err-plan-clause-stops g c =
     let words = map string_bytes c.args.words.now in
     let t = task_value c.in-Some.task in
     let asked : task_of words ≡ Some t = search rules in
-    let old : Outside = record { files = g.F.Files.contents c.args.files.now; reads = g.F.Files.read_faults c.args.files.now; writes = g.F.Files.write_faults c.args.files.now; out = g.O.Sink.bytes c.args.out.now; out_faults = g.O.Sink.faults c.args.out.now } in
-    let new : Outside = record { files = g.F.Files.contents c.prepare.new.files; reads = g.F.Files.read_faults c.prepare.new.files; writes = g.F.Files.write_faults c.prepare.new.files; out = g.O.Sink.bytes c.args.out.now; out_faults = g.O.Sink.faults c.args.out.now } in
+    let old : HostState = record { files = g.F.Files.contents c.args.files.now; reads = g.F.Files.read_faults c.args.files.now; writes = g.F.Files.write_faults c.args.files.now; out = g.O.Sink.bytes c.args.out.now; out_faults = g.O.Sink.faults c.args.out.now } in
+    let new : HostState = record { files = g.F.Files.contents c.prepare.new.files; reads = g.F.Files.read_faults c.prepare.new.files; writes = g.F.Files.write_faults c.prepare.new.files; out = g.O.Sink.bytes c.args.out.now; out_faults = g.O.Sink.faults c.args.out.now } in
     let stop = c.in_err-plan.field-0.0 in
     let gone : c.from_residual-in_err-plan.result ≡ Err stop = grind arith in
     rw gone (prepare_stops words t old new stop asked c.prepare.ensures.stays refl c.in_err-plan.ensures.stops)

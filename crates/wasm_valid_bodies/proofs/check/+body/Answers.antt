@@ -1,7 +1,7 @@
 use Rattle.std.proofs.Common.{[], ◌∷◌, ◌++◌, Some, ◌↔◌, IsTrue, drop, length, refl, ap, subst, ◌∙◌, arith}
 use Rattle.wasm_tree.specs.declared.types.ValType.TheVariants.{I32}
 use Rattle.wasm_valid_bodies.specs.Typing.{Gives, effect_of, Fits, WellTyped}
-use Rattle.wasm_valid_bodies.specs.Tracking.{Follows}
+use Rattle.wasm_valid_bodies.specs.Tracking.{TracksStep}
 use Rattle.wasm_valid_bodies.specs.Kept.{stack_of}
 use Rattle.wasm_valid_bodies.specs.Labels.{label_list}
 use Rattle.wasm_valid_bodies.specs.ScopeWords.{context_of, signature}
@@ -80,12 +80,12 @@ is_well_typed-loop-instr-init t c = record {
 
 pub is_well_typed-returns-then-not-branch-clause-typed : goal.is_well_typed-returns-then-not-branch-clause-typed
 is_well_typed-returns-then-not-branch-clause-typed t c =
-    let moved = subst (λ ls. Follows (Fits (context_of c.args.scope.now ls) c.instr-item.result) (stack_of c.loop-instr.kept) c.loop-instr.kept.any_below (stack_of c.step.new.kept) c.step.new.kept.any_below c.in_ok-step.field-0) c.loop-instr.invariant.labels c.in_ok-step.ensures.typed in
+    let moved = subst (λ ls. TracksStep (Fits (context_of c.args.scope.now ls) c.instr-item.result) (stack_of c.loop-instr.kept) c.loop-instr.kept.any_below (stack_of c.step.new.kept) c.step.new.kept.any_below c.in_ok-step.field-0) c.loop-instr.invariant.labels c.in_ok-step.ensures.typed in
     stopped _ c.args.body.now c.args.shape.params.now c.args.shape.results.now _ _ _ _ _ c.loop-instr.instr-index c.instr-item.result c.loop-instr-test.true c.instr-item.is c.loop-instr.invariant.rest moved c.if-not-branch.true
 
 pub is_well_typed-loop-instr-preserved : goal.is_well_typed-loop-instr-preserved
 is_well_typed-loop-instr-preserved t c =
-    let moved = subst (λ ls. Follows (Fits (context_of c.args.scope.now ls) c.instr-item.result) (stack_of c.loop-instr.kept) c.loop-instr.kept.any_below (stack_of c.step.new.kept) c.step.new.kept.any_below c.in_ok-step.field-0) c.loop-instr.invariant.labels c.in_ok-step.ensures.typed in
+    let moved = subst (λ ls. TracksStep (Fits (context_of c.args.scope.now ls) c.instr-item.result) (stack_of c.loop-instr.kept) c.loop-instr.kept.any_below (stack_of c.step.new.kept) c.step.new.kept.any_below c.in_ok-step.field-0) c.loop-instr.invariant.labels c.in_ok-step.ensures.typed in
     record {
       rest = turn _ c.args.body.now c.args.shape.params.now _ _ _ _ _ c.loop-instr.instr-index c.instr-item.result c.loop-instr-test.true c.instr-item.is c.loop-instr.invariant.rest moved c.if-not-branch.false;
       labels = on_true _ _ c.in_ok-step.ensures.labels c.if-not-branch.false ∙ c.loop-instr.invariant.labels;

@@ -1,6 +1,6 @@
 use Rattle.std.proofs.Common.{arith}
 use Rattle.merge_spec.specs.Parts.{named_modules}
-use Rattle.merge_join.specs.Words.{place_at}
+use Rattle.merge_join.specs.LinkedParts.{place_at}
 use Rattle.merge_join.specs.Spaces.{first_of, imported_in}
 use Rattle.merge_join.proofs.ByPart.{each_within, each_index}
 use Rattle.merge_join.proofs.spaces.MergedSpace.defined_at.Goals as goal

@@ -1,7 +1,7 @@
 use Rattle.std.proofs.Common.{◌∙◌, sym, ap}
 use Rattle.std.specs.Option.{unwrap_or}
 use Rattle.merge_spec.specs.Parts.{named_modules}
-use Rattle.merge_join.specs.Words.{place_at, site}
+use Rattle.merge_join.specs.LinkedParts.{place_at, site}
 use Rattle.merge_join.specs.Spaces.{staying_place}
 use Rattle.merge_join.proofs.Ends.{or_zero}
 use Rattle.merge_join.proofs.spaces.MergedSpace.place.Goals as goal

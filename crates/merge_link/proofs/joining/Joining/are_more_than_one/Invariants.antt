@@ -1,9 +1,0 @@
-use Rattle.std.proofs.Common.{◌+◌, ◌≡◌}
-use Rattle.wasm_tree.specs.declared.space.Space.TheVariants.{Memories}
-use Rattle.wasm_meaning.specs.Linking as linking
-use Rattle.wasm_meaning.specs.World as world
-use Rattle.merge_spec.specs.Parts.{named_modules}
-use Rattle.merge_link.proofs.joining.Joining.are_more_than_one.Given as goal
-
-abbrev pub invariant-loop-part : goal.invariant-loop-part
-invariant-loop-part l = l.count ≡ l.staying + world.defined_before Memories (named_modules l.self.parts.now) l.part-index

@@ -1,6 +1,0 @@
-use Rattle.std.proofs.Common.{drop, map, ◌≡◌}
-use Rattle.merge_link.specs.Limits.{met_of}
-use Rattle.merge_link.proofs.joining.Joining.met_limits.Given as goal
-
-abbrev pub invariant-loop-at : goal.invariant-loop-at
-invariant-loop-at l = l.all.items ≡ map (met_of l.self.parts.now (drop l.at l.sites)) l.sites
