@@ -18,7 +18,7 @@ use Rattle.merge_spec.specs.declared.parts.Part.{Part}
 use Rattle.merge_spec.specs.declared.links.Read.{Read}
 use Rattle.merge_spec.specs.Faults as faults
 use Rattle.merge_spec.specs.Parts.{named_modules}
-use Rattle.merge_link.specs.declared.globals.OwnGlobal.{OwnGlobal}
+use Rattle.merge_link.specs.declared.globals.DefinedGlobal.{DefinedGlobal}
 use Rattle.merge_link.specs.declared.part_tables.Ending.{Ending}
 use Rattle.merge_link.specs.declared.sites.Site.{Site}
 use Rattle.merge_link.specs.declared.tables.Table.{Table}
@@ -146,7 +146,7 @@ step_unread ps p x at = ap (λ o. linking.end_step (named_modules ps) (option_an
 -- ---- faults ----
 
 -- the fault of a global, by what its value reads
-pub global_here : (ps : List Part) (globals : List OwnGlobal) (values : List (Option Read)) (i : ℕ) (g : OwnGlobal) (o : Option Read) → map (option_map the_read) values ≡ map (value_at ps) globals
+pub global_here : (ps : List Part) (globals : List DefinedGlobal) (values : List (Option Read)) (i : ℕ) (g : DefinedGlobal) (o : Option Read) → map (option_map the_read) values ≡ map (value_at ps) globals
     → slice_get globals i ≡ Some g → slice_get values i ≡ Some o → faults.global_fault (named_modules ps) (the_own g) ≡ faults.value_fault (the_own g) (option_map the_read o)
 unfolding faults.global_fault value_at
 global_here ps globals values i g o e h k = ap (faults.value_fault (the_own g)) (sym (same_at (option_map the_read) (value_at ps) values globals i o g e k h))

@@ -16,7 +16,7 @@ use Rattle.merge_spec.specs.Faults as faults
 use Rattle.merge_spec.specs.Faults.{or_else, first_fault}
 use Rattle.merge_spec.specs.Linked.{by_import, end_entry, read_at}
 use Rattle.merge_spec.specs.Parts.{named_modules}
-use Rattle.merge_link.specs.declared.globals.OwnGlobal.{OwnGlobal}
+use Rattle.merge_link.specs.declared.globals.DefinedGlobal.{DefinedGlobal}
 use Rattle.merge_link.specs.declared.part_tables.Ending.{Ending}
 use Rattle.merge_link.specs.declared.sites.Site.{Site}
 use Rattle.merge_link.specs.Cutting.{cut_by, import_counts}
@@ -41,7 +41,7 @@ pub clash_faults_are : (ps : List Part) (sites : List Site) → AreSites ps site
 unfolding clash_faults
 clash_faults_are ps sites are = sym (first_map (faults.clash_fault (named_modules ps)) the_site sites) ∙ ap (first_fault (faults.clash_fault (named_modules ps))) are
 
-pub global_faults_are : (ps : List Part) (globals : List OwnGlobal) → AreOwn ps globals → first_fault (λ g. faults.global_fault (named_modules ps) (the_own g)) globals ≡ global_faults (named_modules ps)
+pub global_faults_are : (ps : List Part) (globals : List DefinedGlobal) → AreOwn ps globals → first_fault (λ g. faults.global_fault (named_modules ps) (the_own g)) globals ≡ global_faults (named_modules ps)
 unfolding global_faults
 global_faults_are ps globals are = sym (first_map (faults.global_fault (named_modules ps)) the_own globals) ∙ ap (first_fault (faults.global_fault (named_modules ps))) are
 
@@ -73,7 +73,7 @@ all_known ps sites ends known same stops is = record {
   stops = λ n e h. stops n e (ap (λ xs. slice_get xs n) (sym is) ∙ slice_get-map Some known n ∙ ap (option_map Some) h);
 }
 
-pub values_own : (ps : List Part) (globals : List OwnGlobal) (values : List (Option Read)) → AreOwn ps globals → map (option_map the_read) values ≡ map (value_at ps) globals → AreValues ps values
+pub values_own : (ps : List Part) (globals : List DefinedGlobal) (values : List (Option Read)) → AreOwn ps globals → map (option_map the_read) values ≡ map (value_at ps) globals → AreValues ps values
 unfolding value_at own_value
 values_own ps globals values are same = same ∙ sym (map_twice (own_value ps) the_own globals) ∙ ap (map (own_value ps)) are
 

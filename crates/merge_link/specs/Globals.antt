@@ -8,16 +8,16 @@ use Rattle.merge_spec.specs.declared.parts.Part.{Part}
 use Rattle.merge_spec.specs.declared.links.Read.{Read}
 use Rattle.merge_spec.specs.Faults as faults
 use Rattle.merge_spec.specs.Parts.{named_modules}
-use Rattle.merge_link.specs.declared.globals.OwnGlobal.{OwnGlobal}
+use Rattle.merge_link.specs.declared.globals.DefinedGlobal.{DefinedGlobal}
 
-abbrev pub the_own : OwnGlobal → faults.DefinedGlobal
+abbrev pub the_own : DefinedGlobal → faults.DefinedGlobal
 the_own g = record { part = g.part; index = g.index; init = g.init }
 
 abbrev pub the_read : Read → linking.Read
 the_read r = record { part = r.part; expr = r.expr }
 
 -- these are the defined globals
-abbrev pub AreOwn : List Part → List OwnGlobal → Type 0
+abbrev pub AreOwn : List Part → List DefinedGlobal → Type 0
 AreOwn parts globals = map the_own globals ≡ faults.defined_globals (named_modules parts)
 
 -- the value expression of a defined global, with its part
@@ -39,5 +39,5 @@ IsEndStep parts e (Ends r) = linking.end_step (named_modules parts) (Some e) ≡
 IsEndStep parts e Nowhere = linking.end_step (named_modules parts) (Some e) ≡ None
 
 -- what the value expression of a defined global reads
-unfoldable pub value_at : List Part → OwnGlobal → Option linking.Read
+unfoldable pub value_at : List Part → DefinedGlobal → Option linking.Read
 value_at parts g = linking.read_of (named_modules parts) g.part g.init

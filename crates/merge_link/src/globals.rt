@@ -19,7 +19,7 @@ use wasm_tree::{ConstExpr, ExportDesc, Space};
 
 /// A global that a part defines: the part, its index in that part's global space, and its value expression.
 #[derive(Clone, Copy, Drop)]
-pub struct OwnGlobal {
+pub struct DefinedGlobal {
     pub part: u32,
     pub index: u32,
     pub init: ConstExpr,
@@ -27,7 +27,7 @@ pub struct OwnGlobal {
 
 impl<'a> PartTables<'a> {
     /// The globals that the parts define, by part, then by index.
-    pub fn own_globals(&self, alloc: Global) -> Result<Vec<OwnGlobal>, NoMemory>
+    pub fn defined_globals(&self, alloc: Global) -> Result<Vec<DefinedGlobal>, NoMemory>
         requires joining { ArePartTables self.now }
         requires parts { length self.now.parts.now < 2 ^ 32 }
         ensures { IfOk result (λ globals. AreOwn self.now.parts.now globals.items) }
@@ -37,7 +37,7 @@ impl<'a> PartTables<'a> {
             let globals = part.module.module().globals.as_slice();
             let imported = self.tables[at].imported(Space::Globals);
             for place in 0..globals.len() {
-                all.push(OwnGlobal {
+                all.push(DefinedGlobal {
                     part: at as u32,
                     index: (imported + place) as u32,
                     init: globals[place].init,
@@ -100,7 +100,7 @@ impl<'a> PartTables<'a> {
     }
 
     // From a global's value expression.
-    fn value_step(&self, sites: &[Site], ends: &[Ending], global: OwnGlobal) -> Step<Read>
+    fn value_step(&self, sites: &[Site], ends: &[Ending], global: DefinedGlobal) -> Step<Read>
         requires joining { ArePartTables self.now }
         requires sites { AreSites self.now.parts.now sites.now }
         requires ends { AreKnown self.now.parts.now sites.now ends.now }
@@ -129,7 +129,7 @@ impl<'a> PartTables<'a> {
         alloc: Global,
         sites: &[Site],
         ends: &[Ending],
-        globals: &[OwnGlobal],
+        globals: &[DefinedGlobal],
     ) -> Result<Vec<Step<Read>>, NoMemory>
         requires joining { ArePartTables self.now }
         requires sites { AreSites self.now.parts.now sites.now }
@@ -149,7 +149,7 @@ impl<'a> PartTables<'a> {
         alloc: Global,
         sites: &[Site],
         ends: &[Ending],
-        globals: &[OwnGlobal],
+        globals: &[DefinedGlobal],
     ) -> Result<Vec<Option<Read>>, NoMemory>
         requires joining { ArePartTables self.now }
         requires sites { AreSites self.now.parts.now sites.now }
@@ -166,7 +166,7 @@ impl<'a> PartTables<'a> {
     /// The fault of the first defined global whose value has no end.
     pub fn first_global_fault(
         &self,
-        globals: &[OwnGlobal],
+        globals: &[DefinedGlobal],
         values: &[Option<Read>],
     ) -> Option<LinkFault>
         requires { map (option_map the_read) values.now ≡ map (value_at self.now.parts.now) globals.now }

@@ -71,7 +71,7 @@ impl<'a> PartTables<'a> {
         requires ends { AreKnown self.now.parts.now sites.now ends.now }
         ensures { IsValued self.now.parts.now sites.now result }
     {
-        let globals = self.own_globals(alloc)?;
+        let globals = self.defined_globals(alloc)?;
         let values = self.values(alloc, sites, ends, &globals)?;
         match self.first_global_fault(&globals, &values) {
             Some(fault) => Err(fault),

@@ -110,7 +110,7 @@ fn parse_merge<'a>(alloc: Global, words: &'a [String]) -> Result<Option<Task<'a>
 }
 
 /// The task of a command line, or none.
-#[tactic(auto, unfolding(crate::specs::Words::task_of))]
+#[tactic(auto, unfolding(crate::specs::CommandLine::task_of))]
 pub(crate) fn parse<'a>(alloc: Global, words: &'a [String]) -> Result<Option<Task<'a>>, NoMemory>
     ensures { IfOk result (λ task. option_map task_value task ≡ task_of (map string_bytes words.now)) }
 {

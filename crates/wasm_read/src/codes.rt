@@ -12,7 +12,7 @@ use wasm_read_spec::{Fault, ReadFault};
 use wasm_tree::{Func, MOST_FUNCTIONS, Which};
 
 /// The fault of a section, or of a function's entry in it.
-pub fn place(section: u32, func: Option<u32>, fault: Fault) -> ReadFault
+pub fn placed_fault(section: u32, func: Option<u32>, fault: Fault) -> ReadFault
     ensures { result ≡ placed section func fault }
 {
     match fault {
@@ -41,11 +41,11 @@ fn read_entry(
 {
     let content = match read_sized(cursor) {
         Ok(content) => content,
-        Err(fault) => return Err(place(section, None, fault)),
+        Err(fault) => return Err(placed_fault(section, None, fault)),
     };
     match read_code(alloc, content, many, pile) {
         Ok(code) => Ok(code),
-        Err(fault) => Err(place(section, Some(func), fault)),
+        Err(fault) => Err(placed_fault(section, Some(func), fault)),
     }
 }
 

@@ -6,7 +6,7 @@ ghost use Rattle.wasm_tree.specs.declared.which.Which.TheVariants.{Imports};
 ghost use Rattle.wasm_read_spec.specs.Reading.{GivesAll as GivesWhole, whole_at, u32_at};
 ghost use Rattle.wasm_read_spec.specs.Contents.{GivesAfter, custom_at, section_at};
 
-use crate::codes::{place, read_codes};
+use crate::codes::{placed_fault, read_codes};
 use std::alloc::Global;
 use wasm_bytes::Cursor;
 use wasm_read_items::{Pile, read_name, read_whole};
@@ -78,70 +78,70 @@ pub fn read_section(
     match id {
         0 => match read_custom(content) {
             Ok(()) => Ok(()),
-            Err(fault) => Err(place(section, None, fault)),
+            Err(fault) => Err(placed_fault(section, None, fault)),
         },
         1 => match read_whole(alloc, content, Which::Types) {
             Ok(types) => {
                 found.parts.types = types;
                 Ok(())
             }
-            Err(fault) => Err(place(section, None, fault)),
+            Err(fault) => Err(placed_fault(section, None, fault)),
         },
         2 => match read_whole(alloc, content, Which::Imports) {
             Ok(imports) => {
                 found.parts.imports = imports;
                 Ok(())
             }
-            Err(fault) => Err(place(section, None, fault)),
+            Err(fault) => Err(placed_fault(section, None, fault)),
         },
         3 => match read_whole(alloc, content, Which::Functions) {
             Ok(func_types) => {
                 found.parts.func_types = func_types;
                 Ok(())
             }
-            Err(fault) => Err(place(section, None, fault)),
+            Err(fault) => Err(placed_fault(section, None, fault)),
         },
         4 => match read_whole(alloc, content, Which::Tables) {
             Ok(tables) => {
                 found.parts.tables = tables;
                 Ok(())
             }
-            Err(fault) => Err(place(section, None, fault)),
+            Err(fault) => Err(placed_fault(section, None, fault)),
         },
         5 => match read_whole(alloc, content, Which::Memories) {
             Ok(mems) => {
                 found.parts.mems = mems;
                 Ok(())
             }
-            Err(fault) => Err(place(section, None, fault)),
+            Err(fault) => Err(placed_fault(section, None, fault)),
         },
         6 => match read_whole(alloc, content, Which::Globals) {
             Ok(globals) => {
                 found.parts.globals = globals;
                 Ok(())
             }
-            Err(fault) => Err(place(section, None, fault)),
+            Err(fault) => Err(placed_fault(section, None, fault)),
         },
         7 => match read_whole(alloc, content, Which::Exports) {
             Ok(exports) => {
                 found.parts.exports = exports;
                 Ok(())
             }
-            Err(fault) => Err(place(section, None, fault)),
+            Err(fault) => Err(placed_fault(section, None, fault)),
         },
         8 => match read_number(content) {
             Ok(start) => {
                 found.parts.start = Some(start);
                 Ok(())
             }
-            Err(fault) => Err(place(section, None, fault)),
+            Err(fault) => Err(placed_fault(section, None, fault)),
         },
         9 => match read_whole(alloc, content, Which::ElementSegments) {
             Ok(elems) => {
                 found.parts.elems = elems;
                 Ok(())
             }
-            Err(fault) => Err(place(section, None, fault)),
+            Err(fault) => Err(placed_fault(section, None, fault)),
         },
         10 => {
             let first = imported_funcs(found.parts.imports.as_slice());
@@ -156,14 +156,14 @@ pub fn read_section(
                 found.parts.datas = datas;
                 Ok(())
             }
-            Err(fault) => Err(place(section, None, fault)),
+            Err(fault) => Err(placed_fault(section, None, fault)),
         },
         12 => match read_number(content) {
             Ok(count) => {
                 found.parts.data_count = Some(count);
                 Ok(())
             }
-            Err(fault) => Err(place(section, None, fault)),
+            Err(fault) => Err(placed_fault(section, None, fault)),
         },
         _ => Err(ReadFault::Malformed { section }),
     }

@@ -1,7 +1,7 @@
 use Rattle.std.proofs.Common.{◌∙◌, inr, sym, ap, subst, map}
 use Rattle.merge_spec.specs.Faults as faults
 use Rattle.merge_spec.specs.Parts.{named_modules}
-use Rattle.merge_link.specs.declared.globals.OwnGlobal.{OwnGlobal}
+use Rattle.merge_link.specs.declared.globals.DefinedGlobal.{DefinedGlobal}
 use Rattle.merge_link.specs.Globals.{the_own, value_at}
 use Rattle.merge_link.specs.Reads.{AreValues}
 use Rattle.merge_link.specs.Resolving.{read_entry_at}
@@ -12,7 +12,7 @@ pub returns-in-Some : goal.returns-in-Some
 returns-in-Some c =
     let ps = c.args.self.now.parts.now in
     inr (sym (global_faults_are ps c.in_ok-globals.globals.items c.in_ok-globals.ensures)
-    ∙ ap (faults.first_fault (λ (g : OwnGlobal). faults.global_fault (named_modules ps) (the_own g))) (sym c.deref-2.ensures.value) ∙ sym c.first_global_fault.ensures ∙ c.in-Some.is)
+    ∙ ap (faults.first_fault (λ (g : DefinedGlobal). faults.global_fault (named_modules ps) (the_own g))) (sym c.deref-2.ensures.value) ∙ sym c.first_global_fault.ensures ∙ c.in-Some.is)
 
 pub reads-requires-clause-values : goal.reads-requires-clause-values
 reads-requires-clause-values c =
@@ -26,5 +26,5 @@ returns c =
     let ps = c.args.self.now.parts.now in (
       c.in_ok-reads-in-None.ensures,
       sym (global_faults_are ps c.in_ok-globals.globals.items c.in_ok-globals.ensures)
-          ∙ ap (faults.first_fault (λ (g : OwnGlobal). faults.global_fault (named_modules ps) (the_own g))) (sym c.deref-2.ensures.value) ∙ sym c.first_global_fault.ensures ∙ c.in-None.is,
+          ∙ ap (faults.first_fault (λ (g : DefinedGlobal). faults.global_fault (named_modules ps) (the_own g))) (sym c.deref-2.ensures.value) ∙ sym c.first_global_fault.ensures ∙ c.in-None.is,
     )

@@ -2,7 +2,7 @@ use Rattle.std.proofs.Common.{drop, map, ◌+◌, ◌++◌, ◌≡◌}
 use Rattle.merge_spec.specs.Faults as faults
 use Rattle.merge_spec.specs.Parts.{named_modules}
 use Rattle.merge_link.specs.Globals.{the_own}
-use Rattle.merge_link.proofs.part_tables.PartTables.own_globals.Given as goal
+use Rattle.merge_link.proofs.part_tables.PartTables.defined_globals.Given as goal
 
 abbrev pub invariant-loop-at : goal.invariant-loop-at
 invariant-loop-at l = map the_own l.all.items ++ faults.defined_globals_from l.at (named_modules (drop l.at l.self.parts.now)) ≡ faults.defined_globals_from 0 (named_modules l.self.parts.now)

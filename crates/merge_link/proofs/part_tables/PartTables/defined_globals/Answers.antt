@@ -8,7 +8,7 @@ use Rattle.merge_spec.specs.Parts.{named_module, named_modules}
 use Rattle.merge_link.specs.Globals.{the_own}
 use Rattle.merge_link.proofs.Joins.{module_read}
 use Rattle.merge_link.proofs.Reading.{globals_fit, own_begin}
-use Rattle.merge_link.proofs.part_tables.PartTables.own_globals.Goals as goal
+use Rattle.merge_link.proofs.part_tables.PartTables.defined_globals.Goals as goal
 
 pub loop-at-init : goal.loop-at-init
 loop-at-init c = ap (λ xs. map the_own xs ++ faults.defined_globals_from 0 (named_modules c.args.self.now.parts.now)) c.new-all.ensures.items
