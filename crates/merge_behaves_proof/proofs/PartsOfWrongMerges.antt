@@ -25,7 +25,8 @@ use Rattle.merge_names.specs.declared.mode.Mode.{Mode}
 use Rattle.merge_names.specs.declared.mode.Mode.TheVariants as mode
 use Rattle.merge_names.specs.Names.{conflict_behind}
 use Rattle.merge_spec.specs.Merged.{all_exports, imports_kind}
-use Rattle.merge_spec.specs.Joined.{joined_module, over_limit, repeated_name, most_added, FewInAll}
+use Rattle.merge_spec.specs.Joined.{joined_module, repeated_name, most_added, FewInAll}
+use Rattle.module_limits.specs.Counts.{over_limit}
 use Rattle.merge_spec.specs.declared.parts.Part as given
 use Rattle.merge_spec.specs.declared.links.End.TheVariants.{Outside}
 use Rattle.merge_spec.specs.declared.links.Links.{Links}

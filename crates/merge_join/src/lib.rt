@@ -6,7 +6,6 @@ mod consts;
 mod defined;
 mod exports;
 mod imports;
-mod limits;
 mod linked;
 mod mapped_parts;
 mod maps;

@@ -4,37 +4,18 @@ use Rattle.wasm_tree.specs.declared.space.Space.TheVariants.{Types, Functions, T
 use Rattle.wasm_tree.specs.declared.space.Space.{Space}
 use Rattle.base_lists.specs.Options.{◌>>=◌}
 use Rattle.wasm_tree.specs.declared.which.Which.{Which}
-use Rattle.wasm_tree.specs.declared.which.Which.TheVariants as which
-use Rattle.wasm_tree.specs.Limits.{limit}
 use Rattle.wasm_tree.specs.declared.module.Module.{Module}
 use Rattle.wasm_meaning.specs.State.{Text}
 use Rattle.wasm_meaning.specs.World.{defined_before}
 use Rattle.wasm_meaning.specs.Linking.{Part, sites}
 use Rattle.base_lists.specs.Places.{count_of}
 use Rattle.index_remap.specs.References.{declared}
+use Rattle.module_limits.specs.Counts.{over_limit}
 use Rattle.merge_names.specs.declared.mode.Mode.{Mode}
 use Rattle.merge_names.specs.Names.{new_names, conflict}
 use Rattle.merge_spec.specs.Merged.{merged, export_names, imports_kind}
 use Rattle.merge_spec.specs.declared.faults.JoinFault.{JoinFault}
 use Rattle.merge_spec.specs.declared.faults.JoinFault.TheVariants.{ExportConflict, TooMany}
-
--- the quantity, where its count is above its limit, or what comes after it
-abbrev pub or_above : (count : ℕ) → Which → Option Which → Option Which
-or_above count which rest = cond (nat_lt (limit which) count) (Some which) rest
-
--- the first count above its limit
-unfoldable pub over_limit : Module → Option Which
-over_limit m =
-    or_above (length m.types) which.Types
-    (or_above (length m.imports) which.Imports
-    (or_above (length m.funcs) which.Functions
-    (or_above (length m.tables) which.Tables
-    (or_above (length m.mems) which.Memories
-    (or_above (length m.globals) which.Globals
-    (or_above (length m.exports) which.Exports
-    (or_above (length m.elems) which.ElementSegments
-    (or_above (length m.datas) which.DataSegments
-    None))))))))
 
 -- the merged module, its references declared, with the names that the mode gives its exports
 unfoldable pub joined_module : List Part → Mode → Module

@@ -20,7 +20,7 @@ use Rattle.index_remap.specs.References.{declared, declared_refs, with_declared,
 use Rattle.merge_spec.specs.declared.faults.LinkFault.TheVariants.{TooManyMemories}
 use Rattle.merge_spec.specs.Faults.{stays, is_staying_memory, memory_count, memory_fault}
 use Rattle.wasm_tree.specs.Limits.{limit}
-use Rattle.merge_spec.specs.Joined.{or_above, over_limit}
+use Rattle.module_limits.specs.Counts.{over_limit, CountsAreWithin, CountsAreWithinWhereNoneIsOver}
 use Rattle.merge_spec.specs.Merged.{merged, staying, staying_of, imports_kind, by_part}
 use Rattle.merge_valid_proof.proofs.Entities.{of_import, own, imported, space, own_many}
 use Rattle.merge_valid_proof.proofs.MergedSpaces.{own_is, moved_own, extra, all_own, imported_many}
@@ -59,64 +59,16 @@ merged_single parts names h =
 
 -- ---- limits ----
 
-record Within (m : Module) : Type 0 where
-  types : length m.types ≤ limit which.Types
-  imports : length m.imports ≤ limit which.Imports
-  funcs : length m.funcs ≤ limit which.Functions
-  tables : length m.tables ≤ limit which.Tables
-  mems : length m.mems ≤ limit which.Memories
-  globals : length m.globals ≤ limit which.Globals
-  exports : length m.exports ≤ limit which.Exports
-  elems : length m.elems ≤ limit which.ElementSegments
-  datas : length m.datas ≤ limit which.DataSegments
-
-not_above : (count : ℕ) (w : Which) (rest : Option Which) → or_above count w rest ≡ None → count ≤ limit w
-not_above count w rest h = ltb-false (limit w) count (by (nat_lt (limit w) count) h)
-  where
-    by : (b : Bool) → cond b (Some w) rest ≡ None → b ≡ false
-    by true h = cc
-    by false h = refl
-
-not_later : (count : ℕ) (w : Which) (rest : Option Which) → or_above count w rest ≡ None → rest ≡ None
-not_later count w rest h = by (nat_lt (limit w) count) h
-  where
-    by : (b : Bool) → cond b (Some w) rest ≡ None → rest ≡ None
-    by true h = cc
-    by false h = h
-
-within_limits : (m : Module) → over_limit m ≡ None → Within m
-unfolding over_limit
-within_limits m h =
-    let h1 = not_later (length m.types) which.Types _ h in
-    let h2 = not_later (length m.imports) which.Imports _ h1 in
-    let h3 = not_later (length m.funcs) which.Functions _ h2 in
-    let h4 = not_later (length m.tables) which.Tables _ h3 in
-    let h5 = not_later (length m.mems) which.Memories _ h4 in
-    let h6 = not_later (length m.globals) which.Globals _ h5 in
-    let h7 = not_later (length m.exports) which.Exports _ h6 in
-    let h8 = not_later (length m.elems) which.ElementSegments _ h7 in
-    record {
-      types = not_above (length m.types) which.Types _ h;
-      imports = not_above (length m.imports) which.Imports _ h1;
-      funcs = not_above (length m.funcs) which.Functions _ h2;
-      tables = not_above (length m.tables) which.Tables _ h3;
-      mems = not_above (length m.mems) which.Memories _ h4;
-      globals = not_above (length m.globals) which.Globals _ h5;
-      exports = not_above (length m.exports) which.Exports _ h6;
-      elems = not_above (length m.elems) which.ElementSegments _ h7;
-      datas = not_above (length m.datas) which.DataSegments None h8;
-    }
-
 -- a tree with its references declared has no fewer segments, and all else as it was
-undeclared_within : (m : Module) (fs : List ℕ) → Within (with_declared m fs) → Within m
+undeclared_within : (m : Module) (fs : List ℕ) → CountsAreWithin (with_declared m fs) → CountsAreWithin m
 undeclared_within m [] w = w
 undeclared_within m (f ∷ fs) w =
     let e = w.elems in
     let n = length-append m.elems (declaring (f ∷ fs) ∷ []) in
     record { types = w.types; imports = w.imports; funcs = w.funcs; tables = w.tables; mems = w.mems; globals = w.globals; exports = w.exports; elems = omega (arith, e, n); datas = w.datas }
 
-merged_within : (m : Module) → over_limit (declared m) ≡ None → Within m
-merged_within m h = undeclared_within m (declared_refs m) (within_limits (declared m) h)
+merged_within : CountsAreWithinWhereNoneIsOver → (m : Module) → over_limit (declared m) ≡ None → CountsAreWithin m
+merged_within law m h = undeclared_within m (declared_refs m) (law (declared m) h)
 
 space_few : (k : Space) (m : Module) → length (space k m) ≤ length m.imports + length (own k m)
 space_few k m =
@@ -124,15 +76,15 @@ space_few k m =
     let b = filter_map_most (of_import k) m.imports in
     omega (arith, a, b)
 
-pub few_exports : (m : Module) → over_limit (declared m) ≡ None → length m.exports < 2 ^ 62
-few_exports m h = let e = (merged_within m h).exports in omega (arith, e)
+pub few_exports : CountsAreWithinWhereNoneIsOver → (m : Module) → over_limit (declared m) ≡ None → length m.exports < 2 ^ 62
+few_exports law m h = let e = (merged_within law m h).exports in omega (arith, e)
 
-pub few_elems : (m : Module) → over_limit (declared m) ≡ None → length m.elems + 1 < 2 ^ 32
-few_elems m h = let e = (merged_within m h).elems in omega (arith, e)
+pub few_elems : CountsAreWithinWhereNoneIsOver → (m : Module) → over_limit (declared m) ≡ None → length m.elems + 1 < 2 ^ 32
+few_elems law m h = let e = (merged_within law m h).elems in omega (arith, e)
 
-pub module_bounded : (m : Module) → over_limit (declared m) ≡ None → ((i : ℕ) (f : Func) → slice_get m.funcs i ≡ Some f → local_count m.types f < 2 ^ 32) → IsBounded m
-module_bounded m h locals =
-    let w = merged_within m h in
+pub module_bounded : CountsAreWithinWhereNoneIsOver → (m : Module) → over_limit (declared m) ≡ None → ((i : ℕ) (f : Func) → slice_get m.funcs i ≡ Some f → local_count m.types f < 2 ^ 32) → IsBounded m
+module_bounded law m h locals =
+    let w = merged_within law m h in
     let ty = w.types in
     let i = w.imports in
     let f = w.funcs in

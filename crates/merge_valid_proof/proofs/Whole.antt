@@ -17,7 +17,8 @@ use Rattle.merge_names.specs.declared.mode.Mode.{Mode}
 use Rattle.merge_names.specs.Names.{new_names}
 use Rattle.merge_names.specs.Laws.{GivenNamesDiffer, ConflictsAreFirst}
 use Rattle.merge_spec.specs.Faults.{link_fault}
-use Rattle.merge_spec.specs.Joined.{joined_module, over_limit}
+use Rattle.merge_spec.specs.Joined.{joined_module}
+use Rattle.module_limits.specs.Counts.{over_limit, CountsAreWithinWhereNoneIsOver}
 use Rattle.merge_spec.specs.Merged.{merged, merged_const, export_names}
 use Rattle.merge_valid_proof.specs.Joinable.{CanBeJoined}
 use Rattle.merge_valid_proof.proofs.Linked.{memories_are_few, AllAreSuited, are_linked}
@@ -45,6 +46,7 @@ pub record Laws : Type 0 where
   pub reads : ReadsArePaths
   pub differ : GivenNamesDiffer
   pub first : ConflictsAreFirst
+  pub within : CountsAreWithinWhereNoneIsOver
 
 module _ (laws : Laws) (parts : List Part) (mode : Mode) (can : CanBeJoined parts mode) where
   abbrev names : List (Option Text)
@@ -69,16 +71,16 @@ module _ (laws : Laws) (parts : List Part) (mode : Mode) (can : CanBeJoined part
   joined_valid =
       subst IsValid (sym (joined_is parts mode))
       (laws.valid (merged parts names) (items_hold laws.ends names_only laws.undeclared parts names links valid stands
-      (names_differ laws.differ laws.first parts mode can.names (few_exports (merged parts names) sizes))))
+      (names_differ laws.differ laws.first parts mode can.names (few_exports laws.within (merged parts names) sizes))))
 
   pub joined_bounded : IsBounded (joined_module parts mode)
   joined_bounded =
       subst IsBounded (sym (joined_is parts mode))
       (laws.bounded (merged parts names)
-      (module_bounded (merged parts names) sizes
+      (module_bounded laws.within (merged parts names) sizes
       (locals_few laws.ends names_only laws.undeclared parts names links valid stands
-      (names_differ laws.differ laws.first parts mode can.names (few_exports (merged parts names) sizes)) can.bounded))
-      (few_elems (merged parts names) sizes))
+      (names_differ laws.differ laws.first parts mode can.names (few_exports laws.within (merged parts names) sizes)) can.bounded))
+      (few_elems laws.within (merged parts names) sizes))
 
   pub joined_single : link_fault parts false ≡ None → IsSingle (joined_module parts mode)
   joined_single linked = subst IsSingle (sym (joined_is parts mode)) (laws.single (merged parts names) (merged_single parts names (memories_are_few parts linked)))

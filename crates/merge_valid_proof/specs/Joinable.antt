@@ -6,7 +6,8 @@ use Rattle.wasm_valid.specs.Validity.{IsValid}
 use Rattle.wasm_meaning.specs.Linking.{Part, module_at}
 use Rattle.merge_names.specs.declared.mode.Mode.{Mode}
 use Rattle.merge_spec.specs.Faults.{link_fault}
-use Rattle.merge_spec.specs.Joined.{joined_module, over_limit, repeated_name}
+use Rattle.merge_spec.specs.Joined.{joined_module, repeated_name}
+use Rattle.module_limits.specs.Counts.{over_limit}
 
 -- the module of each part
 abbrev pub EachPart : (Module → Type 0) → List Part → Type 0

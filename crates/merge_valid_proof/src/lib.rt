@@ -32,6 +32,7 @@ use index_remap_proof::{
     declared_trees_are_valid, renumbered_trees_are_valid, renumbering_keeps_typing,
 };
 use merge_names::{conflicts_are_first, given_names_differ};
+use module_limits::counts_are_within_where_none_is_over;
 use wasm_meaning::ends_and_reads_are_paths;
 use wasm_valid::valid_where_items_hold;
 
@@ -49,6 +50,7 @@ pub fn merged_modules_are_valid()
     ends_and_reads_are_paths();
     given_names_differ();
     conflicts_are_first();
+    counts_are_within_where_none_is_over();
 }
 
 /// The map of a part has an entry for each index that its valid module names (`entries`) and that a constant expression with a type names (`constants`).

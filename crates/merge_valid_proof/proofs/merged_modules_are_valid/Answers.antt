@@ -1,7 +1,7 @@
 use Rattle.merge_valid_proof.proofs.Whole.{Laws, joined_valid, joined_bounded, joined_single}
 use Rattle.merge_valid_proof.proofs.merged_modules_are_valid.Goals as goal
 
-laws : (c : goal.After-conflicts_are_first) → Laws
+laws : (c : goal.After-counts_are_within_where_none_is_over) → Laws
 laws c = record {
   items = c.valid_where_items_hold.ensures;
   entries = c.renumbering_keeps_typing.ensures.tree_entries;
@@ -15,6 +15,7 @@ laws c = record {
   reads = c.ends_and_reads_are_paths.ensures.reads;
   differ = c.given_names_differ.ensures.differ;
   first = c.conflicts_are_first.ensures.first;
+  within = c.counts_are_within_where_none_is_over.ensures;
 }
 
 pub returns : goal.returns

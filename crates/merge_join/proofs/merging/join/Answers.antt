@@ -8,7 +8,8 @@ use Rattle.merge_spec.specs.declared.parts.Part as declared
 use Rattle.merge_spec.specs.Faults.{link_fault}
 use Rattle.merge_spec.specs.Parts.{named_modules}
 use Rattle.merge_spec.specs.View.{linked_world}
-use Rattle.merge_spec.specs.Joined.{joined_module, over_limit, repeated_name, Joins}
+use Rattle.merge_spec.specs.Joined.{joined_module, repeated_name, Joins}
+use Rattle.module_limits.specs.Counts.{over_limit}
 use Rattle.merge_valid_proof.specs.Joinable.{CanBeJoined}
 use Rattle.merge_behaves_proof.specs.Laws.{BehavesAs}
 use Rattle.merge_join.specs.LinkedParts.{PartsHold}

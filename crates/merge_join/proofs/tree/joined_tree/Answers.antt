@@ -7,7 +7,8 @@ use Rattle.merge_names.specs.declared.mode.Mode.{Mode}
 use Rattle.merge_names.specs.Names as names
 use Rattle.merge_spec.specs.Parts.{named_modules}
 use Rattle.merge_spec.specs.Merged.{all_exports, merged, export_names}
-use Rattle.merge_spec.specs.Joined.{joined_module, over_limit, repeated_name}
+use Rattle.merge_spec.specs.Joined.{joined_module, repeated_name}
+use Rattle.module_limits.specs.Counts.{over_limit}
 use Rattle.merge_join.proofs.Outcomes.{many_is, module_is}
 use Rattle.merge_join.proofs.Undropped.{none_undeclared}
 use Rattle.merge_join.proofs.tree.joined_tree.Goals as goal

@@ -1,8 +1,8 @@
-// The limits of a module.
+// The counts of a module against their limits.
 
 ghost use Rattle.std.specs.Prelude.{◌≡◌, nat_lt};
 ghost use Rattle.wasm_tree.specs.Limits.{limit};
-ghost use Rattle.merge_spec.specs.Joined as joined;
+ghost use Rattle.module_limits.specs.Counts as counts;
 
 use wasm_tree::{Module, Which};
 
@@ -13,10 +13,11 @@ fn is_above(count: usize, which: Which) -> bool
     count > which.limit() as usize
 }
 
-/// The first count above its limit, in the order of the sections.
-#[tactic(auto, unfolding(merge_spec::specs::Joined::over_limit))]
-pub(crate) fn over_limit(module: &Module) -> Option<Which>
-    ensures { result ≡ joined.over_limit «module».now }
+/// The first count above its limit, in the order types, imports, functions, tables, memories, globals, exports, element segments and data segments; none where each is
+/// within its own.
+#[tactic(auto, unfolding(crate::specs::Counts::over_limit))]
+pub fn over_limit(module: &Module) -> Option<Which>
+    ensures { result ≡ counts.over_limit «module».now }
 {
     if is_above(module.types.len(), Which::Types) {
         return Some(Which::Types);
