@@ -197,7 +197,7 @@ module _ (env : Environment) (m : Module) (i : Inst) (a : IsInst env (one m) 0 m
       by None h = refl
       by (Some c) h = none c (slice_get (own_globals env) c) refl (h c refl)
 
-  const_same : (e : ConstExpr) → value_of env (one m) (i ∷ []) 0 e ≡ const_value (own_globals env) i e
+  pub const_same : (e : ConstExpr) → value_of env (one m) (i ∷ []) 0 e ≡ const_value (own_globals env) i e
   const_same (const.I32 v) = refl
   const_same (const.I64 v) = refl
   const_same (const.Null ty) = refl
