@@ -1,0 +1,17 @@
+pub mod Counts
+pub mod Replaced
+pub mod Moved
+pub mod Claimed
+pub mod Parts
+pub mod Written
+pub mod Reached
+pub mod Undone
+pub mod Plain
+pub mod Joined
+pub mod Reading
+pub mod Opened
+pub mod Spelled
+pub mod Rooms
+pub mod Copied
+pub mod Counted
+pub mod Scanned

@@ -1,0 +1,4 @@
+pub mod Blocks
+pub mod Lending
+pub mod Pages
+pub mod Table

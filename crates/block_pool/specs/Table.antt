@@ -1,0 +1,125 @@
+-- What the table of blocks and the pool mean together.
+use Rattle.std.specs.Prelude.{◌≡◌, ◌⊎◌, ℕ, ◌+◌, ◌*◌, ◌/◌, ◌%◌, ◌^◌, ◌≤◌, List, [], length, ◌<◌, map, Bool, true, false, Option, Some, None, is_some, unwrap_or, count_by, slice_index, slice_index_or, slice_set, Contains, vec_capacity, if◌then◌else◌}
+use Rattle.base_lists.specs.Places.{numbers}
+use Rattle.block_pool.specs.Blocks.{Blocks, held, IsLive, used}
+use Rattle.block_pool.specs.Pages.{Contents, Pages, blocks_of}
+use Rattle.block_pool.specs.declared.table.Slot.{Slot}
+use Rattle.block_pool.specs.declared.table.Slot.TheVariants.{Absent, Kept, New, Changed}
+use Rattle.block_pool.specs.declared.table.Table.{Table}
+
+-- the block of the pool that has the bytes as they are now
+abbrev pub present : Slot → Option ℕ
+present Absent = None
+present (Kept b) = Some b
+present (New b) = Some b
+present (Changed b older) = Some b
+
+-- the one that has them as they were at the mark
+abbrev pub before : Slot → Option ℕ
+before Absent = None
+before (Kept b) = Some b
+before (New b) = None
+before (Changed b older) = Some older
+
+-- the one that is kept for the mark alone
+abbrev pub older : Slot → Option ℕ
+older (Changed b old) = Some old
+older _ = None
+
+-- written since the mark
+abbrev pub is_changed : Slot → Bool
+is_changed (New b) = true
+is_changed (Changed b older) = true
+is_changed _ = false
+
+abbrev pub is_present : Slot → Bool
+is_present s = is_some (present s)
+
+abbrev pub has_older : Slot → Bool
+has_older s = is_some (older s)
+
+abbrev pub slot_at : List Slot → ℕ → Slot
+slot_at slots k = slice_index_or slots k Absent
+
+-- a byte of a block; zero where there is no block
+abbrev pub byte_in : Blocks → Option ℕ → ℕ → ℕ
+byte_in pool None offset = 0
+byte_in pool (Some b) offset = slice_index (unwrap_or (held pool b) []) offset
+
+module _ (pool : Blocks) (slots : List Slot) (which : Slot → Option ℕ) where
+  abbrev pub byte_at : ℕ → ℕ
+  byte_at at = byte_in pool (which (slot_at slots (at / 4096))) (at % 4096)
+
+  -- so many bytes, each in the block that the table names for it
+  abbrev pub contents : ℕ → Contents
+  contents size = record { bytes = map byte_at (numbers 0 size); written = map (λ s. is_some (which s)) slots }
+
+abbrev pub pages_of : Table → Pages
+pages_of t = record {
+  now = contents t.pool t.slots.items present t.size;
+  mark = if t.marked then Some (contents t.pool t.slots.items before t.size) else None;
+  most = t.most;
+  blocks = used t.pool + t.pool.spare;
+  held = used t.pool;
+}
+
+-- the slot names the block
+abbrev pub Names : Slot → ℕ → Type 0
+Names s b = (present s ≡ Some b) ⊎ (older s ≡ Some b)
+
+-- each block that the table names is live, and named once
+pub record Owns (pool : Blocks) (slots : List Slot) : Type 0 where
+  pub live : (k b : ℕ) → Names (slot_at slots k) b → IsLive pool b
+  pub once : (j k b : ℕ) → Names (slot_at slots j) b → Names (slot_at slots k) b → j ≡ k
+  pub apart : (k b : ℕ) → present (slot_at slots k) ≡ Some b → older (slot_at slots k) ≡ Some b → ⊥
+
+-- what is so of every table: the blocks that it names are its own, the counts are true, and the list names each block that was written since the mark
+pub record IsSound (t : Table) : Type 0 where
+  pub size : t.size ≤ 2 ^ 32
+  pub slots : length t.slots.items ≡ blocks_of t.size
+  pub numbers : t.pool.numbers ≤ 2 ^ 32
+  pub owns : Owns t.pool t.slots.items
+  pub written : t.written ≡ count_by is_present t.slots.items
+  pub most : t.written ≤ t.most
+  pub account : used t.pool ≡ t.written + count_by has_older t.slots.items
+  pub room : 2 * t.most ≤ used t.pool + t.pool.spare
+  pub listed : (k : ℕ) → is_changed (slot_at t.slots.items k) ≡ true → Contains t.changed.items k
+  pub within : (k : ℕ) → Contains t.changed.items k → k < length t.slots.items
+  pub few : length t.changed.items ≤ count_by is_changed t.slots.items
+  pub capacity : t.most ≤ vec_capacity t.changed
+  pub unmarked : t.marked ≡ false → t.changed.items ≡ []
+
+-- the block counts as written from then on, and its bytes are as they were
+pub record Claims (old new : Table) (block : ℕ) : Type 0 where
+  pub bytes : (pages_of new).now.bytes ≡ (pages_of old).now.bytes
+  pub written : (pages_of new).now.written ≡ slice_set (pages_of old).now.written block true
+  pub mark : (pages_of new).mark ≡ (pages_of old).mark
+  pub blocks : (pages_of new).blocks ≡ (pages_of old).blocks
+
+-- what stays of a table while it is written to
+pub record IsFixed (old new : Table) : Type 0 where
+  pub size : new.size ≡ old.size
+  pub most : new.most ≡ old.most
+  pub marked : new.marked ≡ old.marked
+  pub slots : length new.slots.items ≡ length old.slots.items
+
+-- a block that was written since the mark is as it was at the mark
+pub record TakesBack (old new : Table) : Type 0 where
+  pub mark : (pages_of new).mark ≡ (pages_of old).mark
+  pub blocks : (pages_of new).blocks ≡ (pages_of old).blocks
+  pub fewer : length new.changed.items + 1 ≡ length old.changed.items
+
+-- it stays as it is now
+pub record Settles (old new : Table) : Type 0 where
+  pub now : (pages_of new).now ≡ (pages_of old).now
+  pub blocks : (pages_of new).blocks ≡ (pages_of old).blocks
+  pub fewer : length new.changed.items + 1 ≡ length old.changed.items
+
+-- these are the bytes of a block of the memory
+pub record IsBlock (t : Table) (number : ℕ) (bytes : List ℕ) : Type 0 where
+  pub whole : length bytes ≡ 4096
+  pub same : (i : ℕ) → i < 4096 → 4096 * number + i < t.size → slice_index bytes i ≡ slice_index (pages_of t).now.bytes (4096 * number + i)
+
+-- a block of the memory has zero bytes alone
+abbrev pub IsZeroBlock : Table → ℕ → Type 0
+IsZeroBlock t number = (i : ℕ) → i < 4096 → 4096 * number + i < t.size → slice_index (pages_of t).now.bytes (4096 * number + i) ≡ 0

@@ -1,0 +1,13 @@
+//! The memory under an evaluator: a pool of blocks of 4,096 bytes, and a memory over it that can take back what it wrote.
+#![tactic(auto)]
+
+mod numbers;
+mod paged;
+mod pool;
+mod ranges;
+mod table;
+#[cfg(test)]
+mod tests;
+
+pub use paged::{Full, Paged};
+pub use pool::{BlockId, Pool};

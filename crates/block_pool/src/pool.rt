@@ -1,0 +1,176 @@
+ghost use Rattle.std.specs.Prelude.{◌≡◌, ◌+◌, ◌<◌, ◌≤◌, [], length, max, None, Some, OnOk, OnErr};
+ghost use Rattle.std.specs.Borrow.{sem};
+ghost use Rattle.block_pool.specs.Blocks.{held, IsLive, used, zeros, Changes, WritesPart};
+
+use slab::Slab;
+use std::alloc::Global;
+use std::marker::Model;
+use wasm_bytes::NoMemory;
+
+/// The bytes of a block.
+pub const BLOCK_BYTES: usize = 4096;
+
+/// A block of a pool, by its number.
+#[derive(Clone, Copy)]
+pub struct BlockId {
+    pub(crate) number: usize,
+}
+
+/// A region of blocks of 4,096 bytes. A block is live from `take` to `give`; contracts see the bytes of each live block, and how many blocks are spare.
+#[derive(Drop)]
+pub struct Pool {
+    blocks: Slab<[u8; 4096]>,
+    // As many blocks were asked for: the live ones and the spare ones.
+    room: usize,
+}
+
+impl Model for Pool {
+    ghost use Rattle.std.specs.Prelude.{◌-◌, ◌≤◌};
+    ghost use Rattle.slab.specs.Slab.{slab_len};
+    ghost use Rattle.block_pool.specs.Blocks.{Blocks};
+
+    ghost Value = { Blocks };
+
+    ghost view = { λ p. record {
+      slots = p.blocks.slots;
+      spare = p.room - slab_len p.blocks;
+      numbers = p.blocks.capacity;
+    } };
+
+    ghost invariant = { λ p. (slab_len p.blocks ≤ p.room) × (p.room ≤ p.blocks.capacity) };
+}
+
+impl Pool {
+    ghost use Rattle.block_pool.specs.Lending.{LendsBlock};
+
+    /// A pool without blocks. It takes no memory.
+    pub fn new(alloc: Global) -> Pool
+        ensures none_live { result.slots ≡ [] }
+        ensures none_spare { result.spare ≡ 0 }
+        ensures numbers { result.numbers ≡ 0 }
+    {
+        Pool {
+            blocks: Slab::new(alloc),
+            room: 0,
+        }
+    }
+
+    /// Makes at least `count` blocks spare, where there are fewer. For want of memory the pool stays as it was. A block that becomes spare is not touched.
+    pub fn reserve(&mut self, count: usize) -> Result<(), NoMemory>
+        ensures slots { self.new.slots ≡ self.old.slots }
+        ensures ok { OnOk result (self.new.spare ≡ max self.old.spare count) }
+        ensures err { OnErr result (self.new.spare ≡ self.old.spare) }
+        ensures numbers { self.old.numbers ≤ self.new.numbers }
+    {
+        match self.blocks.reserve_exact(count) {
+            Ok(()) => {
+                let _ = self.blocks.capacity();
+                self.room = self.room.max(self.blocks.len() + count);
+                Ok(())
+            }
+            Err(_) => Err(NoMemory),
+        }
+    }
+
+    /// Takes a spare block, and fills it with zero bytes. It takes no memory.
+    pub fn take(&mut self) -> BlockId
+        requires { 0 < self.old.spare }
+        ensures fresh { held self.old result.number ≡ None }
+        ensures zero { Changes self.old self.new result.number (Some zeros) }
+        ensures used { used self.new ≡ used self.old + 1 }
+        ensures spare { self.new.spare + 1 ≡ self.old.spare }
+        ensures numbers { self.new.numbers ≡ self.old.numbers }
+        ensures below { result.number < self.new.numbers }
+    {
+        BlockId {
+            number: self.blocks.insert_reserved([0; 4096]),
+        }
+    }
+
+    /// Takes a spare block, and fills it with the bytes of a live one.
+    pub(crate) fn copy_of(&mut self, block: &BlockId) -> BlockId
+        requires live { IsLive self.old block.now.number }
+        requires spare { 0 < self.old.spare }
+        ensures fresh { held self.old result.number ≡ None }
+        ensures copy { Changes self.old self.new result.number (held self.old block.now.number) }
+        ensures used { used self.new ≡ used self.old + 1 }
+        ensures spare { self.new.spare + 1 ≡ self.old.spare }
+        ensures numbers { self.new.numbers ≡ self.old.numbers }
+        ensures below { result.number < self.new.numbers }
+    {
+        let bytes = self.blocks[block.number];
+        BlockId {
+            number: self.blocks.insert_reserved(bytes),
+        }
+    }
+
+    /// Gives a live block back: it is spare from then on.
+    pub fn give(&mut self, block: BlockId)
+        requires { IsLive self.old block.number }
+        ensures gone { Changes self.old self.new block.number None }
+        ensures used { used self.new + 1 ≡ used self.old }
+        ensures spare { self.new.spare ≡ self.old.spare + 1 }
+        ensures numbers { self.new.numbers ≡ self.old.numbers }
+    {
+        let _ = self.blocks.remove(block.number);
+    }
+
+    /// The bytes of a live block.
+    pub fn bytes(&self, block: &BlockId) -> &[u8]
+        requires { IsLive self.now block.now.number }
+        ensures bytes { held self.now block.now.number ≡ Some result.now }
+        ensures length { length result.now ≡ 4096 }
+    {
+        &self.blocks[block.number]
+    }
+
+    /// The bytes of a live block, to be changed. Other blocks stay.
+    pub fn bytes_mut(&mut self, block: &BlockId) -> &mut [u8]
+        requires { IsLive self.old block.now.number }
+        ensures* writes_back { sem 𝓛 (LendsBlock self.entry block.now.number result) }
+        ensures bytes { held self.old block.now.number ≡ Some result.now }
+        ensures length { length result.now ≡ 4096 }
+    {
+        let _ = self.bytes(block);
+        self.blocks[block.number].as_mut_slice()
+    }
+
+    /// Gives every live block back.
+    pub(crate) fn give_all(&mut self)
+        ensures none_live { self.new.slots ≡ [] }
+        ensures spare { self.new.spare ≡ used self.old + self.old.spare }
+        ensures numbers { self.new.numbers ≡ self.old.numbers }
+    {
+        self.blocks.clear();
+    }
+
+    /// A number that those of all blocks stay below.
+    pub(crate) fn numbers(&self) -> usize
+        ensures { result ≡ self.now.numbers }
+    {
+        self.blocks.capacity()
+    }
+
+    /// Writes bytes to a part of a live block. Other blocks stay.
+    pub(crate) fn write(&mut self, block: &BlockId, offset: usize, bytes: &[u8])
+        requires live { IsLive self.old block.now.number }
+        requires within { offset + length bytes.now ≤ 4096 }
+        ensures wrote { WritesPart self.old self.new block.now.number offset bytes.now }
+    {
+        self.bytes_mut(block)[offset..offset + bytes.len()].copy_from_slice(bytes);
+    }
+
+    /// The number of live blocks.
+    pub fn used(&self) -> usize
+        ensures { result ≡ used self.now }
+    {
+        self.blocks.len()
+    }
+
+    /// The number of blocks that can be taken.
+    pub fn spare(&self) -> usize
+        ensures { result ≡ self.now.spare }
+    {
+        self.room - self.blocks.len()
+    }
+}

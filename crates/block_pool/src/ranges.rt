@@ -1,0 +1,267 @@
+ghost use Rattle.std.specs.Prelude.{◌≡◌, ◌≢◌, ◌+◌, ◌*◌, ◌/◌, ◌%◌, ◌<◌, ◌≤◌, ◌↔◌, ℕ, length, replicate, None, Some, IfSome, IfNone, IsNone, IsTrue, slice_index, if◌then◌else◌};
+ghost use Rattle.block_pool.specs.declared.table.Slot.TheVariants.{Absent};
+ghost use Rattle.block_pool.specs.Pages.{IsWidth, IsNextNonzero, IsZeroFrom, IsZeroTo, Writes, Fits, part, little};
+ghost use Rattle.block_pool.specs.Table.{IsSound, IsFixed, IsBlock, IsZeroBlock, pages_of, is_present, slot_at};
+
+use crate::numbers::{first_nonzero, number};
+use crate::pool::BLOCK_BYTES;
+use crate::table::{Slot, Table, block};
+
+impl Table {
+    // The bytes of a block that was written.
+    fn bytes_of(&self, number: usize) -> Option<&[u8]>
+        requires sound { IsSound self.now }
+        requires inside { number < length self.now.slots.items }
+        ensures some { IfSome result (λ bytes. IsBlock self.now number bytes.now) }
+        ensures none { IfNone result (IsZeroBlock self.now number) }
+    {
+        match self.slots[number] {
+            Slot::Absent => None,
+            Slot::Kept(present) => Some(self.pool.bytes(&block(present))),
+            Slot::New(present) => Some(self.pool.bytes(&block(present))),
+            Slot::Changed { present, older: _ } => Some(self.pool.bytes(&block(present))),
+        }
+    }
+
+    // How many blocks a write to the block adds to those that were written.
+    fn added(&self, number: usize) -> u32
+        requires { number < length self.now.slots.items }
+        ensures { result ≡ (if is_present (slot_at self.now.slots.items number) then 0 else 1) }
+    {
+        match self.slots[number] {
+            Slot::Absent => 1,
+            Slot::Kept(_) => 0,
+            Slot::New(_) => 0,
+            Slot::Changed { .. } => 0,
+        }
+    }
+
+    // Whether so many bytes from a place on can be written.
+    pub(crate) fn has_room(&self, at: usize, count: usize) -> bool
+        requires sound { IsSound self.now }
+        requires inside { at + count ≤ self.now.size }
+        ensures { IsTrue result ↔ Fits (pages_of self.now) at count }
+    {
+        if count == 0 {
+            return true;
+        }
+        let mut total = self.written;
+        for number in at / 4096..(at + count - 1) / 4096 + 1 {
+            total += self.added(number);
+        }
+        total <= self.most
+    }
+
+    // Reads from within a block.
+    fn read_in_block(&self, number: usize, offset: usize, out: &mut [u8])
+        requires sound { IsSound self.now }
+        requires within { offset + length out.old ≤ 4096 }
+        requires inside { 4096 * number + offset + length out.old ≤ self.now.size }
+        requires some { 0 < length out.old }
+        ensures { out.new ≡ part (pages_of self.now).now.bytes (4096 * number + offset) (length out.old) }
+    {
+        match self.bytes_of(number) {
+            Some(bytes) => out.copy_from_slice(&bytes[offset..offset + out.len()]),
+            None => out.fill(0),
+        }
+    }
+
+    // Reads what lies in at most two blocks.
+    fn read(&self, at: usize, out: &mut [u8])
+        requires sound { IsSound self.now }
+        requires some { 0 < length out.old }
+        requires small { length out.old ≤ 4096 }
+        requires inside { at + length out.old ≤ self.now.size }
+        ensures { out.new ≡ part (pages_of self.now).now.bytes at (length out.old) }
+    {
+        let first = BLOCK_BYTES - at % 4096;
+        if out.len() <= first {
+            self.read_in_block(at / 4096, at % 4096, out);
+        } else {
+            let (front, back) = out.split_at_mut(first);
+            self.read_in_block(at / 4096, at % 4096, front);
+            self.read_in_block(at / 4096 + 1, 0, back);
+        }
+    }
+
+    pub(crate) fn load(&self, at: usize, width: usize) -> u64
+        requires sound { IsSound self.now }
+        requires width { IsWidth width }
+        requires inside { at + width ≤ self.now.size }
+        ensures { result ≡ little (part (pages_of self.now).now.bytes at width) }
+    {
+        let offset = at % 4096;
+        if offset + width <= BLOCK_BYTES {
+            return match self.bytes_of(at / 4096) {
+                Some(bytes) => number(&bytes[offset..offset + width]),
+                None => 0,
+            };
+        }
+        let mut bytes = [0; 8];
+        self.read(at, &mut bytes[..width]);
+        number(&bytes[..width])
+    }
+
+    // Writes bytes of one block.
+    fn write_within(&mut self, at: usize, bytes: &[u8])
+        requires sound { IsSound self.old }
+        requires some { 0 < length bytes.now }
+        requires within { at % 4096 + length bytes.now ≤ 4096 }
+        requires inside { at + length bytes.now ≤ self.old.size }
+        requires room { slot_at self.old.slots.items (at / 4096) ≡ Absent → self.old.written < self.old.most }
+        ensures sound { IsSound self.new }
+        ensures writes { Writes (pages_of self.old) (pages_of self.new) at bytes.now }
+        ensures fixed { IsFixed self.old self.new }
+    {
+        self.write_in_block(at / 4096, at % 4096, bytes);
+    }
+
+    // Writes block by block.
+    pub(crate) fn put(&mut self, at: usize, bytes: &[u8])
+        requires sound { IsSound self.old }
+        requires inside { at + length bytes.now ≤ self.old.size }
+        requires room { Fits (pages_of self.old) at (length bytes.now) }
+        ensures sound { IsSound self.new }
+        ensures writes { Writes (pages_of self.old) (pages_of self.new) at bytes.now }
+    {
+        let mut done = 0;
+        while done < bytes.len() {
+            let place = at + done;
+            let count = (BLOCK_BYTES - place % 4096).min(bytes.len() - done);
+            self.write_within(place, &bytes[done..done + count]);
+            done += count;
+        }
+    }
+
+    // Writes a byte so many times, from a block of it.
+    fn repeat(&mut self, at: usize, block: &[u8], count: usize)
+        requires sound { IsSound self.old }
+        requires alike { block.now ≡ replicate 4096 (slice_index block.now 0) }
+        requires inside { at + count ≤ self.old.size }
+        requires room { Fits (pages_of self.old) at count }
+        ensures sound { IsSound self.new }
+        ensures writes { Writes (pages_of self.old) (pages_of self.new) at (replicate count (slice_index block.now 0)) }
+    {
+        let mut done = 0;
+        while done < count {
+            let place = at + done;
+            let some = (BLOCK_BYTES - place % 4096).min(count - done);
+            self.write_within(place, &block[..some]);
+            done += some;
+        }
+    }
+
+    pub(crate) fn fill(&mut self, at: usize, byte: u8, count: usize)
+        requires sound { IsSound self.old }
+        requires inside { at + count ≤ self.old.size }
+        requires room { Fits (pages_of self.old) at count }
+        ensures sound { IsSound self.new }
+        ensures writes { Writes (pages_of self.old) (pages_of self.new) at (replicate count byte) }
+    {
+        self.repeat(at, &[byte; 4096], count);
+    }
+
+    // Copies to within a block.
+    fn copy_in_block(&mut self, to: usize, from: usize, count: usize)
+        requires sound { IsSound self.old }
+        requires some { 0 < count }
+        requires within { to % 4096 + count ≤ 4096 }
+        requires inside { to + count ≤ self.old.size }
+        requires source { from + count ≤ self.old.size }
+        requires room { slot_at self.old.slots.items (to / 4096) ≡ Absent → self.old.written < self.old.most }
+        ensures sound { IsSound self.new }
+        ensures writes { Writes (pages_of self.old) (pages_of self.new) to (part (pages_of self.old).now.bytes from count) }
+        ensures fixed { IsFixed self.old self.new }
+    {
+        let mut bytes = [0; 4096];
+        self.read(from, &mut bytes[..count]);
+        self.write_within(to, &bytes[..count]);
+    }
+
+    // From the first byte on: no byte is written before it is read.
+    fn copy_forward(&mut self, to: usize, from: usize, count: usize)
+        requires sound { IsSound self.old }
+        requires order { to ≤ from }
+        requires inside { from + count ≤ self.old.size }
+        requires room { Fits (pages_of self.old) to count }
+        ensures sound { IsSound self.new }
+        ensures writes { Writes (pages_of self.old) (pages_of self.new) to (part (pages_of self.old).now.bytes from count) }
+    {
+        let mut done = 0;
+        while done < count {
+            let place = to + done;
+            let some = (BLOCK_BYTES - place % 4096).min(count - done);
+            self.copy_in_block(place, from + done, some);
+            done += some;
+        }
+    }
+
+    // From the last byte back.
+    fn copy_backward(&mut self, to: usize, from: usize, count: usize)
+        requires sound { IsSound self.old }
+        requires order { from < to }
+        requires inside { to + count ≤ self.old.size }
+        requires room { Fits (pages_of self.old) to count }
+        ensures sound { IsSound self.new }
+        ensures writes { Writes (pages_of self.old) (pages_of self.new) to (part (pages_of self.old).now.bytes from count) }
+    {
+        let mut left = count;
+        while left > 0 {
+            let end = to + left;
+            let some = ((end - 1) % 4096 + 1).min(left);
+            self.copy_in_block(end - some, from + left - some, some);
+            left -= some;
+        }
+    }
+
+    pub(crate) fn copy(&mut self, to: usize, from: usize, count: usize)
+        requires sound { IsSound self.old }
+        requires inside { to + count ≤ self.old.size }
+        requires source { from + count ≤ self.old.size }
+        requires room { Fits (pages_of self.old) to count }
+        ensures sound { IsSound self.new }
+        ensures writes { Writes (pages_of self.old) (pages_of self.new) to (part (pages_of self.old).now.bytes from count) }
+    {
+        if to <= from {
+            self.copy_forward(to, from, count);
+        } else {
+            self.copy_backward(to, from, count);
+        }
+    }
+
+    // The first byte from a place on to the end of its block that is not zero.
+    fn nonzero_in_block(&self, at: usize) -> Option<usize>
+        requires sound { IsSound self.now }
+        requires inside { at < self.now.size }
+        ensures some { IfSome result (λ found. IsNextNonzero (pages_of self.now).now.bytes at found) }
+        ensures none { IfNone result (IsZeroTo (pages_of self.now).now.bytes at (4096 * (at / 4096) + 4096)) }
+    {
+        match self.bytes_of(at / 4096) {
+            Some(bytes) => {
+                let offset = at % 4096;
+                let end = (self.size - (at - offset)).min(4096);
+                match first_nonzero(&bytes[offset..end]) {
+                    Some(found) => Some(at + found),
+                    None => None,
+                }
+            }
+            None => None,
+        }
+    }
+
+    // Passes over blocks that were never written.
+    pub(crate) fn next_nonzero(&self, from: usize) -> Option<usize>
+        requires sound { IsSound self.now }
+        ensures some { IfSome result (λ at. IsNextNonzero (pages_of self.now).now.bytes from at) }
+        ensures none { IfNone result (IsZeroFrom (pages_of self.now).now.bytes from) }
+    {
+        let mut at = from;
+        while at < self.size {
+            match self.nonzero_in_block(at) {
+                Some(found) => return Some(found),
+                None => at = (at / 4096 + 1) * 4096,
+            }
+        }
+        None
+    }
+}

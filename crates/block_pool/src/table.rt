@@ -1,0 +1,201 @@
+ghost use Rattle.std.specs.Prelude.{◌≡◌, ◌≢◌, ◌+◌, ◌-◌, ◌*◌, ◌<◌, ◌≤◌, [], ◌∷◌, ◌++◌, length, take, drop, slice_set, true, None, Some, vec_capacity};
+ghost use Rattle.block_pool.specs.Blocks.{used};
+ghost use Rattle.block_pool.specs.declared.table.Slot.TheVariants.{Absent, Kept};
+ghost use Rattle.block_pool.specs.Pages.{Writes, RollsBack, Commits};
+ghost use Rattle.block_pool.specs.Table.{IsSound, IsFixed, Claims, TakesBack, Settles, pages_of, present, is_changed, slot_at};
+
+use crate::pool::{BlockId, Pool};
+
+/// What the table knows of a block of the memory. The numbers are those of the pool's blocks.
+#[derive(Clone, Copy)]
+pub(crate) enum Slot {
+    /// It was never written: its bytes are zero.
+    Absent,
+    /// It was written. Where a mark is set, it was not written since.
+    Kept(u32),
+    /// It was written since the mark, and never before.
+    New(u32),
+    /// It was written before the mark and since. The older bytes are kept.
+    Changed { present: u32, older: u32 },
+}
+
+/// A memory as the table of its blocks over a pool.
+#[derive(Drop)]
+pub(crate) struct Table {
+    pub(crate) pool: Pool,
+    pub(crate) slots: Vec<Slot>,
+    // The numbers of the blocks that were written since the mark. The room for them is taken at the beginning.
+    pub(crate) changed: Vec<u32>,
+    pub(crate) written: u32,
+    pub(crate) most: u32,
+    pub(crate) size: usize,
+    pub(crate) marked: bool,
+}
+
+pub(crate) fn block(number: u32) -> BlockId
+    ensures { result.number ≡ number }
+{
+    BlockId {
+        number: number as usize,
+    }
+}
+
+impl Table {
+    // Gives a block that was never written zero bytes of its own.
+    fn claim(&mut self, number: usize) -> BlockId
+        requires sound { IsSound self.old }
+        requires inside { number < length self.old.slots.items }
+        requires absent { slot_at self.old.slots.items number ≡ Absent }
+        requires room { self.old.written < self.old.most }
+        ensures sound { IsSound self.new }
+        ensures named { present (slot_at self.new.slots.items number) ≡ Some result.number }
+        ensures private { self.new.marked ≡ true → is_changed (slot_at self.new.slots.items number) ≡ true }
+        ensures claims { Claims self.old self.new number }
+        ensures fixed { IsFixed self.old self.new }
+    {
+        let block = self.pool.take();
+        self.written += 1;
+        if self.marked {
+            self.slots[number] = Slot::New(block.number as u32);
+            self.changed.push_reserved(number as u32);
+            return block;
+        }
+        self.slots[number] = Slot::Kept(block.number as u32);
+        block
+    }
+
+    // Keeps the bytes of the mark, and goes on with a copy.
+    fn set_aside(&mut self, number: usize, older: u32) -> BlockId
+        requires sound { IsSound self.old }
+        requires inside { number < length self.old.slots.items }
+        requires marked { self.old.marked ≡ true }
+        requires kept { slot_at self.old.slots.items number ≡ Kept older }
+        ensures sound { IsSound self.new }
+        ensures named { present (slot_at self.new.slots.items number) ≡ Some result.number }
+        ensures private { self.new.marked ≡ true → is_changed (slot_at self.new.slots.items number) ≡ true }
+        ensures claims { Claims self.old self.new number }
+        ensures fixed { IsFixed self.old self.new }
+    {
+        let copy = self.pool.copy_of(&block(older));
+        self.changed.push_reserved(number as u32);
+        self.slots[number] = Slot::Changed {
+            present: copy.number as u32,
+            older,
+        };
+        copy
+    }
+
+    // The block of the pool to which the bytes of a block may be written, so that those of the mark stay.
+    fn own(&mut self, number: usize) -> BlockId
+        requires sound { IsSound self.old }
+        requires inside { number < length self.old.slots.items }
+        requires room { slot_at self.old.slots.items number ≡ Absent → self.old.written < self.old.most }
+        ensures sound { IsSound self.new }
+        ensures named { present (slot_at self.new.slots.items number) ≡ Some result.number }
+        ensures private { self.new.marked ≡ true → is_changed (slot_at self.new.slots.items number) ≡ true }
+        ensures claims { Claims self.old self.new number }
+        ensures fixed { IsFixed self.old self.new }
+    {
+        match self.slots[number] {
+            Slot::Absent => self.claim(number),
+            Slot::Kept(present) => {
+                if self.marked {
+                    self.set_aside(number, present)
+                } else {
+                    block(present)
+                }
+            }
+            Slot::New(present) => block(present),
+            Slot::Changed { present, older: _ } => block(present),
+        }
+    }
+
+    // Writes bytes within one block.
+    pub(crate) fn write_in_block(&mut self, number: usize, offset: usize, bytes: &[u8])
+        requires sound { IsSound self.old }
+        requires some { 0 < length bytes.now }
+        requires within { offset + length bytes.now ≤ 4096 }
+        requires inside { 4096 * number + offset + length bytes.now ≤ self.old.size }
+        requires room { slot_at self.old.slots.items number ≡ Absent → self.old.written < self.old.most }
+        ensures sound { IsSound self.new }
+        ensures writes { Writes (pages_of self.old) (pages_of self.new) (4096 * number + offset) bytes.now }
+        ensures fixed { IsFixed self.old self.new }
+    {
+        let block = self.own(number);
+        self.pool.write(&block, offset, bytes);
+    }
+
+    // Takes back what was written to the block that was written last for the first time since the mark.
+    fn take_back(&mut self)
+        requires sound { IsSound self.old }
+        requires marked { self.old.marked ≡ true }
+        requires some { 0 < length self.old.changed.items }
+        ensures sound { IsSound self.new }
+        ensures back { TakesBack self.old self.new }
+        ensures fixed { IsFixed self.old self.new }
+    {
+        if let Some(number) = self.changed.pop() {
+            let number = number as usize;
+            match self.slots[number] {
+                Slot::New(present) => {
+                    self.pool.give(block(present));
+                    self.slots[number] = Slot::Absent;
+                    self.written -= 1;
+                }
+                Slot::Changed { present, older } => {
+                    self.pool.give(block(present));
+                    self.slots[number] = Slot::Kept(older);
+                }
+                Slot::Absent | Slot::Kept(_) => {}
+            }
+        }
+    }
+
+    // Keeps what was written to that block, and lets its older bytes go.
+    fn settle(&mut self)
+        requires sound { IsSound self.old }
+        requires marked { self.old.marked ≡ true }
+        requires some { 0 < length self.old.changed.items }
+        ensures sound { IsSound self.new }
+        ensures settled { Settles self.old self.new }
+        ensures fixed { IsFixed self.old self.new }
+    {
+        if let Some(number) = self.changed.pop() {
+            let number = number as usize;
+            match self.slots[number] {
+                Slot::New(present) => self.slots[number] = Slot::Kept(present),
+                Slot::Changed { present, older } => {
+                    self.pool.give(block(older));
+                    self.slots[number] = Slot::Kept(present);
+                }
+                Slot::Absent | Slot::Kept(_) => {}
+            }
+        }
+    }
+
+    /// Takes back what was written since the mark.
+    pub(crate) fn rollback(&mut self)
+        requires sound { IsSound self.old }
+        requires marked { self.old.marked ≡ true }
+        ensures sound { IsSound self.new }
+        ensures back { RollsBack (pages_of self.old) (pages_of self.new) }
+    {
+        while !self.changed.is_empty() {
+            self.take_back();
+        }
+        self.marked = false;
+    }
+
+    /// Keeps what was written since the mark.
+    pub(crate) fn commit(&mut self)
+        requires sound { IsSound self.old }
+        requires marked { self.old.marked ≡ true }
+        ensures sound { IsSound self.new }
+        ensures kept { Commits (pages_of self.old) (pages_of self.new) }
+    {
+        while !self.changed.is_empty() {
+            self.settle();
+        }
+        self.marked = false;
+    }
+}

@@ -1,0 +1,17 @@
+-- What is left of a module shows what the module shows to an embedder that uses only the exports that are kept.
+use Rattle.std.specs.Prelude.{IsTrue}
+use Rattle.wasm_tree.specs.declared.module.Module.{Module}
+use Rattle.wasm_valid.specs.Validity.{IsValid}
+use Rattle.wasm_meaning.specs.World.{alone, links}
+use Rattle.wasm_meaning.specs.Run.{Same, events}
+use Rattle.dce_sweep_spec.specs.Marks.{Marks}
+use Rattle.dce_sweep_spec.specs.Closed.{AreClosed}
+use Rattle.dce_sweep_spec.specs.Swept.{swept}
+use Rattle.dce_sweep_spec.specs.Unswept.{unswept}
+
+-- in every environment that links the module, an embedder that uses only the exports that are kept sees the same of it and of the other, step by step
+abbrev pub BehavesAs : Marks → Module → Module → Type 0
+BehavesAs k t other = Same (λ env. IsTrue (links env (unswept k t))) (events (unswept k t)) (events (alone other)) (λ n. n) (λ n. n)
+
+abbrev pub SweptModulesShowTheSame : Type 0
+SweptModulesShowTheSame = (k : Marks) (t : Module) → IsValid t → AreClosed k t → BehavesAs k t (swept k t)

@@ -1,0 +1,11 @@
+pub mod Texts
+pub mod Steps
+pub mod NamePlaces
+pub mod Results
+pub mod Sizes
+pub mod Marking
+pub mod Walking
+pub mod StandingNodes
+pub mod Searching
+pub mod Rows
+pub mod ImportsReached

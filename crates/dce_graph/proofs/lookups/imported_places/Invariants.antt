@@ -1,0 +1,13 @@
+use Rattle.std.proofs.Common.{◌≡◌, ◌++◌, drop}
+use Rattle.base_lists.specs.Places.{places}
+use Rattle.wasm_tree.specs.declared.space.Space.TheVariants.{Functions, Globals}
+use Rattle.wasm_tree.specs.Operands.{same_space}
+use Rattle.wasm_tree.specs.Spaces.{space_of_import}
+use Rattle.dce_graph.specs.Reach.{imports_into}
+use Rattle.dce_graph.proofs.lookups.imported_places.Given as goal
+
+abbrev pub invariant-loop-place : goal.invariant-loop-place
+invariant-loop-place l = record {
+  funcs : l.funcs.items ++ places (λ i. same_space Functions (space_of_import i.desc)) (drop l.place l.imports) l.place ≡ imports_into Functions l.imports;
+  globals : l.globals.items ++ places (λ i. same_space Globals (space_of_import i.desc)) (drop l.place l.imports) l.place ≡ imports_into Globals l.imports;
+}

@@ -1,0 +1,6 @@
+pub mod Reach
+pub mod GraphFile
+pub mod Entries
+pub mod Marks
+pub mod Walks
+pub mod Laws

@@ -1,0 +1,24 @@
+//! The graph of what stands outside a module, and what of the module and of the graph is reached from its roots.
+#![tactic(auto)]
+
+mod code;
+mod entry;
+mod fault;
+mod graph;
+mod laws;
+mod lookups;
+mod marks;
+mod names;
+mod point;
+mod reach;
+mod reading;
+mod search;
+mod walk;
+
+pub use fault::GraphFault;
+pub use graph::{Graph, ImportPair, Node};
+pub use laws::imports_are_reached_with_their_entries;
+pub use marks::Reached;
+pub use point::Point;
+pub use reach::reached;
+pub use reading::read_graph;

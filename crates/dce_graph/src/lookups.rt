@@ -1,0 +1,117 @@
+// The tables that a walk looks up.
+
+ghost use Rattle.std.specs.Prelude.{◌≡◌, ◌<◌, ◌^◌, ℕ, List, Some, cond, length, IfOk, OnOk, option_and_then};
+ghost use Rattle.std.specs.Str.{bytes_eq};
+ghost use Rattle.wasm_tree.specs.declared.space.Space.TheVariants.{Functions, Globals};
+ghost use Rattle.dce_graph.specs.Entries.{found};
+ghost use Rattle.dce_graph.specs.GraphFile.{Text};
+ghost use Rattle.dce_graph.specs.Reach.{export_named, imports_into, pair_is};
+ghost use Rattle.dce_graph.specs.Walks.{AreLookups, AreStanding, found_pair};
+
+use crate::graph::{Graph, ImportPair, Node};
+use crate::walk::Walk;
+use std::alloc::Global;
+use std::collections::BTreeMap;
+use wasm_bytes::NoMemory;
+use wasm_tree::{Export, Import, ImportDesc, Module};
+
+// The place of each name of an export, from the last to the first, so that the first that bears a name counts.
+fn export_places<'a>(
+    alloc: Global,
+    exports: &'a [Export],
+) -> Result<BTreeMap<&'a str, u32>, NoMemory>
+    requires { length exports.now < 2 ^ 32 }
+    ensures { IfOk result (λ places. (q : List ℕ) → found places q ≡ export_named exports.now q) }
+{
+    let mut places = BTreeMap::new(alloc);
+    for place in (0..exports.len()).rev() {
+        places.insert(exports[place].name.as_str(), place as u32)?;
+    }
+    Ok(places)
+}
+
+// Notes that a node stands for its module and field, if it does, and gives the one that did before.
+fn note<'a>(
+    last: &mut BTreeMap<(&'a str, &'a str), u32>,
+    import: &'a Option<ImportPair>,
+    place: u32,
+) -> Result<Option<u32>, NoMemory>
+    ensures before { IfOk result (λ before. before ≡ option_and_then (λ pair. found_pair last.old pair.«module» pair.base) import.now) }
+    ensures noted { OnOk result ((a b : List ℕ) → found_pair last.new a b ≡ cond (pair_is a b import.now) (Some place) (found_pair last.old a b)) }
+{
+    match import {
+        Some(pair) => Ok(last.insert((pair.module.as_str(), pair.base.as_str()), place)?),
+        None => Ok(None),
+    }
+}
+
+// The nodes that stand for modules and fields.
+#[derive(Drop)]
+struct Standing<'a> {
+    last: BTreeMap<(&'a str, &'a str), u32>,
+    before: Vec<Option<u32>>,
+}
+
+fn standing_nodes<'a>(alloc: Global, nodes: &'a [Node]) -> Result<Standing<'a>, NoMemory>
+    requires { length nodes.now < 2 ^ 32 }
+    ensures { IfOk result (λ s. AreStanding nodes.now s.last s.before.items) }
+{
+    let mut last = BTreeMap::new(alloc);
+    let mut before = Vec::new(alloc);
+    for place in 0..nodes.len() {
+        let one = note(&mut last, &nodes[place].import, place as u32)?;
+        before.push(one)?;
+    }
+    Ok(Standing { last, before })
+}
+
+// The places of the imports of functions and of globals.
+#[derive(Drop)]
+struct Imported {
+    funcs: Vec<u32>,
+    globals: Vec<u32>,
+}
+
+fn imported_places(alloc: Global, imports: &[Import]) -> Result<Imported, NoMemory>
+    requires { length imports.now < 2 ^ 32 }
+    ensures funcs { IfOk result (λ i. i.funcs.items ≡ imports_into Functions imports.now) }
+    ensures globals { IfOk result (λ i. i.globals.items ≡ imports_into Globals imports.now) }
+{
+    let mut funcs = Vec::new(alloc);
+    let mut globals = Vec::new(alloc);
+    for place in 0..imports.len() {
+        match imports[place].desc {
+            ImportDesc::Func(_) => funcs.push(place as u32)?,
+            ImportDesc::Global(_) => globals.push(place as u32)?,
+            ImportDesc::Table(_) | ImportDesc::Memory(_) => {}
+        }
+    }
+    Ok(Imported { funcs, globals })
+}
+
+/// The walk over a graph and a module.
+pub(crate) fn walk<'a>(
+    alloc: Global,
+    graph: &'a Graph,
+    module: &'a Module,
+) -> Result<Walk<'a>, NoMemory>
+    requires nodes { length graph.now.nodes < 2 ^ 32 }
+    requires imports { length «module».now.imports < 2 ^ 32 }
+    requires exports { length «module».now.exports < 2 ^ 32 }
+    ensures lookups { IfOk result AreLookups }
+    ensures graph { IfOk result (λ w. w.graph.now ≡ graph.now) }
+    ensures tree { IfOk result (λ w. w.«module».now ≡ «module».now) }
+{
+    let exports = export_places(alloc, module.exports.as_slice())?;
+    let standing = standing_nodes(alloc, graph.nodes.as_slice())?;
+    let imported = imported_places(alloc, module.imports.as_slice())?;
+    Ok(Walk {
+        graph,
+        module,
+        exports,
+        last: standing.last,
+        before: standing.before,
+        funcs: imported.funcs,
+        globals: imported.globals,
+    })
+}

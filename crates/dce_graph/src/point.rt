@@ -1,0 +1,12 @@
+// What may be reached.
+
+/// A node of the graph, an export or an import of the module by its place, or a function or a global by its index, imported ones
+/// included (WebAssembly Core 2.0, section 2.5.1).
+#[derive(Clone, Copy, Debug, PartialEq, Eq)]
+pub enum Point {
+    Node(u32),
+    Export(u32),
+    Import(u32),
+    Func(u32),
+    Global(u32),
+}

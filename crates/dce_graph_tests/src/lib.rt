@@ -1,0 +1,7 @@
+//! Tests of graph files and of reach.
+#![tactic(auto)]
+
+#[cfg(test)]
+mod files;
+#[cfg(test)]
+mod reach;

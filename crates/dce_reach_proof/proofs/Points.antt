@@ -1,0 +1,124 @@
+-- What lists of points have in them, and the points that a body names.
+use Rattle.std.proofs.Common.{◌≡◌, ◌∙◌, ap, ap₂, sym, refl, ℕ, zero, suc, ◌+◌, List, [], ◌∷◌, Option, Some, None, Bool, true, false, ◌&&◌, cond, arith, slice_get, filter_map, map, drop}
+use Rattle.std.specs.Prelude.{Contains}
+use Rattle.std.specs.List.{cons_option, flat_map, list_all}
+use Rattle.std.proofs.lemmas.List.Folds.{list_all-append}
+use Rattle.std.proofs.lemmas.List.Elements.{Contains-append_left, Contains-append_right}
+use Rattle.std.proofs.lemmas.Option.{slice_get_within, slice_get-get_or, get_or_from_slice_get}
+use Rattle.base_lists.specs.Every.{Every}
+use Rattle.base_lists.specs.Places.{places}
+use Rattle.base_lists.proofs.Bools.{left_true}
+use Rattle.base_lists.proofs.Each.{list_all_each}
+use Rattle.base_lists.proofs.Filtered.{place_back}
+use Rattle.base_lists.proofs.Places.{Has}
+use Rattle.wasm_tree.specs.declared.space.Operand.{Operand}
+use Rattle.wasm_tree.specs.declared.instr.Instr.{Instr, out-Instr}
+use Rattle.wasm_tree.specs.Operands.{operands_of, held, operands_pass, all_operands_pass}
+use Rattle.wasm_tree.proofs.OperandLaws.{by_held, passes_inside}
+use Rattle.base_kept.specs.Kept.{is_marked}
+use Rattle.dce_graph.specs.declared.point.Point.{Point}
+use Rattle.dce_graph.specs.Reach.{operand_point, named_points, body_points}
+use Rattle.dce_graph.proofs.Walking.{named_inside}
+
+-- ---- lists ----
+
+pub has : {A : Type 0} (xs : List A) (x : A) → Contains xs x → Has xs x
+has xs x (k, lt, e) = (k, slice_get-get_or xs k x lt ∙ ap Some e)
+
+pub contains : {A : Type 0} (xs : List A) (n : ℕ) (x : A) → slice_get xs n ≡ Some x → Contains xs x
+contains xs n x e = (n, slice_get_within xs n x e, get_or_from_slice_get xs n x x e)
+
+pub contains_joined : {A B : Type 0} (f : A → List B) (xs : List A) (n : ℕ) (x : A) (y : B) → slice_get xs n ≡ Some x → Contains (f x) y → Contains (flat_map f xs) y
+contains_joined f [] n x y e h = cc
+contains_joined f (z ∷ zs) zero x y e h = let same : z ≡ x = cc in Contains-append_left (f z) (flat_map f zs) y (rw same h)
+contains_joined f (z ∷ zs) (suc n) x y e h = Contains-append_right (f z) (flat_map f zs) y (contains_joined f zs n x y e h)
+
+pub contains_chosen : {A B : Type 0} (f : A → Option B) (xs : List A) (n : ℕ) (x : A) (y : B) → slice_get xs n ≡ Some x → f x ≡ Some y → Contains (filter_map f xs) y
+contains_chosen f [] n x y e h = cc
+contains_chosen f (z ∷ zs) zero x y e h = let same : z ≡ x = cc in let there : cons_option (f z) (filter_map f zs) ≡ y ∷ filter_map f zs = ap (λ o. cons_option o (filter_map f zs)) (ap f same ∙ h) in contains (filter_map f (z ∷ zs)) 0 y (ap (λ ys. slice_get ys 0) there)
+contains_chosen {A} {B} f (z ∷ zs) (suc n) x y e h = by (f z) (contains_chosen f zs n x y e h)
+  where
+    by : (o : Option B) → Contains (filter_map f zs) y → Contains (cons_option o (filter_map f zs)) y
+    by None c = c
+    by (Some w) c = Contains-append_right (w ∷ []) (filter_map f zs) y c
+
+-- all pass the test, so that what fails it is not among them
+pub none_fails : {A : Type 0} (test : A → Bool) (xs : List A) (x : A) → list_all test xs ≡ true → Contains xs x → test x ≡ true
+none_fails test xs x h c = let p = has xs x c in list_all_each test xs h p.0 x p.1
+
+pub all_mapped : {A B : Type 0} (test : B → Bool) (f : A → B) (xs : List A) → ((x : A) → test (f x) ≡ true) → list_all test (map f xs) ≡ true
+all_mapped test f [] h = refl
+all_mapped test f (x ∷ xs) h = ap₂ (λ a b. a && b) (h x) (all_mapped test f xs h)
+
+pub all_joined : {A B : Type 0} (test : B → Bool) (f : A → List B) (xs : List A) → ((x : A) → list_all test (f x) ≡ true) → list_all test (flat_map f xs) ≡ true
+all_joined test f [] h = refl
+all_joined test f (x ∷ xs) h = list_all-append test (f x) (flat_map f xs) ∙ ap₂ (λ a b. a && b) (h x) (all_joined test f xs h)
+
+pub all_chosen : {A B : Type 0} (test : B → Bool) (f : A → Option B) (xs : List A) → ((x : A) → list_all test (cons_option (f x) []) ≡ true) → list_all test (filter_map f xs) ≡ true
+all_chosen test f [] h = refl
+all_chosen {A} {B} test f (x ∷ xs) h = by (f x) (h x) (all_chosen test f xs h)
+  where
+    by : (o : Option B) → list_all test (cons_option o []) ≡ true → list_all test (filter_map f xs) ≡ true → list_all test (cons_option o (filter_map f xs)) ≡ true
+    by None a b = b
+    by (Some y) a b = ap₂ (λ p q. p && q) (left_true (test y) true a) b
+
+-- the marks behind a place
+pub marked_drop : (bs : List Bool) (n x : ℕ) → is_marked bs (n + x) ≡ is_marked (drop n bs) x
+marked_drop bs zero x = ap (is_marked bs) (let e : 0 + x ≡ x = omega arith in e)
+marked_drop [] (suc n) x = refl
+marked_drop (b ∷ bs) (suc n) x = ap (is_marked (b ∷ bs)) (let e : suc n + x ≡ suc (n + x) = omega arith in e) ∙ marked_drop bs n x
+
+-- a place stands once among places
+pub places_apart : {A : Type 0} (test : A → Bool) (xs : List A) (from i j n : ℕ) → slice_get (places test xs from) i ≡ Some n → slice_get (places test xs from) j ≡ Some n → i ≡ j
+places_apart test [] from i j n e h = cc
+places_apart {A} test (x ∷ xs) from i j n e h = by (test x) (places_apart test xs (suc from)) i j e h
+  where
+    later : (i : ℕ) → slice_get (places test xs (suc from)) i ≡ Some from → ⊥
+    later i e = let r = place_back test xs (suc from) i from e in let z = r.2 in absurd (omega (arith, z))
+
+    by : (b : Bool) → ((i j n : ℕ) → slice_get (places test xs (suc from)) i ≡ Some n → slice_get (places test xs (suc from)) j ≡ Some n → i ≡ j) →
+        (i j : ℕ) → slice_get (cond b (from ∷ places test xs (suc from)) (places test xs (suc from))) i ≡ Some n → slice_get (cond b (from ∷ places test xs (suc from)) (places test xs (suc from))) j ≡ Some n → i ≡ j
+    by true on zero zero e h = refl
+    by true on zero (suc j) e h = let same : from ≡ n = cc in absurd (later j (h ∙ ap Some (sym same)))
+    by true on (suc i) zero e h = let same : from ≡ n = cc in absurd (later i (e ∙ ap Some (sym same)))
+    by true on (suc i) (suc j) e h = ap suc (on i j n e h)
+    by false on i j e h = on i j n e h
+
+-- ---- what a body names ----
+
+-- the point passes, if there is one
+abbrev pub point_passes : (Point → Bool) → Option Point → Bool
+point_passes test None = true
+point_passes test (Some p) = test p
+
+operands_chosen : (test : Point → Bool) (os : List Operand) → list_all test (filter_map operand_point os) ≡ list_all (λ o. point_passes test (operand_point o)) os
+operands_chosen test [] = refl
+operands_chosen test (o ∷ os) = by (operand_point o) (operands_chosen test os)
+  where
+    by : (p : Option Point) → list_all test (filter_map operand_point os) ≡ list_all (λ o. point_passes test (operand_point o)) os → list_all test (cons_option p (filter_map operand_point os)) ≡ point_passes test p && list_all (λ o. point_passes test (operand_point o)) os
+    by None e = e
+    by (Some p) e = ap (λ b. test p && b) e
+
+module _ (test : Point → Bool) where
+  abbrev pub passes : Operand → Bool
+  passes o = point_passes test (operand_point o)
+
+  abbrev Alike : Instr → Type 0
+  Alike i = list_all test (named_points i) ≡ operands_pass passes i
+
+  lists : (is : List Instr) → Every Alike is → list_all test (body_points is) ≡ all_operands_pass passes is
+  lists [] h = refl
+  lists (i ∷ is) h = list_all-append test (named_points i) (body_points is) ∙ ap₂ (λ a b. a && b) h.0 (lists is h.1)
+
+  inside : (i : Instr) → Every Alike (held (out-Instr i)) → Alike i
+  inside i h =
+      ap (list_all test) (named_inside i) ∙ list_all-append test (filter_map operand_point (operands_of i)) (body_points (held (out-Instr i)))
+      ∙ ap₂ (λ a b. a && b) (operands_chosen test (operands_of i)) (lists (held (out-Instr i)) h) ∙ sym (passes_inside passes i)
+
+  every : (is : List Instr) → Every Alike is
+  every [] = tt
+  every (i ∷ is) = (by_held Alike inside i, every is)
+
+  -- all points that a body names pass where its operands do
+  pub body_passes : (is : List Instr) → list_all test (body_points is) ≡ all_operands_pass passes is
+  body_passes is = lists is (every is)

@@ -1,0 +1,23 @@
+-- Marks that are exactly on what is reached.
+use Rattle.std.specs.Prelude.{◌≡◌, ◌↔◌, length, true}
+use Rattle.wasm_tree.specs.declared.module.Module.{Module}
+use Rattle.wasm_valid.specs.Validity.{IsValid}
+use Rattle.dce_graph.specs.declared.graph.Graph.{Graph}
+use Rattle.dce_graph.specs.declared.point.Point.{Point}
+use Rattle.dce_graph.specs.declared.marks.Reached.{Reached}
+use Rattle.dce_graph.specs.Marks.{flags, marked}
+use Rattle.dce_graph.specs.Reach.{IsReached, point_count}
+use Rattle.dce_sweep_spec.specs.Marks.{Marks}
+use Rattle.dce_sweep_spec.specs.Closed.{AreClosed}
+
+-- what is reached of a module is kept
+abbrev pub marks_of : Reached → Marks
+marks_of r = record { exports = r.exports; imports = r.imports; funcs = r.funcs; globals = r.globals }
+
+-- one mark for each point, set where a path from a root meets it and nowhere else
+pub record AreExact (g : Graph) (m : Module) (r : Reached) : Type 0 where
+  pub exactly : (p : Point) → (marked r p ≡ true) ↔ IsReached g m p
+  pub one_each : (p : Point) → length (flags r p) ≡ point_count g m p
+
+abbrev pub ReachedMarksAreClosed : Type 0
+ReachedMarksAreClosed = (g : Graph) (m : Module) (r : Reached) → IsValid m → AreExact g m r → AreClosed (marks_of r) m

@@ -1,0 +1,20 @@
+-- What a sweep gives: what is left of the module, or why there is nothing.
+use Rattle.std.specs.Prelude.{◌≡◌, Option, Some, None, Result, Ok, Err}
+use Rattle.wasm_tree.specs.declared.which.Which.{Which}
+use Rattle.wasm_tree.specs.declared.module.Module.{Module}
+use Rattle.module_limits.specs.Counts.{over_limit}
+use Rattle.dce_sweep_spec.specs.Marks.{Marks}
+use Rattle.dce_sweep_spec.specs.Swept.{swept}
+use Rattle.dce_sweep.specs.declared.faults.SweepFault.{SweepFault}
+use Rattle.dce_sweep.specs.declared.faults.SweepFault.TheVariants.{TooMany}
+
+abbrev pub outcome : Option Which → Module → Result Module SweepFault
+outcome (Some which) m = Err (TooMany which)
+outcome None m = Ok m
+
+-- what a sweep gives, want of memory left aside
+abbrev pub sweep_of : Marks → Module → Result Module SweepFault
+sweep_of k m = outcome (over_limit (swept k m)) (swept k m)
+
+abbrev pub Sweeps : Marks → Module → Result Module SweepFault → Type 0
+Sweeps k m result = sweep_of k m ≡ result

@@ -1,0 +1,42 @@
+//! That what is left of a valid module, where what is kept names only what is kept, is valid, as a law.
+#![tactic(auto)]
+
+ghost use Rattle.std.specs.Prelude.{◌≡◌, ◌<◌, ◌^◌, length, None, IsTrue};
+ghost use Rattle.wasm_tree.specs.declared.module.Module.{Module};
+ghost use Rattle.wasm_tree.specs.Bounds.{IsBounded};
+ghost use Rattle.wasm_tree.specs.Spaces.{funcs_of};
+ghost use Rattle.wasm_valid.specs.Validity.{IsSingle, IsValid};
+ghost use Rattle.index_remap.specs.Renumbered.{fits_tree};
+ghost use Rattle.module_limits.specs.Counts.{over_limit};
+ghost use Rattle.dce_sweep_spec.specs.Marks.{Marks};
+ghost use Rattle.dce_sweep_spec.specs.Swept.{kept_tree, renumbered_kept, sweep_map, swept};
+ghost use Rattle.dce_sweep_spec.specs.Closed.{AreClosed};
+
+use index_remap_proof::{
+    declared_trees_are_valid, renumbered_trees_are_valid, renumbering_keeps_typing,
+};
+use module_limits::counts_are_within_where_none_is_over;
+use wasm_valid::valid_where_items_hold;
+
+/// What is left of a valid module by marks that are closed is valid (`valid`, WebAssembly Core 2.0, section 3.4). It has at most one memory where the module has
+/// (`single`), and a u32 can count what it has where none of its counts is above its limit (`bounded`).
+pub fn swept_modules_are_valid()
+    ensures valid { (k : Marks) (m : Module) → IsValid m → AreClosed k m → IsValid (swept k m) }
+    ensures single { (k : Marks) (m : Module) → IsValid m → AreClosed k m → IsSingle m → IsSingle (swept k m) }
+    ensures bounded { (k : Marks) (m : Module) → IsValid m → AreClosed k m → IsBounded m → over_limit (swept k m) ≡ None → IsBounded (swept k m) }
+{
+    valid_where_items_hold();
+    renumbering_keeps_typing();
+    renumbered_trees_are_valid();
+    declared_trees_are_valid();
+    counts_are_within_where_none_is_over();
+}
+
+/// The map of a sweep has an entry for each index that is named in what is kept (`entries`), which, with its new indices, has functions that a u32 can count (`funcs`).
+pub fn what_is_kept_fits()
+    ensures entries { (k : Marks) (m : Module) → IsValid m → AreClosed k m → IsTrue (fits_tree (sweep_map k m) (kept_tree k m)) }
+    ensures funcs { (k : Marks) (m : Module) → IsValid m → AreClosed k m → IsBounded m → length (funcs_of (renumbered_kept k m)) < 2 ^ 32 }
+{
+    valid_where_items_hold();
+    renumbering_keeps_typing();
+}

@@ -1,0 +1,21 @@
+-- When marks can be swept by: what is kept names only what is kept.
+use Rattle.std.specs.Prelude.{◌≡◌, ℕ, length, Some, slice_get}
+use Rattle.wasm_tree.specs.declared.space.Space.{Space}
+use Rattle.wasm_tree.specs.declared.module.Module.{Module}
+use Rattle.wasm_tree.specs.Spaces.{funcs_of, globals_of}
+use Rattle.wasm_meaning.specs.Linking.{imports_of}
+use Rattle.index_remap_proof.specs.Indices.{TreeNamesOnly}
+use Rattle.base_kept.specs.Kept.{is_marked}
+use Rattle.dce_sweep_spec.specs.Marks.{Marks, stays}
+use Rattle.dce_sweep_spec.specs.Swept.{kept_tree}
+
+pub record AreClosed (k : Marks) (m : Module) : Type 0 where
+  -- there is one mark for each export, import, function and global
+  pub exports_many : length k.exports ≡ length m.exports
+  pub imports_many : length k.imports ≡ length m.imports
+  pub funcs_many : length k.funcs ≡ length (funcs_of m)
+  pub globals_many : length k.globals ≡ length (globals_of m)
+  -- an import is kept exactly where the entry of its index space is that it adds
+  pub imported : (space : Space) (i n : ℕ) → slice_get (imports_of space m) i ≡ Some n → is_marked k.imports n ≡ stays k space i
+  -- the start, the segments, and each export, function and global that is kept name only what is kept
+  pub names : TreeNamesOnly (stays k) (kept_tree k m)

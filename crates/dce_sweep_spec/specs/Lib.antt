@@ -1,0 +1,4 @@
+pub mod Marks
+pub mod Swept
+pub mod Closed
+pub mod Unswept

@@ -1,0 +1,5 @@
+//! Tests of sweeping.
+#![tactic(auto)]
+
+#[cfg(test)]
+mod tests;

@@ -1,0 +1,5 @@
+pub mod Segments
+pub mod Words
+pub mod Plans
+pub mod Looking
+pub mod Causes

@@ -1,0 +1,67 @@
+-- What is looked up of a word.
+use Rattle.std.specs.Prelude.{◌≡◌, ℕ, ◌<◌, ◌==◌, List, [], ◌∷◌, Bool, true, false, not, unwrap_or, Option, Some, None, option_map, slice_get, length}
+use Rattle.std.specs.Option.{option_map_or}
+use Rattle.std.specs.List.{list_any}
+use Rattle.std.specs.Ordering.{nat_cmp}
+use Rattle.std.specs.BTreeMap.{BTreeMap, get_by}
+use Rattle.std.specs.Cmp.Lexicographic.{slice_cmp}
+use Rattle.std.specs.Borrow.{Bor}
+use Rattle.wasm_tree.specs.declared.module.Module.{Module}
+use Rattle.wasm_names.specs.declared.func_name.FuncName.{FuncName}
+use Rattle.split_plan.specs.declared.fault.PlanFault.{PlanFault}
+use Rattle.split_plan.specs.declared.fault.PlanFault.TheVariants.{NoSuchFunction, AmbiguousFunction}
+use Rattle.split_plan.specs.declared.named.Named.{Named}
+use Rattle.split_plan.specs.declared.named.Named.TheVariants.{Borne, Shared, Exported}
+use Rattle.split_plan.specs.Words.{bearers, exported_among}
+
+-- what is entered of a word, by those that bear it and what is exported under it
+abbrev pub entered : List ℕ → Option ℕ → Option Named
+entered [] exported = option_map Exported exported
+entered (func ∷ []) exported = Some (Borne func)
+entered (func ∷ other ∷ more) exported = Some Shared
+
+-- where one function more bears the word
+abbrev pub once_more : ℕ → Option Named → Option Named
+once_more func None = Some (Borne func)
+once_more func (Some (Exported other)) = Some (Borne func)
+once_more func (Some (Borne other)) = Some Shared
+once_more func (Some Shared) = Some Shared
+
+abbrev pub entry_of : Module → List FuncName → List ℕ → Option Named
+entry_of m names word = entered (bearers m names word) (exported_among m m.exports word)
+
+-- what a table holds of a word
+abbrev pub held_of : BTreeMap (Bor (List ℕ)) Named → List ℕ → Option Named
+held_of table word = get_by (λ k. slice_cmp nat_cmp word k.now) table
+
+-- the function that an entry tells, and the fault
+abbrev pub func_in : Option Named → Option ℕ
+func_in (Some (Borne func)) = Some func
+func_in (Some Shared) = None
+func_in (Some (Exported func)) = Some func
+func_in None = None
+
+abbrev pub fault_in : Option Named → List ℕ → Option PlanFault
+fault_in (Some (Borne func)) word = None
+fault_in (Some Shared) word = Some (AmbiguousFunction word)
+fault_in (Some (Exported func)) word = None
+fault_in None word = Some (NoSuchFunction word)
+
+-- whether the word's entry is this function
+abbrev pub enters_func : (List ℕ → Option Named) → ℕ → List ℕ → Bool
+enters_func entry func word = option_map_or (λ named. named == func) (func_in (entry word)) false
+
+-- Marks of the functions that some of these words name.
+pub record AreMarks (entry : List ℕ → Option Named) (words : List (List ℕ)) (count : ℕ) (marks : List Bool) : Type 0 where
+  pub one_each : length marks ≡ count
+  pub right : (func : ℕ) → func < count → slice_get marks func ≡ Some (list_any (enters_func entry func) words)
+
+-- the function's mark is this one
+abbrev pub has_mark : List Bool → Bool → ℕ → Bool
+has_mark marks true func = unwrap_or (slice_get marks func) false
+has_mark marks false func = not (unwrap_or (slice_get marks func) false)
+
+-- the function is marked as one to split, or, without words to split, not marked as one to keep
+abbrev pub has_wanted_mark : Option (List (List ℕ)) → List Bool → List Bool → ℕ → Bool
+has_wanted_mark (Some words) wanted kept = has_mark wanted true
+has_wanted_mark None wanted kept = has_mark kept false

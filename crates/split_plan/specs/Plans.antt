@@ -1,0 +1,72 @@
+-- Which functions of a module move to the secondary module, which were asked to and stay, and the first fault of the words that ask.
+use Rattle.std.specs.Prelude.{◌≡◌, ℕ, ◌-◌, ◌&&◌, List, [], ◌∷◌, length, filter, Bool, true, false, not, Option, Some, None, slice_get, unwrap_or, if◌then◌else◌}
+use Rattle.std.specs.List.{list_any}
+use Rattle.std.specs.List.Sorted.{IsStrictlyIncreasing}
+use Rattle.std.specs.Option.{option_map_or}
+use Rattle.base_lists.specs.Every.{Every}
+use Rattle.base_lists.specs.Places.{numbers}
+use Rattle.wasm_tree.specs.declared.module.Module.{Module}
+use Rattle.wasm_tree.specs.Spaces.{imported_funcs}
+use Rattle.wasm_names.specs.declared.func_name.FuncName.{FuncName}
+use Rattle.wasm_names.specs.Reading.{or_else}
+use Rattle.split_plan.specs.declared.fault.PlanFault.{PlanFault}
+use Rattle.split_plan.specs.declared.fault.PlanFault.TheVariants.{KeptAndSplit}
+use Rattle.split_plan.specs.declared.plans.Plan.{Plan}
+use Rattle.split_plan.specs.Segments.{uses_segment}
+use Rattle.split_plan.specs.Words.{is_defined, function_of, word_fault, names_func}
+
+-- ---- faults
+
+-- the first that f gives
+abbrev pub first_given : {A B : Type 0} → (A → Option B) → List A → Option B
+first_given f [] = None
+first_given f (x ∷ xs) = or_else (f x) (first_given f xs)
+
+-- the words that are given, if any are
+abbrev pub words_of : Option (List (List ℕ)) → List (List ℕ)
+words_of words = unwrap_or words []
+
+-- the word's function is to be kept too
+abbrev pub kept_fault : (ℕ → Bool) → Option ℕ → List ℕ → Option PlanFault
+kept_fault is_kept None word = None
+kept_fault is_kept (Some func) word = if is_kept func then Some (KeptAndSplit word) else None
+
+-- The first fault: of the words to split, then of those to keep, in their order; then of the first word to split whose function a word to keep
+-- names.
+abbrev pub plan_fault : Module → List FuncName → Option (List (List ℕ)) → Option (List (List ℕ)) → Option PlanFault
+plan_fault m names split keep =
+    or_else (first_given (word_fault m names) (words_of split))
+    (or_else (first_given (word_fault m names) (words_of keep))
+    (first_given (λ word. kept_fault (λ func. list_any (names_func m names func) (words_of keep)) (function_of m names word) word) (words_of split)))
+
+-- ---- the plan
+
+abbrev pub defined_funcs : Module → List ℕ
+defined_funcs m = numbers (length (imported_funcs m.imports)) (length m.funcs)
+
+-- a function's body names a segment
+abbrev pub body_uses_segment : Module → ℕ → Bool
+body_uses_segment m func = option_map_or (λ f. uses_segment f.body) (slice_get m.funcs (func - length (imported_funcs m.imports))) false
+
+-- the functions that the words to split name, or else those that no word to keep names
+abbrev pub is_wanted : Module → List FuncName → Option (List (List ℕ)) → Option (List (List ℕ)) → ℕ → Bool
+is_wanted m names (Some words) keep func = list_any (names_func m names func) words
+is_wanted m names None keep func = not (list_any (names_func m names func) (words_of keep))
+
+-- of these the ones that name no segment move
+abbrev pub plan_for : Module → (ℕ → Bool) → Plan
+plan_for m wanted = record {
+  moved = filter (λ func. wanted func && not (body_uses_segment m func)) (defined_funcs m);
+  kept = filter (λ func. wanted func && body_uses_segment m func) (defined_funcs m);
+}
+
+abbrev pub plan_of : Module → List FuncName → Option (List (List ℕ)) → Option (List (List ℕ)) → Plan
+plan_of m names split keep = plan_for m (is_wanted m names split keep)
+
+-- What is so of a plan for a module: its lists ascend and hold defined functions; those that move name no segment, and those that are kept do, so
+-- that no function is in both.
+pub record IsPlan (m : Module) (p : Plan) : Type 0 where
+  pub moved_ascend : IsStrictlyIncreasing p.moved
+  pub kept_ascend : IsStrictlyIncreasing p.kept
+  pub moved : Every (λ func. (is_defined m func ≡ true) × (body_uses_segment m func ≡ false)) p.moved
+  pub kept : Every (λ func. (is_defined m func ≡ true) × (body_uses_segment m func ≡ true)) p.kept

@@ -1,0 +1,122 @@
+// The functions that words can name.
+
+ghost use Rattle.std.specs.Prelude.{◌≡◌, ◌&&◌, ℕ, List, length, Some, IfOk, OnOk, cond, nat_le, nat_lt, option_map};
+ghost use Rattle.std.specs.Str.{bytes_eq};
+ghost use Rattle.wasm_tree.specs.Spaces.{imported_funcs, funcs_of, index_of_export, space_of_export};
+ghost use Rattle.wasm_tree.specs.Operands.{same_space};
+ghost use Rattle.wasm_tree.specs.declared.space.Space.TheVariants.{Functions};
+ghost use Rattle.split_plan.specs.Words.{exported_among};
+ghost use Rattle.split_plan.specs.Looking.{entry_of, held_of, func_in, once_more};
+ghost use Rattle.split_plan.specs.declared.named.Named.TheVariants.{Exported as IsExported};
+
+use std::alloc::Global;
+use std::collections::BTreeMap;
+use wasm_bytes::NoMemory;
+use wasm_names::FuncName;
+use wasm_tree::{Export, Module, Space};
+
+/// What a word names.
+#[derive(Clone, Copy, Drop)]
+pub enum Named {
+    /// The one defined function that bears the word in the name list.
+    Borne(u32),
+    /// Several bear it.
+    Shared,
+    /// None bears it, and this one is exported under it.
+    Exported(u32),
+}
+
+impl Named {
+    /// The function, if it is one.
+    pub fn func(self) -> Option<u32>
+        ensures { result ≡ func_in (Some self) }
+    {
+        match self {
+            Named::Borne(func) | Named::Exported(func) => Some(func),
+            Named::Shared => None,
+        }
+    }
+}
+
+/// The defined functions of a module: those from the first on, before the end.
+#[derive(Clone, Copy, Drop)]
+struct Defined {
+    first: usize,
+    end: usize,
+}
+
+impl Defined {
+    fn has(self, func: u32) -> bool
+        ensures { result ≡ nat_le self.first func && nat_lt func self.end }
+    {
+        self.first <= func as usize && (func as usize) < self.end
+    }
+
+    fn has_export(self, export: &Export) -> bool
+        ensures { result ≡ same_space (space_of_export export.now.desc) Functions && (nat_le self.first (index_of_export export.now.desc) && nat_lt (index_of_export export.now.desc) self.end) }
+    {
+        export.desc.space() == Space::Functions && self.has(export.desc.index())
+    }
+}
+
+// The defined functions that are exported, from the last export to the first, so that the first under a name counts.
+fn exported<'a>(
+    alloc: Global,
+    module: &'a Module,
+    defined: Defined,
+) -> Result<BTreeMap<&'a str, Named>, NoMemory>
+    requires first { defined.first ≡ length (imported_funcs «module».now.imports) }
+    requires end { defined.end ≡ length (funcs_of «module».now) }
+    ensures { IfOk result (λ table. (word : List ℕ) → held_of table word ≡ option_map IsExported (exported_among «module».now «module».now.exports word)) }
+{
+    let exports = module.exports.as_slice();
+    let mut table = BTreeMap::new(alloc);
+    for at in (0..exports.len()).rev() {
+        let export = &exports[at];
+        if defined.has_export(export) {
+            table.insert(export.name.as_str(), Named::Exported(export.desc.index()))?;
+        }
+    }
+    Ok(table)
+}
+
+// What is entered where one function more bears the name.
+fn once_more(entry: Option<Named>, func: u32) -> Named
+    ensures { Some result ≡ once_more func entry }
+{
+    match entry {
+        None | Some(Named::Exported(_)) => Named::Borne(func),
+        Some(Named::Borne(_)) | Some(Named::Shared) => Named::Shared,
+    }
+}
+
+// One function more bears the name.
+fn enter<'a>(table: &mut BTreeMap<&'a str, Named>, name: &'a str, func: u32) -> Result<(), NoMemory>
+    ensures { OnOk result ((word : List ℕ) → held_of table.new word ≡ cond (bytes_eq name.now word) (once_more func (held_of table.old word)) (held_of table.old word)) }
+{
+    let new = once_more(table.get(name).copied(), func);
+    table.insert(name, new)?;
+    Ok(())
+}
+
+/// What each word names.
+pub fn named_functions<'a>(
+    alloc: Global,
+    module: &'a Module,
+    names: &'a [FuncName],
+) -> Result<BTreeMap<&'a str, Named>, NoMemory>
+    ensures { IfOk result (λ table. (word : List ℕ) → held_of table word ≡ entry_of «module».now names.now word) }
+{
+    let defined = Defined {
+        first: module.imported_funcs(),
+        end: module.func_space(),
+    };
+    let mut table = exported(alloc, module, defined)?;
+    for at in (0..names.len()).rev() {
+        let named = &names[at];
+        if defined.has(named.index) {
+            enter(&mut table, named.name.as_str(), named.index)?;
+        }
+    }
+    Ok(table)
+}

@@ -1,0 +1,5 @@
+//! Tests of plans over a whole module.
+#![tactic(auto)]
+
+#[cfg(test)]
+mod tests;

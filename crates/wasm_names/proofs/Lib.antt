@@ -1,0 +1,5 @@
+pub mod NameMaps
+pub mod Subsections
+pub mod NameSections
+pub mod NameLists
+mod Rows

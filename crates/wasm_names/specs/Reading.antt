@@ -1,0 +1,85 @@
+-- Reading the functions' names from the left, and the list of a file as a function of its bytes.
+use Rattle.std.specs.Prelude.{◌≡◌, ◌==◌, ℕ, zero, suc, ◌+◌, List, [], ◌∷◌, length, Option, Some, None, Result, Ok, Err, nat_lt, is_some, unwrap_or, option_and_then, if◌then◌else◌}
+use Rattle.std.specs.Result.{result_ok}
+use Rattle.std.specs.Str.{bytes_eq}
+use Rattle.std.specs.Borrow.{Bor}
+use Rattle.wasm_bytes.specs.Reading.{◌>>=◌}
+use Rattle.wasm_bytes.specs.Frames.{Section}
+use Rattle.wasm_read_spec.specs.declared.fault.Fault.{Fault}
+use Rattle.wasm_read_spec.specs.declared.fault.Fault.TheVariants.{Malformed}
+use Rattle.wasm_read_spec.specs.Reading.{Reader, Fails, u32_at, name_at, sized_at, each_from, whole_at}
+use Rattle.wasm_read_spec.specs.Contents.{framed_at}
+use Rattle.wasm_names.specs.declared.func_name.FuncName.{FuncName}
+use Rattle.wasm_names.specs.NameList.{section_name}
+
+-- ---- a name map
+
+-- an index that is no less than this, and a name
+unfoldable pub func_name_at : ℕ → Reader FuncName
+func_name_at least bs = u32_at bs >>= (λ i. if nat_lt i.0 least then Err Malformed else (name_at i.1 >>= (λ n. Ok (record { index = i.0; name = n.0 }, n.1))))
+
+abbrev pub least_after : ℕ → FuncName → ℕ
+least_after least n = n.index + 1
+
+unfoldable pub func_names_at : Reader (List FuncName)
+func_names_at bs = u32_at bs >>= (λ n. each_from func_name_at least_after n.0 0 n.1)
+
+-- ---- the subsections
+
+-- another subsection, behind those where this one named functions
+abbrev pub found_after : Option (List ℕ) → Section → Result (Option (List ℕ)) Fault
+found_after found s = if s.0 == 1 then (if is_some found then Err Malformed else Ok (Some s.1)) else Ok found
+
+-- the content of the one subsection that names functions, if there is one; fuel is at least the number of bytes
+unfoldable pub name_map_at : ℕ → Option (List ℕ) → List ℕ → Result (Option (List ℕ)) Fault
+name_map_at fuel found [] = Ok found
+name_map_at zero found (b ∷ bs) = Err Malformed
+name_map_at (suc fuel) found (b ∷ bs) = sized_at bs >>= (λ s. found_after found (b, s.0) >>= (λ next. name_map_at fuel next s.1))
+
+abbrev pub names_of_map : Option (List ℕ) → Result (List FuncName) Fault
+names_of_map None = Ok []
+names_of_map (Some content) = whole_at func_names_at content
+
+unfoldable pub names_at : List ℕ → Result (List FuncName) Fault
+names_at content = name_map_at (length content) None content >>= names_of_map
+
+-- ---- the name section
+
+abbrev pub behind_name : Result (List ℕ × List ℕ) Fault → Option (List ℕ)
+behind_name (Ok n) = if bytes_eq n.0 section_name then Some n.1 else None
+behind_name (Err e) = None
+
+-- what stands behind the name of a custom section that is called `name`
+abbrev pub content_of_names : Section → Option (List ℕ)
+content_of_names s = if s.0 == 0 then behind_name (name_at s.1) else None
+
+abbrev pub or_else : {A : Type 0} → Option A → Option A → Option A
+or_else (Some x) other = Some x
+or_else None other = other
+
+-- that of the first such section
+unfoldable pub first_content : List Section → Option (List ℕ)
+first_content [] = None
+first_content (s ∷ ss) = or_else (content_of_names s) (first_content ss)
+
+abbrev pub names_in : List ℕ → Option (List FuncName)
+names_in content = result_ok (names_at content)
+
+-- the names in the first section that is called `name`, if there is one and it is not malformed
+unfoldable pub names_found : List ℕ → Option (List FuncName)
+names_found bytes = option_and_then names_in (option_and_then first_content (result_ok (framed_at bytes)))
+
+-- the functions' names in a file
+abbrev pub name_list : List ℕ → List FuncName
+name_list bytes = unwrap_or (names_found bytes) []
+
+-- ---- what a function gave is what reading gives, unless memory ran out
+
+-- a slice, if there is one, as its bytes
+abbrev pub lent_option : Option (Bor (List ℕ)) → Option (List ℕ)
+lent_option (Some s) = Some s.now
+lent_option None = None
+
+abbrev pub GivesMap : Result (Option (Bor (List ℕ))) Fault → Result (Option (List ℕ)) Fault → Type 0
+GivesMap (Ok found) read = read ≡ Ok (lent_option found)
+GivesMap (Err e) read = Fails e read
