@@ -15,7 +15,8 @@ use Rattle.wasm_valid.specs.First.{IsFirstInvalid}
 use Rattle.wasm_read_spec.specs.Contents.{read_fault}
 use Rattle.wasm_read_spec.specs.Causes.{Cause}
 use Rattle.merge_spec.specs.Faults.{link_fault, NamesPart}
-use Rattle.merge_spec.specs.Joined.{join_of, outcome, repeated_name, over_limit, joined_module}
+use Rattle.merge_spec.specs.Joined.{join_of, outcome, repeated_name, joined_module}
+use Rattle.module_limits.specs.Counts.{over_limit}
 use Rattle.merge_spec.specs.declared.faults.LinkFault.{LinkFault}
 use Rattle.merge_spec.specs.declared.faults.LinkFault.TheVariants as link
 use Rattle.merge_spec.specs.declared.faults.JoinFault.{JoinFault}

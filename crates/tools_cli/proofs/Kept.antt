@@ -24,7 +24,8 @@ use Rattle.merge_behaves_proof.specs.Laws.{BehavesAs}
 use Rattle.world_sequential_proof.specs.Laws.{TurnsAreNotSeen}
 use Rattle.merge_spec.specs.View.{linked_world}
 use Rattle.wasm_tree.specs.declared.which.Which.{Which}
-use Rattle.merge_spec.specs.Joined.{over_limit, joined_module, repeated_name, outcome}
+use Rattle.merge_spec.specs.Joined.{joined_module, repeated_name, outcome}
+use Rattle.module_limits.specs.Counts.{over_limit}
 use Rattle.wasm_write_spec.specs.Plain.{plain}
 use Rattle.wasm_tree.specs.MemoryZero.{memory_zero_funcs}
 use Rattle.wasm_write_proof.specs.Ranges.{InRange}
