@@ -9,21 +9,13 @@ use Rattle.block_pool.specs.Pages.{reaches, with_reached}
 use Rattle.block_pool.specs.Table.{is_present, slot_at, IsSound}
 use Rattle.block_pool.specs.declared.table.Table.{Table}
 use Rattle.block_pool.proofs.Counts.{flag, counted_set}
-use Rattle.block_pool.proofs.Reached.{reached_at, reached_length}
+use Rattle.block_pool.proofs.Reached.{reached_at, reached_length, or_true, or_false}
 use Rattle.block_pool.proofs.Joined.{Reaches, reaches_is, reaches_from, reached_none}
 use Rattle.block_pool.proofs.Rooms.{count, map_there}
 
 reached_same : (at n m j : ℕ) → ((k : ℕ) → reaches at n k ≡ reaches at m k) → (ws : List Bool) → with_reached at n j ws ≡ with_reached at m j ws
 reached_same at n m j same [] = refl
 reached_same at n m j same (w ∷ ws) = ap₂ (λ b bs. b ∷ bs) (ap (λ r. w || r) (same j)) (reached_same at n m (suc j) same ws)
-
-or_true : (b : Bool) → (b || true) ≡ true
-or_true true = refl
-or_true false = refl
-
-or_false : (b : Bool) → (b || false) ≡ b
-or_false true = refl
-or_false false = refl
 
 -- the blocks before this one that a range from the place on reaches
 abbrev pub upto : Table → (at k : ℕ) → List Bool

@@ -6,7 +6,7 @@ use Rattle.base_lists.proofs.Bools.{same_tests}
 use Rattle.block_pool.specs.Blocks.{with_part}
 use Rattle.block_pool.specs.Pages.{Contents, Pages, Writes, written_over, reaches, with_reached, size}
 use Rattle.block_pool.proofs.Parts.{is_part, part_length, part_below, part_inside, part_above}
-use Rattle.block_pool.proofs.Reached.{reaches_yes}
+use Rattle.block_pool.proofs.Reached.{reaches_yes, or_false}
 
 pub record Reaches (at n b : ℕ) : Type 0 where
   pub some : 0 < n
@@ -68,10 +68,6 @@ reached_back at n m j (w ∷ ws) =
     ap₂ (λ b bs. b ∷ bs)
     (or_assoc w (reaches (at + n) m j) (reaches at n j) ∙ ap (λ b. w || b) (or_comm (reaches (at + n) m j) (reaches at n j) ∙ reaches_both at n m j))
     (reached_back at n m (suc j) ws)
-
-or_false : (b : Bool) → (b || false) ≡ b
-or_false true = refl
-or_false false = refl
 
 pub reached_none : (at j : ℕ) (ws : List Bool) → with_reached at 0 j ws ≡ ws
 reached_none at j [] = refl

@@ -22,11 +22,11 @@ reached_at at n j [] i h = absurd (omega arith)
 reached_at at n j (w ∷ ws) zero h = ap (λ b. w || reaches at n b) (let e : j ≡ j + 0 = omega arith in e)
 reached_at at n j (w ∷ ws) (suc i) h = reached_at at n (suc j) ws i (omega arith) ∙ ap (λ b. slice_index_or ws i false || reaches at n b) (let e : suc j + i ≡ j + suc i = omega arith in e)
 
-or_true : (b : Bool) → (b || true) ≡ true
+pub or_true : (b : Bool) → (b || true) ≡ true
 or_true true = refl
 or_true false = refl
 
-or_false : (b : Bool) → (b || false) ≡ b
+pub or_false : (b : Bool) → (b || false) ≡ b
 or_false true = refl
 or_false false = refl
 
