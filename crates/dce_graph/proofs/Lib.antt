@@ -6,6 +6,7 @@ pub mod Sizes
 pub mod Marking
 pub mod Walking
 pub mod StandingNodes
+pub mod Following
 pub mod Searching
 pub mod Rows
 pub mod ImportsReached

@@ -16,7 +16,7 @@ list_set [] i lt = absurd (omega arith)
 list_set (x ∷ xs) zero lt = refl
 list_set (x ∷ xs) (suc i) lt = list_set xs i (omega arith)
 
-list_other : (xs : List Bool) (i j : ℕ) → (j ≡ i) ⊎ (get_or (slice_set xs i true) j false ≡ get_or xs j false)
+pub list_other : (xs : List Bool) (i j : ℕ) → (j ≡ i) ⊎ (get_or (slice_set xs i true) j false ≡ get_or xs j false)
 list_other [] i j = inr refl
 list_other (x ∷ xs) zero zero = inl refl
 list_other (x ∷ xs) zero (suc j) = inr refl

@@ -22,7 +22,7 @@ pub record Good (r : Routes) (s : Search) : Type 0 where
 
 -- ---- the start ----
 
-none_marked : (n i : ℕ) → get_or (replicate n false) i false ≡ true → ⊥
+pub none_marked : (n i : ℕ) → get_or (replicate n false) i false ≡ true → ⊥
 none_marked zero i e = cc
 none_marked (suc n) zero e = cc
 none_marked (suc n) (suc i) e = none_marked n i e

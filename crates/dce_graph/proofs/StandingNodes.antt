@@ -133,7 +133,7 @@ last_more test (y ∷ ys) x j = ap (λ o. option_or o (cond (test y) (Some j) No
 -- ---- meeting them ----
 
 -- a node that stands for a module and a field has them in its import
-pair_there : (a b : Text) (o : Option ImportPair) → pair_is a b o ≡ true → (pair : ImportPair) × (o ≡ Some pair) × (pair.«module» ≡ a) × (pair.base ≡ b)
+pub pair_there : (a b : Text) (o : Option ImportPair) → pair_is a b o ≡ true → (pair : ImportPair) × (o ≡ Some pair) × (pair.«module» ≡ a) × (pair.base ≡ b)
 pair_there a b None h = cc
 pair_there a b (Some pair) h =
     let both = and_parts (bytes_eq pair.«module» a) (bytes_eq pair.base b) h in

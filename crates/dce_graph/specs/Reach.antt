@@ -115,11 +115,12 @@ pair_is module_name field (Some pair) = bytes_eq pair.«module» module_name && 
 abbrev pub stands_for : ModuleImport → GraphNode → Bool
 stands_for i n = pair_is i.«module» i.field n.import
 
--- from a node to the nodes that it reaches, and to the export that it names, if there is one
+-- the export that a node names, if there is one
 abbrev pub export_of_node : List ModuleExport → Option (List ℕ) → List Point
 export_of_node exports None = []
 export_of_node exports (Some name) = cons_option (option_map Export (export_named exports name)) []
 
+-- from a node to the nodes that it reaches, and to the export that it names, if there is one
 abbrev pub from_node : List ModuleExport → GraphNode → List Point
 from_node exports n = map Node n.reaches ++ export_of_node exports n.export
 
@@ -156,7 +157,7 @@ edges g m (Global i) = edges_of (slice_get (from_globals m) i)
 
 -- ---- roots ----
 
--- whether what is imported is there without being named, as a table or a memory
+-- whether the imports into an index space are roots: those of tables and memories are, named or not
 abbrev pub stays_imported : Space → Bool
 stays_imported Tables = true
 stays_imported Memories = true
@@ -177,17 +178,20 @@ abbrev pub data_points : DataMode → List Point
 data_points («data».Active memory offset) = const_points offset
 data_points «data».Passive = []
 
+-- the nodes that are roots
 abbrev pub root_nodes : List GraphNode → List Point
 root_nodes nodes = map Node (places (λ n. n.root) nodes 0)
 
--- what is reached of a module whatever the graph is: the start function, the imports of tables and memories, and the functions and globals that the offsets
--- and items of active and passive segments name
+-- the start function, if there is one
 abbrev pub start_points : Option ℕ → List Point
 start_points start = cons_option (option_map Func start) []
 
+-- the imports of tables and memories
 abbrev pub import_points : List ModuleImport → List Point
 import_points imports = map Import (places (λ i. stays_imported (space_of_import i.desc)) imports 0)
 
+-- what is reached of a module whatever the graph is: the start function, the imports of tables and memories, and the functions and globals that the offsets
+-- and items of active and passive segments name
 abbrev pub module_roots : Module → List Point
 module_roots m = start_points m.start ++ (import_points m.imports ++ (flat_map (λ s. elem_points s.mode s.items) m.elems ++ flat_map (λ s. data_points s.mode) m.datas))
 

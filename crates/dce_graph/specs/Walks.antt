@@ -1,5 +1,5 @@
 -- What is looked up in a graph and a module while points are met.
-use Rattle.std.specs.Prelude.{◌≡◌, ◌≤◌, ℕ, suc, List, [], ◌∷◌, length, map, take, drop, Bool, cond, Option, Some, None, option_and_then, slice_get}
+use Rattle.std.specs.Prelude.{◌≡◌, ◌≤◌, ℕ, suc, List, [], ◌∷◌, length, map, take, drop, Bool, true, false, cond, get_or, Contains, Option, Some, None, option_and_then, slice_get}
 use Rattle.std.specs.Option.{option_or}
 use Rattle.std.specs.BTreeMap.{BTreeMap, get_by}
 use Rattle.std.specs.Ordering.{nat_cmp, ordering_then}
@@ -9,10 +9,12 @@ use Rattle.base_lists.specs.Places.{places}
 use Rattle.wasm_tree.specs.declared.space.Space.TheVariants.{Functions, Globals}
 use Rattle.dce_graph.specs.declared.graph.ImportPair.{ImportPair}
 use Rattle.dce_graph.specs.declared.graph.Node.{Node}
+use Rattle.dce_graph.specs.declared.marks.Reached.{Reached}
+use Rattle.dce_graph.specs.declared.point.Point.{Point}
 use Rattle.dce_graph.specs.declared.point.Point.TheVariants.{Node as node_point}
 use Rattle.dce_graph.specs.declared.search.Search.{Search}
 use Rattle.dce_graph.specs.declared.walk.Walk.{Walk}
-use Rattle.dce_graph.specs.Marks.{Spread}
+use Rattle.dce_graph.specs.Marks.{HasMark, Spread, marked}
 use Rattle.dce_graph.specs.Reach.{pair_is, export_named, imports_into}
 use Rattle.dce_graph.specs.GraphFile.{Text}
 use Rattle.dce_graph.specs.Entries.{found}
@@ -56,3 +58,11 @@ pub record IsMeeting (nodes : List Node) (test : Node → Bool) (next : Option �
 abbrev pub ahead : Option ℕ → ℕ
 ahead None = 0
 ahead (Some n) = suc n
+
+-- those of the points that have a mark are met
+abbrev pub AreMet : Reached → List Point → Type 0
+AreMet r ps = (q : Point) → Contains ps q → HasMark r q → marked r q ≡ true
+
+-- where the flag of the last node that stands for a module and a field is set, each node that stands for them is met
+abbrev pub AreFollowed : List Node → List Bool → Reached → Type 0
+AreFollowed nodes followed r = (a b : Text) (n : ℕ) → last_place (is_of_pair a b) nodes 0 ≡ Some n → get_or followed n false ≡ true → AreMet r (map node_point (places (is_of_pair a b) nodes 0))

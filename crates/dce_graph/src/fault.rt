@@ -9,7 +9,7 @@ use wasm_bytes::{Name, NoMemory};
 /// Why a graph file is refused, in the order in which it is tested.
 #[derive(Drop)]
 pub enum GraphFault {
-    /// The bytes are no JSON.
+    /// The bytes are no JSON, no UTF-8, or nested deeper than 127.
     GraphText,
     /// The entry does not have the shape of one, and it is the first; entry 0 where the value is no array.
     GraphShape { entry: u32 },

@@ -1,6 +1,6 @@
 // What was reached, as marks.
 
-ghost use Rattle.std.specs.Prelude.{◌≡◌, slice_get, slice_set, replicate, true, false, length, IfOk, OnOk};
+ghost use Rattle.std.specs.Prelude.{◌≡◌, get_or, slice_get, slice_set, replicate, true, false, length, IfOk, OnOk};
 ghost use Rattle.wasm_tree.specs.Spaces.{funcs_of, globals_of};
 ghost use Rattle.dce_graph.specs.Marks.{marked, not_set, unmet, with_mark, blank_marks};
 
@@ -29,7 +29,18 @@ fn is_blank(flags: &[bool], place: u32) -> bool
     }
 }
 
-fn set_flag(flags: &mut Items<bool>, place: u32)
+/// Whether a flag is there and set.
+pub(crate) fn is_set(flags: &[bool], place: u32) -> bool
+    ensures { result ≡ get_or flags.now place false }
+{
+    match flags.get(place as usize) {
+        Some(flag) => *flag,
+        None => false,
+    }
+}
+
+/// Sets a flag, if it is there.
+pub(crate) fn set_flag(flags: &mut Items<bool>, place: u32)
     ensures { flags.new ≡ slice_set flags.old place true }
 {
     if let Some(flag) = flags.get_mut(place as usize) {
@@ -37,7 +48,8 @@ fn set_flag(flags: &mut Items<bool>, place: u32)
     }
 }
 
-fn blank_flags(alloc: Global, count: usize) -> Result<Items<bool>, NoMemory>
+/// So many flags, none of them set.
+pub(crate) fn blank_flags(alloc: Global, count: usize) -> Result<Items<bool>, NoMemory>
     ensures { IfOk result (λ flags. flags ≡ replicate count false) }
 {
     let mut flags = Items::new(alloc);

@@ -7,7 +7,7 @@ ghost use Rattle.dce_graph.specs.Reach.{IsReached, point_count};
 
 use crate::graph::Graph;
 use crate::lookups::walk;
-use crate::marks::Reached;
+use crate::marks::{Reached, blank_flags};
 use crate::search::{Search, next};
 use std::alloc::Global;
 use wasm_bytes::{Items, NoMemory};
@@ -31,9 +31,10 @@ pub fn reached(alloc: Global, graph: &Graph, input: &Valid) -> Result<Reached, N
         marks: Reached::blank(alloc, graph, module)?,
         stack: Items::new(alloc),
     };
+    let mut followed = blank_flags(alloc, graph.nodes.len())?;
     walk.visit_roots(&mut search)?;
     while let Some(point) = next(&mut search) {
-        walk.visit_edges(&mut search, point)?;
+        walk.visit_edges(&mut search, &mut followed, point)?;
     }
     Ok(search.marks)
 }

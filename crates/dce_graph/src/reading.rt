@@ -64,8 +64,8 @@ fn text_fault(error: &Error) -> GraphFault
 
 /// Reads a graph file: a JSON array of objects.
 ///
-/// `name` is a text and must be there; `reaches` is an array of texts, `root` a truth value, `export` a text, `import` an array of two texts. Each of
-/// these may be absent, and `export` and `import` do not stand together. Other keys are ignored, `root` false is as absent, and of a key that is given twice
+/// `name` is a text and must be there; `reaches` is an array of texts, `root` a truth value, `export` a text, `import` an array of two texts. Each but
+/// `name` may be absent, and `export` and `import` do not stand together. Other keys are ignored, `root` false is as absent, and of a key that is given twice
 /// the last counts.
 ///
 /// The faults are tested in this order. `GraphText` comes exactly where the bytes are not UTF-8 or no JSON, or nest deeper than 127. `GraphShape` comes

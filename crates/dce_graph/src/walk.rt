@@ -1,18 +1,19 @@
 // The roots of a graph and a module, and the edges of each point.
 
-ghost use Rattle.std.specs.Prelude.{◌≡◌, ◌<◌, ◌^◌, [], ◌∷◌, cond, map, length, OnOk, slice_get};
+ghost use Rattle.std.specs.Prelude.{◌≡◌, ◌<◌, ◌^◌, [], ◌∷◌, Some, cond, map, length, OnOk, slice_get};
 ghost use Rattle.wasm_tree.specs.Spaces.{space_of_import};
-ghost use Rattle.dce_graph.specs.Reach.{edges, edges_of, export_of_node, from_export, from_funcs, from_globals, from_import, from_node, import_points, root_nodes, roots, start_points, stays_imported};
+ghost use Rattle.dce_graph.specs.Reach.{edges, edges_of, export_of_node, from_export, from_funcs, from_globals, from_import, from_node, import_points, root_nodes, roots, stands_for, start_points, stays_imported};
 ghost use Rattle.dce_graph.specs.declared.point.Point.TheVariants.{Node as node_point};
 ghost use Rattle.dce_graph.specs.Marks.{Spread};
-ghost use Rattle.dce_graph.specs.Walks.{AreLookups};
+ghost use Rattle.dce_graph.specs.Walks.{AreFollowed, AreLookups, last_place};
 
 use crate::code::{visit_body, visit_const, visit_datas, visit_elems};
 use crate::graph::{Graph, Node};
+use crate::marks::{is_set, set_flag};
 use crate::point::Point;
 use crate::search::{Search, visit};
 use std::collections::BTreeMap;
-use wasm_bytes::{Name, NoMemory};
+use wasm_bytes::{Items, Name, NoMemory};
 use wasm_tree::{ExportDesc, Import, ImportDesc, Module};
 
 /// What is looked up while points are met.
@@ -124,19 +125,49 @@ impl<'a> Walk<'a> {
     }
 
     // Meets each node that stands for the import, from the last to the first.
-    fn visit_from_import(&self, search: &mut Search, import: &'a Import) -> Result<(), NoMemory>
+    fn visit_standing(
+        &self,
+        search: &mut Search,
+        import: &Import,
+        last: u32,
+    ) -> Result<(), NoMemory>
         requires lookups { AreLookups self.now }
+        requires last { last_place (stands_for import.now) self.now.graph.now.nodes 0 ≡ Some last }
         ensures { OnOk result (Spread search.old (from_import self.now.graph.now.nodes import.now) search.new) }
     {
-        let mut next = self
-            .last
-            .get(&(import.module.as_str(), import.field.as_str()))
-            .copied();
+        let mut next = Some(last);
         while let Some(place) = next {
             visit(search, Point::Node(place))?;
             next = self.before[place as usize];
         }
         Ok(())
+    }
+
+    // Meets each node that stands for the import. Each module and field is followed once, however often they are imported: then the flag of the last node
+    // that stands for them is set.
+    fn visit_from_import(
+        &self,
+        search: &mut Search,
+        followed: &mut Items<bool>,
+        import: &'a Import,
+    ) -> Result<(), NoMemory>
+        requires lookups { AreLookups self.now }
+        requires followed { AreFollowed self.now.graph.now.nodes followed.now search.now.marks }
+        ensures spread { OnOk result (Spread search.old (from_import self.now.graph.now.nodes import.now) search.new) }
+        ensures followed { OnOk result (AreFollowed self.now.graph.now.nodes followed.new search.new.marks) }
+    {
+        let pair = (import.module.as_str(), import.field.as_str());
+        match self.last.get(&pair) {
+            Some(last) => {
+                if is_set(followed.as_slice(), *last) {
+                    return Ok(());
+                }
+                self.visit_standing(search, import, *last)?;
+                set_flag(followed, *last);
+                Ok(())
+            }
+            None => Ok(()),
+        }
     }
 
     fn visit_from_export(&self, search: &mut Search, desc: ExportDesc) -> Result<(), NoMemory>
@@ -178,9 +209,16 @@ impl<'a> Walk<'a> {
     }
 
     /// Meets the points to which edges lead from a point.
-    pub(crate) fn visit_edges(&self, search: &mut Search, point: Point) -> Result<(), NoMemory>
+    pub(crate) fn visit_edges(
+        &self,
+        search: &mut Search,
+        followed: &mut Items<bool>,
+        point: Point,
+    ) -> Result<(), NoMemory>
         requires lookups { AreLookups self.now }
-        ensures { OnOk result (Spread search.old (edges self.now.graph.now self.now.«module».now point) search.new) }
+        requires followed { AreFollowed self.now.graph.now.nodes followed.now search.now.marks }
+        ensures spread { OnOk result (Spread search.old (edges self.now.graph.now self.now.«module».now point) search.new) }
+        ensures followed { OnOk result (AreFollowed self.now.graph.now.nodes followed.new search.new.marks) }
     {
         match point {
             Point::Node(place) => match self.graph.nodes.get(place as usize) {
@@ -192,7 +230,7 @@ impl<'a> Walk<'a> {
                 None => Ok(()),
             },
             Point::Import(place) => match self.module.imports.get(place as usize) {
-                Some(import) => self.visit_from_import(search, import),
+                Some(import) => self.visit_from_import(search, followed, import),
                 None => Ok(()),
             },
             Point::Func(func) => self.visit_from_func(search, func),

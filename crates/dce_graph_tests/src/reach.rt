@@ -21,6 +21,10 @@ const LINKED: &[u8] =
 const ROOTS: &[u8] =
     b"\0asm\x01\0\0\0\x01\x04\x01\x60\x00\x00\x02\x1E\x04\x01m\x01t\x01\x70\x00\x0A\x01m\x01p\x02\x00\x01\x01m\x01g\x03\x7F\x00\x01m\x01h\x03\x7F\x00\x03\x07\x06\x00\x00\x00\x00\x00\x00\x06\x0B\x02\x7F\x01\x41\x07\x0B\x70\x00\xD2\x02\x0B\x07\x09\x02\x01x\x03\x03\x01t\x01\x00\x08\x01\x01\x09\x0F\x03\x00\x23\x00\x0B\x01\x03\x01\x00\x01\x04\x03\x00\x01\x05\x0A\x13\x06\x02\x00\x0B\x02\x00\x0B\x02\x00\x0B\x02\x00\x0B\x02\x00\x0B\x02\x00\x0B\x0B\x07\x01\x00\x23\x01\x0B\x01\x2A";
 
+// Two functions, imported by one module and field and exported as a and b.
+const IMPORTED_TWICE: &[u8] =
+    b"\0asm\x01\0\0\0\x01\x04\x01\x60\x00\x00\x02\x13\x02\x03env\x02cb\x00\x00\x03env\x02cb\x00\x00\x07\x09\x02\x01a\x00\x00\x01b\x00\x01";
+
 fn valid_of(alloc: Global, bytes: &[u8]) -> Result<Valid, Fail> {
     if bytes.len() >= 0x1_0000_0000 {
         return Err(Fail::new("too long"));
@@ -110,5 +114,14 @@ fn an_exported_global_reaches_its_initialiser(rt: HostRuntime) -> Result<(), Fai
         all_shown(rt.alloc(), &marks)?.as_str(),
         "+++- +- ++++ -++++- ++-+"
     );
+    Ok(())
+}
+
+#[test]
+fn imports_of_one_module_and_field_reach_the_same_nodes(rt: HostRuntime) -> Result<(), Fail> {
+    let text =
+        b"[{\"name\":\"a\",\"root\":true,\"export\":\"a\"},{\"name\":\"b\",\"root\":true,\"export\":\"b\"},{\"name\":\"c\",\"import\":[\"env\",\"cb\"]},{\"name\":\"d\",\"import\":[\"env\",\"cc\"]},{\"name\":\"e\",\"import\":[\"env\",\"cb\"]}]";
+    let marks = marks_of(rt.alloc(), IMPORTED_TWICE, text)?;
+    assert_eq!(rt; all_shown(rt.alloc(), &marks)?.as_str(), "+++-+ ++ ++ ++ ");
     Ok(())
 }

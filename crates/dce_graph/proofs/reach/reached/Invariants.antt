@@ -1,11 +1,15 @@
 use Rattle.std.proofs.Common.{length, ◌+◌}
 use Rattle.dce_graph.specs.Marks.{unmarked}
 use Rattle.dce_graph.specs.Reach.{routes}
+use Rattle.dce_graph.specs.Walks.{AreFollowed}
 use Rattle.dce_graph.proofs.Searching.{Good}
 use Rattle.dce_graph.proofs.reach.reached.Given as goal
 
 abbrev pub invariant-loop-point : goal.invariant-loop-point
-invariant-loop-point l = Good (routes l.graph l.input) l.search
+invariant-loop-point l = record {
+  good : Good (routes l.graph l.input) l.search;
+  followed : AreFollowed l.graph.nodes l.followed l.search.marks;
+}
 
 abbrev pub decreases-loop-point : goal.decreases-loop-point
 decreases-loop-point l = unmarked l.search.marks + length l.search.stack

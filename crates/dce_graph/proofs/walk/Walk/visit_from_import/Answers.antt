@@ -1,43 +1,35 @@
-use Rattle.std.proofs.Common.{◌≡◌, ◌∙◌, ap, take, rules}
-use Rattle.std.proofs.lemmas.Option.{slice_get_within, get_or_from_slice_get}
-use Rattle.dce_graph.specs.Walks.{is_of_pair, last_place}
-use Rattle.dce_graph.proofs.StandingNodes.{meeting_starts, meeting_last, meeting_more, meeting_ends, nearer, next_is}
+use Rattle.std.proofs.Common.{◌∙◌, sym, ap, subst, false, get_or}
+use Rattle.dce_graph.specs.Reach.{from_import, stands_for}
+use Rattle.dce_graph.specs.Walks.{AreFollowed}
+use Rattle.dce_graph.proofs.Following.{met_already, none_stands, one_followed, stands_last}
 use Rattle.dce_graph.proofs.walk.Walk.visit_from_import.Goals as goal
 
-pub loop-next-init : goal.loop-next-init
-loop-next-init c =
+pub returns-then-is_set-clause-spread : goal.returns-then-is_set-clause-spread
+returns-then-is_set-clause-spread c =
+    let import = c.args.import.now in
+    let w = c.args.self.now in
+    let last = stands_last w import.«module» import.field _ _ _ c.requires.lookups c.in-Some.ensures.value c.as_str.ensures.text c.as_str-2.ensures.text in
+    met_already c.args.search.now (from_import w.graph.now.nodes import)
+    (c.requires.followed import.«module» import.field c.in-Some.last.now last (ap (λ fs. get_or fs c.in-Some.last.now false) (sym c.as_slice.ensures) ∙ sym c.is_set.ensures ∙ c.if-is_set.true))
+
+pub visit_standing-requires-clause-last : goal.visit_standing-requires-clause-last
+visit_standing-requires-clause-last c =
+    let import = c.args.import.now in
+    stands_last c.args.self.now import.«module» import.field _ _ _ c.requires.lookups c.in-Some.ensures.value c.as_str.ensures.text c.as_str-2.ensures.text
+
+pub returns-in_ok-visit_standing-in-Some-clause-followed : goal.returns-in_ok-visit_standing-in-Some-clause-followed
+returns-in_ok-visit_standing-in-Some-clause-followed c =
     let import = c.args.import.now in
     let nodes = c.args.self.now.graph.now.nodes in
-    meeting_starts nodes (is_of_pair import.«module» import.field) c.copied-next.result c.args.search.now
-    (c.copied-next.ensures ∙ c.get.ensures.value ∙ c.requires.lookups.standing.last_one c.as_str.result.now c.as_str-2.result.now ∙ ap (λ a. last_place (is_of_pair a c.as_str-2.result.now) nodes 0) c.as_str.ensures.text ∙ ap (λ b. last_place (is_of_pair import.«module» b) nodes 0) c.as_str-2.ensures.text)
+    let followed = c.args.followed.now in
+    let new = c.visit_standing.new.search in
+    let last = stands_last c.args.self.now import.«module» import.field _ _ _ c.requires.lookups c.in-Some.ensures.value c.as_str.ensures.text c.as_str-2.ensures.text in
+    subst (λ fs. AreFollowed nodes fs new.marks) (sym c.set_flag.ensures)
+    (one_followed nodes followed c.args.search.now new import.«module» import.field c.in-Some.last.now c.requires.followed last c.in_ok-visit_standing-in-Some.ensures)
 
-pub index-next-requires : goal.index-next-requires
-index-next-requires c =
+pub returns-in-None-clause-spread : goal.returns-in-None-clause-spread
+returns-in-None-clause-spread c =
     let import = c.args.import.now in
     let w = c.args.self.now in
-    let l = meeting_last w.graph.now.nodes (is_of_pair import.«module» import.field) c.loop-next.next c.args.search.now c.loop-next.search c.in-Some.place c.loop-next.invariant c.in-Some.is in
-    let within = slice_get_within w.before.items c.in-Some.place _ (next_is w import.«module» import.field l.0 c.in-Some.place c.requires.lookups l.1) in
-    search (rules, within)
-
-pub loop-next-smaller : goal.loop-next-smaller
-loop-next-smaller c =
-    let import = c.args.import.now in
-    let w = c.args.self.now in
-    let test = is_of_pair import.«module» import.field in
-    let l = meeting_last w.graph.now.nodes test c.loop-next.next c.args.search.now c.loop-next.search c.in-Some.place c.loop-next.invariant c.in-Some.is in
-    let follows : c.index-next.result.now ≡ last_place test (take c.in-Some.place w.graph.now.nodes) 0 = c.index-next.ensures ∙ get_or_from_slice_get w.before.items c.in-Some.place _ c.index-next.result.now (next_is w import.«module» import.field l.0 c.in-Some.place c.requires.lookups l.1) in
-    nearer w.graph.now.nodes test c.loop-next.next c.index-next.result.now c.in-Some.place (slice_get_within w.graph.now.nodes c.in-Some.place l.1.element l.1.at) c.in-Some.is follows
-
-pub loop-next-preserved : goal.loop-next-preserved
-loop-next-preserved c =
-    let import = c.args.import.now in
-    let w = c.args.self.now in
-    let test = is_of_pair import.«module» import.field in
-    let l = meeting_last w.graph.now.nodes test c.loop-next.next c.args.search.now c.loop-next.search c.in-Some.place c.loop-next.invariant c.in-Some.is in
-    let follows : c.index-next.result.now ≡ last_place test (take c.in-Some.place w.graph.now.nodes) 0 = c.index-next.ensures ∙ get_or_from_slice_get w.before.items c.in-Some.place _ c.index-next.result.now (next_is w import.«module» import.field l.0 c.in-Some.place c.requires.lookups l.1) in
-    meeting_more w.graph.now.nodes test c.loop-next.next c.index-next.result.now c.args.search.now c.loop-next.search c.visit.new.search c.in-Some.place c.loop-next.invariant c.in-Some.is c.in_ok-visit.ensures follows
-
-pub returns : goal.returns
-returns c =
-    let import = c.args.import.now in
-    meeting_ends c.args.self.now.graph.now.nodes (is_of_pair import.«module» import.field) c.loop-next.next c.args.search.now c.loop-next.search c.loop-next.invariant c.in_default.is
+    none_stands w.graph.now.nodes (stands_for import) c.args.search.now
+    (stands_last w import.«module» import.field _ _ _ c.requires.lookups c.in-None.ensures.value c.as_str.ensures.text c.as_str-2.ensures.text)
