@@ -1,0 +1,5 @@
+//! Tests of what marks keep of a list.
+#![tactic(auto)]
+
+#[cfg(test)]
+mod tests;
