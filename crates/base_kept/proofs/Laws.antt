@@ -148,7 +148,7 @@ before_most (false ∷ bs) (suc n) = let l = before_most bs n in omega (arith, l
 -- ---- lists that are chosen from others ----
 
 -- each element from which something is chosen is kept exactly where that is
-abbrev AreKeptAlike : {A : Type 0} → (A → Bool) → List Bool → List Bool → List A → ℕ → Type 0
+abbrev pub AreKeptAlike : {A : Type 0} → (A → Bool) → List Bool → List Bool → List A → ℕ → Type 0
 AreKeptAlike test bs cs xs from = (i n : ℕ) → slice_get (places test xs from) i ≡ Some (from + n) → is_marked bs n ≡ is_marked cs i
 
 -- then the choice from what is kept is what is kept of the choice

@@ -78,7 +78,7 @@ operands_inside i =
     ∙ ap (λ os. os ++ flat_map (λ ps. ps) (held (map-Instr Instr (List Operand) all_operands (out-Instr i)))) (operands_map all_operands (out-Instr i))
     ∙ ap (λ oss. operands_of i ++ flat_map (λ ps. ps) oss) (held_map all_operands (out-Instr i))
 
-named_inside : (i : Instr) → named_points i ≡ filter_map operand_point (operands_of i) ++ body_points (held (out-Instr i))
+pub named_inside : (i : Instr) → named_points i ≡ filter_map operand_point (operands_of i) ++ body_points (held (out-Instr i))
 named_inside i = ap (filter_map operand_point) (operands_inside i) ∙ filter_map-append operand_point (operands_of i) (body_operands (held (out-Instr i)))
 
 named_with : (i : Instr) (inner : List Instr) → held (out-Instr i) ≡ inner → named_points i ≡ filter_map operand_point (operands_of i) ++ body_points inner

@@ -3,7 +3,7 @@ use Rattle.std.proofs.Common.{◌≡◌, ◌∙◌, ap, ap₂, sym, refl, ℕ, z
 use Rattle.std.specs.Prelude.{Contains}
 use Rattle.std.specs.List.{cons_option, flat_map, list_all}
 use Rattle.std.proofs.lemmas.List.Folds.{list_all-append}
-use Rattle.std.proofs.lemmas.List.Elements.{Contains-append_left, Contains-append_right}
+use Rattle.std.proofs.lemmas.List.Elements.{Contains-append_left, Contains-append_right, filter_map-append}
 use Rattle.std.proofs.lemmas.Option.{slice_get_within, slice_get-get_or, get_or_from_slice_get}
 use Rattle.base_lists.specs.Every.{Every}
 use Rattle.base_lists.specs.Places.{places}
@@ -17,7 +17,7 @@ use Rattle.wasm_tree.specs.Operands.{operands_of, held, operands_pass, all_opera
 use Rattle.wasm_tree.proofs.OperandLaws.{by_held, passes_inside}
 use Rattle.base_kept.specs.Kept.{is_marked}
 use Rattle.dce_graph.specs.declared.point.Point.{Point}
-use Rattle.dce_graph.specs.Reach.{operand_point, named_points, body_points}
+use Rattle.dce_graph.specs.Reach.{operand_point, all_operands, body_operands, named_points, body_points}
 use Rattle.dce_graph.proofs.Walking.{named_inside}
 
 -- ---- lists ----
@@ -108,7 +108,7 @@ module _ (test : Point → Bool) where
 
   lists : (is : List Instr) → Every Alike is → list_all test (body_points is) ≡ all_operands_pass passes is
   lists [] h = refl
-  lists (i ∷ is) h = list_all-append test (named_points i) (body_points is) ∙ ap₂ (λ a b. a && b) h.0 (lists is h.1)
+  lists (i ∷ is) h = ap (list_all test) (filter_map-append operand_point (all_operands i) (body_operands is)) ∙ list_all-append test (named_points i) (body_points is) ∙ ap₂ (λ a b. a && b) h.0 (lists is h.1)
 
   inside : (i : Instr) → Every Alike (held (out-Instr i)) → Alike i
   inside i h =
