@@ -53,7 +53,7 @@ use Rattle.dce_graph.specs.declared.point.Point.{Point}
 use Rattle.dce_graph.specs.declared.point.Point.TheVariants.{Node, Export, Import, Func, Global}
 use Rattle.dce_graph.specs.Marks.{marked}
 use Rattle.dce_graph.specs.Reach.{IsReached, IsThere, root, along, routes, roots, edges, edges_of, place_of, point_count, point_of, body_points, const_point, const_points, imports_into, from_node, from_export, from_import, from_funcs, from_globals, export_of_node, elem_points, data_points, root_nodes, start_points, import_points, module_roots, stays_imported, stands_for, export_named}
-use Rattle.dce_reach_proof.specs.Exact.{AreExact, marks_of}
+use Rattle.dce_sweep_spec.specs.Reached.{AreExact, marks_of}
 use Rattle.dce_reach_proof.proofs.Points.{has, contains, contains_joined, contains_chosen, none_fails, all_mapped, all_joined, all_chosen, marked_drop, places_apart, point_passes, passes, body_passes}
 
 -- ---- imports ----

@@ -1,7 +1,7 @@
 //! That marks which are exactly on what is reached are closed, as a law.
 #![tactic(auto)]
 
-ghost use Rattle.dce_reach_proof.specs.Exact.{ReachedMarksAreClosed};
+ghost use Rattle.dce_reach_proof.specs.Laws.{ReachedMarksAreClosed};
 
 use index_remap_proof::renumbering_keeps_typing;
 use wasm_tree::operands_pass_layer_by_layer;

@@ -4,7 +4,7 @@ ghost use Rattle.std.specs.Prelude.{◌≡◌, ◌≤◌, ◌<◌, ◌^◌, leng
 ghost use Rattle.base_lists.specs.Places as places;
 ghost use Rattle.wasm_tree.specs.Bounds.{IsBounded};
 ghost use Rattle.dce_sweep_spec.specs.Swept as swept;
-ghost use Rattle.dce_reach_proof.specs.Exact.{marks_of};
+ghost use Rattle.dce_sweep_spec.specs.Reached.{marks_of};
 
 use base_kept::{add_numbers, new_places};
 use dce_graph::Reached;

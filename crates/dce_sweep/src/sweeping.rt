@@ -8,7 +8,7 @@ ghost use Rattle.wasm_tree.specs.declared.module.Module.{Module as Tree};
 ghost use Rattle.wasm_valid.specs.Validity.{IsValid};
 ghost use Rattle.dce_behaves_proof.specs.Laws.{BehavesAs};
 ghost use Rattle.dce_sweep.specs.declared.faults.SweepFault.TheVariants.{NoMemory as OutOfMemory};
-ghost use Rattle.dce_reach_proof.specs.Exact.{marks_of};
+ghost use Rattle.dce_sweep_spec.specs.Reached.{marks_of};
 ghost use Rattle.dce_sweep.specs.Sweeps.{Sweeps};
 
 use crate::faults::SweepFault;

@@ -2,3 +2,4 @@ pub mod Marks
 pub mod Swept
 pub mod Closed
 pub mod Unswept
+pub mod Reached

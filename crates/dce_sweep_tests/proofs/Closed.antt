@@ -11,7 +11,7 @@ use Rattle.wasm_tree.specs.Bounds.{local_count}
 use Rattle.index_remap_proof.specs.Indices.{FuncNamesOnly, ExportNamesOnly}
 use Rattle.dce_sweep_spec.specs.Marks.{stays}
 use Rattle.dce_sweep_spec.specs.Closed.{AreClosed}
-use Rattle.dce_reach_proof.specs.Exact.{marks_of}
+use Rattle.dce_sweep_spec.specs.Reached.{marks_of}
 use Rattle.dce_sweep_tests.specs.Two.{blank, two, second}
 
 func_names : (i : ℕ) (f : Func) → slice_get (blank ∷ []) i ≡ Some f → FuncNamesOnly (stays (marks_of second)) f

@@ -1,7 +1,7 @@
 use Rattle.std.proofs.Common.{◌≡◌, Some, slice_get, set, arith, ap, ◌∙◌}
 use Rattle.base_lists.proofs.Walk.{part_at, part_more, none_past}
 use Rattle.dce_sweep_spec.specs.Swept.{kept_elem}
-use Rattle.dce_reach_proof.specs.Exact.{marks_of}
+use Rattle.dce_sweep_spec.specs.Reached.{marks_of}
 use Rattle.dce_sweep.proofs.kept.keep_declared.Goals as goal
 use Rattle.dce_sweep.proofs.kept.keep_declared.Goals.{in-Some+in_ok-keep_items, in_default}
 

@@ -1,7 +1,7 @@
 use Rattle.std.proofs.Common.{◌≡◌}
 use Rattle.base_lists.proofs.Walk.{part}
 use Rattle.dce_sweep_spec.specs.Swept.{kept_elem}
-use Rattle.dce_reach_proof.specs.Exact.{marks_of}
+use Rattle.dce_sweep_spec.specs.Reached.{marks_of}
 use Rattle.dce_sweep.proofs.kept.keep_declared.Given as goal
 
 abbrev pub invariant-loop-at : goal.invariant-loop-at

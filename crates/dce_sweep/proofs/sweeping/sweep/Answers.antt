@@ -4,7 +4,7 @@ use Rattle.wasm_valid.specs.Validity.{IsValid}
 use Rattle.module_limits.specs.Counts.{over_limit}
 use Rattle.dce_behaves_proof.specs.Laws.{BehavesAs}
 use Rattle.dce_sweep_spec.specs.Swept.{swept}
-use Rattle.dce_reach_proof.specs.Exact.{marks_of}
+use Rattle.dce_sweep_spec.specs.Reached.{marks_of}
 use Rattle.dce_sweep.specs.Sweeps.{outcome}
 use Rattle.dce_sweep.proofs.Parts.{left_is}
 use Rattle.dce_sweep.proofs.sweeping.sweep.Goals as goal

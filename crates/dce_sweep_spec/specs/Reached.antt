@@ -1,14 +1,12 @@
--- Marks that are exactly on what is reached.
+-- Marks of what is reached, by paths from the roots of a graph and a module.
 use Rattle.std.specs.Prelude.{◌≡◌, ◌↔◌, length, true}
 use Rattle.wasm_tree.specs.declared.module.Module.{Module}
-use Rattle.wasm_valid.specs.Validity.{IsValid}
 use Rattle.dce_graph.specs.declared.graph.Graph.{Graph}
 use Rattle.dce_graph.specs.declared.point.Point.{Point}
 use Rattle.dce_graph.specs.declared.marks.Reached.{Reached}
 use Rattle.dce_graph.specs.Marks.{flags, marked}
 use Rattle.dce_graph.specs.Reach.{IsReached, point_count}
 use Rattle.dce_sweep_spec.specs.Marks.{Marks}
-use Rattle.dce_sweep_spec.specs.Closed.{AreClosed}
 
 -- what is reached of a module is kept
 abbrev pub marks_of : Reached → Marks
@@ -18,6 +16,3 @@ marks_of r = record { exports = r.exports; imports = r.imports; funcs = r.funcs;
 pub record AreExact (g : Graph) (m : Module) (r : Reached) : Type 0 where
   pub exactly : (p : Point) → (marked r p ≡ true) ↔ IsReached g m p
   pub one_each : (p : Point) → length (flags r p) ≡ point_count g m p
-
-abbrev pub ReachedMarksAreClosed : Type 0
-ReachedMarksAreClosed = (g : Graph) (m : Module) (r : Reached) → IsValid m → AreExact g m r → AreClosed (marks_of r) m
