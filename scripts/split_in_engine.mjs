@@ -20,7 +20,7 @@ const [samples, program] = process.argv.slice(2);
 const ALONE = 6; // functions of a module that are split off alone
 const SLOTS = 16; // slots of a table that are looked at
 const ROUNDS = 3;
-const seen = { pairs: 0, "loaded at a call": 0, "loaded in a start": 0, "never loaded": 0, calls: 0, traps: 0, "calls through tables": 0, wrong: 0 };
+const seen = { pairs: 0, "loaded at a call": 0, "loaded in a start": 0, "never loaded": 0, "not instantiated": 0, calls: 0, traps: 0, "calls through tables": 0, wrong: 0 };
 
 // ---- reading a module (Core 2.0, chapter 5): what it imports, the types of its functions, their names ----
 
@@ -254,7 +254,11 @@ function compare(what, module, pair) {
   const whole = instantiated(alone, (imports) => new WebAssembly.Instance(new WebAssembly.Module(module.bytes), imports));
   const parts = instantiated(around, (imports) => new SplitInstance(pair.primary, () => pair.secondary, imports));
   seen.pairs += 1;
-  if (isWrong(`${what}: instantiated`, [parts !== null, ...around.log.splice(0)], [whole !== null, ...alone.log.splice(0)]) || whole === null) return;
+  if (isWrong(`${what}: instantiated`, [parts !== null, ...around.log.splice(0)], [whole !== null, ...alone.log.splice(0)])) return;
+  if (whole === null) {
+    seen["not instantiated"] += 1;
+    return;
+  }
   if (isWrong(`${what}: exports`, Object.keys(parts.exports), Object.keys(whole.exports))) return;
   const inStart = parts.loaded;
   if (!showTheSame(what, module, new Shown(around, parts.exports), new Shown(alone, whole.exports))) return;
