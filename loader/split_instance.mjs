@@ -43,7 +43,7 @@ export class SplitInstance {
     this.#names = { importNamespace, placeholderNamespace, exportPrefix };
     this.#secondary = secondary;
     const module = isModule(primary) ? primary : new WebAssembly.Module(exportStart(primary));
-    const { shown, doubtful, slots, start } = sorted(WebAssembly.Module.exports(module), exportPrefix);
+    const { shown, doubtful, slots, start } = layoutOf(WebAssembly.Module.exports(module), exportPrefix);
     const instance = new WebAssembly.Instance(module, this.#withPlaceholders(module, imports));
     this.#instance = instance;
     this.#slots = instance.exports[slots];
@@ -171,7 +171,7 @@ const ORDER = Object.keys(LETTERS);
 
 // The exports of a primary: those of the input, those of which only the secondary tells whether they were added, the slot table, and a start
 // function that was exported behind it.
-function sorted(exports, prefix) {
+function layoutOf(exports, prefix) {
   const slots = `${prefix}slots`;
   const at = exports.findIndex(({ name }) => name === slots);
   const behind = exports.slice(at + 1);
