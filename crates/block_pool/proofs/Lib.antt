@@ -15,3 +15,5 @@ pub mod Rooms
 pub mod Copied
 pub mod Counted
 pub mod Scanned
+pub mod Stored
+mod Rows

@@ -1,6 +1,6 @@
 -- Whether so many bytes can be written, and how far a write in several steps has come.
-use Rattle.std.proofs.Common.{◌≡◌, ℕ, zero, suc, ◌+◌, ◌-◌, ◌*◌, ◌/◌, ◌<◌, ◌≤◌, List, [], ◌∷◌, ◌++◌, length, map, Bool, true, false, ◌||◌, slice_index_or, count_by, refl, sym, ap, ap₂, ◌∙◌, arith, zero-add, take, drop, replicate, slice_index, length-take-le, length-drop}
-use Rattle.std.proofs.lemmas.List.{length-map, take-replicate}
+use Rattle.std.proofs.Common.{◌≡◌, ℕ, zero, suc, ◌+◌, ◌-◌, ◌*◌, ◌/◌, ◌<◌, ◌≤◌, List, [], ◌∷◌, ◌++◌, length, map, Bool, true, false, ◌||◌, slice_index_or, count_by, refl, sym, ap, ap₂, ◌∙◌, arith, zero-add, take, drop, length-take-le, length-drop}
+use Rattle.std.proofs.lemmas.List.{length-map}
 use Rattle.block_pool.specs.Pages.{Pages, Writes, Fits, reaches, with_reached}
 use Rattle.block_pool.specs.Table.{is_present, slot_at, pages_of, IsSound, IsFixed}
 use Rattle.block_pool.specs.declared.table.Slot.{Slot}
@@ -97,6 +97,10 @@ next_piece xs d n = ap (λ m. take m (drop d xs)) (let e : d + n - d ≡ n = ome
 pub piece_size : (xs : List ℕ) (d n : ℕ) → d + n ≤ length xs → length (take n (drop d xs)) ≡ n
 piece_size xs d n h = length-take-le n (drop d xs) (simp length-drop (omega arith))
 
--- the first bytes of a block of one byte
-pub some_alike : (xs : List ℕ) (n : ℕ) → xs ≡ replicate 4096 (slice_index xs 0) → n ≤ 4096 → take n xs ≡ replicate n (slice_index xs 0)
-some_alike xs n e h = ap (take n) e ∙ take-replicate n 4096 (slice_index xs 0) h
+-- what was written had room
+pub written_fits : (t u : Table) (at : ℕ) (bytes : List ℕ) → IsSound u → Writes (pages_of t) (pages_of u) at bytes → Fits (pages_of t) at (length bytes)
+written_fits t u at bytes sound w =
+    let many : count (with_reached at (length bytes) 0 (map is_present t.slots.items)) ≡ u.written = ap (λ c. count c.written) (sym w.now) ∙ written_is u sound in
+    let most : u.most ≡ t.most = w.most in
+    let below : u.written ≤ u.most = sound.most in
+    omega arith

@@ -6,8 +6,6 @@ mod paged;
 mod pool;
 mod ranges;
 mod table;
-#[cfg(test)]
-mod tests;
 
 pub use paged::{Full, Paged};
 pub use pool::{BlockId, Pool};

@@ -43,7 +43,7 @@ fn slots(alloc: Global, count: usize) -> Result<Vec<Slot>, NoMemory>
 }
 
 impl Paged {
-    /// A memory of `size` zero bytes of which at most `most` blocks may be written. The pool needs two spare blocks for each of these, one of them for the bytes of the mark. For want of memory the pool is given up.
+    /// A memory of `size` zero bytes of which at most `most` blocks may be written. The pool needs two spare blocks for each of these, one of them for the bytes of the mark. For want of memory the pool is given up; where the numbers of its blocks may pass 2^32 the answer is `NoMemory` too.
     ///
     /// Besides the pool it takes 12 bytes for each block of the memory and 4 for each block that may be written.
     pub fn new(alloc: Global, pool: Pool, size: u64, most: u32) -> Result<Paged, NoMemory>
@@ -99,11 +99,12 @@ impl Paged {
     {
         let at = at as usize;
         let width = width as usize;
-        if !self.table.has_room(at, width) {
+        if self.table.store_ready(at, width, value) {
+            return Ok(());
+        }
+        if !self.table.store_anew(at, width, value) {
             return Err(Full);
         }
-        let bytes = value.to_le_bytes();
-        self.table.put(at, &bytes[..width]);
         Ok(())
     }
 

@@ -1,5 +1,6 @@
-ghost use Rattle.std.specs.Prelude.{◌≡◌, ◌+◌, ◌<◌, ◌≤◌, [], length, max, None, Some, OnOk, OnErr};
+ghost use Rattle.std.specs.Prelude.{◌≡◌, ◌+◌, ◌<◌, ◌≤◌, [], length, max, replicate, None, Some, OnOk, OnErr};
 ghost use Rattle.std.specs.Borrow.{sem};
+ghost use Rattle.block_pool.specs.Pages.{IsWidth, little_bytes};
 ghost use Rattle.block_pool.specs.Blocks.{held, IsLive, used, zeros, Changes, WritesPart};
 
 use slab::Slab;
@@ -55,7 +56,7 @@ impl Pool {
         }
     }
 
-    /// Makes at least `count` blocks spare, where there are fewer. For want of memory the pool stays as it was. A block that becomes spare is not touched.
+    /// Makes at least `count` blocks spare, where there are fewer. For want of memory the live and the spare blocks stay as they were; only the bound on the numbers of blocks (`numbers`) may have risen. A block that becomes spare is not touched.
     pub fn reserve(&mut self, count: usize) -> Result<(), NoMemory>
         ensures slots { self.new.slots ≡ self.old.slots }
         ensures ok { OnOk result (self.new.spare ≡ max self.old.spare count) }
@@ -152,12 +153,40 @@ impl Pool {
     }
 
     /// Writes bytes to a part of a live block. Other blocks stay.
+    #[inline(always)]
     pub(crate) fn write(&mut self, block: &BlockId, offset: usize, bytes: &[u8])
         requires live { IsLive self.old block.now.number }
         requires within { offset + length bytes.now ≤ 4096 }
         ensures wrote { WritesPart self.old self.new block.now.number offset bytes.now }
     {
         self.bytes_mut(block)[offset..offset + bytes.len()].copy_from_slice(bytes);
+    }
+
+    /// Writes the same byte to each place of a part of a live block. Other blocks stay.
+    pub(crate) fn fill(&mut self, block: &BlockId, offset: usize, byte: u8, count: usize)
+        requires live { IsLive self.old block.now.number }
+        requires within { offset + count ≤ 4096 }
+        ensures filled { WritesPart self.old self.new block.now.number offset (replicate count byte) }
+    {
+        self.bytes_mut(block)[offset..offset + count].fill(byte);
+    }
+
+    /// Writes the lowest bytes of a number to a part of a live block, the lowest first. Other blocks stay.
+    #[inline(always)]
+    pub(crate) fn write_number(&mut self, block: &BlockId, offset: usize, width: usize, value: u64)
+        requires live { IsLive self.old block.now.number }
+        requires width { IsWidth width }
+        requires within { offset + width ≤ 4096 }
+        ensures wrote { WritesPart self.old self.new block.now.number offset (little_bytes width value) }
+    {
+        let bytes = value.to_le_bytes();
+        // Each arm writes as many bytes as its width says, which the compiler then knows.
+        match width {
+            8 => self.write(block, offset, &bytes),
+            4 => self.write(block, offset, &bytes[..4]),
+            2 => self.write(block, offset, &bytes[..2]),
+            _ => self.write(block, offset, &bytes[..1]),
+        }
     }
 
     /// The number of live blocks.

@@ -1,11 +1,14 @@
-ghost use Rattle.std.specs.Prelude.{◌≡◌, ◌≢◌, ◌+◌, ◌*◌, ◌/◌, ◌%◌, ◌<◌, ◌≤◌, ◌↔◌, ℕ, length, replicate, None, Some, IfSome, IfNone, IsNone, IsTrue, slice_index, if◌then◌else◌};
+ghost use Rattle.std.specs.Prelude.{◌≡◌, ◌≢◌, ◌+◌, ◌*◌, ◌/◌, ◌%◌, ◌<◌, ◌≤◌, ◌↔◌, ℕ, length, replicate, false, None, Some, IfSome, IfNone, IsNone, IsTrue, slice_index, if◌then◌else◌};
 ghost use Rattle.block_pool.specs.declared.table.Slot.TheVariants.{Absent};
-ghost use Rattle.block_pool.specs.Pages.{IsWidth, IsNextNonzero, IsZeroFrom, IsZeroTo, Writes, Fits, part, little};
+ghost use Rattle.block_pool.specs.Pages.{IsWidth, IsNextNonzero, IsZeroFrom, IsZeroTo, Writes, Fits, part, little, little_bytes};
 ghost use Rattle.block_pool.specs.Table.{IsSound, IsFixed, IsBlock, IsZeroBlock, pages_of, is_present, slot_at};
 
 use crate::numbers::{first_nonzero, number};
 use crate::pool::BLOCK_BYTES;
-use crate::table::{Slot, Table, block};
+use crate::table::{Table, block};
+
+// So many bytes are copied through a small buffer, since a buffer of a block costs more than they do.
+const SMALL_COPY: usize = 64;
 
 impl Table {
     // The bytes of a block that was written.
@@ -15,11 +18,9 @@ impl Table {
         ensures some { IfSome result (λ bytes. IsBlock self.now number bytes.now) }
         ensures none { IfNone result (IsZeroBlock self.now number) }
     {
-        match self.slots[number] {
-            Slot::Absent => None,
-            Slot::Kept(present) => Some(self.pool.bytes(&block(present))),
-            Slot::New(present) => Some(self.pool.bytes(&block(present))),
-            Slot::Changed { present, older: _ } => Some(self.pool.bytes(&block(present))),
+        match self.slots[number].present() {
+            Some(present) => Some(self.pool.bytes(&block(present))),
+            None => None,
         }
     }
 
@@ -28,11 +29,9 @@ impl Table {
         requires { number < length self.now.slots.items }
         ensures { result ≡ (if is_present (slot_at self.now.slots.items number) then 0 else 1) }
     {
-        match self.slots[number] {
-            Slot::Absent => 1,
-            Slot::Kept(_) => 0,
-            Slot::New(_) => 0,
-            Slot::Changed { .. } => 0,
+        match self.slots[number].present() {
+            Some(_) => 0,
+            None => 1,
         }
     }
 
@@ -84,6 +83,20 @@ impl Table {
         }
     }
 
+    // What may lie in two blocks.
+    #[inline(never)]
+    fn load_across(&self, at: usize, width: usize) -> u64
+        requires sound { IsSound self.now }
+        requires width { IsWidth width }
+        requires inside { at + width ≤ self.now.size }
+        ensures { result ≡ little (part (pages_of self.now).now.bytes at width) }
+    {
+        let mut bytes = [0; 8];
+        self.read(at, &mut bytes[..width]);
+        number(&bytes[..width])
+    }
+
+    #[inline(always)]
     pub(crate) fn load(&self, at: usize, width: usize) -> u64
         requires sound { IsSound self.now }
         requires width { IsWidth width }
@@ -97,9 +110,7 @@ impl Table {
                 None => 0,
             };
         }
-        let mut bytes = [0; 8];
-        self.read(at, &mut bytes[..width]);
-        number(&bytes[..width])
+        self.load_across(at, width)
     }
 
     // Writes bytes of one block.
@@ -133,22 +144,38 @@ impl Table {
         }
     }
 
-    // Writes a byte so many times, from a block of it.
-    fn repeat(&mut self, at: usize, block: &[u8], count: usize)
+    // Writes a number to a block that is not ready for it, or to two blocks. False where there is no room, and nothing changes.
+    #[inline(never)]
+    pub(crate) fn store_anew(&mut self, at: usize, width: usize, value: u64) -> bool
         requires sound { IsSound self.old }
-        requires alike { block.now ≡ replicate 4096 (slice_index block.now 0) }
-        requires inside { at + count ≤ self.old.size }
-        requires room { Fits (pages_of self.old) at count }
+        requires width { IsWidth width }
+        requires inside { at + width ≤ self.old.size }
         ensures sound { IsSound self.new }
-        ensures writes { Writes (pages_of self.old) (pages_of self.new) at (replicate count (slice_index block.now 0)) }
+        ensures fits { IsTrue result ↔ Fits (pages_of self.old) at width }
+        ensures writes { IsTrue result → Writes (pages_of self.old) (pages_of self.new) at (little_bytes width value) }
+        ensures same { result ≡ false → self.new ≡ self.old }
     {
-        let mut done = 0;
-        while done < count {
-            let place = at + done;
-            let some = (BLOCK_BYTES - place % 4096).min(count - done);
-            self.write_within(place, &block[..some]);
-            done += some;
+        if !self.has_room(at, width) {
+            return false;
         }
+        let bytes = value.to_le_bytes();
+        self.put(at, &bytes[..width]);
+        true
+    }
+
+    // Writes a byte so many times within one block.
+    fn fill_within(&mut self, at: usize, byte: u8, count: usize)
+        requires sound { IsSound self.old }
+        requires some { 0 < count }
+        requires within { at % 4096 + count ≤ 4096 }
+        requires inside { at + count ≤ self.old.size }
+        requires room { slot_at self.old.slots.items (at / 4096) ≡ Absent → self.old.written < self.old.most }
+        ensures sound { IsSound self.new }
+        ensures writes { Writes (pages_of self.old) (pages_of self.new) at (replicate count byte) }
+        ensures fixed { IsFixed self.old self.new }
+    {
+        let block = self.own(at / 4096);
+        self.pool.fill(&block, at % 4096, byte, count);
     }
 
     pub(crate) fn fill(&mut self, at: usize, byte: u8, count: usize)
@@ -158,7 +185,29 @@ impl Table {
         ensures sound { IsSound self.new }
         ensures writes { Writes (pages_of self.old) (pages_of self.new) at (replicate count byte) }
     {
-        self.repeat(at, &[byte; 4096], count);
+        let mut done = 0;
+        while done < count {
+            let place = at + done;
+            let some = (BLOCK_BYTES - place % 4096).min(count - done);
+            self.fill_within(place, byte, some);
+            done += some;
+        }
+    }
+
+    // Copies as many bytes as the buffer has, through it, to within a block.
+    fn copy_through(&mut self, to: usize, from: usize, buffer: &mut [u8])
+        requires sound { IsSound self.old }
+        requires some { 0 < length buffer.old }
+        requires within { to % 4096 + length buffer.old ≤ 4096 }
+        requires inside { to + length buffer.old ≤ self.old.size }
+        requires source { from + length buffer.old ≤ self.old.size }
+        requires room { slot_at self.old.slots.items (to / 4096) ≡ Absent → self.old.written < self.old.most }
+        ensures sound { IsSound self.new }
+        ensures writes { Writes (pages_of self.old) (pages_of self.new) to (part (pages_of self.old).now.bytes from (length buffer.old)) }
+        ensures fixed { IsFixed self.old self.new }
+    {
+        self.read(from, buffer);
+        self.write_within(to, buffer);
     }
 
     // Copies to within a block.
@@ -173,9 +222,11 @@ impl Table {
         ensures writes { Writes (pages_of self.old) (pages_of self.new) to (part (pages_of self.old).now.bytes from count) }
         ensures fixed { IsFixed self.old self.new }
     {
-        let mut bytes = [0; 4096];
-        self.read(from, &mut bytes[..count]);
-        self.write_within(to, &bytes[..count]);
+        if count <= SMALL_COPY {
+            self.copy_through(to, from, &mut [0; SMALL_COPY][..count]);
+        } else {
+            self.copy_through(to, from, &mut [0; BLOCK_BYTES][..count]);
+        }
     }
 
     // From the first byte on: no byte is written before it is read.

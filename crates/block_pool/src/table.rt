@@ -1,10 +1,10 @@
-ghost use Rattle.std.specs.Prelude.{◌≡◌, ◌≢◌, ◌+◌, ◌-◌, ◌*◌, ◌<◌, ◌≤◌, [], ◌∷◌, ◌++◌, length, take, drop, slice_set, true, None, Some, vec_capacity};
+ghost use Rattle.std.specs.Prelude.{◌≡◌, ◌≢◌, ◌+◌, ◌-◌, ◌*◌, ◌<◌, ◌≤◌, [], ◌∷◌, ◌++◌, length, take, drop, slice_set, true, false, None, Some, OnSome, IsTrue, vec_capacity};
 ghost use Rattle.block_pool.specs.Blocks.{used};
 ghost use Rattle.block_pool.specs.declared.table.Slot.TheVariants.{Absent, Kept};
-ghost use Rattle.block_pool.specs.Pages.{Writes, RollsBack, Commits};
+ghost use Rattle.block_pool.specs.Pages.{IsWidth, Fits, Writes, RollsBack, Commits, little_bytes};
 ghost use Rattle.block_pool.specs.Table.{IsSound, IsFixed, Claims, TakesBack, Settles, pages_of, present, is_changed, slot_at};
 
-use crate::pool::{BlockId, Pool};
+use crate::pool::{BLOCK_BYTES, BlockId, Pool};
 
 /// What the table knows of a block of the memory. The numbers are those of the pool's blocks.
 #[derive(Clone, Copy)]
@@ -17,6 +17,27 @@ pub(crate) enum Slot {
     New(u32),
     /// It was written before the mark and since. The older bytes are kept.
     Changed { present: u32, older: u32 },
+}
+
+impl Slot {
+    // The block of the pool that has the bytes as they are now.
+    pub(crate) fn present(self) -> Option<u32>
+        ensures { result ≡ present self }
+    {
+        match self {
+            Slot::Absent => None,
+            Slot::Kept(present) | Slot::New(present) | Slot::Changed { present, older: _ } => Some(
+                present,
+            ),
+        }
+    }
+
+    // Whether the block was written since the mark.
+    fn is_changed(self) -> bool
+        ensures { result ≡ is_changed self }
+    {
+        matches!(self, Slot::New(_) | Slot::Changed { .. })
+    }
 }
 
 /// A memory as the table of its blocks over a pool.
@@ -86,7 +107,7 @@ impl Table {
     }
 
     // The block of the pool to which the bytes of a block may be written, so that those of the mark stay.
-    fn own(&mut self, number: usize) -> BlockId
+    pub(crate) fn own(&mut self, number: usize) -> BlockId
         requires sound { IsSound self.old }
         requires inside { number < length self.old.slots.items }
         requires room { slot_at self.old.slots.items number ≡ Absent → self.old.written < self.old.most }
@@ -107,6 +128,44 @@ impl Table {
             }
             Slot::New(present) => block(present),
             Slot::Changed { present, older: _ } => block(present),
+        }
+    }
+
+    // The block of the pool to which the bytes of a block may be written as the table is.
+    #[inline(always)]
+    fn ready(&self, number: usize) -> Option<u32>
+        requires { number < length self.now.slots.items }
+        ensures named { OnSome result (present (slot_at self.now.slots.items number) ≡ result) }
+        ensures private { OnSome result (self.now.marked ≡ true → is_changed (slot_at self.now.slots.items number) ≡ true) }
+    {
+        let slot = self.slots[number];
+        if self.marked && !slot.is_changed() {
+            return None;
+        }
+        slot.present()
+    }
+
+    // Writes a number within a block that is ready for it. False where it is not, and nothing changes.
+    #[inline(always)]
+    pub(crate) fn store_ready(&mut self, at: usize, width: usize, value: u64) -> bool
+        requires sound { IsSound self.old }
+        requires width { IsWidth width }
+        requires inside { at + width ≤ self.old.size }
+        ensures sound { IsSound self.new }
+        ensures fits { IsTrue result → Fits (pages_of self.old) at width }
+        ensures writes { IsTrue result → Writes (pages_of self.old) (pages_of self.new) at (little_bytes width value) }
+        ensures same { result ≡ false → self.new ≡ self.old }
+    {
+        let offset = at % 4096;
+        if offset + width > BLOCK_BYTES {
+            return false;
+        }
+        match self.ready(at / 4096) {
+            Some(number) => {
+                self.pool.write_number(&block(number), offset, width, value);
+                true
+            }
+            None => false,
         }
     }
 

@@ -2,7 +2,7 @@ ghost use Rattle.std.specs.Prelude.{◌≡◌, ◌≤◌, ◌*◌, ◌^◌, IfOk
 ghost use Rattle.block_pool.specs.Blocks.{used};
 ghost use Rattle.block_pool.specs.Pages.{size};
 
-use super::{Full, Paged, Pool};
+use block_pool::{Full, Paged, Pool};
 use std::test::Fail;
 use wasm_bytes::NoMemory;
 

@@ -1,9 +1,0 @@
-use Rattle.std.proofs.Common.{◌≤◌, ◌-◌, replicate, slice_index}
-use Rattle.block_pool.proofs.Rooms.{Puts}
-use Rattle.block_pool.proofs.table.Table.repeat.Given as goal
-
-abbrev pub invariant-loop-done : goal.invariant-loop-done
-invariant-loop-done l = (l.done ≤ l.count) × Puts l.initial.self l.self l.at (replicate l.done (slice_index l.block 0))
-
-abbrev pub decreases-loop-done : goal.decreases-loop-done
-decreases-loop-done l = l.count - l.done
