@@ -1,4 +1,5 @@
-ghost use Rattle.std.specs.Prelude.{◌≡◌, ◌%◌, ◌<◌, ◌≤◌, IfOk, None};
+ghost use Rattle.std.specs.Prelude.{◌≡◌, ◌%◌, ◌^◌, ◌<◌, ◌≤◌, IfOk, None};
+ghost use Rattle.block_pool.specs.Blocks.{used};
 ghost use Rattle.block_pool.specs.Pages.{size};
 
 use block_pool::{Full, Paged, Pool};
@@ -60,13 +61,22 @@ impl Call {
     }
 }
 
-fn memory(alloc: Global) -> Result<Paged, NoMemory>
-    ensures size { IfOk result (λ p. size p ≡ SIZE) }
-    ensures mark { IfOk result (λ p. p.mark ≡ None) }
+fn pool(alloc: Global, count: usize) -> Result<Pool, NoMemory>
+    ensures spare { IfOk result (λ p. p.spare ≡ count) }
+    ensures unused { IfOk result (λ p. used p ≡ 0) }
 {
     let mut pool = Pool::new(alloc);
-    pool.reserve(2 * MOST as usize)?;
-    Paged::new(alloc, pool, SIZE, MOST)
+    pool.reserve(count)?;
+    Ok(pool)
+}
+
+fn memory(alloc: Global, bytes: u64, most: u32) -> Result<Paged, NoMemory>
+    requires { bytes ≤ 2 ^ 32 }
+    ensures size { IfOk result (λ p. size p ≡ bytes) }
+    ensures mark { IfOk result (λ p. p.mark ≡ None) }
+{
+    let pool = pool(alloc, 2 * most as usize)?;
+    Paged::new(alloc, pool, bytes, most)
 }
 
 // Each call stands in a function that is called, as it would be in a large program.
@@ -147,7 +157,7 @@ fn repeat(memory: &mut Paged, call: Call, count: u64) -> Result<u64, Full>
 
 // What the calls gave, in one number. None for want of memory or room.
 pub(crate) fn answer(alloc: Global, call: Call, count: u64) -> Option<u64> {
-    let mut memory = memory(alloc).ok()?;
+    let mut memory = memory(alloc, SIZE, MOST).ok()?;
     let told = repeat(&mut memory, call, count).ok()?;
     if !matches!(call, Call::Mark | Call::Rollback | Call::Commit) {
         return Some(told);
