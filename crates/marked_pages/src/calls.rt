@@ -17,7 +17,7 @@ pub(crate) const MOST: u32 = 16_384;
 pub(crate) enum Call {
     /// None: the loop alone.
     Nothing,
-    /// A load of eight bytes, in one of eight blocks.
+    /// A load of eight bytes, in one of eight blocks, which were written.
     Load,
     /// A store of eight bytes, in one of eight blocks.
     Store,
@@ -158,6 +158,9 @@ fn repeat(memory: &mut Paged, call: Call, count: u64) -> Result<u64, Full>
 // What the calls gave, in one number. None for want of memory or room.
 pub(crate) fn answer(alloc: Global, call: Call, count: u64) -> Option<u64> {
     let mut memory = memory(alloc, SIZE, MOST).ok()?;
+    if matches!(call, Call::Load) {
+        fill(&mut memory, 65536).ok()?;
+    }
     let told = repeat(&mut memory, call, count).ok()?;
     if !matches!(call, Call::Mark | Call::Rollback | Call::Commit) {
         return Some(told);
