@@ -1,9 +1,9 @@
 -- Sweeps that are wrong, of a small module: what is seen of the module is not seen of what they leave, by computation. The module is valid and its marks
 -- are closed, so that the law `swept_modules_show_the_same` speaks of it: a sweep that leaves such a module breaks it.
-use Rattle.std.proofs.Common.{◌≡◌, refl, ap, subst, sym, ℕ, zero, suc, ◌<◌, List, [], ◌∷◌, Some, None, true, false, arith, slice_get}
+use Rattle.std.proofs.Common.{◌≡◌, refl, ap, subst, sym, ℕ, zero, suc, List, [], ◌∷◌, Some, None, true, false, arith, slice_get}
 use Rattle.std.specs.Prelude.{Contains, get_or}
 use Rattle.std.proofs.lemmas.Option.{same_Some}
-use Rattle.wasm_tree.specs.declared.instr.Instr.{Instr, fold_out-Instr, out-Instr, the_lemmas}
+use Rattle.wasm_tree.specs.declared.instr.Instr.{out-Instr, the_lemmas}
 use Rattle.wasm_tree.specs.declared.instr.Instr.TheVariants as i
 use Rattle.wasm_tree.specs.declared.types.FuncType.{FuncType}
 use Rattle.wasm_tree.specs.declared.space.Space.{Space}
