@@ -7,49 +7,15 @@
 // other: the merged module must give what they give, for the same calls. Two of `mstart` import from each other, which no engine links part
 // by part: what their starts log, and what their exports then give, is written out here by the rule that all is
 // allocated first, then all segments are copied by part, and then all starts run by part.
-import { execFileSync } from "node:child_process";
-import { mkdtempSync, readFileSync, rmSync } from "node:fs";
-import { tmpdir } from "node:os";
-import { join, resolve } from "node:path";
+import { join } from "node:path";
+import { check, finish, moduleIn, outcome, report, written } from "./engine_checks.mjs";
 
 const [samples, program] = process.argv.slice(2);
-let wrong = 0;
-
-function check(what, got, expected) {
-  const [a, b] = [JSON.stringify(got), JSON.stringify(expected)];
-  if (a !== b) {
-    console.log(`${what}: gives ${a}, expected ${b}`);
-    wrong += 1;
-  }
-}
 
 // The merged module of the parts in a folder, each named like its file.
 function merged(folder, names) {
-  const work = mkdtempSync(join(tmpdir(), "merged-"));
-  try {
-    const output = join(work, "o.wasm");
-    const words = names.flatMap((name) => [`${name}.wasm`, name]);
-    execFileSync(resolve(program), ["merge", ...words, "-o", output], { cwd: join(samples, folder) });
-    return new WebAssembly.Module(readFileSync(output));
-  } finally {
-    rmSync(work, { recursive: true });
-  }
-}
-
-function part(folder, name) {
-  return new WebAssembly.Module(readFileSync(join(samples, folder, `${name}.wasm`)));
-}
-
-// What a call comes to: its result, or that it traps.
-function outcome(run) {
-  try {
-    return String(run());
-  } catch (fault) {
-    if (fault instanceof WebAssembly.RuntimeError) {
-      return "traps";
-    }
-    throw fault;
-  }
+  const words = ["merge", ...names.flatMap((name) => [`${name}.wasm`, name])];
+  return new WebAssembly.Module(written(program, join(samples, folder), words).bytes);
 }
 
 // What the embedder is shown by two parts that are linked one after the other, or by the merged module.
@@ -76,8 +42,8 @@ function library(instantiate) {
 
 function checkLibrary() {
   const apart = library((outside) => {
-    const env = new WebAssembly.Instance(part("m2", "env"), outside).exports;
-    const app = new WebAssembly.Instance(part("m2", "app"), { ...outside, env: { ...env, ...outside.env } }).exports;
+    const env = new WebAssembly.Instance(moduleIn(join(samples, "m2"), "env.wasm"), outside).exports;
+    const app = new WebAssembly.Instance(moduleIn(join(samples, "m2"), "app.wasm"), { ...outside, env: { ...env, ...outside.env } }).exports;
     return { env, app };
   });
   const together = library((outside) => {
@@ -86,8 +52,7 @@ function checkLibrary() {
   });
   check("m2", together, apart);
   if (apart.length < 15 || apart.filter((line) => String(line).endsWith("traps")).length === 0) {
-    console.log("m2: the calls show too little");
-    wrong += 1;
+    report("m2: the calls show too little");
   }
 }
 
@@ -110,5 +75,4 @@ function checkStarts() {
 
 checkLibrary();
 checkStarts();
-console.log(`merged in an engine: ${wrong} wrong`);
-process.exit(wrong === 0 ? 0 : 1);
+finish("merged in an engine");

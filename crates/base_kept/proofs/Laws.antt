@@ -41,6 +41,12 @@ new_place bs n lt = map_numbers_index (kept_before bs) 0 (length bs) n lt ∙ ap
 pub moved : {A : Type 0} (bs : List Bool) (xs : List A) (n : ℕ) (x : A) → length xs ≤ length bs → is_marked bs n ≡ true → slice_get xs n ≡ Some x → slice_get (kept bs xs) (slice_index (new_places bs) n) ≡ Some x
 moved bs xs n x many h e = let lt = slice_get_within xs n x e in ap (slice_get (kept bs xs)) (new_place bs n (omega (arith, lt, many))) ∙ kept_at bs xs n x h e
 
+-- the marks from a place on
+pub marked_drop : (bs : List Bool) (n z : ℕ) → is_marked (drop n bs) z ≡ is_marked bs (n + z)
+marked_drop bs zero z = ap (is_marked bs) (let e : z ≡ 0 + z = omega arith in e)
+marked_drop [] (suc n) z = refl
+marked_drop (b ∷ bs) (suc n) z = marked_drop bs n z ∙ ap (is_marked (b ∷ bs)) (let e : suc (n + z) ≡ suc n + z = omega arith in e)
+
 -- ---- how many ----
 
 pub kept_most : {A : Type 0} (bs : List Bool) (xs : List A) → length (kept bs xs) ≤ length xs

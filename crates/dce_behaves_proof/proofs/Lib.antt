@@ -5,3 +5,4 @@ pub mod Swept
 pub mod NamedBoth
 pub mod Linked
 pub mod Shown
+pub mod WrongSweeps

@@ -42,11 +42,6 @@ marked_apart (false ∷ bs) (suc x) zero h k e = absurd (true≢false (sym k))
 marked_apart (true ∷ bs) (suc x) (suc y) h k e = ap suc (marked_apart bs x y h k (omega (arith, e)))
 marked_apart (false ∷ bs) (suc x) (suc y) h k e = ap suc (marked_apart bs x y h k e)
 
-pub marked_drop : (bs : List Bool) (n z : ℕ) → is_marked (drop n bs) z ≡ is_marked bs (n + z)
-marked_drop bs zero z = ap (is_marked bs) (let e : z ≡ 0 + z = omega arith in e)
-marked_drop [] (suc n) z = refl
-marked_drop (b ∷ bs) (suc n) z = marked_drop bs n z ∙ ap (is_marked (b ∷ bs)) (let e : suc (n + z) ≡ suc n + z = omega arith in e)
-
 -- ---- all are marked ----
 
 pub all_marked : (n x : ℕ) → x < n → is_marked (replicate n true) x ≡ true

@@ -54,12 +54,12 @@ use Rattle.world_simulation.proofs.Renamed.{funcs_correspond, elems_alike, elem_
 use Rattle.world_simulation.proofs.Single.{space_at}
 use Rattle.world_simulation.proofs.Stored.{alike_correspond}
 use Rattle.base_kept.specs.Kept.{kept, is_marked, kept_before, new_places}
-use Rattle.base_kept.proofs.Laws.{before_most, kept_at, kept_from, kept_map, kept_all, new_place}
+use Rattle.base_kept.proofs.Laws.{before_most, kept_at, kept_from, kept_map, kept_all, new_place, marked_drop}
 use Rattle.dce_sweep_spec.specs.Marks.{Marks, stays}
 use Rattle.dce_sweep_spec.specs.Closed.{AreClosed}
 use Rattle.dce_sweep_spec.specs.Swept.{defined_funcs, defined_globals, kept_elem, kept_items, kept_tree, renumbered_kept, sweep_map, swept}
 use Rattle.dce_sweep_spec.specs.Unswept.{unswept}
-use Rattle.dce_behaves_proof.proofs.Marked.{kept_length, before_less, marked_within, marked_drop, all_marked, all_before, drop_all}
+use Rattle.dce_behaves_proof.proofs.Marked.{kept_length, before_less, marked_within, all_marked, all_before, drop_all}
 use Rattle.dce_behaves_proof.proofs.Moves.{goes_to, Goes, own_stays, is_kept, goes_is, is_goes, goes_right, goes_left, space_moves}
 use Rattle.dce_behaves_proof.proofs.Imports.{kept_addresses}
 

@@ -10,7 +10,7 @@ use Rattle.dce_graph.specs.declared.search.Search.{Search}
 use Rattle.dce_graph.specs.declared.walk.Walk.{Walk}
 use Rattle.dce_graph.specs.GraphFile.{Text}
 use Rattle.dce_graph.specs.Marks.{Spread}
-use Rattle.dce_graph.specs.Reach.{place_of}
+use Rattle.dce_graph.specs.Reach.{place_in_kind}
 use Rattle.dce_graph.specs.Walks.{AreFollowed, AreLookups, AreMet, found_pair, is_of_pair, last_place}
 use Rattle.dce_graph.proofs.Marking.{list_other}
 use Rattle.dce_graph.proofs.Searching.{none_marked}
@@ -34,7 +34,7 @@ none_followed nodes n r = λ a b k is set. absurd (none_marked n k set)
 
 -- marks only grow
 pub still_followed : (nodes : List GraphNode) (followed : List Bool) (a b : Search) (ps : List Point) → AreFollowed nodes followed a.marks → Spread a ps b → AreFollowed nodes followed b.marks
-still_followed nodes followed a b ps are f = λ x y n is set q h has. f.kept q (are x y n is set q h (subst (λ m. place_of q < m) (f.as_many q) has))
+still_followed nodes followed a b ps are f = λ x y n is set q h has. f.kept q (are x y n is set q h (subst (λ m. place_in_kind q < m) (f.as_many q) has))
 
 -- what the map gives for the texts of a module and a field
 pub stands_last : (w : Walk) (a b x y : Text) (found : Option ℕ) → AreLookups w → found ≡ found_pair w.last x y → x ≡ a → y ≡ b → last_place (is_of_pair a b) w.graph.now.nodes 0 ≡ found
@@ -71,4 +71,4 @@ one_followed nodes followed s new a b n are last f = λ x y k is set. ⊎_elim
     (list_other followed n k)
   where
     met : AreMet new.marks (map Node (places (is_of_pair a b) nodes 0))
-    met q h has = f.met q h (subst (λ m. place_of q < m) (f.as_many q) has)
+    met q h has = f.met q h (subst (λ m. place_in_kind q < m) (f.as_many q) has)

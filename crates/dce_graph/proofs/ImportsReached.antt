@@ -33,7 +33,7 @@ use Rattle.dce_graph.specs.declared.graph.Graph.{Graph}
 use Rattle.dce_graph.specs.declared.point.Point.{Point}
 use Rattle.dce_graph.specs.declared.point.Point.TheVariants.{Node, Export, Import, Func, Global}
 use Rattle.dce_graph.specs.GraphFile.{Text}
-use Rattle.dce_graph.specs.Reach.{IsReached, root, along, roots, edges, point_of, operand_point, body_points, body_operands, const_point, const_points, imports_into, export_named, export_of_node, from_node, from_export, from_import, from_funcs, from_globals, edges_of, stays_imported, stands_for, elem_points, data_points, root_nodes, start_points, import_points}
+use Rattle.dce_graph.specs.Reach.{IsReached, root, along, roots, edges, point_of, operand_point, body_points, body_operands, const_point, const_points, imports_into, export_place, export_of_node, from_node, from_export, from_import, from_funcs, from_globals, edges_of, stays_imported, stands_for, elem_points, data_points, root_nodes, start_points, import_points}
 use Rattle.dce_graph.proofs.Marking.{nowhere, alone, only_one}
 
 -- ---- lists without imports ----
@@ -104,7 +104,7 @@ of_place (Some n) = (tt, tt)
 
 of_name : (exports : List ModuleExport) (name : Option Text) → Every NoImport (export_of_node exports name)
 of_name exports None = tt
-of_name exports (Some t) = of_place (export_named exports t)
+of_name exports (Some t) = of_place (export_place exports t)
 
 of_export : (d : ExportDesc) → Every NoImport (from_export d)
 of_export (export.Func i) = (tt, tt)

@@ -6,7 +6,7 @@ use Rattle.dce_graph.specs.declared.point.Point.{Point}
 use Rattle.dce_graph.specs.declared.point.Point.TheVariants.{Node, Export, Import, Func, Global}
 use Rattle.dce_graph.specs.declared.marks.Reached.{Reached}
 use Rattle.dce_graph.specs.declared.search.Search.{Search}
-use Rattle.dce_graph.specs.Reach.{place_of}
+use Rattle.dce_graph.specs.Reach.{place_in_kind}
 use Rattle.dce_graph.specs.Marks.{flags, marked, not_set, unmet, with_mark, blanks, unmarked, HasMark, Spread}
 
 -- ---- in one list ----
@@ -50,7 +50,7 @@ list_met (x ∷ xs) (suc i) e lt = list_met xs i e (omega arith)
 -- ---- over the kinds ----
 
 -- a mark goes into the list of its kind, in which no other point has its place
-set_in_kind : (r : Reached) (p : Point) → flags (with_mark r p) p ≡ slice_set (flags r p) (place_of p) true
+set_in_kind : (r : Reached) (p : Point) → flags (with_mark r p) p ≡ slice_set (flags r p) (place_in_kind p) true
 set_in_kind r (Node i) = refl
 set_in_kind r (Export i) = refl
 set_in_kind r (Import i) = refl
@@ -58,7 +58,7 @@ set_in_kind r (Func i) = refl
 set_in_kind r (Global i) = refl
 
 abbrev SetOrNot : Reached → Point → Point → Type 0
-SetOrNot r p q = (flags (with_mark r p) q ≡ flags r q) ⊎ ((flags (with_mark r p) q ≡ slice_set (flags r q) (place_of p) true) × (place_of q ≡ place_of p → q ≡ p))
+SetOrNot r p q = (flags (with_mark r p) q ≡ flags r q) ⊎ ((flags (with_mark r p) q ≡ slice_set (flags r q) (place_in_kind p) true) × (place_in_kind q ≡ place_in_kind p → q ≡ p))
 
 set_or_not : (r : Reached) (p q : Point) → SetOrNot r p q
 set_or_not r (Node i) (Node j) = inr (refl, λ e. ap Node e)
@@ -73,12 +73,12 @@ set_or_not r (Global i) (Global j) = inr (refl, λ e. ap Global e)
 set_or_not r (Global i) _ = inl refl
 
 marks_it : (r : Reached) (p : Point) → HasMark r p → marked (with_mark r p) p ≡ true
-marks_it r p lt = ap (λ xs. get_or xs (place_of p) false) (set_in_kind r p) ∙ list_set (flags r p) (place_of p) lt
+marks_it r p lt = ap (λ xs. get_or xs (place_in_kind p) false) (set_in_kind r p) ∙ list_set (flags r p) (place_in_kind p) lt
 
 marks_no_other : (r : Reached) (p q : Point) → (q ≡ p) ⊎ (marked (with_mark r p) q ≡ marked r q)
 marks_no_other r p q = ⊎_elim
-    (λ e. inr (ap (λ xs. get_or xs (place_of q) false) e))
-    (λ s. ⊎_elim (λ e. inl (s.1 e)) (λ e. inr (ap (λ xs. get_or xs (place_of q) false) s.0 ∙ e)) (list_other (flags r q) (place_of p) (place_of q)))
+    (λ e. inr (ap (λ xs. get_or xs (place_in_kind q) false) e))
+    (λ s. ⊎_elim (λ e. inl (s.1 e)) (λ e. inr (ap (λ xs. get_or xs (place_in_kind q) false) s.0 ∙ e)) (list_other (flags r q) (place_in_kind p) (place_in_kind q)))
     (set_or_not r p q)
 
 one_less : (r : Reached) (p : Point) → HasMark r p → marked r p ≡ false → suc (unmarked (with_mark r p)) ≡ unmarked r
@@ -89,7 +89,7 @@ one_less r (Func i) lt e = omega (arith, list_blank r.funcs i lt e)
 one_less r (Global i) lt e = omega (arith, list_blank r.globals i lt e)
 
 as_many_marks : (r : Reached) (p q : Point) → length (flags (with_mark r p) q) ≡ length (flags r q)
-as_many_marks r p q = ⊎_elim (λ e. ap length e) (λ s. ap length s.0 ∙ list_long (flags r q) (place_of p)) (set_or_not r p q)
+as_many_marks r p q = ⊎_elim (λ e. ap length e) (λ s. ap length s.0 ∙ list_long (flags r q) (place_in_kind p)) (set_or_not r p q)
 
 -- ---- met one after another ----
 
@@ -121,7 +121,7 @@ spread_none s = record {
 pub spread_then : (a b c : Search) (ps qs : List Point) → Spread a ps b → Spread b qs c → Spread a (ps ++ qs) c
 spread_then a b c ps qs f g =
     let has : (q : Point) → HasMark a.marks q → HasMark b.marks q = λ q h. rw f.as_many h in
-    let had : (q : Point) → HasMark b.marks q → HasMark a.marks q = λ q h. subst (λ n. place_of q < n) (f.as_many q) h in
+    let had : (q : Point) → HasMark b.marks q → HasMark a.marks q = λ q h. subst (λ n. place_in_kind q < n) (f.as_many q) h in
     record {
       met = λ q h p. ⊎_elim (λ k. g.kept q (f.met q k p)) (λ k. g.met q k (has q p)) (Contains-append_cases ps qs q h);
       kept = λ q h. g.kept q (f.kept q h);
@@ -149,7 +149,7 @@ spread_as a b ps qs to from f = record {
 -- a point that was met before, or is not there
 pub spread_old : (s : Search) (p : Point) → unmet s.marks p ≡ false → Spread s (p ∷ []) s
 spread_old s p old = record {
-  met = λ q h k. subst (λ x. marked s.marks x ≡ true) (alone p q h) (list_met (flags s.marks p) (place_of p) old (subst (λ x. HasMark s.marks x) (sym (alone p q h)) k));
+  met = λ q h k. subst (λ x. marked s.marks x ≡ true) (alone p q h) (list_met (flags s.marks p) (place_in_kind p) old (subst (λ x. HasMark s.marks x) (sym (alone p q h)) k));
   kept = λ q h. h;
   only = λ q h. inl h;
   fresh = λ q h. inl h;
@@ -167,7 +167,7 @@ last_long (q ∷ qs) p = ap suc (last_long qs p)
 pub spread_new : (s : Search) (p : Point) → unmet s.marks p ≡ true → Spread s (p ∷ []) (record { marks = with_mark s.marks p; stack = s.stack ++ p ∷ [] })
 spread_new s p new =
     let r : Reached = s.marks in
-    let found = list_unmet (flags r p) (place_of p) new in
+    let found = list_unmet (flags r p) (place_in_kind p) new in
     let here : HasMark r p = found.0 in
     let blank : marked r p ≡ false = found.1 in
     let less : suc (unmarked (with_mark r p)) ≡ unmarked r = one_less r p here blank in

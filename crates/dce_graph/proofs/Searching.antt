@@ -8,7 +8,7 @@ use Rattle.dce_graph.specs.declared.graph.Graph.{Graph}
 use Rattle.dce_graph.specs.declared.point.Point.{Point}
 use Rattle.dce_graph.specs.declared.point.Point.TheVariants.{Node, Export, Import, Func, Global}
 use Rattle.dce_graph.specs.declared.search.Search.{Search}
-use Rattle.dce_graph.specs.Reach.{Routes, IsThere, IsReachedBy, root, along, place_of, routes, roots, point_count}
+use Rattle.dce_graph.specs.Reach.{Routes, IsThere, IsReachedBy, root, along, place_in_kind, routes, roots, point_count}
 use Rattle.dce_graph.specs.Marks.{flags, marked, with_stack, blank_marks, HasMark, Spread}
 use Rattle.dce_graph.proofs.Marking.{nowhere}
 
@@ -46,8 +46,8 @@ blank_search g m = record { marks = blank_marks g m; stack = [] }
 
 pub good_start : (g : Graph) (m : Module) (s : Search) → Spread (blank_search g m) (roots g m) s → Good (routes g m) s
 good_start g m s f = record {
-  sound = λ p h. ⊎_elim (λ k. absurd (blank_is_unmarked g m p k)) (λ k. root (subst (λ n. place_of p < n) (blank_as_many g m p) k.1) k.0) (f.only p h);
-  roots = λ p there h. f.met p h (subst (λ n. place_of p < n) (sym (blank_as_many g m p)) there);
+  sound = λ p h. ⊎_elim (λ k. absurd (blank_is_unmarked g m p k)) (λ k. root (subst (λ n. place_in_kind p < n) (blank_as_many g m p) k.1) k.0) (f.only p h);
+  roots = λ p there h. f.met p h (subst (λ n. place_in_kind p < n) (sym (blank_as_many g m p)) there);
   stacked = λ p h. ⊎_elim (λ k. nowhere p k) (λ k. k) (f.stacked p h);
   closed = λ p h. ⊎_elim (λ k. absurd (blank_is_unmarked g m p k)) inl (f.fresh p h);
   as_many = λ p. f.as_many p ∙ blank_as_many g m p;
@@ -58,8 +58,8 @@ good_start g m s f = record {
 pub good_more : (r : Routes) (s new : Search) (st : List Point) (p : Point) → Good r s → s.stack ≡ st ++ p ∷ [] → Spread (with_stack s st) (r.edges p) new → Good r new
 good_more r s new st p good is f =
     let here : marked s.marks p ≡ true = good.stacked p (subst (λ ps. Contains ps p) (sym is) (Contains-push st p)) in
-    let there : (q : Point) → HasMark s.marks q → IsThere r q = λ q h. subst (λ n. place_of q < n) (good.as_many q) h in
-    let has : (q : Point) → IsThere r q → HasMark s.marks q = λ q h. subst (λ n. place_of q < n) (sym (good.as_many q)) h in
+    let there : (q : Point) → HasMark s.marks q → IsThere r q = λ q h. subst (λ n. place_in_kind q < n) (good.as_many q) h in
+    let has : (q : Point) → IsThere r q → HasMark s.marks q = λ q h. subst (λ n. place_in_kind q < n) (sym (good.as_many q)) h in
     record {
       sound = λ q h. ⊎_elim (λ k. good.sound q k) (λ k. along (good.sound p here) (there q k.1) k.0) (f.only q h);
       roots = λ q th h. f.kept q (good.roots q th h);

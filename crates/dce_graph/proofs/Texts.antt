@@ -10,7 +10,7 @@ use Rattle.serde_json.specs.Data.{Data}
 use Rattle.serde_json.specs.Find.{as_array, as_str}
 use Rattle.serde_json.specs.View.{view, items_of, items_view}
 use Rattle.serde_json.specs.declared.value.Value.{Value}
-use Rattle.dce_graph.specs.GraphFile.{Text, listed, texts_of, pair_of_two}
+use Rattle.dce_graph.specs.GraphFile.{Text, listed, texts_of, import_pair_of_two}
 use Rattle.dce_graph.specs.Entries.{texts_in}
 
 -- the items of an array of values are these values
@@ -46,10 +46,10 @@ not_all_texts (v ∷ vs) h = by (as_str (view v)) refl (λ e. not_all_texts vs e
     by (Some t) e on = let rest = rw e at h in rw (e, on rest) refl
 
 -- a pair is two texts and no more
-pub not_two : (vs : List Value) → length vs ≢ 2 → None ≡ option_and_then pair_of_two (all_there as_str (map view vs))
+pub not_two : (vs : List Value) → length vs ≢ 2 → None ≡ option_and_then import_pair_of_two (all_there as_str (map view vs))
 not_two vs h = by (all_there as_str (map view vs)) refl
   where
-    by : (o : Option (List Text)) → all_there as_str (map view vs) ≡ o → None ≡ option_and_then pair_of_two o
+    by : (o : Option (List Text)) → all_there as_str (map view vs) ≡ o → None ≡ option_and_then import_pair_of_two o
     by None e = refl
     by (Some []) e = refl
     by (Some (a ∷ [])) e = refl

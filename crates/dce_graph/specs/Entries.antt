@@ -32,5 +32,5 @@ abbrev pub entries_now : List Read → List Entry
 entries_now = map entry_now
 
 -- the place that the program's map has for a name
-abbrev pub found : BTreeMap (Bor Text) ℕ → Text → Option ℕ
-found names name = get_by (λ k. slice_cmp nat_cmp name k.now) names
+abbrev pub place_in_map : BTreeMap (Bor Text) ℕ → Text → Option ℕ
+place_in_map names name = get_by (λ k. slice_cmp nat_cmp name k.now) names

@@ -49,14 +49,14 @@ abbrev pub text_of : Data → Option (Option Text)
 text_of d = option_map Some (as_str d)
 
 -- two texts: a module and a field
-abbrev pub pair_of_two : List Text → Option (Option ImportPair)
-pair_of_two [] = None
-pair_of_two (a ∷ []) = None
-pair_of_two (a ∷ b ∷ []) = Some (Some (record { «module» = a; base = b }))
-pair_of_two (a ∷ b ∷ c ∷ more) = None
+abbrev pub import_pair_of_two : List Text → Option (Option ImportPair)
+import_pair_of_two [] = None
+import_pair_of_two (a ∷ []) = None
+import_pair_of_two (a ∷ b ∷ []) = Some (Some (record { «module» = a; base = b }))
+import_pair_of_two (a ∷ b ∷ c ∷ more) = None
 
-abbrev pub pair_of : Data → Option (Option ImportPair)
-pair_of d = texts_of d >>= pair_of_two
+abbrev pub import_pair_of : Data → Option (Option ImportPair)
+import_pair_of d = texts_of d >>= import_pair_of_two
 
 -- not both an export and an import
 abbrev pub unless_both : Entry → Option Entry
@@ -76,7 +76,7 @@ abbrev pub export_in : Data → Option (Option Text)
 export_in d = optional text_of None (get (codes "export") d)
 
 abbrev pub import_in : Data → Option (Option ImportPair)
-import_in d = optional pair_of None (get (codes "import") d)
+import_in d = optional import_pair_of None (get (codes "import") d)
 
 -- what an entry says, if it has the shape of one
 abbrev pub entry_of : Data → Option Entry

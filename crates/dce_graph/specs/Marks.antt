@@ -7,7 +7,7 @@ use Rattle.dce_graph.specs.declared.point.Point.{Point}
 use Rattle.dce_graph.specs.declared.point.Point.TheVariants.{Node, Export, Import, Func, Global}
 use Rattle.dce_graph.specs.declared.marks.Reached.{Reached}
 use Rattle.dce_graph.specs.declared.search.Search.{Search}
-use Rattle.dce_graph.specs.Reach.{place_of}
+use Rattle.dce_graph.specs.Reach.{place_in_kind}
 
 -- the marks of the kind of a point
 abbrev pub flags : Reached → Point → List Bool
@@ -19,7 +19,7 @@ flags r (Global i) = r.globals
 
 -- whether the point is marked
 abbrev pub marked : Reached → Point → Bool
-marked r p = get_or (flags r p) (place_of p) false
+marked r p = get_or (flags r p) (place_in_kind p) false
 
 -- whether a mark is there and not set
 abbrev pub not_set : Option Bool → Bool
@@ -28,7 +28,7 @@ not_set (Some true) = false
 not_set (Some false) = true
 
 abbrev pub unmet : Reached → Point → Bool
-unmet r p = not_set (slice_get (flags r p) (place_of p))
+unmet r p = not_set (slice_get (flags r p) (place_in_kind p))
 
 abbrev pub with_mark : Reached → Point → Reached
 with_mark r (Node i) = record r { nodes = slice_set r.nodes i true }
@@ -57,7 +57,7 @@ unmarked r = blanks r.nodes + (blanks r.exports + (blanks r.imports + (blanks r.
 
 -- there is a mark for the point
 abbrev pub HasMark : Reached → Point → Type 0
-HasMark r p = place_of p < length (flags r p)
+HasMark r p = place_in_kind p < length (flags r p)
 
 -- a search met these points: those that have a mark are marked now and no others besides those that were, and each that is newly marked waits
 pub record Spread (old : Search) (ps : List Point) (new : Search) : Type 0 where

@@ -30,12 +30,12 @@ use Rattle.dce_graph.specs.declared.point.Point.TheVariants.{Node, Export, Impor
 -- ---- paths ----
 
 -- where a point stands among those of its kind
-abbrev pub place_of : Point → ℕ
-place_of (Node i) = i
-place_of (Export i) = i
-place_of (Import i) = i
-place_of (Func i) = i
-place_of (Global i) = i
+abbrev pub place_in_kind : Point → ℕ
+place_in_kind (Node i) = i
+place_in_kind (Export i) = i
+place_in_kind (Import i) = i
+place_in_kind (Func i) = i
+place_in_kind (Global i) = i
 
 -- what paths go over: how many points there are of the kind of each, where a path may begin, and where it may go on from a point
 pub record Routes : Type 0 where
@@ -45,7 +45,7 @@ pub record Routes : Type 0 where
 
 -- the point is there
 abbrev pub IsThere : Routes → Point → Type 0
-IsThere r p = place_of p < r.count p
+IsThere r p = place_in_kind p < r.count p
 
 -- a path leads there: it begins at a root that is there, and goes along edges to points that are there
 pub data IsReachedBy (r : Routes) : Point → Type 0 where
@@ -104,8 +104,8 @@ abbrev pub imports_into : Space → List ModuleImport → List ℕ
 imports_into space imports = places (λ i. same_space space (space_of_import i.desc)) imports 0
 
 -- the first export of this name: no two exports of a valid module have one name
-abbrev pub export_named : List ModuleExport → List ℕ → Option ℕ
-export_named exports name = first_place (λ e. bytes_eq name e.name) exports 0
+abbrev pub export_place : List ModuleExport → List ℕ → Option ℕ
+export_place exports name = first_place (λ e. bytes_eq name e.name) exports 0
 
 -- whether a node stands for the import of this module and field
 abbrev pub pair_is : List ℕ → List ℕ → Option ImportPair → Bool
@@ -118,7 +118,7 @@ stands_for i n = pair_is i.«module» i.field n.import
 -- the export that a node names, if there is one
 abbrev pub export_of_node : List ModuleExport → Option (List ℕ) → List Point
 export_of_node exports None = []
-export_of_node exports (Some name) = cons_option (option_map Export (export_named exports name)) []
+export_of_node exports (Some name) = cons_option (option_map Export (export_place exports name)) []
 
 -- from a node to the nodes that it reaches, and to the export that it names, if there is one
 abbrev pub from_node : List ModuleExport → GraphNode → List Point

@@ -15,9 +15,9 @@ use Rattle.dce_graph.specs.declared.point.Point.TheVariants.{Node as node_point}
 use Rattle.dce_graph.specs.declared.search.Search.{Search}
 use Rattle.dce_graph.specs.declared.walk.Walk.{Walk}
 use Rattle.dce_graph.specs.Marks.{HasMark, Spread, marked}
-use Rattle.dce_graph.specs.Reach.{pair_is, export_named, imports_into}
+use Rattle.dce_graph.specs.Reach.{pair_is, export_place, imports_into}
 use Rattle.dce_graph.specs.GraphFile.{Text}
-use Rattle.dce_graph.specs.Entries.{found}
+use Rattle.dce_graph.specs.Entries.{place_in_map}
 
 -- the last place, counted from n, whose element passes the test
 abbrev pub last_place : {A : Type 0} → (A → Bool) → List A → ℕ → Option ℕ
@@ -42,7 +42,7 @@ pub record AreStanding (nodes : List Node) (last : BTreeMap (Bor Text × Bor Tex
 
 -- the places of the names of exports, the nodes that stand for modules and fields, and the places of the imports of functions and of globals
 pub record AreLookups (w : Walk) : Type 0 where
-  pub exports : (q : Text) → found w.exports q ≡ export_named w.«module».now.exports q
+  pub exports : (q : Text) → place_in_map w.exports q ≡ export_place w.«module».now.exports q
   pub standing : AreStanding w.graph.now.nodes w.last w.before.items
   pub funcs : w.funcs.items ≡ imports_into Functions w.«module».now.imports
   pub globals : w.globals.items ≡ imports_into Globals w.«module».now.imports

@@ -5,7 +5,7 @@ ghost use Rattle.std.specs.List.{list_all};
 ghost use Rattle.base_lists.specs.Options.{all_there};
 ghost use Rattle.serde_json.specs.Find.{as_str};
 ghost use Rattle.serde_json.specs.View.{view};
-ghost use Rattle.dce_graph.specs.GraphFile.{texts_of, pair_of, pair_of_two, name_in, root_in, reaches_in, export_in, import_in, entry_of};
+ghost use Rattle.dce_graph.specs.GraphFile.{texts_of, import_pair_of, import_pair_of_two, name_in, root_in, reaches_in, export_in, import_in, entry_of};
 ghost use Rattle.dce_graph.specs.Entries.{texts_in, pair_now, entry_now};
 
 use serde_json::Value;
@@ -83,7 +83,7 @@ fn export(value: &Value) -> Option<Option<&str>>
 
 // A module and a field, where there are two texts and no more.
 fn two_texts(values: &[Value]) -> Option<Option<(&str, &str)>>
-    ensures { option_map (λ o. option_map pair_now o) result ≡ option_and_then pair_of_two (all_there as_str (map view values.now)) }
+    ensures { option_map (λ o. option_map pair_now o) result ≡ option_and_then import_pair_of_two (all_there as_str (map view values.now)) }
 {
     if values.len() != 2 {
         return None;
@@ -98,7 +98,7 @@ fn two_texts(values: &[Value]) -> Option<Option<(&str, &str)>>
 }
 
 fn pair(value: &Value) -> Option<Option<(&str, &str)>>
-    ensures { option_map (λ o. option_map pair_now o) result ≡ pair_of (view value.now) }
+    ensures { option_map (λ o. option_map pair_now o) result ≡ import_pair_of (view value.now) }
 {
     match value.as_array() {
         Some(values) => two_texts(values.as_slice()),

@@ -3,9 +3,9 @@
 ghost use Rattle.std.specs.Prelude.{◌≡◌, ◌<◌, ◌^◌, ℕ, List, Some, cond, length, IfOk, OnOk, option_and_then};
 ghost use Rattle.std.specs.Str.{bytes_eq};
 ghost use Rattle.wasm_tree.specs.declared.space.Space.TheVariants.{Functions, Globals};
-ghost use Rattle.dce_graph.specs.Entries.{found};
+ghost use Rattle.dce_graph.specs.Entries.{place_in_map};
 ghost use Rattle.dce_graph.specs.GraphFile.{Text};
-ghost use Rattle.dce_graph.specs.Reach.{export_named, imports_into, pair_is};
+ghost use Rattle.dce_graph.specs.Reach.{export_place, imports_into, pair_is};
 ghost use Rattle.dce_graph.specs.Walks.{AreLookups, AreStanding, found_pair};
 
 use crate::graph::{Graph, ImportPair, Node};
@@ -21,7 +21,7 @@ fn export_places<'a>(
     exports: &'a [Export],
 ) -> Result<BTreeMap<&'a str, u32>, NoMemory>
     requires { length exports.now < 2 ^ 32 }
-    ensures { IfOk result (λ places. (q : List ℕ) → found places q ≡ export_named exports.now q) }
+    ensures { IfOk result (λ places. (q : List ℕ) → place_in_map places q ≡ export_place exports.now q) }
 {
     let mut places = BTreeMap::new(alloc);
     for place in (0..exports.len()).rev() {

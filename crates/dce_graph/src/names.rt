@@ -5,7 +5,7 @@ ghost use Rattle.std.specs.List.{filter_map};
 ghost use Rattle.std.specs.Str.{bytes_eq};
 ghost use Rattle.dce_graph.specs.declared.fault.GraphFault.TheVariants.{NodeTwice, UnknownNode};
 ghost use Rattle.dce_graph.specs.GraphFile.{IsFault, names_of, place_of_name, first_repeated, first_unknown, reached_names, node_of};
-ghost use Rattle.dce_graph.specs.Entries.{entry_now, entries_now, found, pair_now, texts_in};
+ghost use Rattle.dce_graph.specs.Entries.{entry_now, entries_now, place_in_map, pair_now, texts_in};
 
 use crate::entry::Entry;
 use crate::fault::GraphFault;
@@ -15,14 +15,14 @@ use std::alloc::{AllocError, Global};
 use std::collections::BTreeMap;
 use wasm_bytes::{Items, Name, NoMemory};
 
-// Notes the place of a name, and says whether it had one.
-fn has_place<'v>(
+// Inserts the place of a name, and says whether it had one.
+fn insert_name<'v>(
     names: &mut BTreeMap<&'v str, u32>,
     name: &'v str,
     place: u32,
 ) -> Result<bool, AllocError>
-    ensures had { IfOk result (λ had. had ≡ is_some (found names.old name.now)) }
-    ensures noted { OnOk result ((q : List ℕ) → found names.new q ≡ cond (bytes_eq name.now q) (Some place) (found names.old q)) }
+    ensures had { IfOk result (λ had. had ≡ is_some (place_in_map names.old name.now)) }
+    ensures noted { OnOk result ((q : List ℕ) → place_in_map names.new q ≡ cond (bytes_eq name.now q) (Some place) (place_in_map names.old q)) }
 {
     Ok(names.insert(name, place)?.is_some())
 }
@@ -43,13 +43,13 @@ pub(crate) fn all_names<'v>(
 ) -> Result<BTreeMap<&'v str, u32>, GraphFault>
     requires few { length entries.now < 2 ^ 32 }
     ensures distinct { IsOk result → first_repeated (names_of (entries_now entries.now)) ≡ None }
-    ensures places { IfOk result (λ names. (q : List ℕ) → found names q ≡ place_of_name (names_of (entries_now entries.now)) q) }
+    ensures places { IfOk result (λ names. (q : List ℕ) → place_in_map names q ≡ place_of_name (names_of (entries_now entries.now)) q) }
     ensures fault { IfErr result (λ e. IsFault e (option_map NodeTwice (first_repeated (names_of (entries_now entries.now))))) }
 {
     let mut names = BTreeMap::new(alloc);
     for place in 0..entries.len() {
         let name = entries[place].name;
-        if has_place(&mut names, name, place as u32)? {
+        if insert_name(&mut names, name, place as u32)? {
             return Err(twice(alloc, name));
         }
     }
@@ -71,9 +71,9 @@ fn reached_places(
     names: &BTreeMap<&str, u32>,
     reaches: &[Value],
 ) -> Result<Items<u32>, GraphFault>
-    ensures known { IsOk result → first_unknown (found names.now) (texts_in reaches.now) ≡ None }
-    ensures places { IfOk result (λ places. places ≡ filter_map (found names.now) (texts_in reaches.now)) }
-    ensures fault { IfErr result (λ e. IsFault e (option_map UnknownNode (first_unknown (found names.now) (texts_in reaches.now)))) }
+    ensures known { IsOk result → first_unknown (place_in_map names.now) (texts_in reaches.now) ≡ None }
+    ensures places { IfOk result (λ places. places ≡ filter_map (place_in_map names.now) (texts_in reaches.now)) }
+    ensures fault { IfErr result (λ e. IsFault e (option_map UnknownNode (first_unknown (place_in_map names.now) (texts_in reaches.now)))) }
 {
     let mut places = Items::new(alloc);
     for value in reaches {
@@ -110,9 +110,9 @@ fn owned_pair(alloc: Global, pair: Option<(&str, &str)>) -> Result<Option<Import
 
 // The node of an entry.
 fn node(alloc: Global, names: &BTreeMap<&str, u32>, entry: &Entry<'_>) -> Result<Node, GraphFault>
-    ensures known { IsOk result → first_unknown (found names.now) (texts_in entry.now.reaches.now) ≡ None }
-    ensures node { IfOk result (λ node. node ≡ node_of (found names.now) (entry_now entry.now)) }
-    ensures fault { IfErr result (λ e. IsFault e (option_map UnknownNode (first_unknown (found names.now) (texts_in entry.now.reaches.now)))) }
+    ensures known { IsOk result → first_unknown (place_in_map names.now) (texts_in entry.now.reaches.now) ≡ None }
+    ensures node { IfOk result (λ node. node ≡ node_of (place_in_map names.now) (entry_now entry.now)) }
+    ensures fault { IfErr result (λ e. IsFault e (option_map UnknownNode (first_unknown (place_in_map names.now) (texts_in entry.now.reaches.now)))) }
 {
     let reaches = reached_places(alloc, names, entry.reaches)?;
     Ok(Node {
@@ -130,9 +130,9 @@ pub(crate) fn all_nodes(
     names: &BTreeMap<&str, u32>,
     entries: &[Entry<'_>],
 ) -> Result<Items<Node>, GraphFault>
-    ensures known { IsOk result → first_unknown (found names.now) (reached_names (entries_now entries.now)) ≡ None }
-    ensures nodes { IfOk result (λ nodes. nodes ≡ map (node_of (found names.now)) (entries_now entries.now)) }
-    ensures fault { IfErr result (λ e. IsFault e (option_map UnknownNode (first_unknown (found names.now) (reached_names (entries_now entries.now))))) }
+    ensures known { IsOk result → first_unknown (place_in_map names.now) (reached_names (entries_now entries.now)) ≡ None }
+    ensures nodes { IfOk result (λ nodes. nodes ≡ map (node_of (place_in_map names.now)) (entries_now entries.now)) }
+    ensures fault { IfErr result (λ e. IsFault e (option_map UnknownNode (first_unknown (place_in_map names.now) (reached_names (entries_now entries.now))))) }
 {
     let mut nodes = Items::new(alloc);
     for entry in entries {

@@ -42,7 +42,7 @@ use Rattle.index_remap.specs.declared.remap.Remap.{Remap}
 use Rattle.index_remap_proof.specs.Indices.{ConstNamesOnly, DataModeNamesOnly, ElemModeNamesOnly, ExportNamesOnly, ImportNamesOnly, LayerNamesOnly, TreeNamesOnly, with_entry}
 use Rattle.index_remap_proof.specs.Trees.{Covers}
 use Rattle.base_kept.specs.Kept.{is_marked}
-use Rattle.base_kept.proofs.Laws.{kept_from}
+use Rattle.base_kept.proofs.Laws.{kept_from, marked_drop}
 use Rattle.dce_sweep_spec.specs.Marks.{Marks, stays}
 use Rattle.dce_sweep_spec.specs.Swept.{defined_funcs, defined_globals, is_kept_ref, kept_elem, kept_items, kept_tree}
 use Rattle.dce_sweep_spec.specs.Closed.{AreClosed}
@@ -52,9 +52,9 @@ use Rattle.dce_graph.specs.declared.marks.Reached.{Reached}
 use Rattle.dce_graph.specs.declared.point.Point.{Point}
 use Rattle.dce_graph.specs.declared.point.Point.TheVariants.{Node, Export, Import, Func, Global}
 use Rattle.dce_graph.specs.Marks.{marked}
-use Rattle.dce_graph.specs.Reach.{IsReached, IsThere, root, along, routes, roots, edges, edges_of, place_of, point_count, point_of, body_points, const_point, const_points, imports_into, from_node, from_export, from_import, from_funcs, from_globals, export_of_node, elem_points, data_points, root_nodes, start_points, import_points, module_roots, stays_imported, stands_for, export_named}
+use Rattle.dce_graph.specs.Reach.{IsReached, IsThere, root, along, routes, roots, edges, edges_of, place_in_kind, point_count, point_of, body_points, const_point, const_points, imports_into, from_node, from_export, from_import, from_funcs, from_globals, export_of_node, elem_points, data_points, root_nodes, start_points, import_points, module_roots, stays_imported, stands_for, export_place}
 use Rattle.dce_sweep_spec.specs.Reached.{AreExact, marks_of}
-use Rattle.dce_reach_proof.proofs.Points.{has, contains, contains_joined, contains_chosen, none_fails, all_mapped, all_joined, all_chosen, marked_drop, places_apart, point_passes, passes, body_passes}
+use Rattle.dce_reach_proof.proofs.Points.{has, contains, contains_joined, contains_chosen, none_fails, all_mapped, all_joined, all_chosen, places_apart, point_passes, passes, body_passes}
 
 -- ---- imports ----
 
@@ -186,7 +186,7 @@ module _ (g : Graph) (m : Module) (r : Reached) (exact : AreExact g m r) (law : 
   one_point e q h = contains (const_points e) 0 q (ap (λ o. slice_get (cons_option o []) 0) h)
 
   abbrev is_there : Point → Bool
-  is_there p = nat_lt (place_of p) (point_count g m p)
+  is_there p = nat_lt (place_in_kind p) (point_count g m p)
 
   there_passes : (s : Space) (i : ℕ) → with_entry (spaces m) s i ≡ true → point_passes is_there (point_of s i) ≡ true
   there_passes Functions i h = lt-ltb _ _ (in_funcs m i h)
@@ -257,11 +257,11 @@ module _ (g : Graph) (m : Module) (r : Reached) (exact : AreExact g m r) (law : 
     imports = λ i x at. import_marked x.desc;
     funcs = λ i f at.
         let p = kept_from (defined_funcs k m) m.funcs i f at in
-        let is : marked r (Func (length (imported_funcs m.imports) + p.place)) ≡ true = marked_drop k.funcs (length (imported_funcs m.imports)) p.place ∙ p.yes in
+        let is : marked r (Func (length (imported_funcs m.imports) + p.place)) ≡ true = sym (marked_drop k.funcs (length (imported_funcs m.imports)) p.place) ∙ p.yes in
         (refl, body_marked f.body (N.funcs p.place f p.is).1 (λ q t c. goes (Func (length (imported_funcs m.imports) + p.place)) q is t (subst (λ ps. Contains ps q) (sym (func_edges p.place f p.is)) c)));
     globals = λ i x at.
         let p = kept_from (defined_globals k m) m.globals i x at in
-        let is : marked r (Global (length (imported_globals m.imports) + p.place)) ≡ true = marked_drop k.globals (length (imported_globals m.imports)) p.place ∙ p.yes in
+        let is : marked r (Global (length (imported_globals m.imports) + p.place)) ≡ true = sym (marked_drop k.globals (length (imported_globals m.imports)) p.place) ∙ p.yes in
         const_marked x.init (N.globals p.place x p.is) (λ q t e. goes (Global (length (imported_globals m.imports) + p.place)) q is t (subst (λ ps. Contains ps q) (sym (global_edges p.place x p.is)) (one_point x.init q e)));
     exports = λ i e at.
         let p = kept_from k.exports m.exports i e at in
@@ -309,7 +309,7 @@ module _ (g : Graph) (m : Module) (r : Reached) (exact : AreExact g m r) (law : 
 
   named_no_import : (name : Option (List ℕ)) → list_all no_import (export_of_node m.exports name) ≡ true
   named_no_import None = refl
-  named_no_import (Some name) = by (export_named m.exports name)
+  named_no_import (Some name) = by (export_place m.exports name)
     where
       by : (o : Option ℕ) → list_all no_import (cons_option (option_map Export o) []) ≡ true
       by None = refl
@@ -347,7 +347,7 @@ module _ (g : Graph) (m : Module) (r : Reached) (exact : AreExact g m r) (law : 
       let p = has (import_points m.imports) (Import n) c in
       let q = map_from Import (places (λ i. stays_imported (space_of_import i.desc)) m.imports 0) p.0 (Import n) p.1 in
       let b = place_back (λ i. stays_imported (space_of_import i.desc)) m.imports 0 p.0 q.0 q.1 in
-      let same : q.0 ≡ n = ap place_of q.2 in
+      let same : q.0 ≡ n = ap place_in_kind q.2 in
       let at = b.2 in
       let here : b.0 ≡ n = omega (arith, same, at) in
       rooted b.1 (ap (slice_get m.imports) (sym here) ∙ b.3) b.4
@@ -370,7 +370,7 @@ module _ (g : Graph) (m : Module) (r : Reached) (exact : AreExact g m r) (law : 
       by p.0 p.1
     where
       by : (i : ℕ) → slice_get (Import place ∷ []) i ≡ Some (Import n) → place ≡ n
-      by zero h = let e : Import place ≡ Import n = cc in ap place_of e
+      by zero h = let e : Import place ≡ Import n = cc in ap place_in_kind e
       by (suc i) h = absurd (let k = h in cc)
 
   func_source : (n i : ℕ) → marked r (Func i) ≡ true → (o : Option (List Point)) → slice_get (from_funcs m) i ≡ o → Contains (edges_of o) (Import n) → Source n

@@ -1,5 +1,5 @@
 -- What lists of points have in them, and the points that a body names.
-use Rattle.std.proofs.Common.{◌≡◌, ◌∙◌, ap, ap₂, sym, refl, ℕ, zero, suc, ◌+◌, List, [], ◌∷◌, Option, Some, None, Bool, true, false, ◌&&◌, cond, arith, slice_get, filter_map, map, drop}
+use Rattle.std.proofs.Common.{◌≡◌, ◌∙◌, ap, ap₂, sym, refl, ℕ, zero, suc, List, [], ◌∷◌, Option, Some, None, Bool, true, false, ◌&&◌, cond, arith, slice_get, filter_map, map}
 use Rattle.std.specs.Prelude.{Contains}
 use Rattle.std.specs.List.{cons_option, flat_map, list_all}
 use Rattle.std.proofs.lemmas.List.Folds.{list_all-append}
@@ -15,7 +15,6 @@ use Rattle.wasm_tree.specs.declared.space.Operand.{Operand}
 use Rattle.wasm_tree.specs.declared.instr.Instr.{Instr, out-Instr}
 use Rattle.wasm_tree.specs.Operands.{operands_of, held, operands_pass, all_operands_pass}
 use Rattle.wasm_tree.proofs.OperandLaws.{by_held, passes_inside}
-use Rattle.base_kept.specs.Kept.{is_marked}
 use Rattle.dce_graph.specs.declared.point.Point.{Point}
 use Rattle.dce_graph.specs.Reach.{operand_point, all_operands, body_operands, named_points, body_points}
 use Rattle.dce_graph.proofs.Walking.{named_inside}
@@ -61,12 +60,6 @@ all_chosen {A} {B} test f (x ∷ xs) h = by (f x) (h x) (all_chosen test f xs h)
     by : (o : Option B) → list_all test (cons_option o []) ≡ true → list_all test (filter_map f xs) ≡ true → list_all test (cons_option o (filter_map f xs)) ≡ true
     by None a b = b
     by (Some y) a b = ap₂ (λ p q. p && q) (left_true (test y) true a) b
-
--- the marks behind a place
-pub marked_drop : (bs : List Bool) (n x : ℕ) → is_marked bs (n + x) ≡ is_marked (drop n bs) x
-marked_drop bs zero x = ap (is_marked bs) (let e : 0 + x ≡ x = omega arith in e)
-marked_drop [] (suc n) x = refl
-marked_drop (b ∷ bs) (suc n) x = ap (is_marked (b ∷ bs)) (let e : suc n + x ≡ suc (n + x) = omega arith in e) ∙ marked_drop bs n x
 
 -- a place stands once among places
 pub places_apart : {A : Type 0} (test : A → Bool) (xs : List A) (from i j n : ℕ) → slice_get (places test xs from) i ≡ Some n → slice_get (places test xs from) j ≡ Some n → i ≡ j

@@ -160,3 +160,34 @@ second_read = record { exports = true ∷ []; imports = false ∷ true ∷ []; f
 its_import_is_kept : swept second_read reading ≡ record empty { imports = import 98 (im.Global fixed) ∷ []; globals = global (const.Global 0) ∷ []; exports = export 120 (ex.Global 1) ∷ [] }
 unfolding swept
 its_import_is_kept = refl
+
+-- ---- a start, an import that is removed, and offsets that read a global ----
+
+-- of two imported functions and two imported globals the first of each is not reached, nor is the first defined function
+abbrev started : Module
+started = record empty {
+  types = nothing ∷ [];
+  imports = import 97 (im.Func 0) ∷ import 98 (im.Func 0) ∷ import 99 (im.Global fixed) ∷ import 100 (im.Global fixed) ∷ [];
+  funcs = func 0 (i.Call 0 ∷ []) ∷ func 0 (i.Call 1 ∷ i.Call 3 ∷ []) ∷ [];
+  tables = record { ty = func_ref; limits = limits 5 None } ∷ [];
+  mems = limits 1 None ∷ [];
+  start = Some 3;
+  elems = record { mode = elem.Active 0 (const.Global 1); ty = func_ref; items = const.Func 3 ∷ const.Null func_ref ∷ [] } ∷ [];
+  datas = record { mode = «data».Active 0 (const.Global 1); bytes = 104 ∷ [] } ∷ [];
+}
+
+abbrev start_reached : Marks
+start_reached = record { exports = []; imports = false ∷ true ∷ false ∷ true ∷ []; funcs = false ∷ true ∷ false ∷ true ∷ []; globals = false ∷ true ∷ [] }
+
+abbrev started_left : Module
+started_left = record started {
+  imports = import 98 (im.Func 0) ∷ import 100 (im.Global fixed) ∷ [];
+  funcs = func 0 (i.Call 0 ∷ i.Call 1 ∷ []) ∷ [];
+  start = Some 1;
+  elems = record { mode = elem.Active 0 (const.Global 0); ty = func_ref; items = const.Func 1 ∷ const.Null func_ref ∷ [] } ∷ [];
+  datas = record { mode = «data».Active 0 (const.Global 0); bytes = 104 ∷ [] } ∷ [];
+}
+
+what_stays_has_new_indices : swept start_reached started ≡ started_left
+unfolding swept
+what_stays_has_new_indices = search (rules, the_lemmas)

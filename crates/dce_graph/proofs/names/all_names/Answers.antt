@@ -13,10 +13,10 @@ loop-place-preserved c =
     let name = (get_or es i c.index-entries-place.result).name.now in
     let within : i < length ns = omega (arith, names_long es) in
     let is = name_at es i c.index-entries-place.result c.loop-place-test.true in
-    let new : is_some (place_of_name (take i ns) name) ≡ false = sym (c.in_ok-has_place.ensures.had ∙ ap is_some (c.loop-place.invariant.places name)) ∙ c.if-branch.false in
+    let new : is_some (place_of_name (take i ns) name) ≡ false = sym (c.in_ok-insert_name.ensures.had ∙ ap is_some (c.loop-place.invariant.places name)) ∙ c.if-branch.false in
     record {
       ahead = sym (repeated_more ns i name within is new) ∙ c.loop-place.invariant.ahead;
-      places = λ q. c.in_ok-has_place.ensures.noted q ∙ ap (cond (bytes_eq name q) (Some i)) (c.loop-place.invariant.places q) ∙ sym (places_more ns i name q within is new);
+      places = λ q. c.in_ok-insert_name.ensures.noted q ∙ ap (cond (bytes_eq name q) (Some i)) (c.loop-place.invariant.places q) ∙ sym (places_more ns i name q within is new);
     }
 
 pub returns-then-branch-clause-fault : goal.returns-then-branch-clause-fault
@@ -27,6 +27,6 @@ returns-then-branch-clause-fault c =
     let name = (get_or es i c.index-entries-place.result).name.now in
     let within : i < length ns = omega (arith, names_long es) in
     let is = name_at es i c.index-entries-place.result c.loop-place-test.true in
-    let old : is_some (place_of_name (take i ns) name) ≡ true = sym (c.in_ok-has_place.ensures.had ∙ ap is_some (c.loop-place.invariant.places name)) ∙ c.if-branch.true in
+    let old : is_some (place_of_name (take i ns) name) ≡ true = sym (c.in_ok-insert_name.ensures.had ∙ ap is_some (c.loop-place.invariant.places name)) ∙ c.if-branch.true in
     let first : first_repeated ns ≡ Some name = sym c.loop-place.invariant.ahead ∙ repeated_here ns i name within is old in
     rw first c.twice.ensures

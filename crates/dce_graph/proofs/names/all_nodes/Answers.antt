@@ -2,7 +2,7 @@ use Rattle.std.proofs.Common.{◌∙◌, ◌+◌, ◌++◌, ◌∷◌, [], ap, s
 use Rattle.std.specs.Prelude.{option_map}
 use Rattle.dce_graph.specs.declared.fault.GraphFault.TheVariants.{UnknownNode}
 use Rattle.dce_graph.specs.GraphFile.{first_unknown, reached_names, node_of}
-use Rattle.dce_graph.specs.Entries.{entry_now, entries_now, found}
+use Rattle.dce_graph.specs.Entries.{entry_now, entries_now, place_in_map}
 use Rattle.dce_graph.proofs.Steps.{left_more}
 use Rattle.dce_graph.proofs.NamePlaces.{reached_more, unknown_behind, unknown_in}
 use Rattle.dce_graph.proofs.Results.{fault_stays}
@@ -13,7 +13,7 @@ loop-entry-preserved c =
     let es = c.args.entries.now in
     let i = c.loop-entry.entry-index in
     let e = c.entry-item.result in
-    let f = found c.args.names.now in
+    let f = place_in_map c.args.names.now in
     let left = left_more es i e c.loop-entry-test.true c.entry-item.is in
     record {
       ahead = sym (ap (first_unknown f) (reached_more es i e c.loop-entry-test.true c.entry-item.is) ∙ unknown_behind f (entry_now e).reaches (reached_names (entries_now (drop (i + 1) es))) (c.in-Ok.ensures.known refl)) ∙ c.loop-entry.invariant.ahead;
@@ -27,7 +27,7 @@ returns-in-Err-clause-fault c =
     let es = c.args.entries.now in
     let i = c.loop-entry.entry-index in
     let e = c.entry-item.result in
-    let f = found c.args.names.now in
+    let f = place_in_map c.args.names.now in
     fault_stays c.in-Err.fault (option_map UnknownNode (first_unknown f (entry_now e).reaches)) (option_map UnknownNode (first_unknown f (reached_names (entries_now es))))
     (λ g h. sym (ap (option_map UnknownNode) (sym (ap (first_unknown f) (reached_more es i e c.loop-entry-test.true c.entry-item.is)) ∙ c.loop-entry.invariant.ahead)) ∙ unknown_in f (entry_now e).reaches (reached_names (entries_now (drop (i + 1) es))) g h)
     c.in-Err.ensures.fault

@@ -1,10 +1,10 @@
 use Rattle.std.proofs.Common.{◌≡◌, ◌++◌, drop, map}
 use Rattle.dce_graph.specs.GraphFile.{first_unknown, reached_names, node_of}
-use Rattle.dce_graph.specs.Entries.{found, entries_now}
+use Rattle.dce_graph.specs.Entries.{place_in_map, entries_now}
 use Rattle.dce_graph.proofs.names.all_nodes.Given as goal
 
 abbrev pub invariant-loop-entry : goal.invariant-loop-entry
 invariant-loop-entry l = record {
-  ahead : first_unknown (found l.names) (reached_names (entries_now (drop l.entry-index l.entries))) ≡ first_unknown (found l.names) (reached_names (entries_now l.entries));
-  made : l.nodes ++ map (node_of (found l.names)) (entries_now (drop l.entry-index l.entries)) ≡ map (node_of (found l.names)) (entries_now l.entries);
+  ahead : first_unknown (place_in_map l.names) (reached_names (entries_now (drop l.entry-index l.entries))) ≡ first_unknown (place_in_map l.names) (reached_names (entries_now l.entries));
+  made : l.nodes ++ map (node_of (place_in_map l.names)) (entries_now (drop l.entry-index l.entries)) ≡ map (node_of (place_in_map l.names)) (entries_now l.entries);
 }

@@ -1,11 +1,11 @@
 use Rattle.std.proofs.Common.{◌≡◌, ◌++◌, drop}
 use Rattle.std.specs.List.{filter_map}
 use Rattle.dce_graph.specs.GraphFile.{first_unknown}
-use Rattle.dce_graph.specs.Entries.{found, texts_in}
+use Rattle.dce_graph.specs.Entries.{place_in_map, texts_in}
 use Rattle.dce_graph.proofs.names.reached_places.Given as goal
 
 abbrev pub invariant-loop-value : goal.invariant-loop-value
 invariant-loop-value l = record {
-  ahead : first_unknown (found l.names) (texts_in (drop l.value-index l.reaches)) ≡ first_unknown (found l.names) (texts_in l.reaches);
-  made : l.places ++ filter_map (found l.names) (texts_in (drop l.value-index l.reaches)) ≡ filter_map (found l.names) (texts_in l.reaches);
+  ahead : first_unknown (place_in_map l.names) (texts_in (drop l.value-index l.reaches)) ≡ first_unknown (place_in_map l.names) (texts_in l.reaches);
+  made : l.places ++ filter_map (place_in_map l.names) (texts_in (drop l.value-index l.reaches)) ≡ filter_map (place_in_map l.names) (texts_in l.reaches);
 }

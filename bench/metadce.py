@@ -1,0 +1,166 @@
+#!/usr/bin/env python3
+"""Measures `metadce`, beside `merge` of the same module alone and Binaryen's wasm-metadce, in one run.
+
+    bench/metadce.py [PROGRAM]
+
+Makes modules whose first half of functions calls only one another and is reached, while the second half calls all and is not; for 1 MiB also ones of which
+all or nothing is reached. Prints for each tool the processor time (the least of three runs), the greatest resident memory, and for 1 MiB the
+machine instructions, as callgrind of valgrind counts them, with their ratios. Then it times graphs of nearly 16 MiB over a small module, and
+one pair of names that many imports and many nodes have. A tool that is not installed is skipped.
+"""
+import json
+import os
+import random
+import re
+import shutil
+import subprocess
+import sys
+import tempfile
+
+from read_write import body, instructions, leb, section, timed, vector
+
+TOP = os.path.dirname(os.path.dirname(os.path.abspath(__file__)))
+PROGRAM = os.path.abspath(sys.argv[1]) if len(sys.argv) > 1 else os.path.join(TOP, "crates/binkit/out/binkit")
+MIB = 1 << 20
+HEADER = b"\0asm\1\0\0\0"
+GRAPHS = {
+    "half": [{"name": "page", "root": True, "reaches": ["first"]}, {"name": "first", "export": "f"}, {"name": "second", "export": "g"}],
+    "all": [{"name": "page", "root": True, "reaches": ["first", "second"]}, {"name": "first", "export": "f"}, {"name": "second", "export": "g"}],
+    "nothing": [],
+}
+# a part of the job, and the function whose calls it is
+PARTS = [
+    ("reading sections", "wasm_read::sections::read_section"),
+    ("typing bodies", "wasm_valid_bodies::check::is_well_typed"),
+    ("reading the graph", "dce_graph::reading::read_graph"),
+    ("what is reached", "dce_graph::reach::reached"),
+    ("sweeping", "dce_sweep::sweeping::sweep"),
+    ("measuring and writing", "tools_cli::encode::encode"),
+]
+
+
+def halves(size):
+    """A module of about as many bytes. Function 0 is exported as f, the last one as g."""
+    choose = random.Random(size)
+    bodies, length = [], 0
+    functions = size // 118
+    for i in range(functions):
+        code = body(choose, functions // 2 if i < functions // 2 else functions) if length + 6 * (functions - i) < size else b"\x00\x41\x00\x0b"
+        bodies.append(leb(len(code)) + code)
+        length += len(bodies[-1]) + 1
+    return HEADER + b"".join([
+        section(1, vector([b"\x60\x02\x7f\x7f\x01\x7f"])),
+        section(3, vector([b"\0"] * functions)),
+        section(5, b"\1\0\1"),
+        section(7, vector([b"\1f\0\0", b"\1g\0" + leb(functions - 1)])),
+        section(10, vector(bodies)),
+    ])
+
+
+def write(folder, name, content):
+    path = os.path.join(folder, name)
+    with open(path, "wb") as file:
+        file.write(content if isinstance(content, bytes) else json.dumps(content, separators=(",", ":")).encode())
+    return path
+
+
+def row(mib, reached, tool, command, size, folder):
+    if not shutil.which(command[0]):
+        print(f"| {mib} | {reached} | {tool} | skipped: not installed | | |")
+        return None
+    runs = [timed(command) for _ in range(3)]
+    if any(status for _, _, status in runs):
+        print(f"| {mib} | {reached} | {tool} | failed | | |")
+        return None
+    count = instructions(command, folder) if mib == 1 and shutil.which("valgrind") else None
+    a_byte = f"{count / size:.0f}" if count else ""
+    print(f"| {mib} | {reached} | {tool} | {min(run[0] for run in runs):.2f} | {max(run[1] for run in runs):.0f} | {a_byte} |", flush=True)
+    return count
+
+
+def compare(mib, reached, folder):
+    content = halves(mib * MIB - 4096)
+    name = write(folder, f"{mib}.wasm", content)
+    graph = write(folder, "graph.json", GRAPHS[reached])
+    out = os.path.join(folder, "out.wasm")
+    words = [name, "--graph-file", graph, "-o", out]
+    ours = row(mib, reached, "binkit metadce", [PROGRAM, "metadce", *words], len(content), folder)
+    if ours:
+        print_parts(ours, len(content), folder)
+    merge = row(mib, reached, "binkit merge", [PROGRAM, "merge", name, "m", "-o", out], len(content), folder)
+    theirs = row(mib, reached, "wasm-metadce", ["wasm-metadce", *words], len(content), folder)
+    if ours and merge:
+        print(f"times the instructions of merge: {ours / merge:.2f}")
+    if ours and theirs:
+        print(f"times the instructions of wasm-metadce: {ours / theirs:.2f}")
+
+
+def print_parts(count, size, folder):
+    """Where the instructions of the run that callgrind saw last went."""
+    told = subprocess.run(["callgrind_annotate", "--inclusive=yes", "--threshold=100", f"{folder}/callgrind"], capture_output=True, text=True).stdout
+    for part, function in PARTS:
+        found = re.search(rf"([\d,]+) .*\?\?\?:{function} \[", told)
+        print(f"    {part}: {int(found.group(1).replace(',', '')) / size:.0f} a byte" if found else f"    {part}: not found")
+    print(f"    all: {count / size:.0f} a byte")
+
+
+# ---- large graphs ----
+
+SMALL = HEADER + section(1, b"\1\x60\0\0") + section(3, b"\1\0") + section(7, vector([b"\1f\0\0"])) + section(10, b"\1\2\0\x0b")
+
+
+def chain(size):
+    """Each node reaches the next and one before it; the last names the export."""
+    count = size // 51
+    nodes = [{"name": f"n{i}", "reaches": [f"n{i + 1}", f"n{i // 2}"]} for i in range(count - 1)]
+    nodes[0]["root"] = True
+    return nodes + [{"name": f"n{count - 1}", "export": "f"}]
+
+
+def star(size):
+    """One node reaches all others, over and over."""
+    count = size // 76
+    leaves = [{"name": f"n{i}"} for i in range(count)]
+    return [{"name": "page", "root": True, "reaches": [f"n{i * 7919 % count}" for i in range(6 * count)]}] + leaves
+
+
+def same_export(size):
+    return [{"name": f"n{i}", "root": True, "export": "f"} for i in range(size // 44)]
+
+
+def alone(size):
+    return [{"name": f"n{i}"} for i in range(size // 19)]
+
+
+def same_pair(imports, nodes):
+    """A module that imports one pair of names again and again, with a graph that has as many nodes for it."""
+    exported = section(7, vector([b"\1f\0" + leb(imports - 1)]))
+    module = HEADER + section(1, b"\1\x60\0\0") + section(2, vector([b"\1e\1c\0\0"] * imports)) + exported
+    graph = [{"name": "page", "root": True, "reaches": ["first"]}, {"name": "first", "export": "f"}]
+    return module, graph + [{"name": f"n{i}", "import": ["e", "c"], "reaches": ["first"]} for i in range(nodes)]
+
+
+def time_graph(title, module, graph, folder):
+    name, path = write(folder, "m.wasm", module), write(folder, "g.json", graph)
+    size = os.path.getsize(path)
+    seconds, memory, status = timed([PROGRAM, "metadce", name, "--graph-file", path, "-o", os.path.join(folder, "o.wasm")])
+    print(f"| {title} | {len(module)} | {size} | {len(graph)} | {f'{seconds:.2f}' if status == 0 else f'status {status}'} | {memory:.0f} |", flush=True)
+
+
+def main():
+    with tempfile.TemporaryDirectory() as folder:
+        print("| MiB | reached | tool | seconds | MiB of memory | instructions a byte |\n|---|---|---|---|---|---|")
+        for mib, reached in (1, "half"), (1, "all"), (1, "nothing"), (4, "half"), (16, "half"):
+            compare(mib, reached, folder)
+        print("\n| graph | bytes of the module | bytes of the graph | nodes | seconds | MiB of memory |\n|---|---|---|---|---|---|")
+        room = 16 * MIB - 65536
+        time_graph("a chain in which each node reaches one before it too", SMALL, chain(room), folder)
+        time_graph("one node that reaches all others six times", SMALL, star(room), folder)
+        time_graph("roots that name one export", SMALL, same_export(room), folder)
+        time_graph("nodes that nothing reaches (a line for each)", SMALL, alone(room), folder)
+        module, graph = same_pair(300_000, 200_000)
+        time_graph("a pair of names that 300,000 imports and 200,000 nodes have", module, graph, folder)
+
+
+if __name__ == "__main__":
+    main()

@@ -1,0 +1,10 @@
+-- The law of marks that are exactly on what is reached.
+use Rattle.wasm_tree.specs.declared.module.Module.{Module}
+use Rattle.wasm_valid.specs.Validity.{IsValid}
+use Rattle.dce_graph.specs.declared.graph.Graph.{Graph}
+use Rattle.dce_graph.specs.declared.marks.Reached.{Reached}
+use Rattle.dce_sweep_spec.specs.Closed.{AreClosed}
+use Rattle.dce_sweep_spec.specs.Reached.{AreExact, marks_of}
+
+abbrev pub ReachedMarksAreClosed : Type 0
+ReachedMarksAreClosed = (g : Graph) (m : Module) (r : Reached) → IsValid m → AreExact g m r → AreClosed (marks_of r) m
