@@ -15,8 +15,8 @@ use Rattle.wasm_meaning.specs.Touched.{Bytes}
 use Rattle.eval_spec.specs.declared.limits.TheConstants.{MOST_TURNS, MOST_DEPTH, MOST_BLOCKS}
 use Rattle.eval_spec.specs.declared.stop.Stop.TheVariants as why
 use Rattle.eval_spec.specs.State.{State, stop_of}
-use Rattle.eval_spec.specs.Stops.{further_turns, written_after, too_many, stop}
-use Rattle.eval_spec.specs.Instantiation.{own_inst, imported_store, unknown_at_first, run_data}
+use Rattle.eval_spec.specs.Stops.{further_turns, written_after, too_many_blocks, stop}
+use Rattle.eval_spec.specs.Instantiation.{own_inst, imported_store, unknown_at_first, with_data}
 use Rattle.eval_spec.proofs.Modules.{does, with_page, after_import, data_at}
 
 the_turns : MOST_TURNS ≡ 50000000
@@ -53,10 +53,10 @@ an_init = refl
 abbrev none : List Bool
 none = replicate 16400 false
 
-all_blocks : too_many (written_after none (Gives (Bytes 0 0 67108864))) ≡ false
+all_blocks : too_many_blocks (written_after none (Gives (Bytes 0 0 67108864))) ≡ false
 all_blocks = refl
 
-one_block_more : too_many (written_after none (Gives (Bytes 0 0 67108865))) ≡ true
+one_block_more : too_many_blocks (written_after none (Gives (Bytes 0 0 67108865))) ≡ true
 one_block_more = refl
 
 -- they are told apart: what lies in two blocks writes both
@@ -131,6 +131,6 @@ no_turn_for_an_end = refl
 
 -- ---- a segment ----
 
-a_segment_too_many : stop_of (run_data (with_page (does [])) (record (state (false ∷ replicate 16384 true)) { store = record (state []).store { datas = record { bytes = 5 ∷ []; dropped = false } ∷ [] } }) (record { part = 0; inst = own_inst (with_page (does [])); address = 0; segment = data_at (const.I32 (pos 0)) (5 ∷ []) })) ≡ Some why.Memory
+a_segment_too_many : stop_of (with_data (with_page (does [])) (record (state (false ∷ replicate 16384 true)) { store = record (state []).store { datas = record { bytes = 5 ∷ []; dropped = false } ∷ [] } }) (record { part = 0; inst = own_inst (with_page (does [])); address = 0; segment = data_at (const.I32 (pos 0)) (5 ∷ []) })) ≡ Some why.Memory
 unfolding wrapped
 a_segment_too_many = refl

@@ -10,9 +10,9 @@ use Rattle.wasm_tree.specs.declared.module.Module.{Module}
 use Rattle.wasm_num.specs.Operations.{wrapped, signed}
 use Rattle.wasm_meaning.specs.Access.{store_from, stored, little_bytes}
 use Rattle.eval_spec.specs.declared.stop.Stop.TheVariants as why
-use Rattle.eval_spec.specs.State.{state_of, left_by}
+use Rattle.eval_spec.specs.State.{state_of, left_behind}
 use Rattle.eval_spec.specs.Quiet.{call_end}
-use Rattle.eval_spec.specs.Evaluation.{evaluated, done_count, stopped_by, state_after}
+use Rattle.eval_spec.specs.Evaluation.{evaluated, done_count, stopped_by, state_at_end}
 use Rattle.eval_spec.specs.Told.{value_of_global, is_dropped}
 use Rattle.eval_spec.proofs.Modules.{empty, func, does, with_page, after_import, with_global, data_at, stores, byte, turns_left}
 
@@ -29,29 +29,29 @@ the_second_is_stopped : stopped_by three (1 ∷ 2 ∷ 3 ∷ []) ≡ Some why.Imp
 unfolding out-Instr denote.Hole.Carrier.out wrapped store_from stored little_bytes
 the_second_is_stopped = refl
 
-what_the_first_stored : byte three 1024 (state_after three (1 ∷ 2 ∷ 3 ∷ [])) ≡ Some 42
+what_the_first_stored : byte three 1024 (state_at_end three (1 ∷ 2 ∷ 3 ∷ [])) ≡ Some 42
 unfolding out-Instr denote.Hole.Carrier.out wrapped store_from stored little_bytes
 what_the_first_stored = refl
 
-not_what_the_second_stored : byte three 1025 (state_after three (1 ∷ 2 ∷ 3 ∷ [])) ≡ Some 0
+not_what_the_second_stored : byte three 1025 (state_at_end three (1 ∷ 2 ∷ 3 ∷ [])) ≡ Some 0
 unfolding out-Instr denote.Hole.Carrier.out wrapped store_from stored little_bytes
 not_what_the_second_stored = refl
 
-three_turns_are_spent : turns_left (state_after three (1 ∷ 2 ∷ 3 ∷ [])) ≡ Some 49999997
+three_turns_are_spent : turns_left (state_at_end three (1 ∷ 2 ∷ 3 ∷ [])) ≡ Some 49999997
 unfolding out-Instr denote.Hole.Carrier.out wrapped store_from stored little_bytes
 three_turns_are_spent = refl
 
 -- of sixteen blocks the first was written
-one_block_is_written : (state_after three (1 ∷ []) >>= λ s. Some s.written) ≡ Some (true ∷ replicate 15 false)
+one_block_is_written : (state_at_end three (1 ∷ []) >>= λ s. Some s.written) ≡ Some (true ∷ replicate 15 false)
 unfolding out-Instr denote.Hole.Carrier.out wrapped store_from stored little_bytes
 one_block_is_written = refl
 
 -- the stopped call leaves its turns spent, and its byte as it was
-after_the_stop : (state_of (evaluated three (1 ∷ [])) >>= λ s. Some (left_by s (call_end three s 2)).turns) ≡ Some 49999993
+after_the_stop : (state_of (evaluated three (1 ∷ [])) >>= λ s. Some (left_behind s (call_end three s 2)).turns) ≡ Some 49999993
 unfolding out-Instr denote.Hole.Carrier.out wrapped store_from stored little_bytes
 after_the_stop = refl
 
-its_byte_is_as_before : byte three 1025 (state_of (evaluated three (1 ∷ [])) >>= λ s. Some (left_by s (call_end three s 2))) ≡ Some 0
+its_byte_is_as_before : byte three 1025 (state_of (evaluated three (1 ∷ [])) >>= λ s. Some (left_behind s (call_end three s 2))) ≡ Some 0
 unfolding out-Instr denote.Hole.Carrier.out wrapped store_from stored little_bytes
 its_byte_is_as_before = refl
 
@@ -67,35 +67,35 @@ abbrev segments_at : Module
 segments_at = record (with_page (does (i.DataDrop 1 ∷ []))) { datas = data_at (const.I32 (pos 4095)) (7 ∷ 8 ∷ []) ∷ record { mode = data'.Passive; bytes = 9 ∷ [] } ∷ [] }
 
 -- the bytes of a segment lie in two blocks
-two_blocks : (state_after segments_at [] >>= λ s. Some s.written) ≡ Some (true ∷ true ∷ replicate 14 false)
+two_blocks : (state_at_end segments_at [] >>= λ s. Some s.written) ≡ Some (true ∷ true ∷ replicate 14 false)
 unfolding wrapped
 two_blocks = refl
 
 -- and cost no turns
-no_turns : turns_left (state_after segments_at []) ≡ Some 50000000
+no_turns : turns_left (state_at_end segments_at []) ≡ Some 50000000
 unfolding wrapped
 no_turns = refl
 
-its_bytes : byte segments_at 4096 (state_after segments_at []) ≡ Some 8
+its_bytes : byte segments_at 4096 (state_at_end segments_at []) ≡ Some 8
 unfolding wrapped
 its_bytes = refl
 
 -- an active segment is dropped when it was copied
-dropped_at_once : (state_after segments_at [] >>= λ s. Some (is_dropped s 0)) ≡ Some true
+dropped_at_once : (state_at_end segments_at [] >>= λ s. Some (is_dropped s 0)) ≡ Some true
 unfolding wrapped
 dropped_at_once = refl
 
-not_dropped : (state_after segments_at [] >>= λ s. Some (is_dropped s 1)) ≡ Some false
+not_dropped : (state_at_end segments_at [] >>= λ s. Some (is_dropped s 1)) ≡ Some false
 unfolding wrapped
 not_dropped = refl
 
-dropped_by_a_call : (state_after segments_at (0 ∷ []) >>= λ s. Some (is_dropped s 1)) ≡ Some true
+dropped_by_a_call : (state_at_end segments_at (0 ∷ []) >>= λ s. Some (is_dropped s 1)) ≡ Some true
 unfolding out-Instr denote.Hole.Carrier.out wrapped
 dropped_by_a_call = refl
 
-an_unknown_global : (state_after (with_global []) [] >>= λ s. value_of_global (with_global []) s 1) ≡ None
+an_unknown_global : (state_at_end (with_global []) [] >>= λ s. value_of_global (with_global []) s 1) ≡ None
 an_unknown_global = refl
 
-a_global_that_was_set : (state_after (with_global (i.I32Const (negsuc 0) ∷ i.GlobalSet 1 ∷ [])) (0 ∷ []) >>= λ s. value_of_global (with_global []) s 1) ≡ Some (const.I32 (negsuc 0))
+a_global_that_was_set : (state_at_end (with_global (i.I32Const (negsuc 0) ∷ i.GlobalSet 1 ∷ [])) (0 ∷ []) >>= λ s. value_of_global (with_global []) s 1) ≡ Some (const.I32 (negsuc 0))
 unfolding out-Instr denote.Hole.Carrier.out wrapped signed
 a_global_that_was_set = refl

@@ -37,5 +37,5 @@ abbrev pub stopped_by : Module → List ℕ → Option Stop
 stopped_by m funcs = stop_of (evaluated m funcs)
 
 -- the state after them
-abbrev pub state_after : Module → List ℕ → Option State
-state_after m funcs = state_of (evaluated m (take (done_count m funcs) funcs))
+abbrev pub state_at_end : Module → List ℕ → Option State
+state_at_end m funcs = state_of (evaluated m (take (done_count m funcs) funcs))

@@ -27,7 +27,7 @@ use Rattle.index_remap.specs.Unknown.{Unknowns, is_place_among}
 use Rattle.block_pool.specs.Pages.{blank}
 use Rattle.eval_spec.specs.declared.stop.Stop.TheVariants as why
 use Rattle.eval_spec.specs.State.{State, Stage, Stopped, Over, Test, tried}
-use Rattle.eval_spec.specs.Stops.{is_imported, written_after, too_many, test}
+use Rattle.eval_spec.specs.Stops.{is_imported, written_after, too_many_blocks, test}
 use Rattle.eval_spec.specs.Quiet.{call_end}
 
 -- ---- allocation (section 4.5.3) ----
@@ -115,31 +115,31 @@ copied_slots s segment table place count = record s.unknown { slots = filter (is
 abbrev pub elem_tests : Module → State → (table : ℕ) → ConstExpr → Filled → List Test
 elem_tests m s table offset filled = test (is_read offset || is_imported m Tables table) why.Unknown s.turns ∷ test filled.trapped why.Trap s.turns ∷ []
 
-abbrev pub filled_elem : Module → State → PlacedSegment ElemSeg → (table : ℕ) → ConstExpr → Filled → Stage
-filled_elem m s task table offset filled =
+abbrev pub elem_filled : Module → State → PlacedSegment ElemSeg → (table : ℕ) → ConstExpr → Filled → Stage
+elem_filled m s task table offset filled =
     tried (elem_tests m s table offset filled) (Over (record s { store = filled.store; unknown = copied_slots s task.address table (place_in m offset) (length task.segment.items) }))
 
-abbrev pub run_elem_mode : Module → State → PlacedSegment ElemSeg → ElemMode → Stage
-run_elem_mode m s task (elem.Active table offset) = filled_elem m s task table offset (run_elem_with (value_in m) s.store task task.segment.mode)
-run_elem_mode m s task _ = Over s
+abbrev pub with_elem_mode : Module → State → PlacedSegment ElemSeg → ElemMode → Stage
+with_elem_mode m s task (elem.Active table offset) = elem_filled m s task table offset (run_elem_with (value_in m) s.store task task.segment.mode)
+with_elem_mode m s task _ = Over s
 
-abbrev pub run_elem : Module → State → PlacedSegment ElemSeg → Stage
-run_elem m s task = run_elem_mode m s task task.segment.mode
+abbrev pub with_elem : Module → State → PlacedSegment ElemSeg → Stage
+with_elem m s task = with_elem_mode m s task task.segment.mode
 
 abbrev pub data_tests : Module → State → (memory : ℕ) → ConstExpr → Filled → (written : List Bool) → List Test
 data_tests m s memory offset filled written =
-    test (is_read offset || is_imported m Memories memory) why.Unknown s.turns ∷ test filled.trapped why.Trap s.turns ∷ test (too_many written) why.Memory s.turns ∷ []
+    test (is_read offset || is_imported m Memories memory) why.Unknown s.turns ∷ test filled.trapped why.Trap s.turns ∷ test (too_many_blocks written) why.Memory s.turns ∷ []
 
-abbrev pub filled_data : Module → State → (memory : ℕ) → ConstExpr → Filled → (written : List Bool) → Stage
-filled_data m s memory offset filled written = tried (data_tests m s memory offset filled written) (Over (record s { store = filled.store; written = written }))
+abbrev pub data_filled : Module → State → (memory : ℕ) → ConstExpr → Filled → (written : List Bool) → Stage
+data_filled m s memory offset filled written = tried (data_tests m s memory offset filled written) (Over (record s { store = filled.store; written = written }))
 
-abbrev pub run_data_mode : Module → State → PlacedSegment DataSeg → DataMode → Stage
-run_data_mode m s task (data'.Active memory offset) =
-    filled_data m s memory offset (run_data_with (value_in m) s.store task task.segment.mode) (written_after s.written (Gives (Bytes memory (place_in m offset) (length task.segment.bytes))))
-run_data_mode m s task data'.Passive = Over s
+abbrev pub with_data_mode : Module → State → PlacedSegment DataSeg → DataMode → Stage
+with_data_mode m s task (data'.Active memory offset) =
+    data_filled m s memory offset (run_data_with (value_in m) s.store task task.segment.mode) (written_after s.written (Gives (Bytes memory (place_in m offset) (length task.segment.bytes))))
+with_data_mode m s task data'.Passive = Over s
 
-abbrev pub run_data : Module → State → PlacedSegment DataSeg → Stage
-run_data m s task = run_data_mode m s task task.segment.mode
+abbrev pub with_data : Module → State → PlacedSegment DataSeg → Stage
+with_data m s task = with_data_mode m s task task.segment.mode
 
 -- one after the other, until something stops one
 abbrev pub in_order : {A : Type 0} → (State → A → Stage) → Stage → List A → Stage
@@ -149,21 +149,21 @@ in_order f t _ = t
 -- ---- instantiation ----
 
 -- all active element segments, then all active data segments; they cost no turns
-abbrev pub segments : Module → State → Stage
-segments m s = in_order (run_data m) (in_order (run_elem m) (Over s) (segments_in 0 (own_inst m) (own_inst m).elems m.elems)) (segments_in 0 (own_inst m) (own_inst m).datas m.datas)
+abbrev pub with_segments : Module → State → Stage
+with_segments m s = in_order (with_data m) (in_order (with_elem m) (Over s) (segments_in 0 (own_inst m) (own_inst m).elems m.elems)) (segments_in 0 (own_inst m) (own_inst m).datas m.datas)
 
 abbrev pub filled_from : Module → (turns : ℕ) → Option State → Stage
-filled_from m turns (Some s) = segments m s
+filled_from m turns (Some s) = with_segments m s
 filled_from m turns None = Stopped why.Trap turns
 
 -- a module with several memories stops before all else
 abbrev pub instantiated : Module → (turns : ℕ) → Stage
 instantiated m turns = cond (nat_lt 1 (length (memories_of m))) (Stopped why.Memory turns) (filled_from m turns (state_at_first m turns))
 
-abbrev pub with_start : Module → Stage → Option ℕ → Stage
-with_start m (Over s) (Some func) = call_end m s func
-with_start m t _ = t
+abbrev pub after_start : Module → Stage → Option ℕ → Stage
+after_start m (Over s) (Some func) = call_end m s func
+after_start m t _ = t
 
 -- the instantiation with the start
 abbrev pub booted : Module → (turns : ℕ) → Stage
-booted m turns = with_start m (instantiated m turns) m.start
+booted m turns = after_start m (instantiated m turns) m.start

@@ -10,7 +10,7 @@ use Rattle.wasm_meaning.specs.Touched.{touched_by}
 use Rattle.index_remap.specs.Unknown.{left_unknown}
 use Rattle.eval_spec.specs.declared.stop.Stop.TheVariants as why
 use Rattle.eval_spec.specs.State.{State, Stage, Going, Stopped, Over, tried}
-use Rattle.eval_spec.specs.Stops.{Beginning, beginning, frame_turns, further_turns, written_after, depth, tests, host_tests}
+use Rattle.eval_spec.specs.Stops.{Beginning, beginning, frame_turns, further_turns, written_after, stack_depth, tests, host_tests}
 
 -- ---- a step ----
 
@@ -62,7 +62,7 @@ after_steps m (suc n) t = t
 
 -- each step makes this less: an instruction spends a turn and opens at most one frame or label, and where no instruction begins one ends
 abbrev pub weight : Stage → ℕ
-weight (Going s es) = 2 * s.turns + depth es
+weight (Going s es) = 2 * s.turns + stack_depth es
 weight _ = 0
 
 -- the end of a run, which is over or stopped

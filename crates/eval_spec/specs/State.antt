@@ -56,7 +56,7 @@ state_of (Over s) = Some s
 state_of _ = None
 
 -- what a call leaves: where something stops it the store, what is unknown and the written blocks are as they were, and the turns stay spent
-abbrev pub left_by : State → Stage → State
-left_by s (Over t) = t
-left_by s (Stopped x left) = record s { turns = left }
-left_by s (Going t es) = s
+abbrev pub left_behind : State → Stage → State
+left_behind s (Over t) = t
+left_behind s (Stopped x left) = record s { turns = left }
+left_behind s (Going t es) = s

@@ -35,14 +35,14 @@ grows _ = false
 
 -- ---- TableWrite (section 4.4.6) ----
 
-abbrev pub writes_table : Instr-F Instr → Bool
-writes_table (Instr-F.TableSet table) = true
-writes_table (Instr-F.TableGrow table) = true
-writes_table (Instr-F.TableFill table) = true
-writes_table (Instr-F.TableCopy to from) = true
-writes_table (Instr-F.TableInit segment table) = true
-writes_table (Instr-F.ElemDrop segment) = true
-writes_table _ = false
+abbrev pub changes_table : Instr-F Instr → Bool
+changes_table (Instr-F.TableSet table) = true
+changes_table (Instr-F.TableGrow table) = true
+changes_table (Instr-F.TableFill table) = true
+changes_table (Instr-F.TableCopy to from) = true
+changes_table (Instr-F.TableInit segment table) = true
+changes_table (Instr-F.ElemDrop segment) = true
+changes_table _ = false
 
 -- ---- Unknown ----
 
@@ -75,13 +75,13 @@ uses_unknown m u o env vs = list_any (is_unknown_import m) (operands o) || reads
 
 -- ---- Import (section 4.4.8) ----
 
-abbrev pub func_in : RefVal → Option ℕ
-func_in (FuncRef r) = r
-func_in (ExternRef r) = None
+abbrev pub referred_func : RefVal → Option ℕ
+referred_func (FuncRef r) = r
+referred_func (ExternRef r) = None
 
 -- the function in the slot that the number on top names
 abbrev pub func_in_slot : List Val → Table → Option ℕ
-func_in_slot (Num W32 i ∷ vs) t = slice_get t.slots i >>= func_in
+func_in_slot (Num W32 i ∷ vs) t = slice_get t.slots i >>= referred_func
 func_in_slot _ t = None
 
 -- the address of the function that is called, directly or through a table; through a table also where its type is another than the one that is asked for
@@ -122,10 +122,10 @@ further_turns o env vs = write_turns (touched_by o env vs) + call_turns (called_
 -- ---- Depth (section 4.4.9 and 4.4.10) ----
 
 -- the frames and labels that are open: of each frame the body's level stands for the frame itself, and the others are those of the blocks, loops and ifs that it is in
-abbrev pub depth : List Entry → ℕ
-depth [] = 0
-depth (Running f ∷ es) = length f.levels + depth es
-depth (_ ∷ es) = depth es
+abbrev pub stack_depth : List Entry → ℕ
+stack_depth [] = 0
+stack_depth (Running f ∷ es) = length f.levels + stack_depth es
+stack_depth (_ ∷ es) = stack_depth es
 
 -- the instruction opens a frame or a label; an `if` opens one also where its condition is 0 and it has no `else`
 abbrev pub opens : Instr-F Instr → Bool
@@ -137,7 +137,7 @@ opens (Instr-F.CallIndirect ty table) = true
 opens _ = false
 
 abbrev pub opens_too_deep : Instr-F Instr → List Entry → Bool
-opens_too_deep o es = opens o && nat_le MOST_DEPTH (depth es)
+opens_too_deep o es = opens o && nat_le MOST_DEPTH (stack_depth es)
 
 -- ---- Memory ----
 
@@ -146,8 +146,8 @@ abbrev pub written_after : List Bool → Outcome Touched → List Bool
 written_after blocks (Gives (Bytes a place count)) = with_reached place count 0 blocks
 written_after blocks _ = blocks
 
-abbrev pub too_many : List Bool → Bool
-too_many blocks = nat_lt MOST_BLOCKS (count_by (λ written. written) blocks)
+abbrev pub too_many_blocks : List Bool → Bool
+too_many_blocks blocks = nat_lt MOST_BLOCKS (count_by (λ written. written) blocks)
 
 -- ---- the order ----
 
@@ -179,13 +179,13 @@ instruction_tests m s es o env vs =
     let left = s.turns - 1 in let further = further_turns o env vs in
     test (nat_eq s.turns 0) why.Steps s.turns
     ∷ test (grows o) why.Grow left
-    ∷ test (writes_table o) why.TableWrite left
+    ∷ test (changes_table o) why.TableWrite left
     ∷ test (uses_unknown m s.unknown o env vs) why.Unknown left
     ∷ test (calls_import o env vs) why.Import left
     ∷ test (has_none (step s.store es)) why.Trap left
     ∷ test (nat_lt left further) why.Steps left
     ∷ test (opens_too_deep o es) why.Depth (left - further)
-    ∷ test (too_many (written_after s.written (touched_by o env vs))) why.Memory (left - further)
+    ∷ test (too_many_blocks (written_after s.written (touched_by o env vs))) why.Memory (left - further)
     ∷ []
 
 abbrev pub tests_at : Module → State → List Entry → Option Beginning → List Test

@@ -30,12 +30,12 @@ abbrev pub value_of_global : Module → State → ℕ → Option ConstExpr
 value_of_global m s global = cond (is_imported m Globals global || is_among s.unknown.globals global) None (slice_get s.store.globals global >>= λ g. constant g.value)
 
 -- the memory that the module defines, if it defines one; it comes after those that are imported
-abbrev pub own_memory : Module → State → Option Memory
-own_memory m s = slice_get s.store.mems (length (imported_memories m.imports))
+abbrev pub defined_memory : Module → State → Option Memory
+defined_memory m s = slice_get s.store.mems (length (imported_memories m.imports))
 
 -- its bytes; their number is its size
 abbrev pub memory_bytes : Module → State → List ℕ
-memory_bytes m s = unwrap_or (own_memory m s >>= λ memory. Some memory.bytes) []
+memory_bytes m s = unwrap_or (defined_memory m s >>= λ memory. Some memory.bytes) []
 
 abbrev pub is_dropped : State → (segment : ℕ) → Bool
 is_dropped s segment = unwrap_or (slice_get s.store.datas segment >>= λ d. Some d.dropped) false
