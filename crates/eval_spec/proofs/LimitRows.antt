@@ -1,6 +1,6 @@
 -- The limits of turns, depth and written blocks at their numbers, of states that are one step away from them.
 use Rattle.std.proofs.Common.{◌≡◌, refl}
-use Rattle.std.specs.Prelude.{ℕ, pos, List, [], ◌∷◌, Some, None, Bool, true, false, replicate}
+use Rattle.std.specs.Prelude.{ℕ, pos, List, [], ◌∷◌, Some, None, Bool, true, false, replicate, ◌++◌, Option}
 use Rattle.wasm_tree.specs.declared.types.BlockType.TheVariants as bt
 use Rattle.wasm_tree.specs.declared.instr.Instr.{Instr, out-Instr}
 use Rattle.wasm_tree.specs.declared.instr.Instr.TheOpen.{Instr-F}
@@ -10,7 +10,9 @@ use Rattle.wasm_tree.specs.declared.module.ConstExpr.TheVariants as const
 use Rattle.wasm_num.specs.Operations.{W32, wrapped}
 use Rattle.wasm_meaning.specs.Outcomes.{Gives}
 use Rattle.wasm_meaning.specs.Access.{store_from, stored, little_bytes}
-use Rattle.wasm_meaning.specs.State.{Val, Num, Entry, Running, Env}
+use Rattle.wasm_tree.specs.declared.types.ValType.TheVariants.{I32}
+use Rattle.eval_spec.specs.declared.stop.Stop.{Stop}
+use Rattle.wasm_meaning.specs.State.{Inst, Func, Code, Val, Num, Entry, Running, Env}
 use Rattle.wasm_meaning.specs.Touched.{Bytes}
 use Rattle.eval_spec.specs.declared.limits.TheConstants.{MOST_TURNS, MOST_DEPTH, MOST_BLOCKS}
 use Rattle.eval_spec.specs.declared.stop.Stop.TheVariants as why
@@ -68,10 +70,20 @@ no_block = refl
 
 -- ---- a step ----
 
--- a memory of eight bytes, and these blocks written
+-- Function 0 is imported, 1 declares no local and 2 declares 64.
+abbrev inst : Inst
+inst = record (own_inst (after_import 0 [])) { mems = 0 ∷ []; funcs = 0 ∷ 1 ∷ 2 ∷ [] }
+
+abbrev with_locals : ℕ → Func
+with_locals n = Code (record { params = []; results = [] }) inst (replicate n I32) []
+
+-- a memory of 128 bytes, and these blocks written
 abbrev state : List Bool → State
 state written = record {
-  store = record (imported_store (after_import 0 [])) { mems = record { most = None; pages = 1; bytes = replicate 8 0 } ∷ [] };
+  store = record (imported_store (after_import 0 [])) {
+    funcs = (imported_store (after_import 0 [])).funcs ++ with_locals 0 ∷ with_locals 64 ∷ [];
+    mems = record { most = None; pages = 1; bytes = replicate 128 0 } ∷ [];
+  };
   unknown = unknown_at_first (does []);
   written = written;
   turns = 1;
@@ -80,7 +92,7 @@ state written = record {
 -- in so many levels and one more, the innermost with this code and these values
 abbrev frame : ℕ → List Val → List Instr → Entry
 frame n vs code = Running (record {
-  inst = record (own_inst (after_import 0 [])) { mems = 0 ∷ [] };
+  inst = inst;
   locals = [];
   results = [];
   levels = record { values = vs; code = code; gives = 0; takes = 0; back = [] } ∷ replicate n (record { values = []; code = []; gives = 0; takes = 0; back = [] });
@@ -101,6 +113,18 @@ a_block_again : stop (after_import 0 []) (state (true ∷ false ∷ replicate 16
 unfolding out-Instr denote.Hole.Carrier.out store_from stored little_bytes
 a_block_again = refl
 
+-- the further turns of a fill come before
+abbrev fills_a_block : Entry
+fills_a_block = frame 0 (filling 64) (i.MemoryFill 0 ∷ [])
+
+a_fill_without_turns : stop (after_import 0 []) (state (false ∷ replicate 16384 true)) (fills_a_block ∷ []) ≡ Some why.Steps
+unfolding out-Instr denote.Hole.Carrier.out
+a_fill_without_turns = refl
+
+a_fill_of_a_block : stop (after_import 0 []) (record (state (false ∷ replicate 16384 true)) { turns = 2 }) (fills_a_block ∷ []) ≡ Some why.Memory
+unfolding out-Instr denote.Hole.Carrier.out
+a_fill_of_a_block = refl
+
 -- the frame and 999 labels are open
 a_label_too_many : stop (after_import 0 []) (state []) (frame 999 [] (i.Block bt.Empty [] ∷ []) ∷ []) ≡ Some why.Depth
 unfolding out-Instr denote.Hole.Carrier.out
@@ -114,6 +138,24 @@ the_last_label = refl
 an_empty_if : stop (after_import 0 []) (state []) (frame 999 (Num W32 0 ∷ []) (i.If bt.Empty [] [] ∷ []) ∷ []) ≡ Some why.Depth
 unfolding out-Instr denote.Hole.Carrier.out
 an_empty_if = refl
+
+a_frame_too_many : stop (after_import 0 []) (state []) (frame 999 [] (i.Call 1 ∷ []) ∷ []) ≡ Some why.Depth
+unfolding out-Instr denote.Hole.Carrier.out
+a_frame_too_many = refl
+
+the_last_frame : stop (after_import 0 []) (state []) (frame 998 [] (i.Call 1 ∷ []) ∷ []) ≡ None
+unfolding out-Instr denote.Hole.Carrier.out
+the_last_frame = refl
+
+-- after the turns of its locals
+turns_before_depth : stop (after_import 0 []) (state []) (frame 999 [] (i.Call 2 ∷ []) ∷ []) ≡ Some why.Steps
+unfolding out-Instr denote.Hole.Carrier.out
+turns_before_depth = refl
+
+-- and after a trap, here of an `if` that has no number to test
+a_trap_before_depth : stop (after_import 0 []) (state []) (frame 999 [] (i.If bt.Empty [] [] ∷ []) ∷ []) ≡ Some why.Trap
+unfolding out-Instr denote.Hole.Carrier.out
+a_trap_before_depth = refl
 
 -- all frames count
 over_others : stop (after_import 0 []) (state []) (frame 499 [] (i.Loop bt.Empty [] ∷ []) ∷ frame 499 [] [] ∷ []) ≡ Some why.Depth
@@ -131,6 +173,14 @@ no_turn_for_an_end = refl
 
 -- ---- a segment ----
 
-a_segment_too_many : stop_of (with_data (with_page (does [])) (record (state (false ∷ replicate 16384 true)) { store = record (state []).store { datas = record { bytes = 5 ∷ []; dropped = false } ∷ [] } }) (record { part = 0; inst = own_inst (with_page (does [])); address = 0; segment = data_at (const.I32 (pos 0)) (5 ∷ []) })) ≡ Some why.Memory
+-- a byte that is copied to a place
+abbrev copied_to : ℕ → Option Stop
+copied_to place = stop_of (with_data (with_page (does [])) (record (state (false ∷ replicate 16384 true)) { store = record (state []).store { datas = record { bytes = 5 ∷ []; dropped = false } ∷ [] } }) (record { part = 0; inst = own_inst (with_page (does [])); address = 0; segment = data_at (const.I32 (pos place)) (5 ∷ []) }))
+
+past_the_end_first : copied_to 128 ≡ Some why.Trap
+unfolding wrapped
+past_the_end_first = refl
+
+a_segment_too_many : copied_to 127 ≡ Some why.Memory
 unfolding wrapped
 a_segment_too_many = refl

@@ -121,7 +121,15 @@ a_slot_that_was_filled_again_is_called : stops (filled_again (num 1 ∷ i.CallIn
 unfolding out-Instr denote.Hole.Carrier.out wrapped
 a_slot_that_was_filled_again_is_called = refl
 
--- nothing of it is used, or past its end
+-- and an unknown item is too
+abbrev unknown_again : List Instr → Module
+unknown_again body = let m = filled_again body in record m { elems = m.elems ++ record { mode = elem.Active 0 (const.I32 (pos 2)); ty = func_ref; items = const.Global 0 ∷ [] } ∷ [] }
+
+a_slot_that_is_unknown_again_is_called : stops (unknown_again (num 2 ∷ i.CallIndirect 0 0 ∷ [])) ≡ Some why.Unknown
+unfolding out-Instr denote.Hole.Carrier.out wrapped
+a_slot_that_is_unknown_again_is_called = refl
+
+-- with length 0, past its end
 an_imported_memory_is_filled : stops (imports (im.Memory page) (does (num 65537 ∷ num 0 ∷ num 0 ∷ i.MemoryFill 0 ∷ []))) ≡ Some why.Unknown
 unfolding out-Instr denote.Hole.Carrier.out wrapped
 an_imported_memory_is_filled = refl
@@ -238,6 +246,15 @@ growth_without_a_turn = refl
 after_a_start : stops_within 1 (record (does (i.Nop ∷ [])) { start = Some 0 }) ≡ Some why.Steps
 unfolding out-Instr denote.Hole.Carrier.out
 after_a_start = refl
+
+-- and so does each constructor
+two_calls : stop_of (evaluated_within (does (i.Nop ∷ i.Nop ∷ [])) 4 (0 ∷ 0 ∷ [])) ≡ None
+unfolding out-Instr denote.Hole.Carrier.out
+two_calls = refl
+
+two_calls_without_turns : stop_of (evaluated_within (does (i.Nop ∷ i.Nop ∷ [])) 3 (0 ∷ 0 ∷ [])) ≡ Some why.Steps
+unfolding out-Instr denote.Hole.Carrier.out
+two_calls_without_turns = refl
 
 -- ---- several memories ----
 

@@ -17,17 +17,17 @@ use Rattle.wasm_tree.specs.declared.module.DataMode.TheVariants as data'
 use Rattle.wasm_tree.specs.declared.module.Module.{Module}
 use Rattle.wasm_tree.specs.Spaces.{func_of, imported_tables, imported_memories, imported_globals, funcs_of, tables_of, memories_of, globals_of}
 use Rattle.wasm_num.specs.Operations.{W32}
-use Rattle.wasm_meaning.specs.Outcomes.{Gives}
+use Rattle.wasm_meaning.specs.Outcomes.{Outcome, Gives}
 use Rattle.wasm_meaning.specs.State.{Val, Inst, Func, Own, Table, Store}
 use Rattle.wasm_meaning.specs.Values.{zero_of, num_of}
-use Rattle.wasm_meaning.specs.Touched.{Bytes}
+use Rattle.wasm_meaning.specs.Touched.{Touched, Bytes}
 use Rattle.wasm_meaning.specs.Linking.{pair_of}
 use Rattle.wasm_meaning.specs.World.{Filled, PlacedSegment, segments_in, const_value, store_with, joined_stores, run_elem_with, run_data_with}
 use Rattle.index_remap.specs.Unknown.{Unknowns, is_place_among}
 use Rattle.block_pool.specs.Pages.{blank}
 use Rattle.eval_spec.specs.declared.stop.Stop.TheVariants as why
-use Rattle.eval_spec.specs.State.{State, Stage, Stopped, Over, Test, tried}
-use Rattle.eval_spec.specs.Stops.{is_imported, written_after, too_many_blocks, test}
+use Rattle.eval_spec.specs.State.{State, Stage, Stopped, Finished, Test, tried}
+use Rattle.eval_spec.specs.Stops.{is_imported, written_after, writes_too_many, test}
 use Rattle.eval_spec.specs.Quiet.{call_end}
 
 -- ---- allocation (section 4.5.3) ----
@@ -65,19 +65,19 @@ value_in m expr = const_value (imported_store m).globals (own_inst m) expr
 
 -- ---- what is unknown at first ----
 
-abbrev pub is_read : ConstExpr → Bool
-is_read (const.Global x) = true
-is_read _ = false
+abbrev pub reads_global : ConstExpr → Bool
+reads_global (const.Global x) = true
+reads_global _ = false
 
 -- the items of element segments, counted from a segment on, that are a `global.get`
 abbrev pub unknown_items : ℕ → List ElemSeg → List (ℕ × ℕ)
 unknown_items n [] = []
-unknown_items n (e ∷ es) = map (λ k. (n, k)) (places is_read e.items 0) ++ unknown_items (n + 1) es
+unknown_items n (e ∷ es) = map (λ k. (n, k)) (places reads_global e.items 0) ++ unknown_items (n + 1) es
 
 -- and the defined globals whose initialiser is one
 abbrev pub unknown_at_first : Module → Unknowns
 unknown_at_first m = record {
-  globals = places (λ g. is_read g.init) m.globals (length (imported_globals m.imports));
+  globals = places (λ g. reads_global g.init) m.globals (length (imported_globals m.imports));
   slots = [];
   items = unknown_items 0 m.elems;
 }
@@ -113,44 +113,44 @@ copied_slots s segment table place count = record s.unknown { slots = filter (is
 
 -- an active segment's offset is unknown, or the table or memory to which it is copied
 abbrev pub elem_tests : Module → State → (table : ℕ) → ConstExpr → Filled → List Test
-elem_tests m s table offset filled = test (is_read offset || is_imported m Tables table) why.Unknown s.turns ∷ test filled.trapped why.Trap s.turns ∷ []
+elem_tests m s table offset filled = test (reads_global offset || is_imported m Tables table) why.Unknown s.turns ∷ test filled.trapped why.Trap s.turns ∷ []
 
 abbrev pub elem_filled : Module → State → PlacedSegment ElemSeg → (table : ℕ) → ConstExpr → Filled → Stage
 elem_filled m s task table offset filled =
-    tried (elem_tests m s table offset filled) (Over (record s { store = filled.store; unknown = copied_slots s task.address table (place_in m offset) (length task.segment.items) }))
+    tried (elem_tests m s table offset filled) (Finished (record s { store = filled.store; unknown = copied_slots s task.address table (place_in m offset) (length task.segment.items) }))
 
 abbrev pub with_elem_mode : Module → State → PlacedSegment ElemSeg → ElemMode → Stage
 with_elem_mode m s task (elem.Active table offset) = elem_filled m s task table offset (run_elem_with (value_in m) s.store task task.segment.mode)
-with_elem_mode m s task _ = Over s
+with_elem_mode m s task _ = Finished s
 
 abbrev pub with_elem : Module → State → PlacedSegment ElemSeg → Stage
 with_elem m s task = with_elem_mode m s task task.segment.mode
 
-abbrev pub data_tests : Module → State → (memory : ℕ) → ConstExpr → Filled → (written : List Bool) → List Test
-data_tests m s memory offset filled written =
-    test (is_read offset || is_imported m Memories memory) why.Unknown s.turns ∷ test filled.trapped why.Trap s.turns ∷ test (too_many_blocks written) why.Memory s.turns ∷ []
+abbrev pub data_tests : Module → State → (memory : ℕ) → ConstExpr → Filled → Outcome Touched → List Test
+data_tests m s memory offset filled touched =
+    test (reads_global offset || is_imported m Memories memory) why.Unknown s.turns ∷ test filled.trapped why.Trap s.turns ∷ test (writes_too_many s.written touched) why.Memory s.turns ∷ []
 
-abbrev pub data_filled : Module → State → (memory : ℕ) → ConstExpr → Filled → (written : List Bool) → Stage
-data_filled m s memory offset filled written = tried (data_tests m s memory offset filled written) (Over (record s { store = filled.store; written = written }))
+abbrev pub data_filled : Module → State → (memory : ℕ) → ConstExpr → Filled → Outcome Touched → Stage
+data_filled m s memory offset filled touched = tried (data_tests m s memory offset filled touched) (Finished (record s { store = filled.store; written = written_after s.written touched }))
 
 abbrev pub with_data_mode : Module → State → PlacedSegment DataSeg → DataMode → Stage
 with_data_mode m s task (data'.Active memory offset) =
-    data_filled m s memory offset (run_data_with (value_in m) s.store task task.segment.mode) (written_after s.written (Gives (Bytes memory (place_in m offset) (length task.segment.bytes))))
-with_data_mode m s task data'.Passive = Over s
+    data_filled m s memory offset (run_data_with (value_in m) s.store task task.segment.mode) (Gives (Bytes memory (place_in m offset) (length task.segment.bytes)))
+with_data_mode m s task data'.Passive = Finished s
 
 abbrev pub with_data : Module → State → PlacedSegment DataSeg → Stage
 with_data m s task = with_data_mode m s task task.segment.mode
 
 -- one after the other, until something stops one
 abbrev pub in_order : {A : Type 0} → (State → A → Stage) → Stage → List A → Stage
-in_order f (Over s) (x ∷ xs) = in_order f (f s x) xs
+in_order f (Finished s) (x ∷ xs) = in_order f (f s x) xs
 in_order f t _ = t
 
 -- ---- instantiation ----
 
 -- all active element segments, then all active data segments; they cost no turns
 abbrev pub with_segments : Module → State → Stage
-with_segments m s = in_order (with_data m) (in_order (with_elem m) (Over s) (segments_in 0 (own_inst m) (own_inst m).elems m.elems)) (segments_in 0 (own_inst m) (own_inst m).datas m.datas)
+with_segments m s = in_order (with_data m) (in_order (with_elem m) (Finished s) (segments_in 0 (own_inst m) (own_inst m).elems m.elems)) (segments_in 0 (own_inst m) (own_inst m).datas m.datas)
 
 abbrev pub filled_from : Module → (turns : ℕ) → Option State → Stage
 filled_from m turns (Some s) = with_segments m s
@@ -161,7 +161,7 @@ abbrev pub instantiated : Module → (turns : ℕ) → Stage
 instantiated m turns = cond (nat_lt 1 (length (memories_of m))) (Stopped why.Memory turns) (filled_from m turns (state_at_first m turns))
 
 abbrev pub after_start : Module → Stage → Option ℕ → Stage
-after_start m (Over s) (Some func) = call_end m s func
+after_start m (Finished s) (Some func) = call_end m s func
 after_start m t _ = t
 
 -- the instantiation with the start

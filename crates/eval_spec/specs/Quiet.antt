@@ -9,7 +9,7 @@ use Rattle.wasm_meaning.specs.Step.{step, enter}
 use Rattle.wasm_meaning.specs.Touched.{touched_by}
 use Rattle.index_remap.specs.Unknown.{left_unknown}
 use Rattle.eval_spec.specs.declared.stop.Stop.TheVariants as why
-use Rattle.eval_spec.specs.State.{State, Stage, Going, Stopped, Over, tried}
+use Rattle.eval_spec.specs.State.{State, Stage, Going, Stopped, Finished, tried}
 use Rattle.eval_spec.specs.Stops.{Beginning, beginning, frame_turns, further_turns, written_after, stack_depth, tests, host_tests}
 
 -- ---- a step ----
@@ -26,10 +26,10 @@ spent_at s (Some b) = spent_by s b.instr (record { store = s.store; inst = b.ins
 abbrev pub spent : State → List Entry → State
 spent s es = record (spent_at s (beginning es)) { unknown = left_unknown s.unknown s.store es }
 
--- what the machine comes to: it goes on, or the host's call has ended. Whatever else there is stops before.
+-- what the machine comes to: it goes on, or the host's call has ended. A trap, an import's call and a growth stop before, and there are no placeholders.
 abbrev pub came_to : State → Outcome Next → Stage
 came_to s (Gives (Ran t es)) = Going (record s { store = t }) es
-came_to s (Gives (EndsCall vs t es)) = Over (record s { store = t })
+came_to s (Gives (EndsCall vs t es)) = Finished (record s { store = t })
 came_to s _ = Stopped why.Trap s.turns
 
 abbrev pub quiet_step : Module → State → List Entry → Stage
@@ -40,19 +40,19 @@ pub data ComesTo (m : Module) : Stage → Stage → Type 0 where
   here : {t : Stage} → ComesTo m t t
   on : {s : State} {es : List Entry} {t : Stage} → ComesTo m (quiet_step m s es) t → ComesTo m (Going s es) t
 
--- ---- a call ----
+-- ---- a call (section 4.5.5) ----
 
 -- the host calls a function without arguments
-abbrev pub opened : State → Func → Stage
-opened s f = tried (host_tests s f) (came_to (record s { turns = s.turns - frame_turns f }) (Gives (enter s.store f [] (Mark ∷ []))))
+abbrev pub host_opened : State → Func → Stage
+host_opened s f = tried (host_tests s f) (came_to (record s { turns = s.turns - frame_turns f }) (Gives (enter s.store f [] (Mark ∷ []))))
 
 -- the function of an index, which is its address. (A module that is valid names none that is not there.)
-abbrev pub opened_if_there : State → Option Func → Stage
-opened_if_there s (Some f) = opened s f
-opened_if_there s None = Stopped why.Trap s.turns
+abbrev pub host_opened_if_there : State → Option Func → Stage
+host_opened_if_there s (Some f) = host_opened s f
+host_opened_if_there s None = Stopped why.Trap s.turns
 
 abbrev pub host_call : State → (func : ℕ) → Stage
-host_call s func = opened_if_there s (slice_get s.store.funcs func)
+host_call s func = host_opened_if_there s (slice_get s.store.funcs func)
 
 -- so many steps, or fewer where it ends before
 abbrev pub after_steps : Module → ℕ → Stage → Stage
@@ -65,7 +65,7 @@ abbrev pub weight : Stage → ℕ
 weight (Going s es) = 2 * s.turns + stack_depth es
 weight _ = 0
 
--- the end of a run, which is over or stopped
+-- the end of a run, which is finished or stopped
 abbrev pub run_end : Module → Stage → Stage
 run_end m t = after_steps m (suc (weight t)) t
 

@@ -95,9 +95,9 @@ calls_import o env vs = is_there (called_by o env vs >>= own_at env.store)
 
 -- ---- Trap (section 4.4, and where no rule applies) ----
 
-abbrev pub has_none : {A : Type 0} → Outcome A → Bool
-has_none (Gives a) = false
-has_none _ = true
+abbrev pub gives_nothing : {A : Type 0} → Outcome A → Bool
+gives_nothing (Gives a) = false
+gives_nothing _ = true
 
 -- ---- Steps ----
 
@@ -117,7 +117,9 @@ write_turns _ = 0
 
 -- what an instruction takes besides the one turn for its beginning
 abbrev pub further_turns : Instr-F Instr → Env → List Val → ℕ
-further_turns o env vs = write_turns (touched_by o env vs) + call_turns (called_by o env vs >>= slice_get env.store.funcs)
+further_turns (Instr-F.Call func) env vs = call_turns (called_by (Instr-F.Call func) env vs >>= slice_get env.store.funcs)
+further_turns (Instr-F.CallIndirect ty table) env vs = call_turns (called_by (Instr-F.CallIndirect ty table) env vs >>= slice_get env.store.funcs)
+further_turns o env vs = write_turns (touched_by o env vs)
 
 -- ---- Depth (section 4.4.9 and 4.4.10) ----
 
@@ -148,6 +150,11 @@ written_after blocks _ = blocks
 
 abbrev pub too_many_blocks : List Bool → Bool
 too_many_blocks blocks = nat_lt MOST_BLOCKS (count_by (λ written. written) blocks)
+
+-- one block more than there may be would be written; what writes no bytes writes none
+abbrev pub writes_too_many : List Bool → Outcome Touched → Bool
+writes_too_many blocks (Gives (Bytes a place count)) = too_many_blocks (with_reached place count 0 blocks)
+writes_too_many blocks _ = false
 
 -- ---- the order ----
 
@@ -182,15 +189,15 @@ instruction_tests m s es o env vs =
     ∷ test (changes_table o) why.TableWrite left
     ∷ test (uses_unknown m s.unknown o env vs) why.Unknown left
     ∷ test (calls_import o env vs) why.Import left
-    ∷ test (has_none (step s.store es)) why.Trap left
+    ∷ test (gives_nothing (step s.store es)) why.Trap left
     ∷ test (nat_lt left further) why.Steps left
     ∷ test (opens_too_deep o es) why.Depth (left - further)
-    ∷ test (too_many_blocks (written_after s.written (touched_by o env vs))) why.Memory (left - further)
+    ∷ test (writes_too_many s.written (touched_by o env vs)) why.Memory (left - further)
     ∷ []
 
 abbrev pub tests_at : Module → State → List Entry → Option Beginning → List Test
 tests_at m s es (Some b) = instruction_tests m s es b.instr (record { store = s.store; inst = b.inst }) b.values
-tests_at m s es None = test (has_none (step s.store es)) why.Trap s.turns ∷ []
+tests_at m s es None = test (gives_nothing (step s.store es)) why.Trap s.turns ∷ []
 
 abbrev pub tests : Module → State → List Entry → List Test
 tests m s es = tests_at m s es (beginning es)
@@ -199,7 +206,7 @@ tests m s es = tests_at m s es (beginning es)
 abbrev pub stop : Module → State → List Entry → Option Stop
 stop m s es = first_held (tests m s es) >>= λ test. Some test.stop
 
--- ---- before the host opens a frame, of the start or of a constructor ----
+-- ---- before the host opens a frame, of the start or of a constructor (section 4.5.5) ----
 
 abbrev pub takes_and_gives_nothing : FuncType → Bool
 takes_and_gives_nothing t = nat_eq (length t.params) 0 && nat_eq (length t.results) 0

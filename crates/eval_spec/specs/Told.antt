@@ -13,7 +13,7 @@ use Rattle.index_remap.specs.References.{is_among}
 use Rattle.eval_spec.specs.State.{State}
 use Rattle.eval_spec.specs.Stops.{is_imported}
 
--- the constant expression of a value (section 3.3.10); a number of the embedder's own, of which a run without imports has none, has none either
+-- the constant expression of a value (section 3.3.10). A number of the embedder's own has none; no value that comes from an import is read, so that an evaluation comes to no such number.
 abbrev pub constant_ref : RefVal → Option ConstExpr
 constant_ref (FuncRef (Some func)) = Some (const.Func func)
 constant_ref (FuncRef None) = Some (const.Null reft.Func)
@@ -25,9 +25,12 @@ constant (Num W32 n) = Some (const.I32 (signed 32 n))
 constant (Num W64 n) = Some (const.I64 (signed 64 n))
 constant (Ref r) = constant_ref r
 
+abbrev pub is_unknown_global : Module → State → ℕ → Bool
+is_unknown_global m s global = is_imported m Globals global || is_among s.unknown.globals global
+
 -- the value of a global, and none where it is unknown
 abbrev pub value_of_global : Module → State → ℕ → Option ConstExpr
-value_of_global m s global = cond (is_imported m Globals global || is_among s.unknown.globals global) None (slice_get s.store.globals global >>= λ g. constant g.value)
+value_of_global m s global = cond (is_unknown_global m s global) None (slice_get s.store.globals global >>= λ g. constant g.value)
 
 -- the memory that the module defines, if it defines one; it comes after those that are imported
 abbrev pub defined_memory : Module → State → Option Memory

@@ -9,9 +9,10 @@ pub enum Stop {
     Grow,
     /// `table.set`, `table.grow`, `table.fill`, `table.copy`, `table.init` or `elem.drop`.
     TableWrite,
-    /// What is imported is used, or a value of which nothing is known.
+    /// An imported global, table or memory is used; a global or a slot of which nothing is known is read or called; an active segment has such an offset, or goes to an
+    /// imported table or memory.
     Unknown,
-    /// A trap of WebAssembly Core 2.0, section 4.4 or 4.5.4.
+    /// A trap of WebAssembly Core 2.0, section 4.4 or 4.5.4, or a step to which no rule applies.
     Trap,
     /// The constructor has a parameter or a result.
     Signature,
