@@ -1,0 +1,10 @@
+mod Depth
+mod Falls
+mod Ends
+mod Counted
+mod Operands
+mod Frames
+mod Quiet
+mod KnownSteps
+mod Budgets
+mod Begun
