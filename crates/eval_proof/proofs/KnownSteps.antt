@@ -1,5 +1,5 @@
 -- Quiet steps that go on read no unknown place and name related addresses.
-use Rattle.std.proofs.Common.{◌≡◌, ℕ, suc, List, [], ◌∷◌, Some, Bool, false, not, ◌&&◌, refl, sym, subst}
+use Rattle.std.proofs.Common.{◌≡◌, ℕ, suc, List, [], ◌∷◌, Some, Bool, false, not, ◌&&◌, refl, sym, subst, None}
 use Rattle.std.proofs.lemmas.Bool.{true≢false}
 use Rattle.base_lists.proofs.Numbers.{numbers_is}
 use Rattle.wasm_tree.specs.declared.space.Space.{Space}
@@ -13,14 +13,14 @@ use Rattle.index_remap.specs.Related.{Pairing, NextKnown, TopKnown, TopSkips}
 use Rattle.index_remap.specs.Laws.{passed, EntriesKnown}
 use Rattle.index_remap.specs.Unknown.{StepReadsKnown, KnownSteps, none_left, known_step}
 use Rattle.index_remap.proofs.StepsAgree.{none_called}
-use Rattle.eval_spec.specs.State.{State, Stage, Going, Stopped, Finished}
-use Rattle.eval_spec.specs.Stops.{is_imported, is_unknown_import}
+use Rattle.eval_spec.specs.State.{State, Stage, Going, Stopped, Finished, first_held}
+use Rattle.eval_spec.specs.Stops.{is_imported, is_unknown_import, tests}
 use Rattle.eval_spec.specs.Quiet.{ComesTo, here, on, quiet_step}
 use Rattle.eval_spec.specs.Instantiation.{own_inst}
 use Rattle.eval_proof.specs.Known.{RelatesAllButImports, FramesOf, FuncsOf, QuietStepsAreKnown}
 use Rattle.eval_proof.proofs.Operands.{address_at, Known, op_known}
 use Rattle.eval_proof.proofs.Frames.{step_keeps}
-use Rattle.eval_proof.proofs.Quiet.{neither, every_false, every_to, UsesKnownIn, UsesKnown, uses_known, reads_levels, GoesOnQuietly, goes_on_quietly}
+use Rattle.eval_proof.proofs.Quiet.{neither, every_false, every_to, UsesKnownIn, UsesKnown, uses_known, reads_levels, goes_on_quietly}
 
 -- each index is its own address
 own_address : (m : Module) (k : Space) (n a : ℕ) → address_at (own_inst m) k n ≡ Some a → a ≡ n
@@ -33,7 +33,7 @@ own_address m ElementSegments n a e = sym (numbers_is _ n a e).1
 own_address m DataSegments n a e = sym (numbers_is _ n a e).1
 
 module _ (m : Module) (of named : Space → ℕ → ℕ → Bool) (all : RelatesAllButImports m of named) where
-  abbrev R : Pairing
+  abbrev pub R : Pairing
   R = passed of named []
 
   operand_known : (i j : Inst) → i ≡ own_inst m → (x : Operand) → is_unknown_import m x ≡ false → Known R i j x
@@ -52,11 +52,11 @@ module _ (m : Module) (of named : Space → ℕ → ℕ → Bool) (all : Relates
   top_known s i j (l ∷ ls) [] is n = tt
 
   -- what is so of the entries whose step goes on
-  abbrev TopUses : State → List Entry → Type 0
+  abbrev pub TopUses : State → List Entry → Type 0
   TopUses s (Running f ∷ es) = UsesKnown m s f.inst f.levels
   TopUses s _ = Unit {0}
 
-  entries_known : (s : State) (es hs : List Entry) → FramesOf (own_inst m) es → TopUses s es → EntriesKnown R es hs
+  pub entries_known : (s : State) (es hs : List Entry) → FramesOf (own_inst m) es → TopUses s es → EntriesKnown R es hs
   entries_known s (Running f ∷ es) (Running g ∷ hs) o n = top_known s f.inst g.inst f.levels g.levels o.0 n
   entries_known s (Running f ∷ es) (Mark ∷ hs) o n = tt
   entries_known s (Running f ∷ es) (Opening ys ∷ hs) o n = tt
@@ -71,7 +71,7 @@ module _ (m : Module) (of named : Space → ℕ → ℕ → Bool) (all : Relates
   entries_known s (Growing g ∷ es) hs o n = tt
   entries_known s [] hs o n = tt
 
-  step_reads : (s : State) (es : List Entry) → TopUses s es → StepReadsKnown s.unknown s.store es
+  pub step_reads : (s : State) (es : List Entry) → TopUses s es → StepReadsKnown s.unknown s.store es
   step_reads s (Running f ∷ es) n = reads_levels m s f.inst f.levels n
   step_reads s (Mark ∷ es) n = tt
   step_reads s (Opening xs ∷ es) n = tt
@@ -83,7 +83,7 @@ module _ (m : Module) (of named : Space → ℕ → ℕ → Bool) (all : Relates
   none_listed : (a : ℕ) → ¬ R.listed a
   none_listed a p = true≢false (sym p)
 
-  skips : (s : Store) (es : List Entry) → TopSkips R s es
+  pub skips : (s : Store) (es : List Entry) → TopSkips R s es
   skips s (Running f ∷ es) = λ x _. none_called R none_listed x
   skips s (Mark ∷ es) = tt
   skips s (Opening xs ∷ es) = tt
@@ -92,14 +92,14 @@ module _ (m : Module) (of named : Space → ℕ → ℕ → Bool) (all : Relates
   skips s (Growing g ∷ es) = tt
   skips s [] = tt
 
-  top_uses : (s t : State) (es fs : List Entry) → GoesOnQuietly m s es t fs → TopUses s es
-  top_uses s t (Running f ∷ es) fs g = uses_known m s (Running f ∷ es) f.inst f.levels g.none_held
-  top_uses s t (Mark ∷ es) fs g = tt
-  top_uses s t (Opening xs ∷ es) fs g = tt
-  top_uses s t (Waiting ts ∷ es) fs g = tt
-  top_uses s t (Ended vs ∷ es) fs g = tt
-  top_uses s t (Growing h ∷ es) fs g = tt
-  top_uses s t [] fs g = tt
+  pub top_uses : (s : State) (es : List Entry) → first_held (tests m s es) ≡ None → TopUses s es
+  top_uses s (Running f ∷ es) n = uses_known m s (Running f ∷ es) f.inst f.levels n
+  top_uses s (Mark ∷ es) n = tt
+  top_uses s (Opening xs ∷ es) n = tt
+  top_uses s (Waiting ts ∷ es) n = tt
+  top_uses s (Ended vs ∷ es) n = tt
+  top_uses s (Growing h ∷ es) n = tt
+  top_uses s [] n = tt
 
   -- ---- several steps ----
 
@@ -117,7 +117,7 @@ module _ (m : Module) (of named : Space → ℕ → ℕ → Bool) (all : Relates
   one_more s t es fs (Finished x) e b = absurd (let h = b in cc)
   one_more s t es fs (Going r gs) e b = λ funcs frames.
       let g = goes_on_quietly m s es r gs e in
-      let uses = top_uses s r es gs g in
+      let uses = top_uses s es g.none_held in
       let kept = step_keeps (own_inst m) s.store funcs es r.store gs frames g.steps in
       let rest = b (subst (FuncsOf (own_inst m)) (sym kept.0) funcs) kept.1 in
       (suc rest.0, known_step (step_reads s es uses) (skips s.store es) (λ hs _. entries_known s es hs frames uses) g.steps (subst (λ u. KnownSteps R rest.0 u r.store gs t.unknown t.store fs) g.unknown rest.1))

@@ -8,3 +8,6 @@ mod Quiet
 mod KnownSteps
 mod Budgets
 mod Begun
+mod KnownCalls
+mod Whole
+mod Machines

@@ -1,5 +1,5 @@
 -- What is so where a quiet step goes on: no test held, and the machine made its step.
-use Rattle.std.proofs.Common.{◌≡◌, ℕ, ◌+◌, ◌<◌, ◌≤◌, List, [], ◌∷◌, Option, Some, None, Bool, true, false, cond, ◌&&◌, ◌||◌, refl, sym, ap, subst, arith}
+use Rattle.std.proofs.Common.{◌≡◌, ℕ, ◌+◌, ◌<◌, ◌≤◌, List, [], ◌∷◌, Option, Some, None, Bool, true, false, cond, ◌&&◌, ◌||◌, refl, sym, ap, subst, arith, ◌∙◌}
 use Rattle.std.specs.Prelude.{nat_eq, nat_le, nat_lt}
 use Rattle.std.specs.List.{list_any}
 use Rattle.std.proofs.lemmas.Bool.{true≢false, eqb-true, le-leb, lt-ltb}
@@ -10,7 +10,7 @@ use Rattle.wasm_meaning.specs.Outcomes.{Outcome, Gives, Traps, IllTyped}
 use Rattle.wasm_meaning.specs.State.{Val, Inst, Level, Entry, Next, Ran, CallsOwn, WaitsGrowth, CallsPlaceholder, EndsCall}
 use Rattle.wasm_meaning.specs.Step.{step}
 use Rattle.index_remap.specs.Unknown.{Unknowns, none_unknown, is_place_among, ReadPlace, ReadsNothing, ReadsGlobal, ReadsSlots, ReadsItems, read_next, read_levels, IsKnown, ReadsKnown, left_unknown}
-use Rattle.eval_spec.specs.State.{State, Stage, Going, Test, first_held, stopped_or}
+use Rattle.eval_spec.specs.State.{State, Stage, Going, Test, first_held, stopped_or, Finished}
 use Rattle.eval_spec.specs.Stops.{any_in_row, is_unknown, reads_unknown, uses_unknown, beginning_in, beginning_of, instruction_tests, tests_at, tests}
 use Rattle.eval_spec.specs.Quiet.{spent, came_to, quiet_step}
 
@@ -101,6 +101,7 @@ next_of _ = Traps
 
 abbrev unknown_of : Stage → Unknowns
 unknown_of (Going s es) = s.unknown
+unknown_of (Finished s) = s.unknown
 unknown_of _ = none_unknown
 
 ran : (u : State) (o : Outcome Next) (t : State) (fs : List Entry) → came_to u o ≡ Going t fs → (o ≡ Gives (Ran t.store fs)) × (t.unknown ≡ u.unknown)
@@ -123,3 +124,32 @@ goes_on_quietly m s es t fs e = by (first_held (tests m s es)) refl e
     by : (o : Option Test) → first_held (tests m s es) ≡ o → stopped_or o (came_to (spent s es) (step s.store es)) ≡ Going t fs → GoesOnQuietly m s es t fs
     by (Some x) h e = absurd (let k = e in cc)
     by None h e = let r = ran (spent s es) (step s.store es) t fs e in record { none_held = h; steps = r.0; unknown = r.1 }
+
+-- ---- the machine ended the call ----
+
+pub record FinishesQuietly (m : Module) (s : State) (es : List Entry) (t : State) : Type 0 where
+  pub values : List Val
+  pub rest : List Entry
+  pub none_held : first_held (tests m s es) ≡ None
+  pub ends : step s.store es ≡ Gives (EndsCall values t.store rest)
+  pub unknown : t.unknown ≡ left_unknown s.unknown s.store es
+
+abbrev ended_of : List Val → List Entry → Stage → Outcome Next
+ended_of vs gs (Finished s) = Gives (EndsCall vs s.store gs)
+ended_of vs gs _ = Traps
+
+ended : (m : Module) (s : State) (es : List Entry) (t : State) (o : Outcome Next) → first_held (tests m s es) ≡ None → step s.store es ≡ o → came_to (spent s es) o ≡ Finished t → FinishesQuietly m s es t
+ended m s es t Traps n is e = absurd (let k = e in cc)
+ended m s es t IllTyped n is e = absurd (let k = e in cc)
+ended m s es t (Gives (Ran x gs)) n is e = absurd (let k = e in cc)
+ended m s es t (Gives (CallsOwn pair ty vs x gs)) n is e = absurd (let k = e in cc)
+ended m s es t (Gives (WaitsGrowth g size count x gs)) n is e = absurd (let k = e in cc)
+ended m s es t (Gives (CallsPlaceholder slot vs x gs)) n is e = absurd (let k = e in cc)
+ended m s es t (Gives (EndsCall vs x gs)) n is e = record { values = vs; rest = gs; none_held = n; ends = is ∙ ap (ended_of vs gs) e; unknown = sym (ap unknown_of e) }
+
+pub finishes_quietly : (m : Module) (s : State) (es : List Entry) (t : State) → quiet_step m s es ≡ Finished t → FinishesQuietly m s es t
+finishes_quietly m s es t e = by (first_held (tests m s es)) refl e
+  where
+    by : (o : Option Test) → first_held (tests m s es) ≡ o → stopped_or o (came_to (spent s es) (step s.store es)) ≡ Finished t → FinishesQuietly m s es t
+    by (Some x) h e = absurd (let k = e in cc)
+    by None h e = ended m s es t (step s.store es) h refl e

@@ -4,10 +4,13 @@ use Rattle.wasm_tree.specs.declared.space.Space.{Space}
 use Rattle.wasm_tree.specs.declared.space.Space.TheVariants.{Functions}
 use Rattle.wasm_tree.specs.declared.module.Module.{Module}
 use Rattle.wasm_tree.specs.Operands.{same_space}
-use Rattle.wasm_meaning.specs.State.{Inst, Func, Code, Entry, Running}
-use Rattle.index_remap.specs.Laws.{passed}
-use Rattle.index_remap.specs.Unknown.{KnownSteps}
-use Rattle.eval_spec.specs.State.{State, Going}
+use Rattle.wasm_meaning.specs.Outcomes.{Gives}
+use Rattle.wasm_meaning.specs.State.{Val, Inst, Func, Code, Entry, Running, EndsCall}
+use Rattle.wasm_meaning.specs.Step.{step}
+use Rattle.index_remap.specs.Related.{Pairing, TopSkips}
+use Rattle.index_remap.specs.Laws.{passed, EntriesKnown}
+use Rattle.index_remap.specs.Unknown.{StepReadsKnown, left_unknown, KnownSteps}
+use Rattle.eval_spec.specs.State.{State, Going, Finished}
 use Rattle.eval_spec.specs.Stops.{is_imported}
 use Rattle.eval_spec.specs.Quiet.{ComesTo}
 use Rattle.eval_spec.specs.Instantiation.{own_inst}
@@ -36,3 +39,22 @@ abbrev pub QuietStepsAreKnown : Type 0
 QuietStepsAreKnown =
     (m : Module) (of named : Space → ℕ → ℕ → Bool) → RelatesAllButImports m of named → (s t : State) (es fs : List Entry) → FuncsOf (own_inst m) s.store.funcs → FramesOf (own_inst m) es →
     ComesTo m (Going s es) (Going t fs) → (n : ℕ) × KnownSteps (passed of named []) n s.unknown s.store es t.unknown t.store fs
+
+-- So it is with a whole call: as many such steps, and a last one of that kind that ends the call.
+pub record EndsAsTheMachine (R : Pairing) (s : State) (es : List Entry) (t : State) : Type 0 where
+  pub number : ℕ
+  pub last : State
+  pub entries : List Entry
+  pub steps : KnownSteps R number s.unknown s.store es last.unknown last.store entries
+  pub reads : StepReadsKnown last.unknown last.store entries
+  pub skips : TopSkips R last.store entries
+  pub known : (hs : List Entry) → EntriesKnown R entries hs
+  pub values : List Val
+  pub rest : List Entry
+  pub ends : step last.store entries ≡ Gives (EndsCall values t.store rest)
+  pub unknown : t.unknown ≡ left_unknown last.unknown last.store entries
+
+abbrev pub QuietCallsAreKnown : Type 0
+QuietCallsAreKnown =
+    (m : Module) (of named : Space → ℕ → ℕ → Bool) → RelatesAllButImports m of named → (s t : State) (es : List Entry) → FuncsOf (own_inst m) s.store.funcs → FramesOf (own_inst m) es →
+    ComesTo m (Going s es) (Finished t) → EndsAsTheMachine (passed of named []) s es t

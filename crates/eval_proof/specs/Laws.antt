@@ -1,9 +1,9 @@
 -- The laws of quiet runs.
-use Rattle.std.specs.Prelude.{◌≡◌, ℕ, ◌≤◌, false, List, [], length, take}
+use Rattle.std.specs.Prelude.{◌≡◌, ℕ, ◌≤◌, false, List, [], length, take, None}
 use Rattle.wasm_tree.specs.declared.module.Module.{Module}
 use Rattle.eval_spec.specs.State.{Stage, is_going}
 use Rattle.eval_spec.specs.Quiet.{ComesTo, run_end}
-use Rattle.eval_spec.specs.Evaluation.{IsQuiet, done_count}
+use Rattle.eval_spec.specs.Evaluation.{evaluated_within, IsQuiet, done_count, stopped_by}
 
 -- What a run comes to in as many steps as its weight, and one more, is over or stopped.
 abbrev pub RunsEnd : Type 0
@@ -24,3 +24,18 @@ CountedAreQuiet = (m : Module) (funcs : List ℕ) → IsQuiet m [] → IsQuiet m
 -- and no prefix that is longer is quiet.
 abbrev pub QuietAreCounted : Type 0
 QuietAreCounted = (m : Module) (funcs : List ℕ) (n : ℕ) → n ≤ length funcs → IsQuiet m (take n funcs) → n ≤ done_count m funcs
+
+-- An evaluation ends,
+abbrev pub EvaluationsEnd : Type 0
+EvaluationsEnd = (m : Module) (turns : ℕ) (funcs : List ℕ) → is_going (evaluated_within m turns funcs) ≡ false
+
+-- so that it is quiet where nothing stops it, and only there,
+abbrev pub QuietWhereNothingStops : Type 0
+QuietWhereNothingStops = (m : Module) (funcs : List ℕ) → stopped_by m funcs ≡ None → IsQuiet m funcs
+
+abbrev pub NothingStopsQuiet : Type 0
+NothingStopsQuiet = (m : Module) (funcs : List ℕ) → IsQuiet m funcs → stopped_by m funcs ≡ None
+
+-- and where something stops the instantiation, no constructor is counted.
+abbrev pub NoneCountedBefore : Type 0
+NoneCountedBefore = (m : Module) (funcs : List ℕ) → ¬ IsQuiet m [] → done_count m funcs ≡ 0

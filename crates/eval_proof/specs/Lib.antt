@@ -1,3 +1,4 @@
 pub mod Laws
 pub mod Known
 pub mod Budgets
+pub mod Machines

@@ -2,8 +2,9 @@
 #![tactic(auto)]
 
 ghost use Rattle.eval_proof.specs.Budgets.{GreaterBudgetsDoTheSame};
-ghost use Rattle.eval_proof.specs.Known.{QuietStepsAreKnown};
-ghost use Rattle.eval_proof.specs.Laws.{CountedAreQuiet, EndsAreReached, QuietAreCounted, QuietEndsAreUnique, RunsEnd};
+ghost use Rattle.eval_proof.specs.Known.{QuietCallsAreKnown, QuietStepsAreKnown};
+ghost use Rattle.eval_proof.specs.Machines.{InstantiationsAreTheMachines};
+ghost use Rattle.eval_proof.specs.Laws.{CountedAreQuiet, EndsAreReached, EvaluationsEnd, NoneCountedBefore, NothingStopsQuiet, QuietAreCounted, QuietEndsAreUnique, QuietWhereNothingStops, RunsEnd};
 
 /// A quiet run ends after as many steps as it may take, with what its steps lead to and nothing else.
 pub fn quiet_runs_end()
@@ -21,9 +22,23 @@ pub fn counted_constructors_are_the_quiet_ones()
 /// Quiet steps that go on are steps of the machine (WebAssembly Core 2.0, section 4.4) which read no unknown place and name, of what is imported, functions alone.
 pub fn quiet_steps_are_known()
     ensures known { QuietStepsAreKnown }
+    ensures calls { QuietCallsAreKnown }
 {}
 
 /// With a greater budget of turns an evaluation does the same and leaves as many turns more, unless it stops for want of turns.
 pub fn greater_budgets_do_the_same()
     ensures same { GreaterBudgetsDoTheSame }
+{}
+
+/// An evaluation ends, quietly exactly where nothing stops it; where something stops the instantiation, no constructor is counted.
+pub fn evaluations_end()
+    ensures ends { EvaluationsEnd }
+    ensures quiet { QuietWhereNothingStops }
+    ensures unstopped { NothingStopsQuiet }
+    ensures none { NoneCountedBefore }
+{}
+
+/// An instantiation that nothing stops is the machine's (WebAssembly Core 2.0, section 4.5.4), over a store in which imports hold nothing.
+pub fn quiet_instantiations_are_the_machines()
+    ensures same { InstantiationsAreTheMachines }
 {}
