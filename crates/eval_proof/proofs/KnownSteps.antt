@@ -36,7 +36,7 @@ module _ (m : Module) (of named : Space → ℕ → ℕ → Bool) (all : Relates
   abbrev pub R : Pairing
   R = passed of named []
 
-  operand_known : (i j : Inst) → i ≡ own_inst m → (x : Operand) → is_unknown_import m x ≡ false → Known R i j x
+  pub operand_known : (i j : Inst) → i ≡ own_inst m → (x : Operand) → is_unknown_import m x ≡ false → Known R i j x
   operand_known i j is x e a b at p =
       let same : a ≡ x.index = own_address m x.space x.index a (subst (λ i. address_at i x.space x.index ≡ Some a) is at) in
       all x.space a b (subst (λ n. not (same_space x.space Functions) && is_imported m x.space n ≡ false) (sym same) e) p
@@ -80,7 +80,7 @@ module _ (m : Module) (of named : Space → ℕ → ℕ → Bool) (all : Relates
   step_reads s (Growing g ∷ es) n = tt
   step_reads s [] n = tt
 
-  none_listed : (a : ℕ) → ¬ R.listed a
+  pub none_listed : (a : ℕ) → ¬ R.listed a
   none_listed a p = true≢false (sym p)
 
   pub skips : (s : Store) (es : List Entry) → TopSkips R s es

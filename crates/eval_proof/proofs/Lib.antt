@@ -11,3 +11,4 @@ mod Begun
 mod KnownCalls
 mod Whole
 mod Machines
+mod Alone

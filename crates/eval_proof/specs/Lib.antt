@@ -2,3 +2,4 @@ pub mod Laws
 pub mod Known
 pub mod Budgets
 pub mod Machines
+pub mod Alone

@@ -1,10 +1,13 @@
 //! Laws of the quiet run: it ends, with what its steps lead to; how many constructors it evaluates; its steps are the machine's, whatever stands outside.
 #![tactic(auto)]
 
+ghost use Rattle.eval_proof.specs.Alone.{QuietStepsLeaveAlone};
 ghost use Rattle.eval_proof.specs.Budgets.{GreaterBudgetsDoTheSame};
 ghost use Rattle.eval_proof.specs.Known.{QuietCallsAreKnown, QuietStepsAreKnown};
 ghost use Rattle.eval_proof.specs.Machines.{InstantiationsAreTheMachines};
 ghost use Rattle.eval_proof.specs.Laws.{CountedAreQuiet, EndsAreReached, EvaluationsEnd, NoneCountedBefore, NothingStopsQuiet, QuietAreCounted, QuietEndsAreUnique, QuietWhereNothingStops, RunsEnd};
+
+use wasm_meaning::steps_write_what_they_touch;
 
 /// A quiet run ends after as many steps as it may take, with what its steps lead to and nothing else.
 pub fn quiet_runs_end()
@@ -42,3 +45,10 @@ pub fn evaluations_end()
 pub fn quiet_instantiations_are_the_machines()
     ensures same { InstantiationsAreTheMachines }
 {}
+
+/// A quiet step leaves alone, in any store over which the machine makes it too, what is not related to what the module defines, and what is unknown afterwards.
+pub fn quiet_steps_leave_the_rest_alone()
+    ensures alone { QuietStepsLeaveAlone }
+{
+    steps_write_what_they_touch();
+}
