@@ -12,3 +12,4 @@ mod KnownCalls
 mod Whole
 mod Machines
 mod Alone
+mod Led

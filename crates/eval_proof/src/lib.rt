@@ -4,9 +4,11 @@
 ghost use Rattle.eval_proof.specs.Alone.{QuietStepsLeaveAlone};
 ghost use Rattle.eval_proof.specs.Budgets.{GreaterBudgetsDoTheSame};
 ghost use Rattle.eval_proof.specs.Known.{QuietCallsAreKnown, QuietStepsAreKnown};
+ghost use Rattle.eval_proof.specs.Led.{QuietCallsLead};
 ghost use Rattle.eval_proof.specs.Machines.{InstantiationsAreTheMachines};
 ghost use Rattle.eval_proof.specs.Laws.{CountedAreQuiet, EndsAreReached, EvaluationsEnd, NoneCountedBefore, NothingStopsQuiet, QuietAreCounted, QuietEndsAreUnique, QuietWhereNothingStops, RunsEnd};
 
+use index_remap::steps_agree_off_unknown_places;
 use wasm_meaning::steps_write_what_they_touch;
 
 /// A quiet run ends after as many steps as it may take, with what its steps lead to and nothing else.
@@ -51,4 +53,12 @@ pub fn quiet_steps_leave_the_rest_alone()
     ensures alone { QuietStepsLeaveAlone }
 {
     steps_write_what_they_touch();
+}
+
+/// A quiet call leads the same call over any store that is related to its own, where nothing need be known of imported tables, memories and globals, nor of what is
+/// unknown: in as many steps, to a store that is related but for what is still unknown.
+pub fn quiet_calls_lead_others()
+    ensures lead { QuietCallsLead }
+{
+    steps_agree_off_unknown_places();
 }
