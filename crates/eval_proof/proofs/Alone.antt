@@ -13,7 +13,7 @@ use Rattle.wasm_tree.specs.declared.module.Module.{Module}
 use Rattle.wasm_tree.specs.Operands.{operands}
 use Rattle.wasm_num.specs.Operations.{W32}
 use Rattle.wasm_meaning.specs.Outcomes.{Outcome, Gives, Traps, IllTyped, bind}
-use Rattle.wasm_meaning.specs.State.{Val, Inst, Func, Code, Own, Placeholder, Level, Store, Change, Frame, Entry, Running, Mark, Opening, Waiting, Ended, Growing, Act, Goes, Calls, AsksGrow, Ends, Next, Ran}
+use Rattle.wasm_meaning.specs.State.{Val, Inst, Func, Code, Own, Placeholder, Level, Store, Change, Frame, Entry, Running, Mark, Opening, Waiting, Ended, Growing, Act, Goes, Calls, AsksGrow, Ends, Next, Ran, EndsCall}
 use Rattle.wasm_meaning.specs.Values.{pop_num, pop_typed}
 use Rattle.wasm_meaning.specs.Memory.{pop_three}
 use Rattle.wasm_meaning.specs.Control.{type_at}
@@ -26,7 +26,7 @@ use Rattle.index_remap.specs.Related.{Pairing, OptRel, none, some, ListRel, nil,
 use Rattle.index_remap.specs.References.{is_among}
 use Rattle.index_remap.specs.Unknown.{Unknowns, learnt, left_by, left_after, left_unknown}
 use Rattle.eval_spec.specs.State.{State, Going, first_held}
-use Rattle.eval_spec.specs.Stops.{changes_table, is_unknown_import, beginning_in, beginning_of, instruction_tests, tests_at}
+use Rattle.eval_spec.specs.Stops.{changes_table, is_unknown_import, beginning_in, beginning_of, instruction_tests, tests_at, tests}
 use Rattle.eval_spec.specs.Quiet.{quiet_step}
 use Rattle.eval_spec.specs.Instantiation.{own_inst}
 use Rattle.eval_proof.specs.Known.{RelatesAllButImports, FramesOf}
@@ -157,8 +157,9 @@ module _ (R : Pairing) (u : Unknowns) (x : Store) where
     datas = λ c n. set_other x.datas b c _ (λ (q : c ≡ b). n t.0 (subst (λ k. R.of DataSegments t.0 k) (sym q) t.1));
   }
 
-  abbrev AloneNext : Next → Type 0
+  abbrev pub AloneNext : Next → Type 0
   AloneNext (Ran y hs) = LeavesAlone R u x y
+  AloneNext (EndsCall vs y hs) = LeavesAlone R u x y
   AloneNext _ = Unit {0}
 
   give_levels_alone : (vs : List Val) (g : Frame) (ls : List Level) (fs : List Entry) → AllOf AloneNext (give_levels x vs g ls fs)
@@ -168,7 +169,7 @@ module _ (R : Pairing) (u : Unknowns) (x : Store) where
   give_alone : (vs : List Val) (fs : List Entry) → AllOf AloneNext (give x vs fs)
   give_alone vs [] = ill_typed
   give_alone vs (Running g ∷ fs) = give_levels_alone vs g g.levels fs
-  give_alone vs (Mark ∷ fs) = just tt
+  give_alone vs (Mark ∷ fs) = just same
   give_alone vs (Opening starts ∷ fs) = just same
   give_alone vs (Waiting ts ∷ fs) = ill_typed
   give_alone vs (Ended ws ∷ fs) = ill_typed
@@ -271,27 +272,32 @@ module _ (m : Module) (of named : Space → ℕ → ℕ → Bool) (all : Relates
   levels_told i j z (l ∷ ls) [] k r = elim r [ ]
   levels_told i j z (l ∷ ls) (n ∷ ks) k (cons r rest) = code_told i j z l.code n.code k n.values r.code
 
+  -- whatever the quiet step comes to
+  pub alone_at : StepsWriteWhatTheyTouch → (s : State) (u : Unknowns) (n : Next) (es : List Entry) → FramesOf (own_inst m) es → first_held (tests m s es) ≡ None → step s.store es ≡ Gives n → u ≡ left_unknown s.unknown s.store es →
+      (x : Store) (fs : List Entry) → ListRel (EntryRel R) es fs → AllOf (AloneNext R u x) (step x fs)
+  alone_at touches s u n (Running f ∷ es) frames free is left x (Running g ∷ fs) (cons (running fr) rest) =
+      let next = next_top s (Running f ∷ es) f.inst g.inst f.levels frames.0 free in
+      let told = levels_told f.inst g.inst x f.levels g.levels next fr.levels in
+      let learns : (a : ℕ) → SetsTop f.inst f.levels a → is_among u.globals a ≡ false =
+      λ a h. subst (λ u. is_among u.globals a ≡ false) (sym left) (step_learns touches s.store s.unknown f es n a is h) in
+      step_alone R u x touches g fs (λ t e. may_touch R u (SetsTop f.inst f.levels) learns t (all_at told e))
+  alone_at touches s u n (Running f ∷ es) frames free is left x [] rel = elim rel [ ]
+  alone_at touches s u n (Running f ∷ es) frames free is left x (Mark ∷ fs) (cons e rest) = elim e [ ]
+  alone_at touches s u n (Running f ∷ es) frames free is left x (Opening starts ∷ fs) (cons e rest) = elim e [ ]
+  alone_at touches s u n (Running f ∷ es) frames free is left x (Waiting ts ∷ fs) (cons e rest) = elim e [ ]
+  alone_at touches s u n (Running f ∷ es) frames free is left x (Ended vs ∷ fs) (cons e rest) = elim e [ ]
+  alone_at touches s u n (Running f ∷ es) frames free is left x (Growing h ∷ fs) (cons e rest) = elim e [ ]
+  alone_at touches s u n [] frames free is left x fs rel = absurd (let k = is in cc)
+  alone_at touches s u n (Mark ∷ es) frames free is left x fs rel = absurd (let k = is in cc)
+  alone_at touches s u n (Opening starts ∷ es) frames free is left x fs rel = absurd (let k = is in cc)
+  alone_at touches s u n (Waiting ts ∷ es) frames free is left x fs rel = absurd (let k = is in cc)
+  alone_at touches s u n (Ended vs ∷ es) frames free is left x fs rel = absurd (let k = is in cc)
+  alone_at touches s u n (Growing h ∷ es) frames free is left x fs rel = absurd (let k = is in cc)
+
   leave_alone : StepsWriteWhatTheyTouch → (s r : State) (es gs : List Entry) → FramesOf (own_inst m) es → quiet_step m s es ≡ Going r gs →
       (x y : Store) (fs hs : List Entry) → ListRel (EntryRel R) es fs → step x fs ≡ Gives (Ran y hs) → LeavesAlone R r.unknown x y
-  leave_alone touches s r (Running f ∷ es) gs frames q x y (Running g ∷ fs) hs (cons (running fr) rest) st =
-      let quiet = goes_on_quietly m s (Running f ∷ es) r gs q in
-      let next = next_top s (Running f ∷ es) f.inst g.inst f.levels frames.0 quiet.none_held in
-      let told = levels_told f.inst g.inst x f.levels g.levels next fr.levels in
-      let learns : (a : ℕ) → SetsTop f.inst f.levels a → is_among r.unknown.globals a ≡ false =
-      λ a h. subst (λ u. is_among u.globals a ≡ false) (sym quiet.unknown) (step_learns touches s.store s.unknown f es (Ran r.store gs) a quiet.steps h) in
-      all_at (step_alone R r.unknown x touches g fs (λ t e. may_touch R r.unknown (SetsTop f.inst f.levels) learns t (all_at told e))) st
-  leave_alone touches s r (Running f ∷ es) gs frames q x y [] hs rel st = elim rel [ ]
-  leave_alone touches s r (Running f ∷ es) gs frames q x y (Mark ∷ fs) hs (cons e rest) st = elim e [ ]
-  leave_alone touches s r (Running f ∷ es) gs frames q x y (Opening starts ∷ fs) hs (cons e rest) st = elim e [ ]
-  leave_alone touches s r (Running f ∷ es) gs frames q x y (Waiting ts ∷ fs) hs (cons e rest) st = elim e [ ]
-  leave_alone touches s r (Running f ∷ es) gs frames q x y (Ended vs ∷ fs) hs (cons e rest) st = elim e [ ]
-  leave_alone touches s r (Running f ∷ es) gs frames q x y (Growing h ∷ fs) hs (cons e rest) st = elim e [ ]
-  leave_alone touches s r [] gs frames q x y fs hs rel st = absurd (let k = (goes_on_quietly m s [] r gs q).steps in cc)
-  leave_alone touches s r (Mark ∷ es) gs frames q x y fs hs rel st = absurd (let k = (goes_on_quietly m s (Mark ∷ es) r gs q).steps in cc)
-  leave_alone touches s r (Opening starts ∷ es) gs frames q x y fs hs rel st = absurd (let k = (goes_on_quietly m s (Opening starts ∷ es) r gs q).steps in cc)
-  leave_alone touches s r (Waiting ts ∷ es) gs frames q x y fs hs rel st = absurd (let k = (goes_on_quietly m s (Waiting ts ∷ es) r gs q).steps in cc)
-  leave_alone touches s r (Ended vs ∷ es) gs frames q x y fs hs rel st = absurd (let k = (goes_on_quietly m s (Ended vs ∷ es) r gs q).steps in cc)
-  leave_alone touches s r (Growing h ∷ es) gs frames q x y fs hs rel st = absurd (let k = (goes_on_quietly m s (Growing h ∷ es) r gs q).steps in cc)
+  leave_alone touches s r es gs frames q x y fs hs rel st =
+      let quiet = goes_on_quietly m s es r gs q in all_at (alone_at touches s r.unknown (Ran r.store gs) es frames quiet.none_held quiet.steps quiet.unknown x fs rel) st
 
 pub quiet_steps_leave_alone : StepsWriteWhatTheyTouch → QuietStepsLeaveAlone
 quiet_steps_leave_alone touches m of named all s r es gs frames q x y fs hs rel st = leave_alone m of named all touches s r es gs frames q x y fs hs rel st

@@ -12,6 +12,7 @@ use Rattle.eval_spec.specs.State.{State, Going, Finished}
 use Rattle.eval_spec.specs.Quiet.{ComesTo}
 use Rattle.eval_spec.specs.Instantiation.{own_inst}
 use Rattle.eval_proof.specs.Known.{RelatesAllButImports, FramesOf, FuncsOf}
+use Rattle.eval_proof.specs.Alone.{LeavesAlone}
 
 -- from there steps that go on, and one that ends the call, lead to a store that is related but for what is unknown after the quiet call
 pub record IsLed (R : Pairing) (t : State) (x : Store) (fs : List Entry) : Type 0 where
@@ -24,6 +25,8 @@ pub record IsLed (R : Pairing) (t : State) (x : Store) (fs : List Entry) : Type 
   pub rest : List Entry
   pub ends : step store entries ≡ Gives (EndsCall values after rest)
   pub related : StoreRelOff R t.unknown t.store after
+  -- and what is not related, or still unknown, is as it was
+  pub alone : LeavesAlone R t.unknown x after
 
 -- A quiet call leads the same call over any store and entries that are related, where nothing need be known of imported tables, memories and globals, nor of what is unknown.
 abbrev pub QuietCallsLead : Type 0

@@ -56,9 +56,10 @@ pub fn quiet_steps_leave_the_rest_alone()
 }
 
 /// A quiet call leads the same call over any store that is related to its own, where nothing need be known of imported tables, memories and globals, nor of what is
-/// unknown: in as many steps, to a store that is related but for what is still unknown.
+/// unknown: in as many steps, to a store that is related but for what is still unknown, and in which all else is as it was.
 pub fn quiet_calls_lead_others()
     ensures lead { QuietCallsLead }
 {
     steps_agree_off_unknown_places();
+    steps_write_what_they_touch();
 }
