@@ -13,3 +13,4 @@ mod Whole
 mod Machines
 mod Alone
 mod Led
+mod Relations
