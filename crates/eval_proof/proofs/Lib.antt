@@ -1,0 +1,16 @@
+mod Depth
+mod Falls
+mod Ends
+mod Counted
+mod Operands
+mod Frames
+mod Quiet
+mod KnownSteps
+mod Budgets
+mod Begun
+mod KnownCalls
+mod Whole
+mod Machines
+mod Alone
+mod Led
+mod Relations

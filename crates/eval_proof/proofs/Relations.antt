@@ -1,0 +1,36 @@
+-- For each module there is a relation of addresses as the laws ask for: each with itself, but for imported tables, memories and globals.
+use Rattle.std.proofs.Common.{◌≡◌, ◌∙◌, ℕ, [], Bool, true, false, not, ◌&&◌, refl, sym}
+use Rattle.std.specs.Prelude.{nat_eq, IsTrue}
+use Rattle.std.proofs.lemmas.Bool.{true≢false, eqb-true}
+use Rattle.wasm_tree.specs.declared.space.Space.{Space}
+use Rattle.wasm_tree.specs.declared.space.Space.TheVariants.{Functions}
+use Rattle.wasm_tree.specs.declared.module.Module.{Module}
+use Rattle.wasm_tree.specs.Operands.{same_space}
+use Rattle.index_remap.specs.Related.{OneToOneWhereWritten}
+use Rattle.index_remap.specs.Laws.{passed}
+use Rattle.eval_spec.specs.Stops.{is_imported}
+use Rattle.eval_proof.specs.Known.{RelatesAllButImports}
+
+abbrev itself : Space → ℕ → ℕ → Bool
+itself k a b = nat_eq a b
+
+abbrev known_itself : Module → Space → ℕ → ℕ → Bool
+known_itself m k a b = nat_eq a b && not (not (same_space k Functions) && is_imported m k a)
+
+both_true : (a b : Bool) → a && b ≡ true → a ≡ true
+both_true true b e = refl
+both_true false b e = absurd (true≢false (sym e))
+
+relates : (m : Module) → RelatesAllButImports m (known_itself m) itself
+relates m k a b e h = by (nat_eq a b) (not (same_space k Functions) && is_imported m k a) h e
+  where
+    by : (x y : Bool) → x ≡ true → y ≡ false → x && not y ≡ true
+    by true false h e = refl
+    by true true h e = absurd (true≢false e)
+    by false y h e = absurd (true≢false (sym h))
+
+one_to_one : (m : Module) → OneToOneWhereWritten (passed (known_itself m) itself [])
+one_to_one m = record {
+  right = λ {k} w a b c p q. sym (eqb-true a b (both_true _ _ p)) ∙ eqb-true a c (both_true _ _ q);
+  left = λ {k} w a b c p q. eqb-true a c (both_true _ _ p) ∙ sym (eqb-true b c (both_true _ _ q));
+}

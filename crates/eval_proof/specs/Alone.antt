@@ -1,0 +1,31 @@
+-- What a quiet step leaves as it is in another store, over which the machine makes it too.
+use Rattle.std.specs.Prelude.{◌≡◌, ℕ, true, List, [], slice_get, Bool}
+use Rattle.wasm_tree.specs.declared.space.Space.{Space}
+use Rattle.wasm_tree.specs.declared.space.Space.TheVariants.{Memories, Globals, DataSegments}
+use Rattle.wasm_tree.specs.declared.module.Module.{Module}
+use Rattle.wasm_meaning.specs.Outcomes.{Gives}
+use Rattle.wasm_meaning.specs.State.{Store, Entry, Ran}
+use Rattle.wasm_meaning.specs.Step.{step}
+use Rattle.index_remap.specs.Related.{Pairing, ListRel, EntryRel}
+use Rattle.index_remap.specs.References.{is_among}
+use Rattle.index_remap.specs.Laws.{passed}
+use Rattle.index_remap.specs.Unknown.{Unknowns}
+use Rattle.eval_spec.specs.State.{State, Going}
+use Rattle.eval_spec.specs.Quiet.{quiet_step}
+use Rattle.eval_spec.specs.Instantiation.{own_inst}
+use Rattle.eval_proof.specs.Known.{RelatesAllButImports, FramesOf}
+
+-- functions, tables and element segments; memories and data segments to which nothing is related; and globals to which only what is unknown is related
+pub record LeavesAlone (R : Pairing) (u : Unknowns) (before after : Store) : Type 0 where
+  pub funcs : after.funcs ≡ before.funcs
+  pub tables : after.tables ≡ before.tables
+  pub elems : after.elems ≡ before.elems
+  pub mems : (b : ℕ) → ((a : ℕ) → ¬ R.of Memories a b) → slice_get after.mems b ≡ slice_get before.mems b
+  pub globals : (b : ℕ) → ((a : ℕ) → R.of Globals a b → is_among u.globals a ≡ true) → slice_get after.globals b ≡ slice_get before.globals b
+  pub datas : (b : ℕ) → ((a : ℕ) → ¬ R.of DataSegments a b) → slice_get after.datas b ≡ slice_get before.datas b
+
+-- A quiet step leaves alone, in any store over which related entries step, what is not related and what is unknown after it.
+abbrev pub QuietStepsLeaveAlone : Type 0
+QuietStepsLeaveAlone =
+    (m : Module) (of named : Space → ℕ → ℕ → Bool) → RelatesAllButImports m of named → (s r : State) (es gs : List Entry) → FramesOf (own_inst m) es → quiet_step m s es ≡ Going r gs →
+    (x y : Store) (fs hs : List Entry) → ListRel (EntryRel (passed of named [])) es fs → step x fs ≡ Gives (Ran y hs) → LeavesAlone (passed of named []) r.unknown x y

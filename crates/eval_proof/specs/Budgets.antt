@@ -1,0 +1,24 @@
+-- What a greater budget of turns changes.
+use Rattle.std.specs.Prelude.{◌≡◌, ℕ, ◌+◌, List, Some}
+use Rattle.wasm_tree.specs.declared.module.Module.{Module}
+use Rattle.eval_spec.specs.declared.stop.Stop.TheVariants as why
+use Rattle.eval_spec.specs.State.{State, Stage, Going, Stopped, Finished, stop_of}
+use Rattle.eval_spec.specs.Evaluation.{evaluated_within}
+
+-- so many turns more are left
+abbrev pub more_turns : ℕ → State → State
+more_turns d s = record s { turns = s.turns + d }
+
+abbrev pub with_turns : ℕ → Stage → Stage
+with_turns d (Going s es) = Going (more_turns d s) es
+with_turns d (Stopped x left) = Stopped x (left + d)
+with_turns d (Finished s) = Finished (more_turns d s)
+
+-- it is not for want of turns that it stops
+abbrev pub HasTurns : Stage → Type 0
+HasTurns t = ¬ (stop_of t ≡ Some why.Steps)
+
+-- With a greater budget an evaluation comes to the same and leaves as many turns more, unless it stops for want of turns.
+abbrev pub GreaterBudgetsDoTheSame : Type 0
+GreaterBudgetsDoTheSame =
+    (m : Module) (turns d : ℕ) (funcs : List ℕ) → HasTurns (evaluated_within m turns funcs) → evaluated_within m (turns + d) funcs ≡ with_turns d (evaluated_within m turns funcs)

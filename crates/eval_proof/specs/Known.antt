@@ -1,0 +1,60 @@
+-- Quiet steps as steps of the machine that read no unknown place and name nothing that is imported but functions, whatever stands outside.
+use Rattle.std.specs.Prelude.{◌≡◌, ℕ, Bool, false, not, ◌&&◌, List, [], ◌∷◌, Some, slice_get, IsTrue}
+use Rattle.wasm_tree.specs.declared.space.Space.{Space}
+use Rattle.wasm_tree.specs.declared.space.Space.TheVariants.{Functions}
+use Rattle.wasm_tree.specs.declared.module.Module.{Module}
+use Rattle.wasm_tree.specs.Operands.{same_space}
+use Rattle.wasm_meaning.specs.Outcomes.{Gives}
+use Rattle.wasm_meaning.specs.State.{Val, Inst, Func, Code, Entry, Running, EndsCall}
+use Rattle.wasm_meaning.specs.Step.{step}
+use Rattle.index_remap.specs.Related.{Pairing, TopSkips}
+use Rattle.index_remap.specs.Laws.{passed, EntriesKnown}
+use Rattle.index_remap.specs.Unknown.{StepReadsKnown, left_unknown, KnownSteps}
+use Rattle.eval_spec.specs.State.{State, Going, Finished}
+use Rattle.eval_spec.specs.Stops.{is_imported}
+use Rattle.eval_spec.specs.Quiet.{ComesTo}
+use Rattle.eval_spec.specs.Instantiation.{own_inst}
+
+-- whatever code may name as one is related, but for imported tables, memories and globals
+abbrev pub RelatesAllButImports : Module → (of named : Space → ℕ → ℕ → Bool) → Type 0
+RelatesAllButImports m of named = (k : Space) (a b : ℕ) → not (same_space k Functions) && is_imported m k a ≡ false → IsTrue (named k a b) → IsTrue (of k a b)
+
+-- the frames run code of this instance
+abbrev pub FramesOf : Inst → List Entry → Type 0
+FramesOf i [] = Unit {0}
+FramesOf i (Running f ∷ es) = (f.inst ≡ i) × FramesOf i es
+FramesOf i (_ ∷ es) = FramesOf i es
+
+-- and so does the code of the functions in the store
+abbrev pub IsCodeOf : Inst → Func → Type 0
+IsCodeOf i (Code t j locals body) = j ≡ i
+IsCodeOf i _ = Unit {0}
+
+abbrev pub FuncsOf : Inst → List Func → Type 0
+FuncsOf i funcs = (a : ℕ) (f : Func) → slice_get funcs a ≡ Some f → IsCodeOf i f
+
+-- Quiet steps that go on are steps of the machine, each of which goes on, reads no unknown place and names related addresses; and what they leave unknown is what these
+-- steps leave unknown. (So `steps_agree_off_unknown_places` of index_remap leads as many steps from any store and entries that are related to them.)
+abbrev pub QuietStepsAreKnown : Type 0
+QuietStepsAreKnown =
+    (m : Module) (of named : Space → ℕ → ℕ → Bool) → RelatesAllButImports m of named → (s t : State) (es fs : List Entry) → FuncsOf (own_inst m) s.store.funcs → FramesOf (own_inst m) es →
+    ComesTo m (Going s es) (Going t fs) → (n : ℕ) × KnownSteps (passed of named []) n s.unknown s.store es t.unknown t.store fs
+
+-- So it is with a whole call: as many such steps, and a last one of that kind that ends the call.
+pub record EndsAsTheMachine (R : Pairing) (s : State) (es : List Entry) (t : State) : Type 0 where
+  pub number : ℕ
+  pub last : State
+  pub entries : List Entry
+  pub steps : KnownSteps R number s.unknown s.store es last.unknown last.store entries
+  pub reads : StepReadsKnown last.unknown last.store entries
+  pub skips : TopSkips R last.store entries
+  pub known : (hs : List Entry) → EntriesKnown R entries hs
+  pub values : List Val
+  pub rest : List Entry
+  pub ends : step last.store entries ≡ Gives (EndsCall values t.store rest)
+  pub unknown : t.unknown ≡ left_unknown last.unknown last.store entries
+
+abbrev pub QuietCallsAreKnown : Type 0
+QuietCallsAreKnown =
+    (m : Module) (of named : Space → ℕ → ℕ → Bool) → RelatesAllButImports m of named → (s t : State) (es : List Entry) → FuncsOf (own_inst m) s.store.funcs → FramesOf (own_inst m) es →
+    ComesTo m (Going s es) (Finished t) → EndsAsTheMachine (passed of named []) s es t

@@ -1,0 +1,6 @@
+pub mod Laws
+pub mod Known
+pub mod Budgets
+pub mod Machines
+pub mod Alone
+pub mod Led

@@ -1,0 +1,4 @@
+pub mod Modules
+mod LimitRows
+mod StopRows
+mod Rows

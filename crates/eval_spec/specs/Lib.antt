@@ -1,0 +1,6 @@
+pub mod State
+pub mod Stops
+pub mod Quiet
+pub mod Instantiation
+pub mod Evaluation
+pub mod Told

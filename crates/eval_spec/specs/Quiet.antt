@@ -1,0 +1,74 @@
+-- The quiet run: steps of the machine (WebAssembly Core 2.0, section 4.4) that nothing stops, from a call that the host makes to its end.
+use Rattle.std.specs.Prelude.{ℕ, zero, suc, ◌+◌, ◌-◌, ◌*◌, List, [], ◌∷◌, Option, Some, None, slice_get}
+use Rattle.wasm_tree.specs.declared.instr.Instr.{Instr}
+use Rattle.wasm_tree.specs.declared.instr.Instr.TheOpen.{Instr-F}
+use Rattle.wasm_tree.specs.declared.module.Module.{Module}
+use Rattle.wasm_meaning.specs.Outcomes.{Outcome, Gives}
+use Rattle.wasm_meaning.specs.State.{Val, Func, Entry, Mark, Env, Next, Ran, EndsCall}
+use Rattle.wasm_meaning.specs.Step.{step, enter}
+use Rattle.wasm_meaning.specs.Touched.{touched_by}
+use Rattle.index_remap.specs.Unknown.{left_unknown}
+use Rattle.eval_spec.specs.declared.stop.Stop.TheVariants as why
+use Rattle.eval_spec.specs.State.{State, Stage, Going, Stopped, Finished, tried}
+use Rattle.eval_spec.specs.Stops.{Beginning, beginning, frame_turns, further_turns, written_after, stack_depth, tests, host_tests}
+
+-- ---- a step ----
+
+-- the state with what an instruction spends and writes; the end of a level or of a frame spends nothing
+abbrev pub spent_by : State → Instr-F Instr → Env → List Val → State
+spent_by s o env vs = record s { turns = s.turns - 1 - further_turns o env vs; written = written_after s.written (touched_by o env vs) }
+
+abbrev pub spent_at : State → Option Beginning → State
+spent_at s None = s
+spent_at s (Some b) = spent_by s b.instr (record { store = s.store; inst = b.inst }) b.values
+
+-- and with the global that it sets, if it sets one, known
+abbrev pub spent : State → List Entry → State
+spent s es = record (spent_at s (beginning es)) { unknown = left_unknown s.unknown s.store es }
+
+-- what the machine comes to: it goes on, or the host's call has ended. A trap, an import's call and a growth stop before, and there are no placeholders.
+abbrev pub came_to : State → Outcome Next → Stage
+came_to s (Gives (Ran t es)) = Going (record s { store = t }) es
+came_to s (Gives (EndsCall vs t es)) = Finished (record s { store = t })
+came_to s _ = Stopped why.Trap s.turns
+
+abbrev pub quiet_step : Module → State → List Entry → Stage
+quiet_step m s es = tried (tests m s es) (came_to (spent s es) (step s.store es))
+
+-- by quiet steps the one comes to the other
+pub data ComesTo (m : Module) : Stage → Stage → Type 0 where
+  here : {t : Stage} → ComesTo m t t
+  on : {s : State} {es : List Entry} {t : Stage} → ComesTo m (quiet_step m s es) t → ComesTo m (Going s es) t
+
+-- ---- a call (section 4.5.5) ----
+
+-- the host calls a function without arguments
+abbrev pub host_opened : State → Func → Stage
+host_opened s f = tried (host_tests s f) (came_to (record s { turns = s.turns - frame_turns f }) (Gives (enter s.store f [] (Mark ∷ []))))
+
+-- the function of an index, which is its address. (A module that is valid names none that is not there.)
+abbrev pub host_opened_if_there : State → Option Func → Stage
+host_opened_if_there s (Some f) = host_opened s f
+host_opened_if_there s None = Stopped why.Trap s.turns
+
+abbrev pub host_call : State → (func : ℕ) → Stage
+host_call s func = host_opened_if_there s (slice_get s.store.funcs func)
+
+-- so many steps, or fewer where it ends before
+abbrev pub after_steps : Module → ℕ → Stage → Stage
+after_steps m zero t = t
+after_steps m (suc n) (Going s es) = after_steps m n (quiet_step m s es)
+after_steps m (suc n) t = t
+
+-- each step makes this less: an instruction spends a turn and opens at most one frame or label, and where no instruction begins one ends
+abbrev pub weight : Stage → ℕ
+weight (Going s es) = 2 * s.turns + stack_depth es
+weight _ = 0
+
+-- the end of a run, which is finished or stopped
+abbrev pub run_end : Module → Stage → Stage
+run_end m t = after_steps m (suc (weight t)) t
+
+-- the end of the host's call of a function from this state
+abbrev pub call_end : Module → State → (func : ℕ) → Stage
+call_end m s func = run_end m (host_call s func)
