@@ -13,10 +13,10 @@ use Rattle.tools_cli.specs.declared.task.Task.TheVariants as task
 use Rattle.tools_cli.specs.declared.decide.Output.{Output}
 use Rattle.tools_cli.specs.declared.decide.Decision.{Decision}
 use Rattle.tools_cli.specs.Job as job
-use Rattle.tools_cli.specs.declared.word.Saying.{Saying}
-use Rattle.tools_cli.specs.declared.word.Saying.TheVariants as word
-use Rattle.tools_cli.specs.declared.line.Valued.{Valued}
-use Rattle.tools_cli.specs.declared.line.Line.{Line}
+use Rattle.tools_cli.specs.declared.argument.Argument.{Argument}
+use Rattle.tools_cli.specs.declared.argument.Argument.TheVariants as word
+use Rattle.tools_cli.specs.declared.arguments.OptionValue.{OptionValue}
+use Rattle.tools_cli.specs.declared.arguments.Arguments.{Arguments}
 use Rattle.tools_cli.specs.declared.gather.Input.{Input}
 use Rattle.tools_cli.specs.declared.perform.Write.{Write}
 
@@ -25,20 +25,20 @@ abbrev pub names_of : List (Bor Text) → List Text
 names_of words = map (λ w. w.now) words
 
 -- What one word says, and what all say together.
-abbrev pub saying_value : Saying → said.Saying
-saying_value (word.Value option value) = said.Value option.now value.now
-saying_value (word.Flag flag) = said.Flag flag.now
-saying_value (word.Plain text) = said.Plain text.now
+abbrev pub argument_value : Argument → said.Argument
+argument_value (word.Value option value) = said.Value option.now value.now
+argument_value (word.Flag flag) = said.Flag flag.now
+argument_value (word.Plain text) = said.Plain text.now
 
-abbrev pub valued_value : Valued → said.Valued
-valued_value v = record { option = v.option.now; value = v.value.now }
+abbrev pub option_value : OptionValue → said.OptionValue
+option_value v = record { option = v.option.now; value = v.value.now }
 
-abbrev pub line_value : Line → said.Line
-line_value line = record { values = map valued_value line.values.items; flags = names_of line.flags.items; plain = names_of line.plain.items }
+abbrev pub arguments_value : Arguments → said.Arguments
+arguments_value arguments = record { values = map option_value arguments.values.items; flags = names_of arguments.flags.items; plain = names_of arguments.plain.items }
 
 -- What is said first, and then more.
-abbrev pub join_lines : said.Line → said.Line → said.Line
-join_lines first more = record { values = first.values ++ more.values; flags = first.flags ++ more.flags; plain = first.plain ++ more.plain }
+abbrev pub join_arguments : said.Arguments → said.Arguments → said.Arguments
+join_arguments first more = record { values = first.values ++ more.values; flags = first.flags ++ more.flags; plain = first.plain ++ more.plain }
 
 -- The task of a command line.
 abbrev pub merge_value : MergeTask → words.MergeTask

@@ -1,7 +1,7 @@
 -- The words of a command line, and the task that they ask for.
 use Rattle.std.specs.Prelude.{Bool, true, false, not, ◌&&◌, if◌then◌else◌, List, [], ◌∷◌, ◌++◌, map, Option, Some, None, option_map, option_and_then, bytes_eq, codes}
 use Rattle.std.specs.List.{list_any}
-use Rattle.tools_cli.specs.Words.{Vocabulary, Line, said_line, only, only_value}
+use Rattle.tools_cli.specs.Words.{Vocabulary, Arguments, said_together, only, only_value}
 pub use Rattle.tools_cli.specs.Words.{Text}
 use Rattle.merge_names.specs.declared.mode.Mode.{Mode}
 use Rattle.merge_names.specs.declared.mode.Mode.TheVariants as mode
@@ -34,8 +34,11 @@ pub data Task : Type 0 where
 abbrev pub rename_flag : Text
 rename_flag = codes "--rename-export-conflicts"
 
+abbrev pub skip_flag : Text
+skip_flag = codes "--skip-export-conflicts"
+
 abbrev pub merge_vocabulary : Vocabulary
-merge_vocabulary = record { options = codes "--output" ∷ []; flags = rename_flag ∷ codes "--skip-export-conflicts" ∷ [] }
+merge_vocabulary = record { options = codes "--output" ∷ []; flags = rename_flag ∷ skip_flag ∷ [] }
 
 -- Plain words as pairs FILE NAME; none where a file has no name.
 abbrev pub sources_of : List Text → Option (List Source)
@@ -56,15 +59,15 @@ some_apart (source ∷ sources) = if are_apart (map (λ s. s.name) (source ∷ s
 -- At most one flag, which gives the mode.
 abbrev pub merge_mode : List Text → Option Mode
 merge_mode [] = Some mode.Refuse
-merge_mode (flag ∷ []) = Some (if bytes_eq flag rename_flag then mode.Rename else mode.Skip)
+merge_mode (flag ∷ []) = if bytes_eq flag rename_flag then Some mode.Rename else (if bytes_eq flag skip_flag then Some mode.Skip else None)
 merge_mode _ = None
 
 abbrev pub make_merge : Option (List Source) → Option Text → Option Mode → Option Task
 make_merge (Some sources) (Some output) (Some mode) = Some (Merge (record { sources = sources; output = output; mode = mode }))
 make_merge _ _ _ = None
 
-abbrev pub task_of_merge_line : Line → Option Task
-task_of_merge_line line = make_merge (option_and_then some_apart (sources_of line.plain)) (only_value (codes "--output") line) (merge_mode line.flags)
+abbrev pub merge_of_arguments : Arguments → Option Task
+merge_of_arguments arguments = make_merge (option_and_then some_apart (sources_of arguments.plain)) (only_value (codes "--output") arguments) (merge_mode arguments.flags)
 
 -- ---- metadce ----
 
@@ -76,17 +79,17 @@ make_metadce (Some file) (Some graph_file) (Some output) = Some (Metadce (record
 make_metadce _ _ _ = None
 
 -- One plain word, the file, and both options.
-abbrev pub task_of_metadce_line : Line → Option Task
-task_of_metadce_line line = make_metadce (only line.plain) (only_value (codes "--graph-file") line) (only_value (codes "--output") line)
+abbrev pub metadce_of_arguments : Arguments → Option Task
+metadce_of_arguments arguments = make_metadce (only arguments.plain) (only_value (codes "--graph-file") arguments) (only_value (codes "--output") arguments)
 
 -- ---- all commands ----
 
 -- The task of the words after `merge`, and of those after `metadce`.
 abbrev pub merge_of : List Text → Option Task
-merge_of words = option_and_then task_of_merge_line (said_line merge_vocabulary words)
+merge_of words = option_and_then merge_of_arguments (said_together merge_vocabulary words)
 
 abbrev pub metadce_of : List Text → Option Task
-metadce_of words = option_and_then task_of_metadce_line (said_line metadce_vocabulary words)
+metadce_of words = option_and_then metadce_of_arguments (said_together metadce_vocabulary words)
 
 -- The task of a command line, or none.
 unfoldable pub task_of : List Text → Option Task
@@ -130,7 +133,7 @@ abbrev pub may_print : Task → Bool
 may_print (Merge merge) = false
 may_print (Metadce metadce) = true
 
--- The line that is put where a command line asks for no task.
+-- The line that is put where a command line asks for no task: that of its command, or that of all where the first word is no command.
 abbrev pub all_usage : Text
 all_usage = codes "usage: binkit merge|split|metadce|ctor-eval|sample\n"
 

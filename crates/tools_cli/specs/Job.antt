@@ -131,7 +131,7 @@ pub data Merges (merge : MergeTask) (trees : List Module) : Decision → Type 0 
   merged : (tree : Module) → AreMerged (many_of (Merge merge)) (parts_of merge.sources trees) merge.mode tree → Merges merge trees (Makes (record { name = merge.output; tree = tree; custom = [] } ∷ []) [])
 
 -- The graph that this text is, and marks on exactly what is reached of this module through it.
-pub record IsMarkedBy (text : Text) (tree : Module) (graph : Graph) (marks : Reached) : Type 0 where
+pub record GivesMarks (text : Text) (tree : Module) (graph : Graph) (marks : Reached) : Type 0 where
   pub read : graph_result text ≡ Ok graph
   pub exact : AreExact graph tree marks
 
@@ -139,8 +139,8 @@ pub record IsMarkedBy (text : Text) (tree : Module) (graph : Graph) (marks : Rea
 -- output is what is left, and there is a line for each node that is not reached.
 pub data Reduces (metadce : MetadceTask) (tree : Module) (text : Text) : Decision → Type 0 where
   no_graph : (fault : GraphFault) (says : Text) → graph_result text ≡ Err fault → graph_text metadce.graph_file fault ≡ Some says → Reduces metadce tree text (Refuses says)
-  not_swept : (graph : Graph) (marks : Reached) (fault : SweepFault) (says : Text) → IsMarkedBy text tree graph marks → Sweeps (marks_of marks) tree (Err fault) → sweep_text fault ≡ Some says → Reduces metadce tree text (Refuses says)
-  reduced : (graph : Graph) (marks : Reached) (left : Module) (unused : List Text) → IsMarkedBy text tree graph marks → Sweeps (marks_of marks) tree (Ok left) → AreUnused graph tree unused
+  not_swept : (graph : Graph) (marks : Reached) (fault : SweepFault) (says : Text) → GivesMarks text tree graph marks → Sweeps (marks_of marks) tree (Err fault) → sweep_text fault ≡ Some says → Reduces metadce tree text (Refuses says)
+  reduced : (graph : Graph) (marks : Reached) (left : Module) (unused : List Text) → GivesMarks text tree graph marks → Sweeps (marks_of marks) tree (Ok left) → AreUnused graph tree unused
       → Reduces metadce tree text (Makes (record { name = metadce.output; tree = left; custom = [] } ∷ []) (unused_lines unused))
 
 -- What a task decides over its modules and the contents of all its files, those of the modules first.

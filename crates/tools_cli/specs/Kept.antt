@@ -45,8 +45,8 @@ pub record MergeKeeps (merge : MergeTask) (before after : Contents) : Type 0 whe
 abbrev pub HoldsGraph : Contents → Text → Graph → Type 0
 HoldsGraph files name graph = (bytes : Text) × (get files name ≡ Some bytes) × (graph_result bytes ≡ Ok graph)
 
--- A metadce. Its FILE spelled a module before and its graph file held a graph, and its output spells what is left of the module when exactly what a path from a root
--- reaches is kept. This is valid, and behaves as the whole module does towards an embedder that uses only the exports that are kept: in each environment that links
+-- A metadce. Its FILE spelled a module before and its graph file held a graph, and its output spells what is left of the module when of its functions, globals, imports
+-- and exports exactly those are kept that a path from a root reaches. This is valid, and behaves as the whole module does towards an embedder that uses only the exports that are kept: in each environment that links
 -- the module, by each list of moves, the same is seen of both in each number of steps. Where OUT is FILE or the graph file, these are what stood there before.
 pub record MetadceKeeps (metadce : MetadceTask) (before after : Contents) : Type 0 where
   pub tree : Module

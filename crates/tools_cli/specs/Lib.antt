@@ -3,6 +3,7 @@ pub mod CommandLine
 pub mod Effects
 pub mod Texts
 pub mod Unused
+pub mod Unmarked
 pub mod Job
 pub mod Sources
 pub mod Command

@@ -19,7 +19,7 @@ pub record AreUnused (graph : Graph) (tree : Module) (names : List Text) : Type 
   pub exactly : (name : Text) → Contains names name ↔ IsUnused graph tree name
   pub ascending : IsStrictlySortedBy (slice_cmp nat_cmp) names
 
--- The lines of these names.
+-- The line that tells of a name, and those of names, one after another.
 abbrev pub unused_line : Text → Text
 unused_line name = codes "unused: " ++ (name ++ codes "\n")
 
