@@ -38,11 +38,11 @@ kept_every P (false ∷ bs) (x ∷ xs) h = kept_every P bs xs h.1
 
 filter_every : {A : Type 0} (P : A → Type 0) (test : A → Bool) (xs : List A) → Every P xs → Every P (filter test xs)
 filter_every P test [] h = tt
-filter_every P test (x ∷ xs) h = by (test x)
+filter_every P test (x ∷ xs) h = by (test x) (filter_every P test xs h.1)
   where
-    by : (b : Bool) → Every P (cond b (x ∷ filter test xs) (filter test xs))
-    by true = (h.0, filter_every P test xs h.1)
-    by false = filter_every P test xs h.1
+    by : (b : Bool) → Every P (filter test xs) → Every P (cond b (x ∷ filter test xs) (filter test xs))
+    by true rest = (h.0, rest)
+    by false rest = rest
 
 desc_numbers : (r : Remap) (d : ImportDesc) → ImportDescInRange d → ImportLimitsInRange (new_import_desc r d)
 desc_numbers r (im.Func ty) h = tt

@@ -10,3 +10,4 @@ pub mod Following
 pub mod Searching
 pub mod Rows
 pub mod ImportsReached
+pub mod Exact

@@ -3,6 +3,7 @@
 
 ghost use Rattle.dce_reach_proof.specs.Laws.{ReachedMarksAreClosed, ExactMarksExist, ExactMarksAreOne};
 
+use dce_graph::exact_marks_are_there;
 use index_remap_proof::renumbering_keeps_typing;
 use wasm_tree::operands_pass_layer_by_layer;
 
@@ -20,4 +21,5 @@ pub fn exact_marks_exist()
     ensures exist { ExactMarksExist }
     ensures one { ExactMarksAreOne }
 {
+    exact_marks_are_there();
 }

@@ -15,7 +15,7 @@ use Rattle.tools_cli.specs.declared.merge.Source as code
 abbrev pub arguments_from : Vocabulary → Option Text → List Text → Option Arguments
 arguments_from v due words = option_map arguments_of (said_from v due words)
 
--- a arguments, and then what more words say
+-- what is said, and then what more words say
 abbrev pub and_then_arguments : Arguments → Option Arguments → Option Arguments
 and_then_arguments arguments more = option_map (join_arguments arguments) more
 
@@ -58,6 +58,11 @@ pub fresh_word : (due : Option (Bor Text)) (b : Bool) → (is_none due && b) ≡
 fresh_word None b e none = e
 fresh_word (Some x) b e none = absurd (cc)
 
+-- and one that begins an option
+pub begun_word : (due : Option (Bor Text)) (b : Bool) → (is_none due && b) ≡ true → (option_map (λ o. o.now) due ≡ None) × (b ≡ true)
+begun_word None b e = (refl, e)
+begun_word (Some x) b e = absurd (cc)
+
 -- an option wants its value
 pub now_due : (v : Vocabulary) (arguments : Arguments) (whole : Option Arguments) (word : Text) (rest : List Text) → takes_value v.options word ≡ true
     → whole ≡ and_then_arguments arguments (arguments_from v None (word ∷ rest)) → whole ≡ and_then_arguments arguments (arguments_from v (Some (long_name word)) rest)
@@ -86,11 +91,11 @@ one_value_more option [] v = by (bytes_eq v.option option)
     by : (b : Bool) → cond b (v.value ∷ []) [] ≡ [] ++ cond b (v.value ∷ []) []
     by true = refl
     by false = refl
-one_value_more option (w ∷ vs) v = by (bytes_eq w.option option)
+one_value_more option (w ∷ vs) v = by (bytes_eq w.option option) (one_value_more option vs v)
   where
-    by : (b : Bool) → cond b (w.value ∷ values_of option (vs ++ v ∷ [])) (values_of option (vs ++ v ∷ [])) ≡ cond b (w.value ∷ values_of option vs) (values_of option vs) ++ cond (bytes_eq v.option option) (v.value ∷ []) []
-    by true = ap (λ l. w.value ∷ l) (one_value_more option vs v)
-    by false = one_value_more option vs v
+    by : (b : Bool) → values_of option (vs ++ v ∷ []) ≡ values_of option vs ++ cond (bytes_eq v.option option) (v.value ∷ []) [] → cond b (w.value ∷ values_of option (vs ++ v ∷ [])) (values_of option (vs ++ v ∷ [])) ≡ cond b (w.value ∷ values_of option vs) (values_of option vs) ++ cond (bytes_eq v.option option) (v.value ∷ []) []
+    by true rest = ap (λ l. w.value ∷ l) rest
+    by false rest = rest
 
 -- what stands behind a beginning
 pub behind_found : (beginning text rest : Text) → text ≡ beginning ++ rest → behind beginning text ≡ Some rest
@@ -105,13 +110,13 @@ behind_found (c ∷ beginning) (d ∷ text) rest e =
 pub behind_lacks : (beginning text : Text) → ((rest : Text) → text ≡ beginning ++ rest → ⊥) → behind beginning text ≡ None
 behind_lacks [] text lacks = absurd (lacks text refl)
 behind_lacks (c ∷ beginning) [] lacks = refl
-behind_lacks (c ∷ beginning) (d ∷ text) lacks = by (c == d) refl
+behind_lacks (c ∷ beginning) (d ∷ text) lacks = by (c == d) refl (λ more. behind_lacks beginning text more)
   where
-    by : (b : Bool) → (c == d) ≡ b → cond b (behind beginning text) None ≡ None
-    by true e = let same : c ≡ d = grind (arith, nat_tests) in behind_lacks beginning text (λ rest is. lacks rest (ap₂ (λ (x : ℕ) (xs : Text). x ∷ xs) (sym same) is))
-    by false e = refl
+    by : (b : Bool) → (c == d) ≡ b → (((rest : Text) → text ≡ beginning ++ rest → ⊥) → behind beginning text ≡ None) → cond b (behind beginning text) None ≡ None
+    by true e later = let same : d ≡ c = grind (arith, nat_tests) in later (λ rest is. lacks rest (ap₂ (λ (x : ℕ) (xs : Text). x ∷ xs) same is))
+    by false e later = refl
 
--- ---- the merge of a arguments ----
+-- ---- the merge of arguments ----
 
 pub no_output : (sources : Option (List Source)) (mode : Option Mode) → make_merge sources None mode ≡ None
 no_output None mode = refl

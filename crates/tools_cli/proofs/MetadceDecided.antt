@@ -1,4 +1,8 @@
 -- What a metadce decides: from its parts, that it decides something, and that it is one.
+use Rattle.std.specs.Prelude.{◌↔◌, IfOk, true}
+use Rattle.dce_graph.specs.declared.point.Point.{Point}
+use Rattle.dce_graph.specs.Marks.{flags, marked}
+use Rattle.dce_graph.specs.Reach.{IsReached, point_count}
 use Rattle.std.proofs.Common.{◌≡◌, ◌∙◌, ◌⊎◌, inl, inr, refl, sym, ap, ap₂, subst, List, [], ◌∷◌, length, Option, Some, None, Result, Ok, Err, arith}
 use Rattle.wasm_tree.specs.declared.which.Which.{Which}
 use Rattle.wasm_tree.specs.declared.module.Module.{Module}
@@ -35,6 +39,11 @@ graph_fails file text says graph.GraphText h e = (graph.GraphText, fault_is (gra
 graph_fails file text says (graph.GraphShape entry) h e = (graph.GraphShape entry, fault_is (graph_result text) (graph.GraphShape entry) h, e)
 graph_fails file text says (graph.NodeTwice name) h e = (graph.NodeTwice name, fault_is (graph_result text) (graph.NodeTwice name) h, e)
 graph_fails file text says (graph.UnknownNode name) h e = (graph.UnknownNode name, fault_is (graph_result text) (graph.UnknownNode name) h, e)
+
+-- marks that are set where a path leads, one for each point
+pub exact_marks : {E : Type 0} (r : Result Reached E) (g : Graph) (m : Module) → IfOk r (λ marks. (p : Point) → (marked marks p ≡ true) ↔ IsReached g m p) → IfOk r (λ marks. (p : Point) → length (flags marks p) ≡ point_count g m p) → IfOk r (AreExact g m)
+exact_marks (Ok marks) g m exactly one_each = record { exactly = exactly; one_each = one_each }
+exact_marks (Err x) g m exactly one_each = tt
 
 pub sweep_fails : (marks : Marks) (tree : Module) (says : Text) (fault : SweepFault) → (fault ≡ sweep.NoMemory) ⊎ Sweeps marks tree (Err fault) → sweep_text fault ≡ Some says → SweepFails marks tree says
 sweep_fails marks tree says fault (inr h) e = (fault, h, e)

@@ -8,7 +8,7 @@ use Rattle.std.specs.Cmp.{both_ways}
 use Rattle.std.specs.Cmp.Lexicographic.{slice_cmp}
 use Rattle.std.specs.List.{AllByRecursion}
 use Rattle.std.specs.List.Sorted.{IsStrictlySortedBy}
-use Rattle.std.specs.BTreeSet.{btree_set, insert_key}
+use Rattle.std.specs.BTreeSet.{BTreeSet, insert_key}
 use Rattle.std.proofs.lemmas.Cmp.{nat_list_cmp_total}
 use Rattle.std.proofs.lemmas.Map.Lookups.{exact_bytes, btree_set_from_contains}
 use Rattle.std.proofs.lemmas.Map.Views.{btree_set_contains_iff}
@@ -29,55 +29,55 @@ use Rattle.tools_cli.proofs.Gathering.{contains_first, contains_later}
 
 in_with : (xs : List Text) (x name : Text) → Contains (with_name xs x) name → (x ≡ name) ⊎ Contains xs name
 in_with [] x name h = first_or_later x [] name h
-in_with (y ∷ ys) x name h = by (slice_cmp nat_cmp x y) h
+in_with (y ∷ ys) x name h = by (slice_cmp nat_cmp x y) h (λ k. in_with ys x name k)
   where
     after : (y ≡ name) ⊎ ((x ≡ name) ⊎ Contains ys name) → (x ≡ name) ⊎ Contains (y ∷ ys) name
     after (inl e) = inr (subst (Contains (y ∷ ys)) e (contains_first y ys))
     after (inr (inl e)) = inl e
     after (inr (inr k)) = inr (contains_later y ys name k)
 
-    below : (y ≡ name) ⊎ Contains (with_name ys x) name → (y ≡ name) ⊎ ((x ≡ name) ⊎ Contains ys name)
-    below (inl e) = inl e
-    below (inr k) = inr (in_with ys x name k)
+    below : (Contains (with_name ys x) name → (x ≡ name) ⊎ Contains ys name) → (y ≡ name) ⊎ Contains (with_name ys x) name → (y ≡ name) ⊎ ((x ≡ name) ⊎ Contains ys name)
+    below later (inl e) = inl e
+    below later (inr k) = inr (later k)
 
-    by : (o : Ordering) → Contains (match_ordering o (x ∷ y ∷ ys) (y ∷ ys) (y ∷ with_name ys x)) name → (x ≡ name) ⊎ Contains (y ∷ ys) name
-    by Less k = first_or_later x (y ∷ ys) name k
-    by Equal k = inr k
-    by Greater k = after (below (first_or_later y (with_name ys x) name k))
+    by : (o : Ordering) → Contains (match_ordering o (x ∷ y ∷ ys) (y ∷ ys) (y ∷ with_name ys x)) name → (Contains (with_name ys x) name → (x ≡ name) ⊎ Contains ys name) → (x ≡ name) ⊎ Contains (y ∷ ys) name
+    by Less k later = first_or_later x (y ∷ ys) name k
+    by Equal k later = inr k
+    by Greater k later = after (below later (first_or_later y (with_name ys x) name k))
 
 with_has : (xs : List Text) (x : Text) → Contains (with_name xs x) x
 with_has [] x = contains_first x []
-with_has (y ∷ ys) x = by (slice_cmp nat_cmp x y) refl
+with_has (y ∷ ys) x = by (slice_cmp nat_cmp x y) refl (with_has ys x)
   where
-    by : (o : Ordering) → slice_cmp nat_cmp x y ≡ o → Contains (match_ordering o (x ∷ y ∷ ys) (y ∷ ys) (y ∷ with_name ys x)) x
-    by Less e = contains_first x (y ∷ ys)
-    by Equal e = subst (Contains (y ∷ ys)) (sym (exact_bytes x y e)) (contains_first y ys)
-    by Greater e = contains_later y (with_name ys x) x (with_has ys x)
+    by : (o : Ordering) → slice_cmp nat_cmp x y ≡ o → Contains (with_name ys x) x → Contains (match_ordering o (x ∷ y ∷ ys) (y ∷ ys) (y ∷ with_name ys x)) x
+    by Less e later = contains_first x (y ∷ ys)
+    by Equal e later = subst (Contains (y ∷ ys)) (sym (exact_bytes x y e)) (contains_first y ys)
+    by Greater e later = contains_later y (with_name ys x) x later
 
 nowhere : {A : Type 0} (name : Text) → Contains [] name → A
 nowhere name h = absurd (let lt = h.1 in omega (arith, lt))
 
 with_keeps : (xs : List Text) (x name : Text) → Contains xs name → Contains (with_name xs x) name
 with_keeps [] x name h = nowhere name h
-with_keeps (y ∷ ys) x name h = by (slice_cmp nat_cmp x y)
+with_keeps (y ∷ ys) x name h = by (slice_cmp nat_cmp x y) (λ k. with_keeps ys x name k)
   where
-    after : (y ≡ name) ⊎ Contains ys name → Contains (y ∷ with_name ys x) name
-    after (inl e) = subst (Contains (y ∷ with_name ys x)) e (contains_first y (with_name ys x))
-    after (inr k) = contains_later y (with_name ys x) name (with_keeps ys x name k)
+    after : (Contains ys name → Contains (with_name ys x) name) → (y ≡ name) ⊎ Contains ys name → Contains (y ∷ with_name ys x) name
+    after later (inl e) = subst (Contains (y ∷ with_name ys x)) e (contains_first y (with_name ys x))
+    after later (inr k) = contains_later y (with_name ys x) name (later k)
 
-    by : (o : Ordering) → Contains (match_ordering o (x ∷ y ∷ ys) (y ∷ ys) (y ∷ with_name ys x)) name
-    by Less = contains_later x (y ∷ ys) name h
-    by Equal = h
-    by Greater = after (first_or_later y ys name h)
+    by : (o : Ordering) → (Contains ys name → Contains (with_name ys x) name) → Contains (match_ordering o (x ∷ y ∷ ys) (y ∷ ys) (y ∷ with_name ys x)) name
+    by Less later = contains_later x (y ∷ ys) name h
+    by Equal later = h
+    by Greater later = after later (first_or_later y ys name h)
 
 each_with : (P : Text → Type 0) (xs : List Text) (x : Text) → AllByRecursion P xs → P x → AllByRecursion P (with_name xs x)
 each_with P [] x h p = (p, tt)
-each_with P (y ∷ ys) x h p = by (slice_cmp nat_cmp x y)
+each_with P (y ∷ ys) x h p = by (slice_cmp nat_cmp x y) (each_with P ys x h.1 p)
   where
-    by : (o : Ordering) → AllByRecursion P (match_ordering o (x ∷ y ∷ ys) (y ∷ ys) (y ∷ with_name ys x))
-    by Less = (p, h)
-    by Equal = h
-    by Greater = (h.0, each_with P ys x h.1 p)
+    by : (o : Ordering) → AllByRecursion P (with_name ys x) → AllByRecursion P (match_ordering o (x ∷ y ∷ ys) (y ∷ ys) (y ∷ with_name ys x))
+    by Less rest = (p, h)
+    by Equal rest = h
+    by Greater rest = (h.0, rest)
 
 below_all : (x y : Text) (zs : List Text) → slice_cmp nat_cmp x y ≡ Less → AllByRecursion (λ z. slice_cmp nat_cmp y z ≡ Less) zs → AllByRecursion (λ z. slice_cmp nat_cmp x z ≡ Less) zs
 below_all x y [] e h = tt
@@ -86,12 +86,12 @@ below_all x y (z ∷ zs) e h = (nat_list_cmp_total.trans x y z e h.0, below_all 
 sorted_with : (xs : List Text) (x : Text) → IsStrictlySortedBy (slice_cmp nat_cmp) xs → IsStrictlySortedBy (slice_cmp nat_cmp) (with_name xs x)
 unfolding IsStrictlySortedBy
 sorted_with [] x h = (tt, tt)
-sorted_with (y ∷ ys) x h = by (slice_cmp nat_cmp x y) refl
+sorted_with (y ∷ ys) x h = by (slice_cmp nat_cmp x y) refl (sorted_with ys x h.1)
   where
-    by : (o : Ordering) → slice_cmp nat_cmp x y ≡ o → IsStrictlySortedBy (slice_cmp nat_cmp) (match_ordering o (x ∷ y ∷ ys) (y ∷ ys) (y ∷ with_name ys x))
-    by Less e = ((e, below_all x y ys e h.0), h)
-    by Equal e = h
-    by Greater e = (each_with (λ z. slice_cmp nat_cmp y z ≡ Less) ys x h.0 (nat_list_cmp_total.antisymm y x ∙ ap ordering_reverse e), sorted_with ys x h.1)
+    by : (o : Ordering) → slice_cmp nat_cmp x y ≡ o → IsStrictlySortedBy (slice_cmp nat_cmp) (with_name ys x) → IsStrictlySortedBy (slice_cmp nat_cmp) (match_ordering o (x ∷ y ∷ ys) (y ∷ ys) (y ∷ with_name ys x))
+    by Less e rest = ((e, below_all x y ys e h.0), h)
+    by Equal e rest = h
+    by Greater e rest = (each_with (λ z. slice_cmp nat_cmp y z ≡ Less) ys x h.0 (nat_list_cmp_total.antisymm y x ∙ ap ordering_reverse e), rest)
 
 -- ---- the names of all nodes that have no mark ----
 
@@ -146,8 +146,8 @@ sorted_from names (n ∷ ns) (true ∷ ms) h = sorted_from names ns ms h
 sorted_from names (n ∷ ns) (false ∷ ms) h = sorted_from (with_name names n.name) ns ms (sorted_with names n.name h)
 
 not_set : (b : Bool) → (b ≡ true → ⊥) → b ≡ false
-not_set true no = absurd (no refl)
-not_set false no = refl
+not_set true never = absurd (never refl)
+not_set false never = refl
 
 no_names_ascend : IsStrictlySortedBy (slice_cmp nat_cmp) []
 unfolding IsStrictlySortedBy
@@ -169,23 +169,29 @@ unmarked_unused g m r exact = record {
 
 -- ---- one list ----
 
-pub unused_once : (g : Graph) (m : Module) (xs ys : List Text) → AreUnused g m xs → AreUnused g m ys → xs ≡ ys
-unused_once g m xs ys h k =
-    btree_set_from_contains nat_list_cmp_total (btree_set xs) (btree_set ys) h.ascending k.ascending
-    (λ q. both_ways _ _ (λ t. (btree_set_contains_iff nat_list_cmp_total exact_bytes (btree_set ys) q).1 ((k.exactly q).1 ((h.exactly q).0 ((btree_set_contains_iff nat_list_cmp_total exact_bytes (btree_set xs) q).0 t))))
-    (λ t. (btree_set_contains_iff nat_list_cmp_total exact_bytes (btree_set xs) q).1 ((h.exactly q).1 ((k.exactly q).0 ((btree_set_contains_iff nat_list_cmp_total exact_bytes (btree_set ys) q).0 t)))))
+abbrev set_of : List Text → BTreeSet Text
+set_of names = record { keys = names }
+
+lists_once : (xs ys : List Text) → IsStrictlySortedBy (slice_cmp nat_cmp) xs → IsStrictlySortedBy (slice_cmp nat_cmp) ys → ((name : Text) → Contains xs name → Contains ys name) → ((name : Text) → Contains ys name → Contains xs name) → xs ≡ ys
+lists_once xs ys h k to from =
+    btree_set_from_contains nat_list_cmp_total (set_of xs) (set_of ys) h k
+    (λ q. both_ways _ _ (λ t. (btree_set_contains_iff nat_list_cmp_total exact_bytes (set_of ys) q).1 (to q ((btree_set_contains_iff nat_list_cmp_total exact_bytes (set_of xs) q).0 t)))
+    (λ t. (btree_set_contains_iff nat_list_cmp_total exact_bytes (set_of xs) q).1 (from q ((btree_set_contains_iff nat_list_cmp_total exact_bytes (set_of ys) q).0 t))))
     exact_bytes
+
+pub unused_once : (g : Graph) (m : Module) (xs ys : List Text) → AreUnused g m xs → AreUnused g m ys → xs ≡ ys
+unused_once g m xs ys h k = lists_once xs ys h.ascending k.ascending (λ name c. (k.exactly name).1 ((h.exactly name).0 c)) (λ name c. (h.exactly name).1 ((k.exactly name).0 c))
 
 -- ---- the program's set ----
 
 pub names_with : (ks : List (Bor Text)) (k : Bor Text) → names_of (insert_key (λ x y. slice_cmp nat_cmp x.now y.now) ks k) ≡ with_name (names_of ks) k.now
 names_with [] k = refl
-names_with (x ∷ ks) k = by (slice_cmp nat_cmp k.now x.now)
+names_with (x ∷ ks) k = by (slice_cmp nat_cmp k.now x.now) (names_with ks k)
   where
-    by : (o : Ordering) → names_of (match_ordering o (k ∷ x ∷ ks) (x ∷ ks) (x ∷ insert_key (λ x y. slice_cmp nat_cmp x.now y.now) ks k)) ≡ match_ordering o (k.now ∷ x.now ∷ names_of ks) (x.now ∷ names_of ks) (x.now ∷ with_name (names_of ks) k.now)
-    by Less = refl
-    by Equal = refl
-    by Greater = ap (λ (l : List Text). x.now ∷ l) (names_with ks k)
+    by : (o : Ordering) → names_of (insert_key (λ x y. slice_cmp nat_cmp x.now y.now) ks k) ≡ with_name (names_of ks) k.now → names_of (match_ordering o (k ∷ x ∷ ks) (x ∷ ks) (x ∷ insert_key (λ x y. slice_cmp nat_cmp x.now y.now) ks k)) ≡ match_ordering o (k.now ∷ x.now ∷ names_of ks) (x.now ∷ names_of ks) (x.now ∷ with_name (names_of ks) k.now)
+    by Less rest = refl
+    by Equal rest = refl
+    by Greater rest = ap (λ (l : List Text). x.now ∷ l) rest
 
 -- one node more
 pub one_node_more : (names : List Text) (nodes : List Node) (marks : List Bool) (i : ℕ) (d : Node) → i < length nodes → i < length marks
