@@ -6,7 +6,8 @@ use Rattle.std.specs.Borrow.{Bor}
 use Rattle.tools_cli.specs.Words.{Text, Vocabulary, Argument, Value, Flag, Plain, OptionValue, Arguments, behind, long_name, takes_value, next_argument, add_argument, said_from, arguments_of, values_of}
 use Rattle.tools_cli.specs.CommandLine.{Source, are_apart, some_apart, make_merge}
 use Rattle.merge_names.specs.declared.mode.Mode.{Mode}
-use Rattle.tools_cli.specs.Command.{join_arguments}
+use Rattle.std.proofs.lemmas.List.{map-append}
+use Rattle.tools_cli.specs.Command.{join_arguments, names_of}
 use Rattle.tools_cli.specs.Sources.{source_values, source_names}
 use Rattle.tools_cli.specs.declared.merge.Source as code
 
@@ -47,7 +48,7 @@ none_before None = refl
 none_before (Some arguments) = refl
 
 -- the words from a place on
-pub words_at : {A : Type 0} (f : A → Text) (xs : List A) (i : ℕ) (x : A) → i < length xs → x ≡ get_or xs i x → map f (drop i xs) ≡ f x ∷ map f (drop (i + 1) xs)
+pub words_at : {A B : Type 0} (f : A → B) (xs : List A) (i : ℕ) (x : A) → i < length xs → x ≡ get_or xs i x → map f (drop i xs) ≡ f x ∷ map f (drop (i + 1) xs)
 words_at f xs i x lt is = rw add-one (ap (map f) (drop-cons xs i x lt) ∙ ap (λ y. f y ∷ map f (drop (suc i) xs)) (sym is))
 
 pub none_behind : (v : Vocabulary) (arguments : Arguments) → and_then_arguments arguments (arguments_from v None []) ≡ Some arguments
@@ -85,17 +86,16 @@ right_word v due arguments whole word said rest test e h =
 
 -- ---- values and words that are looked up ----
 
-pub one_value_more : (option : Text) (vs : List OptionValue) (v : OptionValue) → values_of option (vs ++ v ∷ []) ≡ values_of option vs ++ cond (bytes_eq v.option option) (v.value ∷ []) []
-one_value_more option [] v = by (bytes_eq v.option option)
-  where
-    by : (b : Bool) → cond b (v.value ∷ []) [] ≡ [] ++ cond b (v.value ∷ []) []
-    by true = refl
-    by false = refl
-one_value_more option (w ∷ vs) v = by (bytes_eq w.option option) (one_value_more option vs v)
-  where
-    by : (b : Bool) → values_of option (vs ++ v ∷ []) ≡ values_of option vs ++ cond (bytes_eq v.option option) (v.value ∷ []) [] → cond b (w.value ∷ values_of option (vs ++ v ∷ [])) (values_of option (vs ++ v ∷ [])) ≡ cond b (w.value ∷ values_of option vs) (values_of option vs) ++ cond (bytes_eq v.option option) (v.value ∷ []) []
-    by true rest = ap (λ l. w.value ∷ l) rest
-    by false rest = rest
+-- the first value is one of the option, or not
+pub kept_value : (option : Text) (found : List Text) (v : OptionValue) (rest : List OptionValue) (whole : List Text) → bytes_eq v.option option ≡ true → found ++ values_of option (v ∷ rest) ≡ whole → (found ++ v.value ∷ []) ++ values_of option rest ≡ whole
+kept_value option found v rest whole e h = append_assoc found (v.value ∷ []) (values_of option rest) ∙ ap (λ b. found ++ cond b (v.value ∷ values_of option rest) (values_of option rest)) (sym e) ∙ h
+
+pub passed_value : (option : Text) (found : List Text) (v : OptionValue) (rest : List OptionValue) (whole : List Text) → bytes_eq v.option option ≡ false → found ++ values_of option (v ∷ rest) ≡ whole → found ++ values_of option rest ≡ whole
+passed_value option found v rest whole e h = ap (λ b. found ++ cond b (v.value ∷ values_of option rest) (values_of option rest)) (sym e) ∙ h
+
+-- the names that are found, and one more
+pub one_found_more : (found more : List (Bor Text)) (x : Bor Text) → more ≡ found ++ x ∷ [] → names_of more ≡ names_of found ++ x.now ∷ []
+one_found_more found more x e = ap names_of e ∙ map-append (λ w. w.now) found (x ∷ [])
 
 -- what stands behind a beginning
 pub behind_found : (beginning text rest : Text) → text ≡ beginning ++ rest → behind beginning text ≡ Some rest

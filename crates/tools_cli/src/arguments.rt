@@ -47,7 +47,7 @@ impl<'a> Arguments<'a> {
 
 // Whether the word is an option whose value is the next word.
 fn begins_option(options: &[&str], due: Option<&str>, word: &str) -> bool
-    ensures { result ≡ (is_none due && takes_value (names_of options.now) word.now) }
+    ensures { result ≡ (is_none due.entry && takes_value (names_of options.now) word.now) }
 {
     due.is_none() && takes_value(options, word)
 }
@@ -59,7 +59,7 @@ fn next_argument<'a>(
     due: Option<&'a str>,
     word: &'a str,
 ) -> Option<Argument<'a>>
-    ensures { option_map argument_value result ≡ next_argument (record { options = names_of options.now; flags = names_of flags.now }) (option_map (λ o. o.now) due) word.now }
+    ensures { option_map argument_value result ≡ next_argument (record { options = names_of options.now; flags = names_of flags.now }) (option_map (λ o. o.now) due.entry) word.now }
 {
     match due {
         Some(option) => own_value(option, word),

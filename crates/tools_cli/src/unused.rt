@@ -1,7 +1,6 @@
 // The nodes of a graph that are not reached, and the lines that tell them.
 ghost use Rattle.std.specs.Prelude.{◌≡◌, length, IfOk};
-ghost use Rattle.dce_graph.specs.declared.graph.Graph as graph;
-ghost use Rattle.tools_cli.specs.Unused.{AreUnused, unused_lines};
+ghost use Rattle.tools_cli.specs.Unused.{unused_lines};
 ghost use Rattle.tools_cli.specs.Unmarked.{unmarked_names};
 ghost use Rattle.tools_cli.specs.Command.{names_of};
 
