@@ -18,7 +18,9 @@ use Rattle.dce_sweep.specs.declared.faults.SweepFault.{SweepFault}
 use Rattle.dce_sweep.specs.declared.faults.SweepFault.TheVariants as sweep
 use Rattle.dce_sweep.specs.Sweeps.{Sweeps, outcome, sweep_of}
 use Rattle.module_limits.specs.Counts.{over_limit}
-use Rattle.dce_reach_proof.specs.Laws.{ExactMarksExist, ExactMarksAreOne}
+use Rattle.wasm_valid.specs.Validity.{IsValid}
+use Rattle.dce_sweep_spec.specs.Closed.{AreClosed}
+use Rattle.dce_reach_proof.specs.Laws.{ExactMarksExist, ExactMarksAreOne, ReachedMarksAreClosed}
 use Rattle.tools_cli.specs.CommandLine.{Text, MetadceTask, Metadce}
 use Rattle.tools_cli.specs.Job.{Decision, Refuses, Makes, Decides, GivesMarks, Reduces, no_graph, not_swept, reduced}
 use Rattle.tools_cli.specs.Texts.{graph_text, sweep_text}
@@ -44,6 +46,10 @@ graph_fails file text says (graph.UnknownNode name) h e = (graph.UnknownNode nam
 pub exact_marks : {E : Type 0} (r : Result Reached E) (g : Graph) (m : Module) → IfOk r (λ marks. (p : Point) → (marked marks p ≡ true) ↔ IsReached g m p) → IfOk r (λ marks. (p : Point) → length (flags marks p) ≡ point_count g m p) → IfOk r (AreExact g m)
 exact_marks (Ok marks) g m exactly one_each = record { exactly = exactly; one_each = one_each }
 exact_marks (Err x) g m exactly one_each = tt
+
+pub closed_marks : {E : Type 0} (r : Result Reached E) (g : Graph) (m : Module) → ReachedMarksAreClosed → IsValid m → IfOk r (AreExact g m) → IfOk r (λ marks. AreClosed (marks_of marks) m)
+closed_marks (Ok marks) g m law valid exact = law g m marks valid exact
+closed_marks (Err x) g m law valid exact = tt
 
 pub sweep_fails : (marks : Marks) (tree : Module) (says : Text) (fault : SweepFault) → (fault ≡ sweep.NoMemory) ⊎ Sweeps marks tree (Err fault) → sweep_text fault ≡ Some says → SweepFails marks tree says
 sweep_fails marks tree says fault (inr h) e = (fault, h, e)

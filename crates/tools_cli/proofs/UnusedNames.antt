@@ -199,3 +199,17 @@ pub one_node_more : (names : List Text) (nodes : List Node) (marks : List Bool) 
 one_node_more names nodes marks i d lt long =
     ap₂ (λ (ns : List Node) (bs : List Bool). unmarked_from names ns bs) (drop-cons nodes i d lt) (drop-cons marks i false long)
     ∙ ap (λ n. unmarked_from (cond (get_or marks i false) names (with_name names (get_or nodes i d).name)) (drop n nodes) (drop n marks)) (sym (add-one i))
+
+pub one_set_more : (names : List Text) (nodes : List Node) (marks : List Bool) (i : ℕ) → i < length nodes → i < length marks → get_or marks i false ≡ true
+    → unmarked_from names (drop i nodes) (drop i marks) ≡ unmarked_from names (drop (i + 1) nodes) (drop (i + 1) marks)
+one_set_more names [] marks i lt long e = absurd (omega arith)
+one_set_more names (n ∷ ns) marks i lt long e =
+    one_node_more names (n ∷ ns) marks i n lt long
+    ∙ ap (λ b. unmarked_from (cond b names (with_name names (get_or (n ∷ ns) i n).name)) (drop (i + 1) (n ∷ ns)) (drop (i + 1) marks)) e
+
+pub one_blank_more : (names : List Text) (nodes : List Node) (marks : List Bool) (i : ℕ) (node : Node) → i < length nodes → i < length marks → node ≡ get_or nodes i node → get_or marks i false ≡ false
+    → unmarked_from names (drop i nodes) (drop i marks) ≡ unmarked_from (with_name names node.name) (drop (i + 1) nodes) (drop (i + 1) marks)
+one_blank_more names nodes marks i node lt long is e =
+    one_node_more names nodes marks i node lt long
+    ∙ ap (λ b. unmarked_from (cond b names (with_name names (get_or nodes i node).name)) (drop (i + 1) nodes) (drop (i + 1) marks)) e
+    ∙ ap (λ (x : Node). unmarked_from (with_name names x.name) (drop (i + 1) nodes) (drop (i + 1) marks)) (sym is)

@@ -37,11 +37,14 @@ fn graph_in<'a>(alloc: Global, file: &'a str, text: &[u8]) -> Result<Graph, Stop
     }
 }
 
-// Marks on exactly what is reached.
+// Marks on exactly what is reached, by which a module can be swept.
 fn marks_in(alloc: Global, graph: &Graph, module: &Valid) -> Result<Reached, NoMemory>
     requires { length graph.now.nodes < 2 ^ 32 }
     ensures exact { IfOk result (AreExact graph.now «module».now) }
+    ensures closed { IfOk result (λ marks. AreClosed (marks_of marks) «module».now) }
 {
+    reached_marks_are_closed();
+    let _valid = module.module();
     reached(alloc, graph, module)
 }
 
@@ -68,7 +71,6 @@ fn reduce<'a>(
     ensures decided { IfOk result (λ decision. Reduces (metadce_value metadce.now) «module» text.now (decision_value decision)) }
     ensures stops { IfErr result (StopsWith (λ says. Reduces (metadce_value metadce.now) «module» text.now (Refuses says))) }
 {
-    reached_marks_are_closed();
     let graph = graph_in(alloc, metadce.graph_file, text)?;
     let marks = marks_in(alloc, &graph, &module)?;
     let lines = unused_lines(alloc, graph.nodes.as_slice(), marks.nodes.as_slice())?;
