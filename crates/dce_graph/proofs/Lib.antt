@@ -10,4 +10,3 @@ pub mod Following
 pub mod Searching
 pub mod Rows
 pub mod ImportsReached
-pub mod Exact

@@ -1,5 +1,5 @@
--- What is reached of imports (WebAssembly Core 2.0, section 2.5.11), and that what is reached can be marked.
-use Rattle.std.specs.Prelude.{◌≡◌, ◌↔◌, ℕ, length, true, Some, slice_get}
+-- What is reached of imports (WebAssembly Core 2.0, section 2.5.11).
+use Rattle.std.specs.Prelude.{◌≡◌, ◌↔◌, ℕ, true, Some, slice_get}
 use Rattle.wasm_tree.specs.declared.space.Space.{Space}
 use Rattle.wasm_tree.specs.declared.module.Import.{Import as ModuleImport}
 use Rattle.wasm_tree.specs.declared.module.Module.{Module}
@@ -7,9 +7,7 @@ use Rattle.wasm_tree.specs.Spaces.{space_of_import}
 use Rattle.dce_graph.specs.declared.graph.Graph.{Graph}
 use Rattle.dce_graph.specs.declared.point.Point.{Point}
 use Rattle.dce_graph.specs.declared.point.Point.TheVariants.{Import}
-use Rattle.dce_graph.specs.declared.marks.Reached.{Reached}
-use Rattle.dce_graph.specs.Marks.{flags, marked}
-use Rattle.dce_graph.specs.Reach.{IsReached, point_count, imports_into, stays_imported}
+use Rattle.dce_graph.specs.Reach.{IsReached, imports_into, stays_imported}
 
 -- an import is reached exactly where the entry of its index space is that it adds
 abbrev pub AreReachedTogether : Space → (ℕ → Point) → Type 0
@@ -18,10 +16,3 @@ AreReachedTogether space entry = (g : Graph) (m : Module) (i n : ℕ) → slice_
 -- imports of tables and memories are reached
 abbrev pub StayingImportsAreReached : Type 0
 StayingImportsAreReached = (g : Graph) (m : Module) (n : ℕ) (d : ModuleImport) → slice_get m.imports n ≡ Some d → stays_imported (space_of_import d.desc) ≡ true → IsReached g m (Import n)
-
--- marks set where a path from a root leads and nowhere else, one for each point
-abbrev pub AreExactlyOn : Graph → Module → Reached → Type 0
-AreExactlyOn g m r = ((p : Point) → (marked r p ≡ true) ↔ IsReached g m p) × ((p : Point) → length (flags r p) ≡ point_count g m p)
-
-abbrev pub ExactMarksAreThere : Type 0
-ExactMarksAreThere = (g : Graph) (m : Module) → (r : Reached) × AreExactlyOn g m r

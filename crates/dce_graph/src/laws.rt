@@ -2,7 +2,7 @@
 
 ghost use Rattle.wasm_tree.specs.declared.space.Space.TheVariants.{Functions, Globals};
 ghost use Rattle.dce_graph.specs.declared.point.Point.TheVariants.{Func, Global};
-ghost use Rattle.dce_graph.specs.Laws.{AreReachedTogether, ExactMarksAreThere, StayingImportsAreReached};
+ghost use Rattle.dce_graph.specs.Laws.{AreReachedTogether, StayingImportsAreReached};
 
 /// An import of a function or of a global is reached exactly where that function or global is, and imports of tables and memories are reached, whatever the
 /// graph is.
@@ -10,8 +10,4 @@ pub fn imports_are_reached_with_their_entries()
     ensures funcs { AreReachedTogether Functions Func }
     ensures globals { AreReachedTogether Globals Global }
     ensures staying { StayingImportsAreReached }
-{}
-/// Of each graph and module what is reached can be marked exactly.
-pub fn exact_marks_are_there()
-    ensures there { ExactMarksAreThere }
 {}

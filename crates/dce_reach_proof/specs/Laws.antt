@@ -1,5 +1,4 @@
--- The laws of marks that are exactly on what is reached.
-use Rattle.std.specs.Prelude.{◌≡◌}
+-- The law of marks that are exactly on what is reached.
 use Rattle.wasm_tree.specs.declared.module.Module.{Module}
 use Rattle.wasm_valid.specs.Validity.{IsValid}
 use Rattle.dce_graph.specs.declared.graph.Graph.{Graph}
@@ -9,11 +8,3 @@ use Rattle.dce_sweep_spec.specs.Reached.{AreExact, marks_of}
 
 abbrev pub ReachedMarksAreClosed : Type 0
 ReachedMarksAreClosed = (g : Graph) (m : Module) (r : Reached) → IsValid m → AreExact g m r → AreClosed (marks_of r) m
-
--- There are such marks, of each graph and module,
-abbrev pub ExactMarksExist : Type 0
-ExactMarksExist = (g : Graph) (m : Module) → (r : Reached) × AreExact g m r
-
--- and they keep one thing of the module.
-abbrev pub ExactMarksAreOne : Type 0
-ExactMarksAreOne = (g : Graph) (m : Module) (r s : Reached) → AreExact g m r → AreExact g m s → marks_of r ≡ marks_of s

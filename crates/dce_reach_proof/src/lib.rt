@@ -1,9 +1,8 @@
-//! Laws of marks which are exactly on what is reached: they are closed, there are some, and they keep one thing.
+//! That marks which are exactly on what is reached are closed, as a law.
 #![tactic(auto)]
 
-ghost use Rattle.dce_reach_proof.specs.Laws.{ReachedMarksAreClosed, ExactMarksExist, ExactMarksAreOne};
+ghost use Rattle.dce_reach_proof.specs.Laws.{ReachedMarksAreClosed};
 
-use dce_graph::exact_marks_are_there;
 use index_remap_proof::renumbering_keeps_typing;
 use wasm_tree::operands_pass_layer_by_layer;
 
@@ -14,12 +13,4 @@ pub fn reached_marks_are_closed()
 {
     operands_pass_layer_by_layer();
     renumbering_keeps_typing();
-}
-
-/// Of each graph and module there are marks that are exactly on what a path from a root meets, and all such marks keep the same of the module.
-pub fn exact_marks_exist()
-    ensures exist { ExactMarksExist }
-    ensures one { ExactMarksAreOne }
-{
-    exact_marks_are_there();
 }

@@ -23,7 +23,7 @@ use Rattle.merge_spec.specs.declared.faults.JoinFault.{JoinFault}
 use Rattle.merge_spec.specs.declared.faults.JoinFault.TheVariants as join
 use Rattle.merge_spec.proofs.FaultParts.{fault_names_part, fault_not_memory}
 use Rattle.std.proofs.lemmas.List.{length-map}
-use Rattle.dce_reach_proof.specs.Laws.{ExactMarksExist}
+use Rattle.dce_exact_proof.specs.Laws.{ExactMarksExist}
 use Rattle.tools_cli.proofs.MergeDecided.{length_parts, length_files}
 use Rattle.tools_cli.proofs.MetadceDecided.{metadce_told}
 use Rattle.tools_cli.proofs.Loading.{as_many}

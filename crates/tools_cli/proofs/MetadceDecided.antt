@@ -3,13 +3,16 @@ use Rattle.std.specs.Prelude.{◌↔◌, IfOk, true}
 use Rattle.dce_graph.specs.declared.point.Point.{Point}
 use Rattle.dce_graph.specs.Marks.{flags, marked}
 use Rattle.dce_graph.specs.Reach.{IsReached, point_count}
-use Rattle.std.proofs.Common.{◌≡◌, ◌∙◌, ◌⊎◌, inl, inr, refl, sym, ap, ap₂, subst, List, [], ◌∷◌, length, Option, Some, None, Result, Ok, Err, arith}
+use Rattle.std.proofs.Common.{◌≡◌, ◌∙◌, ◌⊎◌, inl, inr, refl, sym, ap, ap₂, subst, ℕ, List, [], ◌∷◌, length, Option, Some, None, Result, Ok, Err, arith}
 use Rattle.wasm_tree.specs.declared.which.Which.{Which}
 use Rattle.wasm_tree.specs.declared.module.Module.{Module}
 use Rattle.dce_graph.specs.declared.graph.Graph.{Graph}
 use Rattle.dce_graph.specs.declared.marks.Reached.{Reached}
 use Rattle.dce_graph.specs.declared.fault.GraphFault.{GraphFault}
 use Rattle.dce_graph.specs.declared.fault.GraphFault.TheVariants as graph
+use Rattle.std.specs.List.{filter_map}
+use Rattle.serde_json.specs.Data.{Data, Items}
+use Rattle.serde_json.specs.Find.{as_array}
 use Rattle.dce_graph.specs.GraphFile.{Entry, graph_result, graph_of_values, if_text, if_array, if_shaped, if_distinct, if_known, value_of, misshapen, listed, entry_of, first_repeated, first_unknown, names_of, place_of_name, reached_names, graph_of, IsFault, fault_of}
 use Rattle.dce_sweep_spec.specs.Marks.{Marks}
 use Rattle.dce_sweep_spec.specs.Reached.{AreExact, marks_of}
@@ -20,7 +23,8 @@ use Rattle.dce_sweep.specs.Sweeps.{Sweeps, outcome, sweep_of}
 use Rattle.module_limits.specs.Counts.{over_limit}
 use Rattle.wasm_valid.specs.Validity.{IsValid}
 use Rattle.dce_sweep_spec.specs.Closed.{AreClosed}
-use Rattle.dce_reach_proof.specs.Laws.{ExactMarksExist, ExactMarksAreOne, ReachedMarksAreClosed}
+use Rattle.dce_exact_proof.specs.Laws.{ExactMarksExist, ExactMarksAreOne}
+use Rattle.dce_reach_proof.specs.Laws.{ReachedMarksAreClosed}
 use Rattle.tools_cli.specs.CommandLine.{Text, MetadceTask, Metadce}
 use Rattle.tools_cli.specs.Job.{Decision, Refuses, Makes, Decides, GivesMarks, Reduces, no_graph, not_swept, reduced}
 use Rattle.tools_cli.specs.Texts.{graph_text, sweep_text}
@@ -98,17 +102,17 @@ distinct_never : (o : Option Text) (entries : List Entry) → if_distinct o entr
 distinct_never (Some name) entries e = cc
 distinct_never None entries e = known_never (first_unknown (place_of_name (names_of entries)) (reached_names entries)) (graph_of entries) e
 
-shaped_never : (o : Option _) (entries : List Entry) → if_shaped o entries ≡ Err graph.NoMemory → ⊥
+shaped_never : (o : Option ℕ) (entries : List Entry) → if_shaped o entries ≡ Err graph.NoMemory → ⊥
 shaped_never (Some n) entries e = cc
 shaped_never None entries e = distinct_never (first_repeated (names_of entries)) entries e
 
-array_never : (o : Option _) → if_array o ≡ Err graph.NoMemory → ⊥
+array_never : (o : Option Items) → if_array o ≡ Err graph.NoMemory → ⊥
 array_never None e = cc
-array_never (Some items) e = shaped_never (misshapen (listed items)) _ e
+array_never (Some items) e = shaped_never (misshapen (listed items)) (filter_map entry_of (listed items)) e
 
-text_never : (o : Option _) → if_text o ≡ Err graph.NoMemory → ⊥
+text_never : (o : Option Data) → if_text o ≡ Err graph.NoMemory → ⊥
 text_never None e = cc
-text_never (Some d) e = array_never _ e
+text_never (Some d) e = array_never (as_array d) e
 
 abbrev SomeText : Option Text → Type 0
 SomeText o = (says : Text) × (o ≡ Some says)

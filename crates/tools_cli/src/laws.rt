@@ -7,7 +7,8 @@ ghost use Rattle.tools_cli.specs.Kept.{Keeps};
 
 use dce_behaves_proof::swept_modules_show_the_same;
 use dce_encode_proof::swept_modules_are_in_range;
-use dce_reach_proof::{exact_marks_exist, reached_marks_are_closed};
+use dce_exact_proof::exact_marks_exist;
+use dce_reach_proof::reached_marks_are_closed;
 use dce_sweep_proof::swept_modules_are_valid;
 use merge_behaves_proof::merged_modules_show_the_same;
 use merge_encode_proof::merged_modules_are_in_range;

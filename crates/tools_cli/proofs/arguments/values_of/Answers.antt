@@ -23,11 +23,11 @@ loop-valued-preserved c =
     let before = ap (λ l. names_of found ++ values_of option l) (sym at) ∙ c.loop-valued.invariant in
     elim c.if-eq.branch [
       | then-eq+in_ok-push w ↦
-      let added : c.if-eq.found.items ≡ found ++ v.value ∷ [] = search rules in
-      let is : bytes_eq v.option.now option ≡ true = search rules in
-      ap (λ l. l ++ values_of option rest) (one_found_more found c.if-eq.found.items v.value added) ∙ kept_value option (names_of found) (option_value v) rest _ is before
+          let added : c.if-eq.found.items ≡ found ++ v.value ∷ [] = search rules in
+          let is : bytes_eq v.option.now option ≡ true = search rules in
+          ap (λ l. l ++ values_of option rest) (one_found_more found c.if-eq.found.items v.value added) ∙ kept_value option (names_of found) (option_value v) rest _ is before
       | else-eq w ↦
-      let same : c.if-eq.found.items ≡ found = search rules in
-      let not : bytes_eq v.option.now option ≡ false = search rules in
-      ap (λ l. names_of l ++ values_of option rest) same ∙ passed_value option (names_of found) (option_value v) rest _ not before
+          let same : c.if-eq.found.items ≡ found = search rules in
+          let not : bytes_eq v.option.now option ≡ false = search rules in
+          ap (λ l. names_of l ++ values_of option rest) same ∙ passed_value option (names_of found) (option_value v) rest _ not before
     ]

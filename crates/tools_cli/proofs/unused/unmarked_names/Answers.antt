@@ -19,12 +19,12 @@ loop-place-preserved c =
     let long : i < length marks = omega (arith, c.requires, lt) in
     elim c.if-not-marks-place.branch [
       | then-not-marks-place+in_ok-insert w ↦
-      let blank : get_or marks i false ≡ false = search rules in
-      let added : c.if-not-marks-place.names.keys ≡ insert_key (λ x y. slice_cmp nat_cmp x.now y.now) keys w.as_str.result = search rules in
-      c.loop-place.invariant ∙ one_blank_more (names_of keys) nodes marks i w.index-nodes-place.result lt long w.index-nodes-place.is blank
-      ∙ ap (λ l. unmarked_from l (drop (i + 1) nodes) (drop (i + 1) marks)) (sym (ap names_of added ∙ names_with keys w.as_str.result ∙ ap (with_name (names_of keys)) (w.as_str.ensures.text ∙ sym (ap (λ (n : Node). n.name) w.index-nodes-place.is))))
+          let blank : get_or marks i false ≡ false = search rules in
+          let added : c.if-not-marks-place.names.keys ≡ insert_key (λ x y. slice_cmp nat_cmp x.now y.now) keys w.as_str.result = search rules in
+          c.loop-place.invariant ∙ one_blank_more (names_of keys) nodes marks i w.index-nodes-place.result lt long w.index-nodes-place.is blank
+          ∙ ap (λ l. unmarked_from l (drop (i + 1) nodes) (drop (i + 1) marks)) (sym (ap names_of added ∙ names_with keys w.as_str.result ∙ ap (with_name (names_of keys)) (w.as_str.ensures.text ∙ sym (ap (λ (n : Node). n.name) w.index-nodes-place.is))))
       | else-not-marks-place w ↦
-      let set : get_or marks i false ≡ true = search rules in
-      let same : c.if-not-marks-place.names.keys ≡ keys = search rules in
-      c.loop-place.invariant ∙ one_set_more (names_of keys) nodes marks i lt long set ∙ ap (λ l. unmarked_from (names_of l) (drop (i + 1) nodes) (drop (i + 1) marks)) (sym same)
+          let set : get_or marks i false ≡ true = search rules in
+          let same : c.if-not-marks-place.names.keys ≡ keys = search rules in
+          c.loop-place.invariant ∙ one_set_more (names_of keys) nodes marks i lt long set ∙ ap (λ l. unmarked_from (names_of l) (drop (i + 1) nodes) (drop (i + 1) marks)) (sym same)
     ]
