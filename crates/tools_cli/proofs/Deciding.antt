@@ -2,7 +2,7 @@
 use Rattle.std.proofs.Common.{◌≡◌, ◌∙◌, sym, refl, ap, subst, Bool, true, false, cond, Result, Ok, Err, IfOk, IfErr, map, ℕ, zero, suc, ◌≤◌, List, [], ◌∷◌, ◌++◌, take, drop, length, length-append, arith, Contains}
 use Rattle.std.specs.List.{list_all}
 use Rattle.tools_cli.specs.CommandLine.{Text, MetadceTask, Task, Merge, Metadce, many_of, modules_of, texts_of, inputs_of, outputs_of}
-use Rattle.tools_cli.specs.Job.{Job, Usage, Missing, Refused, Done, Output, Decision, Refuses, Makes, not_linked, not_joined, merged, Reduces, no_graph, not_swept, reduced, Decides, is_within, spelled_output, job_of, AllLoad, OneFails, module_files, contents_of, text_contents, InputsJob, not_loaded, decided}
+use Rattle.tools_cli.specs.Job.{Job, Usage, Missing, Refused, Done, Output, Decision, Refuses, Makes, not_linked, not_joined, merged, Reduces, no_graph, not_swept, reduced, Decides, is_within, spelled_output, job_of, AllLoad, OneFails, module_files, contents_of, InputsJob, not_loaded, decided}
 use Rattle.tools_cli.specs.Effects.{Entry, written_names}
 use Rattle.wasm_tree.specs.declared.module.Module.{Module}
 use Rattle.tools_cli.specs.Causes.{total, StopsWith, PrintsAsAllowed}
@@ -65,6 +65,10 @@ job_not_loaded t inputs n files count first text fails =
     not_loaded text (subst Q (sym (one_memory t)) (subst P (first ∙ ap (λ k. take k inputs) count) fails))
 
 -- ---- what a job writes and prints ----
+
+-- the contents of the files that a task reads behind its modules
+abbrev pub text_contents : Task → List Entry → List Text
+text_contents task files = contents_of (drop (length (modules_of task)) files)
 
 -- each is of a file that the task may write where these are the other texts that it reads
 abbrev pub AreNamed : Task → List Text → List Text → Type 0

@@ -5,7 +5,7 @@ use Rattle.tool_io.specs.FilesAndSinks.{Contents, Becomes, AppendsPrefix, Rose}
 use Rattle.tool_io.proofs.Steps.{rose_earlier, becomes_itself, becomes_weaker, becomes_same}
 use Rattle.tools_cli.specs.CommandLine.{Text, Task, task_of, modules_of, texts_of, inputs_of, usage_line}
 use Rattle.tools_cli.specs.Effects.{Entry, made, IsCut, written_names}
-use Rattle.tools_cli.specs.Job.{Job, Usage, Refused, Done, Whole, TooLong, gathered, most_input, text_contents, InputsJob, TaskJob, refused_before, not_begun, too_long, all_read, HasJob, no_task, asked}
+use Rattle.tools_cli.specs.Job.{Job, Usage, Refused, Done, Whole, TooLong, gathered, most_input, InputsJob, TaskJob, refused_before, not_begun, too_long, all_read, HasJob, no_task, asked}
 use Rattle.tools_cli.specs.Stop.{IsLine, usage, fault_line, invalid_line, parts_line, link_line, join_line, graph_line, output_line, cannot_read_line, cannot_write_line, cannot_print_line, no_memory_line, no_memory, stop_line, line_of, refusal_text, Says, Reports}
 use Rattle.tools_cli.specs.Causes.{StopsWith, StopsGathering, StopsPreparing, StopsFinishing, MayHold, AreOutputs, AllWritten, PrintsAfter, PrintsAsAllowed}
 use Rattle.tools_cli.specs.Run.{IsUsage, PrintsNothing, JobIsDone, HostState, StopsWork, ChangesByTheJob, PrintsForTheJob, EndsDone, Gains, IsSame, HasOutsideCause, HasStatus, SomeRose}
@@ -23,6 +23,7 @@ use Rattle.merge_spec.specs.declared.faults.JoinFault.TheVariants as join
 use Rattle.wasm_read_spec.specs.declared.fault.ReadFault.TheVariants as fault
 use Rattle.base_lists.proofs.Places.{map_twice}
 use Rattle.tools_cli.proofs.Kept.{gathered_held}
+use Rattle.tools_cli.proofs.Deciding.{text_contents}
 use Rattle.tools_cli.proofs.Pieces.{prefix_none}
 
 -- a task's job from the contents of its inputs

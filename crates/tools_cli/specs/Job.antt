@@ -1,5 +1,5 @@
 -- What a command line comes to over the contents of the files.
-use Rattle.std.specs.Prelude.{◌≡◌, ◌⊎◌, ℕ, ◌-◌, ltb, not, if◌then◌else◌, Bool, false, List, [], ◌∷◌, ◌++◌, length, map, take, drop, Option, Some, None, Result, Ok, Err}
+use Rattle.std.specs.Prelude.{◌≡◌, ◌⊎◌, ℕ, ◌-◌, ltb, not, if◌then◌else◌, Bool, false, List, [], ◌∷◌, ◌++◌, length, map, take, Option, Some, None, Result, Ok, Err}
 use Rattle.std.specs.FinMap.{get}
 use Rattle.std.specs.List.{list_all}
 use Rattle.tool_io.specs.FilesAndSinks.{Contents}
@@ -173,12 +173,9 @@ job_of (Makes outputs lines) = if list_all is_within outputs then Done (map spel
 abbrev pub module_files : Task → List Entry → List Entry
 module_files task files = take (length (modules_of task)) files
 
--- The contents of files, in order; and those of the files that a task reads behind its modules.
+-- The contents of files, in order.
 abbrev pub contents_of : List Entry → List Text
 contents_of files = map (λ file. file.1) files
-
-abbrev pub text_contents : Task → List Entry → List Text
-text_contents task files = contents_of (drop (length (modules_of task)) files)
 
 -- What a task comes to over its input files: its modules are read and validated in order, and then it is decided.
 pub data InputsJob (task : Task) (files : List Entry) : Job → Type 0 where
