@@ -3,7 +3,7 @@ use Rattle.std.specs.Prelude.{◌↔◌, IfOk, true}
 use Rattle.dce_graph.specs.declared.point.Point.{Point}
 use Rattle.dce_graph.specs.Marks.{flags, marked}
 use Rattle.dce_graph.specs.Reach.{IsReached, point_count}
-use Rattle.std.proofs.Common.{◌≡◌, ◌∙◌, ◌⊎◌, inl, inr, refl, sym, ap, ap₂, subst, ℕ, List, [], ◌∷◌, length, Option, Some, None, Result, Ok, Err, arith}
+use Rattle.std.proofs.Common.{◌≡◌, ◌∙◌, ◌⊎◌, inl, inr, refl, sym, ap, ap₂, subst, ℕ, List, [], ◌∷◌, length, get_or, Option, Some, None, Result, Ok, Err, arith}
 use Rattle.wasm_tree.specs.declared.which.Which.{Which}
 use Rattle.wasm_tree.specs.declared.module.Module.{Module}
 use Rattle.dce_graph.specs.declared.graph.Graph.{Graph}
@@ -31,6 +31,8 @@ use Rattle.tools_cli.specs.Texts.{graph_text, sweep_text}
 use Rattle.tools_cli.specs.Unused.{AreUnused, unused_lines}
 use Rattle.tools_cli.specs.Unmarked.{unmarked_names}
 use Rattle.tools_cli.specs.Causes.{GraphFails, SweepFails}
+use Rattle.tools_cli.specs.Command.{input_texts}
+use Rattle.tools_cli.specs.declared.gather.Input.{Input}
 use Rattle.tools_cli.proofs.UnusedNames.{unmarked_unused, unused_once}
 
 -- ---- from its parts ----
@@ -91,6 +93,16 @@ one_decides metadce tree trees bytes text contents decision e f h =
     let P : List Module → Type 0 = λ ts. Decides (Metadce metadce) ts contents decision in
     let Q : List Text → Type 0 = λ cs. Decides (Metadce metadce) (tree ∷ []) cs decision in
     subst P (sym e) (subst Q (sym f) h)
+
+pub one_tree : (trees rest : List Module) (tree : Module) → length trees ≡ 1 → trees ≡ tree ∷ rest → trees ≡ tree ∷ []
+one_tree trees [] tree one e = e
+one_tree trees (other ∷ rest) tree one e = absurd (let long = ap length e in omega arith)
+
+pub two_texts : (inputs : List Input) (x : Input) → length inputs ≡ 2 → x ≡ get_or inputs 1 x → (bytes : Text) × (input_texts inputs ≡ bytes ∷ x.bytes.items ∷ [])
+two_texts [] x two is = absurd (omega arith)
+two_texts (a ∷ []) x two is = absurd (omega arith)
+two_texts (a ∷ b ∷ []) x two is = (a.bytes.items, ap (λ (i : Input). a.bytes.items ∷ i.bytes.items ∷ []) (sym is))
+two_texts (a ∷ b ∷ c ∷ more) x two is = absurd (omega arith)
 
 -- ---- it decides something ----
 
