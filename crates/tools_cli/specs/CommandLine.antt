@@ -56,10 +56,14 @@ abbrev pub some_apart : List Source → Option (List Source)
 some_apart [] = None
 some_apart (source ∷ sources) = if are_apart (map (λ s. s.name) (source ∷ sources)) then Some (source ∷ sources) else None
 
+-- The mode that a flag gives.
+abbrev pub flag_mode : Text → Option Mode
+flag_mode flag = if bytes_eq flag rename_flag then Some mode.Rename else (if bytes_eq flag skip_flag then Some mode.Skip else None)
+
 -- At most one flag, which gives the mode.
 abbrev pub merge_mode : List Text → Option Mode
 merge_mode [] = Some mode.Refuse
-merge_mode (flag ∷ []) = if bytes_eq flag rename_flag then Some mode.Rename else (if bytes_eq flag skip_flag then Some mode.Skip else None)
+merge_mode (flag ∷ []) = flag_mode flag
 merge_mode _ = None
 
 abbrev pub make_merge : Option (List Source) → Option Text → Option Mode → Option Task

@@ -1,5 +1,5 @@
 -- What is told of the nodes of a graph that are not reached.
-use Rattle.std.specs.Prelude.{◌≡◌, ◌↔◌, ¬, ℕ, List, ◌++◌, flat_map, Contains, Some, slice_get, codes}
+use Rattle.std.specs.Prelude.{◌≡◌, ◌↔◌, ℕ, List, ◌++◌, flat_map, Contains, Some, slice_get, codes}
 use Rattle.std.specs.Ordering.{nat_cmp}
 use Rattle.std.specs.Cmp.Lexicographic.{slice_cmp}
 use Rattle.std.specs.List.Sorted.{IsStrictlySortedBy}
@@ -12,7 +12,7 @@ use Rattle.tools_cli.specs.Words.{Text}
 
 -- A node of this name is there, and no path from a root leads to it.
 abbrev pub IsUnused : Graph → Module → Text → Type 0
-IsUnused graph tree name = (place : ℕ) × (node : Node) × (slice_get graph.nodes place ≡ Some node) × (node.name ≡ name) × ¬ (IsReached graph tree (point.Node place))
+IsUnused graph tree name = (place : ℕ) × (node : Node) × (slice_get graph.nodes place ≡ Some node) × (node.name ≡ name) × (IsReached graph tree (point.Node place) → ⊥)
 
 -- The names of the nodes that are not reached, all of them and no others, in ascending order of their bytes.
 pub record AreUnused (graph : Graph) (tree : Module) (names : List Text) : Type 0 where

@@ -1,6 +1,6 @@
 // The task that the words of a command line ask for.
 ghost use Rattle.std.specs.Prelude.{◌≡◌, true, map, option_map, option_and_then, string_bytes, IfOk, IfSome};
-ghost use Rattle.tools_cli.specs.CommandLine.{task_of, merge_of, metadce_of, merge_of_arguments, metadce_of_arguments, sources_of, some_apart, are_apart, merge_mode, usage_line};
+ghost use Rattle.tools_cli.specs.CommandLine.{task_of, merge_of, metadce_of, merge_of_arguments, metadce_of_arguments, sources_of, some_apart, are_apart, flag_mode, merge_mode, usage_line};
 ghost use Rattle.tools_cli.specs.Command.{task_value, arguments_value, names_of};
 ghost use Rattle.tools_cli.specs.Sources.{source_values, source_names};
 
@@ -59,14 +59,26 @@ fn some_apart<'a>(alloc: Global, plain: &[&'a str]) -> Result<Option<Vec<Source<
     }
 }
 
+// The mode that a flag gives.
+fn flag_mode(flag: &str) -> Option<Mode>
+    ensures { result ≡ flag_mode flag.now }
+{
+    if flag == "--rename-export-conflicts" {
+        return Some(Mode::Rename);
+    }
+    if flag == "--skip-export-conflicts" {
+        return Some(Mode::Skip);
+    }
+    None
+}
+
 // The mode, if at most one flag is there.
 fn merge_mode(flags: &[&str]) -> Option<Mode>
     ensures { result ≡ merge_mode (names_of flags.now) }
 {
     match flags {
         [] => Some(Mode::Refuse),
-        [flag] if *flag == "--rename-export-conflicts" => Some(Mode::Rename),
-        [flag] if *flag == "--skip-export-conflicts" => Some(Mode::Skip),
+        [flag] => flag_mode(flag),
         _ => None,
     }
 }

@@ -1,4 +1,4 @@
-use Rattle.std.proofs.Common.{◌≡◌, ◌<◌, ◌≤◌, ◌^◌, ◌∙◌, sym, ap, ap₂, subst, List, Err, length, arith}
+use Rattle.std.proofs.Common.{◌≡◌, ◌<◌, ◌≤◌, ◌^◌, ◌∙◌, sym, ap, subst, List, [], ◌∷◌, Err, length, arith}
 use Rattle.std.proofs.lemmas.List.{length-map}
 use Rattle.wasm_meaning.specs.Linking.{Part, sites}
 use Rattle.merge_spec.specs.Parts.{named_module, named_modules}

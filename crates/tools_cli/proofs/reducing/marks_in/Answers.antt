@@ -8,6 +8,6 @@ returns-clause-exact c = exact_marks c.reached.result c.args.graph.now c.args.mo
 
 pub returns-clause-closed : goal.returns-clause-closed
 returns-clause-closed c =
-    let valid : IsValid c.args.module.now = subst IsValid c.module-_valid.ensures.value c.module-_valid.ensures.valid in
+    let valid : IsValid c.args.module.now = subst IsValid c.module-valid.ensures.value c.module-valid.ensures.valid in
     closed_marks c.reached.result c.args.graph.now c.args.module.now c.reached_marks_are_closed.ensures.closed valid
     (exact_marks c.reached.result c.args.graph.now c.args.module.now c.reached.ensures.exactly c.reached.ensures.one_each)
