@@ -31,7 +31,7 @@ number_of (const.Null t) h = tt
 number_of (const.Func f) h = tt
 number_of (const.Global g) h = tt
 
-new_number : (r : Remap) (e : ConstExpr) → ConstNumberInRange e → ConstNumberInRange (new_const r e)
+pub new_number : (r : Remap) (e : ConstExpr) → ConstNumberInRange e → ConstNumberInRange (new_const r e)
 new_number r (const.I32 z) h = h
 new_number r (const.I64 z) h = h
 new_number r (const.Null t) h = tt

@@ -97,7 +97,7 @@ func_consts : (fs : List ℕ) → Every ConstNumberInRange (map const.Func fs)
 func_consts [] = tt
 func_consts (f ∷ fs) = (tt, func_consts fs)
 
-declared_numbers : (m : Module) (fs : List ℕ) → NumbersInRange m → NumbersInRange (with_declared m fs)
+pub declared_numbers : (m : Module) (fs : List ℕ) → NumbersInRange m → NumbersInRange (with_declared m fs)
 declared_numbers m [] k = k
 declared_numbers m (f ∷ fs) k = record {
   imports = k.imports;

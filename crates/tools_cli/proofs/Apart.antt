@@ -84,7 +84,7 @@ unlike_at x [] i y e at same = cc
 unlike_at x (z ∷ zs) zero y e at same = let here : z ≡ y = cc in differ x z (neither (bytes_eq x z) (list_any (bytes_eq x) zs) e).0 (same ∙ sym here)
 unlike_at x (z ∷ zs) (suc i) y e at same = unlike_at x zs i y (neither (bytes_eq x z) (list_any (bytes_eq x) zs) e).1 at same
 
-first_or_later : (x : Text) (xs : List Text) (y : Text) → Contains (x ∷ xs) y → (x ≡ y) ⊎ Contains xs y
+pub first_or_later : (x : Text) (xs : List Text) (y : Text) → Contains (x ∷ xs) y → (x ≡ y) ⊎ Contains xs y
 first_or_later x xs y (zero, lt, is) = inl is
 first_or_later x xs y (suc k, lt, is) = inr (k, omega arith, is)
 

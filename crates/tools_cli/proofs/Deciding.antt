@@ -1,8 +1,8 @@
 -- From the inputs of a task to its job.
 use Rattle.std.proofs.Common.{◌≡◌, ◌∙◌, sym, refl, ap, subst, Bool, true, false, cond, Result, Ok, Err, IfOk, IfErr, map, ℕ, zero, suc, ◌≤◌, List, [], ◌∷◌, ◌++◌, take, drop, length, length-append, arith, Contains}
 use Rattle.std.specs.List.{list_all}
-use Rattle.tools_cli.specs.CommandLine.{Text, MergeTask, Task, Merge, many_of, modules_of, texts_of, inputs_of, outputs_of}
-use Rattle.tools_cli.specs.Job.{Job, Usage, Missing, Refused, Done, Output, Decision, Refuses, Makes, Merges, not_linked, not_joined, merged, Decides, is_within, spelled_output, job_of, AllLoad, OneFails, module_files, text_contents, InputsJob, not_loaded, decided}
+use Rattle.tools_cli.specs.CommandLine.{Text, MetadceTask, Task, Merge, Metadce, many_of, modules_of, texts_of, inputs_of, outputs_of}
+use Rattle.tools_cli.specs.Job.{Job, Usage, Missing, Refused, Done, Output, Decision, Refuses, Makes, not_linked, not_joined, merged, Reduces, no_graph, not_swept, reduced, Decides, is_within, spelled_output, job_of, AllLoad, OneFails, module_files, contents_of, InputsJob, not_loaded, decided}
 use Rattle.tools_cli.specs.Effects.{Entry, written_names}
 use Rattle.wasm_tree.specs.declared.module.Module.{Module}
 use Rattle.tools_cli.specs.Causes.{total, StopsWith, PrintsAsAllowed}
@@ -10,6 +10,7 @@ use Rattle.tools_cli.specs.Command.{input_entry, input_entries, input_texts, dec
 use Rattle.tools_cli.specs.declared.gather.Input.{Input}
 use Rattle.tools_cli.specs.declared.decide.Decision as code
 use Rattle.tools_cli.specs.declared.stop.Stop.{Stop}
+use Rattle.tools_cli.proofs.MetadceDecided.{of_one}
 
 -- ---- the inputs, as modules and other texts ----
 
@@ -23,11 +24,9 @@ entries_first zero xs = refl
 entries_first (suc n) [] = refl
 entries_first (suc n) (x ∷ xs) = ap (λ l. input_entry x ∷ l) (entries_first n xs)
 
-pub texts_behind : (n : ℕ) (xs : List Input) → input_texts (drop n xs) ≡ map (λ (e : Entry). e.1) (drop n (input_entries xs))
-texts_behind zero [] = refl
-texts_behind zero (x ∷ xs) = ap (λ (l : List Text). x.bytes.items ∷ l) (texts_behind zero xs)
-texts_behind (suc n) [] = refl
-texts_behind (suc n) (x ∷ xs) = texts_behind n xs
+pub input_contents : (xs : List Input) → input_texts xs ≡ contents_of (input_entries xs)
+input_contents [] = refl
+input_contents (x ∷ xs) = ap (λ (l : List Text). x.bytes.items ∷ l) (input_contents xs)
 
 length_names : (xs : List Input) → length (map (λ (e : Entry). e.0) (input_entries xs)) ≡ length xs
 length_names [] = refl
@@ -40,26 +39,36 @@ modules_there t xs e =
     let both = length-append (modules_of t) (texts_of t) in
     omega arith
 
+-- and one for each file
+pub inputs_there : (t : Task) (xs : List Input) → map (λ (e : Entry). e.0) (input_entries xs) ≡ inputs_of t → length xs ≡ length (inputs_of t)
+inputs_there t xs e = sym (length_names xs) ∙ ap length e
+
+-- no task's modules may have several memories
+pub one_memory : (t : Task) → many_of t ≡ false
+one_memory (Merge merge) = refl
+one_memory (Metadce metadce) = refl
+
 -- ---- the job ----
 
-pub job_made : (t : Task) (inputs : List Entry) (n : ℕ) (files : List Entry) (trees : List Module) (texts : List Text) (decision : Decision) (job : Job) → many_of t ≡ false → n ≡ length (modules_of t) → files ≡ take n inputs → texts ≡ map (λ (e : Entry). e.1) (drop n inputs)
-    → AllLoad false files trees → Decides t trees texts decision → job_of decision ≡ job → InputsJob t inputs job
-job_made t inputs n files trees texts decision job one count first behind loads decides is =
+pub job_made : (t : Task) (inputs : List Entry) (n : ℕ) (files : List Entry) (trees : List Module) (contents : List Text) (decision : Decision) (job : Job) → n ≡ length (modules_of t) → files ≡ take n inputs → contents ≡ contents_of inputs
+    → AllLoad false files trees → Decides t trees contents decision → job_of decision ≡ job → InputsJob t inputs job
+job_made t inputs n files trees contents decision job count first all loads decides is =
     let P : List Entry → Type 0 = λ l. AllLoad false l trees in
     let Q : Bool → Type 0 = λ b. AllLoad b (module_files t inputs) trees in
     let R : List Text → Type 0 = λ l. Decides t trees l decision in
-    subst (InputsJob t inputs) is
-    (decided trees decision
-    (subst Q (sym one) (subst P (first ∙ ap (λ k. take k inputs) count) loads))
-    (subst R (behind ∙ ap (λ k. map (λ (e : Entry). e.1) (drop k inputs)) count) decides))
+    subst (InputsJob t inputs) is (decided trees decision (subst Q (sym (one_memory t)) (subst P (first ∙ ap (λ k. take k inputs) count) loads)) (subst R all decides))
 
-pub job_not_loaded : (t : Task) (inputs : List Entry) (n : ℕ) (files : List Entry) → many_of t ≡ false → n ≡ length (modules_of t) → files ≡ take n inputs → (text : Text) → OneFails false files text → InputsJob t inputs (Refused text)
-job_not_loaded t inputs n files one count first text fails =
+pub job_not_loaded : (t : Task) (inputs : List Entry) (n : ℕ) (files : List Entry) → n ≡ length (modules_of t) → files ≡ take n inputs → (text : Text) → OneFails false files text → InputsJob t inputs (Refused text)
+job_not_loaded t inputs n files count first text fails =
     let P : List Entry → Type 0 = λ l. OneFails false l text in
     let Q : Bool → Type 0 = λ b. OneFails b (module_files t inputs) text in
-    not_loaded text (subst Q (sym one) (subst P (first ∙ ap (λ k. take k inputs) count) fails))
+    not_loaded text (subst Q (sym (one_memory t)) (subst P (first ∙ ap (λ k. take k inputs) count) fails))
 
 -- ---- what a job writes and prints ----
+
+-- the contents of the files that a task reads behind its modules
+abbrev pub text_contents : Task → List Entry → List Text
+text_contents task files = contents_of (drop (length (modules_of task)) files)
 
 -- each is of a file that the task may write where these are the other texts that it reads
 abbrev pub AreNamed : Task → List Text → List Text → Type 0
@@ -75,10 +84,16 @@ JobIsAllowed t texts Usage = Unit {0}
 JobIsAllowed t texts Missing = Unit {0}
 JobIsAllowed t texts (Refused text) = Unit {0}
 
-decision_allowed : (t : Task) (trees : List Module) (texts : List Text) (decision : Decision) → Decides t trees texts decision → DecisionIsAllowed t texts decision
-decision_allowed (Merge merge) trees texts decision (not_linked fault text found says) = tt
-decision_allowed (Merge merge) trees texts decision (not_joined fault text linked found says) = tt
-decision_allowed (Merge merge) trees texts decision (merged tree is) = ((λ name h. h), λ e. refl)
+reduced_allowed : (metadce : MetadceTask) (tree : Module) (text : Text) (texts : List Text) (decision : Decision) → Reduces metadce tree text decision → DecisionIsAllowed (Metadce metadce) texts decision
+reduced_allowed metadce tree text texts decision (no_graph fault says found told) = tt
+reduced_allowed metadce tree text texts decision (not_swept g marks fault says is found told) = tt
+reduced_allowed metadce tree text texts decision (reduced g marks left unused is found lists) = ((λ name h. h), λ e. absurd (cc))
+
+decision_allowed : (t : Task) (trees : List Module) (contents texts : List Text) (decision : Decision) → Decides t trees contents decision → DecisionIsAllowed t texts decision
+decision_allowed (Merge merge) trees contents texts decision (not_linked fault text found says) = tt
+decision_allowed (Merge merge) trees contents texts decision (not_joined fault text linked found says) = tt
+decision_allowed (Merge merge) trees contents texts decision (merged tree is) = ((λ name h. h), λ e. refl)
+decision_allowed (Metadce metadce) trees contents texts decision h = let one = of_one metadce trees contents decision h in reduced_allowed metadce one.0 one.2 texts decision one.5
 
 same_names : (outputs : List Output) → map (λ (o : Output). o.name) outputs ≡ written_names (map spelled_output outputs)
 same_names [] = refl
@@ -94,13 +109,13 @@ job_allowed t texts (Makes outputs lines) h = within_allowed t texts outputs lin
 
 pub inputs_job_allowed : (t : Task) (inputs : List Entry) (job : Job) → InputsJob t inputs job → JobIsAllowed t (text_contents t inputs) job
 inputs_job_allowed t inputs job (not_loaded text h) = tt
-inputs_job_allowed t inputs job (decided trees decision loads h) = job_allowed t (text_contents t inputs) decision (decision_allowed t trees (text_contents t inputs) decision h)
+inputs_job_allowed t inputs job (decided trees decision loads h) = job_allowed t (text_contents t inputs) decision (decision_allowed t trees (contents_of inputs) (text_contents t inputs) decision h)
 
--- a merge's decision, and why there is none
-pub merge_decided : {E : Type 0} (r : Result code.Decision E) (t : Task) (merge : MergeTask) (trees : List Module) (texts : List Text) → IfOk r (λ made. Merges merge trees (decision_value made)) → t ≡ Merge merge → IfOk r (λ made. Decides t trees texts (decision_value made))
-merge_decided (Ok made) t merge trees texts h e = subst (λ u. Decides u trees texts (decision_value made)) (sym e) h
-merge_decided (Err x) t merge trees texts h e = tt
+-- a task's decision, and why there is none
+pub task_decided : {E : Type 0} (r : Result code.Decision E) (t u : Task) (trees : List Module) (contents : List Text) → IfOk r (λ made. Decides u trees contents (decision_value made)) → t ≡ u → IfOk r (λ made. Decides t trees contents (decision_value made))
+task_decided (Ok made) t u trees contents h e = subst (λ v. Decides v trees contents (decision_value made)) (sym e) h
+task_decided (Err x) t u trees contents h e = tt
 
-pub merge_stops : {A : Type 0} (r : Result A Stop) (t : Task) (merge : MergeTask) (trees : List Module) (texts : List Text) → IfErr r (StopsWith (λ text. Merges merge trees (Refuses text))) → t ≡ Merge merge → IfErr r (StopsWith (λ text. Decides t trees texts (Refuses text)))
-merge_stops (Ok a) t merge trees texts h e = tt
-merge_stops (Err s) t merge trees texts h e = let P : Task → Type 0 = λ u. StopsWith (λ text. Decides u trees texts (Refuses text)) s in subst P (sym e) h
+pub task_stops : {A : Type 0} (r : Result A Stop) (t u : Task) (trees : List Module) (contents : List Text) → IfErr r (StopsWith (λ text. Decides u trees contents (Refuses text))) → t ≡ u → IfErr r (StopsWith (λ text. Decides t trees contents (Refuses text)))
+task_stops (Ok a) t u trees contents h e = tt
+task_stops (Err s) t u trees contents h e = let P : Task → Type 0 = λ v. StopsWith (λ text. Decides v trees contents (Refuses text)) s in subst P (sym e) h

@@ -3,12 +3,14 @@ use Rattle.std.proofs.Common.{Bool, take, zero, suc, ltb, ◌-◌, ◌↔◌, �
 use Rattle.std.specs.FinMap.{get}
 use Rattle.wasm_bytes.specs.Reading.{IsBytes}
 use Rattle.tool_io.specs.FilesAndSinks.{Contents}
-use Rattle.tools_cli.specs.CommandLine.{Text, MergeTask, Task, Merge, source_files, many_of, modules_of, inputs_of}
+use Rattle.tools_cli.specs.CommandLine.{Text, MergeTask, Task, Merge, Metadce, source_files, many_of, modules_of, inputs_of}
 use Rattle.tools_cli.specs.Effects.{Entry}
 use Rattle.tools_cli.specs.Texts.{fault_text, invalid_text, link_text, join_text, over_limit}
 use Rattle.wasm_tree.specs.declared.which.Which.TheVariants.{InputBytes}
-use Rattle.tools_cli.specs.Job.{IsRead, IsAccepted, invalid, Job, Refused, Gathered, add_first, add_file, HoldBytes, Whole, Lacks, TooLong, gathered, most_input, Loads, loaded, faulty, AllLoad, OneFails, Decision, Refuses, Makes, Merges, not_linked, not_joined, merged, parts_of, Decides, job_of, module_files, text_contents, InputsJob, not_loaded, decided, TaskJob, not_begun, missing, too_long, all_read, HasJob, no_task, asked}
+use Rattle.tools_cli.specs.Job.{IsRead, IsAccepted, invalid, Job, Refused, Gathered, add_first, add_file, HoldBytes, Whole, Lacks, TooLong, gathered, most_input, Loads, loaded, faulty, AllLoad, OneFails, Decision, Refuses, Makes, Merges, not_linked, not_joined, merged, parts_of, Decides, job_of, module_files, contents_of, InputsJob, not_loaded, decided, TaskJob, not_begun, missing, too_long, all_read, HasJob, no_task, asked}
+use Rattle.dce_exact_proof.specs.Laws.{ExactMarksAreOne}
 use Rattle.tools_cli.proofs.Kept.{whole_is, short_enough}
+use Rattle.tools_cli.proofs.MetadceDecided.{metadce_once}
 use Rattle.wasm_tree.specs.declared.module.Module.{Module}
 use Rattle.wasm_read_spec.specs.declared.fault.ReadFault.{ReadFault}
 use Rattle.wasm_valid.specs.declared.kinds.Invalid.{Invalid}
@@ -35,8 +37,9 @@ FirstIsOne = (many : Bool) (tree : Module) (one other : Invalid) → IsFirstInva
 abbrev pub NoneIsFirst : Type 0
 NoneIsFirst = (many : Bool) (tree : Module) (item : Invalid) → IsValid tree → (many ≡ false → IsSingle tree) → IsFirstInvalid tree many item → ⊥
 
--- what is known of reading and of validity
+-- what is known of reading, of validity and of reach
 pub record Known : Type 0 where
+  pub marks : ExactMarksAreOne
   pub trees : TreeIsOne
   pub faults : SpelledHasNoFault
   pub first : FirstIsOne
@@ -149,8 +152,9 @@ merges_once merge trees one other (merged tree is) (merged tree' is') =
     let same : tree ≡ tree' = cc in
     ap (λ (t : Module). Makes (record { name = merge.output; tree = t; custom = [] } ∷ []) []) same
 
-decides_once : (t : Task) (trees : List Module) (texts : List Text) (one other : Decision) → Decides t trees texts one → Decides t trees texts other → one ≡ other
-decides_once (Merge merge) trees texts one other h k = merges_once merge trees one other h k
+decides_once : Known → (t : Task) (trees : List Module) (contents : List Text) (one other : Decision) → Decides t trees contents one → Decides t trees contents other → one ≡ other
+decides_once known (Merge merge) trees contents one other h k = merges_once merge trees one other h k
+decides_once known (Metadce metadce) trees contents one other h k = metadce_once known.marks metadce trees contents one other h k
 
 pub first_are_bytes : (n : ℕ) (files : List Entry) → AreBytes files → AreBytes (take n files)
 first_are_bytes zero files are = tt
@@ -162,9 +166,9 @@ inputs_once k t inputs are one other (not_loaded text h) (not_loaded text' h') =
 inputs_once k t inputs are one other (not_loaded text h) (decided trees decision loads d) = absurd (load_or_fail k (many_of t) (module_files t inputs) trees text loads h (first_are_bytes (length (modules_of t)) inputs are))
 inputs_once k t inputs are one other (decided trees decision loads d) (not_loaded text h) = absurd (load_or_fail k (many_of t) (module_files t inputs) trees text loads h (first_are_bytes (length (modules_of t)) inputs are))
 inputs_once k t inputs are one other (decided trees decision loads d) (decided trees' decision' loads' d') =
-    let P : List Module → Type 0 = λ ts. Decides t ts (text_contents t inputs) decision in
+    let P : List Module → Type 0 = λ ts. Decides t ts (contents_of inputs) decision in
     let same = trees_once k (many_of t) (module_files t inputs) trees trees' loads loads' (first_are_bytes (length (modules_of t)) inputs are) in
-    ap job_of (decides_once t trees' (text_contents t inputs) decision decision' (subst P same d) d')
+    ap job_of (decides_once k t trees' (contents_of inputs) decision decision' (subst P same d) d')
 
 task_jobs_once : Known → (t : Task) (files : Contents) → HoldBytes files → (one other : Job) → TaskJob t files one → TaskJob t files other → one ≡ other
 task_jobs_once reads t files hold one other (not_begun text e) (not_begun text' e') =

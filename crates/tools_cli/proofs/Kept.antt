@@ -5,12 +5,13 @@ use Rattle.std.specs.FinMap.{get, insert, get-insert}
 use Rattle.std.specs.Cmp.{eq_by_cmp_equiv}
 use Rattle.std.proofs.lemmas.Cmp.{nat_list_cmp_total}
 use Rattle.tool_io.specs.FilesAndSinks.{Contents}
-use Rattle.tools_cli.specs.CommandLine.{Text, Source, MergeTask, Task, Merge, task_of, source_files, inputs_of}
+use Rattle.tools_cli.specs.CommandLine.{Text, Source, MergeTask, MetadceTask, Task, Merge, Metadce, task_of, source_files, inputs_of}
 use Rattle.merge_names.specs.declared.mode.Mode.{Mode}
 use Rattle.tools_cli.specs.Effects.{Entry, made}
-use Rattle.tools_cli.specs.Job.{IsRead, IsAccepted, Job, Usage, Missing, Refused, Done, Gathered, Whole, Lacks, TooLong, add_first, add_file, gathered, most_input, most_output, Loads, loaded, faulty, invalid, AllLoad, Decision, Merges, not_linked, not_joined, merged, job_of, module_files, parts_of, AreMerged, InputsJob, not_loaded, decided, TaskJob, not_begun, missing, too_long, all_read, HasJob, no_task, asked}
+use Rattle.tools_cli.specs.Job.{IsRead, IsAccepted, Job, Usage, Missing, Refused, Done, Gathered, Whole, Lacks, TooLong, add_first, add_file, gathered, most_input, most_output, Loads, loaded, faulty, invalid, AllLoad, Decision, Merges, not_linked, not_joined, merged, GivesMarks, Reduces, no_graph, not_swept, reduced, Decides, job_of, module_files, contents_of, parts_of, AreMerged, InputsJob, not_loaded, decided, TaskJob, not_begun, missing, too_long, all_read, HasJob, no_task, asked}
 use Rattle.tools_cli.specs.Run.{EndsDone}
-use Rattle.tools_cli.specs.Kept.{HoldModules, TaskKeeps, Keeps, EndsKept}
+use Rattle.tools_cli.specs.Unused.{unused_lines}
+use Rattle.tools_cli.specs.Kept.{HoldsModule, HoldModules, TaskKeeps, Keeps, EndsKept}
 use Rattle.wasm_tree.specs.declared.module.Module.{Module}
 use Rattle.wasm_tree.specs.Bounds.{IsBounded}
 use Rattle.wasm_valid.specs.Validity.{IsValid, IsSingle}
@@ -21,10 +22,19 @@ use Rattle.merge_spec.specs.Faults.{link_fault}
 use Rattle.merge_spec.proofs.FaultParts.{none_with_several}
 use Rattle.merge_valid_proof.specs.Joinable.{CanBeJoined}
 use Rattle.merge_behaves_proof.specs.Laws.{BehavesAs}
+use Rattle.dce_graph.specs.declared.graph.Graph.{Graph}
+use Rattle.dce_graph.specs.declared.marks.Reached.{Reached}
+use Rattle.dce_sweep_spec.specs.Marks.{Marks}
+use Rattle.dce_sweep_spec.specs.Closed.{AreClosed}
+use Rattle.dce_sweep_spec.specs.Swept.{swept}
+use Rattle.dce_sweep_spec.specs.Reached.{AreExact, marks_of}
+use Rattle.dce_reach_proof.specs.Laws.{ReachedMarksAreClosed}
+use Rattle.dce_sweep.specs.Sweeps.{Sweeps, outcome}
+use Rattle.dce_behaves_proof.specs.Laws.{SweptModulesShowTheSame, BehavesAs as BehavesAsUnswept}
 use Rattle.world_sequential_proof.specs.Laws.{TurnsAreNotSeen}
 use Rattle.merge_spec.specs.View.{linked_world}
 use Rattle.wasm_tree.specs.declared.which.Which.{Which}
-use Rattle.merge_spec.specs.Joined.{joined_module, repeated_name, outcome}
+use Rattle.merge_spec.specs.Joined.{joined_module, repeated_name, outcome as merged_outcome}
 use Rattle.module_limits.specs.Counts.{over_limit}
 use Rattle.wasm_write_spec.specs.Plain.{plain}
 use Rattle.wasm_tree.specs.MemoryZero.{memory_zero_funcs}
@@ -38,7 +48,7 @@ IsSound p = IsValid p.«module» × IsBounded p.«module»
 abbrev IsWritable : Module → Type 0
 IsWritable m = InRange m × IsTrue (memory_zero_funcs m.funcs)
 
--- what is known of the plain spelling, and of merged modules
+-- what is known of the plain spelling, of merged modules and of what is left of one
 pub record Respelled : Type 0 where
   pub plainly : (tree : Module) → IsWritable tree → length (plain tree) < 2 ^ 32 → Spells (plain tree) tree false
   pub ranges : (bytes : List ℕ) (tree : Module) → Spells bytes tree false → InRange tree
@@ -51,6 +61,13 @@ pub record Respelled : Type 0 where
   pub memory : (parts : List Part) (mode : Mode) → IsValid (joined_module parts mode) → IsSingle (joined_module parts mode) → IsBounded (joined_module parts mode) → IsTrue (memory_zero_funcs (joined_module parts mode).funcs)
   pub same : (parts : List Part) (mode : Mode) → CanBeJoined parts mode → BehavesAs parts mode (joined_module parts mode)
   pub turns : TurnsAreNotSeen
+  pub closed : ReachedMarksAreClosed
+  pub left_valid : (k : Marks) (m : Module) → IsValid m → AreClosed k m → IsValid (swept k m)
+  pub left_single : (k : Marks) (m : Module) → IsValid m → AreClosed k m → IsSingle m → IsSingle (swept k m)
+  pub left_sizes : (k : Marks) (m : Module) → IsValid m → AreClosed k m → IsBounded m → over_limit (swept k m) ≡ None → IsBounded (swept k m)
+  pub left_in_range : (k : Marks) (m : Module) → InRange m → IsValid (swept k m) → IsSingle (swept k m) → IsBounded (swept k m) → InRange (swept k m)
+  pub left_memory : (k : Marks) (m : Module) → IsValid (swept k m) → IsSingle (swept k m) → IsBounded (swept k m) → IsTrue (memory_zero_funcs (swept k m).funcs)
+  pub left_same : SweptModulesShowTheSame
 
 sound_at : (P : Module → Type 0) → ((p : Part) → IsSound p → P p.«module») → (parts : List Part) → Every IsSound parts → (n : ℕ) (m : Module) → module_at parts n ≡ Some m → P m
 sound_at P f [] h n m e = absurd (cc)
@@ -58,7 +75,7 @@ sound_at P f (p ∷ parts) h zero m e = let same : p.«module» ≡ m = cc in su
 sound_at P f (p ∷ parts) h (suc n) m e = sound_at P f parts h.1 n m e
 
 -- parts that are joined have no fault, and this is the joined module
-joins_to : (name : Option Text) (which : Option Which) (m tree : Module) → outcome name which m ≡ Ok tree → (name ≡ None) × (which ≡ None) × (m ≡ tree)
+joins_to : (name : Option Text) (which : Option Which) (m tree : Module) → merged_outcome name which m ≡ Ok tree → (name ≡ None) × (which ≡ None) × (m ≡ tree)
 joins_to (Some name) which m tree e = absurd (cc)
 joins_to None (Some which) m tree e = absurd (cc)
 joins_to None None m tree e = let same : m ≡ tree = cc in (refl, refl, same)
@@ -167,6 +184,12 @@ parts_in_range k (s ∷ sources) files [] h = tt
 parts_in_range k (s ∷ sources) [] (tree ∷ trees) h = absurd h
 parts_in_range k (s ∷ sources) (file ∷ files) (tree ∷ trees) h = ((loaded_sound k file.0 file.1 tree (Some s.name) h.0).1, parts_in_range k sources files trees h.1)
 
+-- the file of an output that is the plain spelling of a tree spells it
+one_written : Respelled → (before : Contents) (name : Text) (tree : Module) → IsWritable tree → length (plain tree) ≤ most_output → HoldsModule false (insert before name (plain tree ++ [])) name tree
+one_written k before name tree writable fits =
+    let short : length (plain tree) < 2 ^ 32 = omega arith in
+    (plain tree, written_there before name (plain tree ++ []) ∙ ap Some (append-nil (plain tree)), k.plainly tree writable short)
+
 output_keeps : Respelled → (merge : MergeTask) (before : Contents) (files : List Entry) (trees : List Module) (tree : Module) (b : Bool) → gathered (inputs_of (Merge merge)) before most_input ≡ Whole files → AllLoad false (module_files (Merge merge) files) trees
     → AreMerged false (parts_of merge.sources trees) merge.mode tree → (b ≡ true → length (plain tree) ≤ most_output) → (text : Text)
     → JobKept (Merge merge) before (cond b (Done ((merge.output, plain tree ++ []) ∷ []) []) (Refused text))
@@ -175,14 +198,12 @@ output_keeps k merge before files trees tree true e loads is fits text =
     let parts = parts_of merge.sources trees in
     let files' = module_files (Merge merge) files in
     let sound = merged_is_sound k parts merge.mode tree (parts_sound k merge.sources files' trees loads) (parts_in_range k merge.sources files' trees loads) is in
-    let least = fits refl in
-    let short : length (plain tree) < 2 ^ 32 = omega arith in
     record {
       trees = trees;
       tree = tree;
       read = files_hold false before (source_files merge) [] most_input files trees e loads;
       merged = is;
-      written = (plain tree, written_there before merge.output (plain tree ++ []) ∙ ap Some (append-nil (plain tree)), k.plainly tree sound.1 short);
+      written = one_written k before merge.output tree sound.1 (fits refl);
       accepted = sound.0;
       behaves = sound.2;
       in_turn = k.turns (linked_world parts merge.mode) (sound_at IsValid (λ p h. h.0) parts (parts_sound k merge.sources files' trees loads));
@@ -203,9 +224,79 @@ merge_keeps k merge before files trees decision e loads (not_joined fault text l
 merge_keeps k merge before files trees decision e loads (merged tree is) =
     output_keeps k merge before files trees tree (not (ltb most_output (length (plain tree))) && true) e loads is (within_is (length (plain tree)) most_output _ refl) _
 
+-- ---- what is left of a module ----
+
+sweeps_to : (which : Option Which) (m left : Module) → outcome which m ≡ Ok left → (which ≡ None) × (m ≡ left)
+sweeps_to (Some which) m left e = absurd (cc)
+sweeps_to None m left e = let same : m ≡ left = cc in (refl, same)
+
+left_is_sound : Respelled → (marks : Marks) (file bytes : Text) (tree left : Module) → Loads false file bytes (Ok tree) → AreClosed marks tree → Sweeps marks tree (Ok left) → IsAccepted false left × IsWritable left × BehavesAsUnswept marks tree left
+left_is_sound k marks file bytes tree left loads closed is =
+    let sweeps = sweeps_to (over_limit (swept marks tree)) (swept marks tree) left is in
+    let loaded = loaded_is false file bytes (Ok tree) loads in
+    let bounded = k.bounded bytes tree loaded.0.spelled loaded.0.within in
+    let valid = k.left_valid marks tree loaded.1.valid closed in
+    let single = k.left_single marks tree loaded.1.valid closed (loaded.1.single refl) in
+    let sizes = k.left_sizes marks tree loaded.1.valid closed bounded sweeps.0 in
+    let P : Module → Type 0 = λ m. IsAccepted false m × IsWritable m × BehavesAsUnswept marks tree m in
+    subst P sweeps.1 (
+      record { valid = valid; single = λ e. single },
+      (k.left_in_range marks tree (k.ranges bytes tree loaded.0.spelled) valid single sizes, k.left_memory marks tree valid single sizes),
+      k.left_same marks tree loaded.1.valid closed,
+    )
+
+-- the two files of a metadce, where it has read them
+abbrev HoldBoth : MetadceTask → Contents → Entry → Entry → Type 0
+HoldBoth metadce before file text = (get before metadce.file ≡ Some file.1) × (get before metadce.graph_file ≡ Some text.1)
+
+hold_both : (metadce : MetadceTask) (before : Contents) (file text : Entry) → gathered (inputs_of (Metadce metadce)) before most_input ≡ Whole (file ∷ text ∷ []) → HoldBoth metadce before file text
+hold_both metadce before file text e =
+    let held : get before metadce.file ∷ get before metadce.graph_file ∷ [] ≡ Some file.1 ∷ Some text.1 ∷ [] = gathered_held before (inputs_of (Metadce metadce)) most_input (file ∷ text ∷ []) e in
+    let first : get before metadce.file ≡ Some file.1 = cc in
+    let second : get before metadce.graph_file ≡ Some text.1 = cc in
+    (first, second)
+
+left_keeps : Respelled → (metadce : MetadceTask) (before : Contents) (file text : Entry) (tree left : Module) (g : Graph) (marks : Reached) (b : Bool) (lines refusal : Text) → HoldBoth metadce before file text → Loads false file.0 file.1 (Ok tree)
+    → GivesMarks text.1 tree g marks → Sweeps (marks_of marks) tree (Ok left) → (b ≡ true → length (plain left) ≤ most_output)
+    → JobKept (Metadce metadce) before (cond b (Done ((metadce.output, plain left ++ []) ∷ []) lines) (Refused refusal))
+left_keeps k metadce before file text tree left g marks false lines refusal held loads is left_is fits = tt
+left_keeps k metadce before file text tree left g marks true lines refusal held loads is left_is fits =
+    let loaded = loaded_is false file.0 file.1 (Ok tree) loads in
+    let sound = left_is_sound k (marks_of marks) file.0 file.1 tree left loads (k.closed g tree marks loaded.1.valid is.exact) left_is in
+    record {
+      tree = tree;
+      graph = g;
+      marks = marks;
+      left = left;
+      read = (file.1, held.0, loaded.0.spelled);
+      graphed = (text.1, held.1, is.read);
+      exact = is.exact;
+      swept = left_is;
+      written = one_written k before metadce.output left sound.1 (fits refl);
+      accepted = sound.0;
+      behaves = sound.2;
+    }
+
+reduces_keep : Respelled → (metadce : MetadceTask) (before : Contents) (file text : Entry) (tree : Module) (decision : Decision) → HoldBoth metadce before file text → Loads false file.0 file.1 (Ok tree) → Reduces metadce tree text.1 decision
+    → JobKept (Metadce metadce) before (job_of decision)
+reduces_keep k metadce before file text tree decision held loads (no_graph fault says found told) = tt
+reduces_keep k metadce before file text tree decision held loads (not_swept g marks fault says is found told) = tt
+reduces_keep k metadce before file text tree decision held loads (reduced g marks left unused is found lists) =
+    left_keeps k metadce before file text tree left g marks (not (ltb most_output (length (plain left))) && true) (unused_lines unused) _ held loads is found (within_is (length (plain left)) most_output _ refl)
+
+metadce_keeps : Respelled → (metadce : MetadceTask) (before : Contents) (files : List Entry) (trees : List Module) (decision : Decision) → gathered (inputs_of (Metadce metadce)) before most_input ≡ Whole files
+    → AllLoad false (module_files (Metadce metadce) files) trees → Decides (Metadce metadce) trees (contents_of files) decision → JobKept (Metadce metadce) before (job_of decision)
+metadce_keeps k metadce before files [] decision e loads h = absurd h
+metadce_keeps k metadce before [] (tree ∷ []) decision e loads h = absurd h
+metadce_keeps k metadce before (file ∷ []) (tree ∷ []) decision e loads h = absurd h
+metadce_keeps k metadce before (file ∷ text ∷ []) (tree ∷ []) decision e loads h = reduces_keep k metadce before file text tree decision (hold_both metadce before file text e) loads.0 h
+metadce_keeps k metadce before (file ∷ text ∷ other ∷ files) (tree ∷ []) decision e loads h = absurd h
+metadce_keeps k metadce before files (tree ∷ other ∷ trees) decision e loads h = absurd h
+
 inputs_keep : Respelled → (task : Task) (before : Contents) (files : List Entry) (job : Job) → gathered (inputs_of task) before most_input ≡ Whole files → InputsJob task files job → JobKept task before job
 inputs_keep k task before files job e (not_loaded text h) = tt
 inputs_keep k (Merge merge) before files job e (decided trees decision loads h) = merge_keeps k merge before files trees decision e loads h
+inputs_keep k (Metadce metadce) before files job e (decided trees decision loads h) = metadce_keeps k metadce before files trees decision e loads h
 
 task_keeps : Respelled → (task : Task) (before : Contents) (job : Job) → TaskJob task before job → JobKept task before job
 task_keeps k task before job (not_begun text e) = tt

@@ -4,6 +4,8 @@ pub mod Performing
 pub mod Running
 pub mod Loading
 pub mod MergeDecided
+pub mod UnusedNames
+pub mod MetadceDecided
 pub mod Deciding
 pub mod Encoding
 pub mod Determined

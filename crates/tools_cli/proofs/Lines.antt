@@ -1,89 +1,122 @@
 -- Words that are read one by one.
-use Rattle.std.proofs.Common.{◌≡◌, ◌∙◌, refl, sym, ap, ℕ, suc, ◌+◌, ◌<◌, arith, add-one, map, drop, drop-cons, length, get_or, Bool, true, false, cond, List, [], ◌∷◌, append_assoc, append-nil, Option, Some, None, option_map, option_and_then}
-use Rattle.tools_cli.specs.CommandLine.{Text, MergeWord, Output, Conflicts, Plain, MergeLine, merge_line_of, Source, are_apart, some_apart, make_merge, task_of_merge_line, add_merge_word, merge_words, takes_value, own_value, other_merge_word}
+use Rattle.std.proofs.lemmas.Bool.Decides.{nat_tests}
+use Rattle.std.specs.Prelude.{◌&&◌, ◌==◌, is_none, bytes_eq}
+use Rattle.std.proofs.Common.{◌≡◌, ◌∙◌, refl, sym, ap, ap₂, ◌++◌, ℕ, suc, ◌+◌, ◌<◌, arith, add-one, map, drop, drop-cons, length, get_or, Bool, true, false, cond, List, [], ◌∷◌, append_assoc, append-nil, Option, Some, None, option_map, option_and_then}
+use Rattle.std.specs.Borrow.{Bor}
+use Rattle.tools_cli.specs.Words.{Text, Vocabulary, Argument, Value, Flag, Plain, OptionValue, Arguments, behind, long_name, takes_value, next_argument, add_argument, said_from, arguments_of, values_of}
+use Rattle.tools_cli.specs.CommandLine.{Source, are_apart, some_apart, make_merge}
 use Rattle.merge_names.specs.declared.mode.Mode.{Mode}
-use Rattle.tools_cli.specs.Command.{join_merge_lines}
+use Rattle.std.proofs.lemmas.List.{map-append}
+use Rattle.tools_cli.specs.Command.{join_arguments, names_of}
 use Rattle.tools_cli.specs.Sources.{source_values, source_names}
 use Rattle.tools_cli.specs.declared.merge.Source as code
 
 -- ---- one word more ----
 
--- what words say, where an option before them may want its value
-abbrev pub words_from : Bool → List Text → Option (List MergeWord)
-words_from false words = merge_words words
-words_from true [] = None
-words_from true (word ∷ rest) = add_merge_word (own_value word) (merge_words rest)
+abbrev pub arguments_from : Vocabulary → Option Text → List Text → Option Arguments
+arguments_from v due words = option_map arguments_of (said_from v due words)
 
-abbrev pub line_from : Bool → List Text → Option MergeLine
-line_from due words = option_map merge_line_of (words_from due words)
+-- what is said, and then what more words say
+abbrev pub and_then_arguments : Arguments → Option Arguments → Option Arguments
+and_then_arguments arguments more = option_map (join_arguments arguments) more
 
--- a line, and then what more words say
-abbrev pub and_then_line : MergeLine → Option MergeLine → Option MergeLine
-and_then_line line more = option_map (join_merge_lines line) more
+wants_value : (v : Vocabulary) (word : Text) (rest : List Text) → takes_value v.options word ≡ true → said_from v None (word ∷ rest) ≡ said_from v (Some (long_name word)) rest
+wants_value v word rest e = rw e refl
 
-wants_value : (word : Text) (rest : List Text) → takes_value word ≡ true → merge_words (word ∷ rest) ≡ words_from true rest
-wants_value word [] e = rw e refl
-wants_value word (next ∷ rest) e = rw e refl
+says_next : (v : Vocabulary) (due : Option Text) (word : Text) (rest : List Text) → (due ≡ None → takes_value v.options word ≡ false) → said_from v due (word ∷ rest) ≡ add_argument (next_argument v due word) (said_from v None rest)
+says_next v (Some option) word rest h = refl
+says_next v None word rest h = let e = h refl in rw e refl
 
-says_itself : (word : Text) (rest : List Text) → takes_value word ≡ false → merge_words (word ∷ rest) ≡ add_merge_word (other_merge_word word) (merge_words rest)
-says_itself word [] e = rw e refl
-says_itself word (next ∷ rest) e = rw e refl
-
-abbrev pub next_word : Bool → Text → Option MergeWord
-next_word due word = cond due (own_value word) (other_merge_word word)
-
-says_next : (due : Bool) (word : Text) (rest : List Text) → (due ≡ false → takes_value word ≡ false) → words_from due (word ∷ rest) ≡ add_merge_word (next_word due word) (merge_words rest)
-says_next true word rest h = refl
-says_next false word rest h = says_itself word rest (h refl)
-
-join_first : (said : MergeWord) (more : Option (List MergeWord)) → option_map merge_line_of (add_merge_word (Some said) more) ≡ and_then_line (merge_line_of (said ∷ [])) (option_map merge_line_of more)
-join_first (Output output) None = refl
-join_first (Conflicts mode) None = refl
+join_first : (said : Argument) (more : Option (List Argument)) → option_map arguments_of (add_argument (Some said) more) ≡ and_then_arguments (arguments_of (said ∷ [])) (option_map arguments_of more)
+join_first (Value option value) None = refl
+join_first (Flag word) None = refl
 join_first (Plain word) None = refl
-join_first (Output output) (Some more) = refl
-join_first (Conflicts mode) (Some more) = refl
+join_first (Value option value) (Some more) = refl
+join_first (Flag word) (Some more) = refl
 join_first (Plain word) (Some more) = refl
 
-join_more : (a b : MergeLine) (more : Option MergeLine) → and_then_line a (and_then_line b more) ≡ and_then_line (join_merge_lines a b) more
+join_more : (a b : Arguments) (more : Option Arguments) → and_then_arguments a (and_then_arguments b more) ≡ and_then_arguments (join_arguments a b) more
 join_more a b None = refl
 join_more a b (Some c) = simp append_assoc
 
-add_nothing : (more : Option (List MergeWord)) → add_merge_word None more ≡ None
+add_nothing : (more : Option (List Argument)) → add_argument None more ≡ None
 add_nothing None = refl
 add_nothing (Some more) = refl
 
-pub line_empty : (more : Option MergeLine) → and_then_line (merge_line_of []) more ≡ more
-line_empty None = refl
-line_empty (Some line) = refl
+pub none_before : (more : Option Arguments) → and_then_arguments (arguments_of []) more ≡ more
+none_before None = refl
+none_before (Some arguments) = refl
 
 -- the words from a place on
-pub words_at : {A : Type 0} (f : A → Text) (xs : List A) (i : ℕ) (x : A) → i < length xs → x ≡ get_or xs i x → map f (drop i xs) ≡ f x ∷ map f (drop (i + 1) xs)
+pub words_at : {A B : Type 0} (f : A → B) (xs : List A) (i : ℕ) (x : A) → i < length xs → x ≡ get_or xs i x → map f (drop i xs) ≡ f x ∷ map f (drop (i + 1) xs)
 words_at f xs i x lt is = rw add-one (ap (map f) (drop-cons xs i x lt) ∙ ap (λ y. f y ∷ map f (drop (suc i) xs)) (sym is))
 
-pub line_done : (line : MergeLine) → and_then_line line (line_from false []) ≡ Some line
-line_done line = simp append-nil
+pub none_behind : (v : Vocabulary) (arguments : Arguments) → and_then_arguments arguments (arguments_from v None []) ≡ Some arguments
+none_behind v arguments = simp append-nil
+
+-- a word that begins no option, where none wants its value
+pub fresh_word : (due : Option (Bor Text)) (b : Bool) → (is_none due && b) ≡ false → option_map (λ o. o.now) due ≡ None → b ≡ false
+fresh_word None b e none = e
+fresh_word (Some x) b e none = absurd (cc)
+
+-- and one that begins an option
+pub begun_word : (due : Option (Bor Text)) (b : Bool) → (is_none due && b) ≡ true → (option_map (λ o. o.now) due ≡ None) × (b ≡ true)
+begun_word None b e = (refl, e)
+begun_word (Some x) b e = absurd (cc)
 
 -- an option wants its value
-pub now_due : (line : MergeLine) (whole : Option MergeLine) (word : Text) (rest : List Text) → takes_value word ≡ true
-    → whole ≡ and_then_line line (line_from false (word ∷ rest)) → whole ≡ and_then_line line (line_from true rest)
-now_due line whole word rest e h = h ∙ ap (λ o. and_then_line line (option_map merge_line_of o)) (wants_value word rest e)
+pub now_due : (v : Vocabulary) (arguments : Arguments) (whole : Option Arguments) (word : Text) (rest : List Text) → takes_value v.options word ≡ true
+    → whole ≡ and_then_arguments arguments (arguments_from v None (word ∷ rest)) → whole ≡ and_then_arguments arguments (arguments_from v (Some (long_name word)) rest)
+now_due v arguments whole word rest e h = h ∙ ap (λ o. and_then_arguments arguments (option_map arguments_of o)) (wants_value v word rest e)
 
 -- a word says nothing
-pub wrong_word : (due : Bool) (line : MergeLine) (whole : Option MergeLine) (word : Text) (rest : List Text) → (due ≡ false → takes_value word ≡ false) → next_word due word ≡ None
-    → whole ≡ and_then_line line (line_from due (word ∷ rest)) → whole ≡ None
-wrong_word due line whole word rest test e h =
-    h ∙ ap (λ o. and_then_line line (option_map merge_line_of o)) (says_next due word rest test ∙ ap (λ o. add_merge_word o (merge_words rest)) e ∙ add_nothing (merge_words rest))
+pub wrong_word : (v : Vocabulary) (due : Option Text) (arguments : Arguments) (whole : Option Arguments) (word : Text) (rest : List Text) → (due ≡ None → takes_value v.options word ≡ false) → next_argument v due word ≡ None
+    → whole ≡ and_then_arguments arguments (arguments_from v due (word ∷ rest)) → whole ≡ None
+wrong_word v due arguments whole word rest test e h =
+    h ∙ ap (λ o. and_then_arguments arguments (option_map arguments_of o)) (says_next v due word rest test ∙ ap (λ o. add_argument o (said_from v None rest)) e ∙ add_nothing (said_from v None rest))
 
 -- a word says something
-pub right_word : (due : Bool) (line : MergeLine) (whole : Option MergeLine) (word : Text) (said : MergeWord) (rest : List Text) → (due ≡ false → takes_value word ≡ false) → next_word due word ≡ Some said
-    → whole ≡ and_then_line line (line_from due (word ∷ rest)) → whole ≡ and_then_line (join_merge_lines line (merge_line_of (said ∷ []))) (line_from false rest)
-right_word due line whole word said rest test e h =
+pub right_word : (v : Vocabulary) (due : Option Text) (arguments : Arguments) (whole : Option Arguments) (word : Text) (said : Argument) (rest : List Text) → (due ≡ None → takes_value v.options word ≡ false) → next_argument v due word ≡ Some said
+    → whole ≡ and_then_arguments arguments (arguments_from v due (word ∷ rest)) → whole ≡ and_then_arguments (join_arguments arguments (arguments_of (said ∷ []))) (arguments_from v None rest)
+right_word v due arguments whole word said rest test e h =
     h
-    ∙ ap (λ o. and_then_line line (option_map merge_line_of o)) (says_next due word rest test ∙ ap (λ o. add_merge_word o (merge_words rest)) e)
-    ∙ ap (and_then_line line) (join_first said (merge_words rest))
-    ∙ join_more line (merge_line_of (said ∷ [])) (line_from false rest)
+    ∙ ap (λ o. and_then_arguments arguments (option_map arguments_of o)) (says_next v due word rest test ∙ ap (λ o. add_argument o (said_from v None rest)) e)
+    ∙ ap (and_then_arguments arguments) (join_first said (said_from v None rest))
+    ∙ join_more arguments (arguments_of (said ∷ [])) (arguments_from v None rest)
 
--- ---- the merge of a line ----
+-- ---- values and words that are looked up ----
+
+-- the first value is one of the option, or not
+pub kept_value : (option : Text) (found : List Text) (v : OptionValue) (rest : List OptionValue) (whole : List Text) → bytes_eq v.option option ≡ true → found ++ values_of option (v ∷ rest) ≡ whole → (found ++ v.value ∷ []) ++ values_of option rest ≡ whole
+kept_value option found v rest whole e h = append_assoc found (v.value ∷ []) (values_of option rest) ∙ ap (λ b. found ++ cond b (v.value ∷ values_of option rest) (values_of option rest)) (sym e) ∙ h
+
+pub passed_value : (option : Text) (found : List Text) (v : OptionValue) (rest : List OptionValue) (whole : List Text) → bytes_eq v.option option ≡ false → found ++ values_of option (v ∷ rest) ≡ whole → found ++ values_of option rest ≡ whole
+passed_value option found v rest whole e h = ap (λ b. found ++ cond b (v.value ∷ values_of option rest) (values_of option rest)) (sym e) ∙ h
+
+-- the names that are found, and one more
+pub one_found_more : (found more : List (Bor Text)) (x : Bor Text) → more ≡ found ++ x ∷ [] → names_of more ≡ names_of found ++ x.now ∷ []
+one_found_more found more x e = ap names_of e ∙ map-append (λ w. w.now) found (x ∷ [])
+
+-- what stands behind a beginning
+pub behind_found : (beginning text rest : Text) → text ≡ beginning ++ rest → behind beginning text ≡ Some rest
+behind_found [] text rest e = ap Some e
+behind_found (c ∷ beginning) [] rest e = absurd (cc)
+behind_found (c ∷ beginning) (d ∷ text) rest e =
+    let first : c ≡ d = cc in
+    let more : text ≡ beginning ++ rest = cc in
+    let test : (c == d) ≡ true = grind (arith, nat_tests) in
+    ap (λ b. cond b (behind beginning text) None) test ∙ behind_found beginning text rest more
+
+pub behind_lacks : (beginning text : Text) → ((rest : Text) → text ≡ beginning ++ rest → ⊥) → behind beginning text ≡ None
+behind_lacks [] text lacks = absurd (lacks text refl)
+behind_lacks (c ∷ beginning) [] lacks = refl
+behind_lacks (c ∷ beginning) (d ∷ text) lacks = by (c == d) refl (λ more. behind_lacks beginning text more)
+  where
+    by : (b : Bool) → (c == d) ≡ b → (((rest : Text) → text ≡ beginning ++ rest → ⊥) → behind beginning text ≡ None) → cond b (behind beginning text) None ≡ None
+    by true e later = let same : d ≡ c = grind (arith, nat_tests) in later (λ rest is. lacks rest (ap₂ (λ (x : ℕ) (xs : Text). x ∷ xs) same is))
+    by false e later = refl
+
+-- ---- the merge of arguments ----
 
 pub no_output : (sources : Option (List Source)) (mode : Option Mode) → make_merge sources None mode ≡ None
 no_output None mode = refl
@@ -93,15 +126,6 @@ pub no_mode : (sources : Option (List Source)) (output : Option Text) → make_m
 no_mode None output = refl
 no_mode (Some sources) None = refl
 no_mode (Some sources) (Some output) = refl
-
--- a command line from what it says
-pub merge_of_said : (o : Option (List MergeWord)) (line : MergeLine) → Some line ≡ option_map merge_line_of o → option_and_then (λ said. task_of_merge_line (merge_line_of said)) o ≡ task_of_merge_line line
-merge_of_said None line e = cc
-merge_of_said (Some said) line e = let same : line ≡ merge_line_of said = cc in ap task_of_merge_line (sym same)
-
-pub merge_of_nothing : (o : Option (List MergeWord)) → None ≡ option_map merge_line_of o → option_and_then (λ said. task_of_merge_line (merge_line_of said)) o ≡ None
-merge_of_nothing None e = refl
-merge_of_nothing (Some said) e = cc
 
 pub names_once : (xs : List code.Source) → map (λ (s : Source). s.name) (source_values xs) ≡ source_names xs
 names_once [] = refl

@@ -5,8 +5,8 @@ use Rattle.tool_io.specs.FilesAndSinks.{Contents, Becomes, AppendsPrefix, Rose}
 use Rattle.tool_io.proofs.Steps.{rose_earlier, becomes_itself, becomes_weaker, becomes_same}
 use Rattle.tools_cli.specs.CommandLine.{Text, Task, task_of, modules_of, texts_of, inputs_of, usage_line}
 use Rattle.tools_cli.specs.Effects.{Entry, made, IsCut, written_names}
-use Rattle.tools_cli.specs.Job.{Job, Usage, Refused, Done, Whole, TooLong, gathered, most_input, text_contents, InputsJob, TaskJob, refused_before, not_begun, too_long, all_read, HasJob, no_task, asked}
-use Rattle.tools_cli.specs.Stop.{IsLine, usage, fault_line, invalid_line, parts_line, link_line, join_line, output_line, cannot_read_line, cannot_write_line, cannot_print_line, no_memory_line, no_memory, stop_line, line_of, refusal_text, Says, Reports}
+use Rattle.tools_cli.specs.Job.{Job, Usage, Refused, Done, Whole, TooLong, gathered, most_input, InputsJob, TaskJob, refused_before, not_begun, too_long, all_read, HasJob, no_task, asked}
+use Rattle.tools_cli.specs.Stop.{IsLine, usage, fault_line, invalid_line, parts_line, link_line, join_line, graph_line, output_line, cannot_read_line, cannot_write_line, cannot_print_line, no_memory_line, no_memory, stop_line, line_of, refusal_text, Says, Reports}
 use Rattle.tools_cli.specs.Causes.{StopsWith, StopsGathering, StopsPreparing, StopsFinishing, MayHold, AreOutputs, AllWritten, PrintsAfter, PrintsAsAllowed}
 use Rattle.tools_cli.specs.Run.{IsUsage, PrintsNothing, JobIsDone, HostState, StopsWork, ChangesByTheJob, PrintsForTheJob, EndsDone, Gains, IsSame, HasOutsideCause, HasStatus, SomeRose}
 use Rattle.tools_cli.specs.declared.stop.Status.{Status}
@@ -17,11 +17,13 @@ use Rattle.tools_cli.specs.Texts.{over_limit}
 use Rattle.wasm_tree.specs.declared.which.Which.TheVariants.{InputBytes}
 use Rattle.tools_cli.specs.declared.refusal.Refusal.{Refusal}
 use Rattle.tools_cli.specs.declared.refusal.Refusal.TheVariants as refusal
+use Rattle.dce_graph.specs.declared.fault.GraphFault.TheVariants as graph
 use Rattle.merge_spec.specs.declared.faults.LinkFault.TheVariants as link
 use Rattle.merge_spec.specs.declared.faults.JoinFault.TheVariants as join
 use Rattle.wasm_read_spec.specs.declared.fault.ReadFault.TheVariants as fault
 use Rattle.base_lists.proofs.Places.{map_twice}
 use Rattle.tools_cli.proofs.Kept.{gathered_held}
+use Rattle.tools_cli.proofs.Deciding.{text_contents}
 use Rattle.tools_cli.proofs.Pieces.{prefix_none}
 
 -- a task's job from the contents of its inputs
@@ -162,6 +164,10 @@ refusal_line refusal.TooManyMemories = link_line [] _ link.TooManyMemories refl
 refusal_line (refusal.GlobalCycle file global) = link_line (file.now ∷ []) _ (link.GlobalCycle 0 global.number) refl
 refusal_line (refusal.ExportConflict name) = join_line _ (join.ExportConflict name) refl
 refusal_line (refusal.TooMany which) = output_line which
+refusal_line (refusal.GraphText file) = graph_line file.now _ graph.GraphText refl
+refusal_line (refusal.GraphShape file entry) = graph_line file.now _ (graph.GraphShape entry.number) refl
+refusal_line (refusal.NodeTwice file name) = graph_line file.now _ (graph.NodeTwice name) refl
+refusal_line (refusal.UnknownNode file name) = graph_line file.now _ (graph.UnknownNode name) refl
 
 -- what is told of a stop is one of the lines
 line_is : (words : List Text) (old new : HostState) (s : Stop) → StopsWork words old new s → IsLine (line_of s)

@@ -4,7 +4,7 @@ use Rattle.std.specs.FinMap.{get}
 use Rattle.tool_io.specs.FilesAndSinks.{Contents, Rose, Becomes, AppendsPrefix}
 use Rattle.tools_cli.specs.CommandLine.{Text, MergeTask, Task, Merge, source_files, many_of, texts_of, inputs_of, outputs_of, may_print}
 use Rattle.tools_cli.specs.Job.{TooLong, gathered, TaskJob, refused_before, most_input}
-use Rattle.tools_cli.specs.Texts.{over_limit, invalid_text, link_text, join_text}
+use Rattle.tools_cli.specs.Texts.{over_limit, invalid_text, link_text, join_text, graph_text, sweep_text}
 use Rattle.wasm_valid.specs.declared.kinds.Invalid.{Invalid}
 use Rattle.wasm_valid.specs.First.{IsFirstInvalid}
 use Rattle.wasm_meaning.specs.Linking.{Part}
@@ -12,6 +12,11 @@ use Rattle.merge_spec.specs.declared.faults.LinkFault.{LinkFault}
 use Rattle.merge_spec.specs.declared.faults.JoinFault.{JoinFault}
 use Rattle.merge_spec.specs.Faults.{link_fault}
 use Rattle.merge_spec.specs.Joined.{Joins}
+use Rattle.dce_graph.specs.declared.fault.GraphFault.{GraphFault}
+use Rattle.dce_graph.specs.GraphFile.{graph_result}
+use Rattle.dce_sweep_spec.specs.Marks.{Marks}
+use Rattle.dce_sweep.specs.declared.faults.SweepFault.{SweepFault}
+use Rattle.dce_sweep.specs.Sweeps.{Sweeps}
 use Rattle.wasm_tree.specs.declared.module.Module.{Module}
 use Rattle.wasm_tree.specs.declared.which.Which.TheVariants.{InputBytes, Types, Imports, Functions, Tables, Memories, Globals, ElementSegments, DataSegments}
 use Rattle.wasm_tree.specs.Limits.{limit}
@@ -64,6 +69,14 @@ abbrev pub MergeFails : MergeTask → List Part → Text → Type 0
 MergeFails merge parts text =
     ((fault : LinkFault) × (link_fault parts (many_of (Merge merge)) ≡ Some fault) × (link_text (source_files merge) fault ≡ Some text))
     ⊎ ((fault : JoinFault) × (link_fault parts (many_of (Merge merge)) ≡ None) × Joins parts merge.mode (Err fault) × (join_text fault ≡ Some text))
+
+-- Why a text of this file is no graph.
+abbrev pub GraphFails : Text → Text → Text → Type 0
+GraphFails file text says = (fault : GraphFault) × (graph_result text ≡ Err fault) × (graph_text file fault ≡ Some says)
+
+-- Why sweeping a module by these marks is refused.
+abbrev pub SweepFails : Marks → Module → Text → Type 0
+SweepFails marks tree says = (fault : SweepFault) × Sweeps marks tree (Err fault) × (sweep_text fault ≡ Some says)
 
 -- No list of the tree has more entries than its limit.
 pub record IsWithinLimits (m : Module) : Type 0 where

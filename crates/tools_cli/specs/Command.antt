@@ -1,19 +1,22 @@
 -- What the types of the code stand for.
 use Rattle.std.specs.Prelude.{List, ◌++◌, map, string_bytes}
 use Rattle.std.specs.Borrow.{Bor}
-use Rattle.tools_cli.specs.CommandLine.{Text, MergeLine}
+use Rattle.tools_cli.specs.CommandLine.{Text}
 use Rattle.tools_cli.specs.CommandLine as words
+use Rattle.tools_cli.specs.Words as said
 use Rattle.tools_cli.specs.Effects.{Entry}
 use Rattle.tools_cli.specs.Sources.{source_values}
 use Rattle.tools_cli.specs.declared.merge.MergeTask.{MergeTask}
+use Rattle.tools_cli.specs.declared.metadce.MetadceTask.{MetadceTask}
 use Rattle.tools_cli.specs.declared.task.Task.{Task}
 use Rattle.tools_cli.specs.declared.task.Task.TheVariants as task
 use Rattle.tools_cli.specs.declared.decide.Output.{Output}
 use Rattle.tools_cli.specs.declared.decide.Decision.{Decision}
 use Rattle.tools_cli.specs.Job as job
-use Rattle.tools_cli.specs.declared.merge_word.MergeWord.{MergeWord}
-use Rattle.tools_cli.specs.declared.merge_word.MergeWord.TheVariants as word
-use Rattle.tools_cli.specs.declared.merge_line.MergeLine as line
+use Rattle.tools_cli.specs.declared.argument.Argument.{Argument}
+use Rattle.tools_cli.specs.declared.argument.Argument.TheVariants as word
+use Rattle.tools_cli.specs.declared.arguments.OptionValue.{OptionValue}
+use Rattle.tools_cli.specs.declared.arguments.Arguments.{Arguments}
 use Rattle.tools_cli.specs.declared.gather.Input.{Input}
 use Rattle.tools_cli.specs.declared.perform.Write.{Write}
 
@@ -22,24 +25,31 @@ abbrev pub names_of : List (Bor Text) → List Text
 names_of words = map (λ w. w.now) words
 
 -- What one word says, and what all say together.
-abbrev pub merge_word_value : MergeWord → words.MergeWord
-merge_word_value (word.Output output) = words.Output output.now
-merge_word_value (word.Conflicts mode) = words.Conflicts mode
-merge_word_value (word.Plain text) = words.Plain text.now
+abbrev pub argument_value : Argument → said.Argument
+argument_value (word.Value option value) = said.Value option.now value.now
+argument_value (word.Flag flag) = said.Flag flag.now
+argument_value (word.Plain text) = said.Plain text.now
 
-abbrev pub merge_line_value : line.MergeLine → MergeLine
-merge_line_value line = record { outputs = names_of line.outputs.items; modes = line.modes.items; plain = names_of line.plain.items }
+abbrev pub option_value : OptionValue → said.OptionValue
+option_value v = record { option = v.option.now; value = v.value.now }
+
+abbrev pub arguments_value : Arguments → said.Arguments
+arguments_value arguments = record { values = map option_value arguments.values.items; flags = names_of arguments.flags.items; plain = names_of arguments.plain.items }
 
 -- What is said first, and then more.
-abbrev pub join_merge_lines : MergeLine → MergeLine → MergeLine
-join_merge_lines first more = record { outputs = first.outputs ++ more.outputs; modes = first.modes ++ more.modes; plain = first.plain ++ more.plain }
+abbrev pub join_arguments : said.Arguments → said.Arguments → said.Arguments
+join_arguments first more = record { values = first.values ++ more.values; flags = first.flags ++ more.flags; plain = first.plain ++ more.plain }
 
 -- The task of a command line.
 abbrev pub merge_value : MergeTask → words.MergeTask
 merge_value merge = record { sources = source_values merge.sources.items; output = merge.output.now; mode = merge.mode }
 
+abbrev pub metadce_value : MetadceTask → words.MetadceTask
+metadce_value metadce = record { file = metadce.file.now; graph_file = metadce.graph_file.now; output = metadce.output.now }
+
 abbrev pub task_value : Task → words.Task
 task_value (task.Merge merge) = words.Merge (merge_value merge)
+task_value (task.Metadce metadce) = words.Metadce (metadce_value metadce)
 
 -- The name and the bytes of a file that was read.
 abbrev pub input_entry : Input → Entry

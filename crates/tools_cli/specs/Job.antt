@@ -1,18 +1,26 @@
 -- What a command line comes to over the contents of the files.
-use Rattle.std.specs.Prelude.{◌≡◌, ◌⊎◌, ℕ, ◌-◌, ltb, not, if◌then◌else◌, Bool, false, List, [], ◌∷◌, ◌++◌, length, map, take, drop, Option, Some, None, Result, Ok, Err}
+use Rattle.std.specs.Prelude.{◌≡◌, ◌⊎◌, ℕ, ◌-◌, ltb, not, if◌then◌else◌, Bool, false, List, [], ◌∷◌, ◌++◌, length, map, take, Option, Some, None, Result, Ok, Err}
 use Rattle.std.specs.FinMap.{get}
 use Rattle.std.specs.List.{list_all}
 use Rattle.tool_io.specs.FilesAndSinks.{Contents}
 use Rattle.wasm_bytes.specs.Reading.{IsBytes}
-use Rattle.tools_cli.specs.CommandLine.{Text, Source, MergeTask, Task, Merge, task_of, source_files, many_of, modules_of, inputs_of}
+use Rattle.tools_cli.specs.CommandLine.{Text, Source, MergeTask, MetadceTask, Task, Merge, Metadce, task_of, source_files, many_of, modules_of, inputs_of}
 use Rattle.wasm_meaning.specs.Linking.{Part}
+use Rattle.dce_graph.specs.declared.graph.Graph.{Graph}
+use Rattle.dce_graph.specs.declared.marks.Reached.{Reached}
+use Rattle.dce_graph.specs.declared.fault.GraphFault.{GraphFault}
+use Rattle.dce_graph.specs.GraphFile.{graph_result}
+use Rattle.dce_sweep_spec.specs.Reached.{AreExact, marks_of}
+use Rattle.dce_sweep.specs.declared.faults.SweepFault.{SweepFault}
+use Rattle.dce_sweep.specs.Sweeps.{Sweeps}
 use Rattle.merge_names.specs.declared.mode.Mode.{Mode}
 use Rattle.merge_spec.specs.declared.faults.LinkFault.{LinkFault}
 use Rattle.merge_spec.specs.declared.faults.JoinFault.{JoinFault}
 use Rattle.merge_spec.specs.Faults.{link_fault}
 use Rattle.merge_spec.specs.Joined.{Joins}
 use Rattle.tools_cli.specs.Effects.{Entry}
-use Rattle.tools_cli.specs.Texts.{fault_text, invalid_text, link_text, join_text, over_limit, too_many_parts, too_many}
+use Rattle.tools_cli.specs.Unused.{AreUnused, unused_lines}
+use Rattle.tools_cli.specs.Texts.{fault_text, invalid_text, link_text, join_text, graph_text, sweep_text, over_limit, too_many_parts, too_many}
 use Rattle.wasm_tree.specs.declared.module.Module.{Module}
 use Rattle.wasm_tree.specs.declared.which.Which.TheVariants.{InputBytes, Parts, OutputBytes}
 use Rattle.wasm_tree.specs.Limits.{limit}
@@ -122,13 +130,29 @@ pub data Merges (merge : MergeTask) (trees : List Module) : Decision → Type 0 
       → Merges merge trees (Refuses text)
   merged : (tree : Module) → AreMerged (many_of (Merge merge)) (parts_of merge.sources trees) merge.mode tree → Merges merge trees (Makes (record { name = merge.output; tree = tree; custom = [] } ∷ []) [])
 
--- What a task decides over its modules and its other texts.
-abbrev pub Decides : Task → List Module → List Text → Decision → Type 0
-Decides (Merge merge) trees texts = Merges merge trees
+-- The graph that this text is, and marks on exactly what is reached of this module through it.
+pub record GivesMarks (text : Text) (tree : Module) (graph : Graph) (marks : Reached) : Type 0 where
+  pub read : graph_result text ≡ Ok graph
+  pub exact : AreExact graph tree marks
+
+-- What a metadce of this module, with this text of its graph file, decides: the text is no graph; what is left of the module has too many of something; or the
+-- output is what is left, and there is a line for each node that is not reached.
+pub data Reduces (metadce : MetadceTask) (tree : Module) (text : Text) : Decision → Type 0 where
+  no_graph : (fault : GraphFault) (says : Text) → graph_result text ≡ Err fault → graph_text metadce.graph_file fault ≡ Some says → Reduces metadce tree text (Refuses says)
+  not_swept : (graph : Graph) (marks : Reached) (fault : SweepFault) (says : Text) → GivesMarks text tree graph marks → Sweeps (marks_of marks) tree (Err fault) → sweep_text fault ≡ Some says → Reduces metadce tree text (Refuses says)
+  reduced : (graph : Graph) (marks : Reached) (left : Module) (unused : List Text) → GivesMarks text tree graph marks → Sweeps (marks_of marks) tree (Ok left) → AreUnused graph tree unused
+      → Reduces metadce tree text (Makes (record { name = metadce.output; tree = left; custom = [] } ∷ []) (unused_lines unused))
+
+-- What a task decides over its modules and the contents of all its files, those of the modules first.
+abbrev pub Decides : Task → List Module → (contents : List Text) → Decision → Type 0
+Decides (Merge merge) trees contents decision = Merges merge trees decision
+Decides (Metadce metadce) (tree ∷ []) (bytes ∷ text ∷ []) decision = Reduces metadce tree text decision
+Decides (Metadce metadce) _ _ decision = ⊥
 
 -- The text of a task that is refused before a file is read.
 abbrev pub refused_before : Task → Option Text
 refused_before (Merge merge) = if ltb most_parts (length merge.sources) then Some too_many_parts else None
+refused_before (Metadce metadce) = None
 
 -- ---- the job ----
 
@@ -145,17 +169,18 @@ abbrev pub job_of : Decision → Job
 job_of (Refuses text) = Refused text
 job_of (Makes outputs lines) = if list_all is_within outputs then Done (map spelled_output outputs) lines else Refused (too_many OutputBytes)
 
--- The input files of a task that are modules, and the contents of the others.
+-- The input files of a task that are modules.
 abbrev pub module_files : Task → List Entry → List Entry
 module_files task files = take (length (modules_of task)) files
 
-abbrev pub text_contents : Task → List Entry → List Text
-text_contents task files = map (λ file. file.1) (drop (length (modules_of task)) files)
+-- The contents of files, in order.
+abbrev pub contents_of : List Entry → List Text
+contents_of files = map (λ file. file.1) files
 
 -- What a task comes to over its input files: its modules are read and validated in order, and then it is decided.
 pub data InputsJob (task : Task) (files : List Entry) : Job → Type 0 where
   not_loaded : (text : Text) → OneFails (many_of task) (module_files task files) text → InputsJob task files (Refused text)
-  decided : (trees : List Module) (decision : Decision) → AllLoad (many_of task) (module_files task files) trees → Decides task trees (text_contents task files) decision → InputsJob task files (job_of decision)
+  decided : (trees : List Module) (decision : Decision) → AllLoad (many_of task) (module_files task files) trees → Decides task trees (contents_of files) decision → InputsJob task files (job_of decision)
 
 -- What a task comes to: it may be refused at once; its files are read in order, and then it comes to something over them.
 pub data TaskJob (task : Task) (files : Contents) : Job → Type 0 where

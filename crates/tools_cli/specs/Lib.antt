@@ -1,6 +1,9 @@
+pub mod Words
 pub mod CommandLine
 pub mod Effects
 pub mod Texts
+pub mod Unused
+pub mod Unmarked
 pub mod Job
 pub mod Sources
 pub mod Command

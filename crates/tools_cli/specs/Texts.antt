@@ -13,6 +13,10 @@ use Rattle.merge_spec.specs.declared.faults.LinkFault.TheVariants as link
 use Rattle.merge_spec.specs.declared.faults.JoinFault.{JoinFault}
 use Rattle.merge_spec.specs.declared.faults.JoinFault.TheVariants.{ExportConflict, TooMany}
 use Rattle.merge_spec.specs.declared.faults.JoinFault.TheVariants as join
+use Rattle.dce_graph.specs.declared.fault.GraphFault.{GraphFault}
+use Rattle.dce_graph.specs.declared.fault.GraphFault.TheVariants as graph
+use Rattle.dce_sweep.specs.declared.faults.SweepFault.{SweepFault}
+use Rattle.dce_sweep.specs.declared.faults.SweepFault.TheVariants as sweep
 use Rattle.tools_cli.specs.CommandLine.{Text}
 
 -- The name of a limited quantity.
@@ -77,6 +81,18 @@ too_many_memories = codes "more than one memory"
 abbrev pub export_conflict : Text → Text
 export_conflict name = codes "export " ++ (name ++ codes " stands twice")
 
+abbrev pub not_json : Text → Text
+not_json file = file ++ codes ": not JSON"
+
+abbrev pub wrong_shape : Text → ℕ → Text
+wrong_shape file entry = file ++ (codes ": entry " ++ (decimal entry ++ codes " has the wrong shape"))
+
+abbrev pub node_twice : Text → Text → Text
+node_twice file name = file ++ (codes ": node " ++ (name ++ codes " stands twice"))
+
+abbrev pub unknown_node : Text → Text → Text
+unknown_node file name = file ++ (codes ": no node " ++ name)
+
 -- The text of a fault of a file. Want of memory is no fault of it.
 abbrev pub fault_text : Text → ReadFault → Option Text
 fault_text file NotModule = Some (not_module file)
@@ -119,3 +135,16 @@ abbrev pub join_text : JoinFault → Option Text
 join_text (ExportConflict name) = Some (export_conflict name)
 join_text (TooMany which) = Some (too_many which)
 join_text join.NoMemory = None
+
+-- The text of a fault of a graph file.
+abbrev pub graph_text : Text → GraphFault → Option Text
+graph_text file graph.GraphText = Some (not_json file)
+graph_text file (graph.GraphShape entry) = Some (wrong_shape file entry)
+graph_text file (graph.NodeTwice name) = Some (node_twice file name)
+graph_text file (graph.UnknownNode name) = Some (unknown_node file name)
+graph_text file graph.NoMemory = None
+
+-- The text of a fault of sweeping.
+abbrev pub sweep_text : SweepFault → Option Text
+sweep_text (sweep.TooMany which) = Some (too_many which)
+sweep_text sweep.NoMemory = None

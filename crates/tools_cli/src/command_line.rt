@@ -1,11 +1,12 @@
 // The task that the words of a command line ask for.
 ghost use Rattle.std.specs.Prelude.{◌≡◌, true, map, option_map, option_and_then, string_bytes, IfOk, IfSome};
-ghost use Rattle.tools_cli.specs.CommandLine.{task_of, merge_of, task_of_merge_line, sources_of, some_apart, are_apart, one_output, merge_mode, usage_line};
-ghost use Rattle.tools_cli.specs.Command.{task_value, merge_line_value, names_of};
+ghost use Rattle.tools_cli.specs.CommandLine.{task_of, merge_of, metadce_of, merge_of_arguments, metadce_of_arguments, sources_of, some_apart, are_apart, flag_mode, merge_mode, usage_line};
+ghost use Rattle.tools_cli.specs.Command.{task_value, arguments_value, names_of};
 ghost use Rattle.tools_cli.specs.Sources.{source_values, source_names};
 
+use crate::arguments::{Arguments, only, only_value, read_arguments};
 use crate::merge::{MergeTask, Source};
-use crate::merge_line::{MergeLine, read_merge_line};
+use crate::metadce::MetadceTask;
 use crate::task::Task;
 use merge_names::Mode;
 use std::alloc::Global;
@@ -58,38 +59,44 @@ fn some_apart<'a>(alloc: Global, plain: &[&'a str]) -> Result<Option<Vec<Source<
     }
 }
 
-// The output, if exactly one is named.
-fn one_output<'a>(outputs: &[&'a str]) -> Option<&'a str>
-    ensures { option_map (λ o. o.now) result ≡ one_output (names_of outputs.now) }
+// The mode that a flag gives.
+fn flag_mode(flag: &str) -> Option<Mode>
+    ensures { result ≡ flag_mode flag.now }
 {
-    match outputs {
-        [output] => Some(*output),
-        _ => None,
+    if flag == "--rename-export-conflicts" {
+        return Some(Mode::Rename);
     }
+    if flag == "--skip-export-conflicts" {
+        return Some(Mode::Skip);
+    }
+    None
 }
 
-// The mode, if at most one is named.
-fn merge_mode(modes: &[Mode]) -> Option<Mode>
-    ensures { result ≡ merge_mode modes.now }
+// The mode, if at most one flag is there.
+fn merge_mode(flags: &[&str]) -> Option<Mode>
+    ensures { result ≡ merge_mode (names_of flags.now) }
 {
-    match modes {
+    match flags {
         [] => Some(Mode::Refuse),
-        [mode] => Some(*mode),
+        [flag] => flag_mode(flag),
         _ => None,
     }
 }
 
 // The merge of what is said, or none.
-fn merge_of_line<'a>(alloc: Global, line: &MergeLine<'a>) -> Result<Option<Task<'a>>, NoMemory>
-    ensures { IfOk result (λ task. option_map task_value task ≡ task_of_merge_line (merge_line_value line.now)) }
+fn merge_of_arguments<'a>(
+    alloc: Global,
+    arguments: &Arguments<'a>,
+) -> Result<Option<Task<'a>>, NoMemory>
+    ensures { IfOk result (λ task. option_map task_value task ≡ merge_of_arguments (arguments_value arguments.now)) }
 {
-    let Some(sources) = some_apart(alloc, line.plain.as_slice())? else {
+    let Some(sources) = some_apart(alloc, arguments.plain.as_slice())? else {
         return Ok(None);
     };
-    let Some(output) = one_output(line.outputs.as_slice()) else {
+    let Some(output) = only_value(alloc, "--output", arguments)? else {
         return Ok(None);
     };
-    let Some(mode) = merge_mode(line.modes.as_slice()) else {
+    let Some(mode) = merge_mode(arguments.flags.as_slice()) else {
         return Ok(None);
     };
     Ok(Some(Task::Merge(MergeTask {
@@ -103,8 +110,44 @@ fn merge_of_line<'a>(alloc: Global, line: &MergeLine<'a>) -> Result<Option<Task<
 fn parse_merge<'a>(alloc: Global, words: &'a [String]) -> Result<Option<Task<'a>>, NoMemory>
     ensures { IfOk result (λ task. option_map task_value task ≡ merge_of (map string_bytes words.now)) }
 {
-    match read_merge_line(alloc, words)? {
-        Some(line) => merge_of_line(alloc, &line),
+    let options = ["--output"];
+    let flags = ["--rename-export-conflicts", "--skip-export-conflicts"];
+    match read_arguments(alloc, &options, &flags, words)? {
+        Some(arguments) => merge_of_arguments(alloc, &arguments),
+        None => Ok(None),
+    }
+}
+
+// The metadce of what is said, or none.
+fn metadce_of_arguments<'a>(
+    alloc: Global,
+    arguments: &Arguments<'a>,
+) -> Result<Option<Task<'a>>, NoMemory>
+    ensures { IfOk result (λ task. option_map task_value task ≡ metadce_of_arguments (arguments_value arguments.now)) }
+{
+    let Some(file) = only(arguments.plain.as_slice()) else {
+        return Ok(None);
+    };
+    let Some(graph_file) = only_value(alloc, "--graph-file", arguments)? else {
+        return Ok(None);
+    };
+    let Some(output) = only_value(alloc, "--output", arguments)? else {
+        return Ok(None);
+    };
+    Ok(Some(Task::Metadce(MetadceTask {
+        file,
+        graph_file,
+        output,
+    })))
+}
+
+// The metadce that the words after `metadce` ask for, or none.
+fn parse_metadce<'a>(alloc: Global, words: &'a [String]) -> Result<Option<Task<'a>>, NoMemory>
+    ensures { IfOk result (λ task. option_map task_value task ≡ metadce_of (map string_bytes words.now)) }
+{
+    let options = ["--graph-file", "--output"];
+    match read_arguments(alloc, &options, &[], words)? {
+        Some(arguments) => metadce_of_arguments(alloc, &arguments),
         None => Ok(None),
     }
 }
@@ -120,6 +163,9 @@ pub(crate) fn parse<'a>(alloc: Global, words: &'a [String]) -> Result<Option<Tas
     if word.as_str() == "merge" {
         return parse_merge(alloc, rest);
     }
+    if word.as_str() == "metadce" {
+        return parse_metadce(alloc, rest);
+    }
     Ok(None)
 }
 
@@ -129,6 +175,7 @@ pub(crate) fn usage(words: &[String]) -> &'static str
 {
     match words.first() {
         Some(word) if word.as_str() == "merge" => "usage: binkit merge\n",
+        Some(word) if word.as_str() == "metadce" => "usage: binkit metadce\n",
         _ => "usage: binkit merge|split|metadce|ctor-eval|sample\n",
     }
 }

@@ -1,16 +1,18 @@
 // What a task decides over what it has read.
-ghost use Rattle.std.specs.Prelude.{◌≡◌, length, None, IfOk, IfErr};
+ghost use Rattle.std.specs.Prelude.{◌≡◌, ◌≤◌, ◌∷◌, [], length, None, IfOk, IfErr};
 ghost use Rattle.base_lists.specs.Every.{Every};
-ghost use Rattle.tools_cli.specs.CommandLine.{modules_of};
-ghost use Rattle.tools_cli.specs.Command.{task_value, decision_value, input_texts};
-ghost use Rattle.tools_cli.specs.Job.{Decides, Refuses, refused_before};
-ghost use Rattle.tools_cli.specs.Causes.{IsWithinLimits, StopsWith};
+ghost use Rattle.tools_cli.specs.CommandLine.{modules_of, inputs_of};
+ghost use Rattle.tools_cli.specs.Command.{task_value, decision_value, input_entries, input_texts};
+ghost use Rattle.tools_cli.specs.Job.{Decides, Makes, Refuses, refused_before, most_input};
+ghost use Rattle.tools_cli.specs.Causes.{IsWithinLimits, StopsWith, total};
 
 use crate::gather::Input;
 use crate::merging::decide_merge;
+use crate::reducing::decide_metadce;
 use crate::stop::Stop;
 use crate::task::Task;
 use std::alloc::Global;
+use wasm_bytes::NoMemory;
 use wasm_valid::Valid;
 
 /// A module to be written, and the custom sections that follow it.
@@ -28,20 +30,39 @@ pub(crate) struct Decision {
     pub(crate) lines: Vec<u8>,
 }
 
-/// Decides over the modules of a task and its other texts.
+/// One output without custom sections, and lines.
+pub(crate) fn one_output(
+    alloc: Global,
+    name: &str,
+    tree: Valid,
+    lines: Vec<u8>,
+) -> Result<Decision, NoMemory>
+    ensures { IfOk result (λ decision. decision_value decision ≡ Makes (record { name = name.now; tree = tree; custom = [] } ∷ []) lines.items) }
+{
+    let name = String::from_str(alloc, name)?;
+    let custom = Vec::new(alloc);
+    let mut outputs = Vec::new(alloc);
+    outputs.push(Output { name, tree, custom })?;
+    Ok(Decision { outputs, lines })
+}
+
+/// Decides over the modules of a task and the contents of all its files.
 pub(crate) fn decide<'a>(
     alloc: Global,
     task: &Task<'a>,
     modules: Vec<Valid>,
-    texts: &[Input<'a>],
+    inputs: &[Input<'a>],
 ) -> Result<Decision, Stop<'a>>
     requires each { length modules.items ≡ length (modules_of (task_value task.now)) }
+    requires all { length inputs.now ≡ length (inputs_of (task_value task.now)) }
+    requires room { total (input_entries inputs.now) ≤ most_input }
     requires within { Every IsWithinLimits modules.items }
     requires begun { refused_before (task_value task.now) ≡ None }
-    ensures decided { IfOk result (λ decision. Decides (task_value task.now) modules.items (input_texts texts.now) (decision_value decision)) }
-    ensures stops { IfErr result (StopsWith (λ text. Decides (task_value task.now) modules.items (input_texts texts.now) (Refuses text))) }
+    ensures decided { IfOk result (λ decision. Decides (task_value task.now) modules.items (input_texts inputs.now) (decision_value decision)) }
+    ensures stops { IfErr result (StopsWith (λ text. Decides (task_value task.now) modules.items (input_texts inputs.now) (Refuses text))) }
 {
     match task {
         Task::Merge(merge) => decide_merge(alloc, merge, modules),
+        Task::Metadce(metadce) => decide_metadce(alloc, metadce, modules, inputs),
     }
 }

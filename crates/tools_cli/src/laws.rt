@@ -5,6 +5,11 @@ ghost use Rattle.tools_cli.specs.Effects.{Entry, made};
 ghost use Rattle.tools_cli.specs.Job.{Done, Job, HasJob, HoldBytes};
 ghost use Rattle.tools_cli.specs.Kept.{Keeps};
 
+use dce_behaves_proof::swept_modules_show_the_same;
+use dce_encode_proof::swept_modules_are_in_range;
+use dce_exact_proof::exact_marks_exist;
+use dce_reach_proof::reached_marks_are_closed;
+use dce_sweep_proof::swept_modules_are_valid;
 use merge_behaves_proof::merged_modules_show_the_same;
 use merge_encode_proof::merged_modules_are_in_range;
 use merge_valid_proof::merged_modules_are_valid;
@@ -20,6 +25,7 @@ pub fn jobs_are_determined()
 {
     one_tree();
     no_fault_where_spelled();
+    exact_marks_exist();
 }
 
 /// Over files that hold bytes every command line has a job.
@@ -28,10 +34,12 @@ pub fn command_lines_have_jobs()
 {
     no_fault_where_spelled();
     faults_have_causes();
+    exact_marks_exist();
 }
 
-/// A job that is done keeps the modules that it read: the output spells the module that they are merged into, it is valid, and it behaves as they do where they
-/// are linked by name.
+/// A job that is done keeps the modules that it read. Of a merge the output spells the module that they are merged into, it is valid, and it behaves as they do where
+/// they are linked by name. Of a metadce it spells what is left of the module by what is reached, it is valid, and it behaves as the whole does through the exports
+/// that are kept.
 pub fn done_jobs_keep_the_modules()
     ensures { (words : List (List ℕ)) (before : Contents) (writes : List Entry) (lines : List ℕ) → HasJob words before (Done writes lines) → Keeps words before (made writes before) }
 {
@@ -43,4 +51,8 @@ pub fn done_jobs_keep_the_modules()
     merged_modules_are_in_range();
     merged_modules_show_the_same();
     turns_are_not_seen();
+    reached_marks_are_closed();
+    swept_modules_are_valid();
+    swept_modules_are_in_range();
+    swept_modules_show_the_same();
 }

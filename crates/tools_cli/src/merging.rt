@@ -1,15 +1,15 @@
 // What a merge decides.
-ghost use Rattle.std.specs.Prelude.{◌≡◌, ◌≤◌, ◌<◌, ◌^◌, ◌∷◌, [], false, length, IfOk, IfErr};
+ghost use Rattle.std.specs.Prelude.{◌≡◌, ◌≤◌, ◌<◌, ◌^◌, false, length, IfOk, IfErr};
 ghost use Rattle.base_lists.specs.Every.{Every};
 ghost use Rattle.merge_spec.specs.Parts.{named_modules, HaveDistinctNames};
 ghost use Rattle.merge_spec.specs.Joined.{FewInAll};
 ghost use Rattle.wasm_meaning.specs.Linking.{sites};
-ghost use Rattle.tools_cli.specs.Command.{merge_value, decision_value, output_values};
+ghost use Rattle.tools_cli.specs.Command.{merge_value, decision_value};
 ghost use Rattle.tools_cli.specs.Sources.{source_values};
 ghost use Rattle.tools_cli.specs.Job.{Merges, Refuses, AreMerged, parts_of, most_parts};
 ghost use Rattle.tools_cli.specs.Causes.{IsWithinLimits, StopsWith, MergeFails};
 
-use crate::decide::{Decision, Output};
+use crate::decide::{Decision, one_output};
 use crate::merge::{MergeTask, Source};
 use crate::refusal::{refuse_join, refuse_link};
 use crate::stop::Stop;
@@ -63,19 +63,6 @@ fn merge_parts<'a>(
     }
 }
 
-// One output without custom sections, and no lines.
-fn one_module(alloc: Global, name: &str, tree: Valid) -> Result<Decision, NoMemory>
-    ensures outputs { IfOk result (λ decision. output_values decision.outputs.items ≡ record { name = name.now; tree = tree; custom = [] } ∷ []) }
-    ensures lines { IfOk result (λ decision. decision.lines.items ≡ []) }
-{
-    let name = String::from_str(alloc, name)?;
-    let custom = Vec::new(alloc);
-    let mut outputs = Vec::new(alloc);
-    outputs.push(Output { name, tree, custom })?;
-    let lines = Vec::new(alloc);
-    Ok(Decision { outputs, lines })
-}
-
 /// Merges modules, one for each source.
 pub(crate) fn decide_merge<'a>(
     alloc: Global,
@@ -90,5 +77,6 @@ pub(crate) fn decide_merge<'a>(
 {
     let parts = name_parts(alloc, merge.sources.as_slice(), modules)?;
     let tree = merge_parts(alloc, merge, parts)?;
-    Ok(one_module(alloc, merge.output, tree)?)
+    let lines = Vec::new(alloc);
+    Ok(one_output(alloc, merge.output, tree, lines)?)
 }

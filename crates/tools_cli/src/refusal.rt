@@ -1,12 +1,14 @@
 // What is wrong with the input, and the text of it.
 ghost use Rattle.std.specs.Prelude.{◌≡◌, ◌++◌, Some, IfOk, decimal, flat_map, length, slice_get, codes, ◌<◌};
-ghost use Rattle.tools_cli.specs.Texts.{which_text, fault_text, kind_text, invalid_text, link_text, join_text};
+ghost use Rattle.tools_cli.specs.Texts.{which_text, fault_text, kind_text, invalid_text, link_text, join_text, graph_text, sweep_text};
 ghost use Rattle.tools_cli.specs.Stop.{refusal_text};
 ghost use Rattle.tools_cli.specs.Sources.{files_of};
 ghost use Rattle.merge_spec.specs.Faults.{NamesPart};
 
 use crate::digits::Digits;
 use crate::merge::Source;
+use dce_graph::GraphFault;
+use dce_sweep::SweepFault;
 use merge_spec::{JoinFault, LinkFault};
 use std::alloc::Global;
 use wasm_bytes::{Name, NoMemory};
@@ -68,6 +70,21 @@ pub(crate) enum Refusal<'a> {
     },
     TooMany {
         which: Which,
+    },
+    GraphText {
+        file: &'a str,
+    },
+    GraphShape {
+        file: &'a str,
+        entry: Digits,
+    },
+    NodeTwice {
+        file: &'a str,
+        name: Name,
+    },
+    UnknownNode {
+        file: &'a str,
+        name: Name,
     },
 }
 
@@ -174,6 +191,36 @@ pub(crate) fn refuse_join<'a>(fault: JoinFault) -> Result<Refusal<'a>, NoMemory>
     }
 }
 
+/// The refusal of a graph file. Want of memory is the error, also as a fault.
+pub(crate) fn refuse_graph<'a>(
+    alloc: Global,
+    file: &'a str,
+    fault: GraphFault,
+) -> Result<Refusal<'a>, NoMemory>
+    ensures { IfOk result (λ refusal. graph_text file.entry.now fault ≡ Some (refusal_text refusal)) }
+{
+    match fault {
+        GraphFault::GraphText => Ok(Refusal::GraphText { file }),
+        GraphFault::GraphShape { entry } => Ok(Refusal::GraphShape {
+            file,
+            entry: Digits::new(alloc, entry)?,
+        }),
+        GraphFault::NodeTwice { name } => Ok(Refusal::NodeTwice { file, name }),
+        GraphFault::UnknownNode { name } => Ok(Refusal::UnknownNode { file, name }),
+        GraphFault::NoMemory => Err(NoMemory),
+    }
+}
+
+/// The refusal of a module whose sweep has too many of something. Want of memory is the error, as a fault.
+pub(crate) fn refuse_sweep<'a>(fault: SweepFault) -> Result<Refusal<'a>, NoMemory>
+    ensures { IfOk result (λ refusal. sweep_text fault ≡ Some (refusal_text refusal)) }
+{
+    match fault {
+        SweepFault::TooMany { which } => Ok(Refusal::TooMany { which }),
+        SweepFault::NoMemory => Err(NoMemory),
+    }
+}
+
 // The name of a limited quantity.
 fn which_name<'a>(which: Which) -> &'a str
     ensures { result.now ≡ which_text which }
@@ -257,5 +304,14 @@ pub(crate) fn refusal_pieces<'a>(refusal: &'a Refusal<'a>) -> [&'a str; 4]
         Refusal::TooManyMemories => ["more than one memory", "", "", ""],
         Refusal::ExportConflict { name } => ["export ", name.as_str(), " stands twice", ""],
         Refusal::TooMany { which } => ["output exceeds the limit on ", which_name(*which), "", ""],
+        Refusal::GraphText { file } => [file, ": not JSON", "", ""],
+        Refusal::GraphShape { file, entry } => [
+            file,
+            ": entry ",
+            entry.as_str(),
+            " has the wrong shape",
+        ],
+        Refusal::NodeTwice { file, name } => [file, ": node ", name.as_str(), " stands twice"],
+        Refusal::UnknownNode { file, name } => [file, ": no node ", name.as_str(), ""],
     }
 }

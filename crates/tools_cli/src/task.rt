@@ -1,11 +1,12 @@
 // What a command line asks for: a case for each command.
 ghost use Rattle.std.specs.Prelude.{◌≡◌, length, option_map, IfOk};
-ghost use Rattle.tools_cli.specs.CommandLine.{inputs_of, many_of, modules_of};
+ghost use Rattle.tools_cli.specs.CommandLine.{inputs_of, modules_of};
 ghost use Rattle.tools_cli.specs.Job.{refused_before};
 ghost use Rattle.tools_cli.specs.Stop.{refusal_text};
 ghost use Rattle.tools_cli.specs.Command.{task_value, names_of};
 
 use crate::merge::MergeTask;
+use crate::metadce::MetadceTask;
 use crate::refusal::Refusal;
 use std::alloc::Global;
 use wasm_bytes::NoMemory;
@@ -15,6 +16,7 @@ use wasm_tree::MOST_PARTS;
 #[derive(Drop)]
 pub(crate) enum Task<'a> {
     Merge(MergeTask<'a>),
+    Metadce(MetadceTask<'a>),
 }
 
 impl<'a> Task<'a> {
@@ -24,6 +26,7 @@ impl<'a> Task<'a> {
     {
         match self {
             Task::Merge(merge) => merge.files(alloc),
+            Task::Metadce(metadce) => metadce.files(alloc),
         }
     }
 
@@ -33,15 +36,7 @@ impl<'a> Task<'a> {
     {
         match self {
             Task::Merge(merge) => merge.sources.len(),
-        }
-    }
-
-    /// Whether the modules may have several memories.
-    pub(crate) fn many(&self) -> bool
-        ensures { result ≡ many_of (task_value self.now) }
-    {
-        match self {
-            Task::Merge(_) => false,
+            Task::Metadce(_) => 1,
         }
     }
 
@@ -53,7 +48,7 @@ impl<'a> Task<'a> {
             Task::Merge(merge) if merge.sources.len() > MOST_PARTS as usize => {
                 Some(Refusal::TooManyParts)
             }
-            Task::Merge(_) => None,
+            Task::Merge(_) | Task::Metadce(_) => None,
         }
     }
 }

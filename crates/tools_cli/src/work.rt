@@ -38,7 +38,7 @@ fn read_inputs<'a, F: Files>(
     gather(alloc, files, names.as_slice(), MOST_INPUT_BYTES as usize)
 }
 
-// Loads the modules, decides over them and the other texts, and encodes what is decided.
+// Loads the modules, decides over them and the contents of all files, and encodes what is decided.
 fn plan<'a>(alloc: Global, task: &Task<'a>, inputs: &[Input<'a>]) -> Result<Plan, Stop<'a>>
     requires room { total (input_entries inputs.now) ≤ most_input }
     requires names { map (λ e. e.0) (input_entries inputs.now) ≡ inputs_of (task_value task.now) }
@@ -46,13 +46,9 @@ fn plan<'a>(alloc: Global, task: &Task<'a>, inputs: &[Input<'a>]) -> Result<Plan
     ensures plan { IfOk result (λ plan. InputsJob (task_value task.now) (input_entries inputs.now) (Done (write_entries plan.writes.items) plan.lines.items)) }
     ensures stops { IfErr result (StopsWith (λ text. InputsJob (task_value task.now) (input_entries inputs.now) (Refused text))) }
 {
-    // No task's modules may have several memories, and `load_all` allows them one.
-    if task.many() {
-        unreachable!()
-    }
-    let (files, texts) = inputs.split_at(task.module_count());
+    let (files, _texts) = inputs.split_at(task.module_count());
     let modules = load_all(alloc, files)?;
-    let decision = decide(alloc, task, modules, texts)?;
+    let decision = decide(alloc, task, modules, inputs)?;
     encode(alloc, decision)
 }
 

@@ -6,6 +6,8 @@ mod given;
 #[cfg(test)]
 mod merges;
 #[cfg(test)]
+mod metadce;
+#[cfg(test)]
 mod outside;
 #[cfg(test)]
 mod refusals;

@@ -15,4 +15,11 @@ returns c words before writes lines h =
       memory = c.merged_modules_are_in_range.ensures.memory;
       same = c.merged_modules_show_the_same.ensures.same;
       turns = c.turns_are_not_seen.ensures.turns;
+      closed = c.reached_marks_are_closed.ensures.closed;
+      left_valid = c.swept_modules_are_valid.ensures.valid;
+      left_single = c.swept_modules_are_valid.ensures.single;
+      left_sizes = c.swept_modules_are_valid.ensures.bounded;
+      left_in_range = c.swept_modules_are_in_range.ensures.range;
+      left_memory = c.swept_modules_are_in_range.ensures.memory;
+      left_same = c.swept_modules_show_the_same.ensures;
     }) words before writes lines h

@@ -1,11 +1,11 @@
 use Rattle.std.proofs.Common.{◌≡◌, ◌∙◌, refl, ap, false, rules, Err, arith}
 use Rattle.std.proofs.lemmas.Result.{IfOk-weaker, IfErr-weaker}
-use Rattle.tools_cli.specs.CommandLine.{Text, many_of}
+use Rattle.tools_cli.specs.CommandLine.{Text}
 use Rattle.tools_cli.specs.Command.{task_value, decision_value, input_entries, input_texts, write_entries}
 use Rattle.tools_cli.specs.Job.{Decides, Refuses, Done, Refused, OneFails, InputsJob, job_of}
 use Rattle.tools_cli.specs.Causes.{total, StopsWith}
 use Rattle.tools_cli.proofs.Loading.{stops_weaker, as_many, loads_within, inputs_once}
-use Rattle.tools_cli.proofs.Deciding.{total_first, entries_first, texts_behind, modules_there, job_made, job_not_loaded}
+use Rattle.tools_cli.proofs.Deciding.{total_first, entries_first, input_contents, modules_there, inputs_there, job_made, job_not_loaded}
 use Rattle.tools_cli.proofs.work.plan.Goals as goal
 
 pub split_at-requires : goal.split_at-requires
@@ -29,17 +29,19 @@ decide-requires-clause-each c =
 pub decide-requires-clause-within : goal.decide-requires-clause-within
 decide-requires-clause-within c = loads_within false (input_entries c.split_at.result.0.now) c.in_ok-modules.modules.items c.in_ok-modules.ensures.loaded
 
+pub decide-requires-clause-all : goal.decide-requires-clause-all
+decide-requires-clause-all c = inputs_there (task_value c.args.task.now) c.args.inputs.now c.requires.names
+
 pub returns-in_err-modules-clause-stops : goal.returns-in_err-modules-clause-stops
 returns-in_err-modules-clause-stops c =
     let t = task_value c.args.task.now in
     let inputs = c.args.inputs.now in
     let files = input_entries c.split_at.result.0.now in
-    let one : many_of t ≡ false = search rules in
     let first = ap input_entries c.split_at.ensures.front ∙ entries_first c.module_count.result inputs in
     let stop = c.in_err-modules.field-0.0 in
     let gone : c.from_residual.result ≡ Err stop = grind arith in
     let Q : Text → Type 0 = λ text. InputsJob t (input_entries inputs) (Refused text) in
-    rw gone (stops_weaker (OneFails false files) Q (job_not_loaded t (input_entries inputs) c.module_count.result files one c.module_count.ensures first) stop c.in_err-modules.ensures.stops)
+    rw gone (stops_weaker (OneFails false files) Q (job_not_loaded t (input_entries inputs) c.module_count.result files c.module_count.ensures first) stop c.in_err-modules.ensures.stops)
 
 pub returns-in_err-decision-clause-stops : goal.returns-in_err-decision-clause-stops
 returns-in_err-decision-clause-stops c =
@@ -47,16 +49,14 @@ returns-in_err-decision-clause-stops c =
     let inputs = c.args.inputs.now in
     let n = c.module_count.result in
     let files = input_entries c.split_at.result.0.now in
-    let texts = input_texts c.split_at.result.1.now in
+    let contents = input_texts inputs in
     let trees = c.in_ok-modules.modules.items in
-    let one : many_of t ≡ false = search rules in
     let first = ap input_entries c.split_at.ensures.front ∙ entries_first n inputs in
-    let behind = ap input_texts c.split_at.ensures.back ∙ texts_behind n inputs in
     let stop = c.in_err-decision.field-0.0 in
     let gone : c.from_residual-in_err-decision.result ≡ Err stop = grind arith in
-    let P : Text → Type 0 = λ text. Decides t trees texts (Refuses text) in
+    let P : Text → Type 0 = λ text. Decides t trees contents (Refuses text) in
     let Q : Text → Type 0 = λ text. InputsJob t (input_entries inputs) (Refused text) in
-    rw gone (stops_weaker P Q (λ text h. job_made t (input_entries inputs) n files trees texts (Refuses text) (Refused text) one c.module_count.ensures first behind c.in_ok-modules.ensures.loaded h refl) stop c.in_err-decision.ensures.stops)
+    rw gone (stops_weaker P Q (λ text h. job_made t (input_entries inputs) n files trees contents (Refuses text) (Refused text) c.module_count.ensures first (input_contents inputs) c.in_ok-modules.ensures.loaded h refl) stop c.in_err-decision.ensures.stops)
 
 pub returns-clause-plan : goal.returns-clause-plan
 returns-clause-plan c =
@@ -65,12 +65,10 @@ returns-clause-plan c =
     let n = c.module_count.result in
     let decision = decision_value c.in_ok-decision.decision in
     let files = input_entries c.split_at.result.0.now in
-    let texts = input_texts c.split_at.result.1.now in
-    let one : many_of t ≡ false = search rules in
+    let contents = input_texts inputs in
     let first = ap input_entries c.split_at.ensures.front ∙ entries_first n inputs in
-    let behind = ap input_texts c.split_at.ensures.back ∙ texts_behind n inputs in
     IfOk-weaker c.encode.result (λ plan. job_of decision ≡ Done (write_entries plan.writes.items) plan.lines.items) (λ plan. InputsJob t (input_entries inputs) (Done (write_entries plan.writes.items) plan.lines.items))
-    (λ plan is. job_made t (input_entries inputs) n files c.in_ok-modules.modules.items texts decision _ one c.module_count.ensures first behind c.in_ok-modules.ensures.loaded c.in_ok-decision.ensures.decided is)
+    (λ plan is. job_made t (input_entries inputs) n files c.in_ok-modules.modules.items contents decision _ c.module_count.ensures first (input_contents inputs) c.in_ok-modules.ensures.loaded c.in_ok-decision.ensures.decided is)
     c.encode.ensures.plan
 
 pub returns-clause-stops : goal.returns-clause-stops
@@ -80,12 +78,10 @@ returns-clause-stops c =
     let n = c.module_count.result in
     let decision = decision_value c.in_ok-decision.decision in
     let files = input_entries c.split_at.result.0.now in
-    let texts = input_texts c.split_at.result.1.now in
-    let one : many_of t ≡ false = search rules in
+    let contents = input_texts inputs in
     let first = ap input_entries c.split_at.ensures.front ∙ entries_first n inputs in
-    let behind = ap input_texts c.split_at.ensures.back ∙ texts_behind n inputs in
     let P : Text → Type 0 = λ text. job_of decision ≡ Refused text in
     let Q : Text → Type 0 = λ text. InputsJob t (input_entries inputs) (Refused text) in
     IfErr-weaker c.encode.result (StopsWith P) (StopsWith Q)
-    (λ s h. stops_weaker P Q (λ text is. job_made t (input_entries inputs) n files c.in_ok-modules.modules.items texts decision (Refused text) one c.module_count.ensures first behind c.in_ok-modules.ensures.loaded c.in_ok-decision.ensures.decided is) s h)
+    (λ s h. stops_weaker P Q (λ text is. job_made t (input_entries inputs) n files c.in_ok-modules.modules.items contents decision (Refused text) c.module_count.ensures first (input_contents inputs) c.in_ok-modules.ensures.loaded c.in_ok-decision.ensures.decided is) s h)
     c.encode.ensures.stops

@@ -1,0 +1,27 @@
+//! The numbers of what is left of a module are in the ranges of their types, as those of the module are.
+#![tactic(auto)]
+
+ghost use Rattle.std.specs.Prelude.{IsTrue};
+ghost use Rattle.wasm_tree.specs.declared.module.Module.{Module};
+ghost use Rattle.wasm_tree.specs.MemoryZero.{memory_zero_funcs};
+ghost use Rattle.wasm_tree.specs.Bounds.{IsBounded};
+ghost use Rattle.wasm_valid.specs.Validity.{IsSingle, IsValid};
+ghost use Rattle.wasm_write_proof.specs.Ranges.{InRange};
+ghost use Rattle.dce_sweep_spec.specs.Marks.{Marks};
+ghost use Rattle.dce_sweep_spec.specs.Swept.{swept};
+
+use wasm_tree::operands_pass_layer_by_layer;
+use wasm_valid::valid_where_items_hold;
+use wasm_write_proof::{other_numbers_stay, spelled_operands_are_in_range};
+
+/// Where a module has its numbers in range and its names in UTF-8, so has what is left of it by some marks, if that is valid and has at most one memory
+/// (`range`): what it names is there, and its other numbers stand in the module. And its bodies name no memory but memory 0 (`memory`).
+pub fn swept_modules_are_in_range()
+    ensures range { (k : Marks) (m : Module) → InRange m → IsValid (swept k m) → IsSingle (swept k m) → IsBounded (swept k m) → InRange (swept k m) }
+    ensures memory { (k : Marks) (m : Module) → IsValid (swept k m) → IsSingle (swept k m) → IsBounded (swept k m) → IsTrue (memory_zero_funcs (swept k m).funcs) }
+{
+    valid_where_items_hold();
+    operands_pass_layer_by_layer();
+    other_numbers_stay();
+    spelled_operands_are_in_range();
+}

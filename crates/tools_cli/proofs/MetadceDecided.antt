@@ -1,0 +1,218 @@
+-- What a metadce decides: from its parts, that it decides something, and that it is one.
+use Rattle.std.specs.Prelude.{◌↔◌, IfOk, true}
+use Rattle.dce_graph.specs.declared.point.Point.{Point}
+use Rattle.dce_graph.specs.Marks.{flags, marked}
+use Rattle.dce_graph.specs.Reach.{IsReached, point_count}
+use Rattle.std.proofs.Common.{◌≡◌, ◌∙◌, ◌⊎◌, inl, inr, refl, sym, ap, ap₂, subst, ℕ, List, [], ◌∷◌, length, get_or, Option, Some, None, Result, Ok, Err, arith}
+use Rattle.wasm_tree.specs.declared.which.Which.{Which}
+use Rattle.wasm_tree.specs.declared.module.Module.{Module}
+use Rattle.dce_graph.specs.declared.graph.Graph.{Graph}
+use Rattle.dce_graph.specs.declared.marks.Reached.{Reached}
+use Rattle.dce_graph.specs.declared.fault.GraphFault.{GraphFault}
+use Rattle.dce_graph.specs.declared.fault.GraphFault.TheVariants as graph
+use Rattle.std.specs.List.{filter_map}
+use Rattle.serde_json.specs.Data.{Data, Items}
+use Rattle.serde_json.specs.Find.{as_array}
+use Rattle.dce_graph.specs.GraphFile.{Entry, graph_result, graph_of_values, if_text, if_array, if_shaped, if_distinct, if_known, value_of, misshapen, listed, entry_of, first_repeated, first_unknown, names_of, place_of_name, reached_names, graph_of, IsFault, fault_of}
+use Rattle.dce_sweep_spec.specs.Marks.{Marks}
+use Rattle.dce_sweep_spec.specs.Reached.{AreExact, marks_of}
+use Rattle.dce_sweep_spec.specs.Swept.{swept}
+use Rattle.dce_sweep.specs.declared.faults.SweepFault.{SweepFault}
+use Rattle.dce_sweep.specs.declared.faults.SweepFault.TheVariants as sweep
+use Rattle.dce_sweep.specs.Sweeps.{Sweeps, outcome, sweep_of}
+use Rattle.module_limits.specs.Counts.{over_limit}
+use Rattle.wasm_valid.specs.Validity.{IsValid}
+use Rattle.dce_sweep_spec.specs.Closed.{AreClosed}
+use Rattle.dce_exact_proof.specs.Laws.{ExactMarksExist, ExactMarksAreOne}
+use Rattle.dce_reach_proof.specs.Laws.{ReachedMarksAreClosed}
+use Rattle.tools_cli.specs.CommandLine.{Text, MetadceTask, Metadce}
+use Rattle.tools_cli.specs.Job.{Decision, Refuses, Makes, Decides, GivesMarks, Reduces, no_graph, not_swept, reduced}
+use Rattle.tools_cli.specs.Texts.{graph_text, sweep_text}
+use Rattle.tools_cli.specs.Unused.{AreUnused, unused_lines}
+use Rattle.tools_cli.specs.Unmarked.{unmarked_names}
+use Rattle.tools_cli.specs.Causes.{GraphFails, SweepFails}
+use Rattle.tools_cli.specs.Command.{input_texts}
+use Rattle.tools_cli.specs.declared.gather.Input.{Input}
+use Rattle.tools_cli.proofs.UnusedNames.{unmarked_unused, unused_once}
+
+-- ---- from its parts ----
+
+fault_is : (r : Result Graph GraphFault) (fault : GraphFault) → fault_of r ≡ Some fault → r ≡ Err fault
+fault_is (Ok g) fault e = absurd (cc)
+fault_is (Err other) fault e = let same : other ≡ fault = cc in ap Err same
+
+pub graph_fails : (file text says : Text) (fault : GraphFault) → IsFault fault (fault_of (graph_result text)) → graph_text file fault ≡ Some says → GraphFails file text says
+graph_fails file text says graph.NoMemory h e = absurd (cc)
+graph_fails file text says graph.GraphText h e = (graph.GraphText, fault_is (graph_result text) graph.GraphText h, e)
+graph_fails file text says (graph.GraphShape entry) h e = (graph.GraphShape entry, fault_is (graph_result text) (graph.GraphShape entry) h, e)
+graph_fails file text says (graph.NodeTwice name) h e = (graph.NodeTwice name, fault_is (graph_result text) (graph.NodeTwice name) h, e)
+graph_fails file text says (graph.UnknownNode name) h e = (graph.UnknownNode name, fault_is (graph_result text) (graph.UnknownNode name) h, e)
+
+-- marks that are set where a path leads, one for each point
+pub exact_marks : {E : Type 0} (r : Result Reached E) (g : Graph) (m : Module) → IfOk r (λ marks. (p : Point) → (marked marks p ≡ true) ↔ IsReached g m p) → IfOk r (λ marks. (p : Point) → length (flags marks p) ≡ point_count g m p) → IfOk r (AreExact g m)
+exact_marks (Ok marks) g m exactly one_each = record { exactly = exactly; one_each = one_each }
+exact_marks (Err x) g m exactly one_each = tt
+
+pub closed_marks : {E : Type 0} (r : Result Reached E) (g : Graph) (m : Module) → ReachedMarksAreClosed → IsValid m → IfOk r (AreExact g m) → IfOk r (λ marks. AreClosed (marks_of marks) m)
+closed_marks (Ok marks) g m law valid exact = law g m marks valid exact
+closed_marks (Err x) g m law valid exact = tt
+
+pub sweep_fails : (marks : Marks) (tree : Module) (says : Text) (fault : SweepFault) → (fault ≡ sweep.NoMemory) ⊎ Sweeps marks tree (Err fault) → sweep_text fault ≡ Some says → SweepFails marks tree says
+sweep_fails marks tree says fault (inr h) e = (fault, h, e)
+sweep_fails marks tree says fault (inl none) e = let no_text : None ≡ Some says = ap sweep_text (sym none) ∙ e in absurd (cc)
+
+pub graph_refused : (metadce : MetadceTask) (tree : Module) (text says : Text) → GraphFails metadce.graph_file text says → Reduces metadce tree text (Refuses says)
+graph_refused metadce tree text says (fault, found, told) = no_graph fault says found told
+
+pub sweep_refused : (metadce : MetadceTask) (tree : Module) (text : Text) (g : Graph) (marks : Reached) → graph_result text ≡ Ok g → AreExact g tree marks → (says : Text) → SweepFails (marks_of marks) tree says → Reduces metadce tree text (Refuses says)
+sweep_refused metadce tree text g marks read exact says (fault, found, told) = not_swept g marks fault says (record { read = read; exact = exact }) found told
+
+pub reduced_made : (metadce : MetadceTask) (tree left : Module) (text lines : Text) (g : Graph) (marks : Reached) (decision : Decision) → graph_result text ≡ Ok g → AreExact g tree marks → Sweeps (marks_of marks) tree (Ok left)
+    → lines ≡ unused_lines (unmarked_names g.nodes marks.nodes) → decision ≡ Makes (record { name = metadce.output; tree = left; custom = [] } ∷ []) lines → Reduces metadce tree text decision
+reduced_made metadce tree left text lines g marks decision read exact left_is told made =
+    let P : Decision → Type 0 = Reduces metadce tree text in
+    subst P (sym (made ∙ ap (Makes (record { name = metadce.output; tree = left; custom = [] } ∷ [])) told))
+    (reduced g marks left (unmarked_names g.nodes marks.nodes) (record { read = read; exact = exact }) left_is (unmarked_unused g tree marks exact))
+
+-- ---- one module and two files ----
+
+abbrev pub IsOfOne : MetadceTask → List Module → List Text → Decision → Type 0
+IsOfOne metadce trees contents decision = (tree : Module) × (bytes : Text) × (text : Text) × (trees ≡ tree ∷ []) × (contents ≡ bytes ∷ text ∷ []) × Reduces metadce tree text decision
+
+pub of_one : (metadce : MetadceTask) (trees : List Module) (contents : List Text) (decision : Decision) → Decides (Metadce metadce) trees contents decision → IsOfOne metadce trees contents decision
+of_one metadce [] contents decision h = absurd h
+of_one metadce (tree ∷ []) [] decision h = absurd h
+of_one metadce (tree ∷ []) (bytes ∷ []) decision h = absurd h
+of_one metadce (tree ∷ []) (bytes ∷ text ∷ []) decision h = (tree, bytes, text, refl, refl, h)
+of_one metadce (tree ∷ []) (bytes ∷ text ∷ other ∷ more) decision h = absurd h
+of_one metadce (tree ∷ other ∷ trees) contents decision h = absurd h
+
+pub one_decides : (metadce : MetadceTask) (tree : Module) (trees : List Module) (bytes text : Text) (contents : List Text) (decision : Decision) → trees ≡ tree ∷ [] → contents ≡ bytes ∷ text ∷ [] → Reduces metadce tree text decision
+    → Decides (Metadce metadce) trees contents decision
+one_decides metadce tree trees bytes text contents decision e f h =
+    let P : List Module → Type 0 = λ ts. Decides (Metadce metadce) ts contents decision in
+    let Q : List Text → Type 0 = λ cs. Decides (Metadce metadce) (tree ∷ []) cs decision in
+    subst P (sym e) (subst Q (sym f) h)
+
+pub one_tree : (trees rest : List Module) (tree : Module) → length trees ≡ 1 → trees ≡ tree ∷ rest → trees ≡ tree ∷ []
+one_tree trees [] tree one e = e
+one_tree trees (other ∷ rest) tree one e = absurd (let long = ap length e in omega arith)
+
+pub two_texts : (inputs : List Input) (x : Input) → length inputs ≡ 2 → x ≡ get_or inputs 1 x → (bytes : Text) × (input_texts inputs ≡ bytes ∷ x.bytes.items ∷ [])
+two_texts [] x two is = absurd (omega arith)
+two_texts (a ∷ []) x two is = absurd (omega arith)
+two_texts (a ∷ b ∷ []) x two is = (a.bytes.items, ap (λ (i : Input). a.bytes.items ∷ i.bytes.items ∷ []) (sym is))
+two_texts (a ∷ b ∷ c ∷ more) x two is = absurd (omega arith)
+
+-- ---- it decides something ----
+
+known_never : (o : Option Text) (g : Graph) → if_known o g ≡ Err graph.NoMemory → ⊥
+known_never (Some name) g e = cc
+known_never None g e = cc
+
+distinct_never : (o : Option Text) (entries : List Entry) → if_distinct o entries ≡ Err graph.NoMemory → ⊥
+distinct_never (Some name) entries e = cc
+distinct_never None entries e = known_never (first_unknown (place_of_name (names_of entries)) (reached_names entries)) (graph_of entries) e
+
+shaped_never : (o : Option ℕ) (entries : List Entry) → if_shaped o entries ≡ Err graph.NoMemory → ⊥
+shaped_never (Some n) entries e = cc
+shaped_never None entries e = distinct_never (first_repeated (names_of entries)) entries e
+
+array_never : (o : Option Items) → if_array o ≡ Err graph.NoMemory → ⊥
+array_never None e = cc
+array_never (Some items) e = shaped_never (misshapen (listed items)) (filter_map entry_of (listed items)) e
+
+text_never : (o : Option Data) → if_text o ≡ Err graph.NoMemory → ⊥
+text_never None e = cc
+text_never (Some d) e = array_never (as_array d) e
+
+abbrev SomeText : Option Text → Type 0
+SomeText o = (says : Text) × (o ≡ Some says)
+
+graph_told : (file : Text) (fault : GraphFault) → (fault ≡ graph.NoMemory → ⊥) → SomeText (graph_text file fault)
+graph_told file graph.GraphText never = (_, refl)
+graph_told file (graph.GraphShape entry) never = (_, refl)
+graph_told file (graph.NodeTwice name) never = (_, refl)
+graph_told file (graph.UnknownNode name) never = (_, refl)
+graph_told file graph.NoMemory never = absurd (never refl)
+
+outcome_never : (which : Option Which) (m : Module) → outcome which m ≡ Err sweep.NoMemory → ⊥
+outcome_never (Some which) m e = cc
+outcome_never None m e = cc
+
+abbrev pub SomeReduces : MetadceTask → Module → Text → Type 0
+SomeReduces metadce tree text = (decision : Decision) × Reduces metadce tree text decision
+
+sweep_told : (metadce : MetadceTask) (tree : Module) (text : Text) (g : Graph) (marks : Reached) → GivesMarks text tree g marks → (r : Result Module SweepFault) → sweep_of (marks_of marks) tree ≡ r → SomeReduces metadce tree text
+sweep_told metadce tree text g marks is (Ok left) e = (_, reduced g marks left (unmarked_names g.nodes marks.nodes) is e (unmarked_unused g tree marks is.exact))
+sweep_told metadce tree text g marks is (Err (sweep.TooMany which)) e = (_, not_swept g marks (sweep.TooMany which) _ is e refl)
+sweep_told metadce tree text g marks is (Err sweep.NoMemory) e = absurd (outcome_never (over_limit (swept (marks_of marks) tree)) (swept (marks_of marks) tree) e)
+
+graph_reduces : ExactMarksExist → (metadce : MetadceTask) (tree : Module) (text : Text) (r : Result Graph GraphFault) → graph_result text ≡ r → SomeReduces metadce tree text
+graph_reduces exist metadce tree text (Err fault) e =
+    let told = graph_told metadce.graph_file fault (λ none. text_never (value_of text) (e ∙ ap Err none)) in
+    (_, no_graph fault told.0 e told.1)
+graph_reduces exist metadce tree text (Ok g) e =
+    let marks = exist g tree in
+    sweep_told metadce tree text g marks.0 (record { read = e; exact = marks.1 }) (sweep_of (marks_of marks.0) tree) refl
+
+pub some_reduces : ExactMarksExist → (metadce : MetadceTask) (tree : Module) (text : Text) → SomeReduces metadce tree text
+some_reduces exist metadce tree text = graph_reduces exist metadce tree text (graph_result text) refl
+
+pub metadce_told : ExactMarksExist → (metadce : MetadceTask) (trees : List Module) (contents : List Text) → length trees ≡ 1 → length contents ≡ 2 → (decision : Decision) × Decides (Metadce metadce) trees contents decision
+metadce_told exist metadce [] contents one two = absurd (omega arith)
+metadce_told exist metadce (tree ∷ []) [] one two = absurd (omega arith)
+metadce_told exist metadce (tree ∷ []) (bytes ∷ []) one two = absurd (omega arith)
+metadce_told exist metadce (tree ∷ []) (bytes ∷ text ∷ []) one two = some_reduces exist metadce tree text
+metadce_told exist metadce (tree ∷ []) (bytes ∷ text ∷ other ∷ more) one two = absurd (omega arith)
+metadce_told exist metadce (tree ∷ other ∷ trees) contents one two = absurd (omega arith)
+
+-- ---- and it is one ----
+
+one_graph : (text : Text) (g h : Graph) → graph_result text ≡ Ok g → graph_result text ≡ Ok h → g ≡ h
+one_graph text g h e f = let both : ◌≡◌ {A = Result Graph GraphFault} (Ok g) (Ok h) = sym e ∙ f in cc
+
+no_other : {A : Type 0} (text : Text) (g : Graph) (fault : GraphFault) → graph_result text ≡ Ok g → graph_result text ≡ Err fault → A
+no_other text g fault e f = absurd (let both : ◌≡◌ {A = Result Graph GraphFault} (Ok g) (Err fault) = sym e ∙ f in cc)
+
+one_text : (o : Option Text) (says other : Text) → o ≡ Some says → o ≡ Some other → says ≡ other
+one_text o says other e f = let both : Some says ≡ Some other = sym e ∙ f in cc
+
+-- marks of one graph and module keep one thing
+one_sweep : ExactMarksAreOne → (text : Text) (tree : Module) (g h : Graph) (marks others : Reached) (r q : Result Module SweepFault) → GivesMarks text tree g marks → GivesMarks text tree h others → Sweeps (marks_of marks) tree r → Sweeps (marks_of others) tree q → r ≡ q
+one_sweep one text tree g h marks others r q is be e f =
+    let same = one_graph text g h is.read be.read in
+    let P : Graph → Type 0 = λ x. AreExact x tree marks in
+    sym e ∙ ap (λ k. sweep_of k tree) (one h tree marks others (subst P same is.exact) be.exact) ∙ f
+
+pub reduces_once : ExactMarksAreOne → (metadce : MetadceTask) (tree : Module) (text : Text) (this other : Decision) → Reduces metadce tree text this → Reduces metadce tree text other → this ≡ other
+reduces_once one metadce tree text this other (no_graph fault says found told) (no_graph fault' says' found' told') =
+    let both : ◌≡◌ {A = Result Graph GraphFault} (Err fault) (Err fault') = sym found ∙ found' in
+    let same : fault ≡ fault' = cc in
+    ap Refuses (one_text (graph_text metadce.graph_file fault) says says' told (ap (graph_text metadce.graph_file) same ∙ told'))
+reduces_once one metadce tree text this other (no_graph fault says found told) (not_swept g marks fault' says' is found' told') = no_other text g fault is.read found
+reduces_once one metadce tree text this other (no_graph fault says found told) (reduced g marks left unused is found' lists) = no_other text g fault is.read found
+reduces_once one metadce tree text this other (not_swept g marks fault says is found told) (no_graph fault' says' found' told') = no_other text g fault' is.read found'
+reduces_once one metadce tree text this other (not_swept g marks fault says is found told) (not_swept h others fault' says' be found' told') =
+    let both : ◌≡◌ {A = Result Module SweepFault} (Err fault) (Err fault') = one_sweep one text tree g h marks others (Err fault) (Err fault') is be found found' in
+    let same : fault ≡ fault' = cc in
+    ap Refuses (one_text (sweep_text fault) says says' told (ap sweep_text same ∙ told'))
+reduces_once one metadce tree text this other (not_swept g marks fault says is found told) (reduced h others left unused be found' lists) =
+    absurd (let both : ◌≡◌ {A = Result Module SweepFault} (Err fault) (Ok left) = one_sweep one text tree g h marks others (Err fault) (Ok left) is be found found' in cc)
+reduces_once one metadce tree text this other (reduced g marks left unused is found lists) (no_graph fault' says' found' told') = no_other text g fault' is.read found'
+reduces_once one metadce tree text this other (reduced g marks left unused is found lists) (not_swept h others fault' says' be found' told') =
+    absurd (let both : ◌≡◌ {A = Result Module SweepFault} (Ok left) (Err fault') = one_sweep one text tree g h marks others (Ok left) (Err fault') is be found found' in cc)
+reduces_once one metadce tree text this other (reduced g marks left unused is found lists) (reduced h others left' unused' be found' lists') =
+    let both : ◌≡◌ {A = Result Module SweepFault} (Ok left) (Ok left') = one_sweep one text tree g h marks others (Ok left) (Ok left') is be found found' in
+    let same : left ≡ left' = cc in
+    let P : Graph → Type 0 = λ x. AreUnused x tree unused in
+    let names : unused ≡ unused' = unused_once h tree unused unused' (subst P (one_graph text g h is.read be.read) lists) lists' in
+    ap₂ (λ (t : Module) (ns : List Text). Makes (record { name = metadce.output; tree = t; custom = [] } ∷ []) (unused_lines ns)) same names
+
+pub metadce_once : ExactMarksAreOne → (metadce : MetadceTask) (trees : List Module) (contents : List Text) (this other : Decision) → Decides (Metadce metadce) trees contents this → Decides (Metadce metadce) trees contents other → this ≡ other
+metadce_once one metadce [] contents this other h k = absurd h
+metadce_once one metadce (tree ∷ []) [] this other h k = absurd h
+metadce_once one metadce (tree ∷ []) (bytes ∷ []) this other h k = absurd h
+metadce_once one metadce (tree ∷ []) (bytes ∷ text ∷ []) this other h k = reduces_once one metadce tree text this other h k
+metadce_once one metadce (tree ∷ []) (bytes ∷ text ∷ more ∷ others) this other h k = absurd h
+metadce_once one metadce (tree ∷ more ∷ trees) contents this other h k = absurd h

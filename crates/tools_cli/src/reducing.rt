@@ -1,0 +1,98 @@
+// What a metadce decides.
+ghost use Rattle.std.specs.Prelude.{◌≡◌, ◌≤◌, ◌<◌, ◌^◌, length, Ok, Err, IfOk, IfErr};
+ghost use Rattle.base_lists.specs.Every.{Every};
+ghost use Rattle.wasm_valid.specs.Validity.{IsValid};
+ghost use Rattle.dce_sweep_spec.specs.Closed.{AreClosed};
+ghost use Rattle.dce_graph.specs.GraphFile.{graph_result};
+ghost use Rattle.dce_sweep_spec.specs.Reached.{AreExact, marks_of};
+ghost use Rattle.dce_sweep.specs.Sweeps.{Sweeps};
+ghost use Rattle.tools_cli.specs.CommandLine.{Metadce};
+ghost use Rattle.tools_cli.specs.Command.{metadce_value, decision_value, input_texts, input_entries};
+ghost use Rattle.tools_cli.specs.Job.{Decides, Reduces, Refuses, GivesMarks, most_input};
+ghost use Rattle.tools_cli.specs.Causes.{StopsWith, GraphFails, SweepFails, total};
+
+use crate::decide::{Decision, one_output};
+use crate::gather::Input;
+use crate::metadce::MetadceTask;
+use crate::refusal::{refuse_graph, refuse_sweep};
+use crate::stop::Stop;
+use crate::unused::unused_lines;
+use dce_graph::{Graph, Reached, reached, read_graph};
+use dce_reach_proof::reached_marks_are_closed;
+use dce_sweep::sweep;
+use std::alloc::Global;
+use wasm_bytes::NoMemory;
+use wasm_valid::Valid;
+
+// The graph that a graph file holds.
+fn graph_in<'a>(alloc: Global, file: &'a str, text: &[u8]) -> Result<Graph, Stop<'a>>
+    requires { length text.now < 2 ^ 32 }
+    ensures graph { IfOk result (λ graph. graph_result text.now ≡ Ok graph) }
+    ensures few { IfOk result (λ graph. length graph.nodes < 2 ^ 32) }
+    ensures stops { IfErr result (StopsWith (GraphFails file.entry.now text.now)) }
+{
+    match read_graph(alloc, text) {
+        Ok(graph) => Ok(graph),
+        Err(fault) => Err(Stop::Refused(refuse_graph(alloc, file, fault)?)),
+    }
+}
+
+// Marks on exactly what is reached, by which a module can be swept.
+fn marks_in(alloc: Global, graph: &Graph, module: &Valid) -> Result<Reached, NoMemory>
+    requires { length graph.now.nodes < 2 ^ 32 }
+    ensures exact { IfOk result (AreExact graph.now «module».now) }
+    ensures closed { IfOk result (λ marks. AreClosed (marks_of marks) «module».now) }
+{
+    reached_marks_are_closed();
+    let _valid = module.module();
+    reached(alloc, graph, module)
+}
+
+// What is left of the module.
+fn sweep_by<'a>(alloc: Global, module: Valid, marks: &Reached) -> Result<Valid, Stop<'a>>
+    requires { AreClosed (marks_of marks.now) «module» }
+    ensures swept { IfOk result (λ left. Sweeps (marks_of marks.now) «module» (Ok left)) }
+    ensures stops { IfErr result (StopsWith (SweepFails (marks_of marks.now) «module»)) }
+{
+    match sweep(alloc, module, marks) {
+        Ok(left) => Ok(left),
+        Err(fault) => Err(Stop::Refused(refuse_sweep(fault)?)),
+    }
+}
+
+// Reduces one module, by the text of its graph file.
+fn reduce<'a>(
+    alloc: Global,
+    metadce: &MetadceTask<'a>,
+    module: Valid,
+    text: &[u8],
+) -> Result<Decision, Stop<'a>>
+    requires { length text.now < 2 ^ 32 }
+    ensures decided { IfOk result (λ decision. Reduces (metadce_value metadce.now) «module» text.now (decision_value decision)) }
+    ensures stops { IfErr result (StopsWith (λ says. Reduces (metadce_value metadce.now) «module» text.now (Refuses says))) }
+{
+    let graph = graph_in(alloc, metadce.graph_file, text)?;
+    let marks = marks_in(alloc, &graph, &module)?;
+    let lines = unused_lines(alloc, graph.nodes.as_slice(), marks.nodes.as_slice())?;
+    let left = sweep_by(alloc, module, &marks)?;
+    Ok(one_output(alloc, metadce.output, left, lines)?)
+}
+
+/// Reduces the module of a metadce, which is one, by its graph file, whose contents are the second of two.
+pub(crate) fn decide_metadce<'a>(
+    alloc: Global,
+    metadce: &MetadceTask<'a>,
+    modules: Vec<Valid>,
+    inputs: &[Input<'a>],
+) -> Result<Decision, Stop<'a>>
+    requires one { length modules.items ≡ 1 }
+    requires two { length inputs.now ≡ 2 }
+    requires room { total (input_entries inputs.now) ≤ most_input }
+    ensures decided { IfOk result (λ decision. Decides (Metadce (metadce_value metadce.now)) modules.items (input_texts inputs.now) (decision_value decision)) }
+    ensures stops { IfErr result (StopsWith (λ says. Decides (Metadce (metadce_value metadce.now)) modules.items (input_texts inputs.now) (Refuses says))) }
+{
+    let Some(module) = modules.into_iter().next() else {
+        unreachable!()
+    };
+    reduce(alloc, metadce, module, inputs[1].bytes.as_slice())
+}

@@ -1,0 +1,269 @@
+use crate::given::{CUT, module_of, words_of};
+use std::alloc::Global;
+use std::test::Fail;
+use tool_io::{MemFiles, MemSink};
+use tools_cli::{Status, run};
+
+// The import env.cb, and functions 1 to 3, exported as a, b and c. Function 1 calls the import and names function 3.
+const CALLS_BACK: &str =
+    "01 04 01 60 00 00 02 0A 01 03 65 6E 76 02 63 62 00 00 03 04 03 00 00 00 07 0D 03 01 61 00 01 01 62 00 02 01 63 00 03 0A 0F 03 07 00 10 00 D2 03 1A 0B 02 00 0B 02 00 0B";
+
+// A host that uses a, and that calls b when the module calls it back.
+const HOST: &str =
+    "[{\"name\":\"out\",\"root\":true,\"reaches\":[\"A\"]},{\"name\":\"A\",\"export\":\"a\"},{\"name\":\"cb\",\"import\":[\"env\",\"cb\"],\"reaches\":[\"B\"]},{\"name\":\"B\",\"export\":\"b\"},{\"name\":\"C\",\"export\":\"c\"}]";
+
+// What it leaves: the export c is gone, and function 3 is declared.
+const LEFT: &str =
+    "01 04 01 60 00 00 02 0A 01 03 65 6E 76 02 63 62 00 00 03 04 03 00 00 00 07 09 02 01 61 00 01 01 62 00 02 09 05 01 03 00 01 03 0A 0F 03 07 00 10 00 D2 03 1A 0B 02 00 0B 02 00 0B";
+
+const LINE: &str = "metadce m.wasm --graph-file=g.json -o o.wasm";
+
+// A module and a graph, as files.
+fn files_of(alloc: Global, module: &[u8], graph: &str) -> Result<MemFiles, Fail> {
+    let mut files = MemFiles::new(alloc);
+    files.add("m.wasm", module)?;
+    files.add("g.json", graph.as_bytes())?;
+    Ok(files)
+}
+
+// What a line comes to over the files, and what is put on standard output and standard error.
+fn run_over(
+    alloc: Global,
+    files: &mut MemFiles,
+    line: &str,
+) -> Result<(Status, MemSink, MemSink), Fail> {
+    let words = words_of(alloc, line)?;
+    let mut out = MemSink::new(alloc);
+    let mut err = MemSink::new(alloc);
+    let ended = run(alloc, words.as_slice(), files, &mut out, &mut err);
+    Ok((ended, out, err))
+}
+
+#[test]
+fn what_no_path_reaches_is_left_out_and_told(rt: HostRuntime) -> Result<(), Fail> {
+    let alloc = rt.alloc();
+    let nothing = "01 04 01 60 00 00";
+    for (graph, lines, left) in [
+        (HOST, "unused: C\n", LEFT),
+        ("[]", "", nothing),
+        // an import that a node stands for is not kept by it
+        (
+            "[{\"name\":\"out\",\"root\":true,\"reaches\":[\"cb\"]},{\"name\":\"cb\",\"import\":[\"env\",\"cb\"]}]",
+            "",
+            nothing,
+        ),
+        // an export that the module does not have
+        (
+            "[{\"name\":\"z\",\"root\":true,\"export\":\"zz\"}]",
+            "",
+            nothing,
+        ),
+        (
+            "[{\"name\":\"A\",\"root\":true,\"export\":\"a\"},{\"name\":\"B\",\"root\":true,\"export\":\"b\"},{\"name\":\"C\",\"root\":true,\"export\":\"c\"}]",
+            "",
+            CALLS_BACK,
+        ),
+        // by the bytes of the names, and not by the file
+        (
+            "[{\"name\":\"b\"},{\"name\":\"\\ud83d\\ude00\"},{\"name\":\"\\ufffd\"},{\"name\":\"B\"},{\"name\":\"bb\"}]",
+            "unused: B\nunused: b\nunused: bb\nunused: \u{fffd}\nunused: \u{1f600}\n",
+            nothing,
+        ),
+    ] {
+        let module = module_of(alloc, CALLS_BACK)?;
+        let mut files = files_of(alloc, module.as_slice(), graph)?;
+        let (ended, out, err) = run_over(alloc, &mut files, LINE)?;
+        let left = module_of(alloc, left)?;
+        assert_eq!(rt; err.text(), b"".as_slice(), "{graph}");
+        assert_eq!(rt; ended, Status::Done, "{graph}");
+        assert_eq!(rt; out.text(), lines.as_bytes(), "{graph}");
+        assert_eq!(rt; files.contents("o.wasm"), Some(left.as_slice()), "{graph}");
+    }
+    Ok(())
+}
+
+// A module as a linker leaves it, and what is left of it for a host that uses its memory and run.
+const LINKED: &str =
+    "01 0D 03 60 00 00 60 01 7F 01 7F 60 01 7F 00 02 0B 01 03 65 6E 76 03 6C 6F 67 00 02 03 05 04 00 00 01 01 04 05 01 70 01 05 05 05 03 01 00 02 06 08 01 7F 01 41 90 88 04 0B 07 24 03 06 6D 65 6D 6F 72 79 02 00 11 5F 5F 77 61 73 6D 5F 63 61 6C 6C 5F 63 74 6F 72 73 00 01 03 72 75 6E 00 04 09 07 01 00 41 01 0B 01 03 0A 33 04 08 00 10 82 80 80 80 00 0B 0A 00 41 00 41 2A 36 02 84 08 0B 07 00 20 00 41 01 74 0B 15 00 20 00 10 80 80 80 80 00 20 00 41 01 11 81 80 80 80 00 00 0B 0B 09 01 00 41 80 08 0B 02 68 69 00 32 04 6E 61 6D 65 01 2B 05 00 03 6C 6F 67 01 11 5F 5F 77 61 73 6D 5F 63 61 6C 6C 5F 63 74 6F 72 73 02 04 69 6E 69 74 03 05 74 77 69 63 65 04 03 72 75 6E 00 0B 09 70 72 6F 64 75 63 65 72 73 00";
+
+const LINKED_LEFT: &str =
+    "01 0D 03 60 00 00 60 01 7F 01 7F 60 01 7F 00 02 0B 01 03 65 6E 76 03 6C 6F 67 00 02 03 03 02 01 01 04 05 01 70 01 05 05 05 03 01 00 02 07 10 02 06 6D 65 6D 6F 72 79 02 00 03 72 75 6E 00 02 09 07 01 00 41 01 0B 01 01 0A 17 02 07 00 20 00 41 01 74 0B 0D 00 20 00 10 00 20 00 41 01 11 01 00 0B 0B 09 01 00 41 80 08 0B 02 68 69";
+
+#[test]
+fn a_module_as_a_linker_leaves_it_is_swept(rt: HostRuntime) -> Result<(), Fail> {
+    let alloc = rt.alloc();
+    let module = module_of(alloc, LINKED)?;
+    let graph =
+        "[{\"name\":\"main\",\"root\":true,\"reaches\":[\"run\",\"mem\"]},{\"name\":\"run\",\"export\":\"run\"},{\"name\":\"mem\",\"export\":\"memory\"},{\"name\":\"ctors\",\"export\":\"__wasm_call_ctors\"}]";
+    let mut files = files_of(alloc, module.as_slice(), graph)?;
+    let (ended, out, err) = run_over(alloc, &mut files, LINE)?;
+    let left = module_of(alloc, LINKED_LEFT)?;
+    assert_eq!(rt; err.text(), b"".as_slice());
+    assert_eq!(rt; ended, Status::Done);
+    assert_eq!(rt; out.text(), b"unused: ctors\n".as_slice());
+    assert_eq!(rt; files.contents("o.wasm"), Some(left.as_slice()));
+    Ok(())
+}
+
+#[test]
+fn graphs_are_refused_with_their_text(rt: HostRuntime) -> Result<(), Fail> {
+    let alloc = rt.alloc();
+    for (graph, text) in [
+        ("{", "binkit: g.json: not JSON\n"),
+        ("", "binkit: g.json: not JSON\n"),
+        ("{}", "binkit: g.json: entry 0 has the wrong shape\n"),
+        (
+            "[{\"name\":1}]",
+            "binkit: g.json: entry 0 has the wrong shape\n",
+        ),
+        (
+            "[{\"name\":\"a\"},{\"name\":\"b\",\"export\":\"b\",\"import\":[\"env\",\"b\"]}]",
+            "binkit: g.json: entry 1 has the wrong shape\n",
+        ),
+        (
+            "[{\"name\":\"a\"},{\"name\":\"a\"}]",
+            "binkit: g.json: node a stands twice\n",
+        ),
+        (
+            "[{\"name\":\"a\",\"reaches\":[\"b\"]}]",
+            "binkit: g.json: no node b\n",
+        ),
+    ] {
+        let module = module_of(alloc, CALLS_BACK)?;
+        let mut files = files_of(alloc, module.as_slice(), graph)?;
+        let (ended, out, err) = run_over(alloc, &mut files, LINE)?;
+        assert_eq!(rt; err.text(), text.as_bytes(), "{graph}");
+        assert_eq!(rt; ended, Status::Refused, "{graph}");
+        assert_eq!(rt; out.text(), b"".as_slice(), "{graph}");
+        assert_eq!(rt; files.contents("o.wasm"), None, "{graph}");
+    }
+    Ok(())
+}
+
+#[test]
+fn the_module_is_decoded_before_the_graph(rt: HostRuntime) -> Result<(), Fail> {
+    let alloc = rt.alloc();
+    let mut files = files_of(alloc, &CUT, "{")?;
+    let (ended, _, err) = run_over(alloc, &mut files, LINE)?;
+    assert_eq!(rt;
+        err.text(),
+        b"binkit: m.wasm: malformed section 3\n".as_slice()
+    );
+    assert_eq!(rt; ended, Status::Refused);
+    Ok(())
+}
+
+// As many element segments as the limit, each empty and passive, and a function that names another which only an export declares.
+fn many_segments(alloc: Global) -> Result<Vec<u8>, Fail> {
+    let mut bytes = module_of(
+        alloc,
+        "01 04 01 60 00 00 03 03 02 00 00 07 09 02 01 61 00 00 01 62 00 01 09 A3 F7 36 E0 A7 12",
+    )?;
+    for _ in 0..300_000 {
+        bytes.extend_from_slice(&[1, 0, 0])?;
+    }
+    bytes.extend_from_slice(&[
+        0x0A, 0x0A, 0x02, 0x02, 0x00, 0x0B, 0x05, 0x00, 0xD2, 0x00, 0x1A, 0x0B,
+    ])?;
+    Ok(bytes)
+}
+
+#[test]
+fn a_segment_too_many_is_told(rt: HostRuntime) -> Result<(), Fail> {
+    let alloc = rt.alloc();
+    let module = many_segments(alloc)?;
+    let graph = "[{\"name\":\"B\",\"root\":true,\"export\":\"b\"}]";
+    let mut files = files_of(alloc, module.as_slice(), graph)?;
+    let (ended, out, err) = run_over(alloc, &mut files, LINE)?;
+    assert_eq!(rt;
+        err.text(),
+        b"binkit: output exceeds the limit on element segments\n".as_slice()
+    );
+    assert_eq!(rt; ended, Status::Refused);
+    assert_eq!(rt; out.text(), b"".as_slice());
+    assert_eq!(rt; files.contents("o.wasm"), None);
+    Ok(())
+}
+
+#[test]
+fn faults_of_its_files_and_of_standard_output_are_told(rt: HostRuntime) -> Result<(), Fail> {
+    let alloc = rt.alloc();
+    for (line, call, text) in [
+        (LINE, 1, "binkit: cannot read m.wasm\n"),
+        (LINE, 2, "binkit: cannot read g.json\n"),
+        (LINE, 3, "binkit: cannot write o.wasm\n"),
+        (
+            "metadce m.wasm --graph-file n.json -o o.wasm",
+            0,
+            "binkit: cannot read n.json\n",
+        ),
+    ] {
+        let module = module_of(alloc, CALLS_BACK)?;
+        let mut files = files_of(alloc, module.as_slice(), HOST)?;
+        files.fail_at(call)?;
+        let (ended, out, err) = run_over(alloc, &mut files, line)?;
+        assert_eq!(rt; err.text(), text.as_bytes(), "{text}");
+        assert_eq!(rt; ended, Status::Outside, "{text}");
+        assert_eq!(rt; out.text(), b"".as_slice(), "{text}");
+    }
+    Ok(())
+}
+
+#[test]
+fn the_output_is_whole_where_standard_output_fails(rt: HostRuntime) -> Result<(), Fail> {
+    let alloc = rt.alloc();
+    let module = module_of(alloc, CALLS_BACK)?;
+    let mut files = files_of(alloc, module.as_slice(), HOST)?;
+    let words = words_of(alloc, LINE)?;
+    let mut out = MemSink::new(alloc);
+    let mut err = MemSink::new(alloc);
+    out.fail_at(1)?;
+    let ended = run(alloc, words.as_slice(), &mut files, &mut out, &mut err);
+    let left = module_of(alloc, LEFT)?;
+    assert_eq!(rt;
+        err.text(),
+        b"binkit: cannot write standard output\n".as_slice()
+    );
+    assert_eq!(rt; ended, Status::Outside);
+    assert_eq!(rt; files.contents("o.wasm"), Some(left.as_slice()));
+    Ok(())
+}
+
+#[test]
+fn its_options_stand_anywhere_and_once(rt: HostRuntime) -> Result<(), Fail> {
+    let alloc = rt.alloc();
+    for line in [
+        "metadce -o o.wasm --graph-file g.json m.wasm",
+        "metadce --output=o.wasm m.wasm --graph-file=g.json",
+        "metadce --output o.wasm --graph-file=g.json m.wasm",
+    ] {
+        let module = module_of(alloc, CALLS_BACK)?;
+        let mut files = files_of(alloc, module.as_slice(), HOST)?;
+        let (ended, out, _) = run_over(alloc, &mut files, line)?;
+        assert_eq!(rt; ended, Status::Done, "{line}");
+        assert_eq!(rt; out.text(), b"unused: C\n".as_slice(), "{line}");
+    }
+    for line in [
+        "metadce",
+        "metadce m.wasm -o o.wasm",
+        "metadce m.wasm --graph-file g.json",
+        "metadce --graph-file g.json -o o.wasm",
+        "metadce m.wasm n.wasm --graph-file g.json -o o.wasm",
+        "metadce m.wasm --graph-file g.json -o o.wasm --output=p.wasm",
+        "metadce m.wasm --graph-file g.json --graph-file g.json -o o.wasm",
+        "metadce m.wasm --graph-file= -o o.wasm",
+        "metadce m.wasm --graph-file -o o.wasm",
+        "metadce m.wasm --graph-file g.json -o",
+        "metadce m.wasm --graph g.json -o o.wasm",
+        "metadce m.wasm --graph-file g.json -o=o.wasm",
+        "metadce m.wasm --graph-file g.json -o o.wasm --skip-export-conflicts",
+        "metadce '' --graph-file g.json -o o.wasm",
+        "metadce m.wasm --graph-file g.json -o o.wasm --",
+    ] {
+        let mut files = MemFiles::new(alloc);
+        let (ended, _, err) = run_over(alloc, &mut files, line)?;
+        assert_eq!(rt; ended, Status::Usage, "{line}");
+        assert_eq!(rt; err.text(), b"usage: binkit metadce\n".as_slice(), "{line}");
+    }
+    Ok(())
+}
