@@ -8,7 +8,7 @@ use Rattle.tools_cli.specs.Effects.{Entry, made, IsCut, written_names}
 use Rattle.tools_cli.specs.Job.{Job, Usage, Refused, Done, Whole, TooLong, gathered, most_input, InputsJob, TaskJob, refused_before, not_begun, too_long, all_read, HasJob, no_task, asked}
 use Rattle.tools_cli.specs.Stop.{IsLine, usage, fault_line, invalid_line, parts_line, link_line, join_line, graph_line, output_line, cannot_read_line, cannot_write_line, cannot_print_line, no_memory_line, no_memory, stop_line, line_of, refusal_text, Says, Reports}
 use Rattle.tools_cli.specs.Causes.{StopsWith, StopsGathering, StopsPreparing, StopsFinishing, MayHold, AreOutputs, AllWritten, PrintsAfter, PrintsAsAllowed}
-use Rattle.tools_cli.specs.Run.{IsUsage, PrintsNothing, JobIsDone, HostState, StopsWork, ChangesByTheJob, PrintsForTheJob, EndsDone, Gains, IsSame, HasOutsideCause, HasStatus, SomeRose}
+use Rattle.tools_cli.specs.Run.{IsUsage, PrintsNothing, JobIsDone, HostState, StopsWork, ChangesByTheJob, PrintsForTheJob, EndsDone, EndsRefused, Gains, IsSame, HasOutsideCause, HasStatus, SomeRose}
 use Rattle.tools_cli.specs.declared.stop.Status.{Status}
 use Rattle.tools_cli.specs.declared.stop.Status.TheVariants as status
 use Rattle.tools_cli.specs.declared.stop.Stop.{Stop}
@@ -244,3 +244,30 @@ usage_told words old new (stop.CannotRead name) err err' before now result h (in
 usage_told words old new (stop.CannotWrite name) err err' before now result h (inl p) is = let e = p.0 in cc
 usage_told words old new stop.CannotPrint err err' before now result h (inl p) is = let e = p.0 in cc
 usage_told words old new stop.NoMemory err err' before now result h (inl p) is = let e = p.0 in cc
+
+-- no stop ends as done
+pub no_stop_is_done : (s : Stop) (err err' : Option Text) (before now : ℕ) (result : Status) → Reports s err err' before now result → result ≡ status.Done → ⊥
+no_stop_is_done s err err' before now result (inr (inl p)) is = let e = p.0 in cc
+no_stop_is_done s err err' before now result (inr (inr e)) is = cc
+no_stop_is_done (stop.Usage line) err err' before now result (inl p) is = let e = p.0 in cc
+no_stop_is_done (stop.Refused refusal) err err' before now result (inl p) is = let e = p.0 in cc
+no_stop_is_done (stop.CannotRead name) err err' before now result (inl p) is = let e = p.0 in cc
+no_stop_is_done (stop.CannotWrite name) err err' before now result (inl p) is = let e = p.0 in cc
+no_stop_is_done stop.CannotPrint err err' before now result (inl p) is = let e = p.0 in cc
+no_stop_is_done stop.NoMemory err err' before now result (inl p) is = let e = p.0 in cc
+
+refused_at : (words : List Text) (err err' : Option Text) (files : Option Contents) (text : Text) → IfSome files (λ a. HasJob words a (Refused text)) → Gains (stop_line text) err err' → IfSome files (λ a. EndsRefused words a err err')
+refused_at words err err' None text job gains = tt
+refused_at words err err' (Some a) text job gains = (text, job, gains)
+
+-- what is told of a stop that is a refusal is its line
+pub refusal_told : (words : List Text) (old new : HostState) (s : Stop) (err err' : Option Text) (before now : ℕ) (result : Status)
+    → StopsWork words old new s → Reports s err err' before now result → result ≡ status.Refused → IfSome old.files (λ a. EndsRefused words a err err') × IsSame old.files new.files × IsSame old.out new.out
+refusal_told words old new s err err' before now result h (inr (inl p)) is = let e = p.0 in cc
+refusal_told words old new s err err' before now result h (inr (inr e)) is = cc
+refusal_told words old new (stop.Refused refusal) err err' before now result h (inl p) is = (refused_at words err err' old.files _ h.0 p.1, h.1, h.2)
+refusal_told words old new (stop.Usage line) err err' before now result h (inl p) is = let e = p.0 in cc
+refusal_told words old new (stop.CannotRead name) err err' before now result h (inl p) is = let e = p.0 in cc
+refusal_told words old new (stop.CannotWrite name) err err' before now result h (inl p) is = let e = p.0 in cc
+refusal_told words old new stop.CannotPrint err err' before now result h (inl p) is = let e = p.0 in cc
+refusal_told words old new stop.NoMemory err err' before now result h (inl p) is = let e = p.0 in cc

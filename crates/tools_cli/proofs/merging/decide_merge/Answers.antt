@@ -74,4 +74,4 @@ returns-clause-decided c =
     let trees = c.args.modules.items in
     let parts = named_modules c.in_ok-parts.parts in
     let named : parts ≡ parts_of (source_values xs) trees = c.in_ok-parts.ensures ∙ ap (λ l. parts_of (source_values l) trees) c.as_slice.ensures.value in
-    merge_made m parts trees c.in_ok-tree.tree (decision_value c.in_ok-one_output.field-0) named c.in_ok-tree.ensures.merged (c.in_ok-one_output.ensures ∙ ap (Makes (record { name = m.output; tree = c.in_ok-tree.tree; custom = [] } ∷ [])) c.new-lines.ensures)
+    merge_made m parts trees c.in_ok-tree.tree (decision_value c.in_ok-one_output.field-0) named c.in_ok-tree.ensures.merged (c.in_ok-one_output.ensures ∙ ap (Makes (record { name = m.output; tree = c.in_ok-tree.tree; custom = [] } ∷ [])) c.new-lines.ensures.items)

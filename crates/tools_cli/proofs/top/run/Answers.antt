@@ -1,7 +1,7 @@
 use Rattle.std.proofs.Common.{map, string_bytes, subst, Result}
 use Rattle.tools_cli.specs.Run.{HostState, IsUsage}
 use Rattle.tools_cli.specs.declared.stop.Stop.{Stop}
-use Rattle.tools_cli.proofs.Running.{usage_told, usage_at_stop, says_nothing, says_a_line, outside_cause, complete_at_stop}
+use Rattle.tools_cli.proofs.Running.{usage_told, no_stop_is_done, refusal_told, usage_at_stop, says_nothing, says_a_line, outside_cause, complete_at_stop}
 use Rattle.tools_cli.proofs.Kept.{end_keeps}
 use Rattle.tools_cli.proofs.top.run.Goals as goal
 
@@ -40,3 +40,12 @@ returns-in-Err-clause-usage g c is =
     let old : HostState = record { files = g.F.Files.contents c.args.files.now; reads = g.F.Files.read_faults c.args.files.now; writes = g.F.Files.write_faults c.args.files.now; out = g.O.Sink.bytes c.args.out.now; out_faults = g.O.Sink.faults c.args.out.now } in
     let new : HostState = record { files = g.F.Files.contents c.run_command.new.files; reads = g.F.Files.read_faults c.run_command.new.files; writes = g.F.Files.write_faults c.run_command.new.files; out = g.O.Sink.bytes c.run_command.new.out; out_faults = g.O.Sink.faults c.run_command.new.out } in
     usage_told (map string_bytes c.args.words.now) old new c.in-Err.stop _ _ _ _ c.report.result c.in-Err.ensures.stops c.report.ensures.reports is
+
+pub returns-in-Err-clause-done : goal.returns-in-Err-clause-done
+returns-in-Err-clause-done g c is = absurd (no_stop_is_done c.in-Err.stop _ _ _ _ c.report.result c.report.ensures.reports is)
+
+pub returns-in-Err-clause-refused : goal.returns-in-Err-clause-refused
+returns-in-Err-clause-refused g c is =
+    let old : HostState = record { files = g.F.Files.contents c.args.files.now; reads = g.F.Files.read_faults c.args.files.now; writes = g.F.Files.write_faults c.args.files.now; out = g.O.Sink.bytes c.args.out.now; out_faults = g.O.Sink.faults c.args.out.now } in
+    let new : HostState = record { files = g.F.Files.contents c.run_command.new.files; reads = g.F.Files.read_faults c.run_command.new.files; writes = g.F.Files.write_faults c.run_command.new.files; out = g.O.Sink.bytes c.run_command.new.out; out_faults = g.O.Sink.faults c.run_command.new.out } in
+    refusal_told (map string_bytes c.args.words.now) old new c.in-Err.stop _ _ _ _ c.report.result c.in-Err.ensures.stops c.report.ensures.reports is
