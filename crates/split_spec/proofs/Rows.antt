@@ -1,5 +1,5 @@
 -- Small modules that are split, computed.
-use Rattle.std.proofs.Common.{◌≡◌, refl, ℕ, List, [], ◌∷◌, ◌++◌, Option, Some, None, true, false, rules}
+use Rattle.std.proofs.Common.{◌≡◌, refl, ℕ, ◌+◌, List, [], ◌∷◌, ◌++◌, Option, Some, None, true, false, rules}
 use Rattle.std.specs.Prelude.{pos}
 use Rattle.wasm_num.specs.declared.BinOp.TheVariants.{I32Add, I32Shl}
 use Rattle.wasm_tree.specs.declared.types.RefType.TheVariants.{Func as func_ref}
@@ -30,9 +30,9 @@ use Rattle.index_remap.specs.References.{declaring}
 use Rattle.split_spec.specs.declared.names.SplitNames.{SplitNames}
 use Rattle.split_spec.specs.declared.faults.SplitFault.TheVariants.{NamespaceTaken, PrefixTaken}
 use Rattle.split_spec.specs.Needed.{needed}
-use Rattle.split_spec.specs.Primary.{placeholders, primary, primary_with}
-use Rattle.split_spec.specs.Secondary.{secondary, secondary_with}
-use Rattle.split_spec.specs.Faults.{namespace_taken, prefix_taken, moved_params}
+use Rattle.split_spec.specs.Primary.{primary, primary_with}
+use Rattle.split_spec.specs.Secondary.{HasSlots, secondary, secondary_with}
+use Rattle.split_spec.specs.Faults.{namespace_taken, prefix_taken, moved_params, split_fault}
 
 -- ---- words ----
 
@@ -114,16 +114,16 @@ adding_primary = record adding {
 abbrev pub adding_secondary : Module
 adding_secondary = record empty { types = takes_two ∷ []; imports = slots_import 1 ∷ []; funcs = func 0 adding_body ∷ []; elems = segment 0 0 (const.Func 0 ∷ []) ∷ [] }
 
-its_trampoline_is_needed : needed adding (0 ∷ []) ≡ 0 ∷ []
-its_trampoline_is_needed = search (rules, the_lemmas)
+what_is_exported_needs_a_trampoline : needed adding (0 ∷ []) ≡ 0 ∷ []
+what_is_exported_needs_a_trampoline = search (rules, the_lemmas)
 
-it_is_called_through_a_trampoline : primary names adding (0 ∷ []) ≡ adding_primary
+what_is_exported_is_called_through_a_trampoline : primary names adding (0 ∷ []) ≡ adding_primary
 unfolding primary_with
-it_is_called_through_a_trampoline = search (rules, the_lemmas)
+what_is_exported_is_called_through_a_trampoline = search (rules, the_lemmas)
 
-it_is_put_into_its_slot : secondary names adding (0 ∷ []) ≡ adding_secondary
+what_adds_is_put_into_its_slot : secondary names adding (0 ∷ []) ≡ adding_secondary
 unfolding secondary_with
-it_is_put_into_its_slot = search (rules, the_lemmas)
+what_adds_is_put_into_its_slot = search (rules, the_lemmas)
 
 -- ---- a function that is only called ----
 
@@ -143,16 +143,16 @@ calling_primary = record calling {
 abbrev pub calling_secondary : Module
 calling_secondary = record empty { types = gives_number ∷ []; imports = slots_import 1 ∷ []; funcs = func 0 (i.I32Const (pos 7) ∷ []) ∷ []; elems = segment 0 0 (const.Func 0 ∷ []) ∷ [] }
 
-no_trampoline_is_needed : needed calling (1 ∷ []) ≡ []
-no_trampoline_is_needed = search (rules, the_lemmas)
+what_is_only_called_needs_no_trampoline : needed calling (1 ∷ []) ≡ []
+what_is_only_called_needs_no_trampoline = search (rules, the_lemmas)
 
-it_is_called_through_its_slot : primary names calling (1 ∷ []) ≡ calling_primary
+what_is_only_called_is_called_through_its_slot : primary names calling (1 ∷ []) ≡ calling_primary
 unfolding primary_with
-it_is_called_through_its_slot = search (rules, the_lemmas)
+what_is_only_called_is_called_through_its_slot = search (rules, the_lemmas)
 
-its_body_moves : secondary names calling (1 ∷ []) ≡ calling_secondary
+what_is_called_is_put_into_its_slot : secondary names calling (1 ∷ []) ≡ calling_secondary
 unfolding secondary_with
-its_body_moves = search (rules, the_lemmas)
+what_is_called_is_put_into_its_slot = search (rules, the_lemmas)
 
 -- ---- nothing moves ----
 
@@ -217,18 +217,24 @@ linked = record {
   datas = record { mode = «data».Active 0 (const.I32 (pos 1024)); bytes = 104 ∷ 105 ∷ [] } ∷ [];
 }
 
--- twice moves, and its trampoline stands in the table
-twice_is_called_through_a_trampoline : primary names linked (3 ∷ []) ≡ record linked {
+abbrev pub linked_primary : Module
+linked_primary = record linked {
   imports = log_import ∷ import placeholder_word (48 ∷ []) (im.Func 1) ∷ [];
   funcs = func 0 (i.Call 3 ∷ []) ∷ func 0 init_body ∷ func 1 (i.LocalGet 0 ∷ i.I32Const (pos 0) ∷ i.CallIndirect 1 1 ∷ []) ∷ func 1 run_body ∷ [];
   tables = table 5 ∷ table 1 ∷ [];
   exports = linked_exports 2 5 ++ export slots_word (ex.Table 1) ∷ [];
   elems = segment 0 1 (const.Func 4 ∷ []) ∷ segment 1 0 (const.Func 1 ∷ []) ∷ [];
 }
+
+abbrev pub linked_secondary : Module
+linked_secondary = record empty { types = linked.types; imports = slots_import 1 ∷ []; funcs = func 1 twice_body ∷ []; elems = segment 0 0 (const.Func 0 ∷ []) ∷ [] }
+
+-- twice moves, and its trampoline stands in the table
+twice_is_called_through_a_trampoline : primary names linked (3 ∷ []) ≡ linked_primary
 unfolding primary_with
 twice_is_called_through_a_trampoline = search (rules, the_lemmas)
 
-twice_moves : secondary names linked (3 ∷ []) ≡ record empty { types = linked.types; imports = slots_import 1 ∷ []; funcs = func 1 twice_body ∷ []; elems = segment 0 0 (const.Func 0 ∷ []) ∷ [] }
+twice_moves : secondary names linked (3 ∷ []) ≡ linked_secondary
 unfolding secondary_with
 twice_moves = search (rules, the_lemmas)
 
@@ -255,8 +261,8 @@ sharing = record empty {
 }
 
 -- "%f0", "%f1", "%f3", "%m0" and "%g1"
-abbrev pub shared_word : (letter index : ℕ) → List ℕ
-shared_word letter index = 37 ∷ letter ∷ index ∷ []
+abbrev pub shared_word : (kind index : ℕ) → List ℕ
+shared_word kind index = 37 ∷ kind ∷ index ∷ []
 
 one_trampoline_is_needed : needed sharing (2 ∷ 3 ∷ []) ≡ 3 ∷ []
 one_trampoline_is_needed = search (rules, the_lemmas)
@@ -295,7 +301,7 @@ abbrev pub numbered_placeholder : ℕ → List ℕ
 numbered_placeholder digit = placeholder_word ++ 46 ∷ digit ∷ []
 
 -- both functions move, each to a secondary module of its own
-both_are_called_through_slots : primary_with (placeholders (numbered_placeholder 48) calling 0 (0 ∷ []) ++ placeholders (numbered_placeholder 49) calling 1 (1 ∷ [])) (37 ∷ []) calling (0 ∷ 1 ∷ []) ≡ record calling {
+both_are_called_through_slots : primary_with (λ slot. numbered_placeholder (48 + slot)) (37 ∷ []) calling (0 ∷ 1 ∷ []) ≡ record calling {
   imports = import (numbered_placeholder 48) (48 ∷ []) (im.Func 0) ∷ import (numbered_placeholder 49) (49 ∷ []) (im.Func 0) ∷ [];
   funcs = func 0 (i.I32Const (pos 0) ∷ i.CallIndirect 0 0 ∷ []) ∷ [];
   tables = table 2 ∷ [];
@@ -318,10 +324,64 @@ the_second_fills_the_slot_behind : secondary_with names calling (0 ∷ 1 ∷ [])
 unfolding secondary_with
 the_second_fills_the_slot_behind = search (rules, the_lemmas)
 
+-- which slots these have, and a module without functions behind one slot
+the_pair_has_all_slots : HasSlots (2 ∷ 3 ∷ []) (2 ∷ 3 ∷ []) 0
+the_pair_has_all_slots = record { earlier = []; later = []; all = refl; count = refl }
+
+the_second_has_one : HasSlots (0 ∷ 1 ∷ []) (1 ∷ []) 1
+the_second_has_one = record { earlier = 0 ∷ []; later = []; all = refl; count = refl }
+
+one_may_have_none : HasSlots (0 ∷ 1 ∷ []) [] 1
+one_may_have_none = record { earlier = 0 ∷ []; later = 1 ∷ []; all = refl; count = refl }
+
+-- ---- tables, a start, an initialiser, locals ----
+
+abbrev pub referring : GlobalDef
+referring = record { ty = record { ty = valt.Ref func_ref; mutable = false }; init = const.Func 1 }
+
+-- One table is imported and one defined. Functions 0 and 1 are to move: the first, which has locals, calls through the second table and is the start; a global refers
+-- to the second.
+abbrev pub filling : Module
+filling = record empty {
+  types = takes_number ∷ nothing ∷ [];
+  imports = import (101 ∷ []) (116 ∷ []) (im.Table (table 3)) ∷ [];
+  funcs = record { ty = 1; locals = record { count = 1; ty = valt.I32 } ∷ []; body = i.LocalGet 0 ∷ i.CallIndirect 1 1 ∷ [] } ∷ func 0 [] ∷ [];
+  tables = table 4 ∷ [];
+  globals = referring ∷ [];
+  start = Some 0;
+}
+
+the_start_and_an_initialiser_need_trampolines : needed filling (0 ∷ 1 ∷ []) ≡ 0 ∷ 1 ∷ []
+the_start_and_an_initialiser_need_trampolines = search (rules, the_lemmas)
+
+the_slot_table_is_the_last : primary names filling (0 ∷ 1 ∷ []) ≡ record filling {
+  imports = import (101 ∷ []) (116 ∷ []) (im.Table (table 3)) ∷ import placeholder_word (48 ∷ []) (im.Func 1) ∷ import placeholder_word (49 ∷ []) (im.Func 0) ∷ [];
+  funcs = func 1 (i.I32Const (pos 0) ∷ i.CallIndirect 1 2 ∷ []) ∷ func 0 (i.LocalGet 0 ∷ i.I32Const (pos 1) ∷ i.CallIndirect 0 2 ∷ []) ∷ [];
+  tables = table 4 ∷ table 2 ∷ [];
+  globals = record referring { init = const.Func 3 } ∷ [];
+  exports = export (shared_word 116 49) (ex.Table 1) ∷ export slots_word (ex.Table 2) ∷ [];
+  start = Some 2;
+  elems = segment 2 0 (const.Func 0 ∷ const.Func 1 ∷ []) ∷ [];
+}
+unfolding primary_with
+the_slot_table_is_the_last = search (rules, the_lemmas)
+
+it_comes_behind_the_tables_that_are_imported : secondary names filling (0 ∷ 1 ∷ []) ≡ record empty {
+  types = filling.types;
+  imports = import primary_word (shared_word 116 49) (im.Table (table 4)) ∷ slots_import 2 ∷ [];
+  funcs = record { ty = 1; locals = record { count = 1; ty = valt.I32 } ∷ []; body = i.LocalGet 0 ∷ i.CallIndirect 1 0 ∷ [] } ∷ func 0 [] ∷ [];
+  elems = segment 1 0 (const.Func 0 ∷ const.Func 1 ∷ []) ∷ [];
+}
+unfolding secondary_with
+it_comes_behind_the_tables_that_are_imported = search (rules, the_lemmas)
+
 -- ---- faults ----
 
 -- "g" of "placeholder" is imported
-the_namespace_is_taken : namespace_taken placeholder_word (record adding { imports = import placeholder_word (103 ∷ []) (im.Global (number.ty)) ∷ [] }) ≡ Some 0
+abbrev pub holding_import : Import
+holding_import = import placeholder_word (103 ∷ []) (im.Global (number.ty))
+
+the_namespace_is_taken : namespace_taken placeholder_word (record adding { imports = holding_import ∷ [] }) ≡ Some 0
 the_namespace_is_taken = refl
 
 no_import_has_it : namespace_taken placeholder_word linked ≡ None
@@ -336,3 +396,13 @@ no_export_has_it = search (rules, the_lemmas)
 
 two_parameters_move : moved_params adding (0 ∷ []) ≡ 2
 two_parameters_move = refl
+
+-- the namespace is told before the prefix, also where nothing moves
+the_namespace_comes_first : split_fault names (record (adding_as slots_word) { imports = holding_import ∷ [] }) (0 ∷ []) ≡ Some (NamespaceTaken 0)
+the_namespace_comes_first = refl
+
+the_namespace_counts_where_nothing_moves : split_fault names (record adding { imports = holding_import ∷ [] }) [] ≡ Some (NamespaceTaken 0)
+the_namespace_counts_where_nothing_moves = refl
+
+then_the_prefix_comes : split_fault names (adding_as slots_word) (0 ∷ []) ≡ Some (PrefixTaken slots_word)
+then_the_prefix_comes = search (rules, the_lemmas)

@@ -1,18 +1,16 @@
--- Code in which other code stands in place of each `call`, in blocks as well.
+-- Code in which other code stands in place of each `call`, in blocks as well. A map of indices alone would not do: `call` and `ref.func` of one function may go to
+-- two places, and a call may become two instructions.
 use Rattle.std.specs.Prelude.{ℕ, List, [], ◌∷◌}
 use Rattle.std.specs.List.{flat_map}
 use Rattle.wasm_tree.specs.declared.instr.Instr.{Instr, fold-Instr}
 use Rattle.wasm_tree.specs.declared.instr.Instr.TheOpen.{Instr-F}
 use Rattle.wasm_tree.specs.declared.instr.Instr.TheVariants.{Block, Loop, If, Unreachable, Nop, Br, BrIf, BrTable, Return, CallIndirect, Drop, Select, SelectTyped, LocalGet, LocalSet, LocalTee, GlobalGet, GlobalSet, TableGet, TableSet, Load, Store, MemorySize, MemoryGrow, I32Const, I64Const, Un, Bin, RefNull, RefIsNull, RefFunc, MemoryInit, DataDrop, MemoryCopy, MemoryFill, TableInit, ElemDrop, TableCopy, TableGrow, TableSize, TableFill}
 
-abbrev pub joined : List (List Instr) → List Instr
-joined = flat_map (λ code. code)
-
 -- what stands for an instruction, where that is known for each instruction inside it and of a call by its function
 abbrev pub calls_step : (ℕ → List Instr) → Instr-F (List Instr) → List Instr
-calls_step code (Instr-F.Block ty body) = Block ty (joined body) ∷ []
-calls_step code (Instr-F.Loop ty body) = Loop ty (joined body) ∷ []
-calls_step code (Instr-F.If ty body other) = If ty (joined body) (joined other) ∷ []
+calls_step code (Instr-F.Block ty body) = Block ty (flat_map (λ is. is) body) ∷ []
+calls_step code (Instr-F.Loop ty body) = Loop ty (flat_map (λ is. is) body) ∷ []
+calls_step code (Instr-F.If ty body other) = If ty (flat_map (λ is. is) body) (flat_map (λ is. is) other) ∷ []
 calls_step code (Instr-F.Call func) = code func
 calls_step code Instr-F.Unreachable = Unreachable ∷ []
 calls_step code Instr-F.Nop = Nop ∷ []

@@ -1,13 +1,13 @@
 -- Why a module is not split: the first fault, in the order in which they are told.
 use Rattle.std.specs.Prelude.{ℕ, Bool, List, map, length, sum, Option, None, find, option_map}
 use Rattle.std.specs.List.{list_any}
+use Rattle.std.specs.Option.{option_or}
 use Rattle.std.specs.Str.{bytes_eq}
 use Rattle.base_lists.specs.Places.{first_place}
 use Rattle.wasm_tree.specs.declared.which.Which.{Which}
 use Rattle.wasm_tree.specs.declared.which.Which.TheVariants.{Trampolines}
 use Rattle.wasm_tree.specs.declared.module.Module.{Module}
 use Rattle.module_limits.specs.Counts.{or_above, over_limit}
-use Rattle.wasm_names.specs.Reading.{or_else}
 use Rattle.split_spec.specs.declared.names.SplitNames.{SplitNames}
 use Rattle.split_spec.specs.declared.faults.SplitFault.{SplitFault}
 use Rattle.split_spec.specs.declared.faults.SplitFault.TheVariants.{NamespaceTaken, PrefixTaken, TooMany}
@@ -30,12 +30,12 @@ prefix_taken prefix m moved = name_taken m (map (λ e. e.name) (added_exports pr
 abbrev pub moved_params : Module → (moved : List ℕ) → ℕ
 moved_params m moved = sum (map (λ func. length (params_of m func)) moved)
 
--- the first of what is too much: of parameters of functions that move, then in the primary module, then in the secondary one
+-- the first of what is too much: the parameters of all functions that move, then a count of the primary module, then one of the secondary module
 abbrev pub too_many : SplitNames → Module → (moved : List ℕ) → Option Which
-too_many names m moved = or_above (moved_params m moved) Trampolines (or_else (over_limit (primary names m moved)) (over_limit (secondary names m moved)))
+too_many names m moved = or_above (moved_params m moved) Trampolines (option_or (over_limit (primary names m moved)) (over_limit (secondary names m moved)))
 
 abbrev pub split_fault : SplitNames → Module → (moved : List ℕ) → Option SplitFault
 split_fault names m moved =
-    or_else (option_map NamespaceTaken (namespace_taken names.placeholder_namespace m))
-    (or_else (option_map PrefixTaken (prefix_taken names.export_prefix m moved))
+    option_or (option_map NamespaceTaken (namespace_taken names.placeholder_namespace m))
+    (option_or (option_map PrefixTaken (prefix_taken names.export_prefix m moved))
     (option_map TooMany (too_many names m moved)))

@@ -12,5 +12,5 @@ named_but_called m = refs_of m ++ (cons_option m.start [] ++ body_refs m.funcs)
 abbrev pub is_needed : Module → ℕ → Bool
 is_needed m func = is_among (named_but_called m) func
 
-abbrev pub needed : Module → List ℕ → List ℕ
+abbrev pub needed : Module → (moved : List ℕ) → List ℕ
 needed m moved = filter (is_needed m) moved

@@ -1,5 +1,5 @@
--- The primary module: it keeps what the module has, and calls the functions that move through the slots. These hold placeholders, until a secondary module puts
--- its functions there (WebAssembly Core 2.0, section 2.5).
+-- The primary module: it keeps what the module has but for the functions that move, and calls these through the slots. The slots hold placeholders, until a
+-- secondary module puts its functions there (WebAssembly Core 2.0, section 2.5).
 use Rattle.std.specs.Prelude.{ℕ, suc, ◌+◌, Bool, ◌||◌, not, List, [], ◌∷◌, ◌++◌, drop, map, length, decimal, Option, Some, None}
 use Rattle.base_lists.specs.Places.{numbers}
 use Rattle.base_kept.specs.Kept.{kept, new_places}
@@ -16,9 +16,9 @@ use Rattle.index_remap.specs.References.{declared, is_among}
 use Rattle.index_remap.specs.Renumbered.{renumbered_tree}
 use Rattle.split_spec.specs.declared.names.SplitNames.{SplitNames}
 use Rattle.split_spec.specs.Calls.{with_calls}
-use Rattle.split_spec.specs.Slots.{type_index, slot_of, slot_table, in_slots, slot_table_type, slot_segment, call_through_slot, trampoline_body}
+use Rattle.split_spec.specs.Slots.{type_index, place_among, slot_table, in_slots, slot_table_type, slot_segment, call_through_slot, trampoline_body}
 use Rattle.split_spec.specs.Needed.{is_needed}
-use Rattle.split_spec.specs.Shared.{shared, shared_exports, slots_name}
+use Rattle.split_spec.specs.FromPrimary.{from_primary, exports_for_secondary, slots_name}
 
 -- ---- functions ----
 
@@ -27,54 +27,55 @@ abbrev pub primary_func : Module → (moved : List ℕ) → (slot : Option ℕ) 
 primary_func m moved None func f = record f { body = with_calls (call_through_slot m moved) f.body }
 primary_func m moved (Some slot) func f = record f { locals = []; body = trampoline_body m func slot }
 
--- those of the defined functions from this index on
+-- the same of the defined functions from this index on
 abbrev pub primary_funcs : Module → (moved : List ℕ) → (first : ℕ) → List Func → List Func
 primary_funcs m moved func [] = []
-primary_funcs m moved func (f ∷ fs) = primary_func m moved (slot_of moved func) func f ∷ primary_funcs m moved (suc func) fs
+primary_funcs m moved func (f ∷ fs) = primary_func m moved (place_among moved func) func f ∷ primary_funcs m moved (suc func) fs
 
--- for each function, whether the primary module has one at its place: all but the functions that move and of which no trampoline is needed
-abbrev pub stays : Module → (moved : List ℕ) → ℕ → Bool
-stays m moved func = not (is_among moved func) || is_needed m func
+-- whether the primary module has a function in place of this one: it has none of a function that moves and of which no trampoline is needed
+abbrev pub is_left : Module → (moved : List ℕ) → ℕ → Bool
+is_left m moved func = not (is_among moved func) || is_needed m func
 
-abbrev pub stay_marks : Module → (moved : List ℕ) → List Bool
-stay_marks m moved = map (stays m moved) (numbers 0 (length (funcs_of m)))
+abbrev pub left_marks : Module → (moved : List ℕ) → List Bool
+left_marks m moved = map (is_left m moved) (numbers 0 (length (funcs_of m)))
 
 -- ---- placeholders ----
 
--- for each function that moves an import, whose field is the slot in decimal
-abbrev pub placeholders : (namespace : List ℕ) → Module → (slot : ℕ) → List ℕ → List Import
-placeholders namespace m slot [] = []
-placeholders namespace m slot (func ∷ funcs) = record { «module» = namespace; field = decimal slot; desc = im.Func (type_index m func) } ∷ placeholders namespace m (suc slot) funcs
+-- for each of these functions an import, from this slot on: its field is the slot in decimal, and its namespace that of the slot
+abbrev pub placeholder_imports : (namespace : ℕ → List ℕ) → Module → (slot : ℕ) → List ℕ → List Import
+placeholder_imports namespace m slot [] = []
+placeholder_imports namespace m slot (func ∷ funcs) = record { «module» = namespace slot; field = decimal slot; desc = im.Func (type_index m func) } ∷ placeholder_imports namespace m (suc slot) funcs
 
 -- ---- exports ----
 
 -- what secondary modules import: each kind in ascending order, and last the slot table
 abbrev pub added_exports : (prefix : List ℕ) → Module → (moved : List ℕ) → List Export
 added_exports prefix m moved =
-    shared_exports prefix Functions ex.Func (shared m moved moved Functions)
-    ++ (shared_exports prefix Tables ex.Table (shared m moved moved Tables)
-    ++ (shared_exports prefix Memories ex.Memory (shared m moved moved Memories)
-    ++ (shared_exports prefix Globals ex.Global (shared m moved moved Globals)
+    exports_for_secondary prefix Functions ex.Func (from_primary m moved moved Functions)
+    ++ (exports_for_secondary prefix Tables ex.Table (from_primary m moved moved Tables)
+    ++ (exports_for_secondary prefix Memories ex.Memory (from_primary m moved moved Memories)
+    ++ (exports_for_secondary prefix Globals ex.Global (from_primary m moved moved Globals)
     ++ record { name = slots_name prefix; desc = ex.Table (slot_table m) } ∷ [])))
 
 -- ---- the module ----
 
 -- what it has, still in the indices of the module that is split
-abbrev pub primary_parts : (placeholders : List Import) → (prefix : List ℕ) → Module → (moved : List ℕ) → Module
-primary_parts placeholders prefix m moved =
+abbrev pub primary_tree : (namespace : ℕ → List ℕ) → (prefix : List ℕ) → Module → (moved : List ℕ) → Module
+primary_tree namespace prefix m moved =
     record m {
-      imports = m.imports ++ placeholders;
-      funcs = kept (drop (length (imported_funcs m.imports)) (stay_marks m moved)) (primary_funcs m moved (length (imported_funcs m.imports)) m.funcs);
+      imports = m.imports ++ placeholder_imports namespace m 0 moved;
+      funcs = kept (drop (length (imported_funcs m.imports)) (left_marks m moved)) (primary_funcs m moved (length (imported_funcs m.imports)) m.funcs);
       tables = m.tables ++ slot_table_type (length moved) ∷ [];
       exports = m.exports ++ added_exports prefix m moved;
       elems = m.elems ++ slot_segment (slot_table m) 0 (in_slots m (length moved)) ∷ [];
     }
 
--- where each function goes: the placeholders come between what is imported and what is defined
+-- where each function goes: the placeholders come between what is imported and what is defined. The entry of a function that is left out means nothing, since only
+-- calls name it, and other code stands in their place.
 abbrev pub primary_funcs_map : Module → (moved : List ℕ) → List ℕ
 primary_funcs_map m moved =
     numbers 0 (length (imported_funcs m.imports))
-    ++ (map (λ place. length moved + place) (drop (length (imported_funcs m.imports)) (new_places (stay_marks m moved)))
+    ++ (map (λ place. length moved + place) (drop (length (imported_funcs m.imports)) (new_places (left_marks m moved)))
     ++ numbers (length (imported_funcs m.imports)) (length moved))
 
 -- all else goes where it is
@@ -89,10 +90,10 @@ primary_map m moved = record {
   datas = numbers 0 (length m.datas);
 }
 
--- for any list of functions that move, in the order of their slots, and any imports as their placeholders
-unfoldable pub primary_with : (placeholders : List Import) → (prefix : List ℕ) → Module → (moved : List ℕ) → Module
-primary_with placeholders prefix m moved = declared (renumbered_tree (primary_map m moved) (primary_parts placeholders prefix m moved))
+-- for any list of functions that move, in the order of their slots, where each slot's placeholder has a namespace
+unfoldable pub primary_with : (namespace : ℕ → List ℕ) → (prefix : List ℕ) → Module → (moved : List ℕ) → Module
+primary_with namespace prefix m moved = declared (renumbered_tree (primary_map m moved) (primary_tree namespace prefix m moved))
 
--- with all placeholders of one namespace
+-- where all have the same
 abbrev pub primary : SplitNames → Module → (moved : List ℕ) → Module
-primary names m moved = primary_with (placeholders names.placeholder_namespace m 0 moved) names.export_prefix m moved
+primary names m moved = primary_with (λ slot. names.placeholder_namespace) names.export_prefix m moved

@@ -1,6 +1,6 @@
 -- A secondary module: it defines functions that move, imports from the primary module what they name, and puts them into their slots when it is instantiated
 -- (WebAssembly Core 2.0, sections 2.5 and 4.5.4).
-use Rattle.std.specs.Prelude.{ℕ, ◌+◌, List, [], ◌∷◌, ◌++◌, map, length, Option, Some, None}
+use Rattle.std.specs.Prelude.{◌≡◌, ℕ, ◌+◌, List, [], ◌∷◌, ◌++◌, map, length, Option, Some, None}
 use Rattle.base_lists.specs.Places.{numbers}
 use Rattle.base_kept.specs.Kept.{new_places}
 use Rattle.wasm_tree.specs.declared.space.Space.TheVariants.{Functions, Tables, Memories, Globals}
@@ -16,18 +16,26 @@ use Rattle.index_remap.specs.References.{declared}
 use Rattle.index_remap.specs.Renumbered.{renumbered_tree}
 use Rattle.split_spec.specs.declared.names.SplitNames.{SplitNames}
 use Rattle.split_spec.specs.Calls.{with_calls}
-use Rattle.split_spec.specs.Slots.{defined_at, slot_of, slot_table, in_slots, slot_table_type, slot_segment, call_through_slot}
-use Rattle.split_spec.specs.Shared.{shared, shared_imports, shared_marks, slots_name}
+use Rattle.split_spec.specs.Slots.{defined_at, place_among, slot_table, in_slots, slot_table_type, slot_segment, call_through_slot}
+use Rattle.split_spec.specs.FromPrimary.{from_primary, imports_from_primary, marks_from_primary, slots_name}
+
+-- The functions of one module out of all that move: they have the slots from `before` on.
+pub record HasSlots (moved own : List ℕ) (before : ℕ) : Type 0 where
+  pub earlier : List ℕ
+  pub later : List ℕ
+  pub all : moved ≡ earlier ++ (own ++ later)
+  pub count : before ≡ length earlier
 
 -- ---- functions ----
 
--- the call of a function that is at this place among the module's own, if it is: of one of them the call of it, of another that moves the call through its slot
-abbrev pub secondary_call_by : Module → (moved : List ℕ) → Option ℕ → ℕ → List Instr
-secondary_call_by m moved (Some place) func = Call (length (funcs_of m) + place) ∷ []
-secondary_call_by m moved None func = call_through_slot m moved func
+-- what stands for a call of a function with this place among the module's own, if it has one: of one of them the call of that one, of another that moves the call through its
+-- slot, of one that does not move the call as it is
+abbrev pub secondary_call_by_place : Module → (moved : List ℕ) → Option ℕ → ℕ → List Instr
+secondary_call_by_place m moved (Some place) func = Call (length (funcs_of m) + place) ∷ []
+secondary_call_by_place m moved None func = call_through_slot m moved func
 
 abbrev pub secondary_call : Module → (moved own : List ℕ) → ℕ → List Instr
-secondary_call m moved own func = secondary_call_by m moved (slot_of own func) func
+secondary_call m moved own func = secondary_call_by_place m moved (place_among own func) func
 
 abbrev pub secondary_func : Module → (moved own : List ℕ) → Func → Func
 secondary_func m moved own f = record f { body = with_calls (secondary_call m moved own) f.body }
@@ -37,17 +45,17 @@ secondary_func m moved own f = record f { body = with_calls (secondary_call m mo
 -- functions, tables, the slot table, memories and globals, each kind in ascending order
 abbrev pub secondary_imports : SplitNames → Module → (moved own : List ℕ) → List Import
 secondary_imports names m moved own =
-    shared_imports names.import_namespace names.export_prefix m Functions (shared m moved own Functions)
-    ++ (shared_imports names.import_namespace names.export_prefix m Tables (shared m moved own Tables)
+    imports_from_primary names.import_namespace names.export_prefix m Functions (from_primary m moved own Functions)
+    ++ (imports_from_primary names.import_namespace names.export_prefix m Tables (from_primary m moved own Tables)
     ++ (record { «module» = names.import_namespace; field = slots_name names.export_prefix; desc = im.Table (slot_table_type (length moved)) }
-    ∷ (shared_imports names.import_namespace names.export_prefix m Memories (shared m moved own Memories)
-    ++ shared_imports names.import_namespace names.export_prefix m Globals (shared m moved own Globals))))
+    ∷ (imports_from_primary names.import_namespace names.export_prefix m Memories (from_primary m moved own Memories)
+    ++ imports_from_primary names.import_namespace names.export_prefix m Globals (from_primary m moved own Globals))))
 
 -- ---- the module ----
 
 -- what it has, still in the indices of the module that is split
-abbrev pub secondary_parts : SplitNames → Module → (moved own : List ℕ) → (before : ℕ) → Module
-secondary_parts names m moved own before = record {
+abbrev pub secondary_tree : SplitNames → Module → (moved own : List ℕ) → (before : ℕ) → Module
+secondary_tree names m moved own before = record {
   types = m.types;
   imports = secondary_imports names m moved own;
   funcs = map (secondary_func m moved own) (defined_at m own);
@@ -65,18 +73,18 @@ secondary_parts names m moved own before = record {
 abbrev pub secondary_map : Module → (moved own : List ℕ) → Remap
 secondary_map m moved own = record {
   types = numbers 0 (length m.types);
-  funcs = new_places (shared_marks m moved own Functions) ++ numbers (length (shared m moved own Functions)) (length own);
-  tables = new_places (shared_marks m moved own Tables) ++ length (shared m moved own Tables) ∷ [];
-  mems = new_places (shared_marks m moved own Memories);
-  globals = new_places (shared_marks m moved own Globals);
+  funcs = new_places (marks_from_primary m moved own Functions) ++ numbers (length (from_primary m moved own Functions)) (length own);
+  tables = new_places (marks_from_primary m moved own Tables) ++ length (from_primary m moved own Tables) ∷ [];
+  mems = new_places (marks_from_primary m moved own Memories);
+  globals = new_places (marks_from_primary m moved own Globals);
   elems = [];
   datas = [];
 }
 
--- for any of the functions that move, which have the slots behind so many others
+-- for some of the functions that move, which have the slots from `before` on (HasSlots)
 unfoldable pub secondary_with : SplitNames → Module → (moved own : List ℕ) → (before : ℕ) → Module
-secondary_with names m moved own before = declared (renumbered_tree (secondary_map m moved own) (secondary_parts names m moved own before))
+secondary_with names m moved own before = declared (renumbered_tree (secondary_map m moved own) (secondary_tree names m moved own before))
 
--- with all functions that move
+-- with all of them
 abbrev pub secondary : SplitNames → Module → (moved : List ℕ) → Module
 secondary names m moved = secondary_with names m moved moved 0

@@ -1,10 +1,10 @@
 -- The slots of a split: a place for each function that moves, in a table that is added behind the tables of the module, so that no table of the module holds
 -- one (WebAssembly Core 2.0, sections 2.5.4 and 4.4.8).
 --
--- Both modules of a split are first written in the indices of the module that is split, and then renumbered. What is new has the indices behind those: the slot
--- table in the table space, and in the function space one function for each slot, which is in the primary module the placeholder that it imports, and in the
--- secondary module the moved function itself.
-use Rattle.std.specs.Prelude.{ℕ, zero, ◌+◌, ◌-◌, List, [], ◌∷◌, ◌++◌, map, nat_eq, length, Option, Some, None, pos, slice_get, slice_index}
+-- Both modules of a split are first written in the indices of the module that is split, and then renumbered. What is new has the indices behind those: in the table
+-- space the slot table; in the function space, for the primary module, one function for each slot, the placeholder that it imports, and for a secondary module one for each
+-- of its own slots, the moved function itself.
+use Rattle.std.specs.Prelude.{ℕ, ◌-◌, List, [], ◌∷◌, ◌++◌, map, nat_eq, length, Option, Some, None, pos, slice_get, slice_index}
 use Rattle.std.specs.List.{filter_map}
 use Rattle.std.specs.Option.{option_map_or}
 use Rattle.base_lists.specs.Places.{first_place, numbers}
@@ -31,15 +31,15 @@ type_index m func = slice_index (funcs_of m) func
 abbrev pub params_of : Module → ℕ → List ValType
 params_of m func = option_map_or (λ t. t.params) (type_of_func m func) []
 
--- the definitions of these functions
+-- the definitions of these functions, which are defined ones
 abbrev pub defined_at : Module → List ℕ → List Func
 defined_at m funcs = filter_map (λ func. slice_get m.funcs (func - length (imported_funcs m.imports))) funcs
 
 -- ---- slots ----
 
--- the slot of a function is its place among those that move
-abbrev pub slot_of : List ℕ → ℕ → Option ℕ
-slot_of moved func = first_place (nat_eq func) moved 0
+-- the place of a function among some: among those that move, it is the function's slot
+abbrev pub place_among : List ℕ → ℕ → Option ℕ
+place_among funcs func = first_place (nat_eq func) funcs 0
 
 -- the index of the slot table, behind those of the module's tables
 abbrev pub slot_table : Module → ℕ
@@ -59,14 +59,14 @@ slot_segment table from funcs = record { mode = elem.Active table (const.I32 (po
 
 -- ---- calls through slots ----
 
--- the call of a function whose slot is given, if it has one: by its type through the slot
-abbrev pub call_by : Module → Option ℕ → ℕ → List Instr
-call_by m None func = Call func ∷ []
-call_by m (Some slot) func = slot_call (type_index m func) (slot_table m) (pos slot)
+-- the call of a function: by its type through its slot, if it has one
+abbrev pub call_by_slot : Module → Option ℕ → ℕ → List Instr
+call_by_slot m None func = Call func ∷ []
+call_by_slot m (Some slot) func = slot_call (type_index m func) (slot_table m) (pos slot)
 
 -- of a function that moves the call through its slot, of another the call
 abbrev pub call_through_slot : Module → List ℕ → ℕ → List Instr
-call_through_slot m moved func = call_by m (slot_of moved func) func
+call_through_slot m moved func = call_by_slot m (place_among moved func) func
 
 -- the body of a trampoline passes the parameters on to the function in the slot
 abbrev pub trampoline_body : Module → (func slot : ℕ) → List Instr

@@ -13,7 +13,7 @@ pub enum SplitFault {
     NamespaceTaken { import: u32 },
     /// The module has an export of this name, which the primary module needs for the secondary one; the first such of those that are added.
     PrefixTaken { name: Name },
-    /// The trampolines would have too many parameters together, or the primary module too many of something, or else the secondary module.
+    /// The functions that move have too many parameters together, or the primary module has too many of something, or else the secondary module.
     TooMany { which: Which },
     /// Want of memory, which says nothing of the module.
     NoMemory,
