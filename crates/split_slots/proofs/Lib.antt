@@ -1,1 +1,3 @@
 mod Replaced
+mod Slots
+mod Needed

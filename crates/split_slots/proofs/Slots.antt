@@ -6,7 +6,7 @@ use Rattle.base_lists.specs.Every.{Every}
 use Rattle.base_lists.specs.Places.{first_place, numbers}
 use Rattle.base_lists.proofs.Places.{map_at}
 use Rattle.base_lists.proofs.Numbers.{length-numbers, numbers_at}
-use Rattle.split_spec.specs.Slots.{slot_of}
+use Rattle.split_spec.specs.Slots.{place_among}
 use Rattle.split_slots.specs.Looking.{slot_at}
 
 -- ---- the first place of a number ----

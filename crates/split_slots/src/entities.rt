@@ -2,7 +2,7 @@
 
 ghost use Rattle.std.specs.Prelude.{◌≡◌, IfOk, map};
 ghost use Rattle.wasm_tree.specs.Spaces.{funcs_of};
-ghost use Rattle.split_spec.specs.Shared as shared;
+ghost use Rattle.split_spec.specs.FromPrimary as shared;
 
 use std::alloc::Global;
 use wasm_bytes::{Items, NoMemory};

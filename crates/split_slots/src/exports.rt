@@ -1,7 +1,7 @@
 // What the primary module exports for the secondary one.
 
 ghost use Rattle.std.specs.Prelude.{◌≡◌, IfOk, OnOk};
-ghost use Rattle.split_spec.specs.Shared as shared;
+ghost use Rattle.split_spec.specs.FromPrimary as shared;
 
 use crate::sharing::Marks;
 use itoa::Buffer;
@@ -10,8 +10,8 @@ use wasm_bytes::{Items, Name, NoMemory};
 use wasm_tree::{Export, ExportDesc, Space};
 
 // f, t, m or g.
-fn letter(space: Space) -> &'static str
-    ensures { result.now ≡ shared.letter space }
+fn kind_letter(space: Space) -> &'static str
+    ensures { result.now ≡ shared.kind_letter space }
 {
     match space {
         Space::Functions => "f",
@@ -23,16 +23,16 @@ fn letter(space: Space) -> &'static str
 }
 
 /// The name of an entity that is shared: the prefix, a letter for its index space, and its index.
-pub(crate) fn shared_name(
+pub(crate) fn name_from_primary(
     alloc: Global,
     prefix: &Name,
     space: Space,
     index: u32,
 ) -> Result<Name, NoMemory>
-    ensures { IfOk result (λ name. name ≡ shared.shared_name prefix.now space index) }
+    ensures { IfOk result (λ name. name ≡ shared.name_from_primary prefix.now space index) }
 {
     let mut text = String::from_str(alloc, prefix.as_str())?;
-    text.push_str(letter(space))?;
+    text.push_str(kind_letter(space))?;
     text.push_str(Buffer::new().format(index))?;
     Name::from_text(alloc, text.as_str())
 }
@@ -67,7 +67,7 @@ fn add_shared(
     for (index, is_shared) in marks.iter().enumerate() {
         if *is_shared {
             exports.keep(Export {
-                name: shared_name(alloc, prefix, space, index as u32)?,
+                name: name_from_primary(alloc, prefix, space, index as u32)?,
                 desc: export_desc(space, index as u32),
             })?;
         }

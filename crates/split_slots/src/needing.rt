@@ -1,36 +1,34 @@
 // Of which functions that move a trampoline is needed.
 
-ghost use Rattle.std.specs.Prelude.{◌≡◌, IfOk};
+ghost use Rattle.std.specs.Prelude.{◌≡◌, ◌<◌, ◌++◌, [], length, Some, slice_get, IfOk};
+ghost use Rattle.std.specs.List.{cons_option};
+ghost use Rattle.wasm_tree.specs.Spaces.{funcs_of};
+ghost use Rattle.wasm_valid.specs.Named.{named_from, refs_of};
 ghost use Rattle.split_plan.specs.Plans.{IsPlan};
-ghost use Rattle.split_spec.specs.Needed as spec;
+ghost use Rattle.split_spec.specs.Needed.{is_needed, needed as needed_among};
 
-use crate::sharing::{Marks, note_body};
-use crate::slots::slots_of;
 use split_plan::Plan;
 use std::alloc::{AllocError, Global};
 use wasm_bytes::{Items, NoMemory};
 use wasm_tree::Module;
-use wasm_valid::{Valid, mark, named_funcs};
+use wasm_valid::{Valid, mark, named_funcs, valid_where_items_hold};
 
-/// For each function that moves, whether anything but a call names it.
-pub(crate) fn needed_marks(
-    alloc: Global,
-    module: &Module,
-    slots: &[Option<u32>],
-) -> Result<Vec<bool>, AllocError> {
-    let mut marks = Marks {
-        funcs: named_funcs(alloc, module, module.func_space())?,
-        tables: Vec::new(alloc),
-        mems: Vec::new(alloc),
-        globals: Vec::new(alloc),
-    };
+// For each function whether anything outside the bodies names it.
+pub(crate) fn needed_marks(alloc: Global, module: &Module) -> Result<Vec<bool>, AllocError>
+    ensures { IfOk result (λ marks. marks.items ≡ named_from (refs_of «module».now ++ cons_option «module».now.start []) 0 (length (funcs_of «module».now))) }
+{
+    let mut marks = named_funcs(alloc, module, module.func_space())?;
     if let Some(start) = module.start {
-        mark(&mut marks.funcs, start);
+        mark(&mut marks, start);
     }
-    for func in module.funcs.as_slice() {
-        note_body(&mut marks, func.body.as_slice(), slots);
-    }
-    Ok(marks.funcs)
+    Ok(marks)
+}
+
+fn is_marked(marks: &[bool], func: u32) -> bool
+    requires { func < length marks.now }
+    ensures { Some result ≡ slice_get marks.now func }
+{
+    marks[func as usize]
 }
 
 /// The functions that move and of which the primary module has a trampoline, in ascending order: those that an export, the start, an item of an element segment, the
@@ -38,14 +36,14 @@ pub(crate) fn needed_marks(
 /// The only refusal is want of memory.
 pub fn needed(alloc: Global, input: &Valid, plan: &Plan) -> Result<Items<u32>, NoMemory>
     requires plan { IsPlan input.now plan.now }
-    ensures { IfOk result (λ all. all ≡ spec.needed input.now plan.now.moved) }
+    ensures { IfOk result (λ all. all ≡ needed_among input.now plan.now.moved) }
 {
-    let module = input.module();
-    let slots = slots_of(alloc, module.func_space(), plan.moved.as_slice())?;
-    let marks = needed_marks(alloc, module, &slots)?;
+    // What `ref.func` names in a body of a valid module, something outside the bodies names too.
+    valid_where_items_hold();
+    let marks = needed_marks(alloc, input.module())?;
     let mut all = Items::new(alloc);
     for func in plan.moved.as_slice() {
-        if marks[*func as usize] {
+        if is_marked(&marks, *func) {
             all.keep(*func)?;
         }
     }

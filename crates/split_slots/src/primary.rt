@@ -11,7 +11,7 @@ use wasm_bytes::{Items, Name, NoMemory};
 use wasm_tree::{ConstExpr, ElemMode, ElemSeg, Import, ImportDesc, Limits, Module, RefType, TableType};
 
 /// For each function whether the primary module has one in its place.
-pub(crate) fn stay_marks(
+pub(crate) fn left_marks(
     alloc: Global,
     slots: &[Option<u32>],
     needed: &[bool],

@@ -4,7 +4,7 @@ ghost use Rattle.std.specs.Prelude.{◌≡◌, IfOk};
 ghost use Rattle.split_spec.specs.Secondary as spec;
 
 use crate::entities::Entities;
-use crate::exports::{shared_name, slots_name};
+use crate::exports::{name_from_primary, slots_name};
 use crate::primary::{numbers, slot_table_type};
 use crate::sharing::Marks;
 use base_kept::{add_numbers, new_places};
@@ -25,7 +25,7 @@ fn add_import(
 ) -> Result<(), NoMemory> {
     imports.keep(Import {
         module: names.import_namespace.copy(alloc)?,
-        field: shared_name(alloc, &names.export_prefix, space, index)?,
+        field: name_from_primary(alloc, &names.export_prefix, space, index)?,
         desc,
     })
 }

@@ -80,7 +80,7 @@ fn no_marks(alloc: Global, module: &Module) -> Result<Marks, AllocError> {
 }
 
 /// What the functions that move share with the primary module.
-pub(crate) fn shared_marks(
+pub(crate) fn marks_from_primary(
     alloc: Global,
     module: &Module,
     own: &[u32],

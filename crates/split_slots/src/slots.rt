@@ -18,7 +18,7 @@ pub(crate) fn slots_of(
     requires ascend { IsStrictlyIncreasing moved.now }
     requires there { Every (λ func. func < count) moved.now }
     requires few { length moved.now < 2 ^ 32 }
-    ensures { IfOk result (λ slots. slots.items ≡ map (spec.slot_of moved.now) (numbers 0 count)) }
+    ensures { IfOk result (λ slots. slots.items ≡ map (spec.place_among moved.now) (numbers 0 count)) }
 {
     let mut slots = vec![in alloc; None; count]?;
     for (slot, func) in moved.iter().enumerate() {

@@ -15,9 +15,9 @@ use crate::faults::{name_taken, namespace_taken, too_many_params};
 use crate::moving::take_moved;
 use crate::needing::needed_marks;
 use crate::pair::Pair;
-use crate::primary::{add_placeholders, primary_map, slot_segment, slot_table_type, stay_marks};
+use crate::primary::{add_placeholders, primary_map, slot_segment, slot_table_type, left_marks};
 use crate::secondary::{copy_types, secondary_imports, secondary_map};
-use crate::sharing::{Marks, shared_marks};
+use crate::sharing::{Marks, marks_from_primary};
 use crate::slots::slots_of;
 use base_kept::keep_marked;
 use index_remap::{Remap, declare_refs, renumber_in_place};
@@ -30,13 +30,14 @@ use wasm_tree::{Export, Func, FuncType, Import, Module, Which};
 use wasm_valid::Valid;
 
 // What is known of a module before it is taken apart.
+#[derive(Drop)]
 struct Known {
     entities: Entities,
     slots: Vec<Option<u32>>,
     // what the functions that move share with the primary module
     shared: Marks,
     // for each function whether the primary module has one in its place
-    stays: Items<bool>,
+    left: Items<bool>,
     // what the primary module exports besides
     exports: Items<Export>,
 }
@@ -48,12 +49,12 @@ fn known(
     names: &SplitNames,
 ) -> Result<Known, NoMemory> {
     let slots = slots_of(alloc, module.func_space(), moved)?;
-    let needed = needed_marks(alloc, module, &slots)?;
-    let shared = shared_marks(alloc, module, moved, &slots)?;
+    let needed = needed_marks(alloc, module)?;
+    let shared = marks_from_primary(alloc, module, moved, &slots)?;
     let table = module.table_space() as u32;
     Ok(Known {
         entities: entities(alloc, module)?,
-        stays: stay_marks(alloc, &slots, &needed)?,
+        left: left_marks(alloc, &slots, &needed)?,
         exports: added_exports(alloc, &names.export_prefix, &shared, table)?,
         slots,
         shared,
@@ -61,9 +62,9 @@ fn known(
 }
 
 // How many functions the primary module defines.
-fn staying(stays: &[bool]) -> usize {
+fn staying(left: &[bool]) -> usize {
     let mut count = 0;
-    for mark in stays {
+    for mark in left {
         if *mark {
             count += 1;
         }
@@ -72,14 +73,14 @@ fn staying(stays: &[bool]) -> usize {
 }
 
 // The first count of the primary module up to its functions that is above its limit. Past this what it has can be counted.
-fn too_many_funcs(module: &Module, moved: usize, stays: &[bool]) -> Option<Which> {
+fn too_many_funcs(module: &Module, moved: usize, left: &[bool]) -> Option<Which> {
     if module.types.len() > Which::Types.limit() as usize {
         return Some(Which::Types);
     }
     if module.imports.len() + moved > Which::Imports.limit() as usize {
         return Some(Which::Imports);
     }
-    if staying(stays) - module.imported_funcs() > Which::Functions.limit() as usize {
+    if staying(left) - module.imported_funcs() > Which::Functions.limit() as usize {
         return Some(Which::Functions);
     }
     None
@@ -124,7 +125,7 @@ fn call_own(alloc: Global, own: &mut Items<Func>, calls: &Calls<'_>) -> Result<(
 }
 
 // The secondary module of functions that moved, still in the indices of the module that is split.
-fn secondary_parts(
+fn secondary_tree(
     alloc: Global,
     types: Items<FuncType>,
     imports: Items<Import>,
@@ -156,7 +157,7 @@ fn parted(
     let base = from.func_space() as u32;
     let count = moved.len() as u32;
     let mut known = known;
-    let map = primary_map(alloc, &from, known.stays.as_slice(), count)?;
+    let map = primary_map(alloc, &from, known.left.as_slice(), count)?;
     let types = copy_types(alloc, from.types.as_slice())?;
     let imports = secondary_imports(alloc, names, &known.shared, &known.entities, count)?;
     let own_map = secondary_map(alloc, from.types.as_slice(), &known.shared, count)?;
@@ -190,13 +191,13 @@ fn parted(
     parts.exports.append(&mut known.exports)?;
     parts.elems.keep(slot_segment(alloc, table, base, count)?)?;
     let parts = Module {
-        funcs: keep_marked(alloc, parts.funcs, &known.stays.as_slice()[first..])?,
+        funcs: keep_marked(alloc, parts.funcs, &known.left.as_slice()[first..])?,
         ..parts
     };
     let primary = finished(alloc, parts, &map)?;
     let secondary = finished(
         alloc,
-        secondary_parts(alloc, types, imports, own, table, base)?,
+        secondary_tree(alloc, types, imports, own, table, base)?,
         &own_map,
     )?;
     Ok(Pair {
@@ -244,7 +245,7 @@ pub fn split(
         let which = Which::Trampolines;
         return Err(SplitFault::TooMany { which });
     }
-    if let Some(which) = too_many_funcs(module, moved.len(), known.stays.as_slice()) {
+    if let Some(which) = too_many_funcs(module, moved.len(), known.left.as_slice()) {
         return Err(SplitFault::TooMany { which });
     }
     parted(alloc, input.into_module(), moved, names, known)

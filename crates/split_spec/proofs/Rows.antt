@@ -1,6 +1,7 @@
 -- Small modules that are split, computed.
 use Rattle.std.proofs.Common.{◌≡◌, refl, ℕ, ◌+◌, List, [], ◌∷◌, ◌++◌, Option, Some, None, true, false, rules}
 use Rattle.std.specs.Prelude.{pos}
+use Rattle.std.specs.Fmt.{digits}
 use Rattle.wasm_num.specs.declared.BinOp.TheVariants.{I32Add, I32Shl}
 use Rattle.wasm_tree.specs.declared.types.RefType.TheVariants.{Func as func_ref}
 use Rattle.wasm_tree.specs.declared.types.ValType.TheVariants as valt
@@ -118,11 +119,11 @@ what_is_exported_needs_a_trampoline : needed adding (0 ∷ []) ≡ 0 ∷ []
 what_is_exported_needs_a_trampoline = search (rules, the_lemmas)
 
 what_is_exported_is_called_through_a_trampoline : primary names adding (0 ∷ []) ≡ adding_primary
-unfolding primary_with
+unfolding primary_with digits
 what_is_exported_is_called_through_a_trampoline = search (rules, the_lemmas)
 
 what_adds_is_put_into_its_slot : secondary names adding (0 ∷ []) ≡ adding_secondary
-unfolding secondary_with
+unfolding secondary_with digits
 what_adds_is_put_into_its_slot = search (rules, the_lemmas)
 
 -- ---- a function that is only called ----
@@ -147,11 +148,11 @@ what_is_only_called_needs_no_trampoline : needed calling (1 ∷ []) ≡ []
 what_is_only_called_needs_no_trampoline = search (rules, the_lemmas)
 
 what_is_only_called_is_called_through_its_slot : primary names calling (1 ∷ []) ≡ calling_primary
-unfolding primary_with
+unfolding primary_with digits
 what_is_only_called_is_called_through_its_slot = search (rules, the_lemmas)
 
 what_is_called_is_put_into_its_slot : secondary names calling (1 ∷ []) ≡ calling_secondary
-unfolding secondary_with
+unfolding secondary_with digits
 what_is_called_is_put_into_its_slot = search (rules, the_lemmas)
 
 -- ---- nothing moves ----
@@ -173,11 +174,11 @@ abbrev pub copying_secondary : Module
 copying_secondary = record empty { types = nothing ∷ []; imports = slots_import 0 ∷ []; elems = segment 0 0 [] ∷ [] }
 
 all_stays : primary names copying [] ≡ copying_primary
-unfolding primary_with
+unfolding primary_with digits
 all_stays = search (rules, the_lemmas)
 
 no_slot_is_filled : secondary names copying [] ≡ copying_secondary
-unfolding secondary_with
+unfolding secondary_with digits
 no_slot_is_filled = search (rules, the_lemmas)
 
 -- ---- a module as a linker writes it ----
@@ -231,11 +232,11 @@ linked_secondary = record empty { types = linked.types; imports = slots_import 1
 
 -- twice moves, and its trampoline stands in the table
 twice_is_called_through_a_trampoline : primary names linked (3 ∷ []) ≡ linked_primary
-unfolding primary_with
+unfolding primary_with digits
 twice_is_called_through_a_trampoline = search (rules, the_lemmas)
 
 twice_moves : secondary names linked (3 ∷ []) ≡ linked_secondary
-unfolding secondary_with
+unfolding secondary_with digits
 twice_moves = search (rules, the_lemmas)
 
 -- ---- all that can be shared ----
@@ -278,7 +279,7 @@ the_primary_module_exports_what_is_shared : primary names sharing (2 ∷ 3 ∷ [
       ∷ [];
   elems = declaring (4 ∷ []) ∷ segment 0 0 (const.Func 1 ∷ const.Func 2 ∷ []) ∷ [];
 }
-unfolding primary_with
+unfolding primary_with digits
 the_primary_module_exports_what_is_shared = search (rules, the_lemmas)
 
 the_secondary_module_imports_it : secondary names sharing (2 ∷ 3 ∷ []) ≡ record empty {
@@ -291,7 +292,7 @@ the_secondary_module_imports_it : secondary names sharing (2 ∷ 3 ∷ []) ≡ r
   funcs = func 0 (i.Call 1 ∷ i.Call 4 ∷ i.RefFunc 2 ∷ i.Drop ∷ i.GlobalGet 0 ∷ i.Drop ∷ i.MemorySize 0 ∷ i.Drop ∷ i.Call 0 ∷ []) ∷ func 0 (i.Call 3 ∷ []) ∷ [];
   elems = segment 0 0 (const.Func 3 ∷ const.Func 4 ∷ []) ∷ declaring (2 ∷ []) ∷ [];
 }
-unfolding secondary_with
+unfolding secondary_with digits
 the_secondary_module_imports_it = search (rules, the_lemmas)
 
 -- ---- several secondary modules ----
@@ -308,7 +309,7 @@ both_are_called_through_slots : primary_with (λ slot. numbered_placeholder (48 
   exports = export (102 ∷ []) (ex.Func 2) ∷ export slots_word (ex.Table 0) ∷ [];
   elems = segment 0 0 (const.Func 0 ∷ const.Func 1 ∷ []) ∷ [];
 }
-unfolding primary_with
+unfolding primary_with digits
 both_are_called_through_slots = search (rules, the_lemmas)
 
 the_first_calls_the_other_through_its_slot : secondary_with names calling (0 ∷ 1 ∷ []) (0 ∷ []) 0 ≡ record empty {
@@ -317,11 +318,11 @@ the_first_calls_the_other_through_its_slot : secondary_with names calling (0 ∷
   funcs = func 0 (i.I32Const (pos 1) ∷ i.CallIndirect 0 0 ∷ []) ∷ [];
   elems = segment 0 0 (const.Func 0 ∷ []) ∷ [];
 }
-unfolding secondary_with
+unfolding secondary_with digits
 the_first_calls_the_other_through_its_slot = search (rules, the_lemmas)
 
 the_second_fills_the_slot_behind : secondary_with names calling (0 ∷ 1 ∷ []) (1 ∷ []) 1 ≡ record calling_secondary { imports = slots_import 2 ∷ []; elems = segment 0 1 (const.Func 0 ∷ []) ∷ [] }
-unfolding secondary_with
+unfolding secondary_with digits
 the_second_fills_the_slot_behind = search (rules, the_lemmas)
 
 -- which slots these have, and a module without functions behind one slot
@@ -363,7 +364,7 @@ the_slot_table_is_the_last : primary names filling (0 ∷ 1 ∷ []) ≡ record f
   start = Some 2;
   elems = segment 2 0 (const.Func 0 ∷ const.Func 1 ∷ []) ∷ [];
 }
-unfolding primary_with
+unfolding primary_with digits
 the_slot_table_is_the_last = search (rules, the_lemmas)
 
 it_comes_behind_the_tables_that_are_imported : secondary names filling (0 ∷ 1 ∷ []) ≡ record empty {
@@ -372,7 +373,7 @@ it_comes_behind_the_tables_that_are_imported : secondary names filling (0 ∷ 1 
   funcs = record { ty = 1; locals = record { count = 1; ty = valt.I32 } ∷ []; body = i.LocalGet 0 ∷ i.CallIndirect 1 0 ∷ [] } ∷ func 0 [] ∷ [];
   elems = segment 1 0 (const.Func 0 ∷ const.Func 1 ∷ []) ∷ [];
 }
-unfolding secondary_with
+unfolding secondary_with digits
 it_comes_behind_the_tables_that_are_imported = search (rules, the_lemmas)
 
 -- ---- faults ----

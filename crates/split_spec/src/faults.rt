@@ -3,6 +3,7 @@
 ghost use Rattle.std.specs.Prelude.{◌≡◌};
 ghost use Rattle.split_spec.specs.declared.faults.SplitFault.TheVariants.{NoMemory as OutOfMemory};
 
+use std::alloc::AllocError;
 use wasm_bytes::{Name, NoMemory};
 use wasm_tree::Which;
 
@@ -23,6 +24,14 @@ impl From<NoMemory> for SplitFault {
     ghost from_gives = { λ _ e. e ≡ OutOfMemory };
 
     fn from(_none: NoMemory) -> SplitFault {
+        SplitFault::NoMemory
+    }
+}
+
+impl From<AllocError> for SplitFault {
+    ghost from_gives = { λ _ e. e ≡ OutOfMemory };
+
+    fn from(_none: AllocError) -> SplitFault {
         SplitFault::NoMemory
     }
 }
